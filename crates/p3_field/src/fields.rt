@@ -1,0 +1,180 @@
+//! What a field is: its operations, and the laws that they obey.
+
+ghost use Rattle.std.specs.Prelude.{◌≡◌, ◌↔◌, ◌^◌, ℕ, IsTrue, IfSome, IsNone};
+ghost use Rattle.p3_field.specs.Ring.{Ring, minus, two, count, power, IsInverse, IsInvertible};
+
+use std::ops::{Add, Mul, Neg, Sub};
+
+/// An element of a commutative ring with one in which halving is exact.
+///
+/// Contracts speak of the value of an element. Two elements may have one value; `==` and the order
+/// depend on values alone. Nothing here says that every element but zero has an inverse: the
+/// transforms need no more than the laws at the end.
+pub trait Field: Copy
+    + Ord
+    + Add<Self, Output = Self>
+    + Sub<Self, Output = Self>
+    + Mul<Self, Output = Self>
+    + Neg<Output = Self> {
+    // The values of elements.
+    ghost Element: { Type 0 };
+
+    // Their ring.
+    ghost ring: { Ring Element };
+
+    // The whole number that names a value.
+    ghost number: { Element → ℕ };
+
+    // The value of an element.
+    ghost value: { Self → Element };
+
+    /// Zero.
+    const ZERO: Self;
+
+    ghost ZERO: { Self };
+
+    /// One.
+    const ONE: Self;
+
+    ghost ONE: { Self };
+
+    /// One plus one.
+    const TWO: Self;
+
+    ghost TWO: { Self };
+
+    /// Minus one.
+    const NEG_ONE: Self;
+
+    ghost NEG_ONE: { Self };
+
+    /// An element with an inverse, whose coset `GENERATOR * H` is apart from the subgroup H in the
+    /// fields that are used. That it generates the whole multiplicative group is not claimed.
+    const GENERATOR: Self;
+
+    ghost GENERATOR: { Self };
+
+    /// Twice the element.
+    fn double(self) -> Self
+        ensures { value result ≡ ring.add (value self) (value self) }
+    {
+        self + self
+    }
+
+    /// The element whose double is this one.
+    fn halve(self) -> Self
+        ensures { ring.add (value result) (value result) ≡ value self };
+
+    /// Whether the element is zero.
+    fn is_zero(&self) -> bool
+        ensures { IsTrue result ↔ (value self.now ≡ ring.zero) }
+    {
+        *self == Self::ZERO
+    }
+
+    /// The y with `2^n * y = self`.
+    fn div_2exp_u64(self, n: u64) -> Self
+        ensures { ring.mul (power ring (two ring) n) (value result) ≡ value self }
+    {
+        let mut halved = self;
+        for _i in 0..n {
+            halved = halved.halve();
+        }
+        halved
+    }
+
+    /// The n-th power, one for n = 0.
+    fn exp_u64(self, n: u64) -> Self
+        ensures { value result ≡ power ring (value self) n }
+    {
+        let mut product = Self::ONE;
+        let mut square = self;
+        let mut left = n;
+        while left > 0 {
+            if left % 2 == 1 {
+                product = product * square;
+            }
+            square = square * square;
+            left /= 2;
+        }
+        product
+    }
+
+    /// The power of `2^n`, by n squarings.
+    fn exp_power_of_2(self, n: usize) -> Self
+        ensures { value result ≡ power ring (value self) (2 ^ n) }
+    {
+        let mut square = self;
+        for _i in 0..n {
+            square = square * square;
+        }
+        square
+    }
+
+    /// The element that is this many ones added up.
+    fn from_usize(n: usize) -> Self
+        ensures { value result ≡ count ring n };
+
+    /// The element that is this many ones added up.
+    fn from_u8(n: u8) -> Self
+        ensures { value result ≡ count ring n }
+    {
+        Self::from_usize(n as usize)
+    }
+
+    /// The inverse, `Some` exactly where there is one.
+    fn try_inverse(&self) -> Option<Self>
+        ensures some { IfSome result (λ y. IsInverse ring (value self.now) (value y)) }
+        ensures none { IsNone result → ¬ (IsInvertible ring (value self.now)) };
+
+    /// The inverse, of an element that has one (`try_inverse` tells).
+    fn inverse(&self) -> Self
+        requires { IsInvertible ring (value self.now) }
+        ensures { IsInverse ring (value self.now) (value result) }
+    {
+        match self.try_inverse() {
+            Some(inverse) => inverse,
+            None => unreachable!(),
+        }
+    }
+
+    // A number names one value.
+    ghost number_law: { (x y : Element) → number x ≡ number y → x ≡ y };
+
+    ghost zero_law: { value ZERO ≡ ring.zero };
+
+    ghost one_law: { value ONE ≡ ring.one };
+
+    ghost two_law: { value TWO ≡ two ring };
+
+    ghost neg_one_law: { value NEG_ONE ≡ ring.neg ring.one };
+
+    ghost generator_law: { IsInvertible ring (value GENERATOR) };
+
+    // The operators may always be used, and are those of the ring.
+    ghost can_add_law: { (a b : Self) → Self.can_add a b };
+
+    ghost add_law: { (a b r : Self) → Self.add_gives a b r
+        → value r ≡ ring.add (value a) (value b) };
+
+    ghost can_sub_law: { (a b : Self) → Self.can_sub a b };
+
+    ghost sub_law: { (a b r : Self) → Self.sub_gives a b r
+        → value r ≡ minus ring (value a) (value b) };
+
+    ghost can_mul_law: { (a b : Self) → Self.can_mul a b };
+
+    ghost mul_law: { (a b r : Self) → Self.mul_gives a b r
+        → value r ≡ ring.mul (value a) (value b) };
+
+    ghost can_neg_law: { (a : Self) → Self.can_neg a };
+
+    ghost neg_law: { (a r : Self) → Self.neg_gives a r → value r ≡ ring.neg (value a) };
+
+    // `==` is equality of values.
+    ghost eq_law: { (a b : Self) → IsTrue (Self.eq a b) ↔ (value a ≡ value b) };
+
+    // The order depends on values alone.
+    ghost order_law: { (a b c d : Self) → value a ≡ value c → value b ≡ value d
+        → Self.cmp a b ≡ Self.cmp c d };
+}

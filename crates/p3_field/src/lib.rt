@@ -1,0 +1,10 @@
+//! Finite fields with roots of unity of two-power order, as the transforms use them.
+#![tactic(auto)]
+
+pub mod fields;
+pub mod packed;
+pub mod two_adic;
+
+pub use fields::Field;
+pub use packed::{Packable, Packed, PackedField, Products};
+pub use two_adic::{CanonicalField, TwoAdicField};

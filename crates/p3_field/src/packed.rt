@@ -1,0 +1,114 @@
+//! Packed values: several scalars that one operation handles together, and the counter of products.
+
+ghost use Rattle.std.specs.Prelude.{◌≡◌, ◌≤◌, ◌+◌, ℕ, List, [], ◌∷◌, length, map, replicate};
+ghost use Rattle.p3_field.specs.Ring.{minus};
+ghost use Rattle.p3_field.specs.Lanes.{by_lanes};
+
+mod count;
+
+use crate::fields::Field;
+use count::Count;
+use std::marker::Model;
+
+/// A type that holds scalars, one in each lane.
+pub trait Packed: Copy {
+    /// The type of a lane.
+    type Scalar;
+}
+
+/// `WIDTH` scalars, which one operation handles lane by lane.
+pub trait PackedField: Packed
+where
+    Self::Scalar: Field,
+{
+    /// How many lanes there are.
+    const WIDTH: usize;
+
+    ghost WIDTH: { ℕ };
+
+    // The lanes, in order.
+    ghost lanes: { Self → List Self.Scalar };
+
+    /// Takes its lanes from a slice of `WIDTH` scalars.
+    fn load(from: &[Self::Scalar]) -> Self
+        requires { length from.now ≡ WIDTH }
+        ensures { map Self.Scalar.value (lanes result) ≡ map Self.Scalar.value from.now };
+
+    /// Writes its lanes to a slice of `WIDTH` scalars.
+    fn store(self, to: &mut [Self::Scalar])
+        requires { length to.old ≡ WIDTH }
+        ensures { map Self.Scalar.value to.new ≡ map Self.Scalar.value (lanes self) };
+
+    /// Has the same scalar in each lane.
+    fn broadcast(scalar: Self::Scalar) -> Self
+        ensures { map Self.Scalar.value (lanes result) ≡ replicate WIDTH (Self.Scalar.value scalar) };
+
+    /// Adds lane by lane.
+    fn add(self, other: Self) -> Self
+        ensures { map Self.Scalar.value (lanes result)
+            ≡ by_lanes Self.Scalar.ring.add (map Self.Scalar.value (lanes self)) (map Self.Scalar.value (lanes other)) };
+
+    /// Subtracts lane by lane.
+    fn sub(self, other: Self) -> Self
+        ensures { map Self.Scalar.value (lanes result)
+            ≡ by_lanes (minus Self.Scalar.ring) (map Self.Scalar.value (lanes self)) (map Self.Scalar.value (lanes other)) };
+
+    /// Multiplies each lane by `t`, and counts `WIDTH` products.
+    fn scaled(self, t: Self::Scalar, products: &mut Products) -> Self
+        ensures lanes { map Self.Scalar.value (lanes result)
+            ≡ map (λ x. Self.Scalar.ring.mul x (Self.Scalar.value t)) (map Self.Scalar.value (lanes self)) }
+        ensures count { products.new ≡ products.old + WIDTH };
+
+    ghost width_law: { (x : Self) → length (lanes x) ≡ WIDTH };
+}
+
+/// A field whose elements are packed values of one lane, and which has a packing of its own.
+pub trait Packable: Field + PackedField<Scalar = Self> {
+    /// The packed values of this field.
+    type Packing: PackedField<Scalar = Self>;
+
+    // An element is the one lane of itself.
+    ghost lane_law: { (x : Self) → Self.lanes x ≡ x ∷ [] };
+
+    ghost one_lane_law: { Self.WIDTH ≡ 1 };
+
+    ghost packing_law: { 1 ≤ Self.Packing.WIDTH };
+}
+
+/// How many products were made. It takes no bytes, and no running program can read it.
+#[derive(Drop)]
+pub struct Products {
+    so_far: Count,
+}
+
+impl Model for Products {
+    ghost Value = { ℕ };
+
+    ghost view = { λ p. p.so_far.number };
+}
+
+impl Products {
+    /// No product yet.
+    pub fn new() -> Products
+        ensures { result ≡ 0 }
+    {
+        Products {
+            so_far: Count::of(&0),
+        }
+    }
+
+    /// Adds what another counter counted.
+    pub fn add(&mut self, other: Products)
+        ensures { self.new ≡ self.old + other }
+    {
+        let Products { so_far } = other;
+        self.so_far = Count::both(&self.so_far, &so_far);
+    }
+
+    // Only a field's own product calls this.
+    pub(crate) fn rise(&mut self, by: usize)
+        ensures { self.new ≡ self.old + by }
+    {
+        self.so_far = Count::both(&self.so_far, &Count::of(&by));
+    }
+}

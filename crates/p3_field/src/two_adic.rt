@@ -1,0 +1,45 @@
+//! Fields with roots of unity of two-power order, and fields with canonical numbers.
+
+ghost use Rattle.std.specs.Prelude.{◌≡◌, ◌≤◌, ◌<◌, ◌↔◌, ℕ, IfSome, IsNone};
+ghost use Rattle.p3_field.specs.Ring.{AreRoots};
+
+use crate::packed::Packable;
+
+/// A field with a chain of roots of one, each the square of the next.
+pub trait TwoAdicField: Packable {
+    /// The logarithm of the order of the largest subgroup: the most bits that a generator has.
+    const TWO_ADICITY: usize;
+
+    ghost TWO_ADICITY: { ℕ };
+
+    // The generator of this many bits, as contracts name it.
+    ghost generator: { ℕ → Self };
+
+    /// The generator of the subgroup of order `2^bits`.
+    fn two_adic_generator(bits: usize) -> Self
+        requires { bits ≤ TWO_ADICITY }
+        ensures { Self.value result ≡ Self.value (generator bits) };
+
+    ghost two_adicity_law: { 1 ≤ TWO_ADICITY };
+
+    ghost roots_law: { AreRoots Self.ring TWO_ADICITY (λ i. Self.value (generator i)) };
+}
+
+/// A field whose values are named by the numbers below a modulus.
+pub trait CanonicalField: TwoAdicField {
+    /// The modulus.
+    const ORDER_U64: u64;
+
+    ghost ORDER_U64: { ℕ };
+
+    /// The element with this number: `None` from the modulus on.
+    fn new(number: u64) -> Option<Self>
+        ensures some { IfSome result (λ x. Self.number (Self.value x) ≡ number) }
+        ensures none { IsNone result ↔ (ORDER_U64 ≤ number) };
+
+    /// The number of the element, below the modulus.
+    fn as_canonical_u64(&self) -> u64
+        ensures { result ≡ Self.number (Self.value self.now) };
+
+    ghost number_below_law: { (x : Self) → Self.number (Self.value x) < ORDER_U64 };
+}

@@ -1,0 +1,12 @@
+-- Bit reversed order, as a map on row numbers.
+use Rattle.std.specs.Prelude.{ℕ, zero, suc, ◌+◌, ◌*◌, ◌/◌, ◌%◌, ◌^◌}
+use Rattle.p3_matrix.specs.Matrix.{Matrix}
+
+-- the number below 2 ^ n whose n binary digits are those of i in reverse
+unfoldable pub rev : ℕ → ℕ → ℕ
+rev zero i = 0
+rev (suc n) i = (i % 2) * 2 ^ n + rev n (i / 2)
+
+-- a matrix of 2 ^ n rows, row i being row rev n i of m
+abbrev pub reversed : {E : Type 0} → ℕ → Matrix E → Matrix E
+reversed n m = record { height = m.height; width = m.width; entry = λ i j. m.entry (rev n i) j }

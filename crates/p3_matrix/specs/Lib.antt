@@ -1,0 +1,3 @@
+pub mod BitOrder
+pub mod Matrix
+pub mod RowMajor

@@ -1,0 +1,25 @@
+-- Matrices as they are stored: the entries of one row after those of another.
+use Rattle.std.specs.Prelude.{◌≡◌, ℕ, ◌+◌, ◌*◌, ◌/◌, ◌≤◌, List, length, map, slice_range}
+use Rattle.std.specs.List.{range_with_len}
+
+-- a width, and the entries row by row
+pub record RowMajor (T : Type 0) : Type 0 where
+  pub width : ℕ
+  pub values : List T
+
+-- how many rows there are
+abbrev pub height : {T : Type 0} → RowMajor T → ℕ
+height m = length m.values / m.width
+
+-- the entries fill whole rows, and rows are not empty
+pub record IsRowMajor {T : Type 0} (m : RowMajor T) : Type 0 where
+  pub wide : 1 ≤ m.width
+  pub full : height m * m.width ≡ length m.values
+
+-- row i
+abbrev pub row : {T : Type 0} → RowMajor T → ℕ → List T
+row m i = slice_range m.values (i * m.width) (i * m.width + m.width)
+
+-- the matrix as the list of its rows
+abbrev pub rows : {T : Type 0} → RowMajor T → List (List T)
+rows m = map (row m) (range_with_len 0 (height m))
