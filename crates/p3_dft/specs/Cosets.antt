@@ -1,0 +1,27 @@
+-- The points of a coset of a subgroup of two-power order, the values of polynomials on it, and their coefficients.
+-- g n is the generator of the subgroup of order 2 ^ n, and a matrix has a polynomial in each column.
+use Rattle.std.specs.Prelude.{◌≡◌, ℕ, ◌^◌, ◌<◌, List, map}
+use Rattle.std.specs.List.{range_with_len}
+use Rattle.p3_field.specs.Ring.{Ring, power}
+use Rattle.p3_matrix.specs.Matrix.{Matrix, Same, column}
+use Rattle.p3_dft.specs.Polynomials.{value}
+
+-- point i of the coset of s
+unfoldable pub point : {A : Type 0} → Ring A → (ℕ → A) → ℕ → A → ℕ → A
+point r g n s i = r.mul s (power r (g n) i)
+
+-- out has 2 ^ n rows, and row i has the values of the columns of c at point i
+pub record IsValues {A : Type 0} (r : Ring A) (g : ℕ → A) (c : Matrix A) (n : ℕ) (s : A) (out : Matrix A) : Type 0 where
+  pub high : out.height ≡ 2 ^ n
+  pub wide : out.width ≡ c.width
+  pub values : (i j : ℕ) → i < 2 ^ n → j < c.width → out.entry i j ≡ value r (column c j) (point r g n s i)
+
+-- the same as a list of rows
+abbrev pub rows_of_values : {A : Type 0} → Ring A → (ℕ → A) → Matrix A → ℕ → A → List (List A)
+rows_of_values r g c n s = map (λ i. map (λ j. value r (column c j) (point r g n s i)) (range_with_len 0 c.width)) (range_with_len 0 (2 ^ n))
+
+-- c has the shape of m, which has 2 ^ k rows, and its values on the coset of s are m
+pub record AreCoefficients {A : Type 0} (r : Ring A) (g : ℕ → A) (m : Matrix A) (k : ℕ) (s : A) (c : Matrix A) : Type 0 where
+  pub high : c.height ≡ m.height
+  pub wide : c.width ≡ m.width
+  pub values : IsValues r g c k s m
