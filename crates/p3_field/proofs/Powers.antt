@@ -1,0 +1,82 @@
+-- Powers and whole numbers in a ring.
+use Rattle.std.proofs.Common.{◌≡◌, ℕ, zero, suc, ◌+◌, ◌/◌, ◌%◌, ◌^◌, refl, sym, ap, ◌∙◌, arith, zero-add, suc-add, add-one}
+use Rattle.std.proofs.Math.Nat.{two-pow-succ}
+use Rattle.p3_field.specs.Ring.{Ring, two, count, power}
+
+module _ {A : Type 0} (r : Ring A) where
+  one-mul : (x : A) → r.mul r.one x ≡ x
+  one-mul x = r.mul_comm r.one x ∙ r.mul_one x
+
+  pub power-zero : (x : A) → power r x 0 ≡ r.one
+  unfolding power
+  power-zero x = refl
+
+  pub power-suc : (x : A) (n : ℕ) → power r x (suc n) ≡ r.mul x (power r x n)
+  unfolding power
+  power-suc x n = refl
+
+  -- one more factor, as a running product takes it
+  pub power-more : (x : A) (n : ℕ) → power r x (n + 1) ≡ r.mul (power r x n) x
+  power-more x n = ap (power r x) (add-one n) ∙ power-suc x n ∙ r.mul_comm x (power r x n)
+
+  pub power-add : (x : A) (m n : ℕ) → power r x (m + n) ≡ r.mul (power r x m) (power r x n)
+  unfolding power
+  power-add x zero n = ap (power r x) (zero-add n) ∙ sym (one-mul (power r x n))
+  power-add x (suc m) n = ap (power r x) (suc-add m n) ∙ ap (r.mul x) (power-add x m n) ∙ sym (r.mul_assoc x (power r x m) (power r x n))
+
+  mul_swap : (a b c d : A) → r.mul (r.mul a b) (r.mul c d) ≡ r.mul (r.mul a c) (r.mul b d)
+  mul_swap a b c d =
+      r.mul_assoc a b (r.mul c d) ∙ ap (r.mul a) (sym (r.mul_assoc b c d) ∙ ap (λ w. r.mul w d) (r.mul_comm b c) ∙ r.mul_assoc c b d)
+      ∙ sym (r.mul_assoc a c (r.mul b d))
+
+  pub power-square : (x : A) (n : ℕ) → power r (r.mul x x) n ≡ r.mul (power r x n) (power r x n)
+  unfolding power
+  power-square x zero = sym (r.mul_one r.one)
+  power-square x (suc n) = ap (r.mul (r.mul x x)) (power-square x n) ∙ mul_swap x x (power r x n) (power r x n)
+
+  -- by the last binary digit of the exponent
+  pub power-even : (x : A) (n : ℕ) → n % 2 ≡ 0 → power r x n ≡ power r (r.mul x x) (n / 2)
+  power-even x n even =
+      let halves : n ≡ n / 2 + n / 2 = omega (arith, even) in
+      ap (power r x) halves ∙ power-add x (n / 2) (n / 2) ∙ sym (power-square x (n / 2))
+
+  pub power-odd : (x : A) (n : ℕ) → n % 2 ≡ 1 → power r x n ≡ r.mul x (power r (r.mul x x) (n / 2))
+  power-odd x n odd =
+      let halves : n ≡ suc (n / 2 + n / 2) = omega (arith, odd) in
+      ap (power r x) halves ∙ power-suc x (n / 2 + n / 2) ∙ ap (r.mul x) (power-add x (n / 2) (n / 2) ∙ sym (power-square x (n / 2)))
+
+  -- a step of square and multiply: x' is the square of x, and p' takes in x where the last digit of n is one
+  pub step-odd : (p p' x x' t : A) (n : ℕ) → n % 2 ≡ 1 → x' ≡ r.mul x x → p' ≡ r.mul p x → r.mul p (power r x n) ≡ t → r.mul p' (power r x' (n / 2)) ≡ t
+  step-odd p p' x x' t n odd square product so_far =
+      let rest = power r (r.mul x x) (n / 2) in
+      cc (ap (r.mul p) (power-odd x n odd), r.mul_assoc p x rest, ap (λ y. power r y (n / 2)) square, ap (λ y. r.mul y rest) product)
+
+  pub step-even : (p x x' t : A) (n : ℕ) → ¬ (n % 2 ≡ 1) → x' ≡ r.mul x x → r.mul p (power r x n) ≡ t → r.mul p (power r x' (n / 2)) ≡ t
+  step-even p x x' t n not_odd square so_far =
+      let even : n % 2 ≡ 0 = omega (arith, not_odd) in
+      cc (ap (r.mul p) (power-even x n even), ap (λ y. power r y (n / 2)) square)
+
+  -- the power of 2 ^ (n + 1) is the square of that of 2 ^ n
+  pub power-double : (x y : A) (n : ℕ) → y ≡ power r x (2 ^ n) → r.mul y y ≡ power r x (2 ^ (n + 1))
+  power-double x y n e =
+      let twice : 2 ^ (n + 1) ≡ 2 ^ n + 2 ^ n = rw (add-one, two-pow-succ) in
+      cc (ap (power r x) twice, power-add x (2 ^ n) (2 ^ n), e)
+
+  add-mul : (x y z : A) → r.mul (r.add x y) z ≡ r.add (r.mul x z) (r.mul y z)
+  add-mul x y z = r.mul_comm (r.add x y) z ∙ r.mul_add z x y ∙ cc (r.mul_comm z x, r.mul_comm z y)
+
+  pub two-mul : (x : A) → r.mul (two r) x ≡ r.add x x
+  two-mul x = add-mul r.one r.one x ∙ cc (one-mul x)
+
+  -- one more halving
+  pub halved-more : (s x y : A) (n : ℕ) → r.mul (power r (two r) n) x ≡ s → r.add y y ≡ x → r.mul (power r (two r) (n + 1)) y ≡ s
+  halved-more s x y n e h =
+      ap (λ w. r.mul w y) (power-more (two r) n) ∙ r.mul_assoc (power r (two r) n) (two r) y ∙ ap (r.mul (power r (two r) n)) (two-mul y ∙ h) ∙ e
+
+  pub count-zero : count r 0 ≡ r.zero
+  unfolding count
+  count-zero = refl
+
+  pub count-suc : (n : ℕ) → count r (suc n) ≡ r.add r.one (count r n)
+  unfolding count
+  count-suc n = refl

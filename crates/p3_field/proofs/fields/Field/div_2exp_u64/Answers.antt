@@ -1,0 +1,12 @@
+use Rattle.std.proofs.Common.{◌∙◌, ap}
+use Rattle.p3_field.proofs.Powers.{halved-more, power-zero}
+use Rattle.p3_field.proofs.fields.Field.div_2exp_u64.Goals as goal
+
+pub loop-i-init : goal.loop-i-init
+loop-i-init g c =
+    let ring = g.Self.Field.ring in
+    let x = g.Self.Field.value c.args.self in
+    ap (λ y. ring.mul y x) (power-zero ring _) ∙ ring.mul_comm ring.one x ∙ ring.mul_one x
+
+pub loop-i-preserved : goal.loop-i-preserved
+loop-i-preserved g c = halved-more g.Self.Field.ring _ _ _ c.loop-i._i c.loop-i.invariant c.halve-halved.ensures

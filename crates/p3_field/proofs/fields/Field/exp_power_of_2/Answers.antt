@@ -1,0 +1,14 @@
+use Rattle.std.proofs.Common.{◌∙◌, sym, ap}
+use Rattle.p3_field.proofs.Powers.{power-double, power-suc, power-zero}
+use Rattle.p3_field.proofs.fields.Field.exp_power_of_2.Goals as goal
+
+pub loop-i-init : goal.loop-i-init
+loop-i-init g c =
+    let ring = g.Self.Field.ring in
+    let x = g.Self.Field.value c.args.self in
+    sym (power-suc ring x 0 ∙ ap (ring.mul x) (power-zero ring x) ∙ ring.mul_one x)
+
+pub loop-i-preserved : goal.loop-i-preserved
+loop-i-preserved g c =
+    g.met.Self.Field.mul_law c.loop-i.square c.loop-i.square c.mul-square.result c.mul-square.ensures
+    ∙ power-double g.Self.Field.ring _ _ c.loop-i._i c.loop-i.invariant

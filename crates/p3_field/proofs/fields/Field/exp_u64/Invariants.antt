@@ -1,0 +1,12 @@
+use Rattle.std.proofs.Common.{◌≡◌}
+use Rattle.p3_field.specs.Ring.{power}
+use Rattle.p3_field.proofs.fields.Field.exp_u64.Given as goal
+
+abbrev pub invariant-loop-left : goal.invariant-loop-left
+invariant-loop-left g l =
+    let ring = g.Self.Field.ring in
+    let value = g.Self.Field.value in
+    ring.mul (value l.product) (power ring (value l.square) l.left) ≡ power ring (value l.fn.self) l.n
+
+abbrev pub decreases-loop-left : goal.decreases-loop-left
+decreases-loop-left g l = l.left
