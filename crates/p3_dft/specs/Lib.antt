@@ -1,2 +1,4 @@
 pub mod Cosets
 pub mod Polynomials
+pub mod Shapes
+pub mod Transforms

@@ -6,5 +6,5 @@ pub mod packed;
 pub mod two_adic;
 
 pub use fields::Field;
-pub use packed::{Packable, Packed, PackedField, Products};
+pub use packed::{Packable, Packed, PackedField, Products, scaled};
 pub use two_adic::{CanonicalField, TwoAdicField};

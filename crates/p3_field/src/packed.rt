@@ -112,3 +112,11 @@ impl Products {
         self.so_far = Count::both(&self.so_far, &Count::of(&by));
     }
 }
+
+/// The product of one element and `t`, which `products` counts.
+pub fn scaled<F: Packable>(x: F, t: F, products: &mut Products) -> F
+    ensures value { F.value result ≡ F.ring.mul (F.value x) (F.value t) }
+    ensures count { products.new ≡ products.old + 1 }
+{
+    x.scaled(t, products)
+}
