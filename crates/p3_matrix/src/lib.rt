@@ -1,13 +1,10 @@
 //! Matrices of rows of one width, and views of them.
 #![tactic(auto)]
 
-ghost use Rattle.std.specs.Prelude.{◌≡◌, length};
-ghost use Rattle.p3_matrix.specs.RowMajor.{RowMajor, height, rows};
-ghost use Rattle.p3_matrix.specs.Matrix.{column, list_of_rows, Same};
-ghost use Rattle.p3_matrix.specs.BitOrder.{reversed};
+pub mod dense;
+pub mod error;
+pub mod evaluations;
 
-pub fn nothing(x: &[u8]) -> usize
-    ensures { result ≡ length x.now }
-{
-    x.len()
-}
+pub use dense::RowMajorMatrix;
+pub use error::DftError;
+pub use evaluations::{Evaluations, IntoRowMajorMatrix};

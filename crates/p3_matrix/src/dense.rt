@@ -1,0 +1,154 @@
+//! Matrices that own their entries, which lie row after row.
+
+ghost use Rattle.std.specs.Prelude.{◌≡◌, ◌+◌, ◌*◌, ◌/◌, ◌<◌, ◌≤◌, IfOk, length};
+ghost use Rattle.p3_matrix.specs.RowMajor.{RowMajor, IsRowMajor, height, row};
+
+use crate::error::DftError;
+use std::marker::Model;
+
+/// A matrix of `height` rows of `width` entries, one row after the other. The width is at least
+/// one; the height may be zero.
+#[derive(Debug, Drop)]
+pub struct RowMajorMatrix<T> {
+    values: Vec<T>,
+    width: usize,
+}
+
+impl<T> Model for RowMajorMatrix<T> {
+    ghost use Rattle.p3_matrix.specs.RowMajor.{RowMajor, IsRowMajor};
+
+    ghost Value = { RowMajor T };
+
+    ghost view = { λ m. record { width = m.width; values = m.values.items } };
+
+    ghost invariant = { λ m. IsRowMajor {T = T} (record { width = m.width; values = m.values.items }) };
+}
+
+impl<T: PartialEq> PartialEq for RowMajorMatrix<T> {
+    ghost use Rattle.std.specs.Prelude.{◌==◌, refl};
+    ghost use Rattle.std.specs.Cmp.{on_per, and_per, partial_equiv_from_equiv};
+    ghost use Rattle.std.specs.Cmp.Lexicographic.{pointwise, lists_per};
+    ghost use Rattle.std.specs.Ordering.{on, eq_of_both};
+    ghost use Rattle.std.specs.Cmp.Rules.{comparing};
+    ghost use Rattle.std.proofs.Common.{rules};
+
+    ghost eq = { eq_of_both (on (λ m. m.width) ◌==◌) (on (λ m. m.values) (pointwise T.eq)) };
+
+    ghost laws = { and_per (on_per (λ m. m.width) (Prim.search (comparing, rules))) (on_per (λ m. m.values) (lists_per T.laws)) };
+
+    fn eq(&self, other: &Self) -> bool {
+        self.width == other.width && self.values == other.values
+    }
+}
+
+impl<T: Eq> Eq for RowMajorMatrix<T> {
+    ghost use Rattle.std.specs.Cmp.{on_equiv, and_equiv};
+    ghost use Rattle.std.specs.Cmp.Lexicographic.{lists_equiv};
+    ghost use Rattle.std.specs.Cmp.Rules.{comparing};
+    ghost use Rattle.std.proofs.Common.{rules};
+
+    ghost laws = { and_equiv (on_equiv (λ m. m.width) (Prim.search (comparing, rules))) (on_equiv (λ m. m.values) (lists_equiv T.Eq.laws)) };
+}
+
+impl<T> RowMajorMatrix<T> {
+    /// The matrix of these entries, `width` to a row. The entries fill whole rows; none at all make
+    /// a matrix of no rows.
+    pub fn new(values: Vec<T>, width: usize) -> Self
+        requires wide { 1 ≤ width }
+        requires full { (length values.items / width) * width ≡ length values.items }
+        ensures { result ≡ record { width = width; values = values.items } }
+    {
+        RowMajorMatrix { values, width }
+    }
+
+    /// One column.
+    pub fn new_col(values: Vec<T>) -> Self
+        ensures { result ≡ record { width = 1; values = values.items } }
+    {
+        Self::new(values, 1)
+    }
+
+    /// One row, which is not empty.
+    pub fn new_row(values: Vec<T>) -> Self
+        requires { 1 ≤ length values.items }
+        ensures { result ≡ record { width = length values.items; values = values.items } }
+    {
+        let width = values.len();
+        Self::new(values, width)
+    }
+
+    /// How many entries a row has: at least one.
+    pub fn width(&self) -> usize
+        ensures width { result ≡ self.now.width }
+        ensures whole { IsRowMajor self.now }
+    {
+        self.width
+    }
+
+    /// How many rows there are.
+    pub fn height(&self) -> usize
+        ensures height { result ≡ height self.now }
+        ensures whole { IsRowMajor self.now }
+    {
+        self.values.len() / self.width
+    }
+
+    /// The entries, row after row.
+    pub fn values(&self) -> &[T]
+        ensures values { result.now ≡ self.now.values }
+        ensures whole { IsRowMajor self.now }
+    {
+        self.values.as_slice()
+    }
+
+    /// The entries, row after row, in the vector that held them.
+    pub fn into_values(self) -> Vec<T>
+        ensures values { result.items ≡ self.values }
+        ensures whole { IsRowMajor self }
+    {
+        let RowMajorMatrix { values, width: _ } = self;
+        values
+    }
+
+    /// The entries of row i.
+    pub fn row(&self, i: usize) -> &[T]
+        requires { i < height self.now }
+        ensures { result.now ≡ row self.now i }
+    {
+        let start = i * self.width;
+        &self.values[start..start + self.width]
+    }
+
+    /// A matrix with the same entries in memory of its own. Where memory is refused, there is
+    /// nothing but the error.
+    pub fn try_clone(&self) -> Result<Self, DftError>
+    where
+        T: Copy,
+        ensures { IfOk result (λ m. m ≡ self.now) }
+    {
+        let values = Vec::from_slice(*self.values.allocator(), self.values.as_slice())?;
+        Ok(Self::new(values, self.width))
+    }
+}
+
+#[cfg(test)]
+mod tests {
+    use super::*;
+    use std::test::Fail;
+
+    #[test]
+    fn shapes_and_rows(rt: HostRuntime) -> Result<(), Fail> {
+        let alloc = rt.alloc();
+        let pairs = RowMajorMatrix::new(vec![in alloc; 1u8, 2, 3, 4, 5, 6]?, 2);
+        assert_eq!(rt; pairs.width(), 2);
+        assert_eq!(rt; pairs.height(), 3);
+        assert_eq!(rt; pairs.row(1)[0], 3);
+        assert_eq!(rt; pairs.row(2)[1], 6);
+        let triples = RowMajorMatrix::new(vec![in alloc; 1u8, 2, 3, 4, 5, 6]?, 3);
+        assert!(rt; pairs != triples);
+        assert!(rt; pairs == pairs.try_clone()?);
+        assert_eq!(rt; RowMajorMatrix::new_col(pairs.into_values()).height(), 6);
+        assert_eq!(rt; RowMajorMatrix::new_row(triples.into_values()).height(), 1);
+        Ok(())
+    }
+}

@@ -1,0 +1,49 @@
+//! The one way in which a transform can fail.
+
+use std::alloc::{AllocError, AllocFailed};
+use thiserror::Error;
+
+/// Why a transform gave no answer.
+#[derive(Clone, Copy, Debug, PartialEq, Eq, Error)]
+pub enum DftError {
+    /// Memory was asked for and refused.
+    #[error("out of memory")]
+    OutOfMemory,
+}
+
+impl From<AllocError> for DftError {
+    ghost use Rattle.std.specs.Prelude.{◌≡◌};
+    ghost use Rattle.p3_matrix.specs.declared.error.DftError.{DftError};
+    ghost use Rattle.p3_matrix.specs.declared.error.DftError.TheVariants.{OutOfMemory};
+
+    ghost from_gives = { λ _ e. e ≡ OutOfMemory };
+
+    fn from(_refused: AllocError) -> DftError {
+        DftError::OutOfMemory
+    }
+}
+
+impl<T: Drop> From<AllocFailed<T>> for DftError {
+    ghost use Rattle.std.specs.Prelude.{◌≡◌};
+    ghost use Rattle.p3_matrix.specs.declared.error.DftError.{DftError};
+    ghost use Rattle.p3_matrix.specs.declared.error.DftError.TheVariants.{OutOfMemory};
+
+    ghost from_gives = { λ _ e. e ≡ OutOfMemory };
+
+    fn from(_refused: AllocFailed<T>) -> DftError {
+        DftError::OutOfMemory
+    }
+}
+
+#[cfg(test)]
+mod tests {
+    use super::*;
+    use std::test::Fail;
+
+    #[test]
+    fn says_what_was_refused(rt: HostRuntime) -> Result<(), Fail> {
+        let text = DftError::OutOfMemory.to_string(rt.alloc())?;
+        assert_eq!(rt; text.as_str(), "out of memory");
+        Ok(())
+    }
+}
