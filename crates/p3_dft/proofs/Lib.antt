@@ -1,1 +1,2 @@
+pub mod Cosets
 pub mod Polynomials

@@ -1,12 +1,11 @@
 -- Polynomials by index: `poly n f x` is the value at x of the polynomial with the n coefficients f 0, f 1, .., by Horner's
 -- rule. Proofs use this form, since an index can be shifted, doubled or reversed under a λ.
-use Rattle.std.proofs.Common.{◌≡◌, ℕ, zero, suc, ◌+◌, ◌*◌, ◌<◌, ◌≤◌, refl, sym, ap, ap₂, ◌∙◌, List, [], ◌∷◌, ◌++◌, length, get_or, map, arith, suc-add, zero-add, add-one}
+use Rattle.std.proofs.Common.{◌≡◌, ℕ, zero, suc, ◌+◌, ◌*◌, ◌<◌, ◌≤◌, refl, sym, ap, ap₂, ◌∙◌, List, [], ◌∷◌, ◌++◌, length, get_or, map, arith, suc-add, zero-add}
 use Rattle.std.specs.List.{range_with_len}
 use Rattle.std.proofs.lemmas.List.FromFn.{length-map-range_with_len, get_or-map-range_with_len}
 use Rattle.p3_field.specs.Ring.{Ring, power}
 use Rattle.p3_field.proofs.Rings
 use Rattle.p3_field.proofs.RingSolver.{solve, va, vb, vc, vd, ve, zeroₑ, ◌⊞◌, ◌⊠◌, ⊝}
-use Rattle.p3_field.proofs.Powers.{power-zero}
 use Rattle.p3_dft.specs.Polynomials.{value}
 
 module _ {A : Type 0} (R : Ring A) where
@@ -95,6 +94,10 @@ module _ {A : Type 0} (R : Ring A) where
   poly-scaled (suc n) f s x =
       ap₂ (λ a b. a ⊕ x ⊗ b) (R.mul_one (f 0)) (poly_same n _ _ x (λ j l. Rings.mul_left_comm R _ _ _) ∙ poly-times n s (λ j. f (suc j) ⊗ power R s j) x ∙ ap (λ y. s ⊗ y) (poly-scaled n (λ j. f (suc j)) s x))
       ∙ solve R (f 0 ∷ x ∷ s ∷ poly n (λ j. f (suc j)) (s ⊗ x) ∷ []) (va ⊞ vb ⊠ (vc ⊠ vd)) (va ⊞ (vc ⊠ vb) ⊠ vd) refl
+
+  pub poly-none : (f : ℕ → A) (x : A) → poly 0 f x ≡ 𝟘
+  unfolding poly
+  poly-none f x = refl
 
   pub poly-one : (f : ℕ → A) (x : A) → poly 1 f x ≡ f 0
   unfolding poly
