@@ -1,1 +1,4 @@
+pub mod Parity
 pub mod Powers
+pub mod RingSolver
+pub mod Rings

@@ -1,12 +1,10 @@
 -- Powers and whole numbers in a ring.
-use Rattle.std.proofs.Common.{◌≡◌, ℕ, zero, suc, ◌+◌, ◌/◌, ◌%◌, ◌^◌, refl, sym, ap, ◌∙◌, arith, zero-add, suc-add, add-one}
+use Rattle.std.proofs.Common.{◌≡◌, ℕ, zero, suc, ◌+◌, ◌*◌, ◌/◌, ◌%◌, ◌^◌, refl, sym, ap, ◌∙◌, arith, zero-add, suc-add, add-one}
 use Rattle.std.proofs.Math.Nat.{two-pow-succ}
 use Rattle.p3_field.specs.Ring.{Ring, two, count, power}
+use Rattle.p3_field.proofs.Rings
 
 module _ {A : Type 0} (r : Ring A) where
-  one-mul : (x : A) → r.mul r.one x ≡ x
-  one-mul x = r.mul_comm r.one x ∙ r.mul_one x
-
   pub power-zero : (x : A) → power r x 0 ≡ r.one
   unfolding power
   power-zero x = refl
@@ -15,13 +13,16 @@ module _ {A : Type 0} (r : Ring A) where
   unfolding power
   power-suc x n = refl
 
+  pub power-one : (x : A) → power r x 1 ≡ x
+  power-one x = power-suc x 0 ∙ ap (r.mul x) (power-zero x) ∙ r.mul_one x
+
   -- one more factor, as a running product takes it
   pub power-more : (x : A) (n : ℕ) → power r x (n + 1) ≡ r.mul (power r x n) x
   power-more x n = ap (power r x) (add-one n) ∙ power-suc x n ∙ r.mul_comm x (power r x n)
 
   pub power-add : (x : A) (m n : ℕ) → power r x (m + n) ≡ r.mul (power r x m) (power r x n)
   unfolding power
-  power-add x zero n = ap (power r x) (zero-add n) ∙ sym (one-mul (power r x n))
+  power-add x zero n = ap (power r x) (zero-add n) ∙ sym (Rings.one-mul r (power r x n))
   power-add x (suc m) n = ap (power r x) (suc-add m n) ∙ ap (r.mul x) (power-add x m n) ∙ sym (r.mul_assoc x (power r x m) (power r x n))
 
   mul_swap : (a b c d : A) → r.mul (r.mul a b) (r.mul c d) ≡ r.mul (r.mul a c) (r.mul b d)
@@ -29,10 +30,31 @@ module _ {A : Type 0} (r : Ring A) where
       r.mul_assoc a b (r.mul c d) ∙ ap (r.mul a) (sym (r.mul_assoc b c d) ∙ ap (λ w. r.mul w d) (r.mul_comm b c) ∙ r.mul_assoc c b d)
       ∙ sym (r.mul_assoc a c (r.mul b d))
 
-  pub power-square : (x : A) (n : ℕ) → power r (r.mul x x) n ≡ r.mul (power r x n) (power r x n)
+  pub power_of_one : (n : ℕ) → power r r.one n ≡ r.one
   unfolding power
-  power-square x zero = sym (r.mul_one r.one)
-  power-square x (suc n) = ap (r.mul (r.mul x x)) (power-square x n) ∙ mul_swap x x (power r x n) (power r x n)
+  power_of_one zero = refl
+  power_of_one (suc n) = Rings.one-mul r (power r r.one n) ∙ power_of_one n
+
+  pub power_of_product : (x y : A) (n : ℕ) → power r (r.mul x y) n ≡ r.mul (power r x n) (power r y n)
+  unfolding power
+  power_of_product x y zero = sym (r.mul_one r.one)
+  power_of_product x y (suc n) = ap (r.mul (r.mul x y)) (power_of_product x y n) ∙ mul_swap x y (power r x n) (power r y n)
+
+  pub power-square : (x : A) (n : ℕ) → power r (r.mul x x) n ≡ r.mul (power r x n) (power r x n)
+  power-square x n = power_of_product x x n
+
+  pub power-mul : (x : A) (m n : ℕ) → power r x (m * n) ≡ power r (power r x m) n
+  power-mul x m zero = let e : m * 0 ≡ 0 = omega arith in ap (power r x) e ∙ power-zero x ∙ sym (power-zero (power r x m))
+  power-mul x m (suc n) =
+      let e : m * suc n ≡ m + m * n = omega arith in
+      ap (power r x) e ∙ power-add x m (m * n) ∙ ap (r.mul (power r x m)) (power-mul x m n) ∙ sym (power-suc (power r x m) n)
+
+  pub power-twice : (x : A) (n : ℕ) → power r x (2 * n) ≡ power r (r.mul x x) n
+  power-twice x n = power-mul x 2 n ∙ ap (λ z. power r z n) (power-suc x 1 ∙ ap (r.mul x) (power-one x))
+
+  -- the powers of an inverse are the inverses of the powers
+  pub power-inverse : (x y : A) (n : ℕ) → r.mul x y ≡ r.one → r.mul (power r x n) (power r y n) ≡ r.one
+  power-inverse x y n e = sym (power_of_product x y n) ∙ ap (λ z. power r z n) e ∙ power_of_one n
 
   -- by the last binary digit of the exponent
   pub power-even : (x : A) (n : ℕ) → n % 2 ≡ 0 → power r x n ≡ power r (r.mul x x) (n / 2)
@@ -62,16 +84,10 @@ module _ {A : Type 0} (r : Ring A) where
       let twice : 2 ^ (n + 1) ≡ 2 ^ n + 2 ^ n = rw (add-one, two-pow-succ) in
       cc (ap (power r x) twice, power-add x (2 ^ n) (2 ^ n), e)
 
-  add-mul : (x y z : A) → r.mul (r.add x y) z ≡ r.add (r.mul x z) (r.mul y z)
-  add-mul x y z = r.mul_comm (r.add x y) z ∙ r.mul_add z x y ∙ cc (r.mul_comm z x, r.mul_comm z y)
-
-  pub two-mul : (x : A) → r.mul (two r) x ≡ r.add x x
-  two-mul x = add-mul r.one r.one x ∙ cc (one-mul x)
-
   -- one more halving
   pub halved-more : (s x y : A) (n : ℕ) → r.mul (power r (two r) n) x ≡ s → r.add y y ≡ x → r.mul (power r (two r) (n + 1)) y ≡ s
   halved-more s x y n e h =
-      ap (λ w. r.mul w y) (power-more (two r) n) ∙ r.mul_assoc (power r (two r) n) (two r) y ∙ ap (r.mul (power r (two r) n)) (two-mul y ∙ h) ∙ e
+      ap (λ w. r.mul w y) (power-more (two r) n) ∙ r.mul_assoc (power r (two r) n) (two r) y ∙ ap (r.mul (power r (two r) n)) (Rings.two-mul r y ∙ h) ∙ e
 
   pub count-zero : count r 0 ≡ r.zero
   unfolding count
@@ -80,3 +96,24 @@ module _ {A : Type 0} (r : Ring A) where
   pub count-suc : (n : ℕ) → count r (suc n) ≡ r.add r.one (count r n)
   unfolding count
   count-suc n = refl
+
+  pub count-one : count r 1 ≡ r.one
+  count-one = count-suc 0 ∙ ap (r.add r.one) count-zero ∙ r.add_zero r.one
+
+  pub count-add : (m n : ℕ) → count r (m + n) ≡ r.add (count r m) (count r n)
+  count-add zero n = ap (count r) (zero-add n) ∙ sym (ap (λ z. r.add z (count r n)) count-zero ∙ Rings.zero-add r (count r n))
+  count-add (suc m) n =
+      ap (count r) (suc-add m n) ∙ count-suc (m + n) ∙ ap (r.add r.one) (count-add m n)
+      ∙ sym (ap (λ z. r.add z (count r n)) (count-suc m) ∙ r.add_assoc r.one (count r m) (count r n))
+
+  pub count-mul : (m n : ℕ) → count r (m * n) ≡ r.mul (count r m) (count r n)
+  count-mul m zero = let e : m * 0 ≡ 0 = omega arith in ap (count r) e ∙ count-zero ∙ sym (ap (r.mul (count r m)) count-zero ∙ Rings.mul-zero r (count r m))
+  count-mul m (suc n) =
+      let e : m * suc n ≡ m + m * n = omega arith in
+      ap (count r) e ∙ count-add m (m * n) ∙ cc (count-mul m n, r.mul_one (count r m), r.mul_add (count r m) r.one (count r n), count-suc n)
+
+  pub count-power_of_two : (n : ℕ) → count r (2 ^ n) ≡ power r (two r) n
+  count-power_of_two zero = count-one ∙ sym (power-zero (two r))
+  count-power_of_two (suc n) =
+      let twice : 2 ^ suc n ≡ 2 ^ n + 2 ^ n = two-pow-succ n in
+      ap (count r) twice ∙ count-add (2 ^ n) (2 ^ n) ∙ sym (Rings.two-mul r (count r (2 ^ n))) ∙ ap (r.mul (two r)) (count-power_of_two n) ∙ sym (power-suc (two r) n)

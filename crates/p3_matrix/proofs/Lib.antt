@@ -1,0 +1,2 @@
+pub mod BitReversal
+pub mod Matrices
