@@ -1,2 +1,5 @@
 pub mod Cosets
+pub mod Logarithms
 pub mod Polynomials
+pub mod Sums
+pub mod Transforms

@@ -1,20 +1,15 @@
--- What the transforms answer, in the terms of a field's members.
+-- What the transforms answer, in the terms of a field's members and the generators of its subgroups.
 use Rattle.std.specs.Prelude.{◌≡◌, ℕ, ◌^◌}
 use Rattle.p3_field.specs.declared.fields.Field.{Ghosts as FieldMembers}
-use Rattle.p3_field.specs.declared.two_adic.TwoAdicField.{Ghosts as TwoAdicMembers}
 use Rattle.p3_matrix.specs.RowMajor.{RowMajor, height}
 use Rattle.p3_matrix.specs.Matrix.{Matrix, matrix, mapped}
 use Rattle.p3_dft.specs.Cosets.{IsValues}
 
-module _ {F : Type 0} (f : FieldMembers F) (t : TwoAdicMembers F) where
+module _ {F : Type 0} (f : FieldMembers F) where
   -- the values of the elements of a stored matrix
   abbrev pub values_of : RowMajor F → Matrix f.Element
   values_of m = mapped f.value (matrix f.ZERO m)
 
-  -- the generator of the subgroup of order 2 ^ n
-  abbrev pub generator : ℕ → f.Element
-  generator n = f.value (t.generator n)
-
   -- row i of out has the values, at point i of the coset of s, of the polynomials whose coefficients are the columns of m
-  abbrev pub IsTransform : RowMajor F → f.Element → RowMajor F → Type 0
-  IsTransform m s out = (k : ℕ) → height m ≡ 2 ^ k → IsValues f.ring generator (values_of m) k s (values_of out)
+  abbrev pub IsTransform : (ℕ → F) → RowMajor F → f.Element → RowMajor F → Type 0
+  IsTransform generator m s out = (k : ℕ) → height m ≡ 2 ^ k → IsValues f.ring (λ n. f.value (generator n)) (values_of m) k s (values_of out)

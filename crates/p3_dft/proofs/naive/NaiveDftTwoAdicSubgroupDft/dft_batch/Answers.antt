@@ -1,0 +1,48 @@
+use Rattle.std.proofs.Common.{zero, suc, refl, ◌≡◌, ℕ, ◌+◌, ◌++◌, ◌*◌, ◌^◌, ◌<◌, ◌≤◌, List, length, get_or, take, drop, replicate, sym, ap, ◌∙◌, arith, rules}
+use Rattle.std.proofs.lemmas.Grind.{common_steps}
+use Rattle.std.proofs.Math.Seq.{take-append_seam}
+use Rattle.p3_matrix.specs.RowMajor.{RowMajor, height}
+use Rattle.p3_dft.proofs.Logarithms.{log-unique}
+use Rattle.p3_dft.proofs.Transforms.{transform_of_parts}
+use Rattle.p3_dft.proofs.naive.NaiveDftTwoAdicSubgroupDft.dft_batch.Goals as goal
+
+-- the logarithm that was computed is the height's
+log_is : (h computed log : ℕ) → h ≡ 2 ^ log → 2 ^ computed ≤ h → h < 2 * 2 ^ computed → computed ≡ log
+log_is h computed log high low next = log-unique computed log (omega (arith, high)) (omega (arith, high))
+
+-- a slice that was written over its whole length
+written : {X : Type 0} (n : ℕ) (ys rest : List X) → length ys ≡ n → take n (ys ++ rest) ≡ ys
+written n ys rest size = ap (λ k. take k (ys ++ rest)) (sym size) ∙ take-append_seam ys rest
+
+-- past its end a list of copies is read as one more
+zero_at : {X : Type 0} (k n : ℕ) (z : X) → get_or (replicate k z) n z ≡ z
+zero_at zero n z = refl
+zero_at (suc k) zero z = refl
+zero_at (suc k) (suc n) z = zero_at k n z
+
+pub two_adic_generator-generator-requires : goal.two_adic_generator-generator-requires
+two_adic_generator-generator-requires g c =
+    let tall : c.height-height.result ≡ 2 ^ c.requires.log = c.height-height.ensures.height ∙ ap height c.into_row_major_matrix-mat.ensures ∙ c.requires.high in
+    let same = log_is _ c.ilog2.result _ tall c.ilog2.ensures.power_le c.ilog2.ensures.next_power_gt in
+    omega (arith, c.requires.within)
+
+pub add_values-requires-clause-zero : goal.add_values-requires-clause-zero
+add_values-requires-clause-zero g c n inside =
+    let zeros : c.as_mut_slice.result.now ≡ replicate c.len.result g.F.Field.ZERO = c.as_mut_slice.ensures.value ∙ c.in_ok-extend_by_zeros.ensures.ok ∙ ap (λ xs. xs ++ replicate c.len.result g.F.Field.ZERO) c.new-sums.ensures.items in
+    ap (λ xs. g.F.Field.value (get_or xs n g.F.Field.ZERO)) zeros ∙ ap g.F.Field.value (zero_at c.len.result n g.F.Field.ZERO) ∙ g.met.F.Field.zero_law
+
+pub returns-clause-values : goal.returns-clause-values
+returns-clause-values g c =
+    let m = c.into_row_major_matrix-mat.result in
+    let w = c.width-width.result in
+    let h = c.height-height.result in
+    let tall : h ≡ 2 ^ c.requires.log = c.height-height.ensures.height ∙ ap height c.into_row_major_matrix-mat.ensures ∙ c.requires.high in
+    let same = log_is _ c.ilog2.result _ tall c.ilog2.ensures.power_le c.ilog2.ensures.next_power_gt in
+    let sums = c.add_values.new.sums in
+    let size : length sums ≡ h * w = c.add_values.auto.sums ∙ grind (arith, common_steps) in
+    let values = ap (λ (r : RowMajor g.row.F.Denot). r.values) c.new.ensures ∙ written _ sums _ (c.add_values.auto.sums ∙ c.as_mut_slice.ensures.len) in
+    rw (← c.into_row_major_matrix-mat.ensures)
+    (transform_of_parts g.F.Field g.F.TwoAdicField.generator m c.new.result c.as_slice.result.now sums w h c.ilog2.result (g.F.Field.value c.two_adic_generator-generator.result)
+    (c.as_slice.ensures.value ∙ c.into_values-coefficients.ensures.values) c.width-width.ensures.width c.height-height.ensures.height (tall ∙ ap (λ n. 2 ^ n) (sym same))
+    c.two_adic_generator-generator.ensures (omega (arith, c.width-width.ensures.whole.wide, c.width-width.ensures.width)) size
+    (ap (λ (r : RowMajor g.row.F.Denot). r.width) c.new.ensures) values c.add_values.ensures.values)

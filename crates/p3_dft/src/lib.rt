@@ -1,0 +1,16 @@
+//! Discrete Fourier transforms over two-adic subgroups of finite fields and their cosets.
+//!
+//! A matrix holds one polynomial in each column. `TwoAdicSubgroupDft` is the trait of the engines
+//! that transform all columns at once; this crate gives the public names of `p3_field` and
+//! `p3_matrix` again, so that a user names one crate.
+#![tactic(auto)]
+
+pub mod naive;
+pub mod traits;
+pub mod util;
+
+pub use naive::NaiveDft;
+pub use p3_field::{CanonicalField, Field, Packable, Packed, PackedField, Products, TwoAdicField};
+pub use p3_matrix::{DftError, Evaluations, IntoRowMajorMatrix, RowMajorMatrix};
+pub use traits::{Layout, TwoAdicSubgroupDft};
+pub use util::fits_dft;
