@@ -1,2 +1,3 @@
 pub mod Cosets
+pub mod Interpolation
 pub mod Polynomials
