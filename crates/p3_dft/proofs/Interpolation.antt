@@ -1,17 +1,19 @@
 -- Interpolation: N values on a coset of order N, of an invertible shift, are those of exactly one list of N coefficients.
 -- Transforming with the roots g and then with their inverses h gives each coefficient, doubled n times: by halves, on the even
 -- and the odd places. Halving is exact in the ring, so this gives uniqueness, and with g and h swapped existence.
-use Rattle.std.proofs.Common.{◌≡◌, ℕ, zero, suc, ◌+◌, ◌*◌, ◌<◌, ◌≤◌, ◌^◌, refl, sym, ap, ap₂, ◌∙◌, [], ◌∷◌, arith, ◌⊎◌, inl, inr}
-use Rattle.p3_field.specs.Ring.{Ring, power, AreRoots, IsInverse, IsInvertible}
+use Rattle.std.proofs.Common.{◌≡◌, ℕ, zero, suc, ◌+◌, ◌*◌, ◌-◌, ◌%◌, ◌<◌, ◌≤◌, ◌^◌, refl, sym, ap, ap₂, ◌∙◌, [], ◌∷◌, arith, ◌⊎◌, inl, inr, mod-lt, mod-eq_of_lt}
+use native.Mathlib.Nat.{mod_self}
+use Rattle.std.proofs.lemmas.Nat.{pow_pos}
+use Rattle.p3_field.specs.Ring.{Ring, power, count, two, AreRoots, IsInverse, IsInvertible}
 use Rattle.p3_field.proofs.Rings
 use Rattle.p3_field.proofs.RingSolver.{solve, solve_by, va, vb, vc, vd, oneₑ, ◌⊞◌, ◌⊠◌, ◌⊟◌, ⊝}
-use Rattle.p3_field.proofs.Powers.{power-suc, power-mul, power-inverse}
+use Rattle.p3_field.proofs.Powers.{power-zero, power-suc, power_of_one, power-mul, power-inverse, count-power_of_two}
 use Rattle.p3_field.proofs.Parity.{even_or_odd}
-use Rattle.p3_field.proofs.Roots.{AreInverseRoots, inverse_roots_sym, inverse_root, inverse_roots, inverse_undoes, root_twice, root_across, root_round, root_squared, root_all, doubled, doubled_add, halved, halved-power, halved-doubled}
+use Rattle.p3_field.proofs.Roots.{AreInverseRoots, inverse_roots_sym, inverse_root, inverse_roots, inverse_undoes, inverse_power, root_twice, root_across, root_round, root_squared, root_all, doubled, doubled_add, doubled-power, halved, halved-power, halved-doubled}
 use Rattle.p3_matrix.specs.Matrix.{Matrix, Same}
-use Rattle.p3_dft.specs.Cosets.{point, AreCoefficients}
+use Rattle.p3_dft.specs.Cosets.{point, IsValues, AreCoefficients}
 use Rattle.p3_dft.proofs.Polynomials.{poly, poly_same, poly-one, poly-append, poly-split, poly-add, poly-neg, poly-times, poly-scaled}
-use Rattle.p3_dft.proofs.Cosets.{point-mul, entry-poly, is_values}
+use Rattle.p3_dft.proofs.Cosets.{point-mul, point_of_one, entry-poly, is_values, values_same, coefficients_same, coset_values, shifted}
 
 -- the values of c at the powers of the n-th root
 unfoldable pub transform : {A : Type 0} → Ring A → (ℕ → A) → ℕ → (ℕ → A) → ℕ → A
@@ -36,6 +38,19 @@ coefficients R h n t y j = R.mul (halved R n (transform R h n y j)) (power R t j
 pub coefficients_are : {A : Type 0} (R : Ring A) (h : ℕ → A) (n : ℕ) (t : A) (y : ℕ → A) (j : ℕ) → coefficients R h n t y j ≡ R.mul (halved R n (transform R h n y j)) (power R t j)
 unfolding coefficients
 coefficients_are R h n t y j = refl
+
+-- the row from which an inverse by a forward transform takes row j, of n: 0, n - 1, .., 1
+abbrev pub opposite : ℕ → ℕ → ℕ
+opposite n j = (n - j) % n
+
+pub opposite-zero : (n : ℕ) → opposite n 0 ≡ 0
+opposite-zero n = let e : n - 0 ≡ n = omega arith in ap (λ k. k % n) e ∙ mod_self n
+
+pub opposite_above_zero : (n j : ℕ) → 0 < j → j < n → opposite n j ≡ n - j
+opposite_above_zero n j p q = mod-eq_of_lt (omega arith)
+
+pub opposite-lt : (n j : ℕ) → 0 < n → opposite n j < n
+opposite-lt n j p = mod-lt (n - j) p
 
 module _ {A : Type 0} (R : Ring A) where
   open R use {add as ◌⊕◌, mul as ◌⊗◌, neg, zero as 𝟘, one as 𝟙}
@@ -207,3 +222,64 @@ module _ {A : Type 0} (R : Ring A) {g : ℕ → A} {bits : ℕ} (G : AreRoots R 
       column_value : (c : Matrix A) → AreCoefficients R g m k s c → (y j : ℕ) → y < 2 ^ k → j < c.width → values_at R g k s (λ x. c.entry x j) y ≡ m.entry y j
       column_value c p y j w v =
           values_at_is R g k s (λ x. c.entry x j) y ∙ ap (λ n. poly R n (λ x. c.entry x j) (point R g k s y)) (sym (p.high ∙ p.values.high)) ∙ sym (entry-poly R g c k s m p.values y j w v)
+
+  -- ---- inverse transforms
+  -- a transform at the inverse roots gives the coefficients, doubled k times
+  pub inverse_transform : (m c : Matrix A) (k : ℕ) → k ≤ bits → m.height ≡ 2 ^ k → c.height ≡ m.height → c.width ≡ m.width
+      → ((i j : ℕ) → i < 2 ^ k → j < m.width → power R (two R) k ⊗ c.entry i j ≡ transform R (inverse_root R g) k (λ q. m.entry q j) i) → AreCoefficients R g m k 𝟙 c
+  inverse_transform m c k b h high wide e = record {
+    high = high;
+    wide = wide;
+    values = is_values R g c k 𝟙 m h (sym wide)
+        (λ i j p q. let f = λ (r : ℕ). m.entry r j in
+        sym (ap (λ n. poly R n (λ r. c.entry r j) (point R g k 𝟙 i)) (high ∙ h)
+        ∙ poly_same R (2 ^ k) (λ r. c.entry r j) (coefficients R (inverse_root R g) k 𝟙 f) (point R g k 𝟙 i) (λ r l. sym (undone f (c.entry r j) r (e r j l (omega (arith, wide)))))
+        ∙ sym (values_at_is R g k 𝟙 (coefficients R (inverse_root R g) k 𝟙 f) i)
+        ∙ values_at-coefficients R G (inverse_roots R G) (inverse_undoes R G) k 𝟙 𝟙 (R.mul_one 𝟙) f i b p));
+  }
+    where
+      undone : (f : ℕ → A) (x : A) (r : ℕ) → power R (two R) k ⊗ x ≡ transform R (inverse_root R g) k f r → coefficients R (inverse_root R g) k 𝟙 f r ≡ x
+      undone f x r d =
+          coefficients_are R (inverse_root R g) k 𝟙 f r ∙ ap₂ (λ y z. halved R k y ⊗ z) (sym d ∙ sym (doubled-power R k x)) (power_of_one R r)
+          ∙ R.mul_one (halved R k (doubled R k x)) ∙ halved-doubled R k x
+
+  root_opposite : (n j : ℕ) → n ≤ bits → j < 2 ^ n → power R (inverse_root R g n) j ≡ power R (g n) (opposite (2 ^ n) j)
+  root_opposite n zero b l = power-zero R (inverse_root R g n) ∙ sym (ap (power R (g n)) (opposite-zero (2 ^ n)) ∙ power-zero R (g n))
+  root_opposite n (suc j) b l =
+      inverse_power R G (inverse_undoes R G) n (suc j) (2 ^ n - suc j) b (omega arith) ∙ ap (power R (g n)) (sym (opposite_above_zero (2 ^ n) (suc j) (omega arith) (omega arith)))
+
+  -- the inverse by a forward transform: the values y on the subgroup, of the values m themselves, are the coefficients of m in
+  -- opposite order, doubled k times
+  pub forward_inverse : (m y c : Matrix A) (k : ℕ) → k ≤ bits → m.height ≡ 2 ^ k → IsValues R g m k 𝟙 y → c.height ≡ m.height → c.width ≡ m.width
+      → ((i j : ℕ) → i < 2 ^ k → j < m.width → power R (two R) k ⊗ c.entry i j ≡ y.entry (opposite (2 ^ k) i) j) → AreCoefficients R g m k 𝟙 c
+  forward_inverse m y c k b h v high wide e =
+      inverse_transform m c k b h high wide (λ i j p q. e i j p q ∙ entry-poly R g m k 𝟙 y v (opposite (2 ^ k) i) j (opposite-lt (2 ^ k) i (pow_pos k)) q
+      ∙ ap₂ (λ n x. poly R n (λ r. m.entry r j) x) h (point_of_one R g k (opposite (2 ^ k) i) ∙ sym (root_opposite k i b p))
+      ∙ sym (transform_is R (inverse_root R g) k (λ r. m.entry r j) i))
+
+  -- the same where the height is a sum of ones
+  pub forward_inverse_by_count : (m y c : Matrix A) (k : ℕ) → k ≤ bits → m.height ≡ 2 ^ k → IsValues R g m k 𝟙 y → c.height ≡ m.height → c.width ≡ m.width
+      → ((i j : ℕ) → i < 2 ^ k → j < m.width → count R (2 ^ k) ⊗ c.entry i j ≡ y.entry (opposite (2 ^ k) i) j) → AreCoefficients R g m k 𝟙 c
+  forward_inverse_by_count m y c k b h v high wide e =
+      forward_inverse m y c k b h v high wide (λ i j p q. ap (λ x. x ⊗ c.entry i j) (sym (count-power_of_two R k)) ∙ e i j p q)
+
+  -- coefficients on the subgroup, row i times the i-th power of the inverse of s, are coefficients on the coset of s
+  pub coset_coefficients : (m c d : Matrix A) (k : ℕ) (s t : A) → IsInverse R s t → AreCoefficients R g m k 𝟙 c → Same d (shifted R t c) → AreCoefficients R g m k s d
+  coset_coefficients m c d k s t inverse a e = record {
+    high = e.high ∙ a.high;
+    wide = e.wide ∙ a.wide;
+    values = coset_values R g d c k s m (record { high = sym e.high; wide = sym e.wide; alike = λ i j p q. sym (back i j p q) }) a.values;
+  }
+    where
+      back : (i j : ℕ) → i < c.height → j < c.width → d.entry i j ⊗ power R s i ≡ c.entry i j
+      back i j p q =
+          ap (λ x. x ⊗ power R s i) (e.alike i j (omega (arith, e.high)) (omega (arith, e.wide))) ∙ R.mul_assoc (c.entry i j) (power R t i) (power R s i)
+          ∙ ap (λ x. c.entry i j ⊗ x) (R.mul_comm (power R t i) (power R s i) ∙ power-inverse R s t i inverse) ∙ R.mul_one (c.entry i j)
+
+  -- coefficients of one matrix are those of each that is the same
+  pub coefficients_of_same : (m other : Matrix A) (k : ℕ) (s : A) (c : Matrix A) → Same m other → AreCoefficients R g m k s c → AreCoefficients R g other k s c
+  coefficients_of_same m other k s c e a = record { high = a.high ∙ e.high; wide = a.wide ∙ e.wide; values = values_same R g c k s m other a.values e }
+
+  -- and what is the same as the coefficients are the coefficients
+  pub same_coefficients : (m : Matrix A) (k : ℕ) (s : A) (c d : Matrix A) → Same c d → AreCoefficients R g m k s c → AreCoefficients R g m k s d
+  same_coefficients m k s c d e a = record { high = sym e.high ∙ a.high; wide = sym e.wide ∙ a.wide; values = coefficients_same R g c d k s m e a.values }
