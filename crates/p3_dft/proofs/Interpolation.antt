@@ -11,8 +11,9 @@ use Rattle.p3_field.proofs.Powers.{power-zero, power-suc, power_of_one, power-mu
 use Rattle.p3_field.proofs.Parity.{even_or_odd}
 use Rattle.p3_field.proofs.Roots.{AreInverseRoots, inverse_roots_sym, inverse_root, inverse_roots, inverse_undoes, inverse_power, root_twice, root_across, root_round, root_squared, root_all, doubled, doubled_add, doubled-power, halved, halved-power, halved-doubled}
 use Rattle.p3_matrix.specs.Matrix.{Matrix, Same}
+use Rattle.p3_dft.specs.Polynomials.{poly}
 use Rattle.p3_dft.specs.Cosets.{point, IsValues, AreCoefficients}
-use Rattle.p3_dft.proofs.Polynomials.{poly, poly_same, poly-one, poly-append, poly-split, poly-add, poly-neg, poly-times, poly-scaled}
+use Rattle.p3_dft.proofs.Polynomials.{poly_same, poly-one, poly-append, poly-split, poly-add, poly-neg, poly-times, poly-scaled}
 use Rattle.p3_dft.proofs.Cosets.{point-mul, point_of_one, entry-poly, is_values, values_same, coefficients_same, coset_values, shifted}
 
 -- the values of c at the powers of the n-th root
@@ -57,7 +58,6 @@ module _ {A : Type 0} (R : Ring A) where
 
   infixl 60 ◌⊕◌
   infixl 70 ◌⊗◌
-
   transform_same : (g : ℕ → A) (n : ℕ) (c d : ℕ → A) → ((k : ℕ) → k < 2 ^ n → c k ≡ d k) → (j : ℕ) → transform R g n c j ≡ transform R g n d j
   transform_same g n c d e j = transform_is R g n c j ∙ poly_same R (2 ^ n) c d _ e ∙ sym (transform_is R g n d j)
 
@@ -66,7 +66,6 @@ module _ {A : Type 0} (R : Ring A) {g : ℕ → A} {bits : ℕ} (G : AreRoots R 
 
   infixl 60 ◌⊕◌
   infixl 70 ◌⊗◌
-
   -- at a root's power, the halves of a polynomial: its even and its odd places
   pub transform_near : (n : ℕ) (c : ℕ → A) (k : ℕ) → n < bits → transform R g (suc n) c k ≡ transform R g n (λ j. c (2 * j)) k ⊕ power R (g (suc n)) k ⊗ transform R g n (λ j. c (2 * j + 1)) k
   unfolding transform
@@ -101,7 +100,6 @@ module _ {A : Type 0} (R : Ring A) {g h : ℕ → A} {bits : ℕ} (G : AreRoots 
 
   infixl 60 ◌⊕◌
   infixl 70 ◌⊗◌
-
   invert_even : (n : ℕ) (c : ℕ → A) (j : ℕ) → n < bits → transform R h (suc n) (transform R g (suc n) c) (2 * j) ≡ transform R h n (transform R g n (λ m. c (2 * m))) j ⊕ transform R h n (transform R g n (λ m. c (2 * m))) j
   invert_even n c j b =
       let z = power R (h n) j in
@@ -152,7 +150,6 @@ module _ {A : Type 0} (R : Ring A) {g h : ℕ → A} {bits : ℕ} (G : AreRoots 
 
   infixl 60 ◌⊕◌
   infixl 70 ◌⊗◌
-
   values_at-scaled : (n : ℕ) (s : A) (c : ℕ → A) (k : ℕ) → values_at R g n s c k ≡ transform R g n (λ j. c j ⊗ power R s j) k
   values_at-scaled n s c k =
       values_at_is R g n s c k ∙ ap (poly R (2 ^ n) c) (point-mul R g n s k) ∙ sym (poly-scaled R (2 ^ n) c s (power R (g n) k))
@@ -193,7 +190,6 @@ module _ {A : Type 0} (R : Ring A) {g : ℕ → A} {bits : ℕ} (G : AreRoots R 
 
   infixl 60 ◌⊕◌
   infixl 70 ◌⊗◌
-
   -- the coefficients of the values m on a coset of order 2 ^ k, t being the inverse of its shift
   unfoldable pub interpolated : (k : ℕ) (t : A) → Matrix A → Matrix A
   interpolated k t m = record { height = m.height; width = m.width; entry = λ q j. coefficients R (inverse_root R g) k t (λ i. m.entry i j) q }

@@ -23,7 +23,6 @@ module _ {A : Type 0} (R : Ring A) {g : ℕ → A} {bits : ℕ} (G : AreRoots R 
 
   infixl 60 ◌⊕◌
   infixl 70 ◌⊗◌
-
   pub root_twice : (n t : ℕ) → n < bits → power R (g (suc n)) (2 * t) ≡ power R (g n) t
   root_twice n t b = power-twice R _ t ∙ ap (λ x. power R x t) (G.square n b)
 
@@ -93,7 +92,6 @@ module _ {A : Type 0} (R : Ring A) where
 
   infixl 60 ◌⊕◌
   infixl 70 ◌⊗◌
-
   -- ---- doubling and halving
   unfoldable pub doubled : ℕ → A → A
   doubled zero a = a
