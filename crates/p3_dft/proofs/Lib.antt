@@ -1,5 +1,7 @@
 pub mod Blocks
 pub mod Cosets
+pub mod Distance
+pub mod Extensions
 pub mod Interpolation
 pub mod Layers
 pub mod Networks

@@ -8,11 +8,12 @@ use Rattle.p3_field.proofs.Rings
 use Rattle.p3_field.proofs.RingSolver.{solve, va, vb, vc, vd, ◌⊠◌, ◌⊟◌}
 use Rattle.p3_field.proofs.Powers.{power-zero, power-one, power-add, power_of_one, power_of_product, power-mul}
 use Rattle.p3_field.proofs.Roots.{root_squared, root_across, root_round, root_strided}
-use Rattle.p3_matrix.specs.BitOrder.{rev}
+use Rattle.p3_matrix.specs.BitOrder.{rev, reversed}
+use Rattle.p3_matrix.specs.Matrix.{Matrix}
 use Rattle.p3_matrix.proofs.BitReversal.{rev_of_zero, rev-zero, rev-even, rev-odd, rev-lt, rev-block, rev-rev}
 use Rattle.p3_dft.specs.Polynomials.{poly}
-use Rattle.p3_dft.specs.Cosets.{point}
-use Rattle.p3_dft.proofs.Cosets.{point-mul}
+use Rattle.p3_dft.specs.Cosets.{point, IsValues}
+use Rattle.p3_dft.proofs.Cosets.{point-mul, is_values}
 use Rattle.p3_dft.proofs.Polynomials.{poly-one, poly_same, poly-split}
 
 module _ {A : Type 0} (R : Ring A) (g : ℕ → A) (s : A) where
@@ -244,6 +245,23 @@ module _ {A : Type 0} (R : Ring A) (g : ℕ → A) (s : A) where
   pub turned_row_end : (l : ℕ) (c : ℕ → A) (r : ℕ) → r < 2 ^ l → turned_row l 0 c r ≡ poly R (2 ^ l) c (point R g l s r)
   unfolding turned_row
   turned_row_end l c r h = ap₂ (turned l 0 c) (rev-zero (r / 2 ^ l)) (mod-eq_of_lt h) ∙ turned_end l c r
+
+  -- ---- after the last layer the rows are the values of the columns: low and turned rows in natural order, high rows reversed
+  pub low_values : (c out : Matrix A) (k : ℕ) → c.height ≡ 2 ^ k → out.height ≡ 2 ^ k → out.width ≡ c.width
+      → ((i j : ℕ) → i < 2 ^ k → j < c.width → out.entry i j ≡ low_row k 0 (λ q. c.entry q j) i) → IsValues R g c k s out
+  low_values c out k d h w e =
+      is_values R g c k s out h w (λ i j p q. e i j p q ∙ low_end k (λ u. c.entry u j) i p ∙ ap (λ n. poly R n (λ u. c.entry u j) (point R g k s i)) (sym d))
+
+  pub turned_values : (c out : Matrix A) (k : ℕ) → c.height ≡ 2 ^ k → out.height ≡ 2 ^ k → out.width ≡ c.width
+      → ((i j : ℕ) → i < 2 ^ k → j < c.width → out.entry i j ≡ turned_row k 0 (λ q. c.entry q j) i) → IsValues R g c k s out
+  turned_values c out k d h w e =
+      is_values R g c k s out h w (λ i j p q. e i j p q ∙ turned_row_end k (λ u. c.entry u j) i p ∙ ap (λ n. poly R n (λ u. c.entry u j) (point R g k s i)) (sym d))
+
+  pub high_values : (c out : Matrix A) (k : ℕ) → c.height ≡ 2 ^ k → out.height ≡ 2 ^ k → out.width ≡ c.width
+      → ((i j : ℕ) → i < 2 ^ k → j < c.width → out.entry i j ≡ high_row k 0 (λ q. c.entry q j) i) → IsValues R g c k s (reversed k out)
+  high_values c out k d h w e =
+      is_values R g c k s (reversed k out) h w (λ i j p q. e (rev k i) j (rev-lt k i) q ∙ high_end k (λ u. c.entry u j) (rev k i)
+      ∙ ap₂ (λ n r. poly R n (λ u. c.entry u j) (point R g k s r)) (sym d) (rev-rev k i p))
 
 module _ {A : Type 0} (R : Ring A) {g : ℕ → A} {bits : ℕ} (G : AreRoots R bits g) where
   open R use {add as ◌⊕◌, mul as ◌⊗◌, neg, zero as 𝟘, one as 𝟙}
