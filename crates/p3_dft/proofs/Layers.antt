@@ -1,11 +1,11 @@
 -- A layer of a network on whole columns, from what it does to each pair of rows: of all rows, of a run of them, and of flat cells
 -- across the columns.
-use Rattle.std.proofs.Common.{◌≡◌, ℕ, suc, ◌+◌, ◌*◌, ◌-◌, ◌<◌, ◌≤◌, ◌^◌, ◌/◌, ◌%◌, sym, ap, ap₂, ◌∙◌, subst, arith, mul-pos, mul-lt-mul_of_pos_right}
+use Rattle.std.proofs.Common.{◌≡◌, ℕ, suc, ◌+◌, ◌*◌, ◌-◌, ◌<◌, ◌≤◌, ◌^◌, ◌/◌, ◌%◌, sym, ap, ap₂, ◌∙◌, subst, arith, mul-pos}
 use Rattle.std.proofs.lemmas.Nat.{pow_pos, div-mul-add, mod-mul-add, same_from_place, div_below, mod_below, div-add-mod'}
 use Rattle.p3_field.specs.Ring.{Ring, power, AreRoots}
 use Rattle.p3_matrix.specs.BitOrder.{rev}
-use Rattle.p3_dft.proofs.Blocks.{row_below, halves_whole}
-use Rattle.p3_dft.proofs.Networks.{twiddle, low_row, low_near, low_far, high_row, high_near, high_far, turned_row, turned_row_near, turned_row_far, table_low, table_turned}
+use Rattle.p3_dft.proofs.Blocks.{row_below, halves_whole, blocks_whole}
+use Rattle.p3_dft.proofs.Networks.{table_high, twiddle, low_row, low_near, low_far, high_row, high_near, high_far, turned_row, turned_row_near, turned_row_far, table_low, table_turned}
 use Rattle.p3_dft.proofs.Pairs.{Apart, PairsDone, PairDone, pairs_more, layer_apart, low_of, high_of, low_of_at, high_of_at, each_row}
 
 -- a pair of rows of a flat matrix, from its pairs of cells
@@ -53,6 +53,22 @@ layer_more h n b t low high near far x y z p q e d done one =
     pairs_more (low_of h) (high_of h) near far (n * h) (b * h + t) x y z (layer_apart h (n * h) (omega arith)) (row_below b t h n p q) done
     (subst (λ (v : ℕ). PairDone (low_of h (b * h + t)) v (near (b * h + t)) (far (b * h + t)) y z) (d ∙ omega arith ∙ sym (high_of_at h b t q))
     (subst (λ (v : ℕ). PairDone v high (near (b * h + t)) (far (b * h + t)) y z) (e ∙ sym (low_of_at h b t q)) one))
+
+-- The same where a program counts the layers up, from l to l + 1 of k. `formula l m` is what the rows hold when l layers are done
+-- and m are left.
+pub counted : {A : Type 0} (formula : ℕ → ℕ → ℕ → A) (k l h n half blocks : ℕ) (near far : ℕ → ℕ → A → A → A) (x y : ℕ → A) → l < k → half ≡ h → blocks ≡ n → n * (2 * h) ≡ 2 ^ k
+    → (((r : ℕ) → r < n * (2 * h) → x r ≡ formula l (suc (k - 1 - l)) r) → PairsDone (low_of h) (high_of h) (near h) (far h) (n * h) x y → (r : ℕ) → r < n * (2 * h) → y r ≡ formula (suc l) (k - 1 - l) r)
+    → ((r : ℕ) → r < 2 ^ k → x r ≡ formula l (k - l) r)
+    → PairsDone (low_of half) (high_of half) (near half) (far half) (blocks * half) x y
+    → (r : ℕ) → r < 2 ^ k → y r ≡ formula (l + 1) (k - (l + 1)) r
+counted formula k l h n half blocks near far x y below e d size layer start done r q =
+    let rest : k - l ≡ suc (k - 1 - l) = omega arith in
+    let next : suc l ≡ l + 1 = omega arith in
+    let left : k - 1 - l ≡ k - (l + 1) = omega arith in
+    let begun : (u : ℕ) → u < n * (2 * h) → x u ≡ formula l (suc (k - 1 - l)) u = λ u v. subst (λ (m : ℕ). x u ≡ formula l m u) rest (start u (omega (arith, size))) in
+    let pairs = subst (λ (b : ℕ). PairsDone (low_of h) (high_of h) (near h) (far h) (b * h) x y) d
+    (subst (λ (m : ℕ). PairsDone (low_of m) (high_of m) (near m) (far m) (blocks * m) x y) e done) in
+    layer begun pairs r (omega (arith, size)) ∙ ap₂ (λ a b. formula a b r) next left
 
 -- A layer of whole rows is a layer of flat cells: half blocks of h rows of width w are half blocks of h * w cells, and flat pair p is of
 -- row pair p / w. `before` and `after` say the columns' formulas.
@@ -177,47 +193,52 @@ module _ {A : Type 0} (R : Ring A) {g : ℕ → A} {bits : ℕ} (G : AreRoots R 
       factor : (b t : ℕ) → b < 2 ^ m → t < 2 ^ l → w ((b * 2 ^ l + t) / 2 ^ l) ≡ power R (g (suc m)) (rev m b)
       factor b t p q = ap w (div-mul-add b (2 ^ l) t q) ∙ tw b p
 
-  -- a layer of a run over k layers, as a program counts them
-  pub low_next : (k l : ℕ) (c : ℕ → A) (half stride : ℕ) (table : ℕ → A) (x y : ℕ → A)
-      → k ≤ bits → l < k → half ≡ 2 ^ l → stride ≡ 2 ^ (k - 1 - l)
-      → ((e : ℕ) → e < half * stride → table e ≡ power R (g k) e)
-      → ((r : ℕ) → r < 2 ^ k → x r ≡ low_row R g 𝟙 l (k - l) c r)
-      → PairsDone (low_of half) (high_of half) (λ p. dit_near R (table (p % half * stride))) (λ p. dit_far R (table (p % half * stride))) (stride * half) x y
-      → (r : ℕ) → r < 2 ^ k → y r ≡ low_row R g 𝟙 (l + 1) (k - (l + 1)) c r
-  low_next k l c half stride table x y f h e d entries start done r q =
-      let m = k - 1 - l in
-      let size : 2 ^ m * (2 * 2 ^ l) ≡ 2 ^ k = halves_whole k l h in
-      let rest : k - l ≡ suc m = omega arith in
-      let next : l + 1 ≡ suc l = omega arith in
-      let left : k - (l + 1) ≡ m = omega arith in
-      let k_is : suc l + m ≡ k = omega arith in
-      let begun : (u : ℕ) → u < 2 ^ m * (2 * 2 ^ l) → x u ≡ low_row R g 𝟙 l (suc m) c u = λ u v. subst (λ (n : ℕ). x u ≡ low_row R g 𝟙 l n c u) rest (start u (subst (λ (n : ℕ). u < n) size v)) in
-      let table_is : (t : ℕ) → t < 2 ^ l → table (t * 2 ^ m) ≡ twiddle R g 𝟙 l m t =
-      λ t v. entries (t * 2 ^ m) (subst (λ (n : ℕ). t * 2 ^ m < n * stride) (sym e) (subst (λ (n : ℕ). t * 2 ^ m < 2 ^ l * n) (sym d) (mul-lt-mul_of_pos_right v (pow_pos m)))) ∙ ap (λ n. power R (g n) (t * 2 ^ m)) (sym k_is) ∙ sym (table_low R G l m t (omega arith)) in
-      let flat = subst (λ (n : ℕ). PairsDone (low_of (2 ^ l)) (high_of (2 ^ l)) (λ p. dit_near R (table (p % 2 ^ l * n))) (λ p. dit_far R (table (p % 2 ^ l * n))) (n * 2 ^ l) x y) d
-      (subst (λ (n : ℕ). PairsDone (low_of n) (high_of n) (λ p. dit_near R (table (p % n * stride))) (λ p. dit_far R (table (p % n * stride))) (stride * n) x y) e done) in
-      low_layer 𝟙 l m c (λ t. table (t * 2 ^ m)) x y (omega arith) table_is begun flat r (subst (λ (n : ℕ). r < n) (sym size) q)
-      ∙ ap₂ (λ a b. low_row R g 𝟙 a b c r) (sym next) (sym left)
+  -- ---- layer l of k, as a program counts them: `half` rows in a half block, `blocks` blocks
+  pub low_next : (s : A) (k l : ℕ) (c : ℕ → A) (half blocks : ℕ) (w : ℕ → A) (x y : ℕ → A) → k ≤ bits → l < k → half ≡ 2 ^ l → blocks ≡ 2 ^ (k - 1 - l)
+      → ((t : ℕ) → t < half → w t ≡ twiddle R g s l (k - 1 - l) t)
+      → ((r : ℕ) → r < 2 ^ k → x r ≡ low_row R g s l (k - l) c r)
+      → PairsDone (low_of half) (high_of half) (λ p. dit_near R (w (p % half))) (λ p. dit_far R (w (p % half))) (blocks * half) x y
+      → (r : ℕ) → r < 2 ^ k → y r ≡ low_row R g s (l + 1) (k - (l + 1)) c r
+  low_next s k l c half blocks w x y f h e d entries =
+      counted (λ a b. low_row R g s a b c) k l (2 ^ l) (2 ^ (k - 1 - l)) half blocks (λ n p. dit_near R (w (p % n))) (λ n p. dit_far R (w (p % n))) x y h e d (halves_whole k l h)
+      (low_layer s l (k - 1 - l) c w x y (omega arith) (λ t v. entries t (omega (arith, e))))
 
-  -- a layer of a run over k layers, as a program counts them
-  pub turned_next : (s : A) (k l : ℕ) (c : ℕ → A) (half blocks : ℕ) (table : ℕ → A) (x y : ℕ → A) → k ≤ bits → l < k → half ≡ 2 ^ l → blocks ≡ 2 ^ (k - 1 - l)
-      → ((b : ℕ) → b < blocks → table b ≡ power R (g k) (rev (k - 1) b)) → ((r : ℕ) → r < 2 ^ k → x r ≡ turned_row R g s l (k - l) c r)
-      → PairsDone (low_of half) (high_of half) (λ p. dif_near R) (λ p. dif_far R (table (p / half))) (blocks * half) x y
+  pub high_next : (s : A) (k l : ℕ) (c : ℕ → A) (half blocks : ℕ) (w : ℕ → A) (x y : ℕ → A) → k ≤ bits → l < k → half ≡ 2 ^ (k - 1 - l) → blocks ≡ 2 ^ l
+      → ((b : ℕ) → b < blocks → w b ≡ twiddle R g s l (k - 1 - l) (rev l b))
+      → ((r : ℕ) → r < 2 ^ k → x r ≡ high_row R g s l (k - l) c r)
+      → PairsDone (low_of half) (high_of half) (λ p. dit_near R (w (p / half))) (λ p. dit_far R (w (p / half))) (blocks * half) x y
+      → (r : ℕ) → r < 2 ^ k → y r ≡ high_row R g s (l + 1) (k - (l + 1)) c r
+  high_next s k l c half blocks w x y f h e d entries =
+      counted (λ a b. high_row R g s a b c) k l (2 ^ (k - 1 - l)) (2 ^ l) half blocks (λ n p. dit_near R (w (p / n))) (λ n p. dit_far R (w (p / n))) x y h e d (blocks_whole k l h)
+      (high_layer s l (k - 1 - l) c w x y (omega arith) (λ b v. entries b (omega (arith, d))))
+
+  pub turned_next : (s : A) (k l : ℕ) (c : ℕ → A) (half blocks : ℕ) (w : ℕ → A) (x y : ℕ → A) → k ≤ bits → l < k → half ≡ 2 ^ l → blocks ≡ 2 ^ (k - 1 - l)
+      → ((b : ℕ) → b < blocks → w b ≡ power R (g (suc (k - 1 - l))) (rev (k - 1 - l) b))
+      → ((r : ℕ) → r < 2 ^ k → x r ≡ turned_row R g s l (k - l) c r)
+      → PairsDone (low_of half) (high_of half) (λ p. dif_near R) (λ p. dif_far R (w (p / half))) (blocks * half) x y
       → (r : ℕ) → r < 2 ^ k → y r ≡ turned_row R g s (l + 1) (k - (l + 1)) c r
-  turned_next s k l c half blocks table x y f h e d entries start done r q =
-      let m = k - 1 - l in
-      let size : 2 ^ m * (2 * 2 ^ l) ≡ 2 ^ k = halves_whole k l h in
-      let rest : k - l ≡ suc m = omega arith in
-      let next : l + 1 ≡ suc l = omega arith in
-      let left : k - (l + 1) ≡ m = omega arith in
-      let k_is : suc m + l ≡ k = omega arith in
-      let k_less : m + l ≡ k - 1 = omega arith in
-      let begun : (u : ℕ) → u < 2 ^ m * (2 * 2 ^ l) → x u ≡ turned_row R g s l (suc m) c u = λ u v. subst (λ (n : ℕ). x u ≡ turned_row R g s l n c u) rest (start u (subst (λ (n : ℕ). u < n) size v)) in
-      let table_is : (b : ℕ) → b < 2 ^ m → table b ≡ power R (g (suc m)) (rev m b) =
-      λ b v. entries b (subst (λ (n : ℕ). b < n) (sym d) v) ∙ ap₂ (λ n u. power R (g n) (rev u b)) (sym k_is) (sym k_less) ∙ sym (table_turned R G l m b (omega arith) v) in
-      let flat = subst (λ (n : ℕ). PairsDone (low_of (2 ^ l)) (high_of (2 ^ l)) (λ p. dif_near R) (λ p. dif_far R (table (p / 2 ^ l))) (n * 2 ^ l) x y) d
-      (subst (λ (n : ℕ). PairsDone (low_of n) (high_of n) (λ p. dif_near R) (λ p. dif_far R (table (p / n))) (blocks * n) x y) e done) in
-      turned_layer s l m c table x y (omega arith) table_is begun flat r (subst (λ (n : ℕ). r < n) (sym size) q) ∙ ap₂ (λ a b. turned_row R g s a b c r) (sym next) (sym left)
+  turned_next s k l c half blocks w x y f h e d entries =
+      counted (λ a b. turned_row R g s a b c) k l (2 ^ l) (2 ^ (k - 1 - l)) half blocks (λ n p. dif_near R) (λ n p. dif_far R (w (p / n))) x y h e d (halves_whole k l h)
+      (turned_layer s l (k - 1 - l) c w x y (omega arith) (λ b v. entries b (omega (arith, d))))
+
+  -- ---- the twiddles of layer l in the one table of k: each 2 ^ (k - 1 - l)-th entry of the powers of the k-th root, or the first
+  -- entries of those powers in bit reversed order
+  pub low_entry : (k l t : ℕ) → k ≤ bits → l < k → power R (g k) (t * 2 ^ (k - 1 - l)) ≡ twiddle R g 𝟙 l (k - 1 - l) t
+  low_entry k l t f h =
+      let whole : suc l + (k - 1 - l) ≡ k = omega arith in
+      ap (λ n. power R (g n) (t * 2 ^ (k - 1 - l))) (sym whole) ∙ sym (table_low R G l (k - 1 - l) t (omega arith))
+
+  pub high_entry : (k l b : ℕ) → k ≤ bits → l < k → b < 2 ^ l → power R (g k) (rev (k - 1) b) ≡ twiddle R g 𝟙 l (k - 1 - l) (rev l b)
+  high_entry k l b f h p =
+      let whole : suc l + (k - 1 - l) ≡ k = omega arith in
+      let less : l + (k - 1 - l) ≡ k - 1 = omega arith in
+      ap₂ (λ n u. power R (g n) (rev u b)) (sym whole) (sym less) ∙ sym (table_high R G l (k - 1 - l) b (omega arith) p)
+
+  pub turned_entry : (k l b : ℕ) → k ≤ bits → l < k → b < 2 ^ (k - 1 - l) → power R (g k) (rev (k - 1) b) ≡ power R (g (suc (k - 1 - l))) (rev (k - 1 - l) b)
+  turned_entry k l b f h p =
+      let whole : suc (k - 1 - l) + l ≡ k = omega arith in
+      let less : (k - 1 - l) + l ≡ k - 1 = omega arith in
+      ap₂ (λ n u. power R (g n) (rev u b)) (sym whole) (sym less) ∙ sym (table_turned R G l (k - 1 - l) b (omega arith) p)
 
   -- the layer of the second half on the run of number q, of 2 ^ d blocks: blocks are counted over the whole matrix
   pub high_run_layer : (s : A) (l m d q : ℕ) (c : ℕ → A) (w : ℕ → A) (x y : ℕ → A)
