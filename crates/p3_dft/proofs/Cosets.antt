@@ -7,17 +7,17 @@ use Rattle.p3_field.proofs.Rings
 use Rattle.p3_field.proofs.Powers.{power-zero}
 use Rattle.p3_matrix.specs.Matrix.{Matrix, Same, column, list_of_rows}
 use Rattle.p3_matrix.proofs.Matrices.{same_sym, same_trans, list_of_rows_same, same_of_rows}
-use Rattle.p3_dft.specs.Polynomials.{value}
+use Rattle.p3_dft.specs.Polynomials.{value, poly}
 use Rattle.p3_dft.specs.Cosets.{point, IsValues, rows_of_values}
-use Rattle.p3_dft.proofs.Polynomials.{poly, poly_same, poly-scaled, poly_padded, value-index}
+use Rattle.p3_dft.proofs.Polynomials.{poly_same, poly-scaled, poly_padded, value-index}
 
 -- the value of a column, by index
 pub value-column : {A : Type 0} (R : Ring A) (c : Matrix A) (j : ℕ) (x : A) → value R (column c j) x ≡ poly R c.height (λ i. c.entry i j) x
 value-column R c j x = value-index R c.height (λ i. c.entry i j) x
 
--- `values_of c n s` is the one matrix that IsValues speaks of
-abbrev pub values_of : {A : Type 0} → Ring A → (ℕ → A) → Matrix A → ℕ → A → Matrix A
-values_of R g c n s = record { height = 2 ^ n; width = c.width; entry = λ i j. value R (column c j) (point R g n s i) }
+-- `values_on_coset c n s` is the one matrix that IsValues speaks of
+abbrev pub values_on_coset : {A : Type 0} → Ring A → (ℕ → A) → Matrix A → ℕ → A → Matrix A
+values_on_coset R g c n s = record { height = 2 ^ n; width = c.width; entry = λ i j. value R (column c j) (point R g n s i) }
 
 -- row j of c times the j-th power of s
 abbrev pub shifted : {A : Type 0} → Ring A → A → Matrix A → Matrix A
@@ -28,7 +28,6 @@ module _ {A : Type 0} (R : Ring A) (g : ℕ → A) where
 
   infixl 60 ◌⊕◌
   infixl 70 ◌⊗◌
-
   -- ---- points
   pub point-mul : (n : ℕ) (s : A) (i : ℕ) → point R g n s i ≡ s ⊗ power R (g n) i
   unfolding point
@@ -63,14 +62,14 @@ module _ {A : Type 0} (R : Ring A) (g : ℕ → A) where
       is_values c n 𝟙 out h w (λ i j p q. e i j p q ∙ ap (poly R c.height (λ u. c.entry u j)) (sym (point_of_one n i)))
 
   -- ---- values as a matrix, and as a list of rows
-  pub same_of_values : (c : Matrix A) (n : ℕ) (s : A) (out : Matrix A) → IsValues R g c n s out → Same out (values_of R g c n s)
+  pub same_of_values : (c : Matrix A) (n : ℕ) (s : A) (out : Matrix A) → IsValues R g c n s out → Same out (values_on_coset R g c n s)
   same_of_values c n s out v = record {
     high = v.high;
     wide = v.wide;
     alike = λ i j p q. v.values i j (omega (arith, v.high)) (omega (arith, v.wide));
   }
 
-  pub values_of_same : (c : Matrix A) (n : ℕ) (s : A) (out : Matrix A) → Same out (values_of R g c n s) → IsValues R g c n s out
+  pub values_of_same : (c : Matrix A) (n : ℕ) (s : A) (out : Matrix A) → Same out (values_on_coset R g c n s) → IsValues R g c n s out
   values_of_same c n s out e = record {
     high = e.high;
     wide = e.wide;
@@ -79,20 +78,20 @@ module _ {A : Type 0} (R : Ring A) (g : ℕ → A) where
 
   -- the relation and the list of rows say the same
   pub rows_of_is_values : (c : Matrix A) (n : ℕ) (s : A) (out : Matrix A) → IsValues R g c n s out → list_of_rows out ≡ rows_of_values R g c n s
-  rows_of_is_values c n s out v = list_of_rows_same out (values_of R g c n s) (same_of_values c n s out v)
+  rows_of_is_values c n s out v = list_of_rows_same out (values_on_coset R g c n s) (same_of_values c n s out v)
 
   pub is_values_of_rows : (c : Matrix A) (n : ℕ) (s : A) (out : Matrix A) → list_of_rows out ≡ rows_of_values R g c n s → IsValues R g c n s out
   is_values_of_rows c n s out e =
-      values_of_same c n s out (same_sym (values_of R g c n s) out (same_of_rows (values_of R g c n s) out (pow_pos n) (sym e)))
+      values_of_same c n s out (same_sym (values_on_coset R g c n s) out (same_of_rows (values_on_coset R g c n s) out (pow_pos n) (sym e)))
 
   -- ---- one matrix of coefficients has one matrix of values
   pub values_same : (c : Matrix A) (n : ℕ) (s : A) (out other : Matrix A) → IsValues R g c n s out → Same out other → IsValues R g c n s other
   values_same c n s out other v e =
-      values_of_same c n s other (same_trans other out (values_of R g c n s) (same_sym out other e) (same_of_values c n s out v))
+      values_of_same c n s other (same_trans other out (values_on_coset R g c n s) (same_sym out other e) (same_of_values c n s out v))
 
   pub values_unique : (c : Matrix A) (n : ℕ) (s : A) (out other : Matrix A) → IsValues R g c n s out → IsValues R g c n s other → Same out other
   values_unique c n s out other v w =
-      same_trans out (values_of R g c n s) other (same_of_values c n s out v) (same_sym other (values_of R g c n s) (same_of_values c n s other w))
+      same_trans out (values_on_coset R g c n s) other (same_of_values c n s out v) (same_sym other (values_on_coset R g c n s) (same_of_values c n s other w))
 
   -- ---- other coefficients
   -- coefficients d that are in each column a polynomial with the values of c's at the points

@@ -1,5 +1,12 @@
+pub mod Blocks
 pub mod Cosets
+pub mod Distance
+pub mod Extensions
+pub mod Interpolation
+pub mod Layers
 pub mod Logarithms
+pub mod Networks
+pub mod Pairs
 pub mod Polynomials
 pub mod Sums
 pub mod Transforms

@@ -1,20 +1,19 @@
--- Polynomials by index: `poly n f x` is the value at x of the polynomial with the n coefficients f 0, f 1, .., by Horner's
--- rule. Proofs use this form, since an index can be shifted, doubled or reversed under a λ.
+-- Polynomials by index, which proofs use since an index can be shifted, doubled or reversed under a λ: that they are those by
+-- list, and what becomes of a value when the coefficients are cut, added, scaled or padded.
 use Rattle.std.proofs.Common.{◌≡◌, ℕ, zero, suc, ◌+◌, ◌*◌, ◌<◌, ◌≤◌, refl, sym, ap, ap₂, ◌∙◌, List, [], ◌∷◌, ◌++◌, length, get_or, map, arith, suc-add, zero-add}
 use Rattle.std.specs.List.{range_with_len}
 use Rattle.std.proofs.lemmas.List.FromFn.{length-map-range_with_len, get_or-map-range_with_len}
 use Rattle.p3_field.specs.Ring.{Ring, power}
 use Rattle.p3_field.proofs.Rings
 use Rattle.p3_field.proofs.RingSolver.{solve, va, vb, vc, vd, ve, zeroₑ, ◌⊞◌, ◌⊠◌, ⊝}
-pub use Rattle.p3_dft.specs.Polynomials.{value, poly}
+use Rattle.p3_dft.specs.Polynomials.{value, poly}
 
 module _ {A : Type 0} (R : Ring A) where
   open R use {add as ◌⊕◌, mul as ◌⊗◌, neg, zero as 𝟘, one as 𝟙}
 
   infixl 60 ◌⊕◌
   infixl 70 ◌⊗◌
-
-  -- ---- sums and Horner
+  -- the sum of f 0, .., f (n - 1)
   unfoldable pub sum_of : ℕ → (ℕ → A) → A
   sum_of zero f = 𝟘
   sum_of (suc n) f = f 0 ⊕ sum_of n (λ j. f (suc j))

@@ -2,3 +2,4 @@ pub mod Parity
 pub mod Powers
 pub mod RingSolver
 pub mod Rings
+pub mod Roots
