@@ -7,7 +7,6 @@ module _ {A : Type 0} (R : Ring A) where
 
   infixl 60 ◌⊕◌
   infixl 70 ◌⊗◌
-
   pub add_left_comm : (a b c : A) → a ⊕ (b ⊕ c) ≡ b ⊕ (a ⊕ c)
   add_left_comm a b c = sym (R.add_assoc a b c) ∙ ap (λ x. x ⊕ c) (R.add_comm a b) ∙ R.add_assoc b a c
 
