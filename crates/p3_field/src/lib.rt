@@ -13,3 +13,6 @@ pub use fields::Field;
 pub use goldilocks::Goldilocks;
 pub use packed::{Packable, Packed, PackedField, Products, scaled};
 pub use two_adic::{CanonicalField, TwoAdicField};
+
+#[cfg(test)]
+mod tests;
