@@ -1,5 +1,8 @@
+pub mod Bezout
+pub mod Lists
 pub mod Parity
 pub mod Powers
+pub mod Residues
 pub mod RingSolver
 pub mod Rings
 pub mod Roots

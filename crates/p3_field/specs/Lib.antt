@@ -1,2 +1,7 @@
+pub mod Fields
 pub mod Lanes
+pub mod Modular
+pub mod ResidueLaws
+pub mod Residues
 pub mod Ring
+pub mod Squarings

@@ -1,0 +1,34 @@
+-- Residues modulo an odd number: sums of ones, halves, and powers by squarings.
+use Rattle.std.proofs.Common.{◌≡◌, ℕ, zero, suc, ◌+◌, ◌-◌, ◌*◌, ◌/◌, ◌%◌, ◌^◌, ◌<◌, refl, sym, ap, ◌∙◌, arith, one-add}
+use Rattle.std.proofs.Math.Nat.{add-mod-mod, add-mod_right, mod-eq_of_lt, two-pow-succ}
+use Rattle.p3_field.specs.Ring.{Ring, count, power}
+use Rattle.p3_field.specs.Residues.{Residue, residues, residue-eq}
+use Rattle.p3_field.specs.Squarings.{squared}
+use Rattle.p3_field.proofs.Powers.{count-zero, count-suc, power-zero, power-suc, power-add, power-square}
+
+module _ (m : ℕ) (above : 1 < m) (odd : m % 2 ≡ 1) where
+  -- n ones add up to the remainder of n
+  count-number : (n : ℕ) → (count (residues m above odd) n).number ≡ n % m
+  count-number zero = ap (λ (x : Residue m). x.number) (count-zero (residues m above odd)) ∙ sym (mod-eq_of_lt (omega arith))
+  count-number (suc n) =
+      ap (λ (x : Residue m). x.number) (count-suc (residues m above odd) n) ∙ ap (λ k. (1 + k) % m) (count-number n) ∙ add-mod-mod 1 n m
+      ∙ ap (λ k. k % m) (one-add n)
+
+  pub count-residue : (n : ℕ) (x : Residue m) → x.number ≡ n % m → x ≡ count (residues m above odd) n
+  count-residue n x is = residue-eq _ _ (is ∙ sym (count-number n))
+
+-- the half of an even number is its half, that of an odd one half of its sum with the modulus
+pub even_half : (m n r : ℕ) → n < m → n % 2 ≡ 0 → r ≡ n / 2 → (r + r) % m ≡ n
+even_half m n r below even is =
+    let double : r + r ≡ n = omega (arith, is, even) in
+    ap (λ k. k % m) double ∙ mod-eq_of_lt below
+
+pub odd_half : (m n r : ℕ) → m % 2 ≡ 1 → n < m → ¬ (n % 2 ≡ 0) → r ≡ n / 2 + (m / 2 + 1) → (r + r) % m ≡ n
+odd_half m n r modulus below odd is =
+    let double : r + r ≡ n + m = omega (arith, is, odd, modulus) in
+    ap (λ k. k % m) double ∙ add-mod_right n m ∙ mod-eq_of_lt below
+
+pub power-squared : {A : Type 0} (r : Ring A) (x : A) (n : ℕ) → power r x (2 ^ n) ≡ squared r x n
+power-squared r x zero = power-suc r x 0 ∙ ap (r.mul x) (power-zero r x) ∙ r.mul_one x
+power-squared r x (suc n) =
+    ap (power r x) (two-pow-succ n) ∙ power-add r x (2 ^ n) (2 ^ n) ∙ sym (power-square r x (2 ^ n)) ∙ power-squared r (r.mul x x) n

@@ -1,0 +1,364 @@
+//! The field of the numbers below `2^64 - 2^32 + 1`.
+
+ghost use Rattle.std.specs.Prelude.{◌≡◌, ◌<◌, ◌≤◌, ◌+◌, ◌%◌, ℕ};
+ghost use Rattle.p3_field.specs.Fields.{goldilocks_modulus};
+
+use crate::euclid::inverse_modulo;
+use crate::fields::Field;
+use crate::packed::{Packable, Packed, PackedField, Products};
+use crate::two_adic::{CanonicalField, TwoAdicField};
+use std::ops::{Add, Mul, Neg, Sub};
+
+const MODULUS: u64 = 18446744069414584321;
+
+// One half, `(MODULUS + 1) / 2`.
+const HALF: u64 = 9223372034707292161;
+
+// `2^64` modulo the modulus, `2^32 - 1`.
+const EPSILON: u64 = 4294967295;
+
+/// An integer modulo `2^64 - 2^32 + 1`, by its number below the modulus.
+#[derive(Clone, Copy, Debug, PartialEq, Eq, PartialOrd, Ord)]
+pub struct Goldilocks {
+    number: u64,
+    ghost below: { number < goldilocks_modulus },
+}
+
+impl Goldilocks {
+    /// Zero.
+    pub const ZERO: Goldilocks = Goldilocks { number: 0 };
+
+    /// One.
+    pub const ONE: Goldilocks = Goldilocks { number: 1 };
+
+    /// One plus one.
+    pub const TWO: Goldilocks = Goldilocks { number: 2 };
+
+    /// Minus one.
+    pub const NEG_ONE: Goldilocks = Goldilocks {
+        number: 18446744069414584320,
+    };
+
+    /// 7, which has an inverse.
+    pub const GENERATOR: Goldilocks = Goldilocks { number: 7 };
+
+    // The generator of the subgroup of order 2^32.
+    const TOP_ROOT: Goldilocks = Goldilocks {
+        number: 1753635133440165772,
+    };
+}
+
+impl Add for Goldilocks {
+    ghost use Rattle.p3_field.specs.Residues.{IsSum};
+
+    type Output = Goldilocks;
+
+    ghost add_gives = { λ a b r. IsSum goldilocks_modulus a.number b.number r.number };
+
+    fn add(self, other: Goldilocks) -> Goldilocks {
+        // What is left up to the modulus, as the sum itself may not fit.
+        let left = MODULUS - other.number;
+        Goldilocks {
+            number: if self.number < left {
+                self.number + other.number
+            } else {
+                self.number - left
+            },
+        }
+    }
+}
+
+impl Sub for Goldilocks {
+    ghost use Rattle.p3_field.specs.Residues.{IsDifference};
+
+    type Output = Goldilocks;
+
+    ghost sub_gives = { λ a b r. IsDifference goldilocks_modulus a.number b.number r.number };
+
+    fn sub(self, other: Goldilocks) -> Goldilocks {
+        Goldilocks {
+            number: if self.number >= other.number {
+                self.number - other.number
+            } else {
+                self.number + (MODULUS - other.number)
+            },
+        }
+    }
+}
+
+impl Mul for Goldilocks {
+    ghost use Rattle.p3_field.specs.Residues.{IsProduct};
+
+    type Output = Goldilocks;
+
+    ghost mul_gives = { λ a b r. IsProduct goldilocks_modulus a.number b.number r.number };
+
+    fn mul(self, other: Goldilocks) -> Goldilocks {
+        Goldilocks {
+            number: reduce(self.number as u128 * other.number as u128),
+        }
+    }
+}
+
+impl Neg for Goldilocks {
+    ghost use Rattle.p3_field.specs.Residues.{IsNegative};
+
+    type Output = Goldilocks;
+
+    ghost neg_gives = { λ a r. IsNegative goldilocks_modulus a.number r.number };
+
+    fn neg(self) -> Goldilocks {
+        Goldilocks {
+            number: if self.number == 0 {
+                0
+            } else {
+                MODULUS - self.number
+            },
+        }
+    }
+}
+
+// The remainder by the modulus, to which `2^64` is `2^32 - 1` and `2^96` is minus one.
+fn reduce(x: u128) -> u64
+    ensures { result ≡ x % goldilocks_modulus }
+{
+    let low = (x % (1 << 64)) as u64;
+    let high = (x >> 64) as u64;
+    let middle = high % (1 << 32);
+    let top = high >> 32;
+    add_and_reduce(subtract(low, top), middle * EPSILON)
+}
+
+// The difference, up to the modulus. It is below zero for one product in 2^32.
+#[inline(always)]
+fn subtract(low: u64, top: u64) -> u64
+    requires { top < 4294967296 }
+    ensures { (result + top) % goldilocks_modulus ≡ low % goldilocks_modulus }
+{
+    if low >= top {
+        low - top
+    } else {
+        subtract_below_zero(low, top)
+    }
+}
+
+#[cold]
+#[inline(never)]
+fn subtract_below_zero(low: u64, top: u64) -> u64
+    requires below { low < top }
+    requires small { top < 4294967296 }
+    ensures { result + top ≡ low + goldilocks_modulus }
+{
+    MODULUS - (top - low)
+}
+
+// The sum below the modulus. Past the carry it stands between the modulus and 2^64 for few products.
+#[inline(always)]
+fn add_and_reduce(x: u64, y: u64) -> u64
+    requires { y ≤ 18446744065119617025 }
+    ensures { result ≡ (x + y) % goldilocks_modulus }
+{
+    let (sum, carry) = x.overflowing_add(y);
+    if carry {
+        sum + EPSILON
+    } else if sum < MODULUS {
+        sum
+    } else {
+        subtract_modulus(sum)
+    }
+}
+
+#[cold]
+#[inline(never)]
+fn subtract_modulus(x: u64) -> u64
+    requires { goldilocks_modulus ≤ x }
+    ensures { result + goldilocks_modulus ≡ x }
+{
+    x - MODULUS
+}
+
+impl Field for Goldilocks {
+    ghost use Rattle.std.proofs.Common.{lit<, refl};
+    ghost use Rattle.p3_field.specs.Residues.{Residue, residue-eq};
+    ghost use Rattle.p3_field.specs.ResidueLaws.{difference_law, eq_law, order_law};
+    ghost use Rattle.p3_field.specs.Fields.{goldilocks_ring};
+
+    ghost Element = { Residue goldilocks_modulus };
+
+    ghost ring = { goldilocks_ring };
+
+    ghost number = { λ x. x.number };
+
+    ghost value = { λ x. record { number = x.number; below = x.below } };
+
+    const ZERO: Goldilocks = Goldilocks::ZERO;
+
+    ghost ZERO = { record { number = 0; below = lit< tt } };
+
+    const ONE: Goldilocks = Goldilocks::ONE;
+
+    ghost ONE = { record { number = 1; below = lit< tt } };
+
+    const TWO: Goldilocks = Goldilocks::TWO;
+
+    ghost TWO = { record { number = 2; below = lit< tt } };
+
+    const NEG_ONE: Goldilocks = Goldilocks::NEG_ONE;
+
+    ghost NEG_ONE = { record { number = 18446744069414584320; below = lit< tt } };
+
+    const GENERATOR: Goldilocks = Goldilocks::GENERATOR;
+
+    ghost GENERATOR = { record { number = 7; below = lit< tt } };
+
+    fn halve(self) -> Goldilocks {
+        let shifted = self.number / 2;
+        let number = if self.number % 2 == 0 {
+            shifted
+        } else {
+            shifted + HALF
+        };
+        Goldilocks { number }
+    }
+
+    fn from_usize(n: usize) -> Goldilocks {
+        Goldilocks {
+            number: n as u64 % MODULUS,
+        }
+    }
+
+    fn try_inverse(&self) -> Option<Goldilocks> {
+        let inverse = inverse_modulo(MODULUS, self.number)?;
+        Some(Goldilocks { number: inverse })
+    }
+
+    ghost number_law = { residue-eq };
+
+    ghost zero_law = { residue-eq _ _ refl };
+
+    ghost one_law = { residue-eq _ _ refl };
+
+    ghost two_law = { residue-eq _ _ refl };
+
+    ghost neg_one_law = { residue-eq _ _ refl };
+
+    ghost generator_law = { (record { number = 2635249152773512046; below = lit< tt }, residue-eq _ _ refl) };
+
+    ghost can_add_law = { λ _ _. tt };
+
+    ghost add_law = { λ a b r h. residue-eq _ _ h };
+
+    ghost can_sub_law = { λ _ _. tt };
+
+    ghost sub_law = { λ a b r h. residue-eq _ _ (difference_law _ _ _ _ h) };
+
+    ghost can_mul_law = { λ _ _. tt };
+
+    ghost mul_law = { λ a b r h. residue-eq _ _ h };
+
+    ghost can_neg_law = { λ _. tt };
+
+    ghost neg_law = { λ a r h. residue-eq _ _ h };
+
+    ghost eq_law = { λ a b. eq_law _ _ };
+
+    ghost order_law = { λ a b c d e f. order_law _ _ _ _ e f };
+}
+
+impl Packed for Goldilocks {
+    type Scalar = Goldilocks;
+}
+
+impl PackedField for Goldilocks {
+    ghost use Rattle.std.specs.Prelude.{[], ◌∷◌};
+    ghost use Rattle.std.proofs.Common.{refl};
+
+    const WIDTH: usize = 1;
+
+    ghost WIDTH = { 1 };
+
+    ghost lanes = { λ x. x ∷ [] };
+
+    fn load(from: &[Goldilocks]) -> Goldilocks {
+        from[0]
+    }
+
+    fn store(self, to: &mut [Goldilocks]) {
+        to[0] = self;
+    }
+
+    fn broadcast(scalar: Goldilocks) -> Goldilocks {
+        scalar
+    }
+
+    fn add(self, other: Goldilocks) -> Goldilocks {
+        self + other
+    }
+
+    fn sub(self, other: Goldilocks) -> Goldilocks {
+        self - other
+    }
+
+    fn scaled(self, t: Goldilocks, products: &mut Products) -> Goldilocks {
+        products.rise(1);
+        self * t
+    }
+
+    ghost width_law = { λ _. refl };
+}
+
+impl Packable for Goldilocks {
+    ghost use Rattle.std.proofs.Common.{refl, lit≤};
+
+    type Packing = Goldilocks;
+
+    ghost lane_law = { λ _. refl };
+
+    ghost one_lane_law = { refl };
+
+    ghost packing_law = { lit≤ tt };
+}
+
+impl TwoAdicField for Goldilocks {
+    ghost use Rattle.std.specs.Prelude.{◌-◌};
+    ghost use Rattle.std.proofs.Common.{lit≤, refl};
+    ghost use Rattle.p3_field.specs.Residues.{residue-eq};
+    ghost use Rattle.p3_field.specs.Fields.{goldilocks_ring, goldilocks_root};
+    ghost use Rattle.p3_field.specs.Squarings.{squared, are_roots};
+
+    const TWO_ADICITY: usize = 32;
+
+    ghost TWO_ADICITY = { 32 };
+
+    ghost generator = { λ bits.
+        let root = squared goldilocks_ring goldilocks_root (32 - bits) in
+        record { number = root.number; below = root.below } };
+
+    fn two_adic_generator(bits: usize) -> Goldilocks {
+        Goldilocks::TOP_ROOT.exp_power_of_2(32 - bits)
+    }
+
+    ghost two_adicity_law = { lit≤ tt };
+
+    ghost roots_law = { are_roots goldilocks_ring goldilocks_root 32 (residue-eq _ _ refl) (residue-eq _ _ refl) };
+}
+
+impl CanonicalField for Goldilocks {
+    const ORDER_U64: u64 = 18446744069414584321;
+
+    ghost ORDER_U64 = { goldilocks_modulus };
+
+    fn new(number: u64) -> Option<Goldilocks> {
+        if number < MODULUS {
+            Some(Goldilocks { number })
+        } else {
+            None
+        }
+    }
+
+    fn as_canonical_u64(&self) -> u64 {
+        self.number
+    }
+
+    ghost number_below_law = { λ x. x.below };
+}

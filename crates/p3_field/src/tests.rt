@@ -1,0 +1,170 @@
+// Numbers that were computed elsewhere, and each public function once, generic ones at both fields through their bounds.
+
+ghost use Rattle.std.specs.Prelude.{◌≡◌, length};
+
+mod vectors;
+
+use crate::baby_bear::BabyBear;
+use crate::fields::Field;
+use crate::goldilocks::Goldilocks;
+use crate::packed::{Packable, Packed, PackedField, Products, scaled};
+use crate::two_adic::{CanonicalField, TwoAdicField};
+use std::mem::size_of;
+use std::process::Abort;
+use std::test::Fail;
+
+fn sum_agrees<F: CanonicalField>(rt: &impl Abort, x: F, y: F, sum: u64) {
+    assert_eq!(rt; (x + y).as_canonical_u64(), sum);
+}
+
+fn difference_agrees<F: CanonicalField>(rt: &impl Abort, x: F, y: F, difference: u64) {
+    assert_eq!(rt; (x - y).as_canonical_u64(), difference);
+    assert_eq!(rt; (-y + x).as_canonical_u64(), difference);
+}
+
+fn product_agrees<F: CanonicalField>(rt: &impl Abort, x: F, y: F, product: u64) {
+    assert_eq!(rt; (x * y).as_canonical_u64(), product);
+}
+
+fn operations_agree<F: CanonicalField>(rt: &impl Abort, table: &[(usize, usize, u64, u64, u64)]) {
+    for (a, b, sum, difference, product) in table {
+        let x = F::from_usize(*a);
+        let y = F::from_usize(*b);
+        sum_agrees(rt, x, y, *sum);
+        difference_agrees(rt, x, y, *difference);
+        product_agrees(rt, x, y, *product);
+    }
+}
+
+fn inverses_agree<F: CanonicalField>(rt: &impl Abort, table: &[(usize, u64)]) {
+    assert!(rt; F::ZERO.try_inverse().is_none());
+    for (a, inverse) in table {
+        let found = F::from_usize(*a).try_inverse();
+        assert_eq!(rt;
+            found.map(|x| x.as_canonical_u64()),
+            Some(*inverse),
+            "the inverse of {a}"
+        );
+    }
+}
+
+#[test]
+fn operations(rt: HostRuntime) {
+    operations_agree::<BabyBear>(&rt, &vectors::BABY_BEAR);
+    operations_agree::<Goldilocks>(&rt, &vectors::GOLDILOCKS);
+    inverses_agree::<BabyBear>(&rt, &vectors::BABY_BEAR_INVERSES);
+    inverses_agree::<Goldilocks>(&rt, &vectors::GOLDILOCKS_INVERSES);
+}
+
+#[test]
+fn numbers(rt: HostRuntime) {
+    assert_eq!(rt; BabyBear::new(2013265921), None);
+    assert_eq!(rt; BabyBear::new(2013265920), Some(BabyBear::NEG_ONE));
+    assert_eq!(rt; Goldilocks::new(18446744069414584321), None);
+    assert_eq!(rt;
+        Goldilocks::new(18446744069414584320),
+        Some(Goldilocks::NEG_ONE)
+    );
+}
+
+fn constants_agree<F: CanonicalField>(rt: &impl Abort, modulus: u64, generator: u8, root: u64) {
+    assert_eq!(rt; F::ORDER_U64, modulus);
+    assert!(rt; F::GENERATOR == F::from_u8(generator));
+    assert!(rt; F::GENERATOR * F::GENERATOR.inverse() == F::ONE);
+    assert!(rt; F::TWO == F::from_u8(2));
+    assert!(rt; F::two_adic_generator(0) == F::ONE);
+    assert!(rt; F::two_adic_generator(1) == F::NEG_ONE);
+    assert_eq!(rt;
+        F::two_adic_generator(F::TWO_ADICITY).as_canonical_u64(),
+        root
+    );
+}
+
+#[test]
+fn roots(rt: HostRuntime) {
+    constants_agree::<BabyBear>(&rt, 2013265921, 31, 440564289);
+    constants_agree::<Goldilocks>(&rt, 18446744069414584321, 7, 1753635133440165772);
+    assert_eq!(rt; BabyBear::TWO_ADICITY, 27);
+    assert_eq!(rt;
+        BabyBear::two_adic_generator(2),
+        BabyBear::from_usize(1728404513)
+    );
+    assert_eq!(rt; Goldilocks::TWO_ADICITY, 32);
+    assert_eq!(rt;
+        Goldilocks::two_adic_generator(2),
+        Goldilocks::from_usize(281474976710656)
+    );
+}
+
+fn powers_agree<F: CanonicalField>(rt: &impl Abort, hundredth: u64, squared: u64, halved: u64) {
+    assert_eq!(rt; F::GENERATOR.exp_u64(100).as_canonical_u64(), hundredth);
+    assert_eq!(rt; F::GENERATOR.exp_power_of_2(10).as_canonical_u64(), squared);
+    assert_eq!(rt; F::ONE.div_2exp_u64(70).as_canonical_u64(), halved);
+}
+
+fn halves_agree<F: CanonicalField>(rt: &impl Abort, number: u8, half: u64) {
+    let x = F::from_u8(number);
+    assert_eq!(rt; x.halve().as_canonical_u64(), half);
+    assert!(rt; x.halve().double() == x);
+    assert!(rt; F::ZERO.is_zero());
+    assert!(rt; !x.is_zero());
+}
+
+#[test]
+fn powers(rt: HostRuntime) {
+    powers_agree::<BabyBear>(&rt, 394111911, 877050386, 2006353921);
+    powers_agree::<Goldilocks>(
+        &rt,
+        2335214203647002900,
+        2431605942540367610,
+        18446744069347475457,
+    );
+    halves_agree::<BabyBear>(&rt, 5, 1006632963);
+    halves_agree::<Goldilocks>(&rt, 7, 9223372034707292164);
+}
+
+// Twice the sum and once the difference of a lane and two.
+fn by_lanes<F: Packable>(lane: &[F], sum: &mut [F], difference: &mut [F], products: &mut Products)
+    requires lane { length lane.now ≡ 1 }
+    requires sum { length sum.old ≡ 1 }
+    requires difference { length difference.old ≡ 1 }
+    ensures sum { length sum.new ≡ 1 }
+    ensures difference { length difference.new ≡ 1 }
+{
+    let x = F::load(lane);
+    let two = F::broadcast(F::TWO);
+    PackedField::scaled(PackedField::add(x, two), F::TWO, products).store(sum);
+    PackedField::sub(x, two).store(difference);
+}
+
+#[test]
+fn lanes(rt: HostRuntime) {
+    let mut products = Products::new();
+    let mut more = Products::new();
+    let mut sum = [BabyBear::ZERO];
+    let mut difference = [BabyBear::ZERO];
+    by_lanes(
+        &[BabyBear::from_u8(5)],
+        &mut sum,
+        &mut difference,
+        &mut products,
+    );
+    assert_eq!(rt; sum[0], BabyBear::from_u8(14));
+    assert_eq!(rt; difference[0], BabyBear::from_u8(3));
+    let mut sum = [Goldilocks::ZERO];
+    let mut difference = [Goldilocks::ZERO];
+    by_lanes(
+        &[Goldilocks::from_u8(5)],
+        &mut sum,
+        &mut difference,
+        &mut more,
+    );
+    assert_eq!(rt; sum[0], Goldilocks::from_u8(14));
+    assert_eq!(rt; difference[0], Goldilocks::from_u8(3));
+    assert_eq!(rt;
+        scaled(BabyBear::TWO, BabyBear::TWO, &mut more),
+        BabyBear::from_u8(4)
+    );
+    products.add(more);
+    assert_eq!(rt; size_of::<Products>(), 0);
+}
