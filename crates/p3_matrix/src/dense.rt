@@ -40,7 +40,7 @@ impl<T: PartialEq> PartialEq for RowMajorMatrix<T> {
     ghost laws = { and_per (on_per (λ m. m.width) (Prim.search (comparing, rules))) (on_per (λ m. m.values) (lists_per T.laws)) };
 
     fn eq(&self, other: &Self) -> bool {
-        self.width == other.width && self.values == other.values
+        other.width == self.width && self.values == other.values
     }
 }
 

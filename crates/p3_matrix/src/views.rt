@@ -4,6 +4,9 @@ ghost use Rattle.std.specs.Prelude.{◌≡◌, ◌*◌, ◌/◌, ◌<◌, ◌≤
 ghost use Rattle.std.specs.Borrow.{sem, Array, Lends, LendsBoth};
 ghost use Rattle.p3_matrix.specs.RowMajor.{RowMajor, IsRowMajor, height, row};
 
+#[cfg(test)]
+mod tests;
+
 use crate::dense::RowMajorMatrix;
 use std::marker::Model;
 
