@@ -1,2 +1,3 @@
 pub mod BitReversal
 pub mod Matrices
+pub mod RowMajor

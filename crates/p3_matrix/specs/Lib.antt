@@ -1,3 +1,5 @@
 pub mod BitOrder
 pub mod Matrix
 pub mod RowMajor
+pub mod Writes
+pub mod ViewWrites

@@ -1,9 +1,12 @@
 //! Matrices that own their entries, which lie row after row.
 
 ghost use Rattle.std.specs.Prelude.{◌≡◌, ◌+◌, ◌*◌, ◌/◌, ◌<◌, ◌≤◌, IfOk, length};
+ghost use Rattle.std.specs.Borrow.{sem, Array, Lends};
 ghost use Rattle.p3_matrix.specs.RowMajor.{RowMajor, IsRowMajor, height, row};
+ghost use Rattle.p3_matrix.specs.Writes.{with_values, with_row};
 
 use crate::error::DftError;
+use crate::views::{RowMajorMatrixView, RowMajorMatrixViewMut};
 use std::marker::Model;
 
 /// A matrix of `height` rows of `width` entries, one row after the other. The width is at least
@@ -37,7 +40,7 @@ impl<T: PartialEq> PartialEq for RowMajorMatrix<T> {
     ghost laws = { and_per (on_per (λ m. m.width) (Prim.search (comparing, rules))) (on_per (λ m. m.values) (lists_per T.laws)) };
 
     fn eq(&self, other: &Self) -> bool {
-        self.width == other.width && self.values == other.values
+        other.width == self.width && self.values == other.values
     }
 }
 
@@ -51,6 +54,8 @@ impl<T: Eq> Eq for RowMajorMatrix<T> {
 }
 
 impl<T> RowMajorMatrix<T> {
+    ghost use Rattle.p3_matrix.specs.contracts.dense.RowMajorMatrix.{the_row};
+
     /// The matrix of these entries, `width` to a row. The entries fill whole rows; none at all make
     /// a matrix of no rows.
     pub fn new(values: Vec<T>, width: usize) -> Self
@@ -117,6 +122,39 @@ impl<T> RowMajorMatrix<T> {
     {
         let start = i * self.width;
         &self.values[start..start + self.width]
+    }
+
+    /// The entries, row after row, lent for writing.
+    pub fn values_mut(&mut self) -> &mut [T]
+        ensures* writes_back { sem 𝓛 (Lends (the_row T.row) (Array T.row 0) self.entry result (with_values self.old)) }
+        ensures values { result.now ≡ self.old.values }
+    {
+        self.values.as_mut_slice()
+    }
+
+    /// The entries of row i, lent for writing.
+    pub fn row_mut(&mut self, i: usize) -> &mut [T]
+        requires { i < height self.old }
+        ensures* writes_back { sem 𝓛 (Lends (the_row T.row) (Array T.row 0) self.entry result (with_row self.old i)) }
+        ensures row { result.now ≡ row self.old i }
+    {
+        let start = i * self.width;
+        self.values.slice_mut(start..start + self.width)
+    }
+
+    /// The matrix, lent for reading.
+    pub fn as_view(&self) -> RowMajorMatrixView<'_, T>
+        ensures { result ≡ self.now }
+    {
+        RowMajorMatrixView::new(self.values.as_slice(), self.width)
+    }
+
+    /// The matrix, lent for writing.
+    pub fn as_view_mut(&mut self) -> RowMajorMatrixViewMut<'_, T>
+        ensures same_reference { result.matrix.ghost_name ≡ self.entry.ghost_name }
+        ensures matrix { result.matrix.now ≡ self.old }
+    {
+        RowMajorMatrixViewMut::new(self)
     }
 
     /// A matrix with the same entries in memory of its own. Where memory is refused, there is

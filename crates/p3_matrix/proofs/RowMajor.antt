@@ -1,0 +1,31 @@
+-- Stored matrices: entries that fill whole rows, and that by index and as stored a matrix has the same rows.
+use Rattle.std.proofs.Common.{◌≡◌, ℕ, ◌+◌, ◌*◌, ◌/◌, ◌-◌, ◌<◌, ◌≤◌, List, length, get_or, map, take, drop, slice_range, sym, ap, ◌∙◌, arith, rules}
+use Rattle.std.specs.List.{range_with_len}
+use Rattle.std.proofs.lemmas.List.{places}
+use Rattle.std.proofs.lemmas.List.FromFn.{fill_by_all}
+use Rattle.std.proofs.Math.Nat.{add-mul, mul-le-mul_right, mul-div_cancel}
+use Rattle.p3_matrix.specs.RowMajor.{RowMajor, IsRowMajor, height, row, rows}
+use Rattle.p3_matrix.specs.Matrix.{Matrix, matrix, row_of, list_of_rows}
+use Rattle.p3_matrix.proofs.Matrices.{list_same}
+
+-- h rows of w entries are h whole rows
+pub whole_rows : (size h w : ℕ) → 1 ≤ w → size ≡ h * w → (size / w ≡ h) × ((size / w) * w ≡ size)
+whole_rows size h w wide e =
+    let is : size / w ≡ h = rw e (mul-div_cancel h wide) in
+    (is, ap (λ n. n * w) is ∙ sym e)
+
+-- row i of h lies within them
+pub row_within : (i h w size : ℕ) → i < h → h * w ≡ size → i * w + w ≤ size
+row_within i h w size l e = omega (arith, mul-le-mul_right w l, add-mul i 1 w)
+
+-- a part of a list, by index
+pub part_by_index : {T : Type 0} (xs : List T) (a n : ℕ) (d : T) → a + n ≤ length xs → slice_range xs a (a + n) ≡ map (λ j. get_or xs (a + j) d) (range_with_len 0 n)
+part_by_index xs a n d l =
+    let k : a + n - a ≡ n = omega arith in
+    rw k (fill_by_all (λ j. get_or xs (a + j) d) (take n (drop a xs)) n d (search (rules, places)) (λ j p. search (rules, places)))
+
+-- a matrix by index has the list of rows that it has as it is stored
+pub list_of_rows_stored : {T : Type 0} (d : T) (m : RowMajor T) → IsRowMajor m → list_of_rows (matrix d m) ≡ rows m
+list_of_rows_stored d m whole =
+    list_same (row_of (matrix d m)) (row m) (height m)
+    (λ i p. sym (part_by_index m.values (i * m.width) m.width d (row_within i (height m) m.width (length m.values) p whole.full)))

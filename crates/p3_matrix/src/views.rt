@@ -1,0 +1,167 @@
+//! Matrices that are lent, for reading and for writing.
+
+ghost use Rattle.std.specs.Prelude.{◌≡◌, ◌*◌, ◌/◌, ◌<◌, ◌≤◌, ◌++◌, length, take, drop};
+ghost use Rattle.std.specs.Borrow.{sem, Array, Lends, LendsBoth};
+ghost use Rattle.p3_matrix.specs.RowMajor.{RowMajor, IsRowMajor, height, row};
+
+#[cfg(test)]
+mod tests;
+
+use crate::dense::RowMajorMatrix;
+use std::marker::Model;
+
+/// Rows of a matrix that are lent for reading: `height` rows of `width` entries, one row after the
+/// other. The width is at least one; the height may be zero.
+#[derive(Debug, Drop)]
+pub struct RowMajorMatrixView<'a, T> {
+    values: &'a [T],
+    width: usize,
+}
+
+impl<'a, T> Model for RowMajorMatrixView<'a, T> {
+    ghost use Rattle.p3_matrix.specs.RowMajor.{RowMajor, IsRowMajor};
+
+    ghost Value = { RowMajor T };
+
+    ghost view = { λ m. record { width = m.width; values = m.values.now } };
+
+    ghost invariant = { λ m. IsRowMajor {T = T} (record { width = m.width; values = m.values.now }) };
+}
+
+impl<'a, T> RowMajorMatrixView<'a, T> {
+    /// The matrix of these entries, `width` to a row. The entries fill whole rows; none at all make
+    /// a matrix of no rows.
+    pub fn new(values: &'a [T], width: usize) -> Self
+        requires wide { 1 ≤ width }
+        requires full { (length values.now / width) * width ≡ length values.now }
+        ensures { result ≡ record { width = width; values = values.now } }
+    {
+        RowMajorMatrixView { values, width }
+    }
+
+    /// How many entries a row has: at least one.
+    pub fn width(&self) -> usize
+        ensures width { result ≡ self.now.width }
+        ensures whole { IsRowMajor self.now }
+    {
+        self.width
+    }
+
+    /// How many rows there are.
+    pub fn height(&self) -> usize
+        ensures height { result ≡ height self.now }
+        ensures whole { IsRowMajor self.now }
+    {
+        self.values.len() / self.width
+    }
+
+    /// The entries, row after row.
+    pub fn values(&self) -> &'a [T]
+        ensures values { result.now ≡ self.now.values }
+        ensures whole { IsRowMajor self.now }
+    {
+        self.values
+    }
+
+    /// The entries of row i.
+    pub fn row(&self, i: usize) -> &'a [T]
+        requires { i < height self.now }
+        ensures { result.now ≡ row self.now i }
+    {
+        let start = i * self.width;
+        &self.values[start..start + self.width]
+    }
+}
+
+/// A matrix that is lent for writing. When the loan ends, the matrix holds what was written.
+///
+/// Contracts name the matrix as `view.now.matrix.now`, and say of each call that writes that the
+/// view still lends the same matrix: so a caller knows all of the matrix afterwards.
+#[derive(Drop)]
+pub struct RowMajorMatrixViewMut<'a, T> {
+    /// The matrix that is lent.
+    pub matrix: &'a mut RowMajorMatrix<T>,
+}
+
+impl<'a, T> RowMajorMatrixViewMut<'a, T> {
+    ghost use Rattle.p3_matrix.specs.contracts.views.RowMajorMatrixViewMut.{the_row};
+    ghost use Rattle.p3_matrix.specs.ViewWrites.{view_with_values, view_with_row};
+    ghost use Rattle.std.specs.Prelude.{[]};
+    ghost use mir.Syntax.{named};
+
+    /// Lends the matrix.
+    pub fn new(matrix: &'a mut RowMajorMatrix<T>) -> Self
+        ensures same_reference { result.matrix.ghost_name ≡ matrix.entry.ghost_name }
+        ensures matrix { result.matrix.now ≡ matrix.old }
+    {
+        RowMajorMatrixViewMut { matrix }
+    }
+
+    /// How many entries a row has: at least one.
+    pub fn width(&self) -> usize
+        ensures width { result ≡ self.now.matrix.now.width }
+        ensures whole { IsRowMajor self.now.matrix.now }
+    {
+        self.matrix.width()
+    }
+
+    /// How many rows there are.
+    pub fn height(&self) -> usize
+        ensures height { result ≡ height self.now.matrix.now }
+        ensures whole { IsRowMajor self.now.matrix.now }
+    {
+        self.matrix.height()
+    }
+
+    /// The entries, row after row.
+    pub fn values(&self) -> &[T]
+        ensures values { result.now ≡ self.now.matrix.now.values }
+        ensures whole { IsRowMajor self.now.matrix.now }
+    {
+        self.matrix.values()
+    }
+
+    /// The entries of row i.
+    pub fn row(&self, i: usize) -> &[T]
+        requires { i < height self.now.matrix.now }
+        ensures { result.now ≡ row self.now.matrix.now i }
+    {
+        self.matrix.row(i)
+    }
+
+    /// The matrix, lent for reading.
+    pub fn as_view(&self) -> RowMajorMatrixView<'_, T>
+        ensures { result ≡ self.now.matrix.now }
+    {
+        self.matrix.as_view()
+    }
+
+    /// The entries, row after row, lent for writing.
+    pub fn values_mut(&mut self) -> &mut [T]
+        ensures* writes_back { sem 𝓛 (Lends (the_row (record { mir = named 1; lft = [] }) T.row) (Array T.row 0) self.entry result (view_with_values self.entry.now)) }
+        ensures values { result.now ≡ self.old.matrix.now.values }
+    {
+        self.matrix.values_mut()
+    }
+
+    /// The entries of row i, lent for writing.
+    pub fn row_mut(&mut self, i: usize) -> &mut [T]
+        requires { i < height self.old.matrix.now }
+        ensures* writes_back { sem 𝓛 (Lends (the_row (record { mir = named 1; lft = [] }) T.row) (Array T.row 0) self.entry result (view_with_row self.entry.now i)) }
+        ensures row { result.now ≡ row self.old.matrix.now i }
+    {
+        self.matrix.row_mut(i)
+    }
+}
+
+/// Of the entries of a matrix, `width` to a row, the first `rows` rows and the rest, both lent for
+/// writing: `split_rows_mut(matrix.values_mut(), width, rows)`. There are at least so many rows.
+pub fn split_rows_mut<T>(values: &mut [T], width: usize, rows: usize) -> (&mut [T], &mut [T])
+    requires { rows * width ≤ length values.old }
+    ensures* writes_back { sem 𝓛 (LendsBoth (Array T.row 0) (Array T.row 0) (Array T.row 0) values.entry result ◌++◌) }
+    ensures front { result.0.now ≡ take (rows * width) values.old }
+    ensures back { result.1.now ≡ drop (rows * width) values.old }
+{
+    let at = rows * width;
+    values.split_at_mut(at)
+}
