@@ -11,8 +11,8 @@ log-unique a b low high =
     ⊎_elim
     (λ less. let rise : 2 ^ suc a ≤ 2 ^ b = pow-le-pow_right {n = 2} (omega arith) less in absurd (omega (arith, rise, two-pow-succ a, high)))
     (λ more. ⊎_elim
-      (λ less. let fall : 2 ^ b < 2 ^ a = pow-lt less in absurd (omega arith))
-      (λ not_less. let same : a ≡ b = omega arith in same) (cases_lt b a))
+    (λ less. let fall : 2 ^ b < 2 ^ a = pow-lt less in absurd (omega arith))
+    (λ not_less. let same : a ≡ b = omega arith in same) (cases_lt b a))
     (cases_lt a b)
 
 -- a power of two has one exponent

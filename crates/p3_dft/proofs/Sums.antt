@@ -1,5 +1,5 @@
 -- The values of a matrix' columns at one point, as sums that are made term by term.
-use Rattle.std.proofs.Common.{◌≡◌, ℕ, ◌+◌, ◌*◌, ◌-◌, ◌<◌, ◌≤◌, List, length, get_or, take, drop, refl, sym, ap, ◌∙◌, arith, rules, subst, ⊎_elim}
+use Rattle.std.proofs.Common.{◌≡◌, ℕ, ◌+◌, ◌*◌, ◌<◌, ◌≤◌, List, length, get_or, take, drop, refl, sym, ap, ◌∙◌, arith, rules, subst, ⊎_elim}
 use Rattle.std.proofs.lemmas.Bool.{cases_lt}
 use Rattle.std.proofs.lemmas.List.{places}
 use Rattle.std.proofs.lemmas.Nat.{mul-add-lt}
@@ -39,12 +39,12 @@ module _ {T A : Type 0} (r : Ring A) (value : T → A) (d : T) where
       → AreSums cs w n x sums → AreSums cs w (n + 1) x sums'
   sums-more cs sums sums' w n m x p full is added before = record {
     each = λ k inside.
-      let f = λ (q : ℕ). value (get_or cs (q * w + k) d) in
-      let entry : value (get_or (take m (drop (n * w) cs)) k d) ≡ f n = ap value (part_at cs (n * w) m k d (omega arith)) in
-      let term : r.mul (value (get_or (take m (drop (n * w) cs)) k d)) p ≡ r.mul (power r x n) (f n) =
+        let f = λ (q : ℕ). value (get_or cs (q * w + k) d) in
+        let entry : value (get_or (take m (drop (n * w) cs)) k d) ≡ f n = ap value (part_at cs (n * w) m k d (omega arith)) in
+        let term : r.mul (value (get_or (take m (drop (n * w) cs)) k d)) p ≡ r.mul (power r x n) (f n) =
         ap (λ y. r.mul y p) entry ∙ r.mul_comm (f n) p ∙ ap (λ y. r.mul y (f n)) is in
-      added k inside ∙ ap (λ y. r.add y (r.mul (value (get_or (take m (drop (n * w) cs)) k d)) p)) (before.each k inside)
-      ∙ ap (r.add (poly r n f x)) term ∙ sym (poly-more r n f x);
+        added k inside ∙ ap (λ y. r.add y (r.mul (value (get_or (take m (drop (n * w) cs)) k d)) p)) (before.each k inside)
+        ∙ ap (r.add (poly r n f x)) term ∙ sym (poly-more r n f x);
   }
 
   -- the first i rows hold the values of the columns at the points x 0, x 1, .., and the rest stays
@@ -63,12 +63,12 @@ module _ {T A : Type 0} (r : Ring A) (value : T → A) (d : T) where
   values-more cs w h x before now row i m full fits len values so_far = record {
     size = put_length now row (i * w) m (omega arith) (omega arith) ∙ so_far.size;
     done = λ p k below inside.
-      ⊎_elim
+        ⊎_elim
         (λ less. let earlier : p * w + k < i * w = omega (arith, mul-add-lt p w k i less inside) in
-          ap value (put_before now row (i * w) m (p * w + k) d (omega arith) earlier) ∙ so_far.done p k less inside)
+        ap value (put_before now row (i * w) m (p * w + k) d (omega arith) earlier) ∙ so_far.done p k less inside)
         (λ not_less. let same : i ≡ p = omega arith in
-          subst (λ (n : ℕ). value (get_or (put_mid (i * w) m now row) (n * w + k) d) ≡ poly r h (λ q. value (get_or cs (q * w + k) d)) (x n)) same
-            (ap value (put_in now row (i * w) m k d (omega arith) (omega arith)) ∙ values k inside))
+        subst (λ (n : ℕ). value (get_or (put_mid (i * w) m now row) (n * w + k) d) ≡ poly r h (λ q. value (get_or cs (q * w + k) d)) (x n)) same
+        (ap value (put_in now row (i * w) m k d (omega arith) (omega arith)) ∙ values k inside))
         (cases_lt p i);
     rest = λ n after. put_after now row (i * w) m n d (omega arith) (omega arith) (omega arith) ∙ so_far.rest n (omega arith);
   }

@@ -3,7 +3,7 @@
 use Rattle.std.specs.Prelude.{◌≡◌, ℕ, ◌^◌, ◌<◌, List, map}
 use Rattle.std.specs.List.{range_with_len}
 use Rattle.p3_field.specs.Ring.{Ring, power}
-use Rattle.p3_matrix.specs.Matrix.{Matrix, Same, column}
+use Rattle.p3_matrix.specs.Matrix.{Matrix, column}
 use Rattle.p3_dft.specs.Polynomials.{value}
 
 -- point i of the coset of s

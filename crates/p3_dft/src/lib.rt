@@ -10,7 +10,13 @@ pub mod traits;
 pub mod util;
 
 pub use naive::NaiveDft;
-pub use p3_field::{CanonicalField, Field, Packable, Packed, PackedField, Products, TwoAdicField};
-pub use p3_matrix::{DftError, Evaluations, IntoRowMajorMatrix, RowMajorMatrix};
+pub use p3_field::{
+    BabyBear, CanonicalField, Field, Goldilocks, Packable, Packed, PackedField, Products,
+    TwoAdicField,
+};
+pub use p3_matrix::{
+    DftError, Evaluations, IntoRowMajorMatrix, RowMajorMatrix, RowMajorMatrixView,
+    RowMajorMatrixViewMut,
+};
 pub use traits::{Layout, TwoAdicSubgroupDft};
 pub use util::fits_dft;

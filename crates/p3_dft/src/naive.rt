@@ -10,19 +10,26 @@ use crate::util::extend_by_zeros;
 use p3_field::{Products, TwoAdicField, scaled};
 use p3_matrix::{DftError, IntoRowMajorMatrix, RowMajorMatrix};
 use std::alloc::AllocError;
+use std::marker::Model;
 
 /// Evaluates each polynomial at each point by the sum of its terms, with `height * height * width`
-/// products. It keeps nothing between calls but its counter, and is what the fast engines are
-/// compared with.
+/// products. It keeps nothing between calls but its counter, which is what contracts see of it, and
+/// is what the fast engines are compared with.
 #[derive(Drop)]
 pub struct NaiveDft {
     products: Products,
 }
 
+impl Model for NaiveDft {
+    ghost Value = { ℕ };
+
+    ghost view = { λ e. e.products };
+}
+
 impl Default for NaiveDft {
     ghost use Rattle.std.specs.Prelude.{◌≡◌};
 
-    ghost is_default = { λ e. e.products ≡ 0 };
+    ghost is_default = { λ e. e ≡ 0 };
 
     fn default() -> Self {
         NaiveDft {
@@ -34,7 +41,7 @@ impl Default for NaiveDft {
 impl Clone for NaiveDft {
     ghost use Rattle.std.specs.Prelude.{◌≡◌, ⊤};
 
-    ghost is_clone = { λ _ e. e.products ≡ 0 };
+    ghost is_clone = { λ _ e. e ≡ 0 };
 
     ghost is_infallible = { λ _. ⊤ };
 
@@ -44,7 +51,10 @@ impl Clone for NaiveDft {
 }
 
 impl<F: TwoAdicField> TwoAdicSubgroupDft<F> for NaiveDft {
-    ghost use Rattle.std.specs.Prelude.{ℕ, ◌*◌, ◌^◌};
+    ghost use Rattle.std.specs.Prelude.{◌≡◌, ℕ, ◌+◌, ◌*◌, ◌^◌, ◌≤◌, IfOk, OnOk};
+    ghost use Rattle.p3_matrix.specs.RowMajor.{height};
+    ghost use Rattle.p3_dft.specs.Shapes.{FitsDft};
+    ghost use Rattle.p3_dft.specs.Transforms.{IsTransform};
     ghost use Rattle.p3_dft.specs.declared.traits.Layout.TheVariants.{Natural};
 
     type Evaluations = RowMajorMatrix<F>;
@@ -57,12 +67,16 @@ impl<F: TwoAdicField> TwoAdicSubgroupDft<F> for NaiveDft {
 
     ghost bound = { λ k w. 2 ^ k * 2 ^ k * w };
 
-    ghost made = { λ e. e.products };
+    ghost made = { λ e. e };
 
-    fn dft_batch<N: IntoRowMajorMatrix<F>>(
-        &mut self,
-        mat: N,
-    ) -> Result<RowMajorMatrix<F>, DftError> {
+    /// As the trait says, and each pair of rows costs one product a column, also where the factor
+    /// is one.
+    fn dft_batch<N: IntoRowMajorMatrix<F>>(&mut self, mat: N) -> Result<RowMajorMatrix<F>, DftError>
+        requires { FitsDft F.TWO_ADICITY (height (N.stored mat)) (N.stored mat).width }
+        ensures values { IfOk result (λ out. IsTransform F.Field.own F.generator (N.stored mat) F.ring.one out) }
+        ensures grows { self.old ≤ self.new }
+        ensures exact { OnOk result (self.new ≡ self.old + height (N.stored mat) * height (N.stored mat) * (N.stored mat).width) }
+    {
         let mat = mat.into_row_major_matrix();
         let width = mat.width();
         let height = mat.height();

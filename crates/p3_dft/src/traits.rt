@@ -48,10 +48,7 @@ pub trait TwoAdicSubgroupDft<F: TwoAdicField>: Clone + Default {
     ghost made: { Self → ℕ };
 
     /// The values on H of the polynomials whose coefficients are the columns.
-    fn dft_batch<N: IntoRowMajorMatrix<F>>(
-        &mut self,
-        mat: N,
-    ) -> Result<Self::Evaluations, DftError>
+    fn dft_batch<N: IntoRowMajorMatrix<F>>(&mut self, mat: N) -> Result<Self::Evaluations, DftError>
         requires { FitsDft F.TWO_ADICITY (height (N.stored mat)) (N.stored mat).width }
         ensures values { IfOk result (λ out. IsTransform F.Field.own F.generator (N.stored mat) F.ring.one (Self.Evaluations.natural out)) }
         ensures succeeds { (k : ℕ) → height (N.stored mat) ≡ 2 ^ k → promised self.old k → IsOk result }

@@ -1,4 +1,4 @@
-use Rattle.std.proofs.Common.{Option, Some, None, IsTrue, refl, ◌≡◌, ℕ, ◌*◌, ◌^◌, ◌%◌, ◌<◌, ◌≤◌, sym, ◌∙◌, ap, arith, rules}
+use Rattle.std.proofs.Common.{Option, Some, None, IsTrue, refl, ◌≡◌, ℕ, ◌*◌, ◌^◌, ◌<◌, ◌≤◌, sym, ◌∙◌, ap, arith, rules}
 use Rattle.std.proofs.lemmas.Nat.{one_shl}
 use Rattle.std.specs.Option.{SomeIff, is_some}
 use Rattle.p3_dft.specs.Shapes.{FitsDft}
@@ -11,17 +11,21 @@ log_is most height width log low high fit = log-unique log fit.log (omega (arith
 
 pub returns-then-height-log : goal.returns-then-height-log
 returns-then-height-log g c =
-    let log = c.ilog2-log.result in
-    (λ no. absurd (search rules), λ fit.
-    let same = log_is _ _ _ log c.ilog2-log.ensures.power_le c.ilog2-log.ensures.next_power_gt fit in
-    absurd (c.if-height-log.true (fit.high ∙ ap (λ n. 2 ^ n) (sym same) ∙ sym (one_shl log 64 c.ilog2-log.ensures.bound))))
+    let log = c.ilog2-log.result in (
+      λ no. absurd (search rules),
+      λ fit.
+          let same = log_is _ _ _ log c.ilog2-log.ensures.power_le c.ilog2-log.ensures.next_power_gt fit in
+          absurd (c.if-height-log.true (fit.high ∙ ap (λ n. 2 ^ n) (sym same) ∙ sym (one_shl log 64 c.ilog2-log.ensures.bound))),
+    )
 
 pub returns-then-log-TWO_ADICITY : goal.returns-then-log-TWO_ADICITY
 returns-then-log-TWO_ADICITY g c =
-    let log = c.ilog2-log.result in
-    (λ no. absurd (search rules), λ fit.
-    let same : log ≡ fit.log = log_is _ _ _ log c.ilog2-log.ensures.power_le c.ilog2-log.ensures.next_power_gt fit in
-    absurd (omega (arith, fit.within, c.TWO_ADICITY.ensures)))
+    let log = c.ilog2-log.result in (
+      λ no. absurd (search rules),
+      λ fit.
+          let same : log ≡ fit.log = log_is _ _ _ log c.ilog2-log.ensures.power_le c.ilog2-log.ensures.next_power_gt fit in
+          absurd (omega (arith, fit.within, c.TWO_ADICITY.ensures)),
+    )
 
 -- a product is told exactly where it fits
 told : (o : Option ℕ) (P : Type 0) (n : ℕ) → SomeIff o P n → (IsTrue (is_some o) → P) × (P → IsTrue (is_some o))
@@ -32,11 +36,13 @@ pub returns : goal.returns
 returns g c =
     let log = c.ilog2-log.result in
     let fits = told c.checked_mul.result _ _ c.checked_mul.ensures in
-    let high : c.args.height ≡ 2 ^ log = c.if-height-log.false ∙ one_shl log 64 c.ilog2-log.ensures.bound in
-    (λ h. record {
-      log = log;
-      within = omega (arith, c.TWO_ADICITY.ensures);
-      high = high;
-      wide = omega arith;
-      size = fits.0 (rw (← c.is_some.ensures) h);
-    }, λ fit. rw c.is_some.ensures (fits.1 fit.size))
+    let high : c.args.height ≡ 2 ^ log = c.if-height-log.false ∙ one_shl log 64 c.ilog2-log.ensures.bound in (
+      λ h. record {
+        log = log;
+        within = omega (arith, c.TWO_ADICITY.ensures);
+        high = high;
+        wide = omega arith;
+        size = fits.0 (rw (← c.is_some.ensures) h);
+      },
+      λ fit. rw c.is_some.ensures (fits.1 fit.size),
+    )
