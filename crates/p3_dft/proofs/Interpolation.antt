@@ -1,8 +1,7 @@
 -- Interpolation: N values on a coset of order N, of an invertible shift, are those of exactly one list of N coefficients.
 -- Transforming with the roots g and then with their inverses h gives each coefficient, doubled n times: by halves, on the even
 -- and the odd places. Halving is exact in the ring, so this gives uniqueness, and with g and h swapped existence.
-use Rattle.std.proofs.Common.{◌≡◌, ℕ, zero, suc, ◌+◌, ◌*◌, ◌-◌, ◌%◌, ◌<◌, ◌≤◌, ◌^◌, refl, sym, ap, ap₂, ◌∙◌, [], ◌∷◌, arith, ◌⊎◌, inl, inr, mod-lt, mod-eq_of_lt}
-use native.Mathlib.Nat.{mod_self}
+use Rattle.std.proofs.Common.{◌≡◌, ℕ, zero, suc, ◌+◌, ◌*◌, ◌-◌, ◌<◌, ◌≤◌, ◌^◌, refl, sym, ap, ap₂, ◌∙◌, [], ◌∷◌, arith, ◌⊎◌, inl, inr}
 use Rattle.std.proofs.lemmas.Nat.{pow_pos}
 use Rattle.p3_field.specs.Ring.{Ring, power, count, two, AreRoots, IsInverse, IsInvertible}
 use Rattle.p3_field.proofs.Rings
@@ -14,6 +13,7 @@ use Rattle.p3_matrix.specs.Matrix.{Matrix, Same}
 use Rattle.p3_dft.specs.Polynomials.{poly}
 use Rattle.p3_dft.specs.Cosets.{point, IsValues, AreCoefficients}
 use Rattle.p3_dft.proofs.Polynomials.{poly_same, poly-one, poly-append, poly-split, poly-add, poly-neg, poly-times, poly-scaled}
+use Rattle.p3_dft.proofs.Opposite.{opposite, opposite-zero, opposite_above_zero, opposite-lt}
 use Rattle.p3_dft.proofs.Cosets.{point-mul, point_of_one, entry-poly, is_values, values_same, coefficients_same, coset_values, shifted}
 
 -- the values of c at the powers of the n-th root
@@ -43,19 +43,6 @@ coefficients R h n t y j = R.mul (halved R n (transform R h n y j)) (power R t j
 pub coefficients_are : {A : Type 0} (R : Ring A) (h : ℕ → A) (n : ℕ) (t : A) (y : ℕ → A) (j : ℕ) → coefficients R h n t y j ≡ R.mul (halved R n (transform R h n y j)) (power R t j)
 unfolding coefficients
 coefficients_are R h n t y j = refl
-
--- the row from which an inverse by a forward transform takes row j, of n: 0, n - 1, .., 1
-abbrev pub opposite : ℕ → ℕ → ℕ
-opposite n j = (n - j) % n
-
-pub opposite-zero : (n : ℕ) → opposite n 0 ≡ 0
-opposite-zero n = let e : n - 0 ≡ n = omega arith in ap (λ k. k % n) e ∙ mod_self n
-
-pub opposite_above_zero : (n j : ℕ) → 0 < j → j < n → opposite n j ≡ n - j
-opposite_above_zero n j p q = mod-eq_of_lt (omega arith)
-
-pub opposite-lt : (n j : ℕ) → 0 < n → opposite n j < n
-opposite-lt n j p = mod-lt (n - j) p
 
 module _ {A : Type 0} (R : Ring A) where
   open R use {add as ◌⊕◌, mul as ◌⊗◌, neg, zero as 𝟘, one as 𝟙}
