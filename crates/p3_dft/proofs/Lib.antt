@@ -9,5 +9,6 @@ pub mod Networks
 pub mod Opposite
 pub mod Pairs
 pub mod Polynomials
+pub mod Rows
 pub mod Sums
 pub mod Transforms

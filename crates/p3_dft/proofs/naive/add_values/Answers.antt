@@ -3,7 +3,7 @@ use Rattle.std.proofs.Common.{rules, get_or, ◌≡◌, ◌+◌, ◌*◌, ◌-�
 use Rattle.std.proofs.Math.Nat.{suc-mul, mul-le-mul_right, mul_assoc}
 use Rattle.p3_field.proofs.Powers.{power-zero, power-more}
 use Rattle.p3_dft.specs.Polynomials.{poly}
-use Rattle.p3_dft.proofs.Sums.{values-none, values-more}
+use Rattle.p3_dft.proofs.Rows.{rows-none, rows-more}
 use Rattle.p3_dft.proofs.naive.add_values.Goals as goal
 
 pub loop-i-init : goal.loop-i-init
@@ -11,7 +11,7 @@ loop-i-init g c =
     let field = g.F.Field in
     record {
       point = ap field.value c.ONE-point.ensures ∙ g.met.F.Field.one_law ∙ sym (power-zero field.ring (field.value c.args.generator));
-      values = values-none field.ring field.value field.ZERO _ _ _ _ _;
+      values = rows-none field.ZERO _ _ _;
       count = omega arith;
     }
 
@@ -29,7 +29,7 @@ loop-i-preserved g c =
     record {
       point = g.met.F.Field.mul_law _ _ _ c.mul-point.ensures ∙ ap (λ x. field.ring.mul x (field.value c.args.generator)) c.loop-i.invariant.point
           ∙ sym (power-more field.ring (field.value c.args.generator) i);
-      values = values-more field.ring field.value field.ZERO _ w h _ _ c.loop-i.sums c.add_value.new.sums i _ m room len
+      values = rows-more field.ZERO w _ _ c.loop-i.sums c.add_value.new.sums i _ m room len
           (λ k inside. c.add_value.ensures.values k inside ∙ ap (poly field.ring h (λ q. field.value (get_or c.args.coefficients.now (q * w + k) field.ZERO))) c.loop-i.invariant.point)
           c.loop-i.invariant.values;
       count = omega (arith, rise, c.add_value.ensures.count, c.loop-i.invariant.count);

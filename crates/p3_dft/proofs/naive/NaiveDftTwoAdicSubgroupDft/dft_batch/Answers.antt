@@ -1,18 +1,14 @@
 use Rattle.std.proofs.Common.{zero, suc, refl, ◌≡◌, ℕ, ◌++◌, ◌*◌, ◌^◌, ◌<◌, ◌≤◌, List, length, get_or, take, replicate, sym, ap, ◌∙◌, arith}
 use Rattle.std.proofs.lemmas.Grind.{common_steps}
-use Rattle.std.proofs.Math.Seq.{take-append_seam}
 use Rattle.p3_matrix.specs.RowMajor.{RowMajor, height}
 use Rattle.p3_dft.proofs.Logarithms.{log-unique}
+use Rattle.p3_dft.proofs.Rows.{written}
 use Rattle.p3_dft.proofs.Transforms.{transform_of_parts}
 use Rattle.p3_dft.proofs.naive.NaiveDftTwoAdicSubgroupDft.dft_batch.Goals as goal
 
 -- the logarithm that was computed is the height's
 log_is : (h computed log : ℕ) → h ≡ 2 ^ log → 2 ^ computed ≤ h → h < 2 * 2 ^ computed → computed ≡ log
 log_is h computed log high low next = log-unique computed log (omega (arith, high)) (omega (arith, high))
-
--- a slice that was written over its whole length
-written : {X : Type 0} (n : ℕ) (ys rest : List X) → length ys ≡ n → take n (ys ++ rest) ≡ ys
-written n ys rest size = ap (λ k. take k (ys ++ rest)) (sym size) ∙ take-append_seam ys rest
 
 -- past its end a list of copies is read as one more
 zero_at : {X : Type 0} (k n : ℕ) (z : X) → get_or (replicate k z) n z ≡ z
