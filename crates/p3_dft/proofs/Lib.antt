@@ -2,6 +2,7 @@ pub mod Blocks
 pub mod Cosets
 pub mod Distance
 pub mod Extensions
+pub mod Halves
 pub mod Interpolation
 pub mod Layers
 pub mod Logarithms

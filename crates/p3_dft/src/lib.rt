@@ -5,6 +5,7 @@
 //! `p3_matrix` again, so that a user names one crate.
 #![tactic(auto)]
 
+mod butterfly_layers;
 pub mod naive;
 pub mod traits;
 pub mod util;
