@@ -1,4 +1,5 @@
 pub mod Blocks
+pub mod CellLayers
 pub mod Cosets
 pub mod Distance
 pub mod Extensions

@@ -7,6 +7,7 @@
 
 mod butterfly_layers;
 pub mod naive;
+pub mod radix_2_dit;
 pub mod traits;
 pub mod util;
 
