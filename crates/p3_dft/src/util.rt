@@ -1,10 +1,15 @@
 //! Tests of shapes, and small steps that engines share.
 
-ghost use Rattle.std.specs.Prelude.{◌≡◌, ◌↔◌, ◌+◌, ◌++◌, ◌<◌, ◌^◌, IsTrue, OnOk, OnErr, replicate, vec_len, vec_capacity};
+ghost use Rattle.std.specs.Prelude.{◌≡◌, ◌↔◌, ℕ, ◌+◌, ◌*◌, ◌++◌, ◌<◌, ◌≤◌, ◌^◌, IsTrue, OnOk, OnErr, get_or, length, replicate, vec_len, vec_capacity};
+ghost use Rattle.p3_field.specs.Ring.{power};
+ghost use Rattle.p3_matrix.specs.RowMajor.{height};
+ghost use Rattle.p3_matrix.specs.Matrix.{Same};
+ghost use Rattle.p3_dft.specs.Cosets.{shifted};
 ghost use Rattle.p3_dft.specs.Shapes.{FitsDft};
+ghost use Rattle.p3_dft.specs.Transforms.{values_of};
 
-use p3_field::{Field, TwoAdicField};
-use p3_matrix::DftError;
+use p3_field::{Field, Products, TwoAdicField, scale_slice};
+use p3_matrix::{DftError, RowMajorMatrix};
 
 /// Whether a matrix of this shape can be transformed: the height is a power of two of at most
 /// `2^TWO_ADICITY`, the width is at least one, and a `usize` counts the entries.
@@ -35,4 +40,46 @@ pub(crate) fn extend_by_zeros<F: Field>(values: &mut Vec<F>, n: usize) -> Result
     values.reserve_exact(n)?;
     values.resize_with(len + n, || F::ZERO)?;
     Ok(())
+}
+
+// Multiplies row i by the i-th power of `shift`, with one product an entry, or none where the shift
+// is one.
+pub(crate) fn shift_rows<F: TwoAdicField>(
+    mat: RowMajorMatrix<F>,
+    shift: F,
+    products: &mut Products,
+) -> RowMajorMatrix<F>
+    ensures shifted { Same (values_of F.Field.own result) (shifted F.ring (F.value shift) (values_of F.Field.own mat)) }
+    ensures grows { products.old ≤ products.new }
+    ensures cost { products.new ≤ products.old + height mat * mat.width }
+{
+    if shift == F::ONE {
+        return mat;
+    }
+    let width = mat.width();
+    let height = mat.height();
+    let mut values = mat.into_values();
+    shift_values(values.as_mut_slice(), width, height, shift, products);
+    RowMajorMatrix::new(values, width)
+}
+
+// The same of the entries, row after row.
+fn shift_values<F: TwoAdicField>(
+    values: &mut [F],
+    width: usize,
+    height: usize,
+    shift: F,
+    products: &mut Products,
+)
+    requires { length values.old ≡ height * width }
+    ensures values { (i j : ℕ) → i < height → j < width → F.value (get_or values.new (i * width + j) F.ZERO)
+        ≡ F.ring.mul (F.value (get_or values.old (i * width + j) F.ZERO)) (power F.ring (F.value shift) i) }
+    ensures count { products.new ≡ products.old + height * width }
+{
+    let mut power = F::ONE;
+    for i in 0..height {
+        let start = i * width;
+        scale_slice(&mut values[start..start + width], power, products);
+        power = power * shift;
+    }
 }
