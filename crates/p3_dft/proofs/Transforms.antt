@@ -1,10 +1,12 @@
 -- Transforms of stored matrices from what an engine's loops give for each entry.
 use Rattle.std.proofs.Common.{◌≡◌, ℕ, ◌+◌, ◌*◌, ◌/◌, ◌^◌, ◌<◌, ◌≤◌, List, length, get_or, ap, ap₂, sym, ◌∙◌, arith}
 use Rattle.std.proofs.Math.Nat.{mul-div_cancel}
-use Rattle.p3_field.specs.Ring.{power}
+use Rattle.p3_field.specs.Ring.{Ring, count, power}
+use Rattle.p3_field.proofs.Rings
 use Rattle.p3_field.specs.declared.fields.Field.{Ghosts as FieldMembers}
 use Rattle.p3_matrix.specs.RowMajor.{RowMajor, height}
-use Rattle.p3_matrix.specs.Matrix.{Same}
+use Rattle.p3_matrix.specs.Matrix.{Matrix, Same}
+use Rattle.p3_dft.specs.Cosets.{IsQuotient}
 use Rattle.p3_dft.specs.Polynomials.{poly}
 use Rattle.p3_dft.specs.Transforms.{values_of, IsTransform}
 use Rattle.p3_dft.proofs.Cosets.{is_subgroup_values}
@@ -62,3 +64,15 @@ module _ {F : Type 0} (f : FieldMembers F) where
           ∙ entries i j (omega (arith, tall)) (omega (arith, out_width))
           ∙ ap₂ (λ (xs : List F) (v : ℕ). changed i j (f.value (get_or xs (i * v + j) f.ZERO))) before_is w_is;
       }
+
+-- entries times the inverse of n are divided by n
+pub quotient_of_products : {A : Type 0} (r : Ring A) (n : ℕ) (inverse : A) (m out : Matrix A) → r.mul (count r n) inverse ≡ r.one
+    → Same out (record { height = m.height; width = m.width; entry = λ i j. r.mul (m.entry i j) inverse }) → IsQuotient r n m out
+quotient_of_products r n inverse m out undone same = record {
+  high = same.high;
+  wide = same.wide;
+  entries = λ i j below inside.
+    let x = m.entry i j in
+    ap (r.mul (count r n)) (same.alike i j (omega (arith, same.high)) (omega (arith, same.wide))) ∙ Rings.mul_left_comm r (count r n) x inverse
+    ∙ ap (r.mul x) undone ∙ r.mul_one x;
+}
