@@ -8,7 +8,7 @@ use Rattle.p3_field.proofs.Powers.{power-zero}
 use Rattle.p3_matrix.specs.Matrix.{Matrix, Same, column, list_of_rows}
 use Rattle.p3_matrix.proofs.Matrices.{same_sym, same_trans, list_of_rows_same, same_of_rows}
 use Rattle.p3_dft.specs.Polynomials.{value, poly}
-use Rattle.p3_dft.specs.Cosets.{point, IsValues, rows_of_values}
+use Rattle.p3_dft.specs.Cosets.{point, IsValues, rows_of_values, shifted}
 use Rattle.p3_dft.proofs.Polynomials.{poly_same, poly-scaled, poly_padded, value-index}
 
 -- the value of a column, by index
@@ -18,10 +18,6 @@ value-column R c j x = value-index R c.height (λ i. c.entry i j) x
 -- `values_on_coset c n s` is the one matrix that IsValues speaks of
 abbrev pub values_on_coset : {A : Type 0} → Ring A → (ℕ → A) → Matrix A → ℕ → A → Matrix A
 values_on_coset R g c n s = record { height = 2 ^ n; width = c.width; entry = λ i j. value R (column c j) (point R g n s i) }
-
--- row j of c times the j-th power of s
-abbrev pub shifted : {A : Type 0} → Ring A → A → Matrix A → Matrix A
-shifted R s c = record { height = c.height; width = c.width; entry = λ i j. R.mul (c.entry i j) (power R s i) }
 
 module _ {A : Type 0} (R : Ring A) (g : ℕ → A) where
   open R use {add as ◌⊕◌, mul as ◌⊗◌, neg, zero as 𝟘, one as 𝟙}

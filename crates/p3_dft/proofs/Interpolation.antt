@@ -11,10 +11,10 @@ use Rattle.p3_field.proofs.Parity.{even_or_odd}
 use Rattle.p3_field.proofs.Roots.{AreInverseRoots, inverse_roots_sym, inverse_root, inverse_roots, inverse_undoes, inverse_power, root_twice, root_across, root_round, root_squared, root_all, doubled, doubled_add, doubled-power, halved, halved-power, halved-doubled}
 use Rattle.p3_matrix.specs.Matrix.{Matrix, Same}
 use Rattle.p3_dft.specs.Polynomials.{poly}
-use Rattle.p3_dft.specs.Cosets.{point, IsValues, AreCoefficients}
+use Rattle.p3_dft.specs.Cosets.{point, IsValues, AreCoefficients, shifted}
 use Rattle.p3_dft.proofs.Polynomials.{poly_same, poly-one, poly-append, poly-split, poly-add, poly-neg, poly-times, poly-scaled}
 use Rattle.p3_dft.proofs.Opposite.{opposite, opposite-zero, opposite_above_zero, opposite-lt}
-use Rattle.p3_dft.proofs.Cosets.{point-mul, point_of_one, entry-poly, is_values, values_same, coefficients_same, coset_values, shifted}
+use Rattle.p3_dft.proofs.Cosets.{point-mul, point_of_one, entry-poly, is_values, values_same, coefficients_same, coset_values}
 
 -- the values of c at the powers of the n-th root
 unfoldable pub transform : {A : Type 0} → Ring A → (ℕ → A) → ℕ → (ℕ → A) → ℕ → A

@@ -8,6 +8,7 @@ pub mod Interpolation
 pub mod Layers
 pub mod Logarithms
 pub mod Networks
+pub mod OpposedRows
 pub mod Opposite
 pub mod Pairs
 pub mod Polynomials

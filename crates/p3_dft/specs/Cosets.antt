@@ -1,8 +1,8 @@
 -- The points of a coset of a subgroup of two-power order, the values of polynomials on it, and their coefficients.
 -- g n is the generator of the subgroup of order 2 ^ n, and a matrix has a polynomial in each column.
-use Rattle.std.specs.Prelude.{◌≡◌, ℕ, ◌^◌, ◌<◌, List, map}
+use Rattle.std.specs.Prelude.{◌≡◌, ℕ, ◌-◌, ◌%◌, ◌^◌, ◌<◌, List, map}
 use Rattle.std.specs.List.{range_with_len}
-use Rattle.p3_field.specs.Ring.{Ring, power}
+use Rattle.p3_field.specs.Ring.{Ring, count, power}
 use Rattle.p3_matrix.specs.Matrix.{Matrix, column}
 use Rattle.p3_dft.specs.Polynomials.{value}
 
@@ -25,3 +25,17 @@ pub record AreCoefficients {A : Type 0} (r : Ring A) (g : ℕ → A) (m : Matrix
   pub high : c.height ≡ m.height
   pub wide : c.width ≡ m.width
   pub values : IsValues r g c k s m
+
+-- row i of c times the i-th power of s
+abbrev pub shifted : {A : Type 0} → Ring A → A → Matrix A → Matrix A
+shifted r s c = record { height = c.height; width = c.width; entry = λ i j. r.mul (c.entry i j) (power r s i) }
+
+-- row 0 stays, and row i of the others changes places with row height - i
+abbrev pub opposed : {A : Type 0} → Matrix A → Matrix A
+opposed m = record { height = m.height; width = m.width; entry = λ i j. m.entry ((m.height - i) % m.height) j }
+
+-- each entry of out is the y with n * y = x, where x is the entry of m in its place
+pub record IsQuotient {A : Type 0} (r : Ring A) (n : ℕ) (m out : Matrix A) : Type 0 where
+  pub high : out.height ≡ m.height
+  pub wide : out.width ≡ m.width
+  pub entries : (i j : ℕ) → i < m.height → j < m.width → r.mul (count r n) (out.entry i j) ≡ m.entry i j

@@ -2,8 +2,8 @@
 use Rattle.std.specs.Prelude.{◌≡◌, ℕ, ◌^◌}
 use Rattle.p3_field.specs.declared.fields.Field.{Ghosts as FieldMembers}
 use Rattle.p3_matrix.specs.RowMajor.{RowMajor, height}
-use Rattle.p3_matrix.specs.Matrix.{Matrix, matrix, mapped}
-use Rattle.p3_dft.specs.Cosets.{IsValues}
+use Rattle.p3_matrix.specs.Matrix.{Matrix, Same, matrix, mapped}
+use Rattle.p3_dft.specs.Cosets.{IsValues, AreCoefficients}
 
 module _ {F : Type 0} (f : FieldMembers F) where
   -- the values of the elements of a stored matrix
@@ -13,3 +13,9 @@ module _ {F : Type 0} (f : FieldMembers F) where
   -- row i of out has the values, at point i of the coset of s, of the polynomials whose coefficients are the columns of m
   abbrev pub IsTransform : (ℕ → F) → RowMajor F → f.Element → RowMajor F → Type 0
   IsTransform generator m s out = (k : ℕ) → height m ≡ 2 ^ k → IsValues f.ring (λ n. f.value (generator n)) (values_of m) k s (values_of out)
+
+  -- the columns of c are the coefficients whose values on the coset of s are the columns of m, and no other matrix has them
+  pub record IsInterpolation (generator : ℕ → F) (m : RowMajor F) (s : f.Element) (c : RowMajor F) : Type 0 where
+    pub holds : (k : ℕ) → height m ≡ 2 ^ k → AreCoefficients f.ring (λ n. f.value (generator n)) (values_of m) k s (values_of c)
+    pub only : (k : ℕ) → height m ≡ 2 ^ k → (d : Matrix f.Element)
+        → AreCoefficients f.ring (λ n. f.value (generator n)) (values_of m) k s d → Same d (values_of c)

@@ -3,9 +3,11 @@
 ghost use Rattle.std.specs.Prelude.{◌≡◌, ◌↔◌, ℕ, ◌+◌, ◌*◌, ◌^◌, ◌≤◌, IfOk, OnOk, IsOk, vec_len};
 ghost use Rattle.p3_matrix.specs.RowMajor.{RowMajor, height};
 ghost use Rattle.p3_dft.specs.Shapes.{FitsDft};
-ghost use Rattle.p3_dft.specs.Transforms.{IsTransform};
+ghost use Rattle.p3_field.specs.Ring.{IsInvertible};
+ghost use Rattle.p3_dft.specs.Transforms.{IsInterpolation, IsTransform};
 
-use p3_field::{Products, TwoAdicField};
+use crate::util::{coefficients_from_values, shift_rows};
+use p3_field::{Field, Products, TwoAdicField};
 use p3_matrix::{DftError, Evaluations, IntoRowMajorMatrix, RowMajorMatrix};
 
 /// In which order the rows of a matrix of `2^k` coefficients lie.
@@ -62,6 +64,71 @@ pub trait TwoAdicSubgroupDft<F: TwoAdicField>: Clone + Default {
         ensures made { made self.new ≡ made self.old + products }
         ensures keeps { (k : ℕ) → promised self.old k ↔ promised self.new k };
 
+    /// The values on `shift * H` of the polynomials whose coefficients are the columns. The shift may
+    /// be zero.
+    fn coset_dft_batch<N: IntoRowMajorMatrix<F>>(
+        &mut self,
+        mat: N,
+        shift: F,
+    ) -> Result<Self::Evaluations, DftError>
+        requires { FitsDft F.TWO_ADICITY (height (N.stored mat)) (N.stored mat).width }
+        ensures values { IfOk result (λ out. IsTransform F.Field.own F.generator (N.stored mat) (F.value shift) (Self.Evaluations.natural out)) }
+        ensures succeeds { (k : ℕ) → height (N.stored mat) ≡ 2 ^ k → promised self.old k → IsOk result }
+        ensures keeps { (k : ℕ) → promised self.old k → promised self.new k }
+        ensures grows { made self.old ≤ made self.new }
+        ensures cost { (k : ℕ) → height (N.stored mat) ≡ 2 ^ k
+            → OnOk result (made self.new ≤ made self.old + bound k (N.stored mat).width + 2 ^ k * (N.stored mat).width) }
+    {
+        let mut products = Products::new();
+        let mat = shift_rows(mat.into_row_major_matrix(), shift, &mut products);
+        self.add_products(products);
+        self.dft_batch(mat)
+    }
+
+    /// The coefficients of the polynomials whose values on H are the columns. No other matrix of
+    /// coefficients has these values.
+    fn idft_batch<N: IntoRowMajorMatrix<F>>(
+        &mut self,
+        mat: N,
+    ) -> Result<RowMajorMatrix<F>, DftError>
+        requires { FitsDft F.TWO_ADICITY (height (N.stored mat)) (N.stored mat).width }
+        ensures coefficients { IfOk result (λ out. IsInterpolation F.Field.own F.generator (N.stored mat) F.ring.one out) }
+        ensures succeeds { (k : ℕ) → height (N.stored mat) ≡ 2 ^ k → promised self.old k → IsOk result }
+        ensures keeps { (k : ℕ) → promised self.old k → promised self.new k }
+        ensures grows { made self.old ≤ made self.new }
+        ensures cost { (k : ℕ) → height (N.stored mat) ≡ 2 ^ k
+            → OnOk result (made self.new ≤ made self.old + bound k (N.stored mat).width + 2 ^ k * (N.stored mat).width) }
+    {
+        let values = self.dft_batch(mat)?.to_row_major_matrix();
+        let mut products = Products::new();
+        let coefficients = coefficients_from_values(values, &mut products);
+        self.add_products(products);
+        Ok(coefficients)
+    }
+
+    /// The coefficients of the polynomials whose values on `shift * H` are the columns. No other
+    /// matrix of coefficients has these values. The shift has an inverse (`try_inverse` tells).
+    fn coset_idft_batch<N: IntoRowMajorMatrix<F>>(
+        &mut self,
+        mat: N,
+        shift: F,
+    ) -> Result<RowMajorMatrix<F>, DftError>
+        requires fits { FitsDft F.TWO_ADICITY (height (N.stored mat)) (N.stored mat).width }
+        requires invertible { IsInvertible F.ring (F.value shift) }
+        ensures coefficients { IfOk result (λ out. IsInterpolation F.Field.own F.generator (N.stored mat) (F.value shift) out) }
+        ensures succeeds { (k : ℕ) → height (N.stored mat) ≡ 2 ^ k → promised self.old k → IsOk result }
+        ensures keeps { (k : ℕ) → promised self.old k → promised self.new k }
+        ensures grows { made self.old ≤ made self.new }
+        ensures cost { (k : ℕ) → height (N.stored mat) ≡ 2 ^ k
+            → OnOk result (made self.new ≤ made self.old + bound k (N.stored mat).width + 2 * (2 ^ k * (N.stored mat).width)) }
+    {
+        let coefficients = self.idft_batch(mat)?;
+        let mut products = Products::new();
+        let coefficients = shift_rows(coefficients, shift.inverse(), &mut products);
+        self.add_products(products);
+        Ok(coefficients)
+    }
+
     /// The values on H of the polynomial with these coefficients.
     final fn dft(&mut self, vec: Vec<F>) -> Result<Vec<F>, DftError>
         requires { FitsDft F.TWO_ADICITY (vec_len vec) 1 }
@@ -73,5 +140,46 @@ pub trait TwoAdicSubgroupDft<F: TwoAdicField>: Clone + Default {
     {
         let values = self.dft_batch(RowMajorMatrix::new_col(vec))?;
         Ok(values.to_row_major_matrix().into_values())
+    }
+
+    /// The values on `shift * H` of the polynomial with these coefficients. The shift may be zero.
+    final fn coset_dft(&mut self, vec: Vec<F>, shift: F) -> Result<Vec<F>, DftError>
+        requires { FitsDft F.TWO_ADICITY (vec_len vec) 1 }
+        ensures values { IfOk result (λ out. IsTransform F.Field.own F.generator (record { width = 1; values = vec.items }) (F.value shift) (record { width = 1; values = out.items })) }
+        ensures succeeds { (k : ℕ) → vec_len vec ≡ 2 ^ k → promised self.old k → IsOk result }
+        ensures keeps { (k : ℕ) → promised self.old k → promised self.new k }
+        ensures grows { made self.old ≤ made self.new }
+        ensures cost { (k : ℕ) → vec_len vec ≡ 2 ^ k → OnOk result (made self.new ≤ made self.old + bound k 1 + 2 ^ k) }
+    {
+        let values = self.coset_dft_batch(RowMajorMatrix::new_col(vec), shift)?;
+        Ok(values.to_row_major_matrix().into_values())
+    }
+
+    /// The coefficients of the polynomial whose values on H these are.
+    final fn idft(&mut self, vec: Vec<F>) -> Result<Vec<F>, DftError>
+        requires { FitsDft F.TWO_ADICITY (vec_len vec) 1 }
+        ensures coefficients { IfOk result (λ out. IsInterpolation F.Field.own F.generator (record { width = 1; values = vec.items }) F.ring.one (record { width = 1; values = out.items })) }
+        ensures succeeds { (k : ℕ) → vec_len vec ≡ 2 ^ k → promised self.old k → IsOk result }
+        ensures keeps { (k : ℕ) → promised self.old k → promised self.new k }
+        ensures grows { made self.old ≤ made self.new }
+        ensures cost { (k : ℕ) → vec_len vec ≡ 2 ^ k → OnOk result (made self.new ≤ made self.old + bound k 1 + 2 ^ k) }
+    {
+        Ok(self.idft_batch(RowMajorMatrix::new_col(vec))?.into_values())
+    }
+
+    /// The coefficients of the polynomial whose values on `shift * H` these are. The shift has an
+    /// inverse.
+    final fn coset_idft(&mut self, vec: Vec<F>, shift: F) -> Result<Vec<F>, DftError>
+        requires fits { FitsDft F.TWO_ADICITY (vec_len vec) 1 }
+        requires invertible { IsInvertible F.ring (F.value shift) }
+        ensures coefficients { IfOk result (λ out. IsInterpolation F.Field.own F.generator (record { width = 1; values = vec.items }) (F.value shift) (record { width = 1; values = out.items })) }
+        ensures succeeds { (k : ℕ) → vec_len vec ≡ 2 ^ k → promised self.old k → IsOk result }
+        ensures keeps { (k : ℕ) → promised self.old k → promised self.new k }
+        ensures grows { made self.old ≤ made self.new }
+        ensures cost { (k : ℕ) → vec_len vec ≡ 2 ^ k → OnOk result (made self.new ≤ made self.old + bound k 1 + 2 * 2 ^ k) }
+    {
+        Ok(self
+            .coset_idft_batch(RowMajorMatrix::new_col(vec), shift)?
+            .into_values())
     }
 }

@@ -1,10 +1,15 @@
 //! Tests of shapes, and small steps that engines share.
 
-ghost use Rattle.std.specs.Prelude.{◌≡◌, ◌↔◌, ◌+◌, ◌++◌, ◌<◌, ◌^◌, IsTrue, OnOk, OnErr, replicate, vec_len, vec_capacity};
+ghost use Rattle.std.specs.Prelude.{◌≡◌, ◌↔◌, ℕ, ◌+◌, ◌*◌, ◌++◌, ◌<◌, ◌≤◌, ◌^◌, IsTrue, OnOk, OnErr, get_or, length, replicate, vec_len, vec_capacity};
+ghost use Rattle.p3_field.specs.Ring.{power};
+ghost use Rattle.p3_matrix.specs.RowMajor.{height, SameShape};
+ghost use Rattle.p3_matrix.specs.Matrix.{Same, exchanged, matrix};
+ghost use Rattle.p3_dft.specs.Cosets.{IsQuotient, opposed, shifted};
 ghost use Rattle.p3_dft.specs.Shapes.{FitsDft};
+ghost use Rattle.p3_dft.specs.Transforms.{values_of};
 
-use p3_field::{Field, TwoAdicField};
-use p3_matrix::DftError;
+use p3_field::{Field, Products, TwoAdicField, scale_slice};
+use p3_matrix::{DftError, RowMajorMatrix, RowMajorMatrixViewMut, log2_strict_usize, swap_rows};
 
 /// Whether a matrix of this shape can be transformed: the height is a power of two of at most
 /// `2^TWO_ADICITY`, the width is at least one, and a `usize` counts the entries.
@@ -24,6 +29,70 @@ pub fn fits_dft<F: TwoAdicField>(height: usize, width: usize) -> bool
     height.checked_mul(width).is_some()
 }
 
+/// Divides each entry by the height, a power of two: entry x becomes the y with `height * y = x`,
+/// for one product.
+pub fn divide_by_height<F: TwoAdicField>(
+    view: &mut RowMajorMatrixViewMut<'_, F>,
+    products: &mut Products,
+)
+    requires { (k : ℕ) × (height view.old.matrix.now ≡ 2 ^ k) }
+    ensures same_reference { view.new.matrix.ghost_name ≡ view.old.matrix.ghost_name }
+    ensures shape { SameShape view.new.matrix.now view.old.matrix.now }
+    ensures divided { IsQuotient F.ring (height view.old.matrix.now) (values_of F.Field.own view.old.matrix.now) (values_of F.Field.own view.new.matrix.now) }
+    ensures count { products.new ≡ products.old + length view.old.matrix.now.values }
+{
+    let log_height = log2_strict_usize(view.height());
+    let inverse = F::ONE.div_2exp_u64(log_height as u64);
+    scale_slice(view.values_mut(), inverse, products);
+}
+
+// From the values on a subgroup of what is itself a matrix of values, its coefficients: the rows are
+// divided by the height, and all but the first come in opposite order.
+pub(crate) fn coefficients_from_values<F: TwoAdicField>(
+    mut mat: RowMajorMatrix<F>,
+    products: &mut Products,
+) -> RowMajorMatrix<F>
+    requires { (k : ℕ) × (height mat ≡ 2 ^ k) }
+    ensures coefficients { IsQuotient F.ring (height mat) (opposed (values_of F.Field.own mat)) (values_of F.Field.own result) }
+    ensures count { products.new ≡ products.old + height mat * mat.width }
+{
+    divide_rows(&mut mat, products);
+    reverse_rows_but_first(&mut mat);
+    mat
+}
+
+// `divide_by_height` of a matrix itself.
+fn divide_rows<F: TwoAdicField>(mat: &mut RowMajorMatrix<F>, products: &mut Products)
+    requires { (k : ℕ) × (height mat.old ≡ 2 ^ k) }
+    ensures shape { SameShape mat.new mat.old }
+    ensures divided { IsQuotient F.ring (height mat.old) (values_of F.Field.own mat.old) (values_of F.Field.own mat.new) }
+    ensures count { products.new ≡ products.old + length mat.old.values }
+{
+    divide_by_height(&mut mat.as_view_mut(), products);
+}
+
+// Row 0 stays, and row i of the others changes places with row `height - i`.
+pub(crate) fn reverse_rows_but_first<T>(mat: &mut RowMajorMatrix<T>)
+    requires { 1 ≤ height mat.old }
+    ensures shape { SameShape mat.new mat.old }
+    ensures rows { (d : T) → Same (matrix d mat.new) (opposed (matrix d mat.old)) }
+{
+    let height = mat.height();
+    for row in 1..height - height / 2 {
+        exchange_rows(mat, row, height - row);
+    }
+}
+
+// Rows i and j change places.
+fn exchange_rows<T>(mat: &mut RowMajorMatrix<T>, i: usize, j: usize)
+    requires i_in_bounds { i < height mat.old }
+    requires j_in_bounds { j < height mat.old }
+    ensures shape { SameShape mat.new mat.old }
+    ensures rows { (d : T) → Same (matrix d mat.new) (exchanged i j (matrix d mat.old)) }
+{
+    swap_rows(&mut mat.as_view_mut(), i, j);
+}
+
 // Adds `n` zeros at the end. Where memory is refused, the values stay.
 pub(crate) fn extend_by_zeros<F: Field>(values: &mut Vec<F>, n: usize) -> Result<(), DftError>
     requires { vec_len values.old + n < 2 ^ 64 }
@@ -35,4 +104,46 @@ pub(crate) fn extend_by_zeros<F: Field>(values: &mut Vec<F>, n: usize) -> Result
     values.reserve_exact(n)?;
     values.resize_with(len + n, || F::ZERO)?;
     Ok(())
+}
+
+// Multiplies row i by the i-th power of `shift`, with one product an entry, or none where the shift
+// is one.
+pub(crate) fn shift_rows<F: TwoAdicField>(
+    mat: RowMajorMatrix<F>,
+    shift: F,
+    products: &mut Products,
+) -> RowMajorMatrix<F>
+    ensures shifted { Same (values_of F.Field.own result) (shifted F.ring (F.value shift) (values_of F.Field.own mat)) }
+    ensures grows { products.old ≤ products.new }
+    ensures cost { products.new ≤ products.old + height mat * mat.width }
+{
+    if shift == F::ONE {
+        return mat;
+    }
+    let width = mat.width();
+    let height = mat.height();
+    let mut values = mat.into_values();
+    shift_values(values.as_mut_slice(), width, height, shift, products);
+    RowMajorMatrix::new(values, width)
+}
+
+// The same of the entries, row after row.
+fn shift_values<F: TwoAdicField>(
+    values: &mut [F],
+    width: usize,
+    height: usize,
+    shift: F,
+    products: &mut Products,
+)
+    requires { length values.old ≡ height * width }
+    ensures values { (i j : ℕ) → i < height → j < width → F.value (get_or values.new (i * width + j) F.ZERO)
+        ≡ F.ring.mul (F.value (get_or values.old (i * width + j) F.ZERO)) (power F.ring (F.value shift) i) }
+    ensures count { products.new ≡ products.old + height * width }
+{
+    let mut power = F::ONE;
+    for i in 0..height {
+        let start = i * width;
+        scale_slice(&mut values[start..start + width], power, products);
+        power = power * shift;
+    }
 }

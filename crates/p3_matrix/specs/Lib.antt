@@ -1,5 +1,6 @@
 pub mod BitOrder
+pub mod Exchange
 pub mod Matrix
 pub mod RowMajor
-pub mod Writes
 pub mod ViewWrites
+pub mod Writes

@@ -1,5 +1,5 @@
 -- Matrices by index: a height, a width and the entry at each row and column.
-use Rattle.std.specs.Prelude.{◌≡◌, ℕ, ◌+◌, ◌*◌, ◌<◌, List, map, get_or}
+use Rattle.std.specs.Prelude.{◌≡◌, ℕ, ◌+◌, ◌*◌, ◌<◌, ◌==◌, if◌then◌else◌, List, map, get_or}
 use Rattle.std.specs.List.{range_with_len}
 use Rattle.p3_matrix.specs.RowMajor.{RowMajor, height}
 
@@ -16,6 +16,10 @@ matrix d m = record { height = height m; width = m.width; entry = λ i j. get_or
 -- f of each entry
 abbrev pub mapped : {T E : Type 0} → (T → E) → Matrix T → Matrix E
 mapped f m = record { height = m.height; width = m.width; entry = λ i j. f (m.entry i j) }
+
+-- m with rows i and j in each other's places
+abbrev pub exchanged : {E : Type 0} → ℕ → ℕ → Matrix E → Matrix E
+exchanged i j m = record { height = m.height; width = m.width; entry = λ r c. if r == i then m.entry j c else (if r == j then m.entry i c else m.entry r c) }
 
 -- two matrices are one: equal shapes, and equal entries within them
 pub record Same {E : Type 0} (a b : Matrix E) : Type 0 where

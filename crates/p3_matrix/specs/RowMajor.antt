@@ -16,6 +16,10 @@ pub record IsRowMajor {T : Type 0} (m : RowMajor T) : Type 0 where
   pub wide : 1 ≤ m.width
   pub full : height m * m.width ≡ length m.values
 
+-- two stored matrices have one width and one height
+abbrev pub SameShape : {T U : Type 0} → RowMajor T → RowMajor U → Type 0
+SameShape a b = (a.width ≡ b.width) × (length a.values ≡ length b.values)
+
 -- row i
 abbrev pub row : {T : Type 0} → RowMajor T → ℕ → List T
 row m i = slice_range m.values (i * m.width) (i * m.width + m.width)

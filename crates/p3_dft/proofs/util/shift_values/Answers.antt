@@ -1,0 +1,39 @@
+use Rattle.std.proofs.Common.{◌≡◌, ℕ, ◌+◌, ◌*◌, ◌-◌, ◌≤◌, take, drop, length, get_or, sym, ap, ap₂, ◌∙◌, arith, rules, add-one}
+use Rattle.std.proofs.Math.Nat.{suc-mul, mul-le-mul_right}
+use Rattle.std.proofs.lemmas.List.{places}
+use Rattle.p3_field.proofs.Powers.{power-zero, power-more}
+use Rattle.p3_dft.proofs.Rows.{rows-none, rows-more, part_at}
+use Rattle.p3_dft.proofs.util.shift_values.Goals as goal
+
+pub loop-i-init : goal.loop-i-init
+loop-i-init g c =
+    let field = g.F.Field in
+    record {
+      factor = ap field.value c.ONE-power.ensures ∙ g.met.F.Field.one_law ∙ sym (power-zero field.ring (field.value c.args.shift));
+      values = rows-none field.ZERO _ _ _;
+      count = omega arith;
+    }
+
+pub loop-i-preserved : goal.loop-i-preserved
+loop-i-preserved g c =
+    let field = g.F.Field in
+    let i = c.loop-i.i in
+    let w = c.args.width in
+    let m : (i * w + w) - i * w ≡ w = omega arith in
+    let next : (i + 1) * w ≡ i * w + w = rw add-one (suc-mul i w) in
+    let room : i * w + w ≤ length c.loop-i.values = omega (arith, mul-le-mul_right w c.loop-i-test.true, next, c.requires, c.loop-i.auto.values) in
+    let old_len : length (take ((i * w + w) - i * w) (drop (i * w) c.loop-i.values)) ≡ w = search (rules, places) in
+    let len : length c.scale_slice.new.values ≡ w = c.scale_slice.auto.values ∙ old_len in
+    record {
+      factor = g.met.F.Field.mul_law _ _ _ c.mul-power.ensures ∙ ap (λ x. field.ring.mul x (field.value c.args.shift)) c.loop-i.invariant.factor
+          ∙ sym (power-more field.ring (field.value c.args.shift) i);
+      values = rows-more field.ZERO w _ _ c.loop-i.values c.scale_slice.new.values i _ m room len
+          (λ k inside.
+            let entry = ap field.value (part_at c.loop-i.values (i * w) ((i * w + w) - i * w) k field.ZERO (omega arith) ∙ c.loop-i.invariant.values.rest (i * w + k) (omega arith)) in
+            c.scale_slice.ensures.values k (omega arith) ∙ ap₂ field.ring.mul entry c.loop-i.invariant.factor)
+          c.loop-i.invariant.values;
+      count = omega (arith, next, c.scale_slice.ensures.count, c.loop-i.invariant.count, old_len);
+    }
+
+pub returns-clause-values : goal.returns-clause-values
+returns-clause-values g c = λ i j below inside. c.loop-i.invariant.values.done i j (omega arith) inside

@@ -1,0 +1,30 @@
+-- Powers of two: their order is that of their logarithms.
+use Rattle.std.proofs.Common.{◌≡◌, ℕ, ◌<◌, ◌≤◌, ◌^◌, zero, suc, ◌+◌, ◌*◌, ap, ◌∙◌, add-one, arith, ⊎_elim, ◌⊎◌, inl, inr, lit≤}
+use Rattle.std.proofs.lemmas.Bool.{cases_lt}
+use Rattle.std.proofs.lemmas.Nat.{pow_below}
+use Rattle.std.proofs.Math.Nat.{pow-le-pow_right}
+
+-- a smaller power has the smaller logarithm
+pub log_lt : (j k : ℕ) → 2 ^ j < 2 ^ k → j < k
+log_lt j k l = ⊎_elim (λ p. p) (λ p. absurd (omega (arith, pow-le-pow_right {n = 2} (lit≤ tt) p))) (cases_lt j k)
+
+-- a power that a usize holds
+pub log_of_usize : (k : ℕ) → 2 ^ k < 2 ^ 64 → k ≤ 63
+log_of_usize k l = omega (arith, log_lt k 64 l)
+
+-- equal powers have one logarithm
+pub log_same : (j k : ℕ) → 2 ^ j ≡ 2 ^ k → j ≡ k
+log_same j k e = go (cases_lt j k) (cases_lt k j)
+  where
+    go : (j < k) ⊎ (k ≤ j) → (k < j) ⊎ (j ≤ k) → j ≡ k
+    go (inl l) q = absurd (omega (arith, pow_below j k l))
+    go (inr a) (inl l) = absurd (omega (arith, pow_below k j l))
+    go (inr a) (inr b) = omega arith
+
+-- one more digit
+pub digit_below : (t r d : ℕ) → r < 2 ^ t → d < 2 → 2 * r + d < 2 ^ (t + 1)
+digit_below t r d l b = let e : 2 ^ (t + 1) ≡ 2 ^ suc t = ap (λ m. 2 ^ m) (add-one t) in omega arith
+
+-- fewer digits than a usize has
+pub usize_holds : (t n : ℕ) → t ≤ 63 → n < 2 ^ t → n < 2 ^ 63
+usize_holds t n l b = omega (arith, pow-le-pow_right {n = 2} (lit≤ tt) l)

@@ -1,0 +1,119 @@
+//! Bit reversed order: element i goes where the binary digits of i, read backwards, name a place.
+
+ghost use Rattle.std.specs.Prelude.{◌≡◌, ◌+◌, ◌*◌, ◌/◌, ◌^◌, ◌<◌, ◌≤◌, ◌⊎◌, ℕ, length, slice_index_or};
+ghost use Rattle.p3_matrix.specs.RowMajor.{height, SameShape};
+ghost use Rattle.p3_matrix.specs.Matrix.{matrix, Same};
+ghost use Rattle.p3_matrix.specs.BitOrder.{rev, reversed};
+
+use crate::util::{exchange, log2_strict_usize};
+use crate::views::RowMajorMatrixViewMut;
+
+/// The number whose `bits` binary digits are the last `bits` of those of x, in reverse.
+pub fn reverse_bits_len(x: usize, bits: usize) -> usize
+    requires { bits ≤ 63 }
+    ensures { result ≡ rev bits x }
+{
+    let mut left = x;
+    let mut reverse = 0;
+    for _digit in 0..bits {
+        reverse = 2 * reverse + left % 2;
+        left /= 2;
+    }
+    reverse
+}
+
+/// Puts a slice into bit reversed order, in place: element i becomes what element `rev i` was. Its
+/// length is a power of two, or zero.
+pub fn reverse_slice_index_bits<T>(values: &mut [T])
+    requires { ((n : ℕ) × length values.old ≡ 2 ^ n) ⊎ (length values.old ≡ 0) }
+    ensures { (n : ℕ) → length values.old ≡ 2 ^ n
+        → (d : T) (i : ℕ) → i < 2 ^ n → slice_index_or values.new i d ≡ slice_index_or values.old (rev n i) d }
+{
+    let size = values.len();
+    if size > 0 {
+        reverse_rows(values, 1, log2_strict_usize(size));
+    }
+}
+
+/// Puts the rows of a matrix into bit reversed order, in place: row i becomes what row `rev i` was.
+/// The height is a power of two, or zero.
+pub fn reverse_matrix_index_bits<T>(view: &mut RowMajorMatrixViewMut<'_, T>)
+    requires { ((n : ℕ) × height view.old.matrix.now ≡ 2 ^ n) ⊎ (height view.old.matrix.now ≡ 0) }
+    ensures same_reference { view.new.matrix.ghost_name ≡ view.old.matrix.ghost_name }
+    ensures shape { SameShape view.new.matrix.now view.old.matrix.now }
+    ensures rows { (n : ℕ) → height view.old.matrix.now ≡ 2 ^ n
+        → (d : T) → Same (matrix d view.new.matrix.now) (reversed n (matrix d view.old.matrix.now)) }
+{
+    let width = view.width();
+    let height = view.height();
+    if height > 0 {
+        reverse_rows(view.values_mut(), width, log2_strict_usize(height));
+    }
+}
+
+// Puts 2 ^ bits rows into bit reversed order: each pair of rows is exchanged when the first of the
+// two is reached.
+fn reverse_rows<T>(values: &mut [T], width: usize, bits: usize)
+    requires bits { bits ≤ 63 }
+    requires size { length values.old ≡ 2 ^ bits * width }
+    ensures { (d : T) (i j : ℕ) → i < 2 ^ bits → j < width
+        → slice_index_or values.new (i * width + j) d ≡ slice_index_or values.old (rev bits i * width + j) d }
+{
+    let rows = 1usize << bits;
+    let mut mirror = 0;
+    for row in 0..rows {
+        if row < mirror {
+            exchange(values, row * width, mirror * width, width);
+        }
+        mirror = next_reversed(mirror, bits);
+    }
+}
+
+// From the reverse of i that of i + 1: the carry runs from the highest digit down.
+fn next_reversed(reverse: usize, bits: usize) -> usize
+    requires bits { bits ≤ 63 }
+    requires below { reverse < 2 ^ bits }
+    ensures next { (i : ℕ) → i + 1 < 2 ^ bits → reverse ≡ rev bits i → result ≡ rev bits (i + 1) }
+    ensures below { result < 2 ^ bits }
+{
+    let mut rest = reverse;
+    let mut digit = (1usize << bits) / 2;
+    while digit > 0 && rest >= digit {
+        rest -= digit;
+        digit /= 2;
+    }
+    rest + digit
+}
+
+#[cfg(test)]
+mod tests {
+    use super::*;
+    use crate::dense::RowMajorMatrix;
+    use std::test::Fail;
+
+    #[test]
+    fn reverses_digits(rt: HostRuntime) {
+        for (x, bits, want) in [(1, 3, 4), (6, 3, 3), (0, 0, 0), (1, 63, 1usize << 62)] {
+            assert_eq!(rt; reverse_bits_len(x, bits), want, "{bits} digits of {x}");
+        }
+    }
+
+    #[test]
+    fn reverses_places(rt: HostRuntime) -> Result<(), Fail> {
+        let alloc = rt.alloc();
+        let mut places = vec![in alloc; 0u8, 1, 2, 3, 4, 5, 6, 7]?;
+        reverse_slice_index_bits(places.as_mut_slice());
+        assert!(rt; places == vec![in alloc; 0u8, 4, 2, 6, 1, 5, 3, 7]?);
+        let mut one = vec![in alloc; 9u8]?;
+        reverse_slice_index_bits(one.as_mut_slice());
+        assert!(rt; one == vec![in alloc; 9u8]?);
+        let mut rows = RowMajorMatrix::new(vec![in alloc; 10u8, 11, 20, 21, 30, 31, 40, 41]?, 2);
+        reverse_matrix_index_bits(&mut rows.as_view_mut());
+        let want = RowMajorMatrix::new(vec![in alloc; 10u8, 11, 30, 31, 20, 21, 40, 41]?, 2);
+        assert!(rt; rows == want);
+        let mut none = RowMajorMatrix::new(Vec::<u8>::new(alloc), 3);
+        reverse_matrix_index_bits(&mut none.as_view_mut());
+        assert_eq!(rt; none.height(), 0);
+        Ok(())
+    }
+}
