@@ -9,6 +9,7 @@ mod butterfly_layers;
 pub mod naive;
 pub mod radix_2_dit;
 pub mod traits;
+mod twiddles;
 pub mod util;
 
 pub use naive::NaiveDft;
