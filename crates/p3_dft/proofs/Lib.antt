@@ -12,6 +12,7 @@ pub mod OpposedRows
 pub mod Opposite
 pub mod Pairs
 pub mod Polynomials
+pub mod ReversedRows
 pub mod Rows
 pub mod Sums
 pub mod Transforms

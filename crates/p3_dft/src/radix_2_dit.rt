@@ -2,8 +2,9 @@
 
 ghost use Rattle.std.specs.Prelude.{◌≡◌, ◌↔◌, ◌⊎◌, ℕ, ◌+◌, ◌*◌, ◌-◌, ◌^◌, ◌<◌, ◌≤◌, List, length, get_or, IsTrue, IsOk, OnOk, OnErr, Ok};
 ghost use Rattle.p3_field.specs.Ring.{power};
-ghost use Rattle.p3_matrix.specs.BitOrder.{rev};
-ghost use Rattle.p3_matrix.specs.RowMajor.{RowMajor, IsRowMajor, height};
+ghost use Rattle.p3_matrix.specs.BitOrder.{rev, reversed};
+ghost use Rattle.p3_matrix.specs.Matrix.{matrix, Same};
+ghost use Rattle.p3_matrix.specs.RowMajor.{IsRowMajor, SameShape, height};
 ghost use Rattle.p3_dft.specs.Polynomials.{poly};
 ghost use Rattle.p3_dft.specs.Transforms.{IsTransform};
 ghost use Rattle.p3_dft.specs.Twiddles.{IsPrepared};
@@ -164,8 +165,18 @@ fn transform<F: TwoAdicField>(
     ensures count { products.new + 2 ^ log_h * mat.old.width ≡ products.old + (log_h * 2 ^ (log_h - 1) + 1) * mat.old.width }
 {
     let width = mat.width();
-    reverse_matrix_index_bits(&mut mat.as_view_mut());
+    reverse_rows(mat);
     dit_network(mat.values_mut(), width, log_h, twiddles, products);
+}
+
+// Puts the rows into bit reversed order.
+fn reverse_rows<T>(mat: &mut RowMajorMatrix<T>)
+    requires { (n : ℕ) × height mat.old ≡ 2 ^ n }
+    ensures shape { SameShape mat.new mat.old }
+    ensures rows { (n : ℕ) → height mat.old ≡ 2 ^ n
+        → (d : T) → Same (matrix d mat.new) (reversed n (matrix d mat.old)) }
+{
+    reverse_matrix_index_bits(&mut mat.as_view_mut());
 }
 
 // All layers, on rows that lie in bit reversed order. The table has the powers of the generator.

@@ -1,0 +1,49 @@
+-- Transforms of matrices whose rows were put into bit reversed order first, and of a single row.
+use Rattle.std.proofs.Common.{◌≡◌, ℕ, ◌+◌, ◌*◌, ◌/◌, ◌^◌, ◌<◌, ◌≤◌, ◌++◌, List, length, get_or, take, drop, ap, ap₂, refl, sym, ◌∙◌, arith}
+use Rattle.p3_field.specs.Ring.{power}
+use Rattle.p3_field.specs.declared.fields.Field.{Ghosts as FieldMembers}
+use Rattle.p3_matrix.specs.RowMajor.{RowMajor, IsRowMajor, SameShape, height}
+use Rattle.p3_matrix.specs.BitOrder.{rev, reversed}
+use Rattle.p3_matrix.specs.Matrix.{matrix, Same}
+use Rattle.p3_matrix.proofs.BitReversal.{rev-lt, rev-rev}
+use Rattle.p3_dft.specs.Polynomials.{poly}
+use Rattle.p3_dft.specs.Transforms.{values_of, IsTransform}
+use Rattle.p3_dft.proofs.Logarithms.{pow-injective}
+use Rattle.p3_dft.proofs.Polynomials.{poly_same, poly-one}
+use Rattle.p3_dft.proofs.Rows.{written}
+use Rattle.p3_dft.proofs.Transforms.{transform_of_parts, transform_of_entries}
+
+module _ {F : Type 0} (f : FieldMembers F) (generator : ℕ → F) where
+  -- r has the rows of m in bit reversed order; a network made cells of its entries, which were then written over r
+  pub transform_of_reversed : (m r out : RowMajor F) (start cells rest : List F) (log w : ℕ) → IsRowMajor m → height m ≡ 2 ^ log → w ≡ m.width
+      → SameShape r m → ((d : F) → Same (matrix d r) (reversed log (matrix d m))) → start ≡ r.values → length cells ≡ length start
+      → out.width ≡ r.width → out.values ≡ take (length r.values) (cells ++ rest)
+      → ((i j : ℕ) → i < 2 ^ log → j < w → f.value (get_or cells (i * w + j) f.ZERO)
+      ≡ poly f.ring (2 ^ log) (λ q. f.value (get_or start (rev log q * w + j) f.ZERO)) (power f.ring (f.value (generator log)) i))
+      → IsTransform f generator m f.ring.one out
+  transform_of_reversed m r out start cells rest log w whole high wide shape rows start_is size out_width out_values entries =
+      let len : length cells ≡ length r.values = size ∙ ap length start_is in
+      let full : length cells ≡ height m * w = len ∙ shape.1 ∙ sym whole.full ∙ ap (λ n. height m * n) (sym wide) in
+      transform_of_parts f generator m out m.values cells w (height m) log (f.value (generator log)) refl wide refl high refl (omega (arith, whole.wide, wide)) full
+      (out_width ∙ shape.0 ∙ sym wide) (out_values ∙ written (length r.values) cells rest len)
+      (λ i j below inside.
+      let at : (q : ℕ) → q < 2 ^ log → f.value (get_or start (rev log q * w + j) f.ZERO) ≡ f.value (get_or m.values (q * w + j) f.ZERO) = λ q l.
+          let back = rows f.ZERO in
+          let tall : height r ≡ 2 ^ log = back.high ∙ high in
+          ap (λ xs. f.value (get_or xs (rev log q * w + j) f.ZERO)) start_is
+          ∙ ap (λ v. f.value (get_or r.values (rev log q * v + j) f.ZERO)) (wide ∙ sym shape.0)
+          ∙ ap f.value (back.alike (rev log q) j (omega (arith, rev-lt log q, tall)) (omega (arith, inside, wide, shape.0)))
+          ∙ ap (λ n. f.value (get_or m.values (n * m.width + j) f.ZERO)) (rev-rev log q l)
+          ∙ ap (λ v. f.value (get_or m.values (q * v + j) f.ZERO)) (sym wide) in
+      entries i j (omega (arith, below, high)) inside
+      ∙ poly_same f.ring (2 ^ log) (λ q. f.value (get_or start (rev log q * w + j) f.ZERO)) (λ q. f.value (get_or m.values (q * w + j) f.ZERO)) (power f.ring (f.value (generator log)) i) at
+      ∙ ap (λ n. poly f.ring n (λ q. f.value (get_or m.values (q * w + j) f.ZERO)) (power f.ring (f.value (generator log)) i)) (sym high))
+
+  -- a matrix of one row has constants in its columns, and is its own transform
+  pub transform_of_row : (m : RowMajor F) → height m ≡ 1 → IsTransform f generator m f.ring.one m
+  transform_of_row m one =
+      transform_of_entries f generator m m 0 (f.value (generator 0)) one refl refl refl
+      (λ i j below inside.
+      let column = λ (q : ℕ). f.value (get_or m.values (q * m.width + j) f.ZERO) in
+      let first : i ≡ 0 = omega (arith, below, one) in
+      ap column first ∙ sym (ap (λ n. poly f.ring n column (power f.ring (f.value (generator 0)) i)) one ∙ poly-one f.ring column (power f.ring (f.value (generator 0)) i)))
