@@ -3,6 +3,7 @@ pub mod Cosets
 pub mod Distance
 pub mod Extensions
 pub mod Interpolation
+pub mod Inverses
 pub mod Layers
 pub mod Logarithms
 pub mod Networks

@@ -1,5 +1,5 @@
 -- Rows of a flat list of entries that are overwritten one after another.
-use Rattle.std.proofs.Common.{◌≡◌, ℕ, ◌+◌, ◌*◌, ◌-◌, ◌++◌, ◌<◌, ◌≤◌, List, length, get_or, take, drop, refl, sym, ap, ◌∙◌, arith, rules, subst, ⊎_elim}
+use Rattle.std.proofs.Common.{◌≡◌, ℕ, ◌+◌, ◌*◌, ◌++◌, ◌<◌, ◌≤◌, List, length, get_or, take, drop, refl, sym, ap, ◌∙◌, arith, rules, subst, ⊎_elim}
 use Rattle.std.proofs.lemmas.Bool.{cases_lt}
 use Rattle.std.proofs.lemmas.List.{places}
 use Rattle.std.proofs.lemmas.Nat.{mul-add-lt}
@@ -43,12 +43,12 @@ module _ {T : Type 0} (d : T) (w : ℕ) (Done : ℕ → ℕ → T → Type 0) wh
   rows-more before now row i m full fits len values so_far = record {
     size = put_length now row (i * w) m (omega arith) (omega arith) ∙ so_far.size;
     done = λ p k below inside.
-      ⊎_elim
+        ⊎_elim
         (λ less. let earlier : p * w + k < i * w = omega (arith, mul-add-lt p w k i less inside) in
-          subst (λ (y : T). Done p k y) (sym (put_before now row (i * w) m (p * w + k) d (omega arith) earlier)) (so_far.done p k less inside))
+        subst (λ (y : T). Done p k y) (sym (put_before now row (i * w) m (p * w + k) d (omega arith) earlier)) (so_far.done p k less inside))
         (λ not_less. let same : i ≡ p = omega arith in
-          subst (λ (q : ℕ). Done q k (get_or (put_mid (i * w) m now row) (q * w + k) d)) same
-            (subst (λ (y : T). Done i k y) (sym (put_in now row (i * w) m k d (omega arith) (omega arith))) (values k inside)))
+        subst (λ (q : ℕ). Done q k (get_or (put_mid (i * w) m now row) (q * w + k) d)) same
+        (subst (λ (y : T). Done i k y) (sym (put_in now row (i * w) m k d (omega arith) (omega arith))) (values k inside)))
         (cases_lt p i);
     rest = λ n after. put_after now row (i * w) m n d (omega arith) (omega arith) (omega arith) ∙ so_far.rest n (omega arith);
   }

@@ -1,6 +1,6 @@
-use Rattle.std.proofs.Common.{◌≡◌, ℕ, ◌+◌, ◌*◌, ◌^◌, ◌<◌, length, refl, sym, ap, ◌∙◌, arith}
+use Rattle.std.proofs.Common.{◌≡◌, ◌+◌, ◌*◌, ◌^◌, length, refl, sym, ap, ◌∙◌, arith}
 use Rattle.std.proofs.lemmas.Nat.{mul-add-lt}
-use Rattle.p3_field.specs.Ring.{count, power, two}
+use Rattle.p3_field.specs.Ring.{count}
 use Rattle.p3_field.proofs.Powers.{count-power_of_two}
 use Rattle.p3_matrix.specs.RowMajor.{height}
 use Rattle.p3_dft.specs.Transforms.{values_of}
@@ -19,8 +19,8 @@ returns-clause-divided g c =
     let whole = c.height.ensures.whole in
     let high : h ≡ 2 ^ k = sym c.height.ensures.height ∙ c.log2_strict_usize-log_height.ensures.power in
     let undone : field.ring.mul (count field.ring h) inverse ≡ field.ring.one =
-      ap (λ n. field.ring.mul (count field.ring n) inverse) high ∙ ap (λ x. field.ring.mul x inverse) (count-power_of_two field.ring k)
-      ∙ c.div_2exp_u64-inverse.ensures ∙ ap field.value c.ONE.ensures ∙ g.met.F.Field.one_law in
+    ap (λ n. field.ring.mul (count field.ring n) inverse) high ∙ ap (λ x. field.ring.mul x inverse) (count-power_of_two field.ring k)
+    ∙ c.div_2exp_u64-inverse.ensures ∙ ap field.value c.ONE.ensures ∙ g.met.F.Field.one_law in
     let full : length after ≡ length m.values = c.scale_slice.auto.values ∙ ap length c.values_mut.ensures.values in
     quotient_of_products field.ring h inverse (values_of field m) _ undone
     (entries_of_parts field m _ c.values_mut.result.now after m.width h (λ i j x. field.ring.mul x inverse) c.values_mut.ensures.values refl refl whole.wide (full ∙ sym whole.full) refl

@@ -1,4 +1,4 @@
-use Rattle.std.proofs.Common.{◌≡◌, ℕ, ◌+◌, ◌*◌, ◌-◌, ◌≤◌, take, drop, length, get_or, sym, ap, ap₂, ◌∙◌, arith, rules, add-one}
+use Rattle.std.proofs.Common.{◌≡◌, ◌+◌, ◌*◌, ◌-◌, ◌≤◌, take, drop, length, sym, ap, ap₂, ◌∙◌, arith, rules, add-one}
 use Rattle.std.proofs.Math.Nat.{suc-mul, mul-le-mul_right}
 use Rattle.std.proofs.lemmas.List.{places}
 use Rattle.p3_field.proofs.Powers.{power-zero, power-more}
@@ -29,8 +29,8 @@ loop-i-preserved g c =
           ∙ sym (power-more field.ring (field.value c.args.shift) i);
       values = rows-more field.ZERO w _ _ c.loop-i.values c.scale_slice.new.values i _ m room len
           (λ k inside.
-            let entry = ap field.value (part_at c.loop-i.values (i * w) ((i * w + w) - i * w) k field.ZERO (omega arith) ∙ c.loop-i.invariant.values.rest (i * w + k) (omega arith)) in
-            c.scale_slice.ensures.values k (omega arith) ∙ ap₂ field.ring.mul entry c.loop-i.invariant.factor)
+          let entry = ap field.value (part_at c.loop-i.values (i * w) ((i * w + w) - i * w) k field.ZERO (omega arith) ∙ c.loop-i.invariant.values.rest (i * w + k) (omega arith)) in
+          c.scale_slice.ensures.values k (omega arith) ∙ ap₂ field.ring.mul entry c.loop-i.invariant.factor)
           c.loop-i.invariant.values;
       count = omega (arith, next, c.scale_slice.ensures.count, c.loop-i.invariant.count, old_len);
     }
