@@ -4,7 +4,7 @@ use Rattle.std.proofs.Math.Nat.{mul_comm, mod-add-div, add-mod, add-mod-mod, mod
 use Rattle.std.proofs.lemmas.Nat.{mul-mod}
 use Rattle.std.proofs.lemmas.Nat.Gcd.{dvd_trans}
 use Rattle.std.specs.Int.{IsGcd, ◌∣◌}
-use Rattle.p3_field.specs.Modular.{mul-mod-mod}
+use Rattle.p3_field.specs.ResidueLaws.{mul-mod-mod}
 use Rattle.p3_field.specs.Residues.{Residue, residue-eq, residue_of, residues, IsProduct}
 use Rattle.p3_field.specs.Ring.{Ring, minus}
 use Rattle.p3_field.proofs.Rings

@@ -180,7 +180,7 @@ fn subtract_modulus(x: u64) -> u64
 impl Field for Goldilocks {
     ghost use Rattle.std.proofs.Common.{lit<, refl};
     ghost use Rattle.p3_field.specs.Residues.{Residue, residue-eq};
-    ghost use Rattle.p3_field.specs.ResidueLaws.{difference_law, eq_law, order_law};
+    ghost use Rattle.p3_field.specs.FieldLaws.{difference_law, eq_law, order_law};
     ghost use Rattle.p3_field.specs.Fields.{goldilocks_ring};
 
     ghost Element = { Residue goldilocks_modulus };
@@ -320,19 +320,19 @@ impl Packable for Goldilocks {
 }
 
 impl TwoAdicField for Goldilocks {
-    ghost use Rattle.std.specs.Prelude.{◌-◌};
     ghost use Rattle.std.proofs.Common.{lit≤, refl};
     ghost use Rattle.p3_field.specs.Residues.{residue-eq};
-    ghost use Rattle.p3_field.specs.Fields.{goldilocks_ring, goldilocks_root};
-    ghost use Rattle.p3_field.specs.Squarings.{squared, are_roots};
+    ghost use Rattle.p3_field.specs.Fields.{goldilocks_ring, goldilocks_root, goldilocks_generator};
+    ghost use Rattle.p3_field.specs.FieldLaws.{roots_law};
 
     const TWO_ADICITY: usize = 32;
 
     ghost TWO_ADICITY = { 32 };
 
-    ghost generator = { λ bits.
-        let root = squared goldilocks_ring goldilocks_root (32 - bits) in
-        record { number = root.number; below = root.below } };
+    ghost generator = { λ bits. record {
+      number = (goldilocks_generator bits).number;
+      below = (goldilocks_generator bits).below;
+    } };
 
     fn two_adic_generator(bits: usize) -> Goldilocks {
         Goldilocks::TOP_ROOT.exp_power_of_2(32 - bits)
@@ -340,7 +340,7 @@ impl TwoAdicField for Goldilocks {
 
     ghost two_adicity_law = { lit≤ tt };
 
-    ghost roots_law = { are_roots goldilocks_ring goldilocks_root 32 (residue-eq _ _ refl) (residue-eq _ _ refl) };
+    ghost roots_law = { roots_law goldilocks_ring goldilocks_root 32 (residue-eq _ _ refl) (residue-eq _ _ refl) };
 }
 
 impl CanonicalField for Goldilocks {
