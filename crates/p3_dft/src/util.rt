@@ -8,8 +8,8 @@ ghost use Rattle.p3_dft.specs.Cosets.{IsQuotient, opposed, shifted};
 ghost use Rattle.p3_dft.specs.Shapes.{FitsDft};
 ghost use Rattle.p3_dft.specs.Transforms.{values_of};
 
-use p3_field::{Field, Products, TwoAdicField, scale_slice};
-use p3_matrix::{DftError, RowMajorMatrix, RowMajorMatrixViewMut, log2_strict_usize, swap_rows};
+use p3_field::{Field, Products, TwoAdicField};
+use p3_matrix::{DftError, RowMajorMatrix, RowMajorMatrixViewMut, log2_strict_usize, scale_slice_in_place, swap_rows};
 
 /// Whether a matrix of this shape can be transformed: the height is a power of two of at most
 /// `2^TWO_ADICITY`, the width is at least one, and a `usize` counts the entries.
@@ -43,7 +43,7 @@ pub fn divide_by_height<F: TwoAdicField>(
 {
     let log_height = log2_strict_usize(view.height());
     let inverse = F::ONE.div_2exp_u64(log_height as u64);
-    scale_slice(view.values_mut(), inverse, products);
+    scale_slice_in_place(view.values_mut(), inverse, products);
 }
 
 // From the values on a subgroup of what is itself a matrix of values, its coefficients: the rows are
@@ -143,7 +143,7 @@ fn shift_values<F: TwoAdicField>(
     let mut power = F::ONE;
     for i in 0..height {
         let start = i * width;
-        scale_slice(&mut values[start..start + width], power, products);
+        scale_slice_in_place(&mut values[start..start + width], power, products);
         power = power * shift;
     }
 }

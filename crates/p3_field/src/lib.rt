@@ -11,7 +11,7 @@ pub mod two_adic;
 pub use baby_bear::BabyBear;
 pub use fields::Field;
 pub use goldilocks::Goldilocks;
-pub use packed::{Packable, Packed, PackedField, Products, scale_slice, scaled};
+pub use packed::{Packable, Packed, PackedField, Products, scaled};
 pub use two_adic::{CanonicalField, TwoAdicField};
 
 #[cfg(test)]
