@@ -158,10 +158,10 @@ fn add_and_reduce(x: u64, y: u64) -> u64
     requires { y ≤ 18446744065119617025 }
     ensures { result ≡ (x + y) % goldilocks_modulus }
 {
-    let (sum, carry) = x.overflowing_add(y);
-    if carry {
-        sum + EPSILON
-    } else if sum < MODULUS {
+    let (low, carry) = x.overflowing_add(y);
+    // One test after the carry, which comes about every second time, so that no branch hangs on it.
+    let sum = if carry { low + EPSILON } else { low };
+    if sum < MODULUS {
         sum
     } else {
         subtract_modulus(sum)
