@@ -129,7 +129,7 @@ fn reduce(x: u128) -> u64
     add_and_reduce(subtract(low, top), middle * EPSILON)
 }
 
-// The difference, up to the modulus. It is below zero for one product in 2^32.
+// The difference by the modulus. It is below zero for about one product in 2^32.
 #[inline(always)]
 fn subtract(low: u64, top: u64) -> u64
     requires { top < 4294967296 }
@@ -152,16 +152,17 @@ fn subtract_below_zero(low: u64, top: u64) -> u64
     MODULUS - (top - low)
 }
 
-// The sum below the modulus. Past the carry it stands between the modulus and 2^64 for few products.
+// The remainder of a sum, whose second part is at most the square of `EPSILON`. Once the carry is
+// taken in, few sums are still past the modulus.
 #[inline(always)]
 fn add_and_reduce(x: u64, y: u64) -> u64
     requires { y ≤ 18446744065119617025 }
     ensures { result ≡ (x + y) % goldilocks_modulus }
 {
-    let (sum, carry) = x.overflowing_add(y);
-    if carry {
-        sum + EPSILON
-    } else if sum < MODULUS {
+    let (low, carry) = x.overflowing_add(y);
+    // One test after the carry, which comes about every second time, so that no branch hangs on it.
+    let sum = if carry { low + EPSILON } else { low };
+    if sum < MODULUS {
         sum
     } else {
         subtract_modulus(sum)

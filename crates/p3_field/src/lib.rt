@@ -1,4 +1,9 @@
 //! Finite fields with roots of unity of two-power order, as the transforms use them.
+//!
+//! `Field` has the operations of a commutative ring with one in which halving is exact, and their
+//! laws; `TwoAdicField` adds the roots of unity, `CanonicalField` the numbers below a modulus.
+//! `BabyBear` and `Goldilocks` are such fields. `PackedField` handles several scalars by one
+//! operation, and `Products` counts the products that were made, for contracts alone.
 #![tactic(auto)]
 
 pub mod baby_bear;
