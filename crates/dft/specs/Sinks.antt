@@ -1,6 +1,11 @@
 -- What calls on a sink do to its bytes and to the count of the calls that failed.
 use Rattle.std.specs.Prelude.{◌≡◌, ◌++◌, ℕ, zero, suc, List, [], ◌∷◌, take, Result, Ok, Err}
 
+-- what was told of a writer's calls: the bytes that it took, and how many calls failed
+pub record Calls : Type 0 where
+  pub bytes : List ℕ
+  pub failures : ℕ
+
 -- the bytes that `write(buf)` took
 abbrev pub taken : {E : Type 0} → Result ℕ E → List ℕ → List ℕ
 taken (Ok n) buf = take n buf

@@ -1,5 +1,6 @@
 //! A sink over any of std's writers.
 
+ghost use Rattle.std.specs.Prelude.{◌≡◌, []};
 ghost use Rattle.dft.specs.Sinks.{taken, write_failures, flush_failures};
 
 mod account;
@@ -8,6 +9,7 @@ use crate::sink::Sink;
 use account::Account;
 use std::io;
 use std::io::Write;
+use std::marker::Model;
 
 /// One of std's writers, as a sink.
 ///
@@ -19,9 +21,19 @@ pub struct Counted<W> {
     account: Account,
 }
 
-impl<W: Write> Counted<W> {
+impl<W> Model for Counted<W> {
+    ghost use Rattle.dft.specs.Sinks.{Calls};
+
+    ghost Value = { Calls };
+
+    ghost view = { λ c. record { bytes = c.account.bytes; failures = c.account.failures } };
+}
+
+impl<W> Counted<W> {
     /// Nothing is taken yet, and no call failed.
-    pub fn new(writer: W) -> Counted<W> {
+    pub fn new(writer: W) -> Counted<W>
+        ensures { result ≡ record { bytes = []; failures = 0 } }
+    {
         Counted {
             writer,
             account: Account::new(),
@@ -30,9 +42,9 @@ impl<W: Write> Counted<W> {
 }
 
 impl<W: Write> Sink for Counted<W> {
-    ghost bytes = { λ counted. counted.account.bytes };
+    ghost bytes = { λ calls. calls.bytes };
 
-    ghost failures = { λ counted. counted.account.failures };
+    ghost failures = { λ calls. calls.failures };
 
     fn write(&mut self, buf: &[u8]) -> io::Result<usize> {
         let answer = self.writer.write(buf);

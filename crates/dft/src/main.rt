@@ -2,6 +2,8 @@
 #![tactic(auto)]
 
 mod counted;
+mod number;
 mod sink;
+mod text;
 
 fn main(_rt: HostRuntime) {}
