@@ -1,3 +1,5 @@
+pub mod Faults
+pub mod Names
 pub mod Numbers
 pub mod Sinks
 pub mod Text

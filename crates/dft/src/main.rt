@@ -2,6 +2,8 @@
 #![tactic(auto)]
 
 mod counted;
+mod fault;
+mod names;
 mod number;
 mod sink;
 mod text;

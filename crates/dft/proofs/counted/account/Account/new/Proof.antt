@@ -11,7 +11,7 @@ use denote.RattleType.{owns}
 use denote.Shadow.{pure_i}
 use denote.Signature.{types_at}
 use denote.Triple.Entry.{alive}
-use denote.Triple.Walked.{Stays, walk_of, says, ends_at}
+use denote.Triple.Walked.{walk_of, says, ends_at}
 use Rattle.dft.specs.contracts.counted.account.Account as token
 use Rattle.dft.specs.contracts.counted.account.Account.new as f
 use Rattle.dft.proofs.counted.account.Account.new.Statement.{statement}
