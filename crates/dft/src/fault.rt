@@ -2,9 +2,10 @@
 
 ghost use Rattle.std.specs.Prelude.{◌≡◌};
 ghost use Rattle.dft.specs.Faults.{line_of};
-ghost use Rattle.dft.specs.declared.fault.Stopped.TheVariants.{OutOfMemory};
+ghost use Rattle.dft.specs.declared.fault.Stopped.TheVariants.{Refused, OutOfMemory};
 
-use std::alloc::{AllocError, AllocFailed};
+use p3_dft::DftError;
+use std::alloc::AllocError;
 
 /// What is wrong with the words.
 #[derive(Clone, Copy)]
@@ -42,18 +43,26 @@ pub enum Stopped {
     OutOfMemory,
 }
 
-impl From<AllocError> for Stopped {
+impl From<Fault> for Stopped {
+    ghost from_gives = { λ fault e. e ≡ Refused fault };
+
+    fn from(fault: Fault) -> Stopped {
+        Stopped::Refused(fault)
+    }
+}
+
+impl From<DftError> for Stopped {
     ghost from_gives = { λ _ e. e ≡ OutOfMemory };
 
-    fn from(_error: AllocError) -> Stopped {
+    fn from(_error: DftError) -> Stopped {
         Stopped::OutOfMemory
     }
 }
 
-impl<T: Drop> From<AllocFailed<T>> for Stopped {
+impl From<AllocError> for Stopped {
     ghost from_gives = { λ _ e. e ≡ OutOfMemory };
 
-    fn from(_error: AllocFailed<T>) -> Stopped {
+    fn from(_error: AllocError) -> Stopped {
         Stopped::OutOfMemory
     }
 }
