@@ -7,7 +7,7 @@ mod vectors;
 use crate::baby_bear::BabyBear;
 use crate::fields::Field;
 use crate::goldilocks::Goldilocks;
-use crate::packed::{Packable, Packed, PackedField, Products, scale_slice, scaled};
+use crate::packed::{Packable, Packed, PackedField, Products, scaled};
 use crate::two_adic::{CanonicalField, TwoAdicField};
 use std::mem::size_of;
 use std::process::Abort;
@@ -165,9 +165,6 @@ fn lanes(rt: HostRuntime) {
         scaled(BabyBear::TWO, BabyBear::TWO, &mut more),
         BabyBear::from_u8(4)
     );
-    let mut row = [BabyBear::from_u8(5), BabyBear::from_u8(7)];
-    scale_slice(&mut row, BabyBear::TWO, &mut more);
-    assert_eq!(rt; row, [BabyBear::from_u8(10), BabyBear::from_u8(14)]);
     products.add(more);
     assert_eq!(rt; size_of::<Products>(), 0);
 }
