@@ -2,4 +2,4 @@ pub mod Lines
 pub mod Shapes
 pub mod Tests
 pub mod Transforms
-pub mod Words
+pub mod WordNumbers

@@ -2,7 +2,7 @@ use Rattle.std.proofs.Common.{◌≡◌, ◌-◌, length, map, take, drop}
 use Rattle.std.specs.String.{string_bytes}
 use Rattle.dft.specs.declared.names.Operation.TheVariants.{Dft}
 use Rattle.dft.specs.Arguments.{arguments_of, number_or_zero, numbers_of}
-use Rattle.dft.proofs.Words.{numbers_behind}
+use Rattle.dft.proofs.WordNumbers.{numbers_behind}
 use Rattle.dft.proofs.arguments.arguments_of.Goals as goal
 
 pub returns-clause-values : goal.returns-clause-values
