@@ -75,8 +75,8 @@ module _ {F : Type 0} (f : FieldMembers F) (generator : ℕ → F) (two_adicity 
     rows_at : (k : ℕ) → length numbers / width ≡ 2 ^ k → map (map f.number) (rows_of_values f.ring roots coefficients k f.ring.one) ≡ map (map number) (rows out)
     rows_at k e =
         ap (map (map f.number)) (sym (rows_of_is_values f.ring roots coefficients k f.ring.one (values_of f out)
-          (coefficients_same f.ring roots (values_of f m) coefficients k f.ring.one (values_of f out) same
-            (transform k (same.high ∙ ap (λ n. n / width) (length-map numbers element) ∙ e)))))
+        (coefficients_same f.ring roots (values_of f m) coefficients k f.ring.one (values_of f out) same
+        (transform k (same.high ∙ ap (λ n. n / width) (length-map numbers element) ∙ e)))))
         ∙ numbers_of_rows out whole
 
     rows_for : (log : Option ℕ) → logarithm two_adicity (length numbers / width) ≡ log → is_some log ≡ true
