@@ -64,7 +64,9 @@ fn status_of(alloc: Global, words: &[&str], out: &mut Stubborn) -> Result<u8, Al
     Ok(run(alloc, owned.as_slice(), &mut Counted::new(out)))
 }
 
-const FIRST_WORDS: [&str; 10] = ["babybear", "naive", "dft", "3", "5", "2", "0", "4", "3", "0"];
+const FIRST_WORDS: [&str; 10] = [
+    "babybear", "naive", "dft", "3", "5", "2", "0", "4", "3", "0",
+];
 
 const FIRST_TEXT: &str = "9 5 0\n1 2013265920 0\n";
 
@@ -125,8 +127,14 @@ fn faults(rt: HostRuntime) -> Result<(), Fail> {
         ),
         (&["babybear", "naive", "dft", "0", "2013265921"], not_below),
         (&["babybear", "naive", "dft", "0", "1"], unfit_shape),
-        (&["babybear", "naive", "dft", "2", "1", "2", "3"], unfit_shape),
-        (&["babybear", "naive", "dft", "1", "1", "2", "3"], unfit_shape),
+        (
+            &["babybear", "naive", "dft", "2", "1", "2", "3"],
+            unfit_shape,
+        ),
+        (
+            &["babybear", "naive", "dft", "1", "1", "2", "3"],
+            unfit_shape,
+        ),
     ];
     for (words, line) in rows {
         let mut out = Stubborn::with_room(rt.alloc(), 1000);
@@ -162,7 +170,11 @@ fn writers(rt: HostRuntime) -> Result<(), Fail> {
 
     for room in 0..21 {
         let mut full = Stubborn::with_room(rt.alloc(), room);
-        assert_eq!(rt; status_of(rt.alloc(), &FIRST_WORDS, &mut full)?, 4, "room {room}");
+        assert_eq!(rt;
+            status_of(rt.alloc(), &FIRST_WORDS, &mut full)?,
+            4,
+            "room {room}"
+        );
         assert_eq!(rt; full.held.as_slice(), &text[..room]);
     }
 

@@ -9,4 +9,4 @@ pub returns-clause-values : goal.returns-clause-values
 returns-clause-values c =
     let words = c.args.words.now in
     elim c.args.operation as (λ operation. numbers_of (take (length words - 1) (drop 1 words)) ≡ (arguments_of operation (map number_or_zero (map string_bytes words))).values)
-      [ Dft ↦ numbers_behind 1 words ]
+    [ Dft ↦ numbers_behind 1 words ]
