@@ -1,7 +1,7 @@
 use Rattle.std.proofs.Common.{not, is_some, ap, sym, ◌∙◌}
 use Rattle.std.specs.String.{string_bytes}
 use Rattle.dft.specs.Numbers.{number_of}
-use Rattle.dft.proofs.Tests.{passes_at}
+use Rattle.dft.proofs.Elements.{passes_at}
 use Rattle.dft.proofs.arguments.has_no_number.Goals as goal
 
 pub returns-then-is_none : goal.returns-then-is_none

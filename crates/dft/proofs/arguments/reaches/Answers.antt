@@ -1,7 +1,7 @@
 use Rattle.std.proofs.Common.{nat_le, ap, sym, ◌∙◌, le-leb}
 use Rattle.std.specs.String.{string_bytes}
 use Rattle.dft.specs.Arguments.{number_or_zero}
-use Rattle.dft.proofs.Tests.{passes_at}
+use Rattle.dft.proofs.Elements.{passes_at}
 use Rattle.dft.proofs.arguments.reaches.Goals as goal
 
 pub returns-then-modulus-number_or_zero : goal.returns-then-modulus-number_or_zero

@@ -1,8 +1,8 @@
-use Rattle.std.proofs.Common.{◌≡◌, ℕ, length, nat_le, ap, sym, ◌∙◌}
+use Rattle.std.proofs.Common.{◌≡◌, length, nat_le, ap, sym, ◌∙◌}
 use Rattle.std.proofs.lemmas.List.{length-map, take_all}
 use Rattle.std.specs.String.{string_bytes}
 use Rattle.dft.specs.Arguments.{number_or_zero}
-use Rattle.dft.proofs.Tests.{fails_at, some_below}
+use Rattle.dft.proofs.Elements.{fails_at, some_below}
 use Rattle.dft.proofs.matrices.matrix_of.Goals as goal
 
 pub unwrap-requires : goal.unwrap-requires
