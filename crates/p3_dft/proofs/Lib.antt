@@ -1,7 +1,9 @@
 pub mod Blocks
+pub mod CellLayers
 pub mod Cosets
 pub mod Distance
 pub mod Extensions
+pub mod Halves
 pub mod Interpolation
 pub mod Inverses
 pub mod Layers
