@@ -5,6 +5,7 @@ pub mod Distance
 pub mod Extensions
 pub mod Halves
 pub mod Interpolation
+pub mod Inverses
 pub mod Layers
 pub mod Logarithms
 pub mod Networks

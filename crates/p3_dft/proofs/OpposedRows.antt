@@ -1,13 +1,12 @@
 -- Rows of a stored matrix put into opposite order by exchanges.
-use Rattle.std.proofs.Common.{◌≡◌, ◌≢◌, ℕ, ◌+◌, ◌*◌, ◌-◌, ◌/◌, ◌%◌, ◌<◌, ◌≤◌, ◌==◌, if◌then◌else◌, length, get_or, refl, sym, ap, ap₂, ◌∙◌, subst, arith, ⊎_elim}
+use Rattle.std.proofs.Common.{◌≡◌, ◌≢◌, ℕ, ◌+◌, ◌*◌, ◌-◌, ◌/◌, ◌%◌, ◌<◌, ◌≤◌, length, refl, sym, ap, ap₂, ◌∙◌, subst, arith, ⊎_elim}
 use Rattle.std.proofs.Math.Nat.{mul-le-mul_right}
-use Rattle.std.proofs.lemmas.Bool.{cases_lt, cases_eq, eq-eqb, ne_eqb}
+use Rattle.std.proofs.lemmas.Bool.{cases_lt, eq-eqb, ne_eqb}
 use Rattle.std.proofs.lemmas.List.{get_or_past}
 use Rattle.p3_matrix.specs.RowMajor.{RowMajor, SameShape, height}
-use Rattle.p3_matrix.specs.Matrix.{Matrix, matrix, exchanged, Same}
+use Rattle.p3_matrix.specs.Matrix.{matrix, exchanged, Same}
 use Rattle.p3_dft.specs.Cosets.{opposed}
 use Rattle.p3_dft.proofs.Opposite.{OppositeUntil, opposite_more, opposite_all}
-use Rattle.p3_dft.proofs.Pairs.{pairs_none}
 
 module _ {T : Type 0} (d : T) where
   -- one more pair of rows, row and n - row
@@ -18,9 +17,9 @@ module _ {T : Type 0} (d : T) where
   opposed_more before now next n row p is tall size low shape same j inside done =
       subst (λ (q : ℕ). OppositeUntil n q (λ i. (matrix d before).entry i j) (λ i. (matrix d next).entry i j)) (sym is)
       (opposite_more n p (λ i. (matrix d before).entry i j) (λ i. (matrix d now).entry i j) (λ i. (matrix d next).entry i j) (omega arith) done
-        (subst (λ (q : ℕ). (matrix d next).entry q j ≡ (matrix d now).entry (n - q) j) is near)
-        (subst (λ (q : ℕ). (matrix d next).entry (n - q) j ≡ (matrix d now).entry q j) is far)
-        (λ r a b. others r (λ e. a (e ∙ is)) (λ e. b (e ∙ ap (λ q. n - q) is))))
+      (subst (λ (q : ℕ). (matrix d next).entry q j ≡ (matrix d now).entry (n - q) j) is near)
+      (subst (λ (q : ℕ). (matrix d next).entry (n - q) j ≡ (matrix d now).entry q j) is far)
+      (λ r a b. others r (λ e. a (e ∙ is)) (λ e. b (e ∙ ap (λ q. n - q) is))))
     where
       at : (r : ℕ) → r < n → (matrix d next).entry r j ≡ (exchanged row (n - row) (matrix d now)).entry r j
       at r below = same.alike r j (omega (arith, same.high, tall)) (omega (arith, same.wide, inside))
@@ -49,7 +48,7 @@ module _ {T : Type 0} (d : T) where
     high = ap₂ (λ (l w : ℕ). l / w) shape.1 shape.0;
     wide = shape.0;
     alike = λ i j below inside.
-      let same : height after ≡ height before = ap₂ (λ (l w : ℕ). l / w) shape.1 shape.0 in
-      opposite_all n m _ _ low high (done j (omega (arith, shape.0))) i (omega (arith, same, tall))
-      ∙ ap (λ k. (matrix d before).entry ((k - i) % k) j) (sym tall);
+        let same : height after ≡ height before = ap₂ (λ (l w : ℕ). l / w) shape.1 shape.0 in
+        opposite_all n m _ _ low high (done j (omega (arith, shape.0))) i (omega (arith, same, tall))
+        ∙ ap (λ k. (matrix d before).entry ((k - i) % k) j) (sym tall);
   }

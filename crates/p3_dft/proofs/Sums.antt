@@ -1,9 +1,5 @@
 -- The values of a matrix' columns at one point, as sums that are made term by term.
-use Rattle.std.proofs.Common.{◌≡◌, ℕ, ◌+◌, ◌*◌, ◌<◌, ◌≤◌, List, length, get_or, take, drop, refl, sym, ap, ◌∙◌, arith, rules, subst, ⊎_elim}
-use Rattle.std.proofs.lemmas.Bool.{cases_lt}
-use Rattle.std.proofs.lemmas.List.{places}
-use Rattle.std.proofs.lemmas.Nat.{mul-add-lt}
-use borrow.Rule.Slice.PartMut.{put_mid}
+use Rattle.std.proofs.Common.{◌≡◌, ℕ, ◌+◌, ◌*◌, ◌<◌, List, get_or, take, drop, sym, ap, ◌∙◌, arith}
 use Rattle.p3_field.specs.Ring.{Ring, power}
 use Rattle.p3_dft.specs.Polynomials.{poly}
 use Rattle.p3_dft.proofs.Rows.{part_at}

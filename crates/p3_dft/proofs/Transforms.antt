@@ -60,9 +60,9 @@ module _ {F : Type 0} (f : FieldMembers F) where
         high = tall ∙ h_is;
         wide = out_width ∙ w_is;
         alike = λ i j below inside.
-          ap₂ (λ (xs : List F) (v : ℕ). f.value (get_or xs (i * v + j) f.ZERO)) out_values out_width
-          ∙ entries i j (omega (arith, tall)) (omega (arith, out_width))
-          ∙ ap₂ (λ (xs : List F) (v : ℕ). changed i j (f.value (get_or xs (i * v + j) f.ZERO))) before_is w_is;
+            ap₂ (λ (xs : List F) (v : ℕ). f.value (get_or xs (i * v + j) f.ZERO)) out_values out_width
+            ∙ entries i j (omega (arith, tall)) (omega (arith, out_width))
+            ∙ ap₂ (λ (xs : List F) (v : ℕ). changed i j (f.value (get_or xs (i * v + j) f.ZERO))) before_is w_is;
       }
 
 -- entries times the inverse of n are divided by n
@@ -72,7 +72,7 @@ quotient_of_products r n inverse m out undone same = record {
   high = same.high;
   wide = same.wide;
   entries = λ i j below inside.
-    let x = m.entry i j in
-    ap (r.mul (count r n)) (same.alike i j (omega (arith, same.high)) (omega (arith, same.wide))) ∙ Rings.mul_left_comm r (count r n) x inverse
-    ∙ ap (r.mul x) undone ∙ r.mul_one x;
+      let x = m.entry i j in
+      ap (r.mul (count r n)) (same.alike i j (omega (arith, same.high)) (omega (arith, same.wide))) ∙ Rings.mul_left_comm r (count r n) x inverse
+      ∙ ap (r.mul x) undone ∙ r.mul_one x;
 }

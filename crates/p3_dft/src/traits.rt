@@ -178,8 +178,9 @@ pub trait TwoAdicSubgroupDft<F: TwoAdicField>: Clone + Default {
         ensures grows { made self.old ≤ made self.new }
         ensures cost { (k : ℕ) → vec_len vec ≡ 2 ^ k → OnOk result (made self.new ≤ made self.old + bound k 1 + 2 * 2 ^ k) }
     {
-        Ok(self
-            .coset_idft_batch(RowMajorMatrix::new_col(vec), shift)?
-            .into_values())
+        Ok(
+            self.coset_idft_batch(RowMajorMatrix::new_col(vec), shift)?
+                .into_values(),
+        )
     }
 }

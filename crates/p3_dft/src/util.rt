@@ -8,8 +8,11 @@ ghost use Rattle.p3_dft.specs.Cosets.{IsQuotient, opposed, shifted};
 ghost use Rattle.p3_dft.specs.Shapes.{FitsDft};
 ghost use Rattle.p3_dft.specs.Transforms.{values_of};
 
-use p3_field::{Field, Products, TwoAdicField, scale_slice};
-use p3_matrix::{DftError, RowMajorMatrix, RowMajorMatrixViewMut, log2_strict_usize, swap_rows};
+use p3_field::{Field, Products, TwoAdicField};
+use p3_matrix::{
+    DftError, RowMajorMatrix, RowMajorMatrixViewMut, log2_strict_usize, scale_slice_in_place,
+    swap_rows,
+};
 
 /// Whether a matrix of this shape can be transformed: the height is a power of two of at most
 /// `2^TWO_ADICITY`, the width is at least one, and a `usize` counts the entries.
@@ -43,7 +46,7 @@ pub fn divide_by_height<F: TwoAdicField>(
 {
     let log_height = log2_strict_usize(view.height());
     let inverse = F::ONE.div_2exp_u64(log_height as u64);
-    scale_slice(view.values_mut(), inverse, products);
+    scale_slice_in_place(view.values_mut(), inverse, products);
 }
 
 // From the values on a subgroup of what is itself a matrix of values, its coefficients: the rows are
@@ -143,7 +146,65 @@ fn shift_values<F: TwoAdicField>(
     let mut power = F::ONE;
     for i in 0..height {
         let start = i * width;
-        scale_slice(&mut values[start..start + width], power, products);
+        scale_slice_in_place(&mut values[start..start + width], power, products);
         power = power * shift;
+    }
+}
+
+#[cfg(test)]
+mod tests {
+    use super::*;
+    use p3_field::{BabyBear, CanonicalField};
+    use std::alloc::Global;
+    use std::test::Fail;
+
+    #[test]
+    fn shapes_that_fit(rt: HostRuntime) {
+        assert!(rt; !fits_dft::<BabyBear>(0, 1));
+        assert!(rt; !fits_dft::<BabyBear>(3, 1));
+        assert!(rt; !fits_dft::<BabyBear>(1 << 28, 1));
+        assert!(rt; fits_dft::<BabyBear>(1 << 27, 1));
+        assert!(rt; !fits_dft::<BabyBear>(1, 0));
+        assert!(rt; !fits_dft::<BabyBear>(2, usize::MAX));
+    }
+
+    fn matrix_of(
+        alloc: Global,
+        numbers: &[u64],
+        width: usize,
+    ) -> Result<RowMajorMatrix<BabyBear>, Fail> {
+        let mut entries = Vec::new(alloc);
+        for number in numbers {
+            entries.push(BabyBear::new(*number).ok_or("not below the modulus")?)?;
+        }
+        if width == 0 || entries.len() % width != 0 {
+            return Err(Fail::from("no whole number of rows"));
+        }
+        Ok(RowMajorMatrix::new(entries, width))
+    }
+
+    #[test]
+    fn divides_by_the_height(rt: HostRuntime) -> Result<(), Fail> {
+        let alloc = rt.alloc();
+        let mut products = Products::new();
+        let mut mat = matrix_of(alloc, &[2, 4, 6, 8], 2)?;
+        assert_eq!(rt; mat.height(), 2);
+        divide_by_height(&mut mat.as_view_mut(), &mut products);
+        assert!(rt; mat == matrix_of(alloc, &[1, 2, 3, 4], 2)?);
+        let mut row = matrix_of(alloc, &[10, 20, 30, 40], 4)?;
+        assert_eq!(rt; row.height(), 1);
+        divide_by_height(&mut row.as_view_mut(), &mut products);
+        assert!(rt; row == matrix_of(alloc, &[10, 20, 30, 40], 4)?);
+        Ok(())
+    }
+
+    #[test]
+    fn shifts_rows(rt: HostRuntime) -> Result<(), Fail> {
+        let alloc = rt.alloc();
+        let mut products = Products::new();
+        let mat = matrix_of(alloc, &[1, 2, 3, 4, 5, 6], 2)?;
+        let shifted = shift_rows(mat, BabyBear::TWO, &mut products);
+        assert!(rt; shifted == matrix_of(alloc, &[1, 2, 6, 8, 20, 24], 2)?);
+        Ok(())
     }
 }

@@ -1,13 +1,12 @@
 -- Euclid's algorithm modulo an odd number.
-use Rattle.std.proofs.Common.{◌≡◌, ℕ, ◌+◌, ◌-◌, ◌*◌, ◌/◌, ◌%◌, ◌<◌, sym, ◌∙◌, ap, ap₂, subst, arith, refl, List, [], ◌∷◌}
-use Rattle.std.proofs.Math.Nat.{mul_comm, mod-add-div, add-mod, add-mod-mod, mod-mod, dvd-add_iff_right, dvd-mul_right, eq-one_of_dvd-one}
+use Rattle.std.proofs.Common.{◌≡◌, ℕ, ◌+◌, ◌-◌, ◌*◌, ◌/◌, ◌%◌, ◌<◌, sym, ◌∙◌, ap, ap₂, subst, arith, refl, [], ◌∷◌}
+use Rattle.std.proofs.Math.Nat.{mul_comm, mod-add-div, add-mod, dvd-add_iff_right, dvd-mul_right, eq-one_of_dvd-one}
 use Rattle.std.proofs.lemmas.Nat.{mul-mod}
 use Rattle.std.proofs.lemmas.Nat.Gcd.{dvd_trans}
 use Rattle.std.specs.Int.{IsGcd, ◌∣◌}
-use Rattle.p3_field.specs.Modular.{mul-mod-mod}
+use Rattle.p3_field.specs.ResidueLaws.{mul-mod-mod}
 use Rattle.p3_field.specs.Residues.{Residue, residue-eq, residue_of, residues, IsProduct}
 use Rattle.p3_field.specs.Ring.{Ring, minus}
-use Rattle.p3_field.proofs.Rings
 use Rattle.p3_field.proofs.RingSolver.{solve, ◌⊞◌, ◌⊟◌, ◌⊠◌, va, vb, vc, vd}
 
 -- a step on the factors f and g of high and low, in any ring

@@ -1,5 +1,5 @@
 -- Residues modulo an odd number: sums of ones, halves, and powers by squarings.
-use Rattle.std.proofs.Common.{◌≡◌, ℕ, zero, suc, ◌+◌, ◌-◌, ◌*◌, ◌/◌, ◌%◌, ◌^◌, ◌<◌, refl, sym, ap, ◌∙◌, arith, one-add}
+use Rattle.std.proofs.Common.{◌≡◌, ℕ, zero, suc, ◌+◌, ◌/◌, ◌%◌, ◌^◌, ◌<◌, sym, ap, ◌∙◌, arith, one-add}
 use Rattle.std.proofs.Math.Nat.{add-mod-mod, add-mod_right, mod-eq_of_lt, two-pow-succ}
 use Rattle.p3_field.specs.Ring.{Ring, count, power}
 use Rattle.p3_field.specs.Residues.{Residue, residues, residue-eq}

@@ -1,7 +1,8 @@
--- The rings of the fields: residues modulo a prime, and a root of unity of the largest two-power order.
-use Rattle.std.proofs.Common.{ℕ, refl, lit<}
+-- The rings of the fields: residues modulo a prime, and the generators of the subgroups of two-power order.
+use Rattle.std.proofs.Common.{ℕ, ◌-◌, refl, lit<}
 use Rattle.p3_field.specs.Residues.{Residue, residues}
 use Rattle.p3_field.specs.Ring.{Ring}
+use Rattle.p3_field.specs.Squarings.{squared}
 
 -- 2^31 - 2^27 + 1
 abbrev pub baby_bear_modulus : ℕ
@@ -14,6 +15,10 @@ baby_bear_ring = residues baby_bear_modulus (lit< tt) refl
 abbrev pub baby_bear_root : Residue baby_bear_modulus
 baby_bear_root = record { number = 440564289; below = lit< tt }
 
+-- of order 2^bits
+abbrev pub baby_bear_generator : ℕ → Residue baby_bear_modulus
+baby_bear_generator bits = squared baby_bear_ring baby_bear_root (27 - bits)
+
 -- 2^64 - 2^32 + 1
 abbrev pub goldilocks_modulus : ℕ
 goldilocks_modulus = 18446744069414584321
@@ -24,3 +29,7 @@ goldilocks_ring = residues goldilocks_modulus (lit< tt) refl
 -- of order 2^32
 abbrev pub goldilocks_root : Residue goldilocks_modulus
 goldilocks_root = record { number = 1753635133440165772; below = lit< tt }
+
+-- of order 2^bits
+abbrev pub goldilocks_generator : ℕ → Residue goldilocks_modulus
+goldilocks_generator bits = squared goldilocks_ring goldilocks_root (32 - bits)

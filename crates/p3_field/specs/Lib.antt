@@ -1,6 +1,6 @@
+pub mod FieldLaws
 pub mod Fields
 pub mod Lanes
-pub mod Modular
 pub mod ResidueLaws
 pub mod Residues
 pub mod Ring

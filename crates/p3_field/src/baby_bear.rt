@@ -109,7 +109,7 @@ impl Neg for BabyBear {
 impl Field for BabyBear {
     ghost use Rattle.std.proofs.Common.{lit<, refl};
     ghost use Rattle.p3_field.specs.Residues.{Residue, residue-eq};
-    ghost use Rattle.p3_field.specs.ResidueLaws.{difference_law, eq_law, order_law};
+    ghost use Rattle.p3_field.specs.FieldLaws.{difference_law, eq_law, order_law};
     ghost use Rattle.p3_field.specs.Fields.{baby_bear_ring};
 
     ghost Element = { Residue baby_bear_modulus };
@@ -251,19 +251,19 @@ impl Packable for BabyBear {
 }
 
 impl TwoAdicField for BabyBear {
-    ghost use Rattle.std.specs.Prelude.{◌-◌};
     ghost use Rattle.std.proofs.Common.{lit≤, refl};
     ghost use Rattle.p3_field.specs.Residues.{residue-eq};
-    ghost use Rattle.p3_field.specs.Fields.{baby_bear_ring, baby_bear_root};
-    ghost use Rattle.p3_field.specs.Squarings.{squared, are_roots};
+    ghost use Rattle.p3_field.specs.Fields.{baby_bear_ring, baby_bear_root, baby_bear_generator};
+    ghost use Rattle.p3_field.specs.FieldLaws.{roots_law};
 
     const TWO_ADICITY: usize = 27;
 
     ghost TWO_ADICITY = { 27 };
 
-    ghost generator = { λ bits.
-        let root = squared baby_bear_ring baby_bear_root (27 - bits) in
-        record { number = root.number; below = root.below } };
+    ghost generator = { λ bits. record {
+      number = (baby_bear_generator bits).number;
+      below = (baby_bear_generator bits).below;
+    } };
 
     fn two_adic_generator(bits: usize) -> BabyBear {
         BabyBear::TOP_ROOT.exp_power_of_2(27 - bits)
@@ -271,7 +271,7 @@ impl TwoAdicField for BabyBear {
 
     ghost two_adicity_law = { lit≤ tt };
 
-    ghost roots_law = { are_roots baby_bear_ring baby_bear_root 27 (residue-eq _ _ refl) (residue-eq _ _ refl) };
+    ghost roots_law = { roots_law baby_bear_ring baby_bear_root 27 (residue-eq _ _ refl) (residue-eq _ _ refl) };
 }
 
 impl CanonicalField for BabyBear {

@@ -104,11 +104,11 @@ pub trait Field: Copy
     fn exp_power_of_2(self, n: usize) -> Self
         ensures { value result ≡ power ring (value self) (2 ^ n) }
     {
-        let mut square = self;
+        let mut power_so_far = self;
         for _i in 0..n {
-            square = square * square;
+            power_so_far = power_so_far * power_so_far;
         }
-        square
+        power_so_far
     }
 
     /// The element that is this many ones added up.

@@ -129,7 +129,7 @@ fn reduce(x: u128) -> u64
     add_and_reduce(subtract(low, top), middle * EPSILON)
 }
 
-// The difference, up to the modulus. It is below zero for one product in 2^32.
+// The difference by the modulus. It is below zero for about one product in 2^32.
 #[inline(always)]
 fn subtract(low: u64, top: u64) -> u64
     requires { top < 4294967296 }
@@ -152,16 +152,17 @@ fn subtract_below_zero(low: u64, top: u64) -> u64
     MODULUS - (top - low)
 }
 
-// The sum below the modulus. Past the carry it stands between the modulus and 2^64 for few products.
+// The remainder of a sum, whose second part is at most the square of `EPSILON`. Once the carry is
+// taken in, few sums are still past the modulus.
 #[inline(always)]
 fn add_and_reduce(x: u64, y: u64) -> u64
     requires { y ≤ 18446744065119617025 }
     ensures { result ≡ (x + y) % goldilocks_modulus }
 {
-    let (sum, carry) = x.overflowing_add(y);
-    if carry {
-        sum + EPSILON
-    } else if sum < MODULUS {
+    let (low, carry) = x.overflowing_add(y);
+    // One test after the carry, which comes about every second time, so that no branch hangs on it.
+    let sum = if carry { low + EPSILON } else { low };
+    if sum < MODULUS {
         sum
     } else {
         subtract_modulus(sum)
@@ -180,7 +181,7 @@ fn subtract_modulus(x: u64) -> u64
 impl Field for Goldilocks {
     ghost use Rattle.std.proofs.Common.{lit<, refl};
     ghost use Rattle.p3_field.specs.Residues.{Residue, residue-eq};
-    ghost use Rattle.p3_field.specs.ResidueLaws.{difference_law, eq_law, order_law};
+    ghost use Rattle.p3_field.specs.FieldLaws.{difference_law, eq_law, order_law};
     ghost use Rattle.p3_field.specs.Fields.{goldilocks_ring};
 
     ghost Element = { Residue goldilocks_modulus };
@@ -320,19 +321,19 @@ impl Packable for Goldilocks {
 }
 
 impl TwoAdicField for Goldilocks {
-    ghost use Rattle.std.specs.Prelude.{◌-◌};
     ghost use Rattle.std.proofs.Common.{lit≤, refl};
     ghost use Rattle.p3_field.specs.Residues.{residue-eq};
-    ghost use Rattle.p3_field.specs.Fields.{goldilocks_ring, goldilocks_root};
-    ghost use Rattle.p3_field.specs.Squarings.{squared, are_roots};
+    ghost use Rattle.p3_field.specs.Fields.{goldilocks_ring, goldilocks_root, goldilocks_generator};
+    ghost use Rattle.p3_field.specs.FieldLaws.{roots_law};
 
     const TWO_ADICITY: usize = 32;
 
     ghost TWO_ADICITY = { 32 };
 
-    ghost generator = { λ bits.
-        let root = squared goldilocks_ring goldilocks_root (32 - bits) in
-        record { number = root.number; below = root.below } };
+    ghost generator = { λ bits. record {
+      number = (goldilocks_generator bits).number;
+      below = (goldilocks_generator bits).below;
+    } };
 
     fn two_adic_generator(bits: usize) -> Goldilocks {
         Goldilocks::TOP_ROOT.exp_power_of_2(32 - bits)
@@ -340,7 +341,7 @@ impl TwoAdicField for Goldilocks {
 
     ghost two_adicity_law = { lit≤ tt };
 
-    ghost roots_law = { are_roots goldilocks_ring goldilocks_root 32 (residue-eq _ _ refl) (residue-eq _ _ refl) };
+    ghost roots_law = { roots_law goldilocks_ring goldilocks_root 32 (residue-eq _ _ refl) (residue-eq _ _ refl) };
 }
 
 impl CanonicalField for Goldilocks {

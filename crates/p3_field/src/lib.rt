@@ -1,4 +1,9 @@
 //! Finite fields with roots of unity of two-power order, as the transforms use them.
+//!
+//! `Field` has the operations of a commutative ring with one in which halving is exact, and their
+//! laws; `TwoAdicField` adds the roots of unity, `CanonicalField` the numbers below a modulus.
+//! `BabyBear` and `Goldilocks` are such fields. `PackedField` handles several scalars by one
+//! operation, and `Products` counts the products that were made, for contracts alone.
 #![tactic(auto)]
 
 pub mod baby_bear;
@@ -11,7 +16,7 @@ pub mod two_adic;
 pub use baby_bear::BabyBear;
 pub use fields::Field;
 pub use goldilocks::Goldilocks;
-pub use packed::{Packable, Packed, PackedField, Products, scale_slice, scaled};
+pub use packed::{Packable, Packed, PackedField, Products, scaled};
 pub use two_adic::{CanonicalField, TwoAdicField};
 
 #[cfg(test)]

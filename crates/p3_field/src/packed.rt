@@ -1,6 +1,6 @@
 //! Packed values: several scalars that one operation handles together, and the counter of products.
 
-ghost use Rattle.std.specs.Prelude.{◌≡◌, ◌<◌, ◌≤◌, ◌+◌, ℕ, List, [], ◌∷◌, get_or, length, map, replicate};
+ghost use Rattle.std.specs.Prelude.{◌≡◌, ◌≤◌, ◌+◌, ℕ, List, [], ◌∷◌, length, map, replicate};
 ghost use Rattle.p3_field.specs.Ring.{minus};
 ghost use Rattle.p3_field.specs.Lanes.{by_lanes};
 
@@ -119,15 +119,4 @@ pub fn scaled<F: Packable>(x: F, t: F, products: &mut Products) -> F
     ensures count { products.new ≡ products.old + 1 }
 {
     x.scaled(t, products)
-}
-
-/// Multiplies each element of a slice by `t`, which `products` counts.
-pub fn scale_slice<F: Packable>(values: &mut [F], t: F, products: &mut Products)
-    ensures values { (j : ℕ) → j < length values.old → F.value (get_or values.new j F.ZERO)
-        ≡ F.ring.mul (F.value (get_or values.old j F.ZERO)) (F.value t) }
-    ensures count { products.new ≡ products.old + length values.old }
-{
-    for value in values.iter_mut() {
-        *value = scaled(*value, t, products);
-    }
 }

@@ -1,7 +1,10 @@
 pub mod BitReversal
+pub mod ButterflyLaws
 pub mod Carries
 pub mod HalfReversed
+pub mod Lanes
 pub mod Matrices
 pub mod RowExchanges
 pub mod RowMajor
+pub mod RowsByPacks
 pub mod TwoPowers

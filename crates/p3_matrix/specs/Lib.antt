@@ -1,4 +1,5 @@
 pub mod BitOrder
+pub mod Butterflies
 pub mod Exchange
 pub mod Matrix
 pub mod RowMajor

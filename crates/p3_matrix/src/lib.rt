@@ -2,15 +2,23 @@
 #![tactic(auto)]
 
 pub mod bitrev;
+pub mod butterflies;
 pub mod dense;
 pub mod error;
 pub mod evaluations;
+mod packs;
+pub mod scale;
 pub mod util;
 pub mod views;
 
 pub use bitrev::{reverse_bits_len, reverse_matrix_index_bits, reverse_slice_index_bits};
+pub use butterflies::{
+    Butterfly, DifButterfly, DifButterflyZeros, DitButterfly, ScaledDitButterfly,
+    TwiddleFreeButterfly,
+};
 pub use dense::RowMajorMatrix;
 pub use error::DftError;
 pub use evaluations::{Evaluations, IntoRowMajorMatrix};
+pub use scale::scale_slice_in_place;
 pub use util::{log2_strict_usize, swap_rows};
 pub use views::{RowMajorMatrixView, RowMajorMatrixViewMut, split_rows_mut};

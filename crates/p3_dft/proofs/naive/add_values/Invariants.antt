@@ -1,4 +1,4 @@
-use Rattle.std.proofs.Common.{◌≡◌, ℕ, ◌+◌, ◌*◌, get_or}
+use Rattle.std.proofs.Common.{◌≡◌, ◌+◌, ◌*◌, get_or}
 use Rattle.p3_field.specs.Ring.{power}
 use Rattle.p3_dft.specs.Polynomials.{poly}
 use Rattle.p3_dft.proofs.Rows.{RowsDone}

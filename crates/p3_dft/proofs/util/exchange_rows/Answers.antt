@@ -1,4 +1,4 @@
-use Rattle.std.proofs.Common.{rules, ◌≡◌, subst}
+use Rattle.std.proofs.Common.{rules, subst}
 use Rattle.p3_matrix.specs.RowMajor.{RowMajor}
 use Rattle.p3_matrix.specs.Matrix.{Same, exchanged, matrix}
 use Rattle.p3_dft.proofs.util.exchange_rows.Goals as goal

@@ -1,4 +1,4 @@
-use Rattle.std.proofs.Common.{◌≡◌, ℕ, ◌+◌, ◌*◌, ◌-◌, ◌/◌, ◌<◌, ◌≤◌, length, ap, ap₂, sym, ◌∙◌, arith, subst}
+use Rattle.std.proofs.Common.{◌≡◌, ℕ, ◌+◌, ◌*◌, ◌-◌, ◌/◌, length, ap₂, sym, ◌∙◌, arith, subst}
 use Rattle.p3_matrix.specs.RowMajor.{height}
 use Rattle.p3_matrix.specs.Matrix.{matrix}
 use Rattle.p3_dft.proofs.Opposite.{OppositeUntil}
@@ -19,8 +19,8 @@ loop-row-preserved g c =
     record {
       shape = (c.exchange_rows.ensures.shape.0 ∙ shape.0, c.exchange_rows.ensures.shape.1 ∙ shape.1);
       rows = λ d j inside.
-        subst (λ (q : ℕ). OppositeUntil n q (λ i. (matrix d before).entry i j) (λ i. (matrix d next).entry i j)) (sym more)
-        (opposed_more d before now next n row (row - 1) (omega arith) tall size (omega arith) c.exchange_rows.ensures.shape (c.exchange_rows.ensures.rows d) j (omega (arith, shape.0)) (c.loop-row.invariant.rows d j inside));
+          subst (λ (q : ℕ). OppositeUntil n q (λ i. (matrix d before).entry i j) (λ i. (matrix d next).entry i j)) (sym more)
+          (opposed_more d before now next n row (row - 1) (omega arith) tall size (omega arith) c.exchange_rows.ensures.shape (c.exchange_rows.ensures.rows d) j (omega (arith, shape.0)) (c.loop-row.invariant.rows d j inside));
     }
 
 pub returns-clause-rows : goal.returns-clause-rows

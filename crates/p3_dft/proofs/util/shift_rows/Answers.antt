@@ -1,4 +1,4 @@
-use Rattle.std.proofs.Common.{◌≡◌, ◌*◌, ◌≤◌, length, sym, ap, ◌∙◌, refl, arith, rules}
+use Rattle.std.proofs.Common.{◌≡◌, ◌*◌, length, sym, ap, ◌∙◌, refl, arith, rules}
 use Rattle.std.proofs.lemmas.Grind.{common_steps}
 use Rattle.p3_field.specs.Ring.{power}
 use Rattle.p3_field.proofs.Powers.{power_of_one}
@@ -16,8 +16,8 @@ returns-then-eq-clause-shifted g c =
       high = refl;
       wide = refl;
       alike = λ i j below inside.
-        let x = (values_of field c.args.mat).entry i j in
-        sym (ap (λ s. field.ring.mul x (power field.ring s i)) one ∙ ap (field.ring.mul x) (power_of_one field.ring i) ∙ field.ring.mul_one x);
+          let x = (values_of field c.args.mat).entry i j in
+          sym (ap (λ s. field.ring.mul x (power field.ring s i)) one ∙ ap (field.ring.mul x) (power_of_one field.ring i) ∙ field.ring.mul_one x);
     }
 
 pub returns-clause-shifted : goal.returns-clause-shifted

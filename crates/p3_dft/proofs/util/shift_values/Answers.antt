@@ -1,8 +1,8 @@
-use Rattle.std.proofs.Common.{◌≡◌, ℕ, ◌+◌, ◌*◌, ◌-◌, ◌≤◌, take, drop, length, get_or, sym, ap, ap₂, ◌∙◌, arith, rules, add-one}
+use Rattle.std.proofs.Common.{◌≡◌, ◌+◌, ◌*◌, ◌-◌, ◌≤◌, take, drop, length, sym, ap, ap₂, ◌∙◌, arith, rules, add-one}
 use Rattle.std.proofs.Math.Nat.{suc-mul, mul-le-mul_right}
 use Rattle.std.proofs.lemmas.List.{places}
 use Rattle.p3_field.proofs.Powers.{power-zero, power-more}
-use Rattle.p3_dft.proofs.Rows.{rows-none, rows-more, part_at}
+use Rattle.p3_dft.proofs.Rows.{rows-none, rows-more, part_at, value_at}
 use Rattle.p3_dft.proofs.util.shift_values.Goals as goal
 
 pub loop-i-init : goal.loop-i-init
@@ -23,16 +23,16 @@ loop-i-preserved g c =
     let next : (i + 1) * w ≡ i * w + w = rw add-one (suc-mul i w) in
     let room : i * w + w ≤ length c.loop-i.values = omega (arith, mul-le-mul_right w c.loop-i-test.true, next, c.requires, c.loop-i.auto.values) in
     let old_len : length (take ((i * w + w) - i * w) (drop (i * w) c.loop-i.values)) ≡ w = search (rules, places) in
-    let len : length c.scale_slice.new.values ≡ w = c.scale_slice.auto.values ∙ old_len in
+    let len : length c.scale_slice_in_place.new.values ≡ w = c.scale_slice_in_place.auto.values ∙ old_len in
     record {
       factor = g.met.F.Field.mul_law _ _ _ c.mul-power.ensures ∙ ap (λ x. field.ring.mul x (field.value c.args.shift)) c.loop-i.invariant.factor
           ∙ sym (power-more field.ring (field.value c.args.shift) i);
-      values = rows-more field.ZERO w _ _ c.loop-i.values c.scale_slice.new.values i _ m room len
+      values = rows-more field.ZERO w _ _ c.loop-i.values c.scale_slice_in_place.new.values i _ m room len
           (λ k inside.
-            let entry = ap field.value (part_at c.loop-i.values (i * w) ((i * w + w) - i * w) k field.ZERO (omega arith) ∙ c.loop-i.invariant.values.rest (i * w + k) (omega arith)) in
-            c.scale_slice.ensures.values k (omega arith) ∙ ap₂ field.ring.mul entry c.loop-i.invariant.factor)
+          let entry = ap field.value (part_at c.loop-i.values (i * w) ((i * w + w) - i * w) k field.ZERO (omega arith) ∙ c.loop-i.invariant.values.rest (i * w + k) (omega arith)) in
+          value_at field.value (λ x. field.ring.mul x (field.value c.loop-i.power)) (take ((i * w + w) - i * w) (drop (i * w) c.loop-i.values)) c.scale_slice_in_place.new.values k field.ZERO c.scale_slice_in_place.ensures.values c.scale_slice_in_place.auto.values (omega arith) ∙ ap₂ field.ring.mul entry c.loop-i.invariant.factor)
           c.loop-i.invariant.values;
-      count = omega (arith, next, c.scale_slice.ensures.count, c.loop-i.invariant.count, old_len);
+      count = omega (arith, next, c.scale_slice_in_place.ensures.count, c.loop-i.invariant.count, old_len);
     }
 
 pub returns-clause-values : goal.returns-clause-values

@@ -1,6 +1,6 @@
 use Rattle.std.proofs.Common.{ap, [], ◌∷◌}
 use Rattle.p3_field.specs.Fields.{baby_bear_modulus}
-use Rattle.p3_field.specs.ResidueLaws.{difference_law}
+use Rattle.p3_field.specs.FieldLaws.{difference_law}
 use Rattle.p3_field.specs.Residues.{Residue, residue-eq}
 use Rattle.p3_field.proofs.baby_bear.BabyBearPackedField.sub.Goals as goal
 

@@ -10,5 +10,5 @@ loop-i-init g c =
 
 pub loop-i-preserved : goal.loop-i-preserved
 loop-i-preserved g c =
-    g.met.Self.Field.mul_law c.loop-i.square c.loop-i.square c.mul-square.result c.mul-square.ensures
+    g.met.Self.Field.mul_law c.loop-i.power_so_far c.loop-i.power_so_far c.mul-power_so_far.result c.mul-power_so_far.ensures
     ∙ power-double g.Self.Field.ring _ _ c.loop-i._i c.loop-i.invariant

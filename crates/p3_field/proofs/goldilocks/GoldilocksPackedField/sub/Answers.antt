@@ -1,6 +1,6 @@
 use Rattle.std.proofs.Common.{ap, [], ◌∷◌}
 use Rattle.p3_field.specs.Fields.{goldilocks_modulus}
-use Rattle.p3_field.specs.ResidueLaws.{difference_law}
+use Rattle.p3_field.specs.FieldLaws.{difference_law}
 use Rattle.p3_field.specs.Residues.{Residue, residue-eq}
 use Rattle.p3_field.proofs.goldilocks.GoldilocksPackedField.sub.Goals as goal
 

@@ -1,0 +1,37 @@
+-- Tests of the elements of a list, seen by a function.
+use Rattle.std.proofs.Common.{◌≡◌, ℕ, ◌+◌, ◌<◌, ◌≤◌, Bool, true, false, ◌||◌, List, [], ◌∷◌, length, get_or, take, map, refl, sym, ap, ap₂, ◌∙◌, Option, Some, None, IsSome, IsNone, ◌↔◌, nat_le, le-leb}
+use Rattle.std.specs.List.{list_any}
+use Rattle.std.proofs.lemmas.List.{take_all}
+use Rattle.std.proofs.lemmas.List.Folds.{list_any_at, list_any_more}
+
+module _ {X Y : Type 0} (test : Y → Bool) (f : X → Y) where
+  any_mapped : (xs : List X) → list_any test (map f xs) ≡ list_any (λ x. test (f x)) xs
+  any_mapped [] = refl
+  any_mapped (x ∷ xs) = ap (λ b. test (f x) || b) (any_mapped xs)
+
+  -- this one does
+  pub passes_at : (xs : List X) (i : ℕ) (d : X) → i < length xs → test (f (get_or xs i d)) ≡ true → true ≡ list_any test (map f xs)
+  passes_at xs i d h e = sym (any_mapped xs ∙ list_any_at (λ x. test (f x)) xs i d h e)
+
+  -- none of the first i + 1 does
+  pub none_more : (xs : List X) (i : ℕ) (d : X) → i < length xs → list_any test (map f (take i xs)) ≡ false → test (f (get_or xs i d)) ≡ false
+      → list_any test (map f (take (i + 1) xs)) ≡ false
+  none_more xs i d h before here =
+      any_mapped (take (i + 1) xs) ∙ list_any_more (λ x. test (f x)) xs i d h ∙ ap₂ (λ a b. a || b) (sym (any_mapped (take i xs)) ∙ before) here
+
+  -- none at all
+  pub none_passes : (xs : List X) (i : ℕ) → length xs ≤ i → list_any test (map f (take i xs)) ≡ false → false ≡ list_any test (map f xs)
+  none_passes xs i h e = sym (ap (λ ys. list_any test (map f ys)) (sym (take_all i xs h)) ∙ e)
+
+  -- and so this one does not
+  pub fails_at : (xs : List X) (i : ℕ) (d : X) → i < length xs → list_any test (map f xs) ≡ false → test (f (get_or xs i d)) ≡ false
+  fails_at xs i d h none = by_cases (test (f (get_or xs i d))) refl
+    where
+      by_cases : (b : Bool) → test (f (get_or xs i d)) ≡ b → b ≡ false
+      by_cases true e = absurd (cc (passes_at xs i d h e, none))
+      by_cases false e = refl
+
+-- a number below the bound is one that a function with that bound takes
+pub some_below : {T : Type 0} (o : Option T) (bound n : ℕ) → IsNone o ↔ (bound ≤ n) → nat_le bound n ≡ false → IsSome o
+some_below (Some x) bound n d h = refl
+some_below None bound n d h = absurd (cc (le-leb bound n (d.0 refl), h))

@@ -1,0 +1,18 @@
+-- The names of fields, engines and operations on the command line.
+use Rattle.std.specs.Prelude.{ℕ, List, Option, Some, None, codes, if◌then◌else◌}
+use Rattle.std.specs.Str.{bytes_eq}
+use Rattle.dft.specs.declared.names.FieldName.{FieldName}
+use Rattle.dft.specs.declared.names.FieldName.TheVariants.{BabyBear}
+use Rattle.dft.specs.declared.names.EngineName.{EngineName}
+use Rattle.dft.specs.declared.names.EngineName.TheVariants.{Naive}
+use Rattle.dft.specs.declared.names.Operation.{Operation}
+use Rattle.dft.specs.declared.names.Operation.TheVariants.{Dft}
+
+abbrev pub field_named : List ℕ → Option FieldName
+field_named word = if bytes_eq word (codes "babybear") then Some BabyBear else None
+
+abbrev pub engine_named : List ℕ → Option EngineName
+engine_named word = if bytes_eq word (codes "naive") then Some Naive else None
+
+abbrev pub operation_named : List ℕ → Option Operation
+operation_named word = if bytes_eq word (codes "dft") then Some Dft else None

@@ -1,0 +1,68 @@
+//! Why the program has no answer.
+
+ghost use Rattle.std.specs.Prelude.{◌≡◌};
+ghost use Rattle.dft.specs.Faults.{line_of};
+ghost use Rattle.dft.specs.declared.fault.Stopped.TheVariants.{Refused, OutOfMemory};
+
+use p3_dft::DftError;
+use std::alloc::AllocError;
+
+/// What is wrong with the words.
+#[derive(Clone, Copy)]
+pub enum Fault {
+    UnknownField,
+    UnknownEngine,
+    UnknownOperation,
+    TooFewWords,
+    NotANumber,
+    NotBelowModulus,
+    UnfitShape,
+}
+
+impl Fault {
+    /// The line that tells it, with its line feed.
+    pub fn line(self) -> &'static str
+        ensures { result.now ≡ line_of self }
+    {
+        match self {
+            Fault::UnknownField => "error 1: unknown field\n",
+            Fault::UnknownEngine => "error 2: unknown engine\n",
+            Fault::UnknownOperation => "error 3: unknown operation\n",
+            Fault::TooFewWords => "error 4: too few words\n",
+            Fault::NotANumber => "error 5: not a number\n",
+            Fault::NotBelowModulus => "error 6: number not below the modulus\n",
+            Fault::UnfitShape => "error 7: shape does not fit\n",
+        }
+    }
+}
+
+/// Why there is no answer.
+#[derive(Clone, Copy)]
+pub enum Stopped {
+    Refused(Fault),
+    OutOfMemory,
+}
+
+impl From<Fault> for Stopped {
+    ghost from_gives = { λ fault e. e ≡ Refused fault };
+
+    fn from(fault: Fault) -> Stopped {
+        Stopped::Refused(fault)
+    }
+}
+
+impl From<DftError> for Stopped {
+    ghost from_gives = { λ _ e. e ≡ OutOfMemory };
+
+    fn from(_error: DftError) -> Stopped {
+        Stopped::OutOfMemory
+    }
+}
+
+impl From<AllocError> for Stopped {
+    ghost from_gives = { λ _ e. e ≡ OutOfMemory };
+
+    fn from(_error: AllocError) -> Stopped {
+        Stopped::OutOfMemory
+    }
+}

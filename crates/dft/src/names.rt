@@ -1,0 +1,58 @@
+//! The names of fields, engines and operations on the command line.
+
+ghost use Rattle.std.specs.Prelude.{◌≡◌};
+ghost use Rattle.dft.specs.Names.{field_named, engine_named, operation_named};
+
+/// A field that has a name on the command line.
+#[derive(Clone, Copy)]
+pub enum FieldName {
+    BabyBear,
+}
+
+impl FieldName {
+    /// The field of this name.
+    pub fn of(word: &str) -> Option<FieldName>
+        ensures { result ≡ field_named word.now }
+    {
+        match word {
+            "babybear" => Some(FieldName::BabyBear),
+            _ => None,
+        }
+    }
+}
+
+/// An engine that has a name on the command line.
+#[derive(Clone, Copy)]
+pub enum EngineName {
+    Naive,
+}
+
+impl EngineName {
+    /// The engine of this name.
+    pub fn of(word: &str) -> Option<EngineName>
+        ensures { result ≡ engine_named word.now }
+    {
+        match word {
+            "naive" => Some(EngineName::Naive),
+            _ => None,
+        }
+    }
+}
+
+/// An operation that has a name on the command line.
+#[derive(Clone, Copy)]
+pub enum Operation {
+    Dft,
+}
+
+impl Operation {
+    /// The operation of this name.
+    pub fn of(word: &str) -> Option<Operation>
+        ensures { result ≡ operation_named word.now }
+    {
+        match word {
+            "dft" => Some(Operation::Dft),
+            _ => None,
+        }
+    }
+}

@@ -1,0 +1,15 @@
+use Rattle.std.proofs.Common.{subst, sym}
+use Rattle.p3_matrix.specs.RowMajor.{RowMajor}
+use Rattle.p3_dft.specs.Transforms.{IsTransform}
+use Rattle.p3_dft.proofs.Inverses.{interpolation_of_quotient}
+use Rattle.p3_dft.proofs.traits.TwoAdicSubgroupDft.idft_batch.Goals as goal
+
+pub returns-clause-coefficients : goal.returns-clause-coefficients
+returns-clause-coefficients g c =
+    let field = g.F.Field in
+    let generator = g.F.TwoAdicField.generator in
+    let m = g.N.IntoRowMajorMatrix.stored c.args.mat in
+    interpolation_of_quotient field generator g.F.TwoAdicField.TWO_ADICITY g.met.F.TwoAdicField.roots_law m
+    c.to_row_major_matrix-values.result c.coefficients_from_values-coefficients.result c.requires.log c.requires.within c.requires.high
+    (subst (λ (y : RowMajor g.row.F.Denot). IsTransform field generator m field.ring.one y) (sym c.to_row_major_matrix-values.ensures) c.in_ok-dft_batch.ensures.values)
+    c.coefficients_from_values-coefficients.ensures.coefficients

@@ -1,0 +1,38 @@
+-- Proofs, and no definitions: what an implementation of a field by residues owes beside `residue-eq`.
+use Rattle.std.proofs.Common.{◌≡◌, ◌↔◌, ℕ, zero, suc, ◌+◌, ◌-◌, ◌%◌, IsTrue, nat_cmp, refl, sym, ap, ◌∙◌, arith}
+use Rattle.std.proofs.lemmas.Bool.{eqb-true, eq-eqb}
+use Rattle.std.proofs.Math.Dec.{eqb}
+use Rattle.std.proofs.Math.Nat.{add-mod-mod}
+use Rattle.p3_field.specs.Residues.{Residue, residue-eq, IsDifference}
+use Rattle.p3_field.specs.Ring.{Ring, AreRoots}
+use Rattle.p3_field.specs.Squarings.{squared}
+
+-- a difference is the sum with a negative
+pub difference_law : (m a b r : ℕ) → IsDifference m a b r → r ≡ (a + (m - b) % m) % m
+difference_law m a b r is = is ∙ sym (add-mod-mod a (m - b) m)
+
+module _ {m : ℕ} where
+  -- equality and order of the numbers
+  pub eq_law : (x y : Residue m) → IsTrue (eqb x.number y.number) ↔ (x ≡ y)
+  eq_law x y = (λ t. residue-eq x y (eqb-true x.number y.number t), λ e. eq-eqb x.number y.number (ap (λ (z : Residue m). z.number) e))
+
+  pub order_law : (a b c d : Residue m) → a ≡ c → b ≡ d → nat_cmp a.number b.number ≡ nat_cmp c.number d.number
+  order_law a b c d e f =
+      let left : a.number ≡ c.number = ap (λ (x : Residue m). x.number) e in
+      let right : b.number ≡ d.number = ap (λ (x : Residue m). x.number) f in
+      cc
+
+module _ {A : Type 0} (r : Ring A) where
+  squared-suc : (x : A) (n : ℕ) → squared r x (suc n) ≡ r.mul (squared r x n) (squared r x n)
+  squared-suc x zero = refl
+  squared-suc x (suc n) = squared-suc (r.mul x x) n
+
+  -- the squarings of a root, from the last one on
+  pub roots_law : (root : A) (bits : ℕ) → squared r root (bits - 0) ≡ r.one → squared r root (bits - 1) ≡ r.neg r.one → AreRoots r bits (λ i. squared r root (bits - i))
+  roots_law root bits one minus_one = record {
+    first = one;
+    second = minus_one;
+    square = λ i below.
+        let e : bits - i ≡ suc (bits - suc i) = omega (arith, below) in
+        sym (squared-suc root (bits - suc i)) ∙ ap (squared r root) (sym e);
+  }

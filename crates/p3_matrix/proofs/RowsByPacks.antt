@@ -1,0 +1,63 @@
+-- Rows that are worked through pack by pack: what they hold when the places below i are done.
+use Rattle.std.proofs.Common.{◌≡◌, ℕ, zero, suc, ◌+◌, ◌*◌, ◌<◌, ◌≤◌, List, ◌++◌, length, take, drop, map, sym, ap, ap₂, ◌∙◌, arith, append_assoc, append-nil}
+use Rattle.std.proofs.Math.Seq.{take-add, take-length, drop-length}
+use Rattle.std.proofs.lemmas.List.{take_at, drop_at, take-map, drop-map, map-append, drop-drop, length-map, length-take-le}
+use Rattle.p3_field.specs.Lanes.{by_lanes}
+use Rattle.p3_matrix.proofs.Lanes.{by_lanes-append, length-by_lanes}
+
+module _ {E : Type 0} (op : E → E → E) where
+  -- the operation on xs and ys below i, and zs from there on
+  abbrev pub rows_done : ℕ → List E → List E → List E → List E
+  rows_done i xs ys zs = by_lanes op (take i xs) (take i ys) ++ drop i zs
+
+  done_below : (i : ℕ) (xs ys : List E) → i ≤ length xs → length xs ≡ length ys → length (by_lanes op (take i xs) (take i ys)) ≡ i
+  done_below i xs ys l e =
+      let a = length-take-le i xs l in
+      let b = length-take-le i ys (omega arith) in
+      length-by_lanes op (take i xs) (take i ys) (a ∙ sym b) ∙ a
+
+  done_more : (i k : ℕ) (xs ys : List E) → i + k ≤ length xs → length xs ≡ length ys
+      → by_lanes op (take (i + k) xs) (take (i + k) ys) ≡ by_lanes op (take i xs) (take i ys) ++ by_lanes op (take k (drop i xs)) (take k (drop i ys))
+  done_more i k xs ys l e =
+      ap₂ (by_lanes op) (take-add i k xs) (take-add i k ys)
+      ∙ by_lanes-append op (take i xs) (take i ys) (take k (drop i xs)) (take k (drop i ys)) (length-take-le i xs (omega arith) ∙ sym (length-take-le i ys (omega arith)))
+
+  -- all places are done
+  pub rows_done_all : (i : ℕ) (xs ys zs : List E) → i ≡ length xs → length xs ≡ length ys → length xs ≡ length zs → rows_done i xs ys zs ≡ by_lanes op xs ys
+  rows_done_all i xs ys zs e f h =
+      ap₂ (λ us vs. by_lanes op us vs ++ drop i zs) (ap (λ n. take n xs) e ∙ take-length xs) (ap (λ n. take n ys) (e ∙ f) ∙ take-length ys)
+      ∙ ap (λ s. by_lanes op xs ys ++ s) (ap (λ n. drop n zs) (e ∙ h) ∙ drop-length zs) ∙ append-nil (by_lanes op xs ys)
+
+  module _ {F : Type 0} (v : F → E) (i : ℕ) (xs ys zs : List E) (cs : List F) where
+    -- the next pack is unchanged
+    pub next_pack : (k : ℕ) → i ≤ length xs → length xs ≡ length ys → map v cs ≡ rows_done i xs ys zs → map v (take k (drop i cs)) ≡ take k (drop i zs)
+    next_pack k l e done =
+        sym (take-map v k (drop i cs)) ∙ ap (take k) (sym (drop-map v i cs) ∙ ap (drop i) done ∙ drop_at (by_lanes op (take i xs) (take i ys)) (drop i zs) i (done_below i xs ys l e))
+
+    -- one more pack is done
+    pub pack_done : (k n : ℕ) (ps : List F) → i + k ≤ length xs → length xs ≡ length ys → n ≡ i + k → map v cs ≡ rows_done i xs ys zs
+        → map v ps ≡ by_lanes op (take k (drop i xs)) (take k (drop i ys)) → map v (take i cs ++ (ps ++ drop k (drop i cs))) ≡ rows_done n xs ys zs
+    pack_done k n ps l e is done pack =
+        let here = by_lanes op (take i xs) (take i ys) in
+        let long = done_below i xs ys (omega arith) e in
+        let first : map v (take i cs) ≡ here = sym (take-map v i cs) ∙ ap (take i) done ∙ take_at here (drop i zs) i long in
+        let rest : map v (drop k (drop i cs)) ≡ drop n zs =
+        sym (drop-map v k (drop i cs)) ∙ ap (drop k) (sym (drop-map v i cs) ∙ ap (drop i) done ∙ drop_at here (drop i zs) i long) ∙ drop-drop k i zs ∙ ap (λ m. drop m zs) (sym is)
+        in
+        map-append v (take i cs) (ps ++ drop k (drop i cs))
+        ∙ ap₂ ◌++◌ first (map-append v ps (drop k (drop i cs)) ∙ ap₂ ◌++◌ pack rest)
+        ∙ sym (append_assoc here (by_lanes op (take k (drop i xs)) (take k (drop i ys))) (drop n zs))
+        ∙ ap (λ s. s ++ drop n zs) (sym (done_more i k xs ys l e) ∙ ap (λ m. by_lanes op (take m xs) (take m ys)) (sym is))
+
+-- where whole packs are left of n places, one more fits
+pub pack_fits : (i k w n : ℕ) → i < n → i + k * w ≡ n → (j : ℕ) × (i + w + j * w ≡ n)
+pack_fits i zero w n l e = absurd (omega arith)
+pack_fits i (suc j) w n l e = (j, omega arith)
+
+-- an operation on rows, by two parts of them
+pub rows_in_parts : {F E : Type 0} (v : F → E) (op : E → E → E) (xs ys us us' vs vs' ps qs : List F) → xs ≡ us ++ us' → ys ≡ vs ++ vs' → length us ≡ length vs
+    → map v ps ≡ by_lanes op (map v us) (map v vs) → map v qs ≡ by_lanes op (map v us') (map v vs') → map v (ps ++ qs) ≡ by_lanes op (map v xs) (map v ys)
+rows_in_parts v op xs ys us us' vs vs' ps qs e f l p q =
+    map-append v ps qs ∙ ap₂ ◌++◌ p q
+    ∙ sym (by_lanes-append op (map v us) (map v vs) (map v us') (map v vs') (length-map us v ∙ l ∙ sym (length-map vs v)))
+    ∙ ap₂ (by_lanes op) (sym (ap (map v) e ∙ map-append v us us')) (sym (ap (map v) f ∙ map-append v vs vs'))

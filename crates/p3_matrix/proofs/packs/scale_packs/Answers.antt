@@ -1,0 +1,35 @@
+use Rattle.std.proofs.Common.{◌≡◌, ◌+◌, ◌-◌, ◌≤◌, length, map, drop, take, refl, sym, ap, ◌∙◌, arith}
+use Rattle.std.proofs.lemmas.List.{length-map}
+use Rattle.p3_matrix.proofs.Lanes.{by_lanes_of_left}
+use Rattle.p3_matrix.proofs.RowsByPacks.{next_pack, pack_done, pack_fits, rows_done_all}
+use Rattle.p3_matrix.proofs.packs.scale_packs.Goals as goal
+
+pub loop-at-preserved : goal.loop-at-preserved
+loop-at-preserved g c =
+    let f = g.F.Field in
+    let times = λ (x : f.Element). f.ring.mul x (f.value c.args.t) in
+    let op = λ (x y : f.Element). times x in
+    let l = c.loop-at in
+    let w = c.WIDTH-width.result in
+    let k = l.at + w - l.at in
+    let xs = map f.value c.args.values.now in
+    let fits = pack_fits l.at l.invariant.left.0 w (length c.args.values.now) (omega (arith, c.loop-at-test.true, l.auto.values)) l.invariant.left.1 in
+    let here : l.at + w ≡ l.at + k = omega arith in
+    let within : l.at + k ≤ length xs = omega (arith, length-map c.args.values.now f.value, fits.1) in
+    let part = next_pack op f.value l.at xs xs xs l.values k (omega arith) refl l.invariant.done in
+    record {
+      width = l.invariant.width;
+      left = fits;
+      done = pack_done op f.value l.at xs xs xs l.values k (l.at + w) c.scale_pack.new.part within refl here l.invariant.done
+          (c.scale_pack.ensures.values ∙ ap (map times) part ∙ sym (by_lanes_of_left times (take k (drop l.at xs)) (take k (drop l.at xs)) refl));
+      count = omega (arith, c.scale_pack.ensures.count, l.invariant.count, c.WIDTH-width.ensures);
+    }
+
+pub returns-clause-values : goal.returns-clause-values
+returns-clause-values g c =
+    let f = g.F.Field in
+    let times = λ (x : f.Element). f.ring.mul x (f.value c.args.t) in
+    let l = c.loop-at in
+    let xs = map f.value c.args.values.now in
+    let all : l.at ≡ length xs = omega (arith, length-map c.args.values.now f.value, c.loop-at-test.false, l.auto.values, l.invariant.left.1) in
+    l.invariant.done ∙ rows_done_all (λ x y. times x) l.at xs xs xs all refl refl ∙ by_lanes_of_left times xs xs refl

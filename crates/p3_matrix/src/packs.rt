@@ -1,0 +1,131 @@
+// Rows that are taken pack by pack: a packed value from each of `WIDTH` places.
+
+ghost use Rattle.std.specs.Prelude.{◌≡◌, ◌+◌, ◌*◌, ◌<◌, ◌≤◌, ℕ, length, map};
+ghost use Rattle.p3_field.specs.Ring.{Ring};
+ghost use Rattle.p3_field.specs.Lanes.{by_lanes};
+
+use crate::butterflies::Butterfly;
+use p3_field::{Packable, PackedField, Products};
+
+// How many of `size` places full packs of `width` take up.
+pub(crate) fn full_packs(size: usize, width: usize) -> usize
+    requires { 1 ≤ width }
+    ensures within { result ≤ size }
+    ensures whole { (k : ℕ) × result ≡ k * width }
+    ensures most { size < result + width }
+{
+    size - size % width
+}
+
+// Takes two rows of full packs to the near and the far row.
+pub(crate) fn apply_to_packs<F: Packable, P: PackedField<Scalar = F>, B: Butterfly<F>>(
+    butterfly: &B,
+    row_1: &mut [F],
+    row_2: &mut [F],
+    products: &mut Products,
+)
+    requires wide { 1 ≤ P.WIDTH }
+    requires whole { (k : ℕ) × length row_1.old ≡ k * P.WIDTH }
+    requires equal { length row_1.old ≡ length row_2.old }
+    ensures near { map F.value row_1.new
+        ≡ by_lanes (B.near F.Element F.ring F.value butterfly.now) (map F.value row_1.old) (map F.value row_2.old) }
+    ensures far { map F.value row_2.new
+        ≡ by_lanes (B.far F.Element F.ring F.value butterfly.now) (map F.value row_1.old) (map F.value row_2.old) }
+    ensures count { products.new ≡ products.old + B.cost * length row_1.old }
+{
+    let width = P::WIDTH;
+    let mut at = 0;
+    while at < row_1.len() {
+        apply_to_pack::<F, P, B>(
+            butterfly,
+            &mut row_1[at..at + width],
+            &mut row_2[at..at + width],
+            products,
+        );
+        at += width;
+    }
+}
+
+// Takes one pack of each row.
+fn apply_to_pack<F: Packable, P: PackedField<Scalar = F>, B: Butterfly<F>>(
+    butterfly: &B,
+    part_1: &mut [F],
+    part_2: &mut [F],
+    products: &mut Products,
+)
+    requires first { length part_1.old ≡ P.WIDTH }
+    requires second { length part_2.old ≡ P.WIDTH }
+    ensures near { map F.value part_1.new
+        ≡ by_lanes (B.near F.Element F.ring F.value butterfly.now) (map F.value part_1.old) (map F.value part_2.old) }
+    ensures far { map F.value part_2.new
+        ≡ by_lanes (B.far F.Element F.ring F.value butterfly.now) (map F.value part_1.old) (map F.value part_2.old) }
+    ensures count { products.new ≡ products.old + B.cost * P.WIDTH }
+{
+    let (near, far) = butterfly.apply(P::load(part_1), P::load(part_2), products);
+    near.store(part_1);
+    far.store(part_2);
+}
+
+// Takes two rows of full packs to the near and the far row in two others.
+pub(crate) fn apply_to_packs_oop<F: Packable, P: PackedField<Scalar = F>, B: Butterfly<F>>(
+    butterfly: &B,
+    src_1: &[F],
+    dst_1: &mut [F],
+    src_2: &[F],
+    dst_2: &mut [F],
+    products: &mut Products,
+)
+    requires wide { 1 ≤ P.WIDTH }
+    requires whole { (k : ℕ) × length src_1.now ≡ k * P.WIDTH }
+    requires sources { length src_1.now ≡ length src_2.now }
+    requires first { length src_1.now ≡ length dst_1.old }
+    requires second { length src_1.now ≡ length dst_2.old }
+    ensures near { map F.value dst_1.new
+        ≡ by_lanes (B.near F.Element F.ring F.value butterfly.now) (map F.value src_1.now) (map F.value src_2.now) }
+    ensures far { map F.value dst_2.new
+        ≡ by_lanes (B.far F.Element F.ring F.value butterfly.now) (map F.value src_1.now) (map F.value src_2.now) }
+    ensures count { products.new ≡ products.old + B.cost * length src_1.now }
+{
+    let width = P::WIDTH;
+    let mut at = 0;
+    while at < src_1.len() {
+        let part_1 = &src_1[at..at + width];
+        let part_2 = &src_2[at..at + width];
+        let (near, far) = butterfly.apply(P::load(part_1), P::load(part_2), products);
+        near.store(&mut dst_1[at..at + width]);
+        far.store(&mut dst_2[at..at + width]);
+        at += width;
+    }
+}
+
+// Multiplies each of full packs of values by t.
+pub(crate) fn scale_packs<F: Packable, P: PackedField<Scalar = F>>(
+    values: &mut [F],
+    t: F,
+    products: &mut Products,
+)
+    requires wide { 1 ≤ P.WIDTH }
+    requires whole { (k : ℕ) × length values.old ≡ k * P.WIDTH }
+    ensures values { map F.value values.new ≡ map (λ x. F.ring.mul x (F.value t)) (map F.value values.old) }
+    ensures count { products.new ≡ products.old + length values.old }
+{
+    let width = P::WIDTH;
+    let mut at = 0;
+    while at < values.len() {
+        scale_pack::<F, P>(&mut values[at..at + width], t, products);
+        at += width;
+    }
+}
+
+// Multiplies one pack of values by t.
+fn scale_pack<F: Packable, P: PackedField<Scalar = F>>(
+    part: &mut [F],
+    t: F,
+    products: &mut Products,
+)
+    requires { length part.old ≡ P.WIDTH }
+    ensures values { map F.value part.new ≡ map (λ x. F.ring.mul x (F.value t)) (map F.value part.old) }
+    ensures count { products.new ≡ products.old + P.WIDTH }
+{
+    P::load(part).scaled(t, products).store(part);
+}
