@@ -13,6 +13,8 @@ pub mod OpposedRows
 pub mod Opposite
 pub mod Pairs
 pub mod Polynomials
+pub mod Prepared
+pub mod ProductBounds
 pub mod ReversedRows
 pub mod Rows
 pub mod Sums

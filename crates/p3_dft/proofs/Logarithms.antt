@@ -18,3 +18,8 @@ log-unique a b low high =
 -- a power of two has one exponent
 pub pow-injective : (a b : ℕ) → 2 ^ a ≡ 2 ^ b → a ≡ b
 pow-injective a b e = log-unique a b (omega arith) (let positive = pow_pos b in omega arith)
+
+-- a power of two below another has the smaller exponent
+pub log-below : (a b : ℕ) → 2 ^ a < 2 ^ b → a < b
+log-below a b below =
+    ⊎_elim (λ less. less) (λ not_less. let rise : 2 ^ b ≤ 2 ^ a = pow-le-pow_right {n = 2} (omega arith) not_less in absurd (omega (arith, rise))) (cases_lt a b)

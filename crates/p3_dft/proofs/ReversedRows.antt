@@ -28,13 +28,13 @@ module _ {F : Type 0} (f : FieldMembers F) (generator : ℕ → F) where
       (out_width ∙ shape.0 ∙ sym wide) (out_values ∙ written (length r.values) cells rest len)
       (λ i j below inside.
       let at : (q : ℕ) → q < 2 ^ log → f.value (get_or start (rev log q * w + j) f.ZERO) ≡ f.value (get_or m.values (q * w + j) f.ZERO) = λ q l.
-          let back = rows f.ZERO in
-          let tall : height r ≡ 2 ^ log = back.high ∙ high in
-          ap (λ xs. f.value (get_or xs (rev log q * w + j) f.ZERO)) start_is
-          ∙ ap (λ v. f.value (get_or r.values (rev log q * v + j) f.ZERO)) (wide ∙ sym shape.0)
-          ∙ ap f.value (back.alike (rev log q) j (omega (arith, rev-lt log q, tall)) (omega (arith, inside, wide, shape.0)))
-          ∙ ap (λ n. f.value (get_or m.values (n * m.width + j) f.ZERO)) (rev-rev log q l)
-          ∙ ap (λ v. f.value (get_or m.values (q * v + j) f.ZERO)) (sym wide) in
+      let back = rows f.ZERO in
+      let tall : height r ≡ 2 ^ log = back.high ∙ high in
+      ap (λ xs. f.value (get_or xs (rev log q * w + j) f.ZERO)) start_is
+      ∙ ap (λ v. f.value (get_or r.values (rev log q * v + j) f.ZERO)) (wide ∙ sym shape.0)
+      ∙ ap f.value (back.alike (rev log q) j (omega (arith, rev-lt log q, tall)) (omega (arith, inside, wide, shape.0)))
+      ∙ ap (λ n. f.value (get_or m.values (n * m.width + j) f.ZERO)) (rev-rev log q l)
+      ∙ ap (λ v. f.value (get_or m.values (q * v + j) f.ZERO)) (sym wide) in
       entries i j (omega (arith, below, high)) inside
       ∙ poly_same f.ring (2 ^ log) (λ q. f.value (get_or start (rev log q * w + j) f.ZERO)) (λ q. f.value (get_or m.values (q * w + j) f.ZERO)) (power f.ring (f.value (generator log)) i) at
       ∙ ap (λ n. poly f.ring n (λ q. f.value (get_or m.values (q * w + j) f.ZERO)) (power f.ring (f.value (generator log)) i)) (sym high))

@@ -21,5 +21,6 @@ pub use p3_matrix::{
     DftError, Evaluations, IntoRowMajorMatrix, RowMajorMatrix, RowMajorMatrixView,
     RowMajorMatrixViewMut,
 };
+pub use radix_2_dit::Radix2Dit;
 pub use traits::{Layout, TwoAdicSubgroupDft};
 pub use util::fits_dft;
