@@ -3,7 +3,8 @@
 ghost use Rattle.std.specs.Prelude.{◌≡◌, ℕ, ◌+◌, ◌*◌, ◌/◌, ◌<◌, ◌≤◌, List, length, get_or};
 ghost use Rattle.p3_field.specs.Ring.{minus};
 
-use p3_field::{Products, TwoAdicField, scaled};
+use p3_field::{Products, TwoAdicField};
+use p3_matrix::{Butterfly, DitButterfly, TwiddleFreeButterfly};
 
 // A layer of decimation in time. The rows come in blocks of two halves, of `half` rows each. Row t of
 // the first half and row t of the second meet in a butterfly with entry `t * stride` of the table,
@@ -98,48 +99,37 @@ fn dit_halves<F: TwoAdicField>(
         ≡ minus F.ring (cell low.old (t * width + j)) (F.ring.mul (cell high.old (t * width + j)) (cell twiddles.now (t * stride))) }
     ensures count { products.new + width ≡ products.old + half * width }
 {
-    twiddle_free_rows(&mut low[0..width], &mut high[0..width]);
+    apply_to_rows(
+        TwiddleFreeButterfly,
+        &mut low[0..width],
+        &mut high[0..width],
+        products,
+    );
     for t in 1..half {
         let start = t * width;
         let end = start + width;
-        dit_rows(
+        apply_to_rows(
+            DitButterfly(twiddles[t * stride]),
             &mut low[start..end],
             &mut high[start..end],
-            twiddles[t * stride],
             products,
         );
     }
 }
 
-// A pair of rows.
-fn dit_rows<F: TwoAdicField>(row_1: &mut [F], row_2: &mut [F], twiddle: F, products: &mut Products)
+// A butterfly on two rows, with a contract that speaks of entries.
+fn apply_to_rows<F: TwoAdicField, B: Butterfly<F>>(
+    butterfly: B,
+    row_1: &mut [F],
+    row_2: &mut [F],
+    products: &mut Products,
+)
     requires { length row_1.old ≡ length row_2.old }
     ensures near { (j : ℕ) → j < length row_1.old → F.value (get_or row_1.new j F.ZERO)
-        ≡ F.ring.add (F.value (get_or row_1.old j F.ZERO)) (F.ring.mul (F.value (get_or row_2.old j F.ZERO)) (F.value twiddle)) }
+        ≡ B.near F.Element F.ring F.value butterfly (F.value (get_or row_1.old j F.ZERO)) (F.value (get_or row_2.old j F.ZERO)) }
     ensures far { (j : ℕ) → j < length row_1.old → F.value (get_or row_2.new j F.ZERO)
-        ≡ minus F.ring (F.value (get_or row_1.old j F.ZERO)) (F.ring.mul (F.value (get_or row_2.old j F.ZERO)) (F.value twiddle)) }
-    ensures count { products.new ≡ products.old + length row_1.old }
+        ≡ B.far F.Element F.ring F.value butterfly (F.value (get_or row_1.old j F.ZERO)) (F.value (get_or row_2.old j F.ZERO)) }
+    ensures count { products.new ≡ products.old + B.cost * length row_1.old }
 {
-    for j in 0..row_1.len() {
-        let a = row_1[j];
-        let b = scaled(row_2[j], twiddle, products);
-        row_1[j] = a + b;
-        row_2[j] = a - b;
-    }
-}
-
-// A pair of rows, with the twiddle one.
-fn twiddle_free_rows<F: TwoAdicField>(row_1: &mut [F], row_2: &mut [F])
-    requires { length row_1.old ≡ length row_2.old }
-    ensures near { (j : ℕ) → j < length row_1.old → F.value (get_or row_1.new j F.ZERO)
-        ≡ F.ring.add (F.value (get_or row_1.old j F.ZERO)) (F.value (get_or row_2.old j F.ZERO)) }
-    ensures far { (j : ℕ) → j < length row_1.old → F.value (get_or row_2.new j F.ZERO)
-        ≡ minus F.ring (F.value (get_or row_1.old j F.ZERO)) (F.value (get_or row_2.old j F.ZERO)) }
-{
-    for j in 0..row_1.len() {
-        let a = row_1[j];
-        let b = row_2[j];
-        row_1[j] = a + b;
-        row_2[j] = a - b;
-    }
+    butterfly.apply_to_rows(row_1, row_2, products);
 }

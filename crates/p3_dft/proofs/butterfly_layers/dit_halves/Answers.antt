@@ -28,13 +28,13 @@ loop-t-preserved g c =
     let inside_table : t * c.args.stride < length c.args.twiddles.now = table_room t c.args.half c.args.stride _ c.loop-t-test.true c.requires.step c.requires.table in
     let entry : field.value c.index-twiddles-t.result ≡ field.value (get_or c.args.twiddles.now (t * c.args.stride) zero) = ap field.value (get_or_read_under c.args.twiddles.now (t * c.args.stride) _ _ zero c.index-twiddles-t.is inside_table refl) in
     record {
-      near = rows-more zero w _ _ low c.dit_rows.new.row_1 t _ m low_room (c.dit_rows.auto.row_1 ∙ low_len)
-          (λ j inside. c.dit_rows.ensures.near j (omega (arith, low_len)) ∙ ap₂ (λ x y. field.ring.add x (field.ring.mul y (field.value c.index-twiddles-t.result))) (a j inside) (b j inside)
+      near = rows-more zero w _ _ low c.apply_to_rows-in-loop-t.new.row_1 t _ m low_room (c.apply_to_rows-in-loop-t.auto.row_1 ∙ low_len)
+          (λ j inside. c.apply_to_rows-in-loop-t.ensures.near j (omega (arith, low_len)) ∙ ap₂ (λ x y. field.ring.add x (field.ring.mul y (field.value c.index-twiddles-t.result))) (a j inside) (b j inside)
           ∙ ap (λ z. field.ring.add (field.value (get_or c.args.low.now (t * w + j) zero)) (field.ring.mul (field.value (get_or c.args.high.now (t * w + j) zero)) z)) entry)
           c.loop-t.invariant.near;
-      far = rows-more zero w _ _ high c.dit_rows.new.row_2 t _ m high_room (c.dit_rows.auto.row_2 ∙ high_len)
-          (λ j inside. c.dit_rows.ensures.far j (omega (arith, low_len)) ∙ ap₂ (λ x y. minus field.ring x (field.ring.mul y (field.value c.index-twiddles-t.result))) (a j inside) (b j inside)
+      far = rows-more zero w _ _ high c.apply_to_rows-in-loop-t.new.row_2 t _ m high_room (c.apply_to_rows-in-loop-t.auto.row_2 ∙ high_len)
+          (λ j inside. c.apply_to_rows-in-loop-t.ensures.far j (omega (arith, low_len)) ∙ ap₂ (λ x y. minus field.ring x (field.ring.mul y (field.value c.index-twiddles-t.result))) (a j inside) (b j inside)
           ∙ ap (λ z. minus field.ring (field.value (get_or c.args.low.now (t * w + j) zero)) (field.ring.mul (field.value (get_or c.args.high.now (t * w + j) zero)) z)) entry)
           c.loop-t.invariant.far;
-      count = omega (arith, next, low_len, c.dit_rows.ensures.count, c.loop-t.invariant.count);
+      count = omega (arith, next, low_len, c.apply_to_rows-in-loop-t.ensures.count, c.loop-t.invariant.count);
     }
