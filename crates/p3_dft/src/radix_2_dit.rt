@@ -9,6 +9,9 @@ ghost use Rattle.p3_dft.specs.Polynomials.{poly};
 ghost use Rattle.p3_dft.specs.Transforms.{IsTransform};
 ghost use Rattle.p3_dft.specs.Twiddles.{IsPrepared};
 
+#[cfg(test)]
+mod tests;
+
 use crate::butterfly_layers::dit_layer;
 use crate::traits::{Layout, TwoAdicSubgroupDft};
 use crate::twiddles::TwiddleTables;

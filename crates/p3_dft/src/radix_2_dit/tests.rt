@@ -1,0 +1,156 @@
+// Values from definitions worked out by hand or by another program, and what is prepared when.
+
+use crate::naive::NaiveDft;
+use crate::radix_2_dit::Radix2Dit;
+use crate::traits::TwoAdicSubgroupDft;
+use crate::util::fits_dft;
+use p3_field::{BabyBear, CanonicalField, Field, Goldilocks};
+use p3_matrix::RowMajorMatrix;
+use std::alloc::Global;
+use std::process::Abort;
+use std::test::Fail;
+
+fn elements<F: CanonicalField>(alloc: Global, numbers: &[u64]) -> Result<Vec<F>, Fail> {
+    let mut elements = Vec::new(alloc);
+    for number in numbers {
+        elements.push(F::new(*number).ok_or("not below the modulus")?)?;
+    }
+    Ok(elements)
+}
+
+// One call of `dft` on a column.
+fn dft<F: CanonicalField>(
+    rt: &impl Abort,
+    engine: &mut Radix2Dit<F>,
+    numbers: Vec<F>,
+) -> Result<Vec<F>, Fail> {
+    assert!(rt; fits_dft::<F>(numbers.len(), 1));
+    Ok(engine.dft(numbers)?)
+}
+
+#[test]
+fn values_on_the_subgroup(rt: HostRuntime) -> Result<(), Fail> {
+    let alloc = rt.alloc();
+    let mut engine = Radix2Dit::<BabyBear>::default();
+    let zeros = elements(alloc, &[0, 0, 0, 0, 0, 0, 0, 0])?;
+    assert!(rt; dft(&rt, &mut engine, zeros)? == elements(alloc, &[0, 0, 0, 0, 0, 0, 0, 0])?);
+    let values = dft(&rt, &mut engine, elements(alloc, &[1, 2, 3, 4])?)?;
+    assert!(rt; values == elements(alloc, &[10, 569722814, 2013265919, 1443543103])?);
+    let values = dft(
+        &rt,
+        &mut engine,
+        elements(alloc, &[1, 2, 3, 4, 5, 6, 7, 8])?,
+    )?;
+    assert!(rt;
+        values
+            == elements(
+                alloc,
+                &[
+                    36, 1976151680, 1139445628, 1710526337, 2013265917, 302739576, 873820285,
+                    37114233
+                ]
+            )?
+    );
+    assert!(rt; dft(&rt, &mut engine, elements(alloc, &[7])?)? == elements(alloc, &[7])?);
+    Ok(())
+}
+
+#[test]
+fn values_of_the_larger_field(rt: HostRuntime) -> Result<(), Fail> {
+    let alloc = rt.alloc();
+    let mut engine = Radix2Dit::<Goldilocks>::default();
+    let values = dft(
+        &rt,
+        &mut engine,
+        elements(alloc, &[3, 1, 4, 1, 5, 9, 2, 6])?,
+    )?;
+    assert!(rt;
+        values
+            == elements(
+                alloc,
+                &[
+                    31,
+                    568447645776638,
+                    844424930131970,
+                    18446189915638069247,
+                    18446744069414584318,
+                    557452261065982,
+                    18445899644484452355,
+                    18446172323284256767
+                ]
+            )?
+    );
+    Ok(())
+}
+
+#[test]
+fn each_column_alone(rt: HostRuntime) -> Result<(), Fail> {
+    let alloc = rt.alloc();
+    let entries: Vec<BabyBear> = elements(alloc, &[1, 2, 3, 4, 5, 6, 7, 8, 9, 10, 11, 12])?;
+    assert_eq!(rt; entries.len(), 12);
+    let mat = RowMajorMatrix::new(entries, 3);
+    assert!(rt; fits_dft::<BabyBear>(mat.height(), mat.width()));
+    let values = Radix2Dit::default().dft_batch(mat)?.into_values();
+    assert!(rt;
+        values
+            == elements(
+                alloc,
+                &[
+                    22, 26, 30, 1709168442, 1709168442, 1709168442, 2013265915, 2013265915,
+                    2013265915, 304097467, 304097467, 304097467
+                ]
+            )?
+    );
+    Ok(())
+}
+
+// The sizes for which an engine has tables.
+#[test]
+fn prepared_heights(rt: HostRuntime) -> Result<(), Fail> {
+    let alloc = rt.alloc();
+    let mut engine = Radix2Dit::<BabyBear>::default();
+    assert!(rt; engine.is_prepared(0));
+    assert!(rt; !engine.is_prepared(3));
+    assert!(rt; !engine.is_prepared(usize::MAX));
+    engine.prepare(alloc, 0)?;
+    engine.prepare(alloc, 3)?;
+    engine.prepare(alloc, 3)?;
+    assert!(rt; engine.is_prepared(3));
+    assert!(rt; !engine.is_prepared(2));
+    let values = dft(&rt, &mut engine, elements(alloc, &[1, 2, 3, 4])?)?;
+    assert!(rt; values == elements(alloc, &[10, 569722814, 2013265919, 1443543103])?);
+    assert!(rt; engine.is_prepared(2));
+    assert!(rt; engine.is_prepared(3));
+    let copy = engine.clone()?;
+    assert!(rt; copy.is_prepared(0));
+    assert!(rt; !copy.is_prepared(3));
+    Ok(())
+}
+
+// The entries 1, 2, .. of a matrix.
+fn counting(alloc: Global, n: usize) -> Result<Vec<BabyBear>, Fail> {
+    let mut entries = Vec::new(alloc);
+    for i in 0..n {
+        entries.push(BabyBear::from_usize(i + 1))?;
+    }
+    Ok(entries)
+}
+
+#[test]
+fn equals_the_transform_by_definition(rt: HostRuntime) -> Result<(), Fail> {
+    let alloc = rt.alloc();
+    let mut engine = Radix2Dit::default();
+    for height in [1usize, 2, 4, 8, 16, 32, 64, 128] {
+        for width in [1usize, 3, 8, 17] {
+            let entries = counting(alloc, height * width)?;
+            assert!(rt; entries.len() % width == 0);
+            let mat = RowMajorMatrix::new(entries, width);
+            assert!(rt; fits_dft::<BabyBear>(mat.height(), mat.width()));
+            let copy = mat.try_clone()?;
+            let expected = NaiveDft::default().dft_batch(copy)?;
+            let values = engine.dft_batch(mat)?;
+            assert!(rt; values == expected, "height {height}, width {width}");
+        }
+    }
+    Ok(())
+}
