@@ -2,7 +2,7 @@
 use Rattle.std.specs.Prelude.{ℕ, ◌-◌, ◌/◌, List, map, length, unwrap_or, Result, Ok}
 use Rattle.std.proofs.Common.{lit<, refl}
 use Rattle.p3_field.specs.declared.fields.Field.{Ghosts as FieldMembers}
-use Rattle.p3_field.specs.Fields.{baby_bear_modulus, baby_bear_ring, baby_bear_root}
+use Rattle.p3_field.specs.Fields.{baby_bear_modulus, baby_bear_ring, baby_bear_root, goldilocks_modulus, goldilocks_ring, goldilocks_root}
 use Rattle.p3_field.specs.Residues.{Residue, residue_of}
 use Rattle.p3_field.specs.Ring.{Ring}
 use Rattle.p3_field.specs.Squarings.{squared}
@@ -47,6 +47,16 @@ baby_bear = record {
   modulus = baby_bear_modulus;
   number = λ x. x.number;
   element = residue_of baby_bear_modulus (lit< tt) refl;
+}
+
+abbrev pub goldilocks : NumberedField (Residue goldilocks_modulus)
+goldilocks = record {
+  ring = goldilocks_ring;
+  generator = λ n. squared goldilocks_ring goldilocks_root (32 - n);
+  two_adicity = 32;
+  modulus = goldilocks_modulus;
+  number = λ x. x.number;
+  element = residue_of goldilocks_modulus (lit< tt) refl;
 }
 
 -- the numbers of the answer

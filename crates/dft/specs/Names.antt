@@ -2,14 +2,14 @@
 use Rattle.std.specs.Prelude.{ℕ, List, Option, Some, None, codes, if◌then◌else◌}
 use Rattle.std.specs.Str.{bytes_eq}
 use Rattle.dft.specs.declared.names.FieldName.{FieldName}
-use Rattle.dft.specs.declared.names.FieldName.TheVariants.{BabyBear}
+use Rattle.dft.specs.declared.names.FieldName.TheVariants.{BabyBear, Goldilocks}
 use Rattle.dft.specs.declared.names.EngineName.{EngineName}
 use Rattle.dft.specs.declared.names.EngineName.TheVariants.{Naive}
 use Rattle.dft.specs.declared.names.Operation.{Operation}
 use Rattle.dft.specs.declared.names.Operation.TheVariants.{Dft}
 
 abbrev pub field_named : List ℕ → Option FieldName
-field_named word = if bytes_eq word (codes "babybear") then Some BabyBear else None
+field_named word = if bytes_eq word (codes "babybear") then Some BabyBear else (if bytes_eq word (codes "goldilocks") then Some Goldilocks else None)
 
 abbrev pub engine_named : List ℕ → Option EngineName
 engine_named word = if bytes_eq word (codes "naive") then Some Naive else None

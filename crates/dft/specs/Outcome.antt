@@ -4,10 +4,10 @@ use Rattle.std.specs.Option.{ok_or}
 use Rattle.dft.specs.declared.fault.Fault.{Fault}
 use Rattle.dft.specs.declared.fault.Fault.TheVariants.{UnknownField, UnknownEngine, UnknownOperation, TooFewWords}
 use Rattle.dft.specs.declared.names.FieldName.{FieldName}
-use Rattle.dft.specs.declared.names.FieldName.TheVariants.{BabyBear}
+use Rattle.dft.specs.declared.names.FieldName.TheVariants.{BabyBear, Goldilocks}
 use Rattle.dft.specs.declared.names.Operation.{Operation}
 use Rattle.dft.specs.declared.program.Request.{Request}
-use Rattle.dft.specs.Answers.{baby_bear, answer_in}
+use Rattle.dft.specs.Answers.{baby_bear, goldilocks, answer_in}
 use Rattle.dft.specs.Faults.{◌>>=◌, line_of}
 use Rattle.dft.specs.Names.{field_named, engine_named, operation_named}
 
@@ -27,6 +27,7 @@ asked words = do
 -- the text of the answer in the field of this name, whichever engine finds it
 abbrev pub answer_in_field : FieldName → Operation → List (List ℕ) → Result (List ℕ) Fault
 answer_in_field BabyBear operation words = answer_in baby_bear operation words
+answer_in_field Goldilocks operation words = answer_in goldilocks operation words
 
 -- the text of the answer, or the first fault of the words
 abbrev pub answer : List (List ℕ) → Result (List ℕ) Fault

@@ -7,6 +7,7 @@ ghost use Rattle.dft.specs.Names.{field_named, engine_named, operation_named};
 #[derive(Clone, Copy)]
 pub enum FieldName {
     BabyBear,
+    Goldilocks,
 }
 
 impl FieldName {
@@ -16,6 +17,7 @@ impl FieldName {
     {
         match word {
             "babybear" => Some(FieldName::BabyBear),
+            "goldilocks" => Some(FieldName::Goldilocks),
             _ => None,
         }
     }

@@ -18,7 +18,7 @@ use crate::matrices::{matrix_of, text_of};
 use crate::names::{EngineName, FieldName, Operation};
 use crate::sink::{Sink, write_text};
 use p3_dft::{CanonicalField, DftError, Evaluations, NaiveDft, RowMajorMatrix, TwoAdicSubgroupDft};
-use p3_field::BabyBear;
+use p3_field::{BabyBear, Goldilocks};
 use std::alloc::Global;
 
 const OUT_OF_MEMORY: &str = "error 9: out of memory\n";
@@ -117,6 +117,9 @@ fn answer_in_field(alloc: Global, request: Request, words: &[String]) -> Result<
     match request.field {
         FieldName::BabyBear => {
             answer_in::<BabyBear>(alloc, request.engine, request.operation, words)
+        }
+        FieldName::Goldilocks => {
+            answer_in::<Goldilocks>(alloc, request.engine, request.operation, words)
         }
     }
 }

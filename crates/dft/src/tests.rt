@@ -72,13 +72,17 @@ const FIRST_TEXT: &str = "9 5 0\n1 2013265920 0\n";
 
 #[test]
 fn answers(rt: HostRuntime) -> Result<(), Fail> {
-    let rows: [(&[&str], &str); 3] = [
+    let rows: [(&[&str], &str); 4] = [
         (&FIRST_WORDS, FIRST_TEXT),
         (
             &["babybear", "naive", "dft", "1", "1", "2", "3", "4"],
             "10\n569722814\n2013265919\n1443543103\n",
         ),
         (&["babybear", "naive", "dft", "1", "007"], "7\n"),
+        (
+            &["goldilocks", "naive", "dft", "1", "0", "1", "0", "0"],
+            "1\n281474976710656\n18446744069414584320\n18446462594437873665\n",
+        ),
     ];
     for (words, text) in rows {
         let mut out = Stubborn::with_room(rt.alloc(), 1000);
@@ -97,7 +101,7 @@ fn faults(rt: HostRuntime) -> Result<(), Fail> {
     let not_a_number = "error 5: not a number\n";
     let not_below = "error 6: number not below the modulus\n";
     let unfit_shape = "error 7: shape does not fit\n";
-    let rows: [(&[&str], &str); 19] = [
+    let rows: [(&[&str], &str); 20] = [
         (&[], too_few_words),
         (&["babybear"], too_few_words),
         (&["babybear", "naive", "dft", "1"], too_few_words),
@@ -126,6 +130,10 @@ fn faults(rt: HostRuntime) -> Result<(), Fail> {
             not_below,
         ),
         (&["babybear", "naive", "dft", "0", "2013265921"], not_below),
+        (
+            &["goldilocks", "naive", "dft", "1", "18446744069414584321"],
+            not_below,
+        ),
         (&["babybear", "naive", "dft", "0", "1"], unfit_shape),
         (
             &["babybear", "naive", "dft", "2", "1", "2", "3"],
