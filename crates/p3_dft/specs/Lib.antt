@@ -1,4 +1,5 @@
 pub mod Cosets
+pub mod Extensions
 pub mod Polynomials
 pub mod Shapes
 pub mod Transforms

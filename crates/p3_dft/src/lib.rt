@@ -19,4 +19,4 @@ pub use p3_matrix::{
     RowMajorMatrixViewMut,
 };
 pub use traits::{Layout, TwoAdicSubgroupDft};
-pub use util::fits_dft;
+pub use util::{fits_dft, fits_lde};
