@@ -1,5 +1,5 @@
 pub mod Lines
 pub mod Shapes
-pub mod Tests
+pub mod Elements
 pub mod Transforms
-pub mod Words
+pub mod WordNumbers

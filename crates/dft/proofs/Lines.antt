@@ -18,7 +18,7 @@ module _ {X : Type 0} (c : ℕ) (f : X → List ℕ) where
       rest ∙ ap (λ t. t ++ flat_map (λ x. c ∷ f x) (take i others)) begun
       ∙ append_assoc old (f first) (flat_map (λ x. c ∷ f x) (take i others))
       ∙ ap (λ t. old ++ t) (ap (λ xs. f first ++ flat_map (λ x. c ∷ f x) xs) (take_all i others end)
-        ∙ sym (join-flat_map (f first) others) ∙ sym (ap (λ xs. join_with_byte c (map f xs)) parts))
+      ∙ sym (join-flat_map (f first) others) ∙ sym (ap (λ xs. join_with_byte c (map f xs)) parts))
 
 -- the text of the first i + 1 rows
 pub text-more : {X : Type 0} (f : X → List ℕ) (xs : List X) (i : ℕ) (d : X) → i < length xs

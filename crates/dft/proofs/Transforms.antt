@@ -1,21 +1,21 @@
 -- The rows that the definition of an answer names are those of the matrix that an engine gives.
-use Rattle.std.proofs.Common.{◌≡◌, ℕ, ◌+◌, ◌*◌, ◌/◌, ◌^◌, ◌<◌, List, [], ◌∷◌, length, get_or, map, Option, Some, None, is_some, true, unwrap_or, refl, sym, ap, ap₂, ◌∙◌, subst, arith}
+use Rattle.std.proofs.Common.{◌≡◌, ℕ, ◌+◌, ◌*◌, ◌/◌, ◌^◌, ◌<◌, List, [], ◌∷◌, length, get_or, map, Option, Some, None, is_some, true, unwrap_or, refl, sym, ap, ap₂, ◌∙◌}
 use Rattle.std.specs.List.{range_with_len}
 use Rattle.std.proofs.lemmas.List.{length-map}
 use Rattle.std.proofs.lemmas.Simd.{map-map}
 use Rattle.std.proofs.Math.ListN.{get_or-map}
 use Rattle.p3_field.specs.declared.fields.Field.{Ghosts as FieldMembers}
-use Rattle.p3_matrix.specs.RowMajor.{RowMajor, IsRowMajor, height, rows}
+use Rattle.p3_matrix.specs.RowMajor.{RowMajor, IsRowMajor, rows}
 use Rattle.p3_matrix.specs.Matrix.{Matrix, Same, matrix, mapped, row_of, list_of_rows}
 use Rattle.p3_matrix.proofs.RowMajor.{list_of_rows_stored}
-use Rattle.p3_dft.specs.Cosets.{IsValues, rows_of_values}
+use Rattle.p3_dft.specs.Cosets.{rows_of_values}
 use Rattle.p3_dft.specs.Transforms.{values_of, IsTransform}
 use Rattle.p3_dft.proofs.Cosets.{coefficients_same, rows_of_is_values}
 use Rattle.p3_dft.specs.Shapes.{FitsDft}
 use Rattle.dft.specs.declared.names.Operation.{Operation}
 use Rattle.dft.specs.declared.names.Operation.TheVariants.{Dft}
 use Rattle.dft.specs.Arguments.{logarithm}
-use Rattle.dft.specs.Answers.{NumberedField, numbered, rows_of_answer}
+use Rattle.dft.specs.Answers.{numbered, rows_of_answer}
 use Rattle.dft.proofs.Shapes.{logarithm-some, logarithm-is_some}
 
 -- functions that agree everywhere give one list
@@ -75,8 +75,8 @@ module _ {F : Type 0} (f : FieldMembers F) (generator : ℕ → F) (two_adicity 
     rows_at : (k : ℕ) → length numbers / width ≡ 2 ^ k → map (map f.number) (rows_of_values f.ring roots coefficients k f.ring.one) ≡ map (map number) (rows out)
     rows_at k e =
         ap (map (map f.number)) (sym (rows_of_is_values f.ring roots coefficients k f.ring.one (values_of f out)
-          (coefficients_same f.ring roots (values_of f m) coefficients k f.ring.one (values_of f out) same
-            (transform k (same.high ∙ ap (λ n. n / width) (length-map numbers element) ∙ e)))))
+        (coefficients_same f.ring roots (values_of f m) coefficients k f.ring.one (values_of f out) same
+        (transform k (same.high ∙ ap (λ n. n / width) (length-map numbers element) ∙ e)))))
         ∙ numbers_of_rows out whole
 
     rows_for : (log : Option ℕ) → logarithm two_adicity (length numbers / width) ≡ log → is_some log ≡ true

@@ -1,12 +1,11 @@
 -- The answers of operations, over fields whose elements have numbers.
-use Rattle.std.specs.Prelude.{ℕ, ◌-◌, ◌/◌, Option, List, map, length, unwrap_or, Result, Ok}
+use Rattle.std.specs.Prelude.{ℕ, ◌-◌, ◌/◌, List, map, length, unwrap_or, Result, Ok}
 use Rattle.std.proofs.Common.{lit<, refl}
 use Rattle.p3_field.specs.declared.fields.Field.{Ghosts as FieldMembers}
 use Rattle.p3_field.specs.Fields.{baby_bear_modulus, baby_bear_ring, baby_bear_root}
 use Rattle.p3_field.specs.Residues.{Residue, residue_of}
 use Rattle.p3_field.specs.Ring.{Ring}
 use Rattle.p3_field.specs.Squarings.{squared}
-use Rattle.p3_matrix.specs.RowMajor.{RowMajor}
 use Rattle.p3_matrix.specs.Matrix.{matrix}
 use Rattle.p3_dft.specs.Cosets.{rows_of_values}
 use Rattle.dft.specs.declared.fault.Fault.{Fault}

@@ -6,7 +6,7 @@ ghost use Rattle.dft.specs.Numbers.{number_of};
 /// The number that a word is: one or more ASCII digits of a value below 2^64.
 ///
 /// Any number of leading zeros may stand, and no sign.
-#[tactic(auto, using(crate::proofs::Words::parsed, crate::proofs::Words::signed))]
+#[tactic(auto, using(crate::proofs::WordNumbers::parsed, crate::proofs::WordNumbers::signed))]
 pub fn number(word: &str) -> Option<u64>
     ensures { result ≡ number_of word.now }
 {

@@ -43,8 +43,18 @@ pub fn run<W: Sink>(alloc: Global, words: &[String], out: &mut W) -> u8
     match answer(alloc, words) {
         Ok(text) => finish(out, text.as_str(), 0),
         Err(Stopped::Refused(fault)) => finish(out, fault.line(), 2),
-        Err(Stopped::OutOfMemory) => finish(out, OUT_OF_MEMORY, 3),
+        Err(Stopped::OutOfMemory) => tell_out_of_memory(out),
     }
+}
+
+/// Writes the line that tells that memory was refused, and answers the status.
+pub fn tell_out_of_memory<W: Sink>(out: &mut W) -> u8
+    ensures status { (result ≡ 3) ⊎ (result ≡ 4) }
+    ensures memory { result ≡ 3 → W.bytes out.new ≡ W.bytes out.old ++ memory_line }
+    ensures stopped { result ≡ 4 → GrowsByStartOf (W.bytes out.old) (W.bytes out.new) memory_line }
+    ensures failed { (result ≡ 4) ↔ (W.failures out.old < W.failures out.new) }
+{
+    finish(out, OUT_OF_MEMORY, 3)
 }
 
 // Writes the text, and answers the status: this one, or 4 where a call of the sink failed.

@@ -1,8 +1,10 @@
 pub mod Blocks
+pub mod CellLayers
 pub mod Cosets
 pub mod Distance
 pub mod ExtendedTransforms
 pub mod Extensions
+pub mod Halves
 pub mod Interpolation
 pub mod Inverses
 pub mod Layers

@@ -3,3 +3,4 @@ pub mod Extensions
 pub mod Polynomials
 pub mod Shapes
 pub mod Transforms
+pub mod Twiddles

@@ -5,8 +5,11 @@
 //! `p3_matrix` again, so that a user names one crate.
 #![tactic(auto)]
 
+mod butterfly_layers;
 pub mod naive;
+pub mod radix_2_dit;
 pub mod traits;
+mod twiddles;
 pub mod util;
 
 pub use naive::NaiveDft;

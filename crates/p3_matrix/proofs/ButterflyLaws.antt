@@ -1,5 +1,5 @@
 -- What the formulas of butterflies have to do with one another, by the laws of a ring.
-use Rattle.std.proofs.Common.{◌≡◌, sym, ap, ap₂, ◌∙◌}
+use Rattle.std.proofs.Common.{◌≡◌, sym, ap, ◌∙◌}
 use Rattle.p3_field.specs.Ring.{Ring, minus}
 use Rattle.p3_field.proofs.Rings.{add-mul, neg-mul, neg-zero}
 use Rattle.p3_matrix.specs.Butterflies.{dif_near, dif_far, dif_zeros_near, dif_zeros_far, scaled_dit_near, scaled_dit_far}

@@ -4,7 +4,7 @@ use Rattle.std.proofs.lemmas.Bool.{cases_lt, cases_eq}
 use Rattle.std.proofs.lemmas.List.Edits.{Swapped}
 use Rattle.p3_matrix.specs.BitOrder.{rev, reversed}
 use Rattle.p3_matrix.specs.Exchange.{IsExchange}
-use Rattle.p3_matrix.specs.Matrix.{Matrix, matrix, Same}
+use Rattle.p3_matrix.specs.Matrix.{matrix, Same}
 use Rattle.p3_matrix.specs.RowMajor.{RowMajor, height}
 use Rattle.p3_matrix.specs.Writes.{with_values}
 use Rattle.p3_matrix.proofs.BitReversal.{rev-lt, rev-rev}

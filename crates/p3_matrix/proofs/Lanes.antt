@@ -1,5 +1,5 @@
 -- Operations by lanes: on rows in two parts, with a function before or after, and where they read one side alone.
-use Rattle.std.proofs.Common.{◌≡◌, ℕ, zero, suc, ◌+◌, List, [], ◌∷◌, ◌++◌, length, map, refl, sym, ap, ap₂, ◌∙◌, arith}
+use Rattle.std.proofs.Common.{◌≡◌, suc, List, [], ◌∷◌, ◌++◌, length, map, refl, ap, ap₂, arith}
 use Rattle.p3_field.specs.Lanes.{by_lanes}
 
 module _ {A : Type 0} where

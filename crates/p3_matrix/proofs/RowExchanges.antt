@@ -1,11 +1,11 @@
 -- Rows that change places in the list of a matrix's entries.
-use Rattle.std.proofs.Common.{◌≡◌, ℕ, ◌+◌, ◌*◌, ◌/◌, ◌<◌, ◌≤◌, ◌⊎◌, inl, inr, ⊎_elim, ◌==◌, if◌then◌else◌, List, [], ◌++◌, length, get_or, take, drop, refl, sym, ap, ◌∙◌, arith, append-nil}
+use Rattle.std.proofs.Common.{◌≡◌, ℕ, ◌+◌, ◌*◌, ◌/◌, ◌<◌, ◌≤◌, ◌⊎◌, inl, inr, ⊎_elim, ◌==◌, if◌then◌else◌, List, ◌++◌, length, get_or, take, drop, refl, sym, ap, ◌∙◌, arith, append-nil}
 use Rattle.std.proofs.Math.ListN.{drop_of_length-le}
 use Rattle.std.proofs.Math.Seq.{take-length}
 use Rattle.std.proofs.lemmas.Bool.{cases_lt, cases_eq, eq-eqb, ne_eqb}
 use Rattle.std.proofs.lemmas.List.Edits.{Swapped}
-use Rattle.p3_matrix.specs.RowMajor.{RowMajor, height}
-use Rattle.p3_matrix.specs.Matrix.{Matrix, matrix, exchanged, Same}
+use Rattle.p3_matrix.specs.RowMajor.{RowMajor}
+use Rattle.p3_matrix.specs.Matrix.{matrix, exchanged, Same}
 use Rattle.p3_matrix.specs.Exchange.{IsExchange}
 use Rattle.p3_matrix.specs.Writes.{with_values}
 use Rattle.p3_matrix.proofs.RowMajor.{row_within}

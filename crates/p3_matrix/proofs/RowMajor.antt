@@ -5,7 +5,7 @@ use Rattle.std.proofs.lemmas.List.{places}
 use Rattle.std.proofs.lemmas.List.FromFn.{fill_by_all}
 use Rattle.std.proofs.Math.Nat.{add-mul, mul-le-mul_right, mul-div_cancel}
 use Rattle.p3_matrix.specs.RowMajor.{RowMajor, IsRowMajor, height, row, rows}
-use Rattle.p3_matrix.specs.Matrix.{Matrix, matrix, row_of, list_of_rows}
+use Rattle.p3_matrix.specs.Matrix.{matrix, row_of, list_of_rows}
 use Rattle.p3_matrix.proofs.Matrices.{list_same}
 
 -- h rows of w entries are h whole rows

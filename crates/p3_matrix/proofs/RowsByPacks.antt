@@ -1,5 +1,5 @@
 -- Rows that are worked through pack by pack: what they hold when the places below i are done.
-use Rattle.std.proofs.Common.{◌≡◌, ℕ, zero, suc, ◌+◌, ◌*◌, ◌<◌, ◌≤◌, List, [], ◌++◌, length, take, drop, map, refl, sym, ap, ap₂, ◌∙◌, arith, append_assoc, append-nil}
+use Rattle.std.proofs.Common.{◌≡◌, ℕ, zero, suc, ◌+◌, ◌*◌, ◌<◌, ◌≤◌, List, ◌++◌, length, take, drop, map, sym, ap, ap₂, ◌∙◌, arith, append_assoc, append-nil}
 use Rattle.std.proofs.Math.Seq.{take-add, take-length, drop-length}
 use Rattle.std.proofs.lemmas.List.{take_at, drop_at, take-map, drop-map, map-append, drop-drop, length-map, length-take-le}
 use Rattle.p3_field.specs.Lanes.{by_lanes}

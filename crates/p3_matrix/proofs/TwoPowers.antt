@@ -1,5 +1,5 @@
 -- Powers of two: their order is that of their logarithms.
-use Rattle.std.proofs.Common.{◌≡◌, ℕ, ◌<◌, ◌≤◌, ◌^◌, zero, suc, ◌+◌, ◌*◌, ap, ◌∙◌, add-one, arith, ⊎_elim, ◌⊎◌, inl, inr, lit≤}
+use Rattle.std.proofs.Common.{◌≡◌, ℕ, ◌<◌, ◌≤◌, ◌^◌, suc, ◌+◌, ◌*◌, ap, add-one, arith, ⊎_elim, ◌⊎◌, inl, inr, lit≤}
 use Rattle.std.proofs.lemmas.Bool.{cases_lt}
 use Rattle.std.proofs.lemmas.Nat.{pow_below}
 use Rattle.std.proofs.Math.Nat.{pow-le-pow_right}

@@ -1,5 +1,5 @@
 -- Two runs of a list that change places.
-use Rattle.std.specs.Prelude.{◌≡◌, ℕ, ◌+◌, ◌<◌, ◌≤◌, ◌⊎◌, List, length, slice_index_or}
+use Rattle.std.specs.Prelude.{◌≡◌, ℕ, ◌+◌, ◌<◌, ◌≤◌, ◌⊎◌, List, slice_index_or}
 
 -- ys is xs with the n elements from a on and those from b on in each other's places
 pub record IsExchange {T : Type 0} (xs ys : List T) (a b n : ℕ) : Type 0 where

@@ -59,8 +59,7 @@ fn each_column_alone(rt: HostRuntime) -> Result<(), Fail> {
 #[test]
 fn constants(rt: HostRuntime) -> Result<(), Fail> {
     let alloc = rt.alloc();
-    for log in 0..7 {
-        let height = 1usize << log;
+    for height in [1usize, 2, 4, 8, 16, 32, 64] {
         let mut coefficients = Vec::new(alloc);
         let mut expected = Vec::new(alloc);
         for i in 0..height {

@@ -1,6 +1,3 @@
-use Rattle.std.proofs.Common.{◌≡◌, ◌∙◌, ap, not, arith, rules}
-use Rattle.std.proofs.lemmas.Bool.Decides.{nat_tests}
-use Rattle.dft.specs.Arguments.{fits_dft}
 use Rattle.dft.proofs.Shapes.{unfit, fits_dft-decides}
 use Rattle.dft.proofs.arguments.is_unfit.Goals as goal
 

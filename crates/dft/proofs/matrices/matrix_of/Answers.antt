@@ -1,8 +1,8 @@
-use Rattle.std.proofs.Common.{◌≡◌, ℕ, length, nat_le, ap, sym, ◌∙◌}
+use Rattle.std.proofs.Common.{◌≡◌, length, nat_le, ap, sym, ◌∙◌}
 use Rattle.std.proofs.lemmas.List.{length-map, take_all}
 use Rattle.std.specs.String.{string_bytes}
 use Rattle.dft.specs.Arguments.{number_or_zero}
-use Rattle.dft.proofs.Tests.{fails_at, some_below}
+use Rattle.dft.proofs.Elements.{fails_at, some_below}
 use Rattle.dft.proofs.matrices.matrix_of.Goals as goal
 
 pub unwrap-requires : goal.unwrap-requires
@@ -10,8 +10,8 @@ unwrap-requires g c =
     let modulus = g.F.CanonicalField.ORDER_U64 in
     some_below c.new.result modulus c.number_or_zero-number.result c.new.ensures.none
     (ap (nat_le modulus) (c.number_or_zero-number.ensures ∙ ap number_or_zero c.as_str.ensures.value ∙ ap (λ word. number_or_zero (string_bytes word)) c.word-item.is)
-      ∙ fails_at (λ n. nat_le modulus n) (λ word. number_or_zero (string_bytes word)) c.args.words.now c.loop-word.word-index c.word-item.result
-      c.loop-word-test.true c.requires.below)
+    ∙ fails_at (λ n. nat_le modulus n) (λ word. number_or_zero (string_bytes word)) c.args.words.now c.loop-word.word-index c.word-item.result
+    c.loop-word-test.true c.requires.below)
 
 pub new-requires-2-clause-full : goal.new-requires-2-clause-full
 new-requires-2-clause-full g c =

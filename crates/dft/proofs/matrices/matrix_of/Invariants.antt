@@ -1,4 +1,4 @@
-use Rattle.std.proofs.Common.{◌≡◌, ◌≤◌, map, take, vec_len, vec_capacity}
+use Rattle.std.proofs.Common.{◌≡◌, map, take}
 use Rattle.dft.specs.Arguments.{numbers_of}
 use Rattle.dft.proofs.matrices.matrix_of.Given as goal
 

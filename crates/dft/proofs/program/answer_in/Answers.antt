@@ -20,6 +20,6 @@ returns g c element named =
     ap (λ read. read >>= (λ a. Ok (text_of_rows (rows_of_answer field c.args.operation a)))) (sym c.in_ok-arguments.ensures.exact)
     ∙ ap (λ rows. Ok (text_of_rows rows))
     (rows_of_transform g.F.Field generator two_adicity modulus element g.met.F.Field.zero_law g.met.F.Field.number_law named g.met.F.CanonicalField.number_below_law
-      c.in_ok-matrix.matrix c.in_ok-values.values arguments.width (numbers_of words) c.in_ok-text_of.ensures.whole c.in_ok-matrix.ensures.wide c.in_ok-matrix.ensures.numbers
-      c.in_ok-values.ensures c.args.operation (rw counted c.in_ok-arguments.ensures.fits))
+    c.in_ok-matrix.matrix c.in_ok-values.values arguments.width (numbers_of words) c.in_ok-text_of.ensures.whole c.in_ok-matrix.ensures.wide c.in_ok-matrix.ensures.numbers
+    c.in_ok-values.ensures c.args.operation (rw counted c.in_ok-arguments.ensures.fits))
     ∙ ap Ok (sym c.in_ok-text_of.ensures.text)

@@ -10,4 +10,4 @@ use Rattle.dft.proofs.program.answer_in_field.Goals as goal
 pub returns : goal.returns
 returns c =
     elim c.args.request.field as (λ field. Gives string_bytes c.answer_in.result (answer_in_field field c.args.request.operation (map string_bytes c.args.words.now)))
-      [ BabyBear ↦ c.answer_in.ensures (residue_of baby_bear_modulus (lit< tt) refl) (λ n below. omega arith) ]
+    [ BabyBear ↦ c.answer_in.ensures (residue_of baby_bear_modulus (lit< tt) refl) (λ n below. omega arith) ]

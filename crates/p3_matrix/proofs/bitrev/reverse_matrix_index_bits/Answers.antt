@@ -1,4 +1,4 @@
-use Rattle.std.proofs.Common.{◌≡◌, ◌^◌, ℕ, length, sym, ap, ◌∙◌}
+use Rattle.std.proofs.Common.{◌≡◌, length, sym, ap, ◌∙◌}
 use Rattle.p3_matrix.proofs.TwoPowers.{log_same}
 use Rattle.p3_matrix.proofs.HalfReversed.{reversed_rows}
 use Rattle.p3_matrix.proofs.bitrev.reverse_matrix_index_bits.Goals as goal

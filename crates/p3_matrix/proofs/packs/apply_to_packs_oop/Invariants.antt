@@ -1,4 +1,4 @@
-use Rattle.std.proofs.Common.{◌≡◌, ◌+◌, ◌-◌, ◌*◌, ◌≤◌, ℕ, length, map}
+use Rattle.std.proofs.Common.{◌≡◌, ◌+◌, ◌-◌, ◌*◌, ℕ, length, map}
 use Rattle.p3_matrix.proofs.RowsByPacks.{rows_done}
 use Rattle.p3_matrix.proofs.packs.apply_to_packs_oop.Given as goal
 

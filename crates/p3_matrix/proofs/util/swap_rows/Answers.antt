@@ -1,4 +1,4 @@
-use Rattle.std.proofs.Common.{◌≡◌, ◌+◌, ◌*◌, ℕ, get_or, length, ap, ◌∙◌}
+use Rattle.std.proofs.Common.{◌+◌, ◌*◌, get_or, length, ap, ◌∙◌}
 use Rattle.p3_matrix.proofs.RowExchanges.{swapped_column, swapped_sym, exchanged_rows}
 use Rattle.p3_matrix.proofs.util.swap_rows.Goals as goal
 

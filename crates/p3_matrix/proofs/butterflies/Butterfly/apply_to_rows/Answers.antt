@@ -1,4 +1,4 @@
-use Rattle.std.proofs.Common.{◌≡◌, ◌+◌, ◌*◌, ℕ, length, sym, ap, ◌∙◌, arith}
+use Rattle.std.proofs.Common.{◌≡◌, ◌+◌, ◌*◌, length, sym, ap, ◌∙◌, arith}
 use Rattle.p3_matrix.proofs.RowsByPacks.{rows_in_parts}
 use Rattle.p3_matrix.proofs.butterflies.Butterfly.apply_to_rows.Goals as goal
 

@@ -1,4 +1,4 @@
-use Rattle.std.proofs.Common.{map, sym, ap, ap₂, ◌∙◌}
+use Rattle.std.proofs.Common.{map, ap, ◌∙◌}
 use Rattle.p3_field.specs.Ring.{minus}
 use Rattle.p3_field.specs.Lanes.{by_lanes}
 use Rattle.p3_matrix.proofs.Lanes.{by_lanes-map_right}

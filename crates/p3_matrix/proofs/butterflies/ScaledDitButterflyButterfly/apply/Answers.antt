@@ -1,4 +1,4 @@
-use Rattle.std.proofs.Common.{map, sym, ap, ap₂, ◌∙◌}
+use Rattle.std.proofs.Common.{map, ap₂, ◌∙◌}
 use Rattle.p3_field.specs.Ring.{minus}
 use Rattle.p3_field.specs.Lanes.{by_lanes}
 use Rattle.p3_matrix.specs.Butterflies.{scaled_dit_near, scaled_dit_far}

@@ -23,19 +23,25 @@ use Rattle.dft.proofs.counted.account.Account.with.Statement.{statement}
 use Rattle.dft.proofs.counted.account.Account.with.Code as code
 
 abbrev stayed : Stays f.ended.signature.params f.ended.kept
-stayed =
-    (stay_none_ref (0 ∷ []) tt (plain (λ _. token.the_row)) yes,
-    (stay_none_slice (1 ∷ []) tt (plain (λ _. u8)) yes,
-    (stay_none_ref (2 ∷ []) tt (plain (λ _. usize)) yes, tt)))
+stayed = (
+  stay_none_ref (0 ∷ []) tt (plain (λ _. token.the_row)) yes,
+  (
+    stay_none_slice (1 ∷ []) tt (plain (λ _. u8)) yes,
+    (stay_none_ref (2 ∷ []) tt (plain (λ _. usize)) yes, tt),
+  ),
+)
 
 pub with_spec : {M : Type 1} → statement M
 with_spec 𝓤 𝓛 𝓜 𝓡 wired =
     let c = f.clauses 𝓛 𝓜.mem 𝓡.returns in
     let W = walk_of 𝓛 f.ended stayed c in
-    proved 𝓛 f.ended stayed c 𝓜 𝓡
-    (Goes-none_ref 𝓛 3 (0 ∷ []) tt (plain (λ _. token.the_row)) yes,
-    (Goes-none_slice 𝓛 3 (1 ∷ []) tt (plain (λ _. u8)) yes,
-    (Goes-none_ref 𝓛 3 (2 ∷ []) tt (plain (λ _. usize)) yes, tt)))
+    proved 𝓛 f.ended stayed c 𝓜 𝓡 (
+      Goes-none_ref 𝓛 3 (0 ∷ []) tt (plain (λ _. token.the_row)) yes,
+      (
+        Goes-none_slice 𝓛 3 (1 ∷ []) tt (plain (λ _. u8)) yes,
+        (Goes-none_ref 𝓛 3 (2 ∷ []) tt (plain (λ _. usize)) yes, tt),
+      ),
+    )
     f.Key.name code.function (code.unfolded 𝓤 𝓛.H 𝓜 𝓡 wired)
     (λ κs. (shr_vals, (shr_slice_vals, (shr_vals, tt))))
     (λ κs. (shr_Tells (named 0) κs.0 token.the_row, (shr_slice_Tells (named 1) κs.1.0 u8, (shr_Tells (named 2) κs.1.1.0 usize, tt))))

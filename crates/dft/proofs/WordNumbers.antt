@@ -1,4 +1,4 @@
--- Words of digits, and what std's `parse` gives for them.
+-- Words as numbers: digits, what `parse` of std gives for them, and the numbers of a list of words.
 use Rattle.std.proofs.Common.{◌≡◌, ◌≢◌, ℕ, ◌<◌, ◌^◌, List, length, true, Result, Ok, Err, Some, None, get_or, rules, arith, ap, sym, ◌∙◌, ◌-◌, String, map, take, drop, length-drop}
 use Rattle.std.specs.Global.{Global}
 use Rattle.std.specs.String.{string_bytes}

@@ -5,7 +5,6 @@ use Rattle.std.proofs.lemmas.List.{take_all}
 use Rattle.std.proofs.lemmas.List.Folds.{list_any_at, list_any_more}
 
 module _ {X Y : Type 0} (test : Y → Bool) (f : X → Y) where
-
   any_mapped : (xs : List X) → list_any test (map f xs) ≡ list_any (λ x. test (f x)) xs
   any_mapped [] = refl
   any_mapped (x ∷ xs) = ap (λ b. test (f x) || b) (any_mapped xs)

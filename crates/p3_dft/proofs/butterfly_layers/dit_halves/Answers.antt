@@ -1,0 +1,40 @@
+use Rattle.std.proofs.Common.{◌≡◌, ℕ, ◌+◌, ◌*◌, ◌-◌, ◌<◌, ◌≤◌, List, length, get_or, take, drop, refl, sym, ap, ap₂, ◌∙◌, arith, rules, add-one}
+use Rattle.std.proofs.Math.Nat.{suc-mul, mul-le-mul_right}
+use Rattle.std.proofs.lemmas.List.{places, get_or_read_under}
+use Rattle.p3_field.specs.Ring.{minus}
+use Rattle.p3_dft.proofs.Blocks.{table_room}
+use Rattle.p3_dft.proofs.Rows.{part_at, rows-more}
+use Rattle.p3_dft.proofs.butterfly_layers.dit_halves.Goals as goal
+
+pub loop-t-preserved : goal.loop-t-preserved
+loop-t-preserved g c =
+    let field = g.F.Field in
+    let zero = field.ZERO in
+    let t = c.loop-t.t in
+    let w = c.args.width in
+    let low = c.loop-t.low in
+    let high = c.loop-t.high in
+    let m : (t * w + w) - t * w ≡ w = omega arith in
+    let next : (t + 1) * w ≡ t * w + w = rw add-one (suc-mul t w) in
+    let room : t * w + w ≤ length c.args.low.now = omega (arith, mul-le-mul_right w c.loop-t-test.true, next, c.requires.low) in
+    let low_room : t * w + w ≤ length low = omega (arith, room, c.loop-t.invariant.near.size) in
+    let high_room : t * w + w ≤ length high = omega (arith, room, c.loop-t.invariant.far.size, c.requires.low, c.requires.high) in
+    let low_len : length (take ((t * w + w) - t * w) (drop (t * w) low)) ≡ w = search (rules, places) in
+    let high_len : length (take ((t * w + w) - t * w) (drop (t * w) high)) ≡ w = search (rules, places) in
+    let a : (j : ℕ) → j < w → field.value (get_or (take ((t * w + w) - t * w) (drop (t * w) low)) j zero) ≡ field.value (get_or c.args.low.now (t * w + j) zero) =
+    λ j inside. ap field.value (part_at low (t * w) _ j zero (omega (arith, m)) ∙ c.loop-t.invariant.near.rest (t * w + j) (omega arith)) in
+    let b : (j : ℕ) → j < w → field.value (get_or (take ((t * w + w) - t * w) (drop (t * w) high)) j zero) ≡ field.value (get_or c.args.high.now (t * w + j) zero) =
+    λ j inside. ap field.value (part_at high (t * w) _ j zero (omega (arith, m)) ∙ c.loop-t.invariant.far.rest (t * w + j) (omega arith)) in
+    let inside_table : t * c.args.stride < length c.args.twiddles.now = table_room t c.args.half c.args.stride _ c.loop-t-test.true c.requires.step c.requires.table in
+    let entry : field.value c.index-twiddles-t.result ≡ field.value (get_or c.args.twiddles.now (t * c.args.stride) zero) = ap field.value (get_or_read_under c.args.twiddles.now (t * c.args.stride) _ _ zero c.index-twiddles-t.is inside_table refl) in
+    record {
+      near = rows-more zero w _ _ low c.dit_rows.new.row_1 t _ m low_room (c.dit_rows.auto.row_1 ∙ low_len)
+          (λ j inside. c.dit_rows.ensures.near j (omega (arith, low_len)) ∙ ap₂ (λ x y. field.ring.add x (field.ring.mul y (field.value c.index-twiddles-t.result))) (a j inside) (b j inside)
+          ∙ ap (λ z. field.ring.add (field.value (get_or c.args.low.now (t * w + j) zero)) (field.ring.mul (field.value (get_or c.args.high.now (t * w + j) zero)) z)) entry)
+          c.loop-t.invariant.near;
+      far = rows-more zero w _ _ high c.dit_rows.new.row_2 t _ m high_room (c.dit_rows.auto.row_2 ∙ high_len)
+          (λ j inside. c.dit_rows.ensures.far j (omega (arith, low_len)) ∙ ap₂ (λ x y. minus field.ring x (field.ring.mul y (field.value c.index-twiddles-t.result))) (a j inside) (b j inside)
+          ∙ ap (λ z. minus field.ring (field.value (get_or c.args.low.now (t * w + j) zero)) (field.ring.mul (field.value (get_or c.args.high.now (t * w + j) zero)) z)) entry)
+          c.loop-t.invariant.far;
+      count = omega (arith, next, low_len, c.dit_rows.ensures.count, c.loop-t.invariant.count);
+    }

@@ -1,0 +1,15 @@
+use Rattle.std.proofs.Common.{◌≡◌, ℕ, ◌<◌, ◌≤◌, get_or}
+use Rattle.p3_field.specs.Ring.{minus}
+use Rattle.p3_dft.proofs.butterfly_layers.twiddle_free_rows.Given as goal
+
+abbrev pub invariant-loop-j : goal.invariant-loop-j
+invariant-loop-j g l =
+    let ring = g.F.Field.ring in
+    let value = g.F.Field.value in
+    let zero = g.F.Field.ZERO in
+    record {
+      near : (k : ℕ) → k < l.j → value (get_or l.row_1 k zero) ≡ ring.add (value (get_or l.fn.row_1 k zero)) (value (get_or l.fn.row_2 k zero));
+      far : (k : ℕ) → k < l.j → value (get_or l.row_2 k zero) ≡ minus ring (value (get_or l.fn.row_1 k zero)) (value (get_or l.fn.row_2 k zero));
+      rest_1 : (k : ℕ) → l.j ≤ k → get_or l.row_1 k zero ≡ get_or l.fn.row_1 k zero;
+      rest_2 : (k : ℕ) → l.j ≤ k → get_or l.row_2 k zero ≡ get_or l.fn.row_2 k zero;
+    }

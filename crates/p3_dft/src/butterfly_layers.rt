@@ -1,0 +1,145 @@
+// Layers of the networks, on rows that lie one after the other in a slice.
+
+ghost use Rattle.std.specs.Prelude.{◌≡◌, ℕ, ◌+◌, ◌*◌, ◌/◌, ◌<◌, ◌≤◌, List, length, get_or};
+ghost use Rattle.p3_field.specs.Ring.{minus};
+
+use p3_field::{Products, TwoAdicField, scaled};
+
+// A layer of decimation in time. The rows come in blocks of two halves, of `half` rows each. Row t of
+// the first half and row t of the second meet in a butterfly with entry `t * stride` of the table,
+// whose first entry is one: that one is not multiplied by.
+//
+// Cell i of a half stands in row `i / width` of it.
+pub(crate) fn dit_layer<F: TwoAdicField>(
+    values: &mut [F],
+    width: usize,
+    half: usize,
+    blocks: usize,
+    twiddles: &[F],
+    stride: usize,
+    products: &mut Products,
+)
+    requires wide { 1 ≤ width }
+    requires some { 1 ≤ half }
+    requires blocks { 1 ≤ blocks }
+    requires size { length values.old ≡ blocks * (2 * (half * width)) }
+    requires step { 1 ≤ stride }
+    requires table { half * stride ≤ length twiddles.now }
+    requires first { F.value (get_or twiddles.now 0 F.ZERO) ≡ F.ring.one }
+    ensures near { let cell = λ (xs : List F) (n : ℕ). F.value (get_or xs n F.ZERO) in
+        let size = half * width in
+        (b i : ℕ) → b < blocks → i < size → cell values.new (b * (2 * size) + i)
+        ≡ F.ring.add (cell values.old (b * (2 * size) + i)) (F.ring.mul (cell values.old (b * (2 * size) + (size + i))) (cell twiddles.now ((i / width) * stride))) }
+    ensures far { let cell = λ (xs : List F) (n : ℕ). F.value (get_or xs n F.ZERO) in
+        let size = half * width in
+        (b i : ℕ) → b < blocks → i < size → cell values.new (b * (2 * size) + (size + i))
+        ≡ minus F.ring (cell values.old (b * (2 * size) + i)) (F.ring.mul (cell values.old (b * (2 * size) + (size + i))) (cell twiddles.now ((i / width) * stride))) }
+    ensures count { products.new + blocks * width ≡ products.old + blocks * (half * width) }
+{
+    let size = values.len() / blocks;
+    for b in 0..blocks {
+        let start = b * size;
+        let block = &mut values[start..start + size];
+        dit_block(block, width, half, twiddles, stride, products);
+    }
+}
+
+// One block of a layer.
+fn dit_block<F: TwoAdicField>(
+    block: &mut [F],
+    width: usize,
+    half: usize,
+    twiddles: &[F],
+    stride: usize,
+    products: &mut Products,
+)
+    requires wide { 1 ≤ width }
+    requires some { 1 ≤ half }
+    requires size { length block.old ≡ 2 * (half * width) }
+    requires step { 1 ≤ stride }
+    requires table { half * stride ≤ length twiddles.now }
+    requires first { F.value (get_or twiddles.now 0 F.ZERO) ≡ F.ring.one }
+    ensures near { let cell = λ (xs : List F) (n : ℕ). F.value (get_or xs n F.ZERO) in
+        let size = half * width in
+        (i : ℕ) → i < size → cell block.new i
+        ≡ F.ring.add (cell block.old i) (F.ring.mul (cell block.old (size + i)) (cell twiddles.now ((i / width) * stride))) }
+    ensures far { let cell = λ (xs : List F) (n : ℕ). F.value (get_or xs n F.ZERO) in
+        let size = half * width in
+        (i : ℕ) → i < size → cell block.new (size + i)
+        ≡ minus F.ring (cell block.old i) (F.ring.mul (cell block.old (size + i)) (cell twiddles.now ((i / width) * stride))) }
+    ensures count { products.new + width ≡ products.old + half * width }
+{
+    let (low, high) = block.split_at_mut(half * width);
+    dit_halves(low, high, width, half, twiddles, stride, products);
+}
+
+// The rows of the two halves of a block, pair by pair.
+fn dit_halves<F: TwoAdicField>(
+    low: &mut [F],
+    high: &mut [F],
+    width: usize,
+    half: usize,
+    twiddles: &[F],
+    stride: usize,
+    products: &mut Products,
+)
+    requires wide { 1 ≤ width }
+    requires some { 1 ≤ half }
+    requires low { length low.old ≡ half * width }
+    requires high { length high.old ≡ half * width }
+    requires step { 1 ≤ stride }
+    requires table { half * stride ≤ length twiddles.now }
+    requires first { F.value (get_or twiddles.now 0 F.ZERO) ≡ F.ring.one }
+    ensures near { let cell = λ (xs : List F) (n : ℕ). F.value (get_or xs n F.ZERO) in
+        (t j : ℕ) → t < half → j < width → cell low.new (t * width + j)
+        ≡ F.ring.add (cell low.old (t * width + j)) (F.ring.mul (cell high.old (t * width + j)) (cell twiddles.now (t * stride))) }
+    ensures far { let cell = λ (xs : List F) (n : ℕ). F.value (get_or xs n F.ZERO) in
+        (t j : ℕ) → t < half → j < width → cell high.new (t * width + j)
+        ≡ minus F.ring (cell low.old (t * width + j)) (F.ring.mul (cell high.old (t * width + j)) (cell twiddles.now (t * stride))) }
+    ensures count { products.new + width ≡ products.old + half * width }
+{
+    twiddle_free_rows(&mut low[0..width], &mut high[0..width]);
+    for t in 1..half {
+        let start = t * width;
+        let end = start + width;
+        dit_rows(
+            &mut low[start..end],
+            &mut high[start..end],
+            twiddles[t * stride],
+            products,
+        );
+    }
+}
+
+// A pair of rows.
+fn dit_rows<F: TwoAdicField>(row_1: &mut [F], row_2: &mut [F], twiddle: F, products: &mut Products)
+    requires { length row_1.old ≡ length row_2.old }
+    ensures near { (j : ℕ) → j < length row_1.old → F.value (get_or row_1.new j F.ZERO)
+        ≡ F.ring.add (F.value (get_or row_1.old j F.ZERO)) (F.ring.mul (F.value (get_or row_2.old j F.ZERO)) (F.value twiddle)) }
+    ensures far { (j : ℕ) → j < length row_1.old → F.value (get_or row_2.new j F.ZERO)
+        ≡ minus F.ring (F.value (get_or row_1.old j F.ZERO)) (F.ring.mul (F.value (get_or row_2.old j F.ZERO)) (F.value twiddle)) }
+    ensures count { products.new ≡ products.old + length row_1.old }
+{
+    for j in 0..row_1.len() {
+        let a = row_1[j];
+        let b = scaled(row_2[j], twiddle, products);
+        row_1[j] = a + b;
+        row_2[j] = a - b;
+    }
+}
+
+// A pair of rows, with the twiddle one.
+fn twiddle_free_rows<F: TwoAdicField>(row_1: &mut [F], row_2: &mut [F])
+    requires { length row_1.old ≡ length row_2.old }
+    ensures near { (j : ℕ) → j < length row_1.old → F.value (get_or row_1.new j F.ZERO)
+        ≡ F.ring.add (F.value (get_or row_1.old j F.ZERO)) (F.value (get_or row_2.old j F.ZERO)) }
+    ensures far { (j : ℕ) → j < length row_1.old → F.value (get_or row_2.new j F.ZERO)
+        ≡ minus F.ring (F.value (get_or row_1.old j F.ZERO)) (F.value (get_or row_2.old j F.ZERO)) }
+{
+    for j in 0..row_1.len() {
+        let a = row_1[j];
+        let b = row_2[j];
+        row_1[j] = a + b;
+        row_2[j] = a - b;
+    }
+}

@@ -1,0 +1,196 @@
+//! The transform by decimation in time, with tables of twiddles that are kept.
+
+ghost use Rattle.std.specs.Prelude.{◌≡◌, ◌↔◌, ◌⊎◌, ℕ, ◌+◌, ◌*◌, ◌-◌, ◌^◌, ◌<◌, ◌≤◌, List, length, get_or, IsTrue, IsOk, OnOk, OnErr, Ok};
+ghost use Rattle.p3_field.specs.Ring.{power};
+ghost use Rattle.p3_matrix.specs.BitOrder.{rev};
+ghost use Rattle.p3_matrix.specs.RowMajor.{RowMajor, IsRowMajor, height};
+ghost use Rattle.p3_dft.specs.Polynomials.{poly};
+ghost use Rattle.p3_dft.specs.Transforms.{IsTransform};
+ghost use Rattle.p3_dft.specs.Twiddles.{IsPrepared};
+
+use crate::butterfly_layers::dit_layer;
+use crate::traits::{Layout, TwoAdicSubgroupDft};
+use crate::twiddles::TwiddleTables;
+use p3_field::{Products, TwoAdicField};
+use p3_matrix::{
+    DftError, IntoRowMajorMatrix, RowMajorMatrix, log2_strict_usize, reverse_matrix_index_bits,
+};
+use std::alloc::{AllocError, Global};
+use std::marker::Model;
+
+/// Transforms by layers of butterflies, in place: rows in bit reversed order, then one layer for each
+/// binary digit of the height. At height `2^k` and width w that is at most `w * k * 2^k / 2`
+/// products.
+///
+/// The powers of the generator that a height needs are kept from its first transform on, or from
+/// `prepare`, until the engine ends; then `dft_batch` and the calls that stand on it take no memory
+/// at that height. A new engine and a clone have no tables and take no memory.
+///
+/// Contracts see which heights are prepared and how many products were made.
+#[derive(Drop)]
+pub struct Radix2Dit<F: TwoAdicField> {
+    tables: TwiddleTables<F>,
+    products: Products,
+}
+
+impl<F: TwoAdicField> Model for Radix2Dit<F> {
+    ghost use Rattle.p3_dft.specs.Twiddles.{Tabled};
+
+    ghost Value = { Tabled };
+
+    ghost view = { λ e. record { prepared = e.tables; products = e.products } };
+}
+
+impl<F: TwoAdicField> Default for Radix2Dit<F> {
+    ghost use Rattle.std.specs.Prelude.{◌≡◌, []};
+
+    ghost is_default = { λ e. (e.prepared ≡ []) × (e.products ≡ 0) };
+
+    fn default() -> Self {
+        Radix2Dit {
+            tables: TwiddleTables::new(),
+            products: Products::new(),
+        }
+    }
+}
+
+impl<F: TwoAdicField> Clone for Radix2Dit<F> {
+    ghost use Rattle.std.specs.Prelude.{◌≡◌, [], ⊤};
+
+    ghost is_clone = { λ _ e. (e.prepared ≡ []) × (e.products ≡ 0) };
+
+    ghost is_infallible = { λ _. ⊤ };
+
+    fn clone(&self) -> Result<Self, AllocError> {
+        Ok(Self::default())
+    }
+}
+
+impl<F: TwoAdicField> Radix2Dit<F> {
+    /// Makes the table for height `2^log_h`, from when on transforms of that height take no memory.
+    /// It takes none itself where the height is prepared already, as height one always is. Where
+    /// memory is refused, the engine is as before.
+    pub fn prepare(&mut self, alloc: Global, log_h: usize) -> Result<(), DftError>
+        requires within { log_h ≤ F.TWO_ADICITY }
+        requires size { 2 ^ log_h < 2 ^ 64 }
+        ensures prepares { OnOk result (IsPrepared self.new log_h) }
+        ensures ready { IsPrepared self.old log_h → IsOk result }
+        ensures keeps { (k : ℕ) → IsPrepared self.old k → IsPrepared self.new k }
+        ensures only { (k : ℕ) → IsPrepared self.new k → IsPrepared self.old k ⊎ (k ≡ log_h) }
+        ensures refused { OnErr result (self.new ≡ self.old) }
+        ensures products { self.new.products ≡ self.old.products }
+    {
+        if log_h == 0 {
+            return Ok(());
+        }
+        self.tables.make(alloc, log_h)
+    }
+
+    /// Whether transforms of height `2^log_h` take no memory. Height one always is prepared.
+    pub fn is_prepared(&self, log_h: usize) -> bool
+        ensures { IsTrue result ↔ IsPrepared self.now log_h }
+    {
+        log_h == 0 || self.tables.has(log_h)
+    }
+}
+
+impl<F: TwoAdicField> TwoAdicSubgroupDft<F> for Radix2Dit<F> {
+    ghost use Rattle.std.specs.Prelude.{◌≡◌, ℕ, ◌+◌, ◌*◌, ◌/◌, ◌-◌, ◌^◌, ◌≤◌, IfOk, IsOk, OnOk, Ok};
+    ghost use Rattle.p3_matrix.specs.RowMajor.{height};
+    ghost use Rattle.p3_dft.specs.Shapes.{FitsDft};
+    ghost use Rattle.p3_dft.specs.Transforms.{IsTransform};
+    ghost use Rattle.p3_dft.specs.Twiddles.{IsPrepared};
+    ghost use Rattle.p3_dft.specs.declared.traits.Layout.TheVariants.{Natural};
+
+    type Evaluations = RowMajorMatrix<F>;
+
+    const LAYOUT: Layout = Layout::Natural;
+
+    ghost LAYOUT = { Natural };
+
+    ghost promised = { IsPrepared };
+
+    ghost bound = { λ k w. w * (k * 2 ^ k / 2) };
+
+    ghost made = { λ e. e.products };
+
+    /// As the trait says. `Ok` makes the height prepared for good. A matrix of height one is its own
+    /// transform: it is handed back, with no product and no memory taken.
+    fn dft_batch<N: IntoRowMajorMatrix<F>>(&mut self, mat: N) -> Result<RowMajorMatrix<F>, DftError>
+        requires { FitsDft F.TWO_ADICITY (height (N.stored mat)) (N.stored mat).width }
+        ensures values { IfOk result (λ out. IsTransform F.Field.own F.generator (N.stored mat) F.ring.one out) }
+        ensures succeeds { (k : ℕ) → height (N.stored mat) ≡ 2 ^ k → IsPrepared self.old k → IsOk result }
+        ensures one_row { height (N.stored mat) ≡ 1 → (result ≡ Ok (N.stored mat)) × (self.new ≡ self.old) }
+        ensures prepares { (k : ℕ) → height (N.stored mat) ≡ 2 ^ k → OnOk result (IsPrepared self.new k) }
+        ensures keeps { (k : ℕ) → IsPrepared self.old k → IsPrepared self.new k }
+        ensures grows { self.old.products ≤ self.new.products }
+        ensures cost { (k : ℕ) → height (N.stored mat) ≡ 2 ^ k
+            → OnOk result (self.new.products ≤ self.old.products + (N.stored mat).width * (k * 2 ^ k / 2)) }
+    {
+        let mat = mat.into_row_major_matrix();
+        let height = mat.height();
+        if height == 1 {
+            return Ok(mat);
+        }
+        let log_h = log2_strict_usize(height);
+        let width = mat.width();
+        let values = mat.into_values();
+        self.tables.make(*values.allocator(), log_h)?;
+        let mut mat = RowMajorMatrix::new(values, width);
+        let twiddles = self.tables.powers(log_h);
+        transform(&mut mat, log_h, twiddles, &mut self.products);
+        Ok(mat)
+    }
+
+    fn add_products(&mut self, products: Products) {
+        self.products.add(products);
+    }
+}
+
+// Transforms a matrix in place by the table for its height.
+fn transform<F: TwoAdicField>(
+    mat: &mut RowMajorMatrix<F>,
+    log_h: usize,
+    twiddles: &[F],
+    products: &mut Products,
+)
+    requires whole { IsRowMajor mat.old }
+    requires small { log_h < 64 }
+    requires rooted { log_h ≤ F.TWO_ADICITY }
+    requires height { height mat.old ≡ 2 ^ log_h }
+    requires table_length { 2 ^ log_h ≤ 2 * length twiddles.now }
+    requires table { (e : ℕ) → e < length twiddles.now → F.value (get_or twiddles.now e F.ZERO) ≡ power F.ring (F.value (F.generator log_h)) e }
+    ensures values { IsTransform F.Field.own F.generator mat.old F.ring.one mat.new }
+    ensures count { products.new + 2 ^ log_h * mat.old.width ≡ products.old + (log_h * 2 ^ (log_h - 1) + 1) * mat.old.width }
+{
+    let width = mat.width();
+    reverse_matrix_index_bits(&mut mat.as_view_mut());
+    dit_network(mat.values_mut(), width, log_h, twiddles, products);
+}
+
+// All layers, on rows that lie in bit reversed order. The table has the powers of the generator.
+// Layer l has `2^(log_h - 1 - l)` blocks, and pair t of a block takes entry
+// `t * 2^(log_h - 1 - l)`.
+fn dit_network<F: TwoAdicField>(
+    values: &mut [F],
+    width: usize,
+    log_h: usize,
+    twiddles: &[F],
+    products: &mut Products,
+)
+    requires wide { 1 ≤ width }
+    requires small { log_h < 64 }
+    requires rooted { log_h ≤ F.TWO_ADICITY }
+    requires height { length values.old ≡ 2 ^ log_h * width }
+    requires table_length { 2 ^ log_h ≤ 2 * length twiddles.now }
+    requires table { (e : ℕ) → e < length twiddles.now → F.value (get_or twiddles.now e F.ZERO) ≡ power F.ring (F.value (F.generator log_h)) e }
+    ensures values { (r j : ℕ) → r < 2 ^ log_h → j < width → F.value (get_or values.new (r * width + j) F.ZERO)
+        ≡ poly F.ring (2 ^ log_h) (λ q. F.value (get_or values.old (rev log_h q * width + j) F.ZERO)) (power F.ring (F.value (F.generator log_h)) r) }
+    ensures count { products.new + 2 ^ log_h * width ≡ products.old + (log_h * 2 ^ (log_h - 1) + 1) * width }
+{
+    for l in 0..log_h {
+        let half = 1usize << l;
+        let blocks = 1usize << (log_h - 1 - l);
+        dit_layer(values, width, half, blocks, twiddles, blocks, products);
+    }
+}
