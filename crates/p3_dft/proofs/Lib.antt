@@ -7,6 +7,7 @@ pub mod Extensions
 pub mod Halves
 pub mod Interpolation
 pub mod Inverses
+pub mod JobLists
 pub mod Layers
 pub mod Layouts
 pub mod Logarithms
