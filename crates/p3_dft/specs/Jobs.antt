@@ -1,5 +1,5 @@
 -- Jobs: when one can be run, and what answers one and a list of them.
-use Rattle.std.specs.Prelude.{ℕ, ◌<◌, List, length, take}
+use Rattle.std.specs.Prelude.{◌≡◌, ℕ, ◌^◌, ◌<◌, List, length, take, get_or}
 use Rattle.std.specs.List.{AllZip}
 use Rattle.p3_field.specs.Ring.{IsInvertible}
 use Rattle.p3_field.specs.declared.fields.Field.{Ghosts as FieldMembers}
@@ -33,3 +33,16 @@ module _ {F : Type 0} (f : FieldMembers F) where
   pub record AreFirstAnswers (generator : ℕ → F) (jobs : List (Job F)) (answers : List (RowMajor F)) : Type 0 where
     pub fewer : length answers < length jobs
     pub answered : AllZip (IsAnswer generator) (take (length answers) jobs) answers
+
+-- the job takes a transform of a height at which it is promised to succeed, and no extension
+abbrev pub IsPromised : {F : Type 0} → (ℕ → Type 0) → Job F → Type 0
+IsPromised promised (Dft m) = (k : ℕ) × (height m ≡ 2 ^ k) × promised k
+IsPromised promised (CosetDft m s) = (k : ℕ) × (height m ≡ 2 ^ k) × promised k
+IsPromised promised (Idft m) = (k : ℕ) × (height m ≡ 2 ^ k) × promised k
+IsPromised promised (CosetIdft m s) = (k : ℕ) × (height m ≡ 2 ^ k) × promised k
+IsPromised promised (Lde m a) = ⊥
+IsPromised promised (CosetLde m a s) = ⊥
+
+-- the first job that has no answer is not promised
+abbrev pub NextIsNotPromised : {F : Type 0} → (ℕ → Type 0) → List (Job F) → List (RowMajor F) → Type 0
+NextIsNotPromised {F} promised jobs answers = (d : Job F) → IsPromised promised (get_or jobs (length answers) d) → ⊥

@@ -1,8 +1,8 @@
 //! Lists of transforms, answered one after another by one engine.
 
-ghost use Rattle.std.specs.Prelude.{◌≡◌, ℕ, ◌≤◌, [], IfOk, IfErr, OnOk, OnErr};
+ghost use Rattle.std.specs.Prelude.{◌≡◌, ℕ, ◌≤◌, ◌⊎◌, [], IfOk, IfErr, IsOk, OnOk, OnErr};
 ghost use Rattle.std.specs.List.{All, AllZip};
-ghost use Rattle.p3_dft.specs.Jobs.{AreFirstAnswers, CanRun, IsAnswer};
+ghost use Rattle.p3_dft.specs.Jobs.{AreFirstAnswers, CanRun, IsAnswer, IsPromised, NextIsNotPromised};
 
 use crate::traits::TwoAdicSubgroupDft;
 use p3_field::TwoAdicField;
@@ -37,7 +37,9 @@ pub struct JobsStopped<F> {
 /// Answers the jobs, each with rows in natural order, in the order of the jobs. Where memory is
 /// refused, the answers made before stay and the other jobs are dropped.
 ///
-/// Memory for the list of answers is taken first, so that no answer is lost for want of it.
+/// Memory for the list of answers is taken first: where that is refused the engine is as before, and
+/// else no answer is lost for want of it, so that the first job without an answer is one that the
+/// engine was not promised to answer.
 pub fn run_jobs<F: TwoAdicField, D: TwoAdicSubgroupDft<F>>(
     engine: &mut D,
     jobs: Vec<Job<F>>,
@@ -45,6 +47,8 @@ pub fn run_jobs<F: TwoAdicField, D: TwoAdicSubgroupDft<F>>(
     requires { All (CanRun F.Field.own F.TWO_ADICITY) jobs.items }
     ensures all { IfOk result (λ answers. AllZip (IsAnswer F.Field.own F.generator) jobs.items answers.items) }
     ensures first { IfErr result (λ stopped. AreFirstAnswers F.Field.own F.generator jobs.items stopped.answers.items) }
+    ensures refused { IfErr result (λ stopped. ((engine.new ≡ engine.old) × (stopped.answers.items ≡ []))
+        ⊎ NextIsNotPromised (D.promised engine.old) jobs.items stopped.answers.items) }
     ensures keeps { (k : ℕ) → D.promised engine.old k → D.promised engine.new k }
     ensures grows { D.made engine.old ≤ D.made engine.new }
 {
@@ -65,6 +69,8 @@ fn answer_jobs<F: TwoAdicField, D: TwoAdicSubgroupDft<F>>(
     requires empty { answers.old.items ≡ [] }
     ensures all { OnOk result (AllZip (IsAnswer F.Field.own F.generator) jobs.items answers.new.items) }
     ensures first { OnErr result (AreFirstAnswers F.Field.own F.generator jobs.items answers.new.items) }
+    ensures refused { OnErr result (((engine.new ≡ engine.old) × (answers.new.items ≡ []))
+        ⊎ NextIsNotPromised (D.promised engine.old) jobs.items answers.new.items) }
     ensures keeps { (k : ℕ) → D.promised engine.old k → D.promised engine.new k }
     ensures grows { D.made engine.old ≤ D.made engine.new }
 {
@@ -83,6 +89,7 @@ fn run_job<F: TwoAdicField, D: TwoAdicSubgroupDft<F>>(
 ) -> Result<RowMajorMatrix<F>, DftError>
     requires { CanRun F.Field.own F.TWO_ADICITY job }
     ensures answer { IfOk result (IsAnswer F.Field.own F.generator job) }
+    ensures succeeds { IsPromised (D.promised engine.old) job → IsOk result }
     ensures keeps { (k : ℕ) → D.promised engine.old k → D.promised engine.new k }
     ensures grows { D.made engine.old ≤ D.made engine.new }
 {
