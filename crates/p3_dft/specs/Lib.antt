@@ -1,4 +1,6 @@
 pub mod Cosets
+pub mod Extensions
+pub mod Jobs
 pub mod Polynomials
 pub mod Shapes
 pub mod Transforms

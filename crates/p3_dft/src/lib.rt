@@ -6,12 +6,14 @@
 #![tactic(auto)]
 
 mod butterfly_layers;
+pub mod jobs;
 pub mod naive;
 pub mod radix_2_dit;
 pub mod traits;
 mod twiddles;
 pub mod util;
 
+pub use jobs::{Job, JobsStopped, run_jobs};
 pub use naive::NaiveDft;
 pub use p3_field::{
     BabyBear, CanonicalField, Field, Goldilocks, Packable, Packed, PackedField, Products,
@@ -23,4 +25,4 @@ pub use p3_matrix::{
 };
 pub use radix_2_dit::Radix2Dit;
 pub use traits::{Layout, TwoAdicSubgroupDft};
-pub use util::fits_dft;
+pub use util::{fits_dft, fits_lde};

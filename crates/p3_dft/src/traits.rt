@@ -2,11 +2,13 @@
 
 ghost use Rattle.std.specs.Prelude.{◌≡◌, ◌↔◌, ℕ, ◌+◌, ◌*◌, ◌^◌, ◌≤◌, IfOk, OnOk, IsOk, vec_len};
 ghost use Rattle.p3_matrix.specs.RowMajor.{RowMajor, height};
-ghost use Rattle.p3_dft.specs.Shapes.{FitsDft};
+ghost use Rattle.p3_dft.specs.Extensions.{IsExtension, IsTransformedExtension, extension_bound, laid};
+ghost use Rattle.p3_dft.specs.Shapes.{FitsDft, FitsLde, HasShapeOf};
+ghost use Rattle.p3_matrix.specs.Matrix.{Same, matrix};
 ghost use Rattle.p3_field.specs.Ring.{IsInvertible};
 ghost use Rattle.p3_dft.specs.Transforms.{IsInterpolation, IsTransform};
 
-use crate::util::{coefficients_from_values, shift_rows};
+use crate::util::{coefficients_from_values, pad_rows, reverse_rows, shift_rows};
 use p3_field::{Field, Products, TwoAdicField};
 use p3_matrix::{DftError, Evaluations, IntoRowMajorMatrix, RowMajorMatrix};
 
@@ -129,6 +131,83 @@ pub trait TwoAdicSubgroupDft<F: TwoAdicField>: Clone + Default {
         Ok(coefficients)
     }
 
+    /// The values on `shift * K` of what `transform` makes of the polynomials whose values on H are
+    /// the columns, where K is the subgroup of order `height << added_bits`. The shift may be zero.
+    ///
+    /// The transform is called once, with the matrix of the coefficients in the layout that it is
+    /// told, which is `LAYOUT`, and answers their like in that layout. It may be called on every
+    /// matrix of the input's shape and keeps that shape. The shape is one that `fits_lde` accepts.
+    fn coset_lde_batch_with_transform<
+        N: IntoRowMajorMatrix<F>,
+        T: FnOnce(RowMajorMatrix<F>, Layout) -> RowMajorMatrix<F> + Drop,
+    >(
+        &mut self,
+        mat: N,
+        added_bits: usize,
+        shift: F,
+        transform: T,
+    ) -> Result<Self::Evaluations, DftError>
+        requires fits { FitsLde F.TWO_ADICITY (height (N.stored mat)) (N.stored mat).width added_bits }
+        requires callable { (m : RowMajor F) → HasShapeOf m (N.stored mat) → T.pre transform m LAYOUT }
+        requires shape { (m n : RowMajor F) → HasShapeOf m (N.stored mat) → T.post transform m LAYOUT n → HasShapeOf n (N.stored mat) }
+        ensures values { IfOk result (λ out. IsTransformedExtension F.Field.own F.generator (λ m n. T.post transform m LAYOUT n) LAYOUT
+            (N.stored mat) added_bits (F.value shift) (Self.Evaluations.natural out)) }
+        ensures keeps { (k : ℕ) → promised self.old k → promised self.new k }
+        ensures grows { made self.old ≤ made self.new }
+        ensures cost { (k : ℕ) → height (N.stored mat) ≡ 2 ^ k
+            → OnOk result (made self.new ≤ made self.old + extension_bound bound k added_bits (N.stored mat).width) }
+    {
+        let mut coefficients = self.idft_batch(mat)?;
+        exchange_layouts(&mut coefficients, Self::LAYOUT);
+        let mut coefficients = transform(coefficients, Self::LAYOUT);
+        exchange_layouts(&mut coefficients, Self::LAYOUT);
+        let coefficients = pad_rows(coefficients, added_bits)?;
+        self.coset_dft_batch(coefficients, shift)
+    }
+
+    /// The values on `shift * K` of the polynomials whose values on H are the columns, where K is the
+    /// subgroup of order `height << added_bits`. The shift may be zero. The shape is one that
+    /// `fits_lde` accepts.
+    fn coset_lde_batch<N: IntoRowMajorMatrix<F>>(
+        &mut self,
+        mat: N,
+        added_bits: usize,
+        shift: F,
+    ) -> Result<Self::Evaluations, DftError>
+        requires { FitsLde F.TWO_ADICITY (height (N.stored mat)) (N.stored mat).width added_bits }
+        ensures values { IfOk result (λ out. IsExtension F.Field.own F.generator (N.stored mat) added_bits (F.value shift) (Self.Evaluations.natural out)) }
+        ensures keeps { (k : ℕ) → promised self.old k → promised self.new k }
+        ensures grows { made self.old ≤ made self.new }
+        ensures cost { (k : ℕ) → height (N.stored mat) ≡ 2 ^ k
+            → OnOk result (made self.new ≤ made self.old + extension_bound bound k added_bits (N.stored mat).width) }
+    {
+        self.coset_lde_batch_with_transform(
+            mat,
+            added_bits,
+            shift,
+            |coefficients: RowMajorMatrix<F>, _layout: Layout| -> RowMajorMatrix<F>
+                ensures { result ≡ coefficients }
+            { coefficients },
+        )
+    }
+
+    /// The values on K of the polynomials whose values on H are the columns, where K is the subgroup
+    /// of order `height << added_bits`. The shape is one that `fits_lde` accepts.
+    fn lde_batch<N: IntoRowMajorMatrix<F>>(
+        &mut self,
+        mat: N,
+        added_bits: usize,
+    ) -> Result<Self::Evaluations, DftError>
+        requires { FitsLde F.TWO_ADICITY (height (N.stored mat)) (N.stored mat).width added_bits }
+        ensures values { IfOk result (λ out. IsExtension F.Field.own F.generator (N.stored mat) added_bits F.ring.one (Self.Evaluations.natural out)) }
+        ensures keeps { (k : ℕ) → promised self.old k → promised self.new k }
+        ensures grows { made self.old ≤ made self.new }
+        ensures cost { (k : ℕ) → height (N.stored mat) ≡ 2 ^ k
+            → OnOk result (made self.new ≤ made self.old + extension_bound bound k added_bits (N.stored mat).width) }
+    {
+        self.coset_lde_batch(mat, added_bits, F::ONE)
+    }
+
     /// The values on H of the polynomial with these coefficients.
     final fn dft(&mut self, vec: Vec<F>) -> Result<Vec<F>, DftError>
         requires { FitsDft F.TWO_ADICITY (vec_len vec) 1 }
@@ -182,5 +261,48 @@ pub trait TwoAdicSubgroupDft<F: TwoAdicField>: Clone + Default {
             self.coset_idft_batch(RowMajorMatrix::new_col(vec), shift)?
                 .into_values(),
         )
+    }
+
+    /// The values on K of the polynomial whose values on H these are, where K is the subgroup of order
+    /// `len << added_bits`.
+    final fn lde(&mut self, vec: Vec<F>, added_bits: usize) -> Result<Vec<F>, DftError>
+        requires { FitsLde F.TWO_ADICITY (vec_len vec) 1 added_bits }
+        ensures values { IfOk result (λ out. IsExtension F.Field.own F.generator (record { width = 1; values = vec.items }) added_bits F.ring.one (record { width = 1; values = out.items })) }
+        ensures keeps { (k : ℕ) → promised self.old k → promised self.new k }
+        ensures grows { made self.old ≤ made self.new }
+        ensures cost { (k : ℕ) → vec_len vec ≡ 2 ^ k → OnOk result (made self.new ≤ made self.old + extension_bound bound k added_bits 1) }
+    {
+        let values = self.lde_batch(RowMajorMatrix::new_col(vec), added_bits)?;
+        Ok(values.to_row_major_matrix().into_values())
+    }
+
+    /// The values on `shift * K` of the polynomial whose values on H these are, where K is the
+    /// subgroup of order `len << added_bits`. The shift may be zero.
+    final fn coset_lde(
+        &mut self,
+        vec: Vec<F>,
+        added_bits: usize,
+        shift: F,
+    ) -> Result<Vec<F>, DftError>
+        requires { FitsLde F.TWO_ADICITY (vec_len vec) 1 added_bits }
+        ensures values { IfOk result (λ out. IsExtension F.Field.own F.generator (record { width = 1; values = vec.items }) added_bits (F.value shift) (record { width = 1; values = out.items })) }
+        ensures keeps { (k : ℕ) → promised self.old k → promised self.new k }
+        ensures grows { made self.old ≤ made self.new }
+        ensures cost { (k : ℕ) → vec_len vec ≡ 2 ^ k → OnOk result (made self.new ≤ made self.old + extension_bound bound k added_bits 1) }
+    {
+        let values = self.coset_lde_batch(RowMajorMatrix::new_col(vec), added_bits, shift)?;
+        Ok(values.to_row_major_matrix().into_values())
+    }
+}
+
+// Brings rows from natural order into the order of a layout, or back.
+fn exchange_layouts<T>(mat: &mut RowMajorMatrix<T>, layout: Layout)
+    requires { (k : ℕ) × (height mat.old ≡ 2 ^ k) }
+    ensures shape { HasShapeOf mat.new mat.old }
+    ensures rows { (k : ℕ) → height mat.old ≡ 2 ^ k → (d : T) → Same (matrix d mat.new) (laid layout k (matrix d mat.old)) }
+{
+    match layout {
+        Layout::Natural => {}
+        Layout::BitReversed => reverse_rows(mat),
     }
 }

@@ -1,17 +1,19 @@
 //! Tests of shapes, and small steps that engines share.
 
-ghost use Rattle.std.specs.Prelude.{◌≡◌, ◌↔◌, ℕ, ◌+◌, ◌*◌, ◌++◌, ◌<◌, ◌≤◌, ◌^◌, IsTrue, OnOk, OnErr, get_or, length, replicate, vec_len, vec_capacity};
+ghost use Rattle.std.specs.Prelude.{◌≡◌, ◌↔◌, ℕ, ◌+◌, ◌*◌, ◌++◌, ◌<◌, ◌≤◌, ◌^◌, IsTrue, IfOk, OnOk, OnErr, get_or, length, replicate, vec_len, vec_capacity};
 ghost use Rattle.p3_field.specs.Ring.{power};
-ghost use Rattle.p3_matrix.specs.RowMajor.{height, SameShape};
+ghost use Rattle.p3_matrix.specs.BitOrder.{reversed};
+ghost use Rattle.p3_matrix.specs.RowMajor.{height, IsRowMajor, SameShape};
 ghost use Rattle.p3_matrix.specs.Matrix.{Same, exchanged, matrix};
 ghost use Rattle.p3_dft.specs.Cosets.{IsQuotient, opposed, shifted};
-ghost use Rattle.p3_dft.specs.Shapes.{FitsDft};
+ghost use Rattle.p3_dft.specs.Extensions.{padded};
+ghost use Rattle.p3_dft.specs.Shapes.{FitsDft, FitsLde};
 ghost use Rattle.p3_dft.specs.Transforms.{values_of};
 
 use p3_field::{Field, Products, TwoAdicField};
 use p3_matrix::{
-    DftError, RowMajorMatrix, RowMajorMatrixViewMut, log2_strict_usize, scale_slice_in_place,
-    swap_rows,
+    DftError, RowMajorMatrix, RowMajorMatrixViewMut, log2_strict_usize, reverse_matrix_index_bits,
+    scale_slice_in_place, swap_rows,
 };
 
 /// Whether a matrix of this shape can be transformed: the height is a power of two of at most
@@ -30,6 +32,23 @@ pub fn fits_dft<F: TwoAdicField>(height: usize, width: usize) -> bool
         return false;
     }
     height.checked_mul(width).is_some()
+}
+
+/// Whether a matrix of this shape can be extended by this many bits: it can be transformed, its
+/// height times `2^added_bits` is at most `2^TWO_ADICITY`, and a `usize` counts the entries of the
+/// extension.
+pub fn fits_lde<F: TwoAdicField>(height: usize, width: usize, added_bits: usize) -> bool
+    ensures { IsTrue result ↔ FitsLde F.TWO_ADICITY height width added_bits }
+{
+    if !fits_dft::<F>(height, width) {
+        return false;
+    }
+    let log_height = log2_strict_usize(height);
+    // A `usize` has 64 binary digits, so no power of two beyond `2^63`.
+    if added_bits > F::TWO_ADICITY.min(63) - log_height {
+        return false;
+    }
+    width.checked_mul(1 << (log_height + added_bits)).is_some()
 }
 
 /// Divides each entry by the height, a power of two: entry x becomes the y with `height * y = x`,
@@ -107,6 +126,33 @@ pub(crate) fn extend_by_zeros<F: Field>(values: &mut Vec<F>, n: usize) -> Result
     values.reserve_exact(n)?;
     values.resize_with(len + n, || F::ZERO)?;
     Ok(())
+}
+
+// Adds rows of zeros below, up to `2^added_bits` times the height.
+pub(crate) fn pad_rows<F: Field>(
+    mat: RowMajorMatrix<F>,
+    added_bits: usize,
+) -> Result<RowMajorMatrix<F>, DftError>
+    requires bits { added_bits < 64 }
+    requires size { height mat * mat.width * 2 ^ added_bits < 2 ^ 64 }
+    ensures whole { IsRowMajor mat }
+    ensures padded { IfOk result (λ out. out ≡ padded F.ZERO mat added_bits) }
+{
+    let width = mat.width();
+    let mut values = mat.into_values();
+    let added = (values.len() << added_bits) - values.len();
+    extend_by_zeros(&mut values, added)?;
+    Ok(RowMajorMatrix::new(values, width))
+}
+
+// `reverse_matrix_index_bits` of a matrix itself.
+pub(crate) fn reverse_rows<T>(mat: &mut RowMajorMatrix<T>)
+    requires { (k : ℕ) × (height mat.old ≡ 2 ^ k) }
+    ensures shape { SameShape mat.new mat.old }
+    ensures rows { (k : ℕ) → height mat.old ≡ 2 ^ k
+        → (d : T) → Same (matrix d mat.new) (reversed k (matrix d mat.old)) }
+{
+    reverse_matrix_index_bits(&mut mat.as_view_mut());
 }
 
 // Multiplies row i by the i-th power of `shift`, with one product an entry, or none where the shift

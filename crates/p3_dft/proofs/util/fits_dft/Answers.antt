@@ -1,8 +1,8 @@
-use Rattle.std.proofs.Common.{Option, Some, None, IsTrue, refl, ◌≡◌, ℕ, ◌*◌, ◌^◌, ◌<◌, ◌≤◌, sym, ◌∙◌, ap, arith, rules}
+use Rattle.std.proofs.Common.{◌≡◌, ℕ, ◌*◌, ◌^◌, ◌<◌, ◌≤◌, sym, ◌∙◌, ap, arith, rules}
 use Rattle.std.proofs.lemmas.Nat.{one_shl}
-use Rattle.std.specs.Option.{SomeIff, is_some}
 use Rattle.p3_dft.specs.Shapes.{FitsDft}
 use Rattle.p3_dft.proofs.Logarithms.{log-unique}
+use Rattle.p3_dft.proofs.Shapes.{told}
 use Rattle.p3_dft.proofs.util.fits_dft.Goals as goal
 
 -- the logarithm of a shape that fits is the one that was computed
@@ -26,11 +26,6 @@ returns-then-log-TWO_ADICITY g c =
           let same : log ≡ fit.log = log_is _ _ _ log c.ilog2-log.ensures.power_le c.ilog2-log.ensures.next_power_gt fit in
           absurd (omega (arith, fit.within, c.TWO_ADICITY.ensures)),
     )
-
--- a product is told exactly where it fits
-told : (o : Option ℕ) (P : Type 0) (n : ℕ) → SomeIff o P n → (IsTrue (is_some o) → P) × (P → IsTrue (is_some o))
-told None P n refused = (λ h. absurd (search rules), λ p. absurd (refused p))
-told (Some m) P n given = (λ h. given.0, λ p. refl)
 
 pub returns : goal.returns
 returns g c =

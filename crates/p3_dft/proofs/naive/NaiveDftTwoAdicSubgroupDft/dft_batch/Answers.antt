@@ -1,7 +1,8 @@
-use Rattle.std.proofs.Common.{zero, suc, refl, ◌≡◌, ℕ, ◌++◌, ◌*◌, ◌^◌, ◌<◌, ◌≤◌, length, get_or, replicate, sym, ap, ◌∙◌, arith}
+use Rattle.std.proofs.Common.{◌≡◌, ℕ, ◌++◌, ◌*◌, ◌^◌, ◌<◌, ◌≤◌, length, get_or, replicate, sym, ap, ◌∙◌, arith}
 use Rattle.std.proofs.lemmas.Grind.{common_steps}
 use Rattle.p3_matrix.specs.RowMajor.{RowMajor, height}
 use Rattle.p3_dft.proofs.Logarithms.{log-unique}
+use Rattle.p3_dft.proofs.Padding.{copy_at}
 use Rattle.p3_dft.proofs.Rows.{written}
 use Rattle.p3_dft.proofs.Transforms.{transform_of_parts}
 use Rattle.p3_dft.proofs.naive.NaiveDftTwoAdicSubgroupDft.dft_batch.Goals as goal
@@ -9,12 +10,6 @@ use Rattle.p3_dft.proofs.naive.NaiveDftTwoAdicSubgroupDft.dft_batch.Goals as goa
 -- the logarithm that was computed is the height's
 log_is : (h computed log : ℕ) → h ≡ 2 ^ log → 2 ^ computed ≤ h → h < 2 * 2 ^ computed → computed ≡ log
 log_is h computed log high low next = log-unique computed log (omega (arith, high)) (omega (arith, high))
-
--- past its end a list of copies is read as one more
-zero_at : {X : Type 0} (k n : ℕ) (z : X) → get_or (replicate k z) n z ≡ z
-zero_at zero n z = refl
-zero_at (suc k) zero z = refl
-zero_at (suc k) (suc n) z = zero_at k n z
 
 pub two_adic_generator-generator-requires : goal.two_adic_generator-generator-requires
 two_adic_generator-generator-requires g c =
@@ -25,7 +20,7 @@ two_adic_generator-generator-requires g c =
 pub add_values-requires-clause-zero : goal.add_values-requires-clause-zero
 add_values-requires-clause-zero g c n inside =
     let zeros : c.as_mut_slice.result.now ≡ replicate c.len.result g.F.Field.ZERO = c.as_mut_slice.ensures.value ∙ c.in_ok-extend_by_zeros.ensures.ok ∙ ap (λ xs. xs ++ replicate c.len.result g.F.Field.ZERO) c.new-sums.ensures.items in
-    ap (λ xs. g.F.Field.value (get_or xs n g.F.Field.ZERO)) zeros ∙ ap g.F.Field.value (zero_at c.len.result n g.F.Field.ZERO) ∙ g.met.F.Field.zero_law
+    ap (λ xs. g.F.Field.value (get_or xs n g.F.Field.ZERO)) zeros ∙ ap g.F.Field.value (copy_at c.len.result n g.F.Field.ZERO) ∙ g.met.F.Field.zero_law
 
 pub returns-clause-values : goal.returns-clause-values
 returns-clause-values g c =

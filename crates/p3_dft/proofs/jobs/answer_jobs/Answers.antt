@@ -1,0 +1,48 @@
+use Rattle.std.proofs.Common.{◌≡◌, ◌++◌, List, [], ◌∷◌, subst, sym, arith, rules, inr}
+use Rattle.std.specs.List.{AllZip}
+use Rattle.p3_matrix.specs.RowMajor.{RowMajor}
+use Rattle.p3_dft.specs.Jobs.{AreFirstAnswers, CanRun, IsAnswer}
+use Rattle.p3_dft.proofs.JobLists.{all_later, first_answers, next_not_promised, on_any_error, split_more, zip_more}
+use Rattle.p3_dft.proofs.jobs.answer_jobs.Goals as goal
+
+pub loop-job-preserved : goal.loop-job-preserved
+loop-job-preserved g c =
+    let answers = IsAnswer g.F.Field g.F.TwoAdicField.generator in
+    let next = c.in-Some.ensures.steps.0 in
+    let so_far = c.loop-job.invariant in
+    record {
+      split = split_more _ c.loop-job.yielded _ _ c.in-Some.job so_far.split next;
+      answered = subst (λ (ys : List (RowMajor g.row.F.Denot)). AllZip answers (c.loop-job.yielded ++ c.in-Some.job ∷ []) ys) (sym c.in_ok-push.ensures.items)
+          (zip_more answers c.loop-job.yielded c.loop-job.answers.items c.in-Some.job c.in_ok-answer.answer so_far.answered c.in_ok-answer.ensures.answer);
+      runnable = all_later (CanRun g.F.Field g.F.TwoAdicField.TWO_ADICITY) _ c.in-Some.job _ next so_far.runnable;
+      room = omega (arith, so_far.room, c.in_ok-push.ensures.capacity);
+      keeps = λ k promised. c.in_ok-answer.ensures.keeps k (so_far.keeps k promised);
+      grows = omega (arith, so_far.grows, c.in_ok-answer.ensures.grows);
+    }
+
+pub returns-in_err-answer-clause-first : goal.returns-in_err-answer-clause-first
+returns-in_err-answer-clause-first g c =
+    on_any_error c.from_residual-in_err-answer.result
+    (first_answers g.F.Field g.F.TwoAdicField.generator c.args.jobs.items c.loop-job.yielded _ _ c.in-Some.job c.loop-job.answers.items c.loop-job.invariant.split
+    c.in-Some.ensures.steps.0 c.loop-job.invariant.answered)
+
+pub returns-in_err-push-clause-first : goal.returns-in_err-push-clause-first
+returns-in_err-push-clause-first g c =
+    on_any_error c.from_residual-in_err-push.result
+    (subst (λ (ys : List (RowMajor g.row.F.Denot)). AreFirstAnswers g.F.Field g.F.TwoAdicField.generator c.args.jobs.items ys) (sym c.in_err-push.ensures.items)
+    (first_answers g.F.Field g.F.TwoAdicField.generator c.args.jobs.items c.loop-job.yielded _ _ c.in-Some.job c.loop-job.answers.items c.loop-job.invariant.split
+    c.in-Some.ensures.steps.0 c.loop-job.invariant.answered))
+
+pub returns-in_err-answer-clause-refused : goal.returns-in_err-answer-clause-refused
+returns-in_err-answer-clause-refused g c =
+    on_any_error c.from_residual-in_err-answer.result
+    (inr (next_not_promised g.F.Field g.F.TwoAdicField.generator c.args.jobs.items c.loop-job.yielded _ _ c.in-Some.job c.loop-job.answers.items
+    (g.D.TwoAdicSubgroupDft.promised c.args.engine.now) (g.D.TwoAdicSubgroupDft.promised c.loop-job.engine) c.loop-job.invariant.split
+    c.in-Some.ensures.steps.0 c.loop-job.invariant.answered c.loop-job.invariant.keeps (λ promised. let answered = c.in_err-answer.ensures.succeeds promised in absurd (search rules))))
+
+-- there is room for the answer to each job
+pub returns-in_err-push-clause-refused : goal.returns-in_err-push-clause-refused
+returns-in_err-push-clause-refused g c =
+    let first = first_answers g.F.Field g.F.TwoAdicField.generator c.args.jobs.items c.loop-job.yielded _ _ c.in-Some.job c.loop-job.answers.items c.loop-job.invariant.split
+    c.in-Some.ensures.steps.0 c.loop-job.invariant.answered in
+    absurd (omega (arith, first.fewer, c.loop-job.invariant.room, c.in_err-push.ensures.full, c.loop-job.answers.ok.0, c.args.jobs.ok.0))

@@ -1,0 +1,69 @@
+use Rattle.std.proofs.Common.{◌≡◌, ℕ, ◌+◌, ◌*◌, ◌^◌, ◌≤◌, sym, ◌∙◌, ap, arith}
+use Rattle.std.proofs.lemmas.Nat.{pow-add}
+use Rattle.std.proofs.lemmas.Result.{IfOk-weaker, on_ok_weaker}
+use Rattle.p3_matrix.specs.RowMajor.{RowMajor, height}
+use Rattle.p3_dft.specs.Shapes.{HasShapeOf}
+use Rattle.p3_dft.proofs.ExtendedTransforms.{answered_shape, extension_of_parts}
+use Rattle.p3_dft.proofs.Padding.{padded_shape}
+use Rattle.p3_dft.proofs.Shapes.{input_fits, output_fits, output_log_small, output_size}
+use Rattle.p3_dft.proofs.traits.TwoAdicSubgroupDft.coset_lde_batch_with_transform.Goals as goal
+
+pub idft_batch-requires : goal.idft_batch-requires
+idft_batch-requires g c = input_fits _ _ _ _ c.requires.fits
+
+pub pad_rows-requires-clause-bits : goal.pad_rows-requires-clause-bits
+pad_rows-requires-clause-bits g c = let small = output_log_small _ _ _ _ c.requires.fits in omega arith
+
+pub pad_rows-requires-clause-size : goal.pad_rows-requires-clause-size
+pad_rows-requires-clause-size g c =
+    let fits = c.requires.fits in
+    let shape = answered_shape g.F.Field g.F.TwoAdicField.generator _ _ _ _ _ fits.log fits.high c.in_ok-coefficients.ensures.coefficients c.exchange_layouts.ensures.shape c.requires.shape
+    (rw c.LAYOUT-2.ensures at c.transform-coefficients.ensures) in
+    let back = c.exchange_layouts-2.ensures.shape in
+    rw (back.0 ∙ shape.0, back.1 ∙ shape.1) (output_size _ _ _ _ fits)
+
+pub coset_dft_batch-requires : goal.coset_dft_batch-requires
+coset_dft_batch-requires g c =
+    let fits = c.requires.fits in
+    let z = g.F.Field.ZERO in
+    let a = c.args.added_bits in
+    let shape = answered_shape g.F.Field g.F.TwoAdicField.generator _ _ _ _ _ fits.log fits.high c.in_ok-coefficients.ensures.coefficients c.exchange_layouts.ensures.shape c.requires.shape
+    (rw c.LAYOUT-2.ensures at c.transform-coefficients.ensures) in
+    let back = c.exchange_layouts-2.ensures.shape in
+    let grown = padded_shape z (g.N.IntoRowMajorMatrix.stored c.args.mat) c.exchange_layouts-2.new.mat c.in_ok-coefficients-2.coefficients a fits.log c.pad_rows.ensures.whole
+    (back.0 ∙ shape.0, back.1 ∙ shape.1) fits.high c.in_ok-coefficients-2.ensures.padded in
+    output_fits _ _ _ a _ _ fits grown.0 grown.1
+
+pub returns-clause-values : goal.returns-clause-values
+returns-clause-values g c =
+    let fits = c.requires.fits in
+    let called = rw c.LAYOUT-2.ensures at c.transform-coefficients.ensures in
+    let shape = answered_shape g.F.Field g.F.TwoAdicField.generator _ _ _ _ _ fits.log fits.high c.in_ok-coefficients.ensures.coefficients c.exchange_layouts.ensures.shape c.requires.shape called in
+    let back = c.exchange_layouts-2.ensures.shape in
+    IfOk-weaker c.coset_dft_batch.result _ _
+    (λ out given.
+    extension_of_parts g.F.Field g.F.TwoAdicField.generator g.met.F.Field.zero_law _ g.Self.TwoAdicSubgroupDft.LAYOUT (g.N.IntoRowMajorMatrix.stored c.args.mat)
+    c.in_ok-coefficients.coefficients c.exchange_layouts.new.mat c.transform-coefficients.result c.exchange_layouts-2.new.mat (g.Self.Evaluations.Evaluations.natural out)
+    c.args.added_bits (g.F.Field.value c.args.shift)
+    c.in_ok-coefficients.ensures.coefficients
+    (rw c.LAYOUT.ensures at c.exchange_layouts.ensures.rows)
+    called shape.0
+    (rw c.LAYOUT-3.ensures at c.exchange_layouts-2.ensures.rows)
+    (back.0 ∙ shape.0) c.pad_rows.ensures.whole
+    (rw c.in_ok-coefficients-2.ensures.padded at given))
+    c.coset_dft_batch.ensures.values
+
+pub returns-clause-cost : goal.returns-clause-cost
+returns-clause-cost g c = λ k e.
+    let a = c.args.added_bits in
+    let m = g.N.IntoRowMajorMatrix.stored c.args.mat in
+    let bound = g.Self.TwoAdicSubgroupDft.bound in
+    let shape = answered_shape g.F.Field g.F.TwoAdicField.generator _ _ _ _ _ k e c.in_ok-coefficients.ensures.coefficients c.exchange_layouts.ensures.shape c.requires.shape
+    (rw c.LAYOUT-2.ensures at c.transform-coefficients.ensures) in
+    let back = c.exchange_layouts-2.ensures.shape in
+    let grown = padded_shape g.F.Field.ZERO m c.exchange_layouts-2.new.mat c.in_ok-coefficients-2.coefficients a k c.pad_rows.ensures.whole
+    (back.0 ∙ shape.0, back.1 ∙ shape.1) e c.in_ok-coefficients-2.ensures.padded in
+    let first = c.in_ok-coefficients.ensures.cost k e in
+    let same : bound (k + a) c.in_ok-coefficients-2.coefficients.width + 2 ^ (k + a) * c.in_ok-coefficients-2.coefficients.width ≡ bound (k + a) m.width + 2 ^ (k + a) * m.width =
+    ap (λ w. bound (k + a) w + 2 ^ (k + a) * w) grown.1 in
+    on_ok_weaker c.coset_dft_batch.result (λ more. omega (arith, more, first, same)) (c.coset_dft_batch.ensures.cost (k + a) grown.0)

@@ -1,0 +1,48 @@
+-- Jobs: when one can be run, and what answers one and a list of them.
+use Rattle.std.specs.Prelude.{◌≡◌, ℕ, ◌^◌, ◌<◌, List, length, take, get_or}
+use Rattle.std.specs.List.{AllZip}
+use Rattle.p3_field.specs.Ring.{IsInvertible}
+use Rattle.p3_field.specs.declared.fields.Field.{Ghosts as FieldMembers}
+use Rattle.p3_matrix.specs.RowMajor.{RowMajor, height}
+use Rattle.p3_dft.specs.Extensions.{IsExtension}
+use Rattle.p3_dft.specs.Shapes.{FitsDft, FitsLde}
+use Rattle.p3_dft.specs.Transforms.{IsInterpolation, IsTransform}
+use Rattle.p3_dft.specs.declared.jobs.Job.{Job}
+use Rattle.p3_dft.specs.declared.jobs.Job.TheVariants.{Dft, CosetDft, Idft, CosetIdft, Lde, CosetLde}
+
+module _ {F : Type 0} (f : FieldMembers F) where
+  -- the shape of the matrix fits, and a shift that is undone has an inverse
+  abbrev pub CanRun : ℕ → Job F → Type 0
+  CanRun bits (Dft m) = FitsDft bits (height m) m.width
+  CanRun bits (CosetDft m s) = FitsDft bits (height m) m.width
+  CanRun bits (Idft m) = FitsDft bits (height m) m.width
+  CanRun bits (CosetIdft m s) = FitsDft bits (height m) m.width × IsInvertible f.ring (f.value s)
+  CanRun bits (Lde m a) = FitsLde bits (height m) m.width a
+  CanRun bits (CosetLde m a s) = FitsLde bits (height m) m.width a
+
+  -- out answers the job
+  abbrev pub IsAnswer : (ℕ → F) → Job F → RowMajor F → Type 0
+  IsAnswer generator (Dft m) out = IsTransform f generator m f.ring.one out
+  IsAnswer generator (CosetDft m s) out = IsTransform f generator m (f.value s) out
+  IsAnswer generator (Idft m) out = IsInterpolation f generator m f.ring.one out
+  IsAnswer generator (CosetIdft m s) out = IsInterpolation f generator m (f.value s) out
+  IsAnswer generator (Lde m a) out = IsExtension f generator m a f.ring.one out
+  IsAnswer generator (CosetLde m a s) out = IsExtension f generator m a (f.value s) out
+
+  -- there are fewer answers than jobs, and they answer the first jobs, in order
+  pub record AreFirstAnswers (generator : ℕ → F) (jobs : List (Job F)) (answers : List (RowMajor F)) : Type 0 where
+    pub fewer : length answers < length jobs
+    pub answered : AllZip (IsAnswer generator) (take (length answers) jobs) answers
+
+-- the job takes a transform of a height at which it is promised to succeed, and no extension
+abbrev pub IsPromised : {F : Type 0} → (ℕ → Type 0) → Job F → Type 0
+IsPromised promised (Dft m) = (k : ℕ) × (height m ≡ 2 ^ k) × promised k
+IsPromised promised (CosetDft m s) = (k : ℕ) × (height m ≡ 2 ^ k) × promised k
+IsPromised promised (Idft m) = (k : ℕ) × (height m ≡ 2 ^ k) × promised k
+IsPromised promised (CosetIdft m s) = (k : ℕ) × (height m ≡ 2 ^ k) × promised k
+IsPromised promised (Lde m a) = ⊥
+IsPromised promised (CosetLde m a s) = ⊥
+
+-- the first job that has no answer is not promised
+abbrev pub NextIsNotPromised : {F : Type 0} → (ℕ → Type 0) → List (Job F) → List (RowMajor F) → Type 0
+NextIsNotPromised {F} promised jobs answers = (d : Job F) → IsPromised promised (get_or jobs (length answers) d) → ⊥

@@ -1,0 +1,105 @@
+//! Lists of transforms, answered one after another by one engine.
+
+ghost use Rattle.std.specs.Prelude.{◌≡◌, ℕ, ◌≤◌, ◌⊎◌, [], IfOk, IfErr, IsOk, OnOk, OnErr};
+ghost use Rattle.std.specs.List.{All, AllZip};
+ghost use Rattle.p3_dft.specs.Jobs.{AreFirstAnswers, CanRun, IsAnswer, IsPromised, NextIsNotPromised};
+
+use crate::traits::TwoAdicSubgroupDft;
+use p3_field::TwoAdicField;
+use p3_matrix::{DftError, Evaluations, RowMajorMatrix};
+
+/// One transform, with what it is applied to. Each asks for what the call of that name asks for.
+#[derive(Debug, Drop)]
+pub enum Job<F> {
+    /// `dft_batch`.
+    Dft(RowMajorMatrix<F>),
+    /// `coset_dft_batch`, with the shift.
+    CosetDft(RowMajorMatrix<F>, F),
+    /// `idft_batch`.
+    Idft(RowMajorMatrix<F>),
+    /// `coset_idft_batch`, with the shift.
+    CosetIdft(RowMajorMatrix<F>, F),
+    /// `lde_batch`, with the added bits.
+    Lde(RowMajorMatrix<F>, usize),
+    /// `coset_lde_batch`, with the added bits and the shift.
+    CosetLde(RowMajorMatrix<F>, usize, F),
+}
+
+/// Jobs that stopped before the last was answered.
+#[derive(Debug, Drop)]
+pub struct JobsStopped<F> {
+    /// The answers made before, in the order of their jobs.
+    pub answers: Vec<RowMajorMatrix<F>>,
+    /// Why there are no more.
+    pub error: DftError,
+}
+
+/// Answers the jobs, each with rows in natural order, in the order of the jobs. Where memory is
+/// refused, the answers made before stay and the other jobs are dropped.
+///
+/// Memory for the list of answers is taken first: where that is refused the engine is as before, and
+/// else no answer is lost for want of it, so that the first job without an answer is one that the
+/// engine was not promised to answer.
+pub fn run_jobs<F: TwoAdicField, D: TwoAdicSubgroupDft<F>>(
+    engine: &mut D,
+    jobs: Vec<Job<F>>,
+) -> Result<Vec<RowMajorMatrix<F>>, JobsStopped<F>>
+    requires { All (CanRun F.Field.own F.TWO_ADICITY) jobs.items }
+    ensures all { IfOk result (λ answers. AllZip (IsAnswer F.Field.own F.generator) jobs.items answers.items) }
+    ensures first { IfErr result (λ stopped. AreFirstAnswers F.Field.own F.generator jobs.items stopped.answers.items) }
+    ensures refused { IfErr result (λ stopped. ((engine.new ≡ engine.old) × (stopped.answers.items ≡ []))
+        ⊎ NextIsNotPromised (D.promised engine.old) jobs.items stopped.answers.items) }
+    ensures keeps { (k : ℕ) → D.promised engine.old k → D.promised engine.new k }
+    ensures grows { D.made engine.old ≤ D.made engine.new }
+{
+    let mut answers = Vec::new(*jobs.allocator());
+    match answer_jobs(engine, jobs, &mut answers) {
+        Ok(()) => Ok(answers),
+        Err(error) => Err(JobsStopped { answers, error }),
+    }
+}
+
+// Appends the answers to an empty list.
+fn answer_jobs<F: TwoAdicField, D: TwoAdicSubgroupDft<F>>(
+    engine: &mut D,
+    jobs: Vec<Job<F>>,
+    answers: &mut Vec<RowMajorMatrix<F>>,
+) -> Result<(), DftError>
+    requires runnable { All (CanRun F.Field.own F.TWO_ADICITY) jobs.items }
+    requires empty { answers.old.items ≡ [] }
+    ensures all { OnOk result (AllZip (IsAnswer F.Field.own F.generator) jobs.items answers.new.items) }
+    ensures first { OnErr result (AreFirstAnswers F.Field.own F.generator jobs.items answers.new.items) }
+    ensures refused { OnErr result (((engine.new ≡ engine.old) × (answers.new.items ≡ []))
+        ⊎ NextIsNotPromised (D.promised engine.old) jobs.items answers.new.items) }
+    ensures keeps { (k : ℕ) → D.promised engine.old k → D.promised engine.new k }
+    ensures grows { D.made engine.old ≤ D.made engine.new }
+{
+    answers.reserve_exact(jobs.len())?;
+    for job in jobs {
+        let answer = run_job(engine, job)?;
+        answers.push(answer)?;
+    }
+    Ok(())
+}
+
+// Answers one job.
+fn run_job<F: TwoAdicField, D: TwoAdicSubgroupDft<F>>(
+    engine: &mut D,
+    job: Job<F>,
+) -> Result<RowMajorMatrix<F>, DftError>
+    requires { CanRun F.Field.own F.TWO_ADICITY job }
+    ensures answer { IfOk result (IsAnswer F.Field.own F.generator job) }
+    ensures succeeds { IsPromised (D.promised engine.old) job → IsOk result }
+    ensures keeps { (k : ℕ) → D.promised engine.old k → D.promised engine.new k }
+    ensures grows { D.made engine.old ≤ D.made engine.new }
+{
+    let values = match job {
+        Job::Idft(mat) => return engine.idft_batch(mat),
+        Job::CosetIdft(mat, shift) => return engine.coset_idft_batch(mat, shift),
+        Job::Dft(mat) => engine.dft_batch(mat)?,
+        Job::CosetDft(mat, shift) => engine.coset_dft_batch(mat, shift)?,
+        Job::Lde(mat, added_bits) => engine.lde_batch(mat, added_bits)?,
+        Job::CosetLde(mat, added_bits, shift) => engine.coset_lde_batch(mat, added_bits, shift)?,
+    };
+    Ok(values.to_row_major_matrix())
+}
