@@ -27,6 +27,7 @@ impl FieldName {
 #[derive(Clone, Copy)]
 pub enum EngineName {
     Naive,
+    Dit,
 }
 
 impl EngineName {
@@ -36,6 +37,7 @@ impl EngineName {
     {
         match word {
             "naive" => Some(EngineName::Naive),
+            "dit" => Some(EngineName::Dit),
             _ => None,
         }
     }

@@ -17,8 +17,10 @@ use crate::fault::{Fault, Stopped};
 use crate::matrices::{matrix_of, text_of};
 use crate::names::{EngineName, FieldName, Operation};
 use crate::sink::{Sink, write_text};
-use p3_dft::{CanonicalField, DftError, Evaluations, NaiveDft, RowMajorMatrix, TwoAdicSubgroupDft};
-use p3_field::{BabyBear, Goldilocks};
+use p3_dft::{
+    BabyBear, CanonicalField, DftError, Evaluations, Goldilocks, NaiveDft, Radix2Dit, RowMajorMatrix,
+    TwoAdicSubgroupDft,
+};
 use std::alloc::Global;
 
 const OUT_OF_MEMORY: &str = "error 9: out of memory\n";
@@ -135,10 +137,22 @@ fn answer_in<F: CanonicalField>(
 {
     let arguments = parse_arguments::<F>(operation, words)?;
     let matrix = matrix_of::<F>(alloc, arguments.width, arguments.values)?;
-    let values = match engine {
-        EngineName::Naive => transformed(&mut NaiveDft::default(), operation, matrix)?,
-    };
+    let values = transformed_by(engine, operation, matrix)?;
     Ok(text_of(alloc, &values)?)
+}
+
+fn transformed_by<F: CanonicalField>(
+    engine: EngineName,
+    operation: Operation,
+    matrix: RowMajorMatrix<F>,
+) -> Result<RowMajorMatrix<F>, DftError>
+    requires { FitsDft F.TWO_ADICITY (height matrix) matrix.width }
+    ensures { IfOk result (IsTransform F.Field.own F.generator matrix F.ring.one) }
+{
+    match engine {
+        EngineName::Naive => transformed(&mut NaiveDft::default(), operation, matrix),
+        EngineName::Dit => transformed(&mut Radix2Dit::default(), operation, matrix),
+    }
 }
 
 fn transformed<F: CanonicalField, D: TwoAdicSubgroupDft<F>>(

@@ -72,7 +72,7 @@ const FIRST_TEXT: &str = "9 5 0\n1 2013265920 0\n";
 
 #[test]
 fn answers(rt: HostRuntime) -> Result<(), Fail> {
-    let rows: [(&[&str], &str); 4] = [
+    let rows: [(&[&str], &str); 6] = [
         (&FIRST_WORDS, FIRST_TEXT),
         (
             &["babybear", "naive", "dft", "1", "1", "2", "3", "4"],
@@ -81,6 +81,14 @@ fn answers(rt: HostRuntime) -> Result<(), Fail> {
         (&["babybear", "naive", "dft", "1", "007"], "7\n"),
         (
             &["goldilocks", "naive", "dft", "1", "0", "1", "0", "0"],
+            "1\n281474976710656\n18446744069414584320\n18446462594437873665\n",
+        ),
+        (
+            &["babybear", "dit", "dft", "1", "1", "2", "3", "4"],
+            "10\n569722814\n2013265919\n1443543103\n",
+        ),
+        (
+            &["goldilocks", "dit", "dft", "1", "0", "1", "0", "0"],
             "1\n281474976710656\n18446744069414584320\n18446462594437873665\n",
         ),
     ];
