@@ -18,8 +18,8 @@ use crate::matrices::{matrix_of, text_of};
 use crate::names::{EngineName, FieldName, Operation};
 use crate::sink::{Sink, write_text};
 use p3_dft::{
-    BabyBear, CanonicalField, DftError, Evaluations, Goldilocks, NaiveDft, Radix2Dit, RowMajorMatrix,
-    TwoAdicSubgroupDft,
+    BabyBear, CanonicalField, DftError, Evaluations, Goldilocks, NaiveDft, Radix2Dit,
+    RowMajorMatrix, TwoAdicSubgroupDft,
 };
 use std::alloc::Global;
 

@@ -1,10 +1,9 @@
 -- Extensions of stored matrices, as the default bodies of the engines' trait make them.
-use Rattle.std.proofs.Common.{◌≡◌, ℕ, ◌+◌, ◌*◌, ◌/◌, ◌^◌, List, length, sym, ap, ap₂, ◌∙◌, subst, arith}
+use Rattle.std.proofs.Common.{◌≡◌, ℕ, ◌+◌, ◌*◌, ◌^◌, List, length, sym, ap, ap₂, ◌∙◌, subst, arith}
 use Rattle.std.proofs.lemmas.Nat.{pow-add}
 use Rattle.p3_field.specs.declared.fields.Field.{Ghosts as FieldMembers}
 use Rattle.p3_matrix.specs.RowMajor.{RowMajor, IsRowMajor, height}
-use Rattle.p3_matrix.specs.Matrix.{Matrix, Same, matrix}
-use Rattle.p3_dft.specs.Cosets.{IsValues, AreCoefficients}
+use Rattle.p3_matrix.specs.Matrix.{Same, matrix}
 use Rattle.p3_dft.specs.Extensions.{IsExtension, IsTransformedExtension, laid, padded}
 use Rattle.p3_dft.specs.Shapes.{HasShapeOf}
 use Rattle.p3_dft.specs.Transforms.{values_of, IsInterpolation, IsTransform}

@@ -1,5 +1,5 @@
 -- Which heights an engine with tables has prepared, when its tables change.
-use Rattle.std.proofs.Common.{◌≡◌, ℕ, ◌⊎◌, inl, inr, List, Contains, Result, Ok, Err, IsOk, sym, ap, ◌∙◌, subst, ⊎_elim, rules}
+use Rattle.std.proofs.Common.{◌≡◌, ℕ, ◌⊎◌, inl, inr, List, Contains, Result, Ok, Err, IsOk, sym, ◌∙◌, subst, ⊎_elim, rules}
 use Rattle.p3_dft.specs.Twiddles.{Tabled, IsPrepared}
 
 -- no table is lost

@@ -1,5 +1,5 @@
 -- Transforms of matrices whose rows were put into bit reversed order first, and of a single row.
-use Rattle.std.proofs.Common.{◌≡◌, ℕ, ◌+◌, ◌*◌, ◌/◌, ◌^◌, ◌<◌, ◌≤◌, ◌++◌, List, length, get_or, take, drop, ap, ap₂, refl, sym, ◌∙◌, arith}
+use Rattle.std.proofs.Common.{◌≡◌, ℕ, ◌+◌, ◌*◌, ◌^◌, ◌<◌, ◌++◌, List, length, get_or, take, ap, refl, sym, ◌∙◌, arith}
 use Rattle.p3_field.specs.Ring.{power}
 use Rattle.p3_field.specs.declared.fields.Field.{Ghosts as FieldMembers}
 use Rattle.p3_matrix.specs.RowMajor.{RowMajor, IsRowMajor, SameShape, height}
@@ -7,8 +7,7 @@ use Rattle.p3_matrix.specs.BitOrder.{rev, reversed}
 use Rattle.p3_matrix.specs.Matrix.{matrix, Same}
 use Rattle.p3_matrix.proofs.BitReversal.{rev-lt, rev-rev}
 use Rattle.p3_dft.specs.Polynomials.{poly}
-use Rattle.p3_dft.specs.Transforms.{values_of, IsTransform}
-use Rattle.p3_dft.proofs.Logarithms.{pow-injective}
+use Rattle.p3_dft.specs.Transforms.{IsTransform}
 use Rattle.p3_dft.proofs.Polynomials.{poly_same, poly-one}
 use Rattle.p3_dft.proofs.Rows.{written}
 use Rattle.p3_dft.proofs.Transforms.{transform_of_parts, transform_of_entries}

@@ -1,4 +1,4 @@
-use Rattle.std.proofs.Common.{◌≡◌, ℕ, ◌+◌, ◌*◌, ◌-◌, ◌/◌, ◌<◌, ◌≤◌, length, get_or, sym, ◌∙◌, arith, add-one}
+use Rattle.std.proofs.Common.{◌≡◌, ℕ, ◌+◌, ◌*◌, ◌/◌, ◌≤◌, length, get_or, ◌∙◌, arith, add-one}
 use Rattle.std.proofs.Math.Nat.{suc-mul}
 use Rattle.p3_field.specs.Ring.{minus}
 use Rattle.p3_dft.proofs.Halves.{block_size, block_room, part_length, blocks-more}

@@ -1,4 +1,4 @@
-use Rattle.std.proofs.Common.{◌≡◌, ◌++◌, List, [], ◌∷◌, subst, sym, arith, rules, inr}
+use Rattle.std.proofs.Common.{◌++◌, List, [], ◌∷◌, subst, sym, arith, rules, inr}
 use Rattle.std.specs.List.{AllZip}
 use Rattle.p3_matrix.specs.RowMajor.{RowMajor}
 use Rattle.p3_dft.specs.Jobs.{AreFirstAnswers, CanRun, IsAnswer}

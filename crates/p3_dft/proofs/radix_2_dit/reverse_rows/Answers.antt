@@ -1,4 +1,4 @@
-use Rattle.std.proofs.Common.{◌≡◌, ℕ, ◌^◌, rules, sym, subst}
+use Rattle.std.proofs.Common.{◌≡◌, ◌^◌, rules, sym, subst}
 use Rattle.p3_matrix.specs.BitOrder.{reversed}
 use Rattle.p3_matrix.specs.Matrix.{Matrix, matrix, Same}
 use Rattle.p3_matrix.specs.RowMajor.{RowMajor, height}

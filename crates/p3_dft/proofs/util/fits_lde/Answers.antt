@@ -1,7 +1,7 @@
 use Rattle.std.proofs.Common.{ℕ, ◌≡◌, ◌+◌, ◌*◌, ◌%◌, ◌^◌, ◌≤◌, sym, ◌∙◌, ap, arith, rules}
 use Rattle.std.proofs.lemmas.Nat.{one_shl}
 use Rattle.p3_matrix.proofs.TwoPowers.{log_same}
-use Rattle.p3_dft.specs.Shapes.{FitsDft, FitsLde}
+use Rattle.p3_dft.specs.Shapes.{FitsDft}
 use Rattle.p3_dft.proofs.Shapes.{told, input_fits, output_log_small}
 use Rattle.p3_dft.proofs.util.fits_lde.Goals as goal
 

@@ -1,4 +1,4 @@
-use Rattle.std.proofs.Common.{rules, subst, ap, sym, ◌∙◌, inl}
+use Rattle.std.proofs.Common.{rules, subst, ap, ◌∙◌}
 use Rattle.p3_matrix.specs.RowMajor.{RowMajor, height}
 use Rattle.p3_matrix.specs.BitOrder.{reversed}
 use Rattle.p3_matrix.specs.Matrix.{Same, matrix}

@@ -1,4 +1,4 @@
-use Rattle.std.proofs.Common.{◌≡◌, ℕ, ◌⊎◌, inl, inr, ◌+◌, ◌*◌, ◌-◌, ◌/◌, ◌^◌, ◌<◌, ◌≤◌, List, Contains, length, sym, ap, ap₂, ◌∙◌, subst, arith}
+use Rattle.std.proofs.Common.{◌≡◌, ℕ, inl, inr, ◌^◌, List, Contains, sym, ap, ap₂, ◌∙◌, subst, arith}
 use Rattle.p3_matrix.specs.RowMajor.{RowMajor, height}
 use Rattle.p3_dft.proofs.Logarithms.{pow-injective}
 use Rattle.p3_dft.proofs.Prepared.{prepared-keeps, prepared-there, not_ok}

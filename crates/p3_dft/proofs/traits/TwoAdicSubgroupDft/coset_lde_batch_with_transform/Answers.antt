@@ -1,8 +1,5 @@
-use Rattle.std.proofs.Common.{◌≡◌, ℕ, ◌+◌, ◌*◌, ◌^◌, ◌≤◌, sym, ◌∙◌, ap, arith}
-use Rattle.std.proofs.lemmas.Nat.{pow-add}
+use Rattle.std.proofs.Common.{◌≡◌, ◌+◌, ◌*◌, ◌^◌, ◌∙◌, ap, arith}
 use Rattle.std.proofs.lemmas.Result.{IfOk-weaker, on_ok_weaker}
-use Rattle.p3_matrix.specs.RowMajor.{RowMajor, height}
-use Rattle.p3_dft.specs.Shapes.{HasShapeOf}
 use Rattle.p3_dft.proofs.ExtendedTransforms.{answered_shape, extension_of_parts}
 use Rattle.p3_dft.proofs.Padding.{padded_shape}
 use Rattle.p3_dft.proofs.Shapes.{input_fits, output_fits, output_log_small, output_size}

@@ -1,4 +1,4 @@
-use Rattle.std.proofs.Common.{◌∙◌, sym, arith}
+use Rattle.std.proofs.Common.{arith}
 use Rattle.p3_dft.proofs.ExtendedTransforms.{extension_of_vectors}
 use Rattle.p3_dft.proofs.traits.TwoAdicSubgroupDft.lde.Goals as goal
 
