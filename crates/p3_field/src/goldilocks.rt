@@ -135,21 +135,22 @@ fn subtract(low: u64, top: u64) -> u64
     requires { top < 4294967296 }
     ensures { (result + top) % goldilocks_modulus ≡ low % goldilocks_modulus }
 {
-    if low >= top {
-        low - top
+    let (difference, borrow) = low.overflowing_sub(top);
+    if borrow {
+        subtract_epsilon(difference)
     } else {
-        subtract_below_zero(low, top)
+        difference
     }
 }
 
+// Takes back the `2^64` that a difference below zero has borrowed.
 #[cold]
 #[inline(never)]
-fn subtract_below_zero(low: u64, top: u64) -> u64
-    requires below { low < top }
-    requires small { top < 4294967296 }
-    ensures { result + top ≡ low + goldilocks_modulus }
+fn subtract_epsilon(x: u64) -> u64
+    requires { 4294967295 ≤ x }
+    ensures { result + 4294967295 ≡ x }
 {
-    MODULUS - (top - low)
+    x - EPSILON
 }
 
 // The remainder of a sum, whose second part is at most the square of `EPSILON`. Once the carry is
