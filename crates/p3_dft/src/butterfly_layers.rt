@@ -11,6 +11,9 @@ use p3_matrix::{Butterfly, DitButterfly, TwiddleFreeButterfly};
 // whose first entry is one: that one is not multiplied by.
 //
 // Cell i of a half stands in row `i / width` of it.
+//
+// Inlined, so that a width that the caller names is known in the loops.
+#[inline(always)]
 pub(crate) fn dit_layer<F: TwoAdicField>(
     values: &mut [F],
     width: usize,

@@ -169,7 +169,12 @@ fn transform<F: TwoAdicField>(
 {
     let width = mat.width();
     reverse_rows(mat);
-    dit_network(mat.values_mut(), width, log_h, twiddles, products);
+    // One column is made apart: where the width is known, no loop along a row is left.
+    if width == 1 {
+        dit_network(mat.values_mut(), 1, log_h, twiddles, products);
+    } else {
+        dit_network(mat.values_mut(), width, log_h, twiddles, products);
+    }
 }
 
 // Puts the rows into bit reversed order.
@@ -184,7 +189,8 @@ fn reverse_rows<T>(mat: &mut RowMajorMatrix<T>)
 
 // All layers, on rows that lie in bit reversed order. The table has the powers of the generator.
 // Layer l has `2^(log_h - 1 - l)` blocks, and pair t of a block takes entry
-// `t * 2^(log_h - 1 - l)`.
+// `t * 2^(log_h - 1 - l)`. Inlined, so that a width that the caller names is known in all layers.
+#[inline(always)]
 fn dit_network<F: TwoAdicField>(
     values: &mut [F],
     width: usize,
