@@ -44,9 +44,14 @@ pub(crate) fn exchange<T>(values: &mut [T], first: usize, second: usize, count: 
     requires within { second + count ≤ length values.old }
     ensures { IsExchange values.old values.new first second count }
 {
-    let (front, back) = values.split_at_mut(second);
-    let part = &mut front[first..first + count];
-    part.swap_with_slice(&mut back[..count]);
+    // In a column the call for two slices costs more than the exchange itself.
+    if count == 1 {
+        values.swap(first, second);
+    } else {
+        let (front, back) = values.split_at_mut(second);
+        let part = &mut front[first..first + count];
+        part.swap_with_slice(&mut back[..count]);
+    }
 }
 
 #[cfg(test)]
