@@ -1,5 +1,6 @@
 pub mod Lines
 pub mod Shapes
 pub mod Elements
-pub mod Transforms
+mod Inverses
+mod ValuedJobs
 pub mod WordNumbers
