@@ -10,7 +10,6 @@ pub mod Inverses
 pub mod JobLists
 pub mod Layers
 pub mod Layouts
-pub mod Logarithms
 pub mod Networks
 pub mod OpposedRows
 pub mod Opposite

@@ -2,9 +2,8 @@
 
 ghost use Rattle.std.specs.Prelude.{◌≡◌, ◌↔◌, ◌⊎◌, ℕ, ◌+◌, ◌*◌, ◌-◌, ◌^◌, ◌<◌, ◌≤◌, List, length, get_or, IsTrue, IsOk, OnOk, OnErr, Ok};
 ghost use Rattle.p3_field.specs.Ring.{power};
-ghost use Rattle.p3_matrix.specs.BitOrder.{rev, reversed};
-ghost use Rattle.p3_matrix.specs.Matrix.{matrix, Same};
-ghost use Rattle.p3_matrix.specs.RowMajor.{IsRowMajor, SameShape, height};
+ghost use Rattle.p3_matrix.specs.BitOrder.{rev};
+ghost use Rattle.p3_matrix.specs.RowMajor.{IsRowMajor, height};
 ghost use Rattle.p3_dft.specs.Polynomials.{poly};
 ghost use Rattle.p3_dft.specs.Transforms.{IsTransform};
 ghost use Rattle.p3_dft.specs.Twiddles.{IsPrepared};
@@ -15,10 +14,9 @@ mod tests;
 use crate::butterfly_layers::dit_layer;
 use crate::traits::{Layout, TwoAdicSubgroupDft};
 use crate::twiddles::TwiddleTables;
+use crate::util::reverse_rows;
 use p3_field::{Products, TwoAdicField};
-use p3_matrix::{
-    DftError, IntoRowMajorMatrix, RowMajorMatrix, log2_strict_usize, reverse_matrix_index_bits,
-};
+use p3_matrix::{DftError, IntoRowMajorMatrix, RowMajorMatrix, log2_strict_usize};
 use std::alloc::{AllocError, Global};
 use std::marker::Model;
 
@@ -170,16 +168,6 @@ fn transform<F: TwoAdicField>(
     let width = mat.width();
     reverse_rows(mat);
     dit_network(mat.values_mut(), width, log_h, twiddles, products);
-}
-
-// Puts the rows into bit reversed order.
-fn reverse_rows<T>(mat: &mut RowMajorMatrix<T>)
-    requires { (n : ℕ) × height mat.old ≡ 2 ^ n }
-    ensures shape { SameShape mat.new mat.old }
-    ensures rows { (n : ℕ) → height mat.old ≡ 2 ^ n
-        → (d : T) → Same (matrix d mat.new) (reversed n (matrix d mat.old)) }
-{
-    reverse_matrix_index_bits(&mut mat.as_view_mut());
 }
 
 // All layers, on rows that lie in bit reversed order. The table has the powers of the generator.
