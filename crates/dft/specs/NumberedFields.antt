@@ -1,10 +1,10 @@
 -- Fields whose elements have numbers, and the two that the program knows.
-use Rattle.std.specs.Prelude.{ℕ, ◌==◌, Bool}
+use Rattle.std.specs.Prelude.{◌≡◌, ℕ, ◌%◌, ◌<◌, ◌==◌, Bool}
 use Rattle.std.specs.List.{list_any, range_with_len}
 use Rattle.std.proofs.Common.{lit<, refl}
 use Rattle.p3_field.specs.declared.fields.Field.{Ghosts as FieldMembers}
-use Rattle.p3_field.specs.Fields.{baby_bear_modulus, baby_bear_ring, baby_bear_generator, goldilocks_modulus, goldilocks_ring, goldilocks_generator}
-use Rattle.p3_field.specs.Residues.{Residue, residue_of}
+use Rattle.p3_field.specs.Fields.{baby_bear_modulus, baby_bear_generator, goldilocks_modulus, goldilocks_generator}
+use Rattle.p3_field.specs.Residues.{Residue, residue_of, residues}
 use Rattle.p3_field.specs.Ring.{Ring, two}
 
 -- a field as the program reads and prints it
@@ -31,25 +31,22 @@ numbered f generator two_adicity modulus element = record {
   element = element;
 }
 
-abbrev pub baby_bear : NumberedField (Residue baby_bear_modulus)
-baby_bear = record {
-  ring = baby_bear_ring;
-  generator = baby_bear_generator;
-  two_adicity = 27;
-  modulus = baby_bear_modulus;
+-- the residues of an odd modulus
+abbrev pub residue_field : (m : ℕ) → 1 < m → m % 2 ≡ 1 → (ℕ → Residue m) → ℕ → NumberedField (Residue m)
+residue_field m large odd generator two_adicity = record {
+  ring = residues m large odd;
+  generator = generator;
+  two_adicity = two_adicity;
+  modulus = m;
   number = λ x. x.number;
-  element = residue_of baby_bear_modulus (lit< tt) refl;
+  element = residue_of m large odd;
 }
 
+abbrev pub baby_bear : NumberedField (Residue baby_bear_modulus)
+baby_bear = residue_field baby_bear_modulus (lit< tt) refl baby_bear_generator 27
+
 abbrev pub goldilocks : NumberedField (Residue goldilocks_modulus)
-goldilocks = record {
-  ring = goldilocks_ring;
-  generator = goldilocks_generator;
-  two_adicity = 32;
-  modulus = goldilocks_modulus;
-  number = λ x. x.number;
-  element = residue_of goldilocks_modulus (lit< tt) refl;
-}
+goldilocks = residue_field goldilocks_modulus (lit< tt) refl goldilocks_generator 32
 
 -- the same as the members of a field whose elements are their own values; no answer speaks of its GENERATOR
 abbrev pub members : {A : Type 0} → NumberedField A → FieldMembers A
