@@ -32,7 +32,7 @@ module _ {A : Type 0} (f : NumberedField A) (x : A) where
     found [] e = absurd (cc)
     found (n ∷ ns) e = found_in n (list_any undoes ns) (undoes n) refl e (found ns)
 
-    has_inverse-from_true : has_inverse f x ≡ true → IsInvertible f.ring x
+    pub has_inverse-from_true : has_inverse f x ≡ true → IsInvertible f.ring x
     unfolding has_inverse
     has_inverse-from_true e = found (range_with_len 0 f.modulus) e
 

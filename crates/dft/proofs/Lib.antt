@@ -1,6 +1,7 @@
 pub mod Lines
 pub mod Shapes
 pub mod Elements
-mod Inverses
-mod ValuedJobs
+pub mod Inverses
+pub mod OneOutcome
+pub mod ValuedJobs
 pub mod WordNumbers

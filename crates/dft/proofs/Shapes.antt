@@ -1,5 +1,5 @@
 -- Logarithms and shapes as tests.
-use Rattle.std.proofs.Common.{◌≡◌, ◌≢◌, ℕ, zero, suc, ◌+◌, ◌*◌, ◌/◌, ◌%◌, ◌^◌, ◌<◌, ◌≤◌, Bool, true, false, not, Option, Some, None, is_some, ◌↔◌, refl, sym, ap, ◌∙◌, arith, IsTrue, eq-eqb}
+use Rattle.std.proofs.Common.{◌≡◌, ◌≢◌, ℕ, zero, suc, ◌+◌, ◌*◌, ◌/◌, ◌%◌, ◌^◌, ◌<◌, ◌≤◌, Bool, true, false, not, ◌||◌, ◌==◌, Option, Some, None, is_some, ◌↔◌, refl, sym, ap, ◌∙◌, arith, IsTrue, eq-eqb}
 use Rattle.std.proofs.lemmas.Bool.{ne_eqb}
 use Rattle.std.proofs.lemmas.Bool.Decides.{nat_tests}
 use Rattle.p3_matrix.proofs.TwoPowers.{log_same}
@@ -54,3 +54,13 @@ fits_lde-decides t h w a false d = false_unless (fits_lde t h w a) (λ e. absurd
 pub unfit : (two_adicity count width added : ℕ) (r : Bool) → width ≢ 0 → count % width ≡ 0 → r ≡ fits_lde two_adicity (count / width) width added
     → not r ≡ is_unfit two_adicity count width added
 unfit t count width added r some whole e = rw (ne_eqb width 0 some, eq-eqb (count % width) 0 whole) (ap not e)
+
+-- and where it is false, the shape fits
+pub unfit-false : (two_adicity count width added : ℕ) → is_unfit two_adicity count width added ≡ false → FitsLde two_adicity (count / width) width added
+unfit-false t count width added e = fits_lde-from_true t (count / width) width added (logarithm t (count / width)) refl (last (width == 0) (not (count % width == 0)) (fits_lde t (count / width) width added) e)
+  where
+    last : (a b c : Bool) → (a || (b || not c)) ≡ false → c ≡ true
+    last true b c e = absurd (cc)
+    last false true c e = absurd (cc)
+    last false false true e = refl
+    last false false false e = absurd (cc)

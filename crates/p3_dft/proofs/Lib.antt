@@ -11,6 +11,7 @@ pub mod JobLists
 pub mod Layers
 pub mod Layouts
 pub mod Networks
+pub mod OneAnswer
 pub mod OpposedRows
 pub mod Opposite
 pub mod Padding
