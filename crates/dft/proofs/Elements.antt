@@ -1,5 +1,6 @@
 -- Tests of the elements of a list, seen by a function.
-use Rattle.std.proofs.Common.{◌≡◌, ℕ, ◌+◌, ◌<◌, ◌≤◌, Bool, true, false, ◌||◌, List, [], ◌∷◌, length, get_or, take, map, refl, sym, ap, ap₂, ◌∙◌, Option, Some, None, IsSome, IsNone, ◌↔◌, nat_le, le-leb}
+use Rattle.std.proofs.Common.{◌≡◌, ℕ, ◌+◌, ◌<◌, ◌≤◌, Bool, true, false, ◌||◌, List, [], ◌∷◌, length, get_or, take, map, refl, sym, ap, ap₂, ◌∙◌, nat_le, arith}
+use Rattle.std.proofs.lemmas.Bool.Decides.{nat_tests}
 use Rattle.std.specs.List.{list_any}
 use Rattle.std.proofs.lemmas.List.{take_all}
 use Rattle.std.proofs.lemmas.List.Folds.{list_any_at, list_any_more}
@@ -31,7 +32,13 @@ module _ {X Y : Type 0} (test : Y → Bool) (f : X → Y) where
       by_cases true e = absurd (cc (passes_at xs i d h e, none))
       by_cases false e = refl
 
--- a number below the bound is one that a function with that bound takes
-pub some_below : {T : Type 0} (o : Option T) (bound n : ℕ) → IsNone o ↔ (bound ≤ n) → nat_le bound n ≡ false → IsSome o
-some_below (Some x) bound n d h = refl
-some_below None bound n d h = absurd (cc (le-leb bound n (d.0 refl), h))
+-- a test is false unless it is true
+pub false_unless : (b : Bool) → (b ≡ true → ⊥) → false ≡ b
+false_unless true h = absurd (h refl)
+false_unless false h = refl
+
+-- and this one is below the bound that none reaches
+pub all_below : {X : Type 0} (bound : ℕ) (f : X → ℕ) (xs : List X) (i : ℕ) (d : X) → i < length xs → list_any (λ n. nat_le bound n) (map f xs) ≡ false → f (get_or xs i d) < bound
+all_below bound f xs i d h none =
+    let fails : nat_le bound (f (get_or xs i d)) ≡ false = fails_at (λ n. nat_le bound n) f xs i d h none in
+    grind (arith, nat_tests)

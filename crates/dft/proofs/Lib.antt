@@ -1,5 +1,7 @@
 pub mod Lines
 pub mod Shapes
 pub mod Elements
-pub mod Transforms
+pub mod Inverses
+pub mod OneOutcome
+pub mod ValuedJobs
 pub mod WordNumbers

@@ -1,74 +1,31 @@
--- The answers of operations, over fields whose elements have numbers.
-use Rattle.std.specs.Prelude.{ℕ, ◌-◌, ◌/◌, List, map, length, unwrap_or, Result, Ok}
-use Rattle.std.proofs.Common.{lit<, refl}
-use Rattle.p3_field.specs.declared.fields.Field.{Ghosts as FieldMembers}
-use Rattle.p3_field.specs.Fields.{baby_bear_modulus, baby_bear_ring, baby_bear_root, goldilocks_modulus, goldilocks_ring, goldilocks_root}
-use Rattle.p3_field.specs.Residues.{Residue, residue_of}
-use Rattle.p3_field.specs.Ring.{Ring}
-use Rattle.p3_field.specs.Squarings.{squared}
-use Rattle.p3_matrix.specs.Matrix.{matrix}
-use Rattle.p3_dft.specs.Cosets.{rows_of_values}
-use Rattle.dft.specs.declared.fault.Fault.{Fault}
+-- The answers of operations: what a job answers, as text.
+use Rattle.std.specs.Prelude.{◌≡◌, ℕ, List, map}
+use Rattle.p3_matrix.specs.RowMajor.{RowMajor, IsRowMajor, rows}
+use Rattle.p3_dft.specs.declared.jobs.Job.{Job}
+use Rattle.p3_dft.specs.declared.jobs.Job.TheVariants as job
+use Rattle.p3_dft.specs.Jobs.{IsAnswer}
 use Rattle.dft.specs.declared.names.Operation.{Operation}
-use Rattle.dft.specs.declared.names.Operation.TheVariants.{Dft}
-use Rattle.dft.specs.Arguments.{Arguments, arguments, logarithm}
-use Rattle.dft.specs.Faults.{◌>>=◌}
+use Rattle.dft.specs.declared.names.Operation.TheVariants.{Dft, CosetDft, Idft, CosetIdft, Lde, CosetLde}
+use Rattle.dft.specs.Arguments.{Arguments}
+use Rattle.dft.specs.NumberedFields.{NumberedField, members}
 use Rattle.dft.specs.Text.{text_of_rows}
 
--- a field as the program reads and prints it
-pub record NumberedField (A : Type 0) : Type 0 where
-  pub ring : Ring A
-  -- of the subgroup of order 2 ^ n
-  pub generator : ℕ → A
-  -- the largest such n
-  pub two_adicity : ℕ
-  -- each element has a number below it
-  pub modulus : ℕ
-  pub number : A → ℕ
-  -- the element with a number
-  pub element : ℕ → A
+-- the job of an operation on a matrix, with the added bits and the shift that some take
+abbrev pub job_of : {F : Type 0} → Operation → RowMajor F → ℕ → F → Job F
+job_of Dft m a s = job.Dft m
+job_of CosetDft m a s = job.CosetDft m s
+job_of Idft m a s = job.Idft m
+job_of CosetIdft m a s = job.CosetIdft m s
+job_of Lde m a s = job.Lde m a
+job_of CosetLde m a s = job.CosetLde m a s
 
--- a field of the program, whose elements have the values that element names
-abbrev pub numbered : {F : Type 0} (f : FieldMembers F) → (ℕ → F) → ℕ → ℕ → (ℕ → f.Element) → NumberedField f.Element
-numbered f generator two_adicity modulus element = record {
-  ring = f.ring;
-  generator = λ n. f.value (generator n);
-  two_adicity = two_adicity;
-  modulus = modulus;
-  number = f.number;
-  element = element;
-}
+-- what an operation is asked for, in a field
+abbrev pub asked_job : {A : Type 0} → NumberedField A → Operation → Arguments → Job A
+asked_job f operation a = job_of operation (record { width = a.width; values = map f.element a.values }) a.added_bits (f.element a.shift)
 
-abbrev pub baby_bear : NumberedField (Residue baby_bear_modulus)
-baby_bear = record {
-  ring = baby_bear_ring;
-  generator = λ n. squared baby_bear_ring baby_bear_root (27 - n);
-  two_adicity = 27;
-  modulus = baby_bear_modulus;
-  number = λ x. x.number;
-  element = residue_of baby_bear_modulus (lit< tt) refl;
-}
-
-abbrev pub goldilocks : NumberedField (Residue goldilocks_modulus)
-goldilocks = record {
-  ring = goldilocks_ring;
-  generator = λ n. squared goldilocks_ring goldilocks_root (32 - n);
-  two_adicity = 32;
-  modulus = goldilocks_modulus;
-  number = λ x. x.number;
-  element = residue_of goldilocks_modulus (lit< tt) refl;
-}
-
--- the numbers of the answer
-unfoldable pub rows_of_answer : {A : Type 0} → NumberedField A → Operation → Arguments → List (List ℕ)
--- the values, on the subgroup, of the polynomials whose coefficients are the columns
-rows_of_answer f Dft a =
-    let coefficients = matrix f.ring.zero (record { width = a.width; values = map f.element a.values }) in
-    let log = unwrap_or (logarithm f.two_adicity (length a.values / a.width)) 0 in
-    map (map f.number) (rows_of_values f.ring f.generator coefficients log f.ring.one)
-
--- the text of the answer, or the first fault of the words behind the operation's name
-abbrev pub answer_in : {A : Type 0} → NumberedField A → Operation → List (List ℕ) → Result (List ℕ) Fault
-answer_in f operation words = do
-  a ← arguments f.modulus f.two_adicity operation words
-  Ok (text_of_rows (rows_of_answer f operation a))
+-- the text has a line for each row of a matrix that answers the job
+pub record IsText {A : Type 0} (f : NumberedField A) (asked : Job A) (text : List ℕ) : Type 0 where
+  pub answer : RowMajor A
+  pub whole : IsRowMajor answer
+  pub answers : IsAnswer (members f) f.generator asked answer
+  pub shown : text ≡ text_of_rows (map (map f.number) (rows answer))

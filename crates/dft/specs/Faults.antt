@@ -1,9 +1,7 @@
 -- Why the program has no answer: the lines that tell it, and the first fault of several.
-use Rattle.std.specs.Prelude.{ℕ, Bool, List, [], ◌∷◌, ◌++◌, codes, Option, Some, None, Result, Ok, Err, IsOk, ◌≡◌, if◌then◌else◌}
+use Rattle.std.specs.Prelude.{ℕ, Bool, List, [], ◌∷◌, ◌++◌, codes, Option, Some, None, Result, Ok, Err, if◌then◌else◌}
 use Rattle.dft.specs.declared.fault.Fault.{Fault}
-use Rattle.dft.specs.declared.fault.Stopped.{Stopped}
-use Rattle.dft.specs.declared.fault.Stopped.TheVariants.{Refused, OutOfMemory}
-use Rattle.dft.specs.declared.fault.Fault.TheVariants.{UnknownField, UnknownEngine, UnknownOperation, TooFewWords, NotANumber, NotBelowModulus, UnfitShape}
+use Rattle.dft.specs.declared.fault.Fault.TheVariants.{UnknownField, UnknownEngine, UnknownOperation, TooFewWords, NotANumber, NotBelowModulus, UnfitShape, NoInverse}
 
 -- a text, and a line feed
 abbrev pub ended : List ℕ → List ℕ
@@ -17,6 +15,7 @@ line_of TooFewWords = ended (codes "error 4: too few words")
 line_of NotANumber = ended (codes "error 5: not a number")
 line_of NotBelowModulus = ended (codes "error 6: number not below the modulus")
 line_of UnfitShape = ended (codes "error 7: shape does not fit")
+line_of NoInverse = ended (codes "error 8: shift has no inverse")
 
 abbrev pub memory_line : List ℕ
 memory_line = ended (codes "error 9: out of memory")
@@ -41,12 +40,3 @@ infixl 10 ◌>>=◌
 abbrev pub ◌>>=◌ : {A B : Type 0} → Result A Fault → (A → Result B Fault) → Result B Fault
 (Ok x) >>= f = f x
 (Err fault) >>= f = Err fault
-
--- What a function returned, seen by view, is what reading gives; where memory ran out, it gives a value.
-abbrev pub Stops : {Y : Type 0} → Stopped → Result Y Fault → Type 0
-Stops (Refused fault) reading = reading ≡ Err fault
-Stops OutOfMemory reading = IsOk reading
-
-abbrev pub Gives : {X Y : Type 0} → (X → Y) → Result X Stopped → Result Y Fault → Type 0
-Gives view (Ok x) reading = reading ≡ Ok (view x)
-Gives view (Err stopped) reading = Stops stopped reading

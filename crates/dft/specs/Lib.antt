@@ -2,6 +2,7 @@ pub mod Answers
 pub mod Arguments
 pub mod Faults
 pub mod Names
+pub mod NumberedFields
 pub mod Numbers
 pub mod Outcome
 pub mod Sinks

@@ -1,15 +1,21 @@
 -- What the program writes for the words after its name, and the status that it ends with.
-use Rattle.std.specs.Prelude.{ℕ, List, drop, slice_get, Option, Some, None, Result, Ok, Err}
+use Rattle.std.specs.Prelude.{◌≡◌, ℕ, List, drop, slice_get, Option, Some, None, Result, Ok, Err, String}
+use Rattle.std.specs.Global.{Global}
 use Rattle.std.specs.Option.{ok_or}
+use Rattle.std.specs.String.{string_bytes}
 use Rattle.dft.specs.declared.fault.Fault.{Fault}
 use Rattle.dft.specs.declared.fault.Fault.TheVariants.{UnknownField, UnknownEngine, UnknownOperation, TooFewWords}
+use Rattle.dft.specs.declared.fault.Stopped.{Stopped}
+use Rattle.dft.specs.declared.fault.Stopped.TheVariants.{Refused, OutOfMemory}
 use Rattle.dft.specs.declared.names.FieldName.{FieldName}
 use Rattle.dft.specs.declared.names.FieldName.TheVariants.{BabyBear, Goldilocks}
 use Rattle.dft.specs.declared.names.Operation.{Operation}
 use Rattle.dft.specs.declared.program.Request.{Request}
-use Rattle.dft.specs.Answers.{baby_bear, goldilocks, answer_in}
+use Rattle.dft.specs.Answers.{IsText, asked_job}
+use Rattle.dft.specs.Arguments.{Arguments, arguments}
 use Rattle.dft.specs.Faults.{◌>>=◌, line_of}
 use Rattle.dft.specs.Names.{field_named, engine_named, operation_named}
+use Rattle.dft.specs.NumberedFields.{NumberedField, baby_bear, goldilocks}
 
 -- what the word names, if it is there
 abbrev pub named : {T : Type 0} → (List ℕ → Option T) → Fault → Option (List ℕ) → Result T Fault
@@ -24,25 +30,42 @@ asked words = do
   operation ← named operation_named UnknownOperation (slice_get words 2)
   Ok (record { field = field; engine = engine; operation = operation })
 
--- the text of the answer in the field of this name, whichever engine finds it
-abbrev pub answer_in_field : FieldName → Operation → List (List ℕ) → Result (List ℕ) Fault
-answer_in_field BabyBear operation words = answer_in baby_bear operation words
-answer_in_field Goldilocks operation words = answer_in goldilocks operation words
-
--- the text of the answer, or the first fault of the words
-abbrev pub answer : List (List ℕ) → Result (List ℕ) Fault
-answer words = do
-  request ← asked words
-  answer_in_field request.field request.operation (drop 3 words)
-
 pub record Outcome : Type 0 where
   pub status : ℕ
   pub text : List ℕ
 
--- the text of the answer with status 0, or the line of the fault with status 2
-abbrev pub outcome_of : Result (List ℕ) Fault → Outcome
-outcome_of (Ok text) = record { status = 0; text = text }
-outcome_of (Err fault) = record { status = 2; text = line_of fault }
+-- the outcome of a fault: its line with status 2
+abbrev pub told : Fault → Outcome
+told fault = record { status = 2; text = line_of fault }
 
-abbrev pub outcome : List (List ℕ) → Outcome
-outcome words = outcome_of (answer words)
+-- the outcome is the first fault's, and where there is none one that follows from what was read
+abbrev pub FaultOr : {T : Type 0} → Result T Fault → (T → Outcome → Type 0) → Outcome → Type 0
+FaultOr (Ok read) follows o = follows read o
+FaultOr (Err fault) follows o = o ≡ told fault
+
+-- the text of an answer with status 0
+abbrev pub IsAnswered : {A : Type 0} → NumberedField A → Operation → Arguments → Outcome → Type 0
+IsAnswered f operation a o = (o.status ≡ 0) × IsText f (asked_job f operation a) o.text
+
+-- the outcome, in a field, of the words behind the operation's name
+abbrev pub IsOutcomeOver : {A : Type 0} → NumberedField A → Operation → List (List ℕ) → Outcome → Type 0
+IsOutcomeOver f operation words o = FaultOr (arguments f operation words) (IsAnswered f operation) o
+
+-- the same in the field of this name, whichever engine finds it
+abbrev pub IsOutcomeIn : FieldName → Operation → List (List ℕ) → Outcome → Type 0
+IsOutcomeIn BabyBear operation words o = IsOutcomeOver baby_bear operation words o
+IsOutcomeIn Goldilocks operation words o = IsOutcomeOver goldilocks operation words o
+
+-- the outcome of the words after the program's name
+abbrev pub IsOutcome : List (List ℕ) → Outcome → Type 0
+IsOutcome words o = FaultOr (asked words) (λ request. IsOutcomeIn request.field request.operation (drop 3 words)) o
+
+-- the words have an answer, and no fault
+abbrev pub IsAnswerable : List (List ℕ) → Type 0
+IsAnswerable words = (o : Outcome) → IsOutcome words o → o.status ≡ 0
+
+-- What a function returned is an outcome; where memory ran out, each outcome has an answer.
+abbrev pub Gives : Result (String Global) Stopped → (Outcome → Type 0) → Type 0
+Gives (Ok text) IsOne = IsOne (record { status = 0; text = string_bytes text })
+Gives (Err (Refused fault)) IsOne = IsOne (told fault)
+Gives (Err OutOfMemory) IsOne = (o : Outcome) → IsOne o → o.status ≡ 0

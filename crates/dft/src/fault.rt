@@ -17,6 +17,7 @@ pub enum Fault {
     NotANumber,
     NotBelowModulus,
     UnfitShape,
+    NoInverse,
 }
 
 impl Fault {
@@ -32,6 +33,7 @@ impl Fault {
             Fault::NotANumber => "error 5: not a number\n",
             Fault::NotBelowModulus => "error 6: number not below the modulus\n",
             Fault::UnfitShape => "error 7: shape does not fit\n",
+            Fault::NoInverse => "error 8: shift has no inverse\n",
         }
     }
 }

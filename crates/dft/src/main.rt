@@ -1,6 +1,7 @@
 //! The command `dft`: transforms over finite fields of the numbers on the command line.
 //!
-//! `dft FIELD ENGINE OP WIDTH VALUE..` writes the answer to standard output, a line for each row.
+//! `dft FIELD ENGINE OP [ADDED] [SHIFT] WIDTH VALUE..` writes the answer to standard output, a line
+//! for each row.
 #![tactic(auto)]
 
 mod arguments;

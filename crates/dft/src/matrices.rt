@@ -6,7 +6,7 @@ ghost use Rattle.p3_matrix.specs.RowMajor.{IsRowMajor, rows};
 ghost use Rattle.dft.specs.Arguments.{numbers_of, reaches};
 ghost use Rattle.dft.specs.Text.{line_of_numbers, text_of_rows, spaced};
 
-use crate::arguments::number_or_zero;
+use crate::arguments::{element_of, number_or_zero};
 use p3_dft::{CanonicalField, RowMajorMatrix};
 use std::alloc::{AllocError, Global};
 use std::fmt::Write;
@@ -26,7 +26,7 @@ pub fn matrix_of<F: CanonicalField>(
     let mut values = Vec::with_capacity(alloc, words.len())?;
     for word in words {
         let number = number_or_zero(word.as_str());
-        values.push(F::new(number).unwrap())?;
+        values.push(element_of(number))?;
     }
     Ok(RowMajorMatrix::new(values, width))
 }

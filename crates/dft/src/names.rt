@@ -47,6 +47,11 @@ impl EngineName {
 #[derive(Clone, Copy)]
 pub enum Operation {
     Dft,
+    CosetDft,
+    Idft,
+    CosetIdft,
+    Lde,
+    CosetLde,
 }
 
 impl Operation {
@@ -56,6 +61,11 @@ impl Operation {
     {
         match word {
             "dft" => Some(Operation::Dft),
+            "coset-dft" => Some(Operation::CosetDft),
+            "idft" => Some(Operation::Idft),
+            "coset-idft" => Some(Operation::CosetIdft),
+            "lde" => Some(Operation::Lde),
+            "coset-lde" => Some(Operation::CosetLde),
             _ => None,
         }
     }

@@ -1,25 +1,24 @@
 //! The whole program but for the process around it: words in, text and a status out.
 
-ghost use Rattle.std.specs.Prelude.{◌≡◌, ◌≢◌, ◌<◌, ◌≤◌, ◌++◌, ◌↔◌, ◌⊎◌, ℕ, map, length, Result, IfOk, OnOk};
+ghost use Rattle.std.specs.Prelude.{◌≡◌, ◌≢◌, ◌<◌, ◌≤◌, ◌++◌, ◌↔◌, ◌⊎◌, ℕ, List, map, length, Result, IfOk, OnOk};
 ghost use Rattle.std.specs.Option.{ok_or};
 ghost use Rattle.std.specs.List.{slice_get};
 ghost use Rattle.std.specs.String.{string_bytes};
-ghost use Rattle.p3_matrix.specs.RowMajor.{height};
-ghost use Rattle.p3_dft.specs.Shapes.{FitsDft};
-ghost use Rattle.p3_dft.specs.Transforms.{IsTransform};
-ghost use Rattle.dft.specs.Answers.{answer_in, numbered};
-ghost use Rattle.dft.specs.Faults.{Gives, memory_line, seen};
-ghost use Rattle.dft.specs.Outcome.{answer, answer_in_field, asked, outcome};
+ghost use Rattle.p3_dft.specs.Jobs.{CanRun, IsAnswer};
+ghost use Rattle.dft.specs.Answers.{job_of};
+ghost use Rattle.dft.specs.Faults.{memory_line, seen};
+ghost use Rattle.dft.specs.NumberedFields.{numbered};
+ghost use Rattle.dft.specs.Outcome.{Gives, IsAnswerable, IsOutcome, IsOutcomeIn, IsOutcomeOver, Outcome, asked};
 ghost use Rattle.dft.specs.Sinks.{GrowsByStartOf};
 
-use crate::arguments::parse_arguments;
+use crate::arguments::{element_of, parse_arguments};
 use crate::fault::{Fault, Stopped};
 use crate::matrices::{matrix_of, text_of};
 use crate::names::{EngineName, FieldName, Operation};
 use crate::sink::{Sink, write_text};
 use p3_dft::{
-    BabyBear, CanonicalField, DftError, Evaluations, Goldilocks, NaiveDft, Radix2Dit,
-    RowMajorMatrix, TwoAdicSubgroupDft,
+    BabyBear, CanonicalField, DftError, Goldilocks, Job, NaiveDft, Radix2Dit, RowMajorMatrix,
+    TwoAdicSubgroupDft, run_jobs,
 };
 use std::alloc::Global;
 
@@ -31,15 +30,14 @@ const OUT_OF_MEMORY: &str = "error 9: out of memory\n";
 pub fn run<W: Sink>(alloc: Global, words: &[String], out: &mut W) -> u8
     ensures status { (result ≡ 0) ⊎ (result ≡ 2) ⊎ (result ≡ 3) ⊎ (result ≡ 4) }
     // The outcome of the words was written.
-    ensures ended { (result ≡ 0) ⊎ (result ≡ 2) → let o = outcome (map string_bytes words.now) in
-        (result ≡ o.status) × (W.bytes out.new ≡ W.bytes out.old ++ o.text) }
+    ensures ended { (result ≡ 0) ⊎ (result ≡ 2) → (text : List ℕ)
+        × IsOutcome (map string_bytes words.now) (record { status = result; text = text })
+        × (W.bytes out.new ≡ W.bytes out.old ++ text) }
     // There is an answer, and no memory for it.
-    ensures memory { result ≡ 3 → let o = outcome (map string_bytes words.now) in
-        (o.status ≡ 0) × (W.bytes out.new ≡ W.bytes out.old ++ memory_line) }
+    ensures memory { result ≡ 3 → IsAnswerable (map string_bytes words.now) × (W.bytes out.new ≡ W.bytes out.old ++ memory_line) }
     // Writing stopped in the midst of one of these.
-    ensures stopped { result ≡ 4 → let o = outcome (map string_bytes words.now) in
-        GrowsByStartOf (W.bytes out.old) (W.bytes out.new) o.text
-        ⊎ ((o.status ≡ 0) × GrowsByStartOf (W.bytes out.old) (W.bytes out.new) memory_line) }
+    ensures stopped { result ≡ 4 → ((o : Outcome) × IsOutcome (map string_bytes words.now) o × GrowsByStartOf (W.bytes out.old) (W.bytes out.new) o.text)
+        ⊎ (IsAnswerable (map string_bytes words.now) × GrowsByStartOf (W.bytes out.old) (W.bytes out.new) memory_line) }
     ensures failed { (result ≡ 4) ↔ (W.failures out.old < W.failures out.new) }
 {
     match answer(alloc, words) {
@@ -83,7 +81,7 @@ pub struct Request {
 
 // The text of the answer.
 fn answer(alloc: Global, words: &[String]) -> Result<String, Stopped>
-    ensures { Gives string_bytes result (answer (map string_bytes words.now)) }
+    ensures { Gives result (IsOutcome (map string_bytes words.now)) }
 {
     let request = asked(words)?;
     answer_in_field(alloc, request, &words[3..])
@@ -114,7 +112,7 @@ fn word_at(words: &[String], i: usize) -> Result<&str, Fault>
 }
 
 fn answer_in_field(alloc: Global, request: Request, words: &[String]) -> Result<String, Stopped>
-    ensures { Gives string_bytes result (answer_in_field request.field request.operation (map string_bytes words.now)) }
+    ensures { Gives result (IsOutcomeIn request.field request.operation (map string_bytes words.now)) }
 {
     match request.field {
         FieldName::BabyBear => {
@@ -133,37 +131,62 @@ fn answer_in<F: CanonicalField>(
     words: &[String],
 ) -> Result<String, Stopped>
     ensures { (element : ℕ → F.Element) → ((n : ℕ) → n < F.ORDER_U64 → F.number (element n) ≡ n)
-        → Gives string_bytes result (answer_in (numbered F.Field.own F.generator F.TWO_ADICITY F.ORDER_U64 element) operation (map string_bytes words.now)) }
+        → Gives result (IsOutcomeOver (numbered F.Field.own F.generator F.TWO_ADICITY F.ORDER_U64 element) operation (map string_bytes words.now)) }
 {
     let arguments = parse_arguments::<F>(operation, words)?;
     let matrix = matrix_of::<F>(alloc, arguments.width, arguments.values)?;
-    let values = transformed_by(engine, operation, matrix)?;
-    Ok(text_of(alloc, &values)?)
+    let shift = element_of(arguments.shift);
+    let job = job_of(operation, matrix, arguments.added_bits, shift);
+    let answer = answer_by(alloc, engine, job)?;
+    Ok(text_of(alloc, &answer)?)
 }
 
-fn transformed_by<F: CanonicalField>(
-    engine: EngineName,
+// The job of an operation on a matrix, with the added bits and the shift that some take.
+fn job_of<F: CanonicalField>(
     operation: Operation,
     matrix: RowMajorMatrix<F>,
-) -> Result<RowMajorMatrix<F>, DftError>
-    requires { FitsDft F.TWO_ADICITY (height matrix) matrix.width }
-    ensures { IfOk result (IsTransform F.Field.own F.generator matrix F.ring.one) }
+    added_bits: usize,
+    shift: F,
+) -> Job<F>
+    ensures { result ≡ job_of operation matrix added_bits shift }
 {
-    match engine {
-        EngineName::Naive => transformed(&mut NaiveDft::default(), operation, matrix),
-        EngineName::Dit => transformed(&mut Radix2Dit::default(), operation, matrix),
+    match operation {
+        Operation::Dft => Job::Dft(matrix),
+        Operation::CosetDft => Job::CosetDft(matrix, shift),
+        Operation::Idft => Job::Idft(matrix),
+        Operation::CosetIdft => Job::CosetIdft(matrix, shift),
+        Operation::Lde => Job::Lde(matrix, added_bits),
+        Operation::CosetLde => Job::CosetLde(matrix, added_bits, shift),
     }
 }
 
-fn transformed<F: CanonicalField, D: TwoAdicSubgroupDft<F>>(
-    engine: &mut D,
-    operation: Operation,
-    matrix: RowMajorMatrix<F>,
+fn answer_by<F: CanonicalField>(
+    alloc: Global,
+    engine: EngineName,
+    job: Job<F>,
 ) -> Result<RowMajorMatrix<F>, DftError>
-    requires { FitsDft F.TWO_ADICITY (height matrix) matrix.width }
-    ensures { IfOk result (IsTransform F.Field.own F.generator matrix F.ring.one) }
+    requires { CanRun F.Field.own F.TWO_ADICITY job }
+    ensures { IfOk result (IsAnswer F.Field.own F.generator job) }
 {
-    match operation {
-        Operation::Dft => Ok(engine.dft_batch(matrix)?.to_row_major_matrix()),
+    match engine {
+        EngineName::Naive => answer_to(alloc, &mut NaiveDft::default(), job),
+        EngineName::Dit => answer_to(alloc, &mut Radix2Dit::default(), job),
+    }
+}
+
+// The answer to one job.
+fn answer_to<F: CanonicalField, D: TwoAdicSubgroupDft<F>>(
+    alloc: Global,
+    engine: &mut D,
+    job: Job<F>,
+) -> Result<RowMajorMatrix<F>, DftError>
+    requires { CanRun F.Field.own F.TWO_ADICITY job }
+    ensures { IfOk result (IsAnswer F.Field.own F.generator job) }
+{
+    let mut jobs = Vec::with_capacity(alloc, 1)?;
+    jobs.push(job)?;
+    match run_jobs(engine, jobs) {
+        Ok(mut answers) => Ok(answers.pop().unwrap()),
+        Err(stopped) => Err(stopped.error),
     }
 }

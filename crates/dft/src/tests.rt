@@ -72,7 +72,7 @@ const FIRST_TEXT: &str = "9 5 0\n1 2013265920 0\n";
 
 #[test]
 fn answers(rt: HostRuntime) -> Result<(), Fail> {
-    let rows: [(&[&str], &str); 6] = [
+    let rows: [(&[&str], &str); 14] = [
         (&FIRST_WORDS, FIRST_TEXT),
         (
             &["babybear", "naive", "dft", "1", "1", "2", "3", "4"],
@@ -90,6 +90,40 @@ fn answers(rt: HostRuntime) -> Result<(), Fail> {
         (
             &["goldilocks", "dit", "dft", "1", "0", "1", "0", "0"],
             "1\n281474976710656\n18446744069414584320\n18446462594437873665\n",
+        ),
+        (
+            &["babybear", "dit", "coset-dft", "2", "1", "5", "4"],
+            "13\n2013265918\n",
+        ),
+        (&["babybear", "naive", "idft", "1", "9", "1"], "5\n4\n"),
+        (
+            &[
+                "babybear",
+                "dit",
+                "coset-idft",
+                "2",
+                "1",
+                "13",
+                "2013265918",
+            ],
+            "5\n4\n",
+        ),
+        (
+            &["babybear", "naive", "lde", "1", "1", "9", "1"],
+            "9\n873820294\n1\n1139445637\n",
+        ),
+        (
+            &["babybear", "dit", "coset-lde", "1", "0", "1", "9", "1"],
+            "5\n5\n5\n5\n",
+        ),
+        (
+            &["babybear", "dit", "coset-lde", "2", "31", "2", "42", "7"],
+            "42 7\n42 7\n42 7\n42 7\n",
+        ),
+        (&["goldilocks", "dit", "lde", "0", "1", "9", "1"], "9\n1\n"),
+        (
+            &["goldilocks", "naive", "coset-dft", "0", "1", "5", "4"],
+            "5\n5\n",
         ),
     ];
     for (words, text) in rows {
@@ -109,7 +143,8 @@ fn faults(rt: HostRuntime) -> Result<(), Fail> {
     let not_a_number = "error 5: not a number\n";
     let not_below = "error 6: number not below the modulus\n";
     let unfit_shape = "error 7: shape does not fit\n";
-    let rows: [(&[&str], &str); 20] = [
+    let no_inverse = "error 8: shift has no inverse\n";
+    let rows: [(&[&str], &str); 33] = [
         (&[], too_few_words),
         (&["babybear"], too_few_words),
         (&["babybear", "naive", "dft", "1"], too_few_words),
@@ -150,6 +185,68 @@ fn faults(rt: HostRuntime) -> Result<(), Fail> {
         (
             &["babybear", "naive", "dft", "1", "1", "2", "3"],
             unfit_shape,
+        ),
+        (
+            &["goldilocks", "dit", "dft", "1", "1", "2", "3"],
+            unfit_shape,
+        ),
+        (&["babybear", "dit", "lde", "1", "1"], too_few_words),
+        (&["babybear", "dit", "coset-idft", "1", "1"], too_few_words),
+        (
+            &["babybear", "dit", "coset-lde", "1", "1", "1"],
+            too_few_words,
+        ),
+        (
+            &["babybear", "dit", "lde", "x", "1", "9", "1"],
+            not_a_number,
+        ),
+        (
+            &["babybear", "dit", "coset-idft", "2013265921", "1", "1"],
+            not_below,
+        ),
+        (
+            &["babybear", "dit", "coset-idft", "0", "2", "13"],
+            unfit_shape,
+        ),
+        (
+            &["babybear", "dit", "lde", "64", "1", "9", "1"],
+            unfit_shape,
+        ),
+        (
+            &["babybear", "dit", "lde", "27", "1", "9", "1"],
+            unfit_shape,
+        ),
+        (
+            &[
+                "babybear",
+                "dit",
+                "lde",
+                "18446744073709551615",
+                "1",
+                "9",
+                "1",
+            ],
+            unfit_shape,
+        ),
+        (
+            &["babybear", "dit", "lde", "2013265921", "1", "9", "1"],
+            unfit_shape,
+        ),
+        (
+            &[
+                "babybear",
+                "dit",
+                "coset-idft",
+                "0",
+                "1",
+                "13",
+                "2013265918",
+            ],
+            no_inverse,
+        ),
+        (
+            &["goldilocks", "naive", "coset-idft", "0", "1", "13"],
+            no_inverse,
         ),
     ];
     for (words, line) in rows {

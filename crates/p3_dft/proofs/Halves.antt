@@ -13,12 +13,13 @@ in_first xs ys i d inside = search (rules, places)
 pub in_second : {X : Type 0} (xs ys : List X) (n i : ℕ) (d : X) → length xs ≡ n → get_or (xs ++ ys) (n + i) d ≡ get_or ys i d
 in_second xs ys n i d size = search (rules, places)
 
--- and in a part of a list
-pub of_first : {X : Type 0} (xs : List X) (n i : ℕ) (d : X) → i < n → get_or (take n xs) i d ≡ get_or xs i d
-of_first xs n i d inside = search (rules, places)
-
-pub of_second : {X : Type 0} (xs : List X) (n i : ℕ) (d : X) → get_or (drop n xs) i d ≡ get_or xs (n + i) d
-of_second xs n i d = search (rules, places)
+-- an operation on a cell of each half is one on two cells of the whole
+pub of_halves : {X Y : Type 0} (op : X → X → Y) (whole low high : List X) (n i : ℕ) (d : X) → low ≡ take n whole → high ≡ drop n whole → i < n
+    → op (get_or low i d) (get_or high i d) ≡ op (get_or whole i d) (get_or whole (n + i) d)
+of_halves op whole low high n i d first second inside =
+    let x : get_or (take n whole) i d ≡ get_or whole i d = search (rules, places) in
+    let y : get_or (drop n whole) i d ≡ get_or whole (n + i) d = search (rules, places) in
+    ap₂ op (ap (λ xs. get_or xs i d) first ∙ x) (ap (λ xs. get_or xs i d) second ∙ y)
 
 -- what holds of column j of row t, for each, holds of each cell
 pub each_cell : (P : ℕ → ℕ → Type 0) (w h : ℕ) → 0 < w → ((t j : ℕ) → t < h → j < w → P t (t * w + j)) → (i : ℕ) → i < h * w → P (i / w) i

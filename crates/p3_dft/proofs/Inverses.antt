@@ -7,7 +7,7 @@ use Rattle.p3_matrix.specs.Matrix.{Matrix, Same, mapped}
 use Rattle.p3_dft.specs.Cosets.{AreCoefficients, IsQuotient, opposed, shifted}
 use Rattle.p3_dft.specs.Transforms.{values_of, IsInterpolation, IsTransform}
 use Rattle.p3_dft.proofs.Interpolation.{forward_inverse_by_count, coset_coefficients, there_is_no_other}
-use Rattle.p3_dft.proofs.Logarithms.{pow-injective}
+use Rattle.p3_matrix.proofs.TwoPowers.{log_same}
 
 -- f of the entries of one matrix
 pub mapped_same : {T E : Type 0} (f : T → E) (a b : Matrix T) → Same a b → Same (mapped f a) (mapped f b)
@@ -28,7 +28,7 @@ opposed_quotient r n m d c quotient same = record {
 module _ {F : Type 0} (f : FieldMembers F) (generator : ℕ → F) (bits : ℕ) (roots : AreRoots f.ring bits (λ n. f.value (generator n))) where
   -- the exponent of a height is within the field's bits
   exponent_within : (m : RowMajor F) (log k : ℕ) → log ≤ bits → height m ≡ 2 ^ log → height m ≡ 2 ^ k → k ≤ bits
-  exponent_within m log k within high e = subst (λ (n : ℕ). n ≤ bits) (pow-injective log k (sym high ∙ e)) within
+  exponent_within m log k within high e = subst (λ (n : ℕ). n ≤ bits) (log_same log k (sym high ∙ e)) within
 
   -- values of values, divided by the height and in opposite order, are the coefficients
   pub interpolation_of_quotient : (m y c : RowMajor F) (log : ℕ) → log ≤ bits → height m ≡ 2 ^ log → IsTransform f generator m f.ring.one y

@@ -1,8 +1,8 @@
 -- Lists of jobs that are answered one after another.
-use Rattle.std.proofs.Common.{◌≡◌, ℕ, suc, List, [], ◌∷◌, ◌++◌, length, take, get_or, sym, ap, ◌∙◌, subst, append_assoc, length-append, arith, Result, Ok, Err, OnErr}
+use Rattle.std.proofs.Common.{◌≡◌, ℕ, List, [], ◌∷◌, ◌++◌, length, take, get_or, sym, ap, ◌∙◌, subst, append_assoc, length-append, arith, Result, Ok, Err, OnErr}
 use Rattle.std.proofs.Math.Seq.{get_or-append_seam, take-append_seam}
 use Rattle.std.proofs.lemmas.Slice.Zip.{AllZip-long}
-use Rattle.std.specs.List.{All, AllZip}
+use Rattle.std.specs.List.{AllZip}
 use Rattle.p3_field.specs.declared.fields.Field.{Ghosts as FieldMembers}
 use Rattle.p3_matrix.specs.RowMajor.{RowMajor}
 use Rattle.p3_dft.specs.Jobs.{AreFirstAnswers, IsAnswer, IsPromised, NextIsNotPromised}
@@ -13,17 +13,6 @@ use Rattle.p3_dft.specs.declared.jobs.Job.TheVariants.{Dft, CosetDft, Idft, Cose
 pub on_any_error : {T E P : Type 0} (r : Result T E) → P → OnErr r P
 on_any_error (Ok x) p = tt
 on_any_error (Err e) p = p
-
--- one more pair
-pub zip_more : {A B : Type 0} (R : A → B → Type 0) (xs : List A) (ys : List B) (x : A) (y : B) → AllZip R xs ys → R x y → AllZip R (xs ++ x ∷ []) (ys ++ y ∷ [])
-zip_more R [] [] x y pairs pair = (pair, tt)
-zip_more R [] (b ∷ ys) x y pairs pair = absurd pairs
-zip_more R (a ∷ xs) [] x y pairs pair = absurd pairs
-zip_more R (a ∷ xs) (b ∷ ys) x y pairs pair = (pairs.0, zip_more R xs ys x y pairs.1 pair)
-
--- what holds of each element holds of each after the first
-pub all_later : {X : Type 0} (P : X → Type 0) (xs : List X) (x : X) (later : List X) → xs ≡ x ∷ later → All P xs → All P later
-all_later {X} P xs x later is all = λ k d below. subst (λ (ys : List X). All P ys) is all (suc k) d (omega arith)
 
 -- promises that stay are promises of jobs that stay
 pub promised_later : {F : Type 0} (before now : ℕ → Type 0) → ((k : ℕ) → before k → now k) → (job : Job F) → IsPromised before job → IsPromised now job

@@ -10,8 +10,8 @@ pub mod Inverses
 pub mod JobLists
 pub mod Layers
 pub mod Layouts
-pub mod Logarithms
 pub mod Networks
+pub mod OneAnswer
 pub mod OpposedRows
 pub mod Opposite
 pub mod Padding

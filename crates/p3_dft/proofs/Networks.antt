@@ -16,6 +16,27 @@ use Rattle.p3_dft.specs.Cosets.{point, IsValues}
 use Rattle.p3_dft.proofs.Cosets.{point-mul, is_values}
 use Rattle.p3_dft.proofs.Polynomials.{poly-one, poly_same, poly-split}
 
+-- ---- rows with t in the low l digits of their number, and j reversed in the m others
+abbrev held_low : {A : Type 0} → (ℕ → ℕ → A) → ℕ → ℕ → ℕ → A
+held_low held l m r = held (rev m (r / 2 ^ l)) (r % 2 ^ l)
+
+held_low_at : {A : Type 0} (held : ℕ → ℕ → A) (l m b t : ℕ) → t < 2 ^ l → held_low held l m (b * 2 ^ l + t) ≡ held (rev m b) t
+held_low_at held l m b t h = ap₂ (λ x y. held (rev m x) y) (div-mul-add b (2 ^ l) t h) (mod-mul-add b (2 ^ l) t h)
+
+module _ {A : Type 0} (held : ℕ → ℕ → A) (l m : ℕ) where
+  -- with one digit more for j: its first digit says in which half of a block of the next layer the row is
+  held_first : (b t : ℕ) → t < 2 ^ l → held_low held l (suc m) (b * 2 ^ suc l + t) ≡ held (rev m b) t
+  held_first b t h =
+      let e : 2 ^ suc l ≡ 2 * 2 ^ l = omega arith in
+      let d : b * (2 * 2 ^ l) + t ≡ (2 * b) * 2 ^ l + t = omega arith in
+      ap (held_low held l (suc m)) (ap (λ x. b * x + t) e ∙ d) ∙ held_low_at held l (suc m) (2 * b) t h ∙ ap (λ x. held x t) (rev-even m b)
+
+  held_second : (b t : ℕ) → t < 2 ^ l → held_low held l (suc m) (b * 2 ^ suc l + (2 ^ l + t)) ≡ held (2 ^ m + rev m b) t
+  held_second b t h =
+      let e : 2 ^ suc l ≡ 2 * 2 ^ l = omega arith in
+      let d : b * (2 * 2 ^ l) + (2 ^ l + t) ≡ (2 * b + 1) * 2 ^ l + t = omega arith in
+      ap (held_low held l (suc m)) (ap (λ x. b * x + (2 ^ l + t)) e ∙ d) ∙ held_low_at held l (suc m) (2 * b + 1) t h ∙ ap (λ x. held x t) (rev-odd m b)
+
 module _ {A : Type 0} (R : Ring A) (g : ℕ → A) (s : A) where
   open R use {add as ◌⊕◌, mul as ◌⊗◌, neg, zero as 𝟘, one as 𝟙}
 
@@ -79,14 +100,14 @@ module _ {A : Type 0} (R : Ring A) (g : ℕ → A) (s : A) where
   stage_far G l m c j t y = stage_near G l m c j (2 ^ l + t) y
       ∙ ap₂ ◌⊕◌ (stage_round G l (suc m) c j t (omega arith)) (ap₂ ◌⊗◌ (twiddle_far G l m t y) (stage_round G l (suc m) c (2 ^ m + j) t (omega arith)) ∙ Rings.neg-mul R _ _)
 
-  -- ---- low rows: t in the low digits of the row's number, and j reversed in the high ones. Decimation in time from reversed rows:
+  -- ---- low rows. Decimation in time from reversed rows:
   -- Radix2Dit, and the first half of the parallel network
   unfoldable pub low_row : ℕ → ℕ → (ℕ → A) → ℕ → A
-  low_row l m c r = stage l m c (rev m (r / 2 ^ l)) (r % 2 ^ l)
+  low_row l m c r = held_low (stage l m c) l m r
 
   pub low_row_at : (l m : ℕ) (c : ℕ → A) (b t : ℕ) → t < 2 ^ l → low_row l m c (b * 2 ^ l + t) ≡ stage l m c (rev m b) t
   unfolding low_row
-  low_row_at l m c b t h = ap₂ (λ x y. stage l m c (rev m x) y) (div-mul-add b (2 ^ l) t h) (mod-mul-add b (2 ^ l) t h)
+  low_row_at l m c b t h = held_low_at (stage l m c) l m b t h
 
   -- before the first layer, and after the last
   pub low_start : (m : ℕ) (c : ℕ → A) (r : ℕ) → low_row 0 m c r ≡ c (rev m r)
@@ -97,27 +118,17 @@ module _ {A : Type 0} (R : Ring A) (g : ℕ → A) (s : A) where
   unfolding low_row
   low_end l c r h = ap₂ (stage l 0 c) (rev-zero (r / 2 ^ l)) (mod-eq_of_lt h) ∙ stage_end l c r
 
-  low_even : (l m : ℕ) (c : ℕ → A) (b t : ℕ) → t < 2 ^ l → low_row l (suc m) c (b * 2 ^ suc l + t) ≡ stage l (suc m) c (rev m b) t
-  low_even l m c b t h =
-      let e : 2 ^ suc l ≡ 2 * 2 ^ l = omega arith in
-      let d : b * (2 * 2 ^ l) + t ≡ (2 * b) * 2 ^ l + t = omega arith in
-      ap (low_row l (suc m) c) (ap (λ x. b * x + t) e ∙ d) ∙ low_row_at l (suc m) c (2 * b) t h ∙ ap (λ x. stage l (suc m) c x t) (rev-even m b)
-
-  low_odd : (l m : ℕ) (c : ℕ → A) (b t : ℕ) → t < 2 ^ l → low_row l (suc m) c (b * 2 ^ suc l + (2 ^ l + t)) ≡ stage l (suc m) c (2 ^ m + rev m b) t
-  low_odd l m c b t h =
-      let e : 2 ^ suc l ≡ 2 * 2 ^ l = omega arith in
-      let d : b * (2 * 2 ^ l) + (2 ^ l + t) ≡ (2 * b + 1) * 2 ^ l + t = omega arith in
-      ap (low_row l (suc m) c) (ap (λ x. b * x + (2 ^ l + t)) e ∙ d) ∙ low_row_at l (suc m) c (2 * b + 1) t h ∙ ap (λ x. stage l (suc m) c x t) (rev-odd m b)
-
   pub low_near : {bits : ℕ} (G : AreRoots R bits g) (l m : ℕ) (c : ℕ → A) (b t : ℕ) → l < bits → t < 2 ^ l →
       low_row (suc l) m c (b * 2 ^ suc l + t) ≡ low_row l (suc m) c (b * 2 ^ suc l + t) ⊕ twiddle l m t ⊗ low_row l (suc m) c (b * 2 ^ suc l + (2 ^ l + t))
+  unfolding low_row
   low_near G l m c b t y h = low_row_at (suc l) m c b t (omega arith) ∙ stage_near G l m c (rev m b) t y
-      ∙ sym (ap₂ (λ x y. x ⊕ twiddle l m t ⊗ y) (low_even l m c b t h) (low_odd l m c b t h))
+      ∙ sym (ap₂ (λ x y. x ⊕ twiddle l m t ⊗ y) (held_first (stage l (suc m) c) l m b t h) (held_second (stage l (suc m) c) l m b t h))
 
   pub low_far : {bits : ℕ} (G : AreRoots R bits g) (l m : ℕ) (c : ℕ → A) (b t : ℕ) → l < bits → t < 2 ^ l →
       low_row (suc l) m c (b * 2 ^ suc l + (2 ^ l + t)) ≡ low_row l (suc m) c (b * 2 ^ suc l + t) ⊕ neg (twiddle l m t ⊗ low_row l (suc m) c (b * 2 ^ suc l + (2 ^ l + t)))
+  unfolding low_row
   low_far G l m c b t y h = low_row_at (suc l) m c b (2 ^ l + t) (omega arith) ∙ stage_far G l m c (rev m b) t y
-      ∙ sym (ap₂ (λ x y. x ⊕ neg (twiddle l m t ⊗ y)) (low_even l m c b t h) (low_odd l m c b t h))
+      ∙ sym (ap₂ (λ x y. x ⊕ neg (twiddle l m t ⊗ y)) (held_first (stage l (suc m) c) l m b t h) (held_second (stage l (suc m) c) l m b t h))
 
   -- ---- high rows: j in the low digits, and t reversed in the high ones. Decimation in time from natural order: the second half of
   -- the parallel network, Bowers' G transposed, the small batch engine's Dit layers
@@ -210,33 +221,23 @@ module _ {A : Type 0} (R : Ring A) (g : ℕ → A) (s : A) where
       ∙ ap (λ x. x ⊗ power R (g (suc m)) j) (sym (ap₂ (λ x y. x ⊕ neg y) (turned_plain l m c j t) (turned_joined G l m c j t y)))
 
   unfoldable pub turned_row : ℕ → ℕ → (ℕ → A) → ℕ → A
-  turned_row l m c r = turned l m c (rev m (r / 2 ^ l)) (r % 2 ^ l)
+  turned_row l m c r = held_low (turned l m c) l m r
 
   pub turned_row_at : (l m : ℕ) (c : ℕ → A) (b t : ℕ) → t < 2 ^ l → turned_row l m c (b * 2 ^ l + t) ≡ turned l m c (rev m b) t
   unfolding turned_row
-  turned_row_at l m c b t h = ap₂ (λ x y. turned l m c (rev m x) y) (div-mul-add b (2 ^ l) t h) (mod-mul-add b (2 ^ l) t h)
-
-  turned_even : (l m : ℕ) (c : ℕ → A) (b t : ℕ) → t < 2 ^ l → turned_row l (suc m) c (b * 2 ^ suc l + t) ≡ turned l (suc m) c (rev m b) t
-  turned_even l m c b t h =
-      let e : 2 ^ suc l ≡ 2 * 2 ^ l = omega arith in
-      let d : b * (2 * 2 ^ l) + t ≡ (2 * b) * 2 ^ l + t = omega arith in
-      ap (turned_row l (suc m) c) (ap (λ x. b * x + t) e ∙ d) ∙ turned_row_at l (suc m) c (2 * b) t h ∙ ap (λ x. turned l (suc m) c x t) (rev-even m b)
-
-  turned_odd : (l m : ℕ) (c : ℕ → A) (b t : ℕ) → t < 2 ^ l → turned_row l (suc m) c (b * 2 ^ suc l + (2 ^ l + t)) ≡ turned l (suc m) c (2 ^ m + rev m b) t
-  turned_odd l m c b t h =
-      let e : 2 ^ suc l ≡ 2 * 2 ^ l = omega arith in
-      let d : b * (2 * 2 ^ l) + (2 ^ l + t) ≡ (2 * b + 1) * 2 ^ l + t = omega arith in
-      ap (turned_row l (suc m) c) (ap (λ x. b * x + (2 ^ l + t)) e ∙ d) ∙ turned_row_at l (suc m) c (2 * b + 1) t h ∙ ap (λ x. turned l (suc m) c x t) (rev-odd m b)
+  turned_row_at l m c b t h = held_low_at (turned l m c) l m b t h
 
   pub turned_row_near : {bits : ℕ} (G : AreRoots R bits g) (l m : ℕ) (c : ℕ → A) (b t : ℕ) → suc l + m ≤ bits → t < 2 ^ l →
       turned_row (suc l) m c (b * 2 ^ suc l + t) ≡ turned_row l (suc m) c (b * 2 ^ suc l + t) ⊕ turned_row l (suc m) c (b * 2 ^ suc l + (2 ^ l + t))
+  unfolding turned_row
   turned_row_near G l m c b t y h = turned_row_at (suc l) m c b t (omega arith) ∙ turned_near G l m c (rev m b) t y
-      ∙ sym (ap₂ ◌⊕◌ (turned_even l m c b t h) (turned_odd l m c b t h))
+      ∙ sym (ap₂ ◌⊕◌ (held_first (turned l (suc m) c) l m b t h) (held_second (turned l (suc m) c) l m b t h))
 
   pub turned_row_far : {bits : ℕ} (G : AreRoots R bits g) (l m : ℕ) (c : ℕ → A) (b t : ℕ) → suc l + m ≤ bits → t < 2 ^ l →
       turned_row (suc l) m c (b * 2 ^ suc l + (2 ^ l + t)) ≡ (turned_row l (suc m) c (b * 2 ^ suc l + t) ⊕ neg (turned_row l (suc m) c (b * 2 ^ suc l + (2 ^ l + t)))) ⊗ power R (g (suc m)) (rev m b)
+  unfolding turned_row
   turned_row_far G l m c b t y h = turned_row_at (suc l) m c b (2 ^ l + t) (omega arith) ∙ turned_far G l m c (rev m b) t y
-      ∙ sym (ap₂ (λ x y. (x ⊕ neg y) ⊗ power R (g (suc m)) (rev m b)) (turned_even l m c b t h) (turned_odd l m c b t h))
+      ∙ sym (ap₂ (λ x y. (x ⊕ neg y) ⊗ power R (g (suc m)) (rev m b)) (held_first (turned l (suc m) c) l m b t h) (held_second (turned l (suc m) c) l m b t h))
 
   pub turned_row_start : (m : ℕ) (c : ℕ → A) (r : ℕ) → turned_row 0 m c r ≡ power R s (rev m r) ⊗ c (rev m r)
   unfolding turned_row

@@ -46,3 +46,7 @@ output_size most height width added fit =
     ap (λ h. h * width * 2 ^ added) fit.high ∙ ap (λ n. n * 2 ^ added) (mul_comm (2 ^ fit.log) width) ∙ mul_assoc width (2 ^ fit.log) (2 ^ added)
     ∙ ap (λ n. width * n) (sym (pow-add 2 fit.log added)) in
     omega (arith, count, fit.size)
+
+-- an extension has no fewer entries
+pub entries_rise : (k a w : ℕ) → 2 ^ k * w ≤ 2 ^ (k + a) * w
+entries_rise k a w = mul-le-mul_right w (pow-le-pow_right (omega arith) (omega arith))

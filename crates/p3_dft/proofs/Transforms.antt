@@ -10,7 +10,7 @@ use Rattle.p3_dft.specs.Cosets.{IsQuotient}
 use Rattle.p3_dft.specs.Polynomials.{poly}
 use Rattle.p3_dft.specs.Transforms.{values_of, IsTransform}
 use Rattle.p3_dft.proofs.Cosets.{is_subgroup_values}
-use Rattle.p3_dft.proofs.Logarithms.{pow-injective}
+use Rattle.p3_matrix.proofs.TwoPowers.{log_same}
 
 -- the height of a stored matrix from the number of its entries
 pub height_of_parts : {T : Type 0} (m : RowMajor T) (values : List T) (w h : ℕ) → 1 ≤ w → length values ≡ h * w → m.width ≡ w → m.values ≡ values → height m ≡ h
@@ -25,7 +25,7 @@ module _ {F : Type 0} (f : FieldMembers F) (generator : ℕ → F) where
       ≡ poly f.ring (height m) (λ q. f.value (get_or m.values (q * m.width + j) f.ZERO)) (power f.ring x i))
       → IsTransform f generator m f.ring.one out
   transform_of_entries m out log x high is tall wide entries k e =
-      let same : x ≡ f.value (generator k) = is ∙ ap (λ n. f.value (generator n)) (pow-injective log k (sym high ∙ e)) in
+      let same : x ≡ f.value (generator k) = is ∙ ap (λ n. f.value (generator n)) (log_same log k (sym high ∙ e)) in
       is_subgroup_values f.ring (λ n. f.value (generator n)) (values_of f m) k (values_of f out) (tall ∙ e) wide
       (λ i j below inside.
       let column = λ (q : ℕ). f.value (get_or m.values (q * m.width + j) f.ZERO) in

@@ -9,6 +9,8 @@ mod butterfly_layers;
 pub mod jobs;
 pub mod naive;
 pub mod radix_2_dit;
+#[cfg(test)]
+mod tests;
 pub mod traits;
 mod twiddles;
 pub mod util;

@@ -2,9 +2,8 @@
 
 ghost use Rattle.std.specs.Prelude.{◌≡◌, ◌↔◌, ◌⊎◌, ℕ, ◌+◌, ◌*◌, ◌-◌, ◌^◌, ◌<◌, ◌≤◌, List, length, get_or, IsTrue, IsOk, OnOk, OnErr, Ok};
 ghost use Rattle.p3_field.specs.Ring.{power};
-ghost use Rattle.p3_matrix.specs.BitOrder.{rev, reversed};
-ghost use Rattle.p3_matrix.specs.Matrix.{matrix, Same};
-ghost use Rattle.p3_matrix.specs.RowMajor.{IsRowMajor, SameShape, height};
+ghost use Rattle.p3_matrix.specs.BitOrder.{rev};
+ghost use Rattle.p3_matrix.specs.RowMajor.{IsRowMajor, height};
 ghost use Rattle.p3_dft.specs.Polynomials.{poly};
 ghost use Rattle.p3_dft.specs.Transforms.{IsTransform};
 ghost use Rattle.p3_dft.specs.Twiddles.{IsPrepared};
@@ -15,10 +14,9 @@ mod tests;
 use crate::butterfly_layers::dit_layer;
 use crate::traits::{Layout, TwoAdicSubgroupDft};
 use crate::twiddles::TwiddleTables;
+use crate::util::{pad_rows, reverse_rows, shift_rows};
 use p3_field::{Products, TwoAdicField};
-use p3_matrix::{
-    DftError, IntoRowMajorMatrix, RowMajorMatrix, log2_strict_usize, reverse_matrix_index_bits,
-};
+use p3_matrix::{DftError, IntoRowMajorMatrix, RowMajorMatrix, log2_strict_usize};
 use std::alloc::{AllocError, Global};
 use std::marker::Model;
 
@@ -100,8 +98,9 @@ impl<F: TwoAdicField> Radix2Dit<F> {
 
 impl<F: TwoAdicField> TwoAdicSubgroupDft<F> for Radix2Dit<F> {
     ghost use Rattle.std.specs.Prelude.{◌≡◌, ℕ, ◌+◌, ◌*◌, ◌/◌, ◌-◌, ◌^◌, ◌≤◌, IfOk, IsOk, OnOk, Ok};
-    ghost use Rattle.p3_matrix.specs.RowMajor.{height};
-    ghost use Rattle.p3_dft.specs.Shapes.{FitsDft};
+    ghost use Rattle.p3_matrix.specs.RowMajor.{RowMajor, height};
+    ghost use Rattle.p3_dft.specs.Extensions.{IsTransformedExtension, extension_bound};
+    ghost use Rattle.p3_dft.specs.Shapes.{FitsDft, FitsLde, HasShapeOf};
     ghost use Rattle.p3_dft.specs.Transforms.{IsTransform};
     ghost use Rattle.p3_dft.specs.Twiddles.{IsPrepared};
     ghost use Rattle.p3_dft.specs.declared.traits.Layout.TheVariants.{Natural};
@@ -149,6 +148,40 @@ impl<F: TwoAdicField> TwoAdicSubgroupDft<F> for Radix2Dit<F> {
     fn add_products(&mut self, products: Products) {
         self.products.add(products);
     }
+
+    /// As the trait says. Only the rows that carry coefficients are multiplied by powers of the
+    /// shift; then rows of zeros are added.
+    fn coset_lde_batch_with_transform<
+        N: IntoRowMajorMatrix<F>,
+        T: FnOnce(RowMajorMatrix<F>, Layout) -> RowMajorMatrix<F> + Drop,
+    >(
+        &mut self,
+        mat: N,
+        added_bits: usize,
+        shift: F,
+        transform: T,
+    ) -> Result<RowMajorMatrix<F>, DftError>
+        requires fits { FitsLde F.TWO_ADICITY (height (N.stored mat)) (N.stored mat).width added_bits }
+        requires callable { (m : RowMajor F) → HasShapeOf m (N.stored mat) → T.pre transform m Natural }
+        requires shape { (m n : RowMajor F) → HasShapeOf m (N.stored mat) → T.post transform m Natural n → HasShapeOf n (N.stored mat) }
+        ensures values { IfOk result (λ out. IsTransformedExtension F.Field.own F.generator (λ m n. T.post transform m Natural n) Natural
+            (N.stored mat) added_bits (F.value shift) out) }
+        ensures keeps { (k : ℕ) → IsPrepared self.old k → IsPrepared self.new k }
+        ensures grows { self.old.products ≤ self.new.products }
+        ensures cost { (k : ℕ) → height (N.stored mat) ≡ 2 ^ k
+            → OnOk result (self.new.products ≤ self.old.products + extension_bound (λ k w. w * (k * 2 ^ k / 2)) k added_bits (N.stored mat).width) }
+        ensures fewer { (k : ℕ) → height (N.stored mat) ≡ 2 ^ k → OnOk result (self.new.products ≤ self.old.products
+            + (N.stored mat).width * (k * 2 ^ k / 2) + (N.stored mat).width * ((k + added_bits) * 2 ^ (k + added_bits) / 2)
+            + 2 * (2 ^ k * (N.stored mat).width)) }
+    {
+        let coefficients = self.idft_batch(mat)?;
+        let changed = transform(coefficients, Layout::Natural);
+        let mut products = Products::new();
+        let shifted = shift_rows(changed, shift, &mut products);
+        self.add_products(products);
+        let padded = pad_rows(shifted, added_bits)?;
+        self.dft_batch(padded)
+    }
 }
 
 // Transforms a matrix in place by the table for its height.
@@ -175,16 +208,6 @@ fn transform<F: TwoAdicField>(
     } else {
         dit_network(mat.values_mut(), width, log_h, twiddles, products);
     }
-}
-
-// Puts the rows into bit reversed order.
-fn reverse_rows<T>(mat: &mut RowMajorMatrix<T>)
-    requires { (n : ℕ) × height mat.old ≡ 2 ^ n }
-    ensures shape { SameShape mat.new mat.old }
-    ensures rows { (n : ℕ) → height mat.old ≡ 2 ^ n
-        → (d : T) → Same (matrix d mat.new) (reversed n (matrix d mat.old)) }
-{
-    reverse_matrix_index_bits(&mut mat.as_view_mut());
 }
 
 // All layers, on rows that lie in bit reversed order. The table has the powers of the generator.

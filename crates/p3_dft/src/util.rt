@@ -200,8 +200,8 @@ fn shift_values<F: TwoAdicField>(
 #[cfg(test)]
 mod tests {
     use super::*;
-    use p3_field::{BabyBear, CanonicalField};
-    use std::alloc::Global;
+    use crate::tests::matrix;
+    use p3_field::BabyBear;
     use std::test::Fail;
 
     #[test]
@@ -214,33 +214,25 @@ mod tests {
         assert!(rt; !fits_dft::<BabyBear>(2, usize::MAX));
     }
 
-    fn matrix_of(
-        alloc: Global,
-        numbers: &[u64],
-        width: usize,
-    ) -> Result<RowMajorMatrix<BabyBear>, Fail> {
-        let mut entries = Vec::new(alloc);
-        for number in numbers {
-            entries.push(BabyBear::new(*number).ok_or("not below the modulus")?)?;
-        }
-        if width == 0 || entries.len() % width != 0 {
-            return Err(Fail::from("no whole number of rows"));
-        }
-        Ok(RowMajorMatrix::new(entries, width))
+    #[test]
+    fn shapes_that_can_be_extended(rt: HostRuntime) {
+        assert!(rt; fits_lde::<BabyBear>(2, 1, 26));
+        assert!(rt; !fits_lde::<BabyBear>(2, 1, 27));
+        assert!(rt; !fits_lde::<BabyBear>(2, 1, 64));
     }
 
     #[test]
     fn divides_by_the_height(rt: HostRuntime) -> Result<(), Fail> {
         let alloc = rt.alloc();
         let mut products = Products::new();
-        let mut mat = matrix_of(alloc, &[2, 4, 6, 8], 2)?;
+        let mut mat: RowMajorMatrix<BabyBear> = matrix(alloc, &[2, 4, 6, 8], 2)?;
         assert_eq!(rt; mat.height(), 2);
         divide_by_height(&mut mat.as_view_mut(), &mut products);
-        assert!(rt; mat == matrix_of(alloc, &[1, 2, 3, 4], 2)?);
-        let mut row = matrix_of(alloc, &[10, 20, 30, 40], 4)?;
+        assert!(rt; mat == matrix(alloc, &[1, 2, 3, 4], 2)?);
+        let mut row: RowMajorMatrix<BabyBear> = matrix(alloc, &[10, 20, 30, 40], 4)?;
         assert_eq!(rt; row.height(), 1);
         divide_by_height(&mut row.as_view_mut(), &mut products);
-        assert!(rt; row == matrix_of(alloc, &[10, 20, 30, 40], 4)?);
+        assert!(rt; row == matrix(alloc, &[10, 20, 30, 40], 4)?);
         Ok(())
     }
 
@@ -248,9 +240,9 @@ mod tests {
     fn shifts_rows(rt: HostRuntime) -> Result<(), Fail> {
         let alloc = rt.alloc();
         let mut products = Products::new();
-        let mat = matrix_of(alloc, &[1, 2, 3, 4, 5, 6], 2)?;
+        let mat = matrix(alloc, &[1, 2, 3, 4, 5, 6], 2)?;
         let shifted = shift_rows(mat, BabyBear::TWO, &mut products);
-        assert!(rt; shifted == matrix_of(alloc, &[1, 2, 6, 8, 20, 24], 2)?);
+        assert!(rt; shifted == matrix(alloc, &[1, 2, 6, 8, 20, 24], 2)?);
         Ok(())
     }
 }

@@ -1,4 +1,4 @@
--- The rings of the fields: residues modulo a prime, and the generators of the subgroups of two-power order.
+-- The rings of the fields: residues of an odd modulus, and the generators of the subgroups of two-power order.
 use Rattle.std.proofs.Common.{ℕ, ◌-◌, refl, lit<}
 use Rattle.p3_field.specs.Residues.{Residue, residues}
 use Rattle.p3_field.specs.Ring.{Ring}

@@ -1,5 +1,6 @@
 -- Operations by lanes: on rows in two parts, with a function before or after, and where they read one side alone.
-use Rattle.std.proofs.Common.{◌≡◌, suc, List, [], ◌∷◌, ◌++◌, length, map, refl, ap, ap₂, arith}
+use Rattle.std.proofs.Common.{◌≡◌, ℕ, suc, List, [], ◌∷◌, ◌++◌, length, map, refl, sym, ap, ap₂, ◌∙◌, arith}
+use Rattle.std.proofs.lemmas.List.{length-map}
 use Rattle.p3_field.specs.Lanes.{by_lanes}
 
 module _ {A : Type 0} where
@@ -19,20 +20,15 @@ module _ {A : Type 0} where
   by_lanes-map_right op f (x ∷ xs) [] = refl
   by_lanes-map_right op f (x ∷ xs) (y ∷ ys) = ap (λ zs. op x (f y) ∷ zs) (by_lanes-map_right op f xs ys)
 
-  pub by_lanes-map_left : (op : A → A → A) (f : A → A) (xs ys : List A) → by_lanes op (map f xs) ys ≡ by_lanes (λ x y. op (f x) y) xs ys
-  by_lanes-map_left op f [] ys = refl
-  by_lanes-map_left op f (x ∷ xs) [] = refl
-  by_lanes-map_left op f (x ∷ xs) (y ∷ ys) = ap (λ zs. op (f x) y ∷ zs) (by_lanes-map_left op f xs ys)
+  pub by_lanes-mapped : (op op' : A → A → A) (f h : A → A) → ((x y : A) → op (f x) (h y) ≡ op' x y) → (xs ys : List A) → by_lanes op (map f xs) (map h ys) ≡ by_lanes op' xs ys
+  by_lanes-mapped op op' f h e [] ys = refl
+  by_lanes-mapped op op' f h e (x ∷ xs) [] = refl
+  by_lanes-mapped op op' f h e (x ∷ xs) (y ∷ ys) = ap₂ (λ z zs. z ∷ zs) (e x y) (by_lanes-mapped op op' f h e xs ys)
 
   pub map-by_lanes : (op : A → A → A) (f : A → A) (xs ys : List A) → map f (by_lanes op xs ys) ≡ by_lanes (λ x y. f (op x y)) xs ys
   map-by_lanes op f [] ys = refl
   map-by_lanes op f (x ∷ xs) [] = refl
   map-by_lanes op f (x ∷ xs) (y ∷ ys) = ap (λ zs. f (op x y) ∷ zs) (map-by_lanes op f xs ys)
-
-  pub by_lanes_same : (op op' : A → A → A) → ((x y : A) → op x y ≡ op' x y) → (xs ys : List A) → by_lanes op xs ys ≡ by_lanes op' xs ys
-  by_lanes_same op op' e [] ys = refl
-  by_lanes_same op op' e (x ∷ xs) [] = refl
-  by_lanes_same op op' e (x ∷ xs) (y ∷ ys) = ap₂ (λ z zs. z ∷ zs) (e x y) (by_lanes_same op op' e xs ys)
 
   -- an operation that reads the left side alone
   pub by_lanes_of_left : (f : A → A) (xs ys : List A) → length xs ≡ length ys → by_lanes (λ x y. f x) xs ys ≡ map f xs
@@ -45,3 +41,7 @@ module _ {A : Type 0} where
   by_lanes_is_left [] ys e = refl
   by_lanes_is_left (x ∷ xs) [] e = absurd (omega arith)
   by_lanes_is_left (x ∷ xs) (y ∷ ys) e = ap (λ zs. x ∷ zs) (by_lanes_is_left xs ys (omega arith))
+
+-- f of the lanes of two packed values of one width
+pub equal_lanes : {X Y : Type 0} (f : X → Y) (xs ys : List X) (width : ℕ) → length xs ≡ width → length ys ≡ width → length (map f xs) ≡ length (map f ys)
+equal_lanes f xs ys width one other = length-map xs f ∙ one ∙ sym other ∙ sym (length-map ys f)

@@ -1,8 +1,8 @@
 -- Powers of two: their order is that of their logarithms.
 use Rattle.std.proofs.Common.{◌≡◌, ℕ, ◌<◌, ◌≤◌, ◌^◌, suc, ◌+◌, ◌*◌, ap, add-one, arith, ⊎_elim, ◌⊎◌, inl, inr, lit≤}
 use Rattle.std.proofs.lemmas.Bool.{cases_lt}
-use Rattle.std.proofs.lemmas.Nat.{pow_below}
-use Rattle.std.proofs.Math.Nat.{pow-le-pow_right}
+use Rattle.std.proofs.lemmas.Nat.{pow_below, pow_pos}
+use Rattle.std.proofs.Math.Nat.{pow-le-pow_right, two-pow-succ}
 
 -- a smaller power has the smaller logarithm
 pub log_lt : (j k : ℕ) → 2 ^ j < 2 ^ k → j < k
@@ -12,14 +12,18 @@ log_lt j k l = ⊎_elim (λ p. p) (λ p. absurd (omega (arith, pow-le-pow_right 
 pub log_of_usize : (k : ℕ) → 2 ^ k < 2 ^ 64 → k ≤ 63
 log_of_usize k l = omega (arith, log_lt k 64 l)
 
--- equal powers have one logarithm
-pub log_same : (j k : ℕ) → 2 ^ j ≡ 2 ^ k → j ≡ k
-log_same j k e = go (cases_lt j k) (cases_lt k j)
+-- the power of two at or below another, and less than one power apart, has its logarithm
+pub log_unique : (j k : ℕ) → 2 ^ j ≤ 2 ^ k → 2 ^ k < 2 * 2 ^ j → j ≡ k
+log_unique j k low high = go (cases_lt j k) (cases_lt k j)
   where
     go : (j < k) ⊎ (k ≤ j) → (k < j) ⊎ (j ≤ k) → j ≡ k
-    go (inl l) q = absurd (omega (arith, pow_below j k l))
-    go (inr a) (inl l) = absurd (omega (arith, pow_below k j l))
+    go (inl l) q = absurd (omega (arith, pow-le-pow_right {n = 2} (lit≤ tt) l, two-pow-succ j, high))
+    go (inr a) (inl l) = absurd (omega (arith, pow_below k j l, low))
     go (inr a) (inr b) = omega arith
+
+-- equal powers have one logarithm
+pub log_same : (j k : ℕ) → 2 ^ j ≡ 2 ^ k → j ≡ k
+log_same j k e = log_unique j k (omega arith) (omega (arith, pow_pos j))
 
 -- one more digit
 pub digit_below : (t r d : ℕ) → r < 2 ^ t → d < 2 → 2 * r + d < 2 ^ (t + 1)

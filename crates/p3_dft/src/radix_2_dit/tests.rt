@@ -1,22 +1,13 @@
 // Values from definitions worked out by hand or by another program, and what is prepared when.
 
-use crate::naive::NaiveDft;
 use crate::radix_2_dit::Radix2Dit;
+use crate::tests::elements;
 use crate::traits::TwoAdicSubgroupDft;
 use crate::util::fits_dft;
-use p3_field::{BabyBear, CanonicalField, Field, Goldilocks};
+use p3_field::{BabyBear, CanonicalField, Goldilocks};
 use p3_matrix::RowMajorMatrix;
-use std::alloc::Global;
 use std::process::Abort;
 use std::test::Fail;
-
-fn elements<F: CanonicalField>(alloc: Global, numbers: &[u64]) -> Result<Vec<F>, Fail> {
-    let mut elements = Vec::new(alloc);
-    for number in numbers {
-        elements.push(F::new(*number).ok_or("not below the modulus")?)?;
-    }
-    Ok(elements)
-}
 
 // One call of `dft` on a column.
 fn dft<F: CanonicalField>(
@@ -124,33 +115,5 @@ fn prepared_heights(rt: HostRuntime) -> Result<(), Fail> {
     let copy = engine.clone()?;
     assert!(rt; copy.is_prepared(0));
     assert!(rt; !copy.is_prepared(3));
-    Ok(())
-}
-
-// The entries 1, 2, .. of a matrix.
-fn counting(alloc: Global, n: usize) -> Result<Vec<BabyBear>, Fail> {
-    let mut entries = Vec::new(alloc);
-    for i in 0..n {
-        entries.push(BabyBear::from_usize(i + 1))?;
-    }
-    Ok(entries)
-}
-
-#[test]
-fn equals_the_transform_by_definition(rt: HostRuntime) -> Result<(), Fail> {
-    let alloc = rt.alloc();
-    let mut engine = Radix2Dit::default();
-    for height in [1usize, 2, 4, 8, 16, 32, 64, 128] {
-        for width in [1usize, 3, 8, 17] {
-            let entries = counting(alloc, height * width)?;
-            assert!(rt; entries.len() % width == 0);
-            let mat = RowMajorMatrix::new(entries, width);
-            assert!(rt; fits_dft::<BabyBear>(mat.height(), mat.width()));
-            let copy = mat.try_clone()?;
-            let expected = NaiveDft::default().dft_batch(copy)?;
-            let values = engine.dft_batch(mat)?;
-            assert!(rt; values == expected, "height {height}, width {width}");
-        }
-    }
     Ok(())
 }

@@ -1,12 +1,23 @@
-use Rattle.std.proofs.Common.{◌≡◌, ◌-◌, length, map, take, drop}
+use Rattle.std.proofs.Common.{◌≡◌, ◌-◌, ℕ, List, drop, length, map, take, refl, ap, ◌∙◌}
 use Rattle.std.specs.String.{string_bytes}
-use Rattle.dft.specs.declared.names.Operation.TheVariants.{Dft}
-use Rattle.dft.specs.Arguments.{arguments_of, number_or_zero, numbers_of}
+use Rattle.dft.specs.declared.names.Operation.{Operation}
+use Rattle.dft.specs.declared.names.Operation.TheVariants.{Dft, CosetDft, Idft, CosetIdft, Lde, CosetLde}
+use Rattle.dft.specs.Arguments.{arguments_of, number_or_zero, numbers_of, settings}
 use Rattle.dft.proofs.WordNumbers.{numbers_behind}
 use Rattle.dft.proofs.arguments.arguments_of.Goals as goal
+
+-- the values are behind the settings
+behind : (operation : Operation) (numbers : List ℕ) → drop (settings operation) numbers ≡ (arguments_of operation numbers).values
+behind Dft numbers = refl
+behind CosetDft numbers = refl
+behind Idft numbers = refl
+behind CosetIdft numbers = refl
+behind Lde numbers = refl
+behind CosetLde numbers = refl
 
 pub returns-clause-values : goal.returns-clause-values
 returns-clause-values c =
     let words = c.args.words.now in
-    elim c.args.operation as (λ operation. numbers_of (take (length words - 1) (drop 1 words)) ≡ (arguments_of operation (map number_or_zero (map string_bytes words))).values)
-    [ Dft ↦ numbers_behind 1 words ]
+    ap (λ n. numbers_of (take (length words - n) (drop n words))) c.settings-behind.ensures
+    ∙ numbers_behind (settings c.args.operation) words
+    ∙ behind c.args.operation (map number_or_zero (map string_bytes words))

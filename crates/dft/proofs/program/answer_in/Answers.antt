@@ -1,25 +1,42 @@
-use Rattle.std.proofs.Common.{◌≡◌, ap, sym, ◌∙◌, length, Ok}
+use Rattle.std.proofs.Common.{◌≡◌, ◌/◌, ℕ, length, Result, refl, sym, ap, ◌∙◌, subst}
 use Rattle.std.proofs.lemmas.List.{length-map}
 use Rattle.std.specs.String.{string_bytes}
-use Rattle.dft.specs.Answers.{numbered, rows_of_answer}
-use Rattle.dft.specs.Arguments.{number_or_zero, numbers_of}
-use Rattle.dft.specs.Faults.{◌>>=◌}
-use Rattle.dft.specs.Text.{text_of_rows}
-use Rattle.dft.proofs.Transforms.{rows_of_transform}
+use Rattle.p3_matrix.specs.RowMajor.{height}
+use Rattle.p3_dft.specs.Shapes.{FitsLde}
+use Rattle.dft.specs.declared.fault.Fault.{Fault}
+use Rattle.dft.specs.Arguments.{Arguments, number_or_zero, numbers_of}
+use Rattle.dft.specs.NumberedFields.{numbered}
+use Rattle.dft.specs.Outcome.{FaultOr, IsAnswered}
+use Rattle.dft.proofs.ValuedJobs.{can_run, text_of_answer}
 use Rattle.dft.proofs.program.answer_in.Goals as goal
+
+pub answer_by-requires : goal.answer_by-requires
+answer_by-requires g c =
+    let arguments = c.in_ok-arguments.arguments in
+    let matrix = c.in_ok-matrix.matrix in
+    let bits = g.F.TwoAdicField.TWO_ADICITY in
+    let counted : length arguments.values.now ≡ length matrix.values =
+    sym (length-map arguments.values.now (λ word. number_or_zero (string_bytes word)))
+    ∙ ap length (sym c.in_ok-matrix.ensures.numbers)
+    ∙ length-map matrix.values (λ x. g.F.Field.number (g.F.Field.value x)) in
+    let wide : arguments.width ≡ matrix.width = sym c.in_ok-matrix.ensures.wide in
+    let fits : FitsLde bits (height matrix) matrix.width arguments.added_bits =
+    subst (λ (w : ℕ). FitsLde bits (length matrix.values / w) w arguments.added_bits) wide
+    (subst (λ (n : ℕ). FitsLde bits (n / arguments.width) arguments.width arguments.added_bits) counted c.in_ok-arguments.ensures.fits) in
+    rw c.job_of-job.ensures
+    (can_run g.F.Field bits c.args.operation matrix arguments.added_bits c.element_of-shift.result fits
+    (λ undoes. c.in_ok-arguments.ensures.invertible undoes c.element_of-shift.result c.element_of-shift.ensures))
 
 pub returns : goal.returns
 returns g c element named =
-    let two_adicity = g.F.TwoAdicField.TWO_ADICITY in
-    let modulus = g.F.CanonicalField.ORDER_U64 in
-    let generator = g.F.TwoAdicField.generator in
-    let field = numbered g.F.Field generator two_adicity modulus element in
+    let field = numbered g.F.Field g.F.TwoAdicField.generator g.F.TwoAdicField.TWO_ADICITY g.F.CanonicalField.ORDER_U64 element in
     let arguments = c.in_ok-arguments.arguments in
-    let words = arguments.values.now in
-    let counted : length (numbers_of words) ≡ length words = length-map words (λ word. number_or_zero (string_bytes word)) in
-    ap (λ read. read >>= (λ a. Ok (text_of_rows (rows_of_answer field c.args.operation a)))) (sym c.in_ok-arguments.ensures.exact)
-    ∙ ap (λ rows. Ok (text_of_rows rows))
-    (rows_of_transform g.F.Field generator two_adicity modulus element g.met.F.Field.zero_law g.met.F.Field.number_law named g.met.F.CanonicalField.number_below_law
-    c.in_ok-matrix.matrix c.in_ok-values.values arguments.width (numbers_of words) c.in_ok-text_of.ensures.whole c.in_ok-matrix.ensures.wide c.in_ok-matrix.ensures.numbers
-    c.in_ok-values.ensures c.args.operation (rw counted c.in_ok-arguments.ensures.fits))
-    ∙ ap Ok (sym c.in_ok-text_of.ensures.text)
+    let text = string_bytes c.in_ok-text_of.field-0 in
+    subst (λ (read : Result Arguments Fault). FaultOr read (IsAnswered field c.args.operation) (record { status = 0; text = text })) (c.in_ok-arguments.ensures.exact element named) (
+      refl,
+      text_of_answer g.F.Field g.F.TwoAdicField.generator g.F.TwoAdicField.TWO_ADICITY g.F.CanonicalField.ORDER_U64 element g.met.F.Field.zero_law g.met.F.TwoAdicField.roots_law
+          g.met.F.Field.number_law named g.met.F.CanonicalField.number_below_law c.args.operation
+          (record { added_bits = arguments.added_bits; shift = arguments.shift; width = arguments.width; values = numbers_of arguments.values.now })
+          c.in_ok-matrix.matrix c.in_ok-answer.answer c.element_of-shift.result text c.in_ok-matrix.ensures.wide c.in_ok-matrix.ensures.numbers c.element_of-shift.ensures
+          c.in_ok-text_of.ensures.whole (rw (sym c.job_of-job.ensures) c.in_ok-answer.ensures) c.in_ok-text_of.ensures.text,
+    )

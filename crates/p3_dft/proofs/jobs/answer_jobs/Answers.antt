@@ -1,8 +1,10 @@
 use Rattle.std.proofs.Common.{◌++◌, List, [], ◌∷◌, subst, sym, arith, rules, inr}
+use Rattle.std.proofs.lemmas.List.Elements.{All-rest}
+use Rattle.std.proofs.lemmas.Slice.Zip.{all_zipped_more}
 use Rattle.std.specs.List.{AllZip}
 use Rattle.p3_matrix.specs.RowMajor.{RowMajor}
 use Rattle.p3_dft.specs.Jobs.{AreFirstAnswers, CanRun, IsAnswer}
-use Rattle.p3_dft.proofs.JobLists.{all_later, first_answers, next_not_promised, on_any_error, split_more, zip_more}
+use Rattle.p3_dft.proofs.JobLists.{first_answers, next_not_promised, on_any_error, split_more}
 use Rattle.p3_dft.proofs.jobs.answer_jobs.Goals as goal
 
 pub loop-job-preserved : goal.loop-job-preserved
@@ -13,8 +15,8 @@ loop-job-preserved g c =
     record {
       split = split_more _ c.loop-job.yielded _ _ c.in-Some.job so_far.split next;
       answered = subst (λ (ys : List (RowMajor g.row.F.Denot)). AllZip answers (c.loop-job.yielded ++ c.in-Some.job ∷ []) ys) (sym c.in_ok-push.ensures.items)
-          (zip_more answers c.loop-job.yielded c.loop-job.answers.items c.in-Some.job c.in_ok-answer.answer so_far.answered c.in_ok-answer.ensures.answer);
-      runnable = all_later (CanRun g.F.Field g.F.TwoAdicField.TWO_ADICITY) _ c.in-Some.job _ next so_far.runnable;
+          (all_zipped_more answers c.loop-job.yielded c.loop-job.answers.items c.in-Some.job c.in_ok-answer.answer so_far.answered c.in_ok-answer.ensures.answer);
+      runnable = All-rest (CanRun g.F.Field g.F.TwoAdicField.TWO_ADICITY) c.in-Some.job _ _ next so_far.runnable;
       room = omega (arith, so_far.room, c.in_ok-push.ensures.capacity);
       keeps = λ k promised. c.in_ok-answer.ensures.keeps k (so_far.keeps k promised);
       grows = omega (arith, so_far.grows, c.in_ok-answer.ensures.grows);

@@ -1,13 +1,13 @@
 use Rattle.std.proofs.Common.{◌≡◌, ℕ, ◌*◌, ◌^◌, ◌<◌, ◌≤◌, sym, ◌∙◌, ap, arith, rules}
 use Rattle.std.proofs.lemmas.Nat.{one_shl}
 use Rattle.p3_dft.specs.Shapes.{FitsDft}
-use Rattle.p3_dft.proofs.Logarithms.{log-unique}
+use Rattle.p3_matrix.proofs.TwoPowers.{log_unique}
 use Rattle.p3_dft.proofs.Shapes.{told}
 use Rattle.p3_dft.proofs.util.fits_dft.Goals as goal
 
 -- the logarithm of a shape that fits is the one that was computed
 log_is : (most height width log : ℕ) → 2 ^ log ≤ height → height < 2 * 2 ^ log → (fit : FitsDft most height width) → log ≡ fit.log
-log_is most height width log low high fit = log-unique log fit.log (omega (arith, low, fit.high)) (omega (arith, high, fit.high))
+log_is most height width log low high fit = log_unique log fit.log (omega (arith, low, fit.high)) (omega (arith, high, fit.high))
 
 pub returns-then-height-log : goal.returns-then-height-log
 returns-then-height-log g c =

@@ -1,7 +1,7 @@
 use Rattle.std.proofs.Common.{◌≡◌, ℕ, ◌++◌, ◌*◌, ◌^◌, ◌<◌, ◌≤◌, length, get_or, replicate, sym, ap, ◌∙◌, arith}
 use Rattle.std.proofs.lemmas.Grind.{common_steps}
 use Rattle.p3_matrix.specs.RowMajor.{RowMajor, height}
-use Rattle.p3_dft.proofs.Logarithms.{log-unique}
+use Rattle.p3_matrix.proofs.TwoPowers.{log_unique}
 use Rattle.p3_dft.proofs.Padding.{copy_at}
 use Rattle.p3_dft.proofs.Rows.{written}
 use Rattle.p3_dft.proofs.Transforms.{transform_of_parts}
@@ -9,7 +9,7 @@ use Rattle.p3_dft.proofs.naive.NaiveDftTwoAdicSubgroupDft.dft_batch.Goals as goa
 
 -- the logarithm that was computed is the height's
 log_is : (h computed log : ℕ) → h ≡ 2 ^ log → 2 ^ computed ≤ h → h < 2 * 2 ^ computed → computed ≡ log
-log_is h computed log high low next = log-unique computed log (omega (arith, high)) (omega (arith, high))
+log_is h computed log high low next = log_unique computed log (omega (arith, high)) (omega (arith, high))
 
 pub two_adic_generator-generator-requires : goal.two_adic_generator-generator-requires
 two_adic_generator-generator-requires g c =

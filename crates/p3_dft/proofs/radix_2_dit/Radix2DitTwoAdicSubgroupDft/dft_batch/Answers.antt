@@ -1,6 +1,6 @@
 use Rattle.std.proofs.Common.{◌≡◌, ℕ, inl, inr, ◌^◌, List, Contains, sym, ap, ap₂, ◌∙◌, subst, arith}
 use Rattle.p3_matrix.specs.RowMajor.{RowMajor, height}
-use Rattle.p3_dft.proofs.Logarithms.{pow-injective}
+use Rattle.p3_matrix.proofs.TwoPowers.{log_same}
 use Rattle.p3_dft.proofs.Prepared.{prepared-keeps, prepared-there, not_ok}
 use Rattle.p3_dft.proofs.ProductBounds.{two_halves, counted_within, counted_grows}
 use Rattle.p3_dft.proofs.ReversedRows.{transform_of_row}
@@ -18,19 +18,19 @@ returns-then-height-eq1-clause-values g c =
 pub returns-then-height-eq1-clause-prepares : goal.returns-then-height-eq1-clause-prepares
 returns-then-height-eq1-clause-prepares g c k high =
     let tall : c.height-height.result ≡ height (g.N.IntoRowMajorMatrix.stored c.args.mat) = c.height-height.ensures.height ∙ ap height c.into_row_major_matrix-mat.ensures in
-    inl (pow-injective k 0 (sym high ∙ sym tall ∙ c.if-height-eq1.true))
+    inl (log_same k 0 (sym high ∙ sym tall ∙ c.if-height-eq1.true))
 
 pub make-requires-clause-within : goal.make-requires-clause-within
 make-requires-clause-within g c =
     let tall : c.height-height.result ≡ height (g.N.IntoRowMajorMatrix.stored c.args.mat) = c.height-height.ensures.height ∙ ap height c.into_row_major_matrix-mat.ensures in
-    let same : c.log2_strict_usize-log_h.result ≡ c.requires.log = pow-injective _ _ (sym c.log2_strict_usize-log_h.ensures.power ∙ tall ∙ c.requires.high) in
+    let same : c.log2_strict_usize-log_h.result ≡ c.requires.log = log_same _ _ (sym c.log2_strict_usize-log_h.ensures.power ∙ tall ∙ c.requires.high) in
     omega (arith, same, c.requires.within)
 
 pub returns-in_err-make-clause-succeeds : goal.returns-in_err-make-clause-succeeds
 returns-in_err-make-clause-succeeds g c k high ready =
     let tall : c.height-height.result ≡ height (g.N.IntoRowMajorMatrix.stored c.args.mat) = c.height-height.ensures.height ∙ ap height c.into_row_major_matrix-mat.ensures in
     let log = c.log2_strict_usize-log_h.result in
-    let same : k ≡ log = pow-injective k log (sym high ∙ sym tall ∙ c.log2_strict_usize-log_h.ensures.power) in
+    let same : k ≡ log = log_same k log (sym high ∙ sym tall ∙ c.log2_strict_usize-log_h.ensures.power) in
     let there : Contains c.self.inside.tables log =
     prepared-there c.args.self.now c.self.inside.tables k log (ap (λ e. e.prepared) c.self.view_is) same (some_layers _ log c.log2_strict_usize-log_h.ensures.power c.if-height-eq1.false) ready in
     absurd (not_ok c.make.result _ c.in_err-make.was (c.make.ensures.ready there))
@@ -41,7 +41,7 @@ returns-in_err-make-clause-keeps g c = prepared-keeps c.args.self.now c.self.ins
 pub transform-requires-clause-rooted : goal.transform-requires-clause-rooted
 transform-requires-clause-rooted g c =
     let tall : c.height-height.result ≡ height (g.N.IntoRowMajorMatrix.stored c.args.mat) = c.height-height.ensures.height ∙ ap height c.into_row_major_matrix-mat.ensures in
-    let same : c.log2_strict_usize-log_h.result ≡ c.requires.log = pow-injective _ _ (sym c.log2_strict_usize-log_h.ensures.power ∙ tall ∙ c.requires.high) in
+    let same : c.log2_strict_usize-log_h.result ≡ c.requires.log = log_same _ _ (sym c.log2_strict_usize-log_h.ensures.power ∙ tall ∙ c.requires.high) in
     omega (arith, same, c.requires.within)
 
 pub transform-requires-clause-table_length : goal.transform-requires-clause-table_length
@@ -61,7 +61,7 @@ pub returns-clause-prepares : goal.returns-clause-prepares
 returns-clause-prepares g c k high =
     let tall : c.height-height.result ≡ height (g.N.IntoRowMajorMatrix.stored c.args.mat) = c.height-height.ensures.height ∙ ap height c.into_row_major_matrix-mat.ensures in
     let log = c.log2_strict_usize-log_h.result in
-    let same : log ≡ k = pow-injective log k (sym c.log2_strict_usize-log_h.ensures.power ∙ tall ∙ high) in
+    let same : log ≡ k = log_same log k (sym c.log2_strict_usize-log_h.ensures.power ∙ tall ∙ high) in
     inr (subst (λ (n : ℕ). Contains c.make.new.self n) same c.in_ok-make.ensures.made)
 
 pub returns-clause-grows : goal.returns-clause-grows
@@ -75,7 +75,7 @@ pub returns-clause-cost : goal.returns-clause-cost
 returns-clause-cost g c k high =
     let tall : c.height-height.result ≡ height (g.N.IntoRowMajorMatrix.stored c.args.mat) = c.height-height.ensures.height ∙ ap height c.into_row_major_matrix-mat.ensures in
     let log = c.log2_strict_usize-log_h.result in
-    let same : log ≡ k = pow-injective log k (sym c.log2_strict_usize-log_h.ensures.power ∙ tall ∙ high) in
+    let same : log ≡ k = log_same log k (sym c.log2_strict_usize-log_h.ensures.power ∙ tall ∙ high) in
     let products : c.self.inside.products ≡ c.args.self.now.products = ap (λ e. e.products) c.self.view_is in
     let width : c.new-mat.result.width ≡ (g.N.IntoRowMajorMatrix.stored c.args.mat).width =
     ap (λ (m : RowMajor g.row.F.Denot). m.width) c.new-mat.ensures ∙ c.width-width.ensures.width ∙ ap (λ (m : RowMajor g.row.F.Denot). m.width) c.into_row_major_matrix-mat.ensures in

@@ -1,26 +1,20 @@
-use Rattle.std.proofs.Common.{◌≡◌, length, map, sym, ◌∙◌}
-use Rattle.std.proofs.lemmas.List.{length-map}
-use Rattle.p3_matrix.proofs.Lanes.{by_lanes_of_left, by_lanes_is_left}
+use Rattle.std.proofs.Common.{map, sym, ◌∙◌}
+use Rattle.p3_matrix.proofs.Lanes.{by_lanes_of_left, by_lanes_is_left, equal_lanes}
 use Rattle.p3_matrix.proofs.butterflies.DifButterflyZerosButterfly.apply.Goals as goal
 
 pub returns-clause-near : goal.returns-clause-near
 returns-clause-near g c =
-    let f = g.F.Field in
-    let lanes = g.P.PackedField.lanes in
-    let xs = map f.value (lanes c.args.x_1) in
-    let ys = map f.value (lanes c.args._x_2) in
-    let equal : length xs ≡ length ys =
-    length-map (lanes c.args.x_1) f.value ∙ g.met.P.PackedField.width_law c.args.x_1 ∙ sym (g.met.P.PackedField.width_law c.args._x_2) ∙ sym (length-map (lanes c.args._x_2) f.value)
-    in
-    sym (by_lanes_is_left xs ys equal)
+    let value = g.F.Field.value in
+    let p = g.P.PackedField in
+    let wide = g.met.P.PackedField.width_law in
+    sym (by_lanes_is_left (map value (p.lanes c.args.x_1)) (map value (p.lanes c.args._x_2))
+    (equal_lanes value (p.lanes c.args.x_1) (p.lanes c.args._x_2) p.WIDTH (wide c.args.x_1) (wide c.args._x_2)))
 
 pub returns-clause-far : goal.returns-clause-far
 returns-clause-far g c =
     let f = g.F.Field in
-    let lanes = g.P.PackedField.lanes in
-    let xs = map f.value (lanes c.args.x_1) in
-    let ys = map f.value (lanes c.args._x_2) in
-    let equal : length xs ≡ length ys =
-    length-map (lanes c.args.x_1) f.value ∙ g.met.P.PackedField.width_law c.args.x_1 ∙ sym (g.met.P.PackedField.width_law c.args._x_2) ∙ sym (length-map (lanes c.args._x_2) f.value)
-    in
-    c.scaled.ensures.lanes ∙ sym (by_lanes_of_left (λ x. f.ring.mul x (f.value c.args.self.now.0)) xs ys equal)
+    let p = g.P.PackedField in
+    let wide = g.met.P.PackedField.width_law in
+    c.scaled.ensures.lanes
+    ∙ sym (by_lanes_of_left (λ x. f.ring.mul x (f.value c.args.self.now.0)) (map f.value (p.lanes c.args.x_1)) (map f.value (p.lanes c.args._x_2))
+    (equal_lanes f.value (p.lanes c.args.x_1) (p.lanes c.args._x_2) p.WIDTH (wide c.args.x_1) (wide c.args._x_2)))

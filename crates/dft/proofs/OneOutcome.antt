@@ -1,0 +1,90 @@
+-- The words have one outcome.
+use Rattle.std.proofs.Common.{◌≡◌, ℕ, ◌/◌, Bool, true, false, not, List, [], ◌∷◌, length, map, drop, Option, Some, None, Result, Ok, Err, refl, sym, ap, ap₂, ◌∙◌, subst}
+use Rattle.std.specs.Prelude.{⊤}
+use Rattle.std.proofs.lemmas.List.{length-map}
+use Rattle.p3_field.specs.FieldLaws.{roots_law}
+use Rattle.p3_field.specs.Fields.{baby_bear_ring, baby_bear_root, goldilocks_ring, goldilocks_root}
+use Rattle.p3_field.specs.Residues.{residue-eq}
+use Rattle.p3_field.specs.Ring.{AreRoots}
+use Rattle.p3_matrix.specs.Matrix.{Same, matrix}
+use Rattle.p3_matrix.specs.RowMajor.{rows}
+use Rattle.p3_matrix.proofs.Matrices.{list_of_rows_same}
+use Rattle.p3_matrix.proofs.RowMajor.{list_of_rows_stored}
+use Rattle.p3_dft.specs.declared.jobs.Job.{Job}
+use Rattle.p3_dft.specs.Jobs.{CanRun}
+use Rattle.p3_dft.specs.Shapes.{FitsLde}
+use Rattle.p3_dft.proofs.OneAnswer.{one_answer}
+use Rattle.dft.specs.declared.fault.Fault.{Fault}
+use Rattle.dft.specs.declared.names.FieldName.{FieldName}
+use Rattle.dft.specs.declared.names.FieldName.TheVariants.{BabyBear, Goldilocks}
+use Rattle.dft.specs.declared.names.Operation.{Operation}
+use Rattle.dft.specs.declared.program.Request.{Request}
+use Rattle.dft.specs.Answers.{IsText, asked_job}
+use Rattle.dft.specs.Arguments.{Arguments, arguments, arguments_of, cannot_undo, faults, is_unfit, number_or_zero}
+use Rattle.dft.specs.Faults.{first_fault, unless_fault}
+use Rattle.dft.specs.NumberedFields.{NumberedField, baby_bear, goldilocks, has_inverse, members}
+use Rattle.dft.specs.Outcome.{FaultOr, IsAnswered, IsOutcome, IsOutcomeIn, Outcome, asked}
+use Rattle.dft.specs.Text.{text_of_rows}
+use Rattle.dft.proofs.Inverses.{has_inverse-from_true}
+use Rattle.dft.proofs.Shapes.{unfit-false}
+use Rattle.dft.proofs.ValuedJobs.{can_run}
+
+-- where no fault is the first, none is there
+abbrev NoneThere : List (Bool × Fault) → Type 0
+NoneThere [] = ⊤
+NoneThere (row ∷ later) = (row.0 ≡ false) × NoneThere later
+
+none_there : (all : List (Bool × Fault)) → first_fault all ≡ None → NoneThere all
+none_there [] none = tt
+none_there ((true, fault) ∷ later) none = absurd (cc)
+none_there ((false, fault) ∷ later) none = (refl, none_there later none)
+
+read_whole : {T : Type 0} (o : Option Fault) (value read : T) → unless_fault o value ≡ Ok read → (o ≡ None) × (value ≡ read)
+read_whole None value read e = (refl, cc)
+read_whole (Some fault) value read e = absurd (cc)
+
+module _ {A : Type 0} (f : NumberedField A) (are_roots : AreRoots f.ring f.two_adicity f.generator) (injective : (x y : A) → f.number x ≡ f.number y → x ≡ y) where
+  -- a text is that of the one answer
+  one_text : (job : Job A) (t u : List ℕ) → CanRun (members f) f.two_adicity job → IsText f job t → IsText f job u → t ≡ u
+  one_text job t u can x y =
+      let same : Same (matrix f.ring.zero x.answer) (matrix f.ring.zero y.answer) = one_answer (members f) f.generator f.two_adicity are_roots job x.answer y.answer can x.answers y.answers in
+      let one_rows : rows x.answer ≡ rows y.answer =
+      sym (list_of_rows_stored f.ring.zero x.answer x.whole) ∙ list_of_rows_same _ _ same ∙ list_of_rows_stored f.ring.zero y.answer y.whole in
+      x.shown ∙ ap (λ rs. text_of_rows (map (map f.number) rs)) one_rows ∙ sym y.shown
+
+  -- words with no fault ask for a job that can be run
+  asks_for_one : (operation : Operation) (words : List (List ℕ)) (a : Arguments) → arguments f operation words ≡ Ok a → CanRun (members f) f.two_adicity (asked_job f operation a)
+  asks_for_one operation words a e =
+      let read = read_whole (first_fault (faults f operation words)) (arguments_of operation (map number_or_zero words)) a e in
+      let absent = none_there (faults f operation words) read.0 in
+      let unfit : is_unfit f.two_adicity (length a.values) a.width a.added_bits ≡ false =
+      subst (λ (b : Arguments). is_unfit f.two_adicity (length b.values) b.width b.added_bits ≡ false) read.1 absent.1.1.1.0 in
+      let stuck : cannot_undo f operation a.shift ≡ false = subst (λ (b : Arguments). cannot_undo f operation b.shift ≡ false) read.1 absent.1.1.1.1.0 in
+      let fits : FitsLde f.two_adicity (length (map f.element a.values) / a.width) a.width a.added_bits =
+      rw (length-map a.values f.element) (unfit-false f.two_adicity (length a.values) a.width a.added_bits unfit) in
+      can_run (members f) f.two_adicity operation (record { width = a.width; values = map f.element a.values }) a.added_bits (f.element a.shift) fits
+      (λ undoes. has_inverse-from_true f (f.element a.shift) injective (undone (has_inverse f (f.element a.shift)) (subst (λ (o : Operation). cannot_undo f o a.shift ≡ false) undoes stuck)))
+    where
+      undone : (b : Bool) → not b ≡ false → b ≡ true
+      undone true e = refl
+      undone false e = absurd (cc)
+
+  one_over : (operation : Operation) (words : List (List ℕ)) (r : Result Arguments Fault) (o p : Outcome) → arguments f operation words ≡ r
+      → FaultOr r (IsAnswered f operation) o → FaultOr r (IsAnswered f operation) p → o ≡ p
+  one_over operation words (Ok a) o p e x y =
+      ap₂ (λ status text. record { status = status; text = text }) (x.0 ∙ sym y.0) (one_text (asked_job f operation a) o.text p.text (asks_for_one operation words a e) x.1 y.1)
+  one_over operation words (Err fault) o p e x y = x ∙ sym y
+
+one_in : (name : FieldName) (operation : Operation) (words : List (List ℕ)) (o p : Outcome) → IsOutcomeIn name operation words o → IsOutcomeIn name operation words p → o ≡ p
+one_in BabyBear operation words o p x y =
+    one_over baby_bear (roots_law baby_bear_ring baby_bear_root 27 (residue-eq _ _ refl) (residue-eq _ _ refl)) residue-eq operation words (arguments baby_bear operation words) o p refl x y
+one_in Goldilocks operation words o p x y =
+    one_over goldilocks (roots_law goldilocks_ring goldilocks_root 32 (residue-eq _ _ refl) (residue-eq _ _ refl)) residue-eq operation words (arguments goldilocks operation words) o p refl x y
+
+one_asked : (r : Result Request Fault) (words : List (List ℕ)) (o p : Outcome) → FaultOr r (λ request. IsOutcomeIn request.field request.operation words) o
+    → FaultOr r (λ request. IsOutcomeIn request.field request.operation words) p → o ≡ p
+one_asked (Ok request) words o p x y = one_in request.field request.operation words o p x y
+one_asked (Err fault) words o p x y = x ∙ sym y
+
+pub one_outcome : (words : List (List ℕ)) (o p : Outcome) → IsOutcome words o → IsOutcome words p → o ≡ p
+one_outcome words o p x y = one_asked (asked words) (drop 3 words) o p x y

@@ -1,0 +1,43 @@
+-- A job that can be run has one answer.
+use Rattle.std.proofs.Common.{ℕ, ◌+◌, arith}
+use Rattle.p3_field.specs.Ring.{AreRoots}
+use Rattle.p3_field.specs.declared.fields.Field.{Ghosts as FieldMembers}
+use Rattle.p3_matrix.specs.Matrix.{Same}
+use Rattle.p3_matrix.specs.RowMajor.{RowMajor, height}
+use Rattle.p3_dft.specs.Extensions.{IsExtension}
+use Rattle.p3_dft.specs.Jobs.{CanRun, IsAnswer}
+use Rattle.p3_dft.specs.Shapes.{FitsDft, FitsLde}
+use Rattle.p3_dft.specs.Transforms.{values_of, IsInterpolation, IsTransform}
+use Rattle.p3_dft.specs.declared.jobs.Job.{Job}
+use Rattle.p3_dft.specs.declared.jobs.Job.TheVariants.{Dft, CosetDft, Idft, CosetIdft, Lde, CosetLde}
+use Rattle.p3_dft.proofs.Cosets.{coefficients_same, values_unique}
+use Rattle.p3_dft.proofs.Interpolation.{there_is_no_other}
+
+module _ {F : Type 0} (f : FieldMembers F) (generator : ℕ → F) (bits : ℕ) (are_roots : AreRoots f.ring bits (λ n. f.value (generator n))) where
+  abbrev roots : ℕ → f.Element
+  roots n = f.value (generator n)
+
+  one_transform : (m a b : RowMajor F) (s : f.Element) → FitsDft bits (height m) m.width → IsTransform f generator m s a → IsTransform f generator m s b → Same (values_of f a) (values_of f b)
+  one_transform m a b s fits x y = values_unique f.ring roots (values_of f m) fits.log s (values_of f a) (values_of f b) (x fits.log fits.high) (y fits.log fits.high)
+
+  one_interpolation : (m a b : RowMajor F) (s : f.Element) → FitsDft bits (height m) m.width → IsInterpolation f generator m s a → IsInterpolation f generator m s b
+      → Same (values_of f a) (values_of f b)
+  one_interpolation m a b s fits x y = y.only fits.log fits.high (values_of f a) (x.holds fits.log fits.high)
+
+  one_extension : (m a b : RowMajor F) (added : ℕ) (s : f.Element) → FitsLde bits (height m) m.width added → IsExtension f generator m added s a → IsExtension f generator m added s b
+      → Same (values_of f a) (values_of f b)
+  one_extension m a b added s fits x y =
+      let k = fits.log in
+      let same : Same y.coefficients x.coefficients =
+      there_is_no_other f.ring are_roots (values_of f m) k f.ring.one (omega (arith, fits.within)) (f.ring.one, f.ring.mul_one f.ring.one)
+      y.coefficients x.coefficients (y.are_coefficients k fits.high) (x.are_coefficients k fits.high) in
+      values_unique f.ring roots x.coefficients (k + added) s (values_of f a) (values_of f b) (x.extended k fits.high)
+      (coefficients_same f.ring roots y.coefficients x.coefficients (k + added) s (values_of f b) same (y.extended k fits.high))
+
+  pub one_answer : (job : Job F) (a b : RowMajor F) → CanRun f bits job → IsAnswer f generator job a → IsAnswer f generator job b → Same (values_of f a) (values_of f b)
+  one_answer (Dft m) a b can x y = one_transform m a b f.ring.one can x y
+  one_answer (CosetDft m s) a b can x y = one_transform m a b (f.value s) can x y
+  one_answer (Idft m) a b can x y = one_interpolation m a b f.ring.one can x y
+  one_answer (CosetIdft m s) a b can x y = one_interpolation m a b (f.value s) can.0 x y
+  one_answer (Lde m added) a b can x y = one_extension m a b added f.ring.one can x y
+  one_answer (CosetLde m added s) a b can x y = one_extension m a b added (f.value s) can x y

@@ -1,0 +1,73 @@
+use Rattle.std.proofs.Common.{ℕ, ◌≡◌, ◌+◌, ◌*◌, ◌/◌, ◌^◌, ◌∙◌, refl, ap, ap₂, arith}
+use Rattle.std.proofs.lemmas.Result.{IfOk-weaker, on_ok_weaker}
+use Rattle.p3_matrix.specs.RowMajor.{height}
+use Rattle.p3_dft.proofs.ExtendedTransforms.{answered_shape, extension_of_shifted}
+use Rattle.p3_dft.proofs.Padding.{padded_shape}
+use Rattle.p3_dft.proofs.Shapes.{entries_rise, input_fits, output_fits, output_log_small, output_size}
+use Rattle.p3_dft.proofs.radix_2_dit.Radix2DitTwoAdicSubgroupDft.coset_lde_batch_with_transform.Goals as goal
+
+pub idft_batch-requires : goal.idft_batch-requires
+idft_batch-requires g c = input_fits _ _ _ _ c.requires.fits
+
+pub pad_rows-requires-clause-bits : goal.pad_rows-requires-clause-bits
+pad_rows-requires-clause-bits g c = let small = output_log_small _ _ _ _ c.requires.fits in omega arith
+
+pub pad_rows-requires-clause-size : goal.pad_rows-requires-clause-size
+pad_rows-requires-clause-size g c =
+    let fits = c.requires.fits in
+    let shape = answered_shape g.F.Field g.F.TwoAdicField.generator _ _ _ _ _ fits.log fits.high c.in_ok-coefficients.ensures.coefficients (refl, refl) c.requires.shape
+    c.transform-changed.ensures in
+    let same = c.shift_rows-shifted.ensures.shifted in
+    rw (same.high ∙ shape.0, same.wide ∙ shape.1) (output_size _ _ _ _ fits)
+
+pub dft_batch-requires : goal.dft_batch-requires
+dft_batch-requires g c =
+    let fits = c.requires.fits in
+    let a = c.args.added_bits in
+    let shape = answered_shape g.F.Field g.F.TwoAdicField.generator _ _ _ _ _ fits.log fits.high c.in_ok-coefficients.ensures.coefficients (refl, refl) c.requires.shape
+    c.transform-changed.ensures in
+    let same = c.shift_rows-shifted.ensures.shifted in
+    let grown = padded_shape g.F.Field.ZERO (g.N.IntoRowMajorMatrix.stored c.args.mat) c.shift_rows-shifted.result c.in_ok-padded.padded a fits.log c.pad_rows.ensures.whole
+    (same.high ∙ shape.0, same.wide ∙ shape.1) fits.high c.in_ok-padded.ensures.padded in
+    output_fits _ _ _ a _ _ fits grown.0 grown.1
+
+pub returns-clause-values : goal.returns-clause-values
+returns-clause-values g c =
+    let fits = c.requires.fits in
+    let called = c.transform-changed.ensures in
+    let shape = answered_shape g.F.Field g.F.TwoAdicField.generator _ _ _ _ _ fits.log fits.high c.in_ok-coefficients.ensures.coefficients (refl, refl) c.requires.shape called in
+    IfOk-weaker c.dft_batch.result _ _
+    (λ out given.
+    extension_of_shifted g.F.Field g.F.TwoAdicField.generator g.met.F.Field.zero_law _ (g.N.IntoRowMajorMatrix.stored c.args.mat)
+    c.in_ok-coefficients.coefficients c.transform-changed.result c.shift_rows-shifted.result out c.args.added_bits (g.F.Field.value c.args.shift)
+    c.in_ok-coefficients.ensures.coefficients called shape.0 c.shift_rows-shifted.ensures.shifted c.pad_rows.ensures.whole
+    (rw c.in_ok-padded.ensures.padded at given))
+    c.dft_batch.ensures.values
+
+pub returns-in_err-padded-clause-keeps : goal.returns-in_err-padded-clause-keeps
+returns-in_err-padded-clause-keeps g c = λ k before. (c.add_products.ensures.keeps k).0 (c.in_ok-coefficients.ensures.keeps k before)
+
+pub returns-clause-keeps : goal.returns-clause-keeps
+returns-clause-keeps g c = λ k before. c.dft_batch.ensures.keeps k ((c.add_products.ensures.keeps k).0 (c.in_ok-coefficients.ensures.keeps k before))
+
+pub returns-clause-fewer : goal.returns-clause-fewer
+returns-clause-fewer g c = λ k e.
+    let a = c.args.added_bits in
+    let m = g.N.IntoRowMajorMatrix.stored c.args.mat in
+    let shape = answered_shape g.F.Field g.F.TwoAdicField.generator _ _ _ _ _ k e c.in_ok-coefficients.ensures.coefficients (refl, refl) c.requires.shape
+    c.transform-changed.ensures in
+    let same = c.shift_rows-shifted.ensures.shifted in
+    let grown = padded_shape g.F.Field.ZERO m c.shift_rows-shifted.result c.in_ok-padded.padded a k c.pad_rows.ensures.whole
+    (same.high ∙ shape.0, same.wide ∙ shape.1) e c.in_ok-padded.ensures.padded in
+    let entries : height c.transform-changed.result * c.transform-changed.result.width ≡ 2 ^ k * m.width = ap₂ (λ (h w : ℕ). h * w) (shape.0 ∙ e) shape.1 in
+    let first = c.in_ok-coefficients.ensures.cost k e in
+    let scaled = c.shift_rows-shifted.ensures.cost in
+    let counted = c.add_products.ensures.made in
+    let none = c.new-products.ensures in
+    let last : c.in_ok-padded.padded.width * ((k + a) * 2 ^ (k + a) / 2) ≡ m.width * ((k + a) * 2 ^ (k + a) / 2) = ap (λ w. w * ((k + a) * 2 ^ (k + a) / 2)) grown.1 in
+    on_ok_weaker c.dft_batch.result (λ more. omega (arith, more, first, scaled, counted, none, entries, last)) (c.dft_batch.ensures.cost (k + a) grown.0)
+
+pub returns-clause-cost : goal.returns-clause-cost
+returns-clause-cost g c = λ k e.
+    let rise = entries_rise k c.args.added_bits (g.N.IntoRowMajorMatrix.stored c.args.mat).width in
+    on_ok_weaker c.dft_batch.result (λ fewer. omega (arith, fewer, rise)) (returns-clause-fewer g c k e)

@@ -1,0 +1,139 @@
+// Engines that own only what an engine must, one for each layout: all else of theirs is a default
+// body of the trait.
+
+ghost use Rattle.std.specs.Prelude.{◌≡◌, ℕ, ◌*◌, ◌^◌};
+
+use crate::naive::NaiveDft;
+use crate::traits::{Layout, TwoAdicSubgroupDft};
+use p3_field::{Products, TwoAdicField};
+use p3_matrix::{DftError, IntoRowMajorMatrix, RowMajorMatrix};
+use std::alloc::AllocError;
+
+// Has coefficients in natural order, and makes so many transforms: memory for a later one is
+// refused.
+#[derive(Drop)]
+pub(crate) struct LimitedDft {
+    left: usize,
+    sums: NaiveDft,
+}
+
+impl LimitedDft {
+    pub(crate) fn new(left: usize) -> Self {
+        LimitedDft {
+            left,
+            sums: NaiveDft::default(),
+        }
+    }
+}
+
+impl Default for LimitedDft {
+    ghost use Rattle.std.specs.Prelude.{⊤};
+
+    ghost is_default = { λ _. ⊤ };
+
+    fn default() -> Self {
+        Self::new(usize::MAX)
+    }
+}
+
+impl Clone for LimitedDft {
+    ghost use Rattle.std.specs.Prelude.{⊤};
+
+    ghost is_clone = { λ _ _. ⊤ };
+
+    ghost is_infallible = { λ _. ⊤ };
+
+    fn clone(&self) -> Result<Self, AllocError> {
+        Ok(Self::new(self.left))
+    }
+}
+
+impl<F: TwoAdicField> TwoAdicSubgroupDft<F> for LimitedDft {
+    ghost use Rattle.std.specs.Prelude.{ℕ, ◌*◌, ◌^◌};
+    ghost use Rattle.p3_dft.specs.declared.traits.Layout.TheVariants.{Natural};
+
+    type Evaluations = RowMajorMatrix<F>;
+
+    const LAYOUT: Layout = Layout::Natural;
+
+    ghost LAYOUT = { Natural };
+
+    ghost promised = { λ _ _. ⊥ };
+
+    ghost bound = { λ k w. 2 ^ k * 2 ^ k * w };
+
+    ghost made = { λ e. e.sums };
+
+    fn dft_batch<N: IntoRowMajorMatrix<F>>(
+        &mut self,
+        mat: N,
+    ) -> Result<RowMajorMatrix<F>, DftError> {
+        if self.left == 0 {
+            return Err(DftError::OutOfMemory);
+        }
+        self.left -= 1;
+        self.sums.dft_batch(mat)
+    }
+
+    fn add_products(&mut self, products: Products) {
+        TwoAdicSubgroupDft::<F>::add_products(&mut self.sums, products);
+    }
+}
+
+// Has coefficients in bit reversed order.
+#[derive(Drop)]
+pub(crate) struct ReversedDft {
+    sums: NaiveDft,
+}
+
+impl Default for ReversedDft {
+    ghost use Rattle.std.specs.Prelude.{⊤};
+
+    ghost is_default = { λ _. ⊤ };
+
+    fn default() -> Self {
+        ReversedDft {
+            sums: NaiveDft::default(),
+        }
+    }
+}
+
+impl Clone for ReversedDft {
+    ghost use Rattle.std.specs.Prelude.{⊤};
+
+    ghost is_clone = { λ _ _. ⊤ };
+
+    ghost is_infallible = { λ _. ⊤ };
+
+    fn clone(&self) -> Result<Self, AllocError> {
+        Ok(Self::default())
+    }
+}
+
+impl<F: TwoAdicField> TwoAdicSubgroupDft<F> for ReversedDft {
+    ghost use Rattle.std.specs.Prelude.{ℕ, ◌*◌, ◌^◌};
+    ghost use Rattle.p3_dft.specs.declared.traits.Layout.TheVariants.{BitReversed};
+
+    type Evaluations = RowMajorMatrix<F>;
+
+    const LAYOUT: Layout = Layout::BitReversed;
+
+    ghost LAYOUT = { BitReversed };
+
+    ghost promised = { λ _ _. ⊥ };
+
+    ghost bound = { λ k w. 2 ^ k * 2 ^ k * w };
+
+    ghost made = { λ e. e.sums };
+
+    fn dft_batch<N: IntoRowMajorMatrix<F>>(
+        &mut self,
+        mat: N,
+    ) -> Result<RowMajorMatrix<F>, DftError> {
+        self.sums.dft_batch(mat)
+    }
+
+    fn add_products(&mut self, products: Products) {
+        TwoAdicSubgroupDft::<F>::add_products(&mut self.sums, products);
+    }
+}
