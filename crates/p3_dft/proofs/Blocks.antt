@@ -1,7 +1,7 @@
 -- Rows in blocks: that the numbers of rows, cells and table entries of a layer stay within their bounds. A layer l of k has
 -- 2 ^ (k - 1 - l) blocks of two halves of 2 ^ l rows.
-use Rattle.std.proofs.Common.{◌≡◌, ℕ, suc, ◌+◌, ◌*◌, ◌-◌, ◌<◌, ◌≤◌, ◌^◌, sym, ap, ◌∙◌, arith, mul-le-mul_right, le-mul_of_pos_right, le_trans, le_of_lt, mul-lt-mul_of_pos_right}
-use Rattle.std.proofs.lemmas.Nat.{pow_pos, pow-add, mul-add-lt}
+use Rattle.std.proofs.Common.{◌≡◌, ℕ, suc, ◌+◌, ◌*◌, ◌-◌, ◌<◌, ◌≤◌, ◌^◌, sym, ap, ◌∙◌, arith, mul-le-mul_right, le-mul_of_pos_right, le_trans, le_of_lt}
+use Rattle.std.proofs.lemmas.Nat.{pow-add, mul-add-lt}
 
 pub row_below : (b t h n : ℕ) → b < n → t < h → b * h + t < n * h
 row_below b t h n p q = omega (arith, mul-add-lt b h t n p q)
@@ -24,17 +24,6 @@ row_room b n t h w p q =
 pub block_room : (b n h w : ℕ) → b < n → 0 < w → b * (2 * h) ≤ n * (2 * h) * w
 block_room b n h w p q = le_trans (mul-le-mul_right (2 * h) (le_of_lt p)) (le-mul_of_pos_right _ q)
 
--- every s-th entry of a table
-pub table_room : (t h s n : ℕ) → t < h → 0 < s → h * s ≤ n → t * s < n
-table_room t h s n p q r = let m : t * s < h * s = mul-lt-mul_of_pos_right p q in omega arith
-
 -- the cells of a lower row come first
 pub columns_below : (w low high j : ℕ) → low < high → j < w → low * w + j < high * w + j
 columns_below w low high j l p = let h = row_below low j w high l p in omega arith
-
--- the twiddles of a layer lie in the table of the largest one
-pub stride_below : (k l t : ℕ) → l < k → t < 2 ^ l → t * 2 ^ (k - 1 - l) < 2 ^ (k - 1)
-stride_below k l t h p =
-    let f : l + (k - 1 - l) ≡ k - 1 = omega arith in
-    let whole : 2 ^ l * 2 ^ (k - 1 - l) ≡ 2 ^ (k - 1) = sym (pow-add 2 l (k - 1 - l)) ∙ ap (λ n. 2 ^ n) f in
-    table_room t (2 ^ l) (2 ^ (k - 1 - l)) (2 ^ (k - 1)) p (pow_pos (k - 1 - l)) (omega (arith, whole))

@@ -1,12 +1,12 @@
 -- Layers of the networks on flat cells: from the cells of each block to the rows of each column.
-use Rattle.std.proofs.Common.{◌≡◌, ◌≢◌, ℕ, suc, ◌+◌, ◌*◌, ◌-◌, ◌/◌, ◌%◌, ◌^◌, ◌<◌, ◌≤◌, sym, ap, ap₂, ◌∙◌, arith, ⊎_elim}
+use Rattle.std.proofs.Common.{◌≡◌, ◌≢◌, ℕ, ◌+◌, ◌*◌, ◌-◌, ◌/◌, ◌%◌, ◌^◌, ◌<◌, ◌≤◌, sym, ap, ap₂, ◌∙◌, arith, add-one, ⊎_elim}
 use Rattle.std.proofs.lemmas.Bool.{cases_lt}
 use Rattle.std.proofs.lemmas.Nat.{div-mul-add, div_below, mod_below}
 use Rattle.std.proofs.Math.Nat.{mul-le-mul_right}
 use Rattle.p3_field.specs.Ring.{Ring, power, AreRoots}
-use Rattle.p3_dft.proofs.Blocks.{row_below, stride_below}
-use Rattle.p3_dft.proofs.Layers.{low_next, low_entry}
-use Rattle.p3_dft.proofs.Networks.{low_row, twiddle}
+use Rattle.p3_dft.proofs.Blocks.{row_below}
+use Rattle.p3_dft.proofs.Layers.{low_next}
+use Rattle.p3_dft.proofs.Networks.{low_row, twiddle_of_one}
 use Rattle.p3_dft.proofs.Pairs.{PairsDone, low_of, high_of, low_of_at, high_of_at, each_row}
 
 -- what is done to the cells of each block is done to the rows of each column
@@ -45,34 +45,26 @@ pairs_of_cells {A} near far w h n x y wide high is_near is_far stays j inside = 
     beyond : (r : ℕ) → n * (2 * h) ≤ r → n * (2 * (h * w)) ≤ r * w + j
     beyond r above = let l : n * (2 * h) * w ≤ r * w = mul-le-mul_right w above in omega (arith, l)
 
-pow_more : (n : ℕ) → 2 ^ suc n ≡ 2 * 2 ^ n
-pow_more n = omega arith
-
--- ---- a layer of low rows, whose twiddles are every blocks-th entry of the one table
+-- ---- a layer of low rows, by its twiddles
 module _ {A : Type 0} (R : Ring A) {g : ℕ → A} {bits : ℕ} (G : AreRoots R bits g) where
   open R use {add as ◌⊕◌, mul as ◌⊗◌, neg, zero as 𝟘, one as 𝟙}
 
   infixl 60 ◌⊕◌
   infixl 70 ◌⊗◌
-  pub low_cells : (k l w half blocks size : ℕ) (table x y : ℕ → A) → k ≤ bits → l < k → half ≡ 2 ^ l → blocks ≡ 2 ^ (k - 1 - l) → 0 < w → 0 < half
-      → 2 ^ k ≤ 2 * size → ((e : ℕ) → e < size → table e ≡ power R (g k) e)
-      → ((b i : ℕ) → b < blocks → i < half * w → y (b * (2 * (half * w)) + i) ≡ x (b * (2 * (half * w)) + i) ⊕ x (b * (2 * (half * w)) + (half * w + i)) ⊗ table ((i / w) * blocks))
-      → ((b i : ℕ) → b < blocks → i < half * w → y (b * (2 * (half * w)) + (half * w + i)) ≡ x (b * (2 * (half * w)) + i) ⊕ neg (x (b * (2 * (half * w)) + (half * w + i)) ⊗ table ((i / w) * blocks)))
+  pub low_cells : (k l w half blocks : ℕ) (twiddles x y : ℕ → A) → k ≤ bits → l < k → half ≡ 2 ^ l → blocks ≡ 2 ^ (k - 1 - l) → 0 < w → 0 < half
+      → ((t : ℕ) → t < 2 ^ l → twiddles t ≡ power R (g (l + 1)) t)
+      → ((b i : ℕ) → b < blocks → i < half * w → y (b * (2 * (half * w)) + i) ≡ x (b * (2 * (half * w)) + i) ⊕ x (b * (2 * (half * w)) + (half * w + i)) ⊗ twiddles (i / w))
+      → ((b i : ℕ) → b < blocks → i < half * w → y (b * (2 * (half * w)) + (half * w + i)) ≡ x (b * (2 * (half * w)) + i) ⊕ neg (x (b * (2 * (half * w)) + (half * w + i)) ⊗ twiddles (i / w)))
       → ((m : ℕ) → blocks * (2 * (half * w)) ≤ m → y m ≡ x m)
       → (c : ℕ → A) (j : ℕ) → j < w → ((r : ℕ) → r < 2 ^ k → x (r * w + j) ≡ low_row R g 𝟙 l (k - l) c r)
       → (r : ℕ) → r < 2 ^ k → y (r * w + j) ≡ low_row R g 𝟙 (l + 1) (k - (l + 1)) c r
-  low_cells k l w half blocks size table x y f h e d wide some room entry is_near is_far stays c j inside start =
-      low_next R G 𝟙 k l c half blocks (λ t. table (t * blocks)) (λ r. x (r * w + j)) (λ r. y (r * w + j)) f h e d entries start
-      (pairs_of_cells (λ t a b. a ⊕ table (t * blocks) ⊗ b) (λ t a b. a ⊕ neg (table (t * blocks) ⊗ b)) w half blocks x y wide some
-      (λ b i p q. is_near b i p q ∙ ap (λ v. x (b * (2 * (half * w)) + i) ⊕ v) (R.mul_comm (x (b * (2 * (half * w)) + (half * w + i))) (table ((i / w) * blocks))))
-      (λ b i p q. is_far b i p q ∙ ap (λ v. x (b * (2 * (half * w)) + i) ⊕ neg v) (R.mul_comm (x (b * (2 * (half * w)) + (half * w + i))) (table ((i / w) * blocks))))
+  low_cells k l w half blocks twiddles x y f h e d wide some entry is_near is_far stays c j inside start =
+      low_next R G 𝟙 k l c half blocks twiddles (λ r. x (r * w + j)) (λ r. y (r * w + j)) f h e d
+      (λ t v. entry t (omega (arith, v, e)) ∙ ap (λ n. power R (g n) t) (add-one l) ∙ sym (twiddle_of_one R g l (k - 1 - l) t)) start
+      (pairs_of_cells (λ t a b. a ⊕ twiddles t ⊗ b) (λ t a b. a ⊕ neg (twiddles t ⊗ b)) w half blocks x y wide some
+      (λ b i p q. is_near b i p q ∙ ap (λ v. x (b * (2 * (half * w)) + i) ⊕ v) (R.mul_comm (x (b * (2 * (half * w)) + (half * w + i))) (twiddles (i / w))))
+      (λ b i p q. is_far b i p q ∙ ap (λ v. x (b * (2 * (half * w)) + i) ⊕ neg v) (R.mul_comm (x (b * (2 * (half * w)) + (half * w + i))) (twiddles (i / w))))
       stays j inside)
-    where
-      entries : (t : ℕ) → t < half → table (t * blocks) ≡ twiddle R g 𝟙 l (k - 1 - l) t
-      entries t v =
-          let twice : 2 ^ k ≡ 2 * 2 ^ (k - 1) = let back : k ≡ suc (k - 1) = omega arith in ap (λ n. 2 ^ n) back ∙ pow_more (k - 1) in
-          let below : t * 2 ^ (k - 1 - l) < 2 ^ (k - 1) = stride_below k l t h (omega (arith, e)) in
-          ap (λ n. table (t * n)) d ∙ entry (t * 2 ^ (k - 1 - l)) (omega (arith, below, twice, room)) ∙ low_entry R G k l t f h
 
 -- what the layers of a network count: a pair of rows costs its width, but for one in each block
 pub layer_counted : (products next before n l blocks half w all : ℕ) → blocks * half ≡ all

@@ -5,7 +5,7 @@ use Rattle.std.proofs.lemmas.Nat.{pow_pos, div-mul-add, mod-mul-add, same_from_p
 use Rattle.p3_field.specs.Ring.{Ring, power, AreRoots}
 use Rattle.p3_matrix.specs.BitOrder.{rev}
 use Rattle.p3_dft.proofs.Blocks.{row_below, halves_whole, blocks_whole}
-use Rattle.p3_dft.proofs.Networks.{table_high, twiddle, low_row, low_near, low_far, high_row, high_near, high_far, turned_row, turned_row_near, turned_row_far, table_low, table_turned}
+use Rattle.p3_dft.proofs.Networks.{table_high, twiddle, low_row, low_near, low_far, high_row, high_near, high_far, turned_row, turned_row_near, turned_row_far, table_turned}
 use Rattle.p3_dft.proofs.Pairs.{Apart, PairsDone, PairDone, pairs_more, layer_apart, low_of, high_of, low_of_at, high_of_at, each_row}
 
 -- a pair of rows of a flat matrix, from its pairs of cells
@@ -221,13 +221,7 @@ module _ {A : Type 0} (R : Ring A) {g : ℕ → A} {bits : ℕ} (G : AreRoots R 
       counted (λ a b. turned_row R g s a b c) k l (2 ^ l) (2 ^ (k - 1 - l)) half blocks (λ n p. dif_near R) (λ n p. dif_far R (w (p / n))) x y h e d (halves_whole k l h)
       (turned_layer s l (k - 1 - l) c w x y (omega arith) (λ b v. entries b (omega (arith, d))))
 
-  -- ---- the twiddles of layer l in the one table of k: each 2 ^ (k - 1 - l)-th entry of the powers of the k-th root, or the first
-  -- entries of those powers in bit reversed order
-  pub low_entry : (k l t : ℕ) → k ≤ bits → l < k → power R (g k) (t * 2 ^ (k - 1 - l)) ≡ twiddle R g 𝟙 l (k - 1 - l) t
-  low_entry k l t f h =
-      let whole : suc l + (k - 1 - l) ≡ k = omega arith in
-      ap (λ n. power R (g n) (t * 2 ^ (k - 1 - l))) (sym whole) ∙ sym (table_low R G l (k - 1 - l) t (omega arith))
-
+  -- ---- the twiddles of layer l in the one table of k: the first entries of the powers of the k-th root in bit reversed order
   pub high_entry : (k l b : ℕ) → k ≤ bits → l < k → b < 2 ^ l → power R (g k) (rev (k - 1) b) ≡ twiddle R g 𝟙 l (k - 1 - l) (rev l b)
   high_entry k l b f h p =
       let whole : suc l + (k - 1 - l) ≡ k = omega arith in

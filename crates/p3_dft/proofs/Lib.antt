@@ -10,6 +10,7 @@ pub mod Inverses
 pub mod JobLists
 pub mod Layers
 pub mod Layouts
+pub mod MoreTwiddles
 pub mod Networks
 pub mod OneAnswer
 pub mod OpposedRows
@@ -17,7 +18,6 @@ pub mod Opposite
 pub mod Padding
 pub mod Pairs
 pub mod Polynomials
-pub mod Prepared
 pub mod ProductBounds
 pub mod ReversedRows
 pub mod Rows

@@ -264,6 +264,11 @@ module _ {A : Type 0} (R : Ring A) (g : ℕ → A) (s : A) where
       is_values R g c k s (reversed k out) h w (λ i j p q. e (rev k i) j (rev-lt k i) q ∙ high_end k (λ u. c.entry u j) (rev k i)
       ∙ ap₂ (λ n r. poly R n (λ u. c.entry u j) (point R g k s r)) (sym d) (rev-rev k i p))
 
+-- on the subgroup itself a twiddle is a power of the next generator
+pub twiddle_of_one : {A : Type 0} (R : Ring A) (g : ℕ → A) (l m t : ℕ) → twiddle R g R.one l m t ≡ power R (g (suc l)) t
+unfolding twiddle
+twiddle_of_one R g l m t = ap (λ x. R.mul x (power R (g (suc l)) t)) (power_of_one R (2 ^ m)) ∙ Rings.one-mul R _
+
 module _ {A : Type 0} (R : Ring A) {g : ℕ → A} {bits : ℕ} (G : AreRoots R bits g) where
   open R use {add as ◌⊕◌, mul as ◌⊗◌, neg, zero as 𝟘, one as 𝟙}
 
@@ -271,9 +276,8 @@ module _ {A : Type 0} (R : Ring A) {g : ℕ → A} {bits : ℕ} (G : AreRoots R 
   infixl 70 ◌⊗◌
   -- ---- the tables: for k = l + m + 1, entry e of the natural table is the e-th power of the k-th root, entry b of the reversed
   -- table its power by the reverse of b in k - 1 digits
-  pub table_low : (l m t : ℕ) → suc l + m ≤ bits → twiddle R g 𝟙 l m t ≡ power R (g (suc l + m)) (t * 2 ^ m)
-  unfolding twiddle
-  table_low l m t y = ap (λ x. x ⊗ power R (g (suc l)) t) (power_of_one R (2 ^ m)) ∙ Rings.one-mul R _ ∙ sym (root_strided R G (suc l) m t y)
+  table_low : (l m t : ℕ) → suc l + m ≤ bits → twiddle R g 𝟙 l m t ≡ power R (g (suc l + m)) (t * 2 ^ m)
+  table_low l m t y = twiddle_of_one R g l m t ∙ sym (root_strided R G (suc l) m t y)
 
   table_rev : (l m b : ℕ) → suc l + m ≤ bits → b < 2 ^ l → power R (g (suc l + m)) (rev (l + m) b) ≡ power R (g (suc l)) (rev l b)
   table_rev l m b y h =

@@ -1,21 +1,23 @@
--- The tables of twiddles that an engine keeps, and what such an engine shows of itself.
-use Rattle.std.specs.Prelude.{◌≡◌, ℕ, ◌⊎◌, List, [], map, Contains, Option, Some, None, Vec}
+-- The twiddles that an engine keeps, and what such an engine shows of itself.
+use Rattle.std.specs.Prelude.{◌≡◌, ℕ, ◌+◌, ◌-◌, ◌^◌, ◌<◌, ◌≤◌, List, [], length, get_or, Option, Some, None, Vec}
+use Rattle.p3_field.specs.Ring.{power}
+use Rattle.p3_field.specs.declared.fields.Field.{Ghosts as FieldMembers}
 
--- powers of the generator of log bits
-pub record Table (T : Type 0) : Type 0 where
-  pub log : ℕ
-  pub powers : List T
+-- one layer after another, for heights up to 2 ^ log: those of layer l are the first 2 ^ l powers of the generator of order 2 ^ (l + 1)
+pub record AreTwiddles {F : Type 0} (f : FieldMembers F) (generator : ℕ → F) (log : ℕ) (twiddles : List F) : Type 0 where
+  pub size : length twiddles ≡ 2 ^ log - 1
+  pub powers : (l t : ℕ) → l < log → t < 2 ^ l → f.value (get_or twiddles (2 ^ l - 1 + t) f.ZERO) ≡ power f.ring (f.value (generator (l + 1))) t
 
--- the bits of the generators of the tables that are there
-abbrev pub logs : {T Z : Type 0} → Option (Vec (Table T) Z) → List ℕ
-logs None = []
-logs (Some tables) = map (λ t. t.log) tables.items
+-- what is held, if anything is
+abbrev pub held : {T Z : Type 0} → Option (Vec T Z) → List T
+held None = []
+held (Some v) = v.items
 
--- the logarithms of the heights whose tables are there, and the number of products that were made
+-- the logarithm of the largest height whose twiddles are there, and the number of products that were made
 pub record Tabled : Type 0 where
-  pub prepared : List ℕ
+  pub prepared : ℕ
   pub products : ℕ
 
--- height 2 ^ k can be transformed without memory; height one needs no table
+-- height 2 ^ k can be transformed without memory, as can all smaller ones
 abbrev pub IsPrepared : Tabled → ℕ → Type 0
-IsPrepared e k = (k ≡ 0) ⊎ Contains e.prepared k
+IsPrepared e k = k ≤ e.prepared

@@ -13,7 +13,7 @@ mod tests;
 
 use crate::butterfly_layers::dit_layer;
 use crate::traits::{Layout, TwoAdicSubgroupDft};
-use crate::twiddles::TwiddleTables;
+use crate::twiddles::{Twiddles, layer};
 use crate::util::{pad_rows, reverse_rows, shift_rows};
 use p3_field::{Products, TwoAdicField};
 use p3_matrix::{DftError, IntoRowMajorMatrix, RowMajorMatrix, log2_strict_usize};
@@ -24,14 +24,15 @@ use std::marker::Model;
 /// binary digit of the height. At height `2^k` and width w that is at most `w * k * 2^k / 2`
 /// products.
 ///
-/// The powers of the generator that a height needs are kept from its first transform on, or from
-/// `prepare`, until the engine ends; then `dft_batch` and the calls that stand on it take no memory
-/// at that height. A new engine and a clone have no tables and take no memory.
+/// The twiddles that a height needs are kept from its first transform on, or from `prepare`, until the
+/// engine ends; then `dft_batch` and the calls that stand on it take no memory at that height. A
+/// layer has the same twiddles at each height, so that smaller heights are prepared with it. A new
+/// engine and a clone have no twiddles and take no memory.
 ///
 /// Contracts see which heights are prepared and how many products were made.
 #[derive(Drop)]
 pub struct Radix2Dit<F: TwoAdicField> {
-    tables: TwiddleTables<F>,
+    twiddles: Twiddles<F>,
     products: Products,
 }
 
@@ -40,26 +41,26 @@ impl<F: TwoAdicField> Model for Radix2Dit<F> {
 
     ghost Value = { Tabled };
 
-    ghost view = { λ e. record { prepared = e.tables; products = e.products } };
+    ghost view = { λ e. record { prepared = e.twiddles; products = e.products } };
 }
 
 impl<F: TwoAdicField> Default for Radix2Dit<F> {
-    ghost use Rattle.std.specs.Prelude.{◌≡◌, []};
+    ghost use Rattle.std.specs.Prelude.{◌≡◌};
 
-    ghost is_default = { λ e. (e.prepared ≡ []) × (e.products ≡ 0) };
+    ghost is_default = { λ e. (e.prepared ≡ 0) × (e.products ≡ 0) };
 
     fn default() -> Self {
         Radix2Dit {
-            tables: TwiddleTables::new(),
+            twiddles: Twiddles::new(),
             products: Products::new(),
         }
     }
 }
 
 impl<F: TwoAdicField> Clone for Radix2Dit<F> {
-    ghost use Rattle.std.specs.Prelude.{◌≡◌, [], ⊤};
+    ghost use Rattle.std.specs.Prelude.{◌≡◌, ⊤};
 
-    ghost is_clone = { λ _ e. (e.prepared ≡ []) × (e.products ≡ 0) };
+    ghost is_clone = { λ _ e. (e.prepared ≡ 0) × (e.products ≡ 0) };
 
     ghost is_infallible = { λ _. ⊤ };
 
@@ -69,30 +70,27 @@ impl<F: TwoAdicField> Clone for Radix2Dit<F> {
 }
 
 impl<F: TwoAdicField> Radix2Dit<F> {
-    /// Makes the table for height `2^log_h`, from when on transforms of that height take no memory.
-    /// It takes none itself where the height is prepared already, as height one always is. Where
-    /// memory is refused, the engine is as before.
+    /// Makes the twiddles for height `2^log_h`, from when on transforms of that height and of smaller
+    /// ones take no memory. It takes none itself where the height is prepared already, as height one
+    /// always is. Where memory is refused, the engine is as before.
     pub fn prepare(&mut self, alloc: Global, log_h: usize) -> Result<(), DftError>
         requires within { log_h ≤ F.TWO_ADICITY }
         requires size { 2 ^ log_h < 2 ^ 64 }
         ensures prepares { OnOk result (IsPrepared self.new log_h) }
         ensures ready { IsPrepared self.old log_h → IsOk result }
         ensures keeps { (k : ℕ) → IsPrepared self.old k → IsPrepared self.new k }
-        ensures only { (k : ℕ) → IsPrepared self.new k → IsPrepared self.old k ⊎ (k ≡ log_h) }
+        ensures only { (k : ℕ) → IsPrepared self.new k → IsPrepared self.old k ⊎ (k ≤ log_h) }
         ensures refused { OnErr result (self.new ≡ self.old) }
         ensures products { self.new.products ≡ self.old.products }
     {
-        if log_h == 0 {
-            return Ok(());
-        }
-        self.tables.make(alloc, log_h)
+        self.twiddles.make(alloc, log_h)
     }
 
     /// Whether transforms of height `2^log_h` take no memory. Height one always is prepared.
     pub fn is_prepared(&self, log_h: usize) -> bool
         ensures { IsTrue result ↔ IsPrepared self.now log_h }
     {
-        log_h == 0 || self.tables.has(log_h)
+        log_h <= self.twiddles.log_h()
     }
 }
 
@@ -138,9 +136,9 @@ impl<F: TwoAdicField> TwoAdicSubgroupDft<F> for Radix2Dit<F> {
         let log_h = log2_strict_usize(height);
         let width = mat.width();
         let values = mat.into_values();
-        self.tables.make(*values.allocator(), log_h)?;
+        self.twiddles.make(*values.allocator(), log_h)?;
         let mut mat = RowMajorMatrix::new(values, width);
-        let twiddles = self.tables.powers(log_h);
+        let twiddles = self.twiddles.as_slice();
         transform(&mut mat, log_h, twiddles, &mut self.products);
         Ok(mat)
     }
@@ -184,7 +182,7 @@ impl<F: TwoAdicField> TwoAdicSubgroupDft<F> for Radix2Dit<F> {
     }
 }
 
-// Transforms a matrix in place by the table for its height.
+// Transforms a matrix in place by the twiddles of its layers.
 fn transform<F: TwoAdicField>(
     mat: &mut RowMajorMatrix<F>,
     log_h: usize,
@@ -195,8 +193,8 @@ fn transform<F: TwoAdicField>(
     requires small { log_h < 64 }
     requires rooted { log_h ≤ F.TWO_ADICITY }
     requires height { height mat.old ≡ 2 ^ log_h }
-    requires table_length { 2 ^ log_h ≤ 2 * length twiddles.now }
-    requires table { (e : ℕ) → e < length twiddles.now → F.value (get_or twiddles.now e F.ZERO) ≡ power F.ring (F.value (F.generator log_h)) e }
+    requires layers { 2 ^ log_h - 1 ≤ length twiddles.now }
+    requires twiddles { (l t : ℕ) → l < log_h → t < 2 ^ l → F.value (get_or twiddles.now (2 ^ l - 1 + t) F.ZERO) ≡ power F.ring (F.value (F.generator (l + 1))) t }
     ensures values { IsTransform F.Field.own F.generator mat.old F.ring.one mat.new }
     ensures count { products.new + 2 ^ log_h * mat.old.width ≡ products.old + (log_h * 2 ^ (log_h - 1) + 1) * mat.old.width }
 {
@@ -210,9 +208,8 @@ fn transform<F: TwoAdicField>(
     }
 }
 
-// All layers, on rows that lie in bit reversed order. The table has the powers of the generator.
-// Layer l has `2^(log_h - 1 - l)` blocks, and pair t of a block takes entry
-// `t * 2^(log_h - 1 - l)`. Inlined, so that a width that the caller names is known in all layers.
+// All layers, on rows that lie in bit reversed order. Layer l has `2^(log_h - 1 - l)` blocks of two
+// halves of `2^l` rows, and its twiddles begin at place `2^l - 1`. Inlined, so that a width that the caller names is known in all layers.
 #[inline(always)]
 fn dit_network<F: TwoAdicField>(
     values: &mut [F],
@@ -225,8 +222,8 @@ fn dit_network<F: TwoAdicField>(
     requires small { log_h < 64 }
     requires rooted { log_h ≤ F.TWO_ADICITY }
     requires height { length values.old ≡ 2 ^ log_h * width }
-    requires table_length { 2 ^ log_h ≤ 2 * length twiddles.now }
-    requires table { (e : ℕ) → e < length twiddles.now → F.value (get_or twiddles.now e F.ZERO) ≡ power F.ring (F.value (F.generator log_h)) e }
+    requires layers { 2 ^ log_h - 1 ≤ length twiddles.now }
+    requires twiddles { (l t : ℕ) → l < log_h → t < 2 ^ l → F.value (get_or twiddles.now (2 ^ l - 1 + t) F.ZERO) ≡ power F.ring (F.value (F.generator (l + 1))) t }
     ensures values { (r j : ℕ) → r < 2 ^ log_h → j < width → F.value (get_or values.new (r * width + j) F.ZERO)
         ≡ poly F.ring (2 ^ log_h) (λ q. F.value (get_or values.old (rev log_h q * width + j) F.ZERO)) (power F.ring (F.value (F.generator log_h)) r) }
     ensures count { products.new + 2 ^ log_h * width ≡ products.old + (log_h * 2 ^ (log_h - 1) + 1) * width }
@@ -234,6 +231,6 @@ fn dit_network<F: TwoAdicField>(
     for l in 0..log_h {
         let half = 1usize << l;
         let blocks = 1usize << (log_h - 1 - l);
-        dit_layer(values, width, half, blocks, twiddles, blocks, products);
+        dit_layer(values, width, half, blocks, layer(twiddles, l), products);
     }
 }

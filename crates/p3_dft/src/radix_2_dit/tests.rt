@@ -95,7 +95,7 @@ fn each_column_alone(rt: HostRuntime) -> Result<(), Fail> {
     Ok(())
 }
 
-// The sizes for which an engine has tables.
+// The heights for which an engine has twiddles.
 #[test]
 fn prepared_heights(rt: HostRuntime) -> Result<(), Fail> {
     let alloc = rt.alloc();
@@ -107,11 +107,13 @@ fn prepared_heights(rt: HostRuntime) -> Result<(), Fail> {
     engine.prepare(alloc, 3)?;
     engine.prepare(alloc, 3)?;
     assert!(rt; engine.is_prepared(3));
-    assert!(rt; !engine.is_prepared(2));
+    assert!(rt; !engine.is_prepared(4));
     let values = dft(&rt, &mut engine, elements(alloc, &[1, 2, 3, 4])?)?;
     assert!(rt; values == elements(alloc, &[10, 569722814, 2013265919, 1443543103])?);
-    assert!(rt; engine.is_prepared(2));
     assert!(rt; engine.is_prepared(3));
+    let zeros: Vec<BabyBear> = elements(alloc, &[0; 16])?;
+    assert!(rt; dft(&rt, &mut engine, zeros)? == elements(alloc, &[0; 16])?);
+    assert!(rt; engine.is_prepared(4));
     let copy = engine.clone()?;
     assert!(rt; copy.is_prepared(0));
     assert!(rt; !copy.is_prepared(3));

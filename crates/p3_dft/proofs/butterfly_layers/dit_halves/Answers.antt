@@ -2,7 +2,6 @@ use Rattle.std.proofs.Common.{◌≡◌, ℕ, ◌+◌, ◌*◌, ◌-◌, ◌<◌
 use Rattle.std.proofs.Math.Nat.{suc-mul, mul-le-mul_right}
 use Rattle.std.proofs.lemmas.List.{places, get_or_read_under}
 use Rattle.p3_field.specs.Ring.{minus}
-use Rattle.p3_dft.proofs.Blocks.{table_room}
 use Rattle.p3_dft.proofs.Rows.{part_at, rows-more}
 use Rattle.p3_dft.proofs.butterfly_layers.dit_halves.Goals as goal
 
@@ -25,8 +24,8 @@ loop-t-preserved g c =
     λ j inside. ap field.value (part_at low (t * w) _ j zero (omega (arith, m)) ∙ c.loop-t.invariant.near.rest (t * w + j) (omega arith)) in
     let b : (j : ℕ) → j < w → field.value (get_or (take ((t * w + w) - t * w) (drop (t * w) high)) j zero) ≡ field.value (get_or c.args.high.now (t * w + j) zero) =
     λ j inside. ap field.value (part_at high (t * w) _ j zero (omega (arith, m)) ∙ c.loop-t.invariant.far.rest (t * w + j) (omega arith)) in
-    let inside_table : t * c.args.stride < length c.args.twiddles.now = table_room t c.args.half c.args.stride _ c.loop-t-test.true c.requires.step c.requires.table in
-    let entry : field.value c.index-twiddles-t.result ≡ field.value (get_or c.args.twiddles.now (t * c.args.stride) zero) = ap field.value (get_or_read_under c.args.twiddles.now (t * c.args.stride) _ _ zero c.index-twiddles-t.is inside_table refl) in
+    let there : t < length c.args.twiddles.now = omega (arith, c.loop-t-test.true, c.requires.twiddles) in
+    let entry : field.value c.index-twiddles-t.result ≡ field.value (get_or c.args.twiddles.now t zero) = ap field.value (get_or_read_under c.args.twiddles.now t _ _ zero c.index-twiddles-t.is there refl) in
     record {
       near = rows-more zero w _ _ low c.apply_to_rows-in-loop-t.new.row_1 t _ m low_room (c.apply_to_rows-in-loop-t.auto.row_1 ∙ low_len)
           (λ j inside. c.apply_to_rows-in-loop-t.ensures.near j (omega (arith, low_len)) ∙ ap₂ (λ x y. field.ring.add x (field.ring.mul y (field.value c.index-twiddles-t.result))) (a j inside) (b j inside)

@@ -10,7 +10,7 @@ invariant-loop-t g l =
     let zero = g.F.Field.ZERO in
     let w = l.fn.width in
     record {
-      near : RowsDone zero w (λ t j y. value y ≡ ring.add (value (get_or l.fn.low (t * w + j) zero)) (ring.mul (value (get_or l.fn.high (t * w + j) zero)) (value (get_or l.fn.twiddles (t * l.fn.stride) zero)))) l.fn.low l.t l.low;
-      far : RowsDone zero w (λ t j y. value y ≡ minus ring (value (get_or l.fn.low (t * w + j) zero)) (ring.mul (value (get_or l.fn.high (t * w + j) zero)) (value (get_or l.fn.twiddles (t * l.fn.stride) zero)))) l.fn.high l.t l.high;
+      near : RowsDone zero w (λ t j y. value y ≡ ring.add (value (get_or l.fn.low (t * w + j) zero)) (ring.mul (value (get_or l.fn.high (t * w + j) zero)) (value (get_or l.fn.twiddles t zero)))) l.fn.low l.t l.low;
+      far : RowsDone zero w (λ t j y. value y ≡ minus ring (value (get_or l.fn.low (t * w + j) zero)) (ring.mul (value (get_or l.fn.high (t * w + j) zero)) (value (get_or l.fn.twiddles t zero)))) l.fn.high l.t l.high;
       count : l.products + w ≡ l.fn.products + l.t * w;
     }

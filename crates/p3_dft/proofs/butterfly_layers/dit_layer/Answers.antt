@@ -25,7 +25,7 @@ loop-b-preserved g c =
     let fits : b * whole + whole ≤ length c.loop-b.values = rw is (omega (arith, room, c.loop-b.auto.values)) in
     let next : (b + 1) * size ≡ b * size + size = rw add-one (suc-mul b size) in
     let next_row : (b + 1) * w ≡ b * w + w = rw add-one (suc-mul b w) in
-    let twiddle = λ (i : ℕ). field.value (get_or c.args.twiddles.now ((i / w) * c.args.stride) field.ZERO) in
+    let twiddle = λ (i : ℕ). field.value (get_or c.args.twiddles.now (i / w) field.ZERO) in
     record {
       cells = blocks-more field.value field.ZERO (λ i x y. field.ring.add x (field.ring.mul y (twiddle i))) (λ i x y. minus field.ring x (field.ring.mul y (twiddle i))) size
           c.args.values.now c.loop-b.values c.dit_block.new.block b whole is fits (c.dit_block.auto.block ∙ part_length c.loop-b.values (b * whole) whole fits ∙ is)

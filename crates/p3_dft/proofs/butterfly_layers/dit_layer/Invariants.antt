@@ -8,7 +8,7 @@ abbrev pub invariant-loop-b : goal.invariant-loop-b
 invariant-loop-b g l =
     let field = g.F.Field in
     let size = l.fn.half * l.fn.width in
-    let twiddle = λ (i : ℕ). field.value (get_or l.fn.twiddles ((i / l.fn.width) * l.fn.stride) field.ZERO) in
+    let twiddle = λ (i : ℕ). field.value (get_or l.fn.twiddles (i / l.fn.width) field.ZERO) in
     record {
       cells : RowsDone field.ZERO (2 * size)
           (BothHalves size (λ i x y. field.ring.add x (field.ring.mul y (twiddle i))) (λ i x y. minus field.ring x (field.ring.mul y (twiddle i))) (λ n. field.value (get_or l.fn.values n field.ZERO)) field.value)

@@ -1,6 +1,7 @@
-use Rattle.std.proofs.Common.{◌≡◌, ℕ, suc, ◌+◌, ◌*◌, ◌-◌, ◌^◌, ◌%◌, ◌<◌, length, get_or, sym, ap, ap₂, ◌∙◌, arith}
+use Rattle.std.proofs.Common.{◌≡◌, ℕ, suc, ◌+◌, ◌*◌, ◌-◌, ◌^◌, ◌%◌, ◌<◌, ◌≤◌, length, get_or, sym, ap, ap₂, ◌∙◌, arith, lit≤}
 use Rattle.std.proofs.lemmas.Nat.{one_shl, pow-add, pow_pos}
 use Rattle.std.proofs.Math.ListN.{get_or-eq_default}
+use Rattle.std.proofs.Math.Nat.{pow-le-pow_right, two-pow-succ}
 use Rattle.p3_field.proofs.Powers.{power-zero}
 use Rattle.p3_matrix.specs.BitOrder.{rev}
 use Rattle.p3_matrix.proofs.BitReversal.{rev-rev}
@@ -48,18 +49,24 @@ dit_layer-requires-clause-size g c =
     rw (half_is l k c.loop-l-test.true c.requires.small, blocks_are l k c.loop-l-test.true c.requires.small)
     (c.loop-l.auto.values ∙ c.requires.height ∙ rows_are k l c.args.width c.loop-l-test.true)
 
-pub dit_layer-requires-clause-table : goal.dit_layer-requires-clause-table
-dit_layer-requires-clause-table g c =
-    let l = c.loop-l.l in
-    let k = c.args.log_h in
-    let whole = halves_whole k l c.loop-l-test.true in
-    rw (half_is l k c.loop-l-test.true c.requires.small, blocks_are l k c.loop-l-test.true c.requires.small)
-    (omega (arith, whole, c.requires.table_length))
+-- the twiddles of a layer lie within those of all layers
+layer_end : (l k n : ℕ) → l < k → 2 ^ k - 1 ≤ n → 2 * 2 ^ l - 1 ≤ n
+layer_end l k n h room = let rise : 2 ^ suc l ≤ 2 ^ k = pow-le-pow_right {n = 2} (lit≤ tt) h in omega (arith, rise, two-pow-succ l, room)
+
+pub layer-requires-clause-inside : goal.layer-requires-clause-inside
+layer-requires-clause-inside g c = layer_end c.loop-l.l c.args.log_h (length c.args.twiddles.now) c.loop-l-test.true c.requires.layers
+
+pub dit_layer-requires-clause-twiddles : goal.dit_layer-requires-clause-twiddles
+dit_layer-requires-clause-twiddles g c =
+    let half = half_is c.loop-l.l c.args.log_h c.loop-l-test.true c.requires.small in
+    omega (arith, half, c.layer.ensures.size)
 
 pub dit_layer-requires-clause-first : goal.dit_layer-requires-clause-first
 dit_layer-requires-clause-first g c =
-    let some : 0 < length c.args.twiddles.now = let positive = pow_pos c.args.log_h in omega (arith, positive, c.requires.table_length) in
-    c.requires.table 0 some ∙ power-zero g.F.Field.ring (g.F.Field.value (g.F.TwoAdicField.generator c.args.log_h))
+    let field = g.F.Field in
+    let l = c.loop-l.l in
+    ap field.value (c.layer.ensures.twiddles 0 (pow_pos l)) ∙ c.requires.twiddles l 0 c.loop-l-test.true (pow_pos l)
+    ∙ power-zero field.ring (field.value (g.F.TwoAdicField.generator (l + 1)))
 
 pub loop-l-preserved : goal.loop-l-preserved
 loop-l-preserved g c =
@@ -77,9 +84,10 @@ loop-l-preserved g c =
     let last : k - (l + 1) ≡ k - 1 - l = omega arith in
     record {
       rows = λ j r p q.
-          low_cells field.ring g.met.F.TwoAdicField.roots_law k l w half blocks (length c.args.twiddles.now)
-          (λ e. field.value (get_or c.args.twiddles.now e field.ZERO)) (λ n. field.value (get_or c.loop-l.values n field.ZERO)) (λ n. field.value (get_or c.dit_layer.new.values n field.ZERO))
-          c.requires.rooted c.loop-l-test.true h b c.requires.wide some c.requires.table_length c.requires.table
+          low_cells field.ring g.met.F.TwoAdicField.roots_law k l w half blocks
+          (λ t. field.value (get_or c.layer.result.now t field.ZERO)) (λ n. field.value (get_or c.loop-l.values n field.ZERO)) (λ n. field.value (get_or c.dit_layer.new.values n field.ZERO))
+          c.requires.rooted c.loop-l-test.true h b c.requires.wide some
+          (λ t v. ap field.value (c.layer.ensures.twiddles t v) ∙ c.requires.twiddles l t c.loop-l-test.true v)
           c.dit_layer.ensures.near c.dit_layer.ensures.far
           (λ m beyond. ap field.value (get_or-eq_default c.dit_layer.new.values field.ZERO (omega (arith, beyond, size, c.dit_layer.auto.values)) ∙ sym (get_or-eq_default c.loop-l.values field.ZERO (omega (arith, beyond, size)))))
           (λ u. field.value (get_or c.args.values.now (rev k u * w + j) field.ZERO)) j p

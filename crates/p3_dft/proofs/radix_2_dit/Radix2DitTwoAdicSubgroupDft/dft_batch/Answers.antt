@@ -1,14 +1,18 @@
-use Rattle.std.proofs.Common.{◌≡◌, ℕ, inl, inr, ◌^◌, List, Contains, sym, ap, ap₂, ◌∙◌, subst, arith}
+use Rattle.std.proofs.Common.{◌≡◌, ℕ, ◌^◌, ◌≤◌, List, Result, Ok, Err, IsOk, sym, ap, ap₂, ◌∙◌, arith, rules, lit≤}
+use Rattle.std.proofs.Math.Nat.{pow-le-pow_right}
 use Rattle.p3_matrix.specs.RowMajor.{RowMajor, height}
 use Rattle.p3_matrix.proofs.TwoPowers.{log_same}
-use Rattle.p3_dft.proofs.Prepared.{prepared-keeps, prepared-there, not_ok}
-use Rattle.p3_dft.proofs.ProductBounds.{two_halves, counted_within, counted_grows}
+use Rattle.p3_dft.proofs.ProductBounds.{counted_within, counted_grows}
 use Rattle.p3_dft.proofs.ReversedRows.{transform_of_row}
 use Rattle.p3_dft.proofs.radix_2_dit.Radix2DitTwoAdicSubgroupDft.dft_batch.Goals as goal
 
 -- a height that is not one is not the power of exponent zero
 some_layers : (h k : ℕ) → h ≡ 2 ^ k → (h ≡ 1 → ⊥) → k ≡ 0 → ⊥
 some_layers h k high more none = more (high ∙ ap (λ n. 2 ^ n) none)
+
+not_ok : {A E : Type 0} (r : Result A E) (e : E) → r ≡ Err e → IsOk r → ⊥
+not_ok (Ok x) e is ok = cc
+not_ok (Err x) e is ok = search rules
 
 pub returns-then-height-eq1-clause-values : goal.returns-then-height-eq1-clause-values
 returns-then-height-eq1-clause-values g c =
@@ -18,7 +22,8 @@ returns-then-height-eq1-clause-values g c =
 pub returns-then-height-eq1-clause-prepares : goal.returns-then-height-eq1-clause-prepares
 returns-then-height-eq1-clause-prepares g c k high =
     let tall : c.height-height.result ≡ height (g.N.IntoRowMajorMatrix.stored c.args.mat) = c.height-height.ensures.height ∙ ap height c.into_row_major_matrix-mat.ensures in
-    inl (log_same k 0 (sym high ∙ sym tall ∙ c.if-height-eq1.true))
+    let none : k ≡ 0 = log_same k 0 (sym high ∙ sym tall ∙ c.if-height-eq1.true) in
+    omega (arith, none)
 
 pub make-requires-clause-within : goal.make-requires-clause-within
 make-requires-clause-within g c =
@@ -31,12 +36,9 @@ returns-in_err-make-clause-succeeds g c k high ready =
     let tall : c.height-height.result ≡ height (g.N.IntoRowMajorMatrix.stored c.args.mat) = c.height-height.ensures.height ∙ ap height c.into_row_major_matrix-mat.ensures in
     let log = c.log2_strict_usize-log_h.result in
     let same : k ≡ log = log_same k log (sym high ∙ sym tall ∙ c.log2_strict_usize-log_h.ensures.power) in
-    let there : Contains c.self.inside.tables log =
-    prepared-there c.args.self.now c.self.inside.tables k log (ap (λ e. e.prepared) c.self.view_is) same (some_layers _ log c.log2_strict_usize-log_h.ensures.power c.if-height-eq1.false) ready in
+    let view : c.self.inside.twiddles ≡ c.args.self.now.prepared = ap (λ e. e.prepared) c.self.view_is in
+    let there : log ≤ c.self.inside.twiddles = omega (arith, same, view, ready) in
     absurd (not_ok c.make.result _ c.in_err-make.was (c.make.ensures.ready there))
-
-pub returns-in_err-make-clause-keeps : goal.returns-in_err-make-clause-keeps
-returns-in_err-make-clause-keeps g c = prepared-keeps c.args.self.now c.self.inside.tables c.make.new.self (ap (λ e. e.prepared) c.self.view_is) c.make.ensures.keeps
 
 pub transform-requires-clause-rooted : goal.transform-requires-clause-rooted
 transform-requires-clause-rooted g c =
@@ -44,11 +46,10 @@ transform-requires-clause-rooted g c =
     let same : c.log2_strict_usize-log_h.result ≡ c.requires.log = log_same _ _ (sym c.log2_strict_usize-log_h.ensures.power ∙ tall ∙ c.requires.high) in
     omega (arith, same, c.requires.within)
 
-pub transform-requires-clause-table_length : goal.transform-requires-clause-table_length
-transform-requires-clause-table_length g c =
-    let log = c.log2_strict_usize-log_h.result in
-    let twice = two_halves log (some_layers _ log c.log2_strict_usize-log_h.ensures.power c.if-height-eq1.false) in
-    omega (arith, twice, c.powers-twiddles.ensures.size)
+pub transform-requires-clause-layers : goal.transform-requires-clause-layers
+transform-requires-clause-layers g c =
+    let rise : 2 ^ c.log2_strict_usize-log_h.result ≤ 2 ^ c.make.new.self = pow-le-pow_right {n = 2} (lit≤ tt) c.in_ok-make.ensures.made in
+    omega (arith, rise, c.as_slice-twiddles.ensures.size)
 
 pub returns-clause-values : goal.returns-clause-values
 returns-clause-values g c =
@@ -62,7 +63,7 @@ returns-clause-prepares g c k high =
     let tall : c.height-height.result ≡ height (g.N.IntoRowMajorMatrix.stored c.args.mat) = c.height-height.ensures.height ∙ ap height c.into_row_major_matrix-mat.ensures in
     let log = c.log2_strict_usize-log_h.result in
     let same : log ≡ k = log_same log k (sym c.log2_strict_usize-log_h.ensures.power ∙ tall ∙ high) in
-    inr (subst (λ (n : ℕ). Contains c.make.new.self n) same c.in_ok-make.ensures.made)
+    omega (arith, same, c.in_ok-make.ensures.made)
 
 pub returns-clause-grows : goal.returns-clause-grows
 returns-clause-grows g c =
