@@ -30,7 +30,7 @@ pub(crate) fn elements<F: CanonicalField>(alloc: Global, numbers: &[u64]) -> Res
 }
 
 // The matrix of these entries, row after row.
-pub(crate) fn matrix_of<F: Drop>(entries: Vec<F>, width: usize) -> Result<RowMajorMatrix<F>, Fail> {
+fn matrix_of<F: Drop>(entries: Vec<F>, width: usize) -> Result<RowMajorMatrix<F>, Fail> {
     if width == 0 || entries.len() % width != 0 {
         return Err(Fail::from("no whole number of rows"));
     }
