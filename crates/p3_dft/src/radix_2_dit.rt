@@ -1,4 +1,4 @@
-//! The transform by decimation in time, with tables of twiddles that are kept.
+//! The transform by decimation in time, with twiddles that are kept.
 
 ghost use Rattle.std.specs.Prelude.{◌≡◌, ◌↔◌, ◌⊎◌, ℕ, ◌+◌, ◌*◌, ◌-◌, ◌^◌, ◌<◌, ◌≤◌, List, length, get_or, IsTrue, IsOk, OnOk, OnErr, Ok};
 ghost use Rattle.p3_field.specs.Ring.{power};
