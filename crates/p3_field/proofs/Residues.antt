@@ -3,7 +3,7 @@ use Rattle.std.proofs.Common.{◌≡◌, ℕ, zero, suc, ◌+◌, ◌/◌, ◌%�
 use Rattle.std.proofs.Math.Nat.{add-mod-mod, add-mod_right, mod-eq_of_lt, two-pow-succ}
 use Rattle.p3_field.specs.Ring.{Ring, count, power}
 use Rattle.p3_field.specs.Residues.{Residue, residues, residue-eq}
-use Rattle.p3_field.specs.Squarings.{squared}
+use Rattle.p3_field.specs.Squarings.{repeated_square}
 use Rattle.p3_field.proofs.Powers.{count-zero, count-suc, power-zero, power-suc, power-add, power-square}
 
 module _ (m : ℕ) (above : 1 < m) (odd : m % 2 ≡ 1) where
@@ -28,7 +28,7 @@ odd_half m n r modulus below odd is =
     let double : r + r ≡ n + m = omega (arith, is, odd, modulus) in
     ap (λ k. k % m) double ∙ add-mod_right n m ∙ mod-eq_of_lt below
 
-pub power-squared : {A : Type 0} (r : Ring A) (x : A) (n : ℕ) → power r x (2 ^ n) ≡ squared r x n
-power-squared r x zero = power-suc r x 0 ∙ ap (r.mul x) (power-zero r x) ∙ r.mul_one x
-power-squared r x (suc n) =
-    ap (power r x) (two-pow-succ n) ∙ power-add r x (2 ^ n) (2 ^ n) ∙ sym (power-square r x (2 ^ n)) ∙ power-squared r (r.mul x x) n
+pub power-repeated_square : {A : Type 0} (r : Ring A) (x : A) (n : ℕ) → power r x (2 ^ n) ≡ repeated_square r x n
+power-repeated_square r x zero = power-suc r x 0 ∙ ap (r.mul x) (power-zero r x) ∙ r.mul_one x
+power-repeated_square r x (suc n) =
+    ap (power r x) (two-pow-succ n) ∙ power-add r x (2 ^ n) (2 ^ n) ∙ sym (power-square r x (2 ^ n)) ∙ power-repeated_square r (r.mul x x) n

@@ -5,7 +5,7 @@ use Rattle.std.proofs.Math.Dec.{eqb}
 use Rattle.std.proofs.Math.Nat.{add-mod-mod}
 use Rattle.p3_field.specs.Residues.{Residue, residue-eq, IsDifference}
 use Rattle.p3_field.specs.Ring.{Ring, AreRoots}
-use Rattle.p3_field.specs.Squarings.{squared}
+use Rattle.p3_field.specs.Squarings.{repeated_square}
 
 -- a difference is the sum with a negative
 pub difference_law : (m a b r : ℕ) → IsDifference m a b r → r ≡ (a + (m - b) % m) % m
@@ -23,16 +23,16 @@ module _ {m : ℕ} where
       cc
 
 module _ {A : Type 0} (r : Ring A) where
-  squared-suc : (x : A) (n : ℕ) → squared r x (suc n) ≡ r.mul (squared r x n) (squared r x n)
-  squared-suc x zero = refl
-  squared-suc x (suc n) = squared-suc (r.mul x x) n
+  repeated_square-suc : (x : A) (n : ℕ) → repeated_square r x (suc n) ≡ r.mul (repeated_square r x n) (repeated_square r x n)
+  repeated_square-suc x zero = refl
+  repeated_square-suc x (suc n) = repeated_square-suc (r.mul x x) n
 
   -- the squarings of a root, from the last one on
-  pub roots_law : (root : A) (bits : ℕ) → squared r root (bits - 0) ≡ r.one → squared r root (bits - 1) ≡ r.neg r.one → AreRoots r bits (λ i. squared r root (bits - i))
+  pub roots_law : (root : A) (bits : ℕ) → repeated_square r root (bits - 0) ≡ r.one → repeated_square r root (bits - 1) ≡ r.neg r.one → AreRoots r bits (λ i. repeated_square r root (bits - i))
   roots_law root bits one minus_one = record {
     first = one;
     second = minus_one;
     square = λ i below.
         let e : bits - i ≡ suc (bits - suc i) = omega (arith, below) in
-        sym (squared-suc root (bits - suc i)) ∙ ap (squared r root) (sym e);
+        sym (repeated_square-suc root (bits - suc i)) ∙ ap (repeated_square r root) (sym e);
   }

@@ -2,7 +2,7 @@
 use Rattle.std.proofs.Common.{ℕ, ◌-◌, refl, lit<}
 use Rattle.p3_field.specs.Residues.{Residue, residues}
 use Rattle.p3_field.specs.Ring.{Ring}
-use Rattle.p3_field.specs.Squarings.{squared}
+use Rattle.p3_field.specs.Squarings.{repeated_square}
 
 -- 2^31 - 2^27 + 1
 abbrev pub baby_bear_modulus : ℕ
@@ -17,7 +17,7 @@ baby_bear_root = record { number = 440564289; below = lit< tt }
 
 -- of order 2^bits
 abbrev pub baby_bear_generator : ℕ → Residue baby_bear_modulus
-baby_bear_generator bits = squared baby_bear_ring baby_bear_root (27 - bits)
+baby_bear_generator bits = repeated_square baby_bear_ring baby_bear_root (27 - bits)
 
 -- 2^64 - 2^32 + 1
 abbrev pub goldilocks_modulus : ℕ
@@ -32,4 +32,4 @@ goldilocks_root = record { number = 1753635133440165772; below = lit< tt }
 
 -- of order 2^bits
 abbrev pub goldilocks_generator : ℕ → Residue goldilocks_modulus
-goldilocks_generator bits = squared goldilocks_ring goldilocks_root (32 - bits)
+goldilocks_generator bits = repeated_square goldilocks_ring goldilocks_root (32 - bits)

@@ -1,7 +1,9 @@
 pub mod BitOrder
 pub mod Butterflies
 pub mod Exchange
+pub mod Loans
 pub mod Matrix
 pub mod RowMajor
-pub mod ViewWrites
+pub mod SliceLoans
+pub mod ViewLoans
 pub mod Writes

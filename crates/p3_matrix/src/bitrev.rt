@@ -1,6 +1,6 @@
 //! Bit reversed order: element i goes where the binary digits of i, read backwards, name a place.
 
-ghost use Rattle.std.specs.Prelude.{◌≡◌, ◌+◌, ◌*◌, ◌/◌, ◌^◌, ◌<◌, ◌≤◌, ◌⊎◌, ℕ, length, slice_index_or};
+ghost use Rattle.std.specs.Prelude.{◌≡◌, ◌+◌, ◌*◌, ◌/◌, ◌^◌, ◌<◌, ◌≤◌, ◌⊎◌, ℕ, length, get_or};
 ghost use Rattle.p3_matrix.specs.RowMajor.{height, SameShape};
 ghost use Rattle.p3_matrix.specs.Matrix.{matrix, Same};
 ghost use Rattle.p3_matrix.specs.BitOrder.{rev, reversed};
@@ -27,7 +27,7 @@ pub fn reverse_bits_len(x: usize, bits: usize) -> usize
 pub fn reverse_slice_index_bits<T>(values: &mut [T])
     requires { ((n : ℕ) × length values.old ≡ 2 ^ n) ⊎ (length values.old ≡ 0) }
     ensures { (n : ℕ) → length values.old ≡ 2 ^ n
-        → (d : T) (i : ℕ) → i < 2 ^ n → slice_index_or values.new i d ≡ slice_index_or values.old (rev n i) d }
+        → (d : T) (i : ℕ) → i < 2 ^ n → get_or values.new i d ≡ get_or values.old (rev n i) d }
 {
     let size = values.len();
     if size > 0 {
@@ -57,7 +57,7 @@ fn reverse_rows<T>(values: &mut [T], width: usize, bits: usize)
     requires bits { bits ≤ 63 }
     requires size { length values.old ≡ 2 ^ bits * width }
     ensures { (d : T) (i j : ℕ) → i < 2 ^ bits → j < width
-        → slice_index_or values.new (i * width + j) d ≡ slice_index_or values.old (rev bits i * width + j) d }
+        → get_or values.new (i * width + j) d ≡ get_or values.old (rev bits i * width + j) d }
 {
     let rows = 1usize << bits;
     let mut mirror = 0;

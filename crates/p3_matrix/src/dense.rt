@@ -1,12 +1,12 @@
 //! Matrices that own their entries, which lie row after row.
 
 ghost use Rattle.std.specs.Prelude.{◌≡◌, ◌+◌, ◌*◌, ◌/◌, ◌<◌, ◌≤◌, IfOk, length};
-ghost use Rattle.std.specs.Borrow.{sem, Array, Lends};
+ghost use Rattle.std.specs.Borrow.{sem};
 ghost use Rattle.p3_matrix.specs.RowMajor.{RowMajor, IsRowMajor, height, row};
-ghost use Rattle.p3_matrix.specs.Writes.{with_values, with_row};
 
 use crate::error::DftError;
 use crate::views::{RowMajorMatrixView, RowMajorMatrixViewMut};
+use std::alloc::Global;
 use std::marker::Model;
 
 /// A matrix of `height` rows of `width` entries, one row after the other. The width is at least
@@ -54,7 +54,7 @@ impl<T: Eq> Eq for RowMajorMatrix<T> {
 }
 
 impl<T> RowMajorMatrix<T> {
-    ghost use Rattle.p3_matrix.specs.contracts.dense.RowMajorMatrix.{the_row};
+    ghost use Rattle.p3_matrix.specs.Loans.{LendsValues, LendsRow};
 
     /// The matrix of these entries, `width` to a row. The entries fill whole rows; none at all make
     /// a matrix of no rows.
@@ -106,6 +106,14 @@ impl<T> RowMajorMatrix<T> {
         self.values.as_slice()
     }
 
+    /// Where the memory of the entries comes from: `Vec::new(*matrix.allocator())` is an empty
+    /// vector from there.
+    pub fn allocator(&self) -> &Global
+        ensures whole { IsRowMajor self.now }
+    {
+        self.values.allocator()
+    }
+
     /// The entries, row after row, in the vector that held them.
     pub fn into_values(self) -> Vec<T>
         ensures values { result.items ≡ self.values }
@@ -126,7 +134,7 @@ impl<T> RowMajorMatrix<T> {
 
     /// The entries, row after row, lent for writing.
     pub fn values_mut(&mut self) -> &mut [T]
-        ensures* writes_back { sem 𝓛 (Lends (the_row T.row) (Array T.row 0) self.entry result (with_values self.old)) }
+        ensures* writes_back { sem 𝓛 (LendsValues T.row self.entry result) }
         ensures values { result.now ≡ self.old.values }
     {
         self.values.as_mut_slice()
@@ -135,7 +143,7 @@ impl<T> RowMajorMatrix<T> {
     /// The entries of row i, lent for writing.
     pub fn row_mut(&mut self, i: usize) -> &mut [T]
         requires { i < height self.old }
-        ensures* writes_back { sem 𝓛 (Lends (the_row T.row) (Array T.row 0) self.entry result (with_row self.old i)) }
+        ensures* writes_back { sem 𝓛 (LendsRow T.row self.entry i result) }
         ensures row { result.now ≡ row self.old i }
     {
         let start = i * self.width;
@@ -164,7 +172,7 @@ impl<T> RowMajorMatrix<T> {
         T: Copy,
         ensures { IfOk result (λ m. m ≡ self.now) }
     {
-        let values = Vec::from_slice(*self.values.allocator(), self.values.as_slice())?;
+        let values = Vec::from_slice(*self.allocator(), self.values())?;
         Ok(Self::new(values, self.width))
     }
 }
@@ -185,6 +193,9 @@ mod tests {
         let triples = RowMajorMatrix::new(vec![in alloc; 1u8, 2, 3, 4, 5, 6]?, 3);
         assert!(rt; pairs != triples);
         assert!(rt; pairs == pairs.try_clone()?);
+        let mut sums = Vec::new(*pairs.allocator());
+        sums.push(pairs.row(0)[0] + pairs.row(0)[1])?;
+        assert_eq!(rt; RowMajorMatrix::new_col(sums).row(0)[0], 3);
         assert_eq!(rt; RowMajorMatrix::new_col(pairs.into_values()).height(), 6);
         assert_eq!(rt; RowMajorMatrix::new_row(triples.into_values()).height(), 1);
         Ok(())

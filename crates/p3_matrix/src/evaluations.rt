@@ -1,7 +1,7 @@
 //! Matrices whatever the order in which their rows lie.
 
 ghost use Rattle.std.specs.Prelude.{◌≡◌};
-ghost use Rattle.p3_matrix.specs.RowMajor.{RowMajor};
+ghost use Rattle.p3_matrix.specs.RowMajor.{RowMajor, IsRowMajor};
 
 use crate::dense::RowMajorMatrix;
 
@@ -38,5 +38,29 @@ impl<T: Drop> IntoRowMajorMatrix<T> for RowMajorMatrix<T> {
 
     fn into_row_major_matrix(self) -> RowMajorMatrix<T> {
         self
+    }
+}
+
+#[cfg(test)]
+mod tests {
+    use super::*;
+    use std::test::Fail;
+
+    // A caller that knows no more of the evaluations than their trait.
+    fn width_of<F: Drop, E: Evaluations<F>>(evaluations: E) -> usize
+        ensures width { result ≡ (E.natural evaluations).width }
+        ensures whole { IsRowMajor (E.natural evaluations) }
+    {
+        evaluations.to_row_major_matrix().width()
+    }
+
+    #[test]
+    fn has_whole_rows(rt: HostRuntime) -> Result<(), Fail> {
+        let alloc = rt.alloc();
+        let rows = RowMajorMatrix::new(vec![in alloc; 1u8, 2, 3, 4]?, 2);
+        assert_eq!(rt; width_of(rows), 2);
+        let rows = RowMajorMatrix::new(vec![in alloc; 1u8, 2, 3, 4]?, 2).into_row_major_matrix();
+        assert_eq!(rt; rows.height(), 2);
+        Ok(())
     }
 }

@@ -1,8 +1,9 @@
 //! Matrices that are lent, for reading and for writing.
 
-ghost use Rattle.std.specs.Prelude.{◌≡◌, ◌*◌, ◌/◌, ◌<◌, ◌≤◌, ◌++◌, length, take, drop};
-ghost use Rattle.std.specs.Borrow.{sem, Array, Lends, LendsBoth};
+ghost use Rattle.std.specs.Prelude.{◌≡◌, ◌*◌, ◌/◌, ◌<◌, ◌≤◌, length, take, drop};
+ghost use Rattle.std.specs.Borrow.{sem};
 ghost use Rattle.p3_matrix.specs.RowMajor.{RowMajor, IsRowMajor, height, row};
+ghost use Rattle.p3_matrix.specs.SliceLoans.{LendsParts};
 
 #[cfg(test)]
 mod tests;
@@ -84,10 +85,7 @@ pub struct RowMajorMatrixViewMut<'a, T> {
 }
 
 impl<'a, T> RowMajorMatrixViewMut<'a, T> {
-    ghost use Rattle.p3_matrix.specs.contracts.views.RowMajorMatrixViewMut.{the_row};
-    ghost use Rattle.p3_matrix.specs.ViewWrites.{view_with_values, view_with_row};
-    ghost use Rattle.std.specs.Prelude.{[]};
-    ghost use mir.Syntax.{named};
+    ghost use Rattle.p3_matrix.specs.ViewLoans.{LendsViewValues, LendsViewRow};
 
     /// Lends the matrix.
     pub fn new(matrix: &'a mut RowMajorMatrix<T>) -> Self
@@ -138,7 +136,7 @@ impl<'a, T> RowMajorMatrixViewMut<'a, T> {
 
     /// The entries, row after row, lent for writing.
     pub fn values_mut(&mut self) -> &mut [T]
-        ensures* writes_back { sem 𝓛 (Lends (the_row (record { mir = named 1; lft = [] }) T.row) (Array T.row 0) self.entry result (view_with_values self.entry.now)) }
+        ensures* writes_back { sem 𝓛 (LendsViewValues T.row self.entry result) }
         ensures values { result.now ≡ self.old.matrix.now.values }
     {
         self.matrix.values_mut()
@@ -147,7 +145,7 @@ impl<'a, T> RowMajorMatrixViewMut<'a, T> {
     /// The entries of row i, lent for writing.
     pub fn row_mut(&mut self, i: usize) -> &mut [T]
         requires { i < height self.old.matrix.now }
-        ensures* writes_back { sem 𝓛 (Lends (the_row (record { mir = named 1; lft = [] }) T.row) (Array T.row 0) self.entry result (view_with_row self.entry.now i)) }
+        ensures* writes_back { sem 𝓛 (LendsViewRow T.row self.entry i result) }
         ensures row { result.now ≡ row self.old.matrix.now i }
     {
         self.matrix.row_mut(i)
@@ -158,7 +156,7 @@ impl<'a, T> RowMajorMatrixViewMut<'a, T> {
 /// writing: `split_rows_mut(matrix.values_mut(), width, rows)`. There are at least so many rows.
 pub fn split_rows_mut<T>(values: &mut [T], width: usize, rows: usize) -> (&mut [T], &mut [T])
     requires { rows * width ≤ length values.old }
-    ensures* writes_back { sem 𝓛 (LendsBoth (Array T.row 0) (Array T.row 0) (Array T.row 0) values.entry result ◌++◌) }
+    ensures* writes_back { sem 𝓛 (LendsParts T.row values.entry result) }
     ensures front { result.0.now ≡ take (rows * width) values.old }
     ensures back { result.1.now ≡ drop (rows * width) values.old }
 {
