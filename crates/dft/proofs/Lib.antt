@@ -1,5 +1,6 @@
 pub mod Lines
 pub mod Shapes
+pub mod Took
 pub mod Elements
 pub mod Inverses
 pub mod OneOutcome

@@ -1,10 +1,20 @@
 -- What calls on a sink do to its bytes and to the count of the calls that failed.
-use Rattle.std.specs.Prelude.{◌≡◌, ◌++◌, ℕ, zero, suc, List, [], ◌∷◌, take, Result, Ok, Err}
+use Rattle.std.specs.Prelude.{◌≡◌, ◌++◌, ℕ, zero, suc, List, [], ◌∷◌, take, Option, Result, Ok, Err}
+use Rattle.std.specs.Io.KnownBytes.{Appends}
 
--- what was told of a writer's calls: the bytes that it took, and how many calls failed
+-- what is known of a sink: the bytes that its answers told that it took, those that it holds, if they are known, and how many calls failed
 pub record Calls : Type 0 where
   pub bytes : List ℕ
+  pub contents : Option (List ℕ)
   pub failures : ℕ
+
+-- the sink took these bytes: it told so, and what it holds, if that is known, grew by them
+abbrev pub Took : Calls → Calls → List ℕ → Type 0
+Took old new taken = (new.bytes ≡ old.bytes ++ taken) × Appends old.contents new.contents taken
+
+-- it took a beginning of the text, which may be all of it or nothing
+abbrev pub TookStartOf : Calls → Calls → List ℕ → Type 0
+TookStartOf old new text = (start : List ℕ) × (rest : List ℕ) × (text ≡ start ++ rest) × Took old new start
 
 -- the bytes that `write(buf)` took
 abbrev pub taken : {E : Type 0} → Result ℕ E → List ℕ → List ℕ
@@ -22,7 +32,3 @@ write_failures (Ok zero) (b ∷ bs) = 1
 abbrev pub flush_failures : {T E : Type 0} → Result T E → ℕ
 flush_failures (Err e) = 1
 flush_failures (Ok t) = 0
-
--- new is old with a beginning of text at its end, which may be all of it or nothing
-abbrev pub GrowsByStartOf : List ℕ → List ℕ → List ℕ → Type 0
-GrowsByStartOf old new text = (start : List ℕ) × (rest : List ℕ) × (text ≡ start ++ rest) × (new ≡ old ++ start)

@@ -1,7 +1,6 @@
 //! A sink over any of std's writers.
 
 ghost use Rattle.std.specs.Prelude.{◌≡◌, []};
-ghost use Rattle.dft.specs.Sinks.{taken, write_failures, flush_failures};
 
 mod account;
 
@@ -13,38 +12,46 @@ use std::marker::Model;
 
 /// One of std's writers, as a sink.
 ///
-/// Of a file or a terminal no contract says what it holds. So the bytes of this sink are those that
-/// the writer said that it took, since it was put in here.
+/// Its bytes are those that the writer's answers told that it took, since it was put in here. Of a
+/// file or a terminal no contract says what it holds; of a writer that says it, as a `Vec`, they are
+/// what it holds more than before.
 #[derive(Drop)]
-pub struct Counted<W> {
+pub struct Counted<W: Write> {
     writer: W,
     account: Account,
 }
 
-impl<W> Model for Counted<W> {
+impl<W: Write> Model for Counted<W> {
     ghost use Rattle.dft.specs.Sinks.{Calls};
 
     ghost Value = { Calls };
 
-    ghost view = { λ c. record { bytes = c.account.bytes; failures = c.account.failures } };
+    ghost view = { λ c. record { bytes = c.account.bytes; contents = W.contents c.writer; failures = c.account.failures } };
 }
 
-impl<W> Counted<W> {
+impl<W: Write> Counted<W> {
     /// Nothing is taken yet, and no call failed.
     pub fn new(writer: W) -> Counted<W>
-        ensures { result ≡ record { bytes = []; failures = 0 } }
+        ensures { result ≡ record { bytes = []; contents = W.contents writer; failures = 0 } }
     {
         Counted {
             writer,
             account: Account::new(),
         }
     }
+
+    /// The writer, with all that it took.
+    #[cfg(test)]
+    pub fn into_writer(self) -> W
+        ensures { W.contents result ≡ self.contents }
+    {
+        let Counted { writer, account: _ } = self;
+        writer
+    }
 }
 
 impl<W: Write> Sink for Counted<W> {
-    ghost bytes = { λ calls. calls.bytes };
-
-    ghost failures = { λ calls. calls.failures };
+    ghost calls = { λ calls. calls };
 
     fn write(&mut self, buf: &[u8]) -> io::Result<usize> {
         let answer = self.writer.write(buf);

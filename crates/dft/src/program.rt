@@ -1,6 +1,6 @@
 //! The whole program but for the process around it: words in, text and a status out.
 
-ghost use Rattle.std.specs.Prelude.{◌≡◌, ◌≢◌, ◌<◌, ◌≤◌, ◌++◌, ◌↔◌, ◌⊎◌, ℕ, List, map, length, Result, IfOk, OnOk};
+ghost use Rattle.std.specs.Prelude.{◌≡◌, ◌≢◌, ◌<◌, ◌≤◌, ◌↔◌, ◌⊎◌, ℕ, List, map, length, Result, IfOk, OnOk};
 ghost use Rattle.std.specs.Option.{ok_or};
 ghost use Rattle.std.specs.List.{slice_get};
 ghost use Rattle.std.specs.String.{string_bytes};
@@ -9,7 +9,7 @@ ghost use Rattle.dft.specs.Answers.{job_of};
 ghost use Rattle.dft.specs.Faults.{memory_line, seen};
 ghost use Rattle.dft.specs.NumberedFields.{numbered};
 ghost use Rattle.dft.specs.Outcome.{Gives, IsAnswerable, IsOutcome, IsOutcomeIn, IsOutcomeOver, Outcome, asked};
-ghost use Rattle.dft.specs.Sinks.{GrowsByStartOf};
+ghost use Rattle.dft.specs.Sinks.{Took, TookStartOf};
 
 use crate::arguments::{element_of, parse_arguments};
 use crate::fault::{Fault, Stopped};
@@ -32,13 +32,13 @@ pub fn run<W: Sink>(alloc: Global, words: &[String], out: &mut W) -> u8
     // The outcome of the words was written.
     ensures ended { (result ≡ 0) ⊎ (result ≡ 2) → (text : List ℕ)
         × IsOutcome (map string_bytes words.now) (record { status = result; text = text })
-        × (W.bytes out.new ≡ W.bytes out.old ++ text) }
+        × Took (W.calls out.old) (W.calls out.new) text }
     // There is an answer, and no memory for it.
-    ensures memory { result ≡ 3 → IsAnswerable (map string_bytes words.now) × (W.bytes out.new ≡ W.bytes out.old ++ memory_line) }
+    ensures memory { result ≡ 3 → IsAnswerable (map string_bytes words.now) × Took (W.calls out.old) (W.calls out.new) memory_line }
     // Writing stopped in the midst of one of these.
-    ensures stopped { result ≡ 4 → ((o : Outcome) × IsOutcome (map string_bytes words.now) o × GrowsByStartOf (W.bytes out.old) (W.bytes out.new) o.text)
-        ⊎ (IsAnswerable (map string_bytes words.now) × GrowsByStartOf (W.bytes out.old) (W.bytes out.new) memory_line) }
-    ensures failed { (result ≡ 4) ↔ (W.failures out.old < W.failures out.new) }
+    ensures stopped { result ≡ 4 → ((o : Outcome) × IsOutcome (map string_bytes words.now) o × TookStartOf (W.calls out.old) (W.calls out.new) o.text)
+        ⊎ (IsAnswerable (map string_bytes words.now) × TookStartOf (W.calls out.old) (W.calls out.new) memory_line) }
+    ensures failed { (result ≡ 4) ↔ ((W.calls out.old).failures < (W.calls out.new).failures) }
 {
     match answer(alloc, words) {
         Ok(text) => finish(out, text.as_str(), 0),
@@ -50,9 +50,9 @@ pub fn run<W: Sink>(alloc: Global, words: &[String], out: &mut W) -> u8
 /// Writes the line that tells that memory was refused, and answers the status.
 pub fn tell_out_of_memory<W: Sink>(out: &mut W) -> u8
     ensures status { (result ≡ 3) ⊎ (result ≡ 4) }
-    ensures memory { result ≡ 3 → W.bytes out.new ≡ W.bytes out.old ++ memory_line }
-    ensures stopped { result ≡ 4 → GrowsByStartOf (W.bytes out.old) (W.bytes out.new) memory_line }
-    ensures failed { (result ≡ 4) ↔ (W.failures out.old < W.failures out.new) }
+    ensures memory { result ≡ 3 → Took (W.calls out.old) (W.calls out.new) memory_line }
+    ensures stopped { result ≡ 4 → TookStartOf (W.calls out.old) (W.calls out.new) memory_line }
+    ensures failed { (result ≡ 4) ↔ ((W.calls out.old).failures < (W.calls out.new).failures) }
 {
     finish(out, OUT_OF_MEMORY, 3)
 }
@@ -61,9 +61,9 @@ pub fn tell_out_of_memory<W: Sink>(out: &mut W) -> u8
 fn finish<W: Sink>(out: &mut W, text: &str, status: u8) -> u8
     requires { status < 4 }
     ensures status { (result ≡ status) ⊎ (result ≡ 4) }
-    ensures all { result ≢ 4 → W.bytes out.new ≡ W.bytes out.old ++ text.now }
-    ensures start { result ≡ 4 → GrowsByStartOf (W.bytes out.old) (W.bytes out.new) text.now }
-    ensures failed { (result ≡ 4) ↔ (W.failures out.old < W.failures out.new) }
+    ensures all { result ≢ 4 → Took (W.calls out.old) (W.calls out.new) text.now }
+    ensures start { result ≡ 4 → TookStartOf (W.calls out.old) (W.calls out.new) text.now }
+    ensures failed { (result ≡ 4) ↔ ((W.calls out.old).failures < (W.calls out.new).failures) }
 {
     match write_text(out, text.as_bytes()) {
         Ok(()) => status,

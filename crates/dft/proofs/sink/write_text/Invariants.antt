@@ -1,14 +1,14 @@
 use Rattle.std.proofs.Common.{◌≡◌, List, ℕ, ◌++◌, length}
+use Rattle.dft.specs.Sinks.{Took}
 use Rattle.dft.proofs.sink.write_text.Given as goal
 
--- what was written is what stands in the text before the rest
+-- what was taken is what stands in the text before the rest
 abbrev pub invariant-loop-rest : goal.invariant-loop-rest
 invariant-loop-rest g l =
-    let bytes = g.W.Sink.bytes in
-    let failures = g.W.Sink.failures in
+    let calls = g.W.Sink.calls in
     record {
-      written : (start : List ℕ) × (l.text ≡ start ++ l.rest) × (bytes l.out ≡ bytes l.fn.out ++ start);
-      no_failure : failures l.out ≡ failures l.fn.out;
+      taken : (start : List ℕ) × (l.text ≡ start ++ l.rest) × Took (calls l.fn.out) (calls l.out) start;
+      no_failure : (calls l.out).failures ≡ (calls l.fn.out).failures;
     }
 
 abbrev pub decreases-loop-rest : goal.decreases-loop-rest
