@@ -4,5 +4,6 @@ pub mod Took
 pub mod Elements
 pub mod Inverses
 pub mod OneOutcome
+pub mod SomeAnswer
 pub mod ValuedJobs
 pub mod WordNumbers

@@ -1,4 +1,4 @@
--- The words have one outcome.
+-- The words have one outcome: there is one, and no other.
 use Rattle.std.proofs.Common.{◌≡◌, ℕ, ◌/◌, Bool, true, false, not, List, [], ◌∷◌, length, map, drop, Option, Some, None, Result, Ok, Err, refl, sym, ap, ap₂, ◌∙◌, subst}
 use Rattle.std.specs.Prelude.{⊤}
 use Rattle.std.proofs.lemmas.List.{length-map}
@@ -23,10 +23,11 @@ use Rattle.dft.specs.Answers.{IsText, asked_job}
 use Rattle.dft.specs.Arguments.{Arguments, arguments, arguments_of, cannot_undo, faults, is_unfit, number_or_zero}
 use Rattle.dft.specs.Faults.{first_fault, unless_fault}
 use Rattle.dft.specs.NumberedFields.{NumberedField, baby_bear, goldilocks, has_inverse, members}
-use Rattle.dft.specs.Outcome.{FaultOr, IsAnswered, IsOutcome, IsOutcomeIn, Outcome, asked}
+use Rattle.dft.specs.Outcome.{FaultOr, IsAnswered, IsOutcome, IsOutcomeIn, Outcome, asked, told}
 use Rattle.dft.specs.Text.{text_of_rows}
 use Rattle.dft.proofs.Inverses.{has_inverse-from_true}
 use Rattle.dft.proofs.Shapes.{unfit-false}
+use Rattle.dft.proofs.SomeAnswer.{some_answer}
 use Rattle.dft.proofs.ValuedJobs.{can_run}
 
 -- where no fault is the first, none is there
@@ -75,16 +76,40 @@ module _ {A : Type 0} (f : NumberedField A) (are_roots : AreRoots f.ring f.two_a
       ap₂ (λ status text. record { status = status; text = text }) (x.0 ∙ sym y.0) (one_text (asked_job f operation a) o.text p.text (asks_for_one operation words a e) x.1 y.1)
   one_over operation words (Err fault) o p e x y = x ∙ sym y
 
-one_in : (name : FieldName) (operation : Operation) (words : List (List ℕ)) (o p : Outcome) → IsOutcomeIn name operation words o → IsOutcomeIn name operation words p → o ≡ p
-one_in BabyBear operation words o p x y =
-    one_over baby_bear (roots_law baby_bear_ring baby_bear_root 27 (residue-eq _ _ refl) (residue-eq _ _ refl)) residue-eq operation words (arguments baby_bear operation words) o p refl x y
-one_in Goldilocks operation words o p x y =
-    one_over goldilocks (roots_law goldilocks_ring goldilocks_root 32 (residue-eq _ _ refl) (residue-eq _ _ refl)) residue-eq operation words (arguments goldilocks operation words) o p refl x y
+  some_over : (operation : Operation) (words : List (List ℕ)) (r : Result Arguments Fault) → arguments f operation words ≡ r → (o : Outcome) × FaultOr r (IsAnswered f operation) o
+  some_over operation words (Ok a) e =
+      let found = some_answer f are_roots (asked_job f operation a) (asks_for_one operation words a e) in
+      (record { status = 0; text = text_of_rows (map (map f.number) (rows found.answer)) },
+      (refl, record { answer = found.answer; whole = found.whole; answers = found.answers; shown = refl }))
+  some_over operation words (Err fault) e = (told fault, refl)
 
-one_asked : (r : Result Request Fault) (words : List (List ℕ)) (o p : Outcome) → FaultOr r (λ request. IsOutcomeIn request.field request.operation words) o
-    → FaultOr r (λ request. IsOutcomeIn request.field request.operation words) p → o ≡ p
+baby_bear_roots : AreRoots baby_bear.ring 27 baby_bear.generator
+baby_bear_roots = roots_law baby_bear_ring baby_bear_root 27 (residue-eq _ _ refl) (residue-eq _ _ refl)
+
+goldilocks_roots : AreRoots goldilocks.ring 32 goldilocks.generator
+goldilocks_roots = roots_law goldilocks_ring goldilocks_root 32 (residue-eq _ _ refl) (residue-eq _ _ refl)
+
+one_in : (name : FieldName) (operation : Operation) (words : List (List ℕ)) (o p : Outcome) → IsOutcomeIn name operation words o → IsOutcomeIn name operation words p → o ≡ p
+one_in BabyBear operation words o p x y = one_over baby_bear baby_bear_roots residue-eq operation words (arguments baby_bear operation words) o p refl x y
+one_in Goldilocks operation words o p x y = one_over goldilocks goldilocks_roots residue-eq operation words (arguments goldilocks operation words) o p refl x y
+
+some_in : (name : FieldName) (operation : Operation) (words : List (List ℕ)) → (o : Outcome) × IsOutcomeIn name operation words o
+some_in BabyBear operation words = some_over baby_bear baby_bear_roots residue-eq operation words (arguments baby_bear operation words) refl
+some_in Goldilocks operation words = some_over goldilocks goldilocks_roots residue-eq operation words (arguments goldilocks operation words) refl
+
+abbrev IsAskedOutcome : Result Request Fault → List (List ℕ) → Outcome → Type 0
+IsAskedOutcome r words o = FaultOr r (λ request. IsOutcomeIn request.field request.operation words) o
+
+one_asked : (r : Result Request Fault) (words : List (List ℕ)) (o p : Outcome) → IsAskedOutcome r words o → IsAskedOutcome r words p → o ≡ p
 one_asked (Ok request) words o p x y = one_in request.field request.operation words o p x y
 one_asked (Err fault) words o p x y = x ∙ sym y
+
+some_asked : (r : Result Request Fault) (words : List (List ℕ)) → (o : Outcome) × IsAskedOutcome r words o
+some_asked (Ok request) words = some_in request.field request.operation words
+some_asked (Err fault) words = (told fault, refl)
+
+pub some_outcome : (words : List (List ℕ)) → (o : Outcome) × IsOutcome words o
+some_outcome words = some_asked (asked words) (drop 3 words)
 
 pub one_outcome : (words : List (List ℕ)) (o p : Outcome) → IsOutcome words o → IsOutcome words p → o ≡ p
 one_outcome words o p x y = one_asked (asked words) (drop 3 words) o p x y

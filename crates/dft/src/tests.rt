@@ -1,8 +1,16 @@
+ghost use Rattle.std.specs.Prelude.{◌≡◌, ◌++◌, ◌⊎◌, ℕ, List, map};
+ghost use Rattle.std.specs.String.{string_bytes};
+ghost use Rattle.dft.specs.Faults.{memory_line};
+ghost use Rattle.dft.specs.Outcome.{IsOutcome};
+
 use crate::counted::Counted;
 use crate::program::run;
+use crate::words::words_after_name;
 use std::alloc::{AllocError, Global};
+use std::env::FillError;
 use std::io;
 use std::io::{ErrorKind, Write};
+use std::rt::Env;
 use std::test::Fail;
 
 // What a full writer does.
@@ -62,6 +70,45 @@ fn status_of(alloc: Global, words: &[&str], out: &mut Stubborn) -> Result<u8, Al
         owned.push(String::from_str(alloc, *word)?)?;
     }
     Ok(run(alloc, owned.as_slice(), &mut Counted::new(out)))
+}
+
+// Runs the program on a `Vec`, of which contracts say what it holds.
+fn run_into(alloc: Global, words: &[String], held: Vec<u8>) -> (u8, Vec<u8>)
+    ensures ended { (result.0 ≡ 0) ⊎ (result.0 ≡ 2) → (text : List ℕ)
+        × IsOutcome (map string_bytes words.now) (record { status = result.0; text = text })
+        × (result.1.items ≡ held.items ++ text) }
+    ensures memory { result.0 ≡ 3 → result.1.items ≡ held.items ++ memory_line }
+{
+    let mut out = Counted::new(held);
+    let status = run(alloc, words, &mut out);
+    (status, out.into_writer())
+}
+
+// A command line.
+#[derive(Clone, Copy)]
+struct CommandLine<'a> {
+    words: &'a [&'a [u8]],
+}
+
+impl Env for CommandLine<'_> {
+    fn arg(&self, i: usize, buf: &mut [u8]) -> Result<usize, FillError> {
+        let Some(word) = self.words.get(i) else {
+            return Err(FillError::NotPresent);
+        };
+        let Some(room) = buf.get_mut(..word.len()) else {
+            return Err(FillError::TooLong);
+        };
+        room.copy_from_slice(word);
+        Ok(word.len())
+    }
+
+    fn var(&self, _name: &str, _buf: &mut [u8]) -> Result<usize, FillError> {
+        Err(FillError::NotPresent)
+    }
+
+    fn var_at(&self, _i: usize, _buf: &mut [u8]) -> Result<usize, FillError> {
+        Err(FillError::NotPresent)
+    }
 }
 
 const FIRST_WORDS: [&str; 10] = [
@@ -300,5 +347,40 @@ fn writers(rt: HostRuntime) -> Result<(), Fail> {
     unflushed.flush_fails = true;
     assert_eq!(rt; status_of(rt.alloc(), &FIRST_WORDS, &mut unflushed)?, 4);
     assert_eq!(rt; unflushed.held.as_slice(), text);
+    Ok(())
+}
+
+// The program's own name is not read, and what is no UTF-8 is told the fault of its place.
+#[test]
+fn words_of_the_command_line(rt: HostRuntime) -> Result<(), Fail> {
+    let mut long = Vec::new(rt.alloc());
+    long.resize(1000, b'0')?;
+    let words: [&[u8]; 6] = [b"\xff", b"babybear", b"", b"na\xffive", long.as_slice(), b"\xe2\x82"];
+    let read = words_after_name(&CommandLine { words: &words }, rt.alloc())?;
+    assert_eq!(rt; read.len(), 5);
+    assert_eq!(rt; read[0].as_str(), "babybear");
+    assert_eq!(rt; read[1].as_str(), "");
+    assert_eq!(rt; read[2].as_str(), "na\u{FFFD}ive");
+    assert_eq!(rt; read[3].as_bytes(), long.as_slice());
+    assert_eq!(rt; read[4].as_str(), "\u{FFFD}");
+
+    let rows: [(&[&[u8]], &str); 5] = [
+        (&[b"\xff", b"babybear", b"naive", b"dft", b"1", b"7"], "7\n"),
+        (&[b"dft", b"baby\xffbear"], "error 1: unknown field\n"),
+        (&[b"dft", b"babybear", b"\xff"], "error 2: unknown engine\n"),
+        (
+            &[b"dft", b"babybear", b"naive", b"dft\xff"],
+            "error 3: unknown operation\n",
+        ),
+        (
+            &[b"dft", b"babybear", b"naive", b"dft", b"1", b"7\xff"],
+            "error 5: not a number\n",
+        ),
+    ];
+    for (words, text) in rows {
+        let read = words_after_name(&CommandLine { words }, rt.alloc())?;
+        let (_, held) = run_into(rt.alloc(), read.as_slice(), Vec::new(rt.alloc()));
+        assert_eq!(rt; held.as_slice(), text.as_bytes());
+    }
     Ok(())
 }
