@@ -1,6 +1,7 @@
 -- The words have one outcome: there is one, and no other.
 use Rattle.std.proofs.Common.{◌≡◌, ℕ, ◌/◌, Bool, true, false, not, List, [], ◌∷◌, length, map, drop, Option, Some, None, Result, Ok, Err, refl, sym, ap, ap₂, ◌∙◌, subst}
-use Rattle.std.specs.Prelude.{⊤}
+use Rattle.std.specs.Global.{Global}
+use Rattle.std.specs.Prelude.{⊤, String}
 use Rattle.std.proofs.lemmas.List.{length-map}
 use Rattle.p3_field.specs.FieldLaws.{roots_law}
 use Rattle.p3_field.specs.Fields.{baby_bear_ring, baby_bear_root, goldilocks_ring, goldilocks_root}
@@ -15,6 +16,8 @@ use Rattle.p3_dft.specs.Jobs.{CanRun}
 use Rattle.p3_dft.specs.Shapes.{FitsLde}
 use Rattle.p3_dft.proofs.OneAnswer.{one_answer}
 use Rattle.dft.specs.declared.fault.Fault.{Fault}
+use Rattle.dft.specs.declared.fault.Stopped.{Stopped}
+use Rattle.dft.specs.declared.fault.Stopped.TheVariants.{OutOfMemory}
 use Rattle.dft.specs.declared.names.FieldName.{FieldName}
 use Rattle.dft.specs.declared.names.FieldName.TheVariants.{BabyBear, Goldilocks}
 use Rattle.dft.specs.declared.names.Operation.{Operation}
@@ -23,7 +26,7 @@ use Rattle.dft.specs.Answers.{IsText, asked_job}
 use Rattle.dft.specs.Arguments.{Arguments, arguments, arguments_of, cannot_undo, faults, is_unfit, number_or_zero}
 use Rattle.dft.specs.Faults.{first_fault, unless_fault}
 use Rattle.dft.specs.NumberedFields.{NumberedField, baby_bear, goldilocks, has_inverse, members}
-use Rattle.dft.specs.Outcome.{FaultOr, IsAnswered, IsOutcome, IsOutcomeIn, Outcome, asked, told}
+use Rattle.dft.specs.Outcome.{FaultOr, Gives, IsAnswerable, IsAnswered, IsOutcome, IsOutcomeIn, Outcome, asked, told}
 use Rattle.dft.specs.Text.{text_of_rows}
 use Rattle.dft.proofs.Inverses.{has_inverse-from_true}
 use Rattle.dft.proofs.Shapes.{unfit-false}
@@ -78,9 +81,10 @@ module _ {A : Type 0} (f : NumberedField A) (are_roots : AreRoots f.ring f.two_a
 
   some_over : (operation : Operation) (words : List (List ℕ)) (r : Result Arguments Fault) → arguments f operation words ≡ r → (o : Outcome) × FaultOr r (IsAnswered f operation) o
   some_over operation words (Ok a) e =
-      let found = some_answer f are_roots (asked_job f operation a) (asks_for_one operation words a e) in
-      (record { status = 0; text = text_of_rows (map (map f.number) (rows found.answer)) },
-      (refl, record { answer = found.answer; whole = found.whole; answers = found.answers; shown = refl }))
+      let found = some_answer f are_roots (asked_job f operation a) (asks_for_one operation words a e) in (
+        record { status = 0; text = text_of_rows (map (map f.number) (rows found.answer)) },
+        (refl, record { answer = found.answer; whole = found.whole; answers = found.answers; shown = refl }),
+      )
   some_over operation words (Err fault) e = (told fault, refl)
 
 baby_bear_roots : AreRoots baby_bear.ring 27 baby_bear.generator
@@ -108,8 +112,17 @@ some_asked : (r : Result Request Fault) (words : List (List ℕ)) → (o : Outco
 some_asked (Ok request) words = some_in request.field request.operation words
 some_asked (Err fault) words = (told fault, refl)
 
-pub some_outcome : (words : List (List ℕ)) → (o : Outcome) × IsOutcome words o
-some_outcome words = some_asked (asked words) (drop 3 words)
+-- there is an outcome, and each other is that one
+pub one_outcome : (words : List (List ℕ)) → (o : Outcome) × IsOutcome words o × ((p : Outcome) → IsOutcome words p → p ≡ o)
+one_outcome words =
+    let found = some_asked (asked words) (drop 3 words) in
+    (found.0, found.1, λ p is. one_asked (asked words) (drop 3 words) p found.0 is found.1)
 
-pub one_outcome : (words : List (List ℕ)) (o p : Outcome) → IsOutcome words o → IsOutcome words p → o ≡ p
-one_outcome words o p x y = one_asked (asked words) (drop 3 words) o p x y
+-- so where each outcome of the words has status 0, there is an answer
+answerable : (words : List (List ℕ)) → ((o : Outcome) → IsOutcome words o → o.status ≡ 0) → IsAnswerable words
+answerable words all = let one = one_outcome words in (one.0, one.1, one.2, all one.0 one.1)
+
+-- and where memory ran out
+pub answerable_without_memory : (words : List (List ℕ)) (s : Stopped) (r : Result (String Global) Stopped) → r ≡ Err s → s ≡ OutOfMemory → Gives r (IsOutcome words) → IsAnswerable words
+answerable_without_memory words s r stopped is gives =
+    answerable words (subst (λ (given : Result (String Global) Stopped). Gives given (IsOutcome words)) (stopped ∙ ap Err is) gives)

@@ -64,9 +64,14 @@ module _ {A : Type 0} (f : NumberedField A) (are_roots : AreRoots f.ring f.two_a
 
   some_transform : (m : RowMajor A) (s : A) → FitsDft f.two_adicity (height m) m.width → (out : RowMajor A) × (IsRowMajor out × IsTransform (members f) f.generator m s out)
   some_transform m s fits =
-      let all : Matrix A = values_on_coset f.ring f.generator (values m) fits.log s in
-      (stored all, (stored_whole all fits.wide, λ k e.
-      subst (λ (n : ℕ). IsValues f.ring f.generator (values m) n s (values (stored all))) (log_same fits.log k (sym fits.high ∙ e)) (has_values (values m) fits.log s fits.wide)))
+      let all : Matrix A = values_on_coset f.ring f.generator (values m) fits.log s in (
+        stored all,
+        (
+          stored_whole all fits.wide,
+          λ k e.
+              subst (λ (n : ℕ). IsValues f.ring f.generator (values m) n s (values (stored all))) (log_same fits.log k (sym fits.high ∙ e)) (has_values (values m) fits.log s fits.wide),
+        ),
+      )
 
   some_interpolation : (m : RowMajor A) (s t : A) → FitsDft f.two_adicity (height m) m.width → IsInverse f.ring s t
       → (out : RowMajor A) × (IsRowMajor out × IsInterpolation (members f) f.generator m s out)
@@ -77,12 +82,17 @@ module _ {A : Type 0} (f : NumberedField A) (are_roots : AreRoots f.ring f.two_a
       let stored_are : AreCoefficients f.ring f.generator (values m) fits.log s (values (stored c)) =
       same_coefficients f.ring are_roots (values m) fits.log s c (values (stored c)) (same_sym (values (stored c)) c (stored_same f.ring.zero c wide)) are in
       let holds : (k : ℕ) → height m ≡ 2 ^ k → AreCoefficients f.ring f.generator (values m) k s (values (stored c)) =
-      λ k e. subst (λ (n : ℕ). AreCoefficients f.ring f.generator (values m) n s (values (stored c))) (log_same fits.log k (sym fits.high ∙ e)) stored_are in
-      (stored c, (stored_whole c wide, record {
-        holds = holds;
-        only = λ k e d other.
-            there_is_no_other f.ring are_roots (values m) k s (omega (arith, log_same fits.log k (sym fits.high ∙ e), fits.within)) (t, inverse) d (values (stored c)) other (holds k e);
-      }))
+      λ k e. subst (λ (n : ℕ). AreCoefficients f.ring f.generator (values m) n s (values (stored c))) (log_same fits.log k (sym fits.high ∙ e)) stored_are in (
+        stored c,
+        (
+          stored_whole c wide,
+          record {
+            holds = holds;
+            only = λ k e d other.
+                there_is_no_other f.ring are_roots (values m) k s (omega (arith, log_same fits.log k (sym fits.high ∙ e), fits.within)) (t, inverse) d (values (stored c)) other (holds k e);
+          },
+        ),
+      )
 
   some_extension : (m : RowMajor A) (a : ℕ) (s : A) → FitsLde f.two_adicity (height m) m.width a
       → (out : RowMajor A) × (IsRowMajor out × IsExtension (members f) f.generator m a s out)
@@ -92,13 +102,18 @@ module _ {A : Type 0} (f : NumberedField A) (are_roots : AreRoots f.ring f.two_a
       let are : AreCoefficients f.ring f.generator (values m) fits.log one c =
       there_is_one f.ring are_roots (values m) fits.log one one (omega (arith, fits.within)) fits.high (f.ring.mul_one one) in
       let wide : 1 ≤ c.width = omega (arith, are.wide, fits.wide) in
-      let all : Matrix A = values_on_coset f.ring f.generator c (fits.log + a) s in
-      (stored all, (stored_whole all wide, record {
-        coefficients = c;
-        are_coefficients = λ k e. subst (λ (n : ℕ). AreCoefficients f.ring f.generator (values m) n one c) (log_same fits.log k (sym fits.high ∙ e)) are;
-        extended = λ k e.
-            subst (λ (n : ℕ). IsValues f.ring f.generator c (n + a) s (values (stored all))) (log_same fits.log k (sym fits.high ∙ e)) (has_values c (fits.log + a) s wide);
-      }))
+      let all : Matrix A = values_on_coset f.ring f.generator c (fits.log + a) s in (
+        stored all,
+        (
+          stored_whole all wide,
+          record {
+            coefficients = c;
+            are_coefficients = λ k e. subst (λ (n : ℕ). AreCoefficients f.ring f.generator (values m) n one c) (log_same fits.log k (sym fits.high ∙ e)) are;
+            extended = λ k e.
+                subst (λ (n : ℕ). IsValues f.ring f.generator c (n + a) s (values (stored all))) (log_same fits.log k (sym fits.high ∙ e)) (has_values c (fits.log + a) s wide);
+          },
+        ),
+      )
 
   answered : (job : Job A) → (out : RowMajor A) × (IsRowMajor out × IsAnswer (members f) f.generator job out) → Answered job
   answered job found = record { answer = found.0; whole = found.1.0; answers = found.1.1 }

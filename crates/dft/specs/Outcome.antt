@@ -60,9 +60,9 @@ IsOutcomeIn Goldilocks operation words o = IsOutcomeOver goldilocks operation wo
 abbrev pub IsOutcome : List (List ℕ) → Outcome → Type 0
 IsOutcome words o = FaultOr (asked words) (λ request. IsOutcomeIn request.field request.operation (drop 3 words)) o
 
--- the words have an answer, and no fault
+-- the words have an answer and no fault: there is one outcome, and its status is 0
 abbrev pub IsAnswerable : List (List ℕ) → Type 0
-IsAnswerable words = (o : Outcome) → IsOutcome words o → o.status ≡ 0
+IsAnswerable words = (o : Outcome) × IsOutcome words o × ((p : Outcome) → IsOutcome words p → p ≡ o) × (o.status ≡ 0)
 
 -- What a function returned is an outcome; where memory ran out, each outcome has an answer.
 abbrev pub Gives : Result (String Global) Stopped → (Outcome → Type 0) → Type 0

@@ -355,7 +355,14 @@ fn writers(rt: HostRuntime) -> Result<(), Fail> {
 fn words_of_the_command_line(rt: HostRuntime) -> Result<(), Fail> {
     let mut long = Vec::new(rt.alloc());
     long.resize(1000, b'0')?;
-    let words: [&[u8]; 6] = [b"\xff", b"babybear", b"", b"na\xffive", long.as_slice(), b"\xe2\x82"];
+    let words: [&[u8]; 6] = [
+        b"\xff",
+        b"babybear",
+        b"",
+        b"na\xffive",
+        long.as_slice(),
+        b"\xe2\x82",
+    ];
     let read = words_after_name(&CommandLine { words: &words }, rt.alloc())?;
     assert_eq!(rt; read.len(), 5);
     assert_eq!(rt; read[0].as_str(), "babybear");
