@@ -15,13 +15,14 @@ on_any_error (Ok x) p = tt
 on_any_error (Err e) p = p
 
 -- promises that stay are promises of jobs that stay
-pub promised_later : {F : Type 0} (before now : ℕ → Type 0) → ((k : ℕ) → before k → now k) → (job : Job F) → IsPromised before job → IsPromised now job
-promised_later before now keeps (Dft m) (k, high, promised) = (k, high, keeps k promised)
-promised_later before now keeps (CosetDft m s) (k, high, promised) = (k, high, keeps k promised)
-promised_later before now keeps (Idft m) (k, high, promised) = (k, high, keeps k promised)
-promised_later before now keeps (CosetIdft m s) (k, high, promised) = (k, high, keeps k promised)
-promised_later before now keeps (Lde m a) none = none
-promised_later before now keeps (CosetLde m a s) none = none
+pub promised_later : {F : Type 0} (before now coset_before coset_now : ℕ → Type 0) → ((k : ℕ) → before k → now k) → ((k : ℕ) → coset_before k → coset_now k)
+    → (job : Job F) → IsPromised before coset_before job → IsPromised now coset_now job
+promised_later before now coset_before coset_now keeps keeps_cosets (Dft m) (k, high, promised) = (k, high, keeps k promised)
+promised_later before now coset_before coset_now keeps keeps_cosets (CosetDft m s) (k, high, promised) = (k, high, keeps_cosets k promised)
+promised_later before now coset_before coset_now keeps keeps_cosets (Idft m) (k, high, promised) = (k, high, keeps k promised)
+promised_later before now coset_before coset_now keeps keeps_cosets (CosetIdft m s) (k, high, promised) = (k, high, keeps k promised)
+promised_later before now coset_before coset_now keeps keeps_cosets (Lde m a) none = none
+promised_later before now coset_before coset_now keeps keeps_cosets (CosetLde m a s) none = none
 
 module _ {F : Type 0} (f : FieldMembers F) (generator : ℕ → F) where
   -- the answers to the jobs before one that stands unanswered
@@ -37,13 +38,14 @@ module _ {F : Type 0} (f : FieldMembers F) (generator : ℕ → F) where
       }
 
   -- where the next job was refused, it was not promised, nor was it before
-  pub next_not_promised : (jobs done left later : List (Job F)) (job : Job F) (answers : List (RowMajor F)) (before now : ℕ → Type 0) → jobs ≡ done ++ left → left ≡ job ∷ later
-      → AllZip (IsAnswer f generator) done answers → ((k : ℕ) → before k → now k) → (IsPromised now job → ⊥) → NextIsNotPromised before jobs answers
-  next_not_promised jobs done left later job answers before now split next answered keeps refused d promised =
+  pub next_not_promised : (jobs done left later : List (Job F)) (job : Job F) (answers : List (RowMajor F)) (before now coset_before coset_now : ℕ → Type 0) → jobs ≡ done ++ left → left ≡ job ∷ later
+      → AllZip (IsAnswer f generator) done answers → ((k : ℕ) → before k → now k) → ((k : ℕ) → coset_before k → coset_now k)
+      → (IsPromised now coset_now job → ⊥) → NextIsNotPromised before coset_before jobs answers
+  next_not_promised jobs done left later job answers before now coset_before coset_now split next answered keeps keeps_cosets refused d promised =
       let counted : length answers ≡ length done = AllZip-long (IsAnswer f generator) done answers answered in
       let is : get_or jobs (length answers) d ≡ job =
       ap (λ xs. get_or xs (length answers) d) (split ∙ ap (λ rest. done ++ rest) next) ∙ ap (λ n. get_or (done ++ job ∷ later) n d) counted ∙ get_or-append_seam done job later d in
-      refused (promised_later before now keeps job (subst (λ (x : Job F). IsPromised before x) is promised))
+      refused (promised_later before now coset_before coset_now keeps keeps_cosets job (subst (λ (x : Job F). IsPromised before coset_before x) is promised))
 
 -- one more element was taken
 pub split_more : {X : Type 0} (all done left later : List X) (x : X) → all ≡ done ++ left → left ≡ x ∷ later → all ≡ (done ++ x ∷ []) ++ later

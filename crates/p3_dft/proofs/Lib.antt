@@ -2,6 +2,7 @@ pub mod Blocks
 pub mod CellLayers
 pub mod Cosets
 pub mod Distance
+pub mod EngineSteps
 pub mod ExtendedTransforms
 pub mod Extensions
 pub mod Halves

@@ -1,4 +1,5 @@
 pub mod Cosets
+pub mod Engines
 pub mod Extensions
 pub mod Jobs
 pub mod Polynomials

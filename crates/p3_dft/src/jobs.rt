@@ -2,6 +2,7 @@
 
 ghost use Rattle.std.specs.Prelude.{◌≡◌, ℕ, ◌≤◌, ◌⊎◌, [], IfOk, IfErr, IsOk, OnOk, OnErr};
 ghost use Rattle.std.specs.List.{All, AllZip};
+ghost use Rattle.p3_dft.specs.Engines.{IsLater};
 ghost use Rattle.p3_dft.specs.Jobs.{AreFirstAnswers, CanRun, IsAnswer, IsPromised, NextIsNotPromised};
 
 use crate::traits::TwoAdicSubgroupDft;
@@ -28,18 +29,18 @@ pub enum Job<F> {
 /// Jobs that stopped before the last was answered.
 #[derive(Debug, Drop)]
 pub struct JobsStopped<F> {
-    /// The answers made before, in the order of their jobs.
+    /// Answers of the first jobs, in the order of the jobs.
     pub answers: Vec<RowMajorMatrix<F>>,
     /// Why there are no more.
     pub error: DftError,
 }
 
 /// Answers the jobs, each with rows in natural order, in the order of the jobs. Where memory is
-/// refused, the answers made before stay and the other jobs are dropped.
+/// refused, answers of the first jobs come back with the error and the other jobs are dropped.
 ///
-/// Memory for the list of answers is taken first: where that is refused the engine is as before, and
-/// else no answer is lost for want of it, so that the first job without an answer is one that the
-/// engine was not promised to answer.
+/// Memory for the list of answers is taken first. Where that is refused there are no answers and the
+/// engine is as before; else the first job without an answer is one that the engine was not promised
+/// to answer.
 pub fn run_jobs<F: TwoAdicField, D: TwoAdicSubgroupDft<F>>(
     engine: &mut D,
     jobs: Vec<Job<F>>,
@@ -48,9 +49,8 @@ pub fn run_jobs<F: TwoAdicField, D: TwoAdicSubgroupDft<F>>(
     ensures all { IfOk result (λ answers. AllZip (IsAnswer F.Field.own F.generator) jobs.items answers.items) }
     ensures first { IfErr result (λ stopped. AreFirstAnswers F.Field.own F.generator jobs.items stopped.answers.items) }
     ensures refused { IfErr result (λ stopped. ((engine.new ≡ engine.old) × (stopped.answers.items ≡ []))
-        ⊎ NextIsNotPromised (D.promised engine.old) jobs.items stopped.answers.items) }
-    ensures keeps { (k : ℕ) → D.promised engine.old k → D.promised engine.new k }
-    ensures grows { D.made engine.old ≤ D.made engine.new }
+        ⊎ NextIsNotPromised (D.promised engine.old) (D.coset_promised engine.old) jobs.items stopped.answers.items) }
+    ensures later { IsLater D.promised D.coset_promised D.served D.made engine.old engine.new }
 {
     let mut answers = Vec::new(*jobs.allocator());
     match answer_jobs(engine, jobs, &mut answers) {
@@ -70,9 +70,8 @@ fn answer_jobs<F: TwoAdicField, D: TwoAdicSubgroupDft<F>>(
     ensures all { OnOk result (AllZip (IsAnswer F.Field.own F.generator) jobs.items answers.new.items) }
     ensures first { OnErr result (AreFirstAnswers F.Field.own F.generator jobs.items answers.new.items) }
     ensures refused { OnErr result (((engine.new ≡ engine.old) × (answers.new.items ≡ []))
-        ⊎ NextIsNotPromised (D.promised engine.old) jobs.items answers.new.items) }
-    ensures keeps { (k : ℕ) → D.promised engine.old k → D.promised engine.new k }
-    ensures grows { D.made engine.old ≤ D.made engine.new }
+        ⊎ NextIsNotPromised (D.promised engine.old) (D.coset_promised engine.old) jobs.items answers.new.items) }
+    ensures later { IsLater D.promised D.coset_promised D.served D.made engine.old engine.new }
 {
     answers.reserve_exact(jobs.len())?;
     for job in jobs {
@@ -89,9 +88,8 @@ fn run_job<F: TwoAdicField, D: TwoAdicSubgroupDft<F>>(
 ) -> Result<RowMajorMatrix<F>, DftError>
     requires { CanRun F.Field.own F.TWO_ADICITY job }
     ensures answer { IfOk result (IsAnswer F.Field.own F.generator job) }
-    ensures succeeds { IsPromised (D.promised engine.old) job → IsOk result }
-    ensures keeps { (k : ℕ) → D.promised engine.old k → D.promised engine.new k }
-    ensures grows { D.made engine.old ≤ D.made engine.new }
+    ensures succeeds { IsPromised (D.promised engine.old) (D.coset_promised engine.old) job → IsOk result }
+    ensures later { IsLater D.promised D.coset_promised D.served D.made engine.old engine.new }
 {
     let values = match job {
         Job::Idft(mat) => return engine.idft_batch(mat),

@@ -54,7 +54,8 @@ impl Clone for NaiveDft {
 }
 
 impl<F: TwoAdicField> TwoAdicSubgroupDft<F> for NaiveDft {
-    ghost use Rattle.std.specs.Prelude.{◌≡◌, ℕ, ◌+◌, ◌*◌, ◌^◌, ◌≤◌, IfOk, OnOk};
+    ghost use Rattle.std.specs.Prelude.{◌≡◌, ⊤, ℕ, ◌+◌, ◌*◌, ◌^◌, ◌≤◌, IfOk, OnOk};
+    ghost use Rattle.p3_dft.specs.Engines.{IsLater};
     ghost use Rattle.p3_matrix.specs.RowMajor.{height};
     ghost use Rattle.p3_dft.specs.Shapes.{FitsDft};
     ghost use Rattle.p3_dft.specs.Transforms.{IsTransform};
@@ -68,16 +69,26 @@ impl<F: TwoAdicField> TwoAdicSubgroupDft<F> for NaiveDft {
 
     ghost promised = { λ _ _. ⊥ };
 
+    ghost coset_promised = { λ _ _. ⊥ };
+
+    ghost served = { λ _ _. ⊤ };
+
     ghost bound = { λ k w. 2 ^ k * 2 ^ k * w };
 
     ghost made = { λ e. e };
+
+    ghost coset_promised_law = { λ e k none. none };
+
+    ghost default_law = { λ e none. none };
+
+    ghost clone_law = { λ e copy none. none };
 
     /// As the trait says, and each pair of rows costs one product a column, also where the factor
     /// is one.
     fn dft_batch<N: IntoRowMajorMatrix<F>>(&mut self, mat: N) -> Result<RowMajorMatrix<F>, DftError>
         requires { FitsDft F.TWO_ADICITY (height (N.stored mat)) (N.stored mat).width }
         ensures values { IfOk result (λ out. IsTransform F.Field.own F.generator (N.stored mat) F.ring.one out) }
-        ensures grows { self.old ≤ self.new }
+        ensures later { IsLater (λ _ _. ⊥) (λ _ _. ⊥) (λ _ _. ⊤) (λ e. e) self.old self.new }
         ensures exact { OnOk result (self.new ≡ self.old + height (N.stored mat) * height (N.stored mat) * (N.stored mat).width) }
     {
         let mat = mat.into_row_major_matrix();
@@ -100,6 +111,19 @@ impl<F: TwoAdicField> TwoAdicSubgroupDft<F> for NaiveDft {
 
     fn add_products(&mut self, products: Products) {
         self.products.add(products);
+    }
+
+    fn coset_lde_batch_with_transform<
+        N: IntoRowMajorMatrix<F>,
+        T: FnOnce(RowMajorMatrix<F>, Layout) -> RowMajorMatrix<F> + Drop,
+    >(
+        &mut self,
+        mat: N,
+        added_bits: usize,
+        shift: F,
+        transform: T,
+    ) -> Result<RowMajorMatrix<F>, DftError> {
+        self.coset_lde_batch_by_parts(mat, added_bits, shift, transform)
     }
 }
 

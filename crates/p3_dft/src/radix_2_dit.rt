@@ -97,7 +97,8 @@ impl<F: TwoAdicField> Radix2Dit<F> {
 impl<F: TwoAdicField> TwoAdicSubgroupDft<F> for Radix2Dit<F> {
     ghost use Rattle.std.specs.Prelude.{◌≡◌, ℕ, ◌+◌, ◌*◌, ◌/◌, ◌-◌, ◌^◌, ◌≤◌, IfOk, IsOk, OnOk, Ok};
     ghost use Rattle.p3_matrix.specs.RowMajor.{RowMajor, height};
-    ghost use Rattle.p3_dft.specs.Extensions.{IsTransformedExtension, extension_bound};
+    ghost use Rattle.p3_dft.specs.Engines.{AtLog, IsLater};
+    ghost use Rattle.p3_dft.specs.Extensions.{IsTransformedExtension};
     ghost use Rattle.p3_dft.specs.Shapes.{FitsDft, FitsLde, HasShapeOf};
     ghost use Rattle.p3_dft.specs.Transforms.{IsTransform};
     ghost use Rattle.p3_dft.specs.Twiddles.{IsPrepared};
@@ -111,22 +112,33 @@ impl<F: TwoAdicField> TwoAdicSubgroupDft<F> for Radix2Dit<F> {
 
     ghost promised = { IsPrepared };
 
+    ghost coset_promised = { IsPrepared };
+
+    ghost served = { IsPrepared };
+
     ghost bound = { λ k w. w * (k * 2 ^ k / 2) };
 
+    ghost extension = { λ bound k a w. bound k w + bound (k + a) w + 2 * (2 ^ k * w) };
+
     ghost made = { λ e. e.products };
+
+    ghost coset_promised_law = { λ e k prepared. prepared };
+
+    ghost default_law = { λ e new. new.1 };
+
+    ghost clone_law = { λ e copy new. new.1 };
 
     /// As the trait says. `Ok` makes the height prepared for good. A matrix of height one is its own
     /// transform: it is handed back, with no product and no memory taken.
     fn dft_batch<N: IntoRowMajorMatrix<F>>(&mut self, mat: N) -> Result<RowMajorMatrix<F>, DftError>
         requires { FitsDft F.TWO_ADICITY (height (N.stored mat)) (N.stored mat).width }
         ensures values { IfOk result (λ out. IsTransform F.Field.own F.generator (N.stored mat) F.ring.one out) }
-        ensures succeeds { (k : ℕ) → height (N.stored mat) ≡ 2 ^ k → IsPrepared self.old k → IsOk result }
+        ensures succeeds { AtLog (height (N.stored mat)) (λ k. IsPrepared self.old k → IsOk result) }
+        ensures serves { AtLog (height (N.stored mat)) (λ k. OnOk result (IsPrepared self.new k)) }
         ensures one_row { height (N.stored mat) ≡ 1 → (result ≡ Ok (N.stored mat)) × (self.new ≡ self.old) }
-        ensures prepares { (k : ℕ) → height (N.stored mat) ≡ 2 ^ k → OnOk result (IsPrepared self.new k) }
-        ensures keeps { (k : ℕ) → IsPrepared self.old k → IsPrepared self.new k }
-        ensures grows { self.old.products ≤ self.new.products }
-        ensures cost { (k : ℕ) → height (N.stored mat) ≡ 2 ^ k
-            → OnOk result (self.new.products ≤ self.old.products + (N.stored mat).width * (k * 2 ^ k / 2)) }
+        ensures later { IsLater IsPrepared IsPrepared IsPrepared (λ e. e.products) self.old self.new }
+        ensures cost { AtLog (height (N.stored mat))
+            (λ k. OnOk result (self.new.products ≤ self.old.products + (N.stored mat).width * (k * 2 ^ k / 2))) }
     {
         let mat = mat.into_row_major_matrix();
         let height = mat.height();
@@ -164,13 +176,11 @@ impl<F: TwoAdicField> TwoAdicSubgroupDft<F> for Radix2Dit<F> {
         requires shape { (m n : RowMajor F) → HasShapeOf m (N.stored mat) → T.post transform m Natural n → HasShapeOf n (N.stored mat) }
         ensures values { IfOk result (λ out. IsTransformedExtension F.Field.own F.generator (λ m n. T.post transform m Natural n) Natural
             (N.stored mat) added_bits (F.value shift) out) }
-        ensures keeps { (k : ℕ) → IsPrepared self.old k → IsPrepared self.new k }
-        ensures grows { self.old.products ≤ self.new.products }
-        ensures cost { (k : ℕ) → height (N.stored mat) ≡ 2 ^ k
-            → OnOk result (self.new.products ≤ self.old.products + extension_bound (λ k w. w * (k * 2 ^ k / 2)) k added_bits (N.stored mat).width) }
-        ensures fewer { (k : ℕ) → height (N.stored mat) ≡ 2 ^ k → OnOk result (self.new.products ≤ self.old.products
-            + (N.stored mat).width * (k * 2 ^ k / 2) + (N.stored mat).width * ((k + added_bits) * 2 ^ (k + added_bits) / 2)
-            + 2 * (2 ^ k * (N.stored mat).width)) }
+        ensures serves { AtLog (height (N.stored mat)) (λ k. OnOk result (IsPrepared self.new k × IsPrepared self.new (k + added_bits))) }
+        ensures later { IsLater IsPrepared IsPrepared IsPrepared (λ e. e.products) self.old self.new }
+        ensures cost { AtLog (height (N.stored mat)) (λ k. OnOk result (self.new.products ≤ self.old.products
+            + ((N.stored mat).width * (k * 2 ^ k / 2) + (N.stored mat).width * ((k + added_bits) * 2 ^ (k + added_bits) / 2)
+            + 2 * (2 ^ k * (N.stored mat).width)))) }
     {
         let coefficients = self.idft_batch(mat)?;
         let changed = transform(coefficients, Layout::Natural);

@@ -1,7 +1,8 @@
 //! The trait of the engines.
 
-ghost use Rattle.std.specs.Prelude.{◌≡◌, ◌↔◌, ℕ, ◌+◌, ◌*◌, ◌^◌, ◌≤◌, IfOk, OnOk, IsOk, vec_len};
+ghost use Rattle.std.specs.Prelude.{◌≡◌, ℕ, ◌+◌, ◌*◌, ◌^◌, ◌≤◌, IfOk, OnOk, IsOk, vec_len};
 ghost use Rattle.p3_matrix.specs.RowMajor.{RowMajor, height};
+ghost use Rattle.p3_dft.specs.Engines.{AtLog, IsLater, SameNumbers, one_column};
 ghost use Rattle.p3_dft.specs.Extensions.{IsExtension, IsTransformedExtension, extension_bound, laid};
 ghost use Rattle.p3_dft.specs.Shapes.{FitsDft, FitsLde, HasShapeOf};
 ghost use Rattle.p3_matrix.specs.Matrix.{Same, matrix};
@@ -45,8 +46,19 @@ pub trait TwoAdicSubgroupDft<F: TwoAdicField>: Clone + Default {
     // The logarithms of the heights at which `dft_batch` is promised to succeed.
     ghost promised: { Self → ℕ → Type 0 };
 
+    // Those at which `coset_dft_batch` is, for every shift.
+    ghost coset_promised: { Self → ℕ → Type 0 };
+
+    // What is known of an engine, from then on, at the logarithm of a height that it transformed.
+    ghost served: { Self → ℕ → Type 0 };
+
     // How many products `dft_batch` makes at most, by the logarithm of the height and by the width.
     ghost bound: { ℕ → ℕ → ℕ };
+
+    // How many products an extension makes at most, by the bound of `dft_batch`, the logarithm of the
+    // height, the added bits and the width: those of `coset_lde_batch_by_parts`, unless an engine
+    // says less.
+    ghost extension: { (ℕ → ℕ → ℕ) → ℕ → ℕ → ℕ → ℕ } = { extension_bound };
 
     // How many products the engine has made.
     ghost made: { Self → ℕ };
@@ -55,16 +67,17 @@ pub trait TwoAdicSubgroupDft<F: TwoAdicField>: Clone + Default {
     fn dft_batch<N: IntoRowMajorMatrix<F>>(&mut self, mat: N) -> Result<Self::Evaluations, DftError>
         requires { FitsDft F.TWO_ADICITY (height (N.stored mat)) (N.stored mat).width }
         ensures values { IfOk result (λ out. IsTransform F.Field.own F.generator (N.stored mat) F.ring.one (Self.Evaluations.natural out)) }
-        ensures succeeds { (k : ℕ) → height (N.stored mat) ≡ 2 ^ k → promised self.old k → IsOk result }
-        ensures keeps { (k : ℕ) → promised self.old k → promised self.new k }
-        ensures grows { made self.old ≤ made self.new }
-        ensures cost { (k : ℕ) → height (N.stored mat) ≡ 2 ^ k
-            → OnOk result (made self.new ≤ made self.old + bound k (N.stored mat).width) };
+        ensures succeeds { AtLog (height (N.stored mat)) (λ k. promised self.old k → IsOk result) }
+        ensures serves { AtLog (height (N.stored mat)) (λ k. OnOk result (served self.new k)) }
+        ensures later { IsLater promised coset_promised served made self.old self.new }
+        ensures cost { AtLog (height (N.stored mat)) (λ k. OnOk result (made self.new ≤ made self.old + bound k (N.stored mat).width)) };
 
     /// Adds to the engine's counter what was counted elsewhere, and changes nothing else.
     fn add_products(&mut self, products: Products)
         ensures made { made self.new ≡ made self.old + products }
-        ensures keeps { (k : ℕ) → promised self.old k ↔ promised self.new k };
+        ensures promised { SameNumbers (promised self.old) (promised self.new) }
+        ensures coset_promised { SameNumbers (coset_promised self.old) (coset_promised self.new) }
+        ensures served { SameNumbers (served self.old) (served self.new) };
 
     /// The values on `shift * H` of the polynomials whose coefficients are the columns. The shift may
     /// be zero.
@@ -75,11 +88,11 @@ pub trait TwoAdicSubgroupDft<F: TwoAdicField>: Clone + Default {
     ) -> Result<Self::Evaluations, DftError>
         requires { FitsDft F.TWO_ADICITY (height (N.stored mat)) (N.stored mat).width }
         ensures values { IfOk result (λ out. IsTransform F.Field.own F.generator (N.stored mat) (F.value shift) (Self.Evaluations.natural out)) }
-        ensures succeeds { (k : ℕ) → height (N.stored mat) ≡ 2 ^ k → promised self.old k → IsOk result }
-        ensures keeps { (k : ℕ) → promised self.old k → promised self.new k }
-        ensures grows { made self.old ≤ made self.new }
-        ensures cost { (k : ℕ) → height (N.stored mat) ≡ 2 ^ k
-            → OnOk result (made self.new ≤ made self.old + bound k (N.stored mat).width + 2 ^ k * (N.stored mat).width) }
+        ensures succeeds { AtLog (height (N.stored mat)) (λ k. coset_promised self.old k → IsOk result) }
+        ensures serves { AtLog (height (N.stored mat)) (λ k. OnOk result (served self.new k)) }
+        ensures later { IsLater promised coset_promised served made self.old self.new }
+        ensures cost { AtLog (height (N.stored mat))
+            (λ k. OnOk result (made self.new ≤ made self.old + bound k (N.stored mat).width + 2 ^ k * (N.stored mat).width)) }
     {
         let mut products = Products::new();
         let mat = shift_rows(mat.into_row_major_matrix(), shift, &mut products);
@@ -95,11 +108,11 @@ pub trait TwoAdicSubgroupDft<F: TwoAdicField>: Clone + Default {
     ) -> Result<RowMajorMatrix<F>, DftError>
         requires { FitsDft F.TWO_ADICITY (height (N.stored mat)) (N.stored mat).width }
         ensures coefficients { IfOk result (λ out. IsInterpolation F.Field.own F.generator (N.stored mat) F.ring.one out) }
-        ensures succeeds { (k : ℕ) → height (N.stored mat) ≡ 2 ^ k → promised self.old k → IsOk result }
-        ensures keeps { (k : ℕ) → promised self.old k → promised self.new k }
-        ensures grows { made self.old ≤ made self.new }
-        ensures cost { (k : ℕ) → height (N.stored mat) ≡ 2 ^ k
-            → OnOk result (made self.new ≤ made self.old + bound k (N.stored mat).width + 2 ^ k * (N.stored mat).width) }
+        ensures succeeds { AtLog (height (N.stored mat)) (λ k. promised self.old k → IsOk result) }
+        ensures serves { AtLog (height (N.stored mat)) (λ k. OnOk result (served self.new k)) }
+        ensures later { IsLater promised coset_promised served made self.old self.new }
+        ensures cost { AtLog (height (N.stored mat))
+            (λ k. OnOk result (made self.new ≤ made self.old + bound k (N.stored mat).width + 2 ^ k * (N.stored mat).width)) }
     {
         let values = self.dft_batch(mat)?.to_row_major_matrix();
         let mut products = Products::new();
@@ -118,11 +131,11 @@ pub trait TwoAdicSubgroupDft<F: TwoAdicField>: Clone + Default {
         requires fits { FitsDft F.TWO_ADICITY (height (N.stored mat)) (N.stored mat).width }
         requires invertible { IsInvertible F.ring (F.value shift) }
         ensures coefficients { IfOk result (λ out. IsInterpolation F.Field.own F.generator (N.stored mat) (F.value shift) out) }
-        ensures succeeds { (k : ℕ) → height (N.stored mat) ≡ 2 ^ k → promised self.old k → IsOk result }
-        ensures keeps { (k : ℕ) → promised self.old k → promised self.new k }
-        ensures grows { made self.old ≤ made self.new }
-        ensures cost { (k : ℕ) → height (N.stored mat) ≡ 2 ^ k
-            → OnOk result (made self.new ≤ made self.old + bound k (N.stored mat).width + 2 * (2 ^ k * (N.stored mat).width)) }
+        ensures succeeds { AtLog (height (N.stored mat)) (λ k. promised self.old k → IsOk result) }
+        ensures serves { AtLog (height (N.stored mat)) (λ k. OnOk result (served self.new k)) }
+        ensures later { IsLater promised coset_promised served made self.old self.new }
+        ensures cost { AtLog (height (N.stored mat))
+            (λ k. OnOk result (made self.new ≤ made self.old + bound k (N.stored mat).width + 2 * (2 ^ k * (N.stored mat).width))) }
     {
         let coefficients = self.idft_batch(mat)?;
         let mut products = Products::new();
@@ -152,10 +165,32 @@ pub trait TwoAdicSubgroupDft<F: TwoAdicField>: Clone + Default {
         requires shape { (m n : RowMajor F) → HasShapeOf m (N.stored mat) → T.post transform m LAYOUT n → HasShapeOf n (N.stored mat) }
         ensures values { IfOk result (λ out. IsTransformedExtension F.Field.own F.generator (λ m n. T.post transform m LAYOUT n) LAYOUT
             (N.stored mat) added_bits (F.value shift) (Self.Evaluations.natural out)) }
-        ensures keeps { (k : ℕ) → promised self.old k → promised self.new k }
-        ensures grows { made self.old ≤ made self.new }
-        ensures cost { (k : ℕ) → height (N.stored mat) ≡ 2 ^ k
-            → OnOk result (made self.new ≤ made self.old + extension_bound bound k added_bits (N.stored mat).width) }
+        ensures serves { AtLog (height (N.stored mat)) (λ k. OnOk result (served self.new k × served self.new (k + added_bits))) }
+        ensures later { IsLater promised coset_promised served made self.old self.new }
+        ensures cost { AtLog (height (N.stored mat))
+            (λ k. OnOk result (made self.new ≤ made self.old + extension bound k added_bits (N.stored mat).width)) };
+
+    /// What `coset_lde_batch_with_transform` answers, by an inverse transform, rows of zeros and a
+    /// transform on the larger coset. An engine that has nothing better calls it there.
+    fn coset_lde_batch_by_parts<
+        N: IntoRowMajorMatrix<F>,
+        T: FnOnce(RowMajorMatrix<F>, Layout) -> RowMajorMatrix<F> + Drop,
+    >(
+        &mut self,
+        mat: N,
+        added_bits: usize,
+        shift: F,
+        transform: T,
+    ) -> Result<Self::Evaluations, DftError>
+        requires fits { FitsLde F.TWO_ADICITY (height (N.stored mat)) (N.stored mat).width added_bits }
+        requires callable { (m : RowMajor F) → HasShapeOf m (N.stored mat) → T.pre transform m LAYOUT }
+        requires shape { (m n : RowMajor F) → HasShapeOf m (N.stored mat) → T.post transform m LAYOUT n → HasShapeOf n (N.stored mat) }
+        ensures values { IfOk result (λ out. IsTransformedExtension F.Field.own F.generator (λ m n. T.post transform m LAYOUT n) LAYOUT
+            (N.stored mat) added_bits (F.value shift) (Self.Evaluations.natural out)) }
+        ensures serves { AtLog (height (N.stored mat)) (λ k. OnOk result (served self.new k × served self.new (k + added_bits))) }
+        ensures later { IsLater promised coset_promised served made self.old self.new }
+        ensures cost { AtLog (height (N.stored mat))
+            (λ k. OnOk result (made self.new ≤ made self.old + extension_bound bound k added_bits (N.stored mat).width)) }
     {
         let mut coefficients = self.idft_batch(mat)?;
         exchange_layouts(&mut coefficients, Self::LAYOUT);
@@ -176,10 +211,10 @@ pub trait TwoAdicSubgroupDft<F: TwoAdicField>: Clone + Default {
     ) -> Result<Self::Evaluations, DftError>
         requires { FitsLde F.TWO_ADICITY (height (N.stored mat)) (N.stored mat).width added_bits }
         ensures values { IfOk result (λ out. IsExtension F.Field.own F.generator (N.stored mat) added_bits (F.value shift) (Self.Evaluations.natural out)) }
-        ensures keeps { (k : ℕ) → promised self.old k → promised self.new k }
-        ensures grows { made self.old ≤ made self.new }
-        ensures cost { (k : ℕ) → height (N.stored mat) ≡ 2 ^ k
-            → OnOk result (made self.new ≤ made self.old + extension_bound bound k added_bits (N.stored mat).width) }
+        ensures serves { AtLog (height (N.stored mat)) (λ k. OnOk result (served self.new k × served self.new (k + added_bits))) }
+        ensures later { IsLater promised coset_promised served made self.old self.new }
+        ensures cost { AtLog (height (N.stored mat))
+            (λ k. OnOk result (made self.new ≤ made self.old + extension bound k added_bits (N.stored mat).width)) }
     {
         self.coset_lde_batch_with_transform(
             mat,
@@ -200,22 +235,30 @@ pub trait TwoAdicSubgroupDft<F: TwoAdicField>: Clone + Default {
     ) -> Result<Self::Evaluations, DftError>
         requires { FitsLde F.TWO_ADICITY (height (N.stored mat)) (N.stored mat).width added_bits }
         ensures values { IfOk result (λ out. IsExtension F.Field.own F.generator (N.stored mat) added_bits F.ring.one (Self.Evaluations.natural out)) }
-        ensures keeps { (k : ℕ) → promised self.old k → promised self.new k }
-        ensures grows { made self.old ≤ made self.new }
-        ensures cost { (k : ℕ) → height (N.stored mat) ≡ 2 ^ k
-            → OnOk result (made self.new ≤ made self.old + extension_bound bound k added_bits (N.stored mat).width) }
+        ensures serves { AtLog (height (N.stored mat)) (λ k. OnOk result (served self.new k × served self.new (k + added_bits))) }
+        ensures later { IsLater promised coset_promised served made self.old self.new }
+        ensures cost { AtLog (height (N.stored mat))
+            (λ k. OnOk result (made self.new ≤ made self.old + extension bound k added_bits (N.stored mat).width)) }
     {
         self.coset_lde_batch(mat, added_bits, F::ONE)
     }
 
+    // Where a coset is promised, so is the subgroup.
+    ghost coset_promised_law: { (e : Self) (k : ℕ) → coset_promised e k → promised e k };
+
+    // What an engine is made as has made no products.
+    ghost default_law: { (e : Self) → Self.is_default e → made e ≡ 0 };
+
+    ghost clone_law: { (e copy : Self) → Self.is_clone e copy → made copy ≡ 0 };
+
     /// The values on H of the polynomial with these coefficients.
     final fn dft(&mut self, vec: Vec<F>) -> Result<Vec<F>, DftError>
         requires { FitsDft F.TWO_ADICITY (vec_len vec) 1 }
-        ensures values { IfOk result (λ out. IsTransform F.Field.own F.generator (record { width = 1; values = vec.items }) F.ring.one (record { width = 1; values = out.items })) }
-        ensures succeeds { (k : ℕ) → vec_len vec ≡ 2 ^ k → promised self.old k → IsOk result }
-        ensures keeps { (k : ℕ) → promised self.old k → promised self.new k }
-        ensures grows { made self.old ≤ made self.new }
-        ensures cost { (k : ℕ) → vec_len vec ≡ 2 ^ k → OnOk result (made self.new ≤ made self.old + bound k 1) }
+        ensures values { IfOk result (λ out. IsTransform F.Field.own F.generator (one_column vec.items) F.ring.one (one_column out.items)) }
+        ensures succeeds { AtLog (vec_len vec) (λ k. promised self.old k → IsOk result) }
+        ensures serves { AtLog (vec_len vec) (λ k. OnOk result (served self.new k)) }
+        ensures later { IsLater promised coset_promised served made self.old self.new }
+        ensures cost { AtLog (vec_len vec) (λ k. OnOk result (made self.new ≤ made self.old + bound k 1)) }
     {
         let values = self.dft_batch(RowMajorMatrix::new_col(vec))?;
         Ok(values.to_row_major_matrix().into_values())
@@ -224,11 +267,11 @@ pub trait TwoAdicSubgroupDft<F: TwoAdicField>: Clone + Default {
     /// The values on `shift * H` of the polynomial with these coefficients. The shift may be zero.
     final fn coset_dft(&mut self, vec: Vec<F>, shift: F) -> Result<Vec<F>, DftError>
         requires { FitsDft F.TWO_ADICITY (vec_len vec) 1 }
-        ensures values { IfOk result (λ out. IsTransform F.Field.own F.generator (record { width = 1; values = vec.items }) (F.value shift) (record { width = 1; values = out.items })) }
-        ensures succeeds { (k : ℕ) → vec_len vec ≡ 2 ^ k → promised self.old k → IsOk result }
-        ensures keeps { (k : ℕ) → promised self.old k → promised self.new k }
-        ensures grows { made self.old ≤ made self.new }
-        ensures cost { (k : ℕ) → vec_len vec ≡ 2 ^ k → OnOk result (made self.new ≤ made self.old + bound k 1 + 2 ^ k) }
+        ensures values { IfOk result (λ out. IsTransform F.Field.own F.generator (one_column vec.items) (F.value shift) (one_column out.items)) }
+        ensures succeeds { AtLog (vec_len vec) (λ k. coset_promised self.old k → IsOk result) }
+        ensures serves { AtLog (vec_len vec) (λ k. OnOk result (served self.new k)) }
+        ensures later { IsLater promised coset_promised served made self.old self.new }
+        ensures cost { AtLog (vec_len vec) (λ k. OnOk result (made self.new ≤ made self.old + bound k 1 + 2 ^ k)) }
     {
         let values = self.coset_dft_batch(RowMajorMatrix::new_col(vec), shift)?;
         Ok(values.to_row_major_matrix().into_values())
@@ -237,11 +280,11 @@ pub trait TwoAdicSubgroupDft<F: TwoAdicField>: Clone + Default {
     /// The coefficients of the polynomial whose values on H these are.
     final fn idft(&mut self, vec: Vec<F>) -> Result<Vec<F>, DftError>
         requires { FitsDft F.TWO_ADICITY (vec_len vec) 1 }
-        ensures coefficients { IfOk result (λ out. IsInterpolation F.Field.own F.generator (record { width = 1; values = vec.items }) F.ring.one (record { width = 1; values = out.items })) }
-        ensures succeeds { (k : ℕ) → vec_len vec ≡ 2 ^ k → promised self.old k → IsOk result }
-        ensures keeps { (k : ℕ) → promised self.old k → promised self.new k }
-        ensures grows { made self.old ≤ made self.new }
-        ensures cost { (k : ℕ) → vec_len vec ≡ 2 ^ k → OnOk result (made self.new ≤ made self.old + bound k 1 + 2 ^ k) }
+        ensures coefficients { IfOk result (λ out. IsInterpolation F.Field.own F.generator (one_column vec.items) F.ring.one (one_column out.items)) }
+        ensures succeeds { AtLog (vec_len vec) (λ k. promised self.old k → IsOk result) }
+        ensures serves { AtLog (vec_len vec) (λ k. OnOk result (served self.new k)) }
+        ensures later { IsLater promised coset_promised served made self.old self.new }
+        ensures cost { AtLog (vec_len vec) (λ k. OnOk result (made self.new ≤ made self.old + bound k 1 + 2 ^ k)) }
     {
         Ok(self.idft_batch(RowMajorMatrix::new_col(vec))?.into_values())
     }
@@ -251,11 +294,11 @@ pub trait TwoAdicSubgroupDft<F: TwoAdicField>: Clone + Default {
     final fn coset_idft(&mut self, vec: Vec<F>, shift: F) -> Result<Vec<F>, DftError>
         requires fits { FitsDft F.TWO_ADICITY (vec_len vec) 1 }
         requires invertible { IsInvertible F.ring (F.value shift) }
-        ensures coefficients { IfOk result (λ out. IsInterpolation F.Field.own F.generator (record { width = 1; values = vec.items }) (F.value shift) (record { width = 1; values = out.items })) }
-        ensures succeeds { (k : ℕ) → vec_len vec ≡ 2 ^ k → promised self.old k → IsOk result }
-        ensures keeps { (k : ℕ) → promised self.old k → promised self.new k }
-        ensures grows { made self.old ≤ made self.new }
-        ensures cost { (k : ℕ) → vec_len vec ≡ 2 ^ k → OnOk result (made self.new ≤ made self.old + bound k 1 + 2 * 2 ^ k) }
+        ensures coefficients { IfOk result (λ out. IsInterpolation F.Field.own F.generator (one_column vec.items) (F.value shift) (one_column out.items)) }
+        ensures succeeds { AtLog (vec_len vec) (λ k. promised self.old k → IsOk result) }
+        ensures serves { AtLog (vec_len vec) (λ k. OnOk result (served self.new k)) }
+        ensures later { IsLater promised coset_promised served made self.old self.new }
+        ensures cost { AtLog (vec_len vec) (λ k. OnOk result (made self.new ≤ made self.old + bound k 1 + 2 * 2 ^ k)) }
     {
         Ok(
             self.coset_idft_batch(RowMajorMatrix::new_col(vec), shift)?
@@ -267,10 +310,10 @@ pub trait TwoAdicSubgroupDft<F: TwoAdicField>: Clone + Default {
     /// `len << added_bits`.
     final fn lde(&mut self, vec: Vec<F>, added_bits: usize) -> Result<Vec<F>, DftError>
         requires { FitsLde F.TWO_ADICITY (vec_len vec) 1 added_bits }
-        ensures values { IfOk result (λ out. IsExtension F.Field.own F.generator (record { width = 1; values = vec.items }) added_bits F.ring.one (record { width = 1; values = out.items })) }
-        ensures keeps { (k : ℕ) → promised self.old k → promised self.new k }
-        ensures grows { made self.old ≤ made self.new }
-        ensures cost { (k : ℕ) → vec_len vec ≡ 2 ^ k → OnOk result (made self.new ≤ made self.old + extension_bound bound k added_bits 1) }
+        ensures values { IfOk result (λ out. IsExtension F.Field.own F.generator (one_column vec.items) added_bits F.ring.one (one_column out.items)) }
+        ensures serves { AtLog (vec_len vec) (λ k. OnOk result (served self.new k × served self.new (k + added_bits))) }
+        ensures later { IsLater promised coset_promised served made self.old self.new }
+        ensures cost { AtLog (vec_len vec) (λ k. OnOk result (made self.new ≤ made self.old + extension bound k added_bits 1)) }
     {
         let values = self.lde_batch(RowMajorMatrix::new_col(vec), added_bits)?;
         Ok(values.to_row_major_matrix().into_values())
@@ -285,10 +328,10 @@ pub trait TwoAdicSubgroupDft<F: TwoAdicField>: Clone + Default {
         shift: F,
     ) -> Result<Vec<F>, DftError>
         requires { FitsLde F.TWO_ADICITY (vec_len vec) 1 added_bits }
-        ensures values { IfOk result (λ out. IsExtension F.Field.own F.generator (record { width = 1; values = vec.items }) added_bits (F.value shift) (record { width = 1; values = out.items })) }
-        ensures keeps { (k : ℕ) → promised self.old k → promised self.new k }
-        ensures grows { made self.old ≤ made self.new }
-        ensures cost { (k : ℕ) → vec_len vec ≡ 2 ^ k → OnOk result (made self.new ≤ made self.old + extension_bound bound k added_bits 1) }
+        ensures values { IfOk result (λ out. IsExtension F.Field.own F.generator (one_column vec.items) added_bits (F.value shift) (one_column out.items)) }
+        ensures serves { AtLog (vec_len vec) (λ k. OnOk result (served self.new k × served self.new (k + added_bits))) }
+        ensures later { IsLater promised coset_promised served made self.old self.new }
+        ensures cost { AtLog (vec_len vec) (λ k. OnOk result (made self.new ≤ made self.old + extension bound k added_bits 1)) }
     {
         let values = self.coset_lde_batch(RowMajorMatrix::new_col(vec), added_bits, shift)?;
         Ok(values.to_row_major_matrix().into_values())

@@ -18,7 +18,9 @@ pub(crate) struct LimitedDft {
 }
 
 impl LimitedDft {
-    pub(crate) fn new(left: usize) -> Self {
+    pub(crate) fn new(left: usize) -> Self
+        ensures { result.sums ≡ 0 }
+    {
         LimitedDft {
             left,
             sums: NaiveDft::default(),
@@ -27,9 +29,9 @@ impl LimitedDft {
 }
 
 impl Default for LimitedDft {
-    ghost use Rattle.std.specs.Prelude.{⊤};
+    ghost use Rattle.std.specs.Prelude.{◌≡◌};
 
-    ghost is_default = { λ _. ⊤ };
+    ghost is_default = { λ e. e.sums ≡ 0 };
 
     fn default() -> Self {
         Self::new(usize::MAX)
@@ -37,9 +39,9 @@ impl Default for LimitedDft {
 }
 
 impl Clone for LimitedDft {
-    ghost use Rattle.std.specs.Prelude.{⊤};
+    ghost use Rattle.std.specs.Prelude.{◌≡◌, ⊤};
 
-    ghost is_clone = { λ _ _. ⊤ };
+    ghost is_clone = { λ _ e. e.sums ≡ 0 };
 
     ghost is_infallible = { λ _. ⊤ };
 
@@ -49,7 +51,7 @@ impl Clone for LimitedDft {
 }
 
 impl<F: TwoAdicField> TwoAdicSubgroupDft<F> for LimitedDft {
-    ghost use Rattle.std.specs.Prelude.{ℕ, ◌*◌, ◌^◌};
+    ghost use Rattle.std.specs.Prelude.{⊤, ℕ, ◌*◌, ◌^◌};
     ghost use Rattle.p3_dft.specs.declared.traits.Layout.TheVariants.{Natural};
 
     type Evaluations = RowMajorMatrix<F>;
@@ -60,9 +62,19 @@ impl<F: TwoAdicField> TwoAdicSubgroupDft<F> for LimitedDft {
 
     ghost promised = { λ _ _. ⊥ };
 
+    ghost coset_promised = { λ _ _. ⊥ };
+
+    ghost served = { λ _ _. ⊤ };
+
     ghost bound = { λ k w. 2 ^ k * 2 ^ k * w };
 
     ghost made = { λ e. e.sums };
+
+    ghost coset_promised_law = { λ e k none. none };
+
+    ghost default_law = { λ e none. none };
+
+    ghost clone_law = { λ e copy none. none };
 
     fn dft_batch<N: IntoRowMajorMatrix<F>>(
         &mut self,
@@ -78,6 +90,19 @@ impl<F: TwoAdicField> TwoAdicSubgroupDft<F> for LimitedDft {
     fn add_products(&mut self, products: Products) {
         TwoAdicSubgroupDft::<F>::add_products(&mut self.sums, products);
     }
+
+    fn coset_lde_batch_with_transform<
+        N: IntoRowMajorMatrix<F>,
+        T: FnOnce(RowMajorMatrix<F>, Layout) -> RowMajorMatrix<F> + Drop,
+    >(
+        &mut self,
+        mat: N,
+        added_bits: usize,
+        shift: F,
+        transform: T,
+    ) -> Result<RowMajorMatrix<F>, DftError> {
+        self.coset_lde_batch_by_parts(mat, added_bits, shift, transform)
+    }
 }
 
 // Has coefficients in bit reversed order.
@@ -87,9 +112,9 @@ pub(crate) struct ReversedDft {
 }
 
 impl Default for ReversedDft {
-    ghost use Rattle.std.specs.Prelude.{⊤};
+    ghost use Rattle.std.specs.Prelude.{◌≡◌};
 
-    ghost is_default = { λ _. ⊤ };
+    ghost is_default = { λ e. e.sums ≡ 0 };
 
     fn default() -> Self {
         ReversedDft {
@@ -99,9 +124,9 @@ impl Default for ReversedDft {
 }
 
 impl Clone for ReversedDft {
-    ghost use Rattle.std.specs.Prelude.{⊤};
+    ghost use Rattle.std.specs.Prelude.{◌≡◌, ⊤};
 
-    ghost is_clone = { λ _ _. ⊤ };
+    ghost is_clone = { λ _ e. e.sums ≡ 0 };
 
     ghost is_infallible = { λ _. ⊤ };
 
@@ -111,7 +136,7 @@ impl Clone for ReversedDft {
 }
 
 impl<F: TwoAdicField> TwoAdicSubgroupDft<F> for ReversedDft {
-    ghost use Rattle.std.specs.Prelude.{ℕ, ◌*◌, ◌^◌};
+    ghost use Rattle.std.specs.Prelude.{⊤, ℕ, ◌*◌, ◌^◌};
     ghost use Rattle.p3_dft.specs.declared.traits.Layout.TheVariants.{BitReversed};
 
     type Evaluations = RowMajorMatrix<F>;
@@ -122,9 +147,19 @@ impl<F: TwoAdicField> TwoAdicSubgroupDft<F> for ReversedDft {
 
     ghost promised = { λ _ _. ⊥ };
 
+    ghost coset_promised = { λ _ _. ⊥ };
+
+    ghost served = { λ _ _. ⊤ };
+
     ghost bound = { λ k w. 2 ^ k * 2 ^ k * w };
 
     ghost made = { λ e. e.sums };
+
+    ghost coset_promised_law = { λ e k none. none };
+
+    ghost default_law = { λ e none. none };
+
+    ghost clone_law = { λ e copy none. none };
 
     fn dft_batch<N: IntoRowMajorMatrix<F>>(
         &mut self,
@@ -135,5 +170,18 @@ impl<F: TwoAdicField> TwoAdicSubgroupDft<F> for ReversedDft {
 
     fn add_products(&mut self, products: Products) {
         TwoAdicSubgroupDft::<F>::add_products(&mut self.sums, products);
+    }
+
+    fn coset_lde_batch_with_transform<
+        N: IntoRowMajorMatrix<F>,
+        T: FnOnce(RowMajorMatrix<F>, Layout) -> RowMajorMatrix<F> + Drop,
+    >(
+        &mut self,
+        mat: N,
+        added_bits: usize,
+        shift: F,
+        transform: T,
+    ) -> Result<RowMajorMatrix<F>, DftError> {
+        self.coset_lde_batch_by_parts(mat, added_bits, shift, transform)
     }
 }

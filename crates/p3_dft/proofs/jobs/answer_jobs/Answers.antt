@@ -4,6 +4,7 @@ use Rattle.std.proofs.lemmas.Slice.Zip.{all_zipped_more}
 use Rattle.std.specs.List.{AllZip}
 use Rattle.p3_matrix.specs.RowMajor.{RowMajor}
 use Rattle.p3_dft.specs.Jobs.{AreFirstAnswers, CanRun, IsAnswer}
+use Rattle.p3_dft.proofs.EngineSteps.{later_still}
 use Rattle.p3_dft.proofs.JobLists.{first_answers, next_not_promised, on_any_error, split_more}
 use Rattle.p3_dft.proofs.jobs.answer_jobs.Goals as goal
 
@@ -18,8 +19,7 @@ loop-job-preserved g c =
           (all_zipped_more answers c.loop-job.yielded c.loop-job.answers.items c.in-Some.job c.in_ok-answer.answer so_far.answered c.in_ok-answer.ensures.answer);
       runnable = All-rest (CanRun g.F.Field g.F.TwoAdicField.TWO_ADICITY) c.in-Some.job _ _ next so_far.runnable;
       room = omega (arith, so_far.room, c.in_ok-push.ensures.capacity);
-      keeps = λ k promised. c.in_ok-answer.ensures.keeps k (so_far.keeps k promised);
-      grows = omega (arith, so_far.grows, c.in_ok-answer.ensures.grows);
+      later = later_still g.D.TwoAdicSubgroupDft.promised g.D.TwoAdicSubgroupDft.coset_promised g.D.TwoAdicSubgroupDft.served g.D.TwoAdicSubgroupDft.made _ _ _ so_far.later c.in_ok-answer.ensures.later;
     }
 
 pub returns-in_err-answer-clause-first : goal.returns-in_err-answer-clause-first
@@ -39,8 +39,9 @@ pub returns-in_err-answer-clause-refused : goal.returns-in_err-answer-clause-ref
 returns-in_err-answer-clause-refused g c =
     on_any_error c.from_residual-in_err-answer.result
     (inr (next_not_promised g.F.Field g.F.TwoAdicField.generator c.args.jobs.items c.loop-job.yielded _ _ c.in-Some.job c.loop-job.answers.items
-    (g.D.TwoAdicSubgroupDft.promised c.args.engine.now) (g.D.TwoAdicSubgroupDft.promised c.loop-job.engine) c.loop-job.invariant.split
-    c.in-Some.ensures.steps.0 c.loop-job.invariant.answered c.loop-job.invariant.keeps (λ promised. let answered = c.in_err-answer.ensures.succeeds promised in absurd (search rules))))
+    (g.D.TwoAdicSubgroupDft.promised c.args.engine.now) (g.D.TwoAdicSubgroupDft.promised c.loop-job.engine)
+    (g.D.TwoAdicSubgroupDft.coset_promised c.args.engine.now) (g.D.TwoAdicSubgroupDft.coset_promised c.loop-job.engine) c.loop-job.invariant.split
+    c.in-Some.ensures.steps.0 c.loop-job.invariant.answered c.loop-job.invariant.later.keeps c.loop-job.invariant.later.keeps_cosets (λ promised. let answered = c.in_err-answer.ensures.succeeds promised in absurd (search rules))))
 
 -- there is room for the answer to each job
 pub returns-in_err-push-clause-refused : goal.returns-in_err-push-clause-refused

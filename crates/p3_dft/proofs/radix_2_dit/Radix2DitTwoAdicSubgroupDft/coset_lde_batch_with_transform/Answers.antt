@@ -1,9 +1,11 @@
 use Rattle.std.proofs.Common.{ℕ, ◌≡◌, ◌+◌, ◌*◌, ◌/◌, ◌^◌, ◌∙◌, refl, ap, ap₂, arith}
 use Rattle.std.proofs.lemmas.Result.{IfOk-weaker, on_ok_weaker}
 use Rattle.p3_matrix.specs.RowMajor.{height}
+use Rattle.p3_dft.specs.Twiddles.{IsPrepared}
+use Rattle.p3_dft.proofs.EngineSteps.{later_by_products, later_still}
 use Rattle.p3_dft.proofs.ExtendedTransforms.{answered_shape, extension_of_shifted}
 use Rattle.p3_dft.proofs.Padding.{padded_shape}
-use Rattle.p3_dft.proofs.Shapes.{entries_rise, input_fits, output_fits, output_log_small, output_size}
+use Rattle.p3_dft.proofs.Shapes.{input_fits, output_fits, output_log_small, output_size}
 use Rattle.p3_dft.proofs.radix_2_dit.Radix2DitTwoAdicSubgroupDft.coset_lde_batch_with_transform.Goals as goal
 
 pub idft_batch-requires : goal.idft_batch-requires
@@ -44,14 +46,32 @@ returns-clause-values g c =
     (rw c.in_ok-padded.ensures.padded at given))
     c.dft_batch.ensures.values
 
-pub returns-in_err-padded-clause-keeps : goal.returns-in_err-padded-clause-keeps
-returns-in_err-padded-clause-keeps g c = λ k before. (c.add_products.ensures.keeps k).0 (c.in_ok-coefficients.ensures.keeps k before)
+pub returns-in_err-padded-clause-later : goal.returns-in_err-padded-clause-later
+returns-in_err-padded-clause-later g c =
+    let counted = c.add_products.ensures in
+    later_still IsPrepared IsPrepared IsPrepared (λ e. e.products) _ _ _ c.in_ok-coefficients.ensures.later
+    (later_by_products IsPrepared IsPrepared IsPrepared (λ e. e.products) _ _ _ counted.made counted.promised counted.coset_promised counted.served)
 
-pub returns-clause-keeps : goal.returns-clause-keeps
-returns-clause-keeps g c = λ k before. c.dft_batch.ensures.keeps k ((c.add_products.ensures.keeps k).0 (c.in_ok-coefficients.ensures.keeps k before))
+pub returns-clause-later : goal.returns-clause-later
+returns-clause-later g c =
+    let counted = c.add_products.ensures in
+    later_still IsPrepared IsPrepared IsPrepared (λ e. e.products) _ _ _ c.in_ok-coefficients.ensures.later
+    (later_still IsPrepared IsPrepared IsPrepared (λ e. e.products) _ _ _
+    (later_by_products IsPrepared IsPrepared IsPrepared (λ e. e.products) _ _ _ counted.made counted.promised counted.coset_promised counted.served) c.dft_batch.ensures.later)
 
-pub returns-clause-fewer : goal.returns-clause-fewer
-returns-clause-fewer g c = λ k e.
+pub returns-clause-serves : goal.returns-clause-serves
+returns-clause-serves g c = λ k e.
+    let a = c.args.added_bits in
+    let m = g.N.IntoRowMajorMatrix.stored c.args.mat in
+    let shape = answered_shape g.F.Field g.F.TwoAdicField.generator _ _ _ _ _ k e c.in_ok-coefficients.ensures.coefficients (refl, refl) c.requires.shape
+    c.transform-changed.ensures in
+    let same = c.shift_rows-shifted.ensures.shifted in
+    let grown = padded_shape g.F.Field.ZERO m c.shift_rows-shifted.result c.in_ok-padded.padded a k c.pad_rows.ensures.whole
+    (same.high ∙ shape.0, same.wide ∙ shape.1) e c.in_ok-padded.ensures.padded in
+    on_ok_weaker c.dft_batch.result (λ more. (c.dft_batch.ensures.later.keeps_served k ((c.add_products.ensures.served k).0 (c.in_ok-coefficients.ensures.serves k e)), more)) (c.dft_batch.ensures.serves (k + a) grown.0)
+
+pub returns-clause-cost : goal.returns-clause-cost
+returns-clause-cost g c = λ k e.
     let a = c.args.added_bits in
     let m = g.N.IntoRowMajorMatrix.stored c.args.mat in
     let shape = answered_shape g.F.Field g.F.TwoAdicField.generator _ _ _ _ _ k e c.in_ok-coefficients.ensures.coefficients (refl, refl) c.requires.shape
@@ -66,8 +86,3 @@ returns-clause-fewer g c = λ k e.
     let none = c.new-products.ensures in
     let last : c.in_ok-padded.padded.width * ((k + a) * 2 ^ (k + a) / 2) ≡ m.width * ((k + a) * 2 ^ (k + a) / 2) = ap (λ w. w * ((k + a) * 2 ^ (k + a) / 2)) grown.1 in
     on_ok_weaker c.dft_batch.result (λ more. omega (arith, more, first, scaled, counted, none, entries, last)) (c.dft_batch.ensures.cost (k + a) grown.0)
-
-pub returns-clause-cost : goal.returns-clause-cost
-returns-clause-cost g c = λ k e.
-    let rise = entries_rise k c.args.added_bits (g.N.IntoRowMajorMatrix.stored c.args.mat).width in
-    on_ok_weaker c.dft_batch.result (λ fewer. omega (arith, fewer, rise)) (returns-clause-fewer g c k e)

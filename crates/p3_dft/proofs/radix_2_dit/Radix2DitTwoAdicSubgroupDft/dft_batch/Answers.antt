@@ -19,8 +19,8 @@ returns-then-height-eq1-clause-values g c =
     rw (← c.into_row_major_matrix-mat.ensures)
     (transform_of_row g.F.Field g.F.TwoAdicField.generator c.into_row_major_matrix-mat.result (sym c.height-height.ensures.height ∙ c.if-height-eq1.true))
 
-pub returns-then-height-eq1-clause-prepares : goal.returns-then-height-eq1-clause-prepares
-returns-then-height-eq1-clause-prepares g c k high =
+pub returns-then-height-eq1-clause-serves : goal.returns-then-height-eq1-clause-serves
+returns-then-height-eq1-clause-serves g c k high =
     let tall : c.height-height.result ≡ height (g.N.IntoRowMajorMatrix.stored c.args.mat) = c.height-height.ensures.height ∙ ap height c.into_row_major_matrix-mat.ensures in
     let none : k ≡ 0 = log_same k 0 (sym high ∙ sym tall ∙ c.if-height-eq1.true) in
     omega (arith, none)
@@ -58,19 +58,21 @@ returns-clause-values g c =
     c.new-mat.ensures ∙ ap₂ (λ (w : ℕ) (xs : List g.row.F.Denot). let r : RowMajor g.row.F.Denot = record { width = w; values = xs } in r) c.width-width.ensures.width c.into_values-values.ensures.values in
     rw (← c.into_row_major_matrix-mat.ensures, ← same) c.transform.ensures.values
 
-pub returns-clause-prepares : goal.returns-clause-prepares
-returns-clause-prepares g c k high =
+pub returns-clause-serves : goal.returns-clause-serves
+returns-clause-serves g c k high =
     let tall : c.height-height.result ≡ height (g.N.IntoRowMajorMatrix.stored c.args.mat) = c.height-height.ensures.height ∙ ap height c.into_row_major_matrix-mat.ensures in
     let log = c.log2_strict_usize-log_h.result in
     let same : log ≡ k = log_same log k (sym c.log2_strict_usize-log_h.ensures.power ∙ tall ∙ high) in
     omega (arith, same, c.in_ok-make.ensures.made)
 
-pub returns-clause-grows : goal.returns-clause-grows
-returns-clause-grows g c =
+pub returns-clause-later : goal.returns-clause-later
+returns-clause-later g c =
     let log = c.log2_strict_usize-log_h.result in
     let products : c.self.inside.products ≡ c.args.self.now.products = ap (λ e. e.products) c.self.view_is in
+    let prepared : c.self.inside.twiddles ≡ c.args.self.now.prepared = ap (λ e. e.prepared) c.self.view_is in
     let grows = counted_grows log c.new-mat.result.width c.self.inside.products c.transform.new.products (some_layers _ log c.log2_strict_usize-log_h.ensures.power c.if-height-eq1.false) c.transform.ensures.count in
-    omega (arith, products, grows)
+    let keeps : (k : ℕ) → k ≤ c.args.self.now.prepared → k ≤ c.make.new.self = λ k before. omega (arith, prepared, before, c.make.ensures.keeps) in
+    record { keeps = keeps; keeps_cosets = keeps; keeps_served = keeps; grows = omega (arith, products, grows) }
 
 pub returns-clause-cost : goal.returns-clause-cost
 returns-clause-cost g c k high =

@@ -3,7 +3,7 @@ use Rattle.std.proofs.lemmas.Result.{IfOk-weaker, on_ok_weaker}
 use Rattle.p3_dft.proofs.ExtendedTransforms.{answered_shape, extension_of_parts}
 use Rattle.p3_dft.proofs.Padding.{padded_shape}
 use Rattle.p3_dft.proofs.Shapes.{input_fits, output_fits, output_log_small, output_size}
-use Rattle.p3_dft.proofs.traits.TwoAdicSubgroupDft.coset_lde_batch_with_transform.Goals as goal
+use Rattle.p3_dft.proofs.traits.TwoAdicSubgroupDft.coset_lde_batch_by_parts.Goals as goal
 
 pub idft_batch-requires : goal.idft_batch-requires
 idft_batch-requires g c = input_fits _ _ _ _ c.requires.fits
@@ -64,3 +64,13 @@ returns-clause-cost g c = λ k e.
     let same : bound (k + a) c.in_ok-coefficients-2.coefficients.width + 2 ^ (k + a) * c.in_ok-coefficients-2.coefficients.width ≡ bound (k + a) m.width + 2 ^ (k + a) * m.width =
     ap (λ w. bound (k + a) w + 2 ^ (k + a) * w) grown.1 in
     on_ok_weaker c.coset_dft_batch.result (λ more. omega (arith, more, first, same)) (c.coset_dft_batch.ensures.cost (k + a) grown.0)
+
+pub returns-clause-serves : goal.returns-clause-serves
+returns-clause-serves g c = λ k e.
+    let a = c.args.added_bits in
+    let shape = answered_shape g.F.Field g.F.TwoAdicField.generator _ _ _ _ _ k e c.in_ok-coefficients.ensures.coefficients c.exchange_layouts.ensures.shape c.requires.shape
+    (rw c.LAYOUT-2.ensures at c.transform-coefficients.ensures) in
+    let back = c.exchange_layouts-2.ensures.shape in
+    let grown = padded_shape g.F.Field.ZERO (g.N.IntoRowMajorMatrix.stored c.args.mat) c.exchange_layouts-2.new.mat c.in_ok-coefficients-2.coefficients a k c.pad_rows.ensures.whole
+    (back.0 ∙ shape.0, back.1 ∙ shape.1) e c.in_ok-coefficients-2.ensures.padded in
+    on_ok_weaker c.coset_dft_batch.result (λ more. (c.coset_dft_batch.ensures.later.keeps_served k (c.in_ok-coefficients.ensures.serves k e), more)) (c.coset_dft_batch.ensures.serves (k + a) grown.0)
