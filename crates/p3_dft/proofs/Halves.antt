@@ -27,9 +27,9 @@ each_cell P w h wide each i inside =
     subst (λ (n : ℕ). P (i / w) n) (div-add-mod' i w) (each (i / w) (i % w) (div_below i w h wide inside) (mod_below i w wide))
 
 -- y is what cell n of block b becomes, where cell i of the first half, before it x (b * 2 * size + i), meets cell i of the second
-pub record BothHalves {A T : Type 0} (size : ℕ) (near far : ℕ → A → A → A) (x : ℕ → A) (value : T → A) (b n : ℕ) (y : T) : Type 0 where
-  pub first : (i : ℕ) → i < size → n ≡ i → value y ≡ near i (x (b * (2 * size) + i)) (x (b * (2 * size) + (size + i)))
-  pub second : (i : ℕ) → i < size → n ≡ size + i → value y ≡ far i (x (b * (2 * size) + i)) (x (b * (2 * size) + (size + i)))
+pub record BothHalves {A T : Type 0} (size : ℕ) (near far : ℕ → ℕ → A → A → A) (x : ℕ → A) (value : T → A) (b n : ℕ) (y : T) : Type 0 where
+  pub first : (i : ℕ) → i < size → n ≡ i → value y ≡ near b i (x (b * (2 * size) + i)) (x (b * (2 * size) + (size + i)))
+  pub second : (i : ℕ) → i < size → n ≡ size + i → value y ≡ far b i (x (b * (2 * size) + i)) (x (b * (2 * size) + (size + i)))
 
 -- n blocks of one size
 pub block_size : (len n size : ℕ) → 1 ≤ n → len ≡ n * size → len / n ≡ size
@@ -41,13 +41,13 @@ block_room b n size len p e = let l : suc b * size ≤ n * size = mul-le-mul_rig
 pub part_length : {X : Type 0} (xs : List X) (a size : ℕ) → a + size ≤ length xs → length (take (a + size - a) (drop a xs)) ≡ size
 part_length xs a size room = search (rules, places)
 
-module _ {A T : Type 0} (value : T → A) (d : T) (near far : ℕ → A → A → A) (size : ℕ) where
+module _ {A T : Type 0} (value : T → A) (d : T) (near far : ℕ → ℕ → A → A → A) (size : ℕ) where
   -- one more block, which was done as a part of its own; the program has the size of a block in a variable of its own
   pub blocks-more : (before now block : List T) (b whole : ℕ) → whole ≡ 2 * size → b * whole + whole ≤ length now → length block ≡ 2 * size
       → ((i : ℕ) → i < size → value (get_or block i d)
-      ≡ near i (value (get_or (take (b * whole + whole - b * whole) (drop (b * whole) now)) i d)) (value (get_or (take (b * whole + whole - b * whole) (drop (b * whole) now)) (size + i) d)))
+      ≡ near b i (value (get_or (take (b * whole + whole - b * whole) (drop (b * whole) now)) i d)) (value (get_or (take (b * whole + whole - b * whole) (drop (b * whole) now)) (size + i) d)))
       → ((i : ℕ) → i < size → value (get_or block (size + i) d)
-      ≡ far i (value (get_or (take (b * whole + whole - b * whole) (drop (b * whole) now)) i d)) (value (get_or (take (b * whole + whole - b * whole) (drop (b * whole) now)) (size + i) d)))
+      ≡ far b i (value (get_or (take (b * whole + whole - b * whole) (drop (b * whole) now)) i d)) (value (get_or (take (b * whole + whole - b * whole) (drop (b * whole) now)) (size + i) d)))
       → RowsDone d (2 * size) (BothHalves size near far (λ n. value (get_or before n d)) value) before b now
       → RowsDone d (2 * size) (BothHalves size near far (λ n. value (get_or before n d)) value) before (b + 1) (put_mid (b * whole) (b * whole + whole - b * whole) now block)
   blocks-more before now block b whole is room len is_near is_far so_far =
@@ -59,6 +59,6 @@ module _ {A T : Type 0} (value : T → A) (d : T) (near far : ℕ → A → A �
       subst (λ (a : ℕ). RowsDone d (2 * size) (BothHalves size near far (λ n. value (get_or before n d)) value) before (b + 1) (put_mid a (b * whole + whole - b * whole) now block)) start
       (rows-more d (2 * size) (BothHalves size near far (λ n. value (get_or before n d)) value) before now block b (b * whole + whole - b * whole) (m ∙ is) (omega (arith, room, start, is)) len
       (λ n inside. record {
-        first = λ i p e. ap (λ k. value (get_or block k d)) e ∙ is_near i p ∙ ap₂ (near i) (cell i (omega arith)) (cell (size + i) (omega arith));
-        second = λ i p e. ap (λ k. value (get_or block k d)) e ∙ is_far i p ∙ ap₂ (far i) (cell i (omega arith)) (cell (size + i) (omega arith));
+        first = λ i p e. ap (λ k. value (get_or block k d)) e ∙ is_near i p ∙ ap₂ (near b i) (cell i (omega arith)) (cell (size + i) (omega arith));
+        second = λ i p e. ap (λ k. value (get_or block k d)) e ∙ is_far i p ∙ ap₂ (far b i) (cell i (omega arith)) (cell (size + i) (omega arith));
       }) so_far)

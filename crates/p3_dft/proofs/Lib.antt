@@ -1,6 +1,6 @@
 pub mod Blocks
-pub mod CellLayers
 pub mod Cosets
+pub mod Counts
 pub mod Distance
 pub mod EngineSteps
 pub mod ExtendedTransforms
@@ -9,7 +9,6 @@ pub mod Halves
 pub mod Interpolation
 pub mod Inverses
 pub mod JobLists
-pub mod Layers
 pub mod Layouts
 pub mod MoreTwiddles
 pub mod Networks
@@ -19,7 +18,7 @@ pub mod Opposite
 pub mod Padding
 pub mod Pairs
 pub mod Polynomials
-pub mod ProductBounds
+pub mod PreparedHeights
 pub mod ReversedRows
 pub mod Rows
 pub mod Shapes

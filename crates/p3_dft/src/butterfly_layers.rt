@@ -1,132 +1,143 @@
 // Layers of the networks, on rows that lie one after the other in a slice.
 
-ghost use Rattle.std.specs.Prelude.{◌≡◌, ℕ, ◌+◌, ◌*◌, ◌/◌, ◌<◌, ◌≤◌, List, length, get_or};
-ghost use Rattle.p3_field.specs.Ring.{minus};
+ghost use Rattle.std.specs.Prelude.{◌≡◌, ℕ, ◌+◌, ◌*◌, ◌/◌, ◌^◌, ◌<◌, ◌≤◌, List, length, get_or};
+ghost use Rattle.p3_field.specs.Ring.{Ring};
+
+pub(crate) mod rules;
 
 use p3_field::{Products, TwoAdicField};
-use p3_matrix::{Butterfly, DitButterfly, TwiddleFreeButterfly};
 
-// A layer of decimation in time. The rows come in blocks of two halves, of `half` rows each. Row t of
-// the first half and row t of the second meet in a butterfly with twiddle t. The first twiddle is
-// one: that one is not multiplied by.
+// Which butterfly meets a pair of rows: that of place t in block b.
+//
+// Contracts name what stands in the near and in the far row by the number of the block, the place in
+// it and the entries that meet, over any ring.
+pub(crate) trait Rule<F: TwoAdicField>: Copy {
+    ghost near: { (A : Type 0) → Ring A → (F → A) → Self → ℕ → ℕ → A → A → A };
+
+    ghost far: { (A : Type 0) → Ring A → (F → A) → Self → ℕ → ℕ → A → A → A };
+
+    // A pair of entries takes at most so many products.
+    ghost cost: { ℕ };
+
+    // Whether the rule has a butterfly for the pair.
+    ghost has: { Self → ℕ → ℕ → Type 0 };
+
+    // Takes two rows of one length to the near and the far row in their places.
+    fn meet(
+        self,
+        block: usize,
+        place: usize,
+        row_1: &mut [F],
+        row_2: &mut [F],
+        products: &mut Products,
+    )
+        requires there { has self block place }
+        requires size { length row_1.old ≡ length row_2.old }
+        ensures near { (j : ℕ) → j < length row_1.old → F.value (get_or row_1.new j F.ZERO)
+            ≡ near F.Element F.ring F.value self block place (F.value (get_or row_1.old j F.ZERO)) (F.value (get_or row_2.old j F.ZERO)) }
+        ensures far { (j : ℕ) → j < length row_1.old → F.value (get_or row_2.new j F.ZERO)
+            ≡ far F.Element F.ring F.value self block place (F.value (get_or row_1.old j F.ZERO)) (F.value (get_or row_2.old j F.ZERO)) }
+        ensures grows { products.old ≤ products.new }
+        ensures count { products.new ≤ products.old + cost * length row_1.old };
+}
+
+// Blocks of a layer. The rows come in blocks of two halves, of `half` rows each, and row t of the
+// first half of a block meets row t of the second as the rule says. The blocks that are handed over
+// are those from number `first_block` on.
 //
 // Cell i of a half stands in row `i / width` of it.
 //
 // Inlined, so that a width that the caller names is known in the loops.
 #[inline(always)]
-pub(crate) fn dit_layer<F: TwoAdicField>(
+pub(crate) fn layer<F: TwoAdicField, R: Rule<F>>(
+    rule: R,
     values: &mut [F],
     width: usize,
     half: usize,
+    first_block: usize,
     blocks: usize,
-    twiddles: &[F],
     products: &mut Products,
 )
     requires wide { 1 ≤ width }
-    requires some { 1 ≤ half }
     requires blocks { 1 ≤ blocks }
+    requires numbers { first_block + blocks < 2 ^ 64 }
     requires size { length values.old ≡ blocks * (2 * (half * width)) }
-    requires twiddles { half ≤ length twiddles.now }
-    requires first { F.value (get_or twiddles.now 0 F.ZERO) ≡ F.ring.one }
+    requires there { (b t : ℕ) → b < blocks → t < half → R.has rule (first_block + b) t }
     ensures near { let cell = λ (xs : List F) (n : ℕ). F.value (get_or xs n F.ZERO) in
         let size = half * width in
         (b i : ℕ) → b < blocks → i < size → cell values.new (b * (2 * size) + i)
-        ≡ F.ring.add (cell values.old (b * (2 * size) + i)) (F.ring.mul (cell values.old (b * (2 * size) + (size + i))) (cell twiddles.now (i / width))) }
+        ≡ R.near F.Element F.ring F.value rule (first_block + b) (i / width) (cell values.old (b * (2 * size) + i)) (cell values.old (b * (2 * size) + (size + i))) }
     ensures far { let cell = λ (xs : List F) (n : ℕ). F.value (get_or xs n F.ZERO) in
         let size = half * width in
         (b i : ℕ) → b < blocks → i < size → cell values.new (b * (2 * size) + (size + i))
-        ≡ minus F.ring (cell values.old (b * (2 * size) + i)) (F.ring.mul (cell values.old (b * (2 * size) + (size + i))) (cell twiddles.now (i / width))) }
-    ensures count { products.new + blocks * width ≡ products.old + blocks * (half * width) }
+        ≡ R.far F.Element F.ring F.value rule (first_block + b) (i / width) (cell values.old (b * (2 * size) + i)) (cell values.old (b * (2 * size) + (size + i))) }
+    ensures grows { products.old ≤ products.new }
+    ensures count { products.new ≤ products.old + R.cost * (blocks * (half * width)) }
 {
     let size = values.len() / blocks;
     for b in 0..blocks {
         let start = b * size;
         let block = &mut values[start..start + size];
-        dit_block(block, width, half, twiddles, products);
+        meet_block(rule, block, width, half, first_block + b, products);
     }
 }
 
 // One block of a layer.
-fn dit_block<F: TwoAdicField>(
-    block: &mut [F],
+fn meet_block<F: TwoAdicField, R: Rule<F>>(
+    rule: R,
+    values: &mut [F],
     width: usize,
     half: usize,
-    twiddles: &[F],
+    block: usize,
     products: &mut Products,
 )
     requires wide { 1 ≤ width }
-    requires some { 1 ≤ half }
-    requires size { length block.old ≡ 2 * (half * width) }
-    requires twiddles { half ≤ length twiddles.now }
-    requires first { F.value (get_or twiddles.now 0 F.ZERO) ≡ F.ring.one }
+    requires size { length values.old ≡ 2 * (half * width) }
+    requires there { (t : ℕ) → t < half → R.has rule block t }
     ensures near { let cell = λ (xs : List F) (n : ℕ). F.value (get_or xs n F.ZERO) in
         let size = half * width in
-        (i : ℕ) → i < size → cell block.new i
-        ≡ F.ring.add (cell block.old i) (F.ring.mul (cell block.old (size + i)) (cell twiddles.now (i / width))) }
+        (i : ℕ) → i < size → cell values.new i ≡ R.near F.Element F.ring F.value rule block (i / width) (cell values.old i) (cell values.old (size + i)) }
     ensures far { let cell = λ (xs : List F) (n : ℕ). F.value (get_or xs n F.ZERO) in
         let size = half * width in
-        (i : ℕ) → i < size → cell block.new (size + i)
-        ≡ minus F.ring (cell block.old i) (F.ring.mul (cell block.old (size + i)) (cell twiddles.now (i / width))) }
-    ensures count { products.new + width ≡ products.old + half * width }
+        (i : ℕ) → i < size → cell values.new (size + i) ≡ R.far F.Element F.ring F.value rule block (i / width) (cell values.old i) (cell values.old (size + i)) }
+    ensures grows { products.old ≤ products.new }
+    ensures count { products.new ≤ products.old + R.cost * (half * width) }
 {
-    let (low, high) = block.split_at_mut(half * width);
-    dit_halves(low, high, width, half, twiddles, products);
+    let (low, high) = values.split_at_mut(half * width);
+    meet_halves(rule, low, high, width, half, block, products);
 }
 
 // The rows of the two halves of a block, pair by pair.
-fn dit_halves<F: TwoAdicField>(
+fn meet_halves<F: TwoAdicField, R: Rule<F>>(
+    rule: R,
     low: &mut [F],
     high: &mut [F],
     width: usize,
     half: usize,
-    twiddles: &[F],
+    block: usize,
     products: &mut Products,
 )
-    requires wide { 1 ≤ width }
-    requires some { 1 ≤ half }
     requires low { length low.old ≡ half * width }
     requires high { length high.old ≡ half * width }
-    requires twiddles { half ≤ length twiddles.now }
-    requires first { F.value (get_or twiddles.now 0 F.ZERO) ≡ F.ring.one }
+    requires there { (t : ℕ) → t < half → R.has rule block t }
     ensures near { let cell = λ (xs : List F) (n : ℕ). F.value (get_or xs n F.ZERO) in
         (t j : ℕ) → t < half → j < width → cell low.new (t * width + j)
-        ≡ F.ring.add (cell low.old (t * width + j)) (F.ring.mul (cell high.old (t * width + j)) (cell twiddles.now t)) }
+        ≡ R.near F.Element F.ring F.value rule block t (cell low.old (t * width + j)) (cell high.old (t * width + j)) }
     ensures far { let cell = λ (xs : List F) (n : ℕ). F.value (get_or xs n F.ZERO) in
         (t j : ℕ) → t < half → j < width → cell high.new (t * width + j)
-        ≡ minus F.ring (cell low.old (t * width + j)) (F.ring.mul (cell high.old (t * width + j)) (cell twiddles.now t)) }
-    ensures count { products.new + width ≡ products.old + half * width }
+        ≡ R.far F.Element F.ring F.value rule block t (cell low.old (t * width + j)) (cell high.old (t * width + j)) }
+    ensures grows { products.old ≤ products.new }
+    ensures count { products.new ≤ products.old + R.cost * (half * width) }
 {
-    apply_to_rows(
-        TwiddleFreeButterfly,
-        &mut low[0..width],
-        &mut high[0..width],
-        products,
-    );
-    for t in 1..half {
+    for t in 0..half {
         let start = t * width;
         let end = start + width;
-        apply_to_rows(
-            DitButterfly(twiddles[t]),
+        rule.meet(
+            block,
+            t,
             &mut low[start..end],
             &mut high[start..end],
             products,
         );
     }
-}
-
-// A butterfly on two rows, with a contract that speaks of entries.
-fn apply_to_rows<F: TwoAdicField, B: Butterfly<F>>(
-    butterfly: B,
-    row_1: &mut [F],
-    row_2: &mut [F],
-    products: &mut Products,
-)
-    requires { length row_1.old ≡ length row_2.old }
-    ensures near { (j : ℕ) → j < length row_1.old → F.value (get_or row_1.new j F.ZERO)
-        ≡ B.near F.Element F.ring F.value butterfly (F.value (get_or row_1.old j F.ZERO)) (F.value (get_or row_2.old j F.ZERO)) }
-    ensures far { (j : ℕ) → j < length row_1.old → F.value (get_or row_2.new j F.ZERO)
-        ≡ B.far F.Element F.ring F.value butterfly (F.value (get_or row_1.old j F.ZERO)) (F.value (get_or row_2.old j F.ZERO)) }
-    ensures count { products.new ≡ products.old + B.cost * length row_1.old }
-{
-    butterfly.apply_to_rows(row_1, row_2, products);
 }

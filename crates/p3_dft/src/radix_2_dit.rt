@@ -1,19 +1,20 @@
 //! The transform by decimation in time, with twiddles that are kept.
 
-ghost use Rattle.std.specs.Prelude.{◌≡◌, ◌↔◌, ◌⊎◌, ℕ, ◌+◌, ◌*◌, ◌-◌, ◌^◌, ◌<◌, ◌≤◌, List, length, get_or, IsTrue, IsOk, OnOk, OnErr, Ok};
+ghost use Rattle.std.specs.Prelude.{◌≡◌, ◌↔◌, ◌⊎◌, ℕ, ◌+◌, ◌*◌, ◌/◌, ◌^◌, ◌<◌, ◌≤◌, List, length, get_or, IsTrue, IsOk, OnOk, OnErr, Ok};
 ghost use Rattle.p3_field.specs.Ring.{power};
 ghost use Rattle.p3_matrix.specs.BitOrder.{rev};
 ghost use Rattle.p3_matrix.specs.RowMajor.{IsRowMajor, height};
 ghost use Rattle.p3_dft.specs.Polynomials.{poly};
 ghost use Rattle.p3_dft.specs.Transforms.{IsTransform};
-ghost use Rattle.p3_dft.specs.Twiddles.{IsPrepared};
+ghost use Rattle.p3_dft.specs.Twiddles.{AreTwiddlesOfLayers, IsPrepared, layer_powers};
 
 #[cfg(test)]
 mod tests;
 
-use crate::butterfly_layers::dit_layer;
+use crate::butterfly_layers::layer;
+use crate::butterfly_layers::rules::DitByPlace;
 use crate::traits::{Layout, TwoAdicSubgroupDft};
-use crate::twiddles::{Twiddles, layer};
+use crate::twiddles::{Twiddles, layer_twiddles};
 use crate::util::{pad_rows, reverse_rows, shift_rows};
 use p3_field::{Products, TwoAdicField};
 use p3_matrix::{DftError, IntoRowMajorMatrix, RowMajorMatrix, log2_strict_usize};
@@ -37,17 +38,18 @@ pub struct Radix2Dit<F: TwoAdicField> {
 }
 
 impl<F: TwoAdicField> Model for Radix2Dit<F> {
+    ghost use Rattle.std.specs.List.{range_with_len};
     ghost use Rattle.p3_dft.specs.Twiddles.{Tabled};
 
     ghost Value = { Tabled };
 
-    ghost view = { λ e. record { prepared = e.twiddles; products = e.products } };
+    ghost view = { λ e. record { prepared = range_with_len 1 e.twiddles; products = e.products } };
 }
 
 impl<F: TwoAdicField> Default for Radix2Dit<F> {
-    ghost use Rattle.std.specs.Prelude.{◌≡◌};
+    ghost use Rattle.std.specs.Prelude.{◌≡◌, []};
 
-    ghost is_default = { λ e. (e.prepared ≡ 0) × (e.products ≡ 0) };
+    ghost is_default = { λ e. (e.prepared ≡ []) × (e.products ≡ 0) };
 
     fn default() -> Self {
         Radix2Dit {
@@ -58,9 +60,9 @@ impl<F: TwoAdicField> Default for Radix2Dit<F> {
 }
 
 impl<F: TwoAdicField> Clone for Radix2Dit<F> {
-    ghost use Rattle.std.specs.Prelude.{◌≡◌, ⊤};
+    ghost use Rattle.std.specs.Prelude.{◌≡◌, [], ⊤};
 
-    ghost is_clone = { λ _ e. (e.prepared ≡ 0) × (e.products ≡ 0) };
+    ghost is_clone = { λ _ e. (e.prepared ≡ []) × (e.products ≡ 0) };
 
     ghost is_infallible = { λ _. ⊤ };
 
@@ -151,7 +153,7 @@ impl<F: TwoAdicField> TwoAdicSubgroupDft<F> for Radix2Dit<F> {
         self.twiddles.make(*values.allocator(), log_h)?;
         let mut mat = RowMajorMatrix::new(values, width);
         let twiddles = self.twiddles.as_slice();
-        transform(&mut mat, log_h, twiddles, &mut self.products);
+        dit_matrix(&mut mat, log_h, twiddles, &mut self.products);
         Ok(mat)
     }
 
@@ -193,7 +195,7 @@ impl<F: TwoAdicField> TwoAdicSubgroupDft<F> for Radix2Dit<F> {
 }
 
 // Transforms a matrix in place by the twiddles of its layers.
-fn transform<F: TwoAdicField>(
+fn dit_matrix<F: TwoAdicField>(
     mat: &mut RowMajorMatrix<F>,
     log_h: usize,
     twiddles: &[F],
@@ -203,10 +205,10 @@ fn transform<F: TwoAdicField>(
     requires small { log_h < 64 }
     requires rooted { log_h ≤ F.TWO_ADICITY }
     requires height { height mat.old ≡ 2 ^ log_h }
-    requires layers { 2 ^ log_h - 1 ≤ length twiddles.now }
-    requires twiddles { (l t : ℕ) → l < log_h → t < 2 ^ l → F.value (get_or twiddles.now (2 ^ l - 1 + t) F.ZERO) ≡ power F.ring (F.value (F.generator (l + 1))) t }
+    requires twiddles { AreTwiddlesOfLayers F.Field.own log_h (layer_powers F.Field.own F.generator) twiddles.now }
     ensures values { IsTransform F.Field.own F.generator mat.old F.ring.one mat.new }
-    ensures count { products.new + 2 ^ log_h * mat.old.width ≡ products.old + (log_h * 2 ^ (log_h - 1) + 1) * mat.old.width }
+    ensures grows { products.old ≤ products.new }
+    ensures count { products.new ≤ products.old + mat.old.width * (log_h * 2 ^ log_h / 2) }
 {
     let width = mat.width();
     reverse_rows(mat);
@@ -219,7 +221,7 @@ fn transform<F: TwoAdicField>(
 }
 
 // All layers, on rows that lie in bit reversed order. Layer l has `2^(log_h - 1 - l)` blocks of two
-// halves of `2^l` rows, and its twiddles begin at place `2^l - 1`. Inlined, so that a width that the caller names is known in all layers.
+// halves of `2^l` rows. Inlined, so that a width that the caller names is known in all layers.
 #[inline(always)]
 fn dit_network<F: TwoAdicField>(
     values: &mut [F],
@@ -232,15 +234,24 @@ fn dit_network<F: TwoAdicField>(
     requires small { log_h < 64 }
     requires rooted { log_h ≤ F.TWO_ADICITY }
     requires height { length values.old ≡ 2 ^ log_h * width }
-    requires layers { 2 ^ log_h - 1 ≤ length twiddles.now }
-    requires twiddles { (l t : ℕ) → l < log_h → t < 2 ^ l → F.value (get_or twiddles.now (2 ^ l - 1 + t) F.ZERO) ≡ power F.ring (F.value (F.generator (l + 1))) t }
+    requires twiddles { AreTwiddlesOfLayers F.Field.own log_h (layer_powers F.Field.own F.generator) twiddles.now }
     ensures values { (r j : ℕ) → r < 2 ^ log_h → j < width → F.value (get_or values.new (r * width + j) F.ZERO)
         ≡ poly F.ring (2 ^ log_h) (λ q. F.value (get_or values.old (rev log_h q * width + j) F.ZERO)) (power F.ring (F.value (F.generator log_h)) r) }
-    ensures count { products.new + 2 ^ log_h * width ≡ products.old + (log_h * 2 ^ (log_h - 1) + 1) * width }
+    ensures grows { products.old ≤ products.new }
+    ensures count { products.new ≤ products.old + width * (log_h * 2 ^ log_h / 2) }
 {
     for l in 0..log_h {
         let half = 1usize << l;
         let blocks = 1usize << (log_h - 1 - l);
-        dit_layer(values, width, half, blocks, layer(twiddles, l), products);
+        let twiddles = layer_twiddles(twiddles, l);
+        layer(
+            DitByPlace { twiddles },
+            values,
+            width,
+            half,
+            0,
+            blocks,
+            products,
+        );
     }
 }

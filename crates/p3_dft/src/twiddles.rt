@@ -1,8 +1,8 @@
 // Twiddles: powers of the generators, made once for all layers up to a height.
 
-ghost use Rattle.std.specs.Prelude.{◌≡◌, ◌⊎◌, ℕ, ◌+◌, ◌-◌, ◌*◌, ◌^◌, ◌<◌, ◌≤◌, IsOk, IfOk, OnOk, OnErr, length, get_or};
+ghost use Rattle.std.specs.Prelude.{◌≡◌, ◌⊎◌, ℕ, ◌+◌, ◌-◌, ◌*◌, ◌^◌, ◌<◌, ◌≤◌, IsOk, IfOk, OnOk, OnErr, length, get_or, take, drop};
 ghost use Rattle.p3_field.specs.Ring.{power};
-ghost use Rattle.p3_dft.specs.Twiddles.{AreTwiddles};
+ghost use Rattle.p3_dft.specs.Twiddles.{AreTwiddlesOfLayers, layer_powers};
 
 use p3_field::TwoAdicField;
 use p3_matrix::DftError;
@@ -21,13 +21,13 @@ pub(crate) struct Twiddles<F: TwoAdicField> {
 
 impl<F: TwoAdicField> Model for Twiddles<F> {
     ghost use Rattle.std.specs.Prelude.{ℕ};
-    ghost use Rattle.p3_dft.specs.Twiddles.{AreTwiddles, held};
+    ghost use Rattle.p3_dft.specs.Twiddles.{AreTwiddlesOfLayers, layer_powers, held};
 
     ghost Value = { ℕ };
 
     ghost view = { λ t. t.log_h };
 
-    ghost invariant = { λ t. AreTwiddles F.Field F.generator t.log_h (held t.powers) };
+    ghost invariant = { λ t. AreTwiddlesOfLayers F.Field t.log_h (layer_powers F.Field F.generator) (held t.powers) };
 }
 
 impl<F: TwoAdicField> Twiddles<F> {
@@ -70,7 +70,7 @@ impl<F: TwoAdicField> Twiddles<F> {
 
     // The twiddles of all layers that are there.
     pub(crate) fn as_slice(&self) -> &[F]
-        ensures { AreTwiddles F.Field.own F.generator self.now result.now }
+        ensures { AreTwiddlesOfLayers F.Field.own self.now (layer_powers F.Field.own F.generator) result.now }
     {
         match &self.powers {
             Some(powers) => powers.as_slice(),
@@ -80,11 +80,10 @@ impl<F: TwoAdicField> Twiddles<F> {
 }
 
 // Those of one layer.
-pub(crate) fn layer<F: TwoAdicField>(twiddles: &[F], l: usize) -> &[F]
+pub(crate) fn layer_twiddles<F: TwoAdicField>(twiddles: &[F], l: usize) -> &[F]
     requires small { l < 63 }
     requires inside { 2 * 2 ^ l - 1 ≤ length twiddles.now }
-    ensures size { length result.now ≡ 2 ^ l }
-    ensures twiddles { (t : ℕ) → t < 2 ^ l → get_or result.now t F.ZERO ≡ get_or twiddles.now (2 ^ l - 1 + t) F.ZERO }
+    ensures { result.now ≡ take (2 ^ l) (drop (2 ^ l - 1) twiddles.now) }
 {
     let count = 1usize << l;
     &twiddles[count - 1..2 * count - 1]
@@ -94,7 +93,7 @@ pub(crate) fn layer<F: TwoAdicField>(twiddles: &[F], l: usize) -> &[F]
 fn layers<F: TwoAdicField>(alloc: Global, log_h: usize) -> Result<Vec<F>, DftError>
     requires within { log_h ≤ F.TWO_ADICITY }
     requires small { log_h < 64 }
-    ensures { IfOk result (λ v. AreTwiddles F.Field.own F.generator log_h v.items) }
+    ensures { IfOk result (λ v. AreTwiddlesOfLayers F.Field.own log_h (layer_powers F.Field.own F.generator) v.items) }
 {
     let mut twiddles = Vec::with_capacity(alloc, (1 << log_h) - 1)?;
     for l in 0..log_h {

@@ -1,14 +1,12 @@
-use Rattle.std.proofs.Common.{◌≡◌, ℕ, ◌^◌, ◌≤◌, List, Result, Ok, Err, IsOk, sym, ap, ap₂, ◌∙◌, arith, rules, lit≤}
+use Rattle.std.proofs.Common.{◌≡◌, inl, ℕ, ◌^◌, ◌≤◌, List, Result, Ok, Err, IsOk, sym, ap, ap₂, ◌∙◌, subst, arith, rules, lit≤}
 use Rattle.std.proofs.Math.Nat.{pow-le-pow_right}
 use Rattle.p3_matrix.specs.RowMajor.{RowMajor, height}
 use Rattle.p3_matrix.proofs.TwoPowers.{log_same}
-use Rattle.p3_dft.proofs.ProductBounds.{counted_within, counted_grows}
+use Rattle.p3_dft.specs.Twiddles.{Tabled, IsPrepared, layer_powers}
+use Rattle.p3_dft.proofs.MoreTwiddles.{fewer_layers}
+use Rattle.p3_dft.proofs.PreparedHeights.{prepared_until, until_prepared}
 use Rattle.p3_dft.proofs.ReversedRows.{transform_of_row}
 use Rattle.p3_dft.proofs.radix_2_dit.Radix2DitTwoAdicSubgroupDft.dft_batch.Goals as goal
-
--- a height that is not one is not the power of exponent zero
-some_layers : (h k : ℕ) → h ≡ 2 ^ k → (h ≡ 1 → ⊥) → k ≡ 0 → ⊥
-some_layers h k high more none = more (high ∙ ap (λ n. 2 ^ n) none)
 
 not_ok : {A E : Type 0} (r : Result A E) (e : E) → r ≡ Err e → IsOk r → ⊥
 not_ok (Ok x) e is ok = cc
@@ -23,7 +21,7 @@ pub returns-then-height-eq1-clause-serves : goal.returns-then-height-eq1-clause-
 returns-then-height-eq1-clause-serves g c k high =
     let tall : c.height-height.result ≡ height (g.N.IntoRowMajorMatrix.stored c.args.mat) = c.height-height.ensures.height ∙ ap height c.into_row_major_matrix-mat.ensures in
     let none : k ≡ 0 = log_same k 0 (sym high ∙ sym tall ∙ c.if-height-eq1.true) in
-    omega (arith, none)
+    inl none
 
 pub make-requires-clause-within : goal.make-requires-clause-within
 make-requires-clause-within g c =
@@ -36,43 +34,45 @@ returns-in_err-make-clause-succeeds g c k high ready =
     let tall : c.height-height.result ≡ height (g.N.IntoRowMajorMatrix.stored c.args.mat) = c.height-height.ensures.height ∙ ap height c.into_row_major_matrix-mat.ensures in
     let log = c.log2_strict_usize-log_h.result in
     let same : k ≡ log = log_same k log (sym high ∙ sym tall ∙ c.log2_strict_usize-log_h.ensures.power) in
-    let view : c.self.inside.twiddles ≡ c.args.self.now.prepared = ap (λ e. e.prepared) c.self.view_is in
-    let there : log ≤ c.self.inside.twiddles = omega (arith, same, view, ready) in
+    let held : k ≤ c.self.inside.twiddles = until_prepared _ k (subst (λ (e : Tabled). IsPrepared e k) (sym c.self.view_is) ready) in
+    let there : log ≤ c.self.inside.twiddles = omega (arith, same, held) in
     absurd (not_ok c.make.result _ c.in_err-make.was (c.make.ensures.ready there))
 
-pub transform-requires-clause-rooted : goal.transform-requires-clause-rooted
-transform-requires-clause-rooted g c =
+pub dit_matrix-requires-clause-rooted : goal.dit_matrix-requires-clause-rooted
+dit_matrix-requires-clause-rooted g c =
     let tall : c.height-height.result ≡ height (g.N.IntoRowMajorMatrix.stored c.args.mat) = c.height-height.ensures.height ∙ ap height c.into_row_major_matrix-mat.ensures in
     let same : c.log2_strict_usize-log_h.result ≡ c.requires.log = log_same _ _ (sym c.log2_strict_usize-log_h.ensures.power ∙ tall ∙ c.requires.high) in
     omega (arith, same, c.requires.within)
 
-pub transform-requires-clause-layers : goal.transform-requires-clause-layers
-transform-requires-clause-layers g c =
-    let rise : 2 ^ c.log2_strict_usize-log_h.result ≤ 2 ^ c.make.new.self = pow-le-pow_right {n = 2} (lit≤ tt) c.in_ok-make.ensures.made in
-    omega (arith, rise, c.as_slice-twiddles.ensures.size)
+pub dit_matrix-requires-clause-twiddles : goal.dit_matrix-requires-clause-twiddles
+dit_matrix-requires-clause-twiddles g c =
+    fewer_layers g.F.Field (layer_powers g.F.Field g.F.TwoAdicField.generator) c.log2_strict_usize-log_h.result c.make.new.self _ c.in_ok-make.ensures.made c.as_slice-twiddles.ensures
 
 pub returns-clause-values : goal.returns-clause-values
 returns-clause-values g c =
     let m = c.into_row_major_matrix-mat.result in
     let same : c.new-mat.result ≡ m =
     c.new-mat.ensures ∙ ap₂ (λ (w : ℕ) (xs : List g.row.F.Denot). let r : RowMajor g.row.F.Denot = record { width = w; values = xs } in r) c.width-width.ensures.width c.into_values-values.ensures.values in
-    rw (← c.into_row_major_matrix-mat.ensures, ← same) c.transform.ensures.values
+    rw (← c.into_row_major_matrix-mat.ensures, ← same) c.dit_matrix.ensures.values
 
 pub returns-clause-serves : goal.returns-clause-serves
 returns-clause-serves g c k high =
     let tall : c.height-height.result ≡ height (g.N.IntoRowMajorMatrix.stored c.args.mat) = c.height-height.ensures.height ∙ ap height c.into_row_major_matrix-mat.ensures in
     let log = c.log2_strict_usize-log_h.result in
     let same : log ≡ k = log_same log k (sym c.log2_strict_usize-log_h.ensures.power ∙ tall ∙ high) in
-    omega (arith, same, c.in_ok-make.ensures.made)
+    prepared_until _ k (omega (arith, same, c.in_ok-make.ensures.made))
 
 pub returns-clause-later : goal.returns-clause-later
 returns-clause-later g c =
-    let log = c.log2_strict_usize-log_h.result in
     let products : c.self.inside.products ≡ c.args.self.now.products = ap (λ e. e.products) c.self.view_is in
-    let prepared : c.self.inside.twiddles ≡ c.args.self.now.prepared = ap (λ e. e.prepared) c.self.view_is in
-    let grows = counted_grows log c.new-mat.result.width c.self.inside.products c.transform.new.products (some_layers _ log c.log2_strict_usize-log_h.ensures.power c.if-height-eq1.false) c.transform.ensures.count in
-    let keeps : (k : ℕ) → k ≤ c.args.self.now.prepared → k ≤ c.make.new.self = λ k before. omega (arith, prepared, before, c.make.ensures.keeps) in
-    record { keeps = keeps; keeps_cosets = keeps; keeps_served = keeps; grows = omega (arith, products, grows) }
+    let there = λ (k : ℕ) (before : IsPrepared c.args.self.now k). until_prepared _ k (subst (λ (e : Tabled). IsPrepared e k) (sym c.self.view_is) before) in
+    let still : (k : ℕ) → IsPrepared c.args.self.now k → k ≤ c.make.new.self = λ k before. let held = there k before in omega (arith, held, c.make.ensures.keeps) in
+    record {
+      keeps = λ k before. prepared_until _ k (still k before);
+      keeps_cosets = λ k before. prepared_until _ k (still k before);
+      keeps_served = λ k before. prepared_until _ k (still k before);
+      grows = omega (arith, products, c.dit_matrix.ensures.grows);
+    }
 
 pub returns-clause-cost : goal.returns-clause-cost
 returns-clause-cost g c k high =
@@ -82,5 +82,4 @@ returns-clause-cost g c k high =
     let products : c.self.inside.products ≡ c.args.self.now.products = ap (λ e. e.products) c.self.view_is in
     let width : c.new-mat.result.width ≡ (g.N.IntoRowMajorMatrix.stored c.args.mat).width =
     ap (λ (m : RowMajor g.row.F.Denot). m.width) c.new-mat.ensures ∙ c.width-width.ensures.width ∙ ap (λ (m : RowMajor g.row.F.Denot). m.width) c.into_row_major_matrix-mat.ensures in
-    let within = counted_within log c.new-mat.result.width c.self.inside.products c.transform.new.products c.transform.ensures.count in
-    rw (← products, ← width, ← same) within
+    rw (← products, ← width, ← same) c.dit_matrix.ensures.count

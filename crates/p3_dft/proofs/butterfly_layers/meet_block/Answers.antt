@@ -1,26 +1,24 @@
 use Rattle.std.proofs.Common.{◌≡◌, ℕ, ◌+◌, ◌*◌, ◌++◌, ◌<◌, get_or, ap, ◌∙◌, arith}
-use Rattle.p3_field.specs.Ring.{minus}
 use Rattle.p3_dft.proofs.Blocks.{row_below}
 use Rattle.p3_dft.proofs.Halves.{in_first, in_second, of_halves, each_cell}
-use Rattle.p3_dft.proofs.butterfly_layers.dit_block.Goals as goal
+use Rattle.p3_dft.proofs.butterfly_layers.meet_block.Goals as goal
 
 pub returns-clause-near : goal.returns-clause-near
 returns-clause-near g c =
     let field = g.F.Field in
     let w = c.args.width in
     let h = c.args.half in
-    let block = c.args.block.now in
-    let twiddle = λ (t : ℕ). field.value (get_or c.args.twiddles.now t field.ZERO) in
-    let near = λ (t : ℕ) (x y : g.row.F.Denot). field.ring.add (field.value x) (field.ring.mul (field.value y) (twiddle t)) in
-    let low = c.dit_halves.new.low in
-    let high = c.dit_halves.new.high in
+    let block = c.args.values.now in
+    let near = λ (t : ℕ) (x y : g.row.F.Denot). g.R.Rule.near field.Element field.ring field.value c.args.rule c.args.block t (field.value x) (field.value y) in
+    let low = c.meet_halves.new.low in
+    let high = c.meet_halves.new.high in
     let front = c.split_at_mut-low.ensures in
     each_cell (λ t n. field.value (get_or (low ++ high) n field.ZERO) ≡ near t (get_or block n field.ZERO) (get_or block (h * w + n) field.ZERO)) w h c.requires.wide
     (λ t j p q.
     let n = t * w + j in
     let inside : n < h * w = row_below t j w h p q in
-    ap field.value (in_first low high n field.ZERO (omega (arith, inside, c.dit_halves.auto.low, front.front_len)))
-    ∙ c.dit_halves.ensures.near t j p q
+    ap field.value (in_first low high n field.ZERO (omega (arith, inside, c.meet_halves.auto.low, front.front_len)))
+    ∙ c.meet_halves.ensures.near t j p q
     ∙ of_halves (near t) block _ _ (h * w) n field.ZERO front.front front.back inside)
 
 pub returns-clause-far : goal.returns-clause-far
@@ -28,16 +26,15 @@ returns-clause-far g c =
     let field = g.F.Field in
     let w = c.args.width in
     let h = c.args.half in
-    let block = c.args.block.now in
-    let twiddle = λ (t : ℕ). field.value (get_or c.args.twiddles.now t field.ZERO) in
-    let far = λ (t : ℕ) (x y : g.row.F.Denot). minus field.ring (field.value x) (field.ring.mul (field.value y) (twiddle t)) in
-    let low = c.dit_halves.new.low in
-    let high = c.dit_halves.new.high in
+    let block = c.args.values.now in
+    let far = λ (t : ℕ) (x y : g.row.F.Denot). g.R.Rule.far field.Element field.ring field.value c.args.rule c.args.block t (field.value x) (field.value y) in
+    let low = c.meet_halves.new.low in
+    let high = c.meet_halves.new.high in
     let front = c.split_at_mut-low.ensures in
     each_cell (λ t n. field.value (get_or (low ++ high) (h * w + n) field.ZERO) ≡ far t (get_or block n field.ZERO) (get_or block (h * w + n) field.ZERO)) w h c.requires.wide
     (λ t j p q.
     let n = t * w + j in
     let inside : n < h * w = row_below t j w h p q in
-    ap field.value (in_second low high (h * w) n field.ZERO (omega (arith, c.dit_halves.auto.low, front.front_len)))
-    ∙ c.dit_halves.ensures.far t j p q
+    ap field.value (in_second low high (h * w) n field.ZERO (omega (arith, c.meet_halves.auto.low, front.front_len)))
+    ∙ c.meet_halves.ensures.far t j p q
     ∙ of_halves (far t) block _ _ (h * w) n field.ZERO front.front front.back inside)

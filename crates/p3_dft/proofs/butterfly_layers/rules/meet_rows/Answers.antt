@@ -1,6 +1,6 @@
 use Rattle.std.proofs.Common.{◌≡◌, ℕ, suc, zero, ◌<◌, List, [], ◌∷◌, length, get_or, map, arith}
 use Rattle.p3_field.specs.Lanes.{by_lanes}
-use Rattle.p3_dft.proofs.butterfly_layers.apply_to_rows.Goals as goal
+use Rattle.p3_dft.proofs.butterfly_layers.rules.meet_rows.Goals as goal
 
 -- an entry of what an operation makes of two lists of one length
 lane_at : {T A : Type 0} (op : A → A → A) (value : T → A) (d : T) (new xs ys : List T) (j : ℕ) → length xs ≡ length ys → j < length xs

@@ -1,7 +1,7 @@
 use Rattle.std.proofs.Common.{suc, ◌^◌, ◌≤◌, arith, lit≤}
 use Rattle.std.proofs.Math.Nat.{pow-le-pow_right, two-pow-succ}
 use Rattle.std.proofs.lemmas.Nat.{one_shl}
-use Rattle.p3_dft.proofs.twiddles.layer.Goals as goal
+use Rattle.p3_dft.proofs.twiddles.layer_twiddles.Goals as goal
 
 pub overflow_mul-result : goal.overflow_mul-result
 overflow_mul-result g c =

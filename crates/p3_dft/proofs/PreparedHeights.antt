@@ -1,0 +1,15 @@
+-- Which heights are prepared where all up to one are.
+use Rattle.std.proofs.Common.{◌≡◌, ◌⊎◌, inl, inr, ℕ, zero, suc, ◌+◌, ◌<◌, ◌≤◌, length, get_or, refl, ◌∙◌, arith}
+use Rattle.std.specs.List.{Contains, range_with_len}
+use Rattle.std.proofs.lemmas.List.FromFn.{get_or-range_with_len, length-range_with_len}
+
+pub prepared_until : (n k : ℕ) → k ≤ n → (k ≡ 0) ⊎ Contains (range_with_len 1 n) k
+prepared_until n zero below = inl refl
+prepared_until n (suc k) below = inr (k, omega (arith, below, length-range_with_len 1 n), get_or-range_with_len 1 n k (suc k) (omega arith) ∙ omega arith)
+
+pub until_prepared : (n k : ℕ) → (k ≡ 0) ⊎ Contains (range_with_len 1 n) k → k ≤ n
+until_prepared n k (inl none) = omega (arith, none)
+until_prepared n k (inr (i, inside, is)) =
+    let below : i < n = omega (arith, inside, length-range_with_len 1 n) in
+    let at = get_or-range_with_len 1 n i k below in
+    omega (arith, is, at, below)
