@@ -6,7 +6,8 @@ ghost use Rattle.p3_field.specs.Ring.{IsInvertible};
 ghost use Rattle.p3_dft.specs.Shapes.{FitsLde};
 ghost use Rattle.dft.specs.declared.names.Operation.TheVariants.{CosetIdft};
 ghost use Rattle.dft.specs.Faults.{seen};
-ghost use Rattle.dft.specs.Arguments.{arguments, arguments_of, cannot_undo, has_no_number, is_unfit, number_or_zero, numbers_of, reaches, settings};
+ghost use Rattle.dft.specs.Arguments.{arguments, arguments_of, cannot_undo, has_no_number, is_unfit, reaches, settings};
+ghost use Rattle.dft.specs.Arguments.{number_or_zero, numbers_of};
 ghost use Rattle.dft.specs.NumberedFields.{has_inverse, numbered};
 
 use crate::fault::Fault;
@@ -36,7 +37,8 @@ pub fn parse_arguments<F: CanonicalField>(
     ensures shift_below { IfOk result (λ a. a.shift < F.ORDER_U64) }
     ensures full { IfOk result (λ a. (length a.values.now / a.width) * a.width ≡ length a.values.now) }
     ensures fits { IfOk result (λ a. FitsLde F.TWO_ADICITY (length a.values.now / a.width) a.width a.added_bits) }
-    ensures invertible { IfOk result (λ a. operation ≡ CosetIdft → (x : F) → F.number (F.value x) ≡ a.shift → IsInvertible F.ring (F.value x)) }
+    ensures invertible { IfOk result (λ a. operation ≡ CosetIdft
+        → (x : F) → F.number (F.value x) ≡ a.shift → IsInvertible F.ring (F.value x)) }
 {
     if words.len() <= settings(operation) {
         return Err(Fault::TooFewWords);
@@ -147,7 +149,8 @@ fn cannot_undo<F: CanonicalField>(operation: Operation, shift: u64) -> bool
     requires { shift < F.ORDER_U64 }
     ensures test { (element : ℕ → F.Element) → ((n : ℕ) → n < F.ORDER_U64 → F.number (element n) ≡ n)
         → result ≡ cannot_undo (numbered F.Field.own F.generator F.TWO_ADICITY F.ORDER_U64 element) operation shift }
-    ensures invertible { result ≡ false → operation ≡ CosetIdft → (x : F) → F.number (F.value x) ≡ shift → IsInvertible F.ring (F.value x) }
+    ensures invertible { result ≡ false → operation ≡ CosetIdft
+        → (x : F) → F.number (F.value x) ≡ shift → IsInvertible F.ring (F.value x) }
 {
     match operation {
         Operation::CosetIdft => !has_inverse::<F>(shift),

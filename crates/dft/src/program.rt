@@ -36,7 +36,8 @@ pub fn run<W: Sink>(alloc: Global, words: &[String], out: &mut W) -> u8
     // There is an answer, and no memory for it.
     ensures memory { result ≡ 3 → IsAnswerable (map string_bytes words.now) × Took (W.calls out.old) (W.calls out.new) memory_line }
     // Writing stopped in the midst of one of these.
-    ensures stopped { result ≡ 4 → ((o : Outcome) × IsOutcome (map string_bytes words.now) o × TookStartOf (W.calls out.old) (W.calls out.new) o.text)
+    ensures stopped { result ≡ 4
+        → ((o : Outcome) × IsOutcome (map string_bytes words.now) o × TookStartOf (W.calls out.old) (W.calls out.new) o.text)
         ⊎ (IsAnswerable (map string_bytes words.now) × TookStartOf (W.calls out.old) (W.calls out.new) memory_line) }
     ensures failed { (result ≡ 4) ↔ ((W.calls out.old).failures < (W.calls out.new).failures) }
 {
@@ -131,7 +132,8 @@ fn answer_in<F: CanonicalField>(
     words: &[String],
 ) -> Result<String, Stopped>
     ensures { (element : ℕ → F.Element) → ((n : ℕ) → n < F.ORDER_U64 → F.number (element n) ≡ n)
-        → Gives result (IsOutcomeOver (numbered F.Field.own F.generator F.TWO_ADICITY F.ORDER_U64 element) operation (map string_bytes words.now)) }
+        → Gives result (IsOutcomeOver (numbered F.Field.own F.generator F.TWO_ADICITY F.ORDER_U64 element)
+        operation (map string_bytes words.now)) }
 {
     let arguments = parse_arguments::<F>(operation, words)?;
     let matrix = matrix_of::<F>(alloc, arguments.width, arguments.values)?;
