@@ -1,6 +1,7 @@
 -- Residues modulo an odd number: sums of ones, halves, and powers by squarings.
-use Rattle.std.proofs.Common.{◌≡◌, ℕ, zero, suc, ◌+◌, ◌/◌, ◌%◌, ◌^◌, ◌<◌, sym, ap, ◌∙◌, arith, one-add}
-use Rattle.std.proofs.Math.Nat.{add-mod-mod, add-mod_right, mod-eq_of_lt, two-pow-succ}
+use Rattle.std.proofs.Common.{◌≡◌, ℕ, zero, suc, ◌+◌, ◌/◌, ◌%◌, ◌^◌, ◌-◌, ◌<◌, ◌≤◌, sym, ap, ◌∙◌, arith, one-add, subst}
+use Rattle.std.proofs.Math.Nat.{add-mod-mod, add-mod_right, mod-eq_of_lt, mod_self, two-pow-succ}
+use Rattle.std.proofs.Math.Bridge.{le_prop}
 use Rattle.p3_field.specs.Ring.{Ring, count, power}
 use Rattle.p3_field.specs.Residues.{Residue, residues, residue-eq}
 use Rattle.p3_field.specs.Squarings.{repeated_square}
@@ -32,3 +33,38 @@ pub power-repeated_square : {A : Type 0} (r : Ring A) (x : A) (n : ℕ) → powe
 power-repeated_square r x zero = power-suc r x 0 ∙ ap (r.mul x) (power-zero r x) ∙ r.mul_one x
 power-repeated_square r x (suc n) =
     ap (power r x) (two-pow-succ n) ∙ power-add r x (2 ^ n) (2 ^ n) ∙ sym (power-square r x (2 ^ n)) ∙ power-repeated_square r (r.mul x x) n
+
+-- sums, differences and negatives with one correction in place of a division
+pub sum_below : (m a b r : ℕ) → a + b < m → r ≡ a + b → r ≡ (a + b) % m
+sum_below m a b r below is = is ∙ sym (mod-eq_of_lt below)
+
+pub sum_reaches : (m a b r : ℕ) → a < m → b < m → m ≤ a + b → r ≡ a + b - m → r ≡ (a + b) % m
+sum_reaches m a b r left right reaches is =
+    let whole : a + b ≡ r + m = omega (arith, is, reaches) in
+    let below : r < m = omega (arith, is, left, right, reaches) in
+    sym (ap (λ n. n % m) whole ∙ add-mod_right r m ∙ mod-eq_of_lt below)
+
+pub difference_above : (m a b r : ℕ) → a < m → b < m → b ≤ a → r ≡ a - b → r ≡ (a + (m - b)) % m
+difference_above m a b r left right above is =
+    let whole : a + (m - b) ≡ r + m = omega (arith, is, above, right) in
+    let below : r < m = omega (arith, is, left) in
+    sym (ap (λ n. n % m) whole ∙ add-mod_right r m ∙ mod-eq_of_lt below)
+
+pub difference_below : (m a b r : ℕ) → b < m → a < b → r ≡ a + (m - b) → r ≡ (a + (m - b)) % m
+difference_below m a b r right not_above is =
+    let below : a + (m - b) < m = omega (arith, right, not_above) in
+    is ∙ sym (mod-eq_of_lt below)
+
+pub negative_zero : (m a r : ℕ) → a ≡ 0 → r ≡ 0 → r ≡ (m - a) % m
+negative_zero m a r none is =
+    let whole : m - a ≡ m = omega (arith, none) in
+    is ∙ sym (ap (λ n. n % m) whole ∙ mod_self m)
+
+pub negative_other : (m a r : ℕ) → a < m → ¬ (a ≡ 0) → r ≡ m - a → r ≡ (m - a) % m
+negative_other m a r below some is =
+    let less : m - a < m = omega (arith, below, some) in
+    is ∙ sym (mod-eq_of_lt less)
+
+-- what is made of a number below m is decided by the number
+pub bounded-eq : {m : ℕ} {B : Type 0} (make : (n : ℕ) → n < m → B) (a b : ℕ) (h : a < m) (k : b < m) → a ≡ b → make a h ≡ make b k
+bounded-eq {m} make a b h k e = subst (λ (n : ℕ). (k : n < m) → make a h ≡ make n k) e (λ k. ap (make a) (le_prop h k)) k

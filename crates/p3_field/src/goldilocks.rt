@@ -183,7 +183,7 @@ impl Field for Goldilocks {
     ghost use Rattle.std.proofs.Common.{lit<, refl};
     ghost use Rattle.p3_field.specs.Residues.{Residue, residue-eq};
     ghost use Rattle.p3_field.specs.FieldLaws.{difference_law, eq_law, order_law};
-    ghost use Rattle.p3_field.specs.Fields.{goldilocks_ring};
+    ghost use Rattle.p3_field.specs.Fields.{goldilocks_ring, goldilocks_numbers};
 
     ghost Element = { Residue goldilocks_modulus };
 
@@ -244,7 +244,7 @@ impl Field for Goldilocks {
 
     ghost neg_one_law = { residue-eq _ _ refl };
 
-    ghost generator_law = { (record { number = 2635249152773512046; below = lit< tt }, residue-eq _ _ refl) };
+    ghost generator_law = { goldilocks_numbers.invertible };
 
     ghost can_add_law = { λ _ _. tt };
 
@@ -322,10 +322,8 @@ impl Packable for Goldilocks {
 }
 
 impl TwoAdicField for Goldilocks {
-    ghost use Rattle.std.proofs.Common.{lit≤, refl};
-    ghost use Rattle.p3_field.specs.Residues.{residue-eq};
-    ghost use Rattle.p3_field.specs.Fields.{goldilocks_ring, goldilocks_root, goldilocks_generator};
-    ghost use Rattle.p3_field.specs.FieldLaws.{roots_law};
+    ghost use Rattle.std.proofs.Common.{lit≤};
+    ghost use Rattle.p3_field.specs.Fields.{goldilocks_numbers, goldilocks_generator, are_field_generators};
 
     const TWO_ADICITY: usize = 32;
 
@@ -342,7 +340,7 @@ impl TwoAdicField for Goldilocks {
 
     ghost two_adicity_law = { lit≤ tt };
 
-    ghost roots_law = { roots_law goldilocks_ring goldilocks_root 32 (residue-eq _ _ refl) (residue-eq _ _ refl) };
+    ghost roots_law = { are_field_generators goldilocks_numbers };
 }
 
 impl CanonicalField for Goldilocks {

@@ -2,21 +2,27 @@
 //!
 //! `Field` has the operations of a commutative ring with one in which halving is exact, and their
 //! laws; `TwoAdicField` adds the roots of unity, `CanonicalField` the numbers below a modulus.
-//! `BabyBear` and `Goldilocks` are such fields. `PackedField` handles several scalars by one
-//! operation, and `Products` counts the products that were made, for contracts alone.
+//! `Residue31` is such a field for each record of `Numbers` with a modulus below `2^31`: `BabyBear`
+//! and `KoalaBear` are made of it. `Goldilocks` has a modulus below `2^64`. `PackedField` handles
+//! several scalars by one operation, and `Products` counts the products that were made, for
+//! contracts alone.
 #![tactic(auto)]
 
 pub mod baby_bear;
 mod euclid;
 pub mod fields;
 pub mod goldilocks;
+pub mod koala_bear;
 pub mod packed;
+pub mod residue31;
 pub mod two_adic;
 
 pub use baby_bear::BabyBear;
 pub use fields::Field;
 pub use goldilocks::Goldilocks;
+pub use koala_bear::KoalaBear;
 pub use packed::{Packable, Packed, PackedField, Products, scaled};
+pub use residue31::{Numbers, Residue31};
 pub use two_adic::{CanonicalField, TwoAdicField};
 
 #[cfg(test)]

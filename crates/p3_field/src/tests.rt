@@ -1,4 +1,4 @@
-// Numbers that were computed elsewhere, and each public function once, generic ones at both fields through their bounds.
+// Numbers that were computed elsewhere, and each public function once, generic ones at each field through their bounds.
 
 ghost use Rattle.std.specs.Prelude.{◌≡◌, length};
 
@@ -7,6 +7,7 @@ mod vectors;
 use crate::baby_bear::BabyBear;
 use crate::fields::Field;
 use crate::goldilocks::Goldilocks;
+use crate::koala_bear::KoalaBear;
 use crate::packed::{Packable, Packed, PackedField, Products, scaled};
 use crate::two_adic::{CanonicalField, TwoAdicField};
 use std::mem::size_of;
@@ -51,8 +52,10 @@ fn inverses_agree<F: CanonicalField>(rt: &impl Abort, table: &[(usize, u64)]) {
 #[test]
 fn operations(rt: HostRuntime) {
     operations_agree::<BabyBear>(&rt, &vectors::BABY_BEAR);
+    operations_agree::<KoalaBear>(&rt, &vectors::KOALA_BEAR);
     operations_agree::<Goldilocks>(&rt, &vectors::GOLDILOCKS);
     inverses_agree::<BabyBear>(&rt, &vectors::BABY_BEAR_INVERSES);
+    inverses_agree::<KoalaBear>(&rt, &vectors::KOALA_BEAR_INVERSES);
     inverses_agree::<Goldilocks>(&rt, &vectors::GOLDILOCKS_INVERSES);
 }
 
@@ -60,6 +63,8 @@ fn operations(rt: HostRuntime) {
 fn numbers(rt: HostRuntime) {
     assert_eq!(rt; BabyBear::new(2013265921), None);
     assert_eq!(rt; BabyBear::new(2013265920), Some(BabyBear::NEG_ONE));
+    assert_eq!(rt; KoalaBear::new(2130706433), None);
+    assert_eq!(rt; KoalaBear::new(2130706432), Some(KoalaBear::NEG_ONE));
     assert_eq!(rt; Goldilocks::new(18446744069414584321), None);
     assert_eq!(rt;
         Goldilocks::new(18446744069414584320),
@@ -67,38 +72,41 @@ fn numbers(rt: HostRuntime) {
     );
 }
 
-fn constants_agree<F: CanonicalField>(rt: &impl Abort, modulus: u64, generator: u8, root: u64) {
+fn constants_agree<F: CanonicalField>(rt: &impl Abort, modulus: u64, generator: u8) {
     assert_eq!(rt; F::ORDER_U64, modulus);
     assert!(rt; F::GENERATOR == F::from_u8(generator));
     assert!(rt; F::GENERATOR * F::GENERATOR.inverse() == F::ONE);
     assert!(rt; F::TWO == F::from_u8(2));
+    assert!(rt; F::NEG_ONE + F::ONE == F::ZERO);
     assert!(rt; F::two_adic_generator(0) == F::ONE);
-    assert!(rt; F::two_adic_generator(1) == F::NEG_ONE);
-    assert_eq!(rt;
-        F::two_adic_generator(F::TWO_ADICITY).as_canonical_u64(),
-        root
-    );
+}
+
+fn roots_agree<F: CanonicalField>(rt: &impl Abort, two_adicity: usize, table: &[(usize, u64)]) {
+    assert_eq!(rt; F::TWO_ADICITY, two_adicity);
+    for (bits, root) in table {
+        if *bits <= F::TWO_ADICITY {
+            assert_eq!(rt; F::two_adic_generator(*bits).as_canonical_u64(), *root);
+        }
+    }
 }
 
 #[test]
 fn roots(rt: HostRuntime) {
-    constants_agree::<BabyBear>(&rt, 2013265921, 31, 440564289);
-    constants_agree::<Goldilocks>(&rt, 18446744069414584321, 7, 1753635133440165772);
-    assert_eq!(rt; BabyBear::TWO_ADICITY, 27);
-    assert_eq!(rt;
-        BabyBear::two_adic_generator(2),
-        BabyBear::from_usize(1728404513)
-    );
-    assert_eq!(rt; Goldilocks::TWO_ADICITY, 32);
-    assert_eq!(rt;
-        Goldilocks::two_adic_generator(2),
-        Goldilocks::from_usize(281474976710656)
-    );
+    constants_agree::<BabyBear>(&rt, 2013265921, 31);
+    constants_agree::<KoalaBear>(&rt, 2130706433, 3);
+    constants_agree::<Goldilocks>(&rt, 18446744069414584321, 7);
+    roots_agree::<BabyBear>(&rt, 27, &vectors::BABY_BEAR_ROOTS);
+    roots_agree::<KoalaBear>(&rt, 24, &vectors::KOALA_BEAR_ROOTS);
+    roots_agree::<Goldilocks>(&rt, 32, &vectors::GOLDILOCKS_ROOTS);
 }
 
-fn powers_agree<F: CanonicalField>(rt: &impl Abort, hundredth: u64, squared: u64, halved: u64) {
+fn powers_agree<F: CanonicalField>(rt: &impl Abort, powers: (u64, u64, u64)) {
+    let (hundredth, after_ten_squarings, halved) = powers;
     assert_eq!(rt; F::GENERATOR.exp_u64(100).as_canonical_u64(), hundredth);
-    assert_eq!(rt; F::GENERATOR.exp_power_of_2(10).as_canonical_u64(), squared);
+    assert_eq!(rt;
+        F::GENERATOR.exp_power_of_2(10).as_canonical_u64(),
+        after_ten_squarings
+    );
     assert_eq!(rt; F::ONE.div_2exp_u64(70).as_canonical_u64(), halved);
 }
 
@@ -112,14 +120,11 @@ fn halves_agree<F: CanonicalField>(rt: &impl Abort, number: u8, half: u64) {
 
 #[test]
 fn powers(rt: HostRuntime) {
-    powers_agree::<BabyBear>(&rt, 394111911, 877050386, 2006353921);
-    powers_agree::<Goldilocks>(
-        &rt,
-        2335214203647002900,
-        2431605942540367610,
-        18446744069347475457,
-    );
+    powers_agree::<BabyBear>(&rt, vectors::BABY_BEAR_POWERS);
+    powers_agree::<KoalaBear>(&rt, vectors::KOALA_BEAR_POWERS);
+    powers_agree::<Goldilocks>(&rt, vectors::GOLDILOCKS_POWERS);
     halves_agree::<BabyBear>(&rt, 5, 1006632963);
+    halves_agree::<KoalaBear>(&rt, 5, 1065353219);
     halves_agree::<Goldilocks>(&rt, 7, 9223372034707292164);
 }
 

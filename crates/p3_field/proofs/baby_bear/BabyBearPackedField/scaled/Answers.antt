@@ -1,7 +1,0 @@
-use Rattle.std.proofs.Common.{ap, [], ◌∷◌}
-use Rattle.p3_field.specs.Fields.{baby_bear_modulus}
-use Rattle.p3_field.specs.Residues.{Residue, residue-eq}
-use Rattle.p3_field.proofs.baby_bear.BabyBearPackedField.scaled.Goals as goal
-
-pub returns-clause-lanes : goal.returns-clause-lanes
-returns-clause-lanes c = ap (λ (x : Residue baby_bear_modulus). x ∷ []) (residue-eq _ _ c.mul.ensures)

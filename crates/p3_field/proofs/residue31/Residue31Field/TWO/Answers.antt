@@ -1,0 +1,6 @@
+use Rattle.std.proofs.Common.{refl, ◌<◌}
+use Rattle.p3_field.proofs.Residues.{bounded-eq}
+use Rattle.p3_field.proofs.residue31.Residue31Field.TWO.Goals as goal
+
+pub returns : goal.returns
+returns g c = bounded-eq (λ n (h : n < g.N.Numbers.numbers.modulus). record { number = n; of = _; below = h }) _ _ _ _ refl

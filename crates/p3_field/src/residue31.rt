@@ -1,0 +1,354 @@
+//! Residues of an odd modulus below `2^31`, once for every such modulus.
+
+ghost use Rattle.std.specs.Prelude.{◌≡◌, ◌<◌, ◌≤◌, ◌%◌, ◌-◌, ℕ};
+
+use crate::euclid::inverse_modulo;
+use crate::fields::Field;
+use crate::packed::{Packable, Packed, PackedField, Products};
+use crate::two_adic::{CanonicalField, TwoAdicField};
+use std::alloc::AllocError;
+use std::fmt::Debug;
+use std::marker::PhantomData;
+use std::ops::{Add, Mul, Neg, Sub};
+
+/// The numbers that make a field: an odd modulus below `2^31`, a number with an inverse, and a root
+/// of one whose order is a power of two. A type of this trait has no values of interest: it stands
+/// for its constants.
+pub trait Numbers: Copy + Ord + Debug {
+    ghost use Rattle.p3_field.specs.Fields.{FieldNumbers};
+
+    // The numbers, with the facts that make them a field.
+    ghost numbers: { FieldNumbers };
+
+    /// The modulus.
+    const MODULUS: u32;
+
+    ghost MODULUS: { ℕ };
+
+    /// A number with an inverse.
+    const GENERATOR: u32;
+
+    ghost GENERATOR: { ℕ };
+
+    /// A root of one of order `2^TWO_ADICITY`.
+    const ROOT: u32;
+
+    ghost ROOT: { ℕ };
+
+    /// The logarithm of the order of the root.
+    const TWO_ADICITY: usize;
+
+    ghost TWO_ADICITY: { ℕ };
+
+    ghost modulus_law: { MODULUS ≡ numbers.modulus };
+
+    ghost generator_law: { GENERATOR ≡ numbers.generator.number };
+
+    ghost root_law: { ROOT ≡ numbers.root.number };
+
+    ghost two_adicity_law: { TWO_ADICITY ≡ numbers.two_adicity };
+
+    ghost small_law: { numbers.modulus < 2147483648 };
+}
+
+/// An integer modulo `N::MODULUS`, by its number below the modulus.
+#[derive_where(Copy, Debug, PartialEq, Eq, PartialOrd, Ord;)]
+pub struct Residue31<N: Numbers> {
+    number: u32,
+    #[derive_where(skip(EqHashOrd))]
+    of: PhantomData<N>,
+    ghost below: { number < N.numbers.modulus },
+}
+
+impl<N: Numbers> Clone for Residue31<N> {
+    fn clone(&self) -> Result<Residue31<N>, AllocError> {
+        Ok(*self)
+    }
+}
+
+impl<N: Numbers> Add for Residue31<N> {
+    ghost use Rattle.p3_field.specs.Residues.{IsSum};
+
+    type Output = Residue31<N>;
+
+    ghost add_gives = { λ a b r. IsSum N.numbers.modulus a.number b.number r.number };
+
+    fn add(self, other: Residue31<N>) -> Residue31<N> {
+        let sum = self.number + other.number;
+        Residue31 {
+            number: if sum < N::MODULUS {
+                sum
+            } else {
+                sum - N::MODULUS
+            },
+            of: PhantomData,
+        }
+    }
+}
+
+impl<N: Numbers> Sub for Residue31<N> {
+    ghost use Rattle.p3_field.specs.Residues.{IsDifference};
+
+    type Output = Residue31<N>;
+
+    ghost sub_gives = { λ a b r. IsDifference N.numbers.modulus a.number b.number r.number };
+
+    fn sub(self, other: Residue31<N>) -> Residue31<N> {
+        Residue31 {
+            number: if self.number >= other.number {
+                self.number - other.number
+            } else {
+                self.number + (N::MODULUS - other.number)
+            },
+            of: PhantomData,
+        }
+    }
+}
+
+impl<N: Numbers> Mul for Residue31<N> {
+    ghost use Rattle.p3_field.specs.Residues.{IsProduct};
+
+    type Output = Residue31<N>;
+
+    ghost mul_gives = { λ a b r. IsProduct N.numbers.modulus a.number b.number r.number };
+
+    fn mul(self, other: Residue31<N>) -> Residue31<N> {
+        Residue31 {
+            number: (self.number as u64 * other.number as u64 % N::MODULUS as u64) as u32,
+            of: PhantomData,
+        }
+    }
+}
+
+impl<N: Numbers> Neg for Residue31<N> {
+    ghost use Rattle.p3_field.specs.Residues.{IsNegative};
+
+    type Output = Residue31<N>;
+
+    ghost neg_gives = { λ a r. IsNegative N.numbers.modulus a.number r.number };
+
+    fn neg(self) -> Residue31<N> {
+        Residue31 {
+            number: if self.number == 0 {
+                0
+            } else {
+                N::MODULUS - self.number
+            },
+            of: PhantomData,
+        }
+    }
+}
+
+impl<N: Numbers> Field for Residue31<N> {
+    ghost use Rattle.std.proofs.Common.{refl, arith};
+    ghost use Rattle.p3_field.specs.Fields.{field_ring};
+    ghost use Rattle.p3_field.specs.Residues.{Residue, residue-eq};
+    ghost use Rattle.p3_field.specs.FieldLaws.{difference_law, eq_law, order_law};
+    ghost use Rattle.p3_field.specs.Residues31.{below_two, below_minus_one, two_number, minus_one_number};
+
+    ghost Element = { Residue N.numbers.modulus };
+
+    ghost ring = { field_ring N.numbers };
+
+    ghost number = { λ x. x.number };
+
+    ghost value = { λ x. record { number = x.number; below = x.below } };
+
+    const ZERO: Residue31<N> = Residue31 {
+        number: 0,
+        of: PhantomData,
+    };
+
+    ghost ZERO = { record { number = 0; of = _; below = Prim.omega (arith, N.numbers.above) } };
+
+    const ONE: Residue31<N> = Residue31 {
+        number: 1,
+        of: PhantomData,
+    };
+
+    ghost ONE = { record { number = 1; of = _; below = N.numbers.above } };
+
+    const TWO: Residue31<N> = Residue31 {
+        number: 2,
+        of: PhantomData,
+    };
+
+    ghost TWO = { record { number = 2; of = _; below = below_two _ N.numbers.above N.numbers.odd } };
+
+    const NEG_ONE: Residue31<N> = Residue31 {
+        number: N::MODULUS - 1,
+        of: PhantomData,
+    };
+
+    ghost NEG_ONE = { record { number = N.numbers.modulus - 1; of = _; below = below_minus_one _ N.numbers.above } };
+
+    const GENERATOR: Residue31<N> = Residue31 {
+        number: N::GENERATOR,
+        of: PhantomData,
+    };
+
+    ghost GENERATOR = { record { number = N.numbers.generator.number; of = _; below = N.numbers.generator.below } };
+
+    fn halve(self) -> Residue31<N> {
+        let shifted = self.number / 2;
+        let number = if self.number % 2 == 0 {
+            shifted
+        } else {
+            shifted + (N::MODULUS / 2 + 1)
+        };
+        Residue31 {
+            number,
+            of: PhantomData,
+        }
+    }
+
+    fn from_usize(n: usize) -> Residue31<N> {
+        Residue31 {
+            number: (n % N::MODULUS as usize) as u32,
+            of: PhantomData,
+        }
+    }
+
+    fn try_inverse(&self) -> Option<Residue31<N>> {
+        let inverse = inverse_modulo(N::MODULUS as u64, self.number as u64)?;
+        Some(Residue31 {
+            number: inverse as u32,
+            of: PhantomData,
+        })
+    }
+
+    ghost number_law = { residue-eq };
+
+    ghost zero_law = { residue-eq _ _ refl };
+
+    ghost one_law = { residue-eq _ _ refl };
+
+    ghost two_law = { residue-eq _ _ (two_number _ N.numbers.above N.numbers.odd) };
+
+    ghost neg_one_law = { residue-eq _ _ (minus_one_number _ N.numbers.above) };
+
+    ghost generator_law = { N.numbers.invertible };
+
+    ghost can_add_law = { λ _ _. tt };
+
+    ghost add_law = { λ a b r h. residue-eq _ _ h };
+
+    ghost can_sub_law = { λ _ _. tt };
+
+    ghost sub_law = { λ a b r h. residue-eq _ _ (difference_law _ _ _ _ h) };
+
+    ghost can_mul_law = { λ _ _. tt };
+
+    ghost mul_law = { λ a b r h. residue-eq _ _ h };
+
+    ghost can_neg_law = { λ _. tt };
+
+    ghost neg_law = { λ a r h. residue-eq _ _ h };
+
+    ghost eq_law = { λ a b. eq_law _ _ };
+
+    ghost order_law = { λ a b c d e f. order_law _ _ _ _ e f };
+}
+
+impl<N: Numbers> Packed for Residue31<N> {
+    type Scalar = Residue31<N>;
+}
+
+impl<N: Numbers> PackedField for Residue31<N> {
+    ghost use Rattle.std.specs.Prelude.{[], ◌∷◌};
+    ghost use Rattle.std.proofs.Common.{refl};
+
+    const WIDTH: usize = 1;
+
+    ghost WIDTH = { 1 };
+
+    ghost lanes = { λ x. x ∷ [] };
+
+    fn load(from: &[Residue31<N>]) -> Residue31<N> {
+        from[0]
+    }
+
+    fn store(self, to: &mut [Residue31<N>]) {
+        to[0] = self;
+    }
+
+    fn broadcast(scalar: Residue31<N>) -> Residue31<N> {
+        scalar
+    }
+
+    fn add(self, other: Residue31<N>) -> Residue31<N> {
+        self + other
+    }
+
+    fn sub(self, other: Residue31<N>) -> Residue31<N> {
+        self - other
+    }
+
+    fn scaled(self, t: Residue31<N>, products: &mut Products) -> Residue31<N> {
+        products.rise(1);
+        self * t
+    }
+
+    ghost width_law = { λ _. refl };
+}
+
+impl<N: Numbers> Packable for Residue31<N> {
+    ghost use Rattle.std.proofs.Common.{refl, lit≤};
+
+    type Packing = Residue31<N>;
+
+    ghost lane_law = { λ _. refl };
+
+    ghost one_lane_law = { refl };
+
+    ghost packing_law = { lit≤ tt };
+}
+
+impl<N: Numbers> TwoAdicField for Residue31<N> {
+    ghost use Rattle.p3_field.specs.Fields.{field_generator, are_field_generators};
+
+    const TWO_ADICITY: usize = N::TWO_ADICITY;
+
+    ghost TWO_ADICITY = { N.numbers.two_adicity };
+
+    ghost generator = { λ bits. record {
+      number = (field_generator N.numbers bits).number;
+      of = _;
+      below = (field_generator N.numbers bits).below;
+    } };
+
+    fn two_adic_generator(bits: usize) -> Residue31<N> {
+        let root = Residue31::<N> {
+            number: N::ROOT,
+            of: PhantomData,
+        };
+        root.exp_power_of_2(N::TWO_ADICITY - bits)
+    }
+
+    ghost two_adicity_law = { N.numbers.some };
+
+    ghost roots_law = { are_field_generators N.numbers };
+}
+
+impl<N: Numbers> CanonicalField for Residue31<N> {
+    const ORDER_U64: u64 = N::MODULUS as u64;
+
+    ghost ORDER_U64 = { N.numbers.modulus };
+
+    fn new(number: u64) -> Option<Residue31<N>> {
+        if number < N::MODULUS as u64 {
+            Some(Residue31 {
+                number: number as u32,
+                of: PhantomData,
+            })
+        } else {
+            None
+        }
+    }
+
+    fn as_canonical_u64(&self) -> u64 {
+        self.number as u64
+    }
+
+    ghost number_below_law = { λ x. x.below };
+}
