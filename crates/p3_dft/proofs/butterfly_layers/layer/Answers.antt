@@ -1,4 +1,4 @@
-use Rattle.std.proofs.Common.{◌≡◌, ℕ, ◌+◌, ◌*◌, ◌/◌, ◌≤◌, length, get_or, ◌∙◌, arith}
+use Rattle.std.proofs.Common.{◌≡◌, ◌+◌, ◌*◌, ◌/◌, ◌≤◌, length, ◌∙◌, arith}
 use Rattle.p3_dft.proofs.Counts.{count_more}
 use Rattle.p3_dft.proofs.Halves.{block_size, block_room, part_length, blocks-more}
 use Rattle.p3_dft.proofs.butterfly_layers.layer.Goals as goal

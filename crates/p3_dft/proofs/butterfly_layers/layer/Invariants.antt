@@ -1,4 +1,4 @@
-use Rattle.std.proofs.Common.{◌≡◌, ℕ, ◌+◌, ◌*◌, ◌/◌, ◌≤◌, get_or}
+use Rattle.std.proofs.Common.{◌+◌, ◌*◌, ◌/◌, ◌≤◌, get_or}
 use Rattle.p3_dft.proofs.Rows.{RowsDone}
 use Rattle.p3_dft.proofs.Halves.{BothHalves}
 use Rattle.p3_dft.proofs.butterfly_layers.layer.Given as goal

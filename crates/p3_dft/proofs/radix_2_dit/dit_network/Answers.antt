@@ -1,4 +1,4 @@
-use Rattle.std.proofs.Common.{◌≡◌, ℕ, ◌+◌, ◌*◌, ◌-◌, ◌^◌, ◌%◌, ◌<◌, ◌≤◌, length, get_or, sym, ap, ap₂, ◌∙◌, subst, arith, add-one}
+use Rattle.std.proofs.Common.{◌≡◌, ℕ, ◌+◌, ◌*◌, ◌-◌, ◌^◌, ◌%◌, ◌<◌, ◌≤◌, get_or, sym, ap, ap₂, ◌∙◌, subst, arith, add-one}
 use Rattle.std.proofs.lemmas.Nat.{one_shl, pow_pos}
 use Rattle.p3_field.specs.Ring.{power}
 use Rattle.p3_field.proofs.Powers.{power-zero}
@@ -10,7 +10,6 @@ use Rattle.p3_dft.specs.Twiddles.{AreTwiddles, layer_powers}
 use Rattle.p3_dft.proofs.Blocks.{halves_whole}
 use Rattle.p3_dft.proofs.Cosets.{point_of_one}
 use Rattle.p3_dft.proofs.Counts.{layer_counted, layers_counted}
-use Rattle.p3_dft.proofs.MoreTwiddles.{layer_end}
 use Rattle.p3_dft.proofs.Networks.Formulas.{whole_layer_taken}
 use Rattle.p3_dft.proofs.Networks.LowRows.{low_row, low_rows, low_start, low_end}
 use Rattle.p3_dft.proofs.Networks.Stages.{twiddle, twiddle_of_one}

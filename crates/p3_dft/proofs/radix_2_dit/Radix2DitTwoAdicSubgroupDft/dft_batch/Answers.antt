@@ -1,5 +1,4 @@
-use Rattle.std.proofs.Common.{◌≡◌, inl, ℕ, ◌^◌, ◌≤◌, List, Result, Ok, Err, IsOk, sym, ap, ap₂, ◌∙◌, subst, arith, rules, lit≤}
-use Rattle.std.proofs.Math.Nat.{pow-le-pow_right}
+use Rattle.std.proofs.Common.{◌≡◌, inl, ℕ, ◌≤◌, List, Result, Ok, Err, IsOk, sym, ap, ap₂, ◌∙◌, subst, arith, rules}
 use Rattle.p3_matrix.specs.RowMajor.{RowMajor, height}
 use Rattle.p3_matrix.proofs.TwoPowers.{log_same}
 use Rattle.p3_dft.specs.Twiddles.{Tabled, IsPrepared, layer_powers}
