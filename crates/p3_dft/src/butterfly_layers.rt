@@ -59,6 +59,7 @@ pub(crate) fn layer<F: TwoAdicField, R: Rule<F>>(
     products: &mut Products,
 )
     requires wide { 1 ≤ width }
+    requires some { 1 ≤ half }
     requires blocks { 1 ≤ blocks }
     requires numbers { first_block + blocks < 2 ^ 64 }
     requires size { length values.old ≡ blocks * (2 * (half * width)) }
@@ -92,6 +93,7 @@ fn meet_block<F: TwoAdicField, R: Rule<F>>(
     products: &mut Products,
 )
     requires wide { 1 ≤ width }
+    requires some { 1 ≤ half }
     requires size { length values.old ≡ 2 * (half * width) }
     requires there { (t : ℕ) → t < half → R.has rule block t }
     ensures near { let cell = λ (xs : List F) (n : ℕ). F.value (get_or xs n F.ZERO) in
@@ -117,6 +119,7 @@ fn meet_halves<F: TwoAdicField, R: Rule<F>>(
     block: usize,
     products: &mut Products,
 )
+    requires some { 1 ≤ half }
     requires low { length low.old ≡ half * width }
     requires high { length high.old ≡ half * width }
     requires there { (t : ℕ) → t < half → R.has rule block t }
@@ -129,7 +132,9 @@ fn meet_halves<F: TwoAdicField, R: Rule<F>>(
     ensures grows { products.old ≤ products.new }
     ensures count { products.new ≤ products.old + R.cost * (half * width) }
 {
-    for t in 0..half {
+    // The first pair stands apart: what a rule asks of place 0 is then known in the loop.
+    rule.meet(block, 0, &mut low[0..width], &mut high[0..width], products);
+    for t in 1..half {
         let start = t * width;
         let end = start + width;
         rule.meet(

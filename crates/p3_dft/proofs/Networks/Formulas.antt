@@ -1,7 +1,7 @@
 -- Formulas that layers take on: what each row holds when some layers are done and some are left, and what meets what in between.
 use Rattle.std.proofs.Common.{◌≡◌, ℕ, suc, ◌+◌, ◌*◌, ◌-◌, ◌/◌, ◌<◌, ◌≤◌, ◌^◌, sym, ap, ap₂, ◌∙◌, arith, add-one}
 use Rattle.std.proofs.lemmas.Nat.{div-mul-add}
-use Rattle.p3_dft.proofs.Blocks.{row_below, each_row}
+use Rattle.p3_dft.proofs.Layers.Blocks.{row_below, each_row}
 
 -- Row r holds `rows l m r` when l layers are done and m are left. In the layer from l to l + 1 the rows come in blocks of two halves, of
 -- `half l m` rows each; in block b, row t of the first half and row t of the second meet: `near` stands in the first of them, `far` in the other.

@@ -1,6 +1,6 @@
 use Rattle.std.proofs.Common.{◌≡◌, ◌+◌, ◌*◌, ◌/◌, ◌≤◌, length, ◌∙◌, arith}
-use Rattle.p3_dft.proofs.Counts.{count_more}
-use Rattle.p3_dft.proofs.Halves.{block_size, block_room, part_length, blocks-more}
+use Rattle.p3_dft.proofs.Layers.Counts.{count_more}
+use Rattle.p3_dft.proofs.Layers.Halves.{block_size, block_room, part_length, blocks-more}
 use Rattle.p3_dft.proofs.butterfly_layers.layer.Goals as goal
 
 pub meet_block-requires-clause-size : goal.meet_block-requires-clause-size

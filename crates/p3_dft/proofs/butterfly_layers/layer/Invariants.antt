@@ -1,6 +1,6 @@
 use Rattle.std.proofs.Common.{◌+◌, ◌*◌, ◌/◌, ◌≤◌, get_or}
 use Rattle.p3_dft.proofs.Rows.{RowsDone}
-use Rattle.p3_dft.proofs.Halves.{BothHalves}
+use Rattle.p3_dft.proofs.Layers.Halves.{BothHalves}
 use Rattle.p3_dft.proofs.butterfly_layers.layer.Given as goal
 
 abbrev pub invariant-loop-b : goal.invariant-loop-b

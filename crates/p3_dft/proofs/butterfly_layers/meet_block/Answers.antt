@@ -1,6 +1,6 @@
 use Rattle.std.proofs.Common.{◌≡◌, ℕ, ◌+◌, ◌*◌, ◌++◌, ◌<◌, get_or, ap, ◌∙◌, arith}
-use Rattle.p3_dft.proofs.Blocks.{row_below}
-use Rattle.p3_dft.proofs.Halves.{in_first, in_second, of_halves, each_cell}
+use Rattle.p3_dft.proofs.Layers.Blocks.{row_below}
+use Rattle.p3_dft.proofs.Layers.Halves.{in_first, in_second, of_halves, each_cell}
 use Rattle.p3_dft.proofs.butterfly_layers.meet_block.Goals as goal
 
 pub returns-clause-near : goal.returns-clause-near

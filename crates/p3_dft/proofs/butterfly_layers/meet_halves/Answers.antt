@@ -1,7 +1,7 @@
 use Rattle.std.proofs.Common.{◌≡◌, ℕ, ◌+◌, ◌*◌, ◌-◌, ◌<◌, ◌≤◌, length, get_or, take, drop, ap, ap₂, ◌∙◌, subst, arith, rules, add-one}
 use Rattle.std.proofs.Math.Nat.{suc-mul, mul-le-mul_right}
 use Rattle.std.proofs.lemmas.List.{places}
-use Rattle.p3_dft.proofs.Counts.{count_more}
+use Rattle.p3_dft.proofs.Layers.Counts.{count_more}
 use Rattle.p3_dft.proofs.Rows.{part_at, rows-more}
 use Rattle.p3_dft.proofs.butterfly_layers.meet_halves.Goals as goal
 
@@ -26,12 +26,12 @@ loop-t-preserved g c =
     let b : (j : ℕ) → j < w → field.value (get_or (take ((t * w + w) - t * w) (drop (t * w) high)) j zero) ≡ field.value (get_or c.args.high.now (t * w + j) zero) =
     λ j inside. ap field.value (part_at high (t * w) _ j zero (omega (arith, m)) ∙ c.loop-t.invariant.far.rest (t * w + j) (omega arith)) in
     record {
-      near = rows-more zero w _ _ low c.meet.new.row_1 t _ m low_room (c.meet.auto.row_1 ∙ low_len)
-          (λ j inside. c.meet.ensures.near j (omega (arith, low_len)) ∙ ap₂ (rule.near field.Element field.ring field.value c.args.rule c.args.block t) (a j inside) (b j inside))
+      near = rows-more zero w _ _ low c.meet-in-loop-t.new.row_1 t _ m low_room (c.meet-in-loop-t.auto.row_1 ∙ low_len)
+          (λ j inside. c.meet-in-loop-t.ensures.near j (omega (arith, low_len)) ∙ ap₂ (rule.near field.Element field.ring field.value c.args.rule c.args.block t) (a j inside) (b j inside))
           c.loop-t.invariant.near;
-      far = rows-more zero w _ _ high c.meet.new.row_2 t _ m high_room (c.meet.auto.row_2 ∙ high_len)
-          (λ j inside. c.meet.ensures.far j (omega (arith, low_len)) ∙ ap₂ (rule.far field.Element field.ring field.value c.args.rule c.args.block t) (a j inside) (b j inside))
+      far = rows-more zero w _ _ high c.meet-in-loop-t.new.row_2 t _ m high_room (c.meet-in-loop-t.auto.row_2 ∙ high_len)
+          (λ j inside. c.meet-in-loop-t.ensures.far j (omega (arith, low_len)) ∙ ap₂ (rule.far field.Element field.ring field.value c.args.rule c.args.block t) (a j inside) (b j inside))
           c.loop-t.invariant.far;
-      grows = omega (arith, c.meet.ensures.grows, c.loop-t.invariant.grows);
-      count = count_more rule.cost t w _ _ _ c.loop-t.invariant.count (subst (λ (n : ℕ). c.meet.new.products ≤ c.loop-t.products + rule.cost * n) low_len c.meet.ensures.count);
+      grows = omega (arith, c.meet-in-loop-t.ensures.grows, c.loop-t.invariant.grows);
+      count = count_more rule.cost t w _ _ _ c.loop-t.invariant.count (subst (λ (n : ℕ). c.meet-in-loop-t.new.products ≤ c.loop-t.products + rule.cost * n) low_len c.meet-in-loop-t.ensures.count);
     }

@@ -7,9 +7,9 @@ use Rattle.p3_matrix.specs.Butterflies.{dit_near, dit_far}
 use Rattle.p3_matrix.proofs.BitReversal.{rev-rev}
 use Rattle.p3_dft.specs.Polynomials.{poly}
 use Rattle.p3_dft.specs.Twiddles.{AreTwiddles, layer_powers}
-use Rattle.p3_dft.proofs.Blocks.{halves_whole}
+use Rattle.p3_dft.proofs.Layers.Blocks.{halves_whole}
 use Rattle.p3_dft.proofs.Cosets.{point_of_one}
-use Rattle.p3_dft.proofs.Counts.{layer_counted, layers_counted}
+use Rattle.p3_dft.proofs.Layers.Counts.{layer_counted, layers_counted}
 use Rattle.p3_dft.proofs.Networks.Formulas.{whole_layer_taken}
 use Rattle.p3_dft.proofs.Networks.LowRows.{low_row, low_rows, low_start, low_end}
 use Rattle.p3_dft.proofs.Networks.Stages.{twiddle, twiddle_of_one}
@@ -39,6 +39,12 @@ loop-l-init g c =
       grows = omega arith;
       count = omega arith;
     }
+
+pub layer-requires-clause-some : goal.layer-requires-clause-some
+layer-requires-clause-some g c =
+    let half = half_is c.loop-l.l c.args.log_h c.loop-l-test.true c.requires.small in
+    let some = pow_pos c.loop-l.l in
+    omega (arith, half, some)
 
 pub layer-requires-clause-size : goal.layer-requires-clause-size
 layer-requires-clause-size g c =

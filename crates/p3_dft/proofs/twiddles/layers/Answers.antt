@@ -2,7 +2,7 @@ use Rattle.std.proofs.Common.{◌≡◌, ◌+◌, ◌*◌, ◌%◌, ◌^◌, len
 use Rattle.std.proofs.lemmas.Nat.{one_shl, pow_pos}
 use Rattle.p3_field.specs.Ring.{power}
 use Rattle.p3_dft.specs.Twiddles.{layer_powers}
-use Rattle.p3_dft.proofs.MoreTwiddles.{one_more_layer}
+use Rattle.p3_dft.proofs.Tables.MoreTwiddles.{one_more_layer}
 use Rattle.p3_dft.proofs.twiddles.layers.Goals as goal
 
 pub loop-l-preserved : goal.loop-l-preserved

@@ -3,7 +3,7 @@ use Rattle.std.proofs.lemmas.List.{get_or_push}
 use borrow.Author.Count.{below_more}
 use Rattle.p3_field.specs.Ring.{power}
 use Rattle.p3_field.proofs.Powers.{power-zero, power-more}
-use Rattle.p3_dft.proofs.Halves.{in_first}
+use Rattle.p3_dft.proofs.Layers.Halves.{in_first}
 use Rattle.p3_dft.proofs.twiddles.push_powers.Goals as goal
 
 pub loop-e-init : goal.loop-e-init

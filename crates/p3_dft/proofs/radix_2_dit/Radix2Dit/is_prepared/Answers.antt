@@ -1,6 +1,6 @@
 use Rattle.std.proofs.Common.{◌≤◌, sym, subst, leb-true, le-leb}
 use Rattle.p3_dft.specs.Twiddles.{Tabled, IsPrepared}
-use Rattle.p3_dft.proofs.PreparedHeights.{prepared_until, until_prepared}
+use Rattle.p3_dft.proofs.Tables.PreparedHeights.{prepared_until, until_prepared}
 use Rattle.p3_dft.proofs.radix_2_dit.Radix2Dit.is_prepared.Goals as goal
 
 pub returns : goal.returns

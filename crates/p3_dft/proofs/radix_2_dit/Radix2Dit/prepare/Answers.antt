@@ -2,7 +2,7 @@ use Rattle.std.proofs.Common.{◌≡◌, ◌⊎◌, inl, inr, ◌≤◌, sym, su
 use Rattle.std.proofs.lemmas.Result.{on_ok_weaker}
 use Rattle.p3_matrix.proofs.TwoPowers.{log_lt}
 use Rattle.p3_dft.specs.Twiddles.{Tabled, IsPrepared}
-use Rattle.p3_dft.proofs.PreparedHeights.{prepared_until, until_prepared}
+use Rattle.p3_dft.proofs.Tables.PreparedHeights.{prepared_until, until_prepared}
 use Rattle.p3_dft.proofs.radix_2_dit.Radix2Dit.prepare.Goals as goal
 
 pub make-requires-clause-small : goal.make-requires-clause-small

@@ -2,8 +2,8 @@ use Rattle.std.proofs.Common.{◌≡◌, inl, ℕ, ◌≤◌, List, Result, Ok, 
 use Rattle.p3_matrix.specs.RowMajor.{RowMajor, height}
 use Rattle.p3_matrix.proofs.TwoPowers.{log_same}
 use Rattle.p3_dft.specs.Twiddles.{Tabled, IsPrepared, layer_powers}
-use Rattle.p3_dft.proofs.MoreTwiddles.{fewer_layers}
-use Rattle.p3_dft.proofs.PreparedHeights.{prepared_until, until_prepared}
+use Rattle.p3_dft.proofs.Tables.MoreTwiddles.{fewer_layers}
+use Rattle.p3_dft.proofs.Tables.PreparedHeights.{prepared_until, until_prepared}
 use Rattle.p3_dft.proofs.ReversedRows.{transform_of_row}
 use Rattle.p3_dft.proofs.radix_2_dit.Radix2DitTwoAdicSubgroupDft.dft_batch.Goals as goal
 

@@ -1,0 +1,4 @@
+-- One layer: rows in blocks of two halves, cell by cell, and what it counts.
+pub mod Blocks
+pub mod Counts
+pub mod Halves

@@ -1,0 +1,3 @@
+-- Tables of twiddles, and which heights they prepare.
+pub mod MoreTwiddles
+pub mod PreparedHeights
