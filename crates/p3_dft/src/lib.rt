@@ -18,13 +18,16 @@ pub mod util;
 pub use jobs::{Job, JobsStopped, run_jobs};
 pub use naive::NaiveDft;
 pub use p3_field::{
-    BabyBear, CanonicalField, Field, Goldilocks, Packable, Packed, PackedField, Products,
-    TwoAdicField,
+    BabyBear, CanonicalField, Field, Goldilocks, KoalaBear, Packable, Packed, PackedField,
+    Products, TwoAdicField, scaled,
 };
 pub use p3_matrix::{
-    DftError, Evaluations, IntoRowMajorMatrix, RowMajorMatrix, RowMajorMatrixView,
-    RowMajorMatrixViewMut,
+    Butterfly, DftError, DifButterfly, DifButterflyZeros, DitButterfly, Evaluations,
+    IntoRowMajorMatrix, RowMajorMatrix, RowMajorMatrixView, RowMajorMatrixViewMut,
+    ScaledDitButterfly, TwiddleFreeButterfly, log2_strict_usize, reverse_bits_len,
+    reverse_matrix_index_bits, reverse_slice_index_bits, scale_slice_in_place, split_rows_mut,
+    swap_rows,
 };
 pub use radix_2_dit::Radix2Dit;
 pub use traits::{Layout, TwoAdicSubgroupDft};
-pub use util::{fits_dft, fits_lde};
+pub use util::{divide_by_height, fits_dft, fits_lde};
