@@ -185,11 +185,11 @@ impl<F: TwoAdicField> TwoAdicSubgroupDft<F> for Radix2Dit<F> {
             + 2 * (2 ^ k * (N.stored mat).width)))) }
     {
         let coefficients = self.idft_batch(mat)?;
-        let changed = transform(coefficients, Layout::Natural);
+        let mut changed = transform(coefficients, Layout::Natural);
         let mut products = Products::new();
-        let shifted = shift_rows(changed, shift, &mut products);
+        shift_rows(&mut changed, shift, &mut products);
         self.add_products(products);
-        let padded = pad_rows(shifted, added_bits)?;
+        let padded = pad_rows(changed, added_bits)?;
         self.dft_batch(padded)
     }
 }

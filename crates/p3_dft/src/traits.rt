@@ -95,7 +95,8 @@ pub trait TwoAdicSubgroupDft<F: TwoAdicField>: Clone + Default {
             (λ k. OnOk result (made self.new ≤ made self.old + bound k (N.stored mat).width + 2 ^ k * (N.stored mat).width)) }
     {
         let mut products = Products::new();
-        let mat = shift_rows(mat.into_row_major_matrix(), shift, &mut products);
+        let mut mat = mat.into_row_major_matrix();
+        shift_rows(&mut mat, shift, &mut products);
         self.add_products(products);
         self.dft_batch(mat)
     }
@@ -137,9 +138,9 @@ pub trait TwoAdicSubgroupDft<F: TwoAdicField>: Clone + Default {
         ensures cost { AtLog (height (N.stored mat))
             (λ k. OnOk result (made self.new ≤ made self.old + bound k (N.stored mat).width + 2 * (2 ^ k * (N.stored mat).width))) }
     {
-        let coefficients = self.idft_batch(mat)?;
+        let mut coefficients = self.idft_batch(mat)?;
         let mut products = Products::new();
-        let coefficients = shift_rows(coefficients, shift.inverse(), &mut products);
+        shift_rows(&mut coefficients, shift.inverse(), &mut products);
         self.add_products(products);
         Ok(coefficients)
     }

@@ -128,7 +128,8 @@ pub(crate) fn extend_by_zeros<F: Field>(values: &mut Vec<F>, n: usize) -> Result
     Ok(())
 }
 
-// Adds rows of zeros below, up to `2^added_bits` times the height.
+// Adds rows of zeros below, up to `2^added_bits` times the height. Growth by nothing is never
+// refused.
 pub(crate) fn pad_rows<F: Field>(
     mat: RowMajorMatrix<F>,
     added_bits: usize,
@@ -137,6 +138,7 @@ pub(crate) fn pad_rows<F: Field>(
     requires size { height mat * mat.width * 2 ^ added_bits < 2 ^ 64 }
     ensures whole { IsRowMajor mat }
     ensures padded { IfOk result (λ out. out ≡ padded F.ZERO mat added_bits) }
+    ensures refused { OnErr result (1 ≤ added_bits) }
 {
     let width = mat.width();
     let mut values = mat.into_values();
@@ -158,22 +160,20 @@ pub(crate) fn reverse_rows<T>(mat: &mut RowMajorMatrix<T>)
 // Multiplies row i by the i-th power of `shift`, with one product an entry, or none where the shift
 // is one.
 pub(crate) fn shift_rows<F: TwoAdicField>(
-    mat: RowMajorMatrix<F>,
+    mat: &mut RowMajorMatrix<F>,
     shift: F,
     products: &mut Products,
-) -> RowMajorMatrix<F>
-    ensures shifted { Same (values_of F.Field.own result) (shifted F.ring (F.value shift) (values_of F.Field.own mat)) }
+)
+    ensures shifted { Same (values_of F.Field.own mat.new) (shifted F.ring (F.value shift) (values_of F.Field.own mat.old)) }
     ensures grows { products.old ≤ products.new }
-    ensures cost { products.new ≤ products.old + height mat * mat.width }
+    ensures cost { products.new ≤ products.old + height mat.old * mat.old.width }
 {
     if shift == F::ONE {
-        return mat;
+        return;
     }
     let width = mat.width();
     let height = mat.height();
-    let mut values = mat.into_values();
-    shift_values(values.as_mut_slice(), width, height, shift, products);
-    RowMajorMatrix::new(values, width)
+    shift_values(mat.values_mut(), width, height, shift, products);
 }
 
 // The same of the entries, row after row.
@@ -240,9 +240,9 @@ mod tests {
     fn shifts_rows(rt: HostRuntime) -> Result<(), Fail> {
         let alloc = rt.alloc();
         let mut products = Products::new();
-        let mat = matrix(alloc, &[1, 2, 3, 4, 5, 6], 2)?;
-        let shifted = shift_rows(mat, BabyBear::TWO, &mut products);
-        assert!(rt; shifted == matrix(alloc, &[1, 2, 6, 8, 20, 24], 2)?);
+        let mut mat = matrix(alloc, &[1, 2, 3, 4, 5, 6], 2)?;
+        shift_rows(&mut mat, BabyBear::TWO, &mut products);
+        assert!(rt; mat == matrix(alloc, &[1, 2, 6, 8, 20, 24], 2)?);
         Ok(())
     }
 }

@@ -19,7 +19,7 @@ pad_rows-requires-clause-size g c =
     let fits = c.requires.fits in
     let shape = answered_shape g.F.Field g.F.TwoAdicField.generator _ _ _ _ _ fits.log fits.high c.in_ok-coefficients.ensures.coefficients (refl, refl) c.requires.shape
     c.transform-changed.ensures in
-    let same = c.shift_rows-shifted.ensures.shifted in
+    let same = c.shift_rows.ensures.shifted in
     rw (same.high ∙ shape.0, same.wide ∙ shape.1) (output_size _ _ _ _ fits)
 
 pub dft_batch-requires : goal.dft_batch-requires
@@ -28,8 +28,8 @@ dft_batch-requires g c =
     let a = c.args.added_bits in
     let shape = answered_shape g.F.Field g.F.TwoAdicField.generator _ _ _ _ _ fits.log fits.high c.in_ok-coefficients.ensures.coefficients (refl, refl) c.requires.shape
     c.transform-changed.ensures in
-    let same = c.shift_rows-shifted.ensures.shifted in
-    let grown = padded_shape g.F.Field.ZERO (g.N.IntoRowMajorMatrix.stored c.args.mat) c.shift_rows-shifted.result c.in_ok-padded.padded a fits.log c.pad_rows.ensures.whole
+    let same = c.shift_rows.ensures.shifted in
+    let grown = padded_shape g.F.Field.ZERO (g.N.IntoRowMajorMatrix.stored c.args.mat) c.shift_rows.new.mat c.in_ok-padded.padded a fits.log c.pad_rows.ensures.whole
     (same.high ∙ shape.0, same.wide ∙ shape.1) fits.high c.in_ok-padded.ensures.padded in
     output_fits _ _ _ a _ _ fits grown.0 grown.1
 
@@ -41,8 +41,8 @@ returns-clause-values g c =
     IfOk-weaker c.dft_batch.result _ _
     (λ out given.
     extension_of_shifted g.F.Field g.F.TwoAdicField.generator g.met.F.Field.zero_law _ (g.N.IntoRowMajorMatrix.stored c.args.mat)
-    c.in_ok-coefficients.coefficients c.transform-changed.result c.shift_rows-shifted.result out c.args.added_bits (g.F.Field.value c.args.shift)
-    c.in_ok-coefficients.ensures.coefficients called shape.0 c.shift_rows-shifted.ensures.shifted c.pad_rows.ensures.whole
+    c.in_ok-coefficients.coefficients c.transform-changed.result c.shift_rows.new.mat out c.args.added_bits (g.F.Field.value c.args.shift)
+    c.in_ok-coefficients.ensures.coefficients called shape.0 c.shift_rows.ensures.shifted c.pad_rows.ensures.whole
     (rw c.in_ok-padded.ensures.padded at given))
     c.dft_batch.ensures.values
 
@@ -65,8 +65,8 @@ returns-clause-serves g c = λ k e.
     let m = g.N.IntoRowMajorMatrix.stored c.args.mat in
     let shape = answered_shape g.F.Field g.F.TwoAdicField.generator _ _ _ _ _ k e c.in_ok-coefficients.ensures.coefficients (refl, refl) c.requires.shape
     c.transform-changed.ensures in
-    let same = c.shift_rows-shifted.ensures.shifted in
-    let grown = padded_shape g.F.Field.ZERO m c.shift_rows-shifted.result c.in_ok-padded.padded a k c.pad_rows.ensures.whole
+    let same = c.shift_rows.ensures.shifted in
+    let grown = padded_shape g.F.Field.ZERO m c.shift_rows.new.mat c.in_ok-padded.padded a k c.pad_rows.ensures.whole
     (same.high ∙ shape.0, same.wide ∙ shape.1) e c.in_ok-padded.ensures.padded in
     on_ok_weaker c.dft_batch.result (λ more. (c.dft_batch.ensures.later.keeps_served k ((c.add_products.ensures.served k).0 (c.in_ok-coefficients.ensures.serves k e)), more)) (c.dft_batch.ensures.serves (k + a) grown.0)
 
@@ -76,12 +76,12 @@ returns-clause-cost g c = λ k e.
     let m = g.N.IntoRowMajorMatrix.stored c.args.mat in
     let shape = answered_shape g.F.Field g.F.TwoAdicField.generator _ _ _ _ _ k e c.in_ok-coefficients.ensures.coefficients (refl, refl) c.requires.shape
     c.transform-changed.ensures in
-    let same = c.shift_rows-shifted.ensures.shifted in
-    let grown = padded_shape g.F.Field.ZERO m c.shift_rows-shifted.result c.in_ok-padded.padded a k c.pad_rows.ensures.whole
+    let same = c.shift_rows.ensures.shifted in
+    let grown = padded_shape g.F.Field.ZERO m c.shift_rows.new.mat c.in_ok-padded.padded a k c.pad_rows.ensures.whole
     (same.high ∙ shape.0, same.wide ∙ shape.1) e c.in_ok-padded.ensures.padded in
     let entries : height c.transform-changed.result * c.transform-changed.result.width ≡ 2 ^ k * m.width = ap₂ (λ (h w : ℕ). h * w) (shape.0 ∙ e) shape.1 in
     let first = c.in_ok-coefficients.ensures.cost k e in
-    let scaled = c.shift_rows-shifted.ensures.cost in
+    let scaled = c.shift_rows.ensures.cost in
     let counted = c.add_products.ensures.made in
     let none = c.new-products.ensures in
     let last : c.in_ok-padded.padded.width * ((k + a) * 2 ^ (k + a) / 2) ≡ m.width * ((k + a) * 2 ^ (k + a) / 2) = ap (λ w. w * ((k + a) * 2 ^ (k + a) / 2)) grown.1 in

@@ -6,7 +6,7 @@ use Rattle.p3_dft.proofs.traits.TwoAdicSubgroupDft.coset_dft_batch.Goals as goal
 pub returns-clause-values : goal.returns-clause-values
 returns-clause-values g c =
     let field = g.F.Field in
-    rw (← c.into_row_major_matrix.ensures)
+    rw (← c.into_row_major_matrix-mat.ensures)
     (IfOk-weaker c.dft_batch.result _ _ (λ out values k high.
-    coset_values field.ring (λ n. field.value (g.F.TwoAdicField.generator n)) _ _ k (field.value c.args.shift) _ c.shift_rows-mat.ensures.shifted
-    (values k (c.shift_rows-mat.ensures.shifted.high ∙ high))) c.dft_batch.ensures.values)
+    coset_values field.ring (λ n. field.value (g.F.TwoAdicField.generator n)) _ _ k (field.value c.args.shift) _ c.shift_rows.ensures.shifted
+    (values k (c.shift_rows.ensures.shifted.high ∙ high))) c.dft_batch.ensures.values)

@@ -6,5 +6,5 @@ returns-clause-coefficients g c =
     let field = g.F.Field in
     let fits = c.requires.fits in
     interpolation_on_coset field g.F.TwoAdicField.generator g.F.TwoAdicField.TWO_ADICITY g.met.F.TwoAdicField.roots_law (g.N.IntoRowMajorMatrix.stored c.args.mat)
-    c.in_ok-coefficients.coefficients c.shift_rows-coefficients.result fits.log (field.value c.args.shift) (field.value c.inverse.result) fits.within fits.high
-    c.inverse.ensures c.in_ok-coefficients.ensures.coefficients c.shift_rows-coefficients.ensures.shifted
+    c.in_ok-coefficients.coefficients c.shift_rows.new.mat fits.log (field.value c.args.shift) (field.value c.inverse.result) fits.within fits.high
+    c.inverse.ensures c.in_ok-coefficients.ensures.coefficients c.shift_rows.ensures.shifted
