@@ -67,11 +67,13 @@ pub(crate) fn layer<F: TwoAdicField, R: Rule<F>>(
     ensures near { let cell = λ (xs : List F) (n : ℕ). F.value (get_or xs n F.ZERO) in
         let size = half * width in
         (b i : ℕ) → b < blocks → i < size → cell values.new (b * (2 * size) + i)
-        ≡ R.near F.Element F.ring F.value rule (first_block + b) (i / width) (cell values.old (b * (2 * size) + i)) (cell values.old (b * (2 * size) + (size + i))) }
+        ≡ R.near F.Element F.ring F.value rule (first_block + b) (i / width)
+        (cell values.old (b * (2 * size) + i)) (cell values.old (b * (2 * size) + (size + i))) }
     ensures far { let cell = λ (xs : List F) (n : ℕ). F.value (get_or xs n F.ZERO) in
         let size = half * width in
         (b i : ℕ) → b < blocks → i < size → cell values.new (b * (2 * size) + (size + i))
-        ≡ R.far F.Element F.ring F.value rule (first_block + b) (i / width) (cell values.old (b * (2 * size) + i)) (cell values.old (b * (2 * size) + (size + i))) }
+        ≡ R.far F.Element F.ring F.value rule (first_block + b) (i / width)
+        (cell values.old (b * (2 * size) + i)) (cell values.old (b * (2 * size) + (size + i))) }
     ensures grows { products.old ≤ products.new }
     ensures count { products.new ≤ products.old + R.cost * (blocks * (half * width)) }
 {
@@ -98,10 +100,12 @@ fn meet_block<F: TwoAdicField, R: Rule<F>>(
     requires there { (t : ℕ) → t < half → R.has rule block t }
     ensures near { let cell = λ (xs : List F) (n : ℕ). F.value (get_or xs n F.ZERO) in
         let size = half * width in
-        (i : ℕ) → i < size → cell values.new i ≡ R.near F.Element F.ring F.value rule block (i / width) (cell values.old i) (cell values.old (size + i)) }
+        (i : ℕ) → i < size → cell values.new i
+        ≡ R.near F.Element F.ring F.value rule block (i / width) (cell values.old i) (cell values.old (size + i)) }
     ensures far { let cell = λ (xs : List F) (n : ℕ). F.value (get_or xs n F.ZERO) in
         let size = half * width in
-        (i : ℕ) → i < size → cell values.new (size + i) ≡ R.far F.Element F.ring F.value rule block (i / width) (cell values.old i) (cell values.old (size + i)) }
+        (i : ℕ) → i < size → cell values.new (size + i)
+        ≡ R.far F.Element F.ring F.value rule block (i / width) (cell values.old i) (cell values.old (size + i)) }
     ensures grows { products.old ≤ products.new }
     ensures count { products.new ≤ products.old + R.cost * (half * width) }
 {

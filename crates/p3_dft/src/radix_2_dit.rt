@@ -236,7 +236,8 @@ fn dit_network<F: TwoAdicField>(
     requires height { length values.old ≡ 2 ^ log_h * width }
     requires twiddles { AreTwiddlesOfLayers F.Field.own log_h (layer_powers F.Field.own F.generator) twiddles.now }
     ensures values { (r j : ℕ) → r < 2 ^ log_h → j < width → F.value (get_or values.new (r * width + j) F.ZERO)
-        ≡ poly F.ring (2 ^ log_h) (λ q. F.value (get_or values.old (rev log_h q * width + j) F.ZERO)) (power F.ring (F.value (F.generator log_h)) r) }
+        ≡ poly F.ring (2 ^ log_h) (λ q. F.value (get_or values.old (rev log_h q * width + j) F.ZERO))
+        (power F.ring (F.value (F.generator log_h)) r) }
     ensures grows { products.old ≤ products.new }
     ensures count { products.new ≤ products.old + width * (log_h * 2 ^ log_h / 2) }
 {

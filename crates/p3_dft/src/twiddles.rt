@@ -106,8 +106,10 @@ fn layers<F: TwoAdicField>(alloc: Global, log_h: usize) -> Result<Vec<F>, DftErr
 // Adds the first `count` powers of an element at the end, from the one of exponent zero on.
 fn push_powers<F: TwoAdicField>(powers: &mut Vec<F>, base: F, count: usize) -> Result<(), DftError>
     ensures size { OnOk result (length powers.new.items ≡ length powers.old.items + count) }
-    ensures before { OnOk result ((n : ℕ) → n < length powers.old.items → get_or powers.new.items n F.ZERO ≡ get_or powers.old.items n F.ZERO) }
-    ensures powers { OnOk result ((e : ℕ) → e < count → F.value (get_or powers.new.items (length powers.old.items + e) F.ZERO) ≡ power F.ring (F.value base) e) }
+    ensures before { OnOk result ((n : ℕ) → n < length powers.old.items
+        → get_or powers.new.items n F.ZERO ≡ get_or powers.old.items n F.ZERO) }
+    ensures powers { OnOk result ((e : ℕ) → e < count
+        → F.value (get_or powers.new.items (length powers.old.items + e) F.ZERO) ≡ power F.ring (F.value base) e) }
 {
     let mut power = F::ONE;
     for _e in 0..count {
