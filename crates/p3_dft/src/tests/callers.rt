@@ -181,8 +181,8 @@ fn prepared_heights_answer(rt: HostRuntime) -> Result<(), Fail> {
     let values: Matrix = matrix(alloc, &[9, 1], 1)?;
     assert!(rt; fits_dft::<BabyBear>(values.height(), values.width()));
     assert_eq!(rt; values.height(), 2);
-    assert!(rt; has_inverse(BabyBear::TWO));
     let shift = BabyBear::TWO;
+    assert!(rt; has_inverse(shift));
     prepared_by_an_inverse(&mut engine, values.try_clone()?, 1, shift)?;
     assert!(rt; engine.is_prepared(1));
     let back = invert_prepared(&mut engine, values.try_clone()?, 1)?;
@@ -205,7 +205,8 @@ fn prepared_columns_answer(rt: HostRuntime) -> Result<(), Fail> {
     let mut engine = Radix2Dit::<BabyBear>::default();
     engine.prepare(alloc, 1)?;
     assert!(rt; engine.is_prepared(1));
-    assert!(rt; has_inverse(BabyBear::TWO));
+    let shift = BabyBear::TWO;
+    assert!(rt; has_inverse(shift));
     let column: Vec<BabyBear> = elements(alloc, &[9, 1])?;
     assert!(rt; fits_dft::<BabyBear>(column.len(), 1));
     assert_eq!(rt; column.len(), 2);
@@ -215,7 +216,7 @@ fn prepared_columns_answer(rt: HostRuntime) -> Result<(), Fail> {
     assert!(rt; fits_dft::<BabyBear>(column.len(), 1));
     assert_eq!(rt; column.len(), 2);
     assert!(rt;
-        column_on_coset(&mut engine, column, 1, BabyBear::TWO)? == elements(alloc, &[11, 7])?
+        column_on_coset(&mut engine, column, 1, shift)? == elements(alloc, &[11, 7])?
     );
     assert!(rt; engine.is_prepared(1));
     let column: Vec<BabyBear> = elements(alloc, &[9, 1])?;
@@ -227,7 +228,7 @@ fn prepared_columns_answer(rt: HostRuntime) -> Result<(), Fail> {
     assert!(rt; fits_dft::<BabyBear>(column.len(), 1));
     assert_eq!(rt; column.len(), 2);
     assert!(rt;
-        column_back_from_coset(&mut engine, column, 1, BabyBear::TWO)? == elements(alloc, &[5, 2])?
+        column_back_from_coset(&mut engine, column, 1, shift)? == elements(alloc, &[5, 2])?
     );
     Ok(())
 }

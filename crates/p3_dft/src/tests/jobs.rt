@@ -40,8 +40,9 @@ fn job<F: CanonicalField>(rt: &impl Abort, alloc: Global, kind: usize) -> Result
         3 => {
             let mat: RowMajorMatrix<F> = matrix(alloc, &[13, 2013265918], 1)?;
             assert!(rt; fits_dft::<F>(mat.height(), mat.width()));
-            assert!(rt; has_inverse(F::TWO));
-            Ok(Job::CosetIdft(mat, F::TWO))
+            let shift = F::TWO;
+            assert!(rt; has_inverse(shift));
+            Ok(Job::CosetIdft(mat, shift))
         }
         4 => {
             let mat: RowMajorMatrix<F> = matrix(alloc, &[9, 1], 1)?;
