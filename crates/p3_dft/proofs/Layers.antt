@@ -2,3 +2,4 @@
 pub mod Blocks
 pub mod Counts
 pub mod Halves
+pub mod Sizes

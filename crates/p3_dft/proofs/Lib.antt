@@ -1,3 +1,4 @@
+pub mod BitReversed
 pub mod Cosets
 pub mod Distance
 pub mod EngineSteps

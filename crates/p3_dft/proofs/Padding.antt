@@ -40,10 +40,10 @@ module _ {T : Type 0} (z : T) (m : RowMajor T) (whole : IsRowMajor m) (a : ℕ) 
     full = (whole_rows (length (padded z m a).values) (height m * 2 ^ a) m.width whole.wide by_rows).1;
   }
 
-  padded_above : (i j : ℕ) → i < height m → j < m.width → get_or (padded z m a).values (i * m.width + j) z ≡ get_or m.values (i * m.width + j) z
+  pub padded_above : (i j : ℕ) → i < height m → j < m.width → get_or (padded z m a).values (i * m.width + j) z ≡ get_or m.values (i * m.width + j) z
   padded_above i j below inside = get_or-append m.values _ z (i * m.width + j) (omega (arith, mul-add-lt i m.width j (height m) below inside, whole.full))
 
-  padded_below : (i j : ℕ) → height m ≤ i → get_or (padded z m a).values (i * m.width + j) z ≡ z
+  pub padded_below : (i j : ℕ) → height m ≤ i → get_or (padded z m a).values (i * m.width + j) z ≡ z
   padded_below i j after =
       get_or-append_right m.values _ (i * m.width + j) z (omega (arith, mul-le-mul_right m.width after, whole.full))
       ∙ copy_at _ (i * m.width + j - length m.values) z

@@ -1,9 +1,10 @@
 -- What the transforms answer, in the terms of a field's members and the generators of its subgroups.
-use Rattle.std.specs.Prelude.{◌≡◌, ℕ, ◌^◌}
+use Rattle.std.specs.Prelude.{◌≡◌, ℕ, ◌+◌, ◌*◌, ◌^◌, ◌<◌, List, get_or}
 use Rattle.p3_field.specs.declared.fields.Field.{Ghosts as FieldMembers}
 use Rattle.p3_matrix.specs.RowMajor.{RowMajor, height}
 use Rattle.p3_matrix.specs.Matrix.{Matrix, Same, matrix, mapped}
 use Rattle.p3_dft.specs.Cosets.{IsValues, AreCoefficients}
+use Rattle.p3_dft.specs.Polynomials.{poly}
 
 module _ {F : Type 0} (f : FieldMembers F) where
   -- the values of the elements of a stored matrix
@@ -19,3 +20,8 @@ module _ {F : Type 0} (f : FieldMembers F) where
     pub holds : (k : ℕ) → height m ≡ 2 ^ k → AreCoefficients f.ring (λ n. f.value (generator n)) (values_of m) k s (values_of c)
     pub only : (k : ℕ) → height m ≡ 2 ^ k → (d : Matrix f.Element)
         → AreCoefficients f.ring (λ n. f.value (generator n)) (values_of m) k s d → Same d (values_of c)
+
+  -- on rows of w entries, one after another: row r of after has the values at point r of the columns of before, whose coefficient q lies in row place q
+  abbrev pub AreValuesOfRows : ℕ → ℕ → (ℕ → ℕ) → (ℕ → f.Element) → List F → List F → Type 0
+  AreValuesOfRows w n place point before after = (r j : ℕ) → r < n → j < w → f.value (get_or after (r * w + j) f.ZERO)
+      ≡ poly f.ring n (λ q. f.value (get_or before (place q * w + j) f.ZERO)) (point r)

@@ -8,6 +8,7 @@
 mod butterfly_layers;
 pub mod jobs;
 pub mod naive;
+pub mod radix_2_bowers;
 pub mod radix_2_dit;
 #[cfg(test)]
 mod tests;
@@ -28,6 +29,7 @@ pub use p3_matrix::{
     reverse_matrix_index_bits, reverse_slice_index_bits, scale_slice_in_place, split_rows_mut,
     swap_rows,
 };
+pub use radix_2_bowers::Radix2Bowers;
 pub use radix_2_dit::Radix2Dit;
 pub use traits::{Layout, TwoAdicSubgroupDft};
 pub use util::{divide_by_height, fits_dft, fits_lde};

@@ -13,6 +13,7 @@ mod jobs;
 mod surface;
 
 use crate::naive::NaiveDft;
+use crate::radix_2_bowers::Radix2Bowers;
 use crate::radix_2_dit::Radix2Dit;
 use crate::traits::{Layout, TwoAdicSubgroupDft};
 use crate::util::{fits_dft, fits_lde};
@@ -191,6 +192,7 @@ trait EngineTest {
 fn on_every_engine<R: Abort, T: EngineTest>(rt: &R, alloc: Global, test: &T) -> Result<(), Fail> {
     test.run(rt, alloc, &mut NaiveDft::default())?;
     test.run(rt, alloc, &mut Radix2Dit::default())?;
+    test.run(rt, alloc, &mut Radix2Bowers::default())?;
     test.run(rt, alloc, &mut LimitedDft::default())?;
     test.run(rt, alloc, &mut ReversedDft::default())
 }
@@ -378,6 +380,7 @@ fn is_natural<D: TwoAdicSubgroupDft<BabyBear>>() -> bool {
 fn told_layouts(rt: HostRuntime) -> Result<(), Fail> {
     assert!(rt; is_natural::<NaiveDft>());
     assert!(rt; is_natural::<Radix2Dit<BabyBear>>());
+    assert!(rt; !is_natural::<Radix2Bowers>());
     assert!(rt; is_natural::<LimitedDft>());
     assert!(rt; !is_natural::<ReversedDft>());
     on_every_engine(&rt, rt.alloc(), &ToldLayouts)

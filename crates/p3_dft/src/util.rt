@@ -84,7 +84,7 @@ pub(crate) fn coefficients_from_values<F: TwoAdicField>(
 }
 
 // `divide_by_height` of a matrix itself.
-fn divide_rows<F: TwoAdicField>(mat: &mut RowMajorMatrix<F>, products: &mut Products)
+pub(crate) fn divide_rows<F: TwoAdicField>(mat: &mut RowMajorMatrix<F>, products: &mut Products)
     requires { (k : ℕ) × (height mat.old ≡ 2 ^ k) }
     ensures shape { SameShape mat.new mat.old }
     ensures divided { IsQuotient F.ring (height mat.old) (values_of F.Field.own mat.old) (values_of F.Field.own mat.new) }
@@ -106,7 +106,7 @@ pub(crate) fn reverse_rows_but_first<T>(mat: &mut RowMajorMatrix<T>)
 }
 
 // Rows i and j change places.
-fn exchange_rows<T>(mat: &mut RowMajorMatrix<T>, i: usize, j: usize)
+pub(crate) fn exchange_rows<T>(mat: &mut RowMajorMatrix<T>, i: usize, j: usize)
     requires i_in_bounds { i < height mat.old }
     requires j_in_bounds { j < height mat.old }
     ensures shape { SameShape mat.new mat.old }

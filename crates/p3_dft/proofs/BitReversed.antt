@@ -1,0 +1,4 @@
+-- Rows in bit reversed order: powers in that order, rows that are spread for an extension, and coefficients that stay in it.
+pub mod Coefficients
+pub mod Powers
+pub mod SpreadRows

@@ -1,0 +1,52 @@
+use Rattle.std.proofs.Common.{◌≡◌, ℕ, ◌+◌, ◌*◌, ◌/◌, ◌^◌, ◌≤◌, OnOk, sym, ap, ap₂, ◌∙◌, subst, arith}
+use Rattle.std.proofs.lemmas.Result.{IfOk-weaker}
+use Rattle.p3_field.specs.Ring.{count}
+use Rattle.p3_field.proofs.Powers.{count-power_of_two}
+use Rattle.p3_matrix.specs.BitOrder.{reversed}
+use Rattle.p3_matrix.specs.RowMajor.{RowMajor, height}
+use Rattle.p3_dft.specs.Extensions.{extension_bound}
+use Rattle.p3_dft.specs.Transforms.{values_of}
+use Rattle.p3_dft.proofs.Cosets.{coset_values}
+use Rattle.p3_dft.proofs.BitReversed.Coefficients.{extension_of_coefficients, shifted_quotient, within_extension}
+use Rattle.p3_dft.proofs.radix_2_bowers.Radix2BowersTwoAdicSubgroupDft.coset_lde_batch.Goals as goal
+
+pub returns-clause-values : goal.returns-clause-values
+returns-clause-values g c =
+    let field = g.F.Field in
+    let log = c.log2_strict_usize-log_h.result in
+    let m = c.into_row_major_matrix-mat.result in
+    let a = c.args.added_bits in
+    let s = field.value c.args.shift in
+    let inverse = field.value c.div_2exp_u64-inverse.result in
+    let high : height m ≡ 2 ^ log = sym c.height.ensures.height ∙ c.log2_strict_usize-log_h.ensures.power in
+    let multiples = reversed log (values_of field c.interpolate_scaled.new.mat) in
+    let shifted = reversed log (values_of field c.weigh_reversed_rows.new.mat) in
+    let tall : height c.interpolate_scaled.new.mat ≡ 2 ^ log = ap₂ (λ (l v : ℕ). l / v) c.in_ok-interpolate_scaled.ensures.shape.1 c.in_ok-interpolate_scaled.ensures.shape.0 ∙ high in
+    let same = c.in_ok-weigh_reversed_rows.ensures.rows log tall in
+    let undone : field.ring.mul (count field.ring (2 ^ log)) inverse ≡ field.ring.one =
+    ap (λ x. field.ring.mul x inverse) (count-power_of_two field.ring log) ∙ c.div_2exp_u64-inverse.ensures ∙ ap field.value c.ONE.ensures ∙ g.met.F.Field.one_law in
+    let (d, quotient, on_coset) = shifted_quotient field.ring (2 ^ log) inverse s multiples shifted undone same in
+    rw (← c.into_row_major_matrix-mat.ensures)
+    (IfOk-weaker c.extend.result _ _
+    (λ out given.
+    extension_of_coefficients field g.F.TwoAdicField.generator m out d a log s high (c.in_ok-interpolate_scaled.ensures.coefficients log high d quotient)
+    (coset_values field.ring (λ n. field.value (g.F.TwoAdicField.generator n)) d shifted (log + a) s (values_of field out) on_coset given))
+    (c.extend.ensures.values log (same.high ∙ tall)))
+
+pub returns-clause-cost : goal.returns-clause-cost
+returns-clause-cost g c k e =
+    let a = c.args.added_bits in
+    let m = c.into_row_major_matrix-mat.result in
+    let bound = λ (n w : ℕ). w * (n * 2 ^ n / 2) in
+    let high : height m ≡ 2 ^ k = ap height c.into_row_major_matrix-mat.ensures ∙ e in
+    let w = m.width in
+    let shape = c.in_ok-interpolate_scaled.ensures.shape in
+    let tall : height c.interpolate_scaled.new.mat ≡ height m = ap₂ (λ (l v : ℕ). l / v) shape.1 shape.0 in
+    let same = c.in_ok-weigh_reversed_rows.ensures.rows k (tall ∙ high) in
+    let first = c.interpolate_scaled.ensures.cost k high in
+    let entries : height c.interpolate_scaled.new.mat * c.interpolate_scaled.new.mat.width ≡ 2 ^ k * w = ap₂ (λ (h v : ℕ). h * v) (tall ∙ high) shape.0 in
+    let last = c.extend.ensures.cost k (same.high ∙ tall ∙ high) in
+    let wide : bound (k + a) c.weigh_reversed_rows.new.mat.width ≡ bound (k + a) w = ap (bound (k + a)) (same.wide ∙ shape.0) in
+    subst (λ (v : ℕ). OnOk c.extend.result (c.extend.new.products ≤ c.args.self.now + extension_bound bound k a v)) (ap (λ (n : RowMajor g.row.F.Denot). n.width) c.into_row_major_matrix-mat.ensures)
+    (within_extension c.extend.result bound k a w c.args.self.now c.extend.new.products
+    (omega (arith, c.self.view_is, first, c.weigh_reversed_rows.ensures.cost, entries, last, wide)))

@@ -1,0 +1,63 @@
+use Rattle.std.proofs.Common.{◌≡◌, ℕ, ◌+◌, ◌*◌, ◌/◌, ◌^◌, ◌≤◌, OnOk, sym, ap, ap₂, ◌∙◌, subst, arith}
+use Rattle.std.proofs.lemmas.Result.{IfOk-weaker}
+use Rattle.p3_matrix.specs.BitOrder.{reversed}
+use Rattle.p3_matrix.specs.RowMajor.{RowMajor, height}
+use Rattle.p3_dft.specs.Extensions.{extension_bound}
+use Rattle.p3_dft.specs.Shapes.{HasShapeOf}
+use Rattle.p3_dft.specs.Transforms.{values_of}
+use Rattle.p3_dft.proofs.Cosets.{coset_values}
+use Rattle.p3_dft.proofs.BitReversed.Coefficients.{extension_of_answered, fits_as, shifted_by_one, within_extension}
+use Rattle.p3_dft.proofs.radix_2_bowers.Radix2BowersTwoAdicSubgroupDft.coset_lde_batch_with_transform.Goals as goal
+
+pub extend-requires : goal.extend-requires
+extend-requires g c =
+    let fits = c.requires.fits in
+    let stored = ap height c.into_row_major_matrix-mat.ensures in
+    let high : height c.into_row_major_matrix-mat.result ≡ 2 ^ fits.log = stored ∙ fits.high in
+    let are = c.in_ok-interpolate.ensures.coefficients fits.log high in
+    let shape = c.requires.shape c.interpolate.new.mat c.transform-changed.result
+    (are.high ∙ stored, are.wide ∙ ap (λ (n : RowMajor g.row.F.Denot). n.width) c.into_row_major_matrix-mat.ensures) c.transform-changed.ensures in
+    let same = c.in_ok-weigh_reversed_rows.ensures.rows fits.log (shape.0 ∙ fits.high) in
+    fits_as _ _ _ c.args.added_bits _ _ fits (same.high ∙ shape.0) (same.wide ∙ shape.1)
+
+pub returns-clause-values : goal.returns-clause-values
+returns-clause-values g c =
+    let field = g.F.Field in
+    let fits = c.requires.fits in
+    let log = fits.log in
+    let a = c.args.added_bits in
+    let s = field.value c.args.shift in
+    let m = g.N.IntoRowMajorMatrix.stored c.args.mat in
+    let told = c.interpolate.new.mat in
+    let answered = c.transform-changed.result in
+    let stored = ap height c.into_row_major_matrix-mat.ensures in
+    let are = c.in_ok-interpolate.ensures.coefficients log (stored ∙ fits.high) in
+    let shape = c.requires.shape told answered (are.high ∙ stored, are.wide ∙ ap (λ (n : RowMajor g.row.F.Denot). n.width) c.into_row_major_matrix-mat.ensures) c.transform-changed.ensures in
+    let same = c.in_ok-weigh_reversed_rows.ensures.rows log (shape.0 ∙ fits.high) in
+    let one = ap field.value c.ONE.ensures ∙ g.met.F.Field.one_law in
+    let on_coset = shifted_by_one field.ring _ s (reversed log (values_of field answered)) (reversed log (values_of field c.weigh_reversed_rows.new.mat)) one same in
+    IfOk-weaker c.extend.result _ _
+    (λ out given.
+    extension_of_answered field g.F.TwoAdicField.generator _ m told answered out a log s fits.high (rw c.into_row_major_matrix-mat.ensures at are) c.transform-changed.ensures shape.0
+    (coset_values field.ring (λ n. field.value (g.F.TwoAdicField.generator n)) (reversed log (values_of field answered)) (reversed log (values_of field c.weigh_reversed_rows.new.mat)) (log + a) s (values_of field out)
+    on_coset given))
+    (c.extend.ensures.values log (same.high ∙ shape.0 ∙ fits.high))
+
+pub returns-clause-cost : goal.returns-clause-cost
+returns-clause-cost g c k e =
+    let a = c.args.added_bits in
+    let m = c.into_row_major_matrix-mat.result in
+    let bound = λ (n w : ℕ). w * (n * 2 ^ n / 2) in
+    let stored = ap height c.into_row_major_matrix-mat.ensures in
+    let width = ap (λ (n : RowMajor g.row.F.Denot). n.width) c.into_row_major_matrix-mat.ensures in
+    let w = (g.N.IntoRowMajorMatrix.stored c.args.mat).width in
+    let are = c.in_ok-interpolate.ensures.coefficients k (stored ∙ e) in
+    let shape = c.requires.shape c.interpolate.new.mat c.transform-changed.result (are.high ∙ stored, are.wide ∙ width) c.transform-changed.ensures in
+    let same = c.in_ok-weigh_reversed_rows.ensures.rows k (shape.0 ∙ e) in
+    let first : c.interpolate.new.products ≤ c.self.inside.products + bound k w + 2 ^ k * w =
+    subst (λ (v : ℕ). c.interpolate.new.products ≤ c.self.inside.products + bound k v + 2 ^ k * v) width (c.interpolate.ensures.cost k (stored ∙ e)) in
+    let entries : height c.transform-changed.result * c.transform-changed.result.width ≡ 2 ^ k * w = ap₂ (λ (h v : ℕ). h * v) (shape.0 ∙ e) shape.1 in
+    let last = c.extend.ensures.cost k (same.high ∙ shape.0 ∙ e) in
+    let wide : bound (k + a) c.weigh_reversed_rows.new.mat.width ≡ bound (k + a) w = ap (bound (k + a)) (same.wide ∙ shape.1) in
+    within_extension c.extend.result bound k a w c.args.self.now c.extend.new.products
+    (omega (arith, c.self.view_is, first, c.weigh_reversed_rows.ensures.cost, entries, last, wide))

@@ -1,0 +1,24 @@
+use Rattle.std.proofs.Common.{◌≡◌, ℕ, ◌+◌, ◌*◌, ◌/◌, ◌^◌, ◌≤◌, length, sym, ap, ap₂, ◌∙◌, subst, arith}
+use Rattle.p3_matrix.specs.BitOrder.{reversed}
+use Rattle.p3_matrix.specs.RowMajor.{height}
+use Rattle.p3_dft.specs.Cosets.{IsQuotient}
+use Rattle.p3_dft.specs.Transforms.{values_of}
+use Rattle.p3_dft.proofs.BitReversed.Coefficients.{reversed_quotient}
+use Rattle.p3_dft.proofs.radix_2_bowers.interpolate.Goals as goal
+
+pub returns-clause-coefficients : goal.returns-clause-coefficients
+returns-clause-coefficients g c k high =
+    let field = g.F.Field in
+    let multiples = c.interpolate_scaled.new.mat in
+    let shape = c.in_ok-interpolate_scaled.ensures.shape in
+    let tall : height multiples ≡ 2 ^ k = ap₂ (λ (l w : ℕ). l / w) shape.1 shape.0 ∙ high in
+    c.in_ok-interpolate_scaled.ensures.coefficients k high (reversed k (values_of field c.divide_rows.new.mat))
+    (reversed_quotient field.ring k (2 ^ k) (values_of field multiples) (values_of field c.divide_rows.new.mat) tall
+    (subst (λ (n : ℕ). IsQuotient field.ring n (values_of field multiples) (values_of field c.divide_rows.new.mat)) tall c.divide_rows.ensures.divided))
+
+pub returns-clause-cost : goal.returns-clause-cost
+returns-clause-cost g c k high =
+    let m = c.args.mat.now in
+    let entries : length c.interpolate_scaled.new.mat.values ≡ 2 ^ k * m.width =
+    c.in_ok-interpolate_scaled.ensures.shape.1 ∙ sym c.interpolate_scaled.ensures.whole.full ∙ ap (λ n. n * m.width) high in
+    omega (arith, c.interpolate_scaled.ensures.cost k high, c.divide_rows.ensures.count, entries)

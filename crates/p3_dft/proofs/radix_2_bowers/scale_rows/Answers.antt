@@ -1,0 +1,32 @@
+use Rattle.std.proofs.Common.{◌≡◌, ◌+◌, ◌*◌, ◌-◌, ◌≤◌, take, drop, length, get_or, refl, sym, ap, ap₂, ◌∙◌, arith, rules, add-one}
+use Rattle.std.proofs.Math.Nat.{suc-mul, mul-le-mul_right}
+use Rattle.std.proofs.lemmas.List.{places, get_or_read_under}
+use Rattle.p3_dft.proofs.Rows.{rows-none, rows-more, part_at, value_at}
+use Rattle.p3_dft.proofs.radix_2_bowers.scale_rows.Goals as goal
+
+pub loop-i-init : goal.loop-i-init
+loop-i-init g c = record { values = rows-none g.F.Field.ZERO _ _ _; count = omega arith }
+
+pub loop-i-preserved : goal.loop-i-preserved
+loop-i-preserved g c =
+    let field = g.F.Field in
+    let i = c.loop-i.i in
+    let w = c.args.width in
+    let m : (i * w + w) - i * w ≡ w = omega arith in
+    let next : (i + 1) * w ≡ i * w + w = rw add-one (suc-mul i w) in
+    let room : i * w + w ≤ length c.loop-i.values = omega (arith, mul-le-mul_right w c.loop-i-test.true, next, c.requires, c.loop-i.auto.values) in
+    let old_len : length (take ((i * w + w) - i * w) (drop (i * w) c.loop-i.values)) ≡ w = search (rules, places) in
+    let len : length c.scale_slice_in_place.new.values ≡ w = c.scale_slice_in_place.auto.values ∙ old_len in
+    let weight : field.value c.index-weights-i.result ≡ field.value (get_or c.args.weights.now i field.ZERO) =
+    ap field.value (get_or_read_under c.args.weights.now i _ _ field.ZERO c.index-weights-i.is c.loop-i-test.true refl) in
+    record {
+      values = rows-more field.ZERO w _ _ c.loop-i.values c.scale_slice_in_place.new.values i _ m room len
+          (λ k inside.
+          let entry = ap field.value (part_at c.loop-i.values (i * w) ((i * w + w) - i * w) k field.ZERO (omega arith) ∙ c.loop-i.invariant.values.rest (i * w + k) (omega arith)) in
+          value_at field.value (λ x. field.ring.mul x (field.value c.index-weights-i.result)) (take ((i * w + w) - i * w) (drop (i * w) c.loop-i.values)) c.scale_slice_in_place.new.values k field.ZERO c.scale_slice_in_place.ensures.values c.scale_slice_in_place.auto.values (omega arith) ∙ ap₂ field.ring.mul entry weight)
+          c.loop-i.invariant.values;
+      count = omega (arith, next, c.scale_slice_in_place.ensures.count, c.loop-i.invariant.count, old_len);
+    }
+
+pub returns-clause-values : goal.returns-clause-values
+returns-clause-values g c = λ i j below inside. c.loop-i.invariant.values.done i j (omega arith) inside

@@ -1,0 +1,521 @@
+//! The transform by the networks of Bowers, whose twiddles are read one after another.
+
+ghost use Rattle.std.specs.Prelude.{◌≡◌, ℕ, ◌+◌, ◌*◌, ◌/◌, ◌-◌, ◌^◌, ◌<◌, ◌≤◌, length, get_or, IfOk, OnOk, Ok};
+ghost use Rattle.p3_field.specs.Ring.{power};
+ghost use Rattle.p3_matrix.specs.BitOrder.{rev, reversed};
+ghost use Rattle.p3_matrix.specs.Matrix.{Matrix, Same, matrix, mapped};
+ghost use Rattle.p3_matrix.specs.RowMajor.{IsRowMajor, SameShape, height};
+ghost use Rattle.p3_dft.specs.Cosets.{AreCoefficients, IsQuotient, IsValues, shifted};
+ghost use Rattle.p3_dft.specs.Engines.{AtLog};
+ghost use Rattle.p3_dft.specs.Shapes.{FitsDft, FitsLde};
+ghost use Rattle.p3_dft.specs.Transforms.{AreValuesOfRows, values_of};
+ghost use Rattle.p3_dft.specs.Twiddles.{AreTwiddles};
+
+use crate::butterfly_layers::layer;
+use crate::butterfly_layers::rules::{DifByBlock, DitByBlock};
+use crate::traits::{Layout, TwoAdicSubgroupDft};
+use crate::util::{divide_rows, exchange_rows, pad_rows, reverse_rows};
+use p3_field::{Field, Products, TwoAdicField};
+use p3_matrix::{
+    DftError, IntoRowMajorMatrix, RowMajorMatrix, log2_strict_usize, scale_slice_in_place,
+};
+use std::alloc::{AllocError, Global};
+use std::marker::Model;
+
+/// Transforms by layers of butterflies, in place: network G takes rows in bit reversed order to rows in
+/// natural order, and G transposed, with the inverse twiddles, takes rows in natural order to rows in
+/// bit reversed order. At height `2^k` and width w each takes at most `w * k * 2^k / 2` products. An
+/// extension, which goes by the one and then the other, reverses no rows: coefficients lie in bit
+/// reversed order in it, which is the layout that a transform is told.
+///
+/// In every layer all pairs of a block have one twiddle, and blocks take the twiddles one after another.
+/// These are made in every call. The engine keeps nothing between calls but its counter, which is what
+/// contracts see of it. It takes no memory for a transform of height one.
+#[derive(Drop)]
+pub struct Radix2Bowers {
+    products: Products,
+}
+
+impl Model for Radix2Bowers {
+    ghost Value = { ℕ };
+
+    ghost view = { λ e. e.products };
+}
+
+impl Default for Radix2Bowers {
+    ghost use Rattle.std.specs.Prelude.{◌≡◌};
+
+    ghost is_default = { λ e. e ≡ 0 };
+
+    fn default() -> Self {
+        Radix2Bowers {
+            products: Products::new(),
+        }
+    }
+}
+
+impl Clone for Radix2Bowers {
+    ghost use Rattle.std.specs.Prelude.{◌≡◌, ⊤};
+
+    ghost is_clone = { λ _ e. e ≡ 0 };
+
+    ghost is_infallible = { λ _. ⊤ };
+
+    fn clone(&self) -> Result<Self, AllocError> {
+        Ok(Self::default())
+    }
+}
+
+impl<F: TwoAdicField> TwoAdicSubgroupDft<F> for Radix2Bowers {
+    ghost use Rattle.std.specs.Prelude.{◌≡◌, ⊤, ℕ, ◌+◌, ◌*◌, ◌/◌, ◌^◌, ◌≤◌, IfOk, IsOk, OnOk, Ok};
+    ghost use Rattle.p3_matrix.specs.RowMajor.{height};
+    ghost use Rattle.p3_dft.specs.Engines.{AtLog, IsLater};
+    ghost use Rattle.p3_dft.specs.Shapes.{FitsDft};
+    ghost use Rattle.p3_dft.specs.Transforms.{IsInterpolation, IsTransform};
+    ghost use Rattle.p3_dft.specs.declared.traits.Layout.TheVariants.{BitReversed};
+
+    type Evaluations = RowMajorMatrix<F>;
+
+    const LAYOUT: Layout = Layout::BitReversed;
+
+    ghost LAYOUT = { BitReversed };
+
+    ghost promised = { λ _ k. k ≡ 0 };
+
+    ghost coset_promised = { λ _ k. k ≡ 0 };
+
+    ghost served = { λ _ _. ⊤ };
+
+    ghost bound = { λ k w. w * (k * 2 ^ k / 2) };
+
+    ghost made = { λ e. e };
+
+    ghost coset_promised_law = { λ e k one_row. one_row };
+
+    ghost default_law = { λ e none. none };
+
+    ghost clone_law = { λ e copy none. none };
+
+    /// As the trait says: the rows are reversed, then network G. A matrix of height one is its own
+    /// transform: it is handed back, with no product and no memory taken.
+    fn dft_batch<N: IntoRowMajorMatrix<F>>(&mut self, mat: N) -> Result<RowMajorMatrix<F>, DftError>
+        requires { FitsDft F.TWO_ADICITY (height (N.stored mat)) (N.stored mat).width }
+        ensures values { IfOk result (λ out. IsTransform F.Field.own F.generator (N.stored mat) F.ring.one out) }
+        ensures succeeds { AtLog (height (N.stored mat)) (λ k. k ≡ 0 → IsOk result) }
+        ensures one_row { height (N.stored mat) ≡ 1 → (result ≡ Ok (N.stored mat)) × (self.new ≡ self.old) }
+        ensures later { IsLater (λ _ k. k ≡ 0) (λ _ k. k ≡ 0) (λ _ _. ⊤) (λ e. e) self.old self.new }
+        ensures cost { AtLog (height (N.stored mat)) (λ k. OnOk result (self.new ≤ self.old + (N.stored mat).width * (k * 2 ^ k / 2))) }
+    {
+        let mut mat = mat.into_row_major_matrix();
+        if mat.height() == 1 {
+            return Ok(mat);
+        }
+        reverse_rows(&mut mat);
+        evaluate(&mut mat, &mut self.products)?;
+        Ok(mat)
+    }
+
+    fn add_products(&mut self, products: Products) {
+        self.products.add(products);
+    }
+
+    /// As the trait says: network G transposed, division by the height, then the rows are reversed. A
+    /// matrix of height one is its own inverse transform: it is handed back, with no product and no
+    /// memory taken.
+    fn idft_batch<N: IntoRowMajorMatrix<F>>(
+        &mut self,
+        mat: N,
+    ) -> Result<RowMajorMatrix<F>, DftError>
+        requires { FitsDft F.TWO_ADICITY (height (N.stored mat)) (N.stored mat).width }
+        ensures coefficients { IfOk result (λ out. IsInterpolation F.Field.own F.generator (N.stored mat) F.ring.one out) }
+        ensures succeeds { AtLog (height (N.stored mat)) (λ k. k ≡ 0 → IsOk result) }
+        ensures one_row { height (N.stored mat) ≡ 1 → (result ≡ Ok (N.stored mat)) × (self.new ≡ self.old) }
+        ensures later { IsLater (λ _ k. k ≡ 0) (λ _ k. k ≡ 0) (λ _ _. ⊤) (λ e. e) self.old self.new }
+        ensures cost { AtLog (height (N.stored mat))
+            (λ k. OnOk result (self.new ≤ self.old + (N.stored mat).width * (k * 2 ^ k / 2) + 2 ^ k * (N.stored mat).width)) }
+    {
+        let mut mat = mat.into_row_major_matrix();
+        if mat.height() == 1 {
+            return Ok(mat);
+        }
+        interpolate(&mut mat, &mut self.products)?;
+        reverse_rows(&mut mat);
+        Ok(mat)
+    }
+
+    /// As the trait says: the transform is told coefficients whose rows lie in bit reversed order, and
+    /// what it answers is multiplied by powers of the shift in that order.
+    fn coset_lde_batch_with_transform<
+        N: IntoRowMajorMatrix<F>,
+        T: FnOnce(RowMajorMatrix<F>, Layout) -> RowMajorMatrix<F> + Drop,
+    >(
+        &mut self,
+        mat: N,
+        added_bits: usize,
+        shift: F,
+        transform: T,
+    ) -> Result<RowMajorMatrix<F>, DftError> {
+        let mut mat = mat.into_row_major_matrix();
+        interpolate(&mut mat, &mut self.products)?;
+        let mut changed = transform(mat, Layout::BitReversed);
+        weigh_reversed_rows(&mut changed, F::ONE, shift, &mut self.products)?;
+        extend(changed, added_bits, &mut self.products)
+    }
+
+    /// As the trait says: one product an entry divides by the height and multiplies by the power of the
+    /// shift.
+    fn coset_lde_batch<N: IntoRowMajorMatrix<F>>(
+        &mut self,
+        mat: N,
+        added_bits: usize,
+        shift: F,
+    ) -> Result<RowMajorMatrix<F>, DftError> {
+        let mut mat = mat.into_row_major_matrix();
+        let log_h = log2_strict_usize(mat.height());
+        let inverse = F::ONE.div_2exp_u64(log_h as u64);
+        interpolate_scaled(&mut mat, &mut self.products)?;
+        weigh_reversed_rows(&mut mat, inverse, shift, &mut self.products)?;
+        extend(mat, added_bits, &mut self.products)
+    }
+
+    /// As the trait says: no row is multiplied by a power of a shift.
+    fn lde_batch<N: IntoRowMajorMatrix<F>>(
+        &mut self,
+        mat: N,
+        added_bits: usize,
+    ) -> Result<RowMajorMatrix<F>, DftError> {
+        let mut mat = mat.into_row_major_matrix();
+        interpolate(&mut mat, &mut self.products)?;
+        extend(mat, added_bits, &mut self.products)
+    }
+}
+
+// From coefficients, the values on the subgroup: rows in bit reversed order become rows in natural
+// order. That is network G. A single row takes no memory.
+fn evaluate<F: TwoAdicField>(
+    mat: &mut RowMajorMatrix<F>,
+    products: &mut Products,
+) -> Result<(), DftError>
+    requires { FitsDft F.TWO_ADICITY (height mat.old) mat.old.width }
+    ensures values { AtLog (height mat.old) (λ k. OnOk result (IsValues F.ring (λ n. F.value (F.generator n))
+        (reversed k (values_of F.Field.own mat.old)) k F.ring.one (values_of F.Field.own mat.new))) }
+    ensures grows { products.old ≤ products.new }
+    ensures cost { AtLog (height mat.old) (λ k. products.new ≤ products.old + mat.old.width * (k * 2 ^ k / 2)) }
+{
+    let height = mat.height();
+    if height == 1 {
+        return Ok(());
+    }
+    let log_h = log2_strict_usize(height);
+    let width = mat.width();
+    let root = F::two_adic_generator(log_h);
+    let twiddles = reversed_powers(*mat.allocator(), F::ONE, root, log_h - 1)?;
+    network_g(
+        mat.values_mut(),
+        width,
+        log_h,
+        twiddles.as_slice(),
+        products,
+    );
+    Ok(())
+}
+
+// From values on the subgroup, the coefficients times the height: rows in natural order become rows in
+// bit reversed order. That is network G transposed, with the inverse twiddles. A single row takes no
+// memory.
+fn interpolate_scaled<F: TwoAdicField>(
+    mat: &mut RowMajorMatrix<F>,
+    products: &mut Products,
+) -> Result<(), DftError>
+    requires { FitsDft F.TWO_ADICITY (height mat.old) mat.old.width }
+    ensures whole { IsRowMajor mat.old }
+    ensures shape { OnOk result (SameShape mat.new mat.old) }
+    ensures coefficients { AtLog (height mat.old) (λ k. OnOk result ((c : Matrix F.Element)
+        → IsQuotient F.ring (2 ^ k) (reversed k (values_of F.Field.own mat.new)) c
+        → AreCoefficients F.ring (λ n. F.value (F.generator n)) (values_of F.Field.own mat.old) k F.ring.one c)) }
+    ensures grows { products.old ≤ products.new }
+    ensures cost { AtLog (height mat.old) (λ k. products.new ≤ products.old + mat.old.width * (k * 2 ^ k / 2)) }
+{
+    let height = mat.height();
+    if height == 1 {
+        return Ok(());
+    }
+    let log_h = log2_strict_usize(height);
+    let width = mat.width();
+    let root = F::two_adic_generator(log_h).inverse();
+    let twiddles = reversed_powers(*mat.allocator(), F::ONE, root, log_h - 1)?;
+    network_g_transposed(
+        mat.values_mut(),
+        width,
+        log_h,
+        twiddles.as_slice(),
+        products,
+    );
+    Ok(())
+}
+
+// From values on the subgroup, the coefficients: rows in natural order become rows in bit reversed
+// order.
+fn interpolate<F: TwoAdicField>(
+    mat: &mut RowMajorMatrix<F>,
+    products: &mut Products,
+) -> Result<(), DftError>
+    requires { FitsDft F.TWO_ADICITY (height mat.old) mat.old.width }
+    ensures coefficients { AtLog (height mat.old) (λ k. OnOk result (AreCoefficients F.ring (λ n. F.value (F.generator n))
+        (values_of F.Field.own mat.old) k F.ring.one (reversed k (values_of F.Field.own mat.new)))) }
+    ensures grows { products.old ≤ products.new }
+    ensures cost { AtLog (height mat.old) (λ k. products.new ≤ products.old + mat.old.width * (k * 2 ^ k / 2) + 2 ^ k * mat.old.width) }
+{
+    interpolate_scaled(mat, products)?;
+    divide_rows(mat, products);
+    Ok(())
+}
+
+// From coefficients whose rows lie in bit reversed order, the values on the subgroup of
+// `2^added_bits` times as many points, in natural order.
+fn extend<F: TwoAdicField>(
+    mat: RowMajorMatrix<F>,
+    added_bits: usize,
+    products: &mut Products,
+) -> Result<RowMajorMatrix<F>, DftError>
+    requires { FitsLde F.TWO_ADICITY (height mat) mat.width added_bits }
+    ensures values { AtLog (height mat) (λ k. IfOk result (λ out. IsValues F.ring (λ n. F.value (F.generator n))
+        (reversed k (values_of F.Field.own mat)) (k + added_bits) F.ring.one (values_of F.Field.own out))) }
+    ensures grows { products.old ≤ products.new }
+    ensures cost { AtLog (height mat) (λ k. products.new ≤ products.old + mat.width * ((k + added_bits) * 2 ^ (k + added_bits) / 2)) }
+{
+    let mut mat = spread_rows(mat, added_bits)?;
+    evaluate(&mut mat, products)?;
+    Ok(mat)
+}
+
+// Network G, from rows in bit reversed order: in layer l, blocks of two halves of `2^l` rows meet by
+// decimation in frequency, block b with twiddle b. Block 0 has no product.
+fn network_g<F: TwoAdicField>(
+    values: &mut [F],
+    width: usize,
+    log_h: usize,
+    twiddles: &[F],
+    products: &mut Products,
+)
+    requires wide { 1 ≤ width }
+    requires some { 1 ≤ log_h }
+    requires small { log_h < 64 }
+    requires rooted { log_h ≤ F.TWO_ADICITY }
+    requires height { length values.old ≡ 2 ^ log_h * width }
+    requires twiddles { AreTwiddles F.Field.own (2 ^ (log_h - 1))
+        (λ b. power F.ring (F.value (F.generator log_h)) (rev (log_h - 1) b)) twiddles.now }
+    ensures values { AreValuesOfRows F.Field.own width (2 ^ log_h) (rev log_h)
+        (λ r. power F.ring (F.value (F.generator log_h)) r) values.old values.new }
+    ensures grows { products.old ≤ products.new }
+    ensures cost { products.new ≤ products.old + width * (log_h * 2 ^ log_h / 2) }
+{
+    // One column is made apart: where the width is known, no loop along a row is left.
+    if width == 1 {
+        layers_of_g(values, 1, log_h, twiddles, products);
+    } else {
+        layers_of_g(values, width, log_h, twiddles, products);
+    }
+}
+
+// The same. Inlined, so that a width that the caller names is known in all layers.
+#[inline(always)]
+fn layers_of_g<F: TwoAdicField>(
+    values: &mut [F],
+    width: usize,
+    log_h: usize,
+    twiddles: &[F],
+    products: &mut Products,
+)
+    requires wide { 1 ≤ width }
+    requires some { 1 ≤ log_h }
+    requires small { log_h < 64 }
+    requires rooted { log_h ≤ F.TWO_ADICITY }
+    requires height { length values.old ≡ 2 ^ log_h * width }
+    requires twiddles { AreTwiddles F.Field.own (2 ^ (log_h - 1))
+        (λ b. power F.ring (F.value (F.generator log_h)) (rev (log_h - 1) b)) twiddles.now }
+    ensures values { AreValuesOfRows F.Field.own width (2 ^ log_h) (rev log_h)
+        (λ r. power F.ring (F.value (F.generator log_h)) r) values.old values.new }
+    ensures grows { products.old ≤ products.new }
+    ensures cost { products.new ≤ products.old + width * (log_h * 2 ^ log_h / 2) }
+{
+    for l in 0..log_h {
+        let half = 1usize << l;
+        let blocks = 1usize << (log_h - 1 - l);
+        layer(
+            DifByBlock { twiddles },
+            values,
+            width,
+            half,
+            0,
+            blocks,
+            products,
+        );
+    }
+}
+
+// Network G transposed, to rows in bit reversed order: the layers of G in opposite order, by
+// decimation in time, with the powers of the inverse of the generator. Block 0 has no product.
+fn network_g_transposed<F: TwoAdicField>(
+    values: &mut [F],
+    width: usize,
+    log_h: usize,
+    twiddles: &[F],
+    products: &mut Products,
+)
+    requires wide { 1 ≤ width }
+    requires some { 1 ≤ log_h }
+    requires small { log_h < 64 }
+    requires rooted { log_h ≤ F.TWO_ADICITY }
+    requires height { length values.old ≡ 2 ^ log_h * width }
+    requires twiddles { AreTwiddles F.Field.own (2 ^ (log_h - 1))
+        (λ b. power F.ring (power F.ring (F.value (F.generator log_h)) (2 ^ log_h - 1)) (rev (log_h - 1) b)) twiddles.now }
+    ensures values { AreValuesOfRows F.Field.own width (2 ^ log_h) (λ q. q)
+        (λ r. power F.ring (power F.ring (F.value (F.generator log_h)) (2 ^ log_h - 1)) (rev log_h r)) values.old values.new }
+    ensures grows { products.old ≤ products.new }
+    ensures cost { products.new ≤ products.old + width * (log_h * 2 ^ log_h / 2) }
+{
+    if width == 1 {
+        layers_of_g_transposed(values, 1, log_h, twiddles, products);
+    } else {
+        layers_of_g_transposed(values, width, log_h, twiddles, products);
+    }
+}
+
+// The same. Inlined as the layers of G are.
+#[inline(always)]
+fn layers_of_g_transposed<F: TwoAdicField>(
+    values: &mut [F],
+    width: usize,
+    log_h: usize,
+    twiddles: &[F],
+    products: &mut Products,
+)
+    requires wide { 1 ≤ width }
+    requires some { 1 ≤ log_h }
+    requires small { log_h < 64 }
+    requires rooted { log_h ≤ F.TWO_ADICITY }
+    requires height { length values.old ≡ 2 ^ log_h * width }
+    requires twiddles { AreTwiddles F.Field.own (2 ^ (log_h - 1))
+        (λ b. power F.ring (power F.ring (F.value (F.generator log_h)) (2 ^ log_h - 1)) (rev (log_h - 1) b)) twiddles.now }
+    ensures values { AreValuesOfRows F.Field.own width (2 ^ log_h) (λ q. q)
+        (λ r. power F.ring (power F.ring (F.value (F.generator log_h)) (2 ^ log_h - 1)) (rev log_h r)) values.old values.new }
+    ensures grows { products.old ≤ products.new }
+    ensures cost { products.new ≤ products.old + width * (log_h * 2 ^ log_h / 2) }
+{
+    for done in 0..log_h {
+        let half = 1usize << (log_h - 1 - done);
+        let blocks = 1usize << done;
+        layer(
+            DitByBlock { twiddles },
+            values,
+            width,
+            half,
+            0,
+            blocks,
+            products,
+        );
+    }
+}
+
+// The first `2^bits` powers of `base`, each times `first`, in bit reversed order.
+fn reversed_powers<F: TwoAdicField>(
+    alloc: Global,
+    first: F,
+    base: F,
+    bits: usize,
+) -> Result<Vec<F>, DftError>
+    requires { bits < 64 }
+    ensures { IfOk result (λ v. AreTwiddles F.Field.own (2 ^ bits)
+        (λ b. F.ring.mul (F.value first) (power F.ring (F.value base) (rev bits b))) v.items) }
+{
+    let mut powers = Vec::with_capacity(alloc, 1 << bits)?;
+    powers.push(first)?;
+    for l in 0..bits {
+        let factor = base.exp_power_of_2(bits - 1 - l);
+        push_multiples(&mut powers, factor)?;
+    }
+    Ok(powers)
+}
+
+// Adds each element times `factor` at the end.
+fn push_multiples<F: Field>(elements: &mut Vec<F>, factor: F) -> Result<(), DftError>
+    ensures size { OnOk result (length elements.new.items ≡ 2 * length elements.old.items) }
+    ensures before { OnOk result ((n : ℕ) → n < length elements.old.items
+        → get_or elements.new.items n F.ZERO ≡ get_or elements.old.items n F.ZERO) }
+    ensures after { OnOk result ((n : ℕ) → n < length elements.old.items
+        → F.value (get_or elements.new.items (length elements.old.items + n) F.ZERO)
+        ≡ F.ring.mul (F.value (get_or elements.old.items n F.ZERO)) (F.value factor)) }
+{
+    for i in 0..elements.len() {
+        let multiple = elements[i] * factor;
+        elements.push(multiple)?;
+    }
+    Ok(())
+}
+
+// Multiplies row i by weight i, with one product an entry.
+fn scale_rows<F: TwoAdicField>(
+    values: &mut [F],
+    width: usize,
+    weights: &[F],
+    products: &mut Products,
+)
+    requires { length values.old ≡ length weights.now * width }
+    ensures values { (i j : ℕ) → i < length weights.now → j < width → F.value (get_or values.new (i * width + j) F.ZERO)
+        ≡ F.ring.mul (F.value (get_or values.old (i * width + j) F.ZERO)) (F.value (get_or weights.now i F.ZERO)) }
+    ensures count { products.new ≡ products.old + length weights.now * width }
+{
+    for i in 0..weights.len() {
+        let start = i * width;
+        scale_slice_in_place(&mut values[start..start + width], weights[i], products);
+    }
+}
+
+// Multiplies the row of coefficient i by `scale` and the i-th power of `shift`, where rows lie in bit
+// reversed order, with one product an entry.
+fn weigh_reversed_rows<F: TwoAdicField>(
+    mat: &mut RowMajorMatrix<F>,
+    scale: F,
+    shift: F,
+    products: &mut Products,
+) -> Result<(), DftError>
+    requires { (k : ℕ) × (height mat.old ≡ 2 ^ k) }
+    ensures rows { AtLog (height mat.old) (λ k. OnOk result (Same (reversed k (values_of F.Field.own mat.new))
+        (mapped (λ x. F.ring.mul x (F.value scale)) (shifted F.ring (F.value shift) (reversed k (values_of F.Field.own mat.old)))))) }
+    ensures grows { products.old ≤ products.new }
+    ensures cost { products.new ≤ products.old + height mat.old * mat.old.width }
+{
+    let width = mat.width();
+    let log_h = log2_strict_usize(mat.height());
+    let weights = reversed_powers(*mat.allocator(), scale, shift, log_h)?;
+    scale_rows(mat.values_mut(), width, weights.as_slice(), products);
+    Ok(())
+}
+
+// Brings row i into the place `i << added_bits`, with rows of zeros in the others. In bit reversed
+// order that is rows of zeros below all others.
+fn spread_rows<F: TwoAdicField>(
+    mat: RowMajorMatrix<F>,
+    added_bits: usize,
+) -> Result<RowMajorMatrix<F>, DftError>
+    requires some { 1 ≤ height mat }
+    requires bits { added_bits < 64 }
+    requires size { height mat * mat.width * 2 ^ added_bits < 2 ^ 64 }
+    ensures shape { IfOk result (λ out. (height out ≡ height mat * 2 ^ added_bits) × (out.width ≡ mat.width)) }
+    ensures rows { IfOk result (λ out. (i j : ℕ) → i < height mat → j < mat.width
+        → (matrix F.ZERO out).entry (i * 2 ^ added_bits) j ≡ (matrix F.ZERO mat).entry i j) }
+    ensures others { IfOk result (λ out. (i r j : ℕ) → i < height mat → 0 < r → r < 2 ^ added_bits → j < mat.width
+        → (matrix F.ZERO out).entry (i * 2 ^ added_bits + r) j ≡ F.ZERO) }
+{
+    if added_bits == 0 {
+        return Ok(mat);
+    }
+    let height = mat.height();
+    let mut mat = pad_rows(mat, added_bits)?;
+    for done in 1..height {
+        let row = height - done;
+        exchange_rows(&mut mat, row, row << added_bits);
+    }
+    Ok(mat)
+}
