@@ -23,6 +23,7 @@ abbrev pub engine_named : List ℕ → Option EngineName
 engine_named word = behind word (
     (codes "naive", engine.Naive)
     ∷ (codes "dit", engine.Dit)
+    ∷ (codes "bowers", engine.Bowers)
     ∷ [])
 
 abbrev pub operation_named : List ℕ → Option Operation

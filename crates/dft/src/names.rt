@@ -28,6 +28,7 @@ impl FieldName {
 pub enum EngineName {
     Naive,
     Dit,
+    Bowers,
 }
 
 impl EngineName {
@@ -38,6 +39,7 @@ impl EngineName {
         match word {
             "naive" => Some(EngineName::Naive),
             "dit" => Some(EngineName::Dit),
+            "bowers" => Some(EngineName::Bowers),
             _ => None,
         }
     }

@@ -119,7 +119,7 @@ const FIRST_TEXT: &str = "9 5 0\n1 2013265920 0\n";
 
 #[test]
 fn answers(rt: HostRuntime) -> Result<(), Fail> {
-    let rows: [(&[&str], &str); 14] = [
+    let rows: [(&[&str], &str); 16] = [
         (&FIRST_WORDS, FIRST_TEXT),
         (
             &["babybear", "naive", "dft", "1", "1", "2", "3", "4"],
@@ -141,6 +141,14 @@ fn answers(rt: HostRuntime) -> Result<(), Fail> {
         (
             &["babybear", "dit", "coset-dft", "2", "1", "5", "4"],
             "13\n2013265918\n",
+        ),
+        (
+            &["goldilocks", "bowers", "dft", "1", "0", "1", "0", "0"],
+            "1\n281474976710656\n18446744069414584320\n18446462594437873665\n",
+        ),
+        (
+            &["babybear", "bowers", "coset-lde", "1", "0", "1", "9", "1"],
+            "5\n5\n5\n5\n",
         ),
         (&["babybear", "naive", "idft", "1", "9", "1"], "5\n4\n"),
         (
