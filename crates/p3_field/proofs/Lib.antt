@@ -1,7 +1,9 @@
 pub mod Bezout
+pub mod LaneArithmetic
 pub mod Lists
 pub mod Parity
 pub mod Powers
+pub mod ResidueLanes
 pub mod Residues
 pub mod RingSolver
 pub mod Rings

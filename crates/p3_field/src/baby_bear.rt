@@ -4,6 +4,7 @@ ghost use Rattle.std.proofs.Common.{lit<, refl};
 ghost use Rattle.p3_field.specs.Fields.{baby_bear_numbers};
 
 use crate::residue31::{Numbers, Residue31};
+use crate::residue31_x8::Residue31X8;
 
 /// The numbers of `BabyBear`.
 #[derive(Clone, Copy, Debug, PartialEq, Eq, PartialOrd, Ord)]
@@ -11,6 +12,9 @@ pub struct BabyBearNumbers;
 
 /// An integer modulo `2^31 - 2^27 + 1`, by its number below the modulus.
 pub type BabyBear = Residue31<BabyBearNumbers>;
+
+/// Eight elements.
+pub type BabyBearX8 = Residue31X8<BabyBearNumbers>;
 
 impl Numbers for BabyBearNumbers {
     ghost numbers = { baby_bear_numbers };

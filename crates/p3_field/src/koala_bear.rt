@@ -4,6 +4,7 @@ ghost use Rattle.std.proofs.Common.{lit<, refl};
 ghost use Rattle.p3_field.specs.Fields.{koala_bear_numbers};
 
 use crate::residue31::{Numbers, Residue31};
+use crate::residue31_x8::Residue31X8;
 
 /// The numbers of `KoalaBear`.
 #[derive(Clone, Copy, Debug, PartialEq, Eq, PartialOrd, Ord)]
@@ -11,6 +12,9 @@ pub struct KoalaBearNumbers;
 
 /// An integer modulo `2^31 - 2^24 + 1`, by its number below the modulus.
 pub type KoalaBear = Residue31<KoalaBearNumbers>;
+
+/// Eight elements.
+pub type KoalaBearX8 = Residue31X8<KoalaBearNumbers>;
 
 impl Numbers for KoalaBearNumbers {
     ghost numbers = { koala_bear_numbers };

@@ -4,8 +4,8 @@
 //! laws; `TwoAdicField` adds the roots of unity, `CanonicalField` the numbers below a modulus.
 //! `Residue31` is such a field for each record of `Numbers` with a modulus below `2^31`: `BabyBear`
 //! and `KoalaBear` are made of it. `Goldilocks` has a modulus below `2^64`. `PackedField` handles
-//! several scalars by one operation, and `Products` counts the products that were made, for
-//! contracts alone.
+//! several scalars by one operation, as `Residue31X8` eight of a `Residue31`, and `Products` counts
+//! the products that were made, for contracts alone.
 #![tactic(auto)]
 
 pub mod baby_bear;
@@ -15,14 +15,16 @@ pub mod goldilocks;
 pub mod koala_bear;
 pub mod packed;
 pub mod residue31;
+pub mod residue31_x8;
 pub mod two_adic;
 
-pub use baby_bear::BabyBear;
+pub use baby_bear::{BabyBear, BabyBearX8};
 pub use fields::Field;
 pub use goldilocks::Goldilocks;
-pub use koala_bear::KoalaBear;
+pub use koala_bear::{KoalaBear, KoalaBearX8};
 pub use packed::{Packable, Packed, PackedField, Products, scaled};
 pub use residue31::{Numbers, Residue31};
+pub use residue31_x8::Residue31X8;
 pub use two_adic::{CanonicalField, TwoAdicField};
 
 #[cfg(test)]

@@ -5,6 +5,7 @@ ghost use Rattle.std.specs.Prelude.{◌≡◌, ◌<◌, ◌≤◌, ◌%◌, ◌-
 use crate::euclid::inverse_modulo;
 use crate::fields::Field;
 use crate::packed::{Packable, Packed, PackedField, Products};
+use crate::residue31_x8::Residue31X8;
 use crate::two_adic::{CanonicalField, TwoAdicField};
 use std::alloc::AllocError;
 use std::fmt::Debug;
@@ -54,9 +55,9 @@ pub trait Numbers: Copy + Ord + Debug {
 /// An integer modulo `N::MODULUS`, by its number below the modulus.
 #[derive_where(Copy, Debug, PartialEq, Eq, PartialOrd, Ord;)]
 pub struct Residue31<N: Numbers> {
-    number: u32,
+    pub(crate) number: u32,
     #[derive_where(skip(EqHashOrd))]
-    of: PhantomData<N>,
+    pub(crate) of: PhantomData<N>,
     ghost below: { number < N.numbers.modulus },
 }
 
@@ -295,7 +296,7 @@ impl<N: Numbers> PackedField for Residue31<N> {
 impl<N: Numbers> Packable for Residue31<N> {
     ghost use Rattle.std.proofs.Common.{refl, lit≤};
 
-    type Packing = Residue31<N>;
+    type Packing = Residue31X8<N>;
 
     ghost lane_law = { λ _. refl };
 

@@ -1,14 +1,16 @@
 // Numbers that were computed elsewhere, and each public function once, generic ones at each field through their bounds.
 
-ghost use Rattle.std.specs.Prelude.{◌≡◌, length};
+ghost use Rattle.std.specs.Prelude.{◌≡◌, ◌<◌, length};
 
 mod vectors;
 
-use crate::baby_bear::BabyBear;
+use crate::baby_bear::{BabyBear, BabyBearNumbers};
 use crate::fields::Field;
 use crate::goldilocks::Goldilocks;
-use crate::koala_bear::KoalaBear;
+use crate::koala_bear::{KoalaBear, KoalaBearNumbers};
 use crate::packed::{Packable, Packed, PackedField, Products, scaled};
+use crate::residue31::{Numbers, Residue31};
+use crate::residue31_x8::Residue31X8;
 use crate::two_adic::{CanonicalField, TwoAdicField};
 use std::mem::size_of;
 use std::process::Abort;
@@ -172,4 +174,51 @@ fn lanes(rt: HostRuntime) {
     );
     products.add(more);
     assert_eq!(rt; size_of::<Products>(), 0);
+}
+
+// Each operation in one lane of eight, beside others that have answers of their own.
+fn lane_agrees<N: Numbers>(
+    rt: &impl Abort,
+    lane: usize,
+    row: &(usize, usize, u64, u64, u64),
+    products: &mut Products,
+)
+    requires { lane < 8 }
+{
+    let (a, b, sum, difference, product) = *row;
+    let t = Residue31::<N>::from_usize(b);
+    let mut first = [Residue31::<N>::NEG_ONE; 8];
+    let mut second = [Residue31::<N>::TWO; 8];
+    let mut out = [Residue31::<N>::ZERO; 8];
+    first[lane] = Residue31::from_usize(a);
+    second[lane] = t;
+    let x = Residue31X8::load(&first);
+    let y = Residue31X8::load(&second);
+    let other = (lane + 1) % 8;
+    PackedField::add(x, y).store(&mut out);
+    assert_eq!(rt; out[lane].as_canonical_u64(), sum);
+    assert!(rt; out[other] == Residue31::ONE);
+    PackedField::sub(x, y).store(&mut out);
+    assert_eq!(rt; out[lane].as_canonical_u64(), difference);
+    assert!(rt; out[other] == Residue31::NEG_ONE - Residue31::TWO);
+    x.scaled(t, products).store(&mut out);
+    assert_eq!(rt; out[lane].as_canonical_u64(), product);
+    assert!(rt; out[other] == -t);
+    Residue31X8::broadcast(t).store(&mut out);
+    assert!(rt; out[lane] == t);
+}
+
+fn lanes_agree<N: Numbers>(rt: &impl Abort, table: &[(usize, usize, u64, u64, u64)]) {
+    let mut products = Products::new();
+    for row in table {
+        for lane in 0..8usize {
+            lane_agrees::<N>(rt, lane, row, &mut products);
+        }
+    }
+}
+
+#[test]
+fn eight_lanes(rt: HostRuntime) {
+    lanes_agree::<BabyBearNumbers>(&rt, &vectors::BABY_BEAR);
+    lanes_agree::<KoalaBearNumbers>(&rt, &vectors::KOALA_BEAR);
 }

@@ -1,0 +1,171 @@
+-- Arithmetic modulo m on the lanes of a vector: one correction by the least of two, and a product by an estimated quotient.
+use Rattle.std.proofs.Common.{◌≡◌, ℕ, zero, suc, ◌+◌, ◌-◌, ◌*◌, ◌/◌, ◌%◌, ◌<◌, ◌≤◌, ◌^◌, Bool, true, false, cond, List, [], ◌∷◌, length, map, replicate, refl, sym, ap, ap₂, ◌∙◌, arith, ⊎_elim, lit<}
+use Rattle.std.proofs.Math.Dec.{ltb}
+use Rattle.std.proofs.Math.Nat.{mod-eq_of_lt, mod-lt, add-mod_right, add-mul-mod_self_right, mod-add-div', mul-le-mul, mul-le-mul_right, div-lt_iff_lt-mul}
+use Rattle.std.proofs.lemmas.Bool.{cases_lt, lt-ltb, le-ltb, cond-true, cond-false}
+use Rattle.std.specs.Simd.Lanes.{Each1, zip2, sel_l, top}
+use mir.Syntax.{w32}
+use mir.Val.{Fits}
+use Rattle.p3_field.specs.LaneNumbers.{AreBelow}
+
+-- what a lane's operations give, modulo 2^32
+abbrev wrapped_sum : ℕ → ℕ → ℕ
+wrapped_sum x y = (x + y) % 4294967296
+
+abbrev wrapped_difference : ℕ → ℕ → ℕ
+wrapped_difference x y = (x + (4294967296 - y)) % 4294967296
+
+abbrev wrapped_product : ℕ → ℕ → ℕ
+wrapped_product x y = (x * y) % 4294967296
+
+-- what a comparison leaves in a lane
+abbrev less_mask : ℕ → ℕ → ℕ
+less_mask x y = cond (ltb x y) 4294967295 0
+
+chosen : (b : Bool) (x y : ℕ) → cond (top 31 (cond b 4294967295 0)) x y ≡ cond b x y
+chosen true x y = refl
+chosen false x y = refl
+
+lesser_first : (x y : ℕ) → x < y → cond (top 31 (less_mask x y)) x y ≡ x
+lesser_first x y l = chosen (ltb x y) x y ∙ cond-true (ltb x y) x y (lt-ltb x y l)
+
+lesser_second : (x y : ℕ) → y ≤ x → cond (top 31 (less_mask x y)) x y ≡ y
+lesser_second x y l = chosen (ltb x y) x y ∙ cond-false (ltb x y) x y (le-ltb x y l)
+
+module _ (m : ℕ) (above : 1 < m) (small : m < 2147483648) where
+  -- ---- one lane
+  lane_remainder : (x : ℕ) → x < m + m → cond (top 31 (less_mask x (wrapped_difference x m))) x (wrapped_difference x m) ≡ x % m
+  lane_remainder x below = ⊎_elim
+      (λ less. lesser_first x (wrapped_difference x m) (omega (arith, less, small)) ∙ sym (mod-eq_of_lt less))
+      (λ reaches.
+      let rest : wrapped_difference x m ≡ x - m = omega (arith, reaches, below, small) in
+      let whole : x ≡ x - m + m = omega (arith, reaches) in
+      lesser_second x (wrapped_difference x m) (omega (arith, rest)) ∙ rest
+      ∙ sym (ap (λ n. n % m) whole ∙ add-mod_right (x - m) m ∙ mod-eq_of_lt (omega (arith, reaches, below))))
+      (cases_lt x m)
+
+  lane_difference : (x y : ℕ) → x < m → y < m
+      → cond (top 31 (less_mask (wrapped_difference x y) (wrapped_sum (wrapped_difference x y) m))) (wrapped_difference x y) (wrapped_sum (wrapped_difference x y) m)
+      ≡ (x + (m - y)) % m
+  lane_difference x y a b = ⊎_elim
+      (λ less.
+      let rest : wrapped_difference x y ≡ x + 4294967296 - y = omega (arith, less, a, b, small) in
+      let sum : wrapped_sum (wrapped_difference x y) m ≡ x + (m - y) = omega (arith, rest, less, a, b, small) in
+      lesser_second (wrapped_difference x y) (wrapped_sum (wrapped_difference x y) m) (omega (arith, sum, rest, less, a, b, small))
+      ∙ sum ∙ sym (mod-eq_of_lt (omega (arith, less, b))))
+      (λ reaches.
+      let rest : wrapped_difference x y ≡ x - y = omega (arith, reaches, a, b, small) in
+      let sum : wrapped_sum (wrapped_difference x y) m ≡ x - y + m = omega (arith, rest, reaches, a, b, small) in
+      let whole : x + (m - y) ≡ x - y + m = omega (arith, reaches, b) in
+      lesser_first (wrapped_difference x y) (wrapped_sum (wrapped_difference x y) m) (omega (arith, sum, rest, above))
+      ∙ rest ∙ sym (ap (λ n. n % m) whole ∙ add-mod_right (x - y) m ∙ mod-eq_of_lt (omega (arith, a))))
+      (cases_lt x y)
+
+  -- ---- all lanes
+  pub remainders_of_lanes : (xs : List ℕ) (n : ℕ) → length xs ≡ n → AreBelow (m + m) xs
+      → sel_l (map (top 31) (zip2 less_mask xs (zip2 wrapped_difference xs (replicate n m)))) xs (zip2 wrapped_difference xs (replicate n m)) ≡ map (λ x. x % m) xs
+  remainders_of_lanes [] n e below = refl
+  remainders_of_lanes (x ∷ xs) zero e below = absurd (omega (arith, e))
+  remainders_of_lanes (x ∷ xs) (suc n) e below = ap₂ ◌∷◌ (lane_remainder x below.0) (remainders_of_lanes xs n (omega (arith, e)) below.1)
+
+  pub differences_of_lanes : (xs ys : List ℕ) (n : ℕ) → length xs ≡ n → AreBelow m xs → AreBelow m ys
+      → sel_l (map (top 31) (zip2 less_mask (zip2 wrapped_difference xs ys) (zip2 wrapped_sum (zip2 wrapped_difference xs ys) (replicate n m))))
+      (zip2 wrapped_difference xs ys) (zip2 wrapped_sum (zip2 wrapped_difference xs ys) (replicate n m))
+      ≡ zip2 (λ x y. (x + (m - y)) % m) xs ys
+  differences_of_lanes [] ys n e a b = refl
+  differences_of_lanes (x ∷ xs) [] n e a b = refl
+  differences_of_lanes (x ∷ xs) (y ∷ ys) zero e a b = absurd (omega (arith, e))
+  differences_of_lanes (x ∷ xs) (y ∷ ys) (suc n) e a b = ap₂ ◌∷◌ (lane_difference x y a.0 b.0) (differences_of_lanes xs ys n (omega (arith, e)) a.1 b.1)
+
+  -- a sum does not wrap, and wants one correction
+  pub sums_below : (xs ys : List ℕ) → AreBelow m xs → AreBelow m ys → AreBelow (m + m) (zip2 wrapped_sum xs ys)
+  sums_below [] ys a b = tt
+  sums_below (x ∷ xs) [] a b = tt
+  sums_below (x ∷ xs) (y ∷ ys) a b = (omega (arith, a.0, b.0, small), sums_below xs ys a.1 b.1)
+
+  pub sums_of_lanes : (xs ys : List ℕ) → AreBelow m xs → AreBelow m ys → map (λ n. n % m) (zip2 wrapped_sum xs ys) ≡ zip2 (λ x y. (x + y) % m) xs ys
+  sums_of_lanes [] ys a b = refl
+  sums_of_lanes (x ∷ xs) [] a b = refl
+  sums_of_lanes (x ∷ xs) (y ∷ ys) a b =
+      let sum : wrapped_sum x y ≡ x + y = omega (arith, a.0, b.0, small) in
+      ap₂ ◌∷◌ (ap (λ n. n % m) sum) (sums_of_lanes xs ys a.1 b.1)
+
+-- ---- products with one factor t: q is the quotient of t, and e the quotient of x times t that q estimates
+abbrev quotient_of : ℕ → ℕ → ℕ
+quotient_of m t = (t * 4294967296) % 18446744073709551616 / m % 4294967296
+
+abbrev estimate : ℕ → ℕ → ℕ
+estimate x q = (x * q) % 18446744073709551616 / 4294967296
+
+abbrev rest_of_estimate : ℕ → ℕ → ℕ → ℕ → ℕ
+rest_of_estimate m t q x = wrapped_difference (wrapped_product x t) (wrapped_product (estimate x q) m)
+
+module _ (m : ℕ) (above : 1 < m) (small : m < 2147483648) (t : ℕ) (factor : t < m) where
+  -- the quotient of t without the words' ends
+  quotient_is : quotient_of m t ≡ t * 4294967296 / m
+  quotient_is =
+      let word : (t * 4294967296) % 18446744073709551616 ≡ t * 4294967296 = omega (arith, factor, small) in
+      ap (λ n. n / m % 4294967296) word ∙ mod-eq_of_lt ((div-lt_iff_lt-mul {k = m} (omega (arith, above))).1 (omega (arith, factor)))
+
+  -- the estimate is at most one less than the quotient
+  estimate_below : (x : ℕ) → x < m → (estimate x (quotient_of m t) * m ≤ x * t) × (x * t < estimate x (quotient_of m t) * m + (m + m))
+  estimate_below x below =
+      let q : ℕ = quotient_of m t in
+      let e : ℕ = estimate x q in
+      let s : ℕ = (t * 4294967296) % m in
+      let u : ℕ = (x * q) % 4294967296 in
+      let factor_parts : s + q * m ≡ t * 4294967296 = ap (λ k. s + k * m) quotient_is ∙ mod-add-div' (t * 4294967296) m in
+      let quotient_word : q < 4294967296 = mod-lt (t * 4294967296 % 18446744073709551616 / m) (lit< tt) in
+      let x_word : x ≤ 4294967295 = omega (arith, below, small) in
+      let q_word : q ≤ 4294967295 = omega (arith, quotient_word) in
+      let product : x * q ≤ 4294967295 * 4294967295 = mul-le-mul x_word q_word in
+      let product_word : (x * q) % 18446744073709551616 ≡ x * q = mod-eq_of_lt (omega (arith, product)) in
+      let parts : u + e * 4294967296 ≡ x * q = ap (λ k. u + k / 4294967296 * 4294967296) product_word ∙ mod-add-div' (x * q) 4294967296 in
+      let u_word : u ≤ 4294967295 = omega arith in
+      let s_below : s < m = mod-lt (t * 4294967296) (omega (arith, above)) in
+      let s_most : s ≤ m = omega (arith, s_below) in
+      let first : u * m ≤ 4294967295 * m = mul-le-mul_right m u_word in
+      let second : x * s ≤ 4294967295 * m = mul-le-mul x_word s_most in
+      let spread : 4294967296 * (x * t) ≡ 4294967296 * (e * m) + (u * m + x * s) =
+      let a : 4294967296 * (x * t) ≡ x * (s + q * m) = sym (ap (λ k. x * k) factor_parts ∙ omega arith) in
+      let b : x * (s + q * m) ≡ x * q * m + x * s = omega arith in
+      let d : (u + e * 4294967296) * m + x * s ≡ 4294967296 * (e * m) + (u * m + x * s) = omega arith in
+      a ∙ b ∙ ap (λ k. k * m + x * s) (sym parts) ∙ d in
+      (omega (arith, spread), omega (arith, spread, first, second, above))
+
+  lane_rest : (x : ℕ) → x < m → rest_of_estimate m t (quotient_of m t) x + estimate x (quotient_of m t) * m ≡ x * t
+  lane_rest x below =
+      let near = estimate_below x below in
+      omega (arith, near.0, near.1, small)
+
+  lane_rest_below : (x : ℕ) → x < m → rest_of_estimate m t (quotient_of m t) x < m + m
+  lane_rest_below x below =
+      let near = estimate_below x below in
+      omega (arith, near.0, near.1, lane_rest x below)
+
+  lane_multiple : (x : ℕ) → x < m → rest_of_estimate m t (quotient_of m t) x % m ≡ (x * t) % m
+  lane_multiple x below = sym (add-mul-mod_self_right (rest_of_estimate m t (quotient_of m t) x) (estimate x (quotient_of m t)) m) ∙ ap (λ n. n % m) (lane_rest x below)
+
+  -- the quotient's estimate in all lanes, and the rest
+  abbrev estimates : ℕ → List ℕ → List ℕ
+  estimates n xs = zip2 (λ x s. x / 2 ^ s) (zip2 (λ x y. (x * y) % 18446744073709551616) (map (λ x. x) xs) (replicate n (quotient_of m t))) (replicate n 32)
+
+  abbrev rests : ℕ → List ℕ → List ℕ
+  rests n xs = zip2 wrapped_difference (zip2 wrapped_product xs (replicate n t)) (zip2 wrapped_product (map (λ x. x) (estimates n xs)) (replicate n m))
+
+  pub estimates_fit : (xs : List ℕ) (n : ℕ) → length xs ≡ n → AreBelow m xs → Each1 (Fits w32) (estimates n xs)
+  estimates_fit [] n e below = tt
+  estimates_fit (x ∷ xs) zero e below = absurd (omega (arith, e))
+  estimates_fit (x ∷ xs) (suc n) e below =
+      let fits : (x * quotient_of m t) % 18446744073709551616 / 4294967296 < 4294967296 = omega (arith, mod-lt (x * quotient_of m t) {m = 18446744073709551616} (lit< tt)) in
+      (record { fits = fits }, estimates_fit xs n (omega (arith, e)) below.1)
+
+  pub rests_below : (xs : List ℕ) (n : ℕ) → length xs ≡ n → AreBelow m xs → AreBelow (m + m) (rests n xs)
+  rests_below [] n e below = tt
+  rests_below (x ∷ xs) zero e below = absurd (omega (arith, e))
+  rests_below (x ∷ xs) (suc n) e below = (lane_rest_below x below.0, rests_below xs n (omega (arith, e)) below.1)
+
+  pub multiples_of_lanes : (xs : List ℕ) (n : ℕ) → length xs ≡ n → AreBelow m xs → map (λ k. k % m) (rests n xs) ≡ map (λ x. (x * t) % m) xs
+  multiples_of_lanes [] n e below = refl
+  multiples_of_lanes (x ∷ xs) zero e below = absurd (omega (arith, e))
+  multiples_of_lanes (x ∷ xs) (suc n) e below = ap₂ ◌∷◌ (lane_multiple x below.0) (multiples_of_lanes xs n (omega (arith, e)) below.1)

@@ -1,0 +1,95 @@
+-- Residues in the lanes of a packed value: what is known of their numbers is known of them.
+use Rattle.std.proofs.Common.{◌≡◌, ℕ, ◌<◌, List, [], ◌∷◌, length, map, get_or, set, drop, refl, sym, ap, ap₂, ◌∙◌, arith}
+use Rattle.std.proofs.lemmas.List.{map-id}
+use Rattle.std.specs.Simd.Lanes.{zip2}
+use Rattle.p3_field.specs.Lanes.{by_lanes}
+use Rattle.p3_field.specs.LaneNumbers.{AreBelow, elements_of}
+use Rattle.p3_field.specs.Residues.{Residue, residue-eq}
+
+-- lists of eight
+pub eight_elements : {A B : Type 0} (f : A → B) (xs : List A) (d0 d1 d2 d3 d4 d5 d6 d7 : A) → length xs ≡ 8
+    → f (get_or xs 0 d0) ∷ f (get_or xs 1 d1) ∷ f (get_or xs 2 d2) ∷ f (get_or xs 3 d3) ∷ f (get_or xs 4 d4) ∷ f (get_or xs 5 d5) ∷ f (get_or xs 6 d6) ∷ f (get_or xs 7 d7) ∷ []
+    ≡ map f xs
+eight_elements f (a ∷ b ∷ c ∷ d ∷ e ∷ g ∷ h ∷ i ∷ []) d0 d1 d2 d3 d4 d5 d6 d7 long = refl
+eight_elements f [] d0 d1 d2 d3 d4 d5 d6 d7 long = absurd (omega (arith, long))
+eight_elements f (a ∷ []) d0 d1 d2 d3 d4 d5 d6 d7 long = absurd (omega (arith, long))
+eight_elements f (a ∷ b ∷ []) d0 d1 d2 d3 d4 d5 d6 d7 long = absurd (omega (arith, long))
+eight_elements f (a ∷ b ∷ c ∷ []) d0 d1 d2 d3 d4 d5 d6 d7 long = absurd (omega (arith, long))
+eight_elements f (a ∷ b ∷ c ∷ d ∷ []) d0 d1 d2 d3 d4 d5 d6 d7 long = absurd (omega (arith, long))
+eight_elements f (a ∷ b ∷ c ∷ d ∷ e ∷ []) d0 d1 d2 d3 d4 d5 d6 d7 long = absurd (omega (arith, long))
+eight_elements f (a ∷ b ∷ c ∷ d ∷ e ∷ g ∷ []) d0 d1 d2 d3 d4 d5 d6 d7 long = absurd (omega (arith, long))
+eight_elements f (a ∷ b ∷ c ∷ d ∷ e ∷ g ∷ h ∷ []) d0 d1 d2 d3 d4 d5 d6 d7 long = absurd (omega (arith, long))
+eight_elements f (a ∷ b ∷ c ∷ d ∷ e ∷ g ∷ h ∷ i ∷ j ∷ xs) d0 d1 d2 d3 d4 d5 d6 d7 long = absurd (omega (arith, long))
+
+eight_written : {A : Type 0} (xs : List A) (x0 x1 x2 x3 x4 x5 x6 x7 : A) → length xs ≡ 8
+    → set (set (set (set (set (set (set (set xs 0 x0) 1 x1) 2 x2) 3 x3) 4 x4) 5 x5) 6 x6) 7 x7 ≡ x0 ∷ x1 ∷ x2 ∷ x3 ∷ x4 ∷ x5 ∷ x6 ∷ x7 ∷ []
+eight_written (a ∷ b ∷ c ∷ d ∷ e ∷ g ∷ h ∷ i ∷ []) x0 x1 x2 x3 x4 x5 x6 x7 long = refl
+eight_written [] x0 x1 x2 x3 x4 x5 x6 x7 long = absurd (omega (arith, long))
+eight_written (a ∷ []) x0 x1 x2 x3 x4 x5 x6 x7 long = absurd (omega (arith, long))
+eight_written (a ∷ b ∷ []) x0 x1 x2 x3 x4 x5 x6 x7 long = absurd (omega (arith, long))
+eight_written (a ∷ b ∷ c ∷ []) x0 x1 x2 x3 x4 x5 x6 x7 long = absurd (omega (arith, long))
+eight_written (a ∷ b ∷ c ∷ d ∷ []) x0 x1 x2 x3 x4 x5 x6 x7 long = absurd (omega (arith, long))
+eight_written (a ∷ b ∷ c ∷ d ∷ e ∷ []) x0 x1 x2 x3 x4 x5 x6 x7 long = absurd (omega (arith, long))
+eight_written (a ∷ b ∷ c ∷ d ∷ e ∷ g ∷ []) x0 x1 x2 x3 x4 x5 x6 x7 long = absurd (omega (arith, long))
+eight_written (a ∷ b ∷ c ∷ d ∷ e ∷ g ∷ h ∷ []) x0 x1 x2 x3 x4 x5 x6 x7 long = absurd (omega (arith, long))
+eight_written (a ∷ b ∷ c ∷ d ∷ e ∷ g ∷ h ∷ i ∷ j ∷ xs) x0 x1 x2 x3 x4 x5 x6 x7 long = absurd (omega (arith, long))
+
+module _ {m : ℕ} where
+  abbrev numbers : List (Residue m) → List ℕ
+  numbers xs = map (λ (x : Residue m). x.number) xs
+
+  pub same_numbers : (xs ys : List (Residue m)) → numbers xs ≡ numbers ys → xs ≡ ys
+  same_numbers [] [] e = refl
+  same_numbers [] (y ∷ ys) e = absurd (omega (arith, ap length e))
+  same_numbers (x ∷ xs) [] e = absurd (omega (arith, ap length e))
+  same_numbers (x ∷ xs) (y ∷ ys) e = ap₂ ◌∷◌ (residue-eq x y (ap (λ ns. get_or ns 0 0) e)) (same_numbers xs ys (ap (drop 1) e))
+
+  -- f of each two numbers, and of each number, is below m
+  pub pairs_below : (f : ℕ → ℕ → ℕ) → ((x y : ℕ) → f x y < m) → (xs ys : List ℕ) → AreBelow m (zip2 f xs ys)
+  pairs_below f all [] ys = tt
+  pairs_below f all (x ∷ xs) [] = tt
+  pairs_below f all (x ∷ xs) (y ∷ ys) = (all x y, pairs_below f all xs ys)
+
+  pub each_below : (f : ℕ → ℕ) → ((x : ℕ) → f x < m) → (xs : List ℕ) → AreBelow m (map f xs)
+  each_below f all [] = tt
+  each_below f all (x ∷ xs) = (all x, each_below f all xs)
+
+  numbers_by_lanes : (op : Residue m → Residue m → Residue m) (f : ℕ → ℕ → ℕ) → ((x y : Residue m) → (op x y).number ≡ f x.number y.number)
+      → (xs ys : List (Residue m)) → numbers (by_lanes op xs ys) ≡ zip2 f (numbers xs) (numbers ys)
+  numbers_by_lanes op f law [] ys = refl
+  numbers_by_lanes op f law (x ∷ xs) [] = refl
+  numbers_by_lanes op f law (x ∷ xs) (y ∷ ys) = ap₂ ◌∷◌ (law x y) (numbers_by_lanes op f law xs ys)
+
+  numbers_of_each : (op : Residue m → Residue m) (f : ℕ → ℕ) → ((x : Residue m) → (op x).number ≡ f x.number)
+      → (xs : List (Residue m)) → numbers (map op xs) ≡ map f (numbers xs)
+  numbers_of_each op f law [] = refl
+  numbers_of_each op f law (x ∷ xs) = ap₂ ◌∷◌ (law x) (numbers_of_each op f law xs)
+
+  module _ {R : Type 0} (value : R → Residue m) (make : (n : ℕ) → n < m → R) (same : (n : ℕ) (h : n < m) → (value (make n h)).number ≡ n) where
+    numbers_of_elements : (xs : List ℕ) (below : AreBelow m xs) → numbers (map value (elements_of make xs below)) ≡ xs
+    numbers_of_elements [] below = refl
+    numbers_of_elements (x ∷ xs) below = ap₂ ◌∷◌ (same x below.0) (numbers_of_elements xs below.1)
+
+    -- an operation on the numbers of lanes is one on the lanes
+    pub lanes_of_pairs : (op : Residue m → Residue m → Residue m) (f : ℕ → ℕ → ℕ) → ((x y : Residue m) → (op x y).number ≡ f x.number y.number)
+        → (xs ys zs : List ℕ) (a : AreBelow m xs) (b : AreBelow m ys) (c : AreBelow m zs) → zs ≡ zip2 f xs ys
+        → map value (elements_of make zs c) ≡ by_lanes op (map value (elements_of make xs a)) (map value (elements_of make ys b))
+    lanes_of_pairs op f law xs ys zs a b c is =
+        same_numbers _ _ (numbers_of_elements zs c ∙ is
+        ∙ sym (numbers_by_lanes op f law (map value (elements_of make xs a)) (map value (elements_of make ys b)) ∙ ap₂ (zip2 f) (numbers_of_elements xs a) (numbers_of_elements ys b)))
+
+    pub lanes_of_each : (op : Residue m → Residue m) (f : ℕ → ℕ) → ((x : Residue m) → (op x).number ≡ f x.number)
+        → (xs zs : List ℕ) (a : AreBelow m xs) (c : AreBelow m zs) → zs ≡ map f xs
+        → map value (elements_of make zs c) ≡ map op (map value (elements_of make xs a))
+    lanes_of_each op f law xs zs a c is =
+        same_numbers _ _ (numbers_of_elements zs c ∙ is ∙ sym (numbers_of_each op f law (map value (elements_of make xs a)) ∙ ap (map f) (numbers_of_elements xs a)))
+
+    -- eight lanes that are written one after another
+    pub eight_lanes : (ys : List R) (x0 x1 x2 x3 x4 x5 x6 x7 : R) (xs : List ℕ) (below : AreBelow m xs) → length ys ≡ 8 → length xs ≡ 8
+        → (value x0).number ≡ get_or xs 0 0 → (value x1).number ≡ get_or xs 1 0 → (value x2).number ≡ get_or xs 2 0 → (value x3).number ≡ get_or xs 3 0
+        → (value x4).number ≡ get_or xs 4 0 → (value x5).number ≡ get_or xs 5 0 → (value x6).number ≡ get_or xs 6 0 → (value x7).number ≡ get_or xs 7 0
+        → map value (set (set (set (set (set (set (set (set ys 0 x0) 1 x1) 2 x2) 3 x3) 4 x4) 5 x5) 6 x6) 7 x7) ≡ map value (elements_of make xs below)
+    eight_lanes ys x0 x1 x2 x3 x4 x5 x6 x7 xs below wide long e0 e1 e2 e3 e4 e5 e6 e7 =
+        same_numbers _ _ (ap (λ rs. numbers (map value rs)) (eight_written ys x0 x1 x2 x3 x4 x5 x6 x7 wide)
+        ∙ (λ i. e0 i ∷ e1 i ∷ e2 i ∷ e3 i ∷ e4 i ∷ e5 i ∷ e6 i ∷ e7 i ∷ [])
+        ∙ eight_elements (λ x. x) xs 0 0 0 0 0 0 0 0 long ∙ map-id xs ∙ sym (numbers_of_elements xs below))

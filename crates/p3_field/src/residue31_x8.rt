@@ -1,0 +1,159 @@
+//! Eight elements of a field below `2^31` in the lanes of one vector.
+
+ghost use Rattle.std.specs.Prelude.{◌≡◌, ◌+◌, ◌-◌, ◌*◌, ◌%◌, ◌<◌, ℕ, length, map, get_or};
+ghost use Rattle.std.specs.Simd.Lanes.{zip2};
+ghost use Rattle.p3_field.specs.LaneNumbers.{AreBelow};
+ghost use Rattle.p3_field.specs.LaneLaws.{are_below-prop};
+
+use crate::packed::{Packed, PackedField, Products};
+use crate::residue31::{Numbers, Residue31};
+use std::alloc::AllocError;
+use std::marker::PhantomData;
+use std::simd::prelude::*;
+
+/// Eight elements of a field below `2^31`, by their numbers.
+#[derive_where(Copy;)]
+pub struct Residue31X8<N: Numbers> {
+    lanes: u32x8,
+    of: PhantomData<N>,
+    ghost below: { AreBelow N.numbers.modulus lanes } by { are_below-prop N.numbers.modulus lanes },
+    ghost eight: { length lanes ≡ 8 },
+}
+
+impl<N: Numbers> Clone for Residue31X8<N> {
+    fn clone(&self) -> Result<Residue31X8<N>, AllocError> {
+        Ok(*self)
+    }
+}
+
+impl<N: Numbers> Residue31X8<N> {
+    #[inline(always)]
+    fn element(self, lane: usize) -> Residue31<N>
+        requires { lane < 8 }
+        ensures { result.number ≡ get_or self.lanes lane 0 }
+    {
+        Residue31 {
+            number: self.lanes.to_array()[lane],
+            of: PhantomData,
+        }
+    }
+}
+
+impl<N: Numbers> Packed for Residue31X8<N> {
+    type Scalar = Residue31<N>;
+}
+
+impl<N: Numbers> PackedField for Residue31X8<N> {
+    ghost use Rattle.p3_field.specs.LaneNumbers.{elements_of};
+    ghost use Rattle.p3_field.specs.LaneLaws.{length-elements_of};
+    ghost use Rattle.std.proofs.Common.{◌∙◌};
+
+    const WIDTH: usize = 8;
+
+    ghost WIDTH = { 8 };
+
+    ghost lanes = { λ x. elements_of (λ n h. record { number = n; of = _; below = h }) x.lanes x.below };
+
+    fn load(from: &[Residue31<N>]) -> Residue31X8<N> {
+        Residue31X8 {
+            lanes: u32x8::from_array([
+                from[0].number,
+                from[1].number,
+                from[2].number,
+                from[3].number,
+                from[4].number,
+                from[5].number,
+                from[6].number,
+                from[7].number,
+            ]),
+            of: PhantomData,
+        }
+    }
+
+    fn store(self, to: &mut [Residue31<N>]) {
+        to[0] = self.element(0);
+        to[1] = self.element(1);
+        to[2] = self.element(2);
+        to[3] = self.element(3);
+        to[4] = self.element(4);
+        to[5] = self.element(5);
+        to[6] = self.element(6);
+        to[7] = self.element(7);
+    }
+
+    fn broadcast(scalar: Residue31<N>) -> Residue31X8<N> {
+        Residue31X8 {
+            lanes: u32x8::splat(scalar.number),
+            of: PhantomData,
+        }
+    }
+
+    fn add(self, other: Residue31X8<N>) -> Residue31X8<N> {
+        Residue31X8 {
+            lanes: sums::<N>(self.lanes, other.lanes),
+            of: PhantomData,
+        }
+    }
+
+    fn sub(self, other: Residue31X8<N>) -> Residue31X8<N> {
+        Residue31X8 {
+            lanes: differences::<N>(self.lanes, other.lanes),
+            of: PhantomData,
+        }
+    }
+
+    fn scaled(self, t: Residue31<N>, products: &mut Products) -> Residue31X8<N> {
+        products.rise(8);
+        Residue31X8 {
+            lanes: multiples::<N>(self.lanes, t.number),
+            of: PhantomData,
+        }
+    }
+
+    ghost width_law = { λ x. length-elements_of _ x.lanes x.below ∙ x.eight };
+}
+
+// The remainder of each lane, which is below twice the modulus: where a lane is below the modulus,
+// taking it away wraps to a larger number.
+#[inline(always)]
+fn remainders<N: Numbers>(x: u32x8) -> u32x8
+    requires { AreBelow (N.numbers.modulus + N.numbers.modulus) x }
+    ensures { result ≡ map (λ n. n % N.numbers.modulus) x }
+{
+    x.simd_min(x - u32x8::splat(N::MODULUS))
+}
+
+// The sum of each two lanes below the modulus.
+#[inline(always)]
+fn sums<N: Numbers>(a: u32x8, b: u32x8) -> u32x8
+    requires first { AreBelow N.numbers.modulus a }
+    requires second { AreBelow N.numbers.modulus b }
+    ensures { result ≡ zip2 (λ x y. (x + y) % N.numbers.modulus) a b }
+{
+    remainders::<N>(a + b)
+}
+
+// The difference of each two lanes below the modulus: where it is negative, it wraps to a larger
+// number than with the modulus added.
+#[inline(always)]
+fn differences<N: Numbers>(a: u32x8, b: u32x8) -> u32x8
+    requires first { AreBelow N.numbers.modulus a }
+    requires second { AreBelow N.numbers.modulus b }
+    ensures { result ≡ zip2 (λ x y. (x + (N.numbers.modulus - y)) % N.numbers.modulus) a b }
+{
+    let difference = a - b;
+    difference.simd_min(difference + u32x8::splat(N::MODULUS))
+}
+
+// The product of each lane and t, all below the modulus. The quotient of a product is estimated by
+// that of t, which is one division for all lanes; the estimate is one too small at most.
+#[inline(always)]
+fn multiples<N: Numbers>(a: u32x8, t: u32) -> u32x8
+    requires lanes { AreBelow N.numbers.modulus a }
+    requires factor { t < N.numbers.modulus }
+    ensures { result ≡ map (λ x. (x * t) % N.numbers.modulus) a }
+{
+    let quotient = ((t as u64) << 32) / N::MODULUS as u64 % 4294967296;
+    let estimate = ((a.cast::<u64>() * u64x8::splat(quotient)) >> u64x8::splat(32)).cast::<u32>();
+    remainders::<N>(a * u32x8::splat(t) - estimate * u32x8::splat(N::MODULUS))
+}
