@@ -139,6 +139,19 @@ fn applies_to_rows(rt: HostRuntime) -> Result<(), Fail> {
     rows_like_elements(&rt, alloc, TwiddleFreeButterfly, 1000003)
 }
 
+// A row of a pack and three more entries, whose sums and differences wrap around the modulus.
+#[test]
+fn wraps_in_each_lane(rt: HostRuntime) -> Result<(), Fail> {
+    let alloc = rt.alloc();
+    let mut products = Products::new();
+    let mut row_1 = row(alloc, 11, 2013265920, 0)?;
+    let mut row_2 = row(alloc, 11, 1, 0)?;
+    TwiddleFreeButterfly.apply_to_rows(row_1.as_mut_slice(), row_2.as_mut_slice(), &mut products);
+    assert!(rt; row_1 == row(alloc, 11, 0, 0)?);
+    assert!(rt; row_2 == row(alloc, 11, 2013265919, 0)?);
+    Ok(())
+}
+
 #[test]
 fn scales_matrices(rt: HostRuntime) -> Result<(), Fail> {
     let alloc = rt.alloc();
