@@ -215,9 +215,7 @@ fn prepared_columns_answer(rt: HostRuntime) -> Result<(), Fail> {
     let column: Vec<BabyBear> = elements(alloc, &[9, 1])?;
     assert!(rt; fits_dft::<BabyBear>(column.len(), 1));
     assert_eq!(rt; column.len(), 2);
-    assert!(rt;
-        column_on_coset(&mut engine, column, 1, shift)? == elements(alloc, &[11, 7])?
-    );
+    assert!(rt; column_on_coset(&mut engine, column, 1, shift)? == elements(alloc, &[11, 7])?);
     assert!(rt; engine.is_prepared(1));
     let column: Vec<BabyBear> = elements(alloc, &[9, 1])?;
     assert!(rt; fits_dft::<BabyBear>(column.len(), 1));

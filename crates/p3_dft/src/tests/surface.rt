@@ -4,9 +4,8 @@ use crate::{
     BabyBear, Butterfly, DifButterfly, DifButterflyZeros, DitButterfly, Evaluations, Field,
     Goldilocks, IntoRowMajorMatrix, Packable, Packed, PackedField, Products, RowMajorMatrix,
     RowMajorMatrixView, RowMajorMatrixViewMut, ScaledDitButterfly, TwiddleFreeButterfly,
-    TwoAdicField, divide_by_height, log2_strict_usize, reverse_bits_len,
-    reverse_matrix_index_bits, reverse_slice_index_bits, scale_slice_in_place, scaled,
-    split_rows_mut, swap_rows,
+    TwoAdicField, divide_by_height, log2_strict_usize, reverse_bits_len, reverse_matrix_index_bits,
+    reverse_slice_index_bits, scale_slice_in_place, scaled, split_rows_mut, swap_rows,
 };
 use std::test::Fail;
 
