@@ -1,7 +1,8 @@
-use Rattle.std.proofs.Common.{ℕ, List, ◌≡◌, ◌*◌, ◌-◌, ◌%◌, ◌^◌, ◌<◌, ◌++◌, length, replicate, sym, ◌∙◌, ap, ap₂, arith}
-use Rattle.std.proofs.Math.Nat.{mod-eq_of_lt}
+use Rattle.std.proofs.Common.{ℕ, List, ◌≡◌, ◌*◌, ◌-◌, ◌%◌, ◌+◌, ◌^◌, ◌<◌, ◌≤◌, ◌++◌, zero, suc, length, replicate, sym, ◌∙◌, ap, ap₂, arith}
+use Rattle.std.proofs.Math.Nat.{mod-eq_of_lt, mul-one}
 use Rattle.p3_matrix.specs.RowMajor.{RowMajor, IsRowMajor, height}
 use Rattle.p3_dft.specs.Extensions.{padded}
+use Rattle.p3_dft.proofs.JobLists.{on_any_error}
 use Rattle.p3_dft.proofs.Padding.{padded_whole}
 use Rattle.p3_dft.proofs.util.pad_rows.Goals as goal
 
@@ -25,3 +26,17 @@ new-requires-clause-full g c =
     (omega (arith, c.len-2.ensures, c.into_values-values.result.ok.0))
     c.in_ok-extend_by_zeros.ensures.ok in
     rw (is, c.width-width.ensures.width) (padded_whole z m whole c.args.added_bits).full
+
+-- no bits add nothing, for which there is room
+some_bits : (capacity len count again a : ℕ) → again ≡ count → count < 2 ^ 64 → len ≤ capacity → capacity < len + ((count * 2 ^ a) % 2 ^ 64 - again) → 1 ≤ a
+some_bits capacity len count again zero same fits room full =
+    let none : (count * 1) % 2 ^ 64 ≡ count = ap (λ n. n % 2 ^ 64) (mul-one count) ∙ mod-eq_of_lt fits in
+    absurd (omega (arith, none, same, room, full))
+some_bits capacity len count again (suc a) same fits room full = omega arith
+
+pub returns-in_err-extend_by_zeros-clause-refused : goal.returns-in_err-extend_by_zeros-clause-refused
+returns-in_err-extend_by_zeros-clause-refused g c =
+    let values = c.into_values-values.result in
+    on_any_error c.from_residual.result
+    (some_bits values.cap values.len c.len.result c.len-2.result c.args.added_bits (omega (arith, c.len.ensures, c.len-2.ensures)) (omega (arith, c.len.ensures, values.ok.0, values.small)) (omega (arith, values.ok.1))
+    c.in_err-extend_by_zeros.ensures.refused)
