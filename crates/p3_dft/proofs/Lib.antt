@@ -1,12 +1,15 @@
 pub mod BitReversed
+pub mod Combinations
 pub mod Cosets
 pub mod Distance
 pub mod EngineSteps
+pub mod Equality
 pub mod ExtendedTransforms
 pub mod Extensions
 pub mod Interpolation
 pub mod Inverses
 pub mod JobLists
+pub mod Laws
 pub mod Layers
 pub mod Layouts
 pub mod Networks

@@ -17,14 +17,14 @@ module _ {F : Type 0} (f : FieldMembers F) (generator : ℕ → F) (bits : ℕ) 
   abbrev roots : ℕ → f.Element
   roots n = f.value (generator n)
 
-  one_transform : (m a b : RowMajor F) (s : f.Element) → FitsDft bits (height m) m.width → IsTransform f generator m s a → IsTransform f generator m s b → Same (values_of f a) (values_of f b)
+  pub one_transform : (m a b : RowMajor F) (s : f.Element) → FitsDft bits (height m) m.width → IsTransform f generator m s a → IsTransform f generator m s b → Same (values_of f a) (values_of f b)
   one_transform m a b s fits x y = values_unique f.ring roots (values_of f m) fits.log s (values_of f a) (values_of f b) (x fits.log fits.high) (y fits.log fits.high)
 
-  one_interpolation : (m a b : RowMajor F) (s : f.Element) → FitsDft bits (height m) m.width → IsInterpolation f generator m s a → IsInterpolation f generator m s b
+  pub one_interpolation : (m a b : RowMajor F) (s : f.Element) → FitsDft bits (height m) m.width → IsInterpolation f generator m s a → IsInterpolation f generator m s b
       → Same (values_of f a) (values_of f b)
   one_interpolation m a b s fits x y = y.only fits.log fits.high (values_of f a) (x.holds fits.log fits.high)
 
-  one_extension : (m a b : RowMajor F) (added : ℕ) (s : f.Element) → FitsLde bits (height m) m.width added → IsExtension f generator m added s a → IsExtension f generator m added s b
+  pub one_extension : (m a b : RowMajor F) (added : ℕ) (s : f.Element) → FitsLde bits (height m) m.width added → IsExtension f generator m added s a → IsExtension f generator m added s b
       → Same (values_of f a) (values_of f b)
   one_extension m a b added s fits x y =
       let k = fits.log in
