@@ -26,6 +26,25 @@ pub enum Job<F> {
     CosetLde(RowMajorMatrix<F>, usize, F),
 }
 
+impl<F: Copy> Job<F> {
+    /// The same job, with entries in memory of its own. Where memory is refused, there is nothing but
+    /// the error.
+    pub fn try_clone(&self) -> Result<Self, DftError>
+        ensures { IfOk result (λ job. job ≡ self.now) }
+    {
+        Ok(match self {
+            Job::Dft(mat) => Job::Dft(mat.try_clone()?),
+            Job::CosetDft(mat, shift) => Job::CosetDft(mat.try_clone()?, *shift),
+            Job::Idft(mat) => Job::Idft(mat.try_clone()?),
+            Job::CosetIdft(mat, shift) => Job::CosetIdft(mat.try_clone()?, *shift),
+            Job::Lde(mat, added_bits) => Job::Lde(mat.try_clone()?, *added_bits),
+            Job::CosetLde(mat, added_bits, shift) => {
+                Job::CosetLde(mat.try_clone()?, *added_bits, *shift)
+            }
+        })
+    }
+}
+
 /// Jobs that stopped before the last was answered.
 #[derive(Debug, Drop)]
 pub struct JobsStopped<F> {
