@@ -10,6 +10,7 @@ ghost use Rattle.p3_dft.specs.Shapes.{HasShapeOf};
 mod callers;
 mod engines;
 mod jobs;
+mod laws;
 mod surface;
 
 use crate::naive::NaiveDft;
