@@ -208,8 +208,8 @@ fn evaluate<F: TwoAdicField>(
     }
     let log_h = log2_strict_usize(height);
     let width = mat.width();
-    let root = F::two_adic_generator(log_h);
-    let twiddles = reversed_powers(*mat.allocator(), F::ONE, root, log_h - 1)?;
+    let generator = F::two_adic_generator(log_h);
+    let twiddles = reversed_powers(*mat.allocator(), F::ONE, generator, log_h - 1)?;
     network_g(
         mat.values_mut(),
         width,
@@ -242,8 +242,9 @@ fn interpolate_scaled<F: TwoAdicField>(
     }
     let log_h = log2_strict_usize(height);
     let width = mat.width();
-    let root = F::two_adic_generator(log_h).inverse();
-    let twiddles = reversed_powers(*mat.allocator(), F::ONE, root, log_h - 1)?;
+    let generator = F::two_adic_generator(log_h);
+    let inverse = generator.inverse();
+    let twiddles = reversed_powers(*mat.allocator(), F::ONE, inverse, log_h - 1)?;
     network_g_transposed(
         mat.values_mut(),
         width,

@@ -1,16 +1,15 @@
 -- Coefficients whose rows lie in bit reversed order: that a transform at the inverse roots gives them, and values and extensions from
 -- them, with no row put into natural order.
-use Rattle.std.proofs.Common.{◌≡◌, ℕ, ◌+◌, ◌*◌, ◌/◌, ◌<◌, ◌≤◌, ◌^◌, ◌++◌, List, length, get_or, take, Result, Ok, Err, OnOk, refl, sym, ap, ap₂, ◌∙◌, subst, arith}
-use Rattle.p3_field.specs.Ring.{Ring, AreRoots, count, power, two}
+use Rattle.std.proofs.Common.{◌≡◌, ℕ, ◌+◌, ◌*◌, ◌<◌, ◌≤◌, ◌^◌, ◌++◌, List, length, get_or, take, Result, Ok, Err, OnOk, refl, sym, ap, ap₂, ◌∙◌, subst, arith}
+use Rattle.p3_field.specs.Ring.{Ring, AreRoots, count, power}
 use Rattle.p3_field.specs.declared.fields.Field.{Ghosts as FieldMembers}
 use Rattle.p3_field.proofs.Powers.{count-power_of_two}
-use Rattle.p3_field.proofs.Rings
 use Rattle.p3_field.proofs.Roots.{inverse_root}
 use Rattle.p3_matrix.specs.BitOrder.{rev, reversed}
 use Rattle.p3_matrix.specs.Matrix.{Matrix, Same, mapped}
 use Rattle.p3_matrix.specs.RowMajor.{RowMajor, IsRowMajor, height}
 use Rattle.p3_matrix.proofs.BitReversal.{rev_of_zero, rev-lt, rev-rev, reversed_twice}
-use Rattle.p3_matrix.proofs.Matrices.{same_sym, same_trans}
+use Rattle.p3_matrix.proofs.Matrices.{same_sym}
 use Rattle.p3_matrix.proofs.TwoPowers.{log_same}
 use Rattle.p3_dft.specs.Cosets.{AreCoefficients, IsQuotient, IsValues, shifted}
 use Rattle.p3_dft.specs.Extensions.{IsExtension, IsTransformedExtension, extension_bound}
@@ -18,7 +17,7 @@ use Rattle.p3_dft.specs.Polynomials.{poly}
 use Rattle.p3_dft.specs.Shapes.{FitsLde}
 use Rattle.p3_dft.specs.Transforms.{AreValuesOfRows, values_of, IsInterpolation}
 use Rattle.p3_dft.specs.declared.traits.Layout.TheVariants.{BitReversed}
-use Rattle.p3_dft.proofs.Cosets.{coefficients_same, coset_values, is_subgroup_values}
+use Rattle.p3_dft.proofs.Cosets.{coefficients_same, is_subgroup_values}
 use Rattle.p3_dft.proofs.Interpolation.{inverse_transform, there_is_no_other, transform_is}
 use Rattle.p3_dft.proofs.Polynomials.{poly-one}
 use Rattle.p3_dft.proofs.ReversedRows.{transform_of_row}

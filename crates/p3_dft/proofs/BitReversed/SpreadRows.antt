@@ -1,9 +1,9 @@
 -- Rows that are spread: row i goes to the place i * 2 ^ a, and the others are z. Where rows lie in bit reversed order, that is rows of z
 -- below all others.
-use Rattle.std.proofs.Common.{◌≡◌, ◌≢◌, ℕ, ◌+◌, ◌*◌, ◌==◌, ◌/◌, ◌%◌, ◌<◌, ◌≤◌, ◌^◌, refl, sym, ap, ap₂, ◌∙◌, subst, arith, ⊎_elim, le-mul_of_pos_right}
+use Rattle.std.proofs.Common.{◌≡◌, ◌≢◌, ℕ, ◌+◌, ◌*◌, ◌/◌, ◌%◌, ◌<◌, ◌≤◌, ◌^◌, refl, sym, ap, ◌∙◌, subst, arith, ⊎_elim, le-mul_of_pos_right}
 use Rattle.std.proofs.Math.Nat.{mul-le-mul_right}
 use Rattle.std.proofs.lemmas.Bool.{cases_lt, cases_eq, eq-eqb, ne_eqb}
-use Rattle.std.proofs.lemmas.Nat.{pow-add, pow_pos, div-add-mod', div_below, mod_below}
+use Rattle.std.proofs.lemmas.Nat.{pow_pos, div-add-mod', div_below, mod_below}
 use Rattle.p3_field.specs.Ring.{Ring}
 use Rattle.p3_matrix.specs.BitOrder.{rev, reversed}
 use Rattle.p3_matrix.specs.Matrix.{Matrix, Same, exchanged}

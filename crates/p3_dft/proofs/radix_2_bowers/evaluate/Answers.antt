@@ -1,21 +1,18 @@
-use Rattle.std.proofs.Common.{◌≡◌, ℕ, ◌+◌, ◌*◌, ◌/◌, ◌-◌, ◌^◌, length, get_or, refl, sym, ap, ap₂, ◌∙◌, subst, arith}
+use Rattle.std.proofs.Common.{◌≡◌, ◌-◌, ◌^◌, length, get_or, refl, sym, ap, ap₂, ◌∙◌, arith}
 use Rattle.p3_field.specs.Ring.{power}
 use Rattle.p3_field.proofs.Rings
-use Rattle.p3_matrix.specs.BitOrder.{rev, reversed}
-use Rattle.p3_matrix.specs.RowMajor.{RowMajor, height}
+use Rattle.p3_matrix.specs.BitOrder.{rev}
+use Rattle.p3_matrix.specs.RowMajor.{height}
 use Rattle.p3_matrix.proofs.TwoPowers.{log_same}
-use Rattle.p3_dft.specs.Cosets.{IsValues}
-use Rattle.p3_dft.specs.Transforms.{values_of}
 use Rattle.p3_dft.proofs.BitReversed.Coefficients.{values_of_parts, values_of_row}
-use Rattle.p3_dft.proofs.Rows.{written}
 use Rattle.p3_dft.proofs.radix_2_bowers.evaluate.Goals as goal
 
 pub returns-then-height-eq1-clause-values : goal.returns-then-height-eq1-clause-values
 returns-then-height-eq1-clause-values g c k high =
     values_of_row g.F.Field g.F.TwoAdicField.generator c.args.mat.now k (sym c.height-height.ensures.height ∙ c.if-height-eq1.true) high
 
-pub two_adic_generator-root-requires : goal.two_adic_generator-root-requires
-two_adic_generator-root-requires g c =
+pub two_adic_generator-generator-requires : goal.two_adic_generator-generator-requires
+two_adic_generator-generator-requires g c =
     let same : c.log2_strict_usize-log_h.result ≡ c.requires.log = log_same _ _ (sym c.log2_strict_usize-log_h.ensures.power ∙ c.height-height.ensures.height ∙ c.requires.high) in
     omega (arith, same, c.requires.within)
 
@@ -34,7 +31,7 @@ network_g-requires-clause-twiddles g c =
       size = ap length c.as_slice.ensures.value ∙ table.size;
       entries = λ b below.
           ap (λ xs. field.value (get_or xs b field.ZERO)) c.as_slice.ensures.value ∙ table.entries b below
-          ∙ ap₂ (λ x y. field.ring.mul x (power field.ring y (rev (log - 1) b))) one c.two_adic_generator-root.ensures
+          ∙ ap₂ (λ x y. field.ring.mul x (power field.ring y (rev (log - 1) b))) one c.two_adic_generator-generator.ensures
           ∙ Rings.one-mul field.ring (power field.ring (field.value (g.F.TwoAdicField.generator log)) (rev (log - 1) b));
     }
 

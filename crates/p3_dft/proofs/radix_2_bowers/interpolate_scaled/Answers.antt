@@ -1,14 +1,12 @@
-use Rattle.std.proofs.Common.{◌≡◌, ℕ, ◌+◌, ◌*◌, ◌/◌, ◌-◌, ◌^◌, length, get_or, refl, sym, ap, ap₂, ◌∙◌, subst, arith}
+use Rattle.std.proofs.Common.{◌≡◌, ℕ, ◌-◌, ◌^◌, length, get_or, refl, sym, ap, ap₂, ◌∙◌, arith}
 use Rattle.p3_field.specs.Ring.{power}
 use Rattle.p3_field.proofs.Rings
 use Rattle.p3_field.proofs.Roots.{inverse_root, inverse_undoes}
-use Rattle.p3_matrix.specs.BitOrder.{rev, reversed}
-use Rattle.p3_matrix.specs.RowMajor.{RowMajor, height}
+use Rattle.p3_matrix.specs.BitOrder.{rev}
+use Rattle.p3_matrix.specs.RowMajor.{height}
 use Rattle.p3_matrix.proofs.TwoPowers.{log_same}
-use Rattle.p3_dft.specs.Cosets.{AreCoefficients, IsQuotient}
 use Rattle.p3_dft.specs.Transforms.{values_of}
 use Rattle.p3_dft.proofs.BitReversed.Coefficients.{coefficients_of_parts, coefficients_of_row}
-use Rattle.p3_dft.proofs.Rows.{written}
 use Rattle.p3_dft.proofs.radix_2_bowers.interpolate_scaled.Goals as goal
 
 pub returns-then-height-eq1-clause-coefficients : goal.returns-then-height-eq1-clause-coefficients
@@ -17,8 +15,8 @@ returns-then-height-eq1-clause-coefficients g c k high d quotient =
     coefficients_of_row g.F.Field.ring g.met.F.TwoAdicField.roots_law (values_of g.F.Field c.args.mat.now) d k (omega (arith, same, c.requires.within))
     (sym c.height-height.ensures.height ∙ c.if-height-eq1.true) high quotient
 
-pub two_adic_generator-requires : goal.two_adic_generator-requires
-two_adic_generator-requires g c =
+pub two_adic_generator-generator-requires : goal.two_adic_generator-generator-requires
+two_adic_generator-generator-requires g c =
     let same : c.log2_strict_usize-log_h.result ≡ c.requires.log = log_same _ _ (sym c.log2_strict_usize-log_h.ensures.power ∙ c.height-height.ensures.height ∙ c.requires.high) in
     omega (arith, same, c.requires.within)
 
@@ -27,14 +25,14 @@ network_g_transposed-requires-clause-rooted g c =
     let same : c.log2_strict_usize-log_h.result ≡ c.requires.log = log_same _ _ (sym c.log2_strict_usize-log_h.ensures.power ∙ c.height-height.ensures.height ∙ c.requires.high) in
     omega (arith, same, c.requires.within)
 
-pub inverse-root-requires : goal.inverse-root-requires
-inverse-root-requires g c =
+pub inverse-inverse-requires : goal.inverse-inverse-requires
+inverse-inverse-requires g c =
     let field = g.F.Field in
     let log = c.log2_strict_usize-log_h.result in
     let gen = λ (n : ℕ). field.value (g.F.TwoAdicField.generator n) in
     let same : log ≡ c.requires.log = log_same _ _ (sym c.log2_strict_usize-log_h.ensures.power ∙ c.height-height.ensures.height ∙ c.requires.high) in (
       inverse_root field.ring gen log,
-      ap (λ x. field.ring.mul x (inverse_root field.ring gen log)) c.two_adic_generator.ensures
+      ap (λ x. field.ring.mul x (inverse_root field.ring gen log)) c.two_adic_generator-generator.ensures
           ∙ (inverse_undoes field.ring g.met.F.TwoAdicField.roots_law).undo log (omega (arith, same, c.requires.within)),
     )
 
@@ -45,10 +43,10 @@ network_g_transposed-requires-clause-twiddles g c =
     let gen = λ (n : ℕ). field.value (g.F.TwoAdicField.generator n) in
     let same : log ≡ c.requires.log = log_same _ _ (sym c.log2_strict_usize-log_h.ensures.power ∙ c.height-height.ensures.height ∙ c.requires.high) in
     let one = ap field.value c.ONE.ensures ∙ g.met.F.Field.one_law in
-    let undone : field.ring.mul (gen log) (field.value c.inverse-root.result) ≡ field.ring.one =
-    ap (λ x. field.ring.mul x (field.value c.inverse-root.result)) (sym c.two_adic_generator.ensures) ∙ c.inverse-root.ensures in
-    let root : field.value c.inverse-root.result ≡ inverse_root field.ring gen log =
-    Rings.inverse_unique field.ring (gen log) (field.value c.inverse-root.result) (inverse_root field.ring gen log) undone
+    let undone : field.ring.mul (gen log) (field.value c.inverse-inverse.result) ≡ field.ring.one =
+    ap (λ x. field.ring.mul x (field.value c.inverse-inverse.result)) (sym c.two_adic_generator-generator.ensures) ∙ c.inverse-inverse.ensures in
+    let root : field.value c.inverse-inverse.result ≡ inverse_root field.ring gen log =
+    Rings.inverse_unique field.ring (gen log) (field.value c.inverse-inverse.result) (inverse_root field.ring gen log) undone
     ((inverse_undoes field.ring g.met.F.TwoAdicField.roots_law).undo log (omega (arith, same, c.requires.within))) in
     let table = c.in_ok-twiddles.ensures in
     record {

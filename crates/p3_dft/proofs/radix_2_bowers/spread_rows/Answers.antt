@@ -1,7 +1,7 @@
-use Rattle.std.proofs.Common.{◌≡◌, ℕ, zero, suc, ◌+◌, ◌*◌, ◌-◌, ◌/◌, ◌%◌, ◌^◌, ◌<◌, ◌≤◌, length, get_or, sym, ap, ap₂, ◌∙◌, subst, arith, rules}
+use Rattle.std.proofs.Common.{◌≡◌, ℕ, zero, suc, ◌+◌, ◌*◌, ◌-◌, ◌/◌, ◌%◌, ◌^◌, ◌<◌, ◌≤◌, get_or, sym, ap, ap₂, ◌∙◌, subst, arith, rules}
 use Rattle.std.proofs.Math.Nat.{mod-eq_of_lt, mul-le-mul_right, two-pow-succ}
 use Rattle.std.proofs.lemmas.Nat.{pow_pos}
-use Rattle.p3_matrix.specs.RowMajor.{RowMajor, IsRowMajor, SameShape, height}
+use Rattle.p3_matrix.specs.RowMajor.{RowMajor, SameShape, height}
 use Rattle.p3_matrix.specs.Matrix.{Same, exchanged, matrix}
 use Rattle.p3_dft.proofs.Padding.{padded_above, padded_below, padded_high}
 use Rattle.p3_dft.proofs.BitReversed.SpreadRows.{SpreadFrom, spread_none, spread_exchanged, spread_rows, spread_others}

@@ -1,4 +1,4 @@
-use Rattle.std.proofs.Common.{◌≡◌, ℕ, ◌^◌, ap, ap₂, ◌∙◌, sym}
+use Rattle.std.proofs.Common.{◌≡◌, ◌^◌, ap, ◌∙◌, sym}
 use Rattle.p3_matrix.specs.BitOrder.{reversed}
 use Rattle.p3_matrix.specs.Matrix.{matrix}
 use Rattle.p3_matrix.specs.RowMajor.{height}
