@@ -14,7 +14,7 @@ use Rattle.p3_matrix.proofs.RowMajor.{list_of_rows_stored}
 use Rattle.p3_dft.specs.declared.jobs.Job.{Job}
 use Rattle.p3_dft.specs.Jobs.{CanRun}
 use Rattle.p3_dft.specs.Shapes.{FitsLde}
-use Rattle.p3_dft.proofs.OneAnswer.{one_answer}
+use Rattle.p3_dft.proofs.Laws.OneAnswer.{one_answer}
 use Rattle.dft.specs.declared.fault.Fault.{Fault}
 use Rattle.dft.specs.declared.fault.Stopped.{Stopped}
 use Rattle.dft.specs.declared.fault.Stopped.TheVariants.{OutOfMemory}

@@ -14,9 +14,9 @@ use Rattle.p3_dft.specs.Extensions.{IsExtension}
 use Rattle.p3_dft.specs.Jobs.{CanRun, IsAnswer}
 use Rattle.p3_dft.specs.Shapes.{FitsLde}
 use Rattle.p3_dft.specs.Transforms.{values_of, IsInterpolation, IsTransform}
-use Rattle.p3_dft.proofs.Cosets.{coefficients_same, values_same}
-use Rattle.p3_dft.proofs.Interpolation.{coefficients_of_same, same_coefficients}
-use Rattle.p3_dft.proofs.Shapes.{input_fits}
+use Rattle.p3_dft.proofs.Polynomials.Cosets.{coefficients_same, values_same}
+use Rattle.p3_dft.proofs.Polynomials.Interpolation.{coefficients_of_same, same_coefficients}
+use Rattle.p3_dft.proofs.Calls.Shapes.{input_fits}
 use Rattle.dft.specs.declared.names.Operation.{Operation}
 use Rattle.dft.specs.declared.names.Operation.TheVariants.{Dft, CosetDft, Idft, CosetIdft, Lde, CosetLde}
 use Rattle.dft.specs.Answers.{IsText, asked_job, job_of}

@@ -27,12 +27,12 @@ pub record AreCoefficients {A : Type 0} (r : Ring A) (g : ℕ → A) (m : Matrix
   pub values : IsValues r g c k s m
 
 -- row i of c times the i-th power of s
-abbrev pub shifted : {A : Type 0} → Ring A → A → Matrix A → Matrix A
-shifted r s c = record { height = c.height; width = c.width; entry = λ i j. r.mul (c.entry i j) (power r s i) }
+abbrev pub coset_shift : {A : Type 0} → Ring A → A → Matrix A → Matrix A
+coset_shift r s c = record { height = c.height; width = c.width; entry = λ i j. r.mul (c.entry i j) (power r s i) }
 
 -- row 0 stays, and row i of the others changes places with row height - i
-abbrev pub opposed : {A : Type 0} → Matrix A → Matrix A
-opposed m = record { height = m.height; width = m.width; entry = λ i j. m.entry ((m.height - i) % m.height) j }
+abbrev pub opposite_rows : {A : Type 0} → Matrix A → Matrix A
+opposite_rows m = record { height = m.height; width = m.width; entry = λ i j. m.entry ((m.height - i) % m.height) j }
 
 -- each entry of out is the y with n * y = x, where x is the entry of m in its place
 pub record IsQuotient {A : Type 0} (r : Ring A) (n : ℕ) (m out : Matrix A) : Type 0 where

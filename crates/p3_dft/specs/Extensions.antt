@@ -1,7 +1,7 @@
 -- Low degree extensions: from the values of polynomials on a subgroup their values on a coset of a larger one.
 use Rattle.std.specs.Prelude.{◌≡◌, ℕ, ◌+◌, ◌-◌, ◌*◌, ◌^◌, ◌++◌, length, replicate}
 use Rattle.p3_field.specs.declared.fields.Field.{Ghosts as FieldMembers}
-use Rattle.p3_matrix.specs.BitOrder.{reversed}
+use Rattle.p3_matrix.specs.BitOrder.{bit_reversal}
 use Rattle.p3_matrix.specs.Matrix.{Matrix, Same}
 use Rattle.p3_matrix.specs.RowMajor.{RowMajor, height}
 use Rattle.p3_dft.specs.Cosets.{IsValues, AreCoefficients}
@@ -10,13 +10,13 @@ use Rattle.p3_dft.specs.declared.traits.Layout.{Layout}
 use Rattle.p3_dft.specs.declared.traits.Layout.TheVariants.{Natural, BitReversed}
 
 -- the 2 ^ k rows of a matrix in the order of a layout
-abbrev pub laid : {E : Type 0} → Layout → ℕ → Matrix E → Matrix E
-laid Natural k m = m
-laid BitReversed k m = reversed k m
+abbrev pub arrangement : {E : Type 0} → Layout → ℕ → Matrix E → Matrix E
+arrangement Natural k m = m
+arrangement BitReversed k m = bit_reversal k m
 
 -- m with rows of z below it, up to 2 ^ a times as many
-abbrev pub padded : {T : Type 0} → T → RowMajor T → ℕ → RowMajor T
-padded z m a = record { width = m.width; values = m.values ++ replicate (length m.values * 2 ^ a - length m.values) z }
+abbrev pub with_zeros : {T : Type 0} → T → RowMajor T → ℕ → RowMajor T
+with_zeros z m a = record { width = m.width; values = m.values ++ replicate (length m.values * 2 ^ a - length m.values) z }
 
 module _ {F : Type 0} (f : FieldMembers F) (generator : ℕ → F) where
   -- row i of out has the values, at point i of the coset of s of 2 ^ a times as many points, of the polynomials whose values on the subgroup are the columns of m
@@ -30,11 +30,11 @@ module _ {F : Type 0} (f : FieldMembers F) (generator : ℕ → F) where
     pub coefficients : Matrix f.Element
     pub are_coefficients : (k : ℕ) → height m ≡ 2 ^ k → AreCoefficients f.ring (λ n. f.value (generator n)) (values_of f m) k f.ring.one coefficients
     pub told : RowMajor F
-    pub told_in_layout : (k : ℕ) → height m ≡ 2 ^ k → Same (values_of f told) (laid layout k coefficients)
+    pub told_in_layout : (k : ℕ) → height m ≡ 2 ^ k → Same (values_of f told) (arrangement layout k coefficients)
     pub answered : RowMajor F
     pub called : may_answer told answered
     pub changed : Matrix f.Element
-    pub answered_in_layout : (k : ℕ) → height m ≡ 2 ^ k → Same (values_of f answered) (laid layout k changed)
+    pub answered_in_layout : (k : ℕ) → height m ≡ 2 ^ k → Same (values_of f answered) (arrangement layout k changed)
     pub extended : (k : ℕ) → height m ≡ 2 ^ k → IsValues f.ring (λ n. f.value (generator n)) changed (k + a) s (values_of f out)
 
 -- how many products an extension of 2 ^ k rows of w entries by a bits takes, where bound says it of a transform: an inverse transform and one on the larger coset

@@ -2,14 +2,14 @@
 use Rattle.std.specs.Prelude.{◌≡◌, ℕ, ◌+◌, ◌*◌, ◌^◌, ◌<◌, List, get_or}
 use Rattle.p3_field.specs.declared.fields.Field.{Ghosts as FieldMembers}
 use Rattle.p3_matrix.specs.RowMajor.{RowMajor, height}
-use Rattle.p3_matrix.specs.Matrix.{Matrix, Same, matrix, mapped}
+use Rattle.p3_matrix.specs.Matrix.{Matrix, Same, matrix, image}
 use Rattle.p3_dft.specs.Cosets.{IsValues, AreCoefficients}
 use Rattle.p3_dft.specs.Polynomials.{poly}
 
 module _ {F : Type 0} (f : FieldMembers F) where
   -- the values of the elements of a stored matrix
   abbrev pub values_of : RowMajor F → Matrix f.Element
-  values_of m = mapped f.value (matrix f.ZERO m)
+  values_of m = image f.value (matrix f.ZERO m)
 
   -- row i of out has the values, at point i of the coset of s, of the polynomials whose coefficients are the columns of m
   abbrev pub IsTransform : (ℕ → F) → RowMajor F → f.Element → RowMajor F → Type 0

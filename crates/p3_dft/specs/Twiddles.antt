@@ -20,9 +20,9 @@ module _ {F : Type 0} (f : FieldMembers F) where
   layer_powers generator l t = power f.ring (f.value (generator (l + 1))) t
 
 -- what is held, if anything is
-abbrev pub held : {T Z : Type 0} → Option (Vec T Z) → List T
-held None = []
-held (Some v) = v.items
+abbrev pub items_if_any : {T Z : Type 0} → Option (Vec T Z) → List T
+items_if_any None = []
+items_if_any (Some v) = v.items
 
 -- the logarithms of the heights whose twiddles are there, and the number of products that were made
 pub record Tabled : Type 0 where

@@ -2,10 +2,10 @@
 
 ghost use Rattle.std.specs.Prelude.{◌≡◌, ℕ, ◌+◌, ◌*◌, ◌/◌, ◌-◌, ◌^◌, ◌<◌, ◌≤◌, length, get_or, IfOk, OnOk, Ok};
 ghost use Rattle.p3_field.specs.Ring.{power};
-ghost use Rattle.p3_matrix.specs.BitOrder.{rev, reversed};
-ghost use Rattle.p3_matrix.specs.Matrix.{Matrix, Same, matrix, mapped};
+ghost use Rattle.p3_matrix.specs.BitOrder.{rev, bit_reversal};
+ghost use Rattle.p3_matrix.specs.Matrix.{Matrix, Same, matrix, image};
 ghost use Rattle.p3_matrix.specs.RowMajor.{IsRowMajor, SameShape, height};
-ghost use Rattle.p3_dft.specs.Cosets.{AreCoefficients, IsQuotient, IsValues, shifted};
+ghost use Rattle.p3_dft.specs.Cosets.{AreCoefficients, IsQuotient, IsValues, coset_shift};
 ghost use Rattle.p3_dft.specs.Engines.{AtLog};
 ghost use Rattle.p3_dft.specs.Shapes.{FitsDft, FitsLde};
 ghost use Rattle.p3_dft.specs.Transforms.{AreValuesOfRows, values_of};
@@ -198,7 +198,7 @@ fn evaluate<F: TwoAdicField>(
 ) -> Result<(), DftError>
     requires { FitsDft F.TWO_ADICITY (height mat.old) mat.old.width }
     ensures values { AtLog (height mat.old) (λ k. OnOk result (IsValues F.ring (λ n. F.value (F.generator n))
-        (reversed k (values_of F.Field.own mat.old)) k F.ring.one (values_of F.Field.own mat.new))) }
+        (bit_reversal k (values_of F.Field.own mat.old)) k F.ring.one (values_of F.Field.own mat.new))) }
     ensures grows { products.old ≤ products.new }
     ensures cost { AtLog (height mat.old) (λ k. products.new ≤ products.old + mat.old.width * (k * 2 ^ k / 2)) }
 {
@@ -231,7 +231,7 @@ fn interpolate_scaled<F: TwoAdicField>(
     ensures whole { IsRowMajor mat.old }
     ensures shape { OnOk result (SameShape mat.new mat.old) }
     ensures coefficients { AtLog (height mat.old) (λ k. OnOk result ((c : Matrix F.Element)
-        → IsQuotient F.ring (2 ^ k) (reversed k (values_of F.Field.own mat.new)) c
+        → IsQuotient F.ring (2 ^ k) (bit_reversal k (values_of F.Field.own mat.new)) c
         → AreCoefficients F.ring (λ n. F.value (F.generator n)) (values_of F.Field.own mat.old) k F.ring.one c)) }
     ensures grows { products.old ≤ products.new }
     ensures cost { AtLog (height mat.old) (λ k. products.new ≤ products.old + mat.old.width * (k * 2 ^ k / 2)) }
@@ -263,7 +263,7 @@ fn interpolate<F: TwoAdicField>(
 ) -> Result<(), DftError>
     requires { FitsDft F.TWO_ADICITY (height mat.old) mat.old.width }
     ensures coefficients { AtLog (height mat.old) (λ k. OnOk result (AreCoefficients F.ring (λ n. F.value (F.generator n))
-        (values_of F.Field.own mat.old) k F.ring.one (reversed k (values_of F.Field.own mat.new)))) }
+        (values_of F.Field.own mat.old) k F.ring.one (bit_reversal k (values_of F.Field.own mat.new)))) }
     ensures grows { products.old ≤ products.new }
     ensures cost { AtLog (height mat.old) (λ k. products.new ≤ products.old + mat.old.width * (k * 2 ^ k / 2) + 2 ^ k * mat.old.width) }
 {
@@ -281,7 +281,7 @@ fn extend<F: TwoAdicField>(
 ) -> Result<RowMajorMatrix<F>, DftError>
     requires { FitsLde F.TWO_ADICITY (height mat) mat.width added_bits }
     ensures values { AtLog (height mat) (λ k. IfOk result (λ out. IsValues F.ring (λ n. F.value (F.generator n))
-        (reversed k (values_of F.Field.own mat)) (k + added_bits) F.ring.one (values_of F.Field.own out))) }
+        (bit_reversal k (values_of F.Field.own mat)) (k + added_bits) F.ring.one (values_of F.Field.own out))) }
     ensures grows { products.old ≤ products.new }
     ensures cost { AtLog (height mat) (λ k. products.new ≤ products.old + mat.width * ((k + added_bits) * 2 ^ (k + added_bits) / 2)) }
 {
@@ -482,8 +482,8 @@ fn weigh_reversed_rows<F: TwoAdicField>(
     products: &mut Products,
 ) -> Result<(), DftError>
     requires { (k : ℕ) × (height mat.old ≡ 2 ^ k) }
-    ensures rows { AtLog (height mat.old) (λ k. OnOk result (Same (reversed k (values_of F.Field.own mat.new))
-        (mapped (λ x. F.ring.mul x (F.value scale)) (shifted F.ring (F.value shift) (reversed k (values_of F.Field.own mat.old)))))) }
+    ensures rows { AtLog (height mat.old) (λ k. OnOk result (Same (bit_reversal k (values_of F.Field.own mat.new))
+        (image (λ x. F.ring.mul x (F.value scale)) (coset_shift F.ring (F.value shift) (bit_reversal k (values_of F.Field.own mat.old)))))) }
     ensures grows { products.old ≤ products.new }
     ensures cost { products.new ≤ products.old + height mat.old * mat.old.width }
 {

@@ -3,7 +3,7 @@
 ghost use Rattle.std.specs.Prelude.{◌≡◌, ℕ, ◌+◌, ◌*◌, ◌^◌, ◌≤◌, IfOk, OnOk, IsOk, vec_len};
 ghost use Rattle.p3_matrix.specs.RowMajor.{RowMajor, height};
 ghost use Rattle.p3_dft.specs.Engines.{AtLog, IsLater, SameNumbers, one_column};
-ghost use Rattle.p3_dft.specs.Extensions.{IsExtension, IsTransformedExtension, extension_bound, laid};
+ghost use Rattle.p3_dft.specs.Extensions.{IsExtension, IsTransformedExtension, extension_bound, arrangement};
 ghost use Rattle.p3_dft.specs.Shapes.{FitsDft, FitsLde, HasShapeOf};
 ghost use Rattle.p3_matrix.specs.Matrix.{Same, matrix};
 ghost use Rattle.p3_field.specs.Ring.{IsInvertible};
@@ -352,7 +352,7 @@ pub trait TwoAdicSubgroupDft<F: TwoAdicField>: Clone + Default {
 fn exchange_layouts<T>(mat: &mut RowMajorMatrix<T>, layout: Layout)
     requires { (k : ℕ) × (height mat.old ≡ 2 ^ k) }
     ensures shape { HasShapeOf mat.new mat.old }
-    ensures rows { (k : ℕ) → height mat.old ≡ 2 ^ k → (d : T) → Same (matrix d mat.new) (laid layout k (matrix d mat.old)) }
+    ensures rows { (k : ℕ) → height mat.old ≡ 2 ^ k → (d : T) → Same (matrix d mat.new) (arrangement layout k (matrix d mat.old)) }
 {
     match layout {
         Layout::Natural => {}

@@ -21,13 +21,13 @@ pub(crate) struct Twiddles<F: TwoAdicField> {
 
 impl<F: TwoAdicField> Model for Twiddles<F> {
     ghost use Rattle.std.specs.Prelude.{ℕ};
-    ghost use Rattle.p3_dft.specs.Twiddles.{AreTwiddlesOfLayers, layer_powers, held};
+    ghost use Rattle.p3_dft.specs.Twiddles.{AreTwiddlesOfLayers, layer_powers, items_if_any};
 
     ghost Value = { ℕ };
 
     ghost view = { λ t. t.log_h };
 
-    ghost invariant = { λ t. AreTwiddlesOfLayers F.Field t.log_h (layer_powers F.Field F.generator) (held t.powers) };
+    ghost invariant = { λ t. AreTwiddlesOfLayers F.Field t.log_h (layer_powers F.Field F.generator) (items_if_any t.powers) };
 }
 
 impl<F: TwoAdicField> Twiddles<F> {

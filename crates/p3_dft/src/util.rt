@@ -2,11 +2,11 @@
 
 ghost use Rattle.std.specs.Prelude.{◌≡◌, ◌↔◌, ℕ, ◌+◌, ◌*◌, ◌++◌, ◌<◌, ◌≤◌, ◌^◌, IsTrue, IfOk, OnOk, OnErr, get_or, length, replicate, vec_len, vec_capacity};
 ghost use Rattle.p3_field.specs.Ring.{power};
-ghost use Rattle.p3_matrix.specs.BitOrder.{reversed};
+ghost use Rattle.p3_matrix.specs.BitOrder.{bit_reversal};
 ghost use Rattle.p3_matrix.specs.RowMajor.{height, IsRowMajor, SameShape};
-ghost use Rattle.p3_matrix.specs.Matrix.{Same, exchanged, matrix};
-ghost use Rattle.p3_dft.specs.Cosets.{IsQuotient, opposed, shifted};
-ghost use Rattle.p3_dft.specs.Extensions.{padded};
+ghost use Rattle.p3_matrix.specs.Matrix.{Same, row_exchange, matrix};
+ghost use Rattle.p3_dft.specs.Cosets.{IsQuotient, opposite_rows, coset_shift};
+ghost use Rattle.p3_dft.specs.Extensions.{with_zeros};
 ghost use Rattle.p3_dft.specs.Shapes.{FitsDft, FitsLde};
 ghost use Rattle.p3_dft.specs.Transforms.{values_of};
 
@@ -75,7 +75,7 @@ pub(crate) fn coefficients_from_values<F: TwoAdicField>(
     products: &mut Products,
 ) -> RowMajorMatrix<F>
     requires { (k : ℕ) × (height mat ≡ 2 ^ k) }
-    ensures coefficients { IsQuotient F.ring (height mat) (opposed (values_of F.Field.own mat)) (values_of F.Field.own result) }
+    ensures coefficients { IsQuotient F.ring (height mat) (opposite_rows (values_of F.Field.own mat)) (values_of F.Field.own result) }
     ensures count { products.new ≡ products.old + height mat * mat.width }
 {
     divide_rows(&mut mat, products);
@@ -97,7 +97,7 @@ pub(crate) fn divide_rows<F: TwoAdicField>(mat: &mut RowMajorMatrix<F>, products
 pub(crate) fn reverse_rows_but_first<T>(mat: &mut RowMajorMatrix<T>)
     requires { 1 ≤ height mat.old }
     ensures shape { SameShape mat.new mat.old }
-    ensures rows { (d : T) → Same (matrix d mat.new) (opposed (matrix d mat.old)) }
+    ensures rows { (d : T) → Same (matrix d mat.new) (opposite_rows (matrix d mat.old)) }
 {
     let height = mat.height();
     for row in 1..height - height / 2 {
@@ -110,7 +110,7 @@ pub(crate) fn exchange_rows<T>(mat: &mut RowMajorMatrix<T>, i: usize, j: usize)
     requires i_in_bounds { i < height mat.old }
     requires j_in_bounds { j < height mat.old }
     ensures shape { SameShape mat.new mat.old }
-    ensures rows { (d : T) → Same (matrix d mat.new) (exchanged i j (matrix d mat.old)) }
+    ensures rows { (d : T) → Same (matrix d mat.new) (row_exchange i j (matrix d mat.old)) }
 {
     swap_rows(&mut mat.as_view_mut(), i, j);
 }
@@ -137,7 +137,7 @@ pub(crate) fn pad_rows<F: Field>(
     requires bits { added_bits < 64 }
     requires size { height mat * mat.width * 2 ^ added_bits < 2 ^ 64 }
     ensures whole { IsRowMajor mat }
-    ensures padded { IfOk result (λ out. out ≡ padded F.ZERO mat added_bits) }
+    ensures padded { IfOk result (λ out. out ≡ with_zeros F.ZERO mat added_bits) }
     ensures refused { OnErr result (1 ≤ added_bits) }
 {
     let width = mat.width();
@@ -152,7 +152,7 @@ pub(crate) fn reverse_rows<T>(mat: &mut RowMajorMatrix<T>)
     requires { (k : ℕ) × (height mat.old ≡ 2 ^ k) }
     ensures shape { SameShape mat.new mat.old }
     ensures rows { (k : ℕ) → height mat.old ≡ 2 ^ k
-        → (d : T) → Same (matrix d mat.new) (reversed k (matrix d mat.old)) }
+        → (d : T) → Same (matrix d mat.new) (bit_reversal k (matrix d mat.old)) }
 {
     reverse_matrix_index_bits(&mut mat.as_view_mut());
 }
@@ -164,7 +164,7 @@ pub(crate) fn shift_rows<F: TwoAdicField>(
     shift: F,
     products: &mut Products,
 )
-    ensures shifted { Same (values_of F.Field.own mat.new) (shifted F.ring (F.value shift) (values_of F.Field.own mat.old)) }
+    ensures shifted { Same (values_of F.Field.own mat.new) (coset_shift F.ring (F.value shift) (values_of F.Field.own mat.old)) }
     ensures grows { products.old ≤ products.new }
     ensures cost { products.new ≤ products.old + height mat.old * mat.old.width }
 {

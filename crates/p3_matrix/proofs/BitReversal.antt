@@ -2,7 +2,7 @@
 use Rattle.std.proofs.Common.{◌≡◌, ℕ, zero, suc, ◌+◌, ◌*◌, ◌<◌, ◌^◌, ◌/◌, ◌%◌, refl, sym, ap, ap₂, ◌∙◌, arith, ◌⊎◌, inl, inr}
 use Rattle.std.proofs.lemmas.Nat.{pow-add}
 use Rattle.p3_field.proofs.Parity.{even_or_odd}
-use Rattle.p3_matrix.specs.BitOrder.{rev, reversed}
+use Rattle.p3_matrix.specs.BitOrder.{rev, bit_reversal}
 use Rattle.p3_matrix.specs.Matrix.{Matrix, Same}
 
 pub rev-zero : (k : ℕ) → rev 0 k ≡ 0
@@ -76,11 +76,11 @@ rev_of_zero zero = refl
 rev_of_zero (suc n) = ap (λ x. 0 * 2 ^ n + x) (rev_of_zero n) ∙ omega arith
 
 -- rows reversed twice stand as they stood
-pub reversed_twice : {E : Type 0} (n : ℕ) (m : Matrix E) → m.height ≡ 2 ^ n → Same (reversed n (reversed n m)) m
+pub reversed_twice : {E : Type 0} (n : ℕ) (m : Matrix E) → m.height ≡ 2 ^ n → Same (bit_reversal n (bit_reversal n m)) m
 reversed_twice n m h = record { high = refl; wide = refl; alike = λ i j p q. ap (λ k. m.entry k j) (rev-rev n i (omega (arith, h))) }
 
 -- so reversing rows goes over to the other side
-pub reversed_back : {E : Type 0} (n : ℕ) (a b : Matrix E) → b.height ≡ 2 ^ n → Same a (reversed n b) → Same b (reversed n a)
+pub reversed_back : {E : Type 0} (n : ℕ) (a b : Matrix E) → b.height ≡ 2 ^ n → Same a (bit_reversal n b) → Same b (bit_reversal n a)
 reversed_back n a b h s = record {
   high = sym s.high;
   wide = sym s.wide;

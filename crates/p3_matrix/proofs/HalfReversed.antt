@@ -2,7 +2,7 @@
 use Rattle.std.proofs.Common.{◌≡◌, ℕ, ◌+◌, ◌*◌, ◌/◌, ◌<◌, ◌≤◌, ◌^◌, ◌⊎◌, inl, inr, ⊎_elim, List, length, get_or, refl, sym, ap, ◌∙◌, arith}
 use Rattle.std.proofs.lemmas.Bool.{cases_lt, cases_eq}
 use Rattle.std.proofs.lemmas.List.Edits.{Swapped}
-use Rattle.p3_matrix.specs.BitOrder.{rev, reversed}
+use Rattle.p3_matrix.specs.BitOrder.{rev, bit_reversal}
 use Rattle.p3_matrix.specs.Exchange.{IsExchange}
 use Rattle.p3_matrix.specs.Matrix.{matrix, Same}
 use Rattle.p3_matrix.specs.RowMajor.{RowMajor, height}
@@ -101,7 +101,7 @@ rows_half_reversed_all w n t xs ys e h d i c l q =
 -- a matrix whose entries were replaced by its rows in bit reversed order
 pub reversed_rows : {T : Type 0} (n : ℕ) (m : RowMajor T) (ys : List T) → length ys ≡ length m.values → height m ≡ 2 ^ n
     → ((d : T) (i c : ℕ) → i < 2 ^ n → c < m.width → get_or ys (i * m.width + c) d ≡ get_or m.values (rev n i * m.width + c) d)
-    → (d : T) → Same (matrix d (with_values m ys)) (reversed n (matrix d m))
+    → (d : T) → Same (matrix d (with_values m ys)) (bit_reversal n (matrix d m))
 reversed_rows n m ys e high at d =
     let is = all_written m.values ys e in
     record {

@@ -5,7 +5,7 @@ use Rattle.std.proofs.Math.Seq.{take-length}
 use Rattle.std.proofs.lemmas.Bool.{cases_lt, cases_eq, eq-eqb, ne_eqb}
 use Rattle.std.proofs.lemmas.List.Edits.{Swapped}
 use Rattle.p3_matrix.specs.RowMajor.{RowMajor}
-use Rattle.p3_matrix.specs.Matrix.{matrix, exchanged, Same}
+use Rattle.p3_matrix.specs.Matrix.{matrix, row_exchange, Same}
 use Rattle.p3_matrix.specs.Exchange.{IsExchange}
 use Rattle.p3_matrix.specs.Writes.{with_values}
 use Rattle.p3_matrix.proofs.RowMajor.{row_within}
@@ -38,7 +38,7 @@ swapped_at f g a b s r = go (cases_eq r a) (cases_eq r b)
 -- a matrix whose entries were replaced, each column by one with two entries exchanged
 pub exchanged_rows : {T : Type 0} (m : RowMajor T) (ys : List T) (a b : ℕ) → length ys ≡ length m.values
     → ((c : ℕ) (d : T) → c < m.width → Swapped (λ r. get_or m.values (r * m.width + c) d) (λ r. get_or ys (r * m.width + c) d) a b)
-    → (d : T) → Same (matrix d (with_values m ys)) (exchanged a b (matrix d m))
+    → (d : T) → Same (matrix d (with_values m ys)) (row_exchange a b (matrix d m))
 exchanged_rows m ys a b e s d =
     let is = all_written m.values ys e in
     record {

@@ -8,5 +8,5 @@ rev zero i = 0
 rev (suc n) i = (i % 2) * 2 ^ n + rev n (i / 2)
 
 -- a matrix of 2 ^ n rows, row i being row rev n i of m
-abbrev pub reversed : {E : Type 0} → ℕ → Matrix E → Matrix E
-reversed n m = record { height = m.height; width = m.width; entry = λ i j. m.entry (rev n i) j }
+abbrev pub bit_reversal : {E : Type 0} → ℕ → Matrix E → Matrix E
+bit_reversal n m = record { height = m.height; width = m.width; entry = λ i j. m.entry (rev n i) j }

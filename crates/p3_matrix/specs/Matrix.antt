@@ -14,12 +14,12 @@ abbrev pub matrix : {T : Type 0} → T → RowMajor T → Matrix T
 matrix d m = record { height = height m; width = m.width; entry = λ i j. get_or m.values (i * m.width + j) d }
 
 -- f of each entry
-abbrev pub mapped : {T E : Type 0} → (T → E) → Matrix T → Matrix E
-mapped f m = record { height = m.height; width = m.width; entry = λ i j. f (m.entry i j) }
+abbrev pub image : {T E : Type 0} → (T → E) → Matrix T → Matrix E
+image f m = record { height = m.height; width = m.width; entry = λ i j. f (m.entry i j) }
 
 -- m with rows i and j in each other's places
-abbrev pub exchanged : {E : Type 0} → ℕ → ℕ → Matrix E → Matrix E
-exchanged i j m = record { height = m.height; width = m.width; entry = λ r c. if r == i then m.entry j c else (if r == j then m.entry i c else m.entry r c) }
+abbrev pub row_exchange : {E : Type 0} → ℕ → ℕ → Matrix E → Matrix E
+row_exchange i j m = record { height = m.height; width = m.width; entry = λ r c. if r == i then m.entry j c else (if r == j then m.entry i c else m.entry r c) }
 
 -- two matrices are one: equal shapes, and equal entries within them
 pub record Same {E : Type 0} (a b : Matrix E) : Type 0 where

@@ -3,7 +3,7 @@
 ghost use Rattle.std.specs.Prelude.{◌≡◌, ◌+◌, ◌*◌, ◌/◌, ◌^◌, ◌<◌, ◌≤◌, ◌⊎◌, ℕ, length, get_or};
 ghost use Rattle.p3_matrix.specs.RowMajor.{height, SameShape};
 ghost use Rattle.p3_matrix.specs.Matrix.{matrix, Same};
-ghost use Rattle.p3_matrix.specs.BitOrder.{rev, reversed};
+ghost use Rattle.p3_matrix.specs.BitOrder.{rev, bit_reversal};
 
 use crate::util::{exchange, log2_strict_usize};
 use crate::views::RowMajorMatrixViewMut;
@@ -31,7 +31,7 @@ pub fn reverse_slice_index_bits<T>(values: &mut [T])
 {
     let size = values.len();
     if size > 0 {
-        reverse_rows(values, 1, log2_strict_usize(size));
+        reverse_runs(values, 1, log2_strict_usize(size));
     }
 }
 
@@ -42,18 +42,18 @@ pub fn reverse_matrix_index_bits<T>(view: &mut RowMajorMatrixViewMut<'_, T>)
     ensures same_reference { view.new.matrix.ghost_name ≡ view.old.matrix.ghost_name }
     ensures shape { SameShape view.new.matrix.now view.old.matrix.now }
     ensures rows { (n : ℕ) → height view.old.matrix.now ≡ 2 ^ n
-        → (d : T) → Same (matrix d view.new.matrix.now) (reversed n (matrix d view.old.matrix.now)) }
+        → (d : T) → Same (matrix d view.new.matrix.now) (bit_reversal n (matrix d view.old.matrix.now)) }
 {
     let width = view.width();
     let height = view.height();
     if height > 0 {
-        reverse_rows(view.values_mut(), width, log2_strict_usize(height));
+        reverse_runs(view.values_mut(), width, log2_strict_usize(height));
     }
 }
 
-// Puts 2 ^ bits rows into bit reversed order: each pair of rows is exchanged when the first of the
+// Puts 2 ^ bits runs of entries into bit reversed order: each pair is exchanged when the first of the
 // two is reached.
-fn reverse_rows<T>(values: &mut [T], width: usize, bits: usize)
+fn reverse_runs<T>(values: &mut [T], width: usize, bits: usize)
     requires bits { bits ≤ 63 }
     requires size { length values.old ≡ 2 ^ bits * width }
     ensures { (d : T) (i j : ℕ) → i < 2 ^ bits → j < width

@@ -2,7 +2,7 @@
 
 ghost use Rattle.std.specs.Prelude.{◌≡◌, ◌+◌, ◌*◌, ◌/◌, ◌^◌, ◌<◌, ◌≤◌, ℕ, length};
 ghost use Rattle.p3_matrix.specs.RowMajor.{height, SameShape};
-ghost use Rattle.p3_matrix.specs.Matrix.{matrix, exchanged, Same};
+ghost use Rattle.p3_matrix.specs.Matrix.{matrix, row_exchange, Same};
 ghost use Rattle.p3_matrix.specs.Exchange.{IsExchange};
 
 use crate::views::RowMajorMatrixViewMut;
@@ -28,7 +28,7 @@ pub fn swap_rows<T>(view: &mut RowMajorMatrixViewMut<'_, T>, i: usize, j: usize)
     requires j_in_bounds { j < height view.old.matrix.now }
     ensures same_reference { view.new.matrix.ghost_name ≡ view.old.matrix.ghost_name }
     ensures shape { SameShape view.new.matrix.now view.old.matrix.now }
-    ensures rows { (d : T) → Same (matrix d view.new.matrix.now) (exchanged i j (matrix d view.old.matrix.now)) }
+    ensures rows { (d : T) → Same (matrix d view.new.matrix.now) (row_exchange i j (matrix d view.old.matrix.now)) }
 {
     let width = view.width();
     if i < j {

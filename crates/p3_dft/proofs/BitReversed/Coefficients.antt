@@ -5,32 +5,32 @@ use Rattle.p3_field.specs.Ring.{Ring, AreRoots, count, power}
 use Rattle.p3_field.specs.declared.fields.Field.{Ghosts as FieldMembers}
 use Rattle.p3_field.proofs.Powers.{count-power_of_two}
 use Rattle.p3_field.proofs.Roots.{inverse_root}
-use Rattle.p3_matrix.specs.BitOrder.{rev, reversed}
-use Rattle.p3_matrix.specs.Matrix.{Matrix, Same, mapped}
+use Rattle.p3_matrix.specs.BitOrder.{rev, bit_reversal}
+use Rattle.p3_matrix.specs.Matrix.{Matrix, Same, image}
 use Rattle.p3_matrix.specs.RowMajor.{RowMajor, IsRowMajor, height}
 use Rattle.p3_matrix.proofs.BitReversal.{rev_of_zero, rev-lt, rev-rev, reversed_twice}
 use Rattle.p3_matrix.proofs.Matrices.{same_sym}
 use Rattle.p3_matrix.proofs.TwoPowers.{log_same}
-use Rattle.p3_dft.specs.Cosets.{AreCoefficients, IsQuotient, IsValues, shifted}
+use Rattle.p3_dft.specs.Cosets.{AreCoefficients, IsQuotient, IsValues, coset_shift}
 use Rattle.p3_dft.specs.Extensions.{IsExtension, IsTransformedExtension, extension_bound}
 use Rattle.p3_dft.specs.Polynomials.{poly}
 use Rattle.p3_dft.specs.Shapes.{FitsLde}
 use Rattle.p3_dft.specs.Transforms.{AreValuesOfRows, values_of, IsInterpolation}
 use Rattle.p3_dft.specs.declared.traits.Layout.TheVariants.{BitReversed}
-use Rattle.p3_dft.proofs.Cosets.{coefficients_same, is_subgroup_values}
-use Rattle.p3_dft.proofs.Interpolation.{inverse_transform, there_is_no_other, transform_is}
-use Rattle.p3_dft.proofs.Polynomials.{poly-one}
-use Rattle.p3_dft.proofs.ReversedRows.{transform_of_row}
-use Rattle.p3_dft.proofs.Rows.{written}
-use Rattle.p3_dft.proofs.Shapes.{entries_rise}
-use Rattle.p3_dft.proofs.Transforms.{height_of_parts, quotient_of_products}
+use Rattle.p3_dft.proofs.Polynomials.Cosets.{coefficients_same, is_subgroup_values}
+use Rattle.p3_dft.proofs.Polynomials.Interpolation.{inverse_transform, there_is_no_other, transform_is}
+use Rattle.p3_dft.proofs.Polynomials.ByIndex.{poly-one}
+use Rattle.p3_dft.proofs.BitReversed.Rows.{transform_of_row}
+use Rattle.p3_dft.proofs.Rows.Overwritten.{written}
+use Rattle.p3_dft.proofs.Calls.Shapes.{entries_rise}
+use Rattle.p3_dft.proofs.Calls.Transforms.{height_of_parts, quotient_of_products}
 
 module _ {A : Type 0} (R : Ring A) where
   open R use {mul as ◌⊗◌}
 
   infixl 70 ◌⊗◌
   -- a quotient whose rows are reversed
-  pub reversed_quotient : (k n : ℕ) (m out : Matrix A) → m.height ≡ 2 ^ k → IsQuotient R n m out → IsQuotient R n (reversed k m) (reversed k out)
+  pub reversed_quotient : (k n : ℕ) (m out : Matrix A) → m.height ≡ 2 ^ k → IsQuotient R n m out → IsQuotient R n (bit_reversal k m) (bit_reversal k out)
   reversed_quotient k n m out high quotient = record {
     high = quotient.high;
     wide = quotient.wide;
@@ -38,11 +38,11 @@ module _ {A : Type 0} (R : Ring A) where
   }
 
   -- rows times the powers of s, and times the inverse of n, are rows divided by n, and then times the powers of s
-  pub shifted_quotient : (n : ℕ) (inverse s : A) (m out : Matrix A) → count R n ⊗ inverse ≡ R.one → Same out (mapped (λ x. x ⊗ inverse) (shifted R s m))
-      → (c : Matrix A) × IsQuotient R n m c × Same out (shifted R s c)
+  pub shifted_quotient : (n : ℕ) (inverse s : A) (m out : Matrix A) → count R n ⊗ inverse ≡ R.one → Same out (image (λ x. x ⊗ inverse) (coset_shift R s m))
+      → (c : Matrix A) × IsQuotient R n m c × Same out (coset_shift R s c)
   shifted_quotient n inverse s m out undone same = (
-    mapped (λ x. x ⊗ inverse) m,
-    quotient_of_products R n inverse m (mapped (λ x. x ⊗ inverse) m) undone (record { high = refl; wide = refl; alike = λ i j p q. refl }),
+    image (λ x. x ⊗ inverse) m,
+    quotient_of_products R n inverse m (image (λ x. x ⊗ inverse) m) undone (record { high = refl; wide = refl; alike = λ i j p q. refl }),
     record {
       high = same.high;
       wide = same.wide;
@@ -53,7 +53,7 @@ module _ {A : Type 0} (R : Ring A) where
   )
 
   -- rows times the powers of s, and times one
-  pub shifted_by_one : (one s : A) (m out : Matrix A) → one ≡ R.one → Same out (mapped (λ x. x ⊗ one) (shifted R s m)) → Same out (shifted R s m)
+  pub shifted_by_one : (one s : A) (m out : Matrix A) → one ≡ R.one → Same out (image (λ x. x ⊗ one) (coset_shift R s m)) → Same out (coset_shift R s m)
   shifted_by_one one s m out is same = record {
     high = same.high;
     wide = same.wide;
@@ -64,7 +64,7 @@ module _ {A : Type 0} (R : Ring A) {g : ℕ → A} {bits : ℕ} (G : AreRoots R 
   -- values at the powers of the inverse root, in reversed order, are the coefficients doubled k times, in that order
   pub coefficients_of_reversed : (m out c : Matrix A) (k : ℕ) → k ≤ bits → m.height ≡ 2 ^ k → out.height ≡ m.height → out.width ≡ m.width
       → ((i j : ℕ) → i < 2 ^ k → j < m.width → out.entry i j ≡ poly R (2 ^ k) (λ q. m.entry q j) (power R (inverse_root R g k) (rev k i)))
-      → IsQuotient R (2 ^ k) (reversed k out) c → AreCoefficients R g m k R.one c
+      → IsQuotient R (2 ^ k) (bit_reversal k out) c → AreCoefficients R g m k R.one c
   coefficients_of_reversed m out c k within high tall wide entries quotient =
       inverse_transform R G m c k within high (quotient.high ∙ tall) (quotient.wide ∙ wide)
       (λ i j below inside.
@@ -74,7 +74,7 @@ module _ {A : Type 0} (R : Ring A) {g : ℕ → A} {bits : ℕ} (G : AreRoots R 
       ∙ sym (transform_is R (inverse_root R g) k f i))
 
   -- a single row is its own coefficients, whatever power of two its height is said to be
-  pub coefficients_of_row : (m c : Matrix A) (k : ℕ) → k ≤ bits → m.height ≡ 1 → m.height ≡ 2 ^ k → IsQuotient R (2 ^ k) (reversed k m) c → AreCoefficients R g m k R.one c
+  pub coefficients_of_row : (m c : Matrix A) (k : ℕ) → k ≤ bits → m.height ≡ 1 → m.height ≡ 2 ^ k → IsQuotient R (2 ^ k) (bit_reversal k m) c → AreCoefficients R g m k R.one c
   coefficients_of_row m c k within one high quotient =
       coefficients_of_reversed m m c k within high refl refl
       (λ i j below inside.
@@ -88,9 +88,9 @@ module _ {A : Type 0} (R : Ring A) {g : ℕ → A} {bits : ℕ} (G : AreRoots R 
 module _ {F : Type 0} (f : FieldMembers F) (generator : ℕ → F) where
   -- a single row is its own values
   pub values_of_row : (m : RowMajor F) (k : ℕ) → height m ≡ 1 → height m ≡ 2 ^ k
-      → IsValues f.ring (λ n. f.value (generator n)) (reversed k (values_of f m)) k f.ring.one (values_of f m)
+      → IsValues f.ring (λ n. f.value (generator n)) (bit_reversal k (values_of f m)) k f.ring.one (values_of f m)
   values_of_row m k one high =
-      coefficients_same f.ring (λ n. f.value (generator n)) (values_of f m) (reversed k (values_of f m)) k f.ring.one (values_of f m)
+      coefficients_same f.ring (λ n. f.value (generator n)) (values_of f m) (bit_reversal k (values_of f m)) k f.ring.one (values_of f m)
       (record {
         high = refl;
         wide = refl;
@@ -102,13 +102,13 @@ module _ {F : Type 0} (f : FieldMembers F) (generator : ℕ → F) where
   pub values_of_parts : (m out : RowMajor F) (before after rest : List F) (w log k : ℕ) → log ≡ k → IsRowMajor m → height m ≡ 2 ^ log → before ≡ m.values → w ≡ m.width
       → length after ≡ length before → out.width ≡ m.width → out.values ≡ take (length m.values) (after ++ rest)
       → AreValuesOfRows f w (2 ^ log) (rev log) (power f.ring (f.value (generator log))) before after
-      → IsValues f.ring (λ n. f.value (generator n)) (reversed k (values_of f m)) k f.ring.one (values_of f out)
+      → IsValues f.ring (λ n. f.value (generator n)) (bit_reversal k (values_of f m)) k f.ring.one (values_of f out)
   values_of_parts m out before after rest w log k same whole high before_is w_is size out_width out_values entries =
       let len : length after ≡ length m.values = size ∙ ap length before_is in
       let values_is : out.values ≡ after = out_values ∙ written (length m.values) after rest len in
       let full : length after ≡ 2 ^ log * m.width = len ∙ sym whole.full ∙ ap (λ n. n * m.width) high in
-      subst (λ (n : ℕ). IsValues f.ring (λ i. f.value (generator i)) (reversed n (values_of f m)) n f.ring.one (values_of f out)) same
-      (is_subgroup_values f.ring (λ n. f.value (generator n)) (reversed log (values_of f m)) log (values_of f out)
+      subst (λ (n : ℕ). IsValues f.ring (λ i. f.value (generator i)) (bit_reversal n (values_of f m)) n f.ring.one (values_of f out)) same
+      (is_subgroup_values f.ring (λ n. f.value (generator n)) (bit_reversal log (values_of f m)) log (values_of f out)
       (height_of_parts out after m.width (2 ^ log) whole.wide full out_width values_is) out_width
       (λ i j below inside.
       ap₂ (λ (xs : List F) (v : ℕ). f.value (get_or xs (i * v + j) f.ZERO)) values_is (out_width ∙ sym w_is) ∙ entries i j below (omega (arith, w_is))
@@ -119,7 +119,7 @@ module _ {F : Type 0} (f : FieldMembers F) (generator : ℕ → F) where
   pub coefficients_of_parts : {bits : ℕ} → AreRoots f.ring bits (λ n. f.value (generator n)) → (m out : RowMajor F) (before after rest : List F) (w log k : ℕ) → log ≤ bits → log ≡ k
       → IsRowMajor m → height m ≡ 2 ^ log → before ≡ m.values → w ≡ m.width → length after ≡ length before → out.width ≡ m.width → out.values ≡ take (length m.values) (after ++ rest)
       → AreValuesOfRows f w (2 ^ log) (λ q. q) (λ r. power f.ring (inverse_root f.ring (λ n. f.value (generator n)) log) (rev log r)) before after
-      → (c : Matrix f.Element) → IsQuotient f.ring (2 ^ k) (reversed k (values_of f out)) c
+      → (c : Matrix f.Element) → IsQuotient f.ring (2 ^ k) (bit_reversal k (values_of f out)) c
       → AreCoefficients f.ring (λ n. f.value (generator n)) (values_of f m) k f.ring.one c
   coefficients_of_parts roots m out before after rest w log k within same whole high before_is w_is size out_width out_values entries c quotient =
       let len : length after ≡ length m.values = size ∙ ap length before_is in
@@ -132,7 +132,7 @@ module _ {F : Type 0} (f : FieldMembers F) (generator : ℕ → F) where
       (λ i j below inside.
       ap₂ (λ (xs : List F) (v : ℕ). f.value (get_or xs (i * v + j) f.ZERO)) values_is (out_width ∙ sym w_is) ∙ entries i j below (omega (arith, w_is))
       ∙ ap₂ (λ (xs : List F) (v : ℕ). poly f.ring (2 ^ log) (λ q. f.value (get_or xs (q * v + j) f.ZERO)) (power f.ring x (rev log i))) before_is w_is)
-      (subst (λ (n : ℕ). IsQuotient f.ring (2 ^ n) (reversed n (values_of f out)) c) (sym same) quotient))
+      (subst (λ (n : ℕ). IsQuotient f.ring (2 ^ n) (bit_reversal n (values_of f out)) c) (sym same) quotient))
 
   -- coefficients are the interpolation
   pub interpolation_of_coefficients : {bits : ℕ} → AreRoots f.ring bits (λ n. f.value (generator n)) → (m c : RowMajor F) (log : ℕ) → log ≤ bits → height m ≡ 2 ^ log
@@ -160,29 +160,29 @@ module _ {F : Type 0} (f : FieldMembers F) (generator : ℕ → F) where
 
   -- the same of what a transform, told the coefficients in bit reversed order, answered in that order
   pub extension_of_answered : (may_answer : RowMajor F → RowMajor F → Type 0) (m told answered out : RowMajor F) (a log : ℕ) (s : f.Element) → height m ≡ 2 ^ log
-      → AreCoefficients f.ring (λ n. f.value (generator n)) (values_of f m) log f.ring.one (reversed log (values_of f told))
+      → AreCoefficients f.ring (λ n. f.value (generator n)) (values_of f m) log f.ring.one (bit_reversal log (values_of f told))
       → may_answer told answered → height answered ≡ height m
-      → IsValues f.ring (λ n. f.value (generator n)) (reversed log (values_of f answered)) (log + a) s (values_of f out)
+      → IsValues f.ring (λ n. f.value (generator n)) (bit_reversal log (values_of f answered)) (log + a) s (values_of f out)
       → IsTransformedExtension f generator may_answer BitReversed m a s out
   extension_of_answered may_answer m told answered out a log s high are called tall values = record {
-    coefficients = reversed log (values_of f told);
-    are_coefficients = λ k e. subst (λ (n : ℕ). AreCoefficients f.ring (λ i. f.value (generator i)) (values_of f m) n f.ring.one (reversed log (values_of f told))) (one_log k e) are;
+    coefficients = bit_reversal log (values_of f told);
+    are_coefficients = λ k e. subst (λ (n : ℕ). AreCoefficients f.ring (λ i. f.value (generator i)) (values_of f m) n f.ring.one (bit_reversal log (values_of f told))) (one_log k e) are;
     told = told;
     told_in_layout = λ k e. back told (are.high ∙ high) k e;
     answered = answered;
     called = called;
-    changed = reversed log (values_of f answered);
+    changed = bit_reversal log (values_of f answered);
     answered_in_layout = λ k e. back answered (tall ∙ high) k e;
-    extended = λ k e. subst (λ (n : ℕ). IsValues f.ring (λ i. f.value (generator i)) (reversed log (values_of f answered)) (n + a) s (values_of f out)) (one_log k e) values;
+    extended = λ k e. subst (λ (n : ℕ). IsValues f.ring (λ i. f.value (generator i)) (bit_reversal log (values_of f answered)) (n + a) s (values_of f out)) (one_log k e) values;
   }
     where
       one_log : (k : ℕ) → height m ≡ 2 ^ k → log ≡ k
       one_log k e = log_same log k (sym high ∙ e)
 
-      back : (x : RowMajor F) → height x ≡ 2 ^ log → (k : ℕ) → height m ≡ 2 ^ k → Same (values_of f x) (reversed k (reversed log (values_of f x)))
+      back : (x : RowMajor F) → height x ≡ 2 ^ log → (k : ℕ) → height m ≡ 2 ^ k → Same (values_of f x) (bit_reversal k (bit_reversal log (values_of f x)))
       back x of_log k e =
-          subst (λ (n : ℕ). Same (values_of f x) (reversed n (reversed log (values_of f x)))) (one_log k e)
-          (same_sym (reversed log (reversed log (values_of f x))) (values_of f x) (reversed_twice log (values_of f x) of_log))
+          subst (λ (n : ℕ). Same (values_of f x) (bit_reversal n (bit_reversal log (values_of f x)))) (one_log k e)
+          (same_sym (bit_reversal log (bit_reversal log (values_of f x))) (values_of f x) (reversed_twice log (values_of f x) of_log))
 
 -- a shape that can be extended, and one that is the same
 pub fits_as : (most height width added tall wide : ℕ) → FitsLde most height width added → tall ≡ height → wide ≡ width → FitsLde most tall wide added

@@ -4,10 +4,10 @@ use Rattle.std.proofs.lemmas.Bool.{cases_lt}
 use Rattle.p3_field.specs.Ring.{Ring, power}
 use Rattle.p3_field.proofs.Powers.{power-add}
 use Rattle.p3_field.proofs.RingSolver.{solve, va, vb, vc, ◌⊠◌}
-use Rattle.p3_matrix.specs.BitOrder.{rev, reversed}
-use Rattle.p3_matrix.specs.Matrix.{Matrix, Same, mapped}
+use Rattle.p3_matrix.specs.BitOrder.{rev, bit_reversal}
+use Rattle.p3_matrix.specs.Matrix.{Matrix, Same, image}
 use Rattle.p3_matrix.proofs.BitReversal.{rev_of_zero, rev-odd, rev-block, rev-lt, rev-rev}
-use Rattle.p3_dft.specs.Cosets.{shifted}
+use Rattle.p3_dft.specs.Cosets.{coset_shift}
 
 -- one binary digit more in front is one more behind
 pub rev_above : (n l t : ℕ) → l < n → t < 2 ^ l → rev n (2 ^ l + t) ≡ rev n t + 2 ^ (n - 1 - l)
@@ -46,7 +46,7 @@ module _ {A : Type 0} (R : Ring A) where
   pub weighed_rows : (k : ℕ) (scale shift : A) (m out : Matrix A) (weights : ℕ → A) → m.height ≡ 2 ^ k
       → Same out (record { height = m.height; width = m.width; entry = λ i j. m.entry i j ⊗ weights i })
       → ((b : ℕ) → b < 2 ^ k → weights b ≡ scale ⊗ power R shift (rev k b))
-      → Same (reversed k out) (mapped (λ x. x ⊗ scale) (shifted R shift (reversed k m)))
+      → Same (bit_reversal k out) (image (λ x. x ⊗ scale) (coset_shift R shift (bit_reversal k m)))
   weighed_rows k scale shift m out weights high same are = record {
     high = same.high;
     wide = same.wide;

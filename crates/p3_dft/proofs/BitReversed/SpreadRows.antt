@@ -5,11 +5,11 @@ use Rattle.std.proofs.Math.Nat.{mul-le-mul_right}
 use Rattle.std.proofs.lemmas.Bool.{cases_lt, cases_eq, eq-eqb, ne_eqb}
 use Rattle.std.proofs.lemmas.Nat.{pow_pos, div-add-mod', div_below, mod_below}
 use Rattle.p3_field.specs.Ring.{Ring}
-use Rattle.p3_matrix.specs.BitOrder.{rev, reversed}
-use Rattle.p3_matrix.specs.Matrix.{Matrix, Same, exchanged}
+use Rattle.p3_matrix.specs.BitOrder.{rev, bit_reversal}
+use Rattle.p3_matrix.specs.Matrix.{Matrix, Same, row_exchange}
 use Rattle.p3_matrix.proofs.BitReversal.{rev_of_zero, rev-block, rev-lt, rev-rev}
 use Rattle.p3_dft.specs.Cosets.{IsValues}
-use Rattle.p3_dft.proofs.Cosets.{padded_values}
+use Rattle.p3_dft.proofs.Polynomials.Cosets.{padded_values}
 
 -- the rows from n on, of h, are in their places N apart: x before, y after
 pub record SpreadFrom {T : Type 0} (z : T) (N h n : ℕ) (x y : ℕ → T) : Type 0 where
@@ -55,11 +55,11 @@ module _ {T : Type 0} (z : T) (N h : ℕ) where
 
   -- the same of a column of a matrix
   pub spread_exchanged : (n : ℕ) (x : ℕ → T) (now next : Matrix T) (j : ℕ) → 2 ≤ N → 1 ≤ n → n < h → now.height ≡ h * N → j < now.width
-      → Same next (exchanged n (n * N) now) → SpreadFrom z N h (n + 1) x (λ i. now.entry i j) → SpreadFrom z N h n x (λ i. next.entry i j)
+      → Same next (row_exchange n (n * N) now) → SpreadFrom z N h (n + 1) x (λ i. now.entry i j) → SpreadFrom z N h n x (λ i. next.entry i j)
   spread_exchanged n x now next j two some inside tall column same done =
       let far_off = room n N two in
       let in_all = rise n h N inside two in
-      let at : (r : ℕ) → r < h * N → next.entry r j ≡ (exchanged n (n * N) now).entry r j = λ r less. same.alike r j (omega (arith, same.high)) (omega (arith, same.wide)) in
+      let at : (r : ℕ) → r < h * N → next.entry r j ≡ (row_exchange n (n * N) now).entry r j = λ r less. same.alike r j (omega (arith, same.high)) (omega (arith, same.wide)) in
       spread_more n x (λ i. now.entry i j) (λ i. next.entry i j) two some inside done
       (at n (omega arith) ∙ rw (eq-eqb n n refl) refl)
       (at (n * N) in_all ∙ rw (ne_eqb (n * N) n (λ e. omega arith), eq-eqb (n * N) (n * N) refl) refl)
@@ -93,10 +93,10 @@ module _ {A : Type 0} (R : Ring A) (g : ℕ → A) where
   pub values_of_spread : (k a : ℕ) (s : A) (c p out : Matrix A) → c.height ≡ 2 ^ k → p.height ≡ c.height * 2 ^ a → p.width ≡ c.width
       → ((i j : ℕ) → i < c.height → j < c.width → p.entry (i * 2 ^ a) j ≡ c.entry i j)
       → ((i r j : ℕ) → i < c.height → 0 < r → r < 2 ^ a → j < c.width → p.entry (i * 2 ^ a + r) j ≡ R.zero)
-      → IsValues R g (reversed (k + a) p) (k + a) s out → IsValues R g (reversed k c) (k + a) s out
+      → IsValues R g (bit_reversal (k + a) p) (k + a) s out → IsValues R g (bit_reversal k c) (k + a) s out
   values_of_spread k a s c p out high tall wide rows others =
       let all : p.height ≡ 2 ^ a * 2 ^ k = tall ∙ ap (λ n. n * 2 ^ a) high ∙ omega arith in
-      padded_values R g (reversed k c) (reversed (k + a) p) (k + a) s out (omega (arith, tall, le-mul_of_pos_right c.height (pow_pos a))) wide
+      padded_values R g (bit_reversal k c) (bit_reversal (k + a) p) (k + a) s out (omega (arith, tall, le-mul_of_pos_right c.height (pow_pos a))) wide
       (λ i j below inside.
       let small : i < 2 ^ k = omega (arith, high) in
       let whole : i ≡ 0 * 2 ^ k + i = omega arith in

@@ -11,8 +11,8 @@ use Rattle.p3_field.proofs.Roots.{root_squared, root_across, root_round}
 use Rattle.p3_matrix.specs.Butterflies.{dit_near, dit_far}
 use Rattle.p3_dft.specs.Polynomials.{poly}
 use Rattle.p3_dft.specs.Cosets.{point}
-use Rattle.p3_dft.proofs.Cosets.{point-mul}
-use Rattle.p3_dft.proofs.Polynomials.{poly-one, poly_same, poly-split}
+use Rattle.p3_dft.proofs.Polynomials.Cosets.{point-mul}
+use Rattle.p3_dft.proofs.Polynomials.ByIndex.{poly-one, poly_same, poly-split}
 
 module _ {A : Type 0} (R : Ring A) (g : ℕ → A) (s : A) where
   open R use {add as ◌⊕◌, mul as ◌⊗◌, neg, zero as 𝟘, one as 𝟙}

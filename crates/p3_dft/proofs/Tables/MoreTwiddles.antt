@@ -6,7 +6,7 @@ use Rattle.std.proofs.lemmas.List.{places}
 use Rattle.std.proofs.lemmas.Nat.{pow_pos}
 use Rattle.p3_field.specs.declared.fields.Field.{Ghosts as FieldMembers}
 use Rattle.p3_dft.specs.Twiddles.{AreTwiddlesOfLayers}
-use Rattle.p3_dft.proofs.Rows.{part_at}
+use Rattle.p3_dft.proofs.Rows.Overwritten.{part_at}
 
 part_size : {X : Type 0} (xs : List X) (a k : ℕ) → a + k ≤ length xs → length (take k (drop a xs)) ≡ k
 part_size xs a k room = search (rules, places)

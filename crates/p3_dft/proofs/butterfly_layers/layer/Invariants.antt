@@ -1,5 +1,5 @@
 use Rattle.std.proofs.Common.{◌+◌, ◌*◌, ◌/◌, ◌≤◌, get_or}
-use Rattle.p3_dft.proofs.Rows.{RowsDone}
+use Rattle.p3_dft.proofs.Rows.Overwritten.{RowsDone}
 use Rattle.p3_dft.proofs.Layers.Halves.{BothHalves}
 use Rattle.p3_dft.proofs.butterfly_layers.layer.Given as goal
 

@@ -2,7 +2,7 @@ use Rattle.std.proofs.Common.{◌≡◌, ℕ, ◌+◌, ◌*◌, ◌-◌, ◌<◌
 use Rattle.std.proofs.Math.Nat.{suc-mul, mul-le-mul_right}
 use Rattle.std.proofs.lemmas.List.{places}
 use Rattle.p3_dft.proofs.Layers.Counts.{count_more}
-use Rattle.p3_dft.proofs.Rows.{part_at, rows-more}
+use Rattle.p3_dft.proofs.Rows.Overwritten.{part_at, rows-more}
 use Rattle.p3_dft.proofs.butterfly_layers.meet_halves.Goals as goal
 
 pub loop-t-preserved : goal.loop-t-preserved

@@ -4,8 +4,8 @@ use Rattle.std.proofs.lemmas.Slice.Zip.{all_zipped_more}
 use Rattle.std.specs.List.{AllZip}
 use Rattle.p3_matrix.specs.RowMajor.{RowMajor}
 use Rattle.p3_dft.specs.Jobs.{AreFirstAnswers, CanRun, IsAnswer}
-use Rattle.p3_dft.proofs.EngineSteps.{later_still}
-use Rattle.p3_dft.proofs.JobLists.{first_answers, next_not_promised, on_any_error, split_more}
+use Rattle.p3_dft.proofs.Calls.EngineSteps.{later_still}
+use Rattle.p3_dft.proofs.Calls.JobLists.{first_answers, next_not_promised, on_any_error, split_more}
 use Rattle.p3_dft.proofs.jobs.answer_jobs.Goals as goal
 
 pub loop-job-preserved : goal.loop-job-preserved

@@ -1,6 +1,6 @@
 use Rattle.std.proofs.Common.{◌≡◌, ◌+◌, ◌*◌}
 use Rattle.p3_field.specs.Ring.{power}
-use Rattle.p3_dft.proofs.Sums.{AreSums}
+use Rattle.p3_dft.proofs.Polynomials.Sums.{AreSums}
 use Rattle.p3_dft.proofs.naive.add_value.Given as goal
 
 abbrev pub invariant-loop-j : goal.invariant-loop-j

@@ -1,7 +1,7 @@
 use Rattle.std.proofs.Common.{◌≡◌, ◌+◌, ◌*◌, get_or}
 use Rattle.p3_field.specs.Ring.{power}
 use Rattle.p3_dft.specs.Polynomials.{poly}
-use Rattle.p3_dft.proofs.Rows.{RowsDone}
+use Rattle.p3_dft.proofs.Rows.Overwritten.{RowsDone}
 use Rattle.p3_dft.proofs.naive.add_values.Given as goal
 
 abbrev pub invariant-loop-i : goal.invariant-loop-i

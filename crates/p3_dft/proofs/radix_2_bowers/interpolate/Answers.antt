@@ -1,5 +1,5 @@
 use Rattle.std.proofs.Common.{◌≡◌, ℕ, ◌*◌, ◌/◌, ◌^◌, length, sym, ap, ap₂, ◌∙◌, subst, arith}
-use Rattle.p3_matrix.specs.BitOrder.{reversed}
+use Rattle.p3_matrix.specs.BitOrder.{bit_reversal}
 use Rattle.p3_matrix.specs.RowMajor.{height}
 use Rattle.p3_dft.specs.Cosets.{IsQuotient}
 use Rattle.p3_dft.specs.Transforms.{values_of}
@@ -12,7 +12,7 @@ returns-clause-coefficients g c k high =
     let multiples = c.interpolate_scaled.new.mat in
     let shape = c.in_ok-interpolate_scaled.ensures.shape in
     let tall : height multiples ≡ 2 ^ k = ap₂ (λ (l w : ℕ). l / w) shape.1 shape.0 ∙ high in
-    c.in_ok-interpolate_scaled.ensures.coefficients k high (reversed k (values_of field c.divide_rows.new.mat))
+    c.in_ok-interpolate_scaled.ensures.coefficients k high (bit_reversal k (values_of field c.divide_rows.new.mat))
     (reversed_quotient field.ring k (2 ^ k) (values_of field multiples) (values_of field c.divide_rows.new.mat) tall
     (subst (λ (n : ℕ). IsQuotient field.ring n (values_of field multiples) (values_of field c.divide_rows.new.mat)) tall c.divide_rows.ensures.divided))
 

@@ -8,7 +8,7 @@ use Rattle.p3_matrix.specs.Butterflies.{dit_near, dit_far}
 use Rattle.p3_matrix.proofs.BitReversal.{rev_of_zero}
 use Rattle.p3_dft.specs.Polynomials.{poly}
 use Rattle.p3_dft.proofs.Layers.Blocks.{blocks_whole}
-use Rattle.p3_dft.proofs.Cosets.{point_of_one}
+use Rattle.p3_dft.proofs.Polynomials.Cosets.{point_of_one}
 use Rattle.p3_dft.proofs.Layers.Counts.{layer_counted, layers_counted}
 use Rattle.p3_dft.proofs.Layers.Sizes.{blocks_done, cells_by_blocks, done_shift, left_shift, some_rows}
 use Rattle.p3_dft.proofs.Networks.Entries.{high_entry}

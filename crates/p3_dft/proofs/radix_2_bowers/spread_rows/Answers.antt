@@ -2,8 +2,8 @@ use Rattle.std.proofs.Common.{◌≡◌, ℕ, zero, suc, ◌+◌, ◌*◌, ◌-�
 use Rattle.std.proofs.Math.Nat.{mod-eq_of_lt, mul-le-mul_right, two-pow-succ}
 use Rattle.std.proofs.lemmas.Nat.{pow_pos}
 use Rattle.p3_matrix.specs.RowMajor.{RowMajor, SameShape, height}
-use Rattle.p3_matrix.specs.Matrix.{Same, exchanged, matrix}
-use Rattle.p3_dft.proofs.Padding.{padded_above, padded_below, padded_high}
+use Rattle.p3_matrix.specs.Matrix.{Same, row_exchange, matrix}
+use Rattle.p3_dft.proofs.Rows.Padding.{padded_above, padded_below, padded_high}
 use Rattle.p3_dft.proofs.BitReversed.SpreadRows.{SpreadFrom, spread_none, spread_exchanged, spread_rows, spread_others}
 use Rattle.p3_dft.proofs.radix_2_bowers.spread_rows.Goals as goal
 
@@ -80,7 +80,7 @@ loop-done-preserved g c =
       rows = λ j inside.
           subst (λ (n : ℕ). SpreadFrom z (2 ^ a) h n (λ i. (matrix z m).entry i j) (λ i. (matrix z next).entry i j)) next_is
           (spread_exchanged z (2 ^ a) h row (λ i. (matrix z m).entry i j) (matrix z now) (matrix z next) j (two_places a c.if-added_bits-eq0.false) (omega arith) (omega arith) grown (omega (arith, wide))
-          (subst (λ (k : ℕ). Same (matrix z next) (exchanged row k (matrix z now))) place (c.exchange_rows.ensures.rows z))
+          (subst (λ (k : ℕ). Same (matrix z next) (row_exchange row k (matrix z now))) place (c.exchange_rows.ensures.rows z))
           (subst (λ (n : ℕ). SpreadFrom z (2 ^ a) h n (λ i. (matrix z m).entry i j) (λ i. (matrix z now).entry i j)) now_is (c.loop-done.invariant.rows j inside)));
     }
 

@@ -1,5 +1,5 @@
 use Rattle.std.proofs.Common.{refl, sym, ◌∙◌}
-use Rattle.p3_dft.proofs.ReversedRows.{transform_of_reversed}
+use Rattle.p3_dft.proofs.BitReversed.Rows.{transform_of_reversed}
 use Rattle.p3_dft.proofs.radix_2_dit.dit_matrix.Goals as goal
 
 pub returns-then-width-eq1-clause-values : goal.returns-then-width-eq1-clause-values

@@ -8,7 +8,7 @@ use Rattle.p3_matrix.proofs.BitReversal.{rev-rev}
 use Rattle.p3_dft.specs.Polynomials.{poly}
 use Rattle.p3_dft.specs.Twiddles.{AreTwiddles, layer_powers}
 use Rattle.p3_dft.proofs.Layers.Blocks.{halves_whole}
-use Rattle.p3_dft.proofs.Cosets.{point_of_one}
+use Rattle.p3_dft.proofs.Polynomials.Cosets.{point_of_one}
 use Rattle.p3_dft.proofs.Layers.Counts.{layer_counted, layers_counted}
 use Rattle.p3_dft.proofs.Networks.Formulas.{whole_layer_taken}
 use Rattle.p3_dft.proofs.Networks.LowRows.{low_row, low_rows, low_start, low_end}

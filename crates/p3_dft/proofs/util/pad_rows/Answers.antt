@@ -1,14 +1,14 @@
 use Rattle.std.proofs.Common.{ℕ, List, ◌≡◌, ◌*◌, ◌-◌, ◌%◌, ◌+◌, ◌^◌, ◌<◌, ◌≤◌, ◌++◌, zero, suc, length, replicate, sym, ◌∙◌, ap, ap₂, arith}
 use Rattle.std.proofs.Math.Nat.{mod-eq_of_lt, mul-one}
 use Rattle.p3_matrix.specs.RowMajor.{RowMajor, IsRowMajor, height}
-use Rattle.p3_dft.specs.Extensions.{padded}
-use Rattle.p3_dft.proofs.JobLists.{on_any_error}
-use Rattle.p3_dft.proofs.Padding.{padded_whole}
+use Rattle.p3_dft.specs.Extensions.{with_zeros}
+use Rattle.p3_dft.proofs.Calls.JobLists.{on_any_error}
+use Rattle.p3_dft.proofs.Rows.Padding.{padded_whole}
 use Rattle.p3_dft.proofs.util.pad_rows.Goals as goal
 
 -- what was added is what the definition says
 padded_is : {T : Type 0} (z : T) (m : RowMajor T) (a len again : ℕ) (old new : List T) → IsRowMajor m → height m * m.width * 2 ^ a < 2 ^ 64
-    → old ≡ m.values → len ≡ length old → again ≡ length old → new ≡ old ++ replicate ((len * 2 ^ a) % 2 ^ 64 - again) z → new ≡ (padded z m a).values
+    → old ≡ m.values → len ≡ length old → again ≡ length old → new ≡ old ++ replicate ((len * 2 ^ a) % 2 ^ 64 - again) z → new ≡ (with_zeros z m a).values
 padded_is z m a len again old new whole size same counted counted_again is =
     let n : len ≡ length m.values = counted ∙ ap length same in
     let fits : len * 2 ^ a < 2 ^ 64 = omega (arith, size, ap (λ k. k * 2 ^ a) (n ∙ sym whole.full)) in
@@ -21,7 +21,7 @@ new-requires-clause-full g c =
     let m = c.args.mat in
     let z = g.F.Field.ZERO in
     let whole = c.width-width.ensures.whole in
-    let is : c.extend_by_zeros.new.values.items ≡ (padded z m c.args.added_bits).values =
+    let is : c.extend_by_zeros.new.values.items ≡ (with_zeros z m c.args.added_bits).values =
     padded_is z m c.args.added_bits c.len.result c.len-2.result c.into_values-values.result.items _ whole c.requires.size c.into_values-values.ensures.values (omega (arith, c.len.ensures, c.into_values-values.result.ok.0))
     (omega (arith, c.len-2.ensures, c.into_values-values.result.ok.0))
     c.in_ok-extend_by_zeros.ensures.ok in

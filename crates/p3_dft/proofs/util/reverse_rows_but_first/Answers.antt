@@ -1,8 +1,8 @@
 use Rattle.std.proofs.Common.{◌≡◌, ℕ, ◌+◌, ◌*◌, ◌-◌, ◌/◌, length, ap₂, sym, ◌∙◌, arith, subst}
 use Rattle.p3_matrix.specs.RowMajor.{height}
 use Rattle.p3_matrix.specs.Matrix.{matrix}
-use Rattle.p3_dft.proofs.Opposite.{OppositeUntil}
-use Rattle.p3_dft.proofs.OpposedRows.{opposed_more, opposed_all}
+use Rattle.p3_dft.proofs.Rows.OppositePlaces.{OppositeUntil}
+use Rattle.p3_dft.proofs.Rows.OppositeRows.{opposed_more, opposed_all}
 use Rattle.p3_dft.proofs.util.reverse_rows_but_first.Goals as goal
 
 pub loop-row-preserved : goal.loop-row-preserved

@@ -1,7 +1,7 @@
 use Rattle.std.proofs.Common.{ℕ, ◌-◌, ◌<◌}
 use Rattle.p3_matrix.specs.RowMajor.{SameShape}
 use Rattle.p3_matrix.specs.Matrix.{matrix}
-use Rattle.p3_dft.proofs.Opposite.{OppositeUntil}
+use Rattle.p3_dft.proofs.Rows.OppositePlaces.{OppositeUntil}
 use Rattle.p3_dft.proofs.util.reverse_rows_but_first.Given as goal
 
 abbrev pub invariant-loop-row : goal.invariant-loop-row

@@ -2,11 +2,11 @@ use Rattle.std.proofs.Common.{◌≡◌, ℕ, ◌+◌, ◌*◌, ◌/◌, ◌^◌
 use Rattle.std.proofs.lemmas.Result.{IfOk-weaker}
 use Rattle.p3_field.specs.Ring.{count}
 use Rattle.p3_field.proofs.Powers.{count-power_of_two}
-use Rattle.p3_matrix.specs.BitOrder.{reversed}
+use Rattle.p3_matrix.specs.BitOrder.{bit_reversal}
 use Rattle.p3_matrix.specs.RowMajor.{RowMajor, height}
 use Rattle.p3_dft.specs.Extensions.{extension_bound}
 use Rattle.p3_dft.specs.Transforms.{values_of}
-use Rattle.p3_dft.proofs.Cosets.{coset_values}
+use Rattle.p3_dft.proofs.Polynomials.Cosets.{coset_values}
 use Rattle.p3_dft.proofs.BitReversed.Coefficients.{extension_of_coefficients, shifted_quotient, within_extension}
 use Rattle.p3_dft.proofs.radix_2_bowers.Radix2BowersTwoAdicSubgroupDft.coset_lde_batch.Goals as goal
 
@@ -19,8 +19,8 @@ returns-clause-values g c =
     let s = field.value c.args.shift in
     let inverse = field.value c.div_2exp_u64-inverse.result in
     let high : height m ≡ 2 ^ log = sym c.height.ensures.height ∙ c.log2_strict_usize-log_h.ensures.power in
-    let multiples = reversed log (values_of field c.interpolate_scaled.new.mat) in
-    let shifted = reversed log (values_of field c.weigh_reversed_rows.new.mat) in
+    let multiples = bit_reversal log (values_of field c.interpolate_scaled.new.mat) in
+    let shifted = bit_reversal log (values_of field c.weigh_reversed_rows.new.mat) in
     let tall : height c.interpolate_scaled.new.mat ≡ 2 ^ log = ap₂ (λ (l v : ℕ). l / v) c.in_ok-interpolate_scaled.ensures.shape.1 c.in_ok-interpolate_scaled.ensures.shape.0 ∙ high in
     let same = c.in_ok-weigh_reversed_rows.ensures.rows log tall in
     let undone : field.ring.mul (count field.ring (2 ^ log)) inverse ≡ field.ring.one =

@@ -1,9 +1,9 @@
 use Rattle.std.proofs.Common.{◌≡◌, ℕ, ◌+◌, ◌*◌, ◌/◌, ◌^◌, ◌≤◌, ap, ap₂, ◌∙◌, subst, arith}
 use Rattle.std.proofs.lemmas.Result.{IfOk-weaker}
-use Rattle.p3_matrix.specs.BitOrder.{reversed}
+use Rattle.p3_matrix.specs.BitOrder.{bit_reversal}
 use Rattle.p3_matrix.specs.RowMajor.{RowMajor, height}
 use Rattle.p3_dft.specs.Transforms.{values_of}
-use Rattle.p3_dft.proofs.Cosets.{coset_values}
+use Rattle.p3_dft.proofs.Polynomials.Cosets.{coset_values}
 use Rattle.p3_dft.proofs.BitReversed.Coefficients.{extension_of_answered, fits_as, shifted_by_one, within_extension}
 use Rattle.p3_dft.proofs.radix_2_bowers.Radix2BowersTwoAdicSubgroupDft.coset_lde_batch_with_transform.Goals as goal
 
@@ -33,11 +33,11 @@ returns-clause-values g c =
     let shape = c.requires.shape told answered (are.high ∙ stored, are.wide ∙ ap (λ (n : RowMajor g.row.F.Denot). n.width) c.into_row_major_matrix-mat.ensures) c.transform-changed.ensures in
     let same = c.in_ok-weigh_reversed_rows.ensures.rows log (shape.0 ∙ fits.high) in
     let one = ap field.value c.ONE.ensures ∙ g.met.F.Field.one_law in
-    let on_coset = shifted_by_one field.ring _ s (reversed log (values_of field answered)) (reversed log (values_of field c.weigh_reversed_rows.new.mat)) one same in
+    let on_coset = shifted_by_one field.ring _ s (bit_reversal log (values_of field answered)) (bit_reversal log (values_of field c.weigh_reversed_rows.new.mat)) one same in
     IfOk-weaker c.extend.result _ _
     (λ out given.
     extension_of_answered field g.F.TwoAdicField.generator _ m told answered out a log s fits.high (rw c.into_row_major_matrix-mat.ensures at are) c.transform-changed.ensures shape.0
-    (coset_values field.ring (λ n. field.value (g.F.TwoAdicField.generator n)) (reversed log (values_of field answered)) (reversed log (values_of field c.weigh_reversed_rows.new.mat)) (log + a) s (values_of field out)
+    (coset_values field.ring (λ n. field.value (g.F.TwoAdicField.generator n)) (bit_reversal log (values_of field answered)) (bit_reversal log (values_of field c.weigh_reversed_rows.new.mat)) (log + a) s (values_of field out)
     on_coset given))
     (c.extend.ensures.values log (same.high ∙ shape.0 ∙ fits.high))
 

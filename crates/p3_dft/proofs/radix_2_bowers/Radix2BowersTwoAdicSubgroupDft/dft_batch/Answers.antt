@@ -1,13 +1,13 @@
 use Rattle.std.proofs.Common.{◌≡◌, ◌^◌, ap, ◌∙◌, sym}
-use Rattle.p3_matrix.specs.BitOrder.{reversed}
+use Rattle.p3_matrix.specs.BitOrder.{bit_reversal}
 use Rattle.p3_matrix.specs.Matrix.{matrix}
 use Rattle.p3_matrix.specs.RowMajor.{height}
 use Rattle.p3_matrix.proofs.BitReversal.{reversed_back}
 use Rattle.p3_matrix.proofs.Matrices.{same_sym}
 use Rattle.p3_dft.specs.Transforms.{values_of}
-use Rattle.p3_dft.proofs.Cosets.{coefficients_same}
-use Rattle.p3_dft.proofs.Inverses.{mapped_same}
-use Rattle.p3_dft.proofs.ReversedRows.{transform_of_row}
+use Rattle.p3_dft.proofs.Polynomials.Cosets.{coefficients_same}
+use Rattle.p3_dft.proofs.Polynomials.Inverses.{mapped_same}
+use Rattle.p3_dft.proofs.BitReversed.Rows.{transform_of_row}
 use Rattle.p3_dft.proofs.radix_2_bowers.Radix2BowersTwoAdicSubgroupDft.dft_batch.Goals as goal
 
 pub returns-then-height-eq1-clause-values : goal.returns-then-height-eq1-clause-values
@@ -21,8 +21,8 @@ returns-clause-values g c k high =
     let m = c.into_row_major_matrix-mat.result in
     let r = c.reverse_rows.new.mat in
     let tall : height m ≡ 2 ^ k = ap height c.into_row_major_matrix-mat.ensures ∙ high in
-    let back = mapped_same field.value (matrix field.ZERO r) (reversed k (matrix field.ZERO m)) (c.reverse_rows.ensures.rows k tall field.ZERO) in
+    let back = mapped_same field.value (matrix field.ZERO r) (bit_reversal k (matrix field.ZERO m)) (c.reverse_rows.ensures.rows k tall field.ZERO) in
     rw (← c.into_row_major_matrix-mat.ensures)
-    (coefficients_same field.ring (λ n. field.value (g.F.TwoAdicField.generator n)) (reversed k (values_of field r)) (values_of field m) k field.ring.one (values_of field c.evaluate.new.mat)
-    (same_sym (values_of field m) (reversed k (values_of field r)) (reversed_back k (values_of field r) (values_of field m) tall back))
+    (coefficients_same field.ring (λ n. field.value (g.F.TwoAdicField.generator n)) (bit_reversal k (values_of field r)) (values_of field m) k field.ring.one (values_of field c.evaluate.new.mat)
+    (same_sym (values_of field m) (bit_reversal k (values_of field r)) (reversed_back k (values_of field r) (values_of field m) tall back))
     (c.in_ok-evaluate.ensures.values k (back.high ∙ tall)))

@@ -1,13 +1,13 @@
 use Rattle.std.proofs.Common.{◌≡◌, ◌^◌, refl, ap, ◌∙◌, sym}
-use Rattle.p3_matrix.specs.BitOrder.{reversed}
+use Rattle.p3_matrix.specs.BitOrder.{bit_reversal}
 use Rattle.p3_matrix.specs.Matrix.{matrix}
 use Rattle.p3_matrix.specs.RowMajor.{height}
 use Rattle.p3_matrix.proofs.Matrices.{same_sym}
 use Rattle.p3_dft.specs.Transforms.{values_of}
-use Rattle.p3_dft.proofs.Interpolation.{same_coefficients}
-use Rattle.p3_dft.proofs.Inverses.{mapped_same}
+use Rattle.p3_dft.proofs.Polynomials.Interpolation.{same_coefficients}
+use Rattle.p3_dft.proofs.Polynomials.Inverses.{mapped_same}
 use Rattle.p3_dft.proofs.BitReversed.Coefficients.{interpolation_of_coefficients}
-use Rattle.p3_dft.proofs.ReversedRows.{transform_of_row}
+use Rattle.p3_dft.proofs.BitReversed.Rows.{transform_of_row}
 use Rattle.p3_dft.proofs.radix_2_bowers.Radix2BowersTwoAdicSubgroupDft.idft_batch.Goals as goal
 
 pub returns-then-height-eq1-clause-coefficients : goal.returns-then-height-eq1-clause-coefficients
@@ -33,7 +33,7 @@ returns-clause-coefficients g c =
     let are = c.in_ok-interpolate.ensures.coefficients log high in
     rw (← c.into_row_major_matrix-mat.ensures)
     (interpolation_of_coefficients field g.F.TwoAdicField.generator g.met.F.TwoAdicField.roots_law m out log c.requires.within high
-    (same_coefficients field.ring g.met.F.TwoAdicField.roots_law (values_of field m) log field.ring.one (reversed log (values_of field reversed_coefficients)) (values_of field out)
-    (same_sym (values_of field out) (reversed log (values_of field reversed_coefficients))
-    (mapped_same field.value (matrix field.ZERO out) (reversed log (matrix field.ZERO reversed_coefficients)) (c.reverse_rows.ensures.rows log (are.high ∙ high) field.ZERO)))
+    (same_coefficients field.ring g.met.F.TwoAdicField.roots_law (values_of field m) log field.ring.one (bit_reversal log (values_of field reversed_coefficients)) (values_of field out)
+    (same_sym (values_of field out) (bit_reversal log (values_of field reversed_coefficients))
+    (mapped_same field.value (matrix field.ZERO out) (bit_reversal log (matrix field.ZERO reversed_coefficients)) (c.reverse_rows.ensures.rows log (are.high ∙ high) field.ZERO)))
     are))

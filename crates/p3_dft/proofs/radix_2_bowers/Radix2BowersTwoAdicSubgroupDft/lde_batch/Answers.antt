@@ -1,6 +1,6 @@
 use Rattle.std.proofs.Common.{◌≡◌, ◌^◌, ap, ◌∙◌}
 use Rattle.std.proofs.lemmas.Result.{IfOk-weaker}
-use Rattle.p3_matrix.specs.BitOrder.{reversed}
+use Rattle.p3_matrix.specs.BitOrder.{bit_reversal}
 use Rattle.p3_matrix.specs.RowMajor.{height}
 use Rattle.p3_dft.specs.Transforms.{values_of}
 use Rattle.p3_dft.proofs.BitReversed.Coefficients.{extension_of_coefficients}
@@ -16,6 +16,6 @@ returns-clause-values g c =
     rw (← c.into_row_major_matrix-mat.ensures)
     (IfOk-weaker c.extend.result _ _
     (λ out given.
-    extension_of_coefficients field g.F.TwoAdicField.generator m out (reversed log (values_of field c.interpolate.new.mat)) c.args.added_bits log field.ring.one high are
+    extension_of_coefficients field g.F.TwoAdicField.generator m out (bit_reversal log (values_of field c.interpolate.new.mat)) c.args.added_bits log field.ring.one high are
     given)
     (c.extend.ensures.values log (are.high ∙ high)))

@@ -4,7 +4,7 @@ use Rattle.p3_matrix.proofs.TwoPowers.{log_same}
 use Rattle.p3_dft.specs.Twiddles.{Tabled, IsPrepared, layer_powers}
 use Rattle.p3_dft.proofs.Tables.MoreTwiddles.{fewer_layers}
 use Rattle.p3_dft.proofs.Tables.PreparedHeights.{prepared_until, until_prepared}
-use Rattle.p3_dft.proofs.ReversedRows.{transform_of_row}
+use Rattle.p3_dft.proofs.BitReversed.Rows.{transform_of_row}
 use Rattle.p3_dft.proofs.radix_2_dit.Radix2DitTwoAdicSubgroupDft.dft_batch.Goals as goal
 
 not_ok : {A E : Type 0} (r : Result A E) (e : E) → r ≡ Err e → IsOk r → ⊥

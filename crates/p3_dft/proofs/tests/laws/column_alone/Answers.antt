@@ -1,4 +1,4 @@
-use Rattle.p3_dft.proofs.Laws.{transform_of_column}
+use Rattle.p3_dft.proofs.Laws.TwoCalls.{transform_of_column}
 use Rattle.p3_dft.proofs.tests.laws.column_alone.Goals as goal
 
 pub returns : goal.returns

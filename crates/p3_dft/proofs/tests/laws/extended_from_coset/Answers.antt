@@ -1,4 +1,4 @@
-use Rattle.p3_dft.proofs.Laws.{extension_of_coset}
+use Rattle.p3_dft.proofs.Laws.TwoCalls.{extension_of_coset}
 use Rattle.std.proofs.lemmas.Result.{IfOk-weaker}
 use Rattle.p3_dft.proofs.tests.laws.extended_from_coset.Goals as goal
 

@@ -1,4 +1,4 @@
-use Rattle.p3_dft.proofs.ExtendedTransforms.{extension_of_same}
+use Rattle.p3_dft.proofs.Calls.ExtendedTransforms.{extension_of_same}
 use Rattle.std.proofs.Common.{of_calls}
 use Rattle.std.proofs.lemmas.Result.{IfOk-weaker}
 use Rattle.p3_dft.proofs.tests.laws.extended_unchanged.Goals as goal

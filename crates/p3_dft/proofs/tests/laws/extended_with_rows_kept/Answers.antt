@@ -1,4 +1,4 @@
-use Rattle.p3_dft.proofs.Laws.{extension_keeps_rows}
+use Rattle.p3_dft.proofs.Laws.TwoCalls.{extension_keeps_rows}
 use Rattle.std.proofs.lemmas.Result.{IfOk-weaker}
 use Rattle.p3_dft.proofs.tests.laws.extended_with_rows_kept.Goals as goal
 

@@ -1,4 +1,4 @@
-use Rattle.p3_dft.proofs.Laws.{exponent_within}
+use Rattle.p3_dft.proofs.Laws.TwoCalls.{exponent_within}
 use Rattle.p3_dft.proofs.tests.laws.generator_of.Goals as goal
 
 pub two_adic_generator-requires : goal.two_adic_generator-requires

@@ -1,4 +1,4 @@
-use Rattle.p3_dft.proofs.Laws.{low_degree}
+use Rattle.p3_dft.proofs.Laws.TwoCalls.{low_degree}
 use Rattle.std.proofs.lemmas.Result.{IfOk-weaker}
 use Rattle.p3_dft.proofs.tests.laws.inverse_of_extended.Goals as goal
 

@@ -1,5 +1,5 @@
 use Rattle.std.proofs.Common.{sym}
-use Rattle.p3_dft.proofs.Laws.{one_list_of_answers}
+use Rattle.p3_dft.proofs.Laws.TwoCalls.{one_list_of_answers}
 use Rattle.p3_dft.proofs.tests.laws.jobs_agree.Goals as goal
 
 pub returns : goal.returns

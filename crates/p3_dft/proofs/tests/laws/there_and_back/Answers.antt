@@ -1,4 +1,4 @@
-use Rattle.p3_dft.proofs.Laws.{inverse_of_transform}
+use Rattle.p3_dft.proofs.Laws.TwoCalls.{inverse_of_transform}
 use Rattle.std.proofs.lemmas.Result.{IfOk-weaker}
 use Rattle.p3_dft.proofs.tests.laws.there_and_back.Goals as goal
 

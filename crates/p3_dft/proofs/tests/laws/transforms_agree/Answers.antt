@@ -1,6 +1,6 @@
 use Rattle.std.proofs.Common.{sym, ◌∙◌}
-use Rattle.p3_dft.proofs.Equality.{equal_of_same}
-use Rattle.p3_dft.proofs.OneAnswer.{one_transform}
+use Rattle.p3_dft.proofs.Laws.Equality.{equal_of_same}
+use Rattle.p3_dft.proofs.Laws.OneAnswer.{one_transform}
 use Rattle.p3_dft.proofs.tests.laws.transforms_agree.Goals as goal
 
 pub returns : goal.returns

@@ -1,4 +1,4 @@
-use Rattle.p3_dft.proofs.Laws.{transform_of_combination}
+use Rattle.p3_dft.proofs.Laws.TwoCalls.{transform_of_combination}
 use Rattle.p3_dft.proofs.tests.laws.transforms_of_a_sum.Goals as goal
 
 pub returns : goal.returns

@@ -1,4 +1,4 @@
-use Rattle.p3_dft.proofs.Laws.{transform_of_vector}
+use Rattle.p3_dft.proofs.Laws.TwoCalls.{transform_of_vector}
 use Rattle.std.proofs.lemmas.Result.{IfOk-weaker}
 use Rattle.p3_dft.proofs.tests.laws.values_at_points.Goals as goal
 

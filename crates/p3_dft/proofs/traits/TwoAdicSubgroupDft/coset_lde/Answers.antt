@@ -1,5 +1,5 @@
 use Rattle.std.proofs.Common.{arith}
-use Rattle.p3_dft.proofs.ExtendedTransforms.{extension_of_vectors}
+use Rattle.p3_dft.proofs.Calls.ExtendedTransforms.{extension_of_vectors}
 use Rattle.p3_dft.proofs.traits.TwoAdicSubgroupDft.coset_lde.Goals as goal
 
 pub returns-clause-values : goal.returns-clause-values

@@ -4,14 +4,14 @@ use Rattle.std.proofs.Math.Nat.{mul-le-mul_right}
 use Rattle.std.proofs.lemmas.Bool.{cases_lt, eq-eqb, ne_eqb}
 use Rattle.std.proofs.lemmas.List.{get_or_past}
 use Rattle.p3_matrix.specs.RowMajor.{RowMajor, SameShape, height}
-use Rattle.p3_matrix.specs.Matrix.{matrix, exchanged, Same}
-use Rattle.p3_dft.specs.Cosets.{opposed}
-use Rattle.p3_dft.proofs.Opposite.{OppositeUntil, opposite_more, opposite_all}
+use Rattle.p3_matrix.specs.Matrix.{matrix, row_exchange, Same}
+use Rattle.p3_dft.specs.Cosets.{opposite_rows}
+use Rattle.p3_dft.proofs.Rows.OppositePlaces.{OppositeUntil, opposite_more, opposite_all}
 
 module _ {T : Type 0} (d : T) where
   -- one more pair of rows, row and n - row
   pub opposed_more : (before now next : RowMajor T) (n row p : ℕ) → row ≡ p + 1 → height now ≡ n → length now.values ≡ n * now.width → 2 * row < n
-      → SameShape next now → Same (matrix d next) (exchanged row (n - row) (matrix d now)) → (j : ℕ) → j < now.width
+      → SameShape next now → Same (matrix d next) (row_exchange row (n - row) (matrix d now)) → (j : ℕ) → j < now.width
       → OppositeUntil n p (λ i. (matrix d before).entry i j) (λ i. (matrix d now).entry i j)
       → OppositeUntil n row (λ i. (matrix d before).entry i j) (λ i. (matrix d next).entry i j)
   opposed_more before now next n row p is tall size low shape same j inside done =
@@ -21,7 +21,7 @@ module _ {T : Type 0} (d : T) where
       (subst (λ (q : ℕ). (matrix d next).entry (n - q) j ≡ (matrix d now).entry q j) is far)
       (λ r a b. others r (λ e. a (e ∙ is)) (λ e. b (e ∙ ap (λ q. n - q) is))))
     where
-      at : (r : ℕ) → r < n → (matrix d next).entry r j ≡ (exchanged row (n - row) (matrix d now)).entry r j
+      at : (r : ℕ) → r < n → (matrix d next).entry r j ≡ (row_exchange row (n - row) (matrix d now)).entry r j
       at r below = same.alike r j (omega (arith, same.high, tall)) (omega (arith, same.wide, inside))
 
       near : (matrix d next).entry row j ≡ (matrix d now).entry (n - row) j
@@ -43,7 +43,7 @@ module _ {T : Type 0} (d : T) where
   -- all pairs
   pub opposed_all : (before after : RowMajor T) (n m : ℕ) → height before ≡ n → SameShape after before → 2 * m < n → n ≤ 2 * m + 2
       → ((j : ℕ) → j < before.width → OppositeUntil n m (λ i. (matrix d before).entry i j) (λ i. (matrix d after).entry i j))
-      → Same (matrix d after) (opposed (matrix d before))
+      → Same (matrix d after) (opposite_rows (matrix d before))
   opposed_all before after n m tall shape low high done = record {
     high = ap₂ (λ (l w : ℕ). l / w) shape.1 shape.0;
     wide = shape.0;

@@ -2,8 +2,8 @@
 use Rattle.std.proofs.Common.{◌≡◌, ℕ, ◌+◌, ◌*◌, ◌<◌, List, get_or, take, drop, sym, ap, ◌∙◌, arith}
 use Rattle.p3_field.specs.Ring.{Ring, power}
 use Rattle.p3_dft.specs.Polynomials.{poly}
-use Rattle.p3_dft.proofs.Rows.{part_at}
-use Rattle.p3_dft.proofs.Polynomials.{poly-none, poly-more}
+use Rattle.p3_dft.proofs.Rows.Overwritten.{part_at}
+use Rattle.p3_dft.proofs.Polynomials.ByIndex.{poly-none, poly-more}
 
 module _ {T A : Type 0} (r : Ring A) (value : T → A) (d : T) where
   -- entry k of sums is the sum of the first n terms, at x, of the polynomial in column k

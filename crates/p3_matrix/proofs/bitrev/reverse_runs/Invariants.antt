@@ -1,7 +1,7 @@
 use Rattle.std.proofs.Common.{◌≡◌, ◌^◌, ◌<◌}
 use Rattle.p3_matrix.specs.BitOrder.{rev}
 use Rattle.p3_matrix.proofs.HalfReversed.{IsRowsHalfReversed}
-use Rattle.p3_matrix.proofs.bitrev.reverse_rows.Given as goal
+use Rattle.p3_matrix.proofs.bitrev.reverse_runs.Given as goal
 
 abbrev pub invariant-loop-row : goal.invariant-loop-row
 invariant-loop-row g l = record {

@@ -2,7 +2,7 @@
 use Rattle.std.proofs.Common.{◌≡◌, ◌≢◌, ℕ, zero, suc, ◌+◌, ◌*◌, ◌-◌, ◌%◌, ◌<◌, ◌≤◌, sym, ap, ◌∙◌, subst, arith, ◌⊎◌, inl, inr, mod-lt, mod-eq_of_lt}
 use Rattle.std.proofs.lemmas.Bool.{cases_lt}
 use native.Mathlib.Nat.{mod_self}
-use Rattle.p3_dft.proofs.Pairs.{Apart, PairsDone, pairs_more}
+use Rattle.p3_dft.proofs.Rows.Pairs.{Apart, PairsDone, pairs_more}
 
 -- the place in which row j stands, of n
 abbrev pub opposite : ℕ → ℕ → ℕ

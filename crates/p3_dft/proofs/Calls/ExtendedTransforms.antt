@@ -4,25 +4,25 @@ use Rattle.std.proofs.lemmas.Nat.{pow-add}
 use Rattle.p3_field.specs.declared.fields.Field.{Ghosts as FieldMembers}
 use Rattle.p3_matrix.specs.RowMajor.{RowMajor, IsRowMajor, height}
 use Rattle.p3_matrix.specs.Matrix.{Same, matrix}
-use Rattle.p3_dft.specs.Cosets.{shifted}
-use Rattle.p3_dft.specs.Extensions.{IsExtension, IsTransformedExtension, laid, padded}
+use Rattle.p3_dft.specs.Cosets.{coset_shift}
+use Rattle.p3_dft.specs.Extensions.{IsExtension, IsTransformedExtension, arrangement, with_zeros}
 use Rattle.p3_dft.specs.Shapes.{HasShapeOf}
 use Rattle.p3_dft.specs.Transforms.{values_of, IsInterpolation, IsTransform}
 use Rattle.p3_dft.specs.declared.traits.Layout.{Layout}
 use Rattle.p3_dft.specs.declared.traits.Layout.TheVariants.{Natural}
-use Rattle.p3_dft.proofs.Cosets.{coefficients_same, coset_values}
-use Rattle.p3_dft.proofs.Layouts.{laid_back, laid_height, laid_once, laid_values}
-use Rattle.p3_dft.proofs.Padding.{padded_high, values_of_padded}
+use Rattle.p3_dft.proofs.Polynomials.Cosets.{coefficients_same, coset_values}
+use Rattle.p3_dft.proofs.BitReversed.Layouts.{laid_back, laid_height, laid_once, laid_values}
+use Rattle.p3_dft.proofs.Rows.Padding.{padded_high, values_of_padded}
 
 module _ {F : Type 0} (f : FieldMembers F) (generator : ℕ → F) where
   -- coefficients in the order of a layout, what a transform answers, that in natural order again, with rows of zeros, on the larger coset
   pub extension_of_parts : f.value f.ZERO ≡ f.ring.zero → (may_answer : RowMajor F → RowMajor F → Type 0) (layout : Layout) (m coefficients told answered back out : RowMajor F) (a : ℕ) (s : f.Element)
       → IsInterpolation f generator m f.ring.one coefficients
-      → ((k : ℕ) → height coefficients ≡ 2 ^ k → (d : F) → Same (matrix d told) (laid layout k (matrix d coefficients)))
+      → ((k : ℕ) → height coefficients ≡ 2 ^ k → (d : F) → Same (matrix d told) (arrangement layout k (matrix d coefficients)))
       → may_answer told answered → height answered ≡ height m
-      → ((k : ℕ) → height answered ≡ 2 ^ k → (d : F) → Same (matrix d back) (laid layout k (matrix d answered)))
+      → ((k : ℕ) → height answered ≡ 2 ^ k → (d : F) → Same (matrix d back) (arrangement layout k (matrix d answered)))
       → height back ≡ height m → IsRowMajor back
-      → IsTransform f generator (padded f.ZERO back a) s out
+      → IsTransform f generator (with_zeros f.ZERO back a) s out
       → IsTransformedExtension f generator may_answer layout m a s out
   extension_of_parts zero_is may_answer layout m coefficients told answered back out a s are there called tall again high whole values = record {
     coefficients = values_of f coefficients;
@@ -44,8 +44,8 @@ module _ {F : Type 0} (f : FieldMembers F) (generator : ℕ → F) where
   pub extension_of_shifted : f.value f.ZERO ≡ f.ring.zero → (may_answer : RowMajor F → RowMajor F → Type 0) (m coefficients answered scaled out : RowMajor F) (a : ℕ) (s : f.Element)
       → IsInterpolation f generator m f.ring.one coefficients
       → may_answer coefficients answered → height answered ≡ height m
-      → Same (values_of f scaled) (shifted f.ring s (values_of f answered)) → IsRowMajor scaled
-      → IsTransform f generator (padded f.ZERO scaled a) f.ring.one out
+      → Same (values_of f scaled) (coset_shift f.ring s (values_of f answered)) → IsRowMajor scaled
+      → IsTransform f generator (with_zeros f.ZERO scaled a) f.ring.one out
       → IsTransformedExtension f generator may_answer Natural m a s out
   extension_of_shifted zero_is may_answer m coefficients answered scaled out a s are called tall same whole values = record {
     coefficients = values_of f coefficients;
@@ -72,7 +72,7 @@ module _ {F : Type 0} (f : FieldMembers F) (generator : ℕ → F) where
     extended = λ k e.
         let same = gives_back given.told given.answered given.called in
         let there = given.told_in_layout k e in
-        let again : Same (values_of f given.told) (laid layout k given.changed) = subst (λ (r : RowMajor F). Same (values_of f r) (laid layout k given.changed)) same (given.answered_in_layout k e) in
+        let again : Same (values_of f given.told) (arrangement layout k given.changed) = subst (λ (r : RowMajor F). Same (values_of f r) (arrangement layout k given.changed)) same (given.answered_in_layout k e) in
         let high = (given.are_coefficients k e).high ∙ e in
         coefficients_same f.ring (λ n. f.value (generator n)) given.changed given.coefficients (k + a) s (values_of f out)
         (laid_once layout k (values_of f given.told) given.changed given.coefficients (laid_height layout k given.changed (values_of f given.told) given.coefficients again there ∙ high) high again there)

@@ -2,10 +2,10 @@
 use Rattle.std.proofs.Common.{◌≡◌, ℕ, ◌+◌, ◌-◌, ◌<◌, ◌≤◌, ◌^◌, ltb, cond, lt-ltb, le-ltb, refl, sym, ap, ap₂, ◌∙◌, arith}
 use Rattle.p3_field.specs.Ring.{Ring}
 use Rattle.p3_matrix.specs.Matrix.{Matrix}
-use Rattle.p3_dft.specs.Cosets.{point, IsValues, shifted}
+use Rattle.p3_dft.specs.Cosets.{point, IsValues, coset_shift}
 use Rattle.p3_dft.specs.Polynomials.{poly}
-use Rattle.p3_dft.proofs.Cosets.{entry-poly, is_values, point-mul, point_of_one, values_from}
-use Rattle.p3_dft.proofs.Polynomials.{poly_same, poly_padded, poly-add, poly-scaled, poly-times}
+use Rattle.p3_dft.proofs.Polynomials.Cosets.{entry-poly, is_values, point-mul, point_of_one, values_from}
+use Rattle.p3_dft.proofs.Polynomials.ByIndex.{poly_same, poly_padded, poly-add, poly-scaled, poly-times}
 
 -- a times x and b times y, entry by entry
 abbrev pub combination : {A : Type 0} → Ring A → A → Matrix A → A → Matrix A → Matrix A
@@ -50,9 +50,9 @@ module _ {A : Type 0} (R : Ring A) (g : ℕ → A) where
       v
 
   -- the values on the coset of s are those of the shifted coefficients on the subgroup
-  pub values_of_shifted : (c y : Matrix A) (n : ℕ) (s : A) → IsValues R g c n s y → IsValues R g (shifted R s c) n R.one y
+  pub values_of_shifted : (c y : Matrix A) (n : ℕ) (s : A) → IsValues R g c n s y → IsValues R g (coset_shift R s c) n R.one y
   values_of_shifted c y n s v =
-      values_from R g (shifted R s c) c n R.one s y refl
+      values_from R g (coset_shift R s c) c n R.one s y refl
       (λ i j p q.
       sym (poly-scaled R c.height (λ u. c.entry u j) s (point R g n R.one i)
       ∙ ap (poly R c.height (λ u. c.entry u j)) (ap (R.mul s) (point_of_one R g n i) ∙ sym (point-mul R g n s i))))

@@ -8,8 +8,8 @@ use Rattle.p3_field.proofs.Powers.{power-zero}
 use Rattle.p3_matrix.specs.Matrix.{Matrix, Same, column, list_of_rows}
 use Rattle.p3_matrix.proofs.Matrices.{same_sym, same_trans, list_of_rows_same, same_of_rows}
 use Rattle.p3_dft.specs.Polynomials.{value, poly}
-use Rattle.p3_dft.specs.Cosets.{point, IsValues, rows_of_values, shifted}
-use Rattle.p3_dft.proofs.Polynomials.{poly_same, poly-scaled, poly_padded, value-index}
+use Rattle.p3_dft.specs.Cosets.{point, IsValues, rows_of_values, coset_shift}
+use Rattle.p3_dft.proofs.Polynomials.ByIndex.{poly_same, poly-scaled, poly_padded, value-index}
 
 -- the value of a column, by index
 pub value-column : {A : Type 0} (R : Ring A) (c : Matrix A) (j : ℕ) (x : A) → value R (column c j) x ≡ poly R c.height (λ i. c.entry i j) x
@@ -104,7 +104,7 @@ module _ {A : Type 0} (R : Ring A) (g : ℕ → A) where
       ∙ ap (λ h. poly R h (λ u. d.entry u j) (point R g n s i)) e.high) v
 
   -- the values of the shifted coefficients on a coset of t are the values on the coset of s t
-  pub shifted_values : (c d : Matrix A) (n : ℕ) (s t : A) (out : Matrix A) → Same d (shifted R s c) → IsValues R g d n t out → IsValues R g c n (s ⊗ t) out
+  pub shifted_values : (c d : Matrix A) (n : ℕ) (s t : A) (out : Matrix A) → Same d (coset_shift R s c) → IsValues R g d n t out → IsValues R g c n (s ⊗ t) out
   shifted_values c d n s t out e v =
       values_from c d n (s ⊗ t) t out e.wide (λ i j p q. ap (λ h. poly R h (λ u. d.entry u j) (point R g n t i)) e.high
       ∙ poly_same R c.height (λ u. d.entry u j) (λ u. c.entry u j ⊗ power R s u) (point R g n t i) (λ u l. e.alike u j (omega (arith, e.high)) (omega (arith, e.wide)))
@@ -115,7 +115,7 @@ module _ {A : Type 0} (R : Ring A) (g : ℕ → A) where
       moved n s t i = ap (λ x. s ⊗ x) (point-mul n t i) ∙ sym (R.mul_assoc s t (power R (g n) i)) ∙ sym (point-mul n (s ⊗ t) i)
 
   -- so a transform on the subgroup, of shifted coefficients, is one on the coset
-  pub coset_values : (c d : Matrix A) (n : ℕ) (s : A) (out : Matrix A) → Same d (shifted R s c) → IsValues R g d n 𝟙 out → IsValues R g c n s out
+  pub coset_values : (c d : Matrix A) (n : ℕ) (s : A) (out : Matrix A) → Same d (coset_shift R s c) → IsValues R g d n 𝟙 out → IsValues R g c n s out
   coset_values c d n s out e v = subst (λ (x : A). IsValues R g c n x out) (R.mul_one s) (shifted_values c d n s 𝟙 out e v)
 
   -- rows of zeros below the coefficients change no value

@@ -2,8 +2,8 @@ use Rattle.std.proofs.Common.{◌≡◌, ◌^◌, ◌<◌, sym, arith}
 use Rattle.std.proofs.lemmas.Nat.{one_shl, pow_pos}
 use Rattle.p3_matrix.proofs.BitReversal.{rev_of_zero}
 use Rattle.p3_matrix.proofs.HalfReversed.{rows_half_reversed_none, rows_half_reversed_more, rows_half_reversed_kept, rows_half_reversed_all}
-use Rattle.p3_matrix.proofs.bitrev.reverse_rows.Goals as goal
-use Rattle.p3_matrix.proofs.bitrev.reverse_rows.Goals.{then-row-mirror, else-row-mirror}
+use Rattle.p3_matrix.proofs.bitrev.reverse_runs.Goals as goal
+use Rattle.p3_matrix.proofs.bitrev.reverse_runs.Goals.{then-row-mirror, else-row-mirror}
 
 pub loop-row-init : goal.loop-row-init
 loop-row-init g c = record {

@@ -9,7 +9,7 @@ use Rattle.p3_matrix.specs.Matrix.{Matrix, Same}
 use Rattle.p3_dft.specs.Cosets.{IsQuotient}
 use Rattle.p3_dft.specs.Polynomials.{poly}
 use Rattle.p3_dft.specs.Transforms.{values_of, IsTransform}
-use Rattle.p3_dft.proofs.Cosets.{is_subgroup_values}
+use Rattle.p3_dft.proofs.Polynomials.Cosets.{is_subgroup_values}
 use Rattle.p3_matrix.proofs.TwoPowers.{log_same}
 
 -- the height of a stored matrix from the number of its entries

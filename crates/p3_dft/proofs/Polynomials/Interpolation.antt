@@ -11,10 +11,10 @@ use Rattle.p3_field.proofs.Parity.{even_or_odd}
 use Rattle.p3_field.proofs.Roots.{AreInverseRoots, inverse_roots_sym, inverse_root, inverse_roots, inverse_undoes, inverse_power, root_twice, root_across, root_round, root_squared, root_all, doubled, doubled_add, doubled-power, halved, halved-power, halved-doubled}
 use Rattle.p3_matrix.specs.Matrix.{Matrix, Same}
 use Rattle.p3_dft.specs.Polynomials.{poly}
-use Rattle.p3_dft.specs.Cosets.{point, IsValues, AreCoefficients, shifted}
-use Rattle.p3_dft.proofs.Polynomials.{poly_same, poly-one, poly-append, poly-split, poly-add, poly-neg, poly-times, poly-scaled}
-use Rattle.p3_dft.proofs.Opposite.{opposite, opposite-zero, opposite_above_zero, opposite-lt}
-use Rattle.p3_dft.proofs.Cosets.{point-mul, point_of_one, entry-poly, is_values, values_same, coefficients_same, coset_values}
+use Rattle.p3_dft.specs.Cosets.{point, IsValues, AreCoefficients, coset_shift}
+use Rattle.p3_dft.proofs.Polynomials.ByIndex.{poly_same, poly-one, poly-append, poly-split, poly-add, poly-neg, poly-times, poly-scaled}
+use Rattle.p3_dft.proofs.Rows.OppositePlaces.{opposite, opposite-zero, opposite_above_zero, opposite-lt}
+use Rattle.p3_dft.proofs.Polynomials.Cosets.{point-mul, point_of_one, entry-poly, is_values, values_same, coefficients_same, coset_values}
 
 -- the values of c at the powers of the n-th root
 unfoldable pub transform : {A : Type 0} → Ring A → (ℕ → A) → ℕ → (ℕ → A) → ℕ → A
@@ -251,7 +251,7 @@ module _ {A : Type 0} (R : Ring A) {g : ℕ → A} {bits : ℕ} (G : AreRoots R 
       forward_inverse m y c k b h v high wide (λ i j p q. ap (λ x. x ⊗ c.entry i j) (sym (count-power_of_two R k)) ∙ e i j p q)
 
   -- coefficients on the subgroup, row i times the i-th power of the inverse of s, are coefficients on the coset of s
-  pub coset_coefficients : (m c d : Matrix A) (k : ℕ) (s t : A) → IsInverse R s t → AreCoefficients R g m k 𝟙 c → Same d (shifted R t c) → AreCoefficients R g m k s d
+  pub coset_coefficients : (m c d : Matrix A) (k : ℕ) (s t : A) → IsInverse R s t → AreCoefficients R g m k 𝟙 c → Same d (coset_shift R t c) → AreCoefficients R g m k s d
   coset_coefficients m c d k s t inverse a e = record {
     high = e.high ∙ a.high;
     wide = e.wide ∙ a.wide;

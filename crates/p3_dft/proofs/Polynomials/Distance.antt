@@ -8,8 +8,8 @@ use Rattle.p3_field.proofs.Parity.{even_or_odd}
 use Rattle.p3_field.proofs.Roots.{root_twice, root_all, root_across, root_whole}
 use Rattle.p3_dft.specs.Polynomials.{poly}
 use Rattle.p3_dft.specs.Cosets.{point}
-use Rattle.p3_dft.proofs.Polynomials.{poly-none, poly-add, poly-neg}
-use Rattle.p3_dft.proofs.Cosets.{point-mul}
+use Rattle.p3_dft.proofs.Polynomials.ByIndex.{poly-none, poly-add, poly-neg}
+use Rattle.p3_dft.proofs.Polynomials.Cosets.{point-mul}
 
 zero_of_product : {A : Type 0} (R : Ring A) (a b : A) → IsInvertible R a → R.mul a b ≡ R.zero → b ≡ R.zero
 zero_of_product R a b (v, e) z =

@@ -3,19 +3,19 @@ use Rattle.std.proofs.Common.{◌≡◌, ℕ, ◌+◌, ◌*◌, ◌^◌, ◌<◌
 use Rattle.p3_field.specs.Ring.{power}
 use Rattle.p3_field.specs.declared.fields.Field.{Ghosts as FieldMembers}
 use Rattle.p3_matrix.specs.RowMajor.{RowMajor, IsRowMajor, SameShape, height}
-use Rattle.p3_matrix.specs.BitOrder.{rev, reversed}
+use Rattle.p3_matrix.specs.BitOrder.{rev, bit_reversal}
 use Rattle.p3_matrix.specs.Matrix.{matrix, Same}
 use Rattle.p3_matrix.proofs.BitReversal.{rev-lt, rev-rev}
 use Rattle.p3_dft.specs.Polynomials.{poly}
 use Rattle.p3_dft.specs.Transforms.{IsTransform}
-use Rattle.p3_dft.proofs.Polynomials.{poly_same, poly-one}
-use Rattle.p3_dft.proofs.Rows.{written}
-use Rattle.p3_dft.proofs.Transforms.{transform_of_parts, transform_of_entries}
+use Rattle.p3_dft.proofs.Polynomials.ByIndex.{poly_same, poly-one}
+use Rattle.p3_dft.proofs.Rows.Overwritten.{written}
+use Rattle.p3_dft.proofs.Calls.Transforms.{transform_of_parts, transform_of_entries}
 
 module _ {F : Type 0} (f : FieldMembers F) (generator : ℕ → F) where
   -- r has the rows of m in bit reversed order; a network made cells of its entries, which were then written over r
   pub transform_of_reversed : (m r out : RowMajor F) (start cells rest : List F) (log w : ℕ) → IsRowMajor m → height m ≡ 2 ^ log → w ≡ m.width
-      → SameShape r m → ((d : F) → Same (matrix d r) (reversed log (matrix d m))) → start ≡ r.values → length cells ≡ length start
+      → SameShape r m → ((d : F) → Same (matrix d r) (bit_reversal log (matrix d m))) → start ≡ r.values → length cells ≡ length start
       → out.width ≡ r.width → out.values ≡ take (length r.values) (cells ++ rest)
       → ((i j : ℕ) → i < 2 ^ log → j < w → f.value (get_or cells (i * w + j) f.ZERO)
       ≡ poly f.ring (2 ^ log) (λ q. f.value (get_or start (rev log q * w + j) f.ZERO)) (power f.ring (f.value (generator log)) i))

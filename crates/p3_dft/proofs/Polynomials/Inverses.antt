@@ -3,18 +3,18 @@ use Rattle.std.proofs.Common.{◌≡◌, ℕ, ◌-◌, ◌%◌, ◌^◌, ◌<◌
 use Rattle.p3_field.specs.Ring.{Ring, AreRoots, IsInverse, count}
 use Rattle.p3_field.specs.declared.fields.Field.{Ghosts as FieldMembers}
 use Rattle.p3_matrix.specs.RowMajor.{RowMajor, height}
-use Rattle.p3_matrix.specs.Matrix.{Matrix, Same, mapped}
-use Rattle.p3_dft.specs.Cosets.{AreCoefficients, IsQuotient, opposed, shifted}
+use Rattle.p3_matrix.specs.Matrix.{Matrix, Same, image}
+use Rattle.p3_dft.specs.Cosets.{AreCoefficients, IsQuotient, opposite_rows, coset_shift}
 use Rattle.p3_dft.specs.Transforms.{values_of, IsInterpolation, IsTransform}
-use Rattle.p3_dft.proofs.Interpolation.{forward_inverse_by_count, coset_coefficients, there_is_no_other}
+use Rattle.p3_dft.proofs.Polynomials.Interpolation.{forward_inverse_by_count, coset_coefficients, there_is_no_other}
 use Rattle.p3_matrix.proofs.TwoPowers.{log_same}
 
 -- f of the entries of one matrix
-pub mapped_same : {T E : Type 0} (f : T → E) (a b : Matrix T) → Same a b → Same (mapped f a) (mapped f b)
+pub mapped_same : {T E : Type 0} (f : T → E) (a b : Matrix T) → Same a b → Same (image f a) (image f b)
 mapped_same f a b e = record { high = e.high; wide = e.wide; alike = λ i j p q. ap f (e.alike i j p q) }
 
 -- the rows of a quotient in opposite order
-pub opposed_quotient : {A : Type 0} (r : Ring A) (n : ℕ) (m d c : Matrix A) → IsQuotient r n m d → Same c (opposed d) → IsQuotient r n (opposed m) c
+pub opposed_quotient : {A : Type 0} (r : Ring A) (n : ℕ) (m d c : Matrix A) → IsQuotient r n m d → Same c (opposite_rows d) → IsQuotient r n (opposite_rows m) c
 opposed_quotient r n m d c quotient same = record {
   high = same.high ∙ quotient.high;
   wide = same.wide ∙ quotient.wide;
@@ -32,7 +32,7 @@ module _ {F : Type 0} (f : FieldMembers F) (generator : ℕ → F) (bits : ℕ) 
 
   -- values of values, divided by the height and in opposite order, are the coefficients
   pub interpolation_of_quotient : (m y c : RowMajor F) (log : ℕ) → log ≤ bits → height m ≡ 2 ^ log → IsTransform f generator m f.ring.one y
-      → IsQuotient f.ring (height y) (opposed (values_of f y)) (values_of f c) → IsInterpolation f generator m f.ring.one c
+      → IsQuotient f.ring (height y) (opposite_rows (values_of f y)) (values_of f c) → IsInterpolation f generator m f.ring.one c
   interpolation_of_quotient m y c log within high transform quotient = record {
     holds = coefficients;
     only = λ k e d other. there_is_no_other f.ring roots (values_of f m) k f.ring.one (exponent_within m log k within high e) (f.ring.one, f.ring.mul_one f.ring.one)
@@ -52,7 +52,7 @@ module _ {F : Type 0} (f : FieldMembers F) (generator : ℕ → F) (bits : ℕ) 
 
   -- coefficients on the subgroup, row i times the i-th power of the shift's inverse, are the coefficients on the coset
   pub interpolation_on_coset : (m c d : RowMajor F) (log : ℕ) (s t : f.Element) → log ≤ bits → height m ≡ 2 ^ log → IsInverse f.ring s t
-      → IsInterpolation f generator m f.ring.one c → Same (values_of f d) (shifted f.ring t (values_of f c)) → IsInterpolation f generator m s d
+      → IsInterpolation f generator m f.ring.one c → Same (values_of f d) (coset_shift f.ring t (values_of f c)) → IsInterpolation f generator m s d
   interpolation_on_coset m c d log s t within high inverse on_subgroup same = record {
     holds = coefficients;
     only = λ k e other are. there_is_no_other f.ring roots (values_of f m) k s (exponent_within m log k within high e) (t, inverse)

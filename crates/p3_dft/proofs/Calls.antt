@@ -1,0 +1,7 @@
+-- The trait's calls over stored matrices: shapes, transforms, inverses and extensions as its bodies make them, and call after call.
+pub mod EngineSteps
+pub mod ExtendedTransforms
+pub mod Extensions
+pub mod JobLists
+pub mod Shapes
+pub mod Transforms
