@@ -10,8 +10,6 @@ pub mod jobs;
 pub mod naive;
 pub mod radix_2_bowers;
 pub mod radix_2_dit;
-#[cfg(test)]
-mod tests;
 pub mod traits;
 mod twiddles;
 pub mod util;

@@ -5,9 +5,6 @@ ghost use Rattle.p3_field.specs.Ring.{power};
 ghost use Rattle.p3_matrix.specs.RowMajor.{RowMajor, height};
 ghost use Rattle.p3_dft.specs.Polynomials.{poly};
 
-#[cfg(test)]
-mod tests;
-
 use crate::traits::{Layout, TwoAdicSubgroupDft};
 use crate::util::extend_by_zeros;
 use p3_field::{Products, TwoAdicField, scaled};

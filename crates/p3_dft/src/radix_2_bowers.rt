@@ -4,7 +4,7 @@ ghost use Rattle.std.specs.Prelude.{◌≡◌, ℕ, ◌+◌, ◌*◌, ◌/◌, �
 ghost use Rattle.p3_field.specs.Ring.{power};
 ghost use Rattle.p3_matrix.specs.BitOrder.{rev, bit_reversal};
 ghost use Rattle.p3_matrix.specs.Matrix.{Matrix, Same, matrix, image};
-ghost use Rattle.p3_matrix.specs.RowMajor.{IsRowMajor, SameShape, height};
+ghost use Rattle.p3_matrix.specs.RowMajor.{HasShapeOf, IsRowMajor, height};
 ghost use Rattle.p3_dft.specs.Cosets.{AreCoefficients, IsQuotient, IsValues, coset_shift};
 ghost use Rattle.p3_dft.specs.Engines.{AtLog};
 ghost use Rattle.p3_dft.specs.Shapes.{FitsDft, FitsLde};
@@ -229,7 +229,8 @@ fn interpolate_scaled<F: TwoAdicField>(
 ) -> Result<(), DftError>
     requires { FitsDft F.TWO_ADICITY (height mat.old) mat.old.width }
     ensures whole { IsRowMajor mat.old }
-    ensures shape { OnOk result (SameShape mat.new mat.old) }
+    ensures shape { OnOk result (HasShapeOf mat.new mat.old) }
+    ensures size { OnOk result (length mat.new.values ≡ length mat.old.values) }
     ensures coefficients { AtLog (height mat.old) (λ k. OnOk result ((c : Matrix F.Element)
         → IsQuotient F.ring (2 ^ k) (bit_reversal k (values_of F.Field.own mat.new)) c
         → AreCoefficients F.ring (λ n. F.value (F.generator n)) (values_of F.Field.own mat.old) k F.ring.one c)) }

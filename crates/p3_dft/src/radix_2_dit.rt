@@ -8,9 +8,6 @@ ghost use Rattle.p3_dft.specs.Polynomials.{poly};
 ghost use Rattle.p3_dft.specs.Transforms.{IsTransform};
 ghost use Rattle.p3_dft.specs.Twiddles.{AreTwiddlesOfLayers, IsPrepared, layer_powers};
 
-#[cfg(test)]
-mod tests;
-
 use crate::butterfly_layers::layer;
 use crate::butterfly_layers::rules::DitByPlace;
 use crate::traits::{Layout, TwoAdicSubgroupDft};
@@ -98,10 +95,10 @@ impl<F: TwoAdicField> Radix2Dit<F> {
 
 impl<F: TwoAdicField> TwoAdicSubgroupDft<F> for Radix2Dit<F> {
     ghost use Rattle.std.specs.Prelude.{◌≡◌, ℕ, ◌+◌, ◌*◌, ◌/◌, ◌-◌, ◌^◌, ◌≤◌, IfOk, IsOk, OnOk, Ok};
-    ghost use Rattle.p3_matrix.specs.RowMajor.{RowMajor, height};
+    ghost use Rattle.p3_matrix.specs.RowMajor.{HasShapeOf, RowMajor, height};
     ghost use Rattle.p3_dft.specs.Engines.{AtLog, IsLater};
     ghost use Rattle.p3_dft.specs.Extensions.{IsTransformedExtension};
-    ghost use Rattle.p3_dft.specs.Shapes.{FitsDft, FitsLde, HasShapeOf};
+    ghost use Rattle.p3_dft.specs.Shapes.{FitsDft, FitsLde};
     ghost use Rattle.p3_dft.specs.Transforms.{IsTransform};
     ghost use Rattle.p3_dft.specs.Twiddles.{IsPrepared};
     ghost use Rattle.p3_dft.specs.declared.traits.Layout.TheVariants.{Natural};

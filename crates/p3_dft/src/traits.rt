@@ -1,10 +1,10 @@
 //! The trait of the engines.
 
 ghost use Rattle.std.specs.Prelude.{◌≡◌, ℕ, ◌+◌, ◌*◌, ◌^◌, ◌≤◌, IfOk, OnOk, IsOk, vec_len};
-ghost use Rattle.p3_matrix.specs.RowMajor.{RowMajor, height};
+ghost use Rattle.p3_matrix.specs.RowMajor.{HasShapeOf, RowMajor, height};
 ghost use Rattle.p3_dft.specs.Engines.{AtLog, IsLater, SameNumbers, one_column};
 ghost use Rattle.p3_dft.specs.Extensions.{IsExtension, IsTransformedExtension, extension_bound, arrangement};
-ghost use Rattle.p3_dft.specs.Shapes.{FitsDft, FitsLde, HasShapeOf};
+ghost use Rattle.p3_dft.specs.Shapes.{FitsDft, FitsLde};
 ghost use Rattle.p3_matrix.specs.Matrix.{Same, matrix};
 ghost use Rattle.p3_field.specs.Ring.{IsInvertible};
 ghost use Rattle.p3_dft.specs.Transforms.{IsInterpolation, IsTransform};

@@ -3,7 +3,7 @@
 ghost use Rattle.std.specs.Prelude.{◌≡◌, ◌↔◌, ℕ, ◌+◌, ◌*◌, ◌++◌, ◌<◌, ◌≤◌, ◌^◌, IsTrue, IfOk, OnOk, OnErr, get_or, length, replicate, vec_len, vec_capacity};
 ghost use Rattle.p3_field.specs.Ring.{power};
 ghost use Rattle.p3_matrix.specs.BitOrder.{bit_reversal};
-ghost use Rattle.p3_matrix.specs.RowMajor.{height, IsRowMajor, SameShape};
+ghost use Rattle.p3_matrix.specs.RowMajor.{height, HasShapeOf, IsRowMajor};
 ghost use Rattle.p3_matrix.specs.Matrix.{Same, row_exchange, matrix};
 ghost use Rattle.p3_dft.specs.Cosets.{IsQuotient, opposite_rows, coset_shift};
 ghost use Rattle.p3_dft.specs.Extensions.{with_zeros};
@@ -59,7 +59,8 @@ pub fn divide_by_height<F: TwoAdicField>(
 )
     requires { (k : ℕ) × (height view.old.matrix.now ≡ 2 ^ k) }
     ensures same_reference { view.new.matrix.ghost_name ≡ view.old.matrix.ghost_name }
-    ensures shape { SameShape view.new.matrix.now view.old.matrix.now }
+    ensures shape { HasShapeOf view.new.matrix.now view.old.matrix.now }
+    ensures size { length view.new.matrix.now.values ≡ length view.old.matrix.now.values }
     ensures divided { IsQuotient F.ring (height view.old.matrix.now) (values_of F.Field.own view.old.matrix.now) (values_of F.Field.own view.new.matrix.now) }
     ensures count { products.new ≡ products.old + length view.old.matrix.now.values }
 {
@@ -86,7 +87,8 @@ pub(crate) fn coefficients_from_values<F: TwoAdicField>(
 // `divide_by_height` of a matrix itself.
 pub(crate) fn divide_rows<F: TwoAdicField>(mat: &mut RowMajorMatrix<F>, products: &mut Products)
     requires { (k : ℕ) × (height mat.old ≡ 2 ^ k) }
-    ensures shape { SameShape mat.new mat.old }
+    ensures shape { HasShapeOf mat.new mat.old }
+    ensures size { length mat.new.values ≡ length mat.old.values }
     ensures divided { IsQuotient F.ring (height mat.old) (values_of F.Field.own mat.old) (values_of F.Field.own mat.new) }
     ensures count { products.new ≡ products.old + length mat.old.values }
 {
@@ -96,7 +98,8 @@ pub(crate) fn divide_rows<F: TwoAdicField>(mat: &mut RowMajorMatrix<F>, products
 // Row 0 stays, and row i of the others changes places with row `height - i`.
 pub(crate) fn reverse_rows_but_first<T>(mat: &mut RowMajorMatrix<T>)
     requires { 1 ≤ height mat.old }
-    ensures shape { SameShape mat.new mat.old }
+    ensures shape { HasShapeOf mat.new mat.old }
+    ensures size { length mat.new.values ≡ length mat.old.values }
     ensures rows { (d : T) → Same (matrix d mat.new) (opposite_rows (matrix d mat.old)) }
 {
     let height = mat.height();
@@ -109,7 +112,8 @@ pub(crate) fn reverse_rows_but_first<T>(mat: &mut RowMajorMatrix<T>)
 pub(crate) fn exchange_rows<T>(mat: &mut RowMajorMatrix<T>, i: usize, j: usize)
     requires i_in_bounds { i < height mat.old }
     requires j_in_bounds { j < height mat.old }
-    ensures shape { SameShape mat.new mat.old }
+    ensures shape { HasShapeOf mat.new mat.old }
+    ensures size { length mat.new.values ≡ length mat.old.values }
     ensures rows { (d : T) → Same (matrix d mat.new) (row_exchange i j (matrix d mat.old)) }
 {
     swap_rows(&mut mat.as_view_mut(), i, j);
@@ -150,7 +154,8 @@ pub(crate) fn pad_rows<F: Field>(
 // `reverse_matrix_index_bits` of a matrix itself.
 pub(crate) fn reverse_rows<T>(mat: &mut RowMajorMatrix<T>)
     requires { (k : ℕ) × (height mat.old ≡ 2 ^ k) }
-    ensures shape { SameShape mat.new mat.old }
+    ensures shape { HasShapeOf mat.new mat.old }
+    ensures size { length mat.new.values ≡ length mat.old.values }
     ensures rows { (k : ℕ) → height mat.old ≡ 2 ^ k
         → (d : T) → Same (matrix d mat.new) (bit_reversal k (matrix d mat.old)) }
 {
@@ -194,55 +199,5 @@ fn shift_values<F: TwoAdicField>(
         let start = i * width;
         scale_slice_in_place(&mut values[start..start + width], power, products);
         power = power * shift;
-    }
-}
-
-#[cfg(test)]
-mod tests {
-    use super::*;
-    use crate::tests::matrix;
-    use p3_field::BabyBear;
-    use std::test::Fail;
-
-    #[test]
-    fn shapes_that_fit(rt: HostRuntime) {
-        assert!(rt; !fits_dft::<BabyBear>(0, 1));
-        assert!(rt; !fits_dft::<BabyBear>(3, 1));
-        assert!(rt; !fits_dft::<BabyBear>(1 << 28, 1));
-        assert!(rt; fits_dft::<BabyBear>(1 << 27, 1));
-        assert!(rt; !fits_dft::<BabyBear>(1, 0));
-        assert!(rt; !fits_dft::<BabyBear>(2, usize::MAX));
-    }
-
-    #[test]
-    fn shapes_that_can_be_extended(rt: HostRuntime) {
-        assert!(rt; fits_lde::<BabyBear>(2, 1, 26));
-        assert!(rt; !fits_lde::<BabyBear>(2, 1, 27));
-        assert!(rt; !fits_lde::<BabyBear>(2, 1, 64));
-    }
-
-    #[test]
-    fn divides_by_the_height(rt: HostRuntime) -> Result<(), Fail> {
-        let alloc = rt.alloc();
-        let mut products = Products::new();
-        let mut mat: RowMajorMatrix<BabyBear> = matrix(alloc, &[2, 4, 6, 8], 2)?;
-        assert_eq!(rt; mat.height(), 2);
-        divide_by_height(&mut mat.as_view_mut(), &mut products);
-        assert!(rt; mat == matrix(alloc, &[1, 2, 3, 4], 2)?);
-        let mut row: RowMajorMatrix<BabyBear> = matrix(alloc, &[10, 20, 30, 40], 4)?;
-        assert_eq!(rt; row.height(), 1);
-        divide_by_height(&mut row.as_view_mut(), &mut products);
-        assert!(rt; row == matrix(alloc, &[10, 20, 30, 40], 4)?);
-        Ok(())
-    }
-
-    #[test]
-    fn shifts_rows(rt: HostRuntime) -> Result<(), Fail> {
-        let alloc = rt.alloc();
-        let mut products = Products::new();
-        let mut mat = matrix(alloc, &[1, 2, 3, 4, 5, 6], 2)?;
-        shift_rows(&mut mat, BabyBear::TWO, &mut products);
-        assert!(rt; mat == matrix(alloc, &[1, 2, 6, 8, 20, 24], 2)?);
-        Ok(())
     }
 }

@@ -16,9 +16,9 @@ pub record IsRowMajor {T : Type 0} (m : RowMajor T) : Type 0 where
   pub wide : 1 ≤ m.width
   pub full : height m * m.width ≡ length m.values
 
--- two stored matrices have one width and one height
-abbrev pub SameShape : {T U : Type 0} → RowMajor T → RowMajor U → Type 0
-SameShape a b = (a.width ≡ b.width) × (length a.values ≡ length b.values)
+-- two stored matrices have one height and one width
+abbrev pub HasShapeOf : {T U : Type 0} → RowMajor T → RowMajor U → Type 0
+HasShapeOf a b = (height a ≡ height b) × (a.width ≡ b.width)
 
 -- row i
 abbrev pub row : {T : Type 0} → RowMajor T → ℕ → List T

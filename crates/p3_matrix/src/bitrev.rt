@@ -1,7 +1,7 @@
 //! Bit reversed order: element i goes where the binary digits of i, read backwards, name a place.
 
 ghost use Rattle.std.specs.Prelude.{◌≡◌, ◌+◌, ◌*◌, ◌/◌, ◌^◌, ◌<◌, ◌≤◌, ◌⊎◌, ℕ, length, get_or};
-ghost use Rattle.p3_matrix.specs.RowMajor.{height, SameShape};
+ghost use Rattle.p3_matrix.specs.RowMajor.{height, HasShapeOf};
 ghost use Rattle.p3_matrix.specs.Matrix.{matrix, Same};
 ghost use Rattle.p3_matrix.specs.BitOrder.{rev, bit_reversal};
 
@@ -40,7 +40,8 @@ pub fn reverse_slice_index_bits<T>(values: &mut [T])
 pub fn reverse_matrix_index_bits<T>(view: &mut RowMajorMatrixViewMut<'_, T>)
     requires { ((n : ℕ) × height view.old.matrix.now ≡ 2 ^ n) ⊎ (height view.old.matrix.now ≡ 0) }
     ensures same_reference { view.new.matrix.ghost_name ≡ view.old.matrix.ghost_name }
-    ensures shape { SameShape view.new.matrix.now view.old.matrix.now }
+    ensures shape { HasShapeOf view.new.matrix.now view.old.matrix.now }
+    ensures size { length view.new.matrix.now.values ≡ length view.old.matrix.now.values }
     ensures rows { (n : ℕ) → height view.old.matrix.now ≡ 2 ^ n
         → (d : T) → Same (matrix d view.new.matrix.now) (bit_reversal n (matrix d view.old.matrix.now)) }
 {

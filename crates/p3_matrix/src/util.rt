@@ -1,7 +1,7 @@
 //! Small helpers: logarithms, and rows that change places.
 
 ghost use Rattle.std.specs.Prelude.{◌≡◌, ◌+◌, ◌*◌, ◌/◌, ◌^◌, ◌<◌, ◌≤◌, ℕ, length};
-ghost use Rattle.p3_matrix.specs.RowMajor.{height, SameShape};
+ghost use Rattle.p3_matrix.specs.RowMajor.{height, HasShapeOf};
 ghost use Rattle.p3_matrix.specs.Matrix.{matrix, row_exchange, Same};
 ghost use Rattle.p3_matrix.specs.Exchange.{IsExchange};
 
@@ -27,7 +27,8 @@ pub fn swap_rows<T>(view: &mut RowMajorMatrixViewMut<'_, T>, i: usize, j: usize)
     requires i_in_bounds { i < height view.old.matrix.now }
     requires j_in_bounds { j < height view.old.matrix.now }
     ensures same_reference { view.new.matrix.ghost_name ≡ view.old.matrix.ghost_name }
-    ensures shape { SameShape view.new.matrix.now view.old.matrix.now }
+    ensures shape { HasShapeOf view.new.matrix.now view.old.matrix.now }
+    ensures size { length view.new.matrix.now.values ≡ length view.old.matrix.now.values }
     ensures rows { (d : T) → Same (matrix d view.new.matrix.now) (row_exchange i j (matrix d view.old.matrix.now)) }
 {
     let width = view.width();

@@ -2,7 +2,7 @@
 use Rattle.std.proofs.Common.{◌≡◌, ℕ, ◌+◌, ◌*◌, ◌^◌, ◌<◌, ◌++◌, List, length, get_or, take, ap, refl, sym, ◌∙◌, arith}
 use Rattle.p3_field.specs.Ring.{power}
 use Rattle.p3_field.specs.declared.fields.Field.{Ghosts as FieldMembers}
-use Rattle.p3_matrix.specs.RowMajor.{RowMajor, IsRowMajor, SameShape, height}
+use Rattle.p3_matrix.specs.RowMajor.{RowMajor, HasShapeOf, IsRowMajor, height}
 use Rattle.p3_matrix.specs.BitOrder.{rev, bit_reversal}
 use Rattle.p3_matrix.specs.Matrix.{matrix, Same}
 use Rattle.p3_matrix.proofs.BitReversal.{rev-lt, rev-rev}
@@ -15,23 +15,23 @@ use Rattle.p3_dft.proofs.Calls.Transforms.{transform_of_parts, transform_of_entr
 module _ {F : Type 0} (f : FieldMembers F) (generator : ℕ → F) where
   -- r has the rows of m in bit reversed order; a network made cells of its entries, which were then written over r
   pub transform_of_reversed : (m r out : RowMajor F) (start cells rest : List F) (log w : ℕ) → IsRowMajor m → height m ≡ 2 ^ log → w ≡ m.width
-      → SameShape r m → ((d : F) → Same (matrix d r) (bit_reversal log (matrix d m))) → start ≡ r.values → length cells ≡ length start
+      → HasShapeOf r m → length r.values ≡ length m.values → ((d : F) → Same (matrix d r) (bit_reversal log (matrix d m))) → start ≡ r.values → length cells ≡ length start
       → out.width ≡ r.width → out.values ≡ take (length r.values) (cells ++ rest)
       → ((i j : ℕ) → i < 2 ^ log → j < w → f.value (get_or cells (i * w + j) f.ZERO)
       ≡ poly f.ring (2 ^ log) (λ q. f.value (get_or start (rev log q * w + j) f.ZERO)) (power f.ring (f.value (generator log)) i))
       → IsTransform f generator m f.ring.one out
-  transform_of_reversed m r out start cells rest log w whole high wide shape rows start_is size out_width out_values entries =
+  transform_of_reversed m r out start cells rest log w whole high wide shape kept rows start_is size out_width out_values entries =
       let len : length cells ≡ length r.values = size ∙ ap length start_is in
-      let full : length cells ≡ height m * w = len ∙ shape.1 ∙ sym whole.full ∙ ap (λ n. height m * n) (sym wide) in
+      let full : length cells ≡ height m * w = len ∙ kept ∙ sym whole.full ∙ ap (λ n. height m * n) (sym wide) in
       transform_of_parts f generator m out m.values cells w (height m) log (f.value (generator log)) refl wide refl high refl (omega (arith, whole.wide, wide)) full
-      (out_width ∙ shape.0 ∙ sym wide) (out_values ∙ written (length r.values) cells rest len)
+      (out_width ∙ shape.1 ∙ sym wide) (out_values ∙ written (length r.values) cells rest len)
       (λ i j below inside.
       let at : (q : ℕ) → q < 2 ^ log → f.value (get_or start (rev log q * w + j) f.ZERO) ≡ f.value (get_or m.values (q * w + j) f.ZERO) = λ q l.
       let back = rows f.ZERO in
       let tall : height r ≡ 2 ^ log = back.high ∙ high in
       ap (λ xs. f.value (get_or xs (rev log q * w + j) f.ZERO)) start_is
-      ∙ ap (λ v. f.value (get_or r.values (rev log q * v + j) f.ZERO)) (wide ∙ sym shape.0)
-      ∙ ap f.value (back.alike (rev log q) j (omega (arith, rev-lt log q, tall)) (omega (arith, inside, wide, shape.0)))
+      ∙ ap (λ v. f.value (get_or r.values (rev log q * v + j) f.ZERO)) (wide ∙ sym shape.1)
+      ∙ ap f.value (back.alike (rev log q) j (omega (arith, rev-lt log q, tall)) (omega (arith, inside, wide, shape.1)))
       ∙ ap (λ n. f.value (get_or m.values (n * m.width + j) f.ZERO)) (rev-rev log q l)
       ∙ ap (λ v. f.value (get_or m.values (q * v + j) f.ZERO)) (sym wide) in
       entries i j (omega (arith, below, high)) inside

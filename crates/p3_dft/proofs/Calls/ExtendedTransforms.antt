@@ -2,11 +2,10 @@
 use Rattle.std.proofs.Common.{◌≡◌, ℕ, ◌+◌, ◌*◌, ◌^◌, List, length, refl, sym, ap, ap₂, ◌∙◌, subst, arith}
 use Rattle.std.proofs.lemmas.Nat.{pow-add}
 use Rattle.p3_field.specs.declared.fields.Field.{Ghosts as FieldMembers}
-use Rattle.p3_matrix.specs.RowMajor.{RowMajor, IsRowMajor, height}
+use Rattle.p3_matrix.specs.RowMajor.{RowMajor, IsRowMajor, height, HasShapeOf}
 use Rattle.p3_matrix.specs.Matrix.{Same, matrix}
 use Rattle.p3_dft.specs.Cosets.{coset_shift}
 use Rattle.p3_dft.specs.Extensions.{IsExtension, IsTransformedExtension, arrangement, with_zeros}
-use Rattle.p3_dft.specs.Shapes.{HasShapeOf}
 use Rattle.p3_dft.specs.Transforms.{values_of, IsInterpolation, IsTransform}
 use Rattle.p3_dft.specs.declared.traits.Layout.{Layout}
 use Rattle.p3_dft.specs.declared.traits.Layout.TheVariants.{Natural}

@@ -3,7 +3,7 @@ use Rattle.std.proofs.Common.{◌≡◌, ◌≢◌, ℕ, ◌+◌, ◌*◌, ◌-�
 use Rattle.std.proofs.Math.Nat.{mul-le-mul_right}
 use Rattle.std.proofs.lemmas.Bool.{cases_lt, eq-eqb, ne_eqb}
 use Rattle.std.proofs.lemmas.List.{get_or_past}
-use Rattle.p3_matrix.specs.RowMajor.{RowMajor, SameShape, height}
+use Rattle.p3_matrix.specs.RowMajor.{RowMajor, HasShapeOf, height}
 use Rattle.p3_matrix.specs.Matrix.{matrix, row_exchange, Same}
 use Rattle.p3_dft.specs.Cosets.{opposite_rows}
 use Rattle.p3_dft.proofs.Rows.OppositePlaces.{OppositeUntil, opposite_more, opposite_all}
@@ -11,10 +11,10 @@ use Rattle.p3_dft.proofs.Rows.OppositePlaces.{OppositeUntil, opposite_more, oppo
 module _ {T : Type 0} (d : T) where
   -- one more pair of rows, row and n - row
   pub opposed_more : (before now next : RowMajor T) (n row p : ℕ) → row ≡ p + 1 → height now ≡ n → length now.values ≡ n * now.width → 2 * row < n
-      → SameShape next now → Same (matrix d next) (row_exchange row (n - row) (matrix d now)) → (j : ℕ) → j < now.width
+      → HasShapeOf next now → length next.values ≡ length now.values → Same (matrix d next) (row_exchange row (n - row) (matrix d now)) → (j : ℕ) → j < now.width
       → OppositeUntil n p (λ i. (matrix d before).entry i j) (λ i. (matrix d now).entry i j)
       → OppositeUntil n row (λ i. (matrix d before).entry i j) (λ i. (matrix d next).entry i j)
-  opposed_more before now next n row p is tall size low shape same j inside done =
+  opposed_more before now next n row p is tall size low shape kept same j inside done =
       subst (λ (q : ℕ). OppositeUntil n q (λ i. (matrix d before).entry i j) (λ i. (matrix d next).entry i j)) (sym is)
       (opposite_more n p (λ i. (matrix d before).entry i j) (λ i. (matrix d now).entry i j) (λ i. (matrix d next).entry i j) (omega arith) done
       (subst (λ (q : ℕ). (matrix d next).entry q j ≡ (matrix d now).entry (n - q) j) is near)
@@ -37,18 +37,17 @@ module _ {T : Type 0} (d : T) where
       others r a b =
           ⊎_elim
           (λ below. at r below ∙ rw (ne_eqb r row a, ne_eqb r (n - row) b) refl)
-          (λ above. past next r above shape.0 (shape.1 ∙ size) ∙ sym (past now r above refl size))
+          (λ above. past next r above shape.1 (kept ∙ size) ∙ sym (past now r above refl size))
           (cases_lt r n)
 
   -- all pairs
-  pub opposed_all : (before after : RowMajor T) (n m : ℕ) → height before ≡ n → SameShape after before → 2 * m < n → n ≤ 2 * m + 2
+  pub opposed_all : (before after : RowMajor T) (n m : ℕ) → height before ≡ n → HasShapeOf after before → 2 * m < n → n ≤ 2 * m + 2
       → ((j : ℕ) → j < before.width → OppositeUntil n m (λ i. (matrix d before).entry i j) (λ i. (matrix d after).entry i j))
       → Same (matrix d after) (opposite_rows (matrix d before))
   opposed_all before after n m tall shape low high done = record {
-    high = ap₂ (λ (l w : ℕ). l / w) shape.1 shape.0;
-    wide = shape.0;
+    high = shape.0;
+    wide = shape.1;
     alike = λ i j below inside.
-        let same : height after ≡ height before = ap₂ (λ (l w : ℕ). l / w) shape.1 shape.0 in
-        opposite_all n m _ _ low high (done j (omega (arith, shape.0))) i (omega (arith, same, tall))
+        opposite_all n m _ _ low high (done j (omega (arith, shape.1))) i (omega (arith, shape.0, tall))
         ∙ ap (λ k. (matrix d before).entry ((k - i) % k) j) (sym tall);
   }

@@ -6,11 +6,10 @@ use Rattle.std.proofs.lemmas.List.{length-append, length-replicate}
 use Rattle.std.proofs.lemmas.Nat.{pow-add, pow_pos, mul-add-lt}
 use Rattle.std.proofs.Math.Nat.{mul_assoc, mul_comm, mul-le-mul_right}
 use Rattle.p3_field.specs.declared.fields.Field.{Ghosts as FieldMembers}
-use Rattle.p3_matrix.specs.RowMajor.{RowMajor, IsRowMajor, height}
+use Rattle.p3_matrix.specs.RowMajor.{RowMajor, IsRowMajor, height, HasShapeOf}
 use Rattle.p3_matrix.proofs.RowMajor.{whole_rows}
 use Rattle.p3_dft.specs.Cosets.{IsValues}
 use Rattle.p3_dft.specs.Extensions.{with_zeros}
-use Rattle.p3_dft.specs.Shapes.{HasShapeOf}
 use Rattle.p3_dft.specs.Transforms.{values_of}
 use Rattle.p3_dft.proofs.Polynomials.Cosets.{padded_values}
 

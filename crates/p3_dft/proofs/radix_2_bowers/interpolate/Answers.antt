@@ -11,7 +11,7 @@ returns-clause-coefficients g c k high =
     let field = g.F.Field in
     let multiples = c.interpolate_scaled.new.mat in
     let shape = c.in_ok-interpolate_scaled.ensures.shape in
-    let tall : height multiples ≡ 2 ^ k = ap₂ (λ (l w : ℕ). l / w) shape.1 shape.0 ∙ high in
+    let tall : height multiples ≡ 2 ^ k = shape.0 ∙ high in
     c.in_ok-interpolate_scaled.ensures.coefficients k high (bit_reversal k (values_of field c.divide_rows.new.mat))
     (reversed_quotient field.ring k (2 ^ k) (values_of field multiples) (values_of field c.divide_rows.new.mat) tall
     (subst (λ (n : ℕ). IsQuotient field.ring n (values_of field multiples) (values_of field c.divide_rows.new.mat)) tall c.divide_rows.ensures.divided))
@@ -20,5 +20,5 @@ pub returns-clause-cost : goal.returns-clause-cost
 returns-clause-cost g c k high =
     let m = c.args.mat.now in
     let entries : length c.interpolate_scaled.new.mat.values ≡ 2 ^ k * m.width =
-    c.in_ok-interpolate_scaled.ensures.shape.1 ∙ sym c.interpolate_scaled.ensures.whole.full ∙ ap (λ n. n * m.width) high in
+    c.in_ok-interpolate_scaled.ensures.size ∙ sym c.interpolate_scaled.ensures.whole.full ∙ ap (λ n. n * m.width) high in
     omega (arith, c.interpolate_scaled.ensures.cost k high, c.divide_rows.ensures.count, entries)

@@ -1,7 +1,7 @@
 use Rattle.std.proofs.Common.{◌≡◌, ℕ, zero, suc, ◌+◌, ◌*◌, ◌-◌, ◌/◌, ◌%◌, ◌^◌, ◌<◌, ◌≤◌, get_or, sym, ap, ap₂, ◌∙◌, subst, arith, rules}
 use Rattle.std.proofs.Math.Nat.{mod-eq_of_lt, mul-le-mul_right, two-pow-succ}
 use Rattle.std.proofs.lemmas.Nat.{pow_pos}
-use Rattle.p3_matrix.specs.RowMajor.{RowMajor, SameShape, height}
+use Rattle.p3_matrix.specs.RowMajor.{RowMajor, height}
 use Rattle.p3_matrix.specs.Matrix.{Same, row_exchange, matrix}
 use Rattle.p3_dft.proofs.Rows.Padding.{padded_above, padded_below, padded_high}
 use Rattle.p3_dft.proofs.BitReversed.SpreadRows.{SpreadFrom, spread_none, spread_exchanged, spread_rows, spread_others}
@@ -18,9 +18,6 @@ place_is row h w a below wide size =
 two_places : (a : ℕ) → (a ≡ 0 → ⊥) → 2 ≤ 2 ^ a
 two_places zero some = absurd (some (omega arith))
 two_places (suc a) some = omega (arith, two-pow-succ a, pow_pos a)
-
-shape_height : {T : Type 0} (m n : RowMajor T) → SameShape m n → height m ≡ height n
-shape_height m n same = ap₂ (λ (l w : ℕ). l / w) same.1 same.0
 
 pub loop-done-init : goal.loop-done-init
 loop-done-init g c =
@@ -51,7 +48,7 @@ exchange_rows-requires-clause-j_in_bounds g c =
     let row = h - c.loop-done.done in
     let below : row < h = omega arith in
     let grown : height c.loop-done.mat ≡ height m * 2 ^ a =
-    shape_height c.loop-done.mat c.in_ok-mat.mat c.loop-done.invariant.shape ∙ ap (λ (n : RowMajor g.row.F.Denot). height n) c.in_ok-mat.ensures.padded ∙ padded_high g.F.Field.ZERO m whole a in
+    c.loop-done.invariant.shape.0 ∙ ap (λ (n : RowMajor g.row.F.Denot). height n) c.in_ok-mat.ensures.padded ∙ padded_high g.F.Field.ZERO m whole a in
     let place = place_is row (height m) m.width a (omega (arith, tall)) whole.wide c.requires.size in
     let rows : (suc row) * 2 ^ a ≤ h * 2 ^ a = mul-le-mul_right (2 ^ a) below in
     let positive = pow_pos a in
@@ -70,8 +67,8 @@ loop-done-preserved g c =
     let next = c.exchange_rows.new.mat in
     let shape = c.loop-done.invariant.shape in
     let grown : height now ≡ h * 2 ^ a =
-    shape_height now c.in_ok-mat.mat shape ∙ ap (λ (n : RowMajor g.row.F.Denot). height n) c.in_ok-mat.ensures.padded ∙ padded_high z m whole a ∙ ap (λ n. n * 2 ^ a) (sym tall) in
-    let wide : now.width ≡ m.width = shape.0 ∙ ap (λ (n : RowMajor g.row.F.Denot). n.width) c.in_ok-mat.ensures.padded in
+    shape.0 ∙ ap (λ (n : RowMajor g.row.F.Denot). height n) c.in_ok-mat.ensures.padded ∙ padded_high z m whole a ∙ ap (λ n. n * 2 ^ a) (sym tall) in
+    let wide : now.width ≡ m.width = shape.1 ∙ ap (λ (n : RowMajor g.row.F.Denot). n.width) c.in_ok-mat.ensures.padded in
     let place : row * 2 ^ a % 2 ^ 64 ≡ row * 2 ^ a = place_is row (height m) m.width a (omega (arith, tall)) whole.wide c.requires.size in
     let next_is : row ≡ h + 1 - (c.loop-done.done + 1) = omega arith in
     let now_is : h + 1 - c.loop-done.done ≡ row + 1 = omega arith in
@@ -88,8 +85,8 @@ pub returns-clause-shape : goal.returns-clause-shape
 returns-clause-shape g c =
     let m = c.args.mat in
     let shape = c.loop-done.invariant.shape in (
-      shape_height c.loop-done.mat c.in_ok-mat.mat shape ∙ ap (λ (n : RowMajor g.row.F.Denot). height n) c.in_ok-mat.ensures.padded ∙ padded_high g.F.Field.ZERO m c.height-height.ensures.whole c.args.added_bits,
-      shape.0 ∙ ap (λ (n : RowMajor g.row.F.Denot). n.width) c.in_ok-mat.ensures.padded,
+      shape.0 ∙ ap (λ (n : RowMajor g.row.F.Denot). height n) c.in_ok-mat.ensures.padded ∙ padded_high g.F.Field.ZERO m c.height-height.ensures.whole c.args.added_bits,
+      shape.1 ∙ ap (λ (n : RowMajor g.row.F.Denot). n.width) c.in_ok-mat.ensures.padded,
     )
 
 pub returns-clause-rows : goal.returns-clause-rows

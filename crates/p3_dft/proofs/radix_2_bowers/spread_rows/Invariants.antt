@@ -1,5 +1,5 @@
 use Rattle.std.proofs.Common.{ℕ, ◌+◌, ◌-◌, ◌^◌, ◌<◌}
-use Rattle.p3_matrix.specs.RowMajor.{SameShape}
+use Rattle.p3_matrix.specs.RowMajor.{HasShapeOf}
 use Rattle.p3_matrix.specs.Matrix.{matrix}
 use Rattle.p3_dft.proofs.BitReversed.SpreadRows.{SpreadFrom}
 use Rattle.p3_dft.proofs.radix_2_bowers.spread_rows.Given as goal
@@ -8,6 +8,6 @@ abbrev pub invariant-loop-done : goal.invariant-loop-done
 invariant-loop-done g l =
     let z = g.F.Field.ZERO in
     record {
-      shape : SameShape l.mat l.initial.mat;
+      shape : HasShapeOf l.mat l.initial.mat;
       rows : (j : ℕ) → j < l.fn.mat.width → SpreadFrom z (2 ^ l.added_bits) l.height (l.height + 1 - l.done) (λ i. (matrix z l.fn.mat).entry i j) (λ i. (matrix z l.mat).entry i j);
     }

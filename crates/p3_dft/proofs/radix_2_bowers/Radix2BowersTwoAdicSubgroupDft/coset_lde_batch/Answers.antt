@@ -21,7 +21,7 @@ returns-clause-values g c =
     let high : height m ≡ 2 ^ log = sym c.height.ensures.height ∙ c.log2_strict_usize-log_h.ensures.power in
     let multiples = bit_reversal log (values_of field c.interpolate_scaled.new.mat) in
     let shifted = bit_reversal log (values_of field c.weigh_reversed_rows.new.mat) in
-    let tall : height c.interpolate_scaled.new.mat ≡ 2 ^ log = ap₂ (λ (l v : ℕ). l / v) c.in_ok-interpolate_scaled.ensures.shape.1 c.in_ok-interpolate_scaled.ensures.shape.0 ∙ high in
+    let tall : height c.interpolate_scaled.new.mat ≡ 2 ^ log = c.in_ok-interpolate_scaled.ensures.shape.0 ∙ high in
     let same = c.in_ok-weigh_reversed_rows.ensures.rows log tall in
     let undone : field.ring.mul (count field.ring (2 ^ log)) inverse ≡ field.ring.one =
     ap (λ x. field.ring.mul x inverse) (count-power_of_two field.ring log) ∙ c.div_2exp_u64-inverse.ensures ∙ ap field.value c.ONE.ensures ∙ g.met.F.Field.one_law in
@@ -41,12 +41,12 @@ returns-clause-cost g c k e =
     let high : height m ≡ 2 ^ k = ap height c.into_row_major_matrix-mat.ensures ∙ e in
     let w = m.width in
     let shape = c.in_ok-interpolate_scaled.ensures.shape in
-    let tall : height c.interpolate_scaled.new.mat ≡ height m = ap₂ (λ (l v : ℕ). l / v) shape.1 shape.0 in
+    let tall : height c.interpolate_scaled.new.mat ≡ height m = shape.0 in
     let same = c.in_ok-weigh_reversed_rows.ensures.rows k (tall ∙ high) in
     let first = c.interpolate_scaled.ensures.cost k high in
-    let entries : height c.interpolate_scaled.new.mat * c.interpolate_scaled.new.mat.width ≡ 2 ^ k * w = ap₂ (λ (h v : ℕ). h * v) (tall ∙ high) shape.0 in
+    let entries : height c.interpolate_scaled.new.mat * c.interpolate_scaled.new.mat.width ≡ 2 ^ k * w = ap₂ (λ (h v : ℕ). h * v) (tall ∙ high) shape.1 in
     let last = c.extend.ensures.cost k (same.high ∙ tall ∙ high) in
-    let wide : bound (k + a) c.weigh_reversed_rows.new.mat.width ≡ bound (k + a) w = ap (bound (k + a)) (same.wide ∙ shape.0) in
+    let wide : bound (k + a) c.weigh_reversed_rows.new.mat.width ≡ bound (k + a) w = ap (bound (k + a)) (same.wide ∙ shape.1) in
     subst (λ (v : ℕ). OnOk c.extend.result (c.extend.new.products ≤ c.args.self.now + extension_bound bound k a v)) (ap (λ (n : RowMajor g.row.F.Denot). n.width) c.into_row_major_matrix-mat.ensures)
     (within_extension c.extend.result bound k a w c.args.self.now c.extend.new.products
     (omega (arith, c.self.view_is, first, c.weigh_reversed_rows.ensures.cost, entries, last, wide)))

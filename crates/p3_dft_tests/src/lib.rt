@@ -1,0 +1,7 @@
+//! Tests of `p3_dft` through its public names, as a crate of a user's sees them.
+//!
+//! They stand in a crate of their own since a crate with tests is proved once more with them.
+#![tactic(auto)]
+
+#[cfg(test)]
+mod tests;

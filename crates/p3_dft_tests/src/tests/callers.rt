@@ -1,0 +1,243 @@
+// Callers that the contracts serve: success at a prepared height, and bounds on the products of an
+// engine that was just made.
+
+ghost use Rattle.std.specs.Prelude.{◌≡◌, ℕ, ◌^◌, ◌≤◌, ◌+◌, IfOk, IsOk, vec_len};
+ghost use Rattle.p3_field.specs.Ring.{IsInvertible};
+ghost use Rattle.p3_matrix.specs.RowMajor.{height};
+ghost use Rattle.p3_dft.specs.Engines.{AtLog};
+ghost use Rattle.p3_dft.specs.Shapes.{FitsDft, FitsLde};
+ghost use Rattle.p3_dft.specs.Twiddles.{IsPrepared};
+
+use super::{Matrix, elements, has_inverse, matrix};
+use p3_dft::{
+    BabyBear, DftError, Field, NaiveDft, Radix2Dit, RowMajorMatrix, TwoAdicField,
+    TwoAdicSubgroupDft, fits_dft, fits_lde,
+};
+use std::test::Fail;
+
+// Each transform of a matrix of a prepared height.
+fn transform_prepared<F: TwoAdicField>(
+    engine: &mut Radix2Dit<F>,
+    mat: RowMajorMatrix<F>,
+    log_h: usize,
+) -> Result<RowMajorMatrix<F>, DftError>
+    requires fits { FitsDft F.TWO_ADICITY (height mat) mat.width }
+    requires height { height mat ≡ 2 ^ log_h }
+    requires prepared { IsPrepared engine.old log_h }
+    ensures ok { IsOk result }
+    ensures still { IsPrepared engine.new log_h }
+{
+    engine.dft_batch(mat)
+}
+
+fn transform_prepared_on_coset<F: TwoAdicField>(
+    engine: &mut Radix2Dit<F>,
+    mat: RowMajorMatrix<F>,
+    log_h: usize,
+    shift: F,
+) -> Result<RowMajorMatrix<F>, DftError>
+    requires fits { FitsDft F.TWO_ADICITY (height mat) mat.width }
+    requires height { height mat ≡ 2 ^ log_h }
+    requires prepared { IsPrepared engine.old log_h }
+    ensures ok { IsOk result }
+    ensures still { IsPrepared engine.new log_h }
+{
+    engine.coset_dft_batch(mat, shift)
+}
+
+fn invert_prepared<F: TwoAdicField>(
+    engine: &mut Radix2Dit<F>,
+    mat: RowMajorMatrix<F>,
+    log_h: usize,
+) -> Result<RowMajorMatrix<F>, DftError>
+    requires fits { FitsDft F.TWO_ADICITY (height mat) mat.width }
+    requires height { height mat ≡ 2 ^ log_h }
+    requires prepared { IsPrepared engine.old log_h }
+    ensures ok { IsOk result }
+    ensures still { IsPrepared engine.new log_h }
+{
+    engine.idft_batch(mat)
+}
+
+fn invert_prepared_on_coset<F: TwoAdicField>(
+    engine: &mut Radix2Dit<F>,
+    mat: RowMajorMatrix<F>,
+    log_h: usize,
+    shift: F,
+) -> Result<RowMajorMatrix<F>, DftError>
+    requires fits { FitsDft F.TWO_ADICITY (height mat) mat.width }
+    requires invertible { IsInvertible F.ring (F.value shift) }
+    requires height { height mat ≡ 2 ^ log_h }
+    requires prepared { IsPrepared engine.old log_h }
+    ensures ok { IsOk result }
+    ensures still { IsPrepared engine.new log_h }
+{
+    engine.coset_idft_batch(mat, shift)
+}
+
+// The same of one column.
+fn column_there<F: TwoAdicField>(
+    engine: &mut Radix2Dit<F>,
+    column: Vec<F>,
+    log_h: usize,
+) -> Result<Vec<F>, DftError>
+    requires fits { FitsDft F.TWO_ADICITY (vec_len column) 1 }
+    requires height { vec_len column ≡ 2 ^ log_h }
+    requires prepared { IsPrepared engine.old log_h }
+    ensures { IsOk result }
+{
+    engine.dft(column)
+}
+
+fn column_on_coset<F: TwoAdicField>(
+    engine: &mut Radix2Dit<F>,
+    column: Vec<F>,
+    log_h: usize,
+    shift: F,
+) -> Result<Vec<F>, DftError>
+    requires fits { FitsDft F.TWO_ADICITY (vec_len column) 1 }
+    requires height { vec_len column ≡ 2 ^ log_h }
+    requires prepared { IsPrepared engine.old log_h }
+    ensures { IsOk result }
+{
+    engine.coset_dft(column, shift)
+}
+
+fn column_back<F: TwoAdicField>(
+    engine: &mut Radix2Dit<F>,
+    column: Vec<F>,
+    log_h: usize,
+) -> Result<Vec<F>, DftError>
+    requires fits { FitsDft F.TWO_ADICITY (vec_len column) 1 }
+    requires height { vec_len column ≡ 2 ^ log_h }
+    requires prepared { IsPrepared engine.old log_h }
+    ensures { IsOk result }
+{
+    engine.idft(column)
+}
+
+fn column_back_from_coset<F: TwoAdicField>(
+    engine: &mut Radix2Dit<F>,
+    column: Vec<F>,
+    log_h: usize,
+    shift: F,
+) -> Result<Vec<F>, DftError>
+    requires fits { FitsDft F.TWO_ADICITY (vec_len column) 1 }
+    requires invertible { IsInvertible F.ring (F.value shift) }
+    requires height { vec_len column ≡ 2 ^ log_h }
+    requires prepared { IsPrepared engine.old log_h }
+    ensures { IsOk result }
+{
+    engine.coset_idft(column, shift)
+}
+
+// Every call of `Radix2Dit` that answers prepares its height: here one that inverts on a coset.
+fn prepared_by_an_inverse<F: TwoAdicField>(
+    engine: &mut Radix2Dit<F>,
+    mat: RowMajorMatrix<F>,
+    log_h: usize,
+    shift: F,
+) -> Result<(), DftError>
+    requires fits { FitsDft F.TWO_ADICITY (height mat) mat.width }
+    requires invertible { IsInvertible F.ring (F.value shift) }
+    requires height { height mat ≡ 2 ^ log_h }
+    ensures { IfOk result (λ _. IsPrepared engine.new log_h) }
+{
+    engine.coset_idft_batch(mat, shift)?;
+    Ok(())
+}
+
+// An engine that was just made, after one transform: its bound is the bound on its products.
+fn transform_by_a_new_engine<F: TwoAdicField, D: TwoAdicSubgroupDft<F> + Drop>(
+    mat: RowMajorMatrix<F>,
+) -> Result<D, DftError>
+    requires { FitsDft F.TWO_ADICITY (height mat) mat.width }
+    ensures { IfOk result (λ engine. AtLog (height mat) (λ k. D.made engine ≤ D.bound k mat.width)) }
+{
+    let mut engine = D::default();
+    engine.dft_batch(mat)?;
+    Ok(engine)
+}
+
+// And after one extension of a column, by the engine's own bound.
+fn extend_by_a_new_engine<F: TwoAdicField, D: TwoAdicSubgroupDft<F> + Drop>(
+    column: Vec<F>,
+    added_bits: usize,
+) -> Result<D, DftError>
+    requires { FitsLde F.TWO_ADICITY (vec_len column) 1 added_bits }
+    ensures { IfOk result (λ engine. AtLog (vec_len column) (λ k. D.made engine ≤ D.extension D.bound k added_bits 1)) }
+{
+    let mut engine = D::default();
+    engine.lde(column, added_bits)?;
+    Ok(engine)
+}
+
+#[test]
+fn prepared_heights_answer(rt: HostRuntime) -> Result<(), Fail> {
+    let alloc = rt.alloc();
+    let mut engine = Radix2Dit::<BabyBear>::default();
+    let values: Matrix = matrix(alloc, &[9, 1], 1)?;
+    assert!(rt; fits_dft::<BabyBear>(values.height(), values.width()));
+    assert_eq!(rt; values.height(), 2);
+    let shift = BabyBear::TWO;
+    assert!(rt; has_inverse(shift));
+    prepared_by_an_inverse(&mut engine, values.try_clone()?, 1, shift)?;
+    assert!(rt; engine.is_prepared(1));
+    let back = invert_prepared(&mut engine, values.try_clone()?, 1)?;
+    assert!(rt; back == matrix(alloc, &[5, 4], 1)?);
+    assert!(rt; engine.is_prepared(1));
+    let back = invert_prepared_on_coset(&mut engine, values.try_clone()?, 1, shift)?;
+    assert!(rt; back == matrix(alloc, &[5, 2], 1)?);
+    assert!(rt; engine.is_prepared(1));
+    let there = transform_prepared(&mut engine, values.try_clone()?, 1)?;
+    assert!(rt; there == matrix(alloc, &[10, 8], 1)?);
+    assert!(rt; engine.is_prepared(1));
+    let there = transform_prepared_on_coset(&mut engine, values, 1, shift)?;
+    assert!(rt; there == matrix(alloc, &[11, 7], 1)?);
+    Ok(())
+}
+
+#[test]
+fn prepared_columns_answer(rt: HostRuntime) -> Result<(), Fail> {
+    let alloc = rt.alloc();
+    let mut engine = Radix2Dit::<BabyBear>::default();
+    engine.prepare(alloc, 1)?;
+    assert!(rt; engine.is_prepared(1));
+    let shift = BabyBear::TWO;
+    assert!(rt; has_inverse(shift));
+    let column: Vec<BabyBear> = elements(alloc, &[9, 1])?;
+    assert!(rt; fits_dft::<BabyBear>(column.len(), 1));
+    assert_eq!(rt; column.len(), 2);
+    assert!(rt; column_there(&mut engine, column, 1)? == elements(alloc, &[10, 8])?);
+    assert!(rt; engine.is_prepared(1));
+    let column: Vec<BabyBear> = elements(alloc, &[9, 1])?;
+    assert!(rt; fits_dft::<BabyBear>(column.len(), 1));
+    assert_eq!(rt; column.len(), 2);
+    assert!(rt; column_on_coset(&mut engine, column, 1, shift)? == elements(alloc, &[11, 7])?);
+    assert!(rt; engine.is_prepared(1));
+    let column: Vec<BabyBear> = elements(alloc, &[9, 1])?;
+    assert!(rt; fits_dft::<BabyBear>(column.len(), 1));
+    assert_eq!(rt; column.len(), 2);
+    assert!(rt; column_back(&mut engine, column, 1)? == elements(alloc, &[5, 4])?);
+    assert!(rt; engine.is_prepared(1));
+    let column: Vec<BabyBear> = elements(alloc, &[9, 1])?;
+    assert!(rt; fits_dft::<BabyBear>(column.len(), 1));
+    assert_eq!(rt; column.len(), 2);
+    assert!(rt;
+        column_back_from_coset(&mut engine, column, 1, shift)? == elements(alloc, &[5, 2])?
+    );
+    Ok(())
+}
+
+#[test]
+fn new_engines(rt: HostRuntime) -> Result<(), Fail> {
+    let alloc = rt.alloc();
+    let mat: Matrix = matrix(alloc, &[9, 1], 1)?;
+    assert!(rt; fits_dft::<BabyBear>(mat.height(), mat.width()));
+    let engine: Radix2Dit<BabyBear> = transform_by_a_new_engine(mat)?;
+    assert!(rt; engine.is_prepared(1));
+    let column: Vec<BabyBear> = elements(alloc, &[9, 1])?;
+    assert!(rt; fits_lde::<BabyBear>(column.len(), 1, 1));
+    let _engine: NaiveDft = extend_by_a_new_engine(column, 1)?;
+    Ok(())
+}

@@ -1,0 +1,187 @@
+// Engines that own only what an engine must, one for each layout: all else of theirs is a default
+// body of the trait.
+
+ghost use Rattle.std.specs.Prelude.{◌≡◌, ℕ, ◌*◌, ◌^◌};
+
+use p3_dft::{
+    DftError, IntoRowMajorMatrix, Layout, NaiveDft, Products, RowMajorMatrix, TwoAdicField,
+    TwoAdicSubgroupDft,
+};
+use std::alloc::AllocError;
+
+// Has coefficients in natural order, and makes so many transforms: memory for a later one is
+// refused.
+#[derive(Drop)]
+pub(crate) struct LimitedDft {
+    left: usize,
+    sums: NaiveDft,
+}
+
+impl LimitedDft {
+    pub(crate) fn new(left: usize) -> Self
+        ensures { result.sums ≡ 0 }
+    {
+        LimitedDft {
+            left,
+            sums: NaiveDft::default(),
+        }
+    }
+}
+
+impl Default for LimitedDft {
+    ghost use Rattle.std.specs.Prelude.{◌≡◌};
+
+    ghost is_default = { λ e. e.sums ≡ 0 };
+
+    fn default() -> Self {
+        Self::new(usize::MAX)
+    }
+}
+
+impl Clone for LimitedDft {
+    ghost use Rattle.std.specs.Prelude.{◌≡◌, ⊤};
+
+    ghost is_clone = { λ _ e. e.sums ≡ 0 };
+
+    ghost is_infallible = { λ _. ⊤ };
+
+    fn clone(&self) -> Result<Self, AllocError> {
+        Ok(Self::new(self.left))
+    }
+}
+
+impl<F: TwoAdicField> TwoAdicSubgroupDft<F> for LimitedDft {
+    ghost use Rattle.std.specs.Prelude.{⊤, ℕ, ◌*◌, ◌^◌};
+    ghost use Rattle.p3_dft.specs.declared.traits.Layout.TheVariants.{Natural};
+
+    type Evaluations = RowMajorMatrix<F>;
+
+    const LAYOUT: Layout = Layout::Natural;
+
+    ghost LAYOUT = { Natural };
+
+    ghost promised = { λ _ _. ⊥ };
+
+    ghost coset_promised = { λ _ _. ⊥ };
+
+    ghost served = { λ _ _. ⊤ };
+
+    ghost bound = { λ k w. 2 ^ k * 2 ^ k * w };
+
+    ghost made = { λ e. e.sums };
+
+    ghost coset_promised_law = { λ e k none. none };
+
+    ghost default_law = { λ e none. none };
+
+    ghost clone_law = { λ e copy none. none };
+
+    fn dft_batch<N: IntoRowMajorMatrix<F>>(
+        &mut self,
+        mat: N,
+    ) -> Result<RowMajorMatrix<F>, DftError> {
+        if self.left == 0 {
+            return Err(DftError::OutOfMemory);
+        }
+        self.left -= 1;
+        self.sums.dft_batch(mat)
+    }
+
+    fn add_products(&mut self, products: Products) {
+        TwoAdicSubgroupDft::<F>::add_products(&mut self.sums, products);
+    }
+
+    fn coset_lde_batch_with_transform<
+        N: IntoRowMajorMatrix<F>,
+        T: FnOnce(RowMajorMatrix<F>, Layout) -> RowMajorMatrix<F> + Drop,
+    >(
+        &mut self,
+        mat: N,
+        added_bits: usize,
+        shift: F,
+        transform: T,
+    ) -> Result<RowMajorMatrix<F>, DftError> {
+        self.coset_lde_batch_by_parts(mat, added_bits, shift, transform)
+    }
+}
+
+// Has coefficients in bit reversed order.
+#[derive(Drop)]
+pub(crate) struct ReversedDft {
+    sums: NaiveDft,
+}
+
+impl Default for ReversedDft {
+    ghost use Rattle.std.specs.Prelude.{◌≡◌};
+
+    ghost is_default = { λ e. e.sums ≡ 0 };
+
+    fn default() -> Self {
+        ReversedDft {
+            sums: NaiveDft::default(),
+        }
+    }
+}
+
+impl Clone for ReversedDft {
+    ghost use Rattle.std.specs.Prelude.{◌≡◌, ⊤};
+
+    ghost is_clone = { λ _ e. e.sums ≡ 0 };
+
+    ghost is_infallible = { λ _. ⊤ };
+
+    fn clone(&self) -> Result<Self, AllocError> {
+        Ok(Self::default())
+    }
+}
+
+impl<F: TwoAdicField> TwoAdicSubgroupDft<F> for ReversedDft {
+    ghost use Rattle.std.specs.Prelude.{⊤, ℕ, ◌*◌, ◌^◌};
+    ghost use Rattle.p3_dft.specs.declared.traits.Layout.TheVariants.{BitReversed};
+
+    type Evaluations = RowMajorMatrix<F>;
+
+    const LAYOUT: Layout = Layout::BitReversed;
+
+    ghost LAYOUT = { BitReversed };
+
+    ghost promised = { λ _ _. ⊥ };
+
+    ghost coset_promised = { λ _ _. ⊥ };
+
+    ghost served = { λ _ _. ⊤ };
+
+    ghost bound = { λ k w. 2 ^ k * 2 ^ k * w };
+
+    ghost made = { λ e. e.sums };
+
+    ghost coset_promised_law = { λ e k none. none };
+
+    ghost default_law = { λ e none. none };
+
+    ghost clone_law = { λ e copy none. none };
+
+    fn dft_batch<N: IntoRowMajorMatrix<F>>(
+        &mut self,
+        mat: N,
+    ) -> Result<RowMajorMatrix<F>, DftError> {
+        self.sums.dft_batch(mat)
+    }
+
+    fn add_products(&mut self, products: Products) {
+        TwoAdicSubgroupDft::<F>::add_products(&mut self.sums, products);
+    }
+
+    fn coset_lde_batch_with_transform<
+        N: IntoRowMajorMatrix<F>,
+        T: FnOnce(RowMajorMatrix<F>, Layout) -> RowMajorMatrix<F> + Drop,
+    >(
+        &mut self,
+        mat: N,
+        added_bits: usize,
+        shift: F,
+        transform: T,
+    ) -> Result<RowMajorMatrix<F>, DftError> {
+        self.coset_lde_batch_by_parts(mat, added_bits, shift, transform)
+    }
+}
