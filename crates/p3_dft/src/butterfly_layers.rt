@@ -1,6 +1,6 @@
 // Layers of the networks, on rows that lie one after the other in a slice.
 
-ghost use Rattle.std.specs.Prelude.{◌≡◌, ℕ, ◌+◌, ◌*◌, ◌/◌, ◌^◌, ◌<◌, ◌≤◌, List, length, get_or};
+ghost use Rattle.std.specs.Prelude.{◌≡◌, ℕ, ◌+◌, ◌*◌, ◌/◌, ◌^◌, ◌<◌, ◌≤◌, IsTrue, List, length, get_or};
 ghost use Rattle.p3_field.specs.Ring.{Ring};
 
 pub(crate) mod rules;
@@ -21,6 +21,12 @@ pub(crate) trait Rule<F: TwoAdicField>: Copy {
 
     // Whether the rule has a butterfly for the pair.
     ghost has: { Self → ℕ → ℕ → Type 0 };
+
+    // Whether every pair of a block has one butterfly: its halves then meet as two long rows.
+    fn goes_by_block(self) -> bool
+        ensures { let value = F.value in IsTrue result → (b s t : ℕ)
+            → (near F.Element F.ring value self b s ≡ near F.Element F.ring value self b t)
+            × (far F.Element F.ring value self b s ≡ far F.Element F.ring value self b t) };
 
     // Takes two rows of one length to the near and the far row in their places.
     fn meet(
@@ -110,7 +116,11 @@ fn meet_block<F: TwoAdicField, R: Rule<F>>(
     ensures count { products.new ≤ products.old + R.cost * (half * width) }
 {
     let (low, high) = values.split_at_mut(half * width);
-    meet_halves(rule, low, high, width, half, block, products);
+    if rule.goes_by_block() {
+        rule.meet(block, 0, low, high, products);
+    } else {
+        meet_halves(rule, low, high, width, half, block, products);
+    }
 }
 
 // The rows of the two halves of a block, pair by pair.

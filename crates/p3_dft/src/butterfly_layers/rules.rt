@@ -29,6 +29,11 @@ impl<F: TwoAdicField> Rule<F> for DitByPlace<'_, F> {
     ghost has = { λ r b t. (t < length r.twiddles.now) × (F.value (get_or r.twiddles.now 0 F.ZERO) ≡ F.ring.one) };
 
     #[inline(always)]
+    fn goes_by_block(self) -> bool {
+        false
+    }
+
+    #[inline(always)]
     fn meet(
         self,
         _block: usize,
@@ -64,6 +69,11 @@ impl<F: TwoAdicField> Rule<F> for DitByPlaceOnCoset<'_, F> {
     ghost has = { λ r b t. t < length r.twiddles.now };
 
     #[inline(always)]
+    fn goes_by_block(self) -> bool {
+        false
+    }
+
+    #[inline(always)]
     fn meet(
         self,
         _block: usize,
@@ -93,6 +103,11 @@ impl<F: TwoAdicField> Rule<F> for DitByBlock<'_, F> {
     ghost cost = { 1 };
 
     ghost has = { λ r b t. (b < length r.twiddles.now) × (F.value (get_or r.twiddles.now 0 F.ZERO) ≡ F.ring.one) };
+
+    #[inline(always)]
+    fn goes_by_block(self) -> bool {
+        true
+    }
 
     #[inline(always)]
     fn meet(
@@ -130,6 +145,11 @@ impl<F: TwoAdicField> Rule<F> for DitByBlockOnCoset<'_, F> {
     ghost has = { λ r b t. b < length r.twiddles.now };
 
     #[inline(always)]
+    fn goes_by_block(self) -> bool {
+        true
+    }
+
+    #[inline(always)]
     fn meet(
         self,
         block: usize,
@@ -162,6 +182,11 @@ impl<F: TwoAdicField> Rule<F> for ScaledDitByBlock<'_, F> {
     ghost has = { λ r b t. b < length r.twiddles.now };
 
     #[inline(always)]
+    fn goes_by_block(self) -> bool {
+        true
+    }
+
+    #[inline(always)]
     fn meet(
         self,
         block: usize,
@@ -192,6 +217,11 @@ impl<F: TwoAdicField> Rule<F> for DifByBlock<'_, F> {
     ghost cost = { 1 };
 
     ghost has = { λ r b t. (b < length r.twiddles.now) × (F.value (get_or r.twiddles.now 0 F.ZERO) ≡ F.ring.one) };
+
+    #[inline(always)]
+    fn goes_by_block(self) -> bool {
+        true
+    }
 
     #[inline(always)]
     fn meet(
@@ -228,6 +258,11 @@ impl<F: TwoAdicField> Rule<F> for DifZerosByBlock<'_, F> {
     ghost cost = { 1 };
 
     ghost has = { λ r b t. b < length r.twiddles.now };
+
+    #[inline(always)]
+    fn goes_by_block(self) -> bool {
+        true
+    }
 
     #[inline(always)]
     fn meet(
