@@ -17,8 +17,8 @@ pub mod util;
 pub use jobs::{Job, JobsStopped, run_jobs};
 pub use naive::NaiveDft;
 pub use p3_field::{
-    BabyBear, CanonicalField, Field, Goldilocks, KoalaBear, Packable, Packed, PackedField,
-    Products, TwoAdicField, scaled,
+    BabyBear, BabyBearX8, CanonicalField, Field, Goldilocks, KoalaBear, KoalaBearX8, Lanes,
+    Packable, Packed, PackedField, Products, TwoAdicField, scaled,
 };
 pub use p3_matrix::{
     Butterfly, DftError, DifButterfly, DifButterflyZeros, DitButterfly, Evaluations,

@@ -169,3 +169,127 @@ module _ (m : ℕ) (above : 1 < m) (small : m < 2147483648) (t : ℕ) (factor : 
   multiples_of_lanes [] n e below = refl
   multiples_of_lanes (x ∷ xs) zero e below = absurd (omega (arith, e))
   multiples_of_lanes (x ∷ xs) (suc n) e below = ap₂ ◌∷◌ (lane_multiple x below.0) (multiples_of_lanes xs n (omega (arith, e)) below.1)
+
+-- ---- products of two lanes: u is the upper digits of a product, and e the quotient that it and the reciprocal of m estimate
+abbrev wide_product : ℕ → ℕ → ℕ
+wide_product x y = (x * y) % 18446744073709551616
+
+abbrev wide_difference : ℕ → ℕ → ℕ
+wide_difference x y = (x + (18446744073709551616 - y)) % 18446744073709551616
+
+abbrev shifted_right : ℕ → ℕ → ℕ
+shifted_right x s = x / 2 ^ s
+
+abbrev reciprocal : ℕ → ℕ
+reciprocal m = 4611686018427387904 / m % 4294967296
+
+abbrev upper_digits : ℕ → ℕ → ℕ
+upper_digits x y = wide_product x y / 1073741824
+
+abbrev estimated : ℕ → ℕ → ℕ → ℕ
+estimated m x y = wide_product (upper_digits x y) (reciprocal m) / 4294967296
+
+abbrev rest_of_product : ℕ → ℕ → ℕ → ℕ
+rest_of_product m x y = wide_difference (wide_product x y) (wide_product (estimated m x y) m)
+
+module _ (m : ℕ) (above : 1 < m) (small : m < 2147483648) (near : 1073741824 + 4611686018427387904 % m < m) where
+  product_is : (x y : ℕ) → x < m → y < m → (wide_product x y ≡ x * y) × (x * y < 4611686018427387904)
+  product_is x y a b =
+      let x_most : x ≤ 2147483647 = omega (arith, a, small) in
+      let y_most : y ≤ 2147483647 = omega (arith, b, small) in
+      let product : x * y ≤ 2147483647 * 2147483647 = mul-le-mul x_most y_most in
+      (mod-eq_of_lt (omega (arith, product)), omega (arith, product))
+
+  reciprocal_is : reciprocal m ≡ 4611686018427387904 / m
+  reciprocal_is = mod-eq_of_lt ((div-lt_iff_lt-mul {k = m} (omega (arith, above))).1 (omega (arith, near)))
+
+  upper_below : (x y : ℕ) → x < m → y < m → upper_digits x y < 4294967296
+  upper_below x y a b =
+      let p = product_is x y a b in
+      (div-lt_iff_lt-mul {k = 1073741824} (omega arith)).1 (omega (arith, p.0, p.1))
+
+  -- the estimate is at most one less than the quotient
+  estimated_below : (x y : ℕ) → x < m → y < m → (estimated m x y * m ≤ x * y) × (x * y < estimated m x y * m + (m + m))
+  estimated_below x y a b =
+      let p : ℕ = x * y in
+      let q : ℕ = reciprocal m in
+      let u : ℕ = upper_digits x y in
+      let e : ℕ = estimated m x y in
+      let rho : ℕ = 4611686018427387904 % m in
+      let lower : ℕ = p % 1073741824 in
+      let w : ℕ = (u * q) % 4294967296 in
+      let whole = product_is x y a b in
+      let u_word : u ≤ 4294967295 = omega (arith, upper_below x y a b) in
+      let q_word : q ≤ 4294967295 = omega (arith, mod-lt (4611686018427387904 / m) {m = 4294967296} (lit< tt)) in
+      let product : u * q ≤ 4294967295 * 4294967295 = mul-le-mul u_word q_word in
+      let product_word : wide_product u q ≡ u * q = mod-eq_of_lt (omega (arith, product)) in
+      let p_parts : lower + u * 1073741824 ≡ p = ap (λ k. lower + k / 1073741824 * 1073741824) whole.0 ∙ mod-add-div' p 1073741824 in
+      let m_parts : rho + q * m ≡ 4611686018427387904 = ap (λ k. rho + k * m) reciprocal_is ∙ mod-add-div' 4611686018427387904 m in
+      let e_parts : w + e * 4294967296 ≡ u * q = ap (λ k. w + k / 4294967296 * 4294967296) product_word ∙ mod-add-div' (u * q) 4294967296 in
+      let w_word : w ≤ 4294967295 = omega (arith, mod-lt (u * q) {m = 4294967296} (lit< tt)) in
+      let lower_word : lower ≤ 1073741823 = omega (arith, mod-lt p {m = 1073741824} (lit< tt)) in
+      let first : w * m ≤ 4294967295 * m = mul-le-mul_right m w_word in
+      let second : u * rho ≤ 4294967295 * rho = mul-le-mul_right rho u_word in
+      let spread : 4294967296 * p ≡ 4294967296 * (e * m) + (w * m + (u * rho + 4294967296 * lower)) =
+      let a1 : 4294967296 * p ≡ 4294967296 * lower + u * 4611686018427387904 = ap (λ k. 4294967296 * k) (sym p_parts) ∙ omega arith in
+      let a2 : 4294967296 * lower + u * 4611686018427387904 ≡ 4294967296 * lower + u * (rho + q * m) = ap (λ k. 4294967296 * lower + u * k) (sym m_parts) in
+      let a3 : 4294967296 * lower + u * (rho + q * m) ≡ u * q * m + (u * rho + 4294967296 * lower) = omega arith in
+      let a4 : (w + e * 4294967296) * m + (u * rho + 4294967296 * lower) ≡ 4294967296 * (e * m) + (w * m + (u * rho + 4294967296 * lower)) = omega arith in
+      a1 ∙ a2 ∙ a3 ∙ ap (λ k. k * m + (u * rho + 4294967296 * lower)) (sym e_parts) ∙ a4 in
+      (omega (arith, spread), omega (arith, spread, first, second, lower_word, near, above))
+
+  lane_rest_of_product : (x y : ℕ) → x < m → y < m → rest_of_product m x y + estimated m x y * m ≡ x * y
+  lane_rest_of_product x y a b =
+      let bound = estimated_below x y a b in
+      let whole = product_is x y a b in
+      let multiple : wide_product (estimated m x y) m ≡ estimated m x y * m = mod-eq_of_lt (omega (arith, bound.0, whole.1)) in
+      let rest : rest_of_product m x y ≡ x * y - estimated m x y * m = ap₂ wide_difference whole.0 multiple ∙ omega (arith, bound.0, whole.1) in
+      omega (arith, rest, bound.0)
+
+  lane_rest_of_product_below : (x y : ℕ) → x < m → y < m → rest_of_product m x y < m + m
+  lane_rest_of_product_below x y a b =
+      let bound = estimated_below x y a b in
+      omega (arith, bound.0, bound.1, lane_rest_of_product x y a b)
+
+  lane_product : (x y : ℕ) → x < m → y < m → rest_of_product m x y % m ≡ (x * y) % m
+  lane_product x y a b = sym (add-mul-mod_self_right (rest_of_product m x y) (estimated m x y) m) ∙ ap (λ n. n % m) (lane_rest_of_product x y a b)
+
+  -- all lanes
+  abbrev wide_products : List ℕ → List ℕ → List ℕ
+  wide_products xs ys = zip2 wide_product (map (λ x. x) xs) (map (λ x. x) ys)
+
+  abbrev uppers : ℕ → List ℕ → List ℕ → List ℕ
+  uppers n xs ys = zip2 shifted_right (wide_products xs ys) (replicate n 30)
+
+  abbrev all_estimated : ℕ → List ℕ → List ℕ → List ℕ
+  all_estimated n xs ys = zip2 shifted_right (zip2 wide_product (map (λ x. x) (map (λ x. x) (uppers n xs ys))) (replicate n (reciprocal m))) (replicate n 32)
+
+  abbrev rests_of_products : ℕ → List ℕ → List ℕ → List ℕ
+  rests_of_products n xs ys = zip2 wide_difference (wide_products xs ys) (zip2 wide_product (all_estimated n xs ys) (replicate n m))
+
+  pub uppers_fit : (xs ys : List ℕ) (n : ℕ) → length xs ≡ n → AreBelow m xs → AreBelow m ys → Each1 (Fits w32) (uppers n xs ys)
+  uppers_fit [] ys n e a b = tt
+  uppers_fit (x ∷ xs) [] n e a b = tt
+  uppers_fit (x ∷ xs) (y ∷ ys) zero e a b = absurd (omega (arith, e))
+  uppers_fit (x ∷ xs) (y ∷ ys) (suc n) e a b = (record { fits = upper_below x y a.0 b.0 }, uppers_fit xs ys n (omega (arith, e)) a.1 b.1)
+
+  pub rests_of_products_fit : (xs ys : List ℕ) (n : ℕ) → length xs ≡ n → AreBelow m xs → AreBelow m ys → Each1 (Fits w32) (rests_of_products n xs ys)
+  rests_of_products_fit [] ys n e a b = tt
+  rests_of_products_fit (x ∷ xs) [] n e a b = tt
+  rests_of_products_fit (x ∷ xs) (y ∷ ys) zero e a b = absurd (omega (arith, e))
+  rests_of_products_fit (x ∷ xs) (y ∷ ys) (suc n) e a b =
+      let fits : rest_of_product m x y < 4294967296 = omega (arith, lane_rest_of_product_below x y a.0 b.0, small) in
+      (record { fits = fits }, rests_of_products_fit xs ys n (omega (arith, e)) a.1 b.1)
+
+  pub rests_of_products_below : (xs ys : List ℕ) (n : ℕ) → length xs ≡ n → AreBelow m xs → AreBelow m ys → AreBelow (m + m) (map (λ x. x) (rests_of_products n xs ys))
+  rests_of_products_below [] ys n e a b = tt
+  rests_of_products_below (x ∷ xs) [] n e a b = tt
+  rests_of_products_below (x ∷ xs) (y ∷ ys) zero e a b = absurd (omega (arith, e))
+  rests_of_products_below (x ∷ xs) (y ∷ ys) (suc n) e a b = (lane_rest_of_product_below x y a.0 b.0, rests_of_products_below xs ys n (omega (arith, e)) a.1 b.1)
+
+  pub products_of_lanes : (xs ys : List ℕ) (n : ℕ) → length xs ≡ n → AreBelow m xs → AreBelow m ys
+      → map (λ k. k % m) (map (λ x. x) (rests_of_products n xs ys)) ≡ zip2 (λ x y. (x * y) % m) xs ys
+  products_of_lanes [] ys n e a b = refl
+  products_of_lanes (x ∷ xs) [] n e a b = refl
+  products_of_lanes (x ∷ xs) (y ∷ ys) zero e a b = absurd (omega (arith, e))
+  products_of_lanes (x ∷ xs) (y ∷ ys) (suc n) e a b = ap₂ ◌∷◌ (lane_product x y a.0 b.0) (products_of_lanes xs ys n (omega (arith, e)) a.1 b.1)

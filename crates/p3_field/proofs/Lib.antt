@@ -1,5 +1,6 @@
 pub mod Bezout
 pub mod LaneArithmetic
+pub mod LaneLoops
 pub mod Lists
 pub mod Parity
 pub mod Powers

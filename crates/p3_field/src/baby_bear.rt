@@ -44,4 +44,6 @@ impl Numbers for BabyBearNumbers {
     ghost two_adicity_law = { refl };
 
     ghost small_law = { lit< tt };
+
+    ghost quotient_law = { lit< tt };
 }

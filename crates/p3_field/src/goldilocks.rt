@@ -306,6 +306,11 @@ impl PackedField for Goldilocks {
         self * t
     }
 
+    fn multiplied(self, other: Goldilocks, products: &mut Products) -> Goldilocks {
+        products.rise(1);
+        self * other
+    }
+
     ghost width_law = { λ _. refl };
 }
 

@@ -44,4 +44,6 @@ impl Numbers for KoalaBearNumbers {
     ghost two_adicity_law = { refl };
 
     ghost small_law = { lit< tt };
+
+    ghost quotient_law = { lit< tt };
 }

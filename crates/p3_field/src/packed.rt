@@ -59,6 +59,12 @@ where
             ≡ map (λ x. Self.Scalar.ring.mul x (Self.Scalar.value t)) (map Self.Scalar.value (lanes self)) }
         ensures count { products.new ≡ products.old + WIDTH };
 
+    /// Multiplies lane by lane, and counts `WIDTH` products.
+    fn multiplied(self, other: Self, products: &mut Products) -> Self
+        ensures lanes { map Self.Scalar.value (lanes result)
+            ≡ by_lanes Self.Scalar.ring.mul (map Self.Scalar.value (lanes self)) (map Self.Scalar.value (lanes other)) }
+        ensures count { products.new ≡ products.old + WIDTH };
+
     ghost width_law: { (x : Self) → length (lanes x) ≡ WIDTH };
 }
 

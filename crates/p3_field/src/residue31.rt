@@ -1,6 +1,6 @@
 //! Residues of an odd modulus below `2^31`, once for every such modulus.
 
-ghost use Rattle.std.specs.Prelude.{◌≡◌, ◌<◌, ◌≤◌, ◌%◌, ◌-◌, ℕ};
+ghost use Rattle.std.specs.Prelude.{◌≡◌, ◌<◌, ◌≤◌, ◌%◌, ◌-◌, ℕ, ◌+◌};
 
 use crate::euclid::inverse_modulo;
 use crate::fields::Field;
@@ -50,6 +50,10 @@ pub trait Numbers: Copy + Ord + Debug {
     ghost two_adicity_law: { TWO_ADICITY ≡ numbers.two_adicity };
 
     ghost small_law: { numbers.modulus < 2147483648 };
+
+    // The quotient of a product by the modulus can be told from the product's upper digits, but for
+    // one: 2^30 and the remainder of 2^62.
+    ghost quotient_law: { 1073741824 + 4611686018427387904 % numbers.modulus < numbers.modulus };
 }
 
 /// An integer modulo `N::MODULUS`, by its number below the modulus.
@@ -288,6 +292,11 @@ impl<N: Numbers> PackedField for Residue31<N> {
     fn scaled(self, t: Residue31<N>, products: &mut Products) -> Residue31<N> {
         products.rise(1);
         self * t
+    }
+
+    fn multiplied(self, other: Residue31<N>, products: &mut Products) -> Residue31<N> {
+        products.rise(1);
+        self * other
     }
 
     ghost width_law = { λ _. refl };

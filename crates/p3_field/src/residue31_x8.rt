@@ -110,6 +110,14 @@ impl<N: Numbers> PackedField for Residue31X8<N> {
         }
     }
 
+    fn multiplied(self, other: Residue31X8<N>, products: &mut Products) -> Residue31X8<N> {
+        products.rise(8);
+        Residue31X8 {
+            lanes: lane_products::<N>(self.lanes, other.lanes),
+            of: PhantomData,
+        }
+    }
+
     ghost width_law = { λ x. length-elements_of _ x.lanes x.below ∙ x.eight };
 }
 
@@ -156,4 +164,20 @@ fn multiples<N: Numbers>(a: u32x8, t: u32) -> u32x8
     let quotient = ((t as u64) << 32) / N::MODULUS as u64 % 4294967296;
     let estimate = ((a.cast::<u64>() * u64x8::splat(quotient)) >> u64x8::splat(32)).cast::<u32>();
     remainders::<N>(a * u32x8::splat(t) - estimate * u32x8::splat(N::MODULUS))
+}
+
+// The product of each two lanes below the modulus. The quotient of a product is estimated by its
+// upper digits and the reciprocal of the modulus; the estimate is one too small at most.
+#[inline(always)]
+fn lane_products<N: Numbers>(a: u32x8, b: u32x8) -> u32x8
+    requires first { AreBelow N.numbers.modulus a }
+    requires second { AreBelow N.numbers.modulus b }
+    ensures { result ≡ zip2 (λ x y. (x * y) % N.numbers.modulus) a b }
+{
+    let modulus = N::MODULUS as u64;
+    let reciprocal = 4611686018427387904 / modulus % 4294967296;
+    let product = a.cast::<u64>() * b.cast::<u64>();
+    let upper = (product >> u64x8::splat(30)).cast::<u32>();
+    let estimate = (upper.cast::<u64>() * u64x8::splat(reciprocal)) >> u64x8::splat(32);
+    remainders::<N>((product - estimate * u64x8::splat(modulus)).cast::<u32>())
 }

@@ -204,6 +204,9 @@ fn lane_agrees<N: Numbers>(
     x.scaled(t, products).store(&mut out);
     assert_eq!(rt; out[lane].as_canonical_u64(), product);
     assert!(rt; out[other] == -t);
+    x.multiplied(y, products).store(&mut out);
+    assert_eq!(rt; out[lane].as_canonical_u64(), product);
+    assert!(rt; out[other] == -Residue31::TWO);
     Residue31X8::broadcast(t).store(&mut out);
     assert!(rt; out[lane] == t);
 }

@@ -1,11 +1,12 @@
 // The public names of the crates below, each as a user of this crate alone writes it.
 
 use p3_dft::{
-    BabyBear, Butterfly, DifButterfly, DifButterflyZeros, DitButterfly, Evaluations, Field,
-    Goldilocks, IntoRowMajorMatrix, Packable, Packed, PackedField, Products, RowMajorMatrix,
-    RowMajorMatrixView, RowMajorMatrixViewMut, ScaledDitButterfly, TwiddleFreeButterfly,
-    TwoAdicField, divide_by_height, log2_strict_usize, reverse_bits_len, reverse_matrix_index_bits,
-    reverse_slice_index_bits, scale_slice_in_place, scaled, split_rows_mut, swap_rows,
+    BabyBear, BabyBearX8, Butterfly, DifButterfly, DifButterflyZeros, DitButterfly, Evaluations,
+    Field, Goldilocks, IntoRowMajorMatrix, Lanes, Packable, Packed, PackedField, Products,
+    RowMajorMatrix, RowMajorMatrixView, RowMajorMatrixViewMut, ScaledDitButterfly,
+    TwiddleFreeButterfly, TwoAdicField, divide_by_height, log2_strict_usize, reverse_bits_len,
+    reverse_matrix_index_bits, reverse_slice_index_bits, scale_slice_in_place, scaled,
+    split_rows_mut, swap_rows,
 };
 use std::test::Fail;
 
@@ -73,4 +74,16 @@ fn names_of_the_crates_below(rt: HostRuntime) -> Result<(), Fail> {
     assert!(rt; first_natural(mat.try_clone()?) == Some(half));
     assert!(rt; first_stored(mat) == Some(half));
     Ok(())
+}
+
+// Packed values by their names.
+#[test]
+fn names_of_packed_values(rt: HostRuntime) {
+    let three = BabyBear::from_u8(3);
+    let mut lanes = [BabyBear::ZERO; 3];
+    Lanes::<BabyBear, 3>::broadcast(three).store(&mut lanes);
+    assert!(rt; lanes == [three; 3]);
+    let mut eight = [BabyBear::ZERO; 8];
+    BabyBearX8::broadcast(three).store(&mut eight);
+    assert!(rt; eight == [three; 8]);
 }

@@ -1,10 +1,10 @@
 //! Butterflies against values that were calculated by hand, and rows against single elements.
 
-ghost use Rattle.std.specs.Prelude.{◌≡◌, IfOk, vec_len};
+ghost use Rattle.std.specs.Prelude.{◌≡◌, ◌≤◌, IfOk, vec_len};
 
 use super::*;
 use crate::dense::RowMajorMatrix;
-use p3_field::{BabyBear, CanonicalField, Field, Goldilocks};
+use p3_field::{BabyBear, CanonicalField, Field, Goldilocks, Lanes};
 use std::alloc::Global;
 use std::process::Abort;
 use std::test::Fail;
@@ -137,6 +137,62 @@ fn applies_to_rows(rt: HostRuntime) -> Result<(), Fail> {
         1000003,
     )?;
     rows_like_elements(&rt, alloc, TwiddleFreeButterfly, 1000003)
+}
+
+// Rows of full packs, by packed values of this width, against single elements.
+fn packs_like_elements<P: PackedField<Scalar = BabyBear>, B: Butterfly<BabyBear>>(
+    rt: &impl Abort,
+    alloc: Global,
+    b: B,
+    step_2: usize,
+) -> Result<(), Fail>
+    requires { 1 ≤ P.WIDTH }
+{
+    let mut products = Products::new();
+    for size in 0..34usize {
+        let full = full_packs(size, P::WIDTH);
+        let mut row_1 = row(alloc, full, 2013265900, 7)?;
+        let mut row_2 = row(alloc, full, 0, step_2)?;
+        let mut one_1 = row(alloc, full, 2013265900, 7)?;
+        let mut one_2 = row(alloc, full, 0, step_2)?;
+        apply_to_packs::<BabyBear, P, B>(
+            &b,
+            row_1.as_mut_slice(),
+            row_2.as_mut_slice(),
+            &mut products,
+        );
+        apply_to_packs::<BabyBear, BabyBear, B>(
+            &b,
+            one_1.as_mut_slice(),
+            one_2.as_mut_slice(),
+            &mut products,
+        );
+        assert!(rt; row_1 == one_1, "the near row of {full}");
+        assert!(rt; row_2 == one_2, "the far row of {full}");
+    }
+    Ok(())
+}
+
+// Each butterfly, at packed values of this width.
+fn packs_of<P: PackedField<Scalar = BabyBear>>(rt: &impl Abort, alloc: Global) -> Result<(), Fail>
+    requires { 1 ≤ P.WIDTH }
+{
+    let t = baby_bear(1728404513);
+    let scaled = ScaledDitButterfly::new(t, baby_bear(1006632961));
+    packs_like_elements::<P, DitButterfly<BabyBear>>(rt, alloc, DitButterfly(t), 1000003)?;
+    packs_like_elements::<P, DifButterfly<BabyBear>>(rt, alloc, DifButterfly(t), 1000003)?;
+    packs_like_elements::<P, DifButterflyZeros<BabyBear>>(rt, alloc, DifButterflyZeros(t), 0)?;
+    packs_like_elements::<P, ScaledDitButterfly<BabyBear>>(rt, alloc, scaled, 1000003)?;
+    packs_like_elements::<P, TwiddleFreeButterfly>(rt, alloc, TwiddleFreeButterfly, 1000003)
+}
+
+#[test]
+fn packs_of_other_widths(rt: HostRuntime) -> Result<(), Fail> {
+    let alloc = rt.alloc();
+    packs_of::<Lanes<BabyBear, 1>>(&rt, alloc)?;
+    packs_of::<Lanes<BabyBear, 3>>(&rt, alloc)?;
+    packs_of::<Lanes<BabyBear, 4>>(&rt, alloc)?;
+    packs_of::<Lanes<BabyBear, 8>>(&rt, alloc)
 }
 
 // A row of a pack and three more entries, whose sums and differences wrap around the modulus.

@@ -1,0 +1,6 @@
+use Rattle.std.proofs.Common.{ap, [], ◌∷◌}
+use Rattle.p3_field.specs.Residues.{Residue, residue-eq}
+use Rattle.p3_field.proofs.residue31.Residue31PackedField.multiplied.Goals as goal
+
+pub returns-clause-lanes : goal.returns-clause-lanes
+returns-clause-lanes g c = ap (λ (x : Residue g.N.Numbers.numbers.modulus). x ∷ []) (residue-eq _ _ c.mul.ensures)

@@ -1,0 +1,90 @@
+//! Scalars side by side, each in a lane of its own.
+
+ghost use Rattle.std.specs.Prelude.{◌≡◌, ◌<◌, ◌≤◌, ℕ, length, get_or};
+
+use crate::fields::Field;
+use crate::packed::{Packed, PackedField, Products};
+use std::alloc::AllocError;
+
+/// `N` scalars of a field, which each operation handles one after another by the field's own
+/// operation.
+pub struct Lanes<F, const N: usize> {
+    lanes: [F; N],
+    ghost long: { length lanes ≡ N },
+}
+
+impl<F: Copy, const N: usize> Copy for Lanes<F, N> {}
+
+impl<F: Copy, const N: usize> Clone for Lanes<F, N> {
+    fn clone(&self) -> Result<Lanes<F, N>, AllocError> {
+        Ok(*self)
+    }
+}
+
+impl<F: Field, const N: usize> Packed for Lanes<F, N> {
+    type Scalar = F;
+}
+
+impl<F: Field, const N: usize> PackedField for Lanes<F, N> {
+    ghost use Rattle.std.specs.Prelude.{length};
+
+    const WIDTH: usize = N;
+
+    ghost WIDTH = { N };
+
+    ghost lanes = { λ x. x.lanes };
+
+    fn load(from: &[F]) -> Lanes<F, N> {
+        let mut lanes = [F::ZERO; N];
+        for i in 0..N {
+            lanes[i] = from[i];
+        }
+        Lanes { lanes }
+    }
+
+    fn store(self, to: &mut [F]) {
+        for i in 0..N {
+            to[i] = self.lanes[i];
+        }
+    }
+
+    fn broadcast(scalar: F) -> Lanes<F, N> {
+        Lanes { lanes: [scalar; N] }
+    }
+
+    fn add(self, other: Lanes<F, N>) -> Lanes<F, N> {
+        let mut lanes = self.lanes;
+        for i in 0..N {
+            lanes[i] = lanes[i] + other.lanes[i];
+        }
+        Lanes { lanes }
+    }
+
+    fn sub(self, other: Lanes<F, N>) -> Lanes<F, N> {
+        let mut lanes = self.lanes;
+        for i in 0..N {
+            lanes[i] = lanes[i] - other.lanes[i];
+        }
+        Lanes { lanes }
+    }
+
+    fn scaled(self, t: F, products: &mut Products) -> Lanes<F, N> {
+        products.rise(N);
+        let mut lanes = self.lanes;
+        for i in 0..N {
+            lanes[i] = lanes[i] * t;
+        }
+        Lanes { lanes }
+    }
+
+    fn multiplied(self, other: Lanes<F, N>, products: &mut Products) -> Lanes<F, N> {
+        products.rise(N);
+        let mut lanes = self.lanes;
+        for i in 0..N {
+            lanes[i] = lanes[i] * other.lanes[i];
+        }
+        Lanes { lanes }
+    }
+
+    ghost width_law = { λ x. x.long };
+}
