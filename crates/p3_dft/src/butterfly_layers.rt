@@ -5,7 +5,7 @@ ghost use Rattle.p3_field.specs.Ring.{Ring};
 
 pub(crate) mod rules;
 
-use p3_field::{Products, TwoAdicField};
+use p3_field::{PackedField, Products, TwoAdicField};
 
 // Which butterfly meets a pair of rows: that of place t in block b.
 //
@@ -45,6 +45,19 @@ pub(crate) trait Rule<F: TwoAdicField>: Copy {
             ≡ far F.Element F.ring F.value self block place (F.value (get_or row_1.old j F.ZERO)) (F.value (get_or row_2.old j F.ZERO)) }
         ensures grows { products.old ≤ products.new }
         ensures count { products.new ≤ products.old + cost * length row_1.old };
+
+    // Takes the halves of a block of one column, whose place t is entry t, to the near and the far
+    // half in their places.
+    fn meet_column(self, block: usize, low: &mut [F], high: &mut [F], products: &mut Products)
+        requires some { 1 ≤ length low.old }
+        requires size { length low.old ≡ length high.old }
+        requires there { (t : ℕ) → t < length low.old → has self block t }
+        ensures near { (t : ℕ) → t < length low.old → F.value (get_or low.new t F.ZERO)
+            ≡ near F.Element F.ring F.value self block t (F.value (get_or low.old t F.ZERO)) (F.value (get_or high.old t F.ZERO)) }
+        ensures far { (t : ℕ) → t < length low.old → F.value (get_or high.new t F.ZERO)
+            ≡ far F.Element F.ring F.value self block t (F.value (get_or low.old t F.ZERO)) (F.value (get_or high.old t F.ZERO)) }
+        ensures grows { products.old ≤ products.new }
+        ensures count { products.new ≤ products.old + cost * length low.old };
 }
 
 // Blocks of a layer. The rows come in blocks of two halves, of `half` rows each, and row t of the
@@ -118,9 +131,19 @@ fn meet_block<F: TwoAdicField, R: Rule<F>>(
     let (low, high) = values.split_at_mut(half * width);
     if rule.goes_by_block() {
         rule.meet(block, 0, low, high, products);
+    } else if is_column_of_packs::<F>(width, half) {
+        rule.meet_column(block, low, high, products);
     } else {
         meet_halves(rule, low, high, width, half, block, products);
     }
+}
+
+// Whether the halves of a block are one column each that fills a pack of several lanes.
+fn is_column_of_packs<F: TwoAdicField>(width: usize, half: usize) -> bool
+    ensures { IsTrue result → width ≡ 1 }
+{
+    let lanes = F::Packing::WIDTH;
+    width == 1 && lanes > 1 && half >= lanes
 }
 
 // The rows of the two halves of a block, pair by pair.

@@ -1,5 +1,5 @@
 -- Operations by lanes: on rows in two parts, with a function before or after, and where they read one side alone.
-use Rattle.std.proofs.Common.{◌≡◌, ℕ, suc, List, [], ◌∷◌, ◌++◌, length, map, refl, sym, ap, ap₂, ◌∙◌, arith}
+use Rattle.std.proofs.Common.{◌≡◌, ℕ, zero, suc, List, [], ◌∷◌, ◌++◌, length, map, take, drop, refl, sym, ap, ap₂, ◌∙◌, arith}
 use Rattle.std.proofs.lemmas.List.{length-map}
 use Rattle.p3_field.specs.Lanes.{by_lanes}
 
@@ -14,6 +14,18 @@ module _ {A : Type 0} where
   length-by_lanes op [] ys e = refl
   length-by_lanes op (x ∷ xs) [] e = absurd (omega arith)
   length-by_lanes op (x ∷ xs) (y ∷ ys) e = ap suc (length-by_lanes op xs ys (omega arith))
+
+  pub take-by_lanes : (op : A → A → A) (k : ℕ) (xs ys : List A) → take k (by_lanes op xs ys) ≡ by_lanes op (take k xs) (take k ys)
+  take-by_lanes op zero xs ys = refl
+  take-by_lanes op (suc k) [] ys = refl
+  take-by_lanes op (suc k) (x ∷ xs) [] = refl
+  take-by_lanes op (suc k) (x ∷ xs) (y ∷ ys) = ap (λ zs. op x y ∷ zs) (take-by_lanes op k xs ys)
+
+  pub drop-by_lanes : (op : A → A → A) (k : ℕ) (xs ys : List A) → length xs ≡ length ys → drop k (by_lanes op xs ys) ≡ by_lanes op (drop k xs) (drop k ys)
+  drop-by_lanes op zero xs ys e = refl
+  drop-by_lanes op (suc k) [] ys e = refl
+  drop-by_lanes op (suc k) (x ∷ xs) [] e = absurd (omega arith)
+  drop-by_lanes op (suc k) (x ∷ xs) (y ∷ ys) e = drop-by_lanes op k xs ys (omega arith)
 
   pub by_lanes-map_right : (op : A → A → A) (f : A → A) (xs ys : List A) → by_lanes op xs (map f ys) ≡ by_lanes (λ x y. op x (f y)) xs ys
   by_lanes-map_right op f [] ys = refl

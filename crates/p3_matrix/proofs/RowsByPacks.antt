@@ -61,3 +61,16 @@ rows_in_parts v op xs ys us us' vs vs' ps qs e f l p q =
     map-append v ps qs ∙ ap₂ ◌++◌ p q
     ∙ sym (by_lanes-append op (map v us) (map v vs) (map v us') (map v vs') (length-map us v ∙ l ∙ sym (length-map vs v)))
     ∙ ap₂ (by_lanes op) (sym (ap (map v) e ∙ map-append v us us')) (sym (ap (map v) f ∙ map-append v vs vs'))
+
+-- an operation on rows of which one is itself by lanes, by two parts of the three
+pub three_in_parts : {F E : Type 0} (v : F → E) (op op' : E → E → E) (xs ys ts us us' vs vs' ws ws' ps qs : List F) → xs ≡ us ++ us' → ys ≡ vs ++ vs' → ts ≡ ws ++ ws'
+    → length us ≡ length vs → length vs ≡ length ws → map v ps ≡ by_lanes op (map v us) (by_lanes op' (map v vs) (map v ws))
+    → map v qs ≡ by_lanes op (map v us') (by_lanes op' (map v vs') (map v ws')) → map v (ps ++ qs) ≡ by_lanes op (map v xs) (by_lanes op' (map v ys) (map v ts))
+three_in_parts v op op' xs ys ts us us' vs vs' ws ws' ps qs e f h l m p q =
+    let inner : length (map v vs) ≡ length (map v ws) = length-map vs v ∙ m ∙ sym (length-map ws v) in
+    let outer : length (map v us) ≡ length (by_lanes op' (map v vs) (map v ws)) = length-map us v ∙ l ∙ sym (length-map vs v) ∙ sym (length-by_lanes op' (map v vs) (map v ws) inner) in
+    map-append v ps qs ∙ ap₂ ◌++◌ p q
+    ∙ sym (by_lanes-append op (map v us) (by_lanes op' (map v vs) (map v ws)) (map v us') (by_lanes op' (map v vs') (map v ws')) outer)
+    ∙ ap₂ (by_lanes op) (sym (ap (map v) e ∙ map-append v us us'))
+    (sym (by_lanes-append op' (map v vs) (map v ws) (map v vs') (map v ws') inner)
+    ∙ ap₂ (by_lanes op') (sym (ap (map v) f ∙ map-append v vs vs')) (sym (ap (map v) h ∙ map-append v ws ws')))

@@ -1,13 +1,13 @@
 //! Butterflies: what takes a pair of values, or two rows, to another pair.
 
 ghost use Rattle.std.specs.Prelude.{◌≡◌, ◌+◌, ◌*◌, ◌≤◌, ℕ, length, map};
-ghost use Rattle.p3_field.specs.Ring.{Ring};
+ghost use Rattle.p3_field.specs.Ring.{Ring, minus};
 ghost use Rattle.p3_field.specs.Lanes.{by_lanes};
 
 #[cfg(test)]
 mod tests;
 
-use crate::packs::{apply_to_packs, apply_to_packs_oop, full_packs};
+use crate::packs::{apply_to_packs, apply_to_packs_oop, dit_on_packs, full_packs};
 use p3_field::{Packable, PackedField, Products};
 use std::alloc::AllocError;
 
@@ -253,4 +253,29 @@ impl<F: Packable> Butterfly<F> for TwiddleFreeButterfly {
     ) -> (P, P) {
         (x_1.add(x_2), x_1.sub(x_2))
     }
+}
+
+/// Decimation in time on two rows whose pairs have a twiddle each: those at place t meet as
+/// `DitButterfly(twiddles[t])` says, for one product. The rows and the twiddles have one length, which
+/// may be zero.
+pub fn apply_dit_by_place<F: Packable>(
+    twiddles: &[F],
+    row_1: &mut [F],
+    row_2: &mut [F],
+    products: &mut Products,
+)
+    requires rows { length row_1.old ≡ length row_2.old }
+    requires twiddles { length row_1.old ≡ length twiddles.now }
+    ensures near { map F.value row_1.new ≡ by_lanes F.ring.add (map F.value row_1.old)
+        (by_lanes F.ring.mul (map F.value row_2.old) (map F.value twiddles.now)) }
+    ensures far { map F.value row_2.new ≡ by_lanes (minus F.ring) (map F.value row_1.old)
+        (by_lanes F.ring.mul (map F.value row_2.old) (map F.value twiddles.now)) }
+    ensures count { products.new ≡ products.old + length row_1.old }
+{
+    let full = full_packs(row_1.len(), F::Packing::WIDTH);
+    let (packed, rest) = twiddles.split_at(full);
+    let (packed_1, rest_1) = row_1.split_at_mut(full);
+    let (packed_2, rest_2) = row_2.split_at_mut(full);
+    dit_on_packs::<F, F::Packing>(packed, packed_1, packed_2, products);
+    dit_on_packs::<F, F>(rest, rest_1, rest_2, products);
 }

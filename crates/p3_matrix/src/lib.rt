@@ -14,7 +14,7 @@ pub mod views;
 pub use bitrev::{reverse_bits_len, reverse_matrix_index_bits, reverse_slice_index_bits};
 pub use butterflies::{
     Butterfly, DifButterfly, DifButterflyZeros, DitButterfly, ScaledDitButterfly,
-    TwiddleFreeButterfly,
+    TwiddleFreeButterfly, apply_dit_by_place,
 };
 pub use dense::RowMajorMatrix;
 pub use error::DftError;

@@ -1,7 +1,7 @@
 // Rows that are taken pack by pack: a packed value from each of `WIDTH` places.
 
 ghost use Rattle.std.specs.Prelude.{◌≡◌, ◌+◌, ◌*◌, ◌<◌, ◌≤◌, ℕ, length, map};
-ghost use Rattle.p3_field.specs.Ring.{Ring};
+ghost use Rattle.p3_field.specs.Ring.{Ring, minus};
 ghost use Rattle.p3_field.specs.Lanes.{by_lanes};
 
 use crate::butterflies::Butterfly;
@@ -96,6 +96,58 @@ pub(crate) fn apply_to_packs_oop<F: Packable, P: PackedField<Scalar = F>, B: But
         far.store(&mut dst_2[at..at + width]);
         at += width;
     }
+}
+
+// Decimation in time on two rows of full packs, where each pair has a twiddle of its own.
+pub(crate) fn dit_on_packs<F: Packable, P: PackedField<Scalar = F>>(
+    twiddles: &[F],
+    row_1: &mut [F],
+    row_2: &mut [F],
+    products: &mut Products,
+)
+    requires wide { 1 ≤ P.WIDTH }
+    requires whole { (k : ℕ) × length row_1.old ≡ k * P.WIDTH }
+    requires equal { length row_1.old ≡ length row_2.old }
+    requires twiddles { length row_1.old ≡ length twiddles.now }
+    ensures near { map F.value row_1.new ≡ by_lanes F.ring.add (map F.value row_1.old)
+        (by_lanes F.ring.mul (map F.value row_2.old) (map F.value twiddles.now)) }
+    ensures far { map F.value row_2.new ≡ by_lanes (minus F.ring) (map F.value row_1.old)
+        (by_lanes F.ring.mul (map F.value row_2.old) (map F.value twiddles.now)) }
+    ensures count { products.new ≡ products.old + length row_1.old }
+{
+    let width = P::WIDTH;
+    let mut at = 0;
+    while at < row_1.len() {
+        dit_on_pack::<F, P>(
+            &twiddles[at..at + width],
+            &mut row_1[at..at + width],
+            &mut row_2[at..at + width],
+            products,
+        );
+        at += width;
+    }
+}
+
+// One pack of each row.
+fn dit_on_pack<F: Packable, P: PackedField<Scalar = F>>(
+    twiddles: &[F],
+    part_1: &mut [F],
+    part_2: &mut [F],
+    products: &mut Products,
+)
+    requires twiddles { length twiddles.now ≡ P.WIDTH }
+    requires first { length part_1.old ≡ P.WIDTH }
+    requires second { length part_2.old ≡ P.WIDTH }
+    ensures near { map F.value part_1.new ≡ by_lanes F.ring.add (map F.value part_1.old)
+        (by_lanes F.ring.mul (map F.value part_2.old) (map F.value twiddles.now)) }
+    ensures far { map F.value part_2.new ≡ by_lanes (minus F.ring) (map F.value part_1.old)
+        (by_lanes F.ring.mul (map F.value part_2.old) (map F.value twiddles.now)) }
+    ensures count { products.new ≡ products.old + P.WIDTH }
+{
+    let x = P::load(part_1);
+    let multiples = P::load(part_2).multiplied(P::load(twiddles), products);
+    x.add(multiples).store(part_1);
+    x.sub(multiples).store(part_2);
 }
 
 // Multiplies each of full packs of values by t.

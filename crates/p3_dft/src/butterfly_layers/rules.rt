@@ -2,12 +2,13 @@
 // a block or by the number of the block. Where the first one is one, its pairs are not multiplied.
 
 ghost use Rattle.std.specs.Prelude.{◌≡◌, ℕ, ◌+◌, ◌*◌, ◌<◌, ◌≤◌, List, length, get_or};
+ghost use Rattle.p3_matrix.specs.Butterflies.{dit_near, dit_far};
 
 use crate::butterfly_layers::Rule;
 use p3_field::{Products, TwoAdicField};
 use p3_matrix::{
     Butterfly, DifButterfly, DifButterflyZeros, DitButterfly, ScaledDitButterfly,
-    TwiddleFreeButterfly,
+    TwiddleFreeButterfly, apply_dit_by_place,
 };
 
 // Decimation in time: pair t of every block has twiddle t. Twiddle 0 is one.
@@ -48,6 +49,11 @@ impl<F: TwoAdicField> Rule<F> for DitByPlace<'_, F> {
             meet_rows(DitButterfly(self.twiddles[place]), row_1, row_2, products);
         }
     }
+
+    #[inline(always)]
+    fn meet_column(self, _block: usize, low: &mut [F], high: &mut [F], products: &mut Products) {
+        meet_by_place(self.twiddles, low, high, products);
+    }
 }
 
 // Decimation in time on a coset: pair t of every block has twiddle t, and none is free.
@@ -83,6 +89,11 @@ impl<F: TwoAdicField> Rule<F> for DitByPlaceOnCoset<'_, F> {
         products: &mut Products,
     ) {
         meet_rows(DitButterfly(self.twiddles[place]), row_1, row_2, products);
+    }
+
+    #[inline(always)]
+    fn meet_column(self, _block: usize, low: &mut [F], high: &mut [F], products: &mut Products) {
+        meet_by_place(self.twiddles, low, high, products);
     }
 }
 
@@ -124,6 +135,11 @@ impl<F: TwoAdicField> Rule<F> for DitByBlock<'_, F> {
             meet_rows(DitButterfly(self.twiddles[block]), row_1, row_2, products);
         }
     }
+
+    #[inline(always)]
+    fn meet_column(self, block: usize, low: &mut [F], high: &mut [F], products: &mut Products) {
+        self.meet(block, 0, low, high, products);
+    }
 }
 
 // Decimation in time on a coset: every pair of block b has twiddle b, and none is free.
@@ -159,6 +175,11 @@ impl<F: TwoAdicField> Rule<F> for DitByBlockOnCoset<'_, F> {
         products: &mut Products,
     ) {
         meet_rows(DitButterfly(self.twiddles[block]), row_1, row_2, products);
+    }
+
+    #[inline(always)]
+    fn meet_column(self, block: usize, low: &mut [F], high: &mut [F], products: &mut Products) {
+        self.meet(block, 0, low, high, products);
     }
 }
 
@@ -197,6 +218,11 @@ impl<F: TwoAdicField> Rule<F> for ScaledDitByBlock<'_, F> {
     ) {
         let butterfly = ScaledDitButterfly::new(self.twiddles[block], self.scale);
         meet_rows(butterfly, row_1, row_2, products);
+    }
+
+    #[inline(always)]
+    fn meet_column(self, block: usize, low: &mut [F], high: &mut [F], products: &mut Products) {
+        self.meet(block, 0, low, high, products);
     }
 }
 
@@ -237,6 +263,11 @@ impl<F: TwoAdicField> Rule<F> for DifByBlock<'_, F> {
         } else {
             meet_rows(DifButterfly(self.twiddles[block]), row_1, row_2, products);
         }
+    }
+
+    #[inline(always)]
+    fn meet_column(self, block: usize, low: &mut [F], high: &mut [F], products: &mut Products) {
+        self.meet(block, 0, low, high, products);
     }
 }
 
@@ -280,6 +311,11 @@ impl<F: TwoAdicField> Rule<F> for DifZerosByBlock<'_, F> {
             products,
         );
     }
+
+    #[inline(always)]
+    fn meet_column(self, block: usize, low: &mut [F], high: &mut [F], products: &mut Products) {
+        self.meet(block, 0, low, high, products);
+    }
 }
 
 // A butterfly on two rows, with a contract that speaks of entries.
@@ -297,4 +333,22 @@ fn meet_rows<F: TwoAdicField, B: Butterfly<F>>(
     ensures count { products.new ≡ products.old + B.cost * length row_1.old }
 {
     butterfly.apply_to_rows(row_1, row_2, products);
+}
+
+// Decimation in time on two halves of a column: the entries at place t meet with twiddle t.
+fn meet_by_place<F: TwoAdicField>(
+    twiddles: &[F],
+    low: &mut [F],
+    high: &mut [F],
+    products: &mut Products,
+)
+    requires size { length low.old ≡ length high.old }
+    requires enough { length low.old ≤ length twiddles.now }
+    ensures near { (t : ℕ) → t < length low.old → F.value (get_or low.new t F.ZERO)
+        ≡ dit_near F.ring (F.value (get_or twiddles.now t F.ZERO)) (F.value (get_or low.old t F.ZERO)) (F.value (get_or high.old t F.ZERO)) }
+    ensures far { (t : ℕ) → t < length low.old → F.value (get_or high.new t F.ZERO)
+        ≡ dit_far F.ring (F.value (get_or twiddles.now t F.ZERO)) (F.value (get_or low.old t F.ZERO)) (F.value (get_or high.old t F.ZERO)) }
+    ensures count { products.new ≡ products.old + length low.old }
+{
+    apply_dit_by_place(&twiddles[0..low.len()], low, high, products);
 }

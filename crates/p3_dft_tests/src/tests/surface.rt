@@ -4,9 +4,9 @@ use p3_dft::{
     BabyBear, BabyBearX8, Butterfly, DifButterfly, DifButterflyZeros, DitButterfly, Evaluations,
     Field, Goldilocks, IntoRowMajorMatrix, Lanes, Packable, Packed, PackedField, Products,
     RowMajorMatrix, RowMajorMatrixView, RowMajorMatrixViewMut, ScaledDitButterfly,
-    TwiddleFreeButterfly, TwoAdicField, divide_by_height, log2_strict_usize, reverse_bits_len,
-    reverse_matrix_index_bits, reverse_slice_index_bits, scale_slice_in_place, scaled,
-    split_rows_mut, swap_rows,
+    TwiddleFreeButterfly, TwoAdicField, apply_dit_by_place, divide_by_height, log2_strict_usize,
+    reverse_bits_len, reverse_matrix_index_bits, reverse_slice_index_bits, scale_slice_in_place,
+    scaled, split_rows_mut, swap_rows,
 };
 use std::test::Fail;
 
@@ -86,4 +86,10 @@ fn names_of_packed_values(rt: HostRuntime) {
     let mut eight = [BabyBear::ZERO; 8];
     BabyBearX8::broadcast(three).store(&mut eight);
     assert!(rt; eight == [three; 8]);
+    apply_dit_by_place(
+        &lanes,
+        &mut [three; 3],
+        &mut [BabyBear::ZERO; 3],
+        &mut Products::new(),
+    );
 }

@@ -195,6 +195,36 @@ fn packs_of_other_widths(rt: HostRuntime) -> Result<(), Fail> {
     packs_of::<Lanes<BabyBear, 8>>(&rt, alloc)
 }
 
+#[test]
+fn twiddles_by_place(rt: HostRuntime) -> Result<(), Fail> {
+    let alloc = rt.alloc();
+    let mut products = Products::new();
+    for size in 0..34usize {
+        let twiddles = row(alloc, size, 2013265919, 271828)?;
+        let first = row(alloc, size, 2013265900, 7)?;
+        let second = row(alloc, size, 0, 1000003)?;
+        let mut row_1 = row(alloc, size, 2013265900, 7)?;
+        let mut row_2 = row(alloc, size, 0, 1000003)?;
+        apply_dit_by_place(
+            twiddles.as_slice(),
+            row_1.as_mut_slice(),
+            row_2.as_mut_slice(),
+            &mut products,
+        );
+        for ((t, (x_1, x_2)), (near, far)) in twiddles
+            .iter()
+            .zip(first.iter().zip(second.iter()))
+            .zip(row_1.iter().zip(row_2.iter()))
+        {
+            assert!(rt;
+                DitButterfly(*t).apply(*x_1, *x_2, &mut products) == (*near, *far),
+                "a place of {size}"
+            );
+        }
+    }
+    Ok(())
+}
+
 // A row of a pack and three more entries, whose sums and differences wrap around the modulus.
 #[test]
 fn wraps_in_each_lane(rt: HostRuntime) -> Result<(), Fail> {

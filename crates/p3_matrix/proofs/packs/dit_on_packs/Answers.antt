@@ -1,0 +1,68 @@
+use Rattle.std.proofs.Common.{◌≡◌, ◌+◌, ◌-◌, ◌*◌, ◌≤◌, length, map, take, drop, refl, sym, ap, ap₂, ◌∙◌, arith}
+use Rattle.std.proofs.lemmas.List.{length-map, take-map, drop-map}
+use Rattle.p3_field.specs.Lanes.{by_lanes}
+use Rattle.p3_field.specs.Ring.{minus}
+use Rattle.p3_matrix.proofs.Lanes.{length-by_lanes, take-by_lanes, drop-by_lanes}
+use Rattle.p3_matrix.proofs.RowsByPacks.{next_pack, pack_done, pack_fits, rows_done_all}
+use Rattle.p3_matrix.proofs.packs.dit_on_packs.Goals as goal
+
+pub loop-at-preserved : goal.loop-at-preserved
+loop-at-preserved g c =
+    let f = g.F.Field in
+    let v = f.value in
+    let l = c.loop-at in
+    let w = c.WIDTH-width.result in
+    let k = l.at + w - l.at in
+    let xs = map v c.args.row_1.now in
+    let ys = map v c.args.row_2.now in
+    let ts = map v c.args.twiddles.now in
+    let ms = by_lanes f.ring.mul ys ts in
+    let fits = pack_fits l.at l.invariant.left.0 w (length c.args.row_1.now) (omega (arith, c.loop-at-test.true, l.auto.row_1)) l.invariant.left.1 in
+    let here : l.at + w ≡ l.at + k = omega arith in
+    let within : l.at + k ≤ length xs = omega (arith, length-map c.args.row_1.now v, fits.1) in
+    let equal : length xs ≡ length ys = length-map c.args.row_1.now v ∙ c.requires.equal ∙ sym (length-map c.args.row_2.now v) in
+    let turned : length ys ≡ length ts = sym equal ∙ length-map c.args.row_1.now v ∙ c.requires.twiddles ∙ sym (length-map c.args.twiddles.now v) in
+    let long : length xs ≡ length ms = equal ∙ sym (length-by_lanes f.ring.mul ys ts turned) in
+    let part_1 = next_pack f.ring.add v l.at xs ms xs l.row_1 k (omega arith) long l.invariant.near in
+    let part_2 = next_pack (minus f.ring) v l.at xs ms ys l.row_2 k (omega arith) long l.invariant.far in
+    let part_t : map v (take k (drop l.at c.args.twiddles.now)) ≡ take k (drop l.at ts) = sym (take-map v k (drop l.at c.args.twiddles.now)) ∙ ap (take k) (sym (drop-map v l.at c.args.twiddles.now)) in
+    let part_m : by_lanes f.ring.mul (take k (drop l.at ys)) (take k (drop l.at ts)) ≡ take k (drop l.at ms) =
+    sym (ap (take k) (drop-by_lanes f.ring.mul l.at ys ts turned) ∙ take-by_lanes f.ring.mul k (drop l.at ys) (drop l.at ts)) in
+    let multiples = ap₂ (by_lanes f.ring.mul) part_2 part_t ∙ part_m in
+    record {
+      width = l.invariant.width;
+      left = fits;
+      near = pack_done f.ring.add v l.at xs ms xs l.row_1 k (l.at + w) c.dit_on_pack.new.part_1 within long here l.invariant.near (c.dit_on_pack.ensures.near ∙ ap₂ (by_lanes f.ring.add) part_1 multiples);
+      far = pack_done (minus f.ring) v l.at xs ms ys l.row_2 k (l.at + w) c.dit_on_pack.new.part_2 within long here l.invariant.far (c.dit_on_pack.ensures.far ∙ ap₂ (by_lanes (minus f.ring)) part_1 multiples);
+      count = omega (arith, c.dit_on_pack.ensures.count, l.invariant.count, c.WIDTH-width.ensures);
+    }
+
+pub returns-clause-near : goal.returns-clause-near
+returns-clause-near g c =
+    let f = g.F.Field in
+    let v = f.value in
+    let l = c.loop-at in
+    let xs = map v c.args.row_1.now in
+    let ys = map v c.args.row_2.now in
+    let ts = map v c.args.twiddles.now in
+    let wide : length xs ≡ length c.args.row_1.now = length-map c.args.row_1.now v in
+    let equal : length xs ≡ length ys = wide ∙ c.requires.equal ∙ sym (length-map c.args.row_2.now v) in
+    let turned : length ys ≡ length ts = sym equal ∙ wide ∙ c.requires.twiddles ∙ sym (length-map c.args.twiddles.now v) in
+    l.invariant.near
+    ∙ rows_done_all f.ring.add l.at xs (by_lanes f.ring.mul ys ts) xs (omega (arith, c.loop-at-test.false, l.auto.row_1, l.invariant.left.1, wide))
+    (equal ∙ sym (length-by_lanes f.ring.mul ys ts turned)) refl
+
+pub returns-clause-far : goal.returns-clause-far
+returns-clause-far g c =
+    let f = g.F.Field in
+    let v = f.value in
+    let l = c.loop-at in
+    let xs = map v c.args.row_1.now in
+    let ys = map v c.args.row_2.now in
+    let ts = map v c.args.twiddles.now in
+    let wide : length xs ≡ length c.args.row_1.now = length-map c.args.row_1.now v in
+    let equal : length xs ≡ length ys = wide ∙ c.requires.equal ∙ sym (length-map c.args.row_2.now v) in
+    let turned : length ys ≡ length ts = sym equal ∙ wide ∙ c.requires.twiddles ∙ sym (length-map c.args.twiddles.now v) in
+    l.invariant.far
+    ∙ rows_done_all (minus f.ring) l.at xs (by_lanes f.ring.mul ys ts) ys (omega (arith, c.loop-at-test.false, l.auto.row_1, l.invariant.left.1, wide))
+    (equal ∙ sym (length-by_lanes f.ring.mul ys ts turned)) equal
