@@ -2,4 +2,5 @@
 pub mod Combinations
 pub mod Equality
 pub mod OneAnswer
+pub mod Products
 pub mod TwoCalls

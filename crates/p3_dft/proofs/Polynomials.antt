@@ -4,4 +4,5 @@ pub mod Cosets
 pub mod Distance
 pub mod Interpolation
 pub mod Inverses
+pub mod Products
 pub mod Sums

@@ -30,4 +30,4 @@ pub use p3_matrix::{
 pub use radix_2_bowers::Radix2Bowers;
 pub use radix_2_dit::Radix2Dit;
 pub use traits::{Layout, TwoAdicSubgroupDft};
-pub use util::{divide_by_height, fits_dft, fits_lde};
+pub use util::{divide_by_height, extend_by_zeros, fits_dft, fits_lde};

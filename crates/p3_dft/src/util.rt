@@ -119,8 +119,10 @@ pub(crate) fn exchange_rows<T>(mat: &mut RowMajorMatrix<T>, i: usize, j: usize)
     swap_rows(&mut mat.as_view_mut(), i, j);
 }
 
-// Adds `n` zeros at the end. Where memory is refused, the values stay.
-pub(crate) fn extend_by_zeros<F: Field>(values: &mut Vec<F>, n: usize) -> Result<(), DftError>
+/// Adds `n` zeros at the end, as a polynomial's coefficients need them where a transform has more
+/// points: they change none of its values. The new length is one that a `usize` holds. An error is
+/// want of memory, and then the values are as before.
+pub fn extend_by_zeros<F: Field>(values: &mut Vec<F>, n: usize) -> Result<(), DftError>
     requires { vec_len values.old + n < 2 ^ 64 }
     ensures ok { OnOk result (values.new.items ≡ values.old.items ++ replicate n F.ZERO) }
     ensures err { OnErr result (values.new.items ≡ values.old.items) }

@@ -12,6 +12,7 @@ mod engines;
 mod jobs;
 mod laws;
 mod naive;
+mod product;
 mod radix_2_dit;
 mod surface;
 mod util;

@@ -1,5 +1,5 @@
 -- Values of polynomials that are made of others: sums of multiples, one column alone, rows of zeros, and another coset.
-use Rattle.std.proofs.Common.{◌≡◌, ℕ, ◌+◌, ◌-◌, ◌<◌, ◌≤◌, ◌^◌, ltb, cond, lt-ltb, le-ltb, refl, sym, ap, ap₂, ◌∙◌, arith}
+use Rattle.std.proofs.Common.{◌≡◌, ℕ, ◌+◌, ◌-◌, ◌<◌, ◌≤◌, ltb, cond, lt-ltb, le-ltb, refl, sym, ap, ap₂, ◌∙◌, arith}
 use Rattle.p3_field.specs.Ring.{Ring}
 use Rattle.p3_matrix.specs.Matrix.{Matrix}
 use Rattle.p3_dft.specs.Cosets.{point, IsValues, coset_shift}

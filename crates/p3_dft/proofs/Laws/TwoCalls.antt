@@ -1,7 +1,7 @@
 -- What two calls have to do with each other: laws that a user cites, in the words of the clauses.
 -- `m` is what a call is given; `y` and `z` are values, `c` and `d` coefficients, `out` an extension. A law that takes the roots'
 -- law names it `are_roots`; it is `roots_law` of the field.
-use Rattle.std.proofs.Common.{◌≡◌, ℕ, suc, ◌+◌, ◌*◌, ◌/◌, ◌^◌, ◌<◌, ◌≤◌, cond, le-ltb, List, [], ◌∷◌, length, get_or, map, refl, sym, ap, ap₂, ◌∙◌, subst, arith}
+use Rattle.std.proofs.Common.{◌≡◌, ℕ, suc, ◌+◌, ◌*◌, ◌/◌, ◌^◌, ◌<◌, ◌≤◌, cond, le-ltb, List, [], ◌∷◌, length, get_or, map, sym, ap, ap₂, ◌∙◌, subst, arith}
 use Rattle.std.specs.List.{All, AllZip, range_with_len}
 use Rattle.std.proofs.Math.ListN.{get_or-map}
 use Rattle.std.proofs.lemmas.List.{ext_get_or, length-map}

@@ -6,18 +6,13 @@ use Rattle.std.proofs.lemmas.List.FromFn.{length-map-range_with_len, get_or-map-
 use Rattle.p3_field.specs.Ring.{Ring, power}
 use Rattle.p3_field.proofs.Rings
 use Rattle.p3_field.proofs.RingSolver.{solve, va, vb, vc, vd, ve, zeroₑ, ◌⊞◌, ◌⊠◌, ⊝}
-use Rattle.p3_dft.specs.Polynomials.{value, poly}
+use Rattle.p3_dft.specs.Polynomials.{sum, value, poly}
 
 module _ {A : Type 0} (R : Ring A) where
   open R use {add as ◌⊕◌, mul as ◌⊗◌, neg, zero as 𝟘, one as 𝟙}
 
   infixl 60 ◌⊕◌
   infixl 70 ◌⊗◌
-  -- the sum of f 0, .., f (n - 1)
-  unfoldable pub sum_of : ℕ → (ℕ → A) → A
-  sum_of zero f = 𝟘
-  sum_of (suc n) f = f 0 ⊕ sum_of n (λ j. f (suc j))
-
   pub value-poly : (cs : List A) (d x : A) → value R cs x ≡ poly R (length cs) (λ j. get_or cs j d) x
   unfolding value poly
   value-poly [] d x = refl
@@ -29,19 +24,19 @@ module _ {A : Type 0} (R : Ring A) where
   poly_same zero f h x e = refl
   poly_same (suc n) f h x e = ap₂ (λ a b. a ⊕ x ⊗ b) (e 0 (omega arith)) (poly_same n (λ j. f (suc j)) (λ j. h (suc j)) x (λ j l. e (suc j) (omega arith)))
 
-  pub sum_same : (n : ℕ) (f h : ℕ → A) → ((j : ℕ) → j < n → f j ≡ h j) → sum_of n f ≡ sum_of n h
-  unfolding sum_of
+  pub sum_same : (n : ℕ) (f h : ℕ → A) → ((j : ℕ) → j < n → f j ≡ h j) → sum R n f ≡ sum R n h
+  unfolding sum
   sum_same zero f h e = refl
   sum_same (suc n) f h e = ap₂ ◌⊕◌ (e 0 (omega arith)) (sum_same n (λ j. f (suc j)) (λ j. h (suc j)) (λ j l. e (suc j) (omega arith)))
 
-  pub sum_times : (n : ℕ) (f : ℕ → A) (x : A) → x ⊗ sum_of n f ≡ sum_of n (λ j. x ⊗ f j)
-  unfolding sum_of
+  pub sum_times : (n : ℕ) (f : ℕ → A) (x : A) → x ⊗ sum R n f ≡ sum R n (λ j. x ⊗ f j)
+  unfolding sum
   sum_times zero f x = Rings.mul-zero R x
   sum_times (suc n) f x = R.mul_add _ _ _ ∙ ap (λ y. x ⊗ f 0 ⊕ y) (sum_times n (λ j. f (suc j)) x)
 
   -- Horner is the sum
-  pub poly-sum : (n : ℕ) (f : ℕ → A) (x : A) → poly R n f x ≡ sum_of n (λ j. f j ⊗ power R x j)
-  unfolding sum_of poly power
+  pub poly-sum : (n : ℕ) (f : ℕ → A) (x : A) → poly R n f x ≡ sum R n (λ j. f j ⊗ power R x j)
+  unfolding sum poly power
   poly-sum zero f x = refl
   poly-sum (suc n) f x = ap₂ ◌⊕◌ (sym (R.mul_one (f 0))) (ap (λ y. x ⊗ y) (poly-sum n (λ j. f (suc j)) x) ∙ sum_times n (λ j. f (suc j) ⊗ power R x j) x ∙ sum_same n _ _ (λ j l. Rings.mul_left_comm R _ _ _))
 
