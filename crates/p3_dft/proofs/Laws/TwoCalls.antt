@@ -1,7 +1,7 @@
 -- What two calls have to do with each other: laws that a user cites, in the words of the clauses.
 -- `m` is what a call is given; `y` and `z` are values, `c` and `d` coefficients, `out` an extension. A law that takes the roots'
 -- law names it `are_roots`; it is `roots_law` of the field.
-use Rattle.std.proofs.Common.{◌≡◌, ℕ, suc, ◌+◌, ◌*◌, ◌/◌, ◌^◌, ◌<◌, ◌≤◌, cond, le-ltb, List, [], ◌∷◌, length, get_or, map, sym, ap, ap₂, ◌∙◌, subst, arith}
+use Rattle.std.proofs.Common.{◌≡◌, ℕ, suc, ◌+◌, ◌*◌, ◌/◌, ◌^◌, ◌<◌, ◌≤◌, cond, le-ltb, lt-ltb, List, [], ◌∷◌, length, get_or, map, sym, ap, ap₂, ◌∙◌, subst, arith}
 use Rattle.std.specs.List.{All, AllZip, range_with_len}
 use Rattle.std.proofs.Math.ListN.{get_or-map}
 use Rattle.std.proofs.lemmas.List.{ext_get_or, length-map}
@@ -134,13 +134,13 @@ module _ {F : Type 0} (f : FieldMembers F) (generator : ℕ → F) where
     one_coefficients m k c d within = there_is_no_other f.ring are_roots (values m) k f.ring.one within (f.ring.one, f.ring.mul_one f.ring.one) c d
 
     -- an extension has the values of the polynomials whose coefficients the inverse gives
-    pub extension_values : (m c out : RowMajor F) (a : ℕ) (s : f.Element) → (fits : FitsLde bits (height m) m.width a) → IsInterpolation f generator m f.ring.one c → IsExtension f generator m a s out
-        → IsValues f.ring roots (values c) (fits.log + a) s (values out)
-    extension_values m c out a s fits inverse extension =
-        let k = fits.log in
+    pub extension_values : (m c out : RowMajor F) (a : ℕ) (s : f.Element) → FitsLde bits (height m) m.width a → IsInterpolation f generator m f.ring.one c → IsExtension f generator m a s out
+        → (k : ℕ) → height m ≡ 2 ^ k → IsValues f.ring roots (values c) (k + a) s (values out)
+    extension_values m c out a s fits inverse extension k high =
+        let within : k ≤ bits = exponent_within k (input_fits bits (height m) m.width a fits) high in
         coefficients_same f.ring roots extension.coefficients (values c) (k + a) s (values out)
-        (one_coefficients m k extension.coefficients (values c) (omega (arith, fits.within)) (extension.are_coefficients k fits.high) (inverse.holds k fits.high))
-        (extension.extended k fits.high)
+        (one_coefficients m k extension.coefficients (values c) within (extension.are_coefficients k high) (inverse.holds k high))
+        (extension.extended k high)
 
     -- row i * 2 ^ a of an extension on the subgroup is row i of the input
     pub extension_keeps_rows : (m out : RowMajor F) (a : ℕ) → FitsLde bits (height m) m.width a → IsExtension f generator m a f.ring.one out
@@ -163,7 +163,17 @@ module _ {F : Type 0} (f : FieldMembers F) (generator : ℕ → F) where
     inverse_of_extension m c out d a s fits inverse extension back =
         let k = fits.log in
         back_from_extension m (values c) out d a k s fits.high ((inverse.holds k fits.high).high)
-        (extension_values m c out a s fits inverse extension) back
+        (extension_values m c out a s fits inverse extension k fits.high) back
+
+    -- so its first rows are those coefficients
+    pub inverse_keeps_coefficients : (m c out d : RowMajor F) (a : ℕ) (s : f.Element) → FitsLde bits (height m) m.width a → IsInterpolation f generator m f.ring.one c → IsExtension f generator m a s out
+        → IsInterpolation f generator out s d → (i j : ℕ) → i < height m → j < m.width → (values d).entry i j ≡ (values c).entry i j
+    inverse_keeps_coefficients m c out d a s fits inverse extension back i j below inside =
+        let are = inverse.holds fits.log fits.high in
+        let longer = lengthened f.ring.zero (height m * 2 ^ a) (values c) in
+        let here : i < height m * 2 ^ a = omega (arith, below, le-mul_of_pos_right (height m) (pow_pos a)) in
+        sym ((same_sym (values d) longer (inverse_of_extension m c out d a s fits inverse extension back)).alike i j here (omega (arith, inside, are.wide)))
+        ∙ ap (λ t. cond t ((values c).entry i j) f.ring.zero) (lt-ltb i (height c) (omega (arith, below, are.high)))
 
     -- nested cosets: the extension, with shift s, of the values on the coset of u is the values on the coset of u s
     pub extension_of_coset : (c y out : RowMajor F) (a : ℕ) (u s : f.Element) → FitsLde bits (height c) c.width a → IsTransform f generator c u y → IsExtension f generator y a s out

@@ -11,7 +11,7 @@ ghost use Rattle.p3_dft.specs.Extensions.{IsExtension};
 ghost use Rattle.p3_dft.specs.Jobs.{CanRun};
 ghost use Rattle.p3_dft.specs.Polynomials.{value};
 ghost use Rattle.p3_dft.specs.Shapes.{FitsDft, FitsLde};
-ghost use Rattle.p3_dft.specs.Transforms.{values_of};
+ghost use Rattle.p3_dft.specs.Transforms.{IsTransform, values_of};
 
 use super::{Matrix, elements, has_inverse, matrix};
 use p3_dft::{
@@ -65,6 +65,46 @@ fn transforms_agree<F: TwoAdicField, D: TwoAdicSubgroupDft<F>, E: TwoAdicSubgrou
     Ok(first == second)
 }
 
+// And on an inverse.
+fn inverses_agree<F: TwoAdicField, D: TwoAdicSubgroupDft<F>, E: TwoAdicSubgroupDft<F>>(
+    one: &mut D,
+    other: &mut E,
+    mat: RowMajorMatrix<F>,
+    shift: F,
+) -> Result<(RowMajorMatrix<F>, RowMajorMatrix<F>), DftError>
+    requires fits { FitsDft F.TWO_ADICITY (height mat) mat.width }
+    requires invertible { IsInvertible F.ring (F.value shift) }
+    ensures { IfOk result (λ out. Same (values_of F.Field.own out.0) (values_of F.Field.own out.1)) }
+{
+    let first = one.coset_idft_batch(mat.try_clone()?, shift)?;
+    let second = other.coset_idft_batch(mat, shift)?;
+    Ok((first, second))
+}
+
+// And on an extension.
+fn extensions_agree<F: TwoAdicField, D: TwoAdicSubgroupDft<F>, E: TwoAdicSubgroupDft<F>>(
+    one: &mut D,
+    other: &mut E,
+    mat: RowMajorMatrix<F>,
+    added_bits: usize,
+    shift: F,
+) -> Result<(D::Evaluations, E::Evaluations), DftError>
+    requires { FitsLde F.TWO_ADICITY (height mat) mat.width added_bits }
+    ensures { IfOk result (λ out.
+        Same (values_of F.Field.own (D.Evaluations.natural out.0)) (values_of F.Field.own (E.Evaluations.natural out.1))) }
+{
+    let first = one.coset_lde_batch(mat.try_clone()?, added_bits, shift)?;
+    let second = other.coset_lde_batch(mat, added_bits, shift)?;
+    Ok((first, second))
+}
+
+// What `==` tells are equal values.
+fn told_equal<F: TwoAdicField>(one: &RowMajorMatrix<F>, other: &RowMajorMatrix<F>) -> bool
+    ensures { IsTrue result → Same (values_of F.Field.own one.now) (values_of F.Field.own other.now) }
+{
+    one == other
+}
+
 // By no bits an extension on the subgroup is the input.
 fn extended_by_nothing<F: TwoAdicField, D: TwoAdicSubgroupDft<F>>(
     engine: &mut D,
@@ -99,6 +139,40 @@ fn extended_with_rows_kept<F: TwoAdicField, D: TwoAdicSubgroupDft<F>>(
         → (values_of F.Field.own (D.Evaluations.natural out)).entry (i * 2 ^ added_bits) j ≡ (values_of F.Field.own mat).entry i j) }
 {
     engine.lde_batch(mat, added_bits)
+}
+
+// An extension has the values of the polynomials whose coefficients the inverse gives.
+fn extended_coefficients<F: TwoAdicField, D: TwoAdicSubgroupDft<F>>(
+    engine: &mut D,
+    mat: RowMajorMatrix<F>,
+    added_bits: usize,
+    shift: F,
+) -> Result<(RowMajorMatrix<F>, D::Evaluations), DftError>
+    requires { FitsLde F.TWO_ADICITY (height mat) mat.width added_bits }
+    ensures { IfOk result (λ out. AtLog (height mat) (λ k. IsValues F.ring (λ n. F.value (F.generator n))
+        (values_of F.Field.own out.0) (k + added_bits) (F.value shift) (values_of F.Field.own (D.Evaluations.natural out.1)))) }
+{
+    let coefficients = engine.idft_batch(mat.try_clone()?)?;
+    let values = engine.coset_lde_batch(mat, added_bits, shift)?;
+    Ok((coefficients, values))
+}
+
+// And its inverse has these coefficients in its first rows.
+fn coefficients_again<F: TwoAdicField, D: TwoAdicSubgroupDft<F>>(
+    engine: &mut D,
+    mat: RowMajorMatrix<F>,
+    added_bits: usize,
+    shift: F,
+) -> Result<(RowMajorMatrix<F>, RowMajorMatrix<F>), DftError>
+    requires fits { FitsLde F.TWO_ADICITY (height mat) mat.width added_bits }
+    requires invertible { IsInvertible F.ring (F.value shift) }
+    ensures { IfOk result (λ out. (i j : ℕ) → i < height mat → j < mat.width
+        → (values_of F.Field.own out.1).entry i j ≡ (values_of F.Field.own out.0).entry i j) }
+{
+    let coefficients = engine.idft_batch(mat.try_clone()?)?;
+    let values = engine.coset_lde_batch(mat, added_bits, shift)?;
+    let back = engine.coset_idft_batch(values.to_row_major_matrix(), shift)?;
+    Ok((coefficients, back))
 }
 
 // The inverse of an extension has rows of zeros from the input's height on.
@@ -203,6 +277,73 @@ fn column_alone<F: TwoAdicField, D: TwoAdicSubgroupDft<F>>(
     Ok((whole, one))
 }
 
+// The same of inverses.
+fn column_undone_alone<F: TwoAdicField, D: TwoAdicSubgroupDft<F>>(
+    engine: &mut D,
+    mat: RowMajorMatrix<F>,
+    column: RowMajorMatrix<F>,
+    j: usize,
+    shift: F,
+) -> Result<(RowMajorMatrix<F>, RowMajorMatrix<F>), DftError>
+    requires fits { FitsDft F.TWO_ADICITY (height mat) mat.width }
+    requires invertible { IsInvertible F.ring (F.value shift) }
+    requires inside { j < mat.width }
+    requires column { Same (values_of F.Field.own column) (record {
+      height = height mat;
+      width = 1;
+      entry = λ i _. (values_of F.Field.own mat).entry i j;
+    }) }
+    ensures { IfOk result (λ out. Same (values_of F.Field.own out.1) (record {
+      height = height out.0;
+      width = 1;
+      entry = λ i _. (values_of F.Field.own out.0).entry i j;
+    })) }
+{
+    let whole = engine.coset_idft_batch(mat, shift)?;
+    let one = engine.coset_idft_batch(column, shift)?;
+    Ok((whole, one))
+}
+
+// And of extensions.
+fn column_extended_alone<F: TwoAdicField, D: TwoAdicSubgroupDft<F>>(
+    engine: &mut D,
+    mat: RowMajorMatrix<F>,
+    column: RowMajorMatrix<F>,
+    j: usize,
+    added_bits: usize,
+) -> Result<(RowMajorMatrix<F>, RowMajorMatrix<F>), DftError>
+    requires fits { FitsLde F.TWO_ADICITY (height mat) mat.width added_bits }
+    requires inside { j < mat.width }
+    requires column { Same (values_of F.Field.own column) (record {
+      height = height mat;
+      width = 1;
+      entry = λ i _. (values_of F.Field.own mat).entry i j;
+    }) }
+    ensures { IfOk result (λ out. Same (values_of F.Field.own out.1) (record {
+      height = height out.0;
+      width = 1;
+      entry = λ i _. (values_of F.Field.own out.0).entry i j;
+    })) }
+{
+    let whole = engine.lde_batch(mat, added_bits)?.to_row_major_matrix();
+    let one = engine.lde_batch(column, added_bits)?.to_row_major_matrix();
+    Ok((whole, one))
+}
+
+// A matrix with equal values has the same transform.
+fn transformed_for<F: TwoAdicField, D: TwoAdicSubgroupDft<F>>(
+    engine: &mut D,
+    mat: RowMajorMatrix<F>,
+    like: &RowMajorMatrix<F>,
+    shift: F,
+) -> Result<D::Evaluations, DftError>
+    requires fits { FitsDft F.TWO_ADICITY (height mat) mat.width }
+    requires equal { Same (values_of F.Field.own mat) (values_of F.Field.own like.now) }
+    ensures { IfOk result (λ out. IsTransform F.Field.own F.generator like.now (F.value shift) (D.Evaluations.natural out)) }
+{
+    engine.coset_dft_batch(mat, shift)
+}
+
 // Two engines answer a list of jobs alike.
 fn jobs_agree<F: TwoAdicField, D: TwoAdicSubgroupDft<F>, E: TwoAdicSubgroupDft<F>>(
     one: &mut D,
@@ -268,6 +409,40 @@ fn transforms_of_a_sum<F: TwoAdicField, D: TwoAdicSubgroupDft<F>>(
     })
 }
 
+// The same of inverses.
+fn inverses_of_a_sum<F: TwoAdicField, D: TwoAdicSubgroupDft<F>>(
+    engine: &mut D,
+    given: Three<F>,
+    a: F,
+    b: F,
+) -> Result<Three<F>, DftError>
+    requires fits { FitsDft F.TWO_ADICITY (height given.first) given.first.width }
+    requires shape { HasShapeOf given.second given.first }
+    requires sum { Same (values_of F.Field.own given.third) (record {
+      height = height given.first;
+      width = given.first.width;
+      entry = λ i j.
+          F.ring.add (F.ring.mul (F.value a) ((values_of F.Field.own given.first).entry i j))
+          (F.ring.mul (F.value b) ((values_of F.Field.own given.second).entry i j));
+    }) }
+    ensures { IfOk result (λ out. Same (values_of F.Field.own out.third) (record {
+      height = height out.first;
+      width = out.first.width;
+      entry = λ i j.
+          F.ring.add (F.ring.mul (F.value a) ((values_of F.Field.own out.first).entry i j))
+          (F.ring.mul (F.value b) ((values_of F.Field.own out.second).entry i j));
+    })) }
+{
+    let first = engine.idft_batch(given.first)?;
+    let second = engine.idft_batch(given.second)?;
+    let third = engine.idft_batch(given.third)?;
+    Ok(Three {
+        first,
+        second,
+        third,
+    })
+}
+
 #[test]
 fn transforms_and_back(rt: HostRuntime) -> Result<(), Fail> {
     let alloc = rt.alloc();
@@ -313,6 +488,51 @@ fn extensions(rt: HostRuntime) -> Result<(), Fail> {
     assert!(rt; there == matrix(alloc, &[9, 9, 9, 9], 1)?);
     let there = extended_unchanged(&mut engine, mat, 1, BabyBear::ZERO)?;
     assert!(rt; there == matrix(alloc, &[5, 5, 5, 5], 1)?);
+    Ok(())
+}
+
+#[test]
+fn equal_inverses(rt: HostRuntime) -> Result<(), Fail> {
+    let alloc = rt.alloc();
+    let mut engine = Radix2Dit::<BabyBear>::default();
+    let mat: Matrix = matrix(alloc, &[9, 1], 1)?;
+    let shift = BabyBear::TWO;
+    assert!(rt; fits_dft::<BabyBear>(mat.height(), mat.width()));
+    assert!(rt; has_inverse(shift));
+    let (one, other) = inverses_agree(&mut engine, &mut NaiveDft::default(), mat, shift)?;
+    assert!(rt; told_equal(&one, &other));
+    assert!(rt; fits_dft::<BabyBear>(one.height(), one.width()));
+    let there = transformed_for(&mut engine, one, &other, shift)?;
+    assert!(rt; there == matrix(alloc, &[9, 1], 1)?);
+    Ok(())
+}
+
+#[test]
+fn equal_extensions(rt: HostRuntime) -> Result<(), Fail> {
+    let alloc = rt.alloc();
+    let mut engine = Radix2Dit::<BabyBear>::default();
+    let mat: Matrix = matrix(alloc, &[9, 1], 1)?;
+    assert!(rt; fits_lde::<BabyBear>(mat.height(), mat.width(), 1));
+    let shift = BabyBear::ZERO;
+    let (one, other) = extensions_agree(&mut engine, &mut NaiveDft::default(), mat, 1, shift)?;
+    assert!(rt; one == matrix(alloc, &[5, 5, 5, 5], 1)?);
+    assert!(rt; other == one);
+    Ok(())
+}
+
+#[test]
+fn coefficients_of_extensions(rt: HostRuntime) -> Result<(), Fail> {
+    let alloc = rt.alloc();
+    let mut engine = Radix2Dit::<BabyBear>::default();
+    let mat: Matrix = matrix(alloc, &[9, 1], 1)?;
+    let shift = BabyBear::TWO;
+    assert!(rt; fits_lde::<BabyBear>(mat.height(), mat.width(), 1));
+    assert!(rt; has_inverse(shift));
+    let (coefficients, _values) = extended_coefficients(&mut engine, mat.try_clone()?, 1, shift)?;
+    assert!(rt; coefficients == matrix(alloc, &[5, 4], 1)?);
+    let (coefficients, back) = coefficients_again(&mut engine, mat, 1, shift)?;
+    assert!(rt; coefficients == matrix(alloc, &[5, 4], 1)?);
+    assert!(rt; back == matrix(alloc, &[5, 4, 0, 0], 1)?);
     Ok(())
 }
 

@@ -1,0 +1,8 @@
+use Rattle.std.proofs.Common.{sym}
+use Rattle.p3_dft.proofs.Laws.OneAnswer.{one_interpolation}
+use Rattle.p3_dft_tests.proofs.tests.laws.inverses_agree.Goals as goal
+
+pub returns : goal.returns
+returns g c =
+    one_interpolation g.F.Field g.F.TwoAdicField.generator g.F.TwoAdicField.TWO_ADICITY g.met.F.TwoAdicField.roots_law c.args.mat c.in_ok-first.first c.in_ok-second.second
+    (g.F.Field.value c.args.shift) c.requires.fits (rw (sym c.in_ok-try_clone.ensures) c.in_ok-first.ensures.coefficients) c.in_ok-second.ensures.coefficients
