@@ -344,6 +344,18 @@ fn transformed_for<F: TwoAdicField, D: TwoAdicSubgroupDft<F>>(
     engine.coset_dft_batch(mat, shift)
 }
 
+// A matrix of one column, as its own column.
+fn own_column<F: TwoAdicField>(mat: &RowMajorMatrix<F>) -> Result<RowMajorMatrix<F>, DftError>
+    requires { mat.now.width ≡ 1 }
+    ensures { IfOk result (λ out. Same (values_of F.Field.own out) (record {
+      height = height mat.now;
+      width = 1;
+      entry = λ i _. (values_of F.Field.own mat.now).entry i 0;
+    })) }
+{
+    Ok(mat.try_clone()?)
+}
+
 // Two engines answer a list of jobs alike.
 fn jobs_agree<F: TwoAdicField, D: TwoAdicSubgroupDft<F>, E: TwoAdicSubgroupDft<F>>(
     one: &mut D,
@@ -533,6 +545,28 @@ fn coefficients_of_extensions(rt: HostRuntime) -> Result<(), Fail> {
     let (coefficients, back) = coefficients_again(&mut engine, mat, 1, shift)?;
     assert!(rt; coefficients == matrix(alloc, &[5, 4], 1)?);
     assert!(rt; back == matrix(alloc, &[5, 4, 0, 0], 1)?);
+    Ok(())
+}
+
+#[test]
+fn columns(rt: HostRuntime) -> Result<(), Fail> {
+    let alloc = rt.alloc();
+    let mut engine = Radix2Dit::<BabyBear>::default();
+    let mat: Matrix = matrix(alloc, &[9, 1], 1)?;
+    let shift = BabyBear::TWO;
+    assert_eq!(rt; mat.width(), 1);
+    assert!(rt; has_inverse(shift));
+    assert!(rt; fits_dft::<BabyBear>(mat.height(), mat.width()));
+    let column = own_column(&mat)?;
+    let (whole, one) = column_alone(&mut engine, mat.try_clone()?, column, 0, shift)?;
+    assert!(rt; whole == one);
+    let column = own_column(&mat)?;
+    let (whole, one) = column_undone_alone(&mut engine, mat.try_clone()?, column, 0, shift)?;
+    assert!(rt; whole == one);
+    assert!(rt; fits_lde::<BabyBear>(mat.height(), mat.width(), 1));
+    let column = own_column(&mat)?;
+    let (whole, one) = column_extended_alone(&mut engine, mat, column, 0, 1)?;
+    assert!(rt; whole == one);
     Ok(())
 }
 

@@ -1,7 +1,7 @@
 use Rattle.std.proofs.Common.{arith}
 use Rattle.std.proofs.lemmas.Result.{IfOk-weaker}
 use Rattle.p3_dft.proofs.Laws.Products.{transform_with_zeros}
-use Rattle.p3_dft_tests.proofs.tests.product.values.Goals as goal
+use Rattle.p3_dft_tests.proofs.product.values.Goals as goal
 
 pub returns-clause-values : goal.returns-clause-values
 returns-clause-values g c =

@@ -1,5 +1,5 @@
 use Rattle.std.proofs.Common.{◌≡◌, ℕ, ◌<◌, ◌≤◌, get_or, length}
-use Rattle.p3_dft_tests.proofs.tests.product.entry_products.Given as goal
+use Rattle.p3_dft_tests.proofs.product.entry_products.Given as goal
 
 abbrev pub invariant-loop-i : goal.invariant-loop-i
 invariant-loop-i g l =
