@@ -4,6 +4,7 @@ pub mod Carries
 pub mod HalfReversed
 pub mod Lanes
 pub mod Matrices
+pub mod ReversedRows
 pub mod RowExchanges
 pub mod RowMajor
 pub mod RowsByPacks

@@ -1,12 +1,94 @@
 //! Bit reversed order: element i goes where the binary digits of i, read backwards, name a place.
 
 ghost use Rattle.std.specs.Prelude.{◌≡◌, ◌+◌, ◌*◌, ◌/◌, ◌^◌, ◌<◌, ◌≤◌, ◌⊎◌, ℕ, length, get_or};
-ghost use Rattle.p3_matrix.specs.RowMajor.{height, HasShapeOf};
+ghost use Rattle.p3_matrix.specs.RowMajor.{HasShapeOf, IsRowMajor, height};
 ghost use Rattle.p3_matrix.specs.Matrix.{matrix, Same};
 ghost use Rattle.p3_matrix.specs.BitOrder.{rev, bit_reversal};
 
+use crate::dense::RowMajorMatrix;
 use crate::util::{exchange, log2_strict_usize};
 use crate::views::RowMajorMatrixViewMut;
+use std::marker::Model;
+
+/// What consists of rows.
+pub trait Rows {
+    // How many rows there are.
+    ghost rows: { Self → ℕ };
+}
+
+impl<T> Rows for RowMajorMatrix<T> {
+    ghost use Rattle.p3_matrix.specs.RowMajor.{height};
+
+    ghost rows = { height };
+}
+
+/// A matrix of `2^bits` rows that is seen in bit reversed order: row i is the physical row whose
+/// number has the `bits` binary digits of i in reverse.
+///
+/// Contracts see the physical matrix and the logarithm of its height.
+#[derive(Drop)]
+pub struct BitReversedMatrixView<M: Rows> {
+    inner: M,
+    bits: usize,
+}
+
+impl<M: Rows> Model for BitReversedMatrixView<M> {
+    ghost use Rattle.std.specs.Prelude.{◌≡◌, ◌^◌};
+    ghost use Rattle.p3_matrix.specs.BitOrder.{BitReversed};
+
+    ghost Value = { BitReversed M };
+
+    ghost view = { λ v. record { bits = v.bits; physical = v.inner } };
+
+    ghost invariant = { λ v. M.rows v.inner ≡ 2 ^ v.bits };
+}
+
+impl<T> BitReversedMatrixView<RowMajorMatrix<T>> {
+    /// How many entries a row has: at least one.
+    pub fn width(&self) -> usize
+        ensures width { result ≡ self.now.physical.width }
+        ensures whole { IsRowMajor self.now.physical }
+    {
+        self.inner.width()
+    }
+
+    /// How many rows there are: a power of two.
+    pub fn height(&self) -> usize
+        ensures height { result ≡ height self.now.physical }
+        ensures power { result ≡ 2 ^ self.now.bits }
+        ensures whole { IsRowMajor self.now.physical }
+    {
+        self.inner.height()
+    }
+
+    /// The physical matrix.
+    pub fn inner(&self) -> &RowMajorMatrix<T>
+        ensures { result.now ≡ self.now.physical }
+    {
+        &self.inner
+    }
+
+    /// The physical matrix. Nothing is moved.
+    pub fn bit_reverse_rows(self) -> RowMajorMatrix<T>
+        ensures matrix { result ≡ self.physical }
+        ensures height { height result ≡ 2 ^ self.bits }
+    {
+        let BitReversedMatrixView { inner, bits: _ } = self;
+        inner
+    }
+}
+
+impl<T> RowMajorMatrix<T> {
+    /// The matrix seen in bit reversed order. Nothing is moved. The height is a power of two.
+    pub fn bit_reverse_rows(self) -> BitReversedMatrixView<RowMajorMatrix<T>>
+        requires { (k : ℕ) × (height self ≡ 2 ^ k) }
+        ensures matrix { result.physical ≡ self }
+        ensures height { height self ≡ 2 ^ result.bits }
+    {
+        let bits = log2_strict_usize(self.height());
+        BitReversedMatrixView { inner: self, bits }
+    }
+}
 
 /// The number whose `bits` binary digits are the last `bits` of those of x, in reverse.
 pub fn reverse_bits_len(x: usize, bits: usize) -> usize

@@ -1,11 +1,13 @@
 //! Matrices whatever the order in which their rows lie.
 
-ghost use Rattle.std.specs.Prelude.{◌≡◌};
-ghost use Rattle.p3_matrix.specs.RowMajor.{RowMajor, IsRowMajor};
+ghost use Rattle.std.specs.Prelude.{◌≡◌, ◌^◌, ℕ};
+ghost use Rattle.p3_matrix.specs.BitOrder.{reversed_rows};
+ghost use Rattle.p3_matrix.specs.RowMajor.{RowMajor, IsRowMajor, SameShape, height};
 
+use crate::bitrev::{BitReversedMatrixView, reverse_matrix_index_bits};
 use crate::dense::RowMajorMatrix;
 
-/// A matrix that can be put into natural order.
+/// A matrix that can be put into natural order, or into bit reversed order.
 pub trait Evaluations<F>: Drop {
     // The rows in natural order.
     ghost natural: { Self → RowMajor F };
@@ -13,6 +15,12 @@ pub trait Evaluations<F>: Drop {
     /// The matrix with its rows in natural order. Rows are moved in place, and no memory is taken.
     fn to_row_major_matrix(self) -> RowMajorMatrix<F>
         ensures { result ≡ natural self };
+
+    /// The same rows, which lie in bit reversed order afterwards. They are moved in place, and no
+    /// memory is taken. The height is a power of two.
+    fn into_bit_reversed(self) -> BitReversedMatrixView<RowMajorMatrix<F>>
+        requires { (k : ℕ) × (height (natural self) ≡ 2 ^ k) }
+        ensures { reversed_rows result.bits result.physical ≡ natural self };
 }
 
 impl<F: Drop> Evaluations<F> for RowMajorMatrix<F> {
@@ -21,6 +29,38 @@ impl<F: Drop> Evaluations<F> for RowMajorMatrix<F> {
     fn to_row_major_matrix(self) -> RowMajorMatrix<F> {
         self
     }
+
+    fn into_bit_reversed(mut self) -> BitReversedMatrixView<RowMajorMatrix<F>> {
+        reverse_rows(&mut self);
+        self.bit_reverse_rows()
+    }
+}
+
+impl<F: Drop> Evaluations<F> for BitReversedMatrixView<RowMajorMatrix<F>> {
+    ghost use Rattle.p3_matrix.specs.BitOrder.{reversed_rows};
+
+    ghost natural = { λ v. reversed_rows v.bits v.physical };
+
+    fn to_row_major_matrix(self) -> RowMajorMatrix<F> {
+        let mut mat = self.bit_reverse_rows();
+        reverse_rows(&mut mat);
+        mat
+    }
+
+    fn into_bit_reversed(self) -> BitReversedMatrixView<RowMajorMatrix<F>> {
+        self
+    }
+}
+
+// `reverse_matrix_index_bits` of a matrix itself.
+fn reverse_rows<T>(mat: &mut RowMajorMatrix<T>)
+    requires { (k : ℕ) × (height mat.old ≡ 2 ^ k) }
+    ensures shape { SameShape mat.new mat.old }
+    ensures there { (k : ℕ) → height mat.old ≡ 2 ^ k → mat.new ≡ reversed_rows k mat.old }
+    ensures back { (k : ℕ) → height mat.old ≡ 2 ^ k → mat.old ≡ reversed_rows k mat.new }
+{
+    let _whole = mat.width();
+    reverse_matrix_index_bits(&mut mat.as_view_mut());
 }
 
 /// What can be handed over as a matrix.
@@ -61,6 +101,30 @@ mod tests {
         assert_eq!(rt; width_of(rows), 2);
         let rows = RowMajorMatrix::new(vec![in alloc; 1u8, 2, 3, 4]?, 2).into_row_major_matrix();
         assert_eq!(rt; rows.height(), 2);
+        Ok(())
+    }
+
+    // Rows 10, 20, 30, 40 in bit reversed order, and what they are when they are told to be it.
+    #[test]
+    fn rows_in_bit_reversed_order(rt: HostRuntime) -> Result<(), Fail> {
+        let alloc = rt.alloc();
+        let view = RowMajorMatrix::new_col(vec![in alloc; 10u8, 20, 30, 40]?).into_bit_reversed();
+        assert_eq!(rt; view.width(), 1);
+        assert_eq!(rt; view.height(), 4);
+        assert!(rt; view.inner().values() == [10, 30, 20, 40].as_slice());
+        let rows = view.to_row_major_matrix();
+        assert!(rt; rows.values() == [10, 20, 30, 40].as_slice());
+        Ok(())
+    }
+
+    #[test]
+    fn rows_told_to_be_reversed(rt: HostRuntime) -> Result<(), Fail> {
+        let alloc = rt.alloc();
+        let view = RowMajorMatrix::new_col(vec![in alloc; 10u8, 20, 30, 40]?).bit_reverse_rows();
+        assert!(rt; view.inner().values() == [10, 20, 30, 40].as_slice());
+        assert!(rt; view.to_row_major_matrix().values() == [10, 30, 20, 40].as_slice());
+        let told = RowMajorMatrix::new_col(vec![in alloc; 10u8, 20]?).bit_reverse_rows();
+        assert!(rt; told.bit_reverse_rows().values() == [10, 20].as_slice());
         Ok(())
     }
 }

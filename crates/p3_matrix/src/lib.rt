@@ -11,7 +11,9 @@ pub mod scale;
 pub mod util;
 pub mod views;
 
-pub use bitrev::{reverse_bits_len, reverse_matrix_index_bits, reverse_slice_index_bits};
+pub use bitrev::{
+    BitReversedMatrixView, reverse_bits_len, reverse_matrix_index_bits, reverse_slice_index_bits,
+};
 pub use butterflies::{
     Butterfly, DifButterfly, DifButterflyZeros, DitButterfly, ScaledDitButterfly,
     TwiddleFreeButterfly, apply_dit_by_place,

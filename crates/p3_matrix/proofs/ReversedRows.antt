@@ -1,0 +1,83 @@
+-- Stored matrices whose rows lie in bit reversed order: as lists of entries and by index.
+use Rattle.std.proofs.Common.{◌≡◌, ℕ, zero, suc, ◌+◌, ◌*◌, ◌<◌, ◌^◌, ◌/◌, ◌%◌, ◌++◌, List, length, get_or, sym, ap, ap₂, ◌∙◌, refl, arith, rules}
+use Rattle.std.specs.List.{flat_map, range_with_len}
+use Rattle.std.proofs.lemmas.List.{places, same_lists, get_or-append-add}
+use Rattle.std.proofs.lemmas.Nat.{div-add-mod', div_below, mod_below}
+use Rattle.p3_matrix.specs.BitOrder.{rev, bit_reversal, reversed_rows}
+use Rattle.p3_matrix.specs.Matrix.{matrix, Same}
+use Rattle.p3_matrix.specs.RowMajor.{RowMajor, IsRowMajor, SameShape, height, row}
+use Rattle.p3_matrix.proofs.BitReversal.{rev-lt, reversed_back}
+use Rattle.p3_matrix.proofs.RowMajor.{row_within}
+
+module _ {T : Type 0} (f : ℕ → List T) (w : ℕ) where
+  -- n lists of w elements each, joined
+  joined_length : (a n : ℕ) → ((i : ℕ) → i < n → length (f (a + i)) ≡ w) → length (flat_map f (range_with_len a n)) ≡ n * w
+  joined_length a zero each = omega arith
+  joined_length a (suc n) each =
+      let first : length (f a) ≡ w = ap (λ i. length (f i)) (omega arith) ∙ each 0 (omega arith) in
+      let rest = joined_length (a + 1) n (λ i p. ap (λ k. length (f k)) (omega arith) ∙ each (suc i) (omega arith)) in
+      search (rules, places)
+
+  joined_entry : (a n i j : ℕ) (d : T) → ((i : ℕ) → i < n → length (f (a + i)) ≡ w) → i < n → j < w → get_or (flat_map f (range_with_len a n)) (i * w + j) d ≡ get_or (f (a + i)) j d
+  joined_entry a zero i j d each below inside = absurd (omega (arith, below))
+  joined_entry a (suc n) zero j d each below inside =
+      let first : length (f a) ≡ w = ap (λ i. length (f i)) (omega arith) ∙ each 0 (omega arith) in
+      let e : a + 0 ≡ a = omega arith in
+      let at : get_or (f a ++ flat_map f (range_with_len (a + 1) n)) (0 * w + j) d ≡ get_or (f a) j d = search (rules, places) in
+      at ∙ ap (λ k. get_or (f k) j d) (sym e)
+  joined_entry a (suc n) (suc i) j d each below inside =
+      let first : length (f a) ≡ w = ap (λ i. length (f i)) (omega arith) ∙ each 0 (omega arith) in
+      let split : suc i * w + j ≡ length (f a) + (i * w + j) = omega (arith, first) in
+      ap (λ k. get_or (f a ++ flat_map f (range_with_len (a + 1) n)) k d) split ∙ get_or-append-add (f a) (flat_map f (range_with_len (a + 1) n)) (i * w + j) d
+      ∙ joined_entry (a + 1) n i j d (λ i p. ap (λ k. length (f k)) (omega arith) ∙ each (suc i) (omega arith)) (omega arith) inside
+      ∙ ap (λ k. get_or (f k) j d) (omega arith)
+
+module _ {T : Type 0} (n : ℕ) (m : RowMajor T) (whole : IsRowMajor m) (high : height m ≡ 2 ^ n) where
+  row_length : (i : ℕ) → i < 2 ^ n → length (row m (rev n (0 + i))) ≡ m.width
+  row_length i p =
+      let room = row_within (rev n (0 + i)) (height m) m.width (length m.values) (omega (arith, rev-lt n (0 + i), high)) whole.full in
+      search (rules, places)
+
+  pub reversed_length : length (reversed_rows n m).values ≡ length m.values
+  reversed_length = joined_length (λ i. row m (rev n i)) m.width 0 (2 ^ n) row_length ∙ ap (λ h. h * m.width) (sym high) ∙ whole.full
+
+  pub reversed_entry : (i j : ℕ) (d : T) → i < 2 ^ n → j < m.width → get_or (reversed_rows n m).values (i * m.width + j) d ≡ get_or m.values (rev n i * m.width + j) d
+  reversed_entry i j d p q =
+      let room = row_within (rev n i) (height m) m.width (length m.values) (omega (arith, rev-lt n i, high)) whole.full in
+      let at : get_or (row m (rev n i)) j d ≡ get_or m.values (rev n i * m.width + j) d = search (rules, places) in
+      joined_entry (λ i. row m (rev n i)) m.width 0 (2 ^ n) i j d row_length p q ∙ ap (λ k. get_or (row m (rev n k)) j d) (omega arith) ∙ at
+
+  -- by index
+  pub reversed_same : (d : T) → Same (matrix d (reversed_rows n m)) (bit_reversal n (matrix d m))
+  reversed_same d = record {
+    high = ap (λ l. l / m.width) reversed_length;
+    wide = refl;
+    alike = λ i j p q. reversed_entry i j d (omega (arith, p, ap (λ l. l / m.width) reversed_length, high)) q;
+  }
+
+  -- whatever has these rows
+  pub reversed_is : (r : RowMajor T) → SameShape r m → ((d : T) → Same (matrix d r) (bit_reversal n (matrix d m))) → r ≡ reversed_rows n m
+  reversed_is r shape rows = ap₂ (λ w vs. record { width = w; values = vs }) shape.0 (same_lists r.values (reversed_rows n m).values (shape.1 ∙ sym reversed_length) at)
+    where
+      at : (k : ℕ) (d : T) → k < length r.values → get_or r.values k d ≡ get_or (reversed_rows n m).values k d
+      at k d l =
+          let w = m.width in
+          let all : length r.values ≡ 2 ^ n * w = shape.1 ∙ sym whole.full ∙ ap (λ h. h * w) high in
+          let i = k / w in
+          let j = k % w in
+          let split : i * w + j ≡ k = div-add-mod' k w in
+          let below : i < 2 ^ n = div_below k w (2 ^ n) (omega (arith, whole.wide)) (omega (arith, l, all)) in
+          let inside : j < w = mod_below k w (omega (arith, whole.wide)) in
+          let tall : height r ≡ 2 ^ n = (rows d).high ∙ high in
+          ap (λ p. get_or r.values p d) (sym split ∙ ap (λ v. i * v + j) (sym shape.0))
+          ∙ (rows d).alike i j (omega (arith, below, tall)) (omega (arith, inside, shape.0))
+          ∙ sym (reversed_entry i j d below inside) ∙ ap (λ p. get_or (reversed_rows n m).values p d) split
+
+-- and the other way round: rows that were reversed, in bit reversed order
+pub reversed_from : {T : Type 0} (n : ℕ) (m r : RowMajor T) → IsRowMajor m → height m ≡ 2 ^ n → SameShape r m → ((d : T) → Same (matrix d r) (bit_reversal n (matrix d m)))
+    → m ≡ reversed_rows n r
+reversed_from n m r whole high shape rows =
+    let tall : height r ≡ height m = ap₂ (λ l w. l / w) shape.1 shape.0 in
+    let full : height r * r.width ≡ length r.values = ap₂ (λ h w. h * w) tall shape.0 ∙ whole.full ∙ sym shape.1 in
+    reversed_is n r (record { wide = omega (arith, whole.wide, shape.0); full = full }) (tall ∙ high) m (sym shape.0, sym shape.1)
+    (λ d. reversed_back n (matrix d r) (matrix d m) high (rows d))
