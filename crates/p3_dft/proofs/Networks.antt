@@ -3,5 +3,7 @@ pub mod Entries
 pub mod Formulas
 pub mod HighRows
 pub mod LowRows
+pub mod Runs
+pub mod Scaled
 pub mod Stages
 pub mod TurnedRows

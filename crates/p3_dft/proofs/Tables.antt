@@ -1,3 +1,4 @@
 -- Tables of twiddles, and which heights they prepare.
+pub mod BlockTables
 pub mod MoreTwiddles
 pub mod PreparedHeights

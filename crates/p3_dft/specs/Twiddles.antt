@@ -1,8 +1,9 @@
 -- The twiddles that an engine keeps, and what such an engine shows of itself.
-use Rattle.std.specs.Prelude.{◌≡◌, ◌⊎◌, ℕ, ◌+◌, ◌-◌, ◌^◌, ◌<◌, ◌≤◌, List, [], length, get_or, take, drop, Option, Some, None, Vec}
+use Rattle.std.specs.Prelude.{◌≡◌, ◌⊎◌, ℕ, ◌+◌, ◌-◌, ◌*◌, ◌^◌, ◌<◌, ◌≤◌, List, [], length, get_or, take, drop, Bool, if◌then◌else◌, Option, Some, None, Vec}
 use Rattle.std.specs.List.{Contains}
 use Rattle.p3_field.specs.Ring.{power}
 use Rattle.p3_field.specs.declared.fields.Field.{Ghosts as FieldMembers}
+use Rattle.p3_matrix.specs.BitOrder.{rev}
 
 module _ {F : Type 0} (f : FieldMembers F) where
   -- a table of the n values p 0, p 1, ..
@@ -19,10 +20,37 @@ module _ {F : Type 0} (f : FieldMembers F) where
   abbrev pub layer_powers : (ℕ → F) → ℕ → ℕ → f.Element
   layer_powers generator l t = power f.ring (f.value (generator (l + 1))) t
 
+  -- in layer l of log, on the coset of s: the powers of the root of order 2 ^ (l + 1), each times s ^ (2 ^ (log - 1 - l))
+  abbrev pub coset_twiddles : (ℕ → f.Element) → f.Element → ℕ → ℕ → ℕ → f.Element
+  coset_twiddles g s log l t = f.ring.mul (power f.ring s (2 ^ (log - 1 - l))) (power f.ring (g (l + 1)) t)
+
+-- the entries of layer l for its blocks: those of a table of its own where such tables lie one after another, else the first 2 ^ l
+abbrev pub block_entries : {T : Type 0} → Bool → ℕ → List T → List T
+block_entries by_layer l xs = if by_layer then take (2 ^ l) (drop (2 ^ l - 1) xs) else take (2 ^ l) xs
+
+-- where they end
+abbrev pub block_end : Bool → ℕ → ℕ
+block_end by_layer l = if by_layer then 2 * 2 ^ l - 1 else 2 ^ l
+
+-- in each layer of log from first on: block b has the entry of the coset of s with the l digits of b in reverse
+abbrev pub AreBlockTwiddles : {F : Type 0} (f : FieldMembers F) → (ℕ → f.Element) → f.Element → ℕ → ℕ → Bool → List F → Type 0
+AreBlockTwiddles f g s first log by_layer twiddles = (l : ℕ) → first ≤ l → l < log
+    → AreTwiddles f (2 ^ l) (λ b. coset_twiddles f g s log l (rev l b)) (block_entries by_layer l twiddles)
+
 -- what is held, if anything is
 abbrev pub items_if_any : {T Z : Type 0} → Option (Vec T Z) → List T
 items_if_any None = []
 items_if_any (Some v) = v.items
+
+-- the number by which rows are multiplied, if there is one
+abbrev pub factor : {F : Type 0} (f : FieldMembers F) → Option F → f.Element
+factor f None = f.ring.one
+factor f (Some s) = f.value s
+
+-- and what that adds to the products of an entry
+abbrev pub scale_cost : {F : Type 0} → Option F → ℕ
+scale_cost None = 0
+scale_cost (Some s) = 1
 
 -- the logarithms of the heights whose twiddles are there, and the number of products that were made
 pub record Tabled : Type 0 where

@@ -10,6 +10,7 @@ pub mod jobs;
 pub mod naive;
 pub mod radix_2_bowers;
 pub mod radix_2_dit;
+pub mod radix_2_dit_parallel;
 pub mod traits;
 mod twiddles;
 pub mod util;
@@ -21,11 +22,7 @@ pub use p3_field::{
     Packable, Packed, PackedField, Products, TwoAdicField, scaled,
 };
 pub use p3_matrix::{
-    Butterfly, DftError, DifButterfly, DifButterflyZeros, DitButterfly, Evaluations,
-    IntoRowMajorMatrix, RowMajorMatrix, RowMajorMatrixView, RowMajorMatrixViewMut,
-    ScaledDitButterfly, TwiddleFreeButterfly, apply_dit_by_place, log2_strict_usize,
-    reverse_bits_len, reverse_matrix_index_bits, reverse_slice_index_bits, scale_slice_in_place,
-    split_rows_mut, swap_rows,
+    BitReversedMatrixView, Butterfly, DftError, DifButterfly, DifButterflyZeros, DitButterfly, Evaluations, IntoRowMajorMatrix, RowMajorMatrix, RowMajorMatrixView, RowMajorMatrixViewMut, ScaledDitButterfly, TwiddleFreeButterfly, apply_dit_by_place, log2_strict_usize, reverse_bits_len, reverse_matrix_index_bits, reverse_slice_index_bits, scale_slice_in_place, split_rows_mut, swap_rows,
 };
 pub use radix_2_bowers::Radix2Bowers;
 pub use radix_2_dit::Radix2Dit;

@@ -1,6 +1,7 @@
 -- The sizes of a layer, as a program has them by shifts: l of k layers are done.
-use Rattle.std.proofs.Common.{◌≡◌, ℕ, ◌*◌, ◌-◌, ◌%◌, ◌^◌, ◌<◌, ◌≤◌, sym, ap, ◌∙◌, arith, lit≤}
+use Rattle.std.proofs.Common.{◌≡◌, ℕ, ◌+◌, ◌*◌, ◌-◌, ◌%◌, ◌^◌, ◌<◌, ◌≤◌, List, length, take, drop, sym, ap, ◌∙◌, arith, lit≤, rules}
 use Rattle.std.proofs.Math.Nat.{pow-le-pow_right}
+use Rattle.std.proofs.lemmas.List.{places}
 use Rattle.std.proofs.lemmas.Nat.{one_shl, pow_pos}
 use Rattle.p3_dft.proofs.Layers.Blocks.{halves_whole, blocks_whole}
 
@@ -28,3 +29,10 @@ blocks_left k l below = pow-le-pow_right {n = 2} (lit≤ tt) (omega arith)
 
 pub blocks_done : (k l : ℕ) → l < k → 2 ^ l ≤ 2 ^ (k - 1)
 blocks_done k l below = pow-le-pow_right {n = 2} (lit≤ tt) (omega arith)
+
+-- in tables one after another, that of layer l has its 2 ^ l entries
+pub layer_size : {T : Type 0} (xs : List T) (l : ℕ) → 2 * 2 ^ l - 1 ≤ length xs → length (take (2 ^ l) (drop (2 ^ l - 1) xs)) ≡ 2 ^ l
+layer_size xs l room =
+    let some = pow_pos l in
+    let e : 2 ^ l - 1 + 2 ^ l ≡ 2 * 2 ^ l - 1 = omega (arith, some) in
+    search (rules, places)

@@ -2,7 +2,7 @@
 -- the value, at the t-th point of size 2 ^ l, of the polynomial of every 2 ^ m-th coefficient from the j-th on.
 -- The networks differ only in where j and t stand in the row's number, and in a factor. The shift s is that of the coset. The roots are any
 -- that square to one another: with the inverse roots a network is the inverse one.
-use Rattle.std.proofs.Common.{◌≡◌, ℕ, suc, ◌+◌, ◌*◌, ◌<◌, ◌≤◌, ◌^◌, refl, sym, ap, ap₂, ◌∙◌, [], ◌∷◌, arith}
+use Rattle.std.proofs.Common.{◌≡◌, ℕ, suc, ◌+◌, ◌*◌, ◌<◌, ◌≤◌, ◌^◌, refl, sym, ap, ap₂, ◌∙◌, [], ◌∷◌, arith, add-one}
 use Rattle.p3_field.specs.Ring.{Ring, power, AreRoots}
 use Rattle.p3_field.proofs.Rings
 use Rattle.p3_field.proofs.RingSolver.{solve, va, vb, ◌⊠◌}
@@ -26,6 +26,11 @@ module _ {A : Type 0} (R : Ring A) (g : ℕ → A) (s : A) where
   -- the twiddle of the layer from l to l + 1
   unfoldable pub twiddle : ℕ → ℕ → ℕ → A
   twiddle l m t = power R s (2 ^ m) ⊗ power R (g (suc l)) t
+
+  -- as a table of the coset has it
+  pub twiddle_is : (l m t : ℕ) → twiddle l m t ≡ power R s (2 ^ m) ⊗ power R (g (l + 1)) t
+  unfolding twiddle
+  twiddle_is l m t = ap (λ n. power R s (2 ^ m) ⊗ power R (g n) t) (sym (add-one l))
 
   -- before the first layer, and after the last
   pub stage_start : (m : ℕ) (c : ℕ → A) (j t : ℕ) → stage 0 m c j t ≡ c j

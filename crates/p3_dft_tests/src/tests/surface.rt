@@ -1,12 +1,7 @@
 // The public names of the crates below, each as a user of this crate alone writes it.
 
 use p3_dft::{
-    BabyBear, BabyBearX8, Butterfly, DifButterfly, DifButterflyZeros, DitButterfly, Evaluations,
-    Field, Goldilocks, IntoRowMajorMatrix, Lanes, Packable, Packed, PackedField, Products,
-    RowMajorMatrix, RowMajorMatrixView, RowMajorMatrixViewMut, ScaledDitButterfly,
-    TwiddleFreeButterfly, TwoAdicField, apply_dit_by_place, divide_by_height, log2_strict_usize,
-    reverse_bits_len, reverse_matrix_index_bits, reverse_slice_index_bits, scale_slice_in_place,
-    scaled, split_rows_mut, swap_rows,
+    BabyBear, BabyBearX8, BitReversedMatrixView, Butterfly, DifButterfly, DifButterflyZeros, DitButterfly, Evaluations, Field, Goldilocks, IntoRowMajorMatrix, Lanes, Packable, Packed, PackedField, Products, RowMajorMatrix, RowMajorMatrixView, RowMajorMatrixViewMut, ScaledDitButterfly, TwiddleFreeButterfly, TwoAdicField, apply_dit_by_place, divide_by_height, log2_strict_usize, reverse_bits_len, reverse_matrix_index_bits, reverse_slice_index_bits, scale_slice_in_place, scaled, split_rows_mut, swap_rows,
 };
 use std::test::Fail;
 
@@ -18,6 +13,11 @@ fn broadcast<F: TwoAdicField + Packable>(x: F) -> F::Packing {
 // The scalars of packed values.
 fn is_one<P: Packed<Scalar = BabyBear>>(x: P::Scalar) -> bool {
     x == BabyBear::ONE
+}
+
+// How many rows are seen in bit reversed order.
+fn rows_seen(view: BitReversedMatrixView<RowMajorMatrix<BabyBear>>) -> usize {
+    view.height()
 }
 
 // The first entry of what can be handed over, and of evaluations.
@@ -73,6 +73,8 @@ fn names_of_the_crates_below(rt: HostRuntime) -> Result<(), Fail> {
     }
     assert!(rt; first_natural(mat.try_clone()?) == Some(half));
     assert!(rt; first_stored(mat) == Some(half));
+    let seen = RowMajorMatrix::new_col(vec![in alloc; BabyBear::ONE, BabyBear::TWO]?);
+    assert_eq!(rt; rows_seen(seen.bit_reverse_rows()), 2);
     Ok(())
 }
 

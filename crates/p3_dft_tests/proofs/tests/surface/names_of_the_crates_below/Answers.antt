@@ -6,3 +6,6 @@ log2_strict_usize-requires g c = (2, refl)
 
 pub reverse_slice_index_bits-requires : goal.reverse_slice_index_bits-requires
 reverse_slice_index_bits-requires g c = inl (1, search rules)
+
+pub bit_reverse_rows-requires : goal.bit_reverse_rows-requires
+bit_reverse_rows-requires g c = (1, search rules)

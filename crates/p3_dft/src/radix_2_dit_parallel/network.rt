@@ -1,0 +1,119 @@
+// The network of both halves, on a matrix.
+
+ghost use Rattle.std.specs.Prelude.{◌≡◌, ℕ, ◌+◌, ◌*◌, ◌/◌, ◌-◌, ◌^◌, ◌<◌, ◌≤◌, length};
+ghost use Rattle.p3_field.specs.Ring.{AreRoots, power};
+ghost use Rattle.p3_matrix.specs.BitOrder.{rev};
+ghost use Rattle.p3_matrix.specs.RowMajor.{IsRowMajor, SameShape, height};
+ghost use Rattle.p3_dft.specs.Cosets.{point};
+ghost use Rattle.p3_dft.specs.Polynomials.{poly};
+ghost use Rattle.p3_dft.specs.Transforms.{values_of};
+ghost use Rattle.p3_dft.specs.Twiddles.{AreBlockTwiddles, AreTwiddlesOfLayers, block_end, coset_twiddles, factor, scale_cost};
+
+use crate::radix_2_dit_parallel::halves::{BlockTwiddles, first_half, second_half};
+use crate::util::reverse_rows;
+use p3_field::{Products, TwoAdicField};
+use p3_matrix::{RowMajorMatrix, scale_slice_in_place};
+
+// From coefficients in natural order, their values on a coset, in bit reversed order. The first half has
+// `mid` layers and the second `left`. With a scale, the values are multiplied by it.
+pub(crate) fn network<F: TwoAdicField>(
+    mat: &mut RowMajorMatrix<F>,
+    mid: usize,
+    left: usize,
+    low: &[F],
+    high: BlockTwiddles<'_, F>,
+    scale: Option<F>,
+    products: &mut Products,
+)
+    requires whole { IsRowMajor mat.old }
+    requires small { mid + left < 64 }
+    requires height { height mat.old ≡ 2 ^ (mid + left) }
+    requires low { 2 ^ mid - 1 ≤ length low.now }
+    requires high { (l : ℕ) → mid ≤ l → l < mid + left → block_end high.by_layer l ≤ length high.twiddles.now }
+    ensures shape { SameShape mat.new mat.old }
+    ensures values { (g : ℕ → F.Element) (s : F.Element) → AreRoots F.ring (mid + left) g
+        → AreTwiddlesOfLayers F.Field.own mid (coset_twiddles F.Field.own g (power F.ring s (2 ^ left)) mid) low.now
+        → AreBlockTwiddles F.Field.own g s mid (mid + left) high.entry.by_layer high.entry.twiddles.now
+        → (r j : ℕ) → r < 2 ^ (mid + left) → j < mat.old.width → (values_of F.Field.own mat.new).entry r j
+        ≡ poly F.ring (2 ^ (mid + left)) (λ q. F.ring.mul ((values_of F.Field.own mat.old).entry q j) (factor F.Field.own scale))
+        (point F.ring g (mid + left) s (rev (mid + left) r)) }
+    ensures grows { products.old ≤ products.new }
+    ensures count { products.new ≤ products.old
+        + (2 ^ left * (mat.old.width * (mid * 2 ^ mid / 2)) + 2 ^ mid * (mat.old.width * (left * 2 ^ left / 2) + scale_cost scale * (2 ^ left * mat.old.width))) }
+{
+    first_of_matrix(mat, mid, left, low, products);
+    second_of_matrix(mat, mid, left, high, scale, products);
+}
+
+// The rows are reversed, then the first half.
+fn first_of_matrix<F: TwoAdicField>(
+    mat: &mut RowMajorMatrix<F>,
+    mid: usize,
+    left: usize,
+    twiddles: &[F],
+    products: &mut Products,
+)
+    requires whole { IsRowMajor mat.old }
+    requires small { mid + left < 64 }
+    requires height { height mat.old ≡ 2 ^ (mid + left) }
+    requires table { 2 ^ mid - 1 ≤ length twiddles.now }
+    ensures shape { SameShape mat.new mat.old }
+    ensures values { (g : ℕ → F.Element) (s : F.Element) → AreRoots F.ring mid g
+        → AreTwiddlesOfLayers F.Field.own mid (coset_twiddles F.Field.own g s mid) twiddles.now
+        → (a t j : ℕ) → a < 2 ^ left → t < 2 ^ mid → j < mat.old.width → (values_of F.Field.own mat.new).entry (a * 2 ^ mid + t) j
+        ≡ poly F.ring (2 ^ mid) (λ q. (values_of F.Field.own mat.old).entry (q * 2 ^ left + rev left a) j) (point F.ring g mid s t) }
+    ensures grows { products.old ≤ products.new }
+    ensures count { products.new ≤ products.old + 2 ^ left * (mat.old.width * (mid * 2 ^ mid / 2)) }
+{
+    let width = mat.width();
+    reverse_rows(mat);
+    first_half(
+        mat.values_mut(),
+        width,
+        mid + left,
+        mid,
+        twiddles,
+        products,
+    );
+}
+
+// The rows are reversed, then the second half. Where that has no layer, its scale takes a pass of its
+// own.
+fn second_of_matrix<F: TwoAdicField>(
+    mat: &mut RowMajorMatrix<F>,
+    mid: usize,
+    left: usize,
+    table: BlockTwiddles<'_, F>,
+    scale: Option<F>,
+    products: &mut Products,
+)
+    requires whole { IsRowMajor mat.old }
+    requires small { mid + left < 64 }
+    requires height { height mat.old ≡ 2 ^ (mid + left) }
+    requires table { (l : ℕ) → mid ≤ l → l < mid + left → block_end table.by_layer l ≤ length table.twiddles.now }
+    ensures shape { SameShape mat.new mat.old }
+    ensures values { (g : ℕ → F.Element) (s : F.Element) → AreRoots F.ring (mid + left) g
+        → AreBlockTwiddles F.Field.own g s mid (mid + left) table.entry.by_layer table.entry.twiddles.now
+        → (a t j : ℕ) → a < 2 ^ mid → t < 2 ^ left → j < mat.old.width → (values_of F.Field.own mat.new).entry (a * 2 ^ left + t) j
+        ≡ poly F.ring (2 ^ left) (λ q. F.ring.mul ((values_of F.Field.own mat.old).entry (rev left q * 2 ^ mid + rev mid a) j) (factor F.Field.own scale))
+        (point F.ring g left (point F.ring g (mid + left) s (rev mid a)) (rev left t)) }
+    ensures grows { products.old ≤ products.new }
+    ensures count { products.new ≤ products.old
+        + 2 ^ mid * (mat.old.width * (left * 2 ^ left / 2) + scale_cost scale * (2 ^ left * mat.old.width)) }
+{
+    let width = mat.width();
+    reverse_rows(mat);
+    if left > 0 {
+        second_half(
+            mat.values_mut(),
+            width,
+            mid,
+            left,
+            table,
+            scale,
+            products,
+        );
+    } else if let Some(scale) = scale {
+        scale_slice_in_place(mat.values_mut(), scale, products);
+    }
+}
