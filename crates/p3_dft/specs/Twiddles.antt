@@ -42,6 +42,19 @@ abbrev pub items_if_any : {T Z : Type 0} → Option (Vec T Z) → List T
 items_if_any None = []
 items_if_any (Some v) = v.items
 
+-- the generator of order 2 ^ n, or its inverse
+abbrev pub root_of : {F : Type 0} (f : FieldMembers F) → (ℕ → F) → Bool → ℕ → f.Element
+root_of f generator inverse n = if inverse then power f.ring (f.value (generator n)) (2 ^ n - 1) else f.value (generator n)
+
+-- in layer l: the powers of that of order 2 ^ (l + 1)
+abbrev pub root_powers : {F : Type 0} (f : FieldMembers F) → (ℕ → F) → Bool → ℕ → ℕ → f.Element
+root_powers f generator inverse l t = power f.ring (root_of f generator inverse (l + 1)) t
+
+-- tables of the powers of the generators, or of their inverses, for all heights up to 2 ^ log_h
+pub record RootsUpTo : Type 0 where
+  pub inverse : Bool
+  pub log_h : ℕ
+
 -- the number by which rows are multiplied, if there is one
 abbrev pub factor : {F : Type 0} (f : FieldMembers F) → Option F → f.Element
 factor f None = f.ring.one

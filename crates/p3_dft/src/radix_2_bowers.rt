@@ -421,7 +421,7 @@ fn layers_of_g_transposed<F: TwoAdicField>(
 }
 
 // The first `2^bits` powers of `base`, each times `first`, in bit reversed order.
-fn reversed_powers<F: TwoAdicField>(
+pub(crate) fn reversed_powers<F: TwoAdicField>(
     alloc: Global,
     first: F,
     base: F,

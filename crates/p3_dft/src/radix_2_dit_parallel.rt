@@ -2,3 +2,4 @@
 
 mod halves;
 mod network;
+mod tables;

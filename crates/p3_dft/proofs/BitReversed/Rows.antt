@@ -7,10 +7,26 @@ use Rattle.p3_matrix.specs.BitOrder.{rev, bit_reversal}
 use Rattle.p3_matrix.specs.Matrix.{matrix, Same}
 use Rattle.p3_matrix.proofs.BitReversal.{rev-lt, rev-rev}
 use Rattle.p3_dft.specs.Polynomials.{poly}
-use Rattle.p3_dft.specs.Transforms.{IsTransform}
+use Rattle.p3_dft.specs.Transforms.{IsTransform, values_of}
 use Rattle.p3_dft.proofs.Polynomials.ByIndex.{poly_same, poly-one}
 use Rattle.p3_dft.proofs.Rows.Overwritten.{written}
 use Rattle.p3_dft.proofs.Calls.Transforms.{transform_of_parts, transform_of_entries}
+
+-- an entry of reversed rows, where a program has their entries and the width in variables of its own
+pub reversed_cell : {F : Type 0} (f : FieldMembers F) (m r : RowMajor F) (start : List F) (log w i j : ℕ) → height m ≡ 2 ^ log → w ≡ m.width → SameShape r m
+    → ((d : F) → Same (matrix d r) (bit_reversal log (matrix d m))) → start ≡ r.values → i < 2 ^ log → j < w
+    → f.value (get_or start (i * w + j) f.ZERO) ≡ (values_of f m).entry (rev log i) j
+reversed_cell f m r start log w i j high wide shape rows start_is below inside =
+    let back = rows f.ZERO in
+    let tall : height r ≡ 2 ^ log = back.high ∙ high in
+    ap (λ xs. f.value (get_or xs (i * w + j) f.ZERO)) start_is ∙ ap (λ v. f.value (get_or r.values (i * v + j) f.ZERO)) (wide ∙ sym shape.0)
+    ∙ ap f.value (back.alike i j (omega (arith, below, tall)) (omega (arith, inside, wide, shape.0)))
+
+-- an entry that was written back
+pub written_cell : {F : Type 0} (f : FieldMembers F) (r : RowMajor F) (cells rest : List F) (w i j : ℕ) → length cells ≡ length r.values → r.width ≡ w
+    → f.value (get_or (take (length r.values) (cells ++ rest)) (i * r.width + j) f.ZERO) ≡ f.value (get_or cells (i * w + j) f.ZERO)
+written_cell f r cells rest w i j size wide =
+    ap (λ xs. f.value (get_or xs (i * r.width + j) f.ZERO)) (written (length r.values) cells rest size) ∙ ap (λ v. f.value (get_or cells (i * v + j) f.ZERO)) wide
 
 module _ {F : Type 0} (f : FieldMembers F) (generator : ℕ → F) where
   -- r has the rows of m in bit reversed order; a network made cells of its entries, which were then written over r

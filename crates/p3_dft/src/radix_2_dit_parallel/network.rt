@@ -113,7 +113,26 @@ fn second_of_matrix<F: TwoAdicField>(
             scale,
             products,
         );
-    } else if let Some(scale) = scale {
-        scale_slice_in_place(mat.values_mut(), scale, products);
+    } else {
+        scale_rows(mat, scale, products);
+    }
+}
+
+// Multiplies all rows by the scale, if there is one.
+fn scale_rows<F: TwoAdicField>(
+    mat: &mut RowMajorMatrix<F>,
+    scale: Option<F>,
+    products: &mut Products,
+)
+    requires whole { IsRowMajor mat.old }
+    ensures shape { SameShape mat.new mat.old }
+    ensures values { (i j : ℕ) → i < height mat.old → j < mat.old.width → (values_of F.Field.own mat.new).entry i j
+        ≡ F.ring.mul ((values_of F.Field.own mat.old).entry i j) (factor F.Field.own scale) }
+    ensures grows { products.old ≤ products.new }
+    ensures count { products.new ≤ products.old + scale_cost scale * length mat.old.values }
+{
+    match scale {
+        Some(scale) => scale_slice_in_place(mat.values_mut(), scale, products),
+        None => {}
     }
 }
