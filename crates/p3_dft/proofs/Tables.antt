@@ -2,3 +2,4 @@
 pub mod BlockTables
 pub mod MoreTwiddles
 pub mod PreparedHeights
+pub mod RootPowers

@@ -73,3 +73,14 @@ pub record Tabled : Type 0 where
 -- height 2 ^ k can be transformed without memory: height one has no layer and needs no twiddles
 abbrev pub IsPrepared : Tabled → ℕ → Type 0
 IsPrepared e k = (k ≡ 0) ⊎ Contains e.prepared k
+
+-- the logarithms of the largest heights for which there are powers of the generators, and of their inverses, and the number of products
+-- that were made
+pub record ThereAndBack : Type 0 where
+  pub forward : ℕ
+  pub inverse : ℕ
+  pub products : ℕ
+
+-- both are there for height 2 ^ k
+abbrev pub HasBoth : ThereAndBack → ℕ → Type 0
+HasBoth e k = (k ≤ e.forward) × (k ≤ e.inverse)

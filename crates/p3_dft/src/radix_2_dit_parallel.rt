@@ -3,3 +3,4 @@
 mod halves;
 mod network;
 mod tables;
+mod transform;

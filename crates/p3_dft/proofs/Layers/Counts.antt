@@ -1,5 +1,6 @@
 -- What loops count at most, where each turn makes at most so many products.
-use Rattle.std.proofs.Common.{◌≡◌, ℕ, zero, suc, ◌+◌, ◌*◌, ◌-◌, ◌/◌, ◌^◌, ◌<◌, ◌≤◌, refl, sym, ap, ◌∙◌, subst, arith, add-one}
+use Rattle.std.proofs.Common.{◌≡◌, ℕ, zero, suc, ◌+◌, ◌*◌, ◌-◌, ◌/◌, ◌^◌, ◌<◌, ◌≤◌, refl, sym, ap, ap₂, ◌∙◌, subst, arith, add-one}
+use Rattle.std.proofs.lemmas.Nat.{pow-add}
 use Rattle.std.proofs.Math.Nat.{suc-mul, mul-div_cancel}
 
 -- one turn more, of size pairs
@@ -34,3 +35,36 @@ layer_counted cost k l w blocks half before now after below whole so_far layer =
 -- all layers
 pub layers_counted : (k w : ℕ) → 1 * (k * (2 ^ (k - 1) * w)) ≡ w * (k * 2 ^ k / 2)
 layers_counted k w = let e : 1 * (k * (2 ^ (k - 1) * w)) ≡ w * (k * 2 ^ (k - 1)) = omega arith in e ∙ ap (λ n. w * n) (sym (half_count k))
+
+-- the same of 2 ^ m runs of 2 ^ n rows
+half_of_runs : (n m : ℕ) → 2 ^ m * (n * 2 ^ n / 2) ≡ n * 2 ^ (n + m - 1)
+half_of_runs zero m = let none : 0 * 2 ^ 0 / 2 ≡ 0 = refl in ap (λ x. 2 ^ m * x) none ∙ omega arith
+half_of_runs (suc n) m =
+    let e : suc n - 1 ≡ n = omega arith in
+    let d : suc n + m - 1 ≡ n + m = omega arith in
+    ap (λ x. 2 ^ m * x) (half_count (suc n) ∙ ap (λ x. suc n * 2 ^ x) e)
+    ∙ swap_inner (2 ^ m) (suc n) (2 ^ n) ∙ ap (λ x. suc n * x) (sym (pow-add 2 n m)) ∙ ap (λ x. suc n * 2 ^ x) (sym d)
+  where
+    swap_inner : (a b c : ℕ) → a * (b * c) ≡ b * (c * a)
+    swap_inner a b c = omega arith
+
+-- two halves of the layers, each run by run, and a scale
+pub halves_counted : (mid left k w scale : ℕ) → mid + left ≡ k
+    → 2 ^ left * (w * (mid * 2 ^ mid / 2)) + 2 ^ mid * (w * (left * 2 ^ left / 2) + scale * (2 ^ left * w)) ≡ w * (k * 2 ^ k / 2) + scale * (2 ^ k * w)
+halves_counted mid left k w scale is =
+    let order : left + mid - 1 ≡ mid + left - 1 = omega arith in
+    let p = 2 ^ (mid + left - 1) in
+    let low = half_of_runs mid left in
+    let high = half_of_runs left mid ∙ ap (λ n. left * 2 ^ n) order in
+    spread (2 ^ left) (2 ^ mid) w (mid * 2 ^ mid / 2) (left * 2 ^ left / 2) scale
+    ∙ ap₂ (λ a b. w * (a + b) + scale * ((2 ^ mid * 2 ^ left) * w)) low high
+    ∙ ap (λ n. w * n + scale * ((2 ^ mid * 2 ^ left) * w)) (together mid left p)
+    ∙ ap (λ n. w * ((mid + left) * p) + scale * (n * w)) (sym (pow-add 2 mid left))
+    ∙ ap (λ n. w * n + scale * (2 ^ (mid + left) * w)) (sym (half_count (mid + left)))
+    ∙ ap (λ n. w * (n * 2 ^ n / 2) + scale * (2 ^ n * w)) is
+  where
+    spread : (x y w a b s : ℕ) → x * (w * a) + y * (w * b + s * (x * w)) ≡ w * (x * a + y * b) + s * ((y * x) * w)
+    spread x y w a b s = omega arith
+
+    together : (a b p : ℕ) → a * p + b * p ≡ (a + b) * p
+    together a b p = omega arith

@@ -38,7 +38,8 @@ impl<F: TwoAdicField> Model for RootTables<F> {
     ghost view = { λ t. record { inverse = t.inverse; log_h = t.log_h } };
 
     ghost invariant = { λ t. AreTwiddlesOfLayers F.Field ((t.log_h + 1) / 2) (root_powers F.Field F.generator t.inverse) (items_if_any t.low)
-        × (1 ≤ t.log_h → AreTwiddles F.Field (2 ^ (t.log_h - 1)) (λ b. power F.Field.ring (root_of F.Field F.generator t.inverse t.log_h) (rev (t.log_h - 1) b)) (items_if_any t.high)) };
+        × (1 ≤ t.log_h → AreTwiddles F.Field (2 ^ (t.log_h - 1)) (λ b. power F.Field.ring (root_of F.Field F.generator t.inverse t.log_h) (rev (t.log_h - 1) b)) (items_if_any t.high))
+        × (t.log_h ≤ F.TWO_ADICITY) };
 }
 
 impl<F: TwoAdicField> RootTables<F> {
@@ -77,7 +78,7 @@ impl<F: TwoAdicField> RootTables<F> {
             return Ok(());
         }
         let low = root_layers(alloc, self.inverse, (log_h + 1) / 2)?;
-        let high = reversed_powers(alloc, F::ONE, root::<F>(self.inverse, log_h), log_h - 1)?;
+        let high = reversed_roots(alloc, self.inverse, log_h)?;
         self.low = Some(low);
         self.high = Some(high);
         self.log_h = log_h;
@@ -96,7 +97,8 @@ impl<F: TwoAdicField> RootTables<F> {
 
     // Those of the second half.
     pub(crate) fn high(&self) -> &[F]
-        ensures { 1 ≤ self.now.log_h → AreTwiddles F.Field.own (2 ^ (self.now.log_h - 1))
+        ensures within { self.now.log_h ≤ F.TWO_ADICITY }
+        ensures table { 1 ≤ self.now.log_h → AreTwiddles F.Field.own (2 ^ (self.now.log_h - 1))
             (λ b. power F.ring (root_of F.Field.own F.generator self.now.inverse self.now.log_h) (rev (self.now.log_h - 1) b)) result.now }
     {
         match &self.high {
@@ -117,6 +119,22 @@ fn root<F: TwoAdicField>(inverse: bool, bits: usize) -> F
     } else {
         generator
     }
+}
+
+// Half of the powers of that of order `2^log_h`, in bit reversed order.
+fn reversed_roots<F: TwoAdicField>(
+    alloc: Global,
+    inverse: bool,
+    log_h: usize,
+) -> Result<Vec<F>, DftError>
+    requires some { 1 ≤ log_h }
+    requires within { log_h ≤ F.TWO_ADICITY }
+    requires small { log_h < 64 }
+    ensures { IfOk result (λ v. AreTwiddles F.Field.own (2 ^ (log_h - 1))
+        (λ b. power F.ring (root_of F.Field.own F.generator inverse log_h) (rev (log_h - 1) b)) v.items) }
+{
+    let root = root::<F>(inverse, log_h);
+    reversed_powers(alloc, F::ONE, root, log_h - 1)
 }
 
 // The powers for the layers up to one, in natural order: those of layer l begin at place `2^l - 1`.

@@ -1,0 +1,43 @@
+// The network on the subgroup, by the powers that the engine keeps.
+
+ghost use Rattle.std.specs.Prelude.{◌≡◌, ℕ, ◌+◌, ◌*◌, ◌/◌, ◌^◌, ◌<◌, ◌≤◌};
+ghost use Rattle.p3_field.specs.Ring.{power};
+ghost use Rattle.p3_matrix.specs.BitOrder.{rev};
+ghost use Rattle.p3_matrix.specs.RowMajor.{IsRowMajor, SameShape, height};
+ghost use Rattle.p3_dft.specs.Polynomials.{poly};
+ghost use Rattle.p3_dft.specs.Transforms.{values_of};
+ghost use Rattle.p3_dft.specs.Twiddles.{factor, root_of, scale_cost};
+
+use crate::radix_2_dit_parallel::halves::BlockTwiddles;
+use crate::radix_2_dit_parallel::network::network;
+use crate::radix_2_dit_parallel::tables::RootTables;
+use p3_field::{Products, TwoAdicField};
+use p3_matrix::RowMajorMatrix;
+
+// From coefficients in natural order, their values at the powers of the generator, or of its inverse, in
+// bit reversed order. With a scale, the values are multiplied by it.
+pub(crate) fn transform<F: TwoAdicField>(
+    mat: &mut RowMajorMatrix<F>,
+    log_h: usize,
+    tables: &RootTables<F>,
+    scale: Option<F>,
+    products: &mut Products,
+)
+    requires whole { IsRowMajor mat.old }
+    requires small { log_h < 64 }
+    requires height { height mat.old ≡ 2 ^ log_h }
+    requires there { log_h ≤ tables.now.log_h }
+    ensures shape { SameShape mat.new mat.old }
+    ensures values { (r j : ℕ) → r < 2 ^ log_h → j < mat.old.width → (values_of F.Field.own mat.new).entry r j
+        ≡ poly F.ring (2 ^ log_h) (λ q. F.ring.mul ((values_of F.Field.own mat.old).entry q j) (factor F.Field.own scale))
+        (power F.ring (root_of F.Field.own F.generator tables.now.inverse log_h) (rev log_h r)) }
+    ensures grows { products.old ≤ products.new }
+    ensures cost { products.new ≤ products.old + mat.old.width * (log_h * 2 ^ log_h / 2) + scale_cost scale * (2 ^ log_h * mat.old.width) }
+{
+    let mid = (log_h + 1) / 2;
+    let high = BlockTwiddles {
+        twiddles: tables.high(),
+        by_layer: false,
+    };
+    network(mat, mid, log_h - mid, tables.low(), high, scale, products);
+}
