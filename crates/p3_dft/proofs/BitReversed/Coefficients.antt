@@ -3,6 +3,7 @@
 use Rattle.std.proofs.Common.{◌≡◌, ℕ, ◌+◌, ◌*◌, ◌<◌, ◌≤◌, ◌^◌, ◌++◌, List, length, get_or, take, Result, Ok, Err, OnOk, refl, sym, ap, ap₂, ◌∙◌, subst, arith}
 use Rattle.p3_field.specs.Ring.{Ring, AreRoots, count, power}
 use Rattle.p3_field.specs.declared.fields.Field.{Ghosts as FieldMembers}
+use Rattle.p3_field.proofs.Rings
 use Rattle.p3_field.proofs.Powers.{count-power_of_two}
 use Rattle.p3_field.proofs.Roots.{inverse_root}
 use Rattle.p3_matrix.specs.BitOrder.{rev, bit_reversal}
@@ -19,7 +20,7 @@ use Rattle.p3_dft.specs.Transforms.{AreValuesOfRows, values_of, IsInterpolation}
 use Rattle.p3_dft.specs.declared.traits.Layout.TheVariants.{BitReversed}
 use Rattle.p3_dft.proofs.Polynomials.Cosets.{coefficients_same, is_subgroup_values}
 use Rattle.p3_dft.proofs.Polynomials.Interpolation.{inverse_transform, there_is_no_other, transform_is}
-use Rattle.p3_dft.proofs.Polynomials.ByIndex.{poly-one}
+use Rattle.p3_dft.proofs.Polynomials.ByIndex.{poly_same, poly-one, poly-times}
 use Rattle.p3_dft.proofs.BitReversed.Rows.{transform_of_row}
 use Rattle.p3_dft.proofs.Rows.Overwritten.{written}
 use Rattle.p3_dft.proofs.Calls.Shapes.{entries_rise}
@@ -84,6 +85,24 @@ module _ {A : Type 0} (R : Ring A) {g : ℕ → A} {bits : ℕ} (G : AreRoots R 
       let x = power R (inverse_root R g k) (rev k i) in
       ap f first ∙ sym (ap (λ n. poly R n f x) single ∙ poly-one R f x))
       quotient
+
+  -- the same where the entries were divided by the height beforehand
+  pub coefficients_of_scaled : (m out : Matrix A) (k : ℕ) (scale : A) → k ≤ bits → m.height ≡ 2 ^ k → out.height ≡ m.height → out.width ≡ m.width → R.mul (count R (2 ^ k)) scale ≡ R.one
+      → ((i j : ℕ) → i < 2 ^ k → j < m.width → out.entry i j ≡ poly R (2 ^ k) (λ q. R.mul (m.entry q j) scale) (power R (inverse_root R g k) (rev k i)))
+      → AreCoefficients R g m k R.one (bit_reversal k out)
+  coefficients_of_scaled m out k scale within high tall wide undone entries =
+      let sums : Matrix A = record { height = m.height; width = m.width; entry = λ i j. poly R (2 ^ k) (λ q. m.entry q j) (power R (inverse_root R g k) (rev k i)) } in
+      coefficients_of_reversed m sums (bit_reversal k out) k within high refl refl (λ i j below inside. refl)
+      (record {
+        high = tall;
+        wide = wide;
+        entries = λ i j below inside.
+            let x = power R (inverse_root R g k) (rev k (rev k i)) in
+            let f = λ (q : ℕ). m.entry q j in
+            let n = count R (2 ^ k) in
+            ap (R.mul n) (entries (rev k i) j (rev-lt k i) inside ∙ poly_same R (2 ^ k) _ _ x (λ q p. R.mul_comm (f q) scale) ∙ poly-times R (2 ^ k) scale f x)
+            ∙ sym (R.mul_assoc n scale (poly R (2 ^ k) f x)) ∙ ap (λ y. R.mul y (poly R (2 ^ k) f x)) undone ∙ Rings.one-mul R (poly R (2 ^ k) f x);
+      })
 
 module _ {F : Type 0} (f : FieldMembers F) (generator : ℕ → F) where
   -- a single row is its own values

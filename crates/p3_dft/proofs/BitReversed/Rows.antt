@@ -1,14 +1,20 @@
 -- Transforms of matrices whose rows were put into bit reversed order first, and of a single row.
-use Rattle.std.proofs.Common.{◌≡◌, ℕ, ◌+◌, ◌*◌, ◌^◌, ◌<◌, ◌++◌, List, length, get_or, take, ap, refl, sym, ◌∙◌, arith}
+use Rattle.std.proofs.Common.{◌≡◌, ℕ, ◌+◌, ◌*◌, ◌^◌, ◌<◌, ◌++◌, List, length, get_or, take, ap, refl, sym, ◌∙◌, subst, arith}
 use Rattle.p3_field.specs.Ring.{power}
 use Rattle.p3_field.specs.declared.fields.Field.{Ghosts as FieldMembers}
 use Rattle.p3_matrix.specs.RowMajor.{RowMajor, HasShapeOf, IsRowMajor, height}
-use Rattle.p3_matrix.specs.BitOrder.{rev, bit_reversal}
+use Rattle.p3_matrix.specs.BitOrder.{rev, bit_reversal, reversed_rows}
 use Rattle.p3_matrix.specs.Matrix.{matrix, Same}
 use Rattle.p3_matrix.proofs.BitReversal.{rev-lt, rev-rev}
+use Rattle.p3_matrix.proofs.Matrices.{same_sym}
+use Rattle.p3_matrix.proofs.ReversedRows.{reversed_same}
+use Rattle.p3_matrix.proofs.TwoPowers.{log_same}
+use Rattle.p3_dft.specs.Cosets.{IsValues}
 use Rattle.p3_dft.specs.Polynomials.{poly}
 use Rattle.p3_dft.specs.Transforms.{IsTransform, values_of}
 use Rattle.p3_dft.proofs.Polynomials.ByIndex.{poly_same, poly-one}
+use Rattle.p3_dft.proofs.Polynomials.Cosets.{values_same}
+use Rattle.p3_dft.proofs.Polynomials.Inverses.{mapped_same}
 use Rattle.p3_dft.proofs.Rows.Overwritten.{written}
 use Rattle.p3_dft.proofs.Calls.Transforms.{transform_of_parts, transform_of_entries}
 
@@ -62,3 +68,14 @@ module _ {F : Type 0} (f : FieldMembers F) (generator : ℕ → F) where
       let column = λ (q : ℕ). f.value (get_or m.values (q * m.width + j) f.ZERO) in
       let first : i ≡ 0 = omega (arith, below, one) in
       ap column first ∙ sym (ap (λ n. poly f.ring n column (power f.ring (f.value (generator 0)) i)) one ∙ poly-one f.ring column (power f.ring (f.value (generator 0)) i)))
+
+  -- values in bit reversed order are, as they are seen, the transform
+  pub transform_seen : (m out : RowMajor F) (s : f.Element) (log bits : ℕ) → height m ≡ 2 ^ log → IsRowMajor out → height out ≡ 2 ^ bits → bits ≡ log
+      → IsValues f.ring (λ n. f.value (generator n)) (values_of f m) log s (bit_reversal log (values_of f out)) → IsTransform f generator m s (reversed_rows bits out)
+  transform_seen m out s log bits high whole tall same values k e =
+      let k_is : log ≡ k = log_same log k (sym high ∙ e) in
+      let seen : Same (values_of f (reversed_rows bits out)) (bit_reversal bits (values_of f out)) =
+      mapped_same f.value (matrix f.ZERO (reversed_rows bits out)) (bit_reversal bits (matrix f.ZERO out)) (reversed_same bits out whole tall f.ZERO) in
+      subst (λ (n : ℕ). IsValues f.ring (λ i. f.value (generator i)) (values_of f m) n s (values_of f (reversed_rows bits out))) k_is
+      (values_same f.ring (λ n. f.value (generator n)) (values_of f m) log s (bit_reversal log (values_of f out)) (values_of f (reversed_rows bits out)) values
+      (same_sym (values_of f (reversed_rows bits out)) (bit_reversal log (values_of f out)) (subst (λ (n : ℕ). Same (values_of f (reversed_rows bits out)) (bit_reversal n (values_of f out))) same seen)))

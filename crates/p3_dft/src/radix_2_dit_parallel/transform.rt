@@ -1,9 +1,10 @@
 // The network on the subgroup, by the powers that the engine keeps.
 
-ghost use Rattle.std.specs.Prelude.{◌≡◌, ℕ, ◌+◌, ◌*◌, ◌/◌, ◌^◌, ◌<◌, ◌≤◌};
+ghost use Rattle.std.specs.Prelude.{◌≡◌, ℕ, ◌+◌, ◌*◌, ◌/◌, ◌^◌, ◌<◌, ◌≤◌, true, false};
 ghost use Rattle.p3_field.specs.Ring.{power};
-ghost use Rattle.p3_matrix.specs.BitOrder.{rev};
+ghost use Rattle.p3_matrix.specs.BitOrder.{rev, bit_reversal};
 ghost use Rattle.p3_matrix.specs.RowMajor.{IsRowMajor, SameShape, height};
+ghost use Rattle.p3_dft.specs.Cosets.{AreCoefficients, IsValues};
 ghost use Rattle.p3_dft.specs.Polynomials.{poly};
 ghost use Rattle.p3_dft.specs.Transforms.{values_of};
 ghost use Rattle.p3_dft.specs.Twiddles.{factor, root_of, scale_cost};
@@ -11,7 +12,7 @@ ghost use Rattle.p3_dft.specs.Twiddles.{factor, root_of, scale_cost};
 use crate::radix_2_dit_parallel::halves::BlockTwiddles;
 use crate::radix_2_dit_parallel::network::network;
 use crate::radix_2_dit_parallel::tables::RootTables;
-use p3_field::{Products, TwoAdicField};
+use p3_field::{Field, Products, TwoAdicField};
 use p3_matrix::RowMajorMatrix;
 
 // From coefficients in natural order, their values at the powers of the generator, or of its inverse, in
@@ -40,4 +41,48 @@ pub(crate) fn transform<F: TwoAdicField>(
         by_layer: false,
     };
     network(mat, mid, log_h - mid, tables.low(), high, scale, products);
+}
+
+// From coefficients in natural order, their values on the subgroup, in bit reversed order.
+pub(crate) fn evaluate<F: TwoAdicField>(
+    mat: &mut RowMajorMatrix<F>,
+    log_h: usize,
+    forward: &RootTables<F>,
+    products: &mut Products,
+)
+    requires whole { IsRowMajor mat.old }
+    requires small { log_h < 64 }
+    requires height { height mat.old ≡ 2 ^ log_h }
+    requires there { log_h ≤ forward.now.log_h }
+    requires forward { forward.now.inverse ≡ false }
+    ensures shape { SameShape mat.new mat.old }
+    ensures values { IsValues F.ring (λ n. F.value (F.generator n)) (values_of F.Field.own mat.old) log_h F.ring.one
+        (bit_reversal log_h (values_of F.Field.own mat.new)) }
+    ensures grows { products.old ≤ products.new }
+    ensures cost { products.new ≤ products.old + mat.old.width * (log_h * 2 ^ log_h / 2) }
+{
+    transform(mat, log_h, forward, None, products);
+}
+
+// From values on the subgroup in natural order, the coefficients, in bit reversed order.
+pub(crate) fn interpolate<F: TwoAdicField>(
+    mat: &mut RowMajorMatrix<F>,
+    log_h: usize,
+    inverse: &RootTables<F>,
+    products: &mut Products,
+)
+    requires whole { IsRowMajor mat.old }
+    requires small { log_h < 64 }
+    requires height { height mat.old ≡ 2 ^ log_h }
+    requires there { log_h ≤ inverse.now.log_h }
+    requires rooted { log_h ≤ F.TWO_ADICITY }
+    requires inverse { inverse.now.inverse ≡ true }
+    ensures shape { SameShape mat.new mat.old }
+    ensures coefficients { AreCoefficients F.ring (λ n. F.value (F.generator n)) (values_of F.Field.own mat.old) log_h F.ring.one
+        (bit_reversal log_h (values_of F.Field.own mat.new)) }
+    ensures grows { products.old ≤ products.new }
+    ensures cost { products.new ≤ products.old + mat.old.width * (log_h * 2 ^ log_h / 2) + 2 ^ log_h * mat.old.width }
+{
+    let scale = F::ONE.div_2exp_u64(log_h as u64);
+    transform(mat, log_h, inverse, Some(scale), products);
 }

@@ -1,0 +1,27 @@
+use Rattle.std.proofs.Common.{◌≡◌, ℕ, ◌/◌, ◌^◌, sym, ap, ap₂, ◌∙◌, arith}
+use Rattle.p3_field.specs.Ring.{power}
+use Rattle.p3_matrix.specs.BitOrder.{rev, bit_reversal}
+use Rattle.p3_matrix.specs.RowMajor.{height}
+use Rattle.p3_matrix.proofs.BitReversal.{rev-lt, rev-rev}
+use Rattle.p3_dft.specs.Polynomials.{poly}
+use Rattle.p3_dft.specs.Transforms.{values_of}
+use Rattle.p3_dft.specs.Twiddles.{root_of}
+use Rattle.p3_dft.proofs.Polynomials.ByIndex.{poly_same}
+use Rattle.p3_dft.proofs.Polynomials.Cosets.{is_subgroup_values}
+use Rattle.p3_dft.proofs.radix_2_dit_parallel.transform.evaluate.Goals as goal
+
+pub returns-clause-values : goal.returns-clause-values
+returns-clause-values g c =
+    let field = g.F.Field in
+    let gen = g.F.TwoAdicField.generator in
+    let k = c.args.log_h in
+    let m = c.args.mat.now in
+    let out = c.transform.new.mat in
+    let tall : height out ≡ height m = ap₂ (λ l w. l / w) c.transform.ensures.shape.1 c.transform.ensures.shape.0 in
+    is_subgroup_values field.ring (λ n. field.value (gen n)) (values_of field m) k (bit_reversal k (values_of field out)) (tall ∙ c.requires.height) c.transform.ensures.shape.0
+    (λ i j below inside.
+    let f = λ (q : ℕ). (values_of field m).entry q j in
+    c.transform.ensures.values (rev k i) j (rev-lt k i) inside
+    ∙ ap₂ (λ b r. poly field.ring (2 ^ k) (λ q. field.ring.mul (f q) field.ring.one) (power field.ring (root_of field gen b k) r)) c.requires.forward (rev-rev k i below)
+    ∙ poly_same field.ring (2 ^ k) _ f (power field.ring (field.value (gen k)) i) (λ q p. field.ring.mul_one (f q))
+    ∙ ap (λ n. poly field.ring n f (power field.ring (field.value (gen k)) i)) (sym c.requires.height))
