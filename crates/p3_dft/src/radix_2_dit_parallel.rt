@@ -1,6 +1,202 @@
-//! The transform by two halves of layers, each run by run, with rows that are left in bit reversed order.
+//! The transform by two halves of layers, each run by run, which leaves its rows in bit reversed order.
+
+ghost use Rattle.std.specs.Prelude.{◌≡◌, ◌↔◌, ◌⊎◌, ℕ, ◌+◌, ◌*◌, ◌/◌, ◌^◌, ◌<◌, ◌≤◌, IsTrue, IsOk, OnOk};
+ghost use Rattle.p3_dft.specs.Twiddles.{HasBoth};
 
 mod halves;
 mod network;
 mod tables;
 mod transform;
+
+use crate::radix_2_dit_parallel::tables::RootTables;
+use crate::radix_2_dit_parallel::transform::{evaluate, interpolate};
+use crate::traits::{Layout, TwoAdicSubgroupDft};
+use crate::util::reverse_rows;
+use p3_field::{Products, TwoAdicField};
+use p3_matrix::{
+    BitReversedMatrixView, DftError, IntoRowMajorMatrix, RowMajorMatrix, log2_strict_usize,
+};
+use std::alloc::{AllocError, Global};
+use std::marker::Model;
+
+/// Transforms by layers of butterflies, in place, in two halves: the rows are reversed, the first half
+/// of the layers is done on each run of rows in turn, the rows are reversed again, and the second half
+/// is done on each run of rows in turn. A run has about as many rows as the square root of the height,
+/// so that it stays in the cache for all layers of its half. The values are left in bit reversed order.
+/// At height `2^k` and width w that is at most `w * k * 2^k / 2` products.
+///
+/// Powers of the generators and of their inverses are kept until the engine ends: those of a height from
+/// its first transform, or inverse, on, or from `prepare`. Where both are there, the height is prepared,
+/// and smaller ones are with it: `dft_batch`, `idft_batch` and the calls that stand on them then take no
+/// memory. A new engine and a clone have no tables and take no memory.
+///
+/// Contracts see up to which heights there are tables of either kind, and how many products were made.
+#[derive(Drop)]
+pub struct Radix2DitParallel<F: TwoAdicField> {
+    forward: RootTables<F>,
+    inverse: RootTables<F>,
+    products: Products,
+}
+
+impl<F: TwoAdicField> Model for Radix2DitParallel<F> {
+    ghost use Rattle.std.specs.Prelude.{◌≡◌, true, false};
+    ghost use Rattle.p3_dft.specs.Twiddles.{ThereAndBack};
+
+    ghost Value = { ThereAndBack };
+
+    ghost view = { λ e. record { forward = e.forward.log_h; inverse = e.inverse.log_h; products = e.products } };
+
+    ghost invariant = { λ e. (e.forward.inverse ≡ false) × (e.inverse.inverse ≡ true) };
+}
+
+impl<F: TwoAdicField> Default for Radix2DitParallel<F> {
+    ghost use Rattle.std.specs.Prelude.{◌≡◌};
+
+    ghost is_default = { λ e. (e.forward ≡ 0) × (e.inverse ≡ 0) × (e.products ≡ 0) };
+
+    fn default() -> Self {
+        Radix2DitParallel {
+            forward: RootTables::new(false),
+            inverse: RootTables::new(true),
+            products: Products::new(),
+        }
+    }
+}
+
+impl<F: TwoAdicField> Clone for Radix2DitParallel<F> {
+    ghost use Rattle.std.specs.Prelude.{◌≡◌, ⊤};
+
+    ghost is_clone = { λ _ e. (e.forward ≡ 0) × (e.inverse ≡ 0) × (e.products ≡ 0) };
+
+    ghost is_infallible = { λ _. ⊤ };
+
+    fn clone(&self) -> Result<Self, AllocError> {
+        Ok(Self::default())
+    }
+}
+
+impl<F: TwoAdicField> Radix2DitParallel<F> {
+    /// Makes the tables for height `2^log_h`, those of the inverse too, from when on transforms and
+    /// inverses of that height and of smaller ones take no memory. It takes none itself where the height
+    /// is prepared already, as height one always is. Where memory is refused, no table is lost.
+    pub fn prepare(&mut self, alloc: Global, log_h: usize) -> Result<(), DftError>
+        requires within { log_h ≤ F.TWO_ADICITY }
+        requires size { 2 ^ log_h < 2 ^ 64 }
+        ensures prepares { OnOk result (HasBoth self.new log_h) }
+        ensures ready { HasBoth self.old log_h → IsOk result }
+        ensures keeps { (k : ℕ) → HasBoth self.old k → HasBoth self.new k }
+        ensures only { (k : ℕ) → HasBoth self.new k → HasBoth self.old k ⊎ (k ≤ log_h) }
+        ensures products { self.new.products ≡ self.old.products }
+    {
+        self.forward.make(alloc, log_h)?;
+        self.inverse.make(alloc, log_h)
+    }
+
+    /// Whether transforms and inverses of height `2^log_h` take no memory. Height one always is
+    /// prepared.
+    pub fn is_prepared(&self, log_h: usize) -> bool
+        ensures { IsTrue result ↔ HasBoth self.now log_h }
+    {
+        log_h <= self.forward.log_h() && log_h <= self.inverse.log_h()
+    }
+}
+
+impl<F: TwoAdicField> TwoAdicSubgroupDft<F> for Radix2DitParallel<F> {
+    ghost use Rattle.std.specs.Prelude.{◌≡◌, ⊤, ℕ, ◌+◌, ◌*◌, ◌/◌, ◌^◌, ◌≤◌, IfOk, IsOk, OnOk, Ok};
+    ghost use Rattle.p3_matrix.specs.BitOrder.{reversed_rows};
+    ghost use Rattle.p3_matrix.specs.RowMajor.{RowMajor, height};
+    ghost use Rattle.p3_dft.specs.Engines.{AtLog, IsLater};
+    ghost use Rattle.p3_dft.specs.Extensions.{IsTransformedExtension, extension_bound};
+    ghost use Rattle.p3_dft.specs.Shapes.{FitsDft, FitsLde, HasShapeOf};
+    ghost use Rattle.p3_dft.specs.Transforms.{IsInterpolation, IsTransform};
+    ghost use Rattle.p3_dft.specs.Twiddles.{HasBoth};
+    ghost use Rattle.p3_dft.specs.declared.traits.Layout.TheVariants.{Natural};
+
+    type Evaluations = BitReversedMatrixView<RowMajorMatrix<F>>;
+
+    const LAYOUT: Layout = Layout::Natural;
+
+    ghost LAYOUT = { Natural };
+
+    ghost promised = { HasBoth };
+
+    ghost coset_promised = { HasBoth };
+
+    ghost served = { λ _ _. ⊤ };
+
+    ghost bound = { λ k w. w * (k * 2 ^ k / 2) };
+
+    ghost made = { λ e. e.products };
+
+    ghost coset_promised_law = { λ e k prepared. prepared };
+
+    ghost default_law = { λ e new. new.1.1 };
+
+    ghost clone_law = { λ e copy new. new.1.1 };
+
+    /// As the trait says. `Ok` leaves the tables of the height there for good. A matrix of height one is
+    /// its own transform: it is handed back, with no product and no memory taken.
+    fn dft_batch<N: IntoRowMajorMatrix<F>>(
+        &mut self,
+        mat: N,
+    ) -> Result<BitReversedMatrixView<RowMajorMatrix<F>>, DftError>
+        requires { FitsDft F.TWO_ADICITY (height (N.stored mat)) (N.stored mat).width }
+        ensures values { IfOk result (λ out. IsTransform F.Field.own F.generator (N.stored mat) F.ring.one (reversed_rows out.bits out.physical)) }
+        ensures succeeds { AtLog (height (N.stored mat)) (λ k. HasBoth self.old k → IsOk result) }
+        ensures ready { AtLog (height (N.stored mat)) (λ k. k ≤ self.old.forward → IsOk result) }
+        ensures later { IsLater HasBoth HasBoth (λ _ _. ⊤) (λ e. e.products) self.old self.new }
+        ensures cost { AtLog (height (N.stored mat))
+            (λ k. OnOk result (self.new.products ≤ self.old.products + (N.stored mat).width * (k * 2 ^ k / 2))) }
+    {
+        let mut mat = mat.into_row_major_matrix();
+        let log_h = log2_strict_usize(mat.height());
+        self.forward.make(*mat.allocator(), log_h)?;
+        evaluate(&mut mat, log_h, &self.forward, &mut self.products);
+        Ok(mat.bit_reverse_rows())
+    }
+
+    fn add_products(&mut self, products: Products) {
+        self.products.add(products);
+    }
+
+    /// As the trait says: the division by the height is part of a layer. A matrix of height one is its
+    /// own inverse transform: it is handed back, with no product and no memory taken.
+    fn idft_batch<N: IntoRowMajorMatrix<F>>(
+        &mut self,
+        mat: N,
+    ) -> Result<RowMajorMatrix<F>, DftError>
+        requires { FitsDft F.TWO_ADICITY (height (N.stored mat)) (N.stored mat).width }
+        ensures coefficients { IfOk result (λ out. IsInterpolation F.Field.own F.generator (N.stored mat) F.ring.one out) }
+        ensures succeeds { AtLog (height (N.stored mat)) (λ k. HasBoth self.old k → IsOk result) }
+        ensures ready { AtLog (height (N.stored mat)) (λ k. k ≤ self.old.inverse → IsOk result) }
+        ensures one_row { height (N.stored mat) ≡ 1 → (result ≡ Ok (N.stored mat)) × (self.new ≡ self.old) }
+        ensures later { IsLater HasBoth HasBoth (λ _ _. ⊤) (λ e. e.products) self.old self.new }
+        ensures cost { AtLog (height (N.stored mat))
+            (λ k. OnOk result (self.new.products ≤ self.old.products + (N.stored mat).width * (k * 2 ^ k / 2) + 2 ^ k * (N.stored mat).width)) }
+    {
+        let mut mat = mat.into_row_major_matrix();
+        let height = mat.height();
+        if height == 1 {
+            return Ok(mat);
+        }
+        let log_h = log2_strict_usize(height);
+        self.inverse.make(*mat.allocator(), log_h)?;
+        interpolate(&mut mat, log_h, &self.inverse, &mut self.products);
+        reverse_rows(&mut mat);
+        Ok(mat)
+    }
+
+    /// As the trait says, by its parts.
+    fn coset_lde_batch_with_transform<
+        N: IntoRowMajorMatrix<F>,
+        T: FnOnce(RowMajorMatrix<F>, Layout) -> RowMajorMatrix<F> + Drop,
+    >(
+        &mut self,
+        mat: N,
+        added_bits: usize,
+        shift: F,
+        transform: T,
+    ) -> Result<BitReversedMatrixView<RowMajorMatrix<F>>, DftError> {
+        self.coset_lde_batch_by_parts(mat, added_bits, shift, transform)
+    }
+}

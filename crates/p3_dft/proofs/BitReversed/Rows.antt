@@ -1,5 +1,5 @@
 -- Transforms of matrices whose rows were put into bit reversed order first, and of a single row.
-use Rattle.std.proofs.Common.{◌≡◌, ℕ, ◌+◌, ◌*◌, ◌^◌, ◌<◌, ◌++◌, List, length, get_or, take, ap, refl, sym, ◌∙◌, subst, arith}
+use Rattle.std.proofs.Common.{◌≡◌, ℕ, ◌+◌, ◌*◌, ◌/◌, ◌^◌, ◌<◌, ◌++◌, List, length, get_or, take, ap, ap₂, refl, sym, ◌∙◌, subst, arith}
 use Rattle.p3_field.specs.Ring.{power}
 use Rattle.p3_field.specs.declared.fields.Field.{Ghosts as FieldMembers}
 use Rattle.p3_matrix.specs.RowMajor.{RowMajor, HasShapeOf, IsRowMajor, height}
@@ -70,12 +70,15 @@ module _ {F : Type 0} (f : FieldMembers F) (generator : ℕ → F) where
       ap column first ∙ sym (ap (λ n. poly f.ring n column (power f.ring (f.value (generator 0)) i)) one ∙ poly-one f.ring column (power f.ring (f.value (generator 0)) i)))
 
   -- values in bit reversed order are, as they are seen, the transform
-  pub transform_seen : (m out : RowMajor F) (s : f.Element) (log bits : ℕ) → height m ≡ 2 ^ log → IsRowMajor out → height out ≡ 2 ^ bits → bits ≡ log
+  pub transform_seen : (m out : RowMajor F) (s : f.Element) (log bits : ℕ) → height m ≡ 2 ^ log → IsRowMajor m → SameShape out m → height out ≡ 2 ^ bits
       → IsValues f.ring (λ n. f.value (generator n)) (values_of f m) log s (bit_reversal log (values_of f out)) → IsTransform f generator m s (reversed_rows bits out)
-  transform_seen m out s log bits high whole tall same values k e =
+  transform_seen m out s log bits high whole shape tall values k e =
+      let as_high : height out ≡ height m = ap₂ (λ l w. l / w) shape.1 shape.0 in
+      let same : bits ≡ log = log_same bits log (sym tall ∙ as_high ∙ high) in
+      let is_whole : IsRowMajor out = record { wide = omega (arith, whole.wide, shape.0); full = ap₂ (λ h w. h * w) as_high shape.0 ∙ whole.full ∙ sym shape.1 } in
       let k_is : log ≡ k = log_same log k (sym high ∙ e) in
       let seen : Same (values_of f (reversed_rows bits out)) (bit_reversal bits (values_of f out)) =
-      mapped_same f.value (matrix f.ZERO (reversed_rows bits out)) (bit_reversal bits (matrix f.ZERO out)) (reversed_same bits out whole tall f.ZERO) in
+      mapped_same f.value (matrix f.ZERO (reversed_rows bits out)) (bit_reversal bits (matrix f.ZERO out)) (reversed_same bits out is_whole tall f.ZERO) in
       subst (λ (n : ℕ). IsValues f.ring (λ i. f.value (generator i)) (values_of f m) n s (values_of f (reversed_rows bits out))) k_is
       (values_same f.ring (λ n. f.value (generator n)) (values_of f m) log s (bit_reversal log (values_of f out)) (values_of f (reversed_rows bits out)) values
       (same_sym (values_of f (reversed_rows bits out)) (bit_reversal log (values_of f out)) (subst (λ (n : ℕ). Same (values_of f (reversed_rows bits out)) (bit_reversal n (values_of f out))) same seen)))

@@ -1,0 +1,79 @@
+use Rattle.std.proofs.Common.{◌≡◌, ℕ, ◌^◌, ◌≤◌, Result, Ok, Err, IsOk, refl, sym, ap, ◌∙◌, arith, rules}
+use Rattle.p3_matrix.specs.BitOrder.{bit_reversal}
+use Rattle.p3_matrix.specs.Matrix.{matrix}
+use Rattle.p3_matrix.specs.RowMajor.{RowMajor, height}
+use Rattle.p3_matrix.proofs.Matrices.{same_sym}
+use Rattle.p3_matrix.proofs.TwoPowers.{log_same}
+use Rattle.p3_dft.specs.Transforms.{values_of}
+use Rattle.p3_dft.specs.Twiddles.{ThereAndBack}
+use Rattle.p3_dft.proofs.BitReversed.Coefficients.{interpolation_of_coefficients}
+use Rattle.p3_dft.proofs.BitReversed.Rows.{transform_of_row}
+use Rattle.p3_dft.proofs.Polynomials.Interpolation.{same_coefficients}
+use Rattle.p3_dft.proofs.Polynomials.Inverses.{mapped_same}
+use Rattle.p3_dft.proofs.radix_2_dit_parallel.Radix2DitParallelTwoAdicSubgroupDft.idft_batch.Goals as goal
+
+not_ok : {A E : Type 0} (r : Result A E) (e : E) → r ≡ Err e → IsOk r → ⊥
+not_ok (Ok x) e is ok = cc
+not_ok (Err x) e is ok = search rules
+
+pub returns-then-height-eq1-clause-coefficients : goal.returns-then-height-eq1-clause-coefficients
+returns-then-height-eq1-clause-coefficients g c =
+    let m = c.into_row_major_matrix-mat.result in
+    let high : height m ≡ 2 ^ c.requires.log = ap height c.into_row_major_matrix-mat.ensures ∙ c.requires.high in
+    rw (← c.into_row_major_matrix-mat.ensures)
+    (interpolation_of_coefficients g.F.Field g.F.TwoAdicField.generator g.met.F.TwoAdicField.roots_law m m c.requires.log c.requires.within high
+    (record {
+      high = refl;
+      wide = refl;
+      values = transform_of_row g.F.Field g.F.TwoAdicField.generator m (sym c.height-height.ensures.height ∙ c.if-height-eq1.true) c.requires.log high;
+    }))
+
+pub make-requires-clause-within : goal.make-requires-clause-within
+make-requires-clause-within g c =
+    let tall : c.height-height.result ≡ height (g.N.IntoRowMajorMatrix.stored c.args.mat) = c.height-height.ensures.height ∙ ap height c.into_row_major_matrix-mat.ensures in
+    let same : c.log2_strict_usize-log_h.result ≡ c.requires.log = log_same _ _ (sym c.log2_strict_usize-log_h.ensures.power ∙ tall ∙ c.requires.high) in
+    omega (arith, same, c.requires.within)
+
+pub returns-in_err-make-clause-ready : goal.returns-in_err-make-clause-ready
+returns-in_err-make-clause-ready g c k high ready =
+    let tall : c.height-height.result ≡ height (g.N.IntoRowMajorMatrix.stored c.args.mat) = c.height-height.ensures.height ∙ ap height c.into_row_major_matrix-mat.ensures in
+    let log = c.log2_strict_usize-log_h.result in
+    let same : k ≡ log = log_same k log (sym high ∙ sym tall ∙ c.log2_strict_usize-log_h.ensures.power) in
+    let held = ap (λ (e : ThereAndBack). e.inverse) c.self.view_is in
+    absurd (not_ok c.make.result _ c.in_err-make.was (c.make.ensures.ready (omega (arith, same, ready, held))))
+
+pub returns-in_err-make-clause-succeeds : goal.returns-in_err-make-clause-succeeds
+returns-in_err-make-clause-succeeds g c k high ready = returns-in_err-make-clause-ready g c k high ready.1
+
+pub interpolate-requires-clause-rooted : goal.interpolate-requires-clause-rooted
+interpolate-requires-clause-rooted g c =
+    let tall : c.height-height.result ≡ height (g.N.IntoRowMajorMatrix.stored c.args.mat) = c.height-height.ensures.height ∙ ap height c.into_row_major_matrix-mat.ensures in
+    let same : c.log2_strict_usize-log_h.result ≡ c.requires.log = log_same _ _ (sym c.log2_strict_usize-log_h.ensures.power ∙ tall ∙ c.requires.high) in
+    omega (arith, same, c.requires.within)
+
+pub returns-clause-coefficients : goal.returns-clause-coefficients
+returns-clause-coefficients g c =
+    let field = g.F.Field in
+    let log = c.log2_strict_usize-log_h.result in
+    let m = c.into_row_major_matrix-mat.result in
+    let reversed_coefficients = c.interpolate.new.mat in
+    let out = c.reverse_rows.new.mat in
+    let tall : c.height-height.result ≡ height (g.N.IntoRowMajorMatrix.stored c.args.mat) = c.height-height.ensures.height ∙ ap height c.into_row_major_matrix-mat.ensures in
+    let same : log ≡ c.requires.log = log_same _ _ (sym c.log2_strict_usize-log_h.ensures.power ∙ tall ∙ c.requires.high) in
+    let high : height m ≡ 2 ^ log = sym c.height-height.ensures.height ∙ c.log2_strict_usize-log_h.ensures.power in
+    let are = c.interpolate.ensures.coefficients in
+    rw (← c.into_row_major_matrix-mat.ensures)
+    (interpolation_of_coefficients field g.F.TwoAdicField.generator g.met.F.TwoAdicField.roots_law m out log (omega (arith, same, c.requires.within)) high
+    (same_coefficients field.ring g.met.F.TwoAdicField.roots_law (values_of field m) log field.ring.one (bit_reversal log (values_of field reversed_coefficients)) (values_of field out)
+    (same_sym (values_of field out) (bit_reversal log (values_of field reversed_coefficients))
+    (mapped_same field.value (matrix field.ZERO out) (bit_reversal log (matrix field.ZERO reversed_coefficients)) (c.reverse_rows.ensures.rows log (are.high ∙ high) field.ZERO)))
+    are))
+
+pub returns-clause-cost : goal.returns-clause-cost
+returns-clause-cost g c k high =
+    let tall : c.height-height.result ≡ height (g.N.IntoRowMajorMatrix.stored c.args.mat) = c.height-height.ensures.height ∙ ap height c.into_row_major_matrix-mat.ensures in
+    let log = c.log2_strict_usize-log_h.result in
+    let same : log ≡ k = log_same log k (sym c.log2_strict_usize-log_h.ensures.power ∙ tall ∙ high) in
+    let products = ap (λ (e : ThereAndBack). e.products) c.self.view_is in
+    let width = ap (λ (m : RowMajor g.row.F.Denot). m.width) c.into_row_major_matrix-mat.ensures in
+    rw (← products, ← width, ← same) c.interpolate.ensures.cost
