@@ -104,7 +104,11 @@ fn layers<F: TwoAdicField>(alloc: Global, log_h: usize) -> Result<Vec<F>, DftErr
 }
 
 // Adds the first `count` powers of an element at the end, from the one of exponent zero on.
-pub(crate) fn push_powers<F: TwoAdicField>(powers: &mut Vec<F>, base: F, count: usize) -> Result<(), DftError>
+pub(crate) fn push_powers<F: TwoAdicField>(
+    powers: &mut Vec<F>,
+    base: F,
+    count: usize,
+) -> Result<(), DftError>
     ensures size { OnOk result (length powers.new.items ≡ length powers.old.items + count) }
     ensures before { OnOk result ((n : ℕ) → n < length powers.old.items
         → get_or powers.new.items n F.ZERO ≡ get_or powers.old.items n F.ZERO) }

@@ -5,7 +5,7 @@ use Rattle.std.proofs.lemmas.List.{places, same_lists, get_or-append-add}
 use Rattle.std.proofs.lemmas.Nat.{div-add-mod', div_below, mod_below}
 use Rattle.p3_matrix.specs.BitOrder.{rev, bit_reversal, reversed_rows}
 use Rattle.p3_matrix.specs.Matrix.{matrix, Same}
-use Rattle.p3_matrix.specs.RowMajor.{RowMajor, IsRowMajor, SameShape, height, row}
+use Rattle.p3_matrix.specs.RowMajor.{RowMajor, HasShapeOf, IsRowMajor, height, row}
 use Rattle.p3_matrix.proofs.BitReversal.{rev-lt, reversed_back}
 use Rattle.p3_matrix.proofs.RowMajor.{row_within}
 
@@ -56,28 +56,27 @@ module _ {T : Type 0} (n : ℕ) (m : RowMajor T) (whole : IsRowMajor m) (high : 
   }
 
   -- whatever has these rows
-  pub reversed_is : (r : RowMajor T) → SameShape r m → ((d : T) → Same (matrix d r) (bit_reversal n (matrix d m))) → r ≡ reversed_rows n m
-  reversed_is r shape rows = ap₂ (λ w vs. record { width = w; values = vs }) shape.0 (same_lists r.values (reversed_rows n m).values (shape.1 ∙ sym reversed_length) at)
+  pub reversed_is : (r : RowMajor T) → HasShapeOf r m → length r.values ≡ length m.values → ((d : T) → Same (matrix d r) (bit_reversal n (matrix d m))) → r ≡ reversed_rows n m
+  reversed_is r shape size rows = ap₂ (λ w vs. record { width = w; values = vs }) shape.1 (same_lists r.values (reversed_rows n m).values (size ∙ sym reversed_length) at)
     where
       at : (k : ℕ) (d : T) → k < length r.values → get_or r.values k d ≡ get_or (reversed_rows n m).values k d
       at k d l =
           let w = m.width in
-          let all : length r.values ≡ 2 ^ n * w = shape.1 ∙ sym whole.full ∙ ap (λ h. h * w) high in
+          let all : length r.values ≡ 2 ^ n * w = size ∙ sym whole.full ∙ ap (λ h. h * w) high in
           let i = k / w in
           let j = k % w in
           let split : i * w + j ≡ k = div-add-mod' k w in
           let below : i < 2 ^ n = div_below k w (2 ^ n) (omega (arith, whole.wide)) (omega (arith, l, all)) in
           let inside : j < w = mod_below k w (omega (arith, whole.wide)) in
           let tall : height r ≡ 2 ^ n = (rows d).high ∙ high in
-          ap (λ p. get_or r.values p d) (sym split ∙ ap (λ v. i * v + j) (sym shape.0))
-          ∙ (rows d).alike i j (omega (arith, below, tall)) (omega (arith, inside, shape.0))
+          ap (λ p. get_or r.values p d) (sym split ∙ ap (λ v. i * v + j) (sym shape.1))
+          ∙ (rows d).alike i j (omega (arith, below, tall)) (omega (arith, inside, shape.1))
           ∙ sym (reversed_entry i j d below inside) ∙ ap (λ p. get_or (reversed_rows n m).values p d) split
 
 -- and the other way round: rows that were reversed, in bit reversed order
-pub reversed_from : {T : Type 0} (n : ℕ) (m r : RowMajor T) → IsRowMajor m → height m ≡ 2 ^ n → SameShape r m → ((d : T) → Same (matrix d r) (bit_reversal n (matrix d m)))
+pub reversed_from : {T : Type 0} (n : ℕ) (m r : RowMajor T) → IsRowMajor m → height m ≡ 2 ^ n → HasShapeOf r m → length r.values ≡ length m.values → ((d : T) → Same (matrix d r) (bit_reversal n (matrix d m)))
     → m ≡ reversed_rows n r
-reversed_from n m r whole high shape rows =
-    let tall : height r ≡ height m = ap₂ (λ l w. l / w) shape.1 shape.0 in
-    let full : height r * r.width ≡ length r.values = ap₂ (λ h w. h * w) tall shape.0 ∙ whole.full ∙ sym shape.1 in
-    reversed_is n r (record { wide = omega (arith, whole.wide, shape.0); full = full }) (tall ∙ high) m (sym shape.0, sym shape.1)
+reversed_from n m r whole high shape size rows =
+    let full : height r * r.width ≡ length r.values = ap₂ (λ h w. h * w) shape.0 shape.1 ∙ whole.full ∙ sym size in
+    reversed_is n r (record { wide = omega (arith, whole.wide, shape.1); full = full }) (shape.0 ∙ high) m (sym shape.0, sym shape.1) (sym size)
     (λ d. reversed_back n (matrix d r) (matrix d m) high (rows d))

@@ -2,7 +2,7 @@
 
 ghost use Rattle.std.specs.Prelude.{◌≡◌, ◌^◌, ℕ};
 ghost use Rattle.p3_matrix.specs.BitOrder.{reversed_rows};
-ghost use Rattle.p3_matrix.specs.RowMajor.{RowMajor, IsRowMajor, SameShape, height};
+ghost use Rattle.p3_matrix.specs.RowMajor.{HasShapeOf, IsRowMajor, RowMajor, height};
 
 use crate::bitrev::{BitReversedMatrixView, reverse_matrix_index_bits};
 use crate::dense::RowMajorMatrix;
@@ -31,7 +31,7 @@ impl<F: Drop> Evaluations<F> for RowMajorMatrix<F> {
     }
 
     fn into_bit_reversed(mut self) -> BitReversedMatrixView<RowMajorMatrix<F>> {
-        reverse_rows(&mut self);
+        reverse_row_order(&mut self);
         self.bit_reverse_rows()
     }
 }
@@ -43,7 +43,7 @@ impl<F: Drop> Evaluations<F> for BitReversedMatrixView<RowMajorMatrix<F>> {
 
     fn to_row_major_matrix(self) -> RowMajorMatrix<F> {
         let mut mat = self.bit_reverse_rows();
-        reverse_rows(&mut mat);
+        reverse_row_order(&mut mat);
         mat
     }
 
@@ -53,9 +53,9 @@ impl<F: Drop> Evaluations<F> for BitReversedMatrixView<RowMajorMatrix<F>> {
 }
 
 // `reverse_matrix_index_bits` of a matrix itself.
-fn reverse_rows<T>(mat: &mut RowMajorMatrix<T>)
+fn reverse_row_order<T>(mat: &mut RowMajorMatrix<T>)
     requires { (k : ℕ) × (height mat.old ≡ 2 ^ k) }
-    ensures shape { SameShape mat.new mat.old }
+    ensures shape { HasShapeOf mat.new mat.old }
     ensures there { (k : ℕ) → height mat.old ≡ 2 ^ k → mat.new ≡ reversed_rows k mat.old }
     ensures back { (k : ℕ) → height mat.old ≡ 2 ^ k → mat.old ≡ reversed_rows k mat.new }
 {

@@ -19,14 +19,14 @@ use Rattle.p3_dft.proofs.Rows.Overwritten.{written}
 use Rattle.p3_dft.proofs.Calls.Transforms.{transform_of_parts, transform_of_entries}
 
 -- an entry of reversed rows, where a program has their entries and the width in variables of its own
-pub reversed_cell : {F : Type 0} (f : FieldMembers F) (m r : RowMajor F) (start : List F) (log w i j : ℕ) → height m ≡ 2 ^ log → w ≡ m.width → SameShape r m
+pub reversed_cell : {F : Type 0} (f : FieldMembers F) (m r : RowMajor F) (start : List F) (log w i j : ℕ) → height m ≡ 2 ^ log → w ≡ m.width → HasShapeOf r m
     → ((d : F) → Same (matrix d r) (bit_reversal log (matrix d m))) → start ≡ r.values → i < 2 ^ log → j < w
     → f.value (get_or start (i * w + j) f.ZERO) ≡ (values_of f m).entry (rev log i) j
 reversed_cell f m r start log w i j high wide shape rows start_is below inside =
     let back = rows f.ZERO in
     let tall : height r ≡ 2 ^ log = back.high ∙ high in
-    ap (λ xs. f.value (get_or xs (i * w + j) f.ZERO)) start_is ∙ ap (λ v. f.value (get_or r.values (i * v + j) f.ZERO)) (wide ∙ sym shape.0)
-    ∙ ap f.value (back.alike i j (omega (arith, below, tall)) (omega (arith, inside, wide, shape.0)))
+    ap (λ xs. f.value (get_or xs (i * w + j) f.ZERO)) start_is ∙ ap (λ v. f.value (get_or r.values (i * v + j) f.ZERO)) (wide ∙ sym shape.1)
+    ∙ ap f.value (back.alike i j (omega (arith, below, tall)) (omega (arith, inside, wide, shape.1)))
 
 -- an entry that was written back
 pub written_cell : {F : Type 0} (f : FieldMembers F) (r : RowMajor F) (cells rest : List F) (w i j : ℕ) → length cells ≡ length r.values → r.width ≡ w
@@ -70,12 +70,11 @@ module _ {F : Type 0} (f : FieldMembers F) (generator : ℕ → F) where
       ap column first ∙ sym (ap (λ n. poly f.ring n column (power f.ring (f.value (generator 0)) i)) one ∙ poly-one f.ring column (power f.ring (f.value (generator 0)) i)))
 
   -- values in bit reversed order are, as they are seen, the transform
-  pub transform_seen : (m out : RowMajor F) (s : f.Element) (log bits : ℕ) → height m ≡ 2 ^ log → IsRowMajor m → SameShape out m → height out ≡ 2 ^ bits
+  pub transform_seen : (m out : RowMajor F) (s : f.Element) (log bits : ℕ) → height m ≡ 2 ^ log → IsRowMajor m → HasShapeOf out m → length out.values ≡ length m.values → height out ≡ 2 ^ bits
       → IsValues f.ring (λ n. f.value (generator n)) (values_of f m) log s (bit_reversal log (values_of f out)) → IsTransform f generator m s (reversed_rows bits out)
-  transform_seen m out s log bits high whole shape tall values k e =
-      let as_high : height out ≡ height m = ap₂ (λ l w. l / w) shape.1 shape.0 in
-      let same : bits ≡ log = log_same bits log (sym tall ∙ as_high ∙ high) in
-      let is_whole : IsRowMajor out = record { wide = omega (arith, whole.wide, shape.0); full = ap₂ (λ h w. h * w) as_high shape.0 ∙ whole.full ∙ sym shape.1 } in
+  transform_seen m out s log bits high whole shape size tall values k e =
+      let same : bits ≡ log = log_same bits log (sym tall ∙ shape.0 ∙ high) in
+      let is_whole : IsRowMajor out = record { wide = omega (arith, whole.wide, shape.1); full = ap₂ (λ h w. h * w) shape.0 shape.1 ∙ whole.full ∙ sym size } in
       let k_is : log ≡ k = log_same log k (sym high ∙ e) in
       let seen : Same (values_of f (reversed_rows bits out)) (bit_reversal bits (values_of f out)) =
       mapped_same f.value (matrix f.ZERO (reversed_rows bits out)) (bit_reversal bits (matrix f.ZERO out)) (reversed_same bits out is_whole tall f.ZERO) in

@@ -3,7 +3,7 @@
 ghost use Rattle.std.specs.Prelude.{◌≡◌, ℕ, ◌+◌, ◌*◌, ◌/◌, ◌-◌, ◌^◌, ◌<◌, ◌≤◌, length};
 ghost use Rattle.p3_field.specs.Ring.{AreRoots, power};
 ghost use Rattle.p3_matrix.specs.BitOrder.{rev};
-ghost use Rattle.p3_matrix.specs.RowMajor.{IsRowMajor, SameShape, height};
+ghost use Rattle.p3_matrix.specs.RowMajor.{HasShapeOf, IsRowMajor, height};
 ghost use Rattle.p3_dft.specs.Cosets.{point};
 ghost use Rattle.p3_dft.specs.Polynomials.{poly};
 ghost use Rattle.p3_dft.specs.Transforms.{values_of};
@@ -30,7 +30,8 @@ pub(crate) fn network<F: TwoAdicField>(
     requires height { height mat.old ≡ 2 ^ (mid + left) }
     requires low { 2 ^ mid - 1 ≤ length low.now }
     requires high { (l : ℕ) → mid ≤ l → l < mid + left → block_end high.by_layer l ≤ length high.twiddles.now }
-    ensures shape { SameShape mat.new mat.old }
+    ensures shape { HasShapeOf mat.new mat.old }
+    ensures size { length mat.new.values ≡ length mat.old.values }
     ensures values { (g : ℕ → F.Element) (s : F.Element) → AreRoots F.ring (mid + left) g
         → AreTwiddlesOfLayers F.Field.own mid (coset_twiddles F.Field.own g (power F.ring s (2 ^ left)) mid) low.now
         → AreBlockTwiddles F.Field.own g s mid (mid + left) high.entry.by_layer high.entry.twiddles.now
@@ -57,7 +58,8 @@ fn first_of_matrix<F: TwoAdicField>(
     requires small { mid + left < 64 }
     requires height { height mat.old ≡ 2 ^ (mid + left) }
     requires table { 2 ^ mid - 1 ≤ length twiddles.now }
-    ensures shape { SameShape mat.new mat.old }
+    ensures shape { HasShapeOf mat.new mat.old }
+    ensures size { length mat.new.values ≡ length mat.old.values }
     ensures values { (g : ℕ → F.Element) (s : F.Element) → AreRoots F.ring mid g
         → AreTwiddlesOfLayers F.Field.own mid (coset_twiddles F.Field.own g s mid) twiddles.now
         → (a t j : ℕ) → a < 2 ^ left → t < 2 ^ mid → j < mat.old.width → (values_of F.Field.own mat.new).entry (a * 2 ^ mid + t) j
@@ -67,14 +69,7 @@ fn first_of_matrix<F: TwoAdicField>(
 {
     let width = mat.width();
     reverse_rows(mat);
-    first_half(
-        mat.values_mut(),
-        width,
-        mid + left,
-        mid,
-        twiddles,
-        products,
-    );
+    first_half(mat.values_mut(), width, mid + left, mid, twiddles, products);
 }
 
 // The rows are reversed, then the second half. Where that has no layer, its scale takes a pass of its
@@ -91,7 +86,8 @@ fn second_of_matrix<F: TwoAdicField>(
     requires small { mid + left < 64 }
     requires height { height mat.old ≡ 2 ^ (mid + left) }
     requires table { (l : ℕ) → mid ≤ l → l < mid + left → block_end table.by_layer l ≤ length table.twiddles.now }
-    ensures shape { SameShape mat.new mat.old }
+    ensures shape { HasShapeOf mat.new mat.old }
+    ensures size { length mat.new.values ≡ length mat.old.values }
     ensures values { (g : ℕ → F.Element) (s : F.Element) → AreRoots F.ring (mid + left) g
         → AreBlockTwiddles F.Field.own g s mid (mid + left) table.entry.by_layer table.entry.twiddles.now
         → (a t j : ℕ) → a < 2 ^ mid → t < 2 ^ left → j < mat.old.width → (values_of F.Field.own mat.new).entry (a * 2 ^ left + t) j
@@ -104,15 +100,7 @@ fn second_of_matrix<F: TwoAdicField>(
     let width = mat.width();
     reverse_rows(mat);
     if left > 0 {
-        second_half(
-            mat.values_mut(),
-            width,
-            mid,
-            left,
-            table,
-            scale,
-            products,
-        );
+        second_half(mat.values_mut(), width, mid, left, table, scale, products);
     } else {
         scale_rows(mat, scale, products);
     }
@@ -125,7 +113,8 @@ fn scale_rows<F: TwoAdicField>(
     products: &mut Products,
 )
     requires whole { IsRowMajor mat.old }
-    ensures shape { SameShape mat.new mat.old }
+    ensures shape { HasShapeOf mat.new mat.old }
+    ensures size { length mat.new.values ≡ length mat.old.values }
     ensures values { (i j : ℕ) → i < height mat.old → j < mat.old.width → (values_of F.Field.own mat.new).entry i j
         ≡ F.ring.mul ((values_of F.Field.own mat.old).entry i j) (factor F.Field.own scale) }
     ensures grows { products.old ≤ products.new }

@@ -1,9 +1,9 @@
 // The network on the subgroup, by the powers that the engine keeps.
 
-ghost use Rattle.std.specs.Prelude.{◌≡◌, ℕ, ◌+◌, ◌*◌, ◌/◌, ◌^◌, ◌<◌, ◌≤◌, true, false};
+ghost use Rattle.std.specs.Prelude.{◌≡◌, ℕ, ◌+◌, ◌*◌, ◌/◌, ◌^◌, ◌<◌, ◌≤◌, true, false, length};
 ghost use Rattle.p3_field.specs.Ring.{power};
 ghost use Rattle.p3_matrix.specs.BitOrder.{rev, bit_reversal};
-ghost use Rattle.p3_matrix.specs.RowMajor.{IsRowMajor, SameShape, height};
+ghost use Rattle.p3_matrix.specs.RowMajor.{HasShapeOf, IsRowMajor, height};
 ghost use Rattle.p3_dft.specs.Cosets.{AreCoefficients, IsValues};
 ghost use Rattle.p3_dft.specs.Polynomials.{poly};
 ghost use Rattle.p3_dft.specs.Transforms.{values_of};
@@ -28,7 +28,8 @@ pub(crate) fn transform<F: TwoAdicField>(
     requires small { log_h < 64 }
     requires height { height mat.old ≡ 2 ^ log_h }
     requires there { log_h ≤ tables.now.log_h }
-    ensures shape { SameShape mat.new mat.old }
+    ensures shape { HasShapeOf mat.new mat.old }
+    ensures size { length mat.new.values ≡ length mat.old.values }
     ensures values { (r j : ℕ) → r < 2 ^ log_h → j < mat.old.width → (values_of F.Field.own mat.new).entry r j
         ≡ poly F.ring (2 ^ log_h) (λ q. F.ring.mul ((values_of F.Field.own mat.old).entry q j) (factor F.Field.own scale))
         (power F.ring (root_of F.Field.own F.generator tables.now.inverse log_h) (rev log_h r)) }
@@ -55,7 +56,8 @@ pub(crate) fn evaluate<F: TwoAdicField>(
     requires height { height mat.old ≡ 2 ^ log_h }
     requires there { log_h ≤ forward.now.log_h }
     requires forward { forward.now.inverse ≡ false }
-    ensures shape { SameShape mat.new mat.old }
+    ensures shape { HasShapeOf mat.new mat.old }
+    ensures size { length mat.new.values ≡ length mat.old.values }
     ensures values { IsValues F.ring (λ n. F.value (F.generator n)) (values_of F.Field.own mat.old) log_h F.ring.one
         (bit_reversal log_h (values_of F.Field.own mat.new)) }
     ensures grows { products.old ≤ products.new }
@@ -77,7 +79,8 @@ pub(crate) fn interpolate<F: TwoAdicField>(
     requires there { log_h ≤ inverse.now.log_h }
     requires rooted { log_h ≤ F.TWO_ADICITY }
     requires inverse { inverse.now.inverse ≡ true }
-    ensures shape { SameShape mat.new mat.old }
+    ensures shape { HasShapeOf mat.new mat.old }
+    ensures size { length mat.new.values ≡ length mat.old.values }
     ensures coefficients { AreCoefficients F.ring (λ n. F.value (F.generator n)) (values_of F.Field.own mat.old) log_h F.ring.one
         (bit_reversal log_h (values_of F.Field.own mat.new)) }
     ensures grows { products.old ≤ products.new }

@@ -33,7 +33,7 @@ returns-clause-values g c =
     let log = c.log2_strict_usize-log_h.result in
     let high : height m ≡ 2 ^ log = sym c.height.ensures.height ∙ c.log2_strict_usize-log_h.ensures.power in
     rw (← c.into_row_major_matrix-mat.ensures, c.bit_reverse_rows.ensures.matrix)
-    (transform_seen field g.F.TwoAdicField.generator m c.evaluate.new.mat field.ring.one log c.bit_reverse_rows.result.bits high c.height.ensures.whole c.evaluate.ensures.shape
+    (transform_seen field g.F.TwoAdicField.generator m c.evaluate.new.mat field.ring.one log c.bit_reverse_rows.result.bits high c.height.ensures.whole c.evaluate.ensures.shape c.evaluate.ensures.size
     c.bit_reverse_rows.ensures.height c.evaluate.ensures.values)
 
 pub returns-clause-cost : goal.returns-clause-cost

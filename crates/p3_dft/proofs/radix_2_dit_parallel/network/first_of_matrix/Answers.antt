@@ -20,7 +20,7 @@ returns-clause-values g c root s roots table a t j p q l =
     let runs : mid + left - mid ≡ left = omega arith in
     let inside : j < w = omega (arith, l, c.width-width.ensures.width) in
     let all : 2 ^ (mid + left) ≡ 2 ^ left * 2 ^ mid = pow-add 2 mid left ∙ omega arith in
-    written_cell field r c.first_half.new.values _ w (a * 2 ^ mid + t) j (c.first_half.auto.values ∙ ap length c.values_mut.ensures.values) (c.reverse_rows.ensures.shape.0 ∙ sym c.width-width.ensures.width)
+    written_cell field r c.first_half.new.values _ w (a * 2 ^ mid + t) j (c.first_half.auto.values ∙ ap length c.values_mut.ensures.values) (c.reverse_rows.ensures.shape.1 ∙ sym c.width-width.ensures.width)
     ∙ c.first_half.ensures.values root s roots table a t j (rw runs p) q inside
     ∙ poly_same field.ring (2 ^ mid) _ _ (point field.ring root mid s t)
     (λ u b.

@@ -30,7 +30,7 @@ returns-clause-values g c root s roots low high r j p q =
     let below : a < 2 ^ mid = div_below r (2 ^ left) (2 ^ mid) (pow_pos left) (omega (arith, p, all)) in
     let inside : t < 2 ^ left = mod_below r (2 ^ left) (pow_pos left) in
     let x = point field.ring root left (point field.ring root (mid + left) s (rev mid a)) (rev left t) in
-    let wide : half.width ≡ m.width = c.first_of_matrix.ensures.shape.0 in
+    let wide : half.width ≡ m.width = c.first_of_matrix.ensures.shape.1 in
     ap (λ n. (values_of field c.second_of_matrix.new.mat).entry n j) (sym split)
     ∙ c.second_of_matrix.ensures.values root s roots high a t j below inside (omega (arith, q, wide))
     ∙ poly_same field.ring (2 ^ left) _ _ x

@@ -25,7 +25,7 @@ returns-then-left-gt0-clause-values g c root s roots table a t j p q l =
     let w = c.width-width.result in
     let inside : j < w = omega (arith, l, c.width-width.ensures.width) in
     let all : 2 ^ (mid + left) ≡ 2 ^ mid * 2 ^ left = pow-add 2 mid left in
-    written_cell field r c.second_half.new.values _ w (a * 2 ^ left + t) j (c.second_half.auto.values ∙ ap length c.values_mut.ensures.values) (c.reverse_rows.ensures.shape.0 ∙ sym c.width-width.ensures.width)
+    written_cell field r c.second_half.new.values _ w (a * 2 ^ left + t) j (c.second_half.auto.values ∙ ap length c.values_mut.ensures.values) (c.reverse_rows.ensures.shape.1 ∙ sym c.width-width.ensures.width)
     ∙ c.second_half.ensures.values root s roots table a t j p q inside
     ∙ poly_same field.ring (2 ^ left) _ _ (point field.ring root left (point field.ring root (mid + left) s (rev mid a)) (rev left t))
     (λ u b. ap (λ x. field.ring.mul x (factor field c.args.scale)) (
@@ -47,7 +47,7 @@ returns-else-left-gt0-clause-values g c root s roots table a t j p q l =
     let all : 2 ^ (mid + left) ≡ 2 ^ mid * 2 ^ left = pow-add 2 mid left in
     let back = c.reverse_rows.ensures.rows (mid + left) c.requires.height field.ZERO in
     let below : a * 2 ^ left + t < height r = omega (arith, all, row_below a t (2 ^ left) (2 ^ mid) p q, back.high, c.requires.height) in
-    let inside : j < r.width = omega (arith, l, c.reverse_rows.ensures.shape.0) in
+    let inside : j < r.width = omega (arith, l, c.reverse_rows.ensures.shape.1) in
     let f = λ (u : ℕ). field.ring.mul ((values_of field m).entry (rev left u * 2 ^ mid + rev mid a) j) scale in
     let x = point field.ring root left (point field.ring root (mid + left) s (rev mid a)) (rev left t) in
     c.scale_rows.ensures.values (a * 2 ^ left + t) j below inside

@@ -17,8 +17,8 @@ returns-clause-values g c =
     let k = c.args.log_h in
     let m = c.args.mat.now in
     let out = c.transform.new.mat in
-    let tall : height out ≡ height m = ap₂ (λ l w. l / w) c.transform.ensures.shape.1 c.transform.ensures.shape.0 in
-    is_subgroup_values field.ring (λ n. field.value (gen n)) (values_of field m) k (bit_reversal k (values_of field out)) (tall ∙ c.requires.height) c.transform.ensures.shape.0
+    let tall : height out ≡ height m = c.transform.ensures.shape.0 in
+    is_subgroup_values field.ring (λ n. field.value (gen n)) (values_of field m) k (bit_reversal k (values_of field out)) (tall ∙ c.requires.height) c.transform.ensures.shape.1
     (λ i j below inside.
     let f = λ (q : ℕ). (values_of field m).entry q j in
     c.transform.ensures.values (rev k i) j (rev-lt k i) inside

@@ -17,10 +17,10 @@ returns-clause-coefficients g c =
     let m = c.args.mat.now in
     let out = c.transform.new.mat in
     let scale = field.value c.div_2exp_u64-scale.result in
-    let tall : height out ≡ height m = ap₂ (λ l w. l / w) c.transform.ensures.shape.1 c.transform.ensures.shape.0 in
+    let tall : height out ≡ height m = c.transform.ensures.shape.0 in
     let undone : field.ring.mul (count field.ring (2 ^ k)) scale ≡ field.ring.one =
     ap (λ x. field.ring.mul x scale) (count-power_of_two field.ring k) ∙ c.div_2exp_u64-scale.ensures ∙ ap field.value c.ONE.ensures ∙ g.met.F.Field.one_law in
-    coefficients_of_scaled field.ring g.met.F.TwoAdicField.roots_law (values_of field m) (values_of field out) k scale c.requires.rooted c.requires.height tall c.transform.ensures.shape.0 undone
+    coefficients_of_scaled field.ring g.met.F.TwoAdicField.roots_law (values_of field m) (values_of field out) k scale c.requires.rooted c.requires.height tall c.transform.ensures.shape.1 undone
     (λ i j below inside.
     c.transform.ensures.values i j below inside
     ∙ ap (λ b. poly field.ring (2 ^ k) (λ q. field.ring.mul ((values_of field m).entry q j) scale) (power field.ring (root_of field gen b k) (rev k i))) c.requires.inverse)
