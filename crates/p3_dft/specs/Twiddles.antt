@@ -24,6 +24,22 @@ module _ {F : Type 0} (f : FieldMembers F) where
   abbrev pub coset_twiddles : (ℕ → f.Element) → f.Element → ℕ → ℕ → ℕ → f.Element
   coset_twiddles g s log l t = f.ring.mul (power f.ring s (2 ^ (log - 1 - l))) (power f.ring (g (l + 1)) t)
 
+  -- one table for all layers l below log: those of layer l are its first 2 ^ l entries, p l 0, p l 1, ..
+  pub record AreTwiddlesFromStart (log : ℕ) (p : ℕ → ℕ → f.Element) (twiddles : List F) : Type 0 where
+    pub size : (l : ℕ) → l < log → 2 ^ l ≤ length twiddles
+    pub entries : (l b : ℕ) → l < log → b < 2 ^ l → f.value (get_or twiddles b f.ZERO) ≡ p l b
+
+  -- in a layer of 2 ^ l blocks: the powers of the root of order 2 ^ (l + 1), in bit reversed order
+  abbrev pub block_powers : (ℕ → f.Element) → ℕ → ℕ → f.Element
+  block_powers root l b = power f.ring (root (l + 1)) (rev l b)
+
+  -- the generators, and their inverses
+  abbrev pub forward_root : (ℕ → F) → ℕ → f.Element
+  forward_root generator n = f.value (generator n)
+
+  abbrev pub backward_root : (ℕ → F) → ℕ → f.Element
+  backward_root generator n = power f.ring (f.value (generator n)) (2 ^ n - 1)
+
 -- the entries of layer l for its blocks: those of a table of its own where such tables lie one after another, else the first 2 ^ l
 abbrev pub block_entries : {T : Type 0} → Bool → ℕ → List T → List T
 block_entries by_layer l xs = if by_layer then take (2 ^ l) (drop (2 ^ l - 1) xs) else take (2 ^ l) xs

@@ -11,6 +11,7 @@ pub mod naive;
 pub mod radix_2_bowers;
 pub mod radix_2_dit;
 pub mod radix_2_dit_parallel;
+pub mod radix_2_small_batch;
 pub mod traits;
 mod twiddles;
 pub mod util;

@@ -1,0 +1,3 @@
+//! The transform whose layers stay in the cache, by tiles and in groups.
+
+mod tables;
