@@ -2,4 +2,7 @@
 pub mod Blocks
 pub mod Counts
 pub mod Halves
+pub mod Runs
+pub mod Runs
 pub mod Sizes
+pub mod Tiles

@@ -2,6 +2,7 @@ pub mod Cosets
 pub mod Engines
 pub mod Extensions
 pub mod Jobs
+pub mod Layers
 pub mod Polynomials
 pub mod Shapes
 pub mod Transforms

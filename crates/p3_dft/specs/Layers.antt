@@ -1,0 +1,14 @@
+-- Layers of butterflies on cells that lie one after another, w of them in each row.
+use Rattle.std.specs.Prelude.{◌≡◌, ℕ, ◌+◌, ◌-◌, ◌*◌, ◌^◌, ◌<◌, List, length, get_or}
+
+-- Layer e of k takes the cells `before e` to `after e`, for each e. The 2 ^ k rows come in blocks of two halves of 2 ^ e rows. In
+-- block b each cell of the first half meets its like in the second: near stands in the first of them, far in the other.
+pub record AreLayers {A : Type 0} (k w : ℕ) (near far : ℕ → A → A → A) (before after : ℕ → ℕ → A) : Type 0 where
+  pub near_cell : (e b i : ℕ) → e < k → b < 2 ^ (k - 1 - e) → i < 2 ^ e * w
+      → after e (b * (2 * (2 ^ e * w)) + i) ≡ near b (before e (b * (2 * (2 ^ e * w)) + i)) (before e (b * (2 * (2 ^ e * w)) + (2 ^ e * w + i)))
+  pub far_cell : (e b i : ℕ) → e < k → b < 2 ^ (k - 1 - e) → i < 2 ^ e * w
+      → after e (b * (2 * (2 ^ e * w)) + (2 ^ e * w + i)) ≡ far b (before e (b * (2 * (2 ^ e * w)) + i)) (before e (b * (2 * (2 ^ e * w)) + (2 ^ e * w + i)))
+
+-- a list holds the cells from number `first` on
+abbrev pub HoldsCells : {T A : Type 0} → (T → A) → T → ℕ → (ℕ → A) → List T → Type 0
+HoldsCells value d first cells xs = (i : ℕ) → i < length xs → value (get_or xs i d) ≡ cells (first + i)

@@ -1,0 +1,207 @@
+// The networks of the engine: layers on runs of rows that lie one after another, whose cells are taken
+// in the order in which they lie.
+//
+// Entry e of a height is the layer whose blocks have `2^(e + 1)` rows. Runs of `2^top` rows count from
+// the first row on. One twiddle is for a whole block, so that a layer is one of cells: contracts say
+// which cells a run holds before and after, for any layers that follow one another.
+
+ghost use Rattle.std.specs.Prelude.{◌≡◌, ℕ, ◌+◌, ◌-◌, ◌*◌, ◌/◌, ◌^◌, ◌<◌, ◌≤◌, length, get_or};
+ghost use Rattle.p3_matrix.specs.Butterflies.{dif_far, dif_near, dit_far, dit_near};
+ghost use Rattle.p3_dft.specs.Layers.{AreLayers, HoldsCells};
+
+use crate::butterfly_layers::rules::{DifByBlock, DitByBlock};
+use crate::butterfly_layers::{Rule, layer};
+use p3_field::{Products, TwoAdicField};
+use p3_matrix::scale_slice_in_place;
+
+// The layer of one entry, on run `number`. The rule goes by the number of a block alone.
+#[inline(always)]
+fn layer_of_run<F: TwoAdicField, R: Rule<F>>(
+    rule: R,
+    values: &mut [F],
+    width: usize,
+    entry: usize,
+    top: usize,
+    number: usize,
+    products: &mut Products,
+)
+    requires wide { 1 ≤ width }
+    requires below { entry < top }
+    requires small { (number + 1) * 2 ^ top < 2 ^ 64 }
+    requires size { length values.old ≡ 2 ^ top * width }
+    requires there { (b t : ℕ) → b < (number + 1) * 2 ^ (top - 1 - entry) → R.has rule b t }
+    requires near_by_block { (b t : ℕ) (p q : F.Element) → R.near F.Element F.ring F.value rule b t p q ≡ R.near F.Element F.ring F.value rule b 0 p q }
+    requires far_by_block { (b t : ℕ) (p q : F.Element) → R.far F.Element F.ring F.value rule b t p q ≡ R.far F.Element F.ring F.value rule b 0 p q }
+    ensures cells { (k : ℕ) (before after : ℕ → ℕ → F.Element)
+        → AreLayers k width (λ b. R.near F.Element F.ring F.value rule b 0) (λ b. R.far F.Element F.ring F.value rule b 0) before after
+        → (number + 1) * 2 ^ top ≤ 2 ^ k → HoldsCells F.value F.ZERO (number * length values.old) (before entry) values.old
+        → HoldsCells F.value F.ZERO (number * length values.old) (after entry) values.new }
+    ensures grows { products.old ≤ products.new }
+    ensures count { 2 * products.new ≤ 2 * products.old + R.cost * length values.old }
+{
+    let half = 1usize << entry;
+    let blocks = 1usize << (top - 1 - entry);
+    layer(
+        rule,
+        values,
+        width,
+        half,
+        number * blocks,
+        blocks,
+        products,
+    );
+}
+
+// By decimation in time, the layers of the entries below `to` down to `from`, on run `number`.
+#[inline(always)]
+fn dit_layers<F: TwoAdicField>(
+    twiddles: &[F],
+    values: &mut [F],
+    width: usize,
+    from: usize,
+    to: usize,
+    top: usize,
+    number: usize,
+    products: &mut Products,
+)
+    requires wide { 1 ≤ width }
+    requires order { from ≤ to }
+    requires below { to ≤ top }
+    requires small { (number + 1) * 2 ^ top < 2 ^ 64 }
+    requires size { length values.old ≡ 2 ^ top * width }
+    requires first { F.value (get_or twiddles.now 0 F.ZERO) ≡ F.ring.one }
+    requires enough { (number + 1) * 2 ^ top ≤ 2 * length twiddles.now }
+    ensures cells { (k : ℕ) (cells : ℕ → ℕ → F.Element)
+        → AreLayers k width (λ b. dit_near F.ring (F.value (get_or twiddles.now b F.ZERO))) (λ b. dit_far F.ring (F.value (get_or twiddles.now b F.ZERO)))
+        (λ e. cells (e + 1)) cells
+        → (number + 1) * 2 ^ top ≤ 2 ^ k → HoldsCells F.value F.ZERO (number * length values.old) (cells to) values.old
+        → HoldsCells F.value F.ZERO (number * length values.old) (cells from) values.new }
+    ensures grows { products.old ≤ products.new }
+    ensures count { 2 * products.new ≤ 2 * products.old + (to - from) * length values.old }
+{
+    for done in 0..to - from {
+        let entry = to - 1 - done;
+        layer_of_run(
+            DitByBlock { twiddles },
+            values,
+            width,
+            entry,
+            top,
+            number,
+            products,
+        );
+    }
+}
+
+// By decimation in frequency, the layers of the entries from `from` up to `to`, on run `number`.
+#[inline(always)]
+fn dif_layers<F: TwoAdicField>(
+    twiddles: &[F],
+    values: &mut [F],
+    width: usize,
+    from: usize,
+    to: usize,
+    top: usize,
+    number: usize,
+    products: &mut Products,
+)
+    requires wide { 1 ≤ width }
+    requires order { from ≤ to }
+    requires below { to ≤ top }
+    requires small { (number + 1) * 2 ^ top < 2 ^ 64 }
+    requires size { length values.old ≡ 2 ^ top * width }
+    requires first { F.value (get_or twiddles.now 0 F.ZERO) ≡ F.ring.one }
+    requires enough { (number + 1) * 2 ^ top ≤ 2 * length twiddles.now }
+    ensures cells { (k : ℕ) (cells : ℕ → ℕ → F.Element)
+        → AreLayers k width (λ b. dif_near F.ring (F.value (get_or twiddles.now b F.ZERO))) (λ b. dif_far F.ring (F.value (get_or twiddles.now b F.ZERO)))
+        cells (λ e. cells (e + 1))
+        → (number + 1) * 2 ^ top ≤ 2 ^ k → HoldsCells F.value F.ZERO (number * length values.old) (cells from) values.old
+        → HoldsCells F.value F.ZERO (number * length values.old) (cells to) values.new }
+    ensures grows { products.old ≤ products.new }
+    ensures count { 2 * products.new ≤ 2 * products.old + (to - from) * length values.old }
+{
+    for entry in from..to {
+        layer_of_run(
+            DifByBlock { twiddles },
+            values,
+            width,
+            entry,
+            top,
+            number,
+            products,
+        );
+    }
+}
+
+// By decimation in time, the layers of the entries below `log_rows`, tile after tile: a tile has
+// `2^log_rows` rows, which these layers do not leave.
+#[inline(always)]
+fn dit_tiles<F: TwoAdicField>(
+    twiddles: &[F],
+    values: &mut [F],
+    width: usize,
+    log_rows: usize,
+    log_h: usize,
+    products: &mut Products,
+)
+    requires wide { 1 ≤ width }
+    requires below { log_rows ≤ log_h }
+    requires small { log_h < 64 }
+    requires size { length values.old ≡ 2 ^ log_h * width }
+    requires first { F.value (get_or twiddles.now 0 F.ZERO) ≡ F.ring.one }
+    requires enough { 2 ^ log_h ≤ 2 * length twiddles.now }
+    ensures cells { (cells : ℕ → ℕ → F.Element)
+        → AreLayers log_h width (λ b. dit_near F.ring (F.value (get_or twiddles.now b F.ZERO))) (λ b. dit_far F.ring (F.value (get_or twiddles.now b F.ZERO)))
+        (λ e. cells (e + 1)) cells
+        → HoldsCells F.value F.ZERO 0 (cells log_rows) values.old → HoldsCells F.value F.ZERO 0 (cells 0) values.new }
+    ensures grows { products.old ≤ products.new }
+    ensures count { 2 * products.new ≤ 2 * products.old + log_rows * length values.old }
+{
+    let tiles = 1usize << (log_h - log_rows);
+    let size = values.len() / tiles;
+    for tile in 0..tiles {
+        let start = tile * size;
+        let rows = &mut values[start..start + size];
+        dit_layers(
+            twiddles, rows, width, 0, log_rows, log_rows, tile, products,
+        );
+    }
+}
+
+// By decimation in frequency, the layers of the entries below `log_rows`, tile after tile, on the
+// values times `scale`.
+#[inline(always)]
+fn scaled_dif_tiles<F: TwoAdicField>(
+    twiddles: &[F],
+    scale: F,
+    values: &mut [F],
+    width: usize,
+    log_rows: usize,
+    log_h: usize,
+    products: &mut Products,
+)
+    requires wide { 1 ≤ width }
+    requires below { log_rows ≤ log_h }
+    requires small { log_h < 64 }
+    requires size { length values.old ≡ 2 ^ log_h * width }
+    requires first { F.value (get_or twiddles.now 0 F.ZERO) ≡ F.ring.one }
+    requires enough { 2 ^ log_h ≤ 2 * length twiddles.now }
+    ensures cells { (cells : ℕ → ℕ → F.Element)
+        → AreLayers log_h width (λ b. dif_near F.ring (F.value (get_or twiddles.now b F.ZERO))) (λ b. dif_far F.ring (F.value (get_or twiddles.now b F.ZERO)))
+        cells (λ e. cells (e + 1))
+        → HoldsCells (λ x. F.ring.mul (F.value x) (F.value scale)) F.ZERO 0 (cells 0) values.old
+        → HoldsCells F.value F.ZERO 0 (cells log_rows) values.new }
+    ensures grows { products.old ≤ products.new }
+    ensures count { 2 * products.new ≤ 2 * products.old + (log_rows + 2) * length values.old }
+{
+    let tiles = 1usize << (log_h - log_rows);
+    let size = values.len() / tiles;
+    for tile in 0..tiles {
+        let start = tile * size;
+        let rows = &mut values[start..start + size];
+        scale_slice_in_place(rows, scale, products);
+        dif_layers(
+            twiddles, rows, width, 0, log_rows, log_rows, tile, products,
+        );
+    }
+}
