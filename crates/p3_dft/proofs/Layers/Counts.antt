@@ -12,7 +12,7 @@ count_more cost n size before now after so_far turn =
     omega (arith, all, so_far, turn)
 
 -- a positive power of two is twice the one before
-two_halves : (k : ℕ) → (k ≡ 0 → ⊥) → 2 ^ k ≡ 2 * 2 ^ (k - 1)
+pub two_halves : (k : ℕ) → (k ≡ 0 → ⊥) → 2 ^ k ≡ 2 * 2 ^ (k - 1)
 two_halves zero some = absurd (some refl)
 two_halves (suc k) some = let e : suc k - 1 ≡ k = omega arith in let d : 2 ^ suc k ≡ 2 * 2 ^ k = omega arith in d ∙ ap (λ n. 2 * 2 ^ n) (sym e)
 
@@ -68,3 +68,18 @@ halves_counted mid left k w scale is =
 
     together : (a b p : ℕ) → a * p + b * p ≡ (a + b) * p
     together a b p = omega arith
+
+-- what was counted twice: a product for each two cells and each layer
+pub counted_twice : (k w len before after : ℕ) → len ≡ 2 ^ k * w → 2 * after ≤ 2 * before + k * len → after ≤ before + w * (k * 2 ^ k / 2)
+counted_twice zero w len before after full twice = let none : w * (0 * 2 ^ 0 / 2) ≡ 0 = omega arith in omega (arith, twice, none)
+counted_twice (suc k) w len before after full twice =
+    let d : 2 ^ suc k ≡ 2 * 2 ^ (suc k - 1) = two_halves (suc k) (λ e. absurd (omega arith)) in
+    let all : suc k * len ≡ 2 * (w * (suc k * 2 ^ (suc k - 1))) = ap (λ n. suc k * n) (full ∙ ap (λ n. n * w) d) ∙ (let swap : suc k * (2 * 2 ^ (suc k - 1) * w) ≡ 2 * (w * (suc k * 2 ^ (suc k - 1))) = omega arith in swap) in
+    let half = ap (λ n. w * n) (half_count (suc k)) in
+    omega (arith, twice, all, half)
+
+-- in two parts
+pub layers_joined : (r k len before middle after : ℕ) → r ≤ k → 2 * middle ≤ 2 * before + (k - r) * len → 2 * after ≤ 2 * middle + r * len → 2 * after ≤ 2 * before + k * len
+layers_joined r k len before middle after below first second =
+    let all : (k - r) * len + r * len ≡ k * len = let e : k - r + r ≡ k = omega (arith, below) in let d : (k - r) * len + r * len ≡ (k - r + r) * len = omega arith in d ∙ ap (λ n. n * len) e in
+    omega (arith, first, second, all)

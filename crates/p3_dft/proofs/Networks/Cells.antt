@@ -2,13 +2,20 @@
 use Rattle.std.proofs.Common.{◌≡◌, ℕ, suc, ◌+◌, ◌*◌, ◌-◌, ◌/◌, ◌%◌, ◌<◌, ◌≤◌, ◌^◌, refl, sym, ap, ap₂, ◌∙◌, subst, arith, add-one}
 use Rattle.std.proofs.lemmas.Nat.{div-add-mod', div_below, div-mul-add, mod-mul-add, mod_below}
 use Rattle.p3_field.specs.Ring.{Ring, power, AreRoots}
+use Rattle.p3_field.proofs.Rings
+use Rattle.p3_field.proofs.Powers.{power_of_one}
 use Rattle.p3_matrix.specs.BitOrder.{rev}
 use Rattle.p3_matrix.specs.Butterflies.{dif_far, dif_near, dit_far, dit_near}
 use Rattle.p3_dft.specs.Layers.{AreLayers}
+use Rattle.p3_dft.specs.Polynomials.{poly}
 use Rattle.p3_dft.proofs.Networks.Formulas.{Formula}
-use Rattle.p3_dft.proofs.Networks.HighRows.{high_row, high_rows}
+use Rattle.p3_dft.proofs.Networks.HighRows.{high_row, high_rows, high_start, high_end}
 use Rattle.p3_dft.proofs.Networks.Stages.{twiddle, twiddle_of_one}
-use Rattle.p3_dft.proofs.Networks.TurnedRows.{turned_row, turned_rows}
+use Rattle.p3_dft.proofs.Networks.TurnedRows.{turned_row, turned_rows, turned_row_start, turned_row_end}
+use Rattle.p3_dft.proofs.Polynomials.Cosets.{point_of_one}
+
+together : {A : Type 0} (f : A → A → A → A) {x y p q u v : A} → x ≡ y → p ≡ u → q ≡ v → f x p q ≡ f y u v
+together f {y = y} {p = p} {q = q} e c d = ap (λ z. f z p q) e ∙ ap₂ (f y) c d
 
 module _ {A : Type 0} {bits : ℕ} {half_of : ℕ → ℕ → ℕ} {near_of far_of : ℕ → ℕ → ℕ → ℕ → A → A → A} (rows : ℕ → ℕ → ℕ → ℕ → A)
     (formula : (j : ℕ) → Formula bits half_of near_of far_of (rows j)) (w : ℕ) where
@@ -55,7 +62,7 @@ module _ {A : Type 0} {bits : ℕ} {half_of : ℕ → ℕ → ℕ} {near_of far_
 
 module _ {A : Type 0} (R : Ring A) {g : ℕ → A} {bits : ℕ} (G : AreRoots R bits g) (k w : ℕ) (c : ℕ → ℕ → A) (entry : ℕ → A) where
   -- the cells of high rows where column j has the coefficients c j: entries count down
-  pub high_cells : ℕ → ℕ → A
+  abbrev pub high_cells : ℕ → ℕ → A
   high_cells e n = high_row R g R.one (k - e) e (c (n % w)) (n / w)
 
   pub high_layers : 0 < w → k ≤ bits → ((l b : ℕ) → l < k → b < 2 ^ l → entry b ≡ power R (g (l + 1)) (rev l b))
@@ -63,10 +70,10 @@ module _ {A : Type 0} (R : Ring A) {g : ℕ → A} {bits : ℕ} (G : AreRoots R 
   high_layers wide within entries = record {
     near_cell = λ e b i below block inside.
         after e _ below ∙ near_cells rows formula w (k - 1 - e) e b i (2 ^ e) wide (omega (arith, below, within)) refl inside
-        ∙ ap (λ x. dit_near R x _ _) (sym (entry_is e b below block)) ∙ sym (ap₂ (dit_near R (entry b)) (before e _ below) (before e _ below));
+        ∙ sym (together (dit_near R) (entry_is e b below block) (before e _ below) (before e _ below));
     far_cell = λ e b i below block inside.
         after e _ below ∙ far_cells rows formula w (k - 1 - e) e b i (2 ^ e) wide (omega (arith, below, within)) refl inside
-        ∙ ap (λ x. dit_far R x _ _) (sym (entry_is e b below block)) ∙ sym (ap₂ (dit_far R (entry b)) (before e _ below) (before e _ below));
+        ∙ sym (together (dit_far R) (entry_is e b below block) (before e _ below) (before e _ below));
   }
     where
       rows : ℕ → ℕ → ℕ → ℕ → A
@@ -87,7 +94,7 @@ module _ {A : Type 0} (R : Ring A) {g : ℕ → A} {bits : ℕ} (G : AreRoots R 
           ∙ sym (twiddle_of_one R g (k - 1 - e) e (rev (k - 1 - e) b))
 
   -- and those of turned rows: entries count up
-  pub turned_cells : ℕ → ℕ → A
+  abbrev pub turned_cells : ℕ → ℕ → A
   turned_cells e n = turned_row R g R.one e (k - e) (c (n % w)) (n / w)
 
   pub turned_layers : 0 < w → k ≤ bits → ((l b : ℕ) → l < k → b < 2 ^ l → entry b ≡ power R (g (l + 1)) (rev l b))
@@ -95,10 +102,10 @@ module _ {A : Type 0} (R : Ring A) {g : ℕ → A} {bits : ℕ} (G : AreRoots R 
   turned_layers wide within entries = record {
     near_cell = λ e b i below block inside.
         after e _ ∙ near_cells rows formula w e (k - 1 - e) b i (2 ^ e) wide (omega (arith, below, within)) refl inside
-        ∙ ap (λ x. dif_near R x _ _) (sym (entry_is e b below block)) ∙ sym (ap₂ (dif_near R (entry b)) (before e _ below) (before e _ below));
+        ∙ sym (together (dif_near R) (entry_is e b below block) (before e _ below) (before e _ below));
     far_cell = λ e b i below block inside.
         after e _ ∙ far_cells rows formula w e (k - 1 - e) b i (2 ^ e) wide (omega (arith, below, within)) refl inside
-        ∙ ap (λ x. dif_far R x _ _) (sym (entry_is e b below block)) ∙ sym (ap₂ (dif_far R (entry b)) (before e _ below) (before e _ below));
+        ∙ sym (together (dif_far R) (entry_is e b below block) (before e _ below) (before e _ below));
   }
     where
       rows : ℕ → ℕ → ℕ → ℕ → A
@@ -115,3 +122,37 @@ module _ {A : Type 0} (R : Ring A) {g : ℕ → A} {bits : ℕ} (G : AreRoots R 
 
       entry_is : (e b : ℕ) → e < k → b < 2 ^ (k - 1 - e) → entry b ≡ power R (g (suc (k - 1 - e))) (rev (k - 1 - e) b)
       entry_is e b below block = entries (k - 1 - e) b (omega (arith, below)) block ∙ ap (λ n. power R (g n) (rev (k - 1 - e) b)) (add-one (k - 1 - e))
+
+  -- before the first layer
+  pub high_cells_start : 0 < w → (x : ℕ → A) → ((q j : ℕ) → c j q ≡ x (q * w + j)) → (i : ℕ) → i < 2 ^ k * w → x i ≡ high_cells k (0 + i)
+  high_cells_start wide x are i inside =
+      let none : k - k ≡ 0 = omega arith in
+      let row : i / w < 2 ^ k = div_below i w (2 ^ k) wide inside in
+      let plain : 0 + i ≡ i = omega arith in
+      ap x (sym (div-add-mod' i w)) ∙ sym (are (i / w) (i % w)) ∙ sym (high_start R g R.one k (c (i % w)) (i / w) row)
+      ∙ ap (λ a. high_row R g R.one a k (c (i % w)) (i / w)) (sym none) ∙ ap (high_cells k) (sym plain)
+
+  -- and after the last
+  pub high_cells_end : (r j : ℕ) → j < w → high_cells 0 (0 + (r * w + j)) ≡ poly R (2 ^ k) (c j) (power R (g k) (rev k r))
+  high_cells_end r j inside =
+      let plain : 0 + (r * w + j) ≡ r * w + j = omega arith in
+      let all : k - 0 ≡ k = omega arith in
+      ap (high_cells 0) plain ∙ ap₂ (λ a b. high_row R g R.one (k - 0) 0 (c a) b) (mod-mul-add r w j inside) (div-mul-add r w j inside)
+      ∙ ap (λ l. high_row R g R.one l 0 (c j) r) all ∙ high_end R g R.one k (c j) r ∙ ap (poly R (2 ^ k) (c j)) (point_of_one R g k (rev k r))
+
+  pub turned_cells_start : 0 < w → (x : ℕ → A) → ((q j : ℕ) → q < 2 ^ k → c j (rev k q) ≡ x (q * w + j)) → (i : ℕ) → i < 2 ^ k * w → x i ≡ turned_cells 0 (0 + i)
+  turned_cells_start wide x are i inside =
+      let all : k - 0 ≡ k = omega arith in
+      let plain : 0 + i ≡ i = omega arith in
+      let q = i / w in
+      let j = i % w in
+      ap x (sym (div-add-mod' i w)) ∙ sym (are q j (div_below i w (2 ^ k) wide inside))
+      ∙ sym (turned_row_start R g R.one k (c j) q ∙ ap (λ y. R.mul y (c j (rev k q))) (power_of_one R (rev k q)) ∙ Rings.one-mul R (c j (rev k q)))
+      ∙ ap (λ m. turned_row R g R.one 0 m (c j) q) (sym all) ∙ ap (turned_cells 0) (sym plain)
+
+  pub turned_cells_end : (r j : ℕ) → r < 2 ^ k → j < w → turned_cells k (0 + (r * w + j)) ≡ poly R (2 ^ k) (c j) (power R (g k) r)
+  turned_cells_end r j below inside =
+      let plain : 0 + (r * w + j) ≡ r * w + j = omega arith in
+      let none : k - k ≡ 0 = omega arith in
+      ap (turned_cells k) plain ∙ ap₂ (λ a b. turned_row R g R.one k (k - k) (c a) b) (mod-mul-add r w j inside) (div-mul-add r w j inside)
+      ∙ ap (λ m. turned_row R g R.one k m (c j) r) none ∙ turned_row_end R g R.one k (c j) r below ∙ ap (poly R (2 ^ k) (c j)) (point_of_one R g k r)

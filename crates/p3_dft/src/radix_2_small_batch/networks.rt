@@ -6,8 +6,13 @@
 // which cells a run holds before and after, for any layers that follow one another.
 
 ghost use Rattle.std.specs.Prelude.{◌≡◌, ℕ, ◌+◌, ◌-◌, ◌*◌, ◌/◌, ◌^◌, ◌<◌, ◌≤◌, length, get_or};
+ghost use Rattle.p3_field.specs.Ring.{power};
+ghost use Rattle.p3_matrix.specs.BitOrder.{rev};
 ghost use Rattle.p3_matrix.specs.Butterflies.{dif_far, dif_near, dit_far, dit_near};
 ghost use Rattle.p3_dft.specs.Layers.{AreLayers, HoldsCells};
+ghost use Rattle.p3_dft.specs.Polynomials.{poly};
+ghost use Rattle.p3_dft.specs.Transforms.{AreValuesOfRows};
+ghost use Rattle.p3_dft.specs.Twiddles.{AreTwiddlesFromStart, backward_root, block_powers, forward_root};
 
 use crate::butterfly_layers::rules::{DifByBlock, DitByBlock};
 use crate::butterfly_layers::{Rule, layer};
@@ -204,4 +209,65 @@ fn scaled_dif_tiles<F: TwoAdicField>(
             twiddles, rows, width, 0, log_rows, log_rows, tile, products,
         );
     }
+}
+
+// From rows in natural order to their values, in bit reversed order: the layers whose blocks are
+// larger than a tile on the whole, then the others tile by tile.
+#[inline(always)]
+pub(crate) fn dit_network<F: TwoAdicField>(
+    twiddles: &[F],
+    values: &mut [F],
+    width: usize,
+    log_rows: usize,
+    log_h: usize,
+    products: &mut Products,
+)
+    requires wide { 1 ≤ width }
+    requires below { log_rows ≤ log_h }
+    requires some { 1 ≤ log_h }
+    requires small { log_h < 64 }
+    requires rooted { log_h ≤ F.TWO_ADICITY }
+    requires size { length values.old ≡ 2 ^ log_h * width }
+    requires twiddles { AreTwiddlesFromStart F.Field.own log_h (block_powers F.Field.own (forward_root F.Field.own F.generator)) twiddles.now }
+    ensures values { AreValuesOfRows F.Field.own width (2 ^ log_h) (λ q. q)
+        (λ r. power F.ring (F.value (F.generator log_h)) (rev log_h r)) values.old values.new }
+    ensures grows { products.old ≤ products.new }
+    ensures cost { products.new ≤ products.old + width * (log_h * 2 ^ log_h / 2) }
+{
+    dit_layers(
+        twiddles, values, width, log_rows, log_h, log_h, 0, products,
+    );
+    dit_tiles(twiddles, values, width, log_rows, log_h, products);
+}
+
+// From rows in bit reversed order, each entry times `scale`, to their values at the powers of the
+// inverse of the generator, in natural order: the layers whose blocks fit into a tile tile by tile,
+// then the others on the whole.
+#[inline(always)]
+pub(crate) fn scaled_dif_network<F: TwoAdicField>(
+    twiddles: &[F],
+    scale: F,
+    values: &mut [F],
+    width: usize,
+    log_rows: usize,
+    log_h: usize,
+    products: &mut Products,
+)
+    requires wide { 1 ≤ width }
+    requires below { log_rows ≤ log_h }
+    requires some { 1 ≤ log_h }
+    requires small { log_h < 64 }
+    requires rooted { log_h ≤ F.TWO_ADICITY }
+    requires size { length values.old ≡ 2 ^ log_h * width }
+    requires twiddles { AreTwiddlesFromStart F.Field.own log_h (block_powers F.Field.own (backward_root F.Field.own F.generator)) twiddles.now }
+    ensures values { (r j : ℕ) → r < 2 ^ log_h → j < width → F.value (get_or values.new (r * width + j) F.ZERO)
+        ≡ poly F.ring (2 ^ log_h) (λ q. F.ring.mul (F.value (get_or values.old (rev log_h q * width + j) F.ZERO)) (F.value scale))
+        (power F.ring (backward_root F.Field.own F.generator log_h) r) }
+    ensures grows { products.old ≤ products.new }
+    ensures cost { products.new ≤ products.old + width * (log_h * 2 ^ log_h / 2) + 2 ^ log_h * width }
+{
+    scaled_dif_tiles(twiddles, scale, values, width, log_rows, log_h, products);
+    dif_layers(
+        twiddles, values, width, log_rows, log_h, log_h, 0, products,
+    );
 }
