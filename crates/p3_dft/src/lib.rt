@@ -32,5 +32,6 @@ pub use p3_matrix::{
 pub use radix_2_bowers::Radix2Bowers;
 pub use radix_2_dit::Radix2Dit;
 pub use radix_2_dit_parallel::Radix2DitParallel;
+pub use radix_2_small_batch::Radix2DFTSmallBatch;
 pub use traits::{Layout, TwoAdicSubgroupDft};
 pub use util::{divide_by_height, extend_by_zeros, fits_dft, fits_lde};

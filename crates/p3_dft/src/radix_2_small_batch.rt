@@ -1,4 +1,322 @@
-//! The transform whose layers stay in the cache, by tiles and in groups.
+//! The transform that does most layers on tiles of rows that stay in the cache.
+
+ghost use Rattle.std.specs.Prelude.{◌≡◌, ◌↔◌, ◌⊎◌, ℕ, ◌+◌, ◌*◌, ◌/◌, ◌^◌, ◌<◌, ◌≤◌, max, IsTrue, IsOk, IfOk, OnOk, OnErr, Ok, []};
+ghost use Rattle.p3_matrix.specs.RowMajor.{IsRowMajor, height};
+ghost use Rattle.p3_dft.specs.Engines.{AtLog};
+ghost use Rattle.p3_dft.specs.Transforms.{IsInterpolation, IsTransform};
+ghost use Rattle.p3_dft.specs.Twiddles.{AreTwiddlesFromStart, IsPrepared, backward_root, block_powers, forward_root};
 
 mod networks;
 mod tables;
+
+use crate::traits::{Layout, TwoAdicSubgroupDft};
+use crate::util::reverse_rows;
+use networks::{dit_network, scaled_dif_network};
+use p3_field::{Products, TwoAdicField};
+use p3_matrix::{DftError, IntoRowMajorMatrix, RowMajorMatrix, log2_strict_usize};
+use std::alloc::{AllocError, Global};
+use std::marker::Model;
+use tables::Tables;
+
+// How many elements a tile has where a caller does not say it: those of a small cache.
+const TILE: usize = 8192;
+
+/// Transforms by layers of butterflies, in place: those whose blocks are larger than a tile of rows on
+/// the whole matrix, and all others tile by tile, so that a tile goes through its layers while it is
+/// in the cache. At height `2^k` and width w that is at most `w * k * 2^k / 2` products, and
+/// `w * 2^k` more for an inverse, which has a network of its own.
+///
+/// Two tables of twiddles are kept for the largest height so far, from its first transform on, or from
+/// `prepare`, until the engine ends; then `dft_batch`, `idft_batch` and the calls that stand on them
+/// take no memory at that height and at smaller ones. A `default` engine and a clone have no tables
+/// and take no memory.
+///
+/// Contracts see which heights are prepared and how many products were made. A tile of any size gives
+/// the same answers.
+#[derive(Drop)]
+pub struct Radix2DFTSmallBatch<F: TwoAdicField> {
+    tile: usize,
+    tables: Tables<F>,
+    products: Products,
+}
+
+impl<F: TwoAdicField> Model for Radix2DFTSmallBatch<F> {
+    ghost use Rattle.std.specs.Prelude.{◌≤◌};
+    ghost use Rattle.std.specs.List.{range_with_len};
+    ghost use Rattle.p3_dft.specs.Twiddles.{Tabled};
+
+    ghost Value = { Tabled };
+
+    ghost view = { λ e. record { prepared = range_with_len 1 e.tables; products = e.products } };
+
+    ghost invariant = { λ e. e.tile ≤ 4294967296 };
+}
+
+impl<F: TwoAdicField> Default for Radix2DFTSmallBatch<F> {
+    ghost use Rattle.std.specs.Prelude.{◌≡◌, []};
+
+    ghost is_default = { λ e. (e.prepared ≡ []) × (e.products ≡ 0) };
+
+    fn default() -> Self {
+        Self::empty(TILE)
+    }
+}
+
+impl<F: TwoAdicField> Clone for Radix2DFTSmallBatch<F> {
+    ghost use Rattle.std.specs.Prelude.{◌≡◌, [], ⊤};
+
+    ghost is_clone = { λ _ e. (e.prepared ≡ []) × (e.products ≡ 0) };
+
+    ghost is_infallible = { λ _. ⊤ };
+
+    fn clone(&self) -> Result<Self, AllocError> {
+        Ok(Self::empty(self.tile))
+    }
+}
+
+impl<F: TwoAdicField> Radix2DFTSmallBatch<F> {
+    // With tiles of so many elements and no tables.
+    fn empty(tile: usize) -> Self
+        requires { tile ≤ 4294967296 }
+        ensures prepared { result.prepared ≡ [] }
+        ensures products { result.products ≡ 0 }
+    {
+        Radix2DFTSmallBatch {
+            tile,
+            tables: Tables::new(),
+            products: Products::new(),
+        }
+    }
+
+    /// An engine that is prepared for height `n` and smaller ones. `n` is at most one, which takes no
+    /// memory, or a power of two of at most `2^TWO_ADICITY`.
+    pub fn new(alloc: Global, n: usize) -> Result<Self, DftError>
+        requires { 2 ≤ n → (k : ℕ) × (n ≡ 2 ^ k) × (k ≤ F.TWO_ADICITY) }
+        ensures prepares { AtLog n (λ k. IfOk result (λ e. IsPrepared e k)) }
+        ensures only { IfOk result (λ e. (k : ℕ) → IsPrepared e k → 2 ^ k ≤ max 1 n) }
+        ensures ready { n ≤ 1 → IsOk result }
+        ensures products { IfOk result (λ e. e.products ≡ 0) }
+    {
+        Self::with_tile(alloc, n, TILE)
+    }
+
+    /// The same with tiles of about `tile` elements: as many rows as have that many, up to the next
+    /// power of two, and at least one. `tile` is from one to `2^32`.
+    pub fn with_tile(alloc: Global, n: usize, tile: usize) -> Result<Self, DftError>
+        requires height { 2 ≤ n → (k : ℕ) × (n ≡ 2 ^ k) × (k ≤ F.TWO_ADICITY) }
+        requires some { 1 ≤ tile }
+        requires tile { tile ≤ 2 ^ 32 }
+        ensures prepares { AtLog n (λ k. IfOk result (λ e. IsPrepared e k)) }
+        ensures only { IfOk result (λ e. (k : ℕ) → IsPrepared e k → 2 ^ k ≤ max 1 n) }
+        ensures ready { n ≤ 1 → IsOk result }
+        ensures products { IfOk result (λ e. e.products ≡ 0) }
+    {
+        let mut engine = Self::empty(tile);
+        if n <= 1 {
+            return Ok(engine);
+        }
+        engine.prepare(alloc, log2_strict_usize(n))?;
+        Ok(engine)
+    }
+
+    /// Makes the tables for height `2^log_h`, from when on transforms of that height and of smaller
+    /// ones take no memory. It takes none itself where the height is prepared already, as height one
+    /// always is. Where memory is refused, the engine is as before.
+    pub fn prepare(&mut self, alloc: Global, log_h: usize) -> Result<(), DftError>
+        requires within { log_h ≤ F.TWO_ADICITY }
+        requires size { 2 ^ log_h < 2 ^ 64 }
+        ensures prepares { OnOk result (IsPrepared self.new log_h) }
+        ensures ready { IsPrepared self.old log_h → IsOk result }
+        ensures keeps { (k : ℕ) → IsPrepared self.old k → IsPrepared self.new k }
+        ensures only { (k : ℕ) → IsPrepared self.new k → IsPrepared self.old k ⊎ (k ≤ log_h) }
+        ensures refused { OnErr result (self.new ≡ self.old) }
+        ensures products { self.new.products ≡ self.old.products }
+    {
+        self.tables.make(alloc, log_h)
+    }
+
+    /// Whether transforms of height `2^log_h` take no memory. Height one always is prepared.
+    pub fn is_prepared(&self, log_h: usize) -> bool
+        ensures { IsTrue result ↔ IsPrepared self.now log_h }
+    {
+        log_h <= self.tables.log_h()
+    }
+}
+
+impl<F: TwoAdicField> TwoAdicSubgroupDft<F> for Radix2DFTSmallBatch<F> {
+    ghost use Rattle.std.specs.Prelude.{◌≡◌, ℕ, ◌+◌, ◌*◌, ◌/◌, ◌^◌, ◌≤◌, IfOk, IsOk, OnOk, Ok};
+    ghost use Rattle.p3_matrix.specs.RowMajor.{RowMajor, height};
+    ghost use Rattle.p3_dft.specs.Engines.{AtLog, IsLater};
+    ghost use Rattle.p3_dft.specs.Extensions.{IsTransformedExtension, extension_bound};
+    ghost use Rattle.p3_dft.specs.Shapes.{FitsDft, FitsLde, HasShapeOf};
+    ghost use Rattle.p3_dft.specs.Transforms.{IsInterpolation, IsTransform};
+    ghost use Rattle.p3_dft.specs.Twiddles.{IsPrepared};
+    ghost use Rattle.p3_dft.specs.declared.traits.Layout.TheVariants.{Natural};
+
+    type Evaluations = RowMajorMatrix<F>;
+
+    const LAYOUT: Layout = Layout::Natural;
+
+    ghost LAYOUT = { Natural };
+
+    ghost promised = { IsPrepared };
+
+    ghost coset_promised = { IsPrepared };
+
+    ghost served = { IsPrepared };
+
+    ghost bound = { λ k w. w * (k * 2 ^ k / 2) };
+
+    ghost made = { λ e. e.products };
+
+    ghost coset_promised_law = { λ e k prepared. prepared };
+
+    ghost default_law = { λ e new. new.1 };
+
+    ghost clone_law = { λ e copy new. new.1 };
+
+    /// As the trait says. `Ok` makes the height prepared for good. A matrix of height one is its own
+    /// transform: it is handed back, with no product and no memory taken.
+    fn dft_batch<N: IntoRowMajorMatrix<F>>(&mut self, mat: N) -> Result<RowMajorMatrix<F>, DftError>
+        requires { FitsDft F.TWO_ADICITY (height (N.stored mat)) (N.stored mat).width }
+        ensures values { IfOk result (λ out. IsTransform F.Field.own F.generator (N.stored mat) F.ring.one out) }
+        ensures succeeds { AtLog (height (N.stored mat)) (λ k. IsPrepared self.old k → IsOk result) }
+        ensures serves { AtLog (height (N.stored mat)) (λ k. OnOk result (IsPrepared self.new k)) }
+        ensures one_row { height (N.stored mat) ≡ 1 → (result ≡ Ok (N.stored mat)) × (self.new ≡ self.old) }
+        ensures later { IsLater IsPrepared IsPrepared IsPrepared (λ e. e.products) self.old self.new }
+        ensures cost { AtLog (height (N.stored mat))
+            (λ k. OnOk result (self.new.products ≤ self.old.products + (N.stored mat).width * (k * 2 ^ k / 2))) }
+    {
+        let mut mat = mat.into_row_major_matrix();
+        let height = mat.height();
+        if height == 1 {
+            return Ok(mat);
+        }
+        let log_h = log2_strict_usize(height);
+        self.tables.make(*mat.allocator(), log_h)?;
+        let twiddles = self.tables.forward();
+        evaluate(&mut mat, log_h, self.tile, twiddles, &mut self.products);
+        Ok(mat)
+    }
+
+    fn add_products(&mut self, products: Products) {
+        self.products.add(products);
+    }
+
+    /// As the trait says, by a network of its own: division by the height goes into the tiles. A matrix
+    /// of height one is its own inverse transform: it is handed back, with no product and no memory
+    /// taken.
+    fn idft_batch<N: IntoRowMajorMatrix<F>>(
+        &mut self,
+        mat: N,
+    ) -> Result<RowMajorMatrix<F>, DftError>
+        requires { FitsDft F.TWO_ADICITY (height (N.stored mat)) (N.stored mat).width }
+        ensures coefficients { IfOk result (λ out. IsInterpolation F.Field.own F.generator (N.stored mat) F.ring.one out) }
+        ensures succeeds { AtLog (height (N.stored mat)) (λ k. IsPrepared self.old k → IsOk result) }
+        ensures serves { AtLog (height (N.stored mat)) (λ k. OnOk result (IsPrepared self.new k)) }
+        ensures one_row { height (N.stored mat) ≡ 1 → (result ≡ Ok (N.stored mat)) × (self.new ≡ self.old) }
+        ensures later { IsLater IsPrepared IsPrepared IsPrepared (λ e. e.products) self.old self.new }
+        ensures cost { AtLog (height (N.stored mat)) (λ k. OnOk result (self.new.products
+            ≤ self.old.products + (N.stored mat).width * (k * 2 ^ k / 2) + 2 ^ k * (N.stored mat).width)) }
+    {
+        let mut mat = mat.into_row_major_matrix();
+        let height = mat.height();
+        if height == 1 {
+            return Ok(mat);
+        }
+        let log_h = log2_strict_usize(height);
+        self.tables.make(*mat.allocator(), log_h)?;
+        let twiddles = self.tables.backward();
+        interpolate(&mut mat, log_h, self.tile, twiddles, &mut self.products);
+        Ok(mat)
+    }
+
+    fn coset_lde_batch_with_transform<
+        N: IntoRowMajorMatrix<F>,
+        T: FnOnce(RowMajorMatrix<F>, Layout) -> RowMajorMatrix<F> + Drop,
+    >(
+        &mut self,
+        mat: N,
+        added_bits: usize,
+        shift: F,
+        transform: T,
+    ) -> Result<RowMajorMatrix<F>, DftError> {
+        self.coset_lde_batch_by_parts(mat, added_bits, shift, transform)
+    }
+}
+
+// From coefficients to values on the subgroup, in place.
+fn evaluate<F: TwoAdicField>(
+    mat: &mut RowMajorMatrix<F>,
+    log_h: usize,
+    tile: usize,
+    twiddles: &[F],
+    products: &mut Products,
+)
+    requires whole { IsRowMajor mat.old }
+    requires some { 1 ≤ log_h }
+    requires small { log_h < 64 }
+    requires rooted { log_h ≤ F.TWO_ADICITY }
+    requires height { height mat.old ≡ 2 ^ log_h }
+    requires tile { tile ≤ 4294967296 }
+    requires twiddles { AreTwiddlesFromStart F.Field.own log_h (block_powers F.Field.own (forward_root F.Field.own F.generator)) twiddles.now }
+    ensures values { IsTransform F.Field.own F.generator mat.old F.ring.one mat.new }
+    ensures grows { products.old ≤ products.new }
+    ensures cost { products.new ≤ products.old + mat.old.width * (log_h * 2 ^ log_h / 2) }
+{
+    let width = mat.width();
+    let log_rows = log_tile_rows(tile, width, log_h);
+    dit_network(
+        twiddles,
+        mat.values_mut(),
+        width,
+        log_rows,
+        log_h,
+        products,
+    );
+    reverse_rows(mat);
+}
+
+// From values on the subgroup to coefficients, in place.
+fn interpolate<F: TwoAdicField>(
+    mat: &mut RowMajorMatrix<F>,
+    log_h: usize,
+    tile: usize,
+    twiddles: &[F],
+    products: &mut Products,
+)
+    requires whole { IsRowMajor mat.old }
+    requires some { 1 ≤ log_h }
+    requires small { log_h < 64 }
+    requires rooted { log_h ≤ F.TWO_ADICITY }
+    requires height { height mat.old ≡ 2 ^ log_h }
+    requires tile { tile ≤ 4294967296 }
+    requires twiddles { AreTwiddlesFromStart F.Field.own log_h (block_powers F.Field.own (backward_root F.Field.own F.generator)) twiddles.now }
+    ensures coefficients { IsInterpolation F.Field.own F.generator mat.old F.ring.one mat.new }
+    ensures grows { products.old ≤ products.new }
+    ensures cost { products.new ≤ products.old + mat.old.width * (log_h * 2 ^ log_h / 2) + 2 ^ log_h * mat.old.width }
+{
+    let width = mat.width();
+    let log_rows = log_tile_rows(tile, width, log_h);
+    let inverse = F::ONE.div_2exp_u64(log_h as u64);
+    reverse_rows(mat);
+    scaled_dif_network(
+        twiddles,
+        inverse,
+        mat.values_mut(),
+        width,
+        log_rows,
+        log_h,
+        products,
+    );
+}
+
+// The logarithm of the number of rows of a tile of about `tile` elements, at most the height.
+fn log_tile_rows(tile: usize, width: usize, log_h: usize) -> usize
+    requires wide { 1 ≤ width }
+    requires tile { tile ≤ 4294967296 }
+    ensures { result ≤ log_h }
+{
+    let rows = (tile / width).next_power_of_two();
+    log_h.min(log2_strict_usize(rows))
+}

@@ -35,3 +35,7 @@ module _ {F : Type 0} (f : FieldMembers F) (root : ℕ → f.Element) where
     entries = λ b below.
         are.entries b below ∙ ap₂ (λ y z. f.ring.mul y (power f.ring z (rev n b))) is_one is_root ∙ Rings.one-mul f.ring (power f.ring (root (n + 1)) (rev n b));
   }
+
+-- what serves a height serves a smaller one
+pub fewer_from_start : {F : Type 0} (f : FieldMembers F) (p : ℕ → ℕ → f.Element) (log most : ℕ) (table : List F) → log ≤ most → AreTwiddlesFromStart f most p table → AreTwiddlesFromStart f log p table
+fewer_from_start f p log most table fewer are = record { size = λ l below. are.size l (omega (arith, below, fewer)); entries = λ l b below inside. are.entries l b (omega (arith, below, fewer)) inside }

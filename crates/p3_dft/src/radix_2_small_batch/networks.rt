@@ -213,8 +213,37 @@ fn scaled_dif_tiles<F: TwoAdicField>(
 
 // From rows in natural order to their values, in bit reversed order: the layers whose blocks are
 // larger than a tile on the whole, then the others tile by tile.
-#[inline(always)]
 pub(crate) fn dit_network<F: TwoAdicField>(
+    twiddles: &[F],
+    values: &mut [F],
+    width: usize,
+    log_rows: usize,
+    log_h: usize,
+    products: &mut Products,
+)
+    requires wide { 1 ≤ width }
+    requires below { log_rows ≤ log_h }
+    requires some { 1 ≤ log_h }
+    requires small { log_h < 64 }
+    requires rooted { log_h ≤ F.TWO_ADICITY }
+    requires size { length values.old ≡ 2 ^ log_h * width }
+    requires twiddles { AreTwiddlesFromStart F.Field.own log_h (block_powers F.Field.own (forward_root F.Field.own F.generator)) twiddles.now }
+    ensures values { AreValuesOfRows F.Field.own width (2 ^ log_h) (λ q. q)
+        (λ r. power F.ring (F.value (F.generator log_h)) (rev log_h r)) values.old values.new }
+    ensures grows { products.old ≤ products.new }
+    ensures cost { products.new ≤ products.old + width * (log_h * 2 ^ log_h / 2) }
+{
+    // One column is made apart: where the width is known, no loop along a row is left.
+    if width == 1 {
+        dit_network_of_width(twiddles, values, 1, log_rows, log_h, products);
+    } else {
+        dit_network_of_width(twiddles, values, width, log_rows, log_h, products);
+    }
+}
+
+// The same. Inlined, so that a width that the caller names is known in all layers.
+#[inline(always)]
+fn dit_network_of_width<F: TwoAdicField>(
     twiddles: &[F],
     values: &mut [F],
     width: usize,
@@ -243,8 +272,39 @@ pub(crate) fn dit_network<F: TwoAdicField>(
 // From rows in bit reversed order, each entry times `scale`, to their values at the powers of the
 // inverse of the generator, in natural order: the layers whose blocks fit into a tile tile by tile,
 // then the others on the whole.
-#[inline(always)]
 pub(crate) fn scaled_dif_network<F: TwoAdicField>(
+    twiddles: &[F],
+    scale: F,
+    values: &mut [F],
+    width: usize,
+    log_rows: usize,
+    log_h: usize,
+    products: &mut Products,
+)
+    requires wide { 1 ≤ width }
+    requires below { log_rows ≤ log_h }
+    requires some { 1 ≤ log_h }
+    requires small { log_h < 64 }
+    requires rooted { log_h ≤ F.TWO_ADICITY }
+    requires size { length values.old ≡ 2 ^ log_h * width }
+    requires twiddles { AreTwiddlesFromStart F.Field.own log_h (block_powers F.Field.own (backward_root F.Field.own F.generator)) twiddles.now }
+    ensures values { (r j : ℕ) → r < 2 ^ log_h → j < width → F.value (get_or values.new (r * width + j) F.ZERO)
+        ≡ poly F.ring (2 ^ log_h) (λ q. F.ring.mul (F.value (get_or values.old (rev log_h q * width + j) F.ZERO)) (F.value scale))
+        (power F.ring (backward_root F.Field.own F.generator log_h) r) }
+    ensures grows { products.old ≤ products.new }
+    ensures cost { products.new ≤ products.old + width * (log_h * 2 ^ log_h / 2) + 2 ^ log_h * width }
+{
+    // One column is made apart: where the width is known, no loop along a row is left.
+    if width == 1 {
+        scaled_dif_network_of_width(twiddles, scale, values, 1, log_rows, log_h, products);
+    } else {
+        scaled_dif_network_of_width(twiddles, scale, values, width, log_rows, log_h, products);
+    }
+}
+
+// The same. Inlined, so that a width that the caller names is known in all layers.
+#[inline(always)]
+fn scaled_dif_network_of_width<F: TwoAdicField>(
     twiddles: &[F],
     scale: F,
     values: &mut [F],

@@ -1,4 +1,4 @@
-use Rattle.std.proofs.Common.{◌≡◌, ℕ, ◌+◌, ◌-◌, ◌*◌, ◌^◌, ◌<◌, ◌≤◌, length, get_or, sym, ap, ap₂, ◌∙◌, subst, arith}
+use Rattle.std.proofs.Common.{◌≡◌, ℕ, ◌+◌, ◌-◌, ◌*◌, ◌≤◌, length, sym, subst, arith}
 use Rattle.p3_dft.specs.Layers.{HoldsCells}
 use Rattle.p3_dft.proofs.Layers.Runs.{layer_more, twiddles_enough}
 use Rattle.p3_dft.proofs.radix_2_small_batch.networks.dit_layers.Goals as goal

@@ -1,4 +1,4 @@
-use Rattle.std.proofs.Common.{◌≡◌, ℕ, ◌+◌, ◌-◌, ◌*◌, ◌%◌, ◌^◌, ◌<◌, ◌≤◌, length, sym, ap, ap₂, ◌∙◌, arith}
+use Rattle.std.proofs.Common.{◌≡◌, ℕ, ◌-◌, ◌*◌, ◌%◌, ◌^◌, length, sym, ap, ap₂, ◌∙◌, arith}
 use Rattle.p3_dft.proofs.Layers.Runs.{run_cells, run_sizes, run_taken}
 use Rattle.p3_dft.proofs.radix_2_small_batch.networks.layer_of_run.Goals as goal
 

@@ -1,17 +1,15 @@
-use Rattle.std.proofs.Common.{◌≡◌, ℕ, suc, ◌+◌, ◌-◌, ◌*◌, ◌/◌, ◌%◌, ◌^◌, ◌<◌, ◌≤◌, length, get_or, refl, sym, ap, ap₂, ◌∙◌, subst, arith, lit≤}
+use Rattle.std.proofs.Common.{ℕ, ◌+◌, ◌-◌, ◌*◌, ◌^◌, ◌≤◌, length, get_or, refl, ap, ◌∙◌, subst, arith, lit≤}
 use Rattle.std.proofs.Math.Nat.{pow-le-pow_right}
 use Rattle.std.proofs.lemmas.Nat.{pow_pos}
 use Rattle.p3_field.specs.Ring.{power}
 use Rattle.p3_field.proofs.Powers.{power-zero}
-use Rattle.p3_matrix.specs.BitOrder.{rev}
 use Rattle.p3_matrix.proofs.BitReversal.{rev_of_zero}
 use Rattle.p3_dft.specs.Layers.{HoldsCells}
-use Rattle.p3_dft.specs.Polynomials.{poly}
 use Rattle.p3_dft.proofs.Layers.Blocks.{row_below}
 use Rattle.p3_dft.proofs.Layers.Counts.{counted_twice, layers_joined, two_halves}
 use Rattle.p3_dft.proofs.Layers.Runs.{run_whole, whole_run}
 use Rattle.p3_dft.proofs.Networks.Cells.{high_cells, high_cells_end, high_cells_start, high_layers}
-use Rattle.p3_dft.proofs.radix_2_small_batch.networks.dit_network.Goals as goal
+use Rattle.p3_dft.proofs.radix_2_small_batch.networks.dit_network_of_width.Goals as goal
 
 pub dit_layers-requires-clause-small : goal.dit_layers-requires-clause-small
 dit_layers-requires-clause-small g c =

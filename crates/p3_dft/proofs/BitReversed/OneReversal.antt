@@ -1,0 +1,88 @@
+-- Transforms and inverses where the rows are reversed once: after a network from natural order, or before one to natural order.
+use Rattle.std.proofs.Common.{◌≡◌, ℕ, ◌+◌, ◌*◌, ◌<◌, ◌≤◌, ◌^◌, ◌++◌, List, length, get_or, take, refl, sym, ap, ap₂, ◌∙◌, arith}
+use Rattle.p3_field.specs.Ring.{Ring, AreRoots, count, power}
+use Rattle.p3_field.specs.declared.fields.Field.{Ghosts as FieldMembers}
+use Rattle.p3_field.proofs.Powers.{count-power_of_two}
+use Rattle.p3_field.proofs.Roots.{inverse_root}
+use Rattle.p3_matrix.specs.BitOrder.{rev, bit_reversal}
+use Rattle.p3_matrix.specs.Matrix.{Matrix, Same, matrix}
+use Rattle.p3_matrix.specs.RowMajor.{RowMajor, IsRowMajor, SameShape, height}
+use Rattle.p3_matrix.proofs.BitReversal.{rev-lt, rev-rev}
+use Rattle.p3_dft.specs.Cosets.{AreCoefficients}
+use Rattle.p3_dft.specs.Polynomials.{poly}
+use Rattle.p3_dft.specs.Transforms.{AreValuesOfRows, IsInterpolation, IsTransform, values_of}
+use Rattle.p3_dft.proofs.BitReversed.Coefficients.{interpolation_of_coefficients}
+use Rattle.p3_dft.proofs.Calls.Transforms.{height_of_parts, transform_of_entries}
+use Rattle.p3_dft.proofs.Polynomials.ByIndex.{poly_same, poly-times}
+use Rattle.p3_dft.proofs.Polynomials.Interpolation.{inverse_transform, transform_is}
+use Rattle.p3_dft.proofs.Rows.Overwritten.{written}
+
+module _ {A : Type 0} (R : Ring A) {g : ℕ → A} {bits : ℕ} (G : AreRoots R bits g) where
+  open R use {mul as ◌⊗◌}
+
+  infixl 70 ◌⊗◌
+  -- values, each times the inverse of their number, at the powers of the inverse root are the coefficients
+  pub coefficients_of_scaled : (m c : Matrix A) (k : ℕ) (inverse : A) → k ≤ bits → m.height ≡ 2 ^ k → c.height ≡ m.height → c.width ≡ m.width → count R (2 ^ k) ⊗ inverse ≡ R.one
+      → ((i j : ℕ) → i < 2 ^ k → j < m.width → c.entry i j ≡ poly R (2 ^ k) (λ q. m.entry q j ⊗ inverse) (power R (inverse_root R g k) i))
+      → AreCoefficients R g m k R.one c
+  coefficients_of_scaled m c k inverse within high tall wide undone entries =
+      inverse_transform R G m c k within high tall wide
+      (λ i j below inside.
+      let f = λ (q : ℕ). m.entry q j in
+      let x = power R (inverse_root R g k) i in
+      let n = count R (2 ^ k) in
+      ap (λ y. y ⊗ c.entry i j) (sym (count-power_of_two R k))
+      ∙ ap (λ y. n ⊗ y) (entries i j below inside ∙ poly_same R (2 ^ k) (λ q. f q ⊗ inverse) (λ q. inverse ⊗ f q) x (λ q l. R.mul_comm (f q) inverse) ∙ poly-times R (2 ^ k) inverse f x)
+      ∙ sym (R.mul_assoc n inverse (poly R (2 ^ k) f x)) ∙ ap (λ y. y ⊗ poly R (2 ^ k) f x) undone ∙ R.mul_comm R.one (poly R (2 ^ k) f x) ∙ R.mul_one (poly R (2 ^ k) f x)
+      ∙ sym (transform_is R (inverse_root R g) k f i))
+
+module _ {F : Type 0} (f : FieldMembers F) (generator : ℕ → F) where
+  -- a network made the values of the entries of m in bit reversed order, which were written over r, and its rows were reversed
+  pub transform_then_reversed : (m r out : RowMajor F) (before after rest : List F) (log w : ℕ) → IsRowMajor m → height m ≡ 2 ^ log → before ≡ m.values → w ≡ m.width
+      → length after ≡ length before → r.width ≡ m.width → r.values ≡ take (length m.values) (after ++ rest)
+      → SameShape out r → ((k : ℕ) → height r ≡ 2 ^ k → (d : F) → Same (matrix d out) (bit_reversal k (matrix d r)))
+      → AreValuesOfRows f w (2 ^ log) (λ q. q) (λ i. power f.ring (f.value (generator log)) (rev log i)) before after
+      → IsTransform f generator m f.ring.one out
+  transform_then_reversed m r out before after rest log w whole high before_is w_is size r_width r_values shape reversed entries =
+      let len : length after ≡ length m.values = size ∙ ap length before_is in
+      let values_is : r.values ≡ after = r_values ∙ written (length m.values) after rest len in
+      let full : length after ≡ 2 ^ log * m.width = len ∙ sym whole.full ∙ ap (λ n. n * m.width) high in
+      let tall : height r ≡ 2 ^ log = height_of_parts r after m.width (2 ^ log) whole.wide full r_width values_is in
+      let back = reversed log tall f.ZERO in
+      let width : out.width ≡ m.width = shape.0 ∙ r_width in
+      transform_of_entries f generator m out log (f.value (generator log)) high refl (back.high ∙ tall ∙ sym high) width
+      (λ i j below inside.
+      let small : i < 2 ^ log = omega (arith, below, high) in
+      let x = f.value (generator log) in
+      ap (λ v. f.value (get_or out.values (i * v + j) f.ZERO)) (sym width)
+      ∙ ap f.value (back.alike i j (omega (arith, small, back.high, tall)) (omega (arith, inside, width)))
+      ∙ ap₂ (λ (xs : List F) (v : ℕ). f.value (get_or xs (rev log i * v + j) f.ZERO)) values_is (r_width ∙ sym w_is)
+      ∙ entries (rev log i) j (rev-lt log i) (omega (arith, inside, w_is))
+      ∙ ap₂ (λ (xs : List F) (v : ℕ). poly f.ring (2 ^ log) (λ q. f.value (get_or xs (q * v + j) f.ZERO)) (power f.ring x (rev log (rev log i)))) before_is w_is
+      ∙ ap₂ (λ n e. poly f.ring n (λ q. f.value (get_or m.values (q * m.width + j) f.ZERO)) (power f.ring x e)) (sym high) (rev-rev log i small))
+
+  -- a network made coefficients of the entries of r, which are those of m in bit reversed order, each times the inverse of the height
+  pub interpolation_of_reversed : {bits : ℕ} → AreRoots f.ring bits (λ n. f.value (generator n)) → (m r out : RowMajor F) (before after rest : List F) (log w : ℕ) (inverse : f.Element) → log ≤ bits
+      → IsRowMajor m → height m ≡ 2 ^ log → SameShape r m → ((k : ℕ) → height m ≡ 2 ^ k → (d : F) → Same (matrix d r) (bit_reversal k (matrix d m)))
+      → before ≡ r.values → w ≡ m.width → length after ≡ length before → out.width ≡ r.width → out.values ≡ take (length r.values) (after ++ rest)
+      → f.ring.mul (count f.ring (2 ^ log)) inverse ≡ f.ring.one
+      → ((i j : ℕ) → i < 2 ^ log → j < w → f.value (get_or after (i * w + j) f.ZERO)
+      ≡ poly f.ring (2 ^ log) (λ q. f.ring.mul (f.value (get_or before (rev log q * w + j) f.ZERO)) inverse) (power f.ring (inverse_root f.ring (λ n. f.value (generator n)) log) i))
+      → IsInterpolation f generator m f.ring.one out
+  interpolation_of_reversed roots m r out before after rest log w inverse within whole high shape reversed before_is w_is size out_width out_values undone entries =
+      let len : length after ≡ length r.values = size ∙ ap length before_is in
+      let values_is : out.values ≡ after = out_values ∙ written (length r.values) after rest len in
+      let full : length after ≡ 2 ^ log * m.width = len ∙ shape.1 ∙ sym whole.full ∙ ap (λ n. n * m.width) high in
+      let width : out.width ≡ m.width = out_width ∙ shape.0 in
+      let tall : height out ≡ 2 ^ log = height_of_parts out after m.width (2 ^ log) whole.wide full width values_is in
+      let back = reversed log high f.ZERO in
+      interpolation_of_coefficients f generator roots m out log within high
+      (coefficients_of_scaled f.ring roots (values_of f m) (values_of f out) log inverse within high (tall ∙ sym high) width undone
+      (λ i j below inside.
+      let x = power f.ring (inverse_root f.ring (λ n. f.value (generator n)) log) i in
+      ap₂ (λ (xs : List F) (v : ℕ). f.value (get_or xs (i * v + j) f.ZERO)) values_is (width ∙ sym w_is) ∙ entries i j below (omega (arith, inside, w_is))
+      ∙ poly_same f.ring (2 ^ log) (λ q. f.ring.mul (f.value (get_or before (rev log q * w + j) f.ZERO)) inverse) (λ q. f.ring.mul ((values_of f m).entry q j) inverse) x
+      (λ q small. ap (λ y. f.ring.mul y inverse)
+      (ap₂ (λ (xs : List F) (v : ℕ). f.value (get_or xs (rev log q * v + j) f.ZERO)) before_is (w_is ∙ sym shape.0)
+      ∙ ap f.value (back.alike (rev log q) j (omega (arith, rev-lt log q, back.high, high)) (omega (arith, inside, shape.0)))
+      ∙ ap (λ n. (values_of f m).entry n j) (rev-rev log q small)))))

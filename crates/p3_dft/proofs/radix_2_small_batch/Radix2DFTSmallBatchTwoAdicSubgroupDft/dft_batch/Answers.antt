@@ -1,0 +1,85 @@
+use Rattle.std.proofs.Common.{◌≡◌, inl, ℕ, zero, suc, ◌*◌, ◌+◌, ◌/◌, ◌^◌, ◌≤◌, List, Result, Ok, Err, IsOk, refl, sym, ap, ap₂, ◌∙◌, subst, arith, rules}
+use Rattle.p3_matrix.specs.RowMajor.{RowMajor, height}
+use Rattle.p3_matrix.proofs.TwoPowers.{log_same}
+use Rattle.p3_dft.specs.Twiddles.{Tabled, IsPrepared, forward_root, block_powers}
+use Rattle.p3_dft.proofs.Tables.FromStart.{fewer_from_start}
+use Rattle.p3_dft.proofs.Tables.PreparedHeights.{prepared_until, until_prepared}
+use Rattle.p3_dft.proofs.BitReversed.Rows.{transform_of_row}
+use Rattle.p3_dft.proofs.radix_2_small_batch.Radix2DFTSmallBatchTwoAdicSubgroupDft.dft_batch.Goals as goal
+
+not_ok : {A E : Type 0} (r : Result A E) (e : E) → r ≡ Err e → IsOk r → ⊥
+not_ok (Ok x) e is ok = cc
+not_ok (Err x) e is ok = search rules
+
+some_log : (h k : ℕ) → h ≡ 2 ^ k → (h ≡ 1 → ⊥) → 1 ≤ k
+some_log h zero high more = absurd (more high)
+some_log h (suc k) high more = omega arith
+
+pub returns-then-height-eq1-clause-values : goal.returns-then-height-eq1-clause-values
+returns-then-height-eq1-clause-values g c =
+    rw (← c.into_row_major_matrix-mat.ensures)
+    (transform_of_row g.F.Field g.F.TwoAdicField.generator c.into_row_major_matrix-mat.result (sym c.height-height.ensures.height ∙ c.if-height-eq1.true))
+
+pub returns-then-height-eq1-clause-serves : goal.returns-then-height-eq1-clause-serves
+returns-then-height-eq1-clause-serves g c k high =
+    let tall : c.height-height.result ≡ height (g.N.IntoRowMajorMatrix.stored c.args.mat) = c.height-height.ensures.height ∙ ap height c.into_row_major_matrix-mat.ensures in
+    let none : k ≡ 0 = log_same k 0 (sym high ∙ sym tall ∙ c.if-height-eq1.true) in
+    inl none
+
+pub make-requires-clause-within : goal.make-requires-clause-within
+make-requires-clause-within g c =
+    let tall : c.height-height.result ≡ height (g.N.IntoRowMajorMatrix.stored c.args.mat) = c.height-height.ensures.height ∙ ap height c.into_row_major_matrix-mat.ensures in
+    let same : c.log2_strict_usize-log_h.result ≡ c.requires.log = log_same _ _ (sym c.log2_strict_usize-log_h.ensures.power ∙ tall ∙ c.requires.high) in
+    omega (arith, same, c.requires.within)
+
+pub returns-in_err-make-clause-succeeds : goal.returns-in_err-make-clause-succeeds
+returns-in_err-make-clause-succeeds g c k high ready =
+    let tall : c.height-height.result ≡ height (g.N.IntoRowMajorMatrix.stored c.args.mat) = c.height-height.ensures.height ∙ ap height c.into_row_major_matrix-mat.ensures in
+    let log = c.log2_strict_usize-log_h.result in
+    let same : k ≡ log = log_same k log (sym high ∙ sym tall ∙ c.log2_strict_usize-log_h.ensures.power) in
+    let held : k ≤ c.self.inside.tables = until_prepared _ k (subst (λ (e : Tabled). IsPrepared e k) (sym c.self.view_is) ready) in
+    let there : log ≤ c.self.inside.tables = omega (arith, same, held) in
+    absurd (not_ok c.make.result _ c.in_err-make.was (c.make.ensures.ready there))
+
+pub evaluate-requires-clause-rooted : goal.evaluate-requires-clause-rooted
+evaluate-requires-clause-rooted g c =
+    let tall : c.height-height.result ≡ height (g.N.IntoRowMajorMatrix.stored c.args.mat) = c.height-height.ensures.height ∙ ap height c.into_row_major_matrix-mat.ensures in
+    let same : c.log2_strict_usize-log_h.result ≡ c.requires.log = log_same _ _ (sym c.log2_strict_usize-log_h.ensures.power ∙ tall ∙ c.requires.high) in
+    omega (arith, same, c.requires.within)
+
+pub evaluate-requires-clause-some : goal.evaluate-requires-clause-some
+evaluate-requires-clause-some g c = some_log c.height-height.result c.log2_strict_usize-log_h.result c.log2_strict_usize-log_h.ensures.power c.if-height-eq1.false
+
+pub evaluate-requires-clause-twiddles : goal.evaluate-requires-clause-twiddles
+evaluate-requires-clause-twiddles g c =
+    fewer_from_start g.F.Field (block_powers g.F.Field (forward_root g.F.Field g.F.TwoAdicField.generator)) c.log2_strict_usize-log_h.result c.make.new.self _ c.in_ok-make.ensures.made c.forward-twiddles.ensures
+
+pub returns-clause-values : goal.returns-clause-values
+returns-clause-values g c = rw (← c.into_row_major_matrix-mat.ensures) c.evaluate.ensures.values
+
+pub returns-clause-serves : goal.returns-clause-serves
+returns-clause-serves g c k high =
+    let tall : c.height-height.result ≡ height (g.N.IntoRowMajorMatrix.stored c.args.mat) = c.height-height.ensures.height ∙ ap height c.into_row_major_matrix-mat.ensures in
+    let log = c.log2_strict_usize-log_h.result in
+    let same : log ≡ k = log_same log k (sym c.log2_strict_usize-log_h.ensures.power ∙ tall ∙ high) in
+    prepared_until _ k (omega (arith, same, c.in_ok-make.ensures.made))
+
+pub returns-clause-later : goal.returns-clause-later
+returns-clause-later g c =
+    let products : c.self.inside.products ≡ c.args.self.now.products = ap (λ e. e.products) c.self.view_is in
+    let there = λ (k : ℕ) (before : IsPrepared c.args.self.now k). until_prepared _ k (subst (λ (e : Tabled). IsPrepared e k) (sym c.self.view_is) before) in
+    let still : (k : ℕ) → IsPrepared c.args.self.now k → k ≤ c.make.new.self = λ k before. let held = there k before in omega (arith, held, c.make.ensures.keeps) in
+    record {
+      keeps = λ k before. prepared_until _ k (still k before);
+      keeps_cosets = λ k before. prepared_until _ k (still k before);
+      keeps_served = λ k before. prepared_until _ k (still k before);
+      grows = omega (arith, products, c.evaluate.ensures.grows);
+    }
+
+pub returns-clause-cost : goal.returns-clause-cost
+returns-clause-cost g c k high =
+    let tall : c.height-height.result ≡ height (g.N.IntoRowMajorMatrix.stored c.args.mat) = c.height-height.ensures.height ∙ ap height c.into_row_major_matrix-mat.ensures in
+    let log = c.log2_strict_usize-log_h.result in
+    let same : log ≡ k = log_same log k (sym c.log2_strict_usize-log_h.ensures.power ∙ tall ∙ high) in
+    let products : c.self.inside.products ≡ c.args.self.now.products = ap (λ e. e.products) c.self.view_is in
+    rw (← products, ← c.into_row_major_matrix-mat.ensures, ← same) c.evaluate.ensures.cost
