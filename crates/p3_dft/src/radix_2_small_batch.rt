@@ -145,10 +145,10 @@ impl<F: TwoAdicField> Radix2DFTSmallBatch<F> {
 
 impl<F: TwoAdicField> TwoAdicSubgroupDft<F> for Radix2DFTSmallBatch<F> {
     ghost use Rattle.std.specs.Prelude.{◌≡◌, ℕ, ◌+◌, ◌*◌, ◌/◌, ◌^◌, ◌≤◌, IfOk, IsOk, OnOk, Ok};
-    ghost use Rattle.p3_matrix.specs.RowMajor.{RowMajor, height};
+    ghost use Rattle.p3_matrix.specs.RowMajor.{HasShapeOf, RowMajor, height};
     ghost use Rattle.p3_dft.specs.Engines.{AtLog, IsLater};
     ghost use Rattle.p3_dft.specs.Extensions.{IsTransformedExtension, extension_bound};
-    ghost use Rattle.p3_dft.specs.Shapes.{FitsDft, FitsLde, HasShapeOf};
+    ghost use Rattle.p3_dft.specs.Shapes.{FitsDft, FitsLde};
     ghost use Rattle.p3_dft.specs.Transforms.{IsInterpolation, IsTransform};
     ghost use Rattle.p3_dft.specs.Twiddles.{IsPrepared};
     ghost use Rattle.p3_dft.specs.declared.traits.Layout.TheVariants.{Natural};
@@ -266,14 +266,7 @@ fn evaluate<F: TwoAdicField>(
 {
     let width = mat.width();
     let log_rows = log_tile_rows(tile, width, log_h);
-    dit_network(
-        twiddles,
-        mat.values_mut(),
-        width,
-        log_rows,
-        log_h,
-        products,
-    );
+    dit_network(twiddles, mat.values_mut(), width, log_rows, log_h, products);
     reverse_rows(mat);
 }
 

@@ -6,7 +6,7 @@ use Rattle.p3_field.proofs.Powers.{count-power_of_two}
 use Rattle.p3_field.proofs.Roots.{inverse_root}
 use Rattle.p3_matrix.specs.BitOrder.{rev, bit_reversal}
 use Rattle.p3_matrix.specs.Matrix.{Matrix, Same, matrix}
-use Rattle.p3_matrix.specs.RowMajor.{RowMajor, IsRowMajor, SameShape, height}
+use Rattle.p3_matrix.specs.RowMajor.{RowMajor, HasShapeOf, IsRowMajor, height}
 use Rattle.p3_matrix.proofs.BitReversal.{rev-lt, rev-rev}
 use Rattle.p3_dft.specs.Cosets.{AreCoefficients}
 use Rattle.p3_dft.specs.Polynomials.{poly}
@@ -40,7 +40,7 @@ module _ {F : Type 0} (f : FieldMembers F) (generator : ℕ → F) where
   -- a network made the values of the entries of m in bit reversed order, which were written over r, and its rows were reversed
   pub transform_then_reversed : (m r out : RowMajor F) (before after rest : List F) (log w : ℕ) → IsRowMajor m → height m ≡ 2 ^ log → before ≡ m.values → w ≡ m.width
       → length after ≡ length before → r.width ≡ m.width → r.values ≡ take (length m.values) (after ++ rest)
-      → SameShape out r → ((k : ℕ) → height r ≡ 2 ^ k → (d : F) → Same (matrix d out) (bit_reversal k (matrix d r)))
+      → HasShapeOf out r → ((k : ℕ) → height r ≡ 2 ^ k → (d : F) → Same (matrix d out) (bit_reversal k (matrix d r)))
       → AreValuesOfRows f w (2 ^ log) (λ q. q) (λ i. power f.ring (f.value (generator log)) (rev log i)) before after
       → IsTransform f generator m f.ring.one out
   transform_then_reversed m r out before after rest log w whole high before_is w_is size r_width r_values shape reversed entries =
@@ -49,7 +49,7 @@ module _ {F : Type 0} (f : FieldMembers F) (generator : ℕ → F) where
       let full : length after ≡ 2 ^ log * m.width = len ∙ sym whole.full ∙ ap (λ n. n * m.width) high in
       let tall : height r ≡ 2 ^ log = height_of_parts r after m.width (2 ^ log) whole.wide full r_width values_is in
       let back = reversed log tall f.ZERO in
-      let width : out.width ≡ m.width = shape.0 ∙ r_width in
+      let width : out.width ≡ m.width = shape.1 ∙ r_width in
       transform_of_entries f generator m out log (f.value (generator log)) high refl (back.high ∙ tall ∙ sym high) width
       (λ i j below inside.
       let small : i < 2 ^ log = omega (arith, below, high) in
@@ -63,17 +63,17 @@ module _ {F : Type 0} (f : FieldMembers F) (generator : ℕ → F) where
 
   -- a network made coefficients of the entries of r, which are those of m in bit reversed order, each times the inverse of the height
   pub interpolation_of_reversed : {bits : ℕ} → AreRoots f.ring bits (λ n. f.value (generator n)) → (m r out : RowMajor F) (before after rest : List F) (log w : ℕ) (inverse : f.Element) → log ≤ bits
-      → IsRowMajor m → height m ≡ 2 ^ log → SameShape r m → ((k : ℕ) → height m ≡ 2 ^ k → (d : F) → Same (matrix d r) (bit_reversal k (matrix d m)))
+      → IsRowMajor m → height m ≡ 2 ^ log → HasShapeOf r m → length r.values ≡ length m.values → ((k : ℕ) → height m ≡ 2 ^ k → (d : F) → Same (matrix d r) (bit_reversal k (matrix d m)))
       → before ≡ r.values → w ≡ m.width → length after ≡ length before → out.width ≡ r.width → out.values ≡ take (length r.values) (after ++ rest)
       → f.ring.mul (count f.ring (2 ^ log)) inverse ≡ f.ring.one
       → ((i j : ℕ) → i < 2 ^ log → j < w → f.value (get_or after (i * w + j) f.ZERO)
       ≡ poly f.ring (2 ^ log) (λ q. f.ring.mul (f.value (get_or before (rev log q * w + j) f.ZERO)) inverse) (power f.ring (inverse_root f.ring (λ n. f.value (generator n)) log) i))
       → IsInterpolation f generator m f.ring.one out
-  interpolation_of_reversed roots m r out before after rest log w inverse within whole high shape reversed before_is w_is size out_width out_values undone entries =
+  interpolation_of_reversed roots m r out before after rest log w inverse within whole high shape kept reversed before_is w_is size out_width out_values undone entries =
       let len : length after ≡ length r.values = size ∙ ap length before_is in
       let values_is : out.values ≡ after = out_values ∙ written (length r.values) after rest len in
-      let full : length after ≡ 2 ^ log * m.width = len ∙ shape.1 ∙ sym whole.full ∙ ap (λ n. n * m.width) high in
-      let width : out.width ≡ m.width = out_width ∙ shape.0 in
+      let full : length after ≡ 2 ^ log * m.width = len ∙ kept ∙ sym whole.full ∙ ap (λ n. n * m.width) high in
+      let width : out.width ≡ m.width = out_width ∙ shape.1 in
       let tall : height out ≡ 2 ^ log = height_of_parts out after m.width (2 ^ log) whole.wide full width values_is in
       let back = reversed log high f.ZERO in
       interpolation_of_coefficients f generator roots m out log within high
@@ -83,6 +83,6 @@ module _ {F : Type 0} (f : FieldMembers F) (generator : ℕ → F) where
       ap₂ (λ (xs : List F) (v : ℕ). f.value (get_or xs (i * v + j) f.ZERO)) values_is (width ∙ sym w_is) ∙ entries i j below (omega (arith, inside, w_is))
       ∙ poly_same f.ring (2 ^ log) (λ q. f.ring.mul (f.value (get_or before (rev log q * w + j) f.ZERO)) inverse) (λ q. f.ring.mul ((values_of f m).entry q j) inverse) x
       (λ q small. ap (λ y. f.ring.mul y inverse)
-      (ap₂ (λ (xs : List F) (v : ℕ). f.value (get_or xs (rev log q * v + j) f.ZERO)) before_is (w_is ∙ sym shape.0)
-      ∙ ap f.value (back.alike (rev log q) j (omega (arith, rev-lt log q, back.high, high)) (omega (arith, inside, shape.0)))
+      (ap₂ (λ (xs : List F) (v : ℕ). f.value (get_or xs (rev log q * v + j) f.ZERO)) before_is (w_is ∙ sym shape.1)
+      ∙ ap f.value (back.alike (rev log q) j (omega (arith, rev-lt log q, back.high, high)) (omega (arith, inside, shape.1)))
       ∙ ap (λ n. (values_of f m).entry n j) (rev-rev log q small)))))

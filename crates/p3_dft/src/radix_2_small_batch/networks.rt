@@ -46,15 +46,7 @@ fn layer_of_run<F: TwoAdicField, R: Rule<F>>(
 {
     let half = 1usize << entry;
     let blocks = 1usize << (top - 1 - entry);
-    layer(
-        rule,
-        values,
-        width,
-        half,
-        number * blocks,
-        blocks,
-        products,
-    );
+    layer(rule, values, width, half, number * blocks, blocks, products);
 }
 
 // By decimation in time, the layers of the entries below `to` down to `from`, on run `number`.
@@ -167,9 +159,7 @@ fn dit_tiles<F: TwoAdicField>(
     for tile in 0..tiles {
         let start = tile * size;
         let rows = &mut values[start..start + size];
-        dit_layers(
-            twiddles, rows, width, 0, log_rows, log_rows, tile, products,
-        );
+        dit_layers(twiddles, rows, width, 0, log_rows, log_rows, tile, products);
     }
 }
 
@@ -205,9 +195,7 @@ fn scaled_dif_tiles<F: TwoAdicField>(
         let start = tile * size;
         let rows = &mut values[start..start + size];
         scale_slice_in_place(rows, scale, products);
-        dif_layers(
-            twiddles, rows, width, 0, log_rows, log_rows, tile, products,
-        );
+        dif_layers(twiddles, rows, width, 0, log_rows, log_rows, tile, products);
     }
 }
 
@@ -263,9 +251,7 @@ fn dit_network_of_width<F: TwoAdicField>(
     ensures grows { products.old ≤ products.new }
     ensures cost { products.new ≤ products.old + width * (log_h * 2 ^ log_h / 2) }
 {
-    dit_layers(
-        twiddles, values, width, log_rows, log_h, log_h, 0, products,
-    );
+    dit_layers(twiddles, values, width, log_rows, log_h, log_h, 0, products);
     dit_tiles(twiddles, values, width, log_rows, log_h, products);
 }
 
@@ -327,7 +313,5 @@ fn scaled_dif_network_of_width<F: TwoAdicField>(
     ensures cost { products.new ≤ products.old + width * (log_h * 2 ^ log_h / 2) + 2 ^ log_h * width }
 {
     scaled_dif_tiles(twiddles, scale, values, width, log_rows, log_h, products);
-    dif_layers(
-        twiddles, values, width, log_rows, log_h, log_h, 0, products,
-    );
+    dif_layers(twiddles, values, width, log_rows, log_h, log_h, 0, products);
 }
