@@ -60,7 +60,7 @@ items_if_any (Some v) = v.items
 
 -- the generator of order 2 ^ n, or its inverse
 abbrev pub root_of : {F : Type 0} (f : FieldMembers F) → (ℕ → F) → Bool → ℕ → f.Element
-root_of f generator inverse n = if inverse then power f.ring (f.value (generator n)) (2 ^ n - 1) else f.value (generator n)
+root_of f generator inverse n = if inverse then backward_root f generator n else forward_root f generator n
 
 -- in layer l: the powers of that of order 2 ^ (l + 1)
 abbrev pub root_powers : {F : Type 0} (f : FieldMembers F) → (ℕ → F) → Bool → ℕ → ℕ → f.Element
