@@ -29,6 +29,7 @@ pub enum EngineName {
     Naive,
     Dit,
     Bowers,
+    Small,
 }
 
 impl EngineName {
@@ -40,6 +41,7 @@ impl EngineName {
             "naive" => Some(EngineName::Naive),
             "dit" => Some(EngineName::Dit),
             "bowers" => Some(EngineName::Bowers),
+            "small" => Some(EngineName::Small),
             _ => None,
         }
     }

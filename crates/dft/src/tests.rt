@@ -119,7 +119,7 @@ const FIRST_TEXT: &str = "9 5 0\n1 2013265920 0\n";
 
 #[test]
 fn answers(rt: HostRuntime) -> Result<(), Fail> {
-    let rows: [(&[&str], &str); 16] = [
+    let rows: [(&[&str], &str); 18] = [
         (&FIRST_WORDS, FIRST_TEXT),
         (
             &["babybear", "naive", "dft", "1", "1", "2", "3", "4"],
@@ -150,6 +150,11 @@ fn answers(rt: HostRuntime) -> Result<(), Fail> {
             &["babybear", "bowers", "coset-lde", "1", "0", "1", "9", "1"],
             "5\n5\n5\n5\n",
         ),
+        (
+            &["goldilocks", "small", "dft", "1", "0", "1", "0", "0"],
+            "1\n281474976710656\n18446744069414584320\n18446462594437873665\n",
+        ),
+        (&["babybear", "small", "idft", "1", "9", "1"], "5\n4\n"),
         (&["babybear", "naive", "idft", "1", "9", "1"], "5\n4\n"),
         (
             &[
@@ -199,7 +204,7 @@ fn faults(rt: HostRuntime) -> Result<(), Fail> {
     let not_below = "error 6: number not below the modulus\n";
     let unfit_shape = "error 7: shape does not fit\n";
     let no_inverse = "error 8: shift has no inverse\n";
-    let rows: [(&[&str], &str); 33] = [
+    let rows: [(&[&str], &str); 35] = [
         (&[], too_few_words),
         (&["babybear"], too_few_words),
         (&["babybear", "naive", "dft", "1"], too_few_words),
@@ -243,6 +248,22 @@ fn faults(rt: HostRuntime) -> Result<(), Fail> {
         ),
         (
             &["goldilocks", "dit", "dft", "1", "1", "2", "3"],
+            unfit_shape,
+        ),
+        (
+            &["goldilocks", "small", "dft", "1", "1", "2", "3"],
+            unfit_shape,
+        ),
+        (
+            &[
+                "babybear",
+                "small",
+                "lde",
+                "18446744073709551615",
+                "1",
+                "9",
+                "1",
+            ],
             unfit_shape,
         ),
         (&["babybear", "dit", "lde", "1", "1"], too_few_words),

@@ -3,6 +3,5 @@ pub mod Blocks
 pub mod Counts
 pub mod Halves
 pub mod Runs
-pub mod Runs
 pub mod Sizes
 pub mod Tiles

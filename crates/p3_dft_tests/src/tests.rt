@@ -14,13 +14,14 @@ mod laws;
 mod naive;
 mod product;
 mod radix_2_dit;
+mod radix_2_small_batch;
 mod surface;
 mod util;
 
 use engines::{LimitedDft, ReversedDft};
 use p3_dft::{
-    BabyBear, CanonicalField, Evaluations, Field, Layout, NaiveDft, Radix2Bowers, Radix2Dit,
-    RowMajorMatrix, TwoAdicSubgroupDft, fits_dft, fits_lde,
+    BabyBear, CanonicalField, Evaluations, Field, Layout, NaiveDft, Radix2Bowers,
+    Radix2DFTSmallBatch, Radix2Dit, RowMajorMatrix, TwoAdicSubgroupDft, fits_dft, fits_lde,
 };
 use std::alloc::Global;
 use std::process::Abort;
@@ -244,6 +245,7 @@ fn on_every_engine<R: Abort, T: EngineTest>(rt: &R, alloc: Global, test: &T) -> 
     test.run(rt, alloc, &mut NaiveDft::default())?;
     test.run(rt, alloc, &mut Radix2Dit::default())?;
     test.run(rt, alloc, &mut Radix2Bowers::default())?;
+    test.run(rt, alloc, &mut Radix2DFTSmallBatch::default())?;
     test.run(rt, alloc, &mut LimitedDft::default())?;
     test.run(rt, alloc, &mut ReversedDft::default())
 }
@@ -439,6 +441,7 @@ fn told_layouts(rt: HostRuntime) -> Result<(), Fail> {
     assert!(rt; is_natural::<NaiveDft>());
     assert!(rt; is_natural::<Radix2Dit<BabyBear>>());
     assert!(rt; !is_natural::<Radix2Bowers>());
+    assert!(rt; is_natural::<Radix2DFTSmallBatch<BabyBear>>());
     assert!(rt; is_natural::<LimitedDft>());
     assert!(rt; !is_natural::<ReversedDft>());
     on_every_engine(&rt, rt.alloc(), &ToldLayouts)

@@ -35,16 +35,16 @@ blocks_within k top e number below room =
 
 module _ {A T : Type 0} (value : T → A) (d : T) (near far : ℕ → ℕ → A → A → A) where
   -- as a program does it, where a place in a block makes no difference
-  pub run_taken : (k w e top number blocks half : ℕ) (before after : ℕ → ℕ → A) (x y : List T) → e < top → blocks ≡ 2 ^ (top - 1 - e) → half ≡ 2 ^ e
+  pub run_taken : (k w e top number blocks half : ℕ) (place_of : ℕ → ℕ) (before after : ℕ → ℕ → A) (x y : List T) → e < top → blocks ≡ 2 ^ (top - 1 - e) → half ≡ 2 ^ e
       → length x ≡ blocks * (2 * (half * w)) → length y ≡ length x → (number + 1) * 2 ^ top ≤ 2 ^ k
       → ((b t : ℕ) (p q : A) → near b t p q ≡ near b 0 p q) → ((b t : ℕ) (p q : A) → far b t p q ≡ far b 0 p q)
       → AreLayers k w (λ b. near b 0) (λ b. far b 0) before after
       → ((b i : ℕ) → b < blocks → i < half * w → value (get_or y (b * (2 * (half * w)) + i) d)
-      ≡ near (number * blocks + b) (i / w) (value (get_or x (b * (2 * (half * w)) + i) d)) (value (get_or x (b * (2 * (half * w)) + (half * w + i)) d)))
+      ≡ near (number * blocks + b) (place_of i) (value (get_or x (b * (2 * (half * w)) + i) d)) (value (get_or x (b * (2 * (half * w)) + (half * w + i)) d)))
       → ((b i : ℕ) → b < blocks → i < half * w → value (get_or y (b * (2 * (half * w)) + (half * w + i)) d)
-      ≡ far (number * blocks + b) (i / w) (value (get_or x (b * (2 * (half * w)) + i) d)) (value (get_or x (b * (2 * (half * w)) + (half * w + i)) d)))
+      ≡ far (number * blocks + b) (place_of i) (value (get_or x (b * (2 * (half * w)) + i) d)) (value (get_or x (b * (2 * (half * w)) + (half * w + i)) d)))
       → HoldsCells value d (number * length x) (before e) x → HoldsCells value d (number * length x) (after e) y
-  run_taken k w e top number blocks half before after x y below blocks_is half_is size same room near_same far_same layers is_near is_far holds n inside =
+  run_taken k w e top number blocks half place_of before after x y below blocks_is half_is size same room near_same far_same layers is_near is_far holds n inside =
       each_row (λ i. value (get_or y i d) ≡ after e (number * length x + i)) (half * w) blocks
       (λ b i p q. (
         is_near b i p q ∙ near_same _ _ _ _ ∙ ap₂ (near (number * blocks + b) 0) (held b i p (omega (arith, q))) (held b (half * w + i) p (omega (arith, q)))

@@ -20,7 +20,6 @@ use p3_field::{Products, TwoAdicField};
 use p3_matrix::scale_slice_in_place;
 
 // The layer of one entry, on run `number`. The rule goes by the number of a block alone.
-#[inline(always)]
 fn layer_of_run<F: TwoAdicField, R: Rule<F>>(
     rule: R,
     values: &mut [F],
@@ -44,13 +43,13 @@ fn layer_of_run<F: TwoAdicField, R: Rule<F>>(
     ensures grows { products.old ≤ products.new }
     ensures count { 2 * products.new ≤ 2 * products.old + R.cost * length values.old }
 {
-    let half = 1usize << entry;
+    // A half of a block is one long row: its pairs have one twiddle, whatever the width.
+    let half = (1usize << entry) * width;
     let blocks = 1usize << (top - 1 - entry);
-    layer(rule, values, width, half, number * blocks, blocks, products);
+    layer(rule, values, half, 1, number * blocks, blocks, products);
 }
 
 // By decimation in time, the layers of the entries below `to` down to `from`, on run `number`.
-#[inline(always)]
 fn dit_layers<F: TwoAdicField>(
     twiddles: &[F],
     values: &mut [F],
@@ -91,7 +90,6 @@ fn dit_layers<F: TwoAdicField>(
 }
 
 // By decimation in frequency, the layers of the entries from `from` up to `to`, on run `number`.
-#[inline(always)]
 fn dif_layers<F: TwoAdicField>(
     twiddles: &[F],
     values: &mut [F],
@@ -132,7 +130,6 @@ fn dif_layers<F: TwoAdicField>(
 
 // By decimation in time, the layers of the entries below `log_rows`, tile after tile: a tile has
 // `2^log_rows` rows, which these layers do not leave.
-#[inline(always)]
 fn dit_tiles<F: TwoAdicField>(
     twiddles: &[F],
     values: &mut [F],
@@ -165,7 +162,6 @@ fn dit_tiles<F: TwoAdicField>(
 
 // By decimation in frequency, the layers of the entries below `log_rows`, tile after tile, on the
 // values times `scale`.
-#[inline(always)]
 fn scaled_dif_tiles<F: TwoAdicField>(
     twiddles: &[F],
     scale: F,
@@ -221,36 +217,6 @@ pub(crate) fn dit_network<F: TwoAdicField>(
     ensures grows { products.old ≤ products.new }
     ensures cost { products.new ≤ products.old + width * (log_h * 2 ^ log_h / 2) }
 {
-    // One column is made apart: where the width is known, no loop along a row is left.
-    if width == 1 {
-        dit_network_of_width(twiddles, values, 1, log_rows, log_h, products);
-    } else {
-        dit_network_of_width(twiddles, values, width, log_rows, log_h, products);
-    }
-}
-
-// The same. Inlined, so that a width that the caller names is known in all layers.
-#[inline(always)]
-fn dit_network_of_width<F: TwoAdicField>(
-    twiddles: &[F],
-    values: &mut [F],
-    width: usize,
-    log_rows: usize,
-    log_h: usize,
-    products: &mut Products,
-)
-    requires wide { 1 ≤ width }
-    requires below { log_rows ≤ log_h }
-    requires some { 1 ≤ log_h }
-    requires small { log_h < 64 }
-    requires rooted { log_h ≤ F.TWO_ADICITY }
-    requires size { length values.old ≡ 2 ^ log_h * width }
-    requires twiddles { AreTwiddlesFromStart F.Field.own log_h (block_powers F.Field.own (forward_root F.Field.own F.generator)) twiddles.now }
-    ensures values { AreValuesOfRows F.Field.own width (2 ^ log_h) (λ q. q)
-        (λ r. power F.ring (F.value (F.generator log_h)) (rev log_h r)) values.old values.new }
-    ensures grows { products.old ≤ products.new }
-    ensures cost { products.new ≤ products.old + width * (log_h * 2 ^ log_h / 2) }
-{
     dit_layers(twiddles, values, width, log_rows, log_h, log_h, 0, products);
     dit_tiles(twiddles, values, width, log_rows, log_h, products);
 }
@@ -259,38 +225,6 @@ fn dit_network_of_width<F: TwoAdicField>(
 // inverse of the generator, in natural order: the layers whose blocks fit into a tile tile by tile,
 // then the others on the whole.
 pub(crate) fn scaled_dif_network<F: TwoAdicField>(
-    twiddles: &[F],
-    scale: F,
-    values: &mut [F],
-    width: usize,
-    log_rows: usize,
-    log_h: usize,
-    products: &mut Products,
-)
-    requires wide { 1 ≤ width }
-    requires below { log_rows ≤ log_h }
-    requires some { 1 ≤ log_h }
-    requires small { log_h < 64 }
-    requires rooted { log_h ≤ F.TWO_ADICITY }
-    requires size { length values.old ≡ 2 ^ log_h * width }
-    requires twiddles { AreTwiddlesFromStart F.Field.own log_h (block_powers F.Field.own (backward_root F.Field.own F.generator)) twiddles.now }
-    ensures values { (r j : ℕ) → r < 2 ^ log_h → j < width → F.value (get_or values.new (r * width + j) F.ZERO)
-        ≡ poly F.ring (2 ^ log_h) (λ q. F.ring.mul (F.value (get_or values.old (rev log_h q * width + j) F.ZERO)) (F.value scale))
-        (power F.ring (backward_root F.Field.own F.generator log_h) r) }
-    ensures grows { products.old ≤ products.new }
-    ensures cost { products.new ≤ products.old + width * (log_h * 2 ^ log_h / 2) + 2 ^ log_h * width }
-{
-    // One column is made apart: where the width is known, no loop along a row is left.
-    if width == 1 {
-        scaled_dif_network_of_width(twiddles, scale, values, 1, log_rows, log_h, products);
-    } else {
-        scaled_dif_network_of_width(twiddles, scale, values, width, log_rows, log_h, products);
-    }
-}
-
-// The same. Inlined, so that a width that the caller names is known in all layers.
-#[inline(always)]
-fn scaled_dif_network_of_width<F: TwoAdicField>(
     twiddles: &[F],
     scale: F,
     values: &mut [F],

@@ -9,7 +9,7 @@ use Rattle.p3_dft.proofs.Layers.Blocks.{row_below}
 use Rattle.p3_dft.proofs.Layers.Counts.{counted_twice, layers_joined, two_halves}
 use Rattle.p3_dft.proofs.Layers.Runs.{run_whole, whole_run}
 use Rattle.p3_dft.proofs.Networks.Cells.{high_cells, high_cells_end, high_cells_start, high_layers}
-use Rattle.p3_dft.proofs.radix_2_small_batch.networks.dit_network_of_width.Goals as goal
+use Rattle.p3_dft.proofs.radix_2_small_batch.networks.dit_network.Goals as goal
 
 pub dit_layers-requires-clause-small : goal.dit_layers-requires-clause-small
 dit_layers-requires-clause-small g c =

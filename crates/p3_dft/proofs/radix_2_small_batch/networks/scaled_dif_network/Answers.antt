@@ -12,7 +12,7 @@ use Rattle.p3_dft.proofs.Layers.Blocks.{row_below}
 use Rattle.p3_dft.proofs.Layers.Counts.{counted_twice, layers_joined, two_halves}
 use Rattle.p3_dft.proofs.Layers.Runs.{run_whole, whole_run}
 use Rattle.p3_dft.proofs.Networks.Cells.{turned_cells, turned_cells_end, turned_cells_start, turned_layers}
-use Rattle.p3_dft.proofs.radix_2_small_batch.networks.scaled_dif_network_of_width.Goals as goal
+use Rattle.p3_dft.proofs.radix_2_small_batch.networks.scaled_dif_network.Goals as goal
 
 pub dif_layers-requires-clause-small : goal.dif_layers-requires-clause-small
 dif_layers-requires-clause-small g c =
