@@ -86,6 +86,7 @@ impl<F: TwoAdicField> Radix2DitParallel<F> {
         ensures ready { HasBoth self.old log_h → IsOk result }
         ensures keeps { (k : ℕ) → HasBoth self.old k → HasBoth self.new k }
         ensures only { (k : ℕ) → HasBoth self.new k → HasBoth self.old k ⊎ (k ≤ log_h) }
+        ensures kept { (self.old.forward ≤ self.new.forward) × (self.old.inverse ≤ self.new.inverse) }
         ensures products { self.new.products ≡ self.old.products }
     {
         self.forward.make(alloc, log_h)?;
@@ -104,10 +105,10 @@ impl<F: TwoAdicField> Radix2DitParallel<F> {
 impl<F: TwoAdicField> TwoAdicSubgroupDft<F> for Radix2DitParallel<F> {
     ghost use Rattle.std.specs.Prelude.{◌≡◌, ⊤, ℕ, ◌+◌, ◌*◌, ◌/◌, ◌^◌, ◌≤◌, IfOk, IsOk, OnOk, Ok};
     ghost use Rattle.p3_matrix.specs.BitOrder.{reversed_rows};
-    ghost use Rattle.p3_matrix.specs.RowMajor.{RowMajor, height};
+    ghost use Rattle.p3_matrix.specs.RowMajor.{HasShapeOf, RowMajor, height};
     ghost use Rattle.p3_dft.specs.Engines.{AtLog, IsLater};
     ghost use Rattle.p3_dft.specs.Extensions.{IsTransformedExtension, extension_bound};
-    ghost use Rattle.p3_dft.specs.Shapes.{FitsDft, FitsLde, HasShapeOf};
+    ghost use Rattle.p3_dft.specs.Shapes.{FitsDft, FitsLde};
     ghost use Rattle.p3_dft.specs.Transforms.{IsInterpolation, IsTransform};
     ghost use Rattle.p3_dft.specs.Twiddles.{HasBoth};
     ghost use Rattle.p3_dft.specs.declared.traits.Layout.TheVariants.{Natural};
@@ -130,9 +131,9 @@ impl<F: TwoAdicField> TwoAdicSubgroupDft<F> for Radix2DitParallel<F> {
 
     ghost coset_promised_law = { λ e k prepared. prepared };
 
-    ghost default_law = { λ e new. new.1.1 };
+    ghost default_law = { λ e new. new.2 };
 
-    ghost clone_law = { λ e copy new. new.1.1 };
+    ghost clone_law = { λ e copy new. new.2 };
 
     /// As the trait says. `Ok` leaves the tables of the height there for good. A matrix of height one is
     /// its own transform: it is handed back, with no product and no memory taken.
@@ -144,6 +145,8 @@ impl<F: TwoAdicField> TwoAdicSubgroupDft<F> for Radix2DitParallel<F> {
         ensures values { IfOk result (λ out. IsTransform F.Field.own F.generator (N.stored mat) F.ring.one (reversed_rows out.bits out.physical)) }
         ensures succeeds { AtLog (height (N.stored mat)) (λ k. HasBoth self.old k → IsOk result) }
         ensures ready { AtLog (height (N.stored mat)) (λ k. k ≤ self.old.forward → IsOk result) }
+        ensures tables { AtLog (height (N.stored mat)) (λ k. OnOk result (k ≤ self.new.forward)) }
+        ensures kept { (self.old.forward ≤ self.new.forward) × (self.old.inverse ≤ self.new.inverse) }
         ensures later { IsLater HasBoth HasBoth (λ _ _. ⊤) (λ e. e.products) self.old self.new }
         ensures cost { AtLog (height (N.stored mat))
             (λ k. OnOk result (self.new.products ≤ self.old.products + (N.stored mat).width * (k * 2 ^ k / 2))) }
@@ -169,6 +172,8 @@ impl<F: TwoAdicField> TwoAdicSubgroupDft<F> for Radix2DitParallel<F> {
         ensures coefficients { IfOk result (λ out. IsInterpolation F.Field.own F.generator (N.stored mat) F.ring.one out) }
         ensures succeeds { AtLog (height (N.stored mat)) (λ k. HasBoth self.old k → IsOk result) }
         ensures ready { AtLog (height (N.stored mat)) (λ k. k ≤ self.old.inverse → IsOk result) }
+        ensures tables { AtLog (height (N.stored mat)) (λ k. OnOk result (k ≤ self.new.inverse)) }
+        ensures kept { (self.old.forward ≤ self.new.forward) × (self.old.inverse ≤ self.new.inverse) }
         ensures one_row { height (N.stored mat) ≡ 1 → (result ≡ Ok (N.stored mat)) × (self.new ≡ self.old) }
         ensures later { IsLater HasBoth HasBoth (λ _ _. ⊤) (λ e. e.products) self.old self.new }
         ensures cost { AtLog (height (N.stored mat))

@@ -8,6 +8,7 @@ ghost use Rattle.p3_dft.specs.Twiddles.{AreTwiddlesFromStart, IsPrepared, backwa
 
 mod networks;
 mod tables;
+
 use crate::traits::{Layout, TwoAdicSubgroupDft};
 use crate::util::reverse_rows;
 use networks::{dit_network, scaled_dif_network};

@@ -1,7 +1,12 @@
 // The public names of the crates below, each as a user of this crate alone writes it.
 
 use p3_dft::{
-    BabyBear, BabyBearX8, BitReversedMatrixView, Butterfly, DifButterfly, DifButterflyZeros, DitButterfly, Evaluations, Field, Goldilocks, IntoRowMajorMatrix, Lanes, Packable, Packed, PackedField, Products, RowMajorMatrix, RowMajorMatrixView, RowMajorMatrixViewMut, ScaledDitButterfly, TwiddleFreeButterfly, TwoAdicField, apply_dit_by_place, divide_by_height, log2_strict_usize, reverse_bits_len, reverse_matrix_index_bits, reverse_slice_index_bits, scale_slice_in_place, scaled, split_rows_mut, swap_rows,
+    BabyBear, BabyBearX8, BitReversedMatrixView, Butterfly, DifButterfly, DifButterflyZeros,
+    DitButterfly, Evaluations, Field, Goldilocks, IntoRowMajorMatrix, Lanes, Packable, Packed,
+    PackedField, Products, RowMajorMatrix, RowMajorMatrixView, RowMajorMatrixViewMut,
+    ScaledDitButterfly, TwiddleFreeButterfly, TwoAdicField, apply_dit_by_place, divide_by_height,
+    log2_strict_usize, reverse_bits_len, reverse_matrix_index_bits, reverse_slice_index_bits,
+    scale_slice_in_place, scaled, split_rows_mut, swap_rows,
 };
 use std::test::Fail;
 

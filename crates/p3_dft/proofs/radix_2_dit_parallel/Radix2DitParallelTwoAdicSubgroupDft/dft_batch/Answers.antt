@@ -44,3 +44,9 @@ returns-clause-cost g c k high =
     let products = ap (λ (e : ThereAndBack). e.products) c.self.view_is in
     let width = ap (λ (m : RowMajor g.row.F.Denot). m.width) c.into_row_major_matrix-mat.ensures in
     rw (← products, ← width, ← same) c.evaluate.ensures.cost
+
+pub returns-clause-tables : goal.returns-clause-tables
+returns-clause-tables g c k high =
+    let tall : c.height.result ≡ height (g.N.IntoRowMajorMatrix.stored c.args.mat) = c.height.ensures.height ∙ ap height c.into_row_major_matrix-mat.ensures in
+    let same : c.log2_strict_usize-log_h.result ≡ k = log_same _ k (sym c.log2_strict_usize-log_h.ensures.power ∙ tall ∙ high) in
+    omega (arith, same, c.in_ok-make.ensures.made)

@@ -77,3 +77,15 @@ returns-clause-cost g c k high =
     let products = ap (λ (e : ThereAndBack). e.products) c.self.view_is in
     let width = ap (λ (m : RowMajor g.row.F.Denot). m.width) c.into_row_major_matrix-mat.ensures in
     rw (← products, ← width, ← same) c.interpolate.ensures.cost
+
+pub returns-then-height-eq1-clause-tables : goal.returns-then-height-eq1-clause-tables
+returns-then-height-eq1-clause-tables g c k high =
+    let tall : c.height-height.result ≡ height (g.N.IntoRowMajorMatrix.stored c.args.mat) = c.height-height.ensures.height ∙ ap height c.into_row_major_matrix-mat.ensures in
+    let none : k ≡ 0 = log_same k 0 (sym high ∙ sym tall ∙ c.if-height-eq1.true) in
+    omega (arith, none)
+
+pub returns-clause-tables : goal.returns-clause-tables
+returns-clause-tables g c k high =
+    let tall : c.height-height.result ≡ height (g.N.IntoRowMajorMatrix.stored c.args.mat) = c.height-height.ensures.height ∙ ap height c.into_row_major_matrix-mat.ensures in
+    let same : c.log2_strict_usize-log_h.result ≡ k = log_same _ k (sym c.log2_strict_usize-log_h.ensures.power ∙ tall ∙ high) in
+    omega (arith, same, c.in_ok-make.ensures.made)
