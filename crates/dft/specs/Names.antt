@@ -24,6 +24,7 @@ engine_named word = behind word (
     (codes "naive", engine.Naive)
     ∷ (codes "dit", engine.Dit)
     ∷ (codes "bowers", engine.Bowers)
+    ∷ (codes "parallel", engine.Parallel)
     ∷ (codes "small", engine.Small)
     ∷ [])
 

@@ -29,6 +29,7 @@ pub enum EngineName {
     Naive,
     Dit,
     Bowers,
+    Parallel,
     Small,
 }
 
@@ -41,6 +42,7 @@ impl EngineName {
             "naive" => Some(EngineName::Naive),
             "dit" => Some(EngineName::Dit),
             "bowers" => Some(EngineName::Bowers),
+            "parallel" => Some(EngineName::Parallel),
             "small" => Some(EngineName::Small),
             _ => None,
         }

@@ -18,7 +18,8 @@ use crate::names::{EngineName, FieldName, Operation};
 use crate::sink::{Sink, write_text};
 use p3_dft::{
     BabyBear, CanonicalField, DftError, Goldilocks, Job, NaiveDft, Radix2Bowers,
-    Radix2DFTSmallBatch, Radix2Dit, RowMajorMatrix, TwoAdicSubgroupDft, run_jobs,
+    Radix2DFTSmallBatch, Radix2Dit, Radix2DitParallel, RowMajorMatrix, TwoAdicSubgroupDft,
+    run_jobs,
 };
 use std::alloc::Global;
 
@@ -174,6 +175,7 @@ fn answer_by<F: CanonicalField>(
         EngineName::Naive => answer_to(alloc, &mut NaiveDft::default(), job),
         EngineName::Dit => answer_to(alloc, &mut Radix2Dit::default(), job),
         EngineName::Bowers => answer_to(alloc, &mut Radix2Bowers::default(), job),
+        EngineName::Parallel => answer_to(alloc, &mut Radix2DitParallel::default(), job),
         EngineName::Small => answer_to(alloc, &mut Radix2DFTSmallBatch::default(), job),
     }
 }

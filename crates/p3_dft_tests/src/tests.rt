@@ -14,6 +14,7 @@ mod laws;
 mod naive;
 mod product;
 mod radix_2_dit;
+mod radix_2_dit_parallel;
 mod radix_2_small_batch;
 mod surface;
 mod util;
@@ -21,7 +22,8 @@ mod util;
 use engines::{LimitedDft, ReversedDft};
 use p3_dft::{
     BabyBear, CanonicalField, Evaluations, Field, Layout, NaiveDft, Radix2Bowers,
-    Radix2DFTSmallBatch, Radix2Dit, RowMajorMatrix, TwoAdicSubgroupDft, fits_dft, fits_lde,
+    Radix2DFTSmallBatch, Radix2Dit, Radix2DitParallel, RowMajorMatrix, TwoAdicSubgroupDft,
+    fits_dft, fits_lde,
 };
 use std::alloc::Global;
 use std::process::Abort;
@@ -245,6 +247,7 @@ fn on_every_engine<R: Abort, T: EngineTest>(rt: &R, alloc: Global, test: &T) -> 
     test.run(rt, alloc, &mut NaiveDft::default())?;
     test.run(rt, alloc, &mut Radix2Dit::default())?;
     test.run(rt, alloc, &mut Radix2Bowers::default())?;
+    test.run(rt, alloc, &mut Radix2DitParallel::default())?;
     test.run(rt, alloc, &mut Radix2DFTSmallBatch::default())?;
     test.run(rt, alloc, &mut LimitedDft::default())?;
     test.run(rt, alloc, &mut ReversedDft::default())
@@ -296,6 +299,36 @@ impl EngineTest for ColumnsBack {
 fn worked_columns(rt: HostRuntime) -> Result<(), Fail> {
     on_every_engine(&rt, rt.alloc(), &Columns)?;
     on_every_engine(&rt, rt.alloc(), &ColumnsBack)
+}
+
+// One column on cosets, each shift after others, and another column in between.
+struct ShiftsInTurn;
+
+impl EngineTest for ShiftsInTurn {
+    fn run<R: Abort, D: TwoAdicSubgroupDft<BabyBear>>(
+        &self,
+        rt: &R,
+        alloc: Global,
+        engine: &mut D,
+    ) -> Result<(), Fail> {
+        let shifts = [
+            (BabyBear::TWO, 13, 2013265918),
+            (BabyBear::from_u8(3), 17, 2013265914),
+            (BabyBear::TWO, 13, 2013265918),
+        ];
+        for (shift, first, second) in shifts {
+            let values = coset_dft_of(rt, alloc, engine, &[5, 4], shift)?;
+            assert!(rt; values == elements(alloc, &[first, second])?);
+            let values = coset_dft_of(rt, alloc, engine, &[1, 2, 3, 4], BabyBear::ZERO)?;
+            assert!(rt; values == elements(alloc, &[1, 1, 1, 1])?);
+        }
+        Ok(())
+    }
+}
+
+#[test]
+fn shifts_in_turn(rt: HostRuntime) -> Result<(), Fail> {
+    on_every_engine(&rt, rt.alloc(), &ShiftsInTurn)
 }
 
 // Worked extensions of one column.
@@ -441,6 +474,7 @@ fn told_layouts(rt: HostRuntime) -> Result<(), Fail> {
     assert!(rt; is_natural::<NaiveDft>());
     assert!(rt; is_natural::<Radix2Dit<BabyBear>>());
     assert!(rt; !is_natural::<Radix2Bowers>());
+    assert!(rt; is_natural::<Radix2DitParallel<BabyBear>>());
     assert!(rt; is_natural::<Radix2DFTSmallBatch<BabyBear>>());
     assert!(rt; is_natural::<LimitedDft>());
     assert!(rt; !is_natural::<ReversedDft>());

@@ -1,0 +1,50 @@
+// Where the rows lie, and what is prepared when.
+
+use super::elements;
+use p3_dft::{
+    BabyBear, Evaluations, Radix2DitParallel, RowMajorMatrix, TwoAdicSubgroupDft, fits_dft,
+};
+use std::test::Fail;
+
+#[test]
+fn rows_in_bit_reversed_order(rt: HostRuntime) -> Result<(), Fail> {
+    let alloc = rt.alloc();
+    let mut engine = Radix2DitParallel::<BabyBear>::default();
+    let column = RowMajorMatrix::new_col(elements(alloc, &[1, 2, 3, 4])?);
+    assert!(rt; fits_dft::<BabyBear>(column.height(), column.width()));
+    let values = engine.dft_batch(column)?;
+    let physical = elements(alloc, &[10, 2013265919, 569722814, 1443543103])?;
+    assert!(rt; *values.inner() == RowMajorMatrix::new_col(physical));
+    let natural = elements(alloc, &[10, 569722814, 2013265919, 1443543103])?;
+    assert!(rt; values.to_row_major_matrix() == RowMajorMatrix::new_col(natural));
+    Ok(())
+}
+
+#[test]
+fn heights_are_prepared(rt: HostRuntime) -> Result<(), Fail> {
+    let alloc = rt.alloc();
+    let mut engine = Radix2DitParallel::<BabyBear>::default();
+    assert!(rt; engine.is_prepared(0));
+    assert!(rt; !engine.is_prepared(1));
+    engine.prepare(alloc, 2)?;
+    assert!(rt; engine.is_prepared(1));
+    assert!(rt; engine.is_prepared(2));
+    assert!(rt; !engine.is_prepared(3));
+    assert!(rt; !engine.clone()?.is_prepared(1));
+    Ok(())
+}
+
+// A height that was only transformed is not prepared: the tables of the inverse are not there.
+#[test]
+fn transformed_is_not_prepared(rt: HostRuntime) -> Result<(), Fail> {
+    let alloc = rt.alloc();
+    let mut engine = Radix2DitParallel::<BabyBear>::default();
+    let column = elements(alloc, &[1, 2, 3, 4])?;
+    assert!(rt; fits_dft::<BabyBear>(column.len(), 1));
+    let values = engine.dft(column)?;
+    assert!(rt; !engine.is_prepared(2));
+    assert!(rt; fits_dft::<BabyBear>(values.len(), 1));
+    assert!(rt; engine.idft(values)? == elements(alloc, &[1, 2, 3, 4])?);
+    assert!(rt; engine.is_prepared(2));
+    Ok(())
+}
