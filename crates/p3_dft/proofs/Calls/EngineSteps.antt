@@ -1,5 +1,5 @@
 -- An engine after one call and then another.
-use Rattle.std.proofs.Common.{ℕ, ◌≡◌, ◌+◌, ◌≤◌, arith}
+use Rattle.std.proofs.Common.{ℕ, ◌≡◌, ◌+◌, arith}
 use Rattle.p3_dft.specs.Engines.{IsLater, SameNumbers}
 
 module _ {E : Type 0} (promised coset_promised served : E → ℕ → Type 0) (made : E → ℕ) where

@@ -1,5 +1,5 @@
 -- One table for all layers: where its entries are those of the last layer, its first entries are those of each layer.
-use Rattle.std.proofs.Common.{◌≡◌, ℕ, suc, ◌+◌, ◌-◌, ◌<◌, ◌≤◌, ◌^◌, List, length, get_or, sym, ap, ap₂, ◌∙◌, arith, lit≤}
+use Rattle.std.proofs.Common.{◌≡◌, ℕ, suc, ◌+◌, ◌-◌, ◌<◌, ◌≤◌, ◌^◌, List, ap, ap₂, ◌∙◌, arith, lit≤}
 use Rattle.std.proofs.Math.Nat.{pow-le-pow_right}
 use Rattle.p3_field.specs.Ring.{power, AreRoots}
 use Rattle.p3_field.specs.declared.fields.Field.{Ghosts as FieldMembers}

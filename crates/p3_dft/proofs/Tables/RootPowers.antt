@@ -1,5 +1,5 @@
 -- Powers of the generators, or of their inverses, as the halves of a network on the subgroup take them.
-use Rattle.std.proofs.Common.{◌≡◌, ℕ, ◌+◌, ◌*◌, ◌-◌, ◌<◌, ◌≤◌, ◌^◌, List, length, get_or, take, Bool, true, false, refl, sym, ap, ap₂, ◌∙◌, arith, rules, lit≤}
+use Rattle.std.proofs.Common.{◌≡◌, ℕ, ◌+◌, ◌-◌, ◌<◌, ◌≤◌, ◌^◌, List, length, get_or, take, Bool, true, false, sym, ap, ◌∙◌, arith, rules, lit≤}
 use Rattle.std.proofs.Math.Nat.{pow-le-pow_right}
 use Rattle.std.proofs.lemmas.List.{places}
 use Rattle.p3_field.specs.Ring.{Ring, AreRoots, power}

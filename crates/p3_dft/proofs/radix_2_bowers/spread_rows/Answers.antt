@@ -1,4 +1,4 @@
-use Rattle.std.proofs.Common.{◌≡◌, ℕ, zero, suc, ◌+◌, ◌*◌, ◌-◌, ◌/◌, ◌%◌, ◌^◌, ◌<◌, ◌≤◌, get_or, sym, ap, ap₂, ◌∙◌, subst, arith, rules}
+use Rattle.std.proofs.Common.{◌≡◌, ℕ, zero, suc, ◌+◌, ◌*◌, ◌-◌, ◌%◌, ◌^◌, ◌<◌, ◌≤◌, get_or, sym, ap, ◌∙◌, subst, arith, rules}
 use Rattle.std.proofs.Math.Nat.{mod-eq_of_lt, mul-le-mul_right, two-pow-succ}
 use Rattle.std.proofs.lemmas.Nat.{pow_pos}
 use Rattle.p3_matrix.specs.RowMajor.{RowMajor, height}

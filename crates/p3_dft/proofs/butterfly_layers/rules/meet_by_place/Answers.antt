@@ -1,4 +1,4 @@
-use Rattle.std.proofs.Common.{◌≡◌, ℕ, suc, zero, ◌+◌, ◌-◌, ◌<◌, List, [], ◌∷◌, length, get_or, map, take, drop, ap, ap₂, ◌∙◌, arith, rules}
+use Rattle.std.proofs.Common.{◌≡◌, ℕ, suc, zero, ◌+◌, ◌-◌, ◌<◌, List, [], ◌∷◌, length, get_or, map, take, drop, ap, ◌∙◌, arith, rules}
 use Rattle.p3_field.specs.Lanes.{by_lanes}
 use Rattle.p3_field.specs.Ring.{minus}
 use Rattle.p3_dft.proofs.Rows.Overwritten.{part_at}

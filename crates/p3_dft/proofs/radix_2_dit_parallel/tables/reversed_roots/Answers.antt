@@ -1,9 +1,9 @@
-use Rattle.std.proofs.Common.{◌≡◌, ℕ, ◌-◌, ◌^◌, List, Result, Ok, Err, get_or, ap, ap₂, ◌∙◌}
+use Rattle.std.proofs.Common.{◌-◌, ap, ap₂, ◌∙◌}
 use Rattle.std.proofs.lemmas.Result.{IfOk-weaker}
 use Rattle.p3_field.specs.Ring.{power}
 use Rattle.p3_field.proofs.Rings
 use Rattle.p3_matrix.specs.BitOrder.{rev}
-use Rattle.p3_dft.specs.Twiddles.{AreTwiddles, root_of}
+use Rattle.p3_dft.specs.Twiddles.{root_of}
 use Rattle.p3_dft.proofs.radix_2_dit_parallel.tables.reversed_roots.Goals as goal
 
 pub returns : goal.returns

@@ -1,5 +1,5 @@
-use Rattle.std.proofs.Common.{◌≡◌, inl, ℕ, zero, suc, ◌*◌, ◌+◌, ◌/◌, ◌^◌, ◌≤◌, List, Result, Ok, Err, IsOk, refl, sym, ap, ap₂, ◌∙◌, subst, arith, rules}
-use Rattle.p3_matrix.specs.RowMajor.{RowMajor, height}
+use Rattle.std.proofs.Common.{◌≡◌, inl, ℕ, zero, suc, ◌^◌, ◌≤◌, Result, Ok, Err, IsOk, refl, sym, ap, ◌∙◌, subst, arith, rules}
+use Rattle.p3_matrix.specs.RowMajor.{height}
 use Rattle.p3_matrix.proofs.TwoPowers.{log_same}
 use Rattle.p3_dft.specs.Twiddles.{Tabled, IsPrepared, backward_root, block_powers}
 use Rattle.p3_dft.proofs.Tables.FromStart.{fewer_from_start}

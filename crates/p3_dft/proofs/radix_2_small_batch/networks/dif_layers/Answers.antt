@@ -1,4 +1,4 @@
-use Rattle.std.proofs.Common.{◌≡◌, ℕ, ◌+◌, ◌-◌, ◌*◌, ◌^◌, ◌<◌, ◌≤◌, length, get_or, sym, ap, ap₂, ◌∙◌, subst, arith}
+use Rattle.std.proofs.Common.{◌≡◌, ℕ, ◌+◌, ◌-◌, ◌*◌, ◌≤◌, length, sym, ap, subst, arith}
 use Rattle.p3_dft.specs.Layers.{HoldsCells}
 use Rattle.p3_dft.proofs.Layers.Runs.{layer_more, twiddles_enough}
 use Rattle.p3_dft.proofs.radix_2_small_batch.networks.dif_layers.Goals as goal

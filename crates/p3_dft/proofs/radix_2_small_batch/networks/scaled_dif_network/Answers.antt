@@ -1,4 +1,4 @@
-use Rattle.std.proofs.Common.{◌≡◌, ℕ, suc, ◌+◌, ◌-◌, ◌*◌, ◌/◌, ◌%◌, ◌^◌, ◌<◌, ◌≤◌, length, get_or, refl, sym, ap, ap₂, ◌∙◌, subst, arith, lit≤}
+use Rattle.std.proofs.Common.{◌≡◌, ℕ, ◌+◌, ◌-◌, ◌*◌, ◌^◌, ◌≤◌, length, get_or, ap, ◌∙◌, subst, arith, lit≤}
 use Rattle.std.proofs.Math.Nat.{pow-le-pow_right}
 use Rattle.std.proofs.lemmas.Nat.{pow_pos}
 use Rattle.p3_field.specs.Ring.{power}
@@ -7,7 +7,6 @@ use Rattle.p3_field.proofs.Roots.{inverse_root, inverse_roots}
 use Rattle.p3_matrix.specs.BitOrder.{rev}
 use Rattle.p3_matrix.proofs.BitReversal.{rev_of_zero, rev-rev}
 use Rattle.p3_dft.specs.Layers.{HoldsCells}
-use Rattle.p3_dft.specs.Polynomials.{poly}
 use Rattle.p3_dft.proofs.Layers.Blocks.{row_below}
 use Rattle.p3_dft.proofs.Layers.Counts.{counted_twice, layers_joined, two_halves}
 use Rattle.p3_dft.proofs.Layers.Runs.{run_whole, whole_run}

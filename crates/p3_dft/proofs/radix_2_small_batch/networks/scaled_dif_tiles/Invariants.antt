@@ -1,4 +1,4 @@
-use Rattle.std.proofs.Common.{◌≡◌, ℕ, ◌+◌, ◌*◌, ◌≤◌, get_or}
+use Rattle.std.proofs.Common.{ℕ, ◌+◌, ◌*◌, ◌≤◌, get_or}
 use Rattle.p3_matrix.specs.Butterflies.{dif_far, dif_near}
 use Rattle.p3_dft.specs.Layers.{AreLayers, HoldsCells}
 use Rattle.p3_dft.proofs.Layers.Tiles.{InTiles}

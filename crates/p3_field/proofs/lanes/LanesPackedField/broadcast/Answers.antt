@@ -1,4 +1,3 @@
-use Rattle.std.proofs.Common.{sym}
 use Rattle.p3_field.proofs.LaneLoops.{map-replicate}
 use Rattle.p3_field.proofs.lanes.LanesPackedField.broadcast.Goals as goal
 

@@ -1,4 +1,4 @@
-use Rattle.std.proofs.Common.{◌≡◌, map, length, replicate}
+use Rattle.std.proofs.Common.{◌≡◌, map, length}
 use Rattle.p3_field.proofs.LaneLoops.{until}
 use Rattle.p3_field.proofs.lanes.LanesPackedField.load.Given as goal
 

@@ -1,4 +1,4 @@
-use Rattle.std.proofs.Common.{rules, sym, ◌∙◌, arith, map, length}
+use Rattle.std.proofs.Common.{rules, sym, ◌∙◌, arith, map}
 use Rattle.std.proofs.lemmas.List.{length-map, get_or-map}
 use Rattle.p3_field.proofs.LaneLoops.{written, all_written}
 use Rattle.p3_field.proofs.lanes.LanesPackedField.store.Goals as goal

@@ -1,4 +1,4 @@
-use Rattle.std.proofs.Common.{◌≡◌, ℕ, ◌+◌, ◌-◌, ◌^◌, ap, ◌∙◌, sym, arith, subst}
+use Rattle.std.proofs.Common.{◌≡◌, ◌+◌, ◌-◌, ◌^◌, ap, ◌∙◌, sym, arith, subst}
 use Rattle.p3_field.proofs.Roots.{inverse_roots}
 use Rattle.p3_dft.specs.Twiddles.{AreTwiddles, backward_root, block_powers, forward_root}
 use Rattle.p3_dft.proofs.Tables.FromStart.{from_start, powers_from_one}
