@@ -119,7 +119,7 @@ const FIRST_TEXT: &str = "9 5 0\n1 2013265920 0\n";
 
 #[test]
 fn answers(rt: HostRuntime) -> Result<(), Fail> {
-    let rows: [(&[&str], &str); 18] = [
+    let rows: [(&[&str], &str); 20] = [
         (&FIRST_WORDS, FIRST_TEXT),
         (
             &["babybear", "naive", "dft", "1", "1", "2", "3", "4"],
