@@ -23,8 +23,8 @@ use std::marker::Model;
 /// products.
 ///
 /// The twiddles that a height needs are kept from its first transform on, or from `prepare`, until the
-/// engine ends; then `dft_batch` and the calls that stand on it take no memory at that height. A
-/// layer has the same twiddles at each height, so that smaller heights are prepared with it. A new
+/// engine ends; then `dft_batch` and the calls that stand on it, but for extensions, take no memory at
+/// that height. A layer has the same twiddles at each height, so that smaller heights are prepared with it. A new
 /// engine and a clone have no twiddles and take no memory.
 ///
 /// Contracts see which heights are prepared and how many products were made.
@@ -71,7 +71,8 @@ impl<F: TwoAdicField> Clone for Radix2Dit<F> {
 impl<F: TwoAdicField> Radix2Dit<F> {
     /// Makes the twiddles for height `2^log_h`, from when on transforms of that height and of smaller
     /// ones take no memory. It takes none itself where the height is prepared already, as height one
-    /// always is. Where memory is refused, the engine is as before.
+    /// always is. `log_h` is at most `TWO_ADICITY`, and a `usize` holds the height. Where memory is
+    /// refused, the engine is as before.
     pub fn prepare(&mut self, alloc: Global, log_h: usize) -> Result<(), DftError>
         requires within { log_h ≤ F.TWO_ADICITY }
         requires size { 2 ^ log_h < 2 ^ 64 }

@@ -23,12 +23,13 @@ use std::marker::Model;
 /// of the layers is done on each run of rows in turn, the rows are reversed again, and the second half
 /// is done on each run of rows in turn. A run has about as many rows as the square root of the height,
 /// so that it stays in the cache for all layers of its half. The values are left in bit reversed order.
-/// At height `2^k` and width w that is at most `w * k * 2^k / 2` products.
+/// At height `2^k` and width w that is at most `w * k * 2^k / 2` products, and `w * 2^k` more for an
+/// inverse.
 ///
 /// Powers of the generators and of their inverses are kept until the engine ends: those of a height from
 /// its first transform, or inverse, on, or from `prepare`. Where both are there, the height is prepared,
-/// and smaller ones are with it: `dft_batch`, `idft_batch` and the calls that stand on them then take no
-/// memory. A new engine and a clone have no tables and take no memory.
+/// and smaller ones are with it: `dft_batch`, `idft_batch` and the calls that stand on them, but for
+/// extensions, then take no memory. A new engine and a clone have no tables and take no memory.
 ///
 /// Contracts see up to which heights there are tables of either kind, and how many products were made.
 #[derive(Drop)]
@@ -78,7 +79,9 @@ impl<F: TwoAdicField> Clone for Radix2DitParallel<F> {
 impl<F: TwoAdicField> Radix2DitParallel<F> {
     /// Makes the tables for height `2^log_h`, those of the inverse too, from when on transforms and
     /// inverses of that height and of smaller ones take no memory. It takes none itself where the height
-    /// is prepared already, as height one always is. Where memory is refused, no table is lost.
+    /// is prepared already, as height one always is. `log_h` is at most `TWO_ADICITY`, and a `usize`
+    /// holds the height. Where memory is refused, no table is lost, and those of one direction may be
+    /// larger.
     pub fn prepare(&mut self, alloc: Global, log_h: usize) -> Result<(), DftError>
         requires within { log_h ≤ F.TWO_ADICITY }
         requires size { 2 ^ log_h < 2 ^ 64 }
@@ -93,7 +96,7 @@ impl<F: TwoAdicField> Radix2DitParallel<F> {
         self.inverse.make(alloc, log_h)
     }
 
-    /// Whether transforms and inverses of height `2^log_h` take no memory. Height one always is
+    /// Whether transforms and inverses of height `2^log_h` both take no memory. Height one always is
     /// prepared.
     pub fn is_prepared(&self, log_h: usize) -> bool
         ensures { IsTrue result ↔ HasBoth self.now log_h }

@@ -27,9 +27,9 @@ const TILE: usize = 8192;
 /// `w * 2^k` more for an inverse, which has a network of its own.
 ///
 /// Two tables of twiddles are kept for the largest height so far, from its first transform on, or from
-/// `prepare`, until the engine ends; then `dft_batch`, `idft_batch` and the calls that stand on them
-/// take no memory at that height and at smaller ones. A `default` engine and a clone have no tables
-/// and take no memory.
+/// `prepare`, until the engine ends; then `dft_batch`, `idft_batch` and the calls that stand on them,
+/// but for extensions, take no memory at that height and at smaller ones. A `default` engine and a
+/// clone, which has the tile of the other, have no tables and take no memory.
 ///
 /// Contracts see which heights are prepared and how many products were made. A tile of any size gives
 /// the same answers.
@@ -89,7 +89,8 @@ impl<F: TwoAdicField> Radix2DFTSmallBatch<F> {
     }
 
     /// An engine that is prepared for height `n` and smaller ones. `n` is at most one, which takes no
-    /// memory, or a power of two of at most `2^TWO_ADICITY`.
+    /// memory, or a power of two of at most `2^TWO_ADICITY`. Its tiles have about 8192 elements. An
+    /// error is want of memory for the tables.
     pub fn new(alloc: Global, n: usize) -> Result<Self, DftError>
         requires { 2 ≤ n → (k : ℕ) × (n ≡ 2 ^ k) × (k ≤ F.TWO_ADICITY) }
         ensures prepares { AtLog n (λ k. IfOk result (λ e. IsPrepared e k)) }
@@ -101,7 +102,8 @@ impl<F: TwoAdicField> Radix2DFTSmallBatch<F> {
     }
 
     /// The same with tiles of about `tile` elements: as many rows as have that many, up to the next
-    /// power of two, and at least one. `tile` is from one to `2^32`.
+    /// power of two, and at least one. `tile` is from one to `2^32`. An error is want of memory for the
+    /// tables.
     pub fn with_tile(alloc: Global, n: usize, tile: usize) -> Result<Self, DftError>
         requires height { 2 ≤ n → (k : ℕ) × (n ≡ 2 ^ k) × (k ≤ F.TWO_ADICITY) }
         requires some { 1 ≤ tile }
@@ -121,7 +123,8 @@ impl<F: TwoAdicField> Radix2DFTSmallBatch<F> {
 
     /// Makes the tables for height `2^log_h`, from when on transforms of that height and of smaller
     /// ones take no memory. It takes none itself where the height is prepared already, as height one
-    /// always is. Where memory is refused, the engine is as before.
+    /// always is. `log_h` is at most `TWO_ADICITY`, and a `usize` holds the height. Where memory is
+    /// refused, the engine is as before.
     pub fn prepare(&mut self, alloc: Global, log_h: usize) -> Result<(), DftError>
         requires within { log_h ≤ F.TWO_ADICITY }
         requires size { 2 ^ log_h < 2 ^ 64 }

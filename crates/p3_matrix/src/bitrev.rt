@@ -10,7 +10,7 @@ use crate::util::{exchange, log2_strict_usize};
 use crate::views::RowMajorMatrixViewMut;
 use std::marker::Model;
 
-/// What consists of rows.
+/// What has rows: contracts see how many.
 pub trait Rows {
     // How many rows there are.
     ghost rows: { Self → ℕ };
@@ -79,7 +79,8 @@ impl<T> BitReversedMatrixView<RowMajorMatrix<T>> {
 }
 
 impl<T> RowMajorMatrix<T> {
-    /// The matrix seen in bit reversed order. Nothing is moved. The height is a power of two.
+    /// The matrix seen in bit reversed order: its row i is the view's row whose number has the digits
+    /// of i in reverse. Nothing is moved. The height is a power of two.
     pub fn bit_reverse_rows(self) -> BitReversedMatrixView<RowMajorMatrix<T>>
         requires { (k : ℕ) × (height self ≡ 2 ^ k) }
         ensures matrix { result.physical ≡ self }
