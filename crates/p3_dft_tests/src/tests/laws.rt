@@ -11,7 +11,7 @@ ghost use Rattle.p3_dft.specs.Extensions.{IsExtension};
 ghost use Rattle.p3_dft.specs.Jobs.{CanRun};
 ghost use Rattle.p3_dft.specs.Polynomials.{value};
 ghost use Rattle.p3_dft.specs.Shapes.{FitsDft, FitsLde};
-ghost use Rattle.p3_dft.specs.Transforms.{IsTransform, values_of};
+ghost use Rattle.p3_dft.specs.Transforms.{IsInterpolation, IsTransform, values_of};
 
 use super::{Matrix, elements, has_inverse, matrix};
 use p3_dft::{
@@ -126,6 +126,27 @@ fn extended_by_one<F: TwoAdicField, D: TwoAdicSubgroupDft<F>>(
     ensures { IfOk result (λ out. IsExtension F.Field.own F.generator mat added_bits F.ring.one (D.Evaluations.natural out)) }
 {
     engine.coset_lde_batch(mat, added_bits, F::ONE)
+}
+
+// A transform and an inverse with shift one are those on the subgroup.
+fn transformed_by_one<F: TwoAdicField, D: TwoAdicSubgroupDft<F>>(
+    engine: &mut D,
+    mat: RowMajorMatrix<F>,
+) -> Result<D::Evaluations, DftError>
+    requires { FitsDft F.TWO_ADICITY (height mat) mat.width }
+    ensures { IfOk result (λ out. IsTransform F.Field.own F.generator mat F.ring.one (D.Evaluations.natural out)) }
+{
+    engine.coset_dft_batch(mat, F::ONE)
+}
+
+fn inverted_by_one<F: TwoAdicField, D: TwoAdicSubgroupDft<F>>(
+    engine: &mut D,
+    mat: RowMajorMatrix<F>,
+) -> Result<RowMajorMatrix<F>, DftError>
+    requires { FitsDft F.TWO_ADICITY (height mat) mat.width }
+    ensures { IfOk result (λ back. IsInterpolation F.Field.own F.generator mat F.ring.one back) }
+{
+    engine.coset_idft_batch(mat, F::ONE)
 }
 
 // The input's rows stand in an extension, 2^added_bits apart.
@@ -448,6 +469,48 @@ fn inverses_of_a_sum<F: TwoAdicField, D: TwoAdicSubgroupDft<F>>(
     let first = engine.idft_batch(given.first)?;
     let second = engine.idft_batch(given.second)?;
     let third = engine.idft_batch(given.third)?;
+    Ok(Three {
+        first,
+        second,
+        third,
+    })
+}
+
+// So is the extension of a sum of multiples.
+fn extensions_of_a_sum<F: TwoAdicField, D: TwoAdicSubgroupDft<F>>(
+    engine: &mut D,
+    given: Three<F>,
+    a: F,
+    b: F,
+    added_bits: usize,
+    shift: F,
+) -> Result<Three<F>, DftError>
+    requires fits { FitsLde F.TWO_ADICITY (height given.first) given.first.width added_bits }
+    requires shape { HasShapeOf given.second given.first }
+    requires sum { Same (values_of F.Field.own given.third) (record {
+      height = height given.first;
+      width = given.first.width;
+      entry = λ i j.
+          F.ring.add (F.ring.mul (F.value a) ((values_of F.Field.own given.first).entry i j))
+          (F.ring.mul (F.value b) ((values_of F.Field.own given.second).entry i j));
+    }) }
+    ensures { IfOk result (λ out. Same (values_of F.Field.own out.third) (record {
+      height = height out.first;
+      width = out.first.width;
+      entry = λ i j.
+          F.ring.add (F.ring.mul (F.value a) ((values_of F.Field.own out.first).entry i j))
+          (F.ring.mul (F.value b) ((values_of F.Field.own out.second).entry i j));
+    })) }
+{
+    let first = engine
+        .coset_lde_batch(given.first, added_bits, shift)?
+        .to_row_major_matrix();
+    let second = engine
+        .coset_lde_batch(given.second, added_bits, shift)?
+        .to_row_major_matrix();
+    let third = engine
+        .coset_lde_batch(given.third, added_bits, shift)?
+        .to_row_major_matrix();
     Ok(Three {
         first,
         second,
