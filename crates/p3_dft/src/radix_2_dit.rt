@@ -95,7 +95,7 @@ impl<F: TwoAdicField> Radix2Dit<F> {
 }
 
 impl<F: TwoAdicField> TwoAdicSubgroupDft<F> for Radix2Dit<F> {
-    ghost use Rattle.std.specs.Prelude.{◌≡◌, ℕ, ◌+◌, ◌*◌, ◌/◌, ◌-◌, ◌^◌, ◌≤◌, IfOk, IsOk, OnOk, Ok};
+    ghost use Rattle.std.specs.Prelude.{◌≡◌, ◌⊎◌, ℕ, ◌+◌, ◌*◌, ◌/◌, ◌-◌, ◌^◌, ◌≤◌, IfOk, IsOk, OnErr, OnOk, Ok};
     ghost use Rattle.p3_matrix.specs.RowMajor.{HasShapeOf, RowMajor, height};
     ghost use Rattle.p3_dft.specs.Engines.{AtLog, IsLater};
     ghost use Rattle.p3_dft.specs.Extensions.{IsTransformedExtension};
@@ -128,13 +128,16 @@ impl<F: TwoAdicField> TwoAdicSubgroupDft<F> for Radix2Dit<F> {
 
     ghost clone_law = { λ e copy new. new.1 };
 
-    /// As the trait says. `Ok` makes the height prepared for good. A matrix of height one is its own
-    /// transform: it is handed back, with no product and no memory taken.
+    /// As the trait says. `Ok` makes the height prepared for good, and no larger one; an error leaves the
+    /// engine as it was. A matrix of height one is its own transform: it is handed back, with no product
+    /// and no memory taken.
     fn dft_batch<N: IntoRowMajorMatrix<F>>(&mut self, mat: N) -> Result<RowMajorMatrix<F>, DftError>
         requires { FitsDft F.TWO_ADICITY (height (N.stored mat)) (N.stored mat).width }
         ensures values { IfOk result (λ out. IsTransform F.Field.own F.generator (N.stored mat) F.ring.one out) }
         ensures succeeds { AtLog (height (N.stored mat)) (λ k. IsPrepared self.old k → IsOk result) }
         ensures serves { AtLog (height (N.stored mat)) (λ k. OnOk result (IsPrepared self.new k)) }
+        ensures only { AtLog (height (N.stored mat)) (λ k. (n : ℕ) → IsPrepared self.new n → IsPrepared self.old n ⊎ (n ≤ k)) }
+        ensures refused { OnErr result (self.new ≡ self.old) }
         ensures one_row { height (N.stored mat) ≡ 1 → (result ≡ Ok (N.stored mat)) × (self.new ≡ self.old) }
         ensures later { IsLater IsPrepared IsPrepared IsPrepared (λ e. e.products) self.old self.new }
         ensures cost { AtLog (height (N.stored mat))

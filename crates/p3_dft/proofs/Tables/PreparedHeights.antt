@@ -13,3 +13,8 @@ until_prepared n k (inr (i, inside, is)) =
     let below : i < n = omega (arith, inside, length-range_with_len 1 n) in
     let at = get_or-range_with_len 1 n i k below in
     omega (arith, is, at, below)
+
+-- which ones were prepared before, where tables were made for one more height
+pub prepared_before : (old new log n : ℕ) → (new ≡ old) ⊎ (new ≡ log) → (n ≡ 0) ⊎ Contains (range_with_len 1 new) n → ((n ≡ 0) ⊎ Contains (range_with_len 1 old) n) ⊎ (n ≤ log)
+prepared_before old new log n (inl same) now = inl (prepared_until old n (let held = until_prepared new n now in omega (arith, held, same)))
+prepared_before old new log n (inr made) now = inr (let held = until_prepared new n now in omega (arith, held, made))

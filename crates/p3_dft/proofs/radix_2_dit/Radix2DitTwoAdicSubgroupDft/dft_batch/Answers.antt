@@ -1,9 +1,10 @@
-use Rattle.std.proofs.Common.{◌≡◌, inl, ℕ, ◌≤◌, List, Result, Ok, Err, IsOk, sym, ap, ap₂, ◌∙◌, subst, arith, rules}
+use Rattle.std.proofs.Common.{◌≡◌, ◌⊎◌, inl, inr, ℕ, ◌≤◌, List, Result, Ok, Err, IsOk, sym, ap, ap₂, ◌∙◌, subst, arith, rules}
+use Rattle.std.specs.List.{range_with_len}
 use Rattle.p3_matrix.specs.RowMajor.{RowMajor, height}
 use Rattle.p3_matrix.proofs.TwoPowers.{log_same}
 use Rattle.p3_dft.specs.Twiddles.{Tabled, IsPrepared, layer_powers}
 use Rattle.p3_dft.proofs.Tables.MoreTwiddles.{fewer_layers}
-use Rattle.p3_dft.proofs.Tables.PreparedHeights.{prepared_until, until_prepared}
+use Rattle.p3_dft.proofs.Tables.PreparedHeights.{prepared_before, prepared_until, until_prepared}
 use Rattle.p3_dft.proofs.BitReversed.Rows.{transform_of_row}
 use Rattle.p3_dft.proofs.radix_2_dit.Radix2DitTwoAdicSubgroupDft.dft_batch.Goals as goal
 
@@ -60,6 +61,22 @@ returns-clause-serves g c k high =
     let log = c.log2_strict_usize-log_h.result in
     let same : log ≡ k = log_same log k (sym c.log2_strict_usize-log_h.ensures.power ∙ tall ∙ high) in
     prepared_until _ k (omega (arith, same, c.in_ok-make.ensures.made))
+
+or_below : {P : Type 0} (n log k : ℕ) → log ≡ k → P ⊎ (n ≤ log) → P ⊎ (n ≤ k)
+or_below n log k same (inl before) = inl before
+or_below n log k same (inr below) = inr (omega (arith, below, same))
+
+pub returns-in_err-make-clause-only : goal.returns-in_err-make-clause-only
+returns-in_err-make-clause-only g c k high n now =
+    inl (subst (λ (e : Tabled). IsPrepared e n) c.self.view_is (subst (λ (t : ℕ). IsPrepared (record { prepared = range_with_len 1 t; products = c.self.inside.products }) n) c.in_err-make.ensures.refused now))
+
+pub returns-clause-only : goal.returns-clause-only
+returns-clause-only g c k high n now =
+    let tall : c.height-height.result ≡ height (g.N.IntoRowMajorMatrix.stored c.args.mat) = c.height-height.ensures.height ∙ ap height c.into_row_major_matrix-mat.ensures in
+    let log = c.log2_strict_usize-log_h.result in
+    let same : log ≡ k = log_same log k (sym c.log2_strict_usize-log_h.ensures.power ∙ tall ∙ high) in
+    or_below n log k same
+    (subst (λ (e : Tabled). IsPrepared e n ⊎ (n ≤ log)) c.self.view_is (prepared_before c.self.inside.twiddles c.make.new.self log n c.make.ensures.only now))
 
 pub returns-clause-later : goal.returns-clause-later
 returns-clause-later g c =
