@@ -1,3 +1,4 @@
+pub mod Combinations
 pub mod Cosets
 pub mod Engines
 pub mod Extensions

@@ -1,9 +1,10 @@
 //! Tests of `p3_dft` through its public names, as a crate of a user's sees them.
 //!
 //! They stand in a crate of their own since a crate with tests is proved once more with them. Beside
-//! them stands a client, the product of two polynomials.
+//! them stand two clients, the product of two polynomials and a transform on a coset that is undone.
 #![tactic(auto)]
 
 pub mod product;
 #[cfg(test)]
 mod tests;
+pub mod there_and_back;

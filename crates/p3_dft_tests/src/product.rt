@@ -5,7 +5,7 @@
 
 ghost use Rattle.std.specs.Prelude.{◌≡◌, ℕ, ◌+◌, ◌<◌, ◌≤◌, IfOk, get_or, length, map, vec_len};
 ghost use Rattle.p3_dft.specs.Cosets.{point};
-ghost use Rattle.p3_dft.specs.Engines.{AtLog};
+ghost use Rattle.p3_dft.specs.Engines.{AtLog, IsLater};
 ghost use Rattle.p3_dft.specs.Polynomials.{convolution, value};
 ghost use Rattle.p3_dft.specs.Shapes.{FitsDft};
 
@@ -23,6 +23,7 @@ fn values<F: TwoAdicField, D: TwoAdicSubgroupDft<F>>(
     ensures long { IfOk result (λ out. length out.items ≡ size) }
     ensures values { IfOk result (λ out. AtLog size (λ k. (i : ℕ) → i < size → F.value (get_or out.items i F.ZERO)
         ≡ value F.ring (map F.value coefficients.items) (point F.ring (λ n. F.value (F.generator n)) k F.ring.one i))) }
+    ensures later { IsLater D.promised D.coset_promised D.served D.made engine.old engine.new }
 {
     let missing = size - coefficients.len();
     extend_by_zeros(&mut coefficients, missing)?;
@@ -43,7 +44,7 @@ fn entry_products<F: TwoAdicField>(mut entries: Vec<F>, others: &[F]) -> Vec<F>
 }
 
 /// The product of two polynomials in `size` coefficients, of which it needs one less than both have
-/// together; zeros stand behind it.
+/// together; zeros stand behind it. What the engine promised it promises still, also after an error.
 pub fn product<F: TwoAdicField, D: TwoAdicSubgroupDft<F>>(
     engine: &mut D,
     a: Vec<F>,
@@ -57,6 +58,7 @@ pub fn product<F: TwoAdicField, D: TwoAdicSubgroupDft<F>>(
     ensures long { IfOk result (λ out. length out.items ≡ size) }
     ensures coefficients { IfOk result (λ out. (n : ℕ) → F.value (get_or out.items n F.ZERO)
         ≡ convolution F.ring (map F.value a.items) (map F.value b.items) n) }
+    ensures later { IsLater D.promised D.coset_promised D.served D.made engine.old engine.new }
 {
     let entries = values(engine, a, size)?;
     let others = values(engine, b, size)?;

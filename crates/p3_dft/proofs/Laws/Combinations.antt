@@ -2,22 +2,11 @@
 use Rattle.std.proofs.Common.{◌≡◌, ℕ, ◌+◌, ◌-◌, ◌<◌, ◌≤◌, ltb, cond, lt-ltb, le-ltb, refl, sym, ap, ap₂, ◌∙◌, arith}
 use Rattle.p3_field.specs.Ring.{Ring}
 use Rattle.p3_matrix.specs.Matrix.{Matrix}
+use Rattle.p3_dft.specs.Combinations.{alone, combination, lengthened}
 use Rattle.p3_dft.specs.Cosets.{point, IsValues, coset_shift}
 use Rattle.p3_dft.specs.Polynomials.{poly}
 use Rattle.p3_dft.proofs.Polynomials.Cosets.{entry-poly, is_values, point-mul, point_of_one, values_from}
 use Rattle.p3_dft.proofs.Polynomials.ByIndex.{poly_same, poly_padded, poly-add, poly-scaled, poly-times}
-
--- a times x and b times y, entry by entry
-abbrev pub combination : {A : Type 0} → Ring A → A → Matrix A → A → Matrix A → Matrix A
-combination r a x b y = record { height = x.height; width = x.width; entry = λ i j. r.add (r.mul a (x.entry i j)) (r.mul b (y.entry i j)) }
-
--- column j as a matrix of its own
-abbrev pub alone : {A : Type 0} → ℕ → Matrix A → Matrix A
-alone j m = record { height = m.height; width = 1; entry = λ i _. m.entry i j }
-
--- m with rows of z below it, up to height h
-abbrev pub lengthened : {A : Type 0} → A → ℕ → Matrix A → Matrix A
-lengthened z h m = record { height = h; width = m.width; entry = λ i j. cond (ltb i m.height) (m.entry i j) z }
 
 module _ {A : Type 0} (R : Ring A) (g : ℕ → A) where
   pub combination_values : (c d y z : Matrix A) (n : ℕ) (s a b : A) → c.height ≡ d.height → c.width ≡ d.width

@@ -23,7 +23,8 @@ use Rattle.p3_dft.specs.Polynomials.{value}
 use Rattle.p3_dft.specs.Shapes.{FitsDft, FitsLde}
 use Rattle.p3_dft.specs.Transforms.{values_of, IsInterpolation, IsTransform}
 use Rattle.p3_dft.specs.declared.jobs.Job.{Job}
-use Rattle.p3_dft.proofs.Laws.Combinations.{alone, column_values, combination, combination_values, lengthened, lengthened_values, values_of_shifted}
+use Rattle.p3_dft.specs.Combinations.{alone, combination, lengthened}
+use Rattle.p3_dft.proofs.Laws.Combinations.{column_values, combination_values, lengthened_values, values_of_shifted}
 use Rattle.p3_dft.proofs.Polynomials.Cosets.{coefficients_same, point_of_one, shifted_values, values_same, values_unique}
 use Rattle.p3_dft.proofs.Polynomials.Interpolation.{there_is_no_other}
 use Rattle.p3_dft.proofs.Laws.OneAnswer.{one_answer}

@@ -5,34 +5,22 @@ ghost use Rattle.std.specs.List.{All, AllZip};
 ghost use Rattle.p3_field.specs.Ring.{IsInvertible};
 ghost use Rattle.p3_matrix.specs.Matrix.{Same};
 ghost use Rattle.p3_matrix.specs.RowMajor.{HasShapeOf, height};
+ghost use Rattle.p3_dft.specs.Combinations.{alone, combination, lengthened};
 ghost use Rattle.p3_dft.specs.Cosets.{IsValues, point};
 ghost use Rattle.p3_dft.specs.Engines.{AtLog};
 ghost use Rattle.p3_dft.specs.Extensions.{IsExtension};
-ghost use Rattle.p3_dft.specs.Jobs.{CanRun};
+ghost use Rattle.p3_dft.specs.Jobs.{CanRun, IsAnswer};
 ghost use Rattle.p3_dft.specs.Polynomials.{value};
 ghost use Rattle.p3_dft.specs.Shapes.{FitsDft, FitsLde};
 ghost use Rattle.p3_dft.specs.Transforms.{IsInterpolation, IsTransform, values_of};
 
 use super::{Matrix, elements, has_inverse, matrix};
+use crate::there_and_back::there_and_back;
 use p3_dft::{
     BabyBear, DftError, Evaluations, Field, Job, JobsStopped, Layout, NaiveDft, Radix2Dit,
     RowMajorMatrix, TwoAdicField, TwoAdicSubgroupDft, fits_dft, fits_lde, run_jobs,
 };
 use std::test::Fail;
-
-// The inverse of a transform is the matrix.
-fn there_and_back<F: TwoAdicField, D: TwoAdicSubgroupDft<F>>(
-    engine: &mut D,
-    mat: RowMajorMatrix<F>,
-    shift: F,
-) -> Result<RowMajorMatrix<F>, DftError>
-    requires fits { FitsDft F.TWO_ADICITY (height mat) mat.width }
-    requires invertible { IsInvertible F.ring (F.value shift) }
-    ensures { IfOk result (λ back. Same (values_of F.Field.own back) (values_of F.Field.own mat)) }
-{
-    let values = engine.coset_dft_batch(mat, shift)?;
-    engine.coset_idft_batch(values.to_row_major_matrix(), shift)
-}
 
 // The transform of an inverse is the matrix.
 fn back_and_there<F: TwoAdicField, D: TwoAdicSubgroupDft<F>>(
@@ -178,7 +166,25 @@ fn extended_coefficients<F: TwoAdicField, D: TwoAdicSubgroupDft<F>>(
     Ok((coefficients, values))
 }
 
-// And its inverse has these coefficients in its first rows.
+// And its inverse has these coefficients, with rows of zeros below.
+fn coefficients_and_zeros<F: TwoAdicField, D: TwoAdicSubgroupDft<F>>(
+    engine: &mut D,
+    mat: RowMajorMatrix<F>,
+    added_bits: usize,
+    shift: F,
+) -> Result<(RowMajorMatrix<F>, RowMajorMatrix<F>), DftError>
+    requires fits { FitsLde F.TWO_ADICITY (height mat) mat.width added_bits }
+    requires invertible { IsInvertible F.ring (F.value shift) }
+    ensures { IfOk result (λ out. Same (values_of F.Field.own out.1)
+        (lengthened F.ring.zero (height mat * 2 ^ added_bits) (values_of F.Field.own out.0))) }
+{
+    let coefficients = engine.idft_batch(mat.try_clone()?)?;
+    let values = engine.coset_lde_batch(mat, added_bits, shift)?;
+    let back = engine.coset_idft_batch(values.to_row_major_matrix(), shift)?;
+    Ok((coefficients, back))
+}
+
+// So they are in its first rows.
 fn coefficients_again<F: TwoAdicField, D: TwoAdicSubgroupDft<F>>(
     engine: &mut D,
     mat: RowMajorMatrix<F>,
@@ -282,16 +288,8 @@ fn column_alone<F: TwoAdicField, D: TwoAdicSubgroupDft<F>>(
 ) -> Result<(RowMajorMatrix<F>, RowMajorMatrix<F>), DftError>
     requires fits { FitsDft F.TWO_ADICITY (height mat) mat.width }
     requires inside { j < mat.width }
-    requires column { Same (values_of F.Field.own column) (record {
-      height = height mat;
-      width = 1;
-      entry = λ i _. (values_of F.Field.own mat).entry i j;
-    }) }
-    ensures { IfOk result (λ out. Same (values_of F.Field.own out.1) (record {
-      height = height out.0;
-      width = 1;
-      entry = λ i _. (values_of F.Field.own out.0).entry i j;
-    })) }
+    requires column { Same (values_of F.Field.own column) (alone j (values_of F.Field.own mat)) }
+    ensures { IfOk result (λ out. Same (values_of F.Field.own out.1) (alone j (values_of F.Field.own out.0))) }
 {
     let whole = engine.coset_dft_batch(mat, shift)?.to_row_major_matrix();
     let one = engine.coset_dft_batch(column, shift)?.to_row_major_matrix();
@@ -309,16 +307,8 @@ fn column_undone_alone<F: TwoAdicField, D: TwoAdicSubgroupDft<F>>(
     requires fits { FitsDft F.TWO_ADICITY (height mat) mat.width }
     requires invertible { IsInvertible F.ring (F.value shift) }
     requires inside { j < mat.width }
-    requires column { Same (values_of F.Field.own column) (record {
-      height = height mat;
-      width = 1;
-      entry = λ i _. (values_of F.Field.own mat).entry i j;
-    }) }
-    ensures { IfOk result (λ out. Same (values_of F.Field.own out.1) (record {
-      height = height out.0;
-      width = 1;
-      entry = λ i _. (values_of F.Field.own out.0).entry i j;
-    })) }
+    requires column { Same (values_of F.Field.own column) (alone j (values_of F.Field.own mat)) }
+    ensures { IfOk result (λ out. Same (values_of F.Field.own out.1) (alone j (values_of F.Field.own out.0))) }
 {
     let whole = engine.coset_idft_batch(mat, shift)?;
     let one = engine.coset_idft_batch(column, shift)?;
@@ -335,16 +325,8 @@ fn column_extended_alone<F: TwoAdicField, D: TwoAdicSubgroupDft<F>>(
 ) -> Result<(RowMajorMatrix<F>, RowMajorMatrix<F>), DftError>
     requires fits { FitsLde F.TWO_ADICITY (height mat) mat.width added_bits }
     requires inside { j < mat.width }
-    requires column { Same (values_of F.Field.own column) (record {
-      height = height mat;
-      width = 1;
-      entry = λ i _. (values_of F.Field.own mat).entry i j;
-    }) }
-    ensures { IfOk result (λ out. Same (values_of F.Field.own out.1) (record {
-      height = height out.0;
-      width = 1;
-      entry = λ i _. (values_of F.Field.own out.0).entry i j;
-    })) }
+    requires column { Same (values_of F.Field.own column) (alone j (values_of F.Field.own mat)) }
+    ensures { IfOk result (λ out. Same (values_of F.Field.own out.1) (alone j (values_of F.Field.own out.0))) }
 {
     let whole = engine.lde_batch(mat, added_bits)?.to_row_major_matrix();
     let one = engine.lde_batch(column, added_bits)?.to_row_major_matrix();
@@ -368,11 +350,7 @@ fn transformed_for<F: TwoAdicField, D: TwoAdicSubgroupDft<F>>(
 // A matrix of one column, as its own column.
 fn own_column<F: TwoAdicField>(mat: &RowMajorMatrix<F>) -> Result<RowMajorMatrix<F>, DftError>
     requires { mat.now.width ≡ 1 }
-    ensures { IfOk result (λ out. Same (values_of F.Field.own out) (record {
-      height = height mat.now;
-      width = 1;
-      entry = λ i _. (values_of F.Field.own mat.now).entry i 0;
-    })) }
+    ensures { IfOk result (λ out. Same (values_of F.Field.own out) (alone 0 (values_of F.Field.own mat.now))) }
 {
     Ok(mat.try_clone()?)
 }
@@ -393,6 +371,20 @@ fn jobs_agree<F: TwoAdicField, D: TwoAdicSubgroupDft<F>, E: TwoAdicSubgroupDft<F
     Ok((first, second))
 }
 
+// Two answers of one job are equal, whatever gave them.
+fn answers_are_equal<F: TwoAdicField>(
+    _job: &Job<F>,
+    one: RowMajorMatrix<F>,
+    other: RowMajorMatrix<F>,
+) -> bool
+    requires runnable { CanRun F.Field.own F.TWO_ADICITY _job.now }
+    requires one { IsAnswer F.Field.own F.generator _job.now one }
+    requires other { IsAnswer F.Field.own F.generator _job.now other }
+    ensures { IsTrue result }
+{
+    one == other
+}
+
 // Three matrices.
 #[derive(Drop)]
 struct Three<F> {
@@ -411,20 +403,8 @@ fn transforms_of_a_sum<F: TwoAdicField, D: TwoAdicSubgroupDft<F>>(
 ) -> Result<Three<F>, DftError>
     requires fits { FitsDft F.TWO_ADICITY (height given.first) given.first.width }
     requires shape { HasShapeOf given.second given.first }
-    requires sum { Same (values_of F.Field.own given.third) (record {
-      height = height given.first;
-      width = given.first.width;
-      entry = λ i j.
-          F.ring.add (F.ring.mul (F.value a) ((values_of F.Field.own given.first).entry i j))
-          (F.ring.mul (F.value b) ((values_of F.Field.own given.second).entry i j));
-    }) }
-    ensures { IfOk result (λ out. Same (values_of F.Field.own out.third) (record {
-      height = height out.first;
-      width = out.first.width;
-      entry = λ i j.
-          F.ring.add (F.ring.mul (F.value a) ((values_of F.Field.own out.first).entry i j))
-          (F.ring.mul (F.value b) ((values_of F.Field.own out.second).entry i j));
-    })) }
+    requires sum { Same (values_of F.Field.own given.third) (combination F.ring (F.value a) (values_of F.Field.own given.first) (F.value b) (values_of F.Field.own given.second)) }
+    ensures { IfOk result (λ out. Same (values_of F.Field.own out.third) (combination F.ring (F.value a) (values_of F.Field.own out.first) (F.value b) (values_of F.Field.own out.second))) }
 {
     let first = engine
         .coset_dft_batch(given.first, shift)?
@@ -451,20 +431,8 @@ fn inverses_of_a_sum<F: TwoAdicField, D: TwoAdicSubgroupDft<F>>(
 ) -> Result<Three<F>, DftError>
     requires fits { FitsDft F.TWO_ADICITY (height given.first) given.first.width }
     requires shape { HasShapeOf given.second given.first }
-    requires sum { Same (values_of F.Field.own given.third) (record {
-      height = height given.first;
-      width = given.first.width;
-      entry = λ i j.
-          F.ring.add (F.ring.mul (F.value a) ((values_of F.Field.own given.first).entry i j))
-          (F.ring.mul (F.value b) ((values_of F.Field.own given.second).entry i j));
-    }) }
-    ensures { IfOk result (λ out. Same (values_of F.Field.own out.third) (record {
-      height = height out.first;
-      width = out.first.width;
-      entry = λ i j.
-          F.ring.add (F.ring.mul (F.value a) ((values_of F.Field.own out.first).entry i j))
-          (F.ring.mul (F.value b) ((values_of F.Field.own out.second).entry i j));
-    })) }
+    requires sum { Same (values_of F.Field.own given.third) (combination F.ring (F.value a) (values_of F.Field.own given.first) (F.value b) (values_of F.Field.own given.second)) }
+    ensures { IfOk result (λ out. Same (values_of F.Field.own out.third) (combination F.ring (F.value a) (values_of F.Field.own out.first) (F.value b) (values_of F.Field.own out.second))) }
 {
     let first = engine.idft_batch(given.first)?;
     let second = engine.idft_batch(given.second)?;
@@ -487,20 +455,8 @@ fn extensions_of_a_sum<F: TwoAdicField, D: TwoAdicSubgroupDft<F>>(
 ) -> Result<Three<F>, DftError>
     requires fits { FitsLde F.TWO_ADICITY (height given.first) given.first.width added_bits }
     requires shape { HasShapeOf given.second given.first }
-    requires sum { Same (values_of F.Field.own given.third) (record {
-      height = height given.first;
-      width = given.first.width;
-      entry = λ i j.
-          F.ring.add (F.ring.mul (F.value a) ((values_of F.Field.own given.first).entry i j))
-          (F.ring.mul (F.value b) ((values_of F.Field.own given.second).entry i j));
-    }) }
-    ensures { IfOk result (λ out. Same (values_of F.Field.own out.third) (record {
-      height = height out.first;
-      width = out.first.width;
-      entry = λ i j.
-          F.ring.add (F.ring.mul (F.value a) ((values_of F.Field.own out.first).entry i j))
-          (F.ring.mul (F.value b) ((values_of F.Field.own out.second).entry i j));
-    })) }
+    requires sum { Same (values_of F.Field.own given.third) (combination F.ring (F.value a) (values_of F.Field.own given.first) (F.value b) (values_of F.Field.own given.second)) }
+    ensures { IfOk result (λ out. Same (values_of F.Field.own out.third) (combination F.ring (F.value a) (values_of F.Field.own out.first) (F.value b) (values_of F.Field.own out.second))) }
 {
     let first = engine
         .coset_lde_batch(given.first, added_bits, shift)?
@@ -608,6 +564,31 @@ fn coefficients_of_extensions(rt: HostRuntime) -> Result<(), Fail> {
     let (coefficients, back) = coefficients_again(&mut engine, mat, 1, shift)?;
     assert!(rt; coefficients == matrix(alloc, &[5, 4], 1)?);
     assert!(rt; back == matrix(alloc, &[5, 4, 0, 0], 1)?);
+    Ok(())
+}
+
+#[test]
+fn inverses_of_extensions(rt: HostRuntime) -> Result<(), Fail> {
+    let alloc = rt.alloc();
+    let mut engine = Radix2Dit::<BabyBear>::default();
+    let mat: Matrix = matrix(alloc, &[9, 1], 1)?;
+    let shift = BabyBear::TWO;
+    assert!(rt; fits_lde::<BabyBear>(mat.height(), mat.width(), 1));
+    assert!(rt; has_inverse(shift));
+    let (coefficients, back) = coefficients_and_zeros(&mut engine, mat, 1, shift)?;
+    assert!(rt; coefficients == matrix(alloc, &[5, 4], 1)?);
+    assert!(rt; back == matrix(alloc, &[5, 4, 0, 0], 1)?);
+    Ok(())
+}
+
+#[test]
+fn answers_of_a_job(rt: HostRuntime) -> Result<(), Fail> {
+    let alloc = rt.alloc();
+    let mat: Matrix = matrix(alloc, &[5, 4], 1)?;
+    assert!(rt; fits_dft::<BabyBear>(mat.height(), mat.width()));
+    let one = Radix2Dit::<BabyBear>::default().dft_batch(mat.try_clone()?)?;
+    let other = NaiveDft::default().dft_batch(mat.try_clone()?)?;
+    assert!(rt; answers_are_equal(&Job::Dft(mat), one, other));
     Ok(())
 }
 

@@ -1,6 +1,6 @@
 use Rattle.p3_dft.proofs.Laws.TwoCalls.{inverse_of_transform}
 use Rattle.std.proofs.lemmas.Result.{IfOk-weaker}
-use Rattle.p3_dft_tests.proofs.tests.laws.there_and_back.Goals as goal
+use Rattle.p3_dft_tests.proofs.there_and_back.there_and_back.Goals as goal
 
 pub returns : goal.returns
 returns g c =

@@ -1,0 +1,8 @@
+use Rattle.std.proofs.Common.{sym}
+use Rattle.p3_dft.proofs.Laws.TwoCalls.{inverse_of_extension}
+use Rattle.p3_dft_tests.proofs.tests.laws.coefficients_and_zeros.Goals as goal
+
+pub returns : goal.returns
+returns g c =
+    inverse_of_extension g.F.Field g.F.TwoAdicField.generator g.met.F.TwoAdicField.roots_law c.args.mat _ c.to_row_major_matrix.result _ c.args.added_bits (g.F.Field.value c.args.shift)
+    c.requires.fits (rw (sym c.in_ok-try_clone.ensures) c.in_ok-coefficients.ensures.coefficients) (rw c.to_row_major_matrix.ensures c.in_ok-values.ensures.values) c.in_ok-back.ensures.coefficients
