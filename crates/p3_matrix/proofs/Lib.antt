@@ -8,4 +8,5 @@ pub mod ReversedRows
 pub mod RowExchanges
 pub mod RowMajor
 pub mod RowsByPacks
+pub mod Tiles
 pub mod TwoPowers

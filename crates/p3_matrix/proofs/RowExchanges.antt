@@ -24,9 +24,6 @@ outside_row i r w c l n = ⊎_elim (λ p. inl (omega (arith, row_within r i w (i
 pub swapped_column : {T : Type 0} (xs ys : List T) (a b w c : ℕ) (d : T) → IsExchange xs ys (a * w) (b * w) w → c < w → Swapped (λ r. get_or xs (r * w + c) d) (λ r. get_or ys (r * w + c) d) a b
 swapped_column xs ys a b w c d e l = (e.first c d l, e.second c d l, λ r n o. e.others (r * w + c) d (outside_row a r w c l n) (outside_row b r w c l o))
 
-pub swapped_sym : {X : Type 0} (f g : ℕ → X) (a b : ℕ) → Swapped f g a b → Swapped f g b a
-swapped_sym f g a b s = (s.1, s.0, λ r n o. s.2 r o n)
-
 pub swapped_at : {X : Type 0} (f g : ℕ → X) (a b : ℕ) → Swapped f g a b → (r : ℕ) → g r ≡ (if r == a then f b else (if r == b then f a else f r))
 swapped_at f g a b s r = go (cases_eq r a) (cases_eq r b)
   where

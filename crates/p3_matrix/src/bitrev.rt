@@ -135,22 +135,66 @@ pub fn reverse_matrix_index_bits<T>(view: &mut RowMajorMatrixViewMut<'_, T>)
     }
 }
 
-// Puts 2 ^ bits runs of entries into bit reversed order: each pair is exchanged when the first of the
-// two is reached.
+// Puts 2 ^ bits runs of entries into bit reversed order.
 fn reverse_runs<T>(values: &mut [T], width: usize, bits: usize)
     requires bits { bits ≤ 63 }
     requires size { length values.old ≡ 2 ^ bits * width }
     ensures { (d : T) (i j : ℕ) → i < 2 ^ bits → j < width
         → get_or values.new (i * width + j) d ≡ get_or values.old (rev bits i * width + j) d }
 {
-    let rows = 1usize << bits;
-    let mut mirror = 0;
-    for row in 0..rows {
-        if row < mirror {
-            exchange(values, row * width, mirror * width, width);
-        }
-        mirror = next_reversed(mirror, bits);
+    // Where the numbers of outer digits and of entries are named, the loops of a tile are unrolled.
+    if bits < 4 {
+        reverse_by_tiles(values, width, bits, 0);
+    } else if width == 1 {
+        reverse_by_tiles(values, 1, bits, 2);
+    } else {
+        reverse_by_tiles(values, width, bits, 2);
     }
+}
+
+// The digits of a run's number are `outer` first ones, those of its tile and `outer` last ones. The runs
+// of a tile change places with those of its mirror when the first of the two tiles is reached: so one
+// carry and one test serve them all, and runs that lie side by side are moved together.
+#[inline(always)]
+fn reverse_by_tiles<T>(values: &mut [T], width: usize, bits: usize, outer: usize)
+    requires bits { bits ≤ 63 }
+    requires outer { 2 * outer ≤ bits }
+    requires size { length values.old ≡ 2 ^ bits * width }
+    ensures { (d : T) (i j : ℕ) → i < 2 ^ bits → j < width
+        → get_or values.new (i * width + j) d ≡ get_or values.old (rev bits i * width + j) d }
+{
+    let inner = bits - 2 * outer;
+    let tiles = 1usize << inner;
+    let side = 1usize << outer;
+    let mut mirror = 0;
+    for tile in 0..tiles {
+        if tile <= mirror {
+            for first in 0..side {
+                let far_last = reverse_bits_len(first, outer);
+                for last in 0..side {
+                    let far_first = reverse_bits_len(last, outer);
+                    if tile < mirror || first < far_first {
+                        let near = run(first, tile, last, tiles, side);
+                        let far = run(far_first, mirror, far_last, tiles, side);
+                        exchange(values, near * width, far * width, width);
+                    }
+                }
+            }
+        }
+        mirror = next_reversed(mirror, inner);
+    }
+}
+
+// The number of a run: its first digits, its tile and its last digits, one after the other.
+#[inline(always)]
+fn run(first: usize, tile: usize, last: usize, tiles: usize, side: usize) -> usize
+    requires first { first < side }
+    requires tile { tile < tiles }
+    requires last { last < side }
+    requires small { side * tiles * side < 2 ^ 64 }
+    ensures { result ≡ (first * tiles + tile) * side + last }
+{
+    (first * tiles + tile) * side + last
 }
 
 // From the reverse of i that of i + 1: the carry runs from the highest digit down.

@@ -1,6 +1,6 @@
 //! Small helpers: logarithms, and rows that change places.
 
-ghost use Rattle.std.specs.Prelude.{◌≡◌, ◌+◌, ◌*◌, ◌/◌, ◌^◌, ◌<◌, ◌≤◌, ℕ, length};
+ghost use Rattle.std.specs.Prelude.{◌≡◌, ◌+◌, ◌*◌, ◌/◌, ◌^◌, ◌<◌, ◌≤◌, ◌⊎◌, ℕ, length};
 ghost use Rattle.p3_matrix.specs.RowMajor.{height, HasShapeOf};
 ghost use Rattle.p3_matrix.specs.Matrix.{matrix, row_exchange, Same};
 ghost use Rattle.p3_matrix.specs.Exchange.{IsExchange};
@@ -32,27 +32,37 @@ pub fn swap_rows<T>(view: &mut RowMajorMatrixViewMut<'_, T>, i: usize, j: usize)
     ensures rows { (d : T) → Same (matrix d view.new.matrix.now) (row_exchange i j (matrix d view.old.matrix.now)) }
 {
     let width = view.width();
-    if i < j {
+    if i != j {
         exchange(view.values_mut(), i * width, j * width, width);
-    } else if j < i {
-        exchange(view.values_mut(), j * width, i * width, width);
     }
 }
 
 // The `count` elements from `first` on, and those from `second` on, change places.
 pub(crate) fn exchange<T>(values: &mut [T], first: usize, second: usize, count: usize)
-    requires apart { first + count ≤ second }
-    requires within { second + count ≤ length values.old }
+    requires apart { (first + count ≤ second) ⊎ (second + count ≤ first) }
+    requires first { first + count ≤ length values.old }
+    requires second { second + count ≤ length values.old }
     ensures { IsExchange values.old values.new first second count }
 {
     // In a column the call for two slices costs more than the exchange itself.
     if count == 1 {
         values.swap(first, second);
+    } else if first < second {
+        exchange_slices(values, first, second, count);
     } else {
-        let (front, back) = values.split_at_mut(second);
-        let part = &mut front[first..first + count];
-        part.swap_with_slice(&mut back[..count]);
+        exchange_slices(values, second, first, count);
     }
+}
+
+// The same of runs in this order.
+fn exchange_slices<T>(values: &mut [T], first: usize, second: usize, count: usize)
+    requires apart { first + count ≤ second }
+    requires within { second + count ≤ length values.old }
+    ensures { IsExchange values.old values.new first second count }
+{
+    let (front, back) = values.split_at_mut(second);
+    let part = &mut front[first..first + count];
+    part.swap_with_slice(&mut back[..count]);
 }
 
 #[cfg(test)]

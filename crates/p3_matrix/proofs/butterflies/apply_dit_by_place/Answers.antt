@@ -1,4 +1,4 @@
-use Rattle.std.proofs.Common.{◌≡◌, ◌+◌, ◌*◌, length, sym, ap, ◌∙◌, arith}
+use Rattle.std.proofs.Common.{◌*◌, length, sym, ap, ◌∙◌, arith}
 use Rattle.p3_field.specs.Ring.{minus}
 use Rattle.p3_matrix.proofs.RowsByPacks.{three_in_parts}
 use Rattle.p3_matrix.proofs.butterflies.apply_dit_by_place.Goals as goal
