@@ -96,7 +96,49 @@ pub(crate) fn layer<F: TwoAdicField, R: Rule<F>>(
     ensures grows { products.old ≤ products.new }
     ensures count { products.new ≤ products.old + R.cost * (blocks * (half * width)) }
 {
-    let size = values.len() / blocks;
+    // In a column whose halves are no full packs, the loops of a block of known size are unrolled.
+    if width == 1 && half == 1 {
+        meet_blocks(rule, values, 1, 1, first_block, blocks, products);
+    } else if width == 1 && half == 2 {
+        meet_blocks(rule, values, 1, 2, first_block, blocks, products);
+    } else if width == 1 && half == 4 {
+        meet_blocks(rule, values, 1, 4, first_block, blocks, products);
+    } else {
+        meet_blocks(rule, values, width, half, first_block, blocks, products);
+    }
+}
+
+// The same, block after block.
+#[inline(always)]
+fn meet_blocks<F: TwoAdicField, R: Rule<F>>(
+    rule: R,
+    values: &mut [F],
+    width: usize,
+    half: usize,
+    first_block: usize,
+    blocks: usize,
+    products: &mut Products,
+)
+    requires wide { 1 ≤ width }
+    requires some { 1 ≤ half }
+    requires blocks { 1 ≤ blocks }
+    requires numbers { first_block + blocks < 2 ^ 64 }
+    requires size { length values.old ≡ blocks * (2 * (half * width)) }
+    requires there { (b t : ℕ) → b < blocks → t < half → R.has rule (first_block + b) t }
+    ensures near { let cell = λ (xs : List F) (n : ℕ). F.value (get_or xs n F.ZERO) in
+        let size = half * width in
+        (b i : ℕ) → b < blocks → i < size → cell values.new (b * (2 * size) + i)
+        ≡ R.near F.Element F.ring F.value rule (first_block + b) (i / width)
+        (cell values.old (b * (2 * size) + i)) (cell values.old (b * (2 * size) + (size + i))) }
+    ensures far { let cell = λ (xs : List F) (n : ℕ). F.value (get_or xs n F.ZERO) in
+        let size = half * width in
+        (b i : ℕ) → b < blocks → i < size → cell values.new (b * (2 * size) + (size + i))
+        ≡ R.far F.Element F.ring F.value rule (first_block + b) (i / width)
+        (cell values.old (b * (2 * size) + i)) (cell values.old (b * (2 * size) + (size + i))) }
+    ensures grows { products.old ≤ products.new }
+    ensures count { products.new ≤ products.old + R.cost * (blocks * (half * width)) }
+{
+    let size = 2 * (half * width);
     for b in 0..blocks {
         let start = b * size;
         let block = &mut values[start..start + size];
@@ -105,6 +147,7 @@ pub(crate) fn layer<F: TwoAdicField, R: Rule<F>>(
 }
 
 // One block of a layer.
+#[inline(always)]
 fn meet_block<F: TwoAdicField, R: Rule<F>>(
     rule: R,
     values: &mut [F],
@@ -147,6 +190,7 @@ fn is_column_of_packs<F: TwoAdicField>(width: usize, half: usize) -> bool
 }
 
 // The rows of the two halves of a block, pair by pair.
+#[inline(always)]
 fn meet_halves<F: TwoAdicField, R: Rule<F>>(
     rule: R,
     low: &mut [F],

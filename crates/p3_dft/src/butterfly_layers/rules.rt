@@ -319,6 +319,7 @@ impl<F: TwoAdicField> Rule<F> for DifZerosByBlock<'_, F> {
 }
 
 // A butterfly on two rows, with a contract that speaks of entries.
+#[inline(always)]
 fn meet_rows<F: TwoAdicField, B: Butterfly<F>>(
     butterfly: B,
     row_1: &mut [F],

@@ -1,7 +1,7 @@
 use Rattle.std.proofs.Common.{◌+◌, ◌*◌, ◌/◌, ◌≤◌, get_or}
 use Rattle.p3_dft.proofs.Rows.Overwritten.{RowsDone}
 use Rattle.p3_dft.proofs.Layers.Halves.{BothHalves}
-use Rattle.p3_dft.proofs.butterfly_layers.layer.Given as goal
+use Rattle.p3_dft.proofs.butterfly_layers.meet_blocks.Given as goal
 
 abbrev pub invariant-loop-b : goal.invariant-loop-b
 invariant-loop-b g l =
