@@ -1,6 +1,6 @@
 // Layers of the networks, on rows that lie one after the other in a slice.
 
-ghost use Rattle.std.specs.Prelude.{◌≡◌, ℕ, ◌+◌, ◌*◌, ◌/◌, ◌^◌, ◌<◌, ◌≤◌, IsTrue, List, length, get_or};
+ghost use Rattle.std.specs.Prelude.{◌≡◌, ◌↔◌, ℕ, ◌+◌, ◌*◌, ◌/◌, ◌^◌, ◌<◌, ◌≤◌, Bool, IsTrue, List, length, get_or};
 ghost use Rattle.p3_field.specs.Ring.{Ring};
 
 pub(crate) mod rules;
@@ -22,9 +22,13 @@ pub(crate) trait Rule<F: TwoAdicField>: Copy {
     // Whether the rule has a butterfly for the pair.
     ghost has: { Self → ℕ → ℕ → Type 0 };
 
-    // Whether every pair of a block has one butterfly: its halves then meet as two long rows.
+    // Whether every pair of a block has one butterfly.
+    ghost by_block: { Bool };
+
+    // Whether it has: the halves of a block then meet as two long rows.
     fn goes_by_block(self) -> bool
-        ensures { let value = F.value in IsTrue result → (b s t : ℕ)
+        ensures told { result ≡ by_block }
+        ensures same { let value = F.value in IsTrue result → (b s t : ℕ)
             → (near F.Element F.ring value self b s ≡ near F.Element F.ring value self b t)
             × (far F.Element F.ring value self b s ≡ far F.Element F.ring value self b t) };
 
@@ -183,7 +187,7 @@ fn meet_block<F: TwoAdicField, R: Rule<F>>(
 
 // Whether the halves of a block are one column each that fills a pack of several lanes.
 fn is_column_of_packs<F: TwoAdicField>(width: usize, half: usize) -> bool
-    ensures { IsTrue result → width ≡ 1 }
+    ensures { IsTrue result ↔ ((width ≡ 1) × (1 < F.Packing.WIDTH) × (F.Packing.WIDTH ≤ half)) }
 {
     let lanes = F::Packing::WIDTH;
     width == 1 && lanes > 1 && half >= lanes

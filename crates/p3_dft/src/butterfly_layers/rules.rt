@@ -18,12 +18,14 @@ pub(crate) struct DitByPlace<'a, F> {
 }
 
 impl<F: TwoAdicField> Rule<F> for DitByPlace<'_, F> {
-    ghost use Rattle.std.specs.Prelude.{◌≡◌, ◌<◌, length, get_or};
+    ghost use Rattle.std.specs.Prelude.{◌≡◌, ◌<◌, length, get_or, false};
     ghost use Rattle.p3_matrix.specs.Butterflies.{dit_near, dit_far};
 
     ghost near = { λ A ring v r b t. dit_near ring (v (get_or r.twiddles.now t F.ZERO)) };
 
     ghost far = { λ A ring v r b t. dit_far ring (v (get_or r.twiddles.now t F.ZERO)) };
+
+    ghost by_block = { false };
 
     ghost cost = { 1 };
 
@@ -63,12 +65,14 @@ pub(crate) struct DitByPlaceOnCoset<'a, F> {
 }
 
 impl<F: TwoAdicField> Rule<F> for DitByPlaceOnCoset<'_, F> {
-    ghost use Rattle.std.specs.Prelude.{◌<◌, length, get_or};
+    ghost use Rattle.std.specs.Prelude.{◌<◌, length, get_or, false};
     ghost use Rattle.p3_matrix.specs.Butterflies.{dit_near, dit_far};
 
     ghost near = { λ A ring v r b t. dit_near ring (v (get_or r.twiddles.now t F.ZERO)) };
 
     ghost far = { λ A ring v r b t. dit_far ring (v (get_or r.twiddles.now t F.ZERO)) };
+
+    ghost by_block = { false };
 
     ghost cost = { 1 };
 
@@ -104,12 +108,14 @@ pub(crate) struct DitByBlock<'a, F> {
 }
 
 impl<F: TwoAdicField> Rule<F> for DitByBlock<'_, F> {
-    ghost use Rattle.std.specs.Prelude.{◌≡◌, ◌<◌, length, get_or};
+    ghost use Rattle.std.specs.Prelude.{◌≡◌, ◌<◌, length, get_or, true};
     ghost use Rattle.p3_matrix.specs.Butterflies.{dit_near, dit_far};
 
     ghost near = { λ A ring v r b t. dit_near ring (v (get_or r.twiddles.now b F.ZERO)) };
 
     ghost far = { λ A ring v r b t. dit_far ring (v (get_or r.twiddles.now b F.ZERO)) };
+
+    ghost by_block = { true };
 
     ghost cost = { 1 };
 
@@ -149,12 +155,14 @@ pub(crate) struct DitByBlockOnCoset<'a, F> {
 }
 
 impl<F: TwoAdicField> Rule<F> for DitByBlockOnCoset<'_, F> {
-    ghost use Rattle.std.specs.Prelude.{◌<◌, length, get_or};
+    ghost use Rattle.std.specs.Prelude.{◌<◌, length, get_or, true};
     ghost use Rattle.p3_matrix.specs.Butterflies.{dit_near, dit_far};
 
     ghost near = { λ A ring v r b t. dit_near ring (v (get_or r.twiddles.now b F.ZERO)) };
 
     ghost far = { λ A ring v r b t. dit_far ring (v (get_or r.twiddles.now b F.ZERO)) };
+
+    ghost by_block = { true };
 
     ghost cost = { 1 };
 
@@ -191,12 +199,14 @@ pub(crate) struct ScaledDitByBlock<'a, F> {
 }
 
 impl<F: TwoAdicField> Rule<F> for ScaledDitByBlock<'_, F> {
-    ghost use Rattle.std.specs.Prelude.{◌<◌, length, get_or};
+    ghost use Rattle.std.specs.Prelude.{◌<◌, length, get_or, true};
     ghost use Rattle.p3_matrix.specs.Butterflies.{scaled_dit_near, scaled_dit_far};
 
     ghost near = { λ A ring v r b t. scaled_dit_near ring (v (get_or r.twiddles.now b F.ZERO)) (v r.scale) };
 
     ghost far = { λ A ring v r b t. scaled_dit_far ring (v (get_or r.twiddles.now b F.ZERO)) (v r.scale) };
+
+    ghost by_block = { true };
 
     ghost cost = { 2 };
 
@@ -233,12 +243,14 @@ pub(crate) struct DifByBlock<'a, F> {
 }
 
 impl<F: TwoAdicField> Rule<F> for DifByBlock<'_, F> {
-    ghost use Rattle.std.specs.Prelude.{◌≡◌, ◌<◌, length, get_or};
+    ghost use Rattle.std.specs.Prelude.{◌≡◌, ◌<◌, length, get_or, true};
     ghost use Rattle.p3_matrix.specs.Butterflies.{dif_near, dif_far};
 
     ghost near = { λ A ring v r b t. dif_near ring (v (get_or r.twiddles.now b F.ZERO)) };
 
     ghost far = { λ A ring v r b t. dif_far ring (v (get_or r.twiddles.now b F.ZERO)) };
+
+    ghost by_block = { true };
 
     ghost cost = { 1 };
 
@@ -279,12 +291,14 @@ pub(crate) struct DifZerosByBlock<'a, F> {
 }
 
 impl<F: TwoAdicField> Rule<F> for DifZerosByBlock<'_, F> {
-    ghost use Rattle.std.specs.Prelude.{◌<◌, length, get_or};
+    ghost use Rattle.std.specs.Prelude.{◌<◌, length, get_or, true};
     ghost use Rattle.p3_matrix.specs.Butterflies.{dif_zeros_near, dif_zeros_far};
 
     ghost near = { λ A ring v r b t. dif_zeros_near ring (v (get_or r.twiddles.now b F.ZERO)) };
 
     ghost far = { λ A ring v r b t. dif_zeros_far ring (v (get_or r.twiddles.now b F.ZERO)) };
+
+    ghost by_block = { true };
 
     ghost cost = { 1 };
 

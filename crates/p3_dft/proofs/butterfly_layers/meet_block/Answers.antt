@@ -20,7 +20,7 @@ returns-then-goes_by_block-clause-near g c =
     ap field.value (in_first low high n field.ZERO (omega (arith, inside, c.meet.auto.row_1, front.front_len)))
     ∙ c.meet.ensures.near n (omega (arith, inside, front.front_len))
     ∙ ap (λ (f : field.Element → field.Element → field.Element). f (field.value (get_or (c.split_at_mut-low.result.0).now n field.ZERO)) (field.value (get_or (c.split_at_mut-low.result.1).now n field.ZERO)))
-    (c.goes_by_block.ensures c.if-goes_by_block.true c.args.block 0 t).0
+    (c.goes_by_block.ensures.same c.if-goes_by_block.true c.args.block 0 t).0
     ∙ of_halves (near t) block _ _ (h * w) n field.ZERO front.front front.back inside)
 
 pub returns-else-is_column_of_packs-clause-near : goal.returns-else-is_column_of_packs-clause-near
@@ -58,7 +58,7 @@ returns-then-goes_by_block-clause-far g c =
     ap field.value (in_second low high (h * w) n field.ZERO (omega (arith, c.meet.auto.row_1, front.front_len)))
     ∙ c.meet.ensures.far n (omega (arith, inside, front.front_len))
     ∙ ap (λ (f : field.Element → field.Element → field.Element). f (field.value (get_or (c.split_at_mut-low.result.0).now n field.ZERO)) (field.value (get_or (c.split_at_mut-low.result.1).now n field.ZERO)))
-    (c.goes_by_block.ensures c.if-goes_by_block.true c.args.block 0 t).1
+    (c.goes_by_block.ensures.same c.if-goes_by_block.true c.args.block 0 t).1
     ∙ of_halves (far t) block _ _ (h * w) n field.ZERO front.front front.back inside)
 
 pub returns-else-is_column_of_packs-clause-far : goal.returns-else-is_column_of_packs-clause-far
@@ -85,7 +85,7 @@ returns-then-is_column_of_packs-clause-near g c =
     let w = c.args.width in
     let h = c.args.half in
     let block = c.args.values.now in
-    let one : w ≡ 1 = c.is_column_of_packs.ensures c.if-is_column_of_packs.true in
+    let one : w ≡ 1 = (c.is_column_of_packs.ensures.0 c.if-is_column_of_packs.true).0 in
     let near = λ (t : ℕ) (x y : g.row.F.Denot). g.R.Rule.near field.Element field.ring field.value c.args.rule c.args.block t (field.value x) (field.value y) in
     let low = c.meet_column.new.low in
     let high = c.meet_column.new.high in
@@ -106,7 +106,7 @@ returns-then-is_column_of_packs-clause-far g c =
     let w = c.args.width in
     let h = c.args.half in
     let block = c.args.values.now in
-    let one : w ≡ 1 = c.is_column_of_packs.ensures c.if-is_column_of_packs.true in
+    let one : w ≡ 1 = (c.is_column_of_packs.ensures.0 c.if-is_column_of_packs.true).0 in
     let far = λ (t : ℕ) (x y : g.row.F.Denot). g.R.Rule.far field.Element field.ring field.value c.args.rule c.args.block t (field.value x) (field.value y) in
     let low = c.meet_column.new.low in
     let high = c.meet_column.new.high in
