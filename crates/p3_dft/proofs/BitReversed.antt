@@ -2,6 +2,7 @@
 pub mod Coefficients
 pub mod InversePowers
 pub mod Layouts
+pub mod OneRow
 pub mod OneReversal
 pub mod Powers
 pub mod Rows

@@ -71,6 +71,10 @@ pub record RootsUpTo : Type 0 where
   pub inverse : Bool
   pub log_h : ℕ
 
+-- half the powers of that of order 2 ^ log_h, in bit reversed order
+abbrev pub reversed_root_powers : {F : Type 0} (f : FieldMembers F) → (ℕ → F) → Bool → ℕ → ℕ → f.Element
+reversed_root_powers f generator inverse log_h b = power f.ring (root_of f generator inverse log_h) (rev (log_h - 1) b)
+
 -- the number by which rows are multiplied, if there is one
 abbrev pub factor : {F : Type 0} (f : FieldMembers F) → Option F → f.Element
 factor f None = f.ring.one
@@ -89,14 +93,3 @@ pub record Tabled : Type 0 where
 -- height 2 ^ k can be transformed without memory: height one has no layer and needs no twiddles
 abbrev pub IsPrepared : Tabled → ℕ → Type 0
 IsPrepared e k = (k ≡ 0) ⊎ Contains e.prepared k
-
--- the logarithms of the largest heights for which there are powers of the generators, and of their inverses, and the number of products
--- that were made
-pub record ThereAndBack : Type 0 where
-  pub forward : ℕ
-  pub inverse : ℕ
-  pub products : ℕ
-
--- both are there for height 2 ^ k
-abbrev pub HasBoth : ThereAndBack → ℕ → Type 0
-HasBoth e k = (k ≤ e.forward) × (k ≤ e.inverse)

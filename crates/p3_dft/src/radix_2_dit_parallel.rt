@@ -1,14 +1,14 @@
 //! The transform by two halves of layers, each run by run, which leaves its rows in bit reversed order.
 
-ghost use Rattle.std.specs.Prelude.{◌≡◌, ◌↔◌, ◌⊎◌, ℕ, ◌+◌, ◌*◌, ◌/◌, ◌^◌, ◌<◌, ◌≤◌, IsTrue, IsOk, OnOk};
-ghost use Rattle.p3_dft.specs.Twiddles.{HasBoth};
+ghost use Rattle.std.specs.Prelude.{◌≡◌, ◌↔◌, ◌⊎◌, ℕ, ◌+◌, ◌*◌, ◌/◌, ◌^◌, ◌<◌, ◌≤◌, IsTrue, IsOk, OnOk, OnErr};
+ghost use Rattle.p3_dft.specs.Twiddles.{IsPrepared};
 
 mod halves;
 mod network;
 mod tables;
 mod transform;
 
-use crate::radix_2_dit_parallel::tables::RootTables;
+use crate::radix_2_dit_parallel::tables::Tables;
 use crate::radix_2_dit_parallel::transform::{evaluate, interpolate};
 use crate::traits::{Layout, TwoAdicSubgroupDft};
 use crate::util::reverse_rows;
@@ -26,48 +26,44 @@ use std::marker::Model;
 /// At height `2^k` and width w that is at most `w * k * 2^k / 2` products, and `w * 2^k` more for an
 /// inverse.
 ///
-/// Powers of the generators and of their inverses are kept until the engine ends: those of a height from
-/// its first transform, or inverse, on, or from `prepare`. Where both are there, the height is prepared,
-/// and smaller ones are with it: `dft_batch`, `idft_batch` and the calls that stand on them, but for
-/// extensions, then take no memory. A new engine and a clone have no tables and take no memory.
+/// Powers of the generators and of their inverses are kept for the largest height so far, from its first
+/// transform or inverse on, or from `prepare`, until the engine ends; then `dft_batch`, `idft_batch` and
+/// the calls that stand on them, but for extensions, take no memory at that height and at smaller ones.
+/// A new engine and a clone have no tables and take no memory.
 ///
-/// Contracts see up to which heights there are tables of either kind, and how many products were made.
+/// Contracts see which heights are prepared and how many products were made.
 #[derive(Drop)]
 pub struct Radix2DitParallel<F: TwoAdicField> {
-    forward: RootTables<F>,
-    inverse: RootTables<F>,
+    tables: Tables<F>,
     products: Products,
 }
 
 impl<F: TwoAdicField> Model for Radix2DitParallel<F> {
-    ghost use Rattle.std.specs.Prelude.{◌≡◌, true, false};
-    ghost use Rattle.p3_dft.specs.Twiddles.{ThereAndBack};
+    ghost use Rattle.std.specs.List.{range_with_len};
+    ghost use Rattle.p3_dft.specs.Twiddles.{Tabled};
 
-    ghost Value = { ThereAndBack };
+    ghost Value = { Tabled };
 
-    ghost view = { λ e. record { forward = e.forward.log_h; inverse = e.inverse.log_h; products = e.products } };
-
-    ghost invariant = { λ e. (e.forward.inverse ≡ false) × (e.inverse.inverse ≡ true) };
+    ghost view = { λ e. record { prepared = range_with_len 1 e.tables; products = e.products } };
 }
 
 impl<F: TwoAdicField> Default for Radix2DitParallel<F> {
-    ghost use Rattle.std.specs.Prelude.{◌≡◌};
+    ghost use Rattle.std.specs.Prelude.{◌≡◌, []};
 
-    ghost is_default = { λ e. (e.forward ≡ 0) × (e.inverse ≡ 0) × (e.products ≡ 0) };
+    ghost is_default = { λ e. (e.prepared ≡ []) × (e.products ≡ 0) };
 
     fn default() -> Self {
         Radix2DitParallel {
-            forward: RootTables::new(false),
-            inverse: RootTables::new(true),
+            tables: Tables::new(),
             products: Products::new(),
         }
     }
 }
 
 impl<F: TwoAdicField> Clone for Radix2DitParallel<F> {
-    ghost use Rattle.std.specs.Prelude.{◌≡◌, ⊤};
+    ghost use Rattle.std.specs.Prelude.{◌≡◌, [], ⊤};
 
-    ghost is_clone = { λ _ e. (e.forward ≡ 0) × (e.inverse ≡ 0) × (e.products ≡ 0) };
+    ghost is_clone = { λ _ e. (e.prepared ≡ []) × (e.products ≡ 0) };
 
     ghost is_infallible = { λ _. ⊤ };
 
@@ -77,43 +73,41 @@ impl<F: TwoAdicField> Clone for Radix2DitParallel<F> {
 }
 
 impl<F: TwoAdicField> Radix2DitParallel<F> {
-    /// Makes the tables for height `2^log_h`, those of the inverse too, from when on transforms and
-    /// inverses of that height and of smaller ones take no memory. It takes none itself where the height
-    /// is prepared already, as height one always is. `log_h` is at most `TWO_ADICITY`, and a `usize`
-    /// holds the height. Where memory is refused, no table is lost, and those of one direction may be
-    /// larger.
+    /// Makes the tables for height `2^log_h`, from when on transforms and inverses of that height and of
+    /// smaller ones take no memory. It takes none itself where the height is prepared already, as height
+    /// one always is. `log_h` is at most `TWO_ADICITY`, and a `usize` holds the height. Where memory is
+    /// refused, the engine is as before.
     pub fn prepare(&mut self, alloc: Global, log_h: usize) -> Result<(), DftError>
         requires within { log_h ≤ F.TWO_ADICITY }
         requires size { 2 ^ log_h < 2 ^ 64 }
-        ensures prepares { OnOk result (HasBoth self.new log_h) }
-        ensures ready { HasBoth self.old log_h → IsOk result }
-        ensures keeps { (k : ℕ) → HasBoth self.old k → HasBoth self.new k }
-        ensures only { (k : ℕ) → HasBoth self.new k → HasBoth self.old k ⊎ (k ≤ log_h) }
-        ensures kept { (self.old.forward ≤ self.new.forward) × (self.old.inverse ≤ self.new.inverse) }
+        ensures prepares { OnOk result (IsPrepared self.new log_h) }
+        ensures ready { IsPrepared self.old log_h → IsOk result }
+        ensures keeps { (k : ℕ) → IsPrepared self.old k → IsPrepared self.new k }
+        ensures only { (k : ℕ) → IsPrepared self.new k → IsPrepared self.old k ⊎ (k ≤ log_h) }
+        ensures refused { OnErr result (self.new ≡ self.old) }
         ensures products { self.new.products ≡ self.old.products }
     {
-        self.forward.make(alloc, log_h)?;
-        self.inverse.make(alloc, log_h)
+        self.tables.make(alloc, log_h)
     }
 
-    /// Whether transforms and inverses of height `2^log_h` both take no memory. Height one always is
+    /// Whether transforms and inverses of height `2^log_h` take no memory. Height one always is
     /// prepared.
     pub fn is_prepared(&self, log_h: usize) -> bool
-        ensures { IsTrue result ↔ HasBoth self.now log_h }
+        ensures { IsTrue result ↔ IsPrepared self.now log_h }
     {
-        log_h <= self.forward.log_h() && log_h <= self.inverse.log_h()
+        log_h <= self.tables.log_h()
     }
 }
 
 impl<F: TwoAdicField> TwoAdicSubgroupDft<F> for Radix2DitParallel<F> {
-    ghost use Rattle.std.specs.Prelude.{◌≡◌, ⊤, ℕ, ◌+◌, ◌*◌, ◌/◌, ◌^◌, ◌≤◌, IfOk, IsOk, OnOk, Ok};
+    ghost use Rattle.std.specs.Prelude.{◌≡◌, ◌⊎◌, ⊤, ℕ, ◌+◌, ◌*◌, ◌/◌, ◌^◌, ◌≤◌, IfOk, IsOk, OnOk, OnErr, Ok};
     ghost use Rattle.p3_matrix.specs.BitOrder.{reversed_rows};
     ghost use Rattle.p3_matrix.specs.RowMajor.{HasShapeOf, RowMajor, height};
     ghost use Rattle.p3_dft.specs.Engines.{AtLog, IsLater};
     ghost use Rattle.p3_dft.specs.Extensions.{IsTransformedExtension, extension_bound};
     ghost use Rattle.p3_dft.specs.Shapes.{FitsDft, FitsLde};
     ghost use Rattle.p3_dft.specs.Transforms.{IsInterpolation, IsTransform};
-    ghost use Rattle.p3_dft.specs.Twiddles.{HasBoth};
+    ghost use Rattle.p3_dft.specs.Twiddles.{IsPrepared};
     ghost use Rattle.p3_dft.specs.declared.traits.Layout.TheVariants.{Natural};
 
     type Evaluations = BitReversedMatrixView<RowMajorMatrix<F>>;
@@ -122,11 +116,11 @@ impl<F: TwoAdicField> TwoAdicSubgroupDft<F> for Radix2DitParallel<F> {
 
     ghost LAYOUT = { Natural };
 
-    ghost promised = { HasBoth };
+    ghost promised = { IsPrepared };
 
-    ghost coset_promised = { HasBoth };
+    ghost coset_promised = { IsPrepared };
 
-    ghost served = { λ _ _. ⊤ };
+    ghost served = { IsPrepared };
 
     ghost bound = { λ k w. w * (k * 2 ^ k / 2) };
 
@@ -134,30 +128,38 @@ impl<F: TwoAdicField> TwoAdicSubgroupDft<F> for Radix2DitParallel<F> {
 
     ghost coset_promised_law = { λ e k prepared. prepared };
 
-    ghost default_law = { λ e new. new.2 };
+    ghost default_law = { λ e new. new.1 };
 
-    ghost clone_law = { λ e copy new. new.2 };
+    ghost clone_law = { λ e copy new. new.1 };
 
-    /// As the trait says. `Ok` leaves the tables of the height there for good. A matrix of height one is
-    /// its own transform: it is handed back, with no product and no memory taken.
+    /// As the trait says. `Ok` makes the height prepared for good, and an error leaves the engine as it
+    /// was. A matrix of height one is its own transform: it is handed back, with no product and no memory
+    /// taken.
     fn dft_batch<N: IntoRowMajorMatrix<F>>(
         &mut self,
         mat: N,
     ) -> Result<BitReversedMatrixView<RowMajorMatrix<F>>, DftError>
         requires { FitsDft F.TWO_ADICITY (height (N.stored mat)) (N.stored mat).width }
-        ensures values { IfOk result (λ out. IsTransform F.Field.own F.generator (N.stored mat) F.ring.one (reversed_rows out.bits out.physical)) }
-        ensures succeeds { AtLog (height (N.stored mat)) (λ k. HasBoth self.old k → IsOk result) }
-        ensures ready { AtLog (height (N.stored mat)) (λ k. k ≤ self.old.forward → IsOk result) }
-        ensures tables { AtLog (height (N.stored mat)) (λ k. OnOk result (k ≤ self.new.forward)) }
-        ensures kept { (self.old.forward ≤ self.new.forward) × (self.old.inverse ≤ self.new.inverse) }
-        ensures later { IsLater HasBoth HasBoth (λ _ _. ⊤) (λ e. e.products) self.old self.new }
+        ensures values { IfOk result (λ out.
+            IsTransform F.Field.own F.generator (N.stored mat) F.ring.one (reversed_rows out.bits out.physical)) }
+        ensures succeeds { AtLog (height (N.stored mat)) (λ k. IsPrepared self.old k → IsOk result) }
+        ensures serves { AtLog (height (N.stored mat)) (λ k. OnOk result (IsPrepared self.new k)) }
+        ensures only { AtLog (height (N.stored mat)) (λ k. (n : ℕ) → IsPrepared self.new n → IsPrepared self.old n ⊎ (n ≤ k)) }
+        ensures refused { OnErr result (self.new ≡ self.old) }
+        ensures one_row { height (N.stored mat) ≡ 1
+            → (result ≡ Ok (record { physical = N.stored mat; bits = 0 })) × (self.new ≡ self.old) }
+        ensures later { IsLater IsPrepared IsPrepared IsPrepared (λ e. e.products) self.old self.new }
         ensures cost { AtLog (height (N.stored mat))
             (λ k. OnOk result (self.new.products ≤ self.old.products + (N.stored mat).width * (k * 2 ^ k / 2))) }
     {
         let mut mat = mat.into_row_major_matrix();
-        let log_h = log2_strict_usize(mat.height());
-        self.forward.make(*mat.allocator(), log_h)?;
-        evaluate(&mut mat, log_h, &self.forward, &mut self.products);
+        let height = mat.height();
+        if height == 1 {
+            return Ok(mat.bit_reverse_rows());
+        }
+        let log_h = log2_strict_usize(height);
+        self.tables.make(*mat.allocator(), log_h)?;
+        evaluate(&mut mat, log_h, self.tables.forward(), &mut self.products);
         Ok(mat.bit_reverse_rows())
     }
 
@@ -165,22 +167,23 @@ impl<F: TwoAdicField> TwoAdicSubgroupDft<F> for Radix2DitParallel<F> {
         self.products.add(products);
     }
 
-    /// As the trait says: the division by the height is part of a layer. A matrix of height one is its
-    /// own inverse transform: it is handed back, with no product and no memory taken.
+    /// As the trait says: the division by the height is part of a layer. `Ok` makes the height prepared
+    /// for good, and an error leaves the engine as it was. A matrix of height one is its own inverse
+    /// transform: it is handed back, with no product and no memory taken.
     fn idft_batch<N: IntoRowMajorMatrix<F>>(
         &mut self,
         mat: N,
     ) -> Result<RowMajorMatrix<F>, DftError>
         requires { FitsDft F.TWO_ADICITY (height (N.stored mat)) (N.stored mat).width }
         ensures coefficients { IfOk result (λ out. IsInterpolation F.Field.own F.generator (N.stored mat) F.ring.one out) }
-        ensures succeeds { AtLog (height (N.stored mat)) (λ k. HasBoth self.old k → IsOk result) }
-        ensures ready { AtLog (height (N.stored mat)) (λ k. k ≤ self.old.inverse → IsOk result) }
-        ensures tables { AtLog (height (N.stored mat)) (λ k. OnOk result (k ≤ self.new.inverse)) }
-        ensures kept { (self.old.forward ≤ self.new.forward) × (self.old.inverse ≤ self.new.inverse) }
+        ensures succeeds { AtLog (height (N.stored mat)) (λ k. IsPrepared self.old k → IsOk result) }
+        ensures serves { AtLog (height (N.stored mat)) (λ k. OnOk result (IsPrepared self.new k)) }
+        ensures only { AtLog (height (N.stored mat)) (λ k. (n : ℕ) → IsPrepared self.new n → IsPrepared self.old n ⊎ (n ≤ k)) }
+        ensures refused { OnErr result (self.new ≡ self.old) }
         ensures one_row { height (N.stored mat) ≡ 1 → (result ≡ Ok (N.stored mat)) × (self.new ≡ self.old) }
-        ensures later { IsLater HasBoth HasBoth (λ _ _. ⊤) (λ e. e.products) self.old self.new }
-        ensures cost { AtLog (height (N.stored mat))
-            (λ k. OnOk result (self.new.products ≤ self.old.products + (N.stored mat).width * (k * 2 ^ k / 2) + 2 ^ k * (N.stored mat).width)) }
+        ensures later { IsLater IsPrepared IsPrepared IsPrepared (λ e. e.products) self.old self.new }
+        ensures cost { AtLog (height (N.stored mat)) (λ k. OnOk result (self.new.products
+            ≤ self.old.products + (N.stored mat).width * (k * 2 ^ k / 2) + 2 ^ k * (N.stored mat).width)) }
     {
         let mut mat = mat.into_row_major_matrix();
         let height = mat.height();
@@ -188,8 +191,8 @@ impl<F: TwoAdicField> TwoAdicSubgroupDft<F> for Radix2DitParallel<F> {
             return Ok(mat);
         }
         let log_h = log2_strict_usize(height);
-        self.inverse.make(*mat.allocator(), log_h)?;
-        interpolate(&mut mat, log_h, &self.inverse, &mut self.products);
+        self.tables.make(*mat.allocator(), log_h)?;
+        interpolate(&mut mat, log_h, self.tables.inverse(), &mut self.products);
         reverse_rows(&mut mat);
         Ok(mat)
     }

@@ -1,9 +1,7 @@
 // The tables that the engine keeps until it ends.
 
-ghost use Rattle.std.specs.Prelude.{◌≡◌, ◌⊎◌, ℕ, ◌+◌, ◌-◌, ◌*◌, ◌/◌, ◌^◌, ◌<◌, ◌≤◌, Bool, IsOk, IfOk, OnOk, OnErr, length, get_or};
-ghost use Rattle.p3_field.specs.Ring.{power};
-ghost use Rattle.p3_matrix.specs.BitOrder.{rev};
-ghost use Rattle.p3_dft.specs.Twiddles.{AreTwiddles, AreTwiddlesOfLayers, root_of, root_powers};
+ghost use Rattle.std.specs.Prelude.{◌≡◌, ◌⊎◌, ◌+◌, ◌-◌, ◌/◌, ◌^◌, ◌<◌, ◌≤◌, true, false, IsOk, IfOk, OnOk, OnErr};
+ghost use Rattle.p3_dft.specs.Twiddles.{AreTwiddles, AreTwiddlesOfLayers, reversed_root_powers, root_of, root_powers};
 
 use crate::radix_2_bowers::reversed_powers;
 use crate::twiddles::push_powers;
@@ -28,23 +26,23 @@ pub(crate) struct RootTables<F: TwoAdicField> {
 }
 
 impl<F: TwoAdicField> Model for RootTables<F> {
-    ghost use Rattle.std.specs.Prelude.{◌≡◌, ◌+◌, ◌/◌, ◌-◌, ◌^◌, ◌≤◌};
-    ghost use Rattle.p3_field.specs.Ring.{power};
-    ghost use Rattle.p3_matrix.specs.BitOrder.{rev};
-    ghost use Rattle.p3_dft.specs.Twiddles.{AreTwiddles, AreTwiddlesOfLayers, RootsUpTo, items_if_any, root_of, root_powers};
+    ghost use Rattle.std.specs.Prelude.{◌+◌, ◌/◌, ◌-◌, ◌^◌, ◌≤◌};
+    ghost use Rattle.p3_dft.specs.Twiddles.{AreTwiddles, AreTwiddlesOfLayers, RootsUpTo, items_if_any, reversed_root_powers, root_powers};
 
     ghost Value = { RootsUpTo };
 
     ghost view = { λ t. record { inverse = t.inverse; log_h = t.log_h } };
 
-    ghost invariant = { λ t. AreTwiddlesOfLayers F.Field ((t.log_h + 1) / 2) (root_powers F.Field F.generator t.inverse) (items_if_any t.low)
-        × (1 ≤ t.log_h → AreTwiddles F.Field (2 ^ (t.log_h - 1)) (λ b. power F.Field.ring (root_of F.Field F.generator t.inverse t.log_h) (rev (t.log_h - 1) b)) (items_if_any t.high))
+    ghost invariant = { λ t.
+        AreTwiddlesOfLayers F.Field ((t.log_h + 1) / 2) (root_powers F.Field F.generator t.inverse) (items_if_any t.low)
+        × (1 ≤ t.log_h → AreTwiddles F.Field (2 ^ (t.log_h - 1))
+        (reversed_root_powers F.Field F.generator t.inverse t.log_h) (items_if_any t.high))
         × (t.log_h ≤ F.TWO_ADICITY) };
 }
 
 impl<F: TwoAdicField> RootTables<F> {
     // Those of height one, which needs none. It takes no memory.
-    pub(crate) fn new(inverse: bool) -> Self
+    fn none(inverse: bool) -> Self
         ensures { result ≡ record { inverse = inverse; log_h = 0 } }
     {
         RootTables {
@@ -55,39 +53,27 @@ impl<F: TwoAdicField> RootTables<F> {
         }
     }
 
-    // The logarithm of the largest height whose tables are there.
-    pub(crate) fn log_h(&self) -> usize
-        ensures { result ≡ self.now.log_h }
-    {
-        self.log_h
-    }
-
-    // Makes the tables for height `2^log_h`, unless they are there: then no memory is taken. Where memory
-    // is refused, what is there stays.
-    pub(crate) fn make(&mut self, alloc: Global, log_h: usize) -> Result<(), DftError>
+    // Those of height `2^log_h`.
+    fn up_to(alloc: Global, inverse: bool, log_h: usize) -> Result<Self, DftError>
+        requires some { 1 ≤ log_h }
         requires within { log_h ≤ F.TWO_ADICITY }
         requires small { log_h < 64 }
-        ensures same { self.new.inverse ≡ self.old.inverse }
-        ensures made { OnOk result (log_h ≤ self.new.log_h) }
-        ensures ready { log_h ≤ self.old.log_h → IsOk result }
-        ensures keeps { self.old.log_h ≤ self.new.log_h }
-        ensures only { (self.new.log_h ≡ self.old.log_h) ⊎ (self.new.log_h ≡ log_h) }
-        ensures refused { OnErr result (self.new ≡ self.old) }
+        ensures { IfOk result (λ t. t ≡ record { inverse = inverse; log_h = log_h }) }
     {
-        if log_h <= self.log_h {
-            return Ok(());
-        }
-        let low = root_layers(alloc, self.inverse, (log_h + 1) / 2)?;
-        let high = reversed_roots(alloc, self.inverse, log_h)?;
-        self.low = Some(low);
-        self.high = Some(high);
-        self.log_h = log_h;
-        Ok(())
+        let low = root_layers(alloc, inverse, (log_h + 1) / 2)?;
+        let high = reversed_roots(alloc, inverse, log_h)?;
+        Ok(RootTables {
+            inverse,
+            log_h,
+            low: Some(low),
+            high: Some(high),
+        })
     }
 
     // Those of the first half.
     pub(crate) fn low(&self) -> &[F]
-        ensures { AreTwiddlesOfLayers F.Field.own ((self.now.log_h + 1) / 2) (root_powers F.Field.own F.generator self.now.inverse) result.now }
+        ensures { AreTwiddlesOfLayers F.Field.own ((self.now.log_h + 1) / 2)
+            (root_powers F.Field.own F.generator self.now.inverse) result.now }
     {
         match &self.low {
             Some(powers) => powers.as_slice(),
@@ -99,12 +85,85 @@ impl<F: TwoAdicField> RootTables<F> {
     pub(crate) fn high(&self) -> &[F]
         ensures within { self.now.log_h ≤ F.TWO_ADICITY }
         ensures table { 1 ≤ self.now.log_h → AreTwiddles F.Field.own (2 ^ (self.now.log_h - 1))
-            (λ b. power F.ring (root_of F.Field.own F.generator self.now.inverse self.now.log_h) (rev (self.now.log_h - 1) b)) result.now }
+            (reversed_root_powers F.Field.own F.generator self.now.inverse self.now.log_h) result.now }
     {
         match &self.high {
             Some(powers) => powers.as_slice(),
             None => &[],
         }
+    }
+}
+
+// The powers of the generators and those of their inverses, for all heights up to one.
+//
+// Contracts see the logarithm of that height.
+#[derive(Drop)]
+pub(crate) struct Tables<F: TwoAdicField> {
+    forward: RootTables<F>,
+    inverse: RootTables<F>,
+}
+
+impl<F: TwoAdicField> Model for Tables<F> {
+    ghost use Rattle.std.specs.Prelude.{◌≡◌, ℕ, true, false};
+
+    ghost Value = { ℕ };
+
+    ghost view = { λ t. t.forward.log_h };
+
+    ghost invariant = { λ t. (t.forward.inverse ≡ false) × (t.inverse ≡ record { inverse = true; log_h = t.forward.log_h }) };
+}
+
+impl<F: TwoAdicField> Tables<F> {
+    // Those of height one. They take no memory.
+    pub(crate) fn new() -> Self
+        ensures { result ≡ 0 }
+    {
+        Tables {
+            forward: RootTables::none(false),
+            inverse: RootTables::none(true),
+        }
+    }
+
+    // The logarithm of the largest height whose tables are there.
+    pub(crate) fn log_h(&self) -> usize
+        ensures { result ≡ self.now }
+    {
+        self.forward.log_h
+    }
+
+    // Makes the tables for height `2^log_h`, unless they are there: then no memory is taken. Where memory
+    // is refused, what is there stays.
+    pub(crate) fn make(&mut self, alloc: Global, log_h: usize) -> Result<(), DftError>
+        requires within { log_h ≤ F.TWO_ADICITY }
+        requires small { log_h < 64 }
+        ensures made { OnOk result (log_h ≤ self.new) }
+        ensures ready { log_h ≤ self.old → IsOk result }
+        ensures keeps { self.old ≤ self.new }
+        ensures only { (self.new ≡ self.old) ⊎ (self.new ≡ log_h) }
+        ensures refused { OnErr result (self.new ≡ self.old) }
+    {
+        if log_h <= self.log_h() {
+            return Ok(());
+        }
+        let forward = RootTables::up_to(alloc, false, log_h)?;
+        let inverse = RootTables::up_to(alloc, true, log_h)?;
+        self.forward = forward;
+        self.inverse = inverse;
+        Ok(())
+    }
+
+    // The powers of the generators.
+    pub(crate) fn forward(&self) -> &RootTables<F>
+        ensures { result.now ≡ record { inverse = false; log_h = self.now } }
+    {
+        &self.forward
+    }
+
+    // Those of their inverses.
+    pub(crate) fn inverse(&self) -> &RootTables<F>
+        ensures { result.now ≡ record { inverse = true; log_h = self.now } }
+    {
+        &self.inverse
     }
 }
 
@@ -131,7 +190,7 @@ fn reversed_roots<F: TwoAdicField>(
     requires within { log_h ≤ F.TWO_ADICITY }
     requires small { log_h < 64 }
     ensures { IfOk result (λ v. AreTwiddles F.Field.own (2 ^ (log_h - 1))
-        (λ b. power F.ring (root_of F.Field.own F.generator inverse log_h) (rev (log_h - 1) b)) v.items) }
+        (reversed_root_powers F.Field.own F.generator inverse log_h) v.items) }
 {
     let root = root::<F>(inverse, log_h);
     reversed_powers(alloc, F::ONE, root, log_h - 1)

@@ -34,17 +34,17 @@ fn heights_are_prepared(rt: HostRuntime) -> Result<(), Fail> {
     Ok(())
 }
 
-// A height that was only transformed is not prepared: the tables of the inverse are not there.
+// A transform prepares its height, for inverses too.
 #[test]
-fn transformed_is_not_prepared(rt: HostRuntime) -> Result<(), Fail> {
+fn transformed_is_prepared(rt: HostRuntime) -> Result<(), Fail> {
     let alloc = rt.alloc();
     let mut engine = Radix2DitParallel::<BabyBear>::default();
     let column = elements(alloc, &[1, 2, 3, 4])?;
     assert!(rt; fits_dft::<BabyBear>(column.len(), 1));
     let values = engine.dft(column)?;
-    assert!(rt; !engine.is_prepared(2));
+    assert!(rt; engine.is_prepared(2));
     assert!(rt; fits_dft::<BabyBear>(values.len(), 1));
     assert!(rt; engine.idft(values)? == elements(alloc, &[1, 2, 3, 4])?);
-    assert!(rt; engine.is_prepared(2));
+    assert!(rt; !engine.is_prepared(3));
     Ok(())
 }

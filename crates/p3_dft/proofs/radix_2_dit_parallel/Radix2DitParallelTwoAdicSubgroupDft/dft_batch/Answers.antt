@@ -1,8 +1,11 @@
-use Rattle.std.proofs.Common.{◌≡◌, ◌^◌, Result, Ok, Err, IsOk, sym, ap, ◌∙◌, arith, rules}
+use Rattle.std.proofs.Common.{◌≡◌, ◌⊎◌, inl, ℕ, ◌^◌, ◌≤◌, Result, Ok, Err, IsOk, refl, sym, ap, ◌∙◌, subst, arith, rules}
+use Rattle.std.specs.List.{range_with_len}
 use Rattle.p3_matrix.specs.RowMajor.{RowMajor, height}
 use Rattle.p3_matrix.proofs.TwoPowers.{log_same}
-use Rattle.p3_dft.specs.Twiddles.{ThereAndBack}
+use Rattle.p3_dft.specs.Twiddles.{Tabled, IsPrepared}
+use Rattle.p3_dft.proofs.BitReversed.OneRow.{row_handed_back, row_seen}
 use Rattle.p3_dft.proofs.BitReversed.Rows.{transform_seen}
+use Rattle.p3_dft.proofs.Tables.PreparedHeights.{prepared_before, prepared_until, until_prepared}
 use Rattle.p3_dft.proofs.radix_2_dit_parallel.Radix2DitParallelTwoAdicSubgroupDft.dft_batch.Goals as goal
 
 not_ok : {A E : Type 0} (r : Result A E) (e : E) → r ≡ Err e → IsOk r → ⊥
@@ -11,42 +14,89 @@ not_ok (Err x) e is ok = search rules
 
 pub make-requires-clause-within : goal.make-requires-clause-within
 make-requires-clause-within g c =
-    let tall : c.height.result ≡ height (g.N.IntoRowMajorMatrix.stored c.args.mat) = c.height.ensures.height ∙ ap height c.into_row_major_matrix-mat.ensures in
+    let tall : c.height-height.result ≡ height (g.N.IntoRowMajorMatrix.stored c.args.mat) = c.height-height.ensures.height ∙ ap height c.into_row_major_matrix-mat.ensures in
     let same : c.log2_strict_usize-log_h.result ≡ c.requires.log = log_same _ _ (sym c.log2_strict_usize-log_h.ensures.power ∙ tall ∙ c.requires.high) in
     omega (arith, same, c.requires.within)
 
-pub returns-in_err-make-clause-ready : goal.returns-in_err-make-clause-ready
-returns-in_err-make-clause-ready g c k high ready =
-    let tall : c.height.result ≡ height (g.N.IntoRowMajorMatrix.stored c.args.mat) = c.height.ensures.height ∙ ap height c.into_row_major_matrix-mat.ensures in
+pub returns-in_err-make-clause-succeeds : goal.returns-in_err-make-clause-succeeds
+returns-in_err-make-clause-succeeds g c k high ready =
+    let tall : c.height-height.result ≡ height (g.N.IntoRowMajorMatrix.stored c.args.mat) = c.height-height.ensures.height ∙ ap height c.into_row_major_matrix-mat.ensures in
     let log = c.log2_strict_usize-log_h.result in
     let same : k ≡ log = log_same k log (sym high ∙ sym tall ∙ c.log2_strict_usize-log_h.ensures.power) in
-    let held = ap (λ (e : ThereAndBack). e.forward) c.self.view_is in
-    absurd (not_ok c.make.result _ c.in_err-make.was (c.make.ensures.ready (omega (arith, same, ready, held))))
-
-pub returns-in_err-make-clause-succeeds : goal.returns-in_err-make-clause-succeeds
-returns-in_err-make-clause-succeeds g c k high ready = returns-in_err-make-clause-ready g c k high ready.0
+    let held : k ≤ c.self.inside.tables = until_prepared _ k (subst (λ (e : Tabled). IsPrepared e k) (sym c.self.view_is) ready) in
+    let there : log ≤ c.self.inside.tables = omega (arith, same, held) in
+    absurd (not_ok c.make.result _ c.in_err-make.was (c.make.ensures.ready there))
 
 pub returns-clause-values : goal.returns-clause-values
 returns-clause-values g c =
     let field = g.F.Field in
     let m = c.into_row_major_matrix-mat.result in
     let log = c.log2_strict_usize-log_h.result in
-    let high : height m ≡ 2 ^ log = sym c.height.ensures.height ∙ c.log2_strict_usize-log_h.ensures.power in
-    rw (← c.into_row_major_matrix-mat.ensures, c.bit_reverse_rows.ensures.matrix)
-    (transform_seen field g.F.TwoAdicField.generator m c.evaluate.new.mat field.ring.one log c.bit_reverse_rows.result.bits high c.height.ensures.whole c.evaluate.ensures.shape c.evaluate.ensures.size
-    c.bit_reverse_rows.ensures.height c.evaluate.ensures.values)
+    let high : height m ≡ 2 ^ log = sym c.height-height.ensures.height ∙ c.log2_strict_usize-log_h.ensures.power in
+    rw (← c.into_row_major_matrix-mat.ensures, c.bit_reverse_rows-2.ensures.matrix)
+    (transform_seen field g.F.TwoAdicField.generator m c.evaluate.new.mat field.ring.one log c.bit_reverse_rows-2.result.bits high c.height-height.ensures.whole c.evaluate.ensures.shape c.evaluate.ensures.size
+    c.bit_reverse_rows-2.ensures.height c.evaluate.ensures.values)
+
+pub returns-clause-serves : goal.returns-clause-serves
+returns-clause-serves g c k high =
+    let tall : c.height-height.result ≡ height (g.N.IntoRowMajorMatrix.stored c.args.mat) = c.height-height.ensures.height ∙ ap height c.into_row_major_matrix-mat.ensures in
+    let log = c.log2_strict_usize-log_h.result in
+    let same : log ≡ k = log_same log k (sym c.log2_strict_usize-log_h.ensures.power ∙ tall ∙ high) in
+    prepared_until _ k (omega (arith, same, c.in_ok-make.ensures.made))
+
+pub returns-then-height-eq1-clause-values : goal.returns-then-height-eq1-clause-values
+returns-then-height-eq1-clause-values g c =
+    let m = c.into_row_major_matrix-mat.result in
+    let one : height m ≡ 1 = sym c.height-height.ensures.height ∙ c.if-height-eq1.true in
+    rw (← c.into_row_major_matrix-mat.ensures)
+    (row_seen g.F.Field g.F.TwoAdicField.generator m c.bit_reverse_rows.result.physical g.F.Field.ring.one c.bit_reverse_rows.result.bits c.height-height.ensures.whole one
+    c.bit_reverse_rows.ensures.matrix c.bit_reverse_rows.ensures.height)
+
+pub returns-then-height-eq1-clause-serves : goal.returns-then-height-eq1-clause-serves
+returns-then-height-eq1-clause-serves g c k high =
+    let tall : c.height-height.result ≡ height (g.N.IntoRowMajorMatrix.stored c.args.mat) = c.height-height.ensures.height ∙ ap height c.into_row_major_matrix-mat.ensures in
+    inl (log_same k 0 (sym high ∙ sym tall ∙ c.if-height-eq1.true))
+
+pub returns-then-height-eq1-clause-one_row : goal.returns-then-height-eq1-clause-one_row
+returns-then-height-eq1-clause-one_row g c one = (
+  row_handed_back c.bit_reverse_rows.result (g.N.IntoRowMajorMatrix.stored c.args.mat) (height c.into_row_major_matrix-mat.result)
+      (c.bit_reverse_rows.ensures.matrix ∙ c.into_row_major_matrix-mat.ensures) c.bit_reverse_rows.ensures.height (sym c.height-height.ensures.height ∙ c.if-height-eq1.true),
+  refl,
+)
+
+pub returns-in_err-make-clause-only : goal.returns-in_err-make-clause-only
+returns-in_err-make-clause-only g c k high n now =
+    let tall : c.height-height.result ≡ height (g.N.IntoRowMajorMatrix.stored c.args.mat) = c.height-height.ensures.height ∙ ap height c.into_row_major_matrix-mat.ensures in
+    let same : c.log2_strict_usize-log_h.result ≡ k = log_same _ k (sym c.log2_strict_usize-log_h.ensures.power ∙ tall ∙ high) in
+    subst (λ (e : Tabled). IsPrepared e n ⊎ (n ≤ k)) c.self.view_is
+    (subst (λ (l : ℕ). IsPrepared (record { prepared = range_with_len 1 c.self.inside.tables; products = c.self.inside.products }) n ⊎ (n ≤ l)) same
+    (prepared_before c.self.inside.tables c.make.new.self _ n c.make.ensures.only now))
+
+pub returns-clause-only : goal.returns-clause-only
+returns-clause-only g c k high n now =
+    let tall : c.height-height.result ≡ height (g.N.IntoRowMajorMatrix.stored c.args.mat) = c.height-height.ensures.height ∙ ap height c.into_row_major_matrix-mat.ensures in
+    let same : c.log2_strict_usize-log_h.result ≡ k = log_same _ k (sym c.log2_strict_usize-log_h.ensures.power ∙ tall ∙ high) in
+    subst (λ (e : Tabled). IsPrepared e n ⊎ (n ≤ k)) c.self.view_is
+    (subst (λ (l : ℕ). IsPrepared (record { prepared = range_with_len 1 c.self.inside.tables; products = c.self.inside.products }) n ⊎ (n ≤ l)) same
+    (prepared_before c.self.inside.tables c.make.new.self _ n c.make.ensures.only now))
+
+pub returns-clause-later : goal.returns-clause-later
+returns-clause-later g c =
+    let products : c.self.inside.products ≡ c.args.self.now.products = ap (λ e. e.products) c.self.view_is in
+    let there = λ (k : ℕ) (before : IsPrepared c.args.self.now k). until_prepared _ k (subst (λ (e : Tabled). IsPrepared e k) (sym c.self.view_is) before) in
+    let still : (k : ℕ) → IsPrepared c.args.self.now k → k ≤ c.make.new.self = λ k before. let held = there k before in omega (arith, held, c.make.ensures.keeps) in
+    record {
+      keeps = λ k before. prepared_until _ k (still k before);
+      keeps_cosets = λ k before. prepared_until _ k (still k before);
+      keeps_served = λ k before. prepared_until _ k (still k before);
+      grows = omega (arith, products, c.evaluate.ensures.grows);
+    }
 
 pub returns-clause-cost : goal.returns-clause-cost
 returns-clause-cost g c k high =
-    let tall : c.height.result ≡ height (g.N.IntoRowMajorMatrix.stored c.args.mat) = c.height.ensures.height ∙ ap height c.into_row_major_matrix-mat.ensures in
+    let tall : c.height-height.result ≡ height (g.N.IntoRowMajorMatrix.stored c.args.mat) = c.height-height.ensures.height ∙ ap height c.into_row_major_matrix-mat.ensures in
     let log = c.log2_strict_usize-log_h.result in
     let same : log ≡ k = log_same log k (sym c.log2_strict_usize-log_h.ensures.power ∙ tall ∙ high) in
-    let products = ap (λ (e : ThereAndBack). e.products) c.self.view_is in
+    let products : c.self.inside.products ≡ c.args.self.now.products = ap (λ (e : Tabled). e.products) c.self.view_is in
     let width = ap (λ (m : RowMajor g.row.F.Denot). m.width) c.into_row_major_matrix-mat.ensures in
     rw (← products, ← width, ← same) c.evaluate.ensures.cost
-
-pub returns-clause-tables : goal.returns-clause-tables
-returns-clause-tables g c k high =
-    let tall : c.height.result ≡ height (g.N.IntoRowMajorMatrix.stored c.args.mat) = c.height.ensures.height ∙ ap height c.into_row_major_matrix-mat.ensures in
-    let same : c.log2_strict_usize-log_h.result ≡ k = log_same _ k (sym c.log2_strict_usize-log_h.ensures.power ∙ tall ∙ high) in
-    omega (arith, same, c.in_ok-make.ensures.made)

@@ -1,15 +1,17 @@
-use Rattle.std.proofs.Common.{◌≡◌, ◌^◌, Result, Ok, Err, IsOk, refl, sym, ap, ◌∙◌, arith, rules}
+use Rattle.std.proofs.Common.{◌≡◌, ◌⊎◌, inl, ℕ, ◌^◌, ◌≤◌, Result, Ok, Err, IsOk, refl, sym, ap, ◌∙◌, subst, arith, rules}
+use Rattle.std.specs.List.{range_with_len}
 use Rattle.p3_matrix.specs.BitOrder.{bit_reversal}
 use Rattle.p3_matrix.specs.Matrix.{matrix}
 use Rattle.p3_matrix.specs.RowMajor.{RowMajor, height}
 use Rattle.p3_matrix.proofs.Matrices.{same_sym}
 use Rattle.p3_matrix.proofs.TwoPowers.{log_same}
 use Rattle.p3_dft.specs.Transforms.{values_of}
-use Rattle.p3_dft.specs.Twiddles.{ThereAndBack}
+use Rattle.p3_dft.specs.Twiddles.{Tabled, IsPrepared}
 use Rattle.p3_dft.proofs.BitReversed.Coefficients.{interpolation_of_coefficients}
 use Rattle.p3_dft.proofs.BitReversed.Rows.{transform_of_row}
 use Rattle.p3_dft.proofs.Polynomials.Interpolation.{same_coefficients}
 use Rattle.p3_dft.proofs.Polynomials.Inverses.{mapped_same}
+use Rattle.p3_dft.proofs.Tables.PreparedHeights.{prepared_before, prepared_until, until_prepared}
 use Rattle.p3_dft.proofs.radix_2_dit_parallel.Radix2DitParallelTwoAdicSubgroupDft.idft_batch.Goals as goal
 
 not_ok : {A E : Type 0} (r : Result A E) (e : E) → r ≡ Err e → IsOk r → ⊥
@@ -34,16 +36,14 @@ make-requires-clause-within g c =
     let same : c.log2_strict_usize-log_h.result ≡ c.requires.log = log_same _ _ (sym c.log2_strict_usize-log_h.ensures.power ∙ tall ∙ c.requires.high) in
     omega (arith, same, c.requires.within)
 
-pub returns-in_err-make-clause-ready : goal.returns-in_err-make-clause-ready
-returns-in_err-make-clause-ready g c k high ready =
+pub returns-in_err-make-clause-succeeds : goal.returns-in_err-make-clause-succeeds
+returns-in_err-make-clause-succeeds g c k high ready =
     let tall : c.height-height.result ≡ height (g.N.IntoRowMajorMatrix.stored c.args.mat) = c.height-height.ensures.height ∙ ap height c.into_row_major_matrix-mat.ensures in
     let log = c.log2_strict_usize-log_h.result in
     let same : k ≡ log = log_same k log (sym high ∙ sym tall ∙ c.log2_strict_usize-log_h.ensures.power) in
-    let held = ap (λ (e : ThereAndBack). e.inverse) c.self.view_is in
-    absurd (not_ok c.make.result _ c.in_err-make.was (c.make.ensures.ready (omega (arith, same, ready, held))))
-
-pub returns-in_err-make-clause-succeeds : goal.returns-in_err-make-clause-succeeds
-returns-in_err-make-clause-succeeds g c k high ready = returns-in_err-make-clause-ready g c k high ready.1
+    let held : k ≤ c.self.inside.tables = until_prepared _ k (subst (λ (e : Tabled). IsPrepared e k) (sym c.self.view_is) ready) in
+    let there : log ≤ c.self.inside.tables = omega (arith, same, held) in
+    absurd (not_ok c.make.result _ c.in_err-make.was (c.make.ensures.ready there))
 
 pub interpolate-requires-clause-rooted : goal.interpolate-requires-clause-rooted
 interpolate-requires-clause-rooted g c =
@@ -69,23 +69,51 @@ returns-clause-coefficients g c =
     (mapped_same field.value (matrix field.ZERO out) (bit_reversal log (matrix field.ZERO reversed_coefficients)) (c.reverse_rows.ensures.rows log (are.high ∙ high) field.ZERO)))
     are))
 
+pub returns-then-height-eq1-clause-serves : goal.returns-then-height-eq1-clause-serves
+returns-then-height-eq1-clause-serves g c k high =
+    let tall : c.height-height.result ≡ height (g.N.IntoRowMajorMatrix.stored c.args.mat) = c.height-height.ensures.height ∙ ap height c.into_row_major_matrix-mat.ensures in
+    inl (log_same k 0 (sym high ∙ sym tall ∙ c.if-height-eq1.true))
+
+pub returns-clause-serves : goal.returns-clause-serves
+returns-clause-serves g c k high =
+    let tall : c.height-height.result ≡ height (g.N.IntoRowMajorMatrix.stored c.args.mat) = c.height-height.ensures.height ∙ ap height c.into_row_major_matrix-mat.ensures in
+    let log = c.log2_strict_usize-log_h.result in
+    let same : log ≡ k = log_same log k (sym c.log2_strict_usize-log_h.ensures.power ∙ tall ∙ high) in
+    prepared_until _ k (omega (arith, same, c.in_ok-make.ensures.made))
+
+pub returns-in_err-make-clause-only : goal.returns-in_err-make-clause-only
+returns-in_err-make-clause-only g c k high n now =
+    let tall : c.height-height.result ≡ height (g.N.IntoRowMajorMatrix.stored c.args.mat) = c.height-height.ensures.height ∙ ap height c.into_row_major_matrix-mat.ensures in
+    let same : c.log2_strict_usize-log_h.result ≡ k = log_same _ k (sym c.log2_strict_usize-log_h.ensures.power ∙ tall ∙ high) in
+    subst (λ (e : Tabled). IsPrepared e n ⊎ (n ≤ k)) c.self.view_is
+    (subst (λ (l : ℕ). IsPrepared (record { prepared = range_with_len 1 c.self.inside.tables; products = c.self.inside.products }) n ⊎ (n ≤ l)) same
+    (prepared_before c.self.inside.tables c.make.new.self _ n c.make.ensures.only now))
+
+pub returns-clause-only : goal.returns-clause-only
+returns-clause-only g c k high n now =
+    let tall : c.height-height.result ≡ height (g.N.IntoRowMajorMatrix.stored c.args.mat) = c.height-height.ensures.height ∙ ap height c.into_row_major_matrix-mat.ensures in
+    let same : c.log2_strict_usize-log_h.result ≡ k = log_same _ k (sym c.log2_strict_usize-log_h.ensures.power ∙ tall ∙ high) in
+    subst (λ (e : Tabled). IsPrepared e n ⊎ (n ≤ k)) c.self.view_is
+    (subst (λ (l : ℕ). IsPrepared (record { prepared = range_with_len 1 c.self.inside.tables; products = c.self.inside.products }) n ⊎ (n ≤ l)) same
+    (prepared_before c.self.inside.tables c.make.new.self _ n c.make.ensures.only now))
+
+pub returns-clause-later : goal.returns-clause-later
+returns-clause-later g c =
+    let products : c.self.inside.products ≡ c.args.self.now.products = ap (λ e. e.products) c.self.view_is in
+    let there = λ (k : ℕ) (before : IsPrepared c.args.self.now k). until_prepared _ k (subst (λ (e : Tabled). IsPrepared e k) (sym c.self.view_is) before) in
+    let still : (k : ℕ) → IsPrepared c.args.self.now k → k ≤ c.make.new.self = λ k before. let held = there k before in omega (arith, held, c.make.ensures.keeps) in
+    record {
+      keeps = λ k before. prepared_until _ k (still k before);
+      keeps_cosets = λ k before. prepared_until _ k (still k before);
+      keeps_served = λ k before. prepared_until _ k (still k before);
+      grows = omega (arith, products, c.interpolate.ensures.grows);
+    }
+
 pub returns-clause-cost : goal.returns-clause-cost
 returns-clause-cost g c k high =
     let tall : c.height-height.result ≡ height (g.N.IntoRowMajorMatrix.stored c.args.mat) = c.height-height.ensures.height ∙ ap height c.into_row_major_matrix-mat.ensures in
     let log = c.log2_strict_usize-log_h.result in
     let same : log ≡ k = log_same log k (sym c.log2_strict_usize-log_h.ensures.power ∙ tall ∙ high) in
-    let products = ap (λ (e : ThereAndBack). e.products) c.self.view_is in
+    let products : c.self.inside.products ≡ c.args.self.now.products = ap (λ (e : Tabled). e.products) c.self.view_is in
     let width = ap (λ (m : RowMajor g.row.F.Denot). m.width) c.into_row_major_matrix-mat.ensures in
     rw (← products, ← width, ← same) c.interpolate.ensures.cost
-
-pub returns-then-height-eq1-clause-tables : goal.returns-then-height-eq1-clause-tables
-returns-then-height-eq1-clause-tables g c k high =
-    let tall : c.height-height.result ≡ height (g.N.IntoRowMajorMatrix.stored c.args.mat) = c.height-height.ensures.height ∙ ap height c.into_row_major_matrix-mat.ensures in
-    let none : k ≡ 0 = log_same k 0 (sym high ∙ sym tall ∙ c.if-height-eq1.true) in
-    omega (arith, none)
-
-pub returns-clause-tables : goal.returns-clause-tables
-returns-clause-tables g c k high =
-    let tall : c.height-height.result ≡ height (g.N.IntoRowMajorMatrix.stored c.args.mat) = c.height-height.ensures.height ∙ ap height c.into_row_major_matrix-mat.ensures in
-    let same : c.log2_strict_usize-log_h.result ≡ k = log_same _ k (sym c.log2_strict_usize-log_h.ensures.power ∙ tall ∙ high) in
-    omega (arith, same, c.in_ok-make.ensures.made)
