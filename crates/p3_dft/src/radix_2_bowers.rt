@@ -484,7 +484,8 @@ fn weigh_reversed_rows<F: TwoAdicField>(
 ) -> Result<(), DftError>
     requires { (k : ℕ) × (height mat.old ≡ 2 ^ k) }
     ensures rows { AtLog (height mat.old) (λ k. OnOk result (Same (bit_reversal k (values_of F.Field.own mat.new))
-        (image (λ x. F.ring.mul x (F.value scale)) (coset_shift F.ring (F.value shift) (bit_reversal k (values_of F.Field.own mat.old)))))) }
+        (image (λ x. F.ring.mul x (F.value scale))
+        (coset_shift F.ring (F.value shift) (bit_reversal k (values_of F.Field.own mat.old)))))) }
     ensures grows { products.old ≤ products.new }
     ensures cost { products.new ≤ products.old + height mat.old * mat.old.width }
 {

@@ -1,6 +1,7 @@
 //! Tests of shapes, and small steps that engines share.
 
-ghost use Rattle.std.specs.Prelude.{◌≡◌, ◌↔◌, ℕ, ◌+◌, ◌*◌, ◌++◌, ◌<◌, ◌≤◌, ◌^◌, IsTrue, IfOk, OnOk, OnErr, get_or, length, replicate, vec_len, vec_capacity};
+ghost use Rattle.std.specs.Prelude.{◌≡◌, ◌↔◌, ℕ, ◌+◌, ◌*◌, ◌++◌, ◌<◌, ◌≤◌, ◌^◌, IsTrue, IfOk, OnOk, OnErr};
+ghost use Rattle.std.specs.Prelude.{get_or, length, replicate, vec_len, vec_capacity};
 ghost use Rattle.p3_field.specs.Ring.{power};
 ghost use Rattle.p3_matrix.specs.BitOrder.{bit_reversal};
 ghost use Rattle.p3_matrix.specs.RowMajor.{height, HasShapeOf, IsRowMajor};
@@ -61,7 +62,8 @@ pub fn divide_by_height<F: TwoAdicField>(
     ensures same_reference { view.new.matrix.ghost_name ≡ view.old.matrix.ghost_name }
     ensures shape { HasShapeOf view.new.matrix.now view.old.matrix.now }
     ensures size { length view.new.matrix.now.values ≡ length view.old.matrix.now.values }
-    ensures divided { IsQuotient F.ring (height view.old.matrix.now) (values_of F.Field.own view.old.matrix.now) (values_of F.Field.own view.new.matrix.now) }
+    ensures divided { IsQuotient F.ring (height view.old.matrix.now)
+        (values_of F.Field.own view.old.matrix.now) (values_of F.Field.own view.new.matrix.now) }
     ensures count { products.new ≡ products.old + length view.old.matrix.now.values }
 {
     let log_height = log2_strict_usize(view.height());

@@ -403,8 +403,10 @@ fn transforms_of_a_sum<F: TwoAdicField, D: TwoAdicSubgroupDft<F>>(
 ) -> Result<Three<F>, DftError>
     requires fits { FitsDft F.TWO_ADICITY (height given.first) given.first.width }
     requires shape { HasShapeOf given.second given.first }
-    requires sum { Same (values_of F.Field.own given.third) (combination F.ring (F.value a) (values_of F.Field.own given.first) (F.value b) (values_of F.Field.own given.second)) }
-    ensures { IfOk result (λ out. Same (values_of F.Field.own out.third) (combination F.ring (F.value a) (values_of F.Field.own out.first) (F.value b) (values_of F.Field.own out.second))) }
+    requires sum { Same (values_of F.Field.own given.third)
+        (combination F.ring (F.value a) (values_of F.Field.own given.first) (F.value b) (values_of F.Field.own given.second)) }
+    ensures { IfOk result (λ out. Same (values_of F.Field.own out.third)
+        (combination F.ring (F.value a) (values_of F.Field.own out.first) (F.value b) (values_of F.Field.own out.second))) }
 {
     let first = engine
         .coset_dft_batch(given.first, shift)?
@@ -431,8 +433,10 @@ fn inverses_of_a_sum<F: TwoAdicField, D: TwoAdicSubgroupDft<F>>(
 ) -> Result<Three<F>, DftError>
     requires fits { FitsDft F.TWO_ADICITY (height given.first) given.first.width }
     requires shape { HasShapeOf given.second given.first }
-    requires sum { Same (values_of F.Field.own given.third) (combination F.ring (F.value a) (values_of F.Field.own given.first) (F.value b) (values_of F.Field.own given.second)) }
-    ensures { IfOk result (λ out. Same (values_of F.Field.own out.third) (combination F.ring (F.value a) (values_of F.Field.own out.first) (F.value b) (values_of F.Field.own out.second))) }
+    requires sum { Same (values_of F.Field.own given.third)
+        (combination F.ring (F.value a) (values_of F.Field.own given.first) (F.value b) (values_of F.Field.own given.second)) }
+    ensures { IfOk result (λ out. Same (values_of F.Field.own out.third)
+        (combination F.ring (F.value a) (values_of F.Field.own out.first) (F.value b) (values_of F.Field.own out.second))) }
 {
     let first = engine.idft_batch(given.first)?;
     let second = engine.idft_batch(given.second)?;
@@ -455,8 +459,10 @@ fn extensions_of_a_sum<F: TwoAdicField, D: TwoAdicSubgroupDft<F>>(
 ) -> Result<Three<F>, DftError>
     requires fits { FitsLde F.TWO_ADICITY (height given.first) given.first.width added_bits }
     requires shape { HasShapeOf given.second given.first }
-    requires sum { Same (values_of F.Field.own given.third) (combination F.ring (F.value a) (values_of F.Field.own given.first) (F.value b) (values_of F.Field.own given.second)) }
-    ensures { IfOk result (λ out. Same (values_of F.Field.own out.third) (combination F.ring (F.value a) (values_of F.Field.own out.first) (F.value b) (values_of F.Field.own out.second))) }
+    requires sum { Same (values_of F.Field.own given.third)
+        (combination F.ring (F.value a) (values_of F.Field.own given.first) (F.value b) (values_of F.Field.own given.second)) }
+    ensures { IfOk result (λ out. Same (values_of F.Field.own out.third)
+        (combination F.ring (F.value a) (values_of F.Field.own out.first) (F.value b) (values_of F.Field.own out.second))) }
 {
     let first = engine
         .coset_lde_batch(given.first, added_bits, shift)?
