@@ -54,9 +54,6 @@ module _ {A : Type 0} (R : Ring A) where
   pub neg-mul : (a b : A) → neg a ⊗ b ≡ neg (a ⊗ b)
   neg-mul a b = R.mul_comm (neg a) b ∙ mul-neg b a ∙ ap neg (R.mul_comm b a)
 
-  pub add-neg_left : (a b : A) → a ⊕ (neg a ⊕ b) ≡ b
-  add-neg_left a b = sym (R.add_assoc a (neg a) b) ∙ ap (λ x. x ⊕ b) (R.add_neg a) ∙ zero-add b
-
   pub two-mul : (a : A) → two R ⊗ a ≡ a ⊕ a
   two-mul a = add-mul 𝟙 𝟙 a ∙ ap₂ ◌⊕◌ (one-mul a) (one-mul a)
 

@@ -107,11 +107,6 @@ module _ {A : Type 0} (R : Ring A) where
   doubled_add zero a b = refl
   doubled_add (suc n) a b = ap (doubled n) (solve R (a ∷ b ∷ []) ((va ⊞ vb) ⊞ (va ⊞ vb)) ((va ⊞ va) ⊞ (vb ⊞ vb)) refl) ∙ doubled_add n (a ⊕ a) (b ⊕ b)
 
-  pub doubled-mul : (n : ℕ) (a b : A) → doubled n (a ⊗ b) ≡ a ⊗ doubled n b
-  unfolding doubled
-  doubled-mul zero a b = refl
-  doubled-mul (suc n) a b = ap (doubled n) (sym (R.mul_add a b b)) ∙ doubled-mul n a (b ⊕ b)
-
   -- it is a product by a power of two
   pub doubled-power : (n : ℕ) (a : A) → doubled n a ≡ power R (two R) n ⊗ a
   unfolding doubled
@@ -132,7 +127,3 @@ module _ {A : Type 0} (R : Ring A) where
   halved-doubled zero a = ap (λ x. x ⊗ a) (power-zero R R.half) ∙ Rings.one-mul R a
   halved-doubled (suc n) a =
       ap (λ x. x ⊗ doubled n (a ⊕ a)) (power-suc R R.half n) ∙ R.mul_assoc R.half (power R R.half n) (doubled n (a ⊕ a)) ∙ ap (λ x. R.half ⊗ x) (halved-doubled n (a ⊕ a)) ∙ Rings.half-double R a
-
-  pub doubled-halved : (n : ℕ) (a : A) → doubled n (halved n a) ≡ a
-  unfolding halved
-  doubled-halved n a = doubled-mul n (power R R.half n) a ∙ halved-doubled n a

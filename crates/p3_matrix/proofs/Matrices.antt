@@ -13,9 +13,6 @@ list_same f g (suc n) e =
     ∙ sym (ap (λ k. map g (range_with_len 0 k)) (sym (add-one n)) ∙ map-range_with_len_more g 0 n n (omega arith))
 
 module _ {E : Type 0} where
-  pub same_refl : (a : Matrix E) → Same a a
-  same_refl a = record { high = refl; wide = refl; alike = λ i j p q. refl }
-
   pub same_sym : (a b : Matrix E) → Same a b → Same b a
   same_sym a b s = record {
     high = sym s.high;

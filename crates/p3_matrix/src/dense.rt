@@ -50,7 +50,8 @@ impl<T: Eq> Eq for RowMajorMatrix<T> {
     ghost use Rattle.std.specs.Cmp.Rules.{comparing};
     ghost use Rattle.std.proofs.Common.{rules};
 
-    ghost laws = { and_equiv (on_equiv (λ m. m.width) (Prim.search (comparing, rules))) (on_equiv (λ m. m.values) (lists_equiv T.Eq.laws)) };
+    ghost laws = { and_equiv (on_equiv (λ m. m.width) (Prim.search (comparing, rules)))
+        (on_equiv (λ m. m.values) (lists_equiv T.Eq.laws)) };
 }
 
 impl<T> RowMajorMatrix<T> {

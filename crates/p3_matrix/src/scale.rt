@@ -34,7 +34,8 @@ impl<'a, F: Packable> RowMajorMatrixViewMut<'a, F> {
     pub fn scale(&mut self, t: F, products: &mut Products)
         ensures same_reference { self.new.matrix.ghost_name ≡ self.old.matrix.ghost_name }
         ensures width { self.new.matrix.now.width ≡ self.old.matrix.now.width }
-        ensures values { map F.value self.new.matrix.now.values ≡ map (λ x. F.ring.mul x (F.value t)) (map F.value self.old.matrix.now.values) }
+        ensures values { map F.value self.new.matrix.now.values
+            ≡ map (λ x. F.ring.mul x (F.value t)) (map F.value self.old.matrix.now.values) }
         ensures count { products.new ≡ products.old + length self.old.matrix.now.values }
     {
         self.matrix.scale(t, products);
