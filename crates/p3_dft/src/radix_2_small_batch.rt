@@ -1,17 +1,21 @@
 //! The transform that does most layers on tiles of rows that stay in the cache.
 
-ghost use Rattle.std.specs.Prelude.{◌≡◌, ◌↔◌, ◌⊎◌, ℕ, ◌+◌, ◌*◌, ◌/◌, ◌^◌, ◌<◌, ◌≤◌, max, IsTrue, IsOk, IfOk, OnOk, OnErr, Ok, []};
-ghost use Rattle.p3_matrix.specs.RowMajor.{IsRowMajor, height};
+ghost use Rattle.std.specs.Prelude.{◌≡◌, ◌↔◌, ◌⊎◌, ℕ, ◌+◌, ◌*◌, ◌/◌, ◌^◌, ◌<◌, ◌≤◌, max, IsTrue, IsOk, IfOk, OnOk, OnErr, Ok, [], length};
+ghost use Rattle.p3_matrix.specs.BitOrder.{bit_reversal};
+ghost use Rattle.p3_matrix.specs.Matrix.{Matrix, image};
+ghost use Rattle.p3_matrix.specs.RowMajor.{HasShapeOf, IsRowMajor, height};
+ghost use Rattle.p3_dft.specs.Cosets.{AreCoefficients, IsQuotient, IsValues, coset_shift};
 ghost use Rattle.p3_dft.specs.Engines.{AtLog};
-ghost use Rattle.p3_dft.specs.Transforms.{IsInterpolation, IsTransform};
+ghost use Rattle.p3_dft.specs.Transforms.{IsInterpolation, IsTransform, values_of};
 ghost use Rattle.p3_dft.specs.Twiddles.{AreTwiddlesFromStart, IsPrepared, backward_root, block_powers, forward_root};
 
 mod networks;
 mod tables;
 
+use crate::radix_2_bowers::reversed_powers;
 use crate::traits::{Layout, TwoAdicSubgroupDft};
-use crate::util::reverse_rows;
-use networks::{dit_network, scaled_dif_network};
+use crate::util::{extend_by_zeros, reverse_rows};
+use networks::{dit_network, extending_network, scaled_dif_network};
 use p3_field::{Products, TwoAdicField};
 use p3_matrix::{DftError, IntoRowMajorMatrix, RowMajorMatrix, log2_strict_usize};
 use std::alloc::{AllocError, Global};
@@ -150,7 +154,7 @@ impl<F: TwoAdicField> TwoAdicSubgroupDft<F> for Radix2DFTSmallBatch<F> {
     ghost use Rattle.std.specs.Prelude.{◌≡◌, ℕ, ◌+◌, ◌*◌, ◌/◌, ◌^◌, ◌≤◌, IfOk, IsOk, OnOk, Ok};
     ghost use Rattle.p3_matrix.specs.RowMajor.{HasShapeOf, RowMajor, height};
     ghost use Rattle.p3_dft.specs.Engines.{AtLog, IsLater};
-    ghost use Rattle.p3_dft.specs.Extensions.{IsTransformedExtension, extension_bound};
+    ghost use Rattle.p3_dft.specs.Extensions.{IsExtension, IsTransformedExtension, extension_bound};
     ghost use Rattle.p3_dft.specs.Shapes.{FitsDft, FitsLde};
     ghost use Rattle.p3_dft.specs.Transforms.{IsInterpolation, IsTransform};
     ghost use Rattle.p3_dft.specs.Twiddles.{IsPrepared};
@@ -234,6 +238,49 @@ impl<F: TwoAdicField> TwoAdicSubgroupDft<F> for Radix2DFTSmallBatch<F> {
         Ok(mat)
     }
 
+    /// As the trait says, in less than an inverse and a transform of the larger height: no rows are
+    /// reversed, and no row of zeros is met. A matrix of height one without added bits is its own
+    /// extension: it is handed back, with no product and no memory taken.
+    fn coset_lde_batch<N: IntoRowMajorMatrix<F>>(
+        &mut self,
+        mat: N,
+        added_bits: usize,
+        shift: F,
+    ) -> Result<RowMajorMatrix<F>, DftError>
+        requires { FitsLde F.TWO_ADICITY (height (N.stored mat)) (N.stored mat).width added_bits }
+        ensures values { IfOk result (λ out.
+            IsExtension F.Field.own F.generator (N.stored mat) added_bits (F.value shift) out) }
+        ensures serves { AtLog (height (N.stored mat))
+            (λ k. OnOk result (IsPrepared self.new k × IsPrepared self.new (k + added_bits))) }
+        ensures later { IsLater IsPrepared IsPrepared IsPrepared (λ e. e.products) self.old self.new }
+        ensures cost { AtLog (height (N.stored mat)) (λ k. OnOk result (self.new.products
+            ≤ self.old.products + extension_bound (λ n w. w * (n * 2 ^ n / 2)) k added_bits (N.stored mat).width)) }
+        ensures fewer { AtLog (height (N.stored mat)) (λ k. OnOk result (self.new.products
+            ≤ self.old.products + (N.stored mat).width * (k * 2 ^ k / 2 * (1 + 2 ^ added_bits) + 2 ^ (k + added_bits)))) }
+    {
+        let mut mat = mat.into_row_major_matrix();
+        let log_h = log2_strict_usize(mat.height());
+        if log_h + added_bits == 0 {
+            return Ok(mat);
+        }
+        self.tables.make(*mat.allocator(), log_h + added_bits)?;
+        let tile = self.tile;
+        let backward = self.tables.backward();
+        interpolate_reversed(&mut mat, log_h, tile, backward, &mut self.products);
+        let scale = F::ONE.div_2exp_u64(log_h as u64);
+        let forward = self.tables.forward();
+        extend(
+            mat,
+            scale,
+            shift,
+            log_h,
+            added_bits,
+            tile,
+            forward,
+            &mut self.products,
+        )
+    }
+
     fn coset_lde_batch_with_transform<
         N: IntoRowMajorMatrix<F>,
         T: FnOnce(RowMajorMatrix<F>, Layout) -> RowMajorMatrix<F> + Drop,
@@ -271,6 +318,83 @@ fn evaluate<F: TwoAdicField>(
     let log_rows = log_tile_rows(tile, width, log_h);
     dit_network(twiddles, mat.values_mut(), width, log_rows, log_h, products);
     reverse_rows(mat);
+}
+
+// From values on the subgroup, the coefficients times the height, in place: rows in natural order
+// become rows in bit reversed order. A single row has no layer.
+fn interpolate_reversed<F: TwoAdicField>(
+    mat: &mut RowMajorMatrix<F>,
+    log_h: usize,
+    tile: usize,
+    twiddles: &[F],
+    products: &mut Products,
+)
+    requires whole { IsRowMajor mat.old }
+    requires small { log_h < 64 }
+    requires rooted { log_h ≤ F.TWO_ADICITY }
+    requires height { height mat.old ≡ 2 ^ log_h }
+    requires tile { tile ≤ 4294967296 }
+    requires twiddles { AreTwiddlesFromStart F.Field.own log_h (block_powers F.Field.own (backward_root F.Field.own F.generator)) twiddles.now }
+    ensures shape { HasShapeOf mat.new mat.old }
+    ensures size { length mat.new.values ≡ length mat.old.values }
+    ensures coefficients { (c : Matrix F.Element) → IsQuotient F.ring (2 ^ log_h) (bit_reversal log_h (values_of F.Field.own mat.new)) c
+        → AreCoefficients F.ring (λ n. F.value (F.generator n)) (values_of F.Field.own mat.old) log_h F.ring.one c }
+    ensures grows { products.old ≤ products.new }
+    ensures cost { products.new ≤ products.old + mat.old.width * (log_h * 2 ^ log_h / 2) }
+{
+    if log_h == 0 {
+        return;
+    }
+    let width = mat.width();
+    let log_rows = log_tile_rows(tile, width, log_h);
+    dit_network(twiddles, mat.values_mut(), width, log_rows, log_h, products);
+}
+
+// From coefficients whose rows lie in bit reversed order, times `scale`, the values on the coset of
+// `shift` of `2^added_bits` times as many points, which are more than one.
+fn extend<F: TwoAdicField>(
+    mat: RowMajorMatrix<F>,
+    scale: F,
+    shift: F,
+    log_h: usize,
+    added_bits: usize,
+    tile: usize,
+    twiddles: &[F],
+    products: &mut Products,
+) -> Result<RowMajorMatrix<F>, DftError>
+    requires whole { IsRowMajor mat }
+    requires some { 1 ≤ log_h + added_bits }
+    requires small { log_h + added_bits < 64 }
+    requires rooted { log_h + added_bits ≤ F.TWO_ADICITY }
+    requires height { height mat ≡ 2 ^ log_h }
+    requires room { mat.width * 2 ^ (log_h + added_bits) < 2 ^ 64 }
+    requires tile { tile ≤ 4294967296 }
+    requires twiddles { AreTwiddlesFromStart F.Field.own (log_h + added_bits)
+        (block_powers F.Field.own (forward_root F.Field.own F.generator)) twiddles.now }
+    ensures values { IfOk result (λ out. IsValues F.ring (λ n. F.value (F.generator n))
+        (image (λ x. F.ring.mul x (F.value scale)) (coset_shift F.ring (F.value shift) (bit_reversal log_h (values_of F.Field.own mat))))
+        (log_h + added_bits) F.ring.one (values_of F.Field.own out)) }
+    ensures grows { products.old ≤ products.new }
+    ensures cost { products.new ≤ products.old + mat.width * (2 ^ added_bits * (log_h * 2 ^ log_h / 2) + 2 ^ (log_h + added_bits)) }
+{
+    let alloc = *mat.allocator();
+    let width = mat.width();
+    let weights = reversed_powers(alloc, scale, shift, log_h)?;
+    let mut values = Vec::new(alloc);
+    extend_by_zeros(&mut values, mat.values().len() << added_bits)?;
+    let log_rows = log_tile_rows(tile, width, log_h + added_bits).max(added_bits);
+    extending_network(
+        twiddles,
+        weights.as_slice(),
+        mat.values(),
+        values.as_mut_slice(),
+        width,
+        added_bits,
+        log_rows,
+        log_h + added_bits,
+        products,
+    );
+    Ok(RowMajorMatrix::new(values, width))
 }
 
 // From values on the subgroup to coefficients, in place.

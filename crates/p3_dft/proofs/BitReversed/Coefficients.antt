@@ -12,13 +12,13 @@ use Rattle.p3_matrix.specs.RowMajor.{RowMajor, IsRowMajor, height}
 use Rattle.p3_matrix.proofs.BitReversal.{rev_of_zero, rev-lt, rev-rev, reversed_twice}
 use Rattle.p3_matrix.proofs.Matrices.{same_sym}
 use Rattle.p3_matrix.proofs.TwoPowers.{log_same}
-use Rattle.p3_dft.specs.Cosets.{AreCoefficients, IsQuotient, IsValues, coset_shift}
+use Rattle.p3_dft.specs.Cosets.{AreCoefficients, IsQuotient, IsValues, coset_shift, point}
 use Rattle.p3_dft.specs.Extensions.{IsExtension, IsTransformedExtension, extension_bound}
 use Rattle.p3_dft.specs.Polynomials.{poly}
 use Rattle.p3_dft.specs.Shapes.{FitsLde}
 use Rattle.p3_dft.specs.Transforms.{AreValuesOfRows, values_of, IsInterpolation}
 use Rattle.p3_dft.specs.declared.traits.Layout.TheVariants.{BitReversed}
-use Rattle.p3_dft.proofs.Polynomials.Cosets.{coefficients_same, is_subgroup_values}
+use Rattle.p3_dft.proofs.Polynomials.Cosets.{coefficients_same, is_subgroup_values, is_values}
 use Rattle.p3_dft.proofs.Polynomials.Interpolation.{inverse_transform, there_is_no_other, transform_is}
 use Rattle.p3_dft.proofs.Polynomials.ByIndex.{poly_same, poly-one, poly-times}
 use Rattle.p3_dft.proofs.BitReversed.Rows.{transform_of_row}
@@ -176,6 +176,19 @@ module _ {F : Type 0} (f : FieldMembers F) (generator : ℕ → F) where
     are_coefficients = λ k e. subst (λ (n : ℕ). AreCoefficients f.ring (λ i. f.value (generator i)) (values_of f m) n f.ring.one c) (log_same log k (sym high ∙ e)) are;
     extended = λ k e. subst (λ (n : ℕ). IsValues f.ring (λ i. f.value (generator i)) c (n + a) s (values_of f out)) (log_same log k (sym high ∙ e)) values;
   }
+
+  -- a single row is its own extension by no bits
+  pub extension_of_row : (m : RowMajor F) (a : ℕ) (s : f.Element) → height m ≡ 1 → a ≡ 0 → IsExtension f generator m a s m
+  extension_of_row m a s one none =
+      let single : 2 ^ (0 + a) ≡ 1 = let e : 0 + a ≡ 0 = omega (arith, none) in ap (λ n. 2 ^ n) e in
+      extension_of_coefficients m m (values_of f m) a 0 s one
+      (record { high = refl; wide = refl; values = transform_of_row f generator m one 0 one })
+      (is_values f.ring (λ n. f.value (generator n)) (values_of f m) (0 + a) s (values_of f m) (one ∙ sym single) refl
+      (λ i j below inside.
+      let column = λ (q : ℕ). (values_of f m).entry q j in
+      let x = point f.ring (λ n. f.value (generator n)) (0 + a) s i in
+      let first : i ≡ 0 = omega (arith, below, single) in
+      ap column first ∙ sym (ap (λ n. poly f.ring n column x) one ∙ poly-one f.ring column x)))
 
   -- the same of what a transform, told the coefficients in bit reversed order, answered in that order
   pub extension_of_answered : (may_answer : RowMajor F → RowMajor F → Type 0) (m told answered out : RowMajor F) (a log : ℕ) (s : f.Element) → height m ≡ 2 ^ log

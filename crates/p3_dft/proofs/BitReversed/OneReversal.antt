@@ -5,15 +5,16 @@ use Rattle.p3_field.specs.declared.fields.Field.{Ghosts as FieldMembers}
 use Rattle.p3_field.proofs.Powers.{count-power_of_two}
 use Rattle.p3_field.proofs.Roots.{inverse_root}
 use Rattle.p3_matrix.specs.BitOrder.{rev, bit_reversal}
-use Rattle.p3_matrix.specs.Matrix.{Matrix, Same, matrix}
+use Rattle.p3_matrix.specs.Matrix.{Matrix, Same, image, matrix}
 use Rattle.p3_matrix.specs.RowMajor.{RowMajor, HasShapeOf, IsRowMajor, height}
 use Rattle.p3_matrix.proofs.BitReversal.{rev-lt, rev-rev}
-use Rattle.p3_dft.specs.Cosets.{AreCoefficients}
+use Rattle.p3_dft.specs.Cosets.{AreCoefficients, IsValues, coset_shift}
 use Rattle.p3_dft.specs.Polynomials.{poly}
 use Rattle.p3_dft.specs.Transforms.{AreValuesOfRows, IsInterpolation, IsTransform, values_of}
 use Rattle.p3_dft.proofs.BitReversed.Coefficients.{interpolation_of_coefficients}
 use Rattle.p3_dft.proofs.Calls.Transforms.{height_of_parts, transform_of_entries}
 use Rattle.p3_dft.proofs.Polynomials.ByIndex.{poly_same, poly-times}
+use Rattle.p3_dft.proofs.Polynomials.Cosets.{is_subgroup_values}
 use Rattle.p3_dft.proofs.Polynomials.Interpolation.{inverse_transform, transform_is}
 use Rattle.p3_dft.proofs.Rows.Overwritten.{written}
 
@@ -86,3 +87,23 @@ module _ {F : Type 0} (f : FieldMembers F) (generator : ℕ → F) where
       (ap₂ (λ (xs : List F) (v : ℕ). f.value (get_or xs (rev log q * v + j) f.ZERO)) before_is (w_is ∙ sym shape.1)
       ∙ ap f.value (back.alike (rev log q) j (omega (arith, rev-lt log q, back.high, high)) (omega (arith, inside, shape.1)))
       ∙ ap (λ n. (values_of f m).entry n j) (rev-rev log q small)))))
+
+  -- a network made values at more points of the rows of m, which are coefficients in bit reversed order, each times its weight
+  pub values_of_weighed : (m out : RowMajor F) (after weights : List F) (w log k : ℕ) (scale shift : f.Element) → height m ≡ 2 ^ log → 1 ≤ w → w ≡ m.width → out.width ≡ w → out.values ≡ after
+      → length after ≡ 2 ^ k * w → ((b : ℕ) → b < 2 ^ log → f.value (get_or weights b f.ZERO) ≡ f.ring.mul scale (power f.ring shift (rev log b)))
+      → ((i j : ℕ) → i < 2 ^ k → j < w → f.value (get_or after (i * w + j) f.ZERO)
+      ≡ poly f.ring (2 ^ log) (λ q. f.ring.mul (f.value (get_or m.values (rev log q * w + j) f.ZERO)) (f.value (get_or weights (rev log q) f.ZERO))) (power f.ring (f.value (generator k)) i))
+      → IsValues f.ring (λ n. f.value (generator n)) (image (λ x. f.ring.mul x scale) (coset_shift f.ring shift (bit_reversal log (values_of f m)))) k f.ring.one (values_of f out)
+  values_of_weighed m out after weights w log k scale shift high wide w_is out_width out_values full weighed entries =
+      let c = image (λ x. f.ring.mul x scale) (coset_shift f.ring shift (bit_reversal log (values_of f m))) in
+      is_subgroup_values f.ring (λ n. f.value (generator n)) c k (values_of f out) (height_of_parts out after w (2 ^ k) wide full out_width out_values) (out_width ∙ w_is)
+      (λ i j below inside.
+      let x = power f.ring (f.value (generator k)) i in
+      ap₂ (λ (xs : List F) (v : ℕ). f.value (get_or xs (i * v + j) f.ZERO)) out_values out_width ∙ entries i j below (omega (arith, inside, w_is))
+      ∙ poly_same f.ring (2 ^ log) (λ q. f.ring.mul (f.value (get_or m.values (rev log q * w + j) f.ZERO)) (f.value (get_or weights (rev log q) f.ZERO))) (λ q. c.entry q j) x
+      (λ q small.
+      let y = f.value (get_or m.values (rev log q * w + j) f.ZERO) in
+      let p = power f.ring shift q in
+      ap (λ z. f.ring.mul y z) (weighed (rev log q) (rev-lt log q) ∙ ap (λ n. f.ring.mul scale (power f.ring shift n)) (rev-rev log q small) ∙ f.ring.mul_comm scale p)
+      ∙ sym (f.ring.mul_assoc y p scale) ∙ ap (λ v. f.ring.mul (f.ring.mul (f.value (get_or m.values (rev log q * v + j) f.ZERO)) p) scale) w_is)
+      ∙ ap (λ n. poly f.ring n (λ q. c.entry q j) x) (sym high))

@@ -1,7 +1,7 @@
 -- What loops count at most, where each turn makes at most so many products.
 use Rattle.std.proofs.Common.{◌≡◌, ℕ, zero, suc, ◌+◌, ◌*◌, ◌-◌, ◌/◌, ◌^◌, ◌<◌, ◌≤◌, refl, sym, ap, ap₂, ◌∙◌, subst, arith, add-one}
 use Rattle.std.proofs.lemmas.Nat.{pow-add}
-use Rattle.std.proofs.Math.Nat.{suc-mul, mul-div_cancel}
+use Rattle.std.proofs.Math.Nat.{suc-mul, mul-div_cancel, mul-le-mul_left, mul-le-mul_right}
 
 -- one turn more, of size pairs
 pub count_more : (cost n size before now after : ℕ) → now ≤ before + cost * (n * size) → after ≤ now + cost * size → after ≤ before + cost * ((n + 1) * size)
@@ -83,3 +83,29 @@ pub layers_joined : (r k len before middle after : ℕ) → r ≤ k → 2 * midd
 layers_joined r k len before middle after below first second =
     let all : (k - r) * len + r * len ≡ k * len = let e : k - r + r ≡ k = omega (arith, below) in let d : (k - r) * len + r * len ≡ (k - r + r) * len = omega arith in d ∙ ap (λ n. n * len) e in
     omega (arith, first, second, all)
+
+-- an extension by a bits whose first a layers are one product for each of its cells, and no more than a transform of its height
+pub extension_counted : (k a w len before after : ℕ) → 1 ≤ k + a → len ≡ 2 ^ (k + a) * w → 2 * after ≤ 2 * before + (k + a - a + 2) * len → after ≤ before + w * (2 ^ a * (k * 2 ^ k / 2) + 2 ^ (k + a))
+extension_counted k a w len before after some full twice =
+    let p = 2 ^ (k + a - 1) in
+    let d : 2 ^ (k + a) ≡ 2 * p = two_halves (k + a) (λ e. absurd (omega (arith, e, some))) in
+    let layers : k + a - a + 2 ≡ k + 2 = omega arith in
+    let each : k * len ≡ 2 * (w * (k * p)) = ap (λ n. k * n) (full ∙ ap (λ n. n * w) d) ∙ (let swap : k * (2 * p * w) ≡ 2 * (w * (k * p)) = omega arith in swap) in
+    let all : (k + a - a + 2) * len ≡ k * len + 2 * len = ap (λ n. n * len) layers ∙ (let spread : (k + 2) * len ≡ k * len + 2 * len = omega arith in spread) in
+    let half : w * (2 ^ a * (k * 2 ^ k / 2) + 2 ^ (k + a)) ≡ w * (k * p) + len =
+    ap (λ n. w * (n + 2 ^ (k + a))) (half_of_runs k a) ∙ (let spread : w * (k * p + 2 ^ (k + a)) ≡ w * (k * p) + 2 ^ (k + a) * w = omega arith in spread) ∙ ap (λ n. w * (k * p) + n) (sym full) in
+    omega (arith, twice, all, each, half)
+
+pub fewer_than_parts : (k a w : ℕ) → w * (k * 2 ^ k / 2 * (1 + 2 ^ a) + 2 ^ (k + a)) ≤ w * (k * 2 ^ k / 2) + 2 ^ k * w + (w * ((k + a) * 2 ^ (k + a) / 2) + 2 ^ (k + a) * w)
+fewer_than_parts k a w =
+    let x = k * 2 ^ k / 2 in
+    let rise : k * 2 ^ (k + a - 1) ≤ (k + a) * 2 ^ (k + a - 1) = mul-le-mul_right (2 ^ (k + a - 1)) (let l : k ≤ k + a = omega arith in l) in
+    let less : 2 ^ a * x ≤ (k + a) * 2 ^ (k + a) / 2 = omega (arith, rise, half_of_runs k a, half_count (k + a)) in
+    let wide : w * (2 ^ a * x) ≤ w * ((k + a) * 2 ^ (k + a) / 2) = mul-le-mul_left w less in
+    let spread : w * (x * (1 + 2 ^ a) + 2 ^ (k + a)) ≡ w * x + w * (2 ^ a * x) + 2 ^ (k + a) * w = omega arith in
+    omega (arith, spread, wide)
+
+pub extension_made : (x y p w before middle after : ℕ) → middle ≤ before + w * x → after ≤ middle + w * (p * x + y) → after ≤ before + w * (x * (1 + p) + y)
+extension_made x y p w before middle after first second =
+    let spread : w * x + w * (p * x + y) ≡ w * (x * (1 + p) + y) = omega arith in
+    omega (arith, first, second, spread)

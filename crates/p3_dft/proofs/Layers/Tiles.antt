@@ -1,5 +1,5 @@
 -- Runs of rows one after another, each done by itself.
-use Rattle.std.proofs.Common.{◌≡◌, ℕ, suc, ◌+◌, ◌*◌, ◌-◌, ◌/◌, ◌%◌, ◌<◌, ◌≤◌, ◌^◌, List, length, get_or, take, drop, sym, ap, ◌∙◌, arith}
+use Rattle.std.proofs.Common.{◌≡◌, ℕ, suc, ◌+◌, ◌*◌, ◌-◌, ◌/◌, ◌%◌, ◌<◌, ◌≤◌, ◌^◌, List, length, get_or, take, drop, sym, ap, ap₂, ◌∙◌, arith}
 use Rattle.std.proofs.Math.Nat.{mul-le-mul_right}
 use Rattle.std.proofs.lemmas.Nat.{one_shl, pow-add, pow_pos, div-add-mod', div_below, mod_below}
 use borrow.Rule.Slice.PartMut.{put_mid}
@@ -36,6 +36,60 @@ tile_rows k r w tiles size len tile sizes inside =
     let more : suc tile * 2 ^ r ≤ tiles * 2 ^ r = mul-le-mul_right (2 ^ r) inside in
     let next : (tile + 1) * 2 ^ r ≡ suc tile * 2 ^ r = omega arith in
     omega (arith, more, next, sizes.rows)
+
+-- the sizes of a tile of rows that are spread: `count` rows, each in `copies`
+pub record SpreadSizes (k r a copies count tiles : ℕ) : Type 0 where
+  pub copies_is : copies ≡ 2 ^ a
+  pub some_copies : 1 ≤ copies
+  pub some : 1 ≤ count
+  pub tile : count * copies ≡ 2 ^ r
+  pub rows : tiles * count ≡ 2 ^ (k - a)
+  pub all : 2 ^ (k - a) * copies ≡ 2 ^ k
+
+pub spread_sizes : (k r a : ℕ) → k < 64 → a ≤ r → r ≤ k → SpreadSizes k r a (1 * 2 ^ a % 18446744073709551616) (1 * 2 ^ (r - a) % 18446744073709551616) (1 * 2 ^ (k - r) % 18446744073709551616)
+spread_sizes k r a small added below =
+    let copies : 1 * 2 ^ a % 18446744073709551616 ≡ 2 ^ a = one_shl a 64 (omega (arith, small, added, below)) in
+    let count : 1 * 2 ^ (r - a) % 18446744073709551616 ≡ 2 ^ (r - a) = one_shl (r - a) 64 (omega (arith, small, below)) in
+    let tiles : 1 * 2 ^ (k - r) % 18446744073709551616 ≡ 2 ^ (k - r) = one_shl (k - r) 64 (omega (arith, small)) in
+    let part : r - a + a ≡ r = omega (arith, added) in
+    let parts : k - r + (r - a) ≡ k - a = omega (arith, added, below) in
+    let whole : k - a + a ≡ k = omega (arith, added, below) in
+    record {
+      copies_is = copies;
+      some_copies = omega (arith, copies, pow_pos a);
+      some = omega (arith, count, pow_pos (r - a));
+      tile = ap₂ (λ m n. m * n) count copies ∙ sym (pow-add 2 (r - a) a) ∙ ap (λ n. 2 ^ n) part;
+      rows = ap₂ (λ m n. m * n) tiles count ∙ sym (pow-add 2 (k - r) (r - a)) ∙ ap (λ n. 2 ^ n) parts;
+      all = ap (λ n. 2 ^ (k - a) * n) copies ∙ sym (pow-add 2 (k - a) a) ∙ ap (λ n. 2 ^ n) whole;
+    }
+
+-- the rows of a tile are some of all
+pub spread_room : (k r a copies count tiles tile : ℕ) → SpreadSizes k r a copies count tiles → tile < tiles → tile * count + count ≤ 2 ^ (k - a)
+spread_room k r a copies count tiles tile sizes inside =
+    let more : suc tile * count ≤ tiles * count = mul-le-mul_right count inside in
+    let next : suc tile * count ≡ tile * count + count = omega arith in
+    omega (arith, more, next, sizes.rows)
+
+-- and a tile holds its cells where each cell of the whole, by row, copy and column, is the one that was made
+pub spread_held : {A T : Type 0} (value : T → A) (d : T) (cells : ℕ → A) (made : ℕ → ℕ → ℕ → A) (tile count copies all w : ℕ) (out : List T) → 0 < w → length out ≡ count * (copies * w)
+    → tile * count + count ≤ all → 0 < copies
+    → ((q t j : ℕ) → q < all → t < copies → j < w → cells ((q * copies + t) * w + j) ≡ made q t j)
+    → ((q t j : ℕ) → q < count → t < copies → j < w → value (get_or out ((q * copies + t) * w + j) d) ≡ made (tile * count + q) t j)
+    → HoldsCells value d (tile * length out) cells out
+spread_held value d cells made tile count copies all w out wide size room some are holds i inside =
+    let u = i / w in
+    let j = i % w in
+    let q = u / copies in
+    let t = u % copies in
+    let flat : count * (copies * w) ≡ count * copies * w = omega arith in
+    let row : u < count * copies = div_below i w (count * copies) wide (omega (arith, inside, size, flat)) in
+    let below : q < count = div_below u copies count some row in
+    let copy : t < copies = mod_below u copies some in
+    let column : j < w = mod_below i w wide in
+    let place : (q * copies + t) * w + j ≡ i = ap (λ n. n * w + j) (div-add-mod' u copies) ∙ div-add-mod' i w in
+    let spread : ((tile * count + q) * copies + t) * w + j ≡ tile * (count * (copies * w)) + ((q * copies + t) * w + j) = omega arith in
+    ap (λ n. value (get_or out n d)) (sym place) ∙ holds q t j below copy column ∙ sym (are (tile * count + q) t j (omega (arith, below, room)) copy column)
+    ∙ ap cells (spread ∙ ap₂ (λ m n. tile * m + n) (sym size) place)
 
 module _ {A T : Type 0} (value : T → A) (d : T) (size : ℕ) where
   -- what tile p holds in its place i

@@ -3,7 +3,7 @@ use Rattle.std.proofs.Common.{◌≡◌, ℕ, suc, ◌+◌, ◌*◌, ◌-◌, �
 use Rattle.std.proofs.lemmas.Nat.{div-add-mod', div_below, div-mul-add, mod-mul-add, mod_below}
 use Rattle.p3_field.specs.Ring.{Ring, power, AreRoots}
 use Rattle.p3_field.proofs.Rings
-use Rattle.p3_field.proofs.Powers.{power_of_one}
+use Rattle.p3_field.proofs.Powers.{power-mul, power_of_one}
 use Rattle.p3_matrix.specs.BitOrder.{rev}
 use Rattle.p3_matrix.specs.Butterflies.{dif_far, dif_near, dit_far, dit_near}
 use Rattle.p3_dft.specs.Layers.{AreLayers}
@@ -11,7 +11,7 @@ use Rattle.p3_dft.specs.Polynomials.{poly}
 use Rattle.p3_dft.proofs.Networks.Formulas.{Formula}
 use Rattle.p3_dft.proofs.Networks.HighRows.{high_row, high_rows, high_start, high_end}
 use Rattle.p3_dft.proofs.Networks.Stages.{twiddle, twiddle_of_one}
-use Rattle.p3_dft.proofs.Networks.TurnedRows.{turned_row, turned_rows, turned_row_start, turned_row_end}
+use Rattle.p3_dft.proofs.Networks.TurnedRows.{turned_row, turned_row_of_zeros, turned_rows, turned_row_start, turned_row_end}
 use Rattle.p3_dft.proofs.Polynomials.Cosets.{point_of_one}
 
 together : {A : Type 0} (f : A → A → A → A) {x y p q u v : A} → x ≡ y → p ≡ u → q ≡ v → f x p q ≡ f y u v
@@ -156,3 +156,18 @@ module _ {A : Type 0} (R : Ring A) {g : ℕ → A} {bits : ℕ} (G : AreRoots R 
       let none : k - k ≡ 0 = omega arith in
       ap (turned_cells k) plain ∙ ap₂ (λ a b. turned_row R g R.one k (k - k) (c a) b) (mod-mul-add r w j inside) (div-mul-add r w j inside)
       ∙ ap (λ m. turned_row R g R.one k m (c j) r) none ∙ turned_row_end R g R.one k (c j) r below ∙ ap (poly R (2 ^ k) (c j)) (point_of_one R g k r)
+
+  -- and those of a polynomial of 2 ^ (k - a) coefficients after the first a layers
+  pub turned_cells_of_zeros : (a : ℕ) → a ≤ k → ((j q : ℕ) → 2 ^ (k - a) ≤ q → c j q ≡ R.zero) → (q t j : ℕ) → t < 2 ^ a → j < w
+      → turned_cells a ((q * 2 ^ a + t) * w + j) ≡ R.mul (c j (rev (k - a) q)) (power R (power R (g k) (rev (k - a) q)) t)
+  turned_cells_of_zeros a within zeros q t j below inside =
+      let m = k - a in
+      let n = rev m q in
+      let all : a + m ≡ k = omega (arith, within) in
+      let swap : t * n ≡ n * t = omega arith in
+      ap₂ (λ u b. turned_row R g R.one a m (c u) b) (mod-mul-add (q * 2 ^ a + t) w j inside) (div-mul-add (q * 2 ^ a + t) w j inside)
+      ∙ turned_row_of_zeros R g R.one a m (c j) q t (zeros j) below
+      ∙ ap (λ i. R.mul (power R (R.mul R.one (power R (g i) t)) n) (c j n)) all
+      ∙ ap (λ x. R.mul (power R x n) (c j n)) (Rings.one-mul R (power R (g k) t))
+      ∙ ap (λ x. R.mul x (c j n)) (sym (power-mul R (g k) t n) ∙ ap (power R (g k)) swap ∙ power-mul R (g k) n t)
+      ∙ R.mul_comm (power R (power R (g k) n) t) (c j n)

@@ -2,7 +2,9 @@
 -- the value, at the t-th point of size 2 ^ l, of the polynomial of every 2 ^ m-th coefficient from the j-th on.
 -- The networks differ only in where j and t stand in the row's number, and in a factor. The shift s is that of the coset. The roots are any
 -- that square to one another: with the inverse roots a network is the inverse one.
-use Rattle.std.proofs.Common.{◌≡◌, ℕ, suc, ◌+◌, ◌*◌, ◌<◌, ◌≤◌, ◌^◌, refl, sym, ap, ap₂, ◌∙◌, [], ◌∷◌, arith, add-one}
+use Rattle.std.proofs.Common.{◌≡◌, ℕ, suc, ◌+◌, ◌*◌, ◌-◌, ◌<◌, ◌≤◌, ◌^◌, refl, sym, ap, ap₂, ◌∙◌, [], ◌∷◌, arith, add-one}
+use Rattle.std.proofs.Math.Nat.{mul-le-mul_right}
+use Rattle.std.proofs.lemmas.Nat.{pow_pos}
 use Rattle.p3_field.specs.Ring.{Ring, power, AreRoots}
 use Rattle.p3_field.proofs.Rings
 use Rattle.p3_field.proofs.RingSolver.{solve, va, vb, ◌⊠◌}
@@ -12,7 +14,7 @@ use Rattle.p3_matrix.specs.Butterflies.{dit_near, dit_far}
 use Rattle.p3_dft.specs.Polynomials.{poly}
 use Rattle.p3_dft.specs.Cosets.{point}
 use Rattle.p3_dft.proofs.Polynomials.Cosets.{point-mul}
-use Rattle.p3_dft.proofs.Polynomials.ByIndex.{poly-one, poly_same, poly-split}
+use Rattle.p3_dft.proofs.Polynomials.ByIndex.{poly-one, poly_padded, poly_same, poly-split}
 
 module _ {A : Type 0} (R : Ring A) (g : ℕ → A) (s : A) where
   open R use {add as ◌⊕◌, mul as ◌⊗◌, neg, zero as 𝟘, one as 𝟙}
@@ -40,6 +42,19 @@ module _ {A : Type 0} (R : Ring A) (g : ℕ → A) (s : A) where
   pub stage_end : (l : ℕ) (c : ℕ → A) (t : ℕ) → stage l 0 c 0 t ≡ poly R (2 ^ l) c (point R g l s t)
   unfolding stage
   stage_end l c t = poly_same R (2 ^ l) _ c _ (λ q h. ap c (omega arith)) ∙ ap (λ x. poly R (2 ^ l) c (x ⊗ power R (g l) t)) (power-one R s) ∙ ap (poly R (2 ^ l) c) (sym (point-mul R g l s t))
+
+  -- where nothing stands from place 2 ^ m on, a stage is a coefficient
+  pub stage_of_zeros : (l m : ℕ) (c : ℕ → A) (j t : ℕ) → ((q : ℕ) → 2 ^ m ≤ q → c q ≡ 𝟘) → stage l m c j t ≡ c j
+  unfolding stage
+  stage_of_zeros l m c j t zeros =
+      let x = power R s (2 ^ m) ⊗ power R (g l) t in
+      let f = λ (q : ℕ). c (q * 2 ^ m + j) in
+      let some = pow_pos l in
+      let all : 2 ^ l ≡ 1 + (2 ^ l - 1) = omega (arith, some) in
+      let first : 0 * 2 ^ m + j ≡ j = omega arith in
+      ap (λ n. poly R n f x) all
+      ∙ poly_padded R 1 (2 ^ l - 1) f x (λ q more below. zeros (q * 2 ^ m + j) (let past : 1 * 2 ^ m ≤ q * 2 ^ m = mul-le-mul_right (2 ^ m) more in omega (arith, past)))
+      ∙ poly-one R f x ∙ ap c first
 
   -- the even and the odd places of a stage's polynomial are two polynomials of the stage before
   stage_split : (l m : ℕ) (c : ℕ → A) (j t : ℕ) (x : A) → x ⊗ x ≡ power R s (2 ^ suc m) ⊗ power R (g l) t →

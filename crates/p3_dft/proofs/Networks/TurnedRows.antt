@@ -11,8 +11,8 @@ use Rattle.p3_matrix.proofs.BitReversal.{rev-zero}
 use Rattle.p3_dft.specs.Polynomials.{poly}
 use Rattle.p3_dft.specs.Cosets.{point}
 use Rattle.p3_dft.proofs.Networks.Formulas.{Formula}
-use Rattle.p3_dft.proofs.Networks.LowRows.{held_low, held_first, held_second, held_next}
-use Rattle.p3_dft.proofs.Networks.Stages.{stage, twiddle, stage_start, stage_end, stage_near, stage_far}
+use Rattle.p3_dft.proofs.Networks.LowRows.{held_low, held_low_at, held_first, held_second, held_next}
+use Rattle.p3_dft.proofs.Networks.Stages.{stage, twiddle, stage_of_zeros, stage_start, stage_end, stage_near, stage_far}
 
 module _ {A : Type 0} (R : Ring A) (g : ℕ → A) (s : A) where
   open R use {add as ◌⊕◌, mul as ◌⊗◌, neg, zero as 𝟘, one as 𝟙}
@@ -81,6 +81,13 @@ module _ {A : Type 0} (R : Ring A) (g : ℕ → A) (s : A) where
   pub turned_row_end : (l : ℕ) (c : ℕ → A) (r : ℕ) → r < 2 ^ l → turned_row l 0 c r ≡ poly R (2 ^ l) c (point R g l s r)
   unfolding turned_row
   turned_row_end l c r h = ap₂ (turned l 0 c) (rev-zero (r / 2 ^ l)) (mod-eq_of_lt h) ∙ turned_end l c r
+
+  -- where nothing stands from coefficient 2 ^ m on: row t of a run is its coefficient times the power of point t
+  pub turned_row_of_zeros : (l m : ℕ) (c : ℕ → A) (b t : ℕ) → ((q : ℕ) → 2 ^ m ≤ q → c q ≡ 𝟘) → t < 2 ^ l
+      → turned_row l m c (b * 2 ^ l + t) ≡ power R (s ⊗ power R (g (l + m)) t) (rev m b) ⊗ c (rev m b)
+  unfolding turned_row turned
+  turned_row_of_zeros l m c b t zeros inside =
+      held_low_at (turned l m c) l m b t inside ∙ ap (λ y. power R (s ⊗ power R (g (l + m)) t) (rev m b) ⊗ y) (stage_of_zeros R g s l m c (rev m b) t zeros)
 
   -- one twiddle for a block
   pub turned_rows : {bits : ℕ} (G : AreRoots R bits g) (c : ℕ → A)

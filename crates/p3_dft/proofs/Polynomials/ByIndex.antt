@@ -1,6 +1,6 @@
 -- Polynomials by index, which proofs use since an index can be shifted, doubled or reversed under a λ: that they are those by
 -- list, and what becomes of a value when the coefficients are cut, added, scaled or padded.
-use Rattle.std.proofs.Common.{◌≡◌, ℕ, zero, suc, ◌+◌, ◌*◌, ◌<◌, ◌≤◌, refl, sym, ap, ap₂, ◌∙◌, List, [], ◌∷◌, ◌++◌, length, get_or, map, arith, suc-add, zero-add}
+use Rattle.std.proofs.Common.{◌≡◌, ℕ, zero, suc, ◌+◌, ◌*◌, ◌-◌, ◌<◌, ◌≤◌, refl, sym, ap, ap₂, ◌∙◌, List, [], ◌∷◌, ◌++◌, length, get_or, map, arith, suc-add, zero-add}
 use Rattle.std.specs.List.{range_with_len}
 use Rattle.std.proofs.lemmas.List.FromFn.{length-map-range_with_len, get_or-map-range_with_len}
 use Rattle.p3_field.specs.Ring.{Ring, power}
@@ -117,3 +117,27 @@ module _ {A : Type 0} (R : Ring A) where
   pub poly_padded : (m n : ℕ) (f : ℕ → A) (x : A) → ((j : ℕ) → m ≤ j → j < m + n → f j ≡ 𝟘) → poly R (m + n) f x ≡ poly R m f x
   poly_padded m n f x z = poly-append m n f x ∙ ap (λ y. poly R m f x ⊕ power R x m ⊗ y) (poly_zeros n (λ j. f (m + j)) x (λ j h. z (m + j) (omega arith) (omega arith)))
       ∙ solve R (poly R m f x ∷ power R x m ∷ []) (va ⊞ vb ⊠ zeroₑ) va refl
+
+  -- the first n coefficients, with zeros behind them
+  pub first_of : ℕ → (ℕ → A) → ℕ → A
+  first_of zero f j = 𝟘
+  first_of (suc n) f zero = f 0
+  first_of (suc n) f (suc j) = first_of n (λ i. f (suc i)) j
+
+  pub first_inside : (n : ℕ) (f : ℕ → A) (j : ℕ) → j < n → first_of n f j ≡ f j
+  unfolding first_of
+  first_inside zero f j below = absurd (omega arith)
+  first_inside (suc n) f zero below = refl
+  first_inside (suc n) f (suc j) below = first_inside n (λ i. f (suc i)) j (omega arith)
+
+  pub first_behind : (n : ℕ) (f : ℕ → A) (j : ℕ) → n ≤ j → first_of n f j ≡ 𝟘
+  unfolding first_of
+  first_behind zero f j after = refl
+  first_behind (suc n) f zero after = absurd (omega arith)
+  first_behind (suc n) f (suc j) after = first_behind n (λ i. f (suc i)) j (omega arith)
+
+  pub poly_of_first : (m n : ℕ) (f : ℕ → A) (x : A) → m ≤ n → poly R n (first_of m f) x ≡ poly R m f x
+  poly_of_first m n f x fewer =
+      let all : n ≡ m + (n - m) = omega (arith, fewer) in
+      ap (λ k. poly R k (first_of m f) x) all ∙ poly_padded m (n - m) (first_of m f) x (λ j after below. first_behind m f j after)
+      ∙ poly_same m (first_of m f) f x (first_inside m f)

@@ -6,7 +6,7 @@
 // which cells a run holds before and after, for any layers that follow one another.
 
 ghost use Rattle.std.specs.Prelude.{◌≡◌, ℕ, ◌+◌, ◌-◌, ◌*◌, ◌/◌, ◌^◌, ◌<◌, ◌≤◌, length, get_or};
-ghost use Rattle.p3_field.specs.Ring.{power};
+ghost use Rattle.p3_field.specs.Ring.{AreRoots, power};
 ghost use Rattle.p3_matrix.specs.BitOrder.{rev};
 ghost use Rattle.p3_matrix.specs.Butterflies.{dif_far, dif_near, dit_far, dit_near};
 ghost use Rattle.p3_dft.specs.Layers.{AreLayers, HoldsCells};
@@ -196,7 +196,8 @@ fn scaled_dif_tiles<F: TwoAdicField>(
 }
 
 // From rows in natural order to their values, in bit reversed order: the layers whose blocks are
-// larger than a tile on the whole, then the others tile by tile.
+// larger than a tile on the whole, then the others tile by tile. With the powers of other roots they
+// are the values at those.
 pub(crate) fn dit_network<F: TwoAdicField>(
     twiddles: &[F],
     values: &mut [F],
@@ -207,13 +208,13 @@ pub(crate) fn dit_network<F: TwoAdicField>(
 )
     requires wide { 1 ≤ width }
     requires below { log_rows ≤ log_h }
-    requires some { 1 ≤ log_h }
     requires small { log_h < 64 }
-    requires rooted { log_h ≤ F.TWO_ADICITY }
     requires size { length values.old ≡ 2 ^ log_h * width }
-    requires twiddles { AreTwiddlesFromStart F.Field.own log_h (block_powers F.Field.own (forward_root F.Field.own F.generator)) twiddles.now }
-    ensures values { AreValuesOfRows F.Field.own width (2 ^ log_h) (λ q. q)
-        (λ r. power F.ring (F.value (F.generator log_h)) (rev log_h r)) values.old values.new }
+    requires first { F.value (get_or twiddles.now 0 F.ZERO) ≡ F.ring.one }
+    requires enough { 2 ^ log_h ≤ 2 * length twiddles.now }
+    ensures values { (bits : ℕ) (root : ℕ → F.Element) → AreRoots F.ring bits root → log_h ≤ bits
+        → AreTwiddlesFromStart F.Field.own log_h (block_powers F.Field.own root) twiddles.now
+        → AreValuesOfRows F.Field.own width (2 ^ log_h) (λ q. q) (λ r. power F.ring (root log_h) (rev log_h r)) values.old values.new }
     ensures grows { products.old ≤ products.new }
     ensures cost { products.new ≤ products.old + width * (log_h * 2 ^ log_h / 2) }
 {
@@ -247,5 +248,163 @@ pub(crate) fn scaled_dif_network<F: TwoAdicField>(
     ensures cost { products.new ≤ products.old + width * (log_h * 2 ^ log_h / 2) + 2 ^ log_h * width }
 {
     scaled_dif_tiles(twiddles, scale, values, width, log_rows, log_h, products);
+    dif_layers(twiddles, values, width, log_rows, log_h, log_h, 0, products);
+}
+
+// Row t of `values` becomes `row` times `first` and the t-th power of `step`.
+fn multiples_of_row<F: TwoAdicField>(
+    first: F,
+    step: F,
+    row: &[F],
+    values: &mut [F],
+    count: usize,
+    products: &mut Products,
+)
+    requires { length values.old ≡ count * length row.now }
+    ensures values { (t j : ℕ) → t < count → j < length row.now → F.value (get_or values.new (t * length row.now + j) F.ZERO)
+        ≡ F.ring.mul (F.value (get_or row.now j F.ZERO)) (F.ring.mul (F.value first) (power F.ring (F.value step) t)) }
+    ensures count { products.new ≡ products.old + count * length row.now }
+{
+    let width = row.len();
+    let mut factor = first;
+    for t in 0..count {
+        let start = t * width;
+        let multiple = &mut values[start..start + width];
+        multiple.copy_from_slice(row);
+        scale_slice_in_place(multiple, factor, products);
+        factor = factor * step;
+    }
+}
+
+// `count` rows of coefficients in bit reversed order, from number `first` on, each in `copies` rows:
+// row t of these is it times its weight and the t-th power of its root, so that of coefficient j is
+// the j-th power of the t-th point. That is what the first layers make of rows of zeros.
+fn spread_rows<F: TwoAdicField>(
+    twiddles: &[F],
+    weights: &[F],
+    rows: &[F],
+    values: &mut [F],
+    width: usize,
+    copies: usize,
+    first: usize,
+    count: usize,
+    products: &mut Products,
+)
+    requires wide { 1 ≤ width }
+    requires copies { 1 ≤ copies }
+    requires some { 1 ≤ count }
+    requires size { length values.old ≡ count * (copies * width) }
+    requires rows { (first + count) * width ≤ length rows.now }
+    requires weights { first + count ≤ length weights.now }
+    requires enough { (first + count) * copies ≤ 2 * length twiddles.now }
+    ensures values { (q t j : ℕ) → q < count → t < copies → j < width
+        → F.value (get_or values.new ((q * copies + t) * width + j) F.ZERO)
+        ≡ F.ring.mul (F.value (get_or rows.now ((first + q) * width + j) F.ZERO)) (F.ring.mul (F.value (get_or weights.now (first + q) F.ZERO))
+        (power F.ring (F.value (get_or twiddles.now ((first + q) * (copies / 2)) F.ZERO)) t)) }
+    ensures count { products.new ≡ products.old + length values.old }
+{
+    let size = values.len() / count;
+    for q in 0..count {
+        let start = q * size;
+        let multiples = &mut values[start..start + size];
+        let number = first + q;
+        let place = number * width;
+        let row = &rows[place..place + width];
+        let root = twiddles[number * (copies / 2)];
+        multiples_of_row(weights[number], root, row, multiples, copies, products);
+    }
+}
+
+// Rows of coefficients, spread, and by decimation in frequency the layers of the entries from
+// `added_bits` up to `log_rows`, tile after tile.
+fn spread_tiles<F: TwoAdicField>(
+    twiddles: &[F],
+    weights: &[F],
+    rows: &[F],
+    values: &mut [F],
+    width: usize,
+    added_bits: usize,
+    log_rows: usize,
+    log_h: usize,
+    products: &mut Products,
+)
+    requires wide { 1 ≤ width }
+    requires added { added_bits ≤ log_rows }
+    requires below { log_rows ≤ log_h }
+    requires small { log_h < 64 }
+    requires size { length values.old ≡ 2 ^ log_h * width }
+    requires rows { length rows.now ≡ 2 ^ (log_h - added_bits) * width }
+    requires weights { length weights.now ≡ 2 ^ (log_h - added_bits) }
+    requires first { F.value (get_or twiddles.now 0 F.ZERO) ≡ F.ring.one }
+    requires some { 1 ≤ length twiddles.now }
+    requires enough { 2 ^ log_h ≤ 2 * length twiddles.now }
+    ensures cells { (cells : ℕ → ℕ → F.Element)
+        → AreLayers log_h width (λ b. dif_near F.ring (F.value (get_or twiddles.now b F.ZERO))) (λ b. dif_far F.ring (F.value (get_or twiddles.now b F.ZERO)))
+        cells (λ e. cells (e + 1))
+        → ((q t j : ℕ) → q < 2 ^ (log_h - added_bits) → t < 2 ^ added_bits → j < width
+        → cells added_bits ((q * 2 ^ added_bits + t) * width + j)
+        ≡ F.ring.mul (F.value (get_or rows.now (q * width + j) F.ZERO)) (F.ring.mul (F.value (get_or weights.now q F.ZERO))
+        (power F.ring (F.value (get_or twiddles.now (q * (2 ^ added_bits / 2)) F.ZERO)) t)))
+        → HoldsCells F.value F.ZERO 0 (cells log_rows) values.new }
+    ensures grows { products.old ≤ products.new }
+    ensures count { 2 * products.new ≤ 2 * products.old + (log_rows - added_bits + 2) * length values.old }
+{
+    let tiles = 1usize << (log_h - log_rows);
+    let size = values.len() / tiles;
+    let copies = 1usize << added_bits;
+    let count = 1usize << (log_rows - added_bits);
+    for tile in 0..tiles {
+        let start = tile * size;
+        let out = &mut values[start..start + size];
+        spread_rows(
+            twiddles,
+            weights,
+            rows,
+            out,
+            width,
+            copies,
+            tile * count,
+            count,
+            products,
+        );
+        dif_layers(
+            twiddles, out, width, added_bits, log_rows, log_rows, tile, products,
+        );
+    }
+}
+
+// From rows in bit reversed order, each times its weight, to their values at `2^added_bits` times as
+// many points, in natural order. No row of zeros is met: those of a longer polynomial are known after
+// the first layers.
+pub(crate) fn extending_network<F: TwoAdicField>(
+    twiddles: &[F],
+    weights: &[F],
+    rows: &[F],
+    values: &mut [F],
+    width: usize,
+    added_bits: usize,
+    log_rows: usize,
+    log_h: usize,
+    products: &mut Products,
+)
+    requires wide { 1 ≤ width }
+    requires added { added_bits ≤ log_rows }
+    requires below { log_rows ≤ log_h }
+    requires some { 1 ≤ log_h }
+    requires small { log_h < 64 }
+    requires rooted { log_h ≤ F.TWO_ADICITY }
+    requires size { length values.old ≡ 2 ^ log_h * width }
+    requires rows { length rows.now ≡ 2 ^ (log_h - added_bits) * width }
+    requires weights { length weights.now ≡ 2 ^ (log_h - added_bits) }
+    requires twiddles { AreTwiddlesFromStart F.Field.own log_h (block_powers F.Field.own (forward_root F.Field.own F.generator)) twiddles.now }
+    ensures values { (r j : ℕ) → r < 2 ^ log_h → j < width → F.value (get_or values.new (r * width + j) F.ZERO)
+        ≡ poly F.ring (2 ^ (log_h - added_bits)) (λ q. F.ring.mul (F.value (get_or rows.now (rev (log_h - added_bits) q * width + j) F.ZERO))
+        (F.value (get_or weights.now (rev (log_h - added_bits) q) F.ZERO))) (power F.ring (F.value (F.generator log_h)) r) }
+    ensures grows { products.old ≤ products.new }
+    ensures count { 2 * products.new ≤ 2 * products.old + (log_h - added_bits + 2) * length values.old }
+{
+    spread_tiles(
+        twiddles, weights, rows, values, width, added_bits, log_rows, log_h, products,
+    );
     dif_layers(twiddles, values, width, log_rows, log_h, log_h, 0, products);
 }

@@ -1,12 +1,8 @@
-use Rattle.std.proofs.Common.{ℕ, ◌+◌, ◌-◌, ◌*◌, ◌^◌, ◌≤◌, length, get_or, refl, ap, ◌∙◌, subst, arith, lit≤}
+use Rattle.std.proofs.Common.{ℕ, ◌+◌, ◌*◌, ◌^◌, ◌≤◌, length, get_or, refl, ◌∙◌, subst, arith, lit≤}
 use Rattle.std.proofs.Math.Nat.{pow-le-pow_right}
-use Rattle.std.proofs.lemmas.Nat.{pow_pos}
-use Rattle.p3_field.specs.Ring.{power}
-use Rattle.p3_field.proofs.Powers.{power-zero}
-use Rattle.p3_matrix.proofs.BitReversal.{rev_of_zero}
 use Rattle.p3_dft.specs.Layers.{HoldsCells}
 use Rattle.p3_dft.proofs.Layers.Blocks.{row_below}
-use Rattle.p3_dft.proofs.Layers.Counts.{counted_twice, layers_joined, two_halves}
+use Rattle.p3_dft.proofs.Layers.Counts.{counted_twice, layers_joined}
 use Rattle.p3_dft.proofs.Layers.Runs.{run_whole, whole_run}
 use Rattle.p3_dft.proofs.Networks.Cells.{high_cells, high_cells_end, high_cells_start, high_layers}
 use Rattle.p3_dft.proofs.radix_2_small_batch.networks.dit_network.Goals as goal
@@ -17,42 +13,16 @@ dit_layers-requires-clause-small g c =
     let most : 2 ^ c.args.log_h ≤ 2 ^ 63 = pow-le-pow_right {n = 2} (lit≤ tt) few in
     omega (arith, most)
 
-pub dit_layers-requires-clause-first : goal.dit_layers-requires-clause-first
-dit_layers-requires-clause-first g c =
-    let field = g.F.Field in
-    c.requires.twiddles.entries 0 0 (omega (arith, c.requires.some)) (pow_pos 0) ∙ ap (power field.ring (field.value (g.F.TwoAdicField.generator 1))) (rev_of_zero 0) ∙ power-zero field.ring _
-
-pub dit_layers-requires-clause-enough : goal.dit_layers-requires-clause-enough
-dit_layers-requires-clause-enough g c =
-    let k = c.args.log_h in
-    let size = c.requires.twiddles.size (k - 1) (omega (arith, c.requires.some)) in
-    let d = two_halves k (λ e. absurd (omega (arith, e, c.requires.some))) in
-    omega (arith, size, d)
-
-pub dit_tiles-requires-clause-first : goal.dit_tiles-requires-clause-first
-dit_tiles-requires-clause-first g c =
-    let field = g.F.Field in
-    c.requires.twiddles.entries 0 0 (omega (arith, c.requires.some)) (pow_pos 0) ∙ ap (power field.ring (field.value (g.F.TwoAdicField.generator 1))) (rev_of_zero 0) ∙ power-zero field.ring _
-
-pub dit_tiles-requires-clause-enough : goal.dit_tiles-requires-clause-enough
-dit_tiles-requires-clause-enough g c =
-    let k = c.args.log_h in
-    let size = c.requires.twiddles.size (k - 1) (omega (arith, c.requires.some)) in
-    let d = two_halves k (λ e. absurd (omega (arith, e, c.requires.some))) in
-    omega (arith, size, d)
-
 pub returns-clause-values : goal.returns-clause-values
-returns-clause-values g c r j below inside =
+returns-clause-values g c bits root roots within twiddles r j below inside =
     let field = g.F.Field in
     let k = c.args.log_h in
     let w = c.args.width in
     let len = length c.args.values.now in
-    let gen = λ (n : ℕ). field.value (g.F.TwoAdicField.generator n) in
-    let roots = g.met.F.TwoAdicField.roots_law in
     let column = λ (u q : ℕ). field.value (get_or c.args.values.now (q * w + u) field.ZERO) in
     let entry = λ (b : ℕ). field.value (get_or c.args.twiddles.now b field.ZERO) in
     let cells = high_cells field.ring roots k w column entry in
-    let layers = high_layers field.ring roots k w column entry c.requires.wide c.requires.rooted (λ l b p q. c.requires.twiddles.entries l b p q) in
+    let layers = high_layers field.ring roots k w column entry c.requires.wide within (λ l b p q. twiddles.entries l b p q) in
     let start : HoldsCells field.value field.ZERO 0 (cells k) c.args.values.now = λ i p.
     high_cells_start field.ring roots k w column entry c.requires.wide (λ n. field.value (get_or c.args.values.now n field.ZERO)) (λ n v. refl) i (omega (arith, p, c.requires.size)) in
     let middle : HoldsCells field.value field.ZERO 0 (cells c.args.log_rows) c.dit_layers.new.values = run_whole field.value field.ZERO (cells c.args.log_rows) len c.dit_layers.new.values

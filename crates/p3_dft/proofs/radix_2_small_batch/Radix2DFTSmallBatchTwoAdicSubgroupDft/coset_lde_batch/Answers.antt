@@ -1,0 +1,152 @@
+use Rattle.std.proofs.Common.{◌≡◌, inl, ℕ, ◌+◌, ◌*◌, ◌/◌, ◌^◌, ◌≤◌, Result, Ok, Err, OnOk, refl, sym, ap, ap₂, ◌∙◌, subst, arith}
+use Rattle.std.proofs.lemmas.Result.{IfOk-weaker}
+use Rattle.p3_field.specs.Ring.{count}
+use Rattle.p3_field.proofs.Powers.{count-power_of_two}
+use Rattle.p3_matrix.specs.BitOrder.{bit_reversal}
+use Rattle.p3_matrix.specs.Matrix.{image}
+use Rattle.p3_matrix.specs.RowMajor.{RowMajor, height}
+use Rattle.p3_matrix.proofs.TwoPowers.{log_same}
+use Rattle.p3_dft.specs.Cosets.{coset_shift}
+use Rattle.p3_dft.specs.Extensions.{extension_bound}
+use Rattle.p3_dft.specs.Transforms.{values_of}
+use Rattle.p3_dft.specs.Twiddles.{Tabled, IsPrepared}
+use Rattle.p3_dft.proofs.Calls.Shapes.{output_log_small}
+use Rattle.p3_dft.proofs.Layers.Counts.{extension_made, fewer_than_parts}
+use Rattle.p3_dft.proofs.Polynomials.Cosets.{coset_values}
+use Rattle.p3_dft.proofs.BitReversed.Coefficients.{extension_of_coefficients, extension_of_row, shifted_quotient}
+use Rattle.p3_dft.proofs.Tables.PreparedHeights.{prepared_until, until_prepared}
+use Rattle.p3_dft.proofs.radix_2_small_batch.Radix2DFTSmallBatchTwoAdicSubgroupDft.coset_lde_batch.Goals as goal
+
+on_ok : {T E : Type 0} (r : Result T E) {P : Type 0} → P → OnOk r P
+on_ok (Ok x) known = known
+on_ok (Err e) known = tt
+
+log_within : (log a most fit h : ℕ) → h ≡ 2 ^ log → h ≡ 2 ^ fit → fit + a ≤ most → log + a ≤ most
+log_within log a most fit h is high within = let same : log ≡ fit = log_same log fit (sym is ∙ high) in omega (arith, same, within)
+
+pub overflow_add-log_h : goal.overflow_add-log_h
+overflow_add-log_h g c =
+    let small = log_within c.log2_strict_usize-log_h.result c.args.added_bits 63 c.requires.log c.height.result c.log2_strict_usize-log_h.ensures.power
+    (c.height.ensures.height ∙ ap height c.into_row_major_matrix-mat.ensures ∙ c.requires.high) (output_log_small _ _ _ _ c.requires) in
+    omega (arith, small)
+
+pub overflow_add-log_h-2 : goal.overflow_add-log_h-2
+overflow_add-log_h-2 g c =
+    let small = log_within c.log2_strict_usize-log_h.result c.args.added_bits 63 c.requires.log c.height.result c.log2_strict_usize-log_h.ensures.power
+    (c.height.ensures.height ∙ ap height c.into_row_major_matrix-mat.ensures ∙ c.requires.high) (output_log_small _ _ _ _ c.requires) in
+    omega (arith, small)
+
+pub make-requires-clause-within : goal.make-requires-clause-within
+make-requires-clause-within g c =
+    log_within c.log2_strict_usize-log_h.result c.args.added_bits _ c.requires.log c.height.result c.log2_strict_usize-log_h.ensures.power
+    (c.height.ensures.height ∙ ap height c.into_row_major_matrix-mat.ensures ∙ c.requires.high) c.requires.within
+
+pub make-requires-clause-small : goal.make-requires-clause-small
+make-requires-clause-small g c =
+    let small = log_within c.log2_strict_usize-log_h.result c.args.added_bits 63 c.requires.log c.height.result c.log2_strict_usize-log_h.ensures.power
+    (c.height.ensures.height ∙ ap height c.into_row_major_matrix-mat.ensures ∙ c.requires.high) (output_log_small _ _ _ _ c.requires) in
+    omega (arith, small)
+
+pub interpolate_reversed-requires-clause-rooted : goal.interpolate_reversed-requires-clause-rooted
+interpolate_reversed-requires-clause-rooted g c =
+    let within = log_within c.log2_strict_usize-log_h.result c.args.added_bits _ c.requires.log c.height.result c.log2_strict_usize-log_h.ensures.power
+    (c.height.ensures.height ∙ ap height c.into_row_major_matrix-mat.ensures ∙ c.requires.high) c.requires.within in
+    omega (arith, within)
+
+pub extend-requires-clause-small : goal.extend-requires-clause-small
+extend-requires-clause-small g c =
+    let small = log_within c.log2_strict_usize-log_h.result c.args.added_bits 63 c.requires.log c.height.result c.log2_strict_usize-log_h.ensures.power
+    (c.height.ensures.height ∙ ap height c.into_row_major_matrix-mat.ensures ∙ c.requires.high) (output_log_small _ _ _ _ c.requires) in
+    omega (arith, small)
+
+pub extend-requires-clause-rooted : goal.extend-requires-clause-rooted
+extend-requires-clause-rooted g c =
+    log_within c.log2_strict_usize-log_h.result c.args.added_bits _ c.requires.log c.height.result c.log2_strict_usize-log_h.ensures.power
+    (c.height.ensures.height ∙ ap height c.into_row_major_matrix-mat.ensures ∙ c.requires.high) c.requires.within
+
+pub extend-requires-clause-room : goal.extend-requires-clause-room
+extend-requires-clause-room g c =
+    let same : c.log2_strict_usize-log_h.result ≡ c.requires.log =
+    log_same _ _ (sym c.log2_strict_usize-log_h.ensures.power ∙ c.height.ensures.height ∙ ap height c.into_row_major_matrix-mat.ensures ∙ c.requires.high) in
+    let entries = ap₂ (λ w n. w * 2 ^ (n + c.args.added_bits)) (c.interpolate_reversed.ensures.shape.1 ∙ ap (λ (n : RowMajor g.row.F.Denot). n.width) c.into_row_major_matrix-mat.ensures) same in
+    omega (arith, entries, c.requires.size)
+
+pub returns-then-log_h-added_bits-eq0-clause-values : goal.returns-then-log_h-added_bits-eq0-clause-values
+returns-then-log_h-added_bits-eq0-clause-values g c =
+    let log = c.log2_strict_usize-log_h.result in
+    let none : log ≡ 0 = omega (arith, c.if-log_h-added_bits-eq0.true) in
+    let one : height c.into_row_major_matrix-mat.result ≡ 1 = sym c.height.ensures.height ∙ c.log2_strict_usize-log_h.ensures.power ∙ ap (λ n. 2 ^ n) none in
+    rw (← c.into_row_major_matrix-mat.ensures)
+    (extension_of_row g.F.Field g.F.TwoAdicField.generator c.into_row_major_matrix-mat.result c.args.added_bits (g.F.Field.value c.args.shift) one (omega (arith, c.if-log_h-added_bits-eq0.true)))
+
+pub returns-then-log_h-added_bits-eq0-clause-serves : goal.returns-then-log_h-added_bits-eq0-clause-serves
+returns-then-log_h-added_bits-eq0-clause-serves g c k high =
+    let log = c.log2_strict_usize-log_h.result in
+    let same : log ≡ k = log_same log k (sym c.log2_strict_usize-log_h.ensures.power ∙ c.height.ensures.height ∙ ap height c.into_row_major_matrix-mat.ensures ∙ high) in
+    (inl (omega (arith, same, c.if-log_h-added_bits-eq0.true)), inl (omega (arith, same, c.if-log_h-added_bits-eq0.true)))
+
+pub returns-clause-values : goal.returns-clause-values
+returns-clause-values g c =
+    let field = g.F.Field in
+    let log = c.log2_strict_usize-log_h.result in
+    let m = c.into_row_major_matrix-mat.result in
+    let a = c.args.added_bits in
+    let s = field.value c.args.shift in
+    let inverse = field.value c.div_2exp_u64-scale.result in
+    let high : height m ≡ 2 ^ log = sym c.height.ensures.height ∙ c.log2_strict_usize-log_h.ensures.power in
+    let multiples = bit_reversal log (values_of field c.interpolate_reversed.new.mat) in
+    let shifted = image (λ x. field.ring.mul x inverse) (coset_shift field.ring s multiples) in
+    let undone : field.ring.mul (count field.ring (2 ^ log)) inverse ≡ field.ring.one =
+    ap (λ x. field.ring.mul x inverse) (count-power_of_two field.ring log) ∙ c.div_2exp_u64-scale.ensures ∙ ap field.value c.ONE.ensures ∙ g.met.F.Field.one_law in
+    let (d, quotient, on_coset) = shifted_quotient field.ring (2 ^ log) inverse s multiples shifted undone (record { high = refl; wide = refl; alike = λ i j p q. refl }) in
+    rw (← c.into_row_major_matrix-mat.ensures)
+    (IfOk-weaker c.extend.result _ _
+    (λ out given.
+    extension_of_coefficients field g.F.TwoAdicField.generator m out d a log s high (c.interpolate_reversed.ensures.coefficients d quotient)
+    (coset_values field.ring (λ n. field.value (g.F.TwoAdicField.generator n)) d shifted (log + a) s (values_of field out) on_coset given))
+    c.extend.ensures.values)
+
+pub returns-clause-serves : goal.returns-clause-serves
+returns-clause-serves g c k high =
+    let log = c.log2_strict_usize-log_h.result in
+    let same : log ≡ k = log_same log k (sym c.log2_strict_usize-log_h.ensures.power ∙ c.height.ensures.height ∙ ap height c.into_row_major_matrix-mat.ensures ∙ high) in
+    on_ok c.extend.result (prepared_until _ k (omega (arith, same, c.in_ok-make.ensures.made)), prepared_until _ (k + c.args.added_bits) (omega (arith, same, c.in_ok-make.ensures.made)))
+
+pub returns-clause-later : goal.returns-clause-later
+returns-clause-later g c =
+    let products : c.self.inside.products ≡ c.args.self.now.products = ap (λ e. e.products) c.self.view_is in
+    let there = λ (k : ℕ) (before : IsPrepared c.args.self.now k). until_prepared _ k (subst (λ (e : Tabled). IsPrepared e k) (sym c.self.view_is) before) in
+    let still : (k : ℕ) → IsPrepared c.args.self.now k → k ≤ c.make.new.self = λ k before. let held = there k before in omega (arith, held, c.make.ensures.keeps) in
+    record {
+      keeps = λ k before. prepared_until _ k (still k before);
+      keeps_cosets = λ k before. prepared_until _ k (still k before);
+      keeps_served = λ k before. prepared_until _ k (still k before);
+      grows = omega (arith, products, c.interpolate_reversed.ensures.grows, c.extend.ensures.grows);
+    }
+
+pub returns-clause-fewer : goal.returns-clause-fewer
+returns-clause-fewer g c k high =
+    let log = c.log2_strict_usize-log_h.result in
+    let a = c.args.added_bits in
+    let w = c.into_row_major_matrix-mat.result.width in
+    let x = log * 2 ^ log / 2 in
+    let same : log ≡ k = log_same log k (sym c.log2_strict_usize-log_h.ensures.power ∙ c.height.ensures.height ∙ ap height c.into_row_major_matrix-mat.ensures ∙ high) in
+    let products : c.self.inside.products ≡ c.args.self.now.products = ap (λ e. e.products) c.self.view_is in
+    let second : c.extend.new.products ≤ c.interpolate_reversed.new.products + w * (2 ^ a * x + 2 ^ (log + a)) =
+    subst (λ (v : ℕ). c.extend.new.products ≤ c.interpolate_reversed.new.products + v * (2 ^ a * x + 2 ^ (log + a))) c.interpolate_reversed.ensures.shape.1 c.extend.ensures.cost in
+    let all = extension_made x (2 ^ (log + a)) (2 ^ a) w c.self.inside.products c.interpolate_reversed.new.products c.extend.new.products c.interpolate_reversed.ensures.cost second in
+    rw (← products, ← c.into_row_major_matrix-mat.ensures, ← same) (on_ok c.extend.result all)
+
+pub returns-clause-cost : goal.returns-clause-cost
+returns-clause-cost g c k high =
+    let log = c.log2_strict_usize-log_h.result in
+    let a = c.args.added_bits in
+    let w = c.into_row_major_matrix-mat.result.width in
+    let x = log * 2 ^ log / 2 in
+    let same : log ≡ k = log_same log k (sym c.log2_strict_usize-log_h.ensures.power ∙ c.height.ensures.height ∙ ap height c.into_row_major_matrix-mat.ensures ∙ high) in
+    let products : c.self.inside.products ≡ c.args.self.now.products = ap (λ e. e.products) c.self.view_is in
+    let second : c.extend.new.products ≤ c.interpolate_reversed.new.products + w * (2 ^ a * x + 2 ^ (log + a)) =
+    subst (λ (v : ℕ). c.extend.new.products ≤ c.interpolate_reversed.new.products + v * (2 ^ a * x + 2 ^ (log + a))) c.interpolate_reversed.ensures.shape.1 c.extend.ensures.cost in
+    let all = extension_made x (2 ^ (log + a)) (2 ^ a) w c.self.inside.products c.interpolate_reversed.new.products c.extend.new.products c.interpolate_reversed.ensures.cost second in
+    let most : c.extend.new.products ≤ c.self.inside.products + extension_bound (λ n v. v * (n * 2 ^ n / 2)) log a w = omega (arith, all, fewer_than_parts log a w) in
+    rw (← products, ← c.into_row_major_matrix-mat.ensures, ← same) (on_ok c.extend.result most)
