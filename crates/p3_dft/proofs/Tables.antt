@@ -1,5 +1,6 @@
 -- Tables of twiddles, and which heights they prepare.
 pub mod BlockTables
+pub mod CosetTables
 pub mod FromStart
 pub mod MoreTwiddles
 pub mod PreparedHeights

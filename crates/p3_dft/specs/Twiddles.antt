@@ -1,5 +1,5 @@
 -- The twiddles that an engine keeps, and what such an engine shows of itself.
-use Rattle.std.specs.Prelude.{◌≡◌, ◌⊎◌, ℕ, ◌+◌, ◌-◌, ◌*◌, ◌^◌, ◌<◌, ◌≤◌, List, [], length, get_or, take, drop, Bool, if◌then◌else◌, Option, Some, None, Vec}
+use Rattle.std.specs.Prelude.{◌≡◌, ◌≢◌, ◌⊎◌, ℕ, ◌+◌, ◌-◌, ◌*◌, ◌^◌, ◌/◌, ◌<◌, ◌≤◌, leb, List, [], length, get_or, take, drop, Bool, if◌then◌else◌, Option, Some, None, Vec}
 use Rattle.std.specs.List.{Contains}
 use Rattle.p3_field.specs.Ring.{power}
 use Rattle.p3_field.specs.declared.fields.Field.{Ghosts as FieldMembers}
@@ -75,6 +75,31 @@ pub record RootsUpTo : Type 0 where
 abbrev pub reversed_root_powers : {F : Type 0} (f : FieldMembers F) → (ℕ → F) → Bool → ℕ → ℕ → f.Element
 reversed_root_powers f generator inverse log_h b = power f.ring (root_of f generator inverse log_h) (rev (log_h - 1) b)
 
+-- where an entry of a layer of 2 ^ l comes from: its own place, or that with the l digits in reverse
+abbrev pub layer_place : Bool → ℕ → ℕ → ℕ
+layer_place reversed l t = if reversed then rev l t else t
+
+-- the table of the coset of s of order 2 ^ log: layer after layer, in natural order in the first half of the layers, and in bit reversed order in the second
+abbrev pub IsCosetTable : {F : Type 0} (f : FieldMembers F) → (ℕ → F) → f.Element → ℕ → List F → Type 0
+IsCosetTable f generator s log twiddles = AreTwiddlesOfLayers f log (λ l t. coset_twiddles f (forward_root f generator) s log l (layer_place (leb ((log + 1) / 2) l) l t)) twiddles
+
+-- a coset: the logarithm of its order, and its shift
+pub record Coset (F : Type 0) : Type 0 where
+  pub log_h : ℕ
+  pub shift : F
+
+-- it is the coset of s of order 2 ^ k
+abbrev pub IsCosetOf : {F : Type 0} (f : FieldMembers F) → ℕ → f.Element → Coset F → Type 0
+IsCosetOf f k s coset = (coset.log_h ≡ k) × (f.value coset.shift ≡ s)
+
+-- that coset is in a place of a list
+abbrev pub IsCosetAt : {F : Type 0} (f : FieldMembers F) → List (Coset F) → ℕ → f.Element → ℕ → Type 0
+IsCosetAt {F} f cosets k s i = (i < length cosets) × ((d : Coset F) → IsCosetOf f k s (get_or cosets i d))
+
+-- or in any
+abbrev pub HasCoset : {F : Type 0} (f : FieldMembers F) → List (Coset F) → ℕ → f.Element → Type 0
+HasCoset f cosets k s = (i : ℕ) × IsCosetAt f cosets k s i
+
 -- the number by which rows are multiplied, if there is one
 abbrev pub factor : {F : Type 0} (f : FieldMembers F) → Option F → f.Element
 factor f None = f.ring.one
@@ -93,3 +118,12 @@ pub record Tabled : Type 0 where
 -- height 2 ^ k can be transformed without memory: height one has no layer and needs no twiddles
 abbrev pub IsPrepared : Tabled → ℕ → Type 0
 IsPrepared e k = (k ≡ 0) ⊎ Contains e.prepared k
+
+-- what an engine shows of itself that keeps tables of cosets besides
+pub record CosetTabled (F : Type 0) : Type 0 where
+  pub roots : Tabled
+  pub cosets : List (Coset F)
+
+-- the coset of s of order 2 ^ k can be transformed without memory: as the subgroup, or by a table of its own, or as a single point
+abbrev pub IsCosetPrepared : {F : Type 0} (f : FieldMembers F) → CosetTabled F → ℕ → f.Element → Type 0
+IsCosetPrepared f e k s = ((s ≡ f.ring.one) × IsPrepared e.roots k) ⊎ ((s ≢ f.ring.one) × ((k ≡ 0) ⊎ HasCoset f e.cosets k s))

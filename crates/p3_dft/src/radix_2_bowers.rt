@@ -14,6 +14,7 @@ ghost use Rattle.p3_dft.specs.Twiddles.{AreTwiddles};
 use crate::butterfly_layers::layer;
 use crate::butterfly_layers::rules::{DifByBlock, DitByBlock};
 use crate::traits::{Layout, TwoAdicSubgroupDft};
+use crate::twiddles::reversed_powers;
 use crate::util::{divide_rows, exchange_rows, pad_rows, reverse_rows};
 use p3_field::{Field, Products, TwoAdicField};
 use p3_matrix::{
@@ -418,42 +419,6 @@ fn layers_of_g_transposed<F: TwoAdicField>(
             products,
         );
     }
-}
-
-// The first `2^bits` powers of `base`, each times `first`, in bit reversed order.
-pub(crate) fn reversed_powers<F: TwoAdicField>(
-    alloc: Global,
-    first: F,
-    base: F,
-    bits: usize,
-) -> Result<Vec<F>, DftError>
-    requires { bits < 64 }
-    ensures { IfOk result (λ v. AreTwiddles F.Field.own (2 ^ bits)
-        (λ b. F.ring.mul (F.value first) (power F.ring (F.value base) (rev bits b))) v.items) }
-{
-    let mut powers = Vec::with_capacity(alloc, 1 << bits)?;
-    powers.push(first)?;
-    for l in 0..bits {
-        let factor = base.exp_power_of_2(bits - 1 - l);
-        push_multiples(&mut powers, factor)?;
-    }
-    Ok(powers)
-}
-
-// Adds each element times `factor` at the end.
-fn push_multiples<F: Field>(elements: &mut Vec<F>, factor: F) -> Result<(), DftError>
-    ensures size { OnOk result (length elements.new.items ≡ 2 * length elements.old.items) }
-    ensures before { OnOk result ((n : ℕ) → n < length elements.old.items
-        → get_or elements.new.items n F.ZERO ≡ get_or elements.old.items n F.ZERO) }
-    ensures after { OnOk result ((n : ℕ) → n < length elements.old.items
-        → F.value (get_or elements.new.items (length elements.old.items + n) F.ZERO)
-        ≡ F.ring.mul (F.value (get_or elements.old.items n F.ZERO)) (F.value factor)) }
-{
-    for i in 0..elements.len() {
-        let multiple = elements[i] * factor;
-        elements.push(multiple)?;
-    }
-    Ok(())
 }
 
 // Multiplies row i by weight i, with one product an entry.

@@ -3,16 +3,18 @@
 ghost use Rattle.std.specs.Prelude.{◌≡◌, ◌↔◌, ◌⊎◌, ℕ, ◌+◌, ◌*◌, ◌/◌, ◌^◌, ◌<◌, ◌≤◌, IsTrue, IsOk, OnOk, OnErr};
 ghost use Rattle.p3_dft.specs.Twiddles.{IsPrepared};
 
+mod coset_tables;
 mod halves;
 mod network;
 mod tables;
 mod transform;
 
+use crate::radix_2_dit_parallel::coset_tables::CosetTables;
 use crate::radix_2_dit_parallel::tables::Tables;
-use crate::radix_2_dit_parallel::transform::{evaluate, interpolate};
+use crate::radix_2_dit_parallel::transform::{evaluate, evaluate_on_coset, interpolate};
 use crate::traits::{Layout, TwoAdicSubgroupDft};
 use crate::util::reverse_rows;
-use p3_field::{Products, TwoAdicField};
+use p3_field::{Field, Products, TwoAdicField};
 use p3_matrix::{
     BitReversedMatrixView, DftError, IntoRowMajorMatrix, RowMajorMatrix, log2_strict_usize,
 };
@@ -23,38 +25,45 @@ use std::marker::Model;
 /// of the layers is done on each run of rows in turn, the rows are reversed again, and the second half
 /// is done on each run of rows in turn. A run has about as many rows as the square root of the height,
 /// so that it stays in the cache for all layers of its half. The values are left in bit reversed order.
-/// At height `2^k` and width w that is at most `w * k * 2^k / 2` products, and `w * 2^k` more for an
-/// inverse.
+/// At height `2^k` and width w that is at most `w * k * 2^k / 2` products, on a coset too, and `w * 2^k`
+/// more for an inverse.
 ///
 /// Powers of the generators and of their inverses are kept for the largest height so far, from its first
 /// transform or inverse on, or from `prepare`, until the engine ends; then `dft_batch`, `idft_batch` and
 /// the calls that stand on them, but for extensions, take no memory at that height and at smaller ones.
-/// A new engine and a clone have no tables and take no memory.
+/// A coset has a table of its own, for its height and its shift, which is kept from its first
+/// `coset_dft_batch` on; the coset of one, which is the subgroup, needs none. A new engine and a clone
+/// have no tables and take no memory.
 ///
-/// Contracts see which heights are prepared and how many products were made.
+/// Contracts see which heights are prepared, which cosets have a table, and how many products were made.
 #[derive(Drop)]
 pub struct Radix2DitParallel<F: TwoAdicField> {
     tables: Tables<F>,
+    cosets: CosetTables<F>,
     products: Products,
 }
 
 impl<F: TwoAdicField> Model for Radix2DitParallel<F> {
     ghost use Rattle.std.specs.List.{range_with_len};
-    ghost use Rattle.p3_dft.specs.Twiddles.{Tabled};
+    ghost use Rattle.p3_dft.specs.Twiddles.{CosetTabled};
 
-    ghost Value = { Tabled };
+    ghost Value = { CosetTabled F };
 
-    ghost view = { λ e. record { prepared = range_with_len 1 e.tables; products = e.products } };
+    ghost view = { λ e. record {
+      roots = record { prepared = range_with_len 1 e.tables; products = e.products };
+      cosets = e.cosets;
+    } };
 }
 
 impl<F: TwoAdicField> Default for Radix2DitParallel<F> {
     ghost use Rattle.std.specs.Prelude.{◌≡◌, []};
 
-    ghost is_default = { λ e. (e.prepared ≡ []) × (e.products ≡ 0) };
+    ghost is_default = { λ e. (e.roots.prepared ≡ []) × (e.cosets ≡ []) × (e.roots.products ≡ 0) };
 
     fn default() -> Self {
         Radix2DitParallel {
             tables: Tables::new(),
+            cosets: CosetTables::new(),
             products: Products::new(),
         }
     }
@@ -63,7 +72,7 @@ impl<F: TwoAdicField> Default for Radix2DitParallel<F> {
 impl<F: TwoAdicField> Clone for Radix2DitParallel<F> {
     ghost use Rattle.std.specs.Prelude.{◌≡◌, [], ⊤};
 
-    ghost is_clone = { λ _ e. (e.prepared ≡ []) × (e.products ≡ 0) };
+    ghost is_clone = { λ _ e. (e.roots.prepared ≡ []) × (e.cosets ≡ []) × (e.roots.products ≡ 0) };
 
     ghost is_infallible = { λ _. ⊤ };
 
@@ -80,12 +89,13 @@ impl<F: TwoAdicField> Radix2DitParallel<F> {
     pub fn prepare(&mut self, alloc: Global, log_h: usize) -> Result<(), DftError>
         requires within { log_h ≤ F.TWO_ADICITY }
         requires size { 2 ^ log_h < 2 ^ 64 }
-        ensures prepares { OnOk result (IsPrepared self.new log_h) }
-        ensures ready { IsPrepared self.old log_h → IsOk result }
-        ensures keeps { (k : ℕ) → IsPrepared self.old k → IsPrepared self.new k }
-        ensures only { (k : ℕ) → IsPrepared self.new k → IsPrepared self.old k ⊎ (k ≤ log_h) }
+        ensures prepares { OnOk result (IsPrepared self.new.roots log_h) }
+        ensures ready { IsPrepared self.old.roots log_h → IsOk result }
+        ensures keeps { (k : ℕ) → IsPrepared self.old.roots k → IsPrepared self.new.roots k }
+        ensures only { (k : ℕ) → IsPrepared self.new.roots k → IsPrepared self.old.roots k ⊎ (k ≤ log_h) }
         ensures refused { OnErr result (self.new ≡ self.old) }
-        ensures products { self.new.products ≡ self.old.products }
+        ensures cosets { self.new.cosets ≡ self.old.cosets }
+        ensures products { self.new.roots.products ≡ self.old.roots.products }
     {
         self.tables.make(alloc, log_h)
     }
@@ -93,21 +103,22 @@ impl<F: TwoAdicField> Radix2DitParallel<F> {
     /// Whether transforms and inverses of height `2^log_h` take no memory. Height one always is
     /// prepared.
     pub fn is_prepared(&self, log_h: usize) -> bool
-        ensures { IsTrue result ↔ IsPrepared self.now log_h }
+        ensures { IsTrue result ↔ IsPrepared self.now.roots log_h }
     {
         log_h <= self.tables.log_h()
     }
 }
 
 impl<F: TwoAdicField> TwoAdicSubgroupDft<F> for Radix2DitParallel<F> {
-    ghost use Rattle.std.specs.Prelude.{◌≡◌, ◌⊎◌, ⊤, ℕ, ◌+◌, ◌*◌, ◌/◌, ◌^◌, ◌≤◌, IfOk, IsOk, OnOk, OnErr, Ok};
+    ghost use Rattle.std.specs.Prelude.{◌≡◌, ◌≢◌, ◌⊎◌, ⊤, ℕ, ◌+◌, ◌*◌, ◌/◌, ◌^◌, ◌≤◌, [], ◌∷◌, ◌++◌, IfOk, IsOk, OnOk, OnErr, Ok};
+    ghost use Rattle.std.proofs.Common.{inl};
     ghost use Rattle.p3_matrix.specs.BitOrder.{reversed_rows};
     ghost use Rattle.p3_matrix.specs.RowMajor.{HasShapeOf, RowMajor, height};
     ghost use Rattle.p3_dft.specs.Engines.{AtLog, IsLater};
     ghost use Rattle.p3_dft.specs.Extensions.{IsTransformedExtension, extension_bound};
     ghost use Rattle.p3_dft.specs.Shapes.{FitsDft, FitsLde};
     ghost use Rattle.p3_dft.specs.Transforms.{IsInterpolation, IsTransform};
-    ghost use Rattle.p3_dft.specs.Twiddles.{IsPrepared};
+    ghost use Rattle.p3_dft.specs.Twiddles.{IsCosetPrepared, IsPrepared};
     ghost use Rattle.p3_dft.specs.declared.traits.Layout.TheVariants.{Natural};
 
     type Evaluations = BitReversedMatrixView<RowMajorMatrix<F>>;
@@ -116,21 +127,21 @@ impl<F: TwoAdicField> TwoAdicSubgroupDft<F> for Radix2DitParallel<F> {
 
     ghost LAYOUT = { Natural };
 
-    ghost promised = { IsPrepared };
+    ghost promised = { λ e. IsPrepared e.roots };
 
-    ghost coset_promised = { IsPrepared };
+    ghost coset_promised = { λ _ k. k ≡ 0 };
 
-    ghost served = { IsPrepared };
+    ghost served = { λ _ _. ⊤ };
 
     ghost bound = { λ k w. w * (k * 2 ^ k / 2) };
 
-    ghost made = { λ e. e.products };
+    ghost made = { λ e. e.roots.products };
 
-    ghost coset_promised_law = { λ e k prepared. prepared };
+    ghost coset_promised_law = { λ e k one_row. inl one_row };
 
-    ghost default_law = { λ e new. new.1 };
+    ghost default_law = { λ e new. new.2 };
 
-    ghost clone_law = { λ e copy new. new.1 };
+    ghost clone_law = { λ e copy new. new.2 };
 
     /// As the trait says. `Ok` makes the height prepared for good, and an error leaves the engine as it
     /// was. A matrix of height one is its own transform: it is handed back, with no product and no memory
@@ -142,15 +153,17 @@ impl<F: TwoAdicField> TwoAdicSubgroupDft<F> for Radix2DitParallel<F> {
         requires { FitsDft F.TWO_ADICITY (height (N.stored mat)) (N.stored mat).width }
         ensures values { IfOk result (λ out.
             IsTransform F.Field.own F.generator (N.stored mat) F.ring.one (reversed_rows out.bits out.physical)) }
-        ensures succeeds { AtLog (height (N.stored mat)) (λ k. IsPrepared self.old k → IsOk result) }
-        ensures serves { AtLog (height (N.stored mat)) (λ k. OnOk result (IsPrepared self.new k)) }
-        ensures only { AtLog (height (N.stored mat)) (λ k. (n : ℕ) → IsPrepared self.new n → IsPrepared self.old n ⊎ (n ≤ k)) }
+        ensures succeeds { AtLog (height (N.stored mat)) (λ k. IsPrepared self.old.roots k → IsOk result) }
+        ensures serves { AtLog (height (N.stored mat)) (λ k. OnOk result (IsPrepared self.new.roots k)) }
+        ensures only { AtLog (height (N.stored mat))
+            (λ k. (n : ℕ) → IsPrepared self.new.roots n → IsPrepared self.old.roots n ⊎ (n ≤ k)) }
         ensures refused { OnErr result (self.new ≡ self.old) }
         ensures one_row { height (N.stored mat) ≡ 1
             → (result ≡ Ok (record { physical = N.stored mat; bits = 0 })) × (self.new ≡ self.old) }
-        ensures later { IsLater IsPrepared IsPrepared IsPrepared (λ e. e.products) self.old self.new }
+        ensures cosets { self.new.cosets ≡ self.old.cosets }
+        ensures later { IsLater (λ e. IsPrepared e.roots) (λ _ k. k ≡ 0) (λ _ _. ⊤) (λ e. e.roots.products) self.old self.new }
         ensures cost { AtLog (height (N.stored mat))
-            (λ k. OnOk result (self.new.products ≤ self.old.products + (N.stored mat).width * (k * 2 ^ k / 2))) }
+            (λ k. OnOk result (self.new.roots.products ≤ self.old.roots.products + (N.stored mat).width * (k * 2 ^ k / 2))) }
     {
         let mut mat = mat.into_row_major_matrix();
         let height = mat.height();
@@ -167,6 +180,51 @@ impl<F: TwoAdicField> TwoAdicSubgroupDft<F> for Radix2DitParallel<F> {
         self.products.add(products);
     }
 
+    /// As the trait says, by the table of the coset. Where that is there, the answer is `Ok`, and `Ok`
+    /// leaves it there for good. No table of another coset is lost, and an error leaves the engine as it
+    /// was. A shift of one is `dft_batch`, and no other shift makes or needs powers of the generators. A
+    /// matrix of height one is handed back, with no product and no memory taken.
+    fn coset_dft_batch<N: IntoRowMajorMatrix<F>>(
+        &mut self,
+        mat: N,
+        shift: F,
+    ) -> Result<BitReversedMatrixView<RowMajorMatrix<F>>, DftError>
+        requires { FitsDft F.TWO_ADICITY (height (N.stored mat)) (N.stored mat).width }
+        ensures values { IfOk result (λ out.
+            IsTransform F.Field.own F.generator (N.stored mat) (F.value shift) (reversed_rows out.bits out.physical)) }
+        ensures succeeds { AtLog (height (N.stored mat)) (λ k. k ≡ 0 → IsOk result) }
+        ensures ready { AtLog (height (N.stored mat)) (λ k. IsCosetPrepared F.Field.own self.old k (F.value shift) → IsOk result) }
+        ensures tables { AtLog (height (N.stored mat))
+            (λ k. OnOk result (IsCosetPrepared F.Field.own self.new k (F.value shift))) }
+        ensures only { AtLog (height (N.stored mat))
+            (λ k. (n : ℕ) → IsPrepared self.new.roots n → IsPrepared self.old.roots n ⊎ (n ≤ k)) }
+        ensures roots { F.value shift ≢ F.ring.one → self.new.roots.prepared ≡ self.old.roots.prepared }
+        ensures cosets { AtLog (height (N.stored mat)) (λ k. (self.new.cosets ≡ self.old.cosets)
+            ⊎ (self.new.cosets ≡ self.old.cosets ++ record { log_h = k; shift = shift } ∷ [])) }
+        ensures refused { OnErr result (self.new ≡ self.old) }
+        ensures one_row { height (N.stored mat) ≡ 1
+            → (result ≡ Ok (record { physical = N.stored mat; bits = 0 })) × (self.new ≡ self.old) }
+        ensures later { IsLater (λ e. IsPrepared e.roots) (λ _ k. k ≡ 0) (λ _ _. ⊤) (λ e. e.roots.products) self.old self.new }
+        ensures cost { AtLog (height (N.stored mat)) (λ k. OnOk result (self.new.roots.products
+            ≤ self.old.roots.products + (N.stored mat).width * (k * 2 ^ k / 2) + 2 ^ k * (N.stored mat).width)) }
+        ensures pairs { AtLog (height (N.stored mat)) (λ k. OnOk result (self.new.roots.products
+            ≤ self.old.roots.products + (N.stored mat).width * (k * 2 ^ k / 2))) }
+    {
+        if shift == F::ONE {
+            return self.dft_batch(mat);
+        }
+        let mut mat = mat.into_row_major_matrix();
+        let height = mat.height();
+        if height == 1 {
+            return Ok(mat.bit_reverse_rows());
+        }
+        let log_h = log2_strict_usize(height);
+        let place = self.cosets.make(*mat.allocator(), log_h, shift)?;
+        let table = self.cosets.get(place);
+        evaluate_on_coset(&mut mat, log_h, table, &mut self.products);
+        Ok(mat.bit_reverse_rows())
+    }
+
     /// As the trait says: the division by the height is part of a layer. `Ok` makes the height prepared
     /// for good, and an error leaves the engine as it was. A matrix of height one is its own inverse
     /// transform: it is handed back, with no product and no memory taken.
@@ -176,14 +234,16 @@ impl<F: TwoAdicField> TwoAdicSubgroupDft<F> for Radix2DitParallel<F> {
     ) -> Result<RowMajorMatrix<F>, DftError>
         requires { FitsDft F.TWO_ADICITY (height (N.stored mat)) (N.stored mat).width }
         ensures coefficients { IfOk result (λ out. IsInterpolation F.Field.own F.generator (N.stored mat) F.ring.one out) }
-        ensures succeeds { AtLog (height (N.stored mat)) (λ k. IsPrepared self.old k → IsOk result) }
-        ensures serves { AtLog (height (N.stored mat)) (λ k. OnOk result (IsPrepared self.new k)) }
-        ensures only { AtLog (height (N.stored mat)) (λ k. (n : ℕ) → IsPrepared self.new n → IsPrepared self.old n ⊎ (n ≤ k)) }
+        ensures succeeds { AtLog (height (N.stored mat)) (λ k. IsPrepared self.old.roots k → IsOk result) }
+        ensures serves { AtLog (height (N.stored mat)) (λ k. OnOk result (IsPrepared self.new.roots k)) }
+        ensures only { AtLog (height (N.stored mat))
+            (λ k. (n : ℕ) → IsPrepared self.new.roots n → IsPrepared self.old.roots n ⊎ (n ≤ k)) }
         ensures refused { OnErr result (self.new ≡ self.old) }
         ensures one_row { height (N.stored mat) ≡ 1 → (result ≡ Ok (N.stored mat)) × (self.new ≡ self.old) }
-        ensures later { IsLater IsPrepared IsPrepared IsPrepared (λ e. e.products) self.old self.new }
-        ensures cost { AtLog (height (N.stored mat)) (λ k. OnOk result (self.new.products
-            ≤ self.old.products + (N.stored mat).width * (k * 2 ^ k / 2) + 2 ^ k * (N.stored mat).width)) }
+        ensures cosets { self.new.cosets ≡ self.old.cosets }
+        ensures later { IsLater (λ e. IsPrepared e.roots) (λ _ k. k ≡ 0) (λ _ _. ⊤) (λ e. e.roots.products) self.old self.new }
+        ensures cost { AtLog (height (N.stored mat)) (λ k. OnOk result (self.new.roots.products
+            ≤ self.old.roots.products + (N.stored mat).width * (k * 2 ^ k / 2) + 2 ^ k * (N.stored mat).width)) }
     {
         let mut mat = mat.into_row_major_matrix();
         let height = mat.height();

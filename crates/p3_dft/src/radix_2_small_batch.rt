@@ -12,8 +12,8 @@ ghost use Rattle.p3_dft.specs.Twiddles.{AreTwiddlesFromStart, IsPrepared, backwa
 mod networks;
 mod tables;
 
-use crate::radix_2_bowers::reversed_powers;
 use crate::traits::{Layout, TwoAdicSubgroupDft};
+use crate::twiddles::reversed_powers;
 use crate::util::{extend_by_zeros, reverse_rows};
 use networks::{dit_network, extending_network, scaled_dif_network};
 use p3_field::{Products, TwoAdicField};

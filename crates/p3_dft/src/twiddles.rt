@@ -2,9 +2,10 @@
 
 ghost use Rattle.std.specs.Prelude.{◌≡◌, ◌⊎◌, ℕ, ◌+◌, ◌-◌, ◌*◌, ◌^◌, ◌<◌, ◌≤◌, IsOk, IfOk, OnOk, OnErr, length, get_or, take, drop};
 ghost use Rattle.p3_field.specs.Ring.{power};
-ghost use Rattle.p3_dft.specs.Twiddles.{AreTwiddlesOfLayers, layer_powers};
+ghost use Rattle.p3_matrix.specs.BitOrder.{rev};
+ghost use Rattle.p3_dft.specs.Twiddles.{AreTwiddles, AreTwiddlesOfLayers, layer_place, layer_powers};
 
-use p3_field::TwoAdicField;
+use p3_field::{Field, TwoAdicField};
 use p3_matrix::DftError;
 use std::alloc::Global;
 use std::marker::Model;
@@ -119,6 +120,64 @@ pub(crate) fn push_powers<F: TwoAdicField>(
     for _e in 0..count {
         powers.push(power)?;
         power = power * base;
+    }
+    Ok(())
+}
+
+// The first `2^bits` powers of `base`, each times `first`, in bit reversed order.
+pub(crate) fn reversed_powers<F: TwoAdicField>(
+    alloc: Global,
+    first: F,
+    base: F,
+    bits: usize,
+) -> Result<Vec<F>, DftError>
+    requires { bits < 64 }
+    ensures { IfOk result (λ v. AreTwiddles F.Field.own (2 ^ bits)
+        (λ b. F.ring.mul (F.value first) (power F.ring (F.value base) (rev bits b))) v.items) }
+{
+    let mut powers = Vec::with_capacity(alloc, 1 << bits)?;
+    push_layer(&mut powers, first, base, bits, true)?;
+    Ok(powers)
+}
+
+// Adds the first `2^bits` powers of `base`, each times `first`, at the end: in natural order or in bit
+// reversed order. In either, twice as many are the same again and each of them times one factor.
+pub(crate) fn push_layer<F: TwoAdicField>(
+    twiddles: &mut Vec<F>,
+    first: F,
+    base: F,
+    bits: usize,
+    reversed: bool,
+) -> Result<(), DftError>
+    requires { bits < 64 }
+    ensures size { OnOk result (length twiddles.new.items ≡ length twiddles.old.items + 2 ^ bits) }
+    ensures before { OnOk result ((n : ℕ) → n < length twiddles.old.items
+        → get_or twiddles.new.items n F.ZERO ≡ get_or twiddles.old.items n F.ZERO) }
+    ensures entries { OnOk result ((e : ℕ) → e < 2 ^ bits → F.value (get_or twiddles.new.items (length twiddles.old.items + e) F.ZERO)
+        ≡ F.ring.mul (F.value first) (power F.ring (F.value base) (layer_place reversed bits e))) }
+{
+    let start = twiddles.len();
+    twiddles.push(first)?;
+    for l in 0..bits {
+        let factor = base.exp_power_of_2(if reversed { bits - 1 - l } else { l });
+        push_multiples(twiddles, start, factor)?;
+    }
+    Ok(())
+}
+
+// Adds each element from place `from` on, times `factor`, at the end.
+fn push_multiples<F: Field>(elements: &mut Vec<F>, from: usize, factor: F) -> Result<(), DftError>
+    requires { from ≤ length elements.old.items }
+    ensures size { OnOk result (length elements.new.items + from ≡ 2 * length elements.old.items) }
+    ensures before { OnOk result ((n : ℕ) → n < length elements.old.items
+        → get_or elements.new.items n F.ZERO ≡ get_or elements.old.items n F.ZERO) }
+    ensures after { OnOk result ((n : ℕ) → from + n < length elements.old.items
+        → F.value (get_or elements.new.items (length elements.old.items + n) F.ZERO)
+        ≡ F.ring.mul (F.value (get_or elements.old.items (from + n) F.ZERO)) (F.value factor)) }
+{
+    for i in from..elements.len() {
+        let multiple = elements[i] * factor;
+        elements.push(multiple)?;
     }
     Ok(())
 }

@@ -3,8 +3,7 @@
 ghost use Rattle.std.specs.Prelude.{◌≡◌, ◌⊎◌, ◌+◌, ◌-◌, ◌/◌, ◌^◌, ◌<◌, ◌≤◌, true, false, IsOk, IfOk, OnOk, OnErr};
 ghost use Rattle.p3_dft.specs.Twiddles.{AreTwiddles, AreTwiddlesOfLayers, reversed_root_powers, root_of, root_powers};
 
-use crate::radix_2_bowers::reversed_powers;
-use crate::twiddles::push_powers;
+use crate::twiddles::{push_powers, reversed_powers};
 use p3_field::{Field, TwoAdicField};
 use p3_matrix::DftError;
 use std::alloc::Global;

@@ -9,6 +9,7 @@ ghost use Rattle.p3_dft.specs.Polynomials.{poly};
 ghost use Rattle.p3_dft.specs.Transforms.{values_of};
 ghost use Rattle.p3_dft.specs.Twiddles.{factor, root_of, scale_cost};
 
+use crate::radix_2_dit_parallel::coset_tables::CosetTable;
 use crate::radix_2_dit_parallel::halves::BlockTwiddles;
 use crate::radix_2_dit_parallel::network::network;
 use crate::radix_2_dit_parallel::tables::RootTables;
@@ -88,4 +89,32 @@ pub(crate) fn interpolate<F: TwoAdicField>(
 {
     let scale = F::ONE.div_2exp_u64(log_h as u64);
     transform(mat, log_h, inverse, Some(scale), products);
+}
+
+// From coefficients in natural order, their values on the coset that a table is of, in bit reversed
+// order.
+pub(crate) fn evaluate_on_coset<F: TwoAdicField>(
+    mat: &mut RowMajorMatrix<F>,
+    log_h: usize,
+    table: &CosetTable<F>,
+    products: &mut Products,
+)
+    requires whole { IsRowMajor mat.old }
+    requires small { log_h < 64 }
+    requires height { height mat.old ≡ 2 ^ log_h }
+    requires table { table.now.log_h ≡ log_h }
+    ensures shape { HasShapeOf mat.new mat.old }
+    ensures size { length mat.new.values ≡ length mat.old.values }
+    ensures values { IsValues F.ring (λ n. F.value (F.generator n)) (values_of F.Field.own mat.old) log_h (F.value table.now.shift)
+        (bit_reversal log_h (values_of F.Field.own mat.new)) }
+    ensures grows { products.old ≤ products.new }
+    ensures cost { products.new ≤ products.old + mat.old.width * (log_h * 2 ^ log_h / 2) }
+{
+    let mid = (log_h + 1) / 2;
+    let twiddles = table.twiddles();
+    let high = BlockTwiddles {
+        twiddles,
+        by_layer: true,
+    };
+    network(mat, mid, log_h - mid, twiddles, high, None, products);
 }

@@ -3,7 +3,7 @@
 ghost use Rattle.std.specs.Prelude.{◌≡◌, ◌⊎◌, ℕ, ◌+◌, ◌-◌, ◌*◌, ◌^◌, ◌<◌, ◌≤◌, IsOk, IfOk, OnOk, OnErr, length};
 ghost use Rattle.p3_dft.specs.Twiddles.{AreTwiddles, AreTwiddlesFromStart, backward_root, block_powers, forward_root};
 
-use crate::radix_2_bowers::reversed_powers;
+use crate::twiddles::reversed_powers;
 use p3_field::TwoAdicField;
 use p3_matrix::DftError;
 use std::alloc::Global;

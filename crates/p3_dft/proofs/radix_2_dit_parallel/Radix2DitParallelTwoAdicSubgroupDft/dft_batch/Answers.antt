@@ -2,7 +2,7 @@ use Rattle.std.proofs.Common.{◌≡◌, ◌⊎◌, inl, ℕ, ◌^◌, ◌≤◌
 use Rattle.std.specs.List.{range_with_len}
 use Rattle.p3_matrix.specs.RowMajor.{RowMajor, height}
 use Rattle.p3_matrix.proofs.TwoPowers.{log_same}
-use Rattle.p3_dft.specs.Twiddles.{Tabled, IsPrepared}
+use Rattle.p3_dft.specs.Twiddles.{CosetTabled, IsPrepared}
 use Rattle.p3_dft.proofs.BitReversed.OneRow.{row_handed_back, row_seen}
 use Rattle.p3_dft.proofs.BitReversed.Rows.{transform_seen}
 use Rattle.p3_dft.proofs.Tables.PreparedHeights.{prepared_before, prepared_until, until_prepared}
@@ -23,7 +23,7 @@ returns-in_err-make-clause-succeeds g c k high ready =
     let tall : c.height-height.result ≡ height (g.N.IntoRowMajorMatrix.stored c.args.mat) = c.height-height.ensures.height ∙ ap height c.into_row_major_matrix-mat.ensures in
     let log = c.log2_strict_usize-log_h.result in
     let same : k ≡ log = log_same k log (sym high ∙ sym tall ∙ c.log2_strict_usize-log_h.ensures.power) in
-    let held : k ≤ c.self.inside.tables = until_prepared _ k (subst (λ (e : Tabled). IsPrepared e k) (sym c.self.view_is) ready) in
+    let held : k ≤ c.self.inside.tables = until_prepared _ k (subst (λ (e : CosetTabled g.row.F.Denot). IsPrepared e.roots k) (sym c.self.view_is) ready) in
     let there : log ≤ c.self.inside.tables = omega (arith, same, held) in
     absurd (not_ok c.make.result _ c.in_err-make.was (c.make.ensures.ready there))
 
@@ -68,7 +68,7 @@ pub returns-in_err-make-clause-only : goal.returns-in_err-make-clause-only
 returns-in_err-make-clause-only g c k high n now =
     let tall : c.height-height.result ≡ height (g.N.IntoRowMajorMatrix.stored c.args.mat) = c.height-height.ensures.height ∙ ap height c.into_row_major_matrix-mat.ensures in
     let same : c.log2_strict_usize-log_h.result ≡ k = log_same _ k (sym c.log2_strict_usize-log_h.ensures.power ∙ tall ∙ high) in
-    subst (λ (e : Tabled). IsPrepared e n ⊎ (n ≤ k)) c.self.view_is
+    subst (λ (e : CosetTabled g.row.F.Denot). IsPrepared e.roots n ⊎ (n ≤ k)) c.self.view_is
     (subst (λ (l : ℕ). IsPrepared (record { prepared = range_with_len 1 c.self.inside.tables; products = c.self.inside.products }) n ⊎ (n ≤ l)) same
     (prepared_before c.self.inside.tables c.make.new.self _ n c.make.ensures.only now))
 
@@ -76,19 +76,19 @@ pub returns-clause-only : goal.returns-clause-only
 returns-clause-only g c k high n now =
     let tall : c.height-height.result ≡ height (g.N.IntoRowMajorMatrix.stored c.args.mat) = c.height-height.ensures.height ∙ ap height c.into_row_major_matrix-mat.ensures in
     let same : c.log2_strict_usize-log_h.result ≡ k = log_same _ k (sym c.log2_strict_usize-log_h.ensures.power ∙ tall ∙ high) in
-    subst (λ (e : Tabled). IsPrepared e n ⊎ (n ≤ k)) c.self.view_is
+    subst (λ (e : CosetTabled g.row.F.Denot). IsPrepared e.roots n ⊎ (n ≤ k)) c.self.view_is
     (subst (λ (l : ℕ). IsPrepared (record { prepared = range_with_len 1 c.self.inside.tables; products = c.self.inside.products }) n ⊎ (n ≤ l)) same
     (prepared_before c.self.inside.tables c.make.new.self _ n c.make.ensures.only now))
 
 pub returns-clause-later : goal.returns-clause-later
 returns-clause-later g c =
-    let products : c.self.inside.products ≡ c.args.self.now.products = ap (λ e. e.products) c.self.view_is in
-    let there = λ (k : ℕ) (before : IsPrepared c.args.self.now k). until_prepared _ k (subst (λ (e : Tabled). IsPrepared e k) (sym c.self.view_is) before) in
-    let still : (k : ℕ) → IsPrepared c.args.self.now k → k ≤ c.make.new.self = λ k before. let held = there k before in omega (arith, held, c.make.ensures.keeps) in
+    let products : c.self.inside.products ≡ c.args.self.now.roots.products = ap (λ (e : CosetTabled g.row.F.Denot). e.roots.products) c.self.view_is in
+    let there = λ (k : ℕ) (before : IsPrepared c.args.self.now.roots k). until_prepared _ k (subst (λ (e : CosetTabled g.row.F.Denot). IsPrepared e.roots k) (sym c.self.view_is) before) in
+    let still : (k : ℕ) → IsPrepared c.args.self.now.roots k → k ≤ c.make.new.self = λ k before. let held = there k before in omega (arith, held, c.make.ensures.keeps) in
     record {
       keeps = λ k before. prepared_until _ k (still k before);
-      keeps_cosets = λ k before. prepared_until _ k (still k before);
-      keeps_served = λ k before. prepared_until _ k (still k before);
+      keeps_cosets = λ k one_row. one_row;
+      keeps_served = λ k none. tt;
       grows = omega (arith, products, c.evaluate.ensures.grows);
     }
 
@@ -97,6 +97,6 @@ returns-clause-cost g c k high =
     let tall : c.height-height.result ≡ height (g.N.IntoRowMajorMatrix.stored c.args.mat) = c.height-height.ensures.height ∙ ap height c.into_row_major_matrix-mat.ensures in
     let log = c.log2_strict_usize-log_h.result in
     let same : log ≡ k = log_same log k (sym c.log2_strict_usize-log_h.ensures.power ∙ tall ∙ high) in
-    let products : c.self.inside.products ≡ c.args.self.now.products = ap (λ (e : Tabled). e.products) c.self.view_is in
+    let products : c.self.inside.products ≡ c.args.self.now.roots.products = ap (λ (e : CosetTabled g.row.F.Denot). e.roots.products) c.self.view_is in
     let width = ap (λ (m : RowMajor g.row.F.Denot). m.width) c.into_row_major_matrix-mat.ensures in
     rw (← products, ← width, ← same) c.evaluate.ensures.cost
