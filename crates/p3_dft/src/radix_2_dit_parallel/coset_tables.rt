@@ -1,6 +1,7 @@
 // The tables of cosets that the engine keeps until it ends.
 
-ghost use Rattle.std.specs.Prelude.{◌≡◌, ◌⊎◌, ◌↔◌, ℕ, ◌<◌, ◌≤◌, List, [], ◌∷◌, ◌++◌, length, get_or, IsTrue, IsOk, IfOk, OnErr, IfSome, IsNone};
+ghost use Rattle.std.specs.Prelude.{◌≡◌, ◌⊎◌, ◌↔◌, ◌<◌, ◌≤◌, [], ◌∷◌, ◌++◌, length, get_or};
+ghost use Rattle.std.specs.Prelude.{IsTrue, IsOk, IfOk, OnErr, IfSome, IsNone};
 ghost use Rattle.p3_dft.specs.Twiddles.{Coset, HasCoset, IsCosetAt, IsCosetOf, IsCosetTable};
 
 use crate::twiddles::push_layer;
@@ -28,7 +29,8 @@ impl<F: TwoAdicField> Model for CosetTable<F> {
 
     ghost view = { λ t. record { log_h = t.log_h; shift = t.shift } };
 
-    ghost invariant = { λ t. IsCosetTable F.Field F.generator (F.Field.value t.shift) t.log_h t.twiddles.items × (t.log_h ≤ F.TWO_ADICITY) };
+    ghost invariant = { λ t.
+        IsCosetTable F.Field F.generator (F.Field.value t.shift) t.log_h t.twiddles.items × (t.log_h ≤ F.TWO_ADICITY) };
 }
 
 impl<F: TwoAdicField> CosetTable<F> {

@@ -8,7 +8,8 @@ ghost use Rattle.p3_matrix.specs.Butterflies.{dit_near, dit_far};
 ghost use Rattle.p3_dft.specs.Cosets.{point};
 ghost use Rattle.p3_dft.specs.Polynomials.{poly};
 ghost use Rattle.p3_dft.specs.Transforms.{AreValuesOfRows};
-ghost use Rattle.p3_dft.specs.Twiddles.{AreBlockTwiddles, AreTwiddlesOfLayers, block_end, block_entries, coset_twiddles, factor, scale_cost};
+ghost use Rattle.p3_dft.specs.Twiddles.{AreBlockTwiddles, AreTwiddlesOfLayers, coset_twiddles};
+ghost use Rattle.p3_dft.specs.Twiddles.{block_end, block_entries, factor, scale_cost};
 
 use crate::butterfly_layers::layer;
 use crate::butterfly_layers::rules::{
@@ -124,7 +125,8 @@ pub(crate) fn second_half<F: TwoAdicField>(
         → AreBlockTwiddles F.Field.own g s mid (mid + left) table.entry.by_layer table.entry.twiddles.now
         → (a t j : ℕ) → a < 2 ^ mid → t < 2 ^ left → j < width
         → F.value (get_or values.new ((a * 2 ^ left + t) * width + j) F.ZERO)
-        ≡ poly F.ring (2 ^ left) (λ q. F.ring.mul (F.value (get_or values.old ((a * 2 ^ left + q) * width + j) F.ZERO)) (factor F.Field.own scale))
+        ≡ poly F.ring (2 ^ left)
+        (λ q. F.ring.mul (F.value (get_or values.old ((a * 2 ^ left + q) * width + j) F.ZERO)) (factor F.Field.own scale))
         (point F.ring g left (point F.ring g (mid + left) s (rev mid a)) (rev left t)) }
     ensures grows { products.old ≤ products.new }
     ensures count { products.new ≤ products.old + 2 ^ mid * (width * (left * 2 ^ left / 2) + scale_cost scale * (2 ^ left * width)) }
@@ -156,7 +158,8 @@ fn high_runs<F: TwoAdicField>(
         → AreBlockTwiddles F.Field.own g s mid (mid + left) table.entry.by_layer table.entry.twiddles.now
         → (a t j : ℕ) → a < 2 ^ mid → t < 2 ^ left → j < width
         → F.value (get_or values.new ((a * 2 ^ left + t) * width + j) F.ZERO)
-        ≡ poly F.ring (2 ^ left) (λ q. F.ring.mul (F.value (get_or values.old ((a * 2 ^ left + q) * width + j) F.ZERO)) (factor F.Field.own scale))
+        ≡ poly F.ring (2 ^ left)
+        (λ q. F.ring.mul (F.value (get_or values.old ((a * 2 ^ left + q) * width + j) F.ZERO)) (factor F.Field.own scale))
         (point F.ring g left (point F.ring g (mid + left) s (rev mid a)) (rev left t)) }
     ensures grows { products.old ≤ products.new }
     ensures count { products.new ≤ products.old + 2 ^ mid * (width * (left * 2 ^ left / 2) + scale_cost scale * (2 ^ left * width)) }
@@ -264,11 +267,13 @@ fn layer_by_place<F: TwoAdicField>(
     ensures near { let cell = λ (xs : List F) (n : ℕ). F.value (get_or xs n F.ZERO) in
         let size = half * width in
         (b i : ℕ) → b < blocks → i < size → cell values.new (b * (2 * size) + i)
-        ≡ dit_near F.ring (cell twiddles.now (i / width)) (cell values.old (b * (2 * size) + i)) (cell values.old (b * (2 * size) + (size + i))) }
+        ≡ dit_near F.ring (cell twiddles.now (i / width)) (cell values.old (b * (2 * size) + i))
+        (cell values.old (b * (2 * size) + (size + i))) }
     ensures far { let cell = λ (xs : List F) (n : ℕ). F.value (get_or xs n F.ZERO) in
         let size = half * width in
         (b i : ℕ) → b < blocks → i < size → cell values.new (b * (2 * size) + (size + i))
-        ≡ dit_far F.ring (cell twiddles.now (i / width)) (cell values.old (b * (2 * size) + i)) (cell values.old (b * (2 * size) + (size + i))) }
+        ≡ dit_far F.ring (cell twiddles.now (i / width)) (cell values.old (b * (2 * size) + i))
+        (cell values.old (b * (2 * size) + (size + i))) }
     ensures grows { products.old ≤ products.new }
     ensures count { products.new ≤ products.old + 1 * (blocks * (half * width)) }
 {
@@ -314,11 +319,13 @@ fn layer_by_block<F: TwoAdicField>(
     requires table { first_block + blocks ≤ length twiddles.now }
     ensures near { let cell = λ (xs : List F) (n : ℕ). F.value (get_or xs n F.ZERO) in
         let size = half * width in
-        (b i : ℕ) → b < blocks → i < size → cell values.new (b * (2 * size) + i) ≡ dit_near F.ring (cell twiddles.now (first_block + b))
+        (b i : ℕ) → b < blocks → i < size → cell values.new (b * (2 * size) + i)
+        ≡ dit_near F.ring (cell twiddles.now (first_block + b))
         (cell values.old (b * (2 * size) + i)) (cell values.old (b * (2 * size) + (size + i))) }
     ensures far { let cell = λ (xs : List F) (n : ℕ). F.value (get_or xs n F.ZERO) in
         let size = half * width in
-        (b i : ℕ) → b < blocks → i < size → cell values.new (b * (2 * size) + (size + i)) ≡ dit_far F.ring (cell twiddles.now (first_block + b))
+        (b i : ℕ) → b < blocks → i < size → cell values.new (b * (2 * size) + (size + i))
+        ≡ dit_far F.ring (cell twiddles.now (first_block + b))
         (cell values.old (b * (2 * size) + i)) (cell values.old (b * (2 * size) + (size + i))) }
     ensures grows { products.old ≤ products.new }
     ensures count { products.new ≤ products.old + 1 * (blocks * (half * width)) }

@@ -40,7 +40,8 @@ pub(crate) fn network<F: TwoAdicField>(
         (point F.ring g (mid + left) s (rev (mid + left) r)) }
     ensures grows { products.old ≤ products.new }
     ensures count { products.new ≤ products.old
-        + (2 ^ left * (mat.old.width * (mid * 2 ^ mid / 2)) + 2 ^ mid * (mat.old.width * (left * 2 ^ left / 2) + scale_cost scale * (2 ^ left * mat.old.width))) }
+        + (2 ^ left * (mat.old.width * (mid * 2 ^ mid / 2))
+        + 2 ^ mid * (mat.old.width * (left * 2 ^ left / 2) + scale_cost scale * (2 ^ left * mat.old.width))) }
 {
     first_of_matrix(mat, mid, left, low, products);
     second_of_matrix(mat, mid, left, high, scale, products);
@@ -91,7 +92,8 @@ fn second_of_matrix<F: TwoAdicField>(
     ensures values { (g : ℕ → F.Element) (s : F.Element) → AreRoots F.ring (mid + left) g
         → AreBlockTwiddles F.Field.own g s mid (mid + left) table.entry.by_layer table.entry.twiddles.now
         → (a t j : ℕ) → a < 2 ^ mid → t < 2 ^ left → j < mat.old.width → (values_of F.Field.own mat.new).entry (a * 2 ^ left + t) j
-        ≡ poly F.ring (2 ^ left) (λ q. F.ring.mul ((values_of F.Field.own mat.old).entry (rev left q * 2 ^ mid + rev mid a) j) (factor F.Field.own scale))
+        ≡ poly F.ring (2 ^ left)
+        (λ q. F.ring.mul ((values_of F.Field.own mat.old).entry (rev left q * 2 ^ mid + rev mid a) j) (factor F.Field.own scale))
         (point F.ring g left (point F.ring g (mid + left) s (rev mid a)) (rev left t)) }
     ensures grows { products.old ≤ products.new }
     ensures count { products.new ≤ products.old
