@@ -151,7 +151,7 @@ impl<F: TwoAdicField> Radix2DFTSmallBatch<F> {
 }
 
 impl<F: TwoAdicField> TwoAdicSubgroupDft<F> for Radix2DFTSmallBatch<F> {
-    ghost use Rattle.std.specs.Prelude.{◌≡◌, ℕ, ◌+◌, ◌*◌, ◌/◌, ◌^◌, ◌≤◌, IfOk, IsOk, OnOk, Ok};
+    ghost use Rattle.std.specs.Prelude.{◌≡◌, ◌⊎◌, ℕ, ◌+◌, ◌*◌, ◌/◌, ◌^◌, ◌≤◌, IfOk, IsOk, OnOk, OnErr, Ok};
     ghost use Rattle.p3_matrix.specs.RowMajor.{HasShapeOf, RowMajor, height};
     ghost use Rattle.p3_dft.specs.Engines.{AtLog, IsLater};
     ghost use Rattle.p3_dft.specs.Extensions.{IsExtension, IsTransformedExtension, extension_bound};
@@ -190,6 +190,9 @@ impl<F: TwoAdicField> TwoAdicSubgroupDft<F> for Radix2DFTSmallBatch<F> {
         ensures succeeds { AtLog (height (N.stored mat)) (λ k. IsPrepared self.old k → IsOk result) }
         ensures serves { AtLog (height (N.stored mat)) (λ k. OnOk result (IsPrepared self.new k)) }
         ensures one_row { height (N.stored mat) ≡ 1 → (result ≡ Ok (N.stored mat)) × (self.new ≡ self.old) }
+        ensures only { AtLog (height (N.stored mat))
+            (λ k. (n : ℕ) → IsPrepared self.new n → IsPrepared self.old n ⊎ (n ≤ k)) }
+        ensures refused { OnErr result (self.new ≡ self.old) }
         ensures later { IsLater IsPrepared IsPrepared IsPrepared (λ e. e.products) self.old self.new }
         ensures cost { AtLog (height (N.stored mat))
             (λ k. OnOk result (self.new.products ≤ self.old.products + (N.stored mat).width * (k * 2 ^ k / 2))) }
@@ -222,6 +225,9 @@ impl<F: TwoAdicField> TwoAdicSubgroupDft<F> for Radix2DFTSmallBatch<F> {
         ensures succeeds { AtLog (height (N.stored mat)) (λ k. IsPrepared self.old k → IsOk result) }
         ensures serves { AtLog (height (N.stored mat)) (λ k. OnOk result (IsPrepared self.new k)) }
         ensures one_row { height (N.stored mat) ≡ 1 → (result ≡ Ok (N.stored mat)) × (self.new ≡ self.old) }
+        ensures only { AtLog (height (N.stored mat))
+            (λ k. (n : ℕ) → IsPrepared self.new n → IsPrepared self.old n ⊎ (n ≤ k)) }
+        ensures refused { OnErr result (self.new ≡ self.old) }
         ensures later { IsLater IsPrepared IsPrepared IsPrepared (λ e. e.products) self.old self.new }
         ensures cost { AtLog (height (N.stored mat)) (λ k. OnOk result (self.new.products
             ≤ self.old.products + (N.stored mat).width * (k * 2 ^ k / 2) + 2 ^ k * (N.stored mat).width)) }
@@ -252,6 +258,8 @@ impl<F: TwoAdicField> TwoAdicSubgroupDft<F> for Radix2DFTSmallBatch<F> {
             IsExtension F.Field.own F.generator (N.stored mat) added_bits (F.value shift) out) }
         ensures serves { AtLog (height (N.stored mat))
             (λ k. OnOk result (IsPrepared self.new k × IsPrepared self.new (k + added_bits))) }
+        ensures only { AtLog (height (N.stored mat))
+            (λ k. (n : ℕ) → IsPrepared self.new n → IsPrepared self.old n ⊎ (n ≤ k + added_bits)) }
         ensures later { IsLater IsPrepared IsPrepared IsPrepared (λ e. e.products) self.old self.new }
         ensures cost { AtLog (height (N.stored mat)) (λ k. OnOk result (self.new.products
             ≤ self.old.products + extension_bound (λ n w. w * (n * 2 ^ n / 2)) k added_bits (N.stored mat).width)) }
@@ -431,11 +439,14 @@ fn interpolate<F: TwoAdicField>(
     );
 }
 
-// The logarithm of the number of rows of a tile of about `tile` elements, at most the height.
+// The logarithm of the number of rows of a tile: the least power of two that is not below the rows that
+// fit into `tile` elements, or the height if that is less.
 fn log_tile_rows(tile: usize, width: usize, log_h: usize) -> usize
     requires wide { 1 ≤ width }
     requires tile { tile ≤ 4294967296 }
-    ensures { result ≤ log_h }
+    ensures within { result ≤ log_h }
+    ensures enough { result < log_h → tile / width ≤ 2 ^ result }
+    ensures least { (r : ℕ) → r < result → 2 ^ r < tile / width }
 {
     let rows = (tile / width).next_power_of_two();
     log_h.min(log2_strict_usize(rows))

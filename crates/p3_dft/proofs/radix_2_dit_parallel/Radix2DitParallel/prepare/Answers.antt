@@ -2,7 +2,7 @@ use Rattle.std.proofs.Common.{◌≡◌, ◌⊎◌, inl, inr, ◌≤◌, sym, su
 use Rattle.std.proofs.lemmas.Result.{on_ok_weaker}
 use Rattle.p3_matrix.proofs.TwoPowers.{log_lt}
 use Rattle.p3_dft.specs.Twiddles.{CosetTabled, IsPrepared}
-use Rattle.p3_dft.proofs.Tables.PreparedHeights.{prepared_until, until_prepared}
+use Rattle.p3_dft.proofs.Tables.PreparedHeights.{prepared_before, prepared_until, until_prepared}
 use Rattle.p3_dft.proofs.radix_2_dit_parallel.Radix2DitParallel.prepare.Goals as goal
 
 pub make-requires-clause-small : goal.make-requires-clause-small
@@ -20,11 +20,5 @@ returns-clause-keeps g c k before =
     prepared_until c.make.new.self k (omega (arith, was, c.make.ensures.keeps))
 
 pub returns-clause-only : goal.returns-clause-only
-returns-clause-only g c k now = by_cases c.make.ensures.only
-  where
-    is : k ≤ c.make.new.self
-    is = until_prepared c.make.new.self k now
-
-    by_cases : (c.make.new.self ≡ c.self.inside.tables) ⊎ (c.make.new.self ≡ c.args.log_h) → IsPrepared c.args.self.now.roots k ⊎ (k ≤ c.args.log_h)
-    by_cases (inl same) = inl (subst (λ (e : CosetTabled g.row.F.Denot). IsPrepared e.roots k) c.self.view_is (prepared_until c.self.inside.tables k (omega (arith, is, same))))
-    by_cases (inr made) = inr (omega (arith, is, made))
+returns-clause-only g c k now =
+    subst (λ (e : CosetTabled g.row.F.Denot). IsPrepared e.roots k ⊎ (k ≤ c.args.log_h)) c.self.view_is (prepared_before c.self.inside.tables c.make.new.self c.args.log_h k c.make.ensures.only now)

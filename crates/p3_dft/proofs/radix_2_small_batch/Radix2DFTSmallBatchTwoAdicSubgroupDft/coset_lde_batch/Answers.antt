@@ -1,4 +1,4 @@
-use Rattle.std.proofs.Common.{◌≡◌, inl, ℕ, ◌+◌, ◌*◌, ◌/◌, ◌^◌, ◌≤◌, Result, Ok, Err, OnOk, refl, sym, ap, ap₂, ◌∙◌, subst, arith}
+use Rattle.std.proofs.Common.{◌≡◌, ◌⊎◌, inl, ℕ, ◌+◌, ◌*◌, ◌/◌, ◌^◌, ◌≤◌, Result, Ok, Err, OnOk, refl, sym, ap, ap₂, ◌∙◌, subst, arith}
 use Rattle.std.proofs.lemmas.Result.{IfOk-weaker}
 use Rattle.p3_field.specs.Ring.{count}
 use Rattle.p3_field.proofs.Powers.{count-power_of_two}
@@ -14,7 +14,7 @@ use Rattle.p3_dft.proofs.Calls.Shapes.{output_log_small}
 use Rattle.p3_dft.proofs.Layers.Counts.{extension_made, fewer_than_parts}
 use Rattle.p3_dft.proofs.Polynomials.Cosets.{coset_values}
 use Rattle.p3_dft.proofs.BitReversed.Coefficients.{extension_of_coefficients, extension_of_row, shifted_quotient}
-use Rattle.p3_dft.proofs.Tables.PreparedHeights.{prepared_until, until_prepared}
+use Rattle.p3_dft.proofs.Tables.PreparedHeights.{prepared_before, prepared_until, until_prepared}
 use Rattle.p3_dft.proofs.radix_2_small_batch.Radix2DFTSmallBatchTwoAdicSubgroupDft.coset_lde_batch.Goals as goal
 
 on_ok : {T E : Type 0} (r : Result T E) {P : Type 0} → P → OnOk r P
@@ -150,3 +150,17 @@ returns-clause-cost g c k high =
     let all = extension_made x (2 ^ (log + a)) (2 ^ a) w c.self.inside.products c.interpolate_reversed.new.products c.extend.new.products c.interpolate_reversed.ensures.cost second in
     let most : c.extend.new.products ≤ c.self.inside.products + extension_bound (λ n v. v * (n * 2 ^ n / 2)) log a w = omega (arith, all, fewer_than_parts log a w) in
     rw (← products, ← c.into_row_major_matrix-mat.ensures, ← same) (on_ok c.extend.result most)
+
+pub returns-clause-only : goal.returns-clause-only
+returns-clause-only g c k high n now =
+    let log = c.log2_strict_usize-log_h.result in
+    let same : log ≡ k = log_same log k (sym c.log2_strict_usize-log_h.ensures.power ∙ c.height.ensures.height ∙ ap height c.into_row_major_matrix-mat.ensures ∙ high) in
+    subst (λ (e : Tabled). IsPrepared e n ⊎ (n ≤ k + c.args.added_bits)) c.self.view_is
+    (prepared_before c.self.inside.tables c.make.new.self (k + c.args.added_bits) n (subst (λ (m : ℕ). (c.make.new.self ≡ c.self.inside.tables) ⊎ (c.make.new.self ≡ m + c.args.added_bits)) same c.make.ensures.only) now)
+
+pub returns-in_err-make-clause-only : goal.returns-in_err-make-clause-only
+returns-in_err-make-clause-only g c k high n now =
+    let log = c.log2_strict_usize-log_h.result in
+    let same : log ≡ k = log_same log k (sym c.log2_strict_usize-log_h.ensures.power ∙ c.height.ensures.height ∙ ap height c.into_row_major_matrix-mat.ensures ∙ high) in
+    subst (λ (e : Tabled). IsPrepared e n ⊎ (n ≤ k + c.args.added_bits)) c.self.view_is
+    (prepared_before c.self.inside.tables c.make.new.self (k + c.args.added_bits) n (subst (λ (m : ℕ). (c.make.new.self ≡ c.self.inside.tables) ⊎ (c.make.new.self ≡ m + c.args.added_bits)) same c.make.ensures.only) now)

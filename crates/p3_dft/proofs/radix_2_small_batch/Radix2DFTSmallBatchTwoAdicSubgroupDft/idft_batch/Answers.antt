@@ -1,9 +1,9 @@
-use Rattle.std.proofs.Common.{◌≡◌, inl, ℕ, zero, suc, ◌^◌, ◌≤◌, Result, Ok, Err, IsOk, refl, sym, ap, ◌∙◌, subst, arith, rules}
+use Rattle.std.proofs.Common.{◌≡◌, ◌⊎◌, inl, ℕ, zero, suc, ◌^◌, ◌≤◌, Result, Ok, Err, IsOk, refl, sym, ap, ◌∙◌, subst, arith, rules}
 use Rattle.p3_matrix.specs.RowMajor.{height}
 use Rattle.p3_matrix.proofs.TwoPowers.{log_same}
 use Rattle.p3_dft.specs.Twiddles.{Tabled, IsPrepared, backward_root, block_powers}
 use Rattle.p3_dft.proofs.Tables.FromStart.{fewer_from_start}
-use Rattle.p3_dft.proofs.Tables.PreparedHeights.{prepared_until, until_prepared}
+use Rattle.p3_dft.proofs.Tables.PreparedHeights.{prepared_before, prepared_until, until_prepared}
 use Rattle.p3_dft.proofs.BitReversed.Coefficients.{interpolation_of_coefficients}
 use Rattle.p3_dft.proofs.BitReversed.Rows.{transform_of_row}
 use Rattle.p3_dft.proofs.radix_2_small_batch.Radix2DFTSmallBatchTwoAdicSubgroupDft.idft_batch.Goals as goal
@@ -91,3 +91,17 @@ returns-clause-cost g c k high =
     let same : log ≡ k = log_same log k (sym c.log2_strict_usize-log_h.ensures.power ∙ tall ∙ high) in
     let products : c.self.inside.products ≡ c.args.self.now.products = ap (λ e. e.products) c.self.view_is in
     rw (← products, ← c.into_row_major_matrix-mat.ensures, ← same) c.interpolate.ensures.cost
+
+pub returns-clause-only : goal.returns-clause-only
+returns-clause-only g c k high n now =
+    let log = c.log2_strict_usize-log_h.result in
+    let same : log ≡ k = log_same log k (sym c.log2_strict_usize-log_h.ensures.power ∙ c.height-height.ensures.height ∙ ap height c.into_row_major_matrix-mat.ensures ∙ high) in
+    subst (λ (e : Tabled). IsPrepared e n ⊎ (n ≤ k)) c.self.view_is
+    (prepared_before c.self.inside.tables c.make.new.self (k) n (subst (λ (m : ℕ). (c.make.new.self ≡ c.self.inside.tables) ⊎ (c.make.new.self ≡ m)) same c.make.ensures.only) now)
+
+pub returns-in_err-make-clause-only : goal.returns-in_err-make-clause-only
+returns-in_err-make-clause-only g c k high n now =
+    let log = c.log2_strict_usize-log_h.result in
+    let same : log ≡ k = log_same log k (sym c.log2_strict_usize-log_h.ensures.power ∙ c.height-height.ensures.height ∙ ap height c.into_row_major_matrix-mat.ensures ∙ high) in
+    subst (λ (e : Tabled). IsPrepared e n ⊎ (n ≤ k)) c.self.view_is
+    (prepared_before c.self.inside.tables c.make.new.self (k) n (subst (λ (m : ℕ). (c.make.new.self ≡ c.self.inside.tables) ⊎ (c.make.new.self ≡ m)) same c.make.ensures.only) now)
