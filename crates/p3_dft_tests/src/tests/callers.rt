@@ -1,17 +1,18 @@
-// Callers that the contracts serve: success at a prepared height, and bounds on the products of an
-// engine that was just made.
+// Callers that the contracts serve: success at a prepared height and on a coset whose table is there,
+// and bounds on the products of an engine that was just made.
 
 ghost use Rattle.std.specs.Prelude.{◌≡◌, ℕ, ◌^◌, ◌≤◌, ◌+◌, IfOk, IsOk, vec_len};
 ghost use Rattle.p3_field.specs.Ring.{IsInvertible};
 ghost use Rattle.p3_matrix.specs.RowMajor.{height};
 ghost use Rattle.p3_dft.specs.Engines.{AtLog};
 ghost use Rattle.p3_dft.specs.Shapes.{FitsDft, FitsLde};
-ghost use Rattle.p3_dft.specs.Twiddles.{IsPrepared};
+ghost use Rattle.p3_dft.specs.Twiddles.{IsCosetPrepared, IsPrepared};
 
 use super::{Matrix, elements, has_inverse, matrix};
 use p3_dft::{
-    BabyBear, DftError, Field, NaiveDft, Radix2Dit, RowMajorMatrix, TwoAdicField,
-    TwoAdicSubgroupDft, fits_dft, fits_lde,
+    BabyBear, BitReversedMatrixView, DftError, Evaluations, Field, NaiveDft, Radix2DFTSmallBatch,
+    Radix2Dit, Radix2DitParallel, RowMajorMatrix, TwoAdicField, TwoAdicSubgroupDft, fits_dft,
+    fits_lde,
 };
 use std::test::Fail;
 
@@ -147,6 +148,52 @@ fn prepared_by_an_inverse<F: TwoAdicField>(
     Ok(())
 }
 
+// A transform of any engine, at a height that it promises.
+fn transform_promised<F: TwoAdicField, D: TwoAdicSubgroupDft<F>>(
+    engine: &mut D,
+    mat: RowMajorMatrix<F>,
+    log_h: usize,
+) -> Result<D::Evaluations, DftError>
+    requires fits { FitsDft F.TWO_ADICITY (height mat) mat.width }
+    requires height { height mat ≡ 2 ^ log_h }
+    requires promised { D.promised engine.old log_h }
+    ensures ok { IsOk result }
+    ensures still { D.promised engine.new log_h }
+{
+    engine.dft_batch(mat)
+}
+
+// One on a coset whose table is there.
+fn transform_on_known_coset<F: TwoAdicField>(
+    engine: &mut Radix2DitParallel<F>,
+    mat: RowMajorMatrix<F>,
+    log_h: usize,
+    shift: F,
+) -> Result<BitReversedMatrixView<RowMajorMatrix<F>>, DftError>
+    requires fits { FitsDft F.TWO_ADICITY (height mat) mat.width }
+    requires height { height mat ≡ 2 ^ log_h }
+    requires prepared { IsCosetPrepared F.Field.own engine.old log_h (F.value shift) }
+    ensures ok { IsOk result }
+    ensures still { IsCosetPrepared F.Field.own engine.new log_h (F.value shift) }
+{
+    engine.coset_dft_batch(mat, shift)
+}
+
+// The first transform on a coset makes its table.
+fn transform_on_new_coset<F: TwoAdicField>(
+    engine: &mut Radix2DitParallel<F>,
+    mat: RowMajorMatrix<F>,
+    log_h: usize,
+    shift: F,
+) -> Result<(), DftError>
+    requires fits { FitsDft F.TWO_ADICITY (height mat) mat.width }
+    requires height { height mat ≡ 2 ^ log_h }
+    ensures { IfOk result (λ _. IsCosetPrepared F.Field.own engine.new log_h (F.value shift)) }
+{
+    engine.coset_dft_batch(mat, shift)?;
+    Ok(())
+}
+
 // An engine that was just made, after one transform: its bound is the bound on its products.
 fn transform_by_a_new_engine<F: TwoAdicField, D: TwoAdicSubgroupDft<F> + Drop>(
     mat: RowMajorMatrix<F>,
@@ -194,6 +241,37 @@ fn prepared_heights_answer(rt: HostRuntime) -> Result<(), Fail> {
     assert!(rt; engine.is_prepared(1));
     let there = transform_prepared_on_coset(&mut engine, values, 1, shift)?;
     assert!(rt; there == matrix(alloc, &[11, 7], 1)?);
+    Ok(())
+}
+
+#[test]
+fn promised_heights_answer(rt: HostRuntime) -> Result<(), Fail> {
+    let alloc = rt.alloc();
+    let values: Matrix = matrix(alloc, &[5, 4], 1)?;
+    assert!(rt; fits_dft::<BabyBear>(values.height(), values.width()));
+    assert_eq!(rt; values.height(), 2);
+    let mut parallel = Radix2DitParallel::<BabyBear>::default();
+    parallel.prepare(alloc, 1)?;
+    let there = transform_promised(&mut parallel, values.try_clone()?, 1)?;
+    assert!(rt; there.to_row_major_matrix() == matrix(alloc, &[9, 1], 1)?);
+    let mut small = Radix2DFTSmallBatch::<BabyBear>::default();
+    small.prepare(alloc, 1)?;
+    let there = transform_promised(&mut small, values, 1)?;
+    assert!(rt; there == matrix(alloc, &[9, 1], 1)?);
+    Ok(())
+}
+
+#[test]
+fn known_cosets_answer(rt: HostRuntime) -> Result<(), Fail> {
+    let alloc = rt.alloc();
+    let values: Matrix = matrix(alloc, &[5, 4], 1)?;
+    assert!(rt; fits_dft::<BabyBear>(values.height(), values.width()));
+    assert_eq!(rt; values.height(), 2);
+    let mut engine = Radix2DitParallel::<BabyBear>::default();
+    let shift = BabyBear::TWO;
+    transform_on_new_coset(&mut engine, values.try_clone()?, 1, shift)?;
+    let there = transform_on_known_coset(&mut engine, values, 1, shift)?;
+    assert!(rt; there.to_row_major_matrix() == matrix(alloc, &[13, 2013265918], 1)?);
     Ok(())
 }
 
