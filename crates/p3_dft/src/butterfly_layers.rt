@@ -185,12 +185,11 @@ fn meet_block<F: TwoAdicField, R: Rule<F>>(
     }
 }
 
-// Whether the halves of a block are one column each that fills a pack of several lanes.
+// Whether the halves of a block are one column each that fills a pack.
 fn is_column_of_packs<F: TwoAdicField>(width: usize, half: usize) -> bool
-    ensures { IsTrue result ↔ ((width ≡ 1) × (1 < F.Packing.WIDTH) × (F.Packing.WIDTH ≤ half)) }
+    ensures { IsTrue result ↔ ((width ≡ 1) × (F.Packing.WIDTH ≤ half)) }
 {
-    let lanes = F::Packing::WIDTH;
-    width == 1 && lanes > 1 && half >= lanes
+    width == 1 && half >= F::Packing::WIDTH
 }
 
 // The rows of the two halves of a block, pair by pair.
