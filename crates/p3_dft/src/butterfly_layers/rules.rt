@@ -359,10 +359,10 @@ fn meet_by_place<F: TwoAdicField>(
 )
     requires size { length low.old ≡ length high.old }
     requires enough { length low.old ≤ length twiddles.now }
-    ensures near { (t : ℕ) → t < length low.old → F.value (get_or low.new t F.ZERO)
-        ≡ dit_near F.ring (F.value (get_or twiddles.now t F.ZERO)) (F.value (get_or low.old t F.ZERO)) (F.value (get_or high.old t F.ZERO)) }
-    ensures far { (t : ℕ) → t < length low.old → F.value (get_or high.new t F.ZERO)
-        ≡ dit_far F.ring (F.value (get_or twiddles.now t F.ZERO)) (F.value (get_or low.old t F.ZERO)) (F.value (get_or high.old t F.ZERO)) }
+    ensures near { let cell = λ (xs : List F) (n : ℕ). F.value (get_or xs n F.ZERO) in
+        (t : ℕ) → t < length low.old → cell low.new t ≡ dit_near F.ring (cell twiddles.now t) (cell low.old t) (cell high.old t) }
+    ensures far { let cell = λ (xs : List F) (n : ℕ). F.value (get_or xs n F.ZERO) in
+        (t : ℕ) → t < length low.old → cell high.new t ≡ dit_far F.ring (cell twiddles.now t) (cell low.old t) (cell high.old t) }
     ensures count { products.new ≡ products.old + length low.old }
 {
     apply_dit_by_place(&twiddles[0..low.len()], low, high, products);
