@@ -28,12 +28,6 @@ module _ {A : Type 0} (R : Ring A) {g : ℕ → A} {bits : ℕ} (G : AreRoots R 
   table_turned : (l m b : ℕ) → suc m + l ≤ bits → b < 2 ^ m → power R (g (suc m)) (rev m b) ≡ power R (g (suc m + l)) (rev (m + l) b)
   table_turned l m b y h = sym (table_rev m l b y h)
 
-  -- place t of a block of low rows takes entry t * 2 ^ (k - 1 - l) in natural order
-  pub low_entry : (k l t : ℕ) → k ≤ bits → l < k → power R (g k) (t * 2 ^ (k - 1 - l)) ≡ twiddle R g 𝟙 l (k - 1 - l) t
-  low_entry k l t f h =
-      let whole : suc l + (k - 1 - l) ≡ k = omega arith in
-      ap (λ n. power R (g n) (t * 2 ^ (k - 1 - l))) (sym whole) ∙ sym (table_low l (k - 1 - l) t (omega arith))
-
   -- block b of high rows takes entry b in bit reversed order
   pub high_entry : (k l b : ℕ) → k ≤ bits → l < k → b < 2 ^ l → power R (g k) (rev (k - 1) b) ≡ twiddle R g 𝟙 l (k - 1 - l) (rev l b)
   high_entry k l b f h p =

@@ -4,11 +4,10 @@ use Rattle.std.proofs.lemmas.Nat.{div-mul-add, mod-mul-add}
 use Rattle.p3_field.specs.Ring.{Ring, AreRoots}
 use Rattle.p3_matrix.specs.BitOrder.{rev}
 use Rattle.p3_matrix.specs.Butterflies.{dit_near, dit_far}
-use Rattle.p3_matrix.proofs.BitReversal.{rev-even, rev-odd, rev-lt, rev-block, rev-rev}
+use Rattle.p3_matrix.proofs.BitReversal.{rev-even, rev-odd}
 use Rattle.p3_dft.specs.Polynomials.{poly}
 use Rattle.p3_dft.specs.Cosets.{point}
 use Rattle.p3_dft.proofs.Networks.Formulas.{Formula}
-use Rattle.p3_dft.proofs.Networks.LowRows.{held_low, held_low_at, low_row}
 use Rattle.p3_dft.proofs.Networks.Stages.{stage, twiddle, stage_start, stage_end, stage_near, stage_far}
 
 module _ {A : Type 0} (R : Ring A) (g : ℕ → A) (s : A) where
@@ -55,10 +54,3 @@ module _ {A : Type 0} (R : Ring A) (g : ℕ → A) (s : A) where
         high_second l m c b j h ∙ stage_far R g s G l m c j (rev l b) (omega arith)
         ∙ sym (ap₂ (dit_far R (twiddle R g s l m (rev l b))) (high_block l m c b j (omega arith)) (high_block l m c b (2 ^ m + j) (omega arith)));
   }
-
-  -- reversing the rows leads from low rows to high ones
-  pub low_row-rev : (l m : ℕ) (c : ℕ → A) (b j : ℕ) → b < 2 ^ l → j < 2 ^ m → low_row R g s l m c (rev (m + l) (b * 2 ^ m + j)) ≡ high_row l m c (b * 2 ^ m + j)
-  unfolding low_row
-  low_row-rev l m c b j p q =
-      ap (held_low (stage R g s l m c) l m) (rev-block m l b j q) ∙ held_low_at (stage R g s l m c) l m (rev m j) (rev l b) (rev-lt l b)
-      ∙ ap (λ x. stage R g s l m c x (rev l b)) (rev-rev m j q) ∙ sym (high_row_at l m c b j q)

@@ -4,7 +4,6 @@ use Rattle.std.proofs.Common.{◌≡◌, ℕ, ◌+◌, ◌-◌, ◌<◌, ◌≤�
 use Rattle.std.proofs.lemmas.Nat.{pow_pos}
 use Rattle.p3_field.specs.Ring.{Ring, power}
 use Rattle.p3_field.proofs.Rings
-use Rattle.p3_field.proofs.Powers.{power-zero}
 use Rattle.p3_matrix.specs.Matrix.{Matrix, Same, column, list_of_rows}
 use Rattle.p3_matrix.proofs.Matrices.{same_sym, same_trans, list_of_rows_same, same_of_rows}
 use Rattle.p3_dft.specs.Polynomials.{value, poly}
@@ -32,9 +31,6 @@ module _ {A : Type 0} (R : Ring A) (g : ℕ → A) where
   pub point_of_one : (n i : ℕ) → point R g n 𝟙 i ≡ power R (g n) i
   unfolding point
   point_of_one n i = Rings.one-mul R (power R (g n) i)
-
-  pub point-start : (n : ℕ) (s : A) → point R g n s 0 ≡ s
-  point-start n s = point-mul n s 0 ∙ ap (λ x. s ⊗ x) (power-zero R (g n)) ∙ R.mul_one s
 
   -- ---- values by index
   -- an entry of the values is a polynomial's value
