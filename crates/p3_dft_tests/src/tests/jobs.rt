@@ -6,8 +6,8 @@ ghost use Rattle.p3_dft.specs.Jobs.{CanRun};
 use super::{EngineTest, Matrix, has_inverse, matrix, on_every_engine};
 use crate::tests::engines::LimitedDft;
 use p3_dft::{
-    BabyBear, CanonicalField, DftError, Job, JobsStopped, RowMajorMatrix, TwoAdicSubgroupDft,
-    fits_dft, fits_lde, run_jobs,
+    BabyBear, CanonicalField, DftError, Field, Job, JobsStopped, RowMajorMatrix,
+    TwoAdicSubgroupDft, fits_dft, fits_lde, run_jobs,
 };
 use std::alloc::Global;
 use std::process::Abort;
@@ -152,4 +152,53 @@ fn refused_jobs(rt: HostRuntime) -> Result<(), Fail> {
         }
     }
     Ok(())
+}
+
+// A job on a coset, of one column.
+fn coset_job<F: CanonicalField>(
+    rt: &impl Abort,
+    alloc: Global,
+    numbers: &[u64],
+    shift: F,
+) -> Result<Job<F>, Fail>
+    ensures { IfOk result (CanRun F.Field.own F.TWO_ADICITY) }
+{
+    let mat: RowMajorMatrix<F> = matrix(alloc, numbers, 1)?;
+    assert!(rt; fits_dft::<F>(mat.height(), mat.width()));
+    Ok(Job::CosetDft(mat, shift))
+}
+
+// Cosets of two heights and three shifts, one of them twice, and the subgroup in between.
+struct CosetsInTurn;
+
+impl EngineTest for CosetsInTurn {
+    fn run<R: Abort, D: TwoAdicSubgroupDft<BabyBear>>(
+        &self,
+        rt: &R,
+        alloc: Global,
+        engine: &mut D,
+    ) -> Result<(), Fail> {
+        let list: Vec<Job<BabyBear>> = vec![in alloc;
+            coset_job(rt, alloc, &[5, 4], BabyBear::TWO)?,
+            coset_job(rt, alloc, &[1, 2, 3, 4], BabyBear::ZERO)?,
+            coset_job(rt, alloc, &[5, 4], BabyBear::from_u8(3))?,
+            job(rt, alloc, 0)?,
+            coset_job(rt, alloc, &[5, 4], BabyBear::TWO)?,
+        ]?;
+        let expected = vec![in alloc;
+            matrix(alloc, &[13, 2013265918], 1)?,
+            matrix(alloc, &[1, 1, 1, 1], 1)?,
+            matrix(alloc, &[17, 2013265914], 1)?,
+            matrix(alloc, &[10, 569722814, 2013265919, 1443543103], 1)?,
+            matrix(alloc, &[13, 2013265918], 1)?,
+        ]?;
+        let answered = run_jobs(engine, list);
+        assert!(rt; answered.is_ok_and(|answers| answers == expected));
+        Ok(())
+    }
+}
+
+#[test]
+fn cosets_in_turn(rt: HostRuntime) -> Result<(), Fail> {
+    on_every_engine(&rt, rt.alloc(), &CosetsInTurn)
 }

@@ -1,8 +1,8 @@
 // Where the rows lie, and what is prepared when.
 
-use super::elements;
+use super::{coset_dft_of, elements, has_inverse};
 use p3_dft::{
-    BabyBear, Evaluations, Radix2DitParallel, RowMajorMatrix, TwoAdicSubgroupDft, fits_dft,
+    BabyBear, Evaluations, Field, Radix2DitParallel, RowMajorMatrix, TwoAdicSubgroupDft, fits_dft,
 };
 use std::test::Fail;
 
@@ -46,5 +46,30 @@ fn transformed_is_prepared(rt: HostRuntime) -> Result<(), Fail> {
     assert!(rt; fits_dft::<BabyBear>(values.len(), 1));
     assert!(rt; engine.idft(values)? == elements(alloc, &[1, 2, 3, 4])?);
     assert!(rt; !engine.is_prepared(3));
+    Ok(())
+}
+
+// Once all is made that they need, calls at a prepared height and on a coset that has its table hand one
+// column on from each to the next, and take no memory.
+#[test]
+fn prepared_calls_take_no_memory(rt: HostRuntime) -> Result<(), Fail> {
+    let alloc = rt.alloc();
+    let mut engine = Radix2DitParallel::<BabyBear>::default();
+    engine.prepare(alloc, 1)?;
+    let values = coset_dft_of(&rt, alloc, &mut engine, &[5, 4], BabyBear::TWO)?;
+    assert!(rt; values == elements(alloc, &[13, 2013265918])?);
+    let coefficients = elements(alloc, &[5, 4])?;
+    // No request for memory from here on.
+    assert!(rt; fits_dft::<BabyBear>(values.len(), 1));
+    assert!(rt; has_inverse(BabyBear::TWO));
+    let column = engine.coset_idft(values, BabyBear::TWO)?;
+    assert!(rt; column == coefficients);
+    assert!(rt; fits_dft::<BabyBear>(column.len(), 1));
+    let column = engine.dft(column)?;
+    assert!(rt; fits_dft::<BabyBear>(column.len(), 1));
+    let column = engine.idft(column)?;
+    assert!(rt; fits_dft::<BabyBear>(column.len(), 1));
+    let column = engine.coset_dft(column, BabyBear::TWO)?;
+    assert!(rt; column.first() == Some(&BabyBear::from_u8(13)));
     Ok(())
 }
