@@ -100,3 +100,20 @@ fn heights_of_extensions(rt: HostRuntime) -> Result<(), Fail> {
     assert!(rt; engine.is_prepared(4));
     Ok(())
 }
+
+// What is prepared stays, whether memory for a larger height is refused or not.
+#[test]
+fn larger_heights(rt: HostRuntime) -> Result<(), Fail> {
+    let alloc = rt.alloc();
+    let mut engine = Engine::default();
+    engine.prepare(alloc, 3)?;
+    let larger = engine.prepare(alloc, 5);
+    assert!(rt; engine.is_prepared(3));
+    assert!(rt; larger.is_err() || engine.is_prepared(5));
+    let column: Vec<BabyBear> = elements(alloc, &[0, 0, 0, 0, 1, 0, 0, 0])?;
+    assert!(rt; fits_dft::<BabyBear>(column.len(), 1));
+    let last = 2013265920;
+    let values = engine.dft(column)?;
+    assert!(rt; values == elements(alloc, &[1, last, 1, last, 1, last, 1, last])?);
+    Ok(())
+}
