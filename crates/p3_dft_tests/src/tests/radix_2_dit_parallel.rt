@@ -56,20 +56,21 @@ fn prepared_calls_take_no_memory(rt: HostRuntime) -> Result<(), Fail> {
     let alloc = rt.alloc();
     let mut engine = Radix2DitParallel::<BabyBear>::default();
     engine.prepare(alloc, 1)?;
-    let values = coset_dft_of(&rt, alloc, &mut engine, &[5, 4], BabyBear::TWO)?;
+    let shift = BabyBear::TWO;
+    let values = coset_dft_of(&rt, alloc, &mut engine, &[5, 4], shift)?;
     assert!(rt; values == elements(alloc, &[13, 2013265918])?);
     let coefficients = elements(alloc, &[5, 4])?;
     // No request for memory from here on.
     assert!(rt; fits_dft::<BabyBear>(values.len(), 1));
-    assert!(rt; has_inverse(BabyBear::TWO));
-    let column = engine.coset_idft(values, BabyBear::TWO)?;
+    assert!(rt; has_inverse(shift));
+    let column = engine.coset_idft(values, shift)?;
     assert!(rt; column == coefficients);
     assert!(rt; fits_dft::<BabyBear>(column.len(), 1));
     let column = engine.dft(column)?;
     assert!(rt; fits_dft::<BabyBear>(column.len(), 1));
     let column = engine.idft(column)?;
     assert!(rt; fits_dft::<BabyBear>(column.len(), 1));
-    let column = engine.coset_dft(column, BabyBear::TWO)?;
+    let column = engine.coset_dft(column, shift)?;
     assert!(rt; column.first() == Some(&BabyBear::from_u8(13)));
     Ok(())
 }
