@@ -2,6 +2,9 @@
 pub mod EngineSteps
 pub mod ExtendedTransforms
 pub mod Extensions
+pub mod Inverses
 pub mod JobLists
+pub mod Padding
+pub mod PreparedHeights
 pub mod Shapes
 pub mod Transforms

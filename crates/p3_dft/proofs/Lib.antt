@@ -1,8 +1,3 @@
 pub mod BitReversed
 pub mod Calls
 pub mod Laws
-pub mod Layers
-pub mod Networks
-pub mod Polynomials
-pub mod Rows
-pub mod Tables

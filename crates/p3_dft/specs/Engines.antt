@@ -1,6 +1,9 @@
 -- What the clauses of the engines say again and again, in words.
-use Rattle.std.specs.Prelude.{◌≡◌, ◌↔◌, ℕ, ◌^◌, ◌≤◌, List}
+use Rattle.std.specs.Prelude.{◌≡◌, ◌↔◌, ◌⊎◌, ◌≢◌, ℕ, ◌^◌, ◌≤◌, List}
+use Rattle.std.specs.List.{Contains}
+use Rattle.p3_field.specs.declared.fields.Field.{Ghosts as FieldMembers}
 use Rattle.p3_matrix.specs.RowMajor.{RowMajor}
+use Rattle.p3_networks.specs.Twiddles.{Coset, HasCoset}
 
 -- at the k with height 2 ^ k
 abbrev pub AtLog : ℕ → (ℕ → Type 0) → Type 0
@@ -20,3 +23,21 @@ SameNumbers P Q = (k : ℕ) → P k ↔ Q k
 -- a matrix of one column
 abbrev pub one_column : {T : Type 0} → List T → RowMajor T
 one_column entries = record { width = 1; values = entries }
+
+-- the logarithms of the heights whose twiddles are there, and the number of products that were made
+pub record Tabled : Type 0 where
+  pub prepared : List ℕ
+  pub products : ℕ
+
+-- height 2 ^ k can be transformed without memory: height one has no layer and needs no twiddles
+abbrev pub IsPrepared : Tabled → ℕ → Type 0
+IsPrepared e k = (k ≡ 0) ⊎ Contains e.prepared k
+
+-- what an engine shows of itself that keeps tables of cosets besides
+pub record CosetTabled (F : Type 0) : Type 0 where
+  pub roots : Tabled
+  pub cosets : List (Coset F)
+
+-- the coset of s of order 2 ^ k can be transformed without memory: as the subgroup, or by a table of its own, or as a single point
+abbrev pub IsCosetPrepared : {F : Type 0} (f : FieldMembers F) → CosetTabled F → ℕ → f.Element → Type 0
+IsCosetPrepared f e k s = ((s ≡ f.ring.one) × IsPrepared e.roots k) ⊎ ((s ≢ f.ring.one) × ((k ≡ 0) ⊎ HasCoset f e.cosets k s))

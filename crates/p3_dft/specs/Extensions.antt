@@ -4,7 +4,7 @@ use Rattle.p3_field.specs.declared.fields.Field.{Ghosts as FieldMembers}
 use Rattle.p3_matrix.specs.BitOrder.{bit_reversal}
 use Rattle.p3_matrix.specs.Matrix.{Matrix, Same}
 use Rattle.p3_matrix.specs.RowMajor.{RowMajor, height}
-use Rattle.p3_dft.specs.Cosets.{IsValues, AreCoefficients}
+use Rattle.p3_networks.specs.Cosets.{IsValues, AreCoefficients}
 use Rattle.p3_dft.specs.Transforms.{values_of}
 use Rattle.p3_dft.specs.declared.traits.Layout.{Layout}
 use Rattle.p3_dft.specs.declared.traits.Layout.TheVariants.{Natural, BitReversed}

@@ -1,10 +1,6 @@
 pub mod Combinations
-pub mod Cosets
 pub mod Engines
 pub mod Extensions
 pub mod Jobs
-pub mod Layers
-pub mod Polynomials
 pub mod Shapes
 pub mod Transforms
-pub mod Twiddles

@@ -5,7 +5,6 @@
 //! `p3_matrix` again, so that a user names one crate.
 #![tactic(auto)]
 
-mod butterfly_layers;
 pub mod jobs;
 pub mod naive;
 pub mod radix_2_bowers;
@@ -13,7 +12,6 @@ pub mod radix_2_dit;
 pub mod radix_2_dit_parallel;
 pub mod radix_2_small_batch;
 pub mod traits;
-mod twiddles;
 pub mod util;
 
 pub use jobs::{Job, JobsStopped, run_jobs};

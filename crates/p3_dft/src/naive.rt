@@ -3,7 +3,7 @@
 ghost use Rattle.std.specs.Prelude.{◌≡◌, ℕ, ◌+◌, ◌*◌, ◌^◌, ◌<◌, ◌≤◌, length, get_or, OnOk};
 ghost use Rattle.p3_field.specs.Ring.{power};
 ghost use Rattle.p3_matrix.specs.RowMajor.{RowMajor, height};
-ghost use Rattle.p3_dft.specs.Polynomials.{poly};
+ghost use Rattle.p3_networks.specs.Polynomials.{poly};
 
 use crate::traits::{Layout, TwoAdicSubgroupDft};
 use crate::util::extend_by_zeros;

@@ -1,25 +1,23 @@
 //! The transform by the networks of Bowers, whose twiddles are read one after another.
 
-ghost use Rattle.std.specs.Prelude.{◌≡◌, ℕ, ◌+◌, ◌*◌, ◌/◌, ◌-◌, ◌^◌, ◌<◌, ◌≤◌, length, get_or, IfOk, OnOk, Ok};
+ghost use Rattle.std.specs.Prelude.{◌≡◌, ℕ, ◌+◌, ◌*◌, ◌/◌, ◌^◌, ◌<◌, ◌≤◌, length, get_or, IfOk, OnOk, Ok};
 ghost use Rattle.p3_field.specs.Ring.{power};
-ghost use Rattle.p3_matrix.specs.BitOrder.{rev, bit_reversal};
+ghost use Rattle.p3_matrix.specs.BitOrder.{bit_reversal};
 ghost use Rattle.p3_matrix.specs.Matrix.{Matrix, Same, matrix, image};
 ghost use Rattle.p3_matrix.specs.RowMajor.{HasShapeOf, IsRowMajor, height};
-ghost use Rattle.p3_dft.specs.Cosets.{AreCoefficients, IsQuotient, IsValues, coset_shift};
+ghost use Rattle.p3_networks.specs.Cosets.{AreCoefficients, IsQuotient, IsValues, coset_shift};
 ghost use Rattle.p3_dft.specs.Engines.{AtLog};
 ghost use Rattle.p3_dft.specs.Shapes.{FitsDft, FitsLde};
-ghost use Rattle.p3_dft.specs.Transforms.{AreValuesOfRows, values_of};
-ghost use Rattle.p3_dft.specs.Twiddles.{AreTwiddles};
+ghost use Rattle.p3_dft.specs.Transforms.{values_of};
 
-use crate::butterfly_layers::layer;
-use crate::butterfly_layers::rules::{DifByBlock, DitByBlock};
 use crate::traits::{Layout, TwoAdicSubgroupDft};
-use crate::twiddles::reversed_powers;
 use crate::util::{divide_rows, exchange_rows, pad_rows, reverse_rows};
 use p3_field::{Field, Products, TwoAdicField};
 use p3_matrix::{
     DftError, IntoRowMajorMatrix, RowMajorMatrix, log2_strict_usize, scale_slice_in_place,
 };
+use p3_networks::radix_2_bowers::{network_g, network_g_transposed};
+use p3_networks::twiddles::reversed_powers;
 use std::alloc::{AllocError, Global};
 use std::marker::Model;
 
@@ -290,135 +288,6 @@ fn extend<F: TwoAdicField>(
     let mut mat = spread_rows(mat, added_bits)?;
     evaluate(&mut mat, products)?;
     Ok(mat)
-}
-
-// Network G, from rows in bit reversed order: in layer l, blocks of two halves of `2^l` rows meet by
-// decimation in frequency, block b with twiddle b. Block 0 has no product.
-fn network_g<F: TwoAdicField>(
-    values: &mut [F],
-    width: usize,
-    log_h: usize,
-    twiddles: &[F],
-    products: &mut Products,
-)
-    requires wide { 1 ≤ width }
-    requires some { 1 ≤ log_h }
-    requires small { log_h < 64 }
-    requires rooted { log_h ≤ F.TWO_ADICITY }
-    requires height { length values.old ≡ 2 ^ log_h * width }
-    requires twiddles { AreTwiddles F.Field.own (2 ^ (log_h - 1))
-        (λ b. power F.ring (F.value (F.generator log_h)) (rev (log_h - 1) b)) twiddles.now }
-    ensures values { AreValuesOfRows F.Field.own width (2 ^ log_h) (rev log_h)
-        (λ r. power F.ring (F.value (F.generator log_h)) r) values.old values.new }
-    ensures grows { products.old ≤ products.new }
-    ensures cost { products.new ≤ products.old + width * (log_h * 2 ^ log_h / 2) }
-{
-    // One column is made apart: where the width is known, no loop along a row is left.
-    if width == 1 {
-        layers_of_g(values, 1, log_h, twiddles, products);
-    } else {
-        layers_of_g(values, width, log_h, twiddles, products);
-    }
-}
-
-// The same. Inlined, so that a width that the caller names is known in all layers.
-#[inline(always)]
-fn layers_of_g<F: TwoAdicField>(
-    values: &mut [F],
-    width: usize,
-    log_h: usize,
-    twiddles: &[F],
-    products: &mut Products,
-)
-    requires wide { 1 ≤ width }
-    requires some { 1 ≤ log_h }
-    requires small { log_h < 64 }
-    requires rooted { log_h ≤ F.TWO_ADICITY }
-    requires height { length values.old ≡ 2 ^ log_h * width }
-    requires twiddles { AreTwiddles F.Field.own (2 ^ (log_h - 1))
-        (λ b. power F.ring (F.value (F.generator log_h)) (rev (log_h - 1) b)) twiddles.now }
-    ensures values { AreValuesOfRows F.Field.own width (2 ^ log_h) (rev log_h)
-        (λ r. power F.ring (F.value (F.generator log_h)) r) values.old values.new }
-    ensures grows { products.old ≤ products.new }
-    ensures cost { products.new ≤ products.old + width * (log_h * 2 ^ log_h / 2) }
-{
-    for l in 0..log_h {
-        let half = 1usize << l;
-        let blocks = 1usize << (log_h - 1 - l);
-        layer(
-            DifByBlock { twiddles },
-            values,
-            width,
-            half,
-            0,
-            blocks,
-            products,
-        );
-    }
-}
-
-// Network G transposed, to rows in bit reversed order: the layers of G in opposite order, by
-// decimation in time, with the powers of the inverse of the generator. Block 0 has no product.
-fn network_g_transposed<F: TwoAdicField>(
-    values: &mut [F],
-    width: usize,
-    log_h: usize,
-    twiddles: &[F],
-    products: &mut Products,
-)
-    requires wide { 1 ≤ width }
-    requires some { 1 ≤ log_h }
-    requires small { log_h < 64 }
-    requires rooted { log_h ≤ F.TWO_ADICITY }
-    requires height { length values.old ≡ 2 ^ log_h * width }
-    requires twiddles { AreTwiddles F.Field.own (2 ^ (log_h - 1))
-        (λ b. power F.ring (power F.ring (F.value (F.generator log_h)) (2 ^ log_h - 1)) (rev (log_h - 1) b)) twiddles.now }
-    ensures values { AreValuesOfRows F.Field.own width (2 ^ log_h) (λ q. q)
-        (λ r. power F.ring (power F.ring (F.value (F.generator log_h)) (2 ^ log_h - 1)) (rev log_h r)) values.old values.new }
-    ensures grows { products.old ≤ products.new }
-    ensures cost { products.new ≤ products.old + width * (log_h * 2 ^ log_h / 2) }
-{
-    if width == 1 {
-        layers_of_g_transposed(values, 1, log_h, twiddles, products);
-    } else {
-        layers_of_g_transposed(values, width, log_h, twiddles, products);
-    }
-}
-
-// The same. Inlined as the layers of G are.
-#[inline(always)]
-fn layers_of_g_transposed<F: TwoAdicField>(
-    values: &mut [F],
-    width: usize,
-    log_h: usize,
-    twiddles: &[F],
-    products: &mut Products,
-)
-    requires wide { 1 ≤ width }
-    requires some { 1 ≤ log_h }
-    requires small { log_h < 64 }
-    requires rooted { log_h ≤ F.TWO_ADICITY }
-    requires height { length values.old ≡ 2 ^ log_h * width }
-    requires twiddles { AreTwiddles F.Field.own (2 ^ (log_h - 1))
-        (λ b. power F.ring (power F.ring (F.value (F.generator log_h)) (2 ^ log_h - 1)) (rev (log_h - 1) b)) twiddles.now }
-    ensures values { AreValuesOfRows F.Field.own width (2 ^ log_h) (λ q. q)
-        (λ r. power F.ring (power F.ring (F.value (F.generator log_h)) (2 ^ log_h - 1)) (rev log_h r)) values.old values.new }
-    ensures grows { products.old ≤ products.new }
-    ensures cost { products.new ≤ products.old + width * (log_h * 2 ^ log_h / 2) }
-{
-    for done in 0..log_h {
-        let half = 1usize << (log_h - 1 - done);
-        let blocks = 1usize << done;
-        layer(
-            DitByBlock { twiddles },
-            values,
-            width,
-            half,
-            0,
-            blocks,
-            products,
-        );
-    }
 }
 
 // Multiplies row i by weight i, with one product an entry.

@@ -1,20 +1,17 @@
 //! The transform by decimation in time, with twiddles that are kept.
 
-ghost use Rattle.std.specs.Prelude.{◌≡◌, ◌↔◌, ◌⊎◌, ℕ, ◌+◌, ◌*◌, ◌/◌, ◌^◌, ◌<◌, ◌≤◌, List, length, get_or, IsTrue, IsOk, OnOk, OnErr, Ok};
-ghost use Rattle.p3_field.specs.Ring.{power};
-ghost use Rattle.p3_matrix.specs.BitOrder.{rev};
+ghost use Rattle.std.specs.Prelude.{◌≡◌, ◌↔◌, ◌⊎◌, ℕ, ◌+◌, ◌*◌, ◌/◌, ◌^◌, ◌<◌, ◌≤◌, IsTrue, IsOk, OnOk, OnErr, Ok};
 ghost use Rattle.p3_matrix.specs.RowMajor.{IsRowMajor, height};
-ghost use Rattle.p3_dft.specs.Polynomials.{poly};
 ghost use Rattle.p3_dft.specs.Transforms.{IsTransform};
-ghost use Rattle.p3_dft.specs.Twiddles.{AreTwiddlesOfLayers, IsPrepared, layer_powers};
+ghost use Rattle.p3_networks.specs.Twiddles.{AreTwiddlesOfLayers, layer_powers};
+ghost use Rattle.p3_dft.specs.Engines.{IsPrepared};
 
-use crate::butterfly_layers::layer;
-use crate::butterfly_layers::rules::DitByPlace;
 use crate::traits::{Layout, TwoAdicSubgroupDft};
-use crate::twiddles::{Twiddles, layer_twiddles};
 use crate::util::{pad_rows, reverse_rows, shift_rows};
 use p3_field::{Products, TwoAdicField};
 use p3_matrix::{DftError, IntoRowMajorMatrix, RowMajorMatrix, log2_strict_usize};
+use p3_networks::radix_2_dit::dit_network;
+use p3_networks::twiddles::Twiddles;
 use std::alloc::{AllocError, Global};
 use std::marker::Model;
 
@@ -36,7 +33,7 @@ pub struct Radix2Dit<F: TwoAdicField> {
 
 impl<F: TwoAdicField> Model for Radix2Dit<F> {
     ghost use Rattle.std.specs.List.{range_with_len};
-    ghost use Rattle.p3_dft.specs.Twiddles.{Tabled};
+    ghost use Rattle.p3_dft.specs.Engines.{Tabled};
 
     ghost Value = { Tabled };
 
@@ -97,11 +94,10 @@ impl<F: TwoAdicField> Radix2Dit<F> {
 impl<F: TwoAdicField> TwoAdicSubgroupDft<F> for Radix2Dit<F> {
     ghost use Rattle.std.specs.Prelude.{◌≡◌, ◌⊎◌, ℕ, ◌+◌, ◌*◌, ◌/◌, ◌-◌, ◌^◌, ◌≤◌, IfOk, IsOk, OnErr, OnOk, Ok};
     ghost use Rattle.p3_matrix.specs.RowMajor.{HasShapeOf, RowMajor, height};
-    ghost use Rattle.p3_dft.specs.Engines.{AtLog, IsLater};
+    ghost use Rattle.p3_dft.specs.Engines.{AtLog, IsLater, IsPrepared};
     ghost use Rattle.p3_dft.specs.Extensions.{IsTransformedExtension};
     ghost use Rattle.p3_dft.specs.Shapes.{FitsDft, FitsLde};
     ghost use Rattle.p3_dft.specs.Transforms.{IsTransform};
-    ghost use Rattle.p3_dft.specs.Twiddles.{IsPrepared};
     ghost use Rattle.p3_dft.specs.declared.traits.Layout.TheVariants.{Natural};
 
     type Evaluations = RowMajorMatrix<F>;
@@ -218,42 +214,5 @@ fn dit_matrix<F: TwoAdicField>(
         dit_network(mat.values_mut(), 1, log_h, twiddles, products);
     } else {
         dit_network(mat.values_mut(), width, log_h, twiddles, products);
-    }
-}
-
-// All layers, on rows that lie in bit reversed order. Layer l has `2^(log_h - 1 - l)` blocks of two
-// halves of `2^l` rows. Inlined, so that a width that the caller names is known in all layers.
-#[inline(always)]
-fn dit_network<F: TwoAdicField>(
-    values: &mut [F],
-    width: usize,
-    log_h: usize,
-    twiddles: &[F],
-    products: &mut Products,
-)
-    requires wide { 1 ≤ width }
-    requires small { log_h < 64 }
-    requires rooted { log_h ≤ F.TWO_ADICITY }
-    requires height { length values.old ≡ 2 ^ log_h * width }
-    requires twiddles { AreTwiddlesOfLayers F.Field.own log_h (layer_powers F.Field.own F.generator) twiddles.now }
-    ensures values { (r j : ℕ) → r < 2 ^ log_h → j < width → F.value (get_or values.new (r * width + j) F.ZERO)
-        ≡ poly F.ring (2 ^ log_h) (λ q. F.value (get_or values.old (rev log_h q * width + j) F.ZERO))
-        (power F.ring (F.value (F.generator log_h)) r) }
-    ensures grows { products.old ≤ products.new }
-    ensures count { products.new ≤ products.old + width * (log_h * 2 ^ log_h / 2) }
-{
-    for l in 0..log_h {
-        let half = 1usize << l;
-        let blocks = 1usize << (log_h - 1 - l);
-        let twiddles = layer_twiddles(twiddles, l);
-        layer(
-            DitByPlace { twiddles },
-            values,
-            width,
-            half,
-            0,
-            blocks,
-            products,
-        );
     }
 }

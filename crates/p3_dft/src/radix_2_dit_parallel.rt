@@ -1,16 +1,11 @@
 //! The transform by two halves of layers, each run by run, which leaves its rows in bit reversed order.
 
 ghost use Rattle.std.specs.Prelude.{◌≡◌, ◌↔◌, ◌⊎◌, ℕ, ◌+◌, ◌*◌, ◌/◌, ◌^◌, ◌<◌, ◌≤◌, IsTrue, IsOk, OnOk, OnErr};
-ghost use Rattle.p3_dft.specs.Twiddles.{IsPrepared};
+ghost use Rattle.p3_dft.specs.Engines.{IsPrepared};
 
-mod coset_tables;
-mod halves;
 mod network;
-mod tables;
 mod transform;
 
-use crate::radix_2_dit_parallel::coset_tables::CosetTables;
-use crate::radix_2_dit_parallel::tables::Tables;
 use crate::radix_2_dit_parallel::transform::{evaluate, evaluate_on_coset, interpolate};
 use crate::traits::{Layout, TwoAdicSubgroupDft};
 use crate::util::reverse_rows;
@@ -18,6 +13,8 @@ use p3_field::{Field, Products, TwoAdicField};
 use p3_matrix::{
     BitReversedMatrixView, DftError, IntoRowMajorMatrix, RowMajorMatrix, log2_strict_usize,
 };
+use p3_networks::radix_2_dit_parallel::coset_tables::CosetTables;
+use p3_networks::radix_2_dit_parallel::tables::Tables;
 use std::alloc::{AllocError, Global};
 use std::marker::Model;
 
@@ -45,7 +42,7 @@ pub struct Radix2DitParallel<F: TwoAdicField> {
 
 impl<F: TwoAdicField> Model for Radix2DitParallel<F> {
     ghost use Rattle.std.specs.List.{range_with_len};
-    ghost use Rattle.p3_dft.specs.Twiddles.{CosetTabled};
+    ghost use Rattle.p3_dft.specs.Engines.{CosetTabled};
 
     ghost Value = { CosetTabled F };
 
@@ -114,11 +111,10 @@ impl<F: TwoAdicField> TwoAdicSubgroupDft<F> for Radix2DitParallel<F> {
     ghost use Rattle.std.proofs.Common.{inl};
     ghost use Rattle.p3_matrix.specs.BitOrder.{reversed_rows};
     ghost use Rattle.p3_matrix.specs.RowMajor.{HasShapeOf, RowMajor, height};
-    ghost use Rattle.p3_dft.specs.Engines.{AtLog, IsLater};
+    ghost use Rattle.p3_dft.specs.Engines.{AtLog, IsLater, IsCosetPrepared, IsPrepared};
     ghost use Rattle.p3_dft.specs.Extensions.{IsTransformedExtension, extension_bound};
     ghost use Rattle.p3_dft.specs.Shapes.{FitsDft, FitsLde};
     ghost use Rattle.p3_dft.specs.Transforms.{IsInterpolation, IsTransform};
-    ghost use Rattle.p3_dft.specs.Twiddles.{IsCosetPrepared, IsPrepared};
     ghost use Rattle.p3_dft.specs.declared.traits.Layout.TheVariants.{Natural};
 
     type Evaluations = BitReversedMatrixView<RowMajorMatrix<F>>;

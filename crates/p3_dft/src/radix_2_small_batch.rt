@@ -4,23 +4,22 @@ ghost use Rattle.std.specs.Prelude.{◌≡◌, ◌↔◌, ◌⊎◌, ℕ, ◌+�
 ghost use Rattle.p3_matrix.specs.BitOrder.{bit_reversal};
 ghost use Rattle.p3_matrix.specs.Matrix.{Matrix, image};
 ghost use Rattle.p3_matrix.specs.RowMajor.{HasShapeOf, IsRowMajor, height};
-ghost use Rattle.p3_dft.specs.Cosets.{AreCoefficients, IsQuotient, IsValues, coset_shift};
-ghost use Rattle.p3_dft.specs.Engines.{AtLog};
+ghost use Rattle.p3_networks.specs.Cosets.{AreCoefficients, IsQuotient, IsValues, coset_shift};
+ghost use Rattle.p3_dft.specs.Engines.{AtLog, IsPrepared};
 ghost use Rattle.p3_dft.specs.Transforms.{IsInterpolation, IsTransform, values_of};
-ghost use Rattle.p3_dft.specs.Twiddles.{AreTwiddlesFromStart, IsPrepared, backward_root, block_powers, forward_root};
-
-mod networks;
-mod tables;
+ghost use Rattle.p3_networks.specs.Twiddles.{AreTwiddlesFromStart, backward_root, block_powers, forward_root};
 
 use crate::traits::{Layout, TwoAdicSubgroupDft};
-use crate::twiddles::reversed_powers;
 use crate::util::{extend_by_zeros, reverse_rows};
-use networks::{dit_network, extending_network, scaled_dif_network};
 use p3_field::{Products, TwoAdicField};
 use p3_matrix::{DftError, IntoRowMajorMatrix, RowMajorMatrix, log2_strict_usize};
+use p3_networks::radix_2_small_batch::networks::{
+    dit_network, extending_network, scaled_dif_network,
+};
+use p3_networks::radix_2_small_batch::tables::Tables;
+use p3_networks::twiddles::reversed_powers;
 use std::alloc::{AllocError, Global};
 use std::marker::Model;
-use tables::Tables;
 
 // How many elements a tile has where a caller does not say it: those of a small cache.
 const TILE: usize = 8192;
@@ -47,7 +46,7 @@ pub struct Radix2DFTSmallBatch<F: TwoAdicField> {
 impl<F: TwoAdicField> Model for Radix2DFTSmallBatch<F> {
     ghost use Rattle.std.specs.Prelude.{◌≤◌};
     ghost use Rattle.std.specs.List.{range_with_len};
-    ghost use Rattle.p3_dft.specs.Twiddles.{Tabled};
+    ghost use Rattle.p3_dft.specs.Engines.{Tabled};
 
     ghost Value = { Tabled };
 
@@ -153,11 +152,10 @@ impl<F: TwoAdicField> Radix2DFTSmallBatch<F> {
 impl<F: TwoAdicField> TwoAdicSubgroupDft<F> for Radix2DFTSmallBatch<F> {
     ghost use Rattle.std.specs.Prelude.{◌≡◌, ◌⊎◌, ℕ, ◌+◌, ◌*◌, ◌/◌, ◌^◌, ◌≤◌, IfOk, IsOk, OnOk, OnErr, Ok};
     ghost use Rattle.p3_matrix.specs.RowMajor.{HasShapeOf, RowMajor, height};
-    ghost use Rattle.p3_dft.specs.Engines.{AtLog, IsLater};
+    ghost use Rattle.p3_dft.specs.Engines.{AtLog, IsLater, IsPrepared};
     ghost use Rattle.p3_dft.specs.Extensions.{IsExtension, IsTransformedExtension, extension_bound};
     ghost use Rattle.p3_dft.specs.Shapes.{FitsDft, FitsLde};
     ghost use Rattle.p3_dft.specs.Transforms.{IsInterpolation, IsTransform};
-    ghost use Rattle.p3_dft.specs.Twiddles.{IsPrepared};
     ghost use Rattle.p3_dft.specs.declared.traits.Layout.TheVariants.{Natural};
 
     type Evaluations = RowMajorMatrix<F>;

@@ -1,12 +1,11 @@
 //! Tests of shapes, and small steps that engines share.
 
-ghost use Rattle.std.specs.Prelude.{◌≡◌, ◌↔◌, ℕ, ◌+◌, ◌*◌, ◌++◌, ◌<◌, ◌≤◌, ◌^◌, IsTrue, IfOk, OnOk, OnErr};
-ghost use Rattle.std.specs.Prelude.{get_or, length, replicate, vec_len, vec_capacity};
+ghost use Rattle.std.specs.Prelude.{◌≡◌, ◌↔◌, ℕ, ◌+◌, ◌*◌, ◌++◌, ◌<◌, ◌≤◌, ◌^◌, IsTrue, IfOk, OnOk, OnErr, get_or, length, replicate, vec_len, vec_capacity};
 ghost use Rattle.p3_field.specs.Ring.{power};
 ghost use Rattle.p3_matrix.specs.BitOrder.{bit_reversal};
 ghost use Rattle.p3_matrix.specs.RowMajor.{height, HasShapeOf, IsRowMajor};
 ghost use Rattle.p3_matrix.specs.Matrix.{Same, row_exchange, matrix};
-ghost use Rattle.p3_dft.specs.Cosets.{IsQuotient, opposite_rows, coset_shift};
+ghost use Rattle.p3_networks.specs.Cosets.{IsQuotient, opposite_rows, coset_shift};
 ghost use Rattle.p3_dft.specs.Extensions.{with_zeros};
 ghost use Rattle.p3_dft.specs.Shapes.{FitsDft, FitsLde};
 ghost use Rattle.p3_dft.specs.Transforms.{values_of};

@@ -12,17 +12,18 @@ use Rattle.p3_matrix.specs.RowMajor.{RowMajor, IsRowMajor, height}
 use Rattle.p3_matrix.proofs.BitReversal.{rev_of_zero, rev-lt, rev-rev, reversed_twice}
 use Rattle.p3_matrix.proofs.Matrices.{same_sym}
 use Rattle.p3_matrix.proofs.TwoPowers.{log_same}
-use Rattle.p3_dft.specs.Cosets.{AreCoefficients, IsQuotient, IsValues, coset_shift, point}
+use Rattle.p3_networks.specs.Cosets.{AreCoefficients, IsQuotient, IsValues, coset_shift, point}
 use Rattle.p3_dft.specs.Extensions.{IsExtension, IsTransformedExtension, extension_bound}
-use Rattle.p3_dft.specs.Polynomials.{poly}
+use Rattle.p3_networks.specs.Polynomials.{poly}
 use Rattle.p3_dft.specs.Shapes.{FitsLde}
-use Rattle.p3_dft.specs.Transforms.{AreValuesOfRows, values_of, IsInterpolation}
+use Rattle.p3_dft.specs.Transforms.{values_of, IsInterpolation}
+use Rattle.p3_networks.specs.Layers.{AreValuesOfRows}
 use Rattle.p3_dft.specs.declared.traits.Layout.TheVariants.{BitReversed}
-use Rattle.p3_dft.proofs.Polynomials.Cosets.{coefficients_same, is_subgroup_values, is_values}
-use Rattle.p3_dft.proofs.Polynomials.Interpolation.{inverse_transform, there_is_no_other, transform_is}
-use Rattle.p3_dft.proofs.Polynomials.ByIndex.{poly_same, poly-one, poly-times}
+use Rattle.p3_networks.proofs.Polynomials.Cosets.{coefficients_same, is_subgroup_values, is_values}
+use Rattle.p3_networks.proofs.Polynomials.Interpolation.{inverse_transform, there_is_no_other, transform_is}
+use Rattle.p3_networks.proofs.Polynomials.ByIndex.{poly_same, poly-one, poly-times}
 use Rattle.p3_dft.proofs.BitReversed.Rows.{transform_of_row}
-use Rattle.p3_dft.proofs.Rows.Overwritten.{written}
+use Rattle.p3_networks.proofs.Rows.Overwritten.{written}
 use Rattle.p3_dft.proofs.Calls.Shapes.{entries_rise}
 use Rattle.p3_dft.proofs.Calls.Transforms.{height_of_parts, quotient_of_products}
 

@@ -8,15 +8,16 @@ use Rattle.p3_matrix.specs.BitOrder.{rev, bit_reversal}
 use Rattle.p3_matrix.specs.Matrix.{Matrix, Same, image, matrix}
 use Rattle.p3_matrix.specs.RowMajor.{RowMajor, HasShapeOf, IsRowMajor, height}
 use Rattle.p3_matrix.proofs.BitReversal.{rev-lt, rev-rev}
-use Rattle.p3_dft.specs.Cosets.{AreCoefficients, IsValues, coset_shift}
-use Rattle.p3_dft.specs.Polynomials.{poly}
-use Rattle.p3_dft.specs.Transforms.{AreValuesOfRows, IsInterpolation, IsTransform, values_of}
+use Rattle.p3_networks.specs.Cosets.{AreCoefficients, IsValues, coset_shift}
+use Rattle.p3_networks.specs.Polynomials.{poly}
+use Rattle.p3_dft.specs.Transforms.{IsInterpolation, IsTransform, values_of}
+use Rattle.p3_networks.specs.Layers.{AreValuesOfRows}
 use Rattle.p3_dft.proofs.BitReversed.Coefficients.{interpolation_of_coefficients}
 use Rattle.p3_dft.proofs.Calls.Transforms.{height_of_parts, transform_of_entries}
-use Rattle.p3_dft.proofs.Polynomials.ByIndex.{poly_same, poly-times}
-use Rattle.p3_dft.proofs.Polynomials.Cosets.{is_subgroup_values}
-use Rattle.p3_dft.proofs.Polynomials.Interpolation.{inverse_transform, transform_is}
-use Rattle.p3_dft.proofs.Rows.Overwritten.{written}
+use Rattle.p3_networks.proofs.Polynomials.ByIndex.{poly_same, poly-times}
+use Rattle.p3_networks.proofs.Polynomials.Cosets.{is_subgroup_values}
+use Rattle.p3_networks.proofs.Polynomials.Interpolation.{inverse_transform, transform_is}
+use Rattle.p3_networks.proofs.Rows.Overwritten.{written}
 
 module _ {A : Type 0} (R : Ring A) {g : ℕ → A} {bits : ℕ} (G : AreRoots R bits g) where
   open R use {mul as ◌⊗◌}

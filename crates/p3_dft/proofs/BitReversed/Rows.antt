@@ -9,13 +9,13 @@ use Rattle.p3_matrix.proofs.BitReversal.{rev-lt, rev-rev}
 use Rattle.p3_matrix.proofs.Matrices.{same_sym}
 use Rattle.p3_matrix.proofs.ReversedRows.{reversed_same}
 use Rattle.p3_matrix.proofs.TwoPowers.{log_same}
-use Rattle.p3_dft.specs.Cosets.{IsValues}
-use Rattle.p3_dft.specs.Polynomials.{poly}
+use Rattle.p3_networks.specs.Cosets.{IsValues}
+use Rattle.p3_networks.specs.Polynomials.{poly}
 use Rattle.p3_dft.specs.Transforms.{IsTransform, values_of}
-use Rattle.p3_dft.proofs.Polynomials.ByIndex.{poly_same, poly-one}
-use Rattle.p3_dft.proofs.Polynomials.Cosets.{values_same}
-use Rattle.p3_dft.proofs.Polynomials.Inverses.{mapped_same}
-use Rattle.p3_dft.proofs.Rows.Overwritten.{written}
+use Rattle.p3_networks.proofs.Polynomials.ByIndex.{poly_same, poly-one}
+use Rattle.p3_networks.proofs.Polynomials.Cosets.{values_same}
+use Rattle.p3_dft.proofs.Calls.Inverses.{mapped_same}
+use Rattle.p3_networks.proofs.Rows.Overwritten.{written}
 use Rattle.p3_dft.proofs.Calls.Transforms.{transform_of_parts, transform_of_entries}
 
 -- an entry of reversed rows, where a program has their entries and the width in variables of its own

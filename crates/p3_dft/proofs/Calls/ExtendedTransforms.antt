@@ -4,14 +4,14 @@ use Rattle.std.proofs.lemmas.Nat.{pow-add}
 use Rattle.p3_field.specs.declared.fields.Field.{Ghosts as FieldMembers}
 use Rattle.p3_matrix.specs.RowMajor.{RowMajor, IsRowMajor, height, HasShapeOf}
 use Rattle.p3_matrix.specs.Matrix.{Same, matrix}
-use Rattle.p3_dft.specs.Cosets.{coset_shift}
+use Rattle.p3_networks.specs.Cosets.{coset_shift}
 use Rattle.p3_dft.specs.Extensions.{IsExtension, IsTransformedExtension, arrangement, with_zeros}
 use Rattle.p3_dft.specs.Transforms.{values_of, IsInterpolation, IsTransform}
 use Rattle.p3_dft.specs.declared.traits.Layout.{Layout}
 use Rattle.p3_dft.specs.declared.traits.Layout.TheVariants.{Natural}
-use Rattle.p3_dft.proofs.Polynomials.Cosets.{coefficients_same, coset_values}
+use Rattle.p3_networks.proofs.Polynomials.Cosets.{coefficients_same, coset_values}
 use Rattle.p3_dft.proofs.BitReversed.Layouts.{laid_back, laid_height, laid_once, laid_values}
-use Rattle.p3_dft.proofs.Rows.Padding.{padded_high, values_of_padded}
+use Rattle.p3_dft.proofs.Calls.Padding.{padded_high, values_of_padded}
 
 module _ {F : Type 0} (f : FieldMembers F) (generator : ℕ → F) where
   -- coefficients in the order of a layout, what a transform answers, that in natural order again, with rows of zeros, on the larger coset

@@ -6,8 +6,8 @@ use Rattle.p3_field.proofs.Powers.{power-add}
 use Rattle.p3_field.proofs.Roots.{root_strided}
 use Rattle.p3_matrix.specs.BitOrder.{rev}
 use Rattle.p3_matrix.proofs.BitReversal.{rev-block}
-use Rattle.p3_dft.specs.Cosets.{point}
-use Rattle.p3_dft.proofs.Polynomials.Cosets.{point-mul}
+use Rattle.p3_networks.specs.Cosets.{point}
+use Rattle.p3_networks.proofs.Polynomials.Cosets.{point-mul}
 
 module _ {A : Type 0} (R : Ring A) {g : ℕ → A} {bits : ℕ} (G : AreRoots R bits g) where
   open R use {add as ◌⊕◌, mul as ◌⊗◌, neg, zero as 𝟘, one as 𝟙}

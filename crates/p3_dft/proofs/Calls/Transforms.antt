@@ -6,10 +6,10 @@ use Rattle.p3_field.proofs.Rings
 use Rattle.p3_field.specs.declared.fields.Field.{Ghosts as FieldMembers}
 use Rattle.p3_matrix.specs.RowMajor.{RowMajor, height}
 use Rattle.p3_matrix.specs.Matrix.{Matrix, Same}
-use Rattle.p3_dft.specs.Cosets.{IsQuotient}
-use Rattle.p3_dft.specs.Polynomials.{poly}
+use Rattle.p3_networks.specs.Cosets.{IsQuotient}
+use Rattle.p3_networks.specs.Polynomials.{poly}
 use Rattle.p3_dft.specs.Transforms.{values_of, IsTransform}
-use Rattle.p3_dft.proofs.Polynomials.Cosets.{is_subgroup_values}
+use Rattle.p3_networks.proofs.Polynomials.Cosets.{is_subgroup_values}
 use Rattle.p3_matrix.proofs.TwoPowers.{log_same}
 
 -- the height of a stored matrix from the number of its entries

@@ -1,12 +1,12 @@
 -- Values of polynomials that are made of others: sums of multiples, one column alone, rows of zeros, and another coset.
-use Rattle.std.proofs.Common.{◌≡◌, ℕ, ◌+◌, ◌-◌, ◌<◌, ◌≤◌, ltb, cond, lt-ltb, le-ltb, refl, sym, ap, ap₂, ◌∙◌, arith}
+use Rattle.std.proofs.Common.{◌≡◌, ℕ, ◌+◌, ◌-◌, ◌<◌, ◌≤◌, cond, lt-ltb, le-ltb, refl, sym, ap, ap₂, ◌∙◌, arith}
 use Rattle.p3_field.specs.Ring.{Ring}
 use Rattle.p3_matrix.specs.Matrix.{Matrix}
 use Rattle.p3_dft.specs.Combinations.{alone, combination, lengthened}
-use Rattle.p3_dft.specs.Cosets.{point, IsValues, coset_shift}
-use Rattle.p3_dft.specs.Polynomials.{poly}
-use Rattle.p3_dft.proofs.Polynomials.Cosets.{entry-poly, is_values, point-mul, point_of_one, values_from}
-use Rattle.p3_dft.proofs.Polynomials.ByIndex.{poly_same, poly_padded, poly-add, poly-scaled, poly-times}
+use Rattle.p3_networks.specs.Cosets.{point, IsValues, coset_shift}
+use Rattle.p3_networks.specs.Polynomials.{poly}
+use Rattle.p3_networks.proofs.Polynomials.Cosets.{entry-poly, is_values, point-mul, point_of_one, values_from}
+use Rattle.p3_networks.proofs.Polynomials.ByIndex.{poly_same, poly_padded, poly-add, poly-scaled, poly-times}
 
 module _ {A : Type 0} (R : Ring A) (g : ℕ → A) where
   pub combination_values : (c d y z : Matrix A) (n : ℕ) (s a b : A) → c.height ≡ d.height → c.width ≡ d.width

@@ -6,13 +6,13 @@ use Rattle.p3_field.specs.Ring.{Ring}
 use Rattle.p3_field.specs.declared.fields.Field.{Ghosts as FieldMembers}
 use Rattle.p3_field.proofs.Rings
 use Rattle.p3_matrix.specs.Matrix.{Matrix, Same}
-use Rattle.p3_dft.specs.Cosets.{point, IsValues}
+use Rattle.p3_networks.specs.Cosets.{point, IsValues}
 use Rattle.p3_dft.specs.Engines.{one_column}
-use Rattle.p3_dft.specs.Polynomials.{convolution, value}
+use Rattle.p3_networks.specs.Polynomials.{convolution, value}
 use Rattle.p3_dft.specs.Transforms.{values_of, IsInterpolation, IsTransform}
 use Rattle.p3_dft.proofs.Laws.TwoCalls.{transform_of_vector}
-use Rattle.p3_dft.proofs.Polynomials.Cosets.{is_values}
-use Rattle.p3_dft.proofs.Polynomials.Products.{convolution_past, product_by_index}
+use Rattle.p3_networks.proofs.Polynomials.Cosets.{is_values}
+use Rattle.p3_networks.proofs.Polynomials.Products.{convolution_past, product_by_index}
 
 -- zeros behind the coefficients change no value
 value_with_zeros : {T A : Type 0} (R : Ring A) (v : T → A) (z : T) → v z ≡ R.zero → (xs : List T) (m : ℕ) (x : A) → value R (map v (xs ++ replicate m z)) x ≡ value R (map v xs) x

@@ -4,17 +4,17 @@ ghost use Rattle.std.specs.Prelude.{◌≡◌, ℕ, ◌+◌, ◌*◌, ◌/◌, �
 ghost use Rattle.p3_field.specs.Ring.{power};
 ghost use Rattle.p3_matrix.specs.BitOrder.{rev, bit_reversal};
 ghost use Rattle.p3_matrix.specs.RowMajor.{HasShapeOf, IsRowMajor, height};
-ghost use Rattle.p3_dft.specs.Cosets.{AreCoefficients, IsValues};
-ghost use Rattle.p3_dft.specs.Polynomials.{poly};
+ghost use Rattle.p3_networks.specs.Cosets.{AreCoefficients, IsValues};
+ghost use Rattle.p3_networks.specs.Polynomials.{poly};
 ghost use Rattle.p3_dft.specs.Transforms.{values_of};
-ghost use Rattle.p3_dft.specs.Twiddles.{factor, root_of, scale_cost};
+ghost use Rattle.p3_networks.specs.Twiddles.{factor, root_of, scale_cost};
 
-use crate::radix_2_dit_parallel::coset_tables::CosetTable;
-use crate::radix_2_dit_parallel::halves::BlockTwiddles;
 use crate::radix_2_dit_parallel::network::network;
-use crate::radix_2_dit_parallel::tables::RootTables;
 use p3_field::{Field, Products, TwoAdicField};
 use p3_matrix::RowMajorMatrix;
+use p3_networks::radix_2_dit_parallel::coset_tables::CosetTable;
+use p3_networks::radix_2_dit_parallel::halves::BlockTwiddles;
+use p3_networks::radix_2_dit_parallel::tables::RootTables;
 
 // From coefficients in natural order, their values at the powers of the generator, or of its inverse, in
 // bit reversed order. With a scale, the values are multiplied by it.

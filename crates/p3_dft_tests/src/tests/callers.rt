@@ -4,9 +4,8 @@
 ghost use Rattle.std.specs.Prelude.{◌≡◌, ℕ, ◌^◌, ◌≤◌, ◌+◌, IfOk, IsOk, vec_len};
 ghost use Rattle.p3_field.specs.Ring.{IsInvertible};
 ghost use Rattle.p3_matrix.specs.RowMajor.{height};
-ghost use Rattle.p3_dft.specs.Engines.{AtLog};
+ghost use Rattle.p3_dft.specs.Engines.{AtLog, IsCosetPrepared, IsPrepared};
 ghost use Rattle.p3_dft.specs.Shapes.{FitsDft, FitsLde};
-ghost use Rattle.p3_dft.specs.Twiddles.{IsCosetPrepared, IsPrepared};
 
 use super::{Matrix, elements, has_inverse, matrix};
 use p3_dft::{

@@ -6,11 +6,11 @@ ghost use Rattle.p3_field.specs.Ring.{IsInvertible};
 ghost use Rattle.p3_matrix.specs.Matrix.{Same};
 ghost use Rattle.p3_matrix.specs.RowMajor.{HasShapeOf, height};
 ghost use Rattle.p3_dft.specs.Combinations.{alone, combination, lengthened};
-ghost use Rattle.p3_dft.specs.Cosets.{IsValues, point};
+ghost use Rattle.p3_networks.specs.Cosets.{IsValues, point};
 ghost use Rattle.p3_dft.specs.Engines.{AtLog};
 ghost use Rattle.p3_dft.specs.Extensions.{IsExtension};
 ghost use Rattle.p3_dft.specs.Jobs.{CanRun, IsAnswer};
-ghost use Rattle.p3_dft.specs.Polynomials.{value};
+ghost use Rattle.p3_networks.specs.Polynomials.{value};
 ghost use Rattle.p3_dft.specs.Shapes.{FitsDft, FitsLde};
 ghost use Rattle.p3_dft.specs.Transforms.{IsInterpolation, IsTransform, values_of};
 

@@ -1,7 +1,7 @@
 use Rattle.std.proofs.Common.{◌≡◌, ◌+◌, ◌*◌, ◌-◌, length, sym, ap, ◌∙◌, arith, add-one}
 use Rattle.std.proofs.Math.Nat.{suc-mul}
 use Rattle.p3_field.proofs.Powers.{power-zero, power-more}
-use Rattle.p3_dft.proofs.Polynomials.Sums.{sums-none, sums-more}
+use Rattle.p3_networks.proofs.Polynomials.Sums.{sums-none, sums-more}
 use Rattle.p3_dft.proofs.naive.add_value.Goals as goal
 
 pub loop-j-init : goal.loop-j-init

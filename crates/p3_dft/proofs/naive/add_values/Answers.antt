@@ -2,8 +2,8 @@ use Rattle.std.proofs.lemmas.List.{places}
 use Rattle.std.proofs.Common.{rules, get_or, ◌≡◌, ◌+◌, ◌*◌, ◌-◌, ◌≤◌, length, sym, ap, ◌∙◌, arith, add-one}
 use Rattle.std.proofs.Math.Nat.{suc-mul, mul-le-mul_right, mul_assoc}
 use Rattle.p3_field.proofs.Powers.{power-zero, power-more}
-use Rattle.p3_dft.specs.Polynomials.{poly}
-use Rattle.p3_dft.proofs.Rows.Overwritten.{rows-none, rows-more}
+use Rattle.p3_networks.specs.Polynomials.{poly}
+use Rattle.p3_networks.proofs.Rows.Overwritten.{rows-none, rows-more}
 use Rattle.p3_dft.proofs.naive.add_values.Goals as goal
 
 pub loop-i-init : goal.loop-i-init

@@ -1,7 +1,7 @@
 use Rattle.std.proofs.Common.{◌≡◌, ◌+◌, ◌*◌, ◌-◌, ◌≤◌, take, drop, length, get_or, refl, ap, ap₂, ◌∙◌, arith, rules, add-one}
 use Rattle.std.proofs.Math.Nat.{suc-mul, mul-le-mul_right}
 use Rattle.std.proofs.lemmas.List.{places, get_or_read_under}
-use Rattle.p3_dft.proofs.Rows.Overwritten.{rows-none, rows-more, part_at, value_at}
+use Rattle.p3_networks.proofs.Rows.Overwritten.{rows-none, rows-more, part_at, value_at}
 use Rattle.p3_dft.proofs.radix_2_bowers.scale_rows.Goals as goal
 
 pub loop-i-init : goal.loop-i-init

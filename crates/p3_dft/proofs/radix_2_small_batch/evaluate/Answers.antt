@@ -1,6 +1,6 @@
 use Rattle.std.proofs.Common.{ℕ, refl}
 use Rattle.p3_dft.proofs.BitReversed.OneReversal.{transform_then_reversed}
-use Rattle.p3_dft.proofs.Tables.FromStart.{enough_from_start, first_is_one}
+use Rattle.p3_networks.proofs.Tables.FromStart.{enough_from_start, first_is_one}
 use Rattle.p3_dft.proofs.radix_2_small_batch.evaluate.Goals as goal
 
 pub dit_network-requires-clause-first : goal.dit_network-requires-clause-first

@@ -2,7 +2,7 @@ use Rattle.std.proofs.Common.{ℕ, ◌^◌, ◌≤◌, refl, ap, ◌∙◌, arit
 use Rattle.p3_field.proofs.Roots.{inverse_root, inverse_roots}
 use Rattle.p3_dft.specs.Transforms.{values_of}
 use Rattle.p3_dft.proofs.BitReversed.Coefficients.{coefficients_of_parts, coefficients_of_row}
-use Rattle.p3_dft.proofs.Tables.FromStart.{enough_from_start, first_is_one}
+use Rattle.p3_networks.proofs.Tables.FromStart.{enough_from_start, first_is_one}
 use Rattle.p3_dft.proofs.radix_2_small_batch.interpolate_reversed.Goals as goal
 
 pub returns-then-log_h-eq0-clause-coefficients : goal.returns-then-log_h-eq0-clause-coefficients

@@ -4,7 +4,7 @@ use Rattle.p3_field.specs.Ring.{count}
 use Rattle.p3_field.proofs.Powers.{count-power_of_two}
 use Rattle.p3_matrix.specs.RowMajor.{height}
 use Rattle.p3_dft.specs.Transforms.{values_of}
-use Rattle.p3_dft.proofs.Rows.Overwritten.{value_at, written}
+use Rattle.p3_networks.proofs.Rows.Overwritten.{value_at, written}
 use Rattle.p3_dft.proofs.Calls.Transforms.{entries_of_parts, quotient_of_products}
 use Rattle.p3_dft.proofs.util.divide_by_height.Goals as goal
 

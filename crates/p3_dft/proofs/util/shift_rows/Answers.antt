@@ -2,7 +2,7 @@ use Rattle.std.proofs.Common.{◌≡◌, ℕ, ◌*◌, length, sym, ap, ap₂, �
 use Rattle.p3_field.specs.Ring.{power}
 use Rattle.p3_field.proofs.Powers.{power_of_one}
 use Rattle.p3_dft.specs.Transforms.{values_of}
-use Rattle.p3_dft.proofs.Rows.Overwritten.{written}
+use Rattle.p3_networks.proofs.Rows.Overwritten.{written}
 use Rattle.p3_dft.proofs.Calls.Transforms.{entries_of_parts}
 use Rattle.p3_dft.proofs.util.shift_rows.Goals as goal
 

@@ -2,8 +2,8 @@ use Rattle.std.proofs.Common.{◌≡◌, ℕ, ◌++◌, ◌*◌, ◌^◌, ◌<�
 use Rattle.std.proofs.lemmas.Grind.{common_steps}
 use Rattle.p3_matrix.specs.RowMajor.{RowMajor, height}
 use Rattle.p3_matrix.proofs.TwoPowers.{log_unique}
-use Rattle.p3_dft.proofs.Rows.Padding.{copy_at}
-use Rattle.p3_dft.proofs.Rows.Overwritten.{written}
+use Rattle.p3_dft.proofs.Calls.Padding.{copy_at}
+use Rattle.p3_networks.proofs.Rows.Overwritten.{written}
 use Rattle.p3_dft.proofs.Calls.Transforms.{transform_of_parts}
 use Rattle.p3_dft.proofs.naive.NaiveDftTwoAdicSubgroupDft.dft_batch.Goals as goal
 

@@ -1,10 +1,10 @@
 use Rattle.std.proofs.Common.{ℕ, ◌≡◌, ◌+◌, ◌*◌, ◌/◌, ◌^◌, ◌∙◌, refl, ap, ap₂, arith}
 use Rattle.std.proofs.lemmas.Result.{IfOk-weaker, on_ok_weaker}
 use Rattle.p3_matrix.specs.RowMajor.{height}
-use Rattle.p3_dft.specs.Twiddles.{IsPrepared}
+use Rattle.p3_dft.specs.Engines.{IsPrepared}
 use Rattle.p3_dft.proofs.Calls.EngineSteps.{later_by_products, later_still}
 use Rattle.p3_dft.proofs.Calls.ExtendedTransforms.{answered_shape, extension_of_shifted}
-use Rattle.p3_dft.proofs.Rows.Padding.{padded_shape}
+use Rattle.p3_dft.proofs.Calls.Padding.{padded_shape}
 use Rattle.p3_dft.proofs.Calls.Shapes.{input_fits, output_fits, output_log_small, output_size}
 use Rattle.p3_dft.proofs.radix_2_dit.Radix2DitTwoAdicSubgroupDft.coset_lde_batch_with_transform.Goals as goal
 

@@ -2,9 +2,10 @@ use Rattle.std.proofs.Common.{◌≡◌, ◌⊎◌, inl, inr, ℕ, ◌≤◌, Li
 use Rattle.std.specs.List.{range_with_len}
 use Rattle.p3_matrix.specs.RowMajor.{RowMajor, height}
 use Rattle.p3_matrix.proofs.TwoPowers.{log_same}
-use Rattle.p3_dft.specs.Twiddles.{Tabled, IsPrepared, layer_powers}
-use Rattle.p3_dft.proofs.Tables.MoreTwiddles.{fewer_layers}
-use Rattle.p3_dft.proofs.Tables.PreparedHeights.{prepared_before, prepared_until, until_prepared}
+use Rattle.p3_networks.specs.Twiddles.{layer_powers}
+use Rattle.p3_dft.specs.Engines.{Tabled, IsPrepared}
+use Rattle.p3_networks.proofs.Tables.MoreTwiddles.{fewer_layers}
+use Rattle.p3_dft.proofs.Calls.PreparedHeights.{prepared_before, prepared_until, until_prepared}
 use Rattle.p3_dft.proofs.BitReversed.Rows.{transform_of_row}
 use Rattle.p3_dft.proofs.radix_2_dit.Radix2DitTwoAdicSubgroupDft.dft_batch.Goals as goal
 

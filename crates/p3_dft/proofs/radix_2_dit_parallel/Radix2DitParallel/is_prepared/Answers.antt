@@ -1,6 +1,6 @@
 use Rattle.std.proofs.Common.{◌≤◌, sym, subst, leb-true, le-leb}
-use Rattle.p3_dft.specs.Twiddles.{CosetTabled, IsPrepared}
-use Rattle.p3_dft.proofs.Tables.PreparedHeights.{prepared_until, until_prepared}
+use Rattle.p3_dft.specs.Engines.{CosetTabled, IsPrepared}
+use Rattle.p3_dft.proofs.Calls.PreparedHeights.{prepared_until, until_prepared}
 use Rattle.p3_dft.proofs.radix_2_dit_parallel.Radix2DitParallel.is_prepared.Goals as goal
 
 pub returns : goal.returns

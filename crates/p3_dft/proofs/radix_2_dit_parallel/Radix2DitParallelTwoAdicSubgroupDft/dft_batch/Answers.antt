@@ -2,10 +2,10 @@ use Rattle.std.proofs.Common.{◌≡◌, ◌⊎◌, inl, ℕ, ◌^◌, ◌≤◌
 use Rattle.std.specs.List.{range_with_len}
 use Rattle.p3_matrix.specs.RowMajor.{RowMajor, height}
 use Rattle.p3_matrix.proofs.TwoPowers.{log_same}
-use Rattle.p3_dft.specs.Twiddles.{CosetTabled, IsPrepared}
+use Rattle.p3_dft.specs.Engines.{CosetTabled, IsPrepared}
 use Rattle.p3_dft.proofs.BitReversed.OneRow.{row_handed_back, row_seen}
 use Rattle.p3_dft.proofs.BitReversed.Rows.{transform_seen}
-use Rattle.p3_dft.proofs.Tables.PreparedHeights.{prepared_before, prepared_until, until_prepared}
+use Rattle.p3_dft.proofs.Calls.PreparedHeights.{prepared_before, prepared_until, until_prepared}
 use Rattle.p3_dft.proofs.radix_2_dit_parallel.Radix2DitParallelTwoAdicSubgroupDft.dft_batch.Goals as goal
 
 not_ok : {A E : Type 0} (r : Result A E) (e : E) → r ≡ Err e → IsOk r → ⊥

@@ -6,12 +6,12 @@ use Rattle.p3_matrix.specs.RowMajor.{RowMajor, height}
 use Rattle.p3_matrix.proofs.Matrices.{same_sym}
 use Rattle.p3_matrix.proofs.TwoPowers.{log_same}
 use Rattle.p3_dft.specs.Transforms.{values_of}
-use Rattle.p3_dft.specs.Twiddles.{CosetTabled, IsPrepared}
+use Rattle.p3_dft.specs.Engines.{CosetTabled, IsPrepared}
 use Rattle.p3_dft.proofs.BitReversed.Coefficients.{interpolation_of_coefficients}
 use Rattle.p3_dft.proofs.BitReversed.Rows.{transform_of_row}
-use Rattle.p3_dft.proofs.Polynomials.Interpolation.{same_coefficients}
-use Rattle.p3_dft.proofs.Polynomials.Inverses.{mapped_same}
-use Rattle.p3_dft.proofs.Tables.PreparedHeights.{prepared_before, prepared_until, until_prepared}
+use Rattle.p3_networks.proofs.Polynomials.Interpolation.{same_coefficients}
+use Rattle.p3_dft.proofs.Calls.Inverses.{mapped_same}
+use Rattle.p3_dft.proofs.Calls.PreparedHeights.{prepared_before, prepared_until, until_prepared}
 use Rattle.p3_dft.proofs.radix_2_dit_parallel.Radix2DitParallelTwoAdicSubgroupDft.idft_batch.Goals as goal
 
 not_ok : {A E : Type 0} (r : Result A E) (e : E) → r ≡ Err e → IsOk r → ⊥

@@ -3,13 +3,13 @@ use Rattle.std.proofs.lemmas.Nat.{pow-add}
 use Rattle.p3_matrix.specs.BitOrder.{rev}
 use Rattle.p3_matrix.specs.RowMajor.{height}
 use Rattle.p3_matrix.proofs.BitReversal.{rev-block}
-use Rattle.p3_dft.specs.Cosets.{point}
-use Rattle.p3_dft.specs.Polynomials.{poly}
+use Rattle.p3_networks.specs.Cosets.{point}
+use Rattle.p3_networks.specs.Polynomials.{poly}
 use Rattle.p3_dft.specs.Transforms.{values_of}
-use Rattle.p3_dft.specs.Twiddles.{factor}
+use Rattle.p3_networks.specs.Twiddles.{factor}
 use Rattle.p3_dft.proofs.BitReversed.Rows.{reversed_cell, written_cell}
-use Rattle.p3_dft.proofs.Layers.Blocks.{row_below}
-use Rattle.p3_dft.proofs.Polynomials.ByIndex.{poly_same, poly-one}
+use Rattle.p3_networks.proofs.Layers.Blocks.{row_below}
+use Rattle.p3_networks.proofs.Polynomials.ByIndex.{poly_same, poly-one}
 use Rattle.p3_dft.proofs.radix_2_dit_parallel.network.second_of_matrix.Goals as goal
 
 digits : (mid left a t : ℕ) → t < 2 ^ left → rev (mid + left) (a * 2 ^ left + t) ≡ rev left t * 2 ^ mid + rev mid a

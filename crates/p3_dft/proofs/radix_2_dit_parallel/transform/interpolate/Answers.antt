@@ -3,9 +3,9 @@ use Rattle.p3_field.specs.Ring.{count, power}
 use Rattle.p3_field.proofs.Powers.{count-power_of_two}
 use Rattle.p3_matrix.specs.BitOrder.{rev}
 use Rattle.p3_matrix.specs.RowMajor.{height}
-use Rattle.p3_dft.specs.Polynomials.{poly}
+use Rattle.p3_networks.specs.Polynomials.{poly}
 use Rattle.p3_dft.specs.Transforms.{values_of}
-use Rattle.p3_dft.specs.Twiddles.{root_of}
+use Rattle.p3_networks.specs.Twiddles.{root_of}
 use Rattle.p3_dft.proofs.BitReversed.Coefficients.{coefficients_of_scaled}
 use Rattle.p3_dft.proofs.radix_2_dit_parallel.transform.interpolate.Goals as goal
 

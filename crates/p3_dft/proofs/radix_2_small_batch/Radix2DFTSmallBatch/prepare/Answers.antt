@@ -1,8 +1,8 @@
-use Rattle.std.proofs.Common.{◌≡◌, ◌⊎◌, inl, inr, ◌≤◌, sym, subst, arith}
+use Rattle.std.proofs.Common.{◌⊎◌, ◌≤◌, sym, subst, arith}
 use Rattle.std.proofs.lemmas.Result.{on_ok_weaker}
 use Rattle.p3_matrix.proofs.TwoPowers.{log_lt}
-use Rattle.p3_dft.specs.Twiddles.{Tabled, IsPrepared}
-use Rattle.p3_dft.proofs.Tables.PreparedHeights.{prepared_before, prepared_until, until_prepared}
+use Rattle.p3_dft.specs.Engines.{Tabled, IsPrepared}
+use Rattle.p3_dft.proofs.Calls.PreparedHeights.{prepared_before, prepared_until, until_prepared}
 use Rattle.p3_dft.proofs.radix_2_small_batch.Radix2DFTSmallBatch.prepare.Goals as goal
 
 pub make-requires-clause-small : goal.make-requires-clause-small

@@ -3,8 +3,8 @@ use Rattle.std.proofs.Math.Nat.{pow-le-pow_right}
 use Rattle.std.proofs.lemmas.Nat.{pow_pos}
 use Rattle.std.specs.List.{Contains}
 use Rattle.p3_matrix.proofs.TwoPowers.{log_same}
-use Rattle.p3_dft.specs.Twiddles.{Tabled, IsPrepared}
-use Rattle.p3_dft.proofs.Tables.PreparedHeights.{until_prepared}
+use Rattle.p3_dft.specs.Engines.{Tabled, IsPrepared}
+use Rattle.p3_dft.proofs.Calls.PreparedHeights.{until_prepared}
 use Rattle.p3_dft.proofs.radix_2_small_batch.Radix2DFTSmallBatch.with_tile.Goals as goal
 
 -- where there are no tables, height one alone is prepared

@@ -6,15 +6,15 @@ use Rattle.p3_matrix.specs.BitOrder.{bit_reversal}
 use Rattle.p3_matrix.specs.Matrix.{image}
 use Rattle.p3_matrix.specs.RowMajor.{RowMajor, height}
 use Rattle.p3_matrix.proofs.TwoPowers.{log_same}
-use Rattle.p3_dft.specs.Cosets.{coset_shift}
+use Rattle.p3_networks.specs.Cosets.{coset_shift}
 use Rattle.p3_dft.specs.Extensions.{extension_bound}
 use Rattle.p3_dft.specs.Transforms.{values_of}
-use Rattle.p3_dft.specs.Twiddles.{Tabled, IsPrepared}
+use Rattle.p3_dft.specs.Engines.{Tabled, IsPrepared}
 use Rattle.p3_dft.proofs.Calls.Shapes.{output_log_small}
-use Rattle.p3_dft.proofs.Layers.Counts.{extension_made, fewer_than_parts}
-use Rattle.p3_dft.proofs.Polynomials.Cosets.{coset_values}
+use Rattle.p3_networks.proofs.Layers.Counts.{extension_made, fewer_than_parts}
+use Rattle.p3_networks.proofs.Polynomials.Cosets.{coset_values}
 use Rattle.p3_dft.proofs.BitReversed.Coefficients.{extension_of_coefficients, extension_of_row, shifted_quotient}
-use Rattle.p3_dft.proofs.Tables.PreparedHeights.{prepared_before, prepared_until, until_prepared}
+use Rattle.p3_dft.proofs.Calls.PreparedHeights.{prepared_before, prepared_until, until_prepared}
 use Rattle.p3_dft.proofs.radix_2_small_batch.Radix2DFTSmallBatchTwoAdicSubgroupDft.coset_lde_batch.Goals as goal
 
 on_ok : {T E : Type 0} (r : Result T E) {P : Type 0} → P → OnOk r P

@@ -1,9 +1,10 @@
 use Rattle.std.proofs.Common.{◌≡◌, ◌⊎◌, inl, ℕ, zero, suc, ◌^◌, ◌≤◌, Result, Ok, Err, IsOk, sym, ap, ◌∙◌, subst, arith, rules}
 use Rattle.p3_matrix.specs.RowMajor.{height}
 use Rattle.p3_matrix.proofs.TwoPowers.{log_same}
-use Rattle.p3_dft.specs.Twiddles.{Tabled, IsPrepared, forward_root, block_powers}
-use Rattle.p3_dft.proofs.Tables.FromStart.{fewer_from_start}
-use Rattle.p3_dft.proofs.Tables.PreparedHeights.{prepared_before, prepared_until, until_prepared}
+use Rattle.p3_networks.specs.Twiddles.{forward_root, block_powers}
+use Rattle.p3_dft.specs.Engines.{Tabled, IsPrepared}
+use Rattle.p3_networks.proofs.Tables.FromStart.{fewer_from_start}
+use Rattle.p3_dft.proofs.Calls.PreparedHeights.{prepared_before, prepared_until, until_prepared}
 use Rattle.p3_dft.proofs.BitReversed.Rows.{transform_of_row}
 use Rattle.p3_dft.proofs.radix_2_small_batch.Radix2DFTSmallBatchTwoAdicSubgroupDft.dft_batch.Goals as goal
 

@@ -1,6 +1,6 @@
 use Rattle.std.proofs.Common.{◌∙◌}
 use Rattle.std.proofs.lemmas.Result.{IfOk-weaker}
-use Rattle.p3_dft.proofs.Polynomials.Cosets.{coset_values}
+use Rattle.p3_networks.proofs.Polynomials.Cosets.{coset_values}
 use Rattle.p3_dft.proofs.traits.TwoAdicSubgroupDft.coset_dft_batch.Goals as goal
 
 pub returns-clause-values : goal.returns-clause-values

@@ -1,4 +1,4 @@
-use Rattle.p3_dft.proofs.Polynomials.Inverses.{interpolation_on_coset}
+use Rattle.p3_dft.proofs.Calls.Inverses.{interpolation_on_coset}
 use Rattle.p3_dft.proofs.traits.TwoAdicSubgroupDft.coset_idft_batch.Goals as goal
 
 pub returns-clause-coefficients : goal.returns-clause-coefficients

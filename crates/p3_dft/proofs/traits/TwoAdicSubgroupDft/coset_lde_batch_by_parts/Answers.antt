@@ -1,7 +1,7 @@
 use Rattle.std.proofs.Common.{◌≡◌, ◌+◌, ◌*◌, ◌^◌, ◌∙◌, ap, arith}
 use Rattle.std.proofs.lemmas.Result.{IfOk-weaker, on_ok_weaker}
 use Rattle.p3_dft.proofs.Calls.ExtendedTransforms.{answered_shape, extension_of_parts}
-use Rattle.p3_dft.proofs.Rows.Padding.{padded_shape}
+use Rattle.p3_dft.proofs.Calls.Padding.{padded_shape}
 use Rattle.p3_dft.proofs.Calls.Shapes.{input_fits, output_fits, output_log_small, output_size}
 use Rattle.p3_dft.proofs.traits.TwoAdicSubgroupDft.coset_lde_batch_by_parts.Goals as goal
 

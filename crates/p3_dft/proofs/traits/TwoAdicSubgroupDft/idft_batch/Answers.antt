@@ -1,7 +1,7 @@
 use Rattle.std.proofs.Common.{subst, sym}
 use Rattle.p3_matrix.specs.RowMajor.{RowMajor}
 use Rattle.p3_dft.specs.Transforms.{IsTransform}
-use Rattle.p3_dft.proofs.Polynomials.Inverses.{interpolation_of_quotient}
+use Rattle.p3_dft.proofs.Calls.Inverses.{interpolation_of_quotient}
 use Rattle.p3_dft.proofs.traits.TwoAdicSubgroupDft.idft_batch.Goals as goal
 
 pub returns-clause-coefficients : goal.returns-clause-coefficients

@@ -1,7 +1,0 @@
--- Tables of twiddles, and which heights they prepare.
-pub mod BlockTables
-pub mod CosetTables
-pub mod FromStart
-pub mod MoreTwiddles
-pub mod PreparedHeights
-pub mod RootPowers

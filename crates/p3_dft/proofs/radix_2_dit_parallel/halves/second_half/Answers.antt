@@ -1,4 +1,0 @@
-use Rattle.p3_dft.proofs.radix_2_dit_parallel.halves.second_half.Goals as goal
-
-pub returns-then-width-eq1-clause-values : goal.returns-then-width-eq1-clause-values
-returns-then-width-eq1-clause-values g c = rw c.if-width-eq1.true c.high_runs.ensures.values

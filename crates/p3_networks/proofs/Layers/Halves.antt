@@ -1,0 +1,64 @@
+-- Blocks of two halves, cell by cell: what is said of the rows of the halves is said of the block's cells.
+use Rattle.std.proofs.Common.{◌≡◌, ℕ, suc, ◌+◌, ◌*◌, ◌-◌, ◌/◌, ◌%◌, ◌++◌, ◌<◌, ◌≤◌, List, length, get_or, take, drop, sym, ap, ap₂, ◌∙◌, arith, rules, subst}
+use Rattle.std.proofs.lemmas.List.{places}
+use Rattle.std.proofs.lemmas.Nat.{div-add-mod', div_below, mod_below}
+use Rattle.std.proofs.Math.Nat.{mul-div_cancel, mul-le-mul_right}
+use borrow.Rule.Slice.PartMut.{put_mid}
+use Rattle.p3_networks.proofs.Rows.Overwritten.{RowsDone, part_at, rows-more}
+
+-- a place in a list of two parts
+pub in_first : {X : Type 0} (xs ys : List X) (i : ℕ) (d : X) → i < length xs → get_or (xs ++ ys) i d ≡ get_or xs i d
+in_first xs ys i d inside = search (rules, places)
+
+pub in_second : {X : Type 0} (xs ys : List X) (n i : ℕ) (d : X) → length xs ≡ n → get_or (xs ++ ys) (n + i) d ≡ get_or ys i d
+in_second xs ys n i d size = search (rules, places)
+
+-- an operation on a cell of each half is one on two cells of the whole
+pub of_halves : {X Y : Type 0} (op : X → X → Y) (whole low high : List X) (n i : ℕ) (d : X) → low ≡ take n whole → high ≡ drop n whole → i < n
+    → op (get_or low i d) (get_or high i d) ≡ op (get_or whole i d) (get_or whole (n + i) d)
+of_halves op whole low high n i d first second inside =
+    let x : get_or (take n whole) i d ≡ get_or whole i d = search (rules, places) in
+    let y : get_or (drop n whole) i d ≡ get_or whole (n + i) d = search (rules, places) in
+    ap₂ op (ap (λ xs. get_or xs i d) first ∙ x) (ap (λ xs. get_or xs i d) second ∙ y)
+
+-- what holds of column j of row t, for each, holds of each cell
+pub each_cell : (P : ℕ → ℕ → Type 0) (w h : ℕ) → 0 < w → ((t j : ℕ) → t < h → j < w → P t (t * w + j)) → (i : ℕ) → i < h * w → P (i / w) i
+each_cell P w h wide each i inside =
+    subst (λ (n : ℕ). P (i / w) n) (div-add-mod' i w) (each (i / w) (i % w) (div_below i w h wide inside) (mod_below i w wide))
+
+-- y is what cell n of block b becomes, where cell i of the first half, before it x (b * 2 * size + i), meets cell i of the second
+pub record BothHalves {A T : Type 0} (size : ℕ) (near far : ℕ → ℕ → A → A → A) (x : ℕ → A) (value : T → A) (b n : ℕ) (y : T) : Type 0 where
+  pub first : (i : ℕ) → i < size → n ≡ i → value y ≡ near b i (x (b * (2 * size) + i)) (x (b * (2 * size) + (size + i)))
+  pub second : (i : ℕ) → i < size → n ≡ size + i → value y ≡ far b i (x (b * (2 * size) + i)) (x (b * (2 * size) + (size + i)))
+
+-- n blocks of one size
+pub block_size : (len n size : ℕ) → 1 ≤ n → len ≡ n * size → len / n ≡ size
+block_size len n size some e = let f : len ≡ size * n = omega (arith, e) in ap (λ m. m / n) f ∙ mul-div_cancel size some
+
+pub block_room : (b n size len : ℕ) → b < n → len ≡ n * size → b * size + size ≤ len
+block_room b n size len p e = let l : suc b * size ≤ n * size = mul-le-mul_right size p in omega (arith, l, e)
+
+pub part_length : {X : Type 0} (xs : List X) (a size : ℕ) → a + size ≤ length xs → length (take (a + size - a) (drop a xs)) ≡ size
+part_length xs a size room = search (rules, places)
+
+module _ {A T : Type 0} (value : T → A) (d : T) (near far : ℕ → ℕ → A → A → A) (size : ℕ) where
+  -- one more block, which was done as a part of its own; the program has the size of a block in a variable of its own
+  pub blocks-more : (before now block : List T) (b whole : ℕ) → whole ≡ 2 * size → b * whole + whole ≤ length now → length block ≡ 2 * size
+      → ((i : ℕ) → i < size → value (get_or block i d)
+      ≡ near b i (value (get_or (take (b * whole + whole - b * whole) (drop (b * whole) now)) i d)) (value (get_or (take (b * whole + whole - b * whole) (drop (b * whole) now)) (size + i) d)))
+      → ((i : ℕ) → i < size → value (get_or block (size + i) d)
+      ≡ far b i (value (get_or (take (b * whole + whole - b * whole) (drop (b * whole) now)) i d)) (value (get_or (take (b * whole + whole - b * whole) (drop (b * whole) now)) (size + i) d)))
+      → RowsDone d (2 * size) (BothHalves size near far (λ n. value (get_or before n d)) value) before b now
+      → RowsDone d (2 * size) (BothHalves size near far (λ n. value (get_or before n d)) value) before (b + 1) (put_mid (b * whole) (b * whole + whole - b * whole) now block)
+  blocks-more before now block b whole is room len is_near is_far so_far =
+      let m : b * whole + whole - b * whole ≡ whole = omega arith in
+      let start : b * (2 * size) ≡ b * whole = ap (λ n. b * n) (sym is) in
+      let part = take (b * whole + whole - b * whole) (drop (b * whole) now) in
+      let cell : (n : ℕ) → n < 2 * size → value (get_or part n d) ≡ value (get_or before (b * (2 * size) + n) d) =
+      λ n inside. ap value (part_at now (b * whole) (b * whole + whole - b * whole) n d (omega (arith, m, is)) ∙ so_far.rest (b * whole + n) (omega (arith, start)) ∙ ap (λ a. get_or before (a + n) d) (sym start)) in
+      subst (λ (a : ℕ). RowsDone d (2 * size) (BothHalves size near far (λ n. value (get_or before n d)) value) before (b + 1) (put_mid a (b * whole + whole - b * whole) now block)) start
+      (rows-more d (2 * size) (BothHalves size near far (λ n. value (get_or before n d)) value) before now block b (b * whole + whole - b * whole) (m ∙ is) (omega (arith, room, start, is)) len
+      (λ n inside. record {
+        first = λ i p e. ap (λ k. value (get_or block k d)) e ∙ is_near i p ∙ ap₂ (near b i) (cell i (omega arith)) (cell (size + i) (omega arith));
+        second = λ i p e. ap (λ k. value (get_or block k d)) e ∙ is_far i p ∙ ap₂ (far b i) (cell i (omega arith)) (cell (size + i) (omega arith));
+      }) so_far)

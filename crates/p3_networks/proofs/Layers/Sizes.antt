@@ -1,0 +1,38 @@
+-- The sizes of a layer, as a program has them by shifts: l of k layers are done.
+use Rattle.std.proofs.Common.{◌≡◌, ℕ, ◌+◌, ◌*◌, ◌-◌, ◌%◌, ◌^◌, ◌<◌, ◌≤◌, List, length, take, drop, sym, ap, ◌∙◌, arith, lit≤, rules}
+use Rattle.std.proofs.Math.Nat.{pow-le-pow_right}
+use Rattle.std.proofs.lemmas.List.{places}
+use Rattle.std.proofs.lemmas.Nat.{one_shl, pow_pos}
+use Rattle.p3_networks.proofs.Layers.Blocks.{halves_whole, blocks_whole}
+
+-- a shift by the number of layers that are done, or that are left but one
+pub done_shift : (k l : ℕ) → l < k → k < 64 → 1 * 2 ^ l % 2 ^ 64 ≡ 2 ^ l
+done_shift k l below small = one_shl l 64 (omega arith)
+
+pub left_shift : (k l : ℕ) → l < k → k < 64 → 1 * 2 ^ (k - 1 - l) % 2 ^ 64 ≡ 2 ^ (k - 1 - l)
+left_shift k l below small = one_shl (k - 1 - l) 64 (omega arith)
+
+-- a half has a row
+pub some_rows : (half n : ℕ) → half ≡ 2 ^ n → 1 ≤ half
+some_rows half n is = omega (arith, is, pow_pos n)
+
+-- all cells, where a half block has 2 ^ l rows, and where there are 2 ^ l blocks
+pub cells_by_halves : (k l w : ℕ) → l < k → 2 ^ k * w ≡ 2 ^ (k - 1 - l) * (2 * (2 ^ l * w))
+cells_by_halves k l w below = ap (λ n. n * w) (sym (halves_whole k l below)) ∙ omega arith
+
+pub cells_by_blocks : (k l w : ℕ) → l < k → 2 ^ k * w ≡ 2 ^ l * (2 * (2 ^ (k - 1 - l) * w))
+cells_by_blocks k l w below = ap (λ n. n * w) (sym (blocks_whole k l below)) ∙ omega arith
+
+-- there are no more blocks than half the rows
+pub blocks_left : (k l : ℕ) → l < k → 2 ^ (k - 1 - l) ≤ 2 ^ (k - 1)
+blocks_left k l below = pow-le-pow_right {n = 2} (lit≤ tt) (omega arith)
+
+pub blocks_done : (k l : ℕ) → l < k → 2 ^ l ≤ 2 ^ (k - 1)
+blocks_done k l below = pow-le-pow_right {n = 2} (lit≤ tt) (omega arith)
+
+-- in tables one after another, that of layer l has its 2 ^ l entries
+pub layer_size : {T : Type 0} (xs : List T) (l : ℕ) → 2 * 2 ^ l - 1 ≤ length xs → length (take (2 ^ l) (drop (2 ^ l - 1) xs)) ≡ 2 ^ l
+layer_size xs l room =
+    let some = pow_pos l in
+    let e : 2 ^ l - 1 + 2 ^ l ≡ 2 * 2 ^ l - 1 = omega (arith, some) in
+    search (rules, places)

@@ -1,0 +1,119 @@
+-- Runs of rows one after another, each done by itself.
+use Rattle.std.proofs.Common.{◌≡◌, ℕ, suc, ◌+◌, ◌*◌, ◌-◌, ◌/◌, ◌%◌, ◌<◌, ◌≤◌, ◌^◌, List, length, get_or, take, drop, sym, ap, ap₂, ◌∙◌, arith}
+use Rattle.std.proofs.Math.Nat.{mul-le-mul_right}
+use Rattle.std.proofs.lemmas.Nat.{one_shl, pow-add, pow_pos, div-add-mod', div_below, mod_below}
+use borrow.Rule.Slice.PartMut.{put_mid}
+use Rattle.p3_networks.specs.Layers.{HoldsCells}
+use Rattle.p3_networks.proofs.Layers.Halves.{block_size, block_room}
+use Rattle.p3_networks.proofs.Rows.Overwritten.{RowsDone, part_at, rows-more}
+
+-- the sizes of tiles of 2 ^ r of the 2 ^ k rows, as a program has them
+pub record TileSizes (k r w tiles size len : ℕ) : Type 0 where
+  pub tiles_is : tiles ≡ 2 ^ (k - r)
+  pub some : 1 ≤ tiles
+  pub size_is : size ≡ 2 ^ r * w
+  pub whole : len ≡ tiles * size
+  pub rows : tiles * 2 ^ r ≡ 2 ^ k
+
+pub tile_sizes : (k r w len : ℕ) → k < 64 → r ≤ k → len ≡ 2 ^ k * w
+    → TileSizes k r w (1 * 2 ^ (k - r) % 18446744073709551616) (len / (1 * 2 ^ (k - r) % 18446744073709551616)) len
+tile_sizes k r w len small below full =
+    let tiles = 1 * 2 ^ (k - r) % 18446744073709551616 in
+    let is : tiles ≡ 2 ^ (k - r) = one_shl (k - r) 64 (omega (arith, small)) in
+    let some : 1 ≤ tiles = omega (arith, is, pow_pos (k - r)) in
+    let all : k - r + r ≡ k = omega (arith, below) in
+    let rows : tiles * 2 ^ r ≡ 2 ^ k = ap (λ n. n * 2 ^ r) is ∙ sym (pow-add 2 (k - r) r) ∙ ap (λ n. 2 ^ n) all in
+    let whole : len ≡ tiles * (2 ^ r * w) = full ∙ ap (λ n. n * w) (sym rows) ∙ omega arith in
+    let size = block_size len tiles (2 ^ r * w) some whole in
+    record { tiles_is = is; some = some; size_is = size; whole = whole ∙ ap (λ n. tiles * n) (sym size); rows = rows }
+
+-- one tile of them
+pub tile_room : (k r w tiles size len tile : ℕ) → TileSizes k r w tiles size len → tile < tiles → tile * size + size ≤ len
+tile_room k r w tiles size len tile sizes inside = block_room tile tiles size len inside sizes.whole
+
+pub tile_rows : (k r w tiles size len tile : ℕ) → TileSizes k r w tiles size len → tile < tiles → (tile + 1) * 2 ^ r ≤ 2 ^ k
+tile_rows k r w tiles size len tile sizes inside =
+    let more : suc tile * 2 ^ r ≤ tiles * 2 ^ r = mul-le-mul_right (2 ^ r) inside in
+    let next : (tile + 1) * 2 ^ r ≡ suc tile * 2 ^ r = omega arith in
+    omega (arith, more, next, sizes.rows)
+
+-- the sizes of a tile of rows that are spread: `count` rows, each in `copies`
+pub record SpreadSizes (k r a copies count tiles : ℕ) : Type 0 where
+  pub copies_is : copies ≡ 2 ^ a
+  pub some_copies : 1 ≤ copies
+  pub some : 1 ≤ count
+  pub tile : count * copies ≡ 2 ^ r
+  pub rows : tiles * count ≡ 2 ^ (k - a)
+  pub all : 2 ^ (k - a) * copies ≡ 2 ^ k
+
+pub spread_sizes : (k r a : ℕ) → k < 64 → a ≤ r → r ≤ k → SpreadSizes k r a (1 * 2 ^ a % 18446744073709551616) (1 * 2 ^ (r - a) % 18446744073709551616) (1 * 2 ^ (k - r) % 18446744073709551616)
+spread_sizes k r a small added below =
+    let copies : 1 * 2 ^ a % 18446744073709551616 ≡ 2 ^ a = one_shl a 64 (omega (arith, small, added, below)) in
+    let count : 1 * 2 ^ (r - a) % 18446744073709551616 ≡ 2 ^ (r - a) = one_shl (r - a) 64 (omega (arith, small, below)) in
+    let tiles : 1 * 2 ^ (k - r) % 18446744073709551616 ≡ 2 ^ (k - r) = one_shl (k - r) 64 (omega (arith, small)) in
+    let part : r - a + a ≡ r = omega (arith, added) in
+    let parts : k - r + (r - a) ≡ k - a = omega (arith, added, below) in
+    let whole : k - a + a ≡ k = omega (arith, added, below) in
+    record {
+      copies_is = copies;
+      some_copies = omega (arith, copies, pow_pos a);
+      some = omega (arith, count, pow_pos (r - a));
+      tile = ap₂ (λ m n. m * n) count copies ∙ sym (pow-add 2 (r - a) a) ∙ ap (λ n. 2 ^ n) part;
+      rows = ap₂ (λ m n. m * n) tiles count ∙ sym (pow-add 2 (k - r) (r - a)) ∙ ap (λ n. 2 ^ n) parts;
+      all = ap (λ n. 2 ^ (k - a) * n) copies ∙ sym (pow-add 2 (k - a) a) ∙ ap (λ n. 2 ^ n) whole;
+    }
+
+-- the rows of a tile are some of all
+pub spread_room : (k r a copies count tiles tile : ℕ) → SpreadSizes k r a copies count tiles → tile < tiles → tile * count + count ≤ 2 ^ (k - a)
+spread_room k r a copies count tiles tile sizes inside =
+    let more : suc tile * count ≤ tiles * count = mul-le-mul_right count inside in
+    let next : suc tile * count ≡ tile * count + count = omega arith in
+    omega (arith, more, next, sizes.rows)
+
+-- and a tile holds its cells where each cell of the whole, by row, copy and column, is the one that was made
+pub spread_held : {A T : Type 0} (value : T → A) (d : T) (cells : ℕ → A) (made : ℕ → ℕ → ℕ → A) (tile count copies all w : ℕ) (out : List T) → 0 < w → length out ≡ count * (copies * w)
+    → tile * count + count ≤ all → 0 < copies
+    → ((q t j : ℕ) → q < all → t < copies → j < w → cells ((q * copies + t) * w + j) ≡ made q t j)
+    → ((q t j : ℕ) → q < count → t < copies → j < w → value (get_or out ((q * copies + t) * w + j) d) ≡ made (tile * count + q) t j)
+    → HoldsCells value d (tile * length out) cells out
+spread_held value d cells made tile count copies all w out wide size room some are holds i inside =
+    let u = i / w in
+    let j = i % w in
+    let q = u / copies in
+    let t = u % copies in
+    let flat : count * (copies * w) ≡ count * copies * w = omega arith in
+    let row : u < count * copies = div_below i w (count * copies) wide (omega (arith, inside, size, flat)) in
+    let below : q < count = div_below u copies count some row in
+    let copy : t < copies = mod_below u copies some in
+    let column : j < w = mod_below i w wide in
+    let place : (q * copies + t) * w + j ≡ i = ap (λ n. n * w + j) (div-add-mod' u copies) ∙ div-add-mod' i w in
+    let spread : ((tile * count + q) * copies + t) * w + j ≡ tile * (count * (copies * w)) + ((q * copies + t) * w + j) = omega arith in
+    ap (λ n. value (get_or out n d)) (sym place) ∙ holds q t j below copy column ∙ sym (are (tile * count + q) t j (omega (arith, below, room)) copy column)
+    ∙ ap cells (spread ∙ ap₂ (λ m n. tile * m + n) (sym size) place)
+
+module _ {A T : Type 0} (value : T → A) (d : T) (size : ℕ) where
+  -- what tile p holds in its place i
+  abbrev pub InTiles : (ℕ → A) → ℕ → ℕ → T → Type 0
+  InTiles cells p i y = value y ≡ cells (p * size + i)
+
+  -- the rows of a tile that comes are as they were
+  pub tile_held : (before_value : T → A) (from to : ℕ → A) (before now : List T) (tile m : ℕ) → m ≡ size → tile * size + size ≤ length now
+      → HoldsCells before_value d 0 from before → RowsDone d size (InTiles to) before tile now → (i : ℕ) → i < m
+      → before_value (get_or (take m (drop (tile * size) now)) i d) ≡ from (tile * m + i)
+  tile_held before_value from to before now tile m is room holds so_far i inside =
+      ap before_value (part_at now (tile * size) m i d inside ∙ so_far.rest (tile * size + i) (omega arith))
+      ∙ holds (tile * size + i) (omega (arith, room, inside, is, so_far.size)) ∙ ap from (let plain : 0 + (tile * size + i) ≡ tile * size + i = omega arith in plain ∙ ap (λ n. tile * n + i) (sym is))
+
+  -- one tile more
+  pub tiles-more : (to : ℕ → A) (before now part : List T) (tile m : ℕ) → m ≡ size → tile * size + size ≤ length now → length part ≡ size
+      → HoldsCells value d (tile * size) to part → RowsDone d size (InTiles to) before tile now
+      → RowsDone d size (InTiles to) before (tile + 1) (put_mid (tile * size) m now part)
+  tiles-more to before now part tile m is room len holds so_far =
+      rows-more d size (InTiles to) before now part tile m is room len (λ i inside. holds i (omega (arith, inside, len))) so_far
+
+  -- all tiles
+  pub tiles_all : (to : ℕ → A) (before after : List T) (tiles : ℕ) → 0 < size → length before ≡ tiles * size → RowsDone d size (InTiles to) before tiles after → HoldsCells value d 0 to after
+  tiles_all to before after tiles some full all n inside =
+      let is : n / size * size + n % size ≡ n = div-add-mod' n size in
+      ap (λ i. value (get_or after i d)) (sym is) ∙ all.done (n / size) (n % size) (div_below n size tiles some (omega (arith, inside, full, all.size))) (mod_below n size some)
+      ∙ ap to (is ∙ omega arith)

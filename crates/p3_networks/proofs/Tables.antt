@@ -1,0 +1,8 @@
+-- Tables of twiddles, and which heights they prepare.
+pub mod BlockTables
+pub mod CosetTables
+pub mod FromStart
+pub mod InversePowers
+pub mod MoreTwiddles
+pub mod ReversedPowers
+pub mod RootPowers

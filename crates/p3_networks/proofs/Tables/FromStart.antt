@@ -1,0 +1,78 @@
+-- One table for all layers: where its entries are those of the last layer, its first entries are those of each layer.
+use Rattle.std.proofs.Common.{◌≡◌, ℕ, zero, suc, ◌+◌, ◌*◌, ◌-◌, ◌/◌, ◌<◌, ◌≤◌, ◌^◌, List, length, get_or, sym, ap, ap₂, ◌∙◌, arith, lit≤}
+use Rattle.std.proofs.Math.Nat.{mul-le-mul_right, pow-le-pow_right}
+use Rattle.std.proofs.lemmas.Nat.{pow-add, pow_pos}
+use Rattle.p3_field.specs.Ring.{power, AreRoots}
+use Rattle.p3_field.specs.declared.fields.Field.{Ghosts as FieldMembers}
+use Rattle.p3_field.proofs.Powers.{power-zero}
+use Rattle.p3_field.proofs.Rings
+use Rattle.p3_matrix.specs.BitOrder.{rev}
+use Rattle.p3_matrix.proofs.BitReversal.{rev-block, rev_of_zero}
+use Rattle.p3_networks.proofs.Layers.Counts.{two_halves}
+use Rattle.p3_networks.specs.Twiddles.{AreTwiddles, AreTwiddlesFromStart, block_powers}
+use Rattle.p3_networks.proofs.Networks.Entries.{turned_entry}
+
+module _ {F : Type 0} (f : FieldMembers F) (root : ℕ → f.Element) where
+  pub from_start : {bits : ℕ} → AreRoots f.ring bits root → (log : ℕ) (table : List F) → log ≤ bits → AreTwiddles f (2 ^ (log - 1)) (block_powers f root (log - 1)) table
+      → AreTwiddlesFromStart f log (block_powers f root) table
+  from_start G log table within are = record {
+    size = λ l below. let rise : 2 ^ l ≤ 2 ^ (log - 1) = fewer l below in omega (arith, are.size, rise);
+    entries = λ l b below inside.
+        let rise : 2 ^ l ≤ 2 ^ (log - 1) = fewer l below in
+        let back : log - 1 - (log - 1 - l) ≡ l = omega (arith, below) in
+        let whole : log - 1 + 1 ≡ log = omega (arith, below) in
+        are.entries b (omega (arith, inside, rise))
+        ∙ ap (λ n. power f.ring (root n) (rev (log - 1) b)) whole
+        ∙ turned_entry f.ring G log (log - 1 - l) b within (omega (arith, below)) (omega (arith, inside, ap (λ n. 2 ^ n) back))
+        ∙ ap (λ n. power f.ring (root n) (rev (log - 1 - (log - 1 - l)) b)) (let e : suc (log - 1 - (log - 1 - l)) ≡ l + 1 = omega (arith, back) in e)
+        ∙ ap (λ n. power f.ring (root (l + 1)) (rev n b)) back;
+  }
+    where
+      fewer : (l : ℕ) → l < log → 2 ^ l ≤ 2 ^ (log - 1)
+      fewer l below = let less : l ≤ log - 1 = omega (arith, below) in pow-le-pow_right {n = 2} (lit≤ tt) less
+
+  -- powers that were made from a first one that is one
+  pub powers_from_one : (n : ℕ) (one x : f.Element) (table : List F) → one ≡ f.ring.one → x ≡ root (n + 1)
+      → AreTwiddles f (2 ^ n) (λ b. f.ring.mul one (power f.ring x (rev n b))) table → AreTwiddles f (2 ^ n) (block_powers f root n) table
+  powers_from_one n one x table is_one is_root are = record {
+    size = are.size;
+    entries = λ b below.
+        are.entries b below ∙ ap₂ (λ y z. f.ring.mul y (power f.ring z (rev n b))) is_one is_root ∙ Rings.one-mul f.ring (power f.ring (root (n + 1)) (rev n b));
+  }
+
+  -- the first is one, and there is one for each block of the largest layer
+  pub first_is_one : (log : ℕ) (table : List F) → 1 ≤ log → AreTwiddlesFromStart f log (block_powers f root) table → f.value (get_or table 0 f.ZERO) ≡ f.ring.one
+  first_is_one log table some are = are.entries 0 0 some (pow_pos 0) ∙ ap (power f.ring (root 1)) (rev_of_zero 0) ∙ power-zero f.ring (root 1)
+
+  pub enough_from_start : (log : ℕ) (table : List F) → 1 ≤ log → AreTwiddlesFromStart f log (block_powers f root) table → 2 ^ log ≤ 2 * length table
+  enough_from_start log table some are =
+      let size = are.size (log - 1) (omega (arith, some)) in
+      let d = two_halves log (λ e. absurd (omega (arith, e, some))) in
+      omega (arith, size, d)
+
+  -- the power for row q of 2 ^ (log - a) that are spread by 2 ^ a
+  pub spread_root : (log a : ℕ) (table : List F) → a ≤ log → 1 ≤ log → AreTwiddlesFromStart f log (block_powers f root) table → (q t : ℕ) → q < 2 ^ (log - a) → t < 2 ^ a
+      → power f.ring (f.value (get_or table (q * (2 ^ a / 2)) f.ZERO)) t ≡ power f.ring (power f.ring (root log) (rev (log - a) q)) t
+  spread_root log zero table within some are q t inside below =
+      let none : t ≡ 0 = omega arith in
+      ap (power f.ring (f.value (get_or table (q * (2 ^ 0 / 2)) f.ZERO))) none ∙ power-zero f.ring _
+      ∙ sym (ap (power f.ring (power f.ring (root log) (rev (log - 0) q))) none ∙ power-zero f.ring _)
+  spread_root log (suc a) table within some are q t inside below =
+      let double : 2 ^ suc a ≡ 2 * 2 ^ a = let d : 2 ^ suc a ≡ 2 * 2 ^ a = omega arith in d in
+      let half : q * (2 ^ suc a / 2) ≡ q * 2 ^ a = ap (λ n. q * n) (let h : 2 ^ suc a / 2 ≡ 2 ^ a = omega (arith, double) in h) in
+      let plain : q * 2 ^ a ≡ q * 2 ^ a + 0 = omega arith in
+      let m = log - suc a in
+      let digits : log - 1 ≡ a + m = omega (arith, within) in
+      let whole : log - 1 + 1 ≡ log = omega (arith, some) in
+      let room : suc q * 2 ^ a ≤ 2 ^ m * 2 ^ a = mul-le-mul_right (2 ^ a) inside in
+      let next : suc q * 2 ^ a ≡ q * 2 ^ a + 2 ^ a = omega arith in
+      let all : 2 ^ m * 2 ^ a ≡ 2 ^ (log - 1) = omega arith ∙ sym (pow-add 2 a m) ∙ ap (λ n. 2 ^ n) (sym digits) in
+      let place : rev (log - 1) (q * 2 ^ a) ≡ rev m q =
+      ap₂ rev digits plain ∙ rev-block a m q 0 (pow_pos a) ∙ ap (λ n. n * 2 ^ m + rev m q) (rev_of_zero a) ∙ omega arith in
+      ap (λ x. power f.ring x t)
+      (ap (λ n. f.value (get_or table n f.ZERO)) half ∙ are.entries (log - 1) (q * 2 ^ a) (omega (arith, some)) (omega (arith, room, next, all, pow_pos a))
+      ∙ ap₂ (λ n e. power f.ring (root n) e) whole place)
+
+-- what serves a height serves a smaller one
+pub fewer_from_start : {F : Type 0} (f : FieldMembers F) (p : ℕ → ℕ → f.Element) (log most : ℕ) (table : List F) → log ≤ most → AreTwiddlesFromStart f most p table → AreTwiddlesFromStart f log p table
+fewer_from_start f p log most table fewer are = record { size = λ l below. are.size l (omega (arith, below, fewer)); entries = λ l b below inside. are.entries l b (omega (arith, below, fewer)) inside }

@@ -1,0 +1,28 @@
+use Rattle.std.proofs.Common.{◌+◌, ◌*◌, ◌/◌, ◌≤◌, length, refl, ◌∙◌, arith}
+use Rattle.p3_networks.proofs.Layers.Counts.{count_more}
+use Rattle.p3_networks.proofs.Layers.Halves.{block_room, part_length, blocks-more}
+use Rattle.p3_networks.proofs.butterfly_layers.meet_blocks.Goals as goal
+
+pub meet_block-requires-clause-size : goal.meet_block-requires-clause-size
+meet_block-requires-clause-size g c =
+    let whole = 2 * (c.args.half * c.args.width) in
+    let room : c.loop-b.b * whole + whole ≤ length c.args.values.now = block_room c.loop-b.b c.args.blocks _ (length c.args.values.now) c.loop-b-test.true c.requires.size in
+    part_length c.loop-b.values (c.loop-b.b * whole) whole (omega (arith, room, c.loop-b.auto.values))
+
+pub loop-b-preserved : goal.loop-b-preserved
+loop-b-preserved g c =
+    let field = g.F.Field in
+    let rule = g.R.Rule in
+    let b = c.loop-b.b in
+    let w = c.args.width in
+    let size = c.args.half * w in
+    let whole = 2 * size in
+    let room : b * whole + whole ≤ length c.args.values.now = block_room b c.args.blocks whole (length c.args.values.now) c.loop-b-test.true c.requires.size in
+    let fits : b * whole + whole ≤ length c.loop-b.values = omega (arith, room, c.loop-b.auto.values) in
+    record {
+      cells = blocks-more field.value field.ZERO (λ k i. rule.near field.Element field.ring field.value c.args.rule (c.args.first_block + k) (i / w)) (λ k i. rule.far field.Element field.ring field.value c.args.rule (c.args.first_block + k) (i / w)) size
+          c.args.values.now c.loop-b.values c.meet_block.new.values b whole refl fits (c.meet_block.auto.values ∙ part_length c.loop-b.values (b * whole) whole fits)
+          c.meet_block.ensures.near c.meet_block.ensures.far c.loop-b.invariant.cells;
+      grows = omega (arith, c.meet_block.ensures.grows, c.loop-b.invariant.grows);
+      count = count_more rule.cost b size _ _ _ c.loop-b.invariant.count c.meet_block.ensures.count;
+    }

@@ -1,0 +1,17 @@
+use Rattle.std.proofs.Common.{◌≡◌, ◌+◌, ◌*◌, ◌≤◌, get_or}
+use Rattle.p3_networks.proofs.Rows.Overwritten.{RowsDone}
+use Rattle.p3_networks.proofs.butterfly_layers.meet_halves.Given as goal
+
+abbrev pub invariant-loop-t : goal.invariant-loop-t
+invariant-loop-t g l =
+    let field = g.F.Field in
+    let rule = g.R.Rule in
+    let value = g.F.Field.value in
+    let zero = g.F.Field.ZERO in
+    let w = l.fn.width in
+    record {
+      near : RowsDone zero w (λ t j y. value y ≡ rule.near field.Element field.ring field.value l.fn.rule l.fn.block t (value (get_or l.fn.low (t * w + j) zero)) (value (get_or l.fn.high (t * w + j) zero))) l.fn.low l.t l.low;
+      far : RowsDone zero w (λ t j y. value y ≡ rule.far field.Element field.ring field.value l.fn.rule l.fn.block t (value (get_or l.fn.low (t * w + j) zero)) (value (get_or l.fn.high (t * w + j) zero))) l.fn.high l.t l.high;
+      grows : l.fn.products ≤ l.products;
+      count : l.products ≤ l.fn.products + rule.cost * (l.t * w);
+    }

@@ -1,0 +1,32 @@
+use Rattle.std.proofs.Common.{◌≡◌, ℕ, ◌+◌, ◌*◌, ◌/◌, ◌^◌, leb, ap, ap₂, ◌∙◌, subst, arith, add-one}
+use Rattle.std.proofs.lemmas.Nat.{pow_pos}
+use Rattle.p3_field.specs.Ring.{power}
+use Rattle.p3_networks.specs.Twiddles.{AreTwiddlesOfLayers, coset_twiddles, forward_root, layer_place}
+use Rattle.p3_networks.proofs.Tables.MoreTwiddles.{one_more_layer}
+use Rattle.p3_networks.proofs.radix_2_dit_parallel.coset_tables.coset_layers.Goals as goal
+
+pub loop-l-preserved : goal.loop-l-preserved
+loop-l-preserved g c =
+    let field = g.F.Field in
+    let l = c.loop-l.l in
+    let log = c.args.log_h in
+    let reversed = leb ((log + 1) / 2) l in
+    let longer = c.in_ok-push_layer.ensures.size in
+    let twice : 2 ^ (l + 1) ≡ 2 * 2 ^ l = ap (λ n. 2 ^ n) (add-one l) ∙ omega arith in
+    let some = pow_pos l in
+    record {
+      full = omega (arith, longer, c.loop-l.invariant.full, twice, some);
+      layers = one_more_layer field (λ i t. coset_twiddles field (forward_root field g.F.TwoAdicField.generator) (field.value c.args.shift) log i (layer_place (leb ((log + 1) / 2) i) i t)) l
+          c.loop-l.twiddles.items c.push_layer.new.twiddles.items c.loop-l.invariant.full c.loop-l.invariant.layers longer c.in_ok-push_layer.ensures.before
+          (λ t below.
+          c.in_ok-push_layer.ensures.entries t below
+          ∙ ap₂ (λ x y. field.ring.mul x (power field.ring y (layer_place reversed l t))) c.exp_power_of_2-first.ensures c.two_adic_generator-root.ensures);
+    }
+
+pub returns : goal.returns
+returns g c =
+    let field = g.F.Field in
+    let log = c.args.log_h in
+    let all : c.loop-l.l ≡ log = omega arith in
+    subst (λ (n : ℕ). AreTwiddlesOfLayers field n (λ i t. coset_twiddles field (forward_root field g.F.TwoAdicField.generator) (field.value c.args.shift) log i (layer_place (leb ((log + 1) / 2) i) i t)) c.loop-l.twiddles.items)
+    all c.loop-l.invariant.layers

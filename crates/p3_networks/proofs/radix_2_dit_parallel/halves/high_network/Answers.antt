@@ -1,0 +1,158 @@
+use Rattle.std.proofs.Common.{◌≡◌, ℕ, ◌+◌, ◌*◌, ◌-◌, ◌^◌, ◌%◌, ◌<◌, ◌≤◌, length, get_or, sym, ap, ap₂, ◌∙◌, subst, arith, lit≤, refl}
+use Rattle.std.proofs.Math.Nat.{pow-le-pow_right, mul-le-mul_right}
+use Rattle.p3_matrix.specs.BitOrder.{rev}
+use Rattle.p3_matrix.specs.Butterflies.{dit_near, dit_far}
+use Rattle.p3_networks.specs.Cosets.{point}
+use Rattle.p3_networks.specs.Twiddles.{factor, scale_cost}
+use Rattle.p3_networks.proofs.Layers.Blocks.{blocks_whole}
+use Rattle.p3_networks.proofs.Layers.Counts.{layer_counted, layers_counted}
+use Rattle.p3_networks.proofs.Layers.Sizes.{cells_by_blocks, done_shift, left_shift}
+use Rattle.p3_networks.proofs.Networks.Formulas.{whole_layer_taken}
+use Rattle.p3_networks.proofs.Networks.HighRows.{high_row, high_rows, high_start, high_end}
+use Rattle.p3_networks.proofs.Networks.Stages.{twiddle}
+use Rattle.p3_networks.proofs.Tables.BlockTables.{block_count, blocks_within, run_entry}
+use Rattle.p3_networks.proofs.radix_2_dit_parallel.halves.high_network.Goals as goal
+
+-- the half block of the first layer, of which there is one block
+first_half : (k : ℕ) → 1 ≤ k → k < 64 → 1 * 2 ^ (k - 1) % 18446744073709551616 ≡ 2 ^ (k - 1)
+first_half k some small = let e : k - 1 ≡ k - 1 - 0 = omega arith in ap (λ n. 1 * 2 ^ n % 18446744073709551616) e ∙ left_shift k 0 (omega arith) small ∙ ap (λ n. 2 ^ n) (sym e)
+
+first_whole : (k : ℕ) → 1 ≤ k → 1 * (2 * 2 ^ (k - 1)) ≡ 2 ^ k
+first_whole k some = let e : k - 1 ≡ k - 1 - 0 = omega arith in ap (λ n. 1 * (2 * 2 ^ n)) e ∙ blocks_whole k 0 (omega arith)
+
+-- a scale adds at most one product for each cell
+counted : (cost pairs half all before after : ℕ) → pairs ≡ half → half ≤ all → after ≤ before + (1 + cost) * (1 * pairs) → after ≤ before + cost * all + 1 * (1 * half)
+counted cost pairs half all before after is few count =
+    let spread : (1 + cost) * (1 * pairs) ≡ half * cost + half = ap (λ n. (1 + cost) * (1 * n)) is ∙ omega arith in
+    let turned : cost * all ≡ all * cost = omega arith in
+    omega (arith, count, spread, turned, mul-le-mul_right cost few)
+
+pub scaled_layer-requires-clause-size : goal.scaled_layer-requires-clause-size
+scaled_layer-requires-clause-size g c =
+    let k = c.args.left in
+    let half = first_half k c.requires.some (omega (arith, c.requires.small)) in
+    let flat : 1 * (2 * (2 ^ (k - 1) * c.args.width)) ≡ 1 * (2 * 2 ^ (k - 1)) * c.args.width = omega arith in
+    rw half (c.requires.height ∙ ap (λ n. n * c.args.width) (sym (first_whole k c.requires.some)) ∙ sym flat)
+
+pub loop-done-init : goal.loop-done-init
+loop-done-init g c =
+    let field = g.F.Field in
+    let k = c.args.left in
+    let mid = c.args.mid in
+    let run = c.args.run in
+    let w = c.args.width in
+    let half = 1 * 2 ^ (k - 1) % 18446744073709551616 in
+    let some : 0 < k = omega (arith, c.requires.some) in
+    let small : k < 64 = omega (arith, c.requires.small) in
+    let h : half ≡ 2 ^ (k - 1) = first_half k c.requires.some small in
+    let whole : 1 * (2 * half) ≡ 2 ^ k = ap (λ n. 1 * (2 * n)) h ∙ first_whole k c.requires.some in
+    let cell = λ (n : ℕ). field.value (get_or c.args.values.now n field.ZERO) in
+    let scaled = λ (n : ℕ). field.ring.mul (cell n) (factor field c.args.scale) in
+    let after = λ (n : ℕ). field.value (get_or c.scaled_layer.new.values n field.ZERO) in
+    let entry = λ (t : ℕ). field.value (get_or c.of_layer-twiddles.result.now (run + t) field.ZERO) in
+    let size = half * w in
+    let few : 2 ^ (k - 1) ≤ 2 ^ k = omega (arith, h, whole) in
+    record {
+      rows = λ root s roots table j r inside below.
+          let coset = point field.ring root (mid + k) s (rev mid run) in
+          let entry_is : (u : ℕ) → u < 1 → entry u ≡ twiddle field.ring root coset 0 (k - 1 - 0) (rev 0 u) =
+          λ u p. ap (λ xs. field.value (get_or xs (run + u) field.ZERO)) c.of_layer-twiddles.ensures
+          ∙ run_entry field root s mid k run 0 u mid (run + u) c.args.table.by_layer c.args.table.twiddles.now roots table (omega arith) (omega arith) c.requires.run some p in
+          let zero_more : (b : ℕ) → b ≡ 0 + b = λ b. omega arith in
+          let keep : k ≡ k - 0 = omega arith in
+          let less : k - 1 ≡ k - 1 - 0 = omega arith in
+          whole_layer_taken (high_rows field.ring root coset roots (λ u. scaled (u * w + j))) k 0 w half 1
+          (λ u t. dit_near field.ring (entry u)) (λ u t. dit_far field.ring (entry u)) scaled after
+          (omega arith) some (h ∙ ap (λ n. 2 ^ n) less) whole
+          (λ u t p q. ap (dit_near field.ring) (entry_is (0 + u) (omega (arith, p))))
+          (λ u t p q. ap (dit_far field.ring) (entry_is (0 + u) (omega (arith, p))))
+          (λ u i p q. c.scaled_layer.ensures.near u i p q ∙ ap (λ n. dit_near field.ring (entry n) (scaled (u * (2 * size) + i)) (scaled (u * (2 * size) + (size + i)))) (zero_more u))
+          (λ u i p q. c.scaled_layer.ensures.far u i p q ∙ ap (λ n. dit_far field.ring (entry n) (scaled (u * (2 * size) + i)) (scaled (u * (2 * size) + (size + i)))) (zero_more u))
+          j inside
+          (λ u v. sym (high_start field.ring root coset (k - 0) (λ q. scaled (q * w + j)) u (subst (λ (n : ℕ). u < 2 ^ n) keep v)))
+          r below;
+      grows = c.scaled_layer.ensures.grows;
+      count = counted (scale_cost c.args.scale) (half * w) (2 ^ (k - 1) * w) (2 ^ k * w) _ _ (ap (λ n. n * w) h) (mul-le-mul_right w few) c.scaled_layer.ensures.count;
+    }
+
+pub overflow_mul-run : goal.overflow_mul-run
+overflow_mul-run g c =
+    let done = c.loop-done.done in
+    let mid = c.args.mid in
+    let highest : mid + done ≤ 63 = omega (arith, c.requires.small, c.loop-done-test.true) in
+    let fits : 2 ^ (mid + done) ≤ 2 ^ 63 = pow-le-pow_right {n = 2} (lit≤ tt) highest in
+    rw (done_shift c.args.left done c.loop-done-test.true (omega (arith, c.requires.small))) (omega (arith, fits, blocks_within c.args.run mid done c.requires.run))
+
+pub layer_by_block-requires-clause-size : goal.layer_by_block-requires-clause-size
+layer_by_block-requires-clause-size g c =
+    let l = c.loop-done.done in
+    let k = c.args.left in
+    let small : k < 64 = omega (arith, c.requires.small) in
+    rw (left_shift k l c.loop-done-test.true small, done_shift k l c.loop-done-test.true small)
+    (c.loop-done.auto.values ∙ c.scaled_layer.auto.values ∙ c.requires.height ∙ cells_by_blocks k l c.args.width c.loop-done-test.true)
+
+pub layer_by_block-requires-clause-table : goal.layer_by_block-requires-clause-table
+layer_by_block-requires-clause-table g c =
+    let l = c.loop-done.done in
+    let mid = c.args.mid in
+    let count = ap length c.of_layer-twiddles-in-loop-done.ensures
+    ∙ block_count c.args.table.by_layer (mid + l) c.args.table.twiddles.now (c.requires.table (mid + l) (omega arith) (omega (arith, c.loop-done-test.true))) in
+    rw (done_shift c.args.left l c.loop-done-test.true (omega (arith, c.requires.small)), count) (blocks_within c.args.run mid l c.requires.run)
+
+pub loop-done-preserved : goal.loop-done-preserved
+loop-done-preserved g c =
+    let field = g.F.Field in
+    let l = c.loop-done.done in
+    let k = c.args.left in
+    let mid = c.args.mid in
+    let run = c.args.run in
+    let w = c.args.width in
+    let half = 1 * 2 ^ (k - 1 - l) % 18446744073709551616 in
+    let blocks = 1 * 2 ^ l % 18446744073709551616 in
+    let small : k < 64 = omega (arith, c.requires.small) in
+    let h : half ≡ 2 ^ (k - 1 - l) = left_shift k l c.loop-done-test.true small in
+    let b : blocks ≡ 2 ^ l = done_shift k l c.loop-done-test.true small in
+    let whole : blocks * (2 * half) ≡ 2 ^ k = rw (h, b) (blocks_whole k l c.loop-done-test.true) in
+    let before = λ (n : ℕ). field.value (get_or c.loop-done.values n field.ZERO) in
+    let after = λ (n : ℕ). field.value (get_or c.layer_by_block.new.values n field.ZERO) in
+    let scaled = λ (n : ℕ). field.ring.mul (field.value (get_or c.args.values.now n field.ZERO)) (factor field c.args.scale) in
+    let entry = λ (t : ℕ). field.value (get_or c.of_layer-twiddles-in-loop-done.result.now (run * blocks + t) field.ZERO) in
+    let size = half * w in
+    record {
+      rows = λ root s roots table j r inside below.
+          let coset = point field.ring root (mid + k) s (rev mid run) in
+          let entry_is : (u : ℕ) → u < blocks → entry u ≡ twiddle field.ring root coset l (k - 1 - l) (rev l u) =
+          λ u p. ap (λ xs. field.value (get_or xs (run * blocks + u) field.ZERO)) c.of_layer-twiddles-in-loop-done.ensures
+          ∙ run_entry field root s mid k run l u (mid + l) (run * blocks + u) c.args.table.by_layer c.args.table.twiddles.now roots table refl (ap (λ n. run * n + u) b) c.requires.run c.loop-done-test.true (omega (arith, p, b)) in
+          let zero_more : (b : ℕ) → b ≡ 0 + b = λ b. omega arith in
+          whole_layer_taken (high_rows field.ring root coset roots (λ u. scaled (u * w + j))) k l w half blocks
+          (λ u t. dit_near field.ring (entry u)) (λ u t. dit_far field.ring (entry u)) before after
+          (omega arith) c.loop-done-test.true h whole
+          (λ u t p q. ap (dit_near field.ring) (entry_is (0 + u) (omega (arith, p))))
+          (λ u t p q. ap (dit_far field.ring) (entry_is (0 + u) (omega (arith, p))))
+          (λ u i p q. c.layer_by_block.ensures.near u i p q ∙ ap (λ n. dit_near field.ring (entry n) (before (u * (2 * size) + i)) (before (u * (2 * size) + (size + i)))) (zero_more u))
+          (λ u i p q. c.layer_by_block.ensures.far u i p q ∙ ap (λ n. dit_far field.ring (entry n) (before (u * (2 * size) + i)) (before (u * (2 * size) + (size + i)))) (zero_more u))
+          j inside
+          (λ u v. c.loop-done.invariant.rows root s roots table j u inside v)
+          r below;
+      grows = omega (arith, c.loop-done.invariant.grows, c.layer_by_block.ensures.grows);
+      count = layer_counted 1 k l w blocks half _ c.loop-done.products c.layer_by_block.new.products c.loop-done-test.true whole c.loop-done.invariant.count c.layer_by_block.ensures.count;
+    }
+
+pub returns-clause-values : goal.returns-clause-values
+returns-clause-values g c root s roots table t j p q =
+    let field = g.F.Field in
+    let k = c.args.left in
+    let e : c.loop-done.done ≡ k = omega (arith, c.requires.some) in
+    let d : k - c.loop-done.done ≡ 0 = omega arith in
+    let coset = point field.ring root (c.args.mid + k) s (rev c.args.mid c.args.run) in
+    let f = λ (u : ℕ). field.ring.mul (field.value (get_or c.args.values.now (u * c.args.width + j) field.ZERO)) (factor field c.args.scale) in
+    c.loop-done.invariant.rows root s roots table j t q p ∙ ap₂ (λ x y. high_row field.ring root coset x y f t) e d ∙ high_end field.ring root coset k f t
+
+pub returns-clause-count : goal.returns-clause-count
+returns-clause-count g c =
+    let k = c.args.left in
+    let w = c.args.width in
+    let e : c.loop-done.done ≡ k = omega (arith, c.requires.some) in
+    let all = ap (λ n. 1 * (n * (2 ^ (k - 1) * w))) e ∙ layers_counted k w in
+    omega (arith, all, c.loop-done.invariant.count)

@@ -1,0 +1,78 @@
+use Rattle.std.proofs.Common.{◌≡◌, ℕ, ◌+◌, ◌-◌, ◌*◌, ◌/◌, ◌%◌, ◌^◌, ◌<◌, ◌≤◌, length, take, drop, sym, ap, ap₂, ◌∙◌, subst, arith, lit≤}
+use Rattle.std.proofs.lemmas.Nat.{pow_pos}
+use Rattle.std.proofs.Math.Nat.{pow-le-pow_right, mul-le-mul}
+use Rattle.p3_networks.specs.Layers.{HoldsCells}
+use Rattle.p3_networks.proofs.Layers.Halves.{part_length}
+use Rattle.p3_networks.proofs.Layers.Runs.{layer_more}
+use Rattle.p3_networks.proofs.Layers.Tiles.{tile_held, tile_room, tile_rows, tile_sizes, tiles-more, tiles_all}
+use Rattle.p3_networks.proofs.radix_2_small_batch.networks.dit_tiles.Goals as goal
+
+pub dit_layers-requires-clause-small : goal.dit_layers-requires-clause-small
+dit_layers-requires-clause-small g c =
+    let sizes = tile_sizes c.args.log_h c.args.log_rows c.args.width (length c.args.values.now) c.requires.small c.requires.below c.requires.size in
+    let rows = tile_rows _ _ _ _ _ _ c.loop-tile.tile sizes c.loop-tile-test.true in
+    let few : c.args.log_h ≤ 63 = omega (arith, c.requires.small) in
+    let most : 2 ^ c.args.log_h ≤ 2 ^ 63 = pow-le-pow_right {n = 2} (lit≤ tt) few in
+    omega (arith, rows, most)
+
+pub dit_layers-requires-clause-size : goal.dit_layers-requires-clause-size
+dit_layers-requires-clause-size g c =
+    let sizes = tile_sizes c.args.log_h c.args.log_rows c.args.width (length c.args.values.now) c.requires.small c.requires.below c.requires.size in
+    let room = tile_room _ _ _ _ _ _ c.loop-tile.tile sizes c.loop-tile-test.true in
+    part_length c.loop-tile.values _ _ (omega (arith, room, c.loop-tile.auto.values)) ∙ sizes.size_is
+
+pub dit_layers-requires-clause-enough : goal.dit_layers-requires-clause-enough
+dit_layers-requires-clause-enough g c =
+    let sizes = tile_sizes c.args.log_h c.args.log_rows c.args.width (length c.args.values.now) c.requires.small c.requires.below c.requires.size in
+    let rows = tile_rows _ _ _ _ _ _ c.loop-tile.tile sizes c.loop-tile-test.true in
+    omega (arith, rows, c.requires.enough)
+
+pub loop-tile-preserved : goal.loop-tile-preserved
+loop-tile-preserved g c =
+    let field = g.F.Field in
+    let len = length c.args.values.now in
+    let r = c.args.log_rows in
+    let tile = c.loop-tile.tile in
+    let now = c.loop-tile.values in
+    let sizes = tile_sizes c.args.log_h r c.args.width len c.requires.small c.requires.below c.requires.size in
+    let size = len / (1 * 2 ^ (c.args.log_h - r) % 18446744073709551616) in
+    let m = tile * size + size - tile * size in
+    let is : m ≡ size = omega arith in
+    let room : tile * size + size ≤ length now = let all = tile_room _ _ _ _ _ _ tile sizes c.loop-tile-test.true in omega (arith, all, c.loop-tile.auto.values) in
+    let part = take m (drop (tile * size) now) in
+    let part_len : length part ≡ size = part_length now (tile * size) size room in
+    let cost : 2 * c.dit_layers.new.products ≤ 2 * c.loop-tile.products + 1 * (r * size) =
+    let all : (r - 0) * length part ≡ 1 * (r * size) = ap₂ (λ a n. a * n) (let e : r - 0 ≡ r = omega arith in e) part_len ∙ omega arith in
+    omega (arith, c.dit_layers.ensures.count, all) in
+    record {
+      cells = λ cells layers holds.
+          let so_far = c.loop-tile.invariant.cells cells layers holds in
+          tiles-more field.value field.ZERO size (cells 0) c.args.values.now now c.dit_layers.new.values tile m is room (c.dit_layers.auto.values ∙ part_len)
+          (subst (λ (n : ℕ). HoldsCells field.value field.ZERO (tile * n) (cells 0) c.dit_layers.new.values) part_len
+          (c.dit_layers.ensures.cells c.args.log_h cells layers (tile_rows _ _ _ _ _ _ tile sizes c.loop-tile-test.true)
+          (λ i inside.
+          tile_held field.value field.ZERO size field.value (cells r) (cells 0) c.args.values.now now tile m is room holds so_far i (omega (arith, inside, part_len, is))
+          ∙ ap (cells r) (ap (λ n. tile * n + i) (is ∙ sym part_len)))))
+          so_far;
+      grows = omega (arith, c.loop-tile.invariant.grows, c.dit_layers.ensures.grows);
+      count = layer_more tile (r * size) c.args.products.now c.loop-tile.products c.dit_layers.new.products c.loop-tile.invariant.count cost;
+    }
+
+pub returns-clause-cells : goal.returns-clause-cells
+returns-clause-cells g c cells layers holds =
+    let field = g.F.Field in
+    let sizes = tile_sizes c.args.log_h c.args.log_rows c.args.width (length c.args.values.now) c.requires.small c.requires.below c.requires.size in
+    let tiles = 1 * 2 ^ (c.args.log_h - c.args.log_rows) % 18446744073709551616 in
+    let size = length c.args.values.now / tiles in
+    let end : c.loop-tile.tile ≡ tiles = omega arith in
+    let some : 0 < size = let rows : 1 * 1 ≤ 2 ^ c.args.log_rows * c.args.width = mul-le-mul (pow_pos c.args.log_rows) c.requires.wide in omega (arith, rows, sizes.size_is) in
+    tiles_all field.value field.ZERO size (cells 0) c.args.values.now c.loop-tile.values c.loop-tile.tile some (sizes.whole ∙ ap (λ n. n * size) (sym end)) (c.loop-tile.invariant.cells cells layers holds)
+
+pub returns-clause-count : goal.returns-clause-count
+returns-clause-count g c =
+    let sizes = tile_sizes c.args.log_h c.args.log_rows c.args.width (length c.args.values.now) c.requires.small c.requires.below c.requires.size in
+    let tiles = 1 * 2 ^ (c.args.log_h - c.args.log_rows) % 18446744073709551616 in
+    let size = length c.args.values.now / tiles in
+    let end : c.loop-tile.tile ≡ tiles = omega arith in
+    let all : c.loop-tile.tile * (c.args.log_rows * size) ≡ c.args.log_rows * length c.args.values.now = ap (λ n. n * (c.args.log_rows * size)) end ∙ (let swap : tiles * (c.args.log_rows * size) ≡ c.args.log_rows * (tiles * size) = omega arith in swap) ∙ ap (λ n. c.args.log_rows * n) (sym sizes.whole) in
+    subst (λ (n : ℕ). 2 * c.loop-tile.products ≤ 2 * c.args.products.now + n) all c.loop-tile.invariant.count

@@ -1,0 +1,77 @@
+use Rattle.std.proofs.Common.{◌≡◌, ℕ, ◌+◌, ◌-◌, ◌*◌, ◌^◌, ◌≤◌, length, get_or, sym, ap, ◌∙◌, subst, arith, lit≤}
+use Rattle.std.proofs.Math.Nat.{pow-le-pow_right}
+use Rattle.p3_field.specs.Ring.{power}
+use Rattle.p3_matrix.specs.BitOrder.{rev}
+use Rattle.p3_matrix.proofs.BitReversal.{rev-lt, rev-rev}
+use Rattle.p3_networks.specs.Layers.{HoldsCells}
+use Rattle.p3_networks.proofs.Layers.Blocks.{row_below}
+use Rattle.p3_networks.proofs.Layers.Runs.{run_whole, whole_run}
+use Rattle.p3_networks.proofs.Networks.Cells.{turned_cells, turned_cells_end, turned_cells_of_zeros, turned_layers}
+use Rattle.p3_networks.proofs.Polynomials.ByIndex.{first_behind, first_inside, first_of, poly_of_first}
+use Rattle.p3_networks.proofs.Tables.FromStart.{enough_from_start, first_is_one, spread_root}
+use Rattle.p3_networks.proofs.radix_2_small_batch.networks.extending_network.Goals as goal
+
+pub dif_layers-requires-clause-small : goal.dif_layers-requires-clause-small
+dif_layers-requires-clause-small g c =
+    let few : c.args.log_h ≤ 63 = omega (arith, c.requires.small) in
+    let most : 2 ^ c.args.log_h ≤ 2 ^ 63 = pow-le-pow_right {n = 2} (lit≤ tt) few in
+    omega (arith, most)
+
+pub spread_tiles-requires-clause-first : goal.spread_tiles-requires-clause-first
+spread_tiles-requires-clause-first g c = first_is_one g.F.Field (λ (n : ℕ). g.F.Field.value (g.F.TwoAdicField.generator n)) c.args.log_h c.args.twiddles.now c.requires.some c.requires.twiddles
+
+pub spread_tiles-requires-clause-enough : goal.spread_tiles-requires-clause-enough
+spread_tiles-requires-clause-enough g c = enough_from_start g.F.Field (λ (n : ℕ). g.F.Field.value (g.F.TwoAdicField.generator n)) c.args.log_h c.args.twiddles.now c.requires.some c.requires.twiddles
+
+pub dif_layers-requires-clause-first : goal.dif_layers-requires-clause-first
+dif_layers-requires-clause-first g c = first_is_one g.F.Field (λ (n : ℕ). g.F.Field.value (g.F.TwoAdicField.generator n)) c.args.log_h c.args.twiddles.now c.requires.some c.requires.twiddles
+
+pub dif_layers-requires-clause-enough : goal.dif_layers-requires-clause-enough
+dif_layers-requires-clause-enough g c =
+    let enough = enough_from_start g.F.Field (λ (n : ℕ). g.F.Field.value (g.F.TwoAdicField.generator n)) c.args.log_h c.args.twiddles.now c.requires.some c.requires.twiddles in
+    omega (arith, enough)
+
+pub returns-clause-values : goal.returns-clause-values
+returns-clause-values g c r j below inside =
+    let field = g.F.Field in
+    let k = c.args.log_h in
+    let a = c.args.added_bits in
+    let m = k - a in
+    let w = c.args.width in
+    let gen = λ (n : ℕ). field.value (g.F.TwoAdicField.generator n) in
+    let roots = g.met.F.TwoAdicField.roots_law in
+    let fewer : 2 ^ m ≤ 2 ^ k = let less : m ≤ k = omega arith in pow-le-pow_right {n = 2} (lit≤ tt) less in
+    let added : a ≤ k = omega (arith, c.requires.added, c.requires.below) in
+    let row = λ (u q : ℕ). field.ring.mul (field.value (get_or c.args.rows.now (rev m q * w + u) field.ZERO)) (field.value (get_or c.args.weights.now (rev m q) field.ZERO)) in
+    let column = λ (u q : ℕ). first_of field.ring (2 ^ m) (row u) q in
+    let entry = λ (b : ℕ). field.value (get_or c.args.twiddles.now b field.ZERO) in
+    let cells = turned_cells field.ring roots k w column entry in
+    let layers = turned_layers field.ring roots k w column entry c.requires.wide c.requires.rooted (λ l b p q. c.requires.twiddles.entries l b p q) in
+    let middle : HoldsCells field.value field.ZERO 0 (cells c.args.log_rows) c.spread_tiles.new.values = c.spread_tiles.ensures.cells cells layers
+    (λ q t u among copy column_is.
+    let root = power field.ring (power field.ring (gen k) (rev m q)) t in
+    turned_cells_of_zeros field.ring roots k w column entry a added (λ v n after. first_behind field.ring (2 ^ m) (row v) n after) q t u copy column_is
+    ∙ ap (λ x. field.ring.mul x root) (first_inside field.ring (2 ^ m) (row u) (rev m q) (rev-lt m q)
+    ∙ ap (λ n. field.ring.mul (field.value (get_or c.args.rows.now (n * w + u) field.ZERO)) (field.value (get_or c.args.weights.now n field.ZERO))) (rev-rev m q among))
+    ∙ field.ring.mul_assoc (field.value (get_or c.args.rows.now (q * w + u) field.ZERO)) (field.value (get_or c.args.weights.now q field.ZERO)) root
+    ∙ ap (λ x. field.ring.mul (field.value (get_or c.args.rows.now (q * w + u) field.ZERO)) (field.ring.mul (field.value (get_or c.args.weights.now q field.ZERO)) x))
+    (sym (spread_root field gen k a c.args.twiddles.now added c.requires.some c.requires.twiddles q t among copy))) in
+    let done = run_whole field.value field.ZERO (cells k) (length c.spread_tiles.new.values) c.dif_layers.new.values
+    (c.dif_layers.ensures.cells k cells layers (omega arith) (whole_run field.value field.ZERO (cells c.args.log_rows) (length c.spread_tiles.new.values) c.spread_tiles.new.values middle)) in
+    done (r * w + j) (omega (arith, row_below r j w (2 ^ k) below inside, c.requires.size, c.dif_layers.auto.values, c.spread_tiles.auto.values))
+    ∙ turned_cells_end field.ring roots k w column entry r j below inside
+    ∙ poly_of_first field.ring (2 ^ m) (2 ^ k) (row j) (power field.ring (gen k) r) fewer
+
+pub returns-clause-count : goal.returns-clause-count
+returns-clause-count g c =
+    let len = length c.args.values.now in
+    let r = c.args.log_rows in
+    let k = c.args.log_h in
+    let a = c.args.added_bits in
+    let second : 2 * c.dif_layers.new.products ≤ 2 * c.spread_tiles.new.products + (k - r) * len =
+    subst (λ (n : ℕ). 2 * c.dif_layers.new.products ≤ 2 * c.spread_tiles.new.products + (k - r) * n) c.spread_tiles.auto.values c.dif_layers.ensures.count in
+    let all : (r - a + 2) * len + (k - r) * len ≡ (k - a + 2) * len =
+    let e : r - a + 2 + (k - r) ≡ k - a + 2 = omega (arith, c.requires.added, c.requires.below) in
+    let d : (r - a + 2) * len + (k - r) * len ≡ (r - a + 2 + (k - r)) * len = omega arith in
+    d ∙ ap (λ n. n * len) e in
+    omega (arith, c.spread_tiles.ensures.count, second, all)

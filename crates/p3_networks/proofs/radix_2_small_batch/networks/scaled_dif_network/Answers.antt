@@ -1,0 +1,81 @@
+use Rattle.std.proofs.Common.{◌≡◌, ℕ, ◌+◌, ◌-◌, ◌*◌, ◌^◌, ◌≤◌, length, get_or, ap, ◌∙◌, subst, arith, lit≤}
+use Rattle.std.proofs.Math.Nat.{pow-le-pow_right}
+use Rattle.std.proofs.lemmas.Nat.{pow_pos}
+use Rattle.p3_field.specs.Ring.{power}
+use Rattle.p3_field.proofs.Powers.{power-zero}
+use Rattle.p3_field.proofs.Roots.{inverse_root, inverse_roots}
+use Rattle.p3_matrix.specs.BitOrder.{rev}
+use Rattle.p3_matrix.proofs.BitReversal.{rev_of_zero, rev-rev}
+use Rattle.p3_networks.specs.Layers.{HoldsCells}
+use Rattle.p3_networks.proofs.Layers.Blocks.{row_below}
+use Rattle.p3_networks.proofs.Layers.Counts.{counted_twice, layers_joined, two_halves}
+use Rattle.p3_networks.proofs.Layers.Runs.{run_whole, whole_run}
+use Rattle.p3_networks.proofs.Networks.Cells.{turned_cells, turned_cells_end, turned_cells_start, turned_layers}
+use Rattle.p3_networks.proofs.radix_2_small_batch.networks.scaled_dif_network.Goals as goal
+
+pub dif_layers-requires-clause-small : goal.dif_layers-requires-clause-small
+dif_layers-requires-clause-small g c =
+    let few : c.args.log_h ≤ 63 = omega (arith, c.requires.small) in
+    let most : 2 ^ c.args.log_h ≤ 2 ^ 63 = pow-le-pow_right {n = 2} (lit≤ tt) few in
+    omega (arith, most)
+
+pub scaled_dif_tiles-requires-clause-first : goal.scaled_dif_tiles-requires-clause-first
+scaled_dif_tiles-requires-clause-first g c =
+    let field = g.F.Field in
+    let root = inverse_root field.ring (λ (n : ℕ). field.value (g.F.TwoAdicField.generator n)) 1 in
+    c.requires.twiddles.entries 0 0 (omega (arith, c.requires.some)) (pow_pos 0) ∙ ap (power field.ring root) (rev_of_zero 0) ∙ power-zero field.ring root
+
+pub scaled_dif_tiles-requires-clause-enough : goal.scaled_dif_tiles-requires-clause-enough
+scaled_dif_tiles-requires-clause-enough g c =
+    let k = c.args.log_h in
+    let size = c.requires.twiddles.size (k - 1) (omega (arith, c.requires.some)) in
+    let d = two_halves k (λ e. absurd (omega (arith, e, c.requires.some))) in
+    omega (arith, size, d)
+
+pub dif_layers-requires-clause-first : goal.dif_layers-requires-clause-first
+dif_layers-requires-clause-first g c =
+    let field = g.F.Field in
+    let root = inverse_root field.ring (λ (n : ℕ). field.value (g.F.TwoAdicField.generator n)) 1 in
+    c.requires.twiddles.entries 0 0 (omega (arith, c.requires.some)) (pow_pos 0) ∙ ap (power field.ring root) (rev_of_zero 0) ∙ power-zero field.ring root
+
+pub dif_layers-requires-clause-enough : goal.dif_layers-requires-clause-enough
+dif_layers-requires-clause-enough g c =
+    let k = c.args.log_h in
+    let size = c.requires.twiddles.size (k - 1) (omega (arith, c.requires.some)) in
+    let d = two_halves k (λ e. absurd (omega (arith, e, c.requires.some))) in
+    omega (arith, size, d)
+
+pub returns-clause-values : goal.returns-clause-values
+returns-clause-values g c r j below inside =
+    let field = g.F.Field in
+    let k = c.args.log_h in
+    let w = c.args.width in
+    let len = length c.args.values.now in
+    let roots = inverse_roots field.ring g.met.F.TwoAdicField.roots_law in
+    let scaled = λ (x : g.row.F.Denot). field.ring.mul (field.value x) (field.value c.args.scale) in
+    let column = λ (u q : ℕ). scaled (get_or c.args.values.now (rev k q * w + u) field.ZERO) in
+    let entry = λ (b : ℕ). field.value (get_or c.args.twiddles.now b field.ZERO) in
+    let cells = turned_cells field.ring roots k w column entry in
+    let layers = turned_layers field.ring roots k w column entry c.requires.wide c.requires.rooted (λ l b p q. c.requires.twiddles.entries l b p q) in
+    let start : HoldsCells scaled field.ZERO 0 (cells 0) c.args.values.now = λ i p.
+    turned_cells_start field.ring roots k w column entry c.requires.wide (λ n. scaled (get_or c.args.values.now n field.ZERO))
+    (λ q u small. ap (λ n. scaled (get_or c.args.values.now (n * w + u) field.ZERO)) (rev-rev k q small)) i (omega (arith, p, c.requires.size)) in
+    let middle : HoldsCells field.value field.ZERO 0 (cells c.args.log_rows) c.scaled_dif_tiles.new.values = c.scaled_dif_tiles.ensures.cells cells layers start in
+    let done = run_whole field.value field.ZERO (cells k) (length c.scaled_dif_tiles.new.values) c.dif_layers.new.values
+    (c.dif_layers.ensures.cells k cells layers (omega arith) (whole_run field.value field.ZERO (cells c.args.log_rows) (length c.scaled_dif_tiles.new.values) c.scaled_dif_tiles.new.values middle)) in
+    done (r * w + j) (omega (arith, row_below r j w (2 ^ k) below inside, c.requires.size, c.dif_layers.auto.values, c.scaled_dif_tiles.auto.values))
+    ∙ turned_cells_end field.ring roots k w column entry r j below inside
+
+pub returns-clause-cost : goal.returns-clause-cost
+returns-clause-cost g c =
+    let len = length c.args.values.now in
+    let r = c.args.log_rows in
+    let first : 2 * c.scaled_dif_tiles.new.products ≤ 2 * (c.args.products.now + len) + (c.args.log_h - (c.args.log_h - r)) * len =
+    let back : c.args.log_h - (c.args.log_h - r) ≡ r = omega (arith, c.requires.below) in
+    let spread : (r + 2) * len ≡ r * len + 2 * len = omega arith in
+    omega (arith, c.scaled_dif_tiles.ensures.count, spread, ap (λ n. n * len) back) in
+    let second : 2 * c.dif_layers.new.products ≤ 2 * c.scaled_dif_tiles.new.products + (c.args.log_h - r) * len =
+    subst (λ (n : ℕ). 2 * c.dif_layers.new.products ≤ 2 * c.scaled_dif_tiles.new.products + (c.args.log_h - r) * n) c.scaled_dif_tiles.auto.values c.dif_layers.ensures.count in
+    let all = counted_twice c.args.log_h c.args.width len (c.args.products.now + len) c.dif_layers.new.products c.requires.size
+    (layers_joined (c.args.log_h - r) c.args.log_h len (c.args.products.now + len) c.scaled_dif_tiles.new.products c.dif_layers.new.products (omega arith) first second) in
+    omega (arith, all, c.requires.size)

@@ -1,0 +1,26 @@
+use Rattle.std.proofs.Common.{◌≡◌, ◌+◌, ◌-◌, ◌^◌, ap, ◌∙◌, sym, arith, subst}
+use Rattle.p3_field.proofs.Roots.{inverse_roots}
+use Rattle.p3_networks.specs.Twiddles.{AreTwiddles, backward_root, block_powers, forward_root}
+use Rattle.p3_networks.proofs.Tables.FromStart.{from_start, powers_from_one}
+use Rattle.p3_networks.proofs.radix_2_small_batch.tables.Tables.make.Goals as goal
+
+pub inverse_powers-requires-clause-powers : goal.inverse_powers-requires-clause-powers
+inverse_powers-requires-clause-powers g c =
+    let field = g.F.Field in
+    let n = c.args.log_h - 1 in
+    let whole : c.args.log_h ≡ n + 1 = omega (arith, c.if-log_h-self.false) in
+    subst (λ xs. AreTwiddles field (2 ^ n) (block_powers field (forward_root field g.F.TwoAdicField.generator) n) xs) (sym c.as_slice.ensures.value)
+    (powers_from_one field (forward_root field g.F.TwoAdicField.generator) n (field.value c.ONE.result) (field.value c.two_adic_generator-generator.result) c.in_ok-forward.forward.items
+    (ap field.value c.ONE.ensures ∙ g.met.F.Field.one_law) (c.two_adic_generator-generator.ensures ∙ ap (λ k. field.value (g.F.TwoAdicField.generator k)) whole) c.in_ok-forward.ensures)
+
+pub invariant_of-self : goal.invariant_of-self
+invariant_of-self g c =
+    let field = g.F.Field in
+    let n = c.args.log_h - 1 in
+    let whole : c.args.log_h ≡ n + 1 = omega (arith, c.if-log_h-self.false) in (
+      from_start field (forward_root field g.F.TwoAdicField.generator) g.met.F.TwoAdicField.roots_law c.args.log_h c.in_ok-forward.forward.items c.requires.within
+          (powers_from_one field (forward_root field g.F.TwoAdicField.generator) n (field.value c.ONE.result) (field.value c.two_adic_generator-generator.result) c.in_ok-forward.forward.items
+          (ap field.value c.ONE.ensures ∙ g.met.F.Field.one_law) (c.two_adic_generator-generator.ensures ∙ ap (λ k. field.value (g.F.TwoAdicField.generator k)) whole) c.in_ok-forward.ensures),
+      from_start field (backward_root field g.F.TwoAdicField.generator) (inverse_roots field.ring g.met.F.TwoAdicField.roots_law) c.args.log_h c.in_ok-backward.backward.items c.requires.within
+          c.in_ok-backward.ensures,
+    )

@@ -1,0 +1,84 @@
+use Rattle.std.proofs.Common.{◌≡◌, ℕ, ◌+◌, ◌*◌, ◌-◌, ◌%◌, ◌^◌, ◌<◌, ◌≤◌, [], ◌∷◌, ◌++◌, suc, length, get_or, refl, sym, ap, ap₂, ◌∙◌, arith, lit≤, length-append}
+use Rattle.std.proofs.Math.Nat.{pow-le-pow_right, two-pow-succ}
+use Rattle.std.proofs.lemmas.List.{get_or_push, get_or_read_under}
+use borrow.Author.Count.{below_more}
+use Rattle.std.proofs.lemmas.Nat.{one_shl}
+use Rattle.p3_field.specs.Ring.{power}
+use Rattle.p3_field.proofs.Powers.{power-zero}
+use Rattle.p3_field.proofs.Roots.{inverse_root}
+use Rattle.p3_matrix.specs.BitOrder.{rev}
+use Rattle.p3_matrix.proofs.BitReversal.{rev_of_zero}
+use Rattle.p3_matrix.proofs.TwoPowers.{log_lt}
+use Rattle.p3_networks.specs.Twiddles.{backward_root, block_powers}
+use Rattle.p3_networks.proofs.Tables.InversePowers.{inverse_entry}
+use Rattle.p3_networks.proofs.Layers.Halves.{in_first}
+use Rattle.p3_networks.proofs.radix_2_small_batch.tables.inverse_powers.Goals as goal
+
+-- the run of place b lies within half the powers, and so does the place that b changes with
+record IsRun (n p b run : ℕ) : Type 0 where
+  is : run ≡ 2 ^ p
+  within : p < n
+  room : 2 * run ≤ 2 ^ n
+  half : run < 2 ^ 62
+
+run_of : (n p b len : ℕ) → n < 63 → len ≡ 2 ^ n → 2 ^ p ≤ b → b < len → p < 64 → IsRun n p b (1 * 2 ^ p % 18446744073709551616)
+run_of n p b len small full from inside bound =
+    let is : 1 * 2 ^ p % 18446744073709551616 ≡ 2 ^ p = one_shl p 64 bound in
+    let within : p < n = log_lt p n (omega (arith, from, inside, full)) in
+    let rise : 2 ^ suc p ≤ 2 ^ n = pow-le-pow_right {n = 2} (lit≤ tt) within in
+    let few : n ≤ 62 = omega (arith, small) in
+    let most : 2 ^ n ≤ 2 ^ 62 = pow-le-pow_right {n = 2} (lit≤ tt) few in
+    record { is = is; within = within; room = omega (arith, rise, two-pow-succ p, is); half = omega (arith, rise, most, two-pow-succ p, is) }
+
+pub loop-b-init : goal.loop-b-init
+loop-b-init g c =
+    let field = g.F.Field in
+    let n = c.args.log_h - 1 in
+    let root = inverse_root field.ring (λ k. field.value (g.F.TwoAdicField.generator k)) (n + 1) in
+    let now : c.push.new.self.items ≡ c.ONE.result ∷ [] = c.in_ok-push.ensures.items ∙ ap (λ xs. xs ++ c.ONE.result ∷ []) c.in_ok-inverse.ensures.items in
+    record {
+      size = ap length now;
+      entries = λ b below.
+          let none : b ≡ 0 = omega arith in
+          ap₂ (λ xs k. field.value (get_or xs k field.ZERO)) now none ∙ ap field.value c.ONE.ensures ∙ g.met.F.Field.one_law
+          ∙ sym (ap (power field.ring root) (ap (rev n) none ∙ rev_of_zero n) ∙ power-zero field.ring root);
+    }
+
+pub overflow_mul-run : goal.overflow_mul-run
+overflow_mul-run g c =
+    let run = run_of (c.args.log_h - 1) c.ilog2.result c.loop-b.b _ (omega (arith, c.requires.some, c.requires.small)) c.requires.powers.size c.ilog2.ensures.power_le c.loop-b-test.true c.ilog2.ensures.bound in
+    omega (arith, run.half)
+
+pub offset_bounds-powers-run : goal.offset_bounds-powers-run
+offset_bounds-powers-run g c =
+    let run = run_of (c.args.log_h - 1) c.ilog2.result c.loop-b.b _ (omega (arith, c.requires.some, c.requires.small)) c.requires.powers.size c.ilog2.ensures.power_le c.loop-b-test.true c.ilog2.ensures.bound in
+    omega (arith, run.room, run.is, c.requires.powers.size, c.ilog2.ensures.power_le)
+
+pub bounds-powers-run : goal.bounds-powers-run
+bounds-powers-run g c =
+    let run = run_of (c.args.log_h - 1) c.ilog2.result c.loop-b.b _ (omega (arith, c.requires.some, c.requires.small)) c.requires.powers.size c.ilog2.ensures.power_le c.loop-b-test.true c.ilog2.ensures.bound in
+    omega (arith, run.room, run.is, c.requires.powers.size, c.ilog2.ensures.power_le, c.loop-b.auto.b)
+
+pub loop-b-preserved : goal.loop-b-preserved
+loop-b-preserved g c =
+    let field = g.F.Field in
+    let gen = λ (k : ℕ). field.value (g.F.TwoAdicField.generator k) in
+    let n = c.args.log_h - 1 in
+    let b = c.loop-b.b in
+    let before = c.loop-b.inverse.items in
+    let run = run_of n c.ilog2.result b _ (omega (arith, c.requires.some, c.requires.small)) c.requires.powers.size c.ilog2.ensures.power_le c.loop-b-test.true c.ilog2.ensures.bound in
+    let now : c.push-in-loop-b.new.self.items ≡ before ++ c.neg.result ∷ [] = c.in_ok-push-2.ensures.items in
+    let place : 3 * (1 * 2 ^ c.ilog2.result % 18446744073709551616) - 1 - b ≡ 3 * 2 ^ c.ilog2.result - 1 - b = ap (λ x. 3 * x - 1 - b) run.is in
+    let entry : field.value c.neg.result ≡ block_powers field (backward_root field g.F.TwoAdicField.generator) n b =
+    g.met.F.Field.neg_law _ _ c.neg.ensures
+    ∙ ap (λ x. field.ring.neg (field.value x)) (get_or_read_under c.args.powers.now (3 * (1 * 2 ^ c.ilog2.result % 18446744073709551616) - 1 - b) _ _ field.ZERO c.index-powers-run.is
+    (omega (arith, run.room, run.is, c.requires.powers.size, c.ilog2.ensures.power_le, c.loop-b.auto.b)) refl)
+    ∙ ap (λ x. field.ring.neg (field.value (get_or c.args.powers.now x field.ZERO))) place
+    ∙ ap field.ring.neg (c.requires.powers.entries (3 * 2 ^ c.ilog2.result - 1 - b) (omega (arith, run.room, run.is, c.ilog2.ensures.power_le, c.loop-b.auto.b)))
+    ∙ inverse_entry field.ring g.met.F.TwoAdicField.roots_law n c.ilog2.result b (omega (arith, c.requires.some, c.requires.rooted)) run.within c.ilog2.ensures.power_le c.ilog2.ensures.next_power_gt in
+    record {
+      size = ap length now ∙ length-append before (c.neg.result ∷ []) ∙ ap (λ k. k + 1) c.loop-b.invariant.size;
+      entries = below_more (λ e. field.value (get_or c.push-in-loop-b.new.self.items e field.ZERO) ≡ block_powers field (backward_root field g.F.TwoAdicField.generator) n e) b
+          (λ e below. ap (λ xs. field.value (get_or xs e field.ZERO)) now ∙ ap field.value (in_first before (c.neg.result ∷ []) e field.ZERO (omega (arith, below, c.loop-b.invariant.size))) ∙ c.loop-b.invariant.entries e below)
+          (ap (λ xs. field.value (get_or xs b field.ZERO)) now ∙ ap field.value (get_or_push before c.neg.result field.ZERO b c.loop-b.invariant.size) ∙ entry);
+    }

@@ -1,0 +1,7 @@
+use Rattle.std.proofs.Common.{◌-◌}
+use Rattle.p3_networks.specs.Twiddles.{AreTwiddles, backward_root, block_powers}
+use Rattle.p3_networks.proofs.radix_2_small_batch.tables.inverse_powers.Given as goal
+
+-- the first b of them are there
+abbrev pub invariant-loop-b : goal.invariant-loop-b
+invariant-loop-b g l = AreTwiddles g.F.Field l.b (block_powers g.F.Field (backward_root g.F.Field g.F.TwoAdicField.generator) (l.fn.log_h - 1)) l.inverse.items

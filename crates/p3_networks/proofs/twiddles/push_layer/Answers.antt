@@ -1,0 +1,55 @@
+use Rattle.std.proofs.Common.{◌≡◌, ℕ, ◌+◌, ◌*◌, ◌^◌, [], ◌∷◌, ◌++◌, length, get_or, sym, ap, ◌∙◌, arith, add-one, length-append}
+use Rattle.std.proofs.lemmas.List.{get_or_push}
+use Rattle.p3_field.specs.Ring.{power}
+use Rattle.p3_field.proofs.Powers.{power-zero}
+use Rattle.p3_networks.specs.Twiddles.{layer_place}
+use Rattle.p3_networks.proofs.Tables.ReversedPowers.{powers_doubled, place_above, place_of_none, layer_step}
+use Rattle.p3_networks.proofs.Layers.Halves.{in_first}
+use Rattle.p3_networks.proofs.twiddles.push_layer.Goals as goal
+use Rattle.p3_networks.proofs.twiddles.push_layer.Goals.{then-reversed, else-reversed}
+
+pub loop-l-init : goal.loop-l-init
+loop-l-init g c =
+    let field = g.F.Field in
+    let old = c.args.twiddles.now.items in
+    let first = c.args.first in
+    let now : c.push.new.self.items ≡ old ++ first ∷ [] = c.in_ok-push.ensures.items in
+    record {
+      size = ap length now ∙ length-append old (first ∷ []);
+      before = λ n below. ap (λ xs. get_or xs n field.ZERO) now ∙ in_first old (first ∷ []) n field.ZERO below;
+      entries = λ e below.
+          let none : e ≡ 0 = omega (arith, below) in
+          let last : length old + e ≡ length old = omega (arith, none) in
+          ap (λ xs. field.value (get_or xs (length old + e) field.ZERO)) now ∙ ap field.value (get_or_push old first field.ZERO (length old + e) (sym last))
+          ∙ sym (ap (λ n. field.ring.mul (field.value first) (power field.ring (field.value c.args.base) n)) (ap (layer_place c.args.reversed c.args.bits) none ∙ place_of_none c.args.reversed c.args.bits)
+          ∙ ap (field.ring.mul (field.value first)) (power-zero field.ring (field.value c.args.base)) ∙ field.ring.mul_one (field.value first));
+    }
+
+pub loop-l-preserved : goal.loop-l-preserved
+loop-l-preserved g c =
+    let field = g.F.Field in
+    let l = c.loop-l.l in
+    let n = c.args.bits in
+    let old = c.args.twiddles.now.items in
+    let before = c.loop-l.twiddles.items in
+    let now = c.push_multiples.new.elements.items in
+    let start : c.len-start.result ≡ length old = omega (arith, c.len-start.ensures, c.args.twiddles.now.ok) in
+    let size = c.loop-l.invariant.size in
+    let entry = λ (b : ℕ). field.value (get_or now (length old + b) field.ZERO) in
+    let twice : 2 ^ (l + 1) ≡ 2 * 2 ^ l = ap (λ k. 2 ^ k) (add-one l) ∙ omega arith in
+    let step : c.if-reversed.exp_power_of_2 ≡ layer_step c.args.reversed n l =
+    elim c.if-reversed.branch [ then-reversed w ↦ w.exp_power_of_2-is ∙ ap (λ b. layer_step b n l) (sym w.if-reversed.true) | else-reversed w ↦ w.exp_power_of_2-is ∙ ap (λ b. layer_step b n l) (sym w.if-reversed.false) ] in
+    record {
+      size = let longer = c.in_ok-push_multiples.ensures.size in omega (arith, longer, size, start, twice);
+      before = λ i below. c.in_ok-push_multiples.ensures.before i (omega (arith, below, size)) ∙ c.loop-l.invariant.before i below;
+      entries = powers_doubled field.ring (field.value c.args.first) (field.value c.args.base) (field.value c.exp_power_of_2-factor.result) (layer_place c.args.reversed n) l (layer_step c.args.reversed n l)
+          (λ b. field.value (get_or before (length old + b) field.ZERO)) entry
+          (c.exp_power_of_2-factor.ensures ∙ ap (λ e. power field.ring (field.value c.args.base) (2 ^ e)) step)
+          (λ b below. place_above c.args.reversed n l b c.loop-l-test.true below) c.loop-l.invariant.entries
+          (λ b below. ap field.value (c.in_ok-push_multiples.ensures.before (length old + b) (omega (arith, below, size))))
+          (λ b below.
+          let place : length old + (2 ^ l + b) ≡ length before + b = omega (arith, size) in
+          let from : c.len-start.result + b ≡ length old + b = omega (arith, start) in
+          ap (λ k. field.value (get_or now k field.ZERO)) place ∙ c.in_ok-push_multiples.ensures.after b (omega (arith, below, size, start))
+          ∙ ap (λ k. field.ring.mul (field.value (get_or before k field.ZERO)) (field.value c.exp_power_of_2-factor.result)) from);
+    }

@@ -1,0 +1,21 @@
+-- Layers of butterflies on cells that lie one after another, w of them in each row.
+use Rattle.std.specs.Prelude.{◌≡◌, ℕ, ◌+◌, ◌-◌, ◌*◌, ◌^◌, ◌<◌, List, length, get_or}
+use Rattle.p3_field.specs.declared.fields.Field.{Ghosts as FieldMembers}
+use Rattle.p3_networks.specs.Polynomials.{poly}
+
+-- Layer e of k takes the cells `before e` to `after e`, for each e. The 2 ^ k rows come in blocks of two halves of 2 ^ e rows. In
+-- block b each cell of the first half meets its like in the second: near stands in the first of them, far in the other.
+pub record AreLayers {A : Type 0} (k w : ℕ) (near far : ℕ → A → A → A) (before after : ℕ → ℕ → A) : Type 0 where
+  pub near_cell : (e b i : ℕ) → e < k → b < 2 ^ (k - 1 - e) → i < 2 ^ e * w
+      → after e (b * (2 * (2 ^ e * w)) + i) ≡ near b (before e (b * (2 * (2 ^ e * w)) + i)) (before e (b * (2 * (2 ^ e * w)) + (2 ^ e * w + i)))
+  pub far_cell : (e b i : ℕ) → e < k → b < 2 ^ (k - 1 - e) → i < 2 ^ e * w
+      → after e (b * (2 * (2 ^ e * w)) + (2 ^ e * w + i)) ≡ far b (before e (b * (2 * (2 ^ e * w)) + i)) (before e (b * (2 * (2 ^ e * w)) + (2 ^ e * w + i)))
+
+-- a list holds the cells from number `first` on
+abbrev pub HoldsCells : {T A : Type 0} → (T → A) → T → ℕ → (ℕ → A) → List T → Type 0
+HoldsCells value d first cells xs = (i : ℕ) → i < length xs → value (get_or xs i d) ≡ cells (first + i)
+
+-- on rows of w entries, one after another: row r of after has the values at point r of the columns of before, whose coefficient q lies in row place q
+abbrev pub AreValuesOfRows : {F : Type 0} (f : FieldMembers F) → ℕ → ℕ → (ℕ → ℕ) → (ℕ → f.Element) → List F → List F → Type 0
+AreValuesOfRows f w n place point before after = (r j : ℕ) → r < n → j < w → f.value (get_or after (r * w + j) f.ZERO)
+    ≡ poly f.ring n (λ q. f.value (get_or before (place q * w + j) f.ZERO)) (point r)

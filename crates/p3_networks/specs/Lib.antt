@@ -1,0 +1,4 @@
+pub mod Cosets
+pub mod Layers
+pub mod Polynomials
+pub mod Twiddles

@@ -1,0 +1,110 @@
+-- The twiddles that an engine keeps, and what such an engine shows of itself.
+use Rattle.std.specs.Prelude.{◌≡◌, ℕ, ◌+◌, ◌-◌, ◌*◌, ◌^◌, ◌/◌, ◌<◌, ◌≤◌, leb, List, [], length, get_or, take, drop, Bool, if◌then◌else◌, Option, Some, None, Vec}
+use Rattle.p3_field.specs.Ring.{power}
+use Rattle.p3_field.specs.declared.fields.Field.{Ghosts as FieldMembers}
+use Rattle.p3_matrix.specs.BitOrder.{rev}
+
+module _ {F : Type 0} (f : FieldMembers F) where
+  -- a table of the n values p 0, p 1, ..
+  pub record AreTwiddles (n : ℕ) (p : ℕ → f.Element) (twiddles : List F) : Type 0 where
+    pub size : length twiddles ≡ n
+    pub entries : (e : ℕ) → e < n → f.value (get_or twiddles e f.ZERO) ≡ p e
+
+  -- tables one after another, one for each layer l below log: it begins at place 2 ^ l - 1 and has the 2 ^ l values p l 0, p l 1, ..
+  pub record AreTwiddlesOfLayers (log : ℕ) (p : ℕ → ℕ → f.Element) (twiddles : List F) : Type 0 where
+    pub size : 2 ^ log - 1 ≤ length twiddles
+    pub layers : (l : ℕ) → l < log → AreTwiddles (2 ^ l) (p l) (take (2 ^ l) (drop (2 ^ l - 1) twiddles))
+
+  -- in layer l: the powers of the generator of order 2 ^ (l + 1)
+  abbrev pub layer_powers : (ℕ → F) → ℕ → ℕ → f.Element
+  layer_powers generator l t = power f.ring (f.value (generator (l + 1))) t
+
+  -- in layer l of log, on the coset of s: the powers of the root of order 2 ^ (l + 1), each times s ^ (2 ^ (log - 1 - l))
+  abbrev pub coset_twiddles : (ℕ → f.Element) → f.Element → ℕ → ℕ → ℕ → f.Element
+  coset_twiddles g s log l t = f.ring.mul (power f.ring s (2 ^ (log - 1 - l))) (power f.ring (g (l + 1)) t)
+
+  -- one table for all layers l below log: those of layer l are its first 2 ^ l entries, p l 0, p l 1, ..
+  pub record AreTwiddlesFromStart (log : ℕ) (p : ℕ → ℕ → f.Element) (twiddles : List F) : Type 0 where
+    pub size : (l : ℕ) → l < log → 2 ^ l ≤ length twiddles
+    pub entries : (l b : ℕ) → l < log → b < 2 ^ l → f.value (get_or twiddles b f.ZERO) ≡ p l b
+
+  -- in a layer of 2 ^ l blocks: the powers of the root of order 2 ^ (l + 1), in bit reversed order
+  abbrev pub block_powers : (ℕ → f.Element) → ℕ → ℕ → f.Element
+  block_powers root l b = power f.ring (root (l + 1)) (rev l b)
+
+  -- the generators, and their inverses
+  abbrev pub forward_root : (ℕ → F) → ℕ → f.Element
+  forward_root generator n = f.value (generator n)
+
+  abbrev pub backward_root : (ℕ → F) → ℕ → f.Element
+  backward_root generator n = power f.ring (f.value (generator n)) (2 ^ n - 1)
+
+-- the entries of layer l for its blocks: those of a table of its own where such tables lie one after another, else the first 2 ^ l
+abbrev pub block_entries : {T : Type 0} → Bool → ℕ → List T → List T
+block_entries by_layer l xs = if by_layer then take (2 ^ l) (drop (2 ^ l - 1) xs) else take (2 ^ l) xs
+
+-- where they end
+abbrev pub block_end : Bool → ℕ → ℕ
+block_end by_layer l = if by_layer then 2 * 2 ^ l - 1 else 2 ^ l
+
+-- in each layer of log from first on: block b has the entry of the coset of s with the l digits of b in reverse
+abbrev pub AreBlockTwiddles : {F : Type 0} (f : FieldMembers F) → (ℕ → f.Element) → f.Element → ℕ → ℕ → Bool → List F → Type 0
+AreBlockTwiddles f g s first log by_layer twiddles = (l : ℕ) → first ≤ l → l < log
+    → AreTwiddles f (2 ^ l) (λ b. coset_twiddles f g s log l (rev l b)) (block_entries by_layer l twiddles)
+
+-- what is held, if anything is
+abbrev pub items_if_any : {T Z : Type 0} → Option (Vec T Z) → List T
+items_if_any None = []
+items_if_any (Some v) = v.items
+
+-- the generator of order 2 ^ n, or its inverse
+abbrev pub root_of : {F : Type 0} (f : FieldMembers F) → (ℕ → F) → Bool → ℕ → f.Element
+root_of f generator inverse n = if inverse then backward_root f generator n else forward_root f generator n
+
+-- in layer l: the powers of that of order 2 ^ (l + 1)
+abbrev pub root_powers : {F : Type 0} (f : FieldMembers F) → (ℕ → F) → Bool → ℕ → ℕ → f.Element
+root_powers f generator inverse l t = power f.ring (root_of f generator inverse (l + 1)) t
+
+-- tables of the powers of the generators, or of their inverses, for all heights up to 2 ^ log_h
+pub record RootsUpTo : Type 0 where
+  pub inverse : Bool
+  pub log_h : ℕ
+
+-- half the powers of that of order 2 ^ log_h, in bit reversed order
+abbrev pub reversed_root_powers : {F : Type 0} (f : FieldMembers F) → (ℕ → F) → Bool → ℕ → ℕ → f.Element
+reversed_root_powers f generator inverse log_h b = power f.ring (root_of f generator inverse log_h) (rev (log_h - 1) b)
+
+-- where an entry of a layer of 2 ^ l comes from: its own place, or that with the l digits in reverse
+abbrev pub layer_place : Bool → ℕ → ℕ → ℕ
+layer_place reversed l t = if reversed then rev l t else t
+
+-- the table of the coset of s of order 2 ^ log: layer after layer, in natural order in the first half of the layers, and in bit reversed order in the second
+abbrev pub IsCosetTable : {F : Type 0} (f : FieldMembers F) → (ℕ → F) → f.Element → ℕ → List F → Type 0
+IsCosetTable f generator s log twiddles = AreTwiddlesOfLayers f log (λ l t. coset_twiddles f (forward_root f generator) s log l (layer_place (leb ((log + 1) / 2) l) l t)) twiddles
+
+-- a coset: the logarithm of its order, and its shift
+pub record Coset (F : Type 0) : Type 0 where
+  pub log_h : ℕ
+  pub shift : F
+
+-- it is the coset of s of order 2 ^ k
+abbrev pub IsCosetOf : {F : Type 0} (f : FieldMembers F) → ℕ → f.Element → Coset F → Type 0
+IsCosetOf f k s coset = (coset.log_h ≡ k) × (f.value coset.shift ≡ s)
+
+-- that coset is in a place of a list
+abbrev pub IsCosetAt : {F : Type 0} (f : FieldMembers F) → List (Coset F) → ℕ → f.Element → ℕ → Type 0
+IsCosetAt {F} f cosets k s i = (i < length cosets) × ((d : Coset F) → IsCosetOf f k s (get_or cosets i d))
+
+-- or in any
+abbrev pub HasCoset : {F : Type 0} (f : FieldMembers F) → List (Coset F) → ℕ → f.Element → Type 0
+HasCoset f cosets k s = (i : ℕ) × IsCosetAt f cosets k s i
+
+-- the number by which rows are multiplied, if there is one
+abbrev pub factor : {F : Type 0} (f : FieldMembers F) → Option F → f.Element
+factor f None = f.ring.one
+factor f (Some s) = f.value s
+
+-- and what that adds to the products of an entry
+abbrev pub scale_cost : {F : Type 0} → Option F → ℕ
+scale_cost None = 0
+scale_cost (Some s) = 1

@@ -1,0 +1,232 @@
+//! Layers of the networks, on rows that lie one after the other in a slice.
+
+ghost use Rattle.std.specs.Prelude.{◌≡◌, ◌↔◌, ℕ, ◌+◌, ◌*◌, ◌/◌, ◌^◌, ◌<◌, ◌≤◌, Bool, IsTrue, List, length, get_or};
+ghost use Rattle.p3_field.specs.Ring.{Ring};
+
+pub mod rules;
+
+use p3_field::{PackedField, Products, TwoAdicField};
+
+/// Which butterfly meets a pair of rows: that of place t in block b.
+///
+/// Contracts name what stands in the near and in the far row by the number of the block, the place in
+/// it and the entries that meet, over any ring.
+pub trait Rule<F: TwoAdicField>: Copy {
+    ghost near: { (A : Type 0) → Ring A → (F → A) → Self → ℕ → ℕ → A → A → A };
+
+    ghost far: { (A : Type 0) → Ring A → (F → A) → Self → ℕ → ℕ → A → A → A };
+
+    // A pair of entries takes at most so many products.
+    ghost cost: { ℕ };
+
+    // Whether the rule has a butterfly for the pair.
+    ghost has: { Self → ℕ → ℕ → Type 0 };
+
+    // Whether every pair of a block has one butterfly.
+    ghost by_block: { Bool };
+
+    // Whether it has: the halves of a block then meet as two long rows.
+    fn goes_by_block(self) -> bool
+        ensures told { result ≡ by_block }
+        ensures same { let value = F.value in IsTrue result → (b s t : ℕ)
+            → (near F.Element F.ring value self b s ≡ near F.Element F.ring value self b t)
+            × (far F.Element F.ring value self b s ≡ far F.Element F.ring value self b t) };
+
+    // Takes two rows of one length to the near and the far row in their places.
+    fn meet(
+        self,
+        block: usize,
+        place: usize,
+        row_1: &mut [F],
+        row_2: &mut [F],
+        products: &mut Products,
+    )
+        requires there { has self block place }
+        requires size { length row_1.old ≡ length row_2.old }
+        ensures near { (j : ℕ) → j < length row_1.old → F.value (get_or row_1.new j F.ZERO)
+            ≡ near F.Element F.ring F.value self block place (F.value (get_or row_1.old j F.ZERO)) (F.value (get_or row_2.old j F.ZERO)) }
+        ensures far { (j : ℕ) → j < length row_1.old → F.value (get_or row_2.new j F.ZERO)
+            ≡ far F.Element F.ring F.value self block place (F.value (get_or row_1.old j F.ZERO)) (F.value (get_or row_2.old j F.ZERO)) }
+        ensures grows { products.old ≤ products.new }
+        ensures count { products.new ≤ products.old + cost * length row_1.old };
+
+    // Takes the halves of a block of one column, whose place t is entry t, to the near and the far
+    // half in their places.
+    fn meet_column(self, block: usize, low: &mut [F], high: &mut [F], products: &mut Products)
+        requires some { 1 ≤ length low.old }
+        requires size { length low.old ≡ length high.old }
+        requires there { (t : ℕ) → t < length low.old → has self block t }
+        ensures near { (t : ℕ) → t < length low.old → F.value (get_or low.new t F.ZERO)
+            ≡ near F.Element F.ring F.value self block t (F.value (get_or low.old t F.ZERO)) (F.value (get_or high.old t F.ZERO)) }
+        ensures far { (t : ℕ) → t < length low.old → F.value (get_or high.new t F.ZERO)
+            ≡ far F.Element F.ring F.value self block t (F.value (get_or low.old t F.ZERO)) (F.value (get_or high.old t F.ZERO)) }
+        ensures grows { products.old ≤ products.new }
+        ensures count { products.new ≤ products.old + cost * length low.old };
+}
+
+/// Blocks of a layer. The rows come in blocks of two halves, of `half` rows each, and row t of the
+/// first half of a block meets row t of the second as the rule says. The blocks that are handed over
+/// are those from number `first_block` on.
+///
+/// Cell i of a half stands in row `i / width` of it.
+///
+/// Inlined, so that a width that the caller names is known in the loops.
+#[inline(always)]
+pub fn layer<F: TwoAdicField, R: Rule<F>>(
+    rule: R,
+    values: &mut [F],
+    width: usize,
+    half: usize,
+    first_block: usize,
+    blocks: usize,
+    products: &mut Products,
+)
+    requires wide { 1 ≤ width }
+    requires some { 1 ≤ half }
+    requires blocks { 1 ≤ blocks }
+    requires numbers { first_block + blocks < 2 ^ 64 }
+    requires size { length values.old ≡ blocks * (2 * (half * width)) }
+    requires there { (b t : ℕ) → b < blocks → t < half → R.has rule (first_block + b) t }
+    ensures near { let cell = λ (xs : List F) (n : ℕ). F.value (get_or xs n F.ZERO) in
+        let size = half * width in
+        (b i : ℕ) → b < blocks → i < size → cell values.new (b * (2 * size) + i)
+        ≡ R.near F.Element F.ring F.value rule (first_block + b) (i / width)
+        (cell values.old (b * (2 * size) + i)) (cell values.old (b * (2 * size) + (size + i))) }
+    ensures far { let cell = λ (xs : List F) (n : ℕ). F.value (get_or xs n F.ZERO) in
+        let size = half * width in
+        (b i : ℕ) → b < blocks → i < size → cell values.new (b * (2 * size) + (size + i))
+        ≡ R.far F.Element F.ring F.value rule (first_block + b) (i / width)
+        (cell values.old (b * (2 * size) + i)) (cell values.old (b * (2 * size) + (size + i))) }
+    ensures grows { products.old ≤ products.new }
+    ensures count { products.new ≤ products.old + R.cost * (blocks * (half * width)) }
+{
+    // In a column whose halves are no full packs, the loops of a block of known size are unrolled.
+    if width == 1 && half == 1 {
+        meet_blocks(rule, values, 1, 1, first_block, blocks, products);
+    } else if width == 1 && half == 2 {
+        meet_blocks(rule, values, 1, 2, first_block, blocks, products);
+    } else if width == 1 && half == 4 {
+        meet_blocks(rule, values, 1, 4, first_block, blocks, products);
+    } else {
+        meet_blocks(rule, values, width, half, first_block, blocks, products);
+    }
+}
+
+// The same, block after block.
+#[inline(always)]
+fn meet_blocks<F: TwoAdicField, R: Rule<F>>(
+    rule: R,
+    values: &mut [F],
+    width: usize,
+    half: usize,
+    first_block: usize,
+    blocks: usize,
+    products: &mut Products,
+)
+    requires wide { 1 ≤ width }
+    requires some { 1 ≤ half }
+    requires blocks { 1 ≤ blocks }
+    requires numbers { first_block + blocks < 2 ^ 64 }
+    requires size { length values.old ≡ blocks * (2 * (half * width)) }
+    requires there { (b t : ℕ) → b < blocks → t < half → R.has rule (first_block + b) t }
+    ensures near { let cell = λ (xs : List F) (n : ℕ). F.value (get_or xs n F.ZERO) in
+        let size = half * width in
+        (b i : ℕ) → b < blocks → i < size → cell values.new (b * (2 * size) + i)
+        ≡ R.near F.Element F.ring F.value rule (first_block + b) (i / width)
+        (cell values.old (b * (2 * size) + i)) (cell values.old (b * (2 * size) + (size + i))) }
+    ensures far { let cell = λ (xs : List F) (n : ℕ). F.value (get_or xs n F.ZERO) in
+        let size = half * width in
+        (b i : ℕ) → b < blocks → i < size → cell values.new (b * (2 * size) + (size + i))
+        ≡ R.far F.Element F.ring F.value rule (first_block + b) (i / width)
+        (cell values.old (b * (2 * size) + i)) (cell values.old (b * (2 * size) + (size + i))) }
+    ensures grows { products.old ≤ products.new }
+    ensures count { products.new ≤ products.old + R.cost * (blocks * (half * width)) }
+{
+    let size = 2 * (half * width);
+    for b in 0..blocks {
+        let start = b * size;
+        let block = &mut values[start..start + size];
+        meet_block(rule, block, width, half, first_block + b, products);
+    }
+}
+
+// One block of a layer.
+#[inline(always)]
+fn meet_block<F: TwoAdicField, R: Rule<F>>(
+    rule: R,
+    values: &mut [F],
+    width: usize,
+    half: usize,
+    block: usize,
+    products: &mut Products,
+)
+    requires wide { 1 ≤ width }
+    requires some { 1 ≤ half }
+    requires size { length values.old ≡ 2 * (half * width) }
+    requires there { (t : ℕ) → t < half → R.has rule block t }
+    ensures near { let cell = λ (xs : List F) (n : ℕ). F.value (get_or xs n F.ZERO) in
+        let size = half * width in
+        (i : ℕ) → i < size → cell values.new i
+        ≡ R.near F.Element F.ring F.value rule block (i / width) (cell values.old i) (cell values.old (size + i)) }
+    ensures far { let cell = λ (xs : List F) (n : ℕ). F.value (get_or xs n F.ZERO) in
+        let size = half * width in
+        (i : ℕ) → i < size → cell values.new (size + i)
+        ≡ R.far F.Element F.ring F.value rule block (i / width) (cell values.old i) (cell values.old (size + i)) }
+    ensures grows { products.old ≤ products.new }
+    ensures count { products.new ≤ products.old + R.cost * (half * width) }
+{
+    let (low, high) = values.split_at_mut(half * width);
+    if rule.goes_by_block() {
+        rule.meet(block, 0, low, high, products);
+    } else if is_column_of_packs::<F>(width, half) {
+        rule.meet_column(block, low, high, products);
+    } else {
+        meet_halves(rule, low, high, width, half, block, products);
+    }
+}
+
+// Whether the halves of a block are one column each that fills a pack.
+fn is_column_of_packs<F: TwoAdicField>(width: usize, half: usize) -> bool
+    ensures { IsTrue result ↔ ((width ≡ 1) × (F.Packing.WIDTH ≤ half)) }
+{
+    width == 1 && half >= F::Packing::WIDTH
+}
+
+// The rows of the two halves of a block, pair by pair.
+#[inline(always)]
+fn meet_halves<F: TwoAdicField, R: Rule<F>>(
+    rule: R,
+    low: &mut [F],
+    high: &mut [F],
+    width: usize,
+    half: usize,
+    block: usize,
+    products: &mut Products,
+)
+    requires some { 1 ≤ half }
+    requires low { length low.old ≡ half * width }
+    requires high { length high.old ≡ half * width }
+    requires there { (t : ℕ) → t < half → R.has rule block t }
+    ensures near { let cell = λ (xs : List F) (n : ℕ). F.value (get_or xs n F.ZERO) in
+        (t j : ℕ) → t < half → j < width → cell low.new (t * width + j)
+        ≡ R.near F.Element F.ring F.value rule block t (cell low.old (t * width + j)) (cell high.old (t * width + j)) }
+    ensures far { let cell = λ (xs : List F) (n : ℕ). F.value (get_or xs n F.ZERO) in
+        (t j : ℕ) → t < half → j < width → cell high.new (t * width + j)
+        ≡ R.far F.Element F.ring F.value rule block t (cell low.old (t * width + j)) (cell high.old (t * width + j)) }
+    ensures grows { products.old ≤ products.new }
+    ensures count { products.new ≤ products.old + R.cost * (half * width) }
+{
+    // The first pair stands apart: what a rule asks of place 0 is then known in the loop.
+    rule.meet(block, 0, &mut low[0..width], &mut high[0..width], products);
+    for t in 1..half {
+        let start = t * width;
+        let end = start + width;
+        rule.meet(
+            block,
+            t,
+            &mut low[start..end],
+            &mut high[start..end],
+            products,
+        );
+    }
+}

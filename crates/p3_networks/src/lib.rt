@@ -1,0 +1,13 @@
+//! Layers of butterflies, the tables of their twiddles, and the networks of the engines on rows that lie
+//! one after another in a slice.
+//!
+//! What a network computes is said by values: each row holds, after it, the value of the polynomials of
+//! the columns at a point. `p3_dft` makes engines of them and gives the names that a user needs.
+#![tactic(auto)]
+
+pub mod butterfly_layers;
+pub mod radix_2_bowers;
+pub mod radix_2_dit;
+pub mod radix_2_dit_parallel;
+pub mod radix_2_small_batch;
+pub mod twiddles;

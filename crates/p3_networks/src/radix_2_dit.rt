@@ -1,0 +1,49 @@
+//! The layers of the network by decimation in time.
+
+ghost use Rattle.std.specs.Prelude.{◌≡◌, ℕ, ◌+◌, ◌*◌, ◌/◌, ◌^◌, ◌<◌, ◌≤◌, length, get_or};
+ghost use Rattle.p3_field.specs.Ring.{power};
+ghost use Rattle.p3_matrix.specs.BitOrder.{rev};
+ghost use Rattle.p3_networks.specs.Polynomials.{poly};
+ghost use Rattle.p3_networks.specs.Twiddles.{AreTwiddlesOfLayers, layer_powers};
+
+use crate::butterfly_layers::layer;
+use crate::butterfly_layers::rules::DitByPlace;
+use crate::twiddles::layer_twiddles;
+use p3_field::{Products, TwoAdicField};
+
+/// All layers, on rows that lie in bit reversed order. Layer l has `2^(log_h - 1 - l)` blocks of two
+/// halves of `2^l` rows. Inlined, so that a width that the caller names is known in all layers.
+#[inline(always)]
+pub fn dit_network<F: TwoAdicField>(
+    values: &mut [F],
+    width: usize,
+    log_h: usize,
+    twiddles: &[F],
+    products: &mut Products,
+)
+    requires wide { 1 ≤ width }
+    requires small { log_h < 64 }
+    requires rooted { log_h ≤ F.TWO_ADICITY }
+    requires height { length values.old ≡ 2 ^ log_h * width }
+    requires twiddles { AreTwiddlesOfLayers F.Field.own log_h (layer_powers F.Field.own F.generator) twiddles.now }
+    ensures values { (r j : ℕ) → r < 2 ^ log_h → j < width → F.value (get_or values.new (r * width + j) F.ZERO)
+        ≡ poly F.ring (2 ^ log_h) (λ q. F.value (get_or values.old (rev log_h q * width + j) F.ZERO))
+        (power F.ring (F.value (F.generator log_h)) r) }
+    ensures grows { products.old ≤ products.new }
+    ensures count { products.new ≤ products.old + width * (log_h * 2 ^ log_h / 2) }
+{
+    for l in 0..log_h {
+        let half = 1usize << l;
+        let blocks = 1usize << (log_h - 1 - l);
+        let twiddles = layer_twiddles(twiddles, l);
+        layer(
+            DitByPlace { twiddles },
+            values,
+            width,
+            half,
+            0,
+            blocks,
+            products,
+        );
+    }
+}

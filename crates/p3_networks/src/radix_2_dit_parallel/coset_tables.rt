@@ -1,0 +1,173 @@
+//! The tables of cosets that the engine keeps until it ends.
+
+ghost use Rattle.std.specs.Prelude.{◌≡◌, ◌⊎◌, ◌↔◌, ◌<◌, ◌≤◌, [], ◌∷◌, ◌++◌, length, get_or, IsTrue, IsOk, IfOk, OnErr, IfSome, IsNone};
+ghost use Rattle.p3_networks.specs.Twiddles.{Coset, HasCoset, IsCosetAt, IsCosetOf, IsCosetTable};
+
+use crate::twiddles::push_layer;
+use p3_field::{Field, TwoAdicField};
+use p3_matrix::DftError;
+use std::alloc::Global;
+use std::marker::Model;
+
+/// The twiddles of one coset: those of layer l begin at place `2^l - 1`. In the layers of the first half
+/// they lie in natural order, and in those of the second in bit reversed order.
+///
+/// Contracts see which coset that is.
+#[derive(Drop)]
+pub struct CosetTable<F: TwoAdicField> {
+    log_h: usize,
+    shift: F,
+    twiddles: Vec<F>,
+}
+
+impl<F: TwoAdicField> Model for CosetTable<F> {
+    ghost use Rattle.std.specs.Prelude.{◌≤◌};
+    ghost use Rattle.p3_networks.specs.Twiddles.{Coset, IsCosetTable};
+
+    ghost Value = { Coset F };
+
+    ghost view = { λ t. record { log_h = t.log_h; shift = t.shift } };
+
+    ghost invariant = { λ t.
+        IsCosetTable F.Field F.generator (F.Field.value t.shift) t.log_h t.twiddles.items × (t.log_h ≤ F.TWO_ADICITY) };
+}
+
+impl<F: TwoAdicField> CosetTable<F> {
+    // That of the coset of `shift` of order `2^log_h`.
+    fn new(alloc: Global, log_h: usize, shift: F) -> Result<Self, DftError>
+        requires within { log_h ≤ F.TWO_ADICITY }
+        requires small { log_h < 64 }
+        ensures { IfOk result (λ t. t ≡ record { log_h = log_h; shift = shift }) }
+    {
+        let twiddles = coset_layers(alloc, log_h, shift)?;
+        Ok(CosetTable {
+            log_h,
+            shift,
+            twiddles,
+        })
+    }
+
+    // Whether it is that of a coset.
+    fn is_of(&self, log_h: usize, shift: F) -> bool
+        ensures { IsTrue result ↔ IsCosetOf F.Field.own log_h (F.value shift) self.now }
+    {
+        self.log_h == log_h && self.shift == shift
+    }
+
+    /// The twiddles.
+    pub fn twiddles(&self) -> &[F]
+        ensures within { self.now.log_h ≤ F.TWO_ADICITY }
+        ensures table { IsCosetTable F.Field.own F.generator (F.value self.now.shift) self.now.log_h result.now }
+    {
+        self.twiddles.as_slice()
+    }
+}
+
+// The twiddles of the coset of `shift` of order `2^log_h`, layer after layer.
+fn coset_layers<F: TwoAdicField>(alloc: Global, log_h: usize, shift: F) -> Result<Vec<F>, DftError>
+    requires within { log_h ≤ F.TWO_ADICITY }
+    requires small { log_h < 64 }
+    ensures { IfOk result (λ v. IsCosetTable F.Field.own F.generator (F.value shift) log_h v.items) }
+{
+    let mid = (log_h + 1) / 2;
+    let mut twiddles = Vec::with_capacity(alloc, (1 << log_h) - 1)?;
+    for l in 0..log_h {
+        let first = shift.exp_power_of_2(log_h - 1 - l);
+        let root = F::two_adic_generator(l + 1);
+        push_layer(&mut twiddles, first, root, l, mid <= l)?;
+    }
+    Ok(twiddles)
+}
+
+/// The tables of cosets, in the order in which they were made.
+///
+/// Contracts see a list of the cosets.
+#[derive(Drop)]
+pub struct CosetTables<F: TwoAdicField> {
+    tables: Option<Vec<CosetTable<F>>>,
+}
+
+impl<F: TwoAdicField> Model for CosetTables<F> {
+    ghost use Rattle.std.specs.Prelude.{List};
+    ghost use Rattle.p3_networks.specs.Twiddles.{Coset, items_if_any};
+
+    ghost Value = { List (Coset F) };
+
+    ghost view = { λ t. items_if_any t.tables };
+}
+
+impl<F: TwoAdicField> CosetTables<F> {
+    /// None. It takes no memory.
+    pub fn new() -> Self
+        ensures { result ≡ [] }
+    {
+        CosetTables { tables: None }
+    }
+
+    // All of them.
+    fn as_slice(&self) -> &[CosetTable<F>]
+        ensures { result.now ≡ self.now }
+    {
+        match &self.tables {
+            Some(tables) => tables.as_slice(),
+            None => &[],
+        }
+    }
+
+    /// That in a place.
+    pub fn get(&self, place: usize) -> &CosetTable<F>
+        requires { place < length self.now }
+        ensures { (d : Coset F) → result.now ≡ get_or self.now place d }
+    {
+        &self.as_slice()[place]
+    }
+
+    // The place of the table of a coset, if it is there. A plain search: few are expected.
+    fn find(&self, log_h: usize, shift: F) -> Option<usize>
+        ensures some { IfSome result (IsCosetAt F.Field.own self.now log_h (F.value shift)) }
+        ensures none { IsNone result → ¬ (HasCoset F.Field.own self.now log_h (F.value shift)) }
+    {
+        let tables = self.as_slice();
+        for i in 0..tables.len() {
+            if tables[i].is_of(log_h, shift) {
+                return Some(i);
+            }
+        }
+        None
+    }
+
+    /// The place of the table of a coset, which is made unless it is there: then no memory is taken. Where
+    /// memory is refused, what is there stays.
+    pub fn make(&mut self, alloc: Global, log_h: usize, shift: F) -> Result<usize, DftError>
+        requires within { log_h ≤ F.TWO_ADICITY }
+        requires small { log_h < 64 }
+        ensures made { IfOk result (IsCosetAt F.Field.own self.new log_h (F.value shift)) }
+        ensures ready { HasCoset F.Field.own self.old log_h (F.value shift) → IsOk result }
+        ensures only { (self.new ≡ self.old) ⊎ (self.new ≡ self.old ++ record { log_h = log_h; shift = shift } ∷ []) }
+        ensures refused { OnErr result (self.new ≡ self.old) }
+    {
+        if let Some(place) = self.find(log_h, shift) {
+            return Ok(place);
+        }
+        let table = CosetTable::new(alloc, log_h, shift)?;
+        let place = self.as_slice().len();
+        self.push(alloc, table)?;
+        Ok(place)
+    }
+
+    // Adds one at the end.
+    fn push(&mut self, alloc: Global, table: CosetTable<F>) -> Result<(), DftError>
+        ensures added { IfOk result (λ _. self.new ≡ self.old ++ table ∷ []) }
+        ensures refused { OnErr result (self.new ≡ self.old) }
+    {
+        match &mut self.tables {
+            Some(tables) => tables.push(table)?,
+            None => {
+                let mut tables = Vec::with_capacity(alloc, 1)?;
+                tables.push(table)?;
+                self.tables = Some(tables);
+            }
+        }
+        Ok(())
+    }
+}

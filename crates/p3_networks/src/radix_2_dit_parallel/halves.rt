@@ -1,0 +1,395 @@
+//! The two halves of the network. Each goes over the matrix run by run, and does all of its layers on one
+//! run before the next, so that a run that fits the cache stays there.
+
+ghost use Rattle.std.specs.Prelude.{◌≡◌, ℕ, ◌+◌, ◌-◌, ◌*◌, ◌/◌, ◌^◌, ◌<◌, ◌≤◌, List, length, get_or};
+ghost use Rattle.p3_field.specs.Ring.{AreRoots};
+ghost use Rattle.p3_matrix.specs.BitOrder.{rev};
+ghost use Rattle.p3_matrix.specs.Butterflies.{dit_near, dit_far};
+ghost use Rattle.p3_networks.specs.Cosets.{point};
+ghost use Rattle.p3_networks.specs.Polynomials.{poly};
+ghost use Rattle.p3_networks.specs.Layers.{AreValuesOfRows};
+ghost use Rattle.p3_networks.specs.Twiddles.{AreBlockTwiddles, AreTwiddlesOfLayers, coset_twiddles, block_end, block_entries, factor, scale_cost};
+
+use crate::butterfly_layers::layer;
+use crate::butterfly_layers::rules::{
+    DitByBlock, DitByBlockOnCoset, DitByPlace, DitByPlaceOnCoset, ScaledDitByBlock,
+};
+use crate::twiddles::layer_twiddles;
+use p3_field::{Field, Products, TwoAdicField};
+
+/// The twiddles of the second half, whose blocks take them in bit reversed order: one table for all
+/// layers, of which a layer has the first ones, or a table for each layer, one after another.
+#[derive(Clone, Copy)]
+pub struct BlockTwiddles<'a, F> {
+    pub twiddles: &'a [F],
+    pub by_layer: bool,
+}
+
+impl<'a, F: TwoAdicField> BlockTwiddles<'a, F> {
+    // Those of layer l.
+    fn of_layer(self, l: usize) -> &'a [F]
+        requires small { l < 63 }
+        requires inside { block_end self.by_layer l ≤ length self.twiddles.now }
+        ensures { result.now ≡ block_entries self.entry.by_layer l self.entry.twiddles.now }
+    {
+        if self.by_layer {
+            layer_twiddles(self.twiddles, l)
+        } else {
+            &self.twiddles[..1 << l]
+        }
+    }
+}
+
+/// The first half, on rows in bit reversed order: each run of `2^mid` rows has the coefficients of
+/// polynomials, in bit reversed order, and becomes their values on a coset, in natural order.
+pub fn first_half<F: TwoAdicField>(
+    values: &mut [F],
+    width: usize,
+    log_h: usize,
+    mid: usize,
+    twiddles: &[F],
+    products: &mut Products,
+)
+    requires wide { 1 ≤ width }
+    requires small { log_h < 64 }
+    requires parts { mid ≤ log_h }
+    requires height { length values.old ≡ 2 ^ log_h * width }
+    requires table { 2 ^ mid - 1 ≤ length twiddles.now }
+    ensures values { (g : ℕ → F.Element) (s : F.Element) → AreRoots F.ring mid g
+        → AreTwiddlesOfLayers F.Field.own mid (coset_twiddles F.Field.own g s mid) twiddles.now
+        → (a t j : ℕ) → a < 2 ^ (log_h - mid) → t < 2 ^ mid → j < width
+        → F.value (get_or values.new ((a * 2 ^ mid + t) * width + j) F.ZERO)
+        ≡ poly F.ring (2 ^ mid) (λ q. F.value (get_or values.old ((a * 2 ^ mid + rev mid q) * width + j) F.ZERO)) (point F.ring g mid s t) }
+    ensures grows { products.old ≤ products.new }
+    ensures count { products.new ≤ products.old + 2 ^ (log_h - mid) * (width * (mid * 2 ^ mid / 2)) }
+{
+    // One column is made apart: where the width is known, no loop along a row is left.
+    if width == 1 {
+        low_runs(values, 1, log_h, mid, twiddles, products);
+    } else {
+        low_runs(values, width, log_h, mid, twiddles, products);
+    }
+}
+
+// The same. Inlined, so that a width that the caller names is known in all layers.
+#[inline(always)]
+fn low_runs<F: TwoAdicField>(
+    values: &mut [F],
+    width: usize,
+    log_h: usize,
+    mid: usize,
+    twiddles: &[F],
+    products: &mut Products,
+)
+    requires wide { 1 ≤ width }
+    requires small { log_h < 64 }
+    requires parts { mid ≤ log_h }
+    requires height { length values.old ≡ 2 ^ log_h * width }
+    requires table { 2 ^ mid - 1 ≤ length twiddles.now }
+    ensures values { (g : ℕ → F.Element) (s : F.Element) → AreRoots F.ring mid g
+        → AreTwiddlesOfLayers F.Field.own mid (coset_twiddles F.Field.own g s mid) twiddles.now
+        → (a t j : ℕ) → a < 2 ^ (log_h - mid) → t < 2 ^ mid → j < width
+        → F.value (get_or values.new ((a * 2 ^ mid + t) * width + j) F.ZERO)
+        ≡ poly F.ring (2 ^ mid) (λ q. F.value (get_or values.old ((a * 2 ^ mid + rev mid q) * width + j) F.ZERO)) (point F.ring g mid s t) }
+    ensures grows { products.old ≤ products.new }
+    ensures count { products.new ≤ products.old + 2 ^ (log_h - mid) * (width * (mid * 2 ^ mid / 2)) }
+{
+    let runs = 1usize << (log_h - mid);
+    let size = values.len() / runs;
+    for run in 0..runs {
+        let start = run * size;
+        let rows = &mut values[start..start + size];
+        low_network(rows, width, mid, twiddles, products);
+    }
+}
+
+/// The second half, on rows in natural order: each run of `2^left` rows has the coefficients of
+/// polynomials, and becomes their values on a coset of its own, in bit reversed order. With a scale, the
+/// coefficients are multiplied by it first.
+pub fn second_half<F: TwoAdicField>(
+    values: &mut [F],
+    width: usize,
+    mid: usize,
+    left: usize,
+    table: BlockTwiddles<'_, F>,
+    scale: Option<F>,
+    products: &mut Products,
+)
+    requires wide { 1 ≤ width }
+    requires some { 1 ≤ left }
+    requires small { mid + left < 64 }
+    requires height { length values.old ≡ 2 ^ (mid + left) * width }
+    requires table { (l : ℕ) → mid ≤ l → l < mid + left → block_end table.by_layer l ≤ length table.twiddles.now }
+    ensures values { (g : ℕ → F.Element) (s : F.Element) → AreRoots F.ring (mid + left) g
+        → AreBlockTwiddles F.Field.own g s mid (mid + left) table.entry.by_layer table.entry.twiddles.now
+        → (a t j : ℕ) → a < 2 ^ mid → t < 2 ^ left → j < width
+        → F.value (get_or values.new ((a * 2 ^ left + t) * width + j) F.ZERO)
+        ≡ poly F.ring (2 ^ left)
+        (λ q. F.ring.mul (F.value (get_or values.old ((a * 2 ^ left + q) * width + j) F.ZERO)) (factor F.Field.own scale))
+        (point F.ring g left (point F.ring g (mid + left) s (rev mid a)) (rev left t)) }
+    ensures grows { products.old ≤ products.new }
+    ensures count { products.new ≤ products.old + 2 ^ mid * (width * (left * 2 ^ left / 2) + scale_cost scale * (2 ^ left * width)) }
+{
+    if width == 1 {
+        high_runs(values, 1, mid, left, table, scale, products);
+    } else {
+        high_runs(values, width, mid, left, table, scale, products);
+    }
+}
+
+// The same. Inlined as the runs of the first half are.
+#[inline(always)]
+fn high_runs<F: TwoAdicField>(
+    values: &mut [F],
+    width: usize,
+    mid: usize,
+    left: usize,
+    table: BlockTwiddles<'_, F>,
+    scale: Option<F>,
+    products: &mut Products,
+)
+    requires wide { 1 ≤ width }
+    requires some { 1 ≤ left }
+    requires small { mid + left < 64 }
+    requires height { length values.old ≡ 2 ^ (mid + left) * width }
+    requires table { (l : ℕ) → mid ≤ l → l < mid + left → block_end table.by_layer l ≤ length table.twiddles.now }
+    ensures values { (g : ℕ → F.Element) (s : F.Element) → AreRoots F.ring (mid + left) g
+        → AreBlockTwiddles F.Field.own g s mid (mid + left) table.entry.by_layer table.entry.twiddles.now
+        → (a t j : ℕ) → a < 2 ^ mid → t < 2 ^ left → j < width
+        → F.value (get_or values.new ((a * 2 ^ left + t) * width + j) F.ZERO)
+        ≡ poly F.ring (2 ^ left)
+        (λ q. F.ring.mul (F.value (get_or values.old ((a * 2 ^ left + q) * width + j) F.ZERO)) (factor F.Field.own scale))
+        (point F.ring g left (point F.ring g (mid + left) s (rev mid a)) (rev left t)) }
+    ensures grows { products.old ≤ products.new }
+    ensures count { products.new ≤ products.old + 2 ^ mid * (width * (left * 2 ^ left / 2) + scale_cost scale * (2 ^ left * width)) }
+{
+    let runs = 1usize << mid;
+    let size = values.len() / runs;
+    for run in 0..runs {
+        let start = run * size;
+        let rows = &mut values[start..start + size];
+        high_network(rows, width, mid, left, run, table, scale, products);
+    }
+}
+
+// All layers, on rows that lie in bit reversed order. Layer l has `2^(log_h - 1 - l)` blocks of two
+// halves of `2^l` rows, and row t of a block meets by twiddle t of the layer.
+#[inline(always)]
+fn low_network<F: TwoAdicField>(
+    values: &mut [F],
+    width: usize,
+    log_h: usize,
+    twiddles: &[F],
+    products: &mut Products,
+)
+    requires wide { 1 ≤ width }
+    requires small { log_h < 64 }
+    requires height { length values.old ≡ 2 ^ log_h * width }
+    requires table { 2 ^ log_h - 1 ≤ length twiddles.now }
+    ensures values { (g : ℕ → F.Element) (s : F.Element) → AreRoots F.ring log_h g
+        → AreTwiddlesOfLayers F.Field.own log_h (coset_twiddles F.Field.own g s log_h) twiddles.now
+        → AreValuesOfRows F.Field.own width (2 ^ log_h) (rev log_h) (point F.ring g log_h s) values.old values.new }
+    ensures grows { products.old ≤ products.new }
+    ensures count { products.new ≤ products.old + width * (log_h * 2 ^ log_h / 2) }
+{
+    for l in 0..log_h {
+        let half = 1usize << l;
+        let blocks = 1usize << (log_h - 1 - l);
+        let twiddles = layer_twiddles(twiddles, l);
+        layer_by_place(twiddles, values, width, half, blocks, products);
+    }
+}
+
+// All layers of one run, on rows in natural order: those from layer mid on of the whole matrix, in which
+// blocks are counted over the whole matrix. With `done` of `left` layers done there are `2^done` blocks
+// of two halves of `2^(left - 1 - done)` rows.
+#[inline(always)]
+fn high_network<F: TwoAdicField>(
+    values: &mut [F],
+    width: usize,
+    mid: usize,
+    left: usize,
+    run: usize,
+    table: BlockTwiddles<'_, F>,
+    scale: Option<F>,
+    products: &mut Products,
+)
+    requires wide { 1 ≤ width }
+    requires some { 1 ≤ left }
+    requires small { mid + left < 64 }
+    requires run { run < 2 ^ mid }
+    requires height { length values.old ≡ 2 ^ left * width }
+    requires table { (l : ℕ) → mid ≤ l → l < mid + left → block_end table.by_layer l ≤ length table.twiddles.now }
+    ensures values { (g : ℕ → F.Element) (s : F.Element) → AreRoots F.ring (mid + left) g
+        → AreBlockTwiddles F.Field.own g s mid (mid + left) table.entry.by_layer table.entry.twiddles.now
+        → (t j : ℕ) → t < 2 ^ left → j < width → F.value (get_or values.new (t * width + j) F.ZERO)
+        ≡ poly F.ring (2 ^ left) (λ q. F.ring.mul (F.value (get_or values.old (q * width + j) F.ZERO)) (factor F.Field.own scale))
+        (point F.ring g left (point F.ring g (mid + left) s (rev mid run)) (rev left t)) }
+    ensures grows { products.old ≤ products.new }
+    ensures count { products.new ≤ products.old + (width * (left * 2 ^ left / 2) + scale_cost scale * (2 ^ left * width)) }
+{
+    let half = 1usize << (left - 1);
+    let twiddles = table.of_layer(mid);
+    scaled_layer(twiddles, scale, values, width, half, run, products);
+    for done in 1..left {
+        let half = 1usize << (left - 1 - done);
+        let blocks = 1usize << done;
+        let twiddles = table.of_layer(mid + done);
+        layer_by_block(
+            twiddles,
+            values,
+            width,
+            half,
+            run * blocks,
+            blocks,
+            products,
+        );
+    }
+}
+
+// A layer by decimation in time in which row t of a block has twiddle t. Where twiddle 0 is one, its
+// rows are not multiplied.
+#[inline(always)]
+fn layer_by_place<F: TwoAdicField>(
+    twiddles: &[F],
+    values: &mut [F],
+    width: usize,
+    half: usize,
+    blocks: usize,
+    products: &mut Products,
+)
+    requires wide { 1 ≤ width }
+    requires some { 1 ≤ half }
+    requires blocks { 1 ≤ blocks }
+    requires size { length values.old ≡ blocks * (2 * (half * width)) }
+    requires table { half ≤ length twiddles.now }
+    ensures near { let cell = λ (xs : List F) (n : ℕ). F.value (get_or xs n F.ZERO) in
+        let size = half * width in
+        (b i : ℕ) → b < blocks → i < size → cell values.new (b * (2 * size) + i)
+        ≡ dit_near F.ring (cell twiddles.now (i / width)) (cell values.old (b * (2 * size) + i))
+        (cell values.old (b * (2 * size) + (size + i))) }
+    ensures far { let cell = λ (xs : List F) (n : ℕ). F.value (get_or xs n F.ZERO) in
+        let size = half * width in
+        (b i : ℕ) → b < blocks → i < size → cell values.new (b * (2 * size) + (size + i))
+        ≡ dit_far F.ring (cell twiddles.now (i / width)) (cell values.old (b * (2 * size) + i))
+        (cell values.old (b * (2 * size) + (size + i))) }
+    ensures grows { products.old ≤ products.new }
+    ensures count { products.new ≤ products.old + 1 * (blocks * (half * width)) }
+{
+    if twiddles[0] == F::ONE {
+        layer(
+            DitByPlace { twiddles },
+            values,
+            width,
+            half,
+            0,
+            blocks,
+            products,
+        );
+    } else {
+        layer(
+            DitByPlaceOnCoset { twiddles },
+            values,
+            width,
+            half,
+            0,
+            blocks,
+            products,
+        );
+    }
+}
+
+// A layer by decimation in time in which all rows of block b have twiddle b. Where twiddle 0 is one, the
+// rows of block 0 are not multiplied.
+#[inline(always)]
+fn layer_by_block<F: TwoAdicField>(
+    twiddles: &[F],
+    values: &mut [F],
+    width: usize,
+    half: usize,
+    first_block: usize,
+    blocks: usize,
+    products: &mut Products,
+)
+    requires wide { 1 ≤ width }
+    requires some { 1 ≤ half }
+    requires blocks { 1 ≤ blocks }
+    requires size { length values.old ≡ blocks * (2 * (half * width)) }
+    requires table { first_block + blocks ≤ length twiddles.now }
+    ensures near { let cell = λ (xs : List F) (n : ℕ). F.value (get_or xs n F.ZERO) in
+        let size = half * width in
+        (b i : ℕ) → b < blocks → i < size → cell values.new (b * (2 * size) + i)
+        ≡ dit_near F.ring (cell twiddles.now (first_block + b))
+        (cell values.old (b * (2 * size) + i)) (cell values.old (b * (2 * size) + (size + i))) }
+    ensures far { let cell = λ (xs : List F) (n : ℕ). F.value (get_or xs n F.ZERO) in
+        let size = half * width in
+        (b i : ℕ) → b < blocks → i < size → cell values.new (b * (2 * size) + (size + i))
+        ≡ dit_far F.ring (cell twiddles.now (first_block + b))
+        (cell values.old (b * (2 * size) + i)) (cell values.old (b * (2 * size) + (size + i))) }
+    ensures grows { products.old ≤ products.new }
+    ensures count { products.new ≤ products.old + 1 * (blocks * (half * width)) }
+{
+    if twiddles[0] == F::ONE {
+        layer(
+            DitByBlock { twiddles },
+            values,
+            width,
+            half,
+            first_block,
+            blocks,
+            products,
+        );
+    } else {
+        layer(
+            DitByBlockOnCoset { twiddles },
+            values,
+            width,
+            half,
+            first_block,
+            blocks,
+            products,
+        );
+    }
+}
+
+// The same of one block, whose rows are first multiplied by the scale, if there is one.
+#[inline(always)]
+fn scaled_layer<F: TwoAdicField>(
+    twiddles: &[F],
+    scale: Option<F>,
+    values: &mut [F],
+    width: usize,
+    half: usize,
+    block: usize,
+    products: &mut Products,
+)
+    requires wide { 1 ≤ width }
+    requires some { 1 ≤ half }
+    requires size { length values.old ≡ 1 * (2 * (half * width)) }
+    requires table { block + 1 ≤ length twiddles.now }
+    ensures near { let cell = λ (xs : List F) (n : ℕ). F.value (get_or xs n F.ZERO) in
+        let scaled = λ (n : ℕ). F.ring.mul (cell values.old n) (factor F.Field.own scale) in
+        let size = half * width in
+        (b i : ℕ) → b < 1 → i < size → cell values.new (b * (2 * size) + i) ≡ dit_near F.ring (cell twiddles.now (block + b))
+        (scaled (b * (2 * size) + i)) (scaled (b * (2 * size) + (size + i))) }
+    ensures far { let cell = λ (xs : List F) (n : ℕ). F.value (get_or xs n F.ZERO) in
+        let scaled = λ (n : ℕ). F.ring.mul (cell values.old n) (factor F.Field.own scale) in
+        let size = half * width in
+        (b i : ℕ) → b < 1 → i < size → cell values.new (b * (2 * size) + (size + i)) ≡ dit_far F.ring (cell twiddles.now (block + b))
+        (scaled (b * (2 * size) + i)) (scaled (b * (2 * size) + (size + i))) }
+    ensures grows { products.old ≤ products.new }
+    ensures count { products.new ≤ products.old + (1 + scale_cost scale) * (1 * (half * width)) }
+{
+    match scale {
+        Some(scale) => layer(
+            ScaledDitByBlock { twiddles, scale },
+            values,
+            width,
+            half,
+            block,
+            1,
+            products,
+        ),
+        None => layer_by_block(twiddles, values, width, half, block, 1, products),
+    }
+}

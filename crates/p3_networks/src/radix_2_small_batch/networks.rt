@@ -1,0 +1,409 @@
+//! The networks of the engine: layers on runs of rows that lie one after another, whose cells are taken
+//! in the order in which they lie.
+//!
+//! Entry e of a height is the layer whose blocks have `2^(e + 1)` rows. Runs of `2^top` rows count from
+//! the first row on. One twiddle is for a whole block, so that a layer is one of cells: contracts say
+//! which cells a run holds before and after, for any layers that follow one another.
+
+ghost use Rattle.std.specs.Prelude.{◌≡◌, ℕ, ◌+◌, ◌-◌, ◌*◌, ◌/◌, ◌^◌, ◌<◌, ◌≤◌, length, get_or};
+ghost use Rattle.p3_field.specs.Ring.{AreRoots, power};
+ghost use Rattle.p3_matrix.specs.BitOrder.{rev};
+ghost use Rattle.p3_matrix.specs.Butterflies.{dif_far, dif_near, dit_far, dit_near};
+ghost use Rattle.p3_networks.specs.Layers.{AreLayers, HoldsCells, AreValuesOfRows};
+ghost use Rattle.p3_networks.specs.Polynomials.{poly};
+ghost use Rattle.p3_networks.specs.Twiddles.{AreTwiddlesFromStart, backward_root, block_powers, forward_root};
+
+use crate::butterfly_layers::rules::{DifByBlock, DitByBlock};
+use crate::butterfly_layers::{Rule, layer};
+use p3_field::{Products, TwoAdicField};
+use p3_matrix::scale_slice_in_place;
+
+// The layer of one entry, on run `number`. The rule goes by the number of a block alone.
+fn layer_of_run<F: TwoAdicField, R: Rule<F>>(
+    rule: R,
+    values: &mut [F],
+    width: usize,
+    entry: usize,
+    top: usize,
+    number: usize,
+    products: &mut Products,
+)
+    requires wide { 1 ≤ width }
+    requires below { entry < top }
+    requires small { (number + 1) * 2 ^ top < 2 ^ 64 }
+    requires size { length values.old ≡ 2 ^ top * width }
+    requires there { (b t : ℕ) → b < (number + 1) * 2 ^ (top - 1 - entry) → R.has rule b t }
+    requires near_by_block { (b t : ℕ) (p q : F.Element) → R.near F.Element F.ring F.value rule b t p q ≡ R.near F.Element F.ring F.value rule b 0 p q }
+    requires far_by_block { (b t : ℕ) (p q : F.Element) → R.far F.Element F.ring F.value rule b t p q ≡ R.far F.Element F.ring F.value rule b 0 p q }
+    ensures cells { (k : ℕ) (before after : ℕ → ℕ → F.Element)
+        → AreLayers k width (λ b. R.near F.Element F.ring F.value rule b 0) (λ b. R.far F.Element F.ring F.value rule b 0) before after
+        → (number + 1) * 2 ^ top ≤ 2 ^ k → HoldsCells F.value F.ZERO (number * length values.old) (before entry) values.old
+        → HoldsCells F.value F.ZERO (number * length values.old) (after entry) values.new }
+    ensures grows { products.old ≤ products.new }
+    ensures count { 2 * products.new ≤ 2 * products.old + R.cost * length values.old }
+{
+    // A half of a block is one long row: its pairs have one twiddle, whatever the width.
+    let half = (1usize << entry) * width;
+    let blocks = 1usize << (top - 1 - entry);
+    layer(rule, values, half, 1, number * blocks, blocks, products);
+}
+
+// By decimation in time, the layers of the entries below `to` down to `from`, on run `number`.
+fn dit_layers<F: TwoAdicField>(
+    twiddles: &[F],
+    values: &mut [F],
+    width: usize,
+    from: usize,
+    to: usize,
+    top: usize,
+    number: usize,
+    products: &mut Products,
+)
+    requires wide { 1 ≤ width }
+    requires order { from ≤ to }
+    requires below { to ≤ top }
+    requires small { (number + 1) * 2 ^ top < 2 ^ 64 }
+    requires size { length values.old ≡ 2 ^ top * width }
+    requires first { F.value (get_or twiddles.now 0 F.ZERO) ≡ F.ring.one }
+    requires enough { (number + 1) * 2 ^ top ≤ 2 * length twiddles.now }
+    ensures cells { (k : ℕ) (cells : ℕ → ℕ → F.Element)
+        → AreLayers k width (λ b. dit_near F.ring (F.value (get_or twiddles.now b F.ZERO))) (λ b. dit_far F.ring (F.value (get_or twiddles.now b F.ZERO)))
+        (λ e. cells (e + 1)) cells
+        → (number + 1) * 2 ^ top ≤ 2 ^ k → HoldsCells F.value F.ZERO (number * length values.old) (cells to) values.old
+        → HoldsCells F.value F.ZERO (number * length values.old) (cells from) values.new }
+    ensures grows { products.old ≤ products.new }
+    ensures count { 2 * products.new ≤ 2 * products.old + (to - from) * length values.old }
+{
+    for done in 0..to - from {
+        let entry = to - 1 - done;
+        layer_of_run(
+            DitByBlock { twiddles },
+            values,
+            width,
+            entry,
+            top,
+            number,
+            products,
+        );
+    }
+}
+
+// By decimation in frequency, the layers of the entries from `from` up to `to`, on run `number`.
+fn dif_layers<F: TwoAdicField>(
+    twiddles: &[F],
+    values: &mut [F],
+    width: usize,
+    from: usize,
+    to: usize,
+    top: usize,
+    number: usize,
+    products: &mut Products,
+)
+    requires wide { 1 ≤ width }
+    requires order { from ≤ to }
+    requires below { to ≤ top }
+    requires small { (number + 1) * 2 ^ top < 2 ^ 64 }
+    requires size { length values.old ≡ 2 ^ top * width }
+    requires first { F.value (get_or twiddles.now 0 F.ZERO) ≡ F.ring.one }
+    requires enough { (number + 1) * 2 ^ top ≤ 2 * length twiddles.now }
+    ensures cells { (k : ℕ) (cells : ℕ → ℕ → F.Element)
+        → AreLayers k width (λ b. dif_near F.ring (F.value (get_or twiddles.now b F.ZERO))) (λ b. dif_far F.ring (F.value (get_or twiddles.now b F.ZERO)))
+        cells (λ e. cells (e + 1))
+        → (number + 1) * 2 ^ top ≤ 2 ^ k → HoldsCells F.value F.ZERO (number * length values.old) (cells from) values.old
+        → HoldsCells F.value F.ZERO (number * length values.old) (cells to) values.new }
+    ensures grows { products.old ≤ products.new }
+    ensures count { 2 * products.new ≤ 2 * products.old + (to - from) * length values.old }
+{
+    for entry in from..to {
+        layer_of_run(
+            DifByBlock { twiddles },
+            values,
+            width,
+            entry,
+            top,
+            number,
+            products,
+        );
+    }
+}
+
+// By decimation in time, the layers of the entries below `log_rows`, tile after tile: a tile has
+// `2^log_rows` rows, which these layers do not leave.
+fn dit_tiles<F: TwoAdicField>(
+    twiddles: &[F],
+    values: &mut [F],
+    width: usize,
+    log_rows: usize,
+    log_h: usize,
+    products: &mut Products,
+)
+    requires wide { 1 ≤ width }
+    requires below { log_rows ≤ log_h }
+    requires small { log_h < 64 }
+    requires size { length values.old ≡ 2 ^ log_h * width }
+    requires first { F.value (get_or twiddles.now 0 F.ZERO) ≡ F.ring.one }
+    requires enough { 2 ^ log_h ≤ 2 * length twiddles.now }
+    ensures cells { (cells : ℕ → ℕ → F.Element)
+        → AreLayers log_h width (λ b. dit_near F.ring (F.value (get_or twiddles.now b F.ZERO))) (λ b. dit_far F.ring (F.value (get_or twiddles.now b F.ZERO)))
+        (λ e. cells (e + 1)) cells
+        → HoldsCells F.value F.ZERO 0 (cells log_rows) values.old → HoldsCells F.value F.ZERO 0 (cells 0) values.new }
+    ensures grows { products.old ≤ products.new }
+    ensures count { 2 * products.new ≤ 2 * products.old + log_rows * length values.old }
+{
+    let tiles = 1usize << (log_h - log_rows);
+    let size = values.len() / tiles;
+    for tile in 0..tiles {
+        let start = tile * size;
+        let rows = &mut values[start..start + size];
+        dit_layers(twiddles, rows, width, 0, log_rows, log_rows, tile, products);
+    }
+}
+
+// By decimation in frequency, the layers of the entries below `log_rows`, tile after tile, on the
+// values times `scale`.
+fn scaled_dif_tiles<F: TwoAdicField>(
+    twiddles: &[F],
+    scale: F,
+    values: &mut [F],
+    width: usize,
+    log_rows: usize,
+    log_h: usize,
+    products: &mut Products,
+)
+    requires wide { 1 ≤ width }
+    requires below { log_rows ≤ log_h }
+    requires small { log_h < 64 }
+    requires size { length values.old ≡ 2 ^ log_h * width }
+    requires first { F.value (get_or twiddles.now 0 F.ZERO) ≡ F.ring.one }
+    requires enough { 2 ^ log_h ≤ 2 * length twiddles.now }
+    ensures cells { (cells : ℕ → ℕ → F.Element)
+        → AreLayers log_h width (λ b. dif_near F.ring (F.value (get_or twiddles.now b F.ZERO))) (λ b. dif_far F.ring (F.value (get_or twiddles.now b F.ZERO)))
+        cells (λ e. cells (e + 1))
+        → HoldsCells (λ x. F.ring.mul (F.value x) (F.value scale)) F.ZERO 0 (cells 0) values.old
+        → HoldsCells F.value F.ZERO 0 (cells log_rows) values.new }
+    ensures grows { products.old ≤ products.new }
+    ensures count { 2 * products.new ≤ 2 * products.old + (log_rows + 2) * length values.old }
+{
+    let tiles = 1usize << (log_h - log_rows);
+    let size = values.len() / tiles;
+    for tile in 0..tiles {
+        let start = tile * size;
+        let rows = &mut values[start..start + size];
+        scale_slice_in_place(rows, scale, products);
+        dif_layers(twiddles, rows, width, 0, log_rows, log_rows, tile, products);
+    }
+}
+
+/// From rows in natural order to their values, in bit reversed order: the layers whose blocks are
+/// larger than a tile on the whole, then the others tile by tile. With the powers of other roots they
+/// are the values at those.
+pub fn dit_network<F: TwoAdicField>(
+    twiddles: &[F],
+    values: &mut [F],
+    width: usize,
+    log_rows: usize,
+    log_h: usize,
+    products: &mut Products,
+)
+    requires wide { 1 ≤ width }
+    requires below { log_rows ≤ log_h }
+    requires small { log_h < 64 }
+    requires size { length values.old ≡ 2 ^ log_h * width }
+    requires first { F.value (get_or twiddles.now 0 F.ZERO) ≡ F.ring.one }
+    requires enough { 2 ^ log_h ≤ 2 * length twiddles.now }
+    ensures values { (bits : ℕ) (root : ℕ → F.Element) → AreRoots F.ring bits root → log_h ≤ bits
+        → AreTwiddlesFromStart F.Field.own log_h (block_powers F.Field.own root) twiddles.now
+        → AreValuesOfRows F.Field.own width (2 ^ log_h) (λ q. q) (λ r. power F.ring (root log_h) (rev log_h r)) values.old values.new }
+    ensures grows { products.old ≤ products.new }
+    ensures cost { products.new ≤ products.old + width * (log_h * 2 ^ log_h / 2) }
+{
+    dit_layers(twiddles, values, width, log_rows, log_h, log_h, 0, products);
+    dit_tiles(twiddles, values, width, log_rows, log_h, products);
+}
+
+/// From rows in bit reversed order, each entry times `scale`, to their values at the powers of the
+/// inverse of the generator, in natural order: the layers whose blocks fit into a tile tile by tile,
+/// then the others on the whole.
+pub fn scaled_dif_network<F: TwoAdicField>(
+    twiddles: &[F],
+    scale: F,
+    values: &mut [F],
+    width: usize,
+    log_rows: usize,
+    log_h: usize,
+    products: &mut Products,
+)
+    requires wide { 1 ≤ width }
+    requires below { log_rows ≤ log_h }
+    requires some { 1 ≤ log_h }
+    requires small { log_h < 64 }
+    requires rooted { log_h ≤ F.TWO_ADICITY }
+    requires size { length values.old ≡ 2 ^ log_h * width }
+    requires twiddles { AreTwiddlesFromStart F.Field.own log_h (block_powers F.Field.own (backward_root F.Field.own F.generator)) twiddles.now }
+    ensures values { (r j : ℕ) → r < 2 ^ log_h → j < width → F.value (get_or values.new (r * width + j) F.ZERO)
+        ≡ poly F.ring (2 ^ log_h) (λ q. F.ring.mul (F.value (get_or values.old (rev log_h q * width + j) F.ZERO)) (F.value scale))
+        (power F.ring (backward_root F.Field.own F.generator log_h) r) }
+    ensures grows { products.old ≤ products.new }
+    ensures cost { products.new ≤ products.old + width * (log_h * 2 ^ log_h / 2) + 2 ^ log_h * width }
+{
+    scaled_dif_tiles(twiddles, scale, values, width, log_rows, log_h, products);
+    dif_layers(twiddles, values, width, log_rows, log_h, log_h, 0, products);
+}
+
+// Row t of `values` becomes `row` times `first` and the t-th power of `step`.
+fn multiples_of_row<F: TwoAdicField>(
+    first: F,
+    step: F,
+    row: &[F],
+    values: &mut [F],
+    count: usize,
+    products: &mut Products,
+)
+    requires { length values.old ≡ count * length row.now }
+    ensures values { (t j : ℕ) → t < count → j < length row.now → F.value (get_or values.new (t * length row.now + j) F.ZERO)
+        ≡ F.ring.mul (F.value (get_or row.now j F.ZERO)) (F.ring.mul (F.value first) (power F.ring (F.value step) t)) }
+    ensures count { products.new ≡ products.old + count * length row.now }
+{
+    let width = row.len();
+    let mut factor = first;
+    for t in 0..count {
+        let start = t * width;
+        let multiple = &mut values[start..start + width];
+        multiple.copy_from_slice(row);
+        scale_slice_in_place(multiple, factor, products);
+        factor = factor * step;
+    }
+}
+
+// `count` rows of coefficients in bit reversed order, from number `first` on, each in `copies` rows:
+// row t of these is it times its weight and the t-th power of its root, so that of coefficient j is
+// the j-th power of the t-th point. That is what the first layers make of rows of zeros.
+fn spread_rows<F: TwoAdicField>(
+    twiddles: &[F],
+    weights: &[F],
+    rows: &[F],
+    values: &mut [F],
+    width: usize,
+    copies: usize,
+    first: usize,
+    count: usize,
+    products: &mut Products,
+)
+    requires wide { 1 ≤ width }
+    requires copies { 1 ≤ copies }
+    requires some { 1 ≤ count }
+    requires size { length values.old ≡ count * (copies * width) }
+    requires rows { (first + count) * width ≤ length rows.now }
+    requires weights { first + count ≤ length weights.now }
+    requires enough { (first + count) * copies ≤ 2 * length twiddles.now }
+    ensures values { (q t j : ℕ) → q < count → t < copies → j < width
+        → F.value (get_or values.new ((q * copies + t) * width + j) F.ZERO)
+        ≡ F.ring.mul (F.value (get_or rows.now ((first + q) * width + j) F.ZERO)) (F.ring.mul (F.value (get_or weights.now (first + q) F.ZERO))
+        (power F.ring (F.value (get_or twiddles.now ((first + q) * (copies / 2)) F.ZERO)) t)) }
+    ensures count { products.new ≡ products.old + length values.old }
+{
+    let size = values.len() / count;
+    for q in 0..count {
+        let start = q * size;
+        let multiples = &mut values[start..start + size];
+        let number = first + q;
+        let place = number * width;
+        let row = &rows[place..place + width];
+        let root = twiddles[number * (copies / 2)];
+        multiples_of_row(weights[number], root, row, multiples, copies, products);
+    }
+}
+
+// Rows of coefficients, spread, and by decimation in frequency the layers of the entries from
+// `added_bits` up to `log_rows`, tile after tile.
+fn spread_tiles<F: TwoAdicField>(
+    twiddles: &[F],
+    weights: &[F],
+    rows: &[F],
+    values: &mut [F],
+    width: usize,
+    added_bits: usize,
+    log_rows: usize,
+    log_h: usize,
+    products: &mut Products,
+)
+    requires wide { 1 ≤ width }
+    requires added { added_bits ≤ log_rows }
+    requires below { log_rows ≤ log_h }
+    requires small { log_h < 64 }
+    requires size { length values.old ≡ 2 ^ log_h * width }
+    requires rows { length rows.now ≡ 2 ^ (log_h - added_bits) * width }
+    requires weights { length weights.now ≡ 2 ^ (log_h - added_bits) }
+    requires first { F.value (get_or twiddles.now 0 F.ZERO) ≡ F.ring.one }
+    requires some { 1 ≤ length twiddles.now }
+    requires enough { 2 ^ log_h ≤ 2 * length twiddles.now }
+    ensures cells { (cells : ℕ → ℕ → F.Element)
+        → AreLayers log_h width (λ b. dif_near F.ring (F.value (get_or twiddles.now b F.ZERO))) (λ b. dif_far F.ring (F.value (get_or twiddles.now b F.ZERO)))
+        cells (λ e. cells (e + 1))
+        → ((q t j : ℕ) → q < 2 ^ (log_h - added_bits) → t < 2 ^ added_bits → j < width
+        → cells added_bits ((q * 2 ^ added_bits + t) * width + j)
+        ≡ F.ring.mul (F.value (get_or rows.now (q * width + j) F.ZERO)) (F.ring.mul (F.value (get_or weights.now q F.ZERO))
+        (power F.ring (F.value (get_or twiddles.now (q * (2 ^ added_bits / 2)) F.ZERO)) t)))
+        → HoldsCells F.value F.ZERO 0 (cells log_rows) values.new }
+    ensures grows { products.old ≤ products.new }
+    ensures count { 2 * products.new ≤ 2 * products.old + (log_rows - added_bits + 2) * length values.old }
+{
+    let tiles = 1usize << (log_h - log_rows);
+    let size = values.len() / tiles;
+    let copies = 1usize << added_bits;
+    let count = 1usize << (log_rows - added_bits);
+    for tile in 0..tiles {
+        let start = tile * size;
+        let out = &mut values[start..start + size];
+        spread_rows(
+            twiddles,
+            weights,
+            rows,
+            out,
+            width,
+            copies,
+            tile * count,
+            count,
+            products,
+        );
+        dif_layers(
+            twiddles, out, width, added_bits, log_rows, log_rows, tile, products,
+        );
+    }
+}
+
+/// From rows in bit reversed order, each times its weight, to their values at `2^added_bits` times as
+/// many points, in natural order. No row of zeros is met: those of a longer polynomial are known after
+/// the first layers.
+pub fn extending_network<F: TwoAdicField>(
+    twiddles: &[F],
+    weights: &[F],
+    rows: &[F],
+    values: &mut [F],
+    width: usize,
+    added_bits: usize,
+    log_rows: usize,
+    log_h: usize,
+    products: &mut Products,
+)
+    requires wide { 1 ≤ width }
+    requires added { added_bits ≤ log_rows }
+    requires below { log_rows ≤ log_h }
+    requires some { 1 ≤ log_h }
+    requires small { log_h < 64 }
+    requires rooted { log_h ≤ F.TWO_ADICITY }
+    requires size { length values.old ≡ 2 ^ log_h * width }
+    requires rows { length rows.now ≡ 2 ^ (log_h - added_bits) * width }
+    requires weights { length weights.now ≡ 2 ^ (log_h - added_bits) }
+    requires twiddles { AreTwiddlesFromStart F.Field.own log_h (block_powers F.Field.own (forward_root F.Field.own F.generator)) twiddles.now }
+    ensures values { (r j : ℕ) → r < 2 ^ log_h → j < width → F.value (get_or values.new (r * width + j) F.ZERO)
+        ≡ poly F.ring (2 ^ (log_h - added_bits)) (λ q. F.ring.mul (F.value (get_or rows.now (rev (log_h - added_bits) q * width + j) F.ZERO))
+        (F.value (get_or weights.now (rev (log_h - added_bits) q) F.ZERO))) (power F.ring (F.value (F.generator log_h)) r) }
+    ensures grows { products.old ≤ products.new }
+    ensures count { 2 * products.new ≤ 2 * products.old + (log_h - added_bits + 2) * length values.old }
+{
+    spread_tiles(
+        twiddles, weights, rows, values, width, added_bits, log_rows, log_h, products,
+    );
+    dif_layers(twiddles, values, width, log_rows, log_h, log_h, 0, products);
+}

@@ -1,0 +1,123 @@
+//! The twiddles of the engine, for both directions.
+
+ghost use Rattle.std.specs.Prelude.{◌≡◌, ◌⊎◌, ℕ, ◌+◌, ◌-◌, ◌*◌, ◌^◌, ◌<◌, ◌≤◌, IsOk, IfOk, OnOk, OnErr, length};
+ghost use Rattle.p3_networks.specs.Twiddles.{AreTwiddles, AreTwiddlesFromStart, backward_root, block_powers, forward_root};
+
+use crate::twiddles::reversed_powers;
+use p3_field::TwoAdicField;
+use p3_matrix::DftError;
+use std::alloc::Global;
+use std::marker::Model;
+
+/// Two tables, which are kept until the engine ends: the powers of the generator of the largest height
+/// that they are for, and those of its inverse, both in bit reversed order. A layer of `2^l` blocks has
+/// the first `2^l` entries, at each height, so that heights and layers share them.
+///
+/// Contracts see the logarithm of that height.
+#[derive(Drop)]
+pub struct Tables<F: TwoAdicField> {
+    log_h: usize,
+    forward: Option<Vec<F>>,
+    backward: Option<Vec<F>>,
+}
+
+impl<F: TwoAdicField> Model for Tables<F> {
+    ghost use Rattle.std.specs.Prelude.{ℕ};
+    ghost use Rattle.p3_networks.specs.Twiddles.{AreTwiddlesFromStart, backward_root, block_powers, forward_root, items_if_any};
+
+    ghost Value = { ℕ };
+
+    ghost view = { λ t. t.log_h };
+
+    ghost invariant = { λ t.
+        AreTwiddlesFromStart F.Field t.log_h (block_powers F.Field (forward_root F.Field F.generator)) (items_if_any t.forward)
+        × AreTwiddlesFromStart F.Field t.log_h (block_powers F.Field (backward_root F.Field F.generator)) (items_if_any t.backward) };
+}
+
+impl<F: TwoAdicField> Tables<F> {
+    /// Those of height one, which has no layer. They take no memory.
+    pub fn new() -> Self
+        ensures { result ≡ 0 }
+    {
+        Tables {
+            log_h: 0,
+            forward: None,
+            backward: None,
+        }
+    }
+
+    /// The logarithm of the largest height that the tables are for.
+    pub fn log_h(&self) -> usize
+        ensures { result ≡ self.now }
+    {
+        self.log_h
+    }
+
+    /// Makes both tables for height `2^log_h`, unless they are there: then no memory is taken. Where
+    /// memory is refused, what is there stays.
+    pub fn make(&mut self, alloc: Global, log_h: usize) -> Result<(), DftError>
+        requires within { log_h ≤ F.TWO_ADICITY }
+        requires small { log_h < 64 }
+        ensures made { OnOk result (log_h ≤ self.new) }
+        ensures ready { log_h ≤ self.old → IsOk result }
+        ensures keeps { self.old ≤ self.new }
+        ensures only { (self.new ≡ self.old) ⊎ (self.new ≡ log_h) }
+        ensures refused { OnErr result (self.new ≡ self.old) }
+    {
+        if log_h <= self.log_h {
+            return Ok(());
+        }
+        let generator = F::two_adic_generator(log_h);
+        let forward = reversed_powers(alloc, F::ONE, generator, log_h - 1)?;
+        let backward = inverse_powers(alloc, forward.as_slice(), log_h)?;
+        self.forward = Some(forward);
+        self.backward = Some(backward);
+        self.log_h = log_h;
+        Ok(())
+    }
+
+    /// The powers of the generators.
+    pub fn forward(&self) -> &[F]
+        ensures { AreTwiddlesFromStart F.Field.own self.now (block_powers F.Field.own (forward_root F.Field.own F.generator)) result.now }
+    {
+        match &self.forward {
+            Some(powers) => powers.as_slice(),
+            None => &[],
+        }
+    }
+
+    /// The powers of their inverses.
+    pub fn backward(&self) -> &[F]
+        ensures { AreTwiddlesFromStart F.Field.own self.now (block_powers F.Field.own (backward_root F.Field.own F.generator)) result.now }
+    {
+        match &self.backward {
+            Some(powers) => powers.as_slice(),
+            None => &[],
+        }
+    }
+}
+
+// From half the powers of a generator, in bit reversed order, those of its inverse, in that order. The
+// first stays. The j-th power of the inverse is the negative of power `2^(log_h - 1) - j`, so each
+// run of `2^l` entries from place `2^l` on is negated and turned around: no product is made.
+fn inverse_powers<F: TwoAdicField>(
+    alloc: Global,
+    powers: &[F],
+    log_h: usize,
+) -> Result<Vec<F>, DftError>
+    requires some { 1 ≤ log_h }
+    requires small { log_h < 64 }
+    requires rooted { log_h ≤ F.TWO_ADICITY }
+    requires powers { AreTwiddles F.Field.own (2 ^ (log_h - 1))
+        (block_powers F.Field.own (forward_root F.Field.own F.generator) (log_h - 1)) powers.now }
+    ensures { IfOk result (λ v. AreTwiddles F.Field.own (2 ^ (log_h - 1))
+        (block_powers F.Field.own (backward_root F.Field.own F.generator) (log_h - 1)) v.items) }
+{
+    let mut inverse = Vec::with_capacity(alloc, powers.len())?;
+    inverse.push(F::ONE)?;
+    for b in 1..powers.len() {
+        let run = 1usize << b.ilog2();
+        inverse.push(-powers[3 * run - 1 - b])?;
+    }
+    Ok(inverse)
+}

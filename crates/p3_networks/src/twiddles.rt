@@ -1,0 +1,183 @@
+//! Twiddles: powers of the generators, made once for all layers up to a height.
+
+ghost use Rattle.std.specs.Prelude.{◌≡◌, ◌⊎◌, ℕ, ◌+◌, ◌-◌, ◌*◌, ◌^◌, ◌<◌, ◌≤◌, IsOk, IfOk, OnOk, OnErr, length, get_or, take, drop};
+ghost use Rattle.p3_field.specs.Ring.{power};
+ghost use Rattle.p3_matrix.specs.BitOrder.{rev};
+ghost use Rattle.p3_networks.specs.Twiddles.{AreTwiddles, AreTwiddlesOfLayers, layer_place, layer_powers};
+
+use p3_field::{Field, TwoAdicField};
+use p3_matrix::DftError;
+use std::alloc::Global;
+use std::marker::Model;
+
+/// The twiddles of an engine, which are kept until it ends: those of layer l begin at place
+/// `2^l - 1`. A layer has the same twiddles at each height, so that heights share them.
+///
+/// Contracts see the logarithm of the largest height whose twiddles are there.
+#[derive(Drop)]
+pub struct Twiddles<F: TwoAdicField> {
+    log_h: usize,
+    powers: Option<Vec<F>>,
+}
+
+impl<F: TwoAdicField> Model for Twiddles<F> {
+    ghost use Rattle.std.specs.Prelude.{ℕ};
+    ghost use Rattle.p3_networks.specs.Twiddles.{AreTwiddlesOfLayers, layer_powers, items_if_any};
+
+    ghost Value = { ℕ };
+
+    ghost view = { λ t. t.log_h };
+
+    ghost invariant = { λ t. AreTwiddlesOfLayers F.Field t.log_h (layer_powers F.Field F.generator) (items_if_any t.powers) };
+}
+
+impl<F: TwoAdicField> Twiddles<F> {
+    /// Those of height one, which has no layer. It takes no memory.
+    pub fn new() -> Self
+        ensures { result ≡ 0 }
+    {
+        Twiddles {
+            log_h: 0,
+            powers: None,
+        }
+    }
+
+    /// The logarithm of the largest height whose twiddles are there.
+    pub fn log_h(&self) -> usize
+        ensures { result ≡ self.now }
+    {
+        self.log_h
+    }
+
+    /// Makes the twiddles for height `2^log_h`, unless they are there: then no memory is taken. Where
+    /// memory is refused, what is there stays.
+    pub fn make(&mut self, alloc: Global, log_h: usize) -> Result<(), DftError>
+        requires within { log_h ≤ F.TWO_ADICITY }
+        requires small { log_h < 64 }
+        ensures made { OnOk result (log_h ≤ self.new) }
+        ensures ready { log_h ≤ self.old → IsOk result }
+        ensures keeps { self.old ≤ self.new }
+        ensures only { (self.new ≡ self.old) ⊎ (self.new ≡ log_h) }
+        ensures refused { OnErr result (self.new ≡ self.old) }
+    {
+        if log_h <= self.log_h {
+            return Ok(());
+        }
+        let powers = layers(alloc, log_h)?;
+        self.powers = Some(powers);
+        self.log_h = log_h;
+        Ok(())
+    }
+
+    /// The twiddles of all layers that are there.
+    pub fn as_slice(&self) -> &[F]
+        ensures { AreTwiddlesOfLayers F.Field.own self.now (layer_powers F.Field.own F.generator) result.now }
+    {
+        match &self.powers {
+            Some(powers) => powers.as_slice(),
+            None => &[],
+        }
+    }
+}
+
+/// Those of one layer.
+pub fn layer_twiddles<F: TwoAdicField>(twiddles: &[F], l: usize) -> &[F]
+    requires small { l < 63 }
+    requires inside { 2 * 2 ^ l - 1 ≤ length twiddles.now }
+    ensures { result.now ≡ take (2 ^ l) (drop (2 ^ l - 1) twiddles.now) }
+{
+    let count = 1usize << l;
+    &twiddles[count - 1..2 * count - 1]
+}
+
+// The twiddles of the layers of height `2^log_h`.
+fn layers<F: TwoAdicField>(alloc: Global, log_h: usize) -> Result<Vec<F>, DftError>
+    requires within { log_h ≤ F.TWO_ADICITY }
+    requires small { log_h < 64 }
+    ensures { IfOk result (λ v. AreTwiddlesOfLayers F.Field.own log_h (layer_powers F.Field.own F.generator) v.items) }
+{
+    let mut twiddles = Vec::with_capacity(alloc, (1 << log_h) - 1)?;
+    for l in 0..log_h {
+        let generator = F::two_adic_generator(l + 1);
+        push_powers(&mut twiddles, generator, 1 << l)?;
+    }
+    Ok(twiddles)
+}
+
+/// Adds the first `count` powers of an element at the end, from the one of exponent zero on.
+pub fn push_powers<F: TwoAdicField>(
+    powers: &mut Vec<F>,
+    base: F,
+    count: usize,
+) -> Result<(), DftError>
+    ensures size { OnOk result (length powers.new.items ≡ length powers.old.items + count) }
+    ensures before { OnOk result ((n : ℕ) → n < length powers.old.items
+        → get_or powers.new.items n F.ZERO ≡ get_or powers.old.items n F.ZERO) }
+    ensures powers { OnOk result ((e : ℕ) → e < count
+        → F.value (get_or powers.new.items (length powers.old.items + e) F.ZERO) ≡ power F.ring (F.value base) e) }
+{
+    let mut power = F::ONE;
+    for _e in 0..count {
+        powers.push(power)?;
+        power = power * base;
+    }
+    Ok(())
+}
+
+/// The first `2^bits` powers of `base`, each times `first`, in bit reversed order.
+pub fn reversed_powers<F: TwoAdicField>(
+    alloc: Global,
+    first: F,
+    base: F,
+    bits: usize,
+) -> Result<Vec<F>, DftError>
+    requires { bits < 64 }
+    ensures { IfOk result (λ v. AreTwiddles F.Field.own (2 ^ bits)
+        (λ b. F.ring.mul (F.value first) (power F.ring (F.value base) (rev bits b))) v.items) }
+{
+    let mut powers = Vec::with_capacity(alloc, 1 << bits)?;
+    push_layer(&mut powers, first, base, bits, true)?;
+    Ok(powers)
+}
+
+/// Adds the first `2^bits` powers of `base`, each times `first`, at the end: in natural order or in bit
+/// reversed order. In either, twice as many are the same again and each of them times one factor.
+pub fn push_layer<F: TwoAdicField>(
+    twiddles: &mut Vec<F>,
+    first: F,
+    base: F,
+    bits: usize,
+    reversed: bool,
+) -> Result<(), DftError>
+    requires { bits < 64 }
+    ensures size { OnOk result (length twiddles.new.items ≡ length twiddles.old.items + 2 ^ bits) }
+    ensures before { OnOk result ((n : ℕ) → n < length twiddles.old.items
+        → get_or twiddles.new.items n F.ZERO ≡ get_or twiddles.old.items n F.ZERO) }
+    ensures entries { OnOk result ((e : ℕ) → e < 2 ^ bits → F.value (get_or twiddles.new.items (length twiddles.old.items + e) F.ZERO)
+        ≡ F.ring.mul (F.value first) (power F.ring (F.value base) (layer_place reversed bits e))) }
+{
+    let start = twiddles.len();
+    twiddles.push(first)?;
+    for l in 0..bits {
+        let factor = base.exp_power_of_2(if reversed { bits - 1 - l } else { l });
+        push_multiples(twiddles, start, factor)?;
+    }
+    Ok(())
+}
+
+// Adds each element from place `from` on, times `factor`, at the end.
+fn push_multiples<F: Field>(elements: &mut Vec<F>, from: usize, factor: F) -> Result<(), DftError>
+    requires { from ≤ length elements.old.items }
+    ensures size { OnOk result (length elements.new.items + from ≡ 2 * length elements.old.items) }
+    ensures before { OnOk result ((n : ℕ) → n < length elements.old.items
+        → get_or elements.new.items n F.ZERO ≡ get_or elements.old.items n F.ZERO) }
+    ensures after { OnOk result ((n : ℕ) → from + n < length elements.old.items
+        → F.value (get_or elements.new.items (length elements.old.items + n) F.ZERO)
+        ≡ F.ring.mul (F.value (get_or elements.old.items (from + n) F.ZERO)) (F.value factor)) }
+{
+    for i in from..elements.len() {
+        let multiple = elements[i] * factor;
+        elements.push(multiple)?;
+    }
+    Ok(())
+}
