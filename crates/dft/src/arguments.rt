@@ -6,7 +6,8 @@ ghost use Rattle.p3_field.specs.Ring.{IsInvertible};
 ghost use Rattle.p3_dft.specs.Shapes.{FitsLde};
 ghost use Rattle.dft.specs.declared.names.Operation.TheVariants.{CosetIdft};
 ghost use Rattle.dft.specs.Faults.{seen};
-ghost use Rattle.dft.specs.Arguments.{arguments, arguments_of, cannot_undo, has_no_number, is_unfit, reaches, settings, number_or_zero, numbers_of};
+ghost use Rattle.dft.specs.Arguments.{arguments, arguments_of, cannot_undo, has_no_number, is_unfit, reaches};
+ghost use Rattle.dft.specs.Arguments.{settings, number_or_zero, numbers_of};
 ghost use Rattle.dft.specs.NumberedFields.{has_inverse, numbered};
 
 use crate::fault::Fault;

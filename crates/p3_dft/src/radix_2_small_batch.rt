@@ -315,7 +315,8 @@ fn evaluate<F: TwoAdicField>(
     requires rooted { log_h ≤ F.TWO_ADICITY }
     requires height { height mat.old ≡ 2 ^ log_h }
     requires tile { tile ≤ 4294967296 }
-    requires twiddles { AreTwiddlesFromStart F.Field.own log_h (block_powers F.Field.own (forward_root F.Field.own F.generator)) twiddles.now }
+    requires twiddles { AreTwiddlesFromStart F.Field.own log_h
+        (block_powers F.Field.own (forward_root F.Field.own F.generator)) twiddles.now }
     ensures values { IsTransform F.Field.own F.generator mat.old F.ring.one mat.new }
     ensures grows { products.old ≤ products.new }
     ensures cost { products.new ≤ products.old + mat.old.width * (log_h * 2 ^ log_h / 2) }
@@ -340,7 +341,8 @@ fn interpolate_reversed<F: TwoAdicField>(
     requires rooted { log_h ≤ F.TWO_ADICITY }
     requires height { height mat.old ≡ 2 ^ log_h }
     requires tile { tile ≤ 4294967296 }
-    requires twiddles { AreTwiddlesFromStart F.Field.own log_h (block_powers F.Field.own (backward_root F.Field.own F.generator)) twiddles.now }
+    requires twiddles { AreTwiddlesFromStart F.Field.own log_h
+        (block_powers F.Field.own (backward_root F.Field.own F.generator)) twiddles.now }
     ensures shape { HasShapeOf mat.new mat.old }
     ensures size { length mat.new.values ≡ length mat.old.values }
     ensures coefficients { (c : Matrix F.Element) → IsQuotient F.ring (2 ^ log_h) (bit_reversal log_h (values_of F.Field.own mat.new)) c
@@ -417,7 +419,8 @@ fn interpolate<F: TwoAdicField>(
     requires rooted { log_h ≤ F.TWO_ADICITY }
     requires height { height mat.old ≡ 2 ^ log_h }
     requires tile { tile ≤ 4294967296 }
-    requires twiddles { AreTwiddlesFromStart F.Field.own log_h (block_powers F.Field.own (backward_root F.Field.own F.generator)) twiddles.now }
+    requires twiddles { AreTwiddlesFromStart F.Field.own log_h
+        (block_powers F.Field.own (backward_root F.Field.own F.generator)) twiddles.now }
     ensures coefficients { IsInterpolation F.Field.own F.generator mat.old F.ring.one mat.new }
     ensures grows { products.old ≤ products.new }
     ensures cost { products.new ≤ products.old + mat.old.width * (log_h * 2 ^ log_h / 2) + 2 ^ log_h * mat.old.width }

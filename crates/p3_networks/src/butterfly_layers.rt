@@ -25,14 +25,14 @@ pub trait Rule<F: TwoAdicField>: Copy {
     // Whether every pair of a block has one butterfly.
     ghost by_block: { Bool };
 
-    // Whether it has: the halves of a block then meet as two long rows.
+    /// Whether it has: the halves of a block then meet as two long rows.
     fn goes_by_block(self) -> bool
         ensures told { result ≡ by_block }
         ensures same { let value = F.value in IsTrue result → (b s t : ℕ)
             → (near F.Element F.ring value self b s ≡ near F.Element F.ring value self b t)
             × (far F.Element F.ring value self b s ≡ far F.Element F.ring value self b t) };
 
-    // Takes two rows of one length to the near and the far row in their places.
+    /// Takes two rows of one length to the near and the far row in their places.
     fn meet(
         self,
         block: usize,
@@ -50,8 +50,8 @@ pub trait Rule<F: TwoAdicField>: Copy {
         ensures grows { products.old ≤ products.new }
         ensures count { products.new ≤ products.old + cost * length row_1.old };
 
-    // Takes the halves of a block of one column, whose place t is entry t, to the near and the far
-    // half in their places.
+    /// Takes the halves of a block of one column, whose place t is entry t, to the near and the far
+    /// half in their places.
     fn meet_column(self, block: usize, low: &mut [F], high: &mut [F], products: &mut Products)
         requires some { 1 ≤ length low.old }
         requires size { length low.old ≡ length high.old }

@@ -8,7 +8,8 @@ ghost use Rattle.p3_matrix.specs.Butterflies.{dit_near, dit_far};
 ghost use Rattle.p3_networks.specs.Cosets.{point};
 ghost use Rattle.p3_networks.specs.Polynomials.{poly};
 ghost use Rattle.p3_networks.specs.Layers.{AreValuesOfRows};
-ghost use Rattle.p3_networks.specs.Twiddles.{AreBlockTwiddles, AreTwiddlesOfLayers, coset_twiddles, block_end, block_entries, factor, scale_cost};
+ghost use Rattle.p3_networks.specs.Twiddles.{AreBlockTwiddles, AreTwiddlesOfLayers, coset_twiddles, block_end};
+ghost use Rattle.p3_networks.specs.Twiddles.{block_entries, factor, scale_cost};
 
 use crate::butterfly_layers::layer;
 use crate::butterfly_layers::rules::{

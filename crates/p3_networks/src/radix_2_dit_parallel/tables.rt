@@ -26,7 +26,8 @@ pub struct RootTables<F: TwoAdicField> {
 
 impl<F: TwoAdicField> Model for RootTables<F> {
     ghost use Rattle.std.specs.Prelude.{◌+◌, ◌/◌, ◌-◌, ◌^◌, ◌≤◌};
-    ghost use Rattle.p3_networks.specs.Twiddles.{AreTwiddles, AreTwiddlesOfLayers, RootsUpTo, items_if_any, reversed_root_powers, root_powers};
+    ghost use Rattle.p3_networks.specs.Twiddles.{AreTwiddles, AreTwiddlesOfLayers, RootsUpTo, items_if_any};
+    ghost use Rattle.p3_networks.specs.Twiddles.{reversed_root_powers, root_powers};
 
     ghost Value = { RootsUpTo };
 

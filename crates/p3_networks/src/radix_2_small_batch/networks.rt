@@ -33,8 +33,10 @@ fn layer_of_run<F: TwoAdicField, R: Rule<F>>(
     requires small { (number + 1) * 2 ^ top < 2 ^ 64 }
     requires size { length values.old ≡ 2 ^ top * width }
     requires there { (b t : ℕ) → b < (number + 1) * 2 ^ (top - 1 - entry) → R.has rule b t }
-    requires near_by_block { (b t : ℕ) (p q : F.Element) → R.near F.Element F.ring F.value rule b t p q ≡ R.near F.Element F.ring F.value rule b 0 p q }
-    requires far_by_block { (b t : ℕ) (p q : F.Element) → R.far F.Element F.ring F.value rule b t p q ≡ R.far F.Element F.ring F.value rule b 0 p q }
+    requires near_by_block { (b t : ℕ) (p q : F.Element) → R.near F.Element F.ring F.value rule b t p q
+        ≡ R.near F.Element F.ring F.value rule b 0 p q }
+    requires far_by_block { (b t : ℕ) (p q : F.Element) → R.far F.Element F.ring F.value rule b t p q
+        ≡ R.far F.Element F.ring F.value rule b 0 p q }
     ensures cells { (k : ℕ) (before after : ℕ → ℕ → F.Element)
         → AreLayers k width (λ b. R.near F.Element F.ring F.value rule b 0) (λ b. R.far F.Element F.ring F.value rule b 0) before after
         → (number + 1) * 2 ^ top ≤ 2 ^ k → HoldsCells F.value F.ZERO (number * length values.old) (before entry) values.old
@@ -67,7 +69,8 @@ fn dit_layers<F: TwoAdicField>(
     requires first { F.value (get_or twiddles.now 0 F.ZERO) ≡ F.ring.one }
     requires enough { (number + 1) * 2 ^ top ≤ 2 * length twiddles.now }
     ensures cells { (k : ℕ) (cells : ℕ → ℕ → F.Element)
-        → AreLayers k width (λ b. dit_near F.ring (F.value (get_or twiddles.now b F.ZERO))) (λ b. dit_far F.ring (F.value (get_or twiddles.now b F.ZERO)))
+        → AreLayers k width (λ b. dit_near F.ring (F.value (get_or twiddles.now b F.ZERO)))
+        (λ b. dit_far F.ring (F.value (get_or twiddles.now b F.ZERO)))
         (λ e. cells (e + 1)) cells
         → (number + 1) * 2 ^ top ≤ 2 ^ k → HoldsCells F.value F.ZERO (number * length values.old) (cells to) values.old
         → HoldsCells F.value F.ZERO (number * length values.old) (cells from) values.new }
@@ -107,7 +110,8 @@ fn dif_layers<F: TwoAdicField>(
     requires first { F.value (get_or twiddles.now 0 F.ZERO) ≡ F.ring.one }
     requires enough { (number + 1) * 2 ^ top ≤ 2 * length twiddles.now }
     ensures cells { (k : ℕ) (cells : ℕ → ℕ → F.Element)
-        → AreLayers k width (λ b. dif_near F.ring (F.value (get_or twiddles.now b F.ZERO))) (λ b. dif_far F.ring (F.value (get_or twiddles.now b F.ZERO)))
+        → AreLayers k width (λ b. dif_near F.ring (F.value (get_or twiddles.now b F.ZERO)))
+        (λ b. dif_far F.ring (F.value (get_or twiddles.now b F.ZERO)))
         cells (λ e. cells (e + 1))
         → (number + 1) * 2 ^ top ≤ 2 ^ k → HoldsCells F.value F.ZERO (number * length values.old) (cells from) values.old
         → HoldsCells F.value F.ZERO (number * length values.old) (cells to) values.new }
@@ -144,7 +148,8 @@ fn dit_tiles<F: TwoAdicField>(
     requires first { F.value (get_or twiddles.now 0 F.ZERO) ≡ F.ring.one }
     requires enough { 2 ^ log_h ≤ 2 * length twiddles.now }
     ensures cells { (cells : ℕ → ℕ → F.Element)
-        → AreLayers log_h width (λ b. dit_near F.ring (F.value (get_or twiddles.now b F.ZERO))) (λ b. dit_far F.ring (F.value (get_or twiddles.now b F.ZERO)))
+        → AreLayers log_h width (λ b. dit_near F.ring (F.value (get_or twiddles.now b F.ZERO)))
+        (λ b. dit_far F.ring (F.value (get_or twiddles.now b F.ZERO)))
         (λ e. cells (e + 1)) cells
         → HoldsCells F.value F.ZERO 0 (cells log_rows) values.old → HoldsCells F.value F.ZERO 0 (cells 0) values.new }
     ensures grows { products.old ≤ products.new }
@@ -177,7 +182,8 @@ fn scaled_dif_tiles<F: TwoAdicField>(
     requires first { F.value (get_or twiddles.now 0 F.ZERO) ≡ F.ring.one }
     requires enough { 2 ^ log_h ≤ 2 * length twiddles.now }
     ensures cells { (cells : ℕ → ℕ → F.Element)
-        → AreLayers log_h width (λ b. dif_near F.ring (F.value (get_or twiddles.now b F.ZERO))) (λ b. dif_far F.ring (F.value (get_or twiddles.now b F.ZERO)))
+        → AreLayers log_h width (λ b. dif_near F.ring (F.value (get_or twiddles.now b F.ZERO)))
+        (λ b. dif_far F.ring (F.value (get_or twiddles.now b F.ZERO)))
         cells (λ e. cells (e + 1))
         → HoldsCells (λ x. F.ring.mul (F.value x) (F.value scale)) F.ZERO 0 (cells 0) values.old
         → HoldsCells F.value F.ZERO 0 (cells log_rows) values.new }
@@ -239,7 +245,8 @@ pub fn scaled_dif_network<F: TwoAdicField>(
     requires small { log_h < 64 }
     requires rooted { log_h ≤ F.TWO_ADICITY }
     requires size { length values.old ≡ 2 ^ log_h * width }
-    requires twiddles { AreTwiddlesFromStart F.Field.own log_h (block_powers F.Field.own (backward_root F.Field.own F.generator)) twiddles.now }
+    requires twiddles { AreTwiddlesFromStart F.Field.own log_h
+        (block_powers F.Field.own (backward_root F.Field.own F.generator)) twiddles.now }
     ensures values { (r j : ℕ) → r < 2 ^ log_h → j < width → F.value (get_or values.new (r * width + j) F.ZERO)
         ≡ poly F.ring (2 ^ log_h) (λ q. F.ring.mul (F.value (get_or values.old (rev log_h q * width + j) F.ZERO)) (F.value scale))
         (power F.ring (backward_root F.Field.own F.generator log_h) r) }
@@ -298,7 +305,8 @@ fn spread_rows<F: TwoAdicField>(
     requires enough { (first + count) * copies ≤ 2 * length twiddles.now }
     ensures values { (q t j : ℕ) → q < count → t < copies → j < width
         → F.value (get_or values.new ((q * copies + t) * width + j) F.ZERO)
-        ≡ F.ring.mul (F.value (get_or rows.now ((first + q) * width + j) F.ZERO)) (F.ring.mul (F.value (get_or weights.now (first + q) F.ZERO))
+        ≡ F.ring.mul (F.value (get_or rows.now ((first + q) * width + j) F.ZERO))
+        (F.ring.mul (F.value (get_or weights.now (first + q) F.ZERO))
         (power F.ring (F.value (get_or twiddles.now ((first + q) * (copies / 2)) F.ZERO)) t)) }
     ensures count { products.new ≡ products.old + length values.old }
 {
@@ -338,7 +346,8 @@ fn spread_tiles<F: TwoAdicField>(
     requires some { 1 ≤ length twiddles.now }
     requires enough { 2 ^ log_h ≤ 2 * length twiddles.now }
     ensures cells { (cells : ℕ → ℕ → F.Element)
-        → AreLayers log_h width (λ b. dif_near F.ring (F.value (get_or twiddles.now b F.ZERO))) (λ b. dif_far F.ring (F.value (get_or twiddles.now b F.ZERO)))
+        → AreLayers log_h width (λ b. dif_near F.ring (F.value (get_or twiddles.now b F.ZERO)))
+        (λ b. dif_far F.ring (F.value (get_or twiddles.now b F.ZERO)))
         cells (λ e. cells (e + 1))
         → ((q t j : ℕ) → q < 2 ^ (log_h - added_bits) → t < 2 ^ added_bits → j < width
         → cells added_bits ((q * 2 ^ added_bits + t) * width + j)
@@ -395,9 +404,11 @@ pub fn extending_network<F: TwoAdicField>(
     requires size { length values.old ≡ 2 ^ log_h * width }
     requires rows { length rows.now ≡ 2 ^ (log_h - added_bits) * width }
     requires weights { length weights.now ≡ 2 ^ (log_h - added_bits) }
-    requires twiddles { AreTwiddlesFromStart F.Field.own log_h (block_powers F.Field.own (forward_root F.Field.own F.generator)) twiddles.now }
+    requires twiddles { AreTwiddlesFromStart F.Field.own log_h
+        (block_powers F.Field.own (forward_root F.Field.own F.generator)) twiddles.now }
     ensures values { (r j : ℕ) → r < 2 ^ log_h → j < width → F.value (get_or values.new (r * width + j) F.ZERO)
-        ≡ poly F.ring (2 ^ (log_h - added_bits)) (λ q. F.ring.mul (F.value (get_or rows.now (rev (log_h - added_bits) q * width + j) F.ZERO))
+        ≡ poly F.ring (2 ^ (log_h - added_bits)) (λ q. F.ring.mul
+        (F.value (get_or rows.now (rev (log_h - added_bits) q * width + j) F.ZERO))
         (F.value (get_or weights.now (rev (log_h - added_bits) q) F.ZERO))) (power F.ring (F.value (F.generator log_h)) r) }
     ensures grows { products.old ≤ products.new }
     ensures count { 2 * products.new ≤ 2 * products.old + (log_h - added_bits + 2) * length values.old }
