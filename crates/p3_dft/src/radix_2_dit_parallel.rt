@@ -28,9 +28,10 @@ use std::marker::Model;
 /// Powers of the generators and of their inverses are kept for the largest height so far, from its first
 /// transform or inverse on, or from `prepare`, until the engine ends; then `dft_batch`, `idft_batch` and
 /// the calls that stand on them, but for extensions, take no memory at that height and at smaller ones.
-/// A coset has a table of its own, for its height and its shift, which is kept from its first
-/// `coset_dft_batch` on; the coset of one, which is the subgroup, needs none. A new engine and a clone
-/// have no tables and take no memory.
+/// A coset has a table of its own, of one entry less than its height, for its height and its shift,
+/// which is kept from its first `coset_dft_batch` on, also where that is part of an extension; the coset
+/// of one, which is the subgroup, needs none. Contracts tell that `prepare`, `dft_batch`, `idft_batch`
+/// and `coset_dft_batch` lose none. A new engine and a clone have no tables and take no memory.
 ///
 /// Contracts see which heights are prepared, which cosets have a table, and how many products were made.
 #[derive(Drop)]
@@ -195,6 +196,9 @@ impl<F: TwoAdicField> TwoAdicSubgroupDft<F> for Radix2DitParallel<F> {
         ensures only { AtLog (height (N.stored mat))
             (λ k. (n : ℕ) → IsPrepared self.new.roots n → IsPrepared self.old.roots n ⊎ (n ≤ k)) }
         ensures roots { F.value shift ≢ F.ring.one → self.new.roots.prepared ≡ self.old.roots.prepared }
+        ensures once { AtLog (height (N.stored mat))
+            (λ k. IsCosetPrepared F.Field.own self.old k (F.value shift) → self.new.cosets ≡ self.old.cosets) }
+        ensures one { F.value shift ≡ F.ring.one → self.new.cosets ≡ self.old.cosets }
         ensures cosets { AtLog (height (N.stored mat)) (λ k. (self.new.cosets ≡ self.old.cosets)
             ⊎ (self.new.cosets ≡ self.old.cosets ++ record { log_h = k; shift = shift } ∷ [])) }
         ensures refused { OnErr result (self.new ≡ self.old) }

@@ -27,7 +27,8 @@ const TILE: usize = 8192;
 /// Transforms by layers of butterflies, in place: those whose blocks are larger than a tile of rows on
 /// the whole matrix, and all others tile by tile, so that a tile goes through its layers while it is
 /// in the cache. At height `2^k` and width w that is at most `w * k * 2^k / 2` products, and
-/// `w * 2^k` more for an inverse, which has a network of its own.
+/// `w * 2^k` more for an inverse, which has a network of its own. So has `coset_lde_batch`, which meets
+/// no row of zeros.
 ///
 /// Two tables of twiddles are kept for the largest height so far, from its first transform on, or from
 /// `prepare`, until the engine ends; then `dft_batch`, `idft_batch` and the calls that stand on them,
@@ -242,9 +243,10 @@ impl<F: TwoAdicField> TwoAdicSubgroupDft<F> for Radix2DFTSmallBatch<F> {
         Ok(mat)
     }
 
-    /// As the trait says, in less than an inverse and a transform of the larger height: no rows are
-    /// reversed, and no row of zeros is met. A matrix of height one without added bits is its own
-    /// extension: it is handed back, with no product and no memory taken.
+    /// As the trait says, in no more than an inverse and a transform of the larger height, and in less
+    /// with two added bits or more: no rows are reversed, and no row of zeros is met. A matrix of height
+    /// one without added bits is its own extension: it is handed back, with no product and no memory
+    /// taken.
     fn coset_lde_batch<N: IntoRowMajorMatrix<F>>(
         &mut self,
         mat: N,
@@ -256,6 +258,8 @@ impl<F: TwoAdicField> TwoAdicSubgroupDft<F> for Radix2DFTSmallBatch<F> {
             IsExtension F.Field.own F.generator (N.stored mat) added_bits (F.value shift) out) }
         ensures serves { AtLog (height (N.stored mat))
             (λ k. OnOk result (IsPrepared self.new k × IsPrepared self.new (k + added_bits))) }
+        ensures one_row { height (N.stored mat) ≡ 1 → added_bits ≡ 0
+            → (result ≡ Ok (N.stored mat)) × (self.new ≡ self.old) }
         ensures only { AtLog (height (N.stored mat))
             (λ k. (n : ℕ) → IsPrepared self.new n → IsPrepared self.old n ⊎ (n ≤ k + added_bits)) }
         ensures later { IsLater IsPrepared IsPrepared IsPrepared (λ e. e.products) self.old self.new }

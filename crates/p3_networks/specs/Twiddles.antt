@@ -1,4 +1,4 @@
--- The twiddles that an engine keeps, and what such an engine shows of itself.
+-- The twiddles that an engine keeps, and what its tables show of themselves.
 use Rattle.std.specs.Prelude.{◌≡◌, ℕ, ◌+◌, ◌-◌, ◌*◌, ◌^◌, ◌/◌, ◌<◌, ◌≤◌, leb, List, [], length, get_or, take, drop, Bool, if◌then◌else◌, Option, Some, None, Vec}
 use Rattle.p3_field.specs.Ring.{power}
 use Rattle.p3_field.specs.declared.fields.Field.{Ghosts as FieldMembers}
@@ -78,7 +78,7 @@ reversed_root_powers f generator inverse log_h b = power f.ring (root_of f gener
 abbrev pub layer_place : Bool → ℕ → ℕ → ℕ
 layer_place reversed l t = if reversed then rev l t else t
 
--- the table of the coset of s of order 2 ^ log: layer after layer, in natural order in the first half of the layers, and in bit reversed order in the second
+-- the table of the coset of s of order 2 ^ log: layer after layer, in natural order in the first half of the layers, which has the middle one of an odd number, and in bit reversed order in the second
 abbrev pub IsCosetTable : {F : Type 0} (f : FieldMembers F) → (ℕ → F) → f.Element → ℕ → List F → Type 0
 IsCosetTable f generator s log twiddles = AreTwiddlesOfLayers f log (λ l t. coset_twiddles f (forward_root f generator) s log l (layer_place (leb ((log + 1) / 2) l) l t)) twiddles
 

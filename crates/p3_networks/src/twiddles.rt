@@ -1,4 +1,5 @@
-//! Twiddles: powers of the generators, made once for all layers up to a height.
+//! Twiddles: powers of the generators, made once for all layers up to a height, and powers of other
+//! elements, in natural order or in bit reversed order.
 
 ghost use Rattle.std.specs.Prelude.{◌≡◌, ◌⊎◌, ℕ, ◌+◌, ◌-◌, ◌*◌, ◌^◌, ◌<◌, ◌≤◌, IsOk, IfOk, OnOk, OnErr, length, get_or, take, drop};
 ghost use Rattle.p3_field.specs.Ring.{power};

@@ -1,4 +1,5 @@
-// What a caller proves of two calls at once: each law, by a caller that cites it.
+// What a caller proves of two calls at once: a caller for each law, which cites it unless the checker
+// finds the proof by itself.
 
 ghost use Rattle.std.specs.Prelude.{◌≡◌, ℕ, ◌+◌, ◌*◌, ◌^◌, ◌<◌, ◌≤◌, IfOk, IsTrue, get_or, length, map, vec_len};
 ghost use Rattle.std.specs.List.{All, AllZip};

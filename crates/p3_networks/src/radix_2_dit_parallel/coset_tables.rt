@@ -143,6 +143,7 @@ impl<F: TwoAdicField> CosetTables<F> {
         requires small { log_h < 64 }
         ensures made { IfOk result (IsCosetAt F.Field.own self.new log_h (F.value shift)) }
         ensures ready { HasCoset F.Field.own self.old log_h (F.value shift) → IsOk result }
+        ensures once { HasCoset F.Field.own self.old log_h (F.value shift) → self.new ≡ self.old }
         ensures only { (self.new ≡ self.old) ⊎ (self.new ≡ self.old ++ record { log_h = log_h; shift = shift } ∷ []) }
         ensures refused { OnErr result (self.new ≡ self.old) }
     {

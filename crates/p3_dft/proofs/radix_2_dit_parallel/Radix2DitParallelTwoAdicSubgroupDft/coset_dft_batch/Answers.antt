@@ -114,6 +114,21 @@ returns-clause-tables g c k high =
 pub returns-clause-only : goal.returns-clause-only
 returns-clause-only g c k high n now = inl (subst (λ (e : CosetTabled g.row.F.Denot). IsPrepared e.roots n) c.self.view_is now)
 
+pub returns-clause-once : goal.returns-clause-once
+returns-clause-once g c k high ready =
+    let field = g.F.Field in
+    let s = field.value c.args.shift in
+    let tall : c.height-height.result ≡ height (g.N.IntoRowMajorMatrix.stored c.args.mat) = c.height-height.ensures.height ∙ ap height c.into_row_major_matrix-mat.ensures in
+    let same : k ≡ c.log2_strict_usize-log_h.result = log_same k _ (sym high ∙ sym tall ∙ c.log2_strict_usize-log_h.ensures.power) in
+    let has : HasCoset field c.args.self.now.cosets k s =
+    its_table
+    (λ is. not_both c.eq.result c.if-eq.false (search (rules, (g.met.F.Field.eq_law c.args.shift c.ONE.result).1 (is ∙ sym (ap field.value c.ONE.ensures ∙ g.met.F.Field.one_law)))))
+    (λ none. c.if-height-eq1.false (tall ∙ high ∙ ap (λ n. 2 ^ n) none)) ready in
+    let held : HasCoset field c.self.inside.cosets c.log2_strict_usize-log_h.result s =
+    subst (λ (n : ℕ). HasCoset field c.self.inside.cosets n s) same
+    (subst (λ (xs : List (Coset g.row.F.Denot)). HasCoset field xs k s) (sym (ap (λ (e : CosetTabled g.row.F.Denot). e.cosets) c.self.view_is)) has) in
+    c.make.ensures.once held ∙ ap (λ (e : CosetTabled g.row.F.Denot). e.cosets) c.self.view_is
+
 pub returns-clause-cosets : goal.returns-clause-cosets
 returns-clause-cosets g c k high =
     let shift = c.args.shift in

@@ -24,6 +24,9 @@ on_ok (Err e) known = tt
 log_within : (log a most fit h : ℕ) → h ≡ 2 ^ log → h ≡ 2 ^ fit → fit + a ≤ most → log + a ≤ most
 log_within log a most fit h is high within = let same : log ≡ fit = log_same log fit (sym is ∙ high) in omega (arith, same, within)
 
+more_points : (h log a : ℕ) → h ≡ 2 ^ log → (log + a ≡ 0 → ⊥) → h ≡ 1 → a ≡ 0 → ⊥
+more_points h log a is more one none = let single : log ≡ 0 = log_same log 0 (sym is ∙ one) in more (omega (arith, none, single))
+
 pub overflow_add-log_h : goal.overflow_add-log_h
 overflow_add-log_h g c =
     let small = log_within c.log2_strict_usize-log_h.result c.args.added_bits 63 c.requires.log c.height.result c.log2_strict_usize-log_h.ensures.power
@@ -164,3 +167,13 @@ returns-in_err-make-clause-only g c k high n now =
     let same : log ≡ k = log_same log k (sym c.log2_strict_usize-log_h.ensures.power ∙ c.height.ensures.height ∙ ap height c.into_row_major_matrix-mat.ensures ∙ high) in
     subst (λ (e : Tabled). IsPrepared e n ⊎ (n ≤ k + c.args.added_bits)) c.self.view_is
     (prepared_before c.self.inside.tables c.make.new.self (k + c.args.added_bits) n (subst (λ (m : ℕ). (c.make.new.self ≡ c.self.inside.tables) ⊎ (c.make.new.self ≡ m + c.args.added_bits)) same c.make.ensures.only) now)
+
+pub returns-in_err-make-clause-one_row : goal.returns-in_err-make-clause-one_row
+returns-in_err-make-clause-one_row g c one none =
+    absurd (more_points c.height.result c.log2_strict_usize-log_h.result c.args.added_bits c.log2_strict_usize-log_h.ensures.power c.if-log_h-added_bits-eq0.false
+    (c.height.ensures.height ∙ ap height c.into_row_major_matrix-mat.ensures ∙ one) none)
+
+pub returns-clause-one_row : goal.returns-clause-one_row
+returns-clause-one_row g c one none =
+    absurd (more_points c.height.result c.log2_strict_usize-log_h.result c.args.added_bits c.log2_strict_usize-log_h.ensures.power c.if-log_h-added_bits-eq0.false
+    (c.height.ensures.height ∙ ap height c.into_row_major_matrix-mat.ensures ∙ one) none)
