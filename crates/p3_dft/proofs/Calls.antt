@@ -5,6 +5,7 @@ pub mod Extensions
 pub mod Inverses
 pub mod JobLists
 pub mod Padding
+pub mod PreparedCosets
 pub mod PreparedHeights
 pub mod Shapes
 pub mod Transforms

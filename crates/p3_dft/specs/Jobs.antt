@@ -34,15 +34,15 @@ module _ {F : Type 0} (f : FieldMembers F) where
     pub fewer : length answers < length jobs
     pub answered : AllZip (IsAnswer generator) (take (length answers) jobs) answers
 
--- the job takes a transform of a height at which it is promised to succeed, and no extension
-abbrev pub IsPromised : {F : Type 0} → (ℕ → Type 0) → (ℕ → Type 0) → Job F → Type 0
+-- the job takes a transform that is promised to succeed at the height of its matrix, and with its shift, and no extension
+abbrev pub IsPromised : {F : Type 0} → (ℕ → Type 0) → (ℕ → F → Type 0) → Job F → Type 0
 IsPromised promised coset_promised (Dft m) = (k : ℕ) × (height m ≡ 2 ^ k) × promised k
-IsPromised promised coset_promised (CosetDft m s) = (k : ℕ) × (height m ≡ 2 ^ k) × coset_promised k
+IsPromised promised coset_promised (CosetDft m s) = (k : ℕ) × (height m ≡ 2 ^ k) × promised k × coset_promised k s
 IsPromised promised coset_promised (Idft m) = (k : ℕ) × (height m ≡ 2 ^ k) × promised k
 IsPromised promised coset_promised (CosetIdft m s) = (k : ℕ) × (height m ≡ 2 ^ k) × promised k
 IsPromised promised coset_promised (Lde m a) = ⊥
 IsPromised promised coset_promised (CosetLde m a s) = ⊥
 
 -- the first job that has no answer is not promised
-abbrev pub NextIsNotPromised : {F : Type 0} → (ℕ → Type 0) → (ℕ → Type 0) → List (Job F) → List (RowMajor F) → Type 0
+abbrev pub NextIsNotPromised : {F : Type 0} → (ℕ → Type 0) → (ℕ → F → Type 0) → List (Job F) → List (RowMajor F) → Type 0
 NextIsNotPromised {F} promised coset_promised jobs answers = (d : Job F) → IsPromised promised coset_promised (get_or jobs (length answers) d) → ⊥

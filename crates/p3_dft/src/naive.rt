@@ -66,15 +66,13 @@ impl<F: TwoAdicField> TwoAdicSubgroupDft<F> for NaiveDft {
 
     ghost promised = { λ _ _. ⊥ };
 
-    ghost coset_promised = { λ _ _. ⊥ };
+    ghost coset_promised = { λ _ _ _. ⊤ };
 
     ghost served = { λ _ _. ⊤ };
 
     ghost bound = { λ k w. 2 ^ k * 2 ^ k * w };
 
     ghost made = { λ e. e };
-
-    ghost coset_promised_law = { λ e k none. none };
 
     ghost default_law = { λ e none. none };
 
@@ -85,7 +83,7 @@ impl<F: TwoAdicField> TwoAdicSubgroupDft<F> for NaiveDft {
     fn dft_batch<N: IntoRowMajorMatrix<F>>(&mut self, mat: N) -> Result<RowMajorMatrix<F>, DftError>
         requires { FitsDft F.TWO_ADICITY (height (N.stored mat)) (N.stored mat).width }
         ensures values { IfOk result (λ out. IsTransform F.Field.own F.generator (N.stored mat) F.ring.one out) }
-        ensures later { IsLater (λ _ _. ⊥) (λ _ _. ⊥) (λ _ _. ⊤) (λ e. e) self.old self.new }
+        ensures later { IsLater (λ _ _. ⊥) (λ _ _ (_ : F). ⊤) (λ _ _. ⊤) (λ e. e) self.old self.new }
         ensures exact { OnOk result (self.new ≡ self.old + height (N.stored mat) * height (N.stored mat) * (N.stored mat).width) }
     {
         let mat = mat.into_row_major_matrix();

@@ -81,15 +81,13 @@ impl<F: TwoAdicField> TwoAdicSubgroupDft<F> for Radix2Bowers {
 
     ghost promised = { λ _ k. k ≡ 0 };
 
-    ghost coset_promised = { λ _ k. k ≡ 0 };
+    ghost coset_promised = { λ _ _ _. ⊤ };
 
     ghost served = { λ _ _. ⊤ };
 
     ghost bound = { λ k w. w * (k * 2 ^ k / 2) };
 
     ghost made = { λ e. e };
-
-    ghost coset_promised_law = { λ e k one_row. one_row };
 
     ghost default_law = { λ e none. none };
 
@@ -102,7 +100,7 @@ impl<F: TwoAdicField> TwoAdicSubgroupDft<F> for Radix2Bowers {
         ensures values { IfOk result (λ out. IsTransform F.Field.own F.generator (N.stored mat) F.ring.one out) }
         ensures succeeds { AtLog (height (N.stored mat)) (λ k. k ≡ 0 → IsOk result) }
         ensures one_row { height (N.stored mat) ≡ 1 → (result ≡ Ok (N.stored mat)) × (self.new ≡ self.old) }
-        ensures later { IsLater (λ _ k. k ≡ 0) (λ _ k. k ≡ 0) (λ _ _. ⊤) (λ e. e) self.old self.new }
+        ensures later { IsLater (λ _ k. k ≡ 0) (λ _ _ (_ : F). ⊤) (λ _ _. ⊤) (λ e. e) self.old self.new }
         ensures cost { AtLog (height (N.stored mat)) (λ k. OnOk result (self.new ≤ self.old + (N.stored mat).width * (k * 2 ^ k / 2))) }
     {
         let mut mat = mat.into_row_major_matrix();
@@ -129,7 +127,7 @@ impl<F: TwoAdicField> TwoAdicSubgroupDft<F> for Radix2Bowers {
         ensures coefficients { IfOk result (λ out. IsInterpolation F.Field.own F.generator (N.stored mat) F.ring.one out) }
         ensures succeeds { AtLog (height (N.stored mat)) (λ k. k ≡ 0 → IsOk result) }
         ensures one_row { height (N.stored mat) ≡ 1 → (result ≡ Ok (N.stored mat)) × (self.new ≡ self.old) }
-        ensures later { IsLater (λ _ k. k ≡ 0) (λ _ k. k ≡ 0) (λ _ _. ⊤) (λ e. e) self.old self.new }
+        ensures later { IsLater (λ _ k. k ≡ 0) (λ _ _ (_ : F). ⊤) (λ _ _. ⊤) (λ e. e) self.old self.new }
         ensures cost { AtLog (height (N.stored mat))
             (λ k. OnOk result (self.new ≤ self.old + (N.stored mat).width * (k * 2 ^ k / 2) + 2 ^ k * (N.stored mat).width)) }
     {

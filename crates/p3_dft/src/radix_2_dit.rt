@@ -4,7 +4,7 @@ ghost use Rattle.std.specs.Prelude.{◌≡◌, ◌↔◌, ◌⊎◌, ℕ, ◌+�
 ghost use Rattle.p3_matrix.specs.RowMajor.{IsRowMajor, height};
 ghost use Rattle.p3_dft.specs.Transforms.{IsTransform};
 ghost use Rattle.p3_networks.specs.Twiddles.{AreTwiddlesOfLayers, layer_powers};
-ghost use Rattle.p3_dft.specs.Engines.{IsPrepared};
+ghost use Rattle.p3_dft.specs.Engines.{IsPrepared, PreparesNoneAbove};
 
 use crate::traits::{Layout, TwoAdicSubgroupDft};
 use crate::util::{pad_rows, reverse_rows, shift_rows};
@@ -76,7 +76,7 @@ impl<F: TwoAdicField> Radix2Dit<F> {
         ensures prepares { OnOk result (IsPrepared self.new log_h) }
         ensures ready { IsPrepared self.old log_h → IsOk result }
         ensures keeps { (k : ℕ) → IsPrepared self.old k → IsPrepared self.new k }
-        ensures only { (k : ℕ) → IsPrepared self.new k → IsPrepared self.old k ⊎ (k ≤ log_h) }
+        ensures only { PreparesNoneAbove log_h self.old self.new }
         ensures refused { OnErr result (self.new ≡ self.old) }
         ensures products { self.new.products ≡ self.old.products }
     {
@@ -92,9 +92,9 @@ impl<F: TwoAdicField> Radix2Dit<F> {
 }
 
 impl<F: TwoAdicField> TwoAdicSubgroupDft<F> for Radix2Dit<F> {
-    ghost use Rattle.std.specs.Prelude.{◌≡◌, ◌⊎◌, ℕ, ◌+◌, ◌*◌, ◌/◌, ◌-◌, ◌^◌, ◌≤◌, IfOk, IsOk, OnErr, OnOk, Ok};
+    ghost use Rattle.std.specs.Prelude.{◌≡◌, ◌⊎◌, ℕ, ◌+◌, ◌*◌, ◌/◌, ◌-◌, ◌^◌, ◌≤◌, IfOk, IsOk, OnErr, OnOk, Ok, ⊤};
     ghost use Rattle.p3_matrix.specs.RowMajor.{HasShapeOf, RowMajor, height};
-    ghost use Rattle.p3_dft.specs.Engines.{AtLog, IsLater, IsPrepared};
+    ghost use Rattle.p3_dft.specs.Engines.{AtLog, IsLater, IsPrepared, PreparesNoneAbove};
     ghost use Rattle.p3_dft.specs.Extensions.{IsTransformedExtension};
     ghost use Rattle.p3_dft.specs.Shapes.{FitsDft, FitsLde};
     ghost use Rattle.p3_dft.specs.Transforms.{IsTransform};
@@ -108,7 +108,7 @@ impl<F: TwoAdicField> TwoAdicSubgroupDft<F> for Radix2Dit<F> {
 
     ghost promised = { IsPrepared };
 
-    ghost coset_promised = { IsPrepared };
+    ghost coset_promised = { λ _ _ _. ⊤ };
 
     ghost served = { IsPrepared };
 
@@ -117,8 +117,6 @@ impl<F: TwoAdicField> TwoAdicSubgroupDft<F> for Radix2Dit<F> {
     ghost extension = { λ bound k a w. bound k w + bound (k + a) w + 2 * (2 ^ k * w) };
 
     ghost made = { λ e. e.products };
-
-    ghost coset_promised_law = { λ e k prepared. prepared };
 
     ghost default_law = { λ e new. new.1 };
 
@@ -132,10 +130,10 @@ impl<F: TwoAdicField> TwoAdicSubgroupDft<F> for Radix2Dit<F> {
         ensures values { IfOk result (λ out. IsTransform F.Field.own F.generator (N.stored mat) F.ring.one out) }
         ensures succeeds { AtLog (height (N.stored mat)) (λ k. IsPrepared self.old k → IsOk result) }
         ensures serves { AtLog (height (N.stored mat)) (λ k. OnOk result (IsPrepared self.new k)) }
-        ensures only { AtLog (height (N.stored mat)) (λ k. (n : ℕ) → IsPrepared self.new n → IsPrepared self.old n ⊎ (n ≤ k)) }
+        ensures only { AtLog (height (N.stored mat)) (λ k. PreparesNoneAbove k self.old self.new) }
         ensures refused { OnErr result (self.new ≡ self.old) }
         ensures one_row { height (N.stored mat) ≡ 1 → (result ≡ Ok (N.stored mat)) × (self.new ≡ self.old) }
-        ensures later { IsLater IsPrepared IsPrepared IsPrepared (λ e. e.products) self.old self.new }
+        ensures later { IsLater IsPrepared (λ _ _ (_ : F). ⊤) IsPrepared (λ e. e.products) self.old self.new }
         ensures cost { AtLog (height (N.stored mat))
             (λ k. OnOk result (self.new.products ≤ self.old.products + (N.stored mat).width * (k * 2 ^ k / 2))) }
     {
@@ -176,7 +174,7 @@ impl<F: TwoAdicField> TwoAdicSubgroupDft<F> for Radix2Dit<F> {
         ensures values { IfOk result (λ out. IsTransformedExtension F.Field.own F.generator (λ m n. T.post transform m Natural n) Natural
             (N.stored mat) added_bits (F.value shift) out) }
         ensures serves { AtLog (height (N.stored mat)) (λ k. OnOk result (IsPrepared self.new k × IsPrepared self.new (k + added_bits))) }
-        ensures later { IsLater IsPrepared IsPrepared IsPrepared (λ e. e.products) self.old self.new }
+        ensures later { IsLater IsPrepared (λ _ _ (_ : F). ⊤) IsPrepared (λ e. e.products) self.old self.new }
         ensures cost { AtLog (height (N.stored mat)) (λ k. OnOk result (self.new.products ≤ self.old.products
             + ((N.stored mat).width * (k * 2 ^ k / 2) + (N.stored mat).width * ((k + added_bits) * 2 ^ (k + added_bits) / 2)
             + 2 * (2 ^ k * (N.stored mat).width)))) }

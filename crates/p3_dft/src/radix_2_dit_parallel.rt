@@ -1,7 +1,7 @@
 //! The transform by two halves of layers, each run by run, which leaves its rows in bit reversed order.
 
 ghost use Rattle.std.specs.Prelude.{◌≡◌, ◌↔◌, ◌⊎◌, ℕ, ◌+◌, ◌*◌, ◌/◌, ◌^◌, ◌<◌, ◌≤◌, IsTrue, IsOk, OnOk, OnErr};
-ghost use Rattle.p3_dft.specs.Engines.{IsPrepared};
+ghost use Rattle.p3_dft.specs.Engines.{IsPrepared, PreparesNoneAbove};
 
 mod network;
 mod transform;
@@ -30,8 +30,8 @@ use std::marker::Model;
 /// the calls that stand on them, but for extensions, take no memory at that height and at smaller ones.
 /// A coset has a table of its own, of one entry less than its height, for its height and its shift,
 /// which is kept from its first `coset_dft_batch` on, also where that is part of an extension; the coset
-/// of one, which is the subgroup, needs none. Contracts tell that `prepare`, `dft_batch`, `idft_batch`
-/// and `coset_dft_batch` lose none. A new engine and a clone have no tables and take no memory.
+/// of one, which is the subgroup, needs none. No call loses one. A new engine and a clone have no tables
+/// and take no memory.
 ///
 /// Contracts see which heights are prepared, which cosets have a table, and how many products were made.
 #[derive(Drop)]
@@ -90,7 +90,7 @@ impl<F: TwoAdicField> Radix2DitParallel<F> {
         ensures prepares { OnOk result (IsPrepared self.new.roots log_h) }
         ensures ready { IsPrepared self.old.roots log_h → IsOk result }
         ensures keeps { (k : ℕ) → IsPrepared self.old.roots k → IsPrepared self.new.roots k }
-        ensures only { (k : ℕ) → IsPrepared self.new.roots k → IsPrepared self.old.roots k ⊎ (k ≤ log_h) }
+        ensures only { PreparesNoneAbove log_h self.old.roots self.new.roots }
         ensures refused { OnErr result (self.new ≡ self.old) }
         ensures cosets { self.new.cosets ≡ self.old.cosets }
         ensures products { self.new.roots.products ≡ self.old.roots.products }
@@ -109,10 +109,9 @@ impl<F: TwoAdicField> Radix2DitParallel<F> {
 
 impl<F: TwoAdicField> TwoAdicSubgroupDft<F> for Radix2DitParallel<F> {
     ghost use Rattle.std.specs.Prelude.{◌≡◌, ◌≢◌, ◌⊎◌, ⊤, ℕ, ◌+◌, ◌*◌, ◌/◌, ◌^◌, ◌≤◌, [], ◌∷◌, ◌++◌, IfOk, IsOk, OnOk, OnErr, Ok};
-    ghost use Rattle.std.proofs.Common.{inl};
     ghost use Rattle.p3_matrix.specs.BitOrder.{reversed_rows};
     ghost use Rattle.p3_matrix.specs.RowMajor.{HasShapeOf, RowMajor, height};
-    ghost use Rattle.p3_dft.specs.Engines.{AtLog, IsLater, IsCosetPrepared, IsPrepared};
+    ghost use Rattle.p3_dft.specs.Engines.{AtLog, IsLater, IsCosetPrepared, IsPrepared, PreparesNoneAbove};
     ghost use Rattle.p3_dft.specs.Extensions.{IsTransformedExtension, extension_bound};
     ghost use Rattle.p3_dft.specs.Shapes.{FitsDft, FitsLde};
     ghost use Rattle.p3_dft.specs.Transforms.{IsInterpolation, IsTransform};
@@ -126,15 +125,13 @@ impl<F: TwoAdicField> TwoAdicSubgroupDft<F> for Radix2DitParallel<F> {
 
     ghost promised = { λ e. IsPrepared e.roots };
 
-    ghost coset_promised = { λ _ k. k ≡ 0 };
+    ghost coset_promised = { λ e k s. IsCosetPrepared F.Field.own e k (F.value s) };
 
     ghost served = { λ _ _. ⊤ };
 
     ghost bound = { λ k w. w * (k * 2 ^ k / 2) };
 
     ghost made = { λ e. e.roots.products };
-
-    ghost coset_promised_law = { λ e k one_row. inl one_row };
 
     ghost default_law = { λ e new. new.2 };
 
@@ -152,13 +149,13 @@ impl<F: TwoAdicField> TwoAdicSubgroupDft<F> for Radix2DitParallel<F> {
             IsTransform F.Field.own F.generator (N.stored mat) F.ring.one (reversed_rows out.bits out.physical)) }
         ensures succeeds { AtLog (height (N.stored mat)) (λ k. IsPrepared self.old.roots k → IsOk result) }
         ensures serves { AtLog (height (N.stored mat)) (λ k. OnOk result (IsPrepared self.new.roots k)) }
-        ensures only { AtLog (height (N.stored mat))
-            (λ k. (n : ℕ) → IsPrepared self.new.roots n → IsPrepared self.old.roots n ⊎ (n ≤ k)) }
+        ensures only { AtLog (height (N.stored mat)) (λ k. PreparesNoneAbove k self.old.roots self.new.roots) }
         ensures refused { OnErr result (self.new ≡ self.old) }
         ensures one_row { height (N.stored mat) ≡ 1
             → (result ≡ Ok (record { physical = N.stored mat; bits = 0 })) × (self.new ≡ self.old) }
         ensures cosets { self.new.cosets ≡ self.old.cosets }
-        ensures later { IsLater (λ e. IsPrepared e.roots) (λ _ k. k ≡ 0) (λ _ _. ⊤) (λ e. e.roots.products) self.old self.new }
+        ensures later { IsLater (λ e. IsPrepared e.roots) (λ e k s. IsCosetPrepared F.Field.own e k (F.value s))
+            (λ _ _. ⊤) (λ e. e.roots.products) self.old self.new }
         ensures cost { AtLog (height (N.stored mat))
             (λ k. OnOk result (self.new.roots.products ≤ self.old.roots.products + (N.stored mat).width * (k * 2 ^ k / 2))) }
     {
@@ -189,12 +186,12 @@ impl<F: TwoAdicField> TwoAdicSubgroupDft<F> for Radix2DitParallel<F> {
         requires { FitsDft F.TWO_ADICITY (height (N.stored mat)) (N.stored mat).width }
         ensures values { IfOk result (λ out.
             IsTransform F.Field.own F.generator (N.stored mat) (F.value shift) (reversed_rows out.bits out.physical)) }
-        ensures succeeds { AtLog (height (N.stored mat)) (λ k. k ≡ 0 → IsOk result) }
+        ensures succeeds { AtLog (height (N.stored mat)) (λ k. IsPrepared self.old.roots k
+            → IsCosetPrepared F.Field.own self.old k (F.value shift) → IsOk result) }
         ensures ready { AtLog (height (N.stored mat)) (λ k. IsCosetPrepared F.Field.own self.old k (F.value shift) → IsOk result) }
         ensures tables { AtLog (height (N.stored mat))
             (λ k. OnOk result (IsCosetPrepared F.Field.own self.new k (F.value shift))) }
-        ensures only { AtLog (height (N.stored mat))
-            (λ k. (n : ℕ) → IsPrepared self.new.roots n → IsPrepared self.old.roots n ⊎ (n ≤ k)) }
+        ensures only { AtLog (height (N.stored mat)) (λ k. PreparesNoneAbove k self.old.roots self.new.roots) }
         ensures roots { F.value shift ≢ F.ring.one → self.new.roots.prepared ≡ self.old.roots.prepared }
         ensures once { AtLog (height (N.stored mat))
             (λ k. IsCosetPrepared F.Field.own self.old k (F.value shift) → self.new.cosets ≡ self.old.cosets) }
@@ -204,7 +201,8 @@ impl<F: TwoAdicField> TwoAdicSubgroupDft<F> for Radix2DitParallel<F> {
         ensures refused { OnErr result (self.new ≡ self.old) }
         ensures one_row { height (N.stored mat) ≡ 1
             → (result ≡ Ok (record { physical = N.stored mat; bits = 0 })) × (self.new ≡ self.old) }
-        ensures later { IsLater (λ e. IsPrepared e.roots) (λ _ k. k ≡ 0) (λ _ _. ⊤) (λ e. e.roots.products) self.old self.new }
+        ensures later { IsLater (λ e. IsPrepared e.roots) (λ e k s. IsCosetPrepared F.Field.own e k (F.value s))
+            (λ _ _. ⊤) (λ e. e.roots.products) self.old self.new }
         ensures cost { AtLog (height (N.stored mat)) (λ k. OnOk result (self.new.roots.products
             ≤ self.old.roots.products + (N.stored mat).width * (k * 2 ^ k / 2) + 2 ^ k * (N.stored mat).width)) }
         ensures pairs { AtLog (height (N.stored mat)) (λ k. OnOk result (self.new.roots.products
@@ -236,12 +234,12 @@ impl<F: TwoAdicField> TwoAdicSubgroupDft<F> for Radix2DitParallel<F> {
         ensures coefficients { IfOk result (λ out. IsInterpolation F.Field.own F.generator (N.stored mat) F.ring.one out) }
         ensures succeeds { AtLog (height (N.stored mat)) (λ k. IsPrepared self.old.roots k → IsOk result) }
         ensures serves { AtLog (height (N.stored mat)) (λ k. OnOk result (IsPrepared self.new.roots k)) }
-        ensures only { AtLog (height (N.stored mat))
-            (λ k. (n : ℕ) → IsPrepared self.new.roots n → IsPrepared self.old.roots n ⊎ (n ≤ k)) }
+        ensures only { AtLog (height (N.stored mat)) (λ k. PreparesNoneAbove k self.old.roots self.new.roots) }
         ensures refused { OnErr result (self.new ≡ self.old) }
         ensures one_row { height (N.stored mat) ≡ 1 → (result ≡ Ok (N.stored mat)) × (self.new ≡ self.old) }
         ensures cosets { self.new.cosets ≡ self.old.cosets }
-        ensures later { IsLater (λ e. IsPrepared e.roots) (λ _ k. k ≡ 0) (λ _ _. ⊤) (λ e. e.roots.products) self.old self.new }
+        ensures later { IsLater (λ e. IsPrepared e.roots) (λ e k s. IsCosetPrepared F.Field.own e k (F.value s))
+            (λ _ _. ⊤) (λ e. e.roots.products) self.old self.new }
         ensures cost { AtLog (height (N.stored mat)) (λ k. OnOk result (self.new.roots.products
             ≤ self.old.roots.products + (N.stored mat).width * (k * 2 ^ k / 2) + 2 ^ k * (N.stored mat).width)) }
     {

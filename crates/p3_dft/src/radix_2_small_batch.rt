@@ -5,7 +5,7 @@ ghost use Rattle.p3_matrix.specs.BitOrder.{bit_reversal};
 ghost use Rattle.p3_matrix.specs.Matrix.{Matrix, image};
 ghost use Rattle.p3_matrix.specs.RowMajor.{HasShapeOf, IsRowMajor, height};
 ghost use Rattle.p3_networks.specs.Cosets.{AreCoefficients, IsQuotient, IsValues, coset_shift};
-ghost use Rattle.p3_dft.specs.Engines.{AtLog, IsPrepared};
+ghost use Rattle.p3_dft.specs.Engines.{AtLog, IsPrepared, PreparesNoneAbove};
 ghost use Rattle.p3_dft.specs.Transforms.{IsInterpolation, IsTransform, values_of};
 ghost use Rattle.p3_networks.specs.Twiddles.{AreTwiddlesFromStart, backward_root, block_powers, forward_root};
 
@@ -135,7 +135,7 @@ impl<F: TwoAdicField> Radix2DFTSmallBatch<F> {
         ensures prepares { OnOk result (IsPrepared self.new log_h) }
         ensures ready { IsPrepared self.old log_h → IsOk result }
         ensures keeps { (k : ℕ) → IsPrepared self.old k → IsPrepared self.new k }
-        ensures only { (k : ℕ) → IsPrepared self.new k → IsPrepared self.old k ⊎ (k ≤ log_h) }
+        ensures only { PreparesNoneAbove log_h self.old self.new }
         ensures refused { OnErr result (self.new ≡ self.old) }
         ensures products { self.new.products ≡ self.old.products }
     {
@@ -151,9 +151,9 @@ impl<F: TwoAdicField> Radix2DFTSmallBatch<F> {
 }
 
 impl<F: TwoAdicField> TwoAdicSubgroupDft<F> for Radix2DFTSmallBatch<F> {
-    ghost use Rattle.std.specs.Prelude.{◌≡◌, ◌⊎◌, ℕ, ◌+◌, ◌*◌, ◌/◌, ◌^◌, ◌≤◌, IfOk, IsOk, OnOk, OnErr, Ok};
+    ghost use Rattle.std.specs.Prelude.{◌≡◌, ◌⊎◌, ℕ, ◌+◌, ◌*◌, ◌/◌, ◌^◌, ◌≤◌, IfOk, IsOk, OnOk, OnErr, Ok, ⊤};
     ghost use Rattle.p3_matrix.specs.RowMajor.{HasShapeOf, RowMajor, height};
-    ghost use Rattle.p3_dft.specs.Engines.{AtLog, IsLater, IsPrepared};
+    ghost use Rattle.p3_dft.specs.Engines.{AtLog, IsLater, IsPrepared, PreparesNoneAbove};
     ghost use Rattle.p3_dft.specs.Extensions.{IsExtension, IsTransformedExtension, extension_bound};
     ghost use Rattle.p3_dft.specs.Shapes.{FitsDft, FitsLde};
     ghost use Rattle.p3_dft.specs.Transforms.{IsInterpolation, IsTransform};
@@ -167,15 +167,13 @@ impl<F: TwoAdicField> TwoAdicSubgroupDft<F> for Radix2DFTSmallBatch<F> {
 
     ghost promised = { IsPrepared };
 
-    ghost coset_promised = { IsPrepared };
+    ghost coset_promised = { λ _ _ _. ⊤ };
 
     ghost served = { IsPrepared };
 
     ghost bound = { λ k w. w * (k * 2 ^ k / 2) };
 
     ghost made = { λ e. e.products };
-
-    ghost coset_promised_law = { λ e k prepared. prepared };
 
     ghost default_law = { λ e new. new.1 };
 
@@ -189,10 +187,9 @@ impl<F: TwoAdicField> TwoAdicSubgroupDft<F> for Radix2DFTSmallBatch<F> {
         ensures succeeds { AtLog (height (N.stored mat)) (λ k. IsPrepared self.old k → IsOk result) }
         ensures serves { AtLog (height (N.stored mat)) (λ k. OnOk result (IsPrepared self.new k)) }
         ensures one_row { height (N.stored mat) ≡ 1 → (result ≡ Ok (N.stored mat)) × (self.new ≡ self.old) }
-        ensures only { AtLog (height (N.stored mat))
-            (λ k. (n : ℕ) → IsPrepared self.new n → IsPrepared self.old n ⊎ (n ≤ k)) }
+        ensures only { AtLog (height (N.stored mat)) (λ k. PreparesNoneAbove k self.old self.new) }
         ensures refused { OnErr result (self.new ≡ self.old) }
-        ensures later { IsLater IsPrepared IsPrepared IsPrepared (λ e. e.products) self.old self.new }
+        ensures later { IsLater IsPrepared (λ _ _ (_ : F). ⊤) IsPrepared (λ e. e.products) self.old self.new }
         ensures cost { AtLog (height (N.stored mat))
             (λ k. OnOk result (self.new.products ≤ self.old.products + (N.stored mat).width * (k * 2 ^ k / 2))) }
     {
@@ -224,10 +221,9 @@ impl<F: TwoAdicField> TwoAdicSubgroupDft<F> for Radix2DFTSmallBatch<F> {
         ensures succeeds { AtLog (height (N.stored mat)) (λ k. IsPrepared self.old k → IsOk result) }
         ensures serves { AtLog (height (N.stored mat)) (λ k. OnOk result (IsPrepared self.new k)) }
         ensures one_row { height (N.stored mat) ≡ 1 → (result ≡ Ok (N.stored mat)) × (self.new ≡ self.old) }
-        ensures only { AtLog (height (N.stored mat))
-            (λ k. (n : ℕ) → IsPrepared self.new n → IsPrepared self.old n ⊎ (n ≤ k)) }
+        ensures only { AtLog (height (N.stored mat)) (λ k. PreparesNoneAbove k self.old self.new) }
         ensures refused { OnErr result (self.new ≡ self.old) }
-        ensures later { IsLater IsPrepared IsPrepared IsPrepared (λ e. e.products) self.old self.new }
+        ensures later { IsLater IsPrepared (λ _ _ (_ : F). ⊤) IsPrepared (λ e. e.products) self.old self.new }
         ensures cost { AtLog (height (N.stored mat)) (λ k. OnOk result (self.new.products
             ≤ self.old.products + (N.stored mat).width * (k * 2 ^ k / 2) + 2 ^ k * (N.stored mat).width)) }
     {
@@ -260,9 +256,8 @@ impl<F: TwoAdicField> TwoAdicSubgroupDft<F> for Radix2DFTSmallBatch<F> {
             (λ k. OnOk result (IsPrepared self.new k × IsPrepared self.new (k + added_bits))) }
         ensures one_row { height (N.stored mat) ≡ 1 → added_bits ≡ 0
             → (result ≡ Ok (N.stored mat)) × (self.new ≡ self.old) }
-        ensures only { AtLog (height (N.stored mat))
-            (λ k. (n : ℕ) → IsPrepared self.new n → IsPrepared self.old n ⊎ (n ≤ k + added_bits)) }
-        ensures later { IsLater IsPrepared IsPrepared IsPrepared (λ e. e.products) self.old self.new }
+        ensures only { AtLog (height (N.stored mat)) (λ k. PreparesNoneAbove (k + added_bits) self.old self.new) }
+        ensures later { IsLater IsPrepared (λ _ _ (_ : F). ⊤) IsPrepared (λ e. e.products) self.old self.new }
         ensures cost { AtLog (height (N.stored mat)) (λ k. OnOk result (self.new.products
             ≤ self.old.products + extension_bound (λ n w. w * (n * 2 ^ n / 2)) k added_bits (N.stored mat).width)) }
         ensures fewer { AtLog (height (N.stored mat)) (λ k. OnOk result (self.new.products

@@ -2,7 +2,7 @@
 
 ghost use Rattle.std.specs.Prelude.{◌≡◌, ℕ, ◌+◌, ◌*◌, ◌^◌, ◌≤◌, IfOk, OnOk, IsOk, vec_len};
 ghost use Rattle.p3_matrix.specs.RowMajor.{HasShapeOf, RowMajor, height};
-ghost use Rattle.p3_dft.specs.Engines.{AtLog, IsLater, SameNumbers, one_column};
+ghost use Rattle.p3_dft.specs.Engines.{AtLog, IsLater, SameCosets, SameNumbers, one_column};
 ghost use Rattle.p3_dft.specs.Extensions.{IsExtension, IsTransformedExtension, extension_bound, arrangement};
 ghost use Rattle.p3_dft.specs.Shapes.{FitsDft, FitsLde};
 ghost use Rattle.p3_matrix.specs.Matrix.{Same, matrix};
@@ -47,8 +47,8 @@ pub trait TwoAdicSubgroupDft<F: TwoAdicField>: Clone + Default {
     // The logarithms of the heights at which `dft_batch` is promised to succeed.
     ghost promised: { Self → ℕ → Type 0 };
 
-    // Those at which `coset_dft_batch` is, for every shift.
-    ghost coset_promised: { Self → ℕ → Type 0 };
+    // The shifts for which `coset_dft_batch` is too, where `dft_batch` is.
+    ghost coset_promised: { Self → ℕ → F → Type 0 };
 
     // What is known of an engine, from then on, at the logarithm of a height that it transformed.
     ghost served: { Self → ℕ → Type 0 };
@@ -77,7 +77,7 @@ pub trait TwoAdicSubgroupDft<F: TwoAdicField>: Clone + Default {
     fn add_products(&mut self, products: Products)
         ensures made { made self.new ≡ made self.old + products }
         ensures promised { SameNumbers (promised self.old) (promised self.new) }
-        ensures coset_promised { SameNumbers (coset_promised self.old) (coset_promised self.new) }
+        ensures coset_promised { SameCosets (coset_promised self.old) (coset_promised self.new) }
         ensures served { SameNumbers (served self.old) (served self.new) };
 
     /// The values on `shift * H` of the polynomials whose coefficients are the columns. The shift may
@@ -90,7 +90,7 @@ pub trait TwoAdicSubgroupDft<F: TwoAdicField>: Clone + Default {
         requires { FitsDft F.TWO_ADICITY (height (N.stored mat)) (N.stored mat).width }
         ensures values { IfOk result (λ out.
             IsTransform F.Field.own F.generator (N.stored mat) (F.value shift) (Self.Evaluations.natural out)) }
-        ensures succeeds { AtLog (height (N.stored mat)) (λ k. coset_promised self.old k → IsOk result) }
+        ensures succeeds { AtLog (height (N.stored mat)) (λ k. promised self.old k → coset_promised self.old k shift → IsOk result) }
         ensures serves { AtLog (height (N.stored mat)) (λ k. OnOk result (served self.new k)) }
         ensures later { IsLater promised coset_promised served made self.old self.new }
         ensures cost { AtLog (height (N.stored mat))
@@ -248,9 +248,6 @@ pub trait TwoAdicSubgroupDft<F: TwoAdicField>: Clone + Default {
         self.coset_lde_batch(mat, added_bits, F::ONE)
     }
 
-    // Where a coset is promised, so is the subgroup.
-    ghost coset_promised_law: { (e : Self) (k : ℕ) → coset_promised e k → promised e k };
-
     // What an engine is made as has made no products.
     ghost default_law: { (e : Self) → Self.is_default e → made e ≡ 0 };
 
@@ -274,7 +271,7 @@ pub trait TwoAdicSubgroupDft<F: TwoAdicField>: Clone + Default {
         requires { FitsDft F.TWO_ADICITY (vec_len vec) 1 }
         ensures values { IfOk result (λ out.
             IsTransform F.Field.own F.generator (one_column vec.items) (F.value shift) (one_column out.items)) }
-        ensures succeeds { AtLog (vec_len vec) (λ k. coset_promised self.old k → IsOk result) }
+        ensures succeeds { AtLog (vec_len vec) (λ k. promised self.old k → coset_promised self.old k shift → IsOk result) }
         ensures serves { AtLog (vec_len vec) (λ k. OnOk result (served self.new k)) }
         ensures later { IsLater promised coset_promised served made self.old self.new }
         ensures cost { AtLog (vec_len vec) (λ k. OnOk result (made self.new ≤ made self.old + bound k 1 + 2 ^ k)) }

@@ -15,10 +15,10 @@ on_any_error (Ok x) p = tt
 on_any_error (Err e) p = p
 
 -- promises that stay are promises of jobs that stay
-pub promised_later : {F : Type 0} (before now coset_before coset_now : ℕ → Type 0) → ((k : ℕ) → before k → now k) → ((k : ℕ) → coset_before k → coset_now k)
-    → (job : Job F) → IsPromised before coset_before job → IsPromised now coset_now job
+pub promised_later : {F : Type 0} (before now : ℕ → Type 0) (coset_before coset_now : ℕ → F → Type 0) → ((k : ℕ) → before k → now k)
+    → ((k : ℕ) (s : F) → coset_before k s → coset_now k s) → (job : Job F) → IsPromised before coset_before job → IsPromised now coset_now job
 promised_later before now coset_before coset_now keeps keeps_cosets (Dft m) (k, high, promised) = (k, high, keeps k promised)
-promised_later before now coset_before coset_now keeps keeps_cosets (CosetDft m s) (k, high, promised) = (k, high, keeps_cosets k promised)
+promised_later before now coset_before coset_now keeps keeps_cosets (CosetDft m s) (k, high, promised, coset) = (k, high, keeps k promised, keeps_cosets k s coset)
 promised_later before now coset_before coset_now keeps keeps_cosets (Idft m) (k, high, promised) = (k, high, keeps k promised)
 promised_later before now coset_before coset_now keeps keeps_cosets (CosetIdft m s) (k, high, promised) = (k, high, keeps k promised)
 promised_later before now coset_before coset_now keeps keeps_cosets (Lde m a) none = none
@@ -38,8 +38,8 @@ module _ {F : Type 0} (f : FieldMembers F) (generator : ℕ → F) where
       }
 
   -- where the next job was refused, it was not promised, nor was it before
-  pub next_not_promised : (jobs done left later : List (Job F)) (job : Job F) (answers : List (RowMajor F)) (before now coset_before coset_now : ℕ → Type 0) → jobs ≡ done ++ left → left ≡ job ∷ later
-      → AllZip (IsAnswer f generator) done answers → ((k : ℕ) → before k → now k) → ((k : ℕ) → coset_before k → coset_now k)
+  pub next_not_promised : (jobs done left later : List (Job F)) (job : Job F) (answers : List (RowMajor F)) (before now : ℕ → Type 0) (coset_before coset_now : ℕ → F → Type 0)
+      → jobs ≡ done ++ left → left ≡ job ∷ later → AllZip (IsAnswer f generator) done answers → ((k : ℕ) → before k → now k) → ((k : ℕ) (s : F) → coset_before k s → coset_now k s)
       → (IsPromised now coset_now job → ⊥) → NextIsNotPromised before coset_before jobs answers
   next_not_promised jobs done left later job answers before now coset_before coset_now split next answered keeps keeps_cosets refused d promised =
       let counted : length answers ≡ length done = AllZip-long (IsAnswer f generator) done answers answered in

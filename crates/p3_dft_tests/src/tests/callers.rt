@@ -162,6 +162,38 @@ fn transform_promised<F: TwoAdicField, D: TwoAdicSubgroupDft<F>>(
     engine.dft_batch(mat)
 }
 
+// One on a coset that it promises there.
+fn transform_on_promised_coset<F: TwoAdicField, D: TwoAdicSubgroupDft<F>>(
+    engine: &mut D,
+    mat: RowMajorMatrix<F>,
+    log_h: usize,
+    shift: F,
+) -> Result<D::Evaluations, DftError>
+    requires fits { FitsDft F.TWO_ADICITY (height mat) mat.width }
+    requires height { height mat ≡ 2 ^ log_h }
+    requires promised { D.promised engine.old log_h }
+    requires coset { D.coset_promised engine.old log_h shift }
+    ensures ok { IsOk result }
+    ensures still { D.coset_promised engine.new log_h shift }
+{
+    engine.coset_dft_batch(mat, shift)
+}
+
+// An extension beside a coset whose table is there, which stays.
+fn extend_beside_a_coset<F: TwoAdicField>(
+    engine: &mut Radix2DitParallel<F>,
+    mat: RowMajorMatrix<F>,
+    added_bits: usize,
+    log_h: usize,
+    shift: F,
+) -> Result<BitReversedMatrixView<RowMajorMatrix<F>>, DftError>
+    requires fits { FitsLde F.TWO_ADICITY (height mat) mat.width added_bits }
+    requires prepared { IsCosetPrepared F.Field.own engine.old log_h (F.value shift) }
+    ensures { IsCosetPrepared F.Field.own engine.new log_h (F.value shift) }
+{
+    engine.lde_batch(mat, added_bits)
+}
+
 // One on a coset whose table is there.
 fn transform_on_known_coset<F: TwoAdicField>(
     engine: &mut Radix2DitParallel<F>,
@@ -255,8 +287,12 @@ fn promised_heights_answer(rt: HostRuntime) -> Result<(), Fail> {
     assert!(rt; there.to_row_major_matrix() == matrix(alloc, &[9, 1], 1)?);
     let mut small = Radix2DFTSmallBatch::<BabyBear>::default();
     small.prepare(alloc, 1)?;
-    let there = transform_promised(&mut small, values, 1)?;
+    let there = transform_promised(&mut small, values.try_clone()?, 1)?;
     assert!(rt; there == matrix(alloc, &[9, 1], 1)?);
+    let mut dit = Radix2Dit::<BabyBear>::default();
+    dit.prepare(alloc, 1)?;
+    let there = transform_on_promised_coset(&mut dit, values, 1, BabyBear::TWO)?;
+    assert!(rt; there == matrix(alloc, &[13, 2013265918], 1)?);
     Ok(())
 }
 
@@ -269,6 +305,10 @@ fn known_cosets_answer(rt: HostRuntime) -> Result<(), Fail> {
     let mut engine = Radix2DitParallel::<BabyBear>::default();
     let shift = BabyBear::TWO;
     transform_on_new_coset(&mut engine, values.try_clone()?, 1, shift)?;
+    assert!(rt; fits_lde::<BabyBear>(values.height(), values.width(), 1));
+    let extended = extend_beside_a_coset(&mut engine, values.try_clone()?, 1, 1, shift)?;
+    let wanted = matrix(alloc, &[5, 864202261, 4, 1149063669], 1)?;
+    assert!(rt; extended.to_row_major_matrix() == wanted);
     let there = transform_on_known_coset(&mut engine, values, 1, shift)?;
     assert!(rt; there.to_row_major_matrix() == matrix(alloc, &[13, 2013265918], 1)?);
     Ok(())

@@ -62,15 +62,13 @@ impl<F: TwoAdicField> TwoAdicSubgroupDft<F> for LimitedDft {
 
     ghost promised = { λ _ _. ⊥ };
 
-    ghost coset_promised = { λ _ _. ⊥ };
+    ghost coset_promised = { λ _ _ _. ⊤ };
 
     ghost served = { λ _ _. ⊤ };
 
     ghost bound = { λ k w. 2 ^ k * 2 ^ k * w };
 
     ghost made = { λ e. e.sums };
-
-    ghost coset_promised_law = { λ e k none. none };
 
     ghost default_law = { λ e none. none };
 
@@ -147,15 +145,13 @@ impl<F: TwoAdicField> TwoAdicSubgroupDft<F> for ReversedDft {
 
     ghost promised = { λ _ _. ⊥ };
 
-    ghost coset_promised = { λ _ _. ⊥ };
+    ghost coset_promised = { λ _ _ _. ⊤ };
 
     ghost served = { λ _ _. ⊤ };
 
     ghost bound = { λ k w. 2 ^ k * 2 ^ k * w };
 
     ghost made = { λ e. e.sums };
-
-    ghost coset_promised_law = { λ e k none. none };
 
     ghost default_law = { λ e none. none };
 

@@ -1,4 +1,5 @@
 use Rattle.std.proofs.Common.{ℕ, ◌≡◌, ◌+◌, ◌*◌, ◌/◌, ◌^◌, ◌∙◌, refl, ap, ap₂, arith}
+use Rattle.std.specs.Prelude.{⊤}
 use Rattle.std.proofs.lemmas.Result.{IfOk-weaker, on_ok_weaker}
 use Rattle.p3_matrix.specs.RowMajor.{height}
 use Rattle.p3_dft.specs.Engines.{IsPrepared}
@@ -49,15 +50,15 @@ returns-clause-values g c =
 pub returns-in_err-padded-clause-later : goal.returns-in_err-padded-clause-later
 returns-in_err-padded-clause-later g c =
     let counted = c.add_products.ensures in
-    later_still IsPrepared IsPrepared IsPrepared (λ e. e.products) _ _ _ c.in_ok-coefficients.ensures.later
-    (later_by_products IsPrepared IsPrepared IsPrepared (λ e. e.products) _ _ _ counted.made counted.promised counted.coset_promised counted.served)
+    later_still IsPrepared (λ _ _ (_ : g.row.F.Denot). ⊤) IsPrepared (λ e. e.products) _ _ _ c.in_ok-coefficients.ensures.later
+    (later_by_products IsPrepared (λ _ _ (_ : g.row.F.Denot). ⊤) IsPrepared (λ e. e.products) _ _ _ counted.made counted.promised counted.coset_promised counted.served)
 
 pub returns-clause-later : goal.returns-clause-later
 returns-clause-later g c =
     let counted = c.add_products.ensures in
-    later_still IsPrepared IsPrepared IsPrepared (λ e. e.products) _ _ _ c.in_ok-coefficients.ensures.later
-    (later_still IsPrepared IsPrepared IsPrepared (λ e. e.products) _ _ _
-    (later_by_products IsPrepared IsPrepared IsPrepared (λ e. e.products) _ _ _ counted.made counted.promised counted.coset_promised counted.served) c.dft_batch.ensures.later)
+    later_still IsPrepared (λ _ _ (_ : g.row.F.Denot). ⊤) IsPrepared (λ e. e.products) _ _ _ c.in_ok-coefficients.ensures.later
+    (later_still IsPrepared (λ _ _ (_ : g.row.F.Denot). ⊤) IsPrepared (λ e. e.products) _ _ _
+    (later_by_products IsPrepared (λ _ _ (_ : g.row.F.Denot). ⊤) IsPrepared (λ e. e.products) _ _ _ counted.made counted.promised counted.coset_promised counted.served) c.dft_batch.ensures.later)
 
 pub returns-clause-serves : goal.returns-clause-serves
 returns-clause-serves g c = λ k e.

@@ -1,4 +1,5 @@
 use Rattle.std.proofs.Common.{◌≡◌, ◌⊎◌, inl, inr, Bool, false, ℕ, ◌^◌, ◌∷◌, [], ◌++◌, List, Result, Ok, Err, IsOk, IsTrue, refl, sym, ap, ◌∙◌, subst, arith, rules}
+use Rattle.std.specs.List.{range_with_len}
 use Rattle.p3_matrix.specs.RowMajor.{RowMajor, height}
 use Rattle.p3_matrix.specs.BitOrder.{bit_reversal}
 use Rattle.p3_matrix.proofs.TwoPowers.{log_same}
@@ -6,6 +7,7 @@ use Rattle.p3_networks.specs.Cosets.{IsValues}
 use Rattle.p3_dft.specs.Transforms.{values_of}
 use Rattle.p3_networks.specs.Twiddles.{Coset, HasCoset}
 use Rattle.p3_dft.specs.Engines.{CosetTabled, IsPrepared}
+use Rattle.p3_dft.proofs.Calls.PreparedCosets.{coset_stays, prepared_coset_stays}
 use Rattle.p3_dft.proofs.BitReversed.OneRow.{row_handed_back, row_seen}
 use Rattle.p3_dft.proofs.BitReversed.Rows.{transform_seen}
 use Rattle.p3_dft.proofs.radix_2_dit_parallel.Radix2DitParallelTwoAdicSubgroupDft.coset_dft_batch.Goals as goal
@@ -18,10 +20,10 @@ not_both : (b : Bool) → b ≡ false → IsTrue b → ⊥
 not_both b fails holds = cc
 
 -- what a table needs, of what makes a coset prepared that is not the subgroup and has more than a point
-its_table : {O T P H : Type 0} → (O → ⊥) → (P → ⊥) → (O × T) ⊎ ((O → ⊥) × (P ⊎ H)) → H
-its_table other more (inl (one, there)) = absurd (other one)
-its_table other more (inr (other_too, inl point)) = absurd (more point)
-its_table other more (inr (other_too, inr has)) = has
+its_table : {O T P H : Type 0} → (O → ⊥) → (P → ⊥) → P ⊎ ((O × T) ⊎ ((O → ⊥) × H)) → H
+its_table other more (inl point) = absurd (more point)
+its_table other more (inr (inl (one, there))) = absurd (other one)
+its_table other more (inr (inr (other_too, has))) = has
 
 pub returns-then-height-eq1-clause-values : goal.returns-then-height-eq1-clause-values
 returns-then-height-eq1-clause-values g c =
@@ -34,10 +36,7 @@ returns-then-height-eq1-clause-values g c =
 pub returns-then-height-eq1-clause-tables : goal.returns-then-height-eq1-clause-tables
 returns-then-height-eq1-clause-tables g c k high =
     let tall : c.height-height.result ≡ height (g.N.IntoRowMajorMatrix.stored c.args.mat) = c.height-height.ensures.height ∙ ap height c.into_row_major_matrix-mat.ensures in
-    inr (
-      λ is. not_both c.eq.result c.if-eq.false (search (rules, (g.met.F.Field.eq_law c.args.shift c.ONE.result).1 (is ∙ sym (ap g.F.Field.value c.ONE.ensures ∙ g.met.F.Field.one_law)))),
-      inl (log_same k 0 (sym high ∙ sym tall ∙ c.if-height-eq1.true)),
-    )
+    inl (log_same k 0 (sym high ∙ sym tall ∙ c.if-height-eq1.true))
 
 pub returns-then-height-eq1-clause-one_row : goal.returns-then-height-eq1-clause-one_row
 returns-then-height-eq1-clause-one_row g c one = (
@@ -70,12 +69,17 @@ returns-in_err-place-clause-ready g c k high ready =
 pub returns-in_err-place-clause-only : goal.returns-in_err-place-clause-only
 returns-in_err-place-clause-only g c k high n now = inl (subst (λ (e : CosetTabled g.row.F.Denot). IsPrepared e.roots n) c.self.view_is now)
 
+pub returns-in_err-place-clause-succeeds : goal.returns-in_err-place-clause-succeeds
+returns-in_err-place-clause-succeeds g c k high heights ready = returns-in_err-place-clause-ready g c k high ready
+
 pub returns-in_err-place-clause-later : goal.returns-in_err-place-clause-later
 returns-in_err-place-clause-later g c =
     let products : c.self.inside.products ≡ c.args.self.now.roots.products = ap (λ (e : CosetTabled g.row.F.Denot). e.roots.products) c.self.view_is in
     record {
       keeps = λ k before. subst (λ (e : CosetTabled g.row.F.Denot). IsPrepared e.roots k) (sym c.self.view_is) before;
-      keeps_cosets = λ k one_row. one_row;
+      keeps_cosets = prepared_coset_stays g.F.Field c.args.self.now (record { roots = record { prepared = range_with_len 1 c.self.inside.tables; products = 0 }; cosets = c.make.new.self })
+          (λ k before. subst (λ (e : CosetTabled g.row.F.Denot). IsPrepared e.roots k) (sym c.self.view_is) before)
+          (λ k s has. coset_stays g.F.Field c.self.inside.cosets _ _ c.make.ensures.only k s (subst (λ (e : CosetTabled g.row.F.Denot). HasCoset g.F.Field e.cosets k s) (sym c.self.view_is) has));
       keeps_served = λ k none. tt;
       grows = omega (arith, products);
     }
@@ -106,10 +110,10 @@ returns-clause-tables g c k high =
     let s = field.value c.args.shift in
     let tall : c.height-height.result ≡ height (g.N.IntoRowMajorMatrix.stored c.args.mat) = c.height-height.ensures.height ∙ ap height c.into_row_major_matrix-mat.ensures in
     let same : c.log2_strict_usize-log_h.result ≡ k = log_same _ k (sym c.log2_strict_usize-log_h.ensures.power ∙ tall ∙ high) in
-    inr (
+    inr (inr (
       λ is. not_both c.eq.result c.if-eq.false (search (rules, (g.met.F.Field.eq_law c.args.shift c.ONE.result).1 (is ∙ sym (ap field.value c.ONE.ensures ∙ g.met.F.Field.one_law)))),
-      inr (subst (λ (n : ℕ). HasCoset field c.make.new.self n s) same (c.in_ok-place.place, c.in_ok-place.ensures.made)),
-    )
+      subst (λ (n : ℕ). HasCoset field c.make.new.self n s) same (c.in_ok-place.place, c.in_ok-place.ensures.made),
+    ))
 
 pub returns-clause-only : goal.returns-clause-only
 returns-clause-only g c k high n now = inl (subst (λ (e : CosetTabled g.row.F.Denot). IsPrepared e.roots n) c.self.view_is now)
@@ -136,6 +140,18 @@ returns-clause-cosets g c k high =
     let same : c.log2_strict_usize-log_h.result ≡ k = log_same _ k (sym c.log2_strict_usize-log_h.ensures.power ∙ tall ∙ high) in
     let made = λ (xs : List (Coset g.row.F.Denot)) (n : ℕ). (c.make.new.self ≡ xs) ⊎ (c.make.new.self ≡ xs ++ record { log_h = n; shift = shift } ∷ []) in
     subst (made c.args.self.now.cosets) same (subst (λ xs. made xs c.log2_strict_usize-log_h.result) (ap (λ (e : CosetTabled g.row.F.Denot). e.cosets) c.self.view_is) c.make.ensures.only)
+
+pub returns-clause-later : goal.returns-clause-later
+returns-clause-later g c =
+    let products : c.self.inside.products ≡ c.args.self.now.roots.products = ap (λ (e : CosetTabled g.row.F.Denot). e.roots.products) c.self.view_is in
+    record {
+      keeps = λ k before. subst (λ (e : CosetTabled g.row.F.Denot). IsPrepared e.roots k) (sym c.self.view_is) before;
+      keeps_cosets = prepared_coset_stays g.F.Field c.args.self.now (record { roots = record { prepared = range_with_len 1 c.self.inside.tables; products = 0 }; cosets = c.make.new.self })
+          (λ k before. subst (λ (e : CosetTabled g.row.F.Denot). IsPrepared e.roots k) (sym c.self.view_is) before)
+          (λ k s has. coset_stays g.F.Field c.self.inside.cosets _ _ c.make.ensures.only k s (subst (λ (e : CosetTabled g.row.F.Denot). HasCoset g.F.Field e.cosets k s) (sym c.self.view_is) has));
+      keeps_served = λ k none. tt;
+      grows = omega (arith, products, c.evaluate_on_coset.ensures.grows);
+    }
 
 pub returns-clause-pairs : goal.returns-clause-pairs
 returns-clause-pairs g c k high =

@@ -80,7 +80,7 @@ returns-clause-later g c =
     let still : (k : ℕ) → IsPrepared c.args.self.now k → k ≤ c.make.new.self = λ k before. let held = there k before in omega (arith, held, c.make.ensures.keeps) in
     record {
       keeps = λ k before. prepared_until _ k (still k before);
-      keeps_cosets = λ k before. prepared_until _ k (still k before);
+      keeps_cosets = λ k s none. tt;
       keeps_served = λ k before. prepared_until _ k (still k before);
       grows = omega (arith, products, c.interpolate.ensures.grows);
     }
