@@ -135,8 +135,9 @@ pub fn reverse_matrix_index_bits<T>(view: &mut RowMajorMatrixViewMut<'_, T>)
     }
 }
 
-// Puts 2 ^ bits runs of entries into bit reversed order.
-fn reverse_runs<T>(values: &mut [T], width: usize, bits: usize)
+/// Puts `2^bits` runs of `width` entries, which lie one after another in a slice, into bit reversed order,
+/// in place: run i becomes what run `rev i` was.
+pub fn reverse_runs<T>(values: &mut [T], width: usize, bits: usize)
     requires bits { bits ≤ 63 }
     requires size { length values.old ≡ 2 ^ bits * width }
     ensures { (d : T) (i j : ℕ) → i < 2 ^ bits → j < width

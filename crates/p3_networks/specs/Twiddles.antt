@@ -3,6 +3,7 @@ use Rattle.std.specs.Prelude.{◌≡◌, ℕ, ◌+◌, ◌-◌, ◌*◌, ◌^◌
 use Rattle.p3_field.specs.Ring.{power}
 use Rattle.p3_field.specs.declared.fields.Field.{Ghosts as FieldMembers}
 use Rattle.p3_matrix.specs.BitOrder.{rev}
+use Rattle.p3_networks.specs.Cosets.{point}
 
 module _ {F : Type 0} (f : FieldMembers F) where
   -- a table of the n values p 0, p 1, ..
@@ -98,6 +99,10 @@ IsCosetAt {F} f cosets k s i = (i < length cosets) × ((d : Coset F) → IsCoset
 -- or in any
 abbrev pub HasCoset : {F : Type 0} (f : FieldMembers F) → List (Coset F) → ℕ → f.Element → Type 0
 HasCoset f cosets k s = (i : ℕ) × IsCosetAt f cosets k s i
+
+-- all 2 ^ a cosets of order 2 ^ k of which that of s of order 2 ^ (k + a) is made
+abbrev pub HasCosets : {F : Type 0} (f : FieldMembers F) → (ℕ → F) → List (Coset F) → ℕ → ℕ → f.Element → Type 0
+HasCosets f generator cosets k a s = (c : ℕ) → c < 2 ^ a → HasCoset f cosets k (point f.ring (forward_root f generator) (k + a) s c)
 
 -- the number by which rows are multiplied, if there is one
 abbrev pub factor : {F : Type 0} (f : FieldMembers F) → Option F → f.Element

@@ -1,5 +1,6 @@
-//! The two halves of the network that goes run by run, and its tables.
+//! The two halves of the network that goes run by run, its tables, and the slots of its extension.
 
 pub mod coset_tables;
 pub mod halves;
+pub mod slots;
 pub mod tables;

@@ -1,17 +1,21 @@
 -- Runs of rows: a network in two halves. Of 2 ^ (mid + left) rows, a run of the second half has 2 ^ left rows that follow one another.
-use Rattle.std.proofs.Common.{◌≡◌, ℕ, zero, suc, ◌+◌, ◌*◌, ◌-◌, ◌<◌, ◌≤◌, ◌^◌, refl, sym, ap, ap₂, ◌∙◌, [], ◌∷◌, arith}
-use Rattle.std.proofs.lemmas.Nat.{pow-add}
+use Rattle.std.proofs.Common.{◌≡◌, ℕ, zero, suc, ◌+◌, ◌*◌, ◌-◌, ◌/◌, ◌%◌, ◌<◌, ◌≤◌, ◌^◌, List, get_or, refl, sym, ap, ap₂, ◌∙◌, [], ◌∷◌, arith}
+use Rattle.std.proofs.lemmas.Nat.{pow-add, pow_pos, div-add-mod', div_below, mod_below}
 use Rattle.p3_field.specs.Ring.{Ring, power, AreRoots}
 use Rattle.p3_field.proofs.RingSolver.{solve, va, vb, vc, ◌⊠◌}
 use Rattle.p3_field.proofs.Powers.{power-add, power-mul, power_of_product}
 use Rattle.p3_field.proofs.Roots.{root_strided, root_all}
 use Rattle.p3_matrix.specs.BitOrder.{rev}
-use Rattle.p3_matrix.proofs.BitReversal.{rev-block, rev-rev}
+use Rattle.p3_matrix.proofs.BitReversal.{rev-block, rev-lt, rev-rev}
 use Rattle.p3_networks.specs.Cosets.{point}
 use Rattle.p3_networks.specs.Polynomials.{poly}
 use Rattle.p3_networks.proofs.Polynomials.ByIndex.{poly_same, poly-add, poly-append, poly-none, poly-times, poly_zeros}
 use Rattle.p3_networks.proofs.Polynomials.Cosets.{point-mul}
 use Rattle.p3_networks.proofs.Networks.Stages.{twiddle}
+
+-- the digits of a row of a run, in reverse
+pub row_digits : (mid left a t : ℕ) → t < 2 ^ left → rev (mid + left) (a * 2 ^ left + t) ≡ rev left t * 2 ^ mid + rev mid a
+row_digits mid left a t inside = let order : mid + left ≡ left + mid = omega arith in ap (λ n. rev n (a * 2 ^ left + t)) order ∙ rev-block left mid a t inside
 
 next_place : {A : Type 0} (R : Ring A) (n m : ℕ) (c : ℕ → A) (j : ℕ) (x : A)
     → R.add (c j) (R.mul (power R x m) (poly R n (λ q. c (m + (q * m + j))) (power R x m))) ≡ poly R (suc n) (λ q. c (q * m + j)) (power R x m)
@@ -63,7 +67,7 @@ module _ {A : Type 0} (R : Ring A) {g : ℕ → A} {bits : ℕ} (G : AreRoots R 
       → point R g left (point R g (mid + left) s (rev mid a)) (rev left t) ≡ point R g (mid + left) s (rev (mid + left) (a * 2 ^ left + t))
   run_point mid left a t within inside =
       let order : mid + left ≡ left + mid = omega arith in
-      let digits : rev (mid + left) (a * 2 ^ left + t) ≡ rev left t * 2 ^ mid + rev mid a = ap (λ n. rev n (a * 2 ^ left + t)) order ∙ rev-block left mid a t inside in
+      let digits = row_digits mid left a t inside in
       let root : power R (g (mid + left)) (rev left t * 2 ^ mid) ≡ power R (g left) (rev left t) =
       ap (λ n. power R (g n) (rev left t * 2 ^ mid)) order ∙ root_strided R G left mid (rev left t) (omega arith) in
       point-mul R g left (point R g (mid + left) s (rev mid a)) (rev left t) ∙ ap (λ x. x ⊗ power R (g left) (rev left t)) (point-mul R g (mid + left) s (rev mid a))
@@ -101,3 +105,39 @@ module _ {A : Type 0} (R : Ring A) {g : ℕ → A} {bits : ℕ} (G : AreRoots R 
       ∙ ap (poly R n (λ u. c (u * m + q) ⊗ scale)) (sym (run_point_power mid left a t within)))
       ∙ sym (poly_by_places R n m (λ u. c u ⊗ scale) x)
       ∙ ap₂ (λ k z. poly R k (λ u. c u ⊗ scale) z) (sym (pow-add 2 mid left)) (run_point mid left a t within inside)
+
+  -- a slot of an extension by a bits ends at its points of the whole, in bit reversed order
+  pub slot_point : (k a m t : ℕ) → k + a ≤ bits → t < 2 ^ k → point R g k (point R g (k + a) s (rev a m)) (rev k t) ≡ point R g (k + a) s (rev (k + a) (m * 2 ^ k + t))
+  slot_point k a m t within inside =
+      let order : k + a ≡ a + k = omega arith in
+      ap (λ n. point R g k (point R g n s (rev a m)) (rev k t)) order ∙ run_point a k m t (omega (arith, within)) inside
+      ∙ ap (λ n. point R g n s (rev n (m * 2 ^ k + t))) (sym order)
+
+  -- both halves, on rows of w entries: the first leads from before to middle, and the second, with the rows in bit reversed order, to after
+  pub rows_of_halves : {T : Type 0} (value : T → A) (d : T) (mid left w : ℕ) (before middle after : List T) → mid + left ≤ bits
+      → ((a t j : ℕ) → a < 2 ^ left → t < 2 ^ mid → j < w → value (get_or middle ((a * 2 ^ mid + t) * w + j) d)
+      ≡ poly R (2 ^ mid) (λ q. value (get_or before ((a * 2 ^ mid + rev mid q) * w + j) d)) (point R g mid (power R s (2 ^ left)) t))
+      → ((a t j : ℕ) → a < 2 ^ mid → t < 2 ^ left → j < w → value (get_or after ((a * 2 ^ left + t) * w + j) d)
+      ≡ poly R (2 ^ left) (λ q. value (get_or middle ((rev left q * 2 ^ mid + rev mid a) * w + j) d)) (point R g left (point R g (mid + left) s (rev mid a)) (rev left t)))
+      → (r j : ℕ) → r < 2 ^ (mid + left) → j < w → value (get_or after (r * w + j) d)
+      ≡ poly R (2 ^ (mid + left)) (λ q. value (get_or before (rev (mid + left) q * w + j) d)) (point R g (mid + left) s (rev (mid + left) r))
+  rows_of_halves value d mid left w before middle after within first second r j below inside =
+      let positive = pow_pos left in
+      let a = r / 2 ^ left in
+      let t = r % 2 ^ left in
+      let whole : a * 2 ^ left + t ≡ r = div-add-mod' r (2 ^ left) in
+      let small : t < 2 ^ left = mod_below r (2 ^ left) positive in
+      let outer : a < 2 ^ mid = div_below r (2 ^ left) (2 ^ mid) positive (omega (arith, below, pow-add 2 mid left)) in
+      let x = point R g left (point R g (mid + left) s (rev mid a)) (rev left t) in
+      let y = point R g mid (power R s (2 ^ left)) (rev mid a) in
+      let c = λ (q : ℕ). value (get_or before (rev (mid + left) q * w + j) d) in
+      let same : (q p : ℕ) → value (get_or before ((rev left q * 2 ^ mid + rev mid p) * w + j) d) ≡ c (p * 2 ^ left + rev left (rev left q)) = λ q p.
+      ap (λ n. value (get_or before ((n * 2 ^ mid + rev mid p) * w + j) d)) (sym (rev-rev left (rev left q) (rev-lt left q)))
+      ∙ ap (λ n. value (get_or before (n * w + j) d)) (sym (row_digits mid left p (rev left (rev left q)) (rev-lt left (rev left q)))) in
+      ap (λ n. value (get_or after (n * w + j) d)) (sym whole) ∙ second a t j outer small inside
+      ∙ poly_same R (2 ^ left) _ _ x (λ q p.
+      first (rev left q) (rev mid a) j (rev-lt left q) (rev-lt mid a) inside
+      ∙ poly_same R (2 ^ mid) _ _ y (λ u l. same q u) ∙ sym (R.mul_one _))
+      ∙ halves_joined mid left a t c R.one within small
+      ∙ poly_same R (2 ^ (mid + left)) _ _ (point R g (mid + left) s (rev (mid + left) (a * 2 ^ left + t))) (λ q p. R.mul_one _)
+      ∙ ap (λ n. poly R (2 ^ (mid + left)) c (point R g (mid + left) s (rev (mid + left) n))) whole

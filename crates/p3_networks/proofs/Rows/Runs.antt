@@ -1,12 +1,12 @@
 -- Runs of rows of a flat list that are done one after another, each from its own rows alone.
-use Rattle.std.proofs.Common.{◌≡◌, ℕ, ◌+◌, ◌*◌, ◌-◌, ◌^◌, ◌<◌, ◌≤◌, List, length, get_or, take, drop, refl, sym, ap, ◌∙◌, subst, arith}
+use Rattle.std.proofs.Common.{◌≡◌, ℕ, ◌+◌, ◌*◌, ◌-◌, ◌^◌, ◌<◌, ◌≤◌, List, length, get_or, take, drop, refl, sym, ap, ◌∙◌, arith}
 use borrow.Rule.Slice.PartMut.{put_mid}
 use Rattle.std.proofs.lemmas.Nat.{pow-add}
 use Rattle.p3_field.specs.Ring.{Ring}
 use Rattle.p3_networks.specs.Polynomials.{poly}
 use Rattle.p3_networks.proofs.Layers.Blocks.{row_below}
 use Rattle.p3_networks.proofs.Polynomials.ByIndex.{poly_same}
-use Rattle.p3_networks.proofs.Rows.Overwritten.{RowsDone, part_at, rows-more}
+use Rattle.p3_networks.proofs.Rows.Overwritten.{RowsDone, part_at, part-more}
 
 -- 2 ^ log rows in runs of 2 ^ part: so many cells has a run, and all runs fit
 pub run_size : (log part w : ℕ) → part ≤ log → (2 ^ log * w) ≡ 2 ^ (log - part) * (2 ^ part * w)
@@ -28,9 +28,8 @@ module _ {A T : Type 0} (R : Ring A) (value : T → A) (d : T) (m w : ℕ) (plac
       → RowsDone d (m * w) (RunDone (λ n. value (get_or before n d))) before a now
       → RowsDone d (m * w) (RunDone (λ n. value (get_or before n d))) before (a + 1) (put_mid (a * whole) (a * whole + whole - a * whole) now part)
   runs-more before now part a whole within is room len are so_far =
-      subst (λ (u : ℕ). RowsDone d (m * w) (RunDone (λ n. value (get_or before n d))) before (a + 1) (put_mid u (a * whole + whole - a * whole) now part)) start
-      (rows-more d (m * w) (RunDone (λ n. value (get_or before n d))) before now part a (a * whole + whole - a * whole) (e ∙ is) (omega (arith, room, start, is)) len
-      (λ n inside t j p q at. ap (λ k. value (get_or part k d)) at ∙ are t j p q ∙ poly_same R m _ _ (point a t) (λ u l. ap change (cell u j (within u l) q))) so_far)
+      part-more d (m * w) (RunDone (λ n. value (get_or before n d))) before now part a whole is room len
+      (λ n inside t j p q at. ap (λ k. value (get_or part k d)) at ∙ are t j p q ∙ poly_same R m _ _ (point a t) (λ u l. ap change (cell u j (within u l) q))) so_far
     where
       e : a * whole + whole - a * whole ≡ whole
       e = omega arith

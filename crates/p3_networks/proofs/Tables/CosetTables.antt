@@ -1,11 +1,12 @@
--- The table of a coset, as the halves of a network take it.
-use Rattle.std.proofs.Common.{◌≡◌, ℕ, ◌+◌, ◌*◌, ◌-◌, ◌/◌, ◌<◌, ◌≤◌, ◌^◌, List, length, true, leb, ap, ◌∙◌, subst, arith}
+-- The table of a coset, as the halves of a network take it, and that tables stay.
+use Rattle.std.proofs.Common.{◌≡◌, ℕ, ◌+◌, ◌*◌, ◌-◌, ◌/◌, ◌<◌, ◌≤◌, ◌^◌, ◌⊎◌, inl, inr, List, [], ◌∷◌, ◌++◌, length, true, leb, sym, ap, ◌∙◌, subst, arith, length-append}
 use Rattle.std.proofs.lemmas.Bool.{le-leb, lt-leb}
+use Rattle.std.proofs.lemmas.List.{get_or_append_left}
 use Rattle.std.proofs.lemmas.Nat.{pow-add}
 use Rattle.p3_field.specs.Ring.{power}
 use Rattle.p3_field.specs.declared.fields.Field.{Ghosts as FieldMembers}
 use Rattle.p3_field.proofs.Powers.{power-mul}
-use Rattle.p3_networks.specs.Twiddles.{AreBlockTwiddles, AreTwiddlesOfLayers, IsCosetTable, coset_twiddles, forward_root, layer_place}
+use Rattle.p3_networks.specs.Twiddles.{AreBlockTwiddles, AreTwiddlesOfLayers, Coset, HasCoset, IsCosetOf, IsCosetTable, coset_twiddles, forward_root, layer_place}
 use Rattle.p3_networks.proofs.Tables.MoreTwiddles.{fewer_layers, layer_end}
 
 module _ {F : Type 0} (f : FieldMembers F) (generator : ℕ → F) (s : f.Element) (log : ℕ) (xs : List F) where
@@ -39,3 +40,17 @@ module _ {F : Type 0} (f : FieldMembers F) (generator : ℕ → F) (s : f.Elemen
   -- the table reaches so far
   pub coset_room : (l : ℕ) → l < log → IsCosetTable f generator s log xs → 2 * 2 ^ l - 1 ≤ length xs
   coset_room l below table = layer_end l log (length xs) below table.size
+
+-- a coset keeps its table where one is added at the end
+pub coset_kept : {F : Type 0} (f : FieldMembers F) (before after : List (Coset F)) (added : Coset F) (k : ℕ) (s : f.Element)
+    → (after ≡ before) ⊎ (after ≡ before ++ added ∷ []) → HasCoset f before k s → HasCoset f after k s
+coset_kept f before after added k s (inl same) has = subst (λ xs. HasCoset f xs k s) (sym same) has
+coset_kept f before after added k s (inr longer) has =
+    let (i, at) = has in
+    subst (λ xs. HasCoset f xs k s) (sym longer) (
+      i,
+      (
+        omega (arith, at.0, length-append before (added ∷ [])),
+        λ d. subst (IsCosetOf f k s) (sym (get_or_append_left before (added ∷ []) d i at.0)) (at.1 d),
+      ),
+    )

@@ -1,7 +1,8 @@
 //! The tables of cosets that the engine keeps until it ends.
 
-ghost use Rattle.std.specs.Prelude.{◌≡◌, ◌⊎◌, ◌↔◌, ◌<◌, ◌≤◌, [], ◌∷◌, ◌++◌, length, get_or, IsTrue, IsOk, IfOk, OnErr, IfSome, IsNone};
-ghost use Rattle.p3_networks.specs.Twiddles.{Coset, HasCoset, IsCosetAt, IsCosetOf, IsCosetTable};
+ghost use Rattle.std.specs.Prelude.{◌≡◌, ◌⊎◌, ◌↔◌, ℕ, ◌+◌, ◌<◌, ◌≤◌, [], ◌∷◌, ◌++◌, length, get_or};
+ghost use Rattle.std.specs.Prelude.{IsTrue, IsOk, IfOk, OnOk, OnErr, IfSome, IsNone};
+ghost use Rattle.p3_networks.specs.Twiddles.{Coset, HasCoset, HasCosets, IsCosetAt, IsCosetOf, IsCosetTable};
 
 use crate::twiddles::push_layer;
 use p3_field::{Field, TwoAdicField};
@@ -154,6 +155,43 @@ impl<F: TwoAdicField> CosetTables<F> {
         let place = self.as_slice().len();
         self.push(alloc, table)?;
         Ok(place)
+    }
+
+    /// That of a coset that has one.
+    pub fn of_coset(&self, log_h: usize, shift: F) -> &CosetTable<F>
+        requires { HasCoset F.Field.own self.now log_h (F.value shift) }
+        ensures { IsCosetOf F.Field.own log_h (F.value shift) result.now }
+    {
+        match self.find(log_h, shift) {
+            Some(place) => self.get(place),
+            None => unreachable!(),
+        }
+    }
+
+    /// Makes the tables of the `2^added_bits` cosets of order `2^log_h` that are, together, the coset of
+    /// `shift` of order `2^(log_h + added_bits)`. Those that are there are not made again: where all are, no
+    /// memory is taken. Where memory is refused, those that were made stay.
+    pub fn make_all(
+        &mut self,
+        alloc: Global,
+        log_h: usize,
+        added_bits: usize,
+        shift: F,
+    ) -> Result<(), DftError>
+        requires within { log_h + added_bits ≤ F.TWO_ADICITY }
+        requires small { log_h + added_bits < 64 }
+        ensures made { OnOk result (HasCosets F.Field.own F.generator self.new log_h added_bits (F.value shift)) }
+        ensures ready { HasCosets F.Field.own F.generator self.old log_h added_bits (F.value shift) → IsOk result }
+        ensures once { HasCosets F.Field.own F.generator self.old log_h added_bits (F.value shift) → self.new ≡ self.old }
+        ensures keeps { (k : ℕ) (s : F.Element) → HasCoset F.Field.own self.old k s → HasCoset F.Field.own self.new k s }
+    {
+        let root = F::two_adic_generator(log_h + added_bits);
+        let mut coset = shift;
+        for _coset in 0..1usize << added_bits {
+            self.make(alloc, log_h, coset)?;
+            coset = coset * root;
+        }
+        Ok(())
     }
 
     // Adds one at the end.
