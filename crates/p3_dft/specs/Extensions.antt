@@ -3,7 +3,7 @@ use Rattle.std.specs.Prelude.{◌≡◌, ℕ, ◌+◌, ◌-◌, ◌*◌, ◌^◌
 use Rattle.p3_field.specs.declared.fields.Field.{Ghosts as FieldMembers}
 use Rattle.p3_matrix.specs.BitOrder.{bit_reversal}
 use Rattle.p3_matrix.specs.Matrix.{Matrix, Same}
-use Rattle.p3_matrix.specs.RowMajor.{RowMajor, height}
+use Rattle.p3_matrix.specs.RowMajor.{RowMajor, IsRowMajor, height}
 use Rattle.p3_networks.specs.Cosets.{IsValues, AreCoefficients}
 use Rattle.p3_dft.specs.Transforms.{values_of}
 use Rattle.p3_dft.specs.declared.traits.Layout.{Layout}
@@ -36,6 +36,15 @@ module _ {F : Type 0} (f : FieldMembers F) (generator : ℕ → F) where
     pub changed : Matrix f.Element
     pub answered_in_layout : (k : ℕ) → height m ≡ 2 ^ k → Same (values_of f answered) (arrangement layout k changed)
     pub extended : (k : ℕ) → height m ≡ 2 ^ k → IsValues f.ring (λ n. f.value (generator n)) changed (k + a) s (values_of f out)
+
+  -- above rows of zeros, which make out 2 ^ a times as high, it has what a transform may answer that is called with the coefficients of m in bit reversed order
+  pub record IsAnswerOverZeros (may_answer : RowMajor F → RowMajor F → Type 0) (m : RowMajor F) (a : ℕ) (out : RowMajor F) : Type 0 where
+    pub told : RowMajor F
+    pub are_coefficients : (k : ℕ) → height m ≡ 2 ^ k → AreCoefficients f.ring (λ n. f.value (generator n)) (values_of f m) k f.ring.one (bit_reversal k (values_of f told))
+    pub answered : RowMajor F
+    pub called : may_answer told answered
+    pub whole : IsRowMajor answered
+    pub over_zeros : out ≡ with_zeros f.ZERO answered a
 
 -- how many products an extension of 2 ^ k rows of w entries by a bits takes, where bound says it of a transform: an inverse transform and one on the larger coset
 abbrev pub extension_bound : (ℕ → ℕ → ℕ) → ℕ → ℕ → ℕ → ℕ

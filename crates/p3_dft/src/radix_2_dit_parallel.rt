@@ -3,9 +3,11 @@
 ghost use Rattle.std.specs.Prelude.{◌≡◌, ◌↔◌, ◌⊎◌, ℕ, ◌+◌, ◌*◌, ◌/◌, ◌^◌, ◌<◌, ◌≤◌, IsTrue, IsOk, OnOk, OnErr};
 ghost use Rattle.p3_dft.specs.Engines.{IsPrepared, PreparesNoneAbove};
 
+mod extension;
 mod network;
 mod transform;
 
+use crate::radix_2_dit_parallel::extension::{coefficients_with_room, extend};
 use crate::radix_2_dit_parallel::transform::{evaluate, evaluate_on_coset, interpolate};
 use crate::traits::{Layout, TwoAdicSubgroupDft};
 use crate::util::reverse_rows;
@@ -23,15 +25,16 @@ use std::marker::Model;
 /// is done on each run of rows in turn. A run has about as many rows as the square root of the height,
 /// so that it stays in the cache for all layers of its half. The values are left in bit reversed order.
 /// At height `2^k` and width w that is at most `w * k * 2^k / 2` products, on a coset too, and `w * 2^k`
-/// more for an inverse.
+/// more for an inverse. An extension by a bits takes those of an inverse and of `2^a` transforms.
 ///
 /// Powers of the generators and of their inverses are kept for the largest height so far, from its first
 /// transform or inverse on, or from `prepare`, until the engine ends; then `dft_batch`, `idft_batch` and
 /// the calls that stand on them, but for extensions, take no memory at that height and at smaller ones.
 /// A coset has a table of its own, of one entry less than its height, for its height and its shift,
-/// which is kept from its first `coset_dft_batch` on, also where that is part of an extension; the coset
-/// of one, which is the subgroup, needs none. No call loses one. A new engine and a clone have no tables
-/// and take no memory.
+/// which is kept from its first `coset_dft_batch` on; the coset of one, which is the subgroup, needs none
+/// there. An extension goes coset by coset: its output is made of `2^added_bits` cosets of the input's
+/// height, and it makes and keeps a table of each. No call loses a table. A new engine and a clone have
+/// none and take no memory.
 ///
 /// Contracts see which heights are prepared, which cosets have a table, and how many products were made.
 #[derive(Drop)]
@@ -115,13 +118,13 @@ impl<F: TwoAdicField> TwoAdicSubgroupDft<F> for Radix2DitParallel<F> {
     ghost use Rattle.p3_dft.specs.Extensions.{IsTransformedExtension, extension_bound};
     ghost use Rattle.p3_dft.specs.Shapes.{FitsDft, FitsLde};
     ghost use Rattle.p3_dft.specs.Transforms.{IsInterpolation, IsTransform};
-    ghost use Rattle.p3_dft.specs.declared.traits.Layout.TheVariants.{Natural};
+    ghost use Rattle.p3_dft.specs.declared.traits.Layout.TheVariants.{BitReversed};
 
     type Evaluations = BitReversedMatrixView<RowMajorMatrix<F>>;
 
-    const LAYOUT: Layout = Layout::Natural;
+    const LAYOUT: Layout = Layout::BitReversed;
 
-    ghost LAYOUT = { Natural };
+    ghost LAYOUT = { BitReversed };
 
     ghost promised = { λ e. IsPrepared e.roots };
 
@@ -130,6 +133,8 @@ impl<F: TwoAdicField> TwoAdicSubgroupDft<F> for Radix2DitParallel<F> {
     ghost served = { λ _ _. ⊤ };
 
     ghost bound = { λ k w. w * (k * 2 ^ k / 2) };
+
+    ghost extension = { λ bound k a w. w * (k * 2 ^ k / 2 * (1 + 2 ^ a) + 2 ^ k) };
 
     ghost made = { λ e. e.roots.products };
 
@@ -255,7 +260,10 @@ impl<F: TwoAdicField> TwoAdicSubgroupDft<F> for Radix2DitParallel<F> {
         Ok(mat)
     }
 
-    /// As the trait says, by its parts.
+    /// As the trait says, coset by coset: the coefficients stay in bit reversed order, which the transform is
+    /// told, and each run of as many rows as the input has gets the values on a coset of its own. The rows
+    /// of zeros are not looked at. `Ok` makes the height of the input prepared for good, and leaves the
+    /// tables of all cosets.
     fn coset_lde_batch_with_transform<
         N: IntoRowMajorMatrix<F>,
         T: FnOnce(RowMajorMatrix<F>, Layout) -> RowMajorMatrix<F> + Drop,
@@ -266,6 +274,25 @@ impl<F: TwoAdicField> TwoAdicSubgroupDft<F> for Radix2DitParallel<F> {
         shift: F,
         transform: T,
     ) -> Result<BitReversedMatrixView<RowMajorMatrix<F>>, DftError> {
-        self.coset_lde_batch_by_parts(mat, added_bits, shift, transform)
+        let mat = mat.into_row_major_matrix();
+        let log_h = log2_strict_usize(mat.height());
+        let mut mat = coefficients_with_room(
+            mat,
+            added_bits,
+            shift,
+            transform,
+            &mut self.tables,
+            &mut self.cosets,
+            &mut self.products,
+        )?;
+        extend(
+            &mut mat,
+            log_h,
+            added_bits,
+            shift,
+            &self.cosets,
+            &mut self.products,
+        );
+        Ok(mat.bit_reverse_rows())
     }
 }

@@ -1,0 +1,121 @@
+use Rattle.std.proofs.Common.{◌≡◌, ℕ, ◌+◌, ◌*◌, ◌/◌, ◌^◌, ◌≤◌, sym, ap, ap₂, ◌∙◌, subst, arith}
+use Rattle.std.specs.List.{range_with_len}
+use Rattle.p3_matrix.specs.BitOrder.{bit_reversal}
+use Rattle.p3_matrix.specs.RowMajor.{RowMajor, HasShapeOf, IsRowMajor, height}
+use Rattle.p3_matrix.proofs.TwoPowers.{log_same}
+use Rattle.p3_networks.specs.Twiddles.{HasCoset}
+use Rattle.p3_dft.specs.Engines.{CosetTabled, IsPrepared}
+use Rattle.p3_dft.specs.Transforms.{values_of}
+use Rattle.p3_dft.proofs.BitReversed.Coefficients.{extension_of_answered}
+use Rattle.p3_dft.proofs.BitReversed.Rows.{values_seen}
+use Rattle.p3_dft.proofs.Calls.Padding.{padded_shape, padded_whole}
+use Rattle.p3_dft.proofs.Calls.PreparedCosets.{prepared_coset_stays}
+use Rattle.p3_dft.proofs.Calls.PreparedHeights.{prepared_until, until_prepared}
+use Rattle.p3_dft.proofs.Calls.Shapes.{output_log_small}
+use Rattle.p3_dft.proofs.radix_2_dit_parallel.Radix2DitParallelTwoAdicSubgroupDft.coset_lde_batch_with_transform.Goals as goal
+
+-- an inverse with a product for each entry, and a transform for each slot
+slots_counted : (x y p w before middle after : ℕ) → middle ≤ before + w * x + y * w → after ≤ middle + p * (w * x) → after ≤ before + w * (x * (1 + p) + y)
+slots_counted x y p w before middle after first second =
+    let spread : w * x + y * w + p * (w * x) ≡ w * (x * (1 + p) + y) = omega arith in
+    omega (arith, first, second, spread)
+
+pub returns-in_err-mat-clause-later : goal.returns-in_err-mat-clause-later
+returns-in_err-mat-clause-later g c =
+    let products : c.self.inside.products ≡ c.args.self.now.roots.products = ap (λ (e : CosetTabled g.row.F.Denot). e.roots.products) c.self.view_is in
+    let still = λ (k : ℕ) (before : IsPrepared c.args.self.now.roots k).
+        let held : k ≤ c.self.inside.tables = until_prepared _ k (subst (λ (e : CosetTabled g.row.F.Denot). IsPrepared e.roots k) (sym c.self.view_is) before) in
+        prepared_until c.coefficients_with_room.new.tables k (omega (arith, held, c.coefficients_with_room.ensures.keeps)) in
+    record {
+      keeps = still;
+      keeps_cosets = prepared_coset_stays g.F.Field c.args.self.now (record { roots = record { prepared = range_with_len 1 c.coefficients_with_room.new.tables; products = 0 }; cosets = c.coefficients_with_room.new.cosets })
+          still
+          (λ k s has. c.coefficients_with_room.ensures.keeps_cosets k s (subst (λ (e : CosetTabled g.row.F.Denot). HasCoset g.F.Field e.cosets k s) (sym c.self.view_is) has));
+      keeps_served = λ k none. tt;
+      grows = omega (arith, products, c.coefficients_with_room.ensures.grows);
+    }
+
+pub extend-requires-clause-within : goal.extend-requires-clause-within
+extend-requires-clause-within g c =
+    let stored = ap height c.into_row_major_matrix-mat.ensures in
+    let same = log_same _ _ (sym c.log2_strict_usize-log_h.ensures.power ∙ c.height.ensures.height ∙ stored ∙ c.requires.fits.high) in
+    omega (arith, same, c.requires.fits.within)
+
+pub extend-requires-clause-small : goal.extend-requires-clause-small
+extend-requires-clause-small g c =
+    let stored = ap height c.into_row_major_matrix-mat.ensures in
+    let same = log_same _ _ (sym c.log2_strict_usize-log_h.ensures.power ∙ c.height.ensures.height ∙ stored ∙ c.requires.fits.high) in
+    let small = output_log_small _ _ _ _ c.requires.fits in
+    omega (arith, same, small)
+
+pub extend-requires-clause-height : goal.extend-requires-clause-height
+extend-requires-clause-height g c =
+    let m = c.into_row_major_matrix-mat.result in
+    let log = c.log2_strict_usize-log_h.result in
+    let answer = c.in_ok-mat.ensures.answer in
+    let high : height m ≡ 2 ^ log = sym c.height.ensures.height ∙ c.log2_strict_usize-log_h.ensures.power in
+    let are = answer.are_coefficients log high in
+    let shape : HasShapeOf answer.answered m = rw c.into_row_major_matrix-mat.ensures (c.requires.shape answer.told answer.answered (rw (← c.into_row_major_matrix-mat.ensures) (are.high, are.wide)) answer.called) in
+    (padded_shape g.F.Field.ZERO m answer.answered c.in_ok-mat.mat c.args.added_bits log answer.whole shape high answer.over_zeros).0
+
+pub bit_reverse_rows-requires : goal.bit_reverse_rows-requires
+bit_reverse_rows-requires g c = (c.log2_strict_usize-log_h.result + c.args.added_bits, c.extend.ensures.shape.0 ∙ extend-requires-clause-height g c.before)
+
+pub returns-clause-values : goal.returns-clause-values
+returns-clause-values g c =
+    let field = g.F.Field in
+    let a = c.args.added_bits in
+    let s = field.value c.args.shift in
+    let m = c.into_row_major_matrix-mat.result in
+    let grown = c.in_ok-mat.mat in
+    let out = c.extend.new.mat in
+    let log = c.log2_strict_usize-log_h.result in
+    let answer = c.in_ok-mat.ensures.answer in
+    let high : height m ≡ 2 ^ log = sym c.height.ensures.height ∙ c.log2_strict_usize-log_h.ensures.power in
+    let are = answer.are_coefficients log high in
+    let shape : HasShapeOf answer.answered m = rw c.into_row_major_matrix-mat.ensures (c.requires.shape answer.told answer.answered (rw (← c.into_row_major_matrix-mat.ensures) (are.high, are.wide)) answer.called) in
+    let tall = c.extend.ensures.shape.0 ∙ (padded_shape field.ZERO m answer.answered grown a log answer.whole shape high answer.over_zeros).0 in
+    let whole : IsRowMajor grown = rw answer.over_zeros (padded_whole field.ZERO answer.answered answer.whole a) in
+    let is_whole : IsRowMajor out = record { wide = omega (arith, whole.wide, c.extend.ensures.shape.1); full = ap₂ (λ h w. h * w) c.extend.ensures.shape.0 c.extend.ensures.shape.1 ∙ whole.full ∙ sym c.extend.ensures.size } in
+    rw (← c.into_row_major_matrix-mat.ensures, c.bit_reverse_rows.ensures.matrix)
+    (extension_of_answered field g.F.TwoAdicField.generator _ m answer.told answer.answered _ a log s high are answer.called shape.0
+    (values_seen field g.F.TwoAdicField.generator (bit_reversal log (values_of field answer.answered)) out s (log + a) c.bit_reverse_rows.result.bits is_whole tall c.bit_reverse_rows.ensures.height
+    (c.extend.ensures.values answer.answered answer.whole (shape.0 ∙ high) answer.over_zeros)))
+
+pub returns-clause-later : goal.returns-clause-later
+returns-clause-later g c =
+    let products : c.self.inside.products ≡ c.args.self.now.roots.products = ap (λ (e : CosetTabled g.row.F.Denot). e.roots.products) c.self.view_is in
+    let still = λ (k : ℕ) (before : IsPrepared c.args.self.now.roots k).
+        let held : k ≤ c.self.inside.tables = until_prepared _ k (subst (λ (e : CosetTabled g.row.F.Denot). IsPrepared e.roots k) (sym c.self.view_is) before) in
+        prepared_until c.coefficients_with_room.new.tables k (omega (arith, held, c.coefficients_with_room.ensures.keeps)) in
+    record {
+      keeps = still;
+      keeps_cosets = prepared_coset_stays g.F.Field c.args.self.now (record { roots = record { prepared = range_with_len 1 c.coefficients_with_room.new.tables; products = 0 }; cosets = c.coefficients_with_room.new.cosets })
+          still
+          (λ k s has. c.coefficients_with_room.ensures.keeps_cosets k s (subst (λ (e : CosetTabled g.row.F.Denot). HasCoset g.F.Field e.cosets k s) (sym c.self.view_is) has));
+      keeps_served = λ k none. tt;
+      grows = omega (arith, products, c.coefficients_with_room.ensures.grows, c.extend.ensures.grows);
+    }
+
+pub returns-clause-cost : goal.returns-clause-cost
+returns-clause-cost g c k e =
+    let a = c.args.added_bits in
+    let m = c.into_row_major_matrix-mat.result in
+    let w = (g.N.IntoRowMajorMatrix.stored c.args.mat).width in
+    let log = c.log2_strict_usize-log_h.result in
+    let stored = ap height c.into_row_major_matrix-mat.ensures in
+    let width = ap (λ (n : RowMajor g.row.F.Denot). n.width) c.into_row_major_matrix-mat.ensures in
+    let same : log ≡ k = log_same log k (sym c.log2_strict_usize-log_h.ensures.power ∙ c.height.ensures.height ∙ stored ∙ e) in
+    let products : c.self.inside.products ≡ c.args.self.now.roots.products = ap (λ (e : CosetTabled g.row.F.Denot). e.roots.products) c.self.view_is in
+    let answer = c.in_ok-mat.ensures.answer in
+    let are = answer.are_coefficients k (stored ∙ e) in
+    let shape = c.requires.shape answer.told answer.answered (rw (← c.into_row_major_matrix-mat.ensures) (are.high, are.wide)) answer.called in
+    let grown : c.in_ok-mat.mat.width ≡ w = ap (λ (n : RowMajor g.row.F.Denot). n.width) answer.over_zeros ∙ shape.1 in
+    let x = k * 2 ^ k / 2 in
+    let first : c.coefficients_with_room.new.products ≤ c.args.self.now.roots.products + w * x + 2 ^ k * w =
+    subst (λ (v : ℕ). c.coefficients_with_room.new.products ≤ c.args.self.now.roots.products + v * x + 2 ^ k * v) width
+    (subst (λ (b : ℕ). c.coefficients_with_room.new.products ≤ b + m.width * x + 2 ^ k * m.width) products (c.coefficients_with_room.ensures.cost k (stored ∙ e))) in
+    let second : c.extend.new.products ≤ c.coefficients_with_room.new.products + 2 ^ a * (w * x) =
+    subst (λ (n : ℕ). c.extend.new.products ≤ c.coefficients_with_room.new.products + 2 ^ a * (w * (n * 2 ^ n / 2))) same
+    (subst (λ (v : ℕ). c.extend.new.products ≤ c.coefficients_with_room.new.products + 2 ^ a * (v * (log * 2 ^ log / 2))) grown c.extend.ensures.cost) in
+    slots_counted x (2 ^ k) (2 ^ a) w _ _ _ first second

@@ -1,0 +1,97 @@
+use Rattle.std.proofs.Common.{◌≡◌, ◌⊎◌, ℕ, ◌+◌, ◌*◌, ◌/◌, ◌^◌, ◌≤◌, sym, ◌∙◌, subst, arith}
+use Rattle.p3_matrix.specs.BitOrder.{bit_reversal}
+use Rattle.p3_matrix.proofs.TwoPowers.{log_same}
+use Rattle.p3_networks.specs.Cosets.{AreCoefficients}
+use Rattle.p3_networks.specs.Twiddles.{HasCosets}
+use Rattle.p3_dft.specs.Transforms.{values_of}
+use Rattle.p3_dft.proofs.Calls.Shapes.{output_log_small, output_size}
+use Rattle.p3_dft.proofs.radix_2_dit_parallel.extension.coefficients_with_room.Goals as goal
+
+pub make-requires-clause-within : goal.make-requires-clause-within
+make-requires-clause-within g c =
+    let same = log_same _ _ (sym c.log2_strict_usize-log_h.ensures.power ∙ c.height.ensures.height ∙ c.requires.fits.high) in
+    omega (arith, same, c.requires.fits.within)
+
+pub interpolate-requires-clause-rooted : goal.interpolate-requires-clause-rooted
+interpolate-requires-clause-rooted g c =
+    let same = log_same _ _ (sym c.log2_strict_usize-log_h.ensures.power ∙ c.height.ensures.height ∙ c.requires.fits.high) in
+    omega (arith, same, c.requires.fits.within)
+
+pub pad_rows-requires-clause-bits : goal.pad_rows-requires-clause-bits
+pad_rows-requires-clause-bits g c = let small = output_log_small _ _ _ _ c.requires.fits in omega (arith, small)
+
+pub pad_rows-requires-clause-size : goal.pad_rows-requires-clause-size
+pad_rows-requires-clause-size g c =
+    let shape = c.requires.shape c.interpolate.new.mat c.transform-changed.result c.interpolate.ensures.shape c.transform-changed.ensures in
+    rw (shape.0, shape.1) (output_size _ _ _ _ c.requires.fits)
+
+pub returns-in_err-grown-clause-only : goal.returns-in_err-grown-clause-only
+returns-in_err-grown-clause-only g c k high =
+    let same : c.log2_strict_usize-log_h.result ≡ k = log_same _ k (sym c.log2_strict_usize-log_h.ensures.power ∙ c.height.ensures.height ∙ high) in
+    subst (λ (n : ℕ). (c.make.new.self ≡ c.args.tables.now) ⊎ (c.make.new.self ≡ n)) same c.make.ensures.only
+
+pub returns-in_err-grown-clause-cost : goal.returns-in_err-grown-clause-cost
+returns-in_err-grown-clause-cost g c k high =
+    let same : c.log2_strict_usize-log_h.result ≡ k = log_same _ k (sym c.log2_strict_usize-log_h.ensures.power ∙ c.height.ensures.height ∙ high) in
+    let w = c.args.mat.width in
+    subst (λ (n : ℕ). c.interpolate.new.products ≤ c.args.products.now + w * (n * 2 ^ n / 2) + 2 ^ n * w) same c.interpolate.ensures.cost
+
+pub make_all-requires-clause-within : goal.make_all-requires-clause-within
+make_all-requires-clause-within g c =
+    let same = log_same _ _ (sym c.log2_strict_usize-log_h.ensures.power ∙ c.height.ensures.height ∙ c.requires.fits.high) in
+    omega (arith, same, c.requires.fits.within)
+
+pub make_all-requires-clause-small : goal.make_all-requires-clause-small
+make_all-requires-clause-small g c =
+    let same = log_same _ _ (sym c.log2_strict_usize-log_h.ensures.power ∙ c.height.ensures.height ∙ c.requires.fits.high) in
+    let small = output_log_small _ _ _ _ c.requires.fits in
+    omega (arith, same, small)
+
+pub returns-in_err-make_all-clause-only : goal.returns-in_err-make_all-clause-only
+returns-in_err-make_all-clause-only g c k high =
+    let same : c.log2_strict_usize-log_h.result ≡ k = log_same _ k (sym c.log2_strict_usize-log_h.ensures.power ∙ c.height.ensures.height ∙ high) in
+    subst (λ (n : ℕ). (c.make.new.self ≡ c.args.tables.now) ⊎ (c.make.new.self ≡ n)) same c.make.ensures.only
+
+pub returns-in_err-make_all-clause-cost : goal.returns-in_err-make_all-clause-cost
+returns-in_err-make_all-clause-cost g c k high =
+    let same : c.log2_strict_usize-log_h.result ≡ k = log_same _ k (sym c.log2_strict_usize-log_h.ensures.power ∙ c.height.ensures.height ∙ high) in
+    let w = c.args.mat.width in
+    subst (λ (n : ℕ). c.interpolate.new.products ≤ c.args.products.now + w * (n * 2 ^ n / 2) + 2 ^ n * w) same c.interpolate.ensures.cost
+
+pub returns-clause-answer : goal.returns-clause-answer
+returns-clause-answer g c =
+    let field = g.F.Field in
+    let told = c.interpolate.new.mat in
+    record {
+      told = told;
+      are_coefficients = λ k high.
+          let same : c.log2_strict_usize-log_h.result ≡ k = log_same _ k (sym c.log2_strict_usize-log_h.ensures.power ∙ c.height.ensures.height ∙ high) in
+          subst (λ (n : ℕ). AreCoefficients field.ring (λ i. field.value (g.F.TwoAdicField.generator i)) (values_of field c.args.mat) n field.ring.one (bit_reversal n (values_of field told))) same
+          c.interpolate.ensures.coefficients;
+      answered = c.transform-changed.result;
+      called = c.transform-changed.ensures;
+      whole = c.pad_rows.ensures.whole;
+      over_zeros = c.in_ok-grown.ensures.padded;
+    }
+
+pub returns-clause-prepared : goal.returns-clause-prepared
+returns-clause-prepared g c k high =
+    let same : c.log2_strict_usize-log_h.result ≡ k = log_same _ k (sym c.log2_strict_usize-log_h.ensures.power ∙ c.height.ensures.height ∙ high) in
+    omega (arith, same, c.in_ok-make.ensures.made)
+
+pub returns-clause-only : goal.returns-clause-only
+returns-clause-only g c k high =
+    let same : c.log2_strict_usize-log_h.result ≡ k = log_same _ k (sym c.log2_strict_usize-log_h.ensures.power ∙ c.height.ensures.height ∙ high) in
+    subst (λ (n : ℕ). (c.make.new.self ≡ c.args.tables.now) ⊎ (c.make.new.self ≡ n)) same c.make.ensures.only
+
+pub returns-clause-cosets : goal.returns-clause-cosets
+returns-clause-cosets g c k high =
+    let field = g.F.Field in
+    let same : c.log2_strict_usize-log_h.result ≡ k = log_same _ k (sym c.log2_strict_usize-log_h.ensures.power ∙ c.height.ensures.height ∙ high) in
+    subst (λ (n : ℕ). HasCosets field g.F.TwoAdicField.generator c.make_all.new.self n c.args.added_bits (field.value c.args.shift)) same c.in_ok-make_all.ensures.made
+
+pub returns-clause-cost : goal.returns-clause-cost
+returns-clause-cost g c k high =
+    let same : c.log2_strict_usize-log_h.result ≡ k = log_same _ k (sym c.log2_strict_usize-log_h.ensures.power ∙ c.height.ensures.height ∙ high) in
+    let w = c.args.mat.width in
+    subst (λ (n : ℕ). c.interpolate.new.products ≤ c.args.products.now + w * (n * 2 ^ n / 2) + 2 ^ n * w) same c.interpolate.ensures.cost

@@ -1,0 +1,95 @@
+// The extension coset by coset.
+
+ghost use Rattle.std.specs.Prelude.{◌≡◌, ◌⊎◌, ℕ, ◌+◌, ◌*◌, ◌/◌, ◌^◌, ◌<◌, ◌≤◌, IfOk, OnOk, length};
+ghost use Rattle.p3_matrix.specs.BitOrder.{bit_reversal};
+ghost use Rattle.p3_matrix.specs.RowMajor.{HasShapeOf, IsRowMajor, RowMajor, height};
+ghost use Rattle.p3_networks.specs.Cosets.{IsValues};
+ghost use Rattle.p3_networks.specs.Twiddles.{HasCoset, HasCosets};
+ghost use Rattle.p3_dft.specs.Engines.{AtLog};
+ghost use Rattle.p3_dft.specs.Extensions.{IsAnswerOverZeros, with_zeros};
+ghost use Rattle.p3_dft.specs.Shapes.{FitsLde};
+ghost use Rattle.p3_dft.specs.Transforms.{values_of};
+ghost use Rattle.p3_dft.specs.declared.traits.Layout.TheVariants.{BitReversed};
+
+use crate::radix_2_dit_parallel::transform::interpolate;
+use crate::traits::Layout;
+use crate::util::pad_rows;
+use p3_field::{Products, TwoAdicField};
+use p3_matrix::{DftError, RowMajorMatrix, log2_strict_usize};
+use p3_networks::radix_2_dit_parallel::coset_tables::CosetTables;
+use p3_networks::radix_2_dit_parallel::slots::extend_slots;
+use p3_networks::radix_2_dit_parallel::tables::Tables;
+
+// All of an extension that takes memory: the coefficients, in bit reversed order, as the transform answers
+// them, the rows of the other slots below them, and the tables of the cosets of all slots.
+pub(crate) fn coefficients_with_room<
+    F: TwoAdicField,
+    T: FnOnce(RowMajorMatrix<F>, Layout) -> RowMajorMatrix<F> + Drop,
+>(
+    mat: RowMajorMatrix<F>,
+    added_bits: usize,
+    shift: F,
+    transform: T,
+    tables: &mut Tables<F>,
+    cosets: &mut CosetTables<F>,
+    products: &mut Products,
+) -> Result<RowMajorMatrix<F>, DftError>
+    requires fits { FitsLde F.TWO_ADICITY (height mat) mat.width added_bits }
+    requires callable { (m : RowMajor F) → HasShapeOf m mat → T.pre transform m BitReversed }
+    requires shape { (m n : RowMajor F) → HasShapeOf m mat → T.post transform m BitReversed n → HasShapeOf n mat }
+    ensures answer { IfOk result (λ out.
+        IsAnswerOverZeros F.Field.own F.generator (λ m n. T.post transform m BitReversed n) mat added_bits out) }
+    ensures prepared { AtLog (height mat) (λ k. OnOk result (k ≤ tables.new)) }
+    ensures keeps { tables.old ≤ tables.new }
+    ensures only { AtLog (height mat) (λ k. (tables.new ≡ tables.old) ⊎ (tables.new ≡ k)) }
+    ensures cosets { AtLog (height mat) (λ k. OnOk result (HasCosets F.Field.own F.generator cosets.new k added_bits (F.value shift))) }
+    ensures keeps_cosets { (k : ℕ) (s : F.Element) → HasCoset F.Field.own cosets.old k s → HasCoset F.Field.own cosets.new k s }
+    ensures grows { products.old ≤ products.new }
+    ensures cost { AtLog (height mat) (λ k. products.new ≤ products.old + mat.width * (k * 2 ^ k / 2) + 2 ^ k * mat.width) }
+{
+    let mut mat = mat;
+    let alloc = *mat.allocator();
+    let log_h = log2_strict_usize(mat.height());
+    tables.make(alloc, log_h)?;
+    interpolate(&mut mat, log_h, tables.inverse(), products);
+    let changed = transform(mat, Layout::BitReversed);
+    let grown = pad_rows(changed, added_bits)?;
+    cosets.make_all(alloc, log_h, added_bits, shift)?;
+    Ok(grown)
+}
+
+// From coefficients in bit reversed order, with rows of zeros below them, their values on the coset of
+// `shift` that has as many points as there are rows, in bit reversed order. What the zeros are does not
+// matter.
+pub(crate) fn extend<F: TwoAdicField>(
+    mat: &mut RowMajorMatrix<F>,
+    log_h: usize,
+    added_bits: usize,
+    shift: F,
+    cosets: &CosetTables<F>,
+    products: &mut Products,
+)
+    requires whole { IsRowMajor mat.old }
+    requires within { log_h + added_bits ≤ F.TWO_ADICITY }
+    requires small { log_h + added_bits < 64 }
+    requires height { height mat.old ≡ 2 ^ (log_h + added_bits) }
+    requires tables { HasCosets F.Field.own F.generator cosets.now log_h added_bits (F.value shift) }
+    ensures shape { HasShapeOf mat.new mat.old }
+    ensures size { length mat.new.values ≡ length mat.old.values }
+    ensures values { (c : RowMajor F) → IsRowMajor c → height c ≡ 2 ^ log_h → mat.old ≡ with_zeros F.ZERO c added_bits
+        → IsValues F.ring (λ n. F.value (F.generator n)) (bit_reversal log_h (values_of F.Field.own c)) (log_h + added_bits) (F.value shift)
+        (bit_reversal (log_h + added_bits) (values_of F.Field.own mat.new)) }
+    ensures grows { products.old ≤ products.new }
+    ensures cost { products.new ≤ products.old + 2 ^ added_bits * (mat.old.width * (log_h * 2 ^ log_h / 2)) }
+{
+    let width = mat.width();
+    extend_slots(
+        mat.values_mut(),
+        width,
+        log_h,
+        added_bits,
+        shift,
+        cosets,
+        products,
+    );
+}
