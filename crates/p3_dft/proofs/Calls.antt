@@ -7,5 +7,6 @@ pub mod JobLists
 pub mod Padding
 pub mod PreparedCosets
 pub mod PreparedHeights
+pub mod PublishedExtensions
 pub mod Shapes
 pub mod Transforms

@@ -1,3 +1,4 @@
+pub mod Blocks
 pub mod Combinations
 pub mod Engines
 pub mod Extensions

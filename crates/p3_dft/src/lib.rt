@@ -5,6 +5,7 @@
 //! `p3_matrix` again, so that a user names one crate.
 #![tactic(auto)]
 
+pub mod blocks;
 pub mod jobs;
 pub mod naive;
 pub mod radix_2_bowers;
@@ -14,6 +15,7 @@ pub mod radix_2_small_batch;
 pub mod traits;
 pub mod util;
 
+pub use blocks::{BlocksStopped, Unpublished};
 pub use jobs::{Job, JobsStopped, run_jobs};
 pub use naive::NaiveDft;
 pub use p3_field::{
@@ -21,11 +23,12 @@ pub use p3_field::{
     Packable, Packed, PackedField, Products, TwoAdicField, scaled,
 };
 pub use p3_matrix::{
-    BitReversedMatrixView, Butterfly, DftError, DifButterfly, DifButterflyZeros, DitButterfly,
-    Evaluations, IntoRowMajorMatrix, RowMajorMatrix, RowMajorMatrixView, RowMajorMatrixViewMut,
-    ScaledDitButterfly, TwiddleFreeButterfly, apply_dit_by_place, log2_strict_usize,
-    reverse_bits_len, reverse_matrix_index_bits, reverse_slice_index_bits, scale_slice_in_place,
-    split_rows_mut, swap_rows,
+    BitReversedMatrixView, BlockConsumer, BlockLimit, BlockRefused, Butterfly, DftError,
+    DifButterfly, DifButterflyZeros, DitButterfly, Evaluations, IntoRowMajorMatrix, Recorder,
+    RowMajorMatrix, RowMajorMatrixView, RowMajorMatrixViewMut, ScaledDitButterfly,
+    TwiddleFreeButterfly, apply_dit_by_place, log2_strict_usize, reverse_bits_len,
+    reverse_matrix_index_bits, reverse_slice_index_bits, scale_slice_in_place, split_rows_mut,
+    swap_rows,
 };
 pub use radix_2_bowers::Radix2Bowers;
 pub use radix_2_dit::Radix2Dit;

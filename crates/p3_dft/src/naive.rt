@@ -52,6 +52,7 @@ impl Clone for NaiveDft {
 
 impl<F: TwoAdicField> TwoAdicSubgroupDft<F> for NaiveDft {
     ghost use Rattle.std.specs.Prelude.{◌≡◌, ⊤, ℕ, ◌+◌, ◌*◌, ◌^◌, ◌≤◌, IfOk, OnOk};
+    ghost use Rattle.std.proofs.Common.{refl, rules};
     ghost use Rattle.p3_dft.specs.Engines.{IsLater};
     ghost use Rattle.p3_matrix.specs.RowMajor.{height};
     ghost use Rattle.p3_dft.specs.Shapes.{FitsDft};
@@ -73,6 +74,8 @@ impl<F: TwoAdicField> TwoAdicSubgroupDft<F> for NaiveDft {
     ghost bound = { λ k w. 2 ^ k * 2 ^ k * w };
 
     ghost made = { λ e. e };
+
+    ghost block_rows_law = { λ k a. (k + a, Prim.search (rules), refl) };
 
     ghost default_law = { λ e none. none };
 
@@ -106,6 +109,10 @@ impl<F: TwoAdicField> TwoAdicSubgroupDft<F> for NaiveDft {
 
     fn add_products(&mut self, products: Products) {
         self.products.add(products);
+    }
+
+    fn block_height(&self, log_h: usize, added_bits: usize) -> usize {
+        1 << (log_h + added_bits)
     }
 
     fn coset_lde_batch_with_transform<

@@ -67,6 +67,7 @@ impl Clone for Radix2Bowers {
 
 impl<F: TwoAdicField> TwoAdicSubgroupDft<F> for Radix2Bowers {
     ghost use Rattle.std.specs.Prelude.{◌≡◌, ⊤, ℕ, ◌+◌, ◌*◌, ◌/◌, ◌^◌, ◌≤◌, IfOk, IsOk, OnOk, Ok};
+    ghost use Rattle.std.proofs.Common.{refl, rules};
     ghost use Rattle.p3_matrix.specs.RowMajor.{height};
     ghost use Rattle.p3_dft.specs.Engines.{AtLog, IsLater};
     ghost use Rattle.p3_dft.specs.Shapes.{FitsDft};
@@ -88,6 +89,8 @@ impl<F: TwoAdicField> TwoAdicSubgroupDft<F> for Radix2Bowers {
     ghost bound = { λ k w. w * (k * 2 ^ k / 2) };
 
     ghost made = { λ e. e };
+
+    ghost block_rows_law = { λ k a. (k + a, Prim.search (rules), refl) };
 
     ghost default_law = { λ e none. none };
 
@@ -114,6 +117,10 @@ impl<F: TwoAdicField> TwoAdicSubgroupDft<F> for Radix2Bowers {
 
     fn add_products(&mut self, products: Products) {
         self.products.add(products);
+    }
+
+    fn block_height(&self, log_h: usize, added_bits: usize) -> usize {
+        1 << (log_h + added_bits)
     }
 
     /// As the trait says: network G transposed, division by the height, then the rows are reversed. A

@@ -93,6 +93,7 @@ impl<F: TwoAdicField> Radix2Dit<F> {
 
 impl<F: TwoAdicField> TwoAdicSubgroupDft<F> for Radix2Dit<F> {
     ghost use Rattle.std.specs.Prelude.{◌≡◌, ◌⊎◌, ℕ, ◌+◌, ◌*◌, ◌/◌, ◌-◌, ◌^◌, ◌≤◌, IfOk, IsOk, OnErr, OnOk, Ok, ⊤};
+    ghost use Rattle.std.proofs.Common.{refl, rules};
     ghost use Rattle.p3_matrix.specs.RowMajor.{HasShapeOf, RowMajor, height};
     ghost use Rattle.p3_dft.specs.Engines.{AtLog, IsLater, IsPrepared, PreparesNoneAbove};
     ghost use Rattle.p3_dft.specs.Extensions.{IsTransformedExtension};
@@ -117,6 +118,8 @@ impl<F: TwoAdicField> TwoAdicSubgroupDft<F> for Radix2Dit<F> {
     ghost extension = { λ bound k a w. bound k w + bound (k + a) w + 2 * (2 ^ k * w) };
 
     ghost made = { λ e. e.products };
+
+    ghost block_rows_law = { λ k a. (k + a, Prim.search (rules), refl) };
 
     ghost default_law = { λ e new. new.1 };
 
@@ -154,6 +157,10 @@ impl<F: TwoAdicField> TwoAdicSubgroupDft<F> for Radix2Dit<F> {
 
     fn add_products(&mut self, products: Products) {
         self.products.add(products);
+    }
+
+    fn block_height(&self, log_h: usize, added_bits: usize) -> usize {
+        1 << (log_h + added_bits)
     }
 
     /// As the trait says. Only the rows that carry coefficients are multiplied by powers of the

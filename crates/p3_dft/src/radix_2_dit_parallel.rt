@@ -112,6 +112,7 @@ impl<F: TwoAdicField> Radix2DitParallel<F> {
 
 impl<F: TwoAdicField> TwoAdicSubgroupDft<F> for Radix2DitParallel<F> {
     ghost use Rattle.std.specs.Prelude.{◌≡◌, ◌≢◌, ◌⊎◌, ⊤, ℕ, ◌+◌, ◌*◌, ◌/◌, ◌^◌, ◌≤◌, [], ◌∷◌, ◌++◌, IfOk, IsOk, OnOk, OnErr, Ok};
+    ghost use Rattle.std.proofs.Common.{refl, rules};
     ghost use Rattle.p3_matrix.specs.BitOrder.{reversed_rows};
     ghost use Rattle.p3_matrix.specs.RowMajor.{HasShapeOf, RowMajor, height};
     ghost use Rattle.p3_dft.specs.Engines.{AtLog, IsLater, IsCosetPrepared, IsPrepared, PreparesNoneAbove};
@@ -137,6 +138,8 @@ impl<F: TwoAdicField> TwoAdicSubgroupDft<F> for Radix2DitParallel<F> {
     ghost extension = { λ bound k a w. w * (k * 2 ^ k / 2 * (1 + 2 ^ a) + 2 ^ k) };
 
     ghost made = { λ e. e.roots.products };
+
+    ghost block_rows_law = { λ k a. (k + a, Prim.search (rules), refl) };
 
     ghost default_law = { λ e new. new.2 };
 
@@ -177,6 +180,10 @@ impl<F: TwoAdicField> TwoAdicSubgroupDft<F> for Radix2DitParallel<F> {
 
     fn add_products(&mut self, products: Products) {
         self.products.add(products);
+    }
+
+    fn block_height(&self, log_h: usize, added_bits: usize) -> usize {
+        1 << (log_h + added_bits)
     }
 
     /// As the trait says, by the table of the coset. Where that is there, the answer is `Ok`, and `Ok`

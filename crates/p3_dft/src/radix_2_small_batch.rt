@@ -152,6 +152,7 @@ impl<F: TwoAdicField> Radix2DFTSmallBatch<F> {
 
 impl<F: TwoAdicField> TwoAdicSubgroupDft<F> for Radix2DFTSmallBatch<F> {
     ghost use Rattle.std.specs.Prelude.{◌≡◌, ◌⊎◌, ℕ, ◌+◌, ◌*◌, ◌/◌, ◌^◌, ◌≤◌, IfOk, IsOk, OnOk, OnErr, Ok, ⊤};
+    ghost use Rattle.std.proofs.Common.{refl, rules};
     ghost use Rattle.p3_matrix.specs.RowMajor.{HasShapeOf, RowMajor, height};
     ghost use Rattle.p3_dft.specs.Engines.{AtLog, IsLater, IsPrepared, PreparesNoneAbove};
     ghost use Rattle.p3_dft.specs.Extensions.{IsExtension, IsTransformedExtension, extension_bound};
@@ -174,6 +175,8 @@ impl<F: TwoAdicField> TwoAdicSubgroupDft<F> for Radix2DFTSmallBatch<F> {
     ghost bound = { λ k w. w * (k * 2 ^ k / 2) };
 
     ghost made = { λ e. e.products };
+
+    ghost block_rows_law = { λ k a. (k + a, Prim.search (rules), refl) };
 
     ghost default_law = { λ e new. new.1 };
 
@@ -207,6 +210,10 @@ impl<F: TwoAdicField> TwoAdicSubgroupDft<F> for Radix2DFTSmallBatch<F> {
 
     fn add_products(&mut self, products: Products) {
         self.products.add(products);
+    }
+
+    fn block_height(&self, log_h: usize, added_bits: usize) -> usize {
+        1 << (log_h + added_bits)
     }
 
     /// As the trait says, by a network of its own: division by the height goes into the tiles. A matrix

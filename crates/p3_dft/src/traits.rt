@@ -1,17 +1,24 @@
 //! The trait of the engines.
 
-ghost use Rattle.std.specs.Prelude.{◌≡◌, ℕ, ◌+◌, ◌*◌, ◌^◌, ◌≤◌, IfOk, OnOk, IsOk, vec_len};
+ghost use Rattle.std.specs.Prelude.{◌≡◌, ℕ, ◌+◌, ◌*◌, ◌^◌, ◌≤◌, IfErr, IfOk, OnOk, IsOk, vec_len};
+ghost use Rattle.p3_matrix.specs.BitOrder.{bit_reversal, reversed_rows};
+ghost use Rattle.p3_matrix.specs.Blocks.{IsPublished, IsRefused};
 ghost use Rattle.p3_matrix.specs.RowMajor.{HasShapeOf, RowMajor, height};
 ghost use Rattle.p3_dft.specs.Engines.{AtLog, IsLater, SameCosets, SameNumbers, one_column};
-ghost use Rattle.p3_dft.specs.Extensions.{IsExtension, IsTransformedExtension, extension_bound, arrangement};
+ghost use Rattle.p3_dft.specs.Extensions.{IsExtension, IsTransformedExtension, extension_bound, arrangement, AreTransformedValues};
+ghost use Rattle.p3_dft.specs.Blocks.{OnOutOfMemory, OnRefused, UnlessOutOfMemory};
 ghost use Rattle.p3_dft.specs.Shapes.{FitsDft, FitsLde};
-ghost use Rattle.p3_matrix.specs.Matrix.{Same, matrix};
+ghost use Rattle.p3_matrix.specs.Matrix.{Matrix, Same, matrix};
 ghost use Rattle.p3_field.specs.Ring.{IsInvertible};
-ghost use Rattle.p3_dft.specs.Transforms.{IsInterpolation, IsTransform};
+ghost use Rattle.p3_dft.specs.Transforms.{IsInterpolation, IsTransform, values_of};
 
+use crate::blocks::{BlocksStopped, Unpublished};
 use crate::util::{coefficients_from_values, pad_rows, reverse_rows, shift_rows};
 use p3_field::{Field, Products, TwoAdicField};
-use p3_matrix::{DftError, Evaluations, IntoRowMajorMatrix, RowMajorMatrix};
+use p3_matrix::{
+    BitReversedMatrixView, BlockConsumer, DftError, Evaluations, IntoRowMajorMatrix,
+    RowMajorMatrix, log2_strict_usize, publish,
+};
 
 /// In which order the rows of a matrix of `2^k` coefficients lie.
 #[derive(Clone, Copy, Debug, PartialEq, Eq)]
@@ -63,6 +70,10 @@ pub trait TwoAdicSubgroupDft<F: TwoAdicField>: Clone + Default {
 
     // How many products the engine has made.
     ghost made: { Self → ℕ };
+
+    // How many rows a published block has, by the logarithm of the input's height and the added bits:
+    // those of the whole extension, unless an engine says less.
+    ghost block_rows: { ℕ → ℕ → ℕ } = { λ k a. 2 ^ (k + a) };
 
     /// The values on H of the polynomials whose coefficients are the columns.
     fn dft_batch<N: IntoRowMajorMatrix<F>>(&mut self, mat: N) -> Result<Self::Evaluations, DftError>
@@ -247,6 +258,73 @@ pub trait TwoAdicSubgroupDft<F: TwoAdicField>: Clone + Default {
     {
         self.coset_lde_batch(mat, added_bits, F::ONE)
     }
+
+    /// How many rows each block of `coset_lde_batch_with_blocks` has, for an input of `2^log_h` rows:
+    /// a power of two that divides the extension's height.
+    fn block_height(&self, log_h: usize, added_bits: usize) -> usize
+        requires within { log_h + added_bits ≤ F.TWO_ADICITY }
+        requires small { log_h + added_bits ≤ 63 }
+        ensures { result ≡ block_rows log_h added_bits };
+
+    /// What `coset_lde_batch_with_transform` answers, with its rows in bit reversed order, and each
+    /// block of its physical rows is lent to a consumer once, in its final value.
+    ///
+    /// `make_consumer` is called once, with the height of a block. A block is a run of so many rows
+    /// of the output's physical matrix; the consumer is told the number of the first. When it
+    /// refuses a block no further one is lent, and it comes back with the refusal. Where memory is
+    /// refused it was never made, so that nothing was published, and `make_consumer` comes back. The
+    /// order of the blocks is not promised, and not whether `transform` or `make_consumer` is called
+    /// first.
+    fn coset_lde_batch_with_blocks<
+        N: IntoRowMajorMatrix<F>,
+        T: FnOnce(RowMajorMatrix<F>, Layout) -> RowMajorMatrix<F> + Drop,
+        C: BlockConsumer<F>,
+        M: FnOnce(usize) -> C,
+    >(
+        &mut self,
+        mat: N,
+        added_bits: usize,
+        shift: F,
+        transform: T,
+        make_consumer: M,
+    ) -> Result<(BitReversedMatrixView<RowMajorMatrix<F>>, C), BlocksStopped<M, C, C::Refusal>>
+        requires fits { FitsLde F.TWO_ADICITY (height (N.stored mat)) (N.stored mat).width added_bits }
+        requires callable { (m : RowMajor F) → HasShapeOf m (N.stored mat) → T.pre transform m LAYOUT }
+        requires shape { (m n : RowMajor F) → HasShapeOf m (N.stored mat) → T.post transform m LAYOUT n → HasShapeOf n (N.stored mat) }
+        requires makes { AtLog (height (N.stored mat)) (λ k. M.pre make_consumer (block_rows k added_bits)) }
+        ensures values { IfOk result (λ p. IsTransformedExtension F.Field.own F.generator (λ m n. T.post transform m LAYOUT n) LAYOUT
+            (N.stored mat) added_bits (F.value shift) (reversed_rows p.0.bits p.0.physical)) }
+        ensures published { IfOk result (λ p. AtLog (height (N.stored mat)) (λ k.
+            IsPublished C.step (λ c. M.post make_consumer (block_rows k added_bits) c) (block_rows k added_bits) p.0.physical p.1)) }
+        ensures refused { IfErr result (λ e. OnRefused e (λ c r. AtLog (height (N.stored mat)) (λ k. (out : Matrix F.Element)
+            × AreTransformedValues F.Field.own F.generator (λ m n. T.post transform m LAYOUT n) LAYOUT
+            (N.stored mat) added_bits (F.value shift) out
+            × IsRefused C.step (λ c. M.post make_consumer (block_rows k added_bits) c) (values_of F.Field.own)
+            (block_rows k added_bits) (bit_reversal (k + added_bits) out) c r))) }
+        ensures unpublished { IfErr result (λ e. OnOutOfMemory e (λ m. m ≡ make_consumer)) }
+        ensures serves { AtLog (height (N.stored mat))
+            (λ k. UnlessOutOfMemory result (served self.new k × served self.new (k + added_bits))) }
+        ensures later { IsLater promised coset_promised served made self.old self.new }
+        ensures cost { AtLog (height (N.stored mat))
+            (λ k. UnlessOutOfMemory result (made self.new ≤ made self.old + extension bound k added_bits (N.stored mat).width)) }
+    {
+        let mat = mat.into_row_major_matrix();
+        let block_height = self.block_height(log2_strict_usize(mat.height()), added_bits);
+        match self.coset_lde_batch_with_transform(mat, added_bits, shift, transform) {
+            Err(_) => Err(BlocksStopped::OutOfMemory(Unpublished { make_consumer })),
+            Ok(values) => {
+                let out = values.into_bit_reversed();
+                let mut consumer = make_consumer(block_height);
+                match publish(out.inner(), block_height, &mut consumer) {
+                    Ok(()) => Ok((out, consumer)),
+                    Err(refusal) => Err(BlocksStopped::Refused { consumer, refusal }),
+                }
+            }
+        }
+    }
+
+    // A block has a power of two of rows, which divides the height of the extension.
+    ghost block_rows_law: { (k a : ℕ) → (l : ℕ) × (l ≤ k + a) × (block_rows k a ≡ 2 ^ l) };
 
     // What an engine is made as has made no products.
     ghost default_law: { (e : Self) → Self.is_default e → made e ≡ 0 };

@@ -1,9 +1,11 @@
 pub mod BitReversal
+pub mod BlockRuns
 pub mod ButterflyLaws
 pub mod Carries
 pub mod HalfReversed
 pub mod Lanes
 pub mod Matrices
+pub mod Recordings
 pub mod ReversedRows
 pub mod RowExchanges
 pub mod RowMajor

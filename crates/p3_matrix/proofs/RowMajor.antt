@@ -18,6 +18,16 @@ whole_rows size h w wide e =
 pub row_within : (i h w size : ℕ) → i < h → h * w ≡ size → i * w + w ≤ size
 row_within i h w size l e = omega (arith, mul-le-mul_right w l, add-mul i 1 w)
 
+-- rows of w entries within h rows are entries within size
+pub rows_within : (start n h w size : ℕ) → start + n ≤ h → h * w ≡ size → start * w + n * w ≤ size
+rows_within start n h w size l e = omega (arith, mul-le-mul_right w l, add-mul start n w)
+
+-- n rows of a list are whole rows
+pub whole_part : {T : Type 0} (xs : List T) (a n k w : ℕ) → 1 ≤ w → k ≡ n * w → a + k ≤ length xs → length (take k (drop a xs)) / w * w ≡ length (take k (drop a xs))
+whole_part xs a n k w wide e l =
+    let is : length (take k (drop a xs)) ≡ n * w = search (rules, places) in
+    rw is (ap (λ v. v * w) (mul-div_cancel n wide))
+
 -- a part of a list, by index
 pub part_by_index : {T : Type 0} (xs : List T) (a n : ℕ) (d : T) → a + n ≤ length xs → slice_range xs a (a + n) ≡ map (λ j. get_or xs (a + j) d) (range_with_len 0 n)
 part_by_index xs a n d l =

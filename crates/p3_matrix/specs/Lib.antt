@@ -1,5 +1,7 @@
 pub mod BitOrder
+pub mod Blocks
 pub mod Butterflies
+pub mod Consumers
 pub mod Exchange
 pub mod Loans
 pub mod Matrix

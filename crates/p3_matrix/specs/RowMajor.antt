@@ -27,3 +27,7 @@ row m i = slice_range m.values (i * m.width) (i * m.width + m.width)
 -- the matrix as the list of its rows
 abbrev pub rows : {T : Type 0} → RowMajor T → List (List T)
 rows m = map (row m) (range_with_len 0 (height m))
+
+-- the n rows from row i on
+abbrev pub rows_from : {T : Type 0} → RowMajor T → ℕ → ℕ → RowMajor T
+rows_from m i n = record { width = m.width; values = slice_range m.values (i * m.width) (i * m.width + n * m.width) }

@@ -61,10 +61,13 @@ impl<T> BitReversedMatrixView<RowMajorMatrix<T>> {
         self.inner.height()
     }
 
-    /// The physical matrix.
+    /// The physical matrix, whose height is a power of two.
     pub fn inner(&self) -> &RowMajorMatrix<T>
-        ensures { result.now ≡ self.now.physical }
+        ensures matrix { result.now ≡ self.now.physical }
+        ensures height { height self.now.physical ≡ 2 ^ self.now.bits }
+        ensures whole { IsRowMajor self.now.physical }
     {
+        let _whole = self.inner.width();
         &self.inner
     }
 

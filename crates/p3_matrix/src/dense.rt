@@ -2,7 +2,7 @@
 
 ghost use Rattle.std.specs.Prelude.{◌≡◌, ◌+◌, ◌*◌, ◌/◌, ◌<◌, ◌≤◌, IfOk, length};
 ghost use Rattle.std.specs.Borrow.{sem};
-ghost use Rattle.p3_matrix.specs.RowMajor.{RowMajor, IsRowMajor, height, row};
+ghost use Rattle.p3_matrix.specs.RowMajor.{RowMajor, IsRowMajor, height, row, rows_from};
 
 use crate::error::DftError;
 use crate::views::{RowMajorMatrixView, RowMajorMatrixViewMut};
@@ -131,6 +131,15 @@ impl<T> RowMajorMatrix<T> {
     {
         let start = i * self.width;
         &self.values[start..start + self.width]
+    }
+
+    /// The `count` rows from row `start` on, lent for reading.
+    pub fn view_rows(&self, start: usize, count: usize) -> RowMajorMatrixView<'_, T>
+        requires { start + count ≤ height self.now }
+        ensures { result ≡ rows_from self.now start count }
+    {
+        let first = start * self.width;
+        RowMajorMatrixView::new(&self.values[first..first + count * self.width], self.width)
     }
 
     /// The entries, row after row, lent for writing.

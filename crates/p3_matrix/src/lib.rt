@@ -2,6 +2,7 @@
 #![tactic(auto)]
 
 pub mod bitrev;
+pub mod blocks;
 pub mod butterflies;
 pub mod dense;
 pub mod error;
@@ -14,6 +15,7 @@ pub mod views;
 pub use bitrev::{
     BitReversedMatrixView, reverse_bits_len, reverse_matrix_index_bits, reverse_slice_index_bits,
 };
+pub use blocks::{BlockConsumer, BlockLimit, BlockRefused, Recorder, publish};
 pub use butterflies::{
     Butterfly, DifButterfly, DifButterflyZeros, DitButterfly, ScaledDitButterfly,
     TwiddleFreeButterfly, apply_dit_by_place,

@@ -52,6 +52,7 @@ impl Clone for LimitedDft {
 
 impl<F: TwoAdicField> TwoAdicSubgroupDft<F> for LimitedDft {
     ghost use Rattle.std.specs.Prelude.{⊤, ℕ, ◌*◌, ◌^◌};
+    ghost use Rattle.std.proofs.Common.{refl, rules};
     ghost use Rattle.p3_dft.specs.declared.traits.Layout.TheVariants.{Natural};
 
     type Evaluations = RowMajorMatrix<F>;
@@ -70,6 +71,8 @@ impl<F: TwoAdicField> TwoAdicSubgroupDft<F> for LimitedDft {
 
     ghost made = { λ e. e.sums };
 
+    ghost block_rows_law = { λ k a. (k + a, Prim.search (rules), refl) };
+
     ghost default_law = { λ e none. none };
 
     ghost clone_law = { λ e copy none. none };
@@ -87,6 +90,10 @@ impl<F: TwoAdicField> TwoAdicSubgroupDft<F> for LimitedDft {
 
     fn add_products(&mut self, products: Products) {
         TwoAdicSubgroupDft::<F>::add_products(&mut self.sums, products);
+    }
+
+    fn block_height(&self, log_h: usize, added_bits: usize) -> usize {
+        1 << (log_h + added_bits)
     }
 
     fn coset_lde_batch_with_transform<
@@ -135,6 +142,7 @@ impl Clone for ReversedDft {
 
 impl<F: TwoAdicField> TwoAdicSubgroupDft<F> for ReversedDft {
     ghost use Rattle.std.specs.Prelude.{⊤, ℕ, ◌*◌, ◌^◌};
+    ghost use Rattle.std.proofs.Common.{refl, rules};
     ghost use Rattle.p3_dft.specs.declared.traits.Layout.TheVariants.{BitReversed};
 
     type Evaluations = RowMajorMatrix<F>;
@@ -153,6 +161,8 @@ impl<F: TwoAdicField> TwoAdicSubgroupDft<F> for ReversedDft {
 
     ghost made = { λ e. e.sums };
 
+    ghost block_rows_law = { λ k a. (k + a, Prim.search (rules), refl) };
+
     ghost default_law = { λ e none. none };
 
     ghost clone_law = { λ e copy none. none };
@@ -166,6 +176,10 @@ impl<F: TwoAdicField> TwoAdicSubgroupDft<F> for ReversedDft {
 
     fn add_products(&mut self, products: Products) {
         TwoAdicSubgroupDft::<F>::add_products(&mut self.sums, products);
+    }
+
+    fn block_height(&self, log_h: usize, added_bits: usize) -> usize {
+        1 << (log_h + added_bits)
     }
 
     fn coset_lde_batch_with_transform<

@@ -24,8 +24,8 @@ pub returns-in_err-mat-clause-later : goal.returns-in_err-mat-clause-later
 returns-in_err-mat-clause-later g c =
     let products : c.self.inside.products ≡ c.args.self.now.roots.products = ap (λ (e : CosetTabled g.row.F.Denot). e.roots.products) c.self.view_is in
     let still = λ (k : ℕ) (before : IsPrepared c.args.self.now.roots k).
-        let held : k ≤ c.self.inside.tables = until_prepared _ k (subst (λ (e : CosetTabled g.row.F.Denot). IsPrepared e.roots k) (sym c.self.view_is) before) in
-        prepared_until c.coefficients_with_room.new.tables k (omega (arith, held, c.coefficients_with_room.ensures.keeps)) in
+    let held : k ≤ c.self.inside.tables = until_prepared _ k (subst (λ (e : CosetTabled g.row.F.Denot). IsPrepared e.roots k) (sym c.self.view_is) before) in
+    prepared_until c.coefficients_with_room.new.tables k (omega (arith, held, c.coefficients_with_room.ensures.keeps)) in
     record {
       keeps = still;
       keeps_cosets = prepared_coset_stays g.F.Field c.args.self.now (record { roots = record { prepared = range_with_len 1 c.coefficients_with_room.new.tables; products = 0 }; cosets = c.coefficients_with_room.new.cosets })
@@ -86,8 +86,8 @@ pub returns-clause-later : goal.returns-clause-later
 returns-clause-later g c =
     let products : c.self.inside.products ≡ c.args.self.now.roots.products = ap (λ (e : CosetTabled g.row.F.Denot). e.roots.products) c.self.view_is in
     let still = λ (k : ℕ) (before : IsPrepared c.args.self.now.roots k).
-        let held : k ≤ c.self.inside.tables = until_prepared _ k (subst (λ (e : CosetTabled g.row.F.Denot). IsPrepared e.roots k) (sym c.self.view_is) before) in
-        prepared_until c.coefficients_with_room.new.tables k (omega (arith, held, c.coefficients_with_room.ensures.keeps)) in
+    let held : k ≤ c.self.inside.tables = until_prepared _ k (subst (λ (e : CosetTabled g.row.F.Denot). IsPrepared e.roots k) (sym c.self.view_is) before) in
+    prepared_until c.coefficients_with_room.new.tables k (omega (arith, held, c.coefficients_with_room.ensures.keeps)) in
     record {
       keeps = still;
       keeps_cosets = prepared_coset_stays g.F.Field c.args.self.now (record { roots = record { prepared = range_with_len 1 c.coefficients_with_room.new.tables; products = 0 }; cosets = c.coefficients_with_room.new.cosets })
