@@ -1,6 +1,5 @@
 -- Blocks of rows that are lent one after another.
-use Rattle.std.proofs.Common.{◌≡◌, ◌≢◌, ℕ, ◌+◌, ◌*◌, ◌-◌, ◌/◌, ◌%◌, ◌<◌, ◌≤◌, [], ◌∷◌, ◌++◌, length, get_or, map, take, drop, Result, Ok, refl, sym, ap, ◌∙◌, subst, arith, rules}
-use Rattle.std.specs.List.{range_with_len}
+use Rattle.std.proofs.Common.{◌≡◌, ◌≢◌, ℕ, ◌+◌, ◌*◌, ◌-◌, ◌/◌, ◌%◌, ◌<◌, ◌≤◌, length, get_or, take, drop, Result, Ok, sym, ap, ◌∙◌, subst, arith, rules}
 use Rattle.std.specs.Prelude.{⊤}
 use Rattle.std.proofs.Math.Nat.{add-mul, suc-mul, mul-le-mul_right, mul-div_cancel, mul-mod_left, div-mul-le_self}
 use Rattle.std.proofs.lemmas.Fn.{FoldsTo-push}

@@ -2,6 +2,7 @@ pub mod BitReversal
 pub mod BlockRuns
 pub mod ButterflyLaws
 pub mod Carries
+pub mod Consumers
 pub mod HalfReversed
 pub mod Lanes
 pub mod Matrices
