@@ -28,6 +28,3 @@ pub use packed::{Packable, Packed, PackedField, Products, scaled};
 pub use residue31::{Numbers, Residue31};
 pub use residue31_x8::Residue31X8;
 pub use two_adic::{CanonicalField, TwoAdicField};
-
-#[cfg(test)]
-mod tests;

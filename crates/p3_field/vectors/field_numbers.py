@@ -1,7 +1,7 @@
 #!/usr/bin/env python3
-"""The numbers against which the tests of p3_field hold the fields.
+"""The numbers against which `p3_matrix_tests` holds the fields.
 
-    python3 vectors/field_numbers.py > src/tests/vectors.rt && rt fmt
+    python3 ../p3_field/vectors/field_numbers.py > src/tests/vectors.rt && rt fmt
 
 The rule: the remainders are those of Python's whole numbers, and an inverse is `pow(a, -1, p)`. The
 operands are the extremes of a field and of the words that hold its numbers, each with itself and with
@@ -66,7 +66,7 @@ def table(what, name, kind, rows):
     print("];")
 
 
-print("// Sums, differences, products, inverses, powers and roots, computed by vectors/field_numbers.py.")
+print("// Sums, differences, products, inverses, powers and roots, computed by p3_field/vectors/field_numbers.py.")
 for field in FIELDS:
     p = field.modulus
     operations = [(a, b, (a + b) % p, (a - b) % p, a * b % p) for a, b in field.pairs()]

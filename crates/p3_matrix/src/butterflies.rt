@@ -4,9 +4,6 @@ ghost use Rattle.std.specs.Prelude.{◌≡◌, ◌+◌, ◌*◌, ◌≤◌, ℕ,
 ghost use Rattle.p3_field.specs.Ring.{Ring, minus};
 ghost use Rattle.p3_field.specs.Lanes.{by_lanes};
 
-#[cfg(test)]
-mod tests;
-
 use crate::packs::{apply_to_packs, apply_to_packs_oop, dit_on_packs, full_packs};
 use p3_field::{Packable, PackedField, Products};
 use std::alloc::AllocError;

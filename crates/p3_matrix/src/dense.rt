@@ -186,28 +186,3 @@ impl<T> RowMajorMatrix<T> {
         Ok(Self::new(values, self.width))
     }
 }
-
-#[cfg(test)]
-mod tests {
-    use super::*;
-    use std::test::Fail;
-
-    #[test]
-    fn shapes_and_rows(rt: HostRuntime) -> Result<(), Fail> {
-        let alloc = rt.alloc();
-        let pairs = RowMajorMatrix::new(vec![in alloc; 1u8, 2, 3, 4, 5, 6]?, 2);
-        assert_eq!(rt; pairs.width(), 2);
-        assert_eq!(rt; pairs.height(), 3);
-        assert_eq!(rt; pairs.row(1)[0], 3);
-        assert_eq!(rt; pairs.row(2)[1], 6);
-        let triples = RowMajorMatrix::new(vec![in alloc; 1u8, 2, 3, 4, 5, 6]?, 3);
-        assert!(rt; pairs != triples);
-        assert!(rt; pairs == pairs.try_clone()?);
-        let mut sums = Vec::new(*pairs.allocator());
-        sums.push(pairs.row(0)[0] + pairs.row(0)[1])?;
-        assert_eq!(rt; RowMajorMatrix::new_col(sums).row(0)[0], 3);
-        assert_eq!(rt; RowMajorMatrix::new_col(pairs.into_values()).height(), 6);
-        assert_eq!(rt; RowMajorMatrix::new_row(triples.into_values()).height(), 1);
-        Ok(())
-    }
-}

@@ -34,16 +34,3 @@ impl<T: Drop> From<AllocFailed<T>> for DftError {
         DftError::OutOfMemory
     }
 }
-
-#[cfg(test)]
-mod tests {
-    use super::*;
-    use std::test::Fail;
-
-    #[test]
-    fn says_what_was_refused(rt: HostRuntime) -> Result<(), Fail> {
-        let text = DftError::OutOfMemory.to_string(rt.alloc())?;
-        assert_eq!(rt; text.as_str(), "out of memory");
-        Ok(())
-    }
-}

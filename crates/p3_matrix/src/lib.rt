@@ -7,7 +7,7 @@ pub mod butterflies;
 pub mod dense;
 pub mod error;
 pub mod evaluations;
-mod packs;
+pub mod packs;
 pub mod scale;
 pub mod util;
 pub mod views;

@@ -1,4 +1,5 @@
-// Rows that are taken pack by pack: a packed value from each of `WIDTH` places.
+//! Rows that are taken pack by pack: a packed value from each of `WIDTH` places. `Butterfly` has the row
+//! forms, which take a field's own packs and then single elements; here packs have any width.
 
 ghost use Rattle.std.specs.Prelude.{◌≡◌, ◌+◌, ◌*◌, ◌<◌, ◌≤◌, ℕ, length, map};
 ghost use Rattle.p3_field.specs.Ring.{Ring, minus};
@@ -7,8 +8,8 @@ ghost use Rattle.p3_field.specs.Lanes.{by_lanes};
 use crate::butterflies::Butterfly;
 use p3_field::{Packable, PackedField, Products};
 
-// How many of `size` places full packs of `width` take up.
-pub(crate) fn full_packs(size: usize, width: usize) -> usize
+/// How many of `size` places full packs of `width` take up.
+pub fn full_packs(size: usize, width: usize) -> usize
     requires { 1 ≤ width }
     ensures within { result ≤ size }
     ensures whole { (k : ℕ) × result ≡ k * width }
@@ -17,8 +18,9 @@ pub(crate) fn full_packs(size: usize, width: usize) -> usize
     size - size % width
 }
 
-// Takes two rows of full packs to the near and the far row.
-pub(crate) fn apply_to_packs<F: Packable, P: PackedField<Scalar = F>, B: Butterfly<F>>(
+/// Takes two rows of full packs to the near and the far row. The rows have one length, a multiple of the
+/// packs' width.
+pub fn apply_to_packs<F: Packable, P: PackedField<Scalar = F>, B: Butterfly<F>>(
     butterfly: &B,
     row_1: &mut [F],
     row_2: &mut [F],

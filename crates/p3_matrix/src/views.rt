@@ -5,9 +5,6 @@ ghost use Rattle.std.specs.Borrow.{sem};
 ghost use Rattle.p3_matrix.specs.RowMajor.{RowMajor, IsRowMajor, height, row};
 ghost use Rattle.p3_matrix.specs.SliceLoans.{LendsParts};
 
-#[cfg(test)]
-mod tests;
-
 use crate::dense::RowMajorMatrix;
 use std::marker::Model;
 

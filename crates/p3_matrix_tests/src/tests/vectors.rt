@@ -1,4 +1,4 @@
-// Sums, differences, products, inverses, powers and roots, computed by vectors/field_numbers.py.
+// Sums, differences, products, inverses, powers and roots, computed by p3_field/vectors/field_numbers.py.
 
 // Two numbers, their sum, their difference and their product.
 pub const BABY_BEAR: [(usize, usize, u64, u64, u64); 38] = [

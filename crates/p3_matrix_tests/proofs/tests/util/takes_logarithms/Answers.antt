@@ -1,5 +1,5 @@
 use Rattle.std.proofs.Common.{refl}
-use Rattle.p3_matrix.proofs.util.tests.takes_logarithms.Goals as goal
+use Rattle.p3_matrix_tests.proofs.tests.util.takes_logarithms.Goals as goal
 
 pub log2_strict_usize-requires-2 : goal.log2_strict_usize-requires-2
 log2_strict_usize-requires-2 g c = (3, refl)

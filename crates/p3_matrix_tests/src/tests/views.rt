@@ -1,8 +1,10 @@
-//! Callers that need no proof of their own to know all of the matrix afterwards.
+// Callers that need no proof of their own to know all of the matrix afterwards.
 
-ghost use Rattle.std.specs.Prelude.{◌≡◌, length, slice_set};
+ghost use Rattle.std.specs.Prelude.{◌≡◌, IfOk, length, slice_set};
 
-use super::*;
+use super::is;
+use p3_matrix::{RowMajorMatrix, RowMajorMatrixView, RowMajorMatrixViewMut, split_rows_mut};
+use std::alloc::Global;
 use std::test::Fail;
 
 fn writes_rows(matrix: &mut RowMajorMatrix<u8>)
@@ -35,21 +37,39 @@ fn writes_entry(matrix: &mut RowMajorMatrix<u8>)
     view.values_mut()[3] = 6;
 }
 
-#[test]
-fn writes_through_loans(rt: HostRuntime) -> Result<(), Fail> {
-    let alloc = rt.alloc();
+// Rows, parts and entries that were written through loans.
+fn written(alloc: Global) -> Result<RowMajorMatrix<u8>, Fail>
+    ensures { IfOk result (λ m. (m.width ≡ 2) × (length m.values ≡ 6)) }
+{
     let mut matrix = RowMajorMatrix::new(vec![in alloc; 0u8, 0, 0, 0, 0, 0]?, 2);
     writes_rows(&mut matrix);
     writes_parts(&mut matrix);
     writes_entry(&mut matrix);
+    Ok(matrix)
+}
+
+#[test]
+fn writes_through_loans(rt: HostRuntime) -> Result<(), Fail> {
+    let alloc = rt.alloc();
     let want = RowMajorMatrix::new(vec![in alloc; 0u8, 9, 7, 6, 5, 8]?, 2);
-    assert!(rt; matrix == want);
+    assert!(rt; written(alloc)? == want);
+    Ok(())
+}
+
+#[test]
+fn reads_loans(rt: HostRuntime) -> Result<(), Fail> {
+    let mut matrix = written(rt.alloc())?;
     let view = matrix.as_view_mut();
-    assert_eq!(rt; view.width() * 10 + view.height(), 23);
-    assert_eq!(rt; view.row(1)[0], 7);
-    assert_eq!(rt; view.as_view().row(2)[1], 8);
-    let view = RowMajorMatrixView::new(want.values(), 3);
-    assert_eq!(rt; view.width() * 10 + view.height(), 32);
-    assert_eq!(rt; view.row(1)[2], view.values()[5]);
+    is(&rt, (view.width(), view.height()), (2, 3));
+    is(&rt, (view.row(1)[0], view.as_view().row(2)[1]), (7, 8));
+    Ok(())
+}
+
+#[test]
+fn reads_in_another_width(rt: HostRuntime) -> Result<(), Fail> {
+    let matrix = written(rt.alloc())?;
+    let view = RowMajorMatrixView::new(matrix.values(), 3);
+    is(&rt, (view.width(), view.height()), (3, 2));
+    is(&rt, (view.row(1)[2], view.values()[5]), (8, 8));
     Ok(())
 }

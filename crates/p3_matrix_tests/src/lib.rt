@@ -1,0 +1,7 @@
+//! Tests of `p3_field` and `p3_matrix` through their public names.
+//!
+//! They stand in a crate of their own since a crate with tests is proved once more with them.
+#![tactic(auto)]
+
+#[cfg(test)]
+mod tests;

@@ -1,0 +1,345 @@
+// Butterflies against values that were calculated by hand, and rows against single elements.
+
+ghost use Rattle.std.specs.Prelude.{◌≤◌};
+
+use super::{is, row};
+use p3_field::{
+    BabyBear, CanonicalField, Field, Goldilocks, Lanes, Packable, PackedField, Products,
+};
+use p3_matrix::packs::{apply_to_packs, full_packs};
+use p3_matrix::{
+    Butterfly, DifButterfly, DifButterflyZeros, DitButterfly, RowMajorMatrix, ScaledDitButterfly,
+    TwiddleFreeButterfly, apply_dit_by_place,
+};
+use std::alloc::Global;
+use std::process::Abort;
+use std::test::Fail;
+
+// Stops the test where a butterfly makes other numbers of two elements.
+fn makes<F: CanonicalField + Packable, B: Butterfly<F>>(
+    rt: &impl Abort,
+    b: B,
+    x_1: F,
+    x_2: F,
+    wanted: (u64, u64),
+) {
+    let (near, far) = b.apply(x_1, x_2, &mut Products::new());
+    is(rt, near.as_canonical_u64(), wanted.0);
+    is(rt, far.as_canonical_u64(), wanted.1);
+}
+
+// Each butterfly, of five and two, over BabyBear.
+fn applies_to_pairs<F: CanonicalField + Packable>(rt: &impl Abort) {
+    let (two, three, five) = (F::from_u8(2), F::from_u8(3), F::from_u8(5));
+    makes(rt, DitButterfly(three), five, two, (11, 2013265920));
+    makes(rt, DifButterfly(three), five, two, (7, 9));
+    makes(
+        rt,
+        ScaledDitButterfly::new(three, two),
+        five,
+        two,
+        (22, 2013265919),
+    );
+    makes(rt, TwiddleFreeButterfly, five, two, (7, 3));
+    makes(rt, DifButterflyZeros(three), five, F::ZERO, (5, 15));
+}
+
+#[test]
+fn applies_to_elements(rt: HostRuntime) {
+    applies_to_pairs::<BabyBear>(&rt);
+    let root = DitButterfly(Goldilocks::from_usize(281474976710656));
+    let last = (281474976710656, 18446462594437873665);
+    makes(&rt, root, Goldilocks::ZERO, Goldilocks::ONE, last);
+}
+
+// What a butterfly was made of.
+fn reads<F: CanonicalField>(rt: &impl Abort, scaled: ScaledDitButterfly<F>) {
+    is(rt, scaled.twiddle().as_canonical_u64(), 3);
+    is(rt, scaled.scale().as_canonical_u64(), 2);
+    is(rt, scaled.twiddle_times_scale().as_canonical_u64(), 6);
+}
+
+#[test]
+fn reads_a_scaled_butterfly(rt: HostRuntime) {
+    let three = BabyBear::from_u8(3);
+    reads(&rt, ScaledDitButterfly::new(three, BabyBear::TWO));
+}
+
+// What two butterflies, one after the other, make of five and two.
+fn make_one_after_another<F: CanonicalField + Packable, B: Butterfly<F>, C: Butterfly<F>>(
+    rt: &impl Abort,
+    first: B,
+    second: C,
+    wanted: (u64, u64),
+) {
+    let mut products = Products::new();
+    let (mut x_1, mut x_2) = (F::from_u8(5), F::from_u8(2));
+    first.apply_in_place(&mut x_1, &mut x_2, &mut products);
+    makes(rt, second, x_1, x_2, wanted);
+}
+
+fn undo_up_to_factors<F: CanonicalField + Packable>(rt: &impl Abort) {
+    let three = F::from_u8(3);
+    make_one_after_another(rt, DitButterfly(three), DifButterfly(three), (10, 36));
+    let plain = TwiddleFreeButterfly;
+    make_one_after_another::<F, TwiddleFreeButterfly, TwiddleFreeButterfly>(
+        rt,
+        plain,
+        plain,
+        (10, 4),
+    );
+}
+
+#[test]
+fn undoes_up_to_factors(rt: HostRuntime) {
+    undo_up_to_factors::<BabyBear>(&rt);
+}
+
+// Stops the test where two rows differ.
+fn same_rows<F: CanonicalField>(rt: &impl Abort, found: &Vec<F>, wanted: &Vec<F>) {
+    let size = found.len();
+    assert!(rt; *found == *wanted, "rows of {size}");
+}
+
+// Stops the test where a butterfly makes another pair of an element of each row.
+fn places_agree<F: CanonicalField + Packable, B: Butterfly<F>>(
+    rt: &impl Abort,
+    b: B,
+    rows: (&[F], &[F]),
+    results: (&[F], &[F]),
+) {
+    let mut products = Products::new();
+    for ((x_1, x_2), (near, far)) in rows
+        .0
+        .iter()
+        .zip(rows.1.iter())
+        .zip(results.0.iter().zip(results.1.iter()))
+    {
+        assert!(rt; b.apply(*x_1, *x_2, &mut products) == (*near, *far));
+    }
+}
+
+// Rows of this size, out of place and in place.
+fn row_like_elements<F: CanonicalField + Packable, B: Butterfly<F>>(
+    rt: &impl Abort,
+    alloc: Global,
+    b: B,
+    step_2: usize,
+    size: usize,
+) -> Result<(), Fail> {
+    let mut products = Products::new();
+    let mut row_1: Vec<F> = row(alloc, size, 2013265900, 7)?;
+    let mut row_2: Vec<F> = row(alloc, size, 0, step_2)?;
+    let mut dst_1: Vec<F> = row(alloc, size, 1, 1)?;
+    let mut dst_2: Vec<F> = row(alloc, size, 1, 1)?;
+    b.apply_to_rows_oop(
+        row_1.as_slice(),
+        dst_1.as_mut_slice(),
+        row_2.as_slice(),
+        dst_2.as_mut_slice(),
+        &mut products,
+    );
+    same_rows(rt, &row_1, &row(alloc, size, 2013265900, 7)?);
+    same_rows(rt, &row_2, &row(alloc, size, 0, step_2)?);
+    let rows = (row_1.as_slice(), row_2.as_slice());
+    places_agree(rt, b, rows, (dst_1.as_slice(), dst_2.as_slice()));
+    b.apply_to_rows(row_1.as_mut_slice(), row_2.as_mut_slice(), &mut products);
+    same_rows(rt, &row_1, &dst_1);
+    same_rows(rt, &row_2, &dst_2);
+    Ok(())
+}
+
+// Rows of packs of this width, by packs and by single elements.
+fn packs_like_elements<F: CanonicalField + Packable, P: PackedField<Scalar = F>, B: Butterfly<F>>(
+    rt: &impl Abort,
+    alloc: Global,
+    b: B,
+    step_2: usize,
+    size: usize,
+) -> Result<(), Fail>
+    requires { 1 ≤ P.WIDTH }
+{
+    let mut products = Products::new();
+    let full = full_packs(size, P::WIDTH);
+    let mut row_1: Vec<F> = row(alloc, full, 2013265900, 7)?;
+    let mut row_2: Vec<F> = row(alloc, full, 0, step_2)?;
+    let mut one_1: Vec<F> = row(alloc, full, 2013265900, 7)?;
+    let mut one_2: Vec<F> = row(alloc, full, 0, step_2)?;
+    apply_to_packs::<F, P, B>(
+        &b,
+        row_1.as_mut_slice(),
+        row_2.as_mut_slice(),
+        &mut products,
+    );
+    apply_to_packs::<F, F, B>(
+        &b,
+        one_1.as_mut_slice(),
+        one_2.as_mut_slice(),
+        &mut products,
+    );
+    same_rows(rt, &row_1, &one_1);
+    same_rows(rt, &row_2, &one_2);
+    Ok(())
+}
+
+fn rows_like_elements<F: CanonicalField + Packable, B: Butterfly<F>>(
+    rt: &impl Abort,
+    alloc: Global,
+    b: B,
+    step_2: usize,
+) -> Result<(), Fail> {
+    for size in 0..34usize {
+        row_like_elements(rt, alloc, b, step_2, size)?;
+    }
+    Ok(())
+}
+
+// Each butterfly.
+fn rows_of_butterflies<F: CanonicalField + Packable>(
+    rt: &impl Abort,
+    alloc: Global,
+) -> Result<(), Fail> {
+    let t = F::from_usize(1728404513);
+    let scaled = ScaledDitButterfly::new(t, F::from_usize(1006632961));
+    rows_like_elements::<F, DitButterfly<F>>(rt, alloc, DitButterfly(t), 1000003)?;
+    rows_like_elements::<F, DifButterfly<F>>(rt, alloc, DifButterfly(t), 1000003)?;
+    rows_like_elements::<F, DifButterflyZeros<F>>(rt, alloc, DifButterflyZeros(t), 0)?;
+    rows_like_elements::<F, ScaledDitButterfly<F>>(rt, alloc, scaled, 1000003)?;
+    rows_like_elements::<F, TwiddleFreeButterfly>(rt, alloc, TwiddleFreeButterfly, 1000003)
+}
+
+#[test]
+fn applies_to_rows(rt: HostRuntime) -> Result<(), Fail> {
+    rows_of_butterflies::<BabyBear>(&rt, rt.alloc())
+}
+
+// Rows of full packs, by packs and by single elements.
+fn packs_agree<F: CanonicalField + Packable, P: PackedField<Scalar = F>, B: Butterfly<F>>(
+    rt: &impl Abort,
+    alloc: Global,
+    b: B,
+    step_2: usize,
+) -> Result<(), Fail>
+    requires { 1 ≤ P.WIDTH }
+{
+    for size in 0..34usize {
+        packs_like_elements::<F, P, B>(rt, alloc, b, step_2, size)?;
+    }
+    Ok(())
+}
+
+// Each butterfly, at packs of this width.
+fn packs_of<F: CanonicalField + Packable, P: PackedField<Scalar = F>>(
+    rt: &impl Abort,
+    alloc: Global,
+) -> Result<(), Fail>
+    requires { 1 ≤ P.WIDTH }
+{
+    let t = F::from_usize(1728404513);
+    let scaled = ScaledDitButterfly::new(t, F::from_usize(1006632961));
+    packs_agree::<F, P, DitButterfly<F>>(rt, alloc, DitButterfly(t), 1000003)?;
+    packs_agree::<F, P, DifButterfly<F>>(rt, alloc, DifButterfly(t), 1000003)?;
+    packs_agree::<F, P, DifButterflyZeros<F>>(rt, alloc, DifButterflyZeros(t), 0)?;
+    packs_agree::<F, P, ScaledDitButterfly<F>>(rt, alloc, scaled, 1000003)?;
+    packs_agree::<F, P, TwiddleFreeButterfly>(rt, alloc, TwiddleFreeButterfly, 1000003)
+}
+
+#[test]
+fn packs_of_other_widths(rt: HostRuntime) -> Result<(), Fail> {
+    let alloc = rt.alloc();
+    packs_of::<BabyBear, Lanes<BabyBear, 1>>(&rt, alloc)?;
+    packs_of::<BabyBear, Lanes<BabyBear, 3>>(&rt, alloc)?;
+    packs_of::<BabyBear, Lanes<BabyBear, 4>>(&rt, alloc)?;
+    packs_of::<BabyBear, Lanes<BabyBear, 8>>(&rt, alloc)
+}
+
+// Stops the test where decimation in time makes another pair of an element of each row.
+fn turned_by_place<F: CanonicalField + Packable>(
+    rt: &impl Abort,
+    twiddles: &[F],
+    rows: (&[F], &[F]),
+    results: (&[F], &[F]),
+) {
+    let mut products = Products::new();
+    for ((t, (x_1, x_2)), (near, far)) in twiddles
+        .iter()
+        .zip(rows.0.iter().zip(rows.1.iter()))
+        .zip(results.0.iter().zip(results.1.iter()))
+    {
+        let met = DitButterfly(*t).apply(*x_1, *x_2, &mut products);
+        assert!(rt; met == (*near, *far));
+    }
+}
+
+// Rows with a twiddle for each place, of so many elements.
+fn row_by_place<F: CanonicalField + Packable>(
+    rt: &impl Abort,
+    alloc: Global,
+    size: usize,
+) -> Result<(), Fail> {
+    let mut products = Products::new();
+    let twiddles: Vec<F> = row(alloc, size, 2013265919, 271828)?;
+    let first: Vec<F> = row(alloc, size, 2013265900, 7)?;
+    let second: Vec<F> = row(alloc, size, 0, 1000003)?;
+    let mut row_1: Vec<F> = row(alloc, size, 2013265900, 7)?;
+    let mut row_2: Vec<F> = row(alloc, size, 0, 1000003)?;
+    apply_dit_by_place(
+        twiddles.as_slice(),
+        row_1.as_mut_slice(),
+        row_2.as_mut_slice(),
+        &mut products,
+    );
+    let results = (row_1.as_slice(), row_2.as_slice());
+    turned_by_place(
+        rt,
+        twiddles.as_slice(),
+        (first.as_slice(), second.as_slice()),
+        results,
+    );
+    Ok(())
+}
+
+fn rows_by_place<F: CanonicalField + Packable>(rt: &impl Abort, alloc: Global) -> Result<(), Fail> {
+    for size in 0..34usize {
+        row_by_place::<F>(rt, alloc, size)?;
+    }
+    Ok(())
+}
+
+#[test]
+fn twiddles_by_place(rt: HostRuntime) -> Result<(), Fail> {
+    rows_by_place::<BabyBear>(&rt, rt.alloc())
+}
+
+// A row of a pack and three more entries, whose sums and differences wrap around the modulus.
+fn wraps<F: CanonicalField + Packable>(rt: &impl Abort, alloc: Global) -> Result<(), Fail> {
+    let mut products = Products::new();
+    let mut row_1: Vec<F> = row(alloc, 11, 2013265920, 0)?;
+    let mut row_2: Vec<F> = row(alloc, 11, 1, 0)?;
+    TwiddleFreeButterfly.apply_to_rows(row_1.as_mut_slice(), row_2.as_mut_slice(), &mut products);
+    same_rows(rt, &row_1, &row(alloc, 11, 0, 0)?);
+    same_rows(rt, &row_2, &row(alloc, 11, 2013265919, 0)?);
+    Ok(())
+}
+
+#[test]
+fn wraps_in_each_lane(rt: HostRuntime) -> Result<(), Fail> {
+    wraps::<BabyBear>(&rt, rt.alloc())
+}
+
+// One through a matrix and two through views, with factors whose product is five.
+fn scales<F: CanonicalField + Packable>(rt: &impl Abort, alloc: Global) -> Result<(), Fail> {
+    let mut products = Products::new();
+    let mut matrix: RowMajorMatrix<F> = RowMajorMatrix::new(row(alloc, 6, 1, 2)?, 3);
+    let half = F::from_usize(1006632961);
+    matrix.scale(F::TWO, &mut products);
+    matrix.as_view_mut().scale(half, &mut products);
+    matrix.as_view_mut().scale(F::from_u8(5), &mut products);
+    assert!(rt; matrix == RowMajorMatrix::new(row(alloc, 6, 5, 10)?, 3));
+    Ok(())
+}
+
+#[test]
+fn scales_matrices(rt: HostRuntime) -> Result<(), Fail> {
+    scales::<BabyBear>(&rt, rt.alloc())
+}
