@@ -8,6 +8,7 @@
 //! the products that were made, for contracts alone.
 #![tactic(auto)]
 
+pub mod algebra;
 pub mod baby_bear;
 mod euclid;
 pub mod fields;
@@ -19,6 +20,7 @@ pub mod residue31;
 pub mod residue31_x8;
 pub mod two_adic;
 
+pub use algebra::{BasedVectorSpace, Coordinates};
 pub use baby_bear::{BabyBear, BabyBearX8};
 pub use fields::Field;
 pub use goldilocks::Goldilocks;

@@ -6,6 +6,7 @@
 
 ghost use Rattle.std.specs.Prelude.{◌≡◌, IfOk, vec_len};
 
+mod algebra;
 mod bitrev;
 mod butterflies;
 mod dense;
