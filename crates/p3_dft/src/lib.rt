@@ -5,6 +5,7 @@
 //! `p3_matrix` again, so that a user names one crate.
 #![tactic(auto)]
 
+mod algebra;
 pub mod blocks;
 pub mod jobs;
 pub mod naive;
@@ -19,8 +20,8 @@ pub use blocks::{BlocksStopped, Unpublished};
 pub use jobs::{Job, JobsStopped, run_jobs};
 pub use naive::NaiveDft;
 pub use p3_field::{
-    BabyBear, BabyBearX8, CanonicalField, Field, Goldilocks, KoalaBear, KoalaBearX8, Lanes,
-    Packable, Packed, PackedField, Products, TwoAdicField, scaled,
+    BabyBear, BabyBearX8, BasedVectorSpace, CanonicalField, Coordinates, Field, Goldilocks,
+    KoalaBear, KoalaBearX8, Lanes, Packable, Packed, PackedField, Products, TwoAdicField, scaled,
 };
 pub use p3_matrix::{
     BitReversedMatrixView, BlockConsumer, BlockLimit, BlockRefused, Butterfly, DftError,

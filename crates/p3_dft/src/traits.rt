@@ -4,17 +4,19 @@ ghost use Rattle.std.specs.Prelude.{◌≡◌, ℕ, ◌+◌, ◌*◌, ◌^◌, �
 ghost use Rattle.p3_matrix.specs.BitOrder.{bit_reversal, reversed_rows};
 ghost use Rattle.p3_matrix.specs.Blocks.{IsPublished, IsRefused};
 ghost use Rattle.p3_matrix.specs.RowMajor.{HasShapeOf, RowMajor, height};
-ghost use Rattle.p3_dft.specs.Engines.{AtLog, IsLater, SameCosets, SameNumbers, one_column};
-ghost use Rattle.p3_dft.specs.Extensions.{IsExtension, IsTransformedExtension, extension_bound, arrangement, AreTransformedValues};
 ghost use Rattle.p3_dft.specs.Blocks.{OnOutOfMemory, OnRefused, UnlessOutOfMemory};
+ghost use Rattle.p3_dft.specs.Coordinates.{flat, flat_column};
+ghost use Rattle.p3_dft.specs.Engines.{AtLog, IsLater, SameCosets, SameNumbers, one_column};
+ghost use Rattle.p3_dft.specs.Extensions.{AreTransformedValues, IsExtension, IsTransformedExtension, extension_bound, arrangement};
 ghost use Rattle.p3_dft.specs.Shapes.{FitsDft, FitsLde};
 ghost use Rattle.p3_matrix.specs.Matrix.{Matrix, Same, matrix};
 ghost use Rattle.p3_field.specs.Ring.{IsInvertible};
 ghost use Rattle.p3_dft.specs.Transforms.{IsInterpolation, IsTransform, values_of};
 
+use crate::algebra::{flatten, gather};
 use crate::blocks::{BlocksStopped, Unpublished};
 use crate::util::{coefficients_from_values, pad_rows, reverse_rows, shift_rows};
-use p3_field::{Field, Products, TwoAdicField};
+use p3_field::{BasedVectorSpace, Field, Products, TwoAdicField};
 use p3_matrix::{
     BitReversedMatrixView, BlockConsumer, DftError, Evaluations, IntoRowMajorMatrix,
     RowMajorMatrix, log2_strict_usize, publish,
@@ -420,6 +422,251 @@ pub trait TwoAdicSubgroupDft<F: TwoAdicField>: Clone + Default {
     {
         let values = self.coset_lde_batch(RowMajorMatrix::new_col(vec), added_bits, shift)?;
         Ok(values.to_row_major_matrix().into_values())
+    }
+
+    /// `dft_batch` of matrices over a vector space, each coordinate as if it stood alone: their flat
+    /// matrices, in which the coordinates of an entry stand side by side, are related as by the call
+    /// over F. So is each other call with `algebra` in its name, whose shape is one that fits with the
+    /// width times `DIMENSION`, and which answers in natural order. Each takes memory for a copy of the
+    /// coordinates, and then for the answer.
+    final fn dft_algebra_batch<V: BasedVectorSpace<F>>(
+        &mut self,
+        mat: RowMajorMatrix<V>,
+    ) -> Result<RowMajorMatrix<V>, DftError>
+        requires { FitsDft F.TWO_ADICITY (height mat) (mat.width * V.DIMENSION) }
+        ensures values { IfOk result (λ out.
+            IsTransform F.Field.own F.generator (flat V.BasedVectorSpace.own mat) F.ring.one (flat V.BasedVectorSpace.own out)) }
+        ensures serves { AtLog (height mat) (λ k. OnOk result (served self.new k)) }
+        ensures later { IsLater promised coset_promised served made self.old self.new }
+        ensures cost { AtLog (height mat)
+            (λ k. OnOk result (made self.new ≤ made self.old + bound k (mat.width * V.DIMENSION))) }
+    {
+        let width = mat.width();
+        let values = self.dft_batch(flatten(mat)?)?;
+        gather(values.to_row_major_matrix(), width)
+    }
+
+    /// `coset_dft_batch` of matrices over a vector space.
+    final fn coset_dft_algebra_batch<V: BasedVectorSpace<F>>(
+        &mut self,
+        mat: RowMajorMatrix<V>,
+        shift: F,
+    ) -> Result<RowMajorMatrix<V>, DftError>
+        requires { FitsDft F.TWO_ADICITY (height mat) (mat.width * V.DIMENSION) }
+        ensures values { IfOk result (λ out.
+            IsTransform F.Field.own F.generator (flat V.BasedVectorSpace.own mat) (F.value shift) (flat V.BasedVectorSpace.own out)) }
+        ensures serves { AtLog (height mat) (λ k. OnOk result (served self.new k)) }
+        ensures later { IsLater promised coset_promised served made self.old self.new }
+        ensures cost { AtLog (height mat)
+            (λ k. OnOk result (made self.new ≤ made self.old + bound k (mat.width * V.DIMENSION) + 2 ^ k * (mat.width * V.DIMENSION))) }
+    {
+        let width = mat.width();
+        let values = self.coset_dft_batch(flatten(mat)?, shift)?;
+        gather(values.to_row_major_matrix(), width)
+    }
+
+    /// `idft_batch` of matrices over a vector space.
+    final fn idft_algebra_batch<V: BasedVectorSpace<F>>(
+        &mut self,
+        mat: RowMajorMatrix<V>,
+    ) -> Result<RowMajorMatrix<V>, DftError>
+        requires { FitsDft F.TWO_ADICITY (height mat) (mat.width * V.DIMENSION) }
+        ensures coefficients { IfOk result (λ out.
+            IsInterpolation F.Field.own F.generator (flat V.BasedVectorSpace.own mat) F.ring.one (flat V.BasedVectorSpace.own out)) }
+        ensures serves { AtLog (height mat) (λ k. OnOk result (served self.new k)) }
+        ensures later { IsLater promised coset_promised served made self.old self.new }
+        ensures cost { AtLog (height mat)
+            (λ k. OnOk result (made self.new ≤ made self.old + bound k (mat.width * V.DIMENSION) + 2 ^ k * (mat.width * V.DIMENSION))) }
+    {
+        let width = mat.width();
+        let coefficients = self.idft_batch(flatten(mat)?)?;
+        gather(coefficients, width)
+    }
+
+    /// `coset_idft_batch` of matrices over a vector space. The shift has an inverse.
+    final fn coset_idft_algebra_batch<V: BasedVectorSpace<F>>(
+        &mut self,
+        mat: RowMajorMatrix<V>,
+        shift: F,
+    ) -> Result<RowMajorMatrix<V>, DftError>
+        requires fits { FitsDft F.TWO_ADICITY (height mat) (mat.width * V.DIMENSION) }
+        requires invertible { IsInvertible F.ring (F.value shift) }
+        ensures coefficients { IfOk result (λ out.
+            IsInterpolation F.Field.own F.generator
+            (flat V.BasedVectorSpace.own mat) (F.value shift) (flat V.BasedVectorSpace.own out)) }
+        ensures serves { AtLog (height mat) (λ k. OnOk result (served self.new k)) }
+        ensures later { IsLater promised coset_promised served made self.old self.new }
+        ensures cost { AtLog (height mat)
+            (λ k. OnOk result (made self.new ≤ made self.old
+            + bound k (mat.width * V.DIMENSION) + 2 * (2 ^ k * (mat.width * V.DIMENSION)))) }
+    {
+        let width = mat.width();
+        let coefficients = self.coset_idft_batch(flatten(mat)?, shift)?;
+        gather(coefficients, width)
+    }
+
+    /// `lde_batch` of matrices over a vector space.
+    final fn lde_algebra_batch<V: BasedVectorSpace<F>>(
+        &mut self,
+        mat: RowMajorMatrix<V>,
+        added_bits: usize,
+    ) -> Result<RowMajorMatrix<V>, DftError>
+        requires { FitsLde F.TWO_ADICITY (height mat) (mat.width * V.DIMENSION) added_bits }
+        ensures values { IfOk result (λ out.
+            IsExtension F.Field.own F.generator
+            (flat V.BasedVectorSpace.own mat) added_bits F.ring.one (flat V.BasedVectorSpace.own out)) }
+        ensures serves { AtLog (height mat) (λ k. OnOk result (served self.new k × served self.new (k + added_bits))) }
+        ensures later { IsLater promised coset_promised served made self.old self.new }
+        ensures cost { AtLog (height mat)
+            (λ k. OnOk result (made self.new ≤ made self.old + extension bound k added_bits (mat.width * V.DIMENSION))) }
+    {
+        let width = mat.width();
+        let values = self.lde_batch(flatten(mat)?, added_bits)?;
+        gather(values.to_row_major_matrix(), width)
+    }
+
+    /// `coset_lde_batch` of matrices over a vector space.
+    final fn coset_lde_algebra_batch<V: BasedVectorSpace<F>>(
+        &mut self,
+        mat: RowMajorMatrix<V>,
+        added_bits: usize,
+        shift: F,
+    ) -> Result<RowMajorMatrix<V>, DftError>
+        requires { FitsLde F.TWO_ADICITY (height mat) (mat.width * V.DIMENSION) added_bits }
+        ensures values { IfOk result (λ out.
+            IsExtension F.Field.own F.generator
+            (flat V.BasedVectorSpace.own mat) added_bits (F.value shift) (flat V.BasedVectorSpace.own out)) }
+        ensures serves { AtLog (height mat) (λ k. OnOk result (served self.new k × served self.new (k + added_bits))) }
+        ensures later { IsLater promised coset_promised served made self.old self.new }
+        ensures cost { AtLog (height mat)
+            (λ k. OnOk result (made self.new ≤ made self.old + extension bound k added_bits (mat.width * V.DIMENSION))) }
+    {
+        let width = mat.width();
+        let values = self.coset_lde_batch(flatten(mat)?, added_bits, shift)?;
+        gather(values.to_row_major_matrix(), width)
+    }
+
+    /// `dft` over a vector space.
+    final fn dft_algebra<V: BasedVectorSpace<F>>(&mut self, vec: Vec<V>) -> Result<Vec<V>, DftError>
+        requires { FitsDft F.TWO_ADICITY (vec_len vec) V.DIMENSION }
+        ensures values { IfOk result (λ out.
+            IsTransform F.Field.own F.generator
+            (flat_column V.BasedVectorSpace.own vec.items) F.ring.one (flat_column V.BasedVectorSpace.own out.items)) }
+        ensures serves { AtLog (vec_len vec) (λ k. OnOk result (served self.new k)) }
+        ensures later { IsLater promised coset_promised served made self.old self.new }
+        ensures cost { AtLog (vec_len vec)
+            (λ k. OnOk result (made self.new ≤ made self.old + bound k V.DIMENSION)) }
+    {
+        Ok(
+            self.dft_algebra_batch(RowMajorMatrix::new_col(vec))?
+                .into_values(),
+        )
+    }
+
+    /// `coset_dft` over a vector space.
+    final fn coset_dft_algebra<V: BasedVectorSpace<F>>(
+        &mut self,
+        vec: Vec<V>,
+        shift: F,
+    ) -> Result<Vec<V>, DftError>
+        requires { FitsDft F.TWO_ADICITY (vec_len vec) V.DIMENSION }
+        ensures values { IfOk result (λ out.
+            IsTransform F.Field.own F.generator
+            (flat_column V.BasedVectorSpace.own vec.items) (F.value shift) (flat_column V.BasedVectorSpace.own out.items)) }
+        ensures serves { AtLog (vec_len vec) (λ k. OnOk result (served self.new k)) }
+        ensures later { IsLater promised coset_promised served made self.old self.new }
+        ensures cost { AtLog (vec_len vec)
+            (λ k. OnOk result (made self.new ≤ made self.old + bound k V.DIMENSION + 2 ^ k * V.DIMENSION)) }
+    {
+        Ok(
+            self.coset_dft_algebra_batch(RowMajorMatrix::new_col(vec), shift)?
+                .into_values(),
+        )
+    }
+
+    /// `idft` over a vector space.
+    final fn idft_algebra<V: BasedVectorSpace<F>>(
+        &mut self,
+        vec: Vec<V>,
+    ) -> Result<Vec<V>, DftError>
+        requires { FitsDft F.TWO_ADICITY (vec_len vec) V.DIMENSION }
+        ensures coefficients { IfOk result (λ out.
+            IsInterpolation F.Field.own F.generator
+            (flat_column V.BasedVectorSpace.own vec.items) F.ring.one (flat_column V.BasedVectorSpace.own out.items)) }
+        ensures serves { AtLog (vec_len vec) (λ k. OnOk result (served self.new k)) }
+        ensures later { IsLater promised coset_promised served made self.old self.new }
+        ensures cost { AtLog (vec_len vec)
+            (λ k. OnOk result (made self.new ≤ made self.old + bound k V.DIMENSION + 2 ^ k * V.DIMENSION)) }
+    {
+        Ok(
+            self.idft_algebra_batch(RowMajorMatrix::new_col(vec))?
+                .into_values(),
+        )
+    }
+
+    /// `coset_idft` over a vector space. The shift has an inverse.
+    final fn coset_idft_algebra<V: BasedVectorSpace<F>>(
+        &mut self,
+        vec: Vec<V>,
+        shift: F,
+    ) -> Result<Vec<V>, DftError>
+        requires fits { FitsDft F.TWO_ADICITY (vec_len vec) V.DIMENSION }
+        requires invertible { IsInvertible F.ring (F.value shift) }
+        ensures coefficients { IfOk result (λ out.
+            IsInterpolation F.Field.own F.generator
+            (flat_column V.BasedVectorSpace.own vec.items) (F.value shift) (flat_column V.BasedVectorSpace.own out.items)) }
+        ensures serves { AtLog (vec_len vec) (λ k. OnOk result (served self.new k)) }
+        ensures later { IsLater promised coset_promised served made self.old self.new }
+        ensures cost { AtLog (vec_len vec)
+            (λ k. OnOk result (made self.new ≤ made self.old + bound k V.DIMENSION + 2 * (2 ^ k * V.DIMENSION))) }
+    {
+        Ok(
+            self.coset_idft_algebra_batch(RowMajorMatrix::new_col(vec), shift)?
+                .into_values(),
+        )
+    }
+
+    /// `lde` over a vector space.
+    final fn lde_algebra<V: BasedVectorSpace<F>>(
+        &mut self,
+        vec: Vec<V>,
+        added_bits: usize,
+    ) -> Result<Vec<V>, DftError>
+        requires { FitsLde F.TWO_ADICITY (vec_len vec) V.DIMENSION added_bits }
+        ensures values { IfOk result (λ out.
+            IsExtension F.Field.own F.generator
+            (flat_column V.BasedVectorSpace.own vec.items) added_bits F.ring.one (flat_column V.BasedVectorSpace.own out.items)) }
+        ensures serves { AtLog (vec_len vec) (λ k. OnOk result (served self.new k × served self.new (k + added_bits))) }
+        ensures later { IsLater promised coset_promised served made self.old self.new }
+        ensures cost { AtLog (vec_len vec)
+            (λ k. OnOk result (made self.new ≤ made self.old + extension bound k added_bits V.DIMENSION)) }
+    {
+        Ok(
+            self.lde_algebra_batch(RowMajorMatrix::new_col(vec), added_bits)?
+                .into_values(),
+        )
+    }
+
+    /// `coset_lde` over a vector space.
+    final fn coset_lde_algebra<V: BasedVectorSpace<F>>(
+        &mut self,
+        vec: Vec<V>,
+        added_bits: usize,
+        shift: F,
+    ) -> Result<Vec<V>, DftError>
+        requires { FitsLde F.TWO_ADICITY (vec_len vec) V.DIMENSION added_bits }
+        ensures values { IfOk result (λ out.
+            IsExtension F.Field.own F.generator
+            (flat_column V.BasedVectorSpace.own vec.items) added_bits (F.value shift) (flat_column V.BasedVectorSpace.own out.items)) }
+        ensures serves { AtLog (vec_len vec) (λ k. OnOk result (served self.new k × served self.new (k + added_bits))) }
+        ensures later { IsLater promised coset_promised served made self.old self.new }
+        ensures cost { AtLog (vec_len vec)
+            (λ k. OnOk result (made self.new ≤ made self.old + extension bound k added_bits V.DIMENSION)) }
+    {
+        Ok(
+            self.coset_lde_algebra_batch(RowMajorMatrix::new_col(vec), added_bits, shift)?
+                .into_values(),
+        )
     }
 }
 

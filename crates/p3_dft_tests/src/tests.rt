@@ -7,6 +7,7 @@ ghost use Rattle.std.specs.Prelude.{◌≡◌, ◌↔◌, IsTrue};
 ghost use Rattle.p3_field.specs.Ring.{IsInvertible};
 ghost use Rattle.p3_matrix.specs.RowMajor.{HasShapeOf};
 
+mod algebra;
 mod callers;
 mod engines;
 mod jobs;

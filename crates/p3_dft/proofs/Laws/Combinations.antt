@@ -1,8 +1,8 @@
--- Values of polynomials that are made of others: sums of multiples, one column alone, rows of zeros, and another coset.
+-- Values of polynomials that are made of others: sums of multiples, columns that are chosen, rows of zeros, and another coset.
 use Rattle.std.proofs.Common.{◌≡◌, ℕ, ◌+◌, ◌-◌, ◌<◌, ◌≤◌, cond, lt-ltb, le-ltb, refl, sym, ap, ap₂, ◌∙◌, arith}
 use Rattle.p3_field.specs.Ring.{Ring}
 use Rattle.p3_matrix.specs.Matrix.{Matrix}
-use Rattle.p3_dft.specs.Combinations.{alone, combination, lengthened}
+use Rattle.p3_dft.specs.Combinations.{alone, chosen, combination, lengthened}
 use Rattle.p3_networks.specs.Cosets.{point, IsValues, coset_shift}
 use Rattle.p3_networks.specs.Polynomials.{poly}
 use Rattle.p3_networks.proofs.Polynomials.Cosets.{entry-poly, is_values, point-mul, point_of_one, values_from}
@@ -22,8 +22,13 @@ module _ {A : Type 0} (R : Ring A) (g : ℕ → A) where
       ∙ sym (poly-add R c.height (λ u. R.mul a (f u)) (λ u. R.mul b (h u)) x
       ∙ ap₂ R.add (poly-times R c.height a f x) (poly-times R c.height b h x)))
 
+  pub chosen_values : (c y : Matrix A) (n : ℕ) (s : A) (place : ℕ → ℕ) (w : ℕ) → ((j : ℕ) → j < w → place j < c.width) → IsValues R g c n s y
+      → IsValues R g (chosen place w c) n s (chosen place w y)
+  chosen_values c y n s place w inside v =
+      is_values R g (chosen place w c) n s (chosen place w y) v.high refl (λ i j p below. entry-poly R g c n s y v i (place j) p (inside j below))
+
   pub column_values : (c y : Matrix A) (n : ℕ) (s : A) (j : ℕ) → j < c.width → IsValues R g c n s y → IsValues R g (alone j c) n s (alone j y)
-  column_values c y n s j inside v = is_values R g (alone j c) n s (alone j y) v.high refl (λ i _ p _. entry-poly R g c n s y v i j p inside)
+  column_values c y n s j inside v = chosen_values c y n s (λ _. j) 1 (λ _ _. inside) v
 
   -- rows of zeros below the coefficients change no value
   pub lengthened_values : (c y : Matrix A) (h n : ℕ) (s : A) → c.height ≤ h → IsValues R g c n s y → IsValues R g (lengthened R.zero h c) n s y

@@ -1,0 +1,19 @@
+use Rattle.std.proofs.Common.{arith}
+use Rattle.p3_dft.specs.Transforms.{IsInterpolation}
+use Rattle.p3_dft.proofs.Calls.Coordinates.{column_height, of_columns}
+use Rattle.p3_dft.proofs.traits.TwoAdicSubgroupDft.coset_idft_algebra.Goals as goal
+
+pub returns-clause-coefficients : goal.returns-clause-coefficients
+returns-clause-coefficients g c =
+    let fits = c.requires.fits in
+    let m = c.new_col.result in
+    let out = c.in_ok-coset_idft_algebra_batch.field-0 in
+    let given = c.in_ok-coset_idft_algebra_batch.ensures.coefficients in
+    let v = g.V.BasedVectorSpace in
+    let counted = g.met.V.BasedVectorSpace.dimension_law in
+    let before = c.args.vec.items in
+    let after = c.into_values.result.items in
+    let tall = column_height v counted m out before after fits.wide c.new_col.ensures c.into_values.ensures.values fits.log (omega (arith, fits.high, c.args.vec.ok.0)) in
+    of_columns v counted m out before after fits.wide c.new_col.ensures c.into_values.ensures.values
+    (λ a b. IsInterpolation g.F.Field g.F.TwoAdicField.generator a (g.F.Field.value c.args.shift) b)
+    (given.holds fits.log tall).wide given

@@ -1,0 +1,11 @@
+use Rattle.std.proofs.lemmas.Result.{IfOk-weaker}
+use Rattle.p3_dft.proofs.Laws.Coordinates.{transform_of_coordinate}
+use Rattle.p3_dft_tests.proofs.tests.algebra.coordinates_transformed.Goals as goal
+
+pub returns : goal.returns
+returns g c =
+    IfOk-weaker c.coset_dft_algebra_batch.result _ _
+    (λ out given t within.
+    transform_of_coordinate g.V.BasedVectorSpace g.met.V.BasedVectorSpace.dimension_law t within g.F.Field g.F.TwoAdicField.generator c.args.mat out (g.F.Field.value c.args.shift)
+    c.requires.wide given)
+    c.coset_dft_algebra_batch.ensures.values
