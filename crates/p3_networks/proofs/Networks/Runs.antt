@@ -113,31 +113,32 @@ module _ {A : Type 0} (R : Ring A) {g : ℕ → A} {bits : ℕ} (G : AreRoots R 
       ap (λ n. point R g k (point R g n s (rev a m)) (rev k t)) order ∙ run_point a k m t (omega (arith, within)) inside
       ∙ ap (λ n. point R g n s (rev n (m * 2 ^ k + t))) (sym order)
 
-  -- both halves, on rows of w entries: the first leads from before to middle, and the second, with the rows in bit reversed order, to after
-  pub rows_of_halves : {T : Type 0} (value : T → A) (d : T) (mid left w : ℕ) (before middle after : List T) → mid + left ≤ bits
+  -- both halves, on rows of w entries: the first leads from before to middle, and the second, with the rows in bit reversed order, to
+  -- the first n runs of after
+  pub rows_of_halves : {T : Type 0} (value : T → A) (d : T) (mid left w n : ℕ) (before middle after : List T) → mid + left ≤ bits
       → ((a t j : ℕ) → a < 2 ^ left → t < 2 ^ mid → j < w → value (get_or middle ((a * 2 ^ mid + t) * w + j) d)
       ≡ poly R (2 ^ mid) (λ q. value (get_or before ((a * 2 ^ mid + rev mid q) * w + j) d)) (point R g mid (power R s (2 ^ left)) t))
-      → ((a t j : ℕ) → a < 2 ^ mid → t < 2 ^ left → j < w → value (get_or after ((a * 2 ^ left + t) * w + j) d)
+      → ((a t j : ℕ) → a < n → t < 2 ^ left → j < w → value (get_or after ((a * 2 ^ left + t) * w + j) d)
       ≡ poly R (2 ^ left) (λ q. value (get_or middle ((rev left q * 2 ^ mid + rev mid a) * w + j) d)) (point R g left (point R g (mid + left) s (rev mid a)) (rev left t)))
-      → (r j : ℕ) → r < 2 ^ (mid + left) → j < w → value (get_or after (r * w + j) d)
+      → (r j : ℕ) → r < n * 2 ^ left → j < w → value (get_or after (r * w + j) d)
       ≡ poly R (2 ^ (mid + left)) (λ q. value (get_or before (rev (mid + left) q * w + j) d)) (point R g (mid + left) s (rev (mid + left) r))
-  rows_of_halves value d mid left w before middle after within first second r j below inside =
+  rows_of_halves value d mid left w n before middle after within first second r j below inside =
       let positive = pow_pos left in
       let a = r / 2 ^ left in
       let t = r % 2 ^ left in
       let whole : a * 2 ^ left + t ≡ r = div-add-mod' r (2 ^ left) in
       let small : t < 2 ^ left = mod_below r (2 ^ left) positive in
-      let outer : a < 2 ^ mid = div_below r (2 ^ left) (2 ^ mid) positive (omega (arith, below, pow-add 2 mid left)) in
+      let outer : a < n = div_below r (2 ^ left) n positive below in
       let x = point R g left (point R g (mid + left) s (rev mid a)) (rev left t) in
       let y = point R g mid (power R s (2 ^ left)) (rev mid a) in
       let c = λ (q : ℕ). value (get_or before (rev (mid + left) q * w + j) d) in
       let same : (q p : ℕ) → value (get_or before ((rev left q * 2 ^ mid + rev mid p) * w + j) d) ≡ c (p * 2 ^ left + rev left (rev left q)) = λ q p.
-      ap (λ n. value (get_or before ((n * 2 ^ mid + rev mid p) * w + j) d)) (sym (rev-rev left (rev left q) (rev-lt left q)))
-      ∙ ap (λ n. value (get_or before (n * w + j) d)) (sym (row_digits mid left p (rev left (rev left q)) (rev-lt left (rev left q)))) in
-      ap (λ n. value (get_or after (n * w + j) d)) (sym whole) ∙ second a t j outer small inside
+      ap (λ u. value (get_or before ((u * 2 ^ mid + rev mid p) * w + j) d)) (sym (rev-rev left (rev left q) (rev-lt left q)))
+      ∙ ap (λ u. value (get_or before (u * w + j) d)) (sym (row_digits mid left p (rev left (rev left q)) (rev-lt left (rev left q)))) in
+      ap (λ u. value (get_or after (u * w + j) d)) (sym whole) ∙ second a t j outer small inside
       ∙ poly_same R (2 ^ left) _ _ x (λ q p.
       first (rev left q) (rev mid a) j (rev-lt left q) (rev-lt mid a) inside
       ∙ poly_same R (2 ^ mid) _ _ y (λ u l. same q u) ∙ sym (R.mul_one _))
       ∙ halves_joined mid left a t c R.one within small
       ∙ poly_same R (2 ^ (mid + left)) _ _ (point R g (mid + left) s (rev (mid + left) (a * 2 ^ left + t))) (λ q p. R.mul_one _)
-      ∙ ap (λ n. poly R (2 ^ (mid + left)) c (point R g (mid + left) s (rev (mid + left) n))) whole
+      ∙ ap (λ u. poly R (2 ^ (mid + left)) c (point R g (mid + left) s (rev (mid + left) u))) whole

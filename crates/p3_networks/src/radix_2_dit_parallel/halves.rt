@@ -205,7 +205,7 @@ fn low_network<F: TwoAdicField>(
 // blocks are counted over the whole matrix. With `done` of `left` layers done there are `2^done` blocks
 // of two halves of `2^(left - 1 - done)` rows.
 #[inline(always)]
-fn high_network<F: TwoAdicField>(
+pub(crate) fn high_network<F: TwoAdicField>(
     values: &mut [F],
     width: usize,
     mid: usize,

@@ -1,41 +1,55 @@
 //! An extension coset by coset. Of its `2^(log_h + added_bits)` rows each run of `2^log_h` is a slot, which
 //! gets the values on a coset of its own. The coefficients are the first slot, in bit reversed order.
 
-ghost use Rattle.std.specs.Prelude.{◌≡◌, ℕ, ◌+◌, ◌*◌, ◌/◌, ◌^◌, ◌<◌, ◌≤◌, length, get_or};
+ghost use Rattle.std.specs.Prelude.{◌≡◌, ℕ, ◌+◌, ◌-◌, ◌*◌, ◌/◌, ◌^◌, ◌<◌, ◌≤◌, ◌++◌, ◌∷◌, [], List, IfErr, IsPermutation, OnOk, get_or, length};
 ghost use Rattle.p3_field.specs.Ring.{AreRoots};
 ghost use Rattle.p3_matrix.specs.BitOrder.{rev};
+ghost use Rattle.p3_matrix.specs.Blocks.{AreBlocksOf, Run, RunToRefusal};
+ghost use Rattle.p3_matrix.specs.Matrix.{image, matrix};
+ghost use Rattle.p3_matrix.specs.RowMajor.{RowMajor};
 ghost use Rattle.p3_networks.specs.Cosets.{point};
 ghost use Rattle.p3_networks.specs.Layers.{AreValuesOfRows};
 ghost use Rattle.p3_networks.specs.Polynomials.{poly};
+ghost use Rattle.p3_networks.specs.Slots.{extended_rows, slot_block, slot_blocks};
 ghost use Rattle.p3_networks.specs.Twiddles.{AreBlockTwiddles, HasCoset, HasCosets, IsCosetOf, block_end, forward_root};
 
 use crate::radix_2_dit_parallel::coset_tables::{CosetTable, CosetTables};
-use crate::radix_2_dit_parallel::halves::{BlockTwiddles, first_half, second_half};
+use crate::radix_2_dit_parallel::halves::{BlockTwiddles, first_half, high_network};
 use p3_field::{Field, Products, TwoAdicField};
 use p3_matrix::bitrev::reverse_runs;
-use p3_matrix::reverse_bits_len;
+use p3_matrix::{BlockConsumer, RowMajorMatrixView, reverse_bits_len};
 
 /// From coefficients in bit reversed order, which are the first slot, their values on the coset of `shift` of
 /// order `2^(log_h + added_bits)`, in bit reversed order. Slot m is the coset of `shift` times the power
 /// `rev m` of the generator of the larger order, and has a table. The first slot is done last, since the
 /// others are made from the coefficients in it.
-pub fn extend_slots<F: TwoAdicField>(
+///
+/// Each run of rows of the second half is lent to the consumer as soon as it is final. When one is refused,
+/// the rest is not done.
+pub fn extend_slots<F: TwoAdicField, C: BlockConsumer<F>>(
     values: &mut [F],
     width: usize,
     log_h: usize,
     added_bits: usize,
     shift: F,
     cosets: &CosetTables<F>,
+    consumer: &mut C,
     products: &mut Products,
-)
+) -> Result<(), C::Refusal>
     requires wide { 1 ≤ width }
     requires within { log_h + added_bits ≤ F.TWO_ADICITY }
     requires small { log_h + added_bits < 64 }
     requires height { length values.old ≡ 2 ^ (log_h + added_bits) * width }
     requires tables { HasCosets F.Field.own F.generator cosets.now log_h added_bits (F.value shift) }
-    ensures values { (r j : ℕ) → r < 2 ^ (log_h + added_bits) → j < width → F.value (get_or values.new (r * width + j) F.ZERO)
-        ≡ poly F.ring (2 ^ log_h) (λ q. F.value (get_or values.old (rev log_h q * width + j) F.ZERO))
-        (point F.ring (forward_root F.Field.own F.generator) (log_h + added_bits) (F.value shift) (rev (log_h + added_bits) r)) }
+    ensures values { OnOk result ((r j : ℕ) → r < 2 ^ (log_h + added_bits) → j < width → F.value (get_or values.new (r * width + j) F.ZERO)
+        ≡ (extended_rows F.Field.own F.generator log_h added_bits width (F.value shift) values.old).entry r j) }
+    ensures published { OnOk result ((blocks : List (ℕ × RowMajor F))
+        × IsPermutation (slot_blocks 0 (2 ^ (log_h - (log_h + 1) / 2)) width values.new (2 ^ added_bits * 2 ^ ((log_h + 1) / 2))) blocks
+        × Run C.step consumer.old blocks consumer.new) }
+    ensures refused { IfErr result (λ refusal. (accepted : List (ℕ × RowMajor F)) × (refused : ℕ × RowMajor F)
+        × AreBlocksOf (λ m. image F.value (matrix F.ZERO m)) (2 ^ (log_h - (log_h + 1) / 2))
+        (extended_rows F.Field.own F.generator log_h added_bits width (F.value shift) values.old) (accepted ++ refused ∷ [])
+        × RunToRefusal C.step consumer.old accepted refused refusal consumer.new) }
     ensures grows { products.old ≤ products.new }
     ensures count { products.new ≤ products.old + 2 ^ added_bits * (width * (log_h * 2 ^ log_h / 2)) }
 {
@@ -46,10 +60,22 @@ pub fn extend_slots<F: TwoAdicField>(
         let table = table_of_slot(cosets, log_h, added_bits, shift, place + 1);
         let start = place * size;
         let slot = &mut others[start..start + size];
-        evaluate_from(coefficients, slot, width, log_h, table, products);
+        let first_row = (place + 1) << log_h;
+        if let Err(refusal) = evaluate_from(
+            coefficients,
+            slot,
+            width,
+            log_h,
+            table,
+            first_row,
+            consumer,
+            products,
+        ) {
+            return Err(refusal);
+        }
     }
     let table = table_of_slot(cosets, log_h, added_bits, shift, 0);
-    evaluate_in_place(coefficients, width, log_h, table, products);
+    evaluate_in_place(coefficients, width, log_h, table, 0, consumer, products)
 }
 
 // The table of the coset of a slot.
@@ -73,43 +99,65 @@ fn table_of_slot<'a, F: TwoAdicField>(
 }
 
 // From coefficients in bit reversed order, which lie in another slice, their values on the coset that a
-// table is of, in bit reversed order.
-fn evaluate_from<F: TwoAdicField>(
+// table is of, in bit reversed order. The rows are those from number `first_row` on.
+fn evaluate_from<F: TwoAdicField, C: BlockConsumer<F>>(
     coefficients: &[F],
     values: &mut [F],
     width: usize,
     log_h: usize,
     table: &CosetTable<F>,
+    first_row: usize,
+    consumer: &mut C,
     products: &mut Products,
-)
+) -> Result<(), C::Refusal>
     requires wide { 1 ≤ width }
     requires small { log_h < 64 }
     requires source { length coefficients.now ≡ 2 ^ log_h * width }
     requires height { length values.old ≡ 2 ^ log_h * width }
     requires table { table.now.log_h ≡ log_h }
-    ensures values { AreValuesOfRows F.Field.own width (2 ^ log_h) (rev log_h)
-        (λ r. point F.ring (forward_root F.Field.own F.generator) log_h (F.value table.now.shift) (rev log_h r)) coefficients.now values.new }
+    requires rows { first_row + 2 ^ log_h < 2 ^ 64 }
+    ensures accepted { OnOk result (AreValuesOfRows F.Field.own width (2 ^ log_h) (rev log_h)
+        (λ r. point F.ring (forward_root F.Field.own F.generator) log_h (F.value table.now.shift) (rev log_h r)) coefficients.now values.new
+        × Run C.step consumer.old (slot_blocks first_row (2 ^ (log_h - (log_h + 1) / 2)) width values.new (2 ^ ((log_h + 1) / 2)))
+        consumer.new) }
+    ensures refused { IfErr result (λ refusal. (n : ℕ) × (n < 2 ^ ((log_h + 1) / 2))
+        × ((r j : ℕ) → r < (n + 1) * 2 ^ (log_h - (log_h + 1) / 2) → j < width → F.value (get_or values.new (r * width + j) F.ZERO)
+        ≡ poly F.ring (2 ^ log_h) (λ q. F.value (get_or coefficients.now (rev log_h q * width + j) F.ZERO))
+        (point F.ring (forward_root F.Field.own F.generator) log_h (F.value table.now.shift) (rev log_h r)))
+        × RunToRefusal C.step consumer.old (slot_blocks first_row (2 ^ (log_h - (log_h + 1) / 2)) width values.new n)
+        (slot_block first_row (2 ^ (log_h - (log_h + 1) / 2)) width values.new n) refusal consumer.new) }
     ensures grows { products.old ≤ products.new }
     ensures count { products.new ≤ products.old + width * (log_h * 2 ^ log_h / 2) }
 {
     values.copy_from_slice(coefficients);
-    evaluate_in_place(values, width, log_h, table, products);
+    evaluate_in_place(values, width, log_h, table, first_row, consumer, products)
 }
 
 // The same in their place.
-fn evaluate_in_place<F: TwoAdicField>(
+fn evaluate_in_place<F: TwoAdicField, C: BlockConsumer<F>>(
     values: &mut [F],
     width: usize,
     log_h: usize,
     table: &CosetTable<F>,
+    first_row: usize,
+    consumer: &mut C,
     products: &mut Products,
-)
+) -> Result<(), C::Refusal>
     requires wide { 1 ≤ width }
     requires small { log_h < 64 }
     requires height { length values.old ≡ 2 ^ log_h * width }
     requires table { table.now.log_h ≡ log_h }
-    ensures values { AreValuesOfRows F.Field.own width (2 ^ log_h) (rev log_h)
-        (λ r. point F.ring (forward_root F.Field.own F.generator) log_h (F.value table.now.shift) (rev log_h r)) values.old values.new }
+    requires rows { first_row + 2 ^ log_h < 2 ^ 64 }
+    ensures accepted { OnOk result (AreValuesOfRows F.Field.own width (2 ^ log_h) (rev log_h)
+        (λ r. point F.ring (forward_root F.Field.own F.generator) log_h (F.value table.now.shift) (rev log_h r)) values.old values.new
+        × Run C.step consumer.old (slot_blocks first_row (2 ^ (log_h - (log_h + 1) / 2)) width values.new (2 ^ ((log_h + 1) / 2)))
+        consumer.new) }
+    ensures refused { IfErr result (λ refusal. (n : ℕ) × (n < 2 ^ ((log_h + 1) / 2))
+        × ((r j : ℕ) → r < (n + 1) * 2 ^ (log_h - (log_h + 1) / 2) → j < width → F.value (get_or values.new (r * width + j) F.ZERO)
+        ≡ poly F.ring (2 ^ log_h) (λ q. F.value (get_or values.old (rev log_h q * width + j) F.ZERO))
+        (point F.ring (forward_root F.Field.own F.generator) log_h (F.value table.now.shift) (rev log_h r)))
+        × RunToRefusal C.step consumer.old (slot_blocks first_row (2 ^ (log_h - (log_h + 1) / 2)) width values.new n)
+        (slot_block first_row (2 ^ (log_h - (log_h + 1) / 2)) width values.new n) refusal consumer.new) }
     ensures grows { products.old ≤ products.new }
     ensures count { products.new ≤ products.old + width * (log_h * 2 ^ log_h / 2) }
 {
@@ -120,34 +168,131 @@ fn evaluate_in_place<F: TwoAdicField>(
         twiddles,
         by_layer: true,
     };
-    last_half(values, width, mid, log_h - mid, high, products);
+    last_half(
+        values,
+        width,
+        mid,
+        log_h - mid,
+        high,
+        first_row,
+        consumer,
+        products,
+    )
 }
 
-// The rows, which are as the first half leaves them, are reversed, and go through the second half. Where
-// that has no layer, they are done.
-fn last_half<F: TwoAdicField>(
+// The rows, which are as the first half leaves them, are reversed, and go through the second half. Each run
+// is lent when it is done.
+fn last_half<F: TwoAdicField, C: BlockConsumer<F>>(
     values: &mut [F],
     width: usize,
     mid: usize,
     left: usize,
     table: BlockTwiddles<'_, F>,
+    first_row: usize,
+    consumer: &mut C,
     products: &mut Products,
-)
+) -> Result<(), C::Refusal>
     requires wide { 1 ≤ width }
     requires small { mid + left < 64 }
     requires height { length values.old ≡ 2 ^ (mid + left) * width }
     requires table { (l : ℕ) → mid ≤ l → l < mid + left → block_end table.by_layer l ≤ length table.twiddles.now }
-    ensures values { (g : ℕ → F.Element) (s : F.Element) → AreRoots F.ring (mid + left) g
+    requires rows { first_row + 2 ^ (mid + left) < 2 ^ 64 }
+    ensures accepted { OnOk result (((g : ℕ → F.Element) (s : F.Element) → AreRoots F.ring (mid + left) g
         → AreBlockTwiddles F.Field.own g s mid (mid + left) table.entry.by_layer table.entry.twiddles.now
         → (a t j : ℕ) → a < 2 ^ mid → t < 2 ^ left → j < width
         → F.value (get_or values.new ((a * 2 ^ left + t) * width + j) F.ZERO)
         ≡ poly F.ring (2 ^ left) (λ q. F.value (get_or values.old ((rev left q * 2 ^ mid + rev mid a) * width + j) F.ZERO))
-        (point F.ring g left (point F.ring g (mid + left) s (rev mid a)) (rev left t)) }
+        (point F.ring g left (point F.ring g (mid + left) s (rev mid a)) (rev left t)))
+        × Run C.step consumer.old (slot_blocks first_row (2 ^ left) width values.new (2 ^ mid)) consumer.new) }
+    ensures refused { IfErr result (λ refusal. (n : ℕ) × (n < 2 ^ mid)
+        × ((g : ℕ → F.Element) (s : F.Element) → AreRoots F.ring (mid + left) g
+        → AreBlockTwiddles F.Field.own g s mid (mid + left) table.entry.by_layer table.entry.twiddles.now
+        → (a t j : ℕ) → a < n + 1 → t < 2 ^ left → j < width
+        → F.value (get_or values.new ((a * 2 ^ left + t) * width + j) F.ZERO)
+        ≡ poly F.ring (2 ^ left) (λ q. F.value (get_or values.old ((rev left q * 2 ^ mid + rev mid a) * width + j) F.ZERO))
+        (point F.ring g left (point F.ring g (mid + left) s (rev mid a)) (rev left t)))
+        × RunToRefusal C.step consumer.old (slot_blocks first_row (2 ^ left) width values.new n)
+        (slot_block first_row (2 ^ left) width values.new n) refusal consumer.new) }
     ensures grows { products.old ≤ products.new }
     ensures count { products.new ≤ products.old + 2 ^ mid * (width * (left * 2 ^ left / 2)) }
 {
     reverse_runs(values, width, mid + left);
+    let runs = 1usize << mid;
+    let height = 1usize << left;
+    let size = values.len() / runs;
+    for run in 0..runs {
+        let start = run * size;
+        let rows = &mut values[start..start + size];
+        let row = first_row + run * height;
+        if let Err(refusal) = finish_run(
+            rows, width, mid, left, run, table, row, consumer, products,
+        ) {
+            return Err(refusal);
+        }
+    }
+    Ok(())
+}
+
+// One run of the second half, which is lent when it is done. Its first row has the number `row`.
+fn finish_run<F: TwoAdicField, C: BlockConsumer<F>>(
+    values: &mut [F],
+    width: usize,
+    mid: usize,
+    left: usize,
+    run: usize,
+    table: BlockTwiddles<'_, F>,
+    row: usize,
+    consumer: &mut C,
+    products: &mut Products,
+) -> Result<(), C::Refusal>
+    requires wide { 1 ≤ width }
+    requires small { mid + left < 64 }
+    requires run { run < 2 ^ mid }
+    requires height { length values.old ≡ 2 ^ left * width }
+    requires table { (l : ℕ) → mid ≤ l → l < mid + left → block_end table.by_layer l ≤ length table.twiddles.now }
+    ensures values { (g : ℕ → F.Element) (s : F.Element) → AreRoots F.ring (mid + left) g
+        → AreBlockTwiddles F.Field.own g s mid (mid + left) table.entry.by_layer table.entry.twiddles.now
+        → (t j : ℕ) → t < 2 ^ left → j < width → F.value (get_or values.new (t * width + j) F.ZERO)
+        ≡ poly F.ring (2 ^ left) (λ q. F.value (get_or values.old (q * width + j) F.ZERO))
+        (point F.ring g left (point F.ring g (mid + left) s (rev mid run)) (rev left t)) }
+    ensures lent { C.step consumer.old row (record { width = width; values = values.new }) result consumer.new }
+    ensures grows { products.old ≤ products.new }
+    ensures count { products.new ≤ products.old + 1 * (width * (left * 2 ^ left / 2)) }
+{
+    last_layers(values, width, mid, left, run, table, products);
+    let block = RowMajorMatrixView::new(&values[..], width);
+    consumer.consume(row, block)
+}
+
+// The layers of one run of the second half. Where that has none, its rows are done.
+fn last_layers<F: TwoAdicField>(
+    values: &mut [F],
+    width: usize,
+    mid: usize,
+    left: usize,
+    run: usize,
+    table: BlockTwiddles<'_, F>,
+    products: &mut Products,
+)
+    requires wide { 1 ≤ width }
+    requires small { mid + left < 64 }
+    requires run { run < 2 ^ mid }
+    requires height { length values.old ≡ 2 ^ left * width }
+    requires table { (l : ℕ) → mid ≤ l → l < mid + left → block_end table.by_layer l ≤ length table.twiddles.now }
+    ensures values { (g : ℕ → F.Element) (s : F.Element) → AreRoots F.ring (mid + left) g
+        → AreBlockTwiddles F.Field.own g s mid (mid + left) table.entry.by_layer table.entry.twiddles.now
+        → (t j : ℕ) → t < 2 ^ left → j < width → F.value (get_or values.new (t * width + j) F.ZERO)
+        ≡ poly F.ring (2 ^ left) (λ q. F.value (get_or values.old (q * width + j) F.ZERO))
+        (point F.ring g left (point F.ring g (mid + left) s (rev mid run)) (rev left t)) }
+    ensures grows { products.old ≤ products.new }
+    ensures count { products.new ≤ products.old + 1 * (width * (left * 2 ^ left / 2)) }
+{
     if left > 0 {
-        second_half(values, width, mid, left, table, None, products);
+        // One column is made apart: where the width is known, no loop along a row is left.
+        if width == 1 {
+            high_network(values, 1, mid, left, run, table, None, products);
+        } else {
+            high_network(values, width, mid, left, run, table, None, products);
+        }
     }
 }

@@ -1,0 +1,27 @@
+use Rattle.std.proofs.Common.{ℕ, ◌+◌, ◌*◌, ◌/◌, ◌^◌, ◌≤◌, get_or}
+use Rattle.p3_field.specs.Ring.{AreRoots}
+use Rattle.p3_matrix.specs.BitOrder.{rev}
+use Rattle.p3_matrix.specs.Blocks.{Run}
+use Rattle.p3_networks.specs.Cosets.{point}
+use Rattle.p3_networks.specs.Slots.{slot_blocks}
+use Rattle.p3_networks.specs.Twiddles.{AreBlockTwiddles}
+use Rattle.p3_networks.proofs.Rows.Overwritten.{RowsDone}
+use Rattle.p3_networks.proofs.Rows.Runs.{RunDone}
+use Rattle.p3_networks.proofs.radix_2_dit_parallel.slots.last_half.Given as goal
+
+-- the first runs are done, and were lent
+abbrev pub invariant-loop-run : goal.invariant-loop-run
+invariant-loop-run g l =
+    let field = g.F.Field in
+    let mid = l.fn.mid in
+    let left = l.fn.left in
+    let w = l.fn.width in
+    record {
+      cells : (root : ℕ → field.Element) (s : field.Element) → AreRoots field.ring (mid + left) root → AreBlockTwiddles field root s mid (mid + left) l.fn.table.by_layer l.fn.table.twiddles.now
+          → RowsDone field.ZERO (2 ^ left * w) (RunDone field.ring field.value field.ZERO (2 ^ left) w (λ q. q) (λ x. x)
+          (λ a t. point field.ring root left (point field.ring root (mid + left) s (rev mid a)) (rev left t)) (λ n. field.value (get_or l.initial.values n field.ZERO)))
+          l.initial.values l.run l.values;
+      told : Run g.C.BlockConsumer.step l.fn.consumer (slot_blocks l.fn.first_row (2 ^ left) w l.values l.run) l.consumer;
+      grows : l.fn.products ≤ l.products;
+      count : l.products ≤ l.fn.products + 1 * (l.run * (w * (left * 2 ^ left / 2)));
+    }
