@@ -7,13 +7,15 @@ mod extension;
 mod network;
 mod transform;
 
-use crate::radix_2_dit_parallel::extension::{coefficients_with_room, extend};
+use crate::blocks::{BlocksStopped, Unpublished};
+use crate::radix_2_dit_parallel::extension::{Unread, coefficients_with_room, extend};
 use crate::radix_2_dit_parallel::transform::{evaluate, evaluate_on_coset, interpolate};
 use crate::traits::{Layout, TwoAdicSubgroupDft};
 use crate::util::reverse_rows;
 use p3_field::{Field, Products, TwoAdicField};
 use p3_matrix::{
-    BitReversedMatrixView, DftError, IntoRowMajorMatrix, RowMajorMatrix, log2_strict_usize,
+    BitReversedMatrixView, BlockConsumer, DftError, IntoRowMajorMatrix, RowMajorMatrix,
+    log2_strict_usize,
 };
 use p3_networks::radix_2_dit_parallel::coset_tables::CosetTables;
 use p3_networks::radix_2_dit_parallel::tables::Tables;
@@ -111,7 +113,7 @@ impl<F: TwoAdicField> Radix2DitParallel<F> {
 }
 
 impl<F: TwoAdicField> TwoAdicSubgroupDft<F> for Radix2DitParallel<F> {
-    ghost use Rattle.std.specs.Prelude.{◌≡◌, ◌≢◌, ◌⊎◌, ⊤, ℕ, ◌+◌, ◌*◌, ◌/◌, ◌^◌, ◌≤◌, [], ◌∷◌, ◌++◌, IfOk, IsOk, OnOk, OnErr, Ok};
+    ghost use Rattle.std.specs.Prelude.{◌≡◌, ◌≢◌, ◌⊎◌, ⊤, ℕ, ◌+◌, ◌-◌, ◌*◌, ◌/◌, ◌^◌, ◌≤◌, [], ◌∷◌, ◌++◌, IfOk, IsOk, OnOk, OnErr, Ok};
     ghost use Rattle.std.proofs.Common.{refl, rules};
     ghost use Rattle.p3_matrix.specs.BitOrder.{reversed_rows};
     ghost use Rattle.p3_matrix.specs.RowMajor.{HasShapeOf, RowMajor, height};
@@ -139,7 +141,9 @@ impl<F: TwoAdicField> TwoAdicSubgroupDft<F> for Radix2DitParallel<F> {
 
     ghost made = { λ e. e.roots.products };
 
-    ghost block_rows_law = { λ k a. (k + a, Prim.search (rules), refl) };
+    ghost block_rows = { λ k a. 2 ^ (k - (k + 1) / 2) };
+
+    ghost block_rows_law = { λ k a. (k - (k + 1) / 2, omega (arith), refl) };
 
     ghost default_law = { λ e new. new.2 };
 
@@ -182,8 +186,9 @@ impl<F: TwoAdicField> TwoAdicSubgroupDft<F> for Radix2DitParallel<F> {
         self.products.add(products);
     }
 
-    fn block_height(&self, log_h: usize, added_bits: usize) -> usize {
-        1 << (log_h + added_bits)
+    /// As the trait says: a block is a run of rows of the second half.
+    fn block_height(&self, log_h: usize, _added_bits: usize) -> usize {
+        1 << (log_h - (log_h + 1) / 2)
     }
 
     /// As the trait says, by the table of the coset. Where that is there, the answer is `Ok`, and `Ok`
@@ -292,14 +297,65 @@ impl<F: TwoAdicField> TwoAdicSubgroupDft<F> for Radix2DitParallel<F> {
             &mut self.cosets,
             &mut self.products,
         )?;
-        extend(
+        let read = extend(
             &mut mat,
             log_h,
             added_bits,
             shift,
             &self.cosets,
+            &mut Unread,
             &mut self.products,
         );
+        if let Err(()) = read {
+            unreachable!();
+        }
         Ok(mat.bit_reverse_rows())
+    }
+
+    /// As the trait says: each run of rows of the second half is lent as soon as it is final, so that it is
+    /// in the cache still. The first rows, which hold the coefficients until the others are made from
+    /// them, are the last that are lent.
+    fn coset_lde_batch_with_blocks<
+        N: IntoRowMajorMatrix<F>,
+        T: FnOnce(RowMajorMatrix<F>, Layout) -> RowMajorMatrix<F> + Drop,
+        C: BlockConsumer<F>,
+        M: FnOnce(usize) -> C,
+    >(
+        &mut self,
+        mat: N,
+        added_bits: usize,
+        shift: F,
+        transform: T,
+        make_consumer: M,
+    ) -> Result<(BitReversedMatrixView<RowMajorMatrix<F>>, C), BlocksStopped<M, C, C::Refusal>> {
+        let mat = mat.into_row_major_matrix();
+        let log_h = log2_strict_usize(mat.height());
+        let room = coefficients_with_room(
+            mat,
+            added_bits,
+            shift,
+            transform,
+            &mut self.tables,
+            &mut self.cosets,
+            &mut self.products,
+        );
+        let mut mat = match room {
+            Ok(mat) => mat,
+            Err(_) => return Err(BlocksStopped::OutOfMemory(Unpublished { make_consumer })),
+        };
+        let mut consumer = make_consumer(1 << (log_h - (log_h + 1) / 2));
+        let extended = extend(
+            &mut mat,
+            log_h,
+            added_bits,
+            shift,
+            &self.cosets,
+            &mut consumer,
+            &mut self.products,
+        );
+        if let Err(refusal) = extended {
+            return Err(BlocksStopped::Refused { consumer, refusal });
+        }
+        Ok((mat.bit_reverse_rows(), consumer))
     }
 }

@@ -13,7 +13,7 @@ use Rattle.p3_matrix.proofs.BitReversal.{rev_of_zero, rev-lt, rev-rev, reversed_
 use Rattle.p3_matrix.proofs.Matrices.{same_sym}
 use Rattle.p3_matrix.proofs.TwoPowers.{log_same}
 use Rattle.p3_networks.specs.Cosets.{AreCoefficients, IsQuotient, IsValues, coset_shift, point}
-use Rattle.p3_dft.specs.Extensions.{IsExtension, IsTransformedExtension, extension_bound}
+use Rattle.p3_dft.specs.Extensions.{AreTransformedValues, IsExtension, IsTransformedExtension, extension_bound}
 use Rattle.p3_networks.specs.Polynomials.{poly}
 use Rattle.p3_dft.specs.Shapes.{FitsLde}
 use Rattle.p3_dft.specs.Transforms.{values_of, IsInterpolation}
@@ -191,13 +191,13 @@ module _ {F : Type 0} (f : FieldMembers F) (generator : ℕ → F) where
       let first : i ≡ 0 = omega (arith, below, single) in
       ap column first ∙ sym (ap (λ n. poly f.ring n column x) one ∙ poly-one f.ring column x)))
 
-  -- the same of what a transform, told the coefficients in bit reversed order, answered in that order
-  pub extension_of_answered : (may_answer : RowMajor F → RowMajor F → Type 0) (m told answered out : RowMajor F) (a log : ℕ) (s : f.Element) → height m ≡ 2 ^ log
+  -- values of what a transform, told the coefficients in bit reversed order, answered in that order
+  pub values_of_answered : (may_answer : RowMajor F → RowMajor F → Type 0) (m told answered : RowMajor F) (a log : ℕ) (s : f.Element) (out : Matrix f.Element) → height m ≡ 2 ^ log
       → AreCoefficients f.ring (λ n. f.value (generator n)) (values_of f m) log f.ring.one (bit_reversal log (values_of f told))
       → may_answer told answered → height answered ≡ height m
-      → IsValues f.ring (λ n. f.value (generator n)) (bit_reversal log (values_of f answered)) (log + a) s (values_of f out)
-      → IsTransformedExtension f generator may_answer BitReversed m a s out
-  extension_of_answered may_answer m told answered out a log s high are called tall values = record {
+      → IsValues f.ring (λ n. f.value (generator n)) (bit_reversal log (values_of f answered)) (log + a) s out
+      → AreTransformedValues f generator may_answer BitReversed m a s out
+  values_of_answered may_answer m told answered a log s out high are called tall values = record {
     coefficients = bit_reversal log (values_of f told);
     are_coefficients = λ k e. subst (λ (n : ℕ). AreCoefficients f.ring (λ i. f.value (generator i)) (values_of f m) n f.ring.one (bit_reversal log (values_of f told))) (one_log k e) are;
     told = told;
@@ -206,7 +206,7 @@ module _ {F : Type 0} (f : FieldMembers F) (generator : ℕ → F) where
     called = called;
     changed = bit_reversal log (values_of f answered);
     answered_in_layout = λ k e. back answered (tall ∙ high) k e;
-    extended = λ k e. subst (λ (n : ℕ). IsValues f.ring (λ i. f.value (generator i)) (bit_reversal log (values_of f answered)) (n + a) s (values_of f out)) (one_log k e) values;
+    extended = λ k e. subst (λ (n : ℕ). IsValues f.ring (λ i. f.value (generator i)) (bit_reversal log (values_of f answered)) (n + a) s out) (one_log k e) values;
   }
     where
       one_log : (k : ℕ) → height m ≡ 2 ^ k → log ≡ k
@@ -216,6 +216,14 @@ module _ {F : Type 0} (f : FieldMembers F) (generator : ℕ → F) where
       back x of_log k e =
           subst (λ (n : ℕ). Same (values_of f x) (bit_reversal n (bit_reversal log (values_of f x)))) (one_log k e)
           (same_sym (bit_reversal log (bit_reversal log (values_of f x))) (values_of f x) (reversed_twice log (values_of f x) of_log))
+
+  -- the same of a stored matrix
+  pub extension_of_answered : (may_answer : RowMajor F → RowMajor F → Type 0) (m told answered out : RowMajor F) (a log : ℕ) (s : f.Element) → height m ≡ 2 ^ log
+      → AreCoefficients f.ring (λ n. f.value (generator n)) (values_of f m) log f.ring.one (bit_reversal log (values_of f told))
+      → may_answer told answered → height answered ≡ height m
+      → IsValues f.ring (λ n. f.value (generator n)) (bit_reversal log (values_of f answered)) (log + a) s (values_of f out)
+      → IsTransformedExtension f generator may_answer BitReversed m a s out
+  extension_of_answered may_answer m told answered out a log s high are called tall values = values_of_answered may_answer m told answered a log s (values_of f out) high are called tall values
 
 -- a shape that can be extended, and one that is the same
 pub fits_as : (most height width added tall wide : ℕ) → FitsLde most height width added → tall ≡ height → wide ≡ width → FitsLde most tall wide added

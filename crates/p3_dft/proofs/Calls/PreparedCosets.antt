@@ -1,9 +1,16 @@
 -- Which cosets are prepared where tables were added.
-use Rattle.std.proofs.Common.{◌≡◌, ◌⊎◌, inl, inr, ℕ, List, [], ◌∷◌, ◌++◌, length, get_or, sym, subst, length-append, arith}
+use Rattle.std.specs.Prelude.{⊤}
+use Rattle.std.proofs.Common.{◌≡◌, ◌⊎◌, inl, inr, ℕ, ◌≤◌, List, [], ◌∷◌, ◌++◌, length, get_or, sym, subst, length-append, arith}
 use Rattle.std.proofs.Math.ListN.{get_or-append}
+use Rattle.std.specs.List.{range_with_len}
 use Rattle.p3_field.specs.declared.fields.Field.{Ghosts as FieldMembers}
 use Rattle.p3_networks.specs.Twiddles.{Coset, HasCoset, IsCosetOf}
-use Rattle.p3_dft.specs.Engines.{CosetTabled, IsCosetPrepared, IsPrepared}
+use Rattle.p3_dft.specs.Engines.{CosetTabled, IsCosetPrepared, IsLater, IsPrepared}
+use Rattle.p3_dft.proofs.Calls.PreparedHeights.{prepared_until, until_prepared}
+
+-- an engine with powers of the roots up to a height, so many products, and tables of cosets
+abbrev pub tabled : {F : Type 0} → ℕ → ℕ → List (Coset F) → CosetTabled F
+tabled log products cosets = record { roots = record { prepared = range_with_len 1 log; products = products }; cosets = cosets }
 
 module _ {F : Type 0} (f : FieldMembers F) where
   -- a coset that is in a list is in a longer one
@@ -19,8 +26,23 @@ module _ {F : Type 0} (f : FieldMembers F) where
   coset_stays old new c (inr more) k s has = subst (λ (xs : List (Coset F)). HasCoset f xs k s) (sym more) (coset_of_longer old (c ∷ []) k s has)
 
   -- a prepared coset stays prepared where heights and tables stay
-  pub prepared_coset_stays : (before after : CosetTabled F) → ((k : ℕ) → IsPrepared before.roots k → IsPrepared after.roots k)
+  prepared_coset_stays : (before after : CosetTabled F) → ((k : ℕ) → IsPrepared before.roots k → IsPrepared after.roots k)
       → ((k : ℕ) (s : f.Element) → HasCoset f before.cosets k s → HasCoset f after.cosets k s) → (k : ℕ) (s : F) → IsCosetPrepared f before k (f.value s) → IsCosetPrepared f after k (f.value s)
   prepared_coset_stays before after heights cosets k s (inl point) = inl point
   prepared_coset_stays before after heights cosets k s (inr (inl (one, there))) = inr (inl (one, heights k there))
   prepared_coset_stays before after heights cosets k s (inr (inr (other, has))) = inr (inr (other, cosets k (f.value s) has))
+
+  -- no power, no table and no product is lost
+  pub later_with_tables : (before : CosetTabled F) (log more_log products more_products : ℕ) (cosets more_cosets : List (Coset F)) → tabled log products cosets ≡ before → log ≤ more_log
+      → ((k : ℕ) (s : f.Element) → HasCoset f cosets k s → HasCoset f more_cosets k s) → products ≤ more_products
+      → IsLater (λ (e : CosetTabled F). IsPrepared e.roots) (λ (e : CosetTabled F) (k : ℕ) (s : F). IsCosetPrepared f e k (f.value s)) (λ _ _. ⊤) (λ (e : CosetTabled F). e.roots.products)
+      before (tabled more_log more_products more_cosets)
+  later_with_tables before log more_log products more_products cosets more_cosets is higher stays grows =
+      let still = λ (k : ℕ) (there : IsPrepared (tabled log products cosets).roots k). prepared_until more_log k (let held = until_prepared log k there in omega (arith, held, higher)) in
+      subst (λ (e : CosetTabled F). IsLater (λ (e : CosetTabled F). IsPrepared e.roots) (λ (e : CosetTabled F) (k : ℕ) (s : F). IsCosetPrepared f e k (f.value s)) (λ _ _. ⊤) (λ (e : CosetTabled F). e.roots.products)
+      e (tabled more_log more_products more_cosets)) is (record {
+        keeps = still;
+        keeps_cosets = prepared_coset_stays (tabled log products cosets) (tabled more_log more_products more_cosets) still stays;
+        keeps_served = λ k none. tt;
+        grows = grows;
+      })

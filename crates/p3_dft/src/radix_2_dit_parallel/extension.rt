@@ -1,7 +1,9 @@
 // The extension coset by coset.
 
-ghost use Rattle.std.specs.Prelude.{◌≡◌, ◌⊎◌, ℕ, ◌+◌, ◌*◌, ◌/◌, ◌^◌, ◌<◌, ◌≤◌, IfOk, OnOk, length};
+ghost use Rattle.std.specs.Prelude.{◌≡◌, ◌⊎◌, ℕ, ◌+◌, ◌-◌, ◌*◌, ◌/◌, ◌^◌, ◌<◌, ◌≤◌, ◌++◌, ◌∷◌, [], List, IfErr, IfOk, OnOk, length};
 ghost use Rattle.p3_matrix.specs.BitOrder.{bit_reversal};
+ghost use Rattle.p3_matrix.specs.Blocks.{AreBlocksOf, IsPartition, Run, RunToRefusal};
+ghost use Rattle.p3_matrix.specs.Matrix.{Matrix};
 ghost use Rattle.p3_matrix.specs.RowMajor.{HasShapeOf, IsRowMajor, RowMajor, height};
 ghost use Rattle.p3_networks.specs.Cosets.{IsValues};
 ghost use Rattle.p3_networks.specs.Twiddles.{HasCoset, HasCosets};
@@ -15,7 +17,7 @@ use crate::radix_2_dit_parallel::transform::interpolate;
 use crate::traits::Layout;
 use crate::util::pad_rows;
 use p3_field::{Products, TwoAdicField};
-use p3_matrix::{DftError, RowMajorMatrix, log2_strict_usize};
+use p3_matrix::{BlockConsumer, DftError, RowMajorMatrix, RowMajorMatrixView, log2_strict_usize};
 use p3_networks::radix_2_dit_parallel::coset_tables::CosetTables;
 use p3_networks::radix_2_dit_parallel::slots::extend_slots;
 use p3_networks::radix_2_dit_parallel::tables::Tables;
@@ -60,15 +62,17 @@ pub(crate) fn coefficients_with_room<
 
 // From coefficients in bit reversed order, with rows of zeros below them, their values on the coset of
 // `shift` that has as many points as there are rows, in bit reversed order. What the zeros are does not
-// matter.
-pub(crate) fn extend<F: TwoAdicField>(
+// matter. Each block of rows is lent to the consumer when it is final; when one is refused, the rest is not
+// done.
+pub(crate) fn extend<F: TwoAdicField, C: BlockConsumer<F>>(
     mat: &mut RowMajorMatrix<F>,
     log_h: usize,
     added_bits: usize,
     shift: F,
     cosets: &CosetTables<F>,
+    consumer: &mut C,
     products: &mut Products,
-)
+) -> Result<(), C::Refusal>
     requires whole { IsRowMajor mat.old }
     requires within { log_h + added_bits ≤ F.TWO_ADICITY }
     requires small { log_h + added_bits < 64 }
@@ -76,9 +80,16 @@ pub(crate) fn extend<F: TwoAdicField>(
     requires tables { HasCosets F.Field.own F.generator cosets.now log_h added_bits (F.value shift) }
     ensures shape { HasShapeOf mat.new mat.old }
     ensures size { length mat.new.values ≡ length mat.old.values }
-    ensures values { (c : RowMajor F) → IsRowMajor c → height c ≡ 2 ^ log_h → mat.old ≡ with_zeros F.ZERO c added_bits
+    ensures values { OnOk result ((c : RowMajor F) → IsRowMajor c → height c ≡ 2 ^ log_h → mat.old ≡ with_zeros F.ZERO c added_bits
         → IsValues F.ring (λ n. F.value (F.generator n)) (bit_reversal log_h (values_of F.Field.own c)) (log_h + added_bits) (F.value shift)
-        (bit_reversal (log_h + added_bits) (values_of F.Field.own mat.new)) }
+        (bit_reversal (log_h + added_bits) (values_of F.Field.own mat.new))) }
+    ensures published { OnOk result ((blocks : List (ℕ × RowMajor F))
+        × IsPartition (2 ^ (log_h - (log_h + 1) / 2)) mat.new blocks × Run C.step consumer.old blocks consumer.new) }
+    ensures refused { IfErr result (λ refusal. (c : RowMajor F) → IsRowMajor c → height c ≡ 2 ^ log_h → mat.old ≡ with_zeros F.ZERO c added_bits
+        → (out : Matrix F.Element) × (accepted : List (ℕ × RowMajor F)) × (refused : ℕ × RowMajor F)
+        × IsValues F.ring (λ n. F.value (F.generator n)) (bit_reversal log_h (values_of F.Field.own c)) (log_h + added_bits) (F.value shift) out
+        × AreBlocksOf (values_of F.Field.own) (2 ^ (log_h - (log_h + 1) / 2)) (bit_reversal (log_h + added_bits) out)
+        (accepted ++ refused ∷ []) × RunToRefusal C.step consumer.old accepted refused refusal consumer.new) }
     ensures grows { products.old ≤ products.new }
     ensures cost { products.new ≤ products.old + 2 ^ added_bits * (mat.old.width * (log_h * 2 ^ log_h / 2)) }
 {
@@ -90,6 +101,26 @@ pub(crate) fn extend<F: TwoAdicField>(
         added_bits,
         shift,
         cosets,
+        consumer,
         products,
-    );
+    )
+}
+
+// A consumer that takes every block and keeps nothing of it.
+#[derive(Drop)]
+pub(crate) struct Unread;
+
+impl<F> BlockConsumer<F> for Unread {
+    ghost use Rattle.std.specs.Prelude.{◌≡◌, Ok};
+
+    type Refusal = ();
+
+    ghost step = { λ c start block answer e. answer ≡ Ok tt };
+
+    fn consume(&mut self, start: usize, block: RowMajorMatrixView<'_, F>) -> Result<(), ()>
+        ensures { ⟦<Unread as BlockConsumer<F>>⟧.step self.old start block.entry result self.new }
+    {
+        let _ = block;
+        Ok(())
+    }
 }

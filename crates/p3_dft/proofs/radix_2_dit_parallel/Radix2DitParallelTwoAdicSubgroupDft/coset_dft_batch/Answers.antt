@@ -7,7 +7,7 @@ use Rattle.p3_networks.specs.Cosets.{IsValues}
 use Rattle.p3_dft.specs.Transforms.{values_of}
 use Rattle.p3_networks.specs.Twiddles.{Coset, HasCoset}
 use Rattle.p3_dft.specs.Engines.{CosetTabled, IsPrepared}
-use Rattle.p3_dft.proofs.Calls.PreparedCosets.{coset_stays, prepared_coset_stays}
+use Rattle.p3_dft.proofs.Calls.PreparedCosets.{coset_stays, later_with_tables}
 use Rattle.p3_dft.proofs.BitReversed.OneRow.{row_handed_back, row_seen}
 use Rattle.p3_dft.proofs.BitReversed.Rows.{transform_seen}
 use Rattle.p3_dft.proofs.radix_2_dit_parallel.Radix2DitParallelTwoAdicSubgroupDft.coset_dft_batch.Goals as goal
@@ -73,16 +73,7 @@ pub returns-in_err-place-clause-succeeds : goal.returns-in_err-place-clause-succ
 returns-in_err-place-clause-succeeds g c k high heights ready = returns-in_err-place-clause-ready g c k high ready
 
 pub returns-in_err-place-clause-later : goal.returns-in_err-place-clause-later
-returns-in_err-place-clause-later g c =
-    let products : c.self.inside.products ≡ c.args.self.now.roots.products = ap (λ (e : CosetTabled g.row.F.Denot). e.roots.products) c.self.view_is in
-    record {
-      keeps = λ k before. subst (λ (e : CosetTabled g.row.F.Denot). IsPrepared e.roots k) (sym c.self.view_is) before;
-      keeps_cosets = prepared_coset_stays g.F.Field c.args.self.now (record { roots = record { prepared = range_with_len 1 c.self.inside.tables; products = 0 }; cosets = c.make.new.self })
-          (λ k before. subst (λ (e : CosetTabled g.row.F.Denot). IsPrepared e.roots k) (sym c.self.view_is) before)
-          (λ k s has. coset_stays g.F.Field c.self.inside.cosets _ _ c.make.ensures.only k s (subst (λ (e : CosetTabled g.row.F.Denot). HasCoset g.F.Field e.cosets k s) (sym c.self.view_is) has));
-      keeps_served = λ k none. tt;
-      grows = omega (arith, products);
-    }
+returns-in_err-place-clause-later g c = later_with_tables g.F.Field c.args.self.now _ _ _ _ _ _ c.self.view_is (omega arith) (coset_stays g.F.Field _ _ _ c.make.ensures.only) (omega arith)
 
 pub evaluate_on_coset-requires-clause-table : goal.evaluate_on_coset-requires-clause-table
 evaluate_on_coset-requires-clause-table g c =
@@ -142,16 +133,7 @@ returns-clause-cosets g c k high =
     subst (made c.args.self.now.cosets) same (subst (λ xs. made xs c.log2_strict_usize-log_h.result) (ap (λ (e : CosetTabled g.row.F.Denot). e.cosets) c.self.view_is) c.make.ensures.only)
 
 pub returns-clause-later : goal.returns-clause-later
-returns-clause-later g c =
-    let products : c.self.inside.products ≡ c.args.self.now.roots.products = ap (λ (e : CosetTabled g.row.F.Denot). e.roots.products) c.self.view_is in
-    record {
-      keeps = λ k before. subst (λ (e : CosetTabled g.row.F.Denot). IsPrepared e.roots k) (sym c.self.view_is) before;
-      keeps_cosets = prepared_coset_stays g.F.Field c.args.self.now (record { roots = record { prepared = range_with_len 1 c.self.inside.tables; products = 0 }; cosets = c.make.new.self })
-          (λ k before. subst (λ (e : CosetTabled g.row.F.Denot). IsPrepared e.roots k) (sym c.self.view_is) before)
-          (λ k s has. coset_stays g.F.Field c.self.inside.cosets _ _ c.make.ensures.only k s (subst (λ (e : CosetTabled g.row.F.Denot). HasCoset g.F.Field e.cosets k s) (sym c.self.view_is) has));
-      keeps_served = λ k none. tt;
-      grows = omega (arith, products, c.evaluate_on_coset.ensures.grows);
-    }
+returns-clause-later g c = later_with_tables g.F.Field c.args.self.now _ _ _ _ _ _ c.self.view_is (omega arith) (coset_stays g.F.Field _ _ _ c.make.ensures.only) c.evaluate_on_coset.ensures.grows
 
 pub returns-clause-pairs : goal.returns-clause-pairs
 returns-clause-pairs g c k high =

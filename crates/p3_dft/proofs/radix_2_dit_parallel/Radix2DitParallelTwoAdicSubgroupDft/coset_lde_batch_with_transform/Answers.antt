@@ -9,7 +9,7 @@ use Rattle.p3_dft.specs.Transforms.{values_of}
 use Rattle.p3_dft.proofs.BitReversed.Coefficients.{extension_of_answered}
 use Rattle.p3_dft.proofs.BitReversed.Rows.{values_seen}
 use Rattle.p3_dft.proofs.Calls.Padding.{padded_shape, padded_whole}
-use Rattle.p3_dft.proofs.Calls.PreparedCosets.{prepared_coset_stays}
+use Rattle.p3_dft.proofs.Calls.PreparedCosets.{later_with_tables}
 use Rattle.p3_dft.proofs.Calls.PreparedHeights.{prepared_until, until_prepared}
 use Rattle.p3_dft.proofs.Calls.Shapes.{output_log_small}
 use Rattle.p3_dft.proofs.radix_2_dit_parallel.Radix2DitParallelTwoAdicSubgroupDft.coset_lde_batch_with_transform.Goals as goal
@@ -21,35 +21,23 @@ slots_counted x y p w before middle after first second =
     omega (arith, first, second, spread)
 
 pub returns-in_err-mat-clause-later : goal.returns-in_err-mat-clause-later
-returns-in_err-mat-clause-later g c =
-    let products : c.self.inside.products ≡ c.args.self.now.roots.products = ap (λ (e : CosetTabled g.row.F.Denot). e.roots.products) c.self.view_is in
-    let still = λ (k : ℕ) (before : IsPrepared c.args.self.now.roots k).
-    let held : k ≤ c.self.inside.tables = until_prepared _ k (subst (λ (e : CosetTabled g.row.F.Denot). IsPrepared e.roots k) (sym c.self.view_is) before) in
-    prepared_until c.coefficients_with_room.new.tables k (omega (arith, held, c.coefficients_with_room.ensures.keeps)) in
-    record {
-      keeps = still;
-      keeps_cosets = prepared_coset_stays g.F.Field c.args.self.now (record { roots = record { prepared = range_with_len 1 c.coefficients_with_room.new.tables; products = 0 }; cosets = c.coefficients_with_room.new.cosets })
-          still
-          (λ k s has. c.coefficients_with_room.ensures.keeps_cosets k s (subst (λ (e : CosetTabled g.row.F.Denot). HasCoset g.F.Field e.cosets k s) (sym c.self.view_is) has));
-      keeps_served = λ k none. tt;
-      grows = omega (arith, products, c.coefficients_with_room.ensures.grows);
-    }
+returns-in_err-mat-clause-later g c = later_with_tables g.F.Field c.args.self.now _ _ _ _ _ _ c.self.view_is c.coefficients_with_room.ensures.keeps c.coefficients_with_room.ensures.keeps_cosets c.coefficients_with_room.ensures.grows
 
-pub extend-requires-clause-within : goal.extend-requires-clause-within
-extend-requires-clause-within g c =
+pub extend-read-requires-clause-within : goal.extend-read-requires-clause-within
+extend-read-requires-clause-within g c =
     let stored = ap height c.into_row_major_matrix-mat.ensures in
     let same = log_same _ _ (sym c.log2_strict_usize-log_h.ensures.power ∙ c.height.ensures.height ∙ stored ∙ c.requires.fits.high) in
     omega (arith, same, c.requires.fits.within)
 
-pub extend-requires-clause-small : goal.extend-requires-clause-small
-extend-requires-clause-small g c =
+pub extend-read-requires-clause-small : goal.extend-read-requires-clause-small
+extend-read-requires-clause-small g c =
     let stored = ap height c.into_row_major_matrix-mat.ensures in
     let same = log_same _ _ (sym c.log2_strict_usize-log_h.ensures.power ∙ c.height.ensures.height ∙ stored ∙ c.requires.fits.high) in
     let small = output_log_small _ _ _ _ c.requires.fits in
     omega (arith, same, small)
 
-pub extend-requires-clause-height : goal.extend-requires-clause-height
-extend-requires-clause-height g c =
+pub extend-read-requires-clause-height : goal.extend-read-requires-clause-height
+extend-read-requires-clause-height g c =
     let m = c.into_row_major_matrix-mat.result in
     let log = c.log2_strict_usize-log_h.result in
     let answer = c.in_ok-mat.ensures.answer in
@@ -59,7 +47,16 @@ extend-requires-clause-height g c =
     (padded_shape g.F.Field.ZERO m answer.answered c.in_ok-mat.mat c.args.added_bits log answer.whole shape high answer.over_zeros).0
 
 pub bit_reverse_rows-requires : goal.bit_reverse_rows-requires
-bit_reverse_rows-requires g c = (c.log2_strict_usize-log_h.result + c.args.added_bits, c.extend.ensures.shape.0 ∙ extend-requires-clause-height g c.before)
+bit_reverse_rows-requires g c =
+    let m = c.into_row_major_matrix-mat.result in
+    let log = c.log2_strict_usize-log_h.result in
+    let answer = c.in_ok-mat.ensures.answer in
+    let high : height m ≡ 2 ^ log = sym c.height.ensures.height ∙ c.log2_strict_usize-log_h.ensures.power in
+    let are = answer.are_coefficients log high in
+    let shape : HasShapeOf answer.answered m = rw c.into_row_major_matrix-mat.ensures (c.requires.shape answer.told answer.answered (rw (← c.into_row_major_matrix-mat.ensures) (are.high, are.wide)) answer.called) in (
+      log + c.args.added_bits,
+      c.extend-read.ensures.shape.0 ∙ (padded_shape g.F.Field.ZERO m answer.answered c.in_ok-mat.mat c.args.added_bits log answer.whole shape high answer.over_zeros).0,
+    )
 
 pub returns-clause-values : goal.returns-clause-values
 returns-clause-values g c =
@@ -68,34 +65,22 @@ returns-clause-values g c =
     let s = field.value c.args.shift in
     let m = c.into_row_major_matrix-mat.result in
     let grown = c.in_ok-mat.mat in
-    let out = c.extend.new.mat in
+    let out = c.extend-read.new.mat in
     let log = c.log2_strict_usize-log_h.result in
     let answer = c.in_ok-mat.ensures.answer in
     let high : height m ≡ 2 ^ log = sym c.height.ensures.height ∙ c.log2_strict_usize-log_h.ensures.power in
     let are = answer.are_coefficients log high in
     let shape : HasShapeOf answer.answered m = rw c.into_row_major_matrix-mat.ensures (c.requires.shape answer.told answer.answered (rw (← c.into_row_major_matrix-mat.ensures) (are.high, are.wide)) answer.called) in
-    let tall = c.extend.ensures.shape.0 ∙ (padded_shape field.ZERO m answer.answered grown a log answer.whole shape high answer.over_zeros).0 in
+    let tall = c.extend-read.ensures.shape.0 ∙ (padded_shape field.ZERO m answer.answered grown a log answer.whole shape high answer.over_zeros).0 in
     let whole : IsRowMajor grown = rw answer.over_zeros (padded_whole field.ZERO answer.answered answer.whole a) in
-    let is_whole : IsRowMajor out = record { wide = omega (arith, whole.wide, c.extend.ensures.shape.1); full = ap₂ (λ h w. h * w) c.extend.ensures.shape.0 c.extend.ensures.shape.1 ∙ whole.full ∙ sym c.extend.ensures.size } in
+    let is_whole : IsRowMajor out = record { wide = omega (arith, whole.wide, c.extend-read.ensures.shape.1); full = ap₂ (λ h w. h * w) c.extend-read.ensures.shape.0 c.extend-read.ensures.shape.1 ∙ whole.full ∙ sym c.extend-read.ensures.size } in
     rw (← c.into_row_major_matrix-mat.ensures, c.bit_reverse_rows.ensures.matrix)
     (extension_of_answered field g.F.TwoAdicField.generator _ m answer.told answer.answered _ a log s high are answer.called shape.0
     (values_seen field g.F.TwoAdicField.generator (bit_reversal log (values_of field answer.answered)) out s (log + a) c.bit_reverse_rows.result.bits is_whole tall c.bit_reverse_rows.ensures.height
-    (c.extend.ensures.values answer.answered answer.whole (shape.0 ∙ high) answer.over_zeros)))
+    (c.in_default.ensures.values answer.answered answer.whole (shape.0 ∙ high) answer.over_zeros)))
 
 pub returns-clause-later : goal.returns-clause-later
-returns-clause-later g c =
-    let products : c.self.inside.products ≡ c.args.self.now.roots.products = ap (λ (e : CosetTabled g.row.F.Denot). e.roots.products) c.self.view_is in
-    let still = λ (k : ℕ) (before : IsPrepared c.args.self.now.roots k).
-    let held : k ≤ c.self.inside.tables = until_prepared _ k (subst (λ (e : CosetTabled g.row.F.Denot). IsPrepared e.roots k) (sym c.self.view_is) before) in
-    prepared_until c.coefficients_with_room.new.tables k (omega (arith, held, c.coefficients_with_room.ensures.keeps)) in
-    record {
-      keeps = still;
-      keeps_cosets = prepared_coset_stays g.F.Field c.args.self.now (record { roots = record { prepared = range_with_len 1 c.coefficients_with_room.new.tables; products = 0 }; cosets = c.coefficients_with_room.new.cosets })
-          still
-          (λ k s has. c.coefficients_with_room.ensures.keeps_cosets k s (subst (λ (e : CosetTabled g.row.F.Denot). HasCoset g.F.Field e.cosets k s) (sym c.self.view_is) has));
-      keeps_served = λ k none. tt;
-      grows = omega (arith, products, c.coefficients_with_room.ensures.grows, c.extend.ensures.grows);
-    }
+returns-clause-later g c = later_with_tables g.F.Field c.args.self.now _ _ _ _ _ _ c.self.view_is c.coefficients_with_room.ensures.keeps c.coefficients_with_room.ensures.keeps_cosets (omega (arith, c.coefficients_with_room.ensures.grows, c.extend-read.ensures.grows))
 
 pub returns-clause-cost : goal.returns-clause-cost
 returns-clause-cost g c k e =
@@ -115,7 +100,7 @@ returns-clause-cost g c k e =
     let first : c.coefficients_with_room.new.products ≤ c.args.self.now.roots.products + w * x + 2 ^ k * w =
     subst (λ (v : ℕ). c.coefficients_with_room.new.products ≤ c.args.self.now.roots.products + v * x + 2 ^ k * v) width
     (subst (λ (b : ℕ). c.coefficients_with_room.new.products ≤ b + m.width * x + 2 ^ k * m.width) products (c.coefficients_with_room.ensures.cost k (stored ∙ e))) in
-    let second : c.extend.new.products ≤ c.coefficients_with_room.new.products + 2 ^ a * (w * x) =
-    subst (λ (n : ℕ). c.extend.new.products ≤ c.coefficients_with_room.new.products + 2 ^ a * (w * (n * 2 ^ n / 2))) same
-    (subst (λ (v : ℕ). c.extend.new.products ≤ c.coefficients_with_room.new.products + 2 ^ a * (v * (log * 2 ^ log / 2))) grown c.extend.ensures.cost) in
+    let second : c.extend-read.new.products ≤ c.coefficients_with_room.new.products + 2 ^ a * (w * x) =
+    subst (λ (n : ℕ). c.extend-read.new.products ≤ c.coefficients_with_room.new.products + 2 ^ a * (w * (n * 2 ^ n / 2))) same
+    (subst (λ (v : ℕ). c.extend-read.new.products ≤ c.coefficients_with_room.new.products + 2 ^ a * (v * (log * 2 ^ log / 2))) grown c.extend-read.ensures.cost) in
     slots_counted x (2 ^ k) (2 ^ a) w _ _ _ first second

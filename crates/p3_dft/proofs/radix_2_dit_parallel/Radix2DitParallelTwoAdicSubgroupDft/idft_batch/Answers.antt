@@ -12,7 +12,7 @@ use Rattle.p3_dft.proofs.BitReversed.Rows.{transform_of_row}
 use Rattle.p3_networks.proofs.Polynomials.Interpolation.{same_coefficients}
 use Rattle.p3_dft.proofs.Calls.Inverses.{mapped_same}
 use Rattle.p3_networks.specs.Twiddles.{HasCoset}
-use Rattle.p3_dft.proofs.Calls.PreparedCosets.{prepared_coset_stays}
+use Rattle.p3_dft.proofs.Calls.PreparedCosets.{later_with_tables}
 use Rattle.p3_dft.proofs.Calls.PreparedHeights.{prepared_before, prepared_until, until_prepared}
 use Rattle.p3_dft.proofs.radix_2_dit_parallel.Radix2DitParallelTwoAdicSubgroupDft.idft_batch.Goals as goal
 
@@ -100,30 +100,10 @@ returns-clause-only g c k high n now =
     (prepared_before c.self.inside.tables c.make.new.self _ n c.make.ensures.only now))
 
 pub returns-in_err-make-clause-later : goal.returns-in_err-make-clause-later
-returns-in_err-make-clause-later g c =
-    let products : c.self.inside.products ≡ c.args.self.now.roots.products = ap (λ (e : CosetTabled g.row.F.Denot). e.roots.products) c.self.view_is in
-    let there = λ (k : ℕ) (before : IsPrepared c.args.self.now.roots k). until_prepared _ k (subst (λ (e : CosetTabled g.row.F.Denot). IsPrepared e.roots k) (sym c.self.view_is) before) in
-    let still : (k : ℕ) → IsPrepared c.args.self.now.roots k → k ≤ c.make.new.self = λ k before. let held = there k before in omega (arith, held, c.make.ensures.keeps) in
-    record {
-      keeps = λ k before. prepared_until _ k (still k before);
-      keeps_cosets = prepared_coset_stays g.F.Field c.args.self.now (record { roots = record { prepared = range_with_len 1 c.make.new.self; products = 0 }; cosets = c.self.inside.cosets })
-          (λ k before. prepared_until _ k (still k before)) (λ k s. subst (λ (e : CosetTabled g.row.F.Denot). HasCoset g.F.Field e.cosets k s) (sym c.self.view_is));
-      keeps_served = λ k none. tt;
-      grows = omega (arith, products);
-    }
+returns-in_err-make-clause-later g c = later_with_tables g.F.Field c.args.self.now _ _ _ _ _ _ c.self.view_is c.make.ensures.keeps (λ k s has. has) (omega arith)
 
 pub returns-clause-later : goal.returns-clause-later
-returns-clause-later g c =
-    let products : c.self.inside.products ≡ c.args.self.now.roots.products = ap (λ (e : CosetTabled g.row.F.Denot). e.roots.products) c.self.view_is in
-    let there = λ (k : ℕ) (before : IsPrepared c.args.self.now.roots k). until_prepared _ k (subst (λ (e : CosetTabled g.row.F.Denot). IsPrepared e.roots k) (sym c.self.view_is) before) in
-    let still : (k : ℕ) → IsPrepared c.args.self.now.roots k → k ≤ c.make.new.self = λ k before. let held = there k before in omega (arith, held, c.make.ensures.keeps) in
-    record {
-      keeps = λ k before. prepared_until _ k (still k before);
-      keeps_cosets = prepared_coset_stays g.F.Field c.args.self.now (record { roots = record { prepared = range_with_len 1 c.make.new.self; products = 0 }; cosets = c.self.inside.cosets })
-          (λ k before. prepared_until _ k (still k before)) (λ k s. subst (λ (e : CosetTabled g.row.F.Denot). HasCoset g.F.Field e.cosets k s) (sym c.self.view_is));
-      keeps_served = λ k none. tt;
-      grows = omega (arith, products, c.interpolate.ensures.grows);
-    }
+returns-clause-later g c = later_with_tables g.F.Field c.args.self.now _ _ _ _ _ _ c.self.view_is c.make.ensures.keeps (λ k s has. has) c.interpolate.ensures.grows
 
 pub returns-clause-cost : goal.returns-clause-cost
 returns-clause-cost g c k high =

@@ -1,0 +1,177 @@
+use Rattle.std.proofs.Common.{◌≡◌, ℕ, ◌+◌, ◌-◌, ◌*◌, ◌/◌, ◌%◌, ◌^◌, ◌≤◌, ◌++◌, ◌∷◌, [], sym, ap, ap₂, ◌∙◌, subst, arith}
+use Rattle.std.proofs.lemmas.Nat.{one_shl}
+use Rattle.p3_matrix.specs.BitOrder.{bit_reversal}
+use Rattle.p3_matrix.specs.Blocks.{AreBlocksOf, IsPartition}
+use Rattle.p3_matrix.specs.RowMajor.{RowMajor, HasShapeOf, IsRowMajor, height}
+use Rattle.p3_matrix.proofs.TwoPowers.{log_same}
+use Rattle.p3_dft.specs.Engines.{CosetTabled, IsPrepared}
+use Rattle.p3_dft.specs.Transforms.{values_of}
+use Rattle.p3_dft.proofs.BitReversed.Coefficients.{extension_of_answered, values_of_answered}
+use Rattle.p3_dft.proofs.BitReversed.Rows.{values_seen}
+use Rattle.p3_dft.proofs.Calls.Padding.{padded_shape, padded_whole}
+use Rattle.p3_dft.proofs.Calls.PreparedCosets.{later_with_tables}
+use Rattle.p3_dft.proofs.Calls.PreparedHeights.{prepared_until, until_prepared}
+use Rattle.p3_dft.proofs.Calls.Shapes.{output_log_small}
+use Rattle.p3_dft.proofs.radix_2_dit_parallel.Radix2DitParallelTwoAdicSubgroupDft.coset_lde_batch_with_blocks.Goals as goal
+
+-- an inverse with a product for each entry, and a transform for each slot
+slots_counted : (x y p w before middle after : ℕ) → middle ≤ before + w * x + y * w → after ≤ middle + p * (w * x) → after ≤ before + w * (x * (1 + p) + y)
+slots_counted x y p w before middle after first second =
+    let spread : w * x + y * w + p * (w * x) ≡ w * (x * (1 + p) + y) = omega arith in
+    omega (arith, first, second, spread)
+
+pub returns-in-Err-clause-later : goal.returns-in-Err-clause-later
+returns-in-Err-clause-later g c = later_with_tables g.F.Field c.args.self.now _ _ _ _ _ _ c.self.view_is c.coefficients_with_room-room.ensures.keeps c.coefficients_with_room-room.ensures.keeps_cosets c.coefficients_with_room-room.ensures.grows
+
+pub extend-extended-requires-clause-within : goal.extend-extended-requires-clause-within
+extend-extended-requires-clause-within g c =
+    let stored = ap height c.into_row_major_matrix-mat.ensures in
+    let same = log_same _ _ (sym c.log2_strict_usize-log_h.ensures.power ∙ c.height.ensures.height ∙ stored ∙ c.requires.fits.high) in
+    omega (arith, same, c.requires.fits.within)
+
+pub extend-extended-requires-clause-small : goal.extend-extended-requires-clause-small
+extend-extended-requires-clause-small g c =
+    let stored = ap height c.into_row_major_matrix-mat.ensures in
+    let same = log_same _ _ (sym c.log2_strict_usize-log_h.ensures.power ∙ c.height.ensures.height ∙ stored ∙ c.requires.fits.high) in
+    let small = output_log_small _ _ _ _ c.requires.fits in
+    omega (arith, same, small)
+
+pub extend-extended-requires-clause-height : goal.extend-extended-requires-clause-height
+extend-extended-requires-clause-height g c =
+    let m = c.into_row_major_matrix-mat.result in
+    let log = c.log2_strict_usize-log_h.result in
+    let answer = c.in-Ok.ensures.answer in
+    let high : height m ≡ 2 ^ log = sym c.height.ensures.height ∙ c.log2_strict_usize-log_h.ensures.power in
+    let are = answer.are_coefficients log high in
+    let shape : HasShapeOf answer.answered m = rw c.into_row_major_matrix-mat.ensures (c.requires.shape answer.told answer.answered (rw (← c.into_row_major_matrix-mat.ensures) (are.high, are.wide)) answer.called) in
+    (padded_shape g.F.Field.ZERO m answer.answered c.in-Ok.mat c.args.added_bits log answer.whole shape high answer.over_zeros).0
+
+pub bit_reverse_rows-requires : goal.bit_reverse_rows-requires
+bit_reverse_rows-requires g c =
+    let m = c.into_row_major_matrix-mat.result in
+    let log = c.log2_strict_usize-log_h.result in
+    let answer = c.in-Ok.ensures.answer in
+    let high : height m ≡ 2 ^ log = sym c.height.ensures.height ∙ c.log2_strict_usize-log_h.ensures.power in
+    let are = answer.are_coefficients log high in
+    let shape : HasShapeOf answer.answered m = rw c.into_row_major_matrix-mat.ensures (c.requires.shape answer.told answer.answered (rw (← c.into_row_major_matrix-mat.ensures) (are.high, are.wide)) answer.called) in (
+      log + c.args.added_bits,
+      c.extend-extended.ensures.shape.0 ∙ (padded_shape g.F.Field.ZERO m answer.answered c.in-Ok.mat c.args.added_bits log answer.whole shape high answer.over_zeros).0,
+    )
+
+pub returns-clause-values : goal.returns-clause-values
+returns-clause-values g c =
+    let field = g.F.Field in
+    let a = c.args.added_bits in
+    let s = field.value c.args.shift in
+    let m = c.into_row_major_matrix-mat.result in
+    let grown = c.in-Ok.mat in
+    let out = c.extend-extended.new.mat in
+    let log = c.log2_strict_usize-log_h.result in
+    let answer = c.in-Ok.ensures.answer in
+    let high : height m ≡ 2 ^ log = sym c.height.ensures.height ∙ c.log2_strict_usize-log_h.ensures.power in
+    let are = answer.are_coefficients log high in
+    let shape : HasShapeOf answer.answered m = rw c.into_row_major_matrix-mat.ensures (c.requires.shape answer.told answer.answered (rw (← c.into_row_major_matrix-mat.ensures) (are.high, are.wide)) answer.called) in
+    let tall = c.extend-extended.ensures.shape.0 ∙ (padded_shape field.ZERO m answer.answered grown a log answer.whole shape high answer.over_zeros).0 in
+    let whole : IsRowMajor grown = rw answer.over_zeros (padded_whole field.ZERO answer.answered answer.whole a) in
+    let is_whole : IsRowMajor out = record { wide = omega (arith, whole.wide, c.extend-extended.ensures.shape.1); full = ap₂ (λ h w. h * w) c.extend-extended.ensures.shape.0 c.extend-extended.ensures.shape.1 ∙ whole.full ∙ sym c.extend-extended.ensures.size } in
+    rw (← c.into_row_major_matrix-mat.ensures, c.bit_reverse_rows.ensures.matrix)
+    (extension_of_answered field g.F.TwoAdicField.generator _ m answer.told answer.answered _ a log s high are answer.called shape.0
+    (values_seen field g.F.TwoAdicField.generator (bit_reversal log (values_of field answer.answered)) out s (log + a) c.bit_reverse_rows.result.bits is_whole tall c.bit_reverse_rows.ensures.height
+    (c.in_default.ensures.values answer.answered answer.whole (shape.0 ∙ high) answer.over_zeros)))
+
+pub returns-clause-later : goal.returns-clause-later
+returns-clause-later g c = later_with_tables g.F.Field c.args.self.now _ _ _ _ _ _ c.self.view_is c.coefficients_with_room-room.ensures.keeps c.coefficients_with_room-room.ensures.keeps_cosets (omega (arith, c.coefficients_with_room-room.ensures.grows, c.extend-extended.ensures.grows))
+
+pub returns-clause-cost : goal.returns-clause-cost
+returns-clause-cost g c k e =
+    let a = c.args.added_bits in
+    let m = c.into_row_major_matrix-mat.result in
+    let w = (g.N.IntoRowMajorMatrix.stored c.args.mat).width in
+    let log = c.log2_strict_usize-log_h.result in
+    let stored = ap height c.into_row_major_matrix-mat.ensures in
+    let width = ap (λ (n : RowMajor g.row.F.Denot). n.width) c.into_row_major_matrix-mat.ensures in
+    let same : log ≡ k = log_same log k (sym c.log2_strict_usize-log_h.ensures.power ∙ c.height.ensures.height ∙ stored ∙ e) in
+    let products : c.self.inside.products ≡ c.args.self.now.roots.products = ap (λ (e : CosetTabled g.row.F.Denot). e.roots.products) c.self.view_is in
+    let answer = c.in-Ok.ensures.answer in
+    let are = answer.are_coefficients k (stored ∙ e) in
+    let shape = c.requires.shape answer.told answer.answered (rw (← c.into_row_major_matrix-mat.ensures) (are.high, are.wide)) answer.called in
+    let grown : c.in-Ok.mat.width ≡ w = ap (λ (n : RowMajor g.row.F.Denot). n.width) answer.over_zeros ∙ shape.1 in
+    let x = k * 2 ^ k / 2 in
+    let first : c.coefficients_with_room-room.new.products ≤ c.args.self.now.roots.products + w * x + 2 ^ k * w =
+    subst (λ (v : ℕ). c.coefficients_with_room-room.new.products ≤ c.args.self.now.roots.products + v * x + 2 ^ k * v) width
+    (subst (λ (b : ℕ). c.coefficients_with_room-room.new.products ≤ b + m.width * x + 2 ^ k * m.width) products (c.coefficients_with_room-room.ensures.cost k (stored ∙ e))) in
+    let second : c.extend-extended.new.products ≤ c.coefficients_with_room-room.new.products + 2 ^ a * (w * x) =
+    subst (λ (n : ℕ). c.extend-extended.new.products ≤ c.coefficients_with_room-room.new.products + 2 ^ a * (w * (n * 2 ^ n / 2))) same
+    (subst (λ (v : ℕ). c.extend-extended.new.products ≤ c.coefficients_with_room-room.new.products + 2 ^ a * (v * (log * 2 ^ log / 2))) grown c.extend-extended.ensures.cost) in
+    slots_counted x (2 ^ k) (2 ^ a) w _ _ _ first second
+
+pub returns-clause-published : goal.returns-clause-published
+returns-clause-published g c k e =
+    let a = c.args.added_bits in
+    let step = g.C.BlockConsumer.step in
+    let log = c.log2_strict_usize-log_h.result in
+    let stored = ap height c.into_row_major_matrix-mat.ensures in
+    let same : log ≡ k = log_same log k (sym c.log2_strict_usize-log_h.ensures.power ∙ c.height.ensures.height ∙ stored ∙ e) in
+    let asked : 1 * 2 ^ (log - (log + 1) / 2) % 18446744073709551616 ≡ 2 ^ (k - (k + 1) / 2) = one_shl (log - (log + 1) / 2) 64 (omega (arith, same, output_log_small _ _ _ _ c.requires.fits, log_same k c.requires.fits.log (sym e ∙ c.requires.fits.high))) ∙ ap (λ n. 2 ^ (n - (n + 1) / 2)) same in
+    let (blocks, parts, run) = c.in_default.ensures.published in
+    record {
+      first = c.make_consumer-consumer.result;
+      made = subst (λ b. g.M.FnOnce.post c.args.make_consumer (b, tt) c.make_consumer-consumer.result) asked c.make_consumer-consumer.ensures;
+      blocks = blocks;
+      parts = rw c.bit_reverse_rows.ensures.matrix (subst (λ (n : ℕ). IsPartition (2 ^ (n - (n + 1) / 2)) c.extend-extended.new.mat blocks) same parts);
+      run = run;
+    }
+
+pub returns-in-Err-extended-clause-refused : goal.returns-in-Err-extended-clause-refused
+returns-in-Err-extended-clause-refused g c k e =
+    let field = g.F.Field in
+    let gen = λ (n : ℕ). field.value (g.F.TwoAdicField.generator n) in
+    let a = c.args.added_bits in
+    let s = field.value c.args.shift in
+    let m = c.into_row_major_matrix-mat.result in
+    let log = c.log2_strict_usize-log_h.result in
+    let stored = ap height c.into_row_major_matrix-mat.ensures in
+    let answer = c.in-Ok.ensures.answer in
+    let high : height m ≡ 2 ^ log = sym c.height.ensures.height ∙ c.log2_strict_usize-log_h.ensures.power in
+    let are = answer.are_coefficients log high in
+    let shape : HasShapeOf answer.answered m = rw c.into_row_major_matrix-mat.ensures (c.requires.shape answer.told answer.answered (rw (← c.into_row_major_matrix-mat.ensures) (are.high, are.wide)) answer.called) in
+    let same : log ≡ k = log_same log k (sym c.log2_strict_usize-log_h.ensures.power ∙ c.height.ensures.height ∙ stored ∙ e) in
+    let asked : 1 * 2 ^ (log - (log + 1) / 2) % 18446744073709551616 ≡ 2 ^ (k - (k + 1) / 2) = one_shl (log - (log + 1) / 2) 64 (omega (arith, same, output_log_small _ _ _ _ c.requires.fits, log_same k c.requires.fits.log (sym e ∙ c.requires.fits.high))) ∙ ap (λ n. 2 ^ (n - (n + 1) / 2)) same in
+    let (out, accepted, refused, values, blocks, stopped) = c.in-Err-extended.ensures.refused answer.answered answer.whole (shape.0 ∙ high) answer.over_zeros in (
+      out,
+      rw (← c.into_row_major_matrix-mat.ensures) (values_of_answered field g.F.TwoAdicField.generator _ m answer.told answer.answered a log s out high are answer.called shape.0 values),
+      record {
+        first = c.make_consumer-consumer.result;
+        made = subst (λ b. g.M.FnOnce.post c.args.make_consumer (b, tt) c.make_consumer-consumer.result) asked c.make_consumer-consumer.ensures;
+        accepted = accepted;
+        refused = refused;
+        blocks = subst (λ (n : ℕ). AreBlocksOf (values_of field) (2 ^ (n - (n + 1) / 2)) (bit_reversal (n + a) out) (accepted ++ refused ∷ [])) same blocks;
+        run = stopped;
+      },
+    )
+
+pub returns-in-Err-extended-clause-later : goal.returns-in-Err-extended-clause-later
+returns-in-Err-extended-clause-later g c = later_with_tables g.F.Field c.args.self.now _ _ _ _ _ _ c.self.view_is c.coefficients_with_room-room.ensures.keeps c.coefficients_with_room-room.ensures.keeps_cosets (omega (arith, c.coefficients_with_room-room.ensures.grows, c.extend-extended.ensures.grows))
+
+pub returns-in-Err-extended-clause-cost : goal.returns-in-Err-extended-clause-cost
+returns-in-Err-extended-clause-cost g c k e =
+    let a = c.args.added_bits in
+    let m = c.into_row_major_matrix-mat.result in
+    let w = (g.N.IntoRowMajorMatrix.stored c.args.mat).width in
+    let log = c.log2_strict_usize-log_h.result in
+    let stored = ap height c.into_row_major_matrix-mat.ensures in
+    let width = ap (λ (n : RowMajor g.row.F.Denot). n.width) c.into_row_major_matrix-mat.ensures in
+    let same : log ≡ k = log_same log k (sym c.log2_strict_usize-log_h.ensures.power ∙ c.height.ensures.height ∙ stored ∙ e) in
+    let products : c.self.inside.products ≡ c.args.self.now.roots.products = ap (λ (e : CosetTabled g.row.F.Denot). e.roots.products) c.self.view_is in
+    let answer = c.in-Ok.ensures.answer in
+    let are = answer.are_coefficients k (stored ∙ e) in
+    let shape = c.requires.shape answer.told answer.answered (rw (← c.into_row_major_matrix-mat.ensures) (are.high, are.wide)) answer.called in
+    let grown : c.in-Ok.mat.width ≡ w = ap (λ (n : RowMajor g.row.F.Denot). n.width) answer.over_zeros ∙ shape.1 in
+    let x = k * 2 ^ k / 2 in
+    let first : c.coefficients_with_room-room.new.products ≤ c.args.self.now.roots.products + w * x + 2 ^ k * w =
+    subst (λ (v : ℕ). c.coefficients_with_room-room.new.products ≤ c.args.self.now.roots.products + v * x + 2 ^ k * v) width
+    (subst (λ (b : ℕ). c.coefficients_with_room-room.new.products ≤ b + m.width * x + 2 ^ k * m.width) products (c.coefficients_with_room-room.ensures.cost k (stored ∙ e))) in
+    let second : c.extend-extended.new.products ≤ c.coefficients_with_room-room.new.products + 2 ^ a * (w * x) =
+    subst (λ (n : ℕ). c.extend-extended.new.products ≤ c.coefficients_with_room-room.new.products + 2 ^ a * (w * (n * 2 ^ n / 2))) same
+    (subst (λ (v : ℕ). c.extend-extended.new.products ≤ c.coefficients_with_room-room.new.products + 2 ^ a * (v * (log * 2 ^ log / 2))) grown c.extend-extended.ensures.cost) in
+    slots_counted x (2 ^ k) (2 ^ a) w _ _ _ first second
