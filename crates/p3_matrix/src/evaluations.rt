@@ -2,7 +2,7 @@
 
 ghost use Rattle.std.specs.Prelude.{◌≡◌, ◌^◌, ℕ};
 ghost use Rattle.p3_matrix.specs.BitOrder.{reversed_rows};
-ghost use Rattle.p3_matrix.specs.RowMajor.{HasShapeOf, IsRowMajor, RowMajor, height};
+ghost use Rattle.p3_matrix.specs.RowMajor.{HasShapeOf, RowMajor, height};
 
 use crate::bitrev::{BitReversedMatrixView, reverse_matrix_index_bits};
 use crate::dense::RowMajorMatrix;
