@@ -1,4 +1,5 @@
--- What users cite: laws of two calls, the one answer of a job, values of combinations, coordinates that stand alone, and `==` of matrices.
+-- What users cite: laws of two calls, the one answer of a job, values of combinations, coordinates that stand alone, `==` of matrices, and why published blocks stopped.
+pub mod Blocks
 pub mod Combinations
 pub mod Coordinates
 pub mod Equality

@@ -1,10 +1,12 @@
 //! Tests of `p3_dft` through its public names, as a crate of a user's sees them.
 //!
 //! They stand in a crate of their own since a crate with tests is proved once more with them. Beside
-//! them stand two clients, the product of two polynomials and a transform on a coset that is undone.
+//! them stand clients: the product of two polynomials, a transform on a coset that is undone, and
+//! extensions with published blocks.
 #![tactic(auto)]
 
 pub mod product;
+pub mod published;
 #[cfg(test)]
 mod tests;
 pub mod there_and_back;

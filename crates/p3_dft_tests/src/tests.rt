@@ -8,6 +8,7 @@ ghost use Rattle.p3_field.specs.Ring.{IsInvertible};
 ghost use Rattle.p3_matrix.specs.RowMajor.{HasShapeOf};
 
 mod algebra;
+mod blocks;
 mod callers;
 mod engines;
 mod jobs;

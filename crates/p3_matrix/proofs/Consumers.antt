@@ -43,11 +43,11 @@ module _ {T : Type 0} where
       omega (arith, more, blocks_size b m n, one, suc-mul n (b * w))
 
   -- and all of them no more than the matrix
-  pub partition_size : (b : ℕ) (m : RowMajor T) (blocks : List (ℕ × RowMajor T)) → IsPartition b m blocks → sum_by size blocks ≤ length m.values
+  pub partition_size : (b : ℕ) (m : RowMajor T) (blocks : List (ℕ × RowMajor T)) → IsPartition b m blocks → sum_by size blocks ≤ height m * m.width
   partition_size b m blocks parts =
       let n = height m / b in
       let same : n * (b * m.width) ≡ (n * b) * m.width = sym (mul_assoc n b m.width) in
-      omega (arith, sum_by-IsPermutation size (first_blocks b m n) blocks parts.each_once, blocks_size b m n, same, mul-le-mul_right m.width (div-mul-le_self (height m) b), div-mul-le_self (length m.values) m.width)
+      omega (arith, sum_by-IsPermutation size (first_blocks b m n) blocks parts.each_once, blocks_size b m n, same, mul-le-mul_right m.width (div-mul-le_self (height m) b))
 
   -- a partition has as many blocks as fit the height
   pub partition_length : (b : ℕ) (m : RowMajor T) (blocks : List (ℕ × RowMajor T)) → IsPartition b m blocks → length blocks ≡ height m / b
@@ -66,7 +66,7 @@ module _ {T : Type 0} where
   -- a new recorder with room for all blocks and all entries of a matrix keeps each block once, and misses none
   pub all_recorded : (may_make : Recording T → Type 0) (b : ℕ) (out : RowMajor T) (last : Recording T) (blocks elements : ℕ)
       → ((c : Recording T) → may_make c → c ≡ record { blocks = []; missed = false; blocks_left = blocks; elements_left = elements })
-      → height out / b ≤ blocks → length out.values ≤ elements
+      → height out / b ≤ blocks → height out * out.width ≤ elements
       → IsPublished (λ c start rows answer e. IsRecorded c start rows answer e) may_make b out last → IsPartition b out last.blocks × (last.missed ≡ false)
   all_recorded may_make b out last blocks elements new many large x =
       let first = new x.first x.made in

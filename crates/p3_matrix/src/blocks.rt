@@ -1,6 +1,7 @@
 //! Blocks of rows that are lent to a consumer, which may refuse one.
 
-ghost use Rattle.std.specs.Prelude.{◌≡◌, ℕ, ◌+◌, ◌*◌, ◌/◌, ◌%◌, ◌<◌, ◌≤◌, ◌++◌, Bool, IfErr, IfOk, OnOk, [], false, get_or, length, vec_capacity, vec_len};
+ghost use Rattle.std.specs.Prelude.{◌≡◌, ℕ, ◌+◌, ◌*◌, ◌/◌, ◌%◌, ◌<◌, ◌≤◌, ◌++◌, Bool, IfErr, IfOk};
+ghost use Rattle.std.specs.Prelude.{OnOk, [], false, get_or, length, vec_capacity, vec_len};
 ghost use Rattle.p3_matrix.specs.Blocks.{Run, RunToRefusal, block, first_blocks};
 ghost use Rattle.p3_matrix.specs.RowMajor.{IsRowMajor, RowMajor, height};
 
@@ -41,7 +42,8 @@ pub fn publish<T, C: BlockConsumer<T>>(
 ) -> Result<(), C::Refusal>
     requires tall { 1 ≤ block_height }
     requires divides { height mat.now % block_height ≡ 0 }
-    ensures accepted { OnOk result (Run C.step consumer.old (first_blocks block_height mat.now (height mat.now / block_height)) consumer.new) }
+    ensures accepted { OnOk result
+        (Run C.step consumer.old (first_blocks block_height mat.now (height mat.now / block_height)) consumer.new) }
     ensures refused { IfErr result (λ refusal. (q : ℕ) × (q < height mat.now / block_height)
         × RunToRefusal C.step consumer.old (first_blocks block_height mat.now q) (block block_height mat.now q) refusal consumer.new) }
     ensures whole { IsRowMajor mat.now }

@@ -51,7 +51,7 @@ impl Clone for LimitedDft {
 }
 
 impl<F: TwoAdicField> TwoAdicSubgroupDft<F> for LimitedDft {
-    ghost use Rattle.std.specs.Prelude.{⊤, ℕ, ◌*◌, ◌^◌};
+    ghost use Rattle.std.specs.Prelude.{⊤, ℕ, ◌+◌, ◌*◌, ◌^◌};
     ghost use Rattle.std.proofs.Common.{refl, rules};
     ghost use Rattle.p3_dft.specs.declared.traits.Layout.TheVariants.{Natural};
 
@@ -141,7 +141,7 @@ impl Clone for ReversedDft {
 }
 
 impl<F: TwoAdicField> TwoAdicSubgroupDft<F> for ReversedDft {
-    ghost use Rattle.std.specs.Prelude.{⊤, ℕ, ◌*◌, ◌^◌};
+    ghost use Rattle.std.specs.Prelude.{⊤, ℕ, ◌+◌, ◌*◌, ◌^◌};
     ghost use Rattle.std.proofs.Common.{refl, rules};
     ghost use Rattle.p3_dft.specs.declared.traits.Layout.TheVariants.{BitReversed};
 

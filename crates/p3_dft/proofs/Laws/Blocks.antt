@@ -1,0 +1,14 @@
+-- What an extension with blocks says of the way in which it stopped.
+use Rattle.std.proofs.Common.{◌≡◌}
+use Rattle.p3_dft.specs.Blocks.{OnRefused, OnOutOfMemory}
+use Rattle.p3_dft.specs.declared.blocks.BlocksStopped.{BlocksStopped}
+use Rattle.p3_dft.specs.declared.blocks.BlocksStopped.TheVariants.{Refused, OutOfMemory}
+use Rattle.p3_dft.specs.declared.blocks.Unpublished.{Unpublished}
+
+-- where a consumer refused, what is said of it and its refusal
+pub where_refused : {M C R : Type 0} (P : C → R → Type 0) (stopped : BlocksStopped M C R) (consumer : C) (refusal : R) → stopped ≡ Refused consumer refusal → OnRefused stopped P → P consumer refusal
+where_refused P stopped consumer refusal is given = rw is at given
+
+-- where memory was refused, what is said of the maker of consumers
+pub where_out_of_memory : {M C R : Type 0} (P : M → Type 0) (stopped : BlocksStopped M C R) (unpublished : Unpublished M) → stopped ≡ OutOfMemory unpublished → OnOutOfMemory stopped P → P unpublished.make_consumer
+where_out_of_memory P stopped unpublished is given = rw is at given

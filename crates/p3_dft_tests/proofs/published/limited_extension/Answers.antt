@@ -1,0 +1,14 @@
+use Rattle.std.proofs.Common.{◌∙◌, of_calls}
+use Rattle.p3_matrix.proofs.Consumers.{all_counted, limit_refused}
+use Rattle.p3_dft.proofs.Laws.Blocks.{where_refused}
+use Rattle.p3_dft_tests.proofs.published.limited_extension.Goals as goal
+
+pub returns-in-Ok-clause-counted : goal.returns-in-Ok-clause-counted
+returns-in-Ok-clause-counted g c = λ k e.
+    c.seen.ensures.seen ∙ all_counted _ _ c.in-Ok.out.physical c.in-Ok.taken (λ r made. search of_calls) (c.in-Ok.ensures.published k e)
+
+pub returns-in-Refused-clause-refused : goal.returns-in-Refused-clause-refused
+returns-in-Refused-clause-refused g c = λ k e.
+    let x = where_refused _ _ _ _ c.in-Refused.is c.in-Err.ensures.refused k e in
+    let told = limit_refused _ _ _ _ _ _ x.2 in
+    (told.1, rw (x.1.extended k e).high at told.2)

@@ -1,0 +1,171 @@
+//! Extensions with published blocks: clients for every field and engine.
+//!
+//! Each has closures of its own for the transform and for the maker of consumers. What a client may
+//! conclude, whatever the order of the blocks, is its contract.
+
+ghost use Rattle.std.specs.Prelude.{◌≡◌, ◌+◌, ◌%◌, ◌/◌, ◌^◌, ◌<◌, IfErr, IfOk, IfSome, Ok, false, get_or, length};
+ghost use Rattle.p3_matrix.specs.BitOrder.{reversed_rows};
+ghost use Rattle.p3_matrix.specs.Blocks.{IsPartition};
+ghost use Rattle.p3_matrix.specs.RowMajor.{height};
+ghost use Rattle.p3_networks.specs.Polynomials.{sum};
+ghost use Rattle.p3_dft.specs.Engines.{AtLog};
+ghost use Rattle.p3_dft.specs.Extensions.{IsExtension};
+ghost use Rattle.p3_dft.specs.Shapes.{FitsLde};
+
+use p3_dft::{
+    BitReversedMatrixView, BlockConsumer, BlockLimit, BlockRefused, BlocksStopped, DftError, Field,
+    Layout, Recorder, RowMajorMatrix, RowMajorMatrixView, TwoAdicField, TwoAdicSubgroupDft,
+};
+use std::convert::Infallible;
+
+/// An extension, and a recorder that holds each of its blocks once.
+pub fn recorded_extension<F: TwoAdicField, D: TwoAdicSubgroupDft<F>>(
+    engine: &mut D,
+    mat: RowMajorMatrix<F>,
+    added_bits: usize,
+    shift: F,
+) -> Result<(BitReversedMatrixView<RowMajorMatrix<F>>, Recorder<F>), DftError>
+    requires { FitsLde F.TWO_ADICITY (height mat) mat.width added_bits }
+    ensures extension { IfOk result (λ p.
+        IsExtension F.Field.own F.generator mat added_bits (F.value shift) (reversed_rows p.0.bits p.0.physical)) }
+    ensures recorded { IfOk result (λ p. AtLog (height mat) (λ k.
+        IsPartition (D.block_rows k added_bits) p.0.physical p.1.blocks × (p.1.missed ≡ false))) }
+{
+    // There are no more blocks than rows.
+    let rows = mat.height() << added_bits;
+    let recorder = Recorder::with_room(*mat.allocator(), rows, rows * mat.width())?;
+    let answer = engine.coset_lde_batch_with_blocks(
+        mat,
+        added_bits,
+        shift,
+        |coefficients: RowMajorMatrix<F>, _layout: Layout| -> RowMajorMatrix<F>
+            ensures { result ≡ coefficients }
+        { coefficients },
+        |_rows: usize| -> Recorder<F>
+            ensures { result ≡ recorder }
+        { recorder },
+    );
+    match answer {
+        Ok((out, recorder)) => {
+            let _whole = out.height();
+            Ok((out, recorder))
+        }
+        Err(stopped) => match stopped {
+            BlocksStopped::Refused {
+                consumer: _consumer,
+                refusal: (),
+            } => unreachable!(),
+            BlocksStopped::OutOfMemory(_) => Err(DftError::OutOfMemory),
+        },
+    }
+}
+
+/// An extension that has at most so many blocks, with their number. Else the block that was one too
+/// many, or none where memory was refused.
+pub fn limited_extension<F: TwoAdicField, D: TwoAdicSubgroupDft<F>>(
+    engine: &mut D,
+    mat: RowMajorMatrix<F>,
+    added_bits: usize,
+    shift: F,
+    limit: usize,
+) -> Result<(BitReversedMatrixView<RowMajorMatrix<F>>, usize), Option<BlockRefused>>
+    requires { FitsLde F.TWO_ADICITY (height mat) mat.width added_bits }
+    ensures counted { IfOk result (λ p. AtLog (height mat) (λ k. p.1 ≡ height p.0.physical / D.block_rows k added_bits)) }
+    ensures refused { IfErr result (λ e. IfSome e (λ refusal. AtLog (height mat) (λ k.
+        (refusal.start % D.block_rows k added_bits ≡ 0) × (refusal.start < 2 ^ (k + added_bits))))) }
+{
+    let answer = engine.coset_lde_batch_with_blocks(
+        mat,
+        added_bits,
+        shift,
+        |coefficients: RowMajorMatrix<F>, _layout: Layout| -> RowMajorMatrix<F>
+            ensures { result ≡ coefficients }
+        { coefficients },
+        |_rows: usize| -> BlockLimit
+            ensures { (result.limit ≡ limit) × (result.seen ≡ 0) }
+        { BlockLimit::new(limit) },
+    );
+    match answer {
+        Ok((out, taken)) => Ok((out, taken.seen())),
+        Err(stopped) => match stopped {
+            BlocksStopped::Refused {
+                consumer: _consumer,
+                refusal,
+            } => Err(Some(refusal)),
+            BlocksStopped::OutOfMemory(_) => Err(None),
+        },
+    }
+}
+
+/// A consumer that adds up the entries of all blocks, and never refuses one.
+#[derive(Drop)]
+pub struct BlockSum<F> {
+    /// The sum so far.
+    pub sum: F,
+}
+
+impl<F: Field> BlockConsumer<F> for BlockSum<F> {
+    ghost use Rattle.std.specs.Prelude.{◌≡◌, Ok, get_or, length};
+    ghost use Rattle.p3_networks.specs.Polynomials.{sum};
+
+    type Refusal = Infallible;
+
+    ghost step = { λ c start block answer e. (answer ≡ Ok tt) × (F.value e.sum
+        ≡ F.ring.add (F.value c.sum) (sum F.ring (length block.values) (λ i. F.value (get_or block.values i F.ZERO)))) };
+
+    fn consume(&mut self, start: usize, block: RowMajorMatrixView<'_, F>) -> Result<(), Infallible>
+        ensures { ⟦<BlockSum<F> as BlockConsumer<F>>⟧.step self.old start block.entry result self.new }
+    {
+        let _ = start;
+        self.sum = self.sum + sum_of(block.values());
+        Ok(())
+    }
+}
+
+// The sum of the elements.
+fn sum_of<F: Field>(elements: &[F]) -> F
+    ensures { F.value result ≡ sum F.ring (length elements.now) (λ i. F.value (get_or elements.now i F.ZERO)) }
+{
+    let mut sum = F::ZERO;
+    for i in 0..elements.len() {
+        sum = sum + elements[i];
+    }
+    sum
+}
+
+/// An extension and the sum of its entries, which is made block by block.
+pub fn summed_extension<F: TwoAdicField, D: TwoAdicSubgroupDft<F>>(
+    engine: &mut D,
+    mat: RowMajorMatrix<F>,
+    added_bits: usize,
+    shift: F,
+) -> Result<(BitReversedMatrixView<RowMajorMatrix<F>>, F), DftError>
+    requires { FitsLde F.TWO_ADICITY (height mat) mat.width added_bits }
+    ensures { IfOk result (λ p.
+        F.value p.1 ≡ sum F.ring (length p.0.physical.values) (λ i. F.value (get_or p.0.physical.values i F.ZERO))) }
+{
+    let answer = engine.coset_lde_batch_with_blocks(
+        mat,
+        added_bits,
+        shift,
+        |coefficients: RowMajorMatrix<F>, _layout: Layout| -> RowMajorMatrix<F>
+            ensures { result ≡ coefficients }
+        { coefficients },
+        |_rows: usize| -> BlockSum<F>
+            ensures { F.value result.sum ≡ F.ring.zero }
+        { BlockSum { sum: F::ZERO } },
+    );
+    match answer {
+        Ok((out, total)) => {
+            let _whole = out.height();
+            Ok((out, total.sum))
+        }
+        Err(stopped) => match stopped {
+            BlocksStopped::Refused {
+                consumer: _consumer,
+                refusal,
+            } => match refusal {},
+            BlocksStopped::OutOfMemory(_) => Err(DftError::OutOfMemory),
+        },
+    }
+}

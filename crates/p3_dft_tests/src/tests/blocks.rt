@@ -1,0 +1,345 @@
+// Extensions whose blocks are published: what is lent to whom, and what is left where a consumer or
+// memory stops the call.
+
+ghost use Rattle.std.specs.Prelude.{◌≡◌, Ok};
+ghost use Rattle.p3_matrix.specs.RowMajor.{HasShapeOf};
+
+use super::{EngineTest, LimitedDft, Matrix, doubled, elements, matrix, on_every_engine, sample};
+use p3_dft::{
+    BabyBear, BlockConsumer, BlockLimit, BlockRefused, BlocksStopped, CanonicalField, Evaluations,
+    Field, Layout, NaiveDft, Radix2Dit, Recorder, RowMajorMatrixView, TwoAdicField,
+    TwoAdicSubgroupDft, Unpublished, fits_lde,
+};
+use std::alloc::Global;
+use std::cell::Cell;
+use std::process::Abort;
+use std::test::Fail;
+
+// Whether the rows are those of the matrix from one on.
+fn has_rows_at(mat: &Matrix, start: usize, rows: &RowMajorMatrixView<'_, BabyBear>) -> bool {
+    let count = rows.height();
+    start <= mat.height()
+        && count <= mat.height() - start
+        && rows.width() == mat.width()
+        && mat.view_rows(start, count).values() == rows.values()
+}
+
+// Compares each block with rows of a matrix as it is lent, and counts the rows.
+#[derive(Drop)]
+struct Compared {
+    expected: Matrix,
+    equal: bool,
+    rows: usize,
+}
+
+impl BlockConsumer<BabyBear> for Compared {
+    ghost use Rattle.std.specs.Prelude.{◌≡◌, Ok};
+
+    type Refusal = ();
+
+    ghost step = { λ c start block answer e. answer ≡ Ok tt };
+
+    fn consume(&mut self, start: usize, block: RowMajorMatrixView<'_, BabyBear>) -> Result<(), ()>
+        ensures { ⟦<Compared as BlockConsumer<BabyBear>>⟧.step self.old start block.entry result self.new }
+    {
+        self.equal = self.equal && has_rows_at(&self.expected, start, &block);
+        self.rows = self.rows.saturating_add(block.height());
+        Ok(())
+    }
+}
+
+// The physical rows of an extension without a transform, and a consumer that took all of them.
+fn extend_to<D: TwoAdicSubgroupDft<BabyBear>, C: BlockConsumer<BabyBear> + Drop>(
+    rt: &impl Abort,
+    engine: &mut D,
+    mat: &Matrix,
+    added_bits: usize,
+    shift: BabyBear,
+    consumer: C,
+) -> Result<(Matrix, C), Fail>
+where
+    C::Refusal: Drop,
+{
+    let mat = mat.try_clone()?;
+    assert!(rt; fits_lde::<BabyBear>(mat.height(), mat.width(), added_bits));
+    let answer = engine.coset_lde_batch_with_blocks(
+        mat,
+        added_bits,
+        shift,
+        |coefficients: Matrix, _layout: Layout| -> Matrix
+            ensures { result ≡ coefficients }
+        { coefficients },
+        |_rows: usize| -> C
+            ensures { result ≡ consumer }
+        { consumer },
+    );
+    match answer {
+        Ok((out, consumer)) => Ok((out.bit_reverse_rows(), consumer)),
+        Err(_) => Err(Fail::from("not all blocks were taken")),
+    }
+}
+
+// The blocks of an extension of one column on the subgroup, and those of a single row.
+struct RecordedBlocks;
+
+impl EngineTest for RecordedBlocks {
+    fn run<R: Abort, D: TwoAdicSubgroupDft<BabyBear>>(
+        &self,
+        rt: &R,
+        alloc: Global,
+        engine: &mut D,
+    ) -> Result<(), Fail> {
+        let recorder = Recorder::with_room(alloc, 4, 4)?;
+        let mat = matrix(alloc, &[9, 1], 1)?;
+        let (out, recorder) = extend_to(rt, engine, &mat, 1, BabyBear::ONE, recorder)?;
+        assert!(rt; out == matrix(alloc, &[9, 1, 873820294, 1139445637], 1)?);
+        assert!(rt; has_each_row_once(&out, &recorder));
+        let recorder = Recorder::with_room(alloc, 4, 8)?;
+        let row = matrix(alloc, &[42, 7], 2)?;
+        let (out, recorder) = extend_to(rt, engine, &row, 2, BabyBear::from_u8(31), recorder)?;
+        assert!(rt; out == matrix(alloc, &[42, 7, 42, 7, 42, 7, 42, 7], 2)?);
+        assert!(rt; has_each_row_once(&out, &recorder));
+        Ok(())
+    }
+}
+
+// Whether the blocks that are kept are rows of the matrix, as many as it has.
+fn has_each_row_once(mat: &Matrix, recorder: &Recorder<BabyBear>) -> bool {
+    let mut equal = !recorder.missed();
+    let mut rows = 0usize;
+    for i in 0..recorder.blocks() {
+        let block = recorder.rows(i);
+        equal = equal && has_rows_at(mat, recorder.start(i), &block);
+        rows = rows.saturating_add(block.height());
+    }
+    equal && rows == mat.height()
+}
+
+#[test]
+fn recorded_blocks(rt: HostRuntime) -> Result<(), Fail> {
+    on_every_engine(&rt, rt.alloc(), &RecordedBlocks)
+}
+
+// Each block of an extension with twice each coefficient, as it is lent.
+struct DoubledBlocks;
+
+impl EngineTest for DoubledBlocks {
+    fn run<R: Abort, D: TwoAdicSubgroupDft<BabyBear>>(
+        &self,
+        rt: &R,
+        alloc: Global,
+        engine: &mut D,
+    ) -> Result<(), Fail> {
+        for (height, width, added_bits) in [
+            (1, 1, 0),
+            (1, 3, 2),
+            (2, 8, 1),
+            (8, 3, 0),
+            (16, 17, 3),
+        ] {
+            let mat = sample(alloc, height, width, 5)?;
+            let expected = doubled_extension(rt, &mat, added_bits)?;
+            assert!(rt; fits_lde::<BabyBear>(mat.height(), mat.width(), added_bits));
+            let answer = engine.coset_lde_batch_with_blocks(
+                mat,
+                added_bits,
+                BabyBear::GENERATOR,
+                |coefficients: Matrix, _layout: Layout| -> Matrix
+                    ensures { HasShapeOf result coefficients }
+                { doubled(coefficients) },
+                |_rows: usize| -> Compared {
+                    Compared {
+                        expected,
+                        equal: true,
+                        rows: 0,
+                    }
+                },
+            );
+            let Ok((out, compared)) = answer else {
+                return Err(Fail::from("not all blocks were taken"));
+            };
+            assert!(rt; compared.equal);
+            assert!(rt; compared.rows == out.height());
+            assert!(rt; compared.expected == out.bit_reverse_rows());
+        }
+        Ok(())
+    }
+}
+
+// The physical rows of an extension with twice each coefficient.
+fn doubled_extension(rt: &impl Abort, mat: &Matrix, added_bits: usize) -> Result<Matrix, Fail> {
+    let mat = mat.try_clone()?;
+    assert!(rt; fits_lde::<BabyBear>(mat.height(), mat.width(), added_bits));
+    let values = NaiveDft::default().coset_lde_batch_with_transform(
+        mat,
+        added_bits,
+        BabyBear::GENERATOR,
+        |coefficients: Matrix, _layout: Layout| -> Matrix
+            ensures { HasShapeOf result coefficients }
+        { doubled(coefficients) },
+    )?;
+    Ok(values.into_bit_reversed().bit_reverse_rows())
+}
+
+#[test]
+fn doubled_blocks(rt: HostRuntime) -> Result<(), Fail> {
+    on_every_engine(&rt, rt.alloc(), &DoubledBlocks)
+}
+
+// How many blocks were taken of the extension of a column by one bit, and the one that was too many.
+fn seen_within<D: TwoAdicSubgroupDft<BabyBear>>(
+    rt: &impl Abort,
+    engine: &mut D,
+    mat: Matrix,
+    limit: usize,
+) -> Result<(usize, Option<BlockRefused>), Fail> {
+    assert!(rt; fits_lde::<BabyBear>(mat.height(), mat.width(), 1));
+    let answer = engine.coset_lde_batch_with_blocks(
+        mat,
+        1,
+        BabyBear::ONE,
+        |coefficients: Matrix, _layout: Layout| -> Matrix
+            ensures { result ≡ coefficients }
+        { coefficients },
+        |_rows: usize| -> BlockLimit { BlockLimit::new(limit) },
+    );
+    match answer {
+        Ok((_out, consumer)) => Ok((consumer.seen(), None)),
+        Err(stopped) => match stopped {
+            BlocksStopped::Refused { consumer, refusal } => { Ok((consumer.seen(), Some(refusal))) }
+            BlocksStopped::OutOfMemory(_unpublished) => Err(Fail::from("out of memory")),
+        },
+    }
+}
+
+// No block is taken, and then as many as there are.
+struct LimitedBlocks;
+
+impl EngineTest for LimitedBlocks {
+    fn run<R: Abort, D: TwoAdicSubgroupDft<BabyBear>>(
+        &self,
+        rt: &R,
+        alloc: Global,
+        engine: &mut D,
+    ) -> Result<(), Fail> {
+        let (seen, refused) = seen_within(rt, engine, matrix(alloc, &[9, 1], 1)?, 0)?;
+        assert!(rt; seen == 0 && refused.is_some());
+        let (seen, refused) = seen_within(rt, engine, matrix(alloc, &[9, 1], 1)?, 4)?;
+        assert!(rt; seen > 0 && refused.is_none());
+        Ok(())
+    }
+}
+
+#[test]
+fn limited_blocks(rt: HostRuntime) -> Result<(), Fail> {
+    on_every_engine(&rt, rt.alloc(), &LimitedBlocks)
+}
+
+// An engine with the trait's own body has one block.
+#[test]
+fn one_block(rt: HostRuntime) -> Result<(), Fail> {
+    let alloc = rt.alloc();
+    let mut engine = Radix2Dit::default();
+    let mat: Matrix = matrix(alloc, &[9, 1], 1)?;
+    let taken = seen_within(&rt, &mut engine, mat.try_clone()?, 1)?;
+    assert!(rt; taken == (1, None));
+    let refused = seen_within(&rt, &mut engine, mat.try_clone()?, 0)?;
+    assert!(rt; refused == (0, Some(BlockRefused { start: 0 })));
+    for (blocks, elements, kept) in [(1, 4, 1), (0, 4, 0), (1, 3, 0)] {
+        let recorder = Recorder::with_room(alloc, blocks, elements)?;
+        let (_, recorder) = extend_to(&rt, &mut engine, &mat, 1, BabyBear::ONE, recorder)?;
+        assert_eq!(rt; recorder.blocks(), kept);
+        assert_eq!(rt; recorder.missed(), kept == 0);
+    }
+    Ok(())
+}
+
+// Counts blocks in what is lent to it.
+#[derive(Drop)]
+struct Counter<'a> {
+    blocks: &'a Cell<usize>,
+}
+
+impl<'a> BlockConsumer<BabyBear> for Counter<'a> {
+    ghost use Rattle.std.specs.Prelude.{◌≡◌, Ok};
+
+    type Refusal = ();
+
+    ghost step = { λ c start block answer e. answer ≡ Ok tt };
+
+    fn consume(&mut self, start: usize, block: RowMajorMatrixView<'_, BabyBear>) -> Result<(), ()>
+        ensures { ⟦<Counter<'a> as BlockConsumer<BabyBear>>⟧.step self.old start block.entry result self.new }
+    {
+        let _ = start;
+        let _ = block;
+        self.blocks.set(self.blocks.get().saturating_add(1));
+        Ok(())
+    }
+}
+
+// The second transform is refused its memory: nothing was lent, and the maker of consumers comes back.
+#[test]
+fn nothing_is_lent_without_memory(rt: HostRuntime) -> Result<(), Fail> {
+    let alloc = rt.alloc();
+    let blocks = Cell::new(0);
+    let mat: Matrix = matrix(alloc, &[9, 1], 1)?;
+    assert!(rt; fits_lde::<BabyBear>(mat.height(), mat.width(), 1));
+    let answer = LimitedDft::new(1).coset_lde_batch_with_blocks(
+        mat,
+        1,
+        BabyBear::ONE,
+        |coefficients: Matrix, _layout: Layout| -> Matrix
+            ensures { result ≡ coefficients }
+        { coefficients },
+        |_rows: usize| -> Counter<'_> { Counter { blocks: &blocks } },
+    );
+    let Err(BlocksStopped::OutOfMemory(Unpublished { make_consumer })) = answer else {
+        return Err(Fail::from("not out of memory"));
+    };
+    let mut consumer = make_consumer(4);
+    assert_eq!(rt; blocks.get(), 0);
+    let one = matrix::<BabyBear>(alloc, &[9], 1)?;
+    assert!(rt; consumer.consume(0, one.as_view()) == Ok(()));
+    assert_eq!(rt; blocks.get(), 1);
+    Ok(())
+}
+
+// The consumer is made once the coefficients were transformed.
+struct MadeLater;
+
+impl EngineTest for MadeLater {
+    fn run<R: Abort, D: TwoAdicSubgroupDft<BabyBear>>(
+        &self,
+        rt: &R,
+        alloc: Global,
+        engine: &mut D,
+    ) -> Result<(), Fail> {
+        let called = Cell::new(false);
+        let made_later = Cell::new(false);
+        let mat: Matrix = matrix(alloc, &[9, 1], 1)?;
+        assert!(rt; fits_lde::<BabyBear>(mat.height(), mat.width(), 1));
+        let answer = engine.coset_lde_batch_with_blocks(
+            mat,
+            1,
+            BabyBear::ONE,
+            |coefficients: Matrix, _layout: Layout| -> Matrix
+                ensures { HasShapeOf result coefficients }
+            {
+                called.set(true);
+                coefficients
+            },
+            |_rows: usize| -> BlockLimit {
+                made_later.set(called.get());
+                BlockLimit::new(4)
+            },
+        );
+        assert!(rt; answer.is_ok());
+        assert!(rt; made_later.get());
+        Ok(())
+    }
+}
+
+#[test]
+fn consumer_is_made_later(rt: HostRuntime) -> Result<(), Fail> {
+    on_every_engine(&rt, rt.alloc(), &MadeLater)
+}
