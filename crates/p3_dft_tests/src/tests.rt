@@ -476,7 +476,7 @@ fn told_layouts(rt: HostRuntime) -> Result<(), Fail> {
     assert!(rt; is_natural::<NaiveDft>());
     assert!(rt; is_natural::<Radix2Dit<BabyBear>>());
     assert!(rt; !is_natural::<Radix2Bowers>());
-    assert!(rt; is_natural::<Radix2DitParallel<BabyBear>>());
+    assert!(rt; !is_natural::<Radix2DitParallel<BabyBear>>());
     assert!(rt; is_natural::<Radix2DFTSmallBatch<BabyBear>>());
     assert!(rt; is_natural::<LimitedDft>());
     assert!(rt; !is_natural::<ReversedDft>());

@@ -1,8 +1,11 @@
 // Where the rows lie, and what is prepared when.
 
+ghost use Rattle.p3_matrix.specs.RowMajor.{HasShapeOf};
+
 use super::{coset_dft_of, elements, has_inverse};
 use p3_dft::{
-    BabyBear, Evaluations, Field, Radix2DitParallel, RowMajorMatrix, TwoAdicSubgroupDft, fits_dft,
+    BabyBear, Evaluations, Field, Layout, Radix2DitParallel, RowMajorMatrix, TwoAdicSubgroupDft,
+    fits_dft, fits_lde,
 };
 use std::test::Fail;
 
@@ -72,5 +75,40 @@ fn prepared_calls_take_no_memory(rt: HostRuntime) -> Result<(), Fail> {
     assert!(rt; fits_dft::<BabyBear>(column.len(), 1));
     let column = engine.coset_dft(column, shift)?;
     assert!(rt; column.first() == Some(&BabyBear::from_u8(13)));
+    Ok(())
+}
+
+// The row with number 1 of a column, and zeros in the others.
+fn row_1_alone(mat: RowMajorMatrix<BabyBear>) -> RowMajorMatrix<BabyBear>
+    ensures { HasShapeOf result mat }
+{
+    let width = mat.width();
+    let mut entries = mat.into_values();
+    for i in 0..entries.len() {
+        if i != 1 {
+            entries[i] = BabyBear::ZERO;
+        }
+    }
+    RowMajorMatrix::new(entries, width)
+}
+
+// The transform has the coefficients in bit reversed order: row 1 is that of the square.
+#[test]
+fn transform_in_bit_reversed_order(rt: HostRuntime) -> Result<(), Fail> {
+    let alloc = rt.alloc();
+    let mut engine = Radix2DitParallel::<BabyBear>::default();
+    let column = elements(alloc, &[10, 569722814, 2013265919, 1443543103])?;
+    let column = RowMajorMatrix::new_col(column);
+    assert!(rt; fits_lde::<BabyBear>(column.height(), column.width(), 0));
+    let values = engine.coset_lde_batch_with_transform(
+        column,
+        0,
+        BabyBear::ONE,
+        |coefficients: RowMajorMatrix<BabyBear>, _layout: Layout| -> RowMajorMatrix<BabyBear>
+            ensures { HasShapeOf result coefficients }
+        { row_1_alone(coefficients) },
+    )?;
+    let want = elements(alloc, &[3, 2013265918, 3, 2013265918])?;
+    assert!(rt; values.to_row_major_matrix() == RowMajorMatrix::new_col(want));
     Ok(())
 }
