@@ -1,12 +1,15 @@
 // Where the rows lie, and what is prepared when.
 
+ghost use Rattle.std.specs.Prelude.{◌≡◌};
 ghost use Rattle.p3_matrix.specs.RowMajor.{HasShapeOf};
 
 use super::{coset_dft_of, elements, has_inverse};
 use p3_dft::{
-    BabyBear, Evaluations, Field, Layout, Radix2DitParallel, RowMajorMatrix, TwoAdicSubgroupDft,
-    fits_dft, fits_lde,
+    BabyBear, BlockConsumer, BlockLimit, BlocksStopped, Evaluations, Field, Layout,
+    Radix2DitParallel, Recorder, RowMajorMatrix, TwoAdicSubgroupDft, fits_dft, fits_lde,
 };
+use std::alloc::Global;
+use std::process::Abort;
 use std::test::Fail;
 
 #[test]
@@ -110,5 +113,70 @@ fn transform_in_bit_reversed_order(rt: HostRuntime) -> Result<(), Fail> {
     )?;
     let want = elements(alloc, &[3, 2013265918, 3, 2013265918])?;
     assert!(rt; values.to_row_major_matrix() == RowMajorMatrix::new_col(want));
+    Ok(())
+}
+
+// What is left of an extension by one bit of the column 9, 1, on the subgroup, and of its consumer.
+fn extend_to<C: BlockConsumer<BabyBear> + Drop>(
+    rt: &impl Abort,
+    alloc: Global,
+    consumer: C,
+) -> Result<(C, Option<C::Refusal>), Fail>
+where
+    C::Refusal: Drop,
+{
+    let mut engine = Radix2DitParallel::<BabyBear>::default();
+    let column = RowMajorMatrix::new_col(elements(alloc, &[9, 1])?);
+    assert!(rt; fits_lde::<BabyBear>(column.height(), column.width(), 1));
+    let answer = engine.coset_lde_batch_with_blocks(
+        column,
+        1,
+        BabyBear::ONE,
+        |coefficients: RowMajorMatrix<BabyBear>, _layout: Layout| -> RowMajorMatrix<BabyBear>
+            ensures { result ≡ coefficients }
+        { coefficients },
+        |_rows: usize| -> C
+            ensures { result ≡ consumer }
+        { consumer },
+    );
+    match answer {
+        Ok((_out, consumer)) => Ok((consumer, None)),
+        Err(stopped) => match stopped {
+            BlocksStopped::Refused { consumer, refusal } => Ok((consumer, Some(refusal))),
+            BlocksStopped::OutOfMemory(_unpublished) => Err(Fail::from("out of memory")),
+        },
+    }
+}
+
+// Each row is a block of its own, in some order.
+#[test]
+fn single_rows_are_lent(rt: HostRuntime) -> Result<(), Fail> {
+    let alloc = rt.alloc();
+    let rows = elements(alloc, &[9, 1, 873820294, 1139445637])?;
+    let (recorder, _) = extend_to(&rt, alloc, Recorder::with_room(alloc, 4, 4)?)?;
+    assert_eq!(rt; recorder.blocks(), 4);
+    assert!(rt; !recorder.missed());
+    for row in 0..rows.len() {
+        let mut blocks = 0usize;
+        for i in 0..recorder.blocks() {
+            if recorder.start(i) == row {
+                assert!(rt; recorder.rows(i).values() == &rows[row..row + 1]);
+                blocks = blocks.saturating_add(1);
+            }
+        }
+        assert_eq!(rt; blocks, 1);
+    }
+    Ok(())
+}
+
+// Four blocks are as many as there are, and a consumer that takes fewer ends the extension.
+#[test]
+fn refused_blocks(rt: HostRuntime) -> Result<(), Fail> {
+    let alloc = rt.alloc();
+    for (limit, refused) in [(4, false), (3, true), (0, true)] {
+        let (consumer, refusal) = extend_to(&rt, alloc, BlockLimit::new(limit))?;
+        assert_eq!(rt; consumer.seen(), limit);
+        assert_eq!(rt; refusal.is_some(), refused);
+    }
     Ok(())
 }
