@@ -5,7 +5,8 @@
 //! `Residue31` is such a field for each record of `Numbers` with a modulus below `2^31`: `BabyBear`
 //! and `KoalaBear` are made of it. `Goldilocks` has a modulus below `2^64`. `PackedField` handles
 //! several scalars by one operation, as `Residue31X8` eight of a `Residue31`, and `Products` counts
-//! the products that were made, for contracts alone.
+//! the products that were made, for contracts alone. `BasedVectorSpace` is what elements with
+//! coordinates are, as `Coordinates`.
 #![tactic(auto)]
 
 pub mod algebra;

@@ -130,6 +130,30 @@ fn worked_pairs(rt: HostRuntime) -> Result<(), Fail> {
     on_every_engine(&rt, rt.alloc(), &ExtendedPairs)
 }
 
+// The form of an inverse on a coset in dimension one, and that of one column.
+fn undone<D: TwoAdicSubgroupDft<BabyBear>>(
+    rt: &impl Abort,
+    engine: &mut D,
+    mat: &Matrix,
+    shift: BabyBear,
+) -> Result<Matrix, Fail> {
+    let mat = mat.try_clone()?;
+    assert!(rt; fits_dft::<BabyBear>(mat.height(), mat.width()));
+    assert!(rt; has_inverse(shift));
+    Ok(engine.coset_idft_algebra_batch(mat, shift)?)
+}
+
+fn column_undone<D: TwoAdicSubgroupDft<BabyBear>>(
+    rt: &impl Abort,
+    engine: &mut D,
+    column: Vec<BabyBear>,
+    shift: BabyBear,
+) -> Result<Vec<BabyBear>, Fail> {
+    assert!(rt; fits_dft::<BabyBear>(column.len(), 1));
+    assert!(rt; has_inverse(shift));
+    Ok(engine.coset_idft_algebra(column, shift)?)
+}
+
 // At one shape: in dimension one each form is the call over the field.
 #[derive(Drop)]
 struct DimensionOne {
@@ -147,14 +171,13 @@ impl EngineTest for DimensionOne {
         let shift = BabyBear::GENERATOR;
         let x = sample(alloc, self.height, self.width, 3)?;
         assert!(rt; fits_dft::<BabyBear>(x.height(), x.width()));
-        assert!(rt; has_inverse(shift));
         let values = engine.dft_algebra_batch(x.try_clone()?)?;
         assert!(rt; values == dft(rt, engine, &x)?);
         let values = engine.coset_dft_algebra_batch(x.try_clone()?, shift)?;
         assert!(rt; values == coset_dft(rt, engine, &x, shift)?);
         let coefficients = engine.idft_algebra_batch(x.try_clone()?)?;
         assert!(rt; coefficients == idft(rt, engine, &x)?);
-        let coefficients = engine.coset_idft_algebra_batch(x.try_clone()?, shift)?;
+        let coefficients = undone(rt, engine, &x, shift)?;
         assert!(rt; coefficients == coset_idft(rt, engine, &x, shift)?);
         Ok(())
     }
@@ -204,9 +227,7 @@ impl EngineTest for ColumnInDimensionOne {
         assert!(rt; fits_dft::<BabyBear>(column.len(), 1));
         let values = engine.coset_dft_algebra(column, shift)?;
         assert!(rt; values.as_slice() == coset_dft(rt, engine, &x, shift)?.values());
-        assert!(rt; fits_dft::<BabyBear>(values.len(), 1));
-        assert!(rt; has_inverse(shift));
-        let column = engine.coset_idft_algebra(values, shift)?;
+        let column = column_undone(rt, engine, values, shift)?;
         assert!(rt; column.as_slice() == x.values());
         assert!(rt; fits_lde::<BabyBear>(column.len(), 1, 1));
         let values = engine.coset_lde_algebra(column, 1, shift)?;
@@ -265,44 +286,51 @@ fn coordinates<V: BasedVectorSpace<BabyBear>>(
     matrix_of(column, 1)
 }
 
-// At one width and dimension: each coordinate of each column is transformed as if it stood alone.
+// Each coordinate of each column is transformed as if it stood alone.
+fn alone<V: BasedVectorSpace<BabyBear> + Copy, D: TwoAdicSubgroupDft<BabyBear>>(
+    rt: &impl Abort,
+    alloc: Global,
+    engine: &mut D,
+    width: usize,
+) -> Result<(), Fail> {
+    let shift = BabyBear::GENERATOR;
+    let x: RowMajorMatrix<V> = elements(alloc, 4, width)?;
+    let row = x.width().checked_mul(V::DIMENSION).ok_or("too wide")?;
+    assert!(rt; fits_dft::<BabyBear>(x.height(), row));
+    let values = engine.coset_dft_algebra_batch(x.try_clone()?, shift)?;
+    for j in 0..width {
+        for t in 0..V::DIMENSION {
+            let alone = coset_dft(rt, engine, &coordinates(alloc, &x, j, t)?, shift)?;
+            assert!(rt; coordinates(alloc, &values, j, t)? == alone);
+        }
+    }
+    Ok(())
+}
+
+// At one width, in some dimensions.
 #[derive(Drop)]
-struct EachAlone<const DIM: usize> {
+struct EachAlone {
     width: usize,
 }
 
-impl<const DIM: usize> EngineTest for EachAlone<DIM> {
+impl EngineTest for EachAlone {
     fn run<R: Abort, D: TwoAdicSubgroupDft<BabyBear>>(
         &self,
         rt: &R,
         alloc: Global,
         engine: &mut D,
     ) -> Result<(), Fail> {
-        let shift = BabyBear::GENERATOR;
-        let x: RowMajorMatrix<Coordinates<BabyBear, DIM>> = elements(alloc, 4, self.width)?;
-        let row = x.width().checked_mul(DIM).ok_or("too wide")?;
-        assert!(rt; fits_dft::<BabyBear>(x.height(), row));
-        let values = engine.coset_dft_algebra_batch(x.try_clone()?, shift)?;
-        for j in 0..self.width {
-            for t in 0..DIM {
-                let alone = coset_dft(rt, engine, &coordinates(alloc, &x, j, t)?, shift)?;
-                assert!(rt; coordinates(alloc, &values, j, t)? == alone);
-            }
-        }
-        Ok(())
+        alone::<Coordinates<BabyBear, 1>, D>(rt, alloc, engine, self.width)?;
+        alone::<Coordinates<BabyBear, 2>, D>(rt, alloc, engine, self.width)?;
+        alone::<Coordinates<BabyBear, 3>, D>(rt, alloc, engine, self.width)?;
+        alone::<Coordinates<BabyBear, 8>, D>(rt, alloc, engine, self.width)
     }
 }
 
 #[test]
 fn each_coordinate_alone(rt: HostRuntime) -> Result<(), Fail> {
-    let alloc = rt.alloc();
-    for width in [1usize, 3] {
-        on_every_engine(&rt, alloc, &EachAlone::<1> { width })?;
-        on_every_engine(&rt, alloc, &EachAlone::<2> { width })?;
-        on_every_engine(&rt, alloc, &EachAlone::<3> { width })?;
-        on_every_engine(&rt, alloc, &EachAlone::<8> { width })?;
-    }
-    Ok(())
+    on_every_engine(&rt, rt.alloc(), &EachAlone { width: 1 })?;
+    on_every_engine(&rt, rt.alloc(), &EachAlone { width: 3 })
 }
 
 // Where memory is refused, the height stays prepared.

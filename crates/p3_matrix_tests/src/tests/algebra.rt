@@ -3,32 +3,35 @@
 use p3_field::{BabyBear, BasedVectorSpace, Coordinates, Field, Goldilocks, KoalaBear};
 use std::process::Abort;
 
-// The element with coordinates 1, 2, 3, .. has these, and is no other.
-fn there_and_back<F: Field, V: BasedVectorSpace<F> + PartialEq>(rt: &impl Abort, dimension: usize) {
-    let numbers = [1usize, 2, 3, 4, 5, 6, 7, 8].map(|n: usize| -> F { F::from_usize(n) });
-    assert_eq!(rt; V::DIMENSION, dimension);
-    assert!(rt; dimension <= 8);
-    let element = V::from_coordinates(&numbers[..dimension]);
-    for i in 0..dimension {
+// The element with these coordinates has them, and is the one that has.
+fn there_and_back<F: Field, V: BasedVectorSpace<F> + PartialEq>(rt: &impl Abort, numbers: &[F]) {
+    assert_eq!(rt; V::DIMENSION, numbers.len());
+    let element = V::from_coordinates(numbers);
+    for i in 0..numbers.len() {
         assert!(rt; element.coordinate(i) == numbers[i]);
     }
-    assert!(rt; element == V::from_coordinates(&numbers[..dimension]));
-    assert!(rt; element != V::from_coordinates(&numbers[8 - dimension..]) || dimension == 8);
+    assert!(rt; element == V::from_coordinates(numbers));
 }
 
 #[test]
 fn coordinates(rt: HostRuntime) {
-    there_and_back::<BabyBear, Coordinates<BabyBear, 1>>(&rt, 1);
-    there_and_back::<BabyBear, Coordinates<BabyBear, 2>>(&rt, 2);
-    there_and_back::<Goldilocks, Coordinates<Goldilocks, 3>>(&rt, 3);
-    there_and_back::<BabyBear, Coordinates<BabyBear, 4>>(&rt, 4);
-    there_and_back::<KoalaBear, Coordinates<KoalaBear, 5>>(&rt, 5);
-    there_and_back::<BabyBear, Coordinates<BabyBear, 6>>(&rt, 6);
-    there_and_back::<BabyBear, Coordinates<BabyBear, 7>>(&rt, 7);
-    there_and_back::<Goldilocks, Coordinates<Goldilocks, 8>>(&rt, 8);
-    there_and_back::<BabyBear, BabyBear>(&rt, 1);
-    there_and_back::<KoalaBear, KoalaBear>(&rt, 1);
-    there_and_back::<Goldilocks, Goldilocks>(&rt, 1);
+    let numbers = [1u8, 2, 3, 4, 5, 6, 7, 8].map(|n: u8| -> BabyBear { BabyBear::from_u8(n) });
+    let all = &numbers[..];
+    there_and_back::<BabyBear, Coordinates<BabyBear, 1>>(&rt, &all[..1]);
+    there_and_back::<BabyBear, Coordinates<BabyBear, 2>>(&rt, &all[..2]);
+    there_and_back::<BabyBear, Coordinates<BabyBear, 3>>(&rt, &all[..3]);
+    there_and_back::<BabyBear, Coordinates<BabyBear, 4>>(&rt, &all[..4]);
+    there_and_back::<BabyBear, Coordinates<BabyBear, 5>>(&rt, &all[..5]);
+    there_and_back::<BabyBear, Coordinates<BabyBear, 6>>(&rt, &all[..6]);
+    there_and_back::<BabyBear, Coordinates<BabyBear, 7>>(&rt, &all[..7]);
+    there_and_back::<BabyBear, Coordinates<BabyBear, 8>>(&rt, &all[..8]);
+}
+
+#[test]
+fn fields(rt: HostRuntime) {
+    there_and_back::<BabyBear, BabyBear>(&rt, [BabyBear::TWO].as_slice());
+    there_and_back::<KoalaBear, KoalaBear>(&rt, [KoalaBear::TWO].as_slice());
+    there_and_back::<Goldilocks, Goldilocks>(&rt, [Goldilocks::TWO].as_slice());
 }
 
 #[test]
