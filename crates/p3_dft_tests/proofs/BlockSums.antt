@@ -1,5 +1,5 @@
 -- Sums over lists, and over the blocks of a matrix: whatever the order of the blocks, the sum of theirs is that of all entries.
-use Rattle.std.proofs.Common.{◌≡◌, ℕ, zero, suc, ◌+◌, ◌*◌, ◌-◌, ◌/◌, ◌%◌, ◌<◌, ◌≤◌, List, [], ◌∷◌, ◌++◌, length, get_or, take, drop, slice_range, Result, Ok, refl, sym, ap, ap₂, ◌∙◌, arith, add-one, ⊎_elim}
+use Rattle.std.proofs.Common.{◌≡◌, ℕ, zero, suc, ◌+◌, ◌*◌, ◌/◌, ◌<◌, ◌≤◌, List, [], ◌∷◌, ◌++◌, length, get_or, take, drop, slice_range, Result, Ok, refl, sym, ap, ap₂, ◌∙◌, arith, add-one, ⊎_elim}
 use Rattle.std.specs.Prelude.{⊤, IsPermutation}
 use Rattle.std.specs.List.{swap}
 use Rattle.std.proofs.Math.ListN.{set}
