@@ -85,9 +85,11 @@ pub(crate) fn extend<F: TwoAdicField, C: BlockConsumer<F>>(
         (bit_reversal (log_h + added_bits) (values_of F.Field.own mat.new))) }
     ensures published { OnOk result ((blocks : List (ℕ × RowMajor F))
         × IsPartition (2 ^ (log_h - (log_h + 1) / 2)) mat.new blocks × Run C.step consumer.old blocks consumer.new) }
-    ensures refused { IfErr result (λ refusal. (c : RowMajor F) → IsRowMajor c → height c ≡ 2 ^ log_h → mat.old ≡ with_zeros F.ZERO c added_bits
+    ensures refused { IfErr result (λ refusal. (c : RowMajor F) → IsRowMajor c → height c ≡ 2 ^ log_h
+        → mat.old ≡ with_zeros F.ZERO c added_bits
         → (out : Matrix F.Element) × (accepted : List (ℕ × RowMajor F)) × (refused : ℕ × RowMajor F)
-        × IsValues F.ring (λ n. F.value (F.generator n)) (bit_reversal log_h (values_of F.Field.own c)) (log_h + added_bits) (F.value shift) out
+        × IsValues F.ring (λ n. F.value (F.generator n)) (bit_reversal log_h (values_of F.Field.own c)) (log_h + added_bits)
+        (F.value shift) out
         × AreBlocksOf (values_of F.Field.own) (2 ^ (log_h - (log_h + 1) / 2)) (bit_reversal (log_h + added_bits) out)
         (accepted ++ refused ∷ []) × RunToRefusal C.step consumer.old accepted refused refusal consumer.new) }
     ensures grows { products.old ≤ products.new }

@@ -1,7 +1,8 @@
 //! An extension coset by coset. Of its `2^(log_h + added_bits)` rows each run of `2^log_h` is a slot, which
 //! gets the values on a coset of its own. The coefficients are the first slot, in bit reversed order.
 
-ghost use Rattle.std.specs.Prelude.{◌≡◌, ℕ, ◌+◌, ◌-◌, ◌*◌, ◌/◌, ◌^◌, ◌<◌, ◌≤◌, ◌++◌, ◌∷◌, [], List, IfErr, IsPermutation, OnOk, get_or, length};
+ghost use Rattle.std.specs.Prelude.{◌≡◌, ℕ, ◌+◌, ◌-◌, ◌*◌, ◌/◌, ◌^◌, ◌<◌, ◌≤◌, ◌++◌, ◌∷◌, [], List};
+ghost use Rattle.std.specs.Prelude.{IfErr, IsPermutation, OnOk, get_or, length};
 ghost use Rattle.p3_field.specs.Ring.{AreRoots};
 ghost use Rattle.p3_matrix.specs.BitOrder.{rev};
 ghost use Rattle.p3_matrix.specs.Blocks.{AreBlocksOf, Run, RunToRefusal};
