@@ -4,11 +4,13 @@
 ghost use Rattle.std.specs.Prelude.{◌≡◌, Ok};
 ghost use Rattle.p3_matrix.specs.RowMajor.{HasShapeOf};
 
-use super::{EngineTest, LimitedDft, Matrix, doubled, elements, matrix, on_every_engine, sample};
+use super::{
+    EngineTest, LimitedDft, Matrix, doubled, elements, matrix, matrix_of, on_every_engine, sample,
+};
 use p3_dft::{
     BabyBear, BlockConsumer, BlockLimit, BlockRefused, BlocksStopped, CanonicalField, Evaluations,
-    Field, Layout, NaiveDft, Radix2Dit, Recorder, RowMajorMatrixView, TwoAdicField,
-    TwoAdicSubgroupDft, Unpublished, fits_lde,
+    Field, Layout, NaiveDft, Radix2Dit, Radix2DitParallel, Recorder, RowMajorMatrixView,
+    TwoAdicField, TwoAdicSubgroupDft, Unpublished, fits_lde,
 };
 use std::alloc::Global;
 use std::cell::Cell;
@@ -250,6 +252,32 @@ fn one_block(rt: HostRuntime) -> Result<(), Fail> {
         let (_, recorder) = extend_to(&rt, &mut engine, &mat, 1, BabyBear::ONE, recorder)?;
         assert_eq!(rt; recorder.blocks(), kept);
         assert_eq!(rt; recorder.missed(), kept == 0);
+    }
+    Ok(())
+}
+
+// The numbers from one on, row after row.
+fn counting(alloc: Global, height: usize, width: usize) -> Result<Matrix, Fail> {
+    let count = height.checked_mul(width).ok_or("too many entries")?;
+    let mut entries = Vec::new(alloc);
+    for i in 0..count {
+        entries.push(BabyBear::from_usize(i + 1))?;
+    }
+    matrix_of(entries, width)
+}
+
+// Of 32 blocks of four rows as many are kept as there is room for.
+#[test]
+fn blocks_of_four_rows(rt: HostRuntime) -> Result<(), Fail> {
+    let alloc = rt.alloc();
+    let mut engine = Radix2DitParallel::default();
+    let mat = counting(alloc, 16, 17)?;
+    for (blocks, elements, kept) in [(32, 2176, 32), (31, 2176, 31), (32, 2175, 31)] {
+        let recorder = Recorder::with_room(alloc, blocks, elements)?;
+        let (out, recorder) = extend_to(&rt, &mut engine, &mat, 3, BabyBear::GENERATOR, recorder)?;
+        assert!(rt; recorder.blocks() == kept);
+        assert!(rt; recorder.missed() == (kept < 32));
+        assert!(rt; has_each_row_once(&out, &recorder) == (kept == 32));
     }
     Ok(())
 }

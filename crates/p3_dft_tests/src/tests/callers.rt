@@ -276,41 +276,71 @@ fn prepared_heights_answer(rt: HostRuntime) -> Result<(), Fail> {
 }
 
 #[test]
-fn promised_heights_answer(rt: HostRuntime) -> Result<(), Fail> {
+fn promised_height_answers(rt: HostRuntime) -> Result<(), Fail> {
     let alloc = rt.alloc();
     let values: Matrix = matrix(alloc, &[5, 4], 1)?;
     assert!(rt; fits_dft::<BabyBear>(values.height(), values.width()));
-    assert_eq!(rt; values.height(), 2);
-    let mut parallel = Radix2DitParallel::<BabyBear>::default();
-    parallel.prepare(alloc, 1)?;
-    let there = transform_promised(&mut parallel, values.try_clone()?, 1)?;
+    assert!(rt; values.height() == 2);
+    let mut engine = Radix2DitParallel::<BabyBear>::default();
+    engine.prepare(alloc, 1)?;
+    let there = transform_promised(&mut engine, values, 1)?;
     assert!(rt; there.to_row_major_matrix() == matrix(alloc, &[9, 1], 1)?);
-    let mut small = Radix2DFTSmallBatch::<BabyBear>::default();
-    small.prepare(alloc, 1)?;
-    let there = transform_promised(&mut small, values.try_clone()?, 1)?;
+    Ok(())
+}
+
+#[test]
+fn promised_height_answers_by_tiles(rt: HostRuntime) -> Result<(), Fail> {
+    let alloc = rt.alloc();
+    let values: Matrix = matrix(alloc, &[5, 4], 1)?;
+    assert!(rt; fits_dft::<BabyBear>(values.height(), values.width()));
+    assert!(rt; values.height() == 2);
+    let mut engine = Radix2DFTSmallBatch::<BabyBear>::default();
+    engine.prepare(alloc, 1)?;
+    let there = transform_promised(&mut engine, values, 1)?;
     assert!(rt; there == matrix(alloc, &[9, 1], 1)?);
-    let mut dit = Radix2Dit::<BabyBear>::default();
-    dit.prepare(alloc, 1)?;
-    let there = transform_on_promised_coset(&mut dit, values, 1, BabyBear::TWO)?;
+    Ok(())
+}
+
+#[test]
+fn promised_coset_answers(rt: HostRuntime) -> Result<(), Fail> {
+    let alloc = rt.alloc();
+    let values: Matrix = matrix(alloc, &[5, 4], 1)?;
+    assert!(rt; fits_dft::<BabyBear>(values.height(), values.width()));
+    assert!(rt; values.height() == 2);
+    let mut engine = Radix2Dit::<BabyBear>::default();
+    engine.prepare(alloc, 1)?;
+    let there = transform_on_promised_coset(&mut engine, values, 1, BabyBear::TWO)?;
     assert!(rt; there == matrix(alloc, &[13, 2013265918], 1)?);
     Ok(())
 }
 
 #[test]
-fn known_cosets_answer(rt: HostRuntime) -> Result<(), Fail> {
+fn known_coset_answers(rt: HostRuntime) -> Result<(), Fail> {
     let alloc = rt.alloc();
     let values: Matrix = matrix(alloc, &[5, 4], 1)?;
     assert!(rt; fits_dft::<BabyBear>(values.height(), values.width()));
-    assert_eq!(rt; values.height(), 2);
+    assert!(rt; values.height() == 2);
     let mut engine = Radix2DitParallel::<BabyBear>::default();
     let shift = BabyBear::TWO;
     transform_on_new_coset(&mut engine, values.try_clone()?, 1, shift)?;
-    assert!(rt; fits_lde::<BabyBear>(values.height(), values.width(), 1));
-    let extended = extend_beside_a_coset(&mut engine, values.try_clone()?, 1, 1, shift)?;
-    let wanted = matrix(alloc, &[5, 864202261, 4, 1149063669], 1)?;
-    assert!(rt; extended.to_row_major_matrix() == wanted);
     let there = transform_on_known_coset(&mut engine, values, 1, shift)?;
     assert!(rt; there.to_row_major_matrix() == matrix(alloc, &[13, 2013265918], 1)?);
+    Ok(())
+}
+
+#[test]
+fn known_coset_stays(rt: HostRuntime) -> Result<(), Fail> {
+    let alloc = rt.alloc();
+    let values: Matrix = matrix(alloc, &[5, 4], 1)?;
+    assert!(rt; fits_dft::<BabyBear>(values.height(), values.width()));
+    assert!(rt; values.height() == 2);
+    assert!(rt; fits_lde::<BabyBear>(values.height(), values.width(), 1));
+    let mut engine = Radix2DitParallel::<BabyBear>::default();
+    let shift = BabyBear::TWO;
+    transform_on_new_coset(&mut engine, values.try_clone()?, 1, shift)?;
+    let extended = extend_beside_a_coset(&mut engine, values, 1, 1, shift)?;
+    let wanted = matrix(alloc, &[5, 864202261, 4, 1149063669], 1)?;
+    assert!(rt; extended.to_row_major_matrix() == wanted);
     Ok(())
 }
 
