@@ -113,14 +113,19 @@ impl<F: TwoAdicField> Radix2DitParallel<F> {
 }
 
 impl<F: TwoAdicField> TwoAdicSubgroupDft<F> for Radix2DitParallel<F> {
-    ghost use Rattle.std.specs.Prelude.{◌≡◌, ◌≢◌, ◌⊎◌, ⊤, ℕ, ◌+◌, ◌-◌, ◌*◌, ◌/◌, ◌^◌, ◌≤◌, [], ◌∷◌, ◌++◌, IfOk, IsOk, OnOk, OnErr, Ok};
+    ghost use Rattle.std.specs.Prelude.{◌≡◌, ◌≢◌, ◌⊎◌, ⊤, ℕ, ◌+◌, ◌-◌, ◌*◌, ◌/◌, ◌^◌, ◌≤◌, [], ◌∷◌, ◌++◌};
+    ghost use Rattle.std.specs.Prelude.{IfErr, IfOk, IsOk, OnOk, OnErr, Ok};
     ghost use Rattle.std.proofs.Common.{arith, refl};
-    ghost use Rattle.p3_matrix.specs.BitOrder.{reversed_rows};
+    ghost use Rattle.p3_matrix.specs.BitOrder.{bit_reversal, reversed_rows};
     ghost use Rattle.p3_matrix.specs.RowMajor.{HasShapeOf, RowMajor, height};
     ghost use Rattle.p3_dft.specs.Engines.{AtLog, IsLater, IsCosetPrepared, IsPrepared, PreparesNoneAbove};
-    ghost use Rattle.p3_dft.specs.Extensions.{IsTransformedExtension, extension_bound};
+    ghost use Rattle.p3_networks.specs.Twiddles.{HasCoset, HasCosets};
+    ghost use Rattle.p3_dft.specs.Extensions.{AreTransformedValues, IsTransformedExtension, extension_bound};
+    ghost use Rattle.p3_dft.specs.Blocks.{OnOutOfMemory, OnRefused, UnlessOutOfMemory};
+    ghost use Rattle.p3_matrix.specs.Blocks.{IsPublished, IsRefused};
+    ghost use Rattle.p3_matrix.specs.Matrix.{Matrix};
     ghost use Rattle.p3_dft.specs.Shapes.{FitsDft, FitsLde};
-    ghost use Rattle.p3_dft.specs.Transforms.{IsInterpolation, IsTransform};
+    ghost use Rattle.p3_dft.specs.Transforms.{IsInterpolation, IsTransform, values_of};
     ghost use Rattle.p3_dft.specs.declared.traits.Layout.TheVariants.{BitReversed};
 
     type Evaluations = BitReversedMatrixView<RowMajorMatrix<F>>;
@@ -285,7 +290,24 @@ impl<F: TwoAdicField> TwoAdicSubgroupDft<F> for Radix2DitParallel<F> {
         added_bits: usize,
         shift: F,
         transform: T,
-    ) -> Result<BitReversedMatrixView<RowMajorMatrix<F>>, DftError> {
+    ) -> Result<BitReversedMatrixView<RowMajorMatrix<F>>, DftError>
+        requires fits { FitsLde F.TWO_ADICITY (height (N.stored mat)) (N.stored mat).width added_bits }
+        requires callable { (m : RowMajor F) → HasShapeOf m (N.stored mat) → T.pre transform m BitReversed }
+        requires shape { (m n : RowMajor F) → HasShapeOf m (N.stored mat) → T.post transform m BitReversed n → HasShapeOf n (N.stored mat) }
+        ensures values { IfOk result (λ out. IsTransformedExtension F.Field.own F.generator
+            (λ m n. T.post transform m BitReversed n) BitReversed
+            (N.stored mat) added_bits (F.value shift) (reversed_rows out.bits out.physical)) }
+        ensures prepared { AtLog (height (N.stored mat)) (λ k. OnOk result (IsPrepared self.new.roots k)) }
+        ensures tables { AtLog (height (N.stored mat)) (λ k. OnOk result
+            (HasCosets F.Field.own F.generator self.new.cosets k added_bits (F.value shift))) }
+        ensures only { AtLog (height (N.stored mat)) (λ k. PreparesNoneAbove k self.old.roots self.new.roots) }
+        ensures keeps_tables { (k : ℕ) (s : F.Element) → HasCoset F.Field.own self.old.cosets k s
+            → HasCoset F.Field.own self.new.cosets k s }
+        ensures later { IsLater (λ e. IsPrepared e.roots) (λ e k s. IsCosetPrepared F.Field.own e k (F.value s))
+            (λ _ _. ⊤) (λ e. e.roots.products) self.old self.new }
+        ensures cost { AtLog (height (N.stored mat)) (λ k. OnOk result (self.new.roots.products
+            ≤ self.old.roots.products + (N.stored mat).width * (k * 2 ^ k / 2 * (1 + 2 ^ added_bits) + 2 ^ k))) }
+    {
         let mat = mat.into_row_major_matrix();
         let log_h = log2_strict_usize(mat.height());
         let mut mat = coefficients_with_room(
@@ -327,7 +349,33 @@ impl<F: TwoAdicField> TwoAdicSubgroupDft<F> for Radix2DitParallel<F> {
         shift: F,
         transform: T,
         make_consumer: M,
-    ) -> Result<(BitReversedMatrixView<RowMajorMatrix<F>>, C), BlocksStopped<M, C, C::Refusal>> {
+    ) -> Result<(BitReversedMatrixView<RowMajorMatrix<F>>, C), BlocksStopped<M, C, C::Refusal>>
+        requires fits { FitsLde F.TWO_ADICITY (height (N.stored mat)) (N.stored mat).width added_bits }
+        requires callable { (m : RowMajor F) → HasShapeOf m (N.stored mat) → T.pre transform m BitReversed }
+        requires shape { (m n : RowMajor F) → HasShapeOf m (N.stored mat) → T.post transform m BitReversed n → HasShapeOf n (N.stored mat) }
+        requires makes { AtLog (height (N.stored mat)) (λ k. M.pre make_consumer (2 ^ (k - (k + 1) / 2))) }
+        ensures values { IfOk result (λ p. IsTransformedExtension F.Field.own F.generator
+            (λ m n. T.post transform m BitReversed n) BitReversed
+            (N.stored mat) added_bits (F.value shift) (reversed_rows p.0.bits p.0.physical)) }
+        ensures published { IfOk result (λ p. AtLog (height (N.stored mat)) (λ k.
+            IsPublished C.step (λ c. M.post make_consumer (2 ^ (k - (k + 1) / 2)) c) (2 ^ (k - (k + 1) / 2)) p.0.physical p.1)) }
+        ensures refused { IfErr result (λ e. OnRefused e (λ c r. AtLog (height (N.stored mat)) (λ k. (out : Matrix F.Element)
+            × AreTransformedValues F.Field.own F.generator (λ m n. T.post transform m BitReversed n) BitReversed
+            (N.stored mat) added_bits (F.value shift) out
+            × IsRefused C.step (λ c. M.post make_consumer (2 ^ (k - (k + 1) / 2)) c) (values_of F.Field.own)
+            (2 ^ (k - (k + 1) / 2)) (bit_reversal (k + added_bits) out) c r))) }
+        ensures unpublished { IfErr result (λ e. OnOutOfMemory e (λ m. m ≡ make_consumer)) }
+        ensures prepared { AtLog (height (N.stored mat)) (λ k. UnlessOutOfMemory result (IsPrepared self.new.roots k)) }
+        ensures tables { AtLog (height (N.stored mat)) (λ k. UnlessOutOfMemory result
+            (HasCosets F.Field.own F.generator self.new.cosets k added_bits (F.value shift))) }
+        ensures only { AtLog (height (N.stored mat)) (λ k. PreparesNoneAbove k self.old.roots self.new.roots) }
+        ensures keeps_tables { (k : ℕ) (s : F.Element) → HasCoset F.Field.own self.old.cosets k s
+            → HasCoset F.Field.own self.new.cosets k s }
+        ensures later { IsLater (λ e. IsPrepared e.roots) (λ e k s. IsCosetPrepared F.Field.own e k (F.value s))
+            (λ _ _. ⊤) (λ e. e.roots.products) self.old self.new }
+        ensures cost { AtLog (height (N.stored mat)) (λ k. UnlessOutOfMemory result (self.new.roots.products
+            ≤ self.old.roots.products + (N.stored mat).width * (k * 2 ^ k / 2 * (1 + 2 ^ added_bits) + 2 ^ k))) }
+    {
         let mat = mat.into_row_major_matrix();
         let log_h = log2_strict_usize(mat.height());
         let room = coefficients_with_room(

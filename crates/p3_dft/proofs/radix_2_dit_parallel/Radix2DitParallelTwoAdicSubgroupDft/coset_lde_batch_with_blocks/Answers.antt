@@ -1,16 +1,17 @@
-use Rattle.std.proofs.Common.{◌≡◌, ℕ, ◌+◌, ◌-◌, ◌*◌, ◌/◌, ◌%◌, ◌^◌, ◌≤◌, ◌++◌, ◌∷◌, [], sym, ap, ap₂, ◌∙◌, subst, arith}
+use Rattle.std.proofs.Common.{◌⊎◌, ◌≡◌, ℕ, ◌+◌, ◌-◌, ◌*◌, ◌/◌, ◌%◌, ◌^◌, ◌≤◌, ◌++◌, ◌∷◌, [], sym, ap, ap₂, ◌∙◌, subst, arith}
 use Rattle.std.proofs.lemmas.Nat.{one_shl}
 use Rattle.p3_matrix.specs.BitOrder.{bit_reversal}
 use Rattle.p3_matrix.specs.Blocks.{AreBlocksOf, IsPartition}
 use Rattle.p3_matrix.specs.RowMajor.{RowMajor, HasShapeOf, IsRowMajor, height}
 use Rattle.p3_matrix.proofs.TwoPowers.{log_same}
+use Rattle.p3_networks.specs.Twiddles.{HasCoset}
 use Rattle.p3_dft.specs.Engines.{CosetTabled, IsPrepared}
 use Rattle.p3_dft.specs.Transforms.{values_of}
 use Rattle.p3_dft.proofs.BitReversed.Coefficients.{extension_of_answered, values_of_answered}
 use Rattle.p3_dft.proofs.BitReversed.Rows.{values_seen}
 use Rattle.p3_dft.proofs.Calls.Padding.{padded_shape, padded_whole}
 use Rattle.p3_dft.proofs.Calls.PreparedCosets.{later_with_tables}
-use Rattle.p3_dft.proofs.Calls.PreparedHeights.{prepared_until, until_prepared}
+use Rattle.p3_dft.proofs.Calls.PreparedHeights.{prepared_before, prepared_until, until_prepared}
 use Rattle.p3_dft.proofs.Calls.Shapes.{output_log_small}
 use Rattle.p3_dft.proofs.radix_2_dit_parallel.Radix2DitParallelTwoAdicSubgroupDft.coset_lde_batch_with_blocks.Goals as goal
 
@@ -175,3 +176,36 @@ returns-in-Err-extended-clause-cost g c k e =
     subst (λ (n : ℕ). c.extend-extended.new.products ≤ c.coefficients_with_room-room.new.products + 2 ^ a * (w * (n * 2 ^ n / 2))) same
     (subst (λ (v : ℕ). c.extend-extended.new.products ≤ c.coefficients_with_room-room.new.products + 2 ^ a * (v * (log * 2 ^ log / 2))) grown c.extend-extended.ensures.cost) in
     slots_counted x (2 ^ k) (2 ^ a) w _ _ _ first second
+
+pub returns-in-Err-clause-only : goal.returns-in-Err-clause-only
+returns-in-Err-clause-only g c k e n now =
+    subst (λ (x : CosetTabled g.row.F.Denot). IsPrepared x.roots n ⊎ (n ≤ k)) c.self.view_is
+    (prepared_before c.self.inside.tables c.coefficients_with_room-room.new.tables k n (c.coefficients_with_room-room.ensures.only k (ap height c.into_row_major_matrix-mat.ensures ∙ e)) now)
+
+pub returns-in-Err-clause-keeps_tables : goal.returns-in-Err-clause-keeps_tables
+returns-in-Err-clause-keeps_tables g c k s has =
+    c.coefficients_with_room-room.ensures.keeps_cosets k s (subst (λ (x : CosetTabled g.row.F.Denot). HasCoset g.F.Field x.cosets k s) (sym c.self.view_is) has)
+
+pub returns-in-Err-extended-clause-only : goal.returns-in-Err-extended-clause-only
+returns-in-Err-extended-clause-only g c k e n now =
+    subst (λ (x : CosetTabled g.row.F.Denot). IsPrepared x.roots n ⊎ (n ≤ k)) c.self.view_is
+    (prepared_before c.self.inside.tables c.coefficients_with_room-room.new.tables k n (c.coefficients_with_room-room.ensures.only k (ap height c.into_row_major_matrix-mat.ensures ∙ e)) now)
+
+pub returns-in-Err-extended-clause-keeps_tables : goal.returns-in-Err-extended-clause-keeps_tables
+returns-in-Err-extended-clause-keeps_tables g c k s has =
+    c.coefficients_with_room-room.ensures.keeps_cosets k s (subst (λ (x : CosetTabled g.row.F.Denot). HasCoset g.F.Field x.cosets k s) (sym c.self.view_is) has)
+
+pub returns-in-Err-extended-clause-prepared : goal.returns-in-Err-extended-clause-prepared
+returns-in-Err-extended-clause-prepared g c k e = prepared_until _ k (c.in-Ok.ensures.prepared k (ap height c.into_row_major_matrix-mat.ensures ∙ e))
+
+pub returns-clause-only : goal.returns-clause-only
+returns-clause-only g c k e n now =
+    subst (λ (x : CosetTabled g.row.F.Denot). IsPrepared x.roots n ⊎ (n ≤ k)) c.self.view_is
+    (prepared_before c.self.inside.tables c.coefficients_with_room-room.new.tables k n (c.coefficients_with_room-room.ensures.only k (ap height c.into_row_major_matrix-mat.ensures ∙ e)) now)
+
+pub returns-clause-keeps_tables : goal.returns-clause-keeps_tables
+returns-clause-keeps_tables g c k s has =
+    c.coefficients_with_room-room.ensures.keeps_cosets k s (subst (λ (x : CosetTabled g.row.F.Denot). HasCoset g.F.Field x.cosets k s) (sym c.self.view_is) has)
+
+pub returns-clause-prepared : goal.returns-clause-prepared
+returns-clause-prepared g c k e = prepared_until _ k (c.in-Ok.ensures.prepared k (ap height c.into_row_major_matrix-mat.ensures ∙ e))

@@ -1,7 +1,8 @@
-use Rattle.std.proofs.Common.{◌≡◌, ℕ, ◌+◌, ◌*◌, ◌/◌, ◌^◌, ◌≤◌, sym, ap, ap₂, ◌∙◌, subst, arith}
+use Rattle.std.proofs.Common.{◌⊎◌, ◌≡◌, ℕ, ◌+◌, ◌*◌, ◌/◌, ◌^◌, ◌≤◌, sym, ap, ap₂, ◌∙◌, subst, arith}
 use Rattle.std.specs.List.{range_with_len}
 use Rattle.p3_matrix.specs.BitOrder.{bit_reversal}
 use Rattle.p3_matrix.specs.RowMajor.{RowMajor, HasShapeOf, IsRowMajor, height}
+use Rattle.p3_matrix.proofs.Consumers.{ok_is_no_err}
 use Rattle.p3_matrix.proofs.TwoPowers.{log_same}
 use Rattle.p3_networks.specs.Twiddles.{HasCoset}
 use Rattle.p3_dft.specs.Engines.{CosetTabled, IsPrepared}
@@ -10,7 +11,7 @@ use Rattle.p3_dft.proofs.BitReversed.Coefficients.{extension_of_answered}
 use Rattle.p3_dft.proofs.BitReversed.Rows.{values_seen}
 use Rattle.p3_dft.proofs.Calls.Padding.{padded_shape, padded_whole}
 use Rattle.p3_dft.proofs.Calls.PreparedCosets.{later_with_tables}
-use Rattle.p3_dft.proofs.Calls.PreparedHeights.{prepared_until, until_prepared}
+use Rattle.p3_dft.proofs.Calls.PreparedHeights.{prepared_before, prepared_until, until_prepared}
 use Rattle.p3_dft.proofs.Calls.Shapes.{output_log_small}
 use Rattle.p3_dft.proofs.radix_2_dit_parallel.Radix2DitParallelTwoAdicSubgroupDft.coset_lde_batch_with_transform.Goals as goal
 
@@ -104,3 +105,31 @@ returns-clause-cost g c k e =
     subst (λ (n : ℕ). c.extend-read.new.products ≤ c.coefficients_with_room.new.products + 2 ^ a * (w * (n * 2 ^ n / 2))) same
     (subst (λ (v : ℕ). c.extend-read.new.products ≤ c.coefficients_with_room.new.products + 2 ^ a * (v * (log * 2 ^ log / 2))) grown c.extend-read.ensures.cost) in
     slots_counted x (2 ^ k) (2 ^ a) w _ _ _ first second
+
+pub unreachable-requires : goal.unreachable-requires
+unreachable-requires g c =
+    let m = c.into_row_major_matrix-mat.result in
+    let log = c.log2_strict_usize-log_h.result in
+    let answer = c.in_ok-mat.ensures.answer in
+    let high : height m ≡ 2 ^ log = sym c.height.ensures.height ∙ c.log2_strict_usize-log_h.ensures.power in
+    let are = answer.are_coefficients log high in
+    let shape : HasShapeOf answer.answered m = rw c.into_row_major_matrix-mat.ensures (c.requires.shape answer.told answer.answered (rw (← c.into_row_major_matrix-mat.ensures) (are.high, are.wide)) answer.called) in
+    let x = c.in-Err.ensures.refused answer.answered answer.whole (shape.0 ∙ high) answer.over_zeros in
+    ok_is_no_err _ _ x.5.stop
+
+pub returns-clause-prepared : goal.returns-clause-prepared
+returns-clause-prepared g c k e = prepared_until _ k (c.in_ok-mat.ensures.prepared k (ap height c.into_row_major_matrix-mat.ensures ∙ e))
+
+pub returns-in_err-mat-clause-only : goal.returns-in_err-mat-clause-only
+returns-in_err-mat-clause-only g c k e n now =
+    subst (λ (x : CosetTabled g.row.F.Denot). IsPrepared x.roots n ⊎ (n ≤ k)) c.self.view_is
+    (prepared_before c.self.inside.tables c.coefficients_with_room.new.tables k n (c.coefficients_with_room.ensures.only k (ap height c.into_row_major_matrix-mat.ensures ∙ e)) now)
+
+pub returns-clause-only : goal.returns-clause-only
+returns-clause-only g c k e n now =
+    subst (λ (x : CosetTabled g.row.F.Denot). IsPrepared x.roots n ⊎ (n ≤ k)) c.self.view_is
+    (prepared_before c.self.inside.tables c.coefficients_with_room.new.tables k n (c.coefficients_with_room.ensures.only k (ap height c.into_row_major_matrix-mat.ensures ∙ e)) now)
+
+pub returns-clause-keeps_tables : goal.returns-clause-keeps_tables
+returns-clause-keeps_tables g c k s has =
+    c.coefficients_with_room.ensures.keeps_cosets k s (subst (λ (x : CosetTabled g.row.F.Denot). HasCoset g.F.Field x.cosets k s) (sym c.self.view_is) has)
