@@ -70,6 +70,8 @@ pub fn limited_extension<F: TwoAdicField, D: TwoAdicSubgroupDft<F>>(
     limit: usize,
 ) -> Result<(BitReversedMatrixView<RowMajorMatrix<F>>, usize), Option<BlockRefused>>
     requires { FitsLde F.TWO_ADICITY (height mat) mat.width added_bits }
+    ensures extension { IfOk result (λ p.
+        IsExtension F.Field.own F.generator mat added_bits (F.value shift) (reversed_rows p.0.bits p.0.physical)) }
     ensures counted { IfOk result (λ p. AtLog (height mat) (λ k. p.1 ≡ height p.0.physical / D.block_rows k added_bits)) }
     ensures refused { IfErr result (λ e. IfSome e (λ refusal. AtLog (height mat) (λ k.
         (refusal.start % D.block_rows k added_bits ≡ 0) × (refusal.start < 2 ^ (k + added_bits))))) }
@@ -141,7 +143,9 @@ pub fn summed_extension<F: TwoAdicField, D: TwoAdicSubgroupDft<F>>(
     shift: F,
 ) -> Result<(BitReversedMatrixView<RowMajorMatrix<F>>, F), DftError>
     requires { FitsLde F.TWO_ADICITY (height mat) mat.width added_bits }
-    ensures { IfOk result (λ p.
+    ensures extension { IfOk result (λ p.
+        IsExtension F.Field.own F.generator mat added_bits (F.value shift) (reversed_rows p.0.bits p.0.physical)) }
+    ensures summed { IfOk result (λ p.
         F.value p.1 ≡ sum F.ring (length p.0.physical.values) (λ i. F.value (get_or p.0.physical.values i F.ZERO))) }
 {
     let answer = engine.coset_lde_batch_with_blocks(

@@ -1,7 +1,13 @@
 use Rattle.std.proofs.Common.{◌∙◌, of_calls}
 use Rattle.p3_matrix.proofs.Consumers.{all_counted, limit_refused}
+use Rattle.p3_dft.proofs.Calls.ExtendedTransforms.{extension_of_same}
 use Rattle.p3_dft.proofs.Laws.Blocks.{where_refused}
 use Rattle.p3_dft_tests.proofs.published.limited_extension.Goals as goal
+
+pub returns-in-Ok-clause-extension : goal.returns-in-Ok-clause-extension
+returns-in-Ok-clause-extension g c =
+    extension_of_same g.F.Field g.F.TwoAdicField.generator _ g.D.TwoAdicSubgroupDft.LAYOUT c.args.mat _ c.args.added_bits (g.F.Field.value c.args.shift)
+    (λ told answered called. search of_calls) c.in-Ok.ensures.values
 
 pub returns-in-Ok-clause-counted : goal.returns-in-Ok-clause-counted
 returns-in-Ok-clause-counted g c = λ k e.

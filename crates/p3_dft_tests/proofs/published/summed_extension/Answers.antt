@@ -1,9 +1,15 @@
 use Rattle.std.proofs.Common.{of_calls}
+use Rattle.p3_dft.proofs.Calls.ExtendedTransforms.{extension_of_same}
 use Rattle.p3_dft_tests.proofs.BlockSums.{published_total}
 use Rattle.p3_dft_tests.proofs.published.summed_extension.Goals as goal
 
-pub returns-in-Ok : goal.returns-in-Ok
-returns-in-Ok g c =
+pub returns-in-Ok-clause-extension : goal.returns-in-Ok-clause-extension
+returns-in-Ok-clause-extension g c =
+    extension_of_same g.F.Field g.F.TwoAdicField.generator _ g.D.TwoAdicSubgroupDft.LAYOUT c.args.mat _ c.args.added_bits (g.F.Field.value c.args.shift)
+    (λ told answered called. search of_calls) c.in-Ok.ensures.values
+
+pub returns-in-Ok-clause-summed : goal.returns-in-Ok-clause-summed
+returns-in-Ok-clause-summed g c =
     let field = g.F.Field in
     published_total field.ring field.value field.ZERO _ _ (λ s. field.value s.sum) _ c.in-Ok.out.physical c.in-Ok.total c.height-whole.ensures.whole
     (λ s start r e told. told.1) (λ s made. search of_calls) (c.in-Ok.ensures.published c.requires.log c.requires.high)
