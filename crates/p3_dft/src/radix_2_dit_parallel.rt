@@ -35,8 +35,8 @@ use std::marker::Model;
 /// A coset has a table of its own, of one entry less than its height, for its height and its shift,
 /// which is kept from its first `coset_dft_batch` on; the coset of one, which is the subgroup, needs none
 /// there. An extension goes coset by coset: its output is made of `2^added_bits` cosets of the input's
-/// height, and it makes and keeps a table of each. No call loses a table. A new engine and a clone have
-/// none and take no memory.
+/// height, and it makes and keeps a table of each. No call takes a prepared height or coset back. A new
+/// engine and a clone have no tables and take no memory.
 ///
 /// Contracts see which heights are prepared, which cosets have a table, and how many products were made.
 #[derive(Drop)]

@@ -271,12 +271,11 @@ pub trait TwoAdicSubgroupDft<F: TwoAdicField>: Clone + Default {
     /// What `coset_lde_batch_with_transform` answers, with its rows in bit reversed order, and each
     /// block of its physical rows is lent to a consumer once, in its final value.
     ///
-    /// `make_consumer` is called once, with the height of a block. A block is a run of so many rows
-    /// of the output's physical matrix; the consumer is told the number of the first. When it
-    /// refuses a block no further one is lent, and it comes back with the refusal. Where memory is
-    /// refused it was never made, so that nothing was published, and `make_consumer` comes back. The
-    /// order of the blocks is not promised, and not whether `transform` or `make_consumer` is called
-    /// first.
+    /// `make_consumer` is called once, with the height of a block, unless memory is refused: then it is
+    /// not called, so that nothing was published, and comes back. A block is a run of so many rows of
+    /// the output's physical matrix; the consumer is told the number of the first. When it refuses a
+    /// block no further one is lent, and it comes back with the refusal. The order of the blocks is not
+    /// promised, and not whether `transform` or `make_consumer` is called first.
     fn coset_lde_batch_with_blocks<
         N: IntoRowMajorMatrix<F>,
         T: FnOnce(RowMajorMatrix<F>, Layout) -> RowMajorMatrix<F> + Drop,
