@@ -2,7 +2,6 @@
 pub mod Coordinates
 pub mod EngineSteps
 pub mod ExtendedTransforms
-pub mod Extensions
 pub mod Inverses
 pub mod JobLists
 pub mod Padding

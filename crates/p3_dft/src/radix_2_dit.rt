@@ -1,9 +1,9 @@
 //! The transform by decimation in time, with twiddles that are kept.
 
-ghost use Rattle.std.specs.Prelude.{◌≡◌, ◌↔◌, ◌⊎◌, ℕ, ◌+◌, ◌*◌, ◌/◌, ◌^◌, ◌<◌, ◌≤◌, IsTrue, IsOk, OnOk, OnErr, Ok};
+ghost use Rattle.std.specs.Prelude.{◌≡◌, ◌↔◌, ◌⊎◌, ℕ, ◌+◌, ◌*◌, ◌/◌, ◌^◌, ◌<◌, ◌≤◌, IsTrue, IsOk, OnOk, OnErr, Ok, false};
 ghost use Rattle.p3_matrix.specs.RowMajor.{IsRowMajor, height};
 ghost use Rattle.p3_dft.specs.Transforms.{IsTransform};
-ghost use Rattle.p3_networks.specs.Twiddles.{AreTwiddlesOfLayers, layer_powers};
+ghost use Rattle.p3_networks.specs.Twiddles.{AreTwiddlesOfLayers, root_powers};
 ghost use Rattle.p3_dft.specs.Engines.{IsPrepared, PreparesNoneAbove};
 
 use crate::traits::{Layout, TwoAdicSubgroupDft};
@@ -207,7 +207,7 @@ fn dit_matrix<F: TwoAdicField>(
     requires small { log_h < 64 }
     requires rooted { log_h ≤ F.TWO_ADICITY }
     requires height { height mat.old ≡ 2 ^ log_h }
-    requires twiddles { AreTwiddlesOfLayers F.Field.own log_h (layer_powers F.Field.own F.generator) twiddles.now }
+    requires twiddles { AreTwiddlesOfLayers F.Field.own log_h (root_powers F.Field.own F.generator false) twiddles.now }
     ensures values { IsTransform F.Field.own F.generator mat.old F.ring.one mat.new }
     ensures grows { products.old ≤ products.new }
     ensures count { products.new ≤ products.old + mat.old.width * (log_h * 2 ^ log_h / 2) }

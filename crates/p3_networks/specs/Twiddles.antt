@@ -16,10 +16,6 @@ module _ {F : Type 0} (f : FieldMembers F) where
     pub size : 2 ^ log - 1 ≤ length twiddles
     pub layers : (l : ℕ) → l < log → AreTwiddles (2 ^ l) (p l) (take (2 ^ l) (drop (2 ^ l - 1) twiddles))
 
-  -- in layer l: the powers of the generator of order 2 ^ (l + 1)
-  abbrev pub layer_powers : (ℕ → F) → ℕ → ℕ → f.Element
-  layer_powers generator l t = power f.ring (f.value (generator (l + 1))) t
-
   -- in layer l of log, on the coset of s: the powers of the root of order 2 ^ (l + 1), each times s ^ (2 ^ (log - 1 - l))
   abbrev pub coset_twiddles : (ℕ → f.Element) → f.Element → ℕ → ℕ → ℕ → f.Element
   coset_twiddles g s log l t = f.ring.mul (power f.ring s (2 ^ (log - 1 - l))) (power f.ring (g (l + 1)) t)

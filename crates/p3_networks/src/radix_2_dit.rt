@@ -1,10 +1,10 @@
 //! The layers of the network by decimation in time.
 
-ghost use Rattle.std.specs.Prelude.{◌≡◌, ℕ, ◌+◌, ◌*◌, ◌/◌, ◌^◌, ◌<◌, ◌≤◌, length, get_or};
+ghost use Rattle.std.specs.Prelude.{◌≡◌, ℕ, ◌+◌, ◌*◌, ◌/◌, ◌^◌, ◌<◌, ◌≤◌, length, get_or, false};
 ghost use Rattle.p3_field.specs.Ring.{power};
 ghost use Rattle.p3_matrix.specs.BitOrder.{rev};
 ghost use Rattle.p3_networks.specs.Polynomials.{poly};
-ghost use Rattle.p3_networks.specs.Twiddles.{AreTwiddlesOfLayers, layer_powers};
+ghost use Rattle.p3_networks.specs.Twiddles.{AreTwiddlesOfLayers, root_powers};
 
 use crate::butterfly_layers::layer;
 use crate::butterfly_layers::rules::DitByPlace;
@@ -25,7 +25,7 @@ pub fn dit_network<F: TwoAdicField>(
     requires small { log_h < 64 }
     requires rooted { log_h ≤ F.TWO_ADICITY }
     requires height { length values.old ≡ 2 ^ log_h * width }
-    requires twiddles { AreTwiddlesOfLayers F.Field.own log_h (layer_powers F.Field.own F.generator) twiddles.now }
+    requires twiddles { AreTwiddlesOfLayers F.Field.own log_h (root_powers F.Field.own F.generator false) twiddles.now }
     ensures values { (r j : ℕ) → r < 2 ^ log_h → j < width → F.value (get_or values.new (r * width + j) F.ZERO)
         ≡ poly F.ring (2 ^ log_h) (λ q. F.value (get_or values.old (rev log_h q * width + j) F.ZERO))
         (power F.ring (F.value (F.generator log_h)) r) }

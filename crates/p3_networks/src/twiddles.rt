@@ -1,10 +1,10 @@
 //! Twiddles: powers of the generators, made once for all layers up to a height, and powers of other
 //! elements, in natural order or in bit reversed order.
 
-ghost use Rattle.std.specs.Prelude.{◌≡◌, ◌⊎◌, ℕ, ◌+◌, ◌-◌, ◌*◌, ◌^◌, ◌<◌, ◌≤◌, IsOk, IfOk, OnOk, OnErr, length, get_or, take, drop};
+ghost use Rattle.std.specs.Prelude.{◌≡◌, ◌⊎◌, ℕ, ◌+◌, ◌-◌, ◌*◌, ◌^◌, ◌<◌, ◌≤◌, IsOk, IfOk, OnOk, OnErr, length, get_or, take, drop, false};
 ghost use Rattle.p3_field.specs.Ring.{power};
 ghost use Rattle.p3_matrix.specs.BitOrder.{rev};
-ghost use Rattle.p3_networks.specs.Twiddles.{AreTwiddles, AreTwiddlesOfLayers, layer_place, layer_powers};
+ghost use Rattle.p3_networks.specs.Twiddles.{AreTwiddles, AreTwiddlesOfLayers, layer_place, root_of, root_powers};
 
 use p3_field::{Field, TwoAdicField};
 use p3_matrix::DftError;
@@ -22,14 +22,14 @@ pub struct Twiddles<F: TwoAdicField> {
 }
 
 impl<F: TwoAdicField> Model for Twiddles<F> {
-    ghost use Rattle.std.specs.Prelude.{ℕ};
-    ghost use Rattle.p3_networks.specs.Twiddles.{AreTwiddlesOfLayers, layer_powers, items_if_any};
+    ghost use Rattle.std.specs.Prelude.{ℕ, false};
+    ghost use Rattle.p3_networks.specs.Twiddles.{AreTwiddlesOfLayers, items_if_any, root_powers};
 
     ghost Value = { ℕ };
 
     ghost view = { λ t. t.log_h };
 
-    ghost invariant = { λ t. AreTwiddlesOfLayers F.Field t.log_h (layer_powers F.Field F.generator) (items_if_any t.powers) };
+    ghost invariant = { λ t. AreTwiddlesOfLayers F.Field t.log_h (root_powers F.Field F.generator false) (items_if_any t.powers) };
 }
 
 impl<F: TwoAdicField> Twiddles<F> {
@@ -64,7 +64,7 @@ impl<F: TwoAdicField> Twiddles<F> {
         if log_h <= self.log_h {
             return Ok(());
         }
-        let powers = layers(alloc, log_h)?;
+        let powers = root_layers(alloc, false, log_h)?;
         self.powers = Some(powers);
         self.log_h = log_h;
         Ok(())
@@ -72,7 +72,7 @@ impl<F: TwoAdicField> Twiddles<F> {
 
     /// The twiddles of all layers that are there.
     pub fn as_slice(&self) -> &[F]
-        ensures { AreTwiddlesOfLayers F.Field.own self.now (layer_powers F.Field.own F.generator) result.now }
+        ensures { AreTwiddlesOfLayers F.Field.own self.now (root_powers F.Field.own F.generator false) result.now }
     {
         match &self.powers {
             Some(powers) => powers.as_slice(),
@@ -91,38 +91,35 @@ pub fn layer_twiddles<F: TwoAdicField>(twiddles: &[F], l: usize) -> &[F]
     &twiddles[count - 1..2 * count - 1]
 }
 
-// The twiddles of the layers of height `2^log_h`.
-fn layers<F: TwoAdicField>(alloc: Global, log_h: usize) -> Result<Vec<F>, DftError>
-    requires within { log_h ≤ F.TWO_ADICITY }
-    requires small { log_h < 64 }
-    ensures { IfOk result (λ v. AreTwiddlesOfLayers F.Field.own log_h (layer_powers F.Field.own F.generator) v.items) }
+/// The generator of order `2^bits`, or its inverse.
+pub fn root<F: TwoAdicField>(inverse: bool, bits: usize) -> F
+    requires { bits ≤ F.TWO_ADICITY }
+    ensures { F.value result ≡ root_of F.Field.own F.generator inverse bits }
 {
-    let mut twiddles = Vec::with_capacity(alloc, (1 << log_h) - 1)?;
-    for l in 0..log_h {
-        let generator = F::two_adic_generator(l + 1);
-        push_powers(&mut twiddles, generator, 1 << l)?;
+    let generator = F::two_adic_generator(bits);
+    if inverse {
+        generator.inverse()
+    } else {
+        generator
     }
-    Ok(twiddles)
 }
 
-/// Adds the first `count` powers of an element at the end, from the one of exponent zero on.
-pub fn push_powers<F: TwoAdicField>(
-    powers: &mut Vec<F>,
-    base: F,
-    count: usize,
-) -> Result<(), DftError>
-    ensures size { OnOk result (length powers.new.items ≡ length powers.old.items + count) }
-    ensures before { OnOk result ((n : ℕ) → n < length powers.old.items
-        → get_or powers.new.items n F.ZERO ≡ get_or powers.old.items n F.ZERO) }
-    ensures powers { OnOk result ((e : ℕ) → e < count
-        → F.value (get_or powers.new.items (length powers.old.items + e) F.ZERO) ≡ power F.ring (F.value base) e) }
+/// The powers of the generators, or of their inverses, for the layers below one, in natural order: those
+/// of layer l begin at place `2^l - 1`.
+pub fn root_layers<F: TwoAdicField>(
+    alloc: Global,
+    inverse: bool,
+    layers: usize,
+) -> Result<Vec<F>, DftError>
+    requires within { layers ≤ F.TWO_ADICITY }
+    requires small { layers < 64 }
+    ensures { IfOk result (λ v. AreTwiddlesOfLayers F.Field.own layers (root_powers F.Field.own F.generator inverse) v.items) }
 {
-    let mut power = F::ONE;
-    for _e in 0..count {
-        powers.push(power)?;
-        power = power * base;
+    let mut powers = Vec::with_capacity(alloc, (1 << layers) - 1)?;
+    for l in 0..layers {
+        push_layer(&mut powers, F::ONE, root::<F>(inverse, l + 1), l, false)?;
     }
-    Ok(())
+    Ok(powers)
 }
 
 /// The first `2^bits` powers of `base`, each times `first`, in bit reversed order.

@@ -24,10 +24,6 @@ pub transform_is : {A : Type 0} (R : Ring A) (g : ℕ → A) (n : ℕ) (c : ℕ 
 unfolding transform
 transform_is R g n c k = refl
 
--- they are the values on the subgroup
-pub poly-transform : {A : Type 0} (R : Ring A) (g : ℕ → A) (n : ℕ) (c : ℕ → A) (k : ℕ) → poly R (2 ^ n) c (point R g n R.one k) ≡ transform R g n c k
-poly-transform R g n c k = ap (poly R (2 ^ n) c) (point_of_one R g n k) ∙ sym (transform_is R g n c k)
-
 -- the values of c on the coset of s
 unfoldable pub values_at : {A : Type 0} → Ring A → (ℕ → A) → ℕ → A → (ℕ → A) → ℕ → A
 values_at R g n s c k = poly R (2 ^ n) c (point R g n s k)

@@ -3,7 +3,7 @@
 ghost use Rattle.std.specs.Prelude.{◌≡◌, ◌⊎◌, ◌+◌, ◌-◌, ◌/◌, ◌^◌, ◌<◌, ◌≤◌, true, false, IsOk, IfOk, OnOk, OnErr};
 ghost use Rattle.p3_networks.specs.Twiddles.{AreTwiddles, AreTwiddlesOfLayers, reversed_root_powers, root_of, root_powers};
 
-use crate::twiddles::{push_powers, reversed_powers};
+use crate::twiddles::{reversed_powers, root, root_layers};
 use p3_field::{Field, TwoAdicField};
 use p3_matrix::DftError;
 use std::alloc::Global;
@@ -167,20 +167,7 @@ impl<F: TwoAdicField> Tables<F> {
     }
 }
 
-// The generator of order `2^bits`, or its inverse.
-fn root<F: TwoAdicField>(inverse: bool, bits: usize) -> F
-    requires { bits ≤ F.TWO_ADICITY }
-    ensures { F.value result ≡ root_of F.Field.own F.generator inverse bits }
-{
-    let generator = F::two_adic_generator(bits);
-    if inverse {
-        generator.inverse()
-    } else {
-        generator
-    }
-}
-
-// Half of the powers of that of order `2^log_h`, in bit reversed order.
+// Half of the powers of the generator of order `2^log_h`, or of its inverse, in bit reversed order.
 fn reversed_roots<F: TwoAdicField>(
     alloc: Global,
     inverse: bool,
@@ -194,21 +181,4 @@ fn reversed_roots<F: TwoAdicField>(
 {
     let root = root::<F>(inverse, log_h);
     reversed_powers(alloc, F::ONE, root, log_h - 1)
-}
-
-// The powers for the layers up to one, in natural order: those of layer l begin at place `2^l - 1`.
-fn root_layers<F: TwoAdicField>(
-    alloc: Global,
-    inverse: bool,
-    layers: usize,
-) -> Result<Vec<F>, DftError>
-    requires within { layers ≤ F.TWO_ADICITY }
-    requires small { layers < 64 }
-    ensures { IfOk result (λ v. AreTwiddlesOfLayers F.Field.own layers (root_powers F.Field.own F.generator inverse) v.items) }
-{
-    let mut powers = Vec::with_capacity(alloc, (1 << layers) - 1)?;
-    for l in 0..layers {
-        push_powers(&mut powers, root::<F>(inverse, l + 1), 1 << l)?;
-    }
-    Ok(powers)
 }

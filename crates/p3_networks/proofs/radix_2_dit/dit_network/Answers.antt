@@ -1,4 +1,4 @@
-use Rattle.std.proofs.Common.{◌≡◌, ℕ, ◌+◌, ◌*◌, ◌-◌, ◌^◌, ◌%◌, ◌<◌, ◌≤◌, get_or, sym, ap, ap₂, ◌∙◌, subst, arith, add-one}
+use Rattle.std.proofs.Common.{◌≡◌, ℕ, ◌+◌, ◌*◌, ◌-◌, ◌^◌, ◌%◌, ◌<◌, ◌≤◌, get_or, sym, ap, ap₂, ◌∙◌, subst, false, arith, add-one}
 use Rattle.std.proofs.lemmas.Nat.{one_shl, pow_pos}
 use Rattle.p3_field.specs.Ring.{power}
 use Rattle.p3_field.proofs.Powers.{power-zero}
@@ -6,7 +6,7 @@ use Rattle.p3_matrix.specs.BitOrder.{rev}
 use Rattle.p3_matrix.specs.Butterflies.{dit_near, dit_far}
 use Rattle.p3_matrix.proofs.BitReversal.{rev-rev}
 use Rattle.p3_networks.specs.Polynomials.{poly}
-use Rattle.p3_networks.specs.Twiddles.{AreTwiddles, layer_powers}
+use Rattle.p3_networks.specs.Twiddles.{AreTwiddles, root_powers}
 use Rattle.p3_networks.proofs.Layers.Blocks.{halves_whole}
 use Rattle.p3_networks.proofs.Polynomials.Cosets.{point_of_one}
 use Rattle.p3_networks.proofs.Layers.Counts.{layer_counted, layers_counted}
@@ -58,7 +58,7 @@ layer-requires-clause-there g c b t inside below =
     let field = g.F.Field in
     let l = c.loop-l.l in
     let half = half_is l c.args.log_h c.loop-l-test.true c.requires.small in
-    let table : AreTwiddles field (2 ^ l) (layer_powers field g.F.TwoAdicField.generator l) c.layer_twiddles-twiddles.result.now = rw c.layer_twiddles-twiddles.ensures (c.requires.twiddles.layers l c.loop-l-test.true) in (
+    let table : AreTwiddles field (2 ^ l) (root_powers field g.F.TwoAdicField.generator false l) c.layer_twiddles-twiddles.result.now = rw c.layer_twiddles-twiddles.ensures (c.requires.twiddles.layers l c.loop-l-test.true) in (
       omega (arith, half, below, table.size),
       table.entries 0 (pow_pos l) ∙ power-zero field.ring (field.value (g.F.TwoAdicField.generator (l + 1))),
     )
@@ -75,7 +75,7 @@ loop-l-preserved g c =
     let h : half ≡ 2 ^ l = half_is l k c.loop-l-test.true c.requires.small in
     let b : blocks ≡ 2 ^ (k - 1 - l) = blocks_are l k c.loop-l-test.true c.requires.small in
     let whole : blocks * (2 * half) ≡ 2 ^ k = rw (h, b) (halves_whole k l c.loop-l-test.true) in
-    let table : AreTwiddles field (2 ^ l) (layer_powers field g.F.TwoAdicField.generator l) c.layer_twiddles-twiddles.result.now = rw c.layer_twiddles-twiddles.ensures (c.requires.twiddles.layers l c.loop-l-test.true) in
+    let table : AreTwiddles field (2 ^ l) (root_powers field g.F.TwoAdicField.generator false l) c.layer_twiddles-twiddles.result.now = rw c.layer_twiddles-twiddles.ensures (c.requires.twiddles.layers l c.loop-l-test.true) in
     let entry = λ (t : ℕ). field.value (get_or c.layer_twiddles-twiddles.result.now t field.ZERO) in
     let power_is : (t : ℕ) → t < half → entry t ≡ twiddle field.ring gen field.ring.one l (k - 1 - l) t =
     λ t below. table.entries t (omega (arith, below, h)) ∙ ap (λ n. power field.ring (gen n) t) (add-one l) ∙ sym (twiddle_of_one field.ring gen l (k - 1 - l) t) in

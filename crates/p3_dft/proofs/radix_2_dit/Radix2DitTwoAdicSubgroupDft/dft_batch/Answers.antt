@@ -2,7 +2,7 @@ use Rattle.std.proofs.Common.{◌≡◌, ◌⊎◌, inl, inr, ℕ, ◌≤◌, Li
 use Rattle.std.specs.List.{range_with_len}
 use Rattle.p3_matrix.specs.RowMajor.{RowMajor, height}
 use Rattle.p3_matrix.proofs.TwoPowers.{log_same}
-use Rattle.p3_networks.specs.Twiddles.{layer_powers}
+use Rattle.p3_networks.specs.Twiddles.{root_powers}
 use Rattle.p3_dft.specs.Engines.{Tabled, IsPrepared}
 use Rattle.p3_networks.proofs.Tables.MoreTwiddles.{fewer_layers}
 use Rattle.p3_dft.proofs.Calls.PreparedHeights.{prepared_before, prepared_until, until_prepared}
@@ -47,7 +47,7 @@ dit_matrix-requires-clause-rooted g c =
 
 pub dit_matrix-requires-clause-twiddles : goal.dit_matrix-requires-clause-twiddles
 dit_matrix-requires-clause-twiddles g c =
-    fewer_layers g.F.Field (layer_powers g.F.Field g.F.TwoAdicField.generator) c.log2_strict_usize-log_h.result c.make.new.self _ c.in_ok-make.ensures.made c.as_slice-twiddles.ensures
+    fewer_layers g.F.Field (root_powers g.F.Field g.F.TwoAdicField.generator false) c.log2_strict_usize-log_h.result c.make.new.self _ c.in_ok-make.ensures.made c.as_slice-twiddles.ensures
 
 pub returns-clause-values : goal.returns-clause-values
 returns-clause-values g c =

@@ -1,6 +1,6 @@
 use Rattle.std.proofs.Common.{◌≡◌, ◌-◌, ◌^◌, length}
 use Rattle.p3_networks.specs.Twiddles.{AreTwiddlesOfLayers, root_powers}
-use Rattle.p3_networks.proofs.radix_2_dit_parallel.tables.root_layers.Given as goal
+use Rattle.p3_networks.proofs.twiddles.root_layers.Given as goal
 
 -- the first layers are there
 abbrev pub invariant-loop-l : goal.invariant-loop-l

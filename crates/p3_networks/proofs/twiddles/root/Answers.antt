@@ -2,7 +2,7 @@ use Rattle.std.proofs.Common.{◌≡◌, ℕ, sym, ap, ◌∙◌}
 use Rattle.p3_field.proofs.Rings
 use Rattle.p3_field.proofs.Roots.{inverse_root, inverse_undoes}
 use Rattle.p3_networks.specs.Twiddles.{root_of}
-use Rattle.p3_networks.proofs.radix_2_dit_parallel.tables.root.Goals as goal
+use Rattle.p3_networks.proofs.twiddles.root.Goals as goal
 
 pub inverse-requires : goal.inverse-requires
 inverse-requires g c =
