@@ -1,6 +1,6 @@
 //! Vector spaces over a field, whose elements are given by coordinates.
 
-ghost use Rattle.std.specs.Prelude.{◌≡◌, ◌+◌, ◌++◌, ◌<◌, ◌≤◌, ℕ, List, OnOk, IsOk, length, get_or, vec_len, vec_capacity};
+ghost use Rattle.std.specs.Prelude.{◌≡◌, ◌+◌, ◌++◌, ◌<◌, ◌≤◌, ℕ, List, OnOk, OnErr, IsOk, length, get_or, vec_len, vec_capacity};
 
 use crate::fields::Field;
 use std::alloc::AllocError;
@@ -26,13 +26,16 @@ pub trait BasedVectorSpace<F: Field>: Drop {
         requires { length from.now ≡ DIMENSION }
         ensures { coordinates result ≡ from.now };
 
-    /// Adds the coordinates at the end of a list. It takes no memory where there is room for them.
+    /// Adds the coordinates at the end of a list. It takes no memory where there is room for them; where
+    /// memory is refused, the list stays as it was.
     fn push_coordinates(&self, to: &mut Vec<F>) -> Result<(), AllocError>
         ensures items { OnOk result (to.new.items ≡ to.old.items ++ coordinates self.now) }
         ensures room { vec_len to.old + DIMENSION ≤ vec_capacity to.old → IsOk result }
+        ensures refused { OnErr result (to.new.items ≡ to.old.items) }
     {
+        to.reserve(Self::DIMENSION)?;
         for i in 0..Self::DIMENSION {
-            to.push(self.coordinate(i))?;
+            to.push_reserved(self.coordinate(i));
         }
         Ok(())
     }

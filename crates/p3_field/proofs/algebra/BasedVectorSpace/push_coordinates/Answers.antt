@@ -6,8 +6,8 @@ pub loop-i-preserved : goal.loop-i-preserved
 loop-i-preserved g c =
     let all = g.Self.BasedVectorSpace.coordinates c.args.self.now in
     record {
-      items = c.in_ok-push.ensures.items ∙ ap (λ xs. xs ++ c.coordinate.result ∷ []) c.loop-i.invariant.items
+      items = c.push_reserved.ensures.items ∙ ap (λ xs. xs ++ c.coordinate.result ∷ []) c.loop-i.invariant.items
           ∙ taken_more c.args.to.now.items all c.loop-i.i c.coordinate.result
           (omega (arith, c.loop-i-test.true, c.DIMENSION-i-end.ensures, g.met.Self.BasedVectorSpace.dimension_law c.args.self.now)) c.coordinate.ensures;
-      room = λ fits. omega (arith, c.loop-i.invariant.room fits, c.in_ok-push.ensures.len, c.in_ok-push.ensures.capacity);
+      room = omega (arith, c.loop-i.invariant.room, c.push_reserved.ensures.len, c.push_reserved.ensures.capacity);
     }

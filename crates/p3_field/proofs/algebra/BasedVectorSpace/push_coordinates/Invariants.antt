@@ -6,5 +6,5 @@ abbrev pub invariant-loop-i : goal.invariant-loop-i
 invariant-loop-i g l =
     record {
       items : l.to.items ≡ l.fn.to.items ++ take l.i (g.Self.BasedVectorSpace.coordinates l.fn.self);
-      room : vec_len l.fn.to + g.Self.BasedVectorSpace.DIMENSION ≤ vec_capacity l.fn.to → vec_len l.to + g.Self.BasedVectorSpace.DIMENSION ≤ vec_capacity l.to + l.i;
+      room : vec_len l.to + g.Self.BasedVectorSpace.DIMENSION ≤ vec_capacity l.to + l.i;
     }
