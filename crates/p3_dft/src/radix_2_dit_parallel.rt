@@ -183,7 +183,7 @@ impl<F: TwoAdicField> TwoAdicSubgroupDft<F> for Radix2DitParallel<F> {
         }
         let log_h = log2_strict_usize(height);
         self.tables.make(*mat.allocator(), log_h)?;
-        evaluate(&mut mat, log_h, self.tables.forward(), &mut self.products);
+        evaluate(&mut mat, log_h, &self.tables, &mut self.products);
         Ok(mat.bit_reverse_rows())
     }
 
@@ -272,7 +272,7 @@ impl<F: TwoAdicField> TwoAdicSubgroupDft<F> for Radix2DitParallel<F> {
         }
         let log_h = log2_strict_usize(height);
         self.tables.make(*mat.allocator(), log_h)?;
-        interpolate(&mut mat, log_h, self.tables.inverse(), &mut self.products);
+        interpolate(&mut mat, log_h, &self.tables, &mut self.products);
         reverse_rows(&mut mat);
         Ok(mat)
     }

@@ -16,7 +16,7 @@ use p3_matrix::{DftError, IntoRowMajorMatrix, RowMajorMatrix, log2_strict_usize}
 use p3_networks::radix_2_small_batch::networks::{
     dit_network, extending_network, scaled_dif_network,
 };
-use p3_networks::radix_2_small_batch::tables::Tables;
+use p3_networks::root_tables::RootTables;
 use p3_networks::twiddles::reversed_powers;
 use std::alloc::{AllocError, Global};
 use std::marker::Model;
@@ -40,7 +40,7 @@ const TILE: usize = 8192;
 #[derive(Drop)]
 pub struct Radix2DFTSmallBatch<F: TwoAdicField> {
     tile: usize,
-    tables: Tables<F>,
+    tables: RootTables<F>,
     products: Products,
 }
 
@@ -87,7 +87,7 @@ impl<F: TwoAdicField> Radix2DFTSmallBatch<F> {
     {
         Radix2DFTSmallBatch {
             tile,
-            tables: Tables::new(),
+            tables: RootTables::new(),
             products: Products::new(),
         }
     }

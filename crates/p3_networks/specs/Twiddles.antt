@@ -62,15 +62,6 @@ root_of f generator inverse n = if inverse then backward_root f generator n else
 abbrev pub root_powers : {F : Type 0} (f : FieldMembers F) → (ℕ → F) → Bool → ℕ → ℕ → f.Element
 root_powers f generator inverse l t = power f.ring (root_of f generator inverse (l + 1)) t
 
--- tables of the powers of the generators, or of their inverses, for all heights up to 2 ^ log_h
-pub record RootsUpTo : Type 0 where
-  pub inverse : Bool
-  pub log_h : ℕ
-
--- half the powers of that of order 2 ^ log_h, in bit reversed order
-abbrev pub reversed_root_powers : {F : Type 0} (f : FieldMembers F) → (ℕ → F) → Bool → ℕ → ℕ → f.Element
-reversed_root_powers f generator inverse log_h b = power f.ring (root_of f generator inverse log_h) (rev (log_h - 1) b)
-
 -- where an entry of a layer of 2 ^ l comes from: its own place, or that with the l digits in reverse
 abbrev pub layer_place : Bool → ℕ → ℕ → ℕ
 layer_place reversed l t = if reversed then rev l t else t

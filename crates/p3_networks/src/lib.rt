@@ -10,4 +10,5 @@ pub mod radix_2_bowers;
 pub mod radix_2_dit;
 pub mod radix_2_dit_parallel;
 pub mod radix_2_small_batch;
+pub mod root_tables;
 pub mod twiddles;

@@ -1,4 +1,3 @@
-//! The networks that go tile by tile, and their tables.
+//! The networks that go tile by tile.
 
 pub mod networks;
-pub mod tables;

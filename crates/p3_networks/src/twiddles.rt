@@ -91,8 +91,8 @@ pub fn layer_twiddles<F: TwoAdicField>(twiddles: &[F], l: usize) -> &[F]
     &twiddles[count - 1..2 * count - 1]
 }
 
-/// The generator of order `2^bits`, or its inverse.
-pub fn root<F: TwoAdicField>(inverse: bool, bits: usize) -> F
+// The generator of order `2^bits`, or its inverse.
+fn root<F: TwoAdicField>(inverse: bool, bits: usize) -> F
     requires { bits ≤ F.TWO_ADICITY }
     ensures { F.value result ≡ root_of F.Field.own F.generator inverse bits }
 {

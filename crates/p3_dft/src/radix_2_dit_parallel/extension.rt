@@ -53,7 +53,7 @@ pub(crate) fn coefficients_with_room<
     let alloc = *mat.allocator();
     let log_h = log2_strict_usize(mat.height());
     tables.make(alloc, log_h)?;
-    interpolate(&mut mat, log_h, tables.inverse(), products);
+    interpolate(&mut mat, log_h, tables, products);
     let changed = transform(mat, Layout::BitReversed);
     let grown = pad_rows(changed, added_bits)?;
     cosets.make_all(alloc, log_h, added_bits, shift)?;

@@ -1,6 +1,6 @@
 // The network on the subgroup, by the powers that the engine keeps.
 
-ghost use Rattle.std.specs.Prelude.{◌≡◌, ℕ, ◌+◌, ◌*◌, ◌/◌, ◌^◌, ◌<◌, ◌≤◌, true, false, length};
+ghost use Rattle.std.specs.Prelude.{◌≡◌, ℕ, ◌+◌, ◌*◌, ◌/◌, ◌^◌, ◌<◌, ◌≤◌, length};
 ghost use Rattle.p3_field.specs.Ring.{power};
 ghost use Rattle.p3_matrix.specs.BitOrder.{rev, bit_reversal};
 ghost use Rattle.p3_matrix.specs.RowMajor.{HasShapeOf, IsRowMajor, height};
@@ -14,49 +14,57 @@ use p3_field::{Field, Products, TwoAdicField};
 use p3_matrix::RowMajorMatrix;
 use p3_networks::radix_2_dit_parallel::coset_tables::CosetTable;
 use p3_networks::radix_2_dit_parallel::halves::BlockTwiddles;
-use p3_networks::radix_2_dit_parallel::tables::RootTables;
+use p3_networks::radix_2_dit_parallel::tables::Tables;
 
 // From coefficients in natural order, their values at the powers of the generator, or of its inverse, in
 // bit reversed order. With a scale, the values are multiplied by it.
 pub(crate) fn transform<F: TwoAdicField>(
     mat: &mut RowMajorMatrix<F>,
     log_h: usize,
-    tables: &RootTables<F>,
+    tables: &Tables<F>,
+    inverse: bool,
     scale: Option<F>,
     products: &mut Products,
 )
     requires whole { IsRowMajor mat.old }
     requires small { log_h < 64 }
     requires height { height mat.old ≡ 2 ^ log_h }
-    requires there { log_h ≤ tables.now.log_h }
+    requires there { log_h ≤ tables.now }
     ensures shape { HasShapeOf mat.new mat.old }
     ensures size { length mat.new.values ≡ length mat.old.values }
     ensures values { (r j : ℕ) → r < 2 ^ log_h → j < mat.old.width → (values_of F.Field.own mat.new).entry r j
         ≡ poly F.ring (2 ^ log_h) (λ q. F.ring.mul ((values_of F.Field.own mat.old).entry q j) (factor F.Field.own scale))
-        (power F.ring (root_of F.Field.own F.generator tables.now.inverse log_h) (rev log_h r)) }
+        (power F.ring (root_of F.Field.own F.generator inverse log_h) (rev log_h r)) }
     ensures grows { products.old ≤ products.new }
     ensures cost { products.new ≤ products.old + mat.old.width * (log_h * 2 ^ log_h / 2) + scale_cost scale * (2 ^ log_h * mat.old.width) }
 {
     let mid = (log_h + 1) / 2;
     let high = BlockTwiddles {
-        twiddles: tables.high(),
+        twiddles: tables.high(inverse),
         by_layer: false,
     };
-    network(mat, mid, log_h - mid, tables.low(), high, scale, products);
+    network(
+        mat,
+        mid,
+        log_h - mid,
+        tables.low(inverse),
+        high,
+        scale,
+        products,
+    );
 }
 
 // From coefficients in natural order, their values on the subgroup, in bit reversed order.
 pub(crate) fn evaluate<F: TwoAdicField>(
     mat: &mut RowMajorMatrix<F>,
     log_h: usize,
-    forward: &RootTables<F>,
+    tables: &Tables<F>,
     products: &mut Products,
 )
     requires whole { IsRowMajor mat.old }
     requires small { log_h < 64 }
     requires height { height mat.old ≡ 2 ^ log_h }
-    requires there { log_h ≤ forward.now.log_h }
-    requires forward { forward.now.inverse ≡ false }
+    requires there { log_h ≤ tables.now }
     ensures shape { HasShapeOf mat.new mat.old }
     ensures size { length mat.new.values ≡ length mat.old.values }
     ensures values { IsValues F.ring (λ n. F.value (F.generator n)) (values_of F.Field.own mat.old) log_h F.ring.one
@@ -64,22 +72,21 @@ pub(crate) fn evaluate<F: TwoAdicField>(
     ensures grows { products.old ≤ products.new }
     ensures cost { products.new ≤ products.old + mat.old.width * (log_h * 2 ^ log_h / 2) }
 {
-    transform(mat, log_h, forward, None, products);
+    transform(mat, log_h, tables, false, None, products);
 }
 
 // From values on the subgroup in natural order, the coefficients, in bit reversed order.
 pub(crate) fn interpolate<F: TwoAdicField>(
     mat: &mut RowMajorMatrix<F>,
     log_h: usize,
-    inverse: &RootTables<F>,
+    tables: &Tables<F>,
     products: &mut Products,
 )
     requires whole { IsRowMajor mat.old }
     requires small { log_h < 64 }
     requires height { height mat.old ≡ 2 ^ log_h }
-    requires there { log_h ≤ inverse.now.log_h }
+    requires there { log_h ≤ tables.now }
     requires rooted { log_h ≤ F.TWO_ADICITY }
-    requires inverse { inverse.now.inverse ≡ true }
     ensures shape { HasShapeOf mat.new mat.old }
     ensures size { length mat.new.values ≡ length mat.old.values }
     ensures coefficients { AreCoefficients F.ring (λ n. F.value (F.generator n)) (values_of F.Field.own mat.old) log_h F.ring.one
@@ -88,7 +95,7 @@ pub(crate) fn interpolate<F: TwoAdicField>(
     ensures cost { products.new ≤ products.old + mat.old.width * (log_h * 2 ^ log_h / 2) + 2 ^ log_h * mat.old.width }
 {
     let scale = F::ONE.div_2exp_u64(log_h as u64);
-    transform(mat, log_h, inverse, Some(scale), products);
+    transform(mat, log_h, tables, true, Some(scale), products);
 }
 
 // From coefficients in natural order, their values on the coset that a table is of, in bit reversed

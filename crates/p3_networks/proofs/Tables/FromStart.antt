@@ -1,15 +1,16 @@
 -- One table for all layers: where its entries are those of the last layer, its first entries are those of each layer.
-use Rattle.std.proofs.Common.{◌≡◌, ℕ, zero, suc, ◌+◌, ◌*◌, ◌-◌, ◌/◌, ◌<◌, ◌≤◌, ◌^◌, List, length, get_or, sym, ap, ap₂, ◌∙◌, arith, lit≤}
+use Rattle.std.proofs.Common.{◌≡◌, ℕ, zero, suc, ◌+◌, ◌*◌, ◌-◌, ◌/◌, ◌<◌, ◌≤◌, ◌^◌, List, length, get_or, take, false, sym, ap, ap₂, ◌∙◌, arith, rules, lit≤}
 use Rattle.std.proofs.Math.Nat.{mul-le-mul_right, pow-le-pow_right}
+use Rattle.std.proofs.lemmas.List.{places}
 use Rattle.std.proofs.lemmas.Nat.{pow-add, pow_pos}
 use Rattle.p3_field.specs.Ring.{power, AreRoots}
 use Rattle.p3_field.specs.declared.fields.Field.{Ghosts as FieldMembers}
-use Rattle.p3_field.proofs.Powers.{power-zero}
+use Rattle.p3_field.proofs.Powers.{power-zero, power_of_one}
 use Rattle.p3_field.proofs.Rings
 use Rattle.p3_matrix.specs.BitOrder.{rev}
 use Rattle.p3_matrix.proofs.BitReversal.{rev-block, rev_of_zero}
 use Rattle.p3_networks.proofs.Layers.Counts.{two_halves}
-use Rattle.p3_networks.specs.Twiddles.{AreTwiddles, AreTwiddlesFromStart, block_powers}
+use Rattle.p3_networks.specs.Twiddles.{AreBlockTwiddles, AreTwiddles, AreTwiddlesFromStart, block_powers}
 use Rattle.p3_networks.proofs.Networks.Entries.{turned_entry}
 
 module _ {F : Type 0} (f : FieldMembers F) (root : ℕ → f.Element) where
@@ -49,6 +50,18 @@ module _ {F : Type 0} (f : FieldMembers F) (root : ℕ → f.Element) where
       let size = are.size (log - 1) (omega (arith, some)) in
       let d = two_halves log (λ e. absurd (omega (arith, e, some))) in
       omega (arith, size, d)
+
+  -- for blocks they are the twiddles of the subgroup
+  pub block_table : (mid k log : ℕ) (table : List F) → k ≤ log → AreTwiddlesFromStart f log (block_powers f root) table → AreBlockTwiddles f root f.ring.one mid k false table
+  block_table mid k log table less are l from below =
+      let room = are.size l (omega (arith, less, below)) in record {
+        size = search (rules, places);
+        entries = λ b inside.
+            let at : get_or (take (2 ^ l) table) b f.ZERO ≡ get_or table b f.ZERO = search (rules, places) in
+            let power_is = block_powers f root l b in
+            ap f.value at ∙ are.entries l b (omega (arith, less, below)) inside
+            ∙ sym (ap (λ x. f.ring.mul x power_is) (power_of_one f.ring (2 ^ (k - 1 - l))) ∙ Rings.one-mul f.ring power_is);
+      }
 
   -- the power for row q of 2 ^ (log - a) that are spread by 2 ^ a
   pub spread_root : (log a : ℕ) (table : List F) → a ≤ log → 1 ≤ log → AreTwiddlesFromStart f log (block_powers f root) table → (q t : ℕ) → q < 2 ^ (log - a) → t < 2 ^ a

@@ -1,4 +1,4 @@
-use Rattle.std.proofs.Common.{◌≡◌, ◌*◌, ◌≤◌, ◌^◌, ap, ap₂, arith, pow_pos}
+use Rattle.std.proofs.Common.{◌*◌, ◌≤◌, ◌^◌, ap, ap₂, arith, pow_pos}
 use Rattle.std.proofs.Math.Nat.{mul-le-mul_right}
 use Rattle.p3_dft.proofs.Calls.Coordinates.{flattened-full, flattened-height}
 use Rattle.p3_dft.proofs.algebra.flatten.Goals as goal

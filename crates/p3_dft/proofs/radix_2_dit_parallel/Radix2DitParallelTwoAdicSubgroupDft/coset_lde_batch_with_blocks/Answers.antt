@@ -11,7 +11,7 @@ use Rattle.p3_dft.proofs.BitReversed.Coefficients.{extension_of_answered, values
 use Rattle.p3_dft.proofs.BitReversed.Rows.{values_seen}
 use Rattle.p3_dft.proofs.Calls.Padding.{padded_shape, padded_whole}
 use Rattle.p3_dft.proofs.Calls.PreparedCosets.{later_with_tables}
-use Rattle.p3_dft.proofs.Calls.PreparedHeights.{prepared_before, prepared_until, until_prepared}
+use Rattle.p3_dft.proofs.Calls.PreparedHeights.{prepared_before, prepared_until}
 use Rattle.p3_dft.proofs.Calls.Shapes.{output_log_small}
 use Rattle.p3_dft.proofs.radix_2_dit_parallel.Radix2DitParallelTwoAdicSubgroupDft.coset_lde_batch_with_blocks.Goals as goal
 

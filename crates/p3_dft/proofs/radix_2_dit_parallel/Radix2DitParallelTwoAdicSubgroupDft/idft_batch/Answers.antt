@@ -11,7 +11,6 @@ use Rattle.p3_dft.proofs.BitReversed.Coefficients.{interpolation_of_coefficients
 use Rattle.p3_dft.proofs.BitReversed.Rows.{transform_of_row}
 use Rattle.p3_networks.proofs.Polynomials.Interpolation.{same_coefficients}
 use Rattle.p3_dft.proofs.Calls.Inverses.{mapped_same}
-use Rattle.p3_networks.specs.Twiddles.{HasCoset}
 use Rattle.p3_dft.proofs.Calls.PreparedCosets.{later_with_tables}
 use Rattle.p3_dft.proofs.Calls.PreparedHeights.{prepared_before, prepared_until, until_prepared}
 use Rattle.p3_dft.proofs.radix_2_dit_parallel.Radix2DitParallelTwoAdicSubgroupDft.idft_batch.Goals as goal

@@ -1,11 +1,10 @@
-use Rattle.std.proofs.Common.{◌≡◌, ℕ, ◌^◌, sym, ap, ap₂, ◌∙◌}
+use Rattle.std.proofs.Common.{◌≡◌, ℕ, ◌^◌, sym, ap, ◌∙◌}
 use Rattle.p3_field.specs.Ring.{power}
 use Rattle.p3_matrix.specs.BitOrder.{rev, bit_reversal}
 use Rattle.p3_matrix.specs.RowMajor.{height}
 use Rattle.p3_matrix.proofs.BitReversal.{rev-lt, rev-rev}
 use Rattle.p3_networks.specs.Polynomials.{poly}
 use Rattle.p3_dft.specs.Transforms.{values_of}
-use Rattle.p3_networks.specs.Twiddles.{root_of}
 use Rattle.p3_networks.proofs.Polynomials.ByIndex.{poly_same}
 use Rattle.p3_networks.proofs.Polynomials.Cosets.{is_subgroup_values}
 use Rattle.p3_dft.proofs.radix_2_dit_parallel.transform.evaluate.Goals as goal
@@ -22,6 +21,6 @@ returns-clause-values g c =
     (λ i j below inside.
     let f = λ (q : ℕ). (values_of field m).entry q j in
     c.transform.ensures.values (rev k i) j (rev-lt k i) inside
-    ∙ ap₂ (λ b r. poly field.ring (2 ^ k) (λ q. field.ring.mul (f q) field.ring.one) (power field.ring (root_of field gen b k) r)) c.requires.forward (rev-rev k i below)
+    ∙ ap (λ r. poly field.ring (2 ^ k) (λ q. field.ring.mul (f q) field.ring.one) (power field.ring (field.value (gen k)) r)) (rev-rev k i below)
     ∙ poly_same field.ring (2 ^ k) _ f (power field.ring (field.value (gen k)) i) (λ q p. field.ring.mul_one (f q))
     ∙ ap (λ n. poly field.ring n f (power field.ring (field.value (gen k)) i)) (sym c.requires.height))

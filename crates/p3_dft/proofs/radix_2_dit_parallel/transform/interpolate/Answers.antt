@@ -1,11 +1,8 @@
 use Rattle.std.proofs.Common.{◌≡◌, ◌^◌, ap, ◌∙◌}
-use Rattle.p3_field.specs.Ring.{count, power}
+use Rattle.p3_field.specs.Ring.{count}
 use Rattle.p3_field.proofs.Powers.{count-power_of_two}
-use Rattle.p3_matrix.specs.BitOrder.{rev}
 use Rattle.p3_matrix.specs.RowMajor.{height}
-use Rattle.p3_networks.specs.Polynomials.{poly}
 use Rattle.p3_dft.specs.Transforms.{values_of}
-use Rattle.p3_networks.specs.Twiddles.{root_of}
 use Rattle.p3_dft.proofs.BitReversed.Coefficients.{coefficients_of_scaled}
 use Rattle.p3_dft.proofs.radix_2_dit_parallel.transform.interpolate.Goals as goal
 
@@ -21,6 +18,4 @@ returns-clause-coefficients g c =
     let undone : field.ring.mul (count field.ring (2 ^ k)) scale ≡ field.ring.one =
     ap (λ x. field.ring.mul x scale) (count-power_of_two field.ring k) ∙ c.div_2exp_u64-scale.ensures ∙ ap field.value c.ONE.ensures ∙ g.met.F.Field.one_law in
     coefficients_of_scaled field.ring g.met.F.TwoAdicField.roots_law (values_of field m) (values_of field out) k scale c.requires.rooted c.requires.height tall c.transform.ensures.shape.1 undone
-    (λ i j below inside.
-    c.transform.ensures.values i j below inside
-    ∙ ap (λ b. poly field.ring (2 ^ k) (λ q. field.ring.mul ((values_of field m).entry q j) scale) (power field.ring (root_of field gen b k) (rev k i))) c.requires.inverse)
+    (λ i j below inside. c.transform.ensures.values i j below inside)

@@ -7,21 +7,21 @@ use Rattle.p3_dft.specs.Transforms.{values_of}
 use Rattle.p3_networks.specs.Twiddles.{factor, root_of, scale_cost}
 use Rattle.p3_networks.proofs.Layers.Counts.{halves_counted}
 use Rattle.p3_networks.proofs.Polynomials.Cosets.{point_of_one}
-use Rattle.p3_networks.proofs.Tables.RootPowers.{are_roots, block_room, block_table, fewer_roots, low_table}
+use Rattle.p3_networks.proofs.Tables.FromStart.{block_table}
+use Rattle.p3_networks.proofs.Tables.RootPowers.{are_roots, fewer_roots, low_table}
 use Rattle.p3_dft.proofs.radix_2_dit_parallel.transform.transform.Goals as goal
 
 whole : (k : ℕ) → (k + 1) / 2 + (k - (k + 1) / 2) ≡ k
 whole k = omega arith
 
 pub network-requires-clause-high : goal.network-requires-clause-high
-network-requires-clause-high g c l from below =
-    block_room g.F.Field g.F.TwoAdicField.generator c.args.tables.now.inverse c.args.log_h c.args.tables.now.log_h l c.high.result.now c.requires.there (omega (arith, below)) c.high.ensures.table
+network-requires-clause-high g c l from below = c.high.ensures.table.size l (omega (arith, below, c.requires.there))
 
 pub returns-clause-values : goal.returns-clause-values
 returns-clause-values g c r j p q =
     let field = g.F.Field in
     let gen = g.F.TwoAdicField.generator in
-    let inverse = c.args.tables.now.inverse in
+    let inverse = c.args.inverse in
     let k = c.args.log_h in
     let mid = (k + 1) / 2 in
     let left = k - mid in
@@ -31,7 +31,7 @@ returns-clause-values g c r j p q =
     let f = λ (u : ℕ). field.ring.mul ((values_of field c.args.mat.now).entry u j) (factor field c.args.scale) in
     c.network.ensures.values root field.ring.one roots
     (low_table field gen inverse mid _ (2 ^ left) c.low.result.now (omega (arith, c.requires.there)) c.low.ensures)
-    (block_table field gen inverse mid (mid + left) c.args.tables.now.log_h c.high.result.now g.met.F.TwoAdicField.roots_law c.high.ensures.within (omega (arith, c.requires.there)) c.high.ensures.table)
+    (block_table field root mid (mid + left) c.args.tables.now c.high.result.now (omega (arith, c.requires.there)) c.high.ensures.table)
     r j (subst (λ (n : ℕ). r < 2 ^ n) (sym k_is) p) q
     ∙ ap (λ n. poly field.ring (2 ^ n) f (point field.ring root n field.ring.one (rev n r))) k_is
     ∙ ap (poly field.ring (2 ^ k) f) (point_of_one field.ring root k (rev k r))

@@ -12,7 +12,7 @@ use Rattle.p3_matrix.proofs.TwoPowers.{log_lt}
 use Rattle.p3_networks.specs.Twiddles.{backward_root, block_powers}
 use Rattle.p3_networks.proofs.Tables.InversePowers.{inverse_entry}
 use Rattle.p3_networks.proofs.Layers.Halves.{in_first}
-use Rattle.p3_networks.proofs.radix_2_small_batch.tables.inverse_powers.Goals as goal
+use Rattle.p3_networks.proofs.root_tables.inverse_powers.Goals as goal
 
 -- the run of place b lies within half the powers, and so does the place that b changes with
 record IsRun (n p b run : ℕ) : Type 0 where

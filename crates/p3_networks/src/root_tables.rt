@@ -1,4 +1,4 @@
-//! The twiddles of the engine, for both directions.
+//! The powers of the roots, for both directions and all heights up to one, in bit reversed order.
 
 ghost use Rattle.std.specs.Prelude.{◌≡◌, ◌⊎◌, ℕ, ◌+◌, ◌-◌, ◌*◌, ◌^◌, ◌<◌, ◌≤◌, IsOk, IfOk, OnOk, OnErr, length};
 ghost use Rattle.p3_networks.specs.Twiddles.{AreTwiddles, AreTwiddlesFromStart, backward_root, block_powers, forward_root};
@@ -9,19 +9,19 @@ use p3_matrix::DftError;
 use std::alloc::Global;
 use std::marker::Model;
 
-/// Two tables, which are kept until the engine ends: the powers of the generator of the largest height
+/// Two tables, which an engine keeps until it ends: the powers of the generator of the largest height
 /// that they are for, and those of its inverse, both in bit reversed order. A layer of `2^l` blocks has
 /// the first `2^l` entries, at each height, so that heights and layers share them.
 ///
 /// Contracts see the logarithm of that height.
 #[derive(Drop)]
-pub struct Tables<F: TwoAdicField> {
+pub struct RootTables<F: TwoAdicField> {
     log_h: usize,
     forward: Option<Vec<F>>,
     backward: Option<Vec<F>>,
 }
 
-impl<F: TwoAdicField> Model for Tables<F> {
+impl<F: TwoAdicField> Model for RootTables<F> {
     ghost use Rattle.std.specs.Prelude.{ℕ};
     ghost use Rattle.p3_networks.specs.Twiddles.{AreTwiddlesFromStart, backward_root, block_powers, forward_root, items_if_any};
 
@@ -34,12 +34,12 @@ impl<F: TwoAdicField> Model for Tables<F> {
         × AreTwiddlesFromStart F.Field t.log_h (block_powers F.Field (backward_root F.Field F.generator)) (items_if_any t.backward) };
 }
 
-impl<F: TwoAdicField> Tables<F> {
+impl<F: TwoAdicField> RootTables<F> {
     /// Those of height one, which has no layer. They take no memory.
     pub fn new() -> Self
         ensures { result ≡ 0 }
     {
-        Tables {
+        RootTables {
             log_h: 0,
             forward: None,
             backward: None,

@@ -1,6 +1,6 @@
 use Rattle.std.proofs.Common.{◌-◌}
 use Rattle.p3_networks.specs.Twiddles.{AreTwiddles, backward_root, block_powers}
-use Rattle.p3_networks.proofs.radix_2_small_batch.tables.inverse_powers.Given as goal
+use Rattle.p3_networks.proofs.root_tables.inverse_powers.Given as goal
 
 -- the first b of them are there
 abbrev pub invariant-loop-b : goal.invariant-loop-b

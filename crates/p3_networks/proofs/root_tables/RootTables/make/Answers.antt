@@ -2,7 +2,7 @@ use Rattle.std.proofs.Common.{◌≡◌, ◌+◌, ◌-◌, ◌^◌, ap, ◌∙�
 use Rattle.p3_field.proofs.Roots.{inverse_roots}
 use Rattle.p3_networks.specs.Twiddles.{AreTwiddles, backward_root, block_powers, forward_root}
 use Rattle.p3_networks.proofs.Tables.FromStart.{from_start, powers_from_one}
-use Rattle.p3_networks.proofs.radix_2_small_batch.tables.Tables.make.Goals as goal
+use Rattle.p3_networks.proofs.root_tables.RootTables.make.Goals as goal
 
 pub inverse_powers-requires-clause-powers : goal.inverse_powers-requires-clause-powers
 inverse_powers-requires-clause-powers g c =
