@@ -6,6 +6,7 @@ ghost use Rattle.p3_field.specs.Ring.{Ring};
 pub mod rules;
 
 use p3_field::{PackedField, Products, TwoAdicField};
+use p3_matrix::Butterfly;
 
 /// Which butterfly meets a pair of rows: that of place t in block b.
 ///
@@ -229,4 +230,67 @@ fn meet_halves<F: TwoAdicField, R: Rule<F>>(
             products,
         );
     }
+}
+
+/// A layer from rows of another slice, which stay. The source and the values are blocks of two halves, of
+/// `size` entries each, and entry i of the first half of a block meets entry i of the second by the one
+/// butterfly.
+///
+/// Inlined, so that a size that the caller names is known in the loop.
+#[inline(always)]
+pub fn layer_from<F: TwoAdicField, B: Butterfly<F>>(
+    butterfly: B,
+    source: &[F],
+    values: &mut [F],
+    size: usize,
+    blocks: usize,
+    products: &mut Products,
+)
+    requires blocks { 1 ≤ blocks }
+    requires source { length source.now ≡ blocks * (2 * size) }
+    requires size { length values.old ≡ blocks * (2 * size) }
+    ensures near { let cell = λ (xs : List F) (n : ℕ). F.value (get_or xs n F.ZERO) in
+        (b i : ℕ) → b < blocks → i < size → cell values.new (b * (2 * size) + i)
+        ≡ B.near F.Element F.ring F.value butterfly (cell source.now (b * (2 * size) + i)) (cell source.now (b * (2 * size) + (size + i))) }
+    ensures far { let cell = λ (xs : List F) (n : ℕ). F.value (get_or xs n F.ZERO) in
+        (b i : ℕ) → b < blocks → i < size → cell values.new (b * (2 * size) + (size + i))
+        ≡ B.far F.Element F.ring F.value butterfly (cell source.now (b * (2 * size) + i)) (cell source.now (b * (2 * size) + (size + i))) }
+    ensures grows { products.old ≤ products.new }
+    ensures count { products.new ≤ products.old + B.cost * (blocks * size) }
+{
+    let whole = 2 * size;
+    for b in 0..blocks {
+        let start = b * whole;
+        meet_block_from(
+            butterfly,
+            &source[start..start + whole],
+            &mut values[start..start + whole],
+            size,
+            products,
+        );
+    }
+}
+
+// One block of it.
+#[inline(always)]
+fn meet_block_from<F: TwoAdicField, B: Butterfly<F>>(
+    butterfly: B,
+    source: &[F],
+    values: &mut [F],
+    size: usize,
+    products: &mut Products,
+)
+    requires source { length source.now ≡ 2 * size }
+    requires size { length values.old ≡ 2 * size }
+    ensures near { let cell = λ (xs : List F) (n : ℕ). F.value (get_or xs n F.ZERO) in
+        (i : ℕ) → i < size → cell values.new i
+        ≡ B.near F.Element F.ring F.value butterfly (cell source.now i) (cell source.now (size + i)) }
+    ensures far { let cell = λ (xs : List F) (n : ℕ). F.value (get_or xs n F.ZERO) in
+        (i : ℕ) → i < size → cell values.new (size + i)
+        ≡ B.far F.Element F.ring F.value butterfly (cell source.now i) (cell source.now (size + i)) }
+    ensures count { products.new ≡ products.old + B.cost * size }
+{
+    let (from_1, from_2) = source.split_at(size);
+    let (low, high) = values.split_at_mut(size);
+    butterfly.apply_to_rows_oop(from_1, low, from_2, high, products);
 }

@@ -4,7 +4,7 @@ use Rattle.std.proofs.lemmas.List.{places}
 use Rattle.std.proofs.lemmas.Nat.{div-add-mod', div_below, mod_below}
 use Rattle.std.proofs.Math.Nat.{mul-div_cancel, mul-le-mul_right}
 use borrow.Rule.Slice.PartMut.{put_mid}
-use Rattle.p3_networks.proofs.Rows.Overwritten.{RowsDone, part_at, rows-more}
+use Rattle.p3_networks.proofs.Rows.Overwritten.{RowsDone, part-more, part_at}
 
 -- a place in a list of two parts
 pub in_first : {X : Type 0} (xs ys : List X) (i : ℕ) (d : X) → i < length xs → get_or (xs ++ ys) i d ≡ get_or xs i d
@@ -42,7 +42,21 @@ pub part_length : {X : Type 0} (xs : List X) (a size : ℕ) → a + size ≤ len
 part_length xs a size room = search (rules, places)
 
 module _ {A T : Type 0} (value : T → A) (d : T) (near far : ℕ → ℕ → A → A → A) (size : ℕ) where
-  -- one more block, which was done as a part of its own; the program has the size of a block in a variable of its own
+  -- one more block, from the cells x, which a part holds; the program has the size of a block in a variable of its own
+  pub block-more : (x : ℕ → A) (before now part block : List T) (b whole : ℕ) → whole ≡ 2 * size → b * whole + whole ≤ length now → length block ≡ 2 * size
+      → ((n : ℕ) → n < 2 * size → value (get_or part n d) ≡ x (b * (2 * size) + n))
+      → ((i : ℕ) → i < size → value (get_or block i d) ≡ near b i (value (get_or part i d)) (value (get_or part (size + i) d)))
+      → ((i : ℕ) → i < size → value (get_or block (size + i) d) ≡ far b i (value (get_or part i d)) (value (get_or part (size + i) d)))
+      → RowsDone d (2 * size) (BothHalves size near far x value) before b now
+      → RowsDone d (2 * size) (BothHalves size near far x value) before (b + 1) (put_mid (b * whole) (b * whole + whole - b * whole) now block)
+  block-more x before now part block b whole is room len cell is_near is_far so_far =
+      part-more d (2 * size) (BothHalves size near far x value) before now block b whole is room len
+      (λ n inside. record {
+        first = λ i p e. ap (λ k. value (get_or block k d)) e ∙ is_near i p ∙ ap₂ (near b i) (cell i (omega arith)) (cell (size + i) (omega arith));
+        second = λ i p e. ap (λ k. value (get_or block k d)) e ∙ is_far i p ∙ ap₂ (far b i) (cell i (omega arith)) (cell (size + i) (omega arith));
+      }) so_far
+
+  -- in place: the part is that of the list so far
   pub blocks-more : (before now block : List T) (b whole : ℕ) → whole ≡ 2 * size → b * whole + whole ≤ length now → length block ≡ 2 * size
       → ((i : ℕ) → i < size → value (get_or block i d)
       ≡ near b i (value (get_or (take (b * whole + whole - b * whole) (drop (b * whole) now)) i d)) (value (get_or (take (b * whole + whole - b * whole) (drop (b * whole) now)) (size + i) d)))
@@ -53,12 +67,21 @@ module _ {A T : Type 0} (value : T → A) (d : T) (near far : ℕ → ℕ → A 
   blocks-more before now block b whole is room len is_near is_far so_far =
       let m : b * whole + whole - b * whole ≡ whole = omega arith in
       let start : b * (2 * size) ≡ b * whole = ap (λ n. b * n) (sym is) in
-      let part = take (b * whole + whole - b * whole) (drop (b * whole) now) in
-      let cell : (n : ℕ) → n < 2 * size → value (get_or part n d) ≡ value (get_or before (b * (2 * size) + n) d) =
-      λ n inside. ap value (part_at now (b * whole) (b * whole + whole - b * whole) n d (omega (arith, m, is)) ∙ so_far.rest (b * whole + n) (omega (arith, start)) ∙ ap (λ a. get_or before (a + n) d) (sym start)) in
-      subst (λ (a : ℕ). RowsDone d (2 * size) (BothHalves size near far (λ n. value (get_or before n d)) value) before (b + 1) (put_mid a (b * whole + whole - b * whole) now block)) start
-      (rows-more d (2 * size) (BothHalves size near far (λ n. value (get_or before n d)) value) before now block b (b * whole + whole - b * whole) (m ∙ is) (omega (arith, room, start, is)) len
-      (λ n inside. record {
-        first = λ i p e. ap (λ k. value (get_or block k d)) e ∙ is_near i p ∙ ap₂ (near b i) (cell i (omega arith)) (cell (size + i) (omega arith));
-        second = λ i p e. ap (λ k. value (get_or block k d)) e ∙ is_far i p ∙ ap₂ (far b i) (cell i (omega arith)) (cell (size + i) (omega arith));
-      }) so_far)
+      block-more (λ n. value (get_or before n d)) before now (take (b * whole + whole - b * whole) (drop (b * whole) now)) block b whole is room len
+      (λ n inside. ap value (part_at now (b * whole) (b * whole + whole - b * whole) n d (omega (arith, m, is)) ∙ so_far.rest (b * whole + n) (omega (arith, start)) ∙ ap (λ a. get_or before (a + n) d) (sym start)))
+      is_near is_far so_far
+
+  -- from another list: the part is that of the source
+  pub blocks-from : (source before now block : List T) (b whole : ℕ) → whole ≡ 2 * size → b * whole + whole ≤ length now → length block ≡ 2 * size
+      → ((i : ℕ) → i < size → value (get_or block i d)
+      ≡ near b i (value (get_or (take (b * whole + whole - b * whole) (drop (b * whole) source)) i d)) (value (get_or (take (b * whole + whole - b * whole) (drop (b * whole) source)) (size + i) d)))
+      → ((i : ℕ) → i < size → value (get_or block (size + i) d)
+      ≡ far b i (value (get_or (take (b * whole + whole - b * whole) (drop (b * whole) source)) i d)) (value (get_or (take (b * whole + whole - b * whole) (drop (b * whole) source)) (size + i) d)))
+      → RowsDone d (2 * size) (BothHalves size near far (λ n. value (get_or source n d)) value) before b now
+      → RowsDone d (2 * size) (BothHalves size near far (λ n. value (get_or source n d)) value) before (b + 1) (put_mid (b * whole) (b * whole + whole - b * whole) now block)
+  blocks-from source before now block b whole is room len is_near is_far so_far =
+      let m : b * whole + whole - b * whole ≡ whole = omega arith in
+      let start : b * (2 * size) ≡ b * whole = ap (λ n. b * n) (sym is) in
+      block-more (λ n. value (get_or source n d)) before now (take (b * whole + whole - b * whole) (drop (b * whole) source)) block b whole is room len
+      (λ n inside. ap value (part_at source (b * whole) (b * whole + whole - b * whole) n d (omega (arith, m, is)) ∙ ap (λ a. get_or source (a + n) d) (sym start)))
+      is_near is_far so_far

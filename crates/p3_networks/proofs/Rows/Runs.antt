@@ -1,10 +1,11 @@
 -- Runs of rows of a flat list that are done one after another, each from its own rows alone.
-use Rattle.std.proofs.Common.{◌≡◌, ℕ, ◌+◌, ◌*◌, ◌-◌, ◌^◌, ◌<◌, ◌≤◌, List, length, get_or, take, drop, refl, sym, ap, ◌∙◌, arith}
+use Rattle.std.proofs.Common.{◌≡◌, ℕ, ◌+◌, ◌*◌, ◌-◌, ◌/◌, ◌%◌, ◌^◌, ◌<◌, ◌≤◌, List, length, get_or, take, drop, refl, sym, ap, ◌∙◌, arith}
 use borrow.Rule.Slice.PartMut.{put_mid}
-use Rattle.std.proofs.lemmas.Nat.{pow-add}
+use Rattle.std.proofs.lemmas.Nat.{one_shl, pow-add, pow_pos}
 use Rattle.p3_field.specs.Ring.{Ring}
 use Rattle.p3_networks.specs.Polynomials.{poly}
 use Rattle.p3_networks.proofs.Layers.Blocks.{row_below}
+use Rattle.p3_networks.proofs.Layers.Halves.{block_size, block_room}
 use Rattle.p3_networks.proofs.Polynomials.ByIndex.{poly_same}
 use Rattle.p3_networks.proofs.Rows.Overwritten.{RowsDone, part_at, part-more}
 
@@ -15,38 +16,68 @@ run_size log part w within =
     let e : 2 ^ log ≡ 2 ^ (log - part) * 2 ^ part = sym (ap (λ n. 2 ^ n) split) ∙ pow-add 2 (log - part) part in
     ap (λ n. n * w) e ∙ omega arith
 
+-- runs, as a program has their number by a shift: so many cells has each, and each lies within all of them
+module _ (len log part w : ℕ) (small : log < 64) (within : part ≤ log) (full : len ≡ 2 ^ log * w) where
+  pub runs_are : 1 * 2 ^ (log - part) % 18446744073709551616 ≡ 2 ^ (log - part)
+  runs_are = one_shl (log - part) 64 (omega arith)
+
+  runs_whole : len ≡ 1 * 2 ^ (log - part) % 18446744073709551616 * (2 ^ part * w)
+  runs_whole = full ∙ run_size log part w within ∙ ap (λ n. n * (2 ^ part * w)) (sym runs_are)
+
+  pub run_cells : len / (1 * 2 ^ (log - part) % 18446744073709551616) ≡ 2 ^ part * w
+  run_cells = block_size len (1 * 2 ^ (log - part) % 18446744073709551616) (2 ^ part * w) (omega (arith, runs_are, pow_pos (log - part))) runs_whole
+
+  pub run_room : (run : ℕ) → run < 1 * 2 ^ (log - part) % 18446744073709551616
+      → run * (len / (1 * 2 ^ (log - part) % 18446744073709551616)) + len / (1 * 2 ^ (log - part) % 18446744073709551616) ≤ len
+  run_room run below = rw run_cells (block_room run (1 * 2 ^ (log - part) % 18446744073709551616) (2 ^ part * w) len below runs_whole)
+
 module _ {A T : Type 0} (R : Ring A) (value : T → A) (d : T) (m w : ℕ) (place : ℕ → ℕ) (change : A → A) (point : ℕ → ℕ → A) where
   -- cell n of run a, as it becomes: if it is entry j of row t, the value at point t of the polynomial whose coefficient q
   -- is, but for a change, entry j of row place q of the run
   abbrev pub RunDone : (ℕ → A) → ℕ → ℕ → T → Type 0
   RunDone x a n y = (t j : ℕ) → t < m → j < w → n ≡ t * w + j → value y ≡ poly R m (λ q. change (x ((a * m + place q) * w + j))) (point a t)
 
-  -- one more run, which was done as a part of its own
+  -- one more run, which was done as a part of its own from the cells x, which another part holds
+  pub run-more : (x : ℕ → A) (before now from part : List T) (a whole : ℕ) → ((q : ℕ) → q < m → place q < m) → whole ≡ m * w → a * whole + whole ≤ length now → length part ≡ m * w
+      → ((n : ℕ) → n < m * w → value (get_or from n d) ≡ x (a * (m * w) + n))
+      → ((t j : ℕ) → t < m → j < w → value (get_or part (t * w + j) d) ≡ poly R m (λ q. change (value (get_or from (place q * w + j) d))) (point a t))
+      → RowsDone d (m * w) (RunDone x) before a now → RowsDone d (m * w) (RunDone x) before (a + 1) (put_mid (a * whole) (a * whole + whole - a * whole) now part)
+  run-more x before now from part a whole within is room len cell are so_far =
+      part-more d (m * w) (RunDone x) before now part a whole is room len
+      (λ n inside t j p q at. ap (λ k. value (get_or part k d)) at ∙ are t j p q
+      ∙ poly_same R m _ _ (point a t) (λ u l.
+      let flat : a * (m * w) + (place u * w + j) ≡ (a * m + place u) * w + j = omega arith in
+      ap change (cell (place u * w + j) (row_below (place u) j w m (within u l) q) ∙ ap x flat))) so_far
+
+  -- in place: from the part of the list so far
   pub runs-more : (before now part : List T) (a whole : ℕ) → ((q : ℕ) → q < m → place q < m) → whole ≡ m * w → a * whole + whole ≤ length now → length part ≡ m * w
       → ((t j : ℕ) → t < m → j < w → value (get_or part (t * w + j) d)
       ≡ poly R m (λ q. change (value (get_or (take (a * whole + whole - a * whole) (drop (a * whole) now)) (place q * w + j) d))) (point a t))
       → RowsDone d (m * w) (RunDone (λ n. value (get_or before n d))) before a now
       → RowsDone d (m * w) (RunDone (λ n. value (get_or before n d))) before (a + 1) (put_mid (a * whole) (a * whole + whole - a * whole) now part)
   runs-more before now part a whole within is room len are so_far =
-      part-more d (m * w) (RunDone (λ n. value (get_or before n d))) before now part a whole is room len
-      (λ n inside t j p q at. ap (λ k. value (get_or part k d)) at ∙ are t j p q ∙ poly_same R m _ _ (point a t) (λ u l. ap change (cell u j (within u l) q))) so_far
-    where
-      e : a * whole + whole - a * whole ≡ whole
-      e = omega arith
+      let e : a * whole + whole - a * whole ≡ whole = omega arith in
+      let start : a * (m * w) ≡ a * whole = ap (λ n. a * n) (sym is) in
+      run-more (λ n. value (get_or before n d)) before now (take (a * whole + whole - a * whole) (drop (a * whole) now)) part a whole within is room len
+      (λ n inside. ap value (part_at now (a * whole) (a * whole + whole - a * whole) n d (omega (arith, e, is)) ∙ so_far.rest (a * whole + n) (omega (arith, start)) ∙ ap (λ b. get_or before (b + n) d) (sym start)))
+      are so_far
 
-      start : a * (m * w) ≡ a * whole
-      start = ap (λ n. a * n) (sym is)
+  -- from another list: from the part of the source
+  pub runs-from : (source before now part : List T) (a whole : ℕ) → ((q : ℕ) → q < m → place q < m) → whole ≡ m * w → a * whole + whole ≤ length now → length part ≡ m * w
+      → ((t j : ℕ) → t < m → j < w → value (get_or part (t * w + j) d)
+      ≡ poly R m (λ q. change (value (get_or (take (a * whole + whole - a * whole) (drop (a * whole) source)) (place q * w + j) d))) (point a t))
+      → RowsDone d (m * w) (RunDone (λ n. value (get_or source n d))) before a now
+      → RowsDone d (m * w) (RunDone (λ n. value (get_or source n d))) before (a + 1) (put_mid (a * whole) (a * whole + whole - a * whole) now part)
+  runs-from source before now part a whole within is room len are so_far =
+      let e : a * whole + whole - a * whole ≡ whole = omega arith in
+      let start : a * (m * w) ≡ a * whole = ap (λ n. a * n) (sym is) in
+      run-more (λ n. value (get_or source n d)) before now (take (a * whole + whole - a * whole) (drop (a * whole) source)) part a whole within is room len
+      (λ n inside. ap value (part_at source (a * whole) (a * whole + whole - a * whole) n d (omega (arith, e, is)) ∙ ap (λ b. get_or source (b + n) d) (sym start)))
+      are so_far
 
-      cell : (u j : ℕ) → place u < m → j < w → value (get_or (take (a * whole + whole - a * whole) (drop (a * whole) now)) (place u * w + j) d) ≡ value (get_or before ((a * m + place u) * w + j) d)
-      cell u j l q =
-          let below : place u * w + j < m * w = row_below (place u) j w m l q in
-          let flat : a * (m * w) + (place u * w + j) ≡ (a * m + place u) * w + j = omega arith in
-          ap value (part_at now (a * whole) (a * whole + whole - a * whole) (place u * w + j) d (omega (arith, below, e, is)) ∙ so_far.rest (a * whole + (place u * w + j)) (omega (arith, start))
-          ∙ ap (λ n. get_or before (n + (place u * w + j)) d) (sym start) ∙ ap (λ n. get_or before n d) flat)
-
-  -- all runs done
-  pub runs-all : (before after : List T) (n a t j : ℕ) → RowsDone d (m * w) (RunDone (λ n. value (get_or before n d))) before n after → a < n → t < m → j < w
-      → value (get_or after ((a * m + t) * w + j) d) ≡ poly R m (λ q. change (value (get_or before ((a * m + place q) * w + j) d))) (point a t)
-  runs-all before after n a t j done p q l =
+  -- all runs done, from the cells of a list
+  pub runs-all : {before : List T} (from after : List T) (n a t j : ℕ) → RowsDone d (m * w) (RunDone (λ n. value (get_or from n d))) before n after → a < n → t < m → j < w
+      → value (get_or after ((a * m + t) * w + j) d) ≡ poly R m (λ q. change (value (get_or from ((a * m + place q) * w + j) d))) (point a t)
+  runs-all from after n a t j done p q l =
       let flat : (a * m + t) * w + j ≡ a * (m * w) + (t * w + j) = omega arith in
       ap (λ k. value (get_or after k d)) flat ∙ done.done a (t * w + j) p (row_below t j w m q l) t j q l refl

@@ -11,12 +11,13 @@ ghost use Rattle.p3_networks.specs.Layers.{AreValuesOfRows};
 ghost use Rattle.p3_networks.specs.Twiddles.{AreBlockTwiddles, AreTwiddlesOfLayers, coset_twiddles, block_end};
 ghost use Rattle.p3_networks.specs.Twiddles.{block_entries, factor, scale_cost};
 
-use crate::butterfly_layers::layer;
 use crate::butterfly_layers::rules::{
     DitByBlock, DitByBlockOnCoset, DitByPlace, DitByPlaceOnCoset, ScaledDitByBlock,
 };
+use crate::butterfly_layers::{layer, layer_from};
 use crate::twiddles::layer_twiddles;
 use p3_field::{Field, Products, TwoAdicField};
+use p3_matrix::{DitButterfly, TwiddleFreeButterfly};
 
 /// The twiddles of the second half, whose blocks take them in bit reversed order: one table for all
 /// layers, of which a layer has the first ones, or a table for each layer, one after another.
@@ -101,6 +102,77 @@ fn low_runs<F: TwoAdicField>(
         let start = run * size;
         let rows = &mut values[start..start + size];
         low_network(rows, width, mid, twiddles, products);
+    }
+}
+
+/// The first half from rows of another slice, which stay.
+pub fn first_half_from<F: TwoAdicField>(
+    source: &[F],
+    values: &mut [F],
+    width: usize,
+    log_h: usize,
+    mid: usize,
+    twiddles: &[F],
+    products: &mut Products,
+)
+    requires wide { 1 ≤ width }
+    requires small { log_h < 64 }
+    requires parts { mid ≤ log_h }
+    requires source { length source.now ≡ 2 ^ log_h * width }
+    requires height { length values.old ≡ 2 ^ log_h * width }
+    requires table { 2 ^ mid - 1 ≤ length twiddles.now }
+    ensures values { (g : ℕ → F.Element) (s : F.Element) → AreRoots F.ring mid g
+        → AreTwiddlesOfLayers F.Field.own mid (coset_twiddles F.Field.own g s mid) twiddles.now
+        → (a t j : ℕ) → a < 2 ^ (log_h - mid) → t < 2 ^ mid → j < width
+        → F.value (get_or values.new ((a * 2 ^ mid + t) * width + j) F.ZERO)
+        ≡ poly F.ring (2 ^ mid) (λ q. F.value (get_or source.now ((a * 2 ^ mid + rev mid q) * width + j) F.ZERO)) (point F.ring g mid s t) }
+    ensures grows { products.old ≤ products.new }
+    ensures count { products.new ≤ products.old + 2 ^ (log_h - mid) * (width * (mid * 2 ^ mid / 2)) }
+{
+    if width == 1 {
+        low_runs_from(source, values, 1, log_h, mid, twiddles, products);
+    } else {
+        low_runs_from(source, values, width, log_h, mid, twiddles, products);
+    }
+}
+
+// The same. Inlined as the runs in place are.
+#[inline(always)]
+fn low_runs_from<F: TwoAdicField>(
+    source: &[F],
+    values: &mut [F],
+    width: usize,
+    log_h: usize,
+    mid: usize,
+    twiddles: &[F],
+    products: &mut Products,
+)
+    requires wide { 1 ≤ width }
+    requires small { log_h < 64 }
+    requires parts { mid ≤ log_h }
+    requires source { length source.now ≡ 2 ^ log_h * width }
+    requires height { length values.old ≡ 2 ^ log_h * width }
+    requires table { 2 ^ mid - 1 ≤ length twiddles.now }
+    ensures values { (g : ℕ → F.Element) (s : F.Element) → AreRoots F.ring mid g
+        → AreTwiddlesOfLayers F.Field.own mid (coset_twiddles F.Field.own g s mid) twiddles.now
+        → (a t j : ℕ) → a < 2 ^ (log_h - mid) → t < 2 ^ mid → j < width
+        → F.value (get_or values.new ((a * 2 ^ mid + t) * width + j) F.ZERO)
+        ≡ poly F.ring (2 ^ mid) (λ q. F.value (get_or source.now ((a * 2 ^ mid + rev mid q) * width + j) F.ZERO)) (point F.ring g mid s t) }
+    ensures grows { products.old ≤ products.new }
+    ensures count { products.new ≤ products.old + 2 ^ (log_h - mid) * (width * (mid * 2 ^ mid / 2)) }
+{
+    let runs = 1usize << (log_h - mid);
+    let size = values.len() / runs;
+    for run in 0..runs {
+        let start = run * size;
+        low_network_from(
+            &source[start..start + size],
+            &mut values[start..start + size],
+            width,
+            mid,
+            twiddles,
+            products,
+        );
     }
 }
 
@@ -201,6 +273,42 @@ fn low_network<F: TwoAdicField>(
     }
 }
 
+// All layers on rows of another slice, which stay: the first one goes from them into the values, the others
+// follow in place. Where there is no layer, the rows are copied.
+#[inline(always)]
+fn low_network_from<F: TwoAdicField>(
+    source: &[F],
+    values: &mut [F],
+    width: usize,
+    log_h: usize,
+    twiddles: &[F],
+    products: &mut Products,
+)
+    requires wide { 1 ≤ width }
+    requires small { log_h < 64 }
+    requires source { length source.now ≡ 2 ^ log_h * width }
+    requires height { length values.old ≡ 2 ^ log_h * width }
+    requires table { 2 ^ log_h - 1 ≤ length twiddles.now }
+    ensures values { (g : ℕ → F.Element) (s : F.Element) → AreRoots F.ring log_h g
+        → AreTwiddlesOfLayers F.Field.own log_h (coset_twiddles F.Field.own g s log_h) twiddles.now
+        → AreValuesOfRows F.Field.own width (2 ^ log_h) (rev log_h) (point F.ring g log_h s) source.now values.new }
+    ensures grows { products.old ≤ products.new }
+    ensures count { products.new ≤ products.old + width * (log_h * 2 ^ log_h / 2) }
+{
+    if log_h == 0 {
+        values.copy_from_slice(source);
+    } else {
+        let pairs = 1usize << (log_h - 1);
+        first_layer_from(twiddles, source, values, width, pairs, products);
+        for l in 1..log_h {
+            let half = 1usize << l;
+            let blocks = 1usize << (log_h - 1 - l);
+            let twiddles = layer_twiddles(twiddles, l);
+            layer_by_place(twiddles, values, width, half, blocks, products);
+        }
+    }
+}
+
 // All layers of one run, on rows in natural order: those from layer mid on of the whole matrix, in which
 // blocks are counted over the whole matrix. With `done` of `left` layers done there are `2^done` blocks
 // of two halves of `2^(left - 1 - done)` rows.
@@ -295,6 +403,43 @@ fn layer_by_place<F: TwoAdicField>(
             half,
             0,
             blocks,
+            products,
+        );
+    }
+}
+
+// The first such layer, from rows of another slice: its blocks are pairs of rows, which all have twiddle 0.
+#[inline(always)]
+fn first_layer_from<F: TwoAdicField>(
+    twiddles: &[F],
+    source: &[F],
+    values: &mut [F],
+    width: usize,
+    pairs: usize,
+    products: &mut Products,
+)
+    requires blocks { 1 ≤ pairs }
+    requires source { length source.now ≡ pairs * (2 * width) }
+    requires size { length values.old ≡ pairs * (2 * width) }
+    requires table { 1 ≤ length twiddles.now }
+    ensures near { let cell = λ (xs : List F) (n : ℕ). F.value (get_or xs n F.ZERO) in
+        (b i : ℕ) → b < pairs → i < width → cell values.new (b * (2 * width) + i)
+        ≡ dit_near F.ring (cell twiddles.now 0) (cell source.now (b * (2 * width) + i)) (cell source.now (b * (2 * width) + (width + i))) }
+    ensures far { let cell = λ (xs : List F) (n : ℕ). F.value (get_or xs n F.ZERO) in
+        (b i : ℕ) → b < pairs → i < width → cell values.new (b * (2 * width) + (width + i))
+        ≡ dit_far F.ring (cell twiddles.now 0) (cell source.now (b * (2 * width) + i)) (cell source.now (b * (2 * width) + (width + i))) }
+    ensures grows { products.old ≤ products.new }
+    ensures count { products.new ≤ products.old + 1 * (pairs * width) }
+{
+    if twiddles[0] == F::ONE {
+        layer_from(TwiddleFreeButterfly, source, values, width, pairs, products);
+    } else {
+        layer_from(
+            DitButterfly(twiddles[0]),
+            source,
+            values,
+            width,
+            pairs,
             products,
         );
     }

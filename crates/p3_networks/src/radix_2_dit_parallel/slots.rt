@@ -15,7 +15,9 @@ ghost use Rattle.p3_networks.specs.Slots.{extended_rows, slot_block, slot_blocks
 ghost use Rattle.p3_networks.specs.Twiddles.{AreBlockTwiddles, HasCoset, HasCosets, IsCosetOf, block_end, forward_root};
 
 use crate::radix_2_dit_parallel::coset_tables::{CosetTable, CosetTables};
-use crate::radix_2_dit_parallel::halves::{BlockTwiddles, first_half, high_network};
+use crate::radix_2_dit_parallel::halves::{
+    BlockTwiddles, first_half, first_half_from, high_network,
+};
 use p3_field::{Field, Products, TwoAdicField};
 use p3_matrix::bitrev::reverse_runs;
 use p3_matrix::{BlockConsumer, RowMajorMatrixView, reverse_bits_len};
@@ -130,8 +132,23 @@ fn evaluate_from<F: TwoAdicField, C: BlockConsumer<F>>(
     ensures grows { products.old ≤ products.new }
     ensures count { products.new ≤ products.old + width * (log_h * 2 ^ log_h / 2) }
 {
-    values.copy_from_slice(coefficients);
-    evaluate_in_place(values, width, log_h, table, first_row, consumer, products)
+    let mid = (log_h + 1) / 2;
+    let twiddles = table.twiddles();
+    first_half_from(coefficients, values, width, log_h, mid, twiddles, products);
+    let high = BlockTwiddles {
+        twiddles,
+        by_layer: true,
+    };
+    last_half(
+        values,
+        width,
+        mid,
+        log_h - mid,
+        high,
+        first_row,
+        consumer,
+        products,
+    )
 }
 
 // The same in their place.

@@ -1,28 +1,17 @@
-use Rattle.std.proofs.Common.{◌≡◌, ℕ, ◌+◌, ◌*◌, ◌-◌, ◌^◌, ◌%◌, ◌<◌, ◌≤◌, get_or, sym, ap, ap₂, ◌∙◌, subst, arith, length}
+use Rattle.std.proofs.Common.{◌≡◌, ℕ, ◌+◌, ◌*◌, ◌-◌, ◌^◌, ◌%◌, ◌≤◌, get_or, ap, ◌∙◌, subst, arith, length}
 use Rattle.p3_matrix.specs.BitOrder.{rev}
-use Rattle.p3_matrix.specs.Butterflies.{dit_near, dit_far}
-use Rattle.p3_matrix.proofs.BitReversal.{rev-rev}
-use Rattle.p3_networks.specs.Twiddles.{AreTwiddles, coset_twiddles}
 use Rattle.p3_networks.proofs.Layers.Blocks.{halves_whole}
 use Rattle.p3_networks.proofs.Layers.Counts.{layer_counted, layers_counted}
 use Rattle.p3_networks.proofs.Layers.Sizes.{cells_by_halves, done_shift, layer_size, left_shift, some_rows}
-use Rattle.p3_networks.proofs.Networks.Formulas.{whole_layer_taken}
-use Rattle.p3_networks.proofs.Networks.LowRows.{low_row, low_rows, low_start, low_end}
-use Rattle.p3_networks.proofs.Networks.Stages.{twiddle, twiddle_is}
+use Rattle.p3_networks.proofs.Networks.LowLayers.{low_begun, low_done, low_layer}
 use Rattle.p3_networks.proofs.Tables.MoreTwiddles.{layer_end}
 use Rattle.p3_networks.proofs.radix_2_dit_parallel.halves.low_network.Goals as goal
 
 pub loop-l-init : goal.loop-l-init
 loop-l-init g c =
     let field = g.F.Field in
-    let k = c.args.log_h in
-    let w = c.args.width in
-    let e : k - 0 ≡ k = omega arith in
-    let cell = λ (n : ℕ). field.value (get_or c.args.values.now n field.ZERO) in
     record {
-      rows = λ root s roots table j r h q.
-          sym (low_start field.ring root s (k - 0) (λ u. cell (rev k u * w + j)) r
-          ∙ ap (λ u. cell (u * w + j)) (ap (λ n. rev k (rev n r)) e ∙ rev-rev k r q));
+      rows = λ root s roots table j r h q. low_begun field root s c.args.log_h c.args.width (λ n. field.value (get_or c.args.values.now n field.ZERO)) j r q;
       grows = omega arith;
       count = omega arith;
     }
@@ -62,17 +51,11 @@ loop-l-preserved g c =
     let h : half ≡ 2 ^ l = done_shift k l c.loop-l-test.true c.requires.small in
     let b : blocks ≡ 2 ^ (k - 1 - l) = left_shift k l c.loop-l-test.true c.requires.small in
     let whole : blocks * (2 * half) ≡ 2 ^ k = rw (h, b) (halves_whole k l c.loop-l-test.true) in
-    let entry = λ (t : ℕ). field.value (get_or c.layer_twiddles-twiddles.result.now t field.ZERO) in
     record {
       rows = λ root s roots layers j r inside below.
-          let table : AreTwiddles field (2 ^ l) (coset_twiddles field root s k l) c.layer_twiddles-twiddles.result.now = rw c.layer_twiddles-twiddles.ensures (layers.layers l c.loop-l-test.true) in
-          let power_is : (t : ℕ) → t < half → entry t ≡ twiddle field.ring root s l (k - 1 - l) t =
-          λ t below. table.entries t (omega (arith, below, h)) ∙ sym (twiddle_is field.ring root s l (k - 1 - l) t) in
-          whole_layer_taken (low_rows field.ring root s roots (λ u. field.value (get_or c.args.values.now (rev k u * w + j) field.ZERO)))
-          k l w half blocks (λ u t. dit_near field.ring (entry t)) (λ u t. dit_far field.ring (entry t))
+          low_layer field root s k w roots l half blocks c.layer_twiddles-twiddles.result.now (λ u. field.value (get_or c.args.values.now (rev k u * w + j) field.ZERO))
           (λ n. field.value (get_or c.loop-l.values n field.ZERO)) (λ n. field.value (get_or c.layer_by_place.new.values n field.ZERO))
-          (omega arith) c.loop-l-test.true h whole
-          (λ u t p q. ap (dit_near field.ring) (power_is t q)) (λ u t p q. ap (dit_far field.ring) (power_is t q))
+          c.loop-l-test.true h whole (rw c.layer_twiddles-twiddles.ensures (layers.layers l c.loop-l-test.true))
           c.layer_by_place.ensures.near c.layer_by_place.ensures.far j inside
           (λ u v. c.loop-l.invariant.rows root s roots layers j u inside v) r below;
       grows = omega (arith, c.loop-l.invariant.grows, c.layer_by_place.ensures.grows);
@@ -82,11 +65,7 @@ loop-l-preserved g c =
 pub returns-clause-values : goal.returns-clause-values
 returns-clause-values g c root s roots layers r j q p =
     let field = g.F.Field in
-    let k = c.args.log_h in
-    let e : c.loop-l.l ≡ k = omega arith in
-    let d : k - c.loop-l.l ≡ 0 = omega arith in
-    let f = λ (u : ℕ). field.value (get_or c.args.values.now (rev k u * c.args.width + j) field.ZERO) in
-    c.loop-l.invariant.rows root s roots layers j r p q ∙ ap₂ (λ x y. low_row field.ring root s x y f r) e d ∙ low_end field.ring root s k f r q
+    low_done field root s c.args.log_h c.args.width c.loop-l.l _ _ r (omega arith) (c.loop-l.invariant.rows root s roots layers j r p q) q
 
 pub returns-clause-count : goal.returns-clause-count
 returns-clause-count g c =

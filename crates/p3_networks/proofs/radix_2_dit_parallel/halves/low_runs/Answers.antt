@@ -1,28 +1,19 @@
-use Rattle.std.proofs.Common.{◌≡◌, ℕ, ◌+◌, ◌*◌, ◌-◌, ◌/◌, ◌^◌, ◌%◌, ◌<◌, ◌≤◌, length, ap, ◌∙◌, subst, arith}
-use Rattle.std.proofs.lemmas.Nat.{one_shl, pow_pos}
+use Rattle.std.proofs.Common.{◌≡◌, ℕ, ◌+◌, ◌*◌, ◌-◌, ◌/◌, ◌^◌, ◌%◌, ◌≤◌, length, ap, ◌∙◌, subst, arith}
 use Rattle.p3_matrix.specs.BitOrder.{rev}
 use Rattle.p3_matrix.proofs.BitReversal.{rev-lt}
 use Rattle.p3_networks.specs.Cosets.{point}
 use Rattle.p3_networks.proofs.Layers.Counts.{count_more}
-use Rattle.p3_networks.proofs.Layers.Halves.{block_size, block_room, part_length}
-use Rattle.p3_networks.proofs.Rows.Runs.{run_size, runs-more, runs-all}
+use Rattle.p3_networks.proofs.Layers.Halves.{part_length}
+use Rattle.p3_networks.proofs.Rows.Runs.{run_cells, run_room, runs_are, runs-all, runs-more}
 use Rattle.p3_networks.proofs.Rows.Overwritten.{rows-none}
 use Rattle.p3_networks.proofs.radix_2_dit_parallel.halves.low_runs.Goals as goal
-
-runs_are : (k mid : ℕ) → k < 64 → 1 * 2 ^ (k - mid) % 18446744073709551616 ≡ 2 ^ (k - mid)
-runs_are k mid small = one_shl (k - mid) 64 (omega arith)
 
 pub low_network-requires-clause-height : goal.low_network-requires-clause-height
 low_network-requires-clause-height g c =
     let len = length c.args.values.now in
-    let runs = 1 * 2 ^ (c.args.log_h - c.args.mid) % 18446744073709551616 in
-    let whole = len / runs in
-    let size = 2 ^ c.args.mid * c.args.width in
-    let count : runs ≡ 2 ^ (c.args.log_h - c.args.mid) = runs_are c.args.log_h c.args.mid c.requires.small in
-    let cells : len ≡ runs * size = rw count (c.requires.height ∙ run_size c.args.log_h c.args.mid c.args.width c.requires.parts) in
-    let is : whole ≡ size = block_size len runs size (omega (arith, count, pow_pos (c.args.log_h - c.args.mid))) cells in
-    let room : c.loop-run.run * size + size ≤ len = block_room c.loop-run.run runs size len c.loop-run-test.true cells in
-    part_length c.loop-run.values (c.loop-run.run * whole) whole (rw is (omega (arith, room, c.loop-run.auto.values))) ∙ is
+    let room = run_room len c.args.log_h c.args.mid c.args.width c.requires.small c.requires.parts c.requires.height c.loop-run.run c.loop-run-test.true in
+    part_length c.loop-run.values (c.loop-run.run * (len / (1 * 2 ^ (c.args.log_h - c.args.mid) % 18446744073709551616))) _ (omega (arith, room, c.loop-run.auto.values))
+    ∙ run_cells len c.args.log_h c.args.mid c.args.width c.requires.small c.requires.parts c.requires.height
 
 pub loop-run-init : goal.loop-run-init
 loop-run-init g c =
@@ -40,14 +31,10 @@ loop-run-preserved g c =
     let mid = c.args.mid in
     let w = c.args.width in
     let len = length c.args.values.now in
-    let runs = 1 * 2 ^ (c.args.log_h - mid) % 18446744073709551616 in
-    let whole = len / runs in
-    let size = 2 ^ mid * w in
-    let count : runs ≡ 2 ^ (c.args.log_h - mid) = runs_are c.args.log_h mid c.requires.small in
-    let cells : len ≡ runs * size = rw count (c.requires.height ∙ run_size c.args.log_h mid w c.requires.parts) in
-    let is : whole ≡ size = block_size len runs size (omega (arith, count, pow_pos (c.args.log_h - mid))) cells in
-    let room : run * size + size ≤ len = block_room run runs size len c.loop-run-test.true cells in
-    let fits : run * whole + whole ≤ length c.loop-run.values = rw is (omega (arith, room, c.loop-run.auto.values)) in
+    let whole = len / (1 * 2 ^ (c.args.log_h - mid) % 18446744073709551616) in
+    let is : whole ≡ 2 ^ mid * w = run_cells len c.args.log_h mid w c.requires.small c.requires.parts c.requires.height in
+    let room = run_room len c.args.log_h mid w c.requires.small c.requires.parts c.requires.height run c.loop-run-test.true in
+    let fits : run * whole + whole ≤ length c.loop-run.values = omega (arith, room, c.loop-run.auto.values) in
     record {
       cells = λ root s roots table.
           runs-more field.ring field.value field.ZERO (2 ^ mid) w (rev mid) (λ x. x) (λ a t. point field.ring root mid s t)
@@ -63,7 +50,7 @@ pub returns-clause-values : goal.returns-clause-values
 returns-clause-values g c root s roots table a t j p q l =
     let field = g.F.Field in
     let mid = c.args.mid in
-    let count = runs_are c.args.log_h mid c.requires.small in
+    let count = runs_are (length c.args.values.now) c.args.log_h mid c.args.width c.requires.small c.requires.parts c.requires.height in
     runs-all field.ring field.value field.ZERO (2 ^ mid) c.args.width (rev mid) (λ x. x) (λ a t. point field.ring root mid s t)
     c.args.values.now c.loop-run.values c.loop-run.run a t j (c.loop-run.invariant.cells root s roots table) (omega (arith, p, count, c.loop-run-test.false)) q l
 
@@ -71,7 +58,7 @@ pub returns-clause-count : goal.returns-clause-count
 returns-clause-count g c =
     let mid = c.args.mid in
     let turn = c.args.width * (mid * 2 ^ mid / 2) in
-    let count = runs_are c.args.log_h mid c.requires.small in
+    let count = runs_are (length c.args.values.now) c.args.log_h mid c.args.width c.requires.small c.requires.parts c.requires.height in
     let all : c.loop-run.run ≡ 2 ^ (c.args.log_h - mid) = omega (arith, count, c.loop-run-test.false, c.loop-run.auto.run-end) in
     let e : 1 * (c.loop-run.run * turn) ≡ 2 ^ (c.args.log_h - mid) * turn = ap (λ n. 1 * (n * turn)) all ∙ omega arith in
     subst (λ (n : ℕ). c.loop-run.products ≤ c.args.products.now + n) e c.loop-run.invariant.count

@@ -1,0 +1,62 @@
+-- Both halves of a network on a coset, by the table of the coset: it reaches for both, and where the rows lead from one half to the other they
+-- are values in the end. The first half takes the larger half of the layers.
+use Rattle.std.proofs.Common.{◌≡◌, ℕ, ◌+◌, ◌*◌, ◌-◌, ◌/◌, ◌^◌, ◌<◌, ◌≤◌, List, get_or, length, true, sym, ap, ◌∙◌, arith}
+use Rattle.std.proofs.lemmas.Nat.{pow-add}
+use Rattle.p3_field.specs.Ring.{AreRoots}
+use Rattle.p3_field.specs.declared.fields.Field.{Ghosts as FieldMembers}
+use Rattle.p3_matrix.specs.BitOrder.{rev}
+use Rattle.p3_networks.specs.Cosets.{point}
+use Rattle.p3_networks.specs.Polynomials.{poly}
+use Rattle.p3_networks.specs.Twiddles.{AreBlockTwiddles, AreTwiddlesOfLayers, IsCosetTable, coset_twiddles, forward_root}
+use Rattle.p3_networks.proofs.Layers.Counts.{halves_counted}
+use Rattle.p3_networks.proofs.Networks.Runs.{rows_of_halves}
+use Rattle.p3_networks.proofs.Tables.CosetTables.{coset_room, high_of_coset, low_of_coset}
+use Rattle.p3_networks.proofs.Tables.RootPowers.{fewer_roots}
+
+-- the layers of both halves, and the runs of the second
+pub halves_whole : (k : ℕ) → (k + 1) / 2 + (k - (k + 1) / 2) ≡ k
+halves_whole k = omega arith
+
+pub rows_whole : (k : ℕ) → 2 ^ k ≡ 2 ^ ((k + 1) / 2) * 2 ^ (k - (k + 1) / 2)
+rows_whole k = ap (λ n. 2 ^ n) (sym (halves_whole k)) ∙ pow-add 2 ((k + 1) / 2) (k - (k + 1) / 2)
+
+-- what both halves count
+pub both_counted : (k w before middle after : ℕ) → middle ≤ before + 2 ^ (k - (k + 1) / 2) * (w * ((k + 1) / 2 * 2 ^ ((k + 1) / 2) / 2))
+    → after ≤ middle + 2 ^ ((k + 1) / 2) * (w * ((k - (k + 1) / 2) * 2 ^ (k - (k + 1) / 2) / 2)) → after ≤ before + w * (k * 2 ^ k / 2)
+both_counted k w before middle after first second =
+    let mid = (k + 1) / 2 in
+    let left = k - mid in
+    let none : 2 ^ mid * (w * (left * 2 ^ left / 2)) ≡ 2 ^ mid * (w * (left * 2 ^ left / 2) + 0 * (2 ^ left * w)) = let e : w * (left * 2 ^ left / 2) ≡ w * (left * 2 ^ left / 2) + 0 * (2 ^ left * w) = omega arith in ap (λ n. 2 ^ mid * n) e in
+    let e = halves_counted mid left k w 0 (halves_whole k) in
+    omega (arith, e, none, first, second)
+
+module _ {F : Type 0} (field : FieldMembers F) (generator : ℕ → F) (s : field.Element) (k : ℕ) (twiddles : List F) (table : IsCosetTable field generator s k twiddles) where
+  pub low_room : 2 ^ ((k + 1) / 2) - 1 ≤ length twiddles
+  low_room = (low_of_coset field generator s k twiddles ((k + 1) / 2) (k - (k + 1) / 2) (omega arith) (halves_whole k) table).size
+
+  pub high_room : (l : ℕ) → l < (k + 1) / 2 + (k - (k + 1) / 2) → 2 * 2 ^ l - 1 ≤ length twiddles
+  high_room l below = coset_room field generator s k twiddles l (omega (arith, below)) table
+
+  -- the first half leads from before to middle, the second to the first n runs of after
+  pub rows_on_coset : {bits : ℕ} → AreRoots field.ring bits (forward_root field generator) → k ≤ bits → (w n : ℕ) (before middle after : List F)
+      → ((g : ℕ → field.Element) (x : field.Element) → AreRoots field.ring ((k + 1) / 2) g → AreTwiddlesOfLayers field ((k + 1) / 2) (coset_twiddles field g x ((k + 1) / 2)) twiddles
+      → (a t j : ℕ) → a < 2 ^ (k - (k + 1) / 2) → t < 2 ^ ((k + 1) / 2) → j < w → field.value (get_or middle ((a * 2 ^ ((k + 1) / 2) + t) * w + j) field.ZERO)
+      ≡ poly field.ring (2 ^ ((k + 1) / 2)) (λ q. field.value (get_or before ((a * 2 ^ ((k + 1) / 2) + rev ((k + 1) / 2) q) * w + j) field.ZERO)) (point field.ring g ((k + 1) / 2) x t))
+      → ((g : ℕ → field.Element) (x : field.Element) → AreRoots field.ring ((k + 1) / 2 + (k - (k + 1) / 2)) g → AreBlockTwiddles field g x ((k + 1) / 2) ((k + 1) / 2 + (k - (k + 1) / 2)) true twiddles
+      → (a t j : ℕ) → a < n → t < 2 ^ (k - (k + 1) / 2) → j < w → field.value (get_or after ((a * 2 ^ (k - (k + 1) / 2) + t) * w + j) field.ZERO)
+      ≡ poly field.ring (2 ^ (k - (k + 1) / 2)) (λ q. field.value (get_or middle ((rev (k - (k + 1) / 2) q * 2 ^ ((k + 1) / 2) + rev ((k + 1) / 2) a) * w + j) field.ZERO))
+      (point field.ring g (k - (k + 1) / 2) (point field.ring g ((k + 1) / 2 + (k - (k + 1) / 2)) x (rev ((k + 1) / 2) a)) (rev (k - (k + 1) / 2) t)))
+      → (r j : ℕ) → r < n * 2 ^ (k - (k + 1) / 2) → j < w → field.value (get_or after (r * w + j) field.ZERO)
+      ≡ poly field.ring (2 ^ k) (λ q. field.value (get_or before (rev k q * w + j) field.ZERO)) (point field.ring (forward_root field generator) k s (rev k r))
+  rows_on_coset roots_law within w n before middle after first second r j below inside =
+      let gen = forward_root field generator in
+      let mid = (k + 1) / 2 in
+      let left = k - mid in
+      let k_is = halves_whole k in
+      let roots = fewer_roots field.ring (mid + left) _ (omega (arith, within)) roots_law in
+      let fewer = fewer_roots field.ring mid (mid + left) (omega arith) roots in
+      rows_of_halves field.ring roots s field.value field.ZERO mid left w n before middle after (omega arith)
+      (λ a t v p q l. first gen _ fewer (low_of_coset field generator s k twiddles mid left (omega arith) k_is table) a t v p q l)
+      (λ a t v p q l. second gen s roots (high_of_coset field generator s k twiddles mid (mid + left) (omega arith) (sym k_is) table) a t v p q l)
+      r j below inside
+      ∙ ap (λ m. poly field.ring (2 ^ m) (λ q. field.value (get_or before (rev m q * w + j) field.ZERO)) (point field.ring gen m s (rev m r))) k_is

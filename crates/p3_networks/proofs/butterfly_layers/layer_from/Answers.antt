@@ -1,0 +1,32 @@
+use Rattle.std.proofs.Common.{◌+◌, ◌*◌, ◌≤◌, length, refl, ◌∙◌, arith}
+use Rattle.p3_networks.proofs.Layers.Counts.{count_more}
+use Rattle.p3_networks.proofs.Layers.Halves.{block_room, part_length, blocks-from}
+use Rattle.p3_networks.proofs.butterfly_layers.layer_from.Goals as goal
+
+pub meet_block_from-requires-clause-source : goal.meet_block_from-requires-clause-source
+meet_block_from-requires-clause-source g c =
+    let whole = 2 * c.args.size in
+    part_length c.args.source.now (c.loop-b.b * whole) whole (block_room c.loop-b.b c.args.blocks whole (length c.args.source.now) c.loop-b-test.true c.requires.source)
+
+pub meet_block_from-requires-clause-size : goal.meet_block_from-requires-clause-size
+meet_block_from-requires-clause-size g c =
+    let whole = 2 * c.args.size in
+    let room : c.loop-b.b * whole + whole ≤ length c.args.values.now = block_room c.loop-b.b c.args.blocks whole (length c.args.values.now) c.loop-b-test.true c.requires.size in
+    part_length c.loop-b.values (c.loop-b.b * whole) whole (omega (arith, room, c.loop-b.auto.values))
+
+pub loop-b-preserved : goal.loop-b-preserved
+loop-b-preserved g c =
+    let field = g.F.Field in
+    let butterfly = g.B.Butterfly in
+    let b = c.loop-b.b in
+    let size = c.args.size in
+    let whole = 2 * size in
+    let room : b * whole + whole ≤ length c.args.values.now = block_room b c.args.blocks whole (length c.args.values.now) c.loop-b-test.true c.requires.size in
+    let fits : b * whole + whole ≤ length c.loop-b.values = omega (arith, room, c.loop-b.auto.values) in
+    record {
+      cells = blocks-from field.value field.ZERO (λ b i. butterfly.near field.Element field.ring field.value c.args.butterfly) (λ b i. butterfly.far field.Element field.ring field.value c.args.butterfly) size
+          c.args.source.now c.args.values.now c.loop-b.values c.meet_block_from.new.values b whole refl fits (c.meet_block_from.auto.values ∙ part_length c.loop-b.values (b * whole) whole fits)
+          c.meet_block_from.ensures.near c.meet_block_from.ensures.far c.loop-b.invariant.cells;
+      grows = omega (arith, c.meet_block_from.ensures.count, c.loop-b.invariant.grows);
+      count = count_more butterfly.cost b size _ _ _ c.loop-b.invariant.count (omega (arith, c.meet_block_from.ensures.count));
+    }
