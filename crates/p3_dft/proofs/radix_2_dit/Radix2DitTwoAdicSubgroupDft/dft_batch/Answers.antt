@@ -1,17 +1,13 @@
-use Rattle.std.proofs.Common.{false, ◌≡◌, ◌⊎◌, inl, inr, ℕ, ◌≤◌, List, Result, Ok, Err, IsOk, sym, ap, ap₂, ◌∙◌, subst, arith, rules}
+use Rattle.std.proofs.Common.{false, ◌≡◌, ◌⊎◌, inl, inr, ℕ, ◌≤◌, List, sym, ap, ap₂, ◌∙◌, subst, arith}
 use Rattle.std.specs.List.{range_with_len}
 use Rattle.p3_matrix.specs.RowMajor.{RowMajor, height}
 use Rattle.p3_matrix.proofs.TwoPowers.{log_same}
 use Rattle.p3_networks.specs.Twiddles.{root_powers}
 use Rattle.p3_dft.specs.Engines.{Tabled, IsPrepared}
 use Rattle.p3_networks.proofs.Tables.MoreTwiddles.{fewer_layers}
-use Rattle.p3_dft.proofs.Calls.PreparedHeights.{prepared_before, prepared_until, until_prepared}
+use Rattle.p3_dft.proofs.Calls.PreparedHeights.{not_ok, prepared_before, prepared_until, until_prepared}
 use Rattle.p3_dft.proofs.BitReversed.Rows.{transform_of_row}
 use Rattle.p3_dft.proofs.radix_2_dit.Radix2DitTwoAdicSubgroupDft.dft_batch.Goals as goal
-
-not_ok : {A E : Type 0} (r : Result A E) (e : E) → r ≡ Err e → IsOk r → ⊥
-not_ok (Ok x) e is ok = cc
-not_ok (Err x) e is ok = search rules
 
 pub returns-then-height-eq1-clause-values : goal.returns-then-height-eq1-clause-values
 returns-then-height-eq1-clause-values g c =

@@ -1,5 +1,4 @@
-use Rattle.std.proofs.Common.{◌≡◌, ◌⊎◌, inl, inr, Bool, false, ℕ, ◌^◌, ◌∷◌, [], ◌++◌, List, Result, Ok, Err, IsOk, IsTrue, refl, sym, ap, ◌∙◌, subst, arith, rules}
-use Rattle.std.specs.List.{range_with_len}
+use Rattle.std.proofs.Common.{◌≡◌, ◌⊎◌, inl, inr, Bool, false, ℕ, ◌^◌, ◌∷◌, [], ◌++◌, List, IsTrue, refl, sym, ap, ◌∙◌, subst, arith, rules}
 use Rattle.p3_matrix.specs.RowMajor.{RowMajor, height}
 use Rattle.p3_matrix.specs.BitOrder.{bit_reversal}
 use Rattle.p3_matrix.proofs.TwoPowers.{log_same}
@@ -7,14 +6,11 @@ use Rattle.p3_networks.specs.Cosets.{IsValues}
 use Rattle.p3_dft.specs.Transforms.{values_of}
 use Rattle.p3_networks.specs.Twiddles.{Coset, HasCoset}
 use Rattle.p3_dft.specs.Engines.{CosetTabled, IsPrepared}
+use Rattle.p3_dft.proofs.Calls.PreparedHeights.{not_ok}
 use Rattle.p3_dft.proofs.Calls.PreparedCosets.{coset_stays, later_with_tables}
 use Rattle.p3_dft.proofs.BitReversed.OneRow.{row_handed_back, row_seen}
 use Rattle.p3_dft.proofs.BitReversed.Rows.{transform_seen}
 use Rattle.p3_dft.proofs.radix_2_dit_parallel.Radix2DitParallelTwoAdicSubgroupDft.coset_dft_batch.Goals as goal
-
-not_ok : {A E : Type 0} (r : Result A E) (e : E) → r ≡ Err e → IsOk r → ⊥
-not_ok (Ok x) e is ok = cc
-not_ok (Err x) e is ok = search rules
 
 not_both : (b : Bool) → b ≡ false → IsTrue b → ⊥
 not_both b fails holds = cc
