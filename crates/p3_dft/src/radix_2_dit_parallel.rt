@@ -119,7 +119,7 @@ impl<F: TwoAdicField> TwoAdicSubgroupDft<F> for Radix2DitParallel<F> {
     ghost use Rattle.p3_matrix.specs.BitOrder.{bit_reversal, reversed_rows};
     ghost use Rattle.p3_matrix.specs.RowMajor.{HasShapeOf, RowMajor, height};
     ghost use Rattle.p3_dft.specs.Engines.{AtLog, IsLater, IsCosetPrepared, IsPrepared, PreparesNoneAbove};
-    ghost use Rattle.p3_networks.specs.Twiddles.{HasCoset, HasCosets};
+    ghost use Rattle.p3_networks.specs.Twiddles.{AddsCosets, HasCoset, HasCosets};
     ghost use Rattle.p3_dft.specs.Extensions.{AreTransformedValues, IsTransformedExtension, extension_bound};
     ghost use Rattle.p3_dft.specs.Blocks.{OnOutOfMemory, OnRefused, UnlessOutOfMemory};
     ghost use Rattle.p3_matrix.specs.Blocks.{IsPublished, IsRefused};
@@ -303,6 +303,8 @@ impl<F: TwoAdicField> TwoAdicSubgroupDft<F> for Radix2DitParallel<F> {
         ensures only { AtLog (height (N.stored mat)) (λ k. PreparesNoneAbove k self.old.roots self.new.roots) }
         ensures keeps_tables { (k : ℕ) (s : F.Element) → HasCoset F.Field.own self.old.cosets k s
             → HasCoset F.Field.own self.new.cosets k s }
+        ensures adds_tables { AtLog (height (N.stored mat)) (λ k.
+            AddsCosets F.Field.own F.generator k added_bits (F.value shift) self.old.cosets self.new.cosets) }
         ensures later { IsLater (λ e. IsPrepared e.roots) (λ e k s. IsCosetPrepared F.Field.own e k (F.value s))
             (λ _ _. ⊤) (λ e. e.roots.products) self.old self.new }
         ensures cost { AtLog (height (N.stored mat)) (λ k. OnOk result (self.new.roots.products
@@ -371,6 +373,8 @@ impl<F: TwoAdicField> TwoAdicSubgroupDft<F> for Radix2DitParallel<F> {
         ensures only { AtLog (height (N.stored mat)) (λ k. PreparesNoneAbove k self.old.roots self.new.roots) }
         ensures keeps_tables { (k : ℕ) (s : F.Element) → HasCoset F.Field.own self.old.cosets k s
             → HasCoset F.Field.own self.new.cosets k s }
+        ensures adds_tables { AtLog (height (N.stored mat)) (λ k.
+            AddsCosets F.Field.own F.generator k added_bits (F.value shift) self.old.cosets self.new.cosets) }
         ensures later { IsLater (λ e. IsPrepared e.roots) (λ e k s. IsCosetPrepared F.Field.own e k (F.value s))
             (λ _ _. ⊤) (λ e. e.roots.products) self.old self.new }
         ensures cost { AtLog (height (N.stored mat)) (λ k. UnlessOutOfMemory result (self.new.roots.products
@@ -378,6 +382,7 @@ impl<F: TwoAdicField> TwoAdicSubgroupDft<F> for Radix2DitParallel<F> {
     {
         let mat = mat.into_row_major_matrix();
         let log_h = log2_strict_usize(mat.height());
+        let block_height = self.block_height(log_h, added_bits);
         let room = coefficients_with_room(
             mat,
             added_bits,
@@ -391,7 +396,7 @@ impl<F: TwoAdicField> TwoAdicSubgroupDft<F> for Radix2DitParallel<F> {
             Ok(mat) => mat,
             Err(_) => return Err(BlocksStopped::OutOfMemory(Unpublished { make_consumer })),
         };
-        let mut consumer = make_consumer(1 << (log_h - (log_h + 1) / 2));
+        let mut consumer = make_consumer(block_height);
         let extended = extend(
             &mut mat,
             log_h,

@@ -29,6 +29,26 @@ eqb_same : (q n : ℕ) → eqb q n ≡ true → q ≡ n
 eqb_same q n told = ⊎_elim (λ same. same.1) (λ other. search (rules, other.0, told)) (eqb_tells q n)
 
 module _ {T : Type 0} where
+  -- a limit counts each block that it takes, and stays within what it may take
+  counted : (blocks : List (ℕ × RowMajor T)) (c e : Limited) → Run {T = T} (λ x start rows answer y. IsCounted x start answer y) c blocks e → (e.limit ≡ c.limit) × (e.seen ≡ c.seen + length blocks)
+  counted [] c e run = (ap (λ r. r.limit) (sym run), ap (λ r. r.seen) (sym run) ∙ omega arith)
+  counted (p ∷ ps) c e (d, step, run) =
+      ⊎_elim
+      (λ below.
+      let next = (step.taken below).1 in
+      let rest = counted ps d e run in
+      (rest.0 ∙ ap (λ l. l.limit) next, rest.1 ∙ ap (λ l. l.seen + length ps) next ∙ omega arith))
+      (λ full. absurd (ok_is_no_err _ _ (sym (step.refused full).0)))
+      (cases_lt c.seen c.limit)
+
+  within : (blocks : List (ℕ × RowMajor T)) (c e : Limited) → c.seen ≤ c.limit → Run {T = T} (λ x start rows answer y. IsCounted x start answer y) c blocks e → e.seen ≤ e.limit
+  within [] c e so_far run = rw (sym run) so_far
+  within (p ∷ ps) c e so_far (d, step, run) =
+      ⊎_elim
+      (λ below. let next = (step.taken below).1 in within ps d e (rw next (omega (arith, below))) run)
+      (λ full. absurd (ok_is_no_err _ _ (sym (step.refused full).0)))
+      (cases_lt c.seen c.limit)
+
   -- blocks of b rows of m, none twice, are no more than fit
   blocks_fit : {A : Type 0} (values : RowMajor T → Matrix A) (b : ℕ) (m : Matrix A) (blocks : List (ℕ × RowMajor T)) → 0 < b → m.height % b ≡ 0 → AreBlocksOf values b m blocks → length blocks ≤ m.height / b
   blocks_fit values b m blocks some divides are = omega (arith, length-map blocks number, length-le_from_distinct_below numbers (m.height / b) (IsDistinct-from_AllPairs {eq = eqb} Decides-eqb numbers distinct) below)
@@ -54,4 +74,30 @@ module _ {T : Type 0} where
           (first i (omega (arith, order, inside)) ∙ ap (λ n. n * b) (sym (is i d (omega (arith, order, inside))) ∙ same ∙ is j d inside) ∙ sym (first j inside))
 
       below : (q : ℕ) → list_any (eqb q) numbers ≡ true → q < m.height / b
-      below q found = ?
+      below q found =
+          let (k, x, inside, at, tests) = Any-from_list_any (eqb q) numbers found in
+          let here : k < length blocks = omega (arith, inside, length-map blocks number) in
+          let named : q ≡ (get_or blocks k none).0 / b = eqb_same q x tests ∙ sym at ∙ is k x inside in
+          let low : (get_or blocks k none).0 < m.height / b * b = omega (arith, (are.each k none here).within, whole_number m.height b divides) in
+          rw named ((div-lt_iff_lt-mul some).1 low)
+
+  -- a limit that took blocks and refused one more, of a matrix that consists of whole blocks: there are more blocks than it may take
+  pub limit_exceeded : {A : Type 0} (may_make : Limited → Type 0) (values : RowMajor T → Matrix A) (b : ℕ) (out : Matrix A) (last : Limited) (refusal : BlockRefused) (limit : ℕ) → 0 < b → out.height % b ≡ 0
+      → ((c : Limited) → may_make c → (c.limit ≡ limit) × (c.seen ≡ 0)) → IsRefused {T = T} (λ c start rows answer e. IsCounted c start answer e) may_make values b out last refusal → limit < out.height / b
+  limit_exceeded may_make values b out last refusal limit some divides new x =
+      let first = new x.first x.made in
+      let told = counted x.accepted x.first x.run.middle x.run.run in
+      let fit = blocks_fit values b out (x.accepted ++ x.refused ∷ []) some divides x.blocks in
+      let more : length (x.accepted ++ x.refused ∷ []) ≡ length x.accepted + 1 = search (rules, places) in
+      ⊎_elim
+      (λ below. absurd (ok_is_no_err _ _ (x.run.stop.taken below).0))
+      (λ full. omega (arith, full, told.0, told.1, first.0, first.1, fit, more))
+      (cases_lt x.run.middle.seen x.run.middle.limit)
+
+  -- one that took all blocks may take as many
+  pub limit_kept : (may_make : Limited → Type 0) (b : ℕ) (out : RowMajor T) (last : Limited) (limit : ℕ) → ((c : Limited) → may_make c → (c.limit ≡ limit) × (c.seen ≡ 0))
+      → IsPublished {T = T} (λ c start rows answer e. IsCounted c start answer e) may_make b out last → last.seen ≤ limit
+  limit_kept may_make b out last limit new x =
+      let first = new x.first x.made in
+      let told = counted x.blocks x.first last x.run in
+      omega (arith, within x.blocks x.first last (omega (arith, first.1)) x.run, told.0, first.0)

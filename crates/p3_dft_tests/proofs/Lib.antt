@@ -1,1 +1,2 @@
+pub mod BlockCounts
 pub mod BlockSums

@@ -1,5 +1,6 @@
 -- The twiddles that an engine keeps, and what its tables show of themselves.
-use Rattle.std.specs.Prelude.{◌≡◌, ℕ, ◌+◌, ◌-◌, ◌*◌, ◌^◌, ◌/◌, ◌<◌, ◌≤◌, leb, List, [], length, get_or, take, drop, Bool, if◌then◌else◌, Option, Some, None, Vec}
+use Rattle.std.specs.Prelude.{◌≡◌, ℕ, ◌+◌, ◌-◌, ◌*◌, ◌^◌, ◌/◌, ◌<◌, ◌≤◌, leb, List, [], ◌++◌, length, get_or, take, drop, Bool, if◌then◌else◌, Option, Some, None, Vec}
+use Rattle.std.specs.List.{All}
 use Rattle.p3_field.specs.Ring.{power}
 use Rattle.p3_field.specs.declared.fields.Field.{Ghosts as FieldMembers}
 use Rattle.p3_matrix.specs.BitOrder.{rev}
@@ -90,6 +91,14 @@ HasCoset f cosets k s = (i : ℕ) × IsCosetAt f cosets k s i
 -- all 2 ^ a cosets of order 2 ^ k of which that of s of order 2 ^ (k + a) is made
 abbrev pub HasCosets : {F : Type 0} (f : FieldMembers F) → (ℕ → F) → List (Coset F) → ℕ → ℕ → f.Element → Type 0
 HasCosets f generator cosets k a s = (c : ℕ) → c < 2 ^ a → HasCoset f cosets k (point f.ring (forward_root f generator) (k + a) s c)
+
+-- it is one of them
+abbrev pub IsOneOf : {F : Type 0} (f : FieldMembers F) → (ℕ → F) → ℕ → ℕ → f.Element → Coset F → Type 0
+IsOneOf f generator k a s coset = (c : ℕ) × (c < 2 ^ a) × IsCosetOf f k (point f.ring (forward_root f generator) (k + a) s c) coset
+
+-- only some of them were added, at the end
+abbrev pub AddsCosets : {F : Type 0} (f : FieldMembers F) → (ℕ → F) → ℕ → ℕ → f.Element → List (Coset F) → List (Coset F) → Type 0
+AddsCosets {F} f generator k a s before after = (added : List (Coset F)) × (after ≡ before ++ added) × All (IsOneOf f generator k a s) added
 
 -- the number by which rows are multiplied, if there is one
 abbrev pub factor : {F : Type 0} (f : FieldMembers F) → Option F → f.Element

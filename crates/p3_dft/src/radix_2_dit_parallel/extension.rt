@@ -6,7 +6,7 @@ ghost use Rattle.p3_matrix.specs.Blocks.{AreBlocksOf, IsPartition, Run, RunToRef
 ghost use Rattle.p3_matrix.specs.Matrix.{Matrix};
 ghost use Rattle.p3_matrix.specs.RowMajor.{HasShapeOf, IsRowMajor, RowMajor, height};
 ghost use Rattle.p3_networks.specs.Cosets.{IsValues};
-ghost use Rattle.p3_networks.specs.Twiddles.{HasCoset, HasCosets};
+ghost use Rattle.p3_networks.specs.Twiddles.{AddsCosets, HasCoset, HasCosets};
 ghost use Rattle.p3_dft.specs.Engines.{AtLog};
 ghost use Rattle.p3_dft.specs.Extensions.{IsAnswerOverZeros, with_zeros};
 ghost use Rattle.p3_dft.specs.Shapes.{FitsLde};
@@ -46,6 +46,7 @@ pub(crate) fn coefficients_with_room<
     ensures only { AtLog (height mat) (λ k. (tables.new ≡ tables.old) ⊎ (tables.new ≡ k)) }
     ensures cosets { AtLog (height mat) (λ k. OnOk result (HasCosets F.Field.own F.generator cosets.new k added_bits (F.value shift))) }
     ensures keeps_cosets { (k : ℕ) (s : F.Element) → HasCoset F.Field.own cosets.old k s → HasCoset F.Field.own cosets.new k s }
+    ensures adds { AtLog (height mat) (λ k. AddsCosets F.Field.own F.generator k added_bits (F.value shift) cosets.old cosets.new) }
     ensures grows { products.old ≤ products.new }
     ensures cost { AtLog (height mat) (λ k. products.new ≤ products.old + mat.width * (k * 2 ^ k / 2) + 2 ^ k * mat.width) }
 {

@@ -3,6 +3,7 @@
 ghost use Rattle.std.specs.Prelude.{◌≡◌, ◌⊎◌, ◌↔◌, ℕ, ◌+◌, ◌<◌, ◌≤◌, [], ◌∷◌, ◌++◌, length, get_or};
 ghost use Rattle.std.specs.Prelude.{IsTrue, IsOk, IfOk, OnOk, OnErr, IfSome, IsNone};
 ghost use Rattle.p3_networks.specs.Twiddles.{Coset, HasCoset, HasCosets, IsCosetAt, IsCosetOf, IsCosetTable};
+ghost use Rattle.p3_networks.specs.Twiddles.{AddsCosets};
 
 use crate::twiddles::push_layer;
 use p3_field::{Field, TwoAdicField};
@@ -169,8 +170,8 @@ impl<F: TwoAdicField> CosetTables<F> {
     }
 
     /// Makes the tables of the `2^added_bits` cosets of order `2^log_h` that are, together, the coset of
-    /// `shift` of order `2^(log_h + added_bits)`. Those that are there are not made again: where all are, no
-    /// memory is taken. Where memory is refused, those that were made stay.
+    /// `shift` of order `2^(log_h + added_bits)`, and no others. Those that are there are not made again:
+    /// where all are, no memory is taken. Where memory is refused, those that were made stay.
     pub fn make_all(
         &mut self,
         alloc: Global,
@@ -184,6 +185,7 @@ impl<F: TwoAdicField> CosetTables<F> {
         ensures ready { HasCosets F.Field.own F.generator self.old log_h added_bits (F.value shift) → IsOk result }
         ensures once { HasCosets F.Field.own F.generator self.old log_h added_bits (F.value shift) → self.new ≡ self.old }
         ensures keeps { (k : ℕ) (s : F.Element) → HasCoset F.Field.own self.old k s → HasCoset F.Field.own self.new k s }
+        ensures only { AddsCosets F.Field.own F.generator log_h added_bits (F.value shift) self.old self.new }
     {
         let root = F::two_adic_generator(log_h + added_bits);
         let mut coset = shift;

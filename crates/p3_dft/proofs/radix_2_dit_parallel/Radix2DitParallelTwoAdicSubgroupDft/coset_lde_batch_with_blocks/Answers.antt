@@ -1,10 +1,9 @@
-use Rattle.std.proofs.Common.{◌⊎◌, ◌≡◌, ℕ, ◌+◌, ◌-◌, ◌*◌, ◌/◌, ◌%◌, ◌^◌, ◌≤◌, ◌++◌, ◌∷◌, [], sym, ap, ap₂, ◌∙◌, subst, arith}
-use Rattle.std.proofs.lemmas.Nat.{one_shl}
+use Rattle.std.proofs.Common.{◌⊎◌, ◌≡◌, ℕ, ◌+◌, ◌-◌, ◌*◌, ◌/◌, ◌^◌, ◌≤◌, ◌++◌, ◌∷◌, [], sym, ap, ap₂, ◌∙◌, subst, arith}
 use Rattle.p3_matrix.specs.BitOrder.{bit_reversal}
 use Rattle.p3_matrix.specs.Blocks.{AreBlocksOf, IsPartition}
 use Rattle.p3_matrix.specs.RowMajor.{RowMajor, HasShapeOf, IsRowMajor, height}
 use Rattle.p3_matrix.proofs.TwoPowers.{log_same}
-use Rattle.p3_networks.specs.Twiddles.{HasCoset}
+use Rattle.p3_networks.specs.Twiddles.{AddsCosets, HasCoset}
 use Rattle.p3_dft.specs.Engines.{CosetTabled, IsPrepared}
 use Rattle.p3_dft.specs.Transforms.{values_of}
 use Rattle.p3_dft.proofs.BitReversed.Coefficients.{extension_of_answered, values_of_answered}
@@ -113,7 +112,7 @@ returns-clause-published g c k e =
     let log = c.log2_strict_usize-log_h.result in
     let stored = ap height c.into_row_major_matrix-mat.ensures in
     let same : log ≡ k = log_same log k (sym c.log2_strict_usize-log_h.ensures.power ∙ c.height.ensures.height ∙ stored ∙ e) in
-    let asked : 1 * 2 ^ (log - (log + 1) / 2) % 18446744073709551616 ≡ 2 ^ (k - (k + 1) / 2) = one_shl (log - (log + 1) / 2) 64 (omega (arith, same, output_log_small _ _ _ _ c.requires.fits, log_same k c.requires.fits.log (sym e ∙ c.requires.fits.high))) ∙ ap (λ n. 2 ^ (n - (n + 1) / 2)) same in
+    let asked : c.block_height-block_height.result ≡ 2 ^ (k - (k + 1) / 2) = c.block_height-block_height.ensures ∙ ap (λ n. 2 ^ (n - (n + 1) / 2)) same in
     let (blocks, parts, run) = c.in_default.ensures.published in
     record {
       first = c.make_consumer-consumer.result;
@@ -137,7 +136,7 @@ returns-in-Err-extended-clause-refused g c k e =
     let are = answer.are_coefficients log high in
     let shape : HasShapeOf answer.answered m = rw c.into_row_major_matrix-mat.ensures (c.requires.shape answer.told answer.answered (rw (← c.into_row_major_matrix-mat.ensures) (are.high, are.wide)) answer.called) in
     let same : log ≡ k = log_same log k (sym c.log2_strict_usize-log_h.ensures.power ∙ c.height.ensures.height ∙ stored ∙ e) in
-    let asked : 1 * 2 ^ (log - (log + 1) / 2) % 18446744073709551616 ≡ 2 ^ (k - (k + 1) / 2) = one_shl (log - (log + 1) / 2) 64 (omega (arith, same, output_log_small _ _ _ _ c.requires.fits, log_same k c.requires.fits.log (sym e ∙ c.requires.fits.high))) ∙ ap (λ n. 2 ^ (n - (n + 1) / 2)) same in
+    let asked : c.block_height-block_height.result ≡ 2 ^ (k - (k + 1) / 2) = c.block_height-block_height.ensures ∙ ap (λ n. 2 ^ (n - (n + 1) / 2)) same in
     let (out, accepted, refused, values, blocks, stopped) = c.in-Err-extended.ensures.refused answer.answered answer.whole (shape.0 ∙ high) answer.over_zeros in (
       out,
       rw (← c.into_row_major_matrix-mat.ensures) (values_of_answered field g.F.TwoAdicField.generator _ m answer.told answer.answered a log s out high are answer.called shape.0 values),
@@ -209,3 +208,34 @@ returns-clause-keeps_tables g c k s has =
 
 pub returns-clause-prepared : goal.returns-clause-prepared
 returns-clause-prepared g c k e = prepared_until _ k (c.in-Ok.ensures.prepared k (ap height c.into_row_major_matrix-mat.ensures ∙ e))
+
+pub returns-in-Err-clause-adds_tables : goal.returns-in-Err-clause-adds_tables
+returns-in-Err-clause-adds_tables g c k e =
+    let field = g.F.Field in
+    subst (λ (x : CosetTabled g.row.F.Denot). AddsCosets field g.F.TwoAdicField.generator k c.args.added_bits (field.value c.args.shift) x.cosets c.coefficients_with_room-room.new.cosets) c.self.view_is
+    (c.coefficients_with_room-room.ensures.adds k (ap height c.into_row_major_matrix-mat.ensures ∙ e))
+
+pub returns-in-Err-extended-clause-adds_tables : goal.returns-in-Err-extended-clause-adds_tables
+returns-in-Err-extended-clause-adds_tables g c k e =
+    let field = g.F.Field in
+    subst (λ (x : CosetTabled g.row.F.Denot). AddsCosets field g.F.TwoAdicField.generator k c.args.added_bits (field.value c.args.shift) x.cosets c.coefficients_with_room-room.new.cosets) c.self.view_is
+    (c.coefficients_with_room-room.ensures.adds k (ap height c.into_row_major_matrix-mat.ensures ∙ e))
+
+pub returns-clause-adds_tables : goal.returns-clause-adds_tables
+returns-clause-adds_tables g c k e =
+    let field = g.F.Field in
+    subst (λ (x : CosetTabled g.row.F.Denot). AddsCosets field g.F.TwoAdicField.generator k c.args.added_bits (field.value c.args.shift) x.cosets c.coefficients_with_room-room.new.cosets) c.self.view_is
+    (c.coefficients_with_room-room.ensures.adds k (ap height c.into_row_major_matrix-mat.ensures ∙ e))
+
+pub block_height-block_height-requires-clause-within : goal.block_height-block_height-requires-clause-within
+block_height-block_height-requires-clause-within g c =
+    let stored = ap height c.into_row_major_matrix-mat.ensures in
+    let same = log_same _ _ (sym c.log2_strict_usize-log_h.ensures.power ∙ c.height.ensures.height ∙ stored ∙ c.requires.fits.high) in
+    omega (arith, same, c.requires.fits.within)
+
+pub block_height-block_height-requires-clause-small : goal.block_height-block_height-requires-clause-small
+block_height-block_height-requires-clause-small g c =
+    let stored = ap height c.into_row_major_matrix-mat.ensures in
+    let same = log_same _ _ (sym c.log2_strict_usize-log_h.ensures.power ∙ c.height.ensures.height ∙ stored ∙ c.requires.fits.high) in
+    let small = output_log_small _ _ _ _ c.requires.fits in
+    omega (arith, same, small)

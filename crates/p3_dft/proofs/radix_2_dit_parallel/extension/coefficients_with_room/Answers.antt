@@ -1,8 +1,10 @@
-use Rattle.std.proofs.Common.{◌≡◌, ◌⊎◌, ℕ, ◌+◌, ◌*◌, ◌/◌, ◌^◌, ◌≤◌, sym, ◌∙◌, subst, arith}
+use Rattle.std.proofs.Common.{◌≡◌, ◌⊎◌, ℕ, [], ◌+◌, ◌*◌, ◌/◌, ◌^◌, ◌≤◌, sym, ◌∙◌, subst, arith}
+use Rattle.std.proofs.lemmas.List.{append-nil}
+use Rattle.std.proofs.lemmas.List.Elements.{All-nil}
 use Rattle.p3_matrix.specs.BitOrder.{bit_reversal}
 use Rattle.p3_matrix.proofs.TwoPowers.{log_same}
 use Rattle.p3_networks.specs.Cosets.{AreCoefficients}
-use Rattle.p3_networks.specs.Twiddles.{HasCosets}
+use Rattle.p3_networks.specs.Twiddles.{AddsCosets, HasCosets}
 use Rattle.p3_dft.specs.Transforms.{values_of}
 use Rattle.p3_dft.proofs.Calls.Shapes.{output_log_small, output_size}
 use Rattle.p3_dft.proofs.radix_2_dit_parallel.extension.coefficients_with_room.Goals as goal
@@ -95,3 +97,21 @@ returns-clause-cost g c k high =
     let same : c.log2_strict_usize-log_h.result ≡ k = log_same _ k (sym c.log2_strict_usize-log_h.ensures.power ∙ c.height.ensures.height ∙ high) in
     let w = c.args.mat.width in
     subst (λ (n : ℕ). c.interpolate.new.products ≤ c.args.products.now + w * (n * 2 ^ n / 2) + 2 ^ n * w) same c.interpolate.ensures.cost
+
+pub returns-in_err-make_all-clause-adds : goal.returns-in_err-make_all-clause-adds
+returns-in_err-make_all-clause-adds g c k high =
+    let field = g.F.Field in
+    let same : c.log2_strict_usize-log_h.result ≡ k = log_same _ k (sym c.log2_strict_usize-log_h.ensures.power ∙ c.height.ensures.height ∙ high) in
+    subst (λ (n : ℕ). AddsCosets field g.F.TwoAdicField.generator n c.args.added_bits (field.value c.args.shift) c.args.cosets.now c.make_all.new.self) same c.make_all.ensures.only
+
+pub returns-clause-adds : goal.returns-clause-adds
+returns-clause-adds g c k high =
+    let field = g.F.Field in
+    let same : c.log2_strict_usize-log_h.result ≡ k = log_same _ k (sym c.log2_strict_usize-log_h.ensures.power ∙ c.height.ensures.height ∙ high) in
+    subst (λ (n : ℕ). AddsCosets field g.F.TwoAdicField.generator n c.args.added_bits (field.value c.args.shift) c.args.cosets.now c.make_all.new.self) same c.make_all.ensures.only
+
+pub returns-in_err-make-clause-adds : goal.returns-in_err-make-clause-adds
+returns-in_err-make-clause-adds g c k high = ([], sym (append-nil _), All-nil _)
+
+pub returns-in_err-grown-clause-adds : goal.returns-in_err-grown-clause-adds
+returns-in_err-grown-clause-adds g c k high = ([], sym (append-nil _), All-nil _)
