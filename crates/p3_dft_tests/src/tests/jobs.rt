@@ -1,13 +1,15 @@
 // Lists of jobs on every engine, and what stays where memory is refused within a list.
 
 ghost use Rattle.std.specs.Prelude.{IfOk};
+ghost use Rattle.std.specs.List.{All};
 ghost use Rattle.p3_dft.specs.Jobs.{CanRun};
 
-use super::{EngineTest, Matrix, has_inverse, matrix, on_every_engine};
+use super::{EngineTest, matrix, on_every_engine};
 use crate::tests::engines::LimitedDft;
+use crate::tests::fitting::{extensible, invertible, transformable};
 use p3_dft::{
-    BabyBear, CanonicalField, DftError, Field, Job, JobsStopped, RowMajorMatrix,
-    TwoAdicSubgroupDft, fits_dft, fits_lde, run_jobs,
+    BabyBear, CanonicalField, DftError, Job, JobsStopped, RowMajorMatrix, TwoAdicSubgroupDft,
+    run_jobs,
 };
 use std::alloc::Global;
 use std::process::Abort;
@@ -20,44 +22,46 @@ const KINDS: usize = 6;
 fn job<F: CanonicalField>(rt: &impl Abort, alloc: Global, kind: usize) -> Result<Job<F>, Fail>
     ensures { IfOk result (CanRun F.Field.own F.TWO_ADICITY) }
 {
-    match kind % KINDS {
-        0 => {
-            let mat: RowMajorMatrix<F> = matrix(alloc, &[1, 2, 3, 4], 1)?;
-            assert!(rt; fits_dft::<F>(mat.height(), mat.width()));
-            Ok(Job::Dft(mat))
-        }
-        1 => {
-            let mat: RowMajorMatrix<F> = matrix(alloc, &[5, 4], 1)?;
-            assert!(rt; fits_dft::<F>(mat.height(), mat.width()));
-            Ok(Job::CosetDft(mat, F::TWO))
-        }
-        2 => {
-            let mat: RowMajorMatrix<F> = matrix(alloc, &[9, 1], 1)?;
-            assert!(rt; fits_dft::<F>(mat.height(), mat.width()));
-            Ok(Job::Idft(mat))
-        }
+    Ok(match kind % KINDS {
+        0 => Job::Dft(transformable(rt, alloc, &[1, 2, 3, 4])?),
+        1 => Job::CosetDft(transformable(rt, alloc, &[5, 4])?, F::TWO),
+        2 => Job::Idft(transformable(rt, alloc, &[9, 1])?),
         3 => {
-            let mat: RowMajorMatrix<F> = matrix(alloc, &[13, 2013265918], 1)?;
-            assert!(rt; fits_dft::<F>(mat.height(), mat.width()));
-            let shift = F::TWO;
-            assert!(rt; has_inverse(shift));
-            Ok(Job::CosetIdft(mat, shift))
+            let mat = transformable(rt, alloc, &[13, 2013265918])?;
+            Job::CosetIdft(mat, invertible(rt, F::TWO))
         }
-        4 => {
-            let mat: RowMajorMatrix<F> = matrix(alloc, &[9, 1], 1)?;
-            assert!(rt; fits_lde::<F>(mat.height(), mat.width(), 1));
-            Ok(Job::Lde(mat, 1))
-        }
-        _ => {
-            let mat: RowMajorMatrix<F> = matrix(alloc, &[9, 1], 1)?;
-            assert!(rt; fits_lde::<F>(mat.height(), mat.width(), 1));
-            Ok(Job::CosetLde(mat, 1, F::ZERO))
-        }
-    }
+        4 => Job::Lde(extensible(rt, alloc, &[9, 1], 1)?, 1),
+        _ => Job::CosetLde(extensible(rt, alloc, &[9, 1], 1)?, 1, F::ZERO),
+    })
 }
 
-// What answers it.
-fn answer(alloc: Global, kind: usize) -> Result<Matrix, Fail> {
+// The list with one more job.
+fn and_then<F: CanonicalField>(mut jobs: Vec<Job<F>>, job: Job<F>) -> Result<Vec<Job<F>>, Fail>
+    requires jobs { All (CanRun F.Field.own F.TWO_ADICITY) jobs.items }
+    requires job { CanRun F.Field.own F.TWO_ADICITY job }
+    ensures { IfOk result (λ more. All (CanRun F.Field.own F.TWO_ADICITY) more.items) }
+{
+    jobs.push(job)?;
+    Ok(jobs)
+}
+
+// One of each kind, beginning with one of them.
+fn list_from<F: CanonicalField>(
+    rt: &impl Abort,
+    alloc: Global,
+    first: usize,
+) -> Result<Vec<Job<F>>, Fail>
+    ensures { IfOk result (λ jobs. All (CanRun F.Field.own F.TWO_ADICITY) jobs.items) }
+{
+    let mut jobs = Vec::new(alloc);
+    for n in 0..KINDS {
+        jobs = and_then(jobs, job(rt, alloc, first.wrapping_add(n))?)?;
+    }
+    Ok(jobs)
+}
+
+// What answers a job.
+fn answer<F: CanonicalField>(alloc: Global, kind: usize) -> Result<RowMajorMatrix<F>, Fail> {
     match kind % KINDS {
         0 => matrix(alloc, &[10, 569722814, 2013265919, 1443543103], 1),
         1 => matrix(alloc, &[13, 2013265918], 1),
@@ -65,6 +69,19 @@ fn answer(alloc: Global, kind: usize) -> Result<Matrix, Fail> {
         4 => matrix(alloc, &[9, 873820294, 1, 1139445637], 1),
         _ => matrix(alloc, &[5, 5, 5, 5], 1),
     }
+}
+
+// What answers the first so many, beginning with one kind.
+fn answers<F: CanonicalField>(
+    alloc: Global,
+    first: usize,
+    count: usize,
+) -> Result<Vec<RowMajorMatrix<F>>, Fail> {
+    let mut answers = Vec::new(alloc);
+    for n in 0..count {
+        answers.push(answer(alloc, first.wrapping_add(n))?)?;
+    }
+    Ok(answers)
 }
 
 // How many transforms it takes: an extension is an inverse and a transform.
@@ -87,37 +104,36 @@ fn answered(first: usize, transforms_left: usize) -> usize {
 
 // A job of each kind, beginning with one of them, of which so many are answered before memory is
 // refused.
-fn answers_in_turn<D: TwoAdicSubgroupDft<BabyBear>>(
+fn answers_in_turn<F: CanonicalField, D: TwoAdicSubgroupDft<F>>(
     rt: &impl Abort,
     alloc: Global,
     engine: &mut D,
     first: usize,
     count: usize,
 ) -> Result<(), Fail> {
-    let list: Vec<Job<BabyBear>> = vec![in alloc;
-        job(rt, alloc, first)?,
-        job(rt, alloc, first.wrapping_add(1))?,
-        job(rt, alloc, first.wrapping_add(2))?,
-        job(rt, alloc, first.wrapping_add(3))?,
-        job(rt, alloc, first.wrapping_add(4))?,
-        job(rt, alloc, first.wrapping_add(5))?,
-    ]?;
-    let mut expected = Vec::new(alloc);
-    for n in 0..count {
-        expected.push(answer(alloc, first.wrapping_add(n))?)?;
-    }
-    match run_jobs(engine, list) {
+    let expected: Vec<RowMajorMatrix<F>> = answers(alloc, first, count)?;
+    match run_jobs(engine, list_from(rt, alloc, first)?) {
         Ok(answers) => {
-            assert_eq!(rt; count, KINDS);
+            assert!(rt; count == KINDS);
             assert!(rt; answers == expected);
         }
         Err(JobsStopped { answers, error }) => {
             assert!(rt; count < KINDS);
             assert!(rt; answers == expected);
-            assert_eq!(rt; error, DftError::OutOfMemory);
+            assert!(rt; error == DftError::OutOfMemory);
         }
     }
     Ok(())
+}
+
+// No jobs.
+fn no_answers<F: CanonicalField, D: TwoAdicSubgroupDft<F>>(
+    rt: &impl Abort,
+    alloc: Global,
+    engine: &mut D,
+) {
+    let none: Result<Vec<RowMajorMatrix<F>>, JobsStopped<F>> = run_jobs(engine, Vec::new(alloc));
+    assert!(rt; none.is_ok_and(|answers| answers.is_empty()));
 }
 
 // No jobs, and a job of each kind.
@@ -130,8 +146,7 @@ impl EngineTest for Jobs {
         alloc: Global,
         engine: &mut D,
     ) -> Result<(), Fail> {
-        let none = run_jobs(engine, Vec::new(alloc));
-        assert!(rt; none.is_ok_and(|answers| answers.is_empty()));
+        no_answers(rt, alloc, engine);
         answers_in_turn(rt, alloc, engine, 0, KINDS)
     }
 }
@@ -141,14 +156,23 @@ fn jobs_in_order(rt: HostRuntime) -> Result<(), Fail> {
     on_every_engine(&rt, rt.alloc(), &Jobs)
 }
 
+// A list that begins with one kind, refused after so many transforms.
+fn refused_after<F: CanonicalField>(
+    rt: &impl Abort,
+    alloc: Global,
+    first: usize,
+    transforms: usize,
+) -> Result<(), Fail> {
+    let count = answered(first, transforms);
+    answers_in_turn::<F, _>(rt, alloc, &mut LimitedDft::new(transforms), first, count)
+}
+
 // Lists that begin with each kind, refused within each job.
 #[test]
 fn refused_jobs(rt: HostRuntime) -> Result<(), Fail> {
-    let alloc = rt.alloc();
     for first in 0..KINDS {
         for left in 0..9usize {
-            let mut engine = LimitedDft::new(left);
-            answers_in_turn(&rt, alloc, &mut engine, first, answered(first, left))?;
+            refused_after::<BabyBear>(&rt, rt.alloc(), first, left)?;
         }
     }
     Ok(())
@@ -163,12 +187,41 @@ fn coset_job<F: CanonicalField>(
 ) -> Result<Job<F>, Fail>
     ensures { IfOk result (CanRun F.Field.own F.TWO_ADICITY) }
 {
-    let mat: RowMajorMatrix<F> = matrix(alloc, numbers, 1)?;
-    assert!(rt; fits_dft::<F>(mat.height(), mat.width()));
-    Ok(Job::CosetDft(mat, shift))
+    Ok(Job::CosetDft(transformable(rt, alloc, numbers)?, shift))
 }
 
 // Cosets of two heights and three shifts, one of them twice, and the subgroup in between.
+fn coset_jobs<F: CanonicalField>(rt: &impl Abort, alloc: Global) -> Result<Vec<Job<F>>, Fail>
+    ensures { IfOk result (λ jobs. All (CanRun F.Field.own F.TWO_ADICITY) jobs.items) }
+{
+    let jobs = and_then(Vec::new(alloc), coset_job(rt, alloc, &[5, 4], F::TWO)?)?;
+    let jobs = and_then(jobs, coset_job(rt, alloc, &[1, 2, 3, 4], F::ZERO)?)?;
+    let jobs = and_then(jobs, coset_job(rt, alloc, &[5, 4], F::from_u8(3))?)?;
+    let jobs = and_then(jobs, job(rt, alloc, 0)?)?;
+    and_then(jobs, coset_job(rt, alloc, &[5, 4], F::TWO)?)
+}
+
+fn answers_on_cosets<F: CanonicalField>(alloc: Global) -> Result<Vec<RowMajorMatrix<F>>, Fail> {
+    let mut answers = Vec::new(alloc);
+    answers.push(matrix(alloc, &[13, 2013265918], 1)?)?;
+    answers.push(matrix(alloc, &[1, 1, 1, 1], 1)?)?;
+    answers.push(matrix(alloc, &[17, 2013265914], 1)?)?;
+    answers.push(matrix(alloc, &[10, 569722814, 2013265919, 1443543103], 1)?)?;
+    answers.push(matrix(alloc, &[13, 2013265918], 1)?)?;
+    Ok(answers)
+}
+
+fn cosets_answered<F: CanonicalField, D: TwoAdicSubgroupDft<F>>(
+    rt: &impl Abort,
+    alloc: Global,
+    engine: &mut D,
+) -> Result<(), Fail> {
+    let expected: Vec<RowMajorMatrix<F>> = answers_on_cosets(alloc)?;
+    let answered = run_jobs(engine, coset_jobs(rt, alloc)?);
+    assert!(rt; answered.is_ok_and(|answers| answers == expected));
+    Ok(())
+}
+
 struct CosetsInTurn;
 
 impl EngineTest for CosetsInTurn {
@@ -178,23 +231,7 @@ impl EngineTest for CosetsInTurn {
         alloc: Global,
         engine: &mut D,
     ) -> Result<(), Fail> {
-        let list: Vec<Job<BabyBear>> = vec![in alloc;
-            coset_job(rt, alloc, &[5, 4], BabyBear::TWO)?,
-            coset_job(rt, alloc, &[1, 2, 3, 4], BabyBear::ZERO)?,
-            coset_job(rt, alloc, &[5, 4], BabyBear::from_u8(3))?,
-            job(rt, alloc, 0)?,
-            coset_job(rt, alloc, &[5, 4], BabyBear::TWO)?,
-        ]?;
-        let expected = vec![in alloc;
-            matrix(alloc, &[13, 2013265918], 1)?,
-            matrix(alloc, &[1, 1, 1, 1], 1)?,
-            matrix(alloc, &[17, 2013265914], 1)?,
-            matrix(alloc, &[10, 569722814, 2013265919, 1443543103], 1)?,
-            matrix(alloc, &[13, 2013265918], 1)?,
-        ]?;
-        let answered = run_jobs(engine, list);
-        assert!(rt; answered.is_ok_and(|answers| answers == expected));
-        Ok(())
+        cosets_answered(rt, alloc, engine)
     }
 }
 

@@ -1,47 +1,45 @@
 // Values from definitions worked out by hand or by another program.
 
-use crate::tests::elements;
+use super::matrix;
+use crate::tests::fitting::evaluates;
 use p3_dft::{
     BabyBear, CanonicalField, Goldilocks, NaiveDft, RowMajorMatrix, TwoAdicSubgroupDft, fits_dft,
 };
+use std::alloc::Global;
 use std::process::Abort;
 use std::test::Fail;
 
-// One call of `dft` on a column.
-fn dft<F: CanonicalField>(rt: &impl Abort, numbers: Vec<F>) -> Result<Vec<F>, Fail> {
-    assert!(rt; fits_dft::<F>(numbers.len(), 1));
-    Ok(NaiveDft::default().dft(numbers)?)
+fn of_four<F: CanonicalField>(
+    rt: &impl Abort,
+    alloc: Global,
+    coefficients: [u64; 4],
+    values: [u64; 4],
+) -> Result<(), Fail> {
+    evaluates::<F, _>(rt, alloc, &mut NaiveDft::default(), &coefficients, &values)
 }
 
 #[test]
 fn values_on_the_subgroup(rt: HostRuntime) -> Result<(), Fail> {
-    let alloc = rt.alloc();
-    let values = dft::<BabyBear>(&rt, elements(alloc, &[1, 2, 3, 4])?)?;
-    assert!(rt; values == elements(alloc, &[10, 569722814, 2013265919, 1443543103])?);
-    let values = dft::<Goldilocks>(&rt, elements(alloc, &[0, 1, 0, 0])?)?;
-    assert!(rt;
-        values
-            == elements(
-                alloc,
-                &[
-                    1,
-                    281474976710656,
-                    18446744069414584320,
-                    18446462594437873665
-                ]
-            )?
-    );
+    let values = [10, 569722814, 2013265919, 1443543103];
+    of_four::<BabyBear>(&rt, rt.alloc(), [1, 2, 3, 4], values)?;
+    let values = [
+        1,
+        281474976710656,
+        18446744069414584320,
+        18446462594437873665,
+    ];
+    of_four::<Goldilocks>(&rt, rt.alloc(), [0, 1, 0, 0], values)
+}
+
+fn three_columns<F: CanonicalField>(rt: &impl Abort, alloc: Global) -> Result<(), Fail> {
+    let mat: RowMajorMatrix<F> = matrix(alloc, &[5, 2, 0, 4, 3, 0], 3)?;
+    assert!(rt; fits_dft::<F>(mat.height(), mat.width()));
+    let values = NaiveDft::default().dft_batch(mat)?;
+    assert!(rt; values == matrix(alloc, &[9, 5, 0, 1, 2013265920, 0], 3)?);
     Ok(())
 }
 
 #[test]
 fn each_column_alone(rt: HostRuntime) -> Result<(), Fail> {
-    let alloc = rt.alloc();
-    let entries: Vec<BabyBear> = elements(alloc, &[5, 2, 0, 4, 3, 0])?;
-    assert_eq!(rt; entries.len(), 6);
-    let mat = RowMajorMatrix::new(entries, 3);
-    assert!(rt; fits_dft::<BabyBear>(mat.height(), mat.width()));
-    let values = NaiveDft::default().dft_batch(mat)?.into_values();
-    assert!(rt; values == elements(alloc, &[9, 5, 0, 1, 2013265920, 0])?);
-    Ok(())
+    three_columns::<BabyBear>(&rt, rt.alloc())
 }

@@ -1,106 +1,85 @@
 // Values from definitions worked out by hand or by another program, and what is prepared when.
 
-use crate::tests::elements;
+use super::matrix;
+use crate::tests::fitting::evaluates;
 use p3_dft::{
-    BabyBear, CanonicalField, Goldilocks, Radix2Dit, RowMajorMatrix, TwoAdicSubgroupDft, fits_dft,
+    BabyBear, CanonicalField, Evaluations, Goldilocks, Radix2Dit, RowMajorMatrix,
+    TwoAdicSubgroupDft, fits_dft,
 };
+use std::alloc::Global;
 use std::process::Abort;
 use std::test::Fail;
 
-// One call of `dft` on a column.
-fn dft<F: CanonicalField>(
+fn columns_of_each_height<F: CanonicalField, D: TwoAdicSubgroupDft<F>>(
     rt: &impl Abort,
-    engine: &mut Radix2Dit<F>,
-    numbers: Vec<F>,
-) -> Result<Vec<F>, Fail> {
-    assert!(rt; fits_dft::<F>(numbers.len(), 1));
-    Ok(engine.dft(numbers)?)
+    alloc: Global,
+) -> Result<(), Fail> {
+    let mut engine = D::default();
+    evaluates(rt, alloc, &mut engine, &[0; 8], &[0; 8])?;
+    let four = [10, 569722814, 2013265919, 1443543103];
+    evaluates(rt, alloc, &mut engine, &[1, 2, 3, 4], &four)?;
+    let eight = [
+        36, 1976151680, 1139445628, 1710526337, 2013265917, 302739576, 873820285, 37114233,
+    ];
+    evaluates(rt, alloc, &mut engine, &[1, 2, 3, 4, 5, 6, 7, 8], &eight)?;
+    evaluates(rt, alloc, &mut engine, &[7], &[7])
 }
 
 #[test]
 fn values_on_the_subgroup(rt: HostRuntime) -> Result<(), Fail> {
-    let alloc = rt.alloc();
-    let mut engine = Radix2Dit::<BabyBear>::default();
-    let zeros = elements(alloc, &[0, 0, 0, 0, 0, 0, 0, 0])?;
-    assert!(rt; dft(&rt, &mut engine, zeros)? == elements(alloc, &[0, 0, 0, 0, 0, 0, 0, 0])?);
-    let values = dft(&rt, &mut engine, elements(alloc, &[1, 2, 3, 4])?)?;
-    assert!(rt; values == elements(alloc, &[10, 569722814, 2013265919, 1443543103])?);
-    let values = dft(
-        &rt,
-        &mut engine,
-        elements(alloc, &[1, 2, 3, 4, 5, 6, 7, 8])?,
-    )?;
-    assert!(rt;
-        values
-            == elements(
-                alloc,
-                &[
-                    36, 1976151680, 1139445628, 1710526337, 2013265917, 302739576, 873820285,
-                    37114233
-                ]
-            )?
-    );
-    assert!(rt; dft(&rt, &mut engine, elements(alloc, &[7])?)? == elements(alloc, &[7])?);
-    Ok(())
+    columns_of_each_height::<BabyBear, Radix2Dit<BabyBear>>(&rt, rt.alloc())
+}
+
+fn large_column<F: CanonicalField, D: TwoAdicSubgroupDft<F>>(
+    rt: &impl Abort,
+    alloc: Global,
+) -> Result<(), Fail> {
+    let values = [
+        31,
+        568447645776638,
+        844424930131970,
+        18446189915638069247,
+        18446744069414584318,
+        557452261065982,
+        18445899644484452355,
+        18446172323284256767,
+    ];
+    let coefficients = [3, 1, 4, 1, 5, 9, 2, 6];
+    evaluates(rt, alloc, &mut D::default(), &coefficients, &values)
 }
 
 #[test]
 fn values_of_the_larger_field(rt: HostRuntime) -> Result<(), Fail> {
-    let alloc = rt.alloc();
-    let mut engine = Radix2Dit::<Goldilocks>::default();
-    let values = dft(
-        &rt,
-        &mut engine,
-        elements(alloc, &[3, 1, 4, 1, 5, 9, 2, 6])?,
-    )?;
-    assert!(rt;
-        values
-            == elements(
-                alloc,
-                &[
-                    31,
-                    568447645776638,
-                    844424930131970,
-                    18446189915638069247,
-                    18446744069414584318,
-                    557452261065982,
-                    18445899644484452355,
-                    18446172323284256767
-                ]
-            )?
-    );
+    large_column::<Goldilocks, Radix2Dit<Goldilocks>>(&rt, rt.alloc())
+}
+
+fn three_columns<F: CanonicalField, D: TwoAdicSubgroupDft<F>>(
+    rt: &impl Abort,
+    alloc: Global,
+) -> Result<(), Fail> {
+    let mat: RowMajorMatrix<F> = matrix(alloc, &[1, 2, 3, 4, 5, 6, 7, 8, 9, 10, 11, 12], 3)?;
+    assert!(rt; fits_dft::<F>(mat.height(), mat.width()));
+    let values = D::default().dft_batch(mat)?.to_row_major_matrix();
+    let numbers = [
+        22, 26, 30, 1709168442, 1709168442, 1709168442, 2013265915, 2013265915, 2013265915,
+        304097467, 304097467, 304097467,
+    ];
+    assert!(rt; values == matrix(alloc, &numbers, 3)?);
     Ok(())
 }
 
 #[test]
 fn each_column_alone(rt: HostRuntime) -> Result<(), Fail> {
-    let alloc = rt.alloc();
-    let entries: Vec<BabyBear> = elements(alloc, &[1, 2, 3, 4, 5, 6, 7, 8, 9, 10, 11, 12])?;
-    assert_eq!(rt; entries.len(), 12);
-    let mat = RowMajorMatrix::new(entries, 3);
-    assert!(rt; fits_dft::<BabyBear>(mat.height(), mat.width()));
-    let values = Radix2Dit::default().dft_batch(mat)?.into_values();
-    assert!(rt;
-        values
-            == elements(
-                alloc,
-                &[
-                    22, 26, 30, 1709168442, 1709168442, 1709168442, 2013265915, 2013265915,
-                    2013265915, 304097467, 304097467, 304097467
-                ]
-            )?
-    );
-    Ok(())
+    three_columns::<BabyBear, Radix2Dit<BabyBear>>(&rt, rt.alloc())
 }
 
 // The heights that were prepared.
-#[test]
-fn prepared_heights(rt: HostRuntime) -> Result<(), Fail> {
-    let alloc = rt.alloc();
-    let mut engine = Radix2Dit::<BabyBear>::default();
-    assert!(rt; engine.is_prepared(0));
-    assert!(rt; !engine.is_prepared(3));
-    assert!(rt; !engine.is_prepared(usize::MAX));
+fn prepared<F: CanonicalField>(
+    rt: &impl Abort,
+    alloc: Global,
+    engine: &mut Radix2Dit<F>,
+) -> Result<(), Fail> {
+    assert!(rt; F::TWO_ADICITY >= 3);
     engine.prepare(alloc, 0)?;
     engine.prepare(alloc, 3)?;
     engine.prepare(alloc, 3)?;
@@ -112,17 +91,33 @@ fn prepared_heights(rt: HostRuntime) -> Result<(), Fail> {
     Ok(())
 }
 
-// A transform prepares its height, and takes no smaller one back.
+fn prepares_heights<F: CanonicalField>(rt: &impl Abort, alloc: Global) -> Result<(), Fail> {
+    let mut engine: Radix2Dit<F> = Radix2Dit::default();
+    assert!(rt; engine.is_prepared(0));
+    assert!(rt; !engine.is_prepared(3));
+    assert!(rt; !engine.is_prepared(usize::MAX));
+    prepared(rt, alloc, &mut engine)
+}
+
 #[test]
-fn heights_of_transforms(rt: HostRuntime) -> Result<(), Fail> {
-    let alloc = rt.alloc();
-    let mut engine = Radix2Dit::<BabyBear>::default();
+fn prepared_heights(rt: HostRuntime) -> Result<(), Fail> {
+    prepares_heights::<BabyBear>(&rt, rt.alloc())
+}
+
+// A transform prepares its height, and takes no smaller one back.
+fn transforms_prepare<F: CanonicalField>(rt: &impl Abort, alloc: Global) -> Result<(), Fail> {
+    let mut engine: Radix2Dit<F> = Radix2Dit::default();
+    assert!(rt; F::TWO_ADICITY >= 3);
     engine.prepare(alloc, 3)?;
-    let values = dft(&rt, &mut engine, elements(alloc, &[1, 2, 3, 4])?)?;
-    assert!(rt; values == elements(alloc, &[10, 569722814, 2013265919, 1443543103])?);
+    let four = [10, 569722814, 2013265919, 1443543103];
+    evaluates(rt, alloc, &mut engine, &[1, 2, 3, 4], &four)?;
     assert!(rt; engine.is_prepared(3));
-    let zeros: Vec<BabyBear> = elements(alloc, &[0; 16])?;
-    assert!(rt; dft(&rt, &mut engine, zeros)? == elements(alloc, &[0; 16])?);
+    evaluates(rt, alloc, &mut engine, &[0; 16], &[0; 16])?;
     assert!(rt; engine.is_prepared(4));
     Ok(())
+}
+
+#[test]
+fn heights_of_transforms(rt: HostRuntime) -> Result<(), Fail> {
+    transforms_prepare::<BabyBear>(&rt, rt.alloc())
 }
