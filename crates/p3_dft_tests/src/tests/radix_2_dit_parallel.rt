@@ -3,35 +3,38 @@
 ghost use Rattle.std.specs.Prelude.{◌≡◌};
 ghost use Rattle.p3_matrix.specs.RowMajor.{HasShapeOf};
 
-use super::{coset_dft_of, elements, has_inverse};
+use super::elements;
+use crate::tests::fitting::{
+    assert_column, evaluates, extensible, invertible, pair, transformable,
+};
 use p3_dft::{
-    BabyBear, BlockConsumer, BlockLimit, BlocksStopped, Evaluations, Field, Layout,
-    Radix2DitParallel, Recorder, RowMajorMatrix, TwoAdicSubgroupDft, fits_dft, fits_lde,
+    BabyBear, BlockConsumer, BlockLimit, BlocksStopped, CanonicalField, Evaluations, Field, Layout,
+    Radix2DitParallel, Recorder, RowMajorMatrix, TwoAdicSubgroupDft, fits_dft,
 };
 use std::alloc::Global;
 use std::process::Abort;
 use std::test::Fail;
 
-#[test]
-fn rows_in_bit_reversed_order(rt: HostRuntime) -> Result<(), Fail> {
-    let alloc = rt.alloc();
-    let mut engine = Radix2DitParallel::<BabyBear>::default();
-    let column = RowMajorMatrix::new_col(elements(alloc, &[1, 2, 3, 4])?);
-    assert!(rt; fits_dft::<BabyBear>(column.height(), column.width()));
+fn transforms_reversed<F: CanonicalField>(rt: &impl Abort, alloc: Global) -> Result<(), Fail> {
+    let column: RowMajorMatrix<F> = transformable(rt, alloc, &[1, 2, 3, 4])?;
+    let mut engine: Radix2DitParallel<F> = Radix2DitParallel::default();
     let values = engine.dft_batch(column)?;
-    let physical = elements(alloc, &[10, 2013265919, 569722814, 1443543103])?;
-    assert!(rt; *values.inner() == RowMajorMatrix::new_col(physical));
-    let natural = elements(alloc, &[10, 569722814, 2013265919, 1443543103])?;
-    assert!(rt; values.to_row_major_matrix() == RowMajorMatrix::new_col(natural));
-    Ok(())
+    let physical = [10, 2013265919, 569722814, 1443543103];
+    assert_column(rt, values.inner(), &physical)?;
+    let natural = [10, 569722814, 2013265919, 1443543103];
+    assert_column(rt, &values.to_row_major_matrix(), &natural)
 }
 
 #[test]
-fn heights_are_prepared(rt: HostRuntime) -> Result<(), Fail> {
-    let alloc = rt.alloc();
-    let mut engine = Radix2DitParallel::<BabyBear>::default();
+fn rows_in_bit_reversed_order(rt: HostRuntime) -> Result<(), Fail> {
+    transforms_reversed::<BabyBear>(&rt, rt.alloc())
+}
+
+fn prepares_heights<F: CanonicalField>(rt: &impl Abort, alloc: Global) -> Result<(), Fail> {
+    let mut engine: Radix2DitParallel<F> = Radix2DitParallel::default();
     assert!(rt; engine.is_prepared(0));
     assert!(rt; !engine.is_prepared(1));
+    assert!(rt; F::TWO_ADICITY >= 2);
     engine.prepare(alloc, 2)?;
     assert!(rt; engine.is_prepared(1));
     assert!(rt; engine.is_prepared(2));
@@ -40,99 +43,133 @@ fn heights_are_prepared(rt: HostRuntime) -> Result<(), Fail> {
     Ok(())
 }
 
+#[test]
+fn heights_are_prepared(rt: HostRuntime) -> Result<(), Fail> {
+    prepares_heights::<BabyBear>(&rt, rt.alloc())
+}
+
+// The inverse of the values of these coefficients.
+fn inverts<F: CanonicalField, D: TwoAdicSubgroupDft<F>>(
+    rt: &impl Abort,
+    alloc: Global,
+    engine: &mut D,
+    values: &[u64],
+    coefficients: &[u64],
+) -> Result<(), Fail> {
+    let column: Vec<F> = elements(alloc, values)?;
+    assert!(rt; fits_dft::<F>(column.len(), 1));
+    assert!(rt; engine.idft(column)? == elements(alloc, coefficients)?);
+    Ok(())
+}
+
 // A transform prepares its height, for inverses too.
+fn transform_prepares<F: CanonicalField>(rt: &impl Abort, alloc: Global) -> Result<(), Fail> {
+    let mut engine: Radix2DitParallel<F> = Radix2DitParallel::default();
+    let (coefficients, values) = ([1, 2, 3, 4], [10, 569722814, 2013265919, 1443543103]);
+    evaluates(rt, alloc, &mut engine, &coefficients, &values)?;
+    assert!(rt; engine.is_prepared(2));
+    inverts(rt, alloc, &mut engine, &values, &coefficients)?;
+    assert!(rt; !engine.is_prepared(3));
+    Ok(())
+}
+
 #[test]
 fn transformed_is_prepared(rt: HostRuntime) -> Result<(), Fail> {
-    let alloc = rt.alloc();
-    let mut engine = Radix2DitParallel::<BabyBear>::default();
-    let column = elements(alloc, &[1, 2, 3, 4])?;
-    assert!(rt; fits_dft::<BabyBear>(column.len(), 1));
-    let values = engine.dft(column)?;
-    assert!(rt; engine.is_prepared(2));
-    assert!(rt; fits_dft::<BabyBear>(values.len(), 1));
-    assert!(rt; engine.idft(values)? == elements(alloc, &[1, 2, 3, 4])?);
-    assert!(rt; !engine.is_prepared(3));
+    transform_prepares::<BabyBear>(&rt, rt.alloc())
+}
+
+// The values 13, 2013265918 of 5, 4 on the coset of two are taken back, there and back on the
+// subgroup, and to the coset again, each call with what the one before answered.
+fn hands_on<F: CanonicalField, D: TwoAdicSubgroupDft<F>>(
+    rt: &impl Abort,
+    engine: &mut D,
+    values: Vec<F>,
+    coefficients: &[F],
+) -> Result<(), Fail> {
+    let shift = invertible(rt, F::TWO);
+    assert!(rt; fits_dft::<F>(values.len(), 1));
+    let column = engine.coset_idft(values, shift)?;
+    assert!(rt; column.as_slice() == coefficients);
+    assert!(rt; fits_dft::<F>(column.len(), 1));
+    let column = engine.dft(column)?;
+    assert!(rt; fits_dft::<F>(column.len(), 1));
+    let column = engine.idft(column)?;
+    assert!(rt; fits_dft::<F>(column.len(), 1));
+    let column = engine.coset_dft(column, shift)?;
+    assert!(rt; column.first() == Some(&F::from_u8(13)));
     Ok(())
 }
 
 // Once all is made that they need, calls at a prepared height and on a coset that has its table hand one
 // column on from each to the next, and take no memory.
-#[test]
-fn prepared_calls_take_no_memory(rt: HostRuntime) -> Result<(), Fail> {
-    let alloc = rt.alloc();
-    let mut engine = Radix2DitParallel::<BabyBear>::default();
+fn calls_without_memory<F: CanonicalField>(rt: &impl Abort, alloc: Global) -> Result<(), Fail> {
+    let mut engine: Radix2DitParallel<F> = Radix2DitParallel::default();
+    assert!(rt; F::TWO_ADICITY >= 1);
     engine.prepare(alloc, 1)?;
-    let shift = BabyBear::TWO;
-    let values = coset_dft_of(&rt, alloc, &mut engine, &[5, 4], shift)?;
+    let values = engine.coset_dft(pair(rt, alloc, [5, 4])?, F::TWO)?;
     assert!(rt; values == elements(alloc, &[13, 2013265918])?);
     let coefficients = elements(alloc, &[5, 4])?;
     // No request for memory from here on.
-    assert!(rt; fits_dft::<BabyBear>(values.len(), 1));
-    assert!(rt; has_inverse(shift));
-    let column = engine.coset_idft(values, shift)?;
-    assert!(rt; column == coefficients);
-    assert!(rt; fits_dft::<BabyBear>(column.len(), 1));
-    let column = engine.dft(column)?;
-    assert!(rt; fits_dft::<BabyBear>(column.len(), 1));
-    let column = engine.idft(column)?;
-    assert!(rt; fits_dft::<BabyBear>(column.len(), 1));
-    let column = engine.coset_dft(column, shift)?;
-    assert!(rt; column.first() == Some(&BabyBear::from_u8(13)));
-    Ok(())
+    hands_on(rt, &mut engine, values, &coefficients)
+}
+
+#[test]
+fn prepared_calls_take_no_memory(rt: HostRuntime) -> Result<(), Fail> {
+    calls_without_memory::<BabyBear>(&rt, rt.alloc())
 }
 
 // The row with number 1 of a column, and zeros in the others.
-fn row_1_alone(mat: RowMajorMatrix<BabyBear>) -> RowMajorMatrix<BabyBear>
+fn row_1_alone<F: Field>(mat: RowMajorMatrix<F>) -> RowMajorMatrix<F>
     ensures { HasShapeOf result mat }
 {
     let width = mat.width();
     let mut entries = mat.into_values();
     for i in 0..entries.len() {
         if i != 1 {
-            entries[i] = BabyBear::ZERO;
+            entries[i] = F::ZERO;
         }
     }
     RowMajorMatrix::new(entries, width)
 }
 
 // The transform has the coefficients in bit reversed order: row 1 is that of the square.
-#[test]
-fn transform_in_bit_reversed_order(rt: HostRuntime) -> Result<(), Fail> {
-    let alloc = rt.alloc();
-    let mut engine = Radix2DitParallel::<BabyBear>::default();
-    let column = elements(alloc, &[10, 569722814, 2013265919, 1443543103])?;
-    let column = RowMajorMatrix::new_col(column);
-    assert!(rt; fits_lde::<BabyBear>(column.height(), column.width(), 0));
-    let values = engine.coset_lde_batch_with_transform(
-        column,
+fn extends_the_square<F: CanonicalField, D: TwoAdicSubgroupDft<F>>(
+    rt: &impl Abort,
+    alloc: Global,
+) -> Result<(), Fail> {
+    let numbers = [10, 569722814, 2013265919, 1443543103];
+    let values = D::default().coset_lde_batch_with_transform(
+        extensible(rt, alloc, &numbers, 0)?,
         0,
-        BabyBear::ONE,
-        |coefficients: RowMajorMatrix<BabyBear>, _layout: Layout| -> RowMajorMatrix<BabyBear>
+        F::ONE,
+        |coefficients: RowMajorMatrix<F>, _layout: Layout| -> RowMajorMatrix<F>
             ensures { HasShapeOf result coefficients }
         { row_1_alone(coefficients) },
     )?;
-    let want = elements(alloc, &[3, 2013265918, 3, 2013265918])?;
-    assert!(rt; values.to_row_major_matrix() == RowMajorMatrix::new_col(want));
-    Ok(())
+    let squares = [3, 2013265918, 3, 2013265918];
+    assert_column(rt, &values.to_row_major_matrix(), &squares)
+}
+
+#[test]
+fn transform_in_bit_reversed_order(rt: HostRuntime) -> Result<(), Fail> {
+    extends_the_square::<BabyBear, Radix2DitParallel<BabyBear>>(&rt, rt.alloc())
 }
 
 // What is left of an extension by one bit of the column 9, 1, on the subgroup, and of its consumer.
-fn extend_to<C: BlockConsumer<BabyBear> + Drop>(
+fn extend_to<F: CanonicalField, D: TwoAdicSubgroupDft<F>, C: BlockConsumer<F> + Drop>(
     rt: &impl Abort,
     alloc: Global,
+    engine: &mut D,
     consumer: C,
 ) -> Result<(C, Option<C::Refusal>), Fail>
 where
     C::Refusal: Drop,
 {
-    let mut engine = Radix2DitParallel::<BabyBear>::default();
-    let column = RowMajorMatrix::new_col(elements(alloc, &[9, 1])?);
-    assert!(rt; fits_lde::<BabyBear>(column.height(), column.width(), 1));
     let answer = engine.coset_lde_batch_with_blocks(
-        column,
+        extensible(rt, alloc, &[9, 1], 1)?,
         1,
-        BabyBear::ONE,
-        |coefficients: RowMajorMatrix<BabyBear>, _layout: Layout| -> RowMajorMatrix<BabyBear>
+        F::ONE,
+        |coefficients: RowMajorMatrix<F>, _layout: Layout| -> RowMajorMatrix<F>
             ensures { result ≡ coefficients }
         { coefficients },
         |_rows: usize| -> C
@@ -148,35 +185,57 @@ where
     }
 }
 
+// How many of the blocks begin with a row, each of which is this one.
+fn blocks_of<F: Field>(rt: &impl Abort, recorder: &Recorder<F>, row: usize, value: &[F]) -> usize {
+    let mut blocks = 0usize;
+    for i in 0..recorder.blocks() {
+        if recorder.start(i) == row {
+            assert!(rt; recorder.rows(i).values() == value);
+            blocks = blocks.saturating_add(1);
+        }
+    }
+    blocks
+}
+
 // Each row is a block of its own, in some order.
-#[test]
-fn single_rows_are_lent(rt: HostRuntime) -> Result<(), Fail> {
-    let alloc = rt.alloc();
-    let rows = elements(alloc, &[9, 1, 873820294, 1139445637])?;
-    let (recorder, _) = extend_to(&rt, alloc, Recorder::with_room(alloc, 4, 4)?)?;
-    assert_eq!(rt; recorder.blocks(), 4);
+fn lends_single_rows<F: CanonicalField, D: TwoAdicSubgroupDft<F>>(
+    rt: &impl Abort,
+    alloc: Global,
+) -> Result<(), Fail> {
+    let rows: Vec<F> = elements(alloc, &[9, 1, 873820294, 1139445637])?;
+    let recorder: Recorder<F> = Recorder::with_room(alloc, 4, 4)?;
+    let (recorder, _) = extend_to(rt, alloc, &mut D::default(), recorder)?;
+    assert!(rt; recorder.blocks() == 4);
     assert!(rt; !recorder.missed());
     for row in 0..rows.len() {
-        let mut blocks = 0usize;
-        for i in 0..recorder.blocks() {
-            if recorder.start(i) == row {
-                assert!(rt; recorder.rows(i).values() == &rows[row..row + 1]);
-                blocks = blocks.saturating_add(1);
-            }
-        }
-        assert_eq!(rt; blocks, 1);
+        assert!(rt; blocks_of(rt, &recorder, row, &rows[row..row + 1]) == 1);
     }
+    Ok(())
+}
+
+#[test]
+fn single_rows_are_lent(rt: HostRuntime) -> Result<(), Fail> {
+    lends_single_rows::<BabyBear, Radix2DitParallel<BabyBear>>(&rt, rt.alloc())
+}
+
+fn takes_blocks<F: CanonicalField, D: TwoAdicSubgroupDft<F>>(
+    rt: &impl Abort,
+    alloc: Global,
+    limit: usize,
+    refused: bool,
+) -> Result<(), Fail> {
+    let mut engine = D::default();
+    let (consumer, refusal) = extend_to::<F, D, _>(rt, alloc, &mut engine, BlockLimit::new(limit))?;
+    assert!(rt; consumer.seen() == limit);
+    assert!(rt; refusal.is_some() == refused);
     Ok(())
 }
 
 // Four blocks are as many as there are, and a consumer that takes fewer ends the extension.
 #[test]
 fn refused_blocks(rt: HostRuntime) -> Result<(), Fail> {
-    let alloc = rt.alloc();
     for (limit, refused) in [(4, false), (3, true), (0, true)] {
-        let (consumer, refusal) = extend_to(&rt, alloc, BlockLimit::new(limit))?;
-        assert_eq!(rt; consumer.seen(), limit);
-        assert_eq!(rt; refusal.is_some(), refused);
+        takes_blocks::<BabyBear, Radix2DitParallel<BabyBear>>(&rt, rt.alloc(), limit, refused)?;
     }
     Ok(())
 }

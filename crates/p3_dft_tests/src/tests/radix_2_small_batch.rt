@@ -1,38 +1,63 @@
 // Tiles of every size, which change no answer, and what is prepared when.
 
 use super::{EngineTest, ExtensionsAsSums, TransformsAsSums, elements, matrix, matrix_of};
+use crate::tests::fitting::evaluates;
 use p3_dft::{
-    BabyBear, CanonicalField, Field, Radix2DFTSmallBatch, TwoAdicSubgroupDft, fits_dft, fits_lde,
+    BabyBear, CanonicalField, Evaluations, Field, Radix2DFTSmallBatch, RowMajorMatrix,
+    TwoAdicSubgroupDft, fits_dft, fits_lde,
 };
+use std::alloc::Global;
+use std::process::Abort;
 use std::test::Fail;
 
 type Engine = Radix2DFTSmallBatch<BabyBear>;
 
 // Single coefficients of rows 0, 32 and 16, whose values are powers of roots of order 1, 2 and 4.
+fn coefficients<F: CanonicalField>(
+    rt: &impl Abort,
+    alloc: Global,
+) -> Result<RowMajorMatrix<F>, Fail> {
+    let mut entries: Vec<F> = elements(alloc, &[0; 192])?;
+    assert!(rt; entries.len() == 192);
+    entries[0] = F::from_usize(13);
+    entries[32 * 3 + 1] = F::ONE;
+    entries[16 * 3 + 2] = F::ONE;
+    matrix_of(entries, 3)
+}
+
+// The values: four rows again and again.
+fn has_powers<F: CanonicalField>(rt: &impl Abort, alloc: Global, values: &[F]) -> Result<(), Fail> {
+    let rows: Vec<F> = elements(
+        alloc,
+        &[
+            13, 1, 1, 13, 2013265920, 1728404513, 13, 1, 2013265920, 13, 2013265920, 284861408,
+        ],
+    )?;
+    assert!(rt; values.len() == 192);
+    assert!(rt; rows.len() == 12);
+    for i in 0..192 {
+        assert!(rt; values[i] == rows[i % 12]);
+    }
+    Ok(())
+}
+
+fn transforms_in_tiles<F: CanonicalField>(
+    rt: &impl Abort,
+    alloc: Global,
+    tile: usize,
+) -> Result<(), Fail> {
+    assert!(rt; tile >= 1);
+    assert!(rt; tile <= 192);
+    let mat: RowMajorMatrix<F> = coefficients(rt, alloc)?;
+    assert!(rt; fits_dft::<F>(mat.height(), mat.width()));
+    let mut engine: Radix2DFTSmallBatch<F> = Radix2DFTSmallBatch::with_tile(alloc, 1, tile)?;
+    has_powers(rt, alloc, engine.dft_batch(mat)?.values())
+}
+
 #[test]
 fn single_coefficients(rt: HostRuntime) -> Result<(), Fail> {
-    let alloc = rt.alloc();
     for tile in [1usize, 6, 12, 192] {
-        let mut entries: Vec<BabyBear> = elements(alloc, &[0; 192])?;
-        assert_eq!(rt; entries.len(), 192);
-        entries[0] = BabyBear::from_usize(13);
-        entries[32 * 3 + 1] = BabyBear::ONE;
-        entries[16 * 3 + 2] = BabyBear::ONE;
-        let mat = matrix_of(entries, 3)?;
-        assert!(rt; fits_dft::<BabyBear>(mat.height(), mat.width()));
-        let mut engine = Engine::with_tile(alloc, 1, tile)?;
-        let values = engine.dft_batch(mat)?.into_values();
-        let rows: Vec<BabyBear> = elements(
-            alloc,
-            &[
-                13, 1, 1, 13, 2013265920, 1728404513, 13, 1, 2013265920, 13, 2013265920, 284861408,
-            ],
-        )?;
-        assert_eq!(rt; values.len(), 192);
-        assert_eq!(rt; rows.len(), 12);
-        for i in 0..192 {
-            assert!(rt; values[i] == rows[i % 12]);
-        }
+        transforms_in_tiles::<BabyBear>(&rt, rt.alloc(), tile)?;
     }
     Ok(())
 }
@@ -53,33 +78,57 @@ fn tiles_change_no_answer(rt: HostRuntime) -> Result<(), Fail> {
     Ok(())
 }
 
+// One row is its own transform.
+fn keeps_a_row<F: CanonicalField, D: TwoAdicSubgroupDft<F>>(
+    rt: &impl Abort,
+    alloc: Global,
+    engine: &mut D,
+) -> Result<(), Fail> {
+    let mat: RowMajorMatrix<F> = matrix(alloc, &[5, 4], 2)?;
+    assert!(rt; fits_dft::<F>(mat.height(), mat.width()));
+    let values = engine.dft_batch(mat)?.to_row_major_matrix();
+    assert!(rt; values == matrix(alloc, &[5, 4], 2)?);
+    Ok(())
+}
+
 // An engine that is made for no height.
+fn made_for_no_height<F: CanonicalField>(
+    rt: &impl Abort,
+    alloc: Global,
+    n: usize,
+) -> Result<(), Fail> {
+    assert!(rt; n < 2);
+    let mut engine: Radix2DFTSmallBatch<F> = Radix2DFTSmallBatch::new(alloc, n)?;
+    assert!(rt; engine.is_prepared(0));
+    assert!(rt; !engine.is_prepared(1));
+    keeps_a_row(rt, alloc, &mut engine)
+}
+
 #[test]
 fn engines_for_no_height(rt: HostRuntime) -> Result<(), Fail> {
-    let alloc = rt.alloc();
     for n in [0usize, 1] {
-        let mut engine = Engine::new(alloc, n)?;
-        assert!(rt; engine.is_prepared(0));
-        assert!(rt; !engine.is_prepared(1));
-        let mat = matrix(alloc, &[5, 4], 2)?;
-        assert!(rt; fits_dft::<BabyBear>(mat.height(), mat.width()));
-        let values = engine.dft_batch(mat)?;
-        assert!(rt; values == matrix(alloc, &[5, 4], 2)?);
+        made_for_no_height::<BabyBear>(&rt, rt.alloc(), n)?;
     }
     Ok(())
 }
 
 // And one that is made for a height.
-#[test]
-fn engines_for_heights(rt: HostRuntime) -> Result<(), Fail> {
-    let alloc = rt.alloc();
-    let mut engine = Engine::new(alloc, 8)?;
+fn made_for_a_height<F: CanonicalField>(rt: &impl Abort, alloc: Global) -> Result<(), Fail> {
+    assert!(rt; F::TWO_ADICITY >= 3);
+    let mut engine: Radix2DFTSmallBatch<F> = Radix2DFTSmallBatch::new(alloc, 8)?;
     assert!(rt; engine.is_prepared(3));
     assert!(rt; engine.is_prepared(2));
     assert!(rt; !engine.is_prepared(4));
-    let column: Vec<BabyBear> = elements(alloc, &[5, 4])?;
-    assert!(rt; fits_dft::<BabyBear>(column.len(), 1));
-    assert!(rt; engine.dft(column)? == elements(alloc, &[9, 1])?);
+    evaluates(rt, alloc, &mut engine, &[5, 4], &[9, 1])?;
+    stays_prepared(rt, alloc, &mut engine)
+}
+
+fn stays_prepared<F: CanonicalField>(
+    rt: &impl Abort,
+    alloc: Global,
+    engine: &mut Radix2DFTSmallBatch<F>,
+) -> Result<(), Fail> {
+    assert!(rt; F::TWO_ADICITY >= 2);
     engine.prepare(alloc, 2)?;
     assert!(rt; engine.is_prepared(3));
     let copy = engine.clone()?;
@@ -88,32 +137,51 @@ fn engines_for_heights(rt: HostRuntime) -> Result<(), Fail> {
     Ok(())
 }
 
-// An extension prepares its height too.
 #[test]
-fn heights_of_extensions(rt: HostRuntime) -> Result<(), Fail> {
-    let alloc = rt.alloc();
-    let mut engine = Engine::default();
-    let column: Vec<BabyBear> = elements(alloc, &[7, 7])?;
-    assert!(rt; fits_lde::<BabyBear>(column.len(), 1, 3));
-    let extended = engine.coset_lde(column, 3, BabyBear::GENERATOR)?;
+fn engines_for_heights(rt: HostRuntime) -> Result<(), Fail> {
+    made_for_a_height::<BabyBear>(&rt, rt.alloc())
+}
+
+// A constant is extended to a constant.
+fn extends_a_constant<F: CanonicalField, D: TwoAdicSubgroupDft<F>>(
+    rt: &impl Abort,
+    alloc: Global,
+    engine: &mut D,
+) -> Result<(), Fail> {
+    let column: Vec<F> = elements(alloc, &[7, 7])?;
+    assert!(rt; fits_lde::<F>(column.len(), 1, 3));
+    let extended = engine.coset_lde(column, 3, F::GENERATOR)?;
     assert!(rt; extended == elements(alloc, &[7; 16])?);
+    Ok(())
+}
+
+// An extension prepares its height too.
+fn extension_prepares<F: CanonicalField>(rt: &impl Abort, alloc: Global) -> Result<(), Fail> {
+    let mut engine: Radix2DFTSmallBatch<F> = Radix2DFTSmallBatch::default();
+    extends_a_constant(rt, alloc, &mut engine)?;
     assert!(rt; engine.is_prepared(4));
     Ok(())
 }
 
-// What is prepared stays, whether memory for a larger height is refused or not.
 #[test]
-fn larger_heights(rt: HostRuntime) -> Result<(), Fail> {
-    let alloc = rt.alloc();
-    let mut engine = Engine::default();
+fn heights_of_extensions(rt: HostRuntime) -> Result<(), Fail> {
+    extension_prepares::<BabyBear>(&rt, rt.alloc())
+}
+
+// What is prepared stays, whether memory for a larger height is refused or not.
+fn prepares_a_larger_height<F: CanonicalField>(rt: &impl Abort, alloc: Global) -> Result<(), Fail> {
+    assert!(rt; F::TWO_ADICITY >= 5);
+    let mut engine: Radix2DFTSmallBatch<F> = Radix2DFTSmallBatch::default();
     engine.prepare(alloc, 3)?;
     let larger = engine.prepare(alloc, 5);
     assert!(rt; engine.is_prepared(3));
     assert!(rt; larger.is_err() || engine.is_prepared(5));
-    let column: Vec<BabyBear> = elements(alloc, &[0, 0, 0, 0, 1, 0, 0, 0])?;
-    assert!(rt; fits_dft::<BabyBear>(column.len(), 1));
     let last = 2013265920;
-    let values = engine.dft(column)?;
-    assert!(rt; values == elements(alloc, &[1, last, 1, last, 1, last, 1, last])?);
-    Ok(())
+    let values = [1, last, 1, last, 1, last, 1, last];
+    evaluates(rt, alloc, &mut engine, &[0, 0, 0, 0, 1, 0, 0, 0], &values)
+}
+
+#[test]
+fn larger_heights(rt: HostRuntime) -> Result<(), Fail> {
+    prepares_a_larger_height::<BabyBear>(&rt, rt.alloc())
 }

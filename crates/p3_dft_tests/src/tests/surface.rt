@@ -8,6 +8,8 @@ use p3_dft::{
     log2_strict_usize, reverse_bits_len, reverse_matrix_index_bits, reverse_slice_index_bits,
     scale_slice_in_place, scaled, split_rows_mut, swap_rows,
 };
+use std::alloc::Global;
+use std::process::Abort;
 use std::test::Fail;
 
 // A field whose elements are packed, and one of its packed values.
@@ -20,66 +22,105 @@ fn is_one<P: Packed<Scalar = BabyBear>>(x: P::Scalar) -> bool {
     x == BabyBear::ONE
 }
 
-// How many rows are seen in bit reversed order.
-fn rows_seen(view: BitReversedMatrixView<RowMajorMatrix<BabyBear>>) -> usize {
-    view.height()
-}
-
-// The first entry of what can be handed over, and of evaluations.
-fn first_stored<N: IntoRowMajorMatrix<BabyBear>>(mat: N) -> Option<BabyBear> {
-    mat.into_row_major_matrix().values().first().copied()
-}
-
-fn first_natural<E: Evaluations<BabyBear>>(mat: E) -> Option<BabyBear> {
-    mat.to_row_major_matrix().values().first().copied()
-}
-
-fn first_lent(view: RowMajorMatrixView<'_, BabyBear>) -> Option<BabyBear> {
-    view.values().first().copied()
+#[test]
+fn names_of_fields(rt: HostRuntime) {
+    let mut products = Products::new();
+    assert!(rt; is_one::<BabyBear>(scaled(BabyBear::ONE, BabyBear::ONE, &mut products)));
+    assert!(rt; broadcast(Goldilocks::ONE) == Goldilocks::ONE);
 }
 
 // What a butterfly makes of two and one.
-fn met<B: Butterfly<BabyBear>>(butterfly: B) -> (BabyBear, BabyBear) {
-    let mut products = Products::new();
-    butterfly.apply(BabyBear::TWO, BabyBear::ONE, &mut products)
+fn met<F: Packable, B: Butterfly<F>>(butterfly: B) -> (F, F) {
+    butterfly.apply(F::TWO, F::ONE, &mut Products::new())
+}
+
+fn butterflies<F: Packable>(rt: &impl Abort) {
+    let three = F::from_u8(3);
+    assert!(rt; met(DitButterfly(F::ONE)) == (three, F::ONE));
+    assert!(rt; met(DifButterfly(F::ONE)) == (three, F::ONE));
+    assert!(rt; met(DifButterflyZeros(F::ONE)) == (F::TWO, F::TWO));
+    assert!(rt; met(TwiddleFreeButterfly) == (three, F::ONE));
+    assert!(rt; met(ScaledDitButterfly::new(F::ONE, F::ONE)) == (three, F::ONE));
 }
 
 #[test]
-fn names_of_the_crates_below(rt: HostRuntime) -> Result<(), Fail> {
-    let alloc = rt.alloc();
+fn names_of_butterflies(rt: HostRuntime) {
+    butterflies::<BabyBear>(&rt);
+}
+
+// One and two, multiplied by one and divided by their number.
+fn scales<F: TwoAdicField + Packable>(rt: &impl Abort, alloc: Global) -> Result<(), Fail> {
     let mut products = Products::new();
-    let three = BabyBear::from_u8(3);
-    assert!(rt; is_one::<BabyBear>(scaled(BabyBear::ONE, BabyBear::ONE, &mut products)));
-    assert!(rt; broadcast(Goldilocks::ONE) == Goldilocks::ONE);
-    assert!(rt; met(DitButterfly(BabyBear::ONE)) == (three, BabyBear::ONE));
-    assert!(rt; met(DifButterfly(BabyBear::ONE)) == (three, BabyBear::ONE));
-    assert!(rt; met(DifButterflyZeros(BabyBear::ONE)) == (BabyBear::TWO, BabyBear::TWO));
-    assert!(rt; met(TwiddleFreeButterfly) == (three, BabyBear::ONE));
-    let butterfly = ScaledDitButterfly::new(BabyBear::ONE, BabyBear::ONE);
-    assert!(rt; met(butterfly) == (three, BabyBear::ONE));
-    assert_eq!(rt; log2_strict_usize(4), 2);
-    assert_eq!(rt; reverse_bits_len(3, 3), 6);
-    let mut entries = vec![in alloc; BabyBear::ONE, BabyBear::TWO]?;
-    reverse_slice_index_bits(entries.as_mut_slice());
-    scale_slice_in_place(entries.as_mut_slice(), BabyBear::ONE, &mut products);
+    let mut entries = Vec::new(alloc);
+    entries.push(F::ONE)?;
+    entries.push(F::TWO)?;
+    scale_slice_in_place(entries.as_mut_slice(), F::ONE, &mut products);
     let mut mat = RowMajorMatrix::new_col(entries);
-    assert_eq!(rt; mat.height(), 2);
+    assert!(rt; mat.height() == 2);
+    divide_by_height(&mut mat.as_view_mut(), &mut products);
+    assert!(rt; mat.values().first() == Some(&F::ONE.halve()));
+    Ok(())
+}
+
+#[test]
+fn names_of_scales(rt: HostRuntime) -> Result<(), Fail> {
+    scales::<BabyBear>(&rt, rt.alloc())
+}
+
+// The first entry of what can be handed over, of evaluations, and of what is lent.
+fn first_stored<N: IntoRowMajorMatrix<u8>>(mat: N) -> Option<u8> {
+    mat.into_row_major_matrix().values().first().copied()
+}
+
+fn first_natural<E: Evaluations<u8>>(mat: E) -> Option<u8> {
+    mat.to_row_major_matrix().values().first().copied()
+}
+
+fn first_lent(view: RowMajorMatrixView<'_, u8>) -> Option<u8> {
+    view.values().first().copied()
+}
+
+// How many rows are seen in bit reversed order.
+fn rows_seen(view: BitReversedMatrixView<RowMajorMatrix<u8>>) -> usize {
+    view.height()
+}
+
+#[test]
+fn names_of_views(rt: HostRuntime) -> Result<(), Fail> {
+    let alloc = rt.alloc();
+    let mut mat = RowMajorMatrix::new_col(vec![in alloc; 1u8, 2]?);
+    assert!(rt; mat.height() == 2);
     {
         let mut view = RowMajorMatrixViewMut::new(&mut mat);
-        swap_rows(&mut view, 0, 1);
         reverse_matrix_index_bits(&mut view);
-        divide_by_height(&mut view, &mut products);
+        swap_rows(&mut view, 0, 1);
     }
-    let half = BabyBear::TWO.halve().halve();
-    assert!(rt; first_lent(mat.as_view()) == Some(BabyBear::TWO.halve()));
+    assert!(rt; first_lent(mat.as_view()) == Some(2));
     {
         let (first, second) = split_rows_mut(mat.values_mut(), 1, 1);
         first.swap_with_slice(second);
     }
-    assert!(rt; first_natural(mat.try_clone()?) == Some(half));
-    assert!(rt; first_stored(mat) == Some(half));
-    let seen = RowMajorMatrix::new_col(vec![in alloc; BabyBear::ONE, BabyBear::TWO]?);
-    assert_eq!(rt; rows_seen(seen.bit_reverse_rows()), 2);
+    assert!(rt; first_lent(mat.as_view()) == Some(1));
+    Ok(())
+}
+
+#[test]
+fn names_of_matrices(rt: HostRuntime) -> Result<(), Fail> {
+    let alloc = rt.alloc();
+    let mat = RowMajorMatrix::new_col(vec![in alloc; 1u8, 2]?);
+    assert!(rt; first_natural(mat.try_clone()?) == Some(1));
+    assert!(rt; first_stored(mat.try_clone()?) == Some(1));
+    assert!(rt; rows_seen(mat.bit_reverse_rows()) == 2);
+    Ok(())
+}
+
+#[test]
+fn names_of_orders(rt: HostRuntime) -> Result<(), Fail> {
+    assert!(rt; log2_strict_usize(4) == 2);
+    assert!(rt; reverse_bits_len(3, 3) == 6);
+    let mut entries = vec![in rt.alloc(); 1u8, 2, 3, 4]?;
+    reverse_slice_index_bits(entries.as_mut_slice());
+    assert!(rt; entries.as_slice() == [1, 3, 2, 4].as_slice());
     Ok(())
 }
 
