@@ -7,12 +7,15 @@ ghost use Rattle.p3_matrix.specs.RowMajor.{height};
 ghost use Rattle.p3_dft.specs.Engines.{AtLog, IsCosetPrepared, IsPrepared};
 ghost use Rattle.p3_dft.specs.Shapes.{FitsDft, FitsLde};
 
-use super::{Matrix, elements, has_inverse, matrix};
+use super::elements;
+use crate::tests::fitting::{assert_column, extensible, invertible, pair, transformable};
 use p3_dft::{
-    BabyBear, BitReversedMatrixView, DftError, Evaluations, Field, NaiveDft, Radix2DFTSmallBatch,
-    Radix2Dit, Radix2DitParallel, RowMajorMatrix, TwoAdicField, TwoAdicSubgroupDft, fits_dft,
-    fits_lde,
+    BabyBear, BitReversedMatrixView, CanonicalField, DftError, Evaluations, Field, NaiveDft,
+    Radix2DFTSmallBatch, Radix2Dit, Radix2DitParallel, RowMajorMatrix, TwoAdicField,
+    TwoAdicSubgroupDft, fits_lde,
 };
+use std::alloc::Global;
+use std::process::Abort;
 use std::test::Fail;
 
 // Each transform of a matrix of a prepared height.
@@ -250,141 +253,223 @@ fn extend_by_a_new_engine<F: TwoAdicField, D: TwoAdicSubgroupDft<F> + Drop>(
     Ok(engine)
 }
 
+// A column of two numbers, as a matrix of the height that is prepared here.
+fn two_rows<F: CanonicalField>(
+    rt: &impl Abort,
+    alloc: Global,
+    numbers: [u64; 2],
+) -> Result<RowMajorMatrix<F>, Fail>
+    ensures fits { IfOk result (λ mat. FitsDft F.TWO_ADICITY (height mat) mat.width) }
+    ensures height { IfOk result (λ mat. height mat ≡ 2) }
+{
+    let mat: RowMajorMatrix<F> = transformable(rt, alloc, &numbers)?;
+    assert!(rt; mat.height() == 2);
+    Ok(mat)
+}
+
+// The callers on these columns, for every field.
+
+fn prepare_by_an_inverse<F: CanonicalField>(
+    rt: &impl Abort,
+    alloc: Global,
+    engine: &mut Radix2Dit<F>,
+) -> Result<(), Fail> {
+    let values = two_rows(rt, alloc, [9, 1])?;
+    prepared_by_an_inverse(engine, values, 1, invertible(rt, F::TWO))?;
+    Ok(())
+}
+
+fn invert_two_rows<F: CanonicalField>(
+    rt: &impl Abort,
+    alloc: Global,
+    engine: &mut Radix2Dit<F>,
+) -> Result<(), Fail> {
+    assert!(rt; engine.is_prepared(1));
+    let back = invert_prepared(engine, two_rows(rt, alloc, [9, 1])?, 1)?;
+    assert_column(rt, &back, &[5, 4])?;
+    let shift = invertible(rt, F::TWO);
+    let back = invert_prepared_on_coset(engine, two_rows(rt, alloc, [9, 1])?, 1, shift)?;
+    assert_column(rt, &back, &[5, 2])
+}
+
+fn transform_two_rows<F: CanonicalField>(
+    rt: &impl Abort,
+    alloc: Global,
+    engine: &mut Radix2Dit<F>,
+) -> Result<(), Fail> {
+    assert!(rt; engine.is_prepared(1));
+    let there = transform_prepared(engine, two_rows(rt, alloc, [9, 1])?, 1)?;
+    assert_column(rt, &there, &[10, 8])?;
+    let there = transform_prepared_on_coset(engine, two_rows(rt, alloc, [9, 1])?, 1, F::TWO)?;
+    assert_column(rt, &there, &[11, 7])
+}
+
+fn calls_at_a_prepared_height<F: CanonicalField>(
+    rt: &impl Abort,
+    alloc: Global,
+) -> Result<(), Fail> {
+    let mut engine: Radix2Dit<F> = Radix2Dit::default();
+    prepare_by_an_inverse(rt, alloc, &mut engine)?;
+    invert_two_rows(rt, alloc, &mut engine)?;
+    transform_two_rows(rt, alloc, &mut engine)
+}
+
 #[test]
 fn prepared_heights_answer(rt: HostRuntime) -> Result<(), Fail> {
-    let alloc = rt.alloc();
-    let mut engine = Radix2Dit::<BabyBear>::default();
-    let values: Matrix = matrix(alloc, &[9, 1], 1)?;
-    assert!(rt; fits_dft::<BabyBear>(values.height(), values.width()));
-    assert_eq!(rt; values.height(), 2);
-    let shift = BabyBear::TWO;
-    assert!(rt; has_inverse(shift));
-    prepared_by_an_inverse(&mut engine, values.try_clone()?, 1, shift)?;
-    assert!(rt; engine.is_prepared(1));
-    let back = invert_prepared(&mut engine, values.try_clone()?, 1)?;
-    assert!(rt; back == matrix(alloc, &[5, 4], 1)?);
-    assert!(rt; engine.is_prepared(1));
-    let back = invert_prepared_on_coset(&mut engine, values.try_clone()?, 1, shift)?;
-    assert!(rt; back == matrix(alloc, &[5, 2], 1)?);
-    assert!(rt; engine.is_prepared(1));
-    let there = transform_prepared(&mut engine, values.try_clone()?, 1)?;
-    assert!(rt; there == matrix(alloc, &[10, 8], 1)?);
-    assert!(rt; engine.is_prepared(1));
-    let there = transform_prepared_on_coset(&mut engine, values, 1, shift)?;
-    assert!(rt; there == matrix(alloc, &[11, 7], 1)?);
-    Ok(())
+    calls_at_a_prepared_height::<BabyBear>(&rt, rt.alloc())
+}
+
+fn transform_as_promised<F: CanonicalField, D: TwoAdicSubgroupDft<F>>(
+    rt: &impl Abort,
+    alloc: Global,
+    engine: &mut D,
+) -> Result<(), Fail>
+    requires { D.promised engine.old 1 }
+{
+    let there = transform_promised(engine, two_rows(rt, alloc, [5, 4])?, 1)?;
+    assert_column(rt, &there.to_row_major_matrix(), &[9, 1])
+}
+
+fn transform_as_promised_by_halves<F: CanonicalField>(
+    rt: &impl Abort,
+    alloc: Global,
+) -> Result<(), Fail> {
+    assert!(rt; F::TWO_ADICITY >= 1);
+    let mut engine: Radix2DitParallel<F> = Radix2DitParallel::default();
+    engine.prepare(alloc, 1)?;
+    transform_as_promised(rt, alloc, &mut engine)
 }
 
 #[test]
 fn promised_height_answers(rt: HostRuntime) -> Result<(), Fail> {
-    let alloc = rt.alloc();
-    let values: Matrix = matrix(alloc, &[5, 4], 1)?;
-    assert!(rt; fits_dft::<BabyBear>(values.height(), values.width()));
-    assert!(rt; values.height() == 2);
-    let mut engine = Radix2DitParallel::<BabyBear>::default();
+    transform_as_promised_by_halves::<BabyBear>(&rt, rt.alloc())
+}
+
+fn transform_as_promised_by_tiles<F: CanonicalField>(
+    rt: &impl Abort,
+    alloc: Global,
+) -> Result<(), Fail> {
+    assert!(rt; F::TWO_ADICITY >= 1);
+    let mut engine: Radix2DFTSmallBatch<F> = Radix2DFTSmallBatch::default();
     engine.prepare(alloc, 1)?;
-    let there = transform_promised(&mut engine, values, 1)?;
-    assert!(rt; there.to_row_major_matrix() == matrix(alloc, &[9, 1], 1)?);
-    Ok(())
+    transform_as_promised(rt, alloc, &mut engine)
 }
 
 #[test]
 fn promised_height_answers_by_tiles(rt: HostRuntime) -> Result<(), Fail> {
-    let alloc = rt.alloc();
-    let values: Matrix = matrix(alloc, &[5, 4], 1)?;
-    assert!(rt; fits_dft::<BabyBear>(values.height(), values.width()));
-    assert!(rt; values.height() == 2);
-    let mut engine = Radix2DFTSmallBatch::<BabyBear>::default();
+    transform_as_promised_by_tiles::<BabyBear>(&rt, rt.alloc())
+}
+
+fn transform_on_a_coset_as_promised<F: CanonicalField>(
+    rt: &impl Abort,
+    alloc: Global,
+) -> Result<(), Fail> {
+    assert!(rt; F::TWO_ADICITY >= 1);
+    let mut engine: Radix2Dit<F> = Radix2Dit::default();
     engine.prepare(alloc, 1)?;
-    let there = transform_promised(&mut engine, values, 1)?;
-    assert!(rt; there == matrix(alloc, &[9, 1], 1)?);
-    Ok(())
+    let values = two_rows(rt, alloc, [5, 4])?;
+    let there = transform_on_promised_coset(&mut engine, values, 1, F::TWO)?;
+    assert_column(rt, &there, &[13, 2013265918])
 }
 
 #[test]
 fn promised_coset_answers(rt: HostRuntime) -> Result<(), Fail> {
-    let alloc = rt.alloc();
-    let values: Matrix = matrix(alloc, &[5, 4], 1)?;
-    assert!(rt; fits_dft::<BabyBear>(values.height(), values.width()));
-    assert!(rt; values.height() == 2);
-    let mut engine = Radix2Dit::<BabyBear>::default();
-    engine.prepare(alloc, 1)?;
-    let there = transform_on_promised_coset(&mut engine, values, 1, BabyBear::TWO)?;
-    assert!(rt; there == matrix(alloc, &[13, 2013265918], 1)?);
-    Ok(())
+    transform_on_a_coset_as_promised::<BabyBear>(&rt, rt.alloc())
+}
+
+fn transform_twice_on_a_coset<F: CanonicalField>(
+    rt: &impl Abort,
+    alloc: Global,
+    engine: &mut Radix2DitParallel<F>,
+) -> Result<(), Fail> {
+    let shift = F::TWO;
+    transform_on_new_coset(engine, two_rows(rt, alloc, [5, 4])?, 1, shift)?;
+    let there = transform_on_known_coset(engine, two_rows(rt, alloc, [5, 4])?, 1, shift)?;
+    assert_column(rt, &there.to_row_major_matrix(), &[13, 2013265918])
 }
 
 #[test]
 fn known_coset_answers(rt: HostRuntime) -> Result<(), Fail> {
-    let alloc = rt.alloc();
-    let values: Matrix = matrix(alloc, &[5, 4], 1)?;
-    assert!(rt; fits_dft::<BabyBear>(values.height(), values.width()));
-    assert!(rt; values.height() == 2);
     let mut engine = Radix2DitParallel::<BabyBear>::default();
-    let shift = BabyBear::TWO;
-    transform_on_new_coset(&mut engine, values.try_clone()?, 1, shift)?;
-    let there = transform_on_known_coset(&mut engine, values, 1, shift)?;
-    assert!(rt; there.to_row_major_matrix() == matrix(alloc, &[13, 2013265918], 1)?);
-    Ok(())
+    transform_twice_on_a_coset(&rt, rt.alloc(), &mut engine)
+}
+
+fn extend_after_a_coset<F: CanonicalField>(
+    rt: &impl Abort,
+    alloc: Global,
+    engine: &mut Radix2DitParallel<F>,
+) -> Result<(), Fail> {
+    let shift = F::TWO;
+    transform_on_new_coset(engine, two_rows(rt, alloc, [5, 4])?, 1, shift)?;
+    let values = extensible(rt, alloc, &[5, 4], 1)?;
+    let extended = extend_beside_a_coset(engine, values, 1, 1, shift)?;
+    let numbers = [5, 864202261, 4, 1149063669];
+    assert_column(rt, &extended.to_row_major_matrix(), &numbers)
 }
 
 #[test]
 fn known_coset_stays(rt: HostRuntime) -> Result<(), Fail> {
-    let alloc = rt.alloc();
-    let values: Matrix = matrix(alloc, &[5, 4], 1)?;
-    assert!(rt; fits_dft::<BabyBear>(values.height(), values.width()));
-    assert!(rt; values.height() == 2);
-    assert!(rt; fits_lde::<BabyBear>(values.height(), values.width(), 1));
     let mut engine = Radix2DitParallel::<BabyBear>::default();
-    let shift = BabyBear::TWO;
-    transform_on_new_coset(&mut engine, values.try_clone()?, 1, shift)?;
-    let extended = extend_beside_a_coset(&mut engine, values, 1, 1, shift)?;
-    let wanted = matrix(alloc, &[5, 864202261, 4, 1149063669], 1)?;
-    assert!(rt; extended.to_row_major_matrix() == wanted);
+    extend_after_a_coset(&rt, rt.alloc(), &mut engine)
+}
+
+fn transform_columns<F: CanonicalField>(
+    rt: &impl Abort,
+    alloc: Global,
+    engine: &mut Radix2Dit<F>,
+) -> Result<(), Fail> {
+    assert!(rt; engine.is_prepared(1));
+    let there = column_there(engine, pair(rt, alloc, [9, 1])?, 1)?;
+    assert!(rt; there == elements(alloc, &[10, 8])?);
+    assert!(rt; engine.is_prepared(1));
+    let there = column_on_coset(engine, pair(rt, alloc, [9, 1])?, 1, F::TWO)?;
+    assert!(rt; there == elements(alloc, &[11, 7])?);
     Ok(())
+}
+
+fn invert_columns<F: CanonicalField>(
+    rt: &impl Abort,
+    alloc: Global,
+    engine: &mut Radix2Dit<F>,
+) -> Result<(), Fail> {
+    assert!(rt; engine.is_prepared(1));
+    let back = column_back(engine, pair(rt, alloc, [9, 1])?, 1)?;
+    assert!(rt; back == elements(alloc, &[5, 4])?);
+    assert!(rt; engine.is_prepared(1));
+    let shift = invertible(rt, F::TWO);
+    let back = column_back_from_coset(engine, pair(rt, alloc, [9, 1])?, 1, shift)?;
+    assert!(rt; back == elements(alloc, &[5, 2])?);
+    Ok(())
+}
+
+fn calls_on_columns<F: CanonicalField>(rt: &impl Abort, alloc: Global) -> Result<(), Fail> {
+    assert!(rt; F::TWO_ADICITY >= 1);
+    let mut engine: Radix2Dit<F> = Radix2Dit::default();
+    engine.prepare(alloc, 1)?;
+    transform_columns(rt, alloc, &mut engine)?;
+    invert_columns(rt, alloc, &mut engine)
 }
 
 #[test]
 fn prepared_columns_answer(rt: HostRuntime) -> Result<(), Fail> {
-    let alloc = rt.alloc();
-    let mut engine = Radix2Dit::<BabyBear>::default();
-    engine.prepare(alloc, 1)?;
+    calls_on_columns::<BabyBear>(&rt, rt.alloc())
+}
+
+fn new_engine_prepared<F: CanonicalField>(rt: &impl Abort, alloc: Global) -> Result<(), Fail> {
+    let engine: Radix2Dit<F> = transform_by_a_new_engine(two_rows(rt, alloc, [9, 1])?)?;
     assert!(rt; engine.is_prepared(1));
-    let shift = BabyBear::TWO;
-    assert!(rt; has_inverse(shift));
-    let column: Vec<BabyBear> = elements(alloc, &[9, 1])?;
-    assert!(rt; fits_dft::<BabyBear>(column.len(), 1));
-    assert_eq!(rt; column.len(), 2);
-    assert!(rt; column_there(&mut engine, column, 1)? == elements(alloc, &[10, 8])?);
-    assert!(rt; engine.is_prepared(1));
-    let column: Vec<BabyBear> = elements(alloc, &[9, 1])?;
-    assert!(rt; fits_dft::<BabyBear>(column.len(), 1));
-    assert_eq!(rt; column.len(), 2);
-    assert!(rt; column_on_coset(&mut engine, column, 1, shift)? == elements(alloc, &[11, 7])?);
-    assert!(rt; engine.is_prepared(1));
-    let column: Vec<BabyBear> = elements(alloc, &[9, 1])?;
-    assert!(rt; fits_dft::<BabyBear>(column.len(), 1));
-    assert_eq!(rt; column.len(), 2);
-    assert!(rt; column_back(&mut engine, column, 1)? == elements(alloc, &[5, 4])?);
-    assert!(rt; engine.is_prepared(1));
-    let column: Vec<BabyBear> = elements(alloc, &[9, 1])?;
-    assert!(rt; fits_dft::<BabyBear>(column.len(), 1));
-    assert_eq!(rt; column.len(), 2);
-    assert!(rt;
-        column_back_from_coset(&mut engine, column, 1, shift)? == elements(alloc, &[5, 2])?
-    );
+    Ok(())
+}
+
+fn new_engine_extends<F: CanonicalField>(rt: &impl Abort, alloc: Global) -> Result<(), Fail> {
+    let column: Vec<F> = elements(alloc, &[9, 1])?;
+    assert!(rt; fits_lde::<F>(column.len(), 1, 1));
+    let _engine: NaiveDft = extend_by_a_new_engine(column, 1)?;
     Ok(())
 }
 
 #[test]
 fn new_engines(rt: HostRuntime) -> Result<(), Fail> {
-    let alloc = rt.alloc();
-    let mat: Matrix = matrix(alloc, &[9, 1], 1)?;
-    assert!(rt; fits_dft::<BabyBear>(mat.height(), mat.width()));
-    let engine: Radix2Dit<BabyBear> = transform_by_a_new_engine(mat)?;
-    assert!(rt; engine.is_prepared(1));
-    let column: Vec<BabyBear> = elements(alloc, &[9, 1])?;
-    assert!(rt; fits_lde::<BabyBear>(column.len(), 1, 1));
-    let _engine: NaiveDft = extend_by_a_new_engine(column, 1)?;
-    Ok(())
+    new_engine_prepared::<BabyBear>(&rt, rt.alloc())?;
+    new_engine_extends::<BabyBear>(&rt, rt.alloc())
 }
