@@ -15,12 +15,15 @@ ghost use Rattle.p3_networks.specs.Polynomials.{value};
 ghost use Rattle.p3_dft.specs.Shapes.{FitsDft, FitsLde};
 ghost use Rattle.p3_dft.specs.Transforms.{IsInterpolation, IsTransform, values_of};
 
-use super::{Matrix, elements, has_inverse, matrix};
+use super::elements;
+use crate::tests::fitting::{assert_column, extensible, invertible, pair, transformable};
 use crate::there_and_back::there_and_back;
 use p3_dft::{
-    BabyBear, DftError, Evaluations, Field, Job, JobsStopped, Layout, NaiveDft, Radix2Dit,
-    RowMajorMatrix, TwoAdicField, TwoAdicSubgroupDft, fits_dft, fits_lde, run_jobs,
+    BabyBear, CanonicalField, DftError, Evaluations, Field, Job, JobsStopped, Layout, NaiveDft,
+    Radix2Dit, RowMajorMatrix, TwoAdicField, TwoAdicSubgroupDft, fits_dft, run_jobs,
 };
+use std::alloc::Global;
+use std::process::Abort;
 use std::test::Fail;
 
 // The transform of an inverse is the matrix.
@@ -481,159 +484,278 @@ fn extensions_of_a_sum<F: TwoAdicField, D: TwoAdicSubgroupDft<F>>(
     })
 }
 
+// The callers on small columns, for all fields and engines. The column 9, 1 has the coefficients 5, 4.
+
+fn undoing<F: CanonicalField, D: TwoAdicSubgroupDft<F>>(
+    rt: &impl Abort,
+    alloc: Global,
+    engine: &mut D,
+) -> Result<(), Fail> {
+    let mat: RowMajorMatrix<F> = transformable(rt, alloc, &[9, 1])?;
+    let shift = invertible(rt, F::TWO);
+    let back = there_and_back(engine, mat.try_clone()?, shift)?;
+    assert_column(rt, &back, &[9, 1])?;
+    let there = back_and_there(engine, mat, shift)?;
+    assert_column(rt, &there.to_row_major_matrix(), &[9, 1])
+}
+
+fn agreeing<F: CanonicalField, D: TwoAdicSubgroupDft<F>, E: TwoAdicSubgroupDft<F>>(
+    rt: &impl Abort,
+    alloc: Global,
+    one: &mut D,
+    other: &mut E,
+) -> Result<(), Fail> {
+    let mat: RowMajorMatrix<F> = transformable(rt, alloc, &[9, 1])?;
+    assert!(rt; transforms_agree(one, other, mat, F::TWO)?);
+    Ok(())
+}
+
+fn generators<F: CanonicalField>(rt: &impl Abort, alloc: Global) -> Result<(), Fail> {
+    let mat: RowMajorMatrix<F> = transformable(rt, alloc, &[9, 1])?;
+    assert!(rt; mat.height() == 2);
+    assert!(rt; generator_of(&mat, 1) == F::NEG_ONE);
+    Ok(())
+}
+
+fn points<F: CanonicalField, D: TwoAdicSubgroupDft<F>>(
+    rt: &impl Abort,
+    alloc: Global,
+    engine: &mut D,
+) -> Result<(), Fail> {
+    let values = values_at_points(engine, pair(rt, alloc, [9, 1])?, F::TWO)?;
+    assert!(rt; values == elements(alloc, &[11, 7])?);
+    Ok(())
+}
+
+fn transforming<F: CanonicalField, D: TwoAdicSubgroupDft<F>, E: TwoAdicSubgroupDft<F>>(
+    rt: &impl Abort,
+    alloc: Global,
+) -> Result<(), Fail> {
+    let mut engine = D::default();
+    undoing(rt, alloc, &mut engine)?;
+    agreeing(rt, alloc, &mut engine, &mut E::default())?;
+    generators::<F>(rt, alloc)?;
+    points(rt, alloc, &mut engine)
+}
+
 #[test]
 fn transforms_and_back(rt: HostRuntime) -> Result<(), Fail> {
-    let alloc = rt.alloc();
-    let mut engine = Radix2Dit::<BabyBear>::default();
-    let mat: Matrix = matrix(alloc, &[9, 1], 1)?;
-    let shift = BabyBear::TWO;
-    assert!(rt; fits_dft::<BabyBear>(mat.height(), mat.width()));
-    assert!(rt; has_inverse(shift));
-    assert!(rt; there_and_back(&mut engine, mat.try_clone()?, shift)? == mat);
-    assert!(rt; back_and_there(&mut engine, mat.try_clone()?, shift)? == mat);
-    assert!(rt;
-        transforms_agree(
-            &mut engine,
-            &mut NaiveDft::default(),
-            mat.try_clone()?,
-            shift
-        )?
-    );
-    assert_eq!(rt; mat.height(), 2);
-    assert!(rt; generator_of(&mat, 1) == BabyBear::NEG_ONE);
-    let column: Vec<BabyBear> = elements(alloc, &[9, 1])?;
-    assert!(rt; fits_dft::<BabyBear>(column.len(), 1));
-    assert!(rt; values_at_points(&mut engine, column, shift)? == elements(alloc, &[11, 7])?);
-    Ok(())
+    transforming::<BabyBear, Radix2Dit<BabyBear>, NaiveDft>(&rt, rt.alloc())
+}
+
+fn extending_on_subgroups<F: CanonicalField, D: TwoAdicSubgroupDft<F>>(
+    rt: &impl Abort,
+    alloc: Global,
+    engine: &mut D,
+) -> Result<(), Fail> {
+    let same = extended_by_nothing(engine, extensible(rt, alloc, &[9, 1], 0)?)?;
+    assert_column(rt, &same.to_row_major_matrix(), &[9, 1])?;
+    let larger = [9, 873820294, 1, 1139445637];
+    let values = extended_by_one(engine, extensible(rt, alloc, &[9, 1], 1)?, 1)?;
+    assert_column(rt, &values.to_row_major_matrix(), &larger)?;
+    let values = extended_with_rows_kept(engine, extensible(rt, alloc, &[9, 1], 1)?, 1)?;
+    assert_column(rt, &values.to_row_major_matrix(), &larger)
+}
+
+fn extending_on_cosets<F: CanonicalField, D: TwoAdicSubgroupDft<F>>(
+    rt: &impl Abort,
+    alloc: Global,
+    engine: &mut D,
+) -> Result<(), Fail> {
+    let mat: RowMajorMatrix<F> = extensible(rt, alloc, &[9, 1], 1)?;
+    let shift = invertible(rt, F::TWO);
+    let back = inverse_of_extended(engine, mat.try_clone()?, 1, shift)?;
+    assert_column(rt, &back, &[5, 4, 0, 0])?;
+    let values = extended_from_coset(engine, mat.try_clone()?, 1, shift, F::ZERO)?;
+    assert_column(rt, &values.to_row_major_matrix(), &[9, 9, 9, 9])?;
+    let values = extended_unchanged(engine, mat, 1, F::ZERO)?;
+    assert_column(rt, &values.to_row_major_matrix(), &[5, 5, 5, 5])
+}
+
+fn extending<F: CanonicalField, D: TwoAdicSubgroupDft<F>>(
+    rt: &impl Abort,
+    alloc: Global,
+) -> Result<(), Fail> {
+    let mut engine = D::default();
+    extending_on_subgroups(rt, alloc, &mut engine)?;
+    extending_on_cosets(rt, alloc, &mut engine)
 }
 
 #[test]
 fn extensions(rt: HostRuntime) -> Result<(), Fail> {
-    let alloc = rt.alloc();
-    let mut engine = Radix2Dit::<BabyBear>::default();
-    let mat: Matrix = matrix(alloc, &[9, 1], 1)?;
-    let shift = BabyBear::TWO;
-    let larger: Matrix = matrix(alloc, &[9, 873820294, 1, 1139445637], 1)?;
-    assert!(rt; fits_lde::<BabyBear>(mat.height(), mat.width(), 0));
-    assert!(rt; extended_by_nothing(&mut engine, mat.try_clone()?)? == mat);
-    assert!(rt; fits_lde::<BabyBear>(mat.height(), mat.width(), 1));
-    assert!(rt; has_inverse(shift));
-    assert!(rt; extended_by_one(&mut engine, mat.try_clone()?, 1)? == larger);
-    assert!(rt; extended_with_rows_kept(&mut engine, mat.try_clone()?, 1)? == larger);
-    let back = inverse_of_extended(&mut engine, mat.try_clone()?, 1, shift)?;
-    assert!(rt; back == matrix(alloc, &[5, 4, 0, 0], 1)?);
-    let there = extended_from_coset(&mut engine, mat.try_clone()?, 1, shift, BabyBear::ZERO)?;
-    assert!(rt; there == matrix(alloc, &[9, 9, 9, 9], 1)?);
-    let there = extended_unchanged(&mut engine, mat, 1, BabyBear::ZERO)?;
-    assert!(rt; there == matrix(alloc, &[5, 5, 5, 5], 1)?);
-    Ok(())
+    extending::<BabyBear, Radix2Dit<BabyBear>>(&rt, rt.alloc())
+}
+
+fn inverting_alike<F: CanonicalField, D: TwoAdicSubgroupDft<F>, E: TwoAdicSubgroupDft<F>>(
+    rt: &impl Abort,
+    alloc: Global,
+) -> Result<(), Fail> {
+    let mut engine = D::default();
+    let mat: RowMajorMatrix<F> = transformable(rt, alloc, &[9, 1])?;
+    let shift = invertible(rt, F::TWO);
+    let (one, other) = inverses_agree(&mut engine, &mut E::default(), mat, shift)?;
+    assert!(rt; told_equal(&one, &other));
+    assert!(rt; fits_dft::<F>(one.height(), one.width()));
+    let there = transformed_for(&mut engine, one, &other, shift)?;
+    assert_column(rt, &there.to_row_major_matrix(), &[9, 1])
 }
 
 #[test]
 fn equal_inverses(rt: HostRuntime) -> Result<(), Fail> {
-    let alloc = rt.alloc();
-    let mut engine = Radix2Dit::<BabyBear>::default();
-    let mat: Matrix = matrix(alloc, &[9, 1], 1)?;
-    let shift = BabyBear::TWO;
-    assert!(rt; fits_dft::<BabyBear>(mat.height(), mat.width()));
-    assert!(rt; has_inverse(shift));
-    let (one, other) = inverses_agree(&mut engine, &mut NaiveDft::default(), mat, shift)?;
-    assert!(rt; told_equal(&one, &other));
-    assert!(rt; fits_dft::<BabyBear>(one.height(), one.width()));
-    let there = transformed_for(&mut engine, one, &other, shift)?;
-    assert!(rt; there == matrix(alloc, &[9, 1], 1)?);
-    Ok(())
+    inverting_alike::<BabyBear, Radix2Dit<BabyBear>, NaiveDft>(&rt, rt.alloc())
+}
+
+fn extending_alike<F: CanonicalField, D: TwoAdicSubgroupDft<F>, E: TwoAdicSubgroupDft<F>>(
+    rt: &impl Abort,
+    alloc: Global,
+) -> Result<(), Fail> {
+    let mat: RowMajorMatrix<F> = extensible(rt, alloc, &[9, 1], 1)?;
+    let (one, other) = extensions_agree(&mut D::default(), &mut E::default(), mat, 1, F::ZERO)?;
+    assert_column(rt, &one.to_row_major_matrix(), &[5, 5, 5, 5])?;
+    assert_column(rt, &other.to_row_major_matrix(), &[5, 5, 5, 5])
 }
 
 #[test]
 fn equal_extensions(rt: HostRuntime) -> Result<(), Fail> {
-    let alloc = rt.alloc();
-    let mut engine = Radix2Dit::<BabyBear>::default();
-    let mat: Matrix = matrix(alloc, &[9, 1], 1)?;
-    assert!(rt; fits_lde::<BabyBear>(mat.height(), mat.width(), 1));
-    let shift = BabyBear::ZERO;
-    let (one, other) = extensions_agree(&mut engine, &mut NaiveDft::default(), mat, 1, shift)?;
-    assert!(rt; one == matrix(alloc, &[5, 5, 5, 5], 1)?);
-    assert!(rt; other == one);
-    Ok(())
+    extending_alike::<BabyBear, Radix2Dit<BabyBear>, NaiveDft>(&rt, rt.alloc())
+}
+
+fn coefficients_of_an_extension<F: CanonicalField, D: TwoAdicSubgroupDft<F>>(
+    rt: &impl Abort,
+    alloc: Global,
+) -> Result<(), Fail> {
+    let mat: RowMajorMatrix<F> = extensible(rt, alloc, &[9, 1], 1)?;
+    let (coefficients, _values) = extended_coefficients(&mut D::default(), mat, 1, F::TWO)?;
+    assert_column(rt, &coefficients, &[5, 4])
+}
+
+fn coefficients_back<F: CanonicalField, D: TwoAdicSubgroupDft<F>>(
+    rt: &impl Abort,
+    alloc: Global,
+) -> Result<(), Fail> {
+    let mat: RowMajorMatrix<F> = extensible(rt, alloc, &[9, 1], 1)?;
+    let shift = invertible(rt, F::TWO);
+    let (coefficients, back) = coefficients_again(&mut D::default(), mat, 1, shift)?;
+    assert_column(rt, &coefficients, &[5, 4])?;
+    assert_column(rt, &back, &[5, 4, 0, 0])
 }
 
 #[test]
 fn coefficients_of_extensions(rt: HostRuntime) -> Result<(), Fail> {
-    let alloc = rt.alloc();
-    let mut engine = Radix2Dit::<BabyBear>::default();
-    let mat: Matrix = matrix(alloc, &[9, 1], 1)?;
-    let shift = BabyBear::TWO;
-    assert!(rt; fits_lde::<BabyBear>(mat.height(), mat.width(), 1));
-    assert!(rt; has_inverse(shift));
-    let (coefficients, _values) = extended_coefficients(&mut engine, mat.try_clone()?, 1, shift)?;
-    assert!(rt; coefficients == matrix(alloc, &[5, 4], 1)?);
-    let (coefficients, back) = coefficients_again(&mut engine, mat, 1, shift)?;
-    assert!(rt; coefficients == matrix(alloc, &[5, 4], 1)?);
-    assert!(rt; back == matrix(alloc, &[5, 4, 0, 0], 1)?);
-    Ok(())
+    coefficients_of_an_extension::<BabyBear, Radix2Dit<BabyBear>>(&rt, rt.alloc())?;
+    coefficients_back::<BabyBear, Radix2Dit<BabyBear>>(&rt, rt.alloc())
+}
+
+fn inverting_an_extension<F: CanonicalField, D: TwoAdicSubgroupDft<F>>(
+    rt: &impl Abort,
+    alloc: Global,
+) -> Result<(), Fail> {
+    let mat: RowMajorMatrix<F> = extensible(rt, alloc, &[9, 1], 1)?;
+    let shift = invertible(rt, F::TWO);
+    let (coefficients, back) = coefficients_and_zeros(&mut D::default(), mat, 1, shift)?;
+    assert_column(rt, &coefficients, &[5, 4])?;
+    assert_column(rt, &back, &[5, 4, 0, 0])
 }
 
 #[test]
 fn inverses_of_extensions(rt: HostRuntime) -> Result<(), Fail> {
-    let alloc = rt.alloc();
-    let mut engine = Radix2Dit::<BabyBear>::default();
-    let mat: Matrix = matrix(alloc, &[9, 1], 1)?;
-    let shift = BabyBear::TWO;
-    assert!(rt; fits_lde::<BabyBear>(mat.height(), mat.width(), 1));
-    assert!(rt; has_inverse(shift));
-    let (coefficients, back) = coefficients_and_zeros(&mut engine, mat, 1, shift)?;
-    assert!(rt; coefficients == matrix(alloc, &[5, 4], 1)?);
-    assert!(rt; back == matrix(alloc, &[5, 4, 0, 0], 1)?);
-    Ok(())
+    inverting_an_extension::<BabyBear, Radix2Dit<BabyBear>>(&rt, rt.alloc())
 }
 
-#[test]
-fn answers_of_a_job(rt: HostRuntime) -> Result<(), Fail> {
-    let alloc = rt.alloc();
-    let mat: Matrix = matrix(alloc, &[5, 4], 1)?;
-    assert!(rt; fits_dft::<BabyBear>(mat.height(), mat.width()));
-    let one = Radix2Dit::<BabyBear>::default().dft_batch(mat.try_clone()?)?;
-    let other = NaiveDft::default().dft_batch(mat.try_clone()?)?;
+fn answering_a_job<F: CanonicalField, D: TwoAdicSubgroupDft<F>, E: TwoAdicSubgroupDft<F>>(
+    rt: &impl Abort,
+    alloc: Global,
+) -> Result<(), Fail> {
+    let mat: RowMajorMatrix<F> = transformable(rt, alloc, &[5, 4])?;
+    let one = D::default()
+        .dft_batch(mat.try_clone()?)?
+        .to_row_major_matrix();
+    let other = E::default()
+        .dft_batch(mat.try_clone()?)?
+        .to_row_major_matrix();
     assert!(rt; answers_are_equal(&Job::Dft(mat), one, other));
     Ok(())
 }
 
 #[test]
+fn answers_of_a_job(rt: HostRuntime) -> Result<(), Fail> {
+    answering_a_job::<BabyBear, Radix2Dit<BabyBear>, NaiveDft>(&rt, rt.alloc())
+}
+
+// Columns and their shapes that one engine transforms and inverts alone.
+fn transforming_alone<F: CanonicalField, D: TwoAdicSubgroupDft<F>>(
+    rt: &impl Abort,
+    alloc: Global,
+    engine: &mut D,
+) -> Result<(), Fail> {
+    let mat: RowMajorMatrix<F> = transformable(rt, alloc, &[9, 1])?;
+    assert!(rt; mat.width() == 1);
+    let shift = invertible(rt, F::TWO);
+    let column = own_column(&mat)?;
+    let (whole, one) = column_alone(engine, mat.try_clone()?, column, 0, shift)?;
+    assert!(rt; whole == one);
+    let column = own_column(&mat)?;
+    let (whole, one) = column_undone_alone(engine, mat, column, 0, shift)?;
+    assert!(rt; whole == one);
+    Ok(())
+}
+
+fn extending_alone<F: CanonicalField, D: TwoAdicSubgroupDft<F>>(
+    rt: &impl Abort,
+    alloc: Global,
+    engine: &mut D,
+) -> Result<(), Fail> {
+    let mat: RowMajorMatrix<F> = extensible(rt, alloc, &[9, 1], 1)?;
+    assert!(rt; mat.width() == 1);
+    let column = own_column(&mat)?;
+    let (whole, one) = column_extended_alone(engine, mat, column, 0, 1)?;
+    assert!(rt; whole == one);
+    Ok(())
+}
+
+fn columns_alone<F: CanonicalField, D: TwoAdicSubgroupDft<F>>(
+    rt: &impl Abort,
+    alloc: Global,
+) -> Result<(), Fail> {
+    let mut engine = D::default();
+    transforming_alone(rt, alloc, &mut engine)?;
+    extending_alone(rt, alloc, &mut engine)
+}
+
+#[test]
 fn columns(rt: HostRuntime) -> Result<(), Fail> {
-    let alloc = rt.alloc();
-    let mut engine = Radix2Dit::<BabyBear>::default();
-    let mat: Matrix = matrix(alloc, &[9, 1], 1)?;
-    let shift = BabyBear::TWO;
-    assert_eq!(rt; mat.width(), 1);
-    assert!(rt; has_inverse(shift));
-    assert!(rt; fits_dft::<BabyBear>(mat.height(), mat.width()));
-    let column = own_column(&mat)?;
-    let (whole, one) = column_alone(&mut engine, mat.try_clone()?, column, 0, shift)?;
-    assert!(rt; whole == one);
-    let column = own_column(&mat)?;
-    let (whole, one) = column_undone_alone(&mut engine, mat.try_clone()?, column, 0, shift)?;
-    assert!(rt; whole == one);
-    assert!(rt; fits_lde::<BabyBear>(mat.height(), mat.width(), 1));
-    let column = own_column(&mat)?;
-    let (whole, one) = column_extended_alone(&mut engine, mat, column, 0, 1)?;
-    assert!(rt; whole == one);
+    columns_alone::<BabyBear, Radix2Dit<BabyBear>>(&rt, rt.alloc())
+}
+
+// A list of one job, twice.
+fn equal_lists<F: CanonicalField>(
+    rt: &impl Abort,
+    alloc: Global,
+) -> Result<(Vec<Job<F>>, Vec<Job<F>>), Fail>
+    ensures runnable { IfOk result (λ lists. All (CanRun F.Field.own F.TWO_ADICITY) lists.0.items) }
+    ensures equal { IfOk result (λ lists. lists.1.items ≡ lists.0.items) }
+{
+    let job: Job<F> = Job::Idft(transformable(rt, alloc, &[9, 1])?);
+    let mut again = Vec::new(alloc);
+    again.push(job.try_clone()?)?;
+    let mut jobs = Vec::new(alloc);
+    jobs.push(job)?;
+    Ok((jobs, again))
+}
+
+fn answering_lists<F: CanonicalField, D: TwoAdicSubgroupDft<F>, E: TwoAdicSubgroupDft<F>>(
+    rt: &impl Abort,
+    alloc: Global,
+) -> Result<(), Fail> {
+    let (jobs, again) = equal_lists::<F>(rt, alloc)?;
+    match jobs_agree(&mut D::default(), &mut E::default(), jobs, again) {
+        Ok((first, second)) => assert!(rt; first == second),
+        Err(_stopped) => return Err(Fail::from("refused")),
+    }
     Ok(())
 }
 
 #[test]
 fn lists_of_jobs(rt: HostRuntime) -> Result<(), Fail> {
-    let alloc = rt.alloc();
-    let mat: Matrix = matrix(alloc, &[9, 1], 1)?;
-    assert!(rt; fits_dft::<BabyBear>(mat.height(), mat.width()));
-    let job = Job::Idft(mat);
-    let again = job.try_clone()?;
-    let jobs = vec![in alloc; job]?;
-    let others = vec![in alloc; again]?;
-    let mut one = Radix2Dit::<BabyBear>::default();
-    match jobs_agree(&mut one, &mut NaiveDft::default(), jobs, others) {
-        Ok((first, second)) => assert!(rt; first == second),
-        Err(_stopped) => return Err(Fail::from("refused")),
-    }
-    Ok(())
+    answering_lists::<BabyBear, Radix2Dit<BabyBear>, NaiveDft>(&rt, rt.alloc())
 }
