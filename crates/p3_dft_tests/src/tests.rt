@@ -25,8 +25,8 @@ mod util;
 use engines::{LimitedDft, ReversedDft};
 use p3_dft::{
     BabyBear, CanonicalField, Evaluations, Field, Layout, NaiveDft, Radix2Bowers,
-    Radix2DFTSmallBatch, Radix2Dit, Radix2DitParallel, RowMajorMatrix, TwoAdicSubgroupDft,
-    fits_dft, fits_lde,
+    Radix2DFTSmallBatch, Radix2Dit, Radix2DitParallel, RowMajorMatrix, TwoAdicField,
+    TwoAdicSubgroupDft, fits_dft, fits_lde,
 };
 use std::alloc::Global;
 use std::process::Abort;
@@ -61,35 +61,45 @@ pub(crate) fn matrix<F: CanonicalField>(
 pub(crate) type Matrix = RowMajorMatrix<BabyBear>;
 
 // Entries that look like any others, and are others for another seed.
-fn sample(alloc: Global, height: usize, width: usize, seed: u8) -> Result<Matrix, Fail> {
+fn sample<F: TwoAdicField>(
+    alloc: Global,
+    height: usize,
+    width: usize,
+    seed: u8,
+) -> Result<RowMajorMatrix<F>, Fail> {
     let count = height.checked_mul(width).ok_or("too many entries")?;
-    let factor = BabyBear::from_usize(1664525);
-    let mut entry = BabyBear::from_u8(seed);
+    let factor = F::from_usize(1664525);
+    let mut entry = F::from_u8(seed);
     let mut entries = Vec::new(alloc);
     for _n in 0..count {
-        entry = entry * factor + BabyBear::ONE;
+        entry = entry * factor + F::ONE;
         entries.push(entry)?;
     }
     matrix_of(entries, width)
 }
 
 // A column that begins with one number, and has another in all places after it.
-fn column(alloc: Global, height: usize, first: u8, later: u8) -> Result<Matrix, Fail> {
+fn column<F: TwoAdicField>(
+    alloc: Global,
+    height: usize,
+    first: u8,
+    later: u8,
+) -> Result<RowMajorMatrix<F>, Fail> {
     let mut entries = Vec::new(alloc);
     for i in 0..height {
-        entries.push(BabyBear::from_u8(if i == 0 { first } else { later }))?;
+        entries.push(F::from_u8(if i == 0 { first } else { later }))?;
     }
     matrix_of(entries, 1)
 }
 
 // `a * x + b * y`, entry by entry.
-fn combined(
+fn combined<F: TwoAdicField>(
     alloc: Global,
-    a: BabyBear,
-    x: &Matrix,
-    b: BabyBear,
-    y: &Matrix,
-) -> Result<Matrix, Fail> {
+    a: F,
+    x: &RowMajorMatrix<F>,
+    b: F,
+    y: &RowMajorMatrix<F>,
+) -> Result<RowMajorMatrix<F>, Fail> {
     let mut entries = Vec::new(alloc);
     for (p, q) in x.values().iter().zip(y.values()) {
         entries.push(a * *p + b * *q)?;
@@ -98,11 +108,14 @@ fn combined(
 }
 
 // The matrix with zeros after its entries, up to so many.
-fn with_zeros(mat: Matrix, count: usize) -> Result<Matrix, Fail> {
+fn with_zeros<F: TwoAdicField>(
+    mat: RowMajorMatrix<F>,
+    count: usize,
+) -> Result<RowMajorMatrix<F>, Fail> {
     let width = mat.width();
     let mut entries = mat.into_values();
     for _n in entries.len()..count {
-        entries.push(BabyBear::ZERO)?;
+        entries.push(F::ZERO)?;
     }
     matrix_of(entries, width)
 }
@@ -116,69 +129,69 @@ fn has_inverse<F: Field>(x: F) -> bool
 
 // Each call of an engine, on a shape that is tested first and with the answer in natural order.
 
-fn dft<D: TwoAdicSubgroupDft<BabyBear>>(
+fn dft<F: TwoAdicField, D: TwoAdicSubgroupDft<F>>(
     rt: &impl Abort,
     engine: &mut D,
-    mat: &Matrix,
-) -> Result<Matrix, Fail> {
+    mat: &RowMajorMatrix<F>,
+) -> Result<RowMajorMatrix<F>, Fail> {
     let mat = mat.try_clone()?;
-    assert!(rt; fits_dft::<BabyBear>(mat.height(), mat.width()));
+    assert!(rt; fits_dft::<F>(mat.height(), mat.width()));
     Ok(engine.dft_batch(mat)?.to_row_major_matrix())
 }
 
-fn coset_dft<D: TwoAdicSubgroupDft<BabyBear>>(
+fn coset_dft<F: TwoAdicField, D: TwoAdicSubgroupDft<F>>(
     rt: &impl Abort,
     engine: &mut D,
-    mat: &Matrix,
-    shift: BabyBear,
-) -> Result<Matrix, Fail> {
+    mat: &RowMajorMatrix<F>,
+    shift: F,
+) -> Result<RowMajorMatrix<F>, Fail> {
     let mat = mat.try_clone()?;
-    assert!(rt; fits_dft::<BabyBear>(mat.height(), mat.width()));
+    assert!(rt; fits_dft::<F>(mat.height(), mat.width()));
     Ok(engine.coset_dft_batch(mat, shift)?.to_row_major_matrix())
 }
 
-fn idft<D: TwoAdicSubgroupDft<BabyBear>>(
+fn idft<F: TwoAdicField, D: TwoAdicSubgroupDft<F>>(
     rt: &impl Abort,
     engine: &mut D,
-    mat: &Matrix,
-) -> Result<Matrix, Fail> {
+    mat: &RowMajorMatrix<F>,
+) -> Result<RowMajorMatrix<F>, Fail> {
     let mat = mat.try_clone()?;
-    assert!(rt; fits_dft::<BabyBear>(mat.height(), mat.width()));
+    assert!(rt; fits_dft::<F>(mat.height(), mat.width()));
     Ok(engine.idft_batch(mat)?)
 }
 
-fn coset_idft<D: TwoAdicSubgroupDft<BabyBear>>(
+fn coset_idft<F: TwoAdicField, D: TwoAdicSubgroupDft<F>>(
     rt: &impl Abort,
     engine: &mut D,
-    mat: &Matrix,
-    shift: BabyBear,
-) -> Result<Matrix, Fail> {
+    mat: &RowMajorMatrix<F>,
+    shift: F,
+) -> Result<RowMajorMatrix<F>, Fail> {
     let mat = mat.try_clone()?;
-    assert!(rt; fits_dft::<BabyBear>(mat.height(), mat.width()));
+    assert!(rt; fits_dft::<F>(mat.height(), mat.width()));
     assert!(rt; has_inverse(shift));
     Ok(engine.coset_idft_batch(mat, shift)?)
 }
 
-fn lde<D: TwoAdicSubgroupDft<BabyBear>>(
+fn lde<F: TwoAdicField, D: TwoAdicSubgroupDft<F>>(
     rt: &impl Abort,
     engine: &mut D,
-    mat: &Matrix,
+    mat: &RowMajorMatrix<F>,
     added_bits: usize,
-) -> Result<Matrix, Fail> {
+) -> Result<RowMajorMatrix<F>, Fail> {
     let mat = mat.try_clone()?;
-    assert!(rt; fits_lde::<BabyBear>(mat.height(), mat.width(), added_bits));
+    assert!(rt; fits_lde::<F>(mat.height(), mat.width(), added_bits));
     Ok(engine.lde_batch(mat, added_bits)?.to_row_major_matrix())
 }
 
-fn coset_lde<D: TwoAdicSubgroupDft<BabyBear>>(
+fn coset_lde<F: TwoAdicField, D: TwoAdicSubgroupDft<F>>(
     rt: &impl Abort,
     engine: &mut D,
-    mat: &Matrix,
+    mat: &RowMajorMatrix<F>,
     added_bits: usize,
-    shift: BabyBear,
-) -> Result<Matrix, Fail> {
+    shift: F,
+) -> Result<RowMajorMatrix<F>, Fail> {
     let mat = mat.try_clone()?;
-    assert!(rt; fits_lde::<BabyBear>(mat.height(), mat.width(), added_bits));
+    assert!(rt; fits_lde::<F>(mat.height(), mat.width(), added_bits));
     Ok(
         engine
             .coset_lde_batch(mat, added_bits, shift)?
@@ -188,56 +201,136 @@ fn coset_lde<D: TwoAdicSubgroupDft<BabyBear>>(
 
 // The same of one column, which is the elements with these numbers.
 
-fn dft_of<D: TwoAdicSubgroupDft<BabyBear>>(
+fn dft_of<F: CanonicalField, D: TwoAdicSubgroupDft<F>>(
     rt: &impl Abort,
     alloc: Global,
     engine: &mut D,
     numbers: &[u64],
-) -> Result<Vec<BabyBear>, Fail> {
-    let column: Vec<BabyBear> = elements(alloc, numbers)?;
-    assert!(rt; fits_dft::<BabyBear>(column.len(), 1));
+) -> Result<Vec<F>, Fail> {
+    let column: Vec<F> = elements(alloc, numbers)?;
+    assert!(rt; fits_dft::<F>(column.len(), 1));
     Ok(engine.dft(column)?)
 }
 
-fn coset_dft_of<D: TwoAdicSubgroupDft<BabyBear>>(
+fn coset_dft_of<F: CanonicalField, D: TwoAdicSubgroupDft<F>>(
     rt: &impl Abort,
     alloc: Global,
     engine: &mut D,
     numbers: &[u64],
-    shift: BabyBear,
-) -> Result<Vec<BabyBear>, Fail> {
-    let column: Vec<BabyBear> = elements(alloc, numbers)?;
-    assert!(rt; fits_dft::<BabyBear>(column.len(), 1));
+    shift: F,
+) -> Result<Vec<F>, Fail> {
+    let column: Vec<F> = elements(alloc, numbers)?;
+    assert!(rt; fits_dft::<F>(column.len(), 1));
     Ok(engine.coset_dft(column, shift)?)
 }
 
-fn idft_of<D: TwoAdicSubgroupDft<BabyBear>>(
+fn idft_of<F: CanonicalField, D: TwoAdicSubgroupDft<F>>(
     rt: &impl Abort,
     alloc: Global,
     engine: &mut D,
     numbers: &[u64],
-) -> Result<Vec<BabyBear>, Fail> {
-    let column: Vec<BabyBear> = elements(alloc, numbers)?;
-    assert!(rt; fits_dft::<BabyBear>(column.len(), 1));
+) -> Result<Vec<F>, Fail> {
+    let column: Vec<F> = elements(alloc, numbers)?;
+    assert!(rt; fits_dft::<F>(column.len(), 1));
     Ok(engine.idft(column)?)
 }
 
-fn coset_idft_of<D: TwoAdicSubgroupDft<BabyBear>>(
+fn coset_idft_of<F: CanonicalField, D: TwoAdicSubgroupDft<F>>(
     rt: &impl Abort,
     alloc: Global,
     engine: &mut D,
     numbers: &[u64],
-    shift: BabyBear,
-) -> Result<Vec<BabyBear>, Fail> {
-    let column: Vec<BabyBear> = elements(alloc, numbers)?;
-    assert!(rt; fits_dft::<BabyBear>(column.len(), 1));
+    shift: F,
+) -> Result<Vec<F>, Fail> {
+    let column: Vec<F> = elements(alloc, numbers)?;
+    assert!(rt; fits_dft::<F>(column.len(), 1));
     assert!(rt; has_inverse(shift));
     Ok(engine.coset_idft(column, shift)?)
 }
 
-// A test that every engine passes.
-trait EngineTest {
-    fn run<R: Abort, D: TwoAdicSubgroupDft<BabyBear>>(
+fn lde_of<F: CanonicalField, D: TwoAdicSubgroupDft<F>>(
+    rt: &impl Abort,
+    alloc: Global,
+    engine: &mut D,
+    numbers: &[u64],
+    added_bits: usize,
+) -> Result<Vec<F>, Fail> {
+    let column: Vec<F> = elements(alloc, numbers)?;
+    assert!(rt; fits_lde::<F>(column.len(), 1, added_bits));
+    Ok(engine.lde(column, added_bits)?)
+}
+
+fn coset_lde_of<F: CanonicalField, D: TwoAdicSubgroupDft<F>>(
+    rt: &impl Abort,
+    alloc: Global,
+    engine: &mut D,
+    numbers: &[u64],
+    added_bits: usize,
+    shift: F,
+) -> Result<Vec<F>, Fail> {
+    let column: Vec<F> = elements(alloc, numbers)?;
+    assert!(rt; fits_lde::<F>(column.len(), 1, added_bits));
+    Ok(engine.coset_lde(column, added_bits, shift)?)
+}
+
+// Stops the test where two matrices differ.
+fn assert_same<F: TwoAdicField>(
+    rt: &impl Abort,
+    one: &RowMajorMatrix<F>,
+    other: &RowMajorMatrix<F>,
+) {
+    let height = one.height();
+    let width = one.width();
+    assert!(rt; *one == *other, "height {height}, width {width}");
+}
+
+// Where a call does not answer this matrix.
+fn assert_answer<F: TwoAdicField>(
+    rt: &impl Abort,
+    answer: Result<RowMajorMatrix<F>, Fail>,
+    expected: &RowMajorMatrix<F>,
+) -> Result<(), Fail> {
+    assert_same(rt, &answer?, expected);
+    Ok(())
+}
+
+// The same of a matrix that another call answered.
+fn assert_agree<F: TwoAdicField>(
+    rt: &impl Abort,
+    expected: RowMajorMatrix<F>,
+    answer: Result<RowMajorMatrix<F>, Fail>,
+) -> Result<(), Fail> {
+    assert_answer(rt, answer, &expected)
+}
+
+// Where it does not answer the matrix of these numbers.
+fn assert_rows<F: CanonicalField>(
+    rt: &impl Abort,
+    alloc: Global,
+    answer: Result<RowMajorMatrix<F>, Fail>,
+    numbers: &[u64],
+    width: usize,
+) -> Result<(), Fail> {
+    let answer = answer?;
+    assert_same(rt, &answer, &matrix(alloc, numbers, width)?);
+    Ok(())
+}
+
+// Where it does not answer the elements with these numbers.
+fn assert_elements<F: CanonicalField>(
+    rt: &impl Abort,
+    alloc: Global,
+    answer: Result<Vec<F>, Fail>,
+    numbers: &[u64],
+) -> Result<(), Fail> {
+    let answer = answer?;
+    assert!(rt; answer == elements(alloc, numbers)?);
+    Ok(())
+}
+
+// A test that every engine over a field passes.
+trait EngineTest<F: TwoAdicField> {
+    fn run<R: Abort, D: TwoAdicSubgroupDft<F>>(
         &self,
         rt: &R,
         alloc: Global,
@@ -245,153 +338,173 @@ trait EngineTest {
     ) -> Result<(), Fail>;
 }
 
-// Runs a test on every engine.
-fn on_every_engine<R: Abort, T: EngineTest>(rt: &R, alloc: Global, test: &T) -> Result<(), Fail> {
-    test.run(rt, alloc, &mut NaiveDft::default())?;
-    test.run(rt, alloc, &mut Radix2Dit::default())?;
-    test.run(rt, alloc, &mut Radix2Bowers::default())?;
-    test.run(rt, alloc, &mut Radix2DitParallel::default())?;
-    test.run(rt, alloc, &mut Radix2DFTSmallBatch::default())?;
-    test.run(rt, alloc, &mut LimitedDft::default())?;
-    test.run(rt, alloc, &mut ReversedDft::default())
+// Runs a test on a new engine.
+fn on<F: TwoAdicField, D: TwoAdicSubgroupDft<F>, R: Abort, T: EngineTest<F>>(
+    rt: &R,
+    alloc: Global,
+    test: &T,
+) -> Result<(), Fail> {
+    test.run(rt, alloc, &mut D::default())
+}
+
+// Runs a test on every engine over a field.
+fn on_every_engine<F: TwoAdicField, R: Abort, T: EngineTest<F>>(
+    rt: &R,
+    alloc: Global,
+    test: &T,
+) -> Result<(), Fail> {
+    on::<F, NaiveDft, R, T>(rt, alloc, test)?;
+    on::<F, Radix2Dit<F>, R, T>(rt, alloc, test)?;
+    on::<F, Radix2Bowers, R, T>(rt, alloc, test)?;
+    on::<F, Radix2DitParallel<F>, R, T>(rt, alloc, test)?;
+    on::<F, Radix2DFTSmallBatch<F>, R, T>(rt, alloc, test)?;
+    on::<F, LimitedDft, R, T>(rt, alloc, test)?;
+    on::<F, ReversedDft, R, T>(rt, alloc, test)
 }
 
 // Worked transforms of one column.
 struct Columns;
 
-impl EngineTest for Columns {
-    fn run<R: Abort, D: TwoAdicSubgroupDft<BabyBear>>(
+impl<F: CanonicalField> EngineTest<F> for Columns {
+    fn run<R: Abort, D: TwoAdicSubgroupDft<F>>(
         &self,
         rt: &R,
         alloc: Global,
         engine: &mut D,
     ) -> Result<(), Fail> {
         let mut engine = engine.clone()?;
-        let values = dft_of(rt, alloc, &mut engine, &[1, 2, 3, 4])?;
-        assert!(rt; values == elements(alloc, &[10, 569722814, 2013265919, 1443543103])?);
-        let values = coset_dft_of(rt, alloc, &mut engine, &[5, 4], BabyBear::TWO)?;
-        assert!(rt; values == elements(alloc, &[13, 2013265918])?);
-        let values = coset_dft_of(rt, alloc, &mut engine, &[5, 4], BabyBear::ZERO)?;
-        assert!(rt; values == elements(alloc, &[5, 5])?);
-        Ok(())
+        let values = dft_of(rt, alloc, &mut engine, &[1, 2, 3, 4]);
+        assert_elements(rt, alloc, values, &[10, 569722814, 2013265919, 1443543103])?;
+        let values = coset_dft_of(rt, alloc, &mut engine, &[5, 4], F::TWO);
+        assert_elements(rt, alloc, values, &[13, 2013265918])?;
+        let values = coset_dft_of(rt, alloc, &mut engine, &[5, 4], F::ZERO);
+        assert_elements(rt, alloc, values, &[5, 5])
     }
 }
 
 // And worked inverses.
 struct ColumnsBack;
 
-impl EngineTest for ColumnsBack {
-    fn run<R: Abort, D: TwoAdicSubgroupDft<BabyBear>>(
+impl<F: CanonicalField> EngineTest<F> for ColumnsBack {
+    fn run<R: Abort, D: TwoAdicSubgroupDft<F>>(
         &self,
         rt: &R,
         alloc: Global,
         engine: &mut D,
     ) -> Result<(), Fail> {
         let numbers = [10, 569722814, 2013265919, 1443543103];
-        let coefficients = idft_of(rt, alloc, engine, &numbers)?;
-        assert!(rt; coefficients == elements(alloc, &[1, 2, 3, 4])?);
-        let coefficients = idft_of(rt, alloc, engine, &[9, 1])?;
-        assert!(rt; coefficients == elements(alloc, &[5, 4])?);
-        let coefficients = coset_idft_of(rt, alloc, engine, &[13, 2013265918], BabyBear::TWO)?;
-        assert!(rt; coefficients == elements(alloc, &[5, 4])?);
-        Ok(())
+        let coefficients = idft_of(rt, alloc, engine, &numbers);
+        assert_elements(rt, alloc, coefficients, &[1, 2, 3, 4])?;
+        let coefficients = idft_of(rt, alloc, engine, &[9, 1]);
+        assert_elements(rt, alloc, coefficients, &[5, 4])?;
+        let coefficients = coset_idft_of(rt, alloc, engine, &[13, 2013265918], F::TWO);
+        assert_elements(rt, alloc, coefficients, &[5, 4])
     }
 }
 
 #[test]
 fn worked_columns(rt: HostRuntime) -> Result<(), Fail> {
-    on_every_engine(&rt, rt.alloc(), &Columns)?;
-    on_every_engine(&rt, rt.alloc(), &ColumnsBack)
+    on_every_engine::<BabyBear, _, _>(&rt, rt.alloc(), &Columns)?;
+    on_every_engine::<BabyBear, _, _>(&rt, rt.alloc(), &ColumnsBack)
+}
+
+// One column on a coset, and another at zero.
+fn shifted<F: CanonicalField, D: TwoAdicSubgroupDft<F>>(
+    rt: &impl Abort,
+    alloc: Global,
+    engine: &mut D,
+    shift: F,
+    numbers: &[u64],
+) -> Result<(), Fail> {
+    let values = coset_dft_of(rt, alloc, engine, &[5, 4], shift);
+    assert_elements(rt, alloc, values, numbers)?;
+    let values = coset_dft_of(rt, alloc, engine, &[1, 2, 3, 4], F::ZERO);
+    assert_elements(rt, alloc, values, &[1, 1, 1, 1])
 }
 
 // One column on cosets, each shift after others, and another column in between.
 struct ShiftsInTurn;
 
-impl EngineTest for ShiftsInTurn {
-    fn run<R: Abort, D: TwoAdicSubgroupDft<BabyBear>>(
+impl<F: CanonicalField> EngineTest<F> for ShiftsInTurn {
+    fn run<R: Abort, D: TwoAdicSubgroupDft<F>>(
         &self,
         rt: &R,
         alloc: Global,
         engine: &mut D,
     ) -> Result<(), Fail> {
-        let shifts = [
-            (BabyBear::TWO, 13, 2013265918),
-            (BabyBear::from_u8(3), 17, 2013265914),
-            (BabyBear::TWO, 13, 2013265918),
-        ];
-        for (shift, first, second) in shifts {
-            let values = coset_dft_of(rt, alloc, engine, &[5, 4], shift)?;
-            assert!(rt; values == elements(alloc, &[first, second])?);
-            let values = coset_dft_of(rt, alloc, engine, &[1, 2, 3, 4], BabyBear::ZERO)?;
-            assert!(rt; values == elements(alloc, &[1, 1, 1, 1])?);
-        }
-        Ok(())
+        shifted(rt, alloc, engine, F::TWO, &[13, 2013265918])?;
+        shifted(rt, alloc, engine, F::from_u8(3), &[17, 2013265914])?;
+        shifted(rt, alloc, engine, F::TWO, &[13, 2013265918])
     }
 }
 
 #[test]
 fn shifts_in_turn(rt: HostRuntime) -> Result<(), Fail> {
-    on_every_engine(&rt, rt.alloc(), &ShiftsInTurn)
+    on_every_engine::<BabyBear, _, _>(&rt, rt.alloc(), &ShiftsInTurn)
 }
 
 // Worked extensions of one column.
 struct ExtendedColumns;
 
-impl EngineTest for ExtendedColumns {
-    fn run<R: Abort, D: TwoAdicSubgroupDft<BabyBear>>(
+impl<F: CanonicalField> EngineTest<F> for ExtendedColumns {
+    fn run<R: Abort, D: TwoAdicSubgroupDft<F>>(
         &self,
         rt: &R,
         alloc: Global,
         engine: &mut D,
     ) -> Result<(), Fail> {
-        let column: Vec<BabyBear> = elements(alloc, &[9, 1])?;
-        assert!(rt; fits_lde::<BabyBear>(column.len(), 1, 1));
-        assert!(rt; engine.lde(column, 1)? == elements(alloc, &[9, 873820294, 1, 1139445637])?);
-        let column: Vec<BabyBear> = elements(alloc, &[9, 1])?;
-        assert!(rt; fits_lde::<BabyBear>(column.len(), 1, 1));
-        let values = elements(alloc, &[5, 5, 5, 5])?;
-        assert!(rt; engine.coset_lde(column, 1, BabyBear::ZERO)? == values);
-        Ok(())
+        let values = lde_of(rt, alloc, engine, &[9, 1], 1);
+        assert_elements(rt, alloc, values, &[9, 873820294, 1, 1139445637])?;
+        let values = coset_lde_of(rt, alloc, engine, &[9, 1], 1, F::ZERO);
+        assert_elements(rt, alloc, values, &[5, 5, 5, 5])
     }
 }
 
 #[test]
 fn extended_columns(rt: HostRuntime) -> Result<(), Fail> {
-    on_every_engine(&rt, rt.alloc(), &ExtendedColumns)
+    on_every_engine::<BabyBear, _, _>(&rt, rt.alloc(), &ExtendedColumns)
+}
+
+// Two values on the coset of two become four.
+fn values_on_coset<F: CanonicalField, D: TwoAdicSubgroupDft<F>>(
+    rt: &impl Abort,
+    alloc: Global,
+    engine: &mut D,
+) -> Result<(), Fail> {
+    let values = matrix(alloc, &[9, 1], 1)?;
+    let coefficients = coset_idft(rt, engine, &values, F::TWO)?;
+    assert_same(rt, &coefficients, &matrix(alloc, &[5, 2], 1)?);
+    let padded = with_zeros(coefficients, 4)?;
+    let values = coset_dft(rt, engine, &padded, F::TWO);
+    assert_rows(rt, alloc, values, &[9, 873820294, 1, 1139445637], 1)
 }
 
 // Worked examples on matrices: a single row, and values on the coset of two.
 struct Rows;
 
-impl EngineTest for Rows {
-    fn run<R: Abort, D: TwoAdicSubgroupDft<BabyBear>>(
+impl<F: CanonicalField> EngineTest<F> for Rows {
+    fn run<R: Abort, D: TwoAdicSubgroupDft<F>>(
         &self,
         rt: &R,
         alloc: Global,
         engine: &mut D,
     ) -> Result<(), Fail> {
         let row = matrix(alloc, &[42, 7], 2)?;
-        let rows = coset_lde(rt, engine, &row, 2, BabyBear::from_u8(31))?;
-        assert!(rt; rows == matrix(alloc, &[42, 7, 42, 7, 42, 7, 42, 7], 2)?);
-        assert!(rt; dft(rt, engine, &row)? == row);
-        assert!(rt; idft(rt, engine, &row)? == row);
-        let values = matrix(alloc, &[9, 1], 1)?;
-        let coefficients = coset_idft(rt, engine, &values, BabyBear::TWO)?;
-        assert!(rt; coefficients == matrix(alloc, &[5, 2], 1)?);
-        let padded = with_zeros(coefficients, 4)?;
-        let values = coset_dft(rt, engine, &padded, BabyBear::TWO)?;
-        assert!(rt; values == matrix(alloc, &[9, 873820294, 1, 1139445637], 1)?);
-        Ok(())
+        let values = coset_lde(rt, engine, &row, 2, F::from_u8(31));
+        assert_rows(rt, alloc, values, &[42, 7, 42, 7, 42, 7, 42, 7], 2)?;
+        assert_answer(rt, dft(rt, engine, &row), &row)?;
+        assert_answer(rt, idft(rt, engine, &row), &row)?;
+        values_on_coset(rt, alloc, engine)
     }
 }
 
 #[test]
 fn worked_rows(rt: HostRuntime) -> Result<(), Fail> {
-    on_every_engine(&rt, rt.alloc(), &Rows)
+    on_every_engine::<BabyBear, _, _>(&rt, rt.alloc(), &Rows)
 }
 
 // Twice each entry.
-fn doubled(mat: Matrix) -> Matrix
+fn doubled<F: TwoAdicField>(mat: RowMajorMatrix<F>) -> RowMajorMatrix<F>
     ensures { HasShapeOf result mat }
 {
     let width = mat.width();
@@ -405,65 +518,63 @@ fn doubled(mat: Matrix) -> Matrix
 // An extension with twice each coefficient has twice each value.
 struct DoubledCoefficients;
 
-impl EngineTest for DoubledCoefficients {
-    fn run<R: Abort, D: TwoAdicSubgroupDft<BabyBear>>(
+impl<F: CanonicalField> EngineTest<F> for DoubledCoefficients {
+    fn run<R: Abort, D: TwoAdicSubgroupDft<F>>(
         &self,
         rt: &R,
         alloc: Global,
         engine: &mut D,
     ) -> Result<(), Fail> {
-        let mat: Matrix = matrix(alloc, &[9, 1], 1)?;
-        assert!(rt; fits_lde::<BabyBear>(mat.height(), mat.width(), 1));
+        let mat: RowMajorMatrix<F> = matrix(alloc, &[9, 1], 1)?;
+        assert!(rt; fits_lde::<F>(mat.height(), mat.width(), 1));
         let values = engine.coset_lde_batch_with_transform(
             mat,
             1,
-            BabyBear::ONE,
-            |coefficients: Matrix, _layout: Layout| -> Matrix
+            F::ONE,
+            |coefficients: RowMajorMatrix<F>, _layout: Layout| -> RowMajorMatrix<F>
                 ensures { HasShapeOf result coefficients }
             { doubled(coefficients) },
         )?;
-        let twice = matrix(alloc, &[18, 1747640588, 2, 265625353], 1)?;
-        assert!(rt; values.to_row_major_matrix() == twice);
-        Ok(())
+        let twice = [18, 1747640588, 2, 265625353];
+        assert_rows(rt, alloc, Ok(values.to_row_major_matrix()), &twice, 1)
     }
 }
 
 #[test]
 fn doubled_coefficients(rt: HostRuntime) -> Result<(), Fail> {
-    on_every_engine(&rt, rt.alloc(), &DoubledCoefficients)
+    on_every_engine::<BabyBear, _, _>(&rt, rt.alloc(), &DoubledCoefficients)
 }
 
 // What the transform is told and what it sees, of the values of 1 + 2 x + 3 x^2 + 4 x^3.
 struct ToldLayouts;
 
-impl EngineTest for ToldLayouts {
-    fn run<R: Abort, D: TwoAdicSubgroupDft<BabyBear>>(
+impl<F: CanonicalField> EngineTest<F> for ToldLayouts {
+    fn run<R: Abort, D: TwoAdicSubgroupDft<F>>(
         &self,
         rt: &R,
         alloc: Global,
         engine: &mut D,
     ) -> Result<(), Fail> {
-        let mat: Matrix = matrix(alloc, &[10, 569722814, 2013265919, 1443543103], 1)?;
-        let values = mat.try_clone()?;
+        let mat: RowMajorMatrix<F> = matrix(alloc, &[10, 569722814, 2013265919, 1443543103], 1)?;
         let natural = matrix(alloc, &[1, 2, 3, 4], 1)?;
         let reversed = matrix(alloc, &[1, 3, 2, 4], 1)?;
-        assert!(rt; fits_lde::<BabyBear>(mat.height(), mat.width(), 0));
+        assert!(rt; fits_lde::<F>(mat.height(), mat.width(), 0));
         let again = engine.coset_lde_batch_with_transform(
             mat,
             0,
-            BabyBear::ONE,
-            |coefficients: Matrix, layout: Layout| -> Matrix
+            F::ONE,
+            |coefficients: RowMajorMatrix<F>, layout: Layout| -> RowMajorMatrix<F>
                 ensures { result ≡ coefficients }
             {
                 match layout {
-                    Layout::Natural => assert!(rt; coefficients == natural),
-                    Layout::BitReversed => assert!(rt; coefficients == reversed),
+                    Layout::Natural => assert_same(rt, &coefficients, &natural),
+                    Layout::BitReversed => assert_same(rt, &coefficients, &reversed),
                 }
                 coefficients
             },
         )?;
-        assert!(rt; again.to_row_major_matrix() == values);
-        Ok(())
+        let numbers = [10, 569722814, 2013265919, 1443543103];
+        assert_rows(rt, alloc, Ok(again.to_row_major_matrix()), &numbers, 1)
     }
 }
 
@@ -481,34 +592,47 @@ fn told_layouts(rt: HostRuntime) -> Result<(), Fail> {
     assert!(rt; is_natural::<Radix2DFTSmallBatch<BabyBear>>());
     assert!(rt; is_natural::<LimitedDft>());
     assert!(rt; !is_natural::<ReversedDft>());
-    on_every_engine(&rt, rt.alloc(), &ToldLayouts)
+    on_every_engine::<BabyBear, _, _>(&rt, rt.alloc(), &ToldLayouts)
 }
 
-// Stops the test where two matrices differ.
-fn assert_same(rt: &impl Abort, one: &Matrix, other: &Matrix) {
-    let height = one.height();
-    let width = one.width();
-    assert!(rt; *one == *other, "height {height}, width {width}");
+// A constant has one coefficient, at one height.
+fn constants_at<F: TwoAdicField, D: TwoAdicSubgroupDft<F>>(
+    rt: &impl Abort,
+    alloc: Global,
+    engine: &mut D,
+    height: usize,
+) -> Result<(), Fail> {
+    let coefficients = column(alloc, height, 13, 0)?;
+    let values = dft(rt, engine, &coefficients)?;
+    assert_agree(rt, values, column(alloc, height, 13, 13))?;
+    let values = column(alloc, height, 7, 7)?;
+    let coefficients = idft(rt, engine, &values)?;
+    assert_agree(rt, coefficients, column(alloc, height, 7, 0))
+}
+
+// The transform and the inverse of zeros are zeros.
+fn zeros_of<F: TwoAdicField, D: TwoAdicSubgroupDft<F>>(
+    rt: &impl Abort,
+    engine: &mut D,
+    zeros: &RowMajorMatrix<F>,
+) -> Result<(), Fail> {
+    assert_answer(rt, dft(rt, engine, zeros), zeros)?;
+    assert_answer(rt, idft(rt, engine, zeros), zeros)
 }
 
 // Constants and zeros.
 struct Constants;
 
-impl EngineTest for Constants {
-    fn run<R: Abort, D: TwoAdicSubgroupDft<BabyBear>>(
+impl<F: TwoAdicField> EngineTest<F> for Constants {
+    fn run<R: Abort, D: TwoAdicSubgroupDft<F>>(
         &self,
         rt: &R,
         alloc: Global,
         engine: &mut D,
     ) -> Result<(), Fail> {
         for height in [1usize, 2, 4, 8, 16, 32, 64] {
-            let values = dft(rt, engine, &column(alloc, height, 13, 0)?)?;
-            assert_same(rt, &values, &column(alloc, height, 13, 13)?);
-            let coefficients = idft(rt, engine, &column(alloc, height, 7, 7)?)?;
-            assert_same(rt, &coefficients, &column(alloc, height, 7, 0)?);
-            let zeros = column(alloc, height, 0, 0)?;
-            assert_same(rt, &dft(rt, engine, &zeros)?, &zeros);
-            assert_same(rt, &idft(rt, engine, &zeros)?, &zeros);
+            constants_at(rt, alloc, engine, height)?;
+            zeros_of(rt, engine, &column(alloc, height, 0, 0)?)?;
         }
         Ok(())
     }
@@ -516,7 +640,7 @@ impl EngineTest for Constants {
 
 #[test]
 fn constants_and_zeros(rt: HostRuntime) -> Result<(), Fail> {
-    on_every_engine(&rt, rt.alloc(), &Constants)
+    on_every_engine::<BabyBear, _, _>(&rt, rt.alloc(), &Constants)
 }
 
 const HEIGHTS: [usize; 8] = [1, 2, 4, 8, 16, 32, 64, 128];
@@ -530,8 +654,8 @@ struct Inverses {
     width: usize,
 }
 
-impl EngineTest for Inverses {
-    fn run<R: Abort, D: TwoAdicSubgroupDft<BabyBear>>(
+impl<F: TwoAdicField> EngineTest<F> for Inverses {
+    fn run<R: Abort, D: TwoAdicSubgroupDft<F>>(
         &self,
         rt: &R,
         alloc: Global,
@@ -539,10 +663,9 @@ impl EngineTest for Inverses {
     ) -> Result<(), Fail> {
         let x = sample(alloc, self.height, self.width, 1)?;
         let values = dft(rt, engine, &x)?;
-        assert_same(rt, &idft(rt, engine, &values)?, &x);
+        assert_answer(rt, idft(rt, engine, &values), &x)?;
         let coefficients = idft(rt, engine, &x)?;
-        assert_same(rt, &dft(rt, engine, &coefficients)?, &x);
-        Ok(())
+        assert_answer(rt, dft(rt, engine, &coefficients), &x)
     }
 }
 
@@ -553,20 +676,19 @@ struct CosetInverses {
     width: usize,
 }
 
-impl EngineTest for CosetInverses {
-    fn run<R: Abort, D: TwoAdicSubgroupDft<BabyBear>>(
+impl<F: TwoAdicField> EngineTest<F> for CosetInverses {
+    fn run<R: Abort, D: TwoAdicSubgroupDft<F>>(
         &self,
         rt: &R,
         alloc: Global,
         engine: &mut D,
     ) -> Result<(), Fail> {
-        let shift = BabyBear::from_u8(31);
+        let shift = F::from_u8(31);
         let x = sample(alloc, self.height, self.width, 1)?;
         let values = coset_dft(rt, engine, &x, shift)?;
-        assert_same(rt, &coset_idft(rt, engine, &values, shift)?, &x);
+        assert_answer(rt, coset_idft(rt, engine, &values, shift), &x)?;
         let coefficients = coset_idft(rt, engine, &x, shift)?;
-        assert_same(rt, &coset_dft(rt, engine, &coefficients, shift)?, &x);
-        Ok(())
+        assert_answer(rt, coset_dft(rt, engine, &coefficients, shift), &x)
     }
 }
 
@@ -577,22 +699,22 @@ struct Sums {
     width: usize,
 }
 
-impl EngineTest for Sums {
-    fn run<R: Abort, D: TwoAdicSubgroupDft<BabyBear>>(
+impl<F: TwoAdicField> EngineTest<F> for Sums {
+    fn run<R: Abort, D: TwoAdicSubgroupDft<F>>(
         &self,
         rt: &R,
         alloc: Global,
         engine: &mut D,
     ) -> Result<(), Fail> {
-        let a = BabyBear::from_u8(5);
-        let b = BabyBear::NEG_ONE;
+        let a = F::from_u8(5);
+        let b = F::NEG_ONE;
         let x = sample(alloc, self.height, self.width, 1)?;
         let y = sample(alloc, self.height, self.width, 2)?;
-        let of_sum = dft(rt, engine, &combined(alloc, a, &x, b, &y)?)?;
         let of_x = dft(rt, engine, &x)?;
         let of_y = dft(rt, engine, &y)?;
-        assert_same(rt, &of_sum, &combined(alloc, a, &of_x, b, &of_y)?);
-        Ok(())
+        let sum = combined(alloc, a, &x, b, &y)?;
+        let values = combined(alloc, a, &of_x, b, &of_y)?;
+        assert_agree(rt, values, dft(rt, engine, &sum))
     }
 }
 
@@ -601,12 +723,80 @@ fn laws_of_transforms(rt: HostRuntime) -> Result<(), Fail> {
     let alloc = rt.alloc();
     for height in HEIGHTS {
         for width in WIDTHS {
-            on_every_engine(&rt, alloc, &Inverses { height, width })?;
-            on_every_engine(&rt, alloc, &CosetInverses { height, width })?;
-            on_every_engine(&rt, alloc, &Sums { height, width })?;
+            on_every_engine::<BabyBear, _, _>(&rt, alloc, &Inverses { height, width })?;
+            on_every_engine::<BabyBear, _, _>(&rt, alloc, &CosetInverses { height, width })?;
+            on_every_engine::<BabyBear, _, _>(&rt, alloc, &Sums { height, width })?;
         }
     }
     Ok(())
+}
+
+// Two engines answer the same: inverses.
+fn same_inverses<F: TwoAdicField, D: TwoAdicSubgroupDft<F>, E: TwoAdicSubgroupDft<F>>(
+    rt: &impl Abort,
+    one: &mut D,
+    other: &mut E,
+    x: &RowMajorMatrix<F>,
+) -> Result<(), Fail> {
+    assert_agree(rt, idft(rt, one, x)?, idft(rt, other, x))?;
+    let coefficients = coset_idft(rt, one, x, F::GENERATOR)?;
+    assert_agree(rt, coefficients, coset_idft(rt, other, x, F::GENERATOR))
+}
+
+// Transforms on a coset.
+fn same_on_coset<F: TwoAdicField, D: TwoAdicSubgroupDft<F>, E: TwoAdicSubgroupDft<F>>(
+    rt: &impl Abort,
+    one: &mut D,
+    other: &mut E,
+    x: &RowMajorMatrix<F>,
+    shift: F,
+) -> Result<(), Fail> {
+    let values = coset_dft(rt, one, x, shift)?;
+    assert_agree(rt, values, coset_dft(rt, other, x, shift))
+}
+
+// And transforms on the subgroup and on three cosets.
+fn same_transforms<F: TwoAdicField, D: TwoAdicSubgroupDft<F>, E: TwoAdicSubgroupDft<F>>(
+    rt: &impl Abort,
+    one: &mut D,
+    other: &mut E,
+    x: &RowMajorMatrix<F>,
+) -> Result<(), Fail> {
+    assert_agree(rt, dft(rt, one, x)?, dft(rt, other, x))?;
+    same_on_coset(rt, one, other, x, F::ZERO)?;
+    same_on_coset(rt, one, other, x, F::ONE)?;
+    same_on_coset(rt, one, other, x, F::GENERATOR)
+}
+
+// Extensions on a coset.
+fn same_extended<F: TwoAdicField, D: TwoAdicSubgroupDft<F>, E: TwoAdicSubgroupDft<F>>(
+    rt: &impl Abort,
+    one: &mut D,
+    other: &mut E,
+    x: &RowMajorMatrix<F>,
+    added_bits: usize,
+    shift: F,
+) -> Result<(), Fail> {
+    let values = coset_lde(rt, one, x, added_bits, shift)?;
+    assert_agree(rt, values, coset_lde(rt, other, x, added_bits, shift))
+}
+
+// And extensions by so many bits, on the subgroup and on three cosets.
+fn same_extensions<F: TwoAdicField, D: TwoAdicSubgroupDft<F>, E: TwoAdicSubgroupDft<F>>(
+    rt: &impl Abort,
+    one: &mut D,
+    other: &mut E,
+    x: &RowMajorMatrix<F>,
+    added_bits: usize,
+) -> Result<(), Fail> {
+    assert_agree(
+        rt,
+        lde(rt, one, x, added_bits)?,
+        lde(rt, other, x, added_bits),
+    )?;
+    same_extended(rt, one, other, x, added_bits, F::ZERO)?;
+    same_extended(rt, one, other, x, added_bits, F::ONE)?;
+    same_extended(rt, one, other, x, added_bits, F::GENERATOR)
 }
 
 // At one shape: each transform and inverse answers what the engine that follows the definition
@@ -617,25 +807,17 @@ struct TransformsAsSums {
     width: usize,
 }
 
-impl EngineTest for TransformsAsSums {
-    fn run<R: Abort, D: TwoAdicSubgroupDft<BabyBear>>(
+impl<F: TwoAdicField> EngineTest<F> for TransformsAsSums {
+    fn run<R: Abort, D: TwoAdicSubgroupDft<F>>(
         &self,
         rt: &R,
         alloc: Global,
         engine: &mut D,
     ) -> Result<(), Fail> {
-        let mut sums = NaiveDft::default();
         let x = sample(alloc, self.height, self.width, 3)?;
-        assert_same(rt, &dft(rt, engine, &x)?, &dft(rt, &mut sums, &x)?);
-        assert_same(rt, &idft(rt, engine, &x)?, &idft(rt, &mut sums, &x)?);
-        let generator = BabyBear::GENERATOR;
-        let coefficients = coset_idft(rt, &mut sums, &x, generator)?;
-        assert_same(rt, &coset_idft(rt, engine, &x, generator)?, &coefficients);
-        for shift in [BabyBear::ZERO, BabyBear::ONE, generator] {
-            let values = coset_dft(rt, &mut sums, &x, shift)?;
-            assert_same(rt, &coset_dft(rt, engine, &x, shift)?, &values);
-        }
-        Ok(())
+        let mut sums = NaiveDft::default();
+        same_transforms(rt, &mut sums, engine, &x)?;
+        same_inverses(rt, &mut sums, engine, &x)
     }
 }
 
@@ -646,22 +828,17 @@ struct ExtensionsAsSums {
     width: usize,
 }
 
-impl EngineTest for ExtensionsAsSums {
-    fn run<R: Abort, D: TwoAdicSubgroupDft<BabyBear>>(
+impl<F: TwoAdicField> EngineTest<F> for ExtensionsAsSums {
+    fn run<R: Abort, D: TwoAdicSubgroupDft<F>>(
         &self,
         rt: &R,
         alloc: Global,
         engine: &mut D,
     ) -> Result<(), Fail> {
-        let mut sums = NaiveDft::default();
         let x = sample(alloc, self.height, self.width, 3)?;
+        let mut sums = NaiveDft::default();
         for added_bits in 0..4usize {
-            let values = lde(rt, &mut sums, &x, added_bits)?;
-            assert_same(rt, &lde(rt, engine, &x, added_bits)?, &values);
-            for shift in [BabyBear::ZERO, BabyBear::ONE, BabyBear::GENERATOR] {
-                let values = coset_lde(rt, &mut sums, &x, added_bits, shift)?;
-                assert_same(rt, &coset_lde(rt, engine, &x, added_bits, shift)?, &values);
-            }
+            same_extensions(rt, &mut sums, engine, &x, added_bits)?;
         }
         Ok(())
     }
@@ -672,11 +849,26 @@ fn same_as_sums(rt: HostRuntime) -> Result<(), Fail> {
     let alloc = rt.alloc();
     for height in HEIGHTS {
         for width in WIDTHS {
-            on_every_engine(&rt, alloc, &TransformsAsSums { height, width })?;
-            on_every_engine(&rt, alloc, &ExtensionsAsSums { height, width })?;
+            on_every_engine::<BabyBear, _, _>(&rt, alloc, &TransformsAsSums { height, width })?;
+            on_every_engine::<BabyBear, _, _>(&rt, alloc, &ExtensionsAsSums { height, width })?;
         }
     }
     Ok(())
+}
+
+// Stops the test unless the rows of one matrix stand in another, `2^added_bits` apart.
+fn assert_rows_kept<F: TwoAdicField>(
+    rt: &impl Abort,
+    mat: &RowMajorMatrix<F>,
+    extended: &RowMajorMatrix<F>,
+    added_bits: usize,
+) {
+    assert!(rt; added_bits < 64);
+    for j in 0..mat.height() {
+        let row = j << added_bits;
+        assert!(rt; row < extended.height());
+        assert!(rt; extended.row(row) == mat.row(j));
+    }
 }
 
 // An extension on the subgroup has the rows of the input among its own, and is the extension on the
@@ -687,25 +879,18 @@ struct RowsKept {
     added_bits: usize,
 }
 
-impl EngineTest for RowsKept {
-    fn run<R: Abort, D: TwoAdicSubgroupDft<BabyBear>>(
+impl<F: TwoAdicField> EngineTest<F> for RowsKept {
+    fn run<R: Abort, D: TwoAdicSubgroupDft<F>>(
         &self,
         rt: &R,
         alloc: Global,
         engine: &mut D,
     ) -> Result<(), Fail> {
-        let added_bits = self.added_bits;
         let x = sample(alloc, self.height, 3, 1)?;
-        let plain = lde(rt, engine, &x, added_bits)?;
-        assert!(rt; added_bits < 64);
-        for j in 0..x.height() {
-            let row = j << added_bits;
-            assert!(rt; row < plain.height());
-            assert!(rt; plain.row(row) == x.row(j));
-        }
-        let on_coset = coset_lde(rt, engine, &x, added_bits, BabyBear::ONE)?;
-        assert_same(rt, &on_coset, &plain);
-        Ok(())
+        let extended = lde(rt, engine, &x, self.added_bits)?;
+        assert_rows_kept(rt, &x, &extended, self.added_bits);
+        let on_coset = coset_lde(rt, engine, &x, self.added_bits, F::ONE);
+        assert_answer(rt, on_coset, &extended)
     }
 }
 
@@ -716,24 +901,18 @@ struct ZerosAbove {
     added_bits: usize,
 }
 
-impl EngineTest for ZerosAbove {
-    fn run<R: Abort, D: TwoAdicSubgroupDft<BabyBear>>(
+impl<F: TwoAdicField> EngineTest<F> for ZerosAbove {
+    fn run<R: Abort, D: TwoAdicSubgroupDft<F>>(
         &self,
         rt: &R,
         alloc: Global,
         engine: &mut D,
     ) -> Result<(), Fail> {
-        let shift = BabyBear::from_u8(31);
+        let shift = F::from_u8(31);
         let x = sample(alloc, self.height, 3, 1)?;
         let extended = coset_lde(rt, engine, &x, self.added_bits, shift)?;
-        let count = extended.values().len();
-        let coefficients = coset_idft(rt, engine, &extended, shift)?;
-        assert_same(
-            rt,
-            &coefficients,
-            &with_zeros(idft(rt, engine, &x)?, count)?,
-        );
-        Ok(())
+        let padded = with_zeros(idft(rt, engine, &x)?, extended.values().len())?;
+        assert_answer(rt, coset_idft(rt, engine, &extended, shift), &padded)
     }
 }
 
@@ -744,21 +923,20 @@ struct NestedCosets {
     added_bits: usize,
 }
 
-impl EngineTest for NestedCosets {
-    fn run<R: Abort, D: TwoAdicSubgroupDft<BabyBear>>(
+impl<F: TwoAdicField> EngineTest<F> for NestedCosets {
+    fn run<R: Abort, D: TwoAdicSubgroupDft<F>>(
         &self,
         rt: &R,
         alloc: Global,
         engine: &mut D,
     ) -> Result<(), Fail> {
-        let u = BabyBear::from_u8(11);
-        let s = BabyBear::from_u8(31);
+        let u = F::from_u8(11);
+        let s = F::from_u8(31);
         let x = sample(alloc, self.height, 3, 1)?;
         let extended = coset_lde(rt, engine, &x, self.added_bits, s)?;
         let coefficients = coset_idft(rt, engine, &x, u)?;
         let padded = with_zeros(coefficients, extended.values().len())?;
-        assert_same(rt, &coset_dft(rt, engine, &padded, u * s)?, &extended);
-        Ok(())
+        assert_answer(rt, coset_dft(rt, engine, &padded, u * s), &extended)
     }
 }
 
@@ -767,9 +945,9 @@ fn laws_of_extensions(rt: HostRuntime) -> Result<(), Fail> {
     let alloc = rt.alloc();
     for height in [1usize, 2, 4, 16] {
         for added_bits in [0usize, 1, 3] {
-            on_every_engine(&rt, alloc, &RowsKept { height, added_bits })?;
-            on_every_engine(&rt, alloc, &ZerosAbove { height, added_bits })?;
-            on_every_engine(&rt, alloc, &NestedCosets { height, added_bits })?;
+            on_every_engine::<BabyBear, _, _>(&rt, alloc, &RowsKept { height, added_bits })?;
+            on_every_engine::<BabyBear, _, _>(&rt, alloc, &ZerosAbove { height, added_bits })?;
+            on_every_engine::<BabyBear, _, _>(&rt, alloc, &NestedCosets { height, added_bits })?;
         }
     }
     Ok(())

@@ -1,7 +1,7 @@
 // Matrices over vector spaces: callers of two laws, worked rows of pairs, and that a form answers for
 // each coordinate what the call over the field answers.
 
-ghost use Rattle.std.specs.Prelude.{◌≡◌, ℕ, ◌*◌, ◌<◌, IfOk};
+ghost use Rattle.std.specs.Prelude.{ℕ, ◌*◌, ◌<◌, IfOk, IsTrue};
 ghost use Rattle.p3_field.specs.Ring.{IsInvertible};
 ghost use Rattle.p3_matrix.specs.RowMajor.{height};
 ghost use Rattle.p3_dft.specs.Coordinates.{coordinate};
@@ -10,8 +10,8 @@ ghost use Rattle.p3_dft.specs.Shapes.{FitsDft, FitsLde};
 ghost use Rattle.p3_dft.specs.Transforms.{IsInterpolation, IsTransform};
 
 use super::{
-    EngineTest, Matrix, coset_dft, coset_idft, coset_lde, dft, has_inverse, idft, lde, matrix_of,
-    on_every_engine, sample,
+    EngineTest, assert_agree, assert_answer, coset_dft, coset_idft, coset_lde, dft, has_inverse,
+    idft, lde, matrix_of, on_every_engine, sample,
 };
 use p3_dft::{
     BabyBear, BasedVectorSpace, CanonicalField, Coordinates, DftError, Field, Radix2Dit,
@@ -73,85 +73,194 @@ fn coordinates_extended<F: TwoAdicField, V: BasedVectorSpace<F>, D: TwoAdicSubgr
     engine.coset_lde_algebra_batch(mat, added_bits, shift)
 }
 
-type Pair = Coordinates<BabyBear, 2>;
+// Each form of a call, on a shape that is tested first.
 
-// The pairs with these numbers.
-fn pairs(alloc: Global, numbers: &[(u64, u64)]) -> Result<Vec<Pair>, Fail> {
+// Whether the coordinates fit a transform.
+fn fits_dft_algebra<F: TwoAdicField, V: BasedVectorSpace<F>>(mat: &RowMajorMatrix<V>) -> bool
+    ensures { IsTrue result → FitsDft F.TWO_ADICITY (height mat.now) (mat.now.width * V.DIMENSION) }
+{
+    match mat.width().checked_mul(V::DIMENSION) {
+        Some(width) => fits_dft::<F>(mat.height(), width),
+        None => false,
+    }
+}
+
+// Whether they fit an extension.
+fn fits_lde_algebra<F: TwoAdicField, V: BasedVectorSpace<F>>(
+    mat: &RowMajorMatrix<V>,
+    added_bits: usize,
+) -> bool
+    ensures { IsTrue result → FitsLde F.TWO_ADICITY (height mat.now) (mat.now.width * V.DIMENSION) added_bits }
+{
+    match mat.width().checked_mul(V::DIMENSION) {
+        Some(width) => fits_lde::<F>(mat.height(), width, added_bits),
+        None => false,
+    }
+}
+
+fn dft_algebra<F: TwoAdicField, V: BasedVectorSpace<F> + Copy, D: TwoAdicSubgroupDft<F>>(
+    rt: &impl Abort,
+    engine: &mut D,
+    mat: &RowMajorMatrix<V>,
+) -> Result<RowMajorMatrix<V>, Fail> {
+    let mat = mat.try_clone()?;
+    assert!(rt; fits_dft_algebra::<F, V>(&mat));
+    Ok(engine.dft_algebra_batch(mat)?)
+}
+
+fn coset_dft_algebra<F: TwoAdicField, V: BasedVectorSpace<F> + Copy, D: TwoAdicSubgroupDft<F>>(
+    rt: &impl Abort,
+    engine: &mut D,
+    mat: &RowMajorMatrix<V>,
+    shift: F,
+) -> Result<RowMajorMatrix<V>, Fail> {
+    let mat = mat.try_clone()?;
+    assert!(rt; fits_dft_algebra::<F, V>(&mat));
+    Ok(engine.coset_dft_algebra_batch(mat, shift)?)
+}
+
+fn idft_algebra<F: TwoAdicField, V: BasedVectorSpace<F> + Copy, D: TwoAdicSubgroupDft<F>>(
+    rt: &impl Abort,
+    engine: &mut D,
+    mat: &RowMajorMatrix<V>,
+) -> Result<RowMajorMatrix<V>, Fail> {
+    let mat = mat.try_clone()?;
+    assert!(rt; fits_dft_algebra::<F, V>(&mat));
+    Ok(engine.idft_algebra_batch(mat)?)
+}
+
+fn coset_idft_algebra<F: TwoAdicField, V: BasedVectorSpace<F> + Copy, D: TwoAdicSubgroupDft<F>>(
+    rt: &impl Abort,
+    engine: &mut D,
+    mat: &RowMajorMatrix<V>,
+    shift: F,
+) -> Result<RowMajorMatrix<V>, Fail> {
+    let mat = mat.try_clone()?;
+    assert!(rt; fits_dft_algebra::<F, V>(&mat));
+    assert!(rt; has_inverse(shift));
+    Ok(engine.coset_idft_algebra_batch(mat, shift)?)
+}
+
+fn lde_algebra<F: TwoAdicField, V: BasedVectorSpace<F> + Copy, D: TwoAdicSubgroupDft<F>>(
+    rt: &impl Abort,
+    engine: &mut D,
+    mat: &RowMajorMatrix<V>,
+    added_bits: usize,
+) -> Result<RowMajorMatrix<V>, Fail> {
+    let mat = mat.try_clone()?;
+    assert!(rt; fits_lde_algebra::<F, V>(&mat, added_bits));
+    Ok(engine.lde_algebra_batch(mat, added_bits)?)
+}
+
+fn coset_lde_algebra<F: TwoAdicField, V: BasedVectorSpace<F> + Copy, D: TwoAdicSubgroupDft<F>>(
+    rt: &impl Abort,
+    engine: &mut D,
+    mat: &RowMajorMatrix<V>,
+    added_bits: usize,
+    shift: F,
+) -> Result<RowMajorMatrix<V>, Fail> {
+    let mat = mat.try_clone()?;
+    assert!(rt; fits_lde_algebra::<F, V>(&mat, added_bits));
+    Ok(engine.coset_lde_algebra_batch(mat, added_bits, shift)?)
+}
+
+type Pair<F> = Coordinates<F, 2>;
+
+// The pairs with these numbers, one pair after another.
+fn pairs<F: CanonicalField>(alloc: Global, numbers: &[u64]) -> Result<Vec<Pair<F>>, Fail> {
+    let coordinates: Vec<F> = super::elements(alloc, numbers)?;
     let mut pairs = Vec::new(alloc);
-    for (first, second) in numbers {
-        let first = BabyBear::new(*first).ok_or("not below the modulus")?;
-        let second = BabyBear::new(*second).ok_or("not below the modulus")?;
-        pairs.push(Coordinates::new([first, second]))?;
+    for i in 0..coordinates.len() / 2 {
+        pairs.push(Coordinates::new([coordinates[2 * i], coordinates[2 * i + 1]]))?;
     }
     Ok(pairs)
+}
+
+// Each form of a call for the column of the pairs with these numbers.
+
+fn dft_of_pairs<F: CanonicalField, D: TwoAdicSubgroupDft<F>>(
+    rt: &impl Abort,
+    alloc: Global,
+    engine: &mut D,
+    numbers: &[u64],
+) -> Result<Vec<Pair<F>>, Fail> {
+    let column: Vec<Pair<F>> = pairs(alloc, numbers)?;
+    assert!(rt; fits_dft::<F>(column.len(), 2));
+    Ok(engine.dft_algebra(column)?)
+}
+
+fn idft_of_pairs<F: CanonicalField, D: TwoAdicSubgroupDft<F>>(
+    rt: &impl Abort,
+    alloc: Global,
+    engine: &mut D,
+    numbers: &[u64],
+) -> Result<Vec<Pair<F>>, Fail> {
+    let column: Vec<Pair<F>> = pairs(alloc, numbers)?;
+    assert!(rt; fits_dft::<F>(column.len(), 2));
+    Ok(engine.idft_algebra(column)?)
+}
+
+fn lde_of_pairs<F: CanonicalField, D: TwoAdicSubgroupDft<F>>(
+    rt: &impl Abort,
+    alloc: Global,
+    engine: &mut D,
+    numbers: &[u64],
+    added_bits: usize,
+) -> Result<Vec<Pair<F>>, Fail> {
+    let column: Vec<Pair<F>> = pairs(alloc, numbers)?;
+    assert!(rt; fits_lde::<F>(column.len(), 2, added_bits));
+    Ok(engine.lde_algebra(column, added_bits)?)
+}
+
+// Stops the test where an answer is not the pairs with these numbers.
+fn assert_pairs<F: CanonicalField>(
+    rt: &impl Abort,
+    alloc: Global,
+    answer: Result<Vec<Pair<F>>, Fail>,
+    numbers: &[u64],
+) -> Result<(), Fail> {
+    let answer = answer?;
+    assert!(rt; answer == pairs(alloc, numbers)?);
+    Ok(())
 }
 
 // Worked columns of pairs.
 struct WorkedPairs;
 
-impl EngineTest for WorkedPairs {
+impl EngineTest<BabyBear> for WorkedPairs {
     fn run<R: Abort, D: TwoAdicSubgroupDft<BabyBear>>(
         &self,
         rt: &R,
         alloc: Global,
         engine: &mut D,
     ) -> Result<(), Fail> {
-        let column = pairs(alloc, &[(5, 1), (4, 0)])?;
-        assert!(rt; fits_dft::<BabyBear>(column.len(), 2));
-        assert!(rt; engine.dft_algebra(column)? == pairs(alloc, &[(9, 1), (1, 1)])?);
-        let column = pairs(alloc, &[(9, 1), (1, 1)])?;
-        assert!(rt; fits_dft::<BabyBear>(column.len(), 2));
-        assert!(rt; engine.idft_algebra(column)? == pairs(alloc, &[(5, 1), (4, 0)])?);
-        Ok(())
+        let values = dft_of_pairs(rt, alloc, engine, &[5, 1, 4, 0]);
+        assert_pairs(rt, alloc, values, &[9, 1, 1, 1])?;
+        let coefficients = idft_of_pairs(rt, alloc, engine, &[9, 1, 1, 1]);
+        assert_pairs(rt, alloc, coefficients, &[5, 1, 4, 0])
     }
 }
 
 // And a worked extension of one.
 struct ExtendedPairs;
 
-impl EngineTest for ExtendedPairs {
+impl EngineTest<BabyBear> for ExtendedPairs {
     fn run<R: Abort, D: TwoAdicSubgroupDft<BabyBear>>(
         &self,
         rt: &R,
         alloc: Global,
         engine: &mut D,
     ) -> Result<(), Fail> {
-        let column = pairs(alloc, &[(9, 42), (1, 42)])?;
-        assert!(rt; fits_lde::<BabyBear>(column.len(), 2, 1));
-        let numbers = [(9, 42), (873820294, 42), (1, 42), (1139445637, 42)];
-        assert!(rt; engine.lde_algebra(column, 1)? == pairs(alloc, &numbers)?);
-        Ok(())
+        let values = lde_of_pairs(rt, alloc, engine, &[9, 42, 1, 42], 1);
+        let numbers = [9, 42, 873820294, 42, 1, 42, 1139445637, 42];
+        assert_pairs(rt, alloc, values, &numbers)
     }
 }
 
 #[test]
 fn worked_pairs(rt: HostRuntime) -> Result<(), Fail> {
-    on_every_engine(&rt, rt.alloc(), &WorkedPairs)?;
-    on_every_engine(&rt, rt.alloc(), &ExtendedPairs)
-}
-
-// The form of an inverse on a coset in dimension one, and that of one column.
-fn undone<D: TwoAdicSubgroupDft<BabyBear>>(
-    rt: &impl Abort,
-    engine: &mut D,
-    mat: &Matrix,
-    shift: BabyBear,
-) -> Result<Matrix, Fail> {
-    let mat = mat.try_clone()?;
-    assert!(rt; fits_dft::<BabyBear>(mat.height(), mat.width()));
-    assert!(rt; has_inverse(shift));
-    Ok(engine.coset_idft_algebra_batch(mat, shift)?)
-}
-
-fn column_undone<D: TwoAdicSubgroupDft<BabyBear>>(
-    rt: &impl Abort,
-    engine: &mut D,
-    column: Vec<BabyBear>,
-    shift: BabyBear,
-) -> Result<Vec<BabyBear>, Fail> {
-    assert!(rt; fits_dft::<BabyBear>(column.len(), 1));
-    assert!(rt; has_inverse(shift));
-    Ok(engine.coset_idft_algebra(column, shift)?)
+    on_every_engine::<BabyBear, _, _>(&rt, rt.alloc(), &WorkedPairs)?;
+    on_every_engine::<BabyBear, _, _>(&rt, rt.alloc(), &ExtendedPairs)
 }
 
 // At one shape: in dimension one each form is the call over the field.
@@ -161,25 +270,21 @@ struct DimensionOne {
     width: usize,
 }
 
-impl EngineTest for DimensionOne {
-    fn run<R: Abort, D: TwoAdicSubgroupDft<BabyBear>>(
+impl<F: TwoAdicField> EngineTest<F> for DimensionOne {
+    fn run<R: Abort, D: TwoAdicSubgroupDft<F>>(
         &self,
         rt: &R,
         alloc: Global,
         engine: &mut D,
     ) -> Result<(), Fail> {
-        let shift = BabyBear::GENERATOR;
+        let shift = F::GENERATOR;
         let x = sample(alloc, self.height, self.width, 3)?;
-        assert!(rt; fits_dft::<BabyBear>(x.height(), x.width()));
-        let values = engine.dft_algebra_batch(x.try_clone()?)?;
-        assert!(rt; values == dft(rt, engine, &x)?);
-        let values = engine.coset_dft_algebra_batch(x.try_clone()?, shift)?;
-        assert!(rt; values == coset_dft(rt, engine, &x, shift)?);
-        let coefficients = engine.idft_algebra_batch(x.try_clone()?)?;
-        assert!(rt; coefficients == idft(rt, engine, &x)?);
-        let coefficients = undone(rt, engine, &x, shift)?;
-        assert!(rt; coefficients == coset_idft(rt, engine, &x, shift)?);
-        Ok(())
+        assert_agree(rt, dft(rt, engine, &x)?, dft_algebra(rt, engine, &x))?;
+        let values = coset_dft(rt, engine, &x, shift)?;
+        assert_agree(rt, values, coset_dft_algebra(rt, engine, &x, shift))?;
+        assert_agree(rt, idft(rt, engine, &x)?, idft_algebra(rt, engine, &x))?;
+        let coefficients = coset_idft(rt, engine, &x, shift)?;
+        assert_agree(rt, coefficients, coset_idft_algebra(rt, engine, &x, shift))
     }
 }
 
@@ -190,22 +295,59 @@ struct ExtendedInDimensionOne {
     width: usize,
 }
 
-impl EngineTest for ExtendedInDimensionOne {
-    fn run<R: Abort, D: TwoAdicSubgroupDft<BabyBear>>(
+impl<F: TwoAdicField> EngineTest<F> for ExtendedInDimensionOne {
+    fn run<R: Abort, D: TwoAdicSubgroupDft<F>>(
         &self,
         rt: &R,
         alloc: Global,
         engine: &mut D,
     ) -> Result<(), Fail> {
-        let shift = BabyBear::GENERATOR;
+        let shift = F::GENERATOR;
         let x = sample(alloc, self.height, self.width, 3)?;
-        assert!(rt; fits_lde::<BabyBear>(x.height(), x.width(), 1));
-        let values = engine.lde_algebra_batch(x.try_clone()?, 1)?;
-        assert!(rt; values == lde(rt, engine, &x, 1)?);
-        let values = engine.coset_lde_algebra_batch(x.try_clone()?, 1, shift)?;
-        assert!(rt; values == coset_lde(rt, engine, &x, 1, shift)?);
-        Ok(())
+        assert_agree(rt, lde(rt, engine, &x, 1)?, lde_algebra(rt, engine, &x, 1))?;
+        let values = coset_lde(rt, engine, &x, 1, shift)?;
+        assert_agree(rt, values, coset_lde_algebra(rt, engine, &x, 1, shift))
     }
+}
+
+// Each form for one column, over the field itself, which is given and answered as a matrix.
+
+fn coset_dft_of_column<F: TwoAdicField, D: TwoAdicSubgroupDft<F>>(
+    rt: &impl Abort,
+    engine: &mut D,
+    column: &RowMajorMatrix<F>,
+    shift: F,
+) -> Result<RowMajorMatrix<F>, Fail> {
+    let column = column.try_clone()?.into_values();
+    assert!(rt; fits_dft::<F>(column.len(), 1));
+    let values = engine.coset_dft_algebra(column, shift)?;
+    matrix_of(values, 1)
+}
+
+fn coset_idft_of_column<F: TwoAdicField, D: TwoAdicSubgroupDft<F>>(
+    rt: &impl Abort,
+    engine: &mut D,
+    column: &RowMajorMatrix<F>,
+    shift: F,
+) -> Result<RowMajorMatrix<F>, Fail> {
+    let column = column.try_clone()?.into_values();
+    assert!(rt; fits_dft::<F>(column.len(), 1));
+    assert!(rt; has_inverse(shift));
+    let coefficients = engine.coset_idft_algebra(column, shift)?;
+    matrix_of(coefficients, 1)
+}
+
+fn coset_lde_of_column<F: TwoAdicField, D: TwoAdicSubgroupDft<F>>(
+    rt: &impl Abort,
+    engine: &mut D,
+    column: &RowMajorMatrix<F>,
+    added_bits: usize,
+    shift: F,
+) -> Result<RowMajorMatrix<F>, Fail> {
+    let column = column.try_clone()?.into_values();
+    assert!(rt; fits_lde::<F>(column.len(), 1, added_bits));
+    let values = engine.coset_lde_algebra(column, added_bits, shift)?;
+    matrix_of(values, 1)
 }
 
 // One column of it.
@@ -214,25 +356,20 @@ struct ColumnInDimensionOne {
     height: usize,
 }
 
-impl EngineTest for ColumnInDimensionOne {
-    fn run<R: Abort, D: TwoAdicSubgroupDft<BabyBear>>(
+impl<F: TwoAdicField> EngineTest<F> for ColumnInDimensionOne {
+    fn run<R: Abort, D: TwoAdicSubgroupDft<F>>(
         &self,
         rt: &R,
         alloc: Global,
         engine: &mut D,
     ) -> Result<(), Fail> {
-        let shift = BabyBear::GENERATOR;
+        let shift = F::GENERATOR;
         let x = sample(alloc, self.height, 1, 3)?;
-        let column = x.try_clone()?.into_values();
-        assert!(rt; fits_dft::<BabyBear>(column.len(), 1));
-        let values = engine.coset_dft_algebra(column, shift)?;
-        assert!(rt; values.as_slice() == coset_dft(rt, engine, &x, shift)?.values());
-        let column = column_undone(rt, engine, values, shift)?;
-        assert!(rt; column.as_slice() == x.values());
-        assert!(rt; fits_lde::<BabyBear>(column.len(), 1, 1));
-        let values = engine.coset_lde_algebra(column, 1, shift)?;
-        assert!(rt; values.as_slice() == coset_lde(rt, engine, &x, 1, shift)?.values());
-        Ok(())
+        let values = coset_dft(rt, engine, &x, shift)?;
+        assert_answer(rt, coset_dft_of_column(rt, engine, &x, shift), &values)?;
+        assert_answer(rt, coset_idft_of_column(rt, engine, &values, shift), &x)?;
+        let values = coset_lde(rt, engine, &x, 1, shift)?;
+        assert_agree(rt, values, coset_lde_of_column(rt, engine, &x, 1, shift))
     }
 }
 
@@ -241,16 +378,20 @@ fn same_in_dimension_one(rt: HostRuntime) -> Result<(), Fail> {
     let alloc = rt.alloc();
     for height in [1usize, 4] {
         for width in [1usize, 3] {
-            on_every_engine(&rt, alloc, &DimensionOne { height, width })?;
-            on_every_engine(&rt, alloc, &ExtendedInDimensionOne { height, width })?;
+            on_every_engine::<BabyBear, _, _>(&rt, alloc, &DimensionOne { height, width })?;
+            on_every_engine::<BabyBear, _, _>(
+                &rt,
+                alloc,
+                &ExtendedInDimensionOne { height, width },
+            )?;
         }
-        on_every_engine(&rt, alloc, &ColumnInDimensionOne { height })?;
+        on_every_engine::<BabyBear, _, _>(&rt, alloc, &ColumnInDimensionOne { height })?;
     }
     Ok(())
 }
 
 // A matrix of elements that look like any others.
-fn elements<V: BasedVectorSpace<BabyBear>>(
+fn elements<F: TwoAdicField, V: BasedVectorSpace<F>>(
     alloc: Global,
     height: usize,
     width: usize,
@@ -269,12 +410,12 @@ fn elements<V: BasedVectorSpace<BabyBear>>(
 }
 
 // Coordinate t of the entries in column j.
-fn coordinates<V: BasedVectorSpace<BabyBear>>(
+fn coordinates<F: TwoAdicField, V: BasedVectorSpace<F>>(
     alloc: Global,
     mat: &RowMajorMatrix<V>,
     j: usize,
     t: usize,
-) -> Result<Matrix, Fail> {
+) -> Result<RowMajorMatrix<F>, Fail> {
     if t >= V::DIMENSION {
         return Err(Fail::from("no such coordinate"));
     }
@@ -286,22 +427,35 @@ fn coordinates<V: BasedVectorSpace<BabyBear>>(
     matrix_of(column, 1)
 }
 
-// Each coordinate of each column is transformed as if it stood alone.
-fn alone<V: BasedVectorSpace<BabyBear> + Copy, D: TwoAdicSubgroupDft<BabyBear>>(
+// A coordinate of a column is transformed on a coset as if it stood alone.
+fn coordinate_alone<F: TwoAdicField, V: BasedVectorSpace<F>, D: TwoAdicSubgroupDft<F>>(
+    rt: &impl Abort,
+    alloc: Global,
+    engine: &mut D,
+    (mat, values): (&RowMajorMatrix<V>, &RowMajorMatrix<V>),
+    (j, t): (usize, usize),
+) -> Result<(), Fail> {
+    let column = coordinates::<F, V>(alloc, mat, j, t)?;
+    let transformed = coordinates::<F, V>(alloc, values, j, t)?;
+    assert_agree(
+        rt,
+        transformed,
+        coset_dft(rt, engine, &column, F::GENERATOR),
+    )
+}
+
+// So is each coordinate of each column.
+fn alone<F: TwoAdicField, V: BasedVectorSpace<F> + Copy, D: TwoAdicSubgroupDft<F>>(
     rt: &impl Abort,
     alloc: Global,
     engine: &mut D,
     width: usize,
 ) -> Result<(), Fail> {
-    let shift = BabyBear::GENERATOR;
-    let x: RowMajorMatrix<V> = elements(alloc, 4, width)?;
-    let row = x.width().checked_mul(V::DIMENSION).ok_or("too wide")?;
-    assert!(rt; fits_dft::<BabyBear>(x.height(), row));
-    let values = engine.coset_dft_algebra_batch(x.try_clone()?, shift)?;
+    let x: RowMajorMatrix<V> = elements::<F, V>(alloc, 4, width)?;
+    let values = coset_dft_algebra(rt, engine, &x, F::GENERATOR)?;
     for j in 0..width {
         for t in 0..V::DIMENSION {
-            let alone = coset_dft(rt, engine, &coordinates(alloc, &x, j, t)?, shift)?;
-            assert!(rt; coordinates(alloc, &values, j, t)? == alone);
+            coordinate_alone::<F, V, D>(rt, alloc, engine, (&x, &values), (j, t))?;
         }
     }
     Ok(())
@@ -313,39 +467,48 @@ struct EachAlone {
     width: usize,
 }
 
-impl EngineTest for EachAlone {
+impl EngineTest<BabyBear> for EachAlone {
     fn run<R: Abort, D: TwoAdicSubgroupDft<BabyBear>>(
         &self,
         rt: &R,
         alloc: Global,
         engine: &mut D,
     ) -> Result<(), Fail> {
-        alone::<Coordinates<BabyBear, 1>, D>(rt, alloc, engine, self.width)?;
-        alone::<Coordinates<BabyBear, 2>, D>(rt, alloc, engine, self.width)?;
-        alone::<Coordinates<BabyBear, 3>, D>(rt, alloc, engine, self.width)?;
-        alone::<Coordinates<BabyBear, 8>, D>(rt, alloc, engine, self.width)
+        alone::<BabyBear, Coordinates<BabyBear, 1>, D>(rt, alloc, engine, self.width)?;
+        alone::<BabyBear, Coordinates<BabyBear, 2>, D>(rt, alloc, engine, self.width)?;
+        alone::<BabyBear, Coordinates<BabyBear, 3>, D>(rt, alloc, engine, self.width)?;
+        alone::<BabyBear, Coordinates<BabyBear, 8>, D>(rt, alloc, engine, self.width)
     }
 }
 
 #[test]
 fn each_coordinate_alone(rt: HostRuntime) -> Result<(), Fail> {
-    on_every_engine(&rt, rt.alloc(), &EachAlone { width: 1 })?;
-    on_every_engine(&rt, rt.alloc(), &EachAlone { width: 3 })
+    on_every_engine::<BabyBear, _, _>(&rt, rt.alloc(), &EachAlone { width: 1 })?;
+    on_every_engine::<BabyBear, _, _>(&rt, rt.alloc(), &EachAlone { width: 3 })
+}
+
+// A form answers the values, or that memory was refused.
+fn answers_or_stops<F: CanonicalField, D: TwoAdicSubgroupDft<F>>(
+    rt: &impl Abort,
+    alloc: Global,
+    engine: &mut D,
+) -> Result<(), Fail> {
+    let column: Vec<Pair<F>> = pairs(alloc, &[5, 1, 4, 0])?;
+    let values = pairs(alloc, &[9, 1, 1, 1])?;
+    assert!(rt; fits_dft::<F>(column.len(), 2));
+    match engine.dft_algebra(column) {
+        Ok(out) => assert!(rt; out == values),
+        Err(error) => assert!(rt; error == DftError::OutOfMemory),
+    }
+    Ok(())
 }
 
 // Where memory is refused, the height stays prepared.
 #[test]
 fn stays_prepared(rt: HostRuntime) -> Result<(), Fail> {
-    let alloc = rt.alloc();
-    let mut engine = Radix2Dit::default();
-    engine.prepare(alloc, 1)?;
-    let column = pairs(alloc, &[(5, 1), (4, 0)])?;
-    let values = pairs(alloc, &[(9, 1), (1, 1)])?;
-    assert!(rt; fits_dft::<BabyBear>(column.len(), 2));
-    match engine.dft_algebra(column) {
-        Ok(out) => assert!(rt; out == values),
-        Err(error) => assert!(rt; error == DftError::OutOfMemory),
-    }
+    let mut engine = Radix2Dit::<BabyBear>::default();
+    engine.prepare(rt.alloc(), 1)?;
+    answers_or_stops(&rt, rt.alloc(), &mut engine)?;
     assert!(rt; engine.is_prepared(1));
     Ok(())
 }

@@ -5,12 +5,12 @@ ghost use Rattle.std.specs.Prelude.{◌≡◌, Ok};
 ghost use Rattle.p3_matrix.specs.RowMajor.{HasShapeOf};
 
 use super::{
-    EngineTest, LimitedDft, Matrix, doubled, elements, matrix, matrix_of, on_every_engine, sample,
+    EngineTest, LimitedDft, assert_rows, doubled, matrix, matrix_of, on, on_every_engine, sample,
 };
 use p3_dft::{
     BabyBear, BlockConsumer, BlockLimit, BlockRefused, BlocksStopped, CanonicalField, Evaluations,
-    Field, Layout, NaiveDft, Radix2Dit, Radix2DitParallel, Recorder, RowMajorMatrixView,
-    TwoAdicField, TwoAdicSubgroupDft, Unpublished, fits_lde,
+    Field, Layout, NaiveDft, Radix2Dit, Radix2DitParallel, Recorder, RowMajorMatrix,
+    RowMajorMatrixView, TwoAdicField, TwoAdicSubgroupDft, Unpublished, fits_lde,
 };
 use std::alloc::Global;
 use std::cell::Cell;
@@ -18,7 +18,11 @@ use std::process::Abort;
 use std::test::Fail;
 
 // Whether the rows are those of the matrix from one on.
-fn has_rows_at(mat: &Matrix, start: usize, rows: &RowMajorMatrixView<'_, BabyBear>) -> bool {
+fn has_rows_at<F: TwoAdicField>(
+    mat: &RowMajorMatrix<F>,
+    start: usize,
+    rows: &RowMajorMatrixView<'_, F>,
+) -> bool {
     let count = rows.height();
     start <= mat.height()
         && count <= mat.height() - start
@@ -28,21 +32,21 @@ fn has_rows_at(mat: &Matrix, start: usize, rows: &RowMajorMatrixView<'_, BabyBea
 
 // Compares each block with rows of a matrix as it is lent, and counts the rows.
 #[derive(Drop)]
-struct Compared {
-    expected: Matrix,
+struct Compared<F> {
+    expected: RowMajorMatrix<F>,
     equal: bool,
     rows: usize,
 }
 
-impl BlockConsumer<BabyBear> for Compared {
+impl<F: TwoAdicField> BlockConsumer<F> for Compared<F> {
     ghost use Rattle.std.specs.Prelude.{◌≡◌, Ok};
 
     type Refusal = ();
 
     ghost step = { λ c start block answer e. answer ≡ Ok tt };
 
-    fn consume(&mut self, start: usize, block: RowMajorMatrixView<'_, BabyBear>) -> Result<(), ()>
-        ensures { ⟦<Compared as BlockConsumer<BabyBear>>⟧.step self.old start block.entry result self.new }
+    fn consume(&mut self, start: usize, block: RowMajorMatrixView<'_, F>) -> Result<(), ()>
+        ensures { ⟦<Compared<F> as BlockConsumer<F>>⟧.step self.old start block.entry result self.new }
     {
         self.equal = self.equal && has_rows_at(&self.expected, start, &block);
         self.rows = self.rows.saturating_add(block.height());
@@ -51,24 +55,24 @@ impl BlockConsumer<BabyBear> for Compared {
 }
 
 // The physical rows of an extension without a transform, and a consumer that took all of them.
-fn extend_to<D: TwoAdicSubgroupDft<BabyBear>, C: BlockConsumer<BabyBear> + Drop>(
+fn extend_to<F: TwoAdicField, D: TwoAdicSubgroupDft<F>, C: BlockConsumer<F> + Drop>(
     rt: &impl Abort,
     engine: &mut D,
-    mat: &Matrix,
+    mat: &RowMajorMatrix<F>,
     added_bits: usize,
-    shift: BabyBear,
+    shift: F,
     consumer: C,
-) -> Result<(Matrix, C), Fail>
+) -> Result<(RowMajorMatrix<F>, C), Fail>
 where
     C::Refusal: Drop,
 {
     let mat = mat.try_clone()?;
-    assert!(rt; fits_lde::<BabyBear>(mat.height(), mat.width(), added_bits));
+    assert!(rt; fits_lde::<F>(mat.height(), mat.width(), added_bits));
     let answer = engine.coset_lde_batch_with_blocks(
         mat,
         added_bits,
         shift,
-        |coefficients: Matrix, _layout: Layout| -> Matrix
+        |coefficients: RowMajorMatrix<F>, _layout: Layout| -> RowMajorMatrix<F>
             ensures { result ≡ coefficients }
         { coefficients },
         |_rows: usize| -> C
@@ -81,32 +85,8 @@ where
     }
 }
 
-// The blocks of an extension of one column on the subgroup, and those of a single row.
-struct RecordedBlocks;
-
-impl EngineTest for RecordedBlocks {
-    fn run<R: Abort, D: TwoAdicSubgroupDft<BabyBear>>(
-        &self,
-        rt: &R,
-        alloc: Global,
-        engine: &mut D,
-    ) -> Result<(), Fail> {
-        let recorder = Recorder::with_room(alloc, 4, 4)?;
-        let mat = matrix(alloc, &[9, 1], 1)?;
-        let (out, recorder) = extend_to(rt, engine, &mat, 1, BabyBear::ONE, recorder)?;
-        assert!(rt; out == matrix(alloc, &[9, 1, 873820294, 1139445637], 1)?);
-        assert!(rt; has_each_row_once(&out, &recorder));
-        let recorder = Recorder::with_room(alloc, 4, 8)?;
-        let row = matrix(alloc, &[42, 7], 2)?;
-        let (out, recorder) = extend_to(rt, engine, &row, 2, BabyBear::from_u8(31), recorder)?;
-        assert!(rt; out == matrix(alloc, &[42, 7, 42, 7, 42, 7, 42, 7], 2)?);
-        assert!(rt; has_each_row_once(&out, &recorder));
-        Ok(())
-    }
-}
-
 // Whether the blocks that are kept are rows of the matrix, as many as it has.
-fn has_each_row_once(mat: &Matrix, recorder: &Recorder<BabyBear>) -> bool {
+fn has_each_row_once<F: TwoAdicField>(mat: &RowMajorMatrix<F>, recorder: &Recorder<F>) -> bool {
     let mut equal = !recorder.missed();
     let mut rows = 0usize;
     for i in 0..recorder.blocks() {
@@ -117,16 +97,51 @@ fn has_each_row_once(mat: &Matrix, recorder: &Recorder<BabyBear>) -> bool {
     equal && rows == mat.height()
 }
 
+// Stops the test unless the physical rows are those of these numbers, and each is in a block that is
+// kept.
+fn assert_recorded<F: CanonicalField>(
+    rt: &impl Abort,
+    alloc: Global,
+    answer: Result<(RowMajorMatrix<F>, Recorder<F>), Fail>,
+    numbers: &[u64],
+    width: usize,
+) -> Result<(), Fail> {
+    let (out, recorder) = answer?;
+    assert!(rt; has_each_row_once(&out, &recorder));
+    assert_rows(rt, alloc, Ok(out), numbers, width)
+}
+
+// The blocks of an extension of one column on the subgroup, and those of a single row.
+struct RecordedBlocks;
+
+impl<F: CanonicalField> EngineTest<F> for RecordedBlocks {
+    fn run<R: Abort, D: TwoAdicSubgroupDft<F>>(
+        &self,
+        rt: &R,
+        alloc: Global,
+        engine: &mut D,
+    ) -> Result<(), Fail> {
+        let mat = matrix(alloc, &[9, 1], 1)?;
+        let recorder = Recorder::with_room(alloc, 4, 4)?;
+        let answer = extend_to(rt, engine, &mat, 1, F::ONE, recorder);
+        assert_recorded(rt, alloc, answer, &[9, 1, 873820294, 1139445637], 1)?;
+        let row = matrix(alloc, &[42, 7], 2)?;
+        let recorder = Recorder::with_room(alloc, 4, 8)?;
+        let answer = extend_to(rt, engine, &row, 2, F::from_u8(31), recorder);
+        assert_recorded(rt, alloc, answer, &[42, 7, 42, 7, 42, 7, 42, 7], 2)
+    }
+}
+
 #[test]
 fn recorded_blocks(rt: HostRuntime) -> Result<(), Fail> {
-    on_every_engine(&rt, rt.alloc(), &RecordedBlocks)
+    on_every_engine::<BabyBear, _, _>(&rt, rt.alloc(), &RecordedBlocks)
 }
 
 // Each block of an extension with twice each coefficient, as it is lent.
 struct DoubledBlocks;
 
-impl EngineTest for DoubledBlocks {
-    fn run<R: Abort, D: TwoAdicSubgroupDft<BabyBear>>(
+impl<F: CanonicalField> EngineTest<F> for DoubledBlocks {
+    fn run<R: Abort, D: TwoAdicSubgroupDft<F>>(
         &self,
         rt: &R,
         alloc: Global,
@@ -141,15 +156,15 @@ impl EngineTest for DoubledBlocks {
         ] {
             let mat = sample(alloc, height, width, 5)?;
             let expected = doubled_extension(rt, &mat, added_bits)?;
-            assert!(rt; fits_lde::<BabyBear>(mat.height(), mat.width(), added_bits));
+            assert!(rt; fits_lde::<F>(mat.height(), mat.width(), added_bits));
             let answer = engine.coset_lde_batch_with_blocks(
                 mat,
                 added_bits,
-                BabyBear::GENERATOR,
-                |coefficients: Matrix, _layout: Layout| -> Matrix
+                F::GENERATOR,
+                |coefficients: RowMajorMatrix<F>, _layout: Layout| -> RowMajorMatrix<F>
                     ensures { HasShapeOf result coefficients }
                 { doubled(coefficients) },
-                |_rows: usize| -> Compared {
+                |_rows: usize| -> Compared<F> {
                     Compared {
                         expected,
                         equal: true,
@@ -169,14 +184,18 @@ impl EngineTest for DoubledBlocks {
 }
 
 // The physical rows of an extension with twice each coefficient.
-fn doubled_extension(rt: &impl Abort, mat: &Matrix, added_bits: usize) -> Result<Matrix, Fail> {
+fn doubled_extension<F: TwoAdicField>(
+    rt: &impl Abort,
+    mat: &RowMajorMatrix<F>,
+    added_bits: usize,
+) -> Result<RowMajorMatrix<F>, Fail> {
     let mat = mat.try_clone()?;
-    assert!(rt; fits_lde::<BabyBear>(mat.height(), mat.width(), added_bits));
+    assert!(rt; fits_lde::<F>(mat.height(), mat.width(), added_bits));
     let values = NaiveDft::default().coset_lde_batch_with_transform(
         mat,
         added_bits,
-        BabyBear::GENERATOR,
-        |coefficients: Matrix, _layout: Layout| -> Matrix
+        F::GENERATOR,
+        |coefficients: RowMajorMatrix<F>, _layout: Layout| -> RowMajorMatrix<F>
             ensures { HasShapeOf result coefficients }
         { doubled(coefficients) },
     )?;
@@ -185,22 +204,22 @@ fn doubled_extension(rt: &impl Abort, mat: &Matrix, added_bits: usize) -> Result
 
 #[test]
 fn doubled_blocks(rt: HostRuntime) -> Result<(), Fail> {
-    on_every_engine(&rt, rt.alloc(), &DoubledBlocks)
+    on_every_engine::<BabyBear, _, _>(&rt, rt.alloc(), &DoubledBlocks)
 }
 
 // How many blocks were taken of the extension of a column by one bit, and the one that was too many.
-fn seen_within<D: TwoAdicSubgroupDft<BabyBear>>(
+fn seen_within<F: TwoAdicField, D: TwoAdicSubgroupDft<F>>(
     rt: &impl Abort,
     engine: &mut D,
-    mat: Matrix,
+    mat: RowMajorMatrix<F>,
     limit: usize,
 ) -> Result<(usize, Option<BlockRefused>), Fail> {
-    assert!(rt; fits_lde::<BabyBear>(mat.height(), mat.width(), 1));
+    assert!(rt; fits_lde::<F>(mat.height(), mat.width(), 1));
     let answer = engine.coset_lde_batch_with_blocks(
         mat,
         1,
-        BabyBear::ONE,
-        |coefficients: Matrix, _layout: Layout| -> Matrix
+        F::ONE,
+        |coefficients: RowMajorMatrix<F>, _layout: Layout| -> RowMajorMatrix<F>
             ensures { result ≡ coefficients }
         { coefficients },
         |_rows: usize| -> BlockLimit { BlockLimit::new(limit) },
@@ -217,8 +236,8 @@ fn seen_within<D: TwoAdicSubgroupDft<BabyBear>>(
 // No block is taken, and then as many as there are.
 struct LimitedBlocks;
 
-impl EngineTest for LimitedBlocks {
-    fn run<R: Abort, D: TwoAdicSubgroupDft<BabyBear>>(
+impl<F: CanonicalField> EngineTest<F> for LimitedBlocks {
+    fn run<R: Abort, D: TwoAdicSubgroupDft<F>>(
         &self,
         rt: &R,
         alloc: Global,
@@ -234,52 +253,104 @@ impl EngineTest for LimitedBlocks {
 
 #[test]
 fn limited_blocks(rt: HostRuntime) -> Result<(), Fail> {
-    on_every_engine(&rt, rt.alloc(), &LimitedBlocks)
+    on_every_engine::<BabyBear, _, _>(&rt, rt.alloc(), &LimitedBlocks)
 }
 
-// An engine with the trait's own body has one block.
-#[test]
-fn one_block(rt: HostRuntime) -> Result<(), Fail> {
-    let alloc = rt.alloc();
-    let mut engine = Radix2Dit::default();
-    let mat: Matrix = matrix(alloc, &[9, 1], 1)?;
-    let taken = seen_within(&rt, &mut engine, mat.try_clone()?, 1)?;
-    assert!(rt; taken == (1, None));
-    let refused = seen_within(&rt, &mut engine, mat.try_clone()?, 0)?;
-    assert!(rt; refused == (0, Some(BlockRefused { start: 0 })));
-    for (blocks, elements, kept) in [(1, 4, 1), (0, 4, 0), (1, 3, 0)] {
-        let recorder = Recorder::with_room(alloc, blocks, elements)?;
-        let (_, recorder) = extend_to(&rt, &mut engine, &mat, 1, BabyBear::ONE, recorder)?;
-        assert_eq!(rt; recorder.blocks(), kept);
-        assert_eq!(rt; recorder.missed(), kept == 0);
-    }
+// Stops the test unless so many of all blocks are kept, each with its rows, and the rest are missed.
+fn assert_kept<F: TwoAdicField>(
+    rt: &impl Abort,
+    answer: Result<(RowMajorMatrix<F>, Recorder<F>), Fail>,
+    kept: usize,
+    all: usize,
+) -> Result<(), Fail> {
+    let (out, recorder) = answer?;
+    assert!(rt; recorder.blocks() == kept);
+    assert!(rt; recorder.missed() == (kept < all));
+    assert!(rt; has_each_row_once(&out, &recorder) == (kept == all));
     Ok(())
 }
 
+// An engine with the trait's own body has one block.
+struct OneBlock;
+
+impl<F: CanonicalField> EngineTest<F> for OneBlock {
+    fn run<R: Abort, D: TwoAdicSubgroupDft<F>>(
+        &self,
+        rt: &R,
+        alloc: Global,
+        engine: &mut D,
+    ) -> Result<(), Fail> {
+        let taken = seen_within(rt, engine, matrix(alloc, &[9, 1], 1)?, 1)?;
+        assert!(rt; taken == (1, None));
+        let refused = seen_within(rt, engine, matrix(alloc, &[9, 1], 1)?, 0)?;
+        assert!(rt; refused == (0, Some(BlockRefused { start: 0 })));
+        Ok(())
+    }
+}
+
+// And it is kept where there is room for it.
+struct OneBlockKept;
+
+impl<F: CanonicalField> EngineTest<F> for OneBlockKept {
+    fn run<R: Abort, D: TwoAdicSubgroupDft<F>>(
+        &self,
+        rt: &R,
+        alloc: Global,
+        engine: &mut D,
+    ) -> Result<(), Fail> {
+        let mat = matrix(alloc, &[9, 1], 1)?;
+        for (blocks, elements, kept) in [(1, 4, 1), (0, 4, 0), (1, 3, 0)] {
+            let recorder = Recorder::with_room(alloc, blocks, elements)?;
+            let answer = extend_to(rt, engine, &mat, 1, F::ONE, recorder);
+            assert_kept(rt, answer, kept, 1)?;
+        }
+        Ok(())
+    }
+}
+
+#[test]
+fn one_block(rt: HostRuntime) -> Result<(), Fail> {
+    on::<BabyBear, Radix2Dit<BabyBear>, _, _>(&rt, rt.alloc(), &OneBlock)?;
+    on::<BabyBear, Radix2Dit<BabyBear>, _, _>(&rt, rt.alloc(), &OneBlockKept)
+}
+
 // The numbers from one on, row after row.
-fn counting(alloc: Global, height: usize, width: usize) -> Result<Matrix, Fail> {
+fn counting<F: TwoAdicField>(
+    alloc: Global,
+    height: usize,
+    width: usize,
+) -> Result<RowMajorMatrix<F>, Fail> {
     let count = height.checked_mul(width).ok_or("too many entries")?;
     let mut entries = Vec::new(alloc);
     for i in 0..count {
-        entries.push(BabyBear::from_usize(i + 1))?;
+        entries.push(F::from_usize(i + 1))?;
     }
     matrix_of(entries, width)
 }
 
 // Of 32 blocks of four rows as many are kept as there is room for.
+struct BlocksOfFourRows;
+
+impl<F: TwoAdicField> EngineTest<F> for BlocksOfFourRows {
+    fn run<R: Abort, D: TwoAdicSubgroupDft<F>>(
+        &self,
+        rt: &R,
+        alloc: Global,
+        engine: &mut D,
+    ) -> Result<(), Fail> {
+        let mat = counting(alloc, 16, 17)?;
+        for (blocks, elements, kept) in [(32, 2176, 32), (31, 2176, 31), (32, 2175, 31)] {
+            let recorder = Recorder::with_room(alloc, blocks, elements)?;
+            let answer = extend_to(rt, engine, &mat, 3, F::GENERATOR, recorder);
+            assert_kept(rt, answer, kept, 32)?;
+        }
+        Ok(())
+    }
+}
+
 #[test]
 fn blocks_of_four_rows(rt: HostRuntime) -> Result<(), Fail> {
-    let alloc = rt.alloc();
-    let mut engine = Radix2DitParallel::default();
-    let mat = counting(alloc, 16, 17)?;
-    for (blocks, elements, kept) in [(32, 2176, 32), (31, 2176, 31), (32, 2175, 31)] {
-        let recorder = Recorder::with_room(alloc, blocks, elements)?;
-        let (out, recorder) = extend_to(&rt, &mut engine, &mat, 3, BabyBear::GENERATOR, recorder)?;
-        assert!(rt; recorder.blocks() == kept);
-        assert!(rt; recorder.missed() == (kept < 32));
-        assert!(rt; has_each_row_once(&out, &recorder) == (kept == 32));
-    }
-    Ok(())
+    on::<BabyBear, Radix2DitParallel<BabyBear>, _, _>(&rt, rt.alloc(), &BlocksOfFourRows)
 }
 
 // Counts blocks in what is lent to it.
@@ -288,15 +359,15 @@ struct Counter<'a> {
     blocks: &'a Cell<usize>,
 }
 
-impl<'a> BlockConsumer<BabyBear> for Counter<'a> {
+impl<'a, T> BlockConsumer<T> for Counter<'a> {
     ghost use Rattle.std.specs.Prelude.{◌≡◌, Ok};
 
     type Refusal = ();
 
     ghost step = { λ c start block answer e. answer ≡ Ok tt };
 
-    fn consume(&mut self, start: usize, block: RowMajorMatrixView<'_, BabyBear>) -> Result<(), ()>
-        ensures { ⟦<Counter<'a> as BlockConsumer<BabyBear>>⟧.step self.old start block.entry result self.new }
+    fn consume(&mut self, start: usize, block: RowMajorMatrixView<'_, T>) -> Result<(), ()>
+        ensures { ⟦<Counter<'a> as BlockConsumer<T>>⟧.step self.old start block.entry result self.new }
     {
         let _ = start;
         let _ = block;
@@ -306,37 +377,50 @@ impl<'a> BlockConsumer<BabyBear> for Counter<'a> {
 }
 
 // The second transform is refused its memory: nothing was lent, and the maker of consumers comes back.
+struct NothingLent;
+
+impl<F: CanonicalField> EngineTest<F> for NothingLent {
+    fn run<R: Abort, D: TwoAdicSubgroupDft<F>>(
+        &self,
+        rt: &R,
+        alloc: Global,
+        engine: &mut D,
+    ) -> Result<(), Fail> {
+        let blocks = Cell::new(0);
+        let mat: RowMajorMatrix<F> = matrix(alloc, &[9, 1], 1)?;
+        assert!(rt; fits_lde::<F>(mat.height(), mat.width(), 1));
+        let answer = engine.coset_lde_batch_with_blocks(
+            mat,
+            1,
+            F::ONE,
+            |coefficients: RowMajorMatrix<F>, _layout: Layout| -> RowMajorMatrix<F>
+                ensures { result ≡ coefficients }
+            { coefficients },
+            |_rows: usize| -> Counter<'_> { Counter { blocks: &blocks } },
+        );
+        let Err(BlocksStopped::OutOfMemory(Unpublished { make_consumer })) = answer else {
+            return Err(Fail::from("not out of memory"));
+        };
+        let mut consumer = make_consumer(4);
+        assert_eq!(rt; blocks.get(), 0);
+        let one: RowMajorMatrix<F> = matrix(alloc, &[9], 1)?;
+        assert!(rt; consumer.consume(0, one.as_view()) == Ok(()));
+        assert_eq!(rt; blocks.get(), 1);
+        Ok(())
+    }
+}
+
 #[test]
 fn nothing_is_lent_without_memory(rt: HostRuntime) -> Result<(), Fail> {
-    let alloc = rt.alloc();
-    let blocks = Cell::new(0);
-    let mat: Matrix = matrix(alloc, &[9, 1], 1)?;
-    assert!(rt; fits_lde::<BabyBear>(mat.height(), mat.width(), 1));
-    let answer = LimitedDft::new(1).coset_lde_batch_with_blocks(
-        mat,
-        1,
-        BabyBear::ONE,
-        |coefficients: Matrix, _layout: Layout| -> Matrix
-            ensures { result ≡ coefficients }
-        { coefficients },
-        |_rows: usize| -> Counter<'_> { Counter { blocks: &blocks } },
-    );
-    let Err(BlocksStopped::OutOfMemory(Unpublished { make_consumer })) = answer else {
-        return Err(Fail::from("not out of memory"));
-    };
-    let mut consumer = make_consumer(4);
-    assert_eq!(rt; blocks.get(), 0);
-    let one = matrix::<BabyBear>(alloc, &[9], 1)?;
-    assert!(rt; consumer.consume(0, one.as_view()) == Ok(()));
-    assert_eq!(rt; blocks.get(), 1);
-    Ok(())
+    let mut engine = LimitedDft::new(1);
+    EngineTest::<BabyBear>::run(&NothingLent, &rt, rt.alloc(), &mut engine)
 }
 
 // The consumer is made once the coefficients were transformed.
 struct MadeLater;
 
-impl EngineTest for MadeLater {
-    fn run<R: Abort, D: TwoAdicSubgroupDft<BabyBear>>(
+impl<F: CanonicalField> EngineTest<F> for MadeLater {
+    fn run<R: Abort, D: TwoAdicSubgroupDft<F>>(
         &self,
         rt: &R,
         alloc: Global,
@@ -344,13 +428,13 @@ impl EngineTest for MadeLater {
     ) -> Result<(), Fail> {
         let called = Cell::new(false);
         let made_later = Cell::new(false);
-        let mat: Matrix = matrix(alloc, &[9, 1], 1)?;
-        assert!(rt; fits_lde::<BabyBear>(mat.height(), mat.width(), 1));
+        let mat: RowMajorMatrix<F> = matrix(alloc, &[9, 1], 1)?;
+        assert!(rt; fits_lde::<F>(mat.height(), mat.width(), 1));
         let answer = engine.coset_lde_batch_with_blocks(
             mat,
             1,
-            BabyBear::ONE,
-            |coefficients: Matrix, _layout: Layout| -> Matrix
+            F::ONE,
+            |coefficients: RowMajorMatrix<F>, _layout: Layout| -> RowMajorMatrix<F>
                 ensures { HasShapeOf result coefficients }
             {
                 called.set(true);
@@ -369,5 +453,5 @@ impl EngineTest for MadeLater {
 
 #[test]
 fn consumer_is_made_later(rt: HostRuntime) -> Result<(), Fail> {
-    on_every_engine(&rt, rt.alloc(), &MadeLater)
+    on_every_engine::<BabyBear, _, _>(&rt, rt.alloc(), &MadeLater)
 }

@@ -139,7 +139,7 @@ fn no_answers<F: CanonicalField, D: TwoAdicSubgroupDft<F>>(
 // No jobs, and a job of each kind.
 struct Jobs;
 
-impl EngineTest for Jobs {
+impl EngineTest<BabyBear> for Jobs {
     fn run<R: Abort, D: TwoAdicSubgroupDft<BabyBear>>(
         &self,
         rt: &R,
@@ -153,7 +153,7 @@ impl EngineTest for Jobs {
 
 #[test]
 fn jobs_in_order(rt: HostRuntime) -> Result<(), Fail> {
-    on_every_engine(&rt, rt.alloc(), &Jobs)
+    on_every_engine::<BabyBear, _, _>(&rt, rt.alloc(), &Jobs)
 }
 
 // A list that begins with one kind, refused after so many transforms.
@@ -224,7 +224,7 @@ fn cosets_answered<F: CanonicalField, D: TwoAdicSubgroupDft<F>>(
 
 struct CosetsInTurn;
 
-impl EngineTest for CosetsInTurn {
+impl EngineTest<BabyBear> for CosetsInTurn {
     fn run<R: Abort, D: TwoAdicSubgroupDft<BabyBear>>(
         &self,
         rt: &R,
@@ -237,5 +237,5 @@ impl EngineTest for CosetsInTurn {
 
 #[test]
 fn cosets_in_turn(rt: HostRuntime) -> Result<(), Fail> {
-    on_every_engine(&rt, rt.alloc(), &CosetsInTurn)
+    on_every_engine::<BabyBear, _, _>(&rt, rt.alloc(), &CosetsInTurn)
 }
