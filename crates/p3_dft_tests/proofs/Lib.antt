@@ -1,2 +1,1 @@
-pub mod BlockCounts
 pub mod BlockSums

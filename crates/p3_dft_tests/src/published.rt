@@ -3,7 +3,7 @@
 //! Each has closures of its own for the transform and for the maker of consumers. What a client may
 //! conclude, whatever the order of the blocks, is its contract.
 
-ghost use Rattle.std.specs.Prelude.{◌≡◌, ◌+◌, ◌%◌, ◌/◌, ◌^◌, ◌<◌, IfErr, IfOk, IfSome, Ok, false, get_or, length};
+ghost use Rattle.std.specs.Prelude.{◌≡◌, ◌+◌, ◌%◌, ◌/◌, ◌^◌, ◌<◌, ◌≤◌, IfErr, IfOk, IfSome, Ok, false, get_or, length};
 ghost use Rattle.p3_matrix.specs.BitOrder.{reversed_rows};
 ghost use Rattle.p3_matrix.specs.Blocks.{IsPartition};
 ghost use Rattle.p3_matrix.specs.RowMajor.{height};
@@ -60,8 +60,8 @@ pub fn recorded_extension<F: TwoAdicField, D: TwoAdicSubgroupDft<F>>(
     }
 }
 
-/// An extension that has at most so many blocks, with their number. Else the block that was one too
-/// many, or none where memory was refused.
+/// An extension that has at most so many blocks, with their number. Else, as it has more, the block that was
+/// one too many, or none where memory was refused.
 pub fn limited_extension<F: TwoAdicField, D: TwoAdicSubgroupDft<F>>(
     engine: &mut D,
     mat: RowMajorMatrix<F>,
@@ -73,8 +73,10 @@ pub fn limited_extension<F: TwoAdicField, D: TwoAdicSubgroupDft<F>>(
     ensures extension { IfOk result (λ p.
         IsExtension F.Field.own F.generator mat added_bits (F.value shift) (reversed_rows p.0.bits p.0.physical)) }
     ensures counted { IfOk result (λ p. AtLog (height mat) (λ k. p.1 ≡ height p.0.physical / D.block_rows k added_bits)) }
+    ensures within { IfOk result (λ p. p.1 ≤ limit) }
     ensures refused { IfErr result (λ e. IfSome e (λ refusal. AtLog (height mat) (λ k.
-        (refusal.start % D.block_rows k added_bits ≡ 0) × (refusal.start < 2 ^ (k + added_bits))))) }
+        (refusal.start % D.block_rows k added_bits ≡ 0) × (refusal.start < 2 ^ (k + added_bits))
+        × (limit < 2 ^ (k + added_bits) / D.block_rows k added_bits)))) }
 {
     let answer = engine.coset_lde_batch_with_blocks(
         mat,

@@ -1,14 +1,20 @@
 -- What a caller knows of its consumer after an extension with blocks: that one which never refuses was not refused with, and what those of this crate hold.
-use Rattle.std.proofs.Common.{◌≡◌, ℕ, zero, suc, ◌+◌, ◌*◌, ◌-◌, ◌/◌, ◌%◌, ◌<◌, ◌≤◌, List, [], ◌∷◌, ◌++◌, length, take, drop, false, Result, Ok, Err, sym, ap, ap₂, ◌∙◌, subst, arith, rules, add-one, get_or, ⊎_elim}
-use Rattle.std.specs.List.{sum_by}
+use Rattle.std.proofs.Common.{◌≡◌, ℕ, zero, suc, ◌+◌, ◌*◌, ◌-◌, ◌/◌, ◌%◌, ◌<◌, ◌≤◌, List, [], ◌∷◌, ◌++◌, length, take, drop, map, true, false, Result, Ok, Err, sym, ap, ap₂, ◌∙◌, subst, arith, rules, add-one, get_or, ⊎_elim}
+use Rattle.std.specs.List.{list_any, sum_by}
 use Rattle.std.specs.Prelude.{⊤}
+use Rattle.std.proofs.Math.Dec.{eqb}
 use Rattle.std.proofs.lemmas.Bool.{cases_lt}
-use Rattle.std.proofs.Math.Nat.{mul-le-mul_right, div-mul-le_self, mul_assoc, suc-mul}
-use Rattle.std.proofs.lemmas.List.{append-nil, append_assoc, places}
+use Rattle.std.proofs.lemmas.Bool.Decides.{Decides-eqb, eqb_tells}
+use Rattle.std.proofs.Math.Nat.{mul-le-mul_right, div-lt_iff_lt-mul, div-mul-le_self, mul_assoc, suc-mul}
+use Rattle.std.proofs.lemmas.List.{append-nil, append_assoc, get_or-map, length-map, places}
+use Rattle.std.proofs.lemmas.List.Folds.{Any-from_list_any}
 use Rattle.std.proofs.lemmas.List.FromFn.{length-map-range_with_len, sum_by-map-range_with_len_more}
 use Rattle.std.proofs.lemmas.List.Sorted.{length_permutation, sum_by-IsPermutation}
 use Rattle.std.proofs.lemmas.List.Sums.{sum_by-cons}
-use Rattle.p3_matrix.specs.Blocks.{IsBlockOf, IsPartition, IsPublished, IsRefused, Run, block, first_blocks}
+use Rattle.std.proofs.lemmas.Map.Made.{IsDistinct-from_AllPairs}
+use Rattle.std.proofs.lemmas.Map.Steps.{length-le_from_distinct_below}
+use Rattle.std.proofs.lemmas.Nat.{div-add-mod'}
+use Rattle.p3_matrix.specs.Blocks.{AreBlocksOf, IsBlockOf, IsPartition, IsPublished, IsRefused, Run, block, first_blocks}
 use Rattle.p3_matrix.specs.Consumers.{IsCounted, IsRecorded, Limited, Recording}
 use Rattle.p3_matrix.specs.Matrix.{Matrix}
 use Rattle.p3_matrix.specs.RowMajor.{RowMajor, height}
@@ -27,6 +33,14 @@ ok_is_no_err x y e = search rules
 abbrev start_of : Result ⊤ BlockRefused → ℕ
 start_of (Ok x) = 0
 start_of (Err refusal) = refusal.start
+
+-- the number of a block, by its first row
+whole_number : (start b : ℕ) → start % b ≡ 0 → start ≡ start / b * b
+whole_number start b multiple = omega (arith, div-add-mod' start b, multiple)
+
+-- a test of equality that answers true
+eqb_same : (q n : ℕ) → eqb q n ≡ true → q ≡ n
+eqb_same q n told = ⊎_elim (λ same. same.1) (λ other. search (rules, told)) (eqb_tells q n)
 
 module _ {T : Type 0} where
   -- how many entries the rows of a block have
@@ -107,3 +121,55 @@ module _ {T : Type 0} where
       let named : refusal.start ≡ x.refused.0 = ap (λ a. start_of a) told.0 in
       (rw told.1 full, rw named of_out.multiple, rw named of_out.within))
       (cases_lt middle.seen middle.limit)
+
+  -- blocks of b rows of m, none twice, are no more than fit
+  blocks_fit : {A : Type 0} (values : RowMajor T → Matrix A) (b : ℕ) (m : Matrix A) (blocks : List (ℕ × RowMajor T)) → 0 < b → m.height % b ≡ 0 → AreBlocksOf values b m blocks → length blocks ≤ m.height / b
+  blocks_fit values b m blocks some divides are = omega (arith, length-map blocks number, length-le_from_distinct_below numbers (m.height / b) (IsDistinct-from_AllPairs {eq = eqb} Decides-eqb numbers distinct) below)
+    where
+      number : ℕ × RowMajor T → ℕ
+      number p = p.0 / b
+
+      none : ℕ × RowMajor T
+      none = (0, record { width = 0; values = [] })
+
+      numbers : List ℕ
+      numbers = map number blocks
+
+      is : (i d : ℕ) → i < length numbers → get_or numbers i d ≡ (get_or blocks i none).0 / b
+      is i d inside = get_or-map number blocks i none d (omega (arith, inside, length-map blocks number))
+
+      first : (i : ℕ) → i < length numbers → (get_or blocks i none).0 ≡ (get_or blocks i none).0 / b * b
+      first i inside = whole_number _ b (are.each i none (omega (arith, inside, length-map blocks number))).multiple
+
+      distinct : (i j d : ℕ) → i < j → j < length numbers → get_or numbers i d ≡ get_or numbers j d → ⊥
+      distinct i j d order inside same =
+          are.distinct i j none order (omega (arith, inside, length-map blocks number))
+          (first i (omega (arith, order, inside)) ∙ ap (λ n. n * b) (sym (is i d (omega (arith, order, inside))) ∙ same ∙ is j d inside) ∙ sym (first j inside))
+
+      below : (q : ℕ) → list_any (eqb q) numbers ≡ true → q < m.height / b
+      below q found =
+          let (k, x, inside, at, tests) = Any-from_list_any (eqb q) numbers found in
+          let here : k < length blocks = omega (arith, inside, length-map blocks number) in
+          let named : q ≡ (get_or blocks k none).0 / b = eqb_same q x tests ∙ sym at ∙ is k x inside in
+          let low : (get_or blocks k none).0 < m.height / b * b = omega (arith, (are.each k none here).within, whole_number m.height b divides) in
+          rw named ((div-lt_iff_lt-mul some).1 low)
+
+  -- a limit that took blocks and refused one more, of a matrix that consists of whole blocks: there are more blocks than it may take
+  pub limit_exceeded : {A : Type 0} (may_make : Limited → Type 0) (values : RowMajor T → Matrix A) (b : ℕ) (out : Matrix A) (last : Limited) (refusal : BlockRefused) (limit : ℕ)
+      → IsRefused {T = T} (λ c start rows answer e. IsCounted c start answer e) may_make values b out last refusal → ((c : Limited) → may_make c → (c.limit ≡ limit) × (c.seen ≡ 0))
+      → (n : ℕ) → out.height ≡ n → 0 < b → n % b ≡ 0 → limit < n / b
+  limit_exceeded may_make values b out last refusal limit x new n high some divides =
+      let first = new x.first x.made in
+      let told = counted x.accepted x.first x.run.middle x.run.run in
+      let fit = blocks_fit values b out (x.accepted ++ x.refused ∷ []) some (rw high divides) x.blocks in
+      let rows : out.height / b ≡ n / b = ap (λ h. h / b) high in
+      let more : length (x.accepted ++ x.refused ∷ []) ≡ length x.accepted + 1 = search (rules, places) in
+      ⊎_elim
+      (λ below. absurd (ok_is_no_err _ _ (x.run.stop.taken below).0))
+      (λ full. omega (arith, full, told.0, told.1, first.0, first.1, fit, more, rows))
+      (cases_lt x.run.middle.seen x.run.middle.limit)
+
+  -- one that took all blocks may take as many as it might
+  pub limit_stays : (may_make : Limited → Type 0) (b : ℕ) (out : RowMajor T) (last : Limited) (limit : ℕ) → ((c : Limited) → may_make c → c.limit ≡ limit)
+      → IsPublished {T = T} (λ c start rows answer e. IsCounted c start answer e) may_make b out last → last.limit ≡ limit
+  limit_stays may_make b out last limit new x = (counted x.blocks x.first last x.run).0 ∙ new x.first x.made

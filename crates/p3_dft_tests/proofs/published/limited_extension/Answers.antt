@@ -1,6 +1,7 @@
-use Rattle.std.proofs.Common.{◌∙◌, of_calls}
-use Rattle.p3_matrix.proofs.Consumers.{all_counted, limit_refused}
+use Rattle.std.proofs.Common.{◌+◌, ◌∙◌, arith, of_calls}
+use Rattle.p3_matrix.proofs.Consumers.{all_counted, limit_exceeded, limit_refused, limit_stays}
 use Rattle.p3_dft.proofs.Calls.ExtendedTransforms.{extension_of_same}
+use Rattle.p3_dft.proofs.Calls.PublishedExtensions.{power_divides}
 use Rattle.p3_dft.proofs.Laws.Blocks.{where_refused}
 use Rattle.p3_dft_tests.proofs.published.limited_extension.Goals as goal
 
@@ -13,8 +14,16 @@ pub returns-in-Ok-clause-counted : goal.returns-in-Ok-clause-counted
 returns-in-Ok-clause-counted g c = λ k e.
     c.seen.ensures.seen ∙ all_counted _ _ c.in-Ok.out.physical c.in-Ok.taken (λ r made. search of_calls) (c.in-Ok.ensures.published k e)
 
+pub returns-in-Ok-clause-within : goal.returns-in-Ok-clause-within
+returns-in-Ok-clause-within g c =
+    let told = limit_stays _ _ c.in-Ok.out.physical c.in-Ok.taken c.args.limit (λ r made. search of_calls) (c.in-Ok.ensures.published c.requires.log c.requires.high) in
+    omega (arith, c.seen.ensures.seen, c.seen.ensures.within, told)
+
 pub returns-in-Refused-clause-refused : goal.returns-in-Refused-clause-refused
 returns-in-Refused-clause-refused g c = λ k e.
     let x = where_refused _ _ _ _ c.in-Refused.is c.in-Err.ensures.refused k e in
     let told = limit_refused _ _ _ _ _ _ x.2 in
-    (told.1, rw (x.1.extended k e).high at told.2)
+    let law = g.met.D.TwoAdicSubgroupDft.block_rows_law k c.args.added_bits in
+    let whole = power_divides (g.D.TwoAdicSubgroupDft.block_rows k c.args.added_bits) law.0 (k + c.args.added_bits) law.1 law.2 in
+    let high = (x.1.extended k e).high in
+    (told.1, rw high at told.2, limit_exceeded _ _ _ _ _ _ c.args.limit x.2 (λ r made. search of_calls) _ high whole.0 whole.1)
