@@ -11,6 +11,7 @@ mod algebra;
 mod blocks;
 mod callers;
 mod engines;
+mod extensions;
 mod fitting;
 mod jobs;
 mod laws;

@@ -1,0 +1,246 @@
+// Extensions with a transform that moves coefficients, how many blocks there are, and what is left where
+// memory is refused.
+
+ghost use Rattle.std.specs.Prelude.{◌≡◌, Ok};
+ghost use Rattle.p3_matrix.specs.RowMajor.{HasShapeOf};
+
+use super::{EngineTest, matrix, on_every_engine};
+use p3_dft::{
+    BabyBear, BlockConsumer, BlocksStopped, CanonicalField, Evaluations, Field, Layout, Recorder,
+    RowMajorMatrix, RowMajorMatrixView, TwoAdicSubgroupDft, fits_lde,
+};
+use std::alloc::Global;
+use std::cell::Cell;
+use std::process::Abort;
+use std::test::Fail;
+
+// The entries in opposite order.
+fn turned_around<F: Field>(mat: RowMajorMatrix<F>) -> RowMajorMatrix<F>
+    ensures { HasShapeOf result mat }
+{
+    let width = mat.width();
+    let mut entries = mat.into_values();
+    entries.reverse();
+    RowMajorMatrix::new(entries, width)
+}
+
+// The entry with number 1, and zeros in place of the others.
+fn entry_1_alone<F: Field>(mat: RowMajorMatrix<F>) -> RowMajorMatrix<F>
+    ensures { HasShapeOf result mat }
+{
+    let width = mat.width();
+    let mut entries = mat.into_values();
+    for i in 0..entries.len() {
+        if i != 1 {
+            entries[i] = F::ZERO;
+        }
+    }
+    RowMajorMatrix::new(entries, width)
+}
+
+// The two coefficients of a column change places.
+fn swapped_coefficients<F: CanonicalField, D: TwoAdicSubgroupDft<F>>(
+    rt: &impl Abort,
+    alloc: Global,
+    engine: &mut D,
+) -> Result<(), Fail> {
+    let mat: RowMajorMatrix<F> = matrix(alloc, &[9, 1], 1)?;
+    assert!(rt; fits_lde::<F>(mat.height(), mat.width(), 1));
+    let values = engine.coset_lde_batch_with_transform(
+        mat,
+        1,
+        F::ONE,
+        |coefficients: RowMajorMatrix<F>, _layout: Layout| -> RowMajorMatrix<F>
+            ensures { HasShapeOf result coefficients }
+        { turned_around(coefficients) },
+    )?;
+    let want = matrix(alloc, &[9, 588958885, 2013265920, 1424307044], 1)?;
+    assert!(rt; values.to_row_major_matrix() == want);
+    Ok(())
+}
+
+// Of 1 + 2 x + 3 x^2 + 4 x^3 the coefficient in row 1 stays: 2 x, or 3 x^2 where the rows are in bit reversed
+// order.
+fn one_coefficient<F: CanonicalField, D: TwoAdicSubgroupDft<F>>(
+    rt: &impl Abort,
+    alloc: Global,
+    engine: &mut D,
+) -> Result<(), Fail> {
+    let mat: RowMajorMatrix<F> = matrix(alloc, &[10, 569722814, 2013265919, 1443543103], 1)?;
+    assert!(rt; fits_lde::<F>(mat.height(), mat.width(), 0));
+    let values = engine.coset_lde_batch_with_transform(
+        mat,
+        0,
+        F::ONE,
+        |coefficients: RowMajorMatrix<F>, _layout: Layout| -> RowMajorMatrix<F>
+            ensures { HasShapeOf result coefficients }
+        { entry_1_alone(coefficients) },
+    )?;
+    let want = match D::LAYOUT {
+        Layout::Natural => [2, 1443543105, 2013265919, 569722816],
+        Layout::BitReversed => [3, 2013265918, 3, 2013265918],
+    };
+    assert!(rt; values.to_row_major_matrix() == matrix(alloc, &want, 1)?);
+    Ok(())
+}
+
+struct MovedCoefficients;
+
+impl<F: CanonicalField> EngineTest<F> for MovedCoefficients {
+    fn run<R: Abort, D: TwoAdicSubgroupDft<F>>(
+        &self,
+        rt: &R,
+        alloc: Global,
+        engine: &mut D,
+    ) -> Result<(), Fail> {
+        swapped_coefficients(rt, alloc, engine)?;
+        one_coefficient(rt, alloc, engine)
+    }
+}
+
+#[test]
+fn moved_coefficients(rt: HostRuntime) -> Result<(), Fail> {
+    on_every_engine::<BabyBear, _, _>(&rt, rt.alloc(), &MovedCoefficients)
+}
+
+// The blocks of an extension of one row by two bits: how many there are, and of how many rows.
+fn blocks_of_one_row<F: CanonicalField, D: TwoAdicSubgroupDft<F>>(
+    rt: &impl Abort,
+    alloc: Global,
+    engine: &mut D,
+) -> Result<(usize, usize), Fail> {
+    let mat: RowMajorMatrix<F> = matrix(alloc, &[42, 7], 2)?;
+    let recorder = Recorder::with_room(alloc, 4, 8)?;
+    assert!(rt; fits_lde::<F>(mat.height(), mat.width(), 2));
+    let answer = engine.coset_lde_batch_with_blocks(
+        mat,
+        2,
+        F::from_u8(31),
+        |coefficients: RowMajorMatrix<F>, _layout: Layout| -> RowMajorMatrix<F>
+            ensures { HasShapeOf result coefficients }
+        { coefficients },
+        |_rows: usize| -> Recorder<F> { recorder },
+    );
+    let Ok((_out, recorder)) = answer else {
+        return Err(Fail::from("not all blocks were taken"));
+    };
+    let blocks = recorder.blocks();
+    assert!(rt; blocks > 0 && !recorder.missed());
+    Ok((blocks, recorder.rows(0).height()))
+}
+
+// Counts the engines whose blocks are single rows; the others have one block.
+#[derive(Drop)]
+struct SingleRows {
+    engines: Cell<usize>,
+}
+
+impl<F: CanonicalField> EngineTest<F> for SingleRows {
+    fn run<R: Abort, D: TwoAdicSubgroupDft<F>>(
+        &self,
+        rt: &R,
+        alloc: Global,
+        engine: &mut D,
+    ) -> Result<(), Fail> {
+        let found = blocks_of_one_row(rt, alloc, engine)?;
+        if found == (4, 1) {
+            self.engines.set(self.engines.get().saturating_add(1));
+        } else {
+            assert!(rt; found == (1, 4));
+        }
+        Ok(())
+    }
+}
+
+#[test]
+fn single_rows(rt: HostRuntime) -> Result<(), Fail> {
+    let test = SingleRows {
+        engines: Cell::new(0),
+    };
+    on_every_engine::<BabyBear, _, _>(&rt, rt.alloc(), &test)?;
+    assert_eq!(rt; test.engines.get(), 1);
+    Ok(())
+}
+
+// Counts blocks in what is lent to it.
+#[derive(Drop)]
+struct Counted<'a> {
+    blocks: &'a Cell<usize>,
+}
+
+impl<'a, F> BlockConsumer<F> for Counted<'a> {
+    ghost use Rattle.std.specs.Prelude.{◌≡◌, Ok};
+
+    type Refusal = ();
+
+    ghost step = { λ c start block answer e. answer ≡ Ok tt };
+
+    fn consume(&mut self, start: usize, block: RowMajorMatrixView<'_, F>) -> Result<(), ()>
+        ensures { ⟦<Counted<'a> as BlockConsumer<F>>⟧.step self.old start block.entry result self.new }
+    {
+        let _ = start;
+        let _ = block;
+        self.blocks.set(self.blocks.get().saturating_add(1));
+        Ok(())
+    }
+}
+
+// The physical rows of an extension of a column by one bit whose blocks are counted, or none where memory
+// was refused.
+fn counted_extension<F: CanonicalField, D: TwoAdicSubgroupDft<F>>(
+    rt: &impl Abort,
+    engine: &mut D,
+    mat: RowMajorMatrix<F>,
+    blocks: &Cell<usize>,
+) -> Result<Option<RowMajorMatrix<F>>, Fail> {
+    assert!(rt; fits_lde::<F>(mat.height(), mat.width(), 1));
+    let answer = engine.coset_lde_batch_with_blocks(
+        mat,
+        1,
+        F::ONE,
+        |coefficients: RowMajorMatrix<F>, _layout: Layout| -> RowMajorMatrix<F>
+            ensures { HasShapeOf result coefficients }
+        { coefficients },
+        |_rows: usize| -> Counted<'_> { Counted { blocks } },
+    );
+    match answer {
+        Ok((out, _counted)) => Ok(Some(out.bit_reverse_rows())),
+        Err(stopped) => match stopped {
+            BlocksStopped::Refused {
+                consumer: _counted,
+                refusal: _refusal,
+            } => { Err(Fail::from("a block was refused")) }
+            BlocksStopped::OutOfMemory(_unpublished) => Ok(None),
+        },
+    }
+}
+
+// Where a request for memory was refused, no block was lent, and the call with memory answers.
+struct NothingLent;
+
+impl<F: CanonicalField> EngineTest<F> for NothingLent {
+    fn run<R: Abort, D: TwoAdicSubgroupDft<F>>(
+        &self,
+        rt: &R,
+        alloc: Global,
+        engine: &mut D,
+    ) -> Result<(), Fail> {
+        let mat: RowMajorMatrix<F> = matrix(alloc, &[9, 1], 1)?;
+        let again = mat.try_clone()?;
+        let want = matrix(alloc, &[9, 1, 873820294, 1139445637], 1)?;
+        let blocks = Cell::new(0);
+        let mut out = counted_extension(rt, engine, mat, &blocks)?;
+        if out.is_none() {
+            assert_eq!(rt; blocks.get(), 0);
+            out = counted_extension(rt, engine, again, &blocks)?;
+        }
+        assert!(rt; blocks.get() > 0);
+        assert!(rt; out == Some(want));
+        Ok(())
+    }
+}
+
+#[test]
+fn refused_memory(rt: HostRuntime) -> Result<(), Fail> {
+    on_every_engine::<BabyBear, _, _>(&rt, rt.alloc(), &NothingLent)
+}
