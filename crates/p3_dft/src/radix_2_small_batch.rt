@@ -13,6 +13,7 @@ use crate::traits::{Layout, TwoAdicSubgroupDft};
 use crate::util::{extend_by_zeros, reverse_rows};
 use p3_field::{Products, TwoAdicField};
 use p3_matrix::{DftError, IntoRowMajorMatrix, RowMajorMatrix, log2_strict_usize};
+use p3_networks::radix_2_small_batch::groups::{log_tile_rows, piece_size};
 use p3_networks::radix_2_small_batch::networks::{
     dit_network, extending_network, scaled_dif_network,
 };
@@ -25,10 +26,10 @@ use std::marker::Model;
 const TILE: usize = 8192;
 
 /// Transforms by layers of butterflies, in place: those whose blocks are larger than a tile of rows on
-/// the whole matrix, and all others tile by tile, so that a tile goes through its layers while it is
-/// in the cache. At height `2^k` and width w that is at most `w * k * 2^k / 2` products, and
-/// `w * 2^k` more for an inverse, which has a network of its own. So has `coset_lde_batch`, which meets
-/// no row of zeros.
+/// the whole matrix, in groups of three that go piece by piece, and all others tile by tile, so that a
+/// piece and a tile go through their layers while they are in the cache. At height `2^k` and width w
+/// that is at most `w * k * 2^k / 2` products, and `w * 2^k` more for an inverse, which has a network of
+/// its own. So has `coset_lde_batch`, which meets no row of zeros.
 ///
 /// Two tables of twiddles are kept for the largest height so far, from its first transform on, or from
 /// `prepare`, until the engine ends; then `dft_batch`, `idft_batch` and the calls that stand on them,
@@ -329,7 +330,16 @@ fn evaluate<F: TwoAdicField>(
 {
     let width = mat.width();
     let log_rows = log_tile_rows(tile, width, log_h);
-    dit_network(twiddles, mat.values_mut(), width, log_rows, log_h, products);
+    let piece = piece_size(tile);
+    dit_network(
+        twiddles,
+        mat.values_mut(),
+        width,
+        log_rows,
+        log_h,
+        piece,
+        products,
+    );
     reverse_rows(mat);
 }
 
@@ -361,7 +371,16 @@ fn interpolate_reversed<F: TwoAdicField>(
     }
     let width = mat.width();
     let log_rows = log_tile_rows(tile, width, log_h);
-    dit_network(twiddles, mat.values_mut(), width, log_rows, log_h, products);
+    let piece = piece_size(tile);
+    dit_network(
+        twiddles,
+        mat.values_mut(),
+        width,
+        log_rows,
+        log_h,
+        piece,
+        products,
+    );
 }
 
 // From coefficients whose rows lie in bit reversed order, times `scale`, the values on the coset of
@@ -406,6 +425,7 @@ fn extend<F: TwoAdicField>(
         added_bits,
         log_rows,
         log_h + added_bits,
+        piece_size(tile),
         products,
     );
     Ok(RowMajorMatrix::new(values, width))
@@ -442,19 +462,7 @@ fn interpolate<F: TwoAdicField>(
         width,
         log_rows,
         log_h,
+        piece_size(tile),
         products,
     );
-}
-
-// The logarithm of the number of rows of a tile: the least power of two that is not below the rows that
-// fit into `tile` elements, or the height if that is less.
-fn log_tile_rows(tile: usize, width: usize, log_h: usize) -> usize
-    requires wide { 1 ≤ width }
-    requires tile { tile ≤ 4294967296 }
-    ensures within { result ≤ log_h }
-    ensures enough { result < log_h → tile / width ≤ 2 ^ result }
-    ensures least { (r : ℕ) → r < result → 2 ^ r < tile / width }
-{
-    let rows = (tile / width).next_power_of_two();
-    log_h.min(log2_strict_usize(rows))
 }

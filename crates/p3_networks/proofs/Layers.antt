@@ -1,6 +1,8 @@
 -- One layer: rows in blocks of two halves, cell by cell, and what it counts.
 pub mod Blocks
+pub mod Columns
 pub mod Counts
+pub mod Groups
 pub mod Halves
 pub mod Runs
 pub mod Sizes

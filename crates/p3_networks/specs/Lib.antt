@@ -1,4 +1,5 @@
 pub mod Cosets
+pub mod Groups
 pub mod Layers
 pub mod Polynomials
 pub mod Slots

@@ -1,3 +1,4 @@
 //! The networks that go tile by tile.
 
+pub mod groups;
 pub mod networks;

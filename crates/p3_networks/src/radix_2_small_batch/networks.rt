@@ -15,6 +15,7 @@ ghost use Rattle.p3_networks.specs.Twiddles.{AreTwiddlesFromStart, backward_root
 
 use crate::butterfly_layers::rules::{DifByBlock, DitByBlock};
 use crate::butterfly_layers::{Rule, layer};
+use crate::radix_2_small_batch::groups::{Order, layers_in_groups};
 use p3_field::{Products, TwoAdicField};
 use p3_matrix::scale_slice_in_place;
 
@@ -44,10 +45,11 @@ fn layer_of_run<F: TwoAdicField, R: Rule<F>>(
     ensures grows { products.old ≤ products.new }
     ensures count { 2 * products.new ≤ 2 * products.old + R.cost * length values.old }
 {
-    // A half of a block is one long row: its pairs have one twiddle, whatever the width.
+    // A half of a block is one column: its pairs have one twiddle, whatever the width. As a column, because
+    // blocks of one of a few entries have their size named.
     let half = (1usize << entry) * width;
     let blocks = 1usize << (top - 1 - entry);
-    layer(rule, values, half, 1, number * blocks, blocks, products);
+    layer(rule, values, 1, half, number * blocks, blocks, products);
 }
 
 // By decimation in time, the layers of the entries below `to` down to `from`, on run `number`.
@@ -201,19 +203,21 @@ fn scaled_dif_tiles<F: TwoAdicField>(
 }
 
 /// From rows in natural order to their values, in bit reversed order: the layers whose blocks are
-/// larger than a tile on the whole, then the others tile by tile. With the powers of other roots they
-/// are the values at those.
+/// larger than a tile on the whole, in groups, then the others tile by tile. With the powers of other
+/// roots they are the values at those. A piece has `piece` entries of each part of a block.
 pub fn dit_network<F: TwoAdicField>(
     twiddles: &[F],
     values: &mut [F],
     width: usize,
     log_rows: usize,
     log_h: usize,
+    piece: usize,
     products: &mut Products,
 )
     requires wide { 1 ≤ width }
     requires below { log_rows ≤ log_h }
     requires small { log_h < 64 }
+    requires piece { 1 ≤ piece }
     requires size { length values.old ≡ 2 ^ log_h * width }
     requires first { F.value (get_or twiddles.now 0 F.ZERO) ≡ F.ring.one }
     requires enough { 2 ^ log_h ≤ 2 * length twiddles.now }
@@ -223,13 +227,22 @@ pub fn dit_network<F: TwoAdicField>(
     ensures grows { products.old ≤ products.new }
     ensures cost { products.new ≤ products.old + width * (log_h * 2 ^ log_h / 2) }
 {
-    dit_layers(twiddles, values, width, log_rows, log_h, log_h, 0, products);
+    layers_in_groups(
+        DitByBlock { twiddles },
+        Order::LargestFirst,
+        values,
+        width,
+        log_rows,
+        log_h,
+        piece,
+        products,
+    );
     dit_tiles(twiddles, values, width, log_rows, log_h, products);
 }
 
 /// From rows in bit reversed order, each entry times `scale`, to their values at the powers of the
 /// inverse of the generator, in natural order: the layers whose blocks fit into a tile tile by tile,
-/// then the others on the whole.
+/// then the others on the whole, in groups.
 pub fn scaled_dif_network<F: TwoAdicField>(
     twiddles: &[F],
     scale: F,
@@ -237,12 +250,14 @@ pub fn scaled_dif_network<F: TwoAdicField>(
     width: usize,
     log_rows: usize,
     log_h: usize,
+    piece: usize,
     products: &mut Products,
 )
     requires wide { 1 ≤ width }
     requires below { log_rows ≤ log_h }
     requires some { 1 ≤ log_h }
     requires small { log_h < 64 }
+    requires piece { 1 ≤ piece }
     requires rooted { log_h ≤ F.TWO_ADICITY }
     requires size { length values.old ≡ 2 ^ log_h * width }
     requires twiddles { AreTwiddlesFromStart F.Field.own log_h
@@ -254,7 +269,16 @@ pub fn scaled_dif_network<F: TwoAdicField>(
     ensures cost { products.new ≤ products.old + width * (log_h * 2 ^ log_h / 2) + 2 ^ log_h * width }
 {
     scaled_dif_tiles(twiddles, scale, values, width, log_rows, log_h, products);
-    dif_layers(twiddles, values, width, log_rows, log_h, log_h, 0, products);
+    layers_in_groups(
+        DifByBlock { twiddles },
+        Order::SmallestFirst,
+        values,
+        width,
+        log_rows,
+        log_h,
+        piece,
+        products,
+    );
 }
 
 // Row t of `values` becomes `row` times `first` and the t-th power of `step`.
@@ -393,6 +417,7 @@ pub fn extending_network<F: TwoAdicField>(
     added_bits: usize,
     log_rows: usize,
     log_h: usize,
+    piece: usize,
     products: &mut Products,
 )
     requires wide { 1 ≤ width }
@@ -400,6 +425,7 @@ pub fn extending_network<F: TwoAdicField>(
     requires below { log_rows ≤ log_h }
     requires some { 1 ≤ log_h }
     requires small { log_h < 64 }
+    requires piece { 1 ≤ piece }
     requires rooted { log_h ≤ F.TWO_ADICITY }
     requires size { length values.old ≡ 2 ^ log_h * width }
     requires rows { length rows.now ≡ 2 ^ (log_h - added_bits) * width }
@@ -416,5 +442,14 @@ pub fn extending_network<F: TwoAdicField>(
     spread_tiles(
         twiddles, weights, rows, values, width, added_bits, log_rows, log_h, products,
     );
-    dif_layers(twiddles, values, width, log_rows, log_h, log_h, 0, products);
+    layers_in_groups(
+        DifByBlock { twiddles },
+        Order::SmallestFirst,
+        values,
+        width,
+        log_rows,
+        log_h,
+        piece,
+        products,
+    );
 }

@@ -5,17 +5,10 @@ use Rattle.p3_matrix.specs.BitOrder.{rev}
 use Rattle.p3_matrix.proofs.BitReversal.{rev-lt, rev-rev}
 use Rattle.p3_networks.specs.Layers.{HoldsCells}
 use Rattle.p3_networks.proofs.Layers.Blocks.{row_below}
-use Rattle.p3_networks.proofs.Layers.Runs.{run_whole, whole_run}
 use Rattle.p3_networks.proofs.Networks.Cells.{turned_cells, turned_cells_end, turned_cells_of_zeros, turned_layers}
 use Rattle.p3_networks.proofs.Polynomials.ByIndex.{first_behind, first_inside, first_of, poly_of_first}
 use Rattle.p3_networks.proofs.Tables.FromStart.{enough_from_start, first_is_one, spread_root}
 use Rattle.p3_networks.proofs.radix_2_small_batch.networks.extending_network.Goals as goal
-
-pub dif_layers-requires-clause-small : goal.dif_layers-requires-clause-small
-dif_layers-requires-clause-small g c =
-    let few : c.args.log_h ≤ 63 = omega (arith, c.requires.small) in
-    let most : 2 ^ c.args.log_h ≤ 2 ^ 63 = pow-le-pow_right {n = 2} (lit≤ tt) few in
-    omega (arith, most)
 
 pub spread_tiles-requires-clause-first : goal.spread_tiles-requires-clause-first
 spread_tiles-requires-clause-first g c = first_is_one g.F.Field (λ (n : ℕ). g.F.Field.value (g.F.TwoAdicField.generator n)) c.args.log_h c.args.twiddles.now c.requires.some c.requires.twiddles
@@ -23,13 +16,10 @@ spread_tiles-requires-clause-first g c = first_is_one g.F.Field (λ (n : ℕ). g
 pub spread_tiles-requires-clause-enough : goal.spread_tiles-requires-clause-enough
 spread_tiles-requires-clause-enough g c = enough_from_start g.F.Field (λ (n : ℕ). g.F.Field.value (g.F.TwoAdicField.generator n)) c.args.log_h c.args.twiddles.now c.requires.some c.requires.twiddles
 
-pub dif_layers-requires-clause-first : goal.dif_layers-requires-clause-first
-dif_layers-requires-clause-first g c = first_is_one g.F.Field (λ (n : ℕ). g.F.Field.value (g.F.TwoAdicField.generator n)) c.args.log_h c.args.twiddles.now c.requires.some c.requires.twiddles
-
-pub dif_layers-requires-clause-enough : goal.dif_layers-requires-clause-enough
-dif_layers-requires-clause-enough g c =
+pub layers_in_groups-requires-clause-there : goal.layers_in_groups-requires-clause-there
+layers_in_groups-requires-clause-there g c b inside =
     let enough = enough_from_start g.F.Field (λ (n : ℕ). g.F.Field.value (g.F.TwoAdicField.generator n)) c.args.log_h c.args.twiddles.now c.requires.some c.requires.twiddles in
-    omega (arith, enough)
+    (omega (arith, inside, enough), first_is_one g.F.Field (λ (n : ℕ). g.F.Field.value (g.F.TwoAdicField.generator n)) c.args.log_h c.args.twiddles.now c.requires.some c.requires.twiddles)
 
 pub returns-clause-values : goal.returns-clause-values
 returns-clause-values g c r j below inside =
@@ -56,9 +46,11 @@ returns-clause-values g c r j below inside =
     ∙ field.ring.mul_assoc (field.value (get_or c.args.rows.now (q * w + u) field.ZERO)) (field.value (get_or c.args.weights.now q field.ZERO)) root
     ∙ ap (λ x. field.ring.mul (field.value (get_or c.args.rows.now (q * w + u) field.ZERO)) (field.ring.mul (field.value (get_or c.args.weights.now q field.ZERO)) x))
     (sym (spread_root field gen k a c.args.twiddles.now added c.requires.some c.requires.twiddles q t among copy))) in
-    let done = run_whole field.value field.ZERO (cells k) (length c.spread_tiles.new.values) c.dif_layers.new.values
-    (c.dif_layers.ensures.cells k cells layers (omega arith) (whole_run field.value field.ZERO (cells c.args.log_rows) (length c.spread_tiles.new.values) c.spread_tiles.new.values middle)) in
-    done (r * w + j) (omega (arith, row_below r j w (2 ^ k) below inside, c.requires.size, c.dif_layers.auto.values, c.spread_tiles.auto.values))
+    let none : c.args.log_rows ≡ c.args.log_rows + 0 = omega arith in
+    let all : c.args.log_rows + (k - c.args.log_rows) ≡ k = omega (arith, c.requires.below) in
+    let done = subst (λ (e : ℕ). HoldsCells field.value field.ZERO 0 (cells e) c.layers_in_groups.new.values) all
+    (c.layers_in_groups.ensures.cells cells layers (subst (λ (e : ℕ). HoldsCells field.value field.ZERO 0 (cells e) c.spread_tiles.new.values) none middle)) in
+    done (r * w + j) (omega (arith, row_below r j w (2 ^ k) below inside, c.requires.size, c.layers_in_groups.auto.values, c.spread_tiles.auto.values))
     ∙ turned_cells_end field.ring roots k w column entry r j below inside
     ∙ poly_of_first field.ring (2 ^ m) (2 ^ k) (row j) (power field.ring (gen k) r) fewer
 
@@ -68,8 +60,8 @@ returns-clause-count g c =
     let r = c.args.log_rows in
     let k = c.args.log_h in
     let a = c.args.added_bits in
-    let second : 2 * c.dif_layers.new.products ≤ 2 * c.spread_tiles.new.products + (k - r) * len =
-    subst (λ (n : ℕ). 2 * c.dif_layers.new.products ≤ 2 * c.spread_tiles.new.products + (k - r) * n) c.spread_tiles.auto.values c.dif_layers.ensures.count in
+    let each : (k - r) * length c.spread_tiles.new.values ≡ (k - r) * len = ap (λ n. (k - r) * n) c.spread_tiles.auto.values in
+    let second : 2 * c.layers_in_groups.new.products ≤ 2 * c.spread_tiles.new.products + (k - r) * len = omega (arith, c.layers_in_groups.ensures.count, each) in
     let all : (r - a + 2) * len + (k - r) * len ≡ (k - a + 2) * len =
     let e : r - a + 2 + (k - r) ≡ k - a + 2 = omega (arith, c.requires.added, c.requires.below) in
     let d : (r - a + 2) * len + (k - r) * len ≡ (r - a + 2 + (k - r)) * len = omega arith in

@@ -20,8 +20,8 @@ overflow_mul-half g c =
 pub overflow_mul-number : goal.overflow_mul-number
 overflow_mul-number g c = let sizes = run_sizes c.args.top c.args.entry c.args.number c.requires.below c.requires.small in omega (arith, sizes.room)
 
-pub layer-requires-clause-wide : goal.layer-requires-clause-wide
-layer-requires-clause-wide g c =
+pub layer-requires-clause-some : goal.layer-requires-clause-some
+layer-requires-clause-some g c =
     let sizes = run_sizes c.args.top c.args.entry c.args.number c.requires.below c.requires.small in
     let some : 1 * 1 ≤ (1 * 2 ^ c.args.entry % 18446744073709551616) * c.args.width = mul-le-mul sizes.some c.requires.wide in
     omega (arith, some)
@@ -50,28 +50,28 @@ returns-clause-cells g c k before after layers room holds =
     let half = 1 * 2 ^ c.args.entry % 18446744073709551616 in
     let blocks = 1 * 2 ^ (c.args.top - 1 - c.args.entry) % 18446744073709551616 in
     let size = half * c.args.width in
-    let one : 1 * size ≡ size = omega arith in
+    let one : size * 1 ≡ size = omega arith in
     let near = λ (b t : ℕ). rule.near field.Element field.ring field.value c.args.rule b t in
     let far = λ (b t : ℕ). rule.far field.Element field.ring field.value c.args.rule b t in
     let cell = λ (xs : List g.row.F.Denot) (n : ℕ). field.value (get_or xs n field.ZERO) in
     let x = c.args.values.now in
     let y = c.layer.new.values in
     run_taken field.value field.ZERO near far
-    k c.args.width c.args.entry c.args.top c.args.number blocks half (λ i. i / size) before after x y c.requires.below sizes.blocks_is sizes.half_is
+    k c.args.width c.args.entry c.args.top c.args.number blocks half (λ i. i / 1) before after x y c.requires.below sizes.blocks_is sizes.half_is
     (c.requires.size ∙ run_cells c.args.top c.args.entry c.args.width c.requires.below ∙ sym (ap₂ (λ (n h : ℕ). n * (2 * (h * c.args.width))) sizes.blocks_is sizes.half_is))
     c.layer.auto.values room c.requires.near_by_block c.requires.far_by_block layers
     (λ b i p q.
-    subst (λ (n : ℕ). cell y (b * (2 * n) + i) ≡ near (c.args.number * blocks + b) (i / size) (cell x (b * (2 * n) + i)) (cell x (b * (2 * n) + (n + i)))) one
+    subst (λ (n : ℕ). cell y (b * (2 * n) + i) ≡ near (c.args.number * blocks + b) (i / 1) (cell x (b * (2 * n) + i)) (cell x (b * (2 * n) + (n + i)))) one
     (c.layer.ensures.near b i p (omega (arith, q, one))))
     (λ b i p q.
-    subst (λ (n : ℕ). cell y (b * (2 * n) + (n + i)) ≡ far (c.args.number * blocks + b) (i / size) (cell x (b * (2 * n) + i)) (cell x (b * (2 * n) + (n + i)))) one
+    subst (λ (n : ℕ). cell y (b * (2 * n) + (n + i)) ≡ far (c.args.number * blocks + b) (i / 1) (cell x (b * (2 * n) + i)) (cell x (b * (2 * n) + (n + i)))) one
     (c.layer.ensures.far b i p (omega (arith, q, one))))
     holds
 
 pub returns-clause-count : goal.returns-clause-count
 returns-clause-count g c =
     let sizes = run_sizes c.args.top c.args.entry c.args.number c.requires.below c.requires.small in
-    let whole : length c.args.values.now ≡ 2 * ((1 * 2 ^ (c.args.top - 1 - c.args.entry) % 18446744073709551616) * (1 * ((1 * 2 ^ c.args.entry % 18446744073709551616) * c.args.width))) =
+    let whole : length c.args.values.now ≡ 2 * ((1 * 2 ^ (c.args.top - 1 - c.args.entry) % 18446744073709551616) * ((1 * 2 ^ c.args.entry % 18446744073709551616) * c.args.width * 1)) =
     c.requires.size ∙ run_cells c.args.top c.args.entry c.args.width c.requires.below ∙ sym (ap₂ (λ (n h : ℕ). n * (2 * (h * c.args.width))) sizes.blocks_is sizes.half_is) ∙ omega arith in
     let pairs = ap (λ (n : ℕ). g.R.Rule.cost * n) whole in
     omega (arith, c.layer.ensures.count, pairs)

@@ -1,5 +1,4 @@
-use Rattle.std.proofs.Common.{◌≡◌, ℕ, ◌+◌, ◌-◌, ◌*◌, ◌^◌, ◌≤◌, length, get_or, ap, ◌∙◌, subst, arith, lit≤}
-use Rattle.std.proofs.Math.Nat.{pow-le-pow_right}
+use Rattle.std.proofs.Common.{◌≡◌, ℕ, ◌+◌, ◌-◌, ◌*◌, ◌^◌, ◌≤◌, length, get_or, ap, ◌∙◌, subst, arith}
 use Rattle.std.proofs.lemmas.Nat.{pow_pos}
 use Rattle.p3_field.specs.Ring.{power}
 use Rattle.p3_field.proofs.Powers.{power-zero}
@@ -9,15 +8,8 @@ use Rattle.p3_matrix.proofs.BitReversal.{rev_of_zero, rev-rev}
 use Rattle.p3_networks.specs.Layers.{HoldsCells}
 use Rattle.p3_networks.proofs.Layers.Blocks.{row_below}
 use Rattle.p3_networks.proofs.Layers.Counts.{counted_twice, layers_joined, two_halves}
-use Rattle.p3_networks.proofs.Layers.Runs.{run_whole, whole_run}
 use Rattle.p3_networks.proofs.Networks.Cells.{turned_cells, turned_cells_end, turned_cells_start, turned_layers}
 use Rattle.p3_networks.proofs.radix_2_small_batch.networks.scaled_dif_network.Goals as goal
-
-pub dif_layers-requires-clause-small : goal.dif_layers-requires-clause-small
-dif_layers-requires-clause-small g c =
-    let few : c.args.log_h ≤ 63 = omega (arith, c.requires.small) in
-    let most : 2 ^ c.args.log_h ≤ 2 ^ 63 = pow-le-pow_right {n = 2} (lit≤ tt) few in
-    omega (arith, most)
 
 pub scaled_dif_tiles-requires-clause-first : goal.scaled_dif_tiles-requires-clause-first
 scaled_dif_tiles-requires-clause-first g c =
@@ -32,18 +24,14 @@ scaled_dif_tiles-requires-clause-enough g c =
     let d = two_halves k (λ e. absurd (omega (arith, e, c.requires.some))) in
     omega (arith, size, d)
 
-pub dif_layers-requires-clause-first : goal.dif_layers-requires-clause-first
-dif_layers-requires-clause-first g c =
+pub layers_in_groups-requires-clause-there : goal.layers_in_groups-requires-clause-there
+layers_in_groups-requires-clause-there g c b inside =
     let field = g.F.Field in
-    let root = inverse_root field.ring (λ (n : ℕ). field.value (g.F.TwoAdicField.generator n)) 1 in
-    c.requires.twiddles.entries 0 0 (omega (arith, c.requires.some)) (pow_pos 0) ∙ ap (power field.ring root) (rev_of_zero 0) ∙ power-zero field.ring root
-
-pub dif_layers-requires-clause-enough : goal.dif_layers-requires-clause-enough
-dif_layers-requires-clause-enough g c =
     let k = c.args.log_h in
+    let root = inverse_root field.ring (λ (n : ℕ). field.value (g.F.TwoAdicField.generator n)) 1 in
     let size = c.requires.twiddles.size (k - 1) (omega (arith, c.requires.some)) in
     let d = two_halves k (λ e. absurd (omega (arith, e, c.requires.some))) in
-    omega (arith, size, d)
+    (omega (arith, inside, size, d), c.requires.twiddles.entries 0 0 (omega (arith, c.requires.some)) (pow_pos 0) ∙ ap (power field.ring root) (rev_of_zero 0) ∙ power-zero field.ring root)
 
 pub returns-clause-values : goal.returns-clause-values
 returns-clause-values g c r j below inside =
@@ -61,9 +49,11 @@ returns-clause-values g c r j below inside =
     turned_cells_start field.ring roots k w column entry c.requires.wide (λ n. scaled (get_or c.args.values.now n field.ZERO))
     (λ q u small. ap (λ n. scaled (get_or c.args.values.now (n * w + u) field.ZERO)) (rev-rev k q small)) i (omega (arith, p, c.requires.size)) in
     let middle : HoldsCells field.value field.ZERO 0 (cells c.args.log_rows) c.scaled_dif_tiles.new.values = c.scaled_dif_tiles.ensures.cells cells layers start in
-    let done = run_whole field.value field.ZERO (cells k) (length c.scaled_dif_tiles.new.values) c.dif_layers.new.values
-    (c.dif_layers.ensures.cells k cells layers (omega arith) (whole_run field.value field.ZERO (cells c.args.log_rows) (length c.scaled_dif_tiles.new.values) c.scaled_dif_tiles.new.values middle)) in
-    done (r * w + j) (omega (arith, row_below r j w (2 ^ k) below inside, c.requires.size, c.dif_layers.auto.values, c.scaled_dif_tiles.auto.values))
+    let none : c.args.log_rows ≡ c.args.log_rows + 0 = omega arith in
+    let all : c.args.log_rows + (k - c.args.log_rows) ≡ k = omega (arith, c.requires.below) in
+    let done = subst (λ (e : ℕ). HoldsCells field.value field.ZERO 0 (cells e) c.layers_in_groups.new.values) all
+    (c.layers_in_groups.ensures.cells cells layers (subst (λ (e : ℕ). HoldsCells field.value field.ZERO 0 (cells e) c.scaled_dif_tiles.new.values) none middle)) in
+    done (r * w + j) (omega (arith, row_below r j w (2 ^ k) below inside, c.requires.size, c.layers_in_groups.auto.values, c.scaled_dif_tiles.auto.values))
     ∙ turned_cells_end field.ring roots k w column entry r j below inside
 
 pub returns-clause-cost : goal.returns-clause-cost
@@ -74,8 +64,8 @@ returns-clause-cost g c =
     let back : c.args.log_h - (c.args.log_h - r) ≡ r = omega (arith, c.requires.below) in
     let spread : (r + 2) * len ≡ r * len + 2 * len = omega arith in
     omega (arith, c.scaled_dif_tiles.ensures.count, spread, ap (λ n. n * len) back) in
-    let second : 2 * c.dif_layers.new.products ≤ 2 * c.scaled_dif_tiles.new.products + (c.args.log_h - r) * len =
-    subst (λ (n : ℕ). 2 * c.dif_layers.new.products ≤ 2 * c.scaled_dif_tiles.new.products + (c.args.log_h - r) * n) c.scaled_dif_tiles.auto.values c.dif_layers.ensures.count in
-    let all = counted_twice c.args.log_h c.args.width len (c.args.products.now + len) c.dif_layers.new.products c.requires.size
-    (layers_joined (c.args.log_h - r) c.args.log_h len (c.args.products.now + len) c.scaled_dif_tiles.new.products c.dif_layers.new.products (omega arith) first second) in
+    let each : (c.args.log_h - r) * length c.scaled_dif_tiles.new.values ≡ (c.args.log_h - r) * len = ap (λ n. (c.args.log_h - r) * n) c.scaled_dif_tiles.auto.values in
+    let second : 2 * c.layers_in_groups.new.products ≤ 2 * c.scaled_dif_tiles.new.products + (c.args.log_h - r) * len = omega (arith, c.layers_in_groups.ensures.count, each) in
+    let all = counted_twice c.args.log_h c.args.width len (c.args.products.now + len) c.layers_in_groups.new.products c.requires.size
+    (layers_joined (c.args.log_h - r) c.args.log_h len (c.args.products.now + len) c.scaled_dif_tiles.new.products c.layers_in_groups.new.products (omega arith) first second) in
     omega (arith, all, c.requires.size)

@@ -1,7 +1,7 @@
 use Rattle.std.proofs.Common.{◌≡◌, suc, ◌*◌, ◌^◌, ◌≤◌, arith, lit≤}
 use Rattle.std.proofs.Math.Nat.{pow-le-pow_right}
 use Rattle.std.proofs.lemmas.Nat.{pow_pos}
-use Rattle.p3_dft.proofs.radix_2_small_batch.log_tile_rows.Goals as goal
+use Rattle.p3_networks.proofs.radix_2_small_batch.groups.log_tile_rows.Goals as goal
 
 pub returns-clause-least : goal.returns-clause-least
 returns-clause-least c r below =

@@ -1,0 +1,87 @@
+use Rattle.std.proofs.Common.{◌≡◌, ℕ, ◌+◌, ◌-◌, ◌*◌, ◌/◌, ◌%◌, ◌^◌, ◌<◌, ◌≤◌, length, take, drop, sym, ap, ◌∙◌, subst, arith, lit≤}
+use Rattle.std.proofs.lemmas.Nat.{pow_pos}
+use Rattle.std.proofs.Math.Nat.{pow-le-pow_right, mul-le-mul}
+use Rattle.p3_networks.specs.Groups.{cells_of}
+use Rattle.p3_networks.specs.Layers.{HoldsCells}
+use Rattle.p3_networks.proofs.Layers.Groups.{layers_more}
+use Rattle.p3_networks.proofs.Layers.Halves.{part_length}
+use Rattle.p3_networks.proofs.Layers.Tiles.{tile_held, tile_room, tile_rows, tile_sizes, tiles-more, tiles_all}
+use Rattle.p3_networks.proofs.radix_2_small_batch.groups.group_on_runs.Goals as goal
+
+pub group_on_run-requires-clause-small : goal.group_on_run-requires-clause-small
+group_on_run-requires-clause-small g c =
+    let sizes = tile_sizes c.args.log_h c.args.to c.args.width (length c.args.values.now) c.requires.small c.requires.below c.requires.size in
+    let rows = tile_rows _ _ _ _ _ _ c.loop-run.run sizes c.loop-run-test.true in
+    let few : c.args.log_h ≤ 63 = omega (arith, c.requires.small) in
+    let most : 2 ^ c.args.log_h ≤ 2 ^ 63 = pow-le-pow_right {n = 2} (lit≤ tt) few in
+    omega (arith, rows, most)
+
+pub group_on_run-requires-clause-size : goal.group_on_run-requires-clause-size
+group_on_run-requires-clause-size g c =
+    let sizes = tile_sizes c.args.log_h c.args.to c.args.width (length c.args.values.now) c.requires.small c.requires.below c.requires.size in
+    let room = tile_room _ _ _ _ _ _ c.loop-run.run sizes c.loop-run-test.true in
+    part_length c.loop-run.values _ _ (omega (arith, room, c.loop-run.auto.values)) ∙ sizes.size_is
+
+pub group_on_run-requires-clause-there : goal.group_on_run-requires-clause-there
+group_on_run-requires-clause-there g c b inside =
+    let sizes = tile_sizes c.args.log_h c.args.to c.args.width (length c.args.values.now) c.requires.small c.requires.below c.requires.size in
+    let rows = tile_rows _ _ _ _ _ _ c.loop-run.run sizes c.loop-run-test.true in
+    c.requires.there b (omega (arith, rows, inside))
+
+pub loop-run-preserved : goal.loop-run-preserved
+loop-run-preserved g c =
+    let field = g.F.Field in
+    let cost = g.R.Rule.cost in
+    let len = length c.args.values.now in
+    let from = c.args.from in
+    let to = c.args.to in
+    let order = c.args.order in
+    let run = c.loop-run.run in
+    let now = c.loop-run.values in
+    let sizes = tile_sizes c.args.log_h to c.args.width len c.requires.small c.requires.below c.requires.size in
+    let size = len / (1 * 2 ^ (c.args.log_h - to) % 18446744073709551616) in
+    let m = run * size + size - run * size in
+    let is : m ≡ size = omega arith in
+    let room : run * size + size ≤ length now = let all = tile_room _ _ _ _ _ _ run sizes c.loop-run-test.true in omega (arith, all, c.loop-run.auto.values) in
+    let part = take m (drop (run * size) now) in
+    let part_len : length part ≡ size = part_length now (run * size) size room in
+    let cost_is : 2 * c.group_on_run.new.products ≤ 2 * c.loop-run.products + cost * (1 * ((to - from) * size)) =
+    let all : cost * ((to - from) * length part) ≡ cost * (1 * ((to - from) * size)) = ap (λ n. cost * ((to - from) * n)) part_len ∙ omega arith in
+    omega (arith, c.group_on_run.ensures.count, all) in
+    record {
+      cells = λ cells layers holds.
+          let before = cells (cells_of order from to 0) in
+          let after = cells (cells_of order from to (to - from)) in
+          let so_far = c.loop-run.invariant.cells cells layers holds in
+          tiles-more field.value field.ZERO size after c.args.values.now now c.group_on_run.new.values run m is room (c.group_on_run.auto.values ∙ part_len)
+          (subst (λ (n : ℕ). HoldsCells field.value field.ZERO (run * n) after c.group_on_run.new.values) part_len
+          (c.group_on_run.ensures.cells c.args.log_h cells layers (tile_rows _ _ _ _ _ _ run sizes c.loop-run-test.true)
+          (λ i inside.
+          tile_held field.value field.ZERO size field.value before after c.args.values.now now run m is room holds so_far i (omega (arith, inside, part_len, is))
+          ∙ ap before (ap (λ n. run * n + i) (is ∙ sym part_len)))))
+          so_far;
+      grows = omega (arith, c.loop-run.invariant.grows, c.group_on_run.ensures.grows);
+      count = layers_more cost run 1 (run + 1) ((to - from) * size) c.args.products.now c.loop-run.products c.group_on_run.new.products (omega arith) c.loop-run.invariant.count cost_is;
+    }
+
+pub returns-clause-cells : goal.returns-clause-cells
+returns-clause-cells g c cells layers holds =
+    let field = g.F.Field in
+    let sizes = tile_sizes c.args.log_h c.args.to c.args.width (length c.args.values.now) c.requires.small c.requires.below c.requires.size in
+    let runs = 1 * 2 ^ (c.args.log_h - c.args.to) % 18446744073709551616 in
+    let size = length c.args.values.now / runs in
+    let end : c.loop-run.run ≡ runs = omega arith in
+    let some : 0 < size = let rows : 1 * 1 ≤ 2 ^ c.args.to * c.args.width = mul-le-mul (pow_pos c.args.to) c.requires.wide in omega (arith, rows, sizes.size_is) in
+    tiles_all field.value field.ZERO size (cells (cells_of c.args.order c.args.from c.args.to (c.args.to - c.args.from))) c.args.values.now c.loop-run.values c.loop-run.run some
+    (sizes.whole ∙ ap (λ n. n * size) (sym end)) (c.loop-run.invariant.cells cells layers holds)
+
+pub returns-clause-count : goal.returns-clause-count
+returns-clause-count g c =
+    let layers = c.args.to - c.args.from in
+    let sizes = tile_sizes c.args.log_h c.args.to c.args.width (length c.args.values.now) c.requires.small c.requires.below c.requires.size in
+    let runs = 1 * 2 ^ (c.args.log_h - c.args.to) % 18446744073709551616 in
+    let size = length c.args.values.now / runs in
+    let end : c.loop-run.run ≡ runs = omega arith in
+    let all : c.loop-run.run * (layers * size) ≡ layers * length c.args.values.now =
+    ap (λ n. n * (layers * size)) end ∙ (let swap : runs * (layers * size) ≡ layers * (runs * size) = omega arith in swap) ∙ ap (λ n. layers * n) (sym sizes.whole) in
+    subst (λ (n : ℕ). 2 * c.loop-run.products ≤ 2 * c.args.products.now + g.R.Rule.cost * n) all c.loop-run.invariant.count

@@ -1,0 +1,43 @@
+-- Layers in groups, each on one piece of the cells after another.
+use Rattle.std.specs.Prelude.{◌≡◌, ◌⊎◌, ℕ, ◌+◌, ◌-◌, ◌*◌, ◌<◌, ◌≤◌, List, get_or}
+use Rattle.p3_networks.specs.Layers.{AreLayers}
+use Rattle.p3_networks.specs.declared.radix_2_small_batch.groups.Order.{Order}
+use Rattle.p3_networks.specs.declared.radix_2_small_batch.groups.Order.TheVariants.{LargestFirst, SmallestFirst}
+
+-- groups of three of the layers from r up to k, counted from the largest blocks: group g ends at k - 3 * g, and at r where less than that is left
+abbrev pub group_end : ℕ → ℕ → ℕ → ℕ
+group_end r k g = r + (k - r - 3 * g)
+
+-- the group that comes when so many of a number of groups are done
+abbrev pub group_of : Order → ℕ → ℕ → ℕ
+group_of LargestFirst count done = done
+group_of SmallestFirst count done = count - 1 - done
+
+-- the entry whose layer comes when so many of those from `from` up to `to` are done
+abbrev pub entry_of : Order → ℕ → ℕ → ℕ → ℕ
+entry_of LargestFirst from to done = to - 1 - done
+entry_of SmallestFirst from to done = from + done
+
+-- cells e stand below entry e where the smallest blocks come first, and else behind it: which ones stand when so many layers are done
+abbrev pub cells_of : Order → ℕ → ℕ → ℕ → ℕ
+cells_of LargestFirst from to done = to - done
+cells_of SmallestFirst from to done = from + done
+
+-- layer e of k takes cells e to cells e + 1, or back
+abbrev pub AreLayersInOrder : {A : Type 0} → Order → ℕ → ℕ → (ℕ → A → A → A) → (ℕ → A → A → A) → (ℕ → ℕ → A) → Type 0
+AreLayersInOrder LargestFirst k w near far cells = AreLayers k w near far (λ e. cells (e + 1)) cells
+AreLayersInOrder SmallestFirst k w near far cells = AreLayers k w near far cells (λ e. cells (e + 1))
+
+-- one layer, in blocks of two halves of so many cells
+pub record IsLayer {A : Type 0} (blocks half : ℕ) (near far : ℕ → A → A → A) (before after : ℕ → A) : Type 0 where
+  pub near_cell : (b i : ℕ) → b < blocks → i < half → after (b * (2 * half) + i) ≡ near b (before (b * (2 * half) + i)) (before (b * (2 * half) + (half + i)))
+  pub far_cell : (b i : ℕ) → b < blocks → i < half → after (b * (2 * half) + (half + i)) ≡ far b (before (b * (2 * half) + i)) (before (b * (2 * half) + (half + i)))
+
+-- rows of `part` cells, of which the list's first cell is number `first`, hold those of the columns from `at` up to `end`
+abbrev pub HoldsColumns : {T A : Type 0} → (T → A) → T → ℕ → ℕ → ℕ → ℕ → ℕ → (ℕ → A) → List T → Type 0
+HoldsColumns value d part rows first at end cells xs = (r j : ℕ) → r < rows → j < part → at ≤ j → j < end → value (get_or xs (r * part + j) d) ≡ cells (first + (r * part + j))
+
+-- they hold other cells there, and the other columns stay
+pub record TakesColumns {T A : Type 0} (value : T → A) (d : T) (part rows first at end : ℕ) (to : ℕ → A) (before after : List T) : Type 0 where
+  pub taken : HoldsColumns value d part rows first at end to after
+  pub kept : (r j : ℕ) → r < rows → j < part → (j < at) ⊎ (end ≤ j) → get_or after (r * part + j) d ≡ get_or before (r * part + j) d
