@@ -13,6 +13,7 @@ mod callers;
 mod engines;
 mod extensions;
 mod fitting;
+mod groups;
 mod jobs;
 mod laws;
 mod naive;
