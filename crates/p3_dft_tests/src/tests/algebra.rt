@@ -14,8 +14,9 @@ use super::{
     idft, lde, matrix_of, on_every_engine, sample,
 };
 use p3_dft::{
-    BabyBear, BasedVectorSpace, CanonicalField, Coordinates, DftError, Field, Radix2Dit,
-    RowMajorMatrix, TwoAdicField, TwoAdicSubgroupDft, fits_dft, fits_lde,
+    BabyBear, BasedVectorSpace, CanonicalField, Coordinates, DftError, Field, Radix2DFTSmallBatch,
+    Radix2Dit, Radix2DitParallel, RowMajorMatrix, TwoAdicField, TwoAdicSubgroupDft, fits_dft,
+    fits_lde,
 };
 use std::alloc::Global;
 use std::process::Abort;
@@ -487,28 +488,58 @@ fn each_coordinate_alone(rt: HostRuntime) -> Result<(), Fail> {
     on_every_engine::<BabyBear, _, _>(&rt, rt.alloc(), &EachAlone { width: 3 })
 }
 
-// A form answers the values, or that memory was refused.
-fn answers_or_stops<F: CanonicalField, D: TwoAdicSubgroupDft<F>>(
+// Every form, at height two.
+fn every_form<F: TwoAdicField, D: TwoAdicSubgroupDft<F>>(
     rt: &impl Abort,
     alloc: Global,
     engine: &mut D,
 ) -> Result<(), Fail> {
-    let column: Vec<Pair<F>> = pairs(alloc, &[5, 1, 4, 0])?;
-    let values = pairs(alloc, &[9, 1, 1, 1])?;
-    assert!(rt; fits_dft::<F>(column.len(), 2));
-    match engine.dft_algebra(column) {
-        Ok(out) => assert!(rt; out == values),
-        Err(error) => assert!(rt; error == DftError::OutOfMemory),
-    }
-    Ok(())
+    let (height, width) = (2, 3);
+    DimensionOne { height, width }.run(rt, alloc, engine)?;
+    ExtendedInDimensionOne { height, width }.run(rt, alloc, engine)?;
+    ColumnInDimensionOne { height }.run(rt, alloc, engine)
 }
 
-// Where memory is refused, the height stays prepared.
+// Whether all of them answer or memory is refused to one, the height stays prepared.
+
+fn dit_stays_prepared<F: TwoAdicField>(rt: &impl Abort, alloc: Global) -> Result<(), Fail> {
+    assert!(rt; F::TWO_ADICITY >= 1);
+    let mut engine: Radix2Dit<F> = Radix2Dit::default();
+    engine.prepare(alloc, 1)?;
+    let done = every_form(rt, alloc, &mut engine);
+    assert!(rt; engine.is_prepared(1));
+    done
+}
+
+fn halves_stay_prepared<F: TwoAdicField>(rt: &impl Abort, alloc: Global) -> Result<(), Fail> {
+    assert!(rt; F::TWO_ADICITY >= 1);
+    let mut engine: Radix2DitParallel<F> = Radix2DitParallel::default();
+    engine.prepare(alloc, 1)?;
+    let done = every_form(rt, alloc, &mut engine);
+    assert!(rt; engine.is_prepared(1));
+    done
+}
+
+fn tiles_stay_prepared<F: TwoAdicField>(rt: &impl Abort, alloc: Global) -> Result<(), Fail> {
+    assert!(rt; F::TWO_ADICITY >= 1);
+    let mut engine: Radix2DFTSmallBatch<F> = Radix2DFTSmallBatch::default();
+    engine.prepare(alloc, 1)?;
+    let done = every_form(rt, alloc, &mut engine);
+    assert!(rt; engine.is_prepared(1));
+    done
+}
+
 #[test]
 fn stays_prepared(rt: HostRuntime) -> Result<(), Fail> {
-    let mut engine = Radix2Dit::<BabyBear>::default();
-    engine.prepare(rt.alloc(), 1)?;
-    answers_or_stops(&rt, rt.alloc(), &mut engine)?;
-    assert!(rt; engine.is_prepared(1));
-    Ok(())
+    dit_stays_prepared::<BabyBear>(&rt, rt.alloc())
+}
+
+#[test]
+fn stays_prepared_by_halves(rt: HostRuntime) -> Result<(), Fail> {
+    halves_stay_prepared::<BabyBear>(&rt, rt.alloc())
+}
+
+#[test]
+fn stays_prepared_by_tiles(rt: HostRuntime) -> Result<(), Fail> {
+    tiles_stay_prepared::<BabyBear>(&rt, rt.alloc())
 }
