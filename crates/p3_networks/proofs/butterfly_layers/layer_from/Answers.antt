@@ -1,7 +1,32 @@
-use Rattle.std.proofs.Common.{◌+◌, ◌*◌, ◌≤◌, length, refl, ◌∙◌, arith}
+use Rattle.std.proofs.Common.{◌+◌, ◌*◌, ◌≤◌, length, refl, ◌∙◌, arith, rules}
+use borrow.Author.Rules.{scaled_fits≤}
 use Rattle.p3_networks.proofs.Layers.Counts.{count_more}
 use Rattle.p3_networks.proofs.Layers.Halves.{block_room, part_length, blocks-from}
 use Rattle.p3_networks.proofs.butterfly_layers.layer_from.Goals as goal
+
+pub overflow_mul-whole : goal.overflow_mul-whole
+overflow_mul-whole g c = omega (arith, block_room 0 c.args.blocks (2 * c.args.size) (length c.args.values.now) c.requires.blocks c.requires.size)
+
+pub overflow_mul-start : goal.overflow_mul-start
+overflow_mul-start g c = omega (arith, block_room c.loop-b.b c.args.blocks (2 * c.args.size) (length c.args.values.now) c.loop-b-test.true c.requires.size)
+
+pub overflow_add-start : goal.overflow_add-start
+overflow_add-start g c = omega (arith, block_room c.loop-b.b c.args.blocks (2 * c.args.size) (length c.args.values.now) c.loop-b-test.true c.requires.size)
+
+pub offset_bounds-source-start : goal.offset_bounds-source-start
+offset_bounds-source-start g c =
+    let room = block_room c.loop-b.b c.args.blocks (2 * c.args.size) (length c.args.source.now) c.loop-b-test.true c.requires.source in
+    let below : c.loop-b.b * (2 * c.args.size) ≤ length c.args.source.now = omega (arith, room) in
+    search (rules, scaled_fits≤)
+
+pub overflow_add-start-in-loop-b : goal.overflow_add-start-in-loop-b
+overflow_add-start-in-loop-b g c = omega (arith, block_room c.loop-b.b c.args.blocks (2 * c.args.size) (length c.args.values.now) c.loop-b-test.true c.requires.size)
+
+pub offset_bounds-values-start : goal.offset_bounds-values-start
+offset_bounds-values-start g c =
+    let room = block_room c.loop-b.b c.args.blocks (2 * c.args.size) (length c.args.values.now) c.loop-b-test.true c.requires.size in
+    let below : c.loop-b.b * (2 * c.args.size) ≤ length c.args.values.now = omega (arith, room) in
+    search (rules, scaled_fits≤)
 
 pub meet_block_from-requires-clause-source : goal.meet_block_from-requires-clause-source
 meet_block_from-requires-clause-source g c =

@@ -1,7 +1,26 @@
-use Rattle.std.proofs.Common.{◌+◌, ◌*◌, ◌/◌, ◌≤◌, length, refl, ◌∙◌, arith}
+use Rattle.std.proofs.Common.{◌+◌, ◌*◌, ◌/◌, ◌≤◌, length, refl, ◌∙◌, arith, rules}
+use borrow.Author.Rules.{scaled_fits≤}
 use Rattle.p3_networks.proofs.Layers.Counts.{count_more}
 use Rattle.p3_networks.proofs.Layers.Halves.{block_room, part_length, blocks-more}
 use Rattle.p3_networks.proofs.butterfly_layers.meet_blocks.Goals as goal
+
+pub overflow_mul-size : goal.overflow_mul-size
+overflow_mul-size g c = omega (arith, block_room 0 c.args.blocks (2 * (c.args.half * c.args.width)) (length c.args.values.now) c.requires.blocks c.requires.size)
+
+pub overflow_mul-size-2 : goal.overflow_mul-size-2
+overflow_mul-size-2 g c = omega (arith, block_room 0 c.args.blocks (2 * (c.args.half * c.args.width)) (length c.args.values.now) c.requires.blocks c.requires.size)
+
+pub overflow_mul-start : goal.overflow_mul-start
+overflow_mul-start g c = omega (arith, block_room c.loop-b.b c.args.blocks (2 * (c.args.half * c.args.width)) (length c.args.values.now) c.loop-b-test.true c.requires.size)
+
+pub overflow_add-block : goal.overflow_add-block
+overflow_add-block g c = omega (arith, block_room c.loop-b.b c.args.blocks (2 * (c.args.half * c.args.width)) (length c.args.values.now) c.loop-b-test.true c.requires.size)
+
+pub offset_bounds-values-start : goal.offset_bounds-values-start
+offset_bounds-values-start g c =
+    let room = block_room c.loop-b.b c.args.blocks (2 * (c.args.half * c.args.width)) (length c.args.values.now) c.loop-b-test.true c.requires.size in
+    let below : c.loop-b.b * (2 * (c.args.half * c.args.width)) ≤ length c.args.values.now = omega (arith, room) in
+    search (rules, scaled_fits≤)
 
 pub meet_block-requires-clause-size : goal.meet_block-requires-clause-size
 meet_block-requires-clause-size g c =

@@ -1,4 +1,5 @@
-use Rattle.std.proofs.Common.{◌≡◌, ℕ, ◌+◌, ◌*◌, ◌-◌, ◌/◌, ◌^◌, ◌%◌, ◌≤◌, length, ap, ◌∙◌, subst, arith}
+use Rattle.std.proofs.Common.{◌≡◌, ℕ, ◌+◌, ◌*◌, ◌-◌, ◌/◌, ◌^◌, ◌%◌, ◌≤◌, length, ap, ◌∙◌, subst, arith, rules}
+use borrow.Author.Rules.{scaled_fits≤}
 use Rattle.p3_matrix.specs.BitOrder.{rev}
 use Rattle.p3_matrix.proofs.BitReversal.{rev-lt}
 use Rattle.p3_networks.specs.Cosets.{point}
@@ -7,6 +8,20 @@ use Rattle.p3_networks.proofs.Layers.Halves.{part_length}
 use Rattle.p3_networks.proofs.Rows.Runs.{run_cells, run_room, runs_are, runs-all, runs-more}
 use Rattle.p3_networks.proofs.Rows.Overwritten.{rows-none}
 use Rattle.p3_networks.proofs.radix_2_dit_parallel.halves.low_runs.Goals as goal
+
+pub overflow_mul-start : goal.overflow_mul-start
+overflow_mul-start g c =
+    omega (arith, run_room (length c.args.values.now) c.args.log_h c.args.mid c.args.width c.requires.small c.requires.parts c.requires.height c.loop-run.run c.loop-run-test.true)
+
+pub overflow_add-rows : goal.overflow_add-rows
+overflow_add-rows g c =
+    omega (arith, run_room (length c.args.values.now) c.args.log_h c.args.mid c.args.width c.requires.small c.requires.parts c.requires.height c.loop-run.run c.loop-run-test.true)
+
+pub offset_bounds-values-start : goal.offset_bounds-values-start
+offset_bounds-values-start g c =
+    let room = run_room (length c.args.values.now) c.args.log_h c.args.mid c.args.width c.requires.small c.requires.parts c.requires.height c.loop-run.run c.loop-run-test.true in
+    let below : c.loop-run.run * (length c.args.values.now / (1 * 2 ^ (c.args.log_h - c.args.mid) % 18446744073709551616)) ≤ length c.args.values.now = omega (arith, room) in
+    search (rules, scaled_fits≤)
 
 pub low_network-requires-clause-height : goal.low_network-requires-clause-height
 low_network-requires-clause-height g c =
