@@ -1,9 +1,29 @@
 use Rattle.std.proofs.Common.{◌≡◌, ℕ, ◌+◌, ◌*◌, ◌-◌, ◌<◌, ◌≤◌, length, get_or, take, drop, ap, ap₂, ◌∙◌, subst, arith, rules, add-one}
+use borrow.Author.Rules.{scaled_fits≤}
 use Rattle.std.proofs.Math.Nat.{suc-mul, mul-le-mul_right}
 use Rattle.std.proofs.lemmas.List.{places}
 use Rattle.p3_networks.proofs.Layers.Counts.{count_more}
+use Rattle.p3_networks.proofs.Layers.Halves.{block_room}
 use Rattle.p3_networks.proofs.Rows.Overwritten.{part_at, rows-more}
 use Rattle.p3_networks.proofs.butterfly_layers.meet_halves.Goals as goal
+
+pub overflow_mul-start : goal.overflow_mul-start
+overflow_mul-start g c = omega (arith, block_room c.loop-t.t c.args.half c.args.width (length c.args.low.now) c.loop-t-test.true c.requires.low)
+
+pub overflow_add-end : goal.overflow_add-end
+overflow_add-end g c = omega (arith, block_room c.loop-t.t c.args.half c.args.width (length c.args.low.now) c.loop-t-test.true c.requires.low)
+
+pub offset_bounds-low-start : goal.offset_bounds-low-start
+offset_bounds-low-start g c =
+    let room = block_room c.loop-t.t c.args.half c.args.width (length c.args.low.now) c.loop-t-test.true c.requires.low in
+    let below : c.loop-t.t * c.args.width ≤ length c.args.low.now = omega (arith, room) in
+    search (rules, scaled_fits≤)
+
+pub offset_bounds-high-start : goal.offset_bounds-high-start
+offset_bounds-high-start g c =
+    let room = block_room c.loop-t.t c.args.half c.args.width (length c.args.high.now) c.loop-t-test.true c.requires.high in
+    let below : c.loop-t.t * c.args.width ≤ length c.args.high.now = omega (arith, room) in
+    search (rules, scaled_fits≤)
 
 pub loop-t-preserved : goal.loop-t-preserved
 loop-t-preserved g c =

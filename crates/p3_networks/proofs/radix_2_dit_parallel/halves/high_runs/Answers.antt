@@ -1,4 +1,5 @@
-use Rattle.std.proofs.Common.{◌≡◌, ℕ, ◌+◌, ◌*◌, ◌-◌, ◌/◌, ◌^◌, ◌%◌, ◌<◌, ◌≤◌, length, ap, ◌∙◌, subst, arith}
+use Rattle.std.proofs.Common.{◌≡◌, ℕ, ◌+◌, ◌*◌, ◌-◌, ◌/◌, ◌^◌, ◌%◌, ◌<◌, ◌≤◌, length, ap, ◌∙◌, subst, arith, rules}
+use borrow.Author.Rules.{scaled_fits≤}
 use Rattle.std.proofs.lemmas.Nat.{one_shl, pow_pos}
 use Rattle.p3_matrix.specs.BitOrder.{rev}
 use Rattle.p3_networks.specs.Cosets.{point}
@@ -16,20 +17,41 @@ runs_are mid left small = one_shl mid 64 (omega arith)
 runs_whole : (mid left w : ℕ) → 2 ^ (mid + left) * w ≡ 2 ^ mid * (2 ^ left * w)
 runs_whole mid left w = let e : mid + left - left ≡ mid = omega arith in run_size (mid + left) left w (omega arith) ∙ ap (λ n. 2 ^ n * (2 ^ left * w)) e
 
+-- the cells of a run, as the program has them, and each run lies within all of them
+run_cells : (len mid left w : ℕ) → mid + left < 64 → len ≡ 2 ^ (mid + left) * w → len / (1 * 2 ^ mid % 18446744073709551616) ≡ 2 ^ left * w
+run_cells len mid left w small full =
+    let runs = 1 * 2 ^ mid % 18446744073709551616 in
+    let count : runs ≡ 2 ^ mid = runs_are mid left small in
+    block_size len runs (2 ^ left * w) (omega (arith, count, pow_pos mid)) (rw count (full ∙ runs_whole mid left w))
+
+run_room : (len mid left w run : ℕ) → mid + left < 64 → len ≡ 2 ^ (mid + left) * w → run < 1 * 2 ^ mid % 18446744073709551616
+    → run * (len / (1 * 2 ^ mid % 18446744073709551616)) + len / (1 * 2 ^ mid % 18446744073709551616) ≤ len
+run_room len mid left w run small full below =
+    let runs = 1 * 2 ^ mid % 18446744073709551616 in
+    let count : runs ≡ 2 ^ mid = runs_are mid left small in
+    rw (run_cells len mid left w small full) (block_room run runs (2 ^ left * w) len below (rw count (full ∙ runs_whole mid left w)))
+
+pub overflow_mul-start : goal.overflow_mul-start
+overflow_mul-start g c = omega (arith, run_room (length c.args.values.now) c.args.mid c.args.left c.args.width c.loop-run.run c.requires.small c.requires.height c.loop-run-test.true)
+
+pub overflow_add-rows : goal.overflow_add-rows
+overflow_add-rows g c = omega (arith, run_room (length c.args.values.now) c.args.mid c.args.left c.args.width c.loop-run.run c.requires.small c.requires.height c.loop-run-test.true)
+
+pub offset_bounds-values-start : goal.offset_bounds-values-start
+offset_bounds-values-start g c =
+    let room = run_room (length c.args.values.now) c.args.mid c.args.left c.args.width c.loop-run.run c.requires.small c.requires.height c.loop-run-test.true in
+    let below : c.loop-run.run * (length c.args.values.now / (1 * 2 ^ c.args.mid % 18446744073709551616)) ≤ length c.args.values.now = omega (arith, room) in
+    search (rules, scaled_fits≤)
+
 pub high_network-requires-clause-run : goal.high_network-requires-clause-run
 high_network-requires-clause-run g c = omega (arith, runs_are c.args.mid c.args.left c.requires.small, c.loop-run-test.true)
 
 pub high_network-requires-clause-height : goal.high_network-requires-clause-height
 high_network-requires-clause-height g c =
     let len = length c.args.values.now in
-    let runs = 1 * 2 ^ c.args.mid % 18446744073709551616 in
-    let whole = len / runs in
-    let size = 2 ^ c.args.left * c.args.width in
-    let count : runs ≡ 2 ^ c.args.mid = runs_are c.args.mid c.args.left c.requires.small in
-    let cells : len ≡ runs * size = rw count (c.requires.height ∙ runs_whole c.args.mid c.args.left c.args.width) in
-    let is : whole ≡ size = block_size len runs size (omega (arith, count, pow_pos c.args.mid)) cells in
-    let room : c.loop-run.run * size + size ≤ len = block_room c.loop-run.run runs size len c.loop-run-test.true cells in
-    part_length c.loop-run.values (c.loop-run.run * whole) whole (rw is (omega (arith, room, c.loop-run.auto.values))) ∙ is
+    let room = run_room (length c.args.values.now) c.args.mid c.args.left c.args.width c.loop-run.run c.requires.small c.requires.height c.loop-run-test.true in
+    part_length c.loop-run.values (c.loop-run.run * (len / (1 * 2 ^ c.args.mid % 18446744073709551616))) _ (omega (arith, room, c.loop-run.auto.values))
+    ∙ run_cells len c.args.mid c.args.left c.args.width c.requires.small c.requires.height
 
 pub loop-run-init : goal.loop-run-init
 loop-run-init g c =
@@ -48,14 +70,10 @@ loop-run-preserved g c =
     let left = c.args.left in
     let w = c.args.width in
     let len = length c.args.values.now in
-    let runs = 1 * 2 ^ mid % 18446744073709551616 in
-    let whole = len / runs in
-    let size = 2 ^ left * w in
-    let count : runs ≡ 2 ^ mid = runs_are mid left c.requires.small in
-    let cells : len ≡ runs * size = rw count (c.requires.height ∙ runs_whole mid left w) in
-    let is : whole ≡ size = block_size len runs size (omega (arith, count, pow_pos mid)) cells in
-    let room : run * size + size ≤ len = block_room run runs size len c.loop-run-test.true cells in
-    let fits : run * whole + whole ≤ length c.loop-run.values = rw is (omega (arith, room, c.loop-run.auto.values)) in
+    let whole = len / (1 * 2 ^ mid % 18446744073709551616) in
+    let is : whole ≡ 2 ^ left * w = run_cells len mid left w c.requires.small c.requires.height in
+    let room = run_room len mid left w run c.requires.small c.requires.height c.loop-run-test.true in
+    let fits : run * whole + whole ≤ length c.loop-run.values = omega (arith, room, c.loop-run.auto.values) in
     record {
       cells = λ root s roots table.
           runs-more field.ring field.value field.ZERO (2 ^ left) w (λ q. q) (λ x. field.ring.mul x (factor field c.args.scale))

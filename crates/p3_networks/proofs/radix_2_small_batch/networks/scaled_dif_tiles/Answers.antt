@@ -1,4 +1,5 @@
-use Rattle.std.proofs.Common.{◌≡◌, ℕ, ◌+◌, ◌-◌, ◌*◌, ◌/◌, ◌%◌, ◌^◌, ◌<◌, ◌≤◌, length, take, drop, sym, ap, ap₂, ◌∙◌, subst, arith, lit≤}
+use Rattle.std.proofs.Common.{◌≡◌, ℕ, ◌+◌, ◌-◌, ◌*◌, ◌/◌, ◌%◌, ◌^◌, ◌<◌, ◌≤◌, length, take, drop, sym, ap, ap₂, ◌∙◌, subst, arith, rules, lit≤}
+use borrow.Author.Rules.{scaled_fits≤}
 use Rattle.std.proofs.lemmas.Nat.{pow_pos}
 use Rattle.std.proofs.Math.Nat.{pow-le-pow_right, mul-le-mul}
 use Rattle.p3_networks.specs.Layers.{HoldsCells}
@@ -7,6 +8,25 @@ use Rattle.p3_networks.proofs.Layers.Runs.{layer_more}
 use Rattle.p3_networks.proofs.Layers.Tiles.{tile_held, tile_room, tile_rows, tile_sizes, tiles-more, tiles_all}
 use Rattle.p3_networks.proofs.Rows.Overwritten.{value_at}
 use Rattle.p3_networks.proofs.radix_2_small_batch.networks.scaled_dif_tiles.Goals as goal
+
+pub overflow_mul-start : goal.overflow_mul-start
+overflow_mul-start g c =
+    let sizes = tile_sizes c.args.log_h c.args.log_rows c.args.width (length c.args.values.now) c.requires.small c.requires.below c.requires.size in
+    let room = tile_room _ _ _ _ _ _ c.loop-tile.tile sizes c.loop-tile-test.true in
+    omega (arith, room)
+
+pub overflow_add-rows : goal.overflow_add-rows
+overflow_add-rows g c =
+    let sizes = tile_sizes c.args.log_h c.args.log_rows c.args.width (length c.args.values.now) c.requires.small c.requires.below c.requires.size in
+    let room = tile_room _ _ _ _ _ _ c.loop-tile.tile sizes c.loop-tile-test.true in
+    omega (arith, room)
+
+pub offset_bounds-values-start : goal.offset_bounds-values-start
+offset_bounds-values-start g c =
+    let sizes = tile_sizes c.args.log_h c.args.log_rows c.args.width (length c.args.values.now) c.requires.small c.requires.below c.requires.size in
+    let room = tile_room _ _ _ _ _ _ c.loop-tile.tile sizes c.loop-tile-test.true in
+    let below : c.loop-tile.tile * (length c.args.values.now / (1 * 2 ^ (c.args.log_h - c.args.log_rows) % 18446744073709551616)) ≤ length c.args.values.now = omega (arith, room) in
+    search (rules, scaled_fits≤)
 
 pub dif_layers-requires-clause-small : goal.dif_layers-requires-clause-small
 dif_layers-requires-clause-small g c =

@@ -1,4 +1,5 @@
-use Rattle.std.proofs.Common.{◌≡◌, ℕ, ◌+◌, ◌-◌, ◌*◌, ◌/◌, ◌%◌, ◌^◌, ◌<◌, ◌≤◌, length, get_or, take, drop, sym, ap, ◌∙◌, subst, arith, lit≤}
+use Rattle.std.proofs.Common.{◌≡◌, ℕ, ◌+◌, ◌-◌, ◌*◌, ◌/◌, ◌%◌, ◌^◌, ◌<◌, ◌≤◌, length, get_or, take, drop, sym, ap, ◌∙◌, subst, arith, rules, lit≤}
+use borrow.Author.Rules.{scaled_fits≤}
 use Rattle.std.proofs.lemmas.Nat.{pow_pos}
 use Rattle.std.proofs.Math.Nat.{pow-le-pow_right, mul-le-mul, mul-le-mul_right}
 use Rattle.p3_field.specs.Ring.{power}
@@ -10,6 +11,25 @@ use Rattle.p3_networks.proofs.radix_2_small_batch.networks.spread_tiles.Goals as
 
 cells_of_tile : (count copies rows w : ℕ) → count * copies ≡ rows → rows * w ≡ count * (copies * w)
 cells_of_tile count copies rows w is = ap (λ n. n * w) (sym is) ∙ omega arith
+
+pub overflow_mul-start : goal.overflow_mul-start
+overflow_mul-start g c =
+    let sizes = tile_sizes c.args.log_h c.args.log_rows c.args.width (length c.args.values.now) c.requires.small c.requires.below c.requires.size in
+    let room = tile_room _ _ _ _ _ _ c.loop-tile.tile sizes c.loop-tile-test.true in
+    omega (arith, room)
+
+pub overflow_add-out : goal.overflow_add-out
+overflow_add-out g c =
+    let sizes = tile_sizes c.args.log_h c.args.log_rows c.args.width (length c.args.values.now) c.requires.small c.requires.below c.requires.size in
+    let room = tile_room _ _ _ _ _ _ c.loop-tile.tile sizes c.loop-tile-test.true in
+    omega (arith, room)
+
+pub offset_bounds-values-start : goal.offset_bounds-values-start
+offset_bounds-values-start g c =
+    let sizes = tile_sizes c.args.log_h c.args.log_rows c.args.width (length c.args.values.now) c.requires.small c.requires.below c.requires.size in
+    let room = tile_room _ _ _ _ _ _ c.loop-tile.tile sizes c.loop-tile-test.true in
+    let below : c.loop-tile.tile * (length c.args.values.now / (1 * 2 ^ (c.args.log_h - c.args.log_rows) % 18446744073709551616)) ≤ length c.args.values.now = omega (arith, room) in
+    search (rules, scaled_fits≤)
 
 pub dif_layers-requires-clause-small : goal.dif_layers-requires-clause-small
 dif_layers-requires-clause-small g c =
