@@ -1,10 +1,32 @@
-use Rattle.std.proofs.Common.{◌≡◌, ℕ, ◌+◌, ◌*◌, ◌-◌, ◌<◌, ◌≤◌, length, get_or, take, drop, ap, ap₂, ◌∙◌, subst, arith}
+use Rattle.std.proofs.Common.{◌≡◌, ℕ, ◌+◌, ◌*◌, ◌-◌, ◌<◌, ◌≤◌, length, get_or, take, drop, ap, ap₂, ◌∙◌, subst, arith, rules}
+use borrow.Author.Rules.{scaled_fits≤}
 use borrow.Rule.Slice.PartMut.{put_mid}
 use Rattle.p3_networks.proofs.Layers.Columns.{InColumns, columns_written, row_room, slice_length}
 use Rattle.p3_networks.proofs.Layers.Counts.{count_more}
 use Rattle.p3_networks.proofs.Layers.Halves.{part_length}
 use Rattle.p3_networks.proofs.Rows.Overwritten.{part_at, put_length, rows-more}
 use Rattle.p3_networks.proofs.radix_2_small_batch.groups.columns_of_halves.Goals as goal
+
+pub overflow_mul-start : goal.overflow_mul-start
+overflow_mul-start g c = omega (arith, row_room c.loop-t.t c.args.half c.args.part (length c.args.low.now) c.loop-t-test.true c.requires.low)
+
+pub overflow_add-row_1 : goal.overflow_add-row_1
+overflow_add-row_1 g c = omega (arith, row_room c.loop-t.t c.args.half c.args.part (length c.args.low.now) c.loop-t-test.true c.requires.low)
+
+pub offset_bounds-low-start : goal.offset_bounds-low-start
+offset_bounds-low-start g c =
+    let room = row_room c.loop-t.t c.args.half c.args.part (length c.args.low.now) c.loop-t-test.true c.requires.low in
+    let below : c.loop-t.t * c.args.part ≤ length c.args.low.now = omega (arith, room) in
+    search (rules, scaled_fits≤)
+
+pub overflow_add-row_2 : goal.overflow_add-row_2
+overflow_add-row_2 g c = omega (arith, row_room c.loop-t.t c.args.half c.args.part (length c.args.high.now) c.loop-t-test.true c.requires.high)
+
+pub offset_bounds-high-start : goal.offset_bounds-high-start
+offset_bounds-high-start g c =
+    let room = row_room c.loop-t.t c.args.half c.args.part (length c.args.high.now) c.loop-t-test.true c.requires.high in
+    let below : c.loop-t.t * c.args.part ≤ length c.args.high.now = omega (arith, room) in
+    search (rules, scaled_fits≤)
 
 pub loop-t-preserved : goal.loop-t-preserved
 loop-t-preserved g c =

@@ -1,4 +1,5 @@
-use Rattle.std.proofs.Common.{◌≡◌, ℕ, ◌+◌, ◌-◌, ◌*◌, ◌/◌, ◌%◌, ◌^◌, ◌<◌, ◌≤◌, length, take, drop, sym, ap, ◌∙◌, subst, arith, lit≤}
+use Rattle.std.proofs.Common.{◌≡◌, ℕ, ◌+◌, ◌-◌, ◌*◌, ◌/◌, ◌%◌, ◌^◌, ◌<◌, ◌≤◌, length, take, drop, sym, ap, ◌∙◌, subst, arith, rules, lit≤}
+use borrow.Author.Rules.{scaled_fits≤}
 use Rattle.std.proofs.lemmas.Nat.{pow_pos}
 use Rattle.std.proofs.Math.Nat.{pow-le-pow_right, mul-le-mul}
 use Rattle.p3_networks.specs.Groups.{cells_of}
@@ -7,6 +8,25 @@ use Rattle.p3_networks.proofs.Layers.Groups.{layers_more}
 use Rattle.p3_networks.proofs.Layers.Halves.{part_length}
 use Rattle.p3_networks.proofs.Layers.Tiles.{tile_held, tile_room, tile_rows, tile_sizes, tiles-more, tiles_all}
 use Rattle.p3_networks.proofs.radix_2_small_batch.groups.group_on_runs.Goals as goal
+
+pub overflow_mul-start : goal.overflow_mul-start
+overflow_mul-start g c =
+    let sizes = tile_sizes c.args.log_h c.args.to c.args.width (length c.args.values.now) c.requires.small c.requires.below c.requires.size in
+    let room = tile_room _ _ _ _ _ _ c.loop-run.run sizes c.loop-run-test.true in
+    omega (arith, room)
+
+pub overflow_add-block : goal.overflow_add-block
+overflow_add-block g c =
+    let sizes = tile_sizes c.args.log_h c.args.to c.args.width (length c.args.values.now) c.requires.small c.requires.below c.requires.size in
+    let room = tile_room _ _ _ _ _ _ c.loop-run.run sizes c.loop-run-test.true in
+    omega (arith, room)
+
+pub offset_bounds-values-start : goal.offset_bounds-values-start
+offset_bounds-values-start g c =
+    let sizes = tile_sizes c.args.log_h c.args.to c.args.width (length c.args.values.now) c.requires.small c.requires.below c.requires.size in
+    let room = tile_room _ _ _ _ _ _ c.loop-run.run sizes c.loop-run-test.true in
+    let below : c.loop-run.run * (length c.args.values.now / (1 * 2 ^ (c.args.log_h - c.args.to) % 18446744073709551616)) ≤ length c.args.values.now = omega (arith, room) in
+    search (rules, scaled_fits≤)
 
 pub group_on_run-requires-clause-small : goal.group_on_run-requires-clause-small
 group_on_run-requires-clause-small g c =

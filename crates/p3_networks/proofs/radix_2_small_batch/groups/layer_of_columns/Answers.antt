@@ -1,4 +1,5 @@
-use Rattle.std.proofs.Common.{◌≡◌, ℕ, ◌+◌, ◌*◌, ◌-◌, ◌≤◌, length, take, drop, refl, ◌∙◌, subst, arith}
+use Rattle.std.proofs.Common.{◌≡◌, ℕ, ◌+◌, ◌*◌, ◌-◌, ◌≤◌, length, take, drop, refl, ◌∙◌, subst, arith, rules}
+use borrow.Author.Rules.{scaled_fits≤}
 use Rattle.std.proofs.Math.Nat.{mul-le-mul_right}
 use Rattle.p3_networks.proofs.Layers.Columns.{BlockColumns, blocks_of_columns-all, blocks_of_columns-more}
 use Rattle.p3_networks.proofs.Layers.Counts.{count_more}
@@ -15,6 +16,18 @@ pub overflow_mul-size-2 : goal.overflow_mul-size-2
 overflow_mul-size-2 g c =
     let once : 1 * (2 * (c.args.half * c.args.part)) ≤ c.args.blocks * (2 * (c.args.half * c.args.part)) = mul-le-mul_right (2 * (c.args.half * c.args.part)) c.requires.blocks in
     omega (arith, once, c.requires.size)
+
+pub overflow_mul-start : goal.overflow_mul-start
+overflow_mul-start g c = omega (arith, block_room c.loop-b.b c.args.blocks (2 * (c.args.half * c.args.part)) (length c.args.values.now) c.loop-b-test.true c.requires.size)
+
+pub overflow_add-block : goal.overflow_add-block
+overflow_add-block g c = omega (arith, block_room c.loop-b.b c.args.blocks (2 * (c.args.half * c.args.part)) (length c.args.values.now) c.loop-b-test.true c.requires.size)
+
+pub offset_bounds-values-start : goal.offset_bounds-values-start
+offset_bounds-values-start g c =
+    let room = block_room c.loop-b.b c.args.blocks (2 * (c.args.half * c.args.part)) (length c.args.values.now) c.loop-b-test.true c.requires.size in
+    let below : c.loop-b.b * (2 * (c.args.half * c.args.part)) ≤ length c.args.values.now = omega (arith, room) in
+    search (rules, scaled_fits≤)
 
 pub columns_of_block-requires-clause-size : goal.columns_of_block-requires-clause-size
 columns_of_block-requires-clause-size g c =
