@@ -1,4 +1,5 @@
-use Rattle.std.proofs.Common.{◌≡◌, ℕ, suc, ◌+◌, ◌*◌, ◌-◌, ◌/◌, ◌%◌, ◌^◌, ◌<◌, ◌≤◌, List, length, get_or, refl, sym, ap, ap₂, ◌∙◌, subst, arith}
+use Rattle.std.proofs.Common.{◌≡◌, ℕ, suc, ◌+◌, ◌*◌, ◌-◌, ◌/◌, ◌%◌, ◌^◌, ◌<◌, ◌≤◌, List, length, get_or, refl, sym, ap, ap₂, ◌∙◌, subst, arith, rules}
+use borrow.Author.Rules.{scaled_fits≤}
 use borrow.Rule.Slice.PartMut.{put_mid}
 use Rattle.std.specs.List.{between}
 use Rattle.std.proofs.Math.Nat.{mul-le-mul_right}
@@ -38,6 +39,11 @@ size_is len mid left w small full =
 run_fits : (run len mid left w : ℕ) → run < 2 ^ mid → len ≡ 2 ^ (mid + left) * w → run * (2 ^ left * w) + 2 ^ left * w ≤ len
 run_fits run len mid left w below full = block_room run (2 ^ mid) (2 ^ left * w) len below (full ∙ runs_whole mid left w)
 
+-- the same by the size that the program has
+run_room : (run len mid left w : ℕ) → mid + left < 64 → run < 1 * 2 ^ mid % 18446744073709551616 → len ≡ 2 ^ (mid + left) * w
+    → run * (len / (1 * 2 ^ mid % 18446744073709551616)) + len / (1 * 2 ^ mid % 18446744073709551616) ≤ len
+run_room run len mid left w small below full = rw (size_is len mid left w small full) (run_fits run len mid left w (omega (arith, runs_are mid left small, below)) full)
+
 -- and so do its rows
 rows_fit : (run mid left : ℕ) → run < 2 ^ mid → run * 2 ^ left + 2 ^ left ≤ 2 ^ (mid + left)
 rows_fit run mid left below = block_room run (2 ^ mid) (2 ^ left) (2 ^ (mid + left)) below (pow-add 2 mid left)
@@ -51,6 +57,18 @@ block_is {T} w b run whole now part is room len =
     let after = put_mid (run * whole) (run * whole + whole - run * whole) now part in
     ap (λ (zs : List T). let m : RowMajor T = record { width = w; values = zs } in m)
     (sym (ap₂ (λ x y. between x y after) start end ∙ between-put_mid (run * whole) (run * whole + whole - run * whole) now part (run * whole + whole) (omega (arith, room)) (let e : run * whole + whole - run * whole ≡ whole = omega arith in len ∙ sym is ∙ sym e)))
+
+pub overflow_mul-start : goal.overflow_mul-start
+overflow_mul-start g c = omega (arith, run_room c.loop-run.run (length c.reverse_runs.new.values) c.args.mid c.args.left c.args.width c.requires.small c.loop-run-test.true (c.reverse_runs.auto.values ∙ c.requires.height))
+
+pub overflow_add-rows : goal.overflow_add-rows
+overflow_add-rows g c = omega (arith, run_room c.loop-run.run (length c.reverse_runs.new.values) c.args.mid c.args.left c.args.width c.requires.small c.loop-run-test.true (c.reverse_runs.auto.values ∙ c.requires.height))
+
+pub offset_bounds-values-start : goal.offset_bounds-values-start
+offset_bounds-values-start g c =
+    let room = run_room c.loop-run.run (length c.reverse_runs.new.values) c.args.mid c.args.left c.args.width c.requires.small c.loop-run-test.true (c.reverse_runs.auto.values ∙ c.requires.height) in
+    let below : c.loop-run.run * (length c.reverse_runs.new.values / (1 * 2 ^ c.args.mid % 18446744073709551616)) ≤ length c.args.values.now = omega (arith, room, c.reverse_runs.auto.values) in
+    search (rules, scaled_fits≤)
 
 pub finish_run-requires-clause-height : goal.finish_run-requires-clause-height
 finish_run-requires-clause-height g c =

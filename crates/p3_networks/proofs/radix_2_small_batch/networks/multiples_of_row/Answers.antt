@@ -1,9 +1,23 @@
-use Rattle.std.proofs.Common.{◌≡◌, ◌+◌, ◌*◌, ◌-◌, ◌≤◌, length, get_or, sym, ap, ap₂, ◌∙◌, arith, add-one}
+use Rattle.std.proofs.Common.{◌≡◌, ◌+◌, ◌*◌, ◌-◌, ◌≤◌, length, get_or, sym, ap, ap₂, ◌∙◌, arith, rules, add-one}
+use borrow.Author.Rules.{scaled_fits≤}
 use Rattle.std.proofs.Math.Nat.{suc-mul, mul-le-mul_right}
 use Rattle.p3_field.specs.Ring.{power}
 use Rattle.p3_field.proofs.Powers.{power-zero, power-more}
+use Rattle.p3_networks.proofs.Layers.Halves.{block_room}
 use Rattle.p3_networks.proofs.Rows.Overwritten.{rows-none, rows-more, value_at}
 use Rattle.p3_networks.proofs.radix_2_small_batch.networks.multiples_of_row.Goals as goal
+
+pub overflow_mul-start : goal.overflow_mul-start
+overflow_mul-start g c = omega (arith, block_room c.loop-t.t c.args.count (length c.args.row.now) (length c.args.values.now) c.loop-t-test.true c.requires)
+
+pub overflow_add-multiple : goal.overflow_add-multiple
+overflow_add-multiple g c = omega (arith, block_room c.loop-t.t c.args.count (length c.args.row.now) (length c.args.values.now) c.loop-t-test.true c.requires)
+
+pub offset_bounds-values-start : goal.offset_bounds-values-start
+offset_bounds-values-start g c =
+    let room = block_room c.loop-t.t c.args.count (length c.args.row.now) (length c.args.values.now) c.loop-t-test.true c.requires in
+    let below : c.loop-t.t * length c.args.row.now ≤ length c.args.values.now = omega (arith, room) in
+    search (rules, scaled_fits≤)
 
 pub loop-t-init : goal.loop-t-init
 loop-t-init g c =
