@@ -1,6 +1,7 @@
 -- Tables of twiddles, and which heights they prepare.
 pub mod BlockTables
 pub mod CosetTables
+pub mod FoundOne
 pub mod FromStart
 pub mod InversePowers
 pub mod MoreTwiddles

@@ -1,12 +1,8 @@
-use Rattle.std.proofs.Common.{◌≡◌, ◌↔◌, ℕ, ◌+◌, ◌*◌, ◌<◌, Bool, IsTrue, List, length, get_or, sym, ap, ◌∙◌}
+use Rattle.std.proofs.Common.{◌≡◌, ℕ, ◌+◌, ◌*◌, get_or, sym, ap, ◌∙◌}
 use Rattle.std.proofs.lemmas.List.{get_or_default}
 use Rattle.p3_matrix.specs.Butterflies.{dit_near, dit_far}
+use Rattle.p3_networks.proofs.Tables.FoundOne.{found_one}
 use Rattle.p3_networks.proofs.radix_2_dit_parallel.halves.first_layer_from.Goals as goal
-
--- an entry that was found equal to one
-found_one : {T A : Type 0} (value : T → A) (eq : T → T → Bool) → ((a b : T) → IsTrue (eq a b) ↔ (value a ≡ value b)) → (ts : List T) (i : ℕ) (x one d : T) → i < length ts → x ≡ get_or ts i x
-    → IsTrue (eq x one) → value (get_or ts i d) ≡ value one
-found_one value eq law ts i x one d inside is told = sym (ap value (is ∙ get_or_default ts i x d inside)) ∙ (law x one).0 told
 
 pub returns-then-eq-clause-near : goal.returns-then-eq-clause-near
 returns-then-eq-clause-near g c b i p q =
