@@ -1,5 +1,6 @@
 use Rattle.std.specs.Prelude.{IsPermutation}
-use Rattle.std.proofs.Common.{◌≡◌, ℕ, suc, List, [], ◌∷◌, take, drop, ◌+◌, ◌*◌, ◌-◌, ◌/◌, ◌%◌, ◌++◌, ◌<◌, ◌≤◌, ◌^◌, length, get_or, refl, sym, ap, ◌∙◌, subst, arith, ⊎_elim}
+use Rattle.std.proofs.Common.{◌≡◌, ℕ, suc, List, [], ◌∷◌, take, drop, ◌+◌, ◌*◌, ◌-◌, ◌/◌, ◌%◌, ◌++◌, ◌<◌, ◌≤◌, ◌^◌, length, get_or, refl, sym, ap, ◌∙◌, subst, arith, rules, ⊎_elim}
+use borrow.Author.Rules.{scaled_fits≤}
 use borrow.Rule.Slice.PartMut.{put_mid}
 use Rattle.std.proofs.Math.Nat.{mod-eq_of_lt, mul-le-mul_right}
 use Rattle.std.proofs.Math.Pow.{pow-lt}
@@ -97,6 +98,34 @@ back_is xs ys = sym (ap (take (length ys)) (drop_at xs ys (length xs) refl) ∙ 
 
 pub table_of_slot-table-requires-clause-there : goal.table_of_slot-table-requires-clause-there
 table_of_slot-table-requires-clause-there g c = c.requires.tables (rev c.args.added_bits (c.loop-place.place + 1)) (rev-lt c.args.added_bits (c.loop-place.place + 1))
+
+pub overflow_mul-start : goal.overflow_mul-start
+overflow_mul-start g c =
+    let k = c.args.log_h in
+    let a = c.args.added_bits in
+    let len = length c.args.values.now in
+    let is = slot_size len k a c.args.width c.requires.small c.requires.height in
+    let room = slot_room c.loop-place.place a (2 ^ k * c.args.width) len (omega (arith, slots_are k a c.requires.small, c.loop-place-test.true)) (c.requires.height ∙ slots_whole k a c.args.width) in
+    rw is (omega (arith, room))
+
+pub overflow_add-slot : goal.overflow_add-slot
+overflow_add-slot g c =
+    let k = c.args.log_h in
+    let a = c.args.added_bits in
+    let len = length c.args.values.now in
+    let is = slot_size len k a c.args.width c.requires.small c.requires.height in
+    let room = slot_room c.loop-place.place a (2 ^ k * c.args.width) len (omega (arith, slots_are k a c.requires.small, c.loop-place-test.true)) (c.requires.height ∙ slots_whole k a c.args.width) in
+    rw is (omega (arith, room))
+
+pub offset_bounds-others-start : goal.offset_bounds-others-start
+offset_bounds-others-start g c =
+    let k = c.args.log_h in
+    let a = c.args.added_bits in
+    let len = length c.args.values.now in
+    let is = slot_size len k a c.args.width c.requires.small c.requires.height in
+    let room = slot_room c.loop-place.place a (2 ^ k * c.args.width) len (omega (arith, slots_are k a c.requires.small, c.loop-place-test.true)) (c.requires.height ∙ slots_whole k a c.args.width) in
+    let below : c.loop-place.place * (len / (1 * 2 ^ a % 18446744073709551616)) ≤ len = rw is (omega (arith, room)) in
+    search (rules, scaled_fits≤)
 
 pub slice_bounds-slot-end : goal.slice_bounds-slot-end
 slice_bounds-slot-end g c =
