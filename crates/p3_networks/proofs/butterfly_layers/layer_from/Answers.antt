@@ -17,7 +17,7 @@ pub offset_bounds-source-start : goal.offset_bounds-source-start
 offset_bounds-source-start g c =
     let room = block_room c.loop-b.b c.args.blocks (2 * c.args.size) (length c.args.source.now) c.loop-b-test.true c.requires.source in
     let below : c.loop-b.b * (2 * c.args.size) ≤ length c.args.source.now = omega (arith, room) in
-    search (rules, scaled_fits≤)
+    search rules
 
 pub overflow_add-start-in-loop-b : goal.overflow_add-start-in-loop-b
 overflow_add-start-in-loop-b g c = omega (arith, block_room c.loop-b.b c.args.blocks (2 * c.args.size) (length c.args.values.now) c.loop-b-test.true c.requires.size)

@@ -21,7 +21,7 @@ pub offset_bounds-source-start : goal.offset_bounds-source-start
 offset_bounds-source-start g c =
     let room = run_room (length c.args.values.now) c.args.log_h c.args.mid c.args.width c.requires.small c.requires.parts c.requires.height c.loop-run.run c.loop-run-test.true in
     let below : c.loop-run.run * (length c.args.values.now / (1 * 2 ^ (c.args.log_h - c.args.mid) % 18446744073709551616)) ≤ length c.args.source.now = omega (arith, room, c.requires.source, c.requires.height) in
-    search (rules, scaled_fits≤)
+    search rules
 
 pub overflow_add-start-in-loop-run : goal.overflow_add-start-in-loop-run
 overflow_add-start-in-loop-run g c =
