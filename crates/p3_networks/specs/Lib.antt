@@ -1,3 +1,4 @@
+pub mod CosetTables
 pub mod Cosets
 pub mod Groups
 pub mod Layers

@@ -81,7 +81,7 @@ fn coset_layers<F: TwoAdicField>(alloc: Global, log_h: usize, shift: F) -> Resul
     Ok(twiddles)
 }
 
-/// The tables of cosets, in the order in which they were made.
+/// The tables of cosets, in the order in which they were made. A coset never has two.
 ///
 /// Contracts see a list of the cosets.
 #[derive(Drop)]
@@ -92,10 +92,13 @@ pub struct CosetTables<F: TwoAdicField> {
 impl<F: TwoAdicField> Model for CosetTables<F> {
     ghost use Rattle.std.specs.Prelude.{List};
     ghost use Rattle.p3_networks.specs.Twiddles.{Coset, items_if_any};
+    ghost use Rattle.p3_networks.specs.CosetTables.{HasEachOnce};
 
     ghost Value = { List (Coset F) };
 
     ghost view = { λ t. items_if_any t.tables };
+
+    ghost invariant = { λ t. HasEachOnce F.Field (items_if_any t.tables) };
 }
 
 impl<F: TwoAdicField> CosetTables<F> {
@@ -170,8 +173,9 @@ impl<F: TwoAdicField> CosetTables<F> {
     }
 
     /// Makes the tables of the `2^added_bits` cosets of order `2^log_h` that are, together, the coset of
-    /// `shift` of order `2^(log_h + added_bits)`, and no others. Those that are there are not made again:
-    /// where all are, no memory is taken. Where memory is refused, those that were made stay.
+    /// `shift` of order `2^(log_h + added_bits)`, and no others. Those that are there are not made again, so
+    /// that each coset has one table: where all are there, no memory is taken. Where memory is refused,
+    /// those that were made stay.
     pub fn make_all(
         &mut self,
         alloc: Global,
@@ -196,8 +200,9 @@ impl<F: TwoAdicField> CosetTables<F> {
         Ok(())
     }
 
-    // Adds one at the end.
+    // Adds one at the end, of a coset that has none.
     fn push(&mut self, alloc: Global, table: CosetTable<F>) -> Result<(), DftError>
+        requires { ¬ (HasCoset F.Field.own self.old table.log_h (F.value table.shift)) }
         ensures added { IfOk result (λ _. self.new ≡ self.old ++ table ∷ []) }
         ensures refused { OnErr result (self.new ≡ self.old) }
     {
