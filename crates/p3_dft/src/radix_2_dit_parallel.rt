@@ -280,7 +280,7 @@ impl<F: TwoAdicField> TwoAdicSubgroupDft<F> for Radix2DitParallel<F> {
     /// As the trait says, coset by coset: the coefficients stay in bit reversed order, which the transform is
     /// told, and each run of as many rows as the input has gets the values on a coset of its own. The rows
     /// of zeros are not looked at. `Ok` makes the height of the input prepared for good, and leaves the
-    /// tables of all cosets.
+    /// tables of all cosets. Where all of these were there, they stay as they were.
     fn coset_lde_batch_with_transform<
         N: IntoRowMajorMatrix<F>,
         T: FnOnce(RowMajorMatrix<F>, Layout) -> RowMajorMatrix<F> + Drop,
@@ -305,6 +305,8 @@ impl<F: TwoAdicField> TwoAdicSubgroupDft<F> for Radix2DitParallel<F> {
             → HasCoset F.Field.own self.new.cosets k s }
         ensures adds_tables { AtLog (height (N.stored mat)) (λ k.
             AddsCosets F.Field.own F.generator k added_bits (F.value shift) self.old.cosets self.new.cosets) }
+        ensures once { AtLog (height (N.stored mat)) (λ k. HasCosets F.Field.own F.generator self.old.cosets k added_bits (F.value shift)
+            → self.new.cosets ≡ self.old.cosets) }
         ensures later { IsLater (λ e. IsPrepared e.roots) (λ e k s. IsCosetPrepared F.Field.own e k (F.value s))
             (λ _ _. ⊤) (λ e. e.roots.products) self.old self.new }
         ensures cost { AtLog (height (N.stored mat)) (λ k. OnOk result (self.new.roots.products
@@ -375,6 +377,8 @@ impl<F: TwoAdicField> TwoAdicSubgroupDft<F> for Radix2DitParallel<F> {
             → HasCoset F.Field.own self.new.cosets k s }
         ensures adds_tables { AtLog (height (N.stored mat)) (λ k.
             AddsCosets F.Field.own F.generator k added_bits (F.value shift) self.old.cosets self.new.cosets) }
+        ensures once { AtLog (height (N.stored mat)) (λ k. HasCosets F.Field.own F.generator self.old.cosets k added_bits (F.value shift)
+            → self.new.cosets ≡ self.old.cosets) }
         ensures later { IsLater (λ e. IsPrepared e.roots) (λ e k s. IsCosetPrepared F.Field.own e k (F.value s))
             (λ _ _. ⊤) (λ e. e.roots.products) self.old self.new }
         ensures cost { AtLog (height (N.stored mat)) (λ k. UnlessOutOfMemory result (self.new.roots.products

@@ -47,6 +47,8 @@ pub(crate) fn coefficients_with_room<
     ensures cosets { AtLog (height mat) (λ k. OnOk result (HasCosets F.Field.own F.generator cosets.new k added_bits (F.value shift))) }
     ensures keeps_cosets { (k : ℕ) (s : F.Element) → HasCoset F.Field.own cosets.old k s → HasCoset F.Field.own cosets.new k s }
     ensures adds { AtLog (height mat) (λ k. AddsCosets F.Field.own F.generator k added_bits (F.value shift) cosets.old cosets.new) }
+    ensures once { AtLog (height mat) (λ k. HasCosets F.Field.own F.generator cosets.old k added_bits (F.value shift)
+        → cosets.new ≡ cosets.old) }
     ensures grows { products.old ≤ products.new }
     ensures cost { AtLog (height mat) (λ k. products.new ≤ products.old + mat.width * (k * 2 ^ k / 2) + 2 ^ k * mat.width) }
 {

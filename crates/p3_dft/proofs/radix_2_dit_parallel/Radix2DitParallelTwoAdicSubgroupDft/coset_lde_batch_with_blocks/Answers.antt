@@ -3,7 +3,7 @@ use Rattle.p3_matrix.specs.BitOrder.{bit_reversal}
 use Rattle.p3_matrix.specs.Blocks.{AreBlocksOf, IsPartition}
 use Rattle.p3_matrix.specs.RowMajor.{RowMajor, HasShapeOf, IsRowMajor, height}
 use Rattle.p3_matrix.proofs.TwoPowers.{log_same}
-use Rattle.p3_networks.specs.Twiddles.{AddsCosets, HasCoset}
+use Rattle.p3_networks.specs.Twiddles.{AddsCosets, HasCoset, HasCosets}
 use Rattle.p3_dft.specs.Engines.{CosetTabled, IsPrepared}
 use Rattle.p3_dft.specs.Transforms.{values_of}
 use Rattle.p3_dft.proofs.BitReversed.Coefficients.{extension_of_answered, values_of_answered}
@@ -239,3 +239,21 @@ block_height-block_height-requires-clause-small g c =
     let same = log_same _ _ (sym c.log2_strict_usize-log_h.ensures.power ∙ c.height.ensures.height ∙ stored ∙ c.requires.fits.high) in
     let small = output_log_small _ _ _ _ c.requires.fits in
     omega (arith, same, small)
+
+pub returns-in-Err-clause-once : goal.returns-in-Err-clause-once
+returns-in-Err-clause-once g c k e all =
+    let field = g.F.Field in
+    let held = subst (λ (x : CosetTabled g.row.F.Denot). HasCosets field g.F.TwoAdicField.generator x.cosets k c.args.added_bits (field.value c.args.shift)) (sym c.self.view_is) all in
+    c.coefficients_with_room-room.ensures.once k (ap height c.into_row_major_matrix-mat.ensures ∙ e) held ∙ ap (λ (x : CosetTabled g.row.F.Denot). x.cosets) c.self.view_is
+
+pub returns-in-Err-extended-clause-once : goal.returns-in-Err-extended-clause-once
+returns-in-Err-extended-clause-once g c k e all =
+    let field = g.F.Field in
+    let held = subst (λ (x : CosetTabled g.row.F.Denot). HasCosets field g.F.TwoAdicField.generator x.cosets k c.args.added_bits (field.value c.args.shift)) (sym c.self.view_is) all in
+    c.coefficients_with_room-room.ensures.once k (ap height c.into_row_major_matrix-mat.ensures ∙ e) held ∙ ap (λ (x : CosetTabled g.row.F.Denot). x.cosets) c.self.view_is
+
+pub returns-clause-once : goal.returns-clause-once
+returns-clause-once g c k e all =
+    let field = g.F.Field in
+    let held = subst (λ (x : CosetTabled g.row.F.Denot). HasCosets field g.F.TwoAdicField.generator x.cosets k c.args.added_bits (field.value c.args.shift)) (sym c.self.view_is) all in
+    c.coefficients_with_room-room.ensures.once k (ap height c.into_row_major_matrix-mat.ensures ∙ e) held ∙ ap (λ (x : CosetTabled g.row.F.Denot). x.cosets) c.self.view_is

@@ -3,7 +3,7 @@ use Rattle.p3_matrix.specs.BitOrder.{bit_reversal}
 use Rattle.p3_matrix.specs.RowMajor.{RowMajor, HasShapeOf, IsRowMajor, height}
 use Rattle.p3_matrix.proofs.Consumers.{ok_is_no_err}
 use Rattle.p3_matrix.proofs.TwoPowers.{log_same}
-use Rattle.p3_networks.specs.Twiddles.{AddsCosets, HasCoset}
+use Rattle.p3_networks.specs.Twiddles.{AddsCosets, HasCoset, HasCosets}
 use Rattle.p3_dft.specs.Engines.{CosetTabled, IsPrepared}
 use Rattle.p3_dft.specs.Transforms.{values_of}
 use Rattle.p3_dft.proofs.BitReversed.Coefficients.{extension_of_answered}
@@ -133,6 +133,10 @@ pub returns-clause-keeps_tables : goal.returns-clause-keeps_tables
 returns-clause-keeps_tables g c k s has =
     c.coefficients_with_room.ensures.keeps_cosets k s (subst (λ (x : CosetTabled g.row.F.Denot). HasCoset g.F.Field x.cosets k s) (sym c.self.view_is) has)
 
+pub returns-in_err-mat-clause-keeps_tables : goal.returns-in_err-mat-clause-keeps_tables
+returns-in_err-mat-clause-keeps_tables g c k s has =
+    c.coefficients_with_room.ensures.keeps_cosets k s (subst (λ (x : CosetTabled g.row.F.Denot). HasCoset g.F.Field x.cosets k s) (sym c.self.view_is) has)
+
 pub returns-clause-adds_tables : goal.returns-clause-adds_tables
 returns-clause-adds_tables g c k e =
     let field = g.F.Field in
@@ -144,3 +148,15 @@ returns-in_err-mat-clause-adds_tables g c k e =
     let field = g.F.Field in
     subst (λ (x : CosetTabled g.row.F.Denot). AddsCosets field g.F.TwoAdicField.generator k c.args.added_bits (field.value c.args.shift) x.cosets c.coefficients_with_room.new.cosets) c.self.view_is
     (c.coefficients_with_room.ensures.adds k (ap height c.into_row_major_matrix-mat.ensures ∙ e))
+
+pub returns-in_err-mat-clause-once : goal.returns-in_err-mat-clause-once
+returns-in_err-mat-clause-once g c k e all =
+    let field = g.F.Field in
+    let held = subst (λ (x : CosetTabled g.row.F.Denot). HasCosets field g.F.TwoAdicField.generator x.cosets k c.args.added_bits (field.value c.args.shift)) (sym c.self.view_is) all in
+    c.coefficients_with_room.ensures.once k (ap height c.into_row_major_matrix-mat.ensures ∙ e) held ∙ ap (λ (x : CosetTabled g.row.F.Denot). x.cosets) c.self.view_is
+
+pub returns-clause-once : goal.returns-clause-once
+returns-clause-once g c k e all =
+    let field = g.F.Field in
+    let held = subst (λ (x : CosetTabled g.row.F.Denot). HasCosets field g.F.TwoAdicField.generator x.cosets k c.args.added_bits (field.value c.args.shift)) (sym c.self.view_is) all in
+    c.coefficients_with_room.ensures.once k (ap height c.into_row_major_matrix-mat.ensures ∙ e) held ∙ ap (λ (x : CosetTabled g.row.F.Denot). x.cosets) c.self.view_is

@@ -115,3 +115,15 @@ returns-in_err-make-clause-adds g c k high = ([], sym (append-nil _), All-nil _)
 
 pub returns-in_err-grown-clause-adds : goal.returns-in_err-grown-clause-adds
 returns-in_err-grown-clause-adds g c k high = ([], sym (append-nil _), All-nil _)
+
+pub returns-in_err-make_all-clause-once : goal.returns-in_err-make_all-clause-once
+returns-in_err-make_all-clause-once g c k high all =
+    let field = g.F.Field in
+    let same : k ≡ c.log2_strict_usize-log_h.result = log_same k _ (sym high ∙ sym c.height.ensures.height ∙ c.log2_strict_usize-log_h.ensures.power) in
+    c.make_all.ensures.once (subst (λ (n : ℕ). HasCosets field g.F.TwoAdicField.generator c.args.cosets.now n c.args.added_bits (field.value c.args.shift)) same all)
+
+pub returns-clause-once : goal.returns-clause-once
+returns-clause-once g c k high all =
+    let field = g.F.Field in
+    let same : k ≡ c.log2_strict_usize-log_h.result = log_same k _ (sym high ∙ sym c.height.ensures.height ∙ c.log2_strict_usize-log_h.ensures.power) in
+    c.make_all.ensures.once (subst (λ (n : ℕ). HasCosets field g.F.TwoAdicField.generator c.args.cosets.now n c.args.added_bits (field.value c.args.shift)) same all)
