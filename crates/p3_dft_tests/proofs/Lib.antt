@@ -1,1 +1,2 @@
 pub mod BlockSums
+pub mod Limits

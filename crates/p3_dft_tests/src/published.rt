@@ -3,14 +3,17 @@
 //! Each has closures of its own for the transform and for the maker of consumers. What a client may
 //! conclude, whatever the order of the blocks, is its contract.
 
-ghost use Rattle.std.specs.Prelude.{◌≡◌, ◌+◌, ◌%◌, ◌/◌, ◌^◌, ◌<◌, ◌≤◌, IfErr, IfOk, IfSome, Ok, false, get_or, length};
-ghost use Rattle.p3_matrix.specs.BitOrder.{reversed_rows};
-ghost use Rattle.p3_matrix.specs.Blocks.{IsPartition};
-ghost use Rattle.p3_matrix.specs.RowMajor.{height};
+ghost use Rattle.std.specs.Prelude.{◌≡◌, ℕ, ◌+◌, ◌%◌, ◌/◌, ◌^◌, ◌<◌, ◌≤◌, ◌++◌, List, [], ◌∷◌};
+ghost use Rattle.std.specs.Prelude.{IfErr, IfOk, IfSome, Ok, false, get_or, length};
+ghost use Rattle.p3_matrix.specs.BitOrder.{bit_reversal, reversed_rows};
+ghost use Rattle.p3_matrix.specs.Blocks.{AreBlocksOf, IsPartition};
+ghost use Rattle.p3_matrix.specs.Matrix.{Matrix};
+ghost use Rattle.p3_matrix.specs.RowMajor.{RowMajor, height};
 ghost use Rattle.p3_networks.specs.Polynomials.{sum};
 ghost use Rattle.p3_dft.specs.Engines.{AtLog};
-ghost use Rattle.p3_dft.specs.Extensions.{IsExtension};
+ghost use Rattle.p3_dft.specs.Extensions.{AreTransformedValues, IsExtension};
 ghost use Rattle.p3_dft.specs.Shapes.{FitsLde};
+ghost use Rattle.p3_dft.specs.Transforms.{values_of};
 
 use p3_dft::{
     BitReversedMatrixView, BlockConsumer, BlockLimit, BlockRefused, BlocksStopped, DftError, Field,
@@ -61,7 +64,9 @@ pub fn recorded_extension<F: TwoAdicField, D: TwoAdicSubgroupDft<F>>(
 }
 
 /// An extension that has at most so many blocks, with their number. Else, as it has more, the block that was
-/// one too many, or none where memory was refused.
+/// one too many: it and those that were taken before it, as many as the limit, are blocks of one extension,
+/// none twice. No order of blocks is promised, so any may be the last. There is none where memory was
+/// refused, of which no clause speaks.
 pub fn limited_extension<F: TwoAdicField, D: TwoAdicSubgroupDft<F>>(
     engine: &mut D,
     mat: RowMajorMatrix<F>,
@@ -77,6 +82,11 @@ pub fn limited_extension<F: TwoAdicField, D: TwoAdicSubgroupDft<F>>(
     ensures refused { IfErr result (λ e. IfSome e (λ refusal. AtLog (height mat) (λ k.
         (refusal.start % D.block_rows k added_bits ≡ 0) × (refusal.start < 2 ^ (k + added_bits))
         × (limit < 2 ^ (k + added_bits) / D.block_rows k added_bits)))) }
+    ensures one_too_many { IfErr result (λ e. IfSome e (λ refusal. AtLog (height mat) (λ k. (out : Matrix F.Element)
+        × AreTransformedValues F.Field.own F.generator (λ told answered. answered ≡ told) D.LAYOUT mat added_bits (F.value shift) out
+        × (taken : List (ℕ × RowMajor F)) × (refused : ℕ × RowMajor F)
+        × AreBlocksOf (values_of F.Field.own) (D.block_rows k added_bits) (bit_reversal (k + added_bits) out) (taken ++ refused ∷ [])
+        × (length taken ≡ limit) × (refusal.start ≡ refused.0)))) }
 {
     let answer = engine.coset_lde_batch_with_blocks(
         mat,
