@@ -349,8 +349,8 @@ fn on<F: TwoAdicField, D: TwoAdicSubgroupDft<F>, R: Abort, T: EngineTest<F>>(
     test.run(rt, alloc, &mut D::default())
 }
 
-// Runs a test on every engine over a field.
-fn on_every_engine<F: TwoAdicField, R: Abort, T: EngineTest<F>>(
+// Runs a test on every engine over a field whose extensions are one block each.
+fn on_engines_of_one_block<F: TwoAdicField, R: Abort, T: EngineTest<F>>(
     rt: &R,
     alloc: Global,
     test: &T,
@@ -358,10 +358,19 @@ fn on_every_engine<F: TwoAdicField, R: Abort, T: EngineTest<F>>(
     on::<F, NaiveDft, R, T>(rt, alloc, test)?;
     on::<F, Radix2Dit<F>, R, T>(rt, alloc, test)?;
     on::<F, Radix2Bowers, R, T>(rt, alloc, test)?;
-    on::<F, Radix2DitParallel<F>, R, T>(rt, alloc, test)?;
     on::<F, Radix2DFTSmallBatch<F>, R, T>(rt, alloc, test)?;
     on::<F, LimitedDft, R, T>(rt, alloc, test)?;
     on::<F, ReversedDft, R, T>(rt, alloc, test)
+}
+
+// Runs a test on every engine over a field.
+fn on_every_engine<F: TwoAdicField, R: Abort, T: EngineTest<F>>(
+    rt: &R,
+    alloc: Global,
+    test: &T,
+) -> Result<(), Fail> {
+    on_engines_of_one_block::<F, R, T>(rt, alloc, test)?;
+    on::<F, Radix2DitParallel<F>, R, T>(rt, alloc, test)
 }
 
 // Worked transforms of one column.

@@ -1,16 +1,17 @@
 // Extensions whose blocks are published: what is lent to whom, and what is left where a consumer or
 // memory stops the call.
 
-ghost use Rattle.std.specs.Prelude.{◌≡◌, Ok};
+ghost use Rattle.std.specs.Prelude.{◌≡◌, ◌<◌, Ok, length};
 ghost use Rattle.p3_matrix.specs.RowMajor.{HasShapeOf};
 
 use super::{
-    EngineTest, LimitedDft, assert_rows, doubled, matrix, matrix_of, on, on_every_engine, sample,
+    EngineTest, LimitedDft, assert_rows, doubled, matrix, matrix_of, on, on_engines_of_one_block,
+    on_every_engine, sample,
 };
 use p3_dft::{
     BabyBear, BlockConsumer, BlockLimit, BlockRefused, BlocksStopped, CanonicalField, Evaluations,
-    Field, Layout, NaiveDft, Radix2Dit, Radix2DitParallel, Recorder, RowMajorMatrix,
-    RowMajorMatrixView, TwoAdicField, TwoAdicSubgroupDft, Unpublished, fits_lde,
+    Field, Layout, NaiveDft, Radix2DitParallel, Recorder, RowMajorMatrix, RowMajorMatrixView,
+    TwoAdicField, TwoAdicSubgroupDft, Unpublished, fits_lde,
 };
 use std::alloc::Global;
 use std::cell::Cell;
@@ -85,16 +86,47 @@ where
     }
 }
 
-// Whether the blocks that are kept are rows of the matrix, as many as it has.
-fn has_each_row_once<F: TwoAdicField>(mat: &RowMajorMatrix<F>, recorder: &Recorder<F>) -> bool {
-    let mut equal = !recorder.missed();
-    let mut rows = 0usize;
+// Whether a block of so many rows has none in common with those that were kept before it.
+fn is_apart<F: TwoAdicField>(recorder: &Recorder<F>, i: usize, height: usize) -> bool
+    requires { i < length recorder.now.blocks }
+{
+    let start = recorder.start(i);
+    let mut apart = true;
+    for j in 0..i {
+        apart = apart && start.abs_diff(recorder.start(j)) >= height;
+    }
+    apart
+}
+
+// Whether each block that is kept has so many rows, those of the matrix from its start on, and none of
+// another block.
+fn has_blocks_of<F: TwoAdicField>(
+    mat: &RowMajorMatrix<F>,
+    recorder: &Recorder<F>,
+    height: usize,
+) -> bool {
+    let mut right = true;
     for i in 0..recorder.blocks() {
         let block = recorder.rows(i);
-        equal = equal && has_rows_at(mat, recorder.start(i), &block);
-        rows = rows.saturating_add(block.height());
+        right = right
+            && block.height() == height
+            && has_rows_at(mat, recorder.start(i), &block)
+            && is_apart(recorder, i, height);
     }
-    equal && rows == mat.height()
+    right
+}
+
+// Whether the blocks that are kept have one height, and each row of the matrix is in one of them.
+fn has_each_row_once<F: TwoAdicField>(mat: &RowMajorMatrix<F>, recorder: &Recorder<F>) -> bool {
+    let blocks = recorder.blocks();
+    if blocks == 0 || recorder.missed() {
+        return false;
+    }
+    let height = recorder.rows(0).height();
+    height > 0
+        && mat.height() % height == 0
+        && blocks == mat.height() / height
+        && has_blocks_of(mat, recorder, height)
 }
 
 // Stops the test unless the physical rows are those of these numbers, and each is in a block that is
@@ -256,7 +288,8 @@ fn limited_blocks(rt: HostRuntime) -> Result<(), Fail> {
     on_every_engine::<BabyBear, _, _>(&rt, rt.alloc(), &LimitedBlocks)
 }
 
-// Stops the test unless so many of all blocks are kept, each with its rows, and the rest are missed.
+// Stops the test unless so many of all blocks, of four rows each, are kept with their rows, and the rest
+// are missed.
 fn assert_kept<F: TwoAdicField>(
     rt: &impl Abort,
     answer: Result<(RowMajorMatrix<F>, Recorder<F>), Fail>,
@@ -266,11 +299,12 @@ fn assert_kept<F: TwoAdicField>(
     let (out, recorder) = answer?;
     assert!(rt; recorder.blocks() == kept);
     assert!(rt; recorder.missed() == (kept < all));
+    assert!(rt; has_blocks_of(&out, &recorder, 4));
     assert!(rt; has_each_row_once(&out, &recorder) == (kept == all));
     Ok(())
 }
 
-// An engine with the trait's own body has one block.
+// An engine with the trait's own body has one block, which begins with the first row.
 struct OneBlock;
 
 impl<F: CanonicalField> EngineTest<F> for OneBlock {
@@ -310,8 +344,8 @@ impl<F: CanonicalField> EngineTest<F> for OneBlockKept {
 
 #[test]
 fn one_block(rt: HostRuntime) -> Result<(), Fail> {
-    on::<BabyBear, Radix2Dit<BabyBear>, _, _>(&rt, rt.alloc(), &OneBlock)?;
-    on::<BabyBear, Radix2Dit<BabyBear>, _, _>(&rt, rt.alloc(), &OneBlockKept)
+    on_engines_of_one_block::<BabyBear, _, _>(&rt, rt.alloc(), &OneBlock)?;
+    on_engines_of_one_block::<BabyBear, _, _>(&rt, rt.alloc(), &OneBlockKept)
 }
 
 // The numbers from one on, row after row.

@@ -4,10 +4,10 @@
 ghost use Rattle.std.specs.Prelude.{◌≡◌, Ok};
 ghost use Rattle.p3_matrix.specs.RowMajor.{HasShapeOf};
 
-use super::{EngineTest, matrix, on_every_engine};
+use super::{EngineTest, matrix, on, on_engines_of_one_block, on_every_engine};
 use p3_dft::{
-    BabyBear, BlockConsumer, BlocksStopped, CanonicalField, Evaluations, Field, Layout, Recorder,
-    RowMajorMatrix, RowMajorMatrixView, TwoAdicSubgroupDft, fits_lde,
+    BabyBear, BlockConsumer, BlocksStopped, CanonicalField, Evaluations, Field, Layout,
+    Radix2DitParallel, Recorder, RowMajorMatrix, RowMajorMatrixView, TwoAdicSubgroupDft, fits_lde,
 };
 use std::alloc::Global;
 use std::cell::Cell;
@@ -129,13 +129,14 @@ fn blocks_of_one_row<F: CanonicalField, D: TwoAdicSubgroupDft<F>>(
     Ok((blocks, recorder.rows(0).height()))
 }
 
-// Counts the engines whose blocks are single rows; the others have one block.
+// So many blocks, of so many rows.
 #[derive(Drop)]
-struct SingleRows {
-    engines: Cell<usize>,
+struct BlocksOfOneRow {
+    blocks: usize,
+    rows: usize,
 }
 
-impl<F: CanonicalField> EngineTest<F> for SingleRows {
+impl<F: CanonicalField> EngineTest<F> for BlocksOfOneRow {
     fn run<R: Abort, D: TwoAdicSubgroupDft<F>>(
         &self,
         rt: &R,
@@ -143,23 +144,17 @@ impl<F: CanonicalField> EngineTest<F> for SingleRows {
         engine: &mut D,
     ) -> Result<(), Fail> {
         let found = blocks_of_one_row(rt, alloc, engine)?;
-        if found == (4, 1) {
-            self.engines.set(self.engines.get().saturating_add(1));
-        } else {
-            assert!(rt; found == (1, 4));
-        }
+        assert!(rt; found == (self.blocks, self.rows));
         Ok(())
     }
 }
 
 #[test]
 fn single_rows(rt: HostRuntime) -> Result<(), Fail> {
-    let test = SingleRows {
-        engines: Cell::new(0),
-    };
-    on_every_engine::<BabyBear, _, _>(&rt, rt.alloc(), &test)?;
-    assert_eq!(rt; test.engines.get(), 1);
-    Ok(())
+    let single = BlocksOfOneRow { blocks: 4, rows: 1 };
+    on::<BabyBear, Radix2DitParallel<BabyBear>, _, _>(&rt, rt.alloc(), &single)?;
+    let whole = BlocksOfOneRow { blocks: 1, rows: 4 };
+    on_engines_of_one_block::<BabyBear, _, _>(&rt, rt.alloc(), &whole)
 }
 
 // Counts blocks in what is lent to it.
