@@ -91,7 +91,7 @@ fn keeps_a_row<F: CanonicalField, D: TwoAdicSubgroupDft<F>>(
     Ok(())
 }
 
-// An engine that is made for no height.
+// An engine that is made for no height, and transforms each all the same.
 fn made_for_no_height<F: CanonicalField>(
     rt: &impl Abort,
     alloc: Global,
@@ -101,7 +101,8 @@ fn made_for_no_height<F: CanonicalField>(
     let mut engine: Radix2DFTSmallBatch<F> = Radix2DFTSmallBatch::new(alloc, n)?;
     assert!(rt; engine.is_prepared(0));
     assert!(rt; !engine.is_prepared(1));
-    keeps_a_row(rt, alloc, &mut engine)
+    keeps_a_row(rt, alloc, &mut engine)?;
+    evaluates(rt, alloc, &mut engine, &[5, 4], &[9, 1])
 }
 
 #[test]
