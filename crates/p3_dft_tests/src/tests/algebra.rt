@@ -313,6 +313,17 @@ impl<F: TwoAdicField> EngineTest<F> for ExtendedInDimensionOne {
 
 // Each form for one column, over the field itself, which is given and answered as a matrix.
 
+fn dft_of_column<F: TwoAdicField, D: TwoAdicSubgroupDft<F>>(
+    rt: &impl Abort,
+    engine: &mut D,
+    column: &RowMajorMatrix<F>,
+) -> Result<RowMajorMatrix<F>, Fail> {
+    let column = column.try_clone()?.into_values();
+    assert!(rt; fits_dft::<F>(column.len(), 1));
+    let values = engine.dft_algebra(column)?;
+    matrix_of(values, 1)
+}
+
 fn coset_dft_of_column<F: TwoAdicField, D: TwoAdicSubgroupDft<F>>(
     rt: &impl Abort,
     engine: &mut D,
@@ -323,6 +334,17 @@ fn coset_dft_of_column<F: TwoAdicField, D: TwoAdicSubgroupDft<F>>(
     assert!(rt; fits_dft::<F>(column.len(), 1));
     let values = engine.coset_dft_algebra(column, shift)?;
     matrix_of(values, 1)
+}
+
+fn idft_of_column<F: TwoAdicField, D: TwoAdicSubgroupDft<F>>(
+    rt: &impl Abort,
+    engine: &mut D,
+    column: &RowMajorMatrix<F>,
+) -> Result<RowMajorMatrix<F>, Fail> {
+    let column = column.try_clone()?.into_values();
+    assert!(rt; fits_dft::<F>(column.len(), 1));
+    let coefficients = engine.idft_algebra(column)?;
+    matrix_of(coefficients, 1)
 }
 
 fn coset_idft_of_column<F: TwoAdicField, D: TwoAdicSubgroupDft<F>>(
@@ -338,6 +360,18 @@ fn coset_idft_of_column<F: TwoAdicField, D: TwoAdicSubgroupDft<F>>(
     matrix_of(coefficients, 1)
 }
 
+fn lde_of_column<F: TwoAdicField, D: TwoAdicSubgroupDft<F>>(
+    rt: &impl Abort,
+    engine: &mut D,
+    column: &RowMajorMatrix<F>,
+    added_bits: usize,
+) -> Result<RowMajorMatrix<F>, Fail> {
+    let column = column.try_clone()?.into_values();
+    assert!(rt; fits_lde::<F>(column.len(), 1, added_bits));
+    let values = engine.lde_algebra(column, added_bits)?;
+    matrix_of(values, 1)
+}
+
 fn coset_lde_of_column<F: TwoAdicField, D: TwoAdicSubgroupDft<F>>(
     rt: &impl Abort,
     engine: &mut D,
@@ -351,13 +385,35 @@ fn coset_lde_of_column<F: TwoAdicField, D: TwoAdicSubgroupDft<F>>(
     matrix_of(values, 1)
 }
 
-// One column of it.
+// One column on the subgroup.
 #[derive(Drop)]
-struct ColumnInDimensionOne {
+struct ColumnOnSubgroup {
     height: usize,
 }
 
-impl<F: TwoAdicField> EngineTest<F> for ColumnInDimensionOne {
+impl<F: TwoAdicField> EngineTest<F> for ColumnOnSubgroup {
+    fn run<R: Abort, D: TwoAdicSubgroupDft<F>>(
+        &self,
+        rt: &R,
+        alloc: Global,
+        engine: &mut D,
+    ) -> Result<(), Fail> {
+        let x = sample(alloc, self.height, 1, 3)?;
+        let values = dft(rt, engine, &x)?;
+        assert_answer(rt, dft_of_column(rt, engine, &x), &values)?;
+        assert_answer(rt, idft_of_column(rt, engine, &values), &x)?;
+        let values = lde(rt, engine, &x, 1)?;
+        assert_agree(rt, values, lde_of_column(rt, engine, &x, 1))
+    }
+}
+
+// And on a coset.
+#[derive(Drop)]
+struct ColumnOnCoset {
+    height: usize,
+}
+
+impl<F: TwoAdicField> EngineTest<F> for ColumnOnCoset {
     fn run<R: Abort, D: TwoAdicSubgroupDft<F>>(
         &self,
         rt: &R,
@@ -386,7 +442,8 @@ fn same_in_dimension_one(rt: HostRuntime) -> Result<(), Fail> {
                 &ExtendedInDimensionOne { height, width },
             )?;
         }
-        on_every_engine::<BabyBear, _, _>(&rt, alloc, &ColumnInDimensionOne { height })?;
+        on_every_engine::<BabyBear, _, _>(&rt, alloc, &ColumnOnSubgroup { height })?;
+        on_every_engine::<BabyBear, _, _>(&rt, alloc, &ColumnOnCoset { height })?;
     }
     Ok(())
 }
@@ -488,58 +545,82 @@ fn each_coordinate_alone(rt: HostRuntime) -> Result<(), Fail> {
     on_every_engine::<BabyBear, _, _>(&rt, rt.alloc(), &EachAlone { width: 3 })
 }
 
-// Every form, at height two.
-fn every_form<F: TwoAdicField, D: TwoAdicSubgroupDft<F>>(
-    rt: &impl Abort,
-    alloc: Global,
-    engine: &mut D,
-) -> Result<(), Fail> {
-    let (height, width) = (2, 3);
-    DimensionOne { height, width }.run(rt, alloc, engine)?;
-    ExtendedInDimensionOne { height, width }.run(rt, alloc, engine)?;
-    ColumnInDimensionOne { height }.run(rt, alloc, engine)
+// Every form over the field itself, at height two.
+struct EveryForm;
+
+impl<F: TwoAdicField> EngineTest<F> for EveryForm {
+    fn run<R: Abort, D: TwoAdicSubgroupDft<F>>(
+        &self,
+        rt: &R,
+        alloc: Global,
+        engine: &mut D,
+    ) -> Result<(), Fail> {
+        let (height, width) = (2, 3);
+        DimensionOne { height, width }.run(rt, alloc, engine)?;
+        ExtendedInDimensionOne { height, width }.run(rt, alloc, engine)?;
+        ColumnOnSubgroup { height }.run(rt, alloc, engine)?;
+        ColumnOnCoset { height }.run(rt, alloc, engine)
+    }
 }
 
-// Whether all of them answer or memory is refused to one, the height stays prepared.
+// Whether all forms of a test answer or memory is refused to one, height two stays prepared.
 
-fn dit_stays_prepared<F: TwoAdicField>(rt: &impl Abort, alloc: Global) -> Result<(), Fail> {
+fn dit_stays_prepared<F: TwoAdicField, R: Abort, T: EngineTest<F>>(
+    rt: &R,
+    alloc: Global,
+    test: &T,
+) -> Result<(), Fail> {
     assert!(rt; F::TWO_ADICITY >= 1);
     let mut engine: Radix2Dit<F> = Radix2Dit::default();
     engine.prepare(alloc, 1)?;
-    let done = every_form(rt, alloc, &mut engine);
+    let done = test.run(rt, alloc, &mut engine);
     assert!(rt; engine.is_prepared(1));
     done
 }
 
-fn halves_stay_prepared<F: TwoAdicField>(rt: &impl Abort, alloc: Global) -> Result<(), Fail> {
+fn halves_stay_prepared<F: TwoAdicField, R: Abort, T: EngineTest<F>>(
+    rt: &R,
+    alloc: Global,
+    test: &T,
+) -> Result<(), Fail> {
     assert!(rt; F::TWO_ADICITY >= 1);
     let mut engine: Radix2DitParallel<F> = Radix2DitParallel::default();
     engine.prepare(alloc, 1)?;
-    let done = every_form(rt, alloc, &mut engine);
+    let done = test.run(rt, alloc, &mut engine);
     assert!(rt; engine.is_prepared(1));
     done
 }
 
-fn tiles_stay_prepared<F: TwoAdicField>(rt: &impl Abort, alloc: Global) -> Result<(), Fail> {
+fn tiles_stay_prepared<F: TwoAdicField, R: Abort, T: EngineTest<F>>(
+    rt: &R,
+    alloc: Global,
+    test: &T,
+) -> Result<(), Fail> {
     assert!(rt; F::TWO_ADICITY >= 1);
     let mut engine: Radix2DFTSmallBatch<F> = Radix2DFTSmallBatch::default();
     engine.prepare(alloc, 1)?;
-    let done = every_form(rt, alloc, &mut engine);
+    let done = test.run(rt, alloc, &mut engine);
     assert!(rt; engine.is_prepared(1));
     done
 }
 
 #[test]
 fn stays_prepared(rt: HostRuntime) -> Result<(), Fail> {
-    dit_stays_prepared::<BabyBear>(&rt, rt.alloc())
+    dit_stays_prepared::<BabyBear, _, _>(&rt, rt.alloc(), &EveryForm)?;
+    dit_stays_prepared::<BabyBear, _, _>(&rt, rt.alloc(), &WorkedPairs)?;
+    dit_stays_prepared::<BabyBear, _, _>(&rt, rt.alloc(), &ExtendedPairs)
 }
 
 #[test]
 fn stays_prepared_by_halves(rt: HostRuntime) -> Result<(), Fail> {
-    halves_stay_prepared::<BabyBear>(&rt, rt.alloc())
+    halves_stay_prepared::<BabyBear, _, _>(&rt, rt.alloc(), &EveryForm)?;
+    halves_stay_prepared::<BabyBear, _, _>(&rt, rt.alloc(), &WorkedPairs)?;
+    halves_stay_prepared::<BabyBear, _, _>(&rt, rt.alloc(), &ExtendedPairs)
 }
 
 #[test]
 fn stays_prepared_by_tiles(rt: HostRuntime) -> Result<(), Fail> {
-    tiles_stay_prepared::<BabyBear>(&rt, rt.alloc())
+    tiles_stay_prepared::<BabyBear, _, _>(&rt, rt.alloc(), &EveryForm)?;
+    tiles_stay_prepared::<BabyBear, _, _>(&rt, rt.alloc(), &WorkedPairs)?;
+    tiles_stay_prepared::<BabyBear, _, _>(&rt, rt.alloc(), &ExtendedPairs)
 }
