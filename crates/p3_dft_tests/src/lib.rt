@@ -1,4 +1,5 @@
-//! Tests of `p3_dft` through its public names, as a crate of a user's sees them.
+//! Tests of `p3_dft` through its public names, as a crate of a user's sees them, and of the groups of
+//! layers in `p3_networks`.
 //!
 //! They stand in a crate of their own since a crate with tests is proved once more with them. Beside
 //! them stand clients: the product of two polynomials, a transform on a coset that is undone, and
