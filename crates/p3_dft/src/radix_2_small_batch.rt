@@ -3,20 +3,25 @@
 ghost use Rattle.std.specs.Prelude.{◌≡◌, ◌↔◌, ◌⊎◌, ℕ, ◌+◌, ◌*◌, ◌/◌, ◌^◌, ◌<◌, ◌≤◌, max, IsTrue, IsOk, IfOk, OnOk, OnErr, Ok, [], length};
 ghost use Rattle.p3_matrix.specs.BitOrder.{bit_reversal};
 ghost use Rattle.p3_matrix.specs.Matrix.{Matrix, image};
-ghost use Rattle.p3_matrix.specs.RowMajor.{HasShapeOf, IsRowMajor, height};
+ghost use Rattle.p3_matrix.specs.RowMajor.{HasShapeOf, IsRowMajor, RowMajor, height};
 ghost use Rattle.p3_networks.specs.Cosets.{AreCoefficients, IsQuotient, IsValues, coset_shift};
 ghost use Rattle.p3_dft.specs.Engines.{AtLog, IsPrepared, PreparesNoneAbove};
+ghost use Rattle.p3_dft.specs.Extensions.{with_zeros};
 ghost use Rattle.p3_dft.specs.Transforms.{IsInterpolation, IsTransform, values_of};
 ghost use Rattle.p3_networks.specs.Twiddles.{AreTwiddlesFromStart, backward_root, block_powers, forward_root};
 
 use crate::traits::{Layout, TwoAdicSubgroupDft};
-use crate::util::{extend_by_zeros, reverse_rows};
+use crate::util::{extend_by_zeros, pad_rows, reverse_rows};
 use p3_field::{Products, TwoAdicField};
-use p3_matrix::{DftError, IntoRowMajorMatrix, RowMajorMatrix, log2_strict_usize};
+use p3_matrix::{
+    BitReversedMatrixView, DftError, Evaluations, IntoRowMajorMatrix, RowMajorMatrix,
+    log2_strict_usize,
+};
 use p3_networks::radix_2_small_batch::groups::{log_tile_rows, piece_size};
 use p3_networks::radix_2_small_batch::networks::{
     dit_network, extending_network, scaled_dif_network,
 };
+use p3_networks::radix_2_small_batch::slots::slots_network;
 use p3_networks::root_tables::RootTables;
 use p3_networks::twiddles::reversed_powers;
 use std::alloc::{AllocError, Global};
@@ -29,7 +34,7 @@ const TILE: usize = 8192;
 /// the whole matrix, in groups of three that go piece by piece, and all others tile by tile, so that a
 /// piece and a tile go through their layers while they are in the cache. At height `2^k` and width w
 /// that is at most `w * k * 2^k / 2` products, and `w * 2^k` more for an inverse, which has a network of
-/// its own. So has `coset_lde_batch`, which meets no row of zeros.
+/// its own. So have the extensions, which meet no row of zeros.
 ///
 /// Two tables of twiddles are kept for the largest height so far, from its first transform on, or from
 /// `prepare`, until the engine ends; then `dft_batch`, `idft_batch` and the calls that stand on them,
@@ -294,6 +299,37 @@ impl<F: TwoAdicField> TwoAdicSubgroupDft<F> for Radix2DFTSmallBatch<F> {
         )
     }
 
+    /// As the trait says, by the inverse and, slot after slot, by transforms on the cosets that the rows in
+    /// bit reversed order lie on: no row of zeros is met, and no rows are reversed after the inverse.
+    fn coset_lde_batch_bit_reversed<
+        N: IntoRowMajorMatrix<F>,
+        T: FnOnce(RowMajorMatrix<F>, Layout) -> RowMajorMatrix<F> + Drop,
+    >(
+        &mut self,
+        mat: N,
+        added_bits: usize,
+        shift: F,
+        transform: T,
+    ) -> Result<BitReversedMatrixView<RowMajorMatrix<F>>, DftError> {
+        let mat = mat.into_row_major_matrix();
+        let log_h = log2_strict_usize(mat.height());
+        let coefficients = self.idft_batch(mat)?;
+        let changed = transform(coefficients, Layout::Natural);
+        let mut grown = pad_rows(changed, added_bits)?;
+        self.tables.make(*grown.allocator(), log_h + added_bits)?;
+        let twiddles = self.tables.forward();
+        extend_in_slots(
+            &mut grown,
+            log_h,
+            added_bits,
+            shift,
+            self.tile,
+            twiddles,
+            &mut self.products,
+        );
+        Ok(grown.bit_reverse_rows())
+    }
+
     fn coset_lde_batch_with_transform<
         N: IntoRowMajorMatrix<F>,
         T: FnOnce(RowMajorMatrix<F>, Layout) -> RowMajorMatrix<F> + Drop,
@@ -304,7 +340,8 @@ impl<F: TwoAdicField> TwoAdicSubgroupDft<F> for Radix2DFTSmallBatch<F> {
         shift: F,
         transform: T,
     ) -> Result<RowMajorMatrix<F>, DftError> {
-        self.coset_lde_batch_by_parts(mat, added_bits, shift, transform)
+        let values = self.coset_lde_batch_bit_reversed(mat, added_bits, shift, transform)?;
+        Ok(values.to_row_major_matrix())
     }
 }
 
@@ -429,6 +466,48 @@ fn extend<F: TwoAdicField>(
         products,
     );
     Ok(RowMajorMatrix::new(values, width))
+}
+
+// From coefficients in natural order, with rows of zeros below them, their values on the coset of `shift`
+// that has as many points as there are rows, in bit reversed order. What the zeros are does not matter.
+fn extend_in_slots<F: TwoAdicField>(
+    mat: &mut RowMajorMatrix<F>,
+    log_h: usize,
+    added_bits: usize,
+    shift: F,
+    tile: usize,
+    twiddles: &[F],
+    products: &mut Products,
+)
+    requires whole { IsRowMajor mat.old }
+    requires within { log_h + added_bits ≤ F.TWO_ADICITY }
+    requires small { log_h + added_bits < 64 }
+    requires height { height mat.old ≡ 2 ^ (log_h + added_bits) }
+    requires tile { tile ≤ 4294967296 }
+    requires twiddles { AreTwiddlesFromStart F.Field.own log_h
+        (block_powers F.Field.own (forward_root F.Field.own F.generator)) twiddles.now }
+    ensures shape { HasShapeOf mat.new mat.old }
+    ensures size { length mat.new.values ≡ length mat.old.values }
+    ensures values { (c : RowMajor F) → IsRowMajor c → height c ≡ 2 ^ log_h → mat.old ≡ with_zeros F.ZERO c added_bits
+        → IsValues F.ring (λ n. F.value (F.generator n)) (values_of F.Field.own c) (log_h + added_bits) (F.value shift)
+        (bit_reversal (log_h + added_bits) (values_of F.Field.own mat.new)) }
+    ensures grows { products.old ≤ products.new }
+    ensures cost { products.new ≤ products.old
+        + 2 ^ added_bits * (mat.old.width * (log_h * 2 ^ log_h / 2) + 2 ^ log_h * mat.old.width) }
+{
+    let width = mat.width();
+    let log_rows = log_tile_rows(tile, width, log_h);
+    slots_network(
+        twiddles,
+        mat.values_mut(),
+        width,
+        log_rows,
+        log_h,
+        added_bits,
+        shift,
+        piece_size(tile),
+        products,
+    );
 }
 
 // From values on the subgroup to coefficients, in place.

@@ -216,6 +216,32 @@ pub trait TwoAdicSubgroupDft<F: TwoAdicField>: Clone + Default {
         self.coset_dft_batch(coefficients, shift)
     }
 
+    /// What `coset_lde_batch_with_transform` answers, with its rows in bit reversed order, in which blocks
+    /// of them are published.
+    fn coset_lde_batch_bit_reversed<
+        N: IntoRowMajorMatrix<F>,
+        T: FnOnce(RowMajorMatrix<F>, Layout) -> RowMajorMatrix<F> + Drop,
+    >(
+        &mut self,
+        mat: N,
+        added_bits: usize,
+        shift: F,
+        transform: T,
+    ) -> Result<BitReversedMatrixView<RowMajorMatrix<F>>, DftError>
+        requires fits { FitsLde F.TWO_ADICITY (height (N.stored mat)) (N.stored mat).width added_bits }
+        requires callable { (m : RowMajor F) → HasShapeOf m (N.stored mat) → T.pre transform m LAYOUT }
+        requires shape { (m n : RowMajor F) → HasShapeOf m (N.stored mat) → T.post transform m LAYOUT n → HasShapeOf n (N.stored mat) }
+        ensures values { IfOk result (λ out. IsTransformedExtension F.Field.own F.generator (λ m n. T.post transform m LAYOUT n) LAYOUT
+            (N.stored mat) added_bits (F.value shift) (reversed_rows out.bits out.physical)) }
+        ensures serves { AtLog (height (N.stored mat)) (λ k. OnOk result (served self.new k × served self.new (k + added_bits))) }
+        ensures later { IsLater promised coset_promised served made self.old self.new }
+        ensures cost { AtLog (height (N.stored mat))
+            (λ k. OnOk result (made self.new ≤ made self.old + extension bound k added_bits (N.stored mat).width)) }
+    {
+        let values = self.coset_lde_batch_with_transform(mat, added_bits, shift, transform)?;
+        Ok(values.into_bit_reversed())
+    }
+
     /// The values on `shift * K` of the polynomials whose values on H are the columns, where K is the
     /// subgroup of order `height << added_bits`. The shift may be zero. The shape is one that
     /// `fits_lde` accepts.
@@ -311,10 +337,9 @@ pub trait TwoAdicSubgroupDft<F: TwoAdicField>: Clone + Default {
     {
         let mat = mat.into_row_major_matrix();
         let block_height = self.block_height(log2_strict_usize(mat.height()), added_bits);
-        match self.coset_lde_batch_with_transform(mat, added_bits, shift, transform) {
+        match self.coset_lde_batch_bit_reversed(mat, added_bits, shift, transform) {
             Err(_) => Err(BlocksStopped::OutOfMemory(Unpublished { make_consumer })),
-            Ok(values) => {
-                let out = values.into_bit_reversed();
+            Ok(out) => {
                 let mut consumer = make_consumer(block_height);
                 match publish(out.inner(), block_height, &mut consumer) {
                     Ok(()) => Ok((out, consumer)),

@@ -2,7 +2,6 @@
 
 ghost use Rattle.std.specs.Prelude.{◌≡◌, ◌↔◌, ℕ, ◌+◌, ◌*◌, ◌++◌, ◌<◌, ◌≤◌, ◌^◌, IsTrue, IfOk, OnOk};
 ghost use Rattle.std.specs.Prelude.{OnErr, get_or, length, replicate, vec_len, vec_capacity};
-ghost use Rattle.p3_field.specs.Ring.{power};
 ghost use Rattle.p3_matrix.specs.BitOrder.{bit_reversal};
 ghost use Rattle.p3_matrix.specs.RowMajor.{height, HasShapeOf, IsRowMajor};
 ghost use Rattle.p3_matrix.specs.Matrix.{Same, row_exchange, matrix};
@@ -16,6 +15,7 @@ use p3_matrix::{
     DftError, RowMajorMatrix, RowMajorMatrixViewMut, log2_strict_usize, reverse_matrix_index_bits,
     scale_slice_in_place, swap_rows,
 };
+use p3_networks::shifts::shift_values;
 
 /// Whether a matrix of this shape can be transformed: the height is a power of two of at most
 /// `2^TWO_ADICITY`, the width is at least one, and a `usize` counts the entries.
@@ -183,25 +183,4 @@ pub(crate) fn shift_rows<F: TwoAdicField>(
     let width = mat.width();
     let height = mat.height();
     shift_values(mat.values_mut(), width, height, shift, products);
-}
-
-// The same of the entries, row after row.
-fn shift_values<F: TwoAdicField>(
-    values: &mut [F],
-    width: usize,
-    height: usize,
-    shift: F,
-    products: &mut Products,
-)
-    requires { length values.old ≡ height * width }
-    ensures values { (i j : ℕ) → i < height → j < width → F.value (get_or values.new (i * width + j) F.ZERO)
-        ≡ F.ring.mul (F.value (get_or values.old (i * width + j) F.ZERO)) (power F.ring (F.value shift) i) }
-    ensures count { products.new ≡ products.old + height * width }
-{
-    let mut power = F::ONE;
-    for i in 0..height {
-        let start = i * width;
-        scale_slice_in_place(&mut values[start..start + width], power, products);
-        power = power * shift;
-    }
 }

@@ -11,4 +11,5 @@ pub mod radix_2_dit;
 pub mod radix_2_dit_parallel;
 pub mod radix_2_small_batch;
 pub mod root_tables;
+pub mod shifts;
 pub mod twiddles;

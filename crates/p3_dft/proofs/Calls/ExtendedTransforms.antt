@@ -4,7 +4,7 @@ use Rattle.std.proofs.lemmas.Nat.{pow-add}
 use Rattle.p3_field.specs.declared.fields.Field.{Ghosts as FieldMembers}
 use Rattle.p3_matrix.specs.RowMajor.{RowMajor, IsRowMajor, height, HasShapeOf}
 use Rattle.p3_matrix.specs.Matrix.{Same, matrix}
-use Rattle.p3_networks.specs.Cosets.{coset_shift}
+use Rattle.p3_networks.specs.Cosets.{IsValues, coset_shift}
 use Rattle.p3_dft.specs.Extensions.{IsExtension, IsTransformedExtension, arrangement, with_zeros}
 use Rattle.p3_dft.specs.Transforms.{values_of, IsInterpolation, IsTransform}
 use Rattle.p3_dft.specs.declared.traits.Layout.{Layout}
@@ -39,14 +39,12 @@ module _ {F : Type 0} (f : FieldMembers F) (generator : ℕ → F) where
         (values (k + a) (padded_high f.ZERO back whole a ∙ ap (λ h. h * 2 ^ a) (high ∙ e) ∙ sym (pow-add 2 k a)));
   }
 
-  -- what a transform answers of coefficients in natural order, row i times the i-th power of the shift, with rows of zeros, on the larger subgroup
-  pub extension_of_shifted : f.value f.ZERO ≡ f.ring.zero → (may_answer : RowMajor F → RowMajor F → Type 0) (m coefficients answered scaled out : RowMajor F) (a : ℕ) (s : f.Element)
-      → IsInterpolation f generator m f.ring.one coefficients
-      → may_answer coefficients answered → height answered ≡ height m
-      → Same (values_of f scaled) (coset_shift f.ring s (values_of f answered)) → IsRowMajor scaled
-      → IsTransform f generator (with_zeros f.ZERO scaled a) f.ring.one out
+  -- what a transform answers of coefficients in natural order, on the larger coset
+  pub extension_of_natural : (may_answer : RowMajor F → RowMajor F → Type 0) (m coefficients answered out : RowMajor F) (a : ℕ) (s : f.Element)
+      → IsInterpolation f generator m f.ring.one coefficients → may_answer coefficients answered
+      → ((k : ℕ) → height m ≡ 2 ^ k → IsValues f.ring (λ n. f.value (generator n)) (values_of f answered) (k + a) s (values_of f out))
       → IsTransformedExtension f generator may_answer Natural m a s out
-  extension_of_shifted zero_is may_answer m coefficients answered scaled out a s are called tall same whole values = record {
+  extension_of_natural may_answer m coefficients answered out a s are called values = record {
     coefficients = values_of f coefficients;
     are_coefficients = are.holds;
     told = coefficients;
@@ -55,11 +53,22 @@ module _ {F : Type 0} (f : FieldMembers F) (generator : ℕ → F) where
     called = called;
     changed = values_of f answered;
     answered_in_layout = λ k e. record { high = refl; wide = refl; alike = λ i j p q. refl };
-    extended = λ k e.
-        coset_values f.ring (λ n. f.value (generator n)) (values_of f answered) (values_of f scaled) (k + a) s (values_of f out) same
-        (values_of_padded f zero_is generator scaled whole a (k + a) f.ring.one out
-        (values (k + a) (padded_high f.ZERO scaled whole a ∙ ap (λ h. h * 2 ^ a) (same.high ∙ tall ∙ e) ∙ sym (pow-add 2 k a))));
+    extended = values;
   }
+
+  -- row i times the i-th power of the shift, with rows of zeros, on the larger subgroup
+  pub extension_of_shifted : f.value f.ZERO ≡ f.ring.zero → (may_answer : RowMajor F → RowMajor F → Type 0) (m coefficients answered scaled out : RowMajor F) (a : ℕ) (s : f.Element)
+      → IsInterpolation f generator m f.ring.one coefficients
+      → may_answer coefficients answered → height answered ≡ height m
+      → Same (values_of f scaled) (coset_shift f.ring s (values_of f answered)) → IsRowMajor scaled
+      → IsTransform f generator (with_zeros f.ZERO scaled a) f.ring.one out
+      → IsTransformedExtension f generator may_answer Natural m a s out
+  extension_of_shifted zero_is may_answer m coefficients answered scaled out a s are called tall same whole values =
+      extension_of_natural may_answer m coefficients answered out a s are called
+      (λ k e.
+      coset_values f.ring (λ n. f.value (generator n)) (values_of f answered) (values_of f scaled) (k + a) s (values_of f out) same
+      (values_of_padded f zero_is generator scaled whole a (k + a) f.ring.one out
+      (values (k + a) (padded_high f.ZERO scaled whole a ∙ ap (λ h. h * 2 ^ a) (same.high ∙ tall ∙ e) ∙ sym (pow-add 2 k a)))))
 
   -- a transform that gives its argument back changes nothing
   pub extension_of_same : (may_answer : RowMajor F → RowMajor F → Type 0) (layout : Layout) (m out : RowMajor F) (a : ℕ) (s : f.Element)

@@ -3,7 +3,7 @@ use Rattle.std.proofs.Common.{Option, Some, None, IsTrue, ◌≡◌, ℕ, ◌+�
 use Rattle.std.proofs.Math.Nat.{mul_comm, mul_assoc, pow-le-pow_right, mul-le-mul_right}
 use Rattle.std.proofs.lemmas.Nat.{pow-add}
 use Rattle.std.specs.Option.{SomeIff, is_some}
-use Rattle.p3_matrix.proofs.TwoPowers.{log_of_usize}
+use Rattle.p3_matrix.proofs.TwoPowers.{log_of_usize, log_same}
 use Rattle.p3_dft.specs.Shapes.{FitsDft, FitsLde}
 
 -- a product is told exactly where it fits
@@ -50,3 +50,7 @@ output_size most height width added fit =
 -- an extension has no fewer entries
 pub entries_rise : (k a w : ℕ) → 2 ^ k * w ≤ 2 ^ (k + a) * w
 entries_rise k a w = mul-le-mul_right w (pow-le-pow_right (omega arith) (omega arith))
+
+-- the logarithm of a height, as a program found it, is that of a shape
+pub log_within : (log a most fit h : ℕ) → h ≡ 2 ^ log → h ≡ 2 ^ fit → fit + a ≤ most → log + a ≤ most
+log_within log a most fit h is high within = let same : log ≡ fit = log_same log fit (sym is ∙ high) in omega (arith, same, within)

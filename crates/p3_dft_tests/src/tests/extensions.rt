@@ -59,6 +59,27 @@ fn swapped_coefficients<F: CanonicalField, D: TwoAdicSubgroupDft<F>>(
     Ok(())
 }
 
+// The same, with the rows of the answer in bit reversed order.
+fn swapped_in_bit_reversed_rows<F: CanonicalField, D: TwoAdicSubgroupDft<F>>(
+    rt: &impl Abort,
+    alloc: Global,
+    engine: &mut D,
+) -> Result<(), Fail> {
+    let mat: RowMajorMatrix<F> = matrix(alloc, &[9, 1], 1)?;
+    assert!(rt; fits_lde::<F>(mat.height(), mat.width(), 1));
+    let view = engine.coset_lde_batch_bit_reversed(
+        mat,
+        1,
+        F::ONE,
+        |coefficients: RowMajorMatrix<F>, _layout: Layout| -> RowMajorMatrix<F>
+            ensures { HasShapeOf result coefficients }
+        { turned_around(coefficients) },
+    )?;
+    let want = matrix(alloc, &[9, 2013265920, 588958885, 1424307044], 1)?;
+    assert!(rt; view.bit_reverse_rows() == want);
+    Ok(())
+}
+
 // Of 1 + 2 x + 3 x^2 + 4 x^3 the coefficient in row 1 stays: 2 x, or 3 x^2 where the rows are in bit reversed
 // order.
 fn one_coefficient<F: CanonicalField, D: TwoAdicSubgroupDft<F>>(
@@ -94,6 +115,7 @@ impl<F: CanonicalField> EngineTest<F> for MovedCoefficients {
         engine: &mut D,
     ) -> Result<(), Fail> {
         swapped_coefficients(rt, alloc, engine)?;
+        swapped_in_bit_reversed_rows(rt, alloc, engine)?;
         one_coefficient(rt, alloc, engine)
     }
 }

@@ -96,14 +96,25 @@ extension_counted k a w len before after some full twice =
     ap (λ n. w * (n + 2 ^ (k + a))) (half_of_runs k a) ∙ (let spread : w * (k * p + 2 ^ (k + a)) ≡ w * (k * p) + 2 ^ (k + a) * w = omega arith in spread) ∙ ap (λ n. w * (k * p) + n) (sym full) in
     omega (arith, twice, all, each, half)
 
+-- layers of 2 ^ k rows, 2 ^ a times, are no more than those of all rows
+pub layers_of_slots : (k a w : ℕ) → w * (2 ^ a * (k * 2 ^ k / 2)) ≤ w * ((k + a) * 2 ^ (k + a) / 2)
+layers_of_slots k a w =
+    let rise : k * 2 ^ (k + a - 1) ≤ (k + a) * 2 ^ (k + a - 1) = mul-le-mul_right (2 ^ (k + a - 1)) (let l : k ≤ k + a = omega arith in l) in
+    mul-le-mul_left w (omega (arith, rise, half_of_runs k a, half_count (k + a)))
+
 pub fewer_than_parts : (k a w : ℕ) → w * (k * 2 ^ k / 2 * (1 + 2 ^ a) + 2 ^ (k + a)) ≤ w * (k * 2 ^ k / 2) + 2 ^ k * w + (w * ((k + a) * 2 ^ (k + a) / 2) + 2 ^ (k + a) * w)
 fewer_than_parts k a w =
     let x = k * 2 ^ k / 2 in
-    let rise : k * 2 ^ (k + a - 1) ≤ (k + a) * 2 ^ (k + a - 1) = mul-le-mul_right (2 ^ (k + a - 1)) (let l : k ≤ k + a = omega arith in l) in
-    let less : 2 ^ a * x ≤ (k + a) * 2 ^ (k + a) / 2 = omega (arith, rise, half_of_runs k a, half_count (k + a)) in
-    let wide : w * (2 ^ a * x) ≤ w * ((k + a) * 2 ^ (k + a) / 2) = mul-le-mul_left w less in
     let spread : w * (x * (1 + 2 ^ a) + 2 ^ (k + a)) ≡ w * x + w * (2 ^ a * x) + 2 ^ (k + a) * w = omega arith in
-    omega (arith, spread, wide)
+    omega (arith, spread, layers_of_slots k a w)
+
+-- slots whose rows are each multiplied once
+pub slots_made : (k a w before after : ℕ) → after ≤ before + 2 ^ a * (w * (k * 2 ^ k / 2) + 2 ^ k * w) → after ≤ before + (w * ((k + a) * 2 ^ (k + a) / 2) + 2 ^ (k + a) * w)
+slots_made k a w before after made =
+    let x = k * 2 ^ k / 2 in
+    let spread : 2 ^ a * (w * x + 2 ^ k * w) ≡ w * (2 ^ a * x) + 2 ^ k * 2 ^ a * w = omega arith in
+    let rows : 2 ^ k * 2 ^ a * w ≡ 2 ^ (k + a) * w = ap (λ n. n * w) (sym (pow-add 2 k a)) in
+    omega (arith, made, spread, rows, layers_of_slots k a w)
 
 pub extension_made : (x y p w before middle after : ℕ) → middle ≤ before + w * x → after ≤ middle + w * (p * x + y) → after ≤ before + w * (x * (1 + p) + y)
 extension_made x y p w before middle after first second =

@@ -3,11 +3,10 @@ use Rattle.std.proofs.Common.{◌≡◌, ℕ, ◌+◌, ◌-◌, ◌*◌, ◌/◌
 use Rattle.std.proofs.Math.Nat.{mul-div_cancel, mul-mod_left}
 use Rattle.std.proofs.lemmas.Nat.{pow-add, pow_pos}
 use Rattle.std.proofs.lemmas.Result.{IfErr-weaker, on_ok_weaker}
-use Rattle.p3_field.specs.declared.fields.Field.{Ghosts as FieldMembers}
 use Rattle.p3_matrix.specs.BitOrder.{rev, bit_reversal}
 use Rattle.p3_matrix.specs.Blocks.{block, first_blocks}
 use Rattle.p3_matrix.specs.Matrix.{Matrix}
-use Rattle.p3_matrix.specs.RowMajor.{RowMajor, IsRowMajor, height, rows_from}
+use Rattle.p3_matrix.specs.RowMajor.{RowMajor, rows_from}
 use Rattle.p3_matrix.proofs.BitReversal.{rev-lt, rev-rev}
 use Rattle.p3_networks.specs.Cosets.{point}
 use Rattle.p3_networks.specs.Polynomials.{poly}
@@ -16,10 +15,9 @@ use Rattle.p3_networks.proofs.Polynomials.Cosets.{is_values}
 use Rattle.p3_networks.specs.Slots.{slot_block, slot_blocks}
 use Rattle.p3_networks.proofs.Rows.Lent.{map_same}
 use Rattle.p3_networks.proofs.Rows.Overwritten.{written}
-use Rattle.p3_dft.specs.Extensions.{with_zeros}
 use Rattle.p3_dft.specs.Transforms.{values_of}
 use Rattle.p3_dft.proofs.BitReversed.Rows.{written_cell}
-use Rattle.p3_dft.proofs.Calls.Padding.{padded_above}
+use Rattle.p3_dft.proofs.Calls.Padding.{cell_above}
 use Rattle.p3_dft.proofs.radix_2_dit_parallel.extension.extend.Goals as goal
 
 -- blocks of a slot that begins with row 0 are those of a matrix
@@ -27,14 +25,6 @@ first_are : {T : Type 0} (b w : ℕ) (rows : List T) (n : ℕ) → slot_blocks 0
 first_are {T} b w rows n =
     map_same (slot_block 0 b w rows) (block b (record { width = w; values = rows })) n
     (λ q below. let number : 0 + q * b ≡ q * b = omega arith in ap (λ (x : ℕ). (x, rows_from (record { width = w; values = rows }) (q * b) b)) number)
-
--- the rows above the zeros
-coefficient_is : {F : Type 0} (f : FieldMembers F) (upper m : RowMajor F) (start : List F) (log a w q j : ℕ) → IsRowMajor upper → height upper ≡ 2 ^ log → m ≡ with_zeros f.ZERO upper a → start ≡ m.values
-    → upper.width ≡ w → q < 2 ^ log → j < upper.width → f.value (get_or start (rev log q * w + j) f.ZERO) ≡ (bit_reversal log (values_of f upper)).entry q j
-coefficient_is {F} f upper m start log a w q j whole high over_zeros start_is wide p inside =
-    ap (λ xs. f.value (get_or xs (rev log q * w + j) f.ZERO)) (start_is ∙ ap (λ (x : RowMajor F). x.values) over_zeros)
-    ∙ ap (λ v. f.value (get_or (with_zeros f.ZERO upper a).values (rev log q * v + j) f.ZERO)) (sym wide)
-    ∙ ap f.value (padded_above f.ZERO upper whole a (rev log q) j (omega (arith, rev-lt log q, high)) inside)
 
 pub returns-clause-values : goal.returns-clause-values
 returns-clause-values g c =
@@ -61,7 +51,7 @@ returns-clause-values g c =
     written_cell field m after _ w (rev n i) j size wide ∙ given (rev n i) j (rev-lt n i) l
     ∙ ap (λ r. poly field.ring (2 ^ log) (λ q. field.value (get_or start (rev log q * w + j) field.ZERO)) (point field.ring gen n s r)) (rev-rev n i below)
     ∙ poly_same field.ring (2 ^ log) _ column (point field.ring gen n s i)
-    (λ q p. coefficient_is field upper m start log c.args.added_bits w q j whole high over_zeros c.values_mut.ensures.values wide_upper p inside)
+    (λ q p. cell_above field upper m start c.args.added_bits w (rev log q) j whole over_zeros c.values_mut.ensures.values wide_upper (omega (arith, rev-lt log q, high)) inside)
     ∙ ap (λ h. poly field.ring h column (point field.ring gen n s i)) (sym high)))
     c.extend_slots.ensures.values
 
@@ -121,7 +111,7 @@ returns-clause-refused g c =
       is_values field.ring gen coefficients n s out refl (sym wide_upper)
           (λ i j below inside.
           poly_same field.ring (2 ^ log) _ (λ q. coefficients.entry q j) (point field.ring gen n s i)
-          (λ q p. coefficient_is field upper m start log c.args.added_bits w q j whole high over_zeros c.values_mut.ensures.values wide_upper p inside)
+          (λ q p. cell_above field upper m start c.args.added_bits w (rev log q) j whole over_zeros c.values_mut.ensures.values wide_upper (omega (arith, rev-lt log q, high)) inside)
           ∙ ap (λ h. poly field.ring h (λ q. coefficients.entry q j) (point field.ring gen n s i)) (sym high)),
       blocks,
       stopped,

@@ -10,7 +10,7 @@ use Rattle.p3_networks.specs.Cosets.{coset_shift}
 use Rattle.p3_dft.specs.Extensions.{extension_bound}
 use Rattle.p3_dft.specs.Transforms.{values_of}
 use Rattle.p3_dft.specs.Engines.{Tabled, IsPrepared}
-use Rattle.p3_dft.proofs.Calls.Shapes.{output_log_small}
+use Rattle.p3_dft.proofs.Calls.Shapes.{log_within, output_log_small}
 use Rattle.p3_networks.proofs.Layers.Counts.{extension_made, fewer_than_parts}
 use Rattle.p3_networks.proofs.Polynomials.Cosets.{coset_values}
 use Rattle.p3_dft.proofs.BitReversed.Coefficients.{extension_of_coefficients, extension_of_row, shifted_quotient}
@@ -20,9 +20,6 @@ use Rattle.p3_dft.proofs.radix_2_small_batch.Radix2DFTSmallBatchTwoAdicSubgroupD
 on_ok : {T E : Type 0} (r : Result T E) {P : Type 0} → P → OnOk r P
 on_ok (Ok x) known = known
 on_ok (Err e) known = tt
-
-log_within : (log a most fit h : ℕ) → h ≡ 2 ^ log → h ≡ 2 ^ fit → fit + a ≤ most → log + a ≤ most
-log_within log a most fit h is high within = let same : log ≡ fit = log_same log fit (sym is ∙ high) in omega (arith, same, within)
 
 more_points : (h log a : ℕ) → h ≡ 2 ^ log → (log + a ≡ 0 → ⊥) → h ≡ 1 → a ≡ 0 → ⊥
 more_points h log a is more one none = let single : log ≡ 0 = log_same log 0 (sym is ∙ one) in more (omega (arith, none, single))

@@ -1,5 +1,5 @@
 use Rattle.std.specs.Prelude.{IsPermutation}
-use Rattle.std.proofs.Common.{◌≡◌, ℕ, suc, List, [], ◌∷◌, take, drop, ◌+◌, ◌*◌, ◌-◌, ◌/◌, ◌%◌, ◌++◌, ◌<◌, ◌≤◌, ◌^◌, length, get_or, refl, sym, ap, ◌∙◌, subst, arith, rules, ⊎_elim}
+use Rattle.std.proofs.Common.{◌≡◌, ℕ, List, [], ◌∷◌, take, drop, ◌+◌, ◌*◌, ◌-◌, ◌/◌, ◌%◌, ◌++◌, ◌<◌, ◌≤◌, ◌^◌, length, get_or, refl, sym, ap, ◌∙◌, subst, arith, rules, ⊎_elim}
 use borrow.Author.Rules.{scaled_fits≤}
 use borrow.Rule.Slice.PartMut.{put_mid}
 use Rattle.std.proofs.Math.Nat.{mod-eq_of_lt, mul-le-mul_right}
@@ -10,7 +10,7 @@ use Rattle.std.proofs.lemmas.List.FromFn.{get_or-map-range_with_len, length-map-
 use Rattle.std.proofs.lemmas.List.Sorted.{IsPermutation-append_comm}
 use Rattle.std.proofs.lemmas.Result.{IfErr-weaker, on_ok_weaker}
 use Rattle.std.proofs.lemmas.Slice.{take-put_mid_below}
-use Rattle.std.proofs.lemmas.Nat.{one_shl, pow-add, pow_pos, div-add-mod', div_below, mod_below}
+use Rattle.std.proofs.lemmas.Nat.{pow-add, pow_pos}
 use Rattle.p3_field.specs.Ring.{AreRoots}
 use Rattle.p3_matrix.specs.BitOrder.{rev}
 use Rattle.p3_matrix.specs.Blocks.{AreBlocksOf, Run}
@@ -22,32 +22,14 @@ use Rattle.p3_networks.specs.Slots.{extended_rows, slot_block, slot_blocks}
 use Rattle.p3_networks.specs.Twiddles.{forward_root}
 use Rattle.p3_networks.proofs.Layers.Blocks.{row_below}
 use Rattle.p3_networks.proofs.Layers.Counts.{count_more}
-use Rattle.p3_networks.proofs.Layers.Halves.{block_size, in_first, in_second, part_length}
+use Rattle.p3_networks.proofs.Layers.Halves.{in_first, part_length}
 use Rattle.p3_networks.proofs.Networks.Runs.{slot_point}
+use Rattle.p3_networks.proofs.Networks.Slots.{by_slots, rows_of_slots, slot_room, slot_size, slots_are, slots_whole}
 use Rattle.p3_networks.proofs.Polynomials.ByIndex.{poly_same}
 use Rattle.p3_networks.proofs.Rows.Lent.{are_blocks, block_of_part, blocks_joined, blocks_kept, blocks_of_part, refusal_joined, run_joined, written_part}
 use Rattle.p3_networks.proofs.Rows.Overwritten.{part-more, put_before, put_in, put_length, rows-none}
 use Rattle.p3_networks.proofs.Tables.RootPowers.{fewer_roots}
 use Rattle.p3_networks.proofs.radix_2_dit_parallel.slots.extend_slots.Goals as goal
-
-slots_are : (k a : ℕ) → k + a < 64 → 1 * 2 ^ a % 18446744073709551616 ≡ 2 ^ a
-slots_are k a small = one_shl a 64 (omega arith)
-
-slots_whole : (k a w : ℕ) → 2 ^ (k + a) * w ≡ 2 ^ a * (2 ^ k * w)
-slots_whole k a w = ap (λ n. n * w) (pow-add 2 k a) ∙ omega arith
-
--- a slot, as the program has its size
-slot_size : (len k a w : ℕ) → k + a < 64 → len ≡ 2 ^ (k + a) * w → len / (1 * 2 ^ a % 18446744073709551616) ≡ 2 ^ k * w
-slot_size len k a w small height =
-    let count = slots_are k a small in
-    block_size len (1 * 2 ^ a % 18446744073709551616) (2 ^ k * w) (omega (arith, count, pow_pos a)) (height ∙ slots_whole k a w ∙ ap (λ n. n * (2 ^ k * w)) (sym count))
-
--- room for one more slot of the others
-slot_room : (place a size len : ℕ) → place + 1 < 2 ^ a → len ≡ 2 ^ a * size → place * size + size ≤ len - size
-slot_room place a size len below full =
-    let all : suc (place + 1) * size ≤ 2 ^ a * size = mul-le-mul_right size below in
-    let spread : suc (place + 1) * size ≡ place * size + size + size = omega arith in
-    omega (arith, all, spread, full)
 
 -- a slot is whole blocks
 blocks_whole : (k : ℕ) → 2 ^ ((k + 1) / 2) * 2 ^ (k - (k + 1) / 2) ≡ 2 ^ k
@@ -70,11 +52,6 @@ slot_row place k a below small =
 -- the cells before a slot are those of the blocks before it
 slot_start : (place k w whole : ℕ) → whole ≡ 2 ^ k * w → place * whole ≡ place * 2 ^ ((k + 1) / 2) * (2 ^ (k - (k + 1) / 2) * w)
 slot_start place k w whole is = ap (λ n. place * n) (is ∙ sym (cells_whole k w)) ∙ omega arith
-
--- the rows of n slots, slot by slot
-by_slots : (P : ℕ → Type 0) (k n : ℕ) → ((p t : ℕ) → p < n → t < 2 ^ k → P (p * 2 ^ k + t)) → (r : ℕ) → r < n * 2 ^ k → P r
-by_slots P k n f r below =
-    subst P (div-add-mod' r (2 ^ k)) (f (r / 2 ^ k) (r % 2 ^ k) (div_below r (2 ^ k) n (pow_pos k) below) (mod_below r (2 ^ k) (pow_pos k)))
 
 -- the rows of some blocks behind those of whole slots
 rows_by_blocks : (place k n : ℕ) → (place * 2 ^ ((k + 1) / 2) + n) * 2 ^ (k - (k + 1) / 2) ≡ place * 2 ^ k + n * 2 ^ (k - (k + 1) / 2)
@@ -342,43 +319,26 @@ returns-clause-values g c =
     let front = c.evaluate_in_place.new.values in
     let others = c.loop-place.others in
     let coefficients = c.split_at_mut-coefficients.result.0.now in
-    on_ok_weaker c.evaluate_in_place.result
-    (λ given r j below inside.
-    let m = r / 2 ^ k in
-    let t = r % 2 ^ k in
-    let all : 2 ^ (k + a) ≡ 2 ^ a * 2 ^ k = pow-add 2 k a ∙ omega arith in
-    let is : m * 2 ^ k + t ≡ r = div-add-mod' r (2 ^ k) in
-    let p : m < 2 ^ a = div_below r (2 ^ k) (2 ^ a) (pow_pos k) (omega (arith, below, all)) in
-    let q : t < 2 ^ k = mod_below r (2 ^ k) (pow_pos k) in
     let roots : AreRoots field.ring (k + a) gen = fewer_roots field.ring (k + a) _ c.requires.within g.met.F.TwoAdicField.roots_law in
     let size : length coefficients ≡ 2 ^ k * w = c.split_at_mut-coefficients.ensures.front_len ∙ slot_size (length c.args.values.now) k a w c.requires.small c.requires.height in
-    let column = λ (u : ℕ). field.value (get_or c.args.values.now (rev k u * w + j) field.ZERO) in
-    let same : (x : field.Element) → poly field.ring (2 ^ k) (λ u. field.value (get_or coefficients (rev k u * w + j) field.ZERO)) x ≡ poly field.ring (2 ^ k) column x = λ x.
+    let same : (x : field.Element) (j : ℕ) → j < w → poly field.ring (2 ^ k) (λ u. field.value (get_or coefficients (rev k u * w + j) field.ZERO)) x
+    ≡ poly field.ring (2 ^ k) (λ u. field.value (get_or c.args.values.now (rev k u * w + j) field.ZERO)) x = λ x j inside.
     poly_same field.ring (2 ^ k) _ _ x (λ u l.
     sym (ap (λ xs. field.value (get_or xs (rev k u * w + j) field.ZERO)) c.split_at_mut-coefficients.ensures.value
     ∙ ap field.value (in_first coefficients c.split_at_mut-coefficients.result.1.now (rev k u * w + j) field.ZERO (omega (arith, size, row_below (rev k u) j w (2 ^ k) (rev-lt k u) inside))))) in
-    ⊎_elim
-    (λ less.
-    let first : r ≡ t = let none : m ≡ 0 = omega arith in omega (arith, is, ap (λ n. n * 2 ^ k) none) in
-    let whole : 0 * 2 ^ k + t ≡ r = omega (arith, first) in
-    ap (λ n. field.value (get_or (front ++ others) (n * w + j) field.ZERO)) first
-    ∙ ap field.value (in_first front others (t * w + j) field.ZERO (omega (arith, c.evaluate_in_place.auto.values, size, row_below t j w (2 ^ k) q inside)))
-    ∙ given.0 t j q inside ∙ same _
-    ∙ ap (poly field.ring (2 ^ k) column)
-    (ap (λ x. point field.ring gen k x (rev k t)) c.table_of_slot-table-2.ensures.1 ∙ slot_point field.ring roots s k a 0 t (omega arith) q
+    on_ok_weaker c.evaluate_in_place.result
+    (λ given.
+    rows_of_slots field.value field.ZERO k a w front others (extended_rows field g.F.TwoAdicField.generator k a w s c.args.values.now).entry
+    (c.evaluate_in_place.auto.values ∙ size)
+    (λ t j p inside.
+    let whole : 0 * 2 ^ k + t ≡ t = omega arith in
+    given.0 t j p inside ∙ same _ j inside
+    ∙ ap (poly field.ring (2 ^ k) (λ u. field.value (get_or c.args.values.now (rev k u * w + j) field.ZERO)))
+    (ap (λ x. point field.ring gen k x (rev k t)) c.table_of_slot-table-2.ensures.1 ∙ slot_point field.ring roots s k a 0 t (omega arith) p
     ∙ ap (λ n. point field.ring gen (k + a) s (rev (k + a) n)) whole))
-    (λ some.
-    let place = m - 1 in
-    let next : place + 1 ≡ m = omega (arith, some) in
-    let whole : (place + 1) * 2 ^ k + t ≡ r = ap (λ n. n * 2 ^ k + t) next ∙ is in
-    let flat : r * w + j ≡ 2 ^ k * w + (place * (2 ^ k * w) + (t * w + j)) =
-    let spread : ((place + 1) * 2 ^ k + t) * w + j ≡ 2 ^ k * w + (place * (2 ^ k * w) + (t * w + j)) = omega arith in ap (λ n. n * w + j) (sym whole) ∙ spread in
-    ap (λ n. field.value (get_or (front ++ others) n field.ZERO)) flat
-    ∙ ap field.value (in_second front others (2 ^ k * w) (place * (2 ^ k * w) + (t * w + j)) field.ZERO (c.evaluate_in_place.auto.values ∙ size))
-    ∙ c.loop-place.invariant.slots.done place (t * w + j) (omega (arith, p, next, slots_are k a c.requires.small, c.loop-place-test.false)) (row_below t j w (2 ^ k) q inside) t j q inside refl
-    ∙ same _
-    ∙ ap (λ n. poly field.ring (2 ^ k) column (point field.ring gen (k + a) s (rev (k + a) n))) whole)
-    (cases_lt m 1))
+    (λ p t j below q inside.
+    c.loop-place.invariant.slots.done p (t * w + j) (omega (arith, below, slots_are k a c.requires.small, c.loop-place-test.false)) (row_below t j w (2 ^ k) q inside) t j q inside refl
+    ∙ same _ j inside))
     c.evaluate_in_place.ensures.accepted
 
 pub returns-clause-published : goal.returns-clause-published

@@ -3,7 +3,7 @@ use Rattle.std.proofs.Math.Nat.{suc-mul, mul-le-mul_right}
 use Rattle.std.proofs.lemmas.List.{places}
 use Rattle.p3_field.proofs.Powers.{power-zero, power-more}
 use Rattle.p3_networks.proofs.Rows.Overwritten.{rows-none, rows-more, part_at, value_at}
-use Rattle.p3_dft.proofs.util.shift_values.Goals as goal
+use Rattle.p3_networks.proofs.shifts.shift_values.Goals as goal
 
 pub loop-i-init : goal.loop-i-init
 loop-i-init g c =

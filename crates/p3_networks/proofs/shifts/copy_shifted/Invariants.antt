@@ -1,15 +1,15 @@
 use Rattle.std.proofs.Common.{◌≡◌, ◌+◌, ◌*◌, get_or}
 use Rattle.p3_field.specs.Ring.{power}
 use Rattle.p3_networks.proofs.Rows.Overwritten.{RowsDone}
-use Rattle.p3_dft.proofs.util.shift_values.Given as goal
+use Rattle.p3_networks.proofs.shifts.copy_shifted.Given as goal
 
 abbrev pub invariant-loop-i : goal.invariant-loop-i
 invariant-loop-i g l =
     let field = g.F.Field in
     record {
-      factor : field.value l.power ≡ power field.ring (field.value l.fn.shift) l.i;
+      factor : field.value l.factor ≡ power field.ring (field.value l.fn.shift) l.i;
       values : RowsDone field.ZERO l.fn.width
-          (λ i j y. field.value y ≡ field.ring.mul (field.value (get_or l.fn.values (i * l.fn.width + j) field.ZERO)) (power field.ring (field.value l.fn.shift) i))
+          (λ i j y. field.value y ≡ field.ring.mul (field.value (get_or l.fn.rows (i * l.fn.width + j) field.ZERO)) (power field.ring (field.value l.fn.shift) i))
           l.fn.values l.i l.values;
       count : l.products ≡ l.fn.products + l.i * l.fn.width;
     }

@@ -1,0 +1,141 @@
+use Rattle.std.proofs.Common.{◌≡◌, ℕ, ◌+◌, ◌*◌, ◌/◌, ◌^◌, ◌≤◌, sym, ap, ap₂, ◌∙◌, subst, arith}
+use Rattle.p3_matrix.specs.RowMajor.{RowMajor, HasShapeOf, IsRowMajor, height}
+use Rattle.p3_matrix.proofs.TwoPowers.{log_same}
+use Rattle.p3_networks.proofs.Layers.Counts.{slots_made}
+use Rattle.p3_dft.specs.Engines.{Tabled, IsPrepared}
+use Rattle.p3_dft.specs.Transforms.{values_of}
+use Rattle.p3_dft.proofs.BitReversed.Rows.{values_seen}
+use Rattle.p3_dft.proofs.Calls.ExtendedTransforms.{extension_of_natural}
+use Rattle.p3_dft.proofs.Calls.Padding.{padded_shape, padded_whole}
+use Rattle.p3_dft.proofs.Calls.PreparedHeights.{prepared_until, until_prepared}
+use Rattle.p3_dft.proofs.Calls.Shapes.{log_within, output_log_small, output_size}
+use Rattle.p3_dft.proofs.radix_2_small_batch.Radix2DFTSmallBatchTwoAdicSubgroupDft.coset_lde_batch_bit_reversed.Goals as goal
+
+pub pad_rows-requires-clause-bits : goal.pad_rows-requires-clause-bits
+pad_rows-requires-clause-bits g c = let small = output_log_small _ _ _ _ c.requires.fits in omega (arith, small)
+
+pub pad_rows-requires-clause-size : goal.pad_rows-requires-clause-size
+pad_rows-requires-clause-size g c =
+    let m = c.into_row_major_matrix-mat.result in
+    let log = c.log2_strict_usize-log_h.result in
+    let high : height m ≡ 2 ^ log = sym c.height.ensures.height ∙ c.log2_strict_usize-log_h.ensures.power in
+    let are = c.in_ok-coefficients.ensures.coefficients.holds log high in
+    let shape = c.requires.shape c.in_ok-coefficients.coefficients c.transform-changed.result (rw (← c.into_row_major_matrix-mat.ensures) (are.high, are.wide)) c.transform-changed.ensures in
+    rw (shape.0, shape.1) (output_size _ _ _ _ c.requires.fits)
+
+pub overflow_add-log_h : goal.overflow_add-log_h
+overflow_add-log_h g c =
+    let small = log_within c.log2_strict_usize-log_h.result c.args.added_bits 63 c.requires.fits.log c.height.result c.log2_strict_usize-log_h.ensures.power
+    (c.height.ensures.height ∙ ap height c.into_row_major_matrix-mat.ensures ∙ c.requires.fits.high) (output_log_small _ _ _ _ c.requires.fits) in
+    omega (arith, small)
+
+pub make-requires-clause-within : goal.make-requires-clause-within
+make-requires-clause-within g c =
+    let within = log_within c.log2_strict_usize-log_h.result c.args.added_bits _ c.requires.fits.log c.height.result c.log2_strict_usize-log_h.ensures.power
+    (c.height.ensures.height ∙ ap height c.into_row_major_matrix-mat.ensures ∙ c.requires.fits.high) c.requires.fits.within in
+    within
+
+pub make-requires-clause-small : goal.make-requires-clause-small
+make-requires-clause-small g c =
+    let small = log_within c.log2_strict_usize-log_h.result c.args.added_bits 63 c.requires.fits.log c.height.result c.log2_strict_usize-log_h.ensures.power
+    (c.height.ensures.height ∙ ap height c.into_row_major_matrix-mat.ensures ∙ c.requires.fits.high) (output_log_small _ _ _ _ c.requires.fits) in
+    omega (arith, small)
+
+pub extend_in_slots-requires-clause-within : goal.extend_in_slots-requires-clause-within
+extend_in_slots-requires-clause-within g c =
+    let within = log_within c.log2_strict_usize-log_h.result c.args.added_bits _ c.requires.fits.log c.height.result c.log2_strict_usize-log_h.ensures.power
+    (c.height.ensures.height ∙ ap height c.into_row_major_matrix-mat.ensures ∙ c.requires.fits.high) c.requires.fits.within in
+    within
+
+pub extend_in_slots-requires-clause-small : goal.extend_in_slots-requires-clause-small
+extend_in_slots-requires-clause-small g c =
+    let small = log_within c.log2_strict_usize-log_h.result c.args.added_bits 63 c.requires.fits.log c.height.result c.log2_strict_usize-log_h.ensures.power
+    (c.height.ensures.height ∙ ap height c.into_row_major_matrix-mat.ensures ∙ c.requires.fits.high) (output_log_small _ _ _ _ c.requires.fits) in
+    omega (arith, small)
+
+pub extend_in_slots-requires-clause-height : goal.extend_in_slots-requires-clause-height
+extend_in_slots-requires-clause-height g c =
+    let m = c.into_row_major_matrix-mat.result in
+    let log = c.log2_strict_usize-log_h.result in
+    let high : height m ≡ 2 ^ log = sym c.height.ensures.height ∙ c.log2_strict_usize-log_h.ensures.power in
+    let are = c.in_ok-coefficients.ensures.coefficients.holds log high in
+    let shape : HasShapeOf c.transform-changed.result m = rw c.into_row_major_matrix-mat.ensures (c.requires.shape c.in_ok-coefficients.coefficients c.transform-changed.result (rw (← c.into_row_major_matrix-mat.ensures) (are.high, are.wide)) c.transform-changed.ensures) in
+    let grown = padded_shape g.F.Field.ZERO m c.transform-changed.result c.in_ok-grown.grown c.args.added_bits log c.pad_rows.ensures.whole shape high c.in_ok-grown.ensures.padded in
+    grown.0
+
+pub bit_reverse_rows-requires : goal.bit_reverse_rows-requires
+bit_reverse_rows-requires g c =
+    let m = c.into_row_major_matrix-mat.result in
+    let log = c.log2_strict_usize-log_h.result in
+    let high : height m ≡ 2 ^ log = sym c.height.ensures.height ∙ c.log2_strict_usize-log_h.ensures.power in
+    let are = c.in_ok-coefficients.ensures.coefficients.holds log high in
+    let shape : HasShapeOf c.transform-changed.result m = rw c.into_row_major_matrix-mat.ensures (c.requires.shape c.in_ok-coefficients.coefficients c.transform-changed.result (rw (← c.into_row_major_matrix-mat.ensures) (are.high, are.wide)) c.transform-changed.ensures) in
+    let grown = padded_shape g.F.Field.ZERO m c.transform-changed.result c.in_ok-grown.grown c.args.added_bits log c.pad_rows.ensures.whole shape high c.in_ok-grown.ensures.padded in
+    (log + c.args.added_bits, c.extend_in_slots.ensures.shape.0 ∙ grown.0)
+
+pub returns-clause-values : goal.returns-clause-values
+returns-clause-values g c =
+    let field = g.F.Field in
+    let a = c.args.added_bits in
+    let s = field.value c.args.shift in
+    let answered = c.transform-changed.result in
+    let padded = c.in_ok-grown.grown in
+    let out = c.extend_in_slots.new.mat in
+    let bits = c.bit_reverse_rows.result.bits in
+    let m = c.into_row_major_matrix-mat.result in
+    let log = c.log2_strict_usize-log_h.result in
+    let high : height m ≡ 2 ^ log = sym c.height.ensures.height ∙ c.log2_strict_usize-log_h.ensures.power in
+    let are = c.in_ok-coefficients.ensures.coefficients.holds log high in
+    let shape : HasShapeOf c.transform-changed.result m = rw c.into_row_major_matrix-mat.ensures (c.requires.shape c.in_ok-coefficients.coefficients c.transform-changed.result (rw (← c.into_row_major_matrix-mat.ensures) (are.high, are.wide)) c.transform-changed.ensures) in
+    let grown = padded_shape g.F.Field.ZERO m c.transform-changed.result c.in_ok-grown.grown c.args.added_bits log c.pad_rows.ensures.whole shape high c.in_ok-grown.ensures.padded in
+    let tall : height out ≡ 2 ^ (log + a) = c.extend_in_slots.ensures.shape.0 ∙ grown.0 in
+    let whole : IsRowMajor padded = rw c.in_ok-grown.ensures.padded (padded_whole field.ZERO answered c.pad_rows.ensures.whole a) in
+    let is_whole : IsRowMajor out = record { wide = omega (arith, whole.wide, c.extend_in_slots.ensures.shape.1); full = ap₂ (λ h w. h * w) c.extend_in_slots.ensures.shape.0 c.extend_in_slots.ensures.shape.1 ∙ whole.full ∙ sym c.extend_in_slots.ensures.size } in
+    rw (← c.into_row_major_matrix-mat.ensures, c.bit_reverse_rows.ensures.matrix)
+    (extension_of_natural field g.F.TwoAdicField.generator _ m c.in_ok-coefficients.coefficients answered _ a s c.in_ok-coefficients.ensures.coefficients c.transform-changed.ensures
+    (λ k e.
+    values_seen field g.F.TwoAdicField.generator (values_of field answered) out s (k + a) bits is_whole (tall ∙ ap (λ n. 2 ^ (n + a)) (log_same log k (sym high ∙ e))) c.bit_reverse_rows.ensures.height
+    (rw (← log_same log k (sym high ∙ e)) (c.extend_in_slots.ensures.values answered c.pad_rows.ensures.whole (shape.0 ∙ high) c.in_ok-grown.ensures.padded))))
+
+pub returns-clause-serves : goal.returns-clause-serves
+returns-clause-serves g c k e =
+    let log = c.log2_strict_usize-log_h.result in
+    let same : log ≡ k = log_same log k (sym c.log2_strict_usize-log_h.ensures.power ∙ c.height.ensures.height ∙ ap height c.into_row_major_matrix-mat.ensures ∙ e) in
+    (prepared_until _ k (omega (arith, same, c.in_ok-make.ensures.made)), prepared_until _ (k + c.args.added_bits) (omega (arith, same, c.in_ok-make.ensures.made)))
+
+pub returns-clause-later : goal.returns-clause-later
+returns-clause-later g c =
+    let first = c.idft_batch.ensures.later in
+    let products : c.self.inside.products ≡ c.idft_batch.new.self.products = ap (λ e. e.products) c.self.view_is in
+    let there = λ (k : ℕ) (before : IsPrepared c.args.self.now k). until_prepared _ k (subst (λ (e : Tabled). IsPrepared e k) (sym c.self.view_is) (first.keeps k before)) in
+    let still : (k : ℕ) → IsPrepared c.args.self.now k → k ≤ c.make.new.self = λ k before. let held = there k before in omega (arith, held, c.make.ensures.keeps) in
+    record {
+      keeps = λ k before. prepared_until _ k (still k before);
+      keeps_cosets = λ k s none. tt;
+      keeps_served = λ k before. prepared_until _ k (still k before);
+      grows = omega (arith, first.grows, products, c.extend_in_slots.ensures.grows);
+    }
+
+pub returns-clause-cost : goal.returns-clause-cost
+returns-clause-cost g c k e =
+    let a = c.args.added_bits in
+    let m = c.into_row_major_matrix-mat.result in
+    let log = c.log2_strict_usize-log_h.result in
+    let high : height m ≡ 2 ^ log = sym c.height.ensures.height ∙ c.log2_strict_usize-log_h.ensures.power in
+    let are = c.in_ok-coefficients.ensures.coefficients.holds log high in
+    let shape : HasShapeOf c.transform-changed.result m = rw c.into_row_major_matrix-mat.ensures (c.requires.shape c.in_ok-coefficients.coefficients c.transform-changed.result (rw (← c.into_row_major_matrix-mat.ensures) (are.high, are.wide)) c.transform-changed.ensures) in
+    let grown = padded_shape g.F.Field.ZERO m c.transform-changed.result c.in_ok-grown.grown c.args.added_bits log c.pad_rows.ensures.whole shape high c.in_ok-grown.ensures.padded in
+    let stored = ap height c.into_row_major_matrix-mat.ensures in
+    let width = ap (λ (n : RowMajor g.row.F.Denot). n.width) c.into_row_major_matrix-mat.ensures in
+    let same : log ≡ k = log_same log k (sym high ∙ stored ∙ e) in
+    let products : c.self.inside.products ≡ c.idft_batch.new.self.products = ap (λ e. e.products) c.self.view_is in
+    let second : c.extend_in_slots.new.products ≤ c.self.inside.products + 2 ^ a * (m.width * (log * 2 ^ log / 2) + 2 ^ log * m.width) =
+    subst (λ (w : ℕ). c.extend_in_slots.new.products ≤ c.self.inside.products + 2 ^ a * (w * (log * 2 ^ log / 2) + 2 ^ log * w)) grown.1 c.extend_in_slots.ensures.cost in
+    let made = slots_made log a m.width c.self.inside.products c.extend_in_slots.new.products second in
+    let first = c.in_ok-coefficients.ensures.cost log high in
+    let all : c.extend_in_slots.new.products
+    ≤ c.args.self.now.products + (m.width * (log * 2 ^ log / 2) + 2 ^ log * m.width + (m.width * ((log + a) * 2 ^ (log + a) / 2) + 2 ^ (log + a) * m.width)) = omega (arith, made, first, products) in
+    subst (λ (n : ℕ). c.extend_in_slots.new.products
+    ≤ c.args.self.now.products + ((g.N.IntoRowMajorMatrix.stored c.args.mat).width * (n * 2 ^ n / 2) + 2 ^ n * (g.N.IntoRowMajorMatrix.stored c.args.mat).width
+    + ((g.N.IntoRowMajorMatrix.stored c.args.mat).width * ((n + a) * 2 ^ (n + a) / 2) + 2 ^ (n + a) * (g.N.IntoRowMajorMatrix.stored c.args.mat).width))) same
+    (subst (λ (w : ℕ). c.extend_in_slots.new.products ≤ c.args.self.now.products + (w * (log * 2 ^ log / 2) + 2 ^ log * w + (w * ((log + a) * 2 ^ (log + a) / 2) + 2 ^ (log + a) * w))) width all)

@@ -1,0 +1,8 @@
+use Rattle.std.proofs.lemmas.Nat.{one_shl}
+use Rattle.p3_networks.proofs.Networks.Slots.{values_of_shifted}
+use Rattle.p3_networks.proofs.radix_2_small_batch.slots.evaluate_from.Goals as goal
+
+pub returns-clause-values : goal.returns-clause-values
+returns-clause-values g c =
+    values_of_shifted g.F.Field g.F.TwoAdicField.generator c.args.log_h c.args.width (g.F.Field.value c.args.shift) _ c.args.coefficients.now c.copy_shifted.new.values c.evaluate.new.values
+    (one_shl c.args.log_h 64 c.requires.small) c.copy_shifted.ensures.values c.evaluate.ensures.values

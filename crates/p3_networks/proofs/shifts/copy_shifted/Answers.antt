@@ -1,0 +1,42 @@
+use Rattle.std.proofs.Common.{◌≡◌, ◌+◌, ◌*◌, ◌-◌, ◌≤◌, length, get_or, take, drop, sym, ap, ap₂, ◌∙◌, arith, add-one}
+use Rattle.std.proofs.Math.Nat.{suc-mul, mul-le-mul_right}
+use Rattle.p3_field.proofs.Powers.{power-zero, power-more}
+use Rattle.p3_networks.proofs.Layers.Halves.{part_length}
+use Rattle.p3_networks.proofs.Rows.Overwritten.{rows-none, rows-more, part_at, value_at}
+use Rattle.p3_networks.proofs.shifts.copy_shifted.Goals as goal
+
+pub loop-i-init : goal.loop-i-init
+loop-i-init g c =
+    let field = g.F.Field in
+    record {
+      factor = ap field.value c.ONE-factor.ensures ∙ g.met.F.Field.one_law ∙ sym (power-zero field.ring (field.value c.args.shift));
+      values = rows-none field.ZERO _ _ _;
+      count = omega arith;
+    }
+
+pub loop-i-preserved : goal.loop-i-preserved
+loop-i-preserved g c =
+    let field = g.F.Field in
+    let i = c.loop-i.i in
+    let w = c.args.width in
+    let m : (i * w + w) - i * w ≡ w = omega arith in
+    let next : (i + 1) * w ≡ i * w + w = rw add-one (suc-mul i w) in
+    let room : i * w + w ≤ length c.loop-i.values = omega (arith, mul-le-mul_right w c.loop-i-test.true, next, c.requires.size, c.loop-i.auto.values) in
+    let source : i * w + w ≤ length c.args.rows.now = omega (arith, mul-le-mul_right w c.loop-i-test.true, next, c.requires.source) in
+    let part = take ((i * w + w) - i * w) (drop (i * w) c.args.rows.now) in
+    let copied : c.copy_from_slice.new.self ≡ part = c.copy_from_slice.ensures.after in
+    let part_len : length part ≡ w = part_length c.args.rows.now (i * w) w source in
+    let len : length c.scale_slice_in_place.new.values ≡ w = c.scale_slice_in_place.auto.values ∙ ap length copied ∙ part_len in
+    record {
+      factor = g.met.F.Field.mul_law _ _ _ c.mul-factor.ensures ∙ ap (λ x. field.ring.mul x (field.value c.args.shift)) c.loop-i.invariant.factor
+          ∙ sym (power-more field.ring (field.value c.args.shift) i);
+      values = rows-more field.ZERO w _ _ c.loop-i.values c.scale_slice_in_place.new.values i _ m room len
+          (λ k inside.
+          value_at field.value (λ x. field.ring.mul x (field.value c.loop-i.factor)) c.copy_from_slice.new.self c.scale_slice_in_place.new.values k field.ZERO c.scale_slice_in_place.ensures.values c.scale_slice_in_place.auto.values (omega (arith, inside, ap length copied, part_len))
+          ∙ ap₂ field.ring.mul (ap (λ xs. field.value (get_or xs k field.ZERO)) copied ∙ ap field.value (part_at c.args.rows.now (i * w) ((i * w + w) - i * w) k field.ZERO (omega (arith, inside, m)))) c.loop-i.invariant.factor)
+          c.loop-i.invariant.values;
+      count = omega (arith, next, c.scale_slice_in_place.ensures.count, c.loop-i.invariant.count, ap length copied, part_len);
+    }
+
+pub returns-clause-values : goal.returns-clause-values
+returns-clause-values g c = λ i j below inside. c.loop-i.invariant.values.done i j (omega arith) inside

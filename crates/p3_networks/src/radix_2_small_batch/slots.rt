@@ -1,0 +1,138 @@
+//! An extension whose rows come in bit reversed order. Of its `2^(log_h + added_bits)` rows each run of
+//! `2^log_h` is a slot, which gets the values on a coset of its own. The coefficients are the first slot.
+
+ghost use Rattle.std.specs.Prelude.{◌≡◌, ℕ, ◌+◌, ◌*◌, ◌/◌, ◌^◌, ◌<◌, ◌≤◌, length, get_or};
+ghost use Rattle.p3_field.specs.Ring.{power};
+ghost use Rattle.p3_matrix.specs.BitOrder.{rev};
+ghost use Rattle.p3_networks.specs.Cosets.{point};
+ghost use Rattle.p3_networks.specs.Layers.{AreValuesOfRows};
+ghost use Rattle.p3_networks.specs.Polynomials.{poly};
+ghost use Rattle.p3_networks.specs.Twiddles.{AreTwiddlesFromStart, block_powers, forward_root};
+
+use crate::radix_2_small_batch::networks::dit_network;
+use crate::shifts::{copy_shifted, shift_values};
+use p3_field::{Products, TwoAdicField};
+use p3_matrix::reverse_bits_len;
+
+/// From coefficients in natural order, which are the first slot, their values on the coset of `shift` of
+/// order `2^(log_h + added_bits)`, in bit reversed order. Slot m is the coset of `shift` times the power
+/// `rev m` of the generator of that order, so that no row of zeros is met. The first slot is done last,
+/// since the others are made from the coefficients in it. A piece has `piece` entries of each part of a
+/// block.
+pub fn slots_network<F: TwoAdicField>(
+    twiddles: &[F],
+    values: &mut [F],
+    width: usize,
+    log_rows: usize,
+    log_h: usize,
+    added_bits: usize,
+    shift: F,
+    piece: usize,
+    products: &mut Products,
+)
+    requires wide { 1 ≤ width }
+    requires below { log_rows ≤ log_h }
+    requires within { log_h + added_bits ≤ F.TWO_ADICITY }
+    requires small { log_h + added_bits < 64 }
+    requires piece { 1 ≤ piece }
+    requires size { length values.old ≡ 2 ^ (log_h + added_bits) * width }
+    requires twiddles { AreTwiddlesFromStart F.Field.own log_h
+        (block_powers F.Field.own (forward_root F.Field.own F.generator)) twiddles.now }
+    ensures values { (r j : ℕ) → r < 2 ^ (log_h + added_bits) → j < width → F.value (get_or values.new (r * width + j) F.ZERO)
+        ≡ poly F.ring (2 ^ log_h) (λ q. F.value (get_or values.old (q * width + j) F.ZERO))
+        (point F.ring (forward_root F.Field.own F.generator) (log_h + added_bits) (F.value shift) (rev (log_h + added_bits) r)) }
+    ensures grows { products.old ≤ products.new }
+    ensures count { products.new ≤ products.old + 2 ^ added_bits * (width * (log_h * 2 ^ log_h / 2) + 2 ^ log_h * width) }
+{
+    let slots = 1usize << added_bits;
+    let size = values.len() / slots;
+    let root = F::two_adic_generator(log_h + added_bits);
+    let (coefficients, others) = values.split_at_mut(size);
+    for place in 0..slots - 1 {
+        let start = place * size;
+        let slot = &mut others[start..start + size];
+        let turn = root.exp_u64(reverse_bits_len(place + 1, added_bits) as u64);
+        evaluate_from(
+            twiddles,
+            coefficients,
+            slot,
+            width,
+            log_rows,
+            log_h,
+            shift * turn,
+            piece,
+            products,
+        );
+    }
+    shift_values(coefficients, width, 1 << log_h, shift, products);
+    evaluate(
+        twiddles,
+        coefficients,
+        width,
+        log_rows,
+        log_h,
+        piece,
+        products,
+    );
+}
+
+// From coefficients in natural order, which lie in another slice, their values on the coset of `shift`
+// that has as many points, in bit reversed order.
+fn evaluate_from<F: TwoAdicField>(
+    twiddles: &[F],
+    coefficients: &[F],
+    values: &mut [F],
+    width: usize,
+    log_rows: usize,
+    log_h: usize,
+    shift: F,
+    piece: usize,
+    products: &mut Products,
+)
+    requires wide { 1 ≤ width }
+    requires below { log_rows ≤ log_h }
+    requires within { log_h ≤ F.TWO_ADICITY }
+    requires small { log_h < 64 }
+    requires piece { 1 ≤ piece }
+    requires source { length coefficients.now ≡ 2 ^ log_h * width }
+    requires size { length values.old ≡ 2 ^ log_h * width }
+    requires twiddles { AreTwiddlesFromStart F.Field.own log_h
+        (block_powers F.Field.own (forward_root F.Field.own F.generator)) twiddles.now }
+    ensures values { (r j : ℕ) → r < 2 ^ log_h → j < width → F.value (get_or values.new (r * width + j) F.ZERO)
+        ≡ poly F.ring (2 ^ log_h) (λ q. F.value (get_or coefficients.now (q * width + j) F.ZERO))
+        (point F.ring (forward_root F.Field.own F.generator) log_h (F.value shift) (rev log_h r)) }
+    ensures grows { products.old ≤ products.new }
+    ensures count { products.new ≤ products.old + (width * (log_h * 2 ^ log_h / 2) + 2 ^ log_h * width) }
+{
+    copy_shifted(coefficients, values, width, 1 << log_h, shift, products);
+    evaluate(twiddles, values, width, log_rows, log_h, piece, products);
+}
+
+// From rows in natural order to their values on the subgroup, in bit reversed order. A single row has no
+// layer and needs no twiddles.
+fn evaluate<F: TwoAdicField>(
+    twiddles: &[F],
+    values: &mut [F],
+    width: usize,
+    log_rows: usize,
+    log_h: usize,
+    piece: usize,
+    products: &mut Products,
+)
+    requires wide { 1 ≤ width }
+    requires below { log_rows ≤ log_h }
+    requires within { log_h ≤ F.TWO_ADICITY }
+    requires small { log_h < 64 }
+    requires piece { 1 ≤ piece }
+    requires size { length values.old ≡ 2 ^ log_h * width }
+    requires twiddles { AreTwiddlesFromStart F.Field.own log_h
+        (block_powers F.Field.own (forward_root F.Field.own F.generator)) twiddles.now }
+    ensures values { AreValuesOfRows F.Field.own width (2 ^ log_h) (λ q. q)
+        (λ r. power F.ring (forward_root F.Field.own F.generator log_h) (rev log_h r)) values.old values.new }
+    ensures grows { products.old ≤ products.new }
+    ensures count { products.new ≤ products.old + width * (log_h * 2 ^ log_h / 2) }
+{
+    if log_h > 0 {
+        dit_network(twiddles, values, width, log_rows, log_h, piece, products);
+    }
+}

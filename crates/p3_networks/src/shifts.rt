@@ -1,0 +1,53 @@
+//! Rows times the powers of a shift, as polynomials are brought to the coset of it.
+
+ghost use Rattle.std.specs.Prelude.{◌≡◌, ℕ, ◌+◌, ◌*◌, ◌<◌, length, get_or};
+ghost use Rattle.p3_field.specs.Ring.{power};
+
+use p3_field::{Products, TwoAdicField};
+use p3_matrix::scale_slice_in_place;
+
+/// Multiplies row i by the i-th power of `shift`, with one product an entry.
+pub fn shift_values<F: TwoAdicField>(
+    values: &mut [F],
+    width: usize,
+    height: usize,
+    shift: F,
+    products: &mut Products,
+)
+    requires { length values.old ≡ height * width }
+    ensures values { (i j : ℕ) → i < height → j < width → F.value (get_or values.new (i * width + j) F.ZERO)
+        ≡ F.ring.mul (F.value (get_or values.old (i * width + j) F.ZERO)) (power F.ring (F.value shift) i) }
+    ensures count { products.new ≡ products.old + height * width }
+{
+    let mut power = F::ONE;
+    for i in 0..height {
+        let start = i * width;
+        scale_slice_in_place(&mut values[start..start + width], power, products);
+        power = power * shift;
+    }
+}
+
+/// The same of rows that lie in another slice.
+pub fn copy_shifted<F: TwoAdicField>(
+    rows: &[F],
+    values: &mut [F],
+    width: usize,
+    height: usize,
+    shift: F,
+    products: &mut Products,
+)
+    requires source { length rows.now ≡ height * width }
+    requires size { length values.old ≡ height * width }
+    ensures values { (i j : ℕ) → i < height → j < width → F.value (get_or values.new (i * width + j) F.ZERO)
+        ≡ F.ring.mul (F.value (get_or rows.now (i * width + j) F.ZERO)) (power F.ring (F.value shift) i) }
+    ensures count { products.new ≡ products.old + height * width }
+{
+    let mut factor = F::ONE;
+    for i in 0..height {
+        let start = i * width;
+        let row = &mut values[start..start + width];
+        row.copy_from_slice(&rows[start..start + width]);
+        scale_slice_in_place(row, factor, products);
+        factor = factor * shift;
+    }
+}
