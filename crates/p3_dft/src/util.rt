@@ -177,9 +177,6 @@ pub(crate) fn shift_rows<F: TwoAdicField>(
     ensures grows { products.old ≤ products.new }
     ensures cost { products.new ≤ products.old + height mat.old * mat.old.width }
 {
-    if shift == F::ONE {
-        return;
-    }
     let width = mat.width();
     let height = mat.height();
     shift_values(mat.values_mut(), width, height, shift, products);

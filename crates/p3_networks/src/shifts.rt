@@ -1,12 +1,13 @@
 //! Rows times the powers of a shift, as polynomials are brought to the coset of it.
 
-ghost use Rattle.std.specs.Prelude.{◌≡◌, ℕ, ◌+◌, ◌*◌, ◌<◌, length, get_or};
+ghost use Rattle.std.specs.Prelude.{◌≡◌, ℕ, ◌+◌, ◌*◌, ◌<◌, ◌≤◌, length, get_or};
 ghost use Rattle.p3_field.specs.Ring.{power};
 
 use p3_field::{Products, TwoAdicField};
 use p3_matrix::scale_slice_in_place;
 
-/// Multiplies row i by the i-th power of `shift`, with one product an entry.
+/// Multiplies row i by the i-th power of `shift`, with one product an entry, or none where the shift
+/// is one.
 pub fn shift_values<F: TwoAdicField>(
     values: &mut [F],
     width: usize,
@@ -17,8 +18,12 @@ pub fn shift_values<F: TwoAdicField>(
     requires { length values.old ≡ height * width }
     ensures values { (i j : ℕ) → i < height → j < width → F.value (get_or values.new (i * width + j) F.ZERO)
         ≡ F.ring.mul (F.value (get_or values.old (i * width + j) F.ZERO)) (power F.ring (F.value shift) i) }
-    ensures count { products.new ≡ products.old + height * width }
+    ensures grows { products.old ≤ products.new }
+    ensures count { products.new ≤ products.old + height * width }
 {
+    if shift == F::ONE {
+        return;
+    }
     let mut power = F::ONE;
     for i in 0..height {
         let start = i * width;
@@ -27,7 +32,7 @@ pub fn shift_values<F: TwoAdicField>(
     }
 }
 
-/// The same of rows that lie in another slice.
+/// Row i of another slice times the i-th power of `shift`, with one product an entry.
 pub fn copy_shifted<F: TwoAdicField>(
     rows: &[F],
     values: &mut [F],

@@ -1,7 +1,8 @@
-use Rattle.std.proofs.Common.{◌≡◌, ◌+◌, ◌*◌, ◌-◌, ◌≤◌, take, drop, length, sym, ap, ap₂, ◌∙◌, arith, rules, add-one}
+use Rattle.std.proofs.Common.{◌≡◌, ◌+◌, ◌*◌, ◌-◌, ◌≤◌, take, drop, length, get_or, sym, ap, ap₂, ◌∙◌, arith, rules, add-one}
 use Rattle.std.proofs.Math.Nat.{suc-mul, mul-le-mul_right}
 use Rattle.std.proofs.lemmas.List.{places}
-use Rattle.p3_field.proofs.Powers.{power-zero, power-more}
+use Rattle.p3_field.specs.Ring.{power}
+use Rattle.p3_field.proofs.Powers.{power-zero, power-more, power_of_one}
 use Rattle.p3_networks.proofs.Rows.Overwritten.{rows-none, rows-more, part_at, value_at}
 use Rattle.p3_networks.proofs.shifts.shift_values.Goals as goal
 
@@ -37,3 +38,10 @@ loop-i-preserved g c =
 
 pub returns-clause-values : goal.returns-clause-values
 returns-clause-values g c = λ i j below inside. c.loop-i.invariant.values.done i j (omega arith) inside
+
+pub returns-then-eq-clause-values : goal.returns-then-eq-clause-values
+returns-then-eq-clause-values g c = λ i j below inside.
+    let field = g.F.Field in
+    let one : field.value c.args.shift ≡ field.ring.one = (g.met.F.Field.eq_law c.args.shift c.ONE.result).0 (search rules) ∙ ap field.value c.ONE.ensures ∙ g.met.F.Field.one_law in
+    let x = field.value (get_or c.args.values.now (i * c.args.width + j) field.ZERO) in
+    sym (ap (λ s. field.ring.mul x (power field.ring s i)) one ∙ ap (field.ring.mul x) (power_of_one field.ring i) ∙ field.ring.mul_one x)
