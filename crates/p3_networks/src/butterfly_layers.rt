@@ -1,6 +1,6 @@
 //! Layers of the networks, on rows that lie one after the other in a slice.
 
-ghost use Rattle.std.specs.Prelude.{◌≡◌, ◌↔◌, ℕ, ◌+◌, ◌*◌, ◌/◌, ◌^◌, ◌<◌, ◌≤◌, Bool, IsTrue, List, length, get_or};
+ghost use Rattle.std.specs.Prelude.{◌≡◌, ◌↔◌, ◌⊎◌, ℕ, ◌+◌, ◌*◌, ◌/◌, ◌^◌, ◌<◌, ◌≤◌, Bool, IsTrue, List, length, get_or};
 ghost use Rattle.p3_field.specs.Ring.{Ring};
 
 pub mod rules;
@@ -218,18 +218,46 @@ fn meet_halves<F: TwoAdicField, R: Rule<F>>(
     ensures count { products.new ≤ products.old + R.cost * (half * width) }
 {
     // The first pair stands apart: what a rule asks of place 0 is then known in the loop.
-    rule.meet(block, 0, &mut low[0..width], &mut high[0..width], products);
+    meet_rows_at(rule, low, high, width, block, 0, products);
     for t in 1..half {
-        let start = t * width;
-        let end = start + width;
-        rule.meet(
-            block,
-            t,
-            &mut low[start..end],
-            &mut high[start..end],
-            products,
-        );
+        meet_rows_at(rule, low, high, width, block, t, products);
     }
+}
+
+// The pair of rows at one place. The other rows stay.
+#[inline(always)]
+fn meet_rows_at<F: TwoAdicField, R: Rule<F>>(
+    rule: R,
+    low: &mut [F],
+    high: &mut [F],
+    width: usize,
+    block: usize,
+    place: usize,
+    products: &mut Products,
+)
+    requires room { place * width + width ≤ length low.old }
+    requires size { length low.old ≡ length high.old }
+    requires there { R.has rule block place }
+    ensures near { let cell = λ (xs : List F) (n : ℕ). F.value (get_or xs n F.ZERO) in
+        (j : ℕ) → j < width → cell low.new (place * width + j)
+        ≡ R.near F.Element F.ring F.value rule block place (cell low.old (place * width + j)) (cell high.old (place * width + j)) }
+    ensures far { let cell = λ (xs : List F) (n : ℕ). F.value (get_or xs n F.ZERO) in
+        (j : ℕ) → j < width → cell high.new (place * width + j)
+        ≡ R.far F.Element F.ring F.value rule block place (cell low.old (place * width + j)) (cell high.old (place * width + j)) }
+    ensures low_stays { (n : ℕ) → (n < place * width) ⊎ (place * width + width ≤ n) → get_or low.new n F.ZERO ≡ get_or low.old n F.ZERO }
+    ensures high_stays { (n : ℕ) → (n < place * width) ⊎ (place * width + width ≤ n) → get_or high.new n F.ZERO ≡ get_or high.old n F.ZERO }
+    ensures grows { products.old ≤ products.new }
+    ensures count { products.new ≤ products.old + R.cost * width }
+{
+    let start = place * width;
+    let end = start + width;
+    rule.meet(
+        block,
+        place,
+        &mut low[start..end],
+        &mut high[start..end],
+        products,
+    );
 }
 
 /// A layer from rows of another slice, which stay. The source and the values are blocks of two halves, of
