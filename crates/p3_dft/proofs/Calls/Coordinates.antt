@@ -1,5 +1,5 @@
 -- Matrices over a vector space, and the matrices of their coordinates: how many entries there are, and columns.
-use Rattle.std.proofs.Common.{◌≡◌, ℕ, zero, suc, ◌+◌, ◌*◌, ◌/◌, ◌%◌, ◌^◌, ◌<◌, ◌≤◌, ◌++◌, List, [], ◌∷◌, length, take, sym, ap, ap₂, ◌∙◌, subst, arith}
+use Rattle.std.proofs.Common.{◌≡◌, ℕ, zero, suc, ◌+◌, ◌*◌, ◌/◌, ◌%◌, ◌^◌, ◌<◌, ◌≤◌, ◌++◌, List, [], ◌∷◌, length, take, refl, sym, ap, ap₂, ◌∙◌, arith}
 use Rattle.std.specs.List.{flat_map}
 use Rattle.std.proofs.Math.Nat.{mul_assoc, mul-div_cancel, mul-div-mul_right, mul-mod_left, mul-add-mod_self_right, mod-eq_of_lt}
 use Rattle.std.proofs.lemmas.List.{append-nil, length-append, nil_from_length, take_all}
@@ -8,6 +8,7 @@ use Rattle.p3_field.specs.declared.algebra.BasedVectorSpace.{Ghosts as SpaceMemb
 use Rattle.p3_matrix.specs.RowMajor.{RowMajor, IsRowMajor, height}
 use Rattle.p3_dft.specs.Coordinates.{flat, flat_column}
 use Rattle.p3_dft.specs.Engines.{one_column}
+use Rattle.p3_dft.proofs.Calls.Columns.{vector_answer}
 
 positive_factor : (a b : ℕ) → 1 ≤ a * b → 1 ≤ b
 positive_factor a zero some = absurd (omega (arith, some))
@@ -34,10 +35,8 @@ module _ {F V : Type 0} (v : SpaceMembers V F) (counted : (x : V) → length (v.
 
     pub of_columns : (P : RowMajor F → RowMajor F → Type 0) → (flat v out).width ≡ (flat v m).width → P (flat v m) (flat v out) → P (flat_column v before) (flat_column v after)
     of_columns P same given =
-        let wide : out.width ≡ 1 =
-        sym (mul-div_cancel out.width positive) ∙ ap (λ n. n / v.DIMENSION) same ∙ mul-div_cancel m.width positive ∙ ap (λ (n : RowMajor V). n.width) column in
-        let parts : out ≡ one_column after = ap₂ (λ (w : ℕ) (xs : List V). record { width = w; values = xs }) wide (sym items) in
-        subst (λ (n : RowMajor V). P (flat v n) (flat_column v after)) column (subst (λ (n : RowMajor V). P (flat v m) (flat v n)) parts given)
+        let wide : out.width ≡ m.width = sym (mul-div_cancel out.width positive) ∙ ap (λ n. n / v.DIMENSION) same ∙ mul-div_cancel m.width positive in
+        vector_answer m before (length before) column refl (λ a b. P (flat v a) (flat v b)) out after items wide given
 
   -- the coordinates of all elements, in rows of w times d
   module _ (m : RowMajor V) (cells : List F) (i w d : ℕ) (whole : IsRowMajor m) (wide : 1 ≤ m.width * v.DIMENSION) (w_is : w ≡ m.width) (d_is : d ≡ v.DIMENSION)

@@ -1,5 +1,5 @@
 -- Extensions of stored matrices, as the default bodies of the engines' trait make them.
-use Rattle.std.proofs.Common.{◌≡◌, ℕ, ◌+◌, ◌*◌, ◌^◌, List, length, refl, sym, ap, ap₂, ◌∙◌, subst, arith}
+use Rattle.std.proofs.Common.{◌≡◌, ℕ, ◌+◌, ◌*◌, ◌^◌, refl, sym, ap, ◌∙◌, subst}
 use Rattle.std.proofs.lemmas.Nat.{pow-add}
 use Rattle.p3_field.specs.declared.fields.Field.{Ghosts as FieldMembers}
 use Rattle.p3_matrix.specs.RowMajor.{RowMajor, IsRowMajor, height, HasShapeOf}
@@ -86,17 +86,6 @@ module _ {F : Type 0} (f : FieldMembers F) (generator : ℕ → F) where
         (laid_once layout k (values_of f given.told) given.changed given.coefficients (laid_height layout k given.changed (values_of f given.told) given.coefficients again there ∙ high) high again there)
         (given.extended k e);
   }
-
-  -- of one column, as a vector
-  pub extension_of_vectors : (m r out : RowMajor F) (before after : List F) (a : ℕ) (s : f.Element) (k : ℕ) → length before ≡ 2 ^ k → m ≡ record { width = 1; values = before }
-      → r ≡ out → after ≡ r.values → IsExtension f generator m a s out
-      → IsExtension f generator (record { width = 1; values = before }) a s (record { width = 1; values = after })
-  extension_of_vectors m r out before after a s k size column is items given =
-      let tall : height m ≡ 2 ^ k = ap (λ (n : RowMajor F). height n) column ∙ omega (arith, size) in
-      let wide : out.width ≡ 1 = (given.extended k tall).wide ∙ (given.are_coefficients k tall).wide ∙ ap (λ (n : RowMajor F). n.width) column in
-      let parts : out ≡ record { width = 1; values = after } = ap₂ (λ (w : ℕ) (xs : List F). record { width = w; values = xs }) wide (sym (items ∙ ap (λ (n : RowMajor F). n.values) is)) in
-      subst (λ (n : RowMajor F). IsExtension f generator n a s (record { width = 1; values = after })) column
-      (subst (λ (n : RowMajor F). IsExtension f generator m a s n) parts given)
 
 -- what a transform answers that keeps the shape of coefficients has the shape of the values
 pub answered_shape : {F : Type 0} (f : FieldMembers F) (generator : ℕ → F) (may_answer : RowMajor F → RowMajor F → Type 0) (m coefficients told answered : RowMajor F) (k : ℕ) → height m ≡ 2 ^ k

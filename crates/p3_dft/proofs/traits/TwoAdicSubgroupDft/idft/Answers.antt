@@ -1,37 +1,27 @@
-use Rattle.std.proofs.Common.{◌≡◌, ℕ, ◌^◌, List, sym, ap, ap₂, ◌∙◌, subst, arith}
-use Rattle.p3_matrix.specs.RowMajor.{RowMajor, height}
+use Rattle.std.proofs.Common.{arith}
 use Rattle.p3_dft.specs.Transforms.{IsInterpolation}
+use Rattle.p3_dft.proofs.Calls.Columns.{vector_answer, vector_fits, vector_height, vector_width}
 use Rattle.p3_dft.proofs.Calls.PreparedHeights.{not_ok}
 use Rattle.p3_dft.proofs.traits.TwoAdicSubgroupDft.idft.Goals as goal
 
 pub idft_batch-requires : goal.idft_batch-requires
-idft_batch-requires g c =
-    let fits = c.requires in
-    rw c.new_col.ensures (record { log = fits.log; within = fits.within; high = omega (arith, fits.high, c.args.vec.ok.0); wide = fits.wide; size = omega (arith, fits.size, c.args.vec.ok.0) })
+idft_batch-requires g c = vector_fits c.new_col.result c.args.vec.items _ c.new_col.ensures c.args.vec.ok.0 _ c.requires
 
 pub returns-clause-coefficients : goal.returns-clause-coefficients
 returns-clause-coefficients g c =
     let fits = c.requires in
-    let F = g.row.F.Denot in
-    let out = c.in_ok-idft_batch.field-0 in
-    let after = c.into_values.result.items in
     let given = c.in_ok-idft_batch.ensures.coefficients in
-    let tall : height c.new_col.result ≡ 2 ^ fits.log = ap (λ (m : RowMajor F). height m) c.new_col.ensures ∙ omega (arith, fits.high, c.args.vec.ok.0) in
-    let wide : out.width ≡ 1 = (given.holds fits.log tall).wide ∙ ap (λ (m : RowMajor F). m.width) c.new_col.ensures in
-    let parts : out ≡ record { width = 1; values = after } = ap₂ (λ (w : ℕ) (xs : List F). record { width = w; values = xs }) wide (sym c.into_values.ensures.values) in
-    subst (λ (m : RowMajor F). IsInterpolation g.F.Field g.F.TwoAdicField.generator m g.F.Field.ring.one (record { width = 1; values = after })) c.new_col.ensures
-    (subst (λ (n : RowMajor F). IsInterpolation g.F.Field g.F.TwoAdicField.generator c.new_col.result g.F.Field.ring.one n) parts given)
+    let high = vector_height c.new_col.result c.args.vec.items _ c.new_col.ensures c.args.vec.ok.0 fits.log fits.high in
+    vector_answer c.new_col.result c.args.vec.items _ c.new_col.ensures c.args.vec.ok.0 (λ m out. IsInterpolation g.F.Field g.F.TwoAdicField.generator m g.F.Field.ring.one out)
+    c.in_ok-idft_batch.field-0 c.into_values.result.items c.into_values.ensures.values (given.holds fits.log high).wide given
 
 pub returns-clause-serves : goal.returns-clause-serves
-returns-clause-serves g c k high =
-    let tall : height c.new_col.result ≡ 2 ^ k = ap (λ (m : RowMajor g.row.F.Denot). height m) c.new_col.ensures ∙ omega (arith, high, c.args.vec.ok.0) in
-    c.in_ok-idft_batch.ensures.serves k tall
+returns-clause-serves g c k high = c.in_ok-idft_batch.ensures.serves k (vector_height c.new_col.result c.args.vec.items _ c.new_col.ensures c.args.vec.ok.0 k high)
 
 pub returns-clause-cost : goal.returns-clause-cost
 returns-clause-cost g c k high =
-    let tall : height c.new_col.result ≡ 2 ^ k = ap (λ (m : RowMajor g.row.F.Denot). height m) c.new_col.ensures ∙ omega (arith, high, c.args.vec.ok.0) in
-    let given = c.in_ok-idft_batch.ensures.cost k tall in
-    let cost = rw c.new_col.ensures at given in
+    let given = c.in_ok-idft_batch.ensures.cost k (vector_height c.new_col.result c.args.vec.items _ c.new_col.ensures c.args.vec.ok.0 k high) in
+    let cost = rw (vector_width c.new_col.result c.args.vec.items _ c.new_col.ensures c.args.vec.ok.0) at given in
     omega (arith, cost)
 
 pub returns-clause-later : goal.returns-clause-later
@@ -42,5 +32,4 @@ returns-in_err-idft_batch-clause-later g c = c.idft_batch.ensures.later
 
 pub returns-in_err-idft_batch-clause-succeeds : goal.returns-in_err-idft_batch-clause-succeeds
 returns-in_err-idft_batch-clause-succeeds g c k high promised =
-    let tall : height c.new_col.result ≡ 2 ^ k = ap (λ (m : RowMajor g.row.F.Denot). height m) c.new_col.ensures ∙ omega (arith, high, c.args.vec.ok.0) in
-    absurd (not_ok c.idft_batch.result _ c.in_err-idft_batch.was (c.idft_batch.ensures.succeeds k tall promised))
+    absurd (not_ok c.idft_batch.result _ c.in_err-idft_batch.was (c.idft_batch.ensures.succeeds k (vector_height c.new_col.result c.args.vec.items _ c.new_col.ensures c.args.vec.ok.0 k high) promised))

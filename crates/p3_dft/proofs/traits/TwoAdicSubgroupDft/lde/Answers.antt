@@ -1,24 +1,26 @@
-use Rattle.std.proofs.Common.{◌≡◌, ◌^◌, ap, ◌∙◌, arith}
-use Rattle.p3_matrix.specs.RowMajor.{RowMajor, height}
-use Rattle.p3_dft.proofs.Calls.ExtendedTransforms.{extension_of_vectors}
+use Rattle.std.proofs.Common.{ap, ◌∙◌}
+use Rattle.p3_matrix.specs.RowMajor.{RowMajor}
+use Rattle.p3_dft.specs.Extensions.{IsExtension}
+use Rattle.p3_dft.proofs.Calls.Columns.{vector_answer, vector_height, vector_width}
 use Rattle.p3_dft.proofs.traits.TwoAdicSubgroupDft.lde.Goals as goal
 
 pub returns-clause-values : goal.returns-clause-values
 returns-clause-values g c =
-    extension_of_vectors g.F.Field g.F.TwoAdicField.generator c.new_col.result c.to_row_major_matrix.result (g.Self.Evaluations.Evaluations.natural c.in_ok-values.values)
-    c.args.vec.items c.into_values.result.items c.args.added_bits g.F.Field.ring.one c.requires.log (omega (arith, c.requires.high, c.args.vec.ok.0))
-    c.new_col.ensures c.to_row_major_matrix.ensures c.into_values.ensures.values c.in_ok-values.ensures.values
+    let fits = c.requires in
+    let given = c.in_ok-values.ensures.values in
+    let high = vector_height c.new_col.result c.args.vec.items _ c.new_col.ensures c.args.vec.ok.0 fits.log fits.high in
+    vector_answer c.new_col.result c.args.vec.items _ c.new_col.ensures c.args.vec.ok.0 (λ m out. IsExtension g.F.Field g.F.TwoAdicField.generator m c.args.added_bits g.F.Field.ring.one out)
+    (g.Self.Evaluations.Evaluations.natural c.in_ok-values.values) c.into_values.result.items
+    (c.into_values.ensures.values ∙ ap (λ (r : RowMajor g.row.F.Denot). r.values) c.to_row_major_matrix.ensures)
+    ((given.extended fits.log high).wide ∙ (given.are_coefficients fits.log high).wide) given
 
 pub returns-clause-serves : goal.returns-clause-serves
-returns-clause-serves g c k high =
-    let tall : height c.new_col.result ≡ 2 ^ k = ap (λ (m : RowMajor g.row.F.Denot). height m) c.new_col.ensures ∙ omega (arith, high, c.args.vec.ok.0) in
-    c.in_ok-values.ensures.serves k tall
+returns-clause-serves g c k high = c.in_ok-values.ensures.serves k (vector_height c.new_col.result c.args.vec.items _ c.new_col.ensures c.args.vec.ok.0 k high)
 
 pub returns-clause-cost : goal.returns-clause-cost
 returns-clause-cost g c k high =
-    let tall : height c.new_col.result ≡ 2 ^ k = ap (λ (m : RowMajor g.row.F.Denot). height m) c.new_col.ensures ∙ omega (arith, high, c.args.vec.ok.0) in
-    let given = c.in_ok-values.ensures.cost k tall in
-    rw c.new_col.ensures at given
+    let given = c.in_ok-values.ensures.cost k (vector_height c.new_col.result c.args.vec.items _ c.new_col.ensures c.args.vec.ok.0 k high) in
+    rw (vector_width c.new_col.result c.args.vec.items _ c.new_col.ensures c.args.vec.ok.0) at given
 
 pub returns-clause-later : goal.returns-clause-later
 returns-clause-later g c = c.lde_batch.ensures.later
