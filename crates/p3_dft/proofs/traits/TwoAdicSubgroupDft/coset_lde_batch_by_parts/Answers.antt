@@ -74,3 +74,20 @@ returns-clause-serves g c = λ k e.
     let grown = padded_shape g.F.Field.ZERO (g.N.IntoRowMajorMatrix.stored c.args.mat) c.exchange_layouts-2.new.mat c.in_ok-coefficients-2.coefficients a k c.pad_rows.ensures.whole
     (back.0 ∙ shape.0, back.1 ∙ shape.1) e c.in_ok-coefficients-2.ensures.padded in
     on_ok_weaker c.coset_dft_batch.result (λ more. (c.coset_dft_batch.ensures.later.keeps_served k (c.in_ok-coefficients.ensures.serves k e), more)) (c.coset_dft_batch.ensures.serves (k + a) grown.0)
+
+pub returns-clause-later : goal.returns-clause-later
+returns-clause-later g c =
+    let first = c.idft_batch.ensures.later in
+    let second = c.coset_dft_batch.ensures.later in
+    record {
+      keeps = λ k promised. second.keeps k (first.keeps k promised);
+      keeps_cosets = λ k s promised. second.keeps_cosets k s (first.keeps_cosets k s promised);
+      keeps_served = λ k served. second.keeps_served k (first.keeps_served k served);
+      grows = omega (arith, first.grows, second.grows);
+    }
+
+pub returns-in_err-coefficients-clause-later : goal.returns-in_err-coefficients-clause-later
+returns-in_err-coefficients-clause-later g c = c.idft_batch.ensures.later
+
+pub returns-in_err-coefficients-2-clause-later : goal.returns-in_err-coefficients-2-clause-later
+returns-in_err-coefficients-2-clause-later g c = c.idft_batch.ensures.later

@@ -21,6 +21,15 @@ block_height-block_height-requires-clause-small g c =
     let log = log_same _ fits.log (sym c.log2_strict_usize.ensures.power ∙ c.height.ensures.height ∙ rw c.into_row_major_matrix-mat.ensures fits.high) in
     rw log (output_log_small _ _ _ _ fits)
 
+pub coset_lde_batch_bit_reversed-requires-clause-fits : goal.coset_lde_batch_bit_reversed-requires-clause-fits
+coset_lde_batch_bit_reversed-requires-clause-fits g c = rw c.into_row_major_matrix-mat.ensures c.requires.fits
+
+pub coset_lde_batch_bit_reversed-requires-clause-callable : goal.coset_lde_batch_bit_reversed-requires-clause-callable
+coset_lde_batch_bit_reversed-requires-clause-callable g c = rw c.into_row_major_matrix-mat.ensures c.requires.callable
+
+pub coset_lde_batch_bit_reversed-requires-clause-shape : goal.coset_lde_batch_bit_reversed-requires-clause-shape
+coset_lde_batch_bit_reversed-requires-clause-shape g c = rw c.into_row_major_matrix-mat.ensures c.requires.shape
+
 pub publish-requires-clause-tall : goal.publish-requires-clause-tall
 publish-requires-clause-tall g c =
     let law = g.met.Self.TwoAdicSubgroupDft.block_rows_law c.log2_strict_usize.result c.args.added_bits in
@@ -80,3 +89,22 @@ returns-in-Ok-publish-clause-serves g c k e = c.in-Ok.ensures.serves k (rw c.int
 
 pub returns-in-Err-publish-clause-serves : goal.returns-in-Err-publish-clause-serves
 returns-in-Err-publish-clause-serves g c k e = c.in-Ok.ensures.serves k (rw c.into_row_major_matrix-mat.ensures e)
+
+pub returns-in-Ok-publish-clause-later : goal.returns-in-Ok-publish-clause-later
+returns-in-Ok-publish-clause-later g c = c.coset_lde_batch_bit_reversed.ensures.later
+
+pub returns-in-Err-publish-clause-later : goal.returns-in-Err-publish-clause-later
+returns-in-Err-publish-clause-later g c = c.coset_lde_batch_bit_reversed.ensures.later
+
+pub returns-in-Err-clause-later : goal.returns-in-Err-clause-later
+returns-in-Err-clause-later g c = c.coset_lde_batch_bit_reversed.ensures.later
+
+pub returns-in-Ok-publish-clause-cost : goal.returns-in-Ok-publish-clause-cost
+returns-in-Ok-publish-clause-cost g c k e =
+    let given = c.in-Ok.ensures.cost k (rw c.into_row_major_matrix-mat.ensures e) in
+    rw c.into_row_major_matrix-mat.ensures at given
+
+pub returns-in-Err-publish-clause-cost : goal.returns-in-Err-publish-clause-cost
+returns-in-Err-publish-clause-cost g c k e =
+    let given = c.in-Ok.ensures.cost k (rw c.into_row_major_matrix-mat.ensures e) in
+    rw c.into_row_major_matrix-mat.ensures at given
