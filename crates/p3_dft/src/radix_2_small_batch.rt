@@ -313,10 +313,10 @@ impl<F: TwoAdicField> TwoAdicSubgroupDft<F> for Radix2DFTSmallBatch<F> {
     ) -> Result<BitReversedMatrixView<RowMajorMatrix<F>>, DftError> {
         let mat = mat.into_row_major_matrix();
         let log_h = log2_strict_usize(mat.height());
+        self.prepare(*mat.allocator(), log_h + added_bits)?;
         let coefficients = self.idft_batch(mat)?;
         let changed = transform(coefficients, Layout::Natural);
         let mut grown = pad_rows(changed, added_bits)?;
-        self.tables.make(*grown.allocator(), log_h + added_bits)?;
         let twiddles = self.tables.forward();
         extend_in_slots(
             &mut grown,

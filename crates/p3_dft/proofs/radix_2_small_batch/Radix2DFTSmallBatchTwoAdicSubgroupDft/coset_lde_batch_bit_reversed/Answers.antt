@@ -1,8 +1,10 @@
-use Rattle.std.proofs.Common.{◌≡◌, ℕ, ◌+◌, ◌*◌, ◌/◌, ◌^◌, ◌≤◌, sym, ap, ap₂, ◌∙◌, subst, arith}
+use Rattle.std.proofs.Common.{◌≡◌, ℕ, ◌+◌, ◌*◌, ◌/◌, ◌^◌, ◌<◌, ◌≤◌, sym, ap, ap₂, ◌∙◌, subst, arith}
+use Rattle.std.specs.Bool.{⊤}
+use Rattle.std.proofs.Math.Pow.{pow-lt}
 use Rattle.p3_matrix.specs.RowMajor.{RowMajor, HasShapeOf, IsRowMajor, height}
 use Rattle.p3_matrix.proofs.TwoPowers.{log_same}
 use Rattle.p3_networks.proofs.Layers.Counts.{slots_made}
-use Rattle.p3_dft.specs.Engines.{Tabled, IsPrepared}
+use Rattle.p3_dft.specs.Engines.{Tabled, IsLater, IsPrepared}
 use Rattle.p3_dft.specs.Transforms.{values_of}
 use Rattle.p3_dft.proofs.BitReversed.Rows.{values_seen}
 use Rattle.p3_dft.proofs.Calls.ExtendedTransforms.{extension_of_natural}
@@ -10,6 +12,16 @@ use Rattle.p3_dft.proofs.Calls.Padding.{padded_shape, padded_whole}
 use Rattle.p3_dft.proofs.Calls.PreparedHeights.{prepared_until, until_prepared}
 use Rattle.p3_dft.proofs.Calls.Shapes.{log_within, output_log_small, output_size}
 use Rattle.p3_dft.proofs.radix_2_small_batch.Radix2DFTSmallBatchTwoAdicSubgroupDft.coset_lde_batch_bit_reversed.Goals as goal
+
+-- a call after heights were prepared, without a product
+after_preparing : {F : Type 0} {before prepared after : Tabled} → ((k : ℕ) → IsPrepared before k → IsPrepared prepared k) → prepared.products ≡ before.products
+    → IsLater {F = F} IsPrepared (λ _ _ _. ⊤) IsPrepared (λ e. e.products) prepared after → IsLater {F = F} IsPrepared (λ _ _ _. ⊤) IsPrepared (λ e. e.products) before after
+after_preparing keeps none later = record {
+  keeps = λ k before. later.keeps k (keeps k before);
+  keeps_cosets = λ k s promised. tt;
+  keeps_served = λ k before. later.keeps_served k (keeps k before);
+  grows = omega (arith, later.grows, none);
+}
 
 pub pad_rows-requires-clause-bits : goal.pad_rows-requires-clause-bits
 pad_rows-requires-clause-bits g c = let small = output_log_small _ _ _ _ c.requires.fits in omega (arith, small)
@@ -29,17 +41,27 @@ overflow_add-log_h g c =
     (c.height.ensures.height ∙ ap height c.into_row_major_matrix-mat.ensures ∙ c.requires.fits.high) (output_log_small _ _ _ _ c.requires.fits) in
     omega (arith, small)
 
-pub make-requires-clause-within : goal.make-requires-clause-within
-make-requires-clause-within g c =
+pub prepare-requires-clause-within : goal.prepare-requires-clause-within
+prepare-requires-clause-within g c =
     let within = log_within c.log2_strict_usize-log_h.result c.args.added_bits _ c.requires.fits.log c.height.result c.log2_strict_usize-log_h.ensures.power
     (c.height.ensures.height ∙ ap height c.into_row_major_matrix-mat.ensures ∙ c.requires.fits.high) c.requires.fits.within in
     within
 
-pub make-requires-clause-small : goal.make-requires-clause-small
-make-requires-clause-small g c =
+pub prepare-requires-clause-size : goal.prepare-requires-clause-size
+prepare-requires-clause-size g c =
     let small = log_within c.log2_strict_usize-log_h.result c.args.added_bits 63 c.requires.fits.log c.height.result c.log2_strict_usize-log_h.ensures.power
     (c.height.ensures.height ∙ ap height c.into_row_major_matrix-mat.ensures ∙ c.requires.fits.high) (output_log_small _ _ _ _ c.requires.fits) in
-    omega (arith, small)
+    let digits : c.log2_strict_usize-log_h.result + c.args.added_bits < 64 = omega (arith, small) in
+    pow-lt digits
+
+pub extend_in_slots-requires-clause-twiddles : goal.extend_in_slots-requires-clause-twiddles
+extend_in_slots-requires-clause-twiddles g c =
+    let top = c.log2_strict_usize-log_h.result + c.args.added_bits in
+    let there : top ≤ c.self.inside.tables = until_prepared _ top (subst (λ (e : Tabled). IsPrepared e top) (sym c.self.view_is) (c.idft_batch.ensures.later.keeps top c.in_ok-prepare.ensures.prepares)) in
+    record {
+      size = λ l below. c.forward-twiddles.ensures.size l (omega (arith, below, there));
+      entries = λ l b below inside. c.forward-twiddles.ensures.entries l b (omega (arith, below, there)) inside;
+    }
 
 pub extend_in_slots-requires-clause-within : goal.extend_in_slots-requires-clause-within
 extend_in_slots-requires-clause-within g c =
@@ -100,21 +122,28 @@ returns-clause-values g c =
 pub returns-clause-serves : goal.returns-clause-serves
 returns-clause-serves g c k e =
     let log = c.log2_strict_usize-log_h.result in
+    let top = log + c.args.added_bits in
     let same : log ≡ k = log_same log k (sym c.log2_strict_usize-log_h.ensures.power ∙ c.height.ensures.height ∙ ap height c.into_row_major_matrix-mat.ensures ∙ e) in
-    (prepared_until _ k (omega (arith, same, c.in_ok-make.ensures.made)), prepared_until _ (k + c.args.added_bits) (omega (arith, same, c.in_ok-make.ensures.made)))
+    let there : top ≤ c.self.inside.tables = until_prepared _ top (subst (λ (e : Tabled). IsPrepared e top) (sym c.self.view_is) (c.idft_batch.ensures.later.keeps top c.in_ok-prepare.ensures.prepares)) in
+    (prepared_until _ k (omega (arith, same, there)), prepared_until _ (k + c.args.added_bits) (omega (arith, same, there)))
 
 pub returns-clause-later : goal.returns-clause-later
 returns-clause-later g c =
     let first = c.idft_batch.ensures.later in
     let products : c.self.inside.products ≡ c.idft_batch.new.self.products = ap (λ e. e.products) c.self.view_is in
-    let there = λ (k : ℕ) (before : IsPrepared c.args.self.now k). until_prepared _ k (subst (λ (e : Tabled). IsPrepared e k) (sym c.self.view_is) (first.keeps k before)) in
-    let still : (k : ℕ) → IsPrepared c.args.self.now k → k ≤ c.make.new.self = λ k before. let held = there k before in omega (arith, held, c.make.ensures.keeps) in
+    let still = λ (k : ℕ) (before : IsPrepared c.args.self.now k). until_prepared _ k (subst (λ (e : Tabled). IsPrepared e k) (sym c.self.view_is) (first.keeps k (c.prepare.ensures.keeps k before))) in
     record {
       keeps = λ k before. prepared_until _ k (still k before);
       keeps_cosets = λ k s none. tt;
       keeps_served = λ k before. prepared_until _ k (still k before);
-      grows = omega (arith, first.grows, products, c.extend_in_slots.ensures.grows);
+      grows = omega (arith, c.prepare.ensures.products, first.grows, products, c.extend_in_slots.ensures.grows);
     }
+
+pub returns-in_err-coefficients-clause-later : goal.returns-in_err-coefficients-clause-later
+returns-in_err-coefficients-clause-later g c = after_preparing c.prepare.ensures.keeps c.prepare.ensures.products c.idft_batch.ensures.later
+
+pub returns-in_err-grown-clause-later : goal.returns-in_err-grown-clause-later
+returns-in_err-grown-clause-later g c = after_preparing c.prepare.ensures.keeps c.prepare.ensures.products c.idft_batch.ensures.later
 
 pub returns-clause-cost : goal.returns-clause-cost
 returns-clause-cost g c k e =
@@ -134,7 +163,7 @@ returns-clause-cost g c k e =
     let made = slots_made log a m.width c.self.inside.products c.extend_in_slots.new.products second in
     let first = c.in_ok-coefficients.ensures.cost log high in
     let all : c.extend_in_slots.new.products
-    ≤ c.args.self.now.products + (m.width * (log * 2 ^ log / 2) + 2 ^ log * m.width + (m.width * ((log + a) * 2 ^ (log + a) / 2) + 2 ^ (log + a) * m.width)) = omega (arith, made, first, products) in
+    ≤ c.args.self.now.products + (m.width * (log * 2 ^ log / 2) + 2 ^ log * m.width + (m.width * ((log + a) * 2 ^ (log + a) / 2) + 2 ^ (log + a) * m.width)) = omega (arith, made, first, products, c.prepare.ensures.products) in
     subst (λ (n : ℕ). c.extend_in_slots.new.products
     ≤ c.args.self.now.products + ((g.N.IntoRowMajorMatrix.stored c.args.mat).width * (n * 2 ^ n / 2) + 2 ^ n * (g.N.IntoRowMajorMatrix.stored c.args.mat).width
     + ((g.N.IntoRowMajorMatrix.stored c.args.mat).width * ((n + a) * 2 ^ (n + a) / 2) + 2 ^ (n + a) * (g.N.IntoRowMajorMatrix.stored c.args.mat).width))) same
