@@ -151,7 +151,7 @@ fn prepared_by_an_inverse<F: TwoAdicField>(
 }
 
 // A transform of any engine, at a height that it promises.
-fn transform_promised<F: TwoAdicField, D: TwoAdicSubgroupDft<F>>(
+pub(crate) fn transform_promised<F: TwoAdicField, D: TwoAdicSubgroupDft<F>>(
     engine: &mut D,
     mat: RowMajorMatrix<F>,
     log_h: usize,

@@ -1,7 +1,10 @@
 // Tiles of every size, which change no answer, and what is prepared when.
 
+ghost use Rattle.p3_dft.specs.Engines.{IsPrepared};
+
 use super::{EngineTest, ExtensionsAsSums, TransformsAsSums, elements, matrix, matrix_of};
-use crate::tests::fitting::evaluates;
+use crate::tests::callers::transform_promised;
+use crate::tests::fitting::{assert_column, evaluates, transformable};
 use p3_dft::{
     BabyBear, CanonicalField, Evaluations, Field, Radix2DFTSmallBatch, RowMajorMatrix,
     TwoAdicSubgroupDft, fits_dft, fits_lde,
@@ -113,6 +116,21 @@ fn engines_for_no_height(rt: HostRuntime) -> Result<(), Fail> {
     Ok(())
 }
 
+// Eight rows where their height is prepared: the transform answers, whatever memory there is.
+fn transform_of_eight_rows<F: CanonicalField>(
+    rt: &impl Abort,
+    alloc: Global,
+    engine: &mut Radix2DFTSmallBatch<F>,
+) -> Result<(), Fail>
+    requires { IsPrepared engine.old 3 }
+{
+    let mat: RowMajorMatrix<F> = transformable(rt, alloc, &[0, 0, 0, 0, 1, 0, 0, 0])?;
+    assert!(rt; mat.height() == 8);
+    let last = 2013265920;
+    let values = transform_promised(engine, mat, 3)?;
+    assert_column(rt, &values, &[1, last, 1, last, 1, last, 1, last])
+}
+
 // And one that is made for a height.
 fn made_for_a_height<F: CanonicalField>(rt: &impl Abort, alloc: Global) -> Result<(), Fail> {
     assert!(rt; F::TWO_ADICITY >= 3);
@@ -120,6 +138,7 @@ fn made_for_a_height<F: CanonicalField>(rt: &impl Abort, alloc: Global) -> Resul
     assert!(rt; engine.is_prepared(3));
     assert!(rt; engine.is_prepared(2));
     assert!(rt; !engine.is_prepared(4));
+    transform_of_eight_rows(rt, alloc, &mut engine)?;
     evaluates(rt, alloc, &mut engine, &[5, 4], &[9, 1])?;
     stays_prepared(rt, alloc, &mut engine)
 }
@@ -177,9 +196,7 @@ fn prepares_a_larger_height<F: CanonicalField>(rt: &impl Abort, alloc: Global) -
     let larger = engine.prepare(alloc, 5);
     assert!(rt; engine.is_prepared(3));
     assert!(rt; larger.is_err() || engine.is_prepared(5));
-    let last = 2013265920;
-    let values = [1, last, 1, last, 1, last, 1, last];
-    evaluates(rt, alloc, &mut engine, &[0, 0, 0, 0, 1, 0, 0, 0], &values)
+    transform_of_eight_rows(rt, alloc, &mut engine)
 }
 
 #[test]
