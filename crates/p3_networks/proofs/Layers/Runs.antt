@@ -127,3 +127,7 @@ whole_run value d cells len xs holds = let none : 0 ≡ 0 * len = omega arith in
 
 pub run_whole : {A T : Type 0} (value : T → A) (d : T) (cells : ℕ → A) (len : ℕ) (xs : List T) → HoldsCells value d (0 * len) cells xs → HoldsCells value d 0 cells xs
 run_whole value d cells len xs holds = let none : 0 * len ≡ 0 = omega arith in subst (λ (n : ℕ). HoldsCells value d n cells xs) none holds
+
+-- what a run holds, told by another name of its length
+pub held_as_long : {A T : Type 0} (value : T → A) (d : T) (cells : ℕ → A) (number : ℕ) {a b : ℕ} (xs : List T) → a ≡ b → HoldsCells value d (number * a) cells xs → HoldsCells value d (number * b) cells xs
+held_as_long value d cells number xs same holds = subst (λ (n : ℕ). HoldsCells value d (number * n) cells xs) same holds

@@ -20,6 +20,7 @@ use p3_field::{Products, TwoAdicField};
 use p3_matrix::scale_slice_in_place;
 
 // The layer of one entry, on run `number`. The rule goes by the number of a block alone.
+#[inline(always)]
 fn layer_of_run<F: TwoAdicField, R: Rule<F>>(
     rule: R,
     values: &mut [F],
@@ -162,8 +163,101 @@ fn dit_tiles<F: TwoAdicField>(
     for tile in 0..tiles {
         let start = tile * size;
         let rows = &mut values[start..start + size];
-        dit_layers(twiddles, rows, width, 0, log_rows, log_rows, tile, products);
+        dit_tile(twiddles, rows, width, log_rows, tile, products);
     }
+}
+
+// The same of one tile, run `number` of `2^top` rows. In one column the layers of the six smallest blocks
+// are done together, on one run of 64 rows after another.
+fn dit_tile<F: TwoAdicField>(
+    twiddles: &[F],
+    values: &mut [F],
+    width: usize,
+    top: usize,
+    number: usize,
+    products: &mut Products,
+)
+    requires wide { 1 ≤ width }
+    requires small { (number + 1) * 2 ^ top < 2 ^ 64 }
+    requires size { length values.old ≡ 2 ^ top * width }
+    requires first { F.value (get_or twiddles.now 0 F.ZERO) ≡ F.ring.one }
+    requires enough { (number + 1) * 2 ^ top ≤ 2 * length twiddles.now }
+    ensures cells { (k : ℕ) (cells : ℕ → ℕ → F.Element)
+        → AreLayers k width (λ b. dit_near F.ring (F.value (get_or twiddles.now b F.ZERO)))
+        (λ b. dit_far F.ring (F.value (get_or twiddles.now b F.ZERO)))
+        (λ e. cells (e + 1)) cells
+        → (number + 1) * 2 ^ top ≤ 2 ^ k → HoldsCells F.value F.ZERO (number * length values.old) (cells top) values.old
+        → HoldsCells F.value F.ZERO (number * length values.old) (cells 0) values.new }
+    ensures grows { products.old ≤ products.new }
+    ensures count { 2 * products.new ≤ 2 * products.old + top * length values.old }
+{
+    if width == 1 && top >= 6 {
+        dit_layers(twiddles, values, 1, 6, top, top, number, products);
+        dit_short_runs(twiddles, values, top, number, products);
+    } else {
+        dit_layers(twiddles, values, width, 0, top, top, number, products);
+    }
+}
+
+// By decimation in time, the layers of the entries below six, on run `number` of `2^top` rows of one
+// column, 64 of them after another.
+fn dit_short_runs<F: TwoAdicField>(
+    twiddles: &[F],
+    values: &mut [F],
+    top: usize,
+    number: usize,
+    products: &mut Products,
+)
+    requires tall { 6 ≤ top }
+    requires small { (number + 1) * 2 ^ top < 2 ^ 64 }
+    requires size { length values.old ≡ 2 ^ top * 1 }
+    requires first { F.value (get_or twiddles.now 0 F.ZERO) ≡ F.ring.one }
+    requires enough { (number + 1) * 2 ^ top ≤ 2 * length twiddles.now }
+    ensures cells { (k : ℕ) (cells : ℕ → ℕ → F.Element)
+        → AreLayers k 1 (λ b. dit_near F.ring (F.value (get_or twiddles.now b F.ZERO)))
+        (λ b. dit_far F.ring (F.value (get_or twiddles.now b F.ZERO)))
+        (λ e. cells (e + 1)) cells
+        → (number + 1) * 2 ^ top ≤ 2 ^ k → HoldsCells F.value F.ZERO (number * length values.old) (cells 6) values.old
+        → HoldsCells F.value F.ZERO (number * length values.old) (cells 0) values.new }
+    ensures grows { products.old ≤ products.new }
+    ensures count { 2 * products.new ≤ 2 * products.old + 6 * length values.old }
+{
+    let runs = 1usize << (top - 6);
+    let size = values.len() / runs;
+    for run in 0..runs {
+        let start = run * size;
+        let rows = &mut values[start..start + size];
+        dit_short_run(twiddles, rows, number * runs + run, products);
+    }
+}
+
+// The same on run `number` of 64 rows. The entries are named, so that the loops of each layer are of known size.
+fn dit_short_run<F: TwoAdicField>(
+    twiddles: &[F],
+    values: &mut [F],
+    number: usize,
+    products: &mut Products,
+)
+    requires small { (number + 1) * 2 ^ 6 < 2 ^ 64 }
+    requires size { length values.old ≡ 2 ^ 6 * 1 }
+    requires first { F.value (get_or twiddles.now 0 F.ZERO) ≡ F.ring.one }
+    requires enough { (number + 1) * 2 ^ 6 ≤ 2 * length twiddles.now }
+    ensures cells { (k : ℕ) (cells : ℕ → ℕ → F.Element)
+        → AreLayers k 1 (λ b. dit_near F.ring (F.value (get_or twiddles.now b F.ZERO)))
+        (λ b. dit_far F.ring (F.value (get_or twiddles.now b F.ZERO)))
+        (λ e. cells (e + 1)) cells
+        → (number + 1) * 2 ^ 6 ≤ 2 ^ k → HoldsCells F.value F.ZERO (number * length values.old) (cells 6) values.old
+        → HoldsCells F.value F.ZERO (number * length values.old) (cells 0) values.new }
+    ensures grows { products.old ≤ products.new }
+    ensures count { 2 * products.new ≤ 2 * products.old + 6 * length values.old }
+{
+    let rule = DitByBlock { twiddles };
+    layer_of_run(rule, values, 1, 5, 6, number, products);
+    layer_of_run(rule, values, 1, 4, 6, number, products);
+    layer_of_run(rule, values, 1, 3, 6, number, products);
+    layer_of_run(rule, values, 1, 2, 6, number, products);
+    layer_of_run(rule, values, 1, 1, 6, number, products);
+    layer_of_run(rule, values, 1, 0, 6, number, products);
 }
 
 // By decimation in frequency, the layers of the entries below `log_rows`, tile after tile, on the

@@ -1,4 +1,4 @@
-use Rattle.std.proofs.Common.{◌≡◌, ℕ, ◌+◌, ◌-◌, ◌*◌, ◌/◌, ◌%◌, ◌^◌, ◌<◌, ◌≤◌, length, take, drop, sym, ap, ap₂, ◌∙◌, subst, arith, rules, lit≤}
+use Rattle.std.proofs.Common.{◌≡◌, ℕ, ◌+◌, ◌-◌, ◌*◌, ◌/◌, ◌%◌, ◌^◌, ◌<◌, ◌≤◌, length, take, drop, sym, ap, ◌∙◌, subst, arith, rules, lit≤}
 use borrow.Author.Rules.{scaled_fits≤}
 use Rattle.std.proofs.lemmas.Nat.{pow_pos}
 use Rattle.std.proofs.Math.Nat.{pow-le-pow_right, mul-le-mul}
@@ -27,22 +27,22 @@ offset_bounds-values-start g c =
     let below : c.loop-tile.tile * (length c.args.values.now / (1 * 2 ^ (c.args.log_h - c.args.log_rows) % 18446744073709551616)) ≤ length c.args.values.now = omega (arith, room) in
     search (rules, scaled_fits≤)
 
-pub dit_layers-requires-clause-small : goal.dit_layers-requires-clause-small
-dit_layers-requires-clause-small g c =
+pub dit_tile-requires-clause-small : goal.dit_tile-requires-clause-small
+dit_tile-requires-clause-small g c =
     let sizes = tile_sizes c.args.log_h c.args.log_rows c.args.width (length c.args.values.now) c.requires.small c.requires.below c.requires.size in
     let rows = tile_rows _ _ _ _ _ _ c.loop-tile.tile sizes c.loop-tile-test.true in
     let few : c.args.log_h ≤ 63 = omega (arith, c.requires.small) in
     let most : 2 ^ c.args.log_h ≤ 2 ^ 63 = pow-le-pow_right {n = 2} (lit≤ tt) few in
     omega (arith, rows, most)
 
-pub dit_layers-requires-clause-size : goal.dit_layers-requires-clause-size
-dit_layers-requires-clause-size g c =
+pub dit_tile-requires-clause-size : goal.dit_tile-requires-clause-size
+dit_tile-requires-clause-size g c =
     let sizes = tile_sizes c.args.log_h c.args.log_rows c.args.width (length c.args.values.now) c.requires.small c.requires.below c.requires.size in
     let room = tile_room _ _ _ _ _ _ c.loop-tile.tile sizes c.loop-tile-test.true in
     part_length c.loop-tile.values _ _ (omega (arith, room, c.loop-tile.auto.values)) ∙ sizes.size_is
 
-pub dit_layers-requires-clause-enough : goal.dit_layers-requires-clause-enough
-dit_layers-requires-clause-enough g c =
+pub dit_tile-requires-clause-enough : goal.dit_tile-requires-clause-enough
+dit_tile-requires-clause-enough g c =
     let sizes = tile_sizes c.args.log_h c.args.log_rows c.args.width (length c.args.values.now) c.requires.small c.requires.below c.requires.size in
     let rows = tile_rows _ _ _ _ _ _ c.loop-tile.tile sizes c.loop-tile-test.true in
     omega (arith, rows, c.requires.enough)
@@ -61,21 +61,21 @@ loop-tile-preserved g c =
     let room : tile * size + size ≤ length now = let all = tile_room _ _ _ _ _ _ tile sizes c.loop-tile-test.true in omega (arith, all, c.loop-tile.auto.values) in
     let part = take m (drop (tile * size) now) in
     let part_len : length part ≡ size = part_length now (tile * size) size room in
-    let cost : 2 * c.dit_layers.new.products ≤ 2 * c.loop-tile.products + 1 * (r * size) =
-    let all : (r - 0) * length part ≡ 1 * (r * size) = ap₂ (λ a n. a * n) (let e : r - 0 ≡ r = omega arith in e) part_len ∙ omega arith in
-    omega (arith, c.dit_layers.ensures.count, all) in
+    let cost : 2 * c.dit_tile.new.products ≤ 2 * c.loop-tile.products + 1 * (r * size) =
+    let all : r * length part ≡ 1 * (r * size) = ap (λ n. r * n) part_len ∙ omega arith in
+    omega (arith, c.dit_tile.ensures.count, all) in
     record {
       cells = λ cells layers holds.
           let so_far = c.loop-tile.invariant.cells cells layers holds in
-          tiles-more field.value field.ZERO size (cells 0) c.args.values.now now c.dit_layers.new.values tile m is room (c.dit_layers.auto.values ∙ part_len)
-          (subst (λ (n : ℕ). HoldsCells field.value field.ZERO (tile * n) (cells 0) c.dit_layers.new.values) part_len
-          (c.dit_layers.ensures.cells c.args.log_h cells layers (tile_rows _ _ _ _ _ _ tile sizes c.loop-tile-test.true)
+          tiles-more field.value field.ZERO size (cells 0) c.args.values.now now c.dit_tile.new.values tile m is room (c.dit_tile.auto.values ∙ part_len)
+          (subst (λ (n : ℕ). HoldsCells field.value field.ZERO (tile * n) (cells 0) c.dit_tile.new.values) part_len
+          (c.dit_tile.ensures.cells c.args.log_h cells layers (tile_rows _ _ _ _ _ _ tile sizes c.loop-tile-test.true)
           (λ i inside.
           tile_held field.value field.ZERO size field.value (cells r) (cells 0) c.args.values.now now tile m is room holds so_far i (omega (arith, inside, part_len, is))
           ∙ ap (cells r) (ap (λ n. tile * n + i) (is ∙ sym part_len)))))
           so_far;
-      grows = omega (arith, c.loop-tile.invariant.grows, c.dit_layers.ensures.grows);
-      count = layer_more tile (r * size) c.args.products.now c.loop-tile.products c.dit_layers.new.products c.loop-tile.invariant.count cost;
+      grows = omega (arith, c.loop-tile.invariant.grows, c.dit_tile.ensures.grows);
+      count = layer_more tile (r * size) c.args.products.now c.loop-tile.products c.dit_tile.new.products c.loop-tile.invariant.count cost;
     }
 
 pub returns-clause-cells : goal.returns-clause-cells

@@ -1,0 +1,17 @@
+use Rattle.std.proofs.Common.{ℕ, ◌+◌, ◌∙◌, sym}
+use Rattle.p3_networks.proofs.Layers.Runs.{held_as_long}
+use Rattle.p3_networks.proofs.radix_2_small_batch.networks.dit_short_run.Goals as goal
+
+pub returns-clause-cells : goal.returns-clause-cells
+returns-clause-cells g c k cells layers room holds =
+    let value = g.F.Field.value in
+    let zero = g.F.Field.ZERO in
+    let number = c.args.number in
+    let before = λ (e : ℕ). cells (e + 1) in
+    let layer_5 = c.layer_of_run.ensures.cells k before cells layers room holds in
+    let layer_4 = c.layer_of_run-2.ensures.cells k before cells layers room (held_as_long value zero (cells 5) number c.layer_of_run.new.values (sym c.layer_of_run.auto.values) layer_5) in
+    let layer_3 = c.layer_of_run-3.ensures.cells k before cells layers room (held_as_long value zero (cells 4) number c.layer_of_run-2.new.values (sym c.layer_of_run-2.auto.values) layer_4) in
+    let layer_2 = c.layer_of_run-4.ensures.cells k before cells layers room (held_as_long value zero (cells 3) number c.layer_of_run-3.new.values (sym c.layer_of_run-3.auto.values) layer_3) in
+    let layer_1 = c.layer_of_run-5.ensures.cells k before cells layers room (held_as_long value zero (cells 2) number c.layer_of_run-4.new.values (sym c.layer_of_run-4.auto.values) layer_2) in
+    let layer_0 = c.layer_of_run-6.ensures.cells k before cells layers room (held_as_long value zero (cells 1) number c.layer_of_run-5.new.values (sym c.layer_of_run-5.auto.values) layer_1) in
+    held_as_long value zero (cells 0) number c.layer_of_run-6.new.values (c.layer_of_run-5.auto.values ∙ c.layer_of_run-4.auto.values ∙ c.layer_of_run-3.auto.values ∙ c.layer_of_run-2.auto.values ∙ c.layer_of_run.auto.values) layer_0
