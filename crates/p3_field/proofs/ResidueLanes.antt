@@ -1,5 +1,5 @@
 -- Residues in the lanes of a packed value: what is known of their numbers is known of them.
-use Rattle.std.proofs.Common.{◌≡◌, ℕ, ◌<◌, List, [], ◌∷◌, length, map, get_or, set, drop, refl, sym, ap, ap₂, ◌∙◌, arith}
+use Rattle.std.proofs.Common.{◌≡◌, ℕ, zero, suc, ◌+◌, ◌*◌, ◌<◌, List, [], ◌∷◌, length, map, get_or, set, drop, refl, sym, ap, ap₂, ◌∙◌, subst, arith}
 use Rattle.std.proofs.lemmas.List.{map-id}
 use Rattle.std.specs.Simd.Lanes.{zip2}
 use Rattle.p3_field.specs.Lanes.{by_lanes}
@@ -33,6 +33,76 @@ eight_written (a ∷ b ∷ c ∷ d ∷ e ∷ []) x0 x1 x2 x3 x4 x5 x6 x7 long = 
 eight_written (a ∷ b ∷ c ∷ d ∷ e ∷ g ∷ []) x0 x1 x2 x3 x4 x5 x6 x7 long = absurd (omega (arith, long))
 eight_written (a ∷ b ∷ c ∷ d ∷ e ∷ g ∷ h ∷ []) x0 x1 x2 x3 x4 x5 x6 x7 long = absurd (omega (arith, long))
 eight_written (a ∷ b ∷ c ∷ d ∷ e ∷ g ∷ h ∷ i ∷ j ∷ xs) x0 x1 x2 x3 x4 x5 x6 x7 long = absurd (omega (arith, long))
+
+-- what is told of each of eight entries by its place
+pub by_place : {A : Type 0} (of : List A) (P : ℕ → A → Type 0) (x0 x1 x2 x3 x4 x5 x6 x7 d : A) → P 0 x0 → P 1 x1 → P 2 x2 → P 3 x3 → P 4 x4 → P 5 x5 → P 6 x6 → P 7 x7
+    → (i : ℕ) → i < 8 → P i (get_or (x0 ∷ x1 ∷ x2 ∷ x3 ∷ x4 ∷ x5 ∷ x6 ∷ x7 ∷ []) i d)
+by_place of P x0 x1 x2 x3 x4 x5 x6 x7 d p0 p1 p2 p3 p4 p5 p6 p7 zero below = p0
+by_place of P x0 x1 x2 x3 x4 x5 x6 x7 d p0 p1 p2 p3 p4 p5 p6 p7 (suc zero) below = p1
+by_place of P x0 x1 x2 x3 x4 x5 x6 x7 d p0 p1 p2 p3 p4 p5 p6 p7 (suc (suc zero)) below = p2
+by_place of P x0 x1 x2 x3 x4 x5 x6 x7 d p0 p1 p2 p3 p4 p5 p6 p7 (suc (suc (suc zero))) below = p3
+by_place of P x0 x1 x2 x3 x4 x5 x6 x7 d p0 p1 p2 p3 p4 p5 p6 p7 (suc (suc (suc (suc zero)))) below = p4
+by_place of P x0 x1 x2 x3 x4 x5 x6 x7 d p0 p1 p2 p3 p4 p5 p6 p7 (suc (suc (suc (suc (suc zero))))) below = p5
+by_place of P x0 x1 x2 x3 x4 x5 x6 x7 d p0 p1 p2 p3 p4 p5 p6 p7 (suc (suc (suc (suc (suc (suc zero)))))) below = p6
+by_place of P x0 x1 x2 x3 x4 x5 x6 x7 d p0 p1 p2 p3 p4 p5 p6 p7 (suc (suc (suc (suc (suc (suc (suc zero))))))) below = p7
+by_place of P x0 x1 x2 x3 x4 x5 x6 x7 d p0 p1 p2 p3 p4 p5 p6 p7 (suc (suc (suc (suc (suc (suc (suc (suc i)))))))) below = absurd (omega (arith, below))
+
+-- of the first, and of the second, of each of eight pairs
+firsts_by_place : {A : Type 0} (P : ℕ → A → Type 0) (a0 a1 a2 a3 a4 a5 a6 a7 b0 b1 b2 b3 b4 b5 b6 b7 d : A) → P 0 a0 → P 1 a1 → P 2 a2 → P 3 a3 → P 4 a4 → P 5 a5 → P 6 a6 → P 7 a7
+    → (i : ℕ) → i < 8 → P i (get_or (a0 ∷ b0 ∷ a1 ∷ b1 ∷ a2 ∷ b2 ∷ a3 ∷ b3 ∷ a4 ∷ b4 ∷ a5 ∷ b5 ∷ a6 ∷ b6 ∷ a7 ∷ b7 ∷ []) (2 * i) d)
+firsts_by_place P a0 a1 a2 a3 a4 a5 a6 a7 b0 b1 b2 b3 b4 b5 b6 b7 d p0 p1 p2 p3 p4 p5 p6 p7 zero below = p0
+firsts_by_place P a0 a1 a2 a3 a4 a5 a6 a7 b0 b1 b2 b3 b4 b5 b6 b7 d p0 p1 p2 p3 p4 p5 p6 p7 (suc zero) below = p1
+firsts_by_place P a0 a1 a2 a3 a4 a5 a6 a7 b0 b1 b2 b3 b4 b5 b6 b7 d p0 p1 p2 p3 p4 p5 p6 p7 (suc (suc zero)) below = p2
+firsts_by_place P a0 a1 a2 a3 a4 a5 a6 a7 b0 b1 b2 b3 b4 b5 b6 b7 d p0 p1 p2 p3 p4 p5 p6 p7 (suc (suc (suc zero))) below = p3
+firsts_by_place P a0 a1 a2 a3 a4 a5 a6 a7 b0 b1 b2 b3 b4 b5 b6 b7 d p0 p1 p2 p3 p4 p5 p6 p7 (suc (suc (suc (suc zero)))) below = p4
+firsts_by_place P a0 a1 a2 a3 a4 a5 a6 a7 b0 b1 b2 b3 b4 b5 b6 b7 d p0 p1 p2 p3 p4 p5 p6 p7 (suc (suc (suc (suc (suc zero))))) below = p5
+firsts_by_place P a0 a1 a2 a3 a4 a5 a6 a7 b0 b1 b2 b3 b4 b5 b6 b7 d p0 p1 p2 p3 p4 p5 p6 p7 (suc (suc (suc (suc (suc (suc zero)))))) below = p6
+firsts_by_place P a0 a1 a2 a3 a4 a5 a6 a7 b0 b1 b2 b3 b4 b5 b6 b7 d p0 p1 p2 p3 p4 p5 p6 p7 (suc (suc (suc (suc (suc (suc (suc zero))))))) below = p7
+firsts_by_place P a0 a1 a2 a3 a4 a5 a6 a7 b0 b1 b2 b3 b4 b5 b6 b7 d p0 p1 p2 p3 p4 p5 p6 p7 (suc (suc (suc (suc (suc (suc (suc (suc i)))))))) below = absurd (omega (arith, below))
+
+seconds_by_place : {A : Type 0} (P : ℕ → A → Type 0) (a0 a1 a2 a3 a4 a5 a6 a7 b0 b1 b2 b3 b4 b5 b6 b7 d : A) → P 0 b0 → P 1 b1 → P 2 b2 → P 3 b3 → P 4 b4 → P 5 b5 → P 6 b6 → P 7 b7
+    → (i : ℕ) → i < 8 → P i (get_or (a0 ∷ b0 ∷ a1 ∷ b1 ∷ a2 ∷ b2 ∷ a3 ∷ b3 ∷ a4 ∷ b4 ∷ a5 ∷ b5 ∷ a6 ∷ b6 ∷ a7 ∷ b7 ∷ []) (2 * i + 1) d)
+seconds_by_place P a0 a1 a2 a3 a4 a5 a6 a7 b0 b1 b2 b3 b4 b5 b6 b7 d p0 p1 p2 p3 p4 p5 p6 p7 zero below = p0
+seconds_by_place P a0 a1 a2 a3 a4 a5 a6 a7 b0 b1 b2 b3 b4 b5 b6 b7 d p0 p1 p2 p3 p4 p5 p6 p7 (suc zero) below = p1
+seconds_by_place P a0 a1 a2 a3 a4 a5 a6 a7 b0 b1 b2 b3 b4 b5 b6 b7 d p0 p1 p2 p3 p4 p5 p6 p7 (suc (suc zero)) below = p2
+seconds_by_place P a0 a1 a2 a3 a4 a5 a6 a7 b0 b1 b2 b3 b4 b5 b6 b7 d p0 p1 p2 p3 p4 p5 p6 p7 (suc (suc (suc zero))) below = p3
+seconds_by_place P a0 a1 a2 a3 a4 a5 a6 a7 b0 b1 b2 b3 b4 b5 b6 b7 d p0 p1 p2 p3 p4 p5 p6 p7 (suc (suc (suc (suc zero)))) below = p4
+seconds_by_place P a0 a1 a2 a3 a4 a5 a6 a7 b0 b1 b2 b3 b4 b5 b6 b7 d p0 p1 p2 p3 p4 p5 p6 p7 (suc (suc (suc (suc (suc zero))))) below = p5
+seconds_by_place P a0 a1 a2 a3 a4 a5 a6 a7 b0 b1 b2 b3 b4 b5 b6 b7 d p0 p1 p2 p3 p4 p5 p6 p7 (suc (suc (suc (suc (suc (suc zero)))))) below = p6
+seconds_by_place P a0 a1 a2 a3 a4 a5 a6 a7 b0 b1 b2 b3 b4 b5 b6 b7 d p0 p1 p2 p3 p4 p5 p6 p7 (suc (suc (suc (suc (suc (suc (suc zero))))))) below = p7
+seconds_by_place P a0 a1 a2 a3 a4 a5 a6 a7 b0 b1 b2 b3 b4 b5 b6 b7 d p0 p1 p2 p3 p4 p5 p6 p7 (suc (suc (suc (suc (suc (suc (suc (suc i)))))))) below = absurd (omega (arith, below))
+
+-- a list, entry by entry
+abbrev entries : {A : Type 0} → ℕ → List A → A → List A
+entries zero xs d = []
+entries (suc n) xs d = get_or xs 0 d ∷ entries n (drop 1 xs) d
+
+all_entries : {A : Type 0} (n : ℕ) (xs : List A) (d : A) → length xs ≡ n → xs ≡ entries n xs d
+all_entries zero [] d long = refl
+all_entries zero (x ∷ xs) d long = absurd (omega (arith, long))
+all_entries (suc n) [] d long = absurd (omega (arith, long))
+all_entries (suc n) (x ∷ xs) d long = ap (λ ys. x ∷ ys) (all_entries n xs d (omega (arith, long)))
+
+pairs_written : {A : Type 0} (ys : List A) (a0 a1 a2 a3 a4 a5 a6 a7 b0 b1 b2 b3 b4 b5 b6 b7 : A) → length ys ≡ 16
+    → set (set (set (set (set (set (set (set (set (set (set (set (set (set (set (set ys 0 a0) 1 b0) 2 a1) 3 b1) 4 a2) 5 b2) 6 a3) 7 b3) 8 a4) 9 b4) 10 a5) 11 b5) 12 a6) 13 b6) 14 a7) 15 b7 ≡ a0 ∷ b0 ∷ a1 ∷ b1 ∷ a2 ∷ b2 ∷ a3 ∷ b3 ∷ a4 ∷ b4 ∷ a5 ∷ b5 ∷ a6 ∷ b6 ∷ a7 ∷ b7 ∷ []
+pairs_written ys a0 a1 a2 a3 a4 a5 a6 a7 b0 b1 b2 b3 b4 b5 b6 b7 long = ap (λ l. set (set (set (set (set (set (set (set (set (set (set (set (set (set (set (set l 0 a0) 1 b0) 2 a1) 3 b1) 4 a2) 5 b2) 6 a3) 7 b3) 8 a4) 9 b4) 10 a5) 11 b5) 12 a6) 13 b6) 14 a7) 15 b7) (all_entries 16 ys a0 long)
+
+pub first_written : {A : Type 0} (ys : List A) (P : ℕ → A → Type 0) (a0 a1 a2 a3 a4 a5 a6 a7 b0 b1 b2 b3 b4 b5 b6 b7 d : A) → length ys ≡ 16 → P 0 a0 → P 1 a1 → P 2 a2 → P 3 a3 → P 4 a4 → P 5 a5 → P 6 a6 → P 7 a7
+    → (i : ℕ) → i < 8 → P i (get_or (set (set (set (set (set (set (set (set (set (set (set (set (set (set (set (set ys 0 a0) 1 b0) 2 a1) 3 b1) 4 a2) 5 b2) 6 a3) 7 b3) 8 a4) 9 b4) 10 a5) 11 b5) 12 a6) 13 b6) 14 a7) 15 b7) (2 * i) d)
+first_written ys P a0 a1 a2 a3 a4 a5 a6 a7 b0 b1 b2 b3 b4 b5 b6 b7 d long p0 p1 p2 p3 p4 p5 p6 p7 i below =
+    subst (λ xs. P i (get_or xs (2 * i) d)) (sym (pairs_written ys a0 a1 a2 a3 a4 a5 a6 a7 b0 b1 b2 b3 b4 b5 b6 b7 long)) (firsts_by_place P a0 a1 a2 a3 a4 a5 a6 a7 b0 b1 b2 b3 b4 b5 b6 b7 d p0 p1 p2 p3 p4 p5 p6 p7 i below)
+
+pub second_written : {A : Type 0} (ys : List A) (P : ℕ → A → Type 0) (a0 a1 a2 a3 a4 a5 a6 a7 b0 b1 b2 b3 b4 b5 b6 b7 d : A) → length ys ≡ 16 → P 0 b0 → P 1 b1 → P 2 b2 → P 3 b3 → P 4 b4 → P 5 b5 → P 6 b6 → P 7 b7
+    → (i : ℕ) → i < 8 → P i (get_or (set (set (set (set (set (set (set (set (set (set (set (set (set (set (set (set ys 0 a0) 1 b0) 2 a1) 3 b1) 4 a2) 5 b2) 6 a3) 7 b3) 8 a4) 9 b4) 10 a5) 11 b5) 12 a6) 13 b6) 14 a7) 15 b7) (2 * i + 1) d)
+second_written ys P a0 a1 a2 a3 a4 a5 a6 a7 b0 b1 b2 b3 b4 b5 b6 b7 d long p0 p1 p2 p3 p4 p5 p6 p7 i below =
+    subst (λ xs. P i (get_or xs (2 * i + 1) d)) (sym (pairs_written ys a0 a1 a2 a3 a4 a5 a6 a7 b0 b1 b2 b3 b4 b5 b6 b7 long)) (seconds_by_place P a0 a1 a2 a3 a4 a5 a6 a7 b0 b1 b2 b3 b4 b5 b6 b7 d p0 p1 p2 p3 p4 p5 p6 p7 i below)
+
+-- the number of one lane
+pub number_of_lane : {m : ℕ} {R : Type 0} (of : List R) (number : R → ℕ) (make : (n : ℕ) → n < m → R) → ((n : ℕ) (h : n < m) → number (make n h) ≡ n)
+    → (d : R) (xs : List ℕ) (below : AreBelow m xs) (i : ℕ) → i < length xs → number (get_or (elements_of make xs below) i d) ≡ get_or xs i 0
+number_of_lane of number make same d [] below i inside = absurd (omega (arith, inside))
+number_of_lane of number make same d (x ∷ xs) below zero inside = same x below.0
+number_of_lane of number make same d (x ∷ xs) below (suc i) inside = number_of_lane of number make same d xs below.1 i (omega (arith, inside))
 
 module _ {m : ℕ} where
   abbrev numbers : List (Residue m) → List ℕ

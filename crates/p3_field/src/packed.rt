@@ -1,6 +1,6 @@
 //! Packed values: several scalars that one operation handles together, and the counter of products.
 
-ghost use Rattle.std.specs.Prelude.{◌≡◌, ◌≤◌, ◌+◌, ℕ, List, [], ◌∷◌, length, map, replicate};
+ghost use Rattle.std.specs.Prelude.{◌≡◌, ◌<◌, ◌≤◌, ◌+◌, ◌*◌, ℕ, List, [], ◌∷◌, length, map, replicate, get_or};
 ghost use Rattle.p3_field.specs.Ring.{minus};
 ghost use Rattle.p3_field.specs.Lanes.{by_lanes};
 
@@ -68,10 +68,32 @@ where
     ghost width_law: { (x : Self) → length (lanes x) ≡ WIDTH };
 }
 
+/// Packed values that are taken from pairs of scalars, and put back. The pairs lie one after another.
+pub trait PackedPairs: PackedField
+where
+    Self::Scalar: Field,
+{
+    /// Takes the first scalars of `WIDTH` pairs, and the second ones.
+    fn load_pairs(from: &[Self::Scalar]) -> (Self, Self)
+        requires { length from.now ≡ 2 * Self.WIDTH }
+        ensures first { (i : ℕ) → i < Self.WIDTH → Self.Scalar.value (get_or (Self.lanes result.0) i Self.Scalar.ZERO)
+            ≡ Self.Scalar.value (get_or from.now (2 * i) Self.Scalar.ZERO) }
+        ensures second { (i : ℕ) → i < Self.WIDTH → Self.Scalar.value (get_or (Self.lanes result.1) i Self.Scalar.ZERO)
+            ≡ Self.Scalar.value (get_or from.now (2 * i + 1) Self.Scalar.ZERO) };
+
+    /// Writes its lanes to the first scalars of `WIDTH` pairs, and those of `second` to the second ones.
+    fn store_pairs(self, second: Self, to: &mut [Self::Scalar])
+        requires { length to.old ≡ 2 * Self.WIDTH }
+        ensures first { (i : ℕ) → i < Self.WIDTH → Self.Scalar.value (get_or to.new (2 * i) Self.Scalar.ZERO)
+            ≡ Self.Scalar.value (get_or (Self.lanes self) i Self.Scalar.ZERO) }
+        ensures second { (i : ℕ) → i < Self.WIDTH → Self.Scalar.value (get_or to.new (2 * i + 1) Self.Scalar.ZERO)
+            ≡ Self.Scalar.value (get_or (Self.lanes second) i Self.Scalar.ZERO) };
+}
+
 /// A field whose elements are packed values of one lane, and which has a packing of its own.
-pub trait Packable: Field + PackedField<Scalar = Self> {
+pub trait Packable: Field + PackedPairs<Scalar = Self> {
     /// The packed values of this field.
-    type Packing: PackedField<Scalar = Self>;
+    type Packing: PackedPairs<Scalar = Self>;
 
     // An element is the one lane of itself.
     ghost lane_law: { (x : Self) → Self.lanes x ≡ x ∷ [] };

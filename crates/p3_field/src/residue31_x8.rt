@@ -5,7 +5,7 @@ ghost use Rattle.std.specs.Simd.Lanes.{zip2};
 ghost use Rattle.p3_field.specs.LaneNumbers.{AreBelow};
 ghost use Rattle.p3_field.specs.LaneLaws.{are_below-prop};
 
-use crate::packed::{Packed, PackedField, Products};
+use crate::packed::{Packed, PackedField, PackedPairs, Products};
 use crate::residue31::{Numbers, Residue31};
 use std::alloc::AllocError;
 use std::marker::PhantomData;
@@ -119,6 +119,58 @@ impl<N: Numbers> PackedField for Residue31X8<N> {
     }
 
     ghost width_law = { λ x. length-elements_of _ x.lanes x.below ∙ x.eight };
+}
+
+impl<N: Numbers> PackedPairs for Residue31X8<N> {
+    fn load_pairs(from: &[Residue31<N>]) -> (Residue31X8<N>, Residue31X8<N>) {
+        (
+            Residue31X8 {
+                lanes: u32x8::from_array([
+                    from[0].number,
+                    from[2].number,
+                    from[4].number,
+                    from[6].number,
+                    from[8].number,
+                    from[10].number,
+                    from[12].number,
+                    from[14].number,
+                ]),
+                of: PhantomData,
+            },
+            Residue31X8 {
+                lanes: u32x8::from_array([
+                    from[1].number,
+                    from[3].number,
+                    from[5].number,
+                    from[7].number,
+                    from[9].number,
+                    from[11].number,
+                    from[13].number,
+                    from[15].number,
+                ]),
+                of: PhantomData,
+            },
+        )
+    }
+
+    fn store_pairs(self, second: Residue31X8<N>, to: &mut [Residue31<N>]) {
+        to[0] = self.element(0);
+        to[1] = second.element(0);
+        to[2] = self.element(1);
+        to[3] = second.element(1);
+        to[4] = self.element(2);
+        to[5] = second.element(2);
+        to[6] = self.element(3);
+        to[7] = second.element(3);
+        to[8] = self.element(4);
+        to[9] = second.element(4);
+        to[10] = self.element(5);
+        to[11] = second.element(5);
+        to[12] = self.element(6);
+        to[13] = second.element(6);
+        to[14] = self.element(7);
+        to[15] = second.element(7);
+    }
 }
 
 // The remainder of each lane, which is below twice the modulus: where a lane is below the modulus,

@@ -4,6 +4,7 @@ pub mod Columns
 pub mod Counts
 pub mod Groups
 pub mod Halves
+pub mod Pairs
 pub mod Runs
 pub mod Sizes
 pub mod Tiles

@@ -2,4 +2,5 @@
 
 pub mod groups;
 pub mod networks;
+mod pairs;
 pub mod slots;

@@ -1,13 +1,13 @@
 // Numbers that were computed elsewhere, and each public function once, generic ones at each field through their bounds.
 
-ghost use Rattle.std.specs.Prelude.{◌≡◌, ◌<◌, length};
+ghost use Rattle.std.specs.Prelude.{◌≡◌, ◌*◌, ◌<◌, length};
 
 use super::{is, row, vectors};
 use p3_field::baby_bear::BabyBearNumbers;
 use p3_field::koala_bear::KoalaBearNumbers;
 use p3_field::{
-    BabyBear, CanonicalField, Field, Goldilocks, KoalaBear, Numbers, Packable, Packed, PackedField,
-    Products, Residue31, Residue31X8, TwoAdicField, scaled,
+    BabyBear, BabyBearX8, CanonicalField, Field, Goldilocks, KoalaBear, Numbers, Packable, Packed,
+    PackedField, PackedPairs, Products, Residue31, Residue31X8, TwoAdicField, scaled,
 };
 use std::alloc::Global;
 use std::mem::size_of;
@@ -158,6 +158,30 @@ fn lanes(rt: HostRuntime) -> Result<(), Fail> {
     has_number(&rt, scaled(BabyBear::TWO, BabyBear::TWO, &mut more), 4);
     products.add(more);
     assert!(rt; size_of::<Products>() == 0);
+    Ok(())
+}
+
+// The two elements of each pair change places.
+fn exchange<F: Field, P: PackedPairs<Scalar = F>>(pairs: &mut [F])
+    requires { length pairs.old ≡ 2 * P.WIDTH }
+    ensures { length pairs.new ≡ length pairs.old }
+{
+    let (first, second) = P::load_pairs(pairs);
+    second.store_pairs(first, pairs);
+}
+
+#[test]
+fn pairs(rt: HostRuntime) -> Result<(), Fail> {
+    let mut pairs: Vec<BabyBear> = row(rt.alloc(), 16, 1, 1)?;
+    exchange::<BabyBear, BabyBearX8>(pairs.as_mut_slice());
+    let numbers: [u64; 16] = [2, 1, 4, 3, 6, 5, 8, 7, 10, 9, 12, 11, 14, 13, 16, 15];
+    for i in 0..16 {
+        has_number(&rt, pairs[i], numbers[i]);
+    }
+    let mut pair: Vec<Goldilocks> = row(rt.alloc(), 2, 1, 1)?;
+    exchange::<Goldilocks, Goldilocks>(pair.as_mut_slice());
+    has_number(&rt, pair[0], 2);
+    has_number(&rt, pair[1], 1);
     Ok(())
 }
 

@@ -16,6 +16,7 @@ ghost use Rattle.p3_networks.specs.Twiddles.{AreTwiddlesFromStart, backward_root
 use crate::butterfly_layers::rules::{DifByBlock, DitByBlock};
 use crate::butterfly_layers::{Rule, layer};
 use crate::radix_2_small_batch::groups::{Order, layers_in_groups};
+use crate::radix_2_small_batch::pairs::dit_on_pairs;
 use p3_field::{Products, TwoAdicField};
 use p3_matrix::scale_slice_in_place;
 
@@ -257,7 +258,28 @@ fn dit_short_run<F: TwoAdicField>(
     layer_of_run(rule, values, 1, 3, 6, number, products);
     layer_of_run(rule, values, 1, 2, 6, number, products);
     layer_of_run(rule, values, 1, 1, 6, number, products);
-    layer_of_run(rule, values, 1, 0, 6, number, products);
+    dit_on_blocks_of_two(twiddles, values, number, products);
+}
+
+// The layer of the smallest blocks, on run `number` of 64 rows of one column.
+fn dit_on_blocks_of_two<F: TwoAdicField>(
+    twiddles: &[F],
+    values: &mut [F],
+    number: usize,
+    products: &mut Products,
+)
+    requires size { length values.old ≡ 2 ^ 6 * 1 }
+    requires enough { (number + 1) * 2 ^ 6 ≤ 2 * length twiddles.now }
+    ensures cells { (k : ℕ) (before after : ℕ → ℕ → F.Element)
+        → AreLayers k 1 (λ b. dit_near F.ring (F.value (get_or twiddles.now b F.ZERO)))
+        (λ b. dit_far F.ring (F.value (get_or twiddles.now b F.ZERO))) before after
+        → (number + 1) * 2 ^ 6 ≤ 2 ^ k → HoldsCells F.value F.ZERO (number * length values.old) (before 0) values.old
+        → HoldsCells F.value F.ZERO (number * length values.old) (after 0) values.new }
+    ensures grows { products.old ≤ products.new }
+    ensures count { 2 * products.new ≤ 2 * products.old + length values.old }
+{
+    let first = number * 32;
+    dit_on_pairs(&twiddles[first..first + 32], values, products);
 }
 
 // By decimation in frequency, the layers of the entries below `log_rows`, tile after tile, on the

@@ -13,5 +13,5 @@ returns-clause-cells g c k cells layers room holds =
     let layer_3 = c.layer_of_run-3.ensures.cells k before cells layers room (held_as_long value zero (cells 4) number c.layer_of_run-2.new.values (sym c.layer_of_run-2.auto.values) layer_4) in
     let layer_2 = c.layer_of_run-4.ensures.cells k before cells layers room (held_as_long value zero (cells 3) number c.layer_of_run-3.new.values (sym c.layer_of_run-3.auto.values) layer_3) in
     let layer_1 = c.layer_of_run-5.ensures.cells k before cells layers room (held_as_long value zero (cells 2) number c.layer_of_run-4.new.values (sym c.layer_of_run-4.auto.values) layer_2) in
-    let layer_0 = c.layer_of_run-6.ensures.cells k before cells layers room (held_as_long value zero (cells 1) number c.layer_of_run-5.new.values (sym c.layer_of_run-5.auto.values) layer_1) in
-    held_as_long value zero (cells 0) number c.layer_of_run-6.new.values (c.layer_of_run-5.auto.values ∙ c.layer_of_run-4.auto.values ∙ c.layer_of_run-3.auto.values ∙ c.layer_of_run-2.auto.values ∙ c.layer_of_run.auto.values) layer_0
+    let layer_0 = c.dit_on_blocks_of_two.ensures.cells k before cells layers room (held_as_long value zero (cells 1) number c.layer_of_run-5.new.values (sym c.layer_of_run-5.auto.values) layer_1) in
+    held_as_long value zero (cells 0) number c.dit_on_blocks_of_two.new.values (c.layer_of_run-5.auto.values ∙ c.layer_of_run-4.auto.values ∙ c.layer_of_run-3.auto.values ∙ c.layer_of_run-2.auto.values ∙ c.layer_of_run.auto.values) layer_0

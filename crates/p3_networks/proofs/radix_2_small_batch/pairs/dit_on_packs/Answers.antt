@@ -1,0 +1,86 @@
+use Rattle.std.proofs.Common.{◌≡◌, ℕ, ◌+◌, ◌-◌, ◌*◌, ◌/◌, ◌<◌, ◌≤◌, length, get_or, take, drop, refl, sym, ap, ◌∙◌, arith}
+use Rattle.p3_matrix.specs.Butterflies.{dit_far, dit_near}
+use Rattle.p3_networks.proofs.Layers.Halves.{block_room, block_size}
+use Rattle.p3_networks.proofs.Layers.Pairs.{far_done, near_done, packs-more}
+use Rattle.p3_networks.proofs.Rows.Overwritten.{part_at, rows-none}
+use Rattle.p3_networks.proofs.radix_2_small_batch.pairs.dit_on_packs.Goals as goal
+
+pub overflow_mul-size : goal.overflow_mul-size
+overflow_mul-size g c =
+    let width = c.WIDTH-width.result in
+    let len = length c.args.twiddles.now in
+    let k = c.requires.whole.0 in
+    let some : 1 ≤ width = omega (arith, c.requires.wide, c.WIDTH-width.ensures) in
+    let whole : len ≡ k * width = c.requires.whole.1 ∙ ap (λ n. k * n) (sym c.WIDTH-width.ensures) in
+    let packs : len / width ≡ k = block_size len width k some (whole ∙ omega arith) in
+    let room : c.loop-pack.pack * width + width ≤ len = block_room c.loop-pack.pack k width len (omega (arith, c.loop-pack-test.true, packs)) whole in
+    omega (arith, room, c.requires.size)
+
+pub loop-pack-init : goal.loop-pack-init
+loop-pack-init g c = record { packs = rows-none g.F.Field.ZERO _ _ c.args.values.now; count = omega arith }
+
+pub loop-pack-preserved : goal.loop-pack-preserved
+loop-pack-preserved g c =
+    let field = g.F.Field in
+    let value = field.value in
+    let zero = field.ZERO in
+    let pack = c.loop-pack.pack in
+    let twiddle = λ (b : ℕ). value (get_or c.args.twiddles.now b zero) in
+    let width = c.WIDTH-width.result in
+    let len = length c.args.twiddles.now in
+    let k = c.requires.whole.0 in
+    let some : 1 ≤ width = omega (arith, c.requires.wide, c.WIDTH-width.ensures) in
+    let whole : len ≡ k * width = c.requires.whole.1 ∙ ap (λ n. k * n) (sym c.WIDTH-width.ensures) in
+    let packs : len / width ≡ k = block_size len width k some (whole ∙ omega arith) in
+    let room : c.loop-pack.pack * width + width ≤ len = block_room c.loop-pack.pack k width len (omega (arith, c.loop-pack-test.true, packs)) whole in
+    let all : pack * (2 * width) + 2 * width ≤ length c.loop-pack.values = omega (arith, room, c.requires.size, c.loop-pack.auto.values) in
+    let part = take (pack * (2 * width) + 2 * width - pack * (2 * width)) (drop (pack * (2 * width)) c.loop-pack.values) in
+    let at = λ (i : ℕ) (below : i < width). ap value (part_at c.args.twiddles.now (pack * width) (pack * width + width - pack * width) i zero (omega (arith, below))) in
+    record {
+      packs = packs-more value zero (λ b. dit_near field.ring (twiddle b)) (λ b. dit_far field.ring (twiddle b)) width c.args.values.now c.loop-pack.values c.dit_on_pack.new.values pack (2 * width) refl all
+          (omega (arith, c.dit_on_pack.auto.values, all))
+          (λ i below. c.dit_on_pack.ensures.near i (omega (arith, below, c.WIDTH-width.ensures)) ∙ ap (λ t. dit_near field.ring t (value (get_or part (2 * i) zero)) (value (get_or part (2 * i + 1) zero))) (at i below))
+          (λ i below. c.dit_on_pack.ensures.far i (omega (arith, below, c.WIDTH-width.ensures)) ∙ ap (λ t. dit_far field.ring t (value (get_or part (2 * i) zero)) (value (get_or part (2 * i + 1) zero))) (at i below))
+          c.loop-pack.invariant.packs;
+      count = omega (arith, c.loop-pack.invariant.count, c.dit_on_pack.ensures.count, c.WIDTH-width.ensures);
+    }
+
+pub returns-clause-near : goal.returns-clause-near
+returns-clause-near g c =
+    let field = g.F.Field in
+    let twiddle = λ (b : ℕ). field.value (get_or c.args.twiddles.now b field.ZERO) in
+    let width = c.WIDTH-width.result in
+    let len = length c.args.twiddles.now in
+    let k = c.requires.whole.0 in
+    let some : 1 ≤ width = omega (arith, c.requires.wide, c.WIDTH-width.ensures) in
+    let whole : len ≡ k * width = c.requires.whole.1 ∙ ap (λ n. k * n) (sym c.WIDTH-width.ensures) in
+    let packs : len / width ≡ k = block_size len width k some (whole ∙ omega arith) in
+    let end : c.loop-pack.pack ≡ k = omega (arith, c.loop-pack-test.false, c.loop-pack.auto.pack-end, packs) in
+    near_done field.value field.ZERO (λ b. dit_near field.ring (twiddle b)) (λ b. dit_far field.ring (twiddle b)) width c.args.values.now c.loop-pack.values c.loop-pack.pack (2 * width) len
+    some refl (whole ∙ ap (λ n. n * width) (sym end)) c.loop-pack.invariant.packs
+
+pub returns-clause-far : goal.returns-clause-far
+returns-clause-far g c =
+    let field = g.F.Field in
+    let twiddle = λ (b : ℕ). field.value (get_or c.args.twiddles.now b field.ZERO) in
+    let width = c.WIDTH-width.result in
+    let len = length c.args.twiddles.now in
+    let k = c.requires.whole.0 in
+    let some : 1 ≤ width = omega (arith, c.requires.wide, c.WIDTH-width.ensures) in
+    let whole : len ≡ k * width = c.requires.whole.1 ∙ ap (λ n. k * n) (sym c.WIDTH-width.ensures) in
+    let packs : len / width ≡ k = block_size len width k some (whole ∙ omega arith) in
+    let end : c.loop-pack.pack ≡ k = omega (arith, c.loop-pack-test.false, c.loop-pack.auto.pack-end, packs) in
+    far_done field.value field.ZERO (λ b. dit_near field.ring (twiddle b)) (λ b. dit_far field.ring (twiddle b)) width c.args.values.now c.loop-pack.values c.loop-pack.pack (2 * width) len
+    some refl (whole ∙ ap (λ n. n * width) (sym end)) c.loop-pack.invariant.packs
+
+pub returns-clause-count : goal.returns-clause-count
+returns-clause-count g c =
+    let width = c.WIDTH-width.result in
+    let len = length c.args.twiddles.now in
+    let k = c.requires.whole.0 in
+    let some : 1 ≤ width = omega (arith, c.requires.wide, c.WIDTH-width.ensures) in
+    let whole : len ≡ k * width = c.requires.whole.1 ∙ ap (λ n. k * n) (sym c.WIDTH-width.ensures) in
+    let packs : len / width ≡ k = block_size len width k some (whole ∙ omega arith) in
+    let end : c.loop-pack.pack ≡ k = omega (arith, c.loop-pack-test.false, c.loop-pack.auto.pack-end, packs) in
+    let all : len ≡ c.loop-pack.pack * width = whole ∙ ap (λ n. n * width) (sym end) in
+    omega (arith, c.loop-pack.invariant.count, all)
