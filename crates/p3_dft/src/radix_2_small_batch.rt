@@ -300,7 +300,9 @@ impl<F: TwoAdicField> TwoAdicSubgroupDft<F> for Radix2DFTSmallBatch<F> {
     }
 
     /// As the trait says, by the inverse and, slot after slot, by transforms on the cosets that the rows in
-    /// bit reversed order lie on: no row of zeros is met, and no rows are reversed after the inverse.
+    /// bit reversed order lie on: no row of zeros is met, and no rows are reversed after the inverse. On
+    /// `Ok` the heights of the input and of the extension are prepared for good; after an error their tables
+    /// may have been made already.
     fn coset_lde_batch_bit_reversed<
         N: IntoRowMajorMatrix<F>,
         T: FnOnce(RowMajorMatrix<F>, Layout) -> RowMajorMatrix<F> + Drop,

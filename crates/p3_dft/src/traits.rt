@@ -216,8 +216,8 @@ pub trait TwoAdicSubgroupDft<F: TwoAdicField>: Clone + Default {
         self.coset_dft_batch(coefficients, shift)
     }
 
-    /// What `coset_lde_batch_with_transform` answers, with its rows in bit reversed order, in which blocks
-    /// of them are published.
+    /// What `coset_lde_batch_with_transform` answers, with its rows in bit reversed order, the order in
+    /// which they are published in blocks. The conditions are those of that call.
     fn coset_lde_batch_bit_reversed<
         N: IntoRowMajorMatrix<F>,
         T: FnOnce(RowMajorMatrix<F>, Layout) -> RowMajorMatrix<F> + Drop,

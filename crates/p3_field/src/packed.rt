@@ -73,7 +73,7 @@ pub trait PackedPairs: PackedField
 where
     Self::Scalar: Field,
 {
-    /// Takes the first scalars of `WIDTH` pairs, and the second ones.
+    /// Takes the first scalars of `WIDTH` pairs, and the second ones, from a slice of `2 * WIDTH` scalars.
     fn load_pairs(from: &[Self::Scalar]) -> (Self, Self)
         requires { length from.now ≡ 2 * Self.WIDTH }
         ensures first { (i : ℕ) → i < Self.WIDTH → Self.Scalar.value (get_or (Self.lanes result.0) i Self.Scalar.ZERO)
@@ -81,7 +81,8 @@ where
         ensures second { (i : ℕ) → i < Self.WIDTH → Self.Scalar.value (get_or (Self.lanes result.1) i Self.Scalar.ZERO)
             ≡ Self.Scalar.value (get_or from.now (2 * i + 1) Self.Scalar.ZERO) };
 
-    /// Writes its lanes to the first scalars of `WIDTH` pairs, and those of `second` to the second ones.
+    /// Writes its lanes to the first scalars of `WIDTH` pairs, and those of `second` to the second ones, in
+    /// a slice of `2 * WIDTH` scalars.
     fn store_pairs(self, second: Self, to: &mut [Self::Scalar])
         requires { length to.old ≡ 2 * Self.WIDTH }
         ensures first { (i : ℕ) → i < Self.WIDTH → Self.Scalar.value (get_or to.new (2 * i) Self.Scalar.ZERO)

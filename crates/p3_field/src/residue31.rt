@@ -118,7 +118,8 @@ impl<N: Numbers> Mul for Residue31<N> {
     ghost mul_gives = { λ a b r. IsProduct N.numbers.modulus a.number b.number r.number };
 
     fn mul(self, other: Residue31<N>) -> Residue31<N> {
-        // The product is below 2^62. Told so, the compiler divides by the modulus in fewer steps.
+        // The product is below 2^62, the number that is written out here. Told so, the compiler divides by
+        // the modulus in fewer steps.
         let product = self.number as u64 * other.number as u64 % 4611686018427387904;
         Residue31 {
             number: (product % N::MODULUS as u64) as u32,

@@ -7,7 +7,7 @@ use p3_field::{Products, TwoAdicField};
 use p3_matrix::scale_slice_in_place;
 
 /// Multiplies row i by the i-th power of `shift`, with one product an entry, or none where the shift
-/// is one.
+/// is one. `values` are `height` rows of `width` entries.
 pub fn shift_values<F: TwoAdicField>(
     values: &mut [F],
     width: usize,
@@ -32,7 +32,8 @@ pub fn shift_values<F: TwoAdicField>(
     }
 }
 
-/// Row i of another slice times the i-th power of `shift`, with one product an entry.
+/// Writes row i of `rows` times the i-th power of `shift` to row i of `values`, with one product an entry,
+/// where the shift is one too. Both are `height` rows of `width` entries.
 pub fn copy_shifted<F: TwoAdicField>(
     rows: &[F],
     values: &mut [F],

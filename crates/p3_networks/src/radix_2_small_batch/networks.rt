@@ -169,7 +169,7 @@ fn dit_tiles<F: TwoAdicField>(
 }
 
 // The same of one tile, run `number` of `2^top` rows. In one column the layers of the six smallest blocks
-// are done together, on one run of 64 rows after another.
+// are done together, on one run of 64 rows after another. That the width is one is known in its loops.
 fn dit_tile<F: TwoAdicField>(
     twiddles: &[F],
     values: &mut [F],
@@ -201,7 +201,8 @@ fn dit_tile<F: TwoAdicField>(
 }
 
 // By decimation in time, the layers of the entries below six, on run `number` of `2^top` rows of one
-// column, 64 of them after another.
+// column: one run of 64 rows after another, which six layers do not leave, and whose smallest blocks have
+// 32 twiddles.
 fn dit_short_runs<F: TwoAdicField>(
     twiddles: &[F],
     values: &mut [F],
