@@ -4,8 +4,16 @@ use Rattle.std.proofs.lemmas.Bool.{cases_lt}
 use Rattle.std.proofs.lemmas.List.{get_or-map, places}
 use Rattle.std.proofs.lemmas.Nat.{div-add-mod', div_below, mod_below}
 use borrow.Rule.Slice.PartMut.{put_mid}
-use Rattle.p3_networks.proofs.Layers.Halves.{in_first, in_second}
+use Rattle.p3_networks.proofs.Layers.Halves.{block_room, block_size, in_first, in_second}
 use Rattle.p3_networks.proofs.Rows.Overwritten.{RowsDone, part_at, part-more}
+
+-- a pack lies within its list
+pub pack_room : (pack width w len k : ℕ) → 1 ≤ w → width ≡ w → len ≡ k * w → pack < len / width → pack * width + width ≤ len
+pack_room pack width w len k some is whole inside =
+    let wide : 1 ≤ width = omega (arith, some, is) in
+    let all : len ≡ k * width = whole ∙ ap (λ n. k * n) (sym is) in
+    let packs : len / width ≡ k = block_size len width k wide (all ∙ omega arith) in
+    block_room pack k width len (omega (arith, inside, packs)) all
 
 -- an entry of lists that are the same by their values
 pub same_at : {T A : Type 0} (value : T → A) (d : T) (xs ys : List T) (i : ℕ) → length xs ≡ length ys → i < length xs → map value xs ≡ map value ys → value (get_or xs i d) ≡ value (get_or ys i d)

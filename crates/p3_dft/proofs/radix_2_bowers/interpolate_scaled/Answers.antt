@@ -7,6 +7,7 @@ use Rattle.p3_matrix.specs.RowMajor.{height}
 use Rattle.p3_matrix.proofs.TwoPowers.{log_same}
 use Rattle.p3_dft.specs.Transforms.{values_of}
 use Rattle.p3_dft.proofs.BitReversed.Coefficients.{coefficients_of_parts, coefficients_of_row}
+use Rattle.p3_dft.proofs.Calls.Transforms.{written_shape, written_size}
 use Rattle.p3_dft.proofs.radix_2_bowers.interpolate_scaled.Goals as goal
 
 pub returns-then-height-eq1-clause-coefficients : goal.returns-then-height-eq1-clause-coefficients
@@ -71,3 +72,9 @@ returns-clause-cost g c k high =
     let log = c.log2_strict_usize-log_h.result in
     let same : log ≡ k = log_same log k (sym c.log2_strict_usize-log_h.ensures.power ∙ c.height-height.ensures.height ∙ high) in
     rw (← same, ← c.width-width.ensures.width) c.network_g_transposed.ensures.cost
+
+pub returns-clause-shape : goal.returns-clause-shape
+returns-clause-shape g c = written_shape c.args.mat.now _ c.network_g_transposed.new.values refl refl (c.network_g_transposed.auto.values ∙ ap length c.values_mut.ensures.values)
+
+pub returns-clause-size : goal.returns-clause-size
+returns-clause-size g c = written_size c.args.mat.now.values c.network_g_transposed.new.values (c.network_g_transposed.auto.values ∙ ap length c.values_mut.ensures.values)

@@ -1,4 +1,4 @@
-use Rattle.std.proofs.Common.{◌≡◌, ℕ, ◌+◌, ◌*◌, ◌/◌, ◌^◌, ◌<◌, ◌≤◌, length, get_or, sym, ap, ap₂, ◌∙◌, subst, arith}
+use Rattle.std.proofs.Common.{◌≡◌, ℕ, ◌+◌, ◌*◌, ◌/◌, ◌^◌, ◌<◌, ◌≤◌, length, get_or, sym, ap, ap₂, ◌∙◌, subst, arith, refl}
 use Rattle.p3_matrix.specs.BitOrder.{rev}
 use Rattle.p3_matrix.specs.RowMajor.{RowMajor}
 use Rattle.p3_matrix.proofs.BitReversal.{rev-lt, rev-rev}
@@ -10,6 +10,7 @@ use Rattle.p3_networks.proofs.Rows.Overwritten.{written}
 use Rattle.p3_dft.specs.Transforms.{values_of}
 use Rattle.p3_dft.proofs.BitReversed.Rows.{written_cell}
 use Rattle.p3_dft.proofs.Calls.Padding.{cell_above}
+use Rattle.p3_dft.proofs.Calls.Transforms.{written_shape, written_size}
 use Rattle.p3_dft.proofs.radix_2_small_batch.extend_in_slots.Goals as goal
 
 pub slots_network-requires-clause-size : goal.slots_network-requires-clause-size
@@ -45,3 +46,9 @@ returns-clause-values g c upper whole high over_zeros =
 pub returns-clause-cost : goal.returns-clause-cost
 returns-clause-cost g c =
     subst (λ (w : ℕ). c.slots_network.new.products ≤ c.args.products.now + 2 ^ c.args.added_bits * (w * (c.args.log_h * 2 ^ c.args.log_h / 2) + 2 ^ c.args.log_h * w)) c.width-width.ensures.width c.slots_network.ensures.count
+
+pub returns-clause-shape : goal.returns-clause-shape
+returns-clause-shape g c = written_shape c.args.mat.now _ c.slots_network.new.values refl refl (c.slots_network.auto.values ∙ ap length c.values_mut.ensures.values)
+
+pub returns-clause-size : goal.returns-clause-size
+returns-clause-size g c = written_size c.args.mat.now.values c.slots_network.new.values (c.slots_network.auto.values ∙ ap length c.values_mut.ensures.values)

@@ -1,8 +1,9 @@
-use Rattle.std.proofs.Common.{ℕ, ◌^◌, ◌≤◌, refl, ap, ◌∙◌, arith}
+use Rattle.std.proofs.Common.{ℕ, ◌^◌, ◌≤◌, refl, ap, ◌∙◌, arith, length}
 use Rattle.p3_field.proofs.Roots.{inverse_root, inverse_roots}
 use Rattle.p3_dft.specs.Transforms.{values_of}
 use Rattle.p3_dft.proofs.BitReversed.Coefficients.{coefficients_of_parts, coefficients_of_row}
 use Rattle.p3_networks.proofs.Tables.FromStart.{enough_from_start, first_is_one}
+use Rattle.p3_dft.proofs.Calls.Transforms.{written_shape, written_size}
 use Rattle.p3_dft.proofs.radix_2_small_batch.interpolate_reversed.Goals as goal
 
 pub returns-then-log_h-eq0-clause-coefficients : goal.returns-then-log_h-eq0-clause-coefficients
@@ -25,3 +26,9 @@ returns-clause-coefficients g c d quotient =
     c.requires.rooted refl c.requires.whole c.requires.height c.values_mut.ensures.values c.width-width.ensures.width c.dit_network.auto.values refl refl
     (c.dit_network.ensures.values _ (inverse_root g.F.Field.ring (λ (n : ℕ). g.F.Field.value (g.F.TwoAdicField.generator n))) (inverse_roots g.F.Field.ring g.met.F.TwoAdicField.roots_law) c.requires.rooted c.requires.twiddles)
     d quotient
+
+pub returns-clause-shape : goal.returns-clause-shape
+returns-clause-shape g c = written_shape c.args.mat.now _ c.dit_network.new.values refl refl (c.dit_network.auto.values ∙ ap length c.values_mut.ensures.values)
+
+pub returns-clause-size : goal.returns-clause-size
+returns-clause-size g c = written_size c.args.mat.now.values c.dit_network.new.values (c.dit_network.auto.values ∙ ap length c.values_mut.ensures.values)

@@ -4,6 +4,21 @@ use Rattle.p3_field.specs.Lanes.{by_lanes}
 use Rattle.p3_matrix.proofs.RowsByPacks.{next_pack, pack_done, pack_fits}
 use Rattle.p3_matrix.proofs.packs.apply_to_packs.Goals as goal
 
+pub overflow_add-at : goal.overflow_add-at
+overflow_add-at g c = omega (arith, (pack_fits c.loop-at.at c.loop-at.invariant.left.0 c.WIDTH-width.result (length c.args.row_1.now) (omega (arith, c.loop-at-test.true, c.loop-at.auto.row_1)) c.loop-at.invariant.left.1).1)
+
+pub overflow_add-at-in-loop-at : goal.overflow_add-at-in-loop-at
+overflow_add-at-in-loop-at g c = omega (arith, (pack_fits c.loop-at.at c.loop-at.invariant.left.0 c.WIDTH-width.result (length c.args.row_1.now) (omega (arith, c.loop-at-test.true, c.loop-at.auto.row_1)) c.loop-at.invariant.left.1).1)
+
+pub overflow_add-at-in-loop-at-2 : goal.overflow_add-at-in-loop-at-2
+overflow_add-at-in-loop-at-2 g c = omega (arith, (pack_fits c.loop-at.at c.loop-at.invariant.left.0 c.WIDTH-width.result (length c.args.row_1.now) (omega (arith, c.loop-at-test.true, c.loop-at.auto.row_1)) c.loop-at.invariant.left.1).1)
+
+pub slice_bounds-apply_to_pack-end : goal.slice_bounds-apply_to_pack-end
+slice_bounds-apply_to_pack-end g c = omega (arith, (pack_fits c.loop-at.at c.loop-at.invariant.left.0 c.WIDTH-width.result (length c.args.row_1.now) (omega (arith, c.loop-at-test.true, c.loop-at.auto.row_1)) c.loop-at.invariant.left.1).1, c.loop-at.auto.row_1)
+
+pub slice_bounds-apply_to_pack-end-in-loop-at : goal.slice_bounds-apply_to_pack-end-in-loop-at
+slice_bounds-apply_to_pack-end-in-loop-at g c = omega (arith, (pack_fits c.loop-at.at c.loop-at.invariant.left.0 c.WIDTH-width.result (length c.args.row_1.now) (omega (arith, c.loop-at-test.true, c.loop-at.auto.row_1)) c.loop-at.invariant.left.1).1, c.requires.equal, c.loop-at.auto.row_2)
+
 pub loop-at-preserved : goal.loop-at-preserved
 loop-at-preserved g c =
     let f = g.F.Field in

@@ -4,6 +4,33 @@ use Rattle.p3_field.specs.Lanes.{by_lanes}
 use Rattle.p3_matrix.proofs.RowsByPacks.{pack_done, pack_fits}
 use Rattle.p3_matrix.proofs.packs.apply_to_packs_oop.Goals as goal
 
+pub overflow_add-part_1 : goal.overflow_add-part_1
+overflow_add-part_1 g c = omega (arith, (pack_fits c.loop-at.at c.loop-at.invariant.left.0 c.WIDTH-width.result (length c.args.src_1.now) c.loop-at-test.true c.loop-at.invariant.left.1).1)
+
+pub overflow_add-part_2 : goal.overflow_add-part_2
+overflow_add-part_2 g c = omega (arith, (pack_fits c.loop-at.at c.loop-at.invariant.left.0 c.WIDTH-width.result (length c.args.src_1.now) c.loop-at-test.true c.loop-at.invariant.left.1).1)
+
+pub overflow_add-at : goal.overflow_add-at
+overflow_add-at g c = omega (arith, (pack_fits c.loop-at.at c.loop-at.invariant.left.0 c.WIDTH-width.result (length c.args.src_1.now) c.loop-at-test.true c.loop-at.invariant.left.1).1)
+
+pub overflow_add-at-in-loop-at : goal.overflow_add-at-in-loop-at
+overflow_add-at-in-loop-at g c = omega (arith, (pack_fits c.loop-at.at c.loop-at.invariant.left.0 c.WIDTH-width.result (length c.args.src_1.now) c.loop-at-test.true c.loop-at.invariant.left.1).1)
+
+pub overflow_add-at-in-loop-at-2 : goal.overflow_add-at-in-loop-at-2
+overflow_add-at-in-loop-at-2 g c = omega (arith, (pack_fits c.loop-at.at c.loop-at.invariant.left.0 c.WIDTH-width.result (length c.args.src_1.now) c.loop-at-test.true c.loop-at.invariant.left.1).1)
+
+pub slice_bounds-part_1-end : goal.slice_bounds-part_1-end
+slice_bounds-part_1-end g c = omega (arith, (pack_fits c.loop-at.at c.loop-at.invariant.left.0 c.WIDTH-width.result (length c.args.src_1.now) c.loop-at-test.true c.loop-at.invariant.left.1).1)
+
+pub slice_bounds-part_2-end : goal.slice_bounds-part_2-end
+slice_bounds-part_2-end g c = omega (arith, (pack_fits c.loop-at.at c.loop-at.invariant.left.0 c.WIDTH-width.result (length c.args.src_1.now) c.loop-at-test.true c.loop-at.invariant.left.1).1, c.requires.sources)
+
+pub slice_bounds-store-end : goal.slice_bounds-store-end
+slice_bounds-store-end g c = omega (arith, (pack_fits c.loop-at.at c.loop-at.invariant.left.0 c.WIDTH-width.result (length c.args.src_1.now) c.loop-at-test.true c.loop-at.invariant.left.1).1, c.requires.first, c.loop-at.auto.dst_1)
+
+pub slice_bounds-store-end-in-loop-at : goal.slice_bounds-store-end-in-loop-at
+slice_bounds-store-end-in-loop-at g c = omega (arith, (pack_fits c.loop-at.at c.loop-at.invariant.left.0 c.WIDTH-width.result (length c.args.src_1.now) c.loop-at-test.true c.loop-at.invariant.left.1).1, c.requires.second, c.loop-at.auto.dst_2)
+
 pub loop-at-preserved : goal.loop-at-preserved
 loop-at-preserved g c =
     let f = g.F.Field in

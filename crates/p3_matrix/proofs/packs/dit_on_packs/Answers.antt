@@ -6,6 +6,27 @@ use Rattle.p3_matrix.proofs.Lanes.{length-by_lanes, take-by_lanes, drop-by_lanes
 use Rattle.p3_matrix.proofs.RowsByPacks.{next_pack, pack_done, pack_fits, rows_done_all}
 use Rattle.p3_matrix.proofs.packs.dit_on_packs.Goals as goal
 
+pub overflow_add-at : goal.overflow_add-at
+overflow_add-at g c = omega (arith, (pack_fits c.loop-at.at c.loop-at.invariant.left.0 c.WIDTH-width.result (length c.args.row_1.now) (omega (arith, c.loop-at-test.true, c.loop-at.auto.row_1)) c.loop-at.invariant.left.1).1)
+
+pub overflow_add-at-in-loop-at : goal.overflow_add-at-in-loop-at
+overflow_add-at-in-loop-at g c = omega (arith, (pack_fits c.loop-at.at c.loop-at.invariant.left.0 c.WIDTH-width.result (length c.args.row_1.now) (omega (arith, c.loop-at-test.true, c.loop-at.auto.row_1)) c.loop-at.invariant.left.1).1)
+
+pub overflow_add-at-in-loop-at-2 : goal.overflow_add-at-in-loop-at-2
+overflow_add-at-in-loop-at-2 g c = omega (arith, (pack_fits c.loop-at.at c.loop-at.invariant.left.0 c.WIDTH-width.result (length c.args.row_1.now) (omega (arith, c.loop-at-test.true, c.loop-at.auto.row_1)) c.loop-at.invariant.left.1).1)
+
+pub overflow_add-at-in-loop-at-3 : goal.overflow_add-at-in-loop-at-3
+overflow_add-at-in-loop-at-3 g c = omega (arith, (pack_fits c.loop-at.at c.loop-at.invariant.left.0 c.WIDTH-width.result (length c.args.row_1.now) (omega (arith, c.loop-at-test.true, c.loop-at.auto.row_1)) c.loop-at.invariant.left.1).1)
+
+pub slice_bounds-dit_on_pack-end : goal.slice_bounds-dit_on_pack-end
+slice_bounds-dit_on_pack-end g c = omega (arith, (pack_fits c.loop-at.at c.loop-at.invariant.left.0 c.WIDTH-width.result (length c.args.row_1.now) (omega (arith, c.loop-at-test.true, c.loop-at.auto.row_1)) c.loop-at.invariant.left.1).1, c.requires.twiddles)
+
+pub slice_bounds-dit_on_pack-end-in-loop-at : goal.slice_bounds-dit_on_pack-end-in-loop-at
+slice_bounds-dit_on_pack-end-in-loop-at g c = omega (arith, (pack_fits c.loop-at.at c.loop-at.invariant.left.0 c.WIDTH-width.result (length c.args.row_1.now) (omega (arith, c.loop-at-test.true, c.loop-at.auto.row_1)) c.loop-at.invariant.left.1).1, c.loop-at.auto.row_1)
+
+pub slice_bounds-dit_on_pack-end-in-loop-at-2 : goal.slice_bounds-dit_on_pack-end-in-loop-at-2
+slice_bounds-dit_on_pack-end-in-loop-at-2 g c = omega (arith, (pack_fits c.loop-at.at c.loop-at.invariant.left.0 c.WIDTH-width.result (length c.args.row_1.now) (omega (arith, c.loop-at-test.true, c.loop-at.auto.row_1)) c.loop-at.invariant.left.1).1, c.requires.equal, c.loop-at.auto.row_2)
+
 pub loop-at-preserved : goal.loop-at-preserved
 loop-at-preserved g c =
     let f = g.F.Field in

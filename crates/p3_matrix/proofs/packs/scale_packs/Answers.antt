@@ -4,6 +4,12 @@ use Rattle.p3_matrix.proofs.Lanes.{by_lanes_of_left}
 use Rattle.p3_matrix.proofs.RowsByPacks.{next_pack, pack_done, pack_fits, rows_done_all}
 use Rattle.p3_matrix.proofs.packs.scale_packs.Goals as goal
 
+pub overflow_add-at : goal.overflow_add-at
+overflow_add-at g c = omega (arith, (pack_fits c.loop-at.at c.loop-at.invariant.left.0 c.WIDTH-width.result (length c.args.values.now) (omega (arith, c.loop-at-test.true, c.loop-at.auto.values)) c.loop-at.invariant.left.1).1)
+
+pub overflow_add-at-in-loop-at : goal.overflow_add-at-in-loop-at
+overflow_add-at-in-loop-at g c = omega (arith, (pack_fits c.loop-at.at c.loop-at.invariant.left.0 c.WIDTH-width.result (length c.args.values.now) (omega (arith, c.loop-at-test.true, c.loop-at.auto.values)) c.loop-at.invariant.left.1).1)
+
 pub loop-at-preserved : goal.loop-at-preserved
 loop-at-preserved g c =
     let f = g.F.Field in

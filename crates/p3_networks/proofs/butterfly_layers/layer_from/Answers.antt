@@ -19,6 +19,9 @@ offset_bounds-source-start g c =
     let below : c.loop-b.b * (2 * c.args.size) ≤ length c.args.source.now = omega (arith, room) in
     search rules
 
+pub slice_bounds-meet_block_from-end : goal.slice_bounds-meet_block_from-end
+slice_bounds-meet_block_from-end g c = block_room c.loop-b.b c.args.blocks (2 * c.args.size) (length c.args.source.now) c.loop-b-test.true c.requires.source
+
 pub overflow_add-start-in-loop-b : goal.overflow_add-start-in-loop-b
 overflow_add-start-in-loop-b g c = omega (arith, block_room c.loop-b.b c.args.blocks (2 * c.args.size) (length c.args.values.now) c.loop-b-test.true c.requires.size)
 
@@ -27,6 +30,9 @@ offset_bounds-values-start g c =
     let room = block_room c.loop-b.b c.args.blocks (2 * c.args.size) (length c.args.values.now) c.loop-b-test.true c.requires.size in
     let below : c.loop-b.b * (2 * c.args.size) ≤ length c.args.values.now = omega (arith, room) in
     search (rules, scaled_fits≤)
+
+pub slice_bounds-meet_block_from-end-in-loop-b : goal.slice_bounds-meet_block_from-end-in-loop-b
+slice_bounds-meet_block_from-end-in-loop-b g c = omega (arith, block_room c.loop-b.b c.args.blocks (2 * c.args.size) (length c.args.values.now) c.loop-b-test.true c.requires.size, c.loop-b.auto.values)
 
 pub meet_block_from-requires-clause-source : goal.meet_block_from-requires-clause-source
 meet_block_from-requires-clause-source g c =

@@ -1,9 +1,37 @@
-use Rattle.std.proofs.Common.{◌≡◌, ◌+◌, ◌*◌, ◌-◌, ◌≤◌, length, get_or, take, drop, sym, ap, ap₂, ◌∙◌, arith, add-one}
+use Rattle.std.proofs.Common.{◌≡◌, ◌+◌, ◌*◌, ◌-◌, ◌≤◌, length, get_or, take, drop, sym, ap, ap₂, ◌∙◌, arith, rules, add-one}
+use borrow.Author.Rules.{scaled_fits≤}
 use Rattle.std.proofs.Math.Nat.{suc-mul, mul-le-mul_right}
 use Rattle.p3_field.proofs.Powers.{power-zero, power-more}
-use Rattle.p3_networks.proofs.Layers.Halves.{part_length}
+use Rattle.p3_networks.proofs.Layers.Halves.{block_room, part_length}
 use Rattle.p3_networks.proofs.Rows.Overwritten.{rows-none, rows-more, part_at, value_at}
 use Rattle.p3_networks.proofs.shifts.copy_shifted.Goals as goal
+
+pub overflow_mul-start : goal.overflow_mul-start
+overflow_mul-start g c = omega (arith, block_room c.loop-i.i c.args.height c.args.width (length c.args.values.now) c.loop-i-test.true c.requires.size)
+
+pub overflow_add-row : goal.overflow_add-row
+overflow_add-row g c = omega (arith, block_room c.loop-i.i c.args.height c.args.width (length c.args.values.now) c.loop-i-test.true c.requires.size)
+
+pub offset_bounds-values-start : goal.offset_bounds-values-start
+offset_bounds-values-start g c =
+    let room = block_room c.loop-i.i c.args.height c.args.width (length c.args.values.now) c.loop-i-test.true c.requires.size in
+    let below : c.loop-i.i * c.args.width ≤ length c.args.values.now = omega (arith, room) in
+    search (rules, scaled_fits≤)
+
+pub slice_bounds-row-end : goal.slice_bounds-row-end
+slice_bounds-row-end g c = omega (arith, block_room c.loop-i.i c.args.height c.args.width (length c.args.values.now) c.loop-i-test.true c.requires.size, c.loop-i.auto.values)
+
+pub overflow_add-start : goal.overflow_add-start
+overflow_add-start g c = omega (arith, block_room c.loop-i.i c.args.height c.args.width (length c.args.rows.now) c.loop-i-test.true c.requires.source)
+
+pub offset_bounds-rows-start : goal.offset_bounds-rows-start
+offset_bounds-rows-start g c =
+    let room = block_room c.loop-i.i c.args.height c.args.width (length c.args.rows.now) c.loop-i-test.true c.requires.source in
+    let below : c.loop-i.i * c.args.width ≤ length c.args.rows.now = omega (arith, room) in
+    search rules
+
+pub slice_bounds-copy_from_slice-end : goal.slice_bounds-copy_from_slice-end
+slice_bounds-copy_from_slice-end g c = block_room c.loop-i.i c.args.height c.args.width (length c.args.rows.now) c.loop-i-test.true c.requires.source
 
 pub loop-i-init : goal.loop-i-init
 loop-i-init g c =

@@ -1,10 +1,27 @@
 use Rattle.std.proofs.Common.{◌≡◌, ◌+◌, ◌*◌, ◌-◌, ◌≤◌, take, drop, length, get_or, sym, ap, ap₂, ◌∙◌, arith, rules, add-one}
+use borrow.Author.Rules.{scaled_fits≤}
 use Rattle.std.proofs.Math.Nat.{suc-mul, mul-le-mul_right}
 use Rattle.std.proofs.lemmas.List.{places}
 use Rattle.p3_field.specs.Ring.{power}
 use Rattle.p3_field.proofs.Powers.{power-zero, power-more, power_of_one}
+use Rattle.p3_networks.proofs.Layers.Halves.{block_room}
 use Rattle.p3_networks.proofs.Rows.Overwritten.{rows-none, rows-more, part_at, value_at}
 use Rattle.p3_networks.proofs.shifts.shift_values.Goals as goal
+
+pub overflow_mul-start : goal.overflow_mul-start
+overflow_mul-start g c = omega (arith, block_room c.loop-i.i c.args.height c.args.width (length c.args.values.now) c.loop-i-test.true c.requires)
+
+pub overflow_add-start : goal.overflow_add-start
+overflow_add-start g c = omega (arith, block_room c.loop-i.i c.args.height c.args.width (length c.args.values.now) c.loop-i-test.true c.requires)
+
+pub offset_bounds-values-start : goal.offset_bounds-values-start
+offset_bounds-values-start g c =
+    let room = block_room c.loop-i.i c.args.height c.args.width (length c.args.values.now) c.loop-i-test.true c.requires in
+    let below : c.loop-i.i * c.args.width ≤ length c.args.values.now = omega (arith, room) in
+    search (rules, scaled_fits≤)
+
+pub slice_bounds-scale_slice_in_place-end : goal.slice_bounds-scale_slice_in_place-end
+slice_bounds-scale_slice_in_place-end g c = omega (arith, block_room c.loop-i.i c.args.height c.args.width (length c.args.values.now) c.loop-i-test.true c.requires, c.loop-i.auto.values)
 
 pub loop-i-init : goal.loop-i-init
 loop-i-init g c =

@@ -18,6 +18,7 @@ use Rattle.p3_networks.proofs.Rows.Overwritten.{written}
 use Rattle.p3_dft.specs.Transforms.{values_of}
 use Rattle.p3_dft.proofs.BitReversed.Rows.{written_cell}
 use Rattle.p3_dft.proofs.Calls.Padding.{cell_above}
+use Rattle.p3_dft.proofs.Calls.Transforms.{written_shape, written_size}
 use Rattle.p3_dft.proofs.radix_2_dit_parallel.extension.extend.Goals as goal
 
 -- blocks of a slot that begins with row 0 are those of a matrix
@@ -117,3 +118,9 @@ returns-clause-refused g c =
       stopped,
     ))
     c.extend_slots.ensures.refused
+
+pub returns-clause-shape : goal.returns-clause-shape
+returns-clause-shape g c = written_shape c.args.mat.now _ c.extend_slots.new.values refl refl (c.extend_slots.auto.values ∙ ap length c.values_mut.ensures.values)
+
+pub returns-clause-size : goal.returns-clause-size
+returns-clause-size g c = written_size c.args.mat.now.values c.extend_slots.new.values (c.extend_slots.auto.values ∙ ap length c.values_mut.ensures.values)

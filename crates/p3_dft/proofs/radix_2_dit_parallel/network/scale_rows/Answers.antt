@@ -1,9 +1,10 @@
-use Rattle.std.proofs.Common.{◌≡◌, ◌+◌, ◌*◌, ◌<◌, length, get_or, sym, ap, ◌∙◌, arith}
+use Rattle.std.proofs.Common.{◌≡◌, ◌+◌, ◌*◌, ◌<◌, length, get_or, sym, ap, ◌∙◌, arith, refl}
 use Rattle.p3_matrix.specs.RowMajor.{height}
 use Rattle.p3_dft.specs.Transforms.{values_of}
 use Rattle.p3_networks.specs.Twiddles.{factor}
 use Rattle.p3_networks.proofs.Layers.Blocks.{row_below}
 use Rattle.p3_networks.proofs.Rows.Overwritten.{value_at, written}
+use Rattle.p3_dft.proofs.Calls.Transforms.{written_shape, written_size}
 use Rattle.p3_dft.proofs.radix_2_dit_parallel.network.scale_rows.Goals as goal
 
 pub returns-in-Some-clause-values : goal.returns-in-Some-clause-values
@@ -19,3 +20,9 @@ returns-in-Some-clause-values g c i j p q =
     ∙ value_at field.value (λ x. field.ring.mul x (field.value c.in-Some.scale)) c.values_mut.result.now cells at field.ZERO c.scale_slice_in_place.ensures.values size inside
     ∙ ap (λ xs. field.ring.mul (field.value (get_or xs at field.ZERO)) (field.value c.in-Some.scale)) c.values_mut.ensures.values
     ∙ ap (λ s. field.ring.mul ((values_of field m).entry i j) (factor field s)) (sym c.in-Some.is)
+
+pub returns-in-Some-clause-shape : goal.returns-in-Some-clause-shape
+returns-in-Some-clause-shape g c = written_shape c.args.mat.now _ c.scale_slice_in_place.new.values refl refl (c.scale_slice_in_place.auto.values ∙ ap length c.values_mut.ensures.values)
+
+pub returns-in-Some-clause-size : goal.returns-in-Some-clause-size
+returns-in-Some-clause-size g c = written_size c.args.mat.now.values c.scale_slice_in_place.new.values (c.scale_slice_in_place.auto.values ∙ ap length c.values_mut.ensures.values)

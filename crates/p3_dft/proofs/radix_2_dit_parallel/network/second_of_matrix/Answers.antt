@@ -1,4 +1,4 @@
-use Rattle.std.proofs.Common.{◌≡◌, ℕ, ◌+◌, ◌*◌, ◌^◌, ◌<◌, length, sym, ap, ◌∙◌, arith}
+use Rattle.std.proofs.Common.{◌≡◌, ℕ, ◌+◌, ◌*◌, ◌^◌, ◌<◌, length, sym, ap, ◌∙◌, arith, refl}
 use Rattle.std.proofs.lemmas.Nat.{pow-add}
 use Rattle.p3_matrix.specs.BitOrder.{rev}
 use Rattle.p3_matrix.specs.RowMajor.{height}
@@ -10,6 +10,7 @@ use Rattle.p3_networks.specs.Twiddles.{factor}
 use Rattle.p3_dft.proofs.BitReversed.Rows.{reversed_cell, written_cell}
 use Rattle.p3_networks.proofs.Layers.Blocks.{row_below}
 use Rattle.p3_networks.proofs.Polynomials.ByIndex.{poly_same, poly-one}
+use Rattle.p3_dft.proofs.Calls.Transforms.{written_shape, written_size}
 use Rattle.p3_dft.proofs.radix_2_dit_parallel.network.second_of_matrix.Goals as goal
 
 digits : (mid left a t : ℕ) → t < 2 ^ left → rev (mid + left) (a * 2 ^ left + t) ≡ rev left t * 2 ^ mid + rev mid a
@@ -54,3 +55,12 @@ returns-else-left-gt0-clause-values g c root s roots table a t j p q l =
     ∙ ap (λ y. field.ring.mul (field.value y) scale) (back.alike (a * 2 ^ left + t) j below inside)
     ∙ ap (λ n. field.ring.mul ((values_of field m).entry n j) scale) (digits mid left a t q)
     ∙ ap f first ∙ sym (ap (λ n. poly field.ring n f x) one ∙ poly-one field.ring f x)
+
+pub returns-then-left-gt0-clause-shape : goal.returns-then-left-gt0-clause-shape
+returns-then-left-gt0-clause-shape g c =
+    let kept = written_shape c.reverse_rows.new.mat _ c.second_half.new.values refl refl (c.second_half.auto.values ∙ ap length c.values_mut.ensures.values) in
+    (kept.0 ∙ c.reverse_rows.ensures.shape.0, c.reverse_rows.ensures.shape.1)
+
+pub returns-then-left-gt0-clause-size : goal.returns-then-left-gt0-clause-size
+returns-then-left-gt0-clause-size g c =
+    written_size c.reverse_rows.new.mat.values c.second_half.new.values (c.second_half.auto.values ∙ ap length c.values_mut.ensures.values) ∙ c.reverse_rows.ensures.size

@@ -23,6 +23,10 @@ offset_bounds-values-start g c =
     let below : c.loop-run.run * (length c.args.values.now / (1 * 2 ^ (c.args.log_h - c.args.mid) % 18446744073709551616)) ≤ length c.args.values.now = omega (arith, room) in
     search (rules, scaled_fits≤)
 
+pub slice_bounds-rows-end : goal.slice_bounds-rows-end
+slice_bounds-rows-end g c =
+    omega (arith, run_room (length c.args.values.now) c.args.log_h c.args.mid c.args.width c.requires.small c.requires.parts c.requires.height c.loop-run.run c.loop-run-test.true, c.loop-run.auto.values)
+
 pub low_network-requires-clause-height : goal.low_network-requires-clause-height
 low_network-requires-clause-height g c =
     let len = length c.args.values.now in

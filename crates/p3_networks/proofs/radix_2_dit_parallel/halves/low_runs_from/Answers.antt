@@ -23,6 +23,10 @@ offset_bounds-source-start g c =
     let below : c.loop-run.run * (length c.args.values.now / (1 * 2 ^ (c.args.log_h - c.args.mid) % 18446744073709551616)) ≤ length c.args.source.now = omega (arith, room, c.requires.source, c.requires.height) in
     search rules
 
+pub slice_bounds-low_network_from-end : goal.slice_bounds-low_network_from-end
+slice_bounds-low_network_from-end g c =
+    omega (arith, run_room (length c.args.values.now) c.args.log_h c.args.mid c.args.width c.requires.small c.requires.parts c.requires.height c.loop-run.run c.loop-run-test.true, c.requires.source, c.requires.height)
+
 pub overflow_add-start-in-loop-run : goal.overflow_add-start-in-loop-run
 overflow_add-start-in-loop-run g c =
     omega (arith, run_room (length c.args.values.now) c.args.log_h c.args.mid c.args.width c.requires.small c.requires.parts c.requires.height c.loop-run.run c.loop-run-test.true)
@@ -32,6 +36,10 @@ offset_bounds-values-start g c =
     let room = run_room (length c.args.values.now) c.args.log_h c.args.mid c.args.width c.requires.small c.requires.parts c.requires.height c.loop-run.run c.loop-run-test.true in
     let below : c.loop-run.run * (length c.args.values.now / (1 * 2 ^ (c.args.log_h - c.args.mid) % 18446744073709551616)) ≤ length c.args.values.now = omega (arith, room) in
     search (rules, scaled_fits≤)
+
+pub slice_bounds-low_network_from-end-in-loop-run : goal.slice_bounds-low_network_from-end-in-loop-run
+slice_bounds-low_network_from-end-in-loop-run g c =
+    omega (arith, run_room (length c.args.values.now) c.args.log_h c.args.mid c.args.width c.requires.small c.requires.parts c.requires.height c.loop-run.run c.loop-run-test.true, c.loop-run.auto.values)
 
 pub low_network_from-requires-clause-source : goal.low_network_from-requires-clause-source
 low_network_from-requires-clause-source g c =

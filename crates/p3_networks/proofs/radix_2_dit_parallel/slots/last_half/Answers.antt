@@ -70,6 +70,9 @@ offset_bounds-values-start g c =
     let below : c.loop-run.run * (length c.reverse_runs.new.values / (1 * 2 ^ c.args.mid % 18446744073709551616)) ≤ length c.args.values.now = omega (arith, room, c.reverse_runs.auto.values) in
     search (rules, scaled_fits≤)
 
+pub slice_bounds-rows-end : goal.slice_bounds-rows-end
+slice_bounds-rows-end g c = omega (arith, run_room c.loop-run.run (length c.reverse_runs.new.values) c.args.mid c.args.left c.args.width c.requires.small c.loop-run-test.true (c.reverse_runs.auto.values ∙ c.requires.height), c.reverse_runs.auto.values, c.loop-run.auto.values)
+
 pub finish_run-requires-clause-height : goal.finish_run-requires-clause-height
 finish_run-requires-clause-height g c =
     let len = length c.reverse_runs.new.values in

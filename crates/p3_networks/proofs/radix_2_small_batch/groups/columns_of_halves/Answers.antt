@@ -28,6 +28,12 @@ offset_bounds-high-start g c =
     let below : c.loop-t.t * c.args.part ≤ length c.args.high.now = omega (arith, room) in
     search (rules, scaled_fits≤)
 
+pub slice_bounds-row_1-end : goal.slice_bounds-row_1-end
+slice_bounds-row_1-end g c = omega (arith, row_room c.loop-t.t c.args.half c.args.part (length c.args.low.now) c.loop-t-test.true c.requires.low, c.loop-t.auto.low)
+
+pub slice_bounds-row_2-end : goal.slice_bounds-row_2-end
+slice_bounds-row_2-end g c = omega (arith, row_room c.loop-t.t c.args.half c.args.part (length c.args.high.now) c.loop-t-test.true c.requires.high, c.loop-t.auto.high)
+
 pub loop-t-preserved : goal.loop-t-preserved
 loop-t-preserved g c =
     let field = g.F.Field in

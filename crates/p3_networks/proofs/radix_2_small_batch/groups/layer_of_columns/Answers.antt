@@ -29,6 +29,9 @@ offset_bounds-values-start g c =
     let below : c.loop-b.b * (2 * (c.args.half * c.args.part)) ≤ length c.args.values.now = omega (arith, room) in
     search (rules, scaled_fits≤)
 
+pub slice_bounds-block-end : goal.slice_bounds-block-end
+slice_bounds-block-end g c = omega (arith, block_room c.loop-b.b c.args.blocks (2 * (c.args.half * c.args.part)) (length c.args.values.now) c.loop-b-test.true c.requires.size, c.loop-b.auto.values)
+
 pub columns_of_block-requires-clause-size : goal.columns_of_block-requires-clause-size
 columns_of_block-requires-clause-size g c =
     let whole = 2 * (c.args.half * c.args.part) in

@@ -19,6 +19,9 @@ offset_bounds-values-start g c =
     let below : c.loop-t.t * length c.args.row.now ≤ length c.args.values.now = omega (arith, room) in
     search (rules, scaled_fits≤)
 
+pub slice_bounds-multiple-end : goal.slice_bounds-multiple-end
+slice_bounds-multiple-end g c = omega (arith, block_room c.loop-t.t c.args.count (length c.args.row.now) (length c.args.values.now) c.loop-t-test.true c.requires, c.loop-t.auto.values)
+
 pub loop-t-init : goal.loop-t-init
 loop-t-init g c =
     let field = g.F.Field in

@@ -1,4 +1,5 @@
-use Rattle.std.proofs.Common.{◌≡◌, ℕ, suc, ◌+◌, ◌*◌, ◌-◌, ◌/◌, ◌%◌, ◌<◌, ◌≤◌, take, drop, length, get_or, refl, sym, ap, ap₂, ◌∙◌, arith}
+use Rattle.std.proofs.Common.{◌≡◌, ℕ, suc, ◌+◌, ◌*◌, ◌-◌, ◌/◌, ◌%◌, ◌<◌, ◌≤◌, take, drop, length, get_or, refl, sym, ap, ap₂, ◌∙◌, arith, rules}
+use borrow.Author.Rules.{scaled_fits≤}
 use Rattle.std.proofs.Math.Nat.{mul-le-mul_left, mul-le-mul_right}
 use Rattle.std.proofs.lemmas.List.{get_or_read_under}
 use Rattle.std.proofs.lemmas.Nat.{div-add-mod', div_below, div-mul-add, mod-mul-add, mod_below, mul-add-lt}
@@ -22,6 +23,46 @@ root_place first count q copies len below some room =
     let spread : (first + q) * (2 * (copies / 2)) ≡ 2 * ((first + q) * (copies / 2)) = omega arith in
     let after = row_room first count q copies (2 * len) below room in
     omega (arith, twice, spread, after, some)
+
+-- the places of all rows are those of so many parts of one size
+sizes_whole : (len count size : ℕ) → 1 ≤ count → len ≡ count * size → (0 + count) * (len / count) ≤ len
+sizes_whole len count size some whole =
+    let is : len ≡ count * (len / count) = whole ∙ ap (λ n. count * n) (sym (block_size len count size some whole)) in
+    omega (arith, is)
+
+pub overflow_mul-start : goal.overflow_mul-start
+overflow_mul-start g c =
+    let whole = sizes_whole (length c.args.values.now) c.args.count (c.args.copies * c.args.width) c.requires.some c.requires.size in
+    let room = row_room 0 c.args.count c.loop-q.q (length c.args.values.now / c.args.count) (length c.args.values.now) c.loop-q-test.true whole in
+    omega (arith, room)
+
+pub overflow_add-multiples : goal.overflow_add-multiples
+overflow_add-multiples g c =
+    let whole = sizes_whole (length c.args.values.now) c.args.count (c.args.copies * c.args.width) c.requires.some c.requires.size in
+    let room = row_room 0 c.args.count c.loop-q.q (length c.args.values.now / c.args.count) (length c.args.values.now) c.loop-q-test.true whole in
+    omega (arith, room)
+
+pub offset_bounds-values-start : goal.offset_bounds-values-start
+offset_bounds-values-start g c =
+    let whole = sizes_whole (length c.args.values.now) c.args.count (c.args.copies * c.args.width) c.requires.some c.requires.size in
+    let room = row_room 0 c.args.count c.loop-q.q (length c.args.values.now / c.args.count) (length c.args.values.now) c.loop-q-test.true whole in
+    let below : c.loop-q.q * (length c.args.values.now / c.args.count) ≤ length c.args.values.now = omega (arith, room) in
+    search (rules, scaled_fits≤)
+
+pub slice_bounds-multiples-end : goal.slice_bounds-multiples-end
+slice_bounds-multiples-end g c =
+    let whole = sizes_whole (length c.args.values.now) c.args.count (c.args.copies * c.args.width) c.requires.some c.requires.size in
+    let room = row_room 0 c.args.count c.loop-q.q (length c.args.values.now / c.args.count) (length c.args.values.now) c.loop-q-test.true whole in
+    omega (arith, room, c.loop-q.auto.values)
+
+pub overflow_mul-place : goal.overflow_mul-place
+overflow_mul-place g c = omega (arith, row_room c.args.first c.args.count c.loop-q.q c.args.width (length c.args.rows.now) c.loop-q-test.true c.requires.rows)
+
+pub offset_bounds-rows-place : goal.offset_bounds-rows-place
+offset_bounds-rows-place g c =
+    let room = row_room c.args.first c.args.count c.loop-q.q c.args.width (length c.args.rows.now) c.loop-q-test.true c.requires.rows in
+    let below : (c.args.first + c.loop-q.q) * c.args.width ≤ length c.args.rows.now = omega (arith, room) in
+    search rules
 
 pub overflow_mul-root : goal.overflow_mul-root
 overflow_mul-root g c = omega (arith, root_place c.args.first c.args.count c.loop-q.q c.args.copies (length c.args.twiddles.now) c.loop-q-test.true c.requires.copies c.requires.enough)

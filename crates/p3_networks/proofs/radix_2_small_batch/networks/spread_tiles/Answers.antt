@@ -31,6 +31,12 @@ offset_bounds-values-start g c =
     let below : c.loop-tile.tile * (length c.args.values.now / (1 * 2 ^ (c.args.log_h - c.args.log_rows) % 18446744073709551616)) ≤ length c.args.values.now = omega (arith, room) in
     search (rules, scaled_fits≤)
 
+pub slice_bounds-out-end : goal.slice_bounds-out-end
+slice_bounds-out-end g c =
+    let sizes = tile_sizes c.args.log_h c.args.log_rows c.args.width (length c.args.values.now) c.requires.small c.requires.below c.requires.size in
+    let room = tile_room _ _ _ _ _ _ c.loop-tile.tile sizes c.loop-tile-test.true in
+    omega (arith, room, c.loop-tile.auto.values)
+
 pub dif_layers-requires-clause-small : goal.dif_layers-requires-clause-small
 dif_layers-requires-clause-small g c =
     let sizes = tile_sizes c.args.log_h c.args.log_rows c.args.width (length c.args.values.now) c.requires.small c.requires.below c.requires.size in

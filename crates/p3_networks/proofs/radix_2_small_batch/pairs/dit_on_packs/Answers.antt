@@ -1,20 +1,56 @@
-use Rattle.std.proofs.Common.{◌≡◌, ℕ, ◌+◌, ◌-◌, ◌*◌, ◌/◌, ◌<◌, ◌≤◌, length, get_or, take, drop, refl, sym, ap, ◌∙◌, arith}
+use Rattle.std.proofs.Common.{◌≡◌, ℕ, ◌+◌, ◌-◌, ◌*◌, ◌/◌, ◌<◌, ◌≤◌, length, get_or, take, drop, refl, sym, ap, ◌∙◌, arith, rules}
+use borrow.Author.Rules.{scaled_fits≤}
 use Rattle.p3_matrix.specs.Butterflies.{dit_far, dit_near}
 use Rattle.p3_networks.proofs.Layers.Halves.{block_room, block_size}
-use Rattle.p3_networks.proofs.Layers.Pairs.{far_done, near_done, packs-more}
+use Rattle.p3_networks.proofs.Layers.Pairs.{far_done, near_done, pack_room, packs-more}
 use Rattle.p3_networks.proofs.Rows.Overwritten.{part_at, rows-none}
 use Rattle.p3_networks.proofs.radix_2_small_batch.pairs.dit_on_packs.Goals as goal
 
+pub overflow_mul-at : goal.overflow_mul-at
+overflow_mul-at g c =
+    let room = pack_room c.loop-pack.pack c.WIDTH-width.result _ (length c.args.twiddles.now) c.requires.whole.0 c.requires.wide c.WIDTH-width.ensures c.requires.whole.1 c.loop-pack-test.true in
+    omega (arith, room)
+
 pub overflow_mul-size : goal.overflow_mul-size
 overflow_mul-size g c =
-    let width = c.WIDTH-width.result in
-    let len = length c.args.twiddles.now in
-    let k = c.requires.whole.0 in
-    let some : 1 ≤ width = omega (arith, c.requires.wide, c.WIDTH-width.ensures) in
-    let whole : len ≡ k * width = c.requires.whole.1 ∙ ap (λ n. k * n) (sym c.WIDTH-width.ensures) in
-    let packs : len / width ≡ k = block_size len width k some (whole ∙ omega arith) in
-    let room : c.loop-pack.pack * width + width ≤ len = block_room c.loop-pack.pack k width len (omega (arith, c.loop-pack-test.true, packs)) whole in
+    let room = pack_room c.loop-pack.pack c.WIDTH-width.result _ (length c.args.twiddles.now) c.requires.whole.0 c.requires.wide c.WIDTH-width.ensures c.requires.whole.1 c.loop-pack-test.true in
     omega (arith, room, c.requires.size)
+
+pub overflow_mul-start : goal.overflow_mul-start
+overflow_mul-start g c =
+    let room = pack_room c.loop-pack.pack c.WIDTH-width.result _ (length c.args.twiddles.now) c.requires.whole.0 c.requires.wide c.WIDTH-width.ensures c.requires.whole.1 c.loop-pack-test.true in
+    omega (arith, room, c.requires.size)
+
+pub offset_bounds-twiddles-at : goal.offset_bounds-twiddles-at
+offset_bounds-twiddles-at g c =
+    let room = pack_room c.loop-pack.pack c.WIDTH-width.result _ (length c.args.twiddles.now) c.requires.whole.0 c.requires.wide c.WIDTH-width.ensures c.requires.whole.1 c.loop-pack-test.true in
+    omega (arith, room)
+
+pub offset_bounds-values-start : goal.offset_bounds-values-start
+offset_bounds-values-start g c =
+    let room = pack_room c.loop-pack.pack c.WIDTH-width.result _ (length c.args.twiddles.now) c.requires.whole.0 c.requires.wide c.WIDTH-width.ensures c.requires.whole.1 c.loop-pack-test.true in
+    let below : c.loop-pack.pack * (2 * c.WIDTH-width.result) ≤ length c.loop-pack.values = omega (arith, room, c.requires.size, c.loop-pack.auto.values) in
+    search (rules, scaled_fits≤)
+
+pub overflow_add-at : goal.overflow_add-at
+overflow_add-at g c =
+    let room = pack_room c.loop-pack.pack c.WIDTH-width.result _ (length c.args.twiddles.now) c.requires.whole.0 c.requires.wide c.WIDTH-width.ensures c.requires.whole.1 c.loop-pack-test.true in
+    omega (arith, room)
+
+pub overflow_add-start : goal.overflow_add-start
+overflow_add-start g c =
+    let room = pack_room c.loop-pack.pack c.WIDTH-width.result _ (length c.args.twiddles.now) c.requires.whole.0 c.requires.wide c.WIDTH-width.ensures c.requires.whole.1 c.loop-pack-test.true in
+    omega (arith, room, c.requires.size)
+
+pub slice_bounds-dit_on_pack-end : goal.slice_bounds-dit_on_pack-end
+slice_bounds-dit_on_pack-end g c =
+    let room = pack_room c.loop-pack.pack c.WIDTH-width.result _ (length c.args.twiddles.now) c.requires.whole.0 c.requires.wide c.WIDTH-width.ensures c.requires.whole.1 c.loop-pack-test.true in
+    room
+
+pub slice_bounds-dit_on_pack-end-in-loop-pack : goal.slice_bounds-dit_on_pack-end-in-loop-pack
+slice_bounds-dit_on_pack-end-in-loop-pack g c =
+    let room = pack_room c.loop-pack.pack c.WIDTH-width.result _ (length c.args.twiddles.now) c.requires.whole.0 c.requires.wide c.WIDTH-width.ensures c.requires.whole.1 c.loop-pack-test.true in
+    omega (arith, room, c.requires.size, c.loop-pack.auto.values)
 
 pub loop-pack-init : goal.loop-pack-init
 loop-pack-init g c = record { packs = rows-none g.F.Field.ZERO _ _ c.args.values.now; count = omega arith }
