@@ -1,12 +1,9 @@
 use Rattle.std.proofs.Common.{ap, ◌∙◌, arith}
 use Rattle.p3_matrix.specs.RowMajor.{RowMajor}
 use Rattle.p3_dft.specs.Transforms.{IsTransform}
-use Rattle.p3_dft.proofs.Calls.Columns.{vector_answer, vector_fits, vector_height, vector_width}
+use Rattle.p3_dft.proofs.Calls.Columns.{vector_answer, vector_height, vector_width}
 use Rattle.p3_dft.proofs.Calls.PreparedHeights.{not_ok}
 use Rattle.p3_dft.proofs.traits.TwoAdicSubgroupDft.dft.Goals as goal
-
-pub dft_batch-requires : goal.dft_batch-requires
-dft_batch-requires g c = vector_fits c.new_col.result c.args.vec.items _ c.new_col.ensures c.args.vec.ok.0 _ c.requires
 
 pub returns-clause-values : goal.returns-clause-values
 returns-clause-values g c =

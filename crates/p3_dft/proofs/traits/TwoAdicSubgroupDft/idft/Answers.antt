@@ -1,11 +1,8 @@
 use Rattle.std.proofs.Common.{arith}
 use Rattle.p3_dft.specs.Transforms.{IsInterpolation}
-use Rattle.p3_dft.proofs.Calls.Columns.{vector_answer, vector_fits, vector_height, vector_width}
+use Rattle.p3_dft.proofs.Calls.Columns.{vector_answer, vector_height, vector_width}
 use Rattle.p3_dft.proofs.Calls.PreparedHeights.{not_ok}
 use Rattle.p3_dft.proofs.traits.TwoAdicSubgroupDft.idft.Goals as goal
-
-pub idft_batch-requires : goal.idft_batch-requires
-idft_batch-requires g c = vector_fits c.new_col.result c.args.vec.items _ c.new_col.ensures c.args.vec.ok.0 _ c.requires
 
 pub returns-clause-coefficients : goal.returns-clause-coefficients
 returns-clause-coefficients g c =
