@@ -85,8 +85,8 @@ impl<F: TwoAdicField> Clone for Radix2DitParallel<F> {
 }
 
 impl<F: TwoAdicField> Radix2DitParallel<F> {
-    /// Makes the tables for height `2^log_h`, from when on transforms and inverses of that height and of
-    /// smaller ones take no memory. It takes none itself where the height is prepared already, as height
+    /// Makes the tables for height `2^log_h`, from when on `dft_batch` and both inverses take no memory at
+    /// that height and at smaller ones; a coset but the subgroup has a table of its own. It takes none itself where the height is prepared already, as height
     /// one always is. `log_h` is at most `TWO_ADICITY`, and a `usize` holds the height. Where memory is
     /// refused, the engine is as before.
     pub fn prepare(&mut self, alloc: Global, log_h: usize) -> Result<(), DftError>
@@ -103,7 +103,7 @@ impl<F: TwoAdicField> Radix2DitParallel<F> {
         self.tables.make(alloc, log_h)
     }
 
-    /// Whether transforms and inverses of height `2^log_h` take no memory. Height one always is
+    /// Whether `dft_batch` and both inverses take no memory at height `2^log_h`. Height one always is
     /// prepared.
     pub fn is_prepared(&self, log_h: usize) -> bool
         ensures { IsTrue result ↔ IsPrepared self.now.roots log_h }
@@ -280,7 +280,8 @@ impl<F: TwoAdicField> TwoAdicSubgroupDft<F> for Radix2DitParallel<F> {
     /// As the trait says, coset by coset: the coefficients stay in bit reversed order, which the transform is
     /// told, and each run of as many rows as the input has gets the values on a coset of its own. The rows
     /// of zeros are not looked at. `Ok` makes the height of the input prepared for good, and leaves the
-    /// tables of all cosets. Where all of these were there, they stay as they were.
+    /// tables of all cosets. Where all of these were there, they stay as they were. After an error the height
+    /// and some of these cosets may have their tables already; none is lost.
     fn coset_lde_batch_with_transform<
         N: IntoRowMajorMatrix<F>,
         T: FnOnce(RowMajorMatrix<F>, Layout) -> RowMajorMatrix<F> + Drop,

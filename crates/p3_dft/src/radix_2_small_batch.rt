@@ -188,8 +188,9 @@ impl<F: TwoAdicField> TwoAdicSubgroupDft<F> for Radix2DFTSmallBatch<F> {
 
     ghost clone_law = { λ e copy new. new.1 };
 
-    /// As the trait says. `Ok` makes the height prepared for good. A matrix of height one is its own
-    /// transform: it is handed back, with no product and no memory taken.
+    /// As the trait says. `Ok` makes the height prepared for good, and no larger one; an error leaves the
+    /// engine as it was. A matrix of height one is its own transform: it is handed back, with no product
+    /// and no memory taken.
     fn dft_batch<N: IntoRowMajorMatrix<F>>(&mut self, mat: N) -> Result<RowMajorMatrix<F>, DftError>
         requires { FitsDft F.TWO_ADICITY (height (N.stored mat)) (N.stored mat).width }
         ensures values { IfOk result (λ out. IsTransform F.Field.own F.generator (N.stored mat) F.ring.one out) }
@@ -222,9 +223,9 @@ impl<F: TwoAdicField> TwoAdicSubgroupDft<F> for Radix2DFTSmallBatch<F> {
         1 << (log_h + added_bits)
     }
 
-    /// As the trait says, by a network of its own: division by the height goes into the tiles. A matrix
-    /// of height one is its own inverse transform: it is handed back, with no product and no memory
-    /// taken.
+    /// As the trait says, by a network of its own: division by the height goes into the tiles. `Ok` makes
+    /// the height prepared for good, and no larger one; an error leaves the engine as it was. A matrix of
+    /// height one is its own inverse transform: it is handed back, with no product and no memory taken.
     fn idft_batch<N: IntoRowMajorMatrix<F>>(
         &mut self,
         mat: N,
@@ -253,9 +254,10 @@ impl<F: TwoAdicField> TwoAdicSubgroupDft<F> for Radix2DFTSmallBatch<F> {
     }
 
     /// As the trait says, in no more than an inverse and a transform of the larger height, and in less
-    /// with two added bits or more: no rows are reversed, and no row of zeros is met. A matrix of height
-    /// one without added bits is its own extension: it is handed back, with no product and no memory
-    /// taken.
+    /// with two added bits or more: no rows are reversed, and no row of zeros is met. `Ok` makes the heights
+    /// of the input and of the extension prepared for good; after an error no larger one than the
+    /// extension's is. A matrix of height one without added bits is its own extension: it is handed back,
+    /// with no product and no memory taken.
     fn coset_lde_batch<N: IntoRowMajorMatrix<F>>(
         &mut self,
         mat: N,

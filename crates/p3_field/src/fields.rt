@@ -48,8 +48,9 @@ pub trait Field: Copy
 
     ghost NEG_ONE: { Self };
 
-    /// An element with an inverse, whose coset `GENERATOR * H` is apart from the subgroup H in the
-    /// fields that are used. That it generates the whole multiplicative group is not claimed.
+    /// An element with an inverse. In the fields of this crate its coset `GENERATOR * H` is apart from each
+    /// two-adic subgroup H, which no law says. That it generates the whole multiplicative group is not
+    /// claimed.
     const GENERATOR: Self;
 
     ghost GENERATOR: { Self };

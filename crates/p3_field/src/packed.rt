@@ -134,7 +134,7 @@ impl Products {
         self.so_far = Count::both(&self.so_far, &so_far);
     }
 
-    // Only a field's own product calls this.
+    // Only the counted products of fields and packed values call this.
     pub(crate) fn rise(&mut self, by: usize)
         ensures { self.new ≡ self.old + by }
     {

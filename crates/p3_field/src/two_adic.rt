@@ -15,7 +15,7 @@ pub trait TwoAdicField: Packable {
     // The generator of this many bits, as contracts name it.
     ghost generator: { ℕ → Self };
 
-    /// The generator of the subgroup of order `2^bits`.
+    /// The generator of the subgroup of order `2^bits`, where `bits` is at most `TWO_ADICITY`.
     fn two_adic_generator(bits: usize) -> Self
         requires { bits ≤ TWO_ADICITY }
         ensures { Self.value result ≡ Self.value (generator bits) };

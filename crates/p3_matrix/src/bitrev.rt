@@ -94,7 +94,7 @@ impl<T> RowMajorMatrix<T> {
     }
 }
 
-/// The number whose `bits` binary digits are the last `bits` of those of x, in reverse.
+/// The number whose `bits` binary digits, at most 63, are the last `bits` of those of x, in reverse.
 pub fn reverse_bits_len(x: usize, bits: usize) -> usize
     requires { bits ≤ 63 }
     ensures { result ≡ rev bits x }
@@ -139,7 +139,7 @@ pub fn reverse_matrix_index_bits<T>(view: &mut RowMajorMatrixViewMut<'_, T>)
 }
 
 /// Puts `2^bits` runs of `width` entries, which lie one after another in a slice, into bit reversed order,
-/// in place: run i becomes what run `rev i` was.
+/// in place: run i becomes what run `rev i` was. `bits` is at most 63.
 pub fn reverse_runs<T>(values: &mut [T], width: usize, bits: usize)
     requires bits { bits ≤ 63 }
     requires size { length values.old ≡ 2 ^ bits * width }

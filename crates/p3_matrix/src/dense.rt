@@ -57,8 +57,8 @@ impl<T: Eq> Eq for RowMajorMatrix<T> {
 impl<T> RowMajorMatrix<T> {
     ghost use Rattle.p3_matrix.specs.Loans.{LendsValues, LendsRow};
 
-    /// The matrix of these entries, `width` to a row. The entries fill whole rows; none at all make
-    /// a matrix of no rows.
+    /// The matrix of these entries, `width` to a row, which is at least one. The entries fill whole rows;
+    /// none at all make a matrix of no rows.
     pub fn new(values: Vec<T>, width: usize) -> Self
         requires wide { 1 ≤ width }
         requires full { (length values.items / width) * width ≡ length values.items }

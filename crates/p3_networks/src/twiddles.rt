@@ -81,7 +81,7 @@ impl<F: TwoAdicField> Twiddles<F> {
     }
 }
 
-/// Those of one layer.
+/// The `2^l` twiddles of layer l, in a table of layers that follow one another.
 pub fn layer_twiddles<F: TwoAdicField>(twiddles: &[F], l: usize) -> &[F]
     requires small { l < 63 }
     requires inside { 2 * 2 ^ l - 1 ≤ length twiddles.now }
@@ -104,8 +104,8 @@ fn root<F: TwoAdicField>(inverse: bool, bits: usize) -> F
     }
 }
 
-/// The powers of the generators, or of their inverses, for the layers below one, in natural order: those
-/// of layer l begin at place `2^l - 1`.
+/// The powers of the generators, or of their inverses, for the layers 0 to `layers - 1`, in natural order:
+/// those of layer l begin at place `2^l - 1`.
 pub fn root_layers<F: TwoAdicField>(
     alloc: Global,
     inverse: bool,

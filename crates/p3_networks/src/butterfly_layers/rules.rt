@@ -1,5 +1,6 @@
-//! The rules of the networks: which butterfly meets where. Twiddles are borrowed: they go by the place in
-//! a block or by the number of the block. Where the first one is one, its pairs are not multiplied.
+//! The rules of layers: which butterfly meets where. Twiddles are borrowed: they go by the place in a
+//! block or by the number of the block. `DitByPlace`, row by row, `DitByBlock` and `DifByBlock` ask that
+//! the first twiddle is one, and do not multiply its pairs.
 
 ghost use Rattle.std.specs.Prelude.{◌≡◌, ℕ, ◌+◌, ◌*◌, ◌<◌, ◌≤◌, List, length, get_or};
 ghost use Rattle.p3_matrix.specs.Butterflies.{dit_near, dit_far};
@@ -284,7 +285,8 @@ impl<F: TwoAdicField> Rule<F> for DifByBlock<'_, F> {
 }
 
 /// Decimation in frequency where the far rows are zero, which are not looked at: every pair of block
-/// b has twiddle b.
+/// b has twiddle b. No network of this crate has such layers: `extending_network` writes what they
+/// would make.
 #[derive(Clone, Copy)]
 pub struct DifZerosByBlock<'a, F> {
     pub twiddles: &'a [F],

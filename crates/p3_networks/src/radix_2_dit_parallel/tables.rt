@@ -95,7 +95,7 @@ impl<F: TwoAdicField> Tables<F> {
         }
     }
 
-    /// And for the second half.
+    /// The powers of the generators, or of their inverses, in bit reversed order, for the second half.
     pub fn high(&self, inverse: bool) -> &[F]
         ensures within { self.now ≤ F.TWO_ADICITY }
         ensures table { AreTwiddlesFromStart F.Field.own self.now
