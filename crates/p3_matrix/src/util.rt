@@ -13,13 +13,7 @@ pub fn log2_strict_usize(n: usize) -> usize
     ensures power { n ≡ 2 ^ result }
     ensures small { result ≤ 63 }
 {
-    let mut left = n;
-    let mut log = 0;
-    while left > 1 {
-        left /= 2;
-        log += 1;
-    }
-    log
+    n.ilog2() as usize
 }
 
 /// Rows i and j change places.
