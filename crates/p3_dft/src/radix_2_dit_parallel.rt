@@ -313,30 +313,23 @@ impl<F: TwoAdicField> TwoAdicSubgroupDft<F> for Radix2DitParallel<F> {
         ensures cost { AtLog (height (N.stored mat)) (λ k. OnOk result (self.new.roots.products
             ≤ self.old.roots.products + (N.stored mat).width * (k * 2 ^ k / 2 * (1 + 2 ^ added_bits) + 2 ^ k))) }
     {
-        let mat = mat.into_row_major_matrix();
-        let log_h = log2_strict_usize(mat.height());
-        let mut mat = coefficients_with_room(
+        let answer = self.coset_lde_batch_with_blocks(
             mat,
             added_bits,
             shift,
             transform,
-            &mut self.tables,
-            &mut self.cosets,
-            &mut self.products,
-        )?;
-        let read = extend(
-            &mut mat,
-            log_h,
-            added_bits,
-            shift,
-            &self.cosets,
-            &mut Unread,
-            &mut self.products,
+            |_rows: usize| -> Unread { Unread },
         );
-        if let Err(()) = read {
-            unreachable!();
+        match answer {
+            Ok((values, _unread)) => Ok(values),
+            Err(stopped) => match stopped {
+                BlocksStopped::Refused {
+                    consumer: _unread,
+                    refusal,
+                } => match refusal {},
+                BlocksStopped::OutOfMemory(_) => Err(DftError::OutOfMemory),
+            },
         }
-        Ok(mat.bit_reverse_rows())
     }
 
     /// As the trait says: each run of rows of the second half is lent as soon as it is final, so that it is

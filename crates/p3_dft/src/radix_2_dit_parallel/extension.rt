@@ -21,6 +21,7 @@ use p3_matrix::{BlockConsumer, DftError, RowMajorMatrix, RowMajorMatrixView, log
 use p3_networks::radix_2_dit_parallel::coset_tables::CosetTables;
 use p3_networks::radix_2_dit_parallel::slots::extend_slots;
 use p3_networks::radix_2_dit_parallel::tables::Tables;
+use std::convert::Infallible;
 
 // All of an extension that takes memory: the coefficients, in bit reversed order, as the transform answers
 // them, the rows of the other slots below them, and the tables of the cosets of all slots.
@@ -118,11 +119,11 @@ pub(crate) struct Unread;
 impl<F> BlockConsumer<F> for Unread {
     ghost use Rattle.std.specs.Prelude.{◌≡◌, Ok};
 
-    type Refusal = ();
+    type Refusal = Infallible;
 
     ghost step = { λ c start block answer e. answer ≡ Ok tt };
 
-    fn consume(&mut self, start: usize, block: RowMajorMatrixView<'_, F>) -> Result<(), ()>
+    fn consume(&mut self, start: usize, block: RowMajorMatrixView<'_, F>) -> Result<(), Infallible>
         ensures { ⟦<Unread as BlockConsumer<F>>⟧.step self.old start block.entry result self.new }
     {
         let _ = block;
