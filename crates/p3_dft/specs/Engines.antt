@@ -33,9 +33,9 @@ pub record Tabled : Type 0 where
   pub prepared : List ℕ
   pub products : ℕ
 
--- height 2 ^ k can be transformed without memory: height one has no layer and needs no twiddles
+-- height 2 ^ k can be transformed without memory: height one has no layer and needs no twiddles, and a height is prepared with every larger one
 abbrev pub IsPrepared : Tabled → ℕ → Type 0
-IsPrepared e k = (k ≡ 0) ⊎ Contains e.prepared k
+IsPrepared e k = (k ≡ 0) ⊎ ((n : ℕ) × (k ≤ n) × Contains e.prepared n)
 
 -- no height above 2 ^ k was made prepared
 abbrev pub PreparesNoneAbove : ℕ → Tabled → Tabled → Type 0

@@ -1,21 +1,31 @@
 -- Which heights are prepared where all up to one are.
-use Rattle.std.proofs.Common.{◌≡◌, ◌⊎◌, inl, inr, ℕ, zero, suc, ◌<◌, ◌≤◌, ◌^◌, Result, Ok, Err, IsOk, refl, ◌∙◌, arith, rules}
+use Rattle.std.proofs.Common.{◌≡◌, ◌⊎◌, inl, inr, ℕ, zero, suc, ◌<◌, ◌≤◌, ◌^◌, List, Result, Ok, Err, IsOk, refl, ◌∙◌, arith, rules}
 use Rattle.std.specs.List.{Contains, range_with_len}
 use Rattle.std.proofs.lemmas.List.FromFn.{get_or-range_with_len, length-range_with_len}
+use Rattle.p3_dft.specs.Engines.{Tabled, IsPrepared}
 
-pub prepared_until : (n k : ℕ) → k ≤ n → (k ≡ 0) ⊎ Contains (range_with_len 1 n) k
+-- a height is prepared with every larger one
+pub prepared_with_larger : (e : Tabled) (k n : ℕ) → k ≤ n → IsPrepared e n → IsPrepared e k
+prepared_with_larger e k n below (inl none) = inl (omega (arith, below, none))
+prepared_with_larger e k n below (inr (m, above, has)) = inr (m, omega (arith, below, above), has)
+
+-- `IsPrepared` of the tables of these logarithms
+abbrev pub PreparedBy : List ℕ → ℕ → Type 0
+PreparedBy logs k = (k ≡ 0) ⊎ ((n : ℕ) × (k ≤ n) × Contains logs n)
+
+pub prepared_until : (n k : ℕ) → k ≤ n → PreparedBy (range_with_len 1 n) k
 prepared_until n zero below = inl refl
-prepared_until n (suc k) below = inr (k, omega (arith, below, length-range_with_len 1 n), get_or-range_with_len 1 n k (suc k) (omega arith) ∙ omega arith)
+prepared_until n (suc k) below = inr (suc k, omega arith, (k, omega (arith, below, length-range_with_len 1 n), get_or-range_with_len 1 n k (suc k) (omega arith) ∙ omega arith))
 
-pub until_prepared : (n k : ℕ) → (k ≡ 0) ⊎ Contains (range_with_len 1 n) k → k ≤ n
+pub until_prepared : (n k : ℕ) → PreparedBy (range_with_len 1 n) k → k ≤ n
 until_prepared n k (inl none) = omega (arith, none)
-until_prepared n k (inr (i, inside, is)) =
+until_prepared n k (inr (m, above, (i, inside, is))) =
     let below : i < n = omega (arith, inside, length-range_with_len 1 n) in
-    let at = get_or-range_with_len 1 n i k below in
-    omega (arith, is, at, below)
+    let at = get_or-range_with_len 1 n i m below in
+    omega (arith, above, is, at, below)
 
 -- which ones were prepared before, where tables were made for one more height
-pub prepared_before : (old new log n : ℕ) → (new ≡ old) ⊎ (new ≡ log) → (n ≡ 0) ⊎ Contains (range_with_len 1 new) n → ((n ≡ 0) ⊎ Contains (range_with_len 1 old) n) ⊎ (n ≤ log)
+pub prepared_before : (old new log n : ℕ) → (new ≡ old) ⊎ (new ≡ log) → PreparedBy (range_with_len 1 new) n → PreparedBy (range_with_len 1 old) n ⊎ (n ≤ log)
 prepared_before old new log n (inl same) now = inl (prepared_until old n (let held = until_prepared new n now in omega (arith, held, same)))
 prepared_before old new log n (inr made) now = inr (let held = until_prepared new n now in omega (arith, held, made))
 

@@ -33,6 +33,22 @@ fn transform_prepared<F: TwoAdicField>(
     engine.dft_batch(mat)
 }
 
+// Of a height that is prepared with a larger one.
+fn transform_prepared_with_larger<F: TwoAdicField>(
+    engine: &mut Radix2Dit<F>,
+    mat: RowMajorMatrix<F>,
+    log_h: usize,
+    larger: usize,
+) -> Result<RowMajorMatrix<F>, DftError>
+    requires fits { FitsDft F.TWO_ADICITY (height mat) mat.width }
+    requires height { height mat ≡ 2 ^ log_h }
+    requires below { log_h ≤ larger }
+    requires prepared { IsPrepared engine.old larger }
+    ensures { IsOk result }
+{
+    engine.dft_batch(mat)
+}
+
 fn transform_prepared_on_coset<F: TwoAdicField>(
     engine: &mut Radix2Dit<F>,
     mat: RowMajorMatrix<F>,
@@ -304,6 +320,19 @@ fn transform_two_rows<F: CanonicalField>(
     assert_column(rt, &there, &[11, 7])
 }
 
+fn transform_two_rows_with_larger<F: CanonicalField>(
+    rt: &impl Abort,
+    alloc: Global,
+    engine: &mut Radix2Dit<F>,
+    larger: usize,
+) -> Result<(), Fail>
+    requires some { 1 ≤ larger }
+    requires prepared { IsPrepared engine.old larger }
+{
+    let there = transform_prepared_with_larger(engine, two_rows(rt, alloc, [9, 1])?, 1, larger)?;
+    assert_column(rt, &there, &[10, 8])
+}
+
 fn calls_at_a_prepared_height<F: CanonicalField>(
     rt: &impl Abort,
     alloc: Global,
@@ -317,6 +346,13 @@ fn calls_at_a_prepared_height<F: CanonicalField>(
 #[test]
 fn prepared_heights_answer(rt: HostRuntime) -> Result<(), Fail> {
     calls_at_a_prepared_height::<BabyBear>(&rt, rt.alloc())
+}
+
+#[test]
+fn smaller_height_answers(rt: HostRuntime) -> Result<(), Fail> {
+    let mut engine: Radix2Dit<BabyBear> = Radix2Dit::default();
+    engine.prepare(rt.alloc(), 3)?;
+    transform_two_rows_with_larger(&rt, rt.alloc(), &mut engine, 3)
 }
 
 fn transform_as_promised<F: CanonicalField, D: TwoAdicSubgroupDft<F>>(
