@@ -105,19 +105,23 @@ fn prepared_heights(rt: HostRuntime) -> Result<(), Fail> {
 }
 
 // A transform prepares its height, and takes no smaller one back.
-fn transforms_prepare<F: CanonicalField>(rt: &impl Abort, alloc: Global) -> Result<(), Fail> {
-    let mut engine: Radix2Dit<F> = Radix2Dit::default();
+fn transforms_prepare<F: CanonicalField>(
+    rt: &impl Abort,
+    alloc: Global,
+    engine: &mut Radix2Dit<F>,
+) -> Result<(), Fail> {
     assert!(rt; F::TWO_ADICITY >= 3);
     engine.prepare(alloc, 3)?;
     let four = [10, 569722814, 2013265919, 1443543103];
-    evaluates(rt, alloc, &mut engine, &[1, 2, 3, 4], &four)?;
+    evaluates(rt, alloc, engine, &[1, 2, 3, 4], &four)?;
     assert!(rt; engine.is_prepared(3));
-    evaluates(rt, alloc, &mut engine, &[0; 16], &[0; 16])?;
+    evaluates(rt, alloc, engine, &[0; 16], &[0; 16])?;
     assert!(rt; engine.is_prepared(4));
     Ok(())
 }
 
 #[test]
 fn heights_of_transforms(rt: HostRuntime) -> Result<(), Fail> {
-    transforms_prepare::<BabyBear>(&rt, rt.alloc())
+    let mut engine: Radix2Dit<BabyBear> = Radix2Dit::default();
+    transforms_prepare(&rt, rt.alloc(), &mut engine)
 }

@@ -30,8 +30,11 @@ fn rows_in_bit_reversed_order(rt: HostRuntime) -> Result<(), Fail> {
     transforms_reversed::<BabyBear>(&rt, rt.alloc())
 }
 
-fn prepares_heights<F: CanonicalField>(rt: &impl Abort, alloc: Global) -> Result<(), Fail> {
-    let mut engine: Radix2DitParallel<F> = Radix2DitParallel::default();
+fn prepares<F: CanonicalField>(
+    rt: &impl Abort,
+    alloc: Global,
+    engine: &mut Radix2DitParallel<F>,
+) -> Result<(), Fail> {
     assert!(rt; engine.is_prepared(0));
     assert!(rt; !engine.is_prepared(1));
     assert!(rt; F::TWO_ADICITY >= 2);
@@ -39,8 +42,22 @@ fn prepares_heights<F: CanonicalField>(rt: &impl Abort, alloc: Global) -> Result
     assert!(rt; engine.is_prepared(1));
     assert!(rt; engine.is_prepared(2));
     assert!(rt; !engine.is_prepared(3));
-    assert!(rt; !engine.clone()?.is_prepared(1));
     Ok(())
+}
+
+fn copy_is_empty<F: CanonicalField>(
+    rt: &impl Abort,
+    engine: &Radix2DitParallel<F>,
+) -> Result<(), Fail> {
+    let copy = engine.clone()?;
+    assert!(rt; !copy.is_prepared(1));
+    Ok(())
+}
+
+fn prepares_heights<F: CanonicalField>(rt: &impl Abort, alloc: Global) -> Result<(), Fail> {
+    let mut engine: Radix2DitParallel<F> = Radix2DitParallel::default();
+    prepares(rt, alloc, &mut engine)?;
+    copy_is_empty(rt, &engine)
 }
 
 #[test]
