@@ -86,9 +86,9 @@ impl<F: TwoAdicField> Clone for Radix2DitParallel<F> {
 
 impl<F: TwoAdicField> Radix2DitParallel<F> {
     /// Makes the tables for height `2^log_h`, from when on `dft_batch` and both inverses take no memory at
-    /// that height and at smaller ones; a coset but the subgroup has a table of its own. It takes none itself where the height is prepared already, as height
-    /// one always is. `log_h` is at most `TWO_ADICITY`, and a `usize` holds the height. Where memory is
-    /// refused, the engine is as before.
+    /// that height and at smaller ones; a coset but the subgroup has a table of its own. It takes none
+    /// itself where the height is prepared already, as height one always is. `log_h` is at most
+    /// `TWO_ADICITY`, and a `usize` holds the height. Where memory is refused, the engine is as before.
     pub fn prepare(&mut self, alloc: Global, log_h: usize) -> Result<(), DftError>
         requires within { log_h ≤ F.TWO_ADICITY }
         requires size { 2 ^ log_h < 2 ^ 64 }
