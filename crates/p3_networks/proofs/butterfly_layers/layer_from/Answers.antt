@@ -29,7 +29,7 @@ pub offset_bounds-values-start : goal.offset_bounds-values-start
 offset_bounds-values-start g c =
     let room = block_room c.loop-b.b c.args.blocks (2 * c.args.size) (length c.args.values.now) c.loop-b-test.true c.requires.size in
     let below : c.loop-b.b * (2 * c.args.size) ≤ length c.args.values.now = omega (arith, room) in
-    search (rules, scaled_fits≤)
+    scaled_fits≤ _ _ _ below (search rules)
 
 pub slice_bounds-meet_block_from-end-in-loop-b : goal.slice_bounds-meet_block_from-end-in-loop-b
 slice_bounds-meet_block_from-end-in-loop-b g c = omega (arith, block_room c.loop-b.b c.args.blocks (2 * c.args.size) (length c.args.values.now) c.loop-b-test.true c.requires.size, c.loop-b.auto.values)

@@ -20,7 +20,7 @@ pub offset_bounds-values-start : goal.offset_bounds-values-start
 offset_bounds-values-start g c =
     let room = block_room c.loop-b.b c.args.blocks (2 * (c.args.half * c.args.width)) (length c.args.values.now) c.loop-b-test.true c.requires.size in
     let below : c.loop-b.b * (2 * (c.args.half * c.args.width)) ≤ length c.args.values.now = omega (arith, room) in
-    search (rules, scaled_fits≤)
+    scaled_fits≤ _ _ _ below (search rules)
 
 pub slice_bounds-block-end : goal.slice_bounds-block-end
 slice_bounds-block-end g c = omega (arith, block_room c.loop-b.b c.args.blocks (2 * (c.args.half * c.args.width)) (length c.args.values.now) c.loop-b-test.true c.requires.size, c.loop-b.auto.values)

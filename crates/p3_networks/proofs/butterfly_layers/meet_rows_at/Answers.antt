@@ -7,12 +7,12 @@ use Rattle.p3_networks.proofs.butterfly_layers.meet_rows_at.Goals as goal
 pub offset_bounds-low-start : goal.offset_bounds-low-start
 offset_bounds-low-start g c =
     let below : c.args.place * c.args.width ≤ length c.args.low.now = omega (arith, c.requires.room) in
-    search (rules, scaled_fits≤)
+    scaled_fits≤ _ _ _ below (search rules)
 
 pub offset_bounds-high-start : goal.offset_bounds-high-start
 offset_bounds-high-start g c =
     let below : c.args.place * c.args.width ≤ length c.args.high.now = omega (arith, c.requires.room, c.requires.size) in
-    search (rules, scaled_fits≤)
+    scaled_fits≤ _ _ _ below (search rules)
 
 pub returns-clause-near : goal.returns-clause-near
 returns-clause-near g c = λ j inside.

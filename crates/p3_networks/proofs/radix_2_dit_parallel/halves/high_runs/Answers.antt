@@ -41,7 +41,7 @@ pub offset_bounds-values-start : goal.offset_bounds-values-start
 offset_bounds-values-start g c =
     let room = run_room (length c.args.values.now) c.args.mid c.args.left c.args.width c.loop-run.run c.requires.small c.requires.height c.loop-run-test.true in
     let below : c.loop-run.run * (length c.args.values.now / (1 * 2 ^ c.args.mid % 18446744073709551616)) ≤ length c.args.values.now = omega (arith, room) in
-    search (rules, scaled_fits≤)
+    scaled_fits≤ _ _ _ below (search rules)
 
 pub slice_bounds-rows-end : goal.slice_bounds-rows-end
 slice_bounds-rows-end g c = omega (arith, run_room (length c.args.values.now) c.args.mid c.args.left c.args.width c.loop-run.run c.requires.small c.requires.height c.loop-run-test.true, c.loop-run.auto.values)

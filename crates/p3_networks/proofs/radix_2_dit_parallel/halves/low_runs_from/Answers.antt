@@ -35,7 +35,7 @@ pub offset_bounds-values-start : goal.offset_bounds-values-start
 offset_bounds-values-start g c =
     let room = run_room (length c.args.values.now) c.args.log_h c.args.mid c.args.width c.requires.small c.requires.parts c.requires.height c.loop-run.run c.loop-run-test.true in
     let below : c.loop-run.run * (length c.args.values.now / (1 * 2 ^ (c.args.log_h - c.args.mid) % 18446744073709551616)) ≤ length c.args.values.now = omega (arith, room) in
-    search (rules, scaled_fits≤)
+    scaled_fits≤ _ _ _ below (search rules)
 
 pub slice_bounds-low_network_from-end-in-loop-run : goal.slice_bounds-low_network_from-end-in-loop-run
 slice_bounds-low_network_from-end-in-loop-run g c =

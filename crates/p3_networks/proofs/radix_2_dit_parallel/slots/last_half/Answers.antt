@@ -68,7 +68,7 @@ pub offset_bounds-values-start : goal.offset_bounds-values-start
 offset_bounds-values-start g c =
     let room = run_room c.loop-run.run (length c.reverse_runs.new.values) c.args.mid c.args.left c.args.width c.requires.small c.loop-run-test.true (c.reverse_runs.auto.values ∙ c.requires.height) in
     let below : c.loop-run.run * (length c.reverse_runs.new.values / (1 * 2 ^ c.args.mid % 18446744073709551616)) ≤ length c.args.values.now = omega (arith, room, c.reverse_runs.auto.values) in
-    search (rules, scaled_fits≤)
+    scaled_fits≤ _ _ _ below (search rules)
 
 pub slice_bounds-rows-end : goal.slice_bounds-rows-end
 slice_bounds-rows-end g c = omega (arith, run_room c.loop-run.run (length c.reverse_runs.new.values) c.args.mid c.args.left c.args.width c.requires.small c.loop-run-test.true (c.reverse_runs.auto.values ∙ c.requires.height), c.reverse_runs.auto.values, c.loop-run.auto.values)

@@ -17,7 +17,7 @@ pub offset_bounds-low-start : goal.offset_bounds-low-start
 offset_bounds-low-start g c =
     let room = row_room c.loop-t.t c.args.half c.args.part (length c.args.low.now) c.loop-t-test.true c.requires.low in
     let below : c.loop-t.t * c.args.part ≤ length c.args.low.now = omega (arith, room) in
-    search (rules, scaled_fits≤)
+    scaled_fits≤ _ _ _ below (search rules)
 
 pub overflow_add-row_2 : goal.overflow_add-row_2
 overflow_add-row_2 g c = omega (arith, row_room c.loop-t.t c.args.half c.args.part (length c.args.high.now) c.loop-t-test.true c.requires.high)
@@ -26,7 +26,7 @@ pub offset_bounds-high-start : goal.offset_bounds-high-start
 offset_bounds-high-start g c =
     let room = row_room c.loop-t.t c.args.half c.args.part (length c.args.high.now) c.loop-t-test.true c.requires.high in
     let below : c.loop-t.t * c.args.part ≤ length c.args.high.now = omega (arith, room) in
-    search (rules, scaled_fits≤)
+    scaled_fits≤ _ _ _ below (search rules)
 
 pub slice_bounds-row_1-end : goal.slice_bounds-row_1-end
 slice_bounds-row_1-end g c = omega (arith, row_room c.loop-t.t c.args.half c.args.part (length c.args.low.now) c.loop-t-test.true c.requires.low, c.loop-t.auto.low)

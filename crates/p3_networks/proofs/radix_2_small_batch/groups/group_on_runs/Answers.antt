@@ -26,7 +26,7 @@ offset_bounds-values-start g c =
     let sizes = tile_sizes c.args.log_h c.args.to c.args.width (length c.args.values.now) c.requires.small c.requires.below c.requires.size in
     let room = tile_room _ _ _ _ _ _ c.loop-run.run sizes c.loop-run-test.true in
     let below : c.loop-run.run * (length c.args.values.now / (1 * 2 ^ (c.args.log_h - c.args.to) % 18446744073709551616)) ≤ length c.args.values.now = omega (arith, room) in
-    search (rules, scaled_fits≤)
+    scaled_fits≤ _ _ _ below (search rules)
 
 pub slice_bounds-block-end : goal.slice_bounds-block-end
 slice_bounds-block-end g c =

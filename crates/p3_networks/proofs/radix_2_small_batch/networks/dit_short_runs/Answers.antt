@@ -32,7 +32,7 @@ offset_bounds-values-start g c =
     let sizes = tile_sizes c.args.top 6 1 (length c.args.values.now) (run_sizes c.args.top 0 c.args.number (omega (arith, c.requires.tall)) c.requires.small).digits c.requires.tall c.requires.size in
     let room = tile_room _ _ _ _ _ _ c.loop-run.run sizes c.loop-run-test.true in
     let below : c.loop-run.run * (length c.args.values.now / (1 * 2 ^ (c.args.top - 6) % 18446744073709551616)) ≤ length c.args.values.now = omega (arith, room) in
-    search (rules, scaled_fits≤)
+    scaled_fits≤ _ _ _ below (search rules)
 
 pub slice_bounds-rows-end : goal.slice_bounds-rows-end
 slice_bounds-rows-end g c =

@@ -17,7 +17,7 @@ pub offset_bounds-values-start : goal.offset_bounds-values-start
 offset_bounds-values-start g c =
     let room = block_room c.loop-t.t c.args.count (length c.args.row.now) (length c.args.values.now) c.loop-t-test.true c.requires in
     let below : c.loop-t.t * length c.args.row.now ≤ length c.args.values.now = omega (arith, room) in
-    search (rules, scaled_fits≤)
+    scaled_fits≤ _ _ _ below (search rules)
 
 pub slice_bounds-multiple-end : goal.slice_bounds-multiple-end
 slice_bounds-multiple-end g c = omega (arith, block_room c.loop-t.t c.args.count (length c.args.row.now) (length c.args.values.now) c.loop-t-test.true c.requires, c.loop-t.auto.values)

@@ -47,7 +47,7 @@ offset_bounds-values-start g c =
     let whole = sizes_whole (length c.args.values.now) c.args.count (c.args.copies * c.args.width) c.requires.some c.requires.size in
     let room = row_room 0 c.args.count c.loop-q.q (length c.args.values.now / c.args.count) (length c.args.values.now) c.loop-q-test.true whole in
     let below : c.loop-q.q * (length c.args.values.now / c.args.count) ≤ length c.args.values.now = omega (arith, room) in
-    search (rules, scaled_fits≤)
+    scaled_fits≤ _ _ _ below (search rules)
 
 pub slice_bounds-multiples-end : goal.slice_bounds-multiples-end
 slice_bounds-multiples-end g c =

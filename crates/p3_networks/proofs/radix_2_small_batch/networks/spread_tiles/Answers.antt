@@ -29,7 +29,7 @@ offset_bounds-values-start g c =
     let sizes = tile_sizes c.args.log_h c.args.log_rows c.args.width (length c.args.values.now) c.requires.small c.requires.below c.requires.size in
     let room = tile_room _ _ _ _ _ _ c.loop-tile.tile sizes c.loop-tile-test.true in
     let below : c.loop-tile.tile * (length c.args.values.now / (1 * 2 ^ (c.args.log_h - c.args.log_rows) % 18446744073709551616)) ≤ length c.args.values.now = omega (arith, room) in
-    search (rules, scaled_fits≤)
+    scaled_fits≤ _ _ _ below (search rules)
 
 pub slice_bounds-out-end : goal.slice_bounds-out-end
 slice_bounds-out-end g c =

@@ -30,7 +30,7 @@ pub offset_bounds-values-start : goal.offset_bounds-values-start
 offset_bounds-values-start g c =
     let room = pack_room c.loop-pack.pack c.WIDTH-width.result _ (length c.args.twiddles.now) c.requires.whole.0 c.requires.wide c.WIDTH-width.ensures c.requires.whole.1 c.loop-pack-test.true in
     let below : c.loop-pack.pack * (2 * c.WIDTH-width.result) ≤ length c.loop-pack.values = omega (arith, room, c.requires.size, c.loop-pack.auto.values) in
-    search (rules, scaled_fits≤)
+    scaled_fits≤ _ _ _ below (search rules)
 
 pub overflow_add-at : goal.overflow_add-at
 overflow_add-at g c =

@@ -45,7 +45,7 @@ offset_bounds-others-start g c =
     let is = slot_size len k a c.args.width c.requires.small c.requires.size in
     let room = slot_room c.loop-place.place a (2 ^ k * c.args.width) len (omega (arith, slots_are k a c.requires.small, c.loop-place-test.true)) (c.requires.size ∙ slots_whole k a c.args.width) in
     let below : c.loop-place.place * (len / (1 * 2 ^ a % 18446744073709551616)) ≤ len = rw is (omega (arith, room)) in
-    search (rules, scaled_fits≤)
+    scaled_fits≤ _ _ _ below (search rules)
 
 pub slice_bounds-slot-end : goal.slice_bounds-slot-end
 slice_bounds-slot-end g c =
