@@ -11,6 +11,13 @@ count_more cost n size before now after so_far turn =
     let all : cost * ((n + 1) * size) ≡ cost * (n * size) + cost * size = ap (λ m. cost * m) next ∙ spread in
     omega (arith, all, so_far, turn)
 
+-- no turn, and so many turns when no more than that are done
+pub count_none : (cost size before : ℕ) → before ≤ before + cost * (0 * size)
+count_none cost size before = omega arith
+
+pub count_all : (cost n turns size before after : ℕ) → n ≤ turns → after ≤ before + cost * (n * size) → after ≤ before + cost * (turns * size)
+count_all cost n turns size before after done so_far = let more : cost * (n * size) ≤ cost * (turns * size) = mul-le-mul_left cost (mul-le-mul_right size done) in omega (arith, so_far, more)
+
 -- a positive power of two is twice the one before
 pub two_halves : (k : ℕ) → (k ≡ 0 → ⊥) → 2 ^ k ≡ 2 * 2 ^ (k - 1)
 two_halves zero some = absurd (some refl)

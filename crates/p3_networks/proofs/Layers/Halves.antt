@@ -1,5 +1,5 @@
 -- Blocks of two halves, cell by cell: what is said of the rows of the halves is said of the block's cells.
-use Rattle.std.proofs.Common.{◌≡◌, ℕ, suc, ◌+◌, ◌*◌, ◌-◌, ◌/◌, ◌%◌, ◌++◌, ◌<◌, ◌≤◌, List, length, get_or, take, drop, sym, ap, ap₂, ◌∙◌, arith, rules, subst}
+use Rattle.std.proofs.Common.{◌≡◌, ℕ, suc, ◌+◌, ◌*◌, ◌-◌, ◌/◌, ◌%◌, ◌++◌, ◌<◌, ◌≤◌, List, length, get_or, take, drop, refl, sym, ap, ap₂, ◌∙◌, arith, rules, subst}
 use Rattle.std.proofs.lemmas.List.{places}
 use Rattle.std.proofs.lemmas.Nat.{div-add-mod', div_below, mod_below}
 use Rattle.std.proofs.Math.Nat.{mul-div_cancel, mul-le-mul_right}
@@ -55,6 +55,15 @@ module _ {A T : Type 0} (value : T → A) (d : T) (near far : ℕ → ℕ → A 
         first = λ i p e. ap (λ k. value (get_or block k d)) e ∙ is_near i p ∙ ap₂ (near b i) (cell i (omega arith)) (cell (size + i) (omega arith));
         second = λ i p e. ap (λ k. value (get_or block k d)) e ∙ is_far i p ∙ ap₂ (far b i) (cell i (omega arith)) (cell (size + i) (omega arith));
       }) so_far
+
+  -- the first halves of all blocks, when so many are done, and the second halves
+  pub first-all : (x : ℕ → A) (before after : List T) (n blocks : ℕ) → blocks ≤ n → RowsDone d (2 * size) (BothHalves size near far x value) before n after
+      → (b i : ℕ) → b < blocks → i < size → value (get_or after (b * (2 * size) + i) d) ≡ near b i (x (b * (2 * size) + i)) (x (b * (2 * size) + (size + i)))
+  first-all x before after n blocks all so_far b i below inside = (so_far.done b i (omega (arith, below, all)) (omega (arith, inside))).first i inside refl
+
+  pub second-all : (x : ℕ → A) (before after : List T) (n blocks : ℕ) → blocks ≤ n → RowsDone d (2 * size) (BothHalves size near far x value) before n after
+      → (b i : ℕ) → b < blocks → i < size → value (get_or after (b * (2 * size) + (size + i)) d) ≡ far b i (x (b * (2 * size) + i)) (x (b * (2 * size) + (size + i)))
+  second-all x before after n blocks all so_far b i below inside = (so_far.done b (size + i) (omega (arith, below, all)) (omega (arith, inside))).second i inside refl
 
   -- in place: the part is that of the list so far
   pub blocks-more : (before now block : List T) (b whole : ℕ) → whole ≡ 2 * size → b * whole + whole ≤ length now → length block ≡ 2 * size

@@ -1,7 +1,9 @@
 use Rattle.std.proofs.Common.{◌+◌, ◌*◌, ◌≤◌, length, refl, ◌∙◌, arith, rules}
 use borrow.Author.Rules.{scaled_fits≤}
-use Rattle.p3_networks.proofs.Layers.Counts.{count_more}
-use Rattle.p3_networks.proofs.Layers.Halves.{block_room, part_length, blocks-from}
+use Rattle.std.proofs.Math.Nat.{le_refl}
+use Rattle.p3_networks.proofs.Layers.Counts.{count_more, count_none}
+use Rattle.p3_networks.proofs.Layers.Halves.{block_room, part_length, blocks-from, first-all, second-all}
+use Rattle.p3_networks.proofs.Rows.Overwritten.{rows-none}
 use Rattle.p3_networks.proofs.butterfly_layers.layer_from.Goals as goal
 
 pub overflow_mul-whole : goal.overflow_mul-whole
@@ -61,3 +63,18 @@ loop-b-preserved g c =
       grows = omega (arith, c.meet_block_from.ensures.count, c.loop-b.invariant.grows);
       count = count_more butterfly.cost b size _ _ _ c.loop-b.invariant.count (omega (arith, c.meet_block_from.ensures.count));
     }
+
+pub loop-b-init : goal.loop-b-init
+loop-b-init g c = record {
+  cells = rows-none g.F.Field.ZERO _ _ c.args.values.now;
+  grows = le_refl c.args.products.now;
+  count = count_none g.B.Butterfly.cost c.args.size c.args.products.now;
+}
+
+pub returns-clause-near : goal.returns-clause-near
+returns-clause-near g c =
+    first-all g.F.Field.value g.F.Field.ZERO _ _ c.args.size _ c.args.values.now c.loop-b.values c.loop-b.b c.args.blocks c.loop-b-test.false c.loop-b.invariant.cells
+
+pub returns-clause-far : goal.returns-clause-far
+returns-clause-far g c =
+    second-all g.F.Field.value g.F.Field.ZERO _ _ c.args.size _ c.args.values.now c.loop-b.values c.loop-b.b c.args.blocks c.loop-b-test.false c.loop-b.invariant.cells

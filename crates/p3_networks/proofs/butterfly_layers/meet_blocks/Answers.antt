@@ -1,7 +1,9 @@
 use Rattle.std.proofs.Common.{◌+◌, ◌*◌, ◌/◌, ◌≤◌, length, refl, ◌∙◌, arith, rules}
 use borrow.Author.Rules.{scaled_fits≤}
-use Rattle.p3_networks.proofs.Layers.Counts.{count_more}
-use Rattle.p3_networks.proofs.Layers.Halves.{block_room, part_length, blocks-more}
+use Rattle.std.proofs.Math.Nat.{le_refl}
+use Rattle.p3_networks.proofs.Layers.Counts.{count_more, count_none}
+use Rattle.p3_networks.proofs.Layers.Halves.{block_room, part_length, blocks-more, first-all, second-all}
+use Rattle.p3_networks.proofs.Rows.Overwritten.{rows-none}
 use Rattle.p3_networks.proofs.butterfly_layers.meet_blocks.Goals as goal
 
 pub overflow_mul-size : goal.overflow_mul-size
@@ -48,3 +50,18 @@ loop-b-preserved g c =
       grows = omega (arith, c.meet_block.ensures.grows, c.loop-b.invariant.grows);
       count = count_more rule.cost b size _ _ _ c.loop-b.invariant.count c.meet_block.ensures.count;
     }
+
+pub loop-b-init : goal.loop-b-init
+loop-b-init g c = record {
+  cells = rows-none g.F.Field.ZERO _ _ c.args.values.now;
+  grows = le_refl c.args.products.now;
+  count = count_none g.R.Rule.cost (c.args.half * c.args.width) c.args.products.now;
+}
+
+pub returns-clause-near : goal.returns-clause-near
+returns-clause-near g c =
+    first-all g.F.Field.value g.F.Field.ZERO _ _ (c.args.half * c.args.width) _ c.args.values.now c.loop-b.values c.loop-b.b c.args.blocks c.loop-b-test.false c.loop-b.invariant.cells
+
+pub returns-clause-far : goal.returns-clause-far
+returns-clause-far g c =
+    second-all g.F.Field.value g.F.Field.ZERO _ _ (c.args.half * c.args.width) _ c.args.values.now c.loop-b.values c.loop-b.b c.args.blocks c.loop-b-test.false c.loop-b.invariant.cells

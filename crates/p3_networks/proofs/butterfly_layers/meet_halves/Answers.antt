@@ -1,7 +1,7 @@
 use Rattle.std.proofs.Common.{◌≡◌, ℕ, ◌+◌, ◌*◌, length, get_or, ap, ap₂, ◌∙◌, arith}
-use Rattle.p3_networks.proofs.Layers.Counts.{count_more}
+use Rattle.p3_networks.proofs.Layers.Counts.{count_more, count_all}
 use Rattle.p3_networks.proofs.Layers.Halves.{block_room}
-use Rattle.p3_networks.proofs.Rows.Overwritten.{rows-next, rows-none}
+use Rattle.p3_networks.proofs.Rows.Overwritten.{rows-next, rows-none, rows-all}
 use Rattle.p3_networks.proofs.butterfly_layers.meet_halves.Goals as goal
 
 pub meet_rows_at-requires-clause-room : goal.meet_rows_at-requires-clause-room
@@ -45,3 +45,12 @@ loop-t-preserved g c =
       grows = omega (arith, met.ensures.grows, c.loop-t.invariant.grows);
       count = count_more rule.cost t w _ _ _ c.loop-t.invariant.count met.ensures.count;
     }
+
+pub returns-clause-near : goal.returns-clause-near
+returns-clause-near g c = rows-all g.F.Field.ZERO c.args.width _ c.args.low.now c.loop-t.low c.loop-t.t c.args.half c.loop-t-test.false c.loop-t.invariant.near
+
+pub returns-clause-far : goal.returns-clause-far
+returns-clause-far g c = rows-all g.F.Field.ZERO c.args.width _ c.args.high.now c.loop-t.high c.loop-t.t c.args.half c.loop-t-test.false c.loop-t.invariant.far
+
+pub returns-clause-count : goal.returns-clause-count
+returns-clause-count g c = count_all g.R.Rule.cost c.loop-t.t c.args.half c.args.width c.args.products.now c.loop-t.products (c.loop-t.auto.t-end c.requires.some) c.loop-t.invariant.count

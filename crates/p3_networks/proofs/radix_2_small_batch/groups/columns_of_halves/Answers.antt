@@ -1,10 +1,11 @@
 use Rattle.std.proofs.Common.{◌≡◌, ℕ, ◌+◌, ◌*◌, ◌-◌, ◌<◌, ◌≤◌, length, get_or, take, drop, ap, ap₂, ◌∙◌, subst, arith, rules}
 use borrow.Author.Rules.{scaled_fits≤}
 use borrow.Rule.Slice.PartMut.{put_mid}
+use Rattle.std.proofs.Math.Nat.{le_refl}
 use Rattle.p3_networks.proofs.Layers.Columns.{InColumns, columns_written, row_room, slice_length}
-use Rattle.p3_networks.proofs.Layers.Counts.{count_more}
+use Rattle.p3_networks.proofs.Layers.Counts.{count_more, count_none}
 use Rattle.p3_networks.proofs.Layers.Halves.{part_length}
-use Rattle.p3_networks.proofs.Rows.Overwritten.{part_at, put_length, rows-more}
+use Rattle.p3_networks.proofs.Rows.Overwritten.{part_at, put_length, rows-more, rows-all, rows-none}
 use Rattle.p3_networks.proofs.radix_2_small_batch.groups.columns_of_halves.Goals as goal
 
 pub overflow_mul-start : goal.overflow_mul-start
@@ -84,3 +85,35 @@ loop-t-preserved g c =
       grows = omega (arith, c.meet.ensures.grows, c.loop-t.invariant.grows);
       count = count_more rule.cost t (end - at) _ _ _ c.loop-t.invariant.count (subst (λ (n : ℕ). c.meet.new.products ≤ c.loop-t.products + rule.cost * n) met_len c.meet.ensures.count);
     }
+
+-- the columns that meet are within a row, and so within the halves
+columns_room : (at end part t half len : ℕ) → at ≤ end → end ≤ part → t < half → len ≡ half * part → at ≤ len
+columns_room at end part t half len order within below full = omega (arith, order, within, row_room t half part len below full)
+
+pub offset_bounds-row_1-at : goal.offset_bounds-row_1-at
+offset_bounds-row_1-at g c =
+    scaled_fits≤ c.args.at (length c.args.low.now) _ (columns_room c.args.at c.args.end c.args.part c.loop-t.t c.args.half (length c.args.low.now) c.requires.some c.requires.within c.loop-t-test.true c.requires.low) (search rules)
+
+pub offset_bounds-row_2-at : goal.offset_bounds-row_2-at
+offset_bounds-row_2-at g c =
+    scaled_fits≤ c.args.at (length c.args.high.now) _ (columns_room c.args.at c.args.end c.args.part c.loop-t.t c.args.half (length c.args.high.now) c.requires.some c.requires.within c.loop-t-test.true c.requires.high) (search rules)
+
+pub loop-t-init : goal.loop-t-init
+loop-t-init g c = record {
+  near = rows-none g.F.Field.ZERO c.args.part _ c.args.low.now;
+  far = rows-none g.F.Field.ZERO c.args.part _ c.args.high.now;
+  grows = le_refl c.args.products.now;
+  count = count_none g.R.Rule.cost (c.args.end - c.args.at) c.args.products.now;
+}
+
+pub returns-clause-near : goal.returns-clause-near
+returns-clause-near g c t j p q = (rows-all g.F.Field.ZERO c.args.part _ c.args.low.now c.loop-t.low c.loop-t.t c.args.half c.loop-t-test.false c.loop-t.invariant.near t j p q).inside
+
+pub returns-clause-far : goal.returns-clause-far
+returns-clause-far g c t j p q = (rows-all g.F.Field.ZERO c.args.part _ c.args.high.now c.loop-t.high c.loop-t.t c.args.half c.loop-t-test.false c.loop-t.invariant.far t j p q).inside
+
+pub returns-clause-kept : goal.returns-clause-kept
+returns-clause-kept g c t j p q other = (
+  (rows-all g.F.Field.ZERO c.args.part _ c.args.low.now c.loop-t.low c.loop-t.t c.args.half c.loop-t-test.false c.loop-t.invariant.near t j p q).outside other,
+  (rows-all g.F.Field.ZERO c.args.part _ c.args.high.now c.loop-t.high c.loop-t.t c.args.half c.loop-t-test.false c.loop-t.invariant.far t j p q).outside other,
+)
