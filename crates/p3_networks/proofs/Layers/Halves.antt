@@ -21,6 +21,10 @@ of_halves op whole low high n i d first second inside =
     let y : get_or (drop n whole) i d ≡ get_or whole (n + i) d = search (rules, places) in
     ap₂ op (ap (λ xs. get_or xs i d) first ∙ x) (ap (λ xs. get_or xs i d) second ∙ y)
 
+-- a list that has each place of a half is as long as it
+pub half_within : (n m : ℕ) → 1 ≤ n → ((t : ℕ) → t < n → t < m) → n ≤ m
+half_within n m some inside = let last = inside (n - 1) (omega (arith, some)) in omega (arith, last, some)
+
 -- what holds of column j of row t, for each, holds of each cell
 pub each_cell : (P : ℕ → ℕ → Type 0) (w h : ℕ) → 0 < w → ((t j : ℕ) → t < h → j < w → P t (t * w + j)) → (i : ℕ) → i < h * w → P (i / w) i
 each_cell P w h wide each i inside =

@@ -1,5 +1,5 @@
 use Rattle.std.proofs.Common.{◌≡◌, ℕ, ◌+◌, ◌*◌, ◌-◌, ◌/◌, ◌%◌, ◌^◌, ◌<◌, ◌≤◌, length, sym, ap, ◌∙◌, subst, arith}
-use Rattle.std.proofs.Math.Nat.{div-le_self}
+use Rattle.std.proofs.Math.Nat.{div-le_self, le_of_lt}
 use Rattle.p3_networks.specs.Groups.{HoldsColumns, TakesColumns, cells_of}
 use Rattle.p3_networks.proofs.Layers.Groups.{part_sizes, piece_held, piece_start, pieces_all, pieces_counted, pieces_cover, pieces_next}
 use Rattle.p3_networks.proofs.radix_2_small_batch.groups.group_on_run.Goals as goal
@@ -104,3 +104,15 @@ returns-clause-count g c =
     let cover = pieces_cover c.args.piece (1 * 2 ^ from % 18446744073709551616 * c.args.width) c.requires.piece in
     omega (arith, cover, sizes.part_is, ap (λ n. n * c.args.piece) end) in
     subst (λ (n : ℕ). 2 * c.loop-p.products ≤ 2 * c.args.products.now + g.R.Rule.cost * ((to - from) * n)) (ap (λ n. rows * n) all ∙ sym sizes.rows ∙ sym c.requires.size) c.loop-p.invariant.count
+
+pub overflow_sub-part : goal.overflow_sub-part
+overflow_sub-part g c =
+    let sizes = part_sizes c.args.from c.args.to c.args.number c.args.width c.requires.order c.requires.small in
+    let start = piece_start c.loop-p.p c.args.piece _ c.requires.piece (sizes.some c.requires.wide) c.loop-p-test.true in
+    le_of_lt start
+
+pub group_on_piece-requires-clause-within : goal.group_on_piece-requires-clause-within
+group_on_piece-requires-clause-within g c =
+    let sizes = part_sizes c.args.from c.args.to c.args.number c.args.width c.requires.order c.requires.small in
+    let start = piece_start c.loop-p.p c.args.piece _ c.requires.piece (sizes.some c.requires.wide) c.loop-p-test.true in
+    omega (arith, start, c.min.ensures, sizes.part_is)

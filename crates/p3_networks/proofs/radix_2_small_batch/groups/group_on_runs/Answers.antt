@@ -1,12 +1,14 @@
 use Rattle.std.proofs.Common.{◌≡◌, ℕ, ◌+◌, ◌-◌, ◌*◌, ◌/◌, ◌%◌, ◌^◌, ◌<◌, ◌≤◌, length, take, drop, sym, ap, ◌∙◌, subst, arith, rules, lit≤}
 use borrow.Author.Rules.{scaled_fits≤}
 use Rattle.std.proofs.lemmas.Nat.{pow_pos}
-use Rattle.std.proofs.Math.Nat.{pow-le-pow_right, mul-le-mul}
+use Rattle.std.proofs.Math.Nat.{pow-le-pow_right, mul-le-mul, le_refl}
 use Rattle.p3_networks.specs.Groups.{cells_of}
 use Rattle.p3_networks.specs.Layers.{HoldsCells}
 use Rattle.p3_networks.proofs.Layers.Groups.{layers_more}
 use Rattle.p3_networks.proofs.Layers.Halves.{part_length}
 use Rattle.p3_networks.proofs.Layers.Tiles.{tile_held, tile_room, tile_rows, tile_sizes, tiles-more, tiles_all}
+use Rattle.p3_networks.proofs.Layers.Counts.{count_none}
+use Rattle.p3_networks.proofs.Rows.Overwritten.{rows-none}
 use Rattle.p3_networks.proofs.radix_2_small_batch.groups.group_on_runs.Goals as goal
 
 pub overflow_mul-start : goal.overflow_mul-start
@@ -111,3 +113,10 @@ returns-clause-count g c =
     let all : c.loop-run.run * (layers * size) ≡ layers * length c.args.values.now =
     ap (λ n. n * (layers * size)) end ∙ (let swap : runs * (layers * size) ≡ layers * (runs * size) = omega arith in swap) ∙ ap (λ n. layers * n) (sym sizes.whole) in
     subst (λ (n : ℕ). 2 * c.loop-run.products ≤ 2 * c.args.products.now + g.R.Rule.cost * n) all c.loop-run.invariant.count
+
+pub loop-run-init : goal.loop-run-init
+loop-run-init g c = record {
+  cells = λ cells layers holds. rows-none g.F.Field.ZERO _ _ c.args.values.now;
+  grows = le_refl c.args.products.now;
+  count = count_none g.R.Rule.cost _ (2 * c.args.products.now);
+}

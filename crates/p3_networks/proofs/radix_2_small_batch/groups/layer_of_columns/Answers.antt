@@ -1,10 +1,10 @@
 use Rattle.std.proofs.Common.{◌≡◌, ℕ, ◌+◌, ◌*◌, ◌-◌, ◌≤◌, length, take, drop, refl, ◌∙◌, subst, arith, rules}
 use borrow.Author.Rules.{scaled_fits≤}
-use Rattle.std.proofs.Math.Nat.{mul-le-mul_right}
+use Rattle.std.proofs.Math.Nat.{mul-le-mul_right, le_refl}
 use Rattle.p3_networks.proofs.Layers.Columns.{BlockColumns, blocks_of_columns-all, blocks_of_columns-more}
-use Rattle.p3_networks.proofs.Layers.Counts.{count_more}
+use Rattle.p3_networks.proofs.Layers.Counts.{count_more, count_none}
 use Rattle.p3_networks.proofs.Layers.Halves.{block_room, part_length}
-use Rattle.p3_networks.proofs.Rows.Overwritten.{RowsDone}
+use Rattle.p3_networks.proofs.Rows.Overwritten.{RowsDone, rows-none}
 use Rattle.p3_networks.proofs.radix_2_small_batch.groups.layer_of_columns.Goals as goal
 
 pub overflow_mul-size : goal.overflow_mul-size
@@ -69,3 +69,10 @@ returns-clause-cells g c all before after layer within holds =
     blocks_of_columns-all field.value field.ZERO c.args.part c.args.half c.args.at c.args.end (c.args.first_block * (2 * size)) c.args.blocks after c.args.values.now c.loop-b.values
     (subst (λ (n : ℕ). RowsDone field.ZERO (2 * size) (BlockColumns field.value field.ZERO c.args.part c.args.half c.args.at c.args.end (c.args.first_block * (2 * size)) after c.args.values.now) c.args.values.now n c.loop-b.values) end
     (c.loop-b.invariant.cells all before after layer within holds))
+
+pub loop-b-init : goal.loop-b-init
+loop-b-init g c = record {
+  cells = λ all before after layer within holds. rows-none g.F.Field.ZERO _ _ c.args.values.now;
+  grows = le_refl c.args.products.now;
+  count = count_none g.R.Rule.cost (c.args.half * (c.args.end - c.args.at)) c.args.products.now;
+}

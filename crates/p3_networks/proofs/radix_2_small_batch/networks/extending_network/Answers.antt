@@ -67,3 +67,6 @@ returns-clause-count g c =
     let d : (r - a + 2) * len + (k - r) * len ≡ (r - a + 2 + (k - r)) * len = omega arith in
     d ∙ ap (λ n. n * len) e in
     omega (arith, c.spread_tiles.ensures.count, second, all)
+
+pub spread_tiles-requires-clause-some : goal.spread_tiles-requires-clause-some
+spread_tiles-requires-clause-some g c = c.requires.twiddles.size 0 c.requires.some

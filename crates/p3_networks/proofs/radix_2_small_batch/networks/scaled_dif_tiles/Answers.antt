@@ -1,12 +1,13 @@
 use Rattle.std.proofs.Common.{◌≡◌, ℕ, ◌+◌, ◌-◌, ◌*◌, ◌/◌, ◌%◌, ◌^◌, ◌<◌, ◌≤◌, length, take, drop, sym, ap, ap₂, ◌∙◌, subst, arith, rules, lit≤}
 use borrow.Author.Rules.{scaled_fits≤}
 use Rattle.std.proofs.lemmas.Nat.{pow_pos}
-use Rattle.std.proofs.Math.Nat.{pow-le-pow_right, mul-le-mul}
+use Rattle.std.proofs.Math.Nat.{pow-le-pow_right, mul-le-mul, le_refl}
 use Rattle.p3_networks.specs.Layers.{HoldsCells}
 use Rattle.p3_networks.proofs.Layers.Halves.{part_length}
 use Rattle.p3_networks.proofs.Layers.Runs.{layer_more}
 use Rattle.p3_networks.proofs.Layers.Tiles.{tile_held, tile_room, tile_rows, tile_sizes, tiles-more, tiles_all}
-use Rattle.p3_networks.proofs.Rows.Overwritten.{value_at}
+use Rattle.p3_networks.proofs.Rows.Overwritten.{value_at, rows-none}
+use Rattle.p3_networks.proofs.Layers.Counts.{turns_none}
 use Rattle.p3_networks.proofs.radix_2_small_batch.networks.scaled_dif_tiles.Goals as goal
 
 pub overflow_mul-start : goal.overflow_mul-start
@@ -108,3 +109,10 @@ returns-clause-count g c =
     let end : c.loop-tile.tile ≡ tiles = omega arith in
     let all : c.loop-tile.tile * ((c.args.log_rows + 2) * size) ≡ (c.args.log_rows + 2) * length c.args.values.now = ap (λ n. n * ((c.args.log_rows + 2) * size)) end ∙ (let swap : tiles * ((c.args.log_rows + 2) * size) ≡ (c.args.log_rows + 2) * (tiles * size) = omega arith in swap) ∙ ap (λ n. (c.args.log_rows + 2) * n) (sym sizes.whole) in
     subst (λ (n : ℕ). 2 * c.loop-tile.products ≤ 2 * c.args.products.now + n) all c.loop-tile.invariant.count
+
+pub loop-tile-init : goal.loop-tile-init
+loop-tile-init g c = record {
+  cells = λ cells layers holds. rows-none g.F.Field.ZERO _ _ c.args.values.now;
+  grows = le_refl c.args.products.now;
+  count = turns_none _ (2 * c.args.products.now);
+}

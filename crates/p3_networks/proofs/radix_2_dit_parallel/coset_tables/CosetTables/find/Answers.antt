@@ -1,7 +1,8 @@
-use Rattle.std.proofs.Common.{◌≡◌, Bool, false, IsTrue, ◌<◌, length, get_or, refl, sym, ap, ◌∙◌, subst, arith, ⊎_elim}
+use Rattle.std.proofs.Common.{◌≡◌, Bool, false, IsTrue, ◌<◌, length, get_or, refl, sym, ap, ◌∙◌, subst, arith, ⊎_elim, ℕ, List}
 use Rattle.std.proofs.lemmas.Bool.{cases_lt}
-use Rattle.std.proofs.lemmas.List.{get_or_read_under}
-use Rattle.p3_networks.specs.Twiddles.{IsCosetOf}
+use Rattle.std.proofs.lemmas.List.{get_or_read_under, get_or_default}
+use Rattle.p3_field.specs.declared.fields.Field.{Ghosts as FieldMembers}
+use Rattle.p3_networks.specs.Twiddles.{IsCosetOf, Coset, IsCosetAt}
 use Rattle.p3_networks.proofs.radix_2_dit_parallel.coset_tables.CosetTables.find.Goals as goal
 
 not_both : (b : Bool) → b ≡ false → IsTrue b → ⊥
@@ -28,3 +29,14 @@ pub returns-clause-none : goal.returns-clause-none
 returns-clause-none g c none has =
     let (i, at) = has in
     c.loop-i.invariant i (omega (arith, at.0, ap length c.as_slice-tables.ensures, c.loop-i-test.false, c.loop-i.auto.i-end)) at
+
+-- the table in a place, as it was read
+found : {F : Type 0} (f : FieldMembers F) (tables all : List (Coset F)) (k i : ℕ) (s : f.Element) (t : Coset F) → tables ≡ all → i < length tables → t ≡ get_or tables i t → IsCosetOf f k s t → IsCosetAt f all k s i
+found f tables all k i s t same inside read is = (
+  subst (λ xs. i < length xs) same inside,
+  λ d. subst (IsCosetOf f k s) (read ∙ get_or_default tables i t d inside ∙ ap (λ xs. get_or xs i d) same) is,
+)
+
+pub returns-then-is_of-clause-some : goal.returns-then-is_of-clause-some
+returns-then-is_of-clause-some g c =
+    found g.F.Field c.as_slice-tables.result.now c.args.self.now c.args.log_h c.loop-i.i (g.F.Field.value c.args.shift) c.index-tables-i.result c.as_slice-tables.ensures c.loop-i-test.true c.index-tables-i.is (c.if-is_of.ensures.0 refl)

@@ -1,0 +1,24 @@
+use Rattle.std.proofs.Common.{◌≡◌, ℕ, ◌+◌, ◌++◌, List, [], ◌∷◌, length, get_or, length-append, refl, sym, ap, ◌∙◌, subst, arith, rules}
+use Rattle.p3_networks.specs.Twiddles.{Coset, HasCoset, IsCosetAt, IsCosetOf}
+use Rattle.p3_field.specs.declared.fields.Field.{Ghosts as FieldMembers}
+use Rattle.p3_networks.proofs.Layers.Halves.{in_second}
+use Rattle.p3_networks.proofs.radix_2_dit_parallel.coset_tables.CosetTables.make.Goals as goal
+
+-- a table that was added at the end
+added_last : {F : Type 0} (f : FieldMembers F) (before now after : List (Coset F)) (k : ℕ) (s : F) (t : Coset F) → now ≡ before → after ≡ before ++ t ∷ [] → t ≡ record { log_h = k; shift = s } → IsCosetAt f after k (f.value s) (length now)
+added_last f before now after k s t same added is =
+    let size : length after ≡ length now + 1 = ap length added ∙ length-append before (t ∷ []) ∙ ap (λ xs. length xs + 1) (sym same) in
+    let none : length now ≡ length now + 0 = omega arith in (
+      omega (arith, size),
+      λ d. subst (IsCosetOf f k (f.value s)) (sym (ap (λ xs. get_or xs (length now) d) added ∙ ap (λ n. get_or (before ++ t ∷ []) n d) none ∙ in_second before (t ∷ []) (length now) 0 d (ap length (sym same))))
+          (subst (IsCosetOf f k (f.value s)) (sym is) (refl, refl)),
+    )
+
+pub push-requires : goal.push-requires
+push-requires g c there =
+    c.find.ensures.none (search rules)
+    (subst (λ t. HasCoset g.F.Field c.args.self.now t.log_h (g.F.Field.value t.shift)) c.in_ok-table.ensures there)
+
+pub returns-clause-made : goal.returns-clause-made
+returns-clause-made g c =
+    added_last g.F.Field c.args.self.now c.as_slice-place.result.now c.push.new.self c.args.log_h c.args.shift c.in_ok-table.table c.as_slice-place.ensures c.in_ok-push.ensures.added c.in_ok-table.ensures
