@@ -21,6 +21,10 @@ turns_none size before = omega arith
 pub count_all : (cost n turns size before after : ℕ) → n ≤ turns → after ≤ before + cost * (n * size) → after ≤ before + cost * (turns * size)
 count_all cost n turns size before after done so_far = let more : cost * (n * size) ≤ cost * (turns * size) = mul-le-mul_left cost (mul-le-mul_right size done) in omega (arith, so_far, more)
 
+-- what holds of so many turns, when a loop is over
+pub at_end : (P : ℕ → Type 0) (n turns : ℕ) → n ≤ turns → turns ≤ n → P n → P turns
+at_end P n turns most least so_far = let all : n ≡ turns = omega arith in subst P all so_far
+
 -- a positive power of two is twice the one before
 pub two_halves : (k : ℕ) → (k ≡ 0 → ⊥) → 2 ^ k ≡ 2 * 2 ^ (k - 1)
 two_halves zero some = absurd (some refl)

@@ -1,8 +1,8 @@
--- A butterfly whose outputs are multiplied by a scale is one on inputs that are.
-use Rattle.std.proofs.Common.{◌≡◌, refl, [], ◌∷◌}
-use Rattle.p3_field.specs.Ring.{Ring}
+-- A butterfly whose outputs are multiplied by a scale is one on inputs that are, and one whose twiddle is one needs none.
+use Rattle.std.proofs.Common.{◌≡◌, refl, sym, ap, ◌∙◌, [], ◌∷◌}
+use Rattle.p3_field.specs.Ring.{Ring, minus}
 use Rattle.p3_field.proofs.RingSolver.{solve, va, vb, vc, vd, ◌⊞◌, ◌⊟◌, ◌⊠◌}
-use Rattle.p3_matrix.specs.Butterflies.{dit_near, dit_far, scaled_dit_near, scaled_dit_far}
+use Rattle.p3_matrix.specs.Butterflies.{dif_far, dit_near, dit_far, scaled_dit_near, scaled_dit_far}
 
 module _ {A : Type 0} (R : Ring A) where
   pub scaled_near : (t s x y : A) → scaled_dit_near R t s x y ≡ dit_near R t (R.mul x s) (R.mul y s)
@@ -10,3 +10,13 @@ module _ {A : Type 0} (R : Ring A) where
 
   pub scaled_far : (t s x y : A) → scaled_dit_far R t s x y ≡ dit_far R t (R.mul x s) (R.mul y s)
   scaled_far t s x y = solve R (t ∷ s ∷ x ∷ y ∷ []) ((vc ⊟ vd ⊠ va) ⊠ vb) (vc ⊠ vb ⊟ (vd ⊠ vb) ⊠ va) refl
+
+-- with the twiddle one, a pair meets as without a twiddle
+pub free_dit_near : {A : Type 0} (R : Ring A) (t x y : A) → t ≡ R.one → R.add x y ≡ dit_near R t x y
+free_dit_near R t x y one = ap (R.add x) (sym (ap (R.mul y) one ∙ R.mul_one y))
+
+pub free_dit_far : {A : Type 0} (R : Ring A) (t x y : A) → t ≡ R.one → minus R x y ≡ dit_far R t x y
+free_dit_far R t x y one = ap (minus R x) (sym (ap (R.mul y) one ∙ R.mul_one y))
+
+pub free_dif_far : {A : Type 0} (R : Ring A) (t x y : A) → t ≡ R.one → minus R x y ≡ dif_far R t x y
+free_dif_far R t x y one = sym (ap (R.mul (minus R x y)) one ∙ R.mul_one (minus R x y))

@@ -65,3 +65,6 @@ returns-clause-near g c =
 pub returns-clause-far : goal.returns-clause-far
 returns-clause-far g c =
     second-all g.F.Field.value g.F.Field.ZERO _ _ (c.args.half * c.args.width) _ c.args.values.now c.loop-b.values c.loop-b.b c.args.blocks c.loop-b-test.false c.loop-b.invariant.cells
+
+pub meet_block-requires-clause-there : goal.meet_block-requires-clause-there
+meet_block-requires-clause-there g c t inside = c.requires.there c.loop-b.b t c.loop-b-test.true inside

@@ -1,5 +1,6 @@
-use Rattle.std.proofs.Common.{◌≡◌, ℕ, ◌+◌, ◌*◌, ◌-◌, ◌^◌, ◌%◌, ◌<◌, ◌≤◌, get_or, sym, ap, ap₂, ◌∙◌, subst, false, arith, add-one}
+use Rattle.std.proofs.Common.{◌≡◌, ℕ, ◌+◌, ◌*◌, ◌-◌, ◌^◌, ◌%◌, ◌<◌, ◌≤◌, get_or, sym, ap, ap₂, ◌∙◌, subst, false, arith, add-one, suc, length, lit≤}
 use Rattle.std.proofs.lemmas.Nat.{one_shl, pow_pos}
+use Rattle.std.proofs.Math.Nat.{pow-le-pow_right}
 use Rattle.p3_field.specs.Ring.{power}
 use Rattle.p3_field.proofs.Powers.{power-zero}
 use Rattle.p3_matrix.specs.BitOrder.{rev}
@@ -109,3 +110,13 @@ returns-clause-count g c =
     let w = c.args.width in
     let e : c.loop-l.l ≡ k = omega arith in
     subst (λ (n : ℕ). c.loop-l.products ≤ c.args.products.now + n) (ap (λ n. 1 * (n * (2 ^ (k - 1) * w))) e ∙ layers_counted k w) c.loop-l.invariant.count
+
+-- a layer's twiddles end within those of all layers
+layer_inside : (l k len : ℕ) → l < k → 2 ^ k - 1 ≤ len → 2 * 2 ^ l - 1 ≤ len
+layer_inside l k len below all =
+    let more : 2 ^ suc l ≤ 2 ^ k = pow-le-pow_right {n = 2} (lit≤ tt) below in
+    let next : 2 ^ suc l ≡ 2 * 2 ^ l = omega arith in
+    omega (arith, more, next, all)
+
+pub layer_twiddles-twiddles-requires-clause-inside : goal.layer_twiddles-twiddles-requires-clause-inside
+layer_twiddles-twiddles-requires-clause-inside g c = layer_inside c.loop-l.l c.args.log_h (length c.args.twiddles.now) c.loop-l-test.true c.requires.twiddles.size

@@ -1,10 +1,11 @@
-use Rattle.std.proofs.Common.{◌≡◌, ℕ, ◌+◌, ◌*◌, ◌^◌, [], ◌∷◌, ◌++◌, length, get_or, sym, ap, ◌∙◌, arith, add-one, length-append}
+use Rattle.std.proofs.Common.{◌≡◌, ℕ, ◌+◌, ◌*◌, ◌^◌, [], ◌∷◌, ◌++◌, length, get_or, sym, ap, ◌∙◌, arith, add-one, length-append, ◌<◌}
 use Rattle.std.proofs.lemmas.List.{get_or_push}
 use Rattle.p3_field.specs.Ring.{power}
 use Rattle.p3_field.proofs.Powers.{power-zero}
 use Rattle.p3_networks.specs.Twiddles.{layer_place}
 use Rattle.p3_networks.proofs.Tables.ReversedPowers.{powers_doubled, place_above, place_of_none, layer_step}
 use Rattle.p3_networks.proofs.Layers.Halves.{in_first}
+use Rattle.p3_networks.proofs.Layers.Counts.{at_end}
 use Rattle.p3_networks.proofs.twiddles.push_layer.Goals as goal
 use Rattle.p3_networks.proofs.twiddles.push_layer.Goals.{then-reversed, else-reversed}
 
@@ -53,3 +54,9 @@ loop-l-preserved g c =
           ap (λ k. field.value (get_or now k field.ZERO)) place ∙ c.in_ok-push_multiples.ensures.after b (omega (arith, below, size, start))
           ∙ ap (λ k. field.ring.mul (field.value (get_or before k field.ZERO)) (field.value c.exp_power_of_2-factor.result)) from);
     }
+
+pub returns-clause-size : goal.returns-clause-size
+returns-clause-size g c = at_end (λ l. length c.loop-l.twiddles.items ≡ length c.args.twiddles.now.items + 2 ^ l) c.loop-l.l c.args.bits c.loop-l.auto.l-end c.loop-l-test.false c.loop-l.invariant.size
+
+pub returns-clause-entries : goal.returns-clause-entries
+returns-clause-entries g c e inside = c.loop-l.invariant.entries e (at_end (λ l. e < 2 ^ l) c.args.bits c.loop-l.l c.loop-l-test.false c.loop-l.auto.l-end inside)

@@ -2,8 +2,9 @@ use Rattle.std.proofs.Common.{◌≡◌, ◌+◌, ◌*◌, ◌^◌, ap, ap₂, �
 use Rattle.std.proofs.lemmas.Nat.{pow_pos}
 use Rattle.p3_field.specs.Ring.{power}
 use Rattle.p3_field.proofs.Rings
-use Rattle.p3_networks.specs.Twiddles.{root_powers}
+use Rattle.p3_networks.specs.Twiddles.{root_powers, AreTwiddlesOfLayers}
 use Rattle.p3_networks.proofs.Tables.MoreTwiddles.{one_more_layer}
+use Rattle.p3_networks.proofs.Layers.Counts.{at_end}
 use Rattle.p3_networks.proofs.twiddles.root_layers.Goals as goal
 
 pub loop-l-preserved : goal.loop-l-preserved
@@ -22,3 +23,6 @@ loop-l-preserved g c =
           ∙ ap₂ (λ x y. field.ring.mul x (power field.ring y t)) (ap field.value c.ONE.ensures ∙ g.met.F.Field.one_law) c.root.ensures
           ∙ Rings.one-mul field.ring _);
     }
+
+pub returns : goal.returns
+returns g c = at_end (λ l. AreTwiddlesOfLayers g.F.Field l (root_powers g.F.Field g.F.TwoAdicField.generator c.args.inverse) c.loop-l.powers.items) c.loop-l.l c.args.layers c.loop-l.auto.l-end c.loop-l-test.false c.loop-l.invariant.layers

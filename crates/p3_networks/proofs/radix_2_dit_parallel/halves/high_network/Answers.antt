@@ -1,5 +1,5 @@
 use Rattle.std.proofs.Common.{◌≡◌, ℕ, ◌+◌, ◌*◌, ◌-◌, ◌^◌, ◌%◌, ◌<◌, ◌≤◌, length, get_or, sym, ap, ap₂, ◌∙◌, subst, arith, lit≤, refl}
-use Rattle.std.proofs.Math.Nat.{pow-le-pow_right, mul-le-mul_right}
+use Rattle.std.proofs.Math.Nat.{pow-le-pow_right, mul-le-mul_right, le-add_right}
 use Rattle.p3_matrix.specs.BitOrder.{rev}
 use Rattle.p3_matrix.specs.Butterflies.{dit_near, dit_far}
 use Rattle.p3_networks.specs.Cosets.{point}
@@ -156,3 +156,11 @@ returns-clause-count g c =
     let e : c.loop-done.done ≡ k = omega (arith, c.requires.some) in
     let all = ap (λ n. 1 * (n * (2 ^ (k - 1) * w))) e ∙ layers_counted k w in
     omega (arith, all, c.loop-done.invariant.count)
+
+-- a layer of the second half
+in_second_half : (mid done left : ℕ) → done < left → mid + done < mid + left
+in_second_half mid done left below = omega arith
+
+pub of_layer-twiddles-requires-in-loop-done-clause-inside : goal.of_layer-twiddles-requires-in-loop-done-clause-inside
+of_layer-twiddles-requires-in-loop-done-clause-inside g c =
+    c.requires.table (c.args.mid + c.loop-done.done) (le-add_right c.args.mid c.loop-done.done) (in_second_half c.args.mid c.loop-done.done c.args.left c.loop-done-test.true)

@@ -107,3 +107,6 @@ returns-clause-count g c =
     let all : c.loop-run.run ≡ 2 ^ mid = omega (arith, count, c.loop-run-test.false, c.loop-run.auto.run-end) in
     let e : 1 * (c.loop-run.run * turn) ≡ 2 ^ mid * turn = ap (λ n. 1 * (n * turn)) all ∙ omega arith in
     subst (λ (n : ℕ). c.loop-run.products ≤ c.args.products.now + n) e c.loop-run.invariant.count
+
+pub high_network-requires-clause-table : goal.high_network-requires-clause-table
+high_network-requires-clause-table g c = c.requires.table

@@ -220,3 +220,6 @@ returns-clause-count g c =
     let all : c.loop-run.run ≡ 2 ^ c.args.mid = omega (arith, count, c.loop-run-test.false, c.loop-run.auto.run-end) in
     let e : 1 * (c.loop-run.run * turn) ≡ 2 ^ c.args.mid * turn = ap (λ n. 1 * (n * turn)) all ∙ omega arith in
     subst (λ (n : ℕ). c.loop-run.products ≤ c.args.products.now + n) e c.loop-run.invariant.count
+
+pub finish_run-requires-clause-table : goal.finish_run-requires-clause-table
+finish_run-requires-clause-table g c = c.requires.table
