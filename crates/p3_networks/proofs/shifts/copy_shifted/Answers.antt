@@ -1,10 +1,17 @@
-use Rattle.std.proofs.Common.{◌≡◌, ◌+◌, ◌*◌, ◌-◌, ◌≤◌, length, get_or, take, drop, sym, ap, ap₂, ◌∙◌, arith, rules, add-one}
+use Rattle.std.proofs.Common.{◌≡◌, ◌+◌, ◌*◌, ◌-◌, ◌≤◌, length, get_or, take, drop, sym, ap, ap₂, ◌∙◌, arith, rules, add-one, ◌<◌, ℕ, subst}
 use borrow.Author.Rules.{scaled_fits≤}
 use Rattle.std.proofs.Math.Nat.{suc-mul, mul-le-mul_right}
 use Rattle.p3_field.proofs.Powers.{power-zero, power-more}
 use Rattle.p3_networks.proofs.Layers.Halves.{block_room, part_length}
 use Rattle.p3_networks.proofs.Rows.Overwritten.{rows-none, rows-more, part_at, value_at}
 use Rattle.p3_networks.proofs.shifts.copy_shifted.Goals as goal
+
+-- the size of a row, as the program has it, and one more row that was counted
+row_size : (a w : ℕ) → (a + w) - a ≡ w
+row_size a w = omega arith
+
+row_counted : (i w len before now after : ℕ) → len ≡ w → now ≡ before + i * w → after ≡ now + len → after ≡ before + (i + 1) * w
+row_counted i w len before now after full so_far row = let next : (i + 1) * w ≡ i * w + w = omega arith in omega (arith, next, full, so_far, row)
 
 pub overflow_mul-start : goal.overflow_mul-start
 overflow_mul-start g c = omega (arith, block_room c.loop-i.i c.args.height c.args.width (length c.args.values.now) c.loop-i-test.true c.requires.size)
@@ -47,10 +54,9 @@ loop-i-preserved g c =
     let field = g.F.Field in
     let i = c.loop-i.i in
     let w = c.args.width in
-    let m : (i * w + w) - i * w ≡ w = omega arith in
-    let next : (i + 1) * w ≡ i * w + w = rw add-one (suc-mul i w) in
-    let room : i * w + w ≤ length c.loop-i.values = omega (arith, mul-le-mul_right w c.loop-i-test.true, next, c.requires.size, c.loop-i.auto.values) in
-    let source : i * w + w ≤ length c.args.rows.now = omega (arith, mul-le-mul_right w c.loop-i-test.true, next, c.requires.source) in
+    let m = row_size (i * w) w in
+    let room = block_room i c.args.height w (length c.loop-i.values) c.loop-i-test.true (c.loop-i.auto.values ∙ c.requires.size) in
+    let source = block_room i c.args.height w (length c.args.rows.now) c.loop-i-test.true c.requires.source in
     let part = take ((i * w + w) - i * w) (drop (i * w) c.args.rows.now) in
     let copied : c.copy_from_slice.new.self ≡ part = c.copy_from_slice.ensures.after in
     let part_len : length part ≡ w = part_length c.args.rows.now (i * w) w source in
@@ -60,10 +66,10 @@ loop-i-preserved g c =
           ∙ sym (power-more field.ring (field.value c.args.shift) i);
       values = rows-more field.ZERO w _ _ c.loop-i.values c.scale_slice_in_place.new.values i _ m room len
           (λ k inside.
-          value_at field.value (λ x. field.ring.mul x (field.value c.loop-i.factor)) c.copy_from_slice.new.self c.scale_slice_in_place.new.values k field.ZERO c.scale_slice_in_place.ensures.values c.scale_slice_in_place.auto.values (omega (arith, inside, ap length copied, part_len))
-          ∙ ap₂ field.ring.mul (ap (λ xs. field.value (get_or xs k field.ZERO)) copied ∙ ap field.value (part_at c.args.rows.now (i * w) ((i * w + w) - i * w) k field.ZERO (omega (arith, inside, m)))) c.loop-i.invariant.factor)
+          value_at field.value (λ x. field.ring.mul x (field.value c.loop-i.factor)) c.copy_from_slice.new.self c.scale_slice_in_place.new.values k field.ZERO c.scale_slice_in_place.ensures.values c.scale_slice_in_place.auto.values (subst (λ n. k < n) (sym (ap length copied ∙ part_len)) inside)
+          ∙ ap₂ field.ring.mul (ap (λ xs. field.value (get_or xs k field.ZERO)) copied ∙ ap field.value (part_at c.args.rows.now (i * w) ((i * w + w) - i * w) k field.ZERO (subst (λ n. k < n) (sym m) inside))) c.loop-i.invariant.factor)
           c.loop-i.invariant.values;
-      count = omega (arith, next, c.scale_slice_in_place.ensures.count, c.loop-i.invariant.count, ap length copied, part_len);
+      count = row_counted i w (length c.copy_from_slice.new.self) c.args.products.now c.loop-i.products c.scale_slice_in_place.new.products (ap length copied ∙ part_len) c.loop-i.invariant.count c.scale_slice_in_place.ensures.count;
     }
 
 pub returns-clause-values : goal.returns-clause-values

@@ -2,3 +2,6 @@ use Rattle.p3_networks.proofs.radix_2_dit_parallel.halves.first_half.Goals as go
 
 pub returns-then-width-eq1-clause-values : goal.returns-then-width-eq1-clause-values
 returns-then-width-eq1-clause-values g c = rw c.if-width-eq1.true c.low_runs.ensures.values
+
+pub returns-else-width-eq1-clause-values : goal.returns-else-width-eq1-clause-values
+returns-else-width-eq1-clause-values g c = c.low_runs-else-width-eq1.ensures.values

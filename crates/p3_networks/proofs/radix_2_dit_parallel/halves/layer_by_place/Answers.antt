@@ -9,3 +9,15 @@ layer-requires-clause-there g c b t p q =
       found_one field.value g.F.PartialEq.eq g.met.F.Field.eq_law c.args.twiddles.now 0 c.index-twiddles-0.result c.ONE.result field.ZERO (omega (arith, c.requires.some, c.requires.table)) c.index-twiddles-0.is (sym c.eq.ensures ∙ c.if-eq.true)
           ∙ ap field.value c.ONE.ensures ∙ g.met.F.Field.one_law,
     )
+
+pub returns-then-eq-clause-near : goal.returns-then-eq-clause-near
+returns-then-eq-clause-near g c = c.layer.ensures.near
+
+pub returns-then-eq-clause-far : goal.returns-then-eq-clause-far
+returns-then-eq-clause-far g c = c.layer.ensures.far
+
+pub returns-else-eq-clause-near : goal.returns-else-eq-clause-near
+returns-else-eq-clause-near g c = c.layer-else-eq.ensures.near
+
+pub returns-else-eq-clause-far : goal.returns-else-eq-clause-far
+returns-else-eq-clause-far g c = c.layer-else-eq.ensures.far

@@ -2,3 +2,12 @@ use Rattle.p3_networks.proofs.radix_2_dit_parallel.halves.second_half.Goals as g
 
 pub returns-then-width-eq1-clause-values : goal.returns-then-width-eq1-clause-values
 returns-then-width-eq1-clause-values g c = rw c.if-width-eq1.true c.high_runs.ensures.values
+
+pub high_runs-requires-clause-table : goal.high_runs-requires-clause-table
+high_runs-requires-clause-table g c = c.requires.table
+
+pub high_runs-requires-else-width-eq1-clause-table : goal.high_runs-requires-else-width-eq1-clause-table
+high_runs-requires-else-width-eq1-clause-table g c = c.requires.table
+
+pub returns-else-width-eq1-clause-values : goal.returns-else-width-eq1-clause-values
+returns-else-width-eq1-clause-values g c = c.high_runs-else-width-eq1.ensures.values

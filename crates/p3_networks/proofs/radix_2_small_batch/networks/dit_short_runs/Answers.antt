@@ -128,3 +128,6 @@ returns-clause-count g c =
     let end : c.loop-run.run ≡ runs = omega arith in
     let all : c.loop-run.run * (6 * size) ≡ 6 * length c.args.values.now = ap (λ n. n * (6 * size)) end ∙ (let swap : runs * (6 * size) ≡ 6 * (runs * size) = omega arith in swap) ∙ ap (λ n. 6 * n) (sym sizes.whole) in
     subst (λ (n : ℕ). 2 * c.loop-run.products ≤ 2 * c.args.products.now + n) all c.loop-run.invariant.count
+
+pub dit_short_run-requires-clause-first : goal.dit_short_run-requires-clause-first
+dit_short_run-requires-clause-first g c = c.requires.first

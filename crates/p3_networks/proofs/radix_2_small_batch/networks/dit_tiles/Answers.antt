@@ -111,3 +111,6 @@ loop-tile-init g c = record {
   grows = le_refl c.args.products.now;
   count = turns_none _ (2 * c.args.products.now);
 }
+
+pub dit_tile-requires-clause-first : goal.dit_tile-requires-clause-first
+dit_tile-requires-clause-first g c = c.requires.first

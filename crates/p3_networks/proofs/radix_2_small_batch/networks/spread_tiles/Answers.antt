@@ -163,3 +163,6 @@ loop-tile-init g c = record {
   grows = le_refl c.args.products.now;
   count = turns_none _ (2 * c.args.products.now);
 }
+
+pub dif_layers-requires-clause-first : goal.dif_layers-requires-clause-first
+dif_layers-requires-clause-first g c = c.requires.first

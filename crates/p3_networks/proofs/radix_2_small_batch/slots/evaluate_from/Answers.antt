@@ -6,3 +6,6 @@ pub returns-clause-values : goal.returns-clause-values
 returns-clause-values g c =
     values_of_shifted g.F.Field g.F.TwoAdicField.generator c.args.log_h c.args.width (g.F.Field.value c.args.shift) _ c.args.coefficients.now c.copy_shifted.new.values c.evaluate.new.values
     (one_shl c.args.log_h 64 c.requires.small) c.copy_shifted.ensures.values c.evaluate.ensures.values
+
+pub evaluate-requires-clause-twiddles : goal.evaluate-requires-clause-twiddles
+evaluate-requires-clause-twiddles g c = c.requires.twiddles

@@ -166,3 +166,9 @@ returns-clause-count g c =
     let last : c.evaluate.new.products ≤ c.loop-place.products + 1 * turn = omega (arith, c.shift_values.ensures.count, ap (λ n. n * c.args.width) rows, c.evaluate.ensures.count) in
     subst (λ (n : ℕ). c.evaluate.new.products ≤ c.args.products.now + n) e
     (count_more 1 c.loop-place.place turn _ _ _ c.loop-place.invariant.count last)
+
+pub evaluate-requires-clause-twiddles : goal.evaluate-requires-clause-twiddles
+evaluate-requires-clause-twiddles g c = c.requires.twiddles
+
+pub evaluate_from-requires-clause-twiddles : goal.evaluate_from-requires-clause-twiddles
+evaluate_from-requires-clause-twiddles g c = c.requires.twiddles
