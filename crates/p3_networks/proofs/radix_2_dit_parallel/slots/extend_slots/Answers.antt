@@ -131,6 +131,47 @@ others_room place a size len whole back room all full is split rest =
     let next : (place + 1) * size ≡ place * size + size = omega arith in
     omega (arith, e, next, is, split, rest)
 
+-- while the loop goes on, there is one slot more of the others
+not_last : (place slots a : ℕ) → slots ≡ 2 ^ a → place < slots - 1 → place + 1 < 2 ^ a
+not_last place slots a are below = omega (arith, are, below)
+
+slot_fits : (place a size len whole back others : ℕ) → place + 1 < 2 ^ a → len ≡ 2 ^ a * size → whole ≡ size → back + whole ≡ len → others ≡ back → place * whole + whole ≤ others
+slot_fits place a size len whole back others below full is split rest =
+    let same : place * whole ≡ place * size = ap (λ m. place * m) is in
+    omega (arith, slot_room place a size len below full, same, is, split, rest)
+
+-- its rows have numbers
+slot_ends : (place k a : ℕ) → place + 1 < 2 ^ a → k + a < 64 → (place + 1) * 2 ^ k % 18446744073709551616 + 2 ^ k < 18446744073709551616
+slot_ends place k a below small =
+    let less = slots_within place k a below in
+    let fits : 2 ^ (k + a) < 2 ^ 64 = pow-lt small in
+    let is : (place + 1) * 2 ^ k % 18446744073709551616 ≡ (place + 1) * 2 ^ k = mod-eq_of_lt (omega (arith, less, fits)) in
+    omega (arith, less, fits, is)
+
+-- the blocks of one more slot of the others, and those of all slots
+blocks_more : {T : Type 0} (place whole next k w b n : ℕ) (others part : List T) → n * b ≡ 2 ^ k → whole ≡ 2 ^ k * w → place * whole + whole ≤ length others → length part ≡ whole → next ≡ 2 ^ k + place * n * b
+    → slot_blocks (2 ^ k) b w others (place * n) ++ slot_blocks next b w part n ≡ slot_blocks (2 ^ k) b w (put_mid (place * whole) (place * whole + whole - place * whole) others part) ((place + 1) * n)
+blocks_more place whole next k w b n others part blocks is fits size next_is =
+    let gap = place * whole + whole - place * whole in
+    let now = put_mid (place * whole) gap others part in
+    let cells : n * (b * w) ≡ whole = let assoc : n * (b * w) ≡ n * b * w = omega arith in assoc ∙ ap (λ m. m * w) blocks ∙ sym is in
+    let start : place * whole ≡ place * n * (b * w) = ap (λ m. place * m) (sym cells) ∙ omega arith in
+    let kept = blocks_kept (2 ^ k) b w others now (place * n) (place * whole) (omega (arith, start))
+    (sym (take-put_mid_below (place * whole) gap others part (place * whole) (omega arith) (omega (arith, fits)))) in
+    let joined = blocks_of_part (2 ^ k) next b w (place * n) n (place * whole) whole now part next_is start (omega (arith, cells)) (written_part others part (place * whole) whole fits size) in
+    let more : place * n + n ≡ (place + 1) * n = omega arith in
+    ap (λ xs. xs ++ slot_blocks next b w part n) kept ∙ joined ∙ ap (slot_blocks (2 ^ k) b w now) more
+
+blocks_all : {T : Type 0} (place k a w b n : ℕ) (front others : List T) → n * b ≡ 2 ^ k → place + 1 ≡ 2 ^ a → length front ≡ 2 ^ k * w → place * (2 ^ k * w) ≤ length others
+    → slot_blocks 0 b w front n ++ slot_blocks (2 ^ k) b w others (place * n) ≡ slot_blocks 0 b w (front ++ others) (2 ^ a * n)
+blocks_all place k a w b n front others blocks all size room =
+    let cells : n * (b * w) ≡ 2 ^ k * w = let assoc : n * (b * w) ≡ n * b * w = omega arith in assoc ∙ ap (λ m. m * w) blocks in
+    let all_cells : place * n * (b * w) ≡ place * (2 ^ k * w) = let assoc : place * n * (b * w) ≡ place * (n * (b * w)) = omega arith in assoc ∙ ap (λ m. place * m) cells in
+    let kept = blocks_kept 0 b w front (front ++ others) n (length front) (omega (arith, size, cells)) (front_kept front others) in
+    let joined = blocks_of_part 0 (2 ^ k) b w n (place * n) (length front) (length others) (front ++ others) others (omega (arith, blocks)) (size ∙ sym cells) (omega (arith, room, all_cells)) (back_is front others) in
+    let count : n + place * n ≡ 2 ^ a * n = let next : n + place * n ≡ (place + 1) * n = omega arith in next ∙ ap (λ m. m * n) all in
+    ap (λ xs. xs ++ slot_blocks (2 ^ k) b w others (place * n)) kept ∙ joined ∙ ap (slot_blocks 0 b w (front ++ others)) count
+
 -- the slots are n blocks of b rows each, and a block is refused
 module _ {T A C R : Type 0} (value : T → A) (d : T) (k a w b n : ℕ) (wide : 1 ≤ w) (some : 1 ≤ b) (whole_blocks : n * b ≡ 2 ^ k) (out : Matrix A) (same_width : out.width ≡ w) (same_height : out.height ≡ 2 ^ (k + a))
     (step : C → ℕ → RowMajor T → Result ⊤ R → C → Type 0) where
@@ -247,7 +288,7 @@ overflow_mul-start g c =
     let a = c.args.added_bits in
     let len = length c.args.values.now in
     let is = slot_size len k a c.args.width c.requires.small c.requires.height in
-    let room = slot_room c.loop-place.place a (2 ^ k * c.args.width) len (omega (arith, slots_are k a c.requires.small, c.loop-place-test.true)) (c.requires.height ∙ slots_whole k a c.args.width) in
+    let room = slot_room c.loop-place.place a (2 ^ k * c.args.width) len (not_last c.loop-place.place _ a (slots_are k a c.requires.small) c.loop-place-test.true) (c.requires.height ∙ slots_whole k a c.args.width) in
     rw is (omega (arith, room))
 
 pub overflow_add-slot : goal.overflow_add-slot
@@ -256,7 +297,7 @@ overflow_add-slot g c =
     let a = c.args.added_bits in
     let len = length c.args.values.now in
     let is = slot_size len k a c.args.width c.requires.small c.requires.height in
-    let room = slot_room c.loop-place.place a (2 ^ k * c.args.width) len (omega (arith, slots_are k a c.requires.small, c.loop-place-test.true)) (c.requires.height ∙ slots_whole k a c.args.width) in
+    let room = slot_room c.loop-place.place a (2 ^ k * c.args.width) len (not_last c.loop-place.place _ a (slots_are k a c.requires.small) c.loop-place-test.true) (c.requires.height ∙ slots_whole k a c.args.width) in
     rw is (omega (arith, room))
 
 pub offset_bounds-others-start : goal.offset_bounds-others-start
@@ -265,7 +306,7 @@ offset_bounds-others-start g c =
     let a = c.args.added_bits in
     let len = length c.args.values.now in
     let is = slot_size len k a c.args.width c.requires.small c.requires.height in
-    let room = slot_room c.loop-place.place a (2 ^ k * c.args.width) len (omega (arith, slots_are k a c.requires.small, c.loop-place-test.true)) (c.requires.height ∙ slots_whole k a c.args.width) in
+    let room = slot_room c.loop-place.place a (2 ^ k * c.args.width) len (not_last c.loop-place.place _ a (slots_are k a c.requires.small) c.loop-place-test.true) (c.requires.height ∙ slots_whole k a c.args.width) in
     let below : c.loop-place.place * (len / (1 * 2 ^ a % 18446744073709551616)) ≤ len = rw is (omega (arith, room)) in
     scaled_fits≤ _ _ _ below (search rules)
 
@@ -275,7 +316,7 @@ slice_bounds-slot-end g c =
     let a = c.args.added_bits in
     let len = length c.args.values.now in
     let is = slot_size len k a c.args.width c.requires.small c.requires.height in
-    let room = slot_room c.loop-place.place a (2 ^ k * c.args.width) len (omega (arith, slots_are k a c.requires.small, c.loop-place-test.true)) (c.requires.height ∙ slots_whole k a c.args.width) in
+    let room = slot_room c.loop-place.place a (2 ^ k * c.args.width) len (not_last c.loop-place.place _ a (slots_are k a c.requires.small) c.loop-place-test.true) (c.requires.height ∙ slots_whole k a c.args.width) in
     rw is (omega (arith, room, is, c.loop-place.auto.others, c.split_at_mut-coefficients.ensures.back_len))
 
 pub evaluate_from-requires-clause-source : goal.evaluate_from-requires-clause-source
@@ -289,22 +330,11 @@ evaluate_from-requires-clause-height g c =
     let len = length c.args.values.now in
     let whole = len / (1 * 2 ^ a % 18446744073709551616) in
     let is = slot_size len k a c.args.width c.requires.small c.requires.height in
-    let room = slot_room c.loop-place.place a (2 ^ k * c.args.width) len (omega (arith, slots_are k a c.requires.small, c.loop-place-test.true)) (c.requires.height ∙ slots_whole k a c.args.width) in
+    let room = slot_room c.loop-place.place a (2 ^ k * c.args.width) len (not_last c.loop-place.place _ a (slots_are k a c.requires.small) c.loop-place-test.true) (c.requires.height ∙ slots_whole k a c.args.width) in
     part_length c.loop-place.others (c.loop-place.place * whole) whole (rw is (omega (arith, room, is, c.loop-place.auto.others, c.split_at_mut-coefficients.ensures.back_len))) ∙ is
 
 pub evaluate_from-requires-clause-rows : goal.evaluate_from-requires-clause-rows
-evaluate_from-requires-clause-rows g c =
-    let k = c.args.log_h in
-    let a = c.args.added_bits in
-    let place = c.loop-place.place in
-    let below : place + 1 < 2 ^ a = omega (arith, slots_are k a c.requires.small, c.loop-place-test.true) in
-    let number = slot_row place k a below c.requires.small in
-    let rows : place * 2 ^ ((k + 1) / 2) * 2 ^ (k - (k + 1) / 2) ≡ place * 2 ^ k = (let assoc : place * 2 ^ ((k + 1) / 2) * 2 ^ (k - (k + 1) / 2) ≡ place * (2 ^ ((k + 1) / 2) * 2 ^ (k - (k + 1) / 2)) = omega arith in assoc) ∙ ap (λ m. place * m) (blocks_whole k) in
-    let less : (place + 1 + 1) * 2 ^ k ≤ 2 ^ a * 2 ^ k = mul-le-mul_right (2 ^ k) (let l : place + 1 + 1 ≤ 2 ^ a = omega (arith, below) in l) in
-    let next : (place + 1 + 1) * 2 ^ k ≡ place * 2 ^ k + 2 ^ k + 2 ^ k = omega arith in
-    let all : 2 ^ a * 2 ^ k ≡ 2 ^ (k + a) = omega (arith, pow-add 2 k a) in
-    let fits : 2 ^ (k + a) < 2 ^ 64 = pow-lt c.requires.small in
-    omega (arith, number, rows, less, next, all, fits)
+evaluate_from-requires-clause-rows g c = slot_ends c.loop-place.place c.args.log_h c.args.added_bits (not_last c.loop-place.place _ c.args.added_bits (slots_are c.args.log_h c.args.added_bits c.requires.small) c.loop-place-test.true) c.requires.small
 
 pub loop-place-init : goal.loop-place-init
 loop-place-init g c =
@@ -328,34 +358,23 @@ loop-place-preserved g c =
     let len = length c.args.values.now in
     let whole = len / (1 * 2 ^ a % 18446744073709551616) in
     let is : whole ≡ 2 ^ k * w = slot_size len k a w c.requires.small c.requires.height in
-    let room = slot_room place a (2 ^ k * w) len (omega (arith, slots_are k a c.requires.small, c.loop-place-test.true)) (c.requires.height ∙ slots_whole k a w) in
-    let fits : place * whole + whole ≤ length c.loop-place.others = rw is (omega (arith, room, is, c.loop-place.auto.others, c.split_at_mut-coefficients.ensures.back_len)) in
+    let below = not_last place _ a (slots_are k a c.requires.small) c.loop-place-test.true in
+    let fits = slot_fits place a (2 ^ k * w) len whole _ (length c.loop-place.others) below (c.requires.height ∙ slots_whole k a w) is c.split_at_mut-coefficients.ensures.back_len c.loop-place.auto.others in
+    let size = c.evaluate_from.auto.values ∙ part_length c.loop-place.others (place * whole) whole fits in
     let roots : AreRoots field.ring (k + a) gen = fewer_roots field.ring (k + a) _ c.requires.within g.met.F.TwoAdicField.roots_law in
     let coefficients = c.split_at_mut-coefficients.result.0.now in
     record {
       slots = part-more field.ZERO (2 ^ k * w) _ _ c.loop-place.others c.evaluate_from.new.values place whole is fits
-          (c.evaluate_from.auto.values ∙ part_length c.loop-place.others (place * whole) whole fits ∙ is)
+          (size ∙ is)
           (λ u inside t j p q at.
           ap (λ n. field.value (get_or c.evaluate_from.new.values n field.ZERO)) at ∙ c.in_default.ensures.accepted.0 t j p q
           ∙ ap (poly field.ring (2 ^ k) (λ q. field.value (get_or coefficients (rev k q * w + j) field.ZERO)))
           (ap (λ x. point field.ring gen k x (rev k t)) c.table_of_slot-table.ensures.1 ∙ slot_point field.ring roots s k a (place + 1) t (omega arith) p))
           c.loop-place.invariant.slots;
       told =
-          let step = g.C.BlockConsumer.step in
-          let b = 2 ^ (k - (k + 1) / 2) in
-          let n = 2 ^ ((k + 1) / 2) in
-          let part = c.evaluate_from.new.values in
-          let now = put_mid (place * whole) (place * whole + whole - place * whole) c.loop-place.others part in
-          let size : length part ≡ whole = c.evaluate_from.auto.values ∙ part_length c.loop-place.others (place * whole) whole fits in
-          let start = slot_start place k w whole is in
-          let kept = blocks_kept (2 ^ k) b w c.loop-place.others now (place * n) (place * whole) (omega (arith, start))
-          (sym (take-put_mid_below (place * whole) (place * whole + whole - place * whole) c.loop-place.others part (place * whole) (omega arith) (omega (arith, fits)))) in
-          let joined = blocks_of_part (2 ^ k) _ b w (place * n) n (place * whole) whole now part (slot_row place k a (omega (arith, slots_are k a c.requires.small, c.loop-place-test.true)) c.requires.small) start
-          (omega (arith, is, cells_whole k w)) (written_part c.loop-place.others part (place * whole) whole fits size) in
-          let more : place * n + n ≡ (place + 1) * n = omega arith in
-          subst (λ blocks. Run step c.args.consumer.now blocks c.evaluate_from.new.consumer) (joined ∙ ap (slot_blocks (2 ^ k) b w now) more)
-          (run_joined step _ _ c.args.consumer.now c.loop-place.consumer c.evaluate_from.new.consumer
-          (subst (λ blocks. Run step c.args.consumer.now blocks c.loop-place.consumer) kept c.loop-place.invariant.told) c.in_default.ensures.accepted.1);
+          subst (λ blocks. Run g.C.BlockConsumer.step c.args.consumer.now blocks c.evaluate_from.new.consumer)
+          (blocks_more place whole _ k w (2 ^ (k - (k + 1) / 2)) (2 ^ ((k + 1) / 2)) c.loop-place.others c.evaluate_from.new.values (blocks_whole k) is fits size (slot_row place k a below c.requires.small))
+          (run_joined g.C.BlockConsumer.step _ _ c.args.consumer.now c.loop-place.consumer c.evaluate_from.new.consumer c.loop-place.invariant.told c.in_default.ensures.accepted.1);
       grows = omega (arith, c.loop-place.invariant.grows, c.evaluate_from.ensures.grows);
       count = count_more 1 place (w * (k * 2 ^ k / 2)) _ _ _ c.loop-place.invariant.count (omega (arith, c.evaluate_from.ensures.count));
     }
@@ -384,9 +403,8 @@ returns-in-Err-clause-refused g c =
     let coefficients = c.split_at_mut-coefficients.result.0.now in
     let back = c.split_at_mut-coefficients.result.1.now in
     let is : whole ≡ 2 ^ k * w = slot_size len k a w c.requires.small c.requires.height in
-    let below : place + 1 < 2 ^ a = omega (arith, slots_are k a c.requires.small, c.loop-place-test.true) in
-    let room = slot_room place a (2 ^ k * w) len below (c.requires.height ∙ slots_whole k a w) in
-    let fits : place * whole + whole ≤ length c.loop-place.others = rw is (omega (arith, room, is, c.loop-place.auto.others, c.split_at_mut-coefficients.ensures.back_len)) in
+    let below = not_last place _ a (slots_are k a c.requires.small) c.loop-place-test.true in
+    let fits = slot_fits place a (2 ^ k * w) len whole _ (length c.loop-place.others) below (c.requires.height ∙ slots_whole k a w) is c.split_at_mut-coefficients.ensures.back_len c.loop-place.auto.others in
     let split = c.split_at_mut-coefficients.ensures.value in
     let source : length coefficients ≡ 2 ^ k * w = c.split_at_mut-coefficients.ensures.front_len ∙ is in
     let roots : AreRoots field.ring (k + a) (forward_root field g.F.TwoAdicField.generator) = fewer_roots field.ring (k + a) _ c.requires.within g.met.F.TwoAdicField.roots_law in
@@ -441,33 +459,23 @@ returns-clause-values g c =
 
 pub returns-clause-published : goal.returns-clause-published
 returns-clause-published g c =
-    let field = g.F.Field in
-    let step = g.C.BlockConsumer.step in
     let k = c.args.log_h in
     let a = c.args.added_bits in
     let w = c.args.width in
     let b = 2 ^ (k - (k + 1) / 2) in
     let n = 2 ^ ((k + 1) / 2) in
     let place = c.loop-place.place in
-    let len = length c.args.values.now in
     let front = c.evaluate_in_place.new.values in
     let others = c.loop-place.others in
-    let is = slot_size len k a w c.requires.small c.requires.height in
-    let size : length front ≡ 2 ^ k * w = c.evaluate_in_place.auto.values ∙ c.split_at_mut-coefficients.ensures.front_len ∙ is in
-    let all : place + 1 ≡ 2 ^ a = omega (arith, slots_are k a c.requires.small, pow_pos a, c.loop-place-test.false, c.loop-place.auto.place-end) in
-    let full : len ≡ (place + 1) * (2 ^ k * w) = c.requires.height ∙ slots_whole k a w ∙ ap (λ m. m * (2 ^ k * w)) (sym all) in
-    let room : place * (2 ^ k * w) ≤ length others = let next : (place + 1) * (2 ^ k * w) ≡ place * (2 ^ k * w) + 2 ^ k * w = omega arith in omega (arith, full, next, is, c.loop-place.auto.others, c.split_at_mut-coefficients.ensures.back_len) in
-    let cells : place * n * (b * w) ≡ place * (2 ^ k * w) = sym (slot_start place k w (2 ^ k * w) refl) in
-    let kept = blocks_kept 0 b w front (front ++ others) n (length front) (omega (arith, size, cells_whole k w)) (front_kept front others) in
-    let joined = blocks_of_part 0 (2 ^ k) b w n (place * n) (length front) (length others) (front ++ others) others (omega (arith, blocks_whole k)) (size ∙ sym (cells_whole k w)) (omega (arith, room, cells))
-    (back_is front others) in
-    let count : 2 ^ a * n ≡ n + place * n = ap (λ m. m * n) (sym all) ∙ omega arith in
-    let whole = ap (slot_blocks 0 b w (front ++ others)) count ∙ sym joined ∙ ap (λ xs. xs ++ slot_blocks (2 ^ k) b w others (place * n)) (sym kept) in
+    let is = slot_size (length c.args.values.now) k a w c.requires.small c.requires.height in
+    let all = last_slot place a _ (slots_are k a c.requires.small) c.loop-place-test.false c.loop-place.auto.place-end in
+    let room = others_room place a (2 ^ k * w) (length c.args.values.now) _ _ (length others) all (c.requires.height ∙ slots_whole k a w) is c.split_at_mut-coefficients.ensures.back_len c.loop-place.auto.others in
+    let whole = blocks_all place k a w b n front others (blocks_whole k) all (c.evaluate_in_place.auto.values ∙ c.split_at_mut-coefficients.ensures.front_len ∙ is) room in
     on_ok_weaker c.evaluate_in_place.result
     (λ given. (
       slot_blocks (2 ^ k) b w others (place * n) ++ slot_blocks 0 b w front n,
-      subst (λ xs. IsPermutation xs (slot_blocks (2 ^ k) b w others (place * n) ++ slot_blocks 0 b w front n)) (sym whole) (IsPermutation-append_comm (slot_blocks 0 b w front n) (slot_blocks (2 ^ k) b w others (place * n))),
-      run_joined step _ _ c.args.consumer.now c.loop-place.consumer c.evaluate_in_place.new.consumer c.loop-place.invariant.told given.1,
+      subst (λ xs. IsPermutation xs (slot_blocks (2 ^ k) b w others (place * n) ++ slot_blocks 0 b w front n)) whole (IsPermutation-append_comm (slot_blocks 0 b w front n) (slot_blocks (2 ^ k) b w others (place * n))),
+      run_joined g.C.BlockConsumer.step _ _ c.args.consumer.now c.loop-place.consumer c.evaluate_in_place.new.consumer c.loop-place.invariant.told given.1,
     ))
     c.evaluate_in_place.ensures.accepted
 
