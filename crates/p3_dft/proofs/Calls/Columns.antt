@@ -12,6 +12,10 @@ module _ {F : Type 0} (m : RowMajor F) (before : List F) (n : ℕ) (column : m �
   pub vector_width : m.width ≡ 1
   vector_width = ap (λ (r : RowMajor F). r.width) column
 
+  -- d numbers for each entry of a row
+  pub vector_row : (d : ℕ) → m.width * d ≡ d
+  vector_row d = ap (λ w. w * d) vector_width ∙ omega arith
+
   -- the matrix fits where the vector does
   pub vector_fits : (most : ℕ) → FitsDft most n 1 → FitsDft most (height m) m.width
   vector_fits most fits =

@@ -1,9 +1,11 @@
 -- Matrices over a vector space, and the matrices of their coordinates: how many entries there are, and columns.
-use Rattle.std.proofs.Common.{◌≡◌, ℕ, zero, suc, ◌+◌, ◌*◌, ◌/◌, ◌%◌, ◌^◌, ◌<◌, ◌≤◌, ◌++◌, List, [], ◌∷◌, length, take, refl, sym, ap, ap₂, ◌∙◌, arith}
+use Rattle.std.proofs.Common.{◌≡◌, ℕ, zero, suc, ◌+◌, ◌*◌, ◌/◌, ◌%◌, ◌^◌, ◌<◌, ◌≤◌, ◌++◌, List, [], ◌∷◌, Result, length, take, refl, sym, ap, ap₂, subst, ◌∙◌, arith}
 use Rattle.std.specs.List.{flat_map}
+use Rattle.std.specs.Result.{IfOk}
 use Rattle.std.proofs.Math.Nat.{mul_assoc, mul-div_cancel, mul-div-mul_right, mul-mod_left, mul-add-mod_self_right, mod-eq_of_lt}
 use Rattle.std.proofs.lemmas.List.{append-nil, length-append, nil_from_length, take_all}
 use Rattle.std.proofs.lemmas.List.Concat.{flat_map-cons}
+use Rattle.std.proofs.lemmas.Result.{IfOk-weaker}
 use Rattle.p3_field.specs.declared.algebra.BasedVectorSpace.{Ghosts as SpaceMembers}
 use Rattle.p3_matrix.specs.RowMajor.{RowMajor, IsRowMajor, height}
 use Rattle.p3_dft.specs.Coordinates.{flat, flat_column}
@@ -86,3 +88,15 @@ module _ {F V : Type 0} (v : SpaceMembers V F) (counted : (x : V) → length (v.
       pub gathered-flat : (out : RowMajor V) → out ≡ record { width = w; values = xs } → flat v out ≡ m
       gathered-flat out is =
           ap (flat v) is ∙ ap₂ (λ (n : ℕ) (ys : List F). record { width = n; values = ys }) (sym width) gathered
+
+  -- what a call answers of the matrix of all coordinates, the matrix that is gathered from its answer answers
+  module _ (m : RowMajor V) (cells : RowMajor F) (cells_are : cells ≡ flat v m) where
+    pub gathered_answer : {E : Type 0} (P : RowMajor F → RowMajor F → Type 0) (natural stored : RowMajor F) (r : Result (RowMajor V) E)
+        → stored ≡ natural → IfOk r (λ out. flat v out ≡ stored) → P cells natural → IfOk r (λ out. P (flat v m) (flat v out))
+    gathered_answer P natural stored r same gathered given =
+        IfOk-weaker r _ _ (λ out is. subst (λ a. P a (flat v out)) cells_are (subst (P cells) (sym (is ∙ same)) given)) gathered
+
+    -- and it is as wide
+    pub gathered_width : (stored natural : RowMajor F) (w d : ℕ) → stored ≡ natural → natural.width ≡ cells.width → w ≡ m.width → d ≡ v.DIMENSION → stored.width ≡ w * d
+    gathered_width stored natural w d same wide w_is d_is =
+        ap (λ (a : RowMajor F). a.width) same ∙ wide ∙ ap (λ (a : RowMajor F). a.width) cells_are ∙ sym (ap₂ ◌*◌ w_is d_is)

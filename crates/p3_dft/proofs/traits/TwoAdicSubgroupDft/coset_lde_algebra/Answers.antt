@@ -1,5 +1,6 @@
 use Rattle.std.proofs.Common.{◌∙◌, arith}
 use Rattle.p3_dft.specs.Extensions.{IsExtension}
+use Rattle.p3_dft.proofs.Calls.Columns.{vector_height, vector_row}
 use Rattle.p3_dft.proofs.Calls.Coordinates.{column_height, of_columns}
 use Rattle.p3_dft.proofs.traits.TwoAdicSubgroupDft.coset_lde_algebra.Goals as goal
 
@@ -17,3 +18,11 @@ returns-clause-values g c =
     of_columns v counted m out before after fits.wide c.new_col.ensures c.into_values.ensures.values
     (λ a b. IsExtension g.F.Field g.F.TwoAdicField.generator a c.args.added_bits (g.F.Field.value c.args.shift) b)
     ((given.extended fits.log tall).wide ∙ (given.are_coefficients fits.log tall).wide) given
+
+pub returns-clause-serves : goal.returns-clause-serves
+returns-clause-serves g c k high = c.in_ok-coset_lde_algebra_batch.ensures.serves k (vector_height c.new_col.result c.args.vec.items _ c.new_col.ensures c.args.vec.ok.0 k high)
+
+pub returns-clause-cost : goal.returns-clause-cost
+returns-clause-cost g c k high =
+    let given = c.in_ok-coset_lde_algebra_batch.ensures.cost k (vector_height c.new_col.result c.args.vec.items _ c.new_col.ensures c.args.vec.ok.0 k high) in
+    rw (vector_row c.new_col.result c.args.vec.items _ c.new_col.ensures c.args.vec.ok.0 g.V.BasedVectorSpace.DIMENSION) at given

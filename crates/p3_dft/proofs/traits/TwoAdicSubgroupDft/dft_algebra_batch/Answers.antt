@@ -1,0 +1,25 @@
+use Rattle.std.proofs.Common.{◌∙◌, refl}
+use Rattle.std.proofs.lemmas.Result.{IfOk-weaker}
+use Rattle.p3_dft.specs.Transforms.{IsTransform}
+use Rattle.p3_dft.proofs.Calls.Coordinates.{gathered_answer, gathered_width}
+use Rattle.p3_dft.proofs.traits.TwoAdicSubgroupDft.dft_algebra_batch.Goals as goal
+
+pub gather-requires : goal.gather-requires
+gather-requires g c =
+    gathered_width g.V.BasedVectorSpace g.met.V.BasedVectorSpace.dimension_law c.args.mat c.in_ok-flatten.field-0 c.in_ok-flatten.ensures.flat
+    c.to_row_major_matrix.result (g.Self.Evaluations.Evaluations.natural c.in_ok-values.values) c.width-width.result g.V.BasedVectorSpace.DIMENSION
+    c.to_row_major_matrix.ensures (c.in_ok-values.ensures.values c.requires.log (c.in_ok-flatten.ensures.height ∙ c.requires.high)).wide c.width-width.ensures.width refl
+
+pub returns-clause-values : goal.returns-clause-values
+returns-clause-values g c =
+    gathered_answer g.V.BasedVectorSpace g.met.V.BasedVectorSpace.dimension_law c.args.mat c.in_ok-flatten.field-0 c.in_ok-flatten.ensures.flat
+    (λ a b. IsTransform g.F.Field g.F.TwoAdicField.generator a g.F.Field.ring.one b)
+    (g.Self.Evaluations.Evaluations.natural c.in_ok-values.values) c.to_row_major_matrix.result c.gather.result c.to_row_major_matrix.ensures c.gather.ensures c.in_ok-values.ensures.values
+
+pub returns-clause-serves : goal.returns-clause-serves
+returns-clause-serves g c k e =
+    IfOk-weaker c.gather.result _ _ (λ out is. c.in_ok-values.ensures.serves k (c.in_ok-flatten.ensures.height ∙ e)) c.gather.ensures
+
+pub returns-clause-cost : goal.returns-clause-cost
+returns-clause-cost g c k e =
+    IfOk-weaker c.gather.result _ _ (λ out is. rw c.in_ok-flatten.ensures.flat at (c.in_ok-values.ensures.cost k (c.in_ok-flatten.ensures.height ∙ e))) c.gather.ensures
