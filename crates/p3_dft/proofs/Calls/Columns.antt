@@ -28,6 +28,18 @@ module _ {F : Type 0} (m : RowMajor F) (before : List F) (n : ℕ) (column : m �
         size = omega (arith, fits.size, fits.high, ap₂ (λ (h w : ℕ). h * w) high vector_width);
       }
 
+  -- and the row of d numbers for each entry
+  pub vector_row_fits : (most d : ℕ) → FitsDft most n d → FitsDft most (height m) (m.width * d)
+  vector_row_fits most d fits =
+      let high = vector_height fits.log fits.high in
+      record {
+        log = fits.log;
+        within = fits.within;
+        high = high;
+        wide = omega (arith, fits.wide, vector_row d);
+        size = omega (arith, fits.size, ap (λ h. h * d) fits.high, ap₂ (λ (h w : ℕ). h * w) high (vector_row d));
+      }
+
   -- an answer of the matrix that is as wide, as the vector of its values
   pub vector_answer : (P : RowMajor F → RowMajor F → Type 0) (out : RowMajor F) (after : List F) → after ≡ out.values → out.width ≡ m.width → P m out → P (one_column before) (one_column after)
   vector_answer P out after items same given =

@@ -1,6 +1,6 @@
 use Rattle.std.proofs.Common.{arith}
 use Rattle.p3_dft.specs.Transforms.{IsInterpolation}
-use Rattle.p3_dft.proofs.Calls.Columns.{vector_height, vector_row}
+use Rattle.p3_dft.proofs.Calls.Columns.{vector_height, vector_row, vector_row_fits}
 use Rattle.p3_dft.proofs.Calls.Coordinates.{column_height, of_columns}
 use Rattle.p3_dft.proofs.traits.TwoAdicSubgroupDft.coset_idft_algebra.Goals as goal
 
@@ -26,3 +26,7 @@ pub returns-clause-cost : goal.returns-clause-cost
 returns-clause-cost g c k high =
     let given = c.in_ok-coset_idft_algebra_batch.ensures.cost k (vector_height c.new_col.result c.args.vec.items _ c.new_col.ensures c.args.vec.ok.0 k high) in
     rw (vector_row c.new_col.result c.args.vec.items _ c.new_col.ensures c.args.vec.ok.0 g.V.BasedVectorSpace.DIMENSION) at given
+
+pub coset_idft_algebra_batch-requires-clause-fits : goal.coset_idft_algebra_batch-requires-clause-fits
+coset_idft_algebra_batch-requires-clause-fits g c =
+    vector_row_fits c.new_col.result c.args.vec.items _ c.new_col.ensures c.args.vec.ok.0 g.F.TwoAdicField.TWO_ADICITY g.V.BasedVectorSpace.DIMENSION c.requires.fits

@@ -1,7 +1,7 @@
 use Rattle.std.proofs.Common.{◌∙◌, refl}
 use Rattle.std.proofs.lemmas.Result.{IfOk-weaker}
 use Rattle.p3_dft.specs.Transforms.{IsInterpolation}
-use Rattle.p3_dft.proofs.Calls.Coordinates.{gathered_answer, gathered_width}
+use Rattle.p3_dft.proofs.Calls.Coordinates.{flat_fits, gathered_answer, gathered_width}
 use Rattle.p3_dft.proofs.traits.TwoAdicSubgroupDft.coset_idft_algebra_batch.Goals as goal
 
 pub gather-requires : goal.gather-requires
@@ -23,3 +23,8 @@ returns-clause-serves g c k e =
 pub returns-clause-cost : goal.returns-clause-cost
 returns-clause-cost g c k e =
     IfOk-weaker c.gather.result _ _ (λ out is. rw c.in_ok-flatten.ensures.flat at (c.in_ok-coefficients.ensures.cost k (c.in_ok-flatten.ensures.height ∙ e))) c.gather.ensures
+
+pub coset_idft_batch-requires-clause-fits : goal.coset_idft_batch-requires-clause-fits
+coset_idft_batch-requires-clause-fits g c =
+    flat_fits g.V.BasedVectorSpace g.met.V.BasedVectorSpace.dimension_law c.args.mat c.in_ok-flatten.field-0 c.in_ok-flatten.ensures.flat g.F.TwoAdicField.TWO_ADICITY
+    c.in_ok-flatten.ensures.height c.requires.fits
