@@ -1,15 +1,16 @@
-use Rattle.std.proofs.Common.{◌≡◌, ◌⊎◌, inl, inr, Bool, false, ℕ, ◌^◌, ◌∷◌, [], ◌++◌, List, IsTrue, refl, sym, ap, ◌∙◌, subst, arith, rules}
+use Rattle.std.proofs.Common.{◌≡◌, ◌⊎◌, inl, inr, Bool, false, ℕ, ◌^◌, ◌∷◌, [], ◌++◌, List, IsTrue, refl, sym, ap, ◌∙◌, subst, arith, rules, IfOk}
 use Rattle.p3_matrix.specs.RowMajor.{RowMajor, height}
-use Rattle.p3_matrix.specs.BitOrder.{bit_reversal}
+use Rattle.p3_matrix.specs.BitOrder.{bit_reversal, reversed_rows}
 use Rattle.p3_matrix.proofs.TwoPowers.{log_same}
 use Rattle.p3_networks.specs.Cosets.{IsValues}
-use Rattle.p3_dft.specs.Transforms.{values_of}
+use Rattle.p3_dft.specs.Transforms.{values_of, IsTransform}
 use Rattle.p3_networks.specs.Twiddles.{Coset, HasCoset}
 use Rattle.p3_dft.specs.Engines.{CosetTabled, IsPrepared}
 use Rattle.p3_dft.proofs.Calls.PreparedHeights.{not_ok}
 use Rattle.p3_dft.proofs.Calls.PreparedCosets.{coset_stays, later_with_tables}
 use Rattle.p3_dft.proofs.BitReversed.OneRow.{row_handed_back, row_seen}
 use Rattle.p3_dft.proofs.BitReversed.Rows.{transform_seen}
+use Rattle.std.proofs.lemmas.Result.{on_ok_weaker}
 use Rattle.p3_dft.proofs.radix_2_dit_parallel.Radix2DitParallelTwoAdicSubgroupDft.coset_dft_batch.Goals as goal
 
 not_both : (b : Bool) → b ≡ false → IsTrue b → ⊥
@@ -20,6 +21,12 @@ its_table : {O T P H : Type 0} → (O → ⊥) → (P → ⊥) → P ⊎ ((O × 
 its_table other more (inl point) = absurd (more point)
 its_table other more (inr (inl (one, there))) = absurd (other one)
 its_table other more (inr (inr (other_too, has))) = has
+
+-- the subgroup is prepared where the coset of one is
+its_heights : {O N Q H : Type 0} → O → N ⊎ ((O × (N ⊎ Q)) ⊎ ((O → ⊥) × H)) → N ⊎ Q
+its_heights one (inl point) = inl point
+its_heights one (inr (inl (same, there))) = there
+its_heights one (inr (inr (other, has))) = absurd (other one)
 
 pub returns-then-height-eq1-clause-values : goal.returns-then-height-eq1-clause-values
 returns-then-height-eq1-clause-values g c =
@@ -141,3 +148,39 @@ returns-clause-pairs g c k high =
 
 pub returns-clause-cost : goal.returns-clause-cost
 returns-clause-cost g c k high = let few = returns-clause-pairs g c k high in omega (arith, few)
+
+pub returns-clause-one_row : goal.returns-clause-one_row
+returns-clause-one_row g c one = absurd (c.if-height-eq1.false (c.height-height.ensures.height ∙ ap height c.into_row_major_matrix-mat.ensures ∙ one))
+
+pub returns-clause-one : goal.returns-clause-one
+returns-clause-one g c is =
+    absurd (not_both c.eq.result c.if-eq.false (search (rules, (g.met.F.Field.eq_law c.args.shift c.ONE.result).1 (is ∙ sym (ap g.F.Field.value c.ONE.ensures ∙ g.met.F.Field.one_law)))))
+
+pub returns-then-eq-clause-values : goal.returns-then-eq-clause-values
+returns-then-eq-clause-values g c =
+    let field = g.F.Field in
+    let is : g.F.Field.value c.args.shift ≡ g.F.Field.ring.one =
+    (g.met.F.Field.eq_law c.args.shift c.ONE.result).0 (search rules) ∙ ap g.F.Field.value c.ONE.ensures ∙ g.met.F.Field.one_law in
+    subst (λ (s : field.Element). IfOk c.dft_batch.result (λ out. IsTransform field g.F.TwoAdicField.generator (g.N.IntoRowMajorMatrix.stored c.args.mat) s (reversed_rows out.bits out.physical)))
+    (sym is) c.dft_batch.ensures.values
+
+pub returns-then-eq-clause-succeeds : goal.returns-then-eq-clause-succeeds
+returns-then-eq-clause-succeeds g c k high heights ready = c.dft_batch.ensures.succeeds k high heights
+
+pub returns-then-eq-clause-ready : goal.returns-then-eq-clause-ready
+returns-then-eq-clause-ready g c k high ready =
+    let is : g.F.Field.value c.args.shift ≡ g.F.Field.ring.one =
+    (g.met.F.Field.eq_law c.args.shift c.ONE.result).0 (search rules) ∙ ap g.F.Field.value c.ONE.ensures ∙ g.met.F.Field.one_law in
+    c.dft_batch.ensures.succeeds k high (its_heights is ready)
+
+pub returns-then-eq-clause-tables : goal.returns-then-eq-clause-tables
+returns-then-eq-clause-tables g c k high =
+    let is : g.F.Field.value c.args.shift ≡ g.F.Field.ring.one =
+    (g.met.F.Field.eq_law c.args.shift c.ONE.result).0 (search rules) ∙ ap g.F.Field.value c.ONE.ensures ∙ g.met.F.Field.one_law in
+    on_ok_weaker c.dft_batch.result (λ there. inr (inl (is, there))) (c.dft_batch.ensures.serves k high)
+
+pub returns-then-eq-clause-roots : goal.returns-then-eq-clause-roots
+returns-then-eq-clause-roots g c other =
+    let is : g.F.Field.value c.args.shift ≡ g.F.Field.ring.one =
+    (g.met.F.Field.eq_law c.args.shift c.ONE.result).0 (search rules) ∙ ap g.F.Field.value c.ONE.ensures ∙ g.met.F.Field.one_law in
+    absurd (other is)

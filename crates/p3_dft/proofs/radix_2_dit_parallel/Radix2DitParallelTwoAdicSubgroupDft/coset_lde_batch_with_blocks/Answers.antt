@@ -257,3 +257,18 @@ returns-clause-once g c k e all =
     let field = g.F.Field in
     let held = subst (λ (x : CosetTabled g.row.F.Denot). HasCosets field g.F.TwoAdicField.generator x.cosets k c.args.added_bits (field.value c.args.shift)) (sym c.self.view_is) all in
     c.coefficients_with_room-room.ensures.once k (ap height c.into_row_major_matrix-mat.ensures ∙ e) held ∙ ap (λ (x : CosetTabled g.row.F.Denot). x.cosets) c.self.view_is
+
+pub coefficients_with_room-room-requires-clause-fits : goal.coefficients_with_room-room-requires-clause-fits
+coefficients_with_room-room-requires-clause-fits g c = rw c.into_row_major_matrix-mat.ensures c.requires.fits
+
+pub coefficients_with_room-room-requires-clause-callable : goal.coefficients_with_room-room-requires-clause-callable
+coefficients_with_room-room-requires-clause-callable g c = rw c.into_row_major_matrix-mat.ensures c.requires.callable
+
+pub coefficients_with_room-room-requires-clause-shape : goal.coefficients_with_room-room-requires-clause-shape
+coefficients_with_room-room-requires-clause-shape g c = rw c.into_row_major_matrix-mat.ensures c.requires.shape
+
+pub returns-clause-tables : goal.returns-clause-tables
+returns-clause-tables g c k e = c.in-Ok.ensures.cosets k (ap height c.into_row_major_matrix-mat.ensures ∙ e)
+
+pub returns-in-Err-extended-clause-tables : goal.returns-in-Err-extended-clause-tables
+returns-in-Err-extended-clause-tables g c k e = c.in-Ok.ensures.cosets k (ap height c.into_row_major_matrix-mat.ensures ∙ e)

@@ -108,3 +108,9 @@ returns-clause-cost g c k high =
     let products : c.self.inside.products ≡ c.args.self.now.roots.products = ap (λ (e : CosetTabled g.row.F.Denot). e.roots.products) c.self.view_is in
     let width = ap (λ (m : RowMajor g.row.F.Denot). m.width) c.into_row_major_matrix-mat.ensures in
     rw (← products, ← width, ← same) c.interpolate.ensures.cost
+
+pub returns-clause-one_row : goal.returns-clause-one_row
+returns-clause-one_row g c one = absurd (c.if-height-eq1.false (c.height-height.ensures.height ∙ ap height c.into_row_major_matrix-mat.ensures ∙ one))
+
+pub returns-clause-cosets : goal.returns-clause-cosets
+returns-clause-cosets g c = ap (λ (e : CosetTabled g.row.F.Denot). e.cosets) c.self.view_is
