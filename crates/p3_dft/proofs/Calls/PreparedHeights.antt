@@ -1,8 +1,9 @@
 -- Which heights are prepared where all up to one are.
-use Rattle.std.proofs.Common.{◌≡◌, ◌⊎◌, inl, inr, ℕ, zero, suc, ◌<◌, ◌≤◌, ◌^◌, List, Result, Ok, Err, IsOk, refl, ◌∙◌, arith, rules}
+use Rattle.std.specs.Prelude.{⊤}
+use Rattle.std.proofs.Common.{◌≡◌, ◌⊎◌, inl, inr, ℕ, zero, suc, ◌<◌, ◌≤◌, ◌^◌, List, Result, Ok, Err, IsOk, refl, ◌∙◌, subst, arith, rules}
 use Rattle.std.specs.List.{Contains, range_with_len}
 use Rattle.std.proofs.lemmas.List.FromFn.{get_or-range_with_len, length-range_with_len}
-use Rattle.p3_dft.specs.Engines.{Tabled, IsPrepared}
+use Rattle.p3_dft.specs.Engines.{Tabled, IsLater, IsPrepared}
 
 -- a height is prepared with every larger one
 pub prepared_with_larger : (e : Tabled) (k n : ℕ) → k ≤ n → IsPrepared e n → IsPrepared e k
@@ -28,6 +29,22 @@ until_prepared n k (inr (m, above, (i, inside, is))) =
 pub prepared_before : (old new log n : ℕ) → (new ≡ old) ⊎ (new ≡ log) → PreparedBy (range_with_len 1 new) n → PreparedBy (range_with_len 1 old) n ⊎ (n ≤ log)
 prepared_before old new log n (inl same) now = inl (prepared_until old n (let held = until_prepared new n now in omega (arith, held, same)))
 prepared_before old new log n (inr made) now = inr (let held = until_prepared new n now in omega (arith, held, made))
+
+-- an engine with twiddles of all heights up to one, and so many products
+abbrev pub up_to : ℕ → ℕ → Tabled
+up_to log products = record { prepared = range_with_len 1 log; products = products }
+
+-- no height and no product is lost
+pub later_with_heights : {F : Type 0} (before : Tabled) (log more_log products more_products : ℕ) → up_to log products ≡ before → log ≤ more_log → products ≤ more_products
+    → IsLater IsPrepared (λ (e : Tabled) (k : ℕ) (s : F). ⊤) IsPrepared (λ (e : Tabled). e.products) before (up_to more_log more_products)
+later_with_heights {F} before log more_log products more_products is higher grows =
+    let still = λ (k : ℕ) (there : IsPrepared (up_to log products) k). prepared_until more_log k (let held = until_prepared log k there in omega (arith, held, higher)) in
+    subst (λ (e : Tabled). IsLater IsPrepared (λ (e : Tabled) (k : ℕ) (s : F). ⊤) IsPrepared (λ (e : Tabled). e.products) e (up_to more_log more_products)) is (record {
+      keeps = still;
+      keeps_cosets = λ k s none. tt;
+      keeps_served = still;
+      grows = grows;
+    })
 
 -- a refusal is no answer
 pub not_ok : {A E : Type 0} (r : Result A E) (e : E) → r ≡ Err e → IsOk r → ⊥

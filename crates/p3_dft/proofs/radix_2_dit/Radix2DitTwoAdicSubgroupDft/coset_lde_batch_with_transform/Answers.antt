@@ -1,4 +1,4 @@
-use Rattle.std.proofs.Common.{ℕ, ◌≡◌, ◌+◌, ◌*◌, ◌/◌, ◌^◌, ◌∙◌, refl, ap, ap₂, arith}
+use Rattle.std.proofs.Common.{ℕ, ◌≡◌, ◌+◌, ◌*◌, ◌/◌, ◌^◌, ◌∙◌, refl, ap, ap₂, arith, ◌≤◌}
 use Rattle.std.specs.Prelude.{⊤}
 use Rattle.std.proofs.lemmas.Result.{IfOk-weaker, on_ok_weaker}
 use Rattle.p3_matrix.specs.RowMajor.{height}
@@ -8,6 +8,12 @@ use Rattle.p3_dft.proofs.Calls.ExtendedTransforms.{answered_shape, extension_of_
 use Rattle.p3_dft.proofs.Calls.Padding.{padded_shape}
 use Rattle.p3_dft.proofs.Calls.Shapes.{input_fits, output_fits, output_log_small, output_size}
 use Rattle.p3_dft.proofs.radix_2_dit.Radix2DitTwoAdicSubgroupDft.coset_lde_batch_with_transform.Goals as goal
+
+-- an inverse, a product for each of its entries and a transform
+zeros_counted : (after added middle before products start scaled bound entries more_bound last_bound : ℕ) → middle ≤ before + bound + entries → products ≤ start + scaled → added ≡ middle + products
+    → start ≡ 0 → scaled ≡ entries → last_bound ≡ more_bound → after ≤ added + last_bound → after ≤ before + (bound + more_bound + 2 * entries)
+zeros_counted after added middle before products start scaled bound entries more_bound last_bound first second counted none same last third =
+    omega (arith, first, second, counted, none, same, last, third)
 
 pub idft_batch-requires : goal.idft_batch-requires
 idft_batch-requires g c = input_fits _ _ _ _ c.requires.fits
@@ -86,4 +92,4 @@ returns-clause-cost g c = λ k e.
     let counted = c.add_products.ensures.made in
     let none = c.new-products.ensures in
     let last : c.in_ok-padded.padded.width * ((k + a) * 2 ^ (k + a) / 2) ≡ m.width * ((k + a) * 2 ^ (k + a) / 2) = ap (λ w. w * ((k + a) * 2 ^ (k + a) / 2)) grown.1 in
-    on_ok_weaker c.dft_batch.result (λ more. omega (arith, more, first, scaled, counted, none, entries, last)) (c.dft_batch.ensures.cost (k + a) grown.0)
+    on_ok_weaker c.dft_batch.result (λ more. zeros_counted _ _ _ _ _ _ _ _ _ _ _ first scaled counted none entries last more) (c.dft_batch.ensures.cost (k + a) grown.0)

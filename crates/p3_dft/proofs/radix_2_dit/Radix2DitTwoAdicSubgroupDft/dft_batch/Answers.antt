@@ -5,8 +5,9 @@ use Rattle.p3_matrix.proofs.TwoPowers.{log_same}
 use Rattle.p3_networks.specs.Twiddles.{root_powers}
 use Rattle.p3_dft.specs.Engines.{Tabled, IsPrepared}
 use Rattle.p3_networks.proofs.Tables.MoreTwiddles.{fewer_layers}
-use Rattle.p3_dft.proofs.Calls.PreparedHeights.{not_ok, prepared_before, prepared_until, until_prepared}
+use Rattle.p3_dft.proofs.Calls.PreparedHeights.{not_ok, prepared_before, prepared_until, until_prepared, later_with_heights}
 use Rattle.p3_dft.proofs.BitReversed.Rows.{transform_of_row}
+use Rattle.std.proofs.Math.Nat.{le_refl}
 use Rattle.p3_dft.proofs.radix_2_dit.Radix2DitTwoAdicSubgroupDft.dft_batch.Goals as goal
 
 pub returns-then-height-eq1-clause-values : goal.returns-then-height-eq1-clause-values
@@ -76,16 +77,7 @@ returns-clause-only g c k high n now =
     (subst (λ (e : Tabled). IsPrepared e n ⊎ (n ≤ log)) c.self.view_is (prepared_before c.self.inside.twiddles c.make.new.self log n c.make.ensures.only now))
 
 pub returns-clause-later : goal.returns-clause-later
-returns-clause-later g c =
-    let products : c.self.inside.products ≡ c.args.self.now.products = ap (λ e. e.products) c.self.view_is in
-    let there = λ (k : ℕ) (before : IsPrepared c.args.self.now k). until_prepared _ k (subst (λ (e : Tabled). IsPrepared e k) (sym c.self.view_is) before) in
-    let still : (k : ℕ) → IsPrepared c.args.self.now k → k ≤ c.make.new.self = λ k before. let held = there k before in omega (arith, held, c.make.ensures.keeps) in
-    record {
-      keeps = λ k before. prepared_until _ k (still k before);
-      keeps_cosets = λ k s none. tt;
-      keeps_served = λ k before. prepared_until _ k (still k before);
-      grows = omega (arith, products, c.dit_matrix.ensures.grows);
-    }
+returns-clause-later g c = later_with_heights c.args.self.now _ _ _ _ c.self.view_is c.make.ensures.keeps c.dit_matrix.ensures.grows
 
 pub returns-clause-cost : goal.returns-clause-cost
 returns-clause-cost g c k high =
@@ -96,3 +88,9 @@ returns-clause-cost g c k high =
     let width : c.new-mat.result.width ≡ (g.N.IntoRowMajorMatrix.stored c.args.mat).width =
     ap (λ (m : RowMajor g.row.F.Denot). m.width) c.new-mat.ensures ∙ c.width-width.ensures.width ∙ ap (λ (m : RowMajor g.row.F.Denot). m.width) c.into_row_major_matrix-mat.ensures in
     rw (← products, ← width, ← same) c.dit_matrix.ensures.count
+
+pub returns-in_err-make-clause-later : goal.returns-in_err-make-clause-later
+returns-in_err-make-clause-later g c = later_with_heights c.args.self.now _ _ _ _ c.self.view_is c.make.ensures.keeps (le_refl c.self.inside.products)
+
+pub returns-clause-one_row : goal.returns-clause-one_row
+returns-clause-one_row g c one = absurd (c.if-height-eq1.false (c.height-height.ensures.height ∙ ap height c.into_row_major_matrix-mat.ensures ∙ one))

@@ -1,4 +1,4 @@
-use Rattle.std.proofs.Common.{◌≡◌, ◌⊎◌, inl, ℕ, ◌+◌, ◌*◌, ◌/◌, ◌^◌, ◌≤◌, Result, Ok, Err, OnOk, refl, sym, ap, ap₂, ◌∙◌, subst, arith}
+use Rattle.std.proofs.Common.{◌≡◌, ◌⊎◌, inl, ℕ, ◌+◌, ◌*◌, ◌/◌, ◌<◌, ◌^◌, ◌≤◌, Result, Ok, Err, OnOk, refl, sym, ap, ap₂, ◌∙◌, subst, arith}
 use Rattle.std.proofs.lemmas.Result.{IfOk-weaker}
 use Rattle.p3_field.specs.Ring.{count}
 use Rattle.p3_field.proofs.Powers.{count-power_of_two}
@@ -14,7 +14,8 @@ use Rattle.p3_dft.proofs.Calls.Shapes.{log_within, output_log_small}
 use Rattle.p3_networks.proofs.Layers.Counts.{extension_made, fewer_than_parts}
 use Rattle.p3_networks.proofs.Polynomials.Cosets.{coset_values}
 use Rattle.p3_dft.proofs.BitReversed.Coefficients.{extension_of_coefficients, extension_of_row, shifted_quotient}
-use Rattle.p3_dft.proofs.Calls.PreparedHeights.{prepared_before, prepared_until, until_prepared}
+use Rattle.p3_dft.proofs.Calls.PreparedHeights.{prepared_before, prepared_until, until_prepared, later_with_heights}
+use Rattle.std.proofs.Math.Nat.{le_refl, le_trans, lt_of_lt_of_le}
 use Rattle.p3_dft.proofs.radix_2_small_batch.Radix2DFTSmallBatchTwoAdicSubgroupDft.coset_lde_batch.Goals as goal
 
 on_ok : {T E : Type 0} (r : Result T E) {P : Type 0} → P → OnOk r P
@@ -113,16 +114,7 @@ returns-clause-serves g c k high =
     on_ok c.extend.result (prepared_until _ k (omega (arith, same, c.in_ok-make.ensures.made)), prepared_until _ (k + c.args.added_bits) (omega (arith, same, c.in_ok-make.ensures.made)))
 
 pub returns-clause-later : goal.returns-clause-later
-returns-clause-later g c =
-    let products : c.self.inside.products ≡ c.args.self.now.products = ap (λ e. e.products) c.self.view_is in
-    let there = λ (k : ℕ) (before : IsPrepared c.args.self.now k). until_prepared _ k (subst (λ (e : Tabled). IsPrepared e k) (sym c.self.view_is) before) in
-    let still : (k : ℕ) → IsPrepared c.args.self.now k → k ≤ c.make.new.self = λ k before. let held = there k before in omega (arith, held, c.make.ensures.keeps) in
-    record {
-      keeps = λ k before. prepared_until _ k (still k before);
-      keeps_cosets = λ k s none. tt;
-      keeps_served = λ k before. prepared_until _ k (still k before);
-      grows = omega (arith, products, c.interpolate_reversed.ensures.grows, c.extend.ensures.grows);
-    }
+returns-clause-later g c = later_with_heights c.args.self.now _ _ _ _ c.self.view_is c.make.ensures.keeps (le_trans c.interpolate_reversed.ensures.grows c.extend.ensures.grows)
 
 pub returns-clause-fewer : goal.returns-clause-fewer
 returns-clause-fewer g c k high =
@@ -174,3 +166,21 @@ pub returns-clause-one_row : goal.returns-clause-one_row
 returns-clause-one_row g c one none =
     absurd (more_points c.height.result c.log2_strict_usize-log_h.result c.args.added_bits c.log2_strict_usize-log_h.ensures.power c.if-log_h-added_bits-eq0.false
     (c.height.ensures.height ∙ ap height c.into_row_major_matrix-mat.ensures ∙ one) none)
+
+pub returns-in_err-make-clause-later : goal.returns-in_err-make-clause-later
+returns-in_err-make-clause-later g c = later_with_heights c.args.self.now _ _ _ _ c.self.view_is c.make.ensures.keeps (le_refl c.self.inside.products)
+
+pub extend-requires-clause-twiddles : goal.extend-requires-clause-twiddles
+extend-requires-clause-twiddles g c = record {
+  size = λ l below. c.forward-forward.ensures.size l (lt_of_lt_of_le below c.in_ok-make.ensures.made);
+  entries = λ l b below inside. c.forward-forward.ensures.entries l b (lt_of_lt_of_le below c.in_ok-make.ensures.made) inside;
+}
+
+low_layer : (l k a n : ℕ) → l < k → k + a ≤ n → l < n
+low_layer l k a n below made = omega (arith, below, made)
+
+pub interpolate_reversed-requires-clause-twiddles : goal.interpolate_reversed-requires-clause-twiddles
+interpolate_reversed-requires-clause-twiddles g c = record {
+  size = λ l below. c.backward-backward.ensures.size l (low_layer l _ _ _ below c.in_ok-make.ensures.made);
+  entries = λ l b below inside. c.backward-backward.ensures.entries l b (low_layer l _ _ _ below c.in_ok-make.ensures.made) inside;
+}

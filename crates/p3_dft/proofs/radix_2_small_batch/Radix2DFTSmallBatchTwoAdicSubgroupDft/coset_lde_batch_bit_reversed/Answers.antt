@@ -23,6 +23,19 @@ after_preparing keeps none later = record {
   grows = omega (arith, later.grows, none);
 }
 
+-- and where they were refused
+only_preparing : {F : Type 0} {before after : Tabled} → ((k : ℕ) → IsPrepared before k → IsPrepared after k) → after.products ≡ before.products
+    → IsLater {F = F} IsPrepared (λ _ _ _. ⊤) IsPrepared (λ e. e.products) before after
+only_preparing keeps none = record {
+  keeps = keeps;
+  keeps_cosets = λ k s promised. tt;
+  keeps_served = keeps;
+  grows = omega (arith, none);
+}
+
+pub returns-in_err-prepare-clause-later : goal.returns-in_err-prepare-clause-later
+returns-in_err-prepare-clause-later g c = only_preparing c.prepare.ensures.keeps c.prepare.ensures.products
+
 pub pad_rows-requires-clause-bits : goal.pad_rows-requires-clause-bits
 pad_rows-requires-clause-bits g c = let small = output_log_small _ _ _ _ c.requires.fits in omega (arith, small)
 

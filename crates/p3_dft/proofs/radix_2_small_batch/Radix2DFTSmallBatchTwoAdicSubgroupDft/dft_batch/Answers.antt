@@ -4,8 +4,9 @@ use Rattle.p3_matrix.proofs.TwoPowers.{log_same}
 use Rattle.p3_networks.specs.Twiddles.{forward_root, block_powers}
 use Rattle.p3_dft.specs.Engines.{Tabled, IsPrepared}
 use Rattle.p3_networks.proofs.Tables.FromStart.{fewer_from_start}
-use Rattle.p3_dft.proofs.Calls.PreparedHeights.{not_ok, prepared_before, prepared_until, some_log, until_prepared}
+use Rattle.p3_dft.proofs.Calls.PreparedHeights.{not_ok, prepared_before, prepared_until, some_log, until_prepared, later_with_heights}
 use Rattle.p3_dft.proofs.BitReversed.Rows.{transform_of_row}
+use Rattle.std.proofs.Math.Nat.{le_refl}
 use Rattle.p3_dft.proofs.radix_2_small_batch.Radix2DFTSmallBatchTwoAdicSubgroupDft.dft_batch.Goals as goal
 
 pub returns-then-height-eq1-clause-values : goal.returns-then-height-eq1-clause-values
@@ -58,16 +59,7 @@ returns-clause-serves g c k high =
     prepared_until _ k (omega (arith, same, c.in_ok-make.ensures.made))
 
 pub returns-clause-later : goal.returns-clause-later
-returns-clause-later g c =
-    let products : c.self.inside.products ≡ c.args.self.now.products = ap (λ e. e.products) c.self.view_is in
-    let there = λ (k : ℕ) (before : IsPrepared c.args.self.now k). until_prepared _ k (subst (λ (e : Tabled). IsPrepared e k) (sym c.self.view_is) before) in
-    let still : (k : ℕ) → IsPrepared c.args.self.now k → k ≤ c.make.new.self = λ k before. let held = there k before in omega (arith, held, c.make.ensures.keeps) in
-    record {
-      keeps = λ k before. prepared_until _ k (still k before);
-      keeps_cosets = λ k s none. tt;
-      keeps_served = λ k before. prepared_until _ k (still k before);
-      grows = omega (arith, products, c.evaluate.ensures.grows);
-    }
+returns-clause-later g c = later_with_heights c.args.self.now _ _ _ _ c.self.view_is c.make.ensures.keeps c.evaluate.ensures.grows
 
 pub returns-clause-cost : goal.returns-clause-cost
 returns-clause-cost g c k high =
@@ -90,3 +82,9 @@ returns-in_err-make-clause-only g c k high n now =
     let same : log ≡ k = log_same log k (sym c.log2_strict_usize-log_h.ensures.power ∙ c.height-height.ensures.height ∙ ap height c.into_row_major_matrix-mat.ensures ∙ high) in
     subst (λ (e : Tabled). IsPrepared e n ⊎ (n ≤ k)) c.self.view_is
     (prepared_before c.self.inside.tables c.make.new.self (k) n (subst (λ (m : ℕ). (c.make.new.self ≡ c.self.inside.tables) ⊎ (c.make.new.self ≡ m)) same c.make.ensures.only) now)
+
+pub returns-in_err-make-clause-later : goal.returns-in_err-make-clause-later
+returns-in_err-make-clause-later g c = later_with_heights c.args.self.now _ _ _ _ c.self.view_is c.make.ensures.keeps (le_refl c.self.inside.products)
+
+pub returns-clause-one_row : goal.returns-clause-one_row
+returns-clause-one_row g c one = absurd (c.if-height-eq1.false (c.height-height.ensures.height ∙ ap height c.into_row_major_matrix-mat.ensures ∙ one))
