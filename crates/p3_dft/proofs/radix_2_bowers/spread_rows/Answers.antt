@@ -1,5 +1,5 @@
 use Rattle.std.proofs.Common.{◌≡◌, ℕ, zero, suc, ◌+◌, ◌*◌, ◌-◌, ◌%◌, ◌^◌, ◌<◌, ◌≤◌, get_or, sym, ap, ◌∙◌, subst, arith, rules}
-use Rattle.std.proofs.Math.Nat.{mod-eq_of_lt, mul-le-mul_right, two-pow-succ}
+use Rattle.std.proofs.Math.Nat.{mod-eq_of_lt, mul-le-mul_left, mul-le-mul_right, two-pow-succ}
 use Rattle.std.proofs.lemmas.Nat.{pow_pos}
 use Rattle.p3_matrix.specs.RowMajor.{RowMajor, height}
 use Rattle.p3_matrix.specs.Matrix.{Same, row_exchange, matrix}
@@ -14,6 +14,12 @@ place_is row h w a below wide size =
     let entries : 1 * (h * 2 ^ a) ≤ w * (h * 2 ^ a) = mul-le-mul_right (h * 2 ^ a) wide in
     let positive = pow_pos a in
     mod-eq_of_lt (omega (arith, rows, entries, size, positive))
+
+-- a row of the input is one of the output
+row_there : (row h g a : ℕ) → row < h → g ≡ h * 2 ^ a → row < g
+row_there row h g a below grown =
+    let more : h * 1 ≤ h * 2 ^ a = mul-le-mul_left h (pow_pos a) in
+    omega (arith, below, grown, more)
 
 two_places : (a : ℕ) → (a ≡ 0 → ⊥) → 2 ≤ 2 ^ a
 two_places zero some = absurd (some (omega arith))
@@ -106,3 +112,10 @@ returns-clause-others g c i r j below some less inside =
     let x = λ (r : ℕ). (matrix z c.args.mat).entry r j in
     let y = λ (r : ℕ). (matrix z c.loop-done.mat).entry r j in
     spread_others z (2 ^ c.args.added_bits) h x y (subst (λ (n : ℕ). SpreadFrom z (2 ^ c.args.added_bits) h n x y) all (c.loop-done.invariant.rows j inside)) i r (omega (arith, c.height-height.ensures.height)) some less
+
+pub exchange_rows-requires-clause-i_in_bounds : goal.exchange_rows-requires-clause-i_in_bounds
+exchange_rows-requires-clause-i_in_bounds g c =
+    let h = c.height-height.result in
+    let grown : height c.loop-done.mat ≡ height c.args.mat * 2 ^ c.args.added_bits =
+    c.loop-done.invariant.shape.0 ∙ ap (λ (n : RowMajor g.row.F.Denot). height n) c.in_ok-mat.ensures.padded ∙ padded_high g.F.Field.ZERO c.args.mat c.height-height.ensures.whole c.args.added_bits in
+    row_there (h - c.loop-done.done) h _ c.args.added_bits (omega arith) (grown ∙ ap (λ n. n * 2 ^ c.args.added_bits) (sym c.height-height.ensures.height))

@@ -1,7 +1,7 @@
 use Rattle.std.proofs.Common.{◌≡◌, ◌^◌, ap, ◌∙◌, sym}
 use Rattle.p3_matrix.specs.BitOrder.{bit_reversal}
 use Rattle.p3_matrix.specs.Matrix.{matrix}
-use Rattle.p3_matrix.specs.RowMajor.{height}
+use Rattle.p3_matrix.specs.RowMajor.{RowMajor, height}
 use Rattle.p3_matrix.proofs.BitReversal.{reversed_back}
 use Rattle.p3_matrix.proofs.Matrices.{same_sym}
 use Rattle.p3_dft.specs.Transforms.{values_of}
@@ -26,3 +26,13 @@ returns-clause-values g c k high =
     (coefficients_same field.ring (λ n. field.value (g.F.TwoAdicField.generator n)) (bit_reversal k (values_of field r)) (values_of field m) k field.ring.one (values_of field c.evaluate.new.mat)
     (same_sym (values_of field m) (bit_reversal k (values_of field r)) (reversed_back k (values_of field r) (values_of field m) tall back))
     (c.in_ok-evaluate.ensures.values k (back.high ∙ tall)))
+
+pub returns-clause-one_row : goal.returns-clause-one_row
+returns-clause-one_row g c one = absurd (c.if-height-eq1.false (c.height.ensures.height ∙ ap height c.into_row_major_matrix-mat.ensures ∙ one))
+
+pub returns-clause-cost : goal.returns-clause-cost
+returns-clause-cost g c k high =
+    let tall : height c.into_row_major_matrix-mat.result ≡ 2 ^ k = ap height c.into_row_major_matrix-mat.ensures ∙ high in
+    let rows = c.reverse_rows.ensures.rows k tall g.F.Field.ZERO in
+    let width : c.reverse_rows.new.mat.width ≡ (g.N.IntoRowMajorMatrix.stored c.args.mat).width = rows.wide ∙ ap (λ (m : RowMajor g.row.F.Denot). m.width) c.into_row_major_matrix-mat.ensures in
+    rw (← c.self.view_is, ← width) (c.evaluate.ensures.cost k (rows.high ∙ tall))

@@ -1,7 +1,7 @@
 use Rattle.std.proofs.Common.{◌≡◌, ◌^◌, refl, ap, ◌∙◌, sym}
 use Rattle.p3_matrix.specs.BitOrder.{bit_reversal}
 use Rattle.p3_matrix.specs.Matrix.{matrix}
-use Rattle.p3_matrix.specs.RowMajor.{height}
+use Rattle.p3_matrix.specs.RowMajor.{RowMajor, height}
 use Rattle.p3_matrix.proofs.Matrices.{same_sym}
 use Rattle.p3_dft.specs.Transforms.{values_of}
 use Rattle.p3_networks.proofs.Polynomials.Interpolation.{same_coefficients}
@@ -37,3 +37,11 @@ returns-clause-coefficients g c =
     (same_sym (values_of field out) (bit_reversal log (values_of field reversed_coefficients))
     (mapped_same field.value (matrix field.ZERO out) (bit_reversal log (matrix field.ZERO reversed_coefficients)) (c.reverse_rows.ensures.rows log (are.high ∙ high) field.ZERO)))
     are))
+
+pub returns-clause-one_row : goal.returns-clause-one_row
+returns-clause-one_row g c one = absurd (c.if-height-eq1.false (c.height.ensures.height ∙ ap height c.into_row_major_matrix-mat.ensures ∙ one))
+
+pub returns-clause-cost : goal.returns-clause-cost
+returns-clause-cost g c k high =
+    let width : c.into_row_major_matrix-mat.result.width ≡ (g.N.IntoRowMajorMatrix.stored c.args.mat).width = ap (λ (m : RowMajor g.row.F.Denot). m.width) c.into_row_major_matrix-mat.ensures in
+    rw (← c.self.view_is, ← width) (c.interpolate.ensures.cost k (ap height c.into_row_major_matrix-mat.ensures ∙ high))
