@@ -1,7 +1,10 @@
-use Rattle.std.proofs.Common.{◌++◌, List, [], ◌∷◌, subst, sym, arith, rules, inr}
+use Rattle.std.proofs.Common.{◌≡◌, ◌++◌, List, [], ◌∷◌, subst, sym, ap, ◌∙◌, arith, rules, inr}
+use Rattle.std.proofs.Math.Nat.{le_refl}
+use Rattle.std.proofs.lemmas.List.{append-nil, nil_from_length}
 use Rattle.std.proofs.lemmas.List.Elements.{All-rest}
 use Rattle.std.proofs.lemmas.Slice.Zip.{all_zipped_more}
-use Rattle.std.specs.List.{AllZip}
+use Rattle.std.specs.List.{All, AllZip}
+use Rattle.std.specs.Vec.Iter.{into_iter_items}
 use Rattle.p3_matrix.specs.RowMajor.{RowMajor}
 use Rattle.p3_dft.specs.Jobs.{AreFirstAnswers, CanRun, IsAnswer}
 use Rattle.p3_dft.proofs.Calls.EngineSteps.{later_still}
@@ -49,3 +52,27 @@ returns-in_err-push-clause-refused g c =
     let first = first_answers g.F.Field g.F.TwoAdicField.generator c.args.jobs.items c.loop-job.yielded _ _ c.in-Some.job c.loop-job.answers.items c.loop-job.invariant.split
     c.in-Some.ensures.steps.0 c.loop-job.invariant.answered in
     absurd (omega (arith, first.fewer, c.loop-job.invariant.room, c.in_err-push.ensures.full, c.loop-job.answers.ok.0, c.args.jobs.ok.0))
+
+pub loop-job-init : goal.loop-job-init
+loop-job-init g c =
+    let given : into_iter_items c.into_iter-job-iterator.result ≡ c.args.jobs.items = c.into_iter-job-iterator.ensures.into_iter_gives.0 in
+    let none : c.reserve_exact.new.self.items ≡ [] = c.in_ok-reserve_exact.ensures.items ∙ c.requires.empty in
+    record {
+      split = sym given;
+      answered = subst (λ (ys : List (RowMajor g.row.F.Denot)). AllZip (IsAnswer g.F.Field g.F.TwoAdicField.generator) [] ys) (sym none) (search rules);
+      runnable = subst (λ xs. All (CanRun g.F.Field g.F.TwoAdicField.TWO_ADICITY) xs) (sym given) c.requires.runnable;
+      room = grind (arith, c.in_ok-reserve_exact.ensures.capacity, c.len.ensures);
+      later = record {
+        keeps = λ k promised. promised;
+        keeps_cosets = λ k s promised. promised;
+        keeps_served = λ k served. served;
+        grows = le_refl _;
+      };
+    }
+
+pub returns-clause-all : goal.returns-clause-all
+returns-clause-all g c =
+    let left = into_iter_items c.loop-job.job-iterator in
+    let none : left ≡ [] = nil_from_length left (sym c.loop-job.job-iterator.rest.ok.0 ∙ c.in-None.ensures.steps.0) in
+    let whole = c.loop-job.invariant.split ∙ ap (λ rest. c.loop-job.yielded ++ rest) none ∙ append-nil c.loop-job.yielded in
+    subst (λ xs. AllZip (IsAnswer g.F.Field g.F.TwoAdicField.generator) xs c.loop-job.answers.items) (sym whole) c.loop-job.invariant.answered

@@ -1,9 +1,14 @@
-use Rattle.std.proofs.Common.{◌≡◌, ◌+◌, ◌*◌, ◌^◌, ◌∙◌, ap, arith}
+use Rattle.std.proofs.Common.{◌≡◌, ℕ, ◌+◌, ◌*◌, ◌^◌, ◌≤◌, ◌∙◌, ap, arith}
 use Rattle.std.proofs.lemmas.Result.{IfOk-weaker, on_ok_weaker}
 use Rattle.p3_dft.proofs.Calls.ExtendedTransforms.{answered_shape, extension_of_parts}
 use Rattle.p3_dft.proofs.Calls.Padding.{padded_shape}
 use Rattle.p3_dft.proofs.Calls.Shapes.{input_fits, output_fits, output_log_small, output_size}
 use Rattle.p3_dft.proofs.traits.TwoAdicSubgroupDft.coset_lde_batch_by_parts.Goals as goal
+
+-- the bounds and the entries of an inverse and of a larger transform
+parts_counted : (after middle before bound entries more_bound more_entries b e : ℕ) → middle ≤ before + bound + entries → b + e ≡ more_bound + more_entries → after ≤ middle + b + e
+    → after ≤ before + (bound + entries + (more_bound + more_entries))
+parts_counted after middle before bound entries more_bound more_entries b e first same second = omega (arith, first, same, second)
 
 pub idft_batch-requires : goal.idft_batch-requires
 idft_batch-requires g c = input_fits _ _ _ _ c.requires.fits
@@ -63,7 +68,7 @@ returns-clause-cost g c = λ k e.
     let first = c.in_ok-coefficients.ensures.cost k e in
     let same : bound (k + a) c.in_ok-coefficients-2.coefficients.width + 2 ^ (k + a) * c.in_ok-coefficients-2.coefficients.width ≡ bound (k + a) m.width + 2 ^ (k + a) * m.width =
     ap (λ w. bound (k + a) w + 2 ^ (k + a) * w) grown.1 in
-    on_ok_weaker c.coset_dft_batch.result (λ more. omega (arith, more, first, same)) (c.coset_dft_batch.ensures.cost (k + a) grown.0)
+    on_ok_weaker c.coset_dft_batch.result (λ more. parts_counted _ _ _ _ _ _ _ _ _ first same more) (c.coset_dft_batch.ensures.cost (k + a) grown.0)
 
 pub returns-clause-serves : goal.returns-clause-serves
 returns-clause-serves g c = λ k e.
