@@ -75,3 +75,6 @@ returns-clause-values g c =
     c.extending_network.ensures.values i j below inside
     ∙ ap₂ (λ n xs. poly field.ring (2 ^ n) (λ q. field.ring.mul (field.value (get_or xs (rev n q * w + j) field.ZERO)) (field.value (get_or c.as_slice.result.now (rev n q) field.ZERO))) (power field.ring (field.value (g.F.TwoAdicField.generator (k + a))) i))
     back c.values-2.ensures.values)
+
+pub extending_network-requires-clause-twiddles : goal.extending_network-requires-clause-twiddles
+extending_network-requires-clause-twiddles g c = c.requires.twiddles

@@ -272,3 +272,11 @@ returns-clause-tables g c k e = c.in-Ok.ensures.cosets k (ap height c.into_row_m
 
 pub returns-in-Err-extended-clause-tables : goal.returns-in-Err-extended-clause-tables
 returns-in-Err-extended-clause-tables g c k e = c.in-Ok.ensures.cosets k (ap height c.into_row_major_matrix-mat.ensures ∙ e)
+
+pub extend-extended-requires-clause-whole : goal.extend-extended-requires-clause-whole
+extend-extended-requires-clause-whole g c =
+    let answer = c.in-Ok.ensures.answer in
+    rw answer.over_zeros (padded_whole g.F.Field.ZERO answer.answered answer.whole c.args.added_bits)
+
+pub extend-extended-requires-clause-tables : goal.extend-extended-requires-clause-tables
+extend-extended-requires-clause-tables g c = c.in-Ok.ensures.cosets c.log2_strict_usize-log_h.result (sym c.height.ensures.height ∙ c.log2_strict_usize-log_h.ensures.power)

@@ -1,10 +1,10 @@
-use Rattle.std.proofs.Common.{◌≡◌, ◌⊎◌, inl, ℕ, ◌+◌, ◌*◌, ◌/◌, ◌<◌, ◌^◌, ◌≤◌, Result, Ok, Err, OnOk, refl, sym, ap, ap₂, ◌∙◌, subst, arith}
+use Rattle.std.proofs.Common.{◌≡◌, ◌⊎◌, inl, ℕ, ◌+◌, ◌*◌, ◌/◌, ◌<◌, ◌^◌, ◌≤◌, Result, Ok, Err, OnOk, length, refl, sym, ap, ap₂, ◌∙◌, subst, arith}
 use Rattle.std.proofs.lemmas.Result.{IfOk-weaker}
 use Rattle.p3_field.specs.Ring.{count}
 use Rattle.p3_field.proofs.Powers.{count-power_of_two}
 use Rattle.p3_matrix.specs.BitOrder.{bit_reversal}
 use Rattle.p3_matrix.specs.Matrix.{image}
-use Rattle.p3_matrix.specs.RowMajor.{RowMajor, height}
+use Rattle.p3_matrix.specs.RowMajor.{IsRowMajor, HasShapeOf, RowMajor, height}
 use Rattle.p3_matrix.proofs.TwoPowers.{log_same}
 use Rattle.p3_networks.specs.Cosets.{coset_shift}
 use Rattle.p3_dft.specs.Extensions.{extension_bound}
@@ -184,3 +184,10 @@ interpolate_reversed-requires-clause-twiddles g c = record {
   size = λ l below. c.backward-backward.ensures.size l (low_layer l _ _ _ below c.in_ok-make.ensures.made);
   entries = λ l b below inside. c.backward-backward.ensures.entries l b (low_layer l _ _ _ below c.in_ok-make.ensures.made) inside;
 }
+
+whole_kept : {T : Type 0} (m out : RowMajor T) → IsRowMajor m → HasShapeOf out m → length out.values ≡ length m.values → IsRowMajor out
+whole_kept m out whole shape size = record { wide = omega (arith, whole.wide, shape.1); full = ap₂ (λ (h w : ℕ). h * w) shape.0 shape.1 ∙ whole.full ∙ sym size }
+
+pub extend-requires-clause-whole : goal.extend-requires-clause-whole
+extend-requires-clause-whole g c =
+    whole_kept c.into_row_major_matrix-mat.result c.interpolate_reversed.new.mat c.height.ensures.whole c.interpolate_reversed.ensures.shape c.interpolate_reversed.ensures.size

@@ -181,3 +181,7 @@ returns-clause-cost g c k e =
     ≤ c.args.self.now.products + ((g.N.IntoRowMajorMatrix.stored c.args.mat).width * (n * 2 ^ n / 2) + 2 ^ n * (g.N.IntoRowMajorMatrix.stored c.args.mat).width
     + ((g.N.IntoRowMajorMatrix.stored c.args.mat).width * ((n + a) * 2 ^ (n + a) / 2) + 2 ^ (n + a) * (g.N.IntoRowMajorMatrix.stored c.args.mat).width))) same
     (subst (λ (w : ℕ). c.extend_in_slots.new.products ≤ c.args.self.now.products + (w * (log * 2 ^ log / 2) + 2 ^ log * w + (w * ((log + a) * 2 ^ (log + a) / 2) + 2 ^ (log + a) * w))) width all)
+
+pub extend_in_slots-requires-clause-whole : goal.extend_in_slots-requires-clause-whole
+extend_in_slots-requires-clause-whole g c =
+    rw c.in_ok-grown.ensures.padded (padded_whole g.F.Field.ZERO c.transform-changed.result c.pad_rows.ensures.whole c.args.added_bits)
