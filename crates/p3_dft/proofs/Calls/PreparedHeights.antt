@@ -1,6 +1,6 @@
 -- Which heights are prepared where all up to one are.
 use Rattle.std.specs.Prelude.{⊤}
-use Rattle.std.proofs.Common.{◌≡◌, ◌⊎◌, inl, inr, ℕ, zero, suc, ◌<◌, ◌≤◌, ◌^◌, List, Result, Ok, Err, IsOk, refl, ◌∙◌, subst, arith, rules}
+use Rattle.std.proofs.Common.{◌≡◌, ◌⊎◌, inl, inr, ℕ, zero, suc, ◌+◌, ◌<◌, ◌≤◌, ◌^◌, List, Result, Ok, Err, IsOk, refl, ◌∙◌, subst, arith, rules}
 use Rattle.std.specs.List.{Contains, range_with_len}
 use Rattle.std.proofs.lemmas.List.FromFn.{get_or-range_with_len, length-range_with_len}
 use Rattle.p3_dft.specs.Engines.{Tabled, IsLater, IsPrepared}
@@ -17,6 +17,13 @@ PreparedBy logs k = (k ≡ 0) ⊎ ((n : ℕ) × (k ≤ n) × Contains logs n)
 pub prepared_until : (n k : ℕ) → k ≤ n → PreparedBy (range_with_len 1 n) k
 prepared_until n zero below = inl refl
 prepared_until n (suc k) below = inr (suc k, omega arith, (k, omega (arith, below, length-range_with_len 1 n), get_or-range_with_len 1 n k (suc k) (omega arith) ∙ omega arith))
+
+-- where a program found the logarithm k, and with the height of an extension
+pub prepared_at : (n log k : ℕ) → log ≡ k → log ≤ n → PreparedBy (range_with_len 1 n) k
+prepared_at n log k same below = prepared_until n k (omega (arith, same, below))
+
+pub both_prepared : (n log a k : ℕ) → log ≡ k → log + a ≤ n → PreparedBy (range_with_len 1 n) k × PreparedBy (range_with_len 1 n) (k + a)
+both_prepared n log a k same below = (prepared_until n k (omega (arith, same, below)), prepared_until n (k + a) (omega (arith, same, below)))
 
 pub until_prepared : (n k : ℕ) → PreparedBy (range_with_len 1 n) k → k ≤ n
 until_prepared n k (inl none) = omega (arith, none)

@@ -6,7 +6,7 @@ use Rattle.p3_dft.specs.Engines.{CosetTabled, IsPrepared}
 use Rattle.p3_dft.proofs.BitReversed.OneRow.{row_handed_back, row_seen}
 use Rattle.p3_dft.proofs.BitReversed.Rows.{transform_seen}
 use Rattle.p3_dft.proofs.Calls.PreparedCosets.{later_with_tables}
-use Rattle.p3_dft.proofs.Calls.PreparedHeights.{not_ok, prepared_before, prepared_until, until_prepared}
+use Rattle.p3_dft.proofs.Calls.PreparedHeights.{not_ok, prepared_before, until_prepared, prepared_at}
 use Rattle.p3_dft.proofs.radix_2_dit_parallel.Radix2DitParallelTwoAdicSubgroupDft.dft_batch.Goals as goal
 
 pub make-requires-clause-within : goal.make-requires-clause-within
@@ -39,7 +39,7 @@ returns-clause-serves g c k high =
     let tall : c.height-height.result ≡ height (g.N.IntoRowMajorMatrix.stored c.args.mat) = c.height-height.ensures.height ∙ ap height c.into_row_major_matrix-mat.ensures in
     let log = c.log2_strict_usize-log_h.result in
     let same : log ≡ k = log_same log k (sym c.log2_strict_usize-log_h.ensures.power ∙ tall ∙ high) in
-    prepared_until _ k (omega (arith, same, c.in_ok-make.ensures.made))
+    prepared_at _ _ k same c.in_ok-make.ensures.made
 
 pub returns-then-height-eq1-clause-values : goal.returns-then-height-eq1-clause-values
 returns-then-height-eq1-clause-values g c =

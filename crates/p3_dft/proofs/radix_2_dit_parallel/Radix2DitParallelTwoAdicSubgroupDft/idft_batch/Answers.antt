@@ -12,7 +12,7 @@ use Rattle.p3_dft.proofs.BitReversed.Rows.{transform_of_row}
 use Rattle.p3_networks.proofs.Polynomials.Interpolation.{same_coefficients}
 use Rattle.p3_dft.proofs.Calls.Inverses.{mapped_same}
 use Rattle.p3_dft.proofs.Calls.PreparedCosets.{later_with_tables}
-use Rattle.p3_dft.proofs.Calls.PreparedHeights.{not_ok, prepared_before, prepared_until, until_prepared}
+use Rattle.p3_dft.proofs.Calls.PreparedHeights.{not_ok, prepared_before, until_prepared, prepared_at}
 use Rattle.p3_dft.proofs.radix_2_dit_parallel.Radix2DitParallelTwoAdicSubgroupDft.idft_batch.Goals as goal
 
 pub returns-then-height-eq1-clause-coefficients : goal.returns-then-height-eq1-clause-coefficients
@@ -76,7 +76,7 @@ returns-clause-serves g c k high =
     let tall : c.height-height.result ≡ height (g.N.IntoRowMajorMatrix.stored c.args.mat) = c.height-height.ensures.height ∙ ap height c.into_row_major_matrix-mat.ensures in
     let log = c.log2_strict_usize-log_h.result in
     let same : log ≡ k = log_same log k (sym c.log2_strict_usize-log_h.ensures.power ∙ tall ∙ high) in
-    prepared_until _ k (omega (arith, same, c.in_ok-make.ensures.made))
+    prepared_at _ _ k same c.in_ok-make.ensures.made
 
 pub returns-in_err-make-clause-only : goal.returns-in_err-make-clause-only
 returns-in_err-make-clause-only g c k high n now =

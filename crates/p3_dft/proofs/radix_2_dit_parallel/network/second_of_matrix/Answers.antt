@@ -1,4 +1,4 @@
-use Rattle.std.proofs.Common.{◌≡◌, ℕ, ◌+◌, ◌*◌, ◌^◌, ◌<◌, length, sym, ap, ◌∙◌, arith, refl}
+use Rattle.std.proofs.Common.{◌≡◌, ℕ, ◌+◌, ◌*◌, ◌^◌, ◌<◌, length, sym, ap, ◌∙◌, arith, refl, ◌≤◌, subst, ◌/◌}
 use Rattle.std.proofs.lemmas.Nat.{pow-add}
 use Rattle.p3_matrix.specs.BitOrder.{rev}
 use Rattle.p3_matrix.specs.RowMajor.{height}
@@ -6,7 +6,7 @@ use Rattle.p3_matrix.proofs.BitReversal.{rev-block}
 use Rattle.p3_networks.specs.Cosets.{point}
 use Rattle.p3_networks.specs.Polynomials.{poly}
 use Rattle.p3_dft.specs.Transforms.{values_of}
-use Rattle.p3_networks.specs.Twiddles.{factor}
+use Rattle.p3_networks.specs.Twiddles.{factor, scale_cost}
 use Rattle.p3_dft.proofs.BitReversed.Rows.{reversed_cell, written_cell}
 use Rattle.p3_networks.proofs.Layers.Blocks.{row_below}
 use Rattle.p3_networks.proofs.Polynomials.ByIndex.{poly_same, poly-one}
@@ -64,3 +64,22 @@ returns-then-left-gt0-clause-shape g c =
 pub returns-then-left-gt0-clause-size : goal.returns-then-left-gt0-clause-size
 returns-then-left-gt0-clause-size g c =
     written_size c.reverse_rows.new.mat.values c.second_half.new.values (c.second_half.auto.values ∙ ap length c.values_mut.ensures.values) ∙ c.reverse_rows.ensures.size
+
+-- a scale for each entry of p times q rows
+scales_counted : (after before cost n p q w x : ℕ) → n ≡ p * q * w → after ≤ before + cost * n → after ≤ before + p * (x + cost * (q * w))
+scales_counted after before cost n p q w x is made =
+    let entries : cost * n ≡ cost * (p * q * w) = ap (λ m. cost * m) is in
+    let spread : p * (x + cost * (q * w)) ≡ p * x + cost * (p * q * w) = omega arith in
+    omega (arith, made, entries, spread)
+
+pub returns-else-left-gt0-clause-count : goal.returns-else-left-gt0-clause-count
+returns-else-left-gt0-clause-count g c =
+    let m = c.args.mat.now in
+    scales_counted _ _ (scale_cost c.args.scale) _ (2 ^ c.args.mid) (2 ^ c.args.left) m.width _
+    (c.reverse_rows.ensures.size ∙ sym c.requires.whole.full ∙ ap (λ h. h * m.width) (c.requires.height ∙ pow-add 2 c.args.mid c.args.left)) c.scale_rows.ensures.count
+
+pub returns-then-left-gt0-clause-count : goal.returns-then-left-gt0-clause-count
+returns-then-left-gt0-clause-count g c =
+    let left = c.args.left in
+    subst (λ (w : ℕ). c.second_half.new.products ≤ c.args.products.now + 2 ^ c.args.mid * (w * (left * 2 ^ left / 2) + scale_cost c.args.scale * (2 ^ left * w)))
+    c.width-width.ensures.width c.second_half.ensures.count

@@ -14,7 +14,7 @@ use Rattle.p3_dft.proofs.Calls.Shapes.{log_within, output_log_small}
 use Rattle.p3_networks.proofs.Layers.Counts.{extension_made, fewer_than_parts}
 use Rattle.p3_networks.proofs.Polynomials.Cosets.{coset_values}
 use Rattle.p3_dft.proofs.BitReversed.Coefficients.{extension_of_coefficients, extension_of_row, shifted_quotient}
-use Rattle.p3_dft.proofs.Calls.PreparedHeights.{prepared_before, prepared_until, until_prepared, later_with_heights}
+use Rattle.p3_dft.proofs.Calls.PreparedHeights.{prepared_before, later_with_heights, both_prepared}
 use Rattle.std.proofs.Math.Nat.{le_refl, le_trans, lt_of_lt_of_le}
 use Rattle.p3_dft.proofs.radix_2_small_batch.Radix2DFTSmallBatchTwoAdicSubgroupDft.coset_lde_batch.Goals as goal
 
@@ -111,7 +111,7 @@ pub returns-clause-serves : goal.returns-clause-serves
 returns-clause-serves g c k high =
     let log = c.log2_strict_usize-log_h.result in
     let same : log ≡ k = log_same log k (sym c.log2_strict_usize-log_h.ensures.power ∙ c.height.ensures.height ∙ ap height c.into_row_major_matrix-mat.ensures ∙ high) in
-    on_ok c.extend.result (prepared_until _ k (omega (arith, same, c.in_ok-make.ensures.made)), prepared_until _ (k + c.args.added_bits) (omega (arith, same, c.in_ok-make.ensures.made)))
+    on_ok c.extend.result (both_prepared _ _ c.args.added_bits k same c.in_ok-make.ensures.made)
 
 pub returns-clause-later : goal.returns-clause-later
 returns-clause-later g c = later_with_heights c.args.self.now _ _ _ _ c.self.view_is c.make.ensures.keeps (le_trans c.interpolate_reversed.ensures.grows c.extend.ensures.grows)

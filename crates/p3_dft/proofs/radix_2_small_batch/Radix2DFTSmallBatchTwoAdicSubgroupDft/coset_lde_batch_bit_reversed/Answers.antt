@@ -9,7 +9,7 @@ use Rattle.p3_dft.specs.Transforms.{values_of}
 use Rattle.p3_dft.proofs.BitReversed.Rows.{values_seen}
 use Rattle.p3_dft.proofs.Calls.ExtendedTransforms.{extension_of_natural}
 use Rattle.p3_dft.proofs.Calls.Padding.{padded_shape, padded_whole}
-use Rattle.p3_dft.proofs.Calls.PreparedHeights.{prepared_until, until_prepared}
+use Rattle.p3_dft.proofs.Calls.PreparedHeights.{prepared_until, until_prepared, both_prepared}
 use Rattle.p3_dft.proofs.Calls.Shapes.{log_within, output_log_small, output_size}
 use Rattle.p3_dft.proofs.radix_2_small_batch.Radix2DFTSmallBatchTwoAdicSubgroupDft.coset_lde_batch_bit_reversed.Goals as goal
 
@@ -138,7 +138,7 @@ returns-clause-serves g c k e =
     let top = log + c.args.added_bits in
     let same : log ≡ k = log_same log k (sym c.log2_strict_usize-log_h.ensures.power ∙ c.height.ensures.height ∙ ap height c.into_row_major_matrix-mat.ensures ∙ e) in
     let there : top ≤ c.self.inside.tables = until_prepared _ top (subst (λ (e : Tabled). IsPrepared e top) (sym c.self.view_is) (c.idft_batch.ensures.later.keeps top c.in_ok-prepare.ensures.prepares)) in
-    (prepared_until _ k (omega (arith, same, there)), prepared_until _ (k + c.args.added_bits) (omega (arith, same, there)))
+    both_prepared _ _ c.args.added_bits k same there
 
 pub returns-clause-later : goal.returns-clause-later
 returns-clause-later g c =

@@ -4,7 +4,7 @@ use Rattle.p3_matrix.proofs.TwoPowers.{log_same}
 use Rattle.p3_networks.specs.Twiddles.{forward_root, block_powers}
 use Rattle.p3_dft.specs.Engines.{Tabled, IsPrepared}
 use Rattle.p3_networks.proofs.Tables.FromStart.{fewer_from_start}
-use Rattle.p3_dft.proofs.Calls.PreparedHeights.{not_ok, prepared_before, prepared_until, some_log, until_prepared, later_with_heights}
+use Rattle.p3_dft.proofs.Calls.PreparedHeights.{not_ok, prepared_before, some_log, until_prepared, later_with_heights, prepared_at}
 use Rattle.p3_dft.proofs.BitReversed.Rows.{transform_of_row}
 use Rattle.std.proofs.Math.Nat.{le_refl}
 use Rattle.p3_dft.proofs.radix_2_small_batch.Radix2DFTSmallBatchTwoAdicSubgroupDft.dft_batch.Goals as goal
@@ -56,7 +56,7 @@ returns-clause-serves g c k high =
     let tall : c.height-height.result ≡ height (g.N.IntoRowMajorMatrix.stored c.args.mat) = c.height-height.ensures.height ∙ ap height c.into_row_major_matrix-mat.ensures in
     let log = c.log2_strict_usize-log_h.result in
     let same : log ≡ k = log_same log k (sym c.log2_strict_usize-log_h.ensures.power ∙ tall ∙ high) in
-    prepared_until _ k (omega (arith, same, c.in_ok-make.ensures.made))
+    prepared_at _ _ k same c.in_ok-make.ensures.made
 
 pub returns-clause-later : goal.returns-clause-later
 returns-clause-later g c = later_with_heights c.args.self.now _ _ _ _ c.self.view_is c.make.ensures.keeps c.evaluate.ensures.grows
