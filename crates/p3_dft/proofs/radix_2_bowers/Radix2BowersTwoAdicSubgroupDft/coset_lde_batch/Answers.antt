@@ -7,7 +7,8 @@ use Rattle.p3_matrix.specs.RowMajor.{RowMajor, height}
 use Rattle.p3_dft.specs.Extensions.{extension_bound}
 use Rattle.p3_dft.specs.Transforms.{values_of}
 use Rattle.p3_networks.proofs.Polynomials.Cosets.{coset_values}
-use Rattle.p3_dft.proofs.BitReversed.Coefficients.{extension_of_coefficients, shifted_quotient, within_extension}
+use Rattle.p3_dft.proofs.BitReversed.Coefficients.{extension_of_coefficients, shifted_quotient, within_extension, fits_as}
+use Rattle.p3_dft.proofs.Calls.Shapes.{input_fits}
 use Rattle.p3_dft.proofs.radix_2_bowers.Radix2BowersTwoAdicSubgroupDft.coset_lde_batch.Goals as goal
 
 pub returns-clause-values : goal.returns-clause-values
@@ -33,6 +34,11 @@ returns-clause-values g c =
     (coset_values field.ring (λ n. field.value (g.F.TwoAdicField.generator n)) d shifted (log + a) s (values_of field out) on_coset given))
     (c.extend.ensures.values log (same.high ∙ tall)))
 
+-- an inverse, a product for each entry and a transform
+weighed_counted : (after weighed middle start before bound entries scaled more_bound last_bound : ℕ) → start ≡ before → middle ≤ start + bound → weighed ≤ middle + scaled → scaled ≡ entries
+    → after ≤ weighed + last_bound → last_bound ≡ more_bound → after ≤ before + bound + 2 * entries + more_bound
+weighed_counted after weighed middle start before bound entries scaled more_bound last_bound same first second all third last = omega (arith, same, first, second, all, third, last)
+
 pub returns-clause-cost : goal.returns-clause-cost
 returns-clause-cost g c k e =
     let a = c.args.added_bits in
@@ -49,4 +55,15 @@ returns-clause-cost g c k e =
     let wide : bound (k + a) c.weigh_reversed_rows.new.mat.width ≡ bound (k + a) w = ap (bound (k + a)) (same.wide ∙ shape.1) in
     subst (λ (v : ℕ). OnOk c.extend.result (c.extend.new.products ≤ c.args.self.now + extension_bound bound k a v)) (ap (λ (n : RowMajor g.row.F.Denot). n.width) c.into_row_major_matrix-mat.ensures)
     (within_extension c.extend.result bound k a w c.args.self.now c.extend.new.products
-    (omega (arith, c.self.view_is, first, c.weigh_reversed_rows.ensures.cost, entries, last, wide)))
+    (weighed_counted _ _ _ _ _ _ _ _ _ _ c.self.view_is first c.weigh_reversed_rows.ensures.cost entries last wide))
+
+pub interpolate_scaled-requires : goal.interpolate_scaled-requires
+interpolate_scaled-requires g c = rw c.into_row_major_matrix-mat.ensures (input_fits _ _ _ _ c.requires)
+
+pub extend-requires : goal.extend-requires
+extend-requires g c =
+    let fits = c.requires in
+    let stored = ap height c.into_row_major_matrix-mat.ensures in
+    let shape = c.in_ok-interpolate_scaled.ensures.shape in
+    let same = c.in_ok-weigh_reversed_rows.ensures.rows fits.log (shape.0 ∙ stored ∙ fits.high) in
+    fits_as _ _ _ c.args.added_bits _ _ fits (same.high ∙ shape.0 ∙ stored) (same.wide ∙ shape.1 ∙ ap (λ (n : RowMajor g.row.F.Denot). n.width) c.into_row_major_matrix-mat.ensures)

@@ -41,6 +41,11 @@ returns-clause-values g c =
     on_coset given))
     (c.extend.ensures.values log (same.high ∙ shape.0 ∙ fits.high))
 
+-- an inverse, a product for each entry and a transform
+weighed_counted : (after weighed middle start before bound entries scaled more_bound last_bound : ℕ) → start ≡ before → middle ≤ start + bound + entries → weighed ≤ middle + scaled → scaled ≡ entries
+    → after ≤ weighed + last_bound → last_bound ≡ more_bound → after ≤ before + bound + 2 * entries + more_bound
+weighed_counted after weighed middle start before bound entries scaled more_bound last_bound same first second all third last = omega (arith, same, first, second, all, third, last)
+
 pub returns-clause-cost : goal.returns-clause-cost
 returns-clause-cost g c k e =
     let a = c.args.added_bits in
@@ -58,4 +63,4 @@ returns-clause-cost g c k e =
     let last = c.extend.ensures.cost k (same.high ∙ shape.0 ∙ e) in
     let wide : bound (k + a) c.weigh_reversed_rows.new.mat.width ≡ bound (k + a) w = ap (bound (k + a)) (same.wide ∙ shape.1) in
     within_extension c.extend.result bound k a w c.args.self.now c.extend.new.products
-    (omega (arith, c.self.view_is, first, c.weigh_reversed_rows.ensures.cost, entries, last, wide))
+    (weighed_counted _ _ _ _ _ _ _ _ _ _ c.self.view_is first c.weigh_reversed_rows.ensures.cost entries last wide)

@@ -3,7 +3,7 @@ use Rattle.std.proofs.lemmas.Result.{IfOk-weaker}
 use Rattle.p3_matrix.specs.BitOrder.{bit_reversal}
 use Rattle.p3_matrix.specs.RowMajor.{RowMajor, height}
 use Rattle.p3_dft.specs.Transforms.{values_of}
-use Rattle.p3_dft.proofs.BitReversed.Coefficients.{extension_of_coefficients}
+use Rattle.p3_dft.proofs.BitReversed.Coefficients.{extension_of_coefficients, fits_as}
 use Rattle.p3_dft.proofs.radix_2_bowers.Radix2BowersTwoAdicSubgroupDft.lde_batch.Goals as goal
 
 pub returns-clause-values : goal.returns-clause-values
@@ -33,3 +33,10 @@ returns-clause-cost g c k e =
     let first = rw (c.self.view_is, width) at (c.interpolate.ensures.cost k tall) in
     let second = rw wide at (c.extend.ensures.cost k (are.high ∙ tall)) in
     IfOk-weaker c.extend.result _ _ (λ out given. both_counted _ _ _ _ _ _ _ first second) (c.extend.ensures.values k (are.high ∙ tall))
+
+pub extend-requires : goal.extend-requires
+extend-requires g c =
+    let fits = c.requires in
+    let stored = ap height c.into_row_major_matrix-mat.ensures in
+    let are = c.in_ok-interpolate.ensures.coefficients fits.log (stored ∙ fits.high) in
+    fits_as _ _ _ c.args.added_bits _ _ fits (are.high ∙ stored) (are.wide ∙ ap (λ (n : RowMajor g.row.F.Denot). n.width) c.into_row_major_matrix-mat.ensures)
