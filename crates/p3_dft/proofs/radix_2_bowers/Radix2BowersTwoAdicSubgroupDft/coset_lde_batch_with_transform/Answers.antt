@@ -64,3 +64,17 @@ returns-clause-cost g c k e =
     let wide : bound (k + a) c.weigh_reversed_rows.new.mat.width ≡ bound (k + a) w = ap (bound (k + a)) (same.wide ∙ shape.1) in
     within_extension c.extend.result bound k a w c.args.self.now c.extend.new.products
     (weighed_counted _ _ _ _ _ _ _ _ _ _ c.self.view_is first c.weigh_reversed_rows.ensures.cost entries last wide)
+
+pub transform-changed-requires : goal.transform-changed-requires
+transform-changed-requires g c =
+    let stored = ap height c.into_row_major_matrix-mat.ensures in
+    let are = c.in_ok-interpolate.ensures.coefficients c.requires.fits.log (stored ∙ c.requires.fits.high) in
+    c.requires.callable c.interpolate.new.mat (are.high ∙ stored, are.wide ∙ ap (λ (n : RowMajor g.row.F.Denot). n.width) c.into_row_major_matrix-mat.ensures)
+
+pub weigh_reversed_rows-requires : goal.weigh_reversed_rows-requires
+weigh_reversed_rows-requires g c =
+    let stored = ap height c.into_row_major_matrix-mat.ensures in
+    let are = c.in_ok-interpolate.ensures.coefficients c.requires.fits.log (stored ∙ c.requires.fits.high) in
+    let shape = c.requires.shape c.interpolate.new.mat c.transform-changed.result
+    (are.high ∙ stored, are.wide ∙ ap (λ (n : RowMajor g.row.F.Denot). n.width) c.into_row_major_matrix-mat.ensures) c.transform-changed.ensures in
+    (c.requires.fits.log, shape.0 ∙ c.requires.fits.high)
