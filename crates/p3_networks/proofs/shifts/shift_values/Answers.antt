@@ -1,7 +1,6 @@
-use Rattle.std.proofs.Common.{◌≡◌, ◌+◌, ◌*◌, ◌-◌, ◌≤◌, take, drop, length, get_or, sym, ap, ap₂, ◌∙◌, arith, rules, add-one, ◌<◌, ℕ, subst}
+use Rattle.std.proofs.Common.{◌≡◌, ◌+◌, ◌*◌, ◌-◌, ◌≤◌, take, drop, length, get_or, sym, ap, ap₂, ◌∙◌, arith, rules, ◌<◌, ℕ, subst}
 use borrow.Author.Rules.{scaled_fits≤}
-use Rattle.std.proofs.Math.Nat.{suc-mul, mul-le-mul_right, le-add_right}
-use Rattle.std.proofs.lemmas.List.{places}
+use Rattle.std.proofs.Math.Nat.{le-add_right}
 use Rattle.p3_field.specs.Ring.{power}
 use Rattle.p3_field.proofs.Powers.{power-zero, power-more, power_of_one}
 use Rattle.p3_networks.proofs.Layers.Halves.{block_room, part_length}
