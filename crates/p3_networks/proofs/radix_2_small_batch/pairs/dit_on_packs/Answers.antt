@@ -1,7 +1,7 @@
 use Rattle.std.proofs.Common.{◌≡◌, ℕ, ◌+◌, ◌-◌, ◌*◌, ◌/◌, ◌<◌, ◌≤◌, length, get_or, take, drop, refl, sym, ap, ◌∙◌, subst, arith, rules}
 use borrow.Author.Rules.{scaled_fits≤}
 use Rattle.p3_matrix.specs.Butterflies.{dit_far, dit_near}
-use Rattle.p3_networks.proofs.Layers.Halves.{block_room, block_size, part_length}
+use Rattle.p3_networks.proofs.Layers.Halves.{block_size, part_length}
 use Rattle.p3_networks.proofs.Layers.Pairs.{far_done, near_done, pack_room, packs-more}
 use Rattle.p3_networks.proofs.Rows.Overwritten.{part_at, rows-none}
 use Rattle.p3_networks.proofs.radix_2_small_batch.pairs.dit_on_packs.Goals as goal
