@@ -2,7 +2,7 @@ use Rattle.std.specs.Prelude.{IsPermutation, ⊤}
 use Rattle.std.proofs.Common.{◌≡◌, ℕ, List, [], ◌∷◌, take, drop, ◌+◌, ◌*◌, ◌-◌, ◌/◌, ◌%◌, ◌++◌, ◌<◌, ◌≤◌, ◌^◌, length, get_or, Result, refl, sym, ap, ◌∙◌, subst, arith, rules, ⊎_elim}
 use borrow.Author.Rules.{scaled_fits≤}
 use borrow.Rule.Slice.PartMut.{put_mid}
-use Rattle.std.proofs.Math.Nat.{mod-eq_of_lt, mul-le-mul_right}
+use Rattle.std.proofs.Math.Nat.{mod-eq_of_lt, mul-le-mul_right, le_trans}
 use Rattle.std.proofs.Math.Pow.{pow-lt}
 use Rattle.std.proofs.lemmas.Bool.{cases_lt}
 use Rattle.std.proofs.lemmas.List.{append-nil, append_assoc, drop_at, take_at}
@@ -517,3 +517,9 @@ returns-clause-count g c =
     let e : 1 * ((c.loop-place.place + 1) * turn) ≡ 2 ^ a * turn = ap (λ n. 1 * (n * turn)) all ∙ omega arith in
     subst (λ (n : ℕ). c.evaluate_in_place.new.products ≤ c.args.products.now + n) e
     (count_more 1 c.loop-place.place turn _ _ _ c.loop-place.invariant.count (omega (arith, c.evaluate_in_place.ensures.count)))
+
+pub returns-in-Err-clause-grows : goal.returns-in-Err-clause-grows
+returns-in-Err-clause-grows g c = le_trans c.loop-place.invariant.grows c.evaluate_from.ensures.grows
+
+pub returns-clause-grows : goal.returns-clause-grows
+returns-clause-grows g c = le_trans c.loop-place.invariant.grows c.evaluate_in_place.ensures.grows

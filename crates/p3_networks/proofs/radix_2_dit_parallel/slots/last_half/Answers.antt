@@ -2,7 +2,7 @@ use Rattle.std.proofs.Common.{◌≡◌, ℕ, suc, ◌+◌, ◌*◌, ◌-◌, �
 use borrow.Author.Rules.{scaled_fits≤}
 use borrow.Rule.Slice.PartMut.{put_mid}
 use Rattle.std.specs.List.{between}
-use Rattle.std.proofs.Math.Nat.{mul-le-mul_right}
+use Rattle.std.proofs.Math.Nat.{mul-le-mul_right, le_trans}
 use Rattle.std.proofs.lemmas.Nat.{one_shl, pow-add, pow_pos}
 use Rattle.std.proofs.lemmas.Slice.{between-put_mid, take-put_mid_below}
 use Rattle.p3_matrix.specs.BitOrder.{rev}
@@ -223,3 +223,6 @@ returns-clause-count g c =
 
 pub finish_run-requires-clause-table : goal.finish_run-requires-clause-table
 finish_run-requires-clause-table g c = c.requires.table
+
+pub returns-in-Err-clause-grows : goal.returns-in-Err-clause-grows
+returns-in-Err-clause-grows g c = le_trans c.loop-run.invariant.grows c.finish_run.ensures.grows
