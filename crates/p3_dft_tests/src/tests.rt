@@ -1,7 +1,8 @@
 // What every engine answers, and what tests share. A test is a value with a call that is generic over
 // the engine; `on_every_engine` runs it on each.
 //
-// The numbers were worked out by hand or by another program; the rest are laws.
+// The numbers were worked out by hand or by another program; the rest are laws. A test stops where it
+// fails, and where memory is refused.
 
 ghost use Rattle.std.specs.Prelude.{◌≡◌, ◌↔◌, IsTrue};
 ghost use Rattle.p3_field.specs.Ring.{IsInvertible};
@@ -24,7 +25,7 @@ mod radix_2_small_batch;
 mod surface;
 mod util;
 
-use engines::{LimitedDft, ReversedDft};
+use engines::LimitedDft;
 use p3_dft::{
     BabyBear, CanonicalField, Evaluations, Field, Layout, NaiveDft, Radix2Bowers,
     Radix2DFTSmallBatch, Radix2Dit, Radix2DitParallel, RowMajorMatrix, TwoAdicField,
@@ -32,94 +33,104 @@ use p3_dft::{
 };
 use std::alloc::Global;
 use std::process::Abort;
-use std::test::Fail;
 
 // The elements with these numbers.
-pub(crate) fn elements<F: CanonicalField>(alloc: Global, numbers: &[u64]) -> Result<Vec<F>, Fail> {
+pub(crate) fn elements<F: CanonicalField>(
+    rt: &impl Abort,
+    alloc: Global,
+    numbers: &[u64],
+) -> Vec<F> {
     let mut elements = Vec::new(alloc);
     for number in numbers {
-        elements.push(F::new(*number).ok_or("not below the modulus")?)?;
+        let element = F::new(*number).expect(rt, "a number below the modulus");
+        elements.push(element).expect(rt, "memory");
     }
-    Ok(elements)
+    elements
 }
 
 // The matrix of these entries, row after row.
-pub(crate) fn matrix_of<F: Drop>(entries: Vec<F>, width: usize) -> Result<RowMajorMatrix<F>, Fail> {
-    if width == 0 || entries.len() % width != 0 {
-        return Err(Fail::from("no whole number of rows"));
-    }
-    Ok(RowMajorMatrix::new(entries, width))
+pub(crate) fn matrix_of<F: Drop>(
+    rt: &impl Abort,
+    entries: Vec<F>,
+    width: usize,
+) -> RowMajorMatrix<F> {
+    assert!(rt; width != 0 && entries.len() % width == 0);
+    RowMajorMatrix::new(entries, width)
 }
 
 // The matrix of the elements with these numbers, row after row.
 pub(crate) fn matrix<F: CanonicalField>(
+    rt: &impl Abort,
     alloc: Global,
     numbers: &[u64],
     width: usize,
-) -> Result<RowMajorMatrix<F>, Fail> {
-    matrix_of(elements(alloc, numbers)?, width)
+) -> RowMajorMatrix<F> {
+    matrix_of(rt, elements(rt, alloc, numbers), width)
 }
 
 pub(crate) type Matrix = RowMajorMatrix<BabyBear>;
 
 // Entries that look like any others, and are others for another seed.
 fn sample<F: TwoAdicField>(
+    rt: &impl Abort,
     alloc: Global,
     height: usize,
     width: usize,
     seed: u8,
-) -> Result<RowMajorMatrix<F>, Fail> {
-    let count = height.checked_mul(width).ok_or("too many entries")?;
+) -> RowMajorMatrix<F> {
+    let count = height.checked_mul(width).expect(rt, "so many entries");
     let factor = F::from_usize(1664525);
     let mut entry = F::from_u8(seed);
     let mut entries = Vec::new(alloc);
     for _n in 0..count {
         entry = entry * factor + F::ONE;
-        entries.push(entry)?;
+        entries.push(entry).expect(rt, "memory");
     }
-    matrix_of(entries, width)
+    matrix_of(rt, entries, width)
 }
 
 // A column that begins with one number, and has another in all places after it.
 fn column<F: TwoAdicField>(
+    rt: &impl Abort,
     alloc: Global,
     height: usize,
     first: u8,
     later: u8,
-) -> Result<RowMajorMatrix<F>, Fail> {
+) -> RowMajorMatrix<F> {
     let mut entries = Vec::new(alloc);
     for i in 0..height {
-        entries.push(F::from_u8(if i == 0 { first } else { later }))?;
+        let entry = F::from_u8(if i == 0 { first } else { later });
+        entries.push(entry).expect(rt, "memory");
     }
-    matrix_of(entries, 1)
+    matrix_of(rt, entries, 1)
 }
 
 // `a * x + b * y`, entry by entry.
 fn combined<F: TwoAdicField>(
+    rt: &impl Abort,
     alloc: Global,
-    a: F,
-    x: &RowMajorMatrix<F>,
-    b: F,
-    y: &RowMajorMatrix<F>,
-) -> Result<RowMajorMatrix<F>, Fail> {
+    (a, x): (F, &RowMajorMatrix<F>),
+    (b, y): (F, &RowMajorMatrix<F>),
+) -> RowMajorMatrix<F> {
     let mut entries = Vec::new(alloc);
     for (p, q) in x.values().iter().zip(y.values()) {
-        entries.push(a * *p + b * *q)?;
+        entries.push(a * *p + b * *q).expect(rt, "memory");
     }
-    matrix_of(entries, x.width())
+    matrix_of(rt, entries, x.width())
 }
 
 // The matrix with zeros after its entries, up to so many.
 fn with_zeros<F: TwoAdicField>(
+    rt: &impl Abort,
     mat: RowMajorMatrix<F>,
     count: usize,
-) -> Result<RowMajorMatrix<F>, Fail> {
+) -> RowMajorMatrix<F> {
     let width = mat.width();
     let mut entries = mat.into_values();
     for _n in entries.len()..count {
-        entries.push(F::ZERO)?;
+        entries.push(F::ZERO).expect(rt, "memory");
     }
-    matrix_of(entries, width)
+    matrix_of(rt, entries, width)
 }
 
 // Whether an element has an inverse.
@@ -135,10 +146,11 @@ fn dft<F: TwoAdicField, D: TwoAdicSubgroupDft<F>>(
     rt: &impl Abort,
     engine: &mut D,
     mat: &RowMajorMatrix<F>,
-) -> Result<RowMajorMatrix<F>, Fail> {
-    let mat = mat.try_clone()?;
+) -> RowMajorMatrix<F> {
+    let mat = mat.try_clone().expect(rt, "memory");
     assert!(rt; fits_dft::<F>(mat.height(), mat.width()));
-    Ok(engine.dft_batch(mat)?.to_row_major_matrix())
+    let values = engine.dft_batch(mat).expect(rt, "memory");
+    values.to_row_major_matrix()
 }
 
 fn coset_dft<F: TwoAdicField, D: TwoAdicSubgroupDft<F>>(
@@ -146,20 +158,21 @@ fn coset_dft<F: TwoAdicField, D: TwoAdicSubgroupDft<F>>(
     engine: &mut D,
     mat: &RowMajorMatrix<F>,
     shift: F,
-) -> Result<RowMajorMatrix<F>, Fail> {
-    let mat = mat.try_clone()?;
+) -> RowMajorMatrix<F> {
+    let mat = mat.try_clone().expect(rt, "memory");
     assert!(rt; fits_dft::<F>(mat.height(), mat.width()));
-    Ok(engine.coset_dft_batch(mat, shift)?.to_row_major_matrix())
+    let values = engine.coset_dft_batch(mat, shift).expect(rt, "memory");
+    values.to_row_major_matrix()
 }
 
 fn idft<F: TwoAdicField, D: TwoAdicSubgroupDft<F>>(
     rt: &impl Abort,
     engine: &mut D,
     mat: &RowMajorMatrix<F>,
-) -> Result<RowMajorMatrix<F>, Fail> {
-    let mat = mat.try_clone()?;
+) -> RowMajorMatrix<F> {
+    let mat = mat.try_clone().expect(rt, "memory");
     assert!(rt; fits_dft::<F>(mat.height(), mat.width()));
-    Ok(engine.idft_batch(mat)?)
+    engine.idft_batch(mat).expect(rt, "memory")
 }
 
 fn coset_idft<F: TwoAdicField, D: TwoAdicSubgroupDft<F>>(
@@ -167,11 +180,11 @@ fn coset_idft<F: TwoAdicField, D: TwoAdicSubgroupDft<F>>(
     engine: &mut D,
     mat: &RowMajorMatrix<F>,
     shift: F,
-) -> Result<RowMajorMatrix<F>, Fail> {
-    let mat = mat.try_clone()?;
+) -> RowMajorMatrix<F> {
+    let mat = mat.try_clone().expect(rt, "memory");
     assert!(rt; fits_dft::<F>(mat.height(), mat.width()));
     assert!(rt; has_inverse(shift));
-    Ok(engine.coset_idft_batch(mat, shift)?)
+    engine.coset_idft_batch(mat, shift).expect(rt, "memory")
 }
 
 fn lde<F: TwoAdicField, D: TwoAdicSubgroupDft<F>>(
@@ -179,10 +192,11 @@ fn lde<F: TwoAdicField, D: TwoAdicSubgroupDft<F>>(
     engine: &mut D,
     mat: &RowMajorMatrix<F>,
     added_bits: usize,
-) -> Result<RowMajorMatrix<F>, Fail> {
-    let mat = mat.try_clone()?;
+) -> RowMajorMatrix<F> {
+    let mat = mat.try_clone().expect(rt, "memory");
     assert!(rt; fits_lde::<F>(mat.height(), mat.width(), added_bits));
-    Ok(engine.lde_batch(mat, added_bits)?.to_row_major_matrix())
+    let values = engine.lde_batch(mat, added_bits).expect(rt, "memory");
+    values.to_row_major_matrix()
 }
 
 fn coset_lde<F: TwoAdicField, D: TwoAdicSubgroupDft<F>>(
@@ -191,14 +205,11 @@ fn coset_lde<F: TwoAdicField, D: TwoAdicSubgroupDft<F>>(
     mat: &RowMajorMatrix<F>,
     added_bits: usize,
     shift: F,
-) -> Result<RowMajorMatrix<F>, Fail> {
-    let mat = mat.try_clone()?;
+) -> RowMajorMatrix<F> {
+    let mat = mat.try_clone().expect(rt, "memory");
     assert!(rt; fits_lde::<F>(mat.height(), mat.width(), added_bits));
-    Ok(
-        engine
-            .coset_lde_batch(mat, added_bits, shift)?
-            .to_row_major_matrix(),
-    )
+    let values = engine.coset_lde_batch(mat, added_bits, shift);
+    values.expect(rt, "memory").to_row_major_matrix()
 }
 
 // The same of one column, which is the elements with these numbers.
@@ -208,10 +219,10 @@ fn dft_of<F: CanonicalField, D: TwoAdicSubgroupDft<F>>(
     alloc: Global,
     engine: &mut D,
     numbers: &[u64],
-) -> Result<Vec<F>, Fail> {
-    let column: Vec<F> = elements(alloc, numbers)?;
+) -> Vec<F> {
+    let column: Vec<F> = elements(rt, alloc, numbers);
     assert!(rt; fits_dft::<F>(column.len(), 1));
-    Ok(engine.dft(column)?)
+    engine.dft(column).expect(rt, "memory")
 }
 
 fn coset_dft_of<F: CanonicalField, D: TwoAdicSubgroupDft<F>>(
@@ -220,10 +231,10 @@ fn coset_dft_of<F: CanonicalField, D: TwoAdicSubgroupDft<F>>(
     engine: &mut D,
     numbers: &[u64],
     shift: F,
-) -> Result<Vec<F>, Fail> {
-    let column: Vec<F> = elements(alloc, numbers)?;
+) -> Vec<F> {
+    let column: Vec<F> = elements(rt, alloc, numbers);
     assert!(rt; fits_dft::<F>(column.len(), 1));
-    Ok(engine.coset_dft(column, shift)?)
+    engine.coset_dft(column, shift).expect(rt, "memory")
 }
 
 fn idft_of<F: CanonicalField, D: TwoAdicSubgroupDft<F>>(
@@ -231,10 +242,10 @@ fn idft_of<F: CanonicalField, D: TwoAdicSubgroupDft<F>>(
     alloc: Global,
     engine: &mut D,
     numbers: &[u64],
-) -> Result<Vec<F>, Fail> {
-    let column: Vec<F> = elements(alloc, numbers)?;
+) -> Vec<F> {
+    let column: Vec<F> = elements(rt, alloc, numbers);
     assert!(rt; fits_dft::<F>(column.len(), 1));
-    Ok(engine.idft(column)?)
+    engine.idft(column).expect(rt, "memory")
 }
 
 fn coset_idft_of<F: CanonicalField, D: TwoAdicSubgroupDft<F>>(
@@ -243,11 +254,11 @@ fn coset_idft_of<F: CanonicalField, D: TwoAdicSubgroupDft<F>>(
     engine: &mut D,
     numbers: &[u64],
     shift: F,
-) -> Result<Vec<F>, Fail> {
-    let column: Vec<F> = elements(alloc, numbers)?;
+) -> Vec<F> {
+    let column: Vec<F> = elements(rt, alloc, numbers);
     assert!(rt; fits_dft::<F>(column.len(), 1));
     assert!(rt; has_inverse(shift));
-    Ok(engine.coset_idft(column, shift)?)
+    engine.coset_idft(column, shift).expect(rt, "memory")
 }
 
 fn lde_of<F: CanonicalField, D: TwoAdicSubgroupDft<F>>(
@@ -256,10 +267,10 @@ fn lde_of<F: CanonicalField, D: TwoAdicSubgroupDft<F>>(
     engine: &mut D,
     numbers: &[u64],
     added_bits: usize,
-) -> Result<Vec<F>, Fail> {
-    let column: Vec<F> = elements(alloc, numbers)?;
+) -> Vec<F> {
+    let column: Vec<F> = elements(rt, alloc, numbers);
     assert!(rt; fits_lde::<F>(column.len(), 1, added_bits));
-    Ok(engine.lde(column, added_bits)?)
+    engine.lde(column, added_bits).expect(rt, "memory")
 }
 
 fn coset_lde_of<F: CanonicalField, D: TwoAdicSubgroupDft<F>>(
@@ -269,10 +280,11 @@ fn coset_lde_of<F: CanonicalField, D: TwoAdicSubgroupDft<F>>(
     numbers: &[u64],
     added_bits: usize,
     shift: F,
-) -> Result<Vec<F>, Fail> {
-    let column: Vec<F> = elements(alloc, numbers)?;
+) -> Vec<F> {
+    let column: Vec<F> = elements(rt, alloc, numbers);
     assert!(rt; fits_lde::<F>(column.len(), 1, added_bits));
-    Ok(engine.coset_lde(column, added_bits, shift)?)
+    let values = engine.coset_lde(column, added_bits, shift);
+    values.expect(rt, "memory")
 }
 
 // Stops the test where two matrices differ.
@@ -286,58 +298,25 @@ fn assert_same<F: TwoAdicField>(
     assert!(rt; *one == *other, "height {height}, width {width}");
 }
 
-// Where a call does not answer this matrix.
-fn assert_answer<F: TwoAdicField>(
-    rt: &impl Abort,
-    answer: Result<RowMajorMatrix<F>, Fail>,
-    expected: &RowMajorMatrix<F>,
-) -> Result<(), Fail> {
-    assert_same(rt, &answer?, expected);
-    Ok(())
-}
-
-// The same of a matrix that another call answered.
-fn assert_agree<F: TwoAdicField>(
-    rt: &impl Abort,
-    expected: RowMajorMatrix<F>,
-    answer: Result<RowMajorMatrix<F>, Fail>,
-) -> Result<(), Fail> {
-    assert_answer(rt, answer, &expected)
-}
-
-// Where it does not answer the matrix of these numbers.
+// Where a matrix is not that of these numbers.
 fn assert_rows<F: CanonicalField>(
     rt: &impl Abort,
-    alloc: Global,
-    answer: Result<RowMajorMatrix<F>, Fail>,
+    found: &RowMajorMatrix<F>,
     numbers: &[u64],
     width: usize,
-) -> Result<(), Fail> {
-    let answer = answer?;
-    assert_same(rt, &answer, &matrix(alloc, numbers, width)?);
-    Ok(())
+) {
+    assert_same(rt, found, &matrix(rt, *found.allocator(), numbers, width));
 }
 
-// Where it does not answer the elements with these numbers.
-fn assert_elements<F: CanonicalField>(
-    rt: &impl Abort,
-    alloc: Global,
-    answer: Result<Vec<F>, Fail>,
-    numbers: &[u64],
-) -> Result<(), Fail> {
-    let answer = answer?;
-    assert!(rt; answer == elements(alloc, numbers)?);
-    Ok(())
+// Where elements are not those with these numbers.
+fn assert_elements<F: CanonicalField>(rt: &impl Abort, found: Vec<F>, numbers: &[u64]) {
+    let expected: Vec<F> = elements(rt, *found.allocator(), numbers);
+    assert!(rt; found == expected);
 }
 
 // A test that every engine over a field passes.
 trait EngineTest<F: TwoAdicField> {
-    fn run<R: Abort, D: TwoAdicSubgroupDft<F>>(
-        &self,
-        rt: &R,
-        alloc: Global,
-        engine: &mut D,
-    ) -> Result<(), Fail>;
+    fn run<R: Abort, D: TwoAdicSubgroupDft<F>>(&self, rt: &R, alloc: Global, engine: &mut D);
 }
 
 // Runs a test on a new engine.
@@ -345,8 +324,18 @@ fn on<F: TwoAdicField, D: TwoAdicSubgroupDft<F>, R: Abort, T: EngineTest<F>>(
     rt: &R,
     alloc: Global,
     test: &T,
-) -> Result<(), Fail> {
-    test.run(rt, alloc, &mut D::default())
+) {
+    test.run(rt, alloc, &mut D::default());
+}
+
+// On the engine by decimation in time.
+fn on_dit<F: TwoAdicField, R: Abort, T: EngineTest<F>>(rt: &R, alloc: Global, test: &T) {
+    on::<F, Radix2Dit<F>, R, T>(rt, alloc, test);
+}
+
+// On the engine that goes by halves.
+fn on_halves<F: TwoAdicField, R: Abort, T: EngineTest<F>>(rt: &R, alloc: Global, test: &T) {
+    on::<F, Radix2DitParallel<F>, R, T>(rt, alloc, test);
 }
 
 // Runs a test on every engine over a field whose extensions are one block each.
@@ -354,69 +343,54 @@ fn on_engines_of_one_block<F: TwoAdicField, R: Abort, T: EngineTest<F>>(
     rt: &R,
     alloc: Global,
     test: &T,
-) -> Result<(), Fail> {
-    on::<F, NaiveDft, R, T>(rt, alloc, test)?;
-    on::<F, Radix2Dit<F>, R, T>(rt, alloc, test)?;
-    on::<F, Radix2Bowers, R, T>(rt, alloc, test)?;
-    on::<F, Radix2DFTSmallBatch<F>, R, T>(rt, alloc, test)?;
-    on::<F, LimitedDft, R, T>(rt, alloc, test)?;
-    on::<F, ReversedDft, R, T>(rt, alloc, test)
+) {
+    on::<F, NaiveDft, R, T>(rt, alloc, test);
+    on_dit(rt, alloc, test);
+    on::<F, Radix2Bowers, R, T>(rt, alloc, test);
+    on::<F, Radix2DFTSmallBatch<F>, R, T>(rt, alloc, test);
+    on::<F, LimitedDft, R, T>(rt, alloc, test);
 }
 
 // Runs a test on every engine over a field.
-fn on_every_engine<F: TwoAdicField, R: Abort, T: EngineTest<F>>(
-    rt: &R,
-    alloc: Global,
-    test: &T,
-) -> Result<(), Fail> {
-    on_engines_of_one_block::<F, R, T>(rt, alloc, test)?;
-    on::<F, Radix2DitParallel<F>, R, T>(rt, alloc, test)
+fn on_every_engine<F: TwoAdicField, R: Abort, T: EngineTest<F>>(rt: &R, alloc: Global, test: &T) {
+    on_engines_of_one_block(rt, alloc, test);
+    on_halves(rt, alloc, test);
 }
 
 // Worked transforms of one column.
 struct Columns;
 
 impl<F: CanonicalField> EngineTest<F> for Columns {
-    fn run<R: Abort, D: TwoAdicSubgroupDft<F>>(
-        &self,
-        rt: &R,
-        alloc: Global,
-        engine: &mut D,
-    ) -> Result<(), Fail> {
-        let mut engine = engine.clone()?;
-        let values = dft_of(rt, alloc, &mut engine, &[1, 2, 3, 4]);
-        assert_elements(rt, alloc, values, &[10, 569722814, 2013265919, 1443543103])?;
-        let values = coset_dft_of(rt, alloc, &mut engine, &[5, 4], F::TWO);
-        assert_elements(rt, alloc, values, &[13, 2013265918])?;
-        let values = coset_dft_of(rt, alloc, &mut engine, &[5, 4], F::ZERO);
-        assert_elements(rt, alloc, values, &[5, 5])
+    fn run<R: Abort, D: TwoAdicSubgroupDft<F>>(&self, rt: &R, alloc: Global, engine: &mut D) {
+        let values = dft_of(rt, alloc, engine, &[1, 2, 3, 4]);
+        assert_elements(rt, values, &[10, 569722814, 2013265919, 1443543103]);
+        let values = coset_dft_of(rt, alloc, engine, &[5, 4], F::TWO);
+        assert_elements(rt, values, &[13, 2013265918]);
+        let values = coset_dft_of(rt, alloc, engine, &[5, 4], F::ZERO);
+        assert_elements(rt, values, &[5, 5]);
     }
 }
 
-// And worked inverses.
+// And worked inverses, by a clone.
 struct ColumnsBack;
 
 impl<F: CanonicalField> EngineTest<F> for ColumnsBack {
-    fn run<R: Abort, D: TwoAdicSubgroupDft<F>>(
-        &self,
-        rt: &R,
-        alloc: Global,
-        engine: &mut D,
-    ) -> Result<(), Fail> {
+    fn run<R: Abort, D: TwoAdicSubgroupDft<F>>(&self, rt: &R, alloc: Global, engine: &mut D) {
+        let mut engine = engine.clone().expect(rt, "memory");
         let numbers = [10, 569722814, 2013265919, 1443543103];
-        let coefficients = idft_of(rt, alloc, engine, &numbers);
-        assert_elements(rt, alloc, coefficients, &[1, 2, 3, 4])?;
-        let coefficients = idft_of(rt, alloc, engine, &[9, 1]);
-        assert_elements(rt, alloc, coefficients, &[5, 4])?;
-        let coefficients = coset_idft_of(rt, alloc, engine, &[13, 2013265918], F::TWO);
-        assert_elements(rt, alloc, coefficients, &[5, 4])
+        let coefficients = idft_of(rt, alloc, &mut engine, &numbers);
+        assert_elements(rt, coefficients, &[1, 2, 3, 4]);
+        let coefficients = idft_of(rt, alloc, &mut engine, &[9, 1]);
+        assert_elements(rt, coefficients, &[5, 4]);
+        let coefficients = coset_idft_of(rt, alloc, &mut engine, &[13, 2013265918], F::TWO);
+        assert_elements(rt, coefficients, &[5, 4]);
     }
 }
 
 #[test]
-fn worked_columns(rt: HostRuntime) -> Result<(), Fail> {
-    on_every_engine::<BabyBear, _, _>(&rt, rt.alloc(), &Columns)?;
-    on_every_engine::<BabyBear, _, _>(&rt, rt.alloc(), &ColumnsBack)
+fn worked_columns(rt: HostRuntime) {
+    on_every_engine::<BabyBear, _, _>(&rt, rt.alloc(), &Columns);
+    on_every_engine::<BabyBear, _, _>(&rt, rt.alloc(), &ColumnsBack);
 }
 
 // One column on a coset, and another at zero.
@@ -426,54 +400,44 @@ fn shifted<F: CanonicalField, D: TwoAdicSubgroupDft<F>>(
     engine: &mut D,
     shift: F,
     numbers: &[u64],
-) -> Result<(), Fail> {
+) {
     let values = coset_dft_of(rt, alloc, engine, &[5, 4], shift);
-    assert_elements(rt, alloc, values, numbers)?;
+    assert_elements(rt, values, numbers);
     let values = coset_dft_of(rt, alloc, engine, &[1, 2, 3, 4], F::ZERO);
-    assert_elements(rt, alloc, values, &[1, 1, 1, 1])
+    assert_elements(rt, values, &[1, 1, 1, 1]);
 }
 
 // One column on cosets, each shift after others, and another column in between.
 struct ShiftsInTurn;
 
 impl<F: CanonicalField> EngineTest<F> for ShiftsInTurn {
-    fn run<R: Abort, D: TwoAdicSubgroupDft<F>>(
-        &self,
-        rt: &R,
-        alloc: Global,
-        engine: &mut D,
-    ) -> Result<(), Fail> {
-        shifted(rt, alloc, engine, F::TWO, &[13, 2013265918])?;
-        shifted(rt, alloc, engine, F::from_u8(3), &[17, 2013265914])?;
-        shifted(rt, alloc, engine, F::TWO, &[13, 2013265918])
+    fn run<R: Abort, D: TwoAdicSubgroupDft<F>>(&self, rt: &R, alloc: Global, engine: &mut D) {
+        shifted(rt, alloc, engine, F::TWO, &[13, 2013265918]);
+        shifted(rt, alloc, engine, F::from_u8(3), &[17, 2013265914]);
+        shifted(rt, alloc, engine, F::TWO, &[13, 2013265918]);
     }
 }
 
 #[test]
-fn shifts_in_turn(rt: HostRuntime) -> Result<(), Fail> {
-    on_every_engine::<BabyBear, _, _>(&rt, rt.alloc(), &ShiftsInTurn)
+fn shifts_in_turn(rt: HostRuntime) {
+    on_every_engine::<BabyBear, _, _>(&rt, rt.alloc(), &ShiftsInTurn);
 }
 
 // Worked extensions of one column.
 struct ExtendedColumns;
 
 impl<F: CanonicalField> EngineTest<F> for ExtendedColumns {
-    fn run<R: Abort, D: TwoAdicSubgroupDft<F>>(
-        &self,
-        rt: &R,
-        alloc: Global,
-        engine: &mut D,
-    ) -> Result<(), Fail> {
+    fn run<R: Abort, D: TwoAdicSubgroupDft<F>>(&self, rt: &R, alloc: Global, engine: &mut D) {
         let values = lde_of(rt, alloc, engine, &[9, 1], 1);
-        assert_elements(rt, alloc, values, &[9, 873820294, 1, 1139445637])?;
+        assert_elements(rt, values, &[9, 873820294, 1, 1139445637]);
         let values = coset_lde_of(rt, alloc, engine, &[9, 1], 1, F::ZERO);
-        assert_elements(rt, alloc, values, &[5, 5, 5, 5])
+        assert_elements(rt, values, &[5, 5, 5, 5]);
     }
 }
 
 #[test]
-fn extended_columns(rt: HostRuntime) -> Result<(), Fail> {
-    on_every_engine::<BabyBear, _, _>(&rt, rt.alloc(), &ExtendedColumns)
+fn extended_columns(rt: HostRuntime) {
+    on_every_engine::<BabyBear, _, _>(&rt, rt.alloc(), &ExtendedColumns);
 }
 
 // Two values on the coset of two become four.
@@ -481,37 +445,32 @@ fn values_on_coset<F: CanonicalField, D: TwoAdicSubgroupDft<F>>(
     rt: &impl Abort,
     alloc: Global,
     engine: &mut D,
-) -> Result<(), Fail> {
-    let values = matrix(alloc, &[9, 1], 1)?;
-    let coefficients = coset_idft(rt, engine, &values, F::TWO)?;
-    assert_same(rt, &coefficients, &matrix(alloc, &[5, 2], 1)?);
-    let padded = with_zeros(coefficients, 4)?;
+) {
+    let values = matrix(rt, alloc, &[9, 1], 1);
+    let coefficients = coset_idft(rt, engine, &values, F::TWO);
+    assert_rows(rt, &coefficients, &[5, 2], 1);
+    let padded = with_zeros(rt, coefficients, 4);
     let values = coset_dft(rt, engine, &padded, F::TWO);
-    assert_rows(rt, alloc, values, &[9, 873820294, 1, 1139445637], 1)
+    assert_rows(rt, &values, &[9, 873820294, 1, 1139445637], 1);
 }
 
 // Worked examples on matrices: a single row, and values on the coset of two.
 struct Rows;
 
 impl<F: CanonicalField> EngineTest<F> for Rows {
-    fn run<R: Abort, D: TwoAdicSubgroupDft<F>>(
-        &self,
-        rt: &R,
-        alloc: Global,
-        engine: &mut D,
-    ) -> Result<(), Fail> {
-        let row = matrix(alloc, &[42, 7], 2)?;
+    fn run<R: Abort, D: TwoAdicSubgroupDft<F>>(&self, rt: &R, alloc: Global, engine: &mut D) {
+        let row = matrix(rt, alloc, &[42, 7], 2);
         let values = coset_lde(rt, engine, &row, 2, F::from_u8(31));
-        assert_rows(rt, alloc, values, &[42, 7, 42, 7, 42, 7, 42, 7], 2)?;
-        assert_answer(rt, dft(rt, engine, &row), &row)?;
-        assert_answer(rt, idft(rt, engine, &row), &row)?;
-        values_on_coset(rt, alloc, engine)
+        assert_rows(rt, &values, &[42, 7, 42, 7, 42, 7, 42, 7], 2);
+        assert_same(rt, &dft(rt, engine, &row), &row);
+        assert_same(rt, &idft(rt, engine, &row), &row);
+        values_on_coset(rt, alloc, engine);
     }
 }
 
 #[test]
-fn worked_rows(rt: HostRuntime) -> Result<(), Fail> {
-    on_every_engine::<BabyBear, _, _>(&rt, rt.alloc(), &Rows)
+fn worked_rows(rt: HostRuntime) {
+    on_every_engine::<BabyBear, _, _>(&rt, rt.alloc(), &Rows);
 }
 
 // Twice each entry.
@@ -530,13 +489,8 @@ fn doubled<F: TwoAdicField>(mat: RowMajorMatrix<F>) -> RowMajorMatrix<F>
 struct DoubledCoefficients;
 
 impl<F: CanonicalField> EngineTest<F> for DoubledCoefficients {
-    fn run<R: Abort, D: TwoAdicSubgroupDft<F>>(
-        &self,
-        rt: &R,
-        alloc: Global,
-        engine: &mut D,
-    ) -> Result<(), Fail> {
-        let mat: RowMajorMatrix<F> = matrix(alloc, &[9, 1], 1)?;
+    fn run<R: Abort, D: TwoAdicSubgroupDft<F>>(&self, rt: &R, alloc: Global, engine: &mut D) {
+        let mat: RowMajorMatrix<F> = matrix(rt, alloc, &[9, 1], 1);
         assert!(rt; fits_lde::<F>(mat.height(), mat.width(), 1));
         let values = engine.coset_lde_batch_with_transform(
             mat,
@@ -545,30 +499,24 @@ impl<F: CanonicalField> EngineTest<F> for DoubledCoefficients {
             |coefficients: RowMajorMatrix<F>, _layout: Layout| -> RowMajorMatrix<F>
                 ensures { HasShapeOf result coefficients }
             { doubled(coefficients) },
-        )?;
-        let twice = [18, 1747640588, 2, 265625353];
-        assert_rows(rt, alloc, Ok(values.to_row_major_matrix()), &twice, 1)
+        );
+        let values = values.expect(rt, "memory").to_row_major_matrix();
+        assert_rows(rt, &values, &[18, 1747640588, 2, 265625353], 1);
     }
 }
 
 #[test]
-fn doubled_coefficients(rt: HostRuntime) -> Result<(), Fail> {
-    on_every_engine::<BabyBear, _, _>(&rt, rt.alloc(), &DoubledCoefficients)
+fn doubled_coefficients(rt: HostRuntime) {
+    on_every_engine::<BabyBear, _, _>(&rt, rt.alloc(), &DoubledCoefficients);
 }
 
 // What the transform is told and what it sees, of the values of 1 + 2 x + 3 x^2 + 4 x^3.
 struct ToldLayouts;
 
 impl<F: CanonicalField> EngineTest<F> for ToldLayouts {
-    fn run<R: Abort, D: TwoAdicSubgroupDft<F>>(
-        &self,
-        rt: &R,
-        alloc: Global,
-        engine: &mut D,
-    ) -> Result<(), Fail> {
-        let mat: RowMajorMatrix<F> = matrix(alloc, &[10, 569722814, 2013265919, 1443543103], 1)?;
-        let natural = matrix(alloc, &[1, 2, 3, 4], 1)?;
-        let reversed = matrix(alloc, &[1, 3, 2, 4], 1)?;
+    fn run<R: Abort, D: TwoAdicSubgroupDft<F>>(&self, rt: &R, alloc: Global, engine: &mut D) {
+        let numbers = [10, 569722814, 2013265919, 1443543103];
+        let mat: RowMajorMatrix<F> = matrix(rt, alloc, &numbers, 1);
         assert!(rt; fits_lde::<F>(mat.height(), mat.width(), 0));
         let again = engine.coset_lde_batch_with_transform(
             mat,
@@ -578,32 +526,36 @@ impl<F: CanonicalField> EngineTest<F> for ToldLayouts {
                 ensures { result ≡ coefficients }
             {
                 match layout {
-                    Layout::Natural => assert_same(rt, &coefficients, &natural),
-                    Layout::BitReversed => assert_same(rt, &coefficients, &reversed),
+                    Layout::Natural => assert_rows(rt, &coefficients, &[1, 2, 3, 4], 1),
+                    Layout::BitReversed => assert_rows(rt, &coefficients, &[1, 3, 2, 4], 1),
                 }
                 coefficients
             },
-        )?;
-        let numbers = [10, 569722814, 2013265919, 1443543103];
-        assert_rows(rt, alloc, Ok(again.to_row_major_matrix()), &numbers, 1)
+        );
+        let again = again.expect(rt, "memory").to_row_major_matrix();
+        assert_rows(rt, &again, &numbers, 1);
     }
 }
 
 // Whether an engine is handed coefficients in natural order.
-fn is_natural<D: TwoAdicSubgroupDft<BabyBear>>() -> bool {
+fn is_natural<F: TwoAdicField, D: TwoAdicSubgroupDft<F>>() -> bool {
     D::LAYOUT == Layout::Natural
 }
 
+// Which of the engines are.
+fn layouts<F: TwoAdicField>(rt: &impl Abort) {
+    assert!(rt; is_natural::<F, NaiveDft>());
+    assert!(rt; is_natural::<F, Radix2Dit<F>>());
+    assert!(rt; !is_natural::<F, Radix2Bowers>());
+    assert!(rt; !is_natural::<F, Radix2DitParallel<F>>());
+    assert!(rt; is_natural::<F, Radix2DFTSmallBatch<F>>());
+    assert!(rt; !is_natural::<F, LimitedDft>());
+}
+
 #[test]
-fn told_layouts(rt: HostRuntime) -> Result<(), Fail> {
-    assert!(rt; is_natural::<NaiveDft>());
-    assert!(rt; is_natural::<Radix2Dit<BabyBear>>());
-    assert!(rt; !is_natural::<Radix2Bowers>());
-    assert!(rt; !is_natural::<Radix2DitParallel<BabyBear>>());
-    assert!(rt; is_natural::<Radix2DFTSmallBatch<BabyBear>>());
-    assert!(rt; is_natural::<LimitedDft>());
-    assert!(rt; !is_natural::<ReversedDft>());
-    on_every_engine::<BabyBear, _, _>(&rt, rt.alloc(), &ToldLayouts)
+fn told_layouts(rt: HostRuntime) {
+    layouts::<BabyBear>(&rt);
+    on_every_engine::<BabyBear, _, _>(&rt, rt.alloc(), &ToldLayouts);
 }
 
 // A constant has one coefficient, at one height.
@@ -612,13 +564,11 @@ fn constants_at<F: TwoAdicField, D: TwoAdicSubgroupDft<F>>(
     alloc: Global,
     engine: &mut D,
     height: usize,
-) -> Result<(), Fail> {
-    let coefficients = column(alloc, height, 13, 0)?;
-    let values = dft(rt, engine, &coefficients)?;
-    assert_agree(rt, values, column(alloc, height, 13, 13))?;
-    let values = column(alloc, height, 7, 7)?;
-    let coefficients = idft(rt, engine, &values)?;
-    assert_agree(rt, coefficients, column(alloc, height, 7, 0))
+) {
+    let values = dft(rt, engine, &column(rt, alloc, height, 13, 0));
+    assert_same(rt, &values, &column(rt, alloc, height, 13, 13));
+    let coefficients = idft(rt, engine, &column(rt, alloc, height, 7, 7));
+    assert_same(rt, &coefficients, &column(rt, alloc, height, 7, 0));
 }
 
 // The transform and the inverse of zeros are zeros.
@@ -626,32 +576,26 @@ fn zeros_of<F: TwoAdicField, D: TwoAdicSubgroupDft<F>>(
     rt: &impl Abort,
     engine: &mut D,
     zeros: &RowMajorMatrix<F>,
-) -> Result<(), Fail> {
-    assert_answer(rt, dft(rt, engine, zeros), zeros)?;
-    assert_answer(rt, idft(rt, engine, zeros), zeros)
+) {
+    assert_same(rt, &dft(rt, engine, zeros), zeros);
+    assert_same(rt, &idft(rt, engine, zeros), zeros);
 }
 
 // Constants and zeros.
 struct Constants;
 
 impl<F: TwoAdicField> EngineTest<F> for Constants {
-    fn run<R: Abort, D: TwoAdicSubgroupDft<F>>(
-        &self,
-        rt: &R,
-        alloc: Global,
-        engine: &mut D,
-    ) -> Result<(), Fail> {
+    fn run<R: Abort, D: TwoAdicSubgroupDft<F>>(&self, rt: &R, alloc: Global, engine: &mut D) {
         for height in [1usize, 2, 4, 8, 16, 32, 64] {
-            constants_at(rt, alloc, engine, height)?;
-            zeros_of(rt, engine, &column(alloc, height, 0, 0)?)?;
+            constants_at(rt, alloc, engine, height);
+            zeros_of(rt, engine, &column(rt, alloc, height, 0, 0));
         }
-        Ok(())
     }
 }
 
 #[test]
-fn constants_and_zeros(rt: HostRuntime) -> Result<(), Fail> {
-    on_every_engine::<BabyBear, _, _>(&rt, rt.alloc(), &Constants)
+fn constants_and_zeros(rt: HostRuntime) {
+    on_every_engine::<BabyBear, _, _>(&rt, rt.alloc(), &Constants);
 }
 
 const HEIGHTS: [usize; 8] = [1, 2, 4, 8, 16, 32, 64, 128];
@@ -666,17 +610,12 @@ struct Inverses {
 }
 
 impl<F: TwoAdicField> EngineTest<F> for Inverses {
-    fn run<R: Abort, D: TwoAdicSubgroupDft<F>>(
-        &self,
-        rt: &R,
-        alloc: Global,
-        engine: &mut D,
-    ) -> Result<(), Fail> {
-        let x = sample(alloc, self.height, self.width, 1)?;
-        let values = dft(rt, engine, &x)?;
-        assert_answer(rt, idft(rt, engine, &values), &x)?;
-        let coefficients = idft(rt, engine, &x)?;
-        assert_answer(rt, dft(rt, engine, &coefficients), &x)
+    fn run<R: Abort, D: TwoAdicSubgroupDft<F>>(&self, rt: &R, alloc: Global, engine: &mut D) {
+        let x = sample(rt, alloc, self.height, self.width, 1);
+        let values = dft(rt, engine, &x);
+        assert_same(rt, &idft(rt, engine, &values), &x);
+        let coefficients = idft(rt, engine, &x);
+        assert_same(rt, &dft(rt, engine, &coefficients), &x);
     }
 }
 
@@ -688,18 +627,13 @@ struct CosetInverses {
 }
 
 impl<F: TwoAdicField> EngineTest<F> for CosetInverses {
-    fn run<R: Abort, D: TwoAdicSubgroupDft<F>>(
-        &self,
-        rt: &R,
-        alloc: Global,
-        engine: &mut D,
-    ) -> Result<(), Fail> {
+    fn run<R: Abort, D: TwoAdicSubgroupDft<F>>(&self, rt: &R, alloc: Global, engine: &mut D) {
         let shift = F::from_u8(31);
-        let x = sample(alloc, self.height, self.width, 1)?;
-        let values = coset_dft(rt, engine, &x, shift)?;
-        assert_answer(rt, coset_idft(rt, engine, &values, shift), &x)?;
-        let coefficients = coset_idft(rt, engine, &x, shift)?;
-        assert_answer(rt, coset_dft(rt, engine, &coefficients, shift), &x)
+        let x = sample(rt, alloc, self.height, self.width, 1);
+        let values = coset_dft(rt, engine, &x, shift);
+        assert_same(rt, &coset_idft(rt, engine, &values, shift), &x);
+        let coefficients = coset_idft(rt, engine, &x, shift);
+        assert_same(rt, &coset_dft(rt, engine, &coefficients, shift), &x);
     }
 }
 
@@ -711,35 +645,28 @@ struct Sums {
 }
 
 impl<F: TwoAdicField> EngineTest<F> for Sums {
-    fn run<R: Abort, D: TwoAdicSubgroupDft<F>>(
-        &self,
-        rt: &R,
-        alloc: Global,
-        engine: &mut D,
-    ) -> Result<(), Fail> {
+    fn run<R: Abort, D: TwoAdicSubgroupDft<F>>(&self, rt: &R, alloc: Global, engine: &mut D) {
         let a = F::from_u8(5);
         let b = F::NEG_ONE;
-        let x = sample(alloc, self.height, self.width, 1)?;
-        let y = sample(alloc, self.height, self.width, 2)?;
-        let of_x = dft(rt, engine, &x)?;
-        let of_y = dft(rt, engine, &y)?;
-        let sum = combined(alloc, a, &x, b, &y)?;
-        let values = combined(alloc, a, &of_x, b, &of_y)?;
-        assert_agree(rt, values, dft(rt, engine, &sum))
+        let x = sample(rt, alloc, self.height, self.width, 1);
+        let y = sample(rt, alloc, self.height, self.width, 2);
+        let of_x = dft(rt, engine, &x);
+        let of_y = dft(rt, engine, &y);
+        let of_sum = dft(rt, engine, &combined(rt, alloc, (a, &x), (b, &y)));
+        assert_same(rt, &of_sum, &combined(rt, alloc, (a, &of_x), (b, &of_y)));
     }
 }
 
 #[test]
-fn laws_of_transforms(rt: HostRuntime) -> Result<(), Fail> {
+fn laws_of_transforms(rt: HostRuntime) {
     let alloc = rt.alloc();
     for height in HEIGHTS {
         for width in WIDTHS {
-            on_every_engine::<BabyBear, _, _>(&rt, alloc, &Inverses { height, width })?;
-            on_every_engine::<BabyBear, _, _>(&rt, alloc, &CosetInverses { height, width })?;
-            on_every_engine::<BabyBear, _, _>(&rt, alloc, &Sums { height, width })?;
+            on_every_engine::<BabyBear, _, _>(&rt, alloc, &Inverses { height, width });
+            on_every_engine::<BabyBear, _, _>(&rt, alloc, &CosetInverses { height, width });
+            on_every_engine::<BabyBear, _, _>(&rt, alloc, &Sums { height, width });
         }
     }
-    Ok(())
 }
 
 // Two engines answer the same: inverses.
@@ -748,10 +675,10 @@ fn same_inverses<F: TwoAdicField, D: TwoAdicSubgroupDft<F>, E: TwoAdicSubgroupDf
     one: &mut D,
     other: &mut E,
     x: &RowMajorMatrix<F>,
-) -> Result<(), Fail> {
-    assert_agree(rt, idft(rt, one, x)?, idft(rt, other, x))?;
-    let coefficients = coset_idft(rt, one, x, F::GENERATOR)?;
-    assert_agree(rt, coefficients, coset_idft(rt, other, x, F::GENERATOR))
+) {
+    assert_same(rt, &idft(rt, one, x), &idft(rt, other, x));
+    let coefficients = coset_idft(rt, one, x, F::GENERATOR);
+    assert_same(rt, &coefficients, &coset_idft(rt, other, x, F::GENERATOR));
 }
 
 // Transforms on a coset.
@@ -761,9 +688,9 @@ fn same_on_coset<F: TwoAdicField, D: TwoAdicSubgroupDft<F>, E: TwoAdicSubgroupDf
     other: &mut E,
     x: &RowMajorMatrix<F>,
     shift: F,
-) -> Result<(), Fail> {
-    let values = coset_dft(rt, one, x, shift)?;
-    assert_agree(rt, values, coset_dft(rt, other, x, shift))
+) {
+    let values = coset_dft(rt, one, x, shift);
+    assert_same(rt, &values, &coset_dft(rt, other, x, shift));
 }
 
 // And transforms on the subgroup and on three cosets.
@@ -772,11 +699,11 @@ fn same_transforms<F: TwoAdicField, D: TwoAdicSubgroupDft<F>, E: TwoAdicSubgroup
     one: &mut D,
     other: &mut E,
     x: &RowMajorMatrix<F>,
-) -> Result<(), Fail> {
-    assert_agree(rt, dft(rt, one, x)?, dft(rt, other, x))?;
-    same_on_coset(rt, one, other, x, F::ZERO)?;
-    same_on_coset(rt, one, other, x, F::ONE)?;
-    same_on_coset(rt, one, other, x, F::GENERATOR)
+) {
+    assert_same(rt, &dft(rt, one, x), &dft(rt, other, x));
+    same_on_coset(rt, one, other, x, F::ZERO);
+    same_on_coset(rt, one, other, x, F::ONE);
+    same_on_coset(rt, one, other, x, F::GENERATOR);
 }
 
 // Extensions on a coset.
@@ -787,9 +714,9 @@ fn same_extended<F: TwoAdicField, D: TwoAdicSubgroupDft<F>, E: TwoAdicSubgroupDf
     x: &RowMajorMatrix<F>,
     added_bits: usize,
     shift: F,
-) -> Result<(), Fail> {
-    let values = coset_lde(rt, one, x, added_bits, shift)?;
-    assert_agree(rt, values, coset_lde(rt, other, x, added_bits, shift))
+) {
+    let values = coset_lde(rt, one, x, added_bits, shift);
+    assert_same(rt, &values, &coset_lde(rt, other, x, added_bits, shift));
 }
 
 // And extensions by so many bits, on the subgroup and on three cosets.
@@ -799,15 +726,12 @@ fn same_extensions<F: TwoAdicField, D: TwoAdicSubgroupDft<F>, E: TwoAdicSubgroup
     other: &mut E,
     x: &RowMajorMatrix<F>,
     added_bits: usize,
-) -> Result<(), Fail> {
-    assert_agree(
-        rt,
-        lde(rt, one, x, added_bits)?,
-        lde(rt, other, x, added_bits),
-    )?;
-    same_extended(rt, one, other, x, added_bits, F::ZERO)?;
-    same_extended(rt, one, other, x, added_bits, F::ONE)?;
-    same_extended(rt, one, other, x, added_bits, F::GENERATOR)
+) {
+    let values = lde(rt, one, x, added_bits);
+    assert_same(rt, &values, &lde(rt, other, x, added_bits));
+    same_extended(rt, one, other, x, added_bits, F::ZERO);
+    same_extended(rt, one, other, x, added_bits, F::ONE);
+    same_extended(rt, one, other, x, added_bits, F::GENERATOR);
 }
 
 // At one shape: each transform and inverse answers what the engine that follows the definition
@@ -819,16 +743,11 @@ struct TransformsAsSums {
 }
 
 impl<F: TwoAdicField> EngineTest<F> for TransformsAsSums {
-    fn run<R: Abort, D: TwoAdicSubgroupDft<F>>(
-        &self,
-        rt: &R,
-        alloc: Global,
-        engine: &mut D,
-    ) -> Result<(), Fail> {
-        let x = sample(alloc, self.height, self.width, 3)?;
+    fn run<R: Abort, D: TwoAdicSubgroupDft<F>>(&self, rt: &R, alloc: Global, engine: &mut D) {
+        let x = sample(rt, alloc, self.height, self.width, 3);
         let mut sums = NaiveDft::default();
-        same_transforms(rt, &mut sums, engine, &x)?;
-        same_inverses(rt, &mut sums, engine, &x)
+        same_transforms(rt, &mut sums, engine, &x);
+        same_inverses(rt, &mut sums, engine, &x);
     }
 }
 
@@ -840,31 +759,24 @@ struct ExtensionsAsSums {
 }
 
 impl<F: TwoAdicField> EngineTest<F> for ExtensionsAsSums {
-    fn run<R: Abort, D: TwoAdicSubgroupDft<F>>(
-        &self,
-        rt: &R,
-        alloc: Global,
-        engine: &mut D,
-    ) -> Result<(), Fail> {
-        let x = sample(alloc, self.height, self.width, 3)?;
+    fn run<R: Abort, D: TwoAdicSubgroupDft<F>>(&self, rt: &R, alloc: Global, engine: &mut D) {
+        let x = sample(rt, alloc, self.height, self.width, 3);
         let mut sums = NaiveDft::default();
         for added_bits in 0..4usize {
-            same_extensions(rt, &mut sums, engine, &x, added_bits)?;
+            same_extensions(rt, &mut sums, engine, &x, added_bits);
         }
-        Ok(())
     }
 }
 
 #[test]
-fn same_as_sums(rt: HostRuntime) -> Result<(), Fail> {
+fn same_as_sums(rt: HostRuntime) {
     let alloc = rt.alloc();
     for height in HEIGHTS {
         for width in WIDTHS {
-            on_every_engine::<BabyBear, _, _>(&rt, alloc, &TransformsAsSums { height, width })?;
-            on_every_engine::<BabyBear, _, _>(&rt, alloc, &ExtensionsAsSums { height, width })?;
+            on_every_engine::<BabyBear, _, _>(&rt, alloc, &TransformsAsSums { height, width });
+            on_every_engine::<BabyBear, _, _>(&rt, alloc, &ExtensionsAsSums { height, width });
         }
     }
-    Ok(())
 }
 
 // Stops the test unless the rows of one matrix stand in another, `2^added_bits` apart.
@@ -891,17 +803,12 @@ struct RowsKept {
 }
 
 impl<F: TwoAdicField> EngineTest<F> for RowsKept {
-    fn run<R: Abort, D: TwoAdicSubgroupDft<F>>(
-        &self,
-        rt: &R,
-        alloc: Global,
-        engine: &mut D,
-    ) -> Result<(), Fail> {
-        let x = sample(alloc, self.height, 3, 1)?;
-        let extended = lde(rt, engine, &x, self.added_bits)?;
+    fn run<R: Abort, D: TwoAdicSubgroupDft<F>>(&self, rt: &R, alloc: Global, engine: &mut D) {
+        let x = sample(rt, alloc, self.height, 3, 1);
+        let extended = lde(rt, engine, &x, self.added_bits);
         assert_rows_kept(rt, &x, &extended, self.added_bits);
         let on_coset = coset_lde(rt, engine, &x, self.added_bits, F::ONE);
-        assert_answer(rt, on_coset, &extended)
+        assert_same(rt, &on_coset, &extended);
     }
 }
 
@@ -913,17 +820,12 @@ struct ZerosAbove {
 }
 
 impl<F: TwoAdicField> EngineTest<F> for ZerosAbove {
-    fn run<R: Abort, D: TwoAdicSubgroupDft<F>>(
-        &self,
-        rt: &R,
-        alloc: Global,
-        engine: &mut D,
-    ) -> Result<(), Fail> {
+    fn run<R: Abort, D: TwoAdicSubgroupDft<F>>(&self, rt: &R, alloc: Global, engine: &mut D) {
         let shift = F::from_u8(31);
-        let x = sample(alloc, self.height, 3, 1)?;
-        let extended = coset_lde(rt, engine, &x, self.added_bits, shift)?;
-        let padded = with_zeros(idft(rt, engine, &x)?, extended.values().len())?;
-        assert_answer(rt, coset_idft(rt, engine, &extended, shift), &padded)
+        let x = sample(rt, alloc, self.height, 3, 1);
+        let extended = coset_lde(rt, engine, &x, self.added_bits, shift);
+        let padded = with_zeros(rt, idft(rt, engine, &x), extended.values().len());
+        assert_same(rt, &coset_idft(rt, engine, &extended, shift), &padded);
     }
 }
 
@@ -935,31 +837,25 @@ struct NestedCosets {
 }
 
 impl<F: TwoAdicField> EngineTest<F> for NestedCosets {
-    fn run<R: Abort, D: TwoAdicSubgroupDft<F>>(
-        &self,
-        rt: &R,
-        alloc: Global,
-        engine: &mut D,
-    ) -> Result<(), Fail> {
+    fn run<R: Abort, D: TwoAdicSubgroupDft<F>>(&self, rt: &R, alloc: Global, engine: &mut D) {
         let u = F::from_u8(11);
         let s = F::from_u8(31);
-        let x = sample(alloc, self.height, 3, 1)?;
-        let extended = coset_lde(rt, engine, &x, self.added_bits, s)?;
-        let coefficients = coset_idft(rt, engine, &x, u)?;
-        let padded = with_zeros(coefficients, extended.values().len())?;
-        assert_answer(rt, coset_dft(rt, engine, &padded, u * s), &extended)
+        let x = sample(rt, alloc, self.height, 3, 1);
+        let extended = coset_lde(rt, engine, &x, self.added_bits, s);
+        let coefficients = coset_idft(rt, engine, &x, u);
+        let padded = with_zeros(rt, coefficients, extended.values().len());
+        assert_same(rt, &coset_dft(rt, engine, &padded, u * s), &extended);
     }
 }
 
 #[test]
-fn laws_of_extensions(rt: HostRuntime) -> Result<(), Fail> {
+fn laws_of_extensions(rt: HostRuntime) {
     let alloc = rt.alloc();
     for height in [1usize, 2, 4, 16] {
         for added_bits in [0usize, 1, 3] {
-            on_every_engine::<BabyBear, _, _>(&rt, alloc, &RowsKept { height, added_bits })?;
-            on_every_engine::<BabyBear, _, _>(&rt, alloc, &ZerosAbove { height, added_bits })?;
-            on_every_engine::<BabyBear, _, _>(&rt, alloc, &NestedCosets { height, added_bits })?;
+            on_every_engine::<BabyBear, _, _>(&rt, alloc, &RowsKept { height, added_bits });
+            on_every_engine::<BabyBear, _, _>(&rt, alloc, &ZerosAbove { height, added_bits });
+            on_every_engine::<BabyBear, _, _>(&rt, alloc, &NestedCosets { height, added_bits });
         }
     }
-    Ok(())
 }

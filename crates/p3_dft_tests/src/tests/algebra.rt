@@ -10,8 +10,8 @@ ghost use Rattle.p3_dft.specs.Shapes.{FitsDft, FitsLde};
 ghost use Rattle.p3_dft.specs.Transforms.{IsInterpolation, IsTransform};
 
 use super::{
-    EngineTest, assert_agree, assert_answer, coset_dft, coset_idft, coset_lde, dft, has_inverse,
-    idft, lde, matrix_of, on_every_engine, sample,
+    EngineTest, assert_same, coset_dft, coset_idft, coset_lde, dft, has_inverse, idft, lde,
+    matrix_of, on_every_engine, sample,
 };
 use p3_dft::{
     BabyBear, BasedVectorSpace, CanonicalField, Coordinates, DftError, Field, Radix2DFTSmallBatch,
@@ -20,7 +20,6 @@ use p3_dft::{
 };
 use std::alloc::Global;
 use std::process::Abort;
-use std::test::Fail;
 
 // In dimension one a form is the call over the field.
 fn transformed_in_dimension_one<F: TwoAdicField, D: TwoAdicSubgroupDft<F>>(
@@ -103,10 +102,10 @@ fn dft_algebra<F: TwoAdicField, V: BasedVectorSpace<F> + Copy, D: TwoAdicSubgrou
     rt: &impl Abort,
     engine: &mut D,
     mat: &RowMajorMatrix<V>,
-) -> Result<RowMajorMatrix<V>, Fail> {
-    let mat = mat.try_clone()?;
+) -> RowMajorMatrix<V> {
+    let mat = mat.try_clone().expect(rt, "memory");
     assert!(rt; fits_dft_algebra::<F, V>(&mat));
-    Ok(engine.dft_algebra_batch(mat)?)
+    engine.dft_algebra_batch(mat).expect(rt, "memory")
 }
 
 fn coset_dft_algebra<F: TwoAdicField, V: BasedVectorSpace<F> + Copy, D: TwoAdicSubgroupDft<F>>(
@@ -114,20 +113,22 @@ fn coset_dft_algebra<F: TwoAdicField, V: BasedVectorSpace<F> + Copy, D: TwoAdicS
     engine: &mut D,
     mat: &RowMajorMatrix<V>,
     shift: F,
-) -> Result<RowMajorMatrix<V>, Fail> {
-    let mat = mat.try_clone()?;
+) -> RowMajorMatrix<V> {
+    let mat = mat.try_clone().expect(rt, "memory");
     assert!(rt; fits_dft_algebra::<F, V>(&mat));
-    Ok(engine.coset_dft_algebra_batch(mat, shift)?)
+    engine
+        .coset_dft_algebra_batch(mat, shift)
+        .expect(rt, "memory")
 }
 
 fn idft_algebra<F: TwoAdicField, V: BasedVectorSpace<F> + Copy, D: TwoAdicSubgroupDft<F>>(
     rt: &impl Abort,
     engine: &mut D,
     mat: &RowMajorMatrix<V>,
-) -> Result<RowMajorMatrix<V>, Fail> {
-    let mat = mat.try_clone()?;
+) -> RowMajorMatrix<V> {
+    let mat = mat.try_clone().expect(rt, "memory");
     assert!(rt; fits_dft_algebra::<F, V>(&mat));
-    Ok(engine.idft_algebra_batch(mat)?)
+    engine.idft_algebra_batch(mat).expect(rt, "memory")
 }
 
 fn coset_idft_algebra<F: TwoAdicField, V: BasedVectorSpace<F> + Copy, D: TwoAdicSubgroupDft<F>>(
@@ -135,11 +136,13 @@ fn coset_idft_algebra<F: TwoAdicField, V: BasedVectorSpace<F> + Copy, D: TwoAdic
     engine: &mut D,
     mat: &RowMajorMatrix<V>,
     shift: F,
-) -> Result<RowMajorMatrix<V>, Fail> {
-    let mat = mat.try_clone()?;
+) -> RowMajorMatrix<V> {
+    let mat = mat.try_clone().expect(rt, "memory");
     assert!(rt; fits_dft_algebra::<F, V>(&mat));
     assert!(rt; has_inverse(shift));
-    Ok(engine.coset_idft_algebra_batch(mat, shift)?)
+    engine
+        .coset_idft_algebra_batch(mat, shift)
+        .expect(rt, "memory")
 }
 
 fn lde_algebra<F: TwoAdicField, V: BasedVectorSpace<F> + Copy, D: TwoAdicSubgroupDft<F>>(
@@ -147,10 +150,12 @@ fn lde_algebra<F: TwoAdicField, V: BasedVectorSpace<F> + Copy, D: TwoAdicSubgrou
     engine: &mut D,
     mat: &RowMajorMatrix<V>,
     added_bits: usize,
-) -> Result<RowMajorMatrix<V>, Fail> {
-    let mat = mat.try_clone()?;
+) -> RowMajorMatrix<V> {
+    let mat = mat.try_clone().expect(rt, "memory");
     assert!(rt; fits_lde_algebra::<F, V>(&mat, added_bits));
-    Ok(engine.lde_algebra_batch(mat, added_bits)?)
+    engine
+        .lde_algebra_batch(mat, added_bits)
+        .expect(rt, "memory")
 }
 
 fn coset_lde_algebra<F: TwoAdicField, V: BasedVectorSpace<F> + Copy, D: TwoAdicSubgroupDft<F>>(
@@ -159,22 +164,26 @@ fn coset_lde_algebra<F: TwoAdicField, V: BasedVectorSpace<F> + Copy, D: TwoAdicS
     mat: &RowMajorMatrix<V>,
     added_bits: usize,
     shift: F,
-) -> Result<RowMajorMatrix<V>, Fail> {
-    let mat = mat.try_clone()?;
+) -> RowMajorMatrix<V> {
+    let mat = mat.try_clone().expect(rt, "memory");
     assert!(rt; fits_lde_algebra::<F, V>(&mat, added_bits));
-    Ok(engine.coset_lde_algebra_batch(mat, added_bits, shift)?)
+    engine
+        .coset_lde_algebra_batch(mat, added_bits, shift)
+        .expect(rt, "memory")
 }
 
 type Pair<F> = Coordinates<F, 2>;
 
 // The pairs with these numbers, one pair after another.
-fn pairs<F: CanonicalField>(alloc: Global, numbers: &[u64]) -> Result<Vec<Pair<F>>, Fail> {
-    let coordinates: Vec<F> = super::elements(alloc, numbers)?;
+fn pairs<F: CanonicalField>(rt: &impl Abort, alloc: Global, numbers: &[u64]) -> Vec<Pair<F>> {
+    let coordinates: Vec<F> = super::elements(rt, alloc, numbers);
     let mut pairs = Vec::new(alloc);
     for i in 0..coordinates.len() / 2 {
-        pairs.push(Coordinates::new([coordinates[2 * i], coordinates[2 * i + 1]]))?;
+        pairs
+            .push(Coordinates::new([coordinates[2 * i], coordinates[2 * i + 1]]))
+            .expect(rt, "memory");
     }
-    Ok(pairs)
+    pairs
 }
 
 // Each form of a call for the column of the pairs with these numbers.
@@ -184,10 +193,10 @@ fn dft_of_pairs<F: CanonicalField, D: TwoAdicSubgroupDft<F>>(
     alloc: Global,
     engine: &mut D,
     numbers: &[u64],
-) -> Result<Vec<Pair<F>>, Fail> {
-    let column: Vec<Pair<F>> = pairs(alloc, numbers)?;
+) -> Vec<Pair<F>> {
+    let column: Vec<Pair<F>> = pairs(rt, alloc, numbers);
     assert!(rt; fits_dft::<F>(column.len(), 2));
-    Ok(engine.dft_algebra(column)?)
+    engine.dft_algebra(column).expect(rt, "memory")
 }
 
 fn idft_of_pairs<F: CanonicalField, D: TwoAdicSubgroupDft<F>>(
@@ -195,10 +204,10 @@ fn idft_of_pairs<F: CanonicalField, D: TwoAdicSubgroupDft<F>>(
     alloc: Global,
     engine: &mut D,
     numbers: &[u64],
-) -> Result<Vec<Pair<F>>, Fail> {
-    let column: Vec<Pair<F>> = pairs(alloc, numbers)?;
+) -> Vec<Pair<F>> {
+    let column: Vec<Pair<F>> = pairs(rt, alloc, numbers);
     assert!(rt; fits_dft::<F>(column.len(), 2));
-    Ok(engine.idft_algebra(column)?)
+    engine.idft_algebra(column).expect(rt, "memory")
 }
 
 fn lde_of_pairs<F: CanonicalField, D: TwoAdicSubgroupDft<F>>(
@@ -207,22 +216,21 @@ fn lde_of_pairs<F: CanonicalField, D: TwoAdicSubgroupDft<F>>(
     engine: &mut D,
     numbers: &[u64],
     added_bits: usize,
-) -> Result<Vec<Pair<F>>, Fail> {
-    let column: Vec<Pair<F>> = pairs(alloc, numbers)?;
+) -> Vec<Pair<F>> {
+    let column: Vec<Pair<F>> = pairs(rt, alloc, numbers);
     assert!(rt; fits_lde::<F>(column.len(), 2, added_bits));
-    Ok(engine.lde_algebra(column, added_bits)?)
+    engine.lde_algebra(column, added_bits).expect(rt, "memory")
 }
 
 // Stops the test where an answer is not the pairs with these numbers.
 fn assert_pairs<F: CanonicalField>(
     rt: &impl Abort,
     alloc: Global,
-    answer: Result<Vec<Pair<F>>, Fail>,
+    found: Vec<Pair<F>>,
     numbers: &[u64],
-) -> Result<(), Fail> {
-    let answer = answer?;
-    assert!(rt; answer == pairs(alloc, numbers)?);
-    Ok(())
+) {
+    let expected: Vec<Pair<F>> = pairs(rt, alloc, numbers);
+    assert!(rt; found == expected);
 }
 
 // Worked columns of pairs.
@@ -234,11 +242,11 @@ impl EngineTest<BabyBear> for WorkedPairs {
         rt: &R,
         alloc: Global,
         engine: &mut D,
-    ) -> Result<(), Fail> {
+    ) {
         let values = dft_of_pairs(rt, alloc, engine, &[5, 1, 4, 0]);
-        assert_pairs(rt, alloc, values, &[9, 1, 1, 1])?;
+        assert_pairs(rt, alloc, values, &[9, 1, 1, 1]);
         let coefficients = idft_of_pairs(rt, alloc, engine, &[9, 1, 1, 1]);
-        assert_pairs(rt, alloc, coefficients, &[5, 1, 4, 0])
+        assert_pairs(rt, alloc, coefficients, &[5, 1, 4, 0]);
     }
 }
 
@@ -251,17 +259,17 @@ impl EngineTest<BabyBear> for ExtendedPairs {
         rt: &R,
         alloc: Global,
         engine: &mut D,
-    ) -> Result<(), Fail> {
+    ) {
         let values = lde_of_pairs(rt, alloc, engine, &[9, 42, 1, 42], 1);
         let numbers = [9, 42, 873820294, 42, 1, 42, 1139445637, 42];
-        assert_pairs(rt, alloc, values, &numbers)
+        assert_pairs(rt, alloc, values, &numbers);
     }
 }
 
 #[test]
-fn worked_pairs(rt: HostRuntime) -> Result<(), Fail> {
-    on_every_engine::<BabyBear, _, _>(&rt, rt.alloc(), &WorkedPairs)?;
-    on_every_engine::<BabyBear, _, _>(&rt, rt.alloc(), &ExtendedPairs)
+fn worked_pairs(rt: HostRuntime) {
+    on_every_engine::<BabyBear, _, _>(&rt, rt.alloc(), &WorkedPairs);
+    on_every_engine::<BabyBear, _, _>(&rt, rt.alloc(), &ExtendedPairs);
 }
 
 // At one shape: in dimension one each form is the call over the field.
@@ -272,20 +280,19 @@ struct DimensionOne {
 }
 
 impl<F: TwoAdicField> EngineTest<F> for DimensionOne {
-    fn run<R: Abort, D: TwoAdicSubgroupDft<F>>(
-        &self,
-        rt: &R,
-        alloc: Global,
-        engine: &mut D,
-    ) -> Result<(), Fail> {
+    fn run<R: Abort, D: TwoAdicSubgroupDft<F>>(&self, rt: &R, alloc: Global, engine: &mut D) {
         let shift = F::GENERATOR;
-        let x = sample(alloc, self.height, self.width, 3)?;
-        assert_agree(rt, dft(rt, engine, &x)?, dft_algebra(rt, engine, &x))?;
-        let values = coset_dft(rt, engine, &x, shift)?;
-        assert_agree(rt, values, coset_dft_algebra(rt, engine, &x, shift))?;
-        assert_agree(rt, idft(rt, engine, &x)?, idft_algebra(rt, engine, &x))?;
-        let coefficients = coset_idft(rt, engine, &x, shift)?;
-        assert_agree(rt, coefficients, coset_idft_algebra(rt, engine, &x, shift))
+        let x = sample(rt, alloc, self.height, self.width, 3);
+        assert_same(rt, &dft(rt, engine, &x), &dft_algebra(rt, engine, &x));
+        let values = coset_dft(rt, engine, &x, shift);
+        assert_same(rt, &values, &coset_dft_algebra(rt, engine, &x, shift));
+        assert_same(rt, &idft(rt, engine, &x), &idft_algebra(rt, engine, &x));
+        let coefficients = coset_idft(rt, engine, &x, shift);
+        assert_same(
+            rt,
+            &coefficients,
+            &coset_idft_algebra(rt, engine, &x, shift),
+        );
     }
 }
 
@@ -297,17 +304,12 @@ struct ExtendedInDimensionOne {
 }
 
 impl<F: TwoAdicField> EngineTest<F> for ExtendedInDimensionOne {
-    fn run<R: Abort, D: TwoAdicSubgroupDft<F>>(
-        &self,
-        rt: &R,
-        alloc: Global,
-        engine: &mut D,
-    ) -> Result<(), Fail> {
+    fn run<R: Abort, D: TwoAdicSubgroupDft<F>>(&self, rt: &R, alloc: Global, engine: &mut D) {
         let shift = F::GENERATOR;
-        let x = sample(alloc, self.height, self.width, 3)?;
-        assert_agree(rt, lde(rt, engine, &x, 1)?, lde_algebra(rt, engine, &x, 1))?;
-        let values = coset_lde(rt, engine, &x, 1, shift)?;
-        assert_agree(rt, values, coset_lde_algebra(rt, engine, &x, 1, shift))
+        let x = sample(rt, alloc, self.height, self.width, 3);
+        assert_same(rt, &lde(rt, engine, &x, 1), &lde_algebra(rt, engine, &x, 1));
+        let values = coset_lde(rt, engine, &x, 1, shift);
+        assert_same(rt, &values, &coset_lde_algebra(rt, engine, &x, 1, shift));
     }
 }
 
@@ -317,11 +319,11 @@ fn dft_of_column<F: TwoAdicField, D: TwoAdicSubgroupDft<F>>(
     rt: &impl Abort,
     engine: &mut D,
     column: &RowMajorMatrix<F>,
-) -> Result<RowMajorMatrix<F>, Fail> {
-    let column = column.try_clone()?.into_values();
+) -> RowMajorMatrix<F> {
+    let column = column.try_clone().expect(rt, "memory").into_values();
     assert!(rt; fits_dft::<F>(column.len(), 1));
-    let values = engine.dft_algebra(column)?;
-    matrix_of(values, 1)
+    let values = engine.dft_algebra(column).expect(rt, "memory");
+    matrix_of(rt, values, 1)
 }
 
 fn coset_dft_of_column<F: TwoAdicField, D: TwoAdicSubgroupDft<F>>(
@@ -329,22 +331,22 @@ fn coset_dft_of_column<F: TwoAdicField, D: TwoAdicSubgroupDft<F>>(
     engine: &mut D,
     column: &RowMajorMatrix<F>,
     shift: F,
-) -> Result<RowMajorMatrix<F>, Fail> {
-    let column = column.try_clone()?.into_values();
+) -> RowMajorMatrix<F> {
+    let column = column.try_clone().expect(rt, "memory").into_values();
     assert!(rt; fits_dft::<F>(column.len(), 1));
-    let values = engine.coset_dft_algebra(column, shift)?;
-    matrix_of(values, 1)
+    let values = engine.coset_dft_algebra(column, shift).expect(rt, "memory");
+    matrix_of(rt, values, 1)
 }
 
 fn idft_of_column<F: TwoAdicField, D: TwoAdicSubgroupDft<F>>(
     rt: &impl Abort,
     engine: &mut D,
     column: &RowMajorMatrix<F>,
-) -> Result<RowMajorMatrix<F>, Fail> {
-    let column = column.try_clone()?.into_values();
+) -> RowMajorMatrix<F> {
+    let column = column.try_clone().expect(rt, "memory").into_values();
     assert!(rt; fits_dft::<F>(column.len(), 1));
-    let coefficients = engine.idft_algebra(column)?;
-    matrix_of(coefficients, 1)
+    let coefficients = engine.idft_algebra(column).expect(rt, "memory");
+    matrix_of(rt, coefficients, 1)
 }
 
 fn coset_idft_of_column<F: TwoAdicField, D: TwoAdicSubgroupDft<F>>(
@@ -352,12 +354,14 @@ fn coset_idft_of_column<F: TwoAdicField, D: TwoAdicSubgroupDft<F>>(
     engine: &mut D,
     column: &RowMajorMatrix<F>,
     shift: F,
-) -> Result<RowMajorMatrix<F>, Fail> {
-    let column = column.try_clone()?.into_values();
+) -> RowMajorMatrix<F> {
+    let column = column.try_clone().expect(rt, "memory").into_values();
     assert!(rt; fits_dft::<F>(column.len(), 1));
     assert!(rt; has_inverse(shift));
-    let coefficients = engine.coset_idft_algebra(column, shift)?;
-    matrix_of(coefficients, 1)
+    let coefficients = engine
+        .coset_idft_algebra(column, shift)
+        .expect(rt, "memory");
+    matrix_of(rt, coefficients, 1)
 }
 
 fn lde_of_column<F: TwoAdicField, D: TwoAdicSubgroupDft<F>>(
@@ -365,11 +369,11 @@ fn lde_of_column<F: TwoAdicField, D: TwoAdicSubgroupDft<F>>(
     engine: &mut D,
     column: &RowMajorMatrix<F>,
     added_bits: usize,
-) -> Result<RowMajorMatrix<F>, Fail> {
-    let column = column.try_clone()?.into_values();
+) -> RowMajorMatrix<F> {
+    let column = column.try_clone().expect(rt, "memory").into_values();
     assert!(rt; fits_lde::<F>(column.len(), 1, added_bits));
-    let values = engine.lde_algebra(column, added_bits)?;
-    matrix_of(values, 1)
+    let values = engine.lde_algebra(column, added_bits).expect(rt, "memory");
+    matrix_of(rt, values, 1)
 }
 
 fn coset_lde_of_column<F: TwoAdicField, D: TwoAdicSubgroupDft<F>>(
@@ -378,11 +382,13 @@ fn coset_lde_of_column<F: TwoAdicField, D: TwoAdicSubgroupDft<F>>(
     column: &RowMajorMatrix<F>,
     added_bits: usize,
     shift: F,
-) -> Result<RowMajorMatrix<F>, Fail> {
-    let column = column.try_clone()?.into_values();
+) -> RowMajorMatrix<F> {
+    let column = column.try_clone().expect(rt, "memory").into_values();
     assert!(rt; fits_lde::<F>(column.len(), 1, added_bits));
-    let values = engine.coset_lde_algebra(column, added_bits, shift)?;
-    matrix_of(values, 1)
+    let values = engine
+        .coset_lde_algebra(column, added_bits, shift)
+        .expect(rt, "memory");
+    matrix_of(rt, values, 1)
 }
 
 // One column on the subgroup.
@@ -392,18 +398,13 @@ struct ColumnOnSubgroup {
 }
 
 impl<F: TwoAdicField> EngineTest<F> for ColumnOnSubgroup {
-    fn run<R: Abort, D: TwoAdicSubgroupDft<F>>(
-        &self,
-        rt: &R,
-        alloc: Global,
-        engine: &mut D,
-    ) -> Result<(), Fail> {
-        let x = sample(alloc, self.height, 1, 3)?;
-        let values = dft(rt, engine, &x)?;
-        assert_answer(rt, dft_of_column(rt, engine, &x), &values)?;
-        assert_answer(rt, idft_of_column(rt, engine, &values), &x)?;
-        let values = lde(rt, engine, &x, 1)?;
-        assert_agree(rt, values, lde_of_column(rt, engine, &x, 1))
+    fn run<R: Abort, D: TwoAdicSubgroupDft<F>>(&self, rt: &R, alloc: Global, engine: &mut D) {
+        let x = sample(rt, alloc, self.height, 1, 3);
+        let values = dft(rt, engine, &x);
+        assert_same(rt, &dft_of_column(rt, engine, &x), &values);
+        assert_same(rt, &idft_of_column(rt, engine, &values), &x);
+        let values = lde(rt, engine, &x, 1);
+        assert_same(rt, &values, &lde_of_column(rt, engine, &x, 1));
     }
 }
 
@@ -414,75 +415,67 @@ struct ColumnOnCoset {
 }
 
 impl<F: TwoAdicField> EngineTest<F> for ColumnOnCoset {
-    fn run<R: Abort, D: TwoAdicSubgroupDft<F>>(
-        &self,
-        rt: &R,
-        alloc: Global,
-        engine: &mut D,
-    ) -> Result<(), Fail> {
+    fn run<R: Abort, D: TwoAdicSubgroupDft<F>>(&self, rt: &R, alloc: Global, engine: &mut D) {
         let shift = F::GENERATOR;
-        let x = sample(alloc, self.height, 1, 3)?;
-        let values = coset_dft(rt, engine, &x, shift)?;
-        assert_answer(rt, coset_dft_of_column(rt, engine, &x, shift), &values)?;
-        assert_answer(rt, coset_idft_of_column(rt, engine, &values, shift), &x)?;
-        let values = coset_lde(rt, engine, &x, 1, shift)?;
-        assert_agree(rt, values, coset_lde_of_column(rt, engine, &x, 1, shift))
+        let x = sample(rt, alloc, self.height, 1, 3);
+        let values = coset_dft(rt, engine, &x, shift);
+        assert_same(rt, &coset_dft_of_column(rt, engine, &x, shift), &values);
+        assert_same(rt, &coset_idft_of_column(rt, engine, &values, shift), &x);
+        let values = coset_lde(rt, engine, &x, 1, shift);
+        assert_same(rt, &values, &coset_lde_of_column(rt, engine, &x, 1, shift));
     }
 }
 
 #[test]
-fn same_in_dimension_one(rt: HostRuntime) -> Result<(), Fail> {
+fn same_in_dimension_one(rt: HostRuntime) {
     let alloc = rt.alloc();
     for height in [1usize, 4] {
         for width in [1usize, 3] {
-            on_every_engine::<BabyBear, _, _>(&rt, alloc, &DimensionOne { height, width })?;
+            on_every_engine::<BabyBear, _, _>(&rt, alloc, &DimensionOne { height, width });
             on_every_engine::<BabyBear, _, _>(
                 &rt,
                 alloc,
                 &ExtendedInDimensionOne { height, width },
-            )?;
+            );
         }
-        on_every_engine::<BabyBear, _, _>(&rt, alloc, &ColumnOnSubgroup { height })?;
-        on_every_engine::<BabyBear, _, _>(&rt, alloc, &ColumnOnCoset { height })?;
+        on_every_engine::<BabyBear, _, _>(&rt, alloc, &ColumnOnSubgroup { height });
+        on_every_engine::<BabyBear, _, _>(&rt, alloc, &ColumnOnCoset { height });
     }
-    Ok(())
 }
 
 // A matrix of elements that look like any others.
 fn elements<F: TwoAdicField, V: BasedVectorSpace<F>>(
+    rt: &impl Abort,
     alloc: Global,
     height: usize,
     width: usize,
-) -> Result<RowMajorMatrix<V>, Fail> {
-    let count = height.checked_mul(width).ok_or("too many entries")?;
-    let coordinates = sample(alloc, count, V::DIMENSION, 5)?;
+) -> RowMajorMatrix<V> {
+    let count = height.checked_mul(width).expect(rt, "so many entries");
+    let coordinates = sample(rt, alloc, count, V::DIMENSION, 5);
     let mut elements = Vec::new(alloc);
     for i in 0..coordinates.height() {
         let row = coordinates.row(i);
-        if row.len() != V::DIMENSION {
-            return Err(Fail::from("no element"));
-        }
-        elements.push(V::from_coordinates(row))?;
+        assert!(rt; row.len() == V::DIMENSION);
+        elements.push(V::from_coordinates(row)).expect(rt, "memory");
     }
-    matrix_of(elements, width)
+    matrix_of(rt, elements, width)
 }
 
 // Coordinate t of the entries in column j.
 fn coordinates<F: TwoAdicField, V: BasedVectorSpace<F>>(
+    rt: &impl Abort,
     alloc: Global,
     mat: &RowMajorMatrix<V>,
     j: usize,
     t: usize,
-) -> Result<RowMajorMatrix<F>, Fail> {
-    if t >= V::DIMENSION {
-        return Err(Fail::from("no such coordinate"));
-    }
+) -> RowMajorMatrix<F> {
+    assert!(rt; t < V::DIMENSION);
     let mut column = Vec::new(alloc);
     for i in 0..mat.height() {
-        let element = mat.row(i).get(j).ok_or("no such column")?;
-        column.push(element.coordinate(t))?;
+        let element = mat.row(i).get(j).expect(rt, "such a column");
+        column.push(element.coordinate(t)).expect(rt, "memory");
     }
-    matrix_of(column, 1)
+    matrix_of(rt, column, 1)
 }
 
 // A coordinate of a column is transformed on a coset as if it stood alone.
@@ -492,14 +485,14 @@ fn coordinate_alone<F: TwoAdicField, V: BasedVectorSpace<F>, D: TwoAdicSubgroupD
     engine: &mut D,
     (mat, values): (&RowMajorMatrix<V>, &RowMajorMatrix<V>),
     (j, t): (usize, usize),
-) -> Result<(), Fail> {
-    let column = coordinates::<F, V>(alloc, mat, j, t)?;
-    let transformed = coordinates::<F, V>(alloc, values, j, t)?;
-    assert_agree(
+) {
+    let column = coordinates::<F, V>(rt, alloc, mat, j, t);
+    let transformed = coordinates::<F, V>(rt, alloc, values, j, t);
+    assert_same(
         rt,
-        transformed,
-        coset_dft(rt, engine, &column, F::GENERATOR),
-    )
+        &transformed,
+        &coset_dft(rt, engine, &column, F::GENERATOR),
+    );
 }
 
 // So is each coordinate of each column.
@@ -508,15 +501,14 @@ fn alone<F: TwoAdicField, V: BasedVectorSpace<F> + Copy, D: TwoAdicSubgroupDft<F
     alloc: Global,
     engine: &mut D,
     width: usize,
-) -> Result<(), Fail> {
-    let x: RowMajorMatrix<V> = elements::<F, V>(alloc, 4, width)?;
-    let values = coset_dft_algebra(rt, engine, &x, F::GENERATOR)?;
+) {
+    let x: RowMajorMatrix<V> = elements::<F, V>(rt, alloc, 4, width);
+    let values = coset_dft_algebra(rt, engine, &x, F::GENERATOR);
     for j in 0..width {
         for t in 0..V::DIMENSION {
-            coordinate_alone::<F, V, D>(rt, alloc, engine, (&x, &values), (j, t))?;
+            coordinate_alone::<F, V, D>(rt, alloc, engine, (&x, &values), (j, t));
         }
     }
-    Ok(())
 }
 
 // At one width, in some dimensions.
@@ -531,17 +523,17 @@ impl EngineTest<BabyBear> for EachAlone {
         rt: &R,
         alloc: Global,
         engine: &mut D,
-    ) -> Result<(), Fail> {
-        alone::<BabyBear, Coordinates<BabyBear, 1>, D>(rt, alloc, engine, self.width)?;
-        alone::<BabyBear, Coordinates<BabyBear, 2>, D>(rt, alloc, engine, self.width)?;
-        alone::<BabyBear, Coordinates<BabyBear, 3>, D>(rt, alloc, engine, self.width)?;
-        alone::<BabyBear, Coordinates<BabyBear, 8>, D>(rt, alloc, engine, self.width)
+    ) {
+        alone::<BabyBear, Coordinates<BabyBear, 1>, D>(rt, alloc, engine, self.width);
+        alone::<BabyBear, Coordinates<BabyBear, 2>, D>(rt, alloc, engine, self.width);
+        alone::<BabyBear, Coordinates<BabyBear, 3>, D>(rt, alloc, engine, self.width);
+        alone::<BabyBear, Coordinates<BabyBear, 8>, D>(rt, alloc, engine, self.width);
     }
 }
 
 #[test]
-fn each_coordinate_alone(rt: HostRuntime) -> Result<(), Fail> {
-    on_every_engine::<BabyBear, _, _>(&rt, rt.alloc(), &EachAlone { width: 1 })?;
+fn each_coordinate_alone(rt: HostRuntime) {
+    on_every_engine::<BabyBear, _, _>(&rt, rt.alloc(), &EachAlone { width: 1 });
     on_every_engine::<BabyBear, _, _>(&rt, rt.alloc(), &EachAlone { width: 3 })
 }
 
@@ -549,78 +541,70 @@ fn each_coordinate_alone(rt: HostRuntime) -> Result<(), Fail> {
 struct EveryForm;
 
 impl<F: TwoAdicField> EngineTest<F> for EveryForm {
-    fn run<R: Abort, D: TwoAdicSubgroupDft<F>>(
-        &self,
-        rt: &R,
-        alloc: Global,
-        engine: &mut D,
-    ) -> Result<(), Fail> {
+    fn run<R: Abort, D: TwoAdicSubgroupDft<F>>(&self, rt: &R, alloc: Global, engine: &mut D) {
         let (height, width) = (2, 3);
-        DimensionOne { height, width }.run(rt, alloc, engine)?;
-        ExtendedInDimensionOne { height, width }.run(rt, alloc, engine)?;
-        ColumnOnSubgroup { height }.run(rt, alloc, engine)?;
+        DimensionOne { height, width }.run(rt, alloc, engine);
+        ExtendedInDimensionOne { height, width }.run(rt, alloc, engine);
+        ColumnOnSubgroup { height }.run(rt, alloc, engine);
         ColumnOnCoset { height }.run(rt, alloc, engine)
     }
 }
 
-// Whether all forms of a test answer or memory is refused to one, height two stays prepared.
+// After all forms of a test height two is prepared as before.
 
 fn dit_stays_prepared<F: TwoAdicField, R: Abort, T: EngineTest<F>>(
     rt: &R,
     alloc: Global,
     test: &T,
-) -> Result<(), Fail> {
+) {
     assert!(rt; F::TWO_ADICITY >= 1);
     let mut engine: Radix2Dit<F> = Radix2Dit::default();
-    engine.prepare(alloc, 1)?;
-    let done = test.run(rt, alloc, &mut engine);
+    engine.prepare(alloc, 1).expect(rt, "memory");
+    test.run(rt, alloc, &mut engine);
     assert!(rt; engine.is_prepared(1));
-    done
 }
 
 fn halves_stay_prepared<F: TwoAdicField, R: Abort, T: EngineTest<F>>(
     rt: &R,
     alloc: Global,
     test: &T,
-) -> Result<(), Fail> {
+) {
     assert!(rt; F::TWO_ADICITY >= 1);
     let mut engine: Radix2DitParallel<F> = Radix2DitParallel::default();
-    engine.prepare(alloc, 1)?;
-    let done = test.run(rt, alloc, &mut engine);
+    engine.prepare(alloc, 1).expect(rt, "memory");
+    test.run(rt, alloc, &mut engine);
     assert!(rt; engine.is_prepared(1));
-    done
 }
 
 fn tiles_stay_prepared<F: TwoAdicField, R: Abort, T: EngineTest<F>>(
     rt: &R,
     alloc: Global,
     test: &T,
-) -> Result<(), Fail> {
+) {
     assert!(rt; F::TWO_ADICITY >= 1);
     let mut engine: Radix2DFTSmallBatch<F> = Radix2DFTSmallBatch::default();
-    engine.prepare(alloc, 1)?;
-    let done = test.run(rt, alloc, &mut engine);
+    engine.prepare(alloc, 1).expect(rt, "memory");
+    test.run(rt, alloc, &mut engine);
     assert!(rt; engine.is_prepared(1));
-    done
 }
 
 #[test]
-fn stays_prepared(rt: HostRuntime) -> Result<(), Fail> {
-    dit_stays_prepared::<BabyBear, _, _>(&rt, rt.alloc(), &EveryForm)?;
-    dit_stays_prepared::<BabyBear, _, _>(&rt, rt.alloc(), &WorkedPairs)?;
-    dit_stays_prepared::<BabyBear, _, _>(&rt, rt.alloc(), &ExtendedPairs)
+fn stays_prepared(rt: HostRuntime) {
+    dit_stays_prepared::<BabyBear, _, _>(&rt, rt.alloc(), &EveryForm);
+    dit_stays_prepared::<BabyBear, _, _>(&rt, rt.alloc(), &WorkedPairs);
+    dit_stays_prepared::<BabyBear, _, _>(&rt, rt.alloc(), &ExtendedPairs);
 }
 
 #[test]
-fn stays_prepared_by_halves(rt: HostRuntime) -> Result<(), Fail> {
-    halves_stay_prepared::<BabyBear, _, _>(&rt, rt.alloc(), &EveryForm)?;
-    halves_stay_prepared::<BabyBear, _, _>(&rt, rt.alloc(), &WorkedPairs)?;
-    halves_stay_prepared::<BabyBear, _, _>(&rt, rt.alloc(), &ExtendedPairs)
+fn stays_prepared_by_halves(rt: HostRuntime) {
+    halves_stay_prepared::<BabyBear, _, _>(&rt, rt.alloc(), &EveryForm);
+    halves_stay_prepared::<BabyBear, _, _>(&rt, rt.alloc(), &WorkedPairs);
+    halves_stay_prepared::<BabyBear, _, _>(&rt, rt.alloc(), &ExtendedPairs);
 }
 
 #[test]
-fn stays_prepared_by_tiles(rt: HostRuntime) -> Result<(), Fail> {
-    tiles_stay_prepared::<BabyBear, _, _>(&rt, rt.alloc(), &EveryForm)?;
-    tiles_stay_prepared::<BabyBear, _, _>(&rt, rt.alloc(), &WorkedPairs)?;
-    tiles_stay_prepared::<BabyBear, _, _>(&rt, rt.alloc(), &ExtendedPairs)
+fn stays_prepared_by_tiles(rt: HostRuntime) {
+    tiles_stay_prepared::<BabyBear, _, _>(&rt, rt.alloc(), &EveryForm);
+    tiles_stay_prepared::<BabyBear, _, _>(&rt, rt.alloc(), &WorkedPairs);
+    tiles_stay_prepared::<BabyBear, _, _>(&rt, rt.alloc(), &ExtendedPairs);
 }

@@ -5,18 +5,17 @@ ghost use Rattle.std.specs.Prelude.{◌≡◌, ◌<◌, Ok, length};
 ghost use Rattle.p3_matrix.specs.RowMajor.{HasShapeOf};
 
 use super::{
-    EngineTest, LimitedDft, assert_rows, doubled, matrix, matrix_of, on, on_engines_of_one_block,
-    on_every_engine, sample,
+    EngineTest, LimitedDft, assert_rows, doubled, matrix, matrix_of, on_engines_of_one_block,
+    on_every_engine, on_halves, sample,
 };
 use p3_dft::{
     BabyBear, BlockConsumer, BlockLimit, BlockRefused, BlocksStopped, CanonicalField, Evaluations,
-    Field, Layout, NaiveDft, Radix2DitParallel, Recorder, RowMajorMatrix, RowMajorMatrixView,
-    TwoAdicField, TwoAdicSubgroupDft, Unpublished, fits_lde,
+    Field, Layout, NaiveDft, Recorder, RowMajorMatrix, RowMajorMatrixView, TwoAdicField,
+    TwoAdicSubgroupDft, Unpublished, fits_lde,
 };
 use std::alloc::Global;
 use std::cell::Cell;
 use std::process::Abort;
-use std::test::Fail;
 
 // Whether the rows are those of the matrix from one on.
 fn has_rows_at<F: TwoAdicField>(
@@ -63,11 +62,11 @@ fn extend_to<F: TwoAdicField, D: TwoAdicSubgroupDft<F>, C: BlockConsumer<F> + Dr
     added_bits: usize,
     shift: F,
     consumer: C,
-) -> Result<(RowMajorMatrix<F>, C), Fail>
+) -> (RowMajorMatrix<F>, C)
 where
     C::Refusal: Drop,
 {
-    let mat = mat.try_clone()?;
+    let mat = mat.try_clone().expect(rt, "memory");
     assert!(rt; fits_lde::<F>(mat.height(), mat.width(), added_bits));
     let answer = engine.coset_lde_batch_with_blocks(
         mat,
@@ -81,8 +80,8 @@ where
         { consumer },
     );
     match answer {
-        Ok((out, consumer)) => Ok((out.bit_reverse_rows(), consumer)),
-        Err(_) => Err(Fail::from("not all blocks were taken")),
+        Ok((out, consumer)) => (out.bit_reverse_rows(), consumer),
+        Err(_) => panic!(rt; "not all blocks were taken"),
     }
 }
 
@@ -133,52 +132,40 @@ fn has_each_row_once<F: TwoAdicField>(mat: &RowMajorMatrix<F>, recorder: &Record
 // kept.
 fn assert_recorded<F: CanonicalField>(
     rt: &impl Abort,
-    alloc: Global,
-    answer: Result<(RowMajorMatrix<F>, Recorder<F>), Fail>,
+    (out, recorder): (RowMajorMatrix<F>, Recorder<F>),
     numbers: &[u64],
     width: usize,
-) -> Result<(), Fail> {
-    let (out, recorder) = answer?;
+) {
     assert!(rt; has_each_row_once(&out, &recorder));
-    assert_rows(rt, alloc, Ok(out), numbers, width)
+    assert_rows(rt, &out, numbers, width);
 }
 
 // The blocks of an extension of one column on the subgroup, and those of a single row.
 struct RecordedBlocks;
 
 impl<F: CanonicalField> EngineTest<F> for RecordedBlocks {
-    fn run<R: Abort, D: TwoAdicSubgroupDft<F>>(
-        &self,
-        rt: &R,
-        alloc: Global,
-        engine: &mut D,
-    ) -> Result<(), Fail> {
-        let mat = matrix(alloc, &[9, 1], 1)?;
-        let recorder = Recorder::with_room(alloc, 4, 4)?;
+    fn run<R: Abort, D: TwoAdicSubgroupDft<F>>(&self, rt: &R, alloc: Global, engine: &mut D) {
+        let mat = matrix(rt, alloc, &[9, 1], 1);
+        let recorder = Recorder::with_room(alloc, 4, 4).expect(rt, "memory");
         let answer = extend_to(rt, engine, &mat, 1, F::ONE, recorder);
-        assert_recorded(rt, alloc, answer, &[9, 1, 873820294, 1139445637], 1)?;
-        let row = matrix(alloc, &[42, 7], 2)?;
-        let recorder = Recorder::with_room(alloc, 4, 8)?;
+        assert_recorded(rt, answer, &[9, 1, 873820294, 1139445637], 1);
+        let row = matrix(rt, alloc, &[42, 7], 2);
+        let recorder = Recorder::with_room(alloc, 4, 8).expect(rt, "memory");
         let answer = extend_to(rt, engine, &row, 2, F::from_u8(31), recorder);
-        assert_recorded(rt, alloc, answer, &[42, 7, 42, 7, 42, 7, 42, 7], 2)
+        assert_recorded(rt, answer, &[42, 7, 42, 7, 42, 7, 42, 7], 2);
     }
 }
 
 #[test]
-fn recorded_blocks(rt: HostRuntime) -> Result<(), Fail> {
-    on_every_engine::<BabyBear, _, _>(&rt, rt.alloc(), &RecordedBlocks)
+fn recorded_blocks(rt: HostRuntime) {
+    on_every_engine::<BabyBear, _, _>(&rt, rt.alloc(), &RecordedBlocks);
 }
 
 // Each block of an extension with twice each coefficient, as it is lent.
 struct DoubledBlocks;
 
 impl<F: CanonicalField> EngineTest<F> for DoubledBlocks {
-    fn run<R: Abort, D: TwoAdicSubgroupDft<F>>(
-        &self,
-        rt: &R,
-        alloc: Global,
-        engine: &mut D,
-    ) -> Result<(), Fail> {
+    fn run<R: Abort, D: TwoAdicSubgroupDft<F>>(&self, rt: &R, alloc: Global, engine: &mut D) {
         for (height, width, added_bits) in [
             (1, 1, 0),
             (1, 3, 2),
@@ -186,8 +173,8 @@ impl<F: CanonicalField> EngineTest<F> for DoubledBlocks {
             (8, 3, 0),
             (16, 17, 3),
         ] {
-            let mat = sample(alloc, height, width, 5)?;
-            let expected = doubled_extension(rt, &mat, added_bits)?;
+            let mat = sample(rt, alloc, height, width, 5);
+            let expected = doubled_extension(rt, &mat, added_bits);
             assert!(rt; fits_lde::<F>(mat.height(), mat.width(), added_bits));
             let answer = engine.coset_lde_batch_with_blocks(
                 mat,
@@ -205,13 +192,12 @@ impl<F: CanonicalField> EngineTest<F> for DoubledBlocks {
                 },
             );
             let Ok((out, compared)) = answer else {
-                return Err(Fail::from("not all blocks were taken"));
+                panic!(rt; "not all blocks were taken");
             };
             assert!(rt; compared.equal);
             assert!(rt; compared.rows == out.height());
             assert!(rt; compared.expected == out.bit_reverse_rows());
         }
-        Ok(())
     }
 }
 
@@ -220,8 +206,8 @@ fn doubled_extension<F: TwoAdicField>(
     rt: &impl Abort,
     mat: &RowMajorMatrix<F>,
     added_bits: usize,
-) -> Result<RowMajorMatrix<F>, Fail> {
-    let mat = mat.try_clone()?;
+) -> RowMajorMatrix<F> {
+    let mat = mat.try_clone().expect(rt, "memory");
     assert!(rt; fits_lde::<F>(mat.height(), mat.width(), added_bits));
     let values = NaiveDft::default().coset_lde_batch_with_transform(
         mat,
@@ -230,13 +216,14 @@ fn doubled_extension<F: TwoAdicField>(
         |coefficients: RowMajorMatrix<F>, _layout: Layout| -> RowMajorMatrix<F>
             ensures { HasShapeOf result coefficients }
         { doubled(coefficients) },
-    )?;
-    Ok(values.into_bit_reversed().bit_reverse_rows())
+    );
+    let values = values.expect(rt, "memory");
+    values.into_bit_reversed().bit_reverse_rows()
 }
 
 #[test]
-fn doubled_blocks(rt: HostRuntime) -> Result<(), Fail> {
-    on_every_engine::<BabyBear, _, _>(&rt, rt.alloc(), &DoubledBlocks)
+fn doubled_blocks(rt: HostRuntime) {
+    on_every_engine::<BabyBear, _, _>(&rt, rt.alloc(), &DoubledBlocks);
 }
 
 // How many blocks were taken of the extension of a column by one bit, and the one that was too many.
@@ -245,7 +232,7 @@ fn seen_within<F: TwoAdicField, D: TwoAdicSubgroupDft<F>>(
     engine: &mut D,
     mat: RowMajorMatrix<F>,
     limit: usize,
-) -> Result<(usize, Option<BlockRefused>), Fail> {
+) -> (usize, Option<BlockRefused>) {
     assert!(rt; fits_lde::<F>(mat.height(), mat.width(), 1));
     let answer = engine.coset_lde_batch_with_blocks(
         mat,
@@ -257,10 +244,10 @@ fn seen_within<F: TwoAdicField, D: TwoAdicSubgroupDft<F>>(
         |_rows: usize| -> BlockLimit { BlockLimit::new(limit) },
     );
     match answer {
-        Ok((_out, consumer)) => Ok((consumer.seen(), None)),
+        Ok((_out, consumer)) => (consumer.seen(), None),
         Err(stopped) => match stopped {
-            BlocksStopped::Refused { consumer, refusal } => { Ok((consumer.seen(), Some(refusal))) }
-            BlocksStopped::OutOfMemory(_unpublished) => Err(Fail::from("out of memory")),
+            BlocksStopped::Refused { consumer, refusal } => (consumer.seen(), Some(refusal)),
+            BlocksStopped::OutOfMemory(_unpublished) => panic!(rt; "memory"),
         },
     }
 }
@@ -269,56 +256,42 @@ fn seen_within<F: TwoAdicField, D: TwoAdicSubgroupDft<F>>(
 struct LimitedBlocks;
 
 impl<F: CanonicalField> EngineTest<F> for LimitedBlocks {
-    fn run<R: Abort, D: TwoAdicSubgroupDft<F>>(
-        &self,
-        rt: &R,
-        alloc: Global,
-        engine: &mut D,
-    ) -> Result<(), Fail> {
-        let (seen, refused) = seen_within(rt, engine, matrix(alloc, &[9, 1], 1)?, 0)?;
+    fn run<R: Abort, D: TwoAdicSubgroupDft<F>>(&self, rt: &R, alloc: Global, engine: &mut D) {
+        let (seen, refused) = seen_within(rt, engine, matrix(rt, alloc, &[9, 1], 1), 0);
         assert!(rt; seen == 0 && refused.is_some());
-        let (seen, refused) = seen_within(rt, engine, matrix(alloc, &[9, 1], 1)?, 4)?;
+        let (seen, refused) = seen_within(rt, engine, matrix(rt, alloc, &[9, 1], 1), 4);
         assert!(rt; seen > 0 && refused.is_none());
-        Ok(())
     }
 }
 
 #[test]
-fn limited_blocks(rt: HostRuntime) -> Result<(), Fail> {
-    on_every_engine::<BabyBear, _, _>(&rt, rt.alloc(), &LimitedBlocks)
+fn limited_blocks(rt: HostRuntime) {
+    on_every_engine::<BabyBear, _, _>(&rt, rt.alloc(), &LimitedBlocks);
 }
 
 // Stops the test unless so many of all blocks, of four rows each, are kept with their rows, and the rest
 // are missed.
 fn assert_kept<F: TwoAdicField>(
     rt: &impl Abort,
-    answer: Result<(RowMajorMatrix<F>, Recorder<F>), Fail>,
+    (out, recorder): (RowMajorMatrix<F>, Recorder<F>),
     kept: usize,
     all: usize,
-) -> Result<(), Fail> {
-    let (out, recorder) = answer?;
+) {
     assert!(rt; recorder.blocks() == kept);
     assert!(rt; recorder.missed() == (kept < all));
     assert!(rt; has_blocks_of(&out, &recorder, 4));
     assert!(rt; has_each_row_once(&out, &recorder) == (kept == all));
-    Ok(())
 }
 
 // An engine with the trait's own body has one block, which begins with the first row.
 struct OneBlock;
 
 impl<F: CanonicalField> EngineTest<F> for OneBlock {
-    fn run<R: Abort, D: TwoAdicSubgroupDft<F>>(
-        &self,
-        rt: &R,
-        alloc: Global,
-        engine: &mut D,
-    ) -> Result<(), Fail> {
-        let taken = seen_within(rt, engine, matrix(alloc, &[9, 1], 1)?, 1)?;
+    fn run<R: Abort, D: TwoAdicSubgroupDft<F>>(&self, rt: &R, alloc: Global, engine: &mut D) {
+        let taken = seen_within(rt, engine, matrix(rt, alloc, &[9, 1], 1), 1);
         assert!(rt; taken == (1, None));
-        let refused = seen_within(rt, engine, matrix(alloc, &[9, 1], 1)?, 0)?;
+        let refused = seen_within(rt, engine, matrix(rt, alloc, &[9, 1], 1), 0);
         assert!(rt; refused == (0, Some(BlockRefused { start: 0 })));
-        Ok(())
     }
 }
 
@@ -326,65 +299,54 @@ impl<F: CanonicalField> EngineTest<F> for OneBlock {
 struct OneBlockKept;
 
 impl<F: CanonicalField> EngineTest<F> for OneBlockKept {
-    fn run<R: Abort, D: TwoAdicSubgroupDft<F>>(
-        &self,
-        rt: &R,
-        alloc: Global,
-        engine: &mut D,
-    ) -> Result<(), Fail> {
-        let mat = matrix(alloc, &[9, 1], 1)?;
+    fn run<R: Abort, D: TwoAdicSubgroupDft<F>>(&self, rt: &R, alloc: Global, engine: &mut D) {
+        let mat = matrix(rt, alloc, &[9, 1], 1);
         for (blocks, elements, kept) in [(1, 4, 1), (0, 4, 0), (1, 3, 0)] {
-            let recorder = Recorder::with_room(alloc, blocks, elements)?;
+            let recorder = Recorder::with_room(alloc, blocks, elements).expect(rt, "memory");
             let answer = extend_to(rt, engine, &mat, 1, F::ONE, recorder);
-            assert_kept(rt, answer, kept, 1)?;
+            assert_kept(rt, answer, kept, 1);
         }
-        Ok(())
     }
 }
 
 #[test]
-fn one_block(rt: HostRuntime) -> Result<(), Fail> {
-    on_engines_of_one_block::<BabyBear, _, _>(&rt, rt.alloc(), &OneBlock)?;
-    on_engines_of_one_block::<BabyBear, _, _>(&rt, rt.alloc(), &OneBlockKept)
+fn one_block(rt: HostRuntime) {
+    on_engines_of_one_block::<BabyBear, _, _>(&rt, rt.alloc(), &OneBlock);
+    on_engines_of_one_block::<BabyBear, _, _>(&rt, rt.alloc(), &OneBlockKept);
 }
 
 // The numbers from one on, row after row.
 fn counting<F: TwoAdicField>(
+    rt: &impl Abort,
     alloc: Global,
     height: usize,
     width: usize,
-) -> Result<RowMajorMatrix<F>, Fail> {
-    let count = height.checked_mul(width).ok_or("too many entries")?;
+) -> RowMajorMatrix<F> {
+    let count = height.checked_mul(width).expect(rt, "so many entries");
     let mut entries = Vec::new(alloc);
     for i in 0..count {
-        entries.push(F::from_usize(i + 1))?;
+        entries.push(F::from_usize(i + 1)).expect(rt, "memory");
     }
-    matrix_of(entries, width)
+    matrix_of(rt, entries, width)
 }
 
 // Of 32 blocks of four rows as many are kept as there is room for.
 struct BlocksOfFourRows;
 
 impl<F: TwoAdicField> EngineTest<F> for BlocksOfFourRows {
-    fn run<R: Abort, D: TwoAdicSubgroupDft<F>>(
-        &self,
-        rt: &R,
-        alloc: Global,
-        engine: &mut D,
-    ) -> Result<(), Fail> {
-        let mat = counting(alloc, 16, 17)?;
+    fn run<R: Abort, D: TwoAdicSubgroupDft<F>>(&self, rt: &R, alloc: Global, engine: &mut D) {
+        let mat = counting(rt, alloc, 16, 17);
         for (blocks, elements, kept) in [(32, 2176, 32), (31, 2176, 31), (32, 2175, 31)] {
-            let recorder = Recorder::with_room(alloc, blocks, elements)?;
+            let recorder = Recorder::with_room(alloc, blocks, elements).expect(rt, "memory");
             let answer = extend_to(rt, engine, &mat, 3, F::GENERATOR, recorder);
-            assert_kept(rt, answer, kept, 32)?;
+            assert_kept(rt, answer, kept, 32);
         }
-        Ok(())
     }
 }
 
 #[test]
-fn blocks_of_four_rows(rt: HostRuntime) -> Result<(), Fail> {
-    on::<BabyBear, Radix2DitParallel<BabyBear>, _, _>(&rt, rt.alloc(), &BlocksOfFourRows)
+fn blocks_of_four_rows(rt: HostRuntime) {
+    on_halves::<BabyBear, _, _>(&rt, rt.alloc(), &BlocksOfFourRows);
 }
 
 // Counts blocks in what is lent to it.
@@ -414,14 +376,9 @@ impl<'a, T> BlockConsumer<T> for Counter<'a> {
 struct NothingLent;
 
 impl<F: CanonicalField> EngineTest<F> for NothingLent {
-    fn run<R: Abort, D: TwoAdicSubgroupDft<F>>(
-        &self,
-        rt: &R,
-        alloc: Global,
-        engine: &mut D,
-    ) -> Result<(), Fail> {
+    fn run<R: Abort, D: TwoAdicSubgroupDft<F>>(&self, rt: &R, alloc: Global, engine: &mut D) {
         let blocks = Cell::new(0);
-        let mat: RowMajorMatrix<F> = matrix(alloc, &[9, 1], 1)?;
+        let mat: RowMajorMatrix<F> = matrix(rt, alloc, &[9, 1], 1);
         assert!(rt; fits_lde::<F>(mat.height(), mat.width(), 1));
         let answer = engine.coset_lde_batch_with_blocks(
             mat,
@@ -433,36 +390,30 @@ impl<F: CanonicalField> EngineTest<F> for NothingLent {
             |_rows: usize| -> Counter<'_> { Counter { blocks: &blocks } },
         );
         let Err(BlocksStopped::OutOfMemory(Unpublished { make_consumer })) = answer else {
-            return Err(Fail::from("not out of memory"));
+            panic!(rt; "not out of memory");
         };
         let mut consumer = make_consumer(4);
         assert_eq!(rt; blocks.get(), 0);
-        let one: RowMajorMatrix<F> = matrix(alloc, &[9], 1)?;
+        let one: RowMajorMatrix<F> = matrix(rt, alloc, &[9], 1);
         assert!(rt; consumer.consume(0, one.as_view()) == Ok(()));
         assert_eq!(rt; blocks.get(), 1);
-        Ok(())
     }
 }
 
 #[test]
-fn nothing_is_lent_without_memory(rt: HostRuntime) -> Result<(), Fail> {
+fn nothing_is_lent_without_memory(rt: HostRuntime) {
     let mut engine = LimitedDft::new(1);
-    EngineTest::<BabyBear>::run(&NothingLent, &rt, rt.alloc(), &mut engine)
+    EngineTest::<BabyBear>::run(&NothingLent, &rt, rt.alloc(), &mut engine);
 }
 
 // The consumer is made once the coefficients were transformed.
 struct MadeLater;
 
 impl<F: CanonicalField> EngineTest<F> for MadeLater {
-    fn run<R: Abort, D: TwoAdicSubgroupDft<F>>(
-        &self,
-        rt: &R,
-        alloc: Global,
-        engine: &mut D,
-    ) -> Result<(), Fail> {
+    fn run<R: Abort, D: TwoAdicSubgroupDft<F>>(&self, rt: &R, alloc: Global, engine: &mut D) {
         let called = Cell::new(false);
         let made_later = Cell::new(false);
-        let mat: RowMajorMatrix<F> = matrix(alloc, &[9, 1], 1)?;
+        let mat: RowMajorMatrix<F> = matrix(rt, alloc, &[9, 1], 1);
         assert!(rt; fits_lde::<F>(mat.height(), mat.width(), 1));
         let answer = engine.coset_lde_batch_with_blocks(
             mat,
@@ -481,11 +432,10 @@ impl<F: CanonicalField> EngineTest<F> for MadeLater {
         );
         assert!(rt; answer.is_ok());
         assert!(rt; made_later.get());
-        Ok(())
     }
 }
 
 #[test]
-fn consumer_is_made_later(rt: HostRuntime) -> Result<(), Fail> {
-    on_every_engine::<BabyBear, _, _>(&rt, rt.alloc(), &MadeLater)
+fn consumer_is_made_later(rt: HostRuntime) {
+    on_every_engine::<BabyBear, _, _>(&rt, rt.alloc(), &MadeLater);
 }

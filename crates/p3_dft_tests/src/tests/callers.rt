@@ -16,7 +16,6 @@ use p3_dft::{
 };
 use std::alloc::Global;
 use std::process::Abort;
-use std::test::Fail;
 
 // Each transform of a matrix of a prepared height.
 fn transform_prepared<F: TwoAdicField>(
@@ -274,13 +273,13 @@ fn two_rows<F: CanonicalField>(
     rt: &impl Abort,
     alloc: Global,
     numbers: [u64; 2],
-) -> Result<RowMajorMatrix<F>, Fail>
-    ensures fits { IfOk result (λ mat. FitsDft F.TWO_ADICITY (height mat) mat.width) }
-    ensures height { IfOk result (λ mat. height mat ≡ 2) }
+) -> RowMajorMatrix<F>
+    ensures fits { FitsDft F.TWO_ADICITY (height result) result.width }
+    ensures height { height result ≡ 2 }
 {
-    let mat: RowMajorMatrix<F> = transformable(rt, alloc, &numbers)?;
+    let mat: RowMajorMatrix<F> = transformable(rt, alloc, &numbers);
     assert!(rt; mat.height() == 2);
-    Ok(mat)
+    mat
 }
 
 // The callers on these columns, for every field.
@@ -289,35 +288,32 @@ fn prepare_by_an_inverse<F: CanonicalField>(
     rt: &impl Abort,
     alloc: Global,
     engine: &mut Radix2Dit<F>,
-) -> Result<(), Fail> {
-    let values = two_rows(rt, alloc, [9, 1])?;
-    prepared_by_an_inverse(engine, values, 1, invertible(rt, F::TWO))?;
-    Ok(())
+) {
+    let values = two_rows(rt, alloc, [9, 1]);
+    prepared_by_an_inverse(engine, values, 1, invertible(rt, F::TWO)).expect(rt, "memory");
 }
 
-fn invert_two_rows<F: CanonicalField>(
-    rt: &impl Abort,
-    alloc: Global,
-    engine: &mut Radix2Dit<F>,
-) -> Result<(), Fail> {
+fn invert_two_rows<F: CanonicalField>(rt: &impl Abort, alloc: Global, engine: &mut Radix2Dit<F>) {
     assert!(rt; engine.is_prepared(1));
-    let back = invert_prepared(engine, two_rows(rt, alloc, [9, 1])?, 1)?;
-    assert_column(rt, &back, &[5, 4])?;
+    let back = invert_prepared(engine, two_rows(rt, alloc, [9, 1]), 1).expect(rt, "memory");
+    assert_column(rt, &back, &[5, 4]);
     let shift = invertible(rt, F::TWO);
-    let back = invert_prepared_on_coset(engine, two_rows(rt, alloc, [9, 1])?, 1, shift)?;
-    assert_column(rt, &back, &[5, 2])
+    let back = invert_prepared_on_coset(engine, two_rows(rt, alloc, [9, 1]), 1, shift);
+    let back = back.expect(rt, "memory");
+    assert_column(rt, &back, &[5, 2]);
 }
 
 fn transform_two_rows<F: CanonicalField>(
     rt: &impl Abort,
     alloc: Global,
     engine: &mut Radix2Dit<F>,
-) -> Result<(), Fail> {
+) {
     assert!(rt; engine.is_prepared(1));
-    let there = transform_prepared(engine, two_rows(rt, alloc, [9, 1])?, 1)?;
-    assert_column(rt, &there, &[10, 8])?;
-    let there = transform_prepared_on_coset(engine, two_rows(rt, alloc, [9, 1])?, 1, F::TWO)?;
-    assert_column(rt, &there, &[11, 7])
+    let there = transform_prepared(engine, two_rows(rt, alloc, [9, 1]), 1).expect(rt, "memory");
+    assert_column(rt, &there, &[10, 8]);
+    let there = transform_prepared_on_coset(engine, two_rows(rt, alloc, [9, 1]), 1, F::TWO);
+    let there = there.expect(rt, "memory");
+    assert_column(rt, &there, &[11, 7]);
 }
 
 fn transform_two_rows_with_larger<F: CanonicalField>(
@@ -325,187 +321,168 @@ fn transform_two_rows_with_larger<F: CanonicalField>(
     alloc: Global,
     engine: &mut Radix2Dit<F>,
     larger: usize,
-) -> Result<(), Fail>
+)
     requires some { 1 ≤ larger }
     requires prepared { IsPrepared engine.old larger }
 {
-    let there = transform_prepared_with_larger(engine, two_rows(rt, alloc, [9, 1])?, 1, larger)?;
-    assert_column(rt, &there, &[10, 8])
+    let values = two_rows(rt, alloc, [9, 1]);
+    let there = transform_prepared_with_larger(engine, values, 1, larger);
+    let there = there.expect(rt, "memory");
+    assert_column(rt, &there, &[10, 8]);
 }
 
-fn calls_at_a_prepared_height<F: CanonicalField>(
-    rt: &impl Abort,
-    alloc: Global,
-) -> Result<(), Fail> {
+fn calls_at_a_prepared_height<F: CanonicalField>(rt: &impl Abort, alloc: Global) {
     let mut engine: Radix2Dit<F> = Radix2Dit::default();
-    prepare_by_an_inverse(rt, alloc, &mut engine)?;
-    invert_two_rows(rt, alloc, &mut engine)?;
-    transform_two_rows(rt, alloc, &mut engine)
+    prepare_by_an_inverse(rt, alloc, &mut engine);
+    invert_two_rows(rt, alloc, &mut engine);
+    transform_two_rows(rt, alloc, &mut engine);
 }
 
 #[test]
-fn prepared_heights_answer(rt: HostRuntime) -> Result<(), Fail> {
-    calls_at_a_prepared_height::<BabyBear>(&rt, rt.alloc())
+fn prepared_heights_answer(rt: HostRuntime) {
+    calls_at_a_prepared_height::<BabyBear>(&rt, rt.alloc());
 }
 
 #[test]
-fn smaller_height_answers(rt: HostRuntime) -> Result<(), Fail> {
+fn smaller_height_answers(rt: HostRuntime) {
     let mut engine: Radix2Dit<BabyBear> = Radix2Dit::default();
-    engine.prepare(rt.alloc(), 3)?;
-    transform_two_rows_with_larger(&rt, rt.alloc(), &mut engine, 3)
+    engine.prepare(rt.alloc(), 3).expect(&rt, "memory");
+    transform_two_rows_with_larger(&rt, rt.alloc(), &mut engine, 3);
 }
 
 fn transform_as_promised<F: CanonicalField, D: TwoAdicSubgroupDft<F>>(
     rt: &impl Abort,
     alloc: Global,
     engine: &mut D,
-) -> Result<(), Fail>
+)
     requires { D.promised engine.old 1 }
 {
-    let there = transform_promised(engine, two_rows(rt, alloc, [5, 4])?, 1)?;
-    assert_column(rt, &there.to_row_major_matrix(), &[9, 1])
+    let there = transform_promised(engine, two_rows(rt, alloc, [5, 4]), 1).expect(rt, "memory");
+    assert_column(rt, &there.to_row_major_matrix(), &[9, 1]);
 }
 
-fn transform_as_promised_by_halves<F: CanonicalField>(
-    rt: &impl Abort,
-    alloc: Global,
-) -> Result<(), Fail> {
+fn transform_as_promised_by_halves<F: CanonicalField>(rt: &impl Abort, alloc: Global) {
     assert!(rt; F::TWO_ADICITY >= 1);
     let mut engine: Radix2DitParallel<F> = Radix2DitParallel::default();
-    engine.prepare(alloc, 1)?;
-    transform_as_promised(rt, alloc, &mut engine)
+    engine.prepare(alloc, 1).expect(rt, "memory");
+    transform_as_promised(rt, alloc, &mut engine);
 }
 
 #[test]
-fn promised_height_answers(rt: HostRuntime) -> Result<(), Fail> {
-    transform_as_promised_by_halves::<BabyBear>(&rt, rt.alloc())
+fn promised_height_answers(rt: HostRuntime) {
+    transform_as_promised_by_halves::<BabyBear>(&rt, rt.alloc());
 }
 
-fn transform_as_promised_by_tiles<F: CanonicalField>(
-    rt: &impl Abort,
-    alloc: Global,
-) -> Result<(), Fail> {
+fn transform_as_promised_by_tiles<F: CanonicalField>(rt: &impl Abort, alloc: Global) {
     assert!(rt; F::TWO_ADICITY >= 1);
     let mut engine: Radix2DFTSmallBatch<F> = Radix2DFTSmallBatch::default();
-    engine.prepare(alloc, 1)?;
-    transform_as_promised(rt, alloc, &mut engine)
+    engine.prepare(alloc, 1).expect(rt, "memory");
+    transform_as_promised(rt, alloc, &mut engine);
 }
 
 #[test]
-fn promised_height_answers_by_tiles(rt: HostRuntime) -> Result<(), Fail> {
-    transform_as_promised_by_tiles::<BabyBear>(&rt, rt.alloc())
+fn promised_height_answers_by_tiles(rt: HostRuntime) {
+    transform_as_promised_by_tiles::<BabyBear>(&rt, rt.alloc());
 }
 
-fn transform_on_a_coset_as_promised<F: CanonicalField>(
-    rt: &impl Abort,
-    alloc: Global,
-) -> Result<(), Fail> {
+fn transform_on_a_coset_as_promised<F: CanonicalField>(rt: &impl Abort, alloc: Global) {
     assert!(rt; F::TWO_ADICITY >= 1);
     let mut engine: Radix2Dit<F> = Radix2Dit::default();
-    engine.prepare(alloc, 1)?;
-    let values = two_rows(rt, alloc, [5, 4])?;
-    let there = transform_on_promised_coset(&mut engine, values, 1, F::TWO)?;
-    assert_column(rt, &there, &[13, 2013265918])
+    engine.prepare(alloc, 1).expect(rt, "memory");
+    let values = two_rows(rt, alloc, [5, 4]);
+    let there = transform_on_promised_coset(&mut engine, values, 1, F::TWO).expect(rt, "memory");
+    assert_column(rt, &there, &[13, 2013265918]);
 }
 
 #[test]
-fn promised_coset_answers(rt: HostRuntime) -> Result<(), Fail> {
-    transform_on_a_coset_as_promised::<BabyBear>(&rt, rt.alloc())
+fn promised_coset_answers(rt: HostRuntime) {
+    transform_on_a_coset_as_promised::<BabyBear>(&rt, rt.alloc());
 }
 
 fn transform_twice_on_a_coset<F: CanonicalField>(
     rt: &impl Abort,
     alloc: Global,
     engine: &mut Radix2DitParallel<F>,
-) -> Result<(), Fail> {
+) {
     let shift = F::TWO;
-    transform_on_new_coset(engine, two_rows(rt, alloc, [5, 4])?, 1, shift)?;
-    let there = transform_on_known_coset(engine, two_rows(rt, alloc, [5, 4])?, 1, shift)?;
-    assert_column(rt, &there.to_row_major_matrix(), &[13, 2013265918])
+    transform_on_new_coset(engine, two_rows(rt, alloc, [5, 4]), 1, shift).expect(rt, "memory");
+    let there = transform_on_known_coset(engine, two_rows(rt, alloc, [5, 4]), 1, shift);
+    let there = there.expect(rt, "memory");
+    assert_column(rt, &there.to_row_major_matrix(), &[13, 2013265918]);
 }
 
 #[test]
-fn known_coset_answers(rt: HostRuntime) -> Result<(), Fail> {
+fn known_coset_answers(rt: HostRuntime) {
     let mut engine = Radix2DitParallel::<BabyBear>::default();
-    transform_twice_on_a_coset(&rt, rt.alloc(), &mut engine)
+    transform_twice_on_a_coset(&rt, rt.alloc(), &mut engine);
 }
 
 fn extend_after_a_coset<F: CanonicalField>(
     rt: &impl Abort,
     alloc: Global,
     engine: &mut Radix2DitParallel<F>,
-) -> Result<(), Fail> {
+) {
     let shift = F::TWO;
-    transform_on_new_coset(engine, two_rows(rt, alloc, [5, 4])?, 1, shift)?;
-    let values = extensible(rt, alloc, &[5, 4], 1)?;
-    let extended = extend_beside_a_coset(engine, values, 1, 1, shift)?;
+    transform_on_new_coset(engine, two_rows(rt, alloc, [5, 4]), 1, shift).expect(rt, "memory");
+    let values = extensible(rt, alloc, &[5, 4], 1);
+    let extended = extend_beside_a_coset(engine, values, 1, 1, shift).expect(rt, "memory");
     let numbers = [5, 864202261, 4, 1149063669];
-    assert_column(rt, &extended.to_row_major_matrix(), &numbers)
+    assert_column(rt, &extended.to_row_major_matrix(), &numbers);
 }
 
 #[test]
-fn known_coset_stays(rt: HostRuntime) -> Result<(), Fail> {
+fn known_coset_stays(rt: HostRuntime) {
     let mut engine = Radix2DitParallel::<BabyBear>::default();
-    extend_after_a_coset(&rt, rt.alloc(), &mut engine)
+    extend_after_a_coset(&rt, rt.alloc(), &mut engine);
 }
 
-fn transform_columns<F: CanonicalField>(
-    rt: &impl Abort,
-    alloc: Global,
-    engine: &mut Radix2Dit<F>,
-) -> Result<(), Fail> {
+fn transform_columns<F: CanonicalField>(rt: &impl Abort, alloc: Global, engine: &mut Radix2Dit<F>) {
     assert!(rt; engine.is_prepared(1));
-    let there = column_there(engine, pair(rt, alloc, [9, 1])?, 1)?;
-    assert!(rt; there == elements(alloc, &[10, 8])?);
+    let there = column_there(engine, pair(rt, alloc, [9, 1]), 1).expect(rt, "memory");
+    assert!(rt; there == elements(rt, alloc, &[10, 8]));
     assert!(rt; engine.is_prepared(1));
-    let there = column_on_coset(engine, pair(rt, alloc, [9, 1])?, 1, F::TWO)?;
-    assert!(rt; there == elements(alloc, &[11, 7])?);
-    Ok(())
+    let there = column_on_coset(engine, pair(rt, alloc, [9, 1]), 1, F::TWO).expect(rt, "memory");
+    assert!(rt; there == elements(rt, alloc, &[11, 7]));
 }
 
-fn invert_columns<F: CanonicalField>(
-    rt: &impl Abort,
-    alloc: Global,
-    engine: &mut Radix2Dit<F>,
-) -> Result<(), Fail> {
+fn invert_columns<F: CanonicalField>(rt: &impl Abort, alloc: Global, engine: &mut Radix2Dit<F>) {
     assert!(rt; engine.is_prepared(1));
-    let back = column_back(engine, pair(rt, alloc, [9, 1])?, 1)?;
-    assert!(rt; back == elements(alloc, &[5, 4])?);
+    let back = column_back(engine, pair(rt, alloc, [9, 1]), 1).expect(rt, "memory");
+    assert!(rt; back == elements(rt, alloc, &[5, 4]));
     assert!(rt; engine.is_prepared(1));
     let shift = invertible(rt, F::TWO);
-    let back = column_back_from_coset(engine, pair(rt, alloc, [9, 1])?, 1, shift)?;
-    assert!(rt; back == elements(alloc, &[5, 2])?);
-    Ok(())
+    let back = column_back_from_coset(engine, pair(rt, alloc, [9, 1]), 1, shift);
+    let back = back.expect(rt, "memory");
+    assert!(rt; back == elements(rt, alloc, &[5, 2]));
 }
 
-fn calls_on_columns<F: CanonicalField>(rt: &impl Abort, alloc: Global) -> Result<(), Fail> {
+fn calls_on_columns<F: CanonicalField>(rt: &impl Abort, alloc: Global) {
     assert!(rt; F::TWO_ADICITY >= 1);
     let mut engine: Radix2Dit<F> = Radix2Dit::default();
-    engine.prepare(alloc, 1)?;
-    transform_columns(rt, alloc, &mut engine)?;
-    invert_columns(rt, alloc, &mut engine)
+    engine.prepare(alloc, 1).expect(rt, "memory");
+    transform_columns(rt, alloc, &mut engine);
+    invert_columns(rt, alloc, &mut engine);
 }
 
 #[test]
-fn prepared_columns_answer(rt: HostRuntime) -> Result<(), Fail> {
-    calls_on_columns::<BabyBear>(&rt, rt.alloc())
+fn prepared_columns_answer(rt: HostRuntime) {
+    calls_on_columns::<BabyBear>(&rt, rt.alloc());
 }
 
-fn new_engine_prepared<F: CanonicalField>(rt: &impl Abort, alloc: Global) -> Result<(), Fail> {
-    let engine: Radix2Dit<F> = transform_by_a_new_engine(two_rows(rt, alloc, [9, 1])?)?;
+fn new_engine_prepared<F: CanonicalField>(rt: &impl Abort, alloc: Global) {
+    let engine = transform_by_a_new_engine(two_rows(rt, alloc, [9, 1]));
+    let engine: Radix2Dit<F> = engine.expect(rt, "memory");
     assert!(rt; engine.is_prepared(1));
-    Ok(())
 }
 
-fn new_engine_extends<F: CanonicalField>(rt: &impl Abort, alloc: Global) -> Result<(), Fail> {
-    let column: Vec<F> = elements(alloc, &[9, 1])?;
+fn new_engine_extends<F: CanonicalField>(rt: &impl Abort, alloc: Global) {
+    let column: Vec<F> = elements(rt, alloc, &[9, 1]);
     assert!(rt; fits_lde::<F>(column.len(), 1, 1));
-    let _engine: NaiveDft = extend_by_a_new_engine(column, 1)?;
-    Ok(())
+    let _engine: NaiveDft = extend_by_a_new_engine(column, 1).expect(rt, "memory");
 }
 
 #[test]
-fn new_engines(rt: HostRuntime) -> Result<(), Fail> {
-    new_engine_prepared::<BabyBear>(&rt, rt.alloc())?;
-    new_engine_extends::<BabyBear>(&rt, rt.alloc())
+fn new_engines(rt: HostRuntime) {
+    new_engine_prepared::<BabyBear>(&rt, rt.alloc());
+    new_engine_extends::<BabyBear>(&rt, rt.alloc());
 }

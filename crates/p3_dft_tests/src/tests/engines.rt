@@ -1,5 +1,5 @@
-// Engines that own only what an engine must, one for each layout: all else of theirs is a default
-// body of the trait.
+// An engine that owns only what an engine must: all else of it is a default body of the trait, in the
+// layout that `NaiveDft` does not have.
 
 ghost use Rattle.std.specs.Prelude.{◌≡◌, ℕ, ◌*◌, ◌^◌};
 
@@ -9,7 +9,7 @@ use p3_dft::{
 };
 use std::alloc::AllocError;
 
-// Has coefficients in natural order, and makes so many transforms: memory for a later one is
+// Has coefficients in bit reversed order, and makes so many transforms: memory for a later one is
 // refused.
 #[derive(Drop)]
 pub(crate) struct LimitedDft {
@@ -53,96 +53,6 @@ impl Clone for LimitedDft {
 impl<F: TwoAdicField> TwoAdicSubgroupDft<F> for LimitedDft {
     ghost use Rattle.std.specs.Prelude.{⊤, ℕ, ◌+◌, ◌*◌, ◌^◌};
     ghost use Rattle.std.proofs.Common.{refl, rules};
-    ghost use Rattle.p3_dft.specs.declared.traits.Layout.TheVariants.{Natural};
-
-    type Evaluations = RowMajorMatrix<F>;
-
-    const LAYOUT: Layout = Layout::Natural;
-
-    ghost LAYOUT = { Natural };
-
-    ghost promised = { λ _ _. ⊥ };
-
-    ghost coset_promised = { λ _ _ _. ⊤ };
-
-    ghost served = { λ _ _. ⊤ };
-
-    ghost bound = { λ k w. 2 ^ k * 2 ^ k * w };
-
-    ghost made = { λ e. e.sums };
-
-    ghost block_rows_law = { λ k a. (k + a, Prim.search (rules), refl) };
-
-    ghost default_law = { λ e none. none };
-
-    ghost clone_law = { λ e copy none. none };
-
-    fn dft_batch<N: IntoRowMajorMatrix<F>>(
-        &mut self,
-        mat: N,
-    ) -> Result<RowMajorMatrix<F>, DftError> {
-        if self.left == 0 {
-            return Err(DftError::OutOfMemory);
-        }
-        self.left -= 1;
-        self.sums.dft_batch(mat)
-    }
-
-    fn add_products(&mut self, products: Products) {
-        TwoAdicSubgroupDft::<F>::add_products(&mut self.sums, products);
-    }
-
-    fn block_height(&self, log_h: usize, added_bits: usize) -> usize {
-        1 << (log_h + added_bits)
-    }
-
-    fn coset_lde_batch_with_transform<
-        N: IntoRowMajorMatrix<F>,
-        T: FnOnce(RowMajorMatrix<F>, Layout) -> RowMajorMatrix<F> + Drop,
-    >(
-        &mut self,
-        mat: N,
-        added_bits: usize,
-        shift: F,
-        transform: T,
-    ) -> Result<RowMajorMatrix<F>, DftError> {
-        self.coset_lde_batch_by_parts(mat, added_bits, shift, transform)
-    }
-}
-
-// Has coefficients in bit reversed order.
-#[derive(Drop)]
-pub(crate) struct ReversedDft {
-    sums: NaiveDft,
-}
-
-impl Default for ReversedDft {
-    ghost use Rattle.std.specs.Prelude.{◌≡◌};
-
-    ghost is_default = { λ e. e.sums ≡ 0 };
-
-    fn default() -> Self {
-        ReversedDft {
-            sums: NaiveDft::default(),
-        }
-    }
-}
-
-impl Clone for ReversedDft {
-    ghost use Rattle.std.specs.Prelude.{◌≡◌, ⊤};
-
-    ghost is_clone = { λ _ e. e.sums ≡ 0 };
-
-    ghost is_infallible = { λ _. ⊤ };
-
-    fn clone(&self) -> Result<Self, AllocError> {
-        Ok(Self::default())
-    }
-}
-
-impl<F: TwoAdicField> TwoAdicSubgroupDft<F> for ReversedDft {
-    ghost use Rattle.std.specs.Prelude.{⊤, ℕ, ◌+◌, ◌*◌, ◌^◌};
-    ghost use Rattle.std.proofs.Common.{refl, rules};
     ghost use Rattle.p3_dft.specs.declared.traits.Layout.TheVariants.{BitReversed};
 
     type Evaluations = RowMajorMatrix<F>;
@@ -171,6 +81,10 @@ impl<F: TwoAdicField> TwoAdicSubgroupDft<F> for ReversedDft {
         &mut self,
         mat: N,
     ) -> Result<RowMajorMatrix<F>, DftError> {
+        if self.left == 0 {
+            return Err(DftError::OutOfMemory);
+        }
+        self.left -= 1;
         self.sums.dft_batch(mat)
     }
 

@@ -4,15 +4,14 @@
 ghost use Rattle.std.specs.Prelude.{◌≡◌, Ok};
 ghost use Rattle.p3_matrix.specs.RowMajor.{HasShapeOf};
 
-use super::{EngineTest, matrix, on, on_engines_of_one_block, on_every_engine};
+use super::{EngineTest, assert_rows, matrix, on_engines_of_one_block, on_every_engine, on_halves};
 use p3_dft::{
-    BabyBear, BlockConsumer, BlocksStopped, CanonicalField, Evaluations, Field, Layout,
-    Radix2DitParallel, Recorder, RowMajorMatrix, RowMajorMatrixView, TwoAdicSubgroupDft, fits_lde,
+    BabyBear, BlockConsumer, BlocksStopped, CanonicalField, Evaluations, Field, Layout, Recorder,
+    RowMajorMatrix, RowMajorMatrixView, TwoAdicSubgroupDft, fits_lde,
 };
 use std::alloc::Global;
 use std::cell::Cell;
 use std::process::Abort;
-use std::test::Fail;
 
 // The entries in opposite order.
 fn turned_around<F: Field>(mat: RowMajorMatrix<F>) -> RowMajorMatrix<F>
@@ -43,8 +42,8 @@ fn swapped_coefficients<F: CanonicalField, D: TwoAdicSubgroupDft<F>>(
     rt: &impl Abort,
     alloc: Global,
     engine: &mut D,
-) -> Result<(), Fail> {
-    let mat: RowMajorMatrix<F> = matrix(alloc, &[9, 1], 1)?;
+) {
+    let mat: RowMajorMatrix<F> = matrix(rt, alloc, &[9, 1], 1);
     assert!(rt; fits_lde::<F>(mat.height(), mat.width(), 1));
     let values = engine.coset_lde_batch_with_transform(
         mat,
@@ -53,10 +52,9 @@ fn swapped_coefficients<F: CanonicalField, D: TwoAdicSubgroupDft<F>>(
         |coefficients: RowMajorMatrix<F>, _layout: Layout| -> RowMajorMatrix<F>
             ensures { HasShapeOf result coefficients }
         { turned_around(coefficients) },
-    )?;
-    let want = matrix(alloc, &[9, 588958885, 2013265920, 1424307044], 1)?;
-    assert!(rt; values.to_row_major_matrix() == want);
-    Ok(())
+    );
+    let values = values.expect(rt, "memory").to_row_major_matrix();
+    assert_rows(rt, &values, &[9, 588958885, 2013265920, 1424307044], 1);
 }
 
 // The same, with the rows of the answer in bit reversed order.
@@ -64,8 +62,8 @@ fn swapped_in_bit_reversed_rows<F: CanonicalField, D: TwoAdicSubgroupDft<F>>(
     rt: &impl Abort,
     alloc: Global,
     engine: &mut D,
-) -> Result<(), Fail> {
-    let mat: RowMajorMatrix<F> = matrix(alloc, &[9, 1], 1)?;
+) {
+    let mat: RowMajorMatrix<F> = matrix(rt, alloc, &[9, 1], 1);
     assert!(rt; fits_lde::<F>(mat.height(), mat.width(), 1));
     let view = engine.coset_lde_batch_bit_reversed(
         mat,
@@ -74,10 +72,9 @@ fn swapped_in_bit_reversed_rows<F: CanonicalField, D: TwoAdicSubgroupDft<F>>(
         |coefficients: RowMajorMatrix<F>, _layout: Layout| -> RowMajorMatrix<F>
             ensures { HasShapeOf result coefficients }
         { turned_around(coefficients) },
-    )?;
-    let want = matrix(alloc, &[9, 2013265920, 588958885, 1424307044], 1)?;
-    assert!(rt; view.bit_reverse_rows() == want);
-    Ok(())
+    );
+    let physical = view.expect(rt, "memory").bit_reverse_rows();
+    assert_rows(rt, &physical, &[9, 2013265920, 588958885, 1424307044], 1);
 }
 
 // Of 1 + 2 x + 3 x^2 + 4 x^3 the coefficient in row 1 stays: 2 x, or 3 x^2 where the rows are in bit reversed
@@ -86,8 +83,8 @@ fn one_coefficient<F: CanonicalField, D: TwoAdicSubgroupDft<F>>(
     rt: &impl Abort,
     alloc: Global,
     engine: &mut D,
-) -> Result<(), Fail> {
-    let mat: RowMajorMatrix<F> = matrix(alloc, &[10, 569722814, 2013265919, 1443543103], 1)?;
+) {
+    let mat: RowMajorMatrix<F> = matrix(rt, alloc, &[10, 569722814, 2013265919, 1443543103], 1);
     assert!(rt; fits_lde::<F>(mat.height(), mat.width(), 0));
     let values = engine.coset_lde_batch_with_transform(
         mat,
@@ -96,33 +93,28 @@ fn one_coefficient<F: CanonicalField, D: TwoAdicSubgroupDft<F>>(
         |coefficients: RowMajorMatrix<F>, _layout: Layout| -> RowMajorMatrix<F>
             ensures { HasShapeOf result coefficients }
         { entry_1_alone(coefficients) },
-    )?;
+    );
+    let values = values.expect(rt, "memory").to_row_major_matrix();
     let want = match D::LAYOUT {
         Layout::Natural => [2, 1443543105, 2013265919, 569722816],
         Layout::BitReversed => [3, 2013265918, 3, 2013265918],
     };
-    assert!(rt; values.to_row_major_matrix() == matrix(alloc, &want, 1)?);
-    Ok(())
+    assert_rows(rt, &values, &want, 1);
 }
 
 struct MovedCoefficients;
 
 impl<F: CanonicalField> EngineTest<F> for MovedCoefficients {
-    fn run<R: Abort, D: TwoAdicSubgroupDft<F>>(
-        &self,
-        rt: &R,
-        alloc: Global,
-        engine: &mut D,
-    ) -> Result<(), Fail> {
-        swapped_coefficients(rt, alloc, engine)?;
-        swapped_in_bit_reversed_rows(rt, alloc, engine)?;
-        one_coefficient(rt, alloc, engine)
+    fn run<R: Abort, D: TwoAdicSubgroupDft<F>>(&self, rt: &R, alloc: Global, engine: &mut D) {
+        swapped_coefficients(rt, alloc, engine);
+        swapped_in_bit_reversed_rows(rt, alloc, engine);
+        one_coefficient(rt, alloc, engine);
     }
 }
 
 #[test]
-fn moved_coefficients(rt: HostRuntime) -> Result<(), Fail> {
-    on_every_engine::<BabyBear, _, _>(&rt, rt.alloc(), &MovedCoefficients)
+fn moved_coefficients(rt: HostRuntime) {
+    on_every_engine::<BabyBear, _, _>(&rt, rt.alloc(), &MovedCoefficients);
 }
 
 // The blocks of an extension of one row by two bits: how many there are, and of how many rows.
@@ -130,9 +122,9 @@ fn blocks_of_one_row<F: CanonicalField, D: TwoAdicSubgroupDft<F>>(
     rt: &impl Abort,
     alloc: Global,
     engine: &mut D,
-) -> Result<(usize, usize), Fail> {
-    let mat: RowMajorMatrix<F> = matrix(alloc, &[42, 7], 2)?;
-    let recorder = Recorder::with_room(alloc, 4, 8)?;
+) -> (usize, usize) {
+    let mat: RowMajorMatrix<F> = matrix(rt, alloc, &[42, 7], 2);
+    let recorder = Recorder::with_room(alloc, 4, 8).expect(rt, "memory");
     assert!(rt; fits_lde::<F>(mat.height(), mat.width(), 2));
     let answer = engine.coset_lde_batch_with_blocks(
         mat,
@@ -144,11 +136,11 @@ fn blocks_of_one_row<F: CanonicalField, D: TwoAdicSubgroupDft<F>>(
         |_rows: usize| -> Recorder<F> { recorder },
     );
     let Ok((_out, recorder)) = answer else {
-        return Err(Fail::from("not all blocks were taken"));
+        panic!(rt; "not all blocks were taken");
     };
     let blocks = recorder.blocks();
     assert!(rt; blocks > 0 && !recorder.missed());
-    Ok((blocks, recorder.rows(0).height()))
+    (blocks, recorder.rows(0).height())
 }
 
 // So many blocks, of so many rows.
@@ -159,24 +151,18 @@ struct BlocksOfOneRow {
 }
 
 impl<F: CanonicalField> EngineTest<F> for BlocksOfOneRow {
-    fn run<R: Abort, D: TwoAdicSubgroupDft<F>>(
-        &self,
-        rt: &R,
-        alloc: Global,
-        engine: &mut D,
-    ) -> Result<(), Fail> {
-        let found = blocks_of_one_row(rt, alloc, engine)?;
+    fn run<R: Abort, D: TwoAdicSubgroupDft<F>>(&self, rt: &R, alloc: Global, engine: &mut D) {
+        let found = blocks_of_one_row(rt, alloc, engine);
         assert!(rt; found == (self.blocks, self.rows));
-        Ok(())
     }
 }
 
 #[test]
-fn single_rows(rt: HostRuntime) -> Result<(), Fail> {
+fn single_rows(rt: HostRuntime) {
     let single = BlocksOfOneRow { blocks: 4, rows: 1 };
-    on::<BabyBear, Radix2DitParallel<BabyBear>, _, _>(&rt, rt.alloc(), &single)?;
+    on_halves::<BabyBear, _, _>(&rt, rt.alloc(), &single);
     let whole = BlocksOfOneRow { blocks: 1, rows: 4 };
-    on_engines_of_one_block::<BabyBear, _, _>(&rt, rt.alloc(), &whole)
+    on_engines_of_one_block::<BabyBear, _, _>(&rt, rt.alloc(), &whole);
 }
 
 // Counts blocks in what is lent to it.
@@ -209,7 +195,7 @@ fn counted_extension<F: CanonicalField, D: TwoAdicSubgroupDft<F>>(
     engine: &mut D,
     mat: RowMajorMatrix<F>,
     blocks: &Cell<usize>,
-) -> Result<Option<RowMajorMatrix<F>>, Fail> {
+) -> Option<RowMajorMatrix<F>> {
     assert!(rt; fits_lde::<F>(mat.height(), mat.width(), 1));
     let answer = engine.coset_lde_batch_with_blocks(
         mat,
@@ -221,13 +207,13 @@ fn counted_extension<F: CanonicalField, D: TwoAdicSubgroupDft<F>>(
         |_rows: usize| -> Counted<'_> { Counted { blocks } },
     );
     match answer {
-        Ok((out, _counted)) => Ok(Some(out.bit_reverse_rows())),
+        Ok((out, _counted)) => Some(out.bit_reverse_rows()),
         Err(stopped) => match stopped {
             BlocksStopped::Refused {
                 consumer: _counted,
                 refusal: _refusal,
-            } => { Err(Fail::from("a block was refused")) }
-            BlocksStopped::OutOfMemory(_unpublished) => Ok(None),
+            } => panic!(rt; "a block was refused"),
+            BlocksStopped::OutOfMemory(_unpublished) => None,
         },
     }
 }
@@ -236,28 +222,22 @@ fn counted_extension<F: CanonicalField, D: TwoAdicSubgroupDft<F>>(
 struct NothingLent;
 
 impl<F: CanonicalField> EngineTest<F> for NothingLent {
-    fn run<R: Abort, D: TwoAdicSubgroupDft<F>>(
-        &self,
-        rt: &R,
-        alloc: Global,
-        engine: &mut D,
-    ) -> Result<(), Fail> {
-        let mat: RowMajorMatrix<F> = matrix(alloc, &[9, 1], 1)?;
-        let again = mat.try_clone()?;
-        let want = matrix(alloc, &[9, 1, 873820294, 1139445637], 1)?;
+    fn run<R: Abort, D: TwoAdicSubgroupDft<F>>(&self, rt: &R, alloc: Global, engine: &mut D) {
+        let mat: RowMajorMatrix<F> = matrix(rt, alloc, &[9, 1], 1);
+        let again = mat.try_clone().expect(rt, "memory");
+        let want = matrix(rt, alloc, &[9, 1, 873820294, 1139445637], 1);
         let blocks = Cell::new(0);
-        let mut out = counted_extension(rt, engine, mat, &blocks)?;
+        let mut out = counted_extension(rt, engine, mat, &blocks);
         if out.is_none() {
             assert_eq!(rt; blocks.get(), 0);
-            out = counted_extension(rt, engine, again, &blocks)?;
+            out = counted_extension(rt, engine, again, &blocks);
         }
         assert!(rt; blocks.get() > 0);
         assert!(rt; out == Some(want));
-        Ok(())
     }
 }
 
 #[test]
-fn refused_memory(rt: HostRuntime) -> Result<(), Fail> {
-    on_every_engine::<BabyBear, _, _>(&rt, rt.alloc(), &NothingLent)
+fn refused_memory(rt: HostRuntime) {
+    on_every_engine::<BabyBear, _, _>(&rt, rt.alloc(), &NothingLent);
 }

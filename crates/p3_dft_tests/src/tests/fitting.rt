@@ -1,7 +1,7 @@
 // Columns of numbers, of shapes that fit, and shifts that have an inverse: what the calls of an engine
 // ask for is tested here once, and then told by a clause.
 
-ghost use Rattle.std.specs.Prelude.{◌≡◌, IfOk, vec_len};
+ghost use Rattle.std.specs.Prelude.{◌≡◌, vec_len};
 ghost use Rattle.p3_field.specs.Ring.{IsInvertible};
 ghost use Rattle.p3_matrix.specs.RowMajor.{height};
 ghost use Rattle.p3_dft.specs.Shapes.{FitsDft, FitsLde};
@@ -10,19 +10,18 @@ use super::{elements, has_inverse, matrix};
 use p3_dft::{CanonicalField, Field, RowMajorMatrix, TwoAdicSubgroupDft, fits_dft, fits_lde};
 use std::alloc::Global;
 use std::process::Abort;
-use std::test::Fail;
 
 // A column of these numbers that can be transformed.
 pub(crate) fn transformable<F: CanonicalField>(
     rt: &impl Abort,
     alloc: Global,
     numbers: &[u64],
-) -> Result<RowMajorMatrix<F>, Fail>
-    ensures { IfOk result (λ mat. FitsDft F.TWO_ADICITY (height mat) mat.width) }
+) -> RowMajorMatrix<F>
+    ensures { FitsDft F.TWO_ADICITY (height result) result.width }
 {
-    let mat: RowMajorMatrix<F> = matrix(alloc, numbers, 1)?;
+    let mat: RowMajorMatrix<F> = matrix(rt, alloc, numbers, 1);
     assert!(rt; fits_dft::<F>(mat.height(), mat.width()));
-    Ok(mat)
+    mat
 }
 
 // One that can be extended.
@@ -31,27 +30,23 @@ pub(crate) fn extensible<F: CanonicalField>(
     alloc: Global,
     numbers: &[u64],
     added_bits: usize,
-) -> Result<RowMajorMatrix<F>, Fail>
-    ensures { IfOk result (λ mat. FitsLde F.TWO_ADICITY (height mat) mat.width added_bits) }
+) -> RowMajorMatrix<F>
+    ensures { FitsLde F.TWO_ADICITY (height result) result.width added_bits }
 {
-    let mat: RowMajorMatrix<F> = matrix(alloc, numbers, 1)?;
+    let mat: RowMajorMatrix<F> = matrix(rt, alloc, numbers, 1);
     assert!(rt; fits_lde::<F>(mat.height(), mat.width(), added_bits));
-    Ok(mat)
+    mat
 }
 
 // A column of two numbers that can be transformed.
-pub(crate) fn pair<F: CanonicalField>(
-    rt: &impl Abort,
-    alloc: Global,
-    numbers: [u64; 2],
-) -> Result<Vec<F>, Fail>
-    ensures fits { IfOk result (λ column. FitsDft F.TWO_ADICITY (vec_len column) 1) }
-    ensures two { IfOk result (λ column. vec_len column ≡ 2) }
+pub(crate) fn pair<F: CanonicalField>(rt: &impl Abort, alloc: Global, numbers: [u64; 2]) -> Vec<F>
+    ensures fits { FitsDft F.TWO_ADICITY (vec_len result) 1 }
+    ensures two { vec_len result ≡ 2 }
 {
-    let column: Vec<F> = elements(alloc, &numbers)?;
+    let column: Vec<F> = elements(rt, alloc, &numbers);
     assert!(rt; fits_dft::<F>(column.len(), 1));
     assert!(rt; column.len() == 2);
-    Ok(column)
+    column
 }
 
 // A shift that has an inverse.
@@ -68,10 +63,9 @@ pub(crate) fn assert_column<F: CanonicalField>(
     rt: &impl Abort,
     found: &RowMajorMatrix<F>,
     numbers: &[u64],
-) -> Result<(), Fail> {
-    let wanted: RowMajorMatrix<F> = matrix(*found.allocator(), numbers, 1)?;
+) {
+    let wanted: RowMajorMatrix<F> = matrix(rt, *found.allocator(), numbers, 1);
     assert!(rt; *found == wanted);
-    Ok(())
 }
 
 // One call of `dft`: the polynomial with these coefficients has these values.
@@ -81,9 +75,8 @@ pub(crate) fn evaluates<F: CanonicalField, D: TwoAdicSubgroupDft<F>>(
     engine: &mut D,
     coefficients: &[u64],
     values: &[u64],
-) -> Result<(), Fail> {
-    let column: Vec<F> = elements(alloc, coefficients)?;
+) {
+    let column: Vec<F> = elements(rt, alloc, coefficients);
     assert!(rt; fits_dft::<F>(column.len(), 1));
-    assert!(rt; engine.dft(column)? == elements(alloc, values)?);
-    Ok(())
+    assert!(rt; engine.dft(column).expect(rt, "memory") == elements(rt, alloc, values));
 }

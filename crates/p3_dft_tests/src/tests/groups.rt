@@ -4,7 +4,6 @@ ghost use Rattle.std.specs.Prelude.{◌≤◌};
 
 use p3_networks::radix_2_small_batch::groups::{group_end, groups, log_tile_rows, piece_size};
 use std::process::Abort;
-use std::test::Fail;
 
 // How many layers each group has, from the largest blocks on, at height 64 and width 3.
 fn assert_groups(rt: &impl Abort, tile: usize, sizes: &[usize])
@@ -21,19 +20,17 @@ fn assert_groups(rt: &impl Abort, tile: usize, sizes: &[usize])
 }
 
 #[test]
-fn layers_on_the_whole(rt: HostRuntime) -> Result<(), Fail> {
+fn layers_on_the_whole(rt: HostRuntime) {
     assert_groups(&rt, 1, &[3, 3]);
     assert_groups(&rt, 6, &[3, 2]);
     assert_groups(&rt, 12, &[3, 1]);
     assert_groups(&rt, 192, &[]);
-    Ok(())
 }
 
 // A tile of each size has pieces of an eighth, and of one at least.
 #[test]
-fn pieces(rt: HostRuntime) -> Result<(), Fail> {
+fn pieces(rt: HostRuntime) {
     for (tile, size) in [(1usize, 1usize), (6, 1), (12, 2), (192, 32), (8192, 1024)] {
         assert!(rt; piece_size(tile) == size);
     }
-    Ok(())
 }

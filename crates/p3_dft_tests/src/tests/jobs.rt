@@ -1,6 +1,5 @@
 // Lists of jobs on every engine, and what stays where memory is refused within a list.
 
-ghost use Rattle.std.specs.Prelude.{IfOk};
 ghost use Rattle.std.specs.List.{All};
 ghost use Rattle.p3_dft.specs.Jobs.{CanRun};
 
@@ -13,75 +12,73 @@ use p3_dft::{
 };
 use std::alloc::Global;
 use std::process::Abort;
-use std::test::Fail;
 
 // How many kinds of job there are.
 const KINDS: usize = 6;
 
 // A job of each kind.
-fn job<F: CanonicalField>(rt: &impl Abort, alloc: Global, kind: usize) -> Result<Job<F>, Fail>
-    ensures { IfOk result (CanRun F.Field.own F.TWO_ADICITY) }
+fn job<F: CanonicalField>(rt: &impl Abort, alloc: Global, kind: usize) -> Job<F>
+    ensures { CanRun F.Field.own F.TWO_ADICITY result }
 {
-    Ok(match kind % KINDS {
-        0 => Job::Dft(transformable(rt, alloc, &[1, 2, 3, 4])?),
-        1 => Job::CosetDft(transformable(rt, alloc, &[5, 4])?, F::TWO),
-        2 => Job::Idft(transformable(rt, alloc, &[9, 1])?),
+    match kind % KINDS {
+        0 => Job::Dft(transformable(rt, alloc, &[1, 2, 3, 4])),
+        1 => Job::CosetDft(transformable(rt, alloc, &[5, 4]), F::TWO),
+        2 => Job::Idft(transformable(rt, alloc, &[9, 1])),
         3 => {
-            let mat = transformable(rt, alloc, &[13, 2013265918])?;
+            let mat = transformable(rt, alloc, &[13, 2013265918]);
             Job::CosetIdft(mat, invertible(rt, F::TWO))
         }
-        4 => Job::Lde(extensible(rt, alloc, &[9, 1], 1)?, 1),
-        _ => Job::CosetLde(extensible(rt, alloc, &[9, 1], 1)?, 1, F::ZERO),
-    })
+        4 => Job::Lde(extensible(rt, alloc, &[9, 1], 1), 1),
+        _ => Job::CosetLde(extensible(rt, alloc, &[9, 1], 1), 1, F::ZERO),
+    }
 }
 
 // The list with one more job.
-fn and_then<F: CanonicalField>(mut jobs: Vec<Job<F>>, job: Job<F>) -> Result<Vec<Job<F>>, Fail>
+fn and_then<F: CanonicalField>(rt: &impl Abort, mut jobs: Vec<Job<F>>, job: Job<F>) -> Vec<Job<F>>
     requires jobs { All (CanRun F.Field.own F.TWO_ADICITY) jobs.items }
     requires job { CanRun F.Field.own F.TWO_ADICITY job }
-    ensures { IfOk result (λ more. All (CanRun F.Field.own F.TWO_ADICITY) more.items) }
+    ensures { All (CanRun F.Field.own F.TWO_ADICITY) result.items }
 {
-    jobs.push(job)?;
-    Ok(jobs)
+    jobs.push(job).expect(rt, "memory");
+    jobs
 }
 
 // One of each kind, beginning with one of them.
-fn list_from<F: CanonicalField>(
-    rt: &impl Abort,
-    alloc: Global,
-    first: usize,
-) -> Result<Vec<Job<F>>, Fail>
-    ensures { IfOk result (λ jobs. All (CanRun F.Field.own F.TWO_ADICITY) jobs.items) }
+fn list_from<F: CanonicalField>(rt: &impl Abort, alloc: Global, first: usize) -> Vec<Job<F>>
+    ensures { All (CanRun F.Field.own F.TWO_ADICITY) result.items }
 {
     let mut jobs = Vec::new(alloc);
     for n in 0..KINDS {
-        jobs = and_then(jobs, job(rt, alloc, first.wrapping_add(n))?)?;
+        jobs = and_then(rt, jobs, job(rt, alloc, first.wrapping_add(n)));
     }
-    Ok(jobs)
+    jobs
 }
 
 // What answers a job.
-fn answer<F: CanonicalField>(alloc: Global, kind: usize) -> Result<RowMajorMatrix<F>, Fail> {
+fn answer<F: CanonicalField>(rt: &impl Abort, alloc: Global, kind: usize) -> RowMajorMatrix<F> {
     match kind % KINDS {
-        0 => matrix(alloc, &[10, 569722814, 2013265919, 1443543103], 1),
-        1 => matrix(alloc, &[13, 2013265918], 1),
-        2 | 3 => matrix(alloc, &[5, 4], 1),
-        4 => matrix(alloc, &[9, 873820294, 1, 1139445637], 1),
-        _ => matrix(alloc, &[5, 5, 5, 5], 1),
+        0 => matrix(rt, alloc, &[10, 569722814, 2013265919, 1443543103], 1),
+        1 => matrix(rt, alloc, &[13, 2013265918], 1),
+        2 | 3 => matrix(rt, alloc, &[5, 4], 1),
+        4 => matrix(rt, alloc, &[9, 873820294, 1, 1139445637], 1),
+        _ => matrix(rt, alloc, &[5, 5, 5, 5], 1),
     }
 }
 
 // What answers the first so many, beginning with one kind.
 fn answers<F: CanonicalField>(
+    rt: &impl Abort,
     alloc: Global,
     first: usize,
     count: usize,
-) -> Result<Vec<RowMajorMatrix<F>>, Fail> {
+) -> Vec<RowMajorMatrix<F>> {
     let mut answers = Vec::new(alloc);
     for n in 0..count {
-        answers.push(answer(alloc, first.wrapping_add(n))?)?;
+        answers
+            .push(answer(rt, alloc, first.wrapping_add(n)))
+            .expect(rt, "memory");
     }
-    Ok(answers)
+    answers
 }
 
 // How many transforms it takes: an extension is an inverse and a transform.
@@ -110,9 +107,9 @@ fn answers_in_turn<F: CanonicalField, D: TwoAdicSubgroupDft<F>>(
     engine: &mut D,
     first: usize,
     count: usize,
-) -> Result<(), Fail> {
-    let expected: Vec<RowMajorMatrix<F>> = answers(alloc, first, count)?;
-    match run_jobs(engine, list_from(rt, alloc, first)?) {
+) {
+    let expected: Vec<RowMajorMatrix<F>> = answers(rt, alloc, first, count);
+    match run_jobs(engine, list_from(rt, alloc, first)) {
         Ok(answers) => {
             assert!(rt; count == KINDS);
             assert!(rt; answers == expected);
@@ -123,7 +120,6 @@ fn answers_in_turn<F: CanonicalField, D: TwoAdicSubgroupDft<F>>(
             assert!(rt; error == DftError::OutOfMemory);
         }
     }
-    Ok(())
 }
 
 // No jobs.
@@ -145,15 +141,15 @@ impl EngineTest<BabyBear> for Jobs {
         rt: &R,
         alloc: Global,
         engine: &mut D,
-    ) -> Result<(), Fail> {
+    ) {
         no_answers(rt, alloc, engine);
-        answers_in_turn(rt, alloc, engine, 0, KINDS)
+        answers_in_turn(rt, alloc, engine, 0, KINDS);
     }
 }
 
 #[test]
-fn jobs_in_order(rt: HostRuntime) -> Result<(), Fail> {
-    on_every_engine::<BabyBear, _, _>(&rt, rt.alloc(), &Jobs)
+fn jobs_in_order(rt: HostRuntime) {
+    on_every_engine::<BabyBear, _, _>(&rt, rt.alloc(), &Jobs);
 }
 
 // A list that begins with one kind, refused after so many transforms.
@@ -162,64 +158,67 @@ fn refused_after<F: CanonicalField>(
     alloc: Global,
     first: usize,
     transforms: usize,
-) -> Result<(), Fail> {
+) {
     let count = answered(first, transforms);
-    answers_in_turn::<F, _>(rt, alloc, &mut LimitedDft::new(transforms), first, count)
+    answers_in_turn::<F, _>(rt, alloc, &mut LimitedDft::new(transforms), first, count);
 }
 
 // Lists that begin with each kind, refused within each job.
 #[test]
-fn refused_jobs(rt: HostRuntime) -> Result<(), Fail> {
+fn refused_jobs(rt: HostRuntime) {
     for first in 0..KINDS {
         for left in 0..9usize {
-            refused_after::<BabyBear>(&rt, rt.alloc(), first, left)?;
+            refused_after::<BabyBear>(&rt, rt.alloc(), first, left);
         }
     }
-    Ok(())
 }
 
 // A job on a coset, of one column.
-fn coset_job<F: CanonicalField>(
-    rt: &impl Abort,
-    alloc: Global,
-    numbers: &[u64],
-    shift: F,
-) -> Result<Job<F>, Fail>
-    ensures { IfOk result (CanRun F.Field.own F.TWO_ADICITY) }
+fn coset_job<F: CanonicalField>(rt: &impl Abort, alloc: Global, numbers: &[u64], shift: F) -> Job<F>
+    ensures { CanRun F.Field.own F.TWO_ADICITY result }
 {
-    Ok(Job::CosetDft(transformable(rt, alloc, numbers)?, shift))
+    Job::CosetDft(transformable(rt, alloc, numbers), shift)
 }
 
 // Cosets of two heights and three shifts, one of them twice, and the subgroup in between.
-fn coset_jobs<F: CanonicalField>(rt: &impl Abort, alloc: Global) -> Result<Vec<Job<F>>, Fail>
-    ensures { IfOk result (λ jobs. All (CanRun F.Field.own F.TWO_ADICITY) jobs.items) }
+fn coset_jobs<F: CanonicalField>(rt: &impl Abort, alloc: Global) -> Vec<Job<F>>
+    ensures { All (CanRun F.Field.own F.TWO_ADICITY) result.items }
 {
-    let jobs = and_then(Vec::new(alloc), coset_job(rt, alloc, &[5, 4], F::TWO)?)?;
-    let jobs = and_then(jobs, coset_job(rt, alloc, &[1, 2, 3, 4], F::ZERO)?)?;
-    let jobs = and_then(jobs, coset_job(rt, alloc, &[5, 4], F::from_u8(3))?)?;
-    let jobs = and_then(jobs, job(rt, alloc, 0)?)?;
-    and_then(jobs, coset_job(rt, alloc, &[5, 4], F::TWO)?)
+    let jobs = and_then(rt, Vec::new(alloc), coset_job(rt, alloc, &[5, 4], F::TWO));
+    let jobs = and_then(rt, jobs, coset_job(rt, alloc, &[1, 2, 3, 4], F::ZERO));
+    let jobs = and_then(rt, jobs, coset_job(rt, alloc, &[5, 4], F::from_u8(3)));
+    let jobs = and_then(rt, jobs, job(rt, alloc, 0));
+    and_then(rt, jobs, coset_job(rt, alloc, &[5, 4], F::TWO))
 }
 
-fn answers_on_cosets<F: CanonicalField>(alloc: Global) -> Result<Vec<RowMajorMatrix<F>>, Fail> {
+fn answers_on_cosets<F: CanonicalField>(rt: &impl Abort, alloc: Global) -> Vec<RowMajorMatrix<F>> {
     let mut answers = Vec::new(alloc);
-    answers.push(matrix(alloc, &[13, 2013265918], 1)?)?;
-    answers.push(matrix(alloc, &[1, 1, 1, 1], 1)?)?;
-    answers.push(matrix(alloc, &[17, 2013265914], 1)?)?;
-    answers.push(matrix(alloc, &[10, 569722814, 2013265919, 1443543103], 1)?)?;
-    answers.push(matrix(alloc, &[13, 2013265918], 1)?)?;
-    Ok(answers)
+    answers
+        .push(matrix(rt, alloc, &[13, 2013265918], 1))
+        .expect(rt, "memory");
+    answers
+        .push(matrix(rt, alloc, &[1, 1, 1, 1], 1))
+        .expect(rt, "memory");
+    answers
+        .push(matrix(rt, alloc, &[17, 2013265914], 1))
+        .expect(rt, "memory");
+    answers
+        .push(matrix(rt, alloc, &[10, 569722814, 2013265919, 1443543103], 1))
+        .expect(rt, "memory");
+    answers
+        .push(matrix(rt, alloc, &[13, 2013265918], 1))
+        .expect(rt, "memory");
+    answers
 }
 
 fn cosets_answered<F: CanonicalField, D: TwoAdicSubgroupDft<F>>(
     rt: &impl Abort,
     alloc: Global,
     engine: &mut D,
-) -> Result<(), Fail> {
-    let expected: Vec<RowMajorMatrix<F>> = answers_on_cosets(alloc)?;
-    let answered = run_jobs(engine, coset_jobs(rt, alloc)?);
+) {
+    let expected: Vec<RowMajorMatrix<F>> = answers_on_cosets(rt, alloc);
+    let answered = run_jobs(engine, coset_jobs(rt, alloc));
     assert!(rt; answered.is_ok_and(|answers| answers == expected));
-    Ok(())
 }
 
 struct CosetsInTurn;
@@ -230,12 +229,12 @@ impl EngineTest<BabyBear> for CosetsInTurn {
         rt: &R,
         alloc: Global,
         engine: &mut D,
-    ) -> Result<(), Fail> {
-        cosets_answered(rt, alloc, engine)
+    ) {
+        cosets_answered(rt, alloc, engine);
     }
 }
 
 #[test]
-fn cosets_in_turn(rt: HostRuntime) -> Result<(), Fail> {
-    on_every_engine::<BabyBear, _, _>(&rt, rt.alloc(), &CosetsInTurn)
+fn cosets_in_turn(rt: HostRuntime) {
+    on_every_engine::<BabyBear, _, _>(&rt, rt.alloc(), &CosetsInTurn);
 }

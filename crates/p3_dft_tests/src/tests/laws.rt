@@ -24,7 +24,6 @@ use p3_dft::{
 };
 use std::alloc::Global;
 use std::process::Abort;
-use std::test::Fail;
 
 // The transform of an inverse is the matrix.
 fn back_and_there<F: TwoAdicField, D: TwoAdicSubgroupDft<F>>(
@@ -490,13 +489,14 @@ fn undoing<F: CanonicalField, D: TwoAdicSubgroupDft<F>>(
     rt: &impl Abort,
     alloc: Global,
     engine: &mut D,
-) -> Result<(), Fail> {
-    let mat: RowMajorMatrix<F> = transformable(rt, alloc, &[9, 1])?;
+) {
+    let mat: RowMajorMatrix<F> = transformable(rt, alloc, &[9, 1]);
     let shift = invertible(rt, F::TWO);
-    let back = there_and_back(engine, mat.try_clone()?, shift)?;
-    assert_column(rt, &back, &[9, 1])?;
-    let there = back_and_there(engine, mat, shift)?;
-    assert_column(rt, &there.to_row_major_matrix(), &[9, 1])
+    let back = there_and_back(engine, mat.try_clone().expect(rt, "memory"), shift);
+    let back = back.expect(rt, "memory");
+    assert_column(rt, &back, &[9, 1]);
+    let there = back_and_there(engine, mat, shift).expect(rt, "memory");
+    assert_column(rt, &there.to_row_major_matrix(), &[9, 1]);
 }
 
 fn agreeing<F: CanonicalField, D: TwoAdicSubgroupDft<F>, E: TwoAdicSubgroupDft<F>>(
@@ -504,182 +504,157 @@ fn agreeing<F: CanonicalField, D: TwoAdicSubgroupDft<F>, E: TwoAdicSubgroupDft<F
     alloc: Global,
     one: &mut D,
     other: &mut E,
-) -> Result<(), Fail> {
-    let mat: RowMajorMatrix<F> = transformable(rt, alloc, &[9, 1])?;
-    assert!(rt; transforms_agree(one, other, mat, F::TWO)?);
-    Ok(())
+) {
+    let mat: RowMajorMatrix<F> = transformable(rt, alloc, &[9, 1]);
+    assert!(rt; transforms_agree(one, other, mat, F::TWO).expect(rt, "memory"));
 }
 
-fn generators<F: CanonicalField>(rt: &impl Abort, alloc: Global) -> Result<(), Fail> {
-    let mat: RowMajorMatrix<F> = transformable(rt, alloc, &[9, 1])?;
+fn generators<F: CanonicalField>(rt: &impl Abort, alloc: Global) {
+    let mat: RowMajorMatrix<F> = transformable(rt, alloc, &[9, 1]);
     assert!(rt; mat.height() == 2);
     assert!(rt; generator_of(&mat, 1) == F::NEG_ONE);
-    Ok(())
 }
 
 fn points<F: CanonicalField, D: TwoAdicSubgroupDft<F>>(
     rt: &impl Abort,
     alloc: Global,
     engine: &mut D,
-) -> Result<(), Fail> {
-    let values = values_at_points(engine, pair(rt, alloc, [9, 1])?, F::TWO)?;
-    assert!(rt; values == elements(alloc, &[11, 7])?);
-    Ok(())
+) {
+    let values = values_at_points(engine, pair(rt, alloc, [9, 1]), F::TWO).expect(rt, "memory");
+    assert!(rt; values == elements(rt, alloc, &[11, 7]));
 }
 
 fn transforming<F: CanonicalField, D: TwoAdicSubgroupDft<F>, E: TwoAdicSubgroupDft<F>>(
     rt: &impl Abort,
     alloc: Global,
-) -> Result<(), Fail> {
+) {
     let mut engine = D::default();
-    undoing(rt, alloc, &mut engine)?;
-    agreeing(rt, alloc, &mut engine, &mut E::default())?;
-    generators::<F>(rt, alloc)?;
-    points(rt, alloc, &mut engine)
-}
-
-#[test]
-fn transforms_and_back(rt: HostRuntime) -> Result<(), Fail> {
-    transforming::<BabyBear, Radix2Dit<BabyBear>, NaiveDft>(&rt, rt.alloc())
+    undoing(rt, alloc, &mut engine);
+    agreeing(rt, alloc, &mut engine, &mut E::default());
+    generators::<F>(rt, alloc);
+    points(rt, alloc, &mut engine);
 }
 
 fn extending_on_subgroups<F: CanonicalField, D: TwoAdicSubgroupDft<F>>(
     rt: &impl Abort,
     alloc: Global,
     engine: &mut D,
-) -> Result<(), Fail> {
-    let same = extended_by_nothing(engine, extensible(rt, alloc, &[9, 1], 0)?)?;
-    assert_column(rt, &same.to_row_major_matrix(), &[9, 1])?;
+) {
+    let same = extended_by_nothing(engine, extensible(rt, alloc, &[9, 1], 0)).expect(rt, "memory");
+    assert_column(rt, &same.to_row_major_matrix(), &[9, 1]);
     let larger = [9, 873820294, 1, 1139445637];
-    let values = extended_by_one(engine, extensible(rt, alloc, &[9, 1], 1)?, 1)?;
-    assert_column(rt, &values.to_row_major_matrix(), &larger)?;
-    let values = extended_with_rows_kept(engine, extensible(rt, alloc, &[9, 1], 1)?, 1)?;
-    assert_column(rt, &values.to_row_major_matrix(), &larger)
+    let values = extended_by_one(engine, extensible(rt, alloc, &[9, 1], 1), 1).expect(rt, "memory");
+    assert_column(rt, &values.to_row_major_matrix(), &larger);
+    let values = extended_with_rows_kept(engine, extensible(rt, alloc, &[9, 1], 1), 1);
+    let values = values.expect(rt, "memory");
+    assert_column(rt, &values.to_row_major_matrix(), &larger);
 }
 
 fn extending_on_cosets<F: CanonicalField, D: TwoAdicSubgroupDft<F>>(
     rt: &impl Abort,
     alloc: Global,
     engine: &mut D,
-) -> Result<(), Fail> {
-    let mat: RowMajorMatrix<F> = extensible(rt, alloc, &[9, 1], 1)?;
+) {
+    let mat: RowMajorMatrix<F> = extensible(rt, alloc, &[9, 1], 1);
     let shift = invertible(rt, F::TWO);
-    let back = inverse_of_extended(engine, mat.try_clone()?, 1, shift)?;
-    assert_column(rt, &back, &[5, 4, 0, 0])?;
-    let values = extended_from_coset(engine, mat.try_clone()?, 1, shift, F::ZERO)?;
-    assert_column(rt, &values.to_row_major_matrix(), &[9, 9, 9, 9])?;
-    let values = extended_unchanged(engine, mat, 1, F::ZERO)?;
-    assert_column(rt, &values.to_row_major_matrix(), &[5, 5, 5, 5])
+    let back = inverse_of_extended(engine, mat.try_clone().expect(rt, "memory"), 1, shift);
+    let back = back.expect(rt, "memory");
+    assert_column(rt, &back, &[5, 4, 0, 0]);
+    let values = extended_from_coset(
+        engine,
+        mat.try_clone().expect(rt, "memory"),
+        1,
+        shift,
+        F::ZERO,
+    )
+    .expect(rt, "memory");
+    assert_column(rt, &values.to_row_major_matrix(), &[9, 9, 9, 9]);
+    let values = extended_unchanged(engine, mat, 1, F::ZERO).expect(rt, "memory");
+    assert_column(rt, &values.to_row_major_matrix(), &[5, 5, 5, 5]);
 }
 
-fn extending<F: CanonicalField, D: TwoAdicSubgroupDft<F>>(
-    rt: &impl Abort,
-    alloc: Global,
-) -> Result<(), Fail> {
+fn extending<F: CanonicalField, D: TwoAdicSubgroupDft<F>>(rt: &impl Abort, alloc: Global) {
     let mut engine = D::default();
-    extending_on_subgroups(rt, alloc, &mut engine)?;
-    extending_on_cosets(rt, alloc, &mut engine)
-}
-
-#[test]
-fn extensions(rt: HostRuntime) -> Result<(), Fail> {
-    extending::<BabyBear, Radix2Dit<BabyBear>>(&rt, rt.alloc())
+    extending_on_subgroups(rt, alloc, &mut engine);
+    extending_on_cosets(rt, alloc, &mut engine);
 }
 
 fn inverting_alike<F: CanonicalField, D: TwoAdicSubgroupDft<F>, E: TwoAdicSubgroupDft<F>>(
     rt: &impl Abort,
     alloc: Global,
-) -> Result<(), Fail> {
+) {
     let mut engine = D::default();
-    let mat: RowMajorMatrix<F> = transformable(rt, alloc, &[9, 1])?;
+    let mat: RowMajorMatrix<F> = transformable(rt, alloc, &[9, 1]);
     let shift = invertible(rt, F::TWO);
-    let (one, other) = inverses_agree(&mut engine, &mut E::default(), mat, shift)?;
+    let answers = inverses_agree(&mut engine, &mut E::default(), mat, shift);
+    let (one, other) = answers.expect(rt, "memory");
     assert!(rt; told_equal(&one, &other));
     assert!(rt; fits_dft::<F>(one.height(), one.width()));
-    let there = transformed_for(&mut engine, one, &other, shift)?;
-    assert_column(rt, &there.to_row_major_matrix(), &[9, 1])
-}
-
-#[test]
-fn equal_inverses(rt: HostRuntime) -> Result<(), Fail> {
-    inverting_alike::<BabyBear, Radix2Dit<BabyBear>, NaiveDft>(&rt, rt.alloc())
+    let there = transformed_for(&mut engine, one, &other, shift).expect(rt, "memory");
+    assert_column(rt, &there.to_row_major_matrix(), &[9, 1]);
 }
 
 fn extending_alike<F: CanonicalField, D: TwoAdicSubgroupDft<F>, E: TwoAdicSubgroupDft<F>>(
     rt: &impl Abort,
     alloc: Global,
-) -> Result<(), Fail> {
-    let mat: RowMajorMatrix<F> = extensible(rt, alloc, &[9, 1], 1)?;
-    let (one, other) = extensions_agree(&mut D::default(), &mut E::default(), mat, 1, F::ZERO)?;
-    assert_column(rt, &one.to_row_major_matrix(), &[5, 5, 5, 5])?;
-    assert_column(rt, &other.to_row_major_matrix(), &[5, 5, 5, 5])
-}
-
-#[test]
-fn equal_extensions(rt: HostRuntime) -> Result<(), Fail> {
-    extending_alike::<BabyBear, Radix2Dit<BabyBear>, NaiveDft>(&rt, rt.alloc())
+) {
+    let mat: RowMajorMatrix<F> = extensible(rt, alloc, &[9, 1], 1);
+    let (one, other) = extensions_agree(
+        &mut D::default(),
+        &mut E::default(),
+        mat,
+        1,
+        F::ZERO,
+    ).expect(rt, "memory");
+    assert_column(rt, &one.to_row_major_matrix(), &[5, 5, 5, 5]);
+    assert_column(rt, &other.to_row_major_matrix(), &[5, 5, 5, 5]);
 }
 
 fn coefficients_of_an_extension<F: CanonicalField, D: TwoAdicSubgroupDft<F>>(
     rt: &impl Abort,
     alloc: Global,
-) -> Result<(), Fail> {
-    let mat: RowMajorMatrix<F> = extensible(rt, alloc, &[9, 1], 1)?;
-    let (coefficients, _values) = extended_coefficients(&mut D::default(), mat, 1, F::TWO)?;
-    assert_column(rt, &coefficients, &[5, 4])
+) {
+    let mat: RowMajorMatrix<F> = extensible(rt, alloc, &[9, 1], 1);
+    let answers = extended_coefficients(&mut D::default(), mat, 1, F::TWO);
+    let (coefficients, _values) = answers.expect(rt, "memory");
+    assert_column(rt, &coefficients, &[5, 4]);
 }
 
-fn coefficients_back<F: CanonicalField, D: TwoAdicSubgroupDft<F>>(
-    rt: &impl Abort,
-    alloc: Global,
-) -> Result<(), Fail> {
-    let mat: RowMajorMatrix<F> = extensible(rt, alloc, &[9, 1], 1)?;
+fn coefficients_back<F: CanonicalField, D: TwoAdicSubgroupDft<F>>(rt: &impl Abort, alloc: Global) {
+    let mat: RowMajorMatrix<F> = extensible(rt, alloc, &[9, 1], 1);
     let shift = invertible(rt, F::TWO);
-    let (coefficients, back) = coefficients_again(&mut D::default(), mat, 1, shift)?;
-    assert_column(rt, &coefficients, &[5, 4])?;
-    assert_column(rt, &back, &[5, 4, 0, 0])
-}
-
-#[test]
-fn coefficients_of_extensions(rt: HostRuntime) -> Result<(), Fail> {
-    coefficients_of_an_extension::<BabyBear, Radix2Dit<BabyBear>>(&rt, rt.alloc())?;
-    coefficients_back::<BabyBear, Radix2Dit<BabyBear>>(&rt, rt.alloc())
+    let answers = coefficients_again(&mut D::default(), mat, 1, shift);
+    let (coefficients, back) = answers.expect(rt, "memory");
+    assert_column(rt, &coefficients, &[5, 4]);
+    assert_column(rt, &back, &[5, 4, 0, 0]);
 }
 
 fn inverting_an_extension<F: CanonicalField, D: TwoAdicSubgroupDft<F>>(
     rt: &impl Abort,
     alloc: Global,
-) -> Result<(), Fail> {
-    let mat: RowMajorMatrix<F> = extensible(rt, alloc, &[9, 1], 1)?;
+) {
+    let mat: RowMajorMatrix<F> = extensible(rt, alloc, &[9, 1], 1);
     let shift = invertible(rt, F::TWO);
-    let (coefficients, back) = coefficients_and_zeros(&mut D::default(), mat, 1, shift)?;
-    assert_column(rt, &coefficients, &[5, 4])?;
-    assert_column(rt, &back, &[5, 4, 0, 0])
-}
-
-#[test]
-fn inverses_of_extensions(rt: HostRuntime) -> Result<(), Fail> {
-    inverting_an_extension::<BabyBear, Radix2Dit<BabyBear>>(&rt, rt.alloc())
+    let answers = coefficients_and_zeros(&mut D::default(), mat, 1, shift);
+    let (coefficients, back) = answers.expect(rt, "memory");
+    assert_column(rt, &coefficients, &[5, 4]);
+    assert_column(rt, &back, &[5, 4, 0, 0]);
 }
 
 fn answering_a_job<F: CanonicalField, D: TwoAdicSubgroupDft<F>, E: TwoAdicSubgroupDft<F>>(
     rt: &impl Abort,
     alloc: Global,
-) -> Result<(), Fail> {
-    let mat: RowMajorMatrix<F> = transformable(rt, alloc, &[5, 4])?;
+) {
+    let mat: RowMajorMatrix<F> = transformable(rt, alloc, &[5, 4]);
     let one = D::default()
-        .dft_batch(mat.try_clone()?)?
+        .dft_batch(mat.try_clone().expect(rt, "memory"))
+        .expect(rt, "memory")
         .to_row_major_matrix();
     let other = E::default()
-        .dft_batch(mat.try_clone()?)?
+        .dft_batch(mat.try_clone().expect(rt, "memory"))
+        .expect(rt, "memory")
         .to_row_major_matrix();
     assert!(rt; answers_are_equal(&Job::Dft(mat), one, other));
-    Ok(())
-}
-
-#[test]
-fn answers_of_a_job(rt: HostRuntime) -> Result<(), Fail> {
-    answering_a_job::<BabyBear, Radix2Dit<BabyBear>, NaiveDft>(&rt, rt.alloc())
 }
 
 // Columns and their shapes that one engine transforms and inverts alone.
@@ -687,75 +662,91 @@ fn transforming_alone<F: CanonicalField, D: TwoAdicSubgroupDft<F>>(
     rt: &impl Abort,
     alloc: Global,
     engine: &mut D,
-) -> Result<(), Fail> {
-    let mat: RowMajorMatrix<F> = transformable(rt, alloc, &[9, 1])?;
+) {
+    let mat: RowMajorMatrix<F> = transformable(rt, alloc, &[9, 1]);
     assert!(rt; mat.width() == 1);
     let shift = invertible(rt, F::TWO);
-    let column = own_column(&mat)?;
-    let (whole, one) = column_alone(engine, mat.try_clone()?, column, 0, shift)?;
+    let column = own_column(&mat).expect(rt, "memory");
+    let (whole, one) = column_alone(
+        engine,
+        mat.try_clone().expect(rt, "memory"),
+        column,
+        0,
+        shift,
+    )
+    .expect(rt, "memory");
     assert!(rt; whole == one);
-    let column = own_column(&mat)?;
-    let (whole, one) = column_undone_alone(engine, mat, column, 0, shift)?;
+    let column = own_column(&mat).expect(rt, "memory");
+    let (whole, one) = column_undone_alone(engine, mat, column, 0, shift).expect(rt, "memory");
     assert!(rt; whole == one);
-    Ok(())
 }
 
 fn extending_alone<F: CanonicalField, D: TwoAdicSubgroupDft<F>>(
     rt: &impl Abort,
     alloc: Global,
     engine: &mut D,
-) -> Result<(), Fail> {
-    let mat: RowMajorMatrix<F> = extensible(rt, alloc, &[9, 1], 1)?;
+) {
+    let mat: RowMajorMatrix<F> = extensible(rt, alloc, &[9, 1], 1);
     assert!(rt; mat.width() == 1);
-    let column = own_column(&mat)?;
-    let (whole, one) = column_extended_alone(engine, mat, column, 0, 1)?;
+    let column = own_column(&mat).expect(rt, "memory");
+    let (whole, one) = column_extended_alone(engine, mat, column, 0, 1).expect(rt, "memory");
     assert!(rt; whole == one);
-    Ok(())
 }
 
-fn columns_alone<F: CanonicalField, D: TwoAdicSubgroupDft<F>>(
-    rt: &impl Abort,
-    alloc: Global,
-) -> Result<(), Fail> {
+fn columns_alone<F: CanonicalField, D: TwoAdicSubgroupDft<F>>(rt: &impl Abort, alloc: Global) {
     let mut engine = D::default();
-    transforming_alone(rt, alloc, &mut engine)?;
-    extending_alone(rt, alloc, &mut engine)
-}
-
-#[test]
-fn columns(rt: HostRuntime) -> Result<(), Fail> {
-    columns_alone::<BabyBear, Radix2Dit<BabyBear>>(&rt, rt.alloc())
+    transforming_alone(rt, alloc, &mut engine);
+    extending_alone(rt, alloc, &mut engine);
 }
 
 // A list of one job, twice.
-fn equal_lists<F: CanonicalField>(
-    rt: &impl Abort,
-    alloc: Global,
-) -> Result<(Vec<Job<F>>, Vec<Job<F>>), Fail>
-    ensures runnable { IfOk result (λ lists. All (CanRun F.Field.own F.TWO_ADICITY) lists.0.items) }
-    ensures equal { IfOk result (λ lists. lists.1.items ≡ lists.0.items) }
+fn equal_lists<F: CanonicalField>(rt: &impl Abort, alloc: Global) -> (Vec<Job<F>>, Vec<Job<F>>)
+    ensures runnable { All (CanRun F.Field.own F.TWO_ADICITY) result.0.items }
+    ensures equal { result.1.items ≡ result.0.items }
 {
-    let job: Job<F> = Job::Idft(transformable(rt, alloc, &[9, 1])?);
+    let job: Job<F> = Job::Idft(transformable(rt, alloc, &[9, 1]));
     let mut again = Vec::new(alloc);
-    again.push(job.try_clone()?)?;
+    again
+        .push(job.try_clone().expect(rt, "memory"))
+        .expect(rt, "memory");
     let mut jobs = Vec::new(alloc);
-    jobs.push(job)?;
-    Ok((jobs, again))
+    jobs.push(job).expect(rt, "memory");
+    (jobs, again)
 }
 
 fn answering_lists<F: CanonicalField, D: TwoAdicSubgroupDft<F>, E: TwoAdicSubgroupDft<F>>(
     rt: &impl Abort,
     alloc: Global,
-) -> Result<(), Fail> {
-    let (jobs, again) = equal_lists::<F>(rt, alloc)?;
+) {
+    let (jobs, again) = equal_lists::<F>(rt, alloc);
     match jobs_agree(&mut D::default(), &mut E::default(), jobs, again) {
         Ok((first, second)) => assert!(rt; first == second),
-        Err(_stopped) => return Err(Fail::from("refused")),
+        Err(_stopped) => panic!(rt; "memory"),
     }
-    Ok(())
+}
+
+// All of them, with two engines.
+fn every_law<F: CanonicalField, D: TwoAdicSubgroupDft<F>, E: TwoAdicSubgroupDft<F>>(
+    rt: &impl Abort,
+    alloc: Global,
+) {
+    transforming::<F, D, E>(rt, alloc);
+    extending::<F, D>(rt, alloc);
+    inverting_alike::<F, D, E>(rt, alloc);
+    extending_alike::<F, D, E>(rt, alloc);
+    coefficients_of_an_extension::<F, D>(rt, alloc);
+    coefficients_back::<F, D>(rt, alloc);
+    inverting_an_extension::<F, D>(rt, alloc);
+    answering_a_job::<F, D, E>(rt, alloc);
+    columns_alone::<F, D>(rt, alloc);
+    answering_lists::<F, D, E>(rt, alloc);
+}
+
+fn laws_over<F: CanonicalField>(rt: &impl Abort, alloc: Global) {
+    every_law::<F, Radix2Dit<F>, NaiveDft>(rt, alloc);
 }
 
 #[test]
-fn lists_of_jobs(rt: HostRuntime) -> Result<(), Fail> {
-    answering_lists::<BabyBear, Radix2Dit<BabyBear>, NaiveDft>(&rt, rt.alloc())
+fn laws_of_two_calls(rt: HostRuntime) {
+    laws_over::<BabyBear>(&rt, rt.alloc());
 }

@@ -8,7 +8,6 @@ use p3_dft::{
 };
 use std::alloc::Global;
 use std::process::Abort;
-use std::test::Fail;
 
 // The polynomials whose coefficients have the first numbers have a product with the last ones.
 fn multiplies<F: CanonicalField, D: TwoAdicSubgroupDft<F>>(
@@ -18,23 +17,19 @@ fn multiplies<F: CanonicalField, D: TwoAdicSubgroupDft<F>>(
     a: &[u64],
     b: &[u64],
     expected: &[u64],
-) -> Result<(), Fail> {
-    let a: Vec<F> = elements(alloc, a)?;
-    let b: Vec<F> = elements(alloc, b)?;
+) {
+    let a: Vec<F> = elements(rt, alloc, a);
+    let b: Vec<F> = elements(rt, alloc, b);
     let size = expected.len();
     assert!(rt; fits_dft::<F>(size, 1));
     assert!(rt; a.len() <= size);
     assert!(rt; b.len() <= size);
     assert!(rt; b.len().saturating_sub(1) <= size - a.len());
-    assert!(rt; product(engine, a, b, size)? == elements(alloc, expected)?);
-    Ok(())
+    assert!(rt; product(engine, a, b, size).expect(rt, "memory") == elements(rt, alloc, expected));
 }
 
 // A product that fills its coefficients, one with room, and one with nothing.
-fn small_products<F: CanonicalField, D: TwoAdicSubgroupDft<F>>(
-    rt: &impl Abort,
-    alloc: Global,
-) -> Result<(), Fail> {
+fn small_products<F: CanonicalField, D: TwoAdicSubgroupDft<F>>(rt: &impl Abort, alloc: Global) {
     let mut engine = D::default();
     let full = [5, 16, 34, 60, 70, 70, 59, 36];
     multiplies(
@@ -44,24 +39,26 @@ fn small_products<F: CanonicalField, D: TwoAdicSubgroupDft<F>>(
         &[1, 2, 3, 4],
         &[5, 6, 7, 8, 9],
         &full,
-    )?;
+    );
     let (a, b) = ([3, 2013265920, 4, 5], [2, 7, 1, 8, 2000000000]);
     let roomy = [
         6, 19, 4, 61, 1973468189, 13265958, 1960202277, 1946936316, 0, 0, 0, 0, 0, 0, 0, 0,
     ];
-    multiplies(rt, alloc, &mut engine, &a, &b, &roomy)?;
-    multiplies(rt, alloc, &mut engine, &[], &[5, 6], &[0, 0])
+    multiplies(rt, alloc, &mut engine, &a, &b, &roomy);
+    multiplies(rt, alloc, &mut engine, &[], &[5, 6], &[0, 0]);
+}
+
+// By a fast network.
+fn small_products_of<F: CanonicalField>(rt: &impl Abort, alloc: Global) {
+    small_products::<F, Radix2Dit<F>>(rt, alloc);
 }
 
 #[test]
-fn products_over_baby_bear(rt: HostRuntime) -> Result<(), Fail> {
-    small_products::<BabyBear, Radix2Dit<BabyBear>>(&rt, rt.alloc())
+fn products_over_baby_bear(rt: HostRuntime) {
+    small_products_of::<BabyBear>(&rt, rt.alloc());
 }
 
-fn large_product<F: CanonicalField, D: TwoAdicSubgroupDft<F>>(
-    rt: &impl Abort,
-    alloc: Global,
-) -> Result<(), Fail> {
+fn large_product<F: CanonicalField, D: TwoAdicSubgroupDft<F>>(rt: &impl Abort, alloc: Global) {
     let a = [3, 18446744069414584320, 4, 5];
     let b = [2, 7, 1, 8, 18000000000000000000];
     let expected = [
@@ -74,11 +71,16 @@ fn large_product<F: CanonicalField, D: TwoAdicSubgroupDft<F>>(
         16659767791756247077,
         16213023722341662716,
     ];
-    multiplies(rt, alloc, &mut D::default(), &a, &b, &expected)
+    multiplies(rt, alloc, &mut D::default(), &a, &b, &expected);
+}
+
+// By another, and by the definition.
+fn large_products<F: CanonicalField>(rt: &impl Abort, alloc: Global) {
+    large_product::<F, Radix2Bowers>(rt, alloc);
+    large_product::<F, NaiveDft>(rt, alloc);
 }
 
 #[test]
-fn products_over_goldilocks(rt: HostRuntime) -> Result<(), Fail> {
-    large_product::<Goldilocks, Radix2Bowers>(&rt, rt.alloc())?;
-    large_product::<Goldilocks, NaiveDft>(&rt, rt.alloc())
+fn products_over_goldilocks(rt: HostRuntime) {
+    large_products::<Goldilocks>(&rt, rt.alloc());
 }

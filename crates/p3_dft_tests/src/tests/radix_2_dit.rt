@@ -8,32 +8,23 @@ use p3_dft::{
 };
 use std::alloc::Global;
 use std::process::Abort;
-use std::test::Fail;
 
 fn columns_of_each_height<F: CanonicalField, D: TwoAdicSubgroupDft<F>>(
     rt: &impl Abort,
     alloc: Global,
-) -> Result<(), Fail> {
+) {
     let mut engine = D::default();
-    evaluates(rt, alloc, &mut engine, &[0; 8], &[0; 8])?;
+    evaluates(rt, alloc, &mut engine, &[0; 8], &[0; 8]);
     let four = [10, 569722814, 2013265919, 1443543103];
-    evaluates(rt, alloc, &mut engine, &[1, 2, 3, 4], &four)?;
+    evaluates(rt, alloc, &mut engine, &[1, 2, 3, 4], &four);
     let eight = [
         36, 1976151680, 1139445628, 1710526337, 2013265917, 302739576, 873820285, 37114233,
     ];
-    evaluates(rt, alloc, &mut engine, &[1, 2, 3, 4, 5, 6, 7, 8], &eight)?;
-    evaluates(rt, alloc, &mut engine, &[7], &[7])
+    evaluates(rt, alloc, &mut engine, &[1, 2, 3, 4, 5, 6, 7, 8], &eight);
+    evaluates(rt, alloc, &mut engine, &[7], &[7]);
 }
 
-#[test]
-fn values_on_the_subgroup(rt: HostRuntime) -> Result<(), Fail> {
-    columns_of_each_height::<BabyBear, Radix2Dit<BabyBear>>(&rt, rt.alloc())
-}
-
-fn large_column<F: CanonicalField, D: TwoAdicSubgroupDft<F>>(
-    rt: &impl Abort,
-    alloc: Global,
-) -> Result<(), Fail> {
+fn large_column<F: CanonicalField, D: TwoAdicSubgroupDft<F>>(rt: &impl Abort, alloc: Global) {
     let values = [
         31,
         568447645776638,
@@ -45,63 +36,67 @@ fn large_column<F: CanonicalField, D: TwoAdicSubgroupDft<F>>(
         18446172323284256767,
     ];
     let coefficients = [3, 1, 4, 1, 5, 9, 2, 6];
-    evaluates(rt, alloc, &mut D::default(), &coefficients, &values)
+    evaluates(rt, alloc, &mut D::default(), &coefficients, &values);
+}
+
+fn column_of_large_numbers<F: CanonicalField>(rt: &impl Abort, alloc: Global) {
+    large_column::<F, Radix2Dit<F>>(rt, alloc);
 }
 
 #[test]
-fn values_of_the_larger_field(rt: HostRuntime) -> Result<(), Fail> {
-    large_column::<Goldilocks, Radix2Dit<Goldilocks>>(&rt, rt.alloc())
+fn values_of_the_larger_field(rt: HostRuntime) {
+    column_of_large_numbers::<Goldilocks>(&rt, rt.alloc());
 }
 
-fn three_columns<F: CanonicalField, D: TwoAdicSubgroupDft<F>>(
-    rt: &impl Abort,
-    alloc: Global,
-) -> Result<(), Fail> {
-    let mat: RowMajorMatrix<F> = matrix(alloc, &[1, 2, 3, 4, 5, 6, 7, 8, 9, 10, 11, 12], 3)?;
+fn three_columns<F: CanonicalField, D: TwoAdicSubgroupDft<F>>(rt: &impl Abort, alloc: Global) {
+    let mat: RowMajorMatrix<F> = matrix(rt, alloc, &[1, 2, 3, 4, 5, 6, 7, 8, 9, 10, 11, 12], 3);
     assert!(rt; fits_dft::<F>(mat.height(), mat.width()));
-    let values = D::default().dft_batch(mat)?.to_row_major_matrix();
+    let values = D::default()
+        .dft_batch(mat)
+        .expect(rt, "memory")
+        .to_row_major_matrix();
     let numbers = [
         22, 26, 30, 1709168442, 1709168442, 1709168442, 2013265915, 2013265915, 2013265915,
         304097467, 304097467, 304097467,
     ];
-    assert!(rt; values == matrix(alloc, &numbers, 3)?);
-    Ok(())
+    assert!(rt; values == matrix(rt, alloc, &numbers, 3));
+}
+
+// Both, by this engine.
+fn worked_transforms<F: CanonicalField>(rt: &impl Abort, alloc: Global) {
+    columns_of_each_height::<F, Radix2Dit<F>>(rt, alloc);
+    three_columns::<F, Radix2Dit<F>>(rt, alloc);
 }
 
 #[test]
-fn each_column_alone(rt: HostRuntime) -> Result<(), Fail> {
-    three_columns::<BabyBear, Radix2Dit<BabyBear>>(&rt, rt.alloc())
+fn values_on_the_subgroup(rt: HostRuntime) {
+    worked_transforms::<BabyBear>(&rt, rt.alloc());
 }
 
 // The heights that were prepared.
-fn prepared<F: CanonicalField>(
-    rt: &impl Abort,
-    alloc: Global,
-    engine: &mut Radix2Dit<F>,
-) -> Result<(), Fail> {
+fn prepared<F: CanonicalField>(rt: &impl Abort, alloc: Global, engine: &mut Radix2Dit<F>) {
     assert!(rt; F::TWO_ADICITY >= 3);
-    engine.prepare(alloc, 0)?;
-    engine.prepare(alloc, 3)?;
-    engine.prepare(alloc, 3)?;
+    engine.prepare(alloc, 0).expect(rt, "memory");
+    engine.prepare(alloc, 3).expect(rt, "memory");
+    engine.prepare(alloc, 3).expect(rt, "memory");
     assert!(rt; engine.is_prepared(3));
     assert!(rt; !engine.is_prepared(4));
-    let copy = engine.clone()?;
+    let copy = engine.clone().expect(rt, "memory");
     assert!(rt; copy.is_prepared(0));
     assert!(rt; !copy.is_prepared(3));
-    Ok(())
 }
 
-fn prepares_heights<F: CanonicalField>(rt: &impl Abort, alloc: Global) -> Result<(), Fail> {
+fn prepares_heights<F: CanonicalField>(rt: &impl Abort, alloc: Global) {
     let mut engine: Radix2Dit<F> = Radix2Dit::default();
     assert!(rt; engine.is_prepared(0));
     assert!(rt; !engine.is_prepared(3));
     assert!(rt; !engine.is_prepared(usize::MAX));
-    prepared(rt, alloc, &mut engine)
+    prepared(rt, alloc, &mut engine);
 }
 
 #[test]
-fn prepared_heights(rt: HostRuntime) -> Result<(), Fail> {
-    prepares_heights::<BabyBear>(&rt, rt.alloc())
+fn prepared_heights(rt: HostRuntime) {
+    prepares_heights::<BabyBear>(&rt, rt.alloc());
 }
 
 // A transform prepares its height, and takes no smaller one back.
@@ -109,19 +104,18 @@ fn transforms_prepare<F: CanonicalField>(
     rt: &impl Abort,
     alloc: Global,
     engine: &mut Radix2Dit<F>,
-) -> Result<(), Fail> {
+) {
     assert!(rt; F::TWO_ADICITY >= 3);
-    engine.prepare(alloc, 3)?;
+    engine.prepare(alloc, 3).expect(rt, "memory");
     let four = [10, 569722814, 2013265919, 1443543103];
-    evaluates(rt, alloc, engine, &[1, 2, 3, 4], &four)?;
+    evaluates(rt, alloc, engine, &[1, 2, 3, 4], &four);
     assert!(rt; engine.is_prepared(3));
-    evaluates(rt, alloc, engine, &[0; 16], &[0; 16])?;
+    evaluates(rt, alloc, engine, &[0; 16], &[0; 16]);
     assert!(rt; engine.is_prepared(4));
-    Ok(())
 }
 
 #[test]
-fn heights_of_transforms(rt: HostRuntime) -> Result<(), Fail> {
+fn heights_of_transforms(rt: HostRuntime) {
     let mut engine: Radix2Dit<BabyBear> = Radix2Dit::default();
-    transforms_prepare(&rt, rt.alloc(), &mut engine)
+    transforms_prepare(&rt, rt.alloc(), &mut engine);
 }

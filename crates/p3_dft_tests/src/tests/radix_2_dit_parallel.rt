@@ -13,56 +13,46 @@ use p3_dft::{
 };
 use std::alloc::Global;
 use std::process::Abort;
-use std::test::Fail;
 
-fn transforms_reversed<F: CanonicalField>(rt: &impl Abort, alloc: Global) -> Result<(), Fail> {
-    let column: RowMajorMatrix<F> = transformable(rt, alloc, &[1, 2, 3, 4])?;
+fn transforms_reversed<F: CanonicalField>(rt: &impl Abort, alloc: Global) {
+    let column: RowMajorMatrix<F> = transformable(rt, alloc, &[1, 2, 3, 4]);
     let mut engine: Radix2DitParallel<F> = Radix2DitParallel::default();
-    let values = engine.dft_batch(column)?;
+    let values = engine.dft_batch(column).expect(rt, "memory");
     let physical = [10, 2013265919, 569722814, 1443543103];
-    assert_column(rt, values.inner(), &physical)?;
+    assert_column(rt, values.inner(), &physical);
     let natural = [10, 569722814, 2013265919, 1443543103];
-    assert_column(rt, &values.to_row_major_matrix(), &natural)
+    assert_column(rt, &values.to_row_major_matrix(), &natural);
 }
 
 #[test]
-fn rows_in_bit_reversed_order(rt: HostRuntime) -> Result<(), Fail> {
-    transforms_reversed::<BabyBear>(&rt, rt.alloc())
+fn rows_in_bit_reversed_order(rt: HostRuntime) {
+    transforms_reversed::<BabyBear>(&rt, rt.alloc());
 }
 
-fn prepares<F: CanonicalField>(
-    rt: &impl Abort,
-    alloc: Global,
-    engine: &mut Radix2DitParallel<F>,
-) -> Result<(), Fail> {
+fn prepares<F: CanonicalField>(rt: &impl Abort, alloc: Global, engine: &mut Radix2DitParallel<F>) {
     assert!(rt; engine.is_prepared(0));
     assert!(rt; !engine.is_prepared(1));
     assert!(rt; F::TWO_ADICITY >= 2);
-    engine.prepare(alloc, 2)?;
+    engine.prepare(alloc, 2).expect(rt, "memory");
     assert!(rt; engine.is_prepared(1));
     assert!(rt; engine.is_prepared(2));
     assert!(rt; !engine.is_prepared(3));
-    Ok(())
 }
 
-fn copy_is_empty<F: CanonicalField>(
-    rt: &impl Abort,
-    engine: &Radix2DitParallel<F>,
-) -> Result<(), Fail> {
-    let copy = engine.clone()?;
+fn copy_is_empty<F: CanonicalField>(rt: &impl Abort, engine: &Radix2DitParallel<F>) {
+    let copy = engine.clone().expect(rt, "memory");
     assert!(rt; !copy.is_prepared(1));
-    Ok(())
 }
 
-fn prepares_heights<F: CanonicalField>(rt: &impl Abort, alloc: Global) -> Result<(), Fail> {
+fn prepares_heights<F: CanonicalField>(rt: &impl Abort, alloc: Global) {
     let mut engine: Radix2DitParallel<F> = Radix2DitParallel::default();
-    prepares(rt, alloc, &mut engine)?;
-    copy_is_empty(rt, &engine)
+    prepares(rt, alloc, &mut engine);
+    copy_is_empty(rt, &engine);
 }
 
 #[test]
-fn heights_are_prepared(rt: HostRuntime) -> Result<(), Fail> {
-    prepares_heights::<BabyBear>(&rt, rt.alloc())
+fn heights_are_prepared(rt: HostRuntime) {
+    prepares_heights::<BabyBear>(&rt, rt.alloc());
 }
 
 // The inverse of the values of these coefficients.
@@ -72,27 +62,25 @@ fn inverts<F: CanonicalField, D: TwoAdicSubgroupDft<F>>(
     engine: &mut D,
     values: &[u64],
     coefficients: &[u64],
-) -> Result<(), Fail> {
-    let column: Vec<F> = elements(alloc, values)?;
+) {
+    let column: Vec<F> = elements(rt, alloc, values);
     assert!(rt; fits_dft::<F>(column.len(), 1));
-    assert!(rt; engine.idft(column)? == elements(alloc, coefficients)?);
-    Ok(())
+    assert!(rt; engine.idft(column).expect(rt, "memory") == elements(rt, alloc, coefficients));
 }
 
 // A transform prepares its height, for inverses too.
-fn transform_prepares<F: CanonicalField>(rt: &impl Abort, alloc: Global) -> Result<(), Fail> {
+fn transform_prepares<F: CanonicalField>(rt: &impl Abort, alloc: Global) {
     let mut engine: Radix2DitParallel<F> = Radix2DitParallel::default();
     let (coefficients, values) = ([1, 2, 3, 4], [10, 569722814, 2013265919, 1443543103]);
-    evaluates(rt, alloc, &mut engine, &coefficients, &values)?;
+    evaluates(rt, alloc, &mut engine, &coefficients, &values);
     assert!(rt; engine.is_prepared(2));
-    inverts(rt, alloc, &mut engine, &values, &coefficients)?;
+    inverts(rt, alloc, &mut engine, &values, &coefficients);
     assert!(rt; !engine.is_prepared(3));
-    Ok(())
 }
 
 #[test]
-fn transformed_is_prepared(rt: HostRuntime) -> Result<(), Fail> {
-    transform_prepares::<BabyBear>(&rt, rt.alloc())
+fn transformed_is_prepared(rt: HostRuntime) {
+    transform_prepares::<BabyBear>(&rt, rt.alloc());
 }
 
 // The values 13, 2013265918 of 5, 4 on the coset of two are taken back, there and back on the
@@ -102,37 +90,38 @@ fn hands_on<F: CanonicalField, D: TwoAdicSubgroupDft<F>>(
     engine: &mut D,
     values: Vec<F>,
     coefficients: &[F],
-) -> Result<(), Fail> {
+) {
     let shift = invertible(rt, F::TWO);
     assert!(rt; fits_dft::<F>(values.len(), 1));
-    let column = engine.coset_idft(values, shift)?;
+    let column = engine.coset_idft(values, shift).expect(rt, "memory");
     assert!(rt; column.as_slice() == coefficients);
     assert!(rt; fits_dft::<F>(column.len(), 1));
-    let column = engine.dft(column)?;
+    let column = engine.dft(column).expect(rt, "memory");
     assert!(rt; fits_dft::<F>(column.len(), 1));
-    let column = engine.idft(column)?;
+    let column = engine.idft(column).expect(rt, "memory");
     assert!(rt; fits_dft::<F>(column.len(), 1));
-    let column = engine.coset_dft(column, shift)?;
+    let column = engine.coset_dft(column, shift).expect(rt, "memory");
     assert!(rt; column.first() == Some(&F::from_u8(13)));
-    Ok(())
 }
 
 // Once all is made that they need, calls at a prepared height and on a coset that has its table hand one
 // column on from each to the next, and take no memory.
-fn calls_without_memory<F: CanonicalField>(rt: &impl Abort, alloc: Global) -> Result<(), Fail> {
+fn calls_without_memory<F: CanonicalField>(rt: &impl Abort, alloc: Global) {
     let mut engine: Radix2DitParallel<F> = Radix2DitParallel::default();
     assert!(rt; F::TWO_ADICITY >= 1);
-    engine.prepare(alloc, 1)?;
-    let values = engine.coset_dft(pair(rt, alloc, [5, 4])?, F::TWO)?;
-    assert!(rt; values == elements(alloc, &[13, 2013265918])?);
-    let coefficients = elements(alloc, &[5, 4])?;
+    engine.prepare(alloc, 1).expect(rt, "memory");
+    let values = engine
+        .coset_dft(pair(rt, alloc, [5, 4]), F::TWO)
+        .expect(rt, "memory");
+    assert!(rt; values == elements(rt, alloc, &[13, 2013265918]));
+    let coefficients = elements(rt, alloc, &[5, 4]);
     // No request for memory from here on.
-    hands_on(rt, &mut engine, values, &coefficients)
+    hands_on(rt, &mut engine, values, &coefficients);
 }
 
 #[test]
-fn prepared_calls_take_no_memory(rt: HostRuntime) -> Result<(), Fail> {
-    calls_without_memory::<BabyBear>(&rt, rt.alloc())
+fn prepared_calls_take_no_memory(rt: HostRuntime) {
+    calls_without_memory::<BabyBear>(&rt, rt.alloc());
 }
 
 // The row with number 1 of a column, and zeros in the others.
@@ -150,26 +139,18 @@ fn row_1_alone<F: Field>(mat: RowMajorMatrix<F>) -> RowMajorMatrix<F>
 }
 
 // The transform has the coefficients in bit reversed order: row 1 is that of the square.
-fn extends_the_square<F: CanonicalField, D: TwoAdicSubgroupDft<F>>(
-    rt: &impl Abort,
-    alloc: Global,
-) -> Result<(), Fail> {
+fn extends_the_square<F: CanonicalField, D: TwoAdicSubgroupDft<F>>(rt: &impl Abort, alloc: Global) {
     let numbers = [10, 569722814, 2013265919, 1443543103];
     let values = D::default().coset_lde_batch_with_transform(
-        extensible(rt, alloc, &numbers, 0)?,
+        extensible(rt, alloc, &numbers, 0),
         0,
         F::ONE,
         |coefficients: RowMajorMatrix<F>, _layout: Layout| -> RowMajorMatrix<F>
             ensures { HasShapeOf result coefficients }
         { row_1_alone(coefficients) },
-    )?;
-    let squares = [3, 2013265918, 3, 2013265918];
-    assert_column(rt, &values.to_row_major_matrix(), &squares)
-}
-
-#[test]
-fn transform_in_bit_reversed_order(rt: HostRuntime) -> Result<(), Fail> {
-    extends_the_square::<BabyBear, Radix2DitParallel<BabyBear>>(&rt, rt.alloc())
+    );
+    let values = values.expect(rt, "memory").to_row_major_matrix();
+    assert_column(rt, &values, &[3, 2013265918, 3, 2013265918]);
 }
 
 // What is left of an extension by one bit of the column 9, 1, on the subgroup, and of its consumer.
@@ -178,12 +159,12 @@ fn extend_to<F: CanonicalField, D: TwoAdicSubgroupDft<F>, C: BlockConsumer<F> + 
     alloc: Global,
     engine: &mut D,
     consumer: C,
-) -> Result<(C, Option<C::Refusal>), Fail>
+) -> (C, Option<C::Refusal>)
 where
     C::Refusal: Drop,
 {
     let answer = engine.coset_lde_batch_with_blocks(
-        extensible(rt, alloc, &[9, 1], 1)?,
+        extensible(rt, alloc, &[9, 1], 1),
         1,
         F::ONE,
         |coefficients: RowMajorMatrix<F>, _layout: Layout| -> RowMajorMatrix<F>
@@ -194,10 +175,10 @@ where
         { consumer },
     );
     match answer {
-        Ok((_out, consumer)) => Ok((consumer, None)),
+        Ok((_out, consumer)) => (consumer, None),
         Err(stopped) => match stopped {
-            BlocksStopped::Refused { consumer, refusal } => Ok((consumer, Some(refusal))),
-            BlocksStopped::OutOfMemory(_unpublished) => Err(Fail::from("out of memory")),
+            BlocksStopped::Refused { consumer, refusal } => (consumer, Some(refusal)),
+            BlocksStopped::OutOfMemory(_unpublished) => panic!(rt; "memory"),
         },
     }
 }
@@ -215,24 +196,15 @@ fn blocks_of<F: Field>(rt: &impl Abort, recorder: &Recorder<F>, row: usize, valu
 }
 
 // Each row is a block of its own, in some order.
-fn lends_single_rows<F: CanonicalField, D: TwoAdicSubgroupDft<F>>(
-    rt: &impl Abort,
-    alloc: Global,
-) -> Result<(), Fail> {
-    let rows: Vec<F> = elements(alloc, &[9, 1, 873820294, 1139445637])?;
-    let recorder: Recorder<F> = Recorder::with_room(alloc, 4, 4)?;
-    let (recorder, _) = extend_to(rt, alloc, &mut D::default(), recorder)?;
+fn lends_single_rows<F: CanonicalField, D: TwoAdicSubgroupDft<F>>(rt: &impl Abort, alloc: Global) {
+    let rows: Vec<F> = elements(rt, alloc, &[9, 1, 873820294, 1139445637]);
+    let recorder: Recorder<F> = Recorder::with_room(alloc, 4, 4).expect(rt, "memory");
+    let (recorder, _) = extend_to(rt, alloc, &mut D::default(), recorder);
     assert!(rt; recorder.blocks() == 4);
     assert!(rt; !recorder.missed());
     for row in 0..rows.len() {
         assert!(rt; blocks_of(rt, &recorder, row, &rows[row..row + 1]) == 1);
     }
-    Ok(())
-}
-
-#[test]
-fn single_rows_are_lent(rt: HostRuntime) -> Result<(), Fail> {
-    lends_single_rows::<BabyBear, Radix2DitParallel<BabyBear>>(&rt, rt.alloc())
 }
 
 fn takes_blocks<F: CanonicalField, D: TwoAdicSubgroupDft<F>>(
@@ -240,19 +212,28 @@ fn takes_blocks<F: CanonicalField, D: TwoAdicSubgroupDft<F>>(
     alloc: Global,
     limit: usize,
     refused: bool,
-) -> Result<(), Fail> {
+) {
     let mut engine = D::default();
-    let (consumer, refusal) = extend_to::<F, D, _>(rt, alloc, &mut engine, BlockLimit::new(limit))?;
+    let (consumer, refusal) = extend_to::<F, D, _>(rt, alloc, &mut engine, BlockLimit::new(limit));
     assert!(rt; consumer.seen() == limit);
     assert!(rt; refusal.is_some() == refused);
-    Ok(())
 }
 
 // Four blocks are as many as there are, and a consumer that takes fewer ends the extension.
-#[test]
-fn refused_blocks(rt: HostRuntime) -> Result<(), Fail> {
+// These extensions and blocks, by one engine.
+fn extends<F: CanonicalField, D: TwoAdicSubgroupDft<F>>(rt: &impl Abort, alloc: Global) {
+    extends_the_square::<F, D>(rt, alloc);
+    lends_single_rows::<F, D>(rt, alloc);
     for (limit, refused) in [(4, false), (3, true), (0, true)] {
-        takes_blocks::<BabyBear, Radix2DitParallel<BabyBear>>(&rt, rt.alloc(), limit, refused)?;
+        takes_blocks::<F, D>(rt, alloc, limit, refused);
     }
-    Ok(())
+}
+
+fn extends_by_halves<F: CanonicalField>(rt: &impl Abort, alloc: Global) {
+    extends::<F, Radix2DitParallel<F>>(rt, alloc);
+}
+
+#[test]
+fn extensions_and_blocks(rt: HostRuntime) {
+    extends_by_halves::<BabyBear>(&rt, rt.alloc());
 }

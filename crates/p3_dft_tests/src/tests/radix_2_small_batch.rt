@@ -11,74 +11,82 @@ use p3_dft::{
 };
 use std::alloc::Global;
 use std::process::Abort;
-use std::test::Fail;
-
-type Engine = Radix2DFTSmallBatch<BabyBear>;
 
 // Single coefficients of rows 0, 32 and 16, whose values are powers of roots of order 1, 2 and 4.
-fn coefficients<F: CanonicalField>(
-    rt: &impl Abort,
-    alloc: Global,
-) -> Result<RowMajorMatrix<F>, Fail> {
-    let mut entries: Vec<F> = elements(alloc, &[0; 192])?;
+fn coefficients<F: CanonicalField>(rt: &impl Abort, alloc: Global) -> RowMajorMatrix<F> {
+    let mut entries: Vec<F> = elements(rt, alloc, &[0; 192]);
     assert!(rt; entries.len() == 192);
     entries[0] = F::from_usize(13);
     entries[32 * 3 + 1] = F::ONE;
     entries[16 * 3 + 2] = F::ONE;
-    matrix_of(entries, 3)
+    matrix_of(rt, entries, 3)
 }
 
 // The values: four rows again and again.
-fn has_powers<F: CanonicalField>(rt: &impl Abort, alloc: Global, values: &[F]) -> Result<(), Fail> {
+fn has_powers<F: CanonicalField>(rt: &impl Abort, alloc: Global, values: &[F]) {
     let rows: Vec<F> = elements(
+        rt,
         alloc,
         &[
             13, 1, 1, 13, 2013265920, 1728404513, 13, 1, 2013265920, 13, 2013265920, 284861408,
         ],
-    )?;
+    );
     assert!(rt; values.len() == 192);
     assert!(rt; rows.len() == 12);
     for i in 0..192 {
         assert!(rt; values[i] == rows[i % 12]);
     }
-    Ok(())
 }
 
-fn transforms_in_tiles<F: CanonicalField>(
-    rt: &impl Abort,
-    alloc: Global,
-    tile: usize,
-) -> Result<(), Fail> {
+fn transforms_in_tiles<F: CanonicalField>(rt: &impl Abort, alloc: Global, tile: usize) {
     assert!(rt; tile >= 1);
     assert!(rt; tile <= 192);
-    let mat: RowMajorMatrix<F> = coefficients(rt, alloc)?;
+    let mat: RowMajorMatrix<F> = coefficients(rt, alloc);
     assert!(rt; fits_dft::<F>(mat.height(), mat.width()));
-    let mut engine: Radix2DFTSmallBatch<F> = Radix2DFTSmallBatch::with_tile(alloc, 1, tile)?;
-    has_powers(rt, alloc, engine.dft_batch(mat)?.values())
+    let engine = Radix2DFTSmallBatch::with_tile(alloc, 1, tile);
+    let mut engine: Radix2DFTSmallBatch<F> = engine.expect(rt, "memory");
+    has_powers(
+        rt,
+        alloc,
+        engine.dft_batch(mat).expect(rt, "memory").values(),
+    );
 }
 
 #[test]
-fn single_coefficients(rt: HostRuntime) -> Result<(), Fail> {
+fn single_coefficients(rt: HostRuntime) {
     for tile in [1usize, 6, 12, 192] {
-        transforms_in_tiles::<BabyBear>(&rt, rt.alloc(), tile)?;
+        transforms_in_tiles::<BabyBear>(&rt, rt.alloc(), tile);
     }
-    Ok(())
 }
 
-// The answers of the definition, for tiles of less than a row, of some rows and of all.
-#[test]
-fn tiles_change_no_answer(rt: HostRuntime) -> Result<(), Fail> {
-    let alloc = rt.alloc();
-    for tile in [1usize, 5, 8192, 1 << 32] {
-        let mut engine = Engine::with_tile(alloc, 1, tile)?;
-        for width in [1usize, 3, 7, 17, 33] {
-            for height in [1usize, 2, 4, 8, 16, 32, 64] {
-                TransformsAsSums { height, width }.run(&rt, alloc, &mut engine)?;
-                ExtensionsAsSums { height, width }.run(&rt, alloc, &mut engine)?;
-            }
+// The answers of the definition, by one engine.
+fn answers_of_sums<F: CanonicalField, D: TwoAdicSubgroupDft<F>>(
+    rt: &impl Abort,
+    alloc: Global,
+    engine: &mut D,
+) {
+    for width in [1usize, 3, 7, 17, 33] {
+        for height in [1usize, 2, 4, 8, 16, 32, 64] {
+            EngineTest::<F>::run(&TransformsAsSums { height, width }, rt, alloc, engine);
+            EngineTest::<F>::run(&ExtensionsAsSums { height, width }, rt, alloc, engine);
         }
     }
-    Ok(())
+}
+
+// By tiles of one size.
+fn answers_in_tiles<F: CanonicalField>(rt: &impl Abort, alloc: Global, tile: usize) {
+    assert!(rt; 1 <= tile && tile <= 1 << 32);
+    let engine = Radix2DFTSmallBatch::with_tile(alloc, 1, tile);
+    let mut engine: Radix2DFTSmallBatch<F> = engine.expect(rt, "memory");
+    answers_of_sums(rt, alloc, &mut engine);
+}
+
+// Tiles of less than a row, of some rows and of all.
+#[test]
+fn tiles_change_no_answer(rt: HostRuntime) {
+    for tile in [1usize, 5, 8192, 1 << 32] {
+        answers_in_tiles::<BabyBear>(&rt, rt.alloc(), tile);
+    }
 }
 
 // One row is its own transform.
@@ -86,34 +94,32 @@ fn keeps_a_row<F: CanonicalField, D: TwoAdicSubgroupDft<F>>(
     rt: &impl Abort,
     alloc: Global,
     engine: &mut D,
-) -> Result<(), Fail> {
-    let mat: RowMajorMatrix<F> = matrix(alloc, &[5, 4], 2)?;
+) {
+    let mat: RowMajorMatrix<F> = matrix(rt, alloc, &[5, 4], 2);
     assert!(rt; fits_dft::<F>(mat.height(), mat.width()));
-    let values = engine.dft_batch(mat)?.to_row_major_matrix();
-    assert!(rt; values == matrix(alloc, &[5, 4], 2)?);
-    Ok(())
+    let values = engine
+        .dft_batch(mat)
+        .expect(rt, "memory")
+        .to_row_major_matrix();
+    assert!(rt; values == matrix(rt, alloc, &[5, 4], 2));
 }
 
 // An engine that is made for no height, and transforms each all the same.
-fn made_for_no_height<F: CanonicalField>(
-    rt: &impl Abort,
-    alloc: Global,
-    n: usize,
-) -> Result<(), Fail> {
+fn made_for_no_height<F: CanonicalField>(rt: &impl Abort, alloc: Global, n: usize) {
     assert!(rt; n < 2);
-    let mut engine: Radix2DFTSmallBatch<F> = Radix2DFTSmallBatch::new(alloc, n)?;
+    let engine = Radix2DFTSmallBatch::new(alloc, n);
+    let mut engine: Radix2DFTSmallBatch<F> = engine.expect(rt, "memory");
     assert!(rt; engine.is_prepared(0));
     assert!(rt; !engine.is_prepared(1));
-    keeps_a_row(rt, alloc, &mut engine)?;
-    evaluates(rt, alloc, &mut engine, &[5, 4], &[9, 1])
+    keeps_a_row(rt, alloc, &mut engine);
+    evaluates(rt, alloc, &mut engine, &[5, 4], &[9, 1]);
 }
 
 #[test]
-fn engines_for_no_height(rt: HostRuntime) -> Result<(), Fail> {
+fn engines_for_no_height(rt: HostRuntime) {
     for n in [0usize, 1] {
-        made_for_no_height::<BabyBear>(&rt, rt.alloc(), n)?;
+        made_for_no_height::<BabyBear>(&rt, rt.alloc(), n);
     }
-    Ok(())
 }
 
 // Eight rows where their height is prepared: the transform answers, whatever memory there is.
@@ -121,45 +127,45 @@ fn transform_of_eight_rows<F: CanonicalField>(
     rt: &impl Abort,
     alloc: Global,
     engine: &mut Radix2DFTSmallBatch<F>,
-) -> Result<(), Fail>
+)
     requires { IsPrepared engine.old 3 }
 {
-    let mat: RowMajorMatrix<F> = transformable(rt, alloc, &[0, 0, 0, 0, 1, 0, 0, 0])?;
+    let mat: RowMajorMatrix<F> = transformable(rt, alloc, &[0, 0, 0, 0, 1, 0, 0, 0]);
     assert!(rt; mat.height() == 8);
     let last = 2013265920;
-    let values = transform_promised(engine, mat, 3)?;
-    assert_column(rt, &values, &[1, last, 1, last, 1, last, 1, last])
+    let values = transform_promised(engine, mat, 3).expect(rt, "memory");
+    assert_column(rt, &values, &[1, last, 1, last, 1, last, 1, last]);
 }
 
 // And one that is made for a height.
-fn made_for_a_height<F: CanonicalField>(rt: &impl Abort, alloc: Global) -> Result<(), Fail> {
+fn made_for_a_height<F: CanonicalField>(rt: &impl Abort, alloc: Global) {
     assert!(rt; F::TWO_ADICITY >= 3);
-    let mut engine: Radix2DFTSmallBatch<F> = Radix2DFTSmallBatch::new(alloc, 8)?;
+    let engine = Radix2DFTSmallBatch::new(alloc, 8);
+    let mut engine: Radix2DFTSmallBatch<F> = engine.expect(rt, "memory");
     assert!(rt; engine.is_prepared(3));
     assert!(rt; engine.is_prepared(2));
     assert!(rt; !engine.is_prepared(4));
-    transform_of_eight_rows(rt, alloc, &mut engine)?;
-    evaluates(rt, alloc, &mut engine, &[5, 4], &[9, 1])?;
-    stays_prepared(rt, alloc, &mut engine)
+    transform_of_eight_rows(rt, alloc, &mut engine);
+    evaluates(rt, alloc, &mut engine, &[5, 4], &[9, 1]);
+    stays_prepared(rt, alloc, &mut engine);
 }
 
 fn stays_prepared<F: CanonicalField>(
     rt: &impl Abort,
     alloc: Global,
     engine: &mut Radix2DFTSmallBatch<F>,
-) -> Result<(), Fail> {
+) {
     assert!(rt; F::TWO_ADICITY >= 2);
-    engine.prepare(alloc, 2)?;
+    engine.prepare(alloc, 2).expect(rt, "memory");
     assert!(rt; engine.is_prepared(3));
-    let copy = engine.clone()?;
+    let copy = engine.clone().expect(rt, "memory");
     assert!(rt; copy.is_prepared(0));
     assert!(rt; !copy.is_prepared(1));
-    Ok(())
 }
 
 #[test]
-fn engines_for_heights(rt: HostRuntime) -> Result<(), Fail> {
-    made_for_a_height::<BabyBear>(&rt, rt.alloc())
+fn engines_for_heights(rt: HostRuntime) {
+    made_for_a_height::<BabyBear>(&rt, rt.alloc());
 }
 
 // A constant is extended to a constant.
@@ -167,39 +173,39 @@ fn extends_a_constant<F: CanonicalField, D: TwoAdicSubgroupDft<F>>(
     rt: &impl Abort,
     alloc: Global,
     engine: &mut D,
-) -> Result<(), Fail> {
-    let column: Vec<F> = elements(alloc, &[7, 7])?;
+) {
+    let column: Vec<F> = elements(rt, alloc, &[7, 7]);
     assert!(rt; fits_lde::<F>(column.len(), 1, 3));
-    let extended = engine.coset_lde(column, 3, F::GENERATOR)?;
-    assert!(rt; extended == elements(alloc, &[7; 16])?);
-    Ok(())
+    let extended = engine
+        .coset_lde(column, 3, F::GENERATOR)
+        .expect(rt, "memory");
+    assert!(rt; extended == elements(rt, alloc, &[7; 16]));
 }
 
 // An extension prepares its height too.
-fn extension_prepares<F: CanonicalField>(rt: &impl Abort, alloc: Global) -> Result<(), Fail> {
+fn extension_prepares<F: CanonicalField>(rt: &impl Abort, alloc: Global) {
     let mut engine: Radix2DFTSmallBatch<F> = Radix2DFTSmallBatch::default();
-    extends_a_constant(rt, alloc, &mut engine)?;
+    extends_a_constant(rt, alloc, &mut engine);
     assert!(rt; engine.is_prepared(4));
-    Ok(())
 }
 
 #[test]
-fn heights_of_extensions(rt: HostRuntime) -> Result<(), Fail> {
-    extension_prepares::<BabyBear>(&rt, rt.alloc())
+fn heights_of_extensions(rt: HostRuntime) {
+    extension_prepares::<BabyBear>(&rt, rt.alloc());
 }
 
 // What is prepared stays, whether memory for a larger height is refused or not.
-fn prepares_a_larger_height<F: CanonicalField>(rt: &impl Abort, alloc: Global) -> Result<(), Fail> {
+fn prepares_a_larger_height<F: CanonicalField>(rt: &impl Abort, alloc: Global) {
     assert!(rt; F::TWO_ADICITY >= 5);
     let mut engine: Radix2DFTSmallBatch<F> = Radix2DFTSmallBatch::default();
-    engine.prepare(alloc, 3)?;
+    engine.prepare(alloc, 3).expect(rt, "memory");
     let larger = engine.prepare(alloc, 5);
     assert!(rt; engine.is_prepared(3));
     assert!(rt; larger.is_err() || engine.is_prepared(5));
-    transform_of_eight_rows(rt, alloc, &mut engine)
+    transform_of_eight_rows(rt, alloc, &mut engine);
 }
 
 #[test]
-fn larger_heights(rt: HostRuntime) -> Result<(), Fail> {
-    prepares_a_larger_height::<BabyBear>(&rt, rt.alloc())
+fn larger_heights(rt: HostRuntime) {
+    prepares_a_larger_height::<BabyBear>(&rt, rt.alloc());
 }

@@ -10,7 +10,6 @@ use p3_dft::{
 };
 use std::alloc::Global;
 use std::process::Abort;
-use std::test::Fail;
 
 // A field whose elements are packed, and one of its packed values.
 fn broadcast<F: TwoAdicField + Packable>(x: F) -> F::Packing {
@@ -49,22 +48,21 @@ fn names_of_butterflies(rt: HostRuntime) {
 }
 
 // One and two, multiplied by one and divided by their number.
-fn scales<F: TwoAdicField + Packable>(rt: &impl Abort, alloc: Global) -> Result<(), Fail> {
+fn scales<F: TwoAdicField + Packable>(rt: &impl Abort, alloc: Global) {
     let mut products = Products::new();
     let mut entries = Vec::new(alloc);
-    entries.push(F::ONE)?;
-    entries.push(F::TWO)?;
+    entries.push(F::ONE).expect(rt, "memory");
+    entries.push(F::TWO).expect(rt, "memory");
     scale_slice_in_place(entries.as_mut_slice(), F::ONE, &mut products);
     let mut mat = RowMajorMatrix::new_col(entries);
     assert!(rt; mat.height() == 2);
     divide_by_height(&mut mat.as_view_mut(), &mut products);
     assert!(rt; mat.values().first() == Some(&F::ONE.halve()));
-    Ok(())
 }
 
 #[test]
-fn names_of_scales(rt: HostRuntime) -> Result<(), Fail> {
-    scales::<BabyBear>(&rt, rt.alloc())
+fn names_of_scales(rt: HostRuntime) {
+    scales::<BabyBear>(&rt, rt.alloc());
 }
 
 // The first entry of what can be handed over, of evaluations, and of what is lent.
@@ -86,9 +84,9 @@ fn rows_seen(view: BitReversedMatrixView<RowMajorMatrix<u8>>) -> usize {
 }
 
 #[test]
-fn names_of_views(rt: HostRuntime) -> Result<(), Fail> {
+fn names_of_views(rt: HostRuntime) {
     let alloc = rt.alloc();
-    let mut mat = RowMajorMatrix::new_col(vec![in alloc; 1u8, 2]?);
+    let mut mat = RowMajorMatrix::new_col(vec![in alloc; 1u8, 2].expect(&rt, "memory"));
     assert!(rt; mat.height() == 2);
     {
         let mut view = RowMajorMatrixViewMut::new(&mut mat);
@@ -101,27 +99,24 @@ fn names_of_views(rt: HostRuntime) -> Result<(), Fail> {
         first.swap_with_slice(second);
     }
     assert!(rt; first_lent(mat.as_view()) == Some(1));
-    Ok(())
 }
 
 #[test]
-fn names_of_matrices(rt: HostRuntime) -> Result<(), Fail> {
+fn names_of_matrices(rt: HostRuntime) {
     let alloc = rt.alloc();
-    let mat = RowMajorMatrix::new_col(vec![in alloc; 1u8, 2]?);
-    assert!(rt; first_natural(mat.try_clone()?) == Some(1));
-    assert!(rt; first_stored(mat.try_clone()?) == Some(1));
+    let mat = RowMajorMatrix::new_col(vec![in alloc; 1u8, 2].expect(&rt, "memory"));
+    assert!(rt; first_natural(mat.try_clone().expect(&rt, "memory")) == Some(1));
+    assert!(rt; first_stored(mat.try_clone().expect(&rt, "memory")) == Some(1));
     assert!(rt; rows_seen(mat.bit_reverse_rows()) == 2);
-    Ok(())
 }
 
 #[test]
-fn names_of_orders(rt: HostRuntime) -> Result<(), Fail> {
+fn names_of_orders(rt: HostRuntime) {
     assert!(rt; log2_strict_usize(4) == 2);
     assert!(rt; reverse_bits_len(3, 3) == 6);
-    let mut entries = vec![in rt.alloc(); 1u8, 2, 3, 4]?;
+    let mut entries = vec![in rt.alloc(); 1u8, 2, 3, 4].expect(&rt, "memory");
     reverse_slice_index_bits(entries.as_mut_slice());
     assert!(rt; entries.as_slice() == [1, 3, 2, 4].as_slice());
-    Ok(())
 }
 
 // Packed values by their names.

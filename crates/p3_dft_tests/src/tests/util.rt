@@ -2,7 +2,6 @@
 
 use super::matrix;
 use p3_dft::{BabyBear, Products, RowMajorMatrix, divide_by_height, fits_dft, fits_lde};
-use std::test::Fail;
 
 #[test]
 fn shapes_that_fit(rt: HostRuntime) {
@@ -22,16 +21,15 @@ fn shapes_that_can_be_extended(rt: HostRuntime) {
 }
 
 #[test]
-fn divides_by_the_height(rt: HostRuntime) -> Result<(), Fail> {
+fn divides_by_the_height(rt: HostRuntime) {
     let alloc = rt.alloc();
     let mut products = Products::new();
-    let mut mat: RowMajorMatrix<BabyBear> = matrix(alloc, &[2, 4, 6, 8], 2)?;
+    let mut mat: RowMajorMatrix<BabyBear> = matrix(&rt, alloc, &[2, 4, 6, 8], 2);
     assert_eq!(rt; mat.height(), 2);
     divide_by_height(&mut mat.as_view_mut(), &mut products);
-    assert!(rt; mat == matrix(alloc, &[1, 2, 3, 4], 2)?);
-    let mut row: RowMajorMatrix<BabyBear> = matrix(alloc, &[10, 20, 30, 40], 4)?;
+    assert!(rt; mat == matrix(&rt, alloc, &[1, 2, 3, 4], 2));
+    let mut row: RowMajorMatrix<BabyBear> = matrix(&rt, alloc, &[10, 20, 30, 40], 4);
     assert_eq!(rt; row.height(), 1);
     divide_by_height(&mut row.as_view_mut(), &mut products);
-    assert!(rt; row == matrix(alloc, &[10, 20, 30, 40], 4)?);
-    Ok(())
+    assert!(rt; row == matrix(&rt, alloc, &[10, 20, 30, 40], 4));
 }
