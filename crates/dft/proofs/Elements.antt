@@ -1,9 +1,8 @@
 -- Tests of the elements of a list, seen by a function.
-use Rattle.std.proofs.Common.{◌≡◌, ℕ, ◌+◌, ◌<◌, ◌≤◌, Bool, true, false, ◌||◌, List, [], ◌∷◌, length, get_or, take, map, refl, sym, ap, ap₂, ◌∙◌, nat_le, arith}
+use Rattle.std.proofs.Common.{◌≡◌, ℕ, ◌<◌, ◌≤◌, Bool, true, false, ◌||◌, List, [], ◌∷◌, length, get_or, map, refl, sym, ap, ◌∙◌, nat_le, arith}
 use Rattle.std.proofs.lemmas.Bool.Decides.{nat_tests}
 use Rattle.std.specs.List.{list_any}
-use Rattle.std.proofs.lemmas.List.{take_all}
-use Rattle.std.proofs.lemmas.List.Folds.{list_any_at, list_any_more}
+use Rattle.std.proofs.lemmas.List.Folds.{list_any_at}
 
 module _ {X Y : Type 0} (test : Y → Bool) (f : X → Y) where
   any_mapped : (xs : List X) → list_any test (map f xs) ≡ list_any (λ x. test (f x)) xs
@@ -14,17 +13,7 @@ module _ {X Y : Type 0} (test : Y → Bool) (f : X → Y) where
   pub passes_at : (xs : List X) (i : ℕ) (d : X) → i < length xs → test (f (get_or xs i d)) ≡ true → true ≡ list_any test (map f xs)
   passes_at xs i d h e = sym (any_mapped xs ∙ list_any_at (λ x. test (f x)) xs i d h e)
 
-  -- none of the first i + 1 does
-  pub none_more : (xs : List X) (i : ℕ) (d : X) → i < length xs → list_any test (map f (take i xs)) ≡ false → test (f (get_or xs i d)) ≡ false
-      → list_any test (map f (take (i + 1) xs)) ≡ false
-  none_more xs i d h before here =
-      any_mapped (take (i + 1) xs) ∙ list_any_more (λ x. test (f x)) xs i d h ∙ ap₂ (λ a b. a || b) (sym (any_mapped (take i xs)) ∙ before) here
-
-  -- none at all
-  pub none_passes : (xs : List X) (i : ℕ) → length xs ≤ i → list_any test (map f (take i xs)) ≡ false → false ≡ list_any test (map f xs)
-  none_passes xs i h e = sym (ap (λ ys. list_any test (map f ys)) (sym (take_all i xs h)) ∙ e)
-
-  -- and so this one does not
+  -- where none passes, this one does not
   pub fails_at : (xs : List X) (i : ℕ) (d : X) → i < length xs → list_any test (map f xs) ≡ false → test (f (get_or xs i d)) ≡ false
   fails_at xs i d h none = by_cases (test (f (get_or xs i d))) refl
     where

@@ -106,12 +106,6 @@ module _ {A : Type 0} (r : Ring A) where
       ap (count r) (suc-add m n) ∙ count-suc (m + n) ∙ ap (r.add r.one) (count-add m n)
       ∙ sym (ap (λ z. r.add z (count r n)) (count-suc m) ∙ r.add_assoc r.one (count r m) (count r n))
 
-  pub count-mul : (m n : ℕ) → count r (m * n) ≡ r.mul (count r m) (count r n)
-  count-mul m zero = let e : m * 0 ≡ 0 = omega arith in ap (count r) e ∙ count-zero ∙ sym (ap (r.mul (count r m)) count-zero ∙ Rings.mul-zero r (count r m))
-  count-mul m (suc n) =
-      let e : m * suc n ≡ m + m * n = omega arith in
-      ap (count r) e ∙ count-add m (m * n) ∙ cc (count-mul m n, r.mul_one (count r m), r.mul_add (count r m) r.one (count r n), count-suc n)
-
   pub count-power_of_two : (n : ℕ) → count r (2 ^ n) ≡ power r (two r) n
   count-power_of_two zero = count-one ∙ sym (power-zero (two r))
   count-power_of_two (suc n) =

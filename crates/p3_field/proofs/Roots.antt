@@ -97,11 +97,6 @@ module _ {A : Type 0} (R : Ring A) where
   doubled zero a = a
   doubled (suc n) a = doubled n (a ⊕ a)
 
-  pub doubled_same : (n : ℕ) (a b : A) → doubled n a ≡ doubled n b → a ≡ b
-  unfolding doubled
-  doubled_same zero a b e = e
-  doubled_same (suc n) a b e = Rings.double_cancel R a b (doubled_same n (a ⊕ a) (b ⊕ b) e)
-
   pub doubled_add : (n : ℕ) (a b : A) → doubled n (a ⊕ b) ≡ doubled n a ⊕ doubled n b
   unfolding doubled
   doubled_add zero a b = refl

@@ -1,8 +1,8 @@
 -- What the formulas of butterflies have to do with one another, by the laws of a ring.
 use Rattle.std.proofs.Common.{◌≡◌, sym, ap, ◌∙◌}
 use Rattle.p3_field.specs.Ring.{Ring, minus}
-use Rattle.p3_field.proofs.Rings.{add-mul, neg-mul, neg-zero}
-use Rattle.p3_matrix.specs.Butterflies.{dif_near, dif_far, dif_zeros_near, dif_zeros_far, scaled_dit_near, scaled_dit_far}
+use Rattle.p3_field.proofs.Rings.{add-mul, neg-mul}
+use Rattle.p3_matrix.specs.Butterflies.{scaled_dit_near, scaled_dit_far}
 
 module _ {A : Type 0} (r : Ring A) where
   -- a scale goes into the twiddle
@@ -12,10 +12,3 @@ module _ {A : Type 0} (r : Ring A) where
   pub scaled_far : (t s p : A) → p ≡ r.mul t s → (x y : A) → minus r (r.mul x s) (r.mul y p) ≡ scaled_dit_far r t s x y
   scaled_far t s p e x y =
       ap (λ z. r.add (r.mul x s) z) (ap r.neg (ap (r.mul y) e ∙ sym (r.mul_assoc y t s)) ∙ sym (neg-mul r (r.mul y t) s)) ∙ sym (add-mul r x (r.neg (r.mul y t)) s)
-
-  -- where y is zero, the shorter form is decimation in frequency
-  pub zeros_near : (t x : A) → dif_near r t x r.zero ≡ dif_zeros_near r t x r.zero
-  zeros_near t x = r.add_zero x
-
-  pub zeros_far : (t x : A) → dif_far r t x r.zero ≡ dif_zeros_far r t x r.zero
-  zeros_far t x = ap (λ z. r.mul z t) (ap (r.add x) (neg-zero r) ∙ r.add_zero x)

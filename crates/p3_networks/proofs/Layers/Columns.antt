@@ -1,20 +1,12 @@
 -- Columns of rows that lie one after another: cells that meet from one place of a row up to another, while the others stay.
-use Rattle.std.proofs.Common.{◌≡◌, ◌⊎◌, ℕ, suc, ◌+◌, ◌*◌, ◌-◌, ◌/◌, ◌%◌, ◌<◌, ◌≤◌, List, length, get_or, take, drop, refl, sym, ap, ap₂, ◌∙◌, subst, arith, rules, ⊎_elim}
+use Rattle.std.proofs.Common.{◌≡◌, ◌⊎◌, ℕ, ◌+◌, ◌*◌, ◌-◌, ◌/◌, ◌%◌, ◌<◌, ◌≤◌, List, length, get_or, take, drop, refl, sym, ap, ap₂, ◌∙◌, subst, arith, ⊎_elim}
 use Rattle.std.proofs.lemmas.Bool.{cases_lt}
-use Rattle.std.proofs.lemmas.List.{places}
 use Rattle.std.proofs.lemmas.Nat.{div-add-mod', div_below, mod_below}
 use Rattle.std.proofs.Math.Nat.{mul-le-mul_right}
 use borrow.Rule.Slice.PartMut.{put_mid}
 use Rattle.p3_networks.specs.Groups.{HoldsColumns, IsLayer, TakesColumns}
 use Rattle.p3_networks.proofs.Layers.Blocks.{halves_are, row_below}
 use Rattle.p3_networks.proofs.Rows.Overwritten.{RowsDone, part_at, put_after, put_before, put_in, part-more}
-
--- a row of some that lie one after another
-pub row_room : (t h part len : ℕ) → t < h → len ≡ h * part → t * part + part ≤ len
-row_room t h part len below size = let more : suc t * part ≤ h * part = mul-le-mul_right part below in let next : suc t * part ≡ t * part + part = omega arith in omega (arith, more, next, size)
-
-pub slice_length : {X : Type 0} (xs : List X) (a n : ℕ) → a + n ≤ length xs → length (take n (drop a xs)) ≡ n
-slice_length xs a n room = search (rules, places)
 
 -- y stands in column j of a row: between two columns what is meant, else what was there
 pub record InColumns {A T : Type 0} (value : T → A) (at end : ℕ) (is : A) (was : T) (j : ℕ) (y : T) : Type 0 where

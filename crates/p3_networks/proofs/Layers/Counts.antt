@@ -21,6 +21,10 @@ turns_none size before = omega arith
 pub count_all : (cost n turns size before after : ℕ) → n ≤ turns → after ≤ before + cost * (n * size) → after ≤ before + cost * (turns * size)
 count_all cost n turns size before after done so_far = let more : cost * (n * size) ≤ cost * (turns * size) = mul-le-mul_left cost (mul-le-mul_right size done) in omega (arith, so_far, more)
 
+-- the same where each turn makes just so many
+pub turn_counted : (n size made before now after : ℕ) → made ≡ size → now ≡ before + n * size → after ≡ now + made → after ≡ before + (n + 1) * size
+turn_counted n size made before now after full so_far turn = let next : (n + 1) * size ≡ n * size + size = omega arith in omega (arith, next, full, so_far, turn)
+
 -- what holds of so many turns, when a loop is over
 pub at_end : (P : ℕ → Type 0) (n turns : ℕ) → n ≤ turns → turns ≤ n → P n → P turns
 at_end P n turns most least so_far = let all : n ≡ turns = omega arith in subst P all so_far

@@ -212,13 +212,6 @@ pub covered_last : (order : Order) (r k count : ℕ) → r ≤ k → k - r ≤ 3
 covered_last LargestFirst r k count order enough = let e : k - (r + (k - r - 3 * count)) ≡ k - r = omega (arith, order, enough) in e
 covered_last SmallestFirst r k count order enough = let e : r + (k - r - 3 * (count - count)) - r ≡ k - r = omega arith in e
 
--- a group ends where the one before it begins
-pub ends_in_order : (r k g : ℕ) → group_end r k (g + 1) ≤ group_end r k g
-ends_in_order r k g = let e : r + (k - r - 3 * (g + 1)) ≤ r + (k - r - 3 * g) = omega arith in e
-
-pub ends_within : (r k g : ℕ) → r ≤ k → group_end r k g ≤ k
-ends_within r k g order = let e : r + (k - r - 3 * g) ≤ k = omega (arith, order) in e
-
 -- layers more, each of which counts so much
 pub layers_more : (cost done more all size before now after : ℕ) → all ≡ done + more → 2 * now ≤ 2 * before + cost * (done * size) → 2 * after ≤ 2 * now + cost * (more * size) → 2 * after ≤ 2 * before + cost * (all * size)
 layers_more cost done more all size before now after is so_far group =

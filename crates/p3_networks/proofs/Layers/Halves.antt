@@ -1,10 +1,10 @@
 -- Blocks of two halves, cell by cell: what is said of the rows of the halves is said of the block's cells.
-use Rattle.std.proofs.Common.{◌≡◌, ℕ, suc, ◌+◌, ◌*◌, ◌-◌, ◌/◌, ◌%◌, ◌++◌, ◌<◌, ◌≤◌, List, length, get_or, take, drop, refl, sym, ap, ap₂, ◌∙◌, arith, rules, subst}
+use Rattle.std.proofs.Common.{◌≡◌, ℕ, suc, ◌+◌, ◌*◌, ◌-◌, ◌/◌, ◌%◌, ◌^◌, ◌++◌, ◌<◌, ◌≤◌, List, length, get_or, take, drop, refl, sym, ap, ap₂, ◌∙◌, arith, rules, subst}
 use Rattle.std.proofs.lemmas.List.{places}
-use Rattle.std.proofs.lemmas.Nat.{div-add-mod', div_below, mod_below}
-use Rattle.std.proofs.Math.Nat.{mul-div_cancel, mul-le-mul_right}
+use Rattle.std.proofs.lemmas.Nat.{div-add-mod', div_below, mod_below, one_shl, pow_pos}
+use Rattle.std.proofs.Math.Nat.{add-sub_cancel_left, mul-div_cancel, mul-le-mul_right}
 use borrow.Rule.Slice.PartMut.{put_mid}
-use Rattle.p3_networks.proofs.Rows.Overwritten.{RowsDone, part-more, part_at}
+use Rattle.p3_networks.proofs.Rows.Overwritten.{RowsDone, part-more, part_at, part_size}
 
 -- a place in a list of two parts
 pub in_first : {X : Type 0} (xs ys : List X) (i : ℕ) (d : X) → i < length xs → get_or (xs ++ ys) i d ≡ get_or xs i d
@@ -43,7 +43,19 @@ pub block_room : (b n size len : ℕ) → b < n → len ≡ n * size → b * siz
 block_room b n size len p e = let l : suc b * size ≤ n * size = mul-le-mul_right size p in omega (arith, l, e)
 
 pub part_length : {X : Type 0} (xs : List X) (a size : ℕ) → a + size ≤ length xs → length (take (a + size - a) (drop a xs)) ≡ size
-part_length xs a size room = search (rules, places)
+part_length xs a size room = ap (λ n. length (take n (drop a xs))) (add-sub_cancel_left a size) ∙ part_size xs a size room
+
+-- 2 ^ n blocks of one size, as a program has their number by a shift
+pub shifted_size : (len n size : ℕ) → n < 64 → len ≡ 2 ^ n * size → len / (1 * 2 ^ n % 18446744073709551616) ≡ size
+shifted_size len n size small full =
+    let count : 1 * 2 ^ n % 18446744073709551616 ≡ 2 ^ n = one_shl n 64 small in
+    block_size len (1 * 2 ^ n % 18446744073709551616) size (omega (arith, count, pow_pos n)) (rw count full)
+
+pub shifted_room : (b len n size : ℕ) → n < 64 → len ≡ 2 ^ n * size → b < 1 * 2 ^ n % 18446744073709551616
+    → b * (len / (1 * 2 ^ n % 18446744073709551616)) + len / (1 * 2 ^ n % 18446744073709551616) ≤ len
+shifted_room b len n size small full below =
+    let count : 1 * 2 ^ n % 18446744073709551616 ≡ 2 ^ n = one_shl n 64 small in
+    rw (shifted_size len n size small full) (block_room b (2 ^ n) size len (omega (arith, count, below)) full)
 
 module _ {A T : Type 0} (value : T → A) (d : T) (near far : ℕ → ℕ → A → A → A) (size : ℕ) where
   -- one more block, from the cells x, which a part holds; the program has the size of a block in a variable of its own

@@ -103,10 +103,6 @@ run_sizes top e number below small =
       room = let is = ap (λ n. number * n + n) blocks ∙ spread in omega (arith, is, fewer, small);
     }
 
--- all cells of a run
-pub run_cells : (top e w : ℕ) → e < top → 2 ^ top * w ≡ 2 ^ (top - 1 - e) * (2 * (2 ^ e * w))
-run_cells top e w below = ap (λ n. n * w) (sym (halves_whole top e below)) ∙ omega arith
-
 -- the blocks of a layer of a run have twiddles
 pub twiddles_enough : (top e number b len : ℕ) → e < top → (number + 1) * 2 ^ top ≤ 2 * len → b < (number + 1) * 2 ^ (top - 1 - e) → b < len
 twiddles_enough top e number b len below enough inside =
@@ -120,13 +116,6 @@ twiddles_enough top e number b len below enough inside =
 -- one layer more: each makes at most one product for each two of the cells
 pub layer_more : (done size before now after : ℕ) → 2 * now ≤ 2 * before + done * size → 2 * after ≤ 2 * now + 1 * size → 2 * after ≤ 2 * before + (done + 1) * size
 layer_more done size before now after so_far layer = let next : (done + 1) * size ≡ done * size + size = omega arith in omega (arith, so_far, layer, next)
-
--- the first run begins with the first cell
-pub whole_run : {A T : Type 0} (value : T → A) (d : T) (cells : ℕ → A) (len : ℕ) (xs : List T) → HoldsCells value d 0 cells xs → HoldsCells value d (0 * len) cells xs
-whole_run value d cells len xs holds = let none : 0 ≡ 0 * len = omega arith in subst (λ (n : ℕ). HoldsCells value d n cells xs) none holds
-
-pub run_whole : {A T : Type 0} (value : T → A) (d : T) (cells : ℕ → A) (len : ℕ) (xs : List T) → HoldsCells value d (0 * len) cells xs → HoldsCells value d 0 cells xs
-run_whole value d cells len xs holds = let none : 0 * len ≡ 0 = omega arith in subst (λ (n : ℕ). HoldsCells value d n cells xs) none holds
 
 -- what a run holds, told by another name of its length
 pub held_as_long : {A T : Type 0} (value : T → A) (d : T) (cells : ℕ → A) (number : ℕ) {a b : ℕ} (xs : List T) → a ≡ b → HoldsCells value d (number * a) cells xs → HoldsCells value d (number * b) cells xs

@@ -1,9 +1,9 @@
 -- The sizes of a layer, as a program has them by shifts: l of k layers are done.
-use Rattle.std.proofs.Common.{◌≡◌, ℕ, ◌+◌, ◌*◌, ◌-◌, ◌%◌, ◌^◌, ◌<◌, ◌≤◌, List, length, take, drop, sym, ap, ◌∙◌, arith, lit≤, rules}
+use Rattle.std.proofs.Common.{◌≡◌, ℕ, ◌+◌, ◌*◌, ◌-◌, ◌%◌, ◌^◌, ◌<◌, ◌≤◌, List, length, take, drop, sym, ap, ◌∙◌, arith, lit≤}
 use Rattle.std.proofs.Math.Nat.{pow-le-pow_right}
-use Rattle.std.proofs.lemmas.List.{places}
 use Rattle.std.proofs.lemmas.Nat.{one_shl, pow_pos}
 use Rattle.p3_networks.proofs.Layers.Blocks.{halves_whole, blocks_whole}
+use Rattle.p3_networks.proofs.Rows.Overwritten.{part_size}
 
 -- a shift by the number of layers that are done, or that are left but one
 pub done_shift : (k l : ℕ) → l < k → k < 64 → 1 * 2 ^ l % 2 ^ 64 ≡ 2 ^ l
@@ -11,6 +11,13 @@ done_shift k l below small = one_shl l 64 (omega arith)
 
 pub left_shift : (k l : ℕ) → l < k → k < 64 → 1 * 2 ^ (k - 1 - l) % 2 ^ 64 ≡ 2 ^ (k - 1 - l)
 left_shift k l below small = one_shl (k - 1 - l) 64 (omega arith)
+
+-- a shift by one of two numbers
+pub first_shift : (n m : ℕ) → n + m < 64 → 1 * 2 ^ n % 18446744073709551616 ≡ 2 ^ n
+first_shift n m small = one_shl n 64 (omega arith)
+
+pub second_shift : (n m : ℕ) → n + m < 64 → 1 * 2 ^ m % 18446744073709551616 ≡ 2 ^ m
+second_shift n m small = one_shl m 64 (omega arith)
 
 -- a half has a row
 pub some_rows : (half n : ℕ) → half ≡ 2 ^ n → 1 ≤ half
@@ -34,5 +41,4 @@ blocks_done k l below = pow-le-pow_right {n = 2} (lit≤ tt) (omega arith)
 pub layer_size : {T : Type 0} (xs : List T) (l : ℕ) → 2 * 2 ^ l - 1 ≤ length xs → length (take (2 ^ l) (drop (2 ^ l - 1) xs)) ≡ 2 ^ l
 layer_size xs l room =
     let some = pow_pos l in
-    let e : 2 ^ l - 1 + 2 ^ l ≡ 2 * 2 ^ l - 1 = omega (arith, some) in
-    search (rules, places)
+    part_size xs (2 ^ l - 1) (2 ^ l) (omega (arith, some, room))

@@ -2,7 +2,7 @@
 use Rattle.std.proofs.Common.{◌≡◌, ℕ, suc, List, ◌++◌, ◌+◌, ◌*◌, ◌-◌, ◌/◌, ◌%◌, ◌<◌, ◌≤◌, ◌^◌, length, get_or, sym, ap, ◌∙◌, subst, arith, ⊎_elim}
 use Rattle.std.proofs.Math.Nat.{mul-le-mul_right}
 use Rattle.std.proofs.lemmas.Bool.{cases_lt}
-use Rattle.std.proofs.lemmas.Nat.{one_shl, pow-add, pow_pos, div-add-mod', div_below, mod_below}
+use Rattle.std.proofs.lemmas.Nat.{pow-add, pow_pos, div-add-mod', div_below, mod_below}
 use Rattle.p3_field.specs.Ring.{power}
 use Rattle.p3_field.specs.declared.fields.Field.{Ghosts as FieldMembers}
 use Rattle.p3_matrix.specs.BitOrder.{rev}
@@ -11,21 +11,16 @@ use Rattle.p3_networks.specs.Layers.{AreValuesOfRows}
 use Rattle.p3_networks.specs.Polynomials.{poly}
 use Rattle.p3_networks.specs.Twiddles.{forward_root}
 use Rattle.p3_networks.proofs.Layers.Blocks.{row_below}
-use Rattle.p3_networks.proofs.Layers.Halves.{block_size, in_first, in_second}
+use Rattle.p3_networks.proofs.Layers.Halves.{in_first, in_second, shifted_size}
 use Rattle.p3_networks.proofs.Polynomials.ByIndex.{poly_same, poly-scaled}
 use Rattle.p3_networks.proofs.Polynomials.Cosets.{point-mul}
-
-pub slots_are : (k a : ℕ) → k + a < 64 → 1 * 2 ^ a % 18446744073709551616 ≡ 2 ^ a
-slots_are k a small = one_shl a 64 (omega arith)
 
 pub slots_whole : (k a w : ℕ) → 2 ^ (k + a) * w ≡ 2 ^ a * (2 ^ k * w)
 slots_whole k a w = ap (λ n. n * w) (pow-add 2 k a) ∙ omega arith
 
 -- a slot, as the program has its size
 pub slot_size : (len k a w : ℕ) → k + a < 64 → len ≡ 2 ^ (k + a) * w → len / (1 * 2 ^ a % 18446744073709551616) ≡ 2 ^ k * w
-slot_size len k a w small height =
-    let count = slots_are k a small in
-    block_size len (1 * 2 ^ a % 18446744073709551616) (2 ^ k * w) (omega (arith, count, pow_pos a)) (height ∙ slots_whole k a w ∙ ap (λ n. n * (2 ^ k * w)) (sym count))
+slot_size len k a w small height = shifted_size len a (2 ^ k * w) (omega arith) (height ∙ slots_whole k a w)
 
 -- room for one more slot of the others
 pub slot_room : (place a size len : ℕ) → place + 1 < 2 ^ a → len ≡ 2 ^ a * size → place * size + size ≤ len - size

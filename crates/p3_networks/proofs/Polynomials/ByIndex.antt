@@ -1,6 +1,6 @@
 -- Polynomials by index, which proofs use since an index can be shifted, doubled or reversed under a λ: that they are those by
 -- list, and what becomes of a value when the coefficients are cut, added, scaled or padded.
-use Rattle.std.proofs.Common.{◌≡◌, ℕ, zero, suc, ◌+◌, ◌*◌, ◌-◌, ◌<◌, ◌≤◌, refl, sym, ap, ap₂, ◌∙◌, List, [], ◌∷◌, ◌++◌, length, get_or, map, arith, suc-add, zero-add}
+use Rattle.std.proofs.Common.{◌≡◌, ℕ, zero, suc, ◌+◌, ◌*◌, ◌-◌, ◌<◌, ◌≤◌, refl, sym, ap, ap₂, ◌∙◌, List, [], ◌∷◌, length, get_or, map, arith, suc-add, zero-add}
 use Rattle.std.specs.List.{range_with_len}
 use Rattle.std.proofs.lemmas.List.FromFn.{length-map-range_with_len, get_or-map-range_with_len}
 use Rattle.p3_field.specs.Ring.{Ring, power}
@@ -29,17 +29,6 @@ module _ {A : Type 0} (R : Ring A) where
   sum_same zero f h e = refl
   sum_same (suc n) f h e = ap₂ ◌⊕◌ (e 0 (omega arith)) (sum_same n (λ j. f (suc j)) (λ j. h (suc j)) (λ j l. e (suc j) (omega arith)))
 
-  pub sum_times : (n : ℕ) (f : ℕ → A) (x : A) → x ⊗ sum R n f ≡ sum R n (λ j. x ⊗ f j)
-  unfolding sum
-  sum_times zero f x = Rings.mul-zero R x
-  sum_times (suc n) f x = R.mul_add _ _ _ ∙ ap (λ y. x ⊗ f 0 ⊕ y) (sum_times n (λ j. f (suc j)) x)
-
-  -- Horner is the sum
-  pub poly-sum : (n : ℕ) (f : ℕ → A) (x : A) → poly R n f x ≡ sum R n (λ j. f j ⊗ power R x j)
-  unfolding sum poly power
-  poly-sum zero f x = refl
-  poly-sum (suc n) f x = ap₂ ◌⊕◌ (sym (R.mul_one (f 0))) (ap (λ y. x ⊗ y) (poly-sum n (λ j. f (suc j)) x) ∙ sum_times n (λ j. f (suc j) ⊗ power R x j) x ∙ sum_same n _ _ (λ j l. Rings.mul_left_comm R _ _ _))
-
   -- ---- one after another
   pub poly-append : (m n : ℕ) (f : ℕ → A) (x : A) → poly R (m + n) f x ≡ poly R m f x ⊕ power R x m ⊗ poly R n (λ j. f (m + j)) x
   unfolding poly power
@@ -47,12 +36,6 @@ module _ {A : Type 0} (R : Ring A) where
   poly-append (suc m) n f x = ap (λ k. poly R k f x) (suc-add m n) ∙ ap (λ y. f 0 ⊕ x ⊗ y) (poly-append m n (λ j. f (suc j)) x)
       ∙ ap (λ y. f 0 ⊕ x ⊗ (poly R m (λ j. f (suc j)) x ⊕ power R x m ⊗ y)) (poly_same n _ _ x (λ j l. ap f (sym (suc-add m j))))
       ∙ solve R (f 0 ∷ x ∷ poly R m (λ j. f (suc j)) x ∷ power R x m ∷ poly R n (λ j. f (suc m + j)) x ∷ []) (va ⊞ vb ⊠ (vc ⊞ vd ⊠ ve)) ((va ⊞ vb ⊠ vc) ⊞ (vb ⊠ vd) ⊠ ve) refl
-
-  pub value-append : (xs ys : List A) (x : A) → value R (xs ++ ys) x ≡ value R xs x ⊕ power R x (length xs) ⊗ value R ys x
-  unfolding value power
-  value-append [] ys x = sym (Rings.zero-add R _ ∙ Rings.one-mul R _)
-  value-append (c ∷ xs) ys x = ap (λ y. c ⊕ x ⊗ y) (value-append xs ys x)
-      ∙ solve R (c ∷ x ∷ value R xs x ∷ power R x (length xs) ∷ value R ys x ∷ []) (va ⊞ vb ⊠ (vc ⊞ vd ⊠ ve)) ((va ⊞ vb ⊠ vc) ⊞ (vb ⊠ vd) ⊠ ve) refl
 
   -- ---- even and odd places
   pub poly-split : (n : ℕ) (f : ℕ → A) (x : A) → poly R (2 * n) f x ≡ poly R n (λ j. f (2 * j)) (x ⊗ x) ⊕ x ⊗ poly R n (λ j. f (2 * j + 1)) (x ⊗ x)

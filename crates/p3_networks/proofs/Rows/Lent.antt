@@ -15,15 +15,8 @@ use Rattle.p3_matrix.specs.Blocks.{AreBlocksOf, IsBlockOf, Run, RunToRefusal}
 use Rattle.p3_matrix.specs.Matrix.{Matrix, image, matrix}
 use Rattle.p3_matrix.specs.RowMajor.{RowMajor}
 use Rattle.p3_matrix.proofs.BlockRuns.{starts_differ}
+use Rattle.p3_matrix.proofs.Matrices.{list_same}
 use Rattle.p3_networks.specs.Slots.{slot_block, slot_blocks}
-
--- functions that agree below n
-pub map_same : {X : Type 0} (f g : ℕ → X) (n : ℕ) → ((q : ℕ) → q < n → f q ≡ g q) → map f (range_with_len 0 n) ≡ map g (range_with_len 0 n)
-map_same f g zero same = refl
-map_same f g (suc n) same =
-    ap (λ k. map f (range_with_len 0 k)) (sym (add-one n)) ∙ map-range_with_len_more f 0 n n (omega arith)
-    ∙ ap₂ (λ xs y. xs ++ y ∷ []) (map_same f g n (λ q below. same q (omega arith))) (same n (omega arith))
-    ∙ sym (ap (λ k. map g (range_with_len 0 k)) (sym (add-one n)) ∙ map-range_with_len_more g 0 n n (omega arith))
 
 -- m numbers, and then n more
 pub map_joined : {X : Type 0} (f : ℕ → X) (m n : ℕ) → map f (range_with_len 0 m) ++ map (λ q. f (m + q)) (range_with_len 0 n) ≡ map f (range_with_len 0 (m + n))
@@ -47,7 +40,7 @@ module _ {T : Type 0} (first b w : ℕ) where
 
   pub blocks_kept : (xs ys : List T) (n end : ℕ) → n * (b * w) ≤ end → take end xs ≡ take end ys → slot_blocks first b w xs n ≡ slot_blocks first b w ys n
   blocks_kept xs ys n end within same =
-      map_same (slot_block first b w xs) (slot_block first b w ys) n
+      list_same (slot_block first b w xs) (slot_block first b w ys) n
       (λ q below. let l : suc q * (b * w) ≤ n * (b * w) = mul-le-mul_right (b * w) below in let next : suc q * (b * w) ≡ (q + 1) * (b * w) = omega arith in block_kept xs ys q end (omega (arith, l, next, within)) same)
 
 module _ {C T R : Type 0} (step : C → ℕ → RowMajor T → Result ⊤ R → C → Type 0) where
@@ -93,7 +86,7 @@ pub blocks_of_part : {T : Type 0} (first next b w n m start len : ℕ) (whole pa
 blocks_of_part first next b w n m start len whole part next_is start_is within is =
     ap (λ xs. slot_blocks first b w whole n ++ xs)
     (ap (λ f. slot_blocks f b w part m) next_is
-    ∙ map_same (slot_block (first + n * b) b w part) (λ q. slot_block first b w whole (n + q)) m
+    ∙ list_same (slot_block (first + n * b) b w part) (λ q. slot_block first b w whole (n + q)) m
     (λ q below. let le : (q + 1) * (b * w) ≤ m * (b * w) = mul-le-mul_right (b * w) (let l : q + 1 ≤ m = omega (arith, below) in l) in
     block_of_part first b w n q start len whole part start_is (omega (arith, le, within)) is))
     ∙ map_joined (slot_block first b w whole) n m

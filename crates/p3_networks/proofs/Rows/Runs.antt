@@ -1,11 +1,11 @@
 -- Runs of rows of a flat list that are done one after another, each from its own rows alone.
 use Rattle.std.proofs.Common.{◌≡◌, ℕ, ◌+◌, ◌*◌, ◌-◌, ◌/◌, ◌%◌, ◌^◌, ◌<◌, ◌≤◌, List, length, get_or, take, drop, refl, sym, ap, ◌∙◌, arith}
 use borrow.Rule.Slice.PartMut.{put_mid}
-use Rattle.std.proofs.lemmas.Nat.{one_shl, pow-add, pow_pos}
+use Rattle.std.proofs.lemmas.Nat.{one_shl, pow-add}
 use Rattle.p3_field.specs.Ring.{Ring}
 use Rattle.p3_networks.specs.Polynomials.{poly}
 use Rattle.p3_networks.proofs.Layers.Blocks.{row_below}
-use Rattle.p3_networks.proofs.Layers.Halves.{block_size, block_room}
+use Rattle.p3_networks.proofs.Layers.Halves.{block_room, shifted_room, shifted_size}
 use Rattle.p3_networks.proofs.Polynomials.ByIndex.{poly_same}
 use Rattle.p3_networks.proofs.Rows.Overwritten.{RowsDone, part_at, part-more}
 
@@ -21,15 +21,29 @@ module _ (len log part w : ℕ) (small : log < 64) (within : part ≤ log) (full
   pub runs_are : 1 * 2 ^ (log - part) % 18446744073709551616 ≡ 2 ^ (log - part)
   runs_are = one_shl (log - part) 64 (omega arith)
 
-  runs_whole : len ≡ 1 * 2 ^ (log - part) % 18446744073709551616 * (2 ^ part * w)
-  runs_whole = full ∙ run_size log part w within ∙ ap (λ n. n * (2 ^ part * w)) (sym runs_are)
+  runs_whole : len ≡ 2 ^ (log - part) * (2 ^ part * w)
+  runs_whole = full ∙ run_size log part w within
 
   pub run_cells : len / (1 * 2 ^ (log - part) % 18446744073709551616) ≡ 2 ^ part * w
-  run_cells = block_size len (1 * 2 ^ (log - part) % 18446744073709551616) (2 ^ part * w) (omega (arith, runs_are, pow_pos (log - part))) runs_whole
+  run_cells = shifted_size len (log - part) (2 ^ part * w) (omega arith) runs_whole
 
   pub run_room : (run : ℕ) → run < 1 * 2 ^ (log - part) % 18446744073709551616
       → run * (len / (1 * 2 ^ (log - part) % 18446744073709551616)) + len / (1 * 2 ^ (log - part) % 18446744073709551616) ≤ len
-  run_room run below = rw run_cells (block_room run (1 * 2 ^ (log - part) % 18446744073709551616) (2 ^ part * w) len below runs_whole)
+  run_room run below = shifted_room run len (log - part) (2 ^ part * w) (omega arith) runs_whole below
+
+-- the same of 2 ^ mid runs of 2 ^ left rows
+module _ (len mid left w : ℕ) (small : mid + left < 64) (full : len ≡ 2 ^ (mid + left) * w) where
+  high_runs_whole : len ≡ 2 ^ mid * (2 ^ left * w)
+  high_runs_whole = full ∙ ap (λ n. n * w) (pow-add 2 mid left) ∙ omega arith
+
+  pub high_run_cells : len / (1 * 2 ^ mid % 18446744073709551616) ≡ 2 ^ left * w
+  high_run_cells = shifted_size len mid (2 ^ left * w) (omega arith) high_runs_whole
+
+  pub high_run_fits : (run : ℕ) → run < 2 ^ mid → run * (2 ^ left * w) + 2 ^ left * w ≤ len
+  high_run_fits run below = block_room run (2 ^ mid) (2 ^ left * w) len below high_runs_whole
+
+  pub high_run_room : (run : ℕ) → run < 1 * 2 ^ mid % 18446744073709551616 → run * (len / (1 * 2 ^ mid % 18446744073709551616)) + len / (1 * 2 ^ mid % 18446744073709551616) ≤ len
+  high_run_room run below = shifted_room run len mid (2 ^ left * w) (omega arith) high_runs_whole below
 
 module _ {A T : Type 0} (R : Ring A) (value : T → A) (d : T) (m w : ℕ) (place : ℕ → ℕ) (change : A → A) (point : ℕ → ℕ → A) where
   -- cell n of run a, as it becomes: if it is entry j of row t, the value at point t of the polynomial whose coefficient q

@@ -1,15 +1,11 @@
 -- The twiddles of one more layer, and of fewer.
-use Rattle.std.proofs.Common.{◌≡◌, ℕ, suc, ◌+◌, ◌*◌, ◌-◌, ◌^◌, ◌<◌, ◌≤◌, List, length, get_or, take, drop, sym, ap, ◌∙◌, subst, arith, rules, add-one, lit≤, ⊎_elim}
+use Rattle.std.proofs.Common.{◌≡◌, ℕ, suc, ◌+◌, ◌*◌, ◌-◌, ◌^◌, ◌<◌, ◌≤◌, List, length, get_or, sym, ap, ◌∙◌, subst, arith, add-one, lit≤, ⊎_elim}
 use Rattle.std.proofs.Math.Nat.{pow-le-pow_right, two-pow-succ}
 use Rattle.std.proofs.lemmas.Bool.{cases_lt}
-use Rattle.std.proofs.lemmas.List.{places}
 use Rattle.std.proofs.lemmas.Nat.{pow_pos}
 use Rattle.p3_field.specs.declared.fields.Field.{Ghosts as FieldMembers}
 use Rattle.p3_networks.specs.Twiddles.{AreTwiddlesOfLayers}
-use Rattle.p3_networks.proofs.Rows.Overwritten.{part_at}
-
-part_size : {X : Type 0} (xs : List X) (a k : ℕ) → a + k ≤ length xs → length (take k (drop a xs)) ≡ k
-part_size xs a k room = search (rules, places)
+use Rattle.p3_networks.proofs.Rows.Overwritten.{part_at, part_size}
 
 -- the twiddles of a layer lie within those of all layers
 pub layer_end : (l k n : ℕ) → l < k → 2 ^ k - 1 ≤ n → 2 * 2 ^ l - 1 ≤ n

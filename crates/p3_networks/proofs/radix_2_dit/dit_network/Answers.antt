@@ -1,6 +1,5 @@
-use Rattle.std.proofs.Common.{◌≡◌, ℕ, ◌+◌, ◌*◌, ◌-◌, ◌^◌, ◌%◌, ◌<◌, ◌≤◌, get_or, sym, ap, ap₂, ◌∙◌, subst, false, arith, add-one, suc, length, lit≤}
-use Rattle.std.proofs.lemmas.Nat.{one_shl, pow_pos}
-use Rattle.std.proofs.Math.Nat.{pow-le-pow_right}
+use Rattle.std.proofs.Common.{◌≡◌, ℕ, ◌+◌, ◌*◌, ◌-◌, ◌^◌, ◌%◌, ◌<◌, ◌≤◌, get_or, sym, ap, ap₂, ◌∙◌, subst, false, arith, add-one, length}
+use Rattle.std.proofs.lemmas.Nat.{pow_pos}
 use Rattle.p3_field.specs.Ring.{power}
 use Rattle.p3_field.proofs.Powers.{power-zero}
 use Rattle.p3_matrix.specs.BitOrder.{rev}
@@ -11,20 +10,12 @@ use Rattle.p3_networks.specs.Twiddles.{AreTwiddles, root_powers}
 use Rattle.p3_networks.proofs.Layers.Blocks.{halves_whole}
 use Rattle.p3_networks.proofs.Polynomials.Cosets.{point_of_one}
 use Rattle.p3_networks.proofs.Layers.Counts.{layer_counted, layers_counted}
+use Rattle.p3_networks.proofs.Layers.Sizes.{cells_by_halves, done_shift, left_shift}
 use Rattle.p3_networks.proofs.Networks.Formulas.{whole_layer_taken}
 use Rattle.p3_networks.proofs.Networks.LowRows.{low_row, low_rows, low_start, low_end}
 use Rattle.p3_networks.proofs.Networks.Stages.{twiddle, twiddle_of_one}
+use Rattle.p3_networks.proofs.Tables.MoreTwiddles.{layer_end}
 use Rattle.p3_networks.proofs.radix_2_dit.dit_network.Goals as goal
-
-half_is : (l k : ℕ) → l < k → k < 64 → 1 * 2 ^ l % 18446744073709551616 ≡ 2 ^ l
-half_is l k h q = one_shl l 64 (omega arith)
-
-blocks_are : (l k : ℕ) → l < k → k < 64 → 1 * 2 ^ (k - 1 - l) % 18446744073709551616 ≡ 2 ^ (k - 1 - l)
-blocks_are l k h q = one_shl (k - 1 - l) 64 (omega arith)
-
--- the rows of all blocks
-rows_are : (k l w : ℕ) → l < k → 2 ^ k * w ≡ 2 ^ (k - 1 - l) * (2 * (2 ^ l * w))
-rows_are k l w h = ap (λ n. n * w) (sym (halves_whole k l h)) ∙ omega arith
 
 pub loop-l-init : goal.loop-l-init
 loop-l-init g c =
@@ -43,7 +34,7 @@ loop-l-init g c =
 
 pub layer-requires-clause-some : goal.layer-requires-clause-some
 layer-requires-clause-some g c =
-    let half = half_is c.loop-l.l c.args.log_h c.loop-l-test.true c.requires.small in
+    let half = done_shift c.args.log_h c.loop-l.l c.loop-l-test.true c.requires.small in
     let some = pow_pos c.loop-l.l in
     omega (arith, half, some)
 
@@ -51,14 +42,14 @@ pub layer-requires-clause-size : goal.layer-requires-clause-size
 layer-requires-clause-size g c =
     let l = c.loop-l.l in
     let k = c.args.log_h in
-    rw (half_is l k c.loop-l-test.true c.requires.small, blocks_are l k c.loop-l-test.true c.requires.small)
-    (c.loop-l.auto.values ∙ c.requires.height ∙ rows_are k l c.args.width c.loop-l-test.true)
+    rw (done_shift k l c.loop-l-test.true c.requires.small, left_shift k l c.loop-l-test.true c.requires.small)
+    (c.loop-l.auto.values ∙ c.requires.height ∙ cells_by_halves k l c.args.width c.loop-l-test.true)
 
 pub layer-requires-clause-there : goal.layer-requires-clause-there
 layer-requires-clause-there g c b t inside below =
     let field = g.F.Field in
     let l = c.loop-l.l in
-    let half = half_is l c.args.log_h c.loop-l-test.true c.requires.small in
+    let half = done_shift c.args.log_h l c.loop-l-test.true c.requires.small in
     let table : AreTwiddles field (2 ^ l) (root_powers field g.F.TwoAdicField.generator false l) c.layer_twiddles-twiddles.result.now = rw c.layer_twiddles-twiddles.ensures (c.requires.twiddles.layers l c.loop-l-test.true) in (
       omega (arith, half, below, table.size),
       table.entries 0 (pow_pos l) ∙ power-zero field.ring (field.value (g.F.TwoAdicField.generator (l + 1))),
@@ -73,8 +64,8 @@ loop-l-preserved g c =
     let w = c.args.width in
     let half = 1 * 2 ^ l % 18446744073709551616 in
     let blocks = 1 * 2 ^ (k - 1 - l) % 18446744073709551616 in
-    let h : half ≡ 2 ^ l = half_is l k c.loop-l-test.true c.requires.small in
-    let b : blocks ≡ 2 ^ (k - 1 - l) = blocks_are l k c.loop-l-test.true c.requires.small in
+    let h : half ≡ 2 ^ l = done_shift k l c.loop-l-test.true c.requires.small in
+    let b : blocks ≡ 2 ^ (k - 1 - l) = left_shift k l c.loop-l-test.true c.requires.small in
     let whole : blocks * (2 * half) ≡ 2 ^ k = rw (h, b) (halves_whole k l c.loop-l-test.true) in
     let table : AreTwiddles field (2 ^ l) (root_powers field g.F.TwoAdicField.generator false l) c.layer_twiddles-twiddles.result.now = rw c.layer_twiddles-twiddles.ensures (c.requires.twiddles.layers l c.loop-l-test.true) in
     let entry = λ (t : ℕ). field.value (get_or c.layer_twiddles-twiddles.result.now t field.ZERO) in
@@ -111,12 +102,5 @@ returns-clause-count g c =
     let e : c.loop-l.l ≡ k = omega arith in
     subst (λ (n : ℕ). c.loop-l.products ≤ c.args.products.now + n) (ap (λ n. 1 * (n * (2 ^ (k - 1) * w))) e ∙ layers_counted k w) c.loop-l.invariant.count
 
--- a layer's twiddles end within those of all layers
-layer_inside : (l k len : ℕ) → l < k → 2 ^ k - 1 ≤ len → 2 * 2 ^ l - 1 ≤ len
-layer_inside l k len below all =
-    let more : 2 ^ suc l ≤ 2 ^ k = pow-le-pow_right {n = 2} (lit≤ tt) below in
-    let next : 2 ^ suc l ≡ 2 * 2 ^ l = omega arith in
-    omega (arith, more, next, all)
-
 pub layer_twiddles-twiddles-requires-clause-inside : goal.layer_twiddles-twiddles-requires-clause-inside
-layer_twiddles-twiddles-requires-clause-inside g c = layer_inside c.loop-l.l c.args.log_h (length c.args.twiddles.now) c.loop-l-test.true c.requires.twiddles.size
+layer_twiddles-twiddles-requires-clause-inside g c = layer_end c.loop-l.l c.args.log_h (length c.args.twiddles.now) c.loop-l-test.true c.requires.twiddles.size

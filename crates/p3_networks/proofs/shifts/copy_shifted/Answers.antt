@@ -1,16 +1,11 @@
-use Rattle.std.proofs.Common.{◌≡◌, ◌+◌, ◌*◌, ◌-◌, ◌≤◌, length, get_or, take, drop, sym, ap, ap₂, ◌∙◌, arith, rules, ◌<◌, ℕ, subst}
+use Rattle.std.proofs.Common.{◌≡◌, ◌+◌, ◌*◌, ◌-◌, ◌≤◌, length, get_or, take, drop, sym, ap, ap₂, ◌∙◌, arith, rules, ◌<◌, subst}
 use borrow.Author.Rules.{scaled_fits≤}
+use Rattle.std.proofs.Math.Nat.{add-sub_cancel_left}
 use Rattle.p3_field.proofs.Powers.{power-zero, power-more}
+use Rattle.p3_networks.proofs.Layers.Counts.{turn_counted}
 use Rattle.p3_networks.proofs.Layers.Halves.{block_room, part_length}
 use Rattle.p3_networks.proofs.Rows.Overwritten.{rows-none, rows-more, part_at, value_at}
 use Rattle.p3_networks.proofs.shifts.copy_shifted.Goals as goal
-
--- the size of a row, as the program has it, and one more row that was counted
-row_size : (a w : ℕ) → (a + w) - a ≡ w
-row_size a w = omega arith
-
-row_counted : (i w len before now after : ℕ) → len ≡ w → now ≡ before + i * w → after ≡ now + len → after ≡ before + (i + 1) * w
-row_counted i w len before now after full so_far row = let next : (i + 1) * w ≡ i * w + w = omega arith in omega (arith, next, full, so_far, row)
 
 pub overflow_mul-start : goal.overflow_mul-start
 overflow_mul-start g c = omega (arith, block_room c.loop-i.i c.args.height c.args.width (length c.args.values.now) c.loop-i-test.true c.requires.size)
@@ -53,7 +48,7 @@ loop-i-preserved g c =
     let field = g.F.Field in
     let i = c.loop-i.i in
     let w = c.args.width in
-    let m = row_size (i * w) w in
+    let m = add-sub_cancel_left (i * w) w in
     let room = block_room i c.args.height w (length c.loop-i.values) c.loop-i-test.true (c.loop-i.auto.values ∙ c.requires.size) in
     let source = block_room i c.args.height w (length c.args.rows.now) c.loop-i-test.true c.requires.source in
     let part = take ((i * w + w) - i * w) (drop (i * w) c.args.rows.now) in
@@ -68,7 +63,7 @@ loop-i-preserved g c =
           value_at field.value (λ x. field.ring.mul x (field.value c.loop-i.factor)) c.copy_from_slice.new.self c.scale_slice_in_place.new.values k field.ZERO c.scale_slice_in_place.ensures.values c.scale_slice_in_place.auto.values (subst (λ n. k < n) (sym (ap length copied ∙ part_len)) inside)
           ∙ ap₂ field.ring.mul (ap (λ xs. field.value (get_or xs k field.ZERO)) copied ∙ ap field.value (part_at c.args.rows.now (i * w) ((i * w + w) - i * w) k field.ZERO (subst (λ n. k < n) (sym m) inside))) c.loop-i.invariant.factor)
           c.loop-i.invariant.values;
-      count = row_counted i w (length c.copy_from_slice.new.self) c.args.products.now c.loop-i.products c.scale_slice_in_place.new.products (ap length copied ∙ part_len) c.loop-i.invariant.count c.scale_slice_in_place.ensures.count;
+      count = turn_counted i w (length c.copy_from_slice.new.self) c.args.products.now c.loop-i.products c.scale_slice_in_place.new.products (ap length copied ∙ part_len) c.loop-i.invariant.count c.scale_slice_in_place.ensures.count;
     }
 
 pub returns-clause-values : goal.returns-clause-values

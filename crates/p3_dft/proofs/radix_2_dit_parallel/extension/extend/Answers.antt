@@ -8,12 +8,12 @@ use Rattle.p3_matrix.specs.Blocks.{block, first_blocks}
 use Rattle.p3_matrix.specs.Matrix.{Matrix}
 use Rattle.p3_matrix.specs.RowMajor.{RowMajor, rows_from}
 use Rattle.p3_matrix.proofs.BitReversal.{rev-lt, rev-rev}
+use Rattle.p3_matrix.proofs.Matrices.{list_same}
 use Rattle.p3_networks.specs.Cosets.{point}
 use Rattle.p3_networks.specs.Polynomials.{poly}
 use Rattle.p3_networks.proofs.Polynomials.ByIndex.{poly_same}
 use Rattle.p3_networks.proofs.Polynomials.Cosets.{is_values}
 use Rattle.p3_networks.specs.Slots.{slot_block, slot_blocks}
-use Rattle.p3_networks.proofs.Rows.Lent.{map_same}
 use Rattle.p3_networks.proofs.Rows.Overwritten.{written}
 use Rattle.p3_dft.specs.Transforms.{values_of}
 use Rattle.p3_dft.proofs.BitReversed.Rows.{written_cell}
@@ -24,7 +24,7 @@ use Rattle.p3_dft.proofs.radix_2_dit_parallel.extension.extend.Goals as goal
 -- blocks of a slot that begins with row 0 are those of a matrix
 first_are : {T : Type 0} (b w : ℕ) (rows : List T) (n : ℕ) → slot_blocks 0 b w rows n ≡ first_blocks b (record { width = w; values = rows }) n
 first_are {T} b w rows n =
-    map_same (slot_block 0 b w rows) (block b (record { width = w; values = rows })) n
+    list_same (slot_block 0 b w rows) (block b (record { width = w; values = rows })) n
     (λ q below. let number : 0 + q * b ≡ q * b = omega arith in ap (λ (x : ℕ). (x, rows_from (record { width = w; values = rows }) (q * b) b)) number)
 
 pub returns-clause-values : goal.returns-clause-values

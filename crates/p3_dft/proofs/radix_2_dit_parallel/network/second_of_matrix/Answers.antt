@@ -2,19 +2,16 @@ use Rattle.std.proofs.Common.{◌≡◌, ℕ, ◌+◌, ◌*◌, ◌^◌, ◌<◌
 use Rattle.std.proofs.lemmas.Nat.{pow-add}
 use Rattle.p3_matrix.specs.BitOrder.{rev}
 use Rattle.p3_matrix.specs.RowMajor.{height}
-use Rattle.p3_matrix.proofs.BitReversal.{rev-block}
 use Rattle.p3_networks.specs.Cosets.{point}
 use Rattle.p3_networks.specs.Polynomials.{poly}
 use Rattle.p3_dft.specs.Transforms.{values_of}
 use Rattle.p3_networks.specs.Twiddles.{factor, scale_cost}
 use Rattle.p3_dft.proofs.BitReversed.Rows.{reversed_cell, written_cell}
 use Rattle.p3_networks.proofs.Layers.Blocks.{row_below}
+use Rattle.p3_networks.proofs.Networks.Runs.{row_digits}
 use Rattle.p3_networks.proofs.Polynomials.ByIndex.{poly_same, poly-one}
 use Rattle.p3_dft.proofs.Calls.Transforms.{written_shape, written_size}
 use Rattle.p3_dft.proofs.radix_2_dit_parallel.network.second_of_matrix.Goals as goal
-
-digits : (mid left a t : ℕ) → t < 2 ^ left → rev (mid + left) (a * 2 ^ left + t) ≡ rev left t * 2 ^ mid + rev mid a
-digits mid left a t inside = let order : mid + left ≡ left + mid = omega arith in ap (λ n. rev n (a * 2 ^ left + t)) order ∙ rev-block left mid a t inside
 
 pub returns-then-left-gt0-clause-values : goal.returns-then-left-gt0-clause-values
 returns-then-left-gt0-clause-values g c root s roots table a t j p q l =
@@ -32,7 +29,7 @@ returns-then-left-gt0-clause-values g c root s roots table a t j p q l =
     (λ u b. ap (λ x. field.ring.mul x (factor field c.args.scale)) (
     reversed_cell field m r c.values_mut.result.now (mid + left) w (a * 2 ^ left + u) j c.requires.height c.width-width.ensures.width c.reverse_rows.ensures.shape
     (c.reverse_rows.ensures.rows (mid + left) c.requires.height) c.values_mut.ensures.values (omega (arith, all, row_below a u (2 ^ left) (2 ^ mid) p b)) inside
-    ∙ ap (λ n. (values_of field m).entry n j) (digits mid left a u b)))
+    ∙ ap (λ n. (values_of field m).entry n j) (row_digits mid left a u b)))
 
 pub returns-else-left-gt0-clause-values : goal.returns-else-left-gt0-clause-values
 returns-else-left-gt0-clause-values g c root s roots table a t j p q l =
@@ -53,7 +50,7 @@ returns-else-left-gt0-clause-values g c root s roots table a t j p q l =
     let x = point field.ring root left (point field.ring root (mid + left) s (rev mid a)) (rev left t) in
     c.scale_rows.ensures.values (a * 2 ^ left + t) j below inside
     ∙ ap (λ y. field.ring.mul (field.value y) scale) (back.alike (a * 2 ^ left + t) j below inside)
-    ∙ ap (λ n. field.ring.mul ((values_of field m).entry n j) scale) (digits mid left a t q)
+    ∙ ap (λ n. field.ring.mul ((values_of field m).entry n j) scale) (row_digits mid left a t q)
     ∙ ap f first ∙ sym (ap (λ n. poly field.ring n f x) one ∙ poly-one field.ring f x)
 
 pub returns-then-left-gt0-clause-shape : goal.returns-then-left-gt0-clause-shape

@@ -8,21 +8,19 @@ use Rattle.p3_networks.specs.Polynomials.{poly}
 use Rattle.p3_dft.specs.Transforms.{values_of}
 use Rattle.p3_networks.specs.Twiddles.{IsCosetTable}
 use Rattle.p3_networks.proofs.Layers.Counts.{halves_counted}
+use Rattle.p3_networks.proofs.Networks.CosetHalves.{halves_whole}
 use Rattle.p3_networks.proofs.Polynomials.ByIndex.{poly_same}
 use Rattle.p3_networks.proofs.Polynomials.Cosets.{is_values}
 use Rattle.p3_networks.proofs.Tables.CosetTables.{coset_room, high_of_coset, low_of_coset}
 use Rattle.p3_networks.proofs.Tables.RootPowers.{fewer_roots}
 use Rattle.p3_dft.proofs.radix_2_dit_parallel.transform.evaluate_on_coset.Goals as goal
 
-whole : (k : ℕ) → (k + 1) / 2 + (k - (k + 1) / 2) ≡ k
-whole k = omega arith
-
 pub network-requires-clause-low : goal.network-requires-clause-low
 network-requires-clause-low g c =
     let k = c.args.log_h in
     let table : IsCosetTable g.F.Field g.F.TwoAdicField.generator (g.F.Field.value c.args.table.now.shift) k c.twiddles-twiddles.result.now =
     subst (λ (n : ℕ). IsCosetTable g.F.Field g.F.TwoAdicField.generator (g.F.Field.value c.args.table.now.shift) n c.twiddles-twiddles.result.now) c.requires.table c.twiddles-twiddles.ensures.table in
-    (low_of_coset g.F.Field g.F.TwoAdicField.generator (g.F.Field.value c.args.table.now.shift) k c.twiddles-twiddles.result.now ((k + 1) / 2) (k - (k + 1) / 2) (omega arith) (whole k) table).size
+    (low_of_coset g.F.Field g.F.TwoAdicField.generator (g.F.Field.value c.args.table.now.shift) k c.twiddles-twiddles.result.now ((k + 1) / 2) (k - (k + 1) / 2) (omega arith) (halves_whole k) table).size
 
 pub network-requires-clause-high : goal.network-requires-clause-high
 network-requires-clause-high g c l from below =
@@ -41,7 +39,7 @@ returns-clause-values g c =
     let m = c.args.mat.now in
     let out = c.network.new.mat in
     let xs = c.twiddles-twiddles.result.now in
-    let k_is : mid + left ≡ k = whole k in
+    let k_is : mid + left ≡ k = halves_whole k in
     let table : IsCosetTable field g.F.TwoAdicField.generator s k xs = subst (λ (n : ℕ). IsCosetTable field g.F.TwoAdicField.generator s n xs) c.requires.table c.twiddles-twiddles.ensures.table in
     let roots : AreRoots field.ring (mid + left) gen = fewer_roots field.ring (mid + left) _ (omega (arith, c.requires.table, c.twiddles-twiddles.ensures.within)) g.met.F.TwoAdicField.roots_law in
     let low = low_of_coset field g.F.TwoAdicField.generator s k xs mid left (omega arith) k_is table in
@@ -62,5 +60,5 @@ pub returns-clause-cost : goal.returns-clause-cost
 returns-clause-cost g c =
     let k = c.args.log_h in
     let mid = (k + 1) / 2 in
-    let e = halves_counted mid (k - mid) k c.args.mat.now.width 0 (whole k) in
+    let e = halves_counted mid (k - mid) k c.args.mat.now.width 0 (halves_whole k) in
     omega (arith, e, c.network.ensures.count)

@@ -6,13 +6,11 @@ use Rattle.p3_networks.specs.Polynomials.{poly}
 use Rattle.p3_dft.specs.Transforms.{values_of}
 use Rattle.p3_networks.specs.Twiddles.{factor, root_of, scale_cost}
 use Rattle.p3_networks.proofs.Layers.Counts.{halves_counted}
+use Rattle.p3_networks.proofs.Networks.CosetHalves.{halves_whole}
 use Rattle.p3_networks.proofs.Polynomials.Cosets.{point_of_one}
 use Rattle.p3_networks.proofs.Tables.FromStart.{block_table}
 use Rattle.p3_networks.proofs.Tables.RootPowers.{are_roots, fewer_roots, low_table}
 use Rattle.p3_dft.proofs.radix_2_dit_parallel.transform.transform.Goals as goal
-
-whole : (k : ℕ) → (k + 1) / 2 + (k - (k + 1) / 2) ≡ k
-whole k = omega arith
 
 pub network-requires-clause-high : goal.network-requires-clause-high
 network-requires-clause-high g c l from below = c.high.ensures.table.size l (omega (arith, below, c.requires.there))
@@ -26,7 +24,7 @@ returns-clause-values g c r j p q =
     let mid = (k + 1) / 2 in
     let left = k - mid in
     let root = root_of field gen inverse in
-    let k_is : mid + left ≡ k = whole k in
+    let k_is : mid + left ≡ k = halves_whole k in
     let roots : AreRoots field.ring (mid + left) root = fewer_roots field.ring (mid + left) _ (omega (arith, c.requires.there, c.high.ensures.within)) (are_roots field gen inverse g.met.F.TwoAdicField.roots_law) in
     let f = λ (u : ℕ). field.ring.mul ((values_of field c.args.mat.now).entry u j) (factor field c.args.scale) in
     c.network.ensures.values root field.ring.one roots
@@ -40,5 +38,5 @@ pub returns-clause-cost : goal.returns-clause-cost
 returns-clause-cost g c =
     let k = c.args.log_h in
     let mid = (k + 1) / 2 in
-    let e = halves_counted mid (k - mid) k c.args.mat.now.width (scale_cost c.args.scale) (whole k) in
+    let e = halves_counted mid (k - mid) k c.args.mat.now.width (scale_cost c.args.scale) (halves_whole k) in
     omega (arith, e, c.network.ensures.count)

@@ -1,60 +1,39 @@
-use Rattle.std.proofs.Common.{◌≡◌, ℕ, ◌+◌, ◌*◌, ◌-◌, ◌/◌, ◌^◌, ◌%◌, ◌<◌, ◌≤◌, length, ap, ◌∙◌, subst, arith, rules}
+use Rattle.std.proofs.Common.{◌≡◌, ℕ, ◌+◌, ◌*◌, ◌/◌, ◌^◌, ◌%◌, ◌≤◌, length, ap, ◌∙◌, subst, arith, rules}
 use borrow.Author.Rules.{scaled_fits≤}
-use Rattle.std.proofs.lemmas.Nat.{one_shl, pow_pos}
 use Rattle.p3_matrix.specs.BitOrder.{rev}
 use Rattle.p3_networks.specs.Cosets.{point}
 use Rattle.p3_networks.specs.Twiddles.{factor, scale_cost}
 use Rattle.p3_networks.proofs.Layers.Counts.{count_more}
-use Rattle.p3_networks.proofs.Layers.Halves.{block_size, block_room, part_length}
-use Rattle.p3_networks.proofs.Rows.Runs.{run_size, runs-more, runs-all}
+use Rattle.p3_networks.proofs.Layers.Halves.{part_length}
+use Rattle.p3_networks.proofs.Layers.Sizes.{first_shift}
+use Rattle.p3_networks.proofs.Rows.Runs.{high_run_cells, high_run_room, runs-all, runs-more}
 use Rattle.p3_networks.proofs.Rows.Overwritten.{rows-none}
 use Rattle.p3_networks.proofs.radix_2_dit_parallel.halves.high_runs.Goals as goal
 
-runs_are : (mid left : ℕ) → mid + left < 64 → 1 * 2 ^ mid % 18446744073709551616 ≡ 2 ^ mid
-runs_are mid left small = one_shl mid 64 (omega arith)
-
--- the cells of all runs
-runs_whole : (mid left w : ℕ) → 2 ^ (mid + left) * w ≡ 2 ^ mid * (2 ^ left * w)
-runs_whole mid left w = let e : mid + left - left ≡ mid = omega arith in run_size (mid + left) left w (omega arith) ∙ ap (λ n. 2 ^ n * (2 ^ left * w)) e
-
--- the cells of a run, as the program has them, and each run lies within all of them
-run_cells : (len mid left w : ℕ) → mid + left < 64 → len ≡ 2 ^ (mid + left) * w → len / (1 * 2 ^ mid % 18446744073709551616) ≡ 2 ^ left * w
-run_cells len mid left w small full =
-    let runs = 1 * 2 ^ mid % 18446744073709551616 in
-    let count : runs ≡ 2 ^ mid = runs_are mid left small in
-    block_size len runs (2 ^ left * w) (omega (arith, count, pow_pos mid)) (rw count (full ∙ runs_whole mid left w))
-
-run_room : (len mid left w run : ℕ) → mid + left < 64 → len ≡ 2 ^ (mid + left) * w → run < 1 * 2 ^ mid % 18446744073709551616
-    → run * (len / (1 * 2 ^ mid % 18446744073709551616)) + len / (1 * 2 ^ mid % 18446744073709551616) ≤ len
-run_room len mid left w run small full below =
-    let runs = 1 * 2 ^ mid % 18446744073709551616 in
-    let count : runs ≡ 2 ^ mid = runs_are mid left small in
-    rw (run_cells len mid left w small full) (block_room run runs (2 ^ left * w) len below (rw count (full ∙ runs_whole mid left w)))
-
 pub overflow_mul-start : goal.overflow_mul-start
-overflow_mul-start g c = omega (arith, run_room (length c.args.values.now) c.args.mid c.args.left c.args.width c.loop-run.run c.requires.small c.requires.height c.loop-run-test.true)
+overflow_mul-start g c = omega (arith, high_run_room (length c.args.values.now) c.args.mid c.args.left c.args.width c.requires.small c.requires.height c.loop-run.run c.loop-run-test.true)
 
 pub overflow_add-rows : goal.overflow_add-rows
-overflow_add-rows g c = omega (arith, run_room (length c.args.values.now) c.args.mid c.args.left c.args.width c.loop-run.run c.requires.small c.requires.height c.loop-run-test.true)
+overflow_add-rows g c = omega (arith, high_run_room (length c.args.values.now) c.args.mid c.args.left c.args.width c.requires.small c.requires.height c.loop-run.run c.loop-run-test.true)
 
 pub offset_bounds-values-start : goal.offset_bounds-values-start
 offset_bounds-values-start g c =
-    let room = run_room (length c.args.values.now) c.args.mid c.args.left c.args.width c.loop-run.run c.requires.small c.requires.height c.loop-run-test.true in
+    let room = high_run_room (length c.args.values.now) c.args.mid c.args.left c.args.width c.requires.small c.requires.height c.loop-run.run c.loop-run-test.true in
     let below : c.loop-run.run * (length c.args.values.now / (1 * 2 ^ c.args.mid % 18446744073709551616)) ≤ length c.args.values.now = omega (arith, room) in
     scaled_fits≤ _ _ _ below (search rules)
 
 pub slice_bounds-rows-end : goal.slice_bounds-rows-end
-slice_bounds-rows-end g c = omega (arith, run_room (length c.args.values.now) c.args.mid c.args.left c.args.width c.loop-run.run c.requires.small c.requires.height c.loop-run-test.true, c.loop-run.auto.values)
+slice_bounds-rows-end g c = omega (arith, high_run_room (length c.args.values.now) c.args.mid c.args.left c.args.width c.requires.small c.requires.height c.loop-run.run c.loop-run-test.true, c.loop-run.auto.values)
 
 pub high_network-requires-clause-run : goal.high_network-requires-clause-run
-high_network-requires-clause-run g c = omega (arith, runs_are c.args.mid c.args.left c.requires.small, c.loop-run-test.true)
+high_network-requires-clause-run g c = omega (arith, first_shift c.args.mid c.args.left c.requires.small, c.loop-run-test.true)
 
 pub high_network-requires-clause-height : goal.high_network-requires-clause-height
 high_network-requires-clause-height g c =
     let len = length c.args.values.now in
-    let room = run_room (length c.args.values.now) c.args.mid c.args.left c.args.width c.loop-run.run c.requires.small c.requires.height c.loop-run-test.true in
+    let room = high_run_room (length c.args.values.now) c.args.mid c.args.left c.args.width c.requires.small c.requires.height c.loop-run.run c.loop-run-test.true in
     part_length c.loop-run.values (c.loop-run.run * (len / (1 * 2 ^ c.args.mid % 18446744073709551616))) _ (omega (arith, room, c.loop-run.auto.values))
-    ∙ run_cells len c.args.mid c.args.left c.args.width c.requires.small c.requires.height
+    ∙ high_run_cells len c.args.mid c.args.left c.args.width c.requires.small c.requires.height
 
 pub loop-run-init : goal.loop-run-init
 loop-run-init g c =
@@ -74,8 +53,8 @@ loop-run-preserved g c =
     let w = c.args.width in
     let len = length c.args.values.now in
     let whole = len / (1 * 2 ^ mid % 18446744073709551616) in
-    let is : whole ≡ 2 ^ left * w = run_cells len mid left w c.requires.small c.requires.height in
-    let room = run_room len mid left w run c.requires.small c.requires.height c.loop-run-test.true in
+    let is : whole ≡ 2 ^ left * w = high_run_cells len mid left w c.requires.small c.requires.height in
+    let room = high_run_room len mid left w c.requires.small c.requires.height run c.loop-run-test.true in
     let fits : run * whole + whole ≤ length c.loop-run.values = omega (arith, room, c.loop-run.auto.values) in
     record {
       cells = λ root s roots table.
@@ -94,7 +73,7 @@ returns-clause-values g c root s roots table a t j p q l =
     let field = g.F.Field in
     let mid = c.args.mid in
     let left = c.args.left in
-    let count = runs_are mid left c.requires.small in
+    let count = first_shift mid left c.requires.small in
     runs-all field.ring field.value field.ZERO (2 ^ left) c.args.width (λ q. q) (λ x. field.ring.mul x (factor field c.args.scale))
     (λ a t. point field.ring root left (point field.ring root (mid + left) s (rev mid a)) (rev left t))
     c.args.values.now c.loop-run.values c.loop-run.run a t j (c.loop-run.invariant.cells root s roots table) (omega (arith, p, count, c.loop-run-test.false)) q l
@@ -103,7 +82,7 @@ pub returns-clause-count : goal.returns-clause-count
 returns-clause-count g c =
     let mid = c.args.mid in
     let turn = c.args.width * (c.args.left * 2 ^ c.args.left / 2) + scale_cost c.args.scale * (2 ^ c.args.left * c.args.width) in
-    let count = runs_are mid c.args.left c.requires.small in
+    let count = first_shift mid c.args.left c.requires.small in
     let all : c.loop-run.run ≡ 2 ^ mid = omega (arith, count, c.loop-run-test.false, c.loop-run.auto.run-end) in
     let e : 1 * (c.loop-run.run * turn) ≡ 2 ^ mid * turn = ap (λ n. 1 * (n * turn)) all ∙ omega arith in
     subst (λ (n : ℕ). c.loop-run.products ≤ c.args.products.now + n) e c.loop-run.invariant.count

@@ -25,8 +25,9 @@ use Rattle.p3_networks.specs.Twiddles.{forward_root}
 use Rattle.p3_networks.proofs.Layers.Blocks.{row_below}
 use Rattle.p3_networks.proofs.Layers.Counts.{count_more}
 use Rattle.p3_networks.proofs.Layers.Halves.{in_first, part_length}
+use Rattle.p3_networks.proofs.Layers.Sizes.{second_shift}
 use Rattle.p3_networks.proofs.Networks.Runs.{slot_point}
-use Rattle.p3_networks.proofs.Networks.Slots.{by_slots, rows_of_slots, slot_room, slot_size, slots_are, slots_whole}
+use Rattle.p3_networks.proofs.Networks.Slots.{by_slots, rows_of_slots, slot_room, slot_size, slots_whole}
 use Rattle.p3_networks.proofs.Polynomials.ByIndex.{poly_same}
 use Rattle.p3_networks.proofs.Rows.Lent.{are_blocks, block_of_part, blocks_joined, blocks_kept, blocks_of_part, refusal_joined, run_joined, written_part}
 use Rattle.p3_networks.proofs.Rows.Overwritten.{part-more, put_before, put_in, put_length, rows-none}
@@ -50,10 +51,6 @@ slot_row place k a below small =
     let by_blocks : place * 2 ^ k ≡ place * 2 ^ ((k + 1) / 2) * 2 ^ (k - (k + 1) / 2) = ap (λ n. place * n) (sym whole) ∙ omega arith in
     let next : (place + 1) * 2 ^ k ≡ 2 ^ k + place * 2 ^ k = omega arith in
     mod-eq_of_lt (omega (arith, less, all, fits)) ∙ next ∙ ap (λ n. 2 ^ k + n) by_blocks
-
--- the cells before a slot are those of the blocks before it
-slot_start : (place k w whole : ℕ) → whole ≡ 2 ^ k * w → place * whole ≡ place * 2 ^ ((k + 1) / 2) * (2 ^ (k - (k + 1) / 2) * w)
-slot_start place k w whole is = ap (λ n. place * n) (is ∙ sym (cells_whole k w)) ∙ omega arith
 
 -- a list in front of another
 front_kept : {T : Type 0} (xs ys : List T) → take (length xs) xs ≡ take (length xs) (xs ++ ys)
@@ -288,7 +285,7 @@ overflow_mul-start g c =
     let a = c.args.added_bits in
     let len = length c.args.values.now in
     let is = slot_size len k a c.args.width c.requires.small c.requires.height in
-    let room = slot_room c.loop-place.place a (2 ^ k * c.args.width) len (not_last c.loop-place.place _ a (slots_are k a c.requires.small) c.loop-place-test.true) (c.requires.height ∙ slots_whole k a c.args.width) in
+    let room = slot_room c.loop-place.place a (2 ^ k * c.args.width) len (not_last c.loop-place.place _ a (second_shift k a c.requires.small) c.loop-place-test.true) (c.requires.height ∙ slots_whole k a c.args.width) in
     rw is (omega (arith, room))
 
 pub overflow_add-slot : goal.overflow_add-slot
@@ -297,7 +294,7 @@ overflow_add-slot g c =
     let a = c.args.added_bits in
     let len = length c.args.values.now in
     let is = slot_size len k a c.args.width c.requires.small c.requires.height in
-    let room = slot_room c.loop-place.place a (2 ^ k * c.args.width) len (not_last c.loop-place.place _ a (slots_are k a c.requires.small) c.loop-place-test.true) (c.requires.height ∙ slots_whole k a c.args.width) in
+    let room = slot_room c.loop-place.place a (2 ^ k * c.args.width) len (not_last c.loop-place.place _ a (second_shift k a c.requires.small) c.loop-place-test.true) (c.requires.height ∙ slots_whole k a c.args.width) in
     rw is (omega (arith, room))
 
 pub offset_bounds-others-start : goal.offset_bounds-others-start
@@ -306,7 +303,7 @@ offset_bounds-others-start g c =
     let a = c.args.added_bits in
     let len = length c.args.values.now in
     let is = slot_size len k a c.args.width c.requires.small c.requires.height in
-    let room = slot_room c.loop-place.place a (2 ^ k * c.args.width) len (not_last c.loop-place.place _ a (slots_are k a c.requires.small) c.loop-place-test.true) (c.requires.height ∙ slots_whole k a c.args.width) in
+    let room = slot_room c.loop-place.place a (2 ^ k * c.args.width) len (not_last c.loop-place.place _ a (second_shift k a c.requires.small) c.loop-place-test.true) (c.requires.height ∙ slots_whole k a c.args.width) in
     let below : c.loop-place.place * (len / (1 * 2 ^ a % 18446744073709551616)) ≤ len = rw is (omega (arith, room)) in
     scaled_fits≤ _ _ _ below (search rules)
 
@@ -316,7 +313,7 @@ slice_bounds-slot-end g c =
     let a = c.args.added_bits in
     let len = length c.args.values.now in
     let is = slot_size len k a c.args.width c.requires.small c.requires.height in
-    let room = slot_room c.loop-place.place a (2 ^ k * c.args.width) len (not_last c.loop-place.place _ a (slots_are k a c.requires.small) c.loop-place-test.true) (c.requires.height ∙ slots_whole k a c.args.width) in
+    let room = slot_room c.loop-place.place a (2 ^ k * c.args.width) len (not_last c.loop-place.place _ a (second_shift k a c.requires.small) c.loop-place-test.true) (c.requires.height ∙ slots_whole k a c.args.width) in
     rw is (omega (arith, room, is, c.loop-place.auto.others, c.split_at_mut-coefficients.ensures.back_len))
 
 pub evaluate_from-requires-clause-source : goal.evaluate_from-requires-clause-source
@@ -330,11 +327,11 @@ evaluate_from-requires-clause-height g c =
     let len = length c.args.values.now in
     let whole = len / (1 * 2 ^ a % 18446744073709551616) in
     let is = slot_size len k a c.args.width c.requires.small c.requires.height in
-    let room = slot_room c.loop-place.place a (2 ^ k * c.args.width) len (not_last c.loop-place.place _ a (slots_are k a c.requires.small) c.loop-place-test.true) (c.requires.height ∙ slots_whole k a c.args.width) in
+    let room = slot_room c.loop-place.place a (2 ^ k * c.args.width) len (not_last c.loop-place.place _ a (second_shift k a c.requires.small) c.loop-place-test.true) (c.requires.height ∙ slots_whole k a c.args.width) in
     part_length c.loop-place.others (c.loop-place.place * whole) whole (rw is (omega (arith, room, is, c.loop-place.auto.others, c.split_at_mut-coefficients.ensures.back_len))) ∙ is
 
 pub evaluate_from-requires-clause-rows : goal.evaluate_from-requires-clause-rows
-evaluate_from-requires-clause-rows g c = slot_ends c.loop-place.place c.args.log_h c.args.added_bits (not_last c.loop-place.place _ c.args.added_bits (slots_are c.args.log_h c.args.added_bits c.requires.small) c.loop-place-test.true) c.requires.small
+evaluate_from-requires-clause-rows g c = slot_ends c.loop-place.place c.args.log_h c.args.added_bits (not_last c.loop-place.place _ c.args.added_bits (second_shift c.args.log_h c.args.added_bits c.requires.small) c.loop-place-test.true) c.requires.small
 
 pub loop-place-init : goal.loop-place-init
 loop-place-init g c =
@@ -358,7 +355,7 @@ loop-place-preserved g c =
     let len = length c.args.values.now in
     let whole = len / (1 * 2 ^ a % 18446744073709551616) in
     let is : whole ≡ 2 ^ k * w = slot_size len k a w c.requires.small c.requires.height in
-    let below = not_last place _ a (slots_are k a c.requires.small) c.loop-place-test.true in
+    let below = not_last place _ a (second_shift k a c.requires.small) c.loop-place-test.true in
     let fits = slot_fits place a (2 ^ k * w) len whole _ (length c.loop-place.others) below (c.requires.height ∙ slots_whole k a w) is c.split_at_mut-coefficients.ensures.back_len c.loop-place.auto.others in
     let size = c.evaluate_from.auto.values ∙ part_length c.loop-place.others (place * whole) whole fits in
     let roots : AreRoots field.ring (k + a) gen = fewer_roots field.ring (k + a) _ c.requires.within g.met.F.TwoAdicField.roots_law in
@@ -384,7 +381,7 @@ returns-in-Err-clause-count g c =
     let k = c.args.log_h in
     let a = c.args.added_bits in
     let turn = c.args.width * (k * 2 ^ k / 2) in
-    let below : c.loop-place.place + 1 < 2 ^ a = omega (arith, slots_are k a c.requires.small, c.loop-place-test.true) in
+    let below : c.loop-place.place + 1 < 2 ^ a = omega (arith, second_shift k a c.requires.small, c.loop-place-test.true) in
     let rise : (c.loop-place.place + 1) * turn ≤ 2 ^ a * turn = mul-le-mul_right turn (let l : c.loop-place.place + 1 ≤ 2 ^ a = omega (arith, below) in l) in
     let once : c.evaluate_from.new.products ≤ c.loop-place.products + 1 * turn = omega (arith, c.evaluate_from.ensures.count) in
     let so_far = count_more 1 c.loop-place.place turn c.args.products.now c.loop-place.products c.evaluate_from.new.products c.loop-place.invariant.count once in
@@ -403,7 +400,7 @@ returns-in-Err-clause-refused g c =
     let coefficients = c.split_at_mut-coefficients.result.0.now in
     let back = c.split_at_mut-coefficients.result.1.now in
     let is : whole ≡ 2 ^ k * w = slot_size len k a w c.requires.small c.requires.height in
-    let below = not_last place _ a (slots_are k a c.requires.small) c.loop-place-test.true in
+    let below = not_last place _ a (second_shift k a c.requires.small) c.loop-place-test.true in
     let fits = slot_fits place a (2 ^ k * w) len whole _ (length c.loop-place.others) below (c.requires.height ∙ slots_whole k a w) is c.split_at_mut-coefficients.ensures.back_len c.loop-place.auto.others in
     let split = c.split_at_mut-coefficients.ensures.value in
     let source : length coefficients ≡ 2 ^ k * w = c.split_at_mut-coefficients.ensures.front_len ∙ is in
@@ -453,7 +450,7 @@ returns-clause-values g c =
     (ap (λ x. point field.ring gen k x (rev k t)) c.table_of_slot-table-2.ensures.1 ∙ slot_point field.ring roots s k a 0 t (omega arith) p
     ∙ ap (λ n. point field.ring gen (k + a) s (rev (k + a) n)) whole))
     (λ p t j below q inside.
-    c.loop-place.invariant.slots.done p (t * w + j) (omega (arith, below, slots_are k a c.requires.small, c.loop-place-test.false)) (row_below t j w (2 ^ k) q inside) t j q inside refl
+    c.loop-place.invariant.slots.done p (t * w + j) (omega (arith, below, second_shift k a c.requires.small, c.loop-place-test.false)) (row_below t j w (2 ^ k) q inside) t j q inside refl
     ∙ same _ j inside))
     c.evaluate_in_place.ensures.accepted
 
@@ -468,7 +465,7 @@ returns-clause-published g c =
     let front = c.evaluate_in_place.new.values in
     let others = c.loop-place.others in
     let is = slot_size (length c.args.values.now) k a w c.requires.small c.requires.height in
-    let all = last_slot place a _ (slots_are k a c.requires.small) c.loop-place-test.false c.loop-place.auto.place-end in
+    let all = last_slot place a _ (second_shift k a c.requires.small) c.loop-place-test.false c.loop-place.auto.place-end in
     let room = others_room place a (2 ^ k * w) (length c.args.values.now) _ _ (length others) all (c.requires.height ∙ slots_whole k a w) is c.split_at_mut-coefficients.ensures.back_len c.loop-place.auto.others in
     let whole = blocks_all place k a w b n front others (blocks_whole k) all (c.evaluate_in_place.auto.values ∙ c.split_at_mut-coefficients.ensures.front_len ∙ is) room in
     on_ok_weaker c.evaluate_in_place.result
@@ -493,7 +490,7 @@ returns-clause-refused g c =
     let is = slot_size len k a w c.requires.small c.requires.height in
     let split = c.split_at_mut-coefficients.ensures.value in
     let source : length coefficients ≡ 2 ^ k * w = c.split_at_mut-coefficients.ensures.front_len ∙ is in
-    let all = last_slot place a _ (slots_are k a c.requires.small) c.loop-place-test.false c.loop-place.auto.place-end in
+    let all = last_slot place a _ (second_shift k a c.requires.small) c.loop-place-test.false c.loop-place.auto.place-end in
     let room = others_room place a (2 ^ k * w) len _ _ (length c.loop-place.others) all (c.requires.height ∙ slots_whole k a w) is c.split_at_mut-coefficients.ensures.back_len c.loop-place.auto.others in
     let roots : AreRoots field.ring (k + a) (forward_root field g.F.TwoAdicField.generator) = fewer_roots field.ring (k + a) _ c.requires.within g.met.F.TwoAdicField.roots_law in
     IfErr-weaker c.evaluate_in_place.result _ _
@@ -512,7 +509,7 @@ returns-clause-count g c =
     let k = c.args.log_h in
     let a = c.args.added_bits in
     let turn = c.args.width * (k * 2 ^ k / 2) in
-    let count = slots_are k a c.requires.small in
+    let count = second_shift k a c.requires.small in
     let all : c.loop-place.place + 1 ≡ 2 ^ a = omega (arith, count, pow_pos a, c.loop-place-test.false, c.loop-place.auto.place-end) in
     let e : 1 * ((c.loop-place.place + 1) * turn) ≡ 2 ^ a * turn = ap (λ n. 1 * (n * turn)) all ∙ omega arith in
     subst (λ (n : ℕ). c.evaluate_in_place.new.products ≤ c.args.products.now + n) e

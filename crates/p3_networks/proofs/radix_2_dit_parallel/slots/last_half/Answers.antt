@@ -3,7 +3,7 @@ use borrow.Author.Rules.{scaled_fits≤}
 use borrow.Rule.Slice.PartMut.{put_mid}
 use Rattle.std.specs.List.{between}
 use Rattle.std.proofs.Math.Nat.{mul-le-mul_right, le_trans}
-use Rattle.std.proofs.lemmas.Nat.{one_shl, pow-add, pow_pos}
+use Rattle.std.proofs.lemmas.Nat.{pow-add}
 use Rattle.std.proofs.lemmas.Slice.{between-put_mid, take-put_mid_below}
 use Rattle.p3_matrix.specs.BitOrder.{rev}
 use Rattle.p3_matrix.specs.Blocks.{Run}
@@ -12,41 +12,15 @@ use Rattle.p3_networks.specs.Cosets.{point}
 use Rattle.p3_networks.specs.Slots.{slot_block, slot_blocks}
 use Rattle.p3_networks.proofs.Layers.Blocks.{row_below}
 use Rattle.p3_networks.proofs.Layers.Counts.{count_more}
-use Rattle.p3_networks.proofs.Layers.Halves.{block_size, block_room, part_length}
+use Rattle.p3_networks.proofs.Layers.Halves.{part_length}
+use Rattle.p3_networks.proofs.Layers.Sizes.{first_shift, second_shift}
 use Rattle.p3_networks.proofs.Networks.Runs.{row_digits}
 use Rattle.p3_networks.proofs.Polynomials.ByIndex.{poly_same}
 use Rattle.p3_networks.proofs.Rows.Lent.{blocks_kept, run_more}
 use Rattle.p3_networks.proofs.Rows.Overwritten.{rows-none}
-use Rattle.p3_networks.proofs.Rows.Runs.{run_size, runs-more, runs-all}
+use Rattle.p3_networks.proofs.Rows.Runs.{high_run_cells, high_run_fits, high_run_room, runs-all, runs-more}
+use Rattle.p3_networks.proofs.Tables.BlockTables.{blocks_within}
 use Rattle.p3_networks.proofs.radix_2_dit_parallel.slots.last_half.Goals as goal
-
-runs_are : (mid left : ℕ) → mid + left < 64 → 1 * 2 ^ mid % 18446744073709551616 ≡ 2 ^ mid
-runs_are mid left small = one_shl mid 64 (omega arith)
-
-rows_are : (mid left : ℕ) → mid + left < 64 → 1 * 2 ^ left % 18446744073709551616 ≡ 2 ^ left
-rows_are mid left small = one_shl left 64 (omega arith)
-
-runs_whole : (mid left w : ℕ) → 2 ^ (mid + left) * w ≡ 2 ^ mid * (2 ^ left * w)
-runs_whole mid left w = let e : mid + left - left ≡ mid = omega arith in run_size (mid + left) left w (omega arith) ∙ ap (λ n. 2 ^ n * (2 ^ left * w)) e
-
--- the cells of a run, as the program has their number
-size_is : (len mid left w : ℕ) → mid + left < 64 → len ≡ 2 ^ (mid + left) * w → len / (1 * 2 ^ mid % 18446744073709551616) ≡ 2 ^ left * w
-size_is len mid left w small full =
-    let count = runs_are mid left small in
-    block_size len (1 * 2 ^ mid % 18446744073709551616) (2 ^ left * w) (omega (arith, count, pow_pos mid)) (full ∙ runs_whole mid left w ∙ ap (λ n. n * (2 ^ left * w)) (sym count))
-
--- a run lies within all of them
-run_fits : (run len mid left w : ℕ) → run < 2 ^ mid → len ≡ 2 ^ (mid + left) * w → run * (2 ^ left * w) + 2 ^ left * w ≤ len
-run_fits run len mid left w below full = block_room run (2 ^ mid) (2 ^ left * w) len below (full ∙ runs_whole mid left w)
-
--- the same by the size that the program has
-run_room : (run len mid left w : ℕ) → mid + left < 64 → run < 1 * 2 ^ mid % 18446744073709551616 → len ≡ 2 ^ (mid + left) * w
-    → run * (len / (1 * 2 ^ mid % 18446744073709551616)) + len / (1 * 2 ^ mid % 18446744073709551616) ≤ len
-run_room run len mid left w small below full = rw (size_is len mid left w small full) (run_fits run len mid left w (omega (arith, runs_are mid left small, below)) full)
-
--- and so do its rows
-rows_fit : (run mid left : ℕ) → run < 2 ^ mid → run * 2 ^ left + 2 ^ left ≤ 2 ^ (mid + left)
-rows_fit run mid left below = block_room run (2 ^ mid) (2 ^ left) (2 ^ (mid + left)) below (pow-add 2 mid left)
 
 -- the rows of a run that was written are its block
 block_is : {T : Type 0} (w b run whole : ℕ) (now part : List T) → whole ≡ b * w → run * whole + whole ≤ length now → length part ≡ b * w
@@ -59,42 +33,42 @@ block_is {T} w b run whole now part is room len =
     (sym (ap₂ (λ x y. between x y after) start end ∙ between-put_mid (run * whole) (run * whole + whole - run * whole) now part (run * whole + whole) (omega (arith, room)) (let e : run * whole + whole - run * whole ≡ whole = omega arith in len ∙ sym is ∙ sym e)))
 
 pub overflow_mul-start : goal.overflow_mul-start
-overflow_mul-start g c = omega (arith, run_room c.loop-run.run (length c.reverse_runs.new.values) c.args.mid c.args.left c.args.width c.requires.small c.loop-run-test.true (c.reverse_runs.auto.values ∙ c.requires.height))
+overflow_mul-start g c = omega (arith, high_run_room (length c.reverse_runs.new.values) c.args.mid c.args.left c.args.width c.requires.small (c.reverse_runs.auto.values ∙ c.requires.height) c.loop-run.run c.loop-run-test.true)
 
 pub overflow_add-rows : goal.overflow_add-rows
-overflow_add-rows g c = omega (arith, run_room c.loop-run.run (length c.reverse_runs.new.values) c.args.mid c.args.left c.args.width c.requires.small c.loop-run-test.true (c.reverse_runs.auto.values ∙ c.requires.height))
+overflow_add-rows g c = omega (arith, high_run_room (length c.reverse_runs.new.values) c.args.mid c.args.left c.args.width c.requires.small (c.reverse_runs.auto.values ∙ c.requires.height) c.loop-run.run c.loop-run-test.true)
 
 pub offset_bounds-values-start : goal.offset_bounds-values-start
 offset_bounds-values-start g c =
-    let room = run_room c.loop-run.run (length c.reverse_runs.new.values) c.args.mid c.args.left c.args.width c.requires.small c.loop-run-test.true (c.reverse_runs.auto.values ∙ c.requires.height) in
+    let room = high_run_room (length c.reverse_runs.new.values) c.args.mid c.args.left c.args.width c.requires.small (c.reverse_runs.auto.values ∙ c.requires.height) c.loop-run.run c.loop-run-test.true in
     let below : c.loop-run.run * (length c.reverse_runs.new.values / (1 * 2 ^ c.args.mid % 18446744073709551616)) ≤ length c.args.values.now = omega (arith, room, c.reverse_runs.auto.values) in
     scaled_fits≤ _ _ _ below (search rules)
 
 pub slice_bounds-rows-end : goal.slice_bounds-rows-end
-slice_bounds-rows-end g c = omega (arith, run_room c.loop-run.run (length c.reverse_runs.new.values) c.args.mid c.args.left c.args.width c.requires.small c.loop-run-test.true (c.reverse_runs.auto.values ∙ c.requires.height), c.reverse_runs.auto.values, c.loop-run.auto.values)
+slice_bounds-rows-end g c = omega (arith, high_run_room (length c.reverse_runs.new.values) c.args.mid c.args.left c.args.width c.requires.small (c.reverse_runs.auto.values ∙ c.requires.height) c.loop-run.run c.loop-run-test.true, c.reverse_runs.auto.values, c.loop-run.auto.values)
 
 pub finish_run-requires-clause-height : goal.finish_run-requires-clause-height
 finish_run-requires-clause-height g c =
     let len = length c.reverse_runs.new.values in
     let full = c.reverse_runs.auto.values ∙ c.requires.height in
-    let is = size_is len c.args.mid c.args.left c.args.width c.requires.small full in
-    let below : c.loop-run.run < 2 ^ c.args.mid = omega (arith, runs_are c.args.mid c.args.left c.requires.small, c.loop-run-test.true) in
-    let room = run_fits c.loop-run.run len c.args.mid c.args.left c.args.width below full in
+    let is = high_run_cells len c.args.mid c.args.left c.args.width c.requires.small full in
+    let below : c.loop-run.run < 2 ^ c.args.mid = omega (arith, first_shift c.args.mid c.args.left c.requires.small, c.loop-run-test.true) in
+    let room = high_run_fits len c.args.mid c.args.left c.args.width c.requires.small full c.loop-run.run below in
     let whole = len / (1 * 2 ^ c.args.mid % 18446744073709551616) in
     part_length c.loop-run.values (c.loop-run.run * whole) whole (rw is (omega (arith, room, c.loop-run.auto.values))) ∙ is
 
 pub finish_run-requires-clause-run : goal.finish_run-requires-clause-run
-finish_run-requires-clause-run g c = omega (arith, runs_are c.args.mid c.args.left c.requires.small, c.loop-run-test.true)
+finish_run-requires-clause-run g c = omega (arith, first_shift c.args.mid c.args.left c.requires.small, c.loop-run-test.true)
 
 pub overflow_mul-row : goal.overflow_mul-row
 overflow_mul-row g c =
-    let below : c.loop-run.run < 2 ^ c.args.mid = omega (arith, runs_are c.args.mid c.args.left c.requires.small, c.loop-run-test.true) in
-    rw (rows_are c.args.mid c.args.left c.requires.small) (omega (arith, rows_fit c.loop-run.run c.args.mid c.args.left below, c.requires.rows))
+    let below : c.loop-run.run < 2 ^ c.args.mid = omega (arith, first_shift c.args.mid c.args.left c.requires.small, c.loop-run-test.true) in
+    rw (second_shift c.args.mid c.args.left c.requires.small) (omega (arith, blocks_within c.loop-run.run c.args.mid c.args.left below, c.requires.rows))
 
 pub overflow_add-row : goal.overflow_add-row
 overflow_add-row g c =
-    let below : c.loop-run.run < 2 ^ c.args.mid = omega (arith, runs_are c.args.mid c.args.left c.requires.small, c.loop-run-test.true) in
-    rw (rows_are c.args.mid c.args.left c.requires.small) (omega (arith, rows_fit c.loop-run.run c.args.mid c.args.left below, c.requires.rows))
+    let below : c.loop-run.run < 2 ^ c.args.mid = omega (arith, first_shift c.args.mid c.args.left c.requires.small, c.loop-run-test.true) in
+    rw (second_shift c.args.mid c.args.left c.requires.small) (omega (arith, blocks_within c.loop-run.run c.args.mid c.args.left below, c.requires.rows))
 
 pub loop-run-init : goal.loop-run-init
 loop-run-init g c =
@@ -116,9 +90,9 @@ loop-run-preserved g c =
     let len = length c.reverse_runs.new.values in
     let full = c.reverse_runs.auto.values ∙ c.requires.height in
     let whole = len / (1 * 2 ^ mid % 18446744073709551616) in
-    let is : whole ≡ 2 ^ left * w = size_is len mid left w c.requires.small full in
-    let below : run < 2 ^ mid = omega (arith, runs_are mid left c.requires.small, c.loop-run-test.true) in
-    let room = run_fits run len mid left w below full in
+    let is : whole ≡ 2 ^ left * w = high_run_cells len mid left w c.requires.small full in
+    let below : run < 2 ^ mid = omega (arith, first_shift mid left c.requires.small, c.loop-run-test.true) in
+    let room = high_run_fits len mid left w c.requires.small full run below in
     let fits : run * whole + whole ≤ length c.loop-run.values = rw is (omega (arith, room, c.loop-run.auto.values)) in
     let part = c.finish_run.new.values in
     let size : length part ≡ 2 ^ left * w = c.finish_run.auto.values ∙ part_length c.loop-run.values (run * whole) whole fits ∙ is in
@@ -136,7 +110,7 @@ loop-run-preserved g c =
           (c.loop-run.invariant.cells root s roots table);
       told = run_more step (slot_block c.args.first_row (2 ^ left) w now) run c.args.consumer.now c.loop-run.consumer c.finish_run.new.consumer
           (subst (λ blocks. Run step c.args.consumer.now blocks c.loop-run.consumer) kept c.loop-run.invariant.told)
-          (rw (rows_are mid left c.requires.small, block) at c.in_default.ensures.lent);
+          (rw (second_shift mid left c.requires.small, block) at c.in_default.ensures.lent);
       grows = omega (arith, c.finish_run.ensures.grows, c.loop-run.invariant.grows);
       count = count_more 1 run (w * (left * 2 ^ left / 2)) _ _ _ c.loop-run.invariant.count c.finish_run.ensures.count;
     }
@@ -151,9 +125,9 @@ returns-in-Err-clause-refused g c =
     let len = length c.reverse_runs.new.values in
     let full = c.reverse_runs.auto.values ∙ c.requires.height in
     let whole = len / (1 * 2 ^ mid % 18446744073709551616) in
-    let is : whole ≡ 2 ^ left * w = size_is len mid left w c.requires.small full in
-    let below : run < 2 ^ mid = omega (arith, runs_are mid left c.requires.small, c.loop-run-test.true) in
-    let room = run_fits run len mid left w below full in
+    let is : whole ≡ 2 ^ left * w = high_run_cells len mid left w c.requires.small full in
+    let below : run < 2 ^ mid = omega (arith, first_shift mid left c.requires.small, c.loop-run-test.true) in
+    let room = high_run_fits len mid left w c.requires.small full run below in
     let fits : run * whole + whole ≤ length c.loop-run.values = rw is (omega (arith, room, c.loop-run.auto.values)) in
     let part = c.finish_run.new.values in
     let size : length part ≡ 2 ^ left * w = c.finish_run.auto.values ∙ part_length c.loop-run.values (run * whole) whole fits ∙ is in
@@ -180,14 +154,14 @@ returns-in-Err-clause-refused g c =
       record {
         middle = c.loop-run.consumer;
         run = subst (λ blocks. Run step c.args.consumer.now blocks c.loop-run.consumer) kept c.loop-run.invariant.told;
-        stop = rw (rows_are mid left c.requires.small, block) at c.in-Err.ensures.lent;
+        stop = rw (second_shift mid left c.requires.small, block) at c.in-Err.ensures.lent;
       },
     )
 
 pub returns-in-Err-clause-count : goal.returns-in-Err-clause-count
 returns-in-Err-clause-count g c =
     let turn = c.args.width * (c.args.left * 2 ^ c.args.left / 2) in
-    let below : c.loop-run.run < 2 ^ c.args.mid = omega (arith, runs_are c.args.mid c.args.left c.requires.small, c.loop-run-test.true) in
+    let below : c.loop-run.run < 2 ^ c.args.mid = omega (arith, first_shift c.args.mid c.args.left c.requires.small, c.loop-run-test.true) in
     let rise : suc c.loop-run.run * turn ≤ 2 ^ c.args.mid * turn = mul-le-mul_right turn below in
     let next : suc c.loop-run.run * turn ≡ 1 * ((c.loop-run.run + 1) * turn) = omega arith in
     let so_far = count_more 1 c.loop-run.run turn _ _ _ c.loop-run.invariant.count c.finish_run.ensures.count in
@@ -199,7 +173,7 @@ returns-clause-accepted g c =
     let mid = c.args.mid in
     let left = c.args.left in
     let w = c.args.width in
-    let count = runs_are mid left c.requires.small in
+    let count = first_shift mid left c.requires.small in
     let all : c.loop-run.run ≡ 2 ^ mid = omega (arith, count, c.loop-run-test.false, c.loop-run.auto.run-end) in
     let entries : 2 ^ (mid + left) ≡ 2 ^ mid * 2 ^ left = pow-add 2 mid left in (
       λ root s roots table a t j p q l.
@@ -216,7 +190,7 @@ returns-clause-accepted g c =
 pub returns-clause-count : goal.returns-clause-count
 returns-clause-count g c =
     let turn = c.args.width * (c.args.left * 2 ^ c.args.left / 2) in
-    let count = runs_are c.args.mid c.args.left c.requires.small in
+    let count = first_shift c.args.mid c.args.left c.requires.small in
     let all : c.loop-run.run ≡ 2 ^ c.args.mid = omega (arith, count, c.loop-run-test.false, c.loop-run.auto.run-end) in
     let e : 1 * (c.loop-run.run * turn) ≡ 2 ^ c.args.mid * turn = ap (λ n. 1 * (n * turn)) all ∙ omega arith in
     subst (λ (n : ℕ). c.loop-run.products ≤ c.args.products.now + n) e c.loop-run.invariant.count

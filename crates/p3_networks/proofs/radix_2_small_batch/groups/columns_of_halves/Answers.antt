@@ -2,38 +2,38 @@ use Rattle.std.proofs.Common.{◌≡◌, ℕ, ◌+◌, ◌*◌, ◌-◌, ◌<◌
 use borrow.Author.Rules.{scaled_fits≤}
 use borrow.Rule.Slice.PartMut.{put_mid}
 use Rattle.std.proofs.Math.Nat.{le_refl}
-use Rattle.p3_networks.proofs.Layers.Columns.{InColumns, columns_written, row_room, slice_length}
+use Rattle.p3_networks.proofs.Layers.Columns.{InColumns, columns_written}
 use Rattle.p3_networks.proofs.Layers.Counts.{count_more, count_none}
-use Rattle.p3_networks.proofs.Layers.Halves.{part_length}
-use Rattle.p3_networks.proofs.Rows.Overwritten.{part_at, put_length, rows-more, rows-all, rows-none}
+use Rattle.p3_networks.proofs.Layers.Halves.{block_room, part_length}
+use Rattle.p3_networks.proofs.Rows.Overwritten.{part_at, part_size, put_length, rows-more, rows-all, rows-none}
 use Rattle.p3_networks.proofs.radix_2_small_batch.groups.columns_of_halves.Goals as goal
 
 pub overflow_mul-start : goal.overflow_mul-start
-overflow_mul-start g c = omega (arith, row_room c.loop-t.t c.args.half c.args.part (length c.args.low.now) c.loop-t-test.true c.requires.low)
+overflow_mul-start g c = omega (arith, block_room c.loop-t.t c.args.half c.args.part (length c.args.low.now) c.loop-t-test.true c.requires.low)
 
 pub overflow_add-row_1 : goal.overflow_add-row_1
-overflow_add-row_1 g c = omega (arith, row_room c.loop-t.t c.args.half c.args.part (length c.args.low.now) c.loop-t-test.true c.requires.low)
+overflow_add-row_1 g c = omega (arith, block_room c.loop-t.t c.args.half c.args.part (length c.args.low.now) c.loop-t-test.true c.requires.low)
 
 pub offset_bounds-low-start : goal.offset_bounds-low-start
 offset_bounds-low-start g c =
-    let room = row_room c.loop-t.t c.args.half c.args.part (length c.args.low.now) c.loop-t-test.true c.requires.low in
+    let room = block_room c.loop-t.t c.args.half c.args.part (length c.args.low.now) c.loop-t-test.true c.requires.low in
     let below : c.loop-t.t * c.args.part ≤ length c.args.low.now = omega (arith, room) in
     scaled_fits≤ _ _ _ below (search rules)
 
 pub overflow_add-row_2 : goal.overflow_add-row_2
-overflow_add-row_2 g c = omega (arith, row_room c.loop-t.t c.args.half c.args.part (length c.args.high.now) c.loop-t-test.true c.requires.high)
+overflow_add-row_2 g c = omega (arith, block_room c.loop-t.t c.args.half c.args.part (length c.args.high.now) c.loop-t-test.true c.requires.high)
 
 pub offset_bounds-high-start : goal.offset_bounds-high-start
 offset_bounds-high-start g c =
-    let room = row_room c.loop-t.t c.args.half c.args.part (length c.args.high.now) c.loop-t-test.true c.requires.high in
+    let room = block_room c.loop-t.t c.args.half c.args.part (length c.args.high.now) c.loop-t-test.true c.requires.high in
     let below : c.loop-t.t * c.args.part ≤ length c.args.high.now = omega (arith, room) in
     scaled_fits≤ _ _ _ below (search rules)
 
 pub slice_bounds-row_1-end : goal.slice_bounds-row_1-end
-slice_bounds-row_1-end g c = omega (arith, row_room c.loop-t.t c.args.half c.args.part (length c.args.low.now) c.loop-t-test.true c.requires.low, c.loop-t.auto.low)
+slice_bounds-row_1-end g c = omega (arith, block_room c.loop-t.t c.args.half c.args.part (length c.args.low.now) c.loop-t-test.true c.requires.low, c.loop-t.auto.low)
 
 pub slice_bounds-row_2-end : goal.slice_bounds-row_2-end
-slice_bounds-row_2-end g c = omega (arith, row_room c.loop-t.t c.args.half c.args.part (length c.args.high.now) c.loop-t-test.true c.requires.high, c.loop-t.auto.high)
+slice_bounds-row_2-end g c = omega (arith, block_room c.loop-t.t c.args.half c.args.part (length c.args.high.now) c.loop-t-test.true c.requires.high, c.loop-t.auto.high)
 
 pub loop-t-preserved : goal.loop-t-preserved
 loop-t-preserved g c =
@@ -48,8 +48,8 @@ loop-t-preserved g c =
     let high = c.loop-t.high in
     let m = t * part + part - t * part in
     let full : m ≡ part = omega arith in
-    let low_room : t * part + part ≤ length low = row_room t c.args.half part (length low) c.loop-t-test.true (c.loop-t.auto.low ∙ c.requires.low) in
-    let high_room : t * part + part ≤ length high = row_room t c.args.half part (length high) c.loop-t-test.true (c.loop-t.auto.high ∙ c.requires.high) in
+    let low_room : t * part + part ≤ length low = block_room t c.args.half part (length low) c.loop-t-test.true (c.loop-t.auto.low ∙ c.requires.low) in
+    let high_room : t * part + part ≤ length high = block_room t c.args.half part (length high) c.loop-t-test.true (c.loop-t.auto.high ∙ c.requires.high) in
     let row_1 = take m (drop (t * part) low) in
     let row_2 = take m (drop (t * part) high) in
     let len_1 : length row_1 ≡ part = part_length low (t * part) part low_room in
@@ -57,8 +57,8 @@ loop-t-preserved g c =
     let room_1 : at + (end - at) ≤ length row_1 = omega (arith, c.requires.some, c.requires.within, len_1) in
     let room_2 : at + (end - at) ≤ length row_2 = omega (arith, c.requires.some, c.requires.within, len_2) in
     let met = take (end - at) (drop at row_1) in
-    let met_len : length met ≡ end - at = slice_length row_1 at (end - at) room_1 in
-    let met_len_2 : length (take (end - at) (drop at row_2)) ≡ end - at = slice_length row_2 at (end - at) room_2 in
+    let met_len : length met ≡ end - at = part_size row_1 at (end - at) room_1 in
+    let met_len_2 : length (take (end - at) (drop at row_2)) ≡ end - at = part_size row_2 at (end - at) room_2 in
     let x : (j : ℕ) → j < part → get_or row_1 j zero ≡ get_or c.args.low.now (t * part + j) zero =
     λ j inside. part_at low (t * part) m j zero (omega (arith, inside, full)) ∙ c.loop-t.invariant.near.rest (t * part + j) (omega arith) in
     let y : (j : ℕ) → j < part → get_or row_2 j zero ≡ get_or c.args.high.now (t * part + j) zero =
@@ -88,7 +88,7 @@ loop-t-preserved g c =
 
 -- the columns that meet are within a row, and so within the halves
 columns_room : (at end part t half len : ℕ) → at ≤ end → end ≤ part → t < half → len ≡ half * part → at ≤ len
-columns_room at end part t half len order within below full = omega (arith, order, within, row_room t half part len below full)
+columns_room at end part t half len order within below full = omega (arith, order, within, block_room t half part len below full)
 
 pub offset_bounds-row_1-at : goal.offset_bounds-row_1-at
 offset_bounds-row_1-at g c =

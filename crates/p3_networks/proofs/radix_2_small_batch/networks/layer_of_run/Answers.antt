@@ -1,6 +1,7 @@
 use Rattle.std.proofs.Common.{◌≡◌, ℕ, ◌+◌, ◌-◌, ◌*◌, ◌/◌, ◌%◌, ◌^◌, ◌≤◌, List, length, get_or, sym, ap, ap₂, ◌∙◌, subst, arith}
 use Rattle.std.proofs.Math.Nat.{mul-le-mul, mul-le-mul_right}
-use Rattle.p3_networks.proofs.Layers.Runs.{run_cells, run_sizes, run_taken}
+use Rattle.p3_networks.proofs.Layers.Runs.{run_sizes, run_taken}
+use Rattle.p3_networks.proofs.Layers.Sizes.{cells_by_halves}
 use Rattle.p3_networks.proofs.radix_2_small_batch.networks.layer_of_run.Goals as goal
 
 pub overflow_shl-half : goal.overflow_shl-half
@@ -12,7 +13,7 @@ overflow_shl-blocks g c = let sizes = run_sizes c.args.top c.args.entry c.args.n
 pub overflow_mul-half : goal.overflow_mul-half
 overflow_mul-half g c =
     let sizes = run_sizes c.args.top c.args.entry c.args.number c.requires.below c.requires.small in
-    let whole = c.requires.size ∙ run_cells c.args.top c.args.entry c.args.width c.requires.below ∙ sym (ap₂ (λ (n h : ℕ). n * (2 * (h * c.args.width))) sizes.blocks_is sizes.half_is) in
+    let whole = c.requires.size ∙ cells_by_halves c.args.top c.args.entry c.args.width c.requires.below ∙ sym (ap₂ (λ (n h : ℕ). n * (2 * (h * c.args.width))) sizes.blocks_is sizes.half_is) in
     let once : 1 * (2 * ((1 * 2 ^ c.args.entry % 18446744073709551616) * c.args.width)) ≤ (1 * 2 ^ (c.args.top - 1 - c.args.entry) % 18446744073709551616) * (2 * ((1 * 2 ^ c.args.entry % 18446744073709551616) * c.args.width)) =
     mul-le-mul_right (2 * ((1 * 2 ^ c.args.entry % 18446744073709551616) * c.args.width)) sizes.some_blocks in
     omega (arith, once, whole)
@@ -35,7 +36,7 @@ layer-requires-clause-numbers g c = (run_sizes c.args.top c.args.entry c.args.nu
 pub layer-requires-clause-size : goal.layer-requires-clause-size
 layer-requires-clause-size g c =
     let sizes = run_sizes c.args.top c.args.entry c.args.number c.requires.below c.requires.small in
-    c.requires.size ∙ run_cells c.args.top c.args.entry c.args.width c.requires.below ∙ sym (ap₂ (λ (n h : ℕ). n * (2 * (h * c.args.width))) sizes.blocks_is sizes.half_is) ∙ omega arith
+    c.requires.size ∙ cells_by_halves c.args.top c.args.entry c.args.width c.requires.below ∙ sym (ap₂ (λ (n h : ℕ). n * (2 * (h * c.args.width))) sizes.blocks_is sizes.half_is) ∙ omega arith
 
 pub layer-requires-clause-there : goal.layer-requires-clause-there
 layer-requires-clause-there g c b t inside below =
@@ -58,7 +59,7 @@ returns-clause-cells g c k before after layers room holds =
     let y = c.layer.new.values in
     run_taken field.value field.ZERO near far
     k c.args.width c.args.entry c.args.top c.args.number blocks half (λ i. i / 1) before after x y c.requires.below sizes.blocks_is sizes.half_is
-    (c.requires.size ∙ run_cells c.args.top c.args.entry c.args.width c.requires.below ∙ sym (ap₂ (λ (n h : ℕ). n * (2 * (h * c.args.width))) sizes.blocks_is sizes.half_is))
+    (c.requires.size ∙ cells_by_halves c.args.top c.args.entry c.args.width c.requires.below ∙ sym (ap₂ (λ (n h : ℕ). n * (2 * (h * c.args.width))) sizes.blocks_is sizes.half_is))
     c.layer.auto.values room c.requires.near_by_block c.requires.far_by_block layers
     (λ b i p q.
     subst (λ (n : ℕ). cell y (b * (2 * n) + i) ≡ near (c.args.number * blocks + b) (i / 1) (cell x (b * (2 * n) + i)) (cell x (b * (2 * n) + (n + i)))) one
@@ -72,6 +73,6 @@ pub returns-clause-count : goal.returns-clause-count
 returns-clause-count g c =
     let sizes = run_sizes c.args.top c.args.entry c.args.number c.requires.below c.requires.small in
     let whole : length c.args.values.now ≡ 2 * ((1 * 2 ^ (c.args.top - 1 - c.args.entry) % 18446744073709551616) * ((1 * 2 ^ c.args.entry % 18446744073709551616) * c.args.width * 1)) =
-    c.requires.size ∙ run_cells c.args.top c.args.entry c.args.width c.requires.below ∙ sym (ap₂ (λ (n h : ℕ). n * (2 * (h * c.args.width))) sizes.blocks_is sizes.half_is) ∙ omega arith in
+    c.requires.size ∙ cells_by_halves c.args.top c.args.entry c.args.width c.requires.below ∙ sym (ap₂ (λ (n h : ℕ). n * (2 * (h * c.args.width))) sizes.blocks_is sizes.half_is) ∙ omega arith in
     let pairs = ap (λ (n : ℕ). g.R.Rule.cost * n) whole in
     omega (arith, c.layer.ensures.count, pairs)

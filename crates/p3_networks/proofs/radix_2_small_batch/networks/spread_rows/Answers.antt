@@ -1,9 +1,10 @@
 use Rattle.std.proofs.Common.{◌≡◌, ℕ, suc, ◌+◌, ◌*◌, ◌-◌, ◌/◌, ◌%◌, ◌<◌, ◌≤◌, take, drop, length, get_or, refl, sym, ap, ap₂, ◌∙◌, subst, arith, rules}
 use borrow.Author.Rules.{scaled_fits≤}
-use Rattle.std.proofs.Math.Nat.{mul-le-mul_left, mul-le-mul_right}
+use Rattle.std.proofs.Math.Nat.{add-sub_cancel_left, mul-le-mul_left, mul-le-mul_right}
 use Rattle.std.proofs.lemmas.List.{get_or_read_under}
 use Rattle.std.proofs.lemmas.Nat.{div-add-mod', div_below, div-mul-add, mod-mul-add, mod_below, mul-add-lt}
 use Rattle.p3_field.specs.Ring.{power}
+use Rattle.p3_networks.proofs.Layers.Counts.{turn_counted}
 use Rattle.p3_networks.proofs.Layers.Halves.{block_room, block_size, part_length}
 use Rattle.p3_networks.proofs.Rows.Overwritten.{rows-more, part_at}
 use Rattle.p3_networks.proofs.radix_2_small_batch.networks.spread_rows.Goals as goal
@@ -29,13 +30,6 @@ sizes_whole : (len count size : ℕ) → 1 ≤ count → len ≡ count * size �
 sizes_whole len count size some whole =
     let is : len ≡ count * (len / count) = whole ∙ ap (λ n. count * n) (sym (block_size len count size some whole)) in
     omega (arith, is)
-
--- the size of a part, as the program has it, and one more row whose copies were counted
-part_size : (a size : ℕ) → a + size - a ≡ size
-part_size a size = omega arith
-
-row_counted : (q size made before now after : ℕ) → made ≡ size → now ≡ before + q * size → after ≡ now + made → after ≡ before + (q + 1) * size
-row_counted q size made before now after full so_far row = let next : (q + 1) * size ≡ q * size + size = omega arith in omega (arith, next, full, so_far, row)
 
 pub overflow_mul-start : goal.overflow_mul-start
 overflow_mul-start g c =
@@ -110,7 +104,7 @@ loop-q-preserved g c =
     let size_is : size ≡ c.args.copies * w = block_size len c.args.count (c.args.copies * w) c.requires.some c.requires.size in
     let whole : len ≡ c.args.count * size = c.requires.size ∙ ap (λ m. c.args.count * m) (sym size_is) in
     let room = block_room q c.args.count size (length c.loop-q.values) c.loop-q-test.true (c.loop-q.auto.values ∙ whole) in
-    let m = part_size (q * size) size in
+    let m = add-sub_cancel_left (q * size) size in
     let part = take (n * w + w - n * w) (drop (n * w) c.args.rows.now) in
     let part_len : length part ≡ w = part_length c.args.rows.now (n * w) w (row_room c.args.first c.args.count q w (length c.args.rows.now) c.loop-q-test.true c.requires.rows) in
     let out = c.multiples_of_row.new.values in
@@ -128,9 +122,9 @@ loop-q-preserved g c =
           let column : j < w = mod_below k w c.requires.wide in
           ap (λ i. field.value (get_or out i field.ZERO)) (sym (ap (λ v. t * v + j) part_len ∙ div-add-mod' k w))
           ∙ c.multiples_of_row.ensures.values t j (div_below k w c.args.copies c.requires.wide (subst (λ v. k < v) size_is inside)) (subst (λ v. j < v) (sym part_len) column)
-          ∙ ap₂ field.ring.mul (ap field.value (part_at c.args.rows.now (n * w) (n * w + w - n * w) j field.ZERO (subst (λ v. j < v) (sym (part_size (n * w) w)) column))) (ap₂ (λ x y. field.ring.mul x (power field.ring y t)) weight root))
+          ∙ ap₂ field.ring.mul (ap field.value (part_at c.args.rows.now (n * w) (n * w + w - n * w) j field.ZERO (subst (λ v. j < v) (sym (add-sub_cancel_left (n * w) w)) column))) (ap₂ (λ x y. field.ring.mul x (power field.ring y t)) weight root))
           c.loop-q.invariant.values;
-      count = row_counted q size (c.args.copies * length part) c.args.products.now c.loop-q.products c.multiples_of_row.new.products (ap (λ v. c.args.copies * v) part_len ∙ sym size_is) c.loop-q.invariant.count c.multiples_of_row.ensures.count;
+      count = turn_counted q size (c.args.copies * length part) c.args.products.now c.loop-q.products c.multiples_of_row.new.products (ap (λ v. c.args.copies * v) part_len ∙ sym size_is) c.loop-q.invariant.count c.multiples_of_row.ensures.count;
     }
 
 pub returns-clause-values : goal.returns-clause-values

@@ -1,21 +1,16 @@
 use Rattle.std.proofs.Common.{◌≡◌, ℕ, ◌+◌, ◌-◌, ◌*◌, ◌/◌, ◌<◌, ◌≤◌, length, get_or, take, drop, refl, sym, ap, ◌∙◌, subst, arith, rules}
 use borrow.Author.Rules.{scaled_fits≤}
+use Rattle.std.proofs.Math.Nat.{add-sub_cancel_left}
 use Rattle.p3_matrix.specs.Butterflies.{dit_far, dit_near}
+use Rattle.p3_networks.proofs.Layers.Counts.{turn_counted}
 use Rattle.p3_networks.proofs.Layers.Halves.{block_size, part_length}
 use Rattle.p3_networks.proofs.Layers.Pairs.{far_done, near_done, pack_room, packs-more}
 use Rattle.p3_networks.proofs.Rows.Overwritten.{part_at, rows-none}
 use Rattle.p3_networks.proofs.radix_2_small_batch.pairs.dit_on_packs.Goals as goal
 
--- the size of a part, as the program has it
-part_size : (a size : ℕ) → a + size - a ≡ size
-part_size a size = omega arith
-
--- the pairs of a pack, and what one more pack counts
+-- the pairs of a pack
 pairs_fit : (pack width len size : ℕ) → pack * width + width ≤ len → size ≡ 2 * len → pack * (2 * width) + 2 * width ≤ size
 pairs_fit pack width len size room full = let spread : pack * (2 * width) ≡ 2 * (pack * width) = omega arith in omega (arith, room, full, spread)
-
-pack_counted : (pack width made before now after : ℕ) → width ≡ made → now ≡ before + pack * width → after ≡ now + made → after ≡ before + (pack + 1) * width
-pack_counted pack width made before now after is so_far more = let next : (pack + 1) * width ≡ pack * width + width = omega arith in omega (arith, next, is, so_far, more)
 
 pub overflow_mul-at : goal.overflow_mul-at
 overflow_mul-at g c =
@@ -78,14 +73,14 @@ loop-pack-preserved g c =
     let room = pack_room pack width _ len c.requires.whole.0 c.requires.wide c.WIDTH-width.ensures c.requires.whole.1 c.loop-pack-test.true in
     let all = pairs_fit pack width len (length c.loop-pack.values) room (c.loop-pack.auto.values ∙ c.requires.size) in
     let part = take (pack * (2 * width) + 2 * width - pack * (2 * width)) (drop (pack * (2 * width)) c.loop-pack.values) in
-    let at = λ (i : ℕ) (below : i < width). ap value (part_at c.args.twiddles.now (pack * width) (pack * width + width - pack * width) i zero (subst (λ n. i < n) (sym (part_size (pack * width) width)) below)) in
+    let at = λ (i : ℕ) (below : i < width). ap value (part_at c.args.twiddles.now (pack * width) (pack * width + width - pack * width) i zero (subst (λ n. i < n) (sym (add-sub_cancel_left (pack * width) width)) below)) in
     record {
       packs = packs-more value zero (λ b. dit_near field.ring (twiddle b)) (λ b. dit_far field.ring (twiddle b)) width c.args.values.now c.loop-pack.values c.dit_on_pack.new.values pack (2 * width) refl all
           (c.dit_on_pack.auto.values ∙ part_length c.loop-pack.values (pack * (2 * width)) (2 * width) all)
           (λ i below. c.dit_on_pack.ensures.near i (subst (λ n. i < n) c.WIDTH-width.ensures below) ∙ ap (λ t. dit_near field.ring t (value (get_or part (2 * i) zero)) (value (get_or part (2 * i + 1) zero))) (at i below))
           (λ i below. c.dit_on_pack.ensures.far i (subst (λ n. i < n) c.WIDTH-width.ensures below) ∙ ap (λ t. dit_far field.ring t (value (get_or part (2 * i) zero)) (value (get_or part (2 * i + 1) zero))) (at i below))
           c.loop-pack.invariant.packs;
-      count = pack_counted pack width _ c.args.products.now c.loop-pack.products c.dit_on_pack.new.products c.WIDTH-width.ensures c.loop-pack.invariant.count c.dit_on_pack.ensures.count;
+      count = turn_counted pack width _ c.args.products.now c.loop-pack.products c.dit_on_pack.new.products (sym c.WIDTH-width.ensures) c.loop-pack.invariant.count c.dit_on_pack.ensures.count;
     }
 
 pub returns-clause-near : goal.returns-clause-near

@@ -11,8 +11,9 @@ use Rattle.p3_networks.specs.Twiddles.{forward_root}
 use Rattle.p3_networks.proofs.Layers.Blocks.{row_below}
 use Rattle.p3_networks.proofs.Layers.Counts.{count_more}
 use Rattle.p3_networks.proofs.Layers.Halves.{in_first, part_length}
+use Rattle.p3_networks.proofs.Layers.Sizes.{second_shift}
 use Rattle.p3_networks.proofs.Networks.Runs.{slot_point}
-use Rattle.p3_networks.proofs.Networks.Slots.{rows_of_slots, slot_room, slot_size, slots_are, slots_whole, values_of_shifted}
+use Rattle.p3_networks.proofs.Networks.Slots.{rows_of_slots, slot_room, slot_size, slots_whole, values_of_shifted}
 use Rattle.p3_networks.proofs.Polynomials.ByIndex.{poly_same}
 use Rattle.p3_networks.proofs.Polynomials.Cosets.{point-mul}
 use Rattle.p3_networks.proofs.Rows.Overwritten.{part-more, rows-none}
@@ -25,7 +26,7 @@ overflow_mul-start g c =
     let a = c.args.added_bits in
     let len = length c.args.values.now in
     let is = slot_size len k a c.args.width c.requires.small c.requires.size in
-    let room = slot_room c.loop-place.place a (2 ^ k * c.args.width) len (omega (arith, slots_are k a c.requires.small, c.loop-place-test.true)) (c.requires.size ∙ slots_whole k a c.args.width) in
+    let room = slot_room c.loop-place.place a (2 ^ k * c.args.width) len (omega (arith, second_shift k a c.requires.small, c.loop-place-test.true)) (c.requires.size ∙ slots_whole k a c.args.width) in
     rw is (omega (arith, room))
 
 pub overflow_add-slot : goal.overflow_add-slot
@@ -34,7 +35,7 @@ overflow_add-slot g c =
     let a = c.args.added_bits in
     let len = length c.args.values.now in
     let is = slot_size len k a c.args.width c.requires.small c.requires.size in
-    let room = slot_room c.loop-place.place a (2 ^ k * c.args.width) len (omega (arith, slots_are k a c.requires.small, c.loop-place-test.true)) (c.requires.size ∙ slots_whole k a c.args.width) in
+    let room = slot_room c.loop-place.place a (2 ^ k * c.args.width) len (omega (arith, second_shift k a c.requires.small, c.loop-place-test.true)) (c.requires.size ∙ slots_whole k a c.args.width) in
     rw is (omega (arith, room))
 
 pub offset_bounds-others-start : goal.offset_bounds-others-start
@@ -43,7 +44,7 @@ offset_bounds-others-start g c =
     let a = c.args.added_bits in
     let len = length c.args.values.now in
     let is = slot_size len k a c.args.width c.requires.small c.requires.size in
-    let room = slot_room c.loop-place.place a (2 ^ k * c.args.width) len (omega (arith, slots_are k a c.requires.small, c.loop-place-test.true)) (c.requires.size ∙ slots_whole k a c.args.width) in
+    let room = slot_room c.loop-place.place a (2 ^ k * c.args.width) len (omega (arith, second_shift k a c.requires.small, c.loop-place-test.true)) (c.requires.size ∙ slots_whole k a c.args.width) in
     let below : c.loop-place.place * (len / (1 * 2 ^ a % 18446744073709551616)) ≤ len = rw is (omega (arith, room)) in
     scaled_fits≤ _ _ _ below (search rules)
 
@@ -53,7 +54,7 @@ slice_bounds-slot-end g c =
     let a = c.args.added_bits in
     let len = length c.args.values.now in
     let is = slot_size len k a c.args.width c.requires.small c.requires.size in
-    let room = slot_room c.loop-place.place a (2 ^ k * c.args.width) len (omega (arith, slots_are k a c.requires.small, c.loop-place-test.true)) (c.requires.size ∙ slots_whole k a c.args.width) in
+    let room = slot_room c.loop-place.place a (2 ^ k * c.args.width) len (omega (arith, second_shift k a c.requires.small, c.loop-place-test.true)) (c.requires.size ∙ slots_whole k a c.args.width) in
     rw is (omega (arith, room, is, c.loop-place.auto.others, c.split_at_mut-coefficients.ensures.back_len))
 
 pub evaluate_from-requires-clause-source : goal.evaluate_from-requires-clause-source
@@ -67,7 +68,7 @@ evaluate_from-requires-clause-size g c =
     let len = length c.args.values.now in
     let whole = len / (1 * 2 ^ a % 18446744073709551616) in
     let is = slot_size len k a c.args.width c.requires.small c.requires.size in
-    let room = slot_room c.loop-place.place a (2 ^ k * c.args.width) len (omega (arith, slots_are k a c.requires.small, c.loop-place-test.true)) (c.requires.size ∙ slots_whole k a c.args.width) in
+    let room = slot_room c.loop-place.place a (2 ^ k * c.args.width) len (omega (arith, second_shift k a c.requires.small, c.loop-place-test.true)) (c.requires.size ∙ slots_whole k a c.args.width) in
     part_length c.loop-place.others (c.loop-place.place * whole) whole (rw is (omega (arith, room, is, c.loop-place.auto.others, c.split_at_mut-coefficients.ensures.back_len))) ∙ is
 
 pub loop-place-init : goal.loop-place-init
@@ -90,7 +91,7 @@ loop-place-preserved g c =
     let len = length c.args.values.now in
     let whole = len / (1 * 2 ^ a % 18446744073709551616) in
     let is : whole ≡ 2 ^ k * w = slot_size len k a w c.requires.small c.requires.size in
-    let room = slot_room place a (2 ^ k * w) len (omega (arith, slots_are k a c.requires.small, c.loop-place-test.true)) (c.requires.size ∙ slots_whole k a w) in
+    let room = slot_room place a (2 ^ k * w) len (omega (arith, second_shift k a c.requires.small, c.loop-place-test.true)) (c.requires.size ∙ slots_whole k a w) in
     let fits : place * whole + whole ≤ length c.loop-place.others = rw is (omega (arith, room, is, c.loop-place.auto.others, c.split_at_mut-coefficients.ensures.back_len)) in
     let roots : AreRoots field.ring (k + a) gen = fewer_roots field.ring (k + a) _ c.requires.within g.met.F.TwoAdicField.roots_law in
     let coefficients = c.split_at_mut-coefficients.result.0.now in
@@ -151,7 +152,7 @@ returns-clause-values g c =
     (ap (λ x. point field.ring gen k x (rev k t)) first ∙ slot_point field.ring roots s k a 0 t (omega arith) p
     ∙ ap (λ n. point field.ring gen (k + a) s (rev (k + a) n)) whole))
     (λ p t j below q inside.
-    c.loop-place.invariant.slots.done p (t * w + j) (omega (arith, below, slots_are k a c.requires.small, c.loop-place-test.false)) (row_below t j w (2 ^ k) q inside) t j q inside refl
+    c.loop-place.invariant.slots.done p (t * w + j) (omega (arith, below, second_shift k a c.requires.small, c.loop-place-test.false)) (row_below t j w (2 ^ k) q inside) t j q inside refl
     ∙ same _ j inside)
 
 pub returns-clause-count : goal.returns-clause-count
@@ -160,7 +161,7 @@ returns-clause-count g c =
     let a = c.args.added_bits in
     let turn = c.args.width * (k * 2 ^ k / 2) + 2 ^ k * c.args.width in
     let rows : 1 * 2 ^ k % 18446744073709551616 ≡ 2 ^ k = one_shl k 64 (omega (arith, c.requires.small)) in
-    let count = slots_are k a c.requires.small in
+    let count = second_shift k a c.requires.small in
     let all : c.loop-place.place + 1 ≡ 2 ^ a = omega (arith, count, pow_pos a, c.loop-place-test.false, c.loop-place.auto.place-end) in
     let e : 1 * ((c.loop-place.place + 1) * turn) ≡ 2 ^ a * turn = ap (λ n. 1 * (n * turn)) all ∙ omega arith in
     let last : c.evaluate.new.products ≤ c.loop-place.products + 1 * turn = omega (arith, c.shift_values.ensures.count, ap (λ n. n * c.args.width) rows, c.evaluate.ensures.count) in
