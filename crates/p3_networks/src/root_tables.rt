@@ -1,6 +1,6 @@
 //! The powers of the roots, for both directions and all heights up to one, in bit reversed order.
 
-ghost use Rattle.std.specs.Prelude.{◌≡◌, ◌⊎◌, ℕ, ◌+◌, ◌-◌, ◌*◌, ◌^◌, ◌<◌, ◌≤◌, IsOk, IfOk, OnOk, OnErr, length};
+ghost use Rattle.std.specs.Prelude.{◌≡◌, ◌⊎◌, ℕ, ◌+◌, ◌-◌, ◌*◌, ◌^◌, ◌/◌, ◌<◌, ◌≤◌, IsOk, IfOk, OnOk, OnErr, length};
 ghost use Rattle.p3_networks.specs.Twiddles.{AreTwiddles, AreTwiddlesFromStart, backward_root, block_powers, forward_root};
 
 use crate::twiddles::reversed_powers;
@@ -22,7 +22,7 @@ pub struct RootTables<F: TwoAdicField> {
 }
 
 impl<F: TwoAdicField> Model for RootTables<F> {
-    ghost use Rattle.std.specs.Prelude.{ℕ};
+    ghost use Rattle.std.specs.Prelude.{◌≡◌, ℕ, ◌^◌, ◌/◌, length};
     ghost use Rattle.p3_networks.specs.Twiddles.{AreTwiddlesFromStart, backward_root, block_powers, forward_root, items_if_any};
 
     ghost Value = { ℕ };
@@ -30,7 +30,9 @@ impl<F: TwoAdicField> Model for RootTables<F> {
     ghost view = { λ t. t.log_h };
 
     ghost invariant = { λ t.
-        AreTwiddlesFromStart F.Field t.log_h (block_powers F.Field (forward_root F.Field F.generator)) (items_if_any t.forward)
+        (length (items_if_any t.forward) ≡ 2 ^ t.log_h / 2)
+        × (length (items_if_any t.backward) ≡ 2 ^ t.log_h / 2)
+        × AreTwiddlesFromStart F.Field t.log_h (block_powers F.Field (forward_root F.Field F.generator)) (items_if_any t.forward)
         × AreTwiddlesFromStart F.Field t.log_h (block_powers F.Field (backward_root F.Field F.generator)) (items_if_any t.backward) };
 }
 
@@ -76,9 +78,10 @@ impl<F: TwoAdicField> RootTables<F> {
         Ok(())
     }
 
-    /// The powers of the generators.
+    /// The powers of the generators: half as many as the height, and none for height one.
     pub fn forward(&self) -> &[F]
-        ensures { AreTwiddlesFromStart F.Field.own self.now (block_powers F.Field.own (forward_root F.Field.own F.generator)) result.now }
+        ensures size { length result.now ≡ 2 ^ self.now / 2 }
+        ensures table { AreTwiddlesFromStart F.Field.own self.now (block_powers F.Field.own (forward_root F.Field.own F.generator)) result.now }
     {
         match &self.forward {
             Some(powers) => powers.as_slice(),
@@ -86,9 +89,10 @@ impl<F: TwoAdicField> RootTables<F> {
         }
     }
 
-    /// The powers of their inverses.
+    /// The powers of their inverses, as many.
     pub fn backward(&self) -> &[F]
-        ensures { AreTwiddlesFromStart F.Field.own self.now (block_powers F.Field.own (backward_root F.Field.own F.generator)) result.now }
+        ensures size { length result.now ≡ 2 ^ self.now / 2 }
+        ensures table { AreTwiddlesFromStart F.Field.own self.now (block_powers F.Field.own (backward_root F.Field.own F.generator)) result.now }
     {
         match &self.backward {
             Some(powers) => powers.as_slice(),

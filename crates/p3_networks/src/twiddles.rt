@@ -22,14 +22,16 @@ pub struct Twiddles<F: TwoAdicField> {
 }
 
 impl<F: TwoAdicField> Model for Twiddles<F> {
-    ghost use Rattle.std.specs.Prelude.{ℕ, false};
+    ghost use Rattle.std.specs.Prelude.{◌≡◌, ℕ, ◌-◌, ◌^◌, length, false};
     ghost use Rattle.p3_networks.specs.Twiddles.{AreTwiddlesOfLayers, items_if_any, root_powers};
 
     ghost Value = { ℕ };
 
     ghost view = { λ t. t.log_h };
 
-    ghost invariant = { λ t. AreTwiddlesOfLayers F.Field t.log_h (root_powers F.Field F.generator false) (items_if_any t.powers) };
+    ghost invariant = { λ t.
+        (length (items_if_any t.powers) ≡ 2 ^ t.log_h - 1)
+        × AreTwiddlesOfLayers F.Field t.log_h (root_powers F.Field F.generator false) (items_if_any t.powers) };
 }
 
 impl<F: TwoAdicField> Twiddles<F> {
@@ -70,9 +72,10 @@ impl<F: TwoAdicField> Twiddles<F> {
         Ok(())
     }
 
-    /// The twiddles of all layers that are there.
+    /// The twiddles of all layers that are there, and no more.
     pub fn as_slice(&self) -> &[F]
-        ensures { AreTwiddlesOfLayers F.Field.own self.now (root_powers F.Field.own F.generator false) result.now }
+        ensures size { length result.now ≡ 2 ^ self.now - 1 }
+        ensures table { AreTwiddlesOfLayers F.Field.own self.now (root_powers F.Field.own F.generator false) result.now }
     {
         match &self.powers {
             Some(powers) => powers.as_slice(),
@@ -113,7 +116,8 @@ pub fn root_layers<F: TwoAdicField>(
 ) -> Result<Vec<F>, DftError>
     requires within { layers ≤ F.TWO_ADICITY }
     requires small { layers < 64 }
-    ensures { IfOk result (λ v. AreTwiddlesOfLayers F.Field.own layers (root_powers F.Field.own F.generator inverse) v.items) }
+    ensures size { IfOk result (λ v. length v.items ≡ 2 ^ layers - 1) }
+    ensures table { IfOk result (λ v. AreTwiddlesOfLayers F.Field.own layers (root_powers F.Field.own F.generator inverse) v.items) }
 {
     let mut powers = Vec::with_capacity(alloc, (1 << layers) - 1)?;
     for l in 0..layers {

@@ -34,6 +34,9 @@ pub two_halves : (k : ℕ) → (k ≡ 0 → ⊥) → 2 ^ k ≡ 2 * 2 ^ (k - 1)
 two_halves zero some = absurd (some refl)
 two_halves (suc k) some = let e : suc k - 1 ≡ k = omega arith in let d : 2 ^ suc k ≡ 2 * 2 ^ k = omega arith in d ∙ ap (λ n. 2 * 2 ^ n) (sym e)
 
+pub half_power : (k : ℕ) → (k ≡ 0 → ⊥) → 2 ^ k / 2 ≡ 2 ^ (k - 1)
+half_power k some = omega (arith, two_halves k some)
+
 -- a product for each two rows and each layer
 half_count : (k : ℕ) → k * 2 ^ k / 2 ≡ k * 2 ^ (k - 1)
 half_count zero = refl

@@ -1,6 +1,6 @@
 //! The tables of cosets that the engine keeps until it ends.
 
-ghost use Rattle.std.specs.Prelude.{◌≡◌, ◌⊎◌, ◌↔◌, ℕ, ◌+◌, ◌<◌, ◌≤◌, [], ◌∷◌, ◌++◌, length, get_or};
+ghost use Rattle.std.specs.Prelude.{◌≡◌, ◌⊎◌, ◌↔◌, ℕ, ◌+◌, ◌-◌, ◌^◌, ◌<◌, ◌≤◌, [], ◌∷◌, ◌++◌, length, get_or};
 ghost use Rattle.std.specs.Prelude.{IsTrue, IsOk, IfOk, OnOk, OnErr, IfSome, IsNone};
 ghost use Rattle.p3_networks.specs.Twiddles.{Coset, HasCoset, HasCosets, IsCosetAt, IsCosetOf, IsCosetTable};
 ghost use Rattle.p3_networks.specs.Twiddles.{AddsCosets};
@@ -23,7 +23,7 @@ pub struct CosetTable<F: TwoAdicField> {
 }
 
 impl<F: TwoAdicField> Model for CosetTable<F> {
-    ghost use Rattle.std.specs.Prelude.{◌≤◌};
+    ghost use Rattle.std.specs.Prelude.{◌≡◌, ◌-◌, ◌^◌, ◌≤◌, length};
     ghost use Rattle.p3_networks.specs.Twiddles.{Coset, IsCosetTable};
 
     ghost Value = { Coset F };
@@ -31,7 +31,8 @@ impl<F: TwoAdicField> Model for CosetTable<F> {
     ghost view = { λ t. record { log_h = t.log_h; shift = t.shift } };
 
     ghost invariant = { λ t.
-        IsCosetTable F.Field F.generator (F.Field.value t.shift) t.log_h t.twiddles.items × (t.log_h ≤ F.TWO_ADICITY) };
+        (length t.twiddles.items ≡ 2 ^ t.log_h - 1)
+        × IsCosetTable F.Field F.generator (F.Field.value t.shift) t.log_h t.twiddles.items × (t.log_h ≤ F.TWO_ADICITY) };
 }
 
 impl<F: TwoAdicField> CosetTable<F> {
@@ -59,6 +60,7 @@ impl<F: TwoAdicField> CosetTable<F> {
     /// The twiddles.
     pub fn twiddles(&self) -> &[F]
         ensures within { self.now.log_h ≤ F.TWO_ADICITY }
+        ensures size { length result.now ≡ 2 ^ self.now.log_h - 1 }
         ensures table { IsCosetTable F.Field.own F.generator (F.value self.now.shift) self.now.log_h result.now }
     {
         self.twiddles.as_slice()
@@ -69,7 +71,8 @@ impl<F: TwoAdicField> CosetTable<F> {
 fn coset_layers<F: TwoAdicField>(alloc: Global, log_h: usize, shift: F) -> Result<Vec<F>, DftError>
     requires within { log_h ≤ F.TWO_ADICITY }
     requires small { log_h < 64 }
-    ensures { IfOk result (λ v. IsCosetTable F.Field.own F.generator (F.value shift) log_h v.items) }
+    ensures size { IfOk result (λ v. length v.items ≡ 2 ^ log_h - 1) }
+    ensures table { IfOk result (λ v. IsCosetTable F.Field.own F.generator (F.value shift) log_h v.items) }
 {
     let mid = (log_h + 1) / 2;
     let mut twiddles = Vec::with_capacity(alloc, (1 << log_h) - 1)?;

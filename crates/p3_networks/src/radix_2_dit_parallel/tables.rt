@@ -1,6 +1,6 @@
 //! The powers of the roots that the engine keeps until it ends.
 
-ghost use Rattle.std.specs.Prelude.{◌≡◌, ◌⊎◌, ◌+◌, ◌/◌, ◌≤◌, ◌<◌, IsOk, OnOk, OnErr};
+ghost use Rattle.std.specs.Prelude.{◌≡◌, ◌⊎◌, ◌+◌, ◌-◌, ◌^◌, ◌/◌, ◌≤◌, ◌<◌, IsOk, OnOk, OnErr, length};
 ghost use Rattle.p3_networks.specs.Twiddles.{AreTwiddlesFromStart, AreTwiddlesOfLayers, block_powers, root_of, root_powers};
 
 use crate::root_tables::RootTables;
@@ -25,7 +25,7 @@ pub struct Tables<F: TwoAdicField> {
 }
 
 impl<F: TwoAdicField> Model for Tables<F> {
-    ghost use Rattle.std.specs.Prelude.{ℕ, ◌+◌, ◌/◌, ◌≤◌, true, false};
+    ghost use Rattle.std.specs.Prelude.{◌≡◌, ℕ, ◌+◌, ◌-◌, ◌^◌, ◌/◌, ◌≤◌, length, true, false};
     ghost use Rattle.p3_networks.specs.Twiddles.{AreTwiddlesOfLayers, items_if_any, root_powers};
 
     ghost Value = { ℕ };
@@ -33,7 +33,9 @@ impl<F: TwoAdicField> Model for Tables<F> {
     ghost view = { λ t. t.high };
 
     ghost invariant = { λ t.
-        AreTwiddlesOfLayers F.Field ((t.high + 1) / 2) (root_powers F.Field F.generator false) (items_if_any t.forward)
+        (length (items_if_any t.forward) ≡ 2 ^ ((t.high + 1) / 2) - 1)
+        × (length (items_if_any t.backward) ≡ 2 ^ ((t.high + 1) / 2) - 1)
+        × AreTwiddlesOfLayers F.Field ((t.high + 1) / 2) (root_powers F.Field F.generator false) (items_if_any t.forward)
         × AreTwiddlesOfLayers F.Field ((t.high + 1) / 2) (root_powers F.Field F.generator true) (items_if_any t.backward)
         × (t.high ≤ F.TWO_ADICITY) };
 }
@@ -82,7 +84,8 @@ impl<F: TwoAdicField> Tables<F> {
 
     /// The powers of the generators, or of their inverses, for the first half.
     pub fn low(&self, inverse: bool) -> &[F]
-        ensures { AreTwiddlesOfLayers F.Field.own ((self.now + 1) / 2) (root_powers F.Field.own F.generator inverse) result.now }
+        ensures size { length result.now ≡ 2 ^ ((self.now + 1) / 2) - 1 }
+        ensures table { AreTwiddlesOfLayers F.Field.own ((self.now + 1) / 2) (root_powers F.Field.own F.generator inverse) result.now }
     {
         let powers = if inverse {
             &self.backward
@@ -98,6 +101,7 @@ impl<F: TwoAdicField> Tables<F> {
     /// The powers of the generators, or of their inverses, in bit reversed order, for the second half.
     pub fn high(&self, inverse: bool) -> &[F]
         ensures within { self.now ≤ F.TWO_ADICITY }
+        ensures size { length result.now ≡ 2 ^ self.now / 2 }
         ensures table { AreTwiddlesFromStart F.Field.own self.now
             (block_powers F.Field.own (root_of F.Field.own F.generator inverse)) result.now }
     {

@@ -1,4 +1,4 @@
-use Rattle.std.proofs.Common.{◌≡◌, ◌+◌, ◌*◌, ◌^◌, ap, ap₂, ◌∙◌, arith, add-one}
+use Rattle.std.proofs.Common.{◌≡◌, ◌+◌, ◌*◌, ◌-◌, ◌^◌, length, ap, ap₂, ◌∙◌, arith, add-one}
 use Rattle.std.proofs.lemmas.Nat.{pow_pos}
 use Rattle.p3_field.specs.Ring.{power}
 use Rattle.p3_field.proofs.Rings
@@ -24,5 +24,8 @@ loop-l-preserved g c =
           ∙ Rings.one-mul field.ring _);
     }
 
-pub returns : goal.returns
-returns g c = at_end (λ l. AreTwiddlesOfLayers g.F.Field l (root_powers g.F.Field g.F.TwoAdicField.generator c.args.inverse) c.loop-l.powers.items) c.loop-l.l c.args.layers c.loop-l.auto.l-end c.loop-l-test.false c.loop-l.invariant.layers
+pub returns-clause-size : goal.returns-clause-size
+returns-clause-size g c = at_end (λ l. length c.loop-l.powers.items ≡ 2 ^ l - 1) c.loop-l.l c.args.layers c.loop-l.auto.l-end c.loop-l-test.false c.loop-l.invariant.full
+
+pub returns-clause-table : goal.returns-clause-table
+returns-clause-table g c = at_end (λ l. AreTwiddlesOfLayers g.F.Field l (root_powers g.F.Field g.F.TwoAdicField.generator c.args.inverse) c.loop-l.powers.items) c.loop-l.l c.args.layers c.loop-l.auto.l-end c.loop-l-test.false c.loop-l.invariant.layers

@@ -44,7 +44,7 @@ dit_matrix-requires-clause-rooted g c =
 
 pub dit_matrix-requires-clause-twiddles : goal.dit_matrix-requires-clause-twiddles
 dit_matrix-requires-clause-twiddles g c =
-    fewer_layers g.F.Field (root_powers g.F.Field g.F.TwoAdicField.generator false) c.log2_strict_usize-log_h.result c.make.new.self _ c.in_ok-make.ensures.made c.as_slice-twiddles.ensures
+    fewer_layers g.F.Field (root_powers g.F.Field g.F.TwoAdicField.generator false) c.log2_strict_usize-log_h.result c.make.new.self _ c.in_ok-make.ensures.made c.as_slice-twiddles.ensures.table
 
 pub returns-clause-values : goal.returns-clause-values
 returns-clause-values g c =

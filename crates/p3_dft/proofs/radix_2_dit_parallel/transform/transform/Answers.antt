@@ -28,7 +28,7 @@ returns-clause-values g c r j p q =
     let roots : AreRoots field.ring (mid + left) root = fewer_roots field.ring (mid + left) _ (omega (arith, c.requires.there, c.high.ensures.within)) (are_roots field gen inverse g.met.F.TwoAdicField.roots_law) in
     let f = λ (u : ℕ). field.ring.mul ((values_of field c.args.mat.now).entry u j) (factor field c.args.scale) in
     c.network.ensures.values root field.ring.one roots
-    (low_table field gen inverse mid _ (2 ^ left) c.low.result.now (omega (arith, c.requires.there)) c.low.ensures)
+    (low_table field gen inverse mid _ (2 ^ left) c.low.result.now (omega (arith, c.requires.there)) c.low.ensures.table)
     (block_table field root mid (mid + left) c.args.tables.now c.high.result.now (omega (arith, c.requires.there)) c.high.ensures.table)
     r j (subst (λ (n : ℕ). r < 2 ^ n) (sym k_is) p) q
     ∙ ap (λ n. poly field.ring (2 ^ n) f (point field.ring root n field.ring.one (rev n r))) k_is

@@ -172,8 +172,8 @@ returns-in_err-make-clause-later g c = later_with_heights c.args.self.now _ _ _ 
 
 pub extend-requires-clause-twiddles : goal.extend-requires-clause-twiddles
 extend-requires-clause-twiddles g c = record {
-  size = λ l below. c.forward-forward.ensures.size l (lt_of_lt_of_le below c.in_ok-make.ensures.made);
-  entries = λ l b below inside. c.forward-forward.ensures.entries l b (lt_of_lt_of_le below c.in_ok-make.ensures.made) inside;
+  size = λ l below. c.forward-forward.ensures.table.size l (lt_of_lt_of_le below c.in_ok-make.ensures.made);
+  entries = λ l b below inside. c.forward-forward.ensures.table.entries l b (lt_of_lt_of_le below c.in_ok-make.ensures.made) inside;
 }
 
 low_layer : (l k a n : ℕ) → l < k → k + a ≤ n → l < n
@@ -181,8 +181,8 @@ low_layer l k a n below made = omega (arith, below, made)
 
 pub interpolate_reversed-requires-clause-twiddles : goal.interpolate_reversed-requires-clause-twiddles
 interpolate_reversed-requires-clause-twiddles g c = record {
-  size = λ l below. c.backward-backward.ensures.size l (low_layer l _ _ _ below c.in_ok-make.ensures.made);
-  entries = λ l b below inside. c.backward-backward.ensures.entries l b (low_layer l _ _ _ below c.in_ok-make.ensures.made) inside;
+  size = λ l below. c.backward-backward.ensures.table.size l (low_layer l _ _ _ below c.in_ok-make.ensures.made);
+  entries = λ l b below inside. c.backward-backward.ensures.table.entries l b (low_layer l _ _ _ below c.in_ok-make.ensures.made) inside;
 }
 
 whole_kept : {T : Type 0} (m out : RowMajor T) → IsRowMajor m → HasShapeOf out m → length out.values ≡ length m.values → IsRowMajor out

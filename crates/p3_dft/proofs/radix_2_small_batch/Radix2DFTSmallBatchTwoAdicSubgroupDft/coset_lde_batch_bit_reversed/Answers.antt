@@ -72,8 +72,8 @@ extend_in_slots-requires-clause-twiddles g c =
     let top = c.log2_strict_usize-log_h.result + c.args.added_bits in
     let there : top ≤ c.self.inside.tables = until_prepared _ top (subst (λ (e : Tabled). IsPrepared e top) (sym c.self.view_is) (c.idft_batch.ensures.later.keeps top c.in_ok-prepare.ensures.prepares)) in
     record {
-      size = λ l below. c.forward-twiddles.ensures.size l (omega (arith, below, there));
-      entries = λ l b below inside. c.forward-twiddles.ensures.entries l b (omega (arith, below, there)) inside;
+      size = λ l below. c.forward-twiddles.ensures.table.size l (omega (arith, below, there));
+      entries = λ l b below inside. c.forward-twiddles.ensures.table.entries l b (omega (arith, below, there)) inside;
     }
 
 pub extend_in_slots-requires-clause-within : goal.extend_in_slots-requires-clause-within

@@ -46,7 +46,7 @@ evaluate-requires-clause-some g c = some_log c.height-height.result c.log2_stric
 
 pub evaluate-requires-clause-twiddles : goal.evaluate-requires-clause-twiddles
 evaluate-requires-clause-twiddles g c =
-    fewer_from_start g.F.Field (block_powers g.F.Field (forward_root g.F.Field g.F.TwoAdicField.generator)) c.log2_strict_usize-log_h.result c.make.new.self _ c.in_ok-make.ensures.made c.forward-twiddles.ensures
+    fewer_from_start g.F.Field (block_powers g.F.Field (forward_root g.F.Field g.F.TwoAdicField.generator)) c.log2_strict_usize-log_h.result c.make.new.self _ c.in_ok-make.ensures.made c.forward-twiddles.ensures.table
 
 pub returns-clause-values : goal.returns-clause-values
 returns-clause-values g c = rw (← c.into_row_major_matrix-mat.ensures) c.evaluate.ensures.values

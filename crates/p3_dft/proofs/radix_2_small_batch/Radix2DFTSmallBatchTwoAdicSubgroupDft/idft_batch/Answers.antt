@@ -54,7 +54,7 @@ interpolate-requires-clause-some g c = some_log c.height-height.result c.log2_st
 
 pub interpolate-requires-clause-twiddles : goal.interpolate-requires-clause-twiddles
 interpolate-requires-clause-twiddles g c =
-    fewer_from_start g.F.Field (block_powers g.F.Field (backward_root g.F.Field g.F.TwoAdicField.generator)) c.log2_strict_usize-log_h.result c.make.new.self _ c.in_ok-make.ensures.made c.backward-twiddles.ensures
+    fewer_from_start g.F.Field (block_powers g.F.Field (backward_root g.F.Field g.F.TwoAdicField.generator)) c.log2_strict_usize-log_h.result c.make.new.self _ c.in_ok-make.ensures.made c.backward-twiddles.ensures.table
 
 pub returns-clause-coefficients : goal.returns-clause-coefficients
 returns-clause-coefficients g c = rw (← c.into_row_major_matrix-mat.ensures) c.interpolate.ensures.coefficients

@@ -1,8 +1,9 @@
-use Rattle.std.proofs.Common.{◌≡◌, ℕ, ◌+◌, ◌*◌, ◌/◌, ◌^◌, leb, ap, ap₂, ◌∙◌, subst, arith, add-one}
+use Rattle.std.proofs.Common.{◌≡◌, ◌+◌, ◌*◌, ◌-◌, ◌/◌, ◌^◌, leb, length, ap, ap₂, ◌∙◌, arith, add-one}
 use Rattle.std.proofs.lemmas.Nat.{pow_pos}
 use Rattle.p3_field.specs.Ring.{power}
 use Rattle.p3_networks.specs.Twiddles.{AreTwiddlesOfLayers, coset_twiddles, forward_root, layer_place}
 use Rattle.p3_networks.proofs.Tables.MoreTwiddles.{one_more_layer}
+use Rattle.p3_networks.proofs.Layers.Counts.{at_end}
 use Rattle.p3_networks.proofs.radix_2_dit_parallel.coset_tables.coset_layers.Goals as goal
 
 pub loop-l-preserved : goal.loop-l-preserved
@@ -23,10 +24,12 @@ loop-l-preserved g c =
           ∙ ap₂ (λ x y. field.ring.mul x (power field.ring y (layer_place reversed l t))) c.exp_power_of_2-first.ensures c.two_adic_generator-root.ensures);
     }
 
-pub returns : goal.returns
-returns g c =
+pub returns-clause-size : goal.returns-clause-size
+returns-clause-size g c = at_end (λ l. length c.loop-l.twiddles.items ≡ 2 ^ l - 1) c.loop-l.l c.args.log_h c.loop-l.auto.l-end c.loop-l-test.false c.loop-l.invariant.full
+
+pub returns-clause-table : goal.returns-clause-table
+returns-clause-table g c =
     let field = g.F.Field in
     let log = c.args.log_h in
-    let all : c.loop-l.l ≡ log = omega arith in
-    subst (λ (n : ℕ). AreTwiddlesOfLayers field n (λ i t. coset_twiddles field (forward_root field g.F.TwoAdicField.generator) (field.value c.args.shift) log i (layer_place (leb ((log + 1) / 2) i) i t)) c.loop-l.twiddles.items)
-    all c.loop-l.invariant.layers
+    at_end (λ n. AreTwiddlesOfLayers field n (λ i t. coset_twiddles field (forward_root field g.F.TwoAdicField.generator) (field.value c.args.shift) log i (layer_place (leb ((log + 1) / 2) i) i t)) c.loop-l.twiddles.items)
+    c.loop-l.l log c.loop-l.auto.l-end c.loop-l-test.false c.loop-l.invariant.layers

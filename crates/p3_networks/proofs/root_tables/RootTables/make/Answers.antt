@@ -1,6 +1,7 @@
 use Rattle.std.proofs.Common.{◌≡◌, ◌+◌, ◌-◌, ◌^◌, ap, ◌∙◌, sym, arith, subst}
 use Rattle.p3_field.proofs.Roots.{inverse_roots}
 use Rattle.p3_networks.specs.Twiddles.{AreTwiddles, backward_root, block_powers, forward_root}
+use Rattle.p3_networks.proofs.Layers.Counts.{half_power}
 use Rattle.p3_networks.proofs.Tables.FromStart.{from_start, powers_from_one}
 use Rattle.p3_networks.proofs.root_tables.RootTables.make.Goals as goal
 
@@ -17,7 +18,10 @@ pub invariant_of-self : goal.invariant_of-self
 invariant_of-self g c =
     let field = g.F.Field in
     let n = c.args.log_h - 1 in
-    let whole : c.args.log_h ≡ n + 1 = omega (arith, c.if-log_h-self.false) in (
+    let whole : c.args.log_h ≡ n + 1 = omega (arith, c.if-log_h-self.false) in
+    let half = half_power c.args.log_h (λ e. absurd (omega (arith, e, whole))) in (
+      c.in_ok-forward.ensures.size ∙ sym half,
+      c.in_ok-backward.ensures.size ∙ sym half,
       from_start field (forward_root field g.F.TwoAdicField.generator) g.met.F.TwoAdicField.roots_law c.args.log_h c.in_ok-forward.forward.items c.requires.within
           (powers_from_one field (forward_root field g.F.TwoAdicField.generator) n (field.value c.ONE.result) (field.value c.two_adic_generator-generator.result) c.in_ok-forward.forward.items
           (ap field.value c.ONE.ensures ∙ g.met.F.Field.one_law) (c.two_adic_generator-generator.ensures ∙ ap (λ k. field.value (g.F.TwoAdicField.generator k)) whole) c.in_ok-forward.ensures),
