@@ -21,6 +21,10 @@ of_halves op whole low high n i d first second inside =
     let y : get_or (drop n whole) i d ≡ get_or whole (n + i) d = search (rules, places) in
     ap₂ op (ap (λ xs. get_or xs i d) first ∙ x) (ap (λ xs. get_or xs i d) second ∙ y)
 
+-- both halves of a list have one length
+pub halves_same : (low high n all : ℕ) → low ≡ n → high + n ≡ all → all ≡ 2 * n → low ≡ high
+halves_same low high n all first second whole = omega (arith, first, second, whole)
+
 -- a list that has each place of a half is as long as it
 pub half_within : (n m : ℕ) → 1 ≤ n → ((t : ℕ) → t < n → t < m) → n ≤ m
 half_within n m some inside = let last = inside (n - 1) (omega (arith, some)) in omega (arith, last, some)

@@ -1,7 +1,7 @@
 use Rattle.std.proofs.Common.{◌+◌, ◌*◌, ◌≤◌, length, refl, ◌∙◌, arith, rules}
 use borrow.Author.Rules.{scaled_fits≤}
 use Rattle.std.proofs.Math.Nat.{le_refl}
-use Rattle.p3_networks.proofs.Layers.Counts.{count_more, count_none}
+use Rattle.p3_networks.proofs.Layers.Counts.{count_more, count_none, at_end}
 use Rattle.p3_networks.proofs.Layers.Halves.{block_room, part_length, blocks-from, first-all, second-all}
 use Rattle.p3_networks.proofs.Rows.Overwritten.{rows-none}
 use Rattle.p3_networks.proofs.butterfly_layers.layer_from.Goals as goal
@@ -78,3 +78,6 @@ returns-clause-near g c =
 pub returns-clause-far : goal.returns-clause-far
 returns-clause-far g c =
     second-all g.F.Field.value g.F.Field.ZERO _ _ c.args.size _ c.args.values.now c.loop-b.values c.loop-b.b c.args.blocks c.loop-b-test.false c.loop-b.invariant.cells
+
+pub returns-clause-count : goal.returns-clause-count
+returns-clause-count g c = at_end (λ n. c.loop-b.products ≤ c.args.products.now + g.B.Butterfly.cost * (n * c.args.size)) c.loop-b.b c.args.blocks c.loop-b.auto.b-end c.loop-b-test.false c.loop-b.invariant.count

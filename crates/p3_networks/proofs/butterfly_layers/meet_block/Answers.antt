@@ -1,6 +1,7 @@
-use Rattle.std.proofs.Common.{◌≡◌, ℕ, ◌+◌, ◌*◌, ◌++◌, ◌<◌, get_or, ap, ◌∙◌, arith}
+use Rattle.std.proofs.Common.{◌≡◌, ℕ, ◌+◌, ◌*◌, ◌++◌, ◌<◌, get_or, ap, ◌∙◌, arith, ◌≤◌, sym, subst}
 use Rattle.p3_networks.proofs.Layers.Blocks.{row_below}
-use Rattle.p3_networks.proofs.Layers.Halves.{in_first, in_second, of_halves, each_cell}
+use Rattle.p3_networks.proofs.Layers.Halves.{in_first, in_second, of_halves, each_cell, halves_same}
+use Rattle.std.proofs.Math.Nat.{mul-le-mul}
 use Rattle.p3_networks.proofs.butterfly_layers.meet_block.Goals as goal
 
 pub returns-then-goes_by_block-clause-near : goal.returns-then-goes_by_block-clause-near
@@ -120,3 +121,18 @@ returns-then-is_column_of_packs-clause-far g c =
     ∙ c.meet_column.ensures.far n (omega (arith, inside, front.front_len))
     ∙ ap (λ (k : ℕ). far k (get_or c.split_at_mut-low.result.0.now n field.ZERO) (get_or c.split_at_mut-low.result.1.now n field.ZERO)) place
     ∙ of_halves (far t) block _ _ (h * w) n field.ZERO front.front front.back inside)
+
+pub returns-then-is_column_of_packs-clause-count : goal.returns-then-is_column_of_packs-clause-count
+returns-then-is_column_of_packs-clause-count g c = subst (λ n. c.meet_column.new.products ≤ c.args.products.now + g.R.Rule.cost * n) c.split_at_mut-low.ensures.front_len c.meet_column.ensures.count
+
+pub returns-then-goes_by_block-clause-count : goal.returns-then-goes_by_block-clause-count
+returns-then-goes_by_block-clause-count g c = subst (λ n. c.meet.new.products ≤ c.args.products.now + g.R.Rule.cost * n) c.split_at_mut-low.ensures.front_len c.meet.ensures.count
+
+pub meet_column-requires-clause-some : goal.meet_column-requires-clause-some
+meet_column-requires-clause-some g c = subst (λ n. 1 ≤ n) (sym c.split_at_mut-low.ensures.front_len) (mul-le-mul c.requires.some c.requires.wide)
+
+pub meet_column-requires-clause-size : goal.meet_column-requires-clause-size
+meet_column-requires-clause-size g c = halves_same _ _ _ _ c.split_at_mut-low.ensures.front_len c.split_at_mut-low.ensures.back_len c.requires.size
+
+pub meet-requires-clause-size : goal.meet-requires-clause-size
+meet-requires-clause-size g c = halves_same _ _ _ _ c.split_at_mut-low.ensures.front_len c.split_at_mut-low.ensures.back_len c.requires.size

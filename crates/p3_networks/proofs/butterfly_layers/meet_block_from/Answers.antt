@@ -1,4 +1,4 @@
-use Rattle.std.proofs.Common.{ap, ◌∙◌, arith}
+use Rattle.std.proofs.Common.{ap, ◌∙◌, arith, ◌+◌, ◌*◌}
 use Rattle.p3_networks.proofs.Layers.Halves.{in_first, in_second, of_halves}
 use Rattle.p3_networks.proofs.Rows.Overwritten.{lane_at}
 use Rattle.p3_networks.proofs.butterfly_layers.meet_block_from.Goals as goal
@@ -26,3 +26,6 @@ returns-clause-far g c i inside =
     ap field.value (in_second low high size i field.ZERO (omega (arith, c.apply_to_rows_oop.auto.dst_1, c.split_at_mut-low.ensures.front_len)))
     ∙ lane_at far field.value field.ZERO high c.split_at.result.0.now c.split_at.result.1.now i (omega (arith, front.front_len, front.back_len, c.requires.source)) (omega (arith, inside, front.front_len)) c.apply_to_rows_oop.ensures.far
     ∙ of_halves (λ (x y : g.row.F.Denot). far (field.value x) (field.value y)) c.args.source.now _ _ size i field.ZERO front.front front.back inside
+
+pub returns-clause-count : goal.returns-clause-count
+returns-clause-count g c = c.apply_to_rows_oop.ensures.count ∙ ap (λ n. c.args.products.now + g.B.Butterfly.cost * n) c.split_at.ensures.front_len

@@ -1,7 +1,7 @@
 use Rattle.std.proofs.Common.{◌+◌, ◌*◌, ◌/◌, ◌≤◌, length, refl, ◌∙◌, arith, rules}
 use borrow.Author.Rules.{scaled_fits≤}
 use Rattle.std.proofs.Math.Nat.{le_refl}
-use Rattle.p3_networks.proofs.Layers.Counts.{count_more, count_none}
+use Rattle.p3_networks.proofs.Layers.Counts.{count_more, count_none, at_end}
 use Rattle.p3_networks.proofs.Layers.Halves.{block_room, part_length, blocks-more, first-all, second-all}
 use Rattle.p3_networks.proofs.Rows.Overwritten.{rows-none}
 use Rattle.p3_networks.proofs.butterfly_layers.meet_blocks.Goals as goal
@@ -68,3 +68,6 @@ returns-clause-far g c =
 
 pub meet_block-requires-clause-there : goal.meet_block-requires-clause-there
 meet_block-requires-clause-there g c t inside = c.requires.there c.loop-b.b t c.loop-b-test.true inside
+
+pub returns-clause-count : goal.returns-clause-count
+returns-clause-count g c = at_end (λ n. c.loop-b.products ≤ c.args.products.now + g.R.Rule.cost * (n * (c.args.half * c.args.width))) c.loop-b.b c.args.blocks c.loop-b.auto.b-end c.loop-b-test.false c.loop-b.invariant.count

@@ -102,3 +102,6 @@ returns-clause-cost g c =
     let w = c.args.width in
     let e : c.loop-l.l ≡ k = omega arith in
     subst (λ (n : ℕ). c.loop-l.products ≤ c.args.products.now + n) (ap (λ n. 1 * (n * (2 ^ (k - 1) * w))) e ∙ layers_counted k w) c.loop-l.invariant.count
+
+pub layer-requires-clause-blocks : goal.layer-requires-clause-blocks
+layer-requires-clause-blocks g c = some_rows _ (c.args.log_h - 1 - c.loop-l.l) (left_shift c.args.log_h c.loop-l.l c.loop-l-test.true c.requires.small)

@@ -101,3 +101,6 @@ returns-clause-cost g c =
     let w = c.args.width in
     let e : c.loop-done.done ≡ k = omega arith in
     subst (λ (n : ℕ). c.loop-done.products ≤ c.args.products.now + n) (ap (λ n. 1 * (n * (2 ^ (k - 1) * w))) e ∙ layers_counted k w) c.loop-done.invariant.count
+
+pub layer-requires-clause-blocks : goal.layer-requires-clause-blocks
+layer-requires-clause-blocks g c = some_rows _ c.loop-done.done (done_shift c.args.log_h c.loop-done.done c.loop-done-test.true c.requires.small)

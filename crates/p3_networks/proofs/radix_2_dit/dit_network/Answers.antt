@@ -10,7 +10,7 @@ use Rattle.p3_networks.specs.Twiddles.{AreTwiddles, root_powers}
 use Rattle.p3_networks.proofs.Layers.Blocks.{halves_whole}
 use Rattle.p3_networks.proofs.Polynomials.Cosets.{point_of_one}
 use Rattle.p3_networks.proofs.Layers.Counts.{layer_counted, layers_counted}
-use Rattle.p3_networks.proofs.Layers.Sizes.{cells_by_halves, done_shift, left_shift}
+use Rattle.p3_networks.proofs.Layers.Sizes.{cells_by_halves, done_shift, left_shift, some_rows}
 use Rattle.p3_networks.proofs.Networks.Formulas.{whole_layer_taken}
 use Rattle.p3_networks.proofs.Networks.LowRows.{low_row, low_rows, low_start, low_end}
 use Rattle.p3_networks.proofs.Networks.Stages.{twiddle, twiddle_of_one}
@@ -104,3 +104,6 @@ returns-clause-count g c =
 
 pub layer_twiddles-twiddles-requires-clause-inside : goal.layer_twiddles-twiddles-requires-clause-inside
 layer_twiddles-twiddles-requires-clause-inside g c = layer_end c.loop-l.l c.args.log_h (length c.args.twiddles.now) c.loop-l-test.true c.requires.twiddles.size
+
+pub layer-requires-clause-blocks : goal.layer-requires-clause-blocks
+layer-requires-clause-blocks g c = some_rows _ (c.args.log_h - 1 - c.loop-l.l) (left_shift c.args.log_h c.loop-l.l c.loop-l-test.true c.requires.small)

@@ -1,15 +1,15 @@
-use Rattle.std.proofs.Common.{◌≡◌, ℕ, ◌+◌, ◌*◌, ◌-◌, ◌%◌, ◌^◌, ◌<◌, ◌≤◌, [], ◌∷◌, ◌++◌, suc, length, get_or, refl, sym, ap, ap₂, ◌∙◌, arith, lit≤, length-append}
+use Rattle.std.proofs.Common.{◌≡◌, ℕ, ◌+◌, ◌*◌, ◌-◌, ◌%◌, ◌^◌, ◌<◌, ◌≤◌, [], ◌∷◌, ◌++◌, suc, length, get_or, refl, sym, ap, ap₂, ◌∙◌, arith, lit≤, length-append, subst}
 use Rattle.std.proofs.Math.Nat.{pow-le-pow_right, two-pow-succ}
 use Rattle.std.proofs.lemmas.List.{get_or_push, get_or_read_under}
 use borrow.Author.Count.{below_more}
-use Rattle.std.proofs.lemmas.Nat.{one_shl}
+use Rattle.std.proofs.lemmas.Nat.{one_shl, pow_pos}
 use Rattle.p3_field.specs.Ring.{power}
 use Rattle.p3_field.proofs.Powers.{power-zero}
 use Rattle.p3_field.proofs.Roots.{inverse_root}
 use Rattle.p3_matrix.specs.BitOrder.{rev}
 use Rattle.p3_matrix.proofs.BitReversal.{rev_of_zero}
 use Rattle.p3_matrix.proofs.TwoPowers.{log_lt}
-use Rattle.p3_networks.specs.Twiddles.{backward_root, block_powers}
+use Rattle.p3_networks.specs.Twiddles.{backward_root, block_powers, AreTwiddles}
 use Rattle.p3_networks.proofs.Tables.InversePowers.{inverse_entry}
 use Rattle.p3_networks.proofs.Layers.Halves.{in_first}
 use Rattle.p3_networks.proofs.root_tables.inverse_powers.Goals as goal
@@ -82,3 +82,13 @@ loop-b-preserved g c =
           (λ e below. ap (λ xs. field.value (get_or xs e field.ZERO)) now ∙ ap field.value (in_first before (c.neg.result ∷ []) e field.ZERO (omega (arith, below, c.loop-b.invariant.size))) ∙ c.loop-b.invariant.entries e below)
           (ap (λ xs. field.value (get_or xs b field.ZERO)) now ∙ ap field.value (get_or_push before c.neg.result field.ZERO b c.loop-b.invariant.size) ∙ entry);
     }
+
+pub returns : goal.returns
+returns g c =
+    let field = g.F.Field in
+    let n = c.args.log_h - 1 in
+    let end : c.loop-b.b ≡ 2 ^ n = omega (arith, c.loop-b-test.false, c.loop-b.auto.b-end, c.requires.powers.size, pow_pos n) in
+    subst (λ (m : ℕ). AreTwiddles field m (block_powers field (backward_root field g.F.TwoAdicField.generator) n) c.loop-b.inverse.items) end c.loop-b.invariant
+
+pub neg-requires : goal.neg-requires
+neg-requires g c = g.met.F.Field.can_neg_law _

@@ -1,9 +1,9 @@
 use Rattle.std.proofs.Common.{◌≡◌, ◌+◌, ◌*◌, ◌-◌, ◌≤◌, take, drop, length, get_or, sym, ap, ap₂, ◌∙◌, arith, rules, ◌<◌, subst}
 use borrow.Author.Rules.{scaled_fits≤}
-use Rattle.std.proofs.Math.Nat.{add-sub_cancel_left, le-add_right}
+use Rattle.std.proofs.Math.Nat.{add-sub_cancel_left, le-add_right, le_of_eq}
 use Rattle.p3_field.specs.Ring.{power}
 use Rattle.p3_field.proofs.Powers.{power-zero, power-more, power_of_one}
-use Rattle.p3_networks.proofs.Layers.Counts.{turn_counted}
+use Rattle.p3_networks.proofs.Layers.Counts.{turn_counted, at_end}
 use Rattle.p3_networks.proofs.Layers.Halves.{block_room, part_length}
 use Rattle.p3_networks.proofs.Rows.Overwritten.{rows-none, rows-more, part_at, value_at}
 use Rattle.p3_networks.proofs.shifts.shift_values.Goals as goal
@@ -61,3 +61,9 @@ returns-then-eq-clause-values g c = λ i j below inside.
     let one : field.value c.args.shift ≡ field.ring.one = (g.met.F.Field.eq_law c.args.shift c.ONE.result).0 (search rules) ∙ ap field.value c.ONE.ensures ∙ g.met.F.Field.one_law in
     let x = field.value (get_or c.args.values.now (i * c.args.width + j) field.ZERO) in
     sym (ap (λ s. field.ring.mul x (power field.ring s i)) one ∙ ap (field.ring.mul x) (power_of_one field.ring i) ∙ field.ring.mul_one x)
+
+pub mul-power-requires : goal.mul-power-requires
+mul-power-requires g c = g.met.F.Field.can_mul_law _ _
+
+pub returns-clause-count : goal.returns-clause-count
+returns-clause-count g c = le_of_eq (at_end (λ n. c.loop-i.products ≡ c.args.products.now + n * c.args.width) c.loop-i.i c.args.height c.loop-i.auto.i-end c.loop-i-test.false c.loop-i.invariant.count)

@@ -40,3 +40,12 @@ loop-i-preserved g c =
       after = more_after field.value field.ZERO times old now new c.args.from c.loop-i.i c.index.result.now c.mul-multiple.result c.loop-i.invariant.size c.loop-i.auto.i c.in_ok-push.ensures.items c.loop-i.invariant.before among
           c.index.ensures (g.met.F.Field.mul_law _ _ _ c.mul-multiple.ensures) c.loop-i.invariant.after;
     }
+
+pub mul-multiple-requires : goal.mul-multiple-requires
+mul-multiple-requires g c = g.met.F.Field.can_mul_law _ _
+
+pub returns-clause-after : goal.returns-clause-after
+returns-clause-after g c n inside = c.loop-i.invariant.after n (omega (arith, inside, c.len-i-end.ensures, c.loop-i-test.false))
+
+pub loop-i-init : goal.loop-i-init
+loop-i-init g c = record { size = refl; before = λ n inside. refl; after = λ n none. absurd (omega (arith, none)) }

@@ -5,3 +5,9 @@ returns-then-width-eq1-clause-values g c = rw c.if-width-eq1.true c.low_runs.ens
 
 pub returns-else-width-eq1-clause-values : goal.returns-else-width-eq1-clause-values
 returns-else-width-eq1-clause-values g c = c.low_runs-else-width-eq1.ensures.values
+
+pub returns-then-width-eq1-clause-count : goal.returns-then-width-eq1-clause-count
+returns-then-width-eq1-clause-count g c = rw c.if-width-eq1.true c.low_runs.ensures.count
+
+pub low_runs-requires-clause-height : goal.low_runs-requires-clause-height
+low_runs-requires-clause-height g c = rw c.if-width-eq1.true at c.requires.height

@@ -1,17 +1,24 @@
-use Rattle.std.proofs.Common.{◌≡◌, ℕ, ◌+◌, ◌*◌, ◌-◌, ◌^◌, ◌%◌, ◌<◌, ◌≤◌, length, get_or, sym, ap, ap₂, ◌∙◌, subst, arith, lit≤, refl}
+use Rattle.std.proofs.Common.{◌≡◌, ℕ, ◌+◌, ◌*◌, ◌-◌, ◌^◌, ◌%◌, ◌<◌, ◌≤◌, length, get_or, sym, ap, ap₂, ◌∙◌, subst, arith, lit≤, refl, List, Bool}
 use Rattle.std.proofs.Math.Nat.{pow-le-pow_right, mul-le-mul_right, le-add_right}
 use Rattle.p3_matrix.specs.BitOrder.{rev}
 use Rattle.p3_matrix.specs.Butterflies.{dit_near, dit_far}
 use Rattle.p3_networks.specs.Cosets.{point}
-use Rattle.p3_networks.specs.Twiddles.{factor, scale_cost}
+use Rattle.p3_networks.specs.Twiddles.{factor, scale_cost, block_end, block_entries}
 use Rattle.p3_networks.proofs.Layers.Blocks.{blocks_whole}
 use Rattle.p3_networks.proofs.Layers.Counts.{layer_counted, layers_counted}
-use Rattle.p3_networks.proofs.Layers.Sizes.{cells_by_blocks, done_shift, left_shift}
+use Rattle.p3_networks.proofs.Layers.Sizes.{cells_by_blocks, done_shift, left_shift, some_rows}
 use Rattle.p3_networks.proofs.Networks.Formulas.{whole_layer_taken}
 use Rattle.p3_networks.proofs.Networks.HighRows.{high_row, high_rows, high_start, high_end}
 use Rattle.p3_networks.proofs.Networks.Stages.{twiddle}
 use Rattle.p3_networks.proofs.Tables.BlockTables.{block_count, blocks_within, run_entry}
 use Rattle.p3_networks.proofs.radix_2_dit_parallel.halves.high_network.Goals as goal
+
+-- a run has a twiddle in the first of its layers
+first_there : {T : Type 0} (by_layer : Bool) (mid left run : ℕ) (xs ys : List T) → 1 ≤ left → run < 2 ^ mid → ((l : ℕ) → mid ≤ l → l < mid + left → block_end by_layer l ≤ length xs)
+    → ys ≡ block_entries by_layer mid xs → run + 1 ≤ length ys
+first_there by_layer mid left run xs ys some below reaches is =
+    let count : length ys ≡ 2 ^ mid = ap length is ∙ block_count by_layer mid xs (reaches mid (omega arith) (omega (arith, some))) in
+    omega (arith, count, below)
 
 -- the half block of the first layer, of which there is one block
 first_half : (k : ℕ) → 1 ≤ k → k < 64 → 1 * 2 ^ (k - 1) % 18446744073709551616 ≡ 2 ^ (k - 1)
@@ -164,3 +171,12 @@ in_second_half mid done left below = omega arith
 pub of_layer-twiddles-requires-in-loop-done-clause-inside : goal.of_layer-twiddles-requires-in-loop-done-clause-inside
 of_layer-twiddles-requires-in-loop-done-clause-inside g c =
     c.requires.table (c.args.mid + c.loop-done.done) (le-add_right c.args.mid c.loop-done.done) (in_second_half c.args.mid c.loop-done.done c.args.left c.loop-done-test.true)
+
+pub scaled_layer-requires-clause-table : goal.scaled_layer-requires-clause-table
+scaled_layer-requires-clause-table g c = first_there c.args.table.by_layer c.args.mid c.args.left c.args.run c.args.table.twiddles.now c.of_layer-twiddles.result.now c.requires.some c.requires.run c.requires.table c.of_layer-twiddles.ensures
+
+pub layer_by_block-requires-clause-some : goal.layer_by_block-requires-clause-some
+layer_by_block-requires-clause-some g c = some_rows _ (c.args.left - 1 - c.loop-done.done) (left_shift c.args.left c.loop-done.done c.loop-done-test.true (omega (arith, c.requires.small)))
+
+pub layer_by_block-requires-clause-blocks : goal.layer_by_block-requires-clause-blocks
+layer_by_block-requires-clause-blocks g c = some_rows _ c.loop-done.done (done_shift c.args.left c.loop-done.done c.loop-done-test.true (omega (arith, c.requires.small)))

@@ -34,6 +34,10 @@ use Rattle.p3_networks.proofs.Rows.Overwritten.{part-more, put_before, put_in, p
 use Rattle.p3_networks.proofs.Tables.RootPowers.{fewer_roots}
 use Rattle.p3_networks.proofs.radix_2_dit_parallel.slots.extend_slots.Goals as goal
 
+-- the rows of the first slot have numbers
+first_ends : (k a : ℕ) → k + a < 64 → 0 + 2 ^ k < 18446744073709551616
+first_ends k a small = let fits : 2 ^ k < 2 ^ 64 = pow-lt (let l : k < 64 = omega (arith, small) in l) in omega (arith, fits)
+
 -- a slot is whole blocks
 blocks_whole : (k : ℕ) → 2 ^ ((k + 1) / 2) * 2 ^ (k - (k + 1) / 2) ≡ 2 ^ k
 blocks_whole k = let e : (k + 1) / 2 + (k - (k + 1) / 2) ≡ k = omega arith in sym (pow-add 2 ((k + 1) / 2) (k - (k + 1) / 2)) ∙ ap (λ n. 2 ^ n) e
@@ -520,3 +524,12 @@ returns-in-Err-clause-grows g c = le_trans c.loop-place.invariant.grows c.evalua
 
 pub returns-clause-grows : goal.returns-clause-grows
 returns-clause-grows g c = le_trans c.loop-place.invariant.grows c.evaluate_in_place.ensures.grows
+
+pub evaluate_in_place-requires-clause-rows : goal.evaluate_in_place-requires-clause-rows
+evaluate_in_place-requires-clause-rows g c = first_ends c.args.log_h c.args.added_bits c.requires.small
+
+pub returns-in-Err-clause-values : goal.returns-in-Err-clause-values
+returns-in-Err-clause-values g c = tt
+
+pub returns-in-Err-clause-published : goal.returns-in-Err-clause-published
+returns-in-Err-clause-published g c = tt

@@ -28,3 +28,12 @@ returns-else-left-gt0-clause-values g c root s roots table t j p l =
     let f = λ (q : ℕ). field.value (get_or c.args.values.now (q * c.args.width + j) field.ZERO) in
     let x = point field.ring root left (point field.ring root (c.args.mid + left) s (rev c.args.mid c.args.run)) (rev left t) in
     ap f first ∙ sym (ap (λ n. poly field.ring n f x) one ∙ poly-one field.ring f x)
+
+pub high_network-requires-else-width-eq1-clause-table : goal.high_network-requires-else-width-eq1-clause-table
+high_network-requires-else-width-eq1-clause-table g c = c.requires.table
+
+pub high_network-requires-clause-table : goal.high_network-requires-clause-table
+high_network-requires-clause-table g c = c.requires.table
+
+pub high_network-requires-clause-height : goal.high_network-requires-clause-height
+high_network-requires-clause-height g c = rw c.if-width-eq1.true at c.requires.height

@@ -3,7 +3,7 @@ use borrow.Author.Rules.{scaled_fits≤}
 use borrow.Rule.Slice.PartMut.{put_mid}
 use Rattle.std.proofs.Math.Nat.{le_refl}
 use Rattle.p3_networks.proofs.Layers.Columns.{InColumns, columns_written}
-use Rattle.p3_networks.proofs.Layers.Counts.{count_more, count_none}
+use Rattle.p3_networks.proofs.Layers.Counts.{count_more, count_none, at_end}
 use Rattle.p3_networks.proofs.Layers.Halves.{block_room, part_length}
 use Rattle.p3_networks.proofs.Rows.Overwritten.{part_at, part_size, put_length, rows-more, rows-all, rows-none}
 use Rattle.p3_networks.proofs.radix_2_small_batch.groups.columns_of_halves.Goals as goal
@@ -117,3 +117,6 @@ returns-clause-kept g c t j p q other = (
   (rows-all g.F.Field.ZERO c.args.part _ c.args.low.now c.loop-t.low c.loop-t.t c.args.half c.loop-t-test.false c.loop-t.invariant.near t j p q).outside other,
   (rows-all g.F.Field.ZERO c.args.part _ c.args.high.now c.loop-t.high c.loop-t.t c.args.half c.loop-t-test.false c.loop-t.invariant.far t j p q).outside other,
 )
+
+pub returns-clause-count : goal.returns-clause-count
+returns-clause-count g c = at_end (λ n. c.loop-t.products ≤ c.args.products.now + g.R.Rule.cost * (n * (c.args.end - c.args.at))) c.loop-t.t c.args.half c.loop-t.auto.t-end c.loop-t-test.false c.loop-t.invariant.count

@@ -2,6 +2,7 @@ use Rattle.std.proofs.Common.{◌≡◌, ℕ, ◌+◌, ◌*◌, ◌-◌, ◌%◌
 use Rattle.p3_networks.specs.Groups.{IsLayer, TakesColumns, cells_of}
 use Rattle.p3_networks.proofs.Layers.Groups.{block_there, columns_next, columns_none, layer_in_order, part_sizes, piece_layer_counted, piece_sizes}
 use Rattle.p3_networks.proofs.Layers.Runs.{blocks_within, run_within}
+use Rattle.p3_networks.proofs.Layers.Counts.{at_end}
 use Rattle.p3_networks.proofs.radix_2_small_batch.groups.group_on_piece.Goals as goal
 
 pub overflow_shl-part : goal.overflow_shl-part
@@ -90,3 +91,8 @@ returns-clause-cells g c k cells layers room holds =
     let end : c.loop-done.done ≡ c.args.to - c.args.from = omega arith in
     subst (λ (n : ℕ). TakesColumns field.value field.ZERO (2 ^ c.args.from * c.args.width) (2 ^ (c.args.to - c.args.from)) (c.args.number * length c.args.values.now) c.args.at c.args.end (cells (cells_of c.args.order c.args.from c.args.to n)) c.args.values.now c.loop-done.values) end
     (c.loop-done.invariant.cells k cells layers room holds)
+
+pub returns-clause-count : goal.returns-clause-count
+returns-clause-count g c =
+    let e = c.args.to - c.args.from in
+    at_end (λ n. 2 * c.loop-done.products ≤ 2 * c.args.products.now + g.R.Rule.cost * (n * (2 ^ e * (c.args.end - c.args.at)))) c.loop-done.done e c.loop-done.auto.done-end c.loop-done-test.false c.loop-done.invariant.count

@@ -2,7 +2,7 @@ use Rattle.std.proofs.Common.{◌≡◌, ℕ, ◌+◌, ◌*◌, ◌-◌, ◌≤�
 use borrow.Author.Rules.{scaled_fits≤}
 use Rattle.std.proofs.Math.Nat.{mul-le-mul_right, le_refl}
 use Rattle.p3_networks.proofs.Layers.Columns.{BlockColumns, blocks_of_columns-all, blocks_of_columns-more}
-use Rattle.p3_networks.proofs.Layers.Counts.{count_more, count_none}
+use Rattle.p3_networks.proofs.Layers.Counts.{count_more, count_none, at_end}
 use Rattle.p3_networks.proofs.Layers.Halves.{block_room, part_length}
 use Rattle.p3_networks.proofs.Rows.Overwritten.{RowsDone, rows-none}
 use Rattle.p3_networks.proofs.radix_2_small_batch.groups.layer_of_columns.Goals as goal
@@ -76,3 +76,6 @@ loop-b-init g c = record {
   grows = le_refl c.args.products.now;
   count = count_none g.R.Rule.cost (c.args.half * (c.args.end - c.args.at)) c.args.products.now;
 }
+
+pub returns-clause-count : goal.returns-clause-count
+returns-clause-count g c = at_end (λ n. c.loop-b.products ≤ c.args.products.now + g.R.Rule.cost * (n * (c.args.half * (c.args.end - c.args.at)))) c.loop-b.b c.args.blocks c.loop-b.auto.b-end c.loop-b-test.false c.loop-b.invariant.count

@@ -6,7 +6,7 @@ use Rattle.std.proofs.lemmas.Nat.{div-add-mod', div_below, div-mul-add, mod-mul-
 use Rattle.p3_field.specs.Ring.{power}
 use Rattle.p3_networks.proofs.Layers.Counts.{turn_counted}
 use Rattle.p3_networks.proofs.Layers.Halves.{block_room, block_size, part_length}
-use Rattle.p3_networks.proofs.Rows.Overwritten.{rows-more, part_at}
+use Rattle.p3_networks.proofs.Rows.Overwritten.{rows-more, part_at, rows-none}
 use Rattle.p3_networks.proofs.radix_2_small_batch.networks.spread_rows.Goals as goal
 
 -- what comes after row q ends within all rows
@@ -147,3 +147,6 @@ returns-clause-count g c =
     let whole : len ≡ c.args.count * (len / c.args.count) = c.requires.size ∙ ap (λ m. c.args.count * m) (sym size_is) in
     let end : c.loop-q.q ≡ c.args.count = omega arith in
     omega (arith, c.loop-q.invariant.count, whole, ap (λ n. n * (len / c.args.count)) end)
+
+pub loop-q-init : goal.loop-q-init
+loop-q-init g c = record { values = rows-none g.F.Field.ZERO _ _ c.args.values.now; count = omega arith }

@@ -1,5 +1,6 @@
 use Rattle.std.proofs.lemmas.Nat.{one_shl}
 use Rattle.p3_networks.proofs.Networks.Slots.{values_of_shifted}
+use Rattle.std.proofs.Common.{◌*◌, sym, ap, ◌∙◌}
 use Rattle.p3_networks.proofs.radix_2_small_batch.slots.evaluate_from.Goals as goal
 
 pub returns-clause-values : goal.returns-clause-values
@@ -9,3 +10,9 @@ returns-clause-values g c =
 
 pub evaluate-requires-clause-twiddles : goal.evaluate-requires-clause-twiddles
 evaluate-requires-clause-twiddles g c = c.requires.twiddles
+
+pub copy_shifted-requires-clause-source : goal.copy_shifted-requires-clause-source
+copy_shifted-requires-clause-source g c = c.requires.source ∙ ap (λ n. n * c.args.width) (sym (one_shl c.args.log_h 64 c.requires.small))
+
+pub copy_shifted-requires-clause-size : goal.copy_shifted-requires-clause-size
+copy_shifted-requires-clause-size g c = c.requires.size ∙ ap (λ n. n * c.args.width) (sym (one_shl c.args.log_h 64 c.requires.small))

@@ -11,13 +11,14 @@ use Rattle.p3_networks.specs.Twiddles.{forward_root}
 use Rattle.p3_networks.proofs.Layers.Blocks.{row_below}
 use Rattle.p3_networks.proofs.Layers.Counts.{count_more}
 use Rattle.p3_networks.proofs.Layers.Halves.{in_first, part_length}
-use Rattle.p3_networks.proofs.Layers.Sizes.{second_shift}
+use Rattle.p3_networks.proofs.Layers.Sizes.{second_shift, some_rows}
 use Rattle.p3_networks.proofs.Networks.Runs.{slot_point}
 use Rattle.p3_networks.proofs.Networks.Slots.{rows_of_slots, slot_room, slot_size, slots_whole, values_of_shifted}
 use Rattle.p3_networks.proofs.Polynomials.ByIndex.{poly_same}
 use Rattle.p3_networks.proofs.Polynomials.Cosets.{point-mul}
 use Rattle.p3_networks.proofs.Rows.Overwritten.{part-more, rows-none}
 use Rattle.p3_networks.proofs.Tables.RootPowers.{fewer_roots}
+use Rattle.std.proofs.Math.Nat.{le_trans}
 use Rattle.p3_networks.proofs.radix_2_small_batch.slots.slots_network.Goals as goal
 
 pub overflow_mul-start : goal.overflow_mul-start
@@ -173,3 +174,12 @@ evaluate-requires-clause-twiddles g c = c.requires.twiddles
 
 pub evaluate_from-requires-clause-twiddles : goal.evaluate_from-requires-clause-twiddles
 evaluate_from-requires-clause-twiddles g c = c.requires.twiddles
+
+pub mul-requires : goal.mul-requires
+mul-requires g c = g.met.F.Field.can_mul_law _ _
+
+pub returns-clause-grows : goal.returns-clause-grows
+returns-clause-grows g c = le_trans (le_trans c.loop-place.invariant.grows c.shift_values.ensures.grows) c.evaluate.ensures.grows
+
+pub overflow_sub-place-end : goal.overflow_sub-place-end
+overflow_sub-place-end g c = some_rows _ c.args.added_bits (second_shift c.args.log_h c.args.added_bits c.requires.small)

@@ -1,4 +1,4 @@
-use Rattle.std.proofs.Common.{◌≡◌, ℕ, ◌+◌, ◌++◌, List, [], ◌∷◌, length, get_or, length-append, refl, sym, ap, ◌∙◌, subst, arith, rules}
+use Rattle.std.proofs.Common.{◌≡◌, ℕ, ◌+◌, ◌++◌, List, [], ◌∷◌, length, get_or, length-append, refl, sym, ap, ◌∙◌, subst, arith, rules, inr}
 use Rattle.p3_networks.specs.Twiddles.{Coset, HasCoset, IsCosetAt, IsCosetOf}
 use Rattle.p3_field.specs.declared.fields.Field.{Ghosts as FieldMembers}
 use Rattle.p3_networks.proofs.Layers.Halves.{in_second}
@@ -22,3 +22,15 @@ push-requires g c there =
 pub returns-clause-made : goal.returns-clause-made
 returns-clause-made g c =
     added_last g.F.Field c.args.self.now c.as_slice-place.result.now c.push.new.self c.args.log_h c.args.shift c.in_ok-table.table c.as_slice-place.ensures c.in_ok-push.ensures.added c.in_ok-table.ensures
+
+pub returns-clause-once : goal.returns-clause-once
+returns-clause-once g c has = absurd (c.find.ensures.none (search rules) has)
+
+pub returns-clause-only : goal.returns-clause-only
+returns-clause-only g c = inr (c.in_ok-push.ensures.added ∙ ap (λ t. c.args.self.now ++ t ∷ []) c.in_ok-table.ensures)
+
+pub returns-in_err-push-clause-ready : goal.returns-in_err-push-clause-ready
+returns-in_err-push-clause-ready g c has = absurd (c.find.ensures.none (search rules) has)
+
+pub returns-in_err-push-clause-once : goal.returns-in_err-push-clause-once
+returns-in_err-push-clause-once g c has = absurd (c.find.ensures.none (search rules) has)

@@ -10,6 +10,7 @@ use Rattle.p3_networks.specs.Cosets.{point}
 use Rattle.p3_networks.specs.Twiddles.{AddsCosets, Coset, HasCoset, IsOneOf, forward_root}
 use Rattle.p3_networks.proofs.Polynomials.Cosets.{point-mul}
 use Rattle.p3_networks.proofs.Tables.CosetTables.{coset_kept}
+use Rattle.p3_networks.proofs.Layers.Sizes.{second_shift}
 use Rattle.p3_networks.proofs.radix_2_dit_parallel.coset_tables.CosetTables.make_all.Goals as goal
 
 -- the tables so far, where one of the cosets may be added at the end
@@ -72,3 +73,9 @@ loop-coset-preserved g c =
 pub returns-in_err-make-clause-only : goal.returns-in_err-make-clause-only
 returns-in_err-make-clause-only g c =
     rw c.in_err-make.ensures.refused c.loop-coset.invariant.only
+
+pub returns-clause-made : goal.returns-clause-made
+returns-clause-made g c i below = c.loop-coset.invariant.made i (omega (arith, below, second_shift c.args.log_h c.args.added_bits c.requires.small, c.loop-coset-test.false))
+
+pub mul-coset-requires : goal.mul-coset-requires
+mul-coset-requires g c = g.met.F.Field.can_mul_law _ _

@@ -54,3 +54,6 @@ invariant_of-self g c =
 pub invariant_of-self-in_err-push-in-Some : goal.invariant_of-self-in_err-push-in-Some
 invariant_of-self-in_err-push-in-Some g c =
     subst (HasEachOnce g.F.Field) (ap items_if_any c.in-Some.is ∙ sym c.in_err-push-in-Some.ensures.items) c.self.invariant
+
+pub returns-in_ok-push-in-Some-clause-added : goal.returns-in_ok-push-in-Some-clause-added
+returns-in_ok-push-in-Some-clause-added g c = c.in_ok-push-in-Some.ensures.items ∙ ap (λ xs. xs ++ c.args.table ∷ []) (sym (ap items_if_any c.in-Some.is) ∙ c.self.view_is)

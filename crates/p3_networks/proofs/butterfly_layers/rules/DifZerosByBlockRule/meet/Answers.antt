@@ -1,0 +1,18 @@
+use Rattle.std.proofs.Common.{get_or, ap, ◌∙◌}
+use Rattle.std.proofs.lemmas.List.{get_or_default}
+use Rattle.p3_matrix.specs.Butterflies.{dif_zeros_near, dif_zeros_far}
+use Rattle.p3_networks.proofs.butterfly_layers.rules.DifZerosByBlockRule.meet.Goals as goal
+
+pub returns-clause-near : goal.returns-clause-near
+returns-clause-near g c j inside =
+    let field = g.F.Field in
+    c.meet_rows.ensures.near j inside
+    ∙ ap (λ t. dif_zeros_near field.ring (field.value t) (field.value (get_or c.args.row_1.now j field.ZERO)) (field.value (get_or c.args.row_2.now j field.ZERO)))
+    (get_or_default c.args.self.twiddles.now c.args.block c.index-self-block.result field.ZERO c.requires.there)
+
+pub returns-clause-far : goal.returns-clause-far
+returns-clause-far g c j inside =
+    let field = g.F.Field in
+    c.meet_rows.ensures.far j inside
+    ∙ ap (λ t. dif_zeros_far field.ring (field.value t) (field.value (get_or c.args.row_1.now j field.ZERO)) (field.value (get_or c.args.row_2.now j field.ZERO)))
+    (get_or_default c.args.self.twiddles.now c.args.block c.index-self-block.result field.ZERO c.requires.there)
