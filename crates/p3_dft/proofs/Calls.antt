@@ -1,6 +1,7 @@
 -- The trait's calls over stored matrices: shapes, transforms, inverses and extensions as its bodies make them, and call after call.
 pub mod Columns
 pub mod Coordinates
+pub mod Counts
 pub mod EngineSteps
 pub mod ExtendedTransforms
 pub mod Inverses

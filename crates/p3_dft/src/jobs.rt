@@ -1,9 +1,9 @@
 //! Lists of transforms, answered one after another by one engine.
 
-ghost use Rattle.std.specs.Prelude.{◌≡◌, ℕ, ◌≤◌, ◌⊎◌, [], IfOk, IfErr, IsOk, OnOk, OnErr};
-ghost use Rattle.std.specs.List.{All, AllZip};
+ghost use Rattle.std.specs.Prelude.{◌≡◌, ℕ, ◌+◌, ◌≤◌, ◌⊎◌, List, [], IfOk, IfErr, IsOk, OnOk, OnErr};
+ghost use Rattle.std.specs.List.{All, AllZip, sum};
 ghost use Rattle.p3_dft.specs.Engines.{IsLater};
-ghost use Rattle.p3_dft.specs.Jobs.{AreFirstAnswers, CanRun, IsAnswer, IsPromised, NextIsNotPromised};
+ghost use Rattle.p3_dft.specs.Jobs.{AreFirstAnswers, CanRun, IsAnswer, IsCost, IsPromised, IsServed, NextIsNotPromised};
 
 use crate::traits::TwoAdicSubgroupDft;
 use p3_field::TwoAdicField;
@@ -59,13 +59,17 @@ pub struct JobsStopped<F> {
 ///
 /// Memory for the list of answers is taken first. Where that is refused there are no answers and the
 /// engine is as before; else the first job without an answer is one that the engine was not promised
-/// to answer.
+/// to answer. After `Ok` the engine serves the heights of all jobs, as after the calls themselves, and
+/// the products are at most the sum of what these may make.
 pub fn run_jobs<F: TwoAdicField, D: TwoAdicSubgroupDft<F>>(
     engine: &mut D,
     jobs: Vec<Job<F>>,
 ) -> Result<Vec<RowMajorMatrix<F>>, JobsStopped<F>>
-    requires { All (CanRun F.Field.own F.TWO_ADICITY) jobs.items }
+    requires runnable { All (CanRun F.Field.own F.TWO_ADICITY) jobs.items }
     ensures all { IfOk result (λ answers. AllZip (IsAnswer F.Field.own F.generator) jobs.items answers.items) }
+    ensures serves { OnOk result (All (IsServed (D.served engine.new)) jobs.items) }
+    ensures cost { OnOk result ((costs : List ℕ) × AllZip (IsCost D.bound D.extension) jobs.items costs
+        × (D.made engine.new ≤ D.made engine.old + sum costs)) }
     ensures first { IfErr result (λ stopped. AreFirstAnswers F.Field.own F.generator jobs.items stopped.answers.items) }
     ensures refused { IfErr result (λ stopped. ((engine.new ≡ engine.old) × (stopped.answers.items ≡ []))
         ⊎ NextIsNotPromised (D.promised engine.old) (D.coset_promised engine.old) jobs.items stopped.answers.items) }
@@ -87,6 +91,9 @@ fn answer_jobs<F: TwoAdicField, D: TwoAdicSubgroupDft<F>>(
     requires runnable { All (CanRun F.Field.own F.TWO_ADICITY) jobs.items }
     requires empty { answers.old.items ≡ [] }
     ensures all { OnOk result (AllZip (IsAnswer F.Field.own F.generator) jobs.items answers.new.items) }
+    ensures serves { OnOk result (All (IsServed (D.served engine.new)) jobs.items) }
+    ensures cost { OnOk result ((costs : List ℕ) × AllZip (IsCost D.bound D.extension) jobs.items costs
+        × (D.made engine.new ≤ D.made engine.old + sum costs)) }
     ensures first { OnErr result (AreFirstAnswers F.Field.own F.generator jobs.items answers.new.items) }
     ensures refused { OnErr result (((engine.new ≡ engine.old) × (answers.new.items ≡ []))
         ⊎ NextIsNotPromised (D.promised engine.old) (D.coset_promised engine.old) jobs.items answers.new.items) }
@@ -105,9 +112,11 @@ fn run_job<F: TwoAdicField, D: TwoAdicSubgroupDft<F>>(
     engine: &mut D,
     job: Job<F>,
 ) -> Result<RowMajorMatrix<F>, DftError>
-    requires { CanRun F.Field.own F.TWO_ADICITY job }
+    requires runnable { CanRun F.Field.own F.TWO_ADICITY job }
     ensures answer { IfOk result (IsAnswer F.Field.own F.generator job) }
     ensures succeeds { IsPromised (D.promised engine.old) (D.coset_promised engine.old) job → IsOk result }
+    ensures serves { OnOk result (IsServed (D.served engine.new) job) }
+    ensures cost { (n : ℕ) → IsCost D.bound D.extension job n → OnOk result (D.made engine.new ≤ D.made engine.old + n) }
     ensures later { IsLater D.promised D.coset_promised D.served D.made engine.old engine.new }
 {
     let values = match job {

@@ -84,7 +84,7 @@ impl<F: TwoAdicField> TwoAdicSubgroupDft<F> for NaiveDft {
     /// As the trait says, and each pair of rows costs one product a column, also where the factor
     /// is one.
     fn dft_batch<N: IntoRowMajorMatrix<F>>(&mut self, mat: N) -> Result<RowMajorMatrix<F>, DftError>
-        requires { FitsDft F.TWO_ADICITY (height (N.stored mat)) (N.stored mat).width }
+        requires fits { FitsDft F.TWO_ADICITY (height (N.stored mat)) (N.stored mat).width }
         ensures values { IfOk result (λ out. IsTransform F.Field.own F.generator (N.stored mat) F.ring.one out) }
         ensures later { IsLater (λ _ _. ⊥) (λ _ _ (_ : F). ⊤) (λ _ _. ⊤) (λ e. e) self.old self.new }
         ensures exact { OnOk result (self.new ≡ self.old + height (N.stored mat) * height (N.stored mat) * (N.stored mat).width) }

@@ -68,9 +68,10 @@ impl Clone for Radix2Bowers {
 impl<F: TwoAdicField> TwoAdicSubgroupDft<F> for Radix2Bowers {
     ghost use Rattle.std.specs.Prelude.{◌≡◌, ⊤, ℕ, ◌+◌, ◌*◌, ◌/◌, ◌^◌, ◌≤◌, IfOk, IsOk, OnOk, Ok};
     ghost use Rattle.std.proofs.Common.{refl, rules};
-    ghost use Rattle.p3_matrix.specs.RowMajor.{height};
+    ghost use Rattle.p3_matrix.specs.RowMajor.{HasShapeOf, RowMajor, height};
     ghost use Rattle.p3_dft.specs.Engines.{AtLog, IsLater};
-    ghost use Rattle.p3_dft.specs.Shapes.{FitsDft};
+    ghost use Rattle.p3_dft.specs.Extensions.{IsExtension, IsTransformedExtension, extension_bound};
+    ghost use Rattle.p3_dft.specs.Shapes.{FitsDft, FitsLde};
     ghost use Rattle.p3_dft.specs.Transforms.{IsInterpolation, IsTransform};
     ghost use Rattle.p3_dft.specs.declared.traits.Layout.TheVariants.{BitReversed};
 
@@ -99,7 +100,7 @@ impl<F: TwoAdicField> TwoAdicSubgroupDft<F> for Radix2Bowers {
     /// As the trait says: the rows are reversed, then network G. A matrix of height one is its own
     /// transform: it is handed back, with no product and no memory taken.
     fn dft_batch<N: IntoRowMajorMatrix<F>>(&mut self, mat: N) -> Result<RowMajorMatrix<F>, DftError>
-        requires { FitsDft F.TWO_ADICITY (height (N.stored mat)) (N.stored mat).width }
+        requires fits { FitsDft F.TWO_ADICITY (height (N.stored mat)) (N.stored mat).width }
         ensures values { IfOk result (λ out. IsTransform F.Field.own F.generator (N.stored mat) F.ring.one out) }
         ensures succeeds { AtLog (height (N.stored mat)) (λ k. k ≡ 0 → IsOk result) }
         ensures one_row { height (N.stored mat) ≡ 1 → (result ≡ Ok (N.stored mat)) × (self.new ≡ self.old) }
@@ -130,7 +131,7 @@ impl<F: TwoAdicField> TwoAdicSubgroupDft<F> for Radix2Bowers {
         &mut self,
         mat: N,
     ) -> Result<RowMajorMatrix<F>, DftError>
-        requires { FitsDft F.TWO_ADICITY (height (N.stored mat)) (N.stored mat).width }
+        requires fits { FitsDft F.TWO_ADICITY (height (N.stored mat)) (N.stored mat).width }
         ensures coefficients { IfOk result (λ out. IsInterpolation F.Field.own F.generator (N.stored mat) F.ring.one out) }
         ensures succeeds { AtLog (height (N.stored mat)) (λ k. k ≡ 0 → IsOk result) }
         ensures one_row { height (N.stored mat) ≡ 1 → (result ≡ Ok (N.stored mat)) × (self.new ≡ self.old) }
@@ -148,7 +149,8 @@ impl<F: TwoAdicField> TwoAdicSubgroupDft<F> for Radix2Bowers {
     }
 
     /// As the trait says: the transform is told coefficients whose rows lie in bit reversed order, and
-    /// what it answers is multiplied by powers of the shift in that order.
+    /// what it answers is multiplied by powers of the shift in that order. A matrix of height one is told
+    /// as it is, and without added bits its transform is the answer, with no product and no memory taken.
     fn coset_lde_batch_with_transform<
         N: IntoRowMajorMatrix<F>,
         T: FnOnce(RowMajorMatrix<F>, Layout) -> RowMajorMatrix<F> + Drop,
@@ -158,8 +160,22 @@ impl<F: TwoAdicField> TwoAdicSubgroupDft<F> for Radix2Bowers {
         added_bits: usize,
         shift: F,
         transform: T,
-    ) -> Result<RowMajorMatrix<F>, DftError> {
+    ) -> Result<RowMajorMatrix<F>, DftError>
+        requires fits { FitsLde F.TWO_ADICITY (height (N.stored mat)) (N.stored mat).width added_bits }
+        requires callable { (m : RowMajor F) → HasShapeOf m (N.stored mat) → T.pre transform m BitReversed }
+        requires shape { (m n : RowMajor F) → HasShapeOf m (N.stored mat) → T.post transform m BitReversed n → HasShapeOf n (N.stored mat) }
+        ensures values { IfOk result (λ out. IsTransformedExtension F.Field.own F.generator (λ m n. T.post transform m BitReversed n) BitReversed
+            (N.stored mat) added_bits (F.value shift) out) }
+        ensures one_row { height (N.stored mat) ≡ 1 → added_bits ≡ 0 → IsOk result × (self.new ≡ self.old) }
+        ensures later { IsLater (λ _ k. k ≡ 0) (λ _ _ (_ : F). ⊤) (λ _ _. ⊤) (λ e. e) self.old self.new }
+        ensures cost { AtLog (height (N.stored mat)) (λ k. OnOk result (self.new
+            ≤ self.old + extension_bound (λ n w. w * (n * 2 ^ n / 2)) k added_bits (N.stored mat).width)) }
+    {
         let mut mat = mat.into_row_major_matrix();
+        let log_h = log2_strict_usize(mat.height());
+        if log_h + added_bits == 0 {
+            return Ok(transform(mat, Layout::BitReversed));
+        }
         interpolate(&mut mat, &mut self.products)?;
         let mut changed = transform(mat, Layout::BitReversed);
         weigh_reversed_rows(&mut changed, F::ONE, shift, &mut self.products)?;
@@ -167,28 +183,55 @@ impl<F: TwoAdicField> TwoAdicSubgroupDft<F> for Radix2Bowers {
     }
 
     /// As the trait says: one product an entry divides by the height and multiplies by the power of the
-    /// shift.
+    /// shift. A matrix of height one without added bits is its own extension: it is handed back, with no
+    /// product and no memory taken.
     fn coset_lde_batch<N: IntoRowMajorMatrix<F>>(
         &mut self,
         mat: N,
         added_bits: usize,
         shift: F,
-    ) -> Result<RowMajorMatrix<F>, DftError> {
+    ) -> Result<RowMajorMatrix<F>, DftError>
+        requires fits { FitsLde F.TWO_ADICITY (height (N.stored mat)) (N.stored mat).width added_bits }
+        ensures values { IfOk result (λ out.
+            IsExtension F.Field.own F.generator (N.stored mat) added_bits (F.value shift) out) }
+        ensures one_row { height (N.stored mat) ≡ 1 → added_bits ≡ 0
+            → (result ≡ Ok (N.stored mat)) × (self.new ≡ self.old) }
+        ensures later { IsLater (λ _ k. k ≡ 0) (λ _ _ (_ : F). ⊤) (λ _ _. ⊤) (λ e. e) self.old self.new }
+        ensures cost { AtLog (height (N.stored mat)) (λ k. OnOk result (self.new
+            ≤ self.old + extension_bound (λ n w. w * (n * 2 ^ n / 2)) k added_bits (N.stored mat).width)) }
+    {
         let mut mat = mat.into_row_major_matrix();
         let log_h = log2_strict_usize(mat.height());
+        if log_h + added_bits == 0 {
+            return Ok(mat);
+        }
         let inverse = F::ONE.div_2exp_u64(log_h as u64);
         interpolate_scaled(&mut mat, &mut self.products)?;
         weigh_reversed_rows(&mut mat, inverse, shift, &mut self.products)?;
         extend(mat, added_bits, &mut self.products)
     }
 
-    /// As the trait says: no row is multiplied by a power of a shift.
+    /// As the trait says: no row is multiplied by a power of a shift. A matrix of height one without added
+    /// bits is handed back, with no product and no memory taken.
     fn lde_batch<N: IntoRowMajorMatrix<F>>(
         &mut self,
         mat: N,
         added_bits: usize,
-    ) -> Result<RowMajorMatrix<F>, DftError> {
+    ) -> Result<RowMajorMatrix<F>, DftError>
+        requires fits { FitsLde F.TWO_ADICITY (height (N.stored mat)) (N.stored mat).width added_bits }
+        ensures values { IfOk result (λ out.
+            IsExtension F.Field.own F.generator (N.stored mat) added_bits F.ring.one out) }
+        ensures one_row { height (N.stored mat) ≡ 1 → added_bits ≡ 0
+            → (result ≡ Ok (N.stored mat)) × (self.new ≡ self.old) }
+        ensures later { IsLater (λ _ k. k ≡ 0) (λ _ _ (_ : F). ⊤) (λ _ _. ⊤) (λ e. e) self.old self.new }
+        ensures cost { AtLog (height (N.stored mat)) (λ k. OnOk result (self.new
+            ≤ self.old + extension_bound (λ n w. w * (n * 2 ^ n / 2)) k added_bits (N.stored mat).width)) }
+    {
         let mut mat = mat.into_row_major_matrix();
+        let log_h = log2_strict_usize(mat.height());
+        if log_h + added_bits == 0 {
+            return Ok(mat);
+        }
         interpolate(&mut mat, &mut self.products)?;
         extend(mat, added_bits, &mut self.products)
     }
@@ -200,7 +243,7 @@ fn evaluate<F: TwoAdicField>(
     mat: &mut RowMajorMatrix<F>,
     products: &mut Products,
 ) -> Result<(), DftError>
-    requires { FitsDft F.TWO_ADICITY (height mat.old) mat.old.width }
+    requires fits { FitsDft F.TWO_ADICITY (height mat.old) mat.old.width }
     ensures values { AtLog (height mat.old) (λ k. OnOk result (IsValues F.ring (λ n. F.value (F.generator n))
         (bit_reversal k (values_of F.Field.own mat.old)) k F.ring.one (values_of F.Field.own mat.new))) }
     ensures grows { products.old ≤ products.new }
@@ -231,7 +274,7 @@ fn interpolate_scaled<F: TwoAdicField>(
     mat: &mut RowMajorMatrix<F>,
     products: &mut Products,
 ) -> Result<(), DftError>
-    requires { FitsDft F.TWO_ADICITY (height mat.old) mat.old.width }
+    requires fits { FitsDft F.TWO_ADICITY (height mat.old) mat.old.width }
     ensures whole { IsRowMajor mat.old }
     ensures shape { OnOk result (HasShapeOf mat.new mat.old) }
     ensures size { OnOk result (length mat.new.values ≡ length mat.old.values) }
@@ -266,7 +309,7 @@ fn interpolate<F: TwoAdicField>(
     mat: &mut RowMajorMatrix<F>,
     products: &mut Products,
 ) -> Result<(), DftError>
-    requires { FitsDft F.TWO_ADICITY (height mat.old) mat.old.width }
+    requires fits { FitsDft F.TWO_ADICITY (height mat.old) mat.old.width }
     ensures coefficients { AtLog (height mat.old) (λ k. OnOk result (AreCoefficients F.ring (λ n. F.value (F.generator n))
         (values_of F.Field.own mat.old) k F.ring.one (bit_reversal k (values_of F.Field.own mat.new)))) }
     ensures grows { products.old ≤ products.new }
@@ -284,7 +327,7 @@ fn extend<F: TwoAdicField>(
     added_bits: usize,
     products: &mut Products,
 ) -> Result<RowMajorMatrix<F>, DftError>
-    requires { FitsLde F.TWO_ADICITY (height mat) mat.width added_bits }
+    requires fits { FitsLde F.TWO_ADICITY (height mat) mat.width added_bits }
     ensures values { AtLog (height mat) (λ k. IfOk result (λ out. IsValues F.ring (λ n. F.value (F.generator n))
         (bit_reversal k (values_of F.Field.own mat)) (k + added_bits) F.ring.one (values_of F.Field.own out))) }
     ensures grows { products.old ≤ products.new }
@@ -302,7 +345,7 @@ fn scale_rows<F: TwoAdicField>(
     weights: &[F],
     products: &mut Products,
 )
-    requires { length values.old ≡ length weights.now * width }
+    requires full { length values.old ≡ length weights.now * width }
     ensures values { (i j : ℕ) → i < length weights.now → j < width → F.value (get_or values.new (i * width + j) F.ZERO)
         ≡ F.ring.mul (F.value (get_or values.old (i * width + j) F.ZERO)) (F.value (get_or weights.now i F.ZERO)) }
     ensures count { products.new ≡ products.old + length weights.now * width }
@@ -321,7 +364,7 @@ fn weigh_reversed_rows<F: TwoAdicField>(
     shift: F,
     products: &mut Products,
 ) -> Result<(), DftError>
-    requires { (k : ℕ) × (height mat.old ≡ 2 ^ k) }
+    requires power { (k : ℕ) × (height mat.old ≡ 2 ^ k) }
     ensures rows { AtLog (height mat.old) (λ k. OnOk result (Same (bit_reversal k (values_of F.Field.own mat.new))
         (image (λ x. F.ring.mul x (F.value scale))
         (coset_shift F.ring (F.value shift) (bit_reversal k (values_of F.Field.own mat.old)))))) }

@@ -7,7 +7,7 @@ ghost use Rattle.p3_networks.specs.Twiddles.{AreTwiddlesOfLayers, root_powers};
 ghost use Rattle.p3_dft.specs.Engines.{IsPrepared, PreparesNoneAbove};
 
 use crate::traits::{Layout, TwoAdicSubgroupDft};
-use crate::util::{pad_rows, reverse_rows, shift_rows};
+use crate::util::{coefficients_from_values, pad_rows, reverse_rows, shift_rows};
 use p3_field::{Products, TwoAdicField};
 use p3_matrix::{DftError, IntoRowMajorMatrix, RowMajorMatrix, log2_strict_usize};
 use p3_networks::radix_2_dit::dit_network;
@@ -98,7 +98,7 @@ impl<F: TwoAdicField> TwoAdicSubgroupDft<F> for Radix2Dit<F> {
     ghost use Rattle.p3_dft.specs.Engines.{AtLog, IsLater, IsPrepared, PreparesNoneAbove};
     ghost use Rattle.p3_dft.specs.Extensions.{IsTransformedExtension};
     ghost use Rattle.p3_dft.specs.Shapes.{FitsDft, FitsLde};
-    ghost use Rattle.p3_dft.specs.Transforms.{IsTransform};
+    ghost use Rattle.p3_dft.specs.Transforms.{IsInterpolation, IsTransform};
     ghost use Rattle.p3_dft.specs.declared.traits.Layout.TheVariants.{Natural};
 
     type Evaluations = RowMajorMatrix<F>;
@@ -129,7 +129,7 @@ impl<F: TwoAdicField> TwoAdicSubgroupDft<F> for Radix2Dit<F> {
     /// engine as it was. A matrix of height one is its own transform: it is handed back, with no product
     /// and no memory taken.
     fn dft_batch<N: IntoRowMajorMatrix<F>>(&mut self, mat: N) -> Result<RowMajorMatrix<F>, DftError>
-        requires { FitsDft F.TWO_ADICITY (height (N.stored mat)) (N.stored mat).width }
+        requires fits { FitsDft F.TWO_ADICITY (height (N.stored mat)) (N.stored mat).width }
         ensures values { IfOk result (λ out. IsTransform F.Field.own F.generator (N.stored mat) F.ring.one out) }
         ensures succeeds { AtLog (height (N.stored mat)) (λ k. IsPrepared self.old k → IsOk result) }
         ensures serves { AtLog (height (N.stored mat)) (λ k. OnOk result (IsPrepared self.new k)) }
@@ -155,6 +155,26 @@ impl<F: TwoAdicField> TwoAdicSubgroupDft<F> for Radix2Dit<F> {
         Ok(mat)
     }
 
+    /// As the trait says. `Ok` makes the height prepared for good, and no larger one; an error leaves the
+    /// engine as it was.
+    fn idft_batch<N: IntoRowMajorMatrix<F>>(
+        &mut self,
+        mat: N,
+    ) -> Result<RowMajorMatrix<F>, DftError>
+        requires fits { FitsDft F.TWO_ADICITY (height (N.stored mat)) (N.stored mat).width }
+        ensures coefficients { IfOk result (λ out. IsInterpolation F.Field.own F.generator (N.stored mat) F.ring.one out) }
+        ensures succeeds { AtLog (height (N.stored mat)) (λ k. IsPrepared self.old k → IsOk result) }
+        ensures serves { AtLog (height (N.stored mat)) (λ k. OnOk result (IsPrepared self.new k)) }
+        ensures only { AtLog (height (N.stored mat)) (λ k. PreparesNoneAbove k self.old self.new) }
+        ensures refused { OnErr result (self.new ≡ self.old) }
+        ensures later { IsLater IsPrepared (λ _ _ (_ : F). ⊤) IsPrepared (λ e. e.products) self.old self.new }
+        ensures cost { AtLog (height (N.stored mat)) (λ k. OnOk result (self.new.products
+            ≤ self.old.products + (N.stored mat).width * (k * 2 ^ k / 2) + 2 ^ k * (N.stored mat).width)) }
+    {
+        let values = self.dft_batch(mat)?;
+        Ok(coefficients_from_values(values, &mut self.products))
+    }
+
     fn add_products(&mut self, products: Products) {
         self.products.add(products);
     }
@@ -164,7 +184,7 @@ impl<F: TwoAdicField> TwoAdicSubgroupDft<F> for Radix2Dit<F> {
     }
 
     /// As the trait says. Only the rows that carry coefficients are multiplied by powers of the
-    /// shift; then rows of zeros are added.
+    /// shift; then rows of zeros are added. No height above the extension's is made prepared.
     fn coset_lde_batch_with_transform<
         N: IntoRowMajorMatrix<F>,
         T: FnOnce(RowMajorMatrix<F>, Layout) -> RowMajorMatrix<F> + Drop,
@@ -181,6 +201,7 @@ impl<F: TwoAdicField> TwoAdicSubgroupDft<F> for Radix2Dit<F> {
         ensures values { IfOk result (λ out. IsTransformedExtension F.Field.own F.generator (λ m n. T.post transform m Natural n) Natural
             (N.stored mat) added_bits (F.value shift) out) }
         ensures serves { AtLog (height (N.stored mat)) (λ k. OnOk result (IsPrepared self.new k × IsPrepared self.new (k + added_bits))) }
+        ensures only { AtLog (height (N.stored mat)) (λ k. PreparesNoneAbove (k + added_bits) self.old self.new) }
         ensures later { IsLater IsPrepared (λ _ _ (_ : F). ⊤) IsPrepared (λ e. e.products) self.old self.new }
         ensures cost { AtLog (height (N.stored mat)) (λ k. OnOk result (self.new.products ≤ self.old.products
             + ((N.stored mat).width * (k * 2 ^ k / 2) + (N.stored mat).width * ((k + added_bits) * 2 ^ (k + added_bits) / 2)

@@ -161,7 +161,7 @@ impl<F: TwoAdicField> TwoAdicSubgroupDft<F> for Radix2DitParallel<F> {
         &mut self,
         mat: N,
     ) -> Result<BitReversedMatrixView<RowMajorMatrix<F>>, DftError>
-        requires { FitsDft F.TWO_ADICITY (height (N.stored mat)) (N.stored mat).width }
+        requires fits { FitsDft F.TWO_ADICITY (height (N.stored mat)) (N.stored mat).width }
         ensures values { IfOk result (λ out.
             IsTransform F.Field.own F.generator (N.stored mat) F.ring.one (reversed_rows out.bits out.physical)) }
         ensures succeeds { AtLog (height (N.stored mat)) (λ k. IsPrepared self.old.roots k → IsOk result) }
@@ -205,7 +205,7 @@ impl<F: TwoAdicField> TwoAdicSubgroupDft<F> for Radix2DitParallel<F> {
         mat: N,
         shift: F,
     ) -> Result<BitReversedMatrixView<RowMajorMatrix<F>>, DftError>
-        requires { FitsDft F.TWO_ADICITY (height (N.stored mat)) (N.stored mat).width }
+        requires fits { FitsDft F.TWO_ADICITY (height (N.stored mat)) (N.stored mat).width }
         ensures values { IfOk result (λ out.
             IsTransform F.Field.own F.generator (N.stored mat) (F.value shift) (reversed_rows out.bits out.physical)) }
         ensures succeeds { AtLog (height (N.stored mat)) (λ k. IsPrepared self.old.roots k
@@ -252,7 +252,7 @@ impl<F: TwoAdicField> TwoAdicSubgroupDft<F> for Radix2DitParallel<F> {
         &mut self,
         mat: N,
     ) -> Result<RowMajorMatrix<F>, DftError>
-        requires { FitsDft F.TWO_ADICITY (height (N.stored mat)) (N.stored mat).width }
+        requires fits { FitsDft F.TWO_ADICITY (height (N.stored mat)) (N.stored mat).width }
         ensures coefficients { IfOk result (λ out. IsInterpolation F.Field.own F.generator (N.stored mat) F.ring.one out) }
         ensures succeeds { AtLog (height (N.stored mat)) (λ k. IsPrepared self.old.roots k → IsOk result) }
         ensures serves { AtLog (height (N.stored mat)) (λ k. OnOk result (IsPrepared self.new.roots k)) }

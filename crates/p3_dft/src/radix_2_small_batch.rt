@@ -192,7 +192,7 @@ impl<F: TwoAdicField> TwoAdicSubgroupDft<F> for Radix2DFTSmallBatch<F> {
     /// engine as it was. A matrix of height one is its own transform: it is handed back, with no product
     /// and no memory taken.
     fn dft_batch<N: IntoRowMajorMatrix<F>>(&mut self, mat: N) -> Result<RowMajorMatrix<F>, DftError>
-        requires { FitsDft F.TWO_ADICITY (height (N.stored mat)) (N.stored mat).width }
+        requires fits { FitsDft F.TWO_ADICITY (height (N.stored mat)) (N.stored mat).width }
         ensures values { IfOk result (λ out. IsTransform F.Field.own F.generator (N.stored mat) F.ring.one out) }
         ensures succeeds { AtLog (height (N.stored mat)) (λ k. IsPrepared self.old k → IsOk result) }
         ensures serves { AtLog (height (N.stored mat)) (λ k. OnOk result (IsPrepared self.new k)) }
@@ -230,7 +230,7 @@ impl<F: TwoAdicField> TwoAdicSubgroupDft<F> for Radix2DFTSmallBatch<F> {
         &mut self,
         mat: N,
     ) -> Result<RowMajorMatrix<F>, DftError>
-        requires { FitsDft F.TWO_ADICITY (height (N.stored mat)) (N.stored mat).width }
+        requires fits { FitsDft F.TWO_ADICITY (height (N.stored mat)) (N.stored mat).width }
         ensures coefficients { IfOk result (λ out. IsInterpolation F.Field.own F.generator (N.stored mat) F.ring.one out) }
         ensures succeeds { AtLog (height (N.stored mat)) (λ k. IsPrepared self.old k → IsOk result) }
         ensures serves { AtLog (height (N.stored mat)) (λ k. OnOk result (IsPrepared self.new k)) }
@@ -264,7 +264,7 @@ impl<F: TwoAdicField> TwoAdicSubgroupDft<F> for Radix2DFTSmallBatch<F> {
         added_bits: usize,
         shift: F,
     ) -> Result<RowMajorMatrix<F>, DftError>
-        requires { FitsLde F.TWO_ADICITY (height (N.stored mat)) (N.stored mat).width added_bits }
+        requires fits { FitsLde F.TWO_ADICITY (height (N.stored mat)) (N.stored mat).width added_bits }
         ensures values { IfOk result (λ out.
             IsExtension F.Field.own F.generator (N.stored mat) added_bits (F.value shift) out) }
         ensures serves { AtLog (height (N.stored mat))

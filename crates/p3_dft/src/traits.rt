@@ -82,7 +82,7 @@ pub trait TwoAdicSubgroupDft<F: TwoAdicField>: Clone + Default {
 
     /// The values on H of the polynomials whose coefficients are the columns.
     fn dft_batch<N: IntoRowMajorMatrix<F>>(&mut self, mat: N) -> Result<Self::Evaluations, DftError>
-        requires { FitsDft F.TWO_ADICITY (height (N.stored mat)) (N.stored mat).width }
+        requires fits { FitsDft F.TWO_ADICITY (height (N.stored mat)) (N.stored mat).width }
         ensures values { IfOk result (λ out. IsTransform F.Field.own F.generator (N.stored mat) F.ring.one (Self.Evaluations.natural out)) }
         ensures succeeds { AtLog (height (N.stored mat)) (λ k. promised self.old k → IsOk result) }
         ensures serves { AtLog (height (N.stored mat)) (λ k. OnOk result (served self.new k)) }
@@ -103,7 +103,7 @@ pub trait TwoAdicSubgroupDft<F: TwoAdicField>: Clone + Default {
         mat: N,
         shift: F,
     ) -> Result<Self::Evaluations, DftError>
-        requires { FitsDft F.TWO_ADICITY (height (N.stored mat)) (N.stored mat).width }
+        requires fits { FitsDft F.TWO_ADICITY (height (N.stored mat)) (N.stored mat).width }
         ensures values { IfOk result (λ out.
             IsTransform F.Field.own F.generator (N.stored mat) (F.value shift) (Self.Evaluations.natural out)) }
         ensures succeeds { AtLog (height (N.stored mat)) (λ k. promised self.old k → coset_promised self.old k shift → IsOk result) }
@@ -125,7 +125,7 @@ pub trait TwoAdicSubgroupDft<F: TwoAdicField>: Clone + Default {
         &mut self,
         mat: N,
     ) -> Result<RowMajorMatrix<F>, DftError>
-        requires { FitsDft F.TWO_ADICITY (height (N.stored mat)) (N.stored mat).width }
+        requires fits { FitsDft F.TWO_ADICITY (height (N.stored mat)) (N.stored mat).width }
         ensures coefficients { IfOk result (λ out. IsInterpolation F.Field.own F.generator (N.stored mat) F.ring.one out) }
         ensures succeeds { AtLog (height (N.stored mat)) (λ k. promised self.old k → IsOk result) }
         ensures serves { AtLog (height (N.stored mat)) (λ k. OnOk result (served self.new k)) }
@@ -255,7 +255,7 @@ pub trait TwoAdicSubgroupDft<F: TwoAdicField>: Clone + Default {
         added_bits: usize,
         shift: F,
     ) -> Result<Self::Evaluations, DftError>
-        requires { FitsLde F.TWO_ADICITY (height (N.stored mat)) (N.stored mat).width added_bits }
+        requires fits { FitsLde F.TWO_ADICITY (height (N.stored mat)) (N.stored mat).width added_bits }
         ensures values { IfOk result (λ out.
             IsExtension F.Field.own F.generator (N.stored mat) added_bits (F.value shift) (Self.Evaluations.natural out)) }
         ensures serves { AtLog (height (N.stored mat)) (λ k. OnOk result (served self.new k × served self.new (k + added_bits))) }
@@ -280,7 +280,7 @@ pub trait TwoAdicSubgroupDft<F: TwoAdicField>: Clone + Default {
         mat: N,
         added_bits: usize,
     ) -> Result<Self::Evaluations, DftError>
-        requires { FitsLde F.TWO_ADICITY (height (N.stored mat)) (N.stored mat).width added_bits }
+        requires fits { FitsLde F.TWO_ADICITY (height (N.stored mat)) (N.stored mat).width added_bits }
         ensures values { IfOk result (λ out.
             IsExtension F.Field.own F.generator (N.stored mat) added_bits F.ring.one (Self.Evaluations.natural out)) }
         ensures serves { AtLog (height (N.stored mat)) (λ k. OnOk result (served self.new k × served self.new (k + added_bits))) }
@@ -364,7 +364,7 @@ pub trait TwoAdicSubgroupDft<F: TwoAdicField>: Clone + Default {
 
     /// The values on H of the polynomial with these coefficients.
     final fn dft(&mut self, vec: Vec<F>) -> Result<Vec<F>, DftError>
-        requires { FitsDft F.TWO_ADICITY (vec_len vec) 1 }
+        requires fits { FitsDft F.TWO_ADICITY (vec_len vec) 1 }
         ensures values { IfOk result (λ out. IsTransform F.Field.own F.generator (one_column vec.items) F.ring.one (one_column out.items)) }
         ensures succeeds { AtLog (vec_len vec) (λ k. promised self.old k → IsOk result) }
         ensures serves { AtLog (vec_len vec) (λ k. OnOk result (served self.new k)) }
@@ -377,7 +377,7 @@ pub trait TwoAdicSubgroupDft<F: TwoAdicField>: Clone + Default {
 
     /// The values on `shift * H` of the polynomial with these coefficients. The shift may be zero.
     final fn coset_dft(&mut self, vec: Vec<F>, shift: F) -> Result<Vec<F>, DftError>
-        requires { FitsDft F.TWO_ADICITY (vec_len vec) 1 }
+        requires fits { FitsDft F.TWO_ADICITY (vec_len vec) 1 }
         ensures values { IfOk result (λ out.
             IsTransform F.Field.own F.generator (one_column vec.items) (F.value shift) (one_column out.items)) }
         ensures succeeds { AtLog (vec_len vec) (λ k. promised self.old k → coset_promised self.old k shift → IsOk result) }
@@ -391,7 +391,7 @@ pub trait TwoAdicSubgroupDft<F: TwoAdicField>: Clone + Default {
 
     /// The coefficients of the polynomial whose values on H these are.
     final fn idft(&mut self, vec: Vec<F>) -> Result<Vec<F>, DftError>
-        requires { FitsDft F.TWO_ADICITY (vec_len vec) 1 }
+        requires fits { FitsDft F.TWO_ADICITY (vec_len vec) 1 }
         ensures coefficients { IfOk result (λ out.
             IsInterpolation F.Field.own F.generator (one_column vec.items) F.ring.one (one_column out.items)) }
         ensures succeeds { AtLog (vec_len vec) (λ k. promised self.old k → IsOk result) }
@@ -423,7 +423,7 @@ pub trait TwoAdicSubgroupDft<F: TwoAdicField>: Clone + Default {
     /// The values on K of the polynomial whose values on H these are, where K is the subgroup of order
     /// `len << added_bits`.
     final fn lde(&mut self, vec: Vec<F>, added_bits: usize) -> Result<Vec<F>, DftError>
-        requires { FitsLde F.TWO_ADICITY (vec_len vec) 1 added_bits }
+        requires fits { FitsLde F.TWO_ADICITY (vec_len vec) 1 added_bits }
         ensures values { IfOk result (λ out.
             IsExtension F.Field.own F.generator (one_column vec.items) added_bits F.ring.one (one_column out.items)) }
         ensures serves { AtLog (vec_len vec) (λ k. OnOk result (served self.new k × served self.new (k + added_bits))) }
@@ -442,7 +442,7 @@ pub trait TwoAdicSubgroupDft<F: TwoAdicField>: Clone + Default {
         added_bits: usize,
         shift: F,
     ) -> Result<Vec<F>, DftError>
-        requires { FitsLde F.TWO_ADICITY (vec_len vec) 1 added_bits }
+        requires fits { FitsLde F.TWO_ADICITY (vec_len vec) 1 added_bits }
         ensures values { IfOk result (λ out.
             IsExtension F.Field.own F.generator (one_column vec.items) added_bits (F.value shift) (one_column out.items)) }
         ensures serves { AtLog (vec_len vec) (λ k. OnOk result (served self.new k × served self.new (k + added_bits))) }
@@ -462,7 +462,7 @@ pub trait TwoAdicSubgroupDft<F: TwoAdicField>: Clone + Default {
         &mut self,
         mat: RowMajorMatrix<V>,
     ) -> Result<RowMajorMatrix<V>, DftError>
-        requires { FitsDft F.TWO_ADICITY (height mat) (mat.width * V.DIMENSION) }
+        requires fits { FitsDft F.TWO_ADICITY (height mat) (mat.width * V.DIMENSION) }
         ensures values { IfOk result (λ out.
             IsTransform F.Field.own F.generator (flat V.BasedVectorSpace.own mat) F.ring.one (flat V.BasedVectorSpace.own out)) }
         ensures serves { AtLog (height mat) (λ k. OnOk result (served self.new k)) }
@@ -481,7 +481,7 @@ pub trait TwoAdicSubgroupDft<F: TwoAdicField>: Clone + Default {
         mat: RowMajorMatrix<V>,
         shift: F,
     ) -> Result<RowMajorMatrix<V>, DftError>
-        requires { FitsDft F.TWO_ADICITY (height mat) (mat.width * V.DIMENSION) }
+        requires fits { FitsDft F.TWO_ADICITY (height mat) (mat.width * V.DIMENSION) }
         ensures values { IfOk result (λ out.
             IsTransform F.Field.own F.generator (flat V.BasedVectorSpace.own mat) (F.value shift) (flat V.BasedVectorSpace.own out)) }
         ensures serves { AtLog (height mat) (λ k. OnOk result (served self.new k)) }
@@ -499,7 +499,7 @@ pub trait TwoAdicSubgroupDft<F: TwoAdicField>: Clone + Default {
         &mut self,
         mat: RowMajorMatrix<V>,
     ) -> Result<RowMajorMatrix<V>, DftError>
-        requires { FitsDft F.TWO_ADICITY (height mat) (mat.width * V.DIMENSION) }
+        requires fits { FitsDft F.TWO_ADICITY (height mat) (mat.width * V.DIMENSION) }
         ensures coefficients { IfOk result (λ out.
             IsInterpolation F.Field.own F.generator (flat V.BasedVectorSpace.own mat) F.ring.one (flat V.BasedVectorSpace.own out)) }
         ensures serves { AtLog (height mat) (λ k. OnOk result (served self.new k)) }
@@ -540,7 +540,7 @@ pub trait TwoAdicSubgroupDft<F: TwoAdicField>: Clone + Default {
         mat: RowMajorMatrix<V>,
         added_bits: usize,
     ) -> Result<RowMajorMatrix<V>, DftError>
-        requires { FitsLde F.TWO_ADICITY (height mat) (mat.width * V.DIMENSION) added_bits }
+        requires fits { FitsLde F.TWO_ADICITY (height mat) (mat.width * V.DIMENSION) added_bits }
         ensures values { IfOk result (λ out.
             IsExtension F.Field.own F.generator
             (flat V.BasedVectorSpace.own mat) added_bits F.ring.one (flat V.BasedVectorSpace.own out)) }
@@ -561,7 +561,7 @@ pub trait TwoAdicSubgroupDft<F: TwoAdicField>: Clone + Default {
         added_bits: usize,
         shift: F,
     ) -> Result<RowMajorMatrix<V>, DftError>
-        requires { FitsLde F.TWO_ADICITY (height mat) (mat.width * V.DIMENSION) added_bits }
+        requires fits { FitsLde F.TWO_ADICITY (height mat) (mat.width * V.DIMENSION) added_bits }
         ensures values { IfOk result (λ out.
             IsExtension F.Field.own F.generator
             (flat V.BasedVectorSpace.own mat) added_bits (F.value shift) (flat V.BasedVectorSpace.own out)) }
@@ -577,7 +577,7 @@ pub trait TwoAdicSubgroupDft<F: TwoAdicField>: Clone + Default {
 
     /// `dft` over a vector space.
     final fn dft_algebra<V: BasedVectorSpace<F>>(&mut self, vec: Vec<V>) -> Result<Vec<V>, DftError>
-        requires { FitsDft F.TWO_ADICITY (vec_len vec) V.DIMENSION }
+        requires fits { FitsDft F.TWO_ADICITY (vec_len vec) V.DIMENSION }
         ensures values { IfOk result (λ out.
             IsTransform F.Field.own F.generator
             (flat_column V.BasedVectorSpace.own vec.items) F.ring.one (flat_column V.BasedVectorSpace.own out.items)) }
@@ -598,7 +598,7 @@ pub trait TwoAdicSubgroupDft<F: TwoAdicField>: Clone + Default {
         vec: Vec<V>,
         shift: F,
     ) -> Result<Vec<V>, DftError>
-        requires { FitsDft F.TWO_ADICITY (vec_len vec) V.DIMENSION }
+        requires fits { FitsDft F.TWO_ADICITY (vec_len vec) V.DIMENSION }
         ensures values { IfOk result (λ out.
             IsTransform F.Field.own F.generator
             (flat_column V.BasedVectorSpace.own vec.items) (F.value shift) (flat_column V.BasedVectorSpace.own out.items)) }
@@ -618,7 +618,7 @@ pub trait TwoAdicSubgroupDft<F: TwoAdicField>: Clone + Default {
         &mut self,
         vec: Vec<V>,
     ) -> Result<Vec<V>, DftError>
-        requires { FitsDft F.TWO_ADICITY (vec_len vec) V.DIMENSION }
+        requires fits { FitsDft F.TWO_ADICITY (vec_len vec) V.DIMENSION }
         ensures coefficients { IfOk result (λ out.
             IsInterpolation F.Field.own F.generator
             (flat_column V.BasedVectorSpace.own vec.items) F.ring.one (flat_column V.BasedVectorSpace.own out.items)) }
@@ -661,7 +661,7 @@ pub trait TwoAdicSubgroupDft<F: TwoAdicField>: Clone + Default {
         vec: Vec<V>,
         added_bits: usize,
     ) -> Result<Vec<V>, DftError>
-        requires { FitsLde F.TWO_ADICITY (vec_len vec) V.DIMENSION added_bits }
+        requires fits { FitsLde F.TWO_ADICITY (vec_len vec) V.DIMENSION added_bits }
         ensures values { IfOk result (λ out.
             IsExtension F.Field.own F.generator
             (flat_column V.BasedVectorSpace.own vec.items) added_bits F.ring.one (flat_column V.BasedVectorSpace.own out.items)) }
@@ -683,7 +683,7 @@ pub trait TwoAdicSubgroupDft<F: TwoAdicField>: Clone + Default {
         added_bits: usize,
         shift: F,
     ) -> Result<Vec<V>, DftError>
-        requires { FitsLde F.TWO_ADICITY (vec_len vec) V.DIMENSION added_bits }
+        requires fits { FitsLde F.TWO_ADICITY (vec_len vec) V.DIMENSION added_bits }
         ensures values { IfOk result (λ out.
             IsExtension F.Field.own F.generator
             (flat_column V.BasedVectorSpace.own vec.items) added_bits (F.value shift) (flat_column V.BasedVectorSpace.own out.items)) }
@@ -701,7 +701,7 @@ pub trait TwoAdicSubgroupDft<F: TwoAdicField>: Clone + Default {
 
 // Brings rows from natural order into the order of a layout, or back.
 fn exchange_layouts<T>(mat: &mut RowMajorMatrix<T>, layout: Layout)
-    requires { (k : ℕ) × (height mat.old ≡ 2 ^ k) }
+    requires power { (k : ℕ) × (height mat.old ≡ 2 ^ k) }
     ensures shape { HasShapeOf mat.new mat.old }
     ensures rows { (k : ℕ) → height mat.old ≡ 2 ^ k → (d : T) → Same (matrix d mat.new) (arrangement layout k (matrix d mat.old)) }
 {

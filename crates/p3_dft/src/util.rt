@@ -58,7 +58,7 @@ pub fn divide_by_height<F: TwoAdicField>(
     view: &mut RowMajorMatrixViewMut<'_, F>,
     products: &mut Products,
 )
-    requires { (k : ℕ) × (height view.old.matrix.now ≡ 2 ^ k) }
+    requires power { (k : ℕ) × (height view.old.matrix.now ≡ 2 ^ k) }
     ensures same_reference { view.new.matrix.ghost_name ≡ view.old.matrix.ghost_name }
     ensures shape { HasShapeOf view.new.matrix.now view.old.matrix.now }
     ensures size { length view.new.matrix.now.values ≡ length view.old.matrix.now.values }
@@ -77,7 +77,7 @@ pub(crate) fn coefficients_from_values<F: TwoAdicField>(
     mut mat: RowMajorMatrix<F>,
     products: &mut Products,
 ) -> RowMajorMatrix<F>
-    requires { (k : ℕ) × (height mat ≡ 2 ^ k) }
+    requires power { (k : ℕ) × (height mat ≡ 2 ^ k) }
     ensures coefficients { IsQuotient F.ring (height mat) (opposite_rows (values_of F.Field.own mat)) (values_of F.Field.own result) }
     ensures count { products.new ≡ products.old + height mat * mat.width }
 {
@@ -88,7 +88,7 @@ pub(crate) fn coefficients_from_values<F: TwoAdicField>(
 
 // `divide_by_height` of a matrix itself.
 pub(crate) fn divide_rows<F: TwoAdicField>(mat: &mut RowMajorMatrix<F>, products: &mut Products)
-    requires { (k : ℕ) × (height mat.old ≡ 2 ^ k) }
+    requires power { (k : ℕ) × (height mat.old ≡ 2 ^ k) }
     ensures shape { HasShapeOf mat.new mat.old }
     ensures size { length mat.new.values ≡ length mat.old.values }
     ensures divided { IsQuotient F.ring (height mat.old) (values_of F.Field.own mat.old) (values_of F.Field.own mat.new) }
@@ -157,7 +157,7 @@ pub(crate) fn pad_rows<F: Field>(
 
 // `reverse_matrix_index_bits` of a matrix itself.
 pub(crate) fn reverse_rows<T>(mat: &mut RowMajorMatrix<T>)
-    requires { (k : ℕ) × (height mat.old ≡ 2 ^ k) }
+    requires power { (k : ℕ) × (height mat.old ≡ 2 ^ k) }
     ensures shape { HasShapeOf mat.new mat.old }
     ensures size { length mat.new.values ≡ length mat.old.values }
     ensures rows { (k : ℕ) → height mat.old ≡ 2 ^ k

@@ -15,7 +15,6 @@ use Rattle.p3_matrix.proofs.TwoPowers.{log_same}
 use Rattle.p3_networks.specs.Cosets.{AreCoefficients, IsQuotient, IsValues, coset_shift, point}
 use Rattle.p3_dft.specs.Extensions.{AreTransformedValues, IsExtension, IsTransformedExtension, extension_bound}
 use Rattle.p3_networks.specs.Polynomials.{poly}
-use Rattle.p3_dft.specs.Shapes.{FitsLde}
 use Rattle.p3_dft.specs.Transforms.{values_of, IsInterpolation}
 use Rattle.p3_networks.specs.Layers.{AreValuesOfRows}
 use Rattle.p3_dft.specs.declared.traits.Layout.TheVariants.{BitReversed}
@@ -26,6 +25,14 @@ use Rattle.p3_dft.proofs.BitReversed.Rows.{transform_of_row}
 use Rattle.p3_networks.proofs.Rows.Overwritten.{written}
 use Rattle.p3_dft.proofs.Calls.Shapes.{entries_rise}
 use Rattle.p3_dft.proofs.Calls.Transforms.{height_of_parts, quotient_of_products}
+
+-- a single row is where it was
+reversed_row : {A : Type 0} (k : ℕ) (m : Matrix A) → m.height ≡ 1 → Same m (bit_reversal k m)
+reversed_row k m one = record {
+  high = refl;
+  wide = refl;
+  alike = λ i j below inside. let first : i ≡ 0 = omega (arith, below, one) in ap (λ r. m.entry r j) (first ∙ sym (ap (rev k) first ∙ rev_of_zero k));
+}
 
 module _ {A : Type 0} (R : Ring A) where
   open R use {mul as ◌⊗◌}
@@ -111,12 +118,17 @@ module _ {F : Type 0} (f : FieldMembers F) (generator : ℕ → F) where
       → IsValues f.ring (λ n. f.value (generator n)) (bit_reversal k (values_of f m)) k f.ring.one (values_of f m)
   values_of_row m k one high =
       coefficients_same f.ring (λ n. f.value (generator n)) (values_of f m) (bit_reversal k (values_of f m)) k f.ring.one (values_of f m)
-      (record {
-        high = refl;
-        wide = refl;
-        alike = λ i j below inside. let first : i ≡ 0 = omega (arith, one) in ap (λ r. (values_of f m).entry r j) (first ∙ sym (ap (rev k) first ∙ rev_of_zero k));
-      })
-      (transform_of_row f generator m one k high)
+      (reversed_row k (values_of f m) one) (transform_of_row f generator m one k high)
+
+  -- on every coset
+  row_on_coset : (m : RowMajor F) (n : ℕ) (s : f.Element) → height m ≡ 1 → height m ≡ 2 ^ n → IsValues f.ring (λ n. f.value (generator n)) (values_of f m) n s (values_of f m)
+  row_on_coset m n s one high =
+      is_values f.ring (λ n. f.value (generator n)) (values_of f m) n s (values_of f m) high refl
+      (λ i j below inside.
+      let column = λ (q : ℕ). (values_of f m).entry q j in
+      let x = point f.ring (λ n. f.value (generator n)) n s i in
+      let first : i ≡ 0 = omega (arith, below, high, one) in
+      ap column first ∙ sym (ap (λ h. poly f.ring h column x) one ∙ poly-one f.ring column x))
 
   -- what a network made of the entries of m, whose rows lie in bit reversed order, where a program had them in variables of its own
   pub values_of_parts : (m out : RowMajor F) (before after rest : List F) (w log k : ℕ) → log ≡ k → IsRowMajor m → height m ≡ 2 ^ log → before ≡ m.values → w ≡ m.width
@@ -181,15 +193,25 @@ module _ {F : Type 0} (f : FieldMembers F) (generator : ℕ → F) where
   -- a single row is its own extension by no bits
   pub extension_of_row : (m : RowMajor F) (a : ℕ) (s : f.Element) → height m ≡ 1 → a ≡ 0 → IsExtension f generator m a s m
   extension_of_row m a s one none =
-      let single : 2 ^ (0 + a) ≡ 1 = let e : 0 + a ≡ 0 = omega (arith, none) in ap (λ n. 2 ^ n) e in
+      let single : 0 ≡ 0 + a = omega (arith, none) in
       extension_of_coefficients m m (values_of f m) a 0 s one
       (record { high = refl; wide = refl; values = transform_of_row f generator m one 0 one })
-      (is_values f.ring (λ n. f.value (generator n)) (values_of f m) (0 + a) s (values_of f m) (one ∙ sym single) refl
-      (λ i j below inside.
-      let column = λ (q : ℕ). (values_of f m).entry q j in
-      let x = point f.ring (λ n. f.value (generator n)) (0 + a) s i in
-      let first : i ≡ 0 = omega (arith, below, single) in
-      ap column first ∙ sym (ap (λ n. poly f.ring n column x) one ∙ poly-one f.ring column x)))
+      (row_on_coset m (0 + a) s one (one ∙ ap (λ n. 2 ^ n) single))
+
+  -- and so is what a transform answers of it
+  pub extension_of_told_row : (may_answer : RowMajor F → RowMajor F → Type 0) (m answered : RowMajor F) (a : ℕ) (s : f.Element) → height m ≡ 1 → a ≡ 0
+      → may_answer m answered → height answered ≡ height m → IsTransformedExtension f generator may_answer BitReversed m a s answered
+  extension_of_told_row may_answer m answered a s one none called tall = record {
+    coefficients = values_of f m;
+    are_coefficients = λ k e. record { high = refl; wide = refl; values = transform_of_row f generator m one k e };
+    told = m;
+    told_in_layout = λ k e. reversed_row k (values_of f m) one;
+    answered = answered;
+    called = called;
+    changed = values_of f answered;
+    answered_in_layout = λ k e. reversed_row k (values_of f answered) (tall ∙ one);
+    extended = λ k e. let same : k ≡ k + a = omega (arith, none) in row_on_coset answered (k + a) s (tall ∙ one) (tall ∙ e ∙ ap (λ n. 2 ^ n) same);
+  }
 
   -- values of what a transform, told the coefficients in bit reversed order, answered in that order
   pub values_of_answered : (may_answer : RowMajor F → RowMajor F → Type 0) (m told answered : RowMajor F) (a log : ℕ) (s : f.Element) (out : Matrix f.Element) → height m ≡ 2 ^ log
@@ -225,18 +247,8 @@ module _ {F : Type 0} (f : FieldMembers F) (generator : ℕ → F) where
       → IsTransformedExtension f generator may_answer BitReversed m a s out
   extension_of_answered may_answer m told answered out a log s high are called tall values = values_of_answered may_answer m told answered a log s (values_of f out) high are called tall values
 
--- a shape that can be extended, and one that is the same
-pub fits_as : (most height width added tall wide : ℕ) → FitsLde most height width added → tall ≡ height → wide ≡ width → FitsLde most tall wide added
-fits_as most height width added tall wide fits high same = record {
-  log = fits.log;
-  within = fits.within;
-  high = high ∙ fits.high;
-  wide = omega (arith, fits.wide, same);
-  size = subst (λ (w : ℕ). w * 2 ^ (fits.log + added) < 2 ^ 64) (sym same) fits.size;
-}
-
 -- two networks, and two products for each entry of the smaller matrix, are within the bound of an extension
-pub within_extension : {T E : Type 0} (r : Result T E) (bound : ℕ → ℕ → ℕ) (k a w before after : ℕ) → after ≤ before + bound k w + 2 * (2 ^ k * w) + bound (k + a) w
+pub within_extension : {T E : Type 0} (r : Result T E) (bound : ℕ → ℕ → ℕ) (k a w before after : ℕ) → after ≤ before + (bound k w + bound (k + a) w + 2 * (2 ^ k * w))
     → OnOk r (after ≤ before + extension_bound bound k a w)
 within_extension (Ok x) bound k a w before after made = let rise = entries_rise k a w in omega (arith, made, rise)
 within_extension (Err e) bound k a w before after made = tt

@@ -1,11 +1,14 @@
 -- Lists of jobs that are answered one after another.
-use Rattle.std.proofs.Common.{◌≡◌, ℕ, List, [], ◌∷◌, ◌++◌, length, take, get_or, sym, ap, ◌∙◌, subst, append_assoc, length-append, arith, Result, Ok, Err, OnErr}
+use Rattle.std.proofs.Common.{◌≡◌, ℕ, ◌+◌, ◌*◌, ◌^◌, ◌≤◌, List, [], ◌∷◌, ◌++◌, length, take, get_or, sym, ap, ◌∙◌, subst, append_assoc, length-append, arith, Result, Ok, Err, OnErr}
 use Rattle.std.proofs.Math.Seq.{get_or-append_seam, take-append_seam}
-use Rattle.std.proofs.lemmas.Slice.Zip.{AllZip-long}
-use Rattle.std.specs.List.{AllZip}
+use Rattle.std.proofs.lemmas.List.{append-nil}
+use Rattle.std.proofs.lemmas.List.Sums.{sum_by_push}
+use Rattle.std.proofs.lemmas.Slice.Zip.{AllZip-long, all_zipped_more}
+use Rattle.std.specs.List.{All, AllZip, sum}
 use Rattle.p3_field.specs.declared.fields.Field.{Ghosts as FieldMembers}
 use Rattle.p3_matrix.specs.RowMajor.{RowMajor}
-use Rattle.p3_dft.specs.Jobs.{AreFirstAnswers, IsAnswer, IsPromised, NextIsNotPromised}
+use Rattle.p3_matrix.proofs.TwoPowers.{log_same}
+use Rattle.p3_dft.specs.Jobs.{AreFirstAnswers, CanRun, IsAnswer, IsCost, IsPromised, IsServed, NextIsNotPromised}
 use Rattle.p3_dft.specs.declared.jobs.Job.{Job}
 use Rattle.p3_dft.specs.declared.jobs.Job.TheVariants.{Dft, CosetDft, Idft, CosetIdft, Lde, CosetLde}
 
@@ -23,6 +26,39 @@ promised_later before now coset_before coset_now keeps keeps_cosets (Idft m) (k,
 promised_later before now coset_before coset_now keeps keeps_cosets (CosetIdft m s) (k, high, promised) = (k, high, keeps k promised)
 promised_later before now coset_before coset_now keeps keeps_cosets (Lde m a) none = none
 promised_later before now coset_before coset_now keeps keeps_cosets (CosetLde m a s) none = none
+
+-- what stays known of heights stays known of those of a job
+pub served_later : {F : Type 0} (before now : ℕ → Type 0) → ((k : ℕ) → before k → now k) → (job : Job F) → IsServed before job → IsServed now job
+served_later before now keeps (Dft m) served = λ k high. keeps k (served k high)
+served_later before now keeps (CosetDft m s) served = λ k high. keeps k (served k high)
+served_later before now keeps (Idft m) served = λ k high. keeps k (served k high)
+served_later before now keeps (CosetIdft m s) served = λ k high. keeps k (served k high)
+served_later before now keeps (Lde m a) served = λ k high. let both = served k high in (keeps k both.0, keeps (k + a) both.1)
+served_later before now keeps (CosetLde m a s) served = λ k high. let both = served k high in (keeps k both.0, keeps (k + a) both.1)
+
+module _ {F : Type 0} (bound : ℕ → ℕ → ℕ) (extension : (ℕ → ℕ → ℕ) → ℕ → ℕ → ℕ → ℕ) where
+  -- a job that can be run has a cost
+  cost_of : (f : FieldMembers F) (bits : ℕ) (job : Job F) → CanRun f bits job → (n : ℕ) × IsCost bound extension job n
+  cost_of f bits (Dft m) fits = (bound fits.log m.width, λ k high. ap (λ l. bound l m.width) (log_same fits.log k (sym fits.high ∙ high)))
+  cost_of f bits (CosetDft m s) fits = (bound fits.log m.width + 2 ^ fits.log * m.width, λ k high. ap (λ l. bound l m.width + 2 ^ l * m.width) (log_same fits.log k (sym fits.high ∙ high)))
+  cost_of f bits (Idft m) fits = (bound fits.log m.width + 2 ^ fits.log * m.width, λ k high. ap (λ l. bound l m.width + 2 ^ l * m.width) (log_same fits.log k (sym fits.high ∙ high)))
+  cost_of f bits (CosetIdft m s) (fits, invertible) =
+      (bound fits.log m.width + 2 * (2 ^ fits.log * m.width), λ k high. ap (λ l. bound l m.width + 2 * (2 ^ l * m.width)) (log_same fits.log k (sym fits.high ∙ high)))
+  cost_of f bits (Lde m a) fits = (extension bound fits.log a m.width, λ k high. ap (λ l. extension bound l a m.width) (log_same fits.log k (sym fits.high ∙ high)))
+  cost_of f bits (CosetLde m a s) fits = (extension bound fits.log a m.width, λ k high. ap (λ l. extension bound l a m.width) (log_same fits.log k (sym fits.high ∙ high)))
+
+  -- no job, and one more, that made no more than its cost
+  pub costs_none : (none : List (Job F)) (before : ℕ) → none ≡ [] → (costs : List ℕ) × AllZip (IsCost bound extension) none costs × (before ≤ before + sum costs)
+  costs_none none before is = ([], rw is tt, omega arith)
+
+  pub costs_more : (f : FieldMembers F) (bits : ℕ) (done : List (Job F)) (job : Job F) (before now after : ℕ) → CanRun f bits job
+      → (costs : List ℕ) × AllZip (IsCost bound extension) done costs × (now ≤ before + sum costs) → ((n : ℕ) → IsCost bound extension job n → after ≤ now + n)
+      → (costs : List ℕ) × AllZip (IsCost bound extension) (done ++ job ∷ []) costs × (after ≤ before + sum costs)
+  costs_more f bits done job before now after runs (costs, each, so_far) turn =
+      let (n, is) = cost_of f bits job runs in
+      let made : after ≤ now + n = turn n is in
+      let total : sum (costs ++ n ∷ []) ≡ sum costs + n = sum_by_push (λ (x : ℕ). x) costs n in
+      (costs ++ n ∷ [], all_zipped_more (IsCost bound extension) done costs job n each is, omega (arith, so_far, made, total))
 
 module _ {F : Type 0} (f : FieldMembers F) (generator : ℕ → F) where
   -- the answers to the jobs before one that stands unanswered
@@ -50,3 +86,11 @@ module _ {F : Type 0} (f : FieldMembers F) (generator : ℕ → F) where
 -- one more element was taken
 pub split_more : {X : Type 0} (all done left later : List X) (x : X) → all ≡ done ++ left → left ≡ x ∷ later → all ≡ (done ++ x ∷ []) ++ later
 split_more all done left later x split next = split ∙ ap (λ rest. done ++ rest) next ∙ sym (append_assoc done (x ∷ []) later)
+
+-- what holds of those that were taken holds of all, when none is left
+pub of_all : {X : Type 0} (P : List X → Type 0) (all done left : List X) → all ≡ done ++ left → left ≡ [] → P done → P all
+of_all P all done left split none known = subst P (sym (split ∙ ap (λ rest. done ++ rest) none ∙ append-nil done)) known
+
+-- the next one is one of all
+pub next_of_all : {X : Type 0} (P : X → Type 0) (x : X) (later left : List X) → left ≡ x ∷ later → All P left → P x
+next_of_all P x later left next known = subst (All P) next known 0 x (omega arith)

@@ -37,6 +37,16 @@ pub prepared_before : (old new log n : ℕ) → (new ≡ old) ⊎ (new ≡ log) 
 prepared_before old new log n (inl same) now = inl (prepared_until old n (let held = until_prepared new n now in omega (arith, held, same)))
 prepared_before old new log n (inr made) now = inr (let held = until_prepared new n now in omega (arith, held, made))
 
+-- what was prepared before, or is at most one number, is at most a larger one else
+pub none_above : {P : Type 0} (n low k : ℕ) → low ≤ k → P ⊎ (n ≤ low) → P ⊎ (n ≤ k)
+none_above n low k rise (inl before) = inl before
+none_above n low k rise (inr below) = inr (omega (arith, below, rise))
+
+-- one call after another
+pub still_above : {P Q : Type 0} (n k : ℕ) → (Q → P ⊎ (n ≤ k)) → Q ⊎ (n ≤ k) → P ⊎ (n ≤ k)
+still_above n k first (inl now) = first now
+still_above n k first (inr below) = inr below
+
 -- an engine with twiddles of all heights up to one, and so many products
 abbrev pub up_to : ℕ → ℕ → Tabled
 up_to log products = record { prepared = range_with_len 1 log; products = products }

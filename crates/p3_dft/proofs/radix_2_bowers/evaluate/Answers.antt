@@ -13,13 +13,13 @@ returns-then-height-eq1-clause-values g c k high =
 
 pub two_adic_generator-generator-requires : goal.two_adic_generator-generator-requires
 two_adic_generator-generator-requires g c =
-    let same : c.log2_strict_usize-log_h.result ≡ c.requires.log = log_same _ _ (sym c.log2_strict_usize-log_h.ensures.power ∙ c.height-height.ensures.height ∙ c.requires.high) in
-    omega (arith, same, c.requires.within)
+    let same : c.log2_strict_usize-log_h.result ≡ c.requires.fits.log = log_same _ _ (sym c.log2_strict_usize-log_h.ensures.power ∙ c.height-height.ensures.height ∙ c.requires.fits.high) in
+    omega (arith, same, c.requires.fits.within)
 
 pub network_g-requires-clause-rooted : goal.network_g-requires-clause-rooted
 network_g-requires-clause-rooted g c =
-    let same : c.log2_strict_usize-log_h.result ≡ c.requires.log = log_same _ _ (sym c.log2_strict_usize-log_h.ensures.power ∙ c.height-height.ensures.height ∙ c.requires.high) in
-    omega (arith, same, c.requires.within)
+    let same : c.log2_strict_usize-log_h.result ≡ c.requires.fits.log = log_same _ _ (sym c.log2_strict_usize-log_h.ensures.power ∙ c.height-height.ensures.height ∙ c.requires.fits.high) in
+    omega (arith, same, c.requires.fits.within)
 
 pub network_g-requires-clause-twiddles : goal.network_g-requires-clause-twiddles
 network_g-requires-clause-twiddles g c =

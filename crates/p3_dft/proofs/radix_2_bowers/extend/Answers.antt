@@ -6,16 +6,16 @@ use Rattle.p3_dft.proofs.BitReversed.SpreadRows.{values_of_spread}
 use Rattle.p3_dft.proofs.radix_2_bowers.extend.Goals as goal
 
 pub spread_rows-requires-clause-bits : goal.spread_rows-requires-clause-bits
-spread_rows-requires-clause-bits g c = let small = output_log_small _ _ _ _ c.requires in omega (arith, small)
+spread_rows-requires-clause-bits g c = let small = output_log_small _ _ _ _ c.requires.fits in omega (arith, small)
 
 pub spread_rows-requires-clause-size : goal.spread_rows-requires-clause-size
-spread_rows-requires-clause-size g c = output_size _ _ _ _ c.requires
+spread_rows-requires-clause-size g c = output_size _ _ _ _ c.requires.fits
 
 pub evaluate-requires : goal.evaluate-requires
 evaluate-requires g c =
-    let fits = c.requires in
+    let fits = c.requires.fits in
     let shape = c.in_ok-mat.ensures.shape in
-    output_fits _ _ _ c.args.added_bits _ _ fits (shape.0 ∙ ap (λ h. h * 2 ^ c.args.added_bits) fits.high ∙ sym (pow-add 2 fits.log c.args.added_bits)) shape.1
+    record { fits = output_fits _ _ _ c.args.added_bits _ _ fits (shape.0 ∙ ap (λ h. h * 2 ^ c.args.added_bits) fits.high ∙ sym (pow-add 2 fits.log c.args.added_bits)) shape.1 }
 
 pub returns-clause-values : goal.returns-clause-values
 returns-clause-values g c k high =

@@ -7,19 +7,19 @@ use Rattle.p3_networks.proofs.Rows.Overwritten.{rows-none, rows-more, part_at, v
 use Rattle.p3_dft.proofs.radix_2_bowers.scale_rows.Goals as goal
 
 pub overflow_mul-start : goal.overflow_mul-start
-overflow_mul-start g c = omega (arith, block_room c.loop-i.i (length c.args.weights.now) c.args.width (length c.args.values.now) c.loop-i-test.true c.requires)
+overflow_mul-start g c = omega (arith, block_room c.loop-i.i (length c.args.weights.now) c.args.width (length c.args.values.now) c.loop-i-test.true c.requires.full)
 
 pub overflow_add-start : goal.overflow_add-start
-overflow_add-start g c = omega (arith, block_room c.loop-i.i (length c.args.weights.now) c.args.width (length c.args.values.now) c.loop-i-test.true c.requires)
+overflow_add-start g c = omega (arith, block_room c.loop-i.i (length c.args.weights.now) c.args.width (length c.args.values.now) c.loop-i-test.true c.requires.full)
 
 pub offset_bounds-values-start : goal.offset_bounds-values-start
 offset_bounds-values-start g c =
-    let room = block_room c.loop-i.i (length c.args.weights.now) c.args.width (length c.args.values.now) c.loop-i-test.true c.requires in
+    let room = block_room c.loop-i.i (length c.args.weights.now) c.args.width (length c.args.values.now) c.loop-i-test.true c.requires.full in
     let below : c.loop-i.i * c.args.width ≤ length c.args.values.now = omega (arith, room) in
     search (rules, scaled_fits≤)
 
 pub slice_bounds-scale_slice_in_place-end : goal.slice_bounds-scale_slice_in_place-end
-slice_bounds-scale_slice_in_place-end g c = omega (arith, block_room c.loop-i.i (length c.args.weights.now) c.args.width (length c.args.values.now) c.loop-i-test.true c.requires, c.loop-i.auto.values)
+slice_bounds-scale_slice_in_place-end g c = omega (arith, block_room c.loop-i.i (length c.args.weights.now) c.args.width (length c.args.values.now) c.loop-i-test.true c.requires.full, c.loop-i.auto.values)
 
 pub loop-i-init : goal.loop-i-init
 loop-i-init g c = record { values = rows-none g.F.Field.ZERO _ _ _; count = omega arith }
@@ -31,7 +31,7 @@ loop-i-preserved g c =
     let w = c.args.width in
     let m : (i * w + w) - i * w ≡ w = omega arith in
     let next : (i + 1) * w ≡ i * w + w = rw add-one (suc-mul i w) in
-    let room : i * w + w ≤ length c.loop-i.values = omega (arith, mul-le-mul_right w c.loop-i-test.true, next, c.requires, c.loop-i.auto.values) in
+    let room : i * w + w ≤ length c.loop-i.values = omega (arith, mul-le-mul_right w c.loop-i-test.true, next, c.requires.full, c.loop-i.auto.values) in
     let old_len : length (take ((i * w + w) - i * w) (drop (i * w) c.loop-i.values)) ≡ w = search (rules, places) in
     let len : length c.scale_slice_in_place.new.values ≡ w = c.scale_slice_in_place.auto.values ∙ old_len in
     let weight : field.value c.index-weights-i.result ≡ field.value (get_or c.args.weights.now i field.ZERO) =

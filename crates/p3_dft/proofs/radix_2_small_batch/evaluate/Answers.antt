@@ -17,7 +17,6 @@ returns-clause-values g c =
     (c.dit_network.ensures.values _ (λ (n : ℕ). g.F.Field.value (g.F.TwoAdicField.generator n)) g.met.F.TwoAdicField.roots_law c.requires.rooted c.requires.twiddles)
 
 pub reverse_rows-requires : goal.reverse_rows-requires
-reverse_rows-requires g c = (
-  c.args.log_h,
-  (written_shape c.args.mat.now _ c.dit_network.new.values refl refl (c.dit_network.auto.values ∙ ap length c.values_mut.ensures.values)).0 ∙ c.requires.height,
-)
+reverse_rows-requires g c =
+    let shape = written_shape c.args.mat.now _ c.dit_network.new.values refl refl (c.dit_network.auto.values ∙ ap length c.values_mut.ensures.values) in
+    record { power = (c.args.log_h, shape.0 ∙ c.requires.height) }

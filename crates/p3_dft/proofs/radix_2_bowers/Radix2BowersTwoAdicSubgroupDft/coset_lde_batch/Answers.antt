@@ -1,4 +1,5 @@
 use Rattle.std.proofs.Common.{◌≡◌, ℕ, ◌+◌, ◌*◌, ◌/◌, ◌^◌, ◌≤◌, OnOk, sym, ap, ap₂, ◌∙◌, subst, arith}
+use Rattle.std.proofs.Math.Nat.{le-add_right, le_trans}
 use Rattle.std.proofs.lemmas.Result.{IfOk-weaker}
 use Rattle.p3_field.specs.Ring.{count}
 use Rattle.p3_field.proofs.Powers.{count-power_of_two}
@@ -7,8 +8,9 @@ use Rattle.p3_matrix.specs.RowMajor.{RowMajor, height}
 use Rattle.p3_dft.specs.Extensions.{extension_bound}
 use Rattle.p3_dft.specs.Transforms.{values_of}
 use Rattle.p3_networks.proofs.Polynomials.Cosets.{coset_values}
-use Rattle.p3_dft.proofs.BitReversed.Coefficients.{extension_of_coefficients, shifted_quotient, within_extension, fits_as}
-use Rattle.p3_dft.proofs.Calls.Shapes.{input_fits}
+use Rattle.p3_dft.proofs.BitReversed.Coefficients.{extension_of_coefficients, extension_of_row, shifted_quotient, within_extension}
+use Rattle.p3_dft.proofs.Calls.Counts.{scaled_counted, weighed_counted}
+use Rattle.p3_dft.proofs.Calls.Shapes.{fits_lde_as, input_fits, log_within, more_points, output_log_small}
 use Rattle.p3_dft.proofs.radix_2_bowers.Radix2BowersTwoAdicSubgroupDft.coset_lde_batch.Goals as goal
 
 pub returns-clause-values : goal.returns-clause-values
@@ -34,11 +36,6 @@ returns-clause-values g c =
     (coset_values field.ring (λ n. field.value (g.F.TwoAdicField.generator n)) d shifted (log + a) s (values_of field out) on_coset given))
     (c.extend.ensures.values log (same.high ∙ tall)))
 
--- an inverse, a product for each entry and a transform
-weighed_counted : (after weighed middle start before bound entries scaled more_bound last_bound : ℕ) → start ≡ before → middle ≤ start + bound → weighed ≤ middle + scaled → scaled ≡ entries
-    → after ≤ weighed + last_bound → last_bound ≡ more_bound → after ≤ before + bound + 2 * entries + more_bound
-weighed_counted after weighed middle start before bound entries scaled more_bound last_bound same first second all third last = omega (arith, same, first, second, all, third, last)
-
 pub returns-clause-cost : goal.returns-clause-cost
 returns-clause-cost g c k e =
     let a = c.args.added_bits in
@@ -49,21 +46,49 @@ returns-clause-cost g c k e =
     let shape = c.in_ok-interpolate_scaled.ensures.shape in
     let tall : height c.interpolate_scaled.new.mat ≡ height m = shape.0 in
     let same = c.in_ok-weigh_reversed_rows.ensures.rows k (tall ∙ high) in
-    let first = c.interpolate_scaled.ensures.cost k high in
+    let first = le_trans (rw c.self.view_is at (c.interpolate_scaled.ensures.cost k high)) (le-add_right _ (2 ^ k * w)) in
     let entries : height c.interpolate_scaled.new.mat * c.interpolate_scaled.new.mat.width ≡ 2 ^ k * w = ap₂ (λ (h v : ℕ). h * v) (tall ∙ high) shape.1 in
     let last = c.extend.ensures.cost k (same.high ∙ tall ∙ high) in
     let wide : bound (k + a) c.weigh_reversed_rows.new.mat.width ≡ bound (k + a) w = ap (bound (k + a)) (same.wide ∙ shape.1) in
     subst (λ (v : ℕ). OnOk c.extend.result (c.extend.new.products ≤ c.args.self.now + extension_bound bound k a v)) (ap (λ (n : RowMajor g.row.F.Denot). n.width) c.into_row_major_matrix-mat.ensures)
     (within_extension c.extend.result bound k a w c.args.self.now c.extend.new.products
-    (weighed_counted _ _ _ _ _ _ _ _ _ _ c.self.view_is first c.weigh_reversed_rows.ensures.cost entries last wide))
+    (weighed_counted _ _ _ _ _ _ _ (scaled_counted _ _ _ _ _ _ first c.weigh_reversed_rows.ensures.cost entries) last wide))
 
 pub interpolate_scaled-requires : goal.interpolate_scaled-requires
-interpolate_scaled-requires g c = rw c.into_row_major_matrix-mat.ensures (input_fits _ _ _ _ c.requires)
+interpolate_scaled-requires g c = record { fits = rw c.into_row_major_matrix-mat.ensures (input_fits _ _ _ _ c.requires.fits) }
 
 pub extend-requires : goal.extend-requires
 extend-requires g c =
-    let fits = c.requires in
+    let fits = c.requires.fits in
     let stored = ap height c.into_row_major_matrix-mat.ensures in
     let shape = c.in_ok-interpolate_scaled.ensures.shape in
     let same = c.in_ok-weigh_reversed_rows.ensures.rows fits.log (shape.0 ∙ stored ∙ fits.high) in
-    fits_as _ _ _ c.args.added_bits _ _ fits (same.high ∙ shape.0 ∙ stored) (same.wide ∙ shape.1 ∙ ap (λ (n : RowMajor g.row.F.Denot). n.width) c.into_row_major_matrix-mat.ensures)
+    record { fits = fits_lde_as _ _ _ c.args.added_bits _ _ fits (same.high ∙ shape.0 ∙ stored) (same.wide ∙ shape.1 ∙ ap (λ (n : RowMajor g.row.F.Denot). n.width) c.into_row_major_matrix-mat.ensures) }
+
+pub overflow_add-log_h : goal.overflow_add-log_h
+overflow_add-log_h g c =
+    let small = log_within c.log2_strict_usize-log_h.result c.args.added_bits 63 c.requires.fits.log c.height.result c.log2_strict_usize-log_h.ensures.power
+    (c.height.ensures.height ∙ ap height c.into_row_major_matrix-mat.ensures ∙ c.requires.fits.high) (output_log_small _ _ _ _ c.requires.fits) in
+    omega (arith, small)
+
+pub returns-then-log_h-added_bits-eq0-clause-values : goal.returns-then-log_h-added_bits-eq0-clause-values
+returns-then-log_h-added_bits-eq0-clause-values g c =
+    let none : c.log2_strict_usize-log_h.result ≡ 0 = omega (arith, c.if-log_h-added_bits-eq0.true) in
+    let one : height c.into_row_major_matrix-mat.result ≡ 1 = sym c.height.ensures.height ∙ c.log2_strict_usize-log_h.ensures.power ∙ ap (λ n. 2 ^ n) none in
+    rw (← c.into_row_major_matrix-mat.ensures)
+    (extension_of_row g.F.Field g.F.TwoAdicField.generator c.into_row_major_matrix-mat.result c.args.added_bits (g.F.Field.value c.args.shift) one (omega (arith, c.if-log_h-added_bits-eq0.true)))
+
+pub returns-in_err-interpolate_scaled-clause-one_row : goal.returns-in_err-interpolate_scaled-clause-one_row
+returns-in_err-interpolate_scaled-clause-one_row g c one none =
+    absurd (more_points c.height.result c.log2_strict_usize-log_h.result c.args.added_bits c.log2_strict_usize-log_h.ensures.power c.if-log_h-added_bits-eq0.false
+    (c.height.ensures.height ∙ ap height c.into_row_major_matrix-mat.ensures ∙ one) none)
+
+pub returns-in_err-weigh_reversed_rows-clause-one_row : goal.returns-in_err-weigh_reversed_rows-clause-one_row
+returns-in_err-weigh_reversed_rows-clause-one_row g c one none =
+    absurd (more_points c.height.result c.log2_strict_usize-log_h.result c.args.added_bits c.log2_strict_usize-log_h.ensures.power c.if-log_h-added_bits-eq0.false
+    (c.height.ensures.height ∙ ap height c.into_row_major_matrix-mat.ensures ∙ one) none)
+
+pub returns-clause-one_row : goal.returns-clause-one_row
+returns-clause-one_row g c one none =
+    absurd (more_points c.height.result c.log2_strict_usize-log_h.result c.args.added_bits c.log2_strict_usize-log_h.ensures.power c.if-log_h-added_bits-eq0.false
+    (c.height.ensures.height ∙ ap height c.into_row_major_matrix-mat.ensures ∙ one) none)

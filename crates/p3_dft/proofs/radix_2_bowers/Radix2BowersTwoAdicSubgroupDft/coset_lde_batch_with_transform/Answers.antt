@@ -1,11 +1,16 @@
-use Rattle.std.proofs.Common.{◌≡◌, ℕ, ◌+◌, ◌*◌, ◌/◌, ◌^◌, ◌≤◌, ap, ap₂, ◌∙◌, subst, arith}
+use Rattle.std.proofs.Common.{◌≡◌, ℕ, ◌+◌, ◌*◌, ◌/◌, ◌^◌, ◌≤◌, sym, ap, ap₂, ◌∙◌, refl, arith}
 use Rattle.std.proofs.lemmas.Result.{IfOk-weaker}
 use Rattle.p3_matrix.specs.BitOrder.{bit_reversal}
 use Rattle.p3_matrix.specs.RowMajor.{RowMajor, height}
 use Rattle.p3_dft.specs.Transforms.{values_of}
 use Rattle.p3_networks.proofs.Polynomials.Cosets.{coset_values}
-use Rattle.p3_dft.proofs.BitReversed.Coefficients.{extension_of_answered, fits_as, shifted_by_one, within_extension}
+use Rattle.p3_dft.proofs.BitReversed.Coefficients.{extension_of_answered, extension_of_told_row, shifted_by_one, within_extension}
+use Rattle.p3_dft.proofs.Calls.Counts.{scaled_counted, weighed_counted}
+use Rattle.p3_dft.proofs.Calls.Shapes.{fits_lde_as, input_fits, log_within, more_points, output_log_small}
 use Rattle.p3_dft.proofs.radix_2_bowers.Radix2BowersTwoAdicSubgroupDft.coset_lde_batch_with_transform.Goals as goal
+
+pub interpolate-requires : goal.interpolate-requires
+interpolate-requires g c = record { fits = rw c.into_row_major_matrix-mat.ensures (input_fits _ _ _ _ c.requires.fits) }
 
 pub extend-requires : goal.extend-requires
 extend-requires g c =
@@ -16,7 +21,7 @@ extend-requires g c =
     let shape = c.requires.shape c.interpolate.new.mat c.transform-changed.result
     (are.high ∙ stored, are.wide ∙ ap (λ (n : RowMajor g.row.F.Denot). n.width) c.into_row_major_matrix-mat.ensures) c.transform-changed.ensures in
     let same = c.in_ok-weigh_reversed_rows.ensures.rows fits.log (shape.0 ∙ fits.high) in
-    fits_as _ _ _ c.args.added_bits _ _ fits (same.high ∙ shape.0) (same.wide ∙ shape.1)
+    record { fits = fits_lde_as _ _ _ c.args.added_bits _ _ fits (same.high ∙ shape.0) (same.wide ∙ shape.1) }
 
 pub returns-clause-values : goal.returns-clause-values
 returns-clause-values g c =
@@ -41,11 +46,6 @@ returns-clause-values g c =
     on_coset given))
     (c.extend.ensures.values log (same.high ∙ shape.0 ∙ fits.high))
 
--- an inverse, a product for each entry and a transform
-weighed_counted : (after weighed middle start before bound entries scaled more_bound last_bound : ℕ) → start ≡ before → middle ≤ start + bound + entries → weighed ≤ middle + scaled → scaled ≡ entries
-    → after ≤ weighed + last_bound → last_bound ≡ more_bound → after ≤ before + bound + 2 * entries + more_bound
-weighed_counted after weighed middle start before bound entries scaled more_bound last_bound same first second all third last = omega (arith, same, first, second, all, third, last)
-
 pub returns-clause-cost : goal.returns-clause-cost
 returns-clause-cost g c k e =
     let a = c.args.added_bits in
@@ -57,13 +57,12 @@ returns-clause-cost g c k e =
     let are = c.in_ok-interpolate.ensures.coefficients k (stored ∙ e) in
     let shape = c.requires.shape c.interpolate.new.mat c.transform-changed.result (are.high ∙ stored, are.wide ∙ width) c.transform-changed.ensures in
     let same = c.in_ok-weigh_reversed_rows.ensures.rows k (shape.0 ∙ e) in
-    let first : c.interpolate.new.products ≤ c.self.inside.products + bound k w + 2 ^ k * w =
-    subst (λ (v : ℕ). c.interpolate.new.products ≤ c.self.inside.products + bound k v + 2 ^ k * v) width (c.interpolate.ensures.cost k (stored ∙ e)) in
+    let first : c.interpolate.new.products ≤ c.args.self.now + bound k w + 2 ^ k * w = rw (c.self.view_is, width) at (c.interpolate.ensures.cost k (stored ∙ e)) in
     let entries : height c.transform-changed.result * c.transform-changed.result.width ≡ 2 ^ k * w = ap₂ (λ (h v : ℕ). h * v) (shape.0 ∙ e) shape.1 in
     let last = c.extend.ensures.cost k (same.high ∙ shape.0 ∙ e) in
     let wide : bound (k + a) c.weigh_reversed_rows.new.mat.width ≡ bound (k + a) w = ap (bound (k + a)) (same.wide ∙ shape.1) in
     within_extension c.extend.result bound k a w c.args.self.now c.extend.new.products
-    (weighed_counted _ _ _ _ _ _ _ _ _ _ c.self.view_is first c.weigh_reversed_rows.ensures.cost entries last wide)
+    (weighed_counted _ _ _ _ _ _ _ (scaled_counted _ _ _ _ _ _ first c.weigh_reversed_rows.ensures.cost entries) last wide)
 
 pub transform-changed-requires : goal.transform-changed-requires
 transform-changed-requires g c =
@@ -77,4 +76,38 @@ weigh_reversed_rows-requires g c =
     let are = c.in_ok-interpolate.ensures.coefficients c.requires.fits.log (stored ∙ c.requires.fits.high) in
     let shape = c.requires.shape c.interpolate.new.mat c.transform-changed.result
     (are.high ∙ stored, are.wide ∙ ap (λ (n : RowMajor g.row.F.Denot). n.width) c.into_row_major_matrix-mat.ensures) c.transform-changed.ensures in
-    (c.requires.fits.log, shape.0 ∙ c.requires.fits.high)
+    record { power = (c.requires.fits.log, shape.0 ∙ c.requires.fits.high) }
+
+pub overflow_add-log_h : goal.overflow_add-log_h
+overflow_add-log_h g c =
+    let small = log_within c.log2_strict_usize-log_h.result c.args.added_bits 63 c.requires.fits.log c.height.result c.log2_strict_usize-log_h.ensures.power
+    (c.height.ensures.height ∙ ap height c.into_row_major_matrix-mat.ensures ∙ c.requires.fits.high) (output_log_small _ _ _ _ c.requires.fits) in
+    omega (arith, small)
+
+pub transform-requires : goal.transform-requires
+transform-requires g c =
+    c.requires.callable c.into_row_major_matrix-mat.result (ap height c.into_row_major_matrix-mat.ensures, ap (λ (n : RowMajor g.row.F.Denot). n.width) c.into_row_major_matrix-mat.ensures)
+
+pub returns-then-log_h-added_bits-eq0-clause-values : goal.returns-then-log_h-added_bits-eq0-clause-values
+returns-then-log_h-added_bits-eq0-clause-values g c =
+    let none : c.log2_strict_usize-log_h.result ≡ 0 = omega (arith, c.if-log_h-added_bits-eq0.true) in
+    let m = g.N.IntoRowMajorMatrix.stored c.args.mat in
+    let one : height m ≡ 1 = sym (ap height c.into_row_major_matrix-mat.ensures) ∙ sym c.height.ensures.height ∙ c.log2_strict_usize-log_h.ensures.power ∙ ap (λ n. 2 ^ n) none in
+    let called = rw c.into_row_major_matrix-mat.ensures at c.transform.ensures in
+    extension_of_told_row g.F.Field g.F.TwoAdicField.generator _ m c.transform.result c.args.added_bits (g.F.Field.value c.args.shift) one (omega (arith, c.if-log_h-added_bits-eq0.true))
+    called (c.requires.shape m c.transform.result (refl, refl) called).0
+
+pub returns-in_err-interpolate-clause-one_row : goal.returns-in_err-interpolate-clause-one_row
+returns-in_err-interpolate-clause-one_row g c one none =
+    absurd (more_points c.height.result c.log2_strict_usize-log_h.result c.args.added_bits c.log2_strict_usize-log_h.ensures.power c.if-log_h-added_bits-eq0.false
+    (c.height.ensures.height ∙ ap height c.into_row_major_matrix-mat.ensures ∙ one) none)
+
+pub returns-in_err-weigh_reversed_rows-clause-one_row : goal.returns-in_err-weigh_reversed_rows-clause-one_row
+returns-in_err-weigh_reversed_rows-clause-one_row g c one none =
+    absurd (more_points c.height.result c.log2_strict_usize-log_h.result c.args.added_bits c.log2_strict_usize-log_h.ensures.power c.if-log_h-added_bits-eq0.false
+    (c.height.ensures.height ∙ ap height c.into_row_major_matrix-mat.ensures ∙ one) none)
+
+pub returns-clause-one_row : goal.returns-clause-one_row
+returns-clause-one_row g c one none =
+    absurd (more_points c.height.result c.log2_strict_usize-log_h.result c.args.added_bits c.log2_strict_usize-log_h.ensures.power c.if-log_h-added_bits-eq0.false
+    (c.height.ensures.height ∙ ap height c.into_row_major_matrix-mat.ensures ∙ one) none)

@@ -8,7 +8,16 @@ use Rattle.p3_dft.specs.Transforms.{values_of}
 use Rattle.p3_networks.proofs.Polynomials.Cosets.{coefficients_same}
 use Rattle.p3_dft.proofs.Calls.Inverses.{mapped_same}
 use Rattle.p3_dft.proofs.BitReversed.Rows.{transform_of_row}
+use Rattle.p3_dft.proofs.Calls.Shapes.{fits_dft_as}
 use Rattle.p3_dft.proofs.radix_2_bowers.Radix2BowersTwoAdicSubgroupDft.dft_batch.Goals as goal
+
+pub evaluate-requires : goal.evaluate-requires
+evaluate-requires g c =
+    let shape = c.reverse_rows.ensures.shape in
+    record {
+      fits = fits_dft_as _ _ _ _ _ c.requires.fits (shape.0 ∙ ap height c.into_row_major_matrix-mat.ensures)
+          (shape.1 ∙ ap (λ (m : RowMajor g.row.F.Denot). m.width) c.into_row_major_matrix-mat.ensures);
+    }
 
 pub returns-then-height-eq1-clause-values : goal.returns-then-height-eq1-clause-values
 returns-then-height-eq1-clause-values g c =

@@ -10,29 +10,37 @@ use Rattle.p3_dft.proofs.BitReversed.Coefficients.{interpolation_of_coefficients
 use Rattle.p3_dft.proofs.BitReversed.Rows.{transform_of_row}
 use Rattle.p3_dft.proofs.radix_2_bowers.Radix2BowersTwoAdicSubgroupDft.idft_batch.Goals as goal
 
+pub interpolate-requires : goal.interpolate-requires
+interpolate-requires g c = record { fits = rw c.into_row_major_matrix-mat.ensures c.requires.fits }
+
+pub reverse_rows-requires : goal.reverse_rows-requires
+reverse_rows-requires g c =
+    let high : height c.into_row_major_matrix-mat.result ≡ 2 ^ c.requires.fits.log = ap height c.into_row_major_matrix-mat.ensures ∙ c.requires.fits.high in
+    record { power = (c.requires.fits.log, (c.in_ok-interpolate.ensures.coefficients c.requires.fits.log high).high ∙ high) }
+
 pub returns-then-height-eq1-clause-coefficients : goal.returns-then-height-eq1-clause-coefficients
 returns-then-height-eq1-clause-coefficients g c =
     let m = c.into_row_major_matrix-mat.result in
-    let high : height m ≡ 2 ^ c.requires.log = ap height c.into_row_major_matrix-mat.ensures ∙ c.requires.high in
+    let high : height m ≡ 2 ^ c.requires.fits.log = ap height c.into_row_major_matrix-mat.ensures ∙ c.requires.fits.high in
     rw (← c.into_row_major_matrix-mat.ensures)
-    (interpolation_of_coefficients g.F.Field g.F.TwoAdicField.generator g.met.F.TwoAdicField.roots_law m m c.requires.log c.requires.within high
+    (interpolation_of_coefficients g.F.Field g.F.TwoAdicField.generator g.met.F.TwoAdicField.roots_law m m c.requires.fits.log c.requires.fits.within high
     (record {
       high = refl;
       wide = refl;
-      values = transform_of_row g.F.Field g.F.TwoAdicField.generator m (sym c.height.ensures.height ∙ c.if-height-eq1.true) c.requires.log high;
+      values = transform_of_row g.F.Field g.F.TwoAdicField.generator m (sym c.height.ensures.height ∙ c.if-height-eq1.true) c.requires.fits.log high;
     }))
 
 pub returns-clause-coefficients : goal.returns-clause-coefficients
 returns-clause-coefficients g c =
     let field = g.F.Field in
-    let log = c.requires.log in
+    let log = c.requires.fits.log in
     let m = c.into_row_major_matrix-mat.result in
     let reversed_coefficients = c.interpolate.new.mat in
     let out = c.reverse_rows.new.mat in
-    let high : height m ≡ 2 ^ log = ap height c.into_row_major_matrix-mat.ensures ∙ c.requires.high in
+    let high : height m ≡ 2 ^ log = ap height c.into_row_major_matrix-mat.ensures ∙ c.requires.fits.high in
     let are = c.in_ok-interpolate.ensures.coefficients log high in
     rw (← c.into_row_major_matrix-mat.ensures)
-    (interpolation_of_coefficients field g.F.TwoAdicField.generator g.met.F.TwoAdicField.roots_law m out log c.requires.within high
+    (interpolation_of_coefficients field g.F.TwoAdicField.generator g.met.F.TwoAdicField.roots_law m out log c.requires.fits.within high
     (same_coefficients field.ring g.met.F.TwoAdicField.roots_law (values_of field m) log field.ring.one (bit_reversal log (values_of field reversed_coefficients)) (values_of field out)
     (same_sym (values_of field out) (bit_reversal log (values_of field reversed_coefficients))
     (mapped_same field.value (matrix field.ZERO out) (bit_reversal log (matrix field.ZERO reversed_coefficients)) (c.reverse_rows.ensures.rows log (are.high ∙ high) field.ZERO)))

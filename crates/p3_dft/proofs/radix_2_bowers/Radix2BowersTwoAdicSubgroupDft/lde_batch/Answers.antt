@@ -1,17 +1,23 @@
-use Rattle.std.proofs.Common.{◌≡◌, ◌^◌, ap, ◌∙◌, ℕ, ◌+◌, ◌≤◌, arith}
+use Rattle.std.proofs.Common.{◌≡◌, ◌*◌, ◌/◌, ◌^◌, refl, sym, ap, ◌∙◌, arith}
+use Rattle.std.proofs.Math.Nat.{le-add_right}
 use Rattle.std.proofs.lemmas.Result.{IfOk-weaker}
 use Rattle.p3_matrix.specs.BitOrder.{bit_reversal}
 use Rattle.p3_matrix.specs.RowMajor.{RowMajor, height}
 use Rattle.p3_dft.specs.Transforms.{values_of}
-use Rattle.p3_dft.proofs.BitReversed.Coefficients.{extension_of_coefficients, fits_as}
+use Rattle.p3_dft.proofs.BitReversed.Coefficients.{extension_of_coefficients, extension_of_row, within_extension}
+use Rattle.p3_dft.proofs.Calls.Counts.{scaled_counted, weighed_counted}
+use Rattle.p3_dft.proofs.Calls.Shapes.{fits_lde_as, input_fits, log_within, more_points, output_log_small}
 use Rattle.p3_dft.proofs.radix_2_bowers.Radix2BowersTwoAdicSubgroupDft.lde_batch.Goals as goal
+
+pub interpolate-requires : goal.interpolate-requires
+interpolate-requires g c = record { fits = rw c.into_row_major_matrix-mat.ensures (input_fits _ _ _ _ c.requires.fits) }
 
 pub returns-clause-values : goal.returns-clause-values
 returns-clause-values g c =
     let field = g.F.Field in
-    let log = c.requires.log in
+    let log = c.requires.fits.log in
     let m = c.into_row_major_matrix-mat.result in
-    let high : height m ≡ 2 ^ log = ap height c.into_row_major_matrix-mat.ensures ∙ c.requires.high in
+    let high : height m ≡ 2 ^ log = ap height c.into_row_major_matrix-mat.ensures ∙ c.requires.fits.high in
     let are = c.in_ok-interpolate.ensures.coefficients log high in
     rw (← c.into_row_major_matrix-mat.ensures)
     (IfOk-weaker c.extend.result _ _
@@ -19,10 +25,6 @@ returns-clause-values g c =
     extension_of_coefficients field g.F.TwoAdicField.generator m out (bit_reversal log (values_of field c.interpolate.new.mat)) c.args.added_bits log field.ring.one high are
     given)
     (c.extend.ensures.values log (are.high ∙ high)))
-
--- an inverse and a transform
-both_counted : (after middle before bound entries more_bound more_entries : ℕ) → middle ≤ before + bound + entries → after ≤ middle + more_bound → after ≤ before + (bound + entries + (more_bound + more_entries))
-both_counted after middle before bound entries more_bound more_entries first second = omega (arith, first, second)
 
 pub returns-clause-cost : goal.returns-clause-cost
 returns-clause-cost g c k e =
@@ -32,11 +34,35 @@ returns-clause-cost g c k e =
     let wide : c.interpolate.new.mat.width ≡ (g.N.IntoRowMajorMatrix.stored c.args.mat).width = are.wide ∙ width in
     let first = rw (c.self.view_is, width) at (c.interpolate.ensures.cost k tall) in
     let second = rw wide at (c.extend.ensures.cost k (are.high ∙ tall)) in
-    IfOk-weaker c.extend.result _ _ (λ out given. both_counted _ _ _ _ _ _ _ first second) (c.extend.ensures.values k (are.high ∙ tall))
+    within_extension c.extend.result (λ n w. w * (n * 2 ^ n / 2)) k c.args.added_bits (g.N.IntoRowMajorMatrix.stored c.args.mat).width c.args.self.now c.extend.new.products
+    (weighed_counted _ _ _ _ _ _ _ (scaled_counted _ _ _ _ _ _ first (le-add_right _ _) refl) second refl)
 
 pub extend-requires : goal.extend-requires
 extend-requires g c =
-    let fits = c.requires in
+    let fits = c.requires.fits in
     let stored = ap height c.into_row_major_matrix-mat.ensures in
     let are = c.in_ok-interpolate.ensures.coefficients fits.log (stored ∙ fits.high) in
-    fits_as _ _ _ c.args.added_bits _ _ fits (are.high ∙ stored) (are.wide ∙ ap (λ (n : RowMajor g.row.F.Denot). n.width) c.into_row_major_matrix-mat.ensures)
+    record { fits = fits_lde_as _ _ _ c.args.added_bits _ _ fits (are.high ∙ stored) (are.wide ∙ ap (λ (n : RowMajor g.row.F.Denot). n.width) c.into_row_major_matrix-mat.ensures) }
+
+pub overflow_add-log_h : goal.overflow_add-log_h
+overflow_add-log_h g c =
+    let small = log_within c.log2_strict_usize-log_h.result c.args.added_bits 63 c.requires.fits.log c.height.result c.log2_strict_usize-log_h.ensures.power
+    (c.height.ensures.height ∙ ap height c.into_row_major_matrix-mat.ensures ∙ c.requires.fits.high) (output_log_small _ _ _ _ c.requires.fits) in
+    omega (arith, small)
+
+pub returns-then-log_h-added_bits-eq0-clause-values : goal.returns-then-log_h-added_bits-eq0-clause-values
+returns-then-log_h-added_bits-eq0-clause-values g c =
+    let none : c.log2_strict_usize-log_h.result ≡ 0 = omega (arith, c.if-log_h-added_bits-eq0.true) in
+    let one : height c.into_row_major_matrix-mat.result ≡ 1 = sym c.height.ensures.height ∙ c.log2_strict_usize-log_h.ensures.power ∙ ap (λ n. 2 ^ n) none in
+    rw (← c.into_row_major_matrix-mat.ensures)
+    (extension_of_row g.F.Field g.F.TwoAdicField.generator c.into_row_major_matrix-mat.result c.args.added_bits g.F.Field.ring.one one (omega (arith, c.if-log_h-added_bits-eq0.true)))
+
+pub returns-in_err-interpolate-clause-one_row : goal.returns-in_err-interpolate-clause-one_row
+returns-in_err-interpolate-clause-one_row g c one none =
+    absurd (more_points c.height.result c.log2_strict_usize-log_h.result c.args.added_bits c.log2_strict_usize-log_h.ensures.power c.if-log_h-added_bits-eq0.false
+    (c.height.ensures.height ∙ ap height c.into_row_major_matrix-mat.ensures ∙ one) none)
+
+pub returns-clause-one_row : goal.returns-clause-one_row
+returns-clause-one_row g c one none =
+    absurd (more_points c.height.result c.log2_strict_usize-log_h.result c.args.added_bits c.log2_strict_usize-log_h.ensures.power c.if-log_h-added_bits-eq0.false
+    (c.height.ensures.height ∙ ap height c.into_row_major_matrix-mat.ensures ∙ one) none)

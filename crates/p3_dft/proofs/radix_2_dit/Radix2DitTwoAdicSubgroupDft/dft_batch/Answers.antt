@@ -1,13 +1,13 @@
-use Rattle.std.proofs.Common.{false, ◌≡◌, ◌⊎◌, inl, inr, ℕ, ◌≤◌, List, sym, ap, ap₂, ◌∙◌, subst, arith}
+use Rattle.std.proofs.Common.{false, ◌≡◌, ◌⊎◌, inl, ℕ, ◌≤◌, List, sym, ap, ap₂, ◌∙◌, subst, arith}
 use Rattle.std.specs.List.{range_with_len}
 use Rattle.p3_matrix.specs.RowMajor.{RowMajor, height}
 use Rattle.p3_matrix.proofs.TwoPowers.{log_same}
 use Rattle.p3_networks.specs.Twiddles.{root_powers}
 use Rattle.p3_dft.specs.Engines.{Tabled, IsPrepared}
 use Rattle.p3_networks.proofs.Tables.MoreTwiddles.{fewer_layers}
-use Rattle.p3_dft.proofs.Calls.PreparedHeights.{not_ok, prepared_before, until_prepared, later_with_heights, prepared_at}
+use Rattle.p3_dft.proofs.Calls.PreparedHeights.{none_above, not_ok, prepared_before, until_prepared, later_with_heights, prepared_at}
 use Rattle.p3_dft.proofs.BitReversed.Rows.{transform_of_row}
-use Rattle.std.proofs.Math.Nat.{le_refl}
+use Rattle.std.proofs.Math.Nat.{le_of_eq, le_refl}
 use Rattle.p3_dft.proofs.radix_2_dit.Radix2DitTwoAdicSubgroupDft.dft_batch.Goals as goal
 
 pub returns-then-height-eq1-clause-values : goal.returns-then-height-eq1-clause-values
@@ -24,8 +24,8 @@ returns-then-height-eq1-clause-serves g c k high =
 pub make-requires-clause-within : goal.make-requires-clause-within
 make-requires-clause-within g c =
     let tall : c.height-height.result ≡ height (g.N.IntoRowMajorMatrix.stored c.args.mat) = c.height-height.ensures.height ∙ ap height c.into_row_major_matrix-mat.ensures in
-    let same : c.log2_strict_usize-log_h.result ≡ c.requires.log = log_same _ _ (sym c.log2_strict_usize-log_h.ensures.power ∙ tall ∙ c.requires.high) in
-    omega (arith, same, c.requires.within)
+    let same : c.log2_strict_usize-log_h.result ≡ c.requires.fits.log = log_same _ _ (sym c.log2_strict_usize-log_h.ensures.power ∙ tall ∙ c.requires.fits.high) in
+    omega (arith, same, c.requires.fits.within)
 
 pub returns-in_err-make-clause-succeeds : goal.returns-in_err-make-clause-succeeds
 returns-in_err-make-clause-succeeds g c k high ready =
@@ -39,8 +39,8 @@ returns-in_err-make-clause-succeeds g c k high ready =
 pub dit_matrix-requires-clause-rooted : goal.dit_matrix-requires-clause-rooted
 dit_matrix-requires-clause-rooted g c =
     let tall : c.height-height.result ≡ height (g.N.IntoRowMajorMatrix.stored c.args.mat) = c.height-height.ensures.height ∙ ap height c.into_row_major_matrix-mat.ensures in
-    let same : c.log2_strict_usize-log_h.result ≡ c.requires.log = log_same _ _ (sym c.log2_strict_usize-log_h.ensures.power ∙ tall ∙ c.requires.high) in
-    omega (arith, same, c.requires.within)
+    let same : c.log2_strict_usize-log_h.result ≡ c.requires.fits.log = log_same _ _ (sym c.log2_strict_usize-log_h.ensures.power ∙ tall ∙ c.requires.fits.high) in
+    omega (arith, same, c.requires.fits.within)
 
 pub dit_matrix-requires-clause-twiddles : goal.dit_matrix-requires-clause-twiddles
 dit_matrix-requires-clause-twiddles g c =
@@ -60,10 +60,6 @@ returns-clause-serves g c k high =
     let same : log ≡ k = log_same log k (sym c.log2_strict_usize-log_h.ensures.power ∙ tall ∙ high) in
     prepared_at _ _ k same c.in_ok-make.ensures.made
 
-or_below : {P : Type 0} (n log k : ℕ) → log ≡ k → P ⊎ (n ≤ log) → P ⊎ (n ≤ k)
-or_below n log k same (inl before) = inl before
-or_below n log k same (inr below) = inr (omega (arith, below, same))
-
 pub returns-in_err-make-clause-only : goal.returns-in_err-make-clause-only
 returns-in_err-make-clause-only g c k high n now =
     inl (subst (λ (e : Tabled). IsPrepared e n) c.self.view_is (subst (λ (t : ℕ). IsPrepared (record { prepared = range_with_len 1 t; products = c.self.inside.products }) n) c.in_err-make.ensures.refused now))
@@ -73,7 +69,7 @@ returns-clause-only g c k high n now =
     let tall : c.height-height.result ≡ height (g.N.IntoRowMajorMatrix.stored c.args.mat) = c.height-height.ensures.height ∙ ap height c.into_row_major_matrix-mat.ensures in
     let log = c.log2_strict_usize-log_h.result in
     let same : log ≡ k = log_same log k (sym c.log2_strict_usize-log_h.ensures.power ∙ tall ∙ high) in
-    or_below n log k same
+    none_above n log k (le_of_eq same)
     (subst (λ (e : Tabled). IsPrepared e n ⊎ (n ≤ log)) c.self.view_is (prepared_before c.self.inside.twiddles c.make.new.self log n c.make.ensures.only now))
 
 pub returns-clause-later : goal.returns-clause-later

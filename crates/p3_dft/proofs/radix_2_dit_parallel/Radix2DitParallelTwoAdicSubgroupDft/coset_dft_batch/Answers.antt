@@ -51,8 +51,8 @@ returns-then-height-eq1-clause-one_row g c one = (
 pub make-requires-clause-within : goal.make-requires-clause-within
 make-requires-clause-within g c =
     let tall : c.height-height.result ≡ height (g.N.IntoRowMajorMatrix.stored c.args.mat) = c.height-height.ensures.height ∙ ap height c.into_row_major_matrix-mat.ensures in
-    let same : c.log2_strict_usize-log_h.result ≡ c.requires.log = log_same _ _ (sym c.log2_strict_usize-log_h.ensures.power ∙ tall ∙ c.requires.high) in
-    omega (arith, same, c.requires.within)
+    let same : c.log2_strict_usize-log_h.result ≡ c.requires.fits.log = log_same _ _ (sym c.log2_strict_usize-log_h.ensures.power ∙ tall ∙ c.requires.fits.high) in
+    omega (arith, same, c.requires.fits.within)
 
 pub returns-in_err-place-clause-ready : goal.returns-in_err-place-clause-ready
 returns-in_err-place-clause-ready g c k high ready =

@@ -12,8 +12,8 @@ use Rattle.p3_dft.proofs.radix_2_dit_parallel.Radix2DitParallelTwoAdicSubgroupDf
 pub make-requires-clause-within : goal.make-requires-clause-within
 make-requires-clause-within g c =
     let tall : c.height-height.result ≡ height (g.N.IntoRowMajorMatrix.stored c.args.mat) = c.height-height.ensures.height ∙ ap height c.into_row_major_matrix-mat.ensures in
-    let same : c.log2_strict_usize-log_h.result ≡ c.requires.log = log_same _ _ (sym c.log2_strict_usize-log_h.ensures.power ∙ tall ∙ c.requires.high) in
-    omega (arith, same, c.requires.within)
+    let same : c.log2_strict_usize-log_h.result ≡ c.requires.fits.log = log_same _ _ (sym c.log2_strict_usize-log_h.ensures.power ∙ tall ∙ c.requires.fits.high) in
+    omega (arith, same, c.requires.fits.within)
 
 pub returns-in_err-make-clause-succeeds : goal.returns-in_err-make-clause-succeeds
 returns-in_err-make-clause-succeeds g c k high ready =

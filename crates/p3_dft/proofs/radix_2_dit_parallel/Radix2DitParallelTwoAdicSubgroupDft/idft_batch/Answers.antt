@@ -18,20 +18,20 @@ use Rattle.p3_dft.proofs.radix_2_dit_parallel.Radix2DitParallelTwoAdicSubgroupDf
 pub returns-then-height-eq1-clause-coefficients : goal.returns-then-height-eq1-clause-coefficients
 returns-then-height-eq1-clause-coefficients g c =
     let m = c.into_row_major_matrix-mat.result in
-    let high : height m ≡ 2 ^ c.requires.log = ap height c.into_row_major_matrix-mat.ensures ∙ c.requires.high in
+    let high : height m ≡ 2 ^ c.requires.fits.log = ap height c.into_row_major_matrix-mat.ensures ∙ c.requires.fits.high in
     rw (← c.into_row_major_matrix-mat.ensures)
-    (interpolation_of_coefficients g.F.Field g.F.TwoAdicField.generator g.met.F.TwoAdicField.roots_law m m c.requires.log c.requires.within high
+    (interpolation_of_coefficients g.F.Field g.F.TwoAdicField.generator g.met.F.TwoAdicField.roots_law m m c.requires.fits.log c.requires.fits.within high
     (record {
       high = refl;
       wide = refl;
-      values = transform_of_row g.F.Field g.F.TwoAdicField.generator m (sym c.height-height.ensures.height ∙ c.if-height-eq1.true) c.requires.log high;
+      values = transform_of_row g.F.Field g.F.TwoAdicField.generator m (sym c.height-height.ensures.height ∙ c.if-height-eq1.true) c.requires.fits.log high;
     }))
 
 pub make-requires-clause-within : goal.make-requires-clause-within
 make-requires-clause-within g c =
     let tall : c.height-height.result ≡ height (g.N.IntoRowMajorMatrix.stored c.args.mat) = c.height-height.ensures.height ∙ ap height c.into_row_major_matrix-mat.ensures in
-    let same : c.log2_strict_usize-log_h.result ≡ c.requires.log = log_same _ _ (sym c.log2_strict_usize-log_h.ensures.power ∙ tall ∙ c.requires.high) in
-    omega (arith, same, c.requires.within)
+    let same : c.log2_strict_usize-log_h.result ≡ c.requires.fits.log = log_same _ _ (sym c.log2_strict_usize-log_h.ensures.power ∙ tall ∙ c.requires.fits.high) in
+    omega (arith, same, c.requires.fits.within)
 
 pub returns-in_err-make-clause-succeeds : goal.returns-in_err-make-clause-succeeds
 returns-in_err-make-clause-succeeds g c k high ready =
@@ -45,8 +45,8 @@ returns-in_err-make-clause-succeeds g c k high ready =
 pub interpolate-requires-clause-rooted : goal.interpolate-requires-clause-rooted
 interpolate-requires-clause-rooted g c =
     let tall : c.height-height.result ≡ height (g.N.IntoRowMajorMatrix.stored c.args.mat) = c.height-height.ensures.height ∙ ap height c.into_row_major_matrix-mat.ensures in
-    let same : c.log2_strict_usize-log_h.result ≡ c.requires.log = log_same _ _ (sym c.log2_strict_usize-log_h.ensures.power ∙ tall ∙ c.requires.high) in
-    omega (arith, same, c.requires.within)
+    let same : c.log2_strict_usize-log_h.result ≡ c.requires.fits.log = log_same _ _ (sym c.log2_strict_usize-log_h.ensures.power ∙ tall ∙ c.requires.fits.high) in
+    omega (arith, same, c.requires.fits.within)
 
 pub returns-clause-coefficients : goal.returns-clause-coefficients
 returns-clause-coefficients g c =
@@ -56,11 +56,11 @@ returns-clause-coefficients g c =
     let reversed_coefficients = c.interpolate.new.mat in
     let out = c.reverse_rows.new.mat in
     let tall : c.height-height.result ≡ height (g.N.IntoRowMajorMatrix.stored c.args.mat) = c.height-height.ensures.height ∙ ap height c.into_row_major_matrix-mat.ensures in
-    let same : log ≡ c.requires.log = log_same _ _ (sym c.log2_strict_usize-log_h.ensures.power ∙ tall ∙ c.requires.high) in
+    let same : log ≡ c.requires.fits.log = log_same _ _ (sym c.log2_strict_usize-log_h.ensures.power ∙ tall ∙ c.requires.fits.high) in
     let high : height m ≡ 2 ^ log = sym c.height-height.ensures.height ∙ c.log2_strict_usize-log_h.ensures.power in
     let are = c.interpolate.ensures.coefficients in
     rw (← c.into_row_major_matrix-mat.ensures)
-    (interpolation_of_coefficients field g.F.TwoAdicField.generator g.met.F.TwoAdicField.roots_law m out log (omega (arith, same, c.requires.within)) high
+    (interpolation_of_coefficients field g.F.TwoAdicField.generator g.met.F.TwoAdicField.roots_law m out log (omega (arith, same, c.requires.fits.within)) high
     (same_coefficients field.ring g.met.F.TwoAdicField.roots_law (values_of field m) log field.ring.one (bit_reversal log (values_of field reversed_coefficients)) (values_of field out)
     (same_sym (values_of field out) (bit_reversal log (values_of field reversed_coefficients))
     (mapped_same field.value (matrix field.ZERO out) (bit_reversal log (matrix field.ZERO reversed_coefficients)) (c.reverse_rows.ensures.rows log (are.high ∙ high) field.ZERO)))

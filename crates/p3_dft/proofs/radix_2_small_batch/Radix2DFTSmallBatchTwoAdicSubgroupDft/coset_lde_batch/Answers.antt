@@ -10,7 +10,7 @@ use Rattle.p3_networks.specs.Cosets.{coset_shift}
 use Rattle.p3_dft.specs.Extensions.{extension_bound}
 use Rattle.p3_dft.specs.Transforms.{values_of}
 use Rattle.p3_dft.specs.Engines.{Tabled, IsPrepared}
-use Rattle.p3_dft.proofs.Calls.Shapes.{log_within, output_log_small}
+use Rattle.p3_dft.proofs.Calls.Shapes.{log_within, more_points, output_log_small}
 use Rattle.p3_networks.proofs.Layers.Counts.{extension_made, fewer_than_parts}
 use Rattle.p3_networks.proofs.Polynomials.Cosets.{coset_values}
 use Rattle.p3_dft.proofs.BitReversed.Coefficients.{extension_of_coefficients, extension_of_row, shifted_quotient}
@@ -22,55 +22,52 @@ on_ok : {T E : Type 0} (r : Result T E) {P : Type 0} → P → OnOk r P
 on_ok (Ok x) known = known
 on_ok (Err e) known = tt
 
-more_points : (h log a : ℕ) → h ≡ 2 ^ log → (log + a ≡ 0 → ⊥) → h ≡ 1 → a ≡ 0 → ⊥
-more_points h log a is more one none = let single : log ≡ 0 = log_same log 0 (sym is ∙ one) in more (omega (arith, none, single))
-
 pub overflow_add-log_h : goal.overflow_add-log_h
 overflow_add-log_h g c =
-    let small = log_within c.log2_strict_usize-log_h.result c.args.added_bits 63 c.requires.log c.height.result c.log2_strict_usize-log_h.ensures.power
-    (c.height.ensures.height ∙ ap height c.into_row_major_matrix-mat.ensures ∙ c.requires.high) (output_log_small _ _ _ _ c.requires) in
+    let small = log_within c.log2_strict_usize-log_h.result c.args.added_bits 63 c.requires.fits.log c.height.result c.log2_strict_usize-log_h.ensures.power
+    (c.height.ensures.height ∙ ap height c.into_row_major_matrix-mat.ensures ∙ c.requires.fits.high) (output_log_small _ _ _ _ c.requires.fits) in
     omega (arith, small)
 
 pub overflow_add-log_h-2 : goal.overflow_add-log_h-2
 overflow_add-log_h-2 g c =
-    let small = log_within c.log2_strict_usize-log_h.result c.args.added_bits 63 c.requires.log c.height.result c.log2_strict_usize-log_h.ensures.power
-    (c.height.ensures.height ∙ ap height c.into_row_major_matrix-mat.ensures ∙ c.requires.high) (output_log_small _ _ _ _ c.requires) in
+    let small = log_within c.log2_strict_usize-log_h.result c.args.added_bits 63 c.requires.fits.log c.height.result c.log2_strict_usize-log_h.ensures.power
+    (c.height.ensures.height ∙ ap height c.into_row_major_matrix-mat.ensures ∙ c.requires.fits.high) (output_log_small _ _ _ _ c.requires.fits) in
     omega (arith, small)
 
 pub make-requires-clause-within : goal.make-requires-clause-within
 make-requires-clause-within g c =
-    log_within c.log2_strict_usize-log_h.result c.args.added_bits _ c.requires.log c.height.result c.log2_strict_usize-log_h.ensures.power
-    (c.height.ensures.height ∙ ap height c.into_row_major_matrix-mat.ensures ∙ c.requires.high) c.requires.within
+    log_within c.log2_strict_usize-log_h.result c.args.added_bits _ c.requires.fits.log c.height.result c.log2_strict_usize-log_h.ensures.power
+    (c.height.ensures.height ∙ ap height c.into_row_major_matrix-mat.ensures ∙ c.requires.fits.high) c.requires.fits.within
 
 pub make-requires-clause-small : goal.make-requires-clause-small
 make-requires-clause-small g c =
-    let small = log_within c.log2_strict_usize-log_h.result c.args.added_bits 63 c.requires.log c.height.result c.log2_strict_usize-log_h.ensures.power
-    (c.height.ensures.height ∙ ap height c.into_row_major_matrix-mat.ensures ∙ c.requires.high) (output_log_small _ _ _ _ c.requires) in
+    let small = log_within c.log2_strict_usize-log_h.result c.args.added_bits 63 c.requires.fits.log c.height.result c.log2_strict_usize-log_h.ensures.power
+    (c.height.ensures.height ∙ ap height c.into_row_major_matrix-mat.ensures ∙ c.requires.fits.high) (output_log_small _ _ _ _ c.requires.fits) in
     omega (arith, small)
 
 pub interpolate_reversed-requires-clause-rooted : goal.interpolate_reversed-requires-clause-rooted
 interpolate_reversed-requires-clause-rooted g c =
-    let within = log_within c.log2_strict_usize-log_h.result c.args.added_bits _ c.requires.log c.height.result c.log2_strict_usize-log_h.ensures.power
-    (c.height.ensures.height ∙ ap height c.into_row_major_matrix-mat.ensures ∙ c.requires.high) c.requires.within in
+    let within = log_within c.log2_strict_usize-log_h.result c.args.added_bits _ c.requires.fits.log c.height.result c.log2_strict_usize-log_h.ensures.power
+    (c.height.ensures.height ∙ ap height c.into_row_major_matrix-mat.ensures ∙ c.requires.fits.high) c.requires.fits.within in
     omega (arith, within)
 
 pub extend-requires-clause-small : goal.extend-requires-clause-small
 extend-requires-clause-small g c =
-    let small = log_within c.log2_strict_usize-log_h.result c.args.added_bits 63 c.requires.log c.height.result c.log2_strict_usize-log_h.ensures.power
-    (c.height.ensures.height ∙ ap height c.into_row_major_matrix-mat.ensures ∙ c.requires.high) (output_log_small _ _ _ _ c.requires) in
+    let small = log_within c.log2_strict_usize-log_h.result c.args.added_bits 63 c.requires.fits.log c.height.result c.log2_strict_usize-log_h.ensures.power
+    (c.height.ensures.height ∙ ap height c.into_row_major_matrix-mat.ensures ∙ c.requires.fits.high) (output_log_small _ _ _ _ c.requires.fits) in
     omega (arith, small)
 
 pub extend-requires-clause-rooted : goal.extend-requires-clause-rooted
 extend-requires-clause-rooted g c =
-    log_within c.log2_strict_usize-log_h.result c.args.added_bits _ c.requires.log c.height.result c.log2_strict_usize-log_h.ensures.power
-    (c.height.ensures.height ∙ ap height c.into_row_major_matrix-mat.ensures ∙ c.requires.high) c.requires.within
+    log_within c.log2_strict_usize-log_h.result c.args.added_bits _ c.requires.fits.log c.height.result c.log2_strict_usize-log_h.ensures.power
+    (c.height.ensures.height ∙ ap height c.into_row_major_matrix-mat.ensures ∙ c.requires.fits.high) c.requires.fits.within
 
 pub extend-requires-clause-room : goal.extend-requires-clause-room
 extend-requires-clause-room g c =
-    let same : c.log2_strict_usize-log_h.result ≡ c.requires.log =
-    log_same _ _ (sym c.log2_strict_usize-log_h.ensures.power ∙ c.height.ensures.height ∙ ap height c.into_row_major_matrix-mat.ensures ∙ c.requires.high) in
+    let same : c.log2_strict_usize-log_h.result ≡ c.requires.fits.log =
+    log_same _ _ (sym c.log2_strict_usize-log_h.ensures.power ∙ c.height.ensures.height ∙ ap height c.into_row_major_matrix-mat.ensures ∙ c.requires.fits.high) in
     let entries = ap₂ (λ w n. w * 2 ^ (n + c.args.added_bits)) (c.interpolate_reversed.ensures.shape.1 ∙ ap (λ (n : RowMajor g.row.F.Denot). n.width) c.into_row_major_matrix-mat.ensures) same in
-    omega (arith, entries, c.requires.size)
+    omega (arith, entries, c.requires.fits.size)
 
 pub returns-then-log_h-added_bits-eq0-clause-values : goal.returns-then-log_h-added_bits-eq0-clause-values
 returns-then-log_h-added_bits-eq0-clause-values g c =

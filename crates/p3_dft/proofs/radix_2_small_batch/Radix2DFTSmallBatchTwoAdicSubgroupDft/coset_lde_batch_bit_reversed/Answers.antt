@@ -10,7 +10,7 @@ use Rattle.p3_dft.proofs.BitReversed.Rows.{values_seen}
 use Rattle.p3_dft.proofs.Calls.ExtendedTransforms.{extension_of_natural}
 use Rattle.p3_dft.proofs.Calls.Padding.{padded_shape, padded_whole}
 use Rattle.p3_dft.proofs.Calls.PreparedHeights.{prepared_until, until_prepared, both_prepared}
-use Rattle.p3_dft.proofs.Calls.Shapes.{log_within, output_log_small, output_size}
+use Rattle.p3_dft.proofs.Calls.Shapes.{input_fits, log_within, output_log_small, output_size}
 use Rattle.p3_dft.proofs.radix_2_small_batch.Radix2DFTSmallBatchTwoAdicSubgroupDft.coset_lde_batch_bit_reversed.Goals as goal
 
 -- a call after heights were prepared, without a product
@@ -185,3 +185,6 @@ returns-clause-cost g c k e =
 pub extend_in_slots-requires-clause-whole : goal.extend_in_slots-requires-clause-whole
 extend_in_slots-requires-clause-whole g c =
     rw c.in_ok-grown.ensures.padded (padded_whole g.F.Field.ZERO c.transform-changed.result c.pad_rows.ensures.whole c.args.added_bits)
+
+pub idft_batch-requires : goal.idft_batch-requires
+idft_batch-requires g c = record { fits = rw c.into_row_major_matrix-mat.ensures (input_fits _ _ _ _ c.requires.fits) }

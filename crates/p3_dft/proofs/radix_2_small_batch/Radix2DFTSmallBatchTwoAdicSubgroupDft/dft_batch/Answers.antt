@@ -23,8 +23,8 @@ returns-then-height-eq1-clause-serves g c k high =
 pub make-requires-clause-within : goal.make-requires-clause-within
 make-requires-clause-within g c =
     let tall : c.height-height.result ≡ height (g.N.IntoRowMajorMatrix.stored c.args.mat) = c.height-height.ensures.height ∙ ap height c.into_row_major_matrix-mat.ensures in
-    let same : c.log2_strict_usize-log_h.result ≡ c.requires.log = log_same _ _ (sym c.log2_strict_usize-log_h.ensures.power ∙ tall ∙ c.requires.high) in
-    omega (arith, same, c.requires.within)
+    let same : c.log2_strict_usize-log_h.result ≡ c.requires.fits.log = log_same _ _ (sym c.log2_strict_usize-log_h.ensures.power ∙ tall ∙ c.requires.fits.high) in
+    omega (arith, same, c.requires.fits.within)
 
 pub returns-in_err-make-clause-succeeds : goal.returns-in_err-make-clause-succeeds
 returns-in_err-make-clause-succeeds g c k high ready =
@@ -38,8 +38,8 @@ returns-in_err-make-clause-succeeds g c k high ready =
 pub evaluate-requires-clause-rooted : goal.evaluate-requires-clause-rooted
 evaluate-requires-clause-rooted g c =
     let tall : c.height-height.result ≡ height (g.N.IntoRowMajorMatrix.stored c.args.mat) = c.height-height.ensures.height ∙ ap height c.into_row_major_matrix-mat.ensures in
-    let same : c.log2_strict_usize-log_h.result ≡ c.requires.log = log_same _ _ (sym c.log2_strict_usize-log_h.ensures.power ∙ tall ∙ c.requires.high) in
-    omega (arith, same, c.requires.within)
+    let same : c.log2_strict_usize-log_h.result ≡ c.requires.fits.log = log_same _ _ (sym c.log2_strict_usize-log_h.ensures.power ∙ tall ∙ c.requires.fits.high) in
+    omega (arith, same, c.requires.fits.within)
 
 pub evaluate-requires-clause-some : goal.evaluate-requires-clause-some
 evaluate-requires-clause-some g c = some_log c.height-height.result c.log2_strict_usize-log_h.result c.log2_strict_usize-log_h.ensures.power c.if-height-eq1.false

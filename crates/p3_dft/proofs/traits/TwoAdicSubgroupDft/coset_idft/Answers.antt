@@ -1,11 +1,13 @@
 use Rattle.std.proofs.Common.{arith}
 use Rattle.p3_dft.specs.Transforms.{IsInterpolation}
-use Rattle.p3_dft.proofs.Calls.Columns.{vector_answer, vector_fits, vector_height, vector_width}
+use Rattle.p3_dft.proofs.Calls.Columns.{vector_answer, vector_height, vector_rows, vector_width}
 use Rattle.p3_dft.proofs.Calls.PreparedHeights.{not_ok}
+use Rattle.p3_dft.proofs.Calls.Shapes.{fits_dft_as}
 use Rattle.p3_dft.proofs.traits.TwoAdicSubgroupDft.coset_idft.Goals as goal
 
 pub coset_idft_batch-requires-clause-fits : goal.coset_idft_batch-requires-clause-fits
-coset_idft_batch-requires-clause-fits g c = vector_fits c.new_col.result c.args.vec.items _ c.new_col.ensures c.args.vec.ok.0 _ c.requires.fits
+coset_idft_batch-requires-clause-fits g c =
+    fits_dft_as _ _ _ _ _ c.requires.fits (vector_rows c.new_col.result c.args.vec.items _ c.new_col.ensures c.args.vec.ok.0) (vector_width c.new_col.result c.args.vec.items _ c.new_col.ensures c.args.vec.ok.0)
 
 pub returns-clause-coefficients : goal.returns-clause-coefficients
 returns-clause-coefficients g c =

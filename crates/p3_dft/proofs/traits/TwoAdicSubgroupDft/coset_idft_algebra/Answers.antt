@@ -1,7 +1,8 @@
 use Rattle.std.proofs.Common.{arith}
 use Rattle.p3_dft.specs.Transforms.{IsInterpolation}
-use Rattle.p3_dft.proofs.Calls.Columns.{vector_height, vector_row, vector_row_fits}
+use Rattle.p3_dft.proofs.Calls.Columns.{vector_height, vector_row, vector_rows}
 use Rattle.p3_dft.proofs.Calls.Coordinates.{column_height, of_columns}
+use Rattle.p3_dft.proofs.Calls.Shapes.{fits_dft_as}
 use Rattle.p3_dft.proofs.traits.TwoAdicSubgroupDft.coset_idft_algebra.Goals as goal
 
 pub returns-clause-coefficients : goal.returns-clause-coefficients
@@ -29,4 +30,4 @@ returns-clause-cost g c k high =
 
 pub coset_idft_algebra_batch-requires-clause-fits : goal.coset_idft_algebra_batch-requires-clause-fits
 coset_idft_algebra_batch-requires-clause-fits g c =
-    vector_row_fits c.new_col.result c.args.vec.items _ c.new_col.ensures c.args.vec.ok.0 g.F.TwoAdicField.TWO_ADICITY g.V.BasedVectorSpace.DIMENSION c.requires.fits
+    fits_dft_as _ _ _ _ _ c.requires.fits (vector_rows c.new_col.result c.args.vec.items _ c.new_col.ensures c.args.vec.ok.0) (vector_row c.new_col.result c.args.vec.items _ c.new_col.ensures c.args.vec.ok.0 g.V.BasedVectorSpace.DIMENSION)

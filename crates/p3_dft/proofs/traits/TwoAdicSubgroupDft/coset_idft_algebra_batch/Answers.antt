@@ -1,14 +1,18 @@
-use Rattle.std.proofs.Common.{◌∙◌, refl}
+use Rattle.std.proofs.Common.{ap, refl, ◌∙◌}
 use Rattle.std.proofs.lemmas.Result.{IfOk-weaker}
 use Rattle.p3_dft.specs.Transforms.{IsInterpolation}
-use Rattle.p3_dft.proofs.Calls.Coordinates.{flat_fits, gathered_answer, gathered_width}
+use Rattle.p3_dft.proofs.Calls.Coordinates.{gathered_answer, gathered_width}
+use Rattle.p3_dft.proofs.Calls.Shapes.{fits_dft_as}
+use Rattle.p3_matrix.specs.RowMajor.{RowMajor}
 use Rattle.p3_dft.proofs.traits.TwoAdicSubgroupDft.coset_idft_algebra_batch.Goals as goal
 
 pub gather-requires : goal.gather-requires
 gather-requires g c =
-    gathered_width g.V.BasedVectorSpace g.met.V.BasedVectorSpace.dimension_law c.args.mat c.in_ok-flatten.field-0 c.in_ok-flatten.ensures.flat
-    c.in_ok-coefficients.coefficients c.in_ok-coefficients.coefficients c.width-width.result g.V.BasedVectorSpace.DIMENSION
-    refl (c.in_ok-coefficients.ensures.coefficients.holds c.requires.fits.log (c.in_ok-flatten.ensures.height ∙ c.requires.fits.high)).wide c.width-width.ensures.width refl
+    record {
+      width = gathered_width g.V.BasedVectorSpace g.met.V.BasedVectorSpace.dimension_law c.args.mat c.in_ok-flatten.field-0 c.in_ok-flatten.ensures.flat
+          c.in_ok-coefficients.coefficients c.in_ok-coefficients.coefficients c.width-width.result g.V.BasedVectorSpace.DIMENSION
+          refl (c.in_ok-coefficients.ensures.coefficients.holds c.requires.fits.log (c.in_ok-flatten.ensures.height ∙ c.requires.fits.high)).wide c.width-width.ensures.width refl;
+    }
 
 pub returns-clause-coefficients : goal.returns-clause-coefficients
 returns-clause-coefficients g c =
@@ -26,5 +30,4 @@ returns-clause-cost g c k e =
 
 pub coset_idft_batch-requires-clause-fits : goal.coset_idft_batch-requires-clause-fits
 coset_idft_batch-requires-clause-fits g c =
-    flat_fits g.V.BasedVectorSpace g.met.V.BasedVectorSpace.dimension_law c.args.mat c.in_ok-flatten.field-0 c.in_ok-flatten.ensures.flat g.F.TwoAdicField.TWO_ADICITY
-    c.in_ok-flatten.ensures.height c.requires.fits
+    fits_dft_as _ _ _ _ _ c.requires.fits c.in_ok-flatten.ensures.height (ap (λ (a : RowMajor g.row.F.Denot). a.width) c.in_ok-flatten.ensures.flat)

@@ -1,5 +1,6 @@
-use Rattle.std.proofs.Common.{◌≡◌, ℕ, ◌+◌, ◌*◌, ◌^◌, ◌≤◌, ap₂, ◌∙◌, arith}
+use Rattle.std.proofs.Common.{◌≡◌, ℕ, ◌*◌, ◌^◌, ap₂, ◌∙◌}
 use Rattle.p3_matrix.specs.RowMajor.{height}
+use Rattle.p3_dft.proofs.Calls.Counts.{added_counted, scaled_counted}
 use Rattle.p3_dft.proofs.Calls.Inverses.{interpolation_on_coset}
 use Rattle.p3_dft.proofs.Calls.EngineSteps.{later_by_products, later_still}
 use Rattle.p3_dft.proofs.traits.TwoAdicSubgroupDft.coset_idft_batch.Goals as goal
@@ -21,15 +22,10 @@ returns-clause-later g c =
     (later_by_products g.Self.TwoAdicSubgroupDft.promised g.Self.TwoAdicSubgroupDft.coset_promised g.Self.TwoAdicSubgroupDft.served g.Self.TwoAdicSubgroupDft.made _ _ _
     c.add_products.ensures.made c.add_products.ensures.promised c.add_products.ensures.coset_promised c.add_products.ensures.served)
 
--- an inverse, and a product for each entry
-scaled_after : (after middle before bound entries scaled start products : ℕ) → after ≡ middle + products → middle ≤ before + bound + entries → products ≤ start + scaled → start ≡ 0
-    → scaled ≡ entries → after ≤ before + bound + 2 * entries
-scaled_after after middle before bound entries scaled start products added first second none same = omega (arith, added, first, second, none, same)
-
 pub returns-clause-cost : goal.returns-clause-cost
 returns-clause-cost g c k high =
     let m = g.N.IntoRowMajorMatrix.stored c.args.mat in
     let out = c.in_ok-coefficients.coefficients in
     let are = c.in_ok-coefficients.ensures.coefficients.holds k high in
     let entries : height out * out.width ≡ 2 ^ k * m.width = ap₂ (λ (h w : ℕ). h * w) (are.high ∙ high) are.wide in
-    scaled_after _ _ _ _ _ _ _ _ c.add_products.ensures.made (c.in_ok-coefficients.ensures.cost k high) c.shift_rows.ensures.cost c.new-products.ensures entries
+    scaled_counted _ _ _ _ _ _ (c.in_ok-coefficients.ensures.cost k high) (added_counted _ _ _ _ _ c.add_products.ensures.made c.shift_rows.ensures.cost c.new-products.ensures) entries

@@ -1,17 +1,13 @@
-use Rattle.std.proofs.Common.{◌≡◌, ℕ, ◌+◌, ◌*◌, ◌^◌, ◌≤◌, ◌∙◌, ap, arith}
+use Rattle.std.proofs.Common.{◌≡◌, ◌+◌, ◌*◌, ◌^◌, ◌∙◌, ap, arith}
 use Rattle.std.proofs.lemmas.Result.{IfOk-weaker, on_ok_weaker}
+use Rattle.p3_dft.proofs.Calls.Counts.{parts_counted}
 use Rattle.p3_dft.proofs.Calls.ExtendedTransforms.{answered_shape, extension_of_parts}
 use Rattle.p3_dft.proofs.Calls.Padding.{padded_shape}
 use Rattle.p3_dft.proofs.Calls.Shapes.{input_fits, output_fits, output_log_small, output_size}
 use Rattle.p3_dft.proofs.traits.TwoAdicSubgroupDft.coset_lde_batch_by_parts.Goals as goal
 
--- the bounds and the entries of an inverse and of a larger transform
-parts_counted : (after middle before bound entries more_bound more_entries b e : ℕ) → middle ≤ before + bound + entries → b + e ≡ more_bound + more_entries → after ≤ middle + b + e
-    → after ≤ before + (bound + entries + (more_bound + more_entries))
-parts_counted after middle before bound entries more_bound more_entries b e first same second = omega (arith, first, same, second)
-
 pub idft_batch-requires : goal.idft_batch-requires
-idft_batch-requires g c = input_fits _ _ _ _ c.requires.fits
+idft_batch-requires g c = record { fits = input_fits _ _ _ _ c.requires.fits }
 
 pub pad_rows-requires-clause-bits : goal.pad_rows-requires-clause-bits
 pad_rows-requires-clause-bits g c = let small = output_log_small _ _ _ _ c.requires.fits in omega arith
@@ -34,7 +30,7 @@ coset_dft_batch-requires g c =
     let back = c.exchange_layouts-2.ensures.shape in
     let grown = padded_shape z (g.N.IntoRowMajorMatrix.stored c.args.mat) c.exchange_layouts-2.new.mat c.in_ok-coefficients-2.coefficients a fits.log c.pad_rows.ensures.whole
     (back.0 ∙ shape.0, back.1 ∙ shape.1) fits.high c.in_ok-coefficients-2.ensures.padded in
-    output_fits _ _ _ a _ _ fits grown.0 grown.1
+    record { fits = output_fits _ _ _ a _ _ fits grown.0 grown.1 }
 
 pub returns-clause-values : goal.returns-clause-values
 returns-clause-values g c =
@@ -96,3 +92,15 @@ returns-in_err-coefficients-clause-later g c = c.idft_batch.ensures.later
 
 pub returns-in_err-coefficients-2-clause-later : goal.returns-in_err-coefficients-2-clause-later
 returns-in_err-coefficients-2-clause-later g c = c.idft_batch.ensures.later
+
+pub exchange_layouts-requires : goal.exchange_layouts-requires
+exchange_layouts-requires g c =
+    let fits = c.requires.fits in
+    record { power = (fits.log, (c.in_ok-coefficients.ensures.coefficients.holds fits.log fits.high).high ∙ fits.high) }
+
+pub exchange_layouts-requires-2 : goal.exchange_layouts-requires-2
+exchange_layouts-requires-2 g c =
+    let fits = c.requires.fits in
+    let shape = answered_shape g.F.Field g.F.TwoAdicField.generator _ _ _ _ _ fits.log fits.high c.in_ok-coefficients.ensures.coefficients c.exchange_layouts.ensures.shape c.requires.shape
+    (rw c.LAYOUT-2.ensures at c.transform-coefficients.ensures) in
+    record { power = (fits.log, shape.0 ∙ fits.high) }

@@ -6,7 +6,7 @@ use Rattle.p3_dft.proofs.traits.TwoAdicSubgroupDft.idft.Goals as goal
 
 pub returns-clause-coefficients : goal.returns-clause-coefficients
 returns-clause-coefficients g c =
-    let fits = c.requires in
+    let fits = c.requires.fits in
     let given = c.in_ok-idft_batch.ensures.coefficients in
     let high = vector_height c.new_col.result c.args.vec.items _ c.new_col.ensures c.args.vec.ok.0 fits.log fits.high in
     vector_answer c.new_col.result c.args.vec.items _ c.new_col.ensures c.args.vec.ok.0 (λ m out. IsInterpolation g.F.Field g.F.TwoAdicField.generator m g.F.Field.ring.one out)

@@ -6,7 +6,7 @@ use Rattle.p3_dft.proofs.traits.TwoAdicSubgroupDft.idft_algebra.Goals as goal
 
 pub returns-clause-coefficients : goal.returns-clause-coefficients
 returns-clause-coefficients g c =
-    let fits = c.requires in
+    let fits = c.requires.fits in
     let m = c.new_col.result in
     let out = c.in_ok-idft_algebra_batch.field-0 in
     let given = c.in_ok-idft_algebra_batch.ensures.coefficients in

@@ -11,7 +11,7 @@ returns-clause-coefficients g c =
     let generator = g.F.TwoAdicField.generator in
     let m = g.N.IntoRowMajorMatrix.stored c.args.mat in
     interpolation_of_quotient field generator g.F.TwoAdicField.TWO_ADICITY g.met.F.TwoAdicField.roots_law m
-    c.to_row_major_matrix-values.result c.coefficients_from_values-coefficients.result c.requires.log c.requires.within c.requires.high
+    c.to_row_major_matrix-values.result c.coefficients_from_values-coefficients.result c.requires.fits.log c.requires.fits.within c.requires.fits.high
     (subst (λ (y : RowMajor g.row.F.Denot). IsTransform field generator m field.ring.one y) (sym c.to_row_major_matrix-values.ensures) c.in_ok-dft_batch.ensures.values)
     c.coefficients_from_values-coefficients.ensures.coefficients
 

@@ -6,7 +6,7 @@ use Rattle.p3_dft.proofs.traits.TwoAdicSubgroupDft.lde.Goals as goal
 
 pub returns-clause-values : goal.returns-clause-values
 returns-clause-values g c =
-    let fits = c.requires in
+    let fits = c.requires.fits in
     let given = c.in_ok-values.ensures.values in
     let high = vector_height c.new_col.result c.args.vec.items _ c.new_col.ensures c.args.vec.ok.0 fits.log fits.high in
     vector_answer c.new_col.result c.args.vec.items _ c.new_col.ensures c.args.vec.ok.0 (λ m out. IsExtension g.F.Field g.F.TwoAdicField.generator m c.args.added_bits g.F.Field.ring.one out)
