@@ -164,8 +164,8 @@ impl<F: TwoAdicField> TwoAdicSubgroupDft<F> for Radix2Bowers {
         requires fits { FitsLde F.TWO_ADICITY (height (N.stored mat)) (N.stored mat).width added_bits }
         requires callable { (m : RowMajor F) → HasShapeOf m (N.stored mat) → T.pre transform m BitReversed }
         requires shape { (m n : RowMajor F) → HasShapeOf m (N.stored mat) → T.post transform m BitReversed n → HasShapeOf n (N.stored mat) }
-        ensures values { IfOk result (λ out. IsTransformedExtension F.Field.own F.generator (λ m n. T.post transform m BitReversed n) BitReversed
-            (N.stored mat) added_bits (F.value shift) out) }
+        ensures values { IfOk result (λ out. IsTransformedExtension F.Field.own F.generator
+            (λ m n. T.post transform m BitReversed n) BitReversed (N.stored mat) added_bits (F.value shift) out) }
         ensures one_row { height (N.stored mat) ≡ 1 → added_bits ≡ 0 → IsOk result × (self.new ≡ self.old) }
         ensures later { IsLater (λ _ k. k ≡ 0) (λ _ _ (_ : F). ⊤) (λ _ _. ⊤) (λ e. e) self.old self.new }
         ensures cost { AtLog (height (N.stored mat)) (λ k. OnOk result (self.new

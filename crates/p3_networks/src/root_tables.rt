@@ -81,7 +81,8 @@ impl<F: TwoAdicField> RootTables<F> {
     /// The powers of the generators: half as many as the height, and none for height one.
     pub fn forward(&self) -> &[F]
         ensures size { length result.now ≡ 2 ^ self.now / 2 }
-        ensures table { AreTwiddlesFromStart F.Field.own self.now (block_powers F.Field.own (forward_root F.Field.own F.generator)) result.now }
+        ensures table { AreTwiddlesFromStart F.Field.own self.now
+            (block_powers F.Field.own (forward_root F.Field.own F.generator)) result.now }
     {
         match &self.forward {
             Some(powers) => powers.as_slice(),
@@ -92,7 +93,8 @@ impl<F: TwoAdicField> RootTables<F> {
     /// The powers of their inverses, as many.
     pub fn backward(&self) -> &[F]
         ensures size { length result.now ≡ 2 ^ self.now / 2 }
-        ensures table { AreTwiddlesFromStart F.Field.own self.now (block_powers F.Field.own (backward_root F.Field.own F.generator)) result.now }
+        ensures table { AreTwiddlesFromStart F.Field.own self.now
+            (block_powers F.Field.own (backward_root F.Field.own F.generator)) result.now }
     {
         match &self.backward {
             Some(powers) => powers.as_slice(),
