@@ -4,7 +4,7 @@
 // long to prove. So tests are generic over the field, but for the call in the test itself, and most hand
 // what they found to `is`.
 
-ghost use Rattle.std.specs.Prelude.{◌≡◌, IfOk, vec_len};
+ghost use Rattle.std.specs.Prelude.{◌≡◌, vec_len};
 
 mod algebra;
 mod bitrev;
@@ -21,29 +21,38 @@ use p3_field::CanonicalField;
 use std::alloc::Global;
 use std::fmt::Debug;
 use std::process::Abort;
-use std::test::Fail;
 
 // Stops the test where two values differ, and prints both.
 fn is<T: PartialEq + Debug + Drop>(rt: &impl Abort, found: T, wanted: T) {
     assert_eq!(rt; found, wanted);
 }
 
-// A row that begins with the element of one number and goes on in steps.
+// The bytes, which tests take for entries.
+fn bytes(rt: &impl Abort, alloc: Global, entries: &[u8]) -> Vec<u8>
+    ensures { result.items ≡ entries.now }
+{
+    let mut bytes = Vec::new(alloc);
+    bytes.extend_from_slice(entries).expect(rt, "memory");
+    bytes
+}
+
+// A row that begins with the element of one number and goes on in steps. A test stops where memory is refused.
 fn row<F: CanonicalField>(
+    rt: &impl Abort,
     alloc: Global,
     size: usize,
     first: usize,
     step: usize,
-) -> Result<Vec<F>, Fail>
-    ensures { IfOk result (λ v. vec_len v ≡ size) }
+) -> Vec<F>
+    ensures { vec_len result ≡ size }
 {
-    let mut row = vec![in alloc; F::ZERO; size]?;
+    let mut row = vec![in alloc; F::ZERO; size].expect(rt, "memory");
     fill(
         row.as_mut_slice(),
         F::from_usize(first),
         F::from_usize(step),
     );
-    Ok(row)
+    row
 }
 
 fn fill<F: CanonicalField>(row: &mut [F], first: F, step: F) {

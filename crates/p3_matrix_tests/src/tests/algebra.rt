@@ -1,5 +1,7 @@
 // Vector spaces: an element has the coordinates that it was made of.
 
+ghost use Rattle.std.specs.Prelude.{◌≡◌, ◌≤◌, length};
+
 use p3_field::{BabyBear, BasedVectorSpace, Coordinates, Field, Goldilocks, KoalaBear};
 use std::process::Abort;
 
@@ -13,18 +15,25 @@ fn there_and_back<F: Field, V: BasedVectorSpace<F> + PartialEq>(rt: &impl Abort,
     assert!(rt; element == V::from_coordinates(numbers));
 }
 
+// In one dimension.
+fn in_dimension<const N: usize>(rt: &impl Abort, all: &[BabyBear])
+    requires few { N ≤ 8 }
+    requires all { length all.now ≡ 8 }
+{
+    there_and_back::<BabyBear, Coordinates<BabyBear, N>>(rt, &all[..N]);
+}
+
 #[test]
 fn coordinates(rt: HostRuntime) {
     let numbers = [1u8, 2, 3, 4, 5, 6, 7, 8].map(|n: u8| -> BabyBear { BabyBear::from_u8(n) });
-    let all = &numbers[..];
-    there_and_back::<BabyBear, Coordinates<BabyBear, 1>>(&rt, &all[..1]);
-    there_and_back::<BabyBear, Coordinates<BabyBear, 2>>(&rt, &all[..2]);
-    there_and_back::<BabyBear, Coordinates<BabyBear, 3>>(&rt, &all[..3]);
-    there_and_back::<BabyBear, Coordinates<BabyBear, 4>>(&rt, &all[..4]);
-    there_and_back::<BabyBear, Coordinates<BabyBear, 5>>(&rt, &all[..5]);
-    there_and_back::<BabyBear, Coordinates<BabyBear, 6>>(&rt, &all[..6]);
-    there_and_back::<BabyBear, Coordinates<BabyBear, 7>>(&rt, &all[..7]);
-    there_and_back::<BabyBear, Coordinates<BabyBear, 8>>(&rt, &all[..8]);
+    in_dimension::<1>(&rt, &numbers);
+    in_dimension::<2>(&rt, &numbers);
+    in_dimension::<3>(&rt, &numbers);
+    in_dimension::<4>(&rt, &numbers);
+    in_dimension::<5>(&rt, &numbers);
+    in_dimension::<6>(&rt, &numbers);
+    in_dimension::<7>(&rt, &numbers);
+    in_dimension::<8>(&rt, &numbers);
 }
 
 #[test]

@@ -1,9 +1,13 @@
 // Digits, places and rows in reversed order.
 
+ghost use Rattle.std.specs.Prelude.{◌≡◌, ◌^◌, ℕ, length};
+
+use super::bytes;
 use p3_matrix::{
     RowMajorMatrix, reverse_bits_len, reverse_matrix_index_bits, reverse_slice_index_bits,
 };
-use std::test::Fail;
+use std::alloc::Global;
+use std::process::Abort;
 
 #[test]
 fn reverses_digits(rt: HostRuntime) {
@@ -12,27 +16,31 @@ fn reverses_digits(rt: HostRuntime) {
     }
 }
 
-#[test]
-fn reverses_places(rt: HostRuntime) -> Result<(), Fail> {
-    let alloc = rt.alloc();
-    let mut places = vec![in alloc; 0u8, 1, 2, 3, 4, 5, 6, 7]?;
+// The bytes in bit reversed order.
+fn reversed(rt: &impl Abort, alloc: Global, entries: &[u8]) -> Vec<u8>
+    requires { (n : ℕ) × (length entries.now ≡ 2 ^ n) }
+{
+    let mut places = bytes(rt, alloc, entries);
     reverse_slice_index_bits(places.as_mut_slice());
-    assert!(rt; places == vec![in alloc; 0u8, 4, 2, 6, 1, 5, 3, 7]?);
-    let mut one = vec![in alloc; 9u8]?;
-    reverse_slice_index_bits(one.as_mut_slice());
-    assert!(rt; one == vec![in alloc; 9u8]?);
-    Ok(())
+    places
 }
 
 #[test]
-fn reverses_rows(rt: HostRuntime) -> Result<(), Fail> {
+fn reverses_places(rt: HostRuntime) {
     let alloc = rt.alloc();
-    let mut rows = RowMajorMatrix::new(vec![in alloc; 10u8, 11, 20, 21, 30, 31, 40, 41]?, 2);
+    let places = reversed(&rt, alloc, &[0, 1, 2, 3, 4, 5, 6, 7]);
+    assert!(rt; places == bytes(&rt, alloc, &[0, 4, 2, 6, 1, 5, 3, 7]));
+    assert!(rt; reversed(&rt, alloc, &[9]) == bytes(&rt, alloc, &[9]));
+}
+
+#[test]
+fn reverses_rows(rt: HostRuntime) {
+    let alloc = rt.alloc();
+    let mut rows = RowMajorMatrix::new(bytes(&rt, alloc, &[10, 11, 20, 21, 30, 31, 40, 41]), 2);
     reverse_matrix_index_bits(&mut rows.as_view_mut());
-    let want = RowMajorMatrix::new(vec![in alloc; 10u8, 11, 30, 31, 20, 21, 40, 41]?, 2);
+    let want = RowMajorMatrix::new(bytes(&rt, alloc, &[10, 11, 30, 31, 20, 21, 40, 41]), 2);
     assert!(rt; rows == want);
     let mut none = RowMajorMatrix::new(Vec::<u8>::new(alloc), 3);
     reverse_matrix_index_bits(&mut none.as_view_mut());
     assert!(rt; none.height() == 0);
-    Ok(())
 }

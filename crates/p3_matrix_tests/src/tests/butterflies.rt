@@ -1,6 +1,6 @@
 // Butterflies against values that were calculated by hand, and rows against single elements.
 
-ghost use Rattle.std.specs.Prelude.{◌≤◌};
+ghost use Rattle.std.specs.Prelude.{◌≡◌, ◌≤◌, ℕ, ◌*◌, vec_len};
 
 use super::{is, row};
 use p3_field::{
@@ -13,7 +13,6 @@ use p3_matrix::{
 };
 use std::alloc::Global;
 use std::process::Abort;
-use std::test::Fail;
 
 // Stops the test where a butterfly makes other numbers of two elements.
 fn makes<F: CanonicalField + Packable, B: Butterfly<F>>(
@@ -101,22 +100,65 @@ fn same_rows<F: CanonicalField>(rt: &impl Abort, found: &Vec<F>, wanted: &Vec<F>
     assert!(rt; *found == *wanted, "rows of {size}");
 }
 
+// Stops the test where a butterfly makes another pair of two elements.
+fn place_agrees<F: CanonicalField + Packable, B: Butterfly<F>>(
+    rt: &impl Abort,
+    b: B,
+    pair: (F, F),
+    wanted: (F, F),
+) {
+    assert!(rt; b.apply(pair.0, pair.1, &mut Products::new()) == wanted);
+}
+
 // Stops the test where a butterfly makes another pair of an element of each row.
 fn places_agree<F: CanonicalField + Packable, B: Butterfly<F>>(
     rt: &impl Abort,
     b: B,
-    rows: (&[F], &[F]),
-    results: (&[F], &[F]),
+    rows: (&Vec<F>, &Vec<F>),
+    results: (&Vec<F>, &Vec<F>),
 ) {
-    let mut products = Products::new();
-    for ((x_1, x_2), (near, far)) in rows
-        .0
-        .iter()
-        .zip(rows.1.iter())
-        .zip(results.0.iter().zip(results.1.iter()))
-    {
-        assert!(rt; b.apply(*x_1, *x_2, &mut products) == (*near, *far));
+    let size = rows.0.len();
+    assert!(rt; rows.1.len() == size && results.0.len() == size && results.1.len() == size);
+    for i in 0..size {
+        let pair = (rows.0[i], rows.1[i]);
+        place_agrees(rt, b, pair, (results.0[i], results.1[i]));
     }
+}
+
+// Two rows of this size.
+fn rows_of<F: CanonicalField>(
+    rt: &impl Abort,
+    alloc: Global,
+    size: usize,
+    step_2: usize,
+) -> (Vec<F>, Vec<F>)
+    ensures first { vec_len result.0 ≡ size }
+    ensures second { vec_len result.1 ≡ size }
+{
+    let row_1 = row(rt, alloc, size, 2013265900, 7);
+    (row_1, row(rt, alloc, size, 0, step_2))
+}
+
+// What a butterfly makes of the rows out of place, which stay.
+fn made_oop<F: CanonicalField + Packable, B: Butterfly<F>>(
+    rt: &impl Abort,
+    alloc: Global,
+    b: B,
+    rows: (&Vec<F>, &Vec<F>),
+) -> (Vec<F>, Vec<F>)
+    requires { vec_len rows.0.now ≡ vec_len rows.1.now }
+{
+    let size = rows.0.len();
+    let mut dst_1: Vec<F> = row(rt, alloc, size, 1, 1);
+    let mut dst_2: Vec<F> = row(rt, alloc, size, 1, 1);
+    b.apply_to_rows_oop(
+        rows.0.as_slice(),
+        dst_1.as_mut_slice(),
+        rows.1.as_slice(),
+        dst_2.as_mut_slice(),
+        &mut Products::new(),
+    );
+    (dst_1, dst_2)
 }
 
 // Rows of this size, out of place and in place.
@@ -126,27 +168,41 @@ fn row_like_elements<F: CanonicalField + Packable, B: Butterfly<F>>(
     b: B,
     step_2: usize,
     size: usize,
-) -> Result<(), Fail> {
-    let mut products = Products::new();
-    let mut row_1: Vec<F> = row(alloc, size, 2013265900, 7)?;
-    let mut row_2: Vec<F> = row(alloc, size, 0, step_2)?;
-    let mut dst_1: Vec<F> = row(alloc, size, 1, 1)?;
-    let mut dst_2: Vec<F> = row(alloc, size, 1, 1)?;
-    b.apply_to_rows_oop(
-        row_1.as_slice(),
-        dst_1.as_mut_slice(),
-        row_2.as_slice(),
-        dst_2.as_mut_slice(),
-        &mut products,
+) {
+    let (mut row_1, mut row_2) = rows_of(rt, alloc, size, step_2);
+    let (dst_1, dst_2) = made_oop(rt, alloc, b, (&row_1, &row_2));
+    let (same_1, same_2) = rows_of(rt, alloc, size, step_2);
+    same_rows(rt, &row_1, &same_1);
+    same_rows(rt, &row_2, &same_2);
+    places_agree(rt, b, (&row_1, &row_2), (&dst_1, &dst_2));
+    b.apply_to_rows(
+        row_1.as_mut_slice(),
+        row_2.as_mut_slice(),
+        &mut Products::new(),
     );
-    same_rows(rt, &row_1, &row(alloc, size, 2013265900, 7)?);
-    same_rows(rt, &row_2, &row(alloc, size, 0, step_2)?);
-    let rows = (row_1.as_slice(), row_2.as_slice());
-    places_agree(rt, b, rows, (dst_1.as_slice(), dst_2.as_slice()));
-    b.apply_to_rows(row_1.as_mut_slice(), row_2.as_mut_slice(), &mut products);
     same_rows(rt, &row_1, &dst_1);
     same_rows(rt, &row_2, &dst_2);
-    Ok(())
+}
+
+// Two rows by packs of this width.
+fn by_packs<F: CanonicalField + Packable, P: PackedField<Scalar = F>, B: Butterfly<F>>(
+    rt: &impl Abort,
+    alloc: Global,
+    b: B,
+    step_2: usize,
+    full: usize,
+) -> (Vec<F>, Vec<F>)
+    requires wide { 1 ≤ P.WIDTH }
+    requires whole { (k : ℕ) × full ≡ k * P.WIDTH }
+{
+    let (mut row_1, mut row_2) = rows_of(rt, alloc, full, step_2);
+    apply_to_packs::<F, P, B>(
+        &b,
+        row_1.as_mut_slice(),
+        row_2.as_mut_slice(),
+        &mut Products::new(),
+    );
+    (row_1, row_2)
 }
 
 // Rows of packs of this width, by packs and by single elements.
@@ -156,30 +212,14 @@ fn packs_like_elements<F: CanonicalField + Packable, P: PackedField<Scalar = F>,
     b: B,
     step_2: usize,
     size: usize,
-) -> Result<(), Fail>
+)
     requires { 1 ≤ P.WIDTH }
 {
-    let mut products = Products::new();
     let full = full_packs(size, P::WIDTH);
-    let mut row_1: Vec<F> = row(alloc, full, 2013265900, 7)?;
-    let mut row_2: Vec<F> = row(alloc, full, 0, step_2)?;
-    let mut one_1: Vec<F> = row(alloc, full, 2013265900, 7)?;
-    let mut one_2: Vec<F> = row(alloc, full, 0, step_2)?;
-    apply_to_packs::<F, P, B>(
-        &b,
-        row_1.as_mut_slice(),
-        row_2.as_mut_slice(),
-        &mut products,
-    );
-    apply_to_packs::<F, F, B>(
-        &b,
-        one_1.as_mut_slice(),
-        one_2.as_mut_slice(),
-        &mut products,
-    );
+    let (row_1, row_2) = by_packs::<F, P, B>(rt, alloc, b, step_2, full);
+    let (one_1, one_2) = by_packs::<F, F, B>(rt, alloc, b, step_2, full);
     same_rows(rt, &row_1, &one_1);
     same_rows(rt, &row_2, &one_2);
-    Ok(())
 }
 
 fn rows_like_elements<F: CanonicalField + Packable, B: Butterfly<F>>(
@@ -187,30 +227,26 @@ fn rows_like_elements<F: CanonicalField + Packable, B: Butterfly<F>>(
     alloc: Global,
     b: B,
     step_2: usize,
-) -> Result<(), Fail> {
+) {
     for size in 0..34usize {
-        row_like_elements(rt, alloc, b, step_2, size)?;
+        row_like_elements(rt, alloc, b, step_2, size);
     }
-    Ok(())
 }
 
 // Each butterfly.
-fn rows_of_butterflies<F: CanonicalField + Packable>(
-    rt: &impl Abort,
-    alloc: Global,
-) -> Result<(), Fail> {
+fn rows_of_butterflies<F: CanonicalField + Packable>(rt: &impl Abort, alloc: Global) {
     let t = F::from_usize(1728404513);
     let scaled = ScaledDitButterfly::new(t, F::from_usize(1006632961));
-    rows_like_elements::<F, DitButterfly<F>>(rt, alloc, DitButterfly(t), 1000003)?;
-    rows_like_elements::<F, DifButterfly<F>>(rt, alloc, DifButterfly(t), 1000003)?;
-    rows_like_elements::<F, DifButterflyZeros<F>>(rt, alloc, DifButterflyZeros(t), 0)?;
-    rows_like_elements::<F, ScaledDitButterfly<F>>(rt, alloc, scaled, 1000003)?;
-    rows_like_elements::<F, TwiddleFreeButterfly>(rt, alloc, TwiddleFreeButterfly, 1000003)
+    rows_like_elements::<F, DitButterfly<F>>(rt, alloc, DitButterfly(t), 1000003);
+    rows_like_elements::<F, DifButterfly<F>>(rt, alloc, DifButterfly(t), 1000003);
+    rows_like_elements::<F, DifButterflyZeros<F>>(rt, alloc, DifButterflyZeros(t), 0);
+    rows_like_elements::<F, ScaledDitButterfly<F>>(rt, alloc, scaled, 1000003);
+    rows_like_elements::<F, TwiddleFreeButterfly>(rt, alloc, TwiddleFreeButterfly, 1000003);
 }
 
 #[test]
-fn applies_to_rows(rt: HostRuntime) -> Result<(), Fail> {
-    rows_of_butterflies::<BabyBear>(&rt, rt.alloc())
+fn applies_to_rows(rt: HostRuntime) {
+    rows_of_butterflies::<BabyBear>(&rt, rt.alloc());
 }
 
 // Rows of full packs, by packs and by single elements.
@@ -219,127 +255,111 @@ fn packs_agree<F: CanonicalField + Packable, P: PackedField<Scalar = F>, B: Butt
     alloc: Global,
     b: B,
     step_2: usize,
-) -> Result<(), Fail>
+)
     requires { 1 ≤ P.WIDTH }
 {
     for size in 0..34usize {
-        packs_like_elements::<F, P, B>(rt, alloc, b, step_2, size)?;
+        packs_like_elements::<F, P, B>(rt, alloc, b, step_2, size);
     }
-    Ok(())
 }
 
 // Each butterfly, at packs of this width.
 fn packs_of<F: CanonicalField + Packable, P: PackedField<Scalar = F>>(
     rt: &impl Abort,
     alloc: Global,
-) -> Result<(), Fail>
+)
     requires { 1 ≤ P.WIDTH }
 {
     let t = F::from_usize(1728404513);
     let scaled = ScaledDitButterfly::new(t, F::from_usize(1006632961));
-    packs_agree::<F, P, DitButterfly<F>>(rt, alloc, DitButterfly(t), 1000003)?;
-    packs_agree::<F, P, DifButterfly<F>>(rt, alloc, DifButterfly(t), 1000003)?;
-    packs_agree::<F, P, DifButterflyZeros<F>>(rt, alloc, DifButterflyZeros(t), 0)?;
-    packs_agree::<F, P, ScaledDitButterfly<F>>(rt, alloc, scaled, 1000003)?;
-    packs_agree::<F, P, TwiddleFreeButterfly>(rt, alloc, TwiddleFreeButterfly, 1000003)
+    packs_agree::<F, P, DitButterfly<F>>(rt, alloc, DitButterfly(t), 1000003);
+    packs_agree::<F, P, DifButterfly<F>>(rt, alloc, DifButterfly(t), 1000003);
+    packs_agree::<F, P, DifButterflyZeros<F>>(rt, alloc, DifButterflyZeros(t), 0);
+    packs_agree::<F, P, ScaledDitButterfly<F>>(rt, alloc, scaled, 1000003);
+    packs_agree::<F, P, TwiddleFreeButterfly>(rt, alloc, TwiddleFreeButterfly, 1000003);
 }
 
 #[test]
-fn packs_of_other_widths(rt: HostRuntime) -> Result<(), Fail> {
+fn packs_of_other_widths(rt: HostRuntime) {
     let alloc = rt.alloc();
-    packs_of::<BabyBear, Lanes<BabyBear, 1>>(&rt, alloc)?;
-    packs_of::<BabyBear, Lanes<BabyBear, 3>>(&rt, alloc)?;
-    packs_of::<BabyBear, Lanes<BabyBear, 4>>(&rt, alloc)?;
-    packs_of::<BabyBear, Lanes<BabyBear, 8>>(&rt, alloc)
+    packs_of::<BabyBear, Lanes<BabyBear, 1>>(&rt, alloc);
+    packs_of::<BabyBear, Lanes<BabyBear, 3>>(&rt, alloc);
+    packs_of::<BabyBear, Lanes<BabyBear, 4>>(&rt, alloc);
+    packs_of::<BabyBear, Lanes<BabyBear, 8>>(&rt, alloc);
 }
 
 // Stops the test where decimation in time makes another pair of an element of each row.
 fn turned_by_place<F: CanonicalField + Packable>(
     rt: &impl Abort,
-    twiddles: &[F],
-    rows: (&[F], &[F]),
-    results: (&[F], &[F]),
+    twiddles: &Vec<F>,
+    rows: (&Vec<F>, &Vec<F>),
+    results: (&Vec<F>, &Vec<F>),
 ) {
-    let mut products = Products::new();
-    for ((t, (x_1, x_2)), (near, far)) in twiddles
-        .iter()
-        .zip(rows.0.iter().zip(rows.1.iter()))
-        .zip(results.0.iter().zip(results.1.iter()))
-    {
-        let met = DitButterfly(*t).apply(*x_1, *x_2, &mut products);
-        assert!(rt; met == (*near, *far));
+    let size = twiddles.len();
+    assert!(rt; rows.0.len() == size && rows.1.len() == size);
+    assert!(rt; results.0.len() == size && results.1.len() == size);
+    for i in 0..size {
+        let pair = (rows.0[i], rows.1[i]);
+        let wanted = (results.0[i], results.1[i]);
+        place_agrees(rt, DitButterfly(twiddles[i]), pair, wanted);
     }
 }
 
 // Rows with a twiddle for each place, of so many elements.
-fn row_by_place<F: CanonicalField + Packable>(
-    rt: &impl Abort,
-    alloc: Global,
-    size: usize,
-) -> Result<(), Fail> {
-    let mut products = Products::new();
-    let twiddles: Vec<F> = row(alloc, size, 2013265919, 271828)?;
-    let first: Vec<F> = row(alloc, size, 2013265900, 7)?;
-    let second: Vec<F> = row(alloc, size, 0, 1000003)?;
-    let mut row_1: Vec<F> = row(alloc, size, 2013265900, 7)?;
-    let mut row_2: Vec<F> = row(alloc, size, 0, 1000003)?;
+fn row_by_place<F: CanonicalField + Packable>(rt: &impl Abort, alloc: Global, size: usize) {
+    let twiddles: Vec<F> = row(rt, alloc, size, 2013265919, 271828);
+    let (first, second) = rows_of(rt, alloc, size, 1000003);
+    let (mut row_1, mut row_2) = rows_of(rt, alloc, size, 1000003);
     apply_dit_by_place(
         twiddles.as_slice(),
         row_1.as_mut_slice(),
         row_2.as_mut_slice(),
-        &mut products,
+        &mut Products::new(),
     );
-    let results = (row_1.as_slice(), row_2.as_slice());
-    turned_by_place(
-        rt,
-        twiddles.as_slice(),
-        (first.as_slice(), second.as_slice()),
-        results,
-    );
-    Ok(())
+    turned_by_place(rt, &twiddles, (&first, &second), (&row_1, &row_2));
 }
 
-fn rows_by_place<F: CanonicalField + Packable>(rt: &impl Abort, alloc: Global) -> Result<(), Fail> {
+fn rows_by_place<F: CanonicalField + Packable>(rt: &impl Abort, alloc: Global) {
     for size in 0..34usize {
-        row_by_place::<F>(rt, alloc, size)?;
+        row_by_place::<F>(rt, alloc, size);
     }
-    Ok(())
 }
 
 #[test]
-fn twiddles_by_place(rt: HostRuntime) -> Result<(), Fail> {
-    rows_by_place::<BabyBear>(&rt, rt.alloc())
+fn twiddles_by_place(rt: HostRuntime) {
+    rows_by_place::<BabyBear>(&rt, rt.alloc());
 }
 
 // A row of a pack and three more entries, whose sums and differences wrap around the modulus.
-fn wraps<F: CanonicalField + Packable>(rt: &impl Abort, alloc: Global) -> Result<(), Fail> {
-    let mut products = Products::new();
-    let mut row_1: Vec<F> = row(alloc, 11, 2013265920, 0)?;
-    let mut row_2: Vec<F> = row(alloc, 11, 1, 0)?;
-    TwiddleFreeButterfly.apply_to_rows(row_1.as_mut_slice(), row_2.as_mut_slice(), &mut products);
-    same_rows(rt, &row_1, &row(alloc, 11, 0, 0)?);
-    same_rows(rt, &row_2, &row(alloc, 11, 2013265919, 0)?);
-    Ok(())
+fn wraps<F: CanonicalField + Packable>(rt: &impl Abort, alloc: Global) {
+    let mut row_1: Vec<F> = row(rt, alloc, 11, 2013265920, 0);
+    let mut row_2: Vec<F> = row(rt, alloc, 11, 1, 0);
+    TwiddleFreeButterfly.apply_to_rows(
+        row_1.as_mut_slice(),
+        row_2.as_mut_slice(),
+        &mut Products::new(),
+    );
+    same_rows(rt, &row_1, &row(rt, alloc, 11, 0, 0));
+    same_rows(rt, &row_2, &row(rt, alloc, 11, 2013265919, 0));
 }
 
 #[test]
-fn wraps_in_each_lane(rt: HostRuntime) -> Result<(), Fail> {
-    wraps::<BabyBear>(&rt, rt.alloc())
+fn wraps_in_each_lane(rt: HostRuntime) {
+    wraps::<BabyBear>(&rt, rt.alloc());
 }
 
 // One through a matrix and two through views, with factors whose product is five.
-fn scales<F: CanonicalField + Packable>(rt: &impl Abort, alloc: Global) -> Result<(), Fail> {
+fn scales<F: CanonicalField + Packable>(rt: &impl Abort, alloc: Global) {
     let mut products = Products::new();
-    let mut matrix: RowMajorMatrix<F> = RowMajorMatrix::new(row(alloc, 6, 1, 2)?, 3);
+    let mut matrix: RowMajorMatrix<F> = RowMajorMatrix::new(row(rt, alloc, 6, 1, 2), 3);
     let half = F::from_usize(1006632961);
     matrix.scale(F::TWO, &mut products);
     matrix.as_view_mut().scale(half, &mut products);
     matrix.as_view_mut().scale(F::from_u8(5), &mut products);
-    assert!(rt; matrix == RowMajorMatrix::new(row(alloc, 6, 5, 10)?, 3));
-    Ok(())
+    assert!(rt; matrix == RowMajorMatrix::new(row(rt, alloc, 6, 5, 10), 3));
 }
 
 #[test]
-fn scales_matrices(rt: HostRuntime) -> Result<(), Fail> {
-    scales::<BabyBear>(&rt, rt.alloc())
+fn scales_matrices(rt: HostRuntime) {
+    scales::<BabyBear>(&rt, rt.alloc());
 }

@@ -1,34 +1,32 @@
 // Shapes and rows.
 
-use super::is;
+use super::{bytes, is};
 use p3_matrix::RowMajorMatrix;
-use std::test::Fail;
 
 #[test]
-fn shapes_and_rows(rt: HostRuntime) -> Result<(), Fail> {
+fn shapes_and_rows(rt: HostRuntime) {
     let alloc = rt.alloc();
-    let pairs = RowMajorMatrix::new(vec![in alloc; 1u8, 2, 3, 4, 5, 6]?, 2);
+    let pairs = RowMajorMatrix::new(bytes(&rt, alloc, &[1, 2, 3, 4, 5, 6]), 2);
     is(&rt, (pairs.width(), pairs.height()), (2, 3));
     is(&rt, (pairs.row(1)[0], pairs.row(2)[1]), (3, 6));
-    let triples = RowMajorMatrix::new(vec![in alloc; 1u8, 2, 3, 4, 5, 6]?, 3);
+    let triples = RowMajorMatrix::new(bytes(&rt, alloc, &[1, 2, 3, 4, 5, 6]), 3);
     assert!(rt; pairs != triples);
-    assert!(rt; pairs == pairs.try_clone()?);
-    Ok(())
+    assert!(rt; pairs == pairs.try_clone().expect(&rt, "memory"));
 }
 
 #[test]
-fn one_column_and_one_row(rt: HostRuntime) -> Result<(), Fail> {
+fn one_column_and_one_row(rt: HostRuntime) {
     let alloc = rt.alloc();
-    let pairs = RowMajorMatrix::new(vec![in alloc; 1u8, 2, 3, 4, 5, 6]?, 2);
+    let pairs = RowMajorMatrix::new(bytes(&rt, alloc, &[1, 2, 3, 4, 5, 6]), 2);
     let mut sums = Vec::new(*pairs.allocator());
-    sums.push(pairs.row(0)[0] + pairs.row(0)[1])?;
+    sums.push(pairs.row(0)[0] + pairs.row(0)[1])
+        .expect(&rt, "memory");
     is(&rt, RowMajorMatrix::new_col(sums).row(0)[0], 3);
     is(
         &rt,
         RowMajorMatrix::new_col(pairs.into_values()).height(),
         6,
     );
-    let triples = vec![in alloc; 1u8, 2, 3, 4, 5, 6]?;
+    let triples = bytes(&rt, alloc, &[1, 2, 3, 4, 5, 6]);
     is(&rt, RowMajorMatrix::new_row(triples).height(), 1);
-    Ok(())
 }

@@ -1,11 +1,11 @@
 // The text of the error.
 
 use p3_matrix::DftError;
-use std::test::Fail;
 
 #[test]
-fn says_what_was_refused(rt: HostRuntime) -> Result<(), Fail> {
-    let text = DftError::OutOfMemory.to_string(rt.alloc())?;
+fn says_what_was_refused(rt: HostRuntime) {
+    let text = DftError::OutOfMemory
+        .to_string(rt.alloc())
+        .expect(&rt, "memory");
     assert_eq!(rt; text.as_str(), "out of memory");
-    Ok(())
 }

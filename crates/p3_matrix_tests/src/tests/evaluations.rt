@@ -3,9 +3,8 @@
 ghost use Rattle.std.specs.Prelude.{◌≡◌};
 ghost use Rattle.p3_matrix.specs.RowMajor.{IsRowMajor};
 
-use super::is;
+use super::{bytes, is};
 use p3_matrix::{Evaluations, IntoRowMajorMatrix, RowMajorMatrix};
-use std::test::Fail;
 
 // A caller that knows no more of the evaluations than their trait.
 fn width_of<F: Drop, E: Evaluations<F>>(evaluations: E) -> usize
@@ -16,34 +15,31 @@ fn width_of<F: Drop, E: Evaluations<F>>(evaluations: E) -> usize
 }
 
 #[test]
-fn has_whole_rows(rt: HostRuntime) -> Result<(), Fail> {
+fn has_whole_rows(rt: HostRuntime) {
     let alloc = rt.alloc();
-    let rows = RowMajorMatrix::new(vec![in alloc; 1u8, 2, 3, 4]?, 2);
+    let rows = RowMajorMatrix::new(bytes(&rt, alloc, &[1, 2, 3, 4]), 2);
     is(&rt, width_of(rows), 2);
-    let rows = RowMajorMatrix::new(vec![in alloc; 1u8, 2, 3, 4]?, 2).into_row_major_matrix();
+    let rows = RowMajorMatrix::new(bytes(&rt, alloc, &[1, 2, 3, 4]), 2).into_row_major_matrix();
     is(&rt, rows.height(), 2);
-    Ok(())
 }
 
 // Rows 10, 20, 30, 40 in bit reversed order, and what they are when they are told to be it.
 #[test]
-fn rows_in_bit_reversed_order(rt: HostRuntime) -> Result<(), Fail> {
+fn rows_in_bit_reversed_order(rt: HostRuntime) {
     let alloc = rt.alloc();
-    let view = RowMajorMatrix::new_col(vec![in alloc; 10u8, 20, 30, 40]?).into_bit_reversed();
+    let view = RowMajorMatrix::new_col(bytes(&rt, alloc, &[10, 20, 30, 40])).into_bit_reversed();
     is(&rt, (view.width(), view.height()), (1, 4));
     assert!(rt; view.inner().values() == [10, 30, 20, 40].as_slice());
     let rows = view.to_row_major_matrix();
     assert!(rt; rows.values() == [10, 20, 30, 40].as_slice());
-    Ok(())
 }
 
 #[test]
-fn rows_told_to_be_reversed(rt: HostRuntime) -> Result<(), Fail> {
+fn rows_told_to_be_reversed(rt: HostRuntime) {
     let alloc = rt.alloc();
-    let view = RowMajorMatrix::new_col(vec![in alloc; 10u8, 20, 30, 40]?).bit_reverse_rows();
+    let view = RowMajorMatrix::new_col(bytes(&rt, alloc, &[10, 20, 30, 40])).bit_reverse_rows();
     assert!(rt; view.inner().values() == [10, 20, 30, 40].as_slice());
     assert!(rt; view.to_row_major_matrix().values() == [10, 30, 20, 40].as_slice());
-    let told = RowMajorMatrix::new_col(vec![in alloc; 10u8, 20]?).bit_reverse_rows();
+    let told = RowMajorMatrix::new_col(bytes(&rt, alloc, &[10, 20])).bit_reverse_rows();
     assert!(rt; told.bit_reverse_rows().values() == [10, 20].as_slice());
-    Ok(())
 }

@@ -12,7 +12,19 @@ use p3_field::{
 use std::alloc::Global;
 use std::mem::size_of;
 use std::process::Abort;
-use std::test::Fail;
+
+// What a program elsewhere computed of a field.
+#[derive(Drop)]
+struct Table<'a> {
+    modulus: u64,
+    generator: u64,
+    two_adicity: usize,
+    operations: &'a [(usize, usize, u64, u64, u64)],
+    inverses: &'a [(usize, u64)],
+    roots: &'a [(usize, u64)],
+    powers: (u64, u64, u64),
+    half: (u8, u64),
+}
 
 // Stops the test where an element has another number.
 fn has_number<F: CanonicalField>(rt: &impl Abort, x: F, number: u64) {
@@ -38,30 +50,6 @@ fn inverses_agree<F: CanonicalField>(rt: &impl Abort, table: &[(usize, u64)]) {
     }
 }
 
-#[test]
-fn operations(rt: HostRuntime) {
-    operations_agree::<BabyBear>(&rt, &vectors::BABY_BEAR);
-    operations_agree::<KoalaBear>(&rt, &vectors::KOALA_BEAR);
-    operations_agree::<Goldilocks>(&rt, &vectors::GOLDILOCKS);
-    inverses_agree::<BabyBear>(&rt, &vectors::BABY_BEAR_INVERSES);
-    inverses_agree::<KoalaBear>(&rt, &vectors::KOALA_BEAR_INVERSES);
-    inverses_agree::<Goldilocks>(&rt, &vectors::GOLDILOCKS_INVERSES);
-}
-
-#[test]
-fn numbers(rt: HostRuntime) {
-    is(&rt, BabyBear::new(2013265921), None);
-    is(&rt, BabyBear::new(2013265920), Some(BabyBear::NEG_ONE));
-    is(&rt, KoalaBear::new(2130706433), None);
-    is(&rt, KoalaBear::new(2130706432), Some(KoalaBear::NEG_ONE));
-    is(&rt, Goldilocks::new(18446744069414584321), None);
-    is(
-        &rt,
-        Goldilocks::new(18446744069414584320),
-        Some(Goldilocks::NEG_ONE),
-    );
-}
-
 fn constants_agree<F: CanonicalField>(rt: &impl Abort, modulus: u64, generator: u64) {
     is(rt, F::ORDER_U64, modulus);
     has_number(rt, F::GENERATOR, generator);
@@ -69,6 +57,12 @@ fn constants_agree<F: CanonicalField>(rt: &impl Abort, modulus: u64, generator: 
     has_number(rt, F::TWO, 2);
     has_number(rt, F::NEG_ONE + F::ONE, 0);
     has_number(rt, F::two_adic_generator(0), 1);
+}
+
+// An element has a number below the modulus.
+fn ends_agree<F: CanonicalField>(rt: &impl Abort, modulus: u64) {
+    assert!(rt; F::new(modulus).is_none());
+    assert!(rt; F::new(modulus.wrapping_sub(1)) == Some(F::NEG_ONE));
 }
 
 fn roots_agree<F: CanonicalField>(rt: &impl Abort, two_adicity: usize, table: &[(usize, u64)]) {
@@ -80,16 +74,6 @@ fn roots_agree<F: CanonicalField>(rt: &impl Abort, two_adicity: usize, table: &[
     }
 }
 
-#[test]
-fn roots(rt: HostRuntime) {
-    constants_agree::<BabyBear>(&rt, 2013265921, 31);
-    constants_agree::<KoalaBear>(&rt, 2130706433, 3);
-    constants_agree::<Goldilocks>(&rt, 18446744069414584321, 7);
-    roots_agree::<BabyBear>(&rt, 27, &vectors::BABY_BEAR_ROOTS);
-    roots_agree::<KoalaBear>(&rt, 24, &vectors::KOALA_BEAR_ROOTS);
-    roots_agree::<Goldilocks>(&rt, 32, &vectors::GOLDILOCKS_ROOTS);
-}
-
 fn powers_agree<F: CanonicalField>(rt: &impl Abort, powers: (u64, u64, u64)) {
     let (hundredth, after_ten_squarings, halved) = powers;
     has_number(rt, F::GENERATOR.exp_u64(100), hundredth);
@@ -97,21 +81,66 @@ fn powers_agree<F: CanonicalField>(rt: &impl Abort, powers: (u64, u64, u64)) {
     has_number(rt, F::ONE.div_2exp_u64(70), halved);
 }
 
-fn halves_agree<F: CanonicalField>(rt: &impl Abort, number: u8, half: u64) {
+fn halves_agree<F: CanonicalField>(rt: &impl Abort, (number, half): (u8, u64)) {
     let x = F::from_u8(number);
     has_number(rt, x.halve(), half);
     assert!(rt; x.halve().double() == x);
     is(rt, (F::ZERO.is_zero(), x.is_zero()), (true, false));
 }
 
+fn agrees<F: CanonicalField>(rt: &impl Abort, table: &Table) {
+    operations_agree::<F>(rt, table.operations);
+    inverses_agree::<F>(rt, table.inverses);
+    constants_agree::<F>(rt, table.modulus, table.generator);
+    ends_agree::<F>(rt, table.modulus);
+    roots_agree::<F>(rt, table.two_adicity, table.roots);
+    powers_agree::<F>(rt, table.powers);
+    halves_agree::<F>(rt, table.half);
+}
+
 #[test]
-fn powers(rt: HostRuntime) {
-    powers_agree::<BabyBear>(&rt, vectors::BABY_BEAR_POWERS);
-    powers_agree::<KoalaBear>(&rt, vectors::KOALA_BEAR_POWERS);
-    powers_agree::<Goldilocks>(&rt, vectors::GOLDILOCKS_POWERS);
-    halves_agree::<BabyBear>(&rt, 5, 1006632963);
-    halves_agree::<KoalaBear>(&rt, 5, 1065353219);
-    halves_agree::<Goldilocks>(&rt, 7, 9223372034707292164);
+fn baby_bear(rt: HostRuntime) {
+    let table = Table {
+        modulus: 2013265921,
+        generator: 31,
+        two_adicity: 27,
+        operations: &vectors::BABY_BEAR,
+        inverses: &vectors::BABY_BEAR_INVERSES,
+        roots: &vectors::BABY_BEAR_ROOTS,
+        powers: vectors::BABY_BEAR_POWERS,
+        half: (5, 1006632963),
+    };
+    agrees::<BabyBear>(&rt, &table);
+}
+
+#[test]
+fn koala_bear(rt: HostRuntime) {
+    let table = Table {
+        modulus: 2130706433,
+        generator: 3,
+        two_adicity: 24,
+        operations: &vectors::KOALA_BEAR,
+        inverses: &vectors::KOALA_BEAR_INVERSES,
+        roots: &vectors::KOALA_BEAR_ROOTS,
+        powers: vectors::KOALA_BEAR_POWERS,
+        half: (5, 1065353219),
+    };
+    agrees::<KoalaBear>(&rt, &table);
+}
+
+#[test]
+fn goldilocks(rt: HostRuntime) {
+    let table = Table {
+        modulus: 18446744069414584321,
+        generator: 7,
+        two_adicity: 32,
+        operations: &vectors::GOLDILOCKS,
+        inverses: &vectors::GOLDILOCKS_INVERSES,
+        roots: &vectors::GOLDILOCKS_ROOTS,
+        powers: vectors::GOLDILOCKS_POWERS,
+        half: (7, 9223372034707292164),
+    };
+    agrees::<Goldilocks>(&rt, &table);
 }
 
 // Twice the sum and once the difference of a lane and two.
@@ -129,14 +158,10 @@ fn by_lanes<F: Packable>(lane: &[F], sum: &mut [F], difference: &mut [F], produc
 }
 
 // At a pack that is one element.
-fn one_lane<F: CanonicalField + Packable>(
-    rt: &impl Abort,
-    alloc: Global,
-    products: &mut Products,
-) -> Result<(), Fail> {
-    let lane: Vec<F> = row(alloc, 1, 5, 0)?;
-    let mut sum: Vec<F> = row(alloc, 1, 0, 0)?;
-    let mut difference: Vec<F> = row(alloc, 1, 0, 0)?;
+fn one_lane<F: CanonicalField + Packable>(rt: &impl Abort, alloc: Global, products: &mut Products) {
+    let lane: Vec<F> = row(rt, alloc, 1, 5, 0);
+    let mut sum: Vec<F> = row(rt, alloc, 1, 0, 0);
+    let mut difference: Vec<F> = row(rt, alloc, 1, 0, 0);
     by_lanes(
         lane.as_slice(),
         sum.as_mut_slice(),
@@ -145,20 +170,17 @@ fn one_lane<F: CanonicalField + Packable>(
     );
     has_number(rt, sum[0], 14);
     has_number(rt, difference[0], 3);
-    Ok(())
+    has_number(rt, scaled(F::TWO, F::TWO, products), 4);
 }
 
 #[test]
-fn lanes(rt: HostRuntime) -> Result<(), Fail> {
-    let alloc = rt.alloc();
+fn lanes(rt: HostRuntime) {
     let mut products = Products::new();
     let mut more = Products::new();
-    one_lane::<BabyBear>(&rt, alloc, &mut products)?;
-    one_lane::<Goldilocks>(&rt, alloc, &mut more)?;
-    has_number(&rt, scaled(BabyBear::TWO, BabyBear::TWO, &mut more), 4);
+    one_lane::<BabyBear>(&rt, rt.alloc(), &mut products);
+    one_lane::<Goldilocks>(&rt, rt.alloc(), &mut more);
     products.add(more);
     assert!(rt; size_of::<Products>() == 0);
-    Ok(())
 }
 
 // The two elements of each pair change places.
@@ -170,19 +192,26 @@ fn exchange<F: Field, P: PackedPairs<Scalar = F>>(pairs: &mut [F])
     second.store_pairs(first, pairs);
 }
 
-#[test]
-fn pairs(rt: HostRuntime) -> Result<(), Fail> {
-    let mut pairs: Vec<BabyBear> = row(rt.alloc(), 16, 1, 1)?;
-    exchange::<BabyBear, BabyBearX8>(pairs.as_mut_slice());
-    let numbers: [u64; 16] = [2, 1, 4, 3, 6, 5, 8, 7, 10, 9, 12, 11, 14, 13, 16, 15];
-    for i in 0..16 {
-        has_number(&rt, pairs[i], numbers[i]);
+// Of the pairs of 1 and 2, of 3 and 4, and so on.
+fn exchanges<F: CanonicalField, P: PackedPairs<Scalar = F>>(
+    rt: &impl Abort,
+    alloc: Global,
+    size: usize,
+)
+    requires { size ≡ 2 * P.WIDTH }
+{
+    let mut pairs: Vec<F> = row(rt, alloc, size, 1, 1);
+    exchange::<F, P>(pairs.as_mut_slice());
+    for i in 0..size {
+        let number = if i % 2 == 0 { i + 2 } else { i };
+        has_number(rt, pairs[i], number as u64);
     }
-    let mut pair: Vec<Goldilocks> = row(rt.alloc(), 2, 1, 1)?;
-    exchange::<Goldilocks, Goldilocks>(pair.as_mut_slice());
-    has_number(&rt, pair[0], 2);
-    has_number(&rt, pair[1], 1);
-    Ok(())
+}
+
+#[test]
+fn pairs(rt: HostRuntime) {
+    exchanges::<BabyBear, BabyBearX8>(&rt, rt.alloc(), 16);
+    exchanges::<Goldilocks, Goldilocks>(&rt, rt.alloc(), 2);
 }
 
 // What stands in one lane of eight, and in the lane beside it.
@@ -215,7 +244,7 @@ fn lane_is<N: Numbers>(
 {
     let (found, other) = at_lanes(x, lane);
     has_number(rt, found, number);
-    is(rt, other, beside);
+    has_number(rt, other, beside.as_canonical_u64());
 }
 
 // Each operation in one lane of eight, beside others that have answers of their own.

@@ -1,11 +1,11 @@
 // Callers that need no proof of their own to know all of the matrix afterwards.
 
-ghost use Rattle.std.specs.Prelude.{◌≡◌, IfOk, length, slice_set};
+ghost use Rattle.std.specs.Prelude.{◌≡◌, length, slice_set};
 
-use super::is;
+use super::{bytes, is};
 use p3_matrix::{RowMajorMatrix, RowMajorMatrixView, RowMajorMatrixViewMut, split_rows_mut};
 use std::alloc::Global;
-use std::test::Fail;
+use std::process::Abort;
 
 fn writes_rows(matrix: &mut RowMajorMatrix<u8>)
     requires width { matrix.old.width ≡ 2 }
@@ -38,38 +38,36 @@ fn writes_entry(matrix: &mut RowMajorMatrix<u8>)
 }
 
 // Rows, parts and entries that were written through loans.
-fn written(alloc: Global) -> Result<RowMajorMatrix<u8>, Fail>
-    ensures { IfOk result (λ m. (m.width ≡ 2) × (length m.values ≡ 6)) }
+fn written(rt: &impl Abort, alloc: Global) -> RowMajorMatrix<u8>
+    ensures width { result.width ≡ 2 }
+    ensures values { length result.values ≡ 6 }
 {
-    let mut matrix = RowMajorMatrix::new(vec![in alloc; 0u8, 0, 0, 0, 0, 0]?, 2);
+    let mut matrix = RowMajorMatrix::new(bytes(rt, alloc, &[0; 6]), 2);
     writes_rows(&mut matrix);
     writes_parts(&mut matrix);
     writes_entry(&mut matrix);
-    Ok(matrix)
+    matrix
 }
 
 #[test]
-fn writes_through_loans(rt: HostRuntime) -> Result<(), Fail> {
+fn writes_through_loans(rt: HostRuntime) {
     let alloc = rt.alloc();
-    let want = RowMajorMatrix::new(vec![in alloc; 0u8, 9, 7, 6, 5, 8]?, 2);
-    assert!(rt; written(alloc)? == want);
-    Ok(())
+    let want = RowMajorMatrix::new(bytes(&rt, alloc, &[0, 9, 7, 6, 5, 8]), 2);
+    assert!(rt; written(&rt, alloc) == want);
 }
 
 #[test]
-fn reads_loans(rt: HostRuntime) -> Result<(), Fail> {
-    let mut matrix = written(rt.alloc())?;
+fn reads_loans(rt: HostRuntime) {
+    let mut matrix = written(&rt, rt.alloc());
     let view = matrix.as_view_mut();
     is(&rt, (view.width(), view.height()), (2, 3));
     is(&rt, (view.row(1)[0], view.as_view().row(2)[1]), (7, 8));
-    Ok(())
 }
 
 #[test]
-fn reads_in_another_width(rt: HostRuntime) -> Result<(), Fail> {
-    let matrix = written(rt.alloc())?;
+fn reads_in_another_width(rt: HostRuntime) {
+    let matrix = written(&rt, rt.alloc());
     let view = RowMajorMatrixView::new(matrix.values(), 3);
     is(&rt, (view.width(), view.height()), (3, 2));
     is(&rt, (view.row(1)[2], view.values()[5]), (8, 8));
-    Ok(())
 }

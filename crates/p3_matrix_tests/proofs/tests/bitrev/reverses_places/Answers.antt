@@ -1,5 +1,5 @@
-use Rattle.std.proofs.Common.{inl, rules}
+use Rattle.std.proofs.Common.{rules}
 use Rattle.p3_matrix_tests.proofs.tests.bitrev.reverses_places.Goals as goal
 
-pub reverse_slice_index_bits-requires : goal.reverse_slice_index_bits-requires
-reverse_slice_index_bits-requires g c = inl (3, search rules)
+pub reversed-places-requires : goal.reversed-places-requires
+reversed-places-requires g c = (3, search rules)
