@@ -6,12 +6,12 @@ ghost use Rattle.dft.specs.Outcome.{IsOutcome};
 use crate::counted::Counted;
 use crate::program::run;
 use crate::words::words_after_name;
-use std::alloc::{AllocError, Global};
+use std::alloc::Global;
 use std::env::FillError;
 use std::io;
 use std::io::{ErrorKind, Write};
+use std::process::Abort;
 use std::rt::Env;
-use std::test::Fail;
 
 // What a full writer does.
 #[derive(Clone, Copy)]
@@ -64,12 +64,29 @@ impl Write for Stubborn {
     }
 }
 
-fn status_of(alloc: Global, words: &[&str], out: &mut Stubborn) -> Result<u8, AllocError> {
+// The words as a command line owns them. A test stops where memory is refused.
+fn owned(rt: &impl Abort, alloc: Global, words: &[&str]) -> Vec<String> {
     let mut owned = Vec::new(alloc);
     for word in words {
-        owned.push(String::from_str(alloc, *word)?)?;
+        let word = String::from_str(alloc, *word).expect(rt, "memory");
+        owned.push(word).expect(rt, "memory");
     }
-    Ok(run(alloc, owned.as_slice(), &mut Counted::new(out)))
+    owned
+}
+
+// Stops the test unless the program, on this writer, ends with this status and leaves this text.
+fn ends(
+    rt: &impl Abort,
+    alloc: Global,
+    words: &[&str],
+    mut out: Stubborn,
+    status: u8,
+    text: &[u8],
+) {
+    let words = owned(rt, alloc, words);
+    let found = run(alloc, words.as_slice(), &mut Counted::new(&mut out));
+    assert_eq!(rt; found, status);
+    assert_eq!(rt; out.held.as_slice(), text);
 }
 
 // Runs the program on a `Vec`, of which contracts say what it holds.
@@ -118,7 +135,7 @@ const FIRST_WORDS: [&str; 10] = [
 const FIRST_TEXT: &str = "9 5 0\n1 2013265920 0\n";
 
 #[test]
-fn answers(rt: HostRuntime) -> Result<(), Fail> {
+fn answers(rt: HostRuntime) {
     let rows: [(&[&str], &str); 20] = [
         (&FIRST_WORDS, FIRST_TEXT),
         (
@@ -192,15 +209,13 @@ fn answers(rt: HostRuntime) -> Result<(), Fail> {
         ),
     ];
     for (words, text) in rows {
-        let mut out = Stubborn::with_room(rt.alloc(), 1000);
-        assert_eq!(rt; status_of(rt.alloc(), words, &mut out)?, 0);
-        assert_eq!(rt; out.held.as_slice(), text.as_bytes());
+        let out = Stubborn::with_room(rt.alloc(), 1000);
+        ends(&rt, rt.alloc(), words, out, 0, text.as_bytes());
     }
-    Ok(())
 }
 
 #[test]
-fn faults(rt: HostRuntime) -> Result<(), Fail> {
+fn faults(rt: HostRuntime) {
     let unknown_field = "error 1: unknown field\n";
     let unknown_engine = "error 2: unknown engine\n";
     let unknown_operation = "error 3: unknown operation\n";
@@ -331,79 +346,87 @@ fn faults(rt: HostRuntime) -> Result<(), Fail> {
         ),
     ];
     for (words, line) in rows {
-        let mut out = Stubborn::with_room(rt.alloc(), 1000);
-        assert_eq!(rt; status_of(rt.alloc(), words, &mut out)?, 2, "{line}");
-        assert_eq!(rt; out.held.as_slice(), line.as_bytes());
+        let out = Stubborn::with_room(rt.alloc(), 1000);
+        ends(&rt, rt.alloc(), words, out, 2, line.as_bytes());
     }
-    Ok(())
+}
+
+// So many zeros, and a seven.
+fn seven(rt: &impl Abort, alloc: Global, zeros: usize) -> String {
+    let mut seven = String::new(alloc);
+    for _ in 0..zeros {
+        seven.push('0').expect(rt, "memory");
+    }
+    seven.push('7').expect(rt, "memory");
+    seven
 }
 
 #[test]
-fn leading_zeros(rt: HostRuntime) -> Result<(), Fail> {
-    let mut seven = String::new(rt.alloc());
-    for _ in 0..300 {
-        seven.push('0')?;
-    }
-    seven.push('7')?;
+fn leading_zeros(rt: HostRuntime) {
+    let seven = seven(&rt, rt.alloc(), 300);
     let words = ["babybear", "naive", "dft", "00001", seven.as_str()];
-    let mut out = Stubborn::with_room(rt.alloc(), 1000);
-    assert_eq!(rt; status_of(rt.alloc(), &words, &mut out)?, 0);
-    assert_eq!(rt; out.held.as_slice(), b"7\n".as_slice());
-    Ok(())
+    let out = Stubborn::with_room(rt.alloc(), 1000);
+    ends(&rt, rt.alloc(), &words, out, 0, b"7\n".as_slice());
+}
+
+// A writer that has less room than the text is long is filled, and told of.
+fn fills(rt: &impl Abort, alloc: Global, room: usize) {
+    let Some(text) = FIRST_TEXT.as_bytes().get(..room) else {
+        panic!(rt; "room for more than the text");
+    };
+    let full = Stubborn::with_room(alloc, room);
+    ends(rt, alloc, &FIRST_WORDS, full, 4, text);
 }
 
 #[test]
-fn writers(rt: HostRuntime) -> Result<(), Fail> {
+fn writers(rt: HostRuntime) {
+    let alloc = rt.alloc();
     let text = FIRST_TEXT.as_bytes();
     assert_eq!(rt; text.len(), 21);
-
-    let mut slow = Stubborn::with_room(rt.alloc(), 1000);
-    slow.most_a_call = 1;
-    assert_eq!(rt; status_of(rt.alloc(), &FIRST_WORDS, &mut slow)?, 0);
-    assert_eq!(rt; slow.held.as_slice(), text);
-
     for room in 0..21 {
-        let mut full = Stubborn::with_room(rt.alloc(), room);
-        assert_eq!(rt;
-            status_of(rt.alloc(), &FIRST_WORDS, &mut full)?,
-            4,
-            "room {room}"
-        );
-        assert_eq!(rt; full.held.as_slice(), &text[..room]);
+        fills(&rt, alloc, room);
     }
 
-    let mut idle = Stubborn::with_room(rt.alloc(), 0);
-    idle.when_full = WhenFull::TakesNone;
-    assert_eq!(rt; status_of(rt.alloc(), &FIRST_WORDS, &mut idle)?, 4);
-    assert_eq!(rt; idle.held.len(), 0);
+    let mut slow = Stubborn::with_room(alloc, 1000);
+    slow.most_a_call = 1;
+    ends(&rt, alloc, &FIRST_WORDS, slow, 0, text);
 
-    let mut unflushed = Stubborn::with_room(rt.alloc(), 1000);
+    let mut idle = Stubborn::with_room(alloc, 0);
+    idle.when_full = WhenFull::TakesNone;
+    ends(&rt, alloc, &FIRST_WORDS, idle, 4, b"".as_slice());
+
+    let mut unflushed = Stubborn::with_room(alloc, 1000);
     unflushed.flush_fails = true;
-    assert_eq!(rt; status_of(rt.alloc(), &FIRST_WORDS, &mut unflushed)?, 4);
-    assert_eq!(rt; unflushed.held.as_slice(), text);
-    Ok(())
+    ends(&rt, alloc, &FIRST_WORDS, unflushed, 4, text);
+}
+
+// Stops the test unless these words are those of a command line from the one after its name on.
+fn reads(rt: &impl Abort, alloc: Global, words: &[&[u8]], wanted: &[&str]) {
+    let read = words_after_name(&CommandLine { words }, alloc).expect(rt, "memory");
+    assert!(rt; read == owned(rt, alloc, wanted));
+}
+
+// Or unless a command line makes the program leave this text.
+fn leaves(rt: &impl Abort, alloc: Global, words: &[&[u8]], text: &[u8]) {
+    let read = words_after_name(&CommandLine { words }, alloc).expect(rt, "memory");
+    let (_, held) = run_into(alloc, read.as_slice(), Vec::new(alloc));
+    assert_eq!(rt; held.as_slice(), text);
 }
 
 // The program's own name is not read, and what is no UTF-8 is told the fault of its place.
 #[test]
-fn words_of_the_command_line(rt: HostRuntime) -> Result<(), Fail> {
-    let mut long = Vec::new(rt.alloc());
-    long.resize(1000, b'0')?;
+fn words_of_the_command_line(rt: HostRuntime) {
+    let long = seven(&rt, rt.alloc(), 1000);
     let words: [&[u8]; 6] = [
         b"\xff",
         b"babybear",
         b"",
         b"na\xffive",
-        long.as_slice(),
+        long.as_bytes(),
         b"\xe2\x82",
     ];
-    let read = words_after_name(&CommandLine { words: &words }, rt.alloc())?;
-    assert_eq!(rt; read.len(), 5);
-    assert_eq!(rt; read[0].as_str(), "babybear");
-    assert_eq!(rt; read[1].as_str(), "");
-    assert_eq!(rt; read[2].as_str(), "na\u{FFFD}ive");
-    assert_eq!(rt; read[3].as_bytes(), long.as_slice());
-    assert_eq!(rt; read[4].as_str(), "\u{FFFD}");
+    let wanted = ["babybear", "", "na\u{FFFD}ive", long.as_str(), "\u{FFFD}"];
+    reads(&rt, rt.alloc(), &words, &wanted);
 
     let rows: [(&[&[u8]], &str); 5] = [
         (&[b"\xff", b"babybear", b"naive", b"dft", b"1", b"7"], "7\n"),
@@ -419,9 +442,6 @@ fn words_of_the_command_line(rt: HostRuntime) -> Result<(), Fail> {
         ),
     ];
     for (words, text) in rows {
-        let read = words_after_name(&CommandLine { words }, rt.alloc())?;
-        let (_, held) = run_into(rt.alloc(), read.as_slice(), Vec::new(rt.alloc()));
-        assert_eq!(rt; held.as_slice(), text.as_bytes());
+        leaves(&rt, rt.alloc(), words, text.as_bytes());
     }
-    Ok(())
 }
