@@ -387,12 +387,6 @@ impl<F: CanonicalField> EngineTest<F> for ColumnsBack {
     }
 }
 
-#[test]
-fn worked_columns(rt: HostRuntime) {
-    on_every_engine::<BabyBear, _, _>(&rt, rt.alloc(), &Columns);
-    on_every_engine::<BabyBear, _, _>(&rt, rt.alloc(), &ColumnsBack);
-}
-
 // One column on a coset, and another at zero.
 fn shifted<F: CanonicalField, D: TwoAdicSubgroupDft<F>>(
     rt: &impl Abort,
@@ -418,11 +412,6 @@ impl<F: CanonicalField> EngineTest<F> for ShiftsInTurn {
     }
 }
 
-#[test]
-fn shifts_in_turn(rt: HostRuntime) {
-    on_every_engine::<BabyBear, _, _>(&rt, rt.alloc(), &ShiftsInTurn);
-}
-
 // Worked extensions of one column.
 struct ExtendedColumns;
 
@@ -433,11 +422,6 @@ impl<F: CanonicalField> EngineTest<F> for ExtendedColumns {
         let values = coset_lde_of(rt, alloc, engine, &[9, 1], 1, F::ZERO);
         assert_elements(rt, values, &[5, 5, 5, 5]);
     }
-}
-
-#[test]
-fn extended_columns(rt: HostRuntime) {
-    on_every_engine::<BabyBear, _, _>(&rt, rt.alloc(), &ExtendedColumns);
 }
 
 // Two values on the coset of two become four.
@@ -466,11 +450,6 @@ impl<F: CanonicalField> EngineTest<F> for Rows {
         assert_same(rt, &idft(rt, engine, &row), &row);
         values_on_coset(rt, alloc, engine);
     }
-}
-
-#[test]
-fn worked_rows(rt: HostRuntime) {
-    on_every_engine::<BabyBear, _, _>(&rt, rt.alloc(), &Rows);
 }
 
 // Twice each entry.
@@ -503,11 +482,6 @@ impl<F: CanonicalField> EngineTest<F> for DoubledCoefficients {
         let values = values.expect(rt, "memory").to_row_major_matrix();
         assert_rows(rt, &values, &[18, 1747640588, 2, 265625353], 1);
     }
-}
-
-#[test]
-fn doubled_coefficients(rt: HostRuntime) {
-    on_every_engine::<BabyBear, _, _>(&rt, rt.alloc(), &DoubledCoefficients);
 }
 
 // What the transform is told and what it sees, of the values of 1 + 2 x + 3 x^2 + 4 x^3.
@@ -552,12 +526,6 @@ fn layouts<F: TwoAdicField>(rt: &impl Abort) {
     assert!(rt; !is_natural::<F, LimitedDft>());
 }
 
-#[test]
-fn told_layouts(rt: HostRuntime) {
-    layouts::<BabyBear>(&rt);
-    on_every_engine::<BabyBear, _, _>(&rt, rt.alloc(), &ToldLayouts);
-}
-
 // A constant has one coefficient, at one height.
 fn constants_at<F: TwoAdicField, D: TwoAdicSubgroupDft<F>>(
     rt: &impl Abort,
@@ -593,9 +561,22 @@ impl<F: TwoAdicField> EngineTest<F> for Constants {
     }
 }
 
+// All of these, on every engine.
+fn answers_of_every_engine<F: CanonicalField>(rt: &impl Abort, alloc: Global) {
+    on_every_engine::<F, _, _>(rt, alloc, &Columns);
+    on_every_engine::<F, _, _>(rt, alloc, &ColumnsBack);
+    on_every_engine::<F, _, _>(rt, alloc, &ShiftsInTurn);
+    on_every_engine::<F, _, _>(rt, alloc, &ExtendedColumns);
+    on_every_engine::<F, _, _>(rt, alloc, &Rows);
+    on_every_engine::<F, _, _>(rt, alloc, &DoubledCoefficients);
+    on_every_engine::<F, _, _>(rt, alloc, &ToldLayouts);
+    on_every_engine::<F, _, _>(rt, alloc, &Constants);
+    layouts::<F>(rt);
+}
+
 #[test]
-fn constants_and_zeros(rt: HostRuntime) {
-    on_every_engine::<BabyBear, _, _>(&rt, rt.alloc(), &Constants);
+fn worked_answers(rt: HostRuntime) {
+    answers_of_every_engine::<BabyBear>(&rt, rt.alloc());
 }
 
 const HEIGHTS: [usize; 8] = [1, 2, 4, 8, 16, 32, 64, 128];
@@ -657,14 +638,17 @@ impl<F: TwoAdicField> EngineTest<F> for Sums {
     }
 }
 
+fn transforms_at<F: TwoAdicField>(rt: &impl Abort, alloc: Global, height: usize, width: usize) {
+    on_every_engine::<F, _, _>(rt, alloc, &Inverses { height, width });
+    on_every_engine::<F, _, _>(rt, alloc, &CosetInverses { height, width });
+    on_every_engine::<F, _, _>(rt, alloc, &Sums { height, width });
+}
+
 #[test]
 fn laws_of_transforms(rt: HostRuntime) {
-    let alloc = rt.alloc();
     for height in HEIGHTS {
         for width in WIDTHS {
-            on_every_engine::<BabyBear, _, _>(&rt, alloc, &Inverses { height, width });
-            on_every_engine::<BabyBear, _, _>(&rt, alloc, &CosetInverses { height, width });
-            on_every_engine::<BabyBear, _, _>(&rt, alloc, &Sums { height, width });
+            transforms_at::<BabyBear>(&rt, rt.alloc(), height, width);
         }
     }
 }
@@ -768,13 +752,16 @@ impl<F: TwoAdicField> EngineTest<F> for ExtensionsAsSums {
     }
 }
 
+fn sums_at<F: TwoAdicField>(rt: &impl Abort, alloc: Global, height: usize, width: usize) {
+    on_every_engine::<F, _, _>(rt, alloc, &TransformsAsSums { height, width });
+    on_every_engine::<F, _, _>(rt, alloc, &ExtensionsAsSums { height, width });
+}
+
 #[test]
 fn same_as_sums(rt: HostRuntime) {
-    let alloc = rt.alloc();
     for height in HEIGHTS {
         for width in WIDTHS {
-            on_every_engine::<BabyBear, _, _>(&rt, alloc, &TransformsAsSums { height, width });
-            on_every_engine::<BabyBear, _, _>(&rt, alloc, &ExtensionsAsSums { height, width });
+            sums_at::<BabyBear>(&rt, rt.alloc(), height, width);
         }
     }
 }
@@ -848,14 +835,22 @@ impl<F: TwoAdicField> EngineTest<F> for NestedCosets {
     }
 }
 
+fn extensions_at<F: TwoAdicField>(
+    rt: &impl Abort,
+    alloc: Global,
+    height: usize,
+    added_bits: usize,
+) {
+    on_every_engine::<F, _, _>(rt, alloc, &RowsKept { height, added_bits });
+    on_every_engine::<F, _, _>(rt, alloc, &ZerosAbove { height, added_bits });
+    on_every_engine::<F, _, _>(rt, alloc, &NestedCosets { height, added_bits });
+}
+
 #[test]
 fn laws_of_extensions(rt: HostRuntime) {
-    let alloc = rt.alloc();
     for height in [1usize, 2, 4, 16] {
         for added_bits in [0usize, 1, 3] {
-            on_every_engine::<BabyBear, _, _>(&rt, alloc, &RowsKept { height, added_bits });
-            on_every_engine::<BabyBear, _, _>(&rt, alloc, &ZerosAbove { height, added_bits });
-            on_every_engine::<BabyBear, _, _>(&rt, alloc, &NestedCosets { height, added_bits });
+            extensions_at::<BabyBear>(&rt, rt.alloc(), height, added_bits);
         }
     }
 }

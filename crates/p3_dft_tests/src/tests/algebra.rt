@@ -266,12 +266,6 @@ impl EngineTest<BabyBear> for ExtendedPairs {
     }
 }
 
-#[test]
-fn worked_pairs(rt: HostRuntime) {
-    on_every_engine::<BabyBear, _, _>(&rt, rt.alloc(), &WorkedPairs);
-    on_every_engine::<BabyBear, _, _>(&rt, rt.alloc(), &ExtendedPairs);
-}
-
 // At one shape: in dimension one each form is the call over the field.
 #[derive(Drop)]
 struct DimensionOne {
@@ -426,21 +420,24 @@ impl<F: TwoAdicField> EngineTest<F> for ColumnOnCoset {
     }
 }
 
-#[test]
-fn same_in_dimension_one(rt: HostRuntime) {
-    let alloc = rt.alloc();
+fn forms_at<F: TwoAdicField>(rt: &impl Abort, alloc: Global, height: usize, width: usize) {
+    on_every_engine::<F, _, _>(rt, alloc, &DimensionOne { height, width });
+    on_every_engine::<F, _, _>(rt, alloc, &ExtendedInDimensionOne { height, width });
+}
+
+fn same_as_over_the_field<F: TwoAdicField>(rt: &impl Abort, alloc: Global) {
     for height in [1usize, 4] {
         for width in [1usize, 3] {
-            on_every_engine::<BabyBear, _, _>(&rt, alloc, &DimensionOne { height, width });
-            on_every_engine::<BabyBear, _, _>(
-                &rt,
-                alloc,
-                &ExtendedInDimensionOne { height, width },
-            );
+            forms_at::<F>(rt, alloc, height, width);
         }
-        on_every_engine::<BabyBear, _, _>(&rt, alloc, &ColumnOnSubgroup { height });
-        on_every_engine::<BabyBear, _, _>(&rt, alloc, &ColumnOnCoset { height });
+        on_every_engine::<F, _, _>(rt, alloc, &ColumnOnSubgroup { height });
+        on_every_engine::<F, _, _>(rt, alloc, &ColumnOnCoset { height });
     }
+}
+
+#[test]
+fn same_in_dimension_one(rt: HostRuntime) {
+    same_as_over_the_field::<BabyBear>(&rt, rt.alloc());
 }
 
 // A matrix of elements that look like any others.
@@ -532,9 +529,11 @@ impl EngineTest<BabyBear> for EachAlone {
 }
 
 #[test]
-fn each_coordinate_alone(rt: HostRuntime) {
+fn coordinates_of_columns(rt: HostRuntime) {
+    on_every_engine::<BabyBear, _, _>(&rt, rt.alloc(), &WorkedPairs);
+    on_every_engine::<BabyBear, _, _>(&rt, rt.alloc(), &ExtendedPairs);
     on_every_engine::<BabyBear, _, _>(&rt, rt.alloc(), &EachAlone { width: 1 });
-    on_every_engine::<BabyBear, _, _>(&rt, rt.alloc(), &EachAlone { width: 3 })
+    on_every_engine::<BabyBear, _, _>(&rt, rt.alloc(), &EachAlone { width: 3 });
 }
 
 // Every form over the field itself, at height two.
@@ -588,23 +587,15 @@ fn tiles_stay_prepared<F: TwoAdicField, R: Abort, T: EngineTest<F>>(
     assert!(rt; engine.is_prepared(1));
 }
 
+fn all_stay_prepared<F: TwoAdicField, T: EngineTest<F>>(rt: &impl Abort, alloc: Global, test: &T) {
+    dit_stays_prepared(rt, alloc, test);
+    halves_stay_prepared(rt, alloc, test);
+    tiles_stay_prepared(rt, alloc, test);
+}
+
 #[test]
 fn stays_prepared(rt: HostRuntime) {
-    dit_stays_prepared::<BabyBear, _, _>(&rt, rt.alloc(), &EveryForm);
-    dit_stays_prepared::<BabyBear, _, _>(&rt, rt.alloc(), &WorkedPairs);
-    dit_stays_prepared::<BabyBear, _, _>(&rt, rt.alloc(), &ExtendedPairs);
-}
-
-#[test]
-fn stays_prepared_by_halves(rt: HostRuntime) {
-    halves_stay_prepared::<BabyBear, _, _>(&rt, rt.alloc(), &EveryForm);
-    halves_stay_prepared::<BabyBear, _, _>(&rt, rt.alloc(), &WorkedPairs);
-    halves_stay_prepared::<BabyBear, _, _>(&rt, rt.alloc(), &ExtendedPairs);
-}
-
-#[test]
-fn stays_prepared_by_tiles(rt: HostRuntime) {
-    tiles_stay_prepared::<BabyBear, _, _>(&rt, rt.alloc(), &EveryForm);
-    tiles_stay_prepared::<BabyBear, _, _>(&rt, rt.alloc(), &WorkedPairs);
-    tiles_stay_prepared::<BabyBear, _, _>(&rt, rt.alloc(), &ExtendedPairs);
+    all_stay_prepared::<BabyBear, _>(&rt, rt.alloc(), &EveryForm);
+    all_stay_prepared::<BabyBear, _>(&rt, rt.alloc(), &WorkedPairs);
+    all_stay_prepared::<BabyBear, _>(&rt, rt.alloc(), &ExtendedPairs);
 }

@@ -156,11 +156,6 @@ impl<F: CanonicalField> EngineTest<F> for RecordedBlocks {
     }
 }
 
-#[test]
-fn recorded_blocks(rt: HostRuntime) {
-    on_every_engine::<BabyBear, _, _>(&rt, rt.alloc(), &RecordedBlocks);
-}
-
 // Each block of an extension with twice each coefficient, as it is lent.
 struct DoubledBlocks;
 
@@ -221,11 +216,6 @@ fn doubled_extension<F: TwoAdicField>(
     values.into_bit_reversed().bit_reverse_rows()
 }
 
-#[test]
-fn doubled_blocks(rt: HostRuntime) {
-    on_every_engine::<BabyBear, _, _>(&rt, rt.alloc(), &DoubledBlocks);
-}
-
 // How many blocks were taken of the extension of a column by one bit, and the one that was too many.
 fn seen_within<F: TwoAdicField, D: TwoAdicSubgroupDft<F>>(
     rt: &impl Abort,
@@ -262,11 +252,6 @@ impl<F: CanonicalField> EngineTest<F> for LimitedBlocks {
         let (seen, refused) = seen_within(rt, engine, matrix(rt, alloc, &[9, 1], 1), 4);
         assert!(rt; seen > 0 && refused.is_none());
     }
-}
-
-#[test]
-fn limited_blocks(rt: HostRuntime) {
-    on_every_engine::<BabyBear, _, _>(&rt, rt.alloc(), &LimitedBlocks);
 }
 
 // Stops the test unless so many of all blocks, of four rows each, are kept with their rows, and the rest
@@ -309,12 +294,6 @@ impl<F: CanonicalField> EngineTest<F> for OneBlockKept {
     }
 }
 
-#[test]
-fn one_block(rt: HostRuntime) {
-    on_engines_of_one_block::<BabyBear, _, _>(&rt, rt.alloc(), &OneBlock);
-    on_engines_of_one_block::<BabyBear, _, _>(&rt, rt.alloc(), &OneBlockKept);
-}
-
 // The numbers from one on, row after row.
 fn counting<F: TwoAdicField>(
     rt: &impl Abort,
@@ -342,11 +321,6 @@ impl<F: TwoAdicField> EngineTest<F> for BlocksOfFourRows {
             assert_kept(rt, answer, kept, 32);
         }
     }
-}
-
-#[test]
-fn blocks_of_four_rows(rt: HostRuntime) {
-    on_halves::<BabyBear, _, _>(&rt, rt.alloc(), &BlocksOfFourRows);
 }
 
 // Counts blocks in what is lent to it.
@@ -400,12 +374,6 @@ impl<F: CanonicalField> EngineTest<F> for NothingLent {
     }
 }
 
-#[test]
-fn nothing_is_lent_without_memory(rt: HostRuntime) {
-    let mut engine = LimitedDft::new(1);
-    EngineTest::<BabyBear>::run(&NothingLent, &rt, rt.alloc(), &mut engine);
-}
-
 // The consumer is made once the coefficients were transformed.
 struct MadeLater;
 
@@ -435,7 +403,28 @@ impl<F: CanonicalField> EngineTest<F> for MadeLater {
     }
 }
 
+// What every engine publishes.
+fn published<F: CanonicalField>(rt: &impl Abort, alloc: Global) {
+    on_every_engine::<F, _, _>(rt, alloc, &RecordedBlocks);
+    on_every_engine::<F, _, _>(rt, alloc, &DoubledBlocks);
+    on_every_engine::<F, _, _>(rt, alloc, &LimitedBlocks);
+    on_every_engine::<F, _, _>(rt, alloc, &MadeLater);
+}
+
 #[test]
-fn consumer_is_made_later(rt: HostRuntime) {
-    on_every_engine::<BabyBear, _, _>(&rt, rt.alloc(), &MadeLater);
+fn published_blocks(rt: HostRuntime) {
+    published::<BabyBear>(&rt, rt.alloc());
+}
+
+// What some do.
+fn sizes<F: CanonicalField>(rt: &impl Abort, alloc: Global) {
+    on_engines_of_one_block::<F, _, _>(rt, alloc, &OneBlock);
+    on_engines_of_one_block::<F, _, _>(rt, alloc, &OneBlockKept);
+    on_halves::<F, _, _>(rt, alloc, &BlocksOfFourRows);
+    EngineTest::<F>::run(&NothingLent, rt, alloc, &mut LimitedDft::new(1));
+}
+
+#[test]
+fn sizes_of_blocks(rt: HostRuntime) {
+    sizes::<BabyBear>(&rt, rt.alloc());
 }

@@ -338,16 +338,11 @@ fn calls_at_a_prepared_height<F: CanonicalField>(rt: &impl Abort, alloc: Global)
     transform_two_rows(rt, alloc, &mut engine);
 }
 
-#[test]
-fn prepared_heights_answer(rt: HostRuntime) {
-    calls_at_a_prepared_height::<BabyBear>(&rt, rt.alloc());
-}
-
-#[test]
-fn smaller_height_answers(rt: HostRuntime) {
-    let mut engine: Radix2Dit<BabyBear> = Radix2Dit::default();
-    engine.prepare(rt.alloc(), 3).expect(&rt, "memory");
-    transform_two_rows_with_larger(&rt, rt.alloc(), &mut engine, 3);
+fn calls_below_a_prepared_height<F: CanonicalField>(rt: &impl Abort, alloc: Global) {
+    assert!(rt; F::TWO_ADICITY >= 3);
+    let mut engine: Radix2Dit<F> = Radix2Dit::default();
+    engine.prepare(alloc, 3).expect(rt, "memory");
+    transform_two_rows_with_larger(rt, alloc, &mut engine, 3);
 }
 
 fn transform_as_promised<F: CanonicalField, D: TwoAdicSubgroupDft<F>>(
@@ -368,21 +363,11 @@ fn transform_as_promised_by_halves<F: CanonicalField>(rt: &impl Abort, alloc: Gl
     transform_as_promised(rt, alloc, &mut engine);
 }
 
-#[test]
-fn promised_height_answers(rt: HostRuntime) {
-    transform_as_promised_by_halves::<BabyBear>(&rt, rt.alloc());
-}
-
 fn transform_as_promised_by_tiles<F: CanonicalField>(rt: &impl Abort, alloc: Global) {
     assert!(rt; F::TWO_ADICITY >= 1);
     let mut engine: Radix2DFTSmallBatch<F> = Radix2DFTSmallBatch::default();
     engine.prepare(alloc, 1).expect(rt, "memory");
     transform_as_promised(rt, alloc, &mut engine);
-}
-
-#[test]
-fn promised_height_answers_by_tiles(rt: HostRuntime) {
-    transform_as_promised_by_tiles::<BabyBear>(&rt, rt.alloc());
 }
 
 fn transform_on_a_coset_as_promised<F: CanonicalField>(rt: &impl Abort, alloc: Global) {
@@ -392,11 +377,6 @@ fn transform_on_a_coset_as_promised<F: CanonicalField>(rt: &impl Abort, alloc: G
     let values = two_rows(rt, alloc, [5, 4]);
     let there = transform_on_promised_coset(&mut engine, values, 1, F::TWO).expect(rt, "memory");
     assert_column(rt, &there, &[13, 2013265918]);
-}
-
-#[test]
-fn promised_coset_answers(rt: HostRuntime) {
-    transform_on_a_coset_as_promised::<BabyBear>(&rt, rt.alloc());
 }
 
 fn transform_twice_on_a_coset<F: CanonicalField>(
@@ -409,12 +389,6 @@ fn transform_twice_on_a_coset<F: CanonicalField>(
     let there = transform_on_known_coset(engine, two_rows(rt, alloc, [5, 4]), 1, shift);
     let there = there.expect(rt, "memory");
     assert_column(rt, &there.to_row_major_matrix(), &[13, 2013265918]);
-}
-
-#[test]
-fn known_coset_answers(rt: HostRuntime) {
-    let mut engine = Radix2DitParallel::<BabyBear>::default();
-    transform_twice_on_a_coset(&rt, rt.alloc(), &mut engine);
 }
 
 fn extend_after_a_coset<F: CanonicalField>(
@@ -430,10 +404,9 @@ fn extend_after_a_coset<F: CanonicalField>(
     assert_column(rt, &extended.to_row_major_matrix(), &numbers);
 }
 
-#[test]
-fn known_coset_stays(rt: HostRuntime) {
-    let mut engine = Radix2DitParallel::<BabyBear>::default();
-    extend_after_a_coset(&rt, rt.alloc(), &mut engine);
+fn calls_on_a_known_coset<F: CanonicalField>(rt: &impl Abort, alloc: Global) {
+    transform_twice_on_a_coset::<F>(rt, alloc, &mut Radix2DitParallel::default());
+    extend_after_a_coset::<F>(rt, alloc, &mut Radix2DitParallel::default());
 }
 
 fn transform_columns<F: CanonicalField>(rt: &impl Abort, alloc: Global, engine: &mut Radix2Dit<F>) {
@@ -464,11 +437,6 @@ fn calls_on_columns<F: CanonicalField>(rt: &impl Abort, alloc: Global) {
     invert_columns(rt, alloc, &mut engine);
 }
 
-#[test]
-fn prepared_columns_answer(rt: HostRuntime) {
-    calls_on_columns::<BabyBear>(&rt, rt.alloc());
-}
-
 fn new_engine_prepared<F: CanonicalField>(rt: &impl Abort, alloc: Global) {
     let engine = transform_by_a_new_engine(two_rows(rt, alloc, [9, 1]));
     let engine: Radix2Dit<F> = engine.expect(rt, "memory");
@@ -481,8 +449,19 @@ fn new_engine_extends<F: CanonicalField>(rt: &impl Abort, alloc: Global) {
     let _engine: NaiveDft = extend_by_a_new_engine(column, 1).expect(rt, "memory");
 }
 
+fn every_caller<F: CanonicalField>(rt: &impl Abort, alloc: Global) {
+    calls_at_a_prepared_height::<F>(rt, alloc);
+    calls_below_a_prepared_height::<F>(rt, alloc);
+    transform_as_promised_by_halves::<F>(rt, alloc);
+    transform_as_promised_by_tiles::<F>(rt, alloc);
+    transform_on_a_coset_as_promised::<F>(rt, alloc);
+    calls_on_a_known_coset::<F>(rt, alloc);
+    calls_on_columns::<F>(rt, alloc);
+    new_engine_prepared::<F>(rt, alloc);
+    new_engine_extends::<F>(rt, alloc);
+}
+
 #[test]
-fn new_engines(rt: HostRuntime) {
-    new_engine_prepared::<BabyBear>(&rt, rt.alloc());
-    new_engine_extends::<BabyBear>(&rt, rt.alloc());
+fn promises(rt: HostRuntime) {
+    every_caller::<BabyBear>(&rt, rt.alloc());
 }

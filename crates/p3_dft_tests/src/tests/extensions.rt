@@ -112,11 +112,6 @@ impl<F: CanonicalField> EngineTest<F> for MovedCoefficients {
     }
 }
 
-#[test]
-fn moved_coefficients(rt: HostRuntime) {
-    on_every_engine::<BabyBear, _, _>(&rt, rt.alloc(), &MovedCoefficients);
-}
-
 // The blocks of an extension of one row by two bits: how many there are, and of how many rows.
 fn blocks_of_one_row<F: CanonicalField, D: TwoAdicSubgroupDft<F>>(
     rt: &impl Abort,
@@ -157,12 +152,17 @@ impl<F: CanonicalField> EngineTest<F> for BlocksOfOneRow {
     }
 }
 
-#[test]
-fn single_rows(rt: HostRuntime) {
+fn moved_and_single<F: CanonicalField>(rt: &impl Abort, alloc: Global) {
+    on_every_engine::<F, _, _>(rt, alloc, &MovedCoefficients);
     let single = BlocksOfOneRow { blocks: 4, rows: 1 };
-    on_halves::<BabyBear, _, _>(&rt, rt.alloc(), &single);
+    on_halves::<F, _, _>(rt, alloc, &single);
     let whole = BlocksOfOneRow { blocks: 1, rows: 4 };
-    on_engines_of_one_block::<BabyBear, _, _>(&rt, rt.alloc(), &whole);
+    on_engines_of_one_block::<F, _, _>(rt, alloc, &whole);
+}
+
+#[test]
+fn moved_coefficients_and_single_rows(rt: HostRuntime) {
+    moved_and_single::<BabyBear>(&rt, rt.alloc());
 }
 
 // Counts blocks in what is lent to it.

@@ -135,21 +135,11 @@ fn no_answers<F: CanonicalField, D: TwoAdicSubgroupDft<F>>(
 // No jobs, and a job of each kind.
 struct Jobs;
 
-impl EngineTest<BabyBear> for Jobs {
-    fn run<R: Abort, D: TwoAdicSubgroupDft<BabyBear>>(
-        &self,
-        rt: &R,
-        alloc: Global,
-        engine: &mut D,
-    ) {
+impl<F: CanonicalField> EngineTest<F> for Jobs {
+    fn run<R: Abort, D: TwoAdicSubgroupDft<F>>(&self, rt: &R, alloc: Global, engine: &mut D) {
         no_answers(rt, alloc, engine);
         answers_in_turn(rt, alloc, engine, 0, KINDS);
     }
-}
-
-#[test]
-fn jobs_in_order(rt: HostRuntime) {
-    on_every_engine::<BabyBear, _, _>(&rt, rt.alloc(), &Jobs);
 }
 
 // A list that begins with one kind, refused after so many transforms.
@@ -223,18 +213,18 @@ fn cosets_answered<F: CanonicalField, D: TwoAdicSubgroupDft<F>>(
 
 struct CosetsInTurn;
 
-impl EngineTest<BabyBear> for CosetsInTurn {
-    fn run<R: Abort, D: TwoAdicSubgroupDft<BabyBear>>(
-        &self,
-        rt: &R,
-        alloc: Global,
-        engine: &mut D,
-    ) {
+impl<F: CanonicalField> EngineTest<F> for CosetsInTurn {
+    fn run<R: Abort, D: TwoAdicSubgroupDft<F>>(&self, rt: &R, alloc: Global, engine: &mut D) {
         cosets_answered(rt, alloc, engine);
     }
 }
 
+fn lists<F: CanonicalField>(rt: &impl Abort, alloc: Global) {
+    on_every_engine::<F, _, _>(rt, alloc, &Jobs);
+    on_every_engine::<F, _, _>(rt, alloc, &CosetsInTurn);
+}
+
 #[test]
-fn cosets_in_turn(rt: HostRuntime) {
-    on_every_engine::<BabyBear, _, _>(&rt, rt.alloc(), &CosetsInTurn);
+fn jobs_in_order(rt: HostRuntime) {
+    lists::<BabyBear>(&rt, rt.alloc());
 }

@@ -68,11 +68,6 @@ fn worked_transforms<F: CanonicalField>(rt: &impl Abort, alloc: Global) {
     three_columns::<F, Radix2Dit<F>>(rt, alloc);
 }
 
-#[test]
-fn values_on_the_subgroup(rt: HostRuntime) {
-    worked_transforms::<BabyBear>(&rt, rt.alloc());
-}
-
 // The heights that were prepared.
 fn prepared<F: CanonicalField>(rt: &impl Abort, alloc: Global, engine: &mut Radix2Dit<F>) {
     assert!(rt; F::TWO_ADICITY >= 3);
@@ -94,11 +89,6 @@ fn prepares_heights<F: CanonicalField>(rt: &impl Abort, alloc: Global) {
     prepared(rt, alloc, &mut engine);
 }
 
-#[test]
-fn prepared_heights(rt: HostRuntime) {
-    prepares_heights::<BabyBear>(&rt, rt.alloc());
-}
-
 // A transform prepares its height, and takes no smaller one back.
 fn transforms_prepare<F: CanonicalField>(
     rt: &impl Abort,
@@ -114,8 +104,13 @@ fn transforms_prepare<F: CanonicalField>(
     assert!(rt; engine.is_prepared(4));
 }
 
+fn over_the_smaller_field<F: CanonicalField>(rt: &impl Abort, alloc: Global) {
+    worked_transforms::<F>(rt, alloc);
+    prepares_heights::<F>(rt, alloc);
+    transforms_prepare::<F>(rt, alloc, &mut Radix2Dit::default());
+}
+
 #[test]
-fn heights_of_transforms(rt: HostRuntime) {
-    let mut engine: Radix2Dit<BabyBear> = Radix2Dit::default();
-    transforms_prepare(&rt, rt.alloc(), &mut engine);
+fn values_and_prepared_heights(rt: HostRuntime) {
+    over_the_smaller_field::<BabyBear>(&rt, rt.alloc());
 }

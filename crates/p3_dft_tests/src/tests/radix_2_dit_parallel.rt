@@ -24,11 +24,6 @@ fn transforms_reversed<F: CanonicalField>(rt: &impl Abort, alloc: Global) {
     assert_column(rt, &values.to_row_major_matrix(), &natural);
 }
 
-#[test]
-fn rows_in_bit_reversed_order(rt: HostRuntime) {
-    transforms_reversed::<BabyBear>(&rt, rt.alloc());
-}
-
 fn prepares<F: CanonicalField>(rt: &impl Abort, alloc: Global, engine: &mut Radix2DitParallel<F>) {
     assert!(rt; engine.is_prepared(0));
     assert!(rt; !engine.is_prepared(1));
@@ -48,11 +43,6 @@ fn prepares_heights<F: CanonicalField>(rt: &impl Abort, alloc: Global) {
     let mut engine: Radix2DitParallel<F> = Radix2DitParallel::default();
     prepares(rt, alloc, &mut engine);
     copy_is_empty(rt, &engine);
-}
-
-#[test]
-fn heights_are_prepared(rt: HostRuntime) {
-    prepares_heights::<BabyBear>(&rt, rt.alloc());
 }
 
 // The inverse of the values of these coefficients.
@@ -76,11 +66,6 @@ fn transform_prepares<F: CanonicalField>(rt: &impl Abort, alloc: Global) {
     assert!(rt; engine.is_prepared(2));
     inverts(rt, alloc, &mut engine, &values, &coefficients);
     assert!(rt; !engine.is_prepared(3));
-}
-
-#[test]
-fn transformed_is_prepared(rt: HostRuntime) {
-    transform_prepares::<BabyBear>(&rt, rt.alloc());
 }
 
 // The values 13, 2013265918 of 5, 4 on the coset of two are taken back, there and back on the
@@ -117,11 +102,6 @@ fn calls_without_memory<F: CanonicalField>(rt: &impl Abort, alloc: Global) {
     let coefficients = elements(rt, alloc, &[5, 4]);
     // No request for memory from here on.
     hands_on(rt, &mut engine, values, &coefficients);
-}
-
-#[test]
-fn prepared_calls_take_no_memory(rt: HostRuntime) {
-    calls_without_memory::<BabyBear>(&rt, rt.alloc());
 }
 
 // The row with number 1 of a column, and zeros in the others.
@@ -233,7 +213,15 @@ fn extends_by_halves<F: CanonicalField>(rt: &impl Abort, alloc: Global) {
     extends::<F, Radix2DitParallel<F>>(rt, alloc);
 }
 
+fn goes_by_halves<F: CanonicalField>(rt: &impl Abort, alloc: Global) {
+    transforms_reversed::<F>(rt, alloc);
+    prepares_heights::<F>(rt, alloc);
+    transform_prepares::<F>(rt, alloc);
+    calls_without_memory::<F>(rt, alloc);
+    extends_by_halves::<F>(rt, alloc);
+}
+
 #[test]
-fn extensions_and_blocks(rt: HostRuntime) {
-    extends_by_halves::<BabyBear>(&rt, rt.alloc());
+fn rows_tables_and_blocks(rt: HostRuntime) {
+    goes_by_halves::<BabyBear>(&rt, rt.alloc());
 }

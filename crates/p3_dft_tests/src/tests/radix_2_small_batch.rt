@@ -52,13 +52,6 @@ fn transforms_in_tiles<F: CanonicalField>(rt: &impl Abort, alloc: Global, tile: 
     );
 }
 
-#[test]
-fn single_coefficients(rt: HostRuntime) {
-    for tile in [1usize, 6, 12, 192] {
-        transforms_in_tiles::<BabyBear>(&rt, rt.alloc(), tile);
-    }
-}
-
 // The answers of the definition, by one engine.
 fn answers_of_sums<F: CanonicalField, D: TwoAdicSubgroupDft<F>>(
     rt: &impl Abort,
@@ -115,13 +108,6 @@ fn made_for_no_height<F: CanonicalField>(rt: &impl Abort, alloc: Global, n: usiz
     evaluates(rt, alloc, &mut engine, &[5, 4], &[9, 1]);
 }
 
-#[test]
-fn engines_for_no_height(rt: HostRuntime) {
-    for n in [0usize, 1] {
-        made_for_no_height::<BabyBear>(&rt, rt.alloc(), n);
-    }
-}
-
 // Eight rows where their height is prepared: the transform answers, whatever memory there is.
 fn transform_of_eight_rows<F: CanonicalField>(
     rt: &impl Abort,
@@ -163,11 +149,6 @@ fn stays_prepared<F: CanonicalField>(
     assert!(rt; !copy.is_prepared(1));
 }
 
-#[test]
-fn engines_for_heights(rt: HostRuntime) {
-    made_for_a_height::<BabyBear>(&rt, rt.alloc());
-}
-
 // A constant is extended to a constant.
 fn extends_a_constant<F: CanonicalField, D: TwoAdicSubgroupDft<F>>(
     rt: &impl Abort,
@@ -189,11 +170,6 @@ fn extension_prepares<F: CanonicalField>(rt: &impl Abort, alloc: Global) {
     assert!(rt; engine.is_prepared(4));
 }
 
-#[test]
-fn heights_of_extensions(rt: HostRuntime) {
-    extension_prepares::<BabyBear>(&rt, rt.alloc());
-}
-
 // What is prepared stays, whether memory for a larger height is refused or not.
 fn prepares_a_larger_height<F: CanonicalField>(rt: &impl Abort, alloc: Global) {
     assert!(rt; F::TWO_ADICITY >= 5);
@@ -205,7 +181,19 @@ fn prepares_a_larger_height<F: CanonicalField>(rt: &impl Abort, alloc: Global) {
     transform_of_eight_rows(rt, alloc, &mut engine);
 }
 
+fn goes_by_tiles<F: CanonicalField>(rt: &impl Abort, alloc: Global) {
+    for tile in [1usize, 6, 12, 192] {
+        transforms_in_tiles::<F>(rt, alloc, tile);
+    }
+    for n in [0usize, 1] {
+        made_for_no_height::<F>(rt, alloc, n);
+    }
+    made_for_a_height::<F>(rt, alloc);
+    extension_prepares::<F>(rt, alloc);
+    prepares_a_larger_height::<F>(rt, alloc);
+}
+
 #[test]
-fn larger_heights(rt: HostRuntime) {
-    prepares_a_larger_height::<BabyBear>(&rt, rt.alloc());
+fn single_coefficients_and_heights(rt: HostRuntime) {
+    goes_by_tiles::<BabyBear>(&rt, rt.alloc());
 }

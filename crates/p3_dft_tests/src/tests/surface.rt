@@ -17,14 +17,17 @@ fn broadcast<F: TwoAdicField + Packable>(x: F) -> F::Packing {
 }
 
 // The scalars of packed values.
-fn is_one<P: Packed<Scalar = BabyBear>>(x: P::Scalar) -> bool {
-    x == BabyBear::ONE
+fn is_one<F: Field, P: Packed<Scalar = F>>(x: P::Scalar) -> bool {
+    x == F::ONE
+}
+
+fn one_is_one<F: Packable>(rt: &impl Abort) {
+    assert!(rt; is_one::<F, F>(scaled(F::ONE, F::ONE, &mut Products::new())));
 }
 
 #[test]
 fn names_of_fields(rt: HostRuntime) {
-    let mut products = Products::new();
-    assert!(rt; is_one::<BabyBear>(scaled(BabyBear::ONE, BabyBear::ONE, &mut products)));
+    one_is_one::<Goldilocks>(&rt);
     assert!(rt; broadcast(Goldilocks::ONE) == Goldilocks::ONE);
 }
 
@@ -42,11 +45,6 @@ fn butterflies<F: Packable>(rt: &impl Abort) {
     assert!(rt; met(ScaledDitButterfly::new(F::ONE, F::ONE)) == (three, F::ONE));
 }
 
-#[test]
-fn names_of_butterflies(rt: HostRuntime) {
-    butterflies::<BabyBear>(&rt);
-}
-
 // One and two, multiplied by one and divided by their number.
 fn scales<F: TwoAdicField + Packable>(rt: &impl Abort, alloc: Global) {
     let mut products = Products::new();
@@ -60,9 +58,14 @@ fn scales<F: TwoAdicField + Packable>(rt: &impl Abort, alloc: Global) {
     assert!(rt; mat.values().first() == Some(&F::ONE.halve()));
 }
 
+fn butterflies_and_scales<F: TwoAdicField + Packable>(rt: &impl Abort, alloc: Global) {
+    butterflies::<F>(rt);
+    scales::<F>(rt, alloc);
+}
+
 #[test]
-fn names_of_scales(rt: HostRuntime) {
-    scales::<BabyBear>(&rt, rt.alloc());
+fn names_of_butterflies_and_scales(rt: HostRuntime) {
+    butterflies_and_scales::<BabyBear>(&rt, rt.alloc());
 }
 
 // The first entry of what can be handed over, of evaluations, and of what is lent.
