@@ -1,16 +1,16 @@
 // What every engine answers, and what tests share. A test is a value with a call that is generic over
-// the engine; `on_every_engine` runs it on each.
+// the engine, or over its calls alone; `on_every_engine` and `calls_of_every_engine` run it on each.
 //
 // The numbers were worked out by hand or by another program; the rest are laws. A test stops where it
 // fails, and where memory is refused.
 
-ghost use Rattle.std.specs.Prelude.{◌≡◌, ◌↔◌, IsTrue};
-ghost use Rattle.p3_field.specs.Ring.{IsInvertible};
+ghost use Rattle.std.specs.Prelude.{◌≡◌};
 ghost use Rattle.p3_matrix.specs.RowMajor.{HasShapeOf};
 
 mod algebra;
 mod blocks;
 mod callers;
+mod calls;
 mod engines;
 mod extensions;
 mod fitting;
@@ -25,11 +25,12 @@ mod radix_2_small_batch;
 mod surface;
 mod util;
 
+use calls::{Calls, CallsOf};
 use engines::LimitedDft;
 use p3_dft::{
     BabyBear, CanonicalField, Evaluations, Field, Layout, NaiveDft, Radix2Bowers,
     Radix2DFTSmallBatch, Radix2Dit, Radix2DitParallel, RowMajorMatrix, TwoAdicField,
-    TwoAdicSubgroupDft, fits_dft, fits_lde,
+    TwoAdicSubgroupDft, fits_lde,
 };
 use std::alloc::Global;
 use std::process::Abort;
@@ -133,160 +134,6 @@ fn with_zeros<F: TwoAdicField>(
     matrix_of(rt, entries, width)
 }
 
-// Whether an element has an inverse.
-fn has_inverse<F: Field>(x: F) -> bool
-    ensures { IsTrue result ↔ IsInvertible F.ring (F.value x) }
-{
-    x.try_inverse().is_some()
-}
-
-// Each call of an engine, on a shape that is tested first and with the answer in natural order.
-
-fn dft<F: TwoAdicField, D: TwoAdicSubgroupDft<F>>(
-    rt: &impl Abort,
-    engine: &mut D,
-    mat: &RowMajorMatrix<F>,
-) -> RowMajorMatrix<F> {
-    let mat = mat.try_clone().expect(rt, "memory");
-    assert!(rt; fits_dft::<F>(mat.height(), mat.width()));
-    let values = engine.dft_batch(mat).expect(rt, "memory");
-    values.to_row_major_matrix()
-}
-
-fn coset_dft<F: TwoAdicField, D: TwoAdicSubgroupDft<F>>(
-    rt: &impl Abort,
-    engine: &mut D,
-    mat: &RowMajorMatrix<F>,
-    shift: F,
-) -> RowMajorMatrix<F> {
-    let mat = mat.try_clone().expect(rt, "memory");
-    assert!(rt; fits_dft::<F>(mat.height(), mat.width()));
-    let values = engine.coset_dft_batch(mat, shift).expect(rt, "memory");
-    values.to_row_major_matrix()
-}
-
-fn idft<F: TwoAdicField, D: TwoAdicSubgroupDft<F>>(
-    rt: &impl Abort,
-    engine: &mut D,
-    mat: &RowMajorMatrix<F>,
-) -> RowMajorMatrix<F> {
-    let mat = mat.try_clone().expect(rt, "memory");
-    assert!(rt; fits_dft::<F>(mat.height(), mat.width()));
-    engine.idft_batch(mat).expect(rt, "memory")
-}
-
-fn coset_idft<F: TwoAdicField, D: TwoAdicSubgroupDft<F>>(
-    rt: &impl Abort,
-    engine: &mut D,
-    mat: &RowMajorMatrix<F>,
-    shift: F,
-) -> RowMajorMatrix<F> {
-    let mat = mat.try_clone().expect(rt, "memory");
-    assert!(rt; fits_dft::<F>(mat.height(), mat.width()));
-    assert!(rt; has_inverse(shift));
-    engine.coset_idft_batch(mat, shift).expect(rt, "memory")
-}
-
-fn lde<F: TwoAdicField, D: TwoAdicSubgroupDft<F>>(
-    rt: &impl Abort,
-    engine: &mut D,
-    mat: &RowMajorMatrix<F>,
-    added_bits: usize,
-) -> RowMajorMatrix<F> {
-    let mat = mat.try_clone().expect(rt, "memory");
-    assert!(rt; fits_lde::<F>(mat.height(), mat.width(), added_bits));
-    let values = engine.lde_batch(mat, added_bits).expect(rt, "memory");
-    values.to_row_major_matrix()
-}
-
-fn coset_lde<F: TwoAdicField, D: TwoAdicSubgroupDft<F>>(
-    rt: &impl Abort,
-    engine: &mut D,
-    mat: &RowMajorMatrix<F>,
-    added_bits: usize,
-    shift: F,
-) -> RowMajorMatrix<F> {
-    let mat = mat.try_clone().expect(rt, "memory");
-    assert!(rt; fits_lde::<F>(mat.height(), mat.width(), added_bits));
-    let values = engine.coset_lde_batch(mat, added_bits, shift);
-    values.expect(rt, "memory").to_row_major_matrix()
-}
-
-// The same of one column, which is the elements with these numbers.
-
-fn dft_of<F: CanonicalField, D: TwoAdicSubgroupDft<F>>(
-    rt: &impl Abort,
-    alloc: Global,
-    engine: &mut D,
-    numbers: &[u64],
-) -> Vec<F> {
-    let column: Vec<F> = elements(rt, alloc, numbers);
-    assert!(rt; fits_dft::<F>(column.len(), 1));
-    engine.dft(column).expect(rt, "memory")
-}
-
-fn coset_dft_of<F: CanonicalField, D: TwoAdicSubgroupDft<F>>(
-    rt: &impl Abort,
-    alloc: Global,
-    engine: &mut D,
-    numbers: &[u64],
-    shift: F,
-) -> Vec<F> {
-    let column: Vec<F> = elements(rt, alloc, numbers);
-    assert!(rt; fits_dft::<F>(column.len(), 1));
-    engine.coset_dft(column, shift).expect(rt, "memory")
-}
-
-fn idft_of<F: CanonicalField, D: TwoAdicSubgroupDft<F>>(
-    rt: &impl Abort,
-    alloc: Global,
-    engine: &mut D,
-    numbers: &[u64],
-) -> Vec<F> {
-    let column: Vec<F> = elements(rt, alloc, numbers);
-    assert!(rt; fits_dft::<F>(column.len(), 1));
-    engine.idft(column).expect(rt, "memory")
-}
-
-fn coset_idft_of<F: CanonicalField, D: TwoAdicSubgroupDft<F>>(
-    rt: &impl Abort,
-    alloc: Global,
-    engine: &mut D,
-    numbers: &[u64],
-    shift: F,
-) -> Vec<F> {
-    let column: Vec<F> = elements(rt, alloc, numbers);
-    assert!(rt; fits_dft::<F>(column.len(), 1));
-    assert!(rt; has_inverse(shift));
-    engine.coset_idft(column, shift).expect(rt, "memory")
-}
-
-fn lde_of<F: CanonicalField, D: TwoAdicSubgroupDft<F>>(
-    rt: &impl Abort,
-    alloc: Global,
-    engine: &mut D,
-    numbers: &[u64],
-    added_bits: usize,
-) -> Vec<F> {
-    let column: Vec<F> = elements(rt, alloc, numbers);
-    assert!(rt; fits_lde::<F>(column.len(), 1, added_bits));
-    engine.lde(column, added_bits).expect(rt, "memory")
-}
-
-fn coset_lde_of<F: CanonicalField, D: TwoAdicSubgroupDft<F>>(
-    rt: &impl Abort,
-    alloc: Global,
-    engine: &mut D,
-    numbers: &[u64],
-    added_bits: usize,
-    shift: F,
-) -> Vec<F> {
-    let column: Vec<F> = elements(rt, alloc, numbers);
-    assert!(rt; fits_lde::<F>(column.len(), 1, added_bits));
-    let values = engine.coset_lde(column, added_bits, shift);
-    values.expect(rt, "memory")
-}
-
 // Stops the test where two matrices differ.
 fn assert_same<F: TwoAdicField>(
     rt: &impl Abort,
@@ -316,7 +163,24 @@ fn assert_elements<F: CanonicalField>(rt: &impl Abort, found: Vec<F>, numbers: &
 
 // A test that every engine over a field passes.
 trait EngineTest<F: TwoAdicField> {
-    fn run<R: Abort, D: TwoAdicSubgroupDft<F>>(&self, rt: &R, alloc: Global, engine: &mut D);
+    fn run<R: Abort, D: TwoAdicSubgroupDft<F>>(&self, rt: &R, alloc: Global, engine: D);
+}
+
+// A test that the calls of every engine pass.
+trait CallsTest<F: TwoAdicField> {
+    fn run<R: Abort, C: Calls<F>>(&self, rt: &R, alloc: Global, engine: &mut C);
+}
+
+// Such a test, of an engine.
+#[derive(Drop)]
+struct ByCalls<'a, T> {
+    test: &'a T,
+}
+
+impl<'a, F: TwoAdicField, T: CallsTest<F>> EngineTest<F> for ByCalls<'a, T> {
+    fn run<R: Abort, D: TwoAdicSubgroupDft<F>>(&self, rt: &R, alloc: Global, engine: D) {
+        self.test.run(rt, alloc, &mut CallsOf { engine });
+    }
 }
 
 // Runs a test on a new engine.
@@ -325,7 +189,7 @@ fn on<F: TwoAdicField, D: TwoAdicSubgroupDft<F>, R: Abort, T: EngineTest<F>>(
     alloc: Global,
     test: &T,
 ) {
-    test.run(rt, alloc, &mut D::default());
+    test.run(rt, alloc, D::default());
 }
 
 // On the engine by decimation in time.
@@ -357,16 +221,25 @@ fn on_every_engine<F: TwoAdicField, R: Abort, T: EngineTest<F>>(rt: &R, alloc: G
     on_halves(rt, alloc, test);
 }
 
+// The same of calls alone.
+fn calls_of_every_engine<F: TwoAdicField, R: Abort, T: CallsTest<F>>(
+    rt: &R,
+    alloc: Global,
+    test: &T,
+) {
+    on_every_engine(rt, alloc, &ByCalls { test });
+}
+
 // Worked transforms of one column.
 struct Columns;
 
-impl<F: CanonicalField> EngineTest<F> for Columns {
-    fn run<R: Abort, D: TwoAdicSubgroupDft<F>>(&self, rt: &R, alloc: Global, engine: &mut D) {
-        let values = dft_of(rt, alloc, engine, &[1, 2, 3, 4]);
+impl<F: CanonicalField> CallsTest<F> for Columns {
+    fn run<R: Abort, C: Calls<F>>(&self, rt: &R, alloc: Global, engine: &mut C) {
+        let values = engine.column_dft(rt, elements(rt, alloc, &[1, 2, 3, 4]));
         assert_elements(rt, values, &[10, 569722814, 2013265919, 1443543103]);
-        let values = coset_dft_of(rt, alloc, engine, &[5, 4], F::TWO);
+        let values = engine.column_coset_dft(rt, elements(rt, alloc, &[5, 4]), F::TWO);
         assert_elements(rt, values, &[13, 2013265918]);
-        let values = coset_dft_of(rt, alloc, engine, &[5, 4], F::ZERO);
+        let values = engine.column_coset_dft(rt, elements(rt, alloc, &[5, 4]), F::ZERO);
         assert_elements(rt, values, &[5, 5]);
     }
 }
@@ -374,38 +247,38 @@ impl<F: CanonicalField> EngineTest<F> for Columns {
 // And worked inverses, by a clone.
 struct ColumnsBack;
 
-impl<F: CanonicalField> EngineTest<F> for ColumnsBack {
-    fn run<R: Abort, D: TwoAdicSubgroupDft<F>>(&self, rt: &R, alloc: Global, engine: &mut D) {
-        let mut engine = engine.clone().expect(rt, "memory");
-        let numbers = [10, 569722814, 2013265919, 1443543103];
-        let coefficients = idft_of(rt, alloc, &mut engine, &numbers);
-        assert_elements(rt, coefficients, &[1, 2, 3, 4]);
-        let coefficients = idft_of(rt, alloc, &mut engine, &[9, 1]);
+impl<F: CanonicalField> CallsTest<F> for ColumnsBack {
+    fn run<R: Abort, C: Calls<F>>(&self, rt: &R, alloc: Global, engine: &mut C) {
+        let mut engine = engine.copied(rt);
+        let values = elements(rt, alloc, &[10, 569722814, 2013265919, 1443543103]);
+        assert_elements(rt, engine.column_idft(rt, values), &[1, 2, 3, 4]);
+        let coefficients = engine.column_idft(rt, elements(rt, alloc, &[9, 1]));
         assert_elements(rt, coefficients, &[5, 4]);
-        let coefficients = coset_idft_of(rt, alloc, &mut engine, &[13, 2013265918], F::TWO);
+        let values = elements(rt, alloc, &[13, 2013265918]);
+        let coefficients = engine.column_coset_idft(rt, values, F::TWO);
         assert_elements(rt, coefficients, &[5, 4]);
     }
 }
 
 // One column on a coset, and another at zero.
-fn shifted<F: CanonicalField, D: TwoAdicSubgroupDft<F>>(
+fn shifted<F: CanonicalField, C: Calls<F>>(
     rt: &impl Abort,
     alloc: Global,
-    engine: &mut D,
+    engine: &mut C,
     shift: F,
     numbers: &[u64],
 ) {
-    let values = coset_dft_of(rt, alloc, engine, &[5, 4], shift);
+    let values = engine.column_coset_dft(rt, elements(rt, alloc, &[5, 4]), shift);
     assert_elements(rt, values, numbers);
-    let values = coset_dft_of(rt, alloc, engine, &[1, 2, 3, 4], F::ZERO);
+    let values = engine.column_coset_dft(rt, elements(rt, alloc, &[1, 2, 3, 4]), F::ZERO);
     assert_elements(rt, values, &[1, 1, 1, 1]);
 }
 
 // One column on cosets, each shift after others, and another column in between.
 struct ShiftsInTurn;
 
-impl<F: CanonicalField> EngineTest<F> for ShiftsInTurn {
-    fn run<R: Abort, D: TwoAdicSubgroupDft<F>>(&self, rt: &R, alloc: Global, engine: &mut D) {
+impl<F: CanonicalField> CallsTest<F> for ShiftsInTurn {
+    fn run<R: Abort, C: Calls<F>>(&self, rt: &R, alloc: Global, engine: &mut C) {
         shifted(rt, alloc, engine, F::TWO, &[13, 2013265918]);
         shifted(rt, alloc, engine, F::from_u8(3), &[17, 2013265914]);
         shifted(rt, alloc, engine, F::TWO, &[13, 2013265918]);
@@ -415,39 +288,35 @@ impl<F: CanonicalField> EngineTest<F> for ShiftsInTurn {
 // Worked extensions of one column.
 struct ExtendedColumns;
 
-impl<F: CanonicalField> EngineTest<F> for ExtendedColumns {
-    fn run<R: Abort, D: TwoAdicSubgroupDft<F>>(&self, rt: &R, alloc: Global, engine: &mut D) {
-        let values = lde_of(rt, alloc, engine, &[9, 1], 1);
+impl<F: CanonicalField> CallsTest<F> for ExtendedColumns {
+    fn run<R: Abort, C: Calls<F>>(&self, rt: &R, alloc: Global, engine: &mut C) {
+        let values = engine.column_lde(rt, elements(rt, alloc, &[9, 1]), 1);
         assert_elements(rt, values, &[9, 873820294, 1, 1139445637]);
-        let values = coset_lde_of(rt, alloc, engine, &[9, 1], 1, F::ZERO);
+        let values = engine.column_coset_lde(rt, elements(rt, alloc, &[9, 1]), 1, F::ZERO);
         assert_elements(rt, values, &[5, 5, 5, 5]);
     }
 }
 
 // Two values on the coset of two become four.
-fn values_on_coset<F: CanonicalField, D: TwoAdicSubgroupDft<F>>(
-    rt: &impl Abort,
-    alloc: Global,
-    engine: &mut D,
-) {
+fn values_on_coset<F: CanonicalField, C: Calls<F>>(rt: &impl Abort, alloc: Global, engine: &mut C) {
     let values = matrix(rt, alloc, &[9, 1], 1);
-    let coefficients = coset_idft(rt, engine, &values, F::TWO);
+    let coefficients = engine.coset_idft(rt, &values, F::TWO);
     assert_rows(rt, &coefficients, &[5, 2], 1);
     let padded = with_zeros(rt, coefficients, 4);
-    let values = coset_dft(rt, engine, &padded, F::TWO);
+    let values = engine.coset_dft(rt, &padded, F::TWO);
     assert_rows(rt, &values, &[9, 873820294, 1, 1139445637], 1);
 }
 
 // Worked examples on matrices: a single row, and values on the coset of two.
 struct Rows;
 
-impl<F: CanonicalField> EngineTest<F> for Rows {
-    fn run<R: Abort, D: TwoAdicSubgroupDft<F>>(&self, rt: &R, alloc: Global, engine: &mut D) {
+impl<F: CanonicalField> CallsTest<F> for Rows {
+    fn run<R: Abort, C: Calls<F>>(&self, rt: &R, alloc: Global, engine: &mut C) {
         let row = matrix(rt, alloc, &[42, 7], 2);
-        let values = coset_lde(rt, engine, &row, 2, F::from_u8(31));
+        let values = engine.coset_lde(rt, &row, 2, F::from_u8(31));
         assert_rows(rt, &values, &[42, 7, 42, 7, 42, 7, 42, 7], 2);
-        assert_same(rt, &dft(rt, engine, &row), &row);
-        assert_same(rt, &idft(rt, engine, &row), &row);
+        assert_same(rt, &engine.dft(rt, &row), &row);
+        assert_same(rt, &engine.idft(rt, &row), &row);
         values_on_coset(rt, alloc, engine);
     }
 }
@@ -468,7 +337,7 @@ fn doubled<F: TwoAdicField>(mat: RowMajorMatrix<F>) -> RowMajorMatrix<F>
 struct DoubledCoefficients;
 
 impl<F: CanonicalField> EngineTest<F> for DoubledCoefficients {
-    fn run<R: Abort, D: TwoAdicSubgroupDft<F>>(&self, rt: &R, alloc: Global, engine: &mut D) {
+    fn run<R: Abort, D: TwoAdicSubgroupDft<F>>(&self, rt: &R, alloc: Global, mut engine: D) {
         let mat: RowMajorMatrix<F> = matrix(rt, alloc, &[9, 1], 1);
         assert!(rt; fits_lde::<F>(mat.height(), mat.width(), 1));
         let values = engine.coset_lde_batch_with_transform(
@@ -488,7 +357,7 @@ impl<F: CanonicalField> EngineTest<F> for DoubledCoefficients {
 struct ToldLayouts;
 
 impl<F: CanonicalField> EngineTest<F> for ToldLayouts {
-    fn run<R: Abort, D: TwoAdicSubgroupDft<F>>(&self, rt: &R, alloc: Global, engine: &mut D) {
+    fn run<R: Abort, D: TwoAdicSubgroupDft<F>>(&self, rt: &R, alloc: Global, mut engine: D) {
         let numbers = [10, 569722814, 2013265919, 1443543103];
         let mat: RowMajorMatrix<F> = matrix(rt, alloc, &numbers, 1);
         assert!(rt; fits_lde::<F>(mat.height(), mat.width(), 0));
@@ -511,49 +380,44 @@ impl<F: CanonicalField> EngineTest<F> for ToldLayouts {
     }
 }
 
-// Whether an engine is handed coefficients in natural order.
-fn is_natural<F: TwoAdicField, D: TwoAdicSubgroupDft<F>>() -> bool {
-    D::LAYOUT == Layout::Natural
-}
-
-// Which of the engines are.
+// Which engines are handed coefficients in natural order.
 fn layouts<F: TwoAdicField>(rt: &impl Abort) {
-    assert!(rt; is_natural::<F, NaiveDft>());
-    assert!(rt; is_natural::<F, Radix2Dit<F>>());
-    assert!(rt; !is_natural::<F, Radix2Bowers>());
-    assert!(rt; !is_natural::<F, Radix2DitParallel<F>>());
-    assert!(rt; is_natural::<F, Radix2DFTSmallBatch<F>>());
-    assert!(rt; !is_natural::<F, LimitedDft>());
+    assert!(rt; <NaiveDft as TwoAdicSubgroupDft<F>>::LAYOUT == Layout::Natural);
+    assert!(rt; <Radix2Dit<F> as TwoAdicSubgroupDft<F>>::LAYOUT == Layout::Natural);
+    assert!(rt; <Radix2Bowers as TwoAdicSubgroupDft<F>>::LAYOUT == Layout::BitReversed);
+    assert!(rt; <Radix2DitParallel<F> as TwoAdicSubgroupDft<F>>::LAYOUT == Layout::BitReversed);
+    assert!(rt; <Radix2DFTSmallBatch<F> as TwoAdicSubgroupDft<F>>::LAYOUT == Layout::Natural);
+    assert!(rt; <LimitedDft as TwoAdicSubgroupDft<F>>::LAYOUT == Layout::BitReversed);
 }
 
 // A constant has one coefficient, at one height.
-fn constants_at<F: TwoAdicField, D: TwoAdicSubgroupDft<F>>(
+fn constants_at<F: TwoAdicField, C: Calls<F>>(
     rt: &impl Abort,
     alloc: Global,
-    engine: &mut D,
+    engine: &mut C,
     height: usize,
 ) {
-    let values = dft(rt, engine, &column(rt, alloc, height, 13, 0));
+    let values = engine.dft(rt, &column(rt, alloc, height, 13, 0));
     assert_same(rt, &values, &column(rt, alloc, height, 13, 13));
-    let coefficients = idft(rt, engine, &column(rt, alloc, height, 7, 7));
+    let coefficients = engine.idft(rt, &column(rt, alloc, height, 7, 7));
     assert_same(rt, &coefficients, &column(rt, alloc, height, 7, 0));
 }
 
 // The transform and the inverse of zeros are zeros.
-fn zeros_of<F: TwoAdicField, D: TwoAdicSubgroupDft<F>>(
+fn zeros_of<F: TwoAdicField, C: Calls<F>>(
     rt: &impl Abort,
-    engine: &mut D,
+    engine: &mut C,
     zeros: &RowMajorMatrix<F>,
 ) {
-    assert_same(rt, &dft(rt, engine, zeros), zeros);
-    assert_same(rt, &idft(rt, engine, zeros), zeros);
+    assert_same(rt, &engine.dft(rt, zeros), zeros);
+    assert_same(rt, &engine.idft(rt, zeros), zeros);
 }
 
 // Constants and zeros.
 struct Constants;
 
-impl<F: TwoAdicField> EngineTest<F> for Constants {
-    fn run<R: Abort, D: TwoAdicSubgroupDft<F>>(&self, rt: &R, alloc: Global, engine: &mut D) {
+impl<F: TwoAdicField> CallsTest<F> for Constants {
+    fn run<R: Abort, C: Calls<F>>(&self, rt: &R, alloc: Global, engine: &mut C) {
         for height in [1usize, 2, 4, 8, 16, 32, 64] {
             constants_at(rt, alloc, engine, height);
             zeros_of(rt, engine, &column(rt, alloc, height, 0, 0));
@@ -563,14 +427,14 @@ impl<F: TwoAdicField> EngineTest<F> for Constants {
 
 // All of these, on every engine.
 fn answers_of_every_engine<F: CanonicalField>(rt: &impl Abort, alloc: Global) {
-    on_every_engine::<F, _, _>(rt, alloc, &Columns);
-    on_every_engine::<F, _, _>(rt, alloc, &ColumnsBack);
-    on_every_engine::<F, _, _>(rt, alloc, &ShiftsInTurn);
-    on_every_engine::<F, _, _>(rt, alloc, &ExtendedColumns);
-    on_every_engine::<F, _, _>(rt, alloc, &Rows);
+    calls_of_every_engine::<F, _, _>(rt, alloc, &Columns);
+    calls_of_every_engine::<F, _, _>(rt, alloc, &ColumnsBack);
+    calls_of_every_engine::<F, _, _>(rt, alloc, &ShiftsInTurn);
+    calls_of_every_engine::<F, _, _>(rt, alloc, &ExtendedColumns);
+    calls_of_every_engine::<F, _, _>(rt, alloc, &Rows);
     on_every_engine::<F, _, _>(rt, alloc, &DoubledCoefficients);
     on_every_engine::<F, _, _>(rt, alloc, &ToldLayouts);
-    on_every_engine::<F, _, _>(rt, alloc, &Constants);
+    calls_of_every_engine::<F, _, _>(rt, alloc, &Constants);
     layouts::<F>(rt);
 }
 
@@ -590,13 +454,13 @@ struct Inverses {
     width: usize,
 }
 
-impl<F: TwoAdicField> EngineTest<F> for Inverses {
-    fn run<R: Abort, D: TwoAdicSubgroupDft<F>>(&self, rt: &R, alloc: Global, engine: &mut D) {
+impl<F: TwoAdicField> CallsTest<F> for Inverses {
+    fn run<R: Abort, C: Calls<F>>(&self, rt: &R, alloc: Global, engine: &mut C) {
         let x = sample(rt, alloc, self.height, self.width, 1);
-        let values = dft(rt, engine, &x);
-        assert_same(rt, &idft(rt, engine, &values), &x);
-        let coefficients = idft(rt, engine, &x);
-        assert_same(rt, &dft(rt, engine, &coefficients), &x);
+        let values = engine.dft(rt, &x);
+        assert_same(rt, &engine.idft(rt, &values), &x);
+        let coefficients = engine.idft(rt, &x);
+        assert_same(rt, &engine.dft(rt, &coefficients), &x);
     }
 }
 
@@ -607,14 +471,14 @@ struct CosetInverses {
     width: usize,
 }
 
-impl<F: TwoAdicField> EngineTest<F> for CosetInverses {
-    fn run<R: Abort, D: TwoAdicSubgroupDft<F>>(&self, rt: &R, alloc: Global, engine: &mut D) {
+impl<F: TwoAdicField> CallsTest<F> for CosetInverses {
+    fn run<R: Abort, C: Calls<F>>(&self, rt: &R, alloc: Global, engine: &mut C) {
         let shift = F::from_u8(31);
         let x = sample(rt, alloc, self.height, self.width, 1);
-        let values = coset_dft(rt, engine, &x, shift);
-        assert_same(rt, &coset_idft(rt, engine, &values, shift), &x);
-        let coefficients = coset_idft(rt, engine, &x, shift);
-        assert_same(rt, &coset_dft(rt, engine, &coefficients, shift), &x);
+        let values = engine.coset_dft(rt, &x, shift);
+        assert_same(rt, &engine.coset_idft(rt, &values, shift), &x);
+        let coefficients = engine.coset_idft(rt, &x, shift);
+        assert_same(rt, &engine.coset_dft(rt, &coefficients, shift), &x);
     }
 }
 
@@ -625,23 +489,23 @@ struct Sums {
     width: usize,
 }
 
-impl<F: TwoAdicField> EngineTest<F> for Sums {
-    fn run<R: Abort, D: TwoAdicSubgroupDft<F>>(&self, rt: &R, alloc: Global, engine: &mut D) {
+impl<F: TwoAdicField> CallsTest<F> for Sums {
+    fn run<R: Abort, C: Calls<F>>(&self, rt: &R, alloc: Global, engine: &mut C) {
         let a = F::from_u8(5);
         let b = F::NEG_ONE;
         let x = sample(rt, alloc, self.height, self.width, 1);
         let y = sample(rt, alloc, self.height, self.width, 2);
-        let of_x = dft(rt, engine, &x);
-        let of_y = dft(rt, engine, &y);
-        let of_sum = dft(rt, engine, &combined(rt, alloc, (a, &x), (b, &y)));
+        let of_x = engine.dft(rt, &x);
+        let of_y = engine.dft(rt, &y);
+        let of_sum = engine.dft(rt, &combined(rt, alloc, (a, &x), (b, &y)));
         assert_same(rt, &of_sum, &combined(rt, alloc, (a, &of_x), (b, &of_y)));
     }
 }
 
 fn transforms_at<F: TwoAdicField>(rt: &impl Abort, alloc: Global, height: usize, width: usize) {
-    on_every_engine::<F, _, _>(rt, alloc, &Inverses { height, width });
-    on_every_engine::<F, _, _>(rt, alloc, &CosetInverses { height, width });
-    on_every_engine::<F, _, _>(rt, alloc, &Sums { height, width });
+    calls_of_every_engine::<F, _, _>(rt, alloc, &Inverses { height, width });
+    calls_of_every_engine::<F, _, _>(rt, alloc, &CosetInverses { height, width });
+    calls_of_every_engine::<F, _, _>(rt, alloc, &Sums { height, width });
 }
 
 #[test]
@@ -654,114 +518,106 @@ fn laws_of_transforms(rt: HostRuntime) {
 }
 
 // Two engines answer the same: inverses.
-fn same_inverses<F: TwoAdicField, D: TwoAdicSubgroupDft<F>, E: TwoAdicSubgroupDft<F>>(
+fn same_inverses<F: TwoAdicField, C: Calls<F>, E: Calls<F>>(
     rt: &impl Abort,
-    one: &mut D,
+    one: &mut C,
     other: &mut E,
     x: &RowMajorMatrix<F>,
 ) {
-    assert_same(rt, &idft(rt, one, x), &idft(rt, other, x));
-    let coefficients = coset_idft(rt, one, x, F::GENERATOR);
-    assert_same(rt, &coefficients, &coset_idft(rt, other, x, F::GENERATOR));
+    assert_same(rt, &one.idft(rt, x), &other.idft(rt, x));
+    let coefficients = one.coset_idft(rt, x, F::GENERATOR);
+    assert_same(rt, &coefficients, &other.coset_idft(rt, x, F::GENERATOR));
 }
 
 // Transforms on a coset.
-fn same_on_coset<F: TwoAdicField, D: TwoAdicSubgroupDft<F>, E: TwoAdicSubgroupDft<F>>(
+fn same_on_coset<F: TwoAdicField, C: Calls<F>, E: Calls<F>>(
     rt: &impl Abort,
-    one: &mut D,
+    one: &mut C,
     other: &mut E,
     x: &RowMajorMatrix<F>,
     shift: F,
 ) {
-    let values = coset_dft(rt, one, x, shift);
-    assert_same(rt, &values, &coset_dft(rt, other, x, shift));
+    let values = one.coset_dft(rt, x, shift);
+    assert_same(rt, &values, &other.coset_dft(rt, x, shift));
 }
 
 // And transforms on the subgroup and on three cosets.
-fn same_transforms<F: TwoAdicField, D: TwoAdicSubgroupDft<F>, E: TwoAdicSubgroupDft<F>>(
+fn same_transforms<F: TwoAdicField, C: Calls<F>, E: Calls<F>>(
     rt: &impl Abort,
-    one: &mut D,
+    one: &mut C,
     other: &mut E,
     x: &RowMajorMatrix<F>,
 ) {
-    assert_same(rt, &dft(rt, one, x), &dft(rt, other, x));
+    assert_same(rt, &one.dft(rt, x), &other.dft(rt, x));
     same_on_coset(rt, one, other, x, F::ZERO);
     same_on_coset(rt, one, other, x, F::ONE);
     same_on_coset(rt, one, other, x, F::GENERATOR);
 }
 
 // Extensions on a coset.
-fn same_extended<F: TwoAdicField, D: TwoAdicSubgroupDft<F>, E: TwoAdicSubgroupDft<F>>(
+fn same_extended<F: TwoAdicField, C: Calls<F>, E: Calls<F>>(
     rt: &impl Abort,
-    one: &mut D,
+    one: &mut C,
     other: &mut E,
     x: &RowMajorMatrix<F>,
     added_bits: usize,
     shift: F,
 ) {
-    let values = coset_lde(rt, one, x, added_bits, shift);
-    assert_same(rt, &values, &coset_lde(rt, other, x, added_bits, shift));
+    let values = one.coset_lde(rt, x, added_bits, shift);
+    assert_same(rt, &values, &other.coset_lde(rt, x, added_bits, shift));
 }
 
 // And extensions by so many bits, on the subgroup and on three cosets.
-fn same_extensions<F: TwoAdicField, D: TwoAdicSubgroupDft<F>, E: TwoAdicSubgroupDft<F>>(
+fn same_extensions<F: TwoAdicField, C: Calls<F>, E: Calls<F>>(
     rt: &impl Abort,
-    one: &mut D,
+    one: &mut C,
     other: &mut E,
     x: &RowMajorMatrix<F>,
     added_bits: usize,
 ) {
-    let values = lde(rt, one, x, added_bits);
-    assert_same(rt, &values, &lde(rt, other, x, added_bits));
+    let values = one.lde(rt, x, added_bits);
+    assert_same(rt, &values, &other.lde(rt, x, added_bits));
     same_extended(rt, one, other, x, added_bits, F::ZERO);
     same_extended(rt, one, other, x, added_bits, F::ONE);
     same_extended(rt, one, other, x, added_bits, F::GENERATOR);
 }
 
-// At one shape: each transform and inverse answers what the engine that follows the definition
-// answers.
+// And all of these.
+fn same_answers<F: TwoAdicField, C: Calls<F>, E: Calls<F>>(
+    rt: &impl Abort,
+    one: &mut C,
+    other: &mut E,
+    x: &RowMajorMatrix<F>,
+) {
+    same_transforms(rt, one, other, x);
+    same_inverses(rt, one, other, x);
+    for added_bits in 0..4usize {
+        same_extensions(rt, one, other, x, added_bits);
+    }
+}
+
+// At one shape: each call answers what the engine that follows the definition answers.
 #[derive(Drop)]
-struct TransformsAsSums {
+struct AsSums {
     height: usize,
     width: usize,
 }
 
-impl<F: TwoAdicField> EngineTest<F> for TransformsAsSums {
-    fn run<R: Abort, D: TwoAdicSubgroupDft<F>>(&self, rt: &R, alloc: Global, engine: &mut D) {
+impl<F: TwoAdicField> CallsTest<F> for AsSums {
+    fn run<R: Abort, C: Calls<F>>(&self, rt: &R, alloc: Global, engine: &mut C) {
         let x = sample(rt, alloc, self.height, self.width, 3);
-        let mut sums = NaiveDft::default();
-        same_transforms(rt, &mut sums, engine, &x);
-        same_inverses(rt, &mut sums, engine, &x);
+        let mut sums = CallsOf {
+            engine: NaiveDft::default(),
+        };
+        same_answers(rt, &mut sums, engine, &x);
     }
-}
-
-// And each extension.
-#[derive(Drop)]
-struct ExtensionsAsSums {
-    height: usize,
-    width: usize,
-}
-
-impl<F: TwoAdicField> EngineTest<F> for ExtensionsAsSums {
-    fn run<R: Abort, D: TwoAdicSubgroupDft<F>>(&self, rt: &R, alloc: Global, engine: &mut D) {
-        let x = sample(rt, alloc, self.height, self.width, 3);
-        let mut sums = NaiveDft::default();
-        for added_bits in 0..4usize {
-            same_extensions(rt, &mut sums, engine, &x, added_bits);
-        }
-    }
-}
-
-fn sums_at<F: TwoAdicField>(rt: &impl Abort, alloc: Global, height: usize, width: usize) {
-    on_every_engine::<F, _, _>(rt, alloc, &TransformsAsSums { height, width });
-    on_every_engine::<F, _, _>(rt, alloc, &ExtensionsAsSums { height, width });
 }
 
 #[test]
 fn same_as_sums(rt: HostRuntime) {
     for height in HEIGHTS {
         for width in WIDTHS {
-            sums_at::<BabyBear>(&rt, rt.alloc(), height, width);
+            calls_of_every_engine::<BabyBear, _, _>(&rt, rt.alloc(), &AsSums { height, width });
         }
     }
 }
@@ -789,12 +645,12 @@ struct RowsKept {
     added_bits: usize,
 }
 
-impl<F: TwoAdicField> EngineTest<F> for RowsKept {
-    fn run<R: Abort, D: TwoAdicSubgroupDft<F>>(&self, rt: &R, alloc: Global, engine: &mut D) {
+impl<F: TwoAdicField> CallsTest<F> for RowsKept {
+    fn run<R: Abort, C: Calls<F>>(&self, rt: &R, alloc: Global, engine: &mut C) {
         let x = sample(rt, alloc, self.height, 3, 1);
-        let extended = lde(rt, engine, &x, self.added_bits);
+        let extended = engine.lde(rt, &x, self.added_bits);
         assert_rows_kept(rt, &x, &extended, self.added_bits);
-        let on_coset = coset_lde(rt, engine, &x, self.added_bits, F::ONE);
+        let on_coset = engine.coset_lde(rt, &x, self.added_bits, F::ONE);
         assert_same(rt, &on_coset, &extended);
     }
 }
@@ -806,13 +662,13 @@ struct ZerosAbove {
     added_bits: usize,
 }
 
-impl<F: TwoAdicField> EngineTest<F> for ZerosAbove {
-    fn run<R: Abort, D: TwoAdicSubgroupDft<F>>(&self, rt: &R, alloc: Global, engine: &mut D) {
+impl<F: TwoAdicField> CallsTest<F> for ZerosAbove {
+    fn run<R: Abort, C: Calls<F>>(&self, rt: &R, alloc: Global, engine: &mut C) {
         let shift = F::from_u8(31);
         let x = sample(rt, alloc, self.height, 3, 1);
-        let extended = coset_lde(rt, engine, &x, self.added_bits, shift);
-        let padded = with_zeros(rt, idft(rt, engine, &x), extended.values().len());
-        assert_same(rt, &coset_idft(rt, engine, &extended, shift), &padded);
+        let extended = engine.coset_lde(rt, &x, self.added_bits, shift);
+        let padded = with_zeros(rt, engine.idft(rt, &x), extended.values().len());
+        assert_same(rt, &engine.coset_idft(rt, &extended, shift), &padded);
     }
 }
 
@@ -823,15 +679,15 @@ struct NestedCosets {
     added_bits: usize,
 }
 
-impl<F: TwoAdicField> EngineTest<F> for NestedCosets {
-    fn run<R: Abort, D: TwoAdicSubgroupDft<F>>(&self, rt: &R, alloc: Global, engine: &mut D) {
+impl<F: TwoAdicField> CallsTest<F> for NestedCosets {
+    fn run<R: Abort, C: Calls<F>>(&self, rt: &R, alloc: Global, engine: &mut C) {
         let u = F::from_u8(11);
         let s = F::from_u8(31);
         let x = sample(rt, alloc, self.height, 3, 1);
-        let extended = coset_lde(rt, engine, &x, self.added_bits, s);
-        let coefficients = coset_idft(rt, engine, &x, u);
+        let extended = engine.coset_lde(rt, &x, self.added_bits, s);
+        let coefficients = engine.coset_idft(rt, &x, u);
         let padded = with_zeros(rt, coefficients, extended.values().len());
-        assert_same(rt, &coset_dft(rt, engine, &padded, u * s), &extended);
+        assert_same(rt, &engine.coset_dft(rt, &padded, u * s), &extended);
     }
 }
 
@@ -841,9 +697,9 @@ fn extensions_at<F: TwoAdicField>(
     height: usize,
     added_bits: usize,
 ) {
-    on_every_engine::<F, _, _>(rt, alloc, &RowsKept { height, added_bits });
-    on_every_engine::<F, _, _>(rt, alloc, &ZerosAbove { height, added_bits });
-    on_every_engine::<F, _, _>(rt, alloc, &NestedCosets { height, added_bits });
+    calls_of_every_engine::<F, _, _>(rt, alloc, &RowsKept { height, added_bits });
+    calls_of_every_engine::<F, _, _>(rt, alloc, &ZerosAbove { height, added_bits });
+    calls_of_every_engine::<F, _, _>(rt, alloc, &NestedCosets { height, added_bits });
 }
 
 #[test]

@@ -144,14 +144,14 @@ fn assert_recorded<F: CanonicalField>(
 struct RecordedBlocks;
 
 impl<F: CanonicalField> EngineTest<F> for RecordedBlocks {
-    fn run<R: Abort, D: TwoAdicSubgroupDft<F>>(&self, rt: &R, alloc: Global, engine: &mut D) {
+    fn run<R: Abort, D: TwoAdicSubgroupDft<F>>(&self, rt: &R, alloc: Global, mut engine: D) {
         let mat = matrix(rt, alloc, &[9, 1], 1);
         let recorder = Recorder::with_room(alloc, 4, 4).expect(rt, "memory");
-        let answer = extend_to(rt, engine, &mat, 1, F::ONE, recorder);
+        let answer = extend_to(rt, &mut engine, &mat, 1, F::ONE, recorder);
         assert_recorded(rt, answer, &[9, 1, 873820294, 1139445637], 1);
         let row = matrix(rt, alloc, &[42, 7], 2);
         let recorder = Recorder::with_room(alloc, 4, 8).expect(rt, "memory");
-        let answer = extend_to(rt, engine, &row, 2, F::from_u8(31), recorder);
+        let answer = extend_to(rt, &mut engine, &row, 2, F::from_u8(31), recorder);
         assert_recorded(rt, answer, &[42, 7, 42, 7, 42, 7, 42, 7], 2);
     }
 }
@@ -160,7 +160,7 @@ impl<F: CanonicalField> EngineTest<F> for RecordedBlocks {
 struct DoubledBlocks;
 
 impl<F: CanonicalField> EngineTest<F> for DoubledBlocks {
-    fn run<R: Abort, D: TwoAdicSubgroupDft<F>>(&self, rt: &R, alloc: Global, engine: &mut D) {
+    fn run<R: Abort, D: TwoAdicSubgroupDft<F>>(&self, rt: &R, alloc: Global, mut engine: D) {
         for (height, width, added_bits) in [
             (1, 1, 0),
             (1, 3, 2),
@@ -246,10 +246,10 @@ fn seen_within<F: TwoAdicField, D: TwoAdicSubgroupDft<F>>(
 struct LimitedBlocks;
 
 impl<F: CanonicalField> EngineTest<F> for LimitedBlocks {
-    fn run<R: Abort, D: TwoAdicSubgroupDft<F>>(&self, rt: &R, alloc: Global, engine: &mut D) {
-        let (seen, refused) = seen_within(rt, engine, matrix(rt, alloc, &[9, 1], 1), 0);
+    fn run<R: Abort, D: TwoAdicSubgroupDft<F>>(&self, rt: &R, alloc: Global, mut engine: D) {
+        let (seen, refused) = seen_within(rt, &mut engine, matrix(rt, alloc, &[9, 1], 1), 0);
         assert!(rt; seen == 0 && refused.is_some());
-        let (seen, refused) = seen_within(rt, engine, matrix(rt, alloc, &[9, 1], 1), 4);
+        let (seen, refused) = seen_within(rt, &mut engine, matrix(rt, alloc, &[9, 1], 1), 4);
         assert!(rt; seen > 0 && refused.is_none());
     }
 }
@@ -272,10 +272,10 @@ fn assert_kept<F: TwoAdicField>(
 struct OneBlock;
 
 impl<F: CanonicalField> EngineTest<F> for OneBlock {
-    fn run<R: Abort, D: TwoAdicSubgroupDft<F>>(&self, rt: &R, alloc: Global, engine: &mut D) {
-        let taken = seen_within(rt, engine, matrix(rt, alloc, &[9, 1], 1), 1);
+    fn run<R: Abort, D: TwoAdicSubgroupDft<F>>(&self, rt: &R, alloc: Global, mut engine: D) {
+        let taken = seen_within(rt, &mut engine, matrix(rt, alloc, &[9, 1], 1), 1);
         assert!(rt; taken == (1, None));
-        let refused = seen_within(rt, engine, matrix(rt, alloc, &[9, 1], 1), 0);
+        let refused = seen_within(rt, &mut engine, matrix(rt, alloc, &[9, 1], 1), 0);
         assert!(rt; refused == (0, Some(BlockRefused { start: 0 })));
     }
 }
@@ -284,11 +284,11 @@ impl<F: CanonicalField> EngineTest<F> for OneBlock {
 struct OneBlockKept;
 
 impl<F: CanonicalField> EngineTest<F> for OneBlockKept {
-    fn run<R: Abort, D: TwoAdicSubgroupDft<F>>(&self, rt: &R, alloc: Global, engine: &mut D) {
+    fn run<R: Abort, D: TwoAdicSubgroupDft<F>>(&self, rt: &R, alloc: Global, mut engine: D) {
         let mat = matrix(rt, alloc, &[9, 1], 1);
         for (blocks, elements, kept) in [(1, 4, 1), (0, 4, 0), (1, 3, 0)] {
             let recorder = Recorder::with_room(alloc, blocks, elements).expect(rt, "memory");
-            let answer = extend_to(rt, engine, &mat, 1, F::ONE, recorder);
+            let answer = extend_to(rt, &mut engine, &mat, 1, F::ONE, recorder);
             assert_kept(rt, answer, kept, 1);
         }
     }
@@ -313,11 +313,11 @@ fn counting<F: TwoAdicField>(
 struct BlocksOfFourRows;
 
 impl<F: TwoAdicField> EngineTest<F> for BlocksOfFourRows {
-    fn run<R: Abort, D: TwoAdicSubgroupDft<F>>(&self, rt: &R, alloc: Global, engine: &mut D) {
+    fn run<R: Abort, D: TwoAdicSubgroupDft<F>>(&self, rt: &R, alloc: Global, mut engine: D) {
         let mat = counting(rt, alloc, 16, 17);
         for (blocks, elements, kept) in [(32, 2176, 32), (31, 2176, 31), (32, 2175, 31)] {
             let recorder = Recorder::with_room(alloc, blocks, elements).expect(rt, "memory");
-            let answer = extend_to(rt, engine, &mat, 3, F::GENERATOR, recorder);
+            let answer = extend_to(rt, &mut engine, &mat, 3, F::GENERATOR, recorder);
             assert_kept(rt, answer, kept, 32);
         }
     }
@@ -350,7 +350,7 @@ impl<'a, T> BlockConsumer<T> for Counter<'a> {
 struct NothingLent;
 
 impl<F: CanonicalField> EngineTest<F> for NothingLent {
-    fn run<R: Abort, D: TwoAdicSubgroupDft<F>>(&self, rt: &R, alloc: Global, engine: &mut D) {
+    fn run<R: Abort, D: TwoAdicSubgroupDft<F>>(&self, rt: &R, alloc: Global, mut engine: D) {
         let blocks = Cell::new(0);
         let mat: RowMajorMatrix<F> = matrix(rt, alloc, &[9, 1], 1);
         assert!(rt; fits_lde::<F>(mat.height(), mat.width(), 1));
@@ -378,7 +378,7 @@ impl<F: CanonicalField> EngineTest<F> for NothingLent {
 struct MadeLater;
 
 impl<F: CanonicalField> EngineTest<F> for MadeLater {
-    fn run<R: Abort, D: TwoAdicSubgroupDft<F>>(&self, rt: &R, alloc: Global, engine: &mut D) {
+    fn run<R: Abort, D: TwoAdicSubgroupDft<F>>(&self, rt: &R, alloc: Global, mut engine: D) {
         let called = Cell::new(false);
         let made_later = Cell::new(false);
         let mat: RowMajorMatrix<F> = matrix(rt, alloc, &[9, 1], 1);
@@ -421,7 +421,7 @@ fn sizes<F: CanonicalField>(rt: &impl Abort, alloc: Global) {
     on_engines_of_one_block::<F, _, _>(rt, alloc, &OneBlock);
     on_engines_of_one_block::<F, _, _>(rt, alloc, &OneBlockKept);
     on_halves::<F, _, _>(rt, alloc, &BlocksOfFourRows);
-    EngineTest::<F>::run(&NothingLent, rt, alloc, &mut LimitedDft::new(1));
+    EngineTest::<F>::run(&NothingLent, rt, alloc, LimitedDft::new(1));
 }
 
 #[test]

@@ -105,10 +105,10 @@ fn one_coefficient<F: CanonicalField, D: TwoAdicSubgroupDft<F>>(
 struct MovedCoefficients;
 
 impl<F: CanonicalField> EngineTest<F> for MovedCoefficients {
-    fn run<R: Abort, D: TwoAdicSubgroupDft<F>>(&self, rt: &R, alloc: Global, engine: &mut D) {
-        swapped_coefficients(rt, alloc, engine);
-        swapped_in_bit_reversed_rows(rt, alloc, engine);
-        one_coefficient(rt, alloc, engine);
+    fn run<R: Abort, D: TwoAdicSubgroupDft<F>>(&self, rt: &R, alloc: Global, mut engine: D) {
+        swapped_coefficients(rt, alloc, &mut engine);
+        swapped_in_bit_reversed_rows(rt, alloc, &mut engine);
+        one_coefficient(rt, alloc, &mut engine);
     }
 }
 
@@ -146,8 +146,8 @@ struct BlocksOfOneRow {
 }
 
 impl<F: CanonicalField> EngineTest<F> for BlocksOfOneRow {
-    fn run<R: Abort, D: TwoAdicSubgroupDft<F>>(&self, rt: &R, alloc: Global, engine: &mut D) {
-        let found = blocks_of_one_row(rt, alloc, engine);
+    fn run<R: Abort, D: TwoAdicSubgroupDft<F>>(&self, rt: &R, alloc: Global, mut engine: D) {
+        let found = blocks_of_one_row(rt, alloc, &mut engine);
         assert!(rt; found == (self.blocks, self.rows));
     }
 }
@@ -222,15 +222,15 @@ fn counted_extension<F: CanonicalField, D: TwoAdicSubgroupDft<F>>(
 struct NothingLent;
 
 impl<F: CanonicalField> EngineTest<F> for NothingLent {
-    fn run<R: Abort, D: TwoAdicSubgroupDft<F>>(&self, rt: &R, alloc: Global, engine: &mut D) {
+    fn run<R: Abort, D: TwoAdicSubgroupDft<F>>(&self, rt: &R, alloc: Global, mut engine: D) {
         let mat: RowMajorMatrix<F> = matrix(rt, alloc, &[9, 1], 1);
         let again = mat.try_clone().expect(rt, "memory");
         let want = matrix(rt, alloc, &[9, 1, 873820294, 1139445637], 1);
         let blocks = Cell::new(0);
-        let mut out = counted_extension(rt, engine, mat, &blocks);
+        let mut out = counted_extension(rt, &mut engine, mat, &blocks);
         if out.is_none() {
             assert_eq!(rt; blocks.get(), 0);
-            out = counted_extension(rt, engine, again, &blocks);
+            out = counted_extension(rt, &mut engine, again, &blocks);
         }
         assert!(rt; blocks.get() > 0);
         assert!(rt; out == Some(want));

@@ -1,12 +1,12 @@
 // Columns of numbers, of shapes that fit, and shifts that have an inverse: what the calls of an engine
 // ask for is tested here once, and then told by a clause.
 
-ghost use Rattle.std.specs.Prelude.{◌≡◌, vec_len};
+ghost use Rattle.std.specs.Prelude.{◌≡◌, ◌↔◌, IsTrue, vec_len};
 ghost use Rattle.p3_field.specs.Ring.{IsInvertible};
 ghost use Rattle.p3_matrix.specs.RowMajor.{height};
 ghost use Rattle.p3_dft.specs.Shapes.{FitsDft, FitsLde};
 
-use super::{elements, has_inverse, matrix};
+use super::{elements, matrix};
 use p3_dft::{CanonicalField, Field, RowMajorMatrix, TwoAdicSubgroupDft, fits_dft, fits_lde};
 use std::alloc::Global;
 use std::process::Abort;
@@ -47,6 +47,13 @@ pub(crate) fn pair<F: CanonicalField>(rt: &impl Abort, alloc: Global, numbers: [
     assert!(rt; fits_dft::<F>(column.len(), 1));
     assert!(rt; column.len() == 2);
     column
+}
+
+// Whether an element has an inverse.
+fn has_inverse<F: Field>(x: F) -> bool
+    ensures { IsTrue result ↔ IsInvertible F.ring (F.value x) }
+{
+    x.try_inverse().is_some()
 }
 
 // A shift that has an inverse.

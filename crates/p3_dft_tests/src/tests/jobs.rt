@@ -136,9 +136,9 @@ fn no_answers<F: CanonicalField, D: TwoAdicSubgroupDft<F>>(
 struct Jobs;
 
 impl<F: CanonicalField> EngineTest<F> for Jobs {
-    fn run<R: Abort, D: TwoAdicSubgroupDft<F>>(&self, rt: &R, alloc: Global, engine: &mut D) {
-        no_answers(rt, alloc, engine);
-        answers_in_turn(rt, alloc, engine, 0, KINDS);
+    fn run<R: Abort, D: TwoAdicSubgroupDft<F>>(&self, rt: &R, alloc: Global, mut engine: D) {
+        no_answers(rt, alloc, &mut engine);
+        answers_in_turn(rt, alloc, &mut engine, 0, KINDS);
     }
 }
 
@@ -214,8 +214,8 @@ fn cosets_answered<F: CanonicalField, D: TwoAdicSubgroupDft<F>>(
 struct CosetsInTurn;
 
 impl<F: CanonicalField> EngineTest<F> for CosetsInTurn {
-    fn run<R: Abort, D: TwoAdicSubgroupDft<F>>(&self, rt: &R, alloc: Global, engine: &mut D) {
-        cosets_answered(rt, alloc, engine);
+    fn run<R: Abort, D: TwoAdicSubgroupDft<F>>(&self, rt: &R, alloc: Global, mut engine: D) {
+        cosets_answered(rt, alloc, &mut engine);
     }
 }
 

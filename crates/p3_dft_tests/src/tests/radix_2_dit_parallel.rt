@@ -4,9 +4,8 @@ ghost use Rattle.std.specs.Prelude.{◌≡◌};
 ghost use Rattle.p3_matrix.specs.RowMajor.{HasShapeOf};
 
 use super::elements;
-use crate::tests::fitting::{
-    assert_column, evaluates, extensible, invertible, pair, transformable,
-};
+use crate::tests::calls::{Calls, CallsOf};
+use crate::tests::fitting::{assert_column, evaluates, extensible, pair, transformable};
 use p3_dft::{
     BabyBear, BlockConsumer, BlockLimit, BlocksStopped, CanonicalField, Evaluations, Field, Layout,
     Radix2DitParallel, Recorder, RowMajorMatrix, TwoAdicSubgroupDft, fits_dft,
@@ -70,22 +69,17 @@ fn transform_prepares<F: CanonicalField>(rt: &impl Abort, alloc: Global) {
 
 // The values 13, 2013265918 of 5, 4 on the coset of two are taken back, there and back on the
 // subgroup, and to the coset again, each call with what the one before answered.
-fn hands_on<F: CanonicalField, D: TwoAdicSubgroupDft<F>>(
+fn hands_on<F: CanonicalField, C: Calls<F>>(
     rt: &impl Abort,
-    engine: &mut D,
+    engine: &mut C,
     values: Vec<F>,
     coefficients: &[F],
 ) {
-    let shift = invertible(rt, F::TWO);
-    assert!(rt; fits_dft::<F>(values.len(), 1));
-    let column = engine.coset_idft(values, shift).expect(rt, "memory");
+    let column = engine.column_coset_idft(rt, values, F::TWO);
     assert!(rt; column.as_slice() == coefficients);
-    assert!(rt; fits_dft::<F>(column.len(), 1));
-    let column = engine.dft(column).expect(rt, "memory");
-    assert!(rt; fits_dft::<F>(column.len(), 1));
-    let column = engine.idft(column).expect(rt, "memory");
-    assert!(rt; fits_dft::<F>(column.len(), 1));
-    let column = engine.coset_dft(column, shift).expect(rt, "memory");
+    let column = engine.column_dft(rt, column);
+    let column = engine.column_idft(rt, column);
+    let column = engine.column_coset_dft(rt, column, F::TWO);
     assert!(rt; column.first() == Some(&F::from_u8(13)));
 }
 
@@ -101,7 +95,7 @@ fn calls_without_memory<F: CanonicalField>(rt: &impl Abort, alloc: Global) {
     assert!(rt; values == elements(rt, alloc, &[13, 2013265918]));
     let coefficients = elements(rt, alloc, &[5, 4]);
     // No request for memory from here on.
-    hands_on(rt, &mut engine, values, &coefficients);
+    hands_on(rt, &mut CallsOf { engine }, values, &coefficients);
 }
 
 // The row with number 1 of a column, and zeros in the others.

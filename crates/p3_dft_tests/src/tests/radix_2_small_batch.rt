@@ -2,8 +2,9 @@
 
 ghost use Rattle.p3_dft.specs.Engines.{IsPrepared};
 
-use super::{EngineTest, ExtensionsAsSums, TransformsAsSums, elements, matrix, matrix_of};
+use super::{AsSums, CallsTest, elements, matrix, matrix_of};
 use crate::tests::callers::transform_promised;
+use crate::tests::calls::{Calls, CallsOf};
 use crate::tests::fitting::{assert_column, evaluates, transformable};
 use p3_dft::{
     BabyBear, CanonicalField, Evaluations, Field, Radix2DFTSmallBatch, RowMajorMatrix,
@@ -53,15 +54,10 @@ fn transforms_in_tiles<F: CanonicalField>(rt: &impl Abort, alloc: Global, tile: 
 }
 
 // The answers of the definition, by one engine.
-fn answers_of_sums<F: CanonicalField, D: TwoAdicSubgroupDft<F>>(
-    rt: &impl Abort,
-    alloc: Global,
-    engine: &mut D,
-) {
+fn answers_of_sums<F: CanonicalField, C: Calls<F>>(rt: &impl Abort, alloc: Global, engine: &mut C) {
     for width in [1usize, 3, 7, 17, 33] {
         for height in [1usize, 2, 4, 8, 16, 32, 64] {
-            EngineTest::<F>::run(&TransformsAsSums { height, width }, rt, alloc, engine);
-            EngineTest::<F>::run(&ExtensionsAsSums { height, width }, rt, alloc, engine);
+            CallsTest::<F>::run(&AsSums { height, width }, rt, alloc, engine);
         }
     }
 }
@@ -70,8 +66,8 @@ fn answers_of_sums<F: CanonicalField, D: TwoAdicSubgroupDft<F>>(
 fn answers_in_tiles<F: CanonicalField>(rt: &impl Abort, alloc: Global, tile: usize) {
     assert!(rt; 1 <= tile && tile <= 1 << 32);
     let engine = Radix2DFTSmallBatch::with_tile(alloc, 1, tile);
-    let mut engine: Radix2DFTSmallBatch<F> = engine.expect(rt, "memory");
-    answers_of_sums(rt, alloc, &mut engine);
+    let engine: Radix2DFTSmallBatch<F> = engine.expect(rt, "memory");
+    answers_of_sums::<F, _>(rt, alloc, &mut CallsOf { engine });
 }
 
 // Tiles of less than a row, of some rows and of all.

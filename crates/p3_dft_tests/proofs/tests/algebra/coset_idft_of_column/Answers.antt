@@ -1,5 +1,0 @@
-use Rattle.std.proofs.Common.{rules}
-use Rattle.p3_dft_tests.proofs.tests.algebra.coset_idft_of_column.Goals as goal
-
-pub coset_idft_algebra-requires-clause-invertible : goal.coset_idft_algebra-requires-clause-invertible
-coset_idft_algebra-requires-clause-invertible g c = c.has_inverse.ensures.0 (search rules)

@@ -1,5 +1,0 @@
-use Rattle.std.proofs.Common.{rules}
-use Rattle.p3_dft_tests.proofs.tests.coset_idft.Goals as goal
-
-pub coset_idft_batch-requires-clause-invertible : goal.coset_idft_batch-requires-clause-invertible
-coset_idft_batch-requires-clause-invertible g c = c.has_inverse.ensures.0 (search rules)
