@@ -38,107 +38,71 @@ fn entry_1_alone<F: Field>(mat: RowMajorMatrix<F>) -> RowMajorMatrix<F>
 }
 
 // The two coefficients of a column change places.
-fn swapped_coefficients<F: CanonicalField, D: TwoAdicSubgroupDft<F>>(
-    rt: &impl Abort,
-    alloc: Global,
-    engine: &mut D,
-) {
-    let mat: RowMajorMatrix<F> = matrix(rt, alloc, &[9, 1], 1);
-    assert!(rt; fits_lde::<F>(mat.height(), mat.width(), 1));
-    let values = engine.coset_lde_batch_with_transform(
-        mat,
-        1,
-        F::ONE,
-        |coefficients: RowMajorMatrix<F>, _layout: Layout| -> RowMajorMatrix<F>
-            ensures { HasShapeOf result coefficients }
-        { turned_around(coefficients) },
-    );
-    let values = values.expect(rt, "memory").to_row_major_matrix();
-    assert_rows(rt, &values, &[9, 588958885, 2013265920, 1424307044], 1);
+struct SwappedCoefficients;
+
+impl<F: CanonicalField> EngineTest<F> for SwappedCoefficients {
+    fn run<R: Abort, D: TwoAdicSubgroupDft<F>>(&self, rt: &R, alloc: Global, mut engine: D) {
+        let mat: RowMajorMatrix<F> = matrix(rt, alloc, &[9, 1], 1);
+        assert!(rt; fits_lde::<F>(mat.height(), mat.width(), 1));
+        let values = engine.coset_lde_batch_with_transform(
+            mat,
+            1,
+            F::ONE,
+            |coefficients: RowMajorMatrix<F>, _layout: Layout| -> RowMajorMatrix<F>
+                ensures { HasShapeOf result coefficients }
+            { turned_around(coefficients) },
+        );
+        let values = values.expect(rt, "memory").to_row_major_matrix();
+        assert_rows(rt, &values, &[9, 588958885, 2013265920, 1424307044], 1);
+    }
 }
 
 // The same, with the rows of the answer in bit reversed order.
-fn swapped_in_bit_reversed_rows<F: CanonicalField, D: TwoAdicSubgroupDft<F>>(
-    rt: &impl Abort,
-    alloc: Global,
-    engine: &mut D,
-) {
-    let mat: RowMajorMatrix<F> = matrix(rt, alloc, &[9, 1], 1);
-    assert!(rt; fits_lde::<F>(mat.height(), mat.width(), 1));
-    let view = engine.coset_lde_batch_bit_reversed(
-        mat,
-        1,
-        F::ONE,
-        |coefficients: RowMajorMatrix<F>, _layout: Layout| -> RowMajorMatrix<F>
-            ensures { HasShapeOf result coefficients }
-        { turned_around(coefficients) },
-    );
-    let physical = view.expect(rt, "memory").bit_reverse_rows();
-    assert_rows(rt, &physical, &[9, 2013265920, 588958885, 1424307044], 1);
+struct SwappedInBitReversedRows;
+
+impl<F: CanonicalField> EngineTest<F> for SwappedInBitReversedRows {
+    fn run<R: Abort, D: TwoAdicSubgroupDft<F>>(&self, rt: &R, alloc: Global, mut engine: D) {
+        let mat: RowMajorMatrix<F> = matrix(rt, alloc, &[9, 1], 1);
+        assert!(rt; fits_lde::<F>(mat.height(), mat.width(), 1));
+        let view = engine.coset_lde_batch_bit_reversed(
+            mat,
+            1,
+            F::ONE,
+            |coefficients: RowMajorMatrix<F>, _layout: Layout| -> RowMajorMatrix<F>
+                ensures { HasShapeOf result coefficients }
+            { turned_around(coefficients) },
+        );
+        let physical = view.expect(rt, "memory").bit_reverse_rows();
+        assert_rows(rt, &physical, &[9, 2013265920, 588958885, 1424307044], 1);
+    }
 }
 
 // Of 1 + 2 x + 3 x^2 + 4 x^3 the coefficient in row 1 stays: 2 x, or 3 x^2 where the rows are in bit reversed
 // order.
-fn one_coefficient<F: CanonicalField, D: TwoAdicSubgroupDft<F>>(
-    rt: &impl Abort,
-    alloc: Global,
-    engine: &mut D,
-) {
-    let mat: RowMajorMatrix<F> = matrix(rt, alloc, &[10, 569722814, 2013265919, 1443543103], 1);
-    assert!(rt; fits_lde::<F>(mat.height(), mat.width(), 0));
-    let values = engine.coset_lde_batch_with_transform(
-        mat,
-        0,
-        F::ONE,
-        |coefficients: RowMajorMatrix<F>, _layout: Layout| -> RowMajorMatrix<F>
-            ensures { HasShapeOf result coefficients }
-        { entry_1_alone(coefficients) },
-    );
-    let values = values.expect(rt, "memory").to_row_major_matrix();
-    let want = match D::LAYOUT {
-        Layout::Natural => [2, 1443543105, 2013265919, 569722816],
-        Layout::BitReversed => [3, 2013265918, 3, 2013265918],
-    };
-    assert_rows(rt, &values, &want, 1);
-}
+struct OneCoefficient;
 
-struct MovedCoefficients;
-
-impl<F: CanonicalField> EngineTest<F> for MovedCoefficients {
+impl<F: CanonicalField> EngineTest<F> for OneCoefficient {
     fn run<R: Abort, D: TwoAdicSubgroupDft<F>>(&self, rt: &R, alloc: Global, mut engine: D) {
-        swapped_coefficients(rt, alloc, &mut engine);
-        swapped_in_bit_reversed_rows(rt, alloc, &mut engine);
-        one_coefficient(rt, alloc, &mut engine);
+        let mat: RowMajorMatrix<F> = matrix(rt, alloc, &[10, 569722814, 2013265919, 1443543103], 1);
+        assert!(rt; fits_lde::<F>(mat.height(), mat.width(), 0));
+        let values = engine.coset_lde_batch_with_transform(
+            mat,
+            0,
+            F::ONE,
+            |coefficients: RowMajorMatrix<F>, _layout: Layout| -> RowMajorMatrix<F>
+                ensures { HasShapeOf result coefficients }
+            { entry_1_alone(coefficients) },
+        );
+        let values = values.expect(rt, "memory").to_row_major_matrix();
+        let want = match D::LAYOUT {
+            Layout::Natural => [2, 1443543105, 2013265919, 569722816],
+            Layout::BitReversed => [3, 2013265918, 3, 2013265918],
+        };
+        assert_rows(rt, &values, &want, 1);
     }
 }
 
-// The blocks of an extension of one row by two bits: how many there are, and of how many rows.
-fn blocks_of_one_row<F: CanonicalField, D: TwoAdicSubgroupDft<F>>(
-    rt: &impl Abort,
-    alloc: Global,
-    engine: &mut D,
-) -> (usize, usize) {
-    let mat: RowMajorMatrix<F> = matrix(rt, alloc, &[42, 7], 2);
-    let recorder = Recorder::with_room(alloc, 4, 8).expect(rt, "memory");
-    assert!(rt; fits_lde::<F>(mat.height(), mat.width(), 2));
-    let answer = engine.coset_lde_batch_with_blocks(
-        mat,
-        2,
-        F::from_u8(31),
-        |coefficients: RowMajorMatrix<F>, _layout: Layout| -> RowMajorMatrix<F>
-            ensures { HasShapeOf result coefficients }
-        { coefficients },
-        |_rows: usize| -> Recorder<F> { recorder },
-    );
-    let Ok((_out, recorder)) = answer else {
-        panic!(rt; "not all blocks were taken");
-    };
-    let blocks = recorder.blocks();
-    assert!(rt; blocks > 0 && !recorder.missed());
-    (blocks, recorder.rows(0).height())
-}
-
-// So many blocks, of so many rows.
+// An extension of one row by two bits has so many blocks, of so many rows.
 #[derive(Drop)]
 struct BlocksOfOneRow {
     blocks: usize,
@@ -147,13 +111,32 @@ struct BlocksOfOneRow {
 
 impl<F: CanonicalField> EngineTest<F> for BlocksOfOneRow {
     fn run<R: Abort, D: TwoAdicSubgroupDft<F>>(&self, rt: &R, alloc: Global, mut engine: D) {
-        let found = blocks_of_one_row(rt, alloc, &mut engine);
-        assert!(rt; found == (self.blocks, self.rows));
+        let mat: RowMajorMatrix<F> = matrix(rt, alloc, &[42, 7], 2);
+        let recorder = Recorder::with_room(alloc, 4, 8).expect(rt, "memory");
+        assert!(rt; fits_lde::<F>(mat.height(), mat.width(), 2));
+        let answer = engine.coset_lde_batch_with_blocks(
+            mat,
+            2,
+            F::from_u8(31),
+            |coefficients: RowMajorMatrix<F>, _layout: Layout| -> RowMajorMatrix<F>
+                ensures { HasShapeOf result coefficients }
+            { coefficients },
+            |_rows: usize| -> Recorder<F> { recorder },
+        );
+        let Ok((_out, recorder)) = answer else {
+            panic!(rt; "not all blocks were taken");
+        };
+        let blocks = recorder.blocks();
+        assert!(rt; blocks > 0 && !recorder.missed());
+        assert!(rt; blocks == self.blocks);
+        assert!(rt; recorder.rows(0).height() == self.rows);
     }
 }
 
 fn moved_and_single<F: CanonicalField>(rt: &impl Abort, alloc: Global) {
-    on_every_engine::<F, _, _>(rt, alloc, &MovedCoefficients);
+    on_every_engine::<F, _, _>(rt, alloc, &SwappedCoefficients);
+    on_every_engine::<F, _, _>(rt, alloc, &SwappedInBitReversedRows);
+    on_every_engine::<F, _, _>(rt, alloc, &OneCoefficient);
     let single = BlocksOfOneRow { blocks: 4, rows: 1 };
     on_halves::<F, _, _>(rt, alloc, &single);
     let whole = BlocksOfOneRow { blocks: 1, rows: 4 };

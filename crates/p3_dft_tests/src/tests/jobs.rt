@@ -123,21 +123,23 @@ fn answers_in_turn<F: CanonicalField, D: TwoAdicSubgroupDft<F>>(
 }
 
 // No jobs.
-fn no_answers<F: CanonicalField, D: TwoAdicSubgroupDft<F>>(
-    rt: &impl Abort,
-    alloc: Global,
-    engine: &mut D,
-) {
-    let none: Result<Vec<RowMajorMatrix<F>>, JobsStopped<F>> = run_jobs(engine, Vec::new(alloc));
-    assert!(rt; none.is_ok_and(|answers| answers.is_empty()));
+struct NoJobs;
+
+impl<F: CanonicalField> EngineTest<F> for NoJobs {
+    fn run<R: Abort, D: TwoAdicSubgroupDft<F>>(&self, rt: &R, alloc: Global, mut engine: D) {
+        let none: Result<Vec<RowMajorMatrix<F>>, JobsStopped<F>> = run_jobs(
+            &mut engine,
+            Vec::new(alloc),
+        );
+        assert!(rt; none.is_ok_and(|answers| answers.is_empty()));
+    }
 }
 
-// No jobs, and a job of each kind.
+// A job of each kind.
 struct Jobs;
 
 impl<F: CanonicalField> EngineTest<F> for Jobs {
     fn run<R: Abort, D: TwoAdicSubgroupDft<F>>(&self, rt: &R, alloc: Global, mut engine: D) {
-        no_answers(rt, alloc, &mut engine);
         answers_in_turn(rt, alloc, &mut engine, 0, KINDS);
     }
 }
@@ -201,25 +203,18 @@ fn answers_on_cosets<F: CanonicalField>(rt: &impl Abort, alloc: Global) -> Vec<R
     answers
 }
 
-fn cosets_answered<F: CanonicalField, D: TwoAdicSubgroupDft<F>>(
-    rt: &impl Abort,
-    alloc: Global,
-    engine: &mut D,
-) {
-    let expected: Vec<RowMajorMatrix<F>> = answers_on_cosets(rt, alloc);
-    let answered = run_jobs(engine, coset_jobs(rt, alloc));
-    assert!(rt; answered.is_ok_and(|answers| answers == expected));
-}
-
 struct CosetsInTurn;
 
 impl<F: CanonicalField> EngineTest<F> for CosetsInTurn {
     fn run<R: Abort, D: TwoAdicSubgroupDft<F>>(&self, rt: &R, alloc: Global, mut engine: D) {
-        cosets_answered(rt, alloc, &mut engine);
+        let expected: Vec<RowMajorMatrix<F>> = answers_on_cosets(rt, alloc);
+        let answered = run_jobs(&mut engine, coset_jobs(rt, alloc));
+        assert!(rt; answered.is_ok_and(|answers| answers == expected));
     }
 }
 
 fn lists<F: CanonicalField>(rt: &impl Abort, alloc: Global) {
+    on_every_engine::<F, _, _>(rt, alloc, &NoJobs);
     on_every_engine::<F, _, _>(rt, alloc, &Jobs);
     on_every_engine::<F, _, _>(rt, alloc, &CosetsInTurn);
 }

@@ -15,12 +15,12 @@ ghost use Rattle.p3_networks.specs.Polynomials.{value};
 ghost use Rattle.p3_dft.specs.Shapes.{FitsDft, FitsLde};
 ghost use Rattle.p3_dft.specs.Transforms.{IsInterpolation, IsTransform, values_of};
 
-use super::elements;
+use super::{EngineTest, elements, on_dit};
 use crate::tests::fitting::{assert_column, extensible, invertible, pair, transformable};
 use crate::there_and_back::there_and_back;
 use p3_dft::{
     BabyBear, CanonicalField, DftError, Evaluations, Field, Job, JobsStopped, Layout, NaiveDft,
-    Radix2Dit, RowMajorMatrix, TwoAdicField, TwoAdicSubgroupDft, fits_dft, run_jobs,
+    RowMajorMatrix, TwoAdicField, TwoAdicSubgroupDft, fits_dft, run_jobs,
 };
 use std::alloc::Global;
 use std::process::Abort;
@@ -485,28 +485,28 @@ fn extensions_of_a_sum<F: TwoAdicField, D: TwoAdicSubgroupDft<F>>(
 
 // The callers on small columns, for all fields and engines. The column 9, 1 has the coefficients 5, 4.
 
-fn undoing<F: CanonicalField, D: TwoAdicSubgroupDft<F>>(
-    rt: &impl Abort,
-    alloc: Global,
-    engine: &mut D,
-) {
-    let mat: RowMajorMatrix<F> = transformable(rt, alloc, &[9, 1]);
-    let shift = invertible(rt, F::TWO);
-    let back = there_and_back(engine, mat.try_clone().expect(rt, "memory"), shift);
-    let back = back.expect(rt, "memory");
-    assert_column(rt, &back, &[9, 1]);
-    let there = back_and_there(engine, mat, shift).expect(rt, "memory");
-    assert_column(rt, &there.to_row_major_matrix(), &[9, 1]);
+struct Undoing;
+
+impl<F: CanonicalField> EngineTest<F> for Undoing {
+    fn run<R: Abort, D: TwoAdicSubgroupDft<F>>(&self, rt: &R, alloc: Global, mut engine: D) {
+        let mat: RowMajorMatrix<F> = transformable(rt, alloc, &[9, 1]);
+        let shift = invertible(rt, F::TWO);
+        let back = there_and_back(&mut engine, mat.try_clone().expect(rt, "memory"), shift);
+        let back = back.expect(rt, "memory");
+        assert_column(rt, &back, &[9, 1]);
+        let there = back_and_there(&mut engine, mat, shift).expect(rt, "memory");
+        assert_column(rt, &there.to_row_major_matrix(), &[9, 1]);
+    }
 }
 
-fn agreeing<F: CanonicalField, D: TwoAdicSubgroupDft<F>, E: TwoAdicSubgroupDft<F>>(
-    rt: &impl Abort,
-    alloc: Global,
-    one: &mut D,
-    other: &mut E,
-) {
-    let mat: RowMajorMatrix<F> = transformable(rt, alloc, &[9, 1]);
-    assert!(rt; transforms_agree(one, other, mat, F::TWO).expect(rt, "memory"));
+struct Agreeing;
+
+impl<F: CanonicalField> EngineTest<F> for Agreeing {
+    fn run<R: Abort, D: TwoAdicSubgroupDft<F>>(&self, rt: &R, alloc: Global, mut engine: D) {
+        let mat: RowMajorMatrix<F> = transformable(rt, alloc, &[9, 1]);
+        let mut other = NaiveDft::default();
+        assert!(rt; transforms_agree(&mut engine, &mut other, mat, F::TWO).expect(rt, "memory"));
+    }
 }
 
 fn generators<F: CanonicalField>(rt: &impl Abort, alloc: Global) {
@@ -515,188 +515,172 @@ fn generators<F: CanonicalField>(rt: &impl Abort, alloc: Global) {
     assert!(rt; generator_of(&mat, 1) == F::NEG_ONE);
 }
 
-fn points<F: CanonicalField, D: TwoAdicSubgroupDft<F>>(
-    rt: &impl Abort,
-    alloc: Global,
-    engine: &mut D,
-) {
-    let values = values_at_points(engine, pair(rt, alloc, [9, 1]), F::TWO).expect(rt, "memory");
-    assert!(rt; values == elements(rt, alloc, &[11, 7]));
+struct Points;
+
+impl<F: CanonicalField> EngineTest<F> for Points {
+    fn run<R: Abort, D: TwoAdicSubgroupDft<F>>(&self, rt: &R, alloc: Global, mut engine: D) {
+        let values = values_at_points(&mut engine, pair(rt, alloc, [9, 1]), F::TWO);
+        assert!(rt; values.expect(rt, "memory") == elements(rt, alloc, &[11, 7]));
+    }
 }
 
-fn transforming<F: CanonicalField, D: TwoAdicSubgroupDft<F>, E: TwoAdicSubgroupDft<F>>(
-    rt: &impl Abort,
-    alloc: Global,
-) {
-    let mut engine = D::default();
-    undoing(rt, alloc, &mut engine);
-    agreeing(rt, alloc, &mut engine, &mut E::default());
-    generators::<F>(rt, alloc);
-    points(rt, alloc, &mut engine);
+struct ExtendingOnSubgroups;
+
+impl<F: CanonicalField> EngineTest<F> for ExtendingOnSubgroups {
+    fn run<R: Abort, D: TwoAdicSubgroupDft<F>>(&self, rt: &R, alloc: Global, mut engine: D) {
+        let same = extended_by_nothing(&mut engine, extensible(rt, alloc, &[9, 1], 0));
+        let same = same.expect(rt, "memory");
+        assert_column(rt, &same.to_row_major_matrix(), &[9, 1]);
+        let larger = [9, 873820294, 1, 1139445637];
+        let values = extended_by_one(&mut engine, extensible(rt, alloc, &[9, 1], 1), 1);
+        let values = values.expect(rt, "memory");
+        assert_column(rt, &values.to_row_major_matrix(), &larger);
+        let values = extended_with_rows_kept(&mut engine, extensible(rt, alloc, &[9, 1], 1), 1);
+        let values = values.expect(rt, "memory");
+        assert_column(rt, &values.to_row_major_matrix(), &larger);
+    }
 }
 
-fn extending_on_subgroups<F: CanonicalField, D: TwoAdicSubgroupDft<F>>(
-    rt: &impl Abort,
-    alloc: Global,
-    engine: &mut D,
-) {
-    let same = extended_by_nothing(engine, extensible(rt, alloc, &[9, 1], 0)).expect(rt, "memory");
-    assert_column(rt, &same.to_row_major_matrix(), &[9, 1]);
-    let larger = [9, 873820294, 1, 1139445637];
-    let values = extended_by_one(engine, extensible(rt, alloc, &[9, 1], 1), 1).expect(rt, "memory");
-    assert_column(rt, &values.to_row_major_matrix(), &larger);
-    let values = extended_with_rows_kept(engine, extensible(rt, alloc, &[9, 1], 1), 1);
-    let values = values.expect(rt, "memory");
-    assert_column(rt, &values.to_row_major_matrix(), &larger);
+struct ExtendingOnCosets;
+
+impl<F: CanonicalField> EngineTest<F> for ExtendingOnCosets {
+    fn run<R: Abort, D: TwoAdicSubgroupDft<F>>(&self, rt: &R, alloc: Global, mut engine: D) {
+        let mat: RowMajorMatrix<F> = extensible(rt, alloc, &[9, 1], 1);
+        let shift = invertible(rt, F::TWO);
+        let back = inverse_of_extended(&mut engine, mat.try_clone().expect(rt, "memory"), 1, shift);
+        let back = back.expect(rt, "memory");
+        assert_column(rt, &back, &[5, 4, 0, 0]);
+        let values = extended_from_coset(
+            &mut engine,
+            mat.try_clone().expect(rt, "memory"),
+            1,
+            shift,
+            F::ZERO,
+        )
+        .expect(rt, "memory");
+        assert_column(rt, &values.to_row_major_matrix(), &[9, 9, 9, 9]);
+        let values = extended_unchanged(&mut engine, mat, 1, F::ZERO).expect(rt, "memory");
+        assert_column(rt, &values.to_row_major_matrix(), &[5, 5, 5, 5]);
+    }
 }
 
-fn extending_on_cosets<F: CanonicalField, D: TwoAdicSubgroupDft<F>>(
-    rt: &impl Abort,
-    alloc: Global,
-    engine: &mut D,
-) {
-    let mat: RowMajorMatrix<F> = extensible(rt, alloc, &[9, 1], 1);
-    let shift = invertible(rt, F::TWO);
-    let back = inverse_of_extended(engine, mat.try_clone().expect(rt, "memory"), 1, shift);
-    let back = back.expect(rt, "memory");
-    assert_column(rt, &back, &[5, 4, 0, 0]);
-    let values = extended_from_coset(
-        engine,
-        mat.try_clone().expect(rt, "memory"),
-        1,
-        shift,
-        F::ZERO,
-    )
-    .expect(rt, "memory");
-    assert_column(rt, &values.to_row_major_matrix(), &[9, 9, 9, 9]);
-    let values = extended_unchanged(engine, mat, 1, F::ZERO).expect(rt, "memory");
-    assert_column(rt, &values.to_row_major_matrix(), &[5, 5, 5, 5]);
+struct InvertingAlike;
+
+impl<F: CanonicalField> EngineTest<F> for InvertingAlike {
+    fn run<R: Abort, D: TwoAdicSubgroupDft<F>>(&self, rt: &R, alloc: Global, mut engine: D) {
+        let mat: RowMajorMatrix<F> = transformable(rt, alloc, &[9, 1]);
+        let shift = invertible(rt, F::TWO);
+        let answers = inverses_agree(&mut engine, &mut NaiveDft::default(), mat, shift);
+        let (one, other) = answers.expect(rt, "memory");
+        assert!(rt; told_equal(&one, &other));
+        assert!(rt; fits_dft::<F>(one.height(), one.width()));
+        let there = transformed_for(&mut engine, one, &other, shift).expect(rt, "memory");
+        assert_column(rt, &there.to_row_major_matrix(), &[9, 1]);
+    }
 }
 
-fn extending<F: CanonicalField, D: TwoAdicSubgroupDft<F>>(rt: &impl Abort, alloc: Global) {
-    let mut engine = D::default();
-    extending_on_subgroups(rt, alloc, &mut engine);
-    extending_on_cosets(rt, alloc, &mut engine);
+struct ExtendingAlike;
+
+impl<F: CanonicalField> EngineTest<F> for ExtendingAlike {
+    fn run<R: Abort, D: TwoAdicSubgroupDft<F>>(&self, rt: &R, alloc: Global, mut engine: D) {
+        let mat: RowMajorMatrix<F> = extensible(rt, alloc, &[9, 1], 1);
+        let mut other = NaiveDft::default();
+        let answers = extensions_agree(&mut engine, &mut other, mat, 1, F::ZERO);
+        let (one, other) = answers.expect(rt, "memory");
+        assert_column(rt, &one.to_row_major_matrix(), &[5, 5, 5, 5]);
+        assert_column(rt, &other.to_row_major_matrix(), &[5, 5, 5, 5]);
+    }
 }
 
-fn inverting_alike<F: CanonicalField, D: TwoAdicSubgroupDft<F>, E: TwoAdicSubgroupDft<F>>(
-    rt: &impl Abort,
-    alloc: Global,
-) {
-    let mut engine = D::default();
-    let mat: RowMajorMatrix<F> = transformable(rt, alloc, &[9, 1]);
-    let shift = invertible(rt, F::TWO);
-    let answers = inverses_agree(&mut engine, &mut E::default(), mat, shift);
-    let (one, other) = answers.expect(rt, "memory");
-    assert!(rt; told_equal(&one, &other));
-    assert!(rt; fits_dft::<F>(one.height(), one.width()));
-    let there = transformed_for(&mut engine, one, &other, shift).expect(rt, "memory");
-    assert_column(rt, &there.to_row_major_matrix(), &[9, 1]);
+struct CoefficientsOfAnExtension;
+
+impl<F: CanonicalField> EngineTest<F> for CoefficientsOfAnExtension {
+    fn run<R: Abort, D: TwoAdicSubgroupDft<F>>(&self, rt: &R, alloc: Global, mut engine: D) {
+        let mat: RowMajorMatrix<F> = extensible(rt, alloc, &[9, 1], 1);
+        let answers = extended_coefficients(&mut engine, mat, 1, F::TWO);
+        let (coefficients, _values) = answers.expect(rt, "memory");
+        assert_column(rt, &coefficients, &[5, 4]);
+    }
 }
 
-fn extending_alike<F: CanonicalField, D: TwoAdicSubgroupDft<F>, E: TwoAdicSubgroupDft<F>>(
-    rt: &impl Abort,
-    alloc: Global,
-) {
-    let mat: RowMajorMatrix<F> = extensible(rt, alloc, &[9, 1], 1);
-    let (one, other) = extensions_agree(
-        &mut D::default(),
-        &mut E::default(),
-        mat,
-        1,
-        F::ZERO,
-    ).expect(rt, "memory");
-    assert_column(rt, &one.to_row_major_matrix(), &[5, 5, 5, 5]);
-    assert_column(rt, &other.to_row_major_matrix(), &[5, 5, 5, 5]);
+struct CoefficientsBack;
+
+impl<F: CanonicalField> EngineTest<F> for CoefficientsBack {
+    fn run<R: Abort, D: TwoAdicSubgroupDft<F>>(&self, rt: &R, alloc: Global, mut engine: D) {
+        let mat: RowMajorMatrix<F> = extensible(rt, alloc, &[9, 1], 1);
+        let shift = invertible(rt, F::TWO);
+        let answers = coefficients_again(&mut engine, mat, 1, shift);
+        let (coefficients, back) = answers.expect(rt, "memory");
+        assert_column(rt, &coefficients, &[5, 4]);
+        assert_column(rt, &back, &[5, 4, 0, 0]);
+    }
 }
 
-fn coefficients_of_an_extension<F: CanonicalField, D: TwoAdicSubgroupDft<F>>(
-    rt: &impl Abort,
-    alloc: Global,
-) {
-    let mat: RowMajorMatrix<F> = extensible(rt, alloc, &[9, 1], 1);
-    let answers = extended_coefficients(&mut D::default(), mat, 1, F::TWO);
-    let (coefficients, _values) = answers.expect(rt, "memory");
-    assert_column(rt, &coefficients, &[5, 4]);
+struct InvertingAnExtension;
+
+impl<F: CanonicalField> EngineTest<F> for InvertingAnExtension {
+    fn run<R: Abort, D: TwoAdicSubgroupDft<F>>(&self, rt: &R, alloc: Global, mut engine: D) {
+        let mat: RowMajorMatrix<F> = extensible(rt, alloc, &[9, 1], 1);
+        let shift = invertible(rt, F::TWO);
+        let answers = coefficients_and_zeros(&mut engine, mat, 1, shift);
+        let (coefficients, back) = answers.expect(rt, "memory");
+        assert_column(rt, &coefficients, &[5, 4]);
+        assert_column(rt, &back, &[5, 4, 0, 0]);
+    }
 }
 
-fn coefficients_back<F: CanonicalField, D: TwoAdicSubgroupDft<F>>(rt: &impl Abort, alloc: Global) {
-    let mat: RowMajorMatrix<F> = extensible(rt, alloc, &[9, 1], 1);
-    let shift = invertible(rt, F::TWO);
-    let answers = coefficients_again(&mut D::default(), mat, 1, shift);
-    let (coefficients, back) = answers.expect(rt, "memory");
-    assert_column(rt, &coefficients, &[5, 4]);
-    assert_column(rt, &back, &[5, 4, 0, 0]);
-}
+struct AnsweringAJob;
 
-fn inverting_an_extension<F: CanonicalField, D: TwoAdicSubgroupDft<F>>(
-    rt: &impl Abort,
-    alloc: Global,
-) {
-    let mat: RowMajorMatrix<F> = extensible(rt, alloc, &[9, 1], 1);
-    let shift = invertible(rt, F::TWO);
-    let answers = coefficients_and_zeros(&mut D::default(), mat, 1, shift);
-    let (coefficients, back) = answers.expect(rt, "memory");
-    assert_column(rt, &coefficients, &[5, 4]);
-    assert_column(rt, &back, &[5, 4, 0, 0]);
-}
-
-fn answering_a_job<F: CanonicalField, D: TwoAdicSubgroupDft<F>, E: TwoAdicSubgroupDft<F>>(
-    rt: &impl Abort,
-    alloc: Global,
-) {
-    let mat: RowMajorMatrix<F> = transformable(rt, alloc, &[5, 4]);
-    let one = D::default()
-        .dft_batch(mat.try_clone().expect(rt, "memory"))
-        .expect(rt, "memory")
-        .to_row_major_matrix();
-    let other = E::default()
-        .dft_batch(mat.try_clone().expect(rt, "memory"))
-        .expect(rt, "memory")
-        .to_row_major_matrix();
-    assert!(rt; answers_are_equal(&Job::Dft(mat), one, other));
+impl<F: CanonicalField> EngineTest<F> for AnsweringAJob {
+    fn run<R: Abort, D: TwoAdicSubgroupDft<F>>(&self, rt: &R, alloc: Global, mut engine: D) {
+        let mat: RowMajorMatrix<F> = transformable(rt, alloc, &[5, 4]);
+        let one = engine
+            .dft_batch(mat.try_clone().expect(rt, "memory"))
+            .expect(rt, "memory")
+            .to_row_major_matrix();
+        let other = NaiveDft::default()
+            .dft_batch(mat.try_clone().expect(rt, "memory"))
+            .expect(rt, "memory");
+        assert!(rt; answers_are_equal(&Job::Dft(mat), one, other));
+    }
 }
 
 // Columns and their shapes that one engine transforms and inverts alone.
-fn transforming_alone<F: CanonicalField, D: TwoAdicSubgroupDft<F>>(
-    rt: &impl Abort,
-    alloc: Global,
-    engine: &mut D,
-) {
-    let mat: RowMajorMatrix<F> = transformable(rt, alloc, &[9, 1]);
-    assert!(rt; mat.width() == 1);
-    let shift = invertible(rt, F::TWO);
-    let column = own_column(&mat).expect(rt, "memory");
-    let (whole, one) = column_alone(
-        engine,
-        mat.try_clone().expect(rt, "memory"),
-        column,
-        0,
-        shift,
-    )
-    .expect(rt, "memory");
-    assert!(rt; whole == one);
-    let column = own_column(&mat).expect(rt, "memory");
-    let (whole, one) = column_undone_alone(engine, mat, column, 0, shift).expect(rt, "memory");
-    assert!(rt; whole == one);
+struct TransformingAlone;
+
+impl<F: CanonicalField> EngineTest<F> for TransformingAlone {
+    fn run<R: Abort, D: TwoAdicSubgroupDft<F>>(&self, rt: &R, alloc: Global, mut engine: D) {
+        let mat: RowMajorMatrix<F> = transformable(rt, alloc, &[9, 1]);
+        assert!(rt; mat.width() == 1);
+        let shift = invertible(rt, F::TWO);
+        let column = own_column(&mat).expect(rt, "memory");
+        let (whole, one) = column_alone(
+            &mut engine,
+            mat.try_clone().expect(rt, "memory"),
+            column,
+            0,
+            shift,
+        )
+        .expect(rt, "memory");
+        assert!(rt; whole == one);
+        let column = own_column(&mat).expect(rt, "memory");
+        let answers = column_undone_alone(&mut engine, mat, column, 0, shift);
+        let (whole, one) = answers.expect(rt, "memory");
+        assert!(rt; whole == one);
+    }
 }
 
-fn extending_alone<F: CanonicalField, D: TwoAdicSubgroupDft<F>>(
-    rt: &impl Abort,
-    alloc: Global,
-    engine: &mut D,
-) {
-    let mat: RowMajorMatrix<F> = extensible(rt, alloc, &[9, 1], 1);
-    assert!(rt; mat.width() == 1);
-    let column = own_column(&mat).expect(rt, "memory");
-    let (whole, one) = column_extended_alone(engine, mat, column, 0, 1).expect(rt, "memory");
-    assert!(rt; whole == one);
-}
+struct ExtendingAlone;
 
-fn columns_alone<F: CanonicalField, D: TwoAdicSubgroupDft<F>>(rt: &impl Abort, alloc: Global) {
-    let mut engine = D::default();
-    transforming_alone(rt, alloc, &mut engine);
-    extending_alone(rt, alloc, &mut engine);
+impl<F: CanonicalField> EngineTest<F> for ExtendingAlone {
+    fn run<R: Abort, D: TwoAdicSubgroupDft<F>>(&self, rt: &R, alloc: Global, mut engine: D) {
+        let mat: RowMajorMatrix<F> = extensible(rt, alloc, &[9, 1], 1);
+        assert!(rt; mat.width() == 1);
+        let column = own_column(&mat).expect(rt, "memory");
+        let answers = column_extended_alone(&mut engine, mat, column, 0, 1);
+        let (whole, one) = answers.expect(rt, "memory");
+        assert!(rt; whole == one);
+    }
 }
 
 // A list of one job, twice.
@@ -714,36 +698,35 @@ fn equal_lists<F: CanonicalField>(rt: &impl Abort, alloc: Global) -> (Vec<Job<F>
     (jobs, again)
 }
 
-fn answering_lists<F: CanonicalField, D: TwoAdicSubgroupDft<F>, E: TwoAdicSubgroupDft<F>>(
-    rt: &impl Abort,
-    alloc: Global,
-) {
-    let (jobs, again) = equal_lists::<F>(rt, alloc);
-    match jobs_agree(&mut D::default(), &mut E::default(), jobs, again) {
-        Ok((first, second)) => assert!(rt; first == second),
-        Err(_stopped) => panic!(rt; "memory"),
+struct AnsweringLists;
+
+impl<F: CanonicalField> EngineTest<F> for AnsweringLists {
+    fn run<R: Abort, D: TwoAdicSubgroupDft<F>>(&self, rt: &R, alloc: Global, mut engine: D) {
+        let (jobs, again) = equal_lists::<F>(rt, alloc);
+        match jobs_agree(&mut engine, &mut NaiveDft::default(), jobs, again) {
+            Ok((first, second)) => assert!(rt; first == second),
+            Err(_stopped) => panic!(rt; "memory"),
+        }
     }
 }
 
-// All of them, with two engines.
-fn every_law<F: CanonicalField, D: TwoAdicSubgroupDft<F>, E: TwoAdicSubgroupDft<F>>(
-    rt: &impl Abort,
-    alloc: Global,
-) {
-    transforming::<F, D, E>(rt, alloc);
-    extending::<F, D>(rt, alloc);
-    inverting_alike::<F, D, E>(rt, alloc);
-    extending_alike::<F, D, E>(rt, alloc);
-    coefficients_of_an_extension::<F, D>(rt, alloc);
-    coefficients_back::<F, D>(rt, alloc);
-    inverting_an_extension::<F, D>(rt, alloc);
-    answering_a_job::<F, D, E>(rt, alloc);
-    columns_alone::<F, D>(rt, alloc);
-    answering_lists::<F, D, E>(rt, alloc);
-}
-
+// All of them, by a fast engine and by the definition.
 fn laws_over<F: CanonicalField>(rt: &impl Abort, alloc: Global) {
-    every_law::<F, Radix2Dit<F>, NaiveDft>(rt, alloc);
+    generators::<F>(rt, alloc);
+    on_dit::<F, _, _>(rt, alloc, &Undoing);
+    on_dit::<F, _, _>(rt, alloc, &Agreeing);
+    on_dit::<F, _, _>(rt, alloc, &Points);
+    on_dit::<F, _, _>(rt, alloc, &ExtendingOnSubgroups);
+    on_dit::<F, _, _>(rt, alloc, &ExtendingOnCosets);
+    on_dit::<F, _, _>(rt, alloc, &InvertingAlike);
+    on_dit::<F, _, _>(rt, alloc, &ExtendingAlike);
+    on_dit::<F, _, _>(rt, alloc, &CoefficientsOfAnExtension);
+    on_dit::<F, _, _>(rt, alloc, &CoefficientsBack);
+    on_dit::<F, _, _>(rt, alloc, &InvertingAnExtension);
+    on_dit::<F, _, _>(rt, alloc, &AnsweringAJob);
+    on_dit::<F, _, _>(rt, alloc, &TransformingAlone);
+    on_dit::<F, _, _>(rt, alloc, &ExtendingAlone);
+    on_dit::<F, _, _>(rt, alloc, &AnsweringLists);
 }
 
 #[test]

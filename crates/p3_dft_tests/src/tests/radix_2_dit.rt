@@ -1,71 +1,73 @@
 // Values from definitions worked out by hand or by another program, and what is prepared when.
 
-use super::matrix;
+use super::{ByCalls, CallsTest, assert_rows, elements, matrix, on_dit};
+use crate::tests::calls::Calls;
 use crate::tests::fitting::evaluates;
-use p3_dft::{
-    BabyBear, CanonicalField, Evaluations, Goldilocks, Radix2Dit, RowMajorMatrix,
-    TwoAdicSubgroupDft, fits_dft,
-};
+use p3_dft::{BabyBear, CanonicalField, Goldilocks, Radix2Dit, TwoAdicSubgroupDft};
 use std::alloc::Global;
 use std::process::Abort;
 
-fn columns_of_each_height<F: CanonicalField, D: TwoAdicSubgroupDft<F>>(
+// Stops the test unless the polynomial with these coefficients has these values.
+fn assert_values<F: CanonicalField, C: Calls<F>>(
     rt: &impl Abort,
     alloc: Global,
+    engine: &mut C,
+    coefficients: &[u64],
+    values: &[u64],
 ) {
-    let mut engine = D::default();
-    evaluates(rt, alloc, &mut engine, &[0; 8], &[0; 8]);
-    let four = [10, 569722814, 2013265919, 1443543103];
-    evaluates(rt, alloc, &mut engine, &[1, 2, 3, 4], &four);
-    let eight = [
-        36, 1976151680, 1139445628, 1710526337, 2013265917, 302739576, 873820285, 37114233,
-    ];
-    evaluates(rt, alloc, &mut engine, &[1, 2, 3, 4, 5, 6, 7, 8], &eight);
-    evaluates(rt, alloc, &mut engine, &[7], &[7]);
+    let found = engine.column_dft(rt, elements(rt, alloc, coefficients));
+    assert!(rt; found == elements(rt, alloc, values));
 }
 
-fn large_column<F: CanonicalField, D: TwoAdicSubgroupDft<F>>(rt: &impl Abort, alloc: Global) {
-    let values = [
-        31,
-        568447645776638,
-        844424930131970,
-        18446189915638069247,
-        18446744069414584318,
-        557452261065982,
-        18445899644484452355,
-        18446172323284256767,
-    ];
-    let coefficients = [3, 1, 4, 1, 5, 9, 2, 6];
-    evaluates(rt, alloc, &mut D::default(), &coefficients, &values);
+struct ColumnsOfEachHeight;
+
+impl<F: CanonicalField> CallsTest<F> for ColumnsOfEachHeight {
+    fn run<R: Abort, C: Calls<F>>(&self, rt: &R, alloc: Global, engine: &mut C) {
+        assert_values(rt, alloc, engine, &[0; 8], &[0; 8]);
+        let four = [10, 569722814, 2013265919, 1443543103];
+        assert_values(rt, alloc, engine, &[1, 2, 3, 4], &four);
+        let eight = [
+            36, 1976151680, 1139445628, 1710526337, 2013265917, 302739576, 873820285, 37114233,
+        ];
+        assert_values(rt, alloc, engine, &[1, 2, 3, 4, 5, 6, 7, 8], &eight);
+        assert_values(rt, alloc, engine, &[7], &[7]);
+    }
 }
 
-fn column_of_large_numbers<F: CanonicalField>(rt: &impl Abort, alloc: Global) {
-    large_column::<F, Radix2Dit<F>>(rt, alloc);
+struct LargeColumn;
+
+impl<F: CanonicalField> CallsTest<F> for LargeColumn {
+    fn run<R: Abort, C: Calls<F>>(&self, rt: &R, alloc: Global, engine: &mut C) {
+        let values = [
+            31,
+            568447645776638,
+            844424930131970,
+            18446189915638069247,
+            18446744069414584318,
+            557452261065982,
+            18445899644484452355,
+            18446172323284256767,
+        ];
+        assert_values(rt, alloc, engine, &[3, 1, 4, 1, 5, 9, 2, 6], &values);
+    }
 }
 
 #[test]
 fn values_of_the_larger_field(rt: HostRuntime) {
-    column_of_large_numbers::<Goldilocks>(&rt, rt.alloc());
+    on_dit::<Goldilocks, _, _>(&rt, rt.alloc(), &ByCalls { test: &LargeColumn });
 }
 
-fn three_columns<F: CanonicalField, D: TwoAdicSubgroupDft<F>>(rt: &impl Abort, alloc: Global) {
-    let mat: RowMajorMatrix<F> = matrix(rt, alloc, &[1, 2, 3, 4, 5, 6, 7, 8, 9, 10, 11, 12], 3);
-    assert!(rt; fits_dft::<F>(mat.height(), mat.width()));
-    let values = D::default()
-        .dft_batch(mat)
-        .expect(rt, "memory")
-        .to_row_major_matrix();
-    let numbers = [
-        22, 26, 30, 1709168442, 1709168442, 1709168442, 2013265915, 2013265915, 2013265915,
-        304097467, 304097467, 304097467,
-    ];
-    assert!(rt; values == matrix(rt, alloc, &numbers, 3));
-}
+struct ThreeColumns;
 
-// Both, by this engine.
-fn worked_transforms<F: CanonicalField>(rt: &impl Abort, alloc: Global) {
-    columns_of_each_height::<F, Radix2Dit<F>>(rt, alloc);
-    three_columns::<F, Radix2Dit<F>>(rt, alloc);
+impl<F: CanonicalField> CallsTest<F> for ThreeColumns {
+    fn run<R: Abort, C: Calls<F>>(&self, rt: &R, alloc: Global, engine: &mut C) {
+        let mat = matrix(rt, alloc, &[1, 2, 3, 4, 5, 6, 7, 8, 9, 10, 11, 12], 3);
+        let numbers = [
+            22, 26, 30, 1709168442, 1709168442, 1709168442, 2013265915, 2013265915, 2013265915,
+            304097467, 304097467, 304097467,
+        ];
+        assert_rows(rt, &engine.dft(rt, &mat), &numbers, 3);
+    }
 }
 
 // The heights that were prepared.
@@ -105,7 +107,20 @@ fn transforms_prepare<F: CanonicalField>(
 }
 
 fn over_the_smaller_field<F: CanonicalField>(rt: &impl Abort, alloc: Global) {
-    worked_transforms::<F>(rt, alloc);
+    on_dit::<F, _, _>(
+        rt,
+        alloc,
+        &ByCalls {
+            test: &ColumnsOfEachHeight,
+        },
+    );
+    on_dit::<F, _, _>(
+        rt,
+        alloc,
+        &ByCalls {
+            test: &ThreeColumns,
+        },
+    );
     prepares_heights::<F>(rt, alloc);
     transforms_prepare::<F>(rt, alloc, &mut Radix2Dit::default());
 }

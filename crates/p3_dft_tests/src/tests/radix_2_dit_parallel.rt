@@ -3,9 +3,9 @@
 ghost use Rattle.std.specs.Prelude.{◌≡◌};
 ghost use Rattle.p3_matrix.specs.RowMajor.{HasShapeOf};
 
-use super::elements;
+use super::{EngineTest, elements, on_halves};
 use crate::tests::calls::{Calls, CallsOf};
-use crate::tests::fitting::{assert_column, evaluates, extensible, pair, transformable};
+use crate::tests::fitting::{assert_column, extensible, pair, transformable};
 use p3_dft::{
     BabyBear, BlockConsumer, BlockLimit, BlocksStopped, CanonicalField, Evaluations, Field, Layout,
     Radix2DitParallel, Recorder, RowMajorMatrix, TwoAdicSubgroupDft, fits_dft,
@@ -44,27 +44,25 @@ fn prepares_heights<F: CanonicalField>(rt: &impl Abort, alloc: Global) {
     copy_is_empty(rt, &engine);
 }
 
-// The inverse of the values of these coefficients.
-fn inverts<F: CanonicalField, D: TwoAdicSubgroupDft<F>>(
+// A transform of four values, and the inverse of its answer.
+fn transforms_and_inverts<F: CanonicalField, C: Calls<F>>(
     rt: &impl Abort,
     alloc: Global,
-    engine: &mut D,
-    values: &[u64],
-    coefficients: &[u64],
+    engine: &mut C,
 ) {
-    let column: Vec<F> = elements(rt, alloc, values);
-    assert!(rt; fits_dft::<F>(column.len(), 1));
-    assert!(rt; engine.idft(column).expect(rt, "memory") == elements(rt, alloc, coefficients));
+    let values = engine.column_dft(rt, elements(rt, alloc, &[1, 2, 3, 4]));
+    assert!(rt; values == elements(rt, alloc, &[10, 569722814, 2013265919, 1443543103]));
+    let coefficients = engine.column_idft(rt, values);
+    assert!(rt; coefficients == elements(rt, alloc, &[1, 2, 3, 4]));
 }
 
 // A transform prepares its height, for inverses too.
 fn transform_prepares<F: CanonicalField>(rt: &impl Abort, alloc: Global) {
-    let mut engine: Radix2DitParallel<F> = Radix2DitParallel::default();
-    let (coefficients, values) = ([1, 2, 3, 4], [10, 569722814, 2013265919, 1443543103]);
-    evaluates(rt, alloc, &mut engine, &coefficients, &values);
-    assert!(rt; engine.is_prepared(2));
-    inverts(rt, alloc, &mut engine, &values, &coefficients);
-    assert!(rt; !engine.is_prepared(3));
+    let engine: Radix2DitParallel<F> = Radix2DitParallel::default();
+    let mut calls = CallsOf { engine };
+    transforms_and_inverts::<F, _>(rt, alloc, &mut calls);
+    assert!(rt; calls.engine.is_prepared(2));
+    assert!(rt; !calls.engine.is_prepared(3));
 }
 
 // The values 13, 2013265918 of 5, 4 on the coset of two are taken back, there and back on the
@@ -113,18 +111,22 @@ fn row_1_alone<F: Field>(mat: RowMajorMatrix<F>) -> RowMajorMatrix<F>
 }
 
 // The transform has the coefficients in bit reversed order: row 1 is that of the square.
-fn extends_the_square<F: CanonicalField, D: TwoAdicSubgroupDft<F>>(rt: &impl Abort, alloc: Global) {
-    let numbers = [10, 569722814, 2013265919, 1443543103];
-    let values = D::default().coset_lde_batch_with_transform(
-        extensible(rt, alloc, &numbers, 0),
-        0,
-        F::ONE,
-        |coefficients: RowMajorMatrix<F>, _layout: Layout| -> RowMajorMatrix<F>
-            ensures { HasShapeOf result coefficients }
-        { row_1_alone(coefficients) },
-    );
-    let values = values.expect(rt, "memory").to_row_major_matrix();
-    assert_column(rt, &values, &[3, 2013265918, 3, 2013265918]);
+struct ExtendedSquare;
+
+impl<F: CanonicalField> EngineTest<F> for ExtendedSquare {
+    fn run<R: Abort, D: TwoAdicSubgroupDft<F>>(&self, rt: &R, alloc: Global, mut engine: D) {
+        let numbers = [10, 569722814, 2013265919, 1443543103];
+        let values = engine.coset_lde_batch_with_transform(
+            extensible(rt, alloc, &numbers, 0),
+            0,
+            F::ONE,
+            |coefficients: RowMajorMatrix<F>, _layout: Layout| -> RowMajorMatrix<F>
+                ensures { HasShapeOf result coefficients }
+            { row_1_alone(coefficients) },
+        );
+        let values = values.expect(rt, "memory").to_row_major_matrix();
+        assert_column(rt, &values, &[3, 2013265918, 3, 2013265918]);
+    }
 }
 
 // What is left of an extension by one bit of the column 9, 1, on the subgroup, and of its consumer.
@@ -170,41 +172,44 @@ fn blocks_of<F: Field>(rt: &impl Abort, recorder: &Recorder<F>, row: usize, valu
 }
 
 // Each row is a block of its own, in some order.
-fn lends_single_rows<F: CanonicalField, D: TwoAdicSubgroupDft<F>>(rt: &impl Abort, alloc: Global) {
-    let rows: Vec<F> = elements(rt, alloc, &[9, 1, 873820294, 1139445637]);
-    let recorder: Recorder<F> = Recorder::with_room(alloc, 4, 4).expect(rt, "memory");
-    let (recorder, _) = extend_to(rt, alloc, &mut D::default(), recorder);
-    assert!(rt; recorder.blocks() == 4);
-    assert!(rt; !recorder.missed());
-    for row in 0..rows.len() {
-        assert!(rt; blocks_of(rt, &recorder, row, &rows[row..row + 1]) == 1);
-    }
-}
+struct SingleRows;
 
-fn takes_blocks<F: CanonicalField, D: TwoAdicSubgroupDft<F>>(
-    rt: &impl Abort,
-    alloc: Global,
-    limit: usize,
-    refused: bool,
-) {
-    let mut engine = D::default();
-    let (consumer, refusal) = extend_to::<F, D, _>(rt, alloc, &mut engine, BlockLimit::new(limit));
-    assert!(rt; consumer.seen() == limit);
-    assert!(rt; refusal.is_some() == refused);
+impl<F: CanonicalField> EngineTest<F> for SingleRows {
+    fn run<R: Abort, D: TwoAdicSubgroupDft<F>>(&self, rt: &R, alloc: Global, mut engine: D) {
+        let rows: Vec<F> = elements(rt, alloc, &[9, 1, 873820294, 1139445637]);
+        let recorder: Recorder<F> = Recorder::with_room(alloc, 4, 4).expect(rt, "memory");
+        let (recorder, _) = extend_to(rt, alloc, &mut engine, recorder);
+        assert!(rt; recorder.blocks() == 4);
+        assert!(rt; !recorder.missed());
+        for row in 0..rows.len() {
+            assert!(rt; blocks_of(rt, &recorder, row, &rows[row..row + 1]) == 1);
+        }
+    }
 }
 
 // Four blocks are as many as there are, and a consumer that takes fewer ends the extension.
-// These extensions and blocks, by one engine.
-fn extends<F: CanonicalField, D: TwoAdicSubgroupDft<F>>(rt: &impl Abort, alloc: Global) {
-    extends_the_square::<F, D>(rt, alloc);
-    lends_single_rows::<F, D>(rt, alloc);
-    for (limit, refused) in [(4, false), (3, true), (0, true)] {
-        takes_blocks::<F, D>(rt, alloc, limit, refused);
+#[derive(Drop)]
+struct TakenBlocks {
+    limit: usize,
+    refused: bool,
+}
+
+impl<F: CanonicalField> EngineTest<F> for TakenBlocks {
+    fn run<R: Abort, D: TwoAdicSubgroupDft<F>>(&self, rt: &R, alloc: Global, mut engine: D) {
+        let limit = BlockLimit::new(self.limit);
+        let (consumer, refusal) = extend_to::<F, D, _>(rt, alloc, &mut engine, limit);
+        assert!(rt; consumer.seen() == self.limit);
+        assert!(rt; refusal.is_some() == self.refused);
     }
 }
 
+// These extensions and blocks.
 fn extends_by_halves<F: CanonicalField>(rt: &impl Abort, alloc: Global) {
-    extends::<F, Radix2DitParallel<F>>(rt, alloc);
+    on_halves::<F, _, _>(rt, alloc, &ExtendedSquare);
+    on_halves::<F, _, _>(rt, alloc, &SingleRows);
+    for (limit, refused) in [(4usize, false), (3, true), (0, true)] {
+        on_halves::<F, _, _>(rt, alloc, &TakenBlocks { limit, refused });
+    }
 }
 
 fn goes_by_halves<F: CanonicalField>(rt: &impl Abort, alloc: Global) {

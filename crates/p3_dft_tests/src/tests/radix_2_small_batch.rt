@@ -2,13 +2,13 @@
 
 ghost use Rattle.p3_dft.specs.Engines.{IsPrepared};
 
-use super::{AsSums, CallsTest, elements, matrix, matrix_of};
+use super::{AsSums, CallsTest, assert_elements, assert_same, elements, matrix, matrix_of};
 use crate::tests::callers::transform_promised;
 use crate::tests::calls::{Calls, CallsOf};
-use crate::tests::fitting::{assert_column, evaluates, transformable};
+use crate::tests::fitting::{assert_column, transformable};
 use p3_dft::{
-    BabyBear, CanonicalField, Evaluations, Field, Radix2DFTSmallBatch, RowMajorMatrix,
-    TwoAdicSubgroupDft, fits_dft, fits_lde,
+    BabyBear, CanonicalField, Field, Radix2DFTSmallBatch, RowMajorMatrix, TwoAdicSubgroupDft,
+    fits_dft,
 };
 use std::alloc::Global;
 use std::process::Abort;
@@ -79,29 +79,34 @@ fn tiles_change_no_answer(rt: HostRuntime) {
 }
 
 // One row is its own transform.
-fn keeps_a_row<F: CanonicalField, D: TwoAdicSubgroupDft<F>>(
+fn keeps_a_row<F: CanonicalField, C: Calls<F>>(rt: &impl Abort, alloc: Global, engine: &mut C) {
+    let mat = matrix(rt, alloc, &[5, 4], 2);
+    assert_same(rt, &engine.dft(rt, &mat), &mat);
+}
+
+// The column 5, 4 has the values 9, 1.
+fn transforms_a_column<F: CanonicalField, C: Calls<F>>(
     rt: &impl Abort,
     alloc: Global,
-    engine: &mut D,
+    engine: &mut C,
 ) {
-    let mat: RowMajorMatrix<F> = matrix(rt, alloc, &[5, 4], 2);
-    assert!(rt; fits_dft::<F>(mat.height(), mat.width()));
-    let values = engine
-        .dft_batch(mat)
-        .expect(rt, "memory")
-        .to_row_major_matrix();
-    assert!(rt; values == matrix(rt, alloc, &[5, 4], 2));
+    let values = engine.column_dft(rt, elements(rt, alloc, &[5, 4]));
+    assert_elements(rt, values, &[9, 1]);
+}
+
+fn transforms_both<F: CanonicalField, C: Calls<F>>(rt: &impl Abort, alloc: Global, engine: &mut C) {
+    keeps_a_row(rt, alloc, engine);
+    transforms_a_column(rt, alloc, engine);
 }
 
 // An engine that is made for no height, and transforms each all the same.
 fn made_for_no_height<F: CanonicalField>(rt: &impl Abort, alloc: Global, n: usize) {
     assert!(rt; n < 2);
     let engine = Radix2DFTSmallBatch::new(alloc, n);
-    let mut engine: Radix2DFTSmallBatch<F> = engine.expect(rt, "memory");
+    let engine: Radix2DFTSmallBatch<F> = engine.expect(rt, "memory");
     assert!(rt; engine.is_prepared(0));
     assert!(rt; !engine.is_prepared(1));
-    keeps_a_row(rt, alloc, &mut engine);
-    evaluates(rt, alloc, &mut engine, &[5, 4], &[9, 1]);
+    transforms_both::<F, _>(rt, alloc, &mut CallsOf { engine });
 }
 
 // Eight rows where their height is prepared: the transform answers, whatever memory there is.
@@ -128,8 +133,9 @@ fn made_for_a_height<F: CanonicalField>(rt: &impl Abort, alloc: Global) {
     assert!(rt; engine.is_prepared(2));
     assert!(rt; !engine.is_prepared(4));
     transform_of_eight_rows(rt, alloc, &mut engine);
-    evaluates(rt, alloc, &mut engine, &[5, 4], &[9, 1]);
-    stays_prepared(rt, alloc, &mut engine);
+    let mut calls = CallsOf { engine };
+    transforms_a_column::<F, _>(rt, alloc, &mut calls);
+    stays_prepared(rt, alloc, &mut calls.engine);
 }
 
 fn stays_prepared<F: CanonicalField>(
@@ -146,24 +152,21 @@ fn stays_prepared<F: CanonicalField>(
 }
 
 // A constant is extended to a constant.
-fn extends_a_constant<F: CanonicalField, D: TwoAdicSubgroupDft<F>>(
+fn extends_a_constant<F: CanonicalField, C: Calls<F>>(
     rt: &impl Abort,
     alloc: Global,
-    engine: &mut D,
+    engine: &mut C,
 ) {
-    let column: Vec<F> = elements(rt, alloc, &[7, 7]);
-    assert!(rt; fits_lde::<F>(column.len(), 1, 3));
-    let extended = engine
-        .coset_lde(column, 3, F::GENERATOR)
-        .expect(rt, "memory");
-    assert!(rt; extended == elements(rt, alloc, &[7; 16]));
+    let extended = engine.column_coset_lde(rt, elements(rt, alloc, &[7, 7]), 3, F::GENERATOR);
+    assert_elements(rt, extended, &[7; 16]);
 }
 
 // An extension prepares its height too.
 fn extension_prepares<F: CanonicalField>(rt: &impl Abort, alloc: Global) {
-    let mut engine: Radix2DFTSmallBatch<F> = Radix2DFTSmallBatch::default();
-    extends_a_constant(rt, alloc, &mut engine);
-    assert!(rt; engine.is_prepared(4));
+    let engine: Radix2DFTSmallBatch<F> = Radix2DFTSmallBatch::default();
+    let mut calls = CallsOf { engine };
+    extends_a_constant::<F, _>(rt, alloc, &mut calls);
+    assert!(rt; calls.engine.is_prepared(4));
 }
 
 // What is prepared stays, whether memory for a larger height is refused or not.
