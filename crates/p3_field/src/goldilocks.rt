@@ -56,13 +56,14 @@ impl Add for Goldilocks {
     ghost add_gives = { λ a b r. IsSum goldilocks_modulus a.number b.number r.number };
 
     fn add(self, other: Goldilocks) -> Goldilocks {
-        // What is left up to the modulus, as the sum itself may not fit.
-        let left = MODULUS - other.number;
+        // The sum less the modulus, modulo `2^64`: that passes `2^64` where the sum reaches the modulus,
+        // and only there.
+        let reduced = self.number.wrapping_add(other.number + EPSILON);
         Goldilocks {
-            number: if self.number < left {
-                self.number + other.number
+            number: if reduced < self.number {
+                reduced
             } else {
-                self.number - left
+                self.number + other.number
             },
         }
     }
