@@ -19,7 +19,7 @@ use p3_matrix::{
 };
 use p3_networks::radix_2_small_batch::groups::{log_tile_rows, piece_size};
 use p3_networks::radix_2_small_batch::networks::{
-    dit_network, extending_network, scaled_dif_network,
+    dif_network, dit_network, extending_network, scaled_dif_network,
 };
 use p3_networks::radix_2_small_batch::slots::slots_network;
 use p3_networks::root_tables::RootTables;
@@ -369,10 +369,11 @@ fn evaluate<F: TwoAdicField>(
     ensures grows { products.old ≤ products.new }
     ensures cost { products.new ≤ products.old + mat.old.width * (log_h * 2 ^ log_h / 2) }
 {
+    reverse_rows(mat);
     let width = mat.width();
     let log_rows = log_tile_rows(tile, width, log_h);
     let piece = piece_size(tile);
-    dit_network(
+    dif_network(
         twiddles,
         mat.values_mut(),
         width,
@@ -381,7 +382,6 @@ fn evaluate<F: TwoAdicField>(
         piece,
         products,
     );
-    reverse_rows(mat);
 }
 
 // From values on the subgroup, the coefficients times the height, in place: rows in natural order

@@ -1,5 +1,5 @@
--- Transforms and inverses where the rows are reversed once: after a network from natural order, or before one to natural order.
-use Rattle.std.proofs.Common.{◌≡◌, ℕ, ◌+◌, ◌*◌, ◌<◌, ◌≤◌, ◌^◌, ◌++◌, List, length, get_or, take, refl, sym, ap, ap₂, ◌∙◌, arith}
+-- Inverses and extensions where the rows are reversed once or not at all: before a network to natural order.
+use Rattle.std.proofs.Common.{◌≡◌, ℕ, ◌+◌, ◌*◌, ◌<◌, ◌≤◌, ◌^◌, ◌++◌, List, length, get_or, take, sym, ap, ap₂, ◌∙◌, arith}
 use Rattle.p3_field.specs.Ring.{Ring, AreRoots, count, power}
 use Rattle.p3_field.specs.declared.fields.Field.{Ghosts as FieldMembers}
 use Rattle.p3_field.proofs.Powers.{count-power_of_two}
@@ -10,10 +10,9 @@ use Rattle.p3_matrix.specs.RowMajor.{RowMajor, HasShapeOf, IsRowMajor, height}
 use Rattle.p3_matrix.proofs.BitReversal.{rev-lt, rev-rev}
 use Rattle.p3_networks.specs.Cosets.{AreCoefficients, IsValues, coset_shift}
 use Rattle.p3_networks.specs.Polynomials.{poly}
-use Rattle.p3_dft.specs.Transforms.{IsInterpolation, IsTransform, values_of}
-use Rattle.p3_networks.specs.Layers.{AreValuesOfRows}
+use Rattle.p3_dft.specs.Transforms.{IsInterpolation, values_of}
 use Rattle.p3_dft.proofs.BitReversed.Coefficients.{interpolation_of_coefficients}
-use Rattle.p3_dft.proofs.Calls.Transforms.{height_of_parts, transform_of_entries}
+use Rattle.p3_dft.proofs.Calls.Transforms.{height_of_parts}
 use Rattle.p3_networks.proofs.Polynomials.ByIndex.{poly_same, poly-times}
 use Rattle.p3_networks.proofs.Polynomials.Cosets.{is_subgroup_values}
 use Rattle.p3_networks.proofs.Polynomials.Interpolation.{inverse_transform, transform_is}
@@ -39,30 +38,6 @@ module _ {A : Type 0} (R : Ring A) {g : ℕ → A} {bits : ℕ} (G : AreRoots R 
       ∙ sym (transform_is R (inverse_root R g) k f i))
 
 module _ {F : Type 0} (f : FieldMembers F) (generator : ℕ → F) where
-  -- a network made the values of the entries of m in bit reversed order, which were written over r, and its rows were reversed
-  pub transform_then_reversed : (m r out : RowMajor F) (before after rest : List F) (log w : ℕ) → IsRowMajor m → height m ≡ 2 ^ log → before ≡ m.values → w ≡ m.width
-      → length after ≡ length before → r.width ≡ m.width → r.values ≡ take (length m.values) (after ++ rest)
-      → HasShapeOf out r → ((k : ℕ) → height r ≡ 2 ^ k → (d : F) → Same (matrix d out) (bit_reversal k (matrix d r)))
-      → AreValuesOfRows f w (2 ^ log) (λ q. q) (λ i. power f.ring (f.value (generator log)) (rev log i)) before after
-      → IsTransform f generator m f.ring.one out
-  transform_then_reversed m r out before after rest log w whole high before_is w_is size r_width r_values shape reversed entries =
-      let len : length after ≡ length m.values = size ∙ ap length before_is in
-      let values_is : r.values ≡ after = r_values ∙ written (length m.values) after rest len in
-      let full : length after ≡ 2 ^ log * m.width = len ∙ sym whole.full ∙ ap (λ n. n * m.width) high in
-      let tall : height r ≡ 2 ^ log = height_of_parts r after m.width (2 ^ log) whole.wide full r_width values_is in
-      let back = reversed log tall f.ZERO in
-      let width : out.width ≡ m.width = shape.1 ∙ r_width in
-      transform_of_entries f generator m out log (f.value (generator log)) high refl (back.high ∙ tall ∙ sym high) width
-      (λ i j below inside.
-      let small : i < 2 ^ log = omega (arith, below, high) in
-      let x = f.value (generator log) in
-      ap (λ v. f.value (get_or out.values (i * v + j) f.ZERO)) (sym width)
-      ∙ ap f.value (back.alike i j (omega (arith, small, back.high, tall)) (omega (arith, inside, width)))
-      ∙ ap₂ (λ (xs : List F) (v : ℕ). f.value (get_or xs (rev log i * v + j) f.ZERO)) values_is (r_width ∙ sym w_is)
-      ∙ entries (rev log i) j (rev-lt log i) (omega (arith, inside, w_is))
-      ∙ ap₂ (λ (xs : List F) (v : ℕ). poly f.ring (2 ^ log) (λ q. f.value (get_or xs (q * v + j) f.ZERO)) (power f.ring x (rev log (rev log i)))) before_is w_is
-      ∙ ap₂ (λ n e. poly f.ring n (λ q. f.value (get_or m.values (q * m.width + j) f.ZERO)) (power f.ring x e)) (sym high) (rev-rev log i small))
-
   -- a network made coefficients of the entries of r, which are those of m in bit reversed order, each times the inverse of the height
   pub interpolation_of_reversed : {bits : ℕ} → AreRoots f.ring bits (λ n. f.value (generator n)) → (m r out : RowMajor F) (before after rest : List F) (log w : ℕ) (inverse : f.Element) → log ≤ bits
       → IsRowMajor m → height m ≡ 2 ^ log → HasShapeOf r m → length r.values ≡ length m.values → ((k : ℕ) → height m ≡ 2 ^ k → (d : F) → Same (matrix d r) (bit_reversal k (matrix d m)))

@@ -117,6 +117,10 @@ twiddles_enough top e number b len below enough inside =
 pub layer_more : (done size before now after : ℕ) → 2 * now ≤ 2 * before + done * size → 2 * after ≤ 2 * now + 1 * size → 2 * after ≤ 2 * before + (done + 1) * size
 layer_more done size before now after so_far layer = let next : (done + 1) * size ≡ done * size + size = omega arith in omega (arith, so_far, layer, next)
 
+-- the same of layers that make so many products for each two of the cells
+pub costly_layer_more : (cost done size before now after : ℕ) → 2 * now ≤ 2 * before + cost * (done * size) → 2 * after ≤ 2 * now + cost * size → 2 * after ≤ 2 * before + cost * ((done + 1) * size)
+costly_layer_more cost done size before now after so_far layer = let next : cost * ((done + 1) * size) ≡ cost * (done * size) + cost * size = omega arith in omega (arith, so_far, layer, next)
+
 -- what a run holds, told by another name of its length
 pub held_as_long : {A T : Type 0} (value : T → A) (d : T) (cells : ℕ → A) (number : ℕ) {a b : ℕ} (xs : List T) → a ≡ b → HoldsCells value d (number * a) cells xs → HoldsCells value d (number * b) cells xs
 held_as_long value d cells number xs same holds = subst (λ (n : ℕ). HoldsCells value d (number * n) cells xs) same holds

@@ -45,7 +45,7 @@ pub enum Order {
 
 impl Order {
     // The entry whose layer comes when `done` layers are done of those from `from` up to `to`.
-    fn entry(self, from: usize, to: usize, done: usize) -> usize
+    pub(crate) fn entry(self, from: usize, to: usize, done: usize) -> usize
         requires { done < to - from }
         ensures entry { result ≡ entry_of self from to done }
         ensures first { from ≤ result }

@@ -5,10 +5,12 @@
 //! the first row on. One twiddle is for a whole block, so that a layer is one of cells: contracts say
 //! which cells a run holds before and after, for any layers that follow one another.
 
-ghost use Rattle.std.specs.Prelude.{◌≡◌, ℕ, ◌+◌, ◌-◌, ◌*◌, ◌/◌, ◌^◌, ◌<◌, ◌≤◌, length, get_or};
+ghost use Rattle.std.specs.Prelude.{◌≡◌, ℕ, ◌+◌, ◌-◌, ◌*◌, ◌/◌, ◌^◌, ◌<◌, ◌≤◌, List, length, get_or};
 ghost use Rattle.p3_field.specs.Ring.{AreRoots, power};
 ghost use Rattle.p3_matrix.specs.BitOrder.{rev};
-ghost use Rattle.p3_matrix.specs.Butterflies.{dif_far, dif_near, dit_far, dit_near};
+ghost use Rattle.p3_matrix.specs.Butterflies.{dif_far, dif_near};
+ghost use Rattle.p3_networks.specs.Groups.{AreLayersInOrder, cells_of};
+ghost use Rattle.p3_networks.specs.declared.radix_2_small_batch.groups.Order.{Order};
 ghost use Rattle.p3_networks.specs.Layers.{AreLayers, HoldsCells, AreValuesOfRows};
 ghost use Rattle.p3_networks.specs.Polynomials.{poly};
 ghost use Rattle.p3_networks.specs.Twiddles.{AreTwiddlesFromStart, backward_root, block_powers, forward_root};
@@ -16,13 +18,85 @@ ghost use Rattle.p3_networks.specs.Twiddles.{AreTwiddlesFromStart, backward_root
 use crate::butterfly_layers::rules::{DifByBlock, DitByBlock};
 use crate::butterfly_layers::{Rule, layer};
 use crate::radix_2_small_batch::groups::{Order, layers_in_groups};
-use crate::radix_2_small_batch::pairs::dit_on_pairs;
+use crate::radix_2_small_batch::pairs::{DifPair, DitPair, on_pairs};
 use p3_field::{Products, TwoAdicField};
 use p3_matrix::scale_slice_in_place;
 
-// The layer of one entry, on run `number`. The rule goes by the number of a block alone.
+/// A rule by blocks alone, with the order of the layers of its networks.
+pub(crate) trait NetworkRule<F: TwoAdicField>: Rule<F> {
+    // Which of its layers come first.
+    ghost order: { Order };
+
+    /// Which of its layers come first.
+    fn order(self) -> Order
+        ensures { result ≡ order };
+
+    /// The layer of the smallest blocks, on 64 rows of one column: the blocks are `first` and those after it.
+    fn meet_pairs(self, first: usize, values: &mut [F], products: &mut Products)
+        requires there { (b : ℕ) → b < 32 → Self.has self (first + b) 0 }
+        requires size { length values.old ≡ 64 }
+        ensures near { let cell = λ (xs : List F) (n : ℕ). F.value (get_or xs n F.ZERO) in
+            (b : ℕ) → b < 32 → cell values.new (2 * b)
+            ≡ Self.near F.Element F.ring F.value self (first + b) 0 (cell values.old (2 * b)) (cell values.old (2 * b + 1)) }
+        ensures far { let cell = λ (xs : List F) (n : ℕ). F.value (get_or xs n F.ZERO) in
+            (b : ℕ) → b < 32 → cell values.new (2 * b + 1)
+            ≡ Self.far F.Element F.ring F.value self (first + b) 0 (cell values.old (2 * b)) (cell values.old (2 * b + 1)) }
+        ensures grows { products.old ≤ products.new }
+        ensures count { products.new ≤ products.old + Self.cost * 32 };
+
+    // The place of a pair in its block makes no difference.
+    ghost near_law: { (r : Self) (b t : ℕ) (p q : F.Element) → Self.near F.Element F.ring F.value r b t p q
+        ≡ Self.near F.Element F.ring F.value r b 0 p q };
+
+    ghost far_law: { (r : Self) (b t : ℕ) (p q : F.Element) → Self.far F.Element F.ring F.value r b t p q
+        ≡ Self.far F.Element F.ring F.value r b 0 p q };
+}
+
+impl<F: TwoAdicField> NetworkRule<F> for DitByBlock<'_, F> {
+    ghost use Rattle.std.specs.Prelude.{refl};
+    ghost use Rattle.p3_networks.specs.declared.radix_2_small_batch.groups.Order.TheVariants.{LargestFirst};
+
+    ghost order = { LargestFirst };
+
+    #[inline(always)]
+    fn order(self) -> Order {
+        Order::LargestFirst
+    }
+
+    #[inline(always)]
+    fn meet_pairs(self, first: usize, values: &mut [F], products: &mut Products) {
+        on_pairs(DitPair, &self.twiddles[first..first + 32], values, products);
+    }
+
+    ghost near_law = { λ r b t p q. refl };
+
+    ghost far_law = { λ r b t p q. refl };
+}
+
+impl<F: TwoAdicField> NetworkRule<F> for DifByBlock<'_, F> {
+    ghost use Rattle.std.specs.Prelude.{refl};
+    ghost use Rattle.p3_networks.specs.declared.radix_2_small_batch.groups.Order.TheVariants.{SmallestFirst};
+
+    ghost order = { SmallestFirst };
+
+    #[inline(always)]
+    fn order(self) -> Order {
+        Order::SmallestFirst
+    }
+
+    #[inline(always)]
+    fn meet_pairs(self, first: usize, values: &mut [F], products: &mut Products) {
+        on_pairs(DifPair, &self.twiddles[first..first + 32], values, products);
+    }
+
+    ghost near_law = { λ r b t p q. refl };
+
+    ghost far_law = { λ r b t p q. refl };
+}
+
+// The layer of one entry, on run `number`.
 #[inline(always)]
-fn layer_of_run<F: TwoAdicField, R: Rule<F>>(
+fn layer_of_run<F: TwoAdicField, R: NetworkRule<F>>(
     rule: R,
     values: &mut [F],
     width: usize,
@@ -35,11 +109,7 @@ fn layer_of_run<F: TwoAdicField, R: Rule<F>>(
     requires below { entry < top }
     requires small { (number + 1) * 2 ^ top < 2 ^ 64 }
     requires size { length values.old ≡ 2 ^ top * width }
-    requires there { (b t : ℕ) → b < (number + 1) * 2 ^ (top - 1 - entry) → R.has rule b t }
-    requires near_by_block { (b t : ℕ) (p q : F.Element) → R.near F.Element F.ring F.value rule b t p q
-        ≡ R.near F.Element F.ring F.value rule b 0 p q }
-    requires far_by_block { (b t : ℕ) (p q : F.Element) → R.far F.Element F.ring F.value rule b t p q
-        ≡ R.far F.Element F.ring F.value rule b 0 p q }
+    requires there { (b t : ℕ) → 2 * b < (number + 1) * 2 ^ top → R.has rule b t }
     ensures cells { (k : ℕ) (before after : ℕ → ℕ → F.Element)
         → AreLayers k width (λ b. R.near F.Element F.ring F.value rule b 0) (λ b. R.far F.Element F.ring F.value rule b 0) before after
         → (number + 1) * 2 ^ top ≤ 2 ^ k → HoldsCells F.value F.ZERO (number * length values.old) (before entry) values.old
@@ -54,9 +124,30 @@ fn layer_of_run<F: TwoAdicField, R: Rule<F>>(
     layer(rule, values, 1, half, number * blocks, blocks, products);
 }
 
-// By decimation in time, the layers of the entries below `to` down to `from`, on run `number`.
-fn dit_layers<F: TwoAdicField>(
-    twiddles: &[F],
+// The layer of the smallest blocks, on run `number` of 64 rows of one column.
+#[inline(always)]
+fn layer_of_pairs<F: TwoAdicField, R: NetworkRule<F>>(
+    rule: R,
+    values: &mut [F],
+    number: usize,
+    products: &mut Products,
+)
+    requires small { (number + 1) * 2 ^ 6 < 2 ^ 64 }
+    requires size { length values.old ≡ 2 ^ 6 * 1 }
+    requires there { (b t : ℕ) → 2 * b < (number + 1) * 2 ^ 6 → R.has rule b t }
+    ensures cells { (k : ℕ) (before after : ℕ → ℕ → F.Element)
+        → AreLayers k 1 (λ b. R.near F.Element F.ring F.value rule b 0) (λ b. R.far F.Element F.ring F.value rule b 0) before after
+        → (number + 1) * 2 ^ 6 ≤ 2 ^ k → HoldsCells F.value F.ZERO (number * length values.old) (before 0) values.old
+        → HoldsCells F.value F.ZERO (number * length values.old) (after 0) values.new }
+    ensures grows { products.old ≤ products.new }
+    ensures count { 2 * products.new ≤ 2 * products.old + R.cost * length values.old }
+{
+    rule.meet_pairs(number * 32, values, products);
+}
+
+// The layers of the entries from `from` up to `to` in the rule's order, on run `number`.
+fn layers_of_run<F: TwoAdicField, R: NetworkRule<F>>(
+    rule: R,
     values: &mut [F],
     width: usize,
     from: usize,
@@ -70,75 +161,27 @@ fn dit_layers<F: TwoAdicField>(
     requires below { to ≤ top }
     requires small { (number + 1) * 2 ^ top < 2 ^ 64 }
     requires size { length values.old ≡ 2 ^ top * width }
-    requires first { F.value (get_or twiddles.now 0 F.ZERO) ≡ F.ring.one }
-    requires enough { (number + 1) * 2 ^ top ≤ 2 * length twiddles.now }
+    requires there { (b t : ℕ) → 2 * b < (number + 1) * 2 ^ top → R.has rule b t }
     ensures cells { (k : ℕ) (cells : ℕ → ℕ → F.Element)
-        → AreLayers k width (λ b. dit_near F.ring (F.value (get_or twiddles.now b F.ZERO)))
-        (λ b. dit_far F.ring (F.value (get_or twiddles.now b F.ZERO)))
-        (λ e. cells (e + 1)) cells
-        → (number + 1) * 2 ^ top ≤ 2 ^ k → HoldsCells F.value F.ZERO (number * length values.old) (cells to) values.old
-        → HoldsCells F.value F.ZERO (number * length values.old) (cells from) values.new }
+        → AreLayersInOrder R.order k width (λ b. R.near F.Element F.ring F.value rule b 0)
+        (λ b. R.far F.Element F.ring F.value rule b 0) cells
+        → (number + 1) * 2 ^ top ≤ 2 ^ k
+        → HoldsCells F.value F.ZERO (number * length values.old) (cells (cells_of R.order from to 0)) values.old
+        → HoldsCells F.value F.ZERO (number * length values.old) (cells (cells_of R.order from to (to - from))) values.new }
     ensures grows { products.old ≤ products.new }
-    ensures count { 2 * products.new ≤ 2 * products.old + (to - from) * length values.old }
+    ensures count { 2 * products.new ≤ 2 * products.old + R.cost * ((to - from) * length values.old) }
 {
+    let order = rule.order();
     for done in 0..to - from {
-        let entry = to - 1 - done;
-        layer_of_run(
-            DitByBlock { twiddles },
-            values,
-            width,
-            entry,
-            top,
-            number,
-            products,
-        );
+        let entry = order.entry(from, to, done);
+        layer_of_run(rule, values, width, entry, top, number, products);
     }
 }
 
-// By decimation in frequency, the layers of the entries from `from` up to `to`, on run `number`.
-fn dif_layers<F: TwoAdicField>(
-    twiddles: &[F],
-    values: &mut [F],
-    width: usize,
-    from: usize,
-    to: usize,
-    top: usize,
-    number: usize,
-    products: &mut Products,
-)
-    requires wide { 1 ≤ width }
-    requires order { from ≤ to }
-    requires below { to ≤ top }
-    requires small { (number + 1) * 2 ^ top < 2 ^ 64 }
-    requires size { length values.old ≡ 2 ^ top * width }
-    requires first { F.value (get_or twiddles.now 0 F.ZERO) ≡ F.ring.one }
-    requires enough { (number + 1) * 2 ^ top ≤ 2 * length twiddles.now }
-    ensures cells { (k : ℕ) (cells : ℕ → ℕ → F.Element)
-        → AreLayers k width (λ b. dif_near F.ring (F.value (get_or twiddles.now b F.ZERO)))
-        (λ b. dif_far F.ring (F.value (get_or twiddles.now b F.ZERO)))
-        cells (λ e. cells (e + 1))
-        → (number + 1) * 2 ^ top ≤ 2 ^ k → HoldsCells F.value F.ZERO (number * length values.old) (cells from) values.old
-        → HoldsCells F.value F.ZERO (number * length values.old) (cells to) values.new }
-    ensures grows { products.old ≤ products.new }
-    ensures count { 2 * products.new ≤ 2 * products.old + (to - from) * length values.old }
-{
-    for entry in from..to {
-        layer_of_run(
-            DifByBlock { twiddles },
-            values,
-            width,
-            entry,
-            top,
-            number,
-            products,
-        );
-    }
-}
-
-// By decimation in time, the layers of the entries below `log_rows`, tile after tile: a tile has
-// `2^log_rows` rows, which these layers do not leave.
-fn dit_tiles<F: TwoAdicField>(
-    twiddles: &[F],
+// The layers of the entries below `log_rows`, tile after tile: a tile has `2^log_rows` rows, which these
+// layers do not leave.
+fn layers_of_tiles<F: TwoAdicField, R: NetworkRule<F>>(
+    rule: R,
     values: &mut [F],
     width: usize,
     log_rows: usize,
@@ -149,29 +192,28 @@ fn dit_tiles<F: TwoAdicField>(
     requires below { log_rows ≤ log_h }
     requires small { log_h < 64 }
     requires size { length values.old ≡ 2 ^ log_h * width }
-    requires first { F.value (get_or twiddles.now 0 F.ZERO) ≡ F.ring.one }
-    requires enough { 2 ^ log_h ≤ 2 * length twiddles.now }
+    requires there { (b t : ℕ) → 2 * b < 2 ^ log_h → R.has rule b t }
     ensures cells { (cells : ℕ → ℕ → F.Element)
-        → AreLayers log_h width (λ b. dit_near F.ring (F.value (get_or twiddles.now b F.ZERO)))
-        (λ b. dit_far F.ring (F.value (get_or twiddles.now b F.ZERO)))
-        (λ e. cells (e + 1)) cells
-        → HoldsCells F.value F.ZERO 0 (cells log_rows) values.old → HoldsCells F.value F.ZERO 0 (cells 0) values.new }
+        → AreLayersInOrder R.order log_h width (λ b. R.near F.Element F.ring F.value rule b 0)
+        (λ b. R.far F.Element F.ring F.value rule b 0) cells
+        → HoldsCells F.value F.ZERO 0 (cells (cells_of R.order 0 log_rows 0)) values.old
+        → HoldsCells F.value F.ZERO 0 (cells (cells_of R.order 0 log_rows log_rows)) values.new }
     ensures grows { products.old ≤ products.new }
-    ensures count { 2 * products.new ≤ 2 * products.old + log_rows * length values.old }
+    ensures count { 2 * products.new ≤ 2 * products.old + R.cost * (log_rows * length values.old) }
 {
     let tiles = 1usize << (log_h - log_rows);
     let size = values.len() / tiles;
     for tile in 0..tiles {
         let start = tile * size;
         let rows = &mut values[start..start + size];
-        dit_tile(twiddles, rows, width, log_rows, tile, products);
+        layers_of_tile(rule, rows, width, log_rows, tile, products);
     }
 }
 
 // The same of one tile, run `number` of `2^top` rows. In one column the layers of the six smallest blocks
 // are done together, on one run of 64 rows after another. That the width is one is known in its loops.
-fn dit_tile<F: TwoAdicField>(
-    twiddles: &[F],
+fn layers_of_tile<F: TwoAdicField, R: NetworkRule<F>>(
+    rule: R,
     values: &mut [F],
     width: usize,
     top: usize,
@@ -181,30 +223,36 @@ fn dit_tile<F: TwoAdicField>(
     requires wide { 1 ≤ width }
     requires small { (number + 1) * 2 ^ top < 2 ^ 64 }
     requires size { length values.old ≡ 2 ^ top * width }
-    requires first { F.value (get_or twiddles.now 0 F.ZERO) ≡ F.ring.one }
-    requires enough { (number + 1) * 2 ^ top ≤ 2 * length twiddles.now }
+    requires there { (b t : ℕ) → 2 * b < (number + 1) * 2 ^ top → R.has rule b t }
     ensures cells { (k : ℕ) (cells : ℕ → ℕ → F.Element)
-        → AreLayers k width (λ b. dit_near F.ring (F.value (get_or twiddles.now b F.ZERO)))
-        (λ b. dit_far F.ring (F.value (get_or twiddles.now b F.ZERO)))
-        (λ e. cells (e + 1)) cells
-        → (number + 1) * 2 ^ top ≤ 2 ^ k → HoldsCells F.value F.ZERO (number * length values.old) (cells top) values.old
-        → HoldsCells F.value F.ZERO (number * length values.old) (cells 0) values.new }
+        → AreLayersInOrder R.order k width (λ b. R.near F.Element F.ring F.value rule b 0)
+        (λ b. R.far F.Element F.ring F.value rule b 0) cells
+        → (number + 1) * 2 ^ top ≤ 2 ^ k
+        → HoldsCells F.value F.ZERO (number * length values.old) (cells (cells_of R.order 0 top 0)) values.old
+        → HoldsCells F.value F.ZERO (number * length values.old) (cells (cells_of R.order 0 top top)) values.new }
     ensures grows { products.old ≤ products.new }
-    ensures count { 2 * products.new ≤ 2 * products.old + top * length values.old }
+    ensures count { 2 * products.new ≤ 2 * products.old + R.cost * (top * length values.old) }
 {
     if width == 1 && top >= 6 {
-        dit_layers(twiddles, values, 1, 6, top, top, number, products);
-        dit_short_runs(twiddles, values, top, number, products);
+        match rule.order() {
+            Order::LargestFirst => {
+                layers_of_run(rule, values, 1, 6, top, top, number, products);
+                layers_of_short_runs(rule, values, top, number, products);
+            }
+            Order::SmallestFirst => {
+                layers_of_short_runs(rule, values, top, number, products);
+                layers_of_run(rule, values, 1, 6, top, top, number, products);
+            }
+        }
     } else {
-        dit_layers(twiddles, values, width, 0, top, top, number, products);
+        layers_of_run(rule, values, width, 0, top, top, number, products);
     }
 }
 
-// By decimation in time, the layers of the entries below six, on run `number` of `2^top` rows of one
-// column: one run of 64 rows after another, which six layers do not leave, and whose smallest blocks have
-// 32 twiddles.
-fn dit_short_runs<F: TwoAdicField>(
-    twiddles: &[F],
+// The layers of the entries below six, on run `number` of `2^top` rows of one column: one run of 64 rows
+// after another, which six layers do not leave, and whose smallest blocks have 32 twiddles.
+fn layers_of_short_runs<F: TwoAdicField, R: NetworkRule<F>>(
+    rule: R,
     values: &mut [F],
     top: usize,
     number: usize,
@@ -213,74 +261,62 @@ fn dit_short_runs<F: TwoAdicField>(
     requires tall { 6 ≤ top }
     requires small { (number + 1) * 2 ^ top < 2 ^ 64 }
     requires size { length values.old ≡ 2 ^ top * 1 }
-    requires first { F.value (get_or twiddles.now 0 F.ZERO) ≡ F.ring.one }
-    requires enough { (number + 1) * 2 ^ top ≤ 2 * length twiddles.now }
+    requires there { (b t : ℕ) → 2 * b < (number + 1) * 2 ^ top → R.has rule b t }
     ensures cells { (k : ℕ) (cells : ℕ → ℕ → F.Element)
-        → AreLayers k 1 (λ b. dit_near F.ring (F.value (get_or twiddles.now b F.ZERO)))
-        (λ b. dit_far F.ring (F.value (get_or twiddles.now b F.ZERO)))
-        (λ e. cells (e + 1)) cells
-        → (number + 1) * 2 ^ top ≤ 2 ^ k → HoldsCells F.value F.ZERO (number * length values.old) (cells 6) values.old
-        → HoldsCells F.value F.ZERO (number * length values.old) (cells 0) values.new }
+        → AreLayersInOrder R.order k 1 (λ b. R.near F.Element F.ring F.value rule b 0)
+        (λ b. R.far F.Element F.ring F.value rule b 0) cells
+        → (number + 1) * 2 ^ top ≤ 2 ^ k
+        → HoldsCells F.value F.ZERO (number * length values.old) (cells (cells_of R.order 0 6 0)) values.old
+        → HoldsCells F.value F.ZERO (number * length values.old) (cells (cells_of R.order 0 6 6)) values.new }
     ensures grows { products.old ≤ products.new }
-    ensures count { 2 * products.new ≤ 2 * products.old + 6 * length values.old }
+    ensures count { 2 * products.new ≤ 2 * products.old + R.cost * (6 * length values.old) }
 {
     let runs = 1usize << (top - 6);
     let size = values.len() / runs;
     for run in 0..runs {
         let start = run * size;
         let rows = &mut values[start..start + size];
-        dit_short_run(twiddles, rows, number * runs + run, products);
+        layers_of_short_run(rule, rows, number * runs + run, products);
     }
 }
 
 // The same on run `number` of 64 rows. The entries are named, so that the loops of each layer are of known size.
-fn dit_short_run<F: TwoAdicField>(
-    twiddles: &[F],
+fn layers_of_short_run<F: TwoAdicField, R: NetworkRule<F>>(
+    rule: R,
     values: &mut [F],
     number: usize,
     products: &mut Products,
 )
     requires small { (number + 1) * 2 ^ 6 < 2 ^ 64 }
     requires size { length values.old ≡ 2 ^ 6 * 1 }
-    requires first { F.value (get_or twiddles.now 0 F.ZERO) ≡ F.ring.one }
-    requires enough { (number + 1) * 2 ^ 6 ≤ 2 * length twiddles.now }
+    requires there { (b t : ℕ) → 2 * b < (number + 1) * 2 ^ 6 → R.has rule b t }
     ensures cells { (k : ℕ) (cells : ℕ → ℕ → F.Element)
-        → AreLayers k 1 (λ b. dit_near F.ring (F.value (get_or twiddles.now b F.ZERO)))
-        (λ b. dit_far F.ring (F.value (get_or twiddles.now b F.ZERO)))
-        (λ e. cells (e + 1)) cells
-        → (number + 1) * 2 ^ 6 ≤ 2 ^ k → HoldsCells F.value F.ZERO (number * length values.old) (cells 6) values.old
-        → HoldsCells F.value F.ZERO (number * length values.old) (cells 0) values.new }
+        → AreLayersInOrder R.order k 1 (λ b. R.near F.Element F.ring F.value rule b 0)
+        (λ b. R.far F.Element F.ring F.value rule b 0) cells
+        → (number + 1) * 2 ^ 6 ≤ 2 ^ k
+        → HoldsCells F.value F.ZERO (number * length values.old) (cells (cells_of R.order 0 6 0)) values.old
+        → HoldsCells F.value F.ZERO (number * length values.old) (cells (cells_of R.order 0 6 6)) values.new }
     ensures grows { products.old ≤ products.new }
-    ensures count { 2 * products.new ≤ 2 * products.old + 6 * length values.old }
+    ensures count { 2 * products.new ≤ 2 * products.old + R.cost * (6 * length values.old) }
 {
-    let rule = DitByBlock { twiddles };
-    layer_of_run(rule, values, 1, 5, 6, number, products);
-    layer_of_run(rule, values, 1, 4, 6, number, products);
-    layer_of_run(rule, values, 1, 3, 6, number, products);
-    layer_of_run(rule, values, 1, 2, 6, number, products);
-    layer_of_run(rule, values, 1, 1, 6, number, products);
-    dit_on_blocks_of_two(twiddles, values, number, products);
-}
-
-// The layer of the smallest blocks, on run `number` of 64 rows of one column.
-fn dit_on_blocks_of_two<F: TwoAdicField>(
-    twiddles: &[F],
-    values: &mut [F],
-    number: usize,
-    products: &mut Products,
-)
-    requires size { length values.old ≡ 2 ^ 6 * 1 }
-    requires enough { (number + 1) * 2 ^ 6 ≤ 2 * length twiddles.now }
-    ensures cells { (k : ℕ) (before after : ℕ → ℕ → F.Element)
-        → AreLayers k 1 (λ b. dit_near F.ring (F.value (get_or twiddles.now b F.ZERO)))
-        (λ b. dit_far F.ring (F.value (get_or twiddles.now b F.ZERO))) before after
-        → (number + 1) * 2 ^ 6 ≤ 2 ^ k → HoldsCells F.value F.ZERO (number * length values.old) (before 0) values.old
-        → HoldsCells F.value F.ZERO (number * length values.old) (after 0) values.new }
-    ensures grows { products.old ≤ products.new }
-    ensures count { 2 * products.new ≤ 2 * products.old + length values.old }
-{
-    let first = number * 32;
-    dit_on_pairs(&twiddles[first..first + 32], values, products);
+    match rule.order() {
+        Order::LargestFirst => {
+            layer_of_run(rule, values, 1, 5, 6, number, products);
+            layer_of_run(rule, values, 1, 4, 6, number, products);
+            layer_of_run(rule, values, 1, 3, 6, number, products);
+            layer_of_run(rule, values, 1, 2, 6, number, products);
+            layer_of_run(rule, values, 1, 1, 6, number, products);
+            layer_of_pairs(rule, values, number, products);
+        }
+        Order::SmallestFirst => {
+            layer_of_pairs(rule, values, number, products);
+            layer_of_run(rule, values, 1, 1, 6, number, products);
+            layer_of_run(rule, values, 1, 2, 6, number, products);
+            layer_of_run(rule, values, 1, 3, 6, number, products);
+            layer_of_run(rule, values, 1, 4, 6, number, products);
+            layer_of_run(rule, values, 1, 5, 6, number, products);
+        }
+    }
 }
 
 // By decimation in frequency, the layers of the entries below `log_rows`, tile after tile, on the
@@ -315,7 +351,14 @@ fn scaled_dif_tiles<F: TwoAdicField>(
         let start = tile * size;
         let rows = &mut values[start..start + size];
         scale_slice_in_place(rows, scale, products);
-        dif_layers(twiddles, rows, width, 0, log_rows, log_rows, tile, products);
+        layers_of_tile(
+            DifByBlock { twiddles },
+            rows,
+            width,
+            log_rows,
+            tile,
+            products,
+        );
     }
 }
 
@@ -354,7 +397,59 @@ pub fn dit_network<F: TwoAdicField>(
         piece,
         products,
     );
-    dit_tiles(twiddles, values, width, log_rows, log_h, products);
+    layers_of_tiles(
+        DitByBlock { twiddles },
+        values,
+        width,
+        log_rows,
+        log_h,
+        products,
+    );
+}
+
+/// From rows in bit reversed order to their values, in natural order: the layers whose blocks fit into a
+/// tile tile by tile, then the others on the whole, in groups. With the powers of other roots they are
+/// the values at those. A piece has `piece` entries of each part of a block.
+pub fn dif_network<F: TwoAdicField>(
+    twiddles: &[F],
+    values: &mut [F],
+    width: usize,
+    log_rows: usize,
+    log_h: usize,
+    piece: usize,
+    products: &mut Products,
+)
+    requires wide { 1 ≤ width }
+    requires below { log_rows ≤ log_h }
+    requires small { log_h < 64 }
+    requires piece { 1 ≤ piece }
+    requires size { length values.old ≡ 2 ^ log_h * width }
+    requires first { F.value (get_or twiddles.now 0 F.ZERO) ≡ F.ring.one }
+    requires enough { 2 ^ log_h ≤ 2 * length twiddles.now }
+    ensures values { (bits : ℕ) (root : ℕ → F.Element) → AreRoots F.ring bits root → log_h ≤ bits
+        → AreTwiddlesFromStart F.Field.own log_h (block_powers F.Field.own root) twiddles.now
+        → AreValuesOfRows F.Field.own width (2 ^ log_h) (rev log_h) (power F.ring (root log_h)) values.old values.new }
+    ensures grows { products.old ≤ products.new }
+    ensures cost { products.new ≤ products.old + width * (log_h * 2 ^ log_h / 2) }
+{
+    layers_of_tiles(
+        DifByBlock { twiddles },
+        values,
+        width,
+        log_rows,
+        log_h,
+        products,
+    );
+    layers_in_groups(
+        DifByBlock { twiddles },
+        Order::SmallestFirst,
+        values,
+        width,
+        log_rows,
+        log_h,
+        piece,
+        products,
+    );
 }
 
 /// From rows in bit reversed order, each entry times `scale`, to their values at the powers of the
@@ -516,8 +611,15 @@ fn spread_tiles<F: TwoAdicField>(
             count,
             products,
         );
-        dif_layers(
-            twiddles, out, width, added_bits, log_rows, log_rows, tile, products,
+        layers_of_run(
+            DifByBlock { twiddles },
+            out,
+            width,
+            added_bits,
+            log_rows,
+            log_rows,
+            tile,
+            products,
         );
     }
 }

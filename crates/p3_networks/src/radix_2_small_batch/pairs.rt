@@ -2,13 +2,88 @@
 //! into one packed value, the second ones into another.
 
 ghost use Rattle.std.specs.Prelude.{◌≡◌, ℕ, ◌+◌, ◌*◌, ◌<◌, ◌≤◌, List, length, get_or};
-ghost use Rattle.p3_matrix.specs.Butterflies.{dit_near, dit_far};
+ghost use Rattle.p3_field.specs.Ring.{Ring};
 
 use p3_field::{PackedField, PackedPairs, Products, TwoAdicField};
 use p3_matrix::packs::full_packs;
 
-/// Decimation in time on pairs of entries that lie one after another: those of pair i meet by twiddle i.
-pub(crate) fn dit_on_pairs<F: TwoAdicField>(
+/// What two entries that lie one after another become by their twiddle, for a whole pack of them.
+pub(crate) trait PairButterfly<F: TwoAdicField>: Copy {
+    ghost near: { (A : Type 0) → Ring A → A → A → A → A };
+
+    ghost far: { (A : Type 0) → Ring A → A → A → A → A };
+
+    /// One pack of pairs, each with a twiddle of its own.
+    fn on_pack<P: PackedPairs<Scalar = F>>(
+        self,
+        twiddles: &[F],
+        values: &mut [F],
+        products: &mut Products,
+    )
+        requires twiddles { length twiddles.now ≡ P.WIDTH }
+        requires size { length values.old ≡ 2 * P.WIDTH }
+        ensures near { let cell = λ (xs : List F) (n : ℕ). F.value (get_or xs n F.ZERO) in
+            (i : ℕ) → i < P.WIDTH → cell values.new (2 * i)
+            ≡ near F.Element F.ring (cell twiddles.now i) (cell values.old (2 * i)) (cell values.old (2 * i + 1)) }
+        ensures far { let cell = λ (xs : List F) (n : ℕ). F.value (get_or xs n F.ZERO) in
+            (i : ℕ) → i < P.WIDTH → cell values.new (2 * i + 1)
+            ≡ far F.Element F.ring (cell twiddles.now i) (cell values.old (2 * i)) (cell values.old (2 * i + 1)) }
+        ensures count { products.new ≡ products.old + P.WIDTH };
+}
+
+/// Decimation in time.
+#[derive(Clone, Copy)]
+pub(crate) struct DitPair;
+
+impl<F: TwoAdicField> PairButterfly<F> for DitPair {
+    ghost use Rattle.p3_matrix.specs.Butterflies.{dit_near, dit_far};
+
+    ghost near = { λ A ring. dit_near ring };
+
+    ghost far = { λ A ring. dit_far ring };
+
+    #[inline(always)]
+    fn on_pack<P: PackedPairs<Scalar = F>>(
+        self,
+        twiddles: &[F],
+        values: &mut [F],
+        products: &mut Products,
+    ) {
+        let (first, second) = P::load_pairs(values);
+        let multiples = second.multiplied(P::load(twiddles), products);
+        first
+            .add(multiples)
+            .store_pairs(first.sub(multiples), values);
+    }
+}
+
+/// Decimation in frequency.
+#[derive(Clone, Copy)]
+pub(crate) struct DifPair;
+
+impl<F: TwoAdicField> PairButterfly<F> for DifPair {
+    ghost use Rattle.p3_matrix.specs.Butterflies.{dif_near, dif_far};
+
+    ghost near = { λ A ring. dif_near ring };
+
+    ghost far = { λ A ring. dif_far ring };
+
+    #[inline(always)]
+    fn on_pack<P: PackedPairs<Scalar = F>>(
+        self,
+        twiddles: &[F],
+        values: &mut [F],
+        products: &mut Products,
+    ) {
+        let (first, second) = P::load_pairs(values);
+        let multiples = first.sub(second).multiplied(P::load(twiddles), products);
+        first.add(second).store_pairs(multiples, values);
+    }
+}
+
+/// A butterfly on pairs of entries that lie one after another: those of pair i meet by twiddle i.
+pub(crate) fn on_pairs<F: TwoAdicField, B: PairButterfly<F>>(
+    butterfly: B,
     twiddles: &[F],
     values: &mut [F],
     products: &mut Products,
@@ -16,21 +91,22 @@ pub(crate) fn dit_on_pairs<F: TwoAdicField>(
     requires { length values.old ≡ 2 * length twiddles.now }
     ensures near { let cell = λ (xs : List F) (n : ℕ). F.value (get_or xs n F.ZERO) in
         (i : ℕ) → i < length twiddles.now → cell values.new (2 * i)
-        ≡ dit_near F.ring (cell twiddles.now i) (cell values.old (2 * i)) (cell values.old (2 * i + 1)) }
+        ≡ B.near F.Element F.ring (cell twiddles.now i) (cell values.old (2 * i)) (cell values.old (2 * i + 1)) }
     ensures far { let cell = λ (xs : List F) (n : ℕ). F.value (get_or xs n F.ZERO) in
         (i : ℕ) → i < length twiddles.now → cell values.new (2 * i + 1)
-        ≡ dit_far F.ring (cell twiddles.now i) (cell values.old (2 * i)) (cell values.old (2 * i + 1)) }
+        ≡ B.far F.Element F.ring (cell twiddles.now i) (cell values.old (2 * i)) (cell values.old (2 * i + 1)) }
     ensures count { products.new ≡ products.old + length twiddles.now }
 {
     let full = full_packs(twiddles.len(), F::Packing::WIDTH);
     let (packed, others) = twiddles.split_at(full);
     let (packed_pairs, other_pairs) = values.split_at_mut(2 * full);
-    dit_on_packs::<F, F::Packing>(packed, packed_pairs, products);
-    dit_on_packs::<F, F>(others, other_pairs, products);
+    on_packs::<F, F::Packing, B>(butterfly, packed, packed_pairs, products);
+    on_packs::<F, F, B>(butterfly, others, other_pairs, products);
 }
 
 // The same, where the pairs are full packs.
-fn dit_on_packs<F: TwoAdicField, P: PackedPairs<Scalar = F>>(
+fn on_packs<F: TwoAdicField, P: PackedPairs<Scalar = F>, B: PairButterfly<F>>(
+    butterfly: B,
     twiddles: &[F],
     values: &mut [F],
     products: &mut Products,
@@ -40,10 +116,10 @@ fn dit_on_packs<F: TwoAdicField, P: PackedPairs<Scalar = F>>(
     requires size { length values.old ≡ 2 * length twiddles.now }
     ensures near { let cell = λ (xs : List F) (n : ℕ). F.value (get_or xs n F.ZERO) in
         (i : ℕ) → i < length twiddles.now → cell values.new (2 * i)
-        ≡ dit_near F.ring (cell twiddles.now i) (cell values.old (2 * i)) (cell values.old (2 * i + 1)) }
+        ≡ B.near F.Element F.ring (cell twiddles.now i) (cell values.old (2 * i)) (cell values.old (2 * i + 1)) }
     ensures far { let cell = λ (xs : List F) (n : ℕ). F.value (get_or xs n F.ZERO) in
         (i : ℕ) → i < length twiddles.now → cell values.new (2 * i + 1)
-        ≡ dit_far F.ring (cell twiddles.now i) (cell values.old (2 * i)) (cell values.old (2 * i + 1)) }
+        ≡ B.far F.Element F.ring (cell twiddles.now i) (cell values.old (2 * i)) (cell values.old (2 * i + 1)) }
     ensures count { products.new ≡ products.old + length twiddles.now }
 {
     let width = P::WIDTH;
@@ -51,34 +127,10 @@ fn dit_on_packs<F: TwoAdicField, P: PackedPairs<Scalar = F>>(
         let at = pack * width;
         let size = 2 * width;
         let start = pack * size;
-        dit_on_pack::<F, P>(
+        butterfly.on_pack::<P>(
             &twiddles[at..at + width],
             &mut values[start..start + size],
             products,
         );
     }
-}
-
-// One pack of pairs.
-#[inline(always)]
-fn dit_on_pack<F: TwoAdicField, P: PackedPairs<Scalar = F>>(
-    twiddles: &[F],
-    values: &mut [F],
-    products: &mut Products,
-)
-    requires twiddles { length twiddles.now ≡ P.WIDTH }
-    requires size { length values.old ≡ 2 * P.WIDTH }
-    ensures near { let cell = λ (xs : List F) (n : ℕ). F.value (get_or xs n F.ZERO) in
-        (i : ℕ) → i < P.WIDTH → cell values.new (2 * i)
-        ≡ dit_near F.ring (cell twiddles.now i) (cell values.old (2 * i)) (cell values.old (2 * i + 1)) }
-    ensures far { let cell = λ (xs : List F) (n : ℕ). F.value (get_or xs n F.ZERO) in
-        (i : ℕ) → i < P.WIDTH → cell values.new (2 * i + 1)
-        ≡ dit_far F.ring (cell twiddles.now i) (cell values.old (2 * i)) (cell values.old (2 * i + 1)) }
-    ensures count { products.new ≡ products.old + P.WIDTH }
-{
-    let (first, second) = P::load_pairs(values);
-    let multiples = second.multiplied(P::load(twiddles), products);
-    first
-        .add(multiples)
-        .store_pairs(first.sub(multiples), values);
 }

@@ -1,4 +1,4 @@
-use Rattle.std.proofs.Common.{◌≡◌, ◌-◌, ℕ, ◌+◌, ◌*◌, ◌^◌, ◌≤◌, length, get_or, refl, ◌∙◌, subst, arith}
+use Rattle.std.proofs.Common.{◌≡◌, ◌-◌, ℕ, ◌+◌, ◌*◌, ◌^◌, ◌≤◌, length, get_or, refl, ap, ◌∙◌, subst, arith}
 use Rattle.p3_networks.specs.Layers.{HoldsCells}
 use Rattle.p3_networks.proofs.Layers.Blocks.{row_below}
 use Rattle.p3_networks.proofs.Layers.Counts.{counted_twice, layers_joined}
@@ -7,6 +7,9 @@ use Rattle.p3_networks.proofs.radix_2_small_batch.networks.dit_network.Goals as 
 
 pub layers_in_groups-requires-clause-there : goal.layers_in_groups-requires-clause-there
 layers_in_groups-requires-clause-there g c b inside = (omega (arith, inside, c.requires.enough), c.requires.first)
+
+pub layers_of_tiles-requires-clause-there : goal.layers_of_tiles-requires-clause-there
+layers_of_tiles-requires-clause-there g c b t inside = (omega (arith, inside, c.requires.enough), c.requires.first)
 
 pub returns-clause-values : goal.returns-clause-values
 returns-clause-values g c bits root roots within twiddles r j below inside =
@@ -25,15 +28,19 @@ returns-clause-values g c bits root roots within twiddles r j below inside =
     let middle : HoldsCells field.value field.ZERO 0 (cells c.args.log_rows) c.layers_in_groups.new.values =
     subst (λ (e : ℕ). HoldsCells field.value field.ZERO 0 (cells e) c.layers_in_groups.new.values) left
     (c.layers_in_groups.ensures.cells cells layers (subst (λ (e : ℕ). HoldsCells field.value field.ZERO 0 (cells e) c.args.values.now) none start)) in
-    let done = c.dit_tiles.ensures.cells cells layers middle in
-    done (r * w + j) (omega (arith, row_below r j w (2 ^ k) below inside, c.requires.size, c.layers_in_groups.auto.values, c.dit_tiles.auto.values))
+    let none_1 : c.args.log_rows ≡ c.args.log_rows - 0 = omega arith in
+    let none_2 : c.args.log_rows - c.args.log_rows ≡ 0 = omega arith in
+    let done = subst (λ (e : ℕ). HoldsCells field.value field.ZERO 0 (cells e) c.layers_of_tiles.new.values) none_2
+    (c.layers_of_tiles.ensures.cells cells layers (subst (λ (e : ℕ). HoldsCells field.value field.ZERO 0 (cells e) c.layers_in_groups.new.values) none_1 middle)) in
+    done (r * w + j) (omega (arith, row_below r j w (2 ^ k) below inside, c.requires.size, c.layers_in_groups.auto.values, c.layers_of_tiles.auto.values))
     ∙ high_cells_end field.ring roots k w column entry r j inside
 
 pub returns-clause-cost : goal.returns-clause-cost
 returns-clause-cost g c =
     let len = length c.args.values.now in
     let first : 2 * c.layers_in_groups.new.products ≤ 2 * c.args.products.now + (c.args.log_h - c.args.log_rows) * len = omega (arith, c.layers_in_groups.ensures.count) in
-    let second : 2 * c.dit_tiles.new.products ≤ 2 * c.layers_in_groups.new.products + c.args.log_rows * len =
-    subst (λ (n : ℕ). 2 * c.dit_tiles.new.products ≤ 2 * c.layers_in_groups.new.products + c.args.log_rows * n) c.layers_in_groups.auto.values c.dit_tiles.ensures.count in
-    counted_twice c.args.log_h c.args.width len c.args.products.now c.dit_tiles.new.products c.requires.size
-    (layers_joined c.args.log_rows c.args.log_h len c.args.products.now c.layers_in_groups.new.products c.dit_tiles.new.products c.requires.below first second)
+    let second : 2 * c.layers_of_tiles.new.products ≤ 2 * c.layers_in_groups.new.products + c.args.log_rows * len =
+    let each = ap (λ n. c.args.log_rows * n) c.layers_in_groups.auto.values in
+    omega (arith, c.layers_of_tiles.ensures.count, each) in
+    counted_twice c.args.log_h c.args.width len c.args.products.now c.layers_of_tiles.new.products c.requires.size
+    (layers_joined c.args.log_rows c.args.log_h len c.args.products.now c.layers_in_groups.new.products c.layers_of_tiles.new.products c.requires.below first second)

@@ -1,5 +1,6 @@
 use Rattle.std.proofs.Common.{◌≡◌, ℕ, ◌+◌, ◌-◌, ◌*◌, ◌/◌, ◌%◌, ◌^◌, ◌≤◌, List, length, get_or, sym, ap, ap₂, ◌∙◌, subst, arith}
 use Rattle.std.proofs.Math.Nat.{mul-le-mul, mul-le-mul_right}
+use Rattle.p3_networks.proofs.Layers.Groups.{block_there}
 use Rattle.p3_networks.proofs.Layers.Runs.{run_sizes, run_taken}
 use Rattle.p3_networks.proofs.Layers.Sizes.{cells_by_halves}
 use Rattle.p3_networks.proofs.radix_2_small_batch.networks.layer_of_run.Goals as goal
@@ -41,7 +42,7 @@ layer-requires-clause-size g c =
 pub layer-requires-clause-there : goal.layer-requires-clause-there
 layer-requires-clause-there g c b t inside below =
     let sizes = run_sizes c.args.top c.args.entry c.args.number c.requires.below c.requires.small in
-    c.requires.there _ _ (omega (arith, inside, sizes.numbers))
+    c.requires.there _ _ (block_there c.args.top c.args.entry c.args.number _ c.requires.below (omega (arith, inside, sizes.numbers)))
 
 pub returns-clause-cells : goal.returns-clause-cells
 returns-clause-cells g c k before after layers room holds =
@@ -60,7 +61,7 @@ returns-clause-cells g c k before after layers room holds =
     run_taken field.value field.ZERO near far
     k c.args.width c.args.entry c.args.top c.args.number blocks half (λ i. i / 1) before after x y c.requires.below sizes.blocks_is sizes.half_is
     (c.requires.size ∙ cells_by_halves c.args.top c.args.entry c.args.width c.requires.below ∙ sym (ap₂ (λ (n h : ℕ). n * (2 * (h * c.args.width))) sizes.blocks_is sizes.half_is))
-    c.layer.auto.values room c.requires.near_by_block c.requires.far_by_block layers
+    c.layer.auto.values room (g.met.R.NetworkRule.near_law c.args.rule) (g.met.R.NetworkRule.far_law c.args.rule) layers
     (λ b i p q.
     subst (λ (n : ℕ). cell y (b * (2 * n) + i) ≡ near (c.args.number * blocks + b) (i / 1) (cell x (b * (2 * n) + i)) (cell x (b * (2 * n) + (n + i)))) one
     (c.layer.ensures.near b i p (omega (arith, q, one))))

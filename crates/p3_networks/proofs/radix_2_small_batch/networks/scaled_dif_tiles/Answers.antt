@@ -1,4 +1,4 @@
-use Rattle.std.proofs.Common.{◌≡◌, ℕ, ◌+◌, ◌-◌, ◌*◌, ◌/◌, ◌%◌, ◌^◌, ◌<◌, ◌≤◌, length, take, drop, sym, ap, ap₂, ◌∙◌, subst, arith, rules, lit≤}
+use Rattle.std.proofs.Common.{◌≡◌, ℕ, ◌+◌, ◌-◌, ◌*◌, ◌/◌, ◌%◌, ◌^◌, ◌<◌, ◌≤◌, length, take, drop, sym, ap, ◌∙◌, subst, arith, rules, lit≤}
 use borrow.Author.Rules.{scaled_fits≤}
 use Rattle.std.proofs.lemmas.Nat.{pow_pos}
 use Rattle.std.proofs.Math.Nat.{pow-le-pow_right, mul-le-mul, le_refl}
@@ -35,25 +35,25 @@ slice_bounds-rows-end g c =
     let room = tile_room _ _ _ _ _ _ c.loop-tile.tile sizes c.loop-tile-test.true in
     omega (arith, room, c.loop-tile.auto.values)
 
-pub dif_layers-requires-clause-small : goal.dif_layers-requires-clause-small
-dif_layers-requires-clause-small g c =
+pub layers_of_tile-requires-clause-small : goal.layers_of_tile-requires-clause-small
+layers_of_tile-requires-clause-small g c =
     let sizes = tile_sizes c.args.log_h c.args.log_rows c.args.width (length c.args.values.now) c.requires.small c.requires.below c.requires.size in
     let rows = tile_rows _ _ _ _ _ _ c.loop-tile.tile sizes c.loop-tile-test.true in
     let few : c.args.log_h ≤ 63 = omega (arith, c.requires.small) in
     let most : 2 ^ c.args.log_h ≤ 2 ^ 63 = pow-le-pow_right {n = 2} (lit≤ tt) few in
     omega (arith, rows, most)
 
-pub dif_layers-requires-clause-size : goal.dif_layers-requires-clause-size
-dif_layers-requires-clause-size g c =
+pub layers_of_tile-requires-clause-size : goal.layers_of_tile-requires-clause-size
+layers_of_tile-requires-clause-size g c =
     let sizes = tile_sizes c.args.log_h c.args.log_rows c.args.width (length c.args.values.now) c.requires.small c.requires.below c.requires.size in
     let room = tile_room _ _ _ _ _ _ c.loop-tile.tile sizes c.loop-tile-test.true in
     c.scale_slice_in_place.auto.values ∙ part_length c.loop-tile.values _ _ (omega (arith, room, c.loop-tile.auto.values)) ∙ sizes.size_is
 
-pub dif_layers-requires-clause-enough : goal.dif_layers-requires-clause-enough
-dif_layers-requires-clause-enough g c =
+pub layers_of_tile-requires-clause-there : goal.layers_of_tile-requires-clause-there
+layers_of_tile-requires-clause-there g c b t inside =
     let sizes = tile_sizes c.args.log_h c.args.log_rows c.args.width (length c.args.values.now) c.requires.small c.requires.below c.requires.size in
     let rows = tile_rows _ _ _ _ _ _ c.loop-tile.tile sizes c.loop-tile-test.true in
-    omega (arith, rows, c.requires.enough)
+    (omega (arith, rows, inside, c.requires.enough), c.requires.first)
 
 pub loop-tile-preserved : goal.loop-tile-preserved
 loop-tile-preserved g c =
@@ -72,23 +72,25 @@ loop-tile-preserved g c =
     let scaled = c.scale_slice_in_place.new.values in
     let scaled_len : length scaled ≡ size = c.scale_slice_in_place.auto.values ∙ part_len in
     let times = λ (x : field.Element). field.ring.mul x (field.value c.args.scale) in
-    let cost : 2 * c.dif_layers.new.products ≤ 2 * c.loop-tile.products + 1 * ((r + 2) * size) =
-    let all : (r - 0) * length scaled ≡ r * size = ap₂ (λ a n. a * n) (let e : r - 0 ≡ r = omega arith in e) scaled_len in
+    let plain : 0 + r ≡ r = omega arith in
+    let cost : 2 * c.layers_of_tile.new.products ≤ 2 * c.loop-tile.products + 1 * ((r + 2) * size) =
+    let all : r * length scaled ≡ r * size = ap (λ n. r * n) scaled_len in
     let more : 1 * ((r + 2) * size) ≡ r * size + 2 * size = omega arith in
-    omega (arith, c.dif_layers.ensures.count, all, more, c.scale_slice_in_place.ensures.count, part_len) in
+    omega (arith, c.layers_of_tile.ensures.count, all, more, c.scale_slice_in_place.ensures.count, part_len) in
     record {
       cells = λ cells layers holds.
           let so_far = c.loop-tile.invariant.cells cells layers holds in
-          tiles-more field.value field.ZERO size (cells r) c.args.values.now now c.dif_layers.new.values tile m is room (c.dif_layers.auto.values ∙ scaled_len)
-          (subst (λ (n : ℕ). HoldsCells field.value field.ZERO (tile * n) (cells r) c.dif_layers.new.values) scaled_len
-          (c.dif_layers.ensures.cells c.args.log_h cells layers (tile_rows _ _ _ _ _ _ tile sizes c.loop-tile-test.true)
+          tiles-more field.value field.ZERO size (cells r) c.args.values.now now c.layers_of_tile.new.values tile m is room (c.layers_of_tile.auto.values ∙ scaled_len)
+          (subst (λ (n : ℕ). HoldsCells field.value field.ZERO (tile * n) (cells r) c.layers_of_tile.new.values) scaled_len
+          (subst (λ (e : ℕ). HoldsCells field.value field.ZERO (tile * length scaled) (cells e) c.layers_of_tile.new.values) plain
+          (c.layers_of_tile.ensures.cells c.args.log_h cells layers (tile_rows _ _ _ _ _ _ tile sizes c.loop-tile-test.true)
           (λ i inside.
           value_at field.value times part scaled i field.ZERO c.scale_slice_in_place.ensures.values c.scale_slice_in_place.auto.values (omega (arith, inside, c.scale_slice_in_place.auto.values))
           ∙ tile_held field.value field.ZERO size (λ x. times (field.value x)) (cells 0) (cells r) c.args.values.now now tile m is room holds so_far i (omega (arith, inside, scaled_len, is))
-          ∙ ap (cells 0) (ap (λ n. tile * n + i) (is ∙ sym scaled_len)))))
+          ∙ ap (cells 0) (ap (λ n. tile * n + i) (is ∙ sym scaled_len))))))
           so_far;
-      grows = omega (arith, c.loop-tile.invariant.grows, c.dif_layers.ensures.grows, c.scale_slice_in_place.ensures.count);
-      count = layer_more tile ((r + 2) * size) c.args.products.now c.loop-tile.products c.dif_layers.new.products c.loop-tile.invariant.count cost;
+      grows = omega (arith, c.loop-tile.invariant.grows, c.layers_of_tile.ensures.grows, c.scale_slice_in_place.ensures.count);
+      count = layer_more tile ((r + 2) * size) c.args.products.now c.loop-tile.products c.layers_of_tile.new.products c.loop-tile.invariant.count cost;
     }
 
 pub returns-clause-cells : goal.returns-clause-cells
@@ -116,6 +118,3 @@ loop-tile-init g c = record {
   grows = le_refl c.args.products.now;
   count = turns_none _ (2 * c.args.products.now);
 }
-
-pub dif_layers-requires-clause-first : goal.dif_layers-requires-clause-first
-dif_layers-requires-clause-first g c = c.requires.first

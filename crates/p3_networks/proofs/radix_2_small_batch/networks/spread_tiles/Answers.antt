@@ -39,16 +39,16 @@ slice_bounds-out-end g c =
     let room = tile_room _ _ _ _ _ _ c.loop-tile.tile sizes c.loop-tile-test.true in
     omega (arith, room, c.loop-tile.auto.values)
 
-pub dif_layers-requires-clause-small : goal.dif_layers-requires-clause-small
-dif_layers-requires-clause-small g c =
+pub layers_of_run-requires-clause-small : goal.layers_of_run-requires-clause-small
+layers_of_run-requires-clause-small g c =
     let sizes = tile_sizes c.args.log_h c.args.log_rows c.args.width (length c.args.values.now) c.requires.small c.requires.below c.requires.size in
     let rows = tile_rows _ _ _ _ _ _ c.loop-tile.tile sizes c.loop-tile-test.true in
     let few : c.args.log_h ≤ 63 = omega (arith, c.requires.small) in
     let most : 2 ^ c.args.log_h ≤ 2 ^ 63 = pow-le-pow_right {n = 2} (lit≤ tt) few in
     omega (arith, rows, most)
 
-pub dif_layers-requires-clause-size : goal.dif_layers-requires-clause-size
-dif_layers-requires-clause-size g c =
+pub layers_of_run-requires-clause-size : goal.layers_of_run-requires-clause-size
+layers_of_run-requires-clause-size g c =
     let sizes = tile_sizes c.args.log_h c.args.log_rows c.args.width (length c.args.values.now) c.requires.small c.requires.below c.requires.size in
     let room = tile_room _ _ _ _ _ _ c.loop-tile.tile sizes c.loop-tile-test.true in
     c.spread_rows.auto.values ∙ part_length c.loop-tile.values _ _ (omega (arith, room, c.loop-tile.auto.values)) ∙ sizes.size_is
@@ -90,11 +90,11 @@ spread_rows-requires-clause-enough g c =
     let room = mul-le-mul_right (1 * 2 ^ c.args.added_bits % 18446744073709551616) (spread_room _ _ _ _ _ _ c.loop-tile.tile spread c.loop-tile-test.true) in
     omega (arith, room, spread.all, c.requires.enough)
 
-pub dif_layers-requires-clause-enough : goal.dif_layers-requires-clause-enough
-dif_layers-requires-clause-enough g c =
+pub layers_of_run-requires-clause-there : goal.layers_of_run-requires-clause-there
+layers_of_run-requires-clause-there g c b t inside =
     let sizes = tile_sizes c.args.log_h c.args.log_rows c.args.width (length c.args.values.now) c.requires.small c.requires.below c.requires.size in
     let rows = tile_rows _ _ _ _ _ _ c.loop-tile.tile sizes c.loop-tile-test.true in
-    omega (arith, rows, c.requires.enough)
+    (omega (arith, rows, inside, c.requires.enough), c.requires.first)
 
 pub loop-tile-preserved : goal.loop-tile-preserved
 loop-tile-preserved g c =
@@ -119,23 +119,27 @@ loop-tile-preserved g c =
     let out_len : length out ≡ size = c.spread_rows.auto.values ∙ part_len in
     let made = λ (n q t j : ℕ). field.ring.mul (field.value (get_or c.args.rows.now (q * w + j) field.ZERO))
     (field.ring.mul (field.value (get_or c.args.weights.now q field.ZERO)) (power field.ring (field.value (get_or c.args.twiddles.now (q * (n / 2)) field.ZERO)) t)) in
-    let cost : 2 * c.dif_layers.new.products ≤ 2 * c.loop-tile.products + 1 * ((r - a + 2) * size) =
+    let begin : a ≡ a + 0 = omega arith in
+    let stop : a + (r - a) ≡ r = omega (arith, c.requires.added) in
+    let cost : 2 * c.layers_of_run.new.products ≤ 2 * c.loop-tile.products + 1 * ((r - a + 2) * size) =
     let all : (r - a) * length out ≡ (r - a) * size = ap (λ n. (r - a) * n) out_len in
     let more : 1 * ((r - a + 2) * size) ≡ (r - a) * size + 2 * size = omega arith in
-    omega (arith, c.dif_layers.ensures.count, all, more, c.spread_rows.ensures.count, part_len) in
+    omega (arith, c.layers_of_run.ensures.count, all, more, c.spread_rows.ensures.count, part_len) in
     record {
       cells = λ cells layers are.
           let so_far = c.loop-tile.invariant.cells cells layers are in
-          tiles-more field.value field.ZERO size (cells r) c.args.values.now now c.dif_layers.new.values tile m is room (c.dif_layers.auto.values ∙ out_len)
-          (subst (λ (n : ℕ). HoldsCells field.value field.ZERO (tile * n) (cells r) c.dif_layers.new.values) out_len
-          (c.dif_layers.ensures.cells c.args.log_h cells layers (tile_rows _ _ _ _ _ _ tile sizes c.loop-tile-test.true)
+          tiles-more field.value field.ZERO size (cells r) c.args.values.now now c.layers_of_run.new.values tile m is room (c.layers_of_run.auto.values ∙ out_len)
+          (subst (λ (n : ℕ). HoldsCells field.value field.ZERO (tile * n) (cells r) c.layers_of_run.new.values) out_len
+          (subst (λ (e : ℕ). HoldsCells field.value field.ZERO (tile * length out) (cells e) c.layers_of_run.new.values) stop
+          (c.layers_of_run.ensures.cells c.args.log_h cells layers (tile_rows _ _ _ _ _ _ tile sizes c.loop-tile-test.true)
+          (subst (λ (e : ℕ). HoldsCells field.value field.ZERO (tile * length out) (cells e) out) begin
           (spread_held field.value field.ZERO (cells a) (made copies) tile count copies (2 ^ (c.args.log_h - a)) w out c.requires.wide (out_len ∙ sizes.size_is ∙ cells_of_tile _ _ _ w spread.tile)
           (spread_room _ _ _ _ _ _ tile spread c.loop-tile-test.true) spread.some_copies
           (subst (λ (n : ℕ). (q t j : ℕ) → q < 2 ^ (c.args.log_h - a) → t < n → j < w → cells a ((q * n + t) * w + j) ≡ made n q t j) (sym spread.copies_is) are)
-          c.spread_rows.ensures.values)))
+          c.spread_rows.ensures.values)))))
           so_far;
-      grows = omega (arith, c.loop-tile.invariant.grows, c.dif_layers.ensures.grows, c.spread_rows.ensures.count);
-      count = layer_more tile ((r - a + 2) * size) c.args.products.now c.loop-tile.products c.dif_layers.new.products c.loop-tile.invariant.count cost;
+      grows = omega (arith, c.loop-tile.invariant.grows, c.layers_of_run.ensures.grows, c.spread_rows.ensures.count);
+      count = layer_more tile ((r - a + 2) * size) c.args.products.now c.loop-tile.products c.layers_of_run.new.products c.loop-tile.invariant.count cost;
     }
 
 pub returns-clause-cells : goal.returns-clause-cells
@@ -163,6 +167,3 @@ loop-tile-init g c = record {
   grows = le_refl c.args.products.now;
   count = turns_none _ (2 * c.args.products.now);
 }
-
-pub dif_layers-requires-clause-first : goal.dif_layers-requires-clause-first
-dif_layers-requires-clause-first g c = c.requires.first

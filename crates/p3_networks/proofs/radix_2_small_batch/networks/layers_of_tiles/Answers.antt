@@ -2,13 +2,13 @@ use Rattle.std.proofs.Common.{◌≡◌, ℕ, ◌+◌, ◌-◌, ◌*◌, ◌/◌
 use borrow.Author.Rules.{scaled_fits≤}
 use Rattle.std.proofs.lemmas.Nat.{pow_pos}
 use Rattle.std.proofs.Math.Nat.{pow-le-pow_right, mul-le-mul, le_refl}
+use Rattle.p3_networks.specs.Groups.{cells_of}
 use Rattle.p3_networks.specs.Layers.{HoldsCells}
 use Rattle.p3_networks.proofs.Layers.Halves.{part_length}
-use Rattle.p3_networks.proofs.Layers.Runs.{layer_more}
+use Rattle.p3_networks.proofs.Layers.Runs.{costly_layer_more}
 use Rattle.p3_networks.proofs.Layers.Tiles.{tile_held, tile_room, tile_rows, tile_sizes, tiles-more, tiles_all}
-use Rattle.p3_networks.proofs.Layers.Counts.{turns_none}
 use Rattle.p3_networks.proofs.Rows.Overwritten.{rows-none}
-use Rattle.p3_networks.proofs.radix_2_small_batch.networks.dit_tiles.Goals as goal
+use Rattle.p3_networks.proofs.radix_2_small_batch.networks.layers_of_tiles.Goals as goal
 
 pub overflow_mul-start : goal.overflow_mul-start
 overflow_mul-start g c =
@@ -35,25 +35,25 @@ slice_bounds-rows-end g c =
     let room = tile_room _ _ _ _ _ _ c.loop-tile.tile sizes c.loop-tile-test.true in
     omega (arith, room, c.loop-tile.auto.values)
 
-pub dit_tile-requires-clause-small : goal.dit_tile-requires-clause-small
-dit_tile-requires-clause-small g c =
+pub layers_of_tile-requires-clause-small : goal.layers_of_tile-requires-clause-small
+layers_of_tile-requires-clause-small g c =
     let sizes = tile_sizes c.args.log_h c.args.log_rows c.args.width (length c.args.values.now) c.requires.small c.requires.below c.requires.size in
     let rows = tile_rows _ _ _ _ _ _ c.loop-tile.tile sizes c.loop-tile-test.true in
     let few : c.args.log_h ≤ 63 = omega (arith, c.requires.small) in
     let most : 2 ^ c.args.log_h ≤ 2 ^ 63 = pow-le-pow_right {n = 2} (lit≤ tt) few in
     omega (arith, rows, most)
 
-pub dit_tile-requires-clause-size : goal.dit_tile-requires-clause-size
-dit_tile-requires-clause-size g c =
+pub layers_of_tile-requires-clause-size : goal.layers_of_tile-requires-clause-size
+layers_of_tile-requires-clause-size g c =
     let sizes = tile_sizes c.args.log_h c.args.log_rows c.args.width (length c.args.values.now) c.requires.small c.requires.below c.requires.size in
     let room = tile_room _ _ _ _ _ _ c.loop-tile.tile sizes c.loop-tile-test.true in
     part_length c.loop-tile.values _ _ (omega (arith, room, c.loop-tile.auto.values)) ∙ sizes.size_is
 
-pub dit_tile-requires-clause-enough : goal.dit_tile-requires-clause-enough
-dit_tile-requires-clause-enough g c =
+pub layers_of_tile-requires-clause-there : goal.layers_of_tile-requires-clause-there
+layers_of_tile-requires-clause-there g c b t inside =
     let sizes = tile_sizes c.args.log_h c.args.log_rows c.args.width (length c.args.values.now) c.requires.small c.requires.below c.requires.size in
     let rows = tile_rows _ _ _ _ _ _ c.loop-tile.tile sizes c.loop-tile-test.true in
-    omega (arith, rows, c.requires.enough)
+    c.requires.there b t (omega (arith, rows, inside))
 
 pub loop-tile-preserved : goal.loop-tile-preserved
 loop-tile-preserved g c =
@@ -69,21 +69,23 @@ loop-tile-preserved g c =
     let room : tile * size + size ≤ length now = let all = tile_room _ _ _ _ _ _ tile sizes c.loop-tile-test.true in omega (arith, all, c.loop-tile.auto.values) in
     let part = take m (drop (tile * size) now) in
     let part_len : length part ≡ size = part_length now (tile * size) size room in
-    let cost : 2 * c.dit_tile.new.products ≤ 2 * c.loop-tile.products + 1 * (r * size) =
-    let all : r * length part ≡ 1 * (r * size) = ap (λ n. r * n) part_len ∙ omega arith in
-    omega (arith, c.dit_tile.ensures.count, all) in
+    let order = g.R.NetworkRule.order in
+    let each = g.R.Rule.cost in
+    let first = cells_of order 0 r 0 in
+    let last = cells_of order 0 r r in
     record {
       cells = λ cells layers holds.
           let so_far = c.loop-tile.invariant.cells cells layers holds in
-          tiles-more field.value field.ZERO size (cells 0) c.args.values.now now c.dit_tile.new.values tile m is room (c.dit_tile.auto.values ∙ part_len)
-          (subst (λ (n : ℕ). HoldsCells field.value field.ZERO (tile * n) (cells 0) c.dit_tile.new.values) part_len
-          (c.dit_tile.ensures.cells c.args.log_h cells layers (tile_rows _ _ _ _ _ _ tile sizes c.loop-tile-test.true)
+          tiles-more field.value field.ZERO size (cells last) c.args.values.now now c.layers_of_tile.new.values tile m is room (c.layers_of_tile.auto.values ∙ part_len)
+          (subst (λ (n : ℕ). HoldsCells field.value field.ZERO (tile * n) (cells last) c.layers_of_tile.new.values) part_len
+          (c.layers_of_tile.ensures.cells c.args.log_h cells layers (tile_rows _ _ _ _ _ _ tile sizes c.loop-tile-test.true)
           (λ i inside.
-          tile_held field.value field.ZERO size field.value (cells r) (cells 0) c.args.values.now now tile m is room holds so_far i (omega (arith, inside, part_len, is))
-          ∙ ap (cells r) (ap (λ n. tile * n + i) (is ∙ sym part_len)))))
+          tile_held field.value field.ZERO size field.value (cells first) (cells last) c.args.values.now now tile m is room holds so_far i (omega (arith, inside, part_len, is))
+          ∙ ap (cells first) (ap (λ n. tile * n + i) (is ∙ sym part_len)))))
           so_far;
-      grows = omega (arith, c.loop-tile.invariant.grows, c.dit_tile.ensures.grows);
-      count = layer_more tile (r * size) c.args.products.now c.loop-tile.products c.dit_tile.new.products c.loop-tile.invariant.count cost;
+      grows = omega (arith, c.loop-tile.invariant.grows, c.layers_of_tile.ensures.grows);
+      count = costly_layer_more each tile (r * size) c.args.products.now c.loop-tile.products c.layers_of_tile.new.products c.loop-tile.invariant.count
+          (subst (λ (n : ℕ). 2 * c.layers_of_tile.new.products ≤ 2 * c.loop-tile.products + each * (r * n)) part_len c.layers_of_tile.ensures.count);
     }
 
 pub returns-clause-cells : goal.returns-clause-cells
@@ -94,23 +96,22 @@ returns-clause-cells g c cells layers holds =
     let size = length c.args.values.now / tiles in
     let end : c.loop-tile.tile ≡ tiles = omega arith in
     let some : 0 < size = let rows : 1 * 1 ≤ 2 ^ c.args.log_rows * c.args.width = mul-le-mul (pow_pos c.args.log_rows) c.requires.wide in omega (arith, rows, sizes.size_is) in
-    tiles_all field.value field.ZERO size (cells 0) c.args.values.now c.loop-tile.values c.loop-tile.tile some (sizes.whole ∙ ap (λ n. n * size) (sym end)) (c.loop-tile.invariant.cells cells layers holds)
+    tiles_all field.value field.ZERO size (cells (cells_of g.R.NetworkRule.order 0 c.args.log_rows c.args.log_rows)) c.args.values.now c.loop-tile.values c.loop-tile.tile some (sizes.whole ∙ ap (λ n. n * size) (sym end))
+    (c.loop-tile.invariant.cells cells layers holds)
 
 pub returns-clause-count : goal.returns-clause-count
 returns-clause-count g c =
-    let sizes = tile_sizes c.args.log_h c.args.log_rows c.args.width (length c.args.values.now) c.requires.small c.requires.below c.requires.size in
-    let tiles = 1 * 2 ^ (c.args.log_h - c.args.log_rows) % 18446744073709551616 in
+    let r = c.args.log_rows in
+    let sizes = tile_sizes c.args.log_h r c.args.width (length c.args.values.now) c.requires.small c.requires.below c.requires.size in
+    let tiles = 1 * 2 ^ (c.args.log_h - r) % 18446744073709551616 in
     let size = length c.args.values.now / tiles in
     let end : c.loop-tile.tile ≡ tiles = omega arith in
-    let all : c.loop-tile.tile * (c.args.log_rows * size) ≡ c.args.log_rows * length c.args.values.now = ap (λ n. n * (c.args.log_rows * size)) end ∙ (let swap : tiles * (c.args.log_rows * size) ≡ c.args.log_rows * (tiles * size) = omega arith in swap) ∙ ap (λ n. c.args.log_rows * n) (sym sizes.whole) in
-    subst (λ (n : ℕ). 2 * c.loop-tile.products ≤ 2 * c.args.products.now + n) all c.loop-tile.invariant.count
+    let all : c.loop-tile.tile * (r * size) ≡ r * length c.args.values.now = ap (λ n. n * (r * size)) end ∙ (let swap : tiles * (r * size) ≡ r * (tiles * size) = omega arith in swap) ∙ ap (λ n. r * n) (sym sizes.whole) in
+    subst (λ (n : ℕ). 2 * c.loop-tile.products ≤ 2 * c.args.products.now + g.R.Rule.cost * n) all c.loop-tile.invariant.count
 
 pub loop-tile-init : goal.loop-tile-init
 loop-tile-init g c = record {
   cells = λ cells layers holds. rows-none g.F.Field.ZERO _ _ c.args.values.now;
   grows = le_refl c.args.products.now;
-  count = turns_none _ (2 * c.args.products.now);
+  count = omega arith;
 }
-
-pub dit_tile-requires-clause-first : goal.dit_tile-requires-clause-first
-dit_tile-requires-clause-first g c = c.requires.first

@@ -1,12 +1,11 @@
 use Rattle.std.proofs.Common.{◌≡◌, ℕ, ◌+◌, ◌-◌, ◌*◌, ◌/◌, ◌<◌, ◌≤◌, length, get_or, take, drop, refl, sym, ap, ◌∙◌, subst, arith, rules}
 use borrow.Author.Rules.{scaled_fits≤}
 use Rattle.std.proofs.Math.Nat.{add-sub_cancel_left}
-use Rattle.p3_matrix.specs.Butterflies.{dit_far, dit_near}
 use Rattle.p3_networks.proofs.Layers.Counts.{turn_counted}
 use Rattle.p3_networks.proofs.Layers.Halves.{block_size, part_length}
 use Rattle.p3_networks.proofs.Layers.Pairs.{far_done, near_done, pack_room, packs-more}
 use Rattle.p3_networks.proofs.Rows.Overwritten.{part_at, rows-none}
-use Rattle.p3_networks.proofs.radix_2_small_batch.pairs.dit_on_packs.Goals as goal
+use Rattle.p3_networks.proofs.radix_2_small_batch.pairs.on_packs.Goals as goal
 
 -- the pairs of a pack
 pairs_fit : (pack width len size : ℕ) → pack * width + width ≤ len → size ≡ 2 * len → pack * (2 * width) + 2 * width ≤ size
@@ -48,13 +47,13 @@ overflow_add-start g c =
     let room = pack_room c.loop-pack.pack c.WIDTH-width.result _ (length c.args.twiddles.now) c.requires.whole.0 c.requires.wide c.WIDTH-width.ensures c.requires.whole.1 c.loop-pack-test.true in
     omega (arith, room, c.requires.size)
 
-pub slice_bounds-dit_on_pack-end : goal.slice_bounds-dit_on_pack-end
-slice_bounds-dit_on_pack-end g c =
+pub slice_bounds-on_pack-end : goal.slice_bounds-on_pack-end
+slice_bounds-on_pack-end g c =
     let room = pack_room c.loop-pack.pack c.WIDTH-width.result _ (length c.args.twiddles.now) c.requires.whole.0 c.requires.wide c.WIDTH-width.ensures c.requires.whole.1 c.loop-pack-test.true in
     room
 
-pub slice_bounds-dit_on_pack-end-in-loop-pack : goal.slice_bounds-dit_on_pack-end-in-loop-pack
-slice_bounds-dit_on_pack-end-in-loop-pack g c =
+pub slice_bounds-on_pack-end-in-loop-pack : goal.slice_bounds-on_pack-end-in-loop-pack
+slice_bounds-on_pack-end-in-loop-pack g c =
     let room = pack_room c.loop-pack.pack c.WIDTH-width.result _ (length c.args.twiddles.now) c.requires.whole.0 c.requires.wide c.WIDTH-width.ensures c.requires.whole.1 c.loop-pack-test.true in
     omega (arith, room, c.requires.size, c.loop-pack.auto.values)
 
@@ -75,12 +74,12 @@ loop-pack-preserved g c =
     let part = take (pack * (2 * width) + 2 * width - pack * (2 * width)) (drop (pack * (2 * width)) c.loop-pack.values) in
     let at = λ (i : ℕ) (below : i < width). ap value (part_at c.args.twiddles.now (pack * width) (pack * width + width - pack * width) i zero (subst (λ n. i < n) (sym (add-sub_cancel_left (pack * width) width)) below)) in
     record {
-      packs = packs-more value zero (λ b. dit_near field.ring (twiddle b)) (λ b. dit_far field.ring (twiddle b)) width c.args.values.now c.loop-pack.values c.dit_on_pack.new.values pack (2 * width) refl all
-          (c.dit_on_pack.auto.values ∙ part_length c.loop-pack.values (pack * (2 * width)) (2 * width) all)
-          (λ i below. c.dit_on_pack.ensures.near i (subst (λ n. i < n) c.WIDTH-width.ensures below) ∙ ap (λ t. dit_near field.ring t (value (get_or part (2 * i) zero)) (value (get_or part (2 * i + 1) zero))) (at i below))
-          (λ i below. c.dit_on_pack.ensures.far i (subst (λ n. i < n) c.WIDTH-width.ensures below) ∙ ap (λ t. dit_far field.ring t (value (get_or part (2 * i) zero)) (value (get_or part (2 * i + 1) zero))) (at i below))
+      packs = packs-more value zero (λ b. g.B.PairButterfly.near field.Element field.ring (twiddle b)) (λ b. g.B.PairButterfly.far field.Element field.ring (twiddle b)) width c.args.values.now c.loop-pack.values c.on_pack.new.values pack (2 * width) refl all
+          (c.on_pack.auto.values ∙ part_length c.loop-pack.values (pack * (2 * width)) (2 * width) all)
+          (λ i below. c.on_pack.ensures.near i (subst (λ n. i < n) c.WIDTH-width.ensures below) ∙ ap (λ t. g.B.PairButterfly.near field.Element field.ring t (value (get_or part (2 * i) zero)) (value (get_or part (2 * i + 1) zero))) (at i below))
+          (λ i below. c.on_pack.ensures.far i (subst (λ n. i < n) c.WIDTH-width.ensures below) ∙ ap (λ t. g.B.PairButterfly.far field.Element field.ring t (value (get_or part (2 * i) zero)) (value (get_or part (2 * i + 1) zero))) (at i below))
           c.loop-pack.invariant.packs;
-      count = turn_counted pack width _ c.args.products.now c.loop-pack.products c.dit_on_pack.new.products (sym c.WIDTH-width.ensures) c.loop-pack.invariant.count c.dit_on_pack.ensures.count;
+      count = turn_counted pack width _ c.args.products.now c.loop-pack.products c.on_pack.new.products (sym c.WIDTH-width.ensures) c.loop-pack.invariant.count c.on_pack.ensures.count;
     }
 
 pub returns-clause-near : goal.returns-clause-near
@@ -94,7 +93,7 @@ returns-clause-near g c =
     let whole : len ≡ k * width = c.requires.whole.1 ∙ ap (λ n. k * n) (sym c.WIDTH-width.ensures) in
     let packs : len / width ≡ k = block_size len width k some (whole ∙ omega arith) in
     let end : c.loop-pack.pack ≡ k = omega (arith, c.loop-pack-test.false, c.loop-pack.auto.pack-end, packs) in
-    near_done field.value field.ZERO (λ b. dit_near field.ring (twiddle b)) (λ b. dit_far field.ring (twiddle b)) width c.args.values.now c.loop-pack.values c.loop-pack.pack (2 * width) len
+    near_done field.value field.ZERO (λ b. g.B.PairButterfly.near field.Element field.ring (twiddle b)) (λ b. g.B.PairButterfly.far field.Element field.ring (twiddle b)) width c.args.values.now c.loop-pack.values c.loop-pack.pack (2 * width) len
     some refl (whole ∙ ap (λ n. n * width) (sym end)) c.loop-pack.invariant.packs
 
 pub returns-clause-far : goal.returns-clause-far
@@ -108,7 +107,7 @@ returns-clause-far g c =
     let whole : len ≡ k * width = c.requires.whole.1 ∙ ap (λ n. k * n) (sym c.WIDTH-width.ensures) in
     let packs : len / width ≡ k = block_size len width k some (whole ∙ omega arith) in
     let end : c.loop-pack.pack ≡ k = omega (arith, c.loop-pack-test.false, c.loop-pack.auto.pack-end, packs) in
-    far_done field.value field.ZERO (λ b. dit_near field.ring (twiddle b)) (λ b. dit_far field.ring (twiddle b)) width c.args.values.now c.loop-pack.values c.loop-pack.pack (2 * width) len
+    far_done field.value field.ZERO (λ b. g.B.PairButterfly.near field.Element field.ring (twiddle b)) (λ b. g.B.PairButterfly.far field.Element field.ring (twiddle b)) width c.args.values.now c.loop-pack.values c.loop-pack.pack (2 * width) len
     some refl (whole ∙ ap (λ n. n * width) (sym end)) c.loop-pack.invariant.packs
 
 pub returns-clause-count : goal.returns-clause-count

@@ -1,15 +1,14 @@
 use Rattle.std.proofs.Common.{◌≡◌, ℕ, ◌+◌, ◌*◌, get_or}
-use Rattle.p3_matrix.specs.Butterflies.{dit_far, dit_near}
 use Rattle.p3_networks.proofs.Layers.Pairs.{BothEntries}
 use Rattle.p3_networks.proofs.Rows.Overwritten.{RowsDone}
-use Rattle.p3_networks.proofs.radix_2_small_batch.pairs.dit_on_packs.Given as goal
+use Rattle.p3_networks.proofs.radix_2_small_batch.pairs.on_packs.Given as goal
 
 abbrev pub invariant-loop-pack : goal.invariant-loop-pack
 invariant-loop-pack g l =
     let field = g.F.Field in
     let twiddle = λ (b : ℕ). field.value (get_or l.fn.twiddles b field.ZERO) in
     record {
-      packs : RowsDone field.ZERO (2 * l.width) (BothEntries l.width (λ b. dit_near field.ring (twiddle b)) (λ b. dit_far field.ring (twiddle b)) (λ n. field.value (get_or l.fn.values n field.ZERO)) field.value)
+      packs : RowsDone field.ZERO (2 * l.width) (BothEntries l.width (λ b. g.B.PairButterfly.near field.Element field.ring (twiddle b)) (λ b. g.B.PairButterfly.far field.Element field.ring (twiddle b)) (λ n. field.value (get_or l.fn.values n field.ZERO)) field.value)
           l.fn.values l.pack l.values;
       count : l.products ≡ l.fn.products + l.pack * l.width;
     }
