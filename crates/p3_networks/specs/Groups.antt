@@ -1,4 +1,4 @@
--- Layers in groups, each on one piece of the cells after another.
+-- The order of layers, and layers in groups, each on one piece of the cells after another.
 use Rattle.std.specs.Prelude.{◌≡◌, ◌⊎◌, ℕ, ◌+◌, ◌-◌, ◌*◌, ◌<◌, ◌≤◌, List, get_or}
 use Rattle.p3_networks.specs.Layers.{AreLayers}
 use Rattle.p3_networks.specs.declared.radix_2_small_batch.groups.Order.{Order}

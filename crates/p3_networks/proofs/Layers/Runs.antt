@@ -103,16 +103,6 @@ run_sizes top e number below small =
       room = let is = ap (λ n. number * n + n) blocks ∙ spread in omega (arith, is, fewer, small);
     }
 
--- the blocks of a layer of a run have twiddles
-pub twiddles_enough : (top e number b len : ℕ) → e < top → (number + 1) * 2 ^ top ≤ 2 * len → b < (number + 1) * 2 ^ (top - 1 - e) → b < len
-twiddles_enough top e number b len below enough inside =
-    let whole = halves_whole top e below in
-    let spread : (number + 1) * (2 ^ (top - 1 - e) * (2 * 2 ^ e)) ≡ 2 * ((number + 1) * 2 ^ (top - 1 - e) * 2 ^ e) = omega arith in
-    let all : (number + 1) * 2 ^ top ≡ 2 * ((number + 1) * 2 ^ (top - 1 - e) * 2 ^ e) = ap (λ n. (number + 1) * n) (sym whole) ∙ spread in
-    let half : (number + 1) * 2 ^ (top - 1 - e) * 2 ^ e ≤ len = omega (arith, all, enough) in
-    let some : (number + 1) * 2 ^ (top - 1 - e) * 1 ≤ (number + 1) * 2 ^ (top - 1 - e) * 2 ^ e = mul-le-mul_left ((number + 1) * 2 ^ (top - 1 - e)) (pow_pos e) in
-    omega (arith, half, some, inside)
-
 -- one layer more: each makes at most one product for each two of the cells
 pub layer_more : (done size before now after : ℕ) → 2 * now ≤ 2 * before + done * size → 2 * after ≤ 2 * now + 1 * size → 2 * after ≤ 2 * before + (done + 1) * size
 layer_more done size before now after so_far layer = let next : (done + 1) * size ≡ done * size + size = omega arith in omega (arith, so_far, layer, next)

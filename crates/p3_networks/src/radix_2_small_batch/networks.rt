@@ -24,7 +24,6 @@ use p3_matrix::scale_slice_in_place;
 
 /// A rule by blocks alone, with the order of the layers of its networks.
 pub(crate) trait NetworkRule<F: TwoAdicField>: Rule<F> {
-    // Which of its layers come first.
     ghost order: { Order };
 
     /// Which of its layers come first.
@@ -117,8 +116,8 @@ fn layer_of_run<F: TwoAdicField, R: NetworkRule<F>>(
     ensures grows { products.old ≤ products.new }
     ensures count { 2 * products.new ≤ 2 * products.old + R.cost * length values.old }
 {
-    // A half of a block is one column: its pairs have one twiddle, whatever the width. As a column, because
-    // blocks of one of a few entries have their size named.
+    // The pairs of a block have one twiddle, so that its half is one column, whatever the width. As a column,
+    // because blocks of one column and a few entries have their size named in `layer`.
     let half = (1usize << entry) * width;
     let blocks = 1usize << (top - 1 - entry);
     layer(rule, values, 1, half, number * blocks, blocks, products);
@@ -178,8 +177,8 @@ fn layers_of_run<F: TwoAdicField, R: NetworkRule<F>>(
     }
 }
 
-// The layers of the entries below `log_rows`, tile after tile: a tile has `2^log_rows` rows, which these
-// layers do not leave.
+// The layers of the entries below `log_rows` in the rule's order, tile after tile: a tile has `2^log_rows`
+// rows, which these layers do not leave.
 fn layers_of_tiles<F: TwoAdicField, R: NetworkRule<F>>(
     rule: R,
     values: &mut [F],
@@ -211,7 +210,8 @@ fn layers_of_tiles<F: TwoAdicField, R: NetworkRule<F>>(
 }
 
 // The same of one tile, run `number` of `2^top` rows. In one column the layers of the six smallest blocks
-// are done together, on one run of 64 rows after another. That the width is one is known in its loops.
+// are done together, on one run of 64 rows after another. The width is written as 1 in that call, so that it
+// is known in the loops.
 fn layers_of_tile<F: TwoAdicField, R: NetworkRule<F>>(
     rule: R,
     values: &mut [F],
@@ -362,9 +362,9 @@ fn scaled_dif_tiles<F: TwoAdicField>(
     }
 }
 
-/// From rows in natural order to their values, in bit reversed order: the layers whose blocks are
-/// larger than a tile on the whole, in groups, then the others tile by tile. With the powers of other
-/// roots they are the values at those. A piece has `piece` entries of each part of a block.
+/// From rows in natural order to their values at the powers of the root that `twiddles` are made of, in
+/// bit reversed order: the layers whose blocks are larger than a tile on the whole, in groups, then the
+/// others tile by tile. A piece has `piece` entries of each part of a block.
 pub fn dit_network<F: TwoAdicField>(
     twiddles: &[F],
     values: &mut [F],
@@ -407,9 +407,9 @@ pub fn dit_network<F: TwoAdicField>(
     );
 }
 
-/// From rows in bit reversed order to their values, in natural order: the layers whose blocks fit into a
-/// tile tile by tile, then the others on the whole, in groups. With the powers of other roots they are
-/// the values at those. A piece has `piece` entries of each part of a block.
+/// From rows in bit reversed order to their values at the powers of the root that `twiddles` are made of,
+/// in natural order: the layers whose blocks fit into a tile tile by tile, then the others on the whole,
+/// in groups. A piece has `piece` entries of each part of a block.
 pub fn dif_network<F: TwoAdicField>(
     twiddles: &[F],
     values: &mut [F],

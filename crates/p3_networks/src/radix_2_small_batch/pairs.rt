@@ -7,8 +7,9 @@ ghost use Rattle.p3_field.specs.Ring.{Ring};
 use p3_field::{PackedField, PackedPairs, Products, TwoAdicField};
 use p3_matrix::packs::full_packs;
 
-/// What two entries that lie one after another become by their twiddle, for a whole pack of them.
+/// A butterfly on pairs of entries that lie one after another, one pack of pairs at a time.
 pub(crate) trait PairButterfly<F: TwoAdicField>: Copy {
+    // What the first entry of a pair becomes, by its twiddle, the first entry and the second; far is the second.
     ghost near: { (A : Type 0) → Ring A → A → A → A → A };
 
     ghost far: { (A : Type 0) → Ring A → A → A → A → A };
@@ -31,7 +32,7 @@ pub(crate) trait PairButterfly<F: TwoAdicField>: Copy {
         ensures count { products.new ≡ products.old + P.WIDTH };
 }
 
-/// Decimation in time.
+/// The butterfly of decimation in time.
 #[derive(Clone, Copy)]
 pub(crate) struct DitPair;
 
@@ -57,7 +58,7 @@ impl<F: TwoAdicField> PairButterfly<F> for DitPair {
     }
 }
 
-/// Decimation in frequency.
+/// The butterfly of decimation in frequency.
 #[derive(Clone, Copy)]
 pub(crate) struct DifPair;
 
