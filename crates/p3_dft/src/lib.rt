@@ -21,8 +21,7 @@ pub use jobs::{Job, JobsStopped, run_jobs};
 pub use naive::NaiveDft;
 pub use p3_field::{
     BabyBear, BabyBearX8, BasedVectorSpace, CanonicalField, Coordinates, Field, Goldilocks,
-    KoalaBear, KoalaBearX8, Lanes, Packable, Packed, PackedField, PackedPairs, Products,
-    TwoAdicField, scaled,
+    KoalaBear, KoalaBearX8, Lanes, Packable, Packed, PackedField, Products, TwoAdicField, scaled,
 };
 pub use p3_matrix::{
     BitReversedMatrixView, BlockConsumer, BlockLimit, BlockRefused, Butterfly, DftError,

@@ -1,6 +1,7 @@
 -- Lanes that a loop writes one after another: those below its counter hold what they are to hold, the others what they held.
-use Rattle.std.proofs.Common.{◌≡◌, ℕ, zero, suc, ◌+◌, ◌<◌, List, [], ◌∷◌, ◌++◌, length, map, get_or, set, take, drop, replicate, refl, sym, ap, ap₂, ◌∙◌, arith}
-use Rattle.std.proofs.lemmas.List.{map-set, get_or-map, length-map}
+use Rattle.std.proofs.Common.{◌≡◌, ℕ, zero, suc, ◌+◌, ◌*◌, ◌<◌, List, [], ◌∷◌, ◌++◌, length, map, get_or, set, take, drop, replicate, refl, sym, ap, ap₂, ◌∙◌, arith}
+use Rattle.std.proofs.lemmas.List.{map-set, get_or-map, get_or-set_other, get_or-set_same, length-map, length-set}
+use borrow.Author.Count.{below_more}
 use Rattle.p3_field.specs.Lanes.{by_lanes}
 
 -- the first i of t, and s from there on
@@ -95,3 +96,28 @@ module _ {T A : Type 0} (f : T → A) (op : A → A) (xs : List T) where
       written f xs (map op (map f xs)) same now i y (op (f p)) below is
       (gives ∙ ap op (still f xs (map op (map f xs)) same now i p (f p) below (full ∙ wide) is)
       ∙ sym (get_or-map op (map f xs) i (f p) (op (f p)) (omega (arith, below, length-map xs f))))
+
+-- what a list has to hold at each place below the counter of a loop: z stands where there is none
+module _ {T A : Type 0} (f : T → A) (z : T) (want : ℕ → A) where
+  pub next_written : (now : List T) (i : ℕ) (y : T) → i < length now → ((k : ℕ) → k < i → f (get_or now k z) ≡ want k) → f y ≡ want i
+      → (k : ℕ) → k < i + 1 → f (get_or (set now i y) k z) ≡ want k
+  next_written now i y below so_far is = below_more (λ k. f (get_or (set now i y) k z) ≡ want k) i
+      (λ k less. ap f (get_or-set_other now i k y z (λ same. absurd (omega (arith, same, less)))) ∙ so_far k less)
+      (ap f (get_or-set_same now i y z below) ∙ is)
+
+  -- the first ones of pairs
+  pub next_first : (now : List T) (i : ℕ) (y y' : T) → 2 * i + 1 < length now → ((k : ℕ) → k < i → f (get_or now (2 * k) z) ≡ want k) → f y ≡ want i
+      → (k : ℕ) → k < i + 1 → f (get_or (set (set now (2 * i) y) (2 * i + 1) y') (2 * k) z) ≡ want k
+  next_first now i y y' below so_far is = below_more (λ k. f (get_or (set (set now (2 * i) y) (2 * i + 1) y') (2 * k) z) ≡ want k) i
+      (λ k less. ap f (get_or-set_other (set now (2 * i) y) (2 * i + 1) (2 * k) y' z (λ same. absurd (omega (arith, same, less)))
+      ∙ get_or-set_other now (2 * i) (2 * k) y z (λ same. absurd (omega (arith, same, less)))) ∙ so_far k less)
+      (ap f (get_or-set_other (set now (2 * i) y) (2 * i + 1) (2 * i) y' z (λ same. absurd (omega (arith, same)))
+      ∙ get_or-set_same now (2 * i) y z (omega (arith, below))) ∙ is)
+
+  -- and the second ones
+  pub next_second : (now : List T) (i : ℕ) (y y' : T) → 2 * i + 1 < length now → ((k : ℕ) → k < i → f (get_or now (2 * k + 1) z) ≡ want k) → f y' ≡ want i
+      → (k : ℕ) → k < i + 1 → f (get_or (set (set now (2 * i) y) (2 * i + 1) y') (2 * k + 1) z) ≡ want k
+  next_second now i y y' below so_far is = below_more (λ k. f (get_or (set (set now (2 * i) y) (2 * i + 1) y') (2 * k + 1) z) ≡ want k) i
+      (λ k less. ap f (get_or-set_other (set now (2 * i) y) (2 * i + 1) (2 * k + 1) y' z (λ same. absurd (omega (arith, same, less)))
+      ∙ get_or-set_other now (2 * i) (2 * k + 1) y z (λ same. absurd (omega (arith, same, less)))) ∙ so_far k less)
+      (ap f (get_or-set_same (set now (2 * i) y) (2 * i + 1) y' z (omega (arith, below, length-set now (2 * i) y))) ∙ is)

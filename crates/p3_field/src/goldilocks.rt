@@ -5,7 +5,7 @@ ghost use Rattle.p3_field.specs.Fields.{goldilocks_modulus};
 
 use crate::euclid::inverse_modulo;
 use crate::fields::Field;
-use crate::packed::{Packable, Packed, PackedField, PackedPairs, Products};
+use crate::packed::{Packable, Packed, PackedField, Products};
 use crate::two_adic::{CanonicalField, TwoAdicField};
 use std::ops::{Add, Mul, Neg, Sub};
 
@@ -290,6 +290,15 @@ impl PackedField for Goldilocks {
         to[0] = self;
     }
 
+    fn load_pairs(from: &[Goldilocks]) -> (Goldilocks, Goldilocks) {
+        (from[0], from[1])
+    }
+
+    fn store_pairs(self, second: Goldilocks, to: &mut [Goldilocks]) {
+        to[0] = self;
+        to[1] = second;
+    }
+
     fn broadcast(scalar: Goldilocks) -> Goldilocks {
         scalar
     }
@@ -313,17 +322,6 @@ impl PackedField for Goldilocks {
     }
 
     ghost width_law = { λ _. refl };
-}
-
-impl PackedPairs for Goldilocks {
-    fn load_pairs(from: &[Goldilocks]) -> (Goldilocks, Goldilocks) {
-        (from[0], from[1])
-    }
-
-    fn store_pairs(self, second: Goldilocks, to: &mut [Goldilocks]) {
-        to[0] = self;
-        to[1] = second;
-    }
 }
 
 impl Packable for Goldilocks {

@@ -48,6 +48,23 @@ impl<F: Field, const N: usize> PackedField for Lanes<F, N> {
         }
     }
 
+    fn load_pairs(from: &[F]) -> (Lanes<F, N>, Lanes<F, N>) {
+        let mut first = [F::ZERO; N];
+        let mut second = [F::ZERO; N];
+        for i in 0..N {
+            first[i] = from[2 * i];
+            second[i] = from[2 * i + 1];
+        }
+        (Lanes { lanes: first }, Lanes { lanes: second })
+    }
+
+    fn store_pairs(self, second: Lanes<F, N>, to: &mut [F]) {
+        for i in 0..N {
+            to[2 * i] = self.lanes[i];
+            to[2 * i + 1] = second.lanes[i];
+        }
+    }
+
     fn broadcast(scalar: F) -> Lanes<F, N> {
         Lanes { lanes: [scalar; N] }
     }

@@ -27,7 +27,7 @@ pub use fields::Field;
 pub use goldilocks::Goldilocks;
 pub use koala_bear::{KoalaBear, KoalaBearX8};
 pub use lanes::Lanes;
-pub use packed::{Packable, Packed, PackedField, PackedPairs, Products, scaled};
+pub use packed::{Packable, Packed, PackedField, Products, scaled};
 pub use residue31::{Numbers, Residue31};
 pub use residue31_x8::Residue31X8;
 pub use two_adic::{CanonicalField, TwoAdicField};

@@ -39,6 +39,24 @@ where
         requires { length to.old ≡ WIDTH }
         ensures { map Self.Scalar.value to.new ≡ map Self.Scalar.value (lanes self) };
 
+    /// Takes the first scalars of `WIDTH` pairs, and the second ones, from a slice of `2 * WIDTH` scalars,
+    /// in which the pairs lie one after another.
+    fn load_pairs(from: &[Self::Scalar]) -> (Self, Self)
+        requires { length from.now ≡ 2 * WIDTH }
+        ensures first { (i : ℕ) → i < WIDTH → Self.Scalar.value (get_or (lanes result.0) i Self.Scalar.ZERO)
+            ≡ Self.Scalar.value (get_or from.now (2 * i) Self.Scalar.ZERO) }
+        ensures second { (i : ℕ) → i < WIDTH → Self.Scalar.value (get_or (lanes result.1) i Self.Scalar.ZERO)
+            ≡ Self.Scalar.value (get_or from.now (2 * i + 1) Self.Scalar.ZERO) };
+
+    /// Writes its lanes to the first scalars of `WIDTH` pairs, and those of `second` to the second ones, in
+    /// a slice of `2 * WIDTH` scalars.
+    fn store_pairs(self, second: Self, to: &mut [Self::Scalar])
+        requires { length to.old ≡ 2 * WIDTH }
+        ensures first { (i : ℕ) → i < WIDTH → Self.Scalar.value (get_or to.new (2 * i) Self.Scalar.ZERO)
+            ≡ Self.Scalar.value (get_or (lanes self) i Self.Scalar.ZERO) }
+        ensures second { (i : ℕ) → i < WIDTH → Self.Scalar.value (get_or to.new (2 * i + 1) Self.Scalar.ZERO)
+            ≡ Self.Scalar.value (get_or (lanes second) i Self.Scalar.ZERO) };
+
     /// Has the same scalar in each lane.
     fn broadcast(scalar: Self::Scalar) -> Self
         ensures { map Self.Scalar.value (lanes result) ≡ replicate WIDTH (Self.Scalar.value scalar) };
@@ -68,33 +86,10 @@ where
     ghost width_law: { (x : Self) → length (lanes x) ≡ WIDTH };
 }
 
-/// Packed values that are taken from pairs of scalars, and put back. The pairs lie one after another.
-pub trait PackedPairs: PackedField
-where
-    Self::Scalar: Field,
-{
-    /// Takes the first scalars of `WIDTH` pairs, and the second ones, from a slice of `2 * WIDTH` scalars.
-    fn load_pairs(from: &[Self::Scalar]) -> (Self, Self)
-        requires { length from.now ≡ 2 * Self.WIDTH }
-        ensures first { (i : ℕ) → i < Self.WIDTH → Self.Scalar.value (get_or (Self.lanes result.0) i Self.Scalar.ZERO)
-            ≡ Self.Scalar.value (get_or from.now (2 * i) Self.Scalar.ZERO) }
-        ensures second { (i : ℕ) → i < Self.WIDTH → Self.Scalar.value (get_or (Self.lanes result.1) i Self.Scalar.ZERO)
-            ≡ Self.Scalar.value (get_or from.now (2 * i + 1) Self.Scalar.ZERO) };
-
-    /// Writes its lanes to the first scalars of `WIDTH` pairs, and those of `second` to the second ones, in
-    /// a slice of `2 * WIDTH` scalars.
-    fn store_pairs(self, second: Self, to: &mut [Self::Scalar])
-        requires { length to.old ≡ 2 * Self.WIDTH }
-        ensures first { (i : ℕ) → i < Self.WIDTH → Self.Scalar.value (get_or to.new (2 * i) Self.Scalar.ZERO)
-            ≡ Self.Scalar.value (get_or (Self.lanes self) i Self.Scalar.ZERO) }
-        ensures second { (i : ℕ) → i < Self.WIDTH → Self.Scalar.value (get_or to.new (2 * i + 1) Self.Scalar.ZERO)
-            ≡ Self.Scalar.value (get_or (Self.lanes second) i Self.Scalar.ZERO) };
-}
-
 /// A field whose elements are packed values of one lane, and which has a packing of its own.
-pub trait Packable: Field + PackedPairs<Scalar = Self> {
+pub trait Packable: Field + PackedField<Scalar = Self> {
     /// The packed values of this field.
-    type Packing: PackedPairs<Scalar = Self>;
+    type Packing: PackedField<Scalar = Self>;
 
     // An element is the one lane of itself.
     ghost lane_law: { (x : Self) → Self.lanes x ≡ x ∷ [] };

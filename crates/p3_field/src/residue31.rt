@@ -4,7 +4,7 @@ ghost use Rattle.std.specs.Prelude.{◌≡◌, ◌<◌, ◌≤◌, ◌%◌, ◌-
 
 use crate::euclid::inverse_modulo;
 use crate::fields::Field;
-use crate::packed::{Packable, Packed, PackedField, PackedPairs, Products};
+use crate::packed::{Packable, Packed, PackedField, Products};
 use crate::residue31_x8::Residue31X8;
 use crate::two_adic::{CanonicalField, TwoAdicField};
 use std::alloc::AllocError;
@@ -280,6 +280,15 @@ impl<N: Numbers> PackedField for Residue31<N> {
         to[0] = self;
     }
 
+    fn load_pairs(from: &[Residue31<N>]) -> (Residue31<N>, Residue31<N>) {
+        (from[0], from[1])
+    }
+
+    fn store_pairs(self, second: Residue31<N>, to: &mut [Residue31<N>]) {
+        to[0] = self;
+        to[1] = second;
+    }
+
     fn broadcast(scalar: Residue31<N>) -> Residue31<N> {
         scalar
     }
@@ -303,17 +312,6 @@ impl<N: Numbers> PackedField for Residue31<N> {
     }
 
     ghost width_law = { λ _. refl };
-}
-
-impl<N: Numbers> PackedPairs for Residue31<N> {
-    fn load_pairs(from: &[Residue31<N>]) -> (Residue31<N>, Residue31<N>) {
-        (from[0], from[1])
-    }
-
-    fn store_pairs(self, second: Residue31<N>, to: &mut [Residue31<N>]) {
-        to[0] = self;
-        to[1] = second;
-    }
 }
 
 impl<N: Numbers> Packable for Residue31<N> {

@@ -5,7 +5,7 @@ ghost use Rattle.std.specs.Simd.Lanes.{zip2};
 ghost use Rattle.p3_field.specs.LaneNumbers.{AreBelow};
 ghost use Rattle.p3_field.specs.LaneLaws.{are_below-prop};
 
-use crate::packed::{Packed, PackedField, PackedPairs, Products};
+use crate::packed::{Packed, PackedField, Products};
 use crate::residue31::{Numbers, Residue31};
 use std::alloc::AllocError;
 use std::marker::PhantomData;
@@ -81,47 +81,6 @@ impl<N: Numbers> PackedField for Residue31X8<N> {
         to[7] = self.element(7);
     }
 
-    fn broadcast(scalar: Residue31<N>) -> Residue31X8<N> {
-        Residue31X8 {
-            lanes: u32x8::splat(scalar.number),
-            of: PhantomData,
-        }
-    }
-
-    fn add(self, other: Residue31X8<N>) -> Residue31X8<N> {
-        Residue31X8 {
-            lanes: sums::<N>(self.lanes, other.lanes),
-            of: PhantomData,
-        }
-    }
-
-    fn sub(self, other: Residue31X8<N>) -> Residue31X8<N> {
-        Residue31X8 {
-            lanes: differences::<N>(self.lanes, other.lanes),
-            of: PhantomData,
-        }
-    }
-
-    fn scaled(self, t: Residue31<N>, products: &mut Products) -> Residue31X8<N> {
-        products.rise(8);
-        Residue31X8 {
-            lanes: multiples::<N>(self.lanes, t.number),
-            of: PhantomData,
-        }
-    }
-
-    fn multiplied(self, other: Residue31X8<N>, products: &mut Products) -> Residue31X8<N> {
-        products.rise(8);
-        Residue31X8 {
-            lanes: lane_products::<N>(self.lanes, other.lanes),
-            of: PhantomData,
-        }
-    }
-
-    ghost width_law = { λ x. length-elements_of _ x.lanes x.below ∙ x.eight };
-}
-
-impl<N: Numbers> PackedPairs for Residue31X8<N> {
     fn load_pairs(from: &[Residue31<N>]) -> (Residue31X8<N>, Residue31X8<N>) {
         (
             Residue31X8 {
@@ -171,6 +130,45 @@ impl<N: Numbers> PackedPairs for Residue31X8<N> {
         to[14] = self.element(7);
         to[15] = second.element(7);
     }
+
+    fn broadcast(scalar: Residue31<N>) -> Residue31X8<N> {
+        Residue31X8 {
+            lanes: u32x8::splat(scalar.number),
+            of: PhantomData,
+        }
+    }
+
+    fn add(self, other: Residue31X8<N>) -> Residue31X8<N> {
+        Residue31X8 {
+            lanes: sums::<N>(self.lanes, other.lanes),
+            of: PhantomData,
+        }
+    }
+
+    fn sub(self, other: Residue31X8<N>) -> Residue31X8<N> {
+        Residue31X8 {
+            lanes: differences::<N>(self.lanes, other.lanes),
+            of: PhantomData,
+        }
+    }
+
+    fn scaled(self, t: Residue31<N>, products: &mut Products) -> Residue31X8<N> {
+        products.rise(8);
+        Residue31X8 {
+            lanes: multiples::<N>(self.lanes, t.number),
+            of: PhantomData,
+        }
+    }
+
+    fn multiplied(self, other: Residue31X8<N>, products: &mut Products) -> Residue31X8<N> {
+        products.rise(8);
+        Residue31X8 {
+            lanes: lane_products::<N>(self.lanes, other.lanes),
+            of: PhantomData,
+        }
+    }
+
+    ghost width_law = { λ x. length-elements_of _ x.lanes x.below ∙ x.eight };
 }
 
 // The remainder of each lane, which is below twice the modulus: where a lane is below the modulus,

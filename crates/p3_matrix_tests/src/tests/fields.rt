@@ -6,8 +6,8 @@ use super::{is, row, vectors};
 use p3_field::baby_bear::BabyBearNumbers;
 use p3_field::koala_bear::KoalaBearNumbers;
 use p3_field::{
-    BabyBear, BabyBearX8, CanonicalField, Field, Goldilocks, KoalaBear, Numbers, Packable, Packed,
-    PackedField, PackedPairs, Products, Residue31, Residue31X8, TwoAdicField, scaled,
+    BabyBear, BabyBearX8, CanonicalField, Field, Goldilocks, KoalaBear, Lanes, Numbers, Packable,
+    Packed, PackedField, Products, Residue31, Residue31X8, TwoAdicField, scaled,
 };
 use std::alloc::Global;
 use std::mem::size_of;
@@ -184,7 +184,7 @@ fn lanes(rt: HostRuntime) {
 }
 
 // The two elements of each pair change places.
-fn exchange<F: Field, P: PackedPairs<Scalar = F>>(pairs: &mut [F])
+fn exchange<F: Field, P: PackedField<Scalar = F>>(pairs: &mut [F])
     requires { length pairs.old ≡ 2 * P.WIDTH }
     ensures { length pairs.new ≡ length pairs.old }
 {
@@ -193,7 +193,7 @@ fn exchange<F: Field, P: PackedPairs<Scalar = F>>(pairs: &mut [F])
 }
 
 // Of the pairs of 1 and 2, of 3 and 4, and so on.
-fn exchanges<F: CanonicalField, P: PackedPairs<Scalar = F>>(
+fn exchanges<F: CanonicalField, P: PackedField<Scalar = F>>(
     rt: &impl Abort,
     alloc: Global,
     size: usize,
@@ -212,6 +212,7 @@ fn exchanges<F: CanonicalField, P: PackedPairs<Scalar = F>>(
 fn pairs(rt: HostRuntime) {
     exchanges::<BabyBear, BabyBearX8>(&rt, rt.alloc(), 16);
     exchanges::<Goldilocks, Goldilocks>(&rt, rt.alloc(), 2);
+    exchanges::<Goldilocks, Lanes<Goldilocks, 3>>(&rt, rt.alloc(), 6);
 }
 
 // What stands in one lane of eight, and in the lane beside it.

@@ -4,7 +4,7 @@
 ghost use Rattle.std.specs.Prelude.{◌≡◌, ℕ, ◌+◌, ◌*◌, ◌<◌, ◌≤◌, List, length, get_or};
 ghost use Rattle.p3_field.specs.Ring.{Ring};
 
-use p3_field::{PackedField, PackedPairs, Products, TwoAdicField};
+use p3_field::{PackedField, Products, TwoAdicField};
 use p3_matrix::packs::full_packs;
 
 /// A butterfly on pairs of entries that lie one after another, one pack of pairs at a time.
@@ -15,7 +15,7 @@ pub(crate) trait PairButterfly<F: TwoAdicField>: Copy {
     ghost far: { (A : Type 0) → Ring A → A → A → A → A };
 
     /// One pack of pairs, each with a twiddle of its own.
-    fn on_pack<P: PackedPairs<Scalar = F>>(
+    fn on_pack<P: PackedField<Scalar = F>>(
         self,
         twiddles: &[F],
         values: &mut [F],
@@ -44,7 +44,7 @@ impl<F: TwoAdicField> PairButterfly<F> for DitPair {
     ghost far = { λ A ring. dit_far ring };
 
     #[inline(always)]
-    fn on_pack<P: PackedPairs<Scalar = F>>(
+    fn on_pack<P: PackedField<Scalar = F>>(
         self,
         twiddles: &[F],
         values: &mut [F],
@@ -70,7 +70,7 @@ impl<F: TwoAdicField> PairButterfly<F> for DifPair {
     ghost far = { λ A ring. dif_far ring };
 
     #[inline(always)]
-    fn on_pack<P: PackedPairs<Scalar = F>>(
+    fn on_pack<P: PackedField<Scalar = F>>(
         self,
         twiddles: &[F],
         values: &mut [F],
@@ -106,7 +106,7 @@ pub(crate) fn on_pairs<F: TwoAdicField, B: PairButterfly<F>>(
 }
 
 // The same, where the pairs are full packs.
-fn on_packs<F: TwoAdicField, P: PackedPairs<Scalar = F>, B: PairButterfly<F>>(
+fn on_packs<F: TwoAdicField, P: PackedField<Scalar = F>, B: PairButterfly<F>>(
     butterfly: B,
     twiddles: &[F],
     values: &mut [F],

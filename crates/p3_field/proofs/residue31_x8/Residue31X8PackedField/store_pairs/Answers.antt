@@ -1,7 +1,7 @@
 use Rattle.std.proofs.Common.{◌≡◌, sym, ◌∙◌, arith, get_or, refl}
 use Rattle.p3_field.specs.Residues.{residue-eq}
 use Rattle.p3_field.proofs.ResidueLanes.{first_written, number_of_lane, second_written}
-use Rattle.p3_field.proofs.residue31_x8.Residue31X8PackedPairs.store_pairs.Goals as goal
+use Rattle.p3_field.proofs.residue31_x8.Residue31X8PackedField.store_pairs.Goals as goal
 
 pub returns-clause-first : goal.returns-clause-first
 returns-clause-first g c i below =

@@ -2,7 +2,7 @@ use Rattle.std.proofs.Common.{◌≡◌, ◌+◌, ◌*◌, ap, ◌∙◌, arith,
 use Rattle.std.proofs.lemmas.List.{get_or_default}
 use Rattle.p3_field.specs.Residues.{residue-eq}
 use Rattle.p3_field.proofs.ResidueLanes.{by_place}
-use Rattle.p3_field.proofs.residue31_x8.Residue31X8PackedPairs.load_pairs.Goals as goal
+use Rattle.p3_field.proofs.residue31_x8.Residue31X8PackedField.load_pairs.Goals as goal
 
 pub returns-clause-first : goal.returns-clause-first
 returns-clause-first g c i below =

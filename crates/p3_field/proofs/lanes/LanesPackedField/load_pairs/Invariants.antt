@@ -1,0 +1,13 @@
+use Rattle.std.proofs.Common.{◌≡◌, ℕ, ◌+◌, ◌*◌, ◌<◌, length, get_or}
+use Rattle.p3_field.proofs.lanes.LanesPackedField.load_pairs.Given as goal
+
+abbrev pub invariant-loop-i : goal.invariant-loop-i
+invariant-loop-i g l =
+    let value = g.F.Field.value in
+    let zero = g.F.Field.ZERO in
+    record {
+      long : length l.first ≡ g.row.N;
+      long_second : length l.second ≡ g.row.N;
+      first : (k : ℕ) → k < l.i → value (get_or l.first k zero) ≡ value (get_or l.fn.from (2 * k) zero);
+      second : (k : ℕ) → k < l.i → value (get_or l.second k zero) ≡ value (get_or l.fn.from (2 * k + 1) zero);
+    }
