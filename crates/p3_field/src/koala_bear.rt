@@ -7,7 +7,7 @@ use crate::residue31::{Numbers, Residue31};
 use crate::residue31_x8::Residue31X8;
 
 /// The numbers of `KoalaBear`.
-#[derive(Clone, Copy, Debug, PartialEq, Eq, PartialOrd, Ord)]
+#[derive(Clone, Copy, Debug)]
 pub struct KoalaBearNumbers;
 
 /// An integer modulo `2^31 - 2^24 + 1`, by its number below the modulus.

@@ -8,14 +8,13 @@ use crate::packed::{Packable, Packed, PackedField, Products};
 use crate::residue31_x8::Residue31X8;
 use crate::two_adic::{CanonicalField, TwoAdicField};
 use std::alloc::AllocError;
-use std::fmt::Debug;
 use std::marker::PhantomData;
 use std::ops::{Add, Mul, Neg, Sub};
 
 /// The numbers that make a field: an odd modulus below `2^31` and above the sum of `2^30` and the
 /// remainder of `2^62` by it, a number with an inverse, and a root of one whose order is a power of
 /// two. A type of this trait has no values of interest: it stands for its constants.
-pub trait Numbers: Copy + Ord + Debug {
+pub trait Numbers: Copy {
     ghost use Rattle.p3_field.specs.Fields.{FieldNumbers};
 
     // The numbers, with the facts that make them a field.
