@@ -282,10 +282,10 @@ fn packs_of<F: CanonicalField + Packable, P: PackedField<Scalar = F>>(
 #[test]
 fn packs_of_other_widths(rt: HostRuntime) {
     let alloc = rt.alloc();
-    packs_of::<BabyBear, Lanes<BabyBear, 1>>(&rt, alloc);
-    packs_of::<BabyBear, Lanes<BabyBear, 3>>(&rt, alloc);
-    packs_of::<BabyBear, Lanes<BabyBear, 4>>(&rt, alloc);
-    packs_of::<BabyBear, Lanes<BabyBear, 8>>(&rt, alloc);
+    packs_of::<Goldilocks, Lanes<Goldilocks, 1>>(&rt, alloc);
+    packs_of::<Goldilocks, Lanes<Goldilocks, 3>>(&rt, alloc);
+    packs_of::<Goldilocks, Lanes<Goldilocks, 4>>(&rt, alloc);
+    packs_of::<Goldilocks, Lanes<Goldilocks, 8>>(&rt, alloc);
 }
 
 // Stops the test where decimation in time makes another pair of an element of each row.

@@ -1,6 +1,11 @@
 use Rattle.std.proofs.Common.{sym}
-use Rattle.p3_dft.proofs.Laws.TwoCalls.{inverse_of_extension}
+use Rattle.p3_dft.proofs.Laws.TwoCalls.{inverse_of_extension, extension_fits}
 use Rattle.p3_dft_tests.proofs.tests.laws.coefficients_and_zeros.Goals as goal
+
+pub coset_idft_batch-requires-clause-fits : goal.coset_idft_batch-requires-clause-fits
+coset_idft_batch-requires-clause-fits g c =
+    extension_fits g.F.Field g.F.TwoAdicField.generator c.args.mat c.to_row_major_matrix.result c.args.added_bits (g.F.Field.value c.args.shift)
+    c.requires.fits (rw c.to_row_major_matrix.ensures c.in_ok-values.ensures.values)
 
 pub returns : goal.returns
 returns g c =

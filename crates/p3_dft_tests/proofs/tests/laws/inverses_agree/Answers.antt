@@ -2,6 +2,9 @@ use Rattle.std.proofs.Common.{sym}
 use Rattle.p3_dft.proofs.Laws.OneAnswer.{one_interpolation}
 use Rattle.p3_dft_tests.proofs.tests.laws.inverses_agree.Goals as goal
 
+pub coset_idft_batch-requires-clause-fits : goal.coset_idft_batch-requires-clause-fits
+coset_idft_batch-requires-clause-fits g c = rw c.in_ok-try_clone.ensures c.requires.fits
+
 pub returns : goal.returns
 returns g c =
     one_interpolation g.F.Field g.F.TwoAdicField.generator g.F.TwoAdicField.TWO_ADICITY g.met.F.TwoAdicField.roots_law c.args.mat c.in_ok-first.first c.in_ok-second.second

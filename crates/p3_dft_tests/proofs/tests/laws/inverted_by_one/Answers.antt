@@ -6,3 +6,6 @@ pub coset_idft_batch-requires-clause-invertible : goal.coset_idft_batch-requires
 coset_idft_batch-requires-clause-invertible g c =
     let ring = g.F.Field.ring in
     subst (IsInvertible ring) (sym (ap g.F.Field.value c.ONE.ensures ∙ g.met.F.Field.one_law)) (ring.one, ring.mul_one ring.one)
+
+pub returns : goal.returns
+returns g c = rw (ap g.F.Field.value c.ONE.ensures ∙ g.met.F.Field.one_law) at c.coset_idft_batch.ensures.coefficients
