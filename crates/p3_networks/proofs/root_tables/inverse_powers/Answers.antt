@@ -89,6 +89,3 @@ returns g c =
     let n = c.args.log_h - 1 in
     let end : c.loop-b.b ≡ 2 ^ n = omega (arith, c.loop-b-test.false, c.loop-b.auto.b-end, c.requires.powers.size, pow_pos n) in
     subst (λ (m : ℕ). AreTwiddles field m (block_powers field (backward_root field g.F.TwoAdicField.generator) n) c.loop-b.inverse.items) end c.loop-b.invariant
-
-pub neg-requires : goal.neg-requires
-neg-requires g c = g.met.F.Field.can_neg_law _

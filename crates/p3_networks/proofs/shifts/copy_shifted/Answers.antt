@@ -68,6 +68,3 @@ loop-i-preserved g c =
 
 pub returns-clause-values : goal.returns-clause-values
 returns-clause-values g c = λ i j below inside. c.loop-i.invariant.values.done i j (omega arith) inside
-
-pub mul-factor-requires : goal.mul-factor-requires
-mul-factor-requires g c = g.met.F.Field.can_mul_law _ _

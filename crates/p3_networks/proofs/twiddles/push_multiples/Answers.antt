@@ -41,9 +41,6 @@ loop-i-preserved g c =
           c.index.ensures (g.met.F.Field.mul_law _ _ _ c.mul-multiple.ensures) c.loop-i.invariant.after;
     }
 
-pub mul-multiple-requires : goal.mul-multiple-requires
-mul-multiple-requires g c = g.met.F.Field.can_mul_law _ _
-
 pub returns-clause-after : goal.returns-clause-after
 returns-clause-after g c n inside = c.loop-i.invariant.after n (omega (arith, inside, c.len-i-end.ensures, c.loop-i-test.false))
 

@@ -55,6 +55,3 @@ loop-t-preserved g c =
 
 pub returns-clause-values : goal.returns-clause-values
 returns-clause-values g c t j below inside = c.loop-t.invariant.values.done t j (omega arith) inside
-
-pub mul-factor-requires : goal.mul-factor-requires
-mul-factor-requires g c = g.met.F.Field.can_mul_law _ _

@@ -175,9 +175,6 @@ evaluate-requires-clause-twiddles g c = c.requires.twiddles
 pub evaluate_from-requires-clause-twiddles : goal.evaluate_from-requires-clause-twiddles
 evaluate_from-requires-clause-twiddles g c = c.requires.twiddles
 
-pub mul-requires : goal.mul-requires
-mul-requires g c = g.met.F.Field.can_mul_law _ _
-
 pub returns-clause-grows : goal.returns-clause-grows
 returns-clause-grows g c = le_trans (le_trans c.loop-place.invariant.grows c.shift_values.ensures.grows) c.evaluate.ensures.grows
 

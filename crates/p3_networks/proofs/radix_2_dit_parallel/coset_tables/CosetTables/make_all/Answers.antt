@@ -76,6 +76,3 @@ returns-in_err-make-clause-only g c =
 
 pub returns-clause-made : goal.returns-clause-made
 returns-clause-made g c i below = c.loop-coset.invariant.made i (omega (arith, below, second_shift c.args.log_h c.args.added_bits c.requires.small, c.loop-coset-test.false))
-
-pub mul-coset-requires : goal.mul-coset-requires
-mul-coset-requires g c = g.met.F.Field.can_mul_law _ _
