@@ -2,7 +2,7 @@
 //!
 //! A matrix holds one polynomial in each column. `TwoAdicSubgroupDft` is the trait of the engines
 //! that transform all columns at once; this crate gives the public names of `p3_field` and
-//! `p3_matrix` again, so that a user names one crate.
+//! `p3_matrix` that a user needs again, so that a user names one crate.
 #![tactic(auto)]
 
 mod algebra;

@@ -20,9 +20,9 @@ use std::marker::Model;
 /// products.
 ///
 /// The twiddles that a height needs are kept from its first transform on, or from `prepare`, until the
-/// engine ends; then `dft_batch` and the calls that stand on it, but for extensions, take no memory at
-/// that height. A layer has the same twiddles at each height, so that smaller heights are prepared with it. A new
-/// engine and a clone have no twiddles and take no memory.
+/// engine ends; then `dft_batch` and the calls that stand on it, but for extensions and forms over
+/// vector spaces, take no memory at that height. A layer has the same twiddles at each height, so that
+/// smaller heights are prepared with it. A new engine and a clone have no twiddles and take no memory.
 ///
 /// Contracts see which heights are prepared and how many products were made.
 #[derive(Drop)]
@@ -66,10 +66,10 @@ impl<F: TwoAdicField> Clone for Radix2Dit<F> {
 }
 
 impl<F: TwoAdicField> Radix2Dit<F> {
-    /// Makes the twiddles for height `2^log_h`, from when on transforms of that height and of smaller
-    /// ones take no memory. It takes none itself where the height is prepared already, as height one
-    /// always is. `log_h` is at most `TWO_ADICITY`, and a `usize` holds the height. Where memory is
-    /// refused, the engine is as before.
+    /// Makes the twiddles for height `2^log_h`, from when on transforms and inverses over the field, of
+    /// that height and of smaller ones, take no memory. It takes none itself where the height is prepared
+    /// already, as height one always is. `log_h` is at most `TWO_ADICITY`, and a `usize` holds the
+    /// height. Where memory is refused, the engine is as before.
     pub fn prepare(&mut self, alloc: Global, log_h: usize) -> Result<(), DftError>
         requires within { log_h ≤ F.TWO_ADICITY }
         requires size { 2 ^ log_h < 2 ^ 64 }
@@ -83,7 +83,8 @@ impl<F: TwoAdicField> Radix2Dit<F> {
         self.twiddles.make(alloc, log_h)
     }
 
-    /// Whether transforms of height `2^log_h` take no memory. Height one always is prepared.
+    /// Whether transforms and inverses over the field of height `2^log_h` take no memory. Height one
+    /// always is prepared.
     pub fn is_prepared(&self, log_h: usize) -> bool
         ensures { IsTrue result ↔ IsPrepared self.now log_h }
     {

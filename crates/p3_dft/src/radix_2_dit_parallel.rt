@@ -31,7 +31,8 @@ use std::marker::Model;
 ///
 /// Powers of the generators and of their inverses are kept for the largest height so far, from its first
 /// transform or inverse on, or from `prepare`, until the engine ends; then `dft_batch`, `idft_batch` and
-/// the calls that stand on them, but for extensions, take no memory at that height and at smaller ones.
+/// the calls that stand on them, but for extensions and forms over vector spaces, take no memory at that
+/// height and at smaller ones.
 /// A coset has a table of its own, of one entry less than its height, for its height and its shift,
 /// which is kept from its first `coset_dft_batch` on; the coset of one, which is the subgroup, needs none
 /// there. An extension goes coset by coset: its output is made of `2^added_bits` cosets of the input's
@@ -85,8 +86,9 @@ impl<F: TwoAdicField> Clone for Radix2DitParallel<F> {
 }
 
 impl<F: TwoAdicField> Radix2DitParallel<F> {
-    /// Makes the tables for height `2^log_h`, from when on `dft_batch` and both inverses take no memory at
-    /// that height and at smaller ones; a coset but the subgroup has a table of its own. It takes none
+    /// Makes the tables for height `2^log_h`, from when on `dft_batch` and both inverses over the field
+    /// take no memory at that height and at smaller ones; a coset but the subgroup has a table of its own,
+    /// which no call makes alone. It takes none
     /// itself where the height is prepared already, as height one always is. `log_h` is at most
     /// `TWO_ADICITY`, and a `usize` holds the height. Where memory is refused, the engine is as before.
     pub fn prepare(&mut self, alloc: Global, log_h: usize) -> Result<(), DftError>
@@ -103,8 +105,8 @@ impl<F: TwoAdicField> Radix2DitParallel<F> {
         self.tables.make(alloc, log_h)
     }
 
-    /// Whether `dft_batch` and both inverses take no memory at height `2^log_h`. Height one always is
-    /// prepared.
+    /// Whether `dft_batch` and both inverses over the field take no memory at height `2^log_h`. Height
+    /// one always is prepared.
     pub fn is_prepared(&self, log_h: usize) -> bool
         ensures { IsTrue result ↔ IsPrepared self.now.roots log_h }
     {
@@ -334,7 +336,8 @@ impl<F: TwoAdicField> TwoAdicSubgroupDft<F> for Radix2DitParallel<F> {
 
     /// As the trait says: each run of rows of the second half is lent as soon as it is final, so that it is
     /// in the cache still. The first rows, which hold the coefficients until the others are made from
-    /// them, are the last that are lent.
+    /// them, are the last that are lent. It leaves of the tables what `coset_lde_batch_with_transform`
+    /// leaves; where the consumer refused, what that leaves with `Ok`.
     fn coset_lde_batch_with_blocks<
         N: IntoRowMajorMatrix<F>,
         T: FnOnce(RowMajorMatrix<F>, Layout) -> RowMajorMatrix<F> + Drop,

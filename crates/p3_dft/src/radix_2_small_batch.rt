@@ -38,8 +38,8 @@ const TILE: usize = 8192;
 ///
 /// Two tables of twiddles are kept for the largest height so far, from its first transform on, or from
 /// `prepare`, until the engine ends; then `dft_batch`, `idft_batch` and the calls that stand on them,
-/// but for extensions, take no memory at that height and at smaller ones. A `default` engine and a
-/// clone, which has the tile of the other, have no tables and take no memory.
+/// but for extensions and forms over vector spaces, take no memory at that height and at smaller ones. A
+/// `default` engine and a clone, which has the tile of the other, have no tables and take no memory.
 ///
 /// Contracts see which heights are prepared and how many products were made. A tile of any size gives
 /// the same answers.
@@ -131,10 +131,10 @@ impl<F: TwoAdicField> Radix2DFTSmallBatch<F> {
         Ok(engine)
     }
 
-    /// Makes the tables for height `2^log_h`, from when on transforms of that height and of smaller
-    /// ones take no memory. It takes none itself where the height is prepared already, as height one
-    /// always is. `log_h` is at most `TWO_ADICITY`, and a `usize` holds the height. Where memory is
-    /// refused, the engine is as before.
+    /// Makes the tables for height `2^log_h`, from when on transforms and inverses over the field, of
+    /// that height and of smaller ones, take no memory. It takes none itself where the height is prepared
+    /// already, as height one always is. `log_h` is at most `TWO_ADICITY`, and a `usize` holds the
+    /// height. Where memory is refused, the engine is as before.
     pub fn prepare(&mut self, alloc: Global, log_h: usize) -> Result<(), DftError>
         requires within { log_h ≤ F.TWO_ADICITY }
         requires size { 2 ^ log_h < 2 ^ 64 }
@@ -148,7 +148,8 @@ impl<F: TwoAdicField> Radix2DFTSmallBatch<F> {
         self.tables.make(alloc, log_h)
     }
 
-    /// Whether transforms of height `2^log_h` take no memory. Height one always is prepared.
+    /// Whether transforms and inverses over the field of height `2^log_h` take no memory. Height one
+    /// always is prepared.
     pub fn is_prepared(&self, log_h: usize) -> bool
         ensures { IsTrue result ↔ IsPrepared self.now log_h }
     {

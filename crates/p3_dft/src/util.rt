@@ -110,7 +110,7 @@ pub(crate) fn reverse_rows_but_first<T>(mat: &mut RowMajorMatrix<T>)
     }
 }
 
-// Rows i and j change places.
+// `swap_rows`, of the matrix itself.
 pub(crate) fn exchange_rows<T>(mat: &mut RowMajorMatrix<T>, i: usize, j: usize)
     requires i_in_bounds { i < height mat.old }
     requires j_in_bounds { j < height mat.old }

@@ -16,7 +16,7 @@ pub trait BasedVectorSpace<F: Field>: Drop {
     // The coordinates of an element, in order.
     ghost coordinates: { Self → List F };
 
-    /// Coordinate i. Takes no memory.
+    /// Coordinate i, which is below `DIMENSION`. Takes no memory.
     fn coordinate(&self, i: usize) -> F
         requires { i < DIMENSION }
         ensures { (d : F) → result ≡ get_or (coordinates self.now) i d };

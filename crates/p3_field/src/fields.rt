@@ -101,7 +101,7 @@ pub trait Field: Copy
         product
     }
 
-    /// The power of `2^n`, by n squarings.
+    /// The `2^n`-th power, by n squarings.
     fn exp_power_of_2(self, n: usize) -> Self
         ensures { value result ≡ power ring (value self) (2 ^ n) }
     {

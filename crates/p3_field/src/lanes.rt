@@ -1,6 +1,6 @@
 //! Scalars side by side, each in a lane of its own.
 
-ghost use Rattle.std.specs.Prelude.{◌≡◌, ◌<◌, ◌≤◌, ℕ, length, get_or};
+ghost use Rattle.std.specs.Prelude.{◌≡◌, length};
 
 use crate::fields::Field;
 use crate::packed::{Packed, PackedField, Products};
@@ -26,8 +26,6 @@ impl<F: Field, const N: usize> Packed for Lanes<F, N> {
 }
 
 impl<F: Field, const N: usize> PackedField for Lanes<F, N> {
-    ghost use Rattle.std.specs.Prelude.{length};
-
     const WIDTH: usize = N;
 
     ghost WIDTH = { N };

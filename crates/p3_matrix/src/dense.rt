@@ -124,7 +124,7 @@ impl<T> RowMajorMatrix<T> {
         values
     }
 
-    /// The entries of row i.
+    /// The entries of row i, which is below the height.
     pub fn row(&self, i: usize) -> &[T]
         requires { i < height self.now }
         ensures { result.now ≡ row self.now i }
@@ -133,7 +133,7 @@ impl<T> RowMajorMatrix<T> {
         &self.values[start..start + self.width]
     }
 
-    /// The `count` rows from row `start` on, lent for reading.
+    /// The `count` rows from row `start` on, which the matrix has, lent for reading.
     pub fn view_rows(&self, start: usize, count: usize) -> RowMajorMatrixView<'_, T>
         requires { start + count ≤ height self.now }
         ensures { result ≡ rows_from self.now start count }
@@ -150,7 +150,7 @@ impl<T> RowMajorMatrix<T> {
         self.values.as_mut_slice()
     }
 
-    /// The entries of row i, lent for writing.
+    /// The entries of row i, which is below the height, lent for writing.
     pub fn row_mut(&mut self, i: usize) -> &mut [T]
         requires { i < height self.old }
         ensures* writes_back { sem 𝓛 (LendsRow T.row self.entry i result) }

@@ -8,7 +8,7 @@ ghost use Rattle.p3_field.specs.Lanes.{by_lanes};
 use crate::butterflies::Butterfly;
 use p3_field::{Packable, PackedField, Products};
 
-/// How many of `size` places full packs of `width` take up.
+/// How many of `size` places full packs of `width`, which is at least one, take up.
 pub fn full_packs(size: usize, width: usize) -> usize
     requires { 1 ≤ width }
     ensures within { result ≤ size }
@@ -19,7 +19,7 @@ pub fn full_packs(size: usize, width: usize) -> usize
 }
 
 /// Takes two rows of full packs to the near and the far row. The rows have one length, a multiple of the
-/// packs' width.
+/// packs' width, which is at least one.
 pub fn apply_to_packs<F: Packable, P: PackedField<Scalar = F>, B: Butterfly<F>>(
     butterfly: &B,
     row_1: &mut [F],

@@ -16,7 +16,7 @@ pub fn log2_strict_usize(n: usize) -> usize
     n.ilog2() as usize
 }
 
-/// Rows i and j change places.
+/// Rows i and j, which are below the height, change places.
 pub fn swap_rows<T>(view: &mut RowMajorMatrixViewMut<'_, T>, i: usize, j: usize)
     requires i_in_bounds { i < height view.old.matrix.now }
     requires j_in_bounds { j < height view.old.matrix.now }

@@ -61,7 +61,7 @@ impl<'a, T> RowMajorMatrixView<'a, T> {
         self.values
     }
 
-    /// The entries of row i.
+    /// The entries of row i, which is below the height.
     pub fn row(&self, i: usize) -> &'a [T]
         requires { i < height self.now }
         ensures { result.now ≡ row self.now i }
@@ -116,7 +116,7 @@ impl<'a, T> RowMajorMatrixViewMut<'a, T> {
         self.matrix.values()
     }
 
-    /// The entries of row i.
+    /// The entries of row i, which is below the height.
     pub fn row(&self, i: usize) -> &[T]
         requires { i < height self.now.matrix.now }
         ensures { result.now ≡ row self.now.matrix.now i }
@@ -139,7 +139,7 @@ impl<'a, T> RowMajorMatrixViewMut<'a, T> {
         self.matrix.values_mut()
     }
 
-    /// The entries of row i, lent for writing.
+    /// The entries of row i, which is below the height, lent for writing.
     pub fn row_mut(&mut self, i: usize) -> &mut [T]
         requires { i < height self.old.matrix.now }
         ensures* writes_back { sem 𝓛 (LendsViewRow T.row self.entry i result) }

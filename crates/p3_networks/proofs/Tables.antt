@@ -1,4 +1,4 @@
--- Tables of twiddles, and which heights they prepare.
+-- Tables of twiddles.
 pub mod BlockTables
 pub mod CosetTables
 pub mod FoundOne

@@ -69,7 +69,8 @@ pub trait Rule<F: TwoAdicField>: Copy {
 /// first half of a block meets row t of the second as the rule says. The blocks that are handed over
 /// are those from number `first_block` on.
 ///
-/// Cell i of a half stands in row `i / width` of it.
+/// Cell i of a half stands in row `i / width` of it. The width, `half` and the number of blocks are at least
+/// one, and the rule has a butterfly for each pair.
 ///
 /// Inlined, so that a width that the caller names is known in the loops.
 #[inline(always)]
@@ -260,9 +261,9 @@ fn meet_rows_at<F: TwoAdicField, R: Rule<F>>(
     );
 }
 
-/// A layer from rows of another slice, which stay. The source and the values are blocks of two halves, of
-/// `size` entries each, and entry i of the first half of a block meets entry i of the second by the one
-/// butterfly.
+/// A layer from rows of another slice, which stay. The source and the values are blocks, at least one, of
+/// two halves, of `size` entries each, and entry i of the first half of a block meets entry i of the second
+/// by the one butterfly.
 ///
 /// Inlined, so that a size that the caller names is known in the loop.
 #[inline(always)]

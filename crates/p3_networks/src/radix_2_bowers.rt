@@ -10,8 +10,10 @@ use crate::butterfly_layers::layer;
 use crate::butterfly_layers::rules::{DifByBlock, DitByBlock};
 use p3_field::{Products, TwoAdicField};
 
-/// Network G, from rows in bit reversed order: in layer l, blocks of two halves of `2^l` rows meet by
-/// decimation in frequency, block b with twiddle b. Block 0 has no product.
+/// Network G, from rows in bit reversed order to their values at the powers of the generator, in natural
+/// order: in layer l, blocks of two halves of `2^l` rows meet by decimation in frequency, block b with
+/// twiddle b. Block 0 has no product. There are two rows or more, and half as many twiddles: the powers of
+/// the generator, in bit reversed order.
 pub fn network_g<F: TwoAdicField>(
     values: &mut [F],
     width: usize,
@@ -75,8 +77,10 @@ fn layers_of_g<F: TwoAdicField>(
     }
 }
 
-/// Network G transposed, to rows in bit reversed order: the layers of G in opposite order, by
-/// decimation in time, with the powers of the inverse of the generator. Block 0 has no product.
+/// Network G transposed, from rows in natural order to their values at the powers of the inverse of the
+/// generator, in bit reversed order: the layers of G in opposite order, by decimation in time. Block 0 has
+/// no product. There are two rows or more, and half as many twiddles: the powers of that inverse, in bit
+/// reversed order.
 pub fn network_g_transposed<F: TwoAdicField>(
     values: &mut [F],
     width: usize,

@@ -1,9 +1,9 @@
 //! The layers of the network by decimation in time.
 
-ghost use Rattle.std.specs.Prelude.{◌≡◌, ℕ, ◌+◌, ◌*◌, ◌/◌, ◌^◌, ◌<◌, ◌≤◌, length, get_or, false};
+ghost use Rattle.std.specs.Prelude.{◌≡◌, ◌+◌, ◌*◌, ◌/◌, ◌^◌, ◌<◌, ◌≤◌, length, false};
 ghost use Rattle.p3_field.specs.Ring.{power};
 ghost use Rattle.p3_matrix.specs.BitOrder.{rev};
-ghost use Rattle.p3_networks.specs.Polynomials.{poly};
+ghost use Rattle.p3_networks.specs.Layers.{AreValuesOfRows};
 ghost use Rattle.p3_networks.specs.Twiddles.{AreTwiddlesOfLayers, root_powers};
 
 use crate::butterfly_layers::layer;
@@ -11,8 +11,9 @@ use crate::butterfly_layers::rules::DitByPlace;
 use crate::twiddles::layer_twiddles;
 use p3_field::{Products, TwoAdicField};
 
-/// All layers, on rows that lie in bit reversed order. Layer l has `2^(log_h - 1 - l)` blocks of two
-/// halves of `2^l` rows. Inlined, so that a width that the caller names is known in all layers.
+/// All layers, from rows in bit reversed order to their values at the powers of the generator, in natural
+/// order. Layer l has `2^(log_h - 1 - l)` blocks of two halves of `2^l` rows. The twiddles are those of all
+/// layers, as `Twiddles` has them. Inlined, so that a width that the caller names is known in all layers.
 #[inline(always)]
 pub fn dit_network<F: TwoAdicField>(
     values: &mut [F],
@@ -26,9 +27,8 @@ pub fn dit_network<F: TwoAdicField>(
     requires rooted { log_h ≤ F.TWO_ADICITY }
     requires height { length values.old ≡ 2 ^ log_h * width }
     requires twiddles { AreTwiddlesOfLayers F.Field.own log_h (root_powers F.Field.own F.generator false) twiddles.now }
-    ensures values { (r j : ℕ) → r < 2 ^ log_h → j < width → F.value (get_or values.new (r * width + j) F.ZERO)
-        ≡ poly F.ring (2 ^ log_h) (λ q. F.value (get_or values.old (rev log_h q * width + j) F.ZERO))
-        (power F.ring (F.value (F.generator log_h)) r) }
+    ensures values { AreValuesOfRows F.Field.own width (2 ^ log_h) (rev log_h)
+        (λ r. power F.ring (F.value (F.generator log_h)) r) values.old values.new }
     ensures grows { products.old ≤ products.new }
     ensures count { products.new ≤ products.old + width * (log_h * 2 ^ log_h / 2) }
 {

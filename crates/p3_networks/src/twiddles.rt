@@ -52,8 +52,8 @@ impl<F: TwoAdicField> Twiddles<F> {
         self.log_h
     }
 
-    /// Makes the twiddles for height `2^log_h`, unless they are there: then no memory is taken. Where
-    /// memory is refused, what is there stays.
+    /// Makes the twiddles for height `2^log_h`, unless they are there: then no memory is taken. The
+    /// logarithm is at most `TWO_ADICITY` and below 64. Where memory is refused, what is there stays.
     pub fn make(&mut self, alloc: Global, log_h: usize) -> Result<(), DftError>
         requires within { log_h ≤ F.TWO_ADICITY }
         requires small { log_h < 64 }
@@ -84,7 +84,8 @@ impl<F: TwoAdicField> Twiddles<F> {
     }
 }
 
-/// The `2^l` twiddles of layer l, in a table of layers that follow one another.
+/// The `2^l` twiddles of layer l, which is below 63, in a table of layers that follow one another and has
+/// those of this layer.
 pub fn layer_twiddles<F: TwoAdicField>(twiddles: &[F], l: usize) -> &[F]
     requires small { l < 63 }
     requires inside { 2 * 2 ^ l - 1 ≤ length twiddles.now }
@@ -108,7 +109,7 @@ fn root<F: TwoAdicField>(inverse: bool, bits: usize) -> F
 }
 
 /// The powers of the generators, or of their inverses, for the layers 0 to `layers - 1`, in natural order:
-/// those of layer l begin at place `2^l - 1`.
+/// those of layer l begin at place `2^l - 1`. There are at most `TWO_ADICITY` layers, and fewer than 64.
 pub fn root_layers<F: TwoAdicField>(
     alloc: Global,
     inverse: bool,
@@ -126,7 +127,7 @@ pub fn root_layers<F: TwoAdicField>(
     Ok(powers)
 }
 
-/// The first `2^bits` powers of `base`, each times `first`, in bit reversed order.
+/// The first `2^bits` powers of `base`, each times `first`, in bit reversed order. `bits` is below 64.
 pub fn reversed_powers<F: TwoAdicField>(
     alloc: Global,
     first: F,
@@ -143,7 +144,8 @@ pub fn reversed_powers<F: TwoAdicField>(
 }
 
 /// Adds the first `2^bits` powers of `base`, each times `first`, at the end: in natural order or in bit
-/// reversed order. In either, twice as many are the same again and each of them times one factor.
+/// reversed order. In either, twice as many are the same again and each of them times one factor. `bits`
+/// is below 64. Where memory is refused, some of them may stand at the end, and no clause says what does.
 pub fn push_layer<F: TwoAdicField>(
     twiddles: &mut Vec<F>,
     first: F,

@@ -1,4 +1,4 @@
-// The network on the subgroup, by the powers that the engine keeps.
+// The network on the subgroup and on a coset, by the tables that the engine keeps.
 
 ghost use Rattle.std.specs.Prelude.{◌≡◌, ℕ, ◌+◌, ◌*◌, ◌/◌, ◌^◌, ◌<◌, ◌≤◌, length};
 ghost use Rattle.p3_field.specs.Ring.{power};

@@ -15,6 +15,7 @@ use p3_matrix::{
 /// Decimation in time: pair t of every block has twiddle t. Twiddle 0 is one.
 #[derive(Clone, Copy)]
 pub struct DitByPlace<'a, F> {
+    /// Twiddle t stands in place t.
     pub twiddles: &'a [F],
 }
 
@@ -62,6 +63,7 @@ impl<F: TwoAdicField> Rule<F> for DitByPlace<'_, F> {
 /// Decimation in time on a coset: pair t of every block has twiddle t, and none is free.
 #[derive(Clone, Copy)]
 pub struct DitByPlaceOnCoset<'a, F> {
+    /// Twiddle t stands in place t.
     pub twiddles: &'a [F],
 }
 
@@ -105,6 +107,7 @@ impl<F: TwoAdicField> Rule<F> for DitByPlaceOnCoset<'_, F> {
 /// Decimation in time: every pair of block b has twiddle b. Twiddle 0 is one.
 #[derive(Clone, Copy)]
 pub struct DitByBlock<'a, F> {
+    /// That of block b stands in place b.
     pub twiddles: &'a [F],
 }
 
@@ -152,6 +155,7 @@ impl<F: TwoAdicField> Rule<F> for DitByBlock<'_, F> {
 /// Decimation in time on a coset: every pair of block b has twiddle b, and none is free.
 #[derive(Clone, Copy)]
 pub struct DitByBlockOnCoset<'a, F> {
+    /// That of block b stands in place b.
     pub twiddles: &'a [F],
 }
 
@@ -195,7 +199,9 @@ impl<F: TwoAdicField> Rule<F> for DitByBlockOnCoset<'_, F> {
 /// Decimation in time, and both values times a scale: every pair of block b has twiddle b.
 #[derive(Clone, Copy)]
 pub struct ScaledDitByBlock<'a, F> {
+    /// That of block b stands in place b.
     pub twiddles: &'a [F],
+    /// What both new entries of a pair are multiplied by.
     pub scale: F,
 }
 
@@ -240,6 +246,7 @@ impl<F: TwoAdicField> Rule<F> for ScaledDitByBlock<'_, F> {
 /// Decimation in frequency: every pair of block b has twiddle b. Twiddle 0 is one.
 #[derive(Clone, Copy)]
 pub struct DifByBlock<'a, F> {
+    /// That of block b stands in place b.
     pub twiddles: &'a [F],
 }
 
@@ -289,6 +296,7 @@ impl<F: TwoAdicField> Rule<F> for DifByBlock<'_, F> {
 /// would make.
 #[derive(Clone, Copy)]
 pub struct DifZerosByBlock<'a, F> {
+    /// That of block b stands in place b.
     pub twiddles: &'a [F],
 }
 

@@ -57,7 +57,7 @@ impl<F: TwoAdicField> CosetTable<F> {
         self.log_h == log_h && self.shift == shift
     }
 
-    /// The twiddles.
+    /// The twiddles, `2^log_h - 1` of them, layer after layer.
     pub fn twiddles(&self) -> &[F]
         ensures within { self.now.log_h ≤ F.TWO_ADICITY }
         ensures size { length result.now ≡ 2 ^ self.now.log_h - 1 }
@@ -112,7 +112,7 @@ impl<F: TwoAdicField> CosetTables<F> {
         CosetTables { tables: None }
     }
 
-    // All of them.
+    // The tables, of which there are none before the first was made.
     fn as_slice(&self) -> &[CosetTable<F>]
         ensures { result.now ≡ self.now }
     {
@@ -122,7 +122,7 @@ impl<F: TwoAdicField> CosetTables<F> {
         }
     }
 
-    /// That in a place.
+    /// That in a place, which is below their number.
     pub fn get(&self, place: usize) -> &CosetTable<F>
         requires { place < length self.now }
         ensures { (d : Coset F) → result.now ≡ get_or self.now place d }
@@ -144,8 +144,8 @@ impl<F: TwoAdicField> CosetTables<F> {
         None
     }
 
-    /// The place of the table of a coset, which is made unless it is there: then no memory is taken. Where
-    /// memory is refused, what is there stays.
+    /// The place of the table of a coset, which is made unless it is there: then no memory is taken. The
+    /// logarithm is at most `TWO_ADICITY` and below 64. Where memory is refused, what is there stays.
     pub fn make(&mut self, alloc: Global, log_h: usize, shift: F) -> Result<usize, DftError>
         requires within { log_h ≤ F.TWO_ADICITY }
         requires small { log_h < 64 }
@@ -177,8 +177,8 @@ impl<F: TwoAdicField> CosetTables<F> {
 
     /// Makes the tables of the `2^added_bits` cosets of order `2^log_h` that are, together, the coset of
     /// `shift` of order `2^(log_h + added_bits)`, and no others. Those that are there are not made again, so
-    /// that each coset has one table: where all are there, no memory is taken. Where memory is refused,
-    /// those that were made stay.
+    /// that each coset has one table: where all are there, no memory is taken. The logarithm of the larger
+    /// order is at most `TWO_ADICITY` and below 64. Where memory is refused, those that were made stay.
     pub fn make_all(
         &mut self,
         alloc: Global,

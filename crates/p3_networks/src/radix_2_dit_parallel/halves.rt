@@ -23,7 +23,9 @@ use p3_matrix::{DitButterfly, TwiddleFreeButterfly};
 /// layers, of which a layer has the first ones, or a table for each layer, one after another.
 #[derive(Clone, Copy)]
 pub struct BlockTwiddles<'a, F> {
+    /// The table, or the tables of all layers.
     pub twiddles: &'a [F],
+    /// Whether each layer has a table of its own.
     pub by_layer: bool,
 }
 
@@ -43,7 +45,8 @@ impl<'a, F: TwoAdicField> BlockTwiddles<'a, F> {
 }
 
 /// The first half, on rows in bit reversed order: each run of `2^mid` rows has the coefficients of
-/// polynomials, in bit reversed order, and becomes their values on a coset, in natural order.
+/// polynomials, in bit reversed order, and becomes their values on a coset, in natural order. `mid` is at
+/// most `log_h`, and the twiddles are those of as many layers.
 pub fn first_half<F: TwoAdicField>(
     values: &mut [F],
     width: usize,
@@ -105,7 +108,7 @@ fn low_runs<F: TwoAdicField>(
     }
 }
 
-/// The first half from rows of another slice, which stay.
+/// The first half, under the same conditions, from as many rows of another slice, which stay.
 pub fn first_half_from<F: TwoAdicField>(
     source: &[F],
     values: &mut [F],
@@ -178,7 +181,8 @@ fn low_runs_from<F: TwoAdicField>(
 
 /// The second half, on rows in natural order: each run of `2^left` rows has the coefficients of
 /// polynomials, and becomes their values on a coset of its own, in bit reversed order. With a scale, the
-/// coefficients are multiplied by it first.
+/// coefficients are multiplied by it first. There is at least one layer, and the table has the twiddles of
+/// all.
 pub fn second_half<F: TwoAdicField>(
     values: &mut [F],
     width: usize,

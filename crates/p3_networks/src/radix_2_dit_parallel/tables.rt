@@ -59,8 +59,8 @@ impl<F: TwoAdicField> Tables<F> {
         self.high.log_h()
     }
 
-    /// Makes the tables for height `2^log_h`, unless they are there: then no memory is taken. Where memory
-    /// is refused, what is there stays.
+    /// Makes the tables for height `2^log_h`, unless they are there: then no memory is taken. The logarithm
+    /// is at most `TWO_ADICITY` and below 64. Where memory is refused, what is there stays.
     pub fn make(&mut self, alloc: Global, log_h: usize) -> Result<(), DftError>
         requires within { log_h ≤ F.TWO_ADICITY }
         requires small { log_h < 64 }

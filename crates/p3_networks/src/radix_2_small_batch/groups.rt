@@ -13,7 +13,8 @@ use p3_field::{Products, TwoAdicField};
 use p3_matrix::log2_strict_usize;
 
 /// The logarithm of the number of rows of a tile of about `tile` elements: the least power of two that is
-/// not below the rows that fit into it, or the height if that is less.
+/// not below the rows that fit into it, or the height if that is less. `tile` is at most `2^32`, and
+/// `width` at least one.
 pub fn log_tile_rows(tile: usize, width: usize, log_h: usize) -> usize
     requires wide { 1 ≤ width }
     requires tile { tile ≤ 4294967296 }
@@ -26,7 +27,7 @@ pub fn log_tile_rows(tile: usize, width: usize, log_h: usize) -> usize
 }
 
 /// How many elements a piece has of each eighth of a block, so that those of all eighths are about as many
-/// as a tile has: at least one. Quarters and halves have pieces of the same size.
+/// as a tile has: at least one. Quarters and halves have pieces of the same size. `tile` is at most `2^32`.
 pub fn piece_size(tile: usize) -> usize
     requires tile { tile ≤ 4294967296 }
     ensures some { 1 ≤ result }
@@ -39,7 +40,9 @@ pub fn piece_size(tile: usize) -> usize
 /// Which layers of a network come first: those of large blocks or those of small ones.
 #[derive(Clone, Copy)]
 pub enum Order {
+    /// The layer whose blocks are the largest is done first.
     LargestFirst,
+    /// The layer whose blocks are the smallest is done first.
     SmallestFirst,
 }
 
@@ -70,7 +73,8 @@ impl Order {
     }
 }
 
-/// How many groups there are of `layers` layers: of three each, but for one or two that are left.
+/// How many groups there are of `layers` layers, fewer than 64: of three each, but for one or two that are
+/// left.
 pub fn groups(layers: usize) -> usize
     requires { layers < 64 }
     ensures { result ≡ (layers + 2) / 3 }
@@ -79,7 +83,8 @@ pub fn groups(layers: usize) -> usize
 }
 
 /// Where group g ends, and where the one before it begins: group g has the entries from `group_end` of
-/// `g + 1` up to that of g. Threes are counted from `log_h` down, and what is left goes down to `log_rows`.
+/// `g + 1` up to that of g. Threes are counted from `log_h` down, and what is left goes down to `log_rows`,
+/// which is at most `log_h`. `g` is below 64.
 pub fn group_end(log_rows: usize, log_h: usize, g: usize) -> usize
     requires below { log_rows ≤ log_h }
     requires small { g < 64 }

@@ -280,7 +280,8 @@ fn layers_of_short_runs<F: TwoAdicField, R: NetworkRule<F>>(
     }
 }
 
-// The same on run `number` of 64 rows. The entries are named, so that the loops of each layer are of known size.
+// The same on run `number` of 64 rows. The entries are named, so that the loops of each layer are of
+// known size.
 fn layers_of_short_run<F: TwoAdicField, R: NetworkRule<F>>(
     rule: R,
     values: &mut [F],
@@ -364,7 +365,8 @@ fn scaled_dif_tiles<F: TwoAdicField>(
 
 /// From rows in natural order to their values at the powers of the root that `twiddles` are made of, in
 /// bit reversed order: the layers whose blocks are larger than a tile on the whole, in groups, then the
-/// others tile by tile. A piece has `piece` entries of each part of a block.
+/// others tile by tile. A tile has `2^log_rows` rows, at most all. A piece has `piece` entries of each part
+/// of a block, at least one. The first twiddle is one.
 pub fn dit_network<F: TwoAdicField>(
     twiddles: &[F],
     values: &mut [F],
@@ -409,7 +411,7 @@ pub fn dit_network<F: TwoAdicField>(
 
 /// From rows in bit reversed order to their values at the powers of the root that `twiddles` are made of,
 /// in natural order: the layers whose blocks fit into a tile tile by tile, then the others on the whole,
-/// in groups. A piece has `piece` entries of each part of a block.
+/// in groups. Tiles, pieces and the first twiddle are as for `dit_network`.
 pub fn dif_network<F: TwoAdicField>(
     twiddles: &[F],
     values: &mut [F],
@@ -454,7 +456,8 @@ pub fn dif_network<F: TwoAdicField>(
 
 /// From rows in bit reversed order, each entry times `scale`, to their values at the powers of the
 /// inverse of the generator, in natural order: the layers whose blocks fit into a tile tile by tile,
-/// then the others on the whole, in groups.
+/// then the others on the whole, in groups. There are two rows or more; `twiddles` are the powers of that
+/// inverse, and tiles and pieces are as for `dit_network`.
 pub fn scaled_dif_network<F: TwoAdicField>(
     twiddles: &[F],
     scale: F,
@@ -625,8 +628,9 @@ fn spread_tiles<F: TwoAdicField>(
 }
 
 /// From rows in bit reversed order, each times its weight, to their values at `2^added_bits` times as
-/// many points, in natural order. No row of zeros is met: those of a longer polynomial are known after
-/// the first layers.
+/// many points, `2^log_h`, in natural order. No row of zeros is met: those of a longer polynomial are known
+/// after the first layers. There are two points or more; `twiddles` are the powers of their generator, tiles
+/// and pieces are as for `dit_network`, and a tile has at least `2^added_bits` rows.
 pub fn extending_network<F: TwoAdicField>(
     twiddles: &[F],
     weights: &[F],

@@ -18,8 +18,8 @@ use p3_matrix::reverse_bits_len;
 /// order `2^(log_h + added_bits)`, in bit reversed order. Slot m is the coset of `shift` times the power
 /// `rev m` of the generator of that order, so that no row of zeros is met. The first slot is done last,
 /// since the others are made from the coefficients in it; what stands in the others before does not
-/// matter. `twiddles` serve the height `2^log_h`, a tile has `2^log_rows` rows, and a piece `piece` entries
-/// of each part of a block.
+/// matter. `twiddles` serve the height `2^log_h`, a tile has `2^log_rows` rows, at most a slot's, and a piece
+/// `piece` entries of each part of a block, at least one.
 pub fn slots_network<F: TwoAdicField>(
     twiddles: &[F],
     values: &mut [F],
