@@ -24,7 +24,7 @@ use std::marker::Model;
 /// Transforms by layers of butterflies, in place: network G takes rows in bit reversed order to rows in
 /// natural order, and G transposed, with the inverse twiddles, takes rows in natural order to rows in
 /// bit reversed order. At height `2^k` and width w each takes at most `w * k * 2^k / 2` products. An
-/// extension, which goes by the one and then the other, reverses no rows: coefficients lie in bit
+/// extension, which goes by G transposed and then by G, reverses no rows: coefficients lie in bit
 /// reversed order in it, which is the layout that a transform is told.
 ///
 /// In every layer all pairs of a block have one twiddle, and blocks take the twiddles one after another.
@@ -339,7 +339,7 @@ fn extend<F: TwoAdicField>(
 }
 
 // Multiplies row i by weight i, with one product an entry.
-fn scale_rows<F: TwoAdicField>(
+fn weigh_rows<F: TwoAdicField>(
     values: &mut [F],
     width: usize,
     weights: &[F],
@@ -374,7 +374,7 @@ fn weigh_reversed_rows<F: TwoAdicField>(
     let width = mat.width();
     let log_h = log2_strict_usize(mat.height());
     let weights = reversed_powers(*mat.allocator(), scale, shift, log_h)?;
-    scale_rows(mat.values_mut(), width, weights.as_slice(), products);
+    weigh_rows(mat.values_mut(), width, weights.as_slice(), products);
     Ok(())
 }
 

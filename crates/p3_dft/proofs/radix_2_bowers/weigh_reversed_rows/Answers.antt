@@ -21,15 +21,15 @@ returns-clause-rows g c k high =
     let same : log ≡ k = log_same log k (sym tall ∙ high) in
     let weights = c.in_ok-weights.ensures in
     let count : h ≡ 2 ^ log = ap length c.as_slice.ensures.value ∙ weights.size in
-    let after = c.scale_rows.new.values in
+    let after = c.weigh_rows.new.values in
     let whole = c.width-width.ensures.whole in
-    let len : length after ≡ length m.values = c.scale_rows.auto.values ∙ ap length c.values_mut.ensures.values in
+    let len : length after ≡ length m.values = c.weigh_rows.auto.values ∙ ap length c.values_mut.ensures.values in
     let size : length after ≡ h * w = len ∙ sym whole.full ∙ ap₂ (λ a b. a * b) (tall ∙ sym count) (sym c.width-width.ensures.width) in
     weighed_rows field.ring k (field.value c.args.scale) (field.value c.args.shift) (values_of field m) _ weight high
     (entries_of_parts field m _ c.values_mut.result.now after w h (λ i j x. field.ring.mul x (weight i))
     c.values_mut.ensures.values c.width-width.ensures.width (count ∙ sym tall)
     (omega (arith, whole.wide, c.width-width.ensures.width)) size (sym c.width-width.ensures.width) (written _ after _ len)
-    c.scale_rows.ensures.values)
+    c.weigh_rows.ensures.values)
     (λ b below.
     let under : b < 2 ^ log = subst (λ (n : ℕ). b < 2 ^ n) (sym same) below in
     ap (λ xs. field.value (get_or xs b field.ZERO)) c.as_slice.ensures.value ∙ weights.entries b under

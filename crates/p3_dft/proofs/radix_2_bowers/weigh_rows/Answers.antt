@@ -4,7 +4,7 @@ use borrow.Author.Rules.{scaled_fits≤}
 use Rattle.std.proofs.lemmas.List.{places, get_or_read_under}
 use Rattle.p3_networks.proofs.Layers.Halves.{block_room}
 use Rattle.p3_networks.proofs.Rows.Overwritten.{rows-none, rows-more, part_at, value_at}
-use Rattle.p3_dft.proofs.radix_2_bowers.scale_rows.Goals as goal
+use Rattle.p3_dft.proofs.radix_2_bowers.weigh_rows.Goals as goal
 
 pub overflow_mul-start : goal.overflow_mul-start
 overflow_mul-start g c = omega (arith, block_room c.loop-i.i (length c.args.weights.now) c.args.width (length c.args.values.now) c.loop-i-test.true c.requires.full)
