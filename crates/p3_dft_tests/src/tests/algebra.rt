@@ -1,4 +1,4 @@
-// Matrices over vector spaces: callers of two laws, worked rows of pairs, and that a form answers for
+// Matrices over vector spaces: callers of four laws, worked rows of pairs, and that a form answers for
 // each coordinate what the call over the field answers.
 
 ghost use Rattle.std.specs.Prelude.{ℕ, ◌*◌, ◌<◌, IfOk, IsTrue};
