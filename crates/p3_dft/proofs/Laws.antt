@@ -1,5 +1,6 @@
--- What users cite: laws of two calls, the one answer of a job, values of combinations, coordinates that stand alone, `==` of matrices, and why published blocks stopped.
+-- What users cite: laws of two calls, the one answer of a job, values of combinations, coordinates that stand alone, `==` of matrices, why published blocks stopped, and codewords.
 pub mod Blocks
+pub mod Codes
 pub mod Combinations
 pub mod Coordinates
 pub mod Equality

@@ -13,6 +13,7 @@ pub mod radix_2_bowers;
 pub mod radix_2_dit;
 pub mod radix_2_dit_parallel;
 pub mod radix_2_small_batch;
+pub mod reed_solomon;
 pub mod traits;
 pub mod util;
 
@@ -35,5 +36,6 @@ pub use radix_2_bowers::Radix2Bowers;
 pub use radix_2_dit::Radix2Dit;
 pub use radix_2_dit_parallel::Radix2DitParallel;
 pub use radix_2_small_batch::Radix2DFTSmallBatch;
+pub use reed_solomon::{ReedSolomon, fits_code};
 pub use traits::{Layout, TwoAdicSubgroupDft};
 pub use util::{divide_by_height, extend_by_zeros, fits_dft, fits_lde};

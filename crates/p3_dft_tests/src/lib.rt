@@ -2,10 +2,11 @@
 //! layers in `p3_networks`.
 //!
 //! They stand in a crate of their own since a crate with tests is proved once more with them. Beside
-//! them stand clients: the product of two polynomials, a transform on a coset that is undone, and
-//! extensions with published blocks.
+//! them stand clients: the product of two polynomials, a transform on a coset that is undone, a low degree
+//! test, and extensions with published blocks.
 #![tactic(auto)]
 
+pub mod low_degree;
 pub mod product;
 pub mod published;
 #[cfg(test)]

@@ -22,6 +22,7 @@ mod product;
 mod radix_2_dit;
 mod radix_2_dit_parallel;
 mod radix_2_small_batch;
+mod reed_solomon;
 mod surface;
 mod util;
 

@@ -1,0 +1,92 @@
+-- Laws of Reed-Solomon codes that a user cites: which matrices are codewords, and how far two codewords lie apart.
+use Rattle.std.proofs.Common.{◌≡◌, ◌≢◌, ◌↔◌, ℕ, zero, suc, ◌+◌, ◌-◌, ◌^◌, ◌<◌, ◌≤◌, ◌⊎◌, inl, inr, Bool, true, false, IsTrue, refl, sym, ◌∙◌, subst, arith}
+use borrow.Author.Count.{below_more}
+use Rattle.std.proofs.lemmas.Bool.{cases_lt, true≢false}
+use Rattle.p3_field.specs.Ring.{AreRoots}
+use Rattle.p3_field.specs.declared.fields.Field.{Ghosts as FieldMembers}
+use Rattle.p3_matrix.specs.Matrix.{Matrix, Same}
+use Rattle.p3_matrix.specs.RowMajor.{RowMajor, height}
+use Rattle.p3_networks.specs.Cosets.{IsValues}
+use Rattle.p3_networks.proofs.Polynomials.Interpolation.{interpolated, there_is_one}
+use Rattle.p3_dft.specs.Codes.{AgreeInRows, Code, DifferInRows, IsCode, IsCodeword}
+use Rattle.p3_dft.specs.Extensions.{IsExtension}
+use Rattle.p3_dft.specs.Transforms.{values_of}
+use Rattle.p3_dft.proofs.Codes.Distance.{one_word}
+use Rattle.p3_dft.proofs.Codes.RowNumbers.{fewer, split, Split}
+use Rattle.p3_dft.proofs.Codes.Words.{message_within}
+
+-- an extension of a message is a codeword
+pub word_of_extension : {F : Type 0} (f : FieldMembers F) (generator : ℕ → F) (code : Code F) (m out : RowMajor F) → height m ≡ 2 ^ code.log_message
+    → IsExtension f generator m code.added_bits (f.value code.shift) out → IsCodeword f generator code (values_of f out)
+word_of_extension f generator code m out high extension = record {
+  coefficients = extension.coefficients;
+  high = (extension.are_coefficients code.log_message high).high ∙ high;
+  values = extension.extended code.log_message high;
+}
+
+-- the first w entries of row i are equal
+abbrev RowsAgree : {E : Type 0} → Matrix E → Matrix E → ℕ → ℕ → Type 0
+RowsAgree x y w i = (j : ℕ) → j < w → x.entry i j ≡ y.entry i j
+
+-- one of them is another
+abbrev RowsDiffer : {E : Type 0} → Matrix E → Matrix E → ℕ → ℕ → Type 0
+RowsDiffer x y w i = (j : ℕ) × (j < w) × (x.entry i j ≢ y.entry i j)
+
+row_decided : {E : Type 0} (x y : Matrix E) → ((i j : ℕ) → (x.entry i j ≡ y.entry i j) ⊎ (x.entry i j ≢ y.entry i j)) → (i w : ℕ) → RowsAgree x y w i ⊎ RowsDiffer x y w i
+row_decided x y decide i zero = inl (λ j below. absurd (omega (arith, below)))
+row_decided x y decide i (suc w) = next (row_decided x y decide i w) (decide i w)
+  where
+    next : RowsAgree x y w i ⊎ RowsDiffer x y w i → (x.entry i w ≡ y.entry i w) ⊎ (x.entry i w ≢ y.entry i w) → RowsAgree x y (suc w) i ⊎ RowsDiffer x y (suc w) i
+    next (inr found) here = inr (found.0, omega (arith, found.1), found.2)
+    next (inl same) (inr other) = inr (w, omega arith, other)
+    next (inl same) (inl here) = inl (λ j below. below_more (λ k. x.entry i k ≡ y.entry i k) w same here j (omega (arith, below)))
+
+module _ {F : Type 0} (f : FieldMembers F) (generator : ℕ → F) {bits : ℕ} (are_roots : AreRoots f.ring bits (λ n. f.value (generator n))) (code : Code F) (is : IsCode f bits code) where
+  -- with no added bits every matrix of so many rows is a codeword
+  pub every_word : code.added_bits ≡ 0 → (word : Matrix f.Element) → word.height ≡ 2 ^ code.log_message → IsCodeword f generator code word
+  every_word none word high =
+      let n = code.log_message in
+      let c = interpolated f.ring are_roots n is.invertible.0 word in
+      let are = there_is_one f.ring are_roots word n (f.value code.shift) is.invertible.0 (omega (arith, is.within)) high is.invertible.1 in
+      let all : n ≡ n + code.added_bits = omega (arith, none) in
+      record {
+        coefficients = c;
+        high = are.high ∙ high;
+        values = subst (λ (k : ℕ). IsValues f.ring (λ i. f.value (generator i)) c k (f.value code.shift) word) all are.values;
+      }
+
+  -- two codewords of one width that agree in as many rows as a message has are equal
+  pub one_codeword : (x y : Matrix f.Element) → IsCodeword f generator code x → IsCodeword f generator code y → x.width ≡ y.width
+      → AgreeInRows (2 ^ code.log_message) x y → Same x y
+  one_codeword x y first second wide agree =
+      one_word f.ring are_roots first.coefficients second.coefficients (code.log_message + code.added_bits) (f.value code.shift) x y is.within is.invertible (first.high ∙ sym second.high)
+      first.values second.values wide (subst (λ (n : ℕ). AgreeInRows n x y) (sym first.high) agree)
+
+  -- of n points and messages of k rows, two codewords that are not equal differ in at least n - k + 1 rows, where it can be told of each two entries whether they are equal
+  pub words_apart : (x y : Matrix f.Element) → ((i j : ℕ) → (x.entry i j ≡ y.entry i j) ⊎ (x.entry i j ≢ y.entry i j)) → IsCodeword f generator code x → IsCodeword f generator code y
+      → x.width ≡ y.width → ¬ Same x y → DifferInRows (2 ^ (code.log_message + code.added_bits) - 2 ^ code.log_message + 1) x y
+  words_apart x y decide first second wide different =
+      by (split x.height (RowsAgree x y x.width) (RowsDiffer x y x.width) (λ i below. row_decided x y decide i x.width))
+    where
+      by : Split x.height (RowsAgree x y x.width) (RowsDiffer x y x.width) → DifferInRows (2 ^ (code.log_message + code.added_bits) - 2 ^ code.log_message + 1) x y
+      by s = cases (cases_lt s.p (2 ^ code.log_message))
+        where
+          cases : (s.p < 2 ^ code.log_message) ⊎ (2 ^ code.log_message ≤ s.p) → DifferInRows (2 ^ (code.log_message + code.added_bits) - 2 ^ code.log_message + 1) x y
+          cases (inl few) =
+              fewer (2 ^ (code.log_message + code.added_bits) - 2 ^ code.log_message + 1) s.q x.height (RowsDiffer x y x.width)
+              (omega (arith, few, s.all, first.values.high, message_within code.log_message code.added_bits)) s.second
+          cases (inr many) = absurd (different (one_codeword x y first second wide (fewer (2 ^ code.log_message) s.p x.height (RowsAgree x y x.width) many s.first)))
+
+  -- so do two stored ones, where `==` tells which elements are equal
+  pub codewords_apart : (E : F → F → Bool) → ((a b : F) → IsTrue (E a b) ↔ (f.value a ≡ f.value b)) → (m n : RowMajor F) → IsCodeword f generator code (values_of f m)
+      → IsCodeword f generator code (values_of f n) → m.width ≡ n.width → ¬ Same (values_of f m) (values_of f n)
+      → DifferInRows (2 ^ (code.log_message + code.added_bits) - 2 ^ code.log_message + 1) (values_of f m) (values_of f n)
+  codewords_apart E decides m n first second wide different =
+      words_apart (values_of f m) (values_of f n) (λ i j. told _ _) first second wide different
+    where
+      told : (a b : F) → (f.value a ≡ f.value b) ⊎ (f.value a ≢ f.value b)
+      told a b = by (E a b) (decides a b)
+        where
+          by : (t : Bool) → (IsTrue t ↔ (f.value a ≡ f.value b)) → (f.value a ≡ f.value b) ⊎ (f.value a ≢ f.value b)
+          by true exact = inl (exact.0 refl)
+          by false exact = inr (λ e. true≢false (sym (exact.1 e)))

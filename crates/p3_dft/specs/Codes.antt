@@ -1,0 +1,46 @@
+-- Reed-Solomon codes: their words, and in how many rows two words agree or differ.
+use Rattle.std.specs.Prelude.{◌≡◌, ◌≢◌, ℕ, ◌+◌, ◌^◌, ◌<◌, ◌≤◌, List, length}
+use Rattle.std.specs.List.{All, AllPairs}
+use Rattle.p3_field.specs.Ring.{IsInvertible}
+use Rattle.p3_field.specs.declared.fields.Field.{Ghosts as FieldMembers}
+use Rattle.p3_matrix.specs.Matrix.{Matrix}
+use Rattle.p3_networks.specs.Cosets.{IsValues}
+
+-- polynomials with 2 ^ log_message coefficients, on the coset of the shift of 2 ^ added_bits times as many points
+pub record Code (F : Type 0) : Type 0 where
+  pub log_message : ℕ
+  pub added_bits : ℕ
+  pub shift : F
+
+-- there is a generator of so many points, a usize counts them, and the shift has an inverse
+pub record IsCode {F : Type 0} (f : FieldMembers F) (two_adicity : ℕ) (code : Code F) : Type 0 where
+  pub within : code.log_message + code.added_bits ≤ two_adicity
+  pub size : 2 ^ (code.log_message + code.added_bits) < 2 ^ 64
+  pub invertible : IsInvertible f.ring (f.value code.shift)
+
+-- a code, and the engine that makes its words
+pub record Encoder (F D : Type 0) : Type 0 where
+  pub engine : D
+  pub code : Code F
+
+-- each column of the word has the values of such a polynomial
+pub record IsCodeword {F : Type 0} (f : FieldMembers F) (generator : ℕ → F) (code : Code F) (word : Matrix f.Element) : Type 0 where
+  pub coefficients : Matrix f.Element
+  pub high : coefficients.height ≡ 2 ^ code.log_message
+  pub values : IsValues f.ring (λ n. f.value (generator n)) coefficients (code.log_message + code.added_bits) (f.value code.shift) word
+
+-- of at least n rows of so many P holds: there is a list of n row numbers or more, none twice, and P holds of each
+pub record HoldsInRows (n height : ℕ) (P : ℕ → Type 0) : Type 0 where
+  pub rows : List ℕ
+  pub enough : n ≤ length rows
+  pub distinct : AllPairs (λ i j. i ≢ j) rows
+  pub within : All (λ i. i < height) rows
+  pub holds : All P rows
+
+-- in at least n rows all entries of x and y are equal
+abbrev pub AgreeInRows : {E : Type 0} → ℕ → Matrix E → Matrix E → Type 0
+AgreeInRows n x y = HoldsInRows n x.height (λ i. (j : ℕ) → j < x.width → x.entry i j ≡ y.entry i j)
+
+-- in at least n rows an entry of x is another than that of y
+abbrev pub DifferInRows : {E : Type 0} → ℕ → Matrix E → Matrix E → Type 0
+DifferInRows n x y = HoldsInRows n x.height (λ i. (j : ℕ) × (j < x.width) × (x.entry i j ≢ y.entry i j))

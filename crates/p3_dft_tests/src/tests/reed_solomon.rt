@@ -1,0 +1,286 @@
+// Reed-Solomon codes on every engine: worked words, what is none, and callers of the laws.
+
+ghost use Rattle.std.specs.Prelude.{◌≡◌, ◌+◌, ◌-◌, ◌^◌, IfOk, IsTrue};
+ghost use Rattle.p3_matrix.specs.Matrix.{Same};
+ghost use Rattle.p3_matrix.specs.RowMajor.{height};
+ghost use Rattle.p3_dft.specs.Codes.{AgreeInRows, DifferInRows, IsCode};
+ghost use Rattle.p3_dft.specs.Shapes.{FitsDft};
+ghost use Rattle.p3_dft.specs.Transforms.{values_of};
+
+use super::{EngineTest, elements, matrix, matrix_of, on_every_engine};
+use crate::low_degree::has_low_degree;
+use crate::tests::engines::LimitedDft;
+use crate::tests::fitting::{assert_column, extensible, invertible, transformable};
+use p3_dft::{
+    BabyBear, CanonicalField, DftError, Field, Goldilocks, ReedSolomon, RowMajorMatrix,
+    TwoAdicField, TwoAdicSubgroupDft, fits_code, fits_dft,
+};
+use std::alloc::Global;
+use std::process::Abort;
+
+// Two codewords of one width that agree in as many rows as a message has are equal.
+fn told_by_few_rows<F: TwoAdicField, D: TwoAdicSubgroupDft<F>>(
+    code: &mut ReedSolomon<F, D>,
+    one: &RowMajorMatrix<F>,
+    other: &RowMajorMatrix<F>,
+) -> Result<bool, DftError>
+    requires is_code { IsCode F.Field.own F.TWO_ADICITY code.old.code }
+    requires points { height one.now ≡ 2 ^ (code.old.code.log_message + code.old.code.added_bits) }
+    requires fits { FitsDft F.TWO_ADICITY (height one.now) one.now.width }
+    requires tall { height other.now ≡ height one.now }
+    requires wide { other.now.width ≡ one.now.width }
+    ensures { IfOk result (λ told. IsTrue told
+        → AgreeInRows (2 ^ code.old.code.log_message) (values_of F.Field.own one.now) (values_of F.Field.own other.now)
+        → Same (values_of F.Field.own one.now) (values_of F.Field.own other.now)) }
+{
+    let first = code.is_codeword(one)?;
+    let second = code.is_codeword(other)?;
+    Ok(first && second)
+}
+
+// Two that are not equal differ in at least n - k + 1 rows, of n points and messages of k rows.
+fn lie_apart<F: TwoAdicField, D: TwoAdicSubgroupDft<F>>(
+    code: &mut ReedSolomon<F, D>,
+    one: &RowMajorMatrix<F>,
+    other: &RowMajorMatrix<F>,
+) -> Result<bool, DftError>
+    requires is_code { IsCode F.Field.own F.TWO_ADICITY code.old.code }
+    requires points { height one.now ≡ 2 ^ (code.old.code.log_message + code.old.code.added_bits) }
+    requires fits { FitsDft F.TWO_ADICITY (height one.now) one.now.width }
+    requires tall { height other.now ≡ height one.now }
+    requires wide { other.now.width ≡ one.now.width }
+    ensures { IfOk result (λ told. IsTrue told
+        → DifferInRows (2 ^ (code.old.code.log_message + code.old.code.added_bits) - 2 ^ code.old.code.log_message + 1)
+        (values_of F.Field.own one.now) (values_of F.Field.own other.now)) }
+{
+    if one == other {
+        return Ok(false);
+    }
+    let first = code.is_codeword(one)?;
+    let second = code.is_codeword(other)?;
+    Ok(first && second)
+}
+
+// With no added bits each word of the right shape is a codeword.
+fn told_with_no_added_bits<F: TwoAdicField, D: TwoAdicSubgroupDft<F>>(
+    code: &mut ReedSolomon<F, D>,
+    word: &RowMajorMatrix<F>,
+) -> Result<bool, DftError>
+    requires is_code { IsCode F.Field.own F.TWO_ADICITY code.old.code }
+    requires points { height word.now ≡ 2 ^ code.old.code.log_message }
+    requires fits { FitsDft F.TWO_ADICITY (height word.now) word.now.width }
+    requires none { code.old.code.added_bits ≡ 0 }
+    ensures { IfOk result (λ told. IsTrue told) }
+{
+    code.is_codeword(word)
+}
+
+// Polynomials of two coefficients on four points.
+fn of_two<F: TwoAdicField, D: TwoAdicSubgroupDft<F>>(
+    rt: &impl Abort,
+    engine: D,
+    shift: F,
+) -> ReedSolomon<F, D>
+    ensures message { result.code.log_message ≡ 1 }
+    ensures added { result.code.added_bits ≡ 1 }
+    ensures is_code { IsCode F.Field.own F.TWO_ADICITY result.code }
+{
+    assert!(rt; fits_code::<F>(1, 1));
+    ReedSolomon::new(engine, 1, 1, invertible(rt, shift))
+}
+
+// Whether four numbers are a word.
+fn tells<F: CanonicalField, D: TwoAdicSubgroupDft<F>>(
+    rt: &impl Abort,
+    code: &mut ReedSolomon<F, D>,
+    word: &RowMajorMatrix<F>,
+    told: bool,
+)
+    requires { code.old.code.log_message + code.old.code.added_bits ≡ 2 }
+    ensures { code.new.code ≡ code.old.code }
+{
+    assert!(rt; fits_dft::<F>(word.height(), word.width()));
+    assert!(rt; word.height() == 4);
+    assert!(rt; code.is_codeword(word).expect(rt, "memory") == told);
+}
+
+// The word with one added to one of its entries.
+fn changed<F: CanonicalField>(
+    rt: &impl Abort,
+    alloc: Global,
+    word: &[u64],
+    place: usize,
+) -> RowMajorMatrix<F> {
+    let mut entries = elements::<F>(rt, alloc, word);
+    assert!(rt; place < entries.len());
+    entries[place] = entries[place] + F::ONE;
+    matrix_of(rt, entries, 1)
+}
+
+// A message of two numbers and its word on a coset: it is one, and none with an entry changed.
+#[derive(Drop)]
+struct Word<F> {
+    shift: F,
+    message: [u64; 2],
+    word: [u64; 4],
+}
+
+impl<F: CanonicalField> EngineTest<F> for Word<F> {
+    fn run<R: Abort, D: TwoAdicSubgroupDft<F>>(&self, rt: &R, alloc: Global, engine: D) {
+        let mut code = of_two(rt, engine, self.shift);
+        let mat = extensible(rt, alloc, &self.message, 1);
+        assert!(rt; mat.height() == code.message_height());
+        let word = code.encode(mat).expect(rt, "memory");
+        assert_column(rt, &word, &self.word);
+        tells(rt, &mut code, &word, true);
+        for place in 0..4usize {
+            tells(rt, &mut code, &changed(rt, alloc, &self.word, place), false);
+        }
+    }
+}
+
+// Constants are words, and two columns of four numbers are none.
+struct Constants;
+
+impl<F: CanonicalField> EngineTest<F> for Constants {
+    fn run<R: Abort, D: TwoAdicSubgroupDft<F>>(&self, rt: &R, alloc: Global, engine: D) {
+        let mut code = of_two(rt, engine, F::ONE);
+        tells(rt, &mut code, &matrix(rt, alloc, &[0, 0, 0, 0], 1), true);
+        tells(rt, &mut code, &matrix(rt, alloc, &[7, 7, 7, 7], 1), true);
+        let far = matrix(rt, alloc, &[9, 873820294, 1, 0], 1);
+        tells(rt, &mut code, &far, false);
+        let alternating = matrix(rt, alloc, &[1, 2013265920, 1, 2013265920], 1);
+        tells(rt, &mut code, &alternating, false);
+    }
+}
+
+// With as many points as coefficients each column is a word, and of degree below four, but not two.
+struct AllWords;
+
+impl<F: CanonicalField> EngineTest<F> for AllWords {
+    fn run<R: Abort, D: TwoAdicSubgroupDft<F>>(&self, rt: &R, alloc: Global, engine: D) {
+        let shift = invertible(rt, F::GENERATOR);
+        assert!(rt; fits_code::<F>(2, 0));
+        let mut code = ReedSolomon::new(engine, 2, 0, shift);
+        let word = transformable(rt, alloc, &[9, 873820294, 1, 0]);
+        assert!(rt; word.height() == 4);
+        let told = told_with_no_added_bits(&mut code, &word);
+        assert!(rt; told.expect(rt, "memory"));
+        let (told, engine) = has_low_degree(code.into_engine(), &word, 2, shift);
+        assert!(rt; told.expect(rt, "memory"));
+        let (told, _engine) = has_low_degree(engine, &word, 1, shift);
+        assert!(rt; !told.expect(rt, "memory"));
+    }
+}
+
+// Two words of polynomials that differ in one coefficient.
+struct TwoWords;
+
+impl<F: CanonicalField> EngineTest<F> for TwoWords {
+    fn run<R: Abort, D: TwoAdicSubgroupDft<F>>(&self, rt: &R, alloc: Global, engine: D) {
+        let mut code = of_two(rt, engine, F::ONE);
+        let one = transformable(rt, alloc, &[7, 7, 7, 7]);
+        let other = transformable(rt, alloc, &[8, 8, 8, 8]);
+        assert!(rt; one.height() == code.word_height());
+        assert!(rt; other.height() == one.height());
+        assert!(rt; other.width() == one.width());
+        assert!(rt; told_by_few_rows(&mut code, &one, &other).expect(rt, "memory"));
+        assert!(rt; lie_apart(&mut code, &one, &other).expect(rt, "memory"));
+        assert!(rt; !lie_apart(&mut code, &one, &one).expect(rt, "memory"));
+    }
+}
+
+// The numbers of a code are those that it was made of.
+struct Numbers;
+
+impl<F: CanonicalField> EngineTest<F> for Numbers {
+    fn run<R: Abort, D: TwoAdicSubgroupDft<F>>(&self, rt: &R, alloc: Global, engine: D) {
+        let _ = alloc;
+        assert!(rt; fits_code::<F>(1, 3) && !fits_code::<F>(usize::MAX, 1));
+        let code = ReedSolomon::new(engine, 1, 3, invertible(rt, F::TWO));
+        assert!(rt; (code.log_message(), code.added_bits()) == (1, 3));
+        assert!(rt; (code.message_height(), code.word_height()) == (2, 16));
+        assert!(rt; code.shift() == F::TWO);
+        let _ = code.engine();
+    }
+}
+
+// A word of each message on two cosets, and what else holds on every engine.
+fn words<F: CanonicalField>(rt: &impl Abort, alloc: Global, word: [u64; 4], shifted: [u64; 4]) {
+    let message = [9, 1];
+    let shift = F::ONE;
+    on_every_engine(
+        rt,
+        alloc,
+        &Word::<F> {
+            shift,
+            message,
+            word,
+        },
+    );
+    let (shift, word) = (F::TWO, shifted);
+    on_every_engine(
+        rt,
+        alloc,
+        &Word::<F> {
+            shift,
+            message,
+            word,
+        },
+    );
+    on_every_engine::<F, _, _>(rt, alloc, &Constants);
+    on_every_engine::<F, _, _>(rt, alloc, &AllWords);
+    on_every_engine::<F, _, _>(rt, alloc, &TwoWords);
+    on_every_engine::<F, _, _>(rt, alloc, &Numbers);
+}
+
+#[test]
+fn words_over_baby_bear(rt: HostRuntime) {
+    let word = [9, 873820294, 1, 1139445637];
+    let shifted = [13, 1747640583, 2013265918, 265625348];
+    words::<BabyBear>(&rt, rt.alloc(), word, shifted);
+}
+
+// By sums over big integers.
+#[test]
+fn words_over_goldilocks(rt: HostRuntime) {
+    let word = [9, 1125899906842629, 1, 18445618169507741702];
+    let shifted = [
+        13,
+        2251799813685253,
+        18446744069414584318,
+        18444492269600899078,
+    ];
+    words::<Goldilocks>(&rt, rt.alloc(), word, shifted);
+}
+
+// An engine that makes so many transforms: a word takes two, and telling one takes one more.
+fn within<F: CanonicalField>(rt: &impl Abort, alloc: Global, transforms: usize) {
+    let mut code = of_two::<F, _>(rt, LimitedDft::new(transforms), F::ONE);
+    let mat = extensible(rt, alloc, &[9, 1], 1);
+    assert!(rt; mat.height() == code.message_height());
+    match code.encode(mat) {
+        Ok(word) => {
+            assert!(rt; 2 <= transforms);
+            assert_column(rt, &word, &[9, 873820294, 1, 1139445637]);
+        }
+        Err(_) => assert!(rt; transforms < 2),
+    }
+    let word = transformable(rt, alloc, &[9, 873820294, 1, 0]);
+    assert!(rt; word.height() == code.word_height());
+    match code.is_codeword(&word) {
+        Ok(told) => assert!(rt; 3 <= transforms && !told),
+        Err(_) => assert!(rt; transforms < 3),
+    }
+}
+
+fn within_each<F: CanonicalField>(rt: &impl Abort, alloc: Global) {
+    for transforms in 0..4usize {
+        within::<F>(rt, alloc, transforms);
+    }
+}
+
+#[test]
+fn refused_words(rt: HostRuntime) {
+    within_each::<BabyBear>(&rt, rt.alloc());
+}
