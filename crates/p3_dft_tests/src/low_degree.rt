@@ -25,7 +25,7 @@ pub fn has_low_degree<F: TwoAdicField, D: TwoAdicSubgroupDft<F>>(
     shift: F,
 ) -> (Result<bool, DftError>, D)
     requires fits { FitsDft F.TWO_ADICITY (height values.now) values.now.width }
-    requires degree { AtLog (height values.now) (λ n. log_degree ≤ n) }
+    requires degree { 2 ^ log_degree ≤ height values.now }
     requires invertible { IsInvertible F.ring (F.value shift) }
     ensures exact { AtLog (height values.now) (λ n. IfOk result.0 (λ told. IsTrue told
         ↔ ((c : Matrix F.Element) × (c.height ≡ 2 ^ log_degree)

@@ -29,7 +29,8 @@ fn told_by_few_rows<F: TwoAdicField, D: TwoAdicSubgroupDft<F>>(
     requires fits { FitsDft F.TWO_ADICITY (height one.now) one.now.width }
     requires tall { height other.now ≡ height one.now }
     requires wide { other.now.width ≡ one.now.width }
-    ensures { IfOk result (λ told. IsTrue told
+    ensures code { code.new.code ≡ code.old.code }
+    ensures distance { IfOk result (λ told. IsTrue told
         → AgreeInRows (2 ^ code.old.code.log_message) (values_of F.Field.own one.now) (values_of F.Field.own other.now)
         → Same (values_of F.Field.own one.now) (values_of F.Field.own other.now)) }
 {
@@ -49,10 +50,12 @@ fn lie_apart<F: TwoAdicField, D: TwoAdicSubgroupDft<F>>(
     requires fits { FitsDft F.TWO_ADICITY (height one.now) one.now.width }
     requires tall { height other.now ≡ height one.now }
     requires wide { other.now.width ≡ one.now.width }
-    ensures { IfOk result (λ told. IsTrue told
+    ensures code { code.new.code ≡ code.old.code }
+    ensures distance { IfOk result (λ told. IsTrue told
         → DifferInRows (2 ^ (code.old.code.log_message + code.old.code.added_bits) - 2 ^ code.old.code.log_message + 1)
         (values_of F.Field.own one.now) (values_of F.Field.own other.now)) }
 {
+    let _whole = one.height() == other.height();
     if one == other {
         return Ok(false);
     }
@@ -117,6 +120,20 @@ fn changed<F: CanonicalField>(
     matrix_of(rt, entries, 1)
 }
 
+// That a word with an entry changed is none, of each entry in turn.
+fn tells_none_changed<F: CanonicalField, D: TwoAdicSubgroupDft<F>>(
+    rt: &impl Abort,
+    alloc: Global,
+    code: &mut ReedSolomon<F, D>,
+    word: &[u64],
+)
+    requires { code.old.code.log_message + code.old.code.added_bits ≡ 2 }
+{
+    for place in 0..word.len() {
+        tells(rt, code, &changed(rt, alloc, word, place), false);
+    }
+}
+
 // A message of two numbers and its word on a coset: it is one, and none with an entry changed.
 #[derive(Drop)]
 struct Word<F> {
@@ -133,9 +150,7 @@ impl<F: CanonicalField> EngineTest<F> for Word<F> {
         let word = code.encode(mat).expect(rt, "memory");
         assert_column(rt, &word, &self.word);
         tells(rt, &mut code, &word, true);
-        for place in 0..4usize {
-            tells(rt, &mut code, &changed(rt, alloc, &self.word, place), false);
-        }
+        tells_none_changed(rt, alloc, &mut code, &self.word);
     }
 }
 
