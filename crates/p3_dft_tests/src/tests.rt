@@ -19,11 +19,13 @@ mod jobs;
 mod laws;
 mod naive;
 mod product;
+mod products;
 mod radix_2_dit;
 mod radix_2_dit_parallel;
 mod radix_2_small_batch;
 mod reed_solomon;
 mod surface;
+mod tally;
 mod util;
 
 use calls::{Calls, CallsOf};

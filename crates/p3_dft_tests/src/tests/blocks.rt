@@ -55,7 +55,7 @@ impl<F: TwoAdicField> BlockConsumer<F> for Compared<F> {
 }
 
 // The physical rows of an extension without a transform, and a consumer that took all of them.
-fn extend_to<F: TwoAdicField, D: TwoAdicSubgroupDft<F>, C: BlockConsumer<F> + Drop>(
+pub(crate) fn extend_to<F: TwoAdicField, D: TwoAdicSubgroupDft<F>, C: BlockConsumer<F> + Drop>(
     rt: &impl Abort,
     engine: &mut D,
     mat: &RowMajorMatrix<F>,

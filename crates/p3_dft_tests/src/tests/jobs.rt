@@ -34,7 +34,11 @@ fn job<F: CanonicalField>(rt: &impl Abort, alloc: Global, kind: usize) -> Job<F>
 }
 
 // The list with one more job.
-fn and_then<F: CanonicalField>(rt: &impl Abort, mut jobs: Vec<Job<F>>, job: Job<F>) -> Vec<Job<F>>
+pub(crate) fn and_then<F: CanonicalField>(
+    rt: &impl Abort,
+    mut jobs: Vec<Job<F>>,
+    job: Job<F>,
+) -> Vec<Job<F>>
     requires jobs { All (CanRun F.Field.own F.TWO_ADICITY) jobs.items }
     requires job { CanRun F.Field.own F.TWO_ADICITY job }
     ensures { All (CanRun F.Field.own F.TWO_ADICITY) result.items }

@@ -1,0 +1,380 @@
+// A field whose products are counted in a shared cell: that is how a test counts the products of an
+// engine without asking the engine.
+
+ghost use Rattle.std.specs.Prelude.{◌≡◌, ◌≤◌};
+
+use p3_dft::{
+    CanonicalField, Field, Lanes, Packable, Packed, PackedField, Products, TwoAdicField, scaled,
+};
+use std::alloc::AllocError;
+use std::cell::Cell;
+use std::ops::{Add, Mul, Neg, Sub};
+
+// What counts products.
+pub(crate) trait Meter: Copy {
+    // Counts one product.
+    fn count(self);
+}
+
+// How many elements of a field whose products a meter counts go in a pack.
+pub(crate) trait Packs<T: Field>: Meter {
+    type Packing: PackedField<Scalar = T>;
+
+    ghost some: { 1 ≤ Self.Packing.WIDTH };
+}
+
+// Counts in a cell, for elements that go in packs of `LANES`.
+#[derive(Clone, Copy)]
+pub(crate) struct InPacks<'a, const LANES: usize> {
+    cell: &'a Cell<usize>,
+}
+
+impl<'a, const LANES: usize> InPacks<'a, LANES> {
+    pub(crate) fn of(cell: &'a Cell<usize>) -> InPacks<'a, LANES> {
+        InPacks { cell }
+    }
+}
+
+impl<'a, const LANES: usize> Meter for InPacks<'a, LANES> {
+    fn count(self) {
+        self.cell.set(self.cell.get().saturating_add(1));
+    }
+}
+
+impl<'a, T: Field> Packs<T> for InPacks<'a, 1> {
+    ghost use Rattle.std.proofs.Common.{lit≤};
+
+    type Packing = Lanes<T, 1>;
+
+    ghost some = { lit≤ tt };
+}
+
+impl<'a, T: Field> Packs<T> for InPacks<'a, 4> {
+    ghost use Rattle.std.proofs.Common.{lit≤};
+
+    type Packing = Lanes<T, 4>;
+
+    ghost some = { lit≤ tt };
+}
+
+impl<'a, T: Field> Packs<T> for InPacks<'a, 8> {
+    ghost use Rattle.std.proofs.Common.{lit≤};
+
+    type Packing = Lanes<T, 8>;
+
+    ghost some = { lit≤ tt };
+}
+
+// An element that may carry a mark. Every operation passes it on, and each product with a marked
+// operand is counted by the mark. Its value is that of the element alone.
+#[derive_where(PartialEq, Eq, PartialOrd, Ord; F)]
+pub(crate) struct Tally<F, M> {
+    element: F,
+    #[derive_where(skip(EqHashOrd))]
+    mark: Option<M>,
+}
+
+impl<F: Copy, M: Copy> Copy for Tally<F, M> {}
+
+impl<F: Copy, M: Copy> Clone for Tally<F, M> {
+    fn clone(&self) -> Result<Tally<F, M>, AllocError> {
+        Ok(*self)
+    }
+}
+
+impl<F, M> Tally<F, M> {
+    // An element with a mark.
+    pub(crate) fn marked(element: F, mark: M) -> Tally<F, M> {
+        Tally {
+            element,
+            mark: Some(mark),
+        }
+    }
+}
+
+// The mark of what comes of two elements.
+fn mark_of<M: Copy>(one: Option<M>, other: Option<M>) -> Option<M> {
+    match one {
+        Some(mark) => Some(mark),
+        None => other,
+    }
+}
+
+// Counts one product.
+fn count<M: Meter>(mark: Option<M>) {
+    if let Some(meter) = mark {
+        meter.count();
+    }
+}
+
+impl<F: Field, M: Meter> Add for Tally<F, M> {
+    type Output = Tally<F, M>;
+
+    ghost add_gives = { λ a b r. F.add_gives a.element b.element r.element };
+
+    fn add(self, other: Tally<F, M>) -> Tally<F, M> {
+        Tally {
+            element: self.element + other.element,
+            mark: mark_of(self.mark, other.mark),
+        }
+    }
+}
+
+impl<F: Field, M: Meter> Sub for Tally<F, M> {
+    type Output = Tally<F, M>;
+
+    ghost sub_gives = { λ a b r. F.sub_gives a.element b.element r.element };
+
+    fn sub(self, other: Tally<F, M>) -> Tally<F, M> {
+        Tally {
+            element: self.element - other.element,
+            mark: mark_of(self.mark, other.mark),
+        }
+    }
+}
+
+impl<F: Field, M: Meter> Mul for Tally<F, M> {
+    type Output = Tally<F, M>;
+
+    ghost mul_gives = { λ a b r. F.mul_gives a.element b.element r.element };
+
+    fn mul(self, other: Tally<F, M>) -> Tally<F, M> {
+        let mark = mark_of(self.mark, other.mark);
+        count(mark);
+        Tally {
+            element: self.element * other.element,
+            mark,
+        }
+    }
+}
+
+impl<F: Field, M: Meter> Neg for Tally<F, M> {
+    type Output = Tally<F, M>;
+
+    ghost neg_gives = { λ a r. F.neg_gives a.element r.element };
+
+    fn neg(self) -> Tally<F, M> {
+        Tally {
+            element: -self.element,
+            mark: self.mark,
+        }
+    }
+}
+
+impl<F: Field, M: Meter> Field for Tally<F, M> {
+    ghost use Rattle.std.specs.Prelude.{None};
+
+    ghost Element = { F.Element };
+
+    ghost ring = { F.ring };
+
+    ghost number = { F.number };
+
+    ghost value = { λ x. F.value x.element };
+
+    const ZERO: Tally<F, M> = Tally {
+        element: F::ZERO,
+        mark: None,
+    };
+
+    ghost ZERO = { record { element = F.ZERO; mark = None } };
+
+    const ONE: Tally<F, M> = Tally {
+        element: F::ONE,
+        mark: None,
+    };
+
+    ghost ONE = { record { element = F.ONE; mark = None } };
+
+    const TWO: Tally<F, M> = Tally {
+        element: F::TWO,
+        mark: None,
+    };
+
+    ghost TWO = { record { element = F.TWO; mark = None } };
+
+    const NEG_ONE: Tally<F, M> = Tally {
+        element: F::NEG_ONE,
+        mark: None,
+    };
+
+    ghost NEG_ONE = { record { element = F.NEG_ONE; mark = None } };
+
+    const GENERATOR: Tally<F, M> = Tally {
+        element: F::GENERATOR,
+        mark: None,
+    };
+
+    ghost GENERATOR = { record { element = F.GENERATOR; mark = None } };
+
+    fn halve(self) -> Tally<F, M> {
+        Tally {
+            element: self.element.halve(),
+            mark: self.mark,
+        }
+    }
+
+    fn from_usize(n: usize) -> Tally<F, M> {
+        Tally {
+            element: F::from_usize(n),
+            mark: None,
+        }
+    }
+
+    fn try_inverse(&self) -> Option<Tally<F, M>> {
+        let element = self.element.try_inverse()?;
+        Some(Tally {
+            element,
+            mark: self.mark,
+        })
+    }
+
+    ghost number_law = { F.number_law };
+
+    ghost zero_law = { F.zero_law };
+
+    ghost one_law = { F.one_law };
+
+    ghost two_law = { F.two_law };
+
+    ghost neg_one_law = { F.neg_one_law };
+
+    ghost generator_law = { F.generator_law };
+
+    ghost can_add_law = { λ _ _. tt };
+
+    ghost add_law = { λ a b r. F.add_law a.element b.element r.element };
+
+    ghost can_sub_law = { λ _ _. tt };
+
+    ghost sub_law = { λ a b r. F.sub_law a.element b.element r.element };
+
+    ghost can_mul_law = { λ _ _. tt };
+
+    ghost mul_law = { λ a b r. F.mul_law a.element b.element r.element };
+
+    ghost can_neg_law = { λ _. tt };
+
+    ghost neg_law = { λ a r. F.neg_law a.element r.element };
+
+    ghost eq_law = { λ a b. F.eq_law a.element b.element };
+
+    ghost order_law = { λ a b c d. F.order_law a.element b.element c.element d.element };
+}
+
+impl<F: Field, M: Meter> Packed for Tally<F, M> {
+    type Scalar = Tally<F, M>;
+}
+
+impl<F: Packable, M: Meter> PackedField for Tally<F, M> {
+    ghost use Rattle.std.specs.Prelude.{[], ◌∷◌};
+    ghost use Rattle.std.proofs.Common.{refl};
+
+    const WIDTH: usize = 1;
+
+    ghost WIDTH = { 1 };
+
+    ghost lanes = { λ x. x ∷ [] };
+
+    fn load(from: &[Tally<F, M>]) -> Tally<F, M> {
+        from[0]
+    }
+
+    fn store(self, to: &mut [Tally<F, M>]) {
+        to[0] = self;
+    }
+
+    fn load_pairs(from: &[Tally<F, M>]) -> (Tally<F, M>, Tally<F, M>) {
+        (from[0], from[1])
+    }
+
+    fn store_pairs(self, second: Tally<F, M>, to: &mut [Tally<F, M>]) {
+        to[0] = self;
+        to[1] = second;
+    }
+
+    fn broadcast(scalar: Tally<F, M>) -> Tally<F, M> {
+        scalar
+    }
+
+    fn add(self, other: Tally<F, M>) -> Tally<F, M> {
+        self + other
+    }
+
+    fn sub(self, other: Tally<F, M>) -> Tally<F, M> {
+        self - other
+    }
+
+    fn scaled(self, t: Tally<F, M>, products: &mut Products) -> Tally<F, M> {
+        let mark = mark_of(self.mark, t.mark);
+        count(mark);
+        Tally {
+            element: scaled(self.element, t.element, products),
+            mark,
+        }
+    }
+
+    fn multiplied(self, other: Tally<F, M>, products: &mut Products) -> Tally<F, M> {
+        let mark = mark_of(self.mark, other.mark);
+        count(mark);
+        Tally {
+            element: scaled(self.element, other.element, products),
+            mark,
+        }
+    }
+
+    ghost width_law = { λ _. refl };
+}
+
+impl<F: Packable, M: Packs<Tally<F, M>>> Packable for Tally<F, M> {
+    ghost use Rattle.std.proofs.Common.{refl};
+
+    type Packing = M::Packing;
+
+    ghost lane_law = { λ _. refl };
+
+    ghost one_lane_law = { refl };
+
+    ghost packing_law = { M.some };
+}
+
+impl<F: TwoAdicField, M: Packs<Tally<F, M>>> TwoAdicField for Tally<F, M> {
+    ghost use Rattle.std.specs.Prelude.{None};
+
+    const TWO_ADICITY: usize = F::TWO_ADICITY;
+
+    ghost TWO_ADICITY = { F.TWO_ADICITY };
+
+    ghost generator = { λ bits. record { element = F.generator bits; mark = None } };
+
+    fn two_adic_generator(bits: usize) -> Tally<F, M> {
+        Tally {
+            element: F::two_adic_generator(bits),
+            mark: None,
+        }
+    }
+
+    ghost two_adicity_law = { F.two_adicity_law };
+
+    ghost roots_law = { F.roots_law };
+}
+
+impl<F: CanonicalField, M: Packs<Tally<F, M>>> CanonicalField for Tally<F, M> {
+    const ORDER_U64: u64 = F::ORDER_U64;
+
+    ghost ORDER_U64 = { F.ORDER_U64 };
+
+    fn new(number: u64) -> Option<Tally<F, M>> {
+        let element = F::new(number)?;
+        Some(Tally {
+            element,
+            mark: None,
+        })
+    }
+
+    fn as_canonical_u64(&self) -> u64 {
+        self.element.as_canonical_u64()
+    }
+
+    ghost number_below_law = { λ x. F.number_below_law x.element };
+}
