@@ -13,6 +13,12 @@ abbrev pub OnOutOfMemory : {M C R : Type 0} → BlocksStopped M C R → (M → T
 OnOutOfMemory (Refused consumer refusal) P = ⊤
 OnOutOfMemory (OutOfMemory unpublished) P = P unpublished.make_consumer
 
+-- an extension with blocks was made, whether all of it was accepted or not
+abbrev pub IsNotOutOfMemory : {T M C R : Type 0} → Result T (BlocksStopped M C R) → Type 0
+IsNotOutOfMemory (Ok out) = ⊤
+IsNotOutOfMemory (Err (Refused consumer refusal)) = ⊤
+IsNotOutOfMemory (Err (OutOfMemory unpublished)) = ⊥
+
 -- P, but where memory was refused
 abbrev pub UnlessOutOfMemory : {T M C R : Type 0} → Result T (BlocksStopped M C R) → Type 0 → Type 0
 UnlessOutOfMemory (Ok out) P = P

@@ -1,28 +1,85 @@
 -- What the clauses of the engines say again and again, in words.
-use Rattle.std.specs.Prelude.{◌≡◌, ◌↔◌, ◌⊎◌, ◌≢◌, ℕ, ◌^◌, ◌≤◌, List}
+use Rattle.std.specs.Prelude.{◌≡◌, ◌↔◌, ◌⊎◌, ◌≢◌, ℕ, ◌+◌, ◌*◌, ◌^◌, ◌≤◌, List}
 use Rattle.std.specs.List.{Contains}
 use Rattle.p3_field.specs.declared.fields.Field.{Ghosts as FieldMembers}
-use Rattle.p3_matrix.specs.RowMajor.{RowMajor}
+use Rattle.p3_matrix.specs.RowMajor.{RowMajor, height}
 use Rattle.p3_networks.specs.Twiddles.{Coset, HasCoset}
+use Rattle.p3_dft.specs.Extensions.{extension_bound}
 
 -- at the k with height 2 ^ k
 abbrev pub AtLog : ℕ → (ℕ → Type 0) → Type 0
 AtLog height P = (k : ℕ) → height ≡ 2 ^ k → P k
 
--- an engine after a call on it: what was promised is promised still, of each coset too, what served stays, and no product is forgotten
-pub record IsLater {E F : Type 0} (promised : E → ℕ → Type 0) (coset_promised : E → ℕ → F → Type 0) (served : E → ℕ → Type 0) (made : E → ℕ) (before after : E) : Type 0 where
-  pub keeps : (k : ℕ) → promised before k → promised after k
-  pub keeps_cosets : (k : ℕ) (s : F) → coset_promised before k s → coset_promised after k s
-  pub keeps_served : (k : ℕ) → served before k → served after k
-  pub grows : made before ≤ made after
+-- what holds of the engines of a type, in each of their states, and what their calls make
+pub record EngineFacts (E F : Type 0) : Type 1 where
+  -- a transform of height 2 ^ k is promised to succeed
+  pub Succeeds : E → ℕ → Type 0
+  -- and where it is, so is one on the coset of this shift
+  pub SucceedsOnCoset : E → ℕ → F → Type 0
+  -- what is known, from then on, at the logarithm of a height that was transformed
+  pub IsReady : E → ℕ → Type 0
+  -- how many products a transform of 2 ^ k rows of w entries makes at most
+  pub transform_products : ℕ → ℕ → ℕ
+  -- and an extension of them by a bits, as k a w
+  pub extension_products : ℕ → ℕ → ℕ → ℕ
+  -- how many rows a published block of an extension of 2 ^ k rows by a bits has
+  pub block_rows : ℕ → ℕ → ℕ
+  -- how many products an engine has made
+  pub products_made : E → ℕ
 
--- at the same numbers
-abbrev pub SameNumbers : (ℕ → Type 0) → (ℕ → Type 0) → Type 0
-SameNumbers P Q = (k : ℕ) → P k ↔ Q k
+-- the facts of an engine whose extensions are an inverse transform and a transform on the larger coset, and published as one block
+abbrev pub plain_facts : {E F : Type 0} → (E → ℕ → Type 0) → (E → ℕ → F → Type 0) → (E → ℕ → Type 0) → (ℕ → ℕ → ℕ) → (E → ℕ) → EngineFacts E F
+plain_facts Succeeds SucceedsOnCoset IsReady transform_products products_made = record {
+  Succeeds = Succeeds;
+  SucceedsOnCoset = SucceedsOnCoset;
+  IsReady = IsReady;
+  transform_products = transform_products;
+  extension_products = extension_bound transform_products;
+  block_rows = λ k a. 2 ^ (k + a);
+  products_made = products_made;
+}
 
--- at the same numbers, for each shift
-abbrev pub SameCosets : {F : Type 0} → (ℕ → F → Type 0) → (ℕ → F → Type 0) → Type 0
-SameCosets P Q = (k : ℕ) (s : _) → P k s ↔ Q k s
+module _ {E F : Type 0} (facts : EngineFacts E F) where
+  -- an engine later: what was promised is promised still, of each coset too, what is known of heights stays known, and no product is forgotten
+  pub record IsLater (before after : E) : Type 0 where
+    pub keeps : (k : ℕ) → facts.Succeeds before k → facts.Succeeds after k
+    pub keeps_cosets : (k : ℕ) (s : F) → facts.SucceedsOnCoset before k s → facts.SucceedsOnCoset after k s
+    pub keeps_ready : (k : ℕ) → facts.IsReady before k → facts.IsReady after k
+    pub grows : facts.products_made before ≤ facts.products_made after
+
+  -- an engine after a call of 2 ^ k rows: whatever it answered, at most so many products were made, and where it answered the values, what is said of k is known
+  pub record IsAfter (before after : E) (answered : Type 0) (height : ℕ) (known : ℕ → Type 0) (products : ℕ → ℕ) : Type 0 where
+    pub later : IsLater before after
+    pub ready : answered → AtLog height known
+    pub cost : AtLog height (λ k. facts.products_made after ≤ facts.products_made before + products k)
+
+  -- after a transform of a matrix of m's shape or its inverse, with so many more products an entry
+  abbrev pub AfterTransform : {T : Type 0} → E → E → Type 0 → RowMajor T → ℕ → Type 0
+  AfterTransform before after answered m more =
+      IsAfter before after answered (height m) (facts.IsReady after) (λ k. facts.transform_products k m.width + more * (2 ^ k * m.width))
+
+  -- after an extension of one by a bits
+  abbrev pub AfterExtension : {T : Type 0} → E → E → Type 0 → RowMajor T → ℕ → Type 0
+  AfterExtension before after answered m a =
+      IsAfter before after answered (height m) (λ k. facts.IsReady after k × facts.IsReady after (k + a)) (λ k. facts.extension_products k a m.width)
+
+  -- and after one by an inverse transform and a transform on the larger coset
+  abbrev pub AfterExtensionByParts : {T : Type 0} → E → E → Type 0 → RowMajor T → ℕ → Type 0
+  AfterExtensionByParts before after answered m a =
+      IsAfter before after answered (height m) (λ k. facts.IsReady after k × facts.IsReady after (k + a)) (λ k. extension_bound facts.transform_products k a m.width)
+
+  -- products that were counted elsewhere came to an engine, and nothing else changed
+  pub record HasProductsMore (before after : E) (products : ℕ) : Type 0 where
+    pub counter : facts.products_made after ≡ facts.products_made before + products
+    pub same : (k : ℕ) → facts.Succeeds before k ↔ facts.Succeeds after k
+    pub same_cosets : (k : ℕ) (s : F) → facts.SucceedsOnCoset before k s ↔ facts.SucceedsOnCoset after k s
+    pub same_ready : (k : ℕ) → facts.IsReady before k ↔ facts.IsReady after k
+
+  -- what every engine's facts meet
+  pub record EngineLaws (IsNew : E → Type 0) (IsClone : E → E → Type 0) : Type 0 where
+    pub power_of_two : (k a : ℕ) → (l : ℕ) × (l ≤ k + a) × (facts.block_rows k a ≡ 2 ^ l)
+    pub new_made_none : (e : E) → IsNew e → facts.products_made e ≡ 0
+    pub clone_made_none : (e copy : E) → IsClone e copy → facts.products_made copy ≡ 0
 
 -- a matrix of one column
 abbrev pub one_column : {T : Type 0} → List T → RowMajor T

@@ -30,8 +30,10 @@ module _ {F : Type 0} (f : FieldMembers F) (generator : ℕ → F) where
     pub coefficients : Matrix f.Element
     pub are_coefficients : (k : ℕ) → height m ≡ 2 ^ k → AreCoefficients f.ring (λ n. f.value (generator n)) (values_of f m) k f.ring.one coefficients
     pub told : RowMajor F
+    pub told_whole : IsRowMajor told
     pub told_in_layout : (k : ℕ) → height m ≡ 2 ^ k → Same (values_of f told) (arrangement layout k coefficients)
     pub answered : RowMajor F
+    pub answered_whole : IsRowMajor answered
     pub called : may_answer told answered
     pub changed : Matrix f.Element
     pub answered_in_layout : (k : ℕ) → height m ≡ 2 ^ k → Same (values_of f answered) (arrangement layout k changed)
@@ -45,9 +47,10 @@ module _ {F : Type 0} (f : FieldMembers F) (generator : ℕ → F) where
   pub record IsAnswerOverZeros (may_answer : RowMajor F → RowMajor F → Type 0) (m : RowMajor F) (a : ℕ) (out : RowMajor F) : Type 0 where
     pub told : RowMajor F
     pub are_coefficients : (k : ℕ) → height m ≡ 2 ^ k → AreCoefficients f.ring (λ n. f.value (generator n)) (values_of f m) k f.ring.one (bit_reversal k (values_of f told))
+    pub told_whole : IsRowMajor told
     pub answered : RowMajor F
+    pub answered_whole : IsRowMajor answered
     pub called : may_answer told answered
-    pub whole : IsRowMajor answered
     pub over_zeros : out ≡ with_zeros f.ZERO answered a
 
 -- how many products an extension of 2 ^ k rows of w entries by a bits takes, where bound says it of a transform: an inverse transform and one on the larger coset

@@ -3,7 +3,7 @@
 ghost use Rattle.std.specs.Prelude.{◌≡◌, ℕ, ◌+◌, ◌≤◌, ◌⊎◌, List, [], IfOk, IfErr, IsOk, OnOk, OnErr};
 ghost use Rattle.std.specs.List.{All, AllZip, sum};
 ghost use Rattle.p3_dft.specs.Engines.{IsLater};
-ghost use Rattle.p3_dft.specs.Jobs.{AreFirstAnswers, CanRun, IsAnswer, IsCost, IsPromised, IsServed, NextIsNotPromised};
+ghost use Rattle.p3_dft.specs.Jobs.{AreFirstAnswers, CanRun, IsAnswer, IsCost, IsPromised, IsReadyFor, NextIsNotPromised};
 
 use crate::traits::TwoAdicSubgroupDft;
 use p3_field::TwoAdicField;
@@ -59,21 +59,21 @@ pub struct JobsStopped<F> {
 ///
 /// Memory for the list of answers is taken first. Where that is refused there are no answers and the
 /// engine is as before; else the first job without an answer is one that the engine was not promised
-/// to answer. After `Ok` the engine serves the heights of all jobs, as after the calls themselves, and
-/// the products are at most the sum of what these may make.
+/// to answer. After `Ok` the engine serves the heights of all jobs, as after the calls themselves. The
+/// products are at most the sum of what the calls of all jobs may make, whatever the answer is.
 pub fn run_jobs<F: TwoAdicField, D: TwoAdicSubgroupDft<F>>(
     engine: &mut D,
     jobs: Vec<Job<F>>,
 ) -> Result<Vec<RowMajorMatrix<F>>, JobsStopped<F>>
     requires runnable { All (CanRun F.Field.own F.TWO_ADICITY) jobs.items }
     ensures all { IfOk result (λ answers. AllZip (IsAnswer F.Field.own F.generator) jobs.items answers.items) }
-    ensures serves { OnOk result (All (IsServed (D.served engine.new)) jobs.items) }
-    ensures cost { OnOk result ((costs : List ℕ) × AllZip (IsCost D.bound D.extension) jobs.items costs
-        × (D.made engine.new ≤ D.made engine.old + sum costs)) }
+    ensures serves { OnOk result (All (IsReadyFor D.facts engine.new) jobs.items) }
+    ensures cost { (costs : List ℕ) × AllZip (IsCost D.facts) jobs.items costs
+        × (D.facts.products_made engine.new ≤ D.facts.products_made engine.old + sum costs) }
     ensures first { IfErr result (λ stopped. AreFirstAnswers F.Field.own F.generator jobs.items stopped.answers.items) }
     ensures refused { IfErr result (λ stopped. ((engine.new ≡ engine.old) × (stopped.answers.items ≡ []))
-        ⊎ NextIsNotPromised (D.promised engine.old) (D.coset_promised engine.old) jobs.items stopped.answers.items) }
-    ensures later { IsLater D.promised D.coset_promised D.served D.made engine.old engine.new }
+        ⊎ NextIsNotPromised D.facts engine.old jobs.items stopped.answers.items) }
+    ensures later { IsLater D.facts engine.old engine.new }
 {
     let mut answers = Vec::new(*jobs.allocator());
     match answer_jobs(engine, jobs, &mut answers) {
@@ -91,13 +91,13 @@ fn answer_jobs<F: TwoAdicField, D: TwoAdicSubgroupDft<F>>(
     requires runnable { All (CanRun F.Field.own F.TWO_ADICITY) jobs.items }
     requires empty { answers.old.items ≡ [] }
     ensures all { OnOk result (AllZip (IsAnswer F.Field.own F.generator) jobs.items answers.new.items) }
-    ensures serves { OnOk result (All (IsServed (D.served engine.new)) jobs.items) }
-    ensures cost { OnOk result ((costs : List ℕ) × AllZip (IsCost D.bound D.extension) jobs.items costs
-        × (D.made engine.new ≤ D.made engine.old + sum costs)) }
+    ensures serves { OnOk result (All (IsReadyFor D.facts engine.new) jobs.items) }
+    ensures cost { (costs : List ℕ) × AllZip (IsCost D.facts) jobs.items costs
+        × (D.facts.products_made engine.new ≤ D.facts.products_made engine.old + sum costs) }
     ensures first { OnErr result (AreFirstAnswers F.Field.own F.generator jobs.items answers.new.items) }
     ensures refused { OnErr result (((engine.new ≡ engine.old) × (answers.new.items ≡ []))
-        ⊎ NextIsNotPromised (D.promised engine.old) (D.coset_promised engine.old) jobs.items answers.new.items) }
-    ensures later { IsLater D.promised D.coset_promised D.served D.made engine.old engine.new }
+        ⊎ NextIsNotPromised D.facts engine.old jobs.items answers.new.items) }
+    ensures later { IsLater D.facts engine.old engine.new }
 {
     answers.reserve_exact(jobs.len())?;
     for job in jobs {
@@ -114,10 +114,10 @@ fn run_job<F: TwoAdicField, D: TwoAdicSubgroupDft<F>>(
 ) -> Result<RowMajorMatrix<F>, DftError>
     requires runnable { CanRun F.Field.own F.TWO_ADICITY job }
     ensures answer { IfOk result (IsAnswer F.Field.own F.generator job) }
-    ensures succeeds { IsPromised (D.promised engine.old) (D.coset_promised engine.old) job → IsOk result }
-    ensures serves { OnOk result (IsServed (D.served engine.new) job) }
-    ensures cost { (n : ℕ) → IsCost D.bound D.extension job n → OnOk result (D.made engine.new ≤ D.made engine.old + n) }
-    ensures later { IsLater D.promised D.coset_promised D.served D.made engine.old engine.new }
+    ensures succeeds { IsPromised D.facts engine.old job → IsOk result }
+    ensures serves { OnOk result (IsReadyFor D.facts engine.new job) }
+    ensures cost { (n : ℕ) → IsCost D.facts job n → D.facts.products_made engine.new ≤ D.facts.products_made engine.old + n }
+    ensures later { IsLater D.facts engine.old engine.new }
 {
     let values = match job {
         Job::Idft(mat) => return engine.idft_batch(mat),

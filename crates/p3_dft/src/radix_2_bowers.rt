@@ -66,10 +66,10 @@ impl Clone for Radix2Bowers {
 }
 
 impl<F: TwoAdicField> TwoAdicSubgroupDft<F> for Radix2Bowers {
-    ghost use Rattle.std.specs.Prelude.{◌≡◌, ⊤, ℕ, ◌+◌, ◌*◌, ◌/◌, ◌^◌, ◌≤◌, IfOk, IsOk, OnOk, Ok};
+    ghost use Rattle.std.specs.Prelude.{◌≡◌, ⊤, ℕ, ◌+◌, ◌*◌, ◌/◌, ◌^◌, ◌≤◌, IfOk, IsOk, Ok};
     ghost use Rattle.std.proofs.Common.{refl, rules};
-    ghost use Rattle.p3_matrix.specs.RowMajor.{HasShapeOf, RowMajor, height};
-    ghost use Rattle.p3_dft.specs.Engines.{AtLog, IsLater};
+    ghost use Rattle.p3_matrix.specs.RowMajor.{HasShapeOf, IsRowMajor, RowMajor, height};
+    ghost use Rattle.p3_dft.specs.Engines.{AtLog, IsLater, plain_facts};
     ghost use Rattle.p3_dft.specs.Extensions.{IsExtension, IsTransformedExtension, extension_bound};
     ghost use Rattle.p3_dft.specs.Shapes.{FitsDft, FitsLde};
     ghost use Rattle.p3_dft.specs.Transforms.{IsInterpolation, IsTransform};
@@ -81,21 +81,13 @@ impl<F: TwoAdicField> TwoAdicSubgroupDft<F> for Radix2Bowers {
 
     ghost LAYOUT = { BitReversed };
 
-    ghost promised = { λ _ k. k ≡ 0 };
+    ghost facts = { plain_facts (λ _ k. k ≡ 0) (λ _ _ _. ⊤) (λ _ _. ⊤) (λ k w. w * (k * 2 ^ k / 2)) (λ e. e) };
 
-    ghost coset_promised = { λ _ _ _. ⊤ };
-
-    ghost served = { λ _ _. ⊤ };
-
-    ghost bound = { λ k w. w * (k * 2 ^ k / 2) };
-
-    ghost made = { λ e. e };
-
-    ghost block_rows_law = { λ k a. (k + a, Prim.search (rules), refl) };
-
-    ghost default_law = { λ e none. none };
-
-    ghost clone_law = { λ e copy none. none };
+    ghost laws = { record {
+      power_of_two = λ k a. (k + a, Prim.search (rules), refl);
+      new_made_none = λ e none. none;
+      clone_made_none = λ e copy none. none;
+    } };
 
     /// As the trait says: the rows are reversed, then network G. A matrix of height one is its own
     /// transform: it is handed back, with no product and no memory taken.
@@ -104,8 +96,8 @@ impl<F: TwoAdicField> TwoAdicSubgroupDft<F> for Radix2Bowers {
         ensures values { IfOk result (λ out. IsTransform F.Field.own F.generator (N.stored mat) F.ring.one out) }
         ensures succeeds { AtLog (height (N.stored mat)) (λ k. k ≡ 0 → IsOk result) }
         ensures one_row { height (N.stored mat) ≡ 1 → (result ≡ Ok (N.stored mat)) × (self.new ≡ self.old) }
-        ensures later { IsLater (λ _ k. k ≡ 0) (λ _ _ (_ : F). ⊤) (λ _ _. ⊤) (λ e. e) self.old self.new }
-        ensures cost { AtLog (height (N.stored mat)) (λ k. OnOk result (self.new ≤ self.old + (N.stored mat).width * (k * 2 ^ k / 2))) }
+        ensures later { IsLater ⟦<Radix2Bowers as TwoAdicSubgroupDft<F>>⟧.facts self.old self.new }
+        ensures cost { AtLog (height (N.stored mat)) (λ k. self.new ≤ self.old + (N.stored mat).width * (k * 2 ^ k / 2)) }
     {
         let mut mat = mat.into_row_major_matrix();
         if mat.height() == 1 {
@@ -135,9 +127,9 @@ impl<F: TwoAdicField> TwoAdicSubgroupDft<F> for Radix2Bowers {
         ensures coefficients { IfOk result (λ out. IsInterpolation F.Field.own F.generator (N.stored mat) F.ring.one out) }
         ensures succeeds { AtLog (height (N.stored mat)) (λ k. k ≡ 0 → IsOk result) }
         ensures one_row { height (N.stored mat) ≡ 1 → (result ≡ Ok (N.stored mat)) × (self.new ≡ self.old) }
-        ensures later { IsLater (λ _ k. k ≡ 0) (λ _ _ (_ : F). ⊤) (λ _ _. ⊤) (λ e. e) self.old self.new }
+        ensures later { IsLater ⟦<Radix2Bowers as TwoAdicSubgroupDft<F>>⟧.facts self.old self.new }
         ensures cost { AtLog (height (N.stored mat))
-            (λ k. OnOk result (self.new ≤ self.old + (N.stored mat).width * (k * 2 ^ k / 2) + 2 ^ k * (N.stored mat).width)) }
+            (λ k. self.new ≤ self.old + (N.stored mat).width * (k * 2 ^ k / 2) + 2 ^ k * (N.stored mat).width) }
     {
         let mut mat = mat.into_row_major_matrix();
         if mat.height() == 1 {
@@ -162,19 +154,21 @@ impl<F: TwoAdicField> TwoAdicSubgroupDft<F> for Radix2Bowers {
         transform: T,
     ) -> Result<RowMajorMatrix<F>, DftError>
         requires fits { FitsLde F.TWO_ADICITY (height (N.stored mat)) (N.stored mat).width added_bits }
-        requires callable { (m : RowMajor F) → HasShapeOf m (N.stored mat) → T.pre transform m BitReversed }
-        requires shape { (m n : RowMajor F) → HasShapeOf m (N.stored mat) → T.post transform m BitReversed n → HasShapeOf n (N.stored mat) }
+        requires callable { (m : RowMajor F) → IsRowMajor m → HasShapeOf m (N.stored mat) → T.pre transform m BitReversed }
+        requires shape { (m n : RowMajor F) → IsRowMajor m → HasShapeOf m (N.stored mat) → T.post transform m BitReversed n → HasShapeOf n (N.stored mat) }
         ensures values { IfOk result (λ out. IsTransformedExtension F.Field.own F.generator
             (λ m n. T.post transform m BitReversed n) BitReversed (N.stored mat) added_bits (F.value shift) out) }
         ensures one_row { height (N.stored mat) ≡ 1 → added_bits ≡ 0 → IsOk result × (self.new ≡ self.old) }
-        ensures later { IsLater (λ _ k. k ≡ 0) (λ _ _ (_ : F). ⊤) (λ _ _. ⊤) (λ e. e) self.old self.new }
-        ensures cost { AtLog (height (N.stored mat)) (λ k. OnOk result (self.new
-            ≤ self.old + extension_bound (λ n w. w * (n * 2 ^ n / 2)) k added_bits (N.stored mat).width)) }
+        ensures later { IsLater ⟦<Radix2Bowers as TwoAdicSubgroupDft<F>>⟧.facts self.old self.new }
+        ensures cost { AtLog (height (N.stored mat)) (λ k. self.new
+            ≤ self.old + extension_bound (λ n w. w * (n * 2 ^ n / 2)) k added_bits (N.stored mat).width) }
     {
         let mut mat = mat.into_row_major_matrix();
         let log_h = log2_strict_usize(mat.height());
         if log_h + added_bits == 0 {
-            return Ok(transform(mat, Layout::BitReversed));
+            let row = transform(mat, Layout::BitReversed);
+            let _width = row.width();
+            return Ok(row);
         }
         interpolate(&mut mat, &mut self.products)?;
         let mut changed = transform(mat, Layout::BitReversed);
@@ -196,9 +190,9 @@ impl<F: TwoAdicField> TwoAdicSubgroupDft<F> for Radix2Bowers {
             IsExtension F.Field.own F.generator (N.stored mat) added_bits (F.value shift) out) }
         ensures one_row { height (N.stored mat) ≡ 1 → added_bits ≡ 0
             → (result ≡ Ok (N.stored mat)) × (self.new ≡ self.old) }
-        ensures later { IsLater (λ _ k. k ≡ 0) (λ _ _ (_ : F). ⊤) (λ _ _. ⊤) (λ e. e) self.old self.new }
-        ensures cost { AtLog (height (N.stored mat)) (λ k. OnOk result (self.new
-            ≤ self.old + extension_bound (λ n w. w * (n * 2 ^ n / 2)) k added_bits (N.stored mat).width)) }
+        ensures later { IsLater ⟦<Radix2Bowers as TwoAdicSubgroupDft<F>>⟧.facts self.old self.new }
+        ensures cost { AtLog (height (N.stored mat)) (λ k. self.new
+            ≤ self.old + extension_bound (λ n w. w * (n * 2 ^ n / 2)) k added_bits (N.stored mat).width) }
     {
         let mut mat = mat.into_row_major_matrix();
         let log_h = log2_strict_usize(mat.height());
@@ -223,9 +217,9 @@ impl<F: TwoAdicField> TwoAdicSubgroupDft<F> for Radix2Bowers {
             IsExtension F.Field.own F.generator (N.stored mat) added_bits F.ring.one out) }
         ensures one_row { height (N.stored mat) ≡ 1 → added_bits ≡ 0
             → (result ≡ Ok (N.stored mat)) × (self.new ≡ self.old) }
-        ensures later { IsLater (λ _ k. k ≡ 0) (λ _ _ (_ : F). ⊤) (λ _ _. ⊤) (λ e. e) self.old self.new }
-        ensures cost { AtLog (height (N.stored mat)) (λ k. OnOk result (self.new
-            ≤ self.old + extension_bound (λ n w. w * (n * 2 ^ n / 2)) k added_bits (N.stored mat).width)) }
+        ensures later { IsLater ⟦<Radix2Bowers as TwoAdicSubgroupDft<F>>⟧.facts self.old self.new }
+        ensures cost { AtLog (height (N.stored mat)) (λ k. self.new
+            ≤ self.old + extension_bound (λ n w. w * (n * 2 ^ n / 2)) k added_bits (N.stored mat).width) }
     {
         let mut mat = mat.into_row_major_matrix();
         let log_h = log2_strict_usize(mat.height());
@@ -312,6 +306,7 @@ fn interpolate<F: TwoAdicField>(
     requires fits { FitsDft F.TWO_ADICITY (height mat.old) mat.old.width }
     ensures coefficients { AtLog (height mat.old) (λ k. OnOk result (AreCoefficients F.ring (λ n. F.value (F.generator n))
         (values_of F.Field.own mat.old) k F.ring.one (bit_reversal k (values_of F.Field.own mat.new)))) }
+    ensures whole { OnOk result (IsRowMajor mat.new) }
     ensures grows { products.old ≤ products.new }
     ensures cost { AtLog (height mat.old) (λ k. products.new ≤ products.old + mat.old.width * (k * 2 ^ k / 2) + 2 ^ k * mat.old.width) }
 {
@@ -365,6 +360,7 @@ fn weigh_reversed_rows<F: TwoAdicField>(
     products: &mut Products,
 ) -> Result<(), DftError>
     requires power { (k : ℕ) × (height mat.old ≡ 2 ^ k) }
+    ensures whole { IsRowMajor mat.old }
     ensures rows { AtLog (height mat.old) (λ k. OnOk result (Same (bit_reversal k (values_of F.Field.own mat.new))
         (image (λ x. F.ring.mul x (F.value scale))
         (coset_shift F.ring (F.value shift) (bit_reversal k (values_of F.Field.own mat.old)))))) }

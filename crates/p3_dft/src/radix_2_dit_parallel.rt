@@ -119,10 +119,10 @@ impl<F: TwoAdicField> TwoAdicSubgroupDft<F> for Radix2DitParallel<F> {
     ghost use Rattle.std.specs.Prelude.{IfErr, IfOk, IsOk, OnOk, OnErr, Ok};
     ghost use Rattle.std.proofs.Common.{arith, refl};
     ghost use Rattle.p3_matrix.specs.BitOrder.{bit_reversal, reversed_rows};
-    ghost use Rattle.p3_matrix.specs.RowMajor.{HasShapeOf, RowMajor, height};
-    ghost use Rattle.p3_dft.specs.Engines.{AtLog, IsLater, IsCosetPrepared, IsPrepared, PreparesNoneAbove};
+    ghost use Rattle.p3_matrix.specs.RowMajor.{HasShapeOf, IsRowMajor, RowMajor, height};
+    ghost use Rattle.p3_dft.specs.Engines.{AtLog, IsLater, IsCosetPrepared, IsPrepared, PreparesNoneAbove, plain_facts};
     ghost use Rattle.p3_networks.specs.Twiddles.{AddsCosets, HasCoset, HasCosets};
-    ghost use Rattle.p3_dft.specs.Extensions.{AreTransformedValues, IsTransformedExtension, extension_bound};
+    ghost use Rattle.p3_dft.specs.Extensions.{AreTransformedValues, IsTransformedExtension};
     ghost use Rattle.p3_dft.specs.Blocks.{OnOutOfMemory, OnRefused, UnlessOutOfMemory};
     ghost use Rattle.p3_matrix.specs.Blocks.{IsPublished, IsRefused};
     ghost use Rattle.p3_matrix.specs.Matrix.{Matrix};
@@ -136,25 +136,17 @@ impl<F: TwoAdicField> TwoAdicSubgroupDft<F> for Radix2DitParallel<F> {
 
     ghost LAYOUT = { BitReversed };
 
-    ghost promised = { λ e. IsPrepared e.roots };
+    ghost facts = { record (plain_facts (λ e. IsPrepared e.roots) (λ e k s. IsCosetPrepared F.Field.own e k (F.value s))
+        (λ _ _. ⊤) (λ k w. w * (k * 2 ^ k / 2)) (λ e. e.roots.products)) {
+          extension_products = λ k a w. w * (k * 2 ^ k / 2 * (1 + 2 ^ a) + 2 ^ k);
+          block_rows = λ k a. 2 ^ (k - (k + 1) / 2);
+        } };
 
-    ghost coset_promised = { λ e k s. IsCosetPrepared F.Field.own e k (F.value s) };
-
-    ghost served = { λ _ _. ⊤ };
-
-    ghost bound = { λ k w. w * (k * 2 ^ k / 2) };
-
-    ghost extension = { λ bound k a w. w * (k * 2 ^ k / 2 * (1 + 2 ^ a) + 2 ^ k) };
-
-    ghost made = { λ e. e.roots.products };
-
-    ghost block_rows = { λ k a. 2 ^ (k - (k + 1) / 2) };
-
-    ghost block_rows_law = { λ k a. (k - (k + 1) / 2, omega (arith), refl) };
-
-    ghost default_law = { λ e new. new.2 };
-
-    ghost clone_law = { λ e copy new. new.2 };
+    ghost laws = { record {
+      power_of_two = λ k a. (k - (k + 1) / 2, omega (arith), refl);
+      new_made_none = λ e new. new.2;
+      clone_made_none = λ e copy new. new.2;
+    } };
 
     /// As the trait says. `Ok` makes the height prepared for good, and an error leaves the engine as it
     /// was. A matrix of height one is its own transform: it is handed back, with no product and no memory
@@ -173,10 +165,9 @@ impl<F: TwoAdicField> TwoAdicSubgroupDft<F> for Radix2DitParallel<F> {
         ensures one_row { height (N.stored mat) ≡ 1
             → (result ≡ Ok (record { physical = N.stored mat; bits = 0 })) × (self.new ≡ self.old) }
         ensures cosets { self.new.cosets ≡ self.old.cosets }
-        ensures later { IsLater (λ e. IsPrepared e.roots) (λ e k s. IsCosetPrepared F.Field.own e k (F.value s))
-            (λ _ _. ⊤) (λ e. e.roots.products) self.old self.new }
+        ensures later { IsLater ⟦<Radix2DitParallel<F> as TwoAdicSubgroupDft<F>>⟧.facts self.old self.new }
         ensures cost { AtLog (height (N.stored mat))
-            (λ k. OnOk result (self.new.roots.products ≤ self.old.roots.products + (N.stored mat).width * (k * 2 ^ k / 2))) }
+            (λ k. self.new.roots.products ≤ self.old.roots.products + (N.stored mat).width * (k * 2 ^ k / 2)) }
     {
         let mut mat = mat.into_row_major_matrix();
         let height = mat.height();
@@ -225,12 +216,11 @@ impl<F: TwoAdicField> TwoAdicSubgroupDft<F> for Radix2DitParallel<F> {
         ensures refused { OnErr result (self.new ≡ self.old) }
         ensures one_row { height (N.stored mat) ≡ 1
             → (result ≡ Ok (record { physical = N.stored mat; bits = 0 })) × (self.new ≡ self.old) }
-        ensures later { IsLater (λ e. IsPrepared e.roots) (λ e k s. IsCosetPrepared F.Field.own e k (F.value s))
-            (λ _ _. ⊤) (λ e. e.roots.products) self.old self.new }
-        ensures cost { AtLog (height (N.stored mat)) (λ k. OnOk result (self.new.roots.products
-            ≤ self.old.roots.products + (N.stored mat).width * (k * 2 ^ k / 2) + 2 ^ k * (N.stored mat).width)) }
-        ensures pairs { AtLog (height (N.stored mat)) (λ k. OnOk result (self.new.roots.products
-            ≤ self.old.roots.products + (N.stored mat).width * (k * 2 ^ k / 2))) }
+        ensures later { IsLater ⟦<Radix2DitParallel<F> as TwoAdicSubgroupDft<F>>⟧.facts self.old self.new }
+        ensures cost { AtLog (height (N.stored mat)) (λ k. self.new.roots.products
+            ≤ self.old.roots.products + (N.stored mat).width * (k * 2 ^ k / 2) + 2 ^ k * (N.stored mat).width) }
+        ensures pairs { AtLog (height (N.stored mat)) (λ k. self.new.roots.products
+            ≤ self.old.roots.products + (N.stored mat).width * (k * 2 ^ k / 2)) }
     {
         if shift == F::ONE {
             return self.dft_batch(mat);
@@ -262,10 +252,9 @@ impl<F: TwoAdicField> TwoAdicSubgroupDft<F> for Radix2DitParallel<F> {
         ensures refused { OnErr result (self.new ≡ self.old) }
         ensures one_row { height (N.stored mat) ≡ 1 → (result ≡ Ok (N.stored mat)) × (self.new ≡ self.old) }
         ensures cosets { self.new.cosets ≡ self.old.cosets }
-        ensures later { IsLater (λ e. IsPrepared e.roots) (λ e k s. IsCosetPrepared F.Field.own e k (F.value s))
-            (λ _ _. ⊤) (λ e. e.roots.products) self.old self.new }
-        ensures cost { AtLog (height (N.stored mat)) (λ k. OnOk result (self.new.roots.products
-            ≤ self.old.roots.products + (N.stored mat).width * (k * 2 ^ k / 2) + 2 ^ k * (N.stored mat).width)) }
+        ensures later { IsLater ⟦<Radix2DitParallel<F> as TwoAdicSubgroupDft<F>>⟧.facts self.old self.new }
+        ensures cost { AtLog (height (N.stored mat)) (λ k. self.new.roots.products
+            ≤ self.old.roots.products + (N.stored mat).width * (k * 2 ^ k / 2) + 2 ^ k * (N.stored mat).width) }
     {
         let mut mat = mat.into_row_major_matrix();
         let height = mat.height();
@@ -295,8 +284,8 @@ impl<F: TwoAdicField> TwoAdicSubgroupDft<F> for Radix2DitParallel<F> {
         transform: T,
     ) -> Result<BitReversedMatrixView<RowMajorMatrix<F>>, DftError>
         requires fits { FitsLde F.TWO_ADICITY (height (N.stored mat)) (N.stored mat).width added_bits }
-        requires callable { (m : RowMajor F) → HasShapeOf m (N.stored mat) → T.pre transform m BitReversed }
-        requires shape { (m n : RowMajor F) → HasShapeOf m (N.stored mat) → T.post transform m BitReversed n → HasShapeOf n (N.stored mat) }
+        requires callable { (m : RowMajor F) → IsRowMajor m → HasShapeOf m (N.stored mat) → T.pre transform m BitReversed }
+        requires shape { (m n : RowMajor F) → IsRowMajor m → HasShapeOf m (N.stored mat) → T.post transform m BitReversed n → HasShapeOf n (N.stored mat) }
         ensures values { IfOk result (λ out. IsTransformedExtension F.Field.own F.generator
             (λ m n. T.post transform m BitReversed n) BitReversed
             (N.stored mat) added_bits (F.value shift) (reversed_rows out.bits out.physical)) }
@@ -310,10 +299,9 @@ impl<F: TwoAdicField> TwoAdicSubgroupDft<F> for Radix2DitParallel<F> {
             AddsCosets F.Field.own F.generator k added_bits (F.value shift) self.old.cosets self.new.cosets) }
         ensures once { AtLog (height (N.stored mat)) (λ k. HasCosets F.Field.own F.generator self.old.cosets k added_bits (F.value shift)
             → self.new.cosets ≡ self.old.cosets) }
-        ensures later { IsLater (λ e. IsPrepared e.roots) (λ e k s. IsCosetPrepared F.Field.own e k (F.value s))
-            (λ _ _. ⊤) (λ e. e.roots.products) self.old self.new }
-        ensures cost { AtLog (height (N.stored mat)) (λ k. OnOk result (self.new.roots.products
-            ≤ self.old.roots.products + (N.stored mat).width * (k * 2 ^ k / 2 * (1 + 2 ^ added_bits) + 2 ^ k))) }
+        ensures later { IsLater ⟦<Radix2DitParallel<F> as TwoAdicSubgroupDft<F>>⟧.facts self.old self.new }
+        ensures cost { AtLog (height (N.stored mat)) (λ k. self.new.roots.products
+            ≤ self.old.roots.products + (N.stored mat).width * (k * 2 ^ k / 2 * (1 + 2 ^ added_bits) + 2 ^ k)) }
     {
         let answer = self.coset_lde_batch_with_blocks(
             mat,
@@ -352,8 +340,8 @@ impl<F: TwoAdicField> TwoAdicSubgroupDft<F> for Radix2DitParallel<F> {
         make_consumer: M,
     ) -> Result<(BitReversedMatrixView<RowMajorMatrix<F>>, C), BlocksStopped<M, C, C::Refusal>>
         requires fits { FitsLde F.TWO_ADICITY (height (N.stored mat)) (N.stored mat).width added_bits }
-        requires callable { (m : RowMajor F) → HasShapeOf m (N.stored mat) → T.pre transform m BitReversed }
-        requires shape { (m n : RowMajor F) → HasShapeOf m (N.stored mat) → T.post transform m BitReversed n → HasShapeOf n (N.stored mat) }
+        requires callable { (m : RowMajor F) → IsRowMajor m → HasShapeOf m (N.stored mat) → T.pre transform m BitReversed }
+        requires shape { (m n : RowMajor F) → IsRowMajor m → HasShapeOf m (N.stored mat) → T.post transform m BitReversed n → HasShapeOf n (N.stored mat) }
         requires makes { AtLog (height (N.stored mat)) (λ k. M.pre make_consumer (2 ^ (k - (k + 1) / 2))) }
         ensures values { IfOk result (λ p. IsTransformedExtension F.Field.own F.generator
             (λ m n. T.post transform m BitReversed n) BitReversed
@@ -376,10 +364,9 @@ impl<F: TwoAdicField> TwoAdicSubgroupDft<F> for Radix2DitParallel<F> {
             AddsCosets F.Field.own F.generator k added_bits (F.value shift) self.old.cosets self.new.cosets) }
         ensures once { AtLog (height (N.stored mat)) (λ k. HasCosets F.Field.own F.generator self.old.cosets k added_bits (F.value shift)
             → self.new.cosets ≡ self.old.cosets) }
-        ensures later { IsLater (λ e. IsPrepared e.roots) (λ e k s. IsCosetPrepared F.Field.own e k (F.value s))
-            (λ _ _. ⊤) (λ e. e.roots.products) self.old self.new }
-        ensures cost { AtLog (height (N.stored mat)) (λ k. UnlessOutOfMemory result (self.new.roots.products
-            ≤ self.old.roots.products + (N.stored mat).width * (k * 2 ^ k / 2 * (1 + 2 ^ added_bits) + 2 ^ k))) }
+        ensures later { IsLater ⟦<Radix2DitParallel<F> as TwoAdicSubgroupDft<F>>⟧.facts self.old self.new }
+        ensures cost { AtLog (height (N.stored mat)) (λ k. self.new.roots.products
+            ≤ self.old.roots.products + (N.stored mat).width * (k * 2 ^ k / 2 * (1 + 2 ^ added_bits) + 2 ^ k)) }
     {
         let mat = mat.into_row_major_matrix();
         let log_h = log2_strict_usize(mat.height());

@@ -161,7 +161,7 @@ impl<F: TwoAdicField> TwoAdicSubgroupDft<F> for Radix2DFTSmallBatch<F> {
     ghost use Rattle.std.specs.Prelude.{◌≡◌, ◌⊎◌, ℕ, ◌+◌, ◌*◌, ◌/◌, ◌^◌, ◌≤◌, IfOk, IsOk, OnOk, OnErr, Ok, ⊤};
     ghost use Rattle.std.proofs.Common.{refl, rules};
     ghost use Rattle.p3_matrix.specs.RowMajor.{HasShapeOf, RowMajor, height};
-    ghost use Rattle.p3_dft.specs.Engines.{AtLog, IsLater, IsPrepared, PreparesNoneAbove};
+    ghost use Rattle.p3_dft.specs.Engines.{AtLog, IsLater, IsPrepared, PreparesNoneAbove, plain_facts};
     ghost use Rattle.p3_dft.specs.Extensions.{IsExtension, IsTransformedExtension, extension_bound};
     ghost use Rattle.p3_dft.specs.Shapes.{FitsDft, FitsLde};
     ghost use Rattle.p3_dft.specs.Transforms.{IsInterpolation, IsTransform};
@@ -173,21 +173,13 @@ impl<F: TwoAdicField> TwoAdicSubgroupDft<F> for Radix2DFTSmallBatch<F> {
 
     ghost LAYOUT = { Natural };
 
-    ghost promised = { IsPrepared };
+    ghost facts = { plain_facts IsPrepared (λ _ _ _. ⊤) IsPrepared (λ k w. w * (k * 2 ^ k / 2)) (λ e. e.products) };
 
-    ghost coset_promised = { λ _ _ _. ⊤ };
-
-    ghost served = { IsPrepared };
-
-    ghost bound = { λ k w. w * (k * 2 ^ k / 2) };
-
-    ghost made = { λ e. e.products };
-
-    ghost block_rows_law = { λ k a. (k + a, Prim.search (rules), refl) };
-
-    ghost default_law = { λ e new. new.1 };
-
-    ghost clone_law = { λ e copy new. new.1 };
+    ghost laws = { record {
+      power_of_two = λ k a. (k + a, Prim.search (rules), refl);
+      new_made_none = λ e new. new.1;
+      clone_made_none = λ e copy new. new.1;
+    } };
 
     /// As the trait says. `Ok` makes the height prepared for good, and no larger one; an error leaves the
     /// engine as it was. A matrix of height one is its own transform: it is handed back, with no product
@@ -200,9 +192,9 @@ impl<F: TwoAdicField> TwoAdicSubgroupDft<F> for Radix2DFTSmallBatch<F> {
         ensures one_row { height (N.stored mat) ≡ 1 → (result ≡ Ok (N.stored mat)) × (self.new ≡ self.old) }
         ensures only { AtLog (height (N.stored mat)) (λ k. PreparesNoneAbove k self.old self.new) }
         ensures refused { OnErr result (self.new ≡ self.old) }
-        ensures later { IsLater IsPrepared (λ _ _ (_ : F). ⊤) IsPrepared (λ e. e.products) self.old self.new }
+        ensures later { IsLater ⟦<Radix2DFTSmallBatch<F> as TwoAdicSubgroupDft<F>>⟧.facts self.old self.new }
         ensures cost { AtLog (height (N.stored mat))
-            (λ k. OnOk result (self.new.products ≤ self.old.products + (N.stored mat).width * (k * 2 ^ k / 2))) }
+            (λ k. self.new.products ≤ self.old.products + (N.stored mat).width * (k * 2 ^ k / 2)) }
     {
         let mut mat = mat.into_row_major_matrix();
         let height = mat.height();
@@ -238,9 +230,9 @@ impl<F: TwoAdicField> TwoAdicSubgroupDft<F> for Radix2DFTSmallBatch<F> {
         ensures one_row { height (N.stored mat) ≡ 1 → (result ≡ Ok (N.stored mat)) × (self.new ≡ self.old) }
         ensures only { AtLog (height (N.stored mat)) (λ k. PreparesNoneAbove k self.old self.new) }
         ensures refused { OnErr result (self.new ≡ self.old) }
-        ensures later { IsLater IsPrepared (λ _ _ (_ : F). ⊤) IsPrepared (λ e. e.products) self.old self.new }
-        ensures cost { AtLog (height (N.stored mat)) (λ k. OnOk result (self.new.products
-            ≤ self.old.products + (N.stored mat).width * (k * 2 ^ k / 2) + 2 ^ k * (N.stored mat).width)) }
+        ensures later { IsLater ⟦<Radix2DFTSmallBatch<F> as TwoAdicSubgroupDft<F>>⟧.facts self.old self.new }
+        ensures cost { AtLog (height (N.stored mat)) (λ k. self.new.products
+            ≤ self.old.products + (N.stored mat).width * (k * 2 ^ k / 2) + 2 ^ k * (N.stored mat).width) }
     {
         let mut mat = mat.into_row_major_matrix();
         let height = mat.height();
@@ -273,11 +265,11 @@ impl<F: TwoAdicField> TwoAdicSubgroupDft<F> for Radix2DFTSmallBatch<F> {
         ensures one_row { height (N.stored mat) ≡ 1 → added_bits ≡ 0
             → (result ≡ Ok (N.stored mat)) × (self.new ≡ self.old) }
         ensures only { AtLog (height (N.stored mat)) (λ k. PreparesNoneAbove (k + added_bits) self.old self.new) }
-        ensures later { IsLater IsPrepared (λ _ _ (_ : F). ⊤) IsPrepared (λ e. e.products) self.old self.new }
-        ensures cost { AtLog (height (N.stored mat)) (λ k. OnOk result (self.new.products
-            ≤ self.old.products + extension_bound (λ n w. w * (n * 2 ^ n / 2)) k added_bits (N.stored mat).width)) }
-        ensures fewer { AtLog (height (N.stored mat)) (λ k. OnOk result (self.new.products
-            ≤ self.old.products + (N.stored mat).width * (k * 2 ^ k / 2 * (1 + 2 ^ added_bits) + 2 ^ (k + added_bits)))) }
+        ensures later { IsLater ⟦<Radix2DFTSmallBatch<F> as TwoAdicSubgroupDft<F>>⟧.facts self.old self.new }
+        ensures cost { AtLog (height (N.stored mat)) (λ k. self.new.products
+            ≤ self.old.products + extension_bound (λ n w. w * (n * 2 ^ n / 2)) k added_bits (N.stored mat).width) }
+        ensures fewer { AtLog (height (N.stored mat)) (λ k. self.new.products
+            ≤ self.old.products + (N.stored mat).width * (k * 2 ^ k / 2 * (1 + 2 ^ added_bits) + 2 ^ (k + added_bits))) }
     {
         let mut mat = mat.into_row_major_matrix();
         let log_h = log2_strict_usize(mat.height());
@@ -320,6 +312,7 @@ impl<F: TwoAdicField> TwoAdicSubgroupDft<F> for Radix2DFTSmallBatch<F> {
         let log_h = log2_strict_usize(mat.height());
         self.prepare(*mat.allocator(), log_h + added_bits)?;
         let coefficients = self.idft_batch(mat)?;
+        let _width = coefficients.width();
         let changed = transform(coefficients, Layout::Natural);
         let mut grown = pad_rows(changed, added_bits)?;
         let twiddles = self.tables.forward();

@@ -1,11 +1,11 @@
 //! Reed-Solomon codes: values of polynomials with few coefficients, on many points.
 
-ghost use Rattle.std.specs.Prelude.{◌≡◌, ◌↔◌, ℕ, ◌+◌, ◌*◌, ◌^◌, ◌<◌, ◌≤◌, IsTrue, IfOk, OnOk, All};
+ghost use Rattle.std.specs.Prelude.{◌≡◌, ◌↔◌, ℕ, ◌+◌, ◌^◌, ◌<◌, ◌≤◌, IsTrue, IfOk, IsOk, All};
 ghost use Rattle.p3_field.specs.Ring.{IsInvertible};
 ghost use Rattle.p3_matrix.specs.Matrix.{Matrix, Same};
 ghost use Rattle.p3_matrix.specs.RowMajor.{height};
 ghost use Rattle.p3_dft.specs.Codes.{AgreeInRows, IsCode, IsCodeword};
-ghost use Rattle.p3_dft.specs.Engines.{IsLater};
+ghost use Rattle.p3_dft.specs.Engines.{AfterExtension, AfterTransform};
 ghost use Rattle.p3_dft.specs.Extensions.{IsExtension};
 ghost use Rattle.p3_dft.specs.Shapes.{FitsDft, FitsLde};
 ghost use Rattle.p3_dft.specs.Transforms.{values_of};
@@ -154,11 +154,7 @@ impl<F: TwoAdicField, D: TwoAdicSubgroupDft<F>> ReedSolomon<F, D> {
             → AgreeInRows (2 ^ self.old.code.log_message) other (values_of F.Field.own out)
             → Same other (values_of F.Field.own out)) }
         ensures code { self.new.code ≡ self.old.code }
-        ensures serves { OnOk result (D.served self.new.engine self.old.code.log_message
-            × D.served self.new.engine (self.old.code.log_message + self.old.code.added_bits)) }
-        ensures later { IsLater D.promised D.coset_promised D.served D.made self.old.engine self.new.engine }
-        ensures cost { OnOk result (D.made self.new.engine ≤ D.made self.old.engine
-            + D.extension D.bound self.old.code.log_message self.old.code.added_bits (N.stored mat).width) }
+        ensures engine { AfterExtension D.facts self.old.engine self.new.engine (IsOk result) (N.stored mat) self.old.code.added_bits }
     {
         let values = self
             .engine
@@ -177,11 +173,7 @@ impl<F: TwoAdicField, D: TwoAdicSubgroupDft<F>> ReedSolomon<F, D> {
         ensures exact { IfOk result (λ told.
             IsTrue told ↔ IsCodeword F.Field.own F.generator self.old.code (values_of F.Field.own word.now)) }
         ensures code { self.new.code ≡ self.old.code }
-        ensures serves { OnOk result (D.served self.new.engine (self.old.code.log_message + self.old.code.added_bits)) }
-        ensures later { IsLater D.promised D.coset_promised D.served D.made self.old.engine self.new.engine }
-        ensures cost { OnOk result (D.made self.new.engine ≤ D.made self.old.engine
-            + D.bound (self.old.code.log_message + self.old.code.added_bits) word.now.width
-            + 2 * (height word.now * word.now.width)) }
+        ensures engine { AfterTransform D.facts self.old.engine self.new.engine (IsOk result) word.now 2 }
     {
         let message_height = self.message_height();
         let coefficients = self.engine.coset_idft_batch(word.try_clone()?, self.shift)?;

@@ -3,11 +3,11 @@
 ghost use Rattle.std.specs.Prelude.{◌≡◌, ℕ, ◌+◌, ◌*◌, ◌^◌, ◌≤◌, IfErr, IfOk, OnOk, IsOk, vec_len};
 ghost use Rattle.p3_matrix.specs.BitOrder.{bit_reversal, reversed_rows};
 ghost use Rattle.p3_matrix.specs.Blocks.{IsPublished, IsRefused};
-ghost use Rattle.p3_matrix.specs.RowMajor.{HasShapeOf, RowMajor, height};
-ghost use Rattle.p3_dft.specs.Blocks.{OnOutOfMemory, OnRefused, UnlessOutOfMemory};
+ghost use Rattle.p3_matrix.specs.RowMajor.{HasShapeOf, IsRowMajor, RowMajor, height};
+ghost use Rattle.p3_dft.specs.Blocks.{IsNotOutOfMemory, OnOutOfMemory, OnRefused};
 ghost use Rattle.p3_dft.specs.Coordinates.{flat, flat_column};
-ghost use Rattle.p3_dft.specs.Engines.{AtLog, IsLater, SameCosets, SameNumbers, one_column};
-ghost use Rattle.p3_dft.specs.Extensions.{AreTransformedValues, IsExtension, IsTransformedExtension, extension_bound, arrangement};
+ghost use Rattle.p3_dft.specs.Engines.{AfterExtension, AfterExtensionByParts, AfterTransform, AtLog, EngineFacts, EngineLaws, HasProductsMore, one_column};
+ghost use Rattle.p3_dft.specs.Extensions.{AreTransformedValues, IsExtension, IsTransformedExtension, arrangement};
 ghost use Rattle.p3_dft.specs.Shapes.{FitsDft, FitsLde};
 ghost use Rattle.p3_matrix.specs.Matrix.{Matrix, Same, matrix};
 ghost use Rattle.p3_field.specs.Ring.{IsInvertible};
@@ -41,8 +41,9 @@ pub enum Layout {
 /// Where memory is refused, all answer `DftError::OutOfMemory`, and the form with blocks
 /// `BlocksStopped::OutOfMemory`; the matrix is then dropped, and the engine serves later calls as before.
 ///
-/// The clause `cost` of each call bounds the products that it adds to the engine's counter by the
-/// engine's own `bound` of a transform and `extension` of an extension.
+/// The clause `engine` of each call tells what is left of the engine, in the engine's own `facts`: what
+/// it promises and knows of heights stays, and the products that come to its counter are at most
+/// those of a transform, with so many more an entry, or of an extension, whatever the call answers.
 ///
 /// Every clause holds for every state that an engine can have, after any earlier calls.
 pub trait TwoAdicSubgroupDft<F: TwoAdicField>: Clone + Default {
@@ -56,45 +57,19 @@ pub trait TwoAdicSubgroupDft<F: TwoAdicField>: Clone + Default {
 
     ghost LAYOUT: { Layout };
 
-    // The logarithms of the heights at which `dft_batch` is promised to succeed.
-    ghost promised: { Self → ℕ → Type 0 };
-
-    // The shifts for which `coset_dft_batch` is too, where `dft_batch` is.
-    ghost coset_promised: { Self → ℕ → F → Type 0 };
-
-    // What is known of an engine, from then on, at the logarithm of a height that it transformed.
-    ghost served: { Self → ℕ → Type 0 };
-
-    // How many products `dft_batch` makes at most, by the logarithm of the height and by the width.
-    ghost bound: { ℕ → ℕ → ℕ };
-
-    // How many products an extension makes at most, by the bound of `dft_batch`, the logarithm of the
-    // height, the added bits and the width: those of `coset_lde_batch_by_parts`, unless an engine
-    // says less.
-    ghost extension: { (ℕ → ℕ → ℕ) → ℕ → ℕ → ℕ → ℕ } = { extension_bound };
-
-    // How many products the engine has made.
-    ghost made: { Self → ℕ };
-
-    // How many rows a published block has, by the logarithm of the input's height and the added bits:
-    // those of the whole extension, unless an engine says less.
-    ghost block_rows: { ℕ → ℕ → ℕ } = { λ k a. 2 ^ (k + a) };
+    // What holds of an engine and what its calls make, in one record.
+    ghost facts: { EngineFacts Self F };
 
     /// The values on H of the polynomials whose coefficients are the columns.
     fn dft_batch<N: IntoRowMajorMatrix<F>>(&mut self, mat: N) -> Result<Self::Evaluations, DftError>
         requires fits { FitsDft F.TWO_ADICITY (height (N.stored mat)) (N.stored mat).width }
         ensures values { IfOk result (λ out. IsTransform F.Field.own F.generator (N.stored mat) F.ring.one (Self.Evaluations.natural out)) }
-        ensures succeeds { AtLog (height (N.stored mat)) (λ k. promised self.old k → IsOk result) }
-        ensures serves { AtLog (height (N.stored mat)) (λ k. OnOk result (served self.new k)) }
-        ensures later { IsLater promised coset_promised served made self.old self.new }
-        ensures cost { AtLog (height (N.stored mat)) (λ k. OnOk result (made self.new ≤ made self.old + bound k (N.stored mat).width)) };
+        ensures succeeds { AtLog (height (N.stored mat)) (λ k. facts.Succeeds self.old k → IsOk result) }
+        ensures engine { AfterTransform facts self.old self.new (IsOk result) (N.stored mat) 0 };
 
     /// Adds to the engine's counter what was counted elsewhere. What the engine promises and serves stays.
     fn add_products(&mut self, products: Products)
-        ensures made { made self.new ≡ made self.old + products }
-        ensures promised { SameNumbers (promised self.old) (promised self.new) }
-        ensures coset_promised { SameCosets (coset_promised self.old) (coset_promised self.new) }
-        ensures served { SameNumbers (served self.old) (served self.new) };
+        ensures engine { HasProductsMore facts self.old self.new products };
 
     /// The values on `shift * H` of the polynomials whose coefficients are the columns. The shift may
     /// be zero. At most one product an entry comes to those of `dft_batch`.
@@ -106,11 +81,8 @@ pub trait TwoAdicSubgroupDft<F: TwoAdicField>: Clone + Default {
         requires fits { FitsDft F.TWO_ADICITY (height (N.stored mat)) (N.stored mat).width }
         ensures values { IfOk result (λ out.
             IsTransform F.Field.own F.generator (N.stored mat) (F.value shift) (Self.Evaluations.natural out)) }
-        ensures succeeds { AtLog (height (N.stored mat)) (λ k. promised self.old k → coset_promised self.old k shift → IsOk result) }
-        ensures serves { AtLog (height (N.stored mat)) (λ k. OnOk result (served self.new k)) }
-        ensures later { IsLater promised coset_promised served made self.old self.new }
-        ensures cost { AtLog (height (N.stored mat))
-            (λ k. OnOk result (made self.new ≤ made self.old + bound k (N.stored mat).width + 2 ^ k * (N.stored mat).width)) }
+        ensures succeeds { AtLog (height (N.stored mat)) (λ k. facts.Succeeds self.old k → facts.SucceedsOnCoset self.old k shift → IsOk result) }
+        ensures engine { AfterTransform facts self.old self.new (IsOk result) (N.stored mat) 1 }
     {
         let mut products = Products::new();
         let mut mat = mat.into_row_major_matrix();
@@ -127,11 +99,8 @@ pub trait TwoAdicSubgroupDft<F: TwoAdicField>: Clone + Default {
     ) -> Result<RowMajorMatrix<F>, DftError>
         requires fits { FitsDft F.TWO_ADICITY (height (N.stored mat)) (N.stored mat).width }
         ensures coefficients { IfOk result (λ out. IsInterpolation F.Field.own F.generator (N.stored mat) F.ring.one out) }
-        ensures succeeds { AtLog (height (N.stored mat)) (λ k. promised self.old k → IsOk result) }
-        ensures serves { AtLog (height (N.stored mat)) (λ k. OnOk result (served self.new k)) }
-        ensures later { IsLater promised coset_promised served made self.old self.new }
-        ensures cost { AtLog (height (N.stored mat))
-            (λ k. OnOk result (made self.new ≤ made self.old + bound k (N.stored mat).width + 2 ^ k * (N.stored mat).width)) }
+        ensures succeeds { AtLog (height (N.stored mat)) (λ k. facts.Succeeds self.old k → IsOk result) }
+        ensures engine { AfterTransform facts self.old self.new (IsOk result) (N.stored mat) 1 }
     {
         let values = self.dft_batch(mat)?.to_row_major_matrix();
         let mut products = Products::new();
@@ -151,11 +120,8 @@ pub trait TwoAdicSubgroupDft<F: TwoAdicField>: Clone + Default {
         requires fits { FitsDft F.TWO_ADICITY (height (N.stored mat)) (N.stored mat).width }
         requires invertible { IsInvertible F.ring (F.value shift) }
         ensures coefficients { IfOk result (λ out. IsInterpolation F.Field.own F.generator (N.stored mat) (F.value shift) out) }
-        ensures succeeds { AtLog (height (N.stored mat)) (λ k. promised self.old k → IsOk result) }
-        ensures serves { AtLog (height (N.stored mat)) (λ k. OnOk result (served self.new k)) }
-        ensures later { IsLater promised coset_promised served made self.old self.new }
-        ensures cost { AtLog (height (N.stored mat))
-            (λ k. OnOk result (made self.new ≤ made self.old + bound k (N.stored mat).width + 2 * (2 ^ k * (N.stored mat).width))) }
+        ensures succeeds { AtLog (height (N.stored mat)) (λ k. facts.Succeeds self.old k → IsOk result) }
+        ensures engine { AfterTransform facts self.old self.new (IsOk result) (N.stored mat) 2 }
     {
         let mut coefficients = self.idft_batch(mat)?;
         let mut products = Products::new();
@@ -182,14 +148,11 @@ pub trait TwoAdicSubgroupDft<F: TwoAdicField>: Clone + Default {
         transform: T,
     ) -> Result<Self::Evaluations, DftError>
         requires fits { FitsLde F.TWO_ADICITY (height (N.stored mat)) (N.stored mat).width added_bits }
-        requires callable { (m : RowMajor F) → HasShapeOf m (N.stored mat) → T.pre transform m LAYOUT }
-        requires shape { (m n : RowMajor F) → HasShapeOf m (N.stored mat) → T.post transform m LAYOUT n → HasShapeOf n (N.stored mat) }
+        requires callable { (m : RowMajor F) → IsRowMajor m → HasShapeOf m (N.stored mat) → T.pre transform m LAYOUT }
+        requires shape { (m n : RowMajor F) → IsRowMajor m → HasShapeOf m (N.stored mat) → T.post transform m LAYOUT n → HasShapeOf n (N.stored mat) }
         ensures values { IfOk result (λ out. IsTransformedExtension F.Field.own F.generator (λ m n. T.post transform m LAYOUT n) LAYOUT
             (N.stored mat) added_bits (F.value shift) (Self.Evaluations.natural out)) }
-        ensures serves { AtLog (height (N.stored mat)) (λ k. OnOk result (served self.new k × served self.new (k + added_bits))) }
-        ensures later { IsLater promised coset_promised served made self.old self.new }
-        ensures cost { AtLog (height (N.stored mat))
-            (λ k. OnOk result (made self.new ≤ made self.old + extension bound k added_bits (N.stored mat).width)) };
+        ensures engine { AfterExtension facts self.old self.new (IsOk result) (N.stored mat) added_bits };
 
     /// What `coset_lde_batch_with_transform` answers, by an inverse transform, rows of zeros and a
     /// transform on the larger coset. An engine that has nothing better calls it there. The conditions
@@ -205,14 +168,11 @@ pub trait TwoAdicSubgroupDft<F: TwoAdicField>: Clone + Default {
         transform: T,
     ) -> Result<Self::Evaluations, DftError>
         requires fits { FitsLde F.TWO_ADICITY (height (N.stored mat)) (N.stored mat).width added_bits }
-        requires callable { (m : RowMajor F) → HasShapeOf m (N.stored mat) → T.pre transform m LAYOUT }
-        requires shape { (m n : RowMajor F) → HasShapeOf m (N.stored mat) → T.post transform m LAYOUT n → HasShapeOf n (N.stored mat) }
+        requires callable { (m : RowMajor F) → IsRowMajor m → HasShapeOf m (N.stored mat) → T.pre transform m LAYOUT }
+        requires shape { (m n : RowMajor F) → IsRowMajor m → HasShapeOf m (N.stored mat) → T.post transform m LAYOUT n → HasShapeOf n (N.stored mat) }
         ensures values { IfOk result (λ out. IsTransformedExtension F.Field.own F.generator (λ m n. T.post transform m LAYOUT n) LAYOUT
             (N.stored mat) added_bits (F.value shift) (Self.Evaluations.natural out)) }
-        ensures serves { AtLog (height (N.stored mat)) (λ k. OnOk result (served self.new k × served self.new (k + added_bits))) }
-        ensures later { IsLater promised coset_promised served made self.old self.new }
-        ensures cost { AtLog (height (N.stored mat))
-            (λ k. OnOk result (made self.new ≤ made self.old + extension_bound bound k added_bits (N.stored mat).width)) }
+        ensures engine { AfterExtensionByParts facts self.old self.new (IsOk result) (N.stored mat) added_bits }
     {
         let mut coefficients = self.idft_batch(mat)?;
         exchange_layouts(&mut coefficients, Self::LAYOUT);
@@ -235,14 +195,11 @@ pub trait TwoAdicSubgroupDft<F: TwoAdicField>: Clone + Default {
         transform: T,
     ) -> Result<BitReversedMatrixView<RowMajorMatrix<F>>, DftError>
         requires fits { FitsLde F.TWO_ADICITY (height (N.stored mat)) (N.stored mat).width added_bits }
-        requires callable { (m : RowMajor F) → HasShapeOf m (N.stored mat) → T.pre transform m LAYOUT }
-        requires shape { (m n : RowMajor F) → HasShapeOf m (N.stored mat) → T.post transform m LAYOUT n → HasShapeOf n (N.stored mat) }
+        requires callable { (m : RowMajor F) → IsRowMajor m → HasShapeOf m (N.stored mat) → T.pre transform m LAYOUT }
+        requires shape { (m n : RowMajor F) → IsRowMajor m → HasShapeOf m (N.stored mat) → T.post transform m LAYOUT n → HasShapeOf n (N.stored mat) }
         ensures values { IfOk result (λ out. IsTransformedExtension F.Field.own F.generator (λ m n. T.post transform m LAYOUT n) LAYOUT
             (N.stored mat) added_bits (F.value shift) (reversed_rows out.bits out.physical)) }
-        ensures serves { AtLog (height (N.stored mat)) (λ k. OnOk result (served self.new k × served self.new (k + added_bits))) }
-        ensures later { IsLater promised coset_promised served made self.old self.new }
-        ensures cost { AtLog (height (N.stored mat))
-            (λ k. OnOk result (made self.new ≤ made self.old + extension bound k added_bits (N.stored mat).width)) }
+        ensures engine { AfterExtension facts self.old self.new (IsOk result) (N.stored mat) added_bits }
     {
         let values = self.coset_lde_batch_with_transform(mat, added_bits, shift, transform)?;
         Ok(values.into_bit_reversed())
@@ -260,10 +217,7 @@ pub trait TwoAdicSubgroupDft<F: TwoAdicField>: Clone + Default {
         requires fits { FitsLde F.TWO_ADICITY (height (N.stored mat)) (N.stored mat).width added_bits }
         ensures values { IfOk result (λ out.
             IsExtension F.Field.own F.generator (N.stored mat) added_bits (F.value shift) (Self.Evaluations.natural out)) }
-        ensures serves { AtLog (height (N.stored mat)) (λ k. OnOk result (served self.new k × served self.new (k + added_bits))) }
-        ensures later { IsLater promised coset_promised served made self.old self.new }
-        ensures cost { AtLog (height (N.stored mat))
-            (λ k. OnOk result (made self.new ≤ made self.old + extension bound k added_bits (N.stored mat).width)) }
+        ensures engine { AfterExtension facts self.old self.new (IsOk result) (N.stored mat) added_bits }
     {
         self.coset_lde_batch_with_transform(
             mat,
@@ -285,10 +239,7 @@ pub trait TwoAdicSubgroupDft<F: TwoAdicField>: Clone + Default {
         requires fits { FitsLde F.TWO_ADICITY (height (N.stored mat)) (N.stored mat).width added_bits }
         ensures values { IfOk result (λ out.
             IsExtension F.Field.own F.generator (N.stored mat) added_bits F.ring.one (Self.Evaluations.natural out)) }
-        ensures serves { AtLog (height (N.stored mat)) (λ k. OnOk result (served self.new k × served self.new (k + added_bits))) }
-        ensures later { IsLater promised coset_promised served made self.old self.new }
-        ensures cost { AtLog (height (N.stored mat))
-            (λ k. OnOk result (made self.new ≤ made self.old + extension bound k added_bits (N.stored mat).width)) }
+        ensures engine { AfterExtension facts self.old self.new (IsOk result) (N.stored mat) added_bits }
     {
         self.coset_lde_batch(mat, added_bits, F::ONE)
     }
@@ -299,7 +250,7 @@ pub trait TwoAdicSubgroupDft<F: TwoAdicField>: Clone + Default {
     fn block_height(&self, log_h: usize, added_bits: usize) -> usize
         requires within { log_h + added_bits ≤ F.TWO_ADICITY }
         requires small { log_h + added_bits ≤ 63 }
-        ensures { result ≡ block_rows log_h added_bits };
+        ensures { result ≡ facts.block_rows log_h added_bits };
 
     /// What `coset_lde_batch_with_transform` answers, with its rows in bit reversed order, and each
     /// block of its physical rows is lent to a consumer once, in its final value. The conditions are
@@ -324,24 +275,20 @@ pub trait TwoAdicSubgroupDft<F: TwoAdicField>: Clone + Default {
         make_consumer: M,
     ) -> Result<(BitReversedMatrixView<RowMajorMatrix<F>>, C), BlocksStopped<M, C, C::Refusal>>
         requires fits { FitsLde F.TWO_ADICITY (height (N.stored mat)) (N.stored mat).width added_bits }
-        requires callable { (m : RowMajor F) → HasShapeOf m (N.stored mat) → T.pre transform m LAYOUT }
-        requires shape { (m n : RowMajor F) → HasShapeOf m (N.stored mat) → T.post transform m LAYOUT n → HasShapeOf n (N.stored mat) }
-        requires makes { AtLog (height (N.stored mat)) (λ k. M.pre make_consumer (block_rows k added_bits)) }
+        requires callable { (m : RowMajor F) → IsRowMajor m → HasShapeOf m (N.stored mat) → T.pre transform m LAYOUT }
+        requires shape { (m n : RowMajor F) → IsRowMajor m → HasShapeOf m (N.stored mat) → T.post transform m LAYOUT n → HasShapeOf n (N.stored mat) }
+        requires makes { AtLog (height (N.stored mat)) (λ k. M.pre make_consumer (facts.block_rows k added_bits)) }
         ensures values { IfOk result (λ p. IsTransformedExtension F.Field.own F.generator (λ m n. T.post transform m LAYOUT n) LAYOUT
             (N.stored mat) added_bits (F.value shift) (reversed_rows p.0.bits p.0.physical)) }
         ensures published { IfOk result (λ p. AtLog (height (N.stored mat)) (λ k.
-            IsPublished C.step (λ c. M.post make_consumer (block_rows k added_bits) c) (block_rows k added_bits) p.0.physical p.1)) }
+            IsPublished C.step (λ c. M.post make_consumer (facts.block_rows k added_bits) c) (facts.block_rows k added_bits) p.0.physical p.1)) }
         ensures refused { IfErr result (λ e. OnRefused e (λ c r. AtLog (height (N.stored mat)) (λ k. (out : Matrix F.Element)
             × AreTransformedValues F.Field.own F.generator (λ m n. T.post transform m LAYOUT n) LAYOUT
             (N.stored mat) added_bits (F.value shift) out
-            × IsRefused C.step (λ c. M.post make_consumer (block_rows k added_bits) c) (values_of F.Field.own)
-            (block_rows k added_bits) (bit_reversal (k + added_bits) out) c r))) }
+            × IsRefused C.step (λ c. M.post make_consumer (facts.block_rows k added_bits) c) (values_of F.Field.own)
+            (facts.block_rows k added_bits) (bit_reversal (k + added_bits) out) c r))) }
         ensures unpublished { IfErr result (λ e. OnOutOfMemory e (λ m. m ≡ make_consumer)) }
-        ensures serves { AtLog (height (N.stored mat))
-            (λ k. UnlessOutOfMemory result (served self.new k × served self.new (k + added_bits))) }
-        ensures later { IsLater promised coset_promised served made self.old self.new }
-        ensures cost { AtLog (height (N.stored mat))
-            (λ k. UnlessOutOfMemory result (made self.new ≤ made self.old + extension bound k added_bits (N.stored mat).width)) }
+        ensures engine { AfterExtension facts self.old self.new (IsNotOutOfMemory result) (N.stored mat) added_bits }
     {
         let mat = mat.into_row_major_matrix();
         let block_height = self.block_height(log2_strict_usize(mat.height()), added_bits);
@@ -357,22 +304,15 @@ pub trait TwoAdicSubgroupDft<F: TwoAdicField>: Clone + Default {
         }
     }
 
-    // A block has a power of two of rows, which divides the height of the extension.
-    ghost block_rows_law: { (k a : ℕ) → (l : ℕ) × (l ≤ k + a) × (block_rows k a ≡ 2 ^ l) };
-
-    // What an engine is made as has made no products.
-    ghost default_law: { (e : Self) → Self.is_default e → made e ≡ 0 };
-
-    ghost clone_law: { (e copy : Self) → Self.is_clone e copy → made copy ≡ 0 };
+    // A block has a power of two of rows, and an engine that was made or cloned has made no products.
+    ghost laws: { EngineLaws facts Self.is_default Self.is_clone };
 
     /// The values on H of the polynomial with these coefficients.
     final fn dft(&mut self, vec: Vec<F>) -> Result<Vec<F>, DftError>
         requires fits { FitsDft F.TWO_ADICITY (vec_len vec) 1 }
         ensures values { IfOk result (λ out. IsTransform F.Field.own F.generator (one_column vec.items) F.ring.one (one_column out.items)) }
-        ensures succeeds { AtLog (vec_len vec) (λ k. promised self.old k → IsOk result) }
-        ensures serves { AtLog (vec_len vec) (λ k. OnOk result (served self.new k)) }
-        ensures later { IsLater promised coset_promised served made self.old self.new }
-        ensures cost { AtLog (vec_len vec) (λ k. OnOk result (made self.new ≤ made self.old + bound k 1)) }
+        ensures succeeds { AtLog (vec_len vec) (λ k. facts.Succeeds self.old k → IsOk result) }
+        ensures engine { AfterTransform facts self.old self.new (IsOk result) (one_column vec.items) 0 }
     {
         let values = self.dft_batch(RowMajorMatrix::new_col(vec))?;
         Ok(values.to_row_major_matrix().into_values())
@@ -383,10 +323,8 @@ pub trait TwoAdicSubgroupDft<F: TwoAdicField>: Clone + Default {
         requires fits { FitsDft F.TWO_ADICITY (vec_len vec) 1 }
         ensures values { IfOk result (λ out.
             IsTransform F.Field.own F.generator (one_column vec.items) (F.value shift) (one_column out.items)) }
-        ensures succeeds { AtLog (vec_len vec) (λ k. promised self.old k → coset_promised self.old k shift → IsOk result) }
-        ensures serves { AtLog (vec_len vec) (λ k. OnOk result (served self.new k)) }
-        ensures later { IsLater promised coset_promised served made self.old self.new }
-        ensures cost { AtLog (vec_len vec) (λ k. OnOk result (made self.new ≤ made self.old + bound k 1 + 2 ^ k)) }
+        ensures succeeds { AtLog (vec_len vec) (λ k. facts.Succeeds self.old k → facts.SucceedsOnCoset self.old k shift → IsOk result) }
+        ensures engine { AfterTransform facts self.old self.new (IsOk result) (one_column vec.items) 1 }
     {
         let values = self.coset_dft_batch(RowMajorMatrix::new_col(vec), shift)?;
         Ok(values.to_row_major_matrix().into_values())
@@ -397,10 +335,8 @@ pub trait TwoAdicSubgroupDft<F: TwoAdicField>: Clone + Default {
         requires fits { FitsDft F.TWO_ADICITY (vec_len vec) 1 }
         ensures coefficients { IfOk result (λ out.
             IsInterpolation F.Field.own F.generator (one_column vec.items) F.ring.one (one_column out.items)) }
-        ensures succeeds { AtLog (vec_len vec) (λ k. promised self.old k → IsOk result) }
-        ensures serves { AtLog (vec_len vec) (λ k. OnOk result (served self.new k)) }
-        ensures later { IsLater promised coset_promised served made self.old self.new }
-        ensures cost { AtLog (vec_len vec) (λ k. OnOk result (made self.new ≤ made self.old + bound k 1 + 2 ^ k)) }
+        ensures succeeds { AtLog (vec_len vec) (λ k. facts.Succeeds self.old k → IsOk result) }
+        ensures engine { AfterTransform facts self.old self.new (IsOk result) (one_column vec.items) 1 }
     {
         Ok(self.idft_batch(RowMajorMatrix::new_col(vec))?.into_values())
     }
@@ -412,10 +348,8 @@ pub trait TwoAdicSubgroupDft<F: TwoAdicField>: Clone + Default {
         requires invertible { IsInvertible F.ring (F.value shift) }
         ensures coefficients { IfOk result (λ out.
             IsInterpolation F.Field.own F.generator (one_column vec.items) (F.value shift) (one_column out.items)) }
-        ensures succeeds { AtLog (vec_len vec) (λ k. promised self.old k → IsOk result) }
-        ensures serves { AtLog (vec_len vec) (λ k. OnOk result (served self.new k)) }
-        ensures later { IsLater promised coset_promised served made self.old self.new }
-        ensures cost { AtLog (vec_len vec) (λ k. OnOk result (made self.new ≤ made self.old + bound k 1 + 2 * 2 ^ k)) }
+        ensures succeeds { AtLog (vec_len vec) (λ k. facts.Succeeds self.old k → IsOk result) }
+        ensures engine { AfterTransform facts self.old self.new (IsOk result) (one_column vec.items) 2 }
     {
         Ok(
             self.coset_idft_batch(RowMajorMatrix::new_col(vec), shift)?
@@ -429,9 +363,7 @@ pub trait TwoAdicSubgroupDft<F: TwoAdicField>: Clone + Default {
         requires fits { FitsLde F.TWO_ADICITY (vec_len vec) 1 added_bits }
         ensures values { IfOk result (λ out.
             IsExtension F.Field.own F.generator (one_column vec.items) added_bits F.ring.one (one_column out.items)) }
-        ensures serves { AtLog (vec_len vec) (λ k. OnOk result (served self.new k × served self.new (k + added_bits))) }
-        ensures later { IsLater promised coset_promised served made self.old self.new }
-        ensures cost { AtLog (vec_len vec) (λ k. OnOk result (made self.new ≤ made self.old + extension bound k added_bits 1)) }
+        ensures engine { AfterExtension facts self.old self.new (IsOk result) (one_column vec.items) added_bits }
     {
         let values = self.lde_batch(RowMajorMatrix::new_col(vec), added_bits)?;
         Ok(values.to_row_major_matrix().into_values())
@@ -448,9 +380,7 @@ pub trait TwoAdicSubgroupDft<F: TwoAdicField>: Clone + Default {
         requires fits { FitsLde F.TWO_ADICITY (vec_len vec) 1 added_bits }
         ensures values { IfOk result (λ out.
             IsExtension F.Field.own F.generator (one_column vec.items) added_bits (F.value shift) (one_column out.items)) }
-        ensures serves { AtLog (vec_len vec) (λ k. OnOk result (served self.new k × served self.new (k + added_bits))) }
-        ensures later { IsLater promised coset_promised served made self.old self.new }
-        ensures cost { AtLog (vec_len vec) (λ k. OnOk result (made self.new ≤ made self.old + extension bound k added_bits 1)) }
+        ensures engine { AfterExtension facts self.old self.new (IsOk result) (one_column vec.items) added_bits }
     {
         let values = self.coset_lde_batch(RowMajorMatrix::new_col(vec), added_bits, shift)?;
         Ok(values.to_row_major_matrix().into_values())
@@ -468,10 +398,7 @@ pub trait TwoAdicSubgroupDft<F: TwoAdicField>: Clone + Default {
         requires fits { FitsDft F.TWO_ADICITY (height mat) (mat.width * V.DIMENSION) }
         ensures values { IfOk result (λ out.
             IsTransform F.Field.own F.generator (flat V.BasedVectorSpace.own mat) F.ring.one (flat V.BasedVectorSpace.own out)) }
-        ensures serves { AtLog (height mat) (λ k. OnOk result (served self.new k)) }
-        ensures later { IsLater promised coset_promised served made self.old self.new }
-        ensures cost { AtLog (height mat)
-            (λ k. OnOk result (made self.new ≤ made self.old + bound k (mat.width * V.DIMENSION))) }
+        ensures engine { AfterTransform facts self.old self.new (IsOk result) (flat V.BasedVectorSpace.own mat) 0 }
     {
         let width = mat.width();
         let values = self.dft_batch(flatten(mat)?)?;
@@ -487,10 +414,7 @@ pub trait TwoAdicSubgroupDft<F: TwoAdicField>: Clone + Default {
         requires fits { FitsDft F.TWO_ADICITY (height mat) (mat.width * V.DIMENSION) }
         ensures values { IfOk result (λ out.
             IsTransform F.Field.own F.generator (flat V.BasedVectorSpace.own mat) (F.value shift) (flat V.BasedVectorSpace.own out)) }
-        ensures serves { AtLog (height mat) (λ k. OnOk result (served self.new k)) }
-        ensures later { IsLater promised coset_promised served made self.old self.new }
-        ensures cost { AtLog (height mat)
-            (λ k. OnOk result (made self.new ≤ made self.old + bound k (mat.width * V.DIMENSION) + 2 ^ k * (mat.width * V.DIMENSION))) }
+        ensures engine { AfterTransform facts self.old self.new (IsOk result) (flat V.BasedVectorSpace.own mat) 1 }
     {
         let width = mat.width();
         let values = self.coset_dft_batch(flatten(mat)?, shift)?;
@@ -505,10 +429,7 @@ pub trait TwoAdicSubgroupDft<F: TwoAdicField>: Clone + Default {
         requires fits { FitsDft F.TWO_ADICITY (height mat) (mat.width * V.DIMENSION) }
         ensures coefficients { IfOk result (λ out.
             IsInterpolation F.Field.own F.generator (flat V.BasedVectorSpace.own mat) F.ring.one (flat V.BasedVectorSpace.own out)) }
-        ensures serves { AtLog (height mat) (λ k. OnOk result (served self.new k)) }
-        ensures later { IsLater promised coset_promised served made self.old self.new }
-        ensures cost { AtLog (height mat)
-            (λ k. OnOk result (made self.new ≤ made self.old + bound k (mat.width * V.DIMENSION) + 2 ^ k * (mat.width * V.DIMENSION))) }
+        ensures engine { AfterTransform facts self.old self.new (IsOk result) (flat V.BasedVectorSpace.own mat) 1 }
     {
         let width = mat.width();
         let coefficients = self.idft_batch(flatten(mat)?)?;
@@ -526,11 +447,7 @@ pub trait TwoAdicSubgroupDft<F: TwoAdicField>: Clone + Default {
         ensures coefficients { IfOk result (λ out.
             IsInterpolation F.Field.own F.generator
             (flat V.BasedVectorSpace.own mat) (F.value shift) (flat V.BasedVectorSpace.own out)) }
-        ensures serves { AtLog (height mat) (λ k. OnOk result (served self.new k)) }
-        ensures later { IsLater promised coset_promised served made self.old self.new }
-        ensures cost { AtLog (height mat)
-            (λ k. OnOk result (made self.new ≤ made self.old
-            + bound k (mat.width * V.DIMENSION) + 2 * (2 ^ k * (mat.width * V.DIMENSION)))) }
+        ensures engine { AfterTransform facts self.old self.new (IsOk result) (flat V.BasedVectorSpace.own mat) 2 }
     {
         let width = mat.width();
         let coefficients = self.coset_idft_batch(flatten(mat)?, shift)?;
@@ -547,10 +464,7 @@ pub trait TwoAdicSubgroupDft<F: TwoAdicField>: Clone + Default {
         ensures values { IfOk result (λ out.
             IsExtension F.Field.own F.generator
             (flat V.BasedVectorSpace.own mat) added_bits F.ring.one (flat V.BasedVectorSpace.own out)) }
-        ensures serves { AtLog (height mat) (λ k. OnOk result (served self.new k × served self.new (k + added_bits))) }
-        ensures later { IsLater promised coset_promised served made self.old self.new }
-        ensures cost { AtLog (height mat)
-            (λ k. OnOk result (made self.new ≤ made self.old + extension bound k added_bits (mat.width * V.DIMENSION))) }
+        ensures engine { AfterExtension facts self.old self.new (IsOk result) (flat V.BasedVectorSpace.own mat) added_bits }
     {
         let width = mat.width();
         let values = self.lde_batch(flatten(mat)?, added_bits)?;
@@ -568,10 +482,7 @@ pub trait TwoAdicSubgroupDft<F: TwoAdicField>: Clone + Default {
         ensures values { IfOk result (λ out.
             IsExtension F.Field.own F.generator
             (flat V.BasedVectorSpace.own mat) added_bits (F.value shift) (flat V.BasedVectorSpace.own out)) }
-        ensures serves { AtLog (height mat) (λ k. OnOk result (served self.new k × served self.new (k + added_bits))) }
-        ensures later { IsLater promised coset_promised served made self.old self.new }
-        ensures cost { AtLog (height mat)
-            (λ k. OnOk result (made self.new ≤ made self.old + extension bound k added_bits (mat.width * V.DIMENSION))) }
+        ensures engine { AfterExtension facts self.old self.new (IsOk result) (flat V.BasedVectorSpace.own mat) added_bits }
     {
         let width = mat.width();
         let values = self.coset_lde_batch(flatten(mat)?, added_bits, shift)?;
@@ -584,10 +495,7 @@ pub trait TwoAdicSubgroupDft<F: TwoAdicField>: Clone + Default {
         ensures values { IfOk result (λ out.
             IsTransform F.Field.own F.generator
             (flat_column V.BasedVectorSpace.own vec.items) F.ring.one (flat_column V.BasedVectorSpace.own out.items)) }
-        ensures serves { AtLog (vec_len vec) (λ k. OnOk result (served self.new k)) }
-        ensures later { IsLater promised coset_promised served made self.old self.new }
-        ensures cost { AtLog (vec_len vec)
-            (λ k. OnOk result (made self.new ≤ made self.old + bound k V.DIMENSION)) }
+        ensures engine { AfterTransform facts self.old self.new (IsOk result) (flat_column V.BasedVectorSpace.own vec.items) 0 }
     {
         Ok(
             self.dft_algebra_batch(RowMajorMatrix::new_col(vec))?
@@ -605,10 +513,7 @@ pub trait TwoAdicSubgroupDft<F: TwoAdicField>: Clone + Default {
         ensures values { IfOk result (λ out.
             IsTransform F.Field.own F.generator
             (flat_column V.BasedVectorSpace.own vec.items) (F.value shift) (flat_column V.BasedVectorSpace.own out.items)) }
-        ensures serves { AtLog (vec_len vec) (λ k. OnOk result (served self.new k)) }
-        ensures later { IsLater promised coset_promised served made self.old self.new }
-        ensures cost { AtLog (vec_len vec)
-            (λ k. OnOk result (made self.new ≤ made self.old + bound k V.DIMENSION + 2 ^ k * V.DIMENSION)) }
+        ensures engine { AfterTransform facts self.old self.new (IsOk result) (flat_column V.BasedVectorSpace.own vec.items) 1 }
     {
         Ok(
             self.coset_dft_algebra_batch(RowMajorMatrix::new_col(vec), shift)?
@@ -625,10 +530,7 @@ pub trait TwoAdicSubgroupDft<F: TwoAdicField>: Clone + Default {
         ensures coefficients { IfOk result (λ out.
             IsInterpolation F.Field.own F.generator
             (flat_column V.BasedVectorSpace.own vec.items) F.ring.one (flat_column V.BasedVectorSpace.own out.items)) }
-        ensures serves { AtLog (vec_len vec) (λ k. OnOk result (served self.new k)) }
-        ensures later { IsLater promised coset_promised served made self.old self.new }
-        ensures cost { AtLog (vec_len vec)
-            (λ k. OnOk result (made self.new ≤ made self.old + bound k V.DIMENSION + 2 ^ k * V.DIMENSION)) }
+        ensures engine { AfterTransform facts self.old self.new (IsOk result) (flat_column V.BasedVectorSpace.own vec.items) 1 }
     {
         Ok(
             self.idft_algebra_batch(RowMajorMatrix::new_col(vec))?
@@ -647,10 +549,7 @@ pub trait TwoAdicSubgroupDft<F: TwoAdicField>: Clone + Default {
         ensures coefficients { IfOk result (λ out.
             IsInterpolation F.Field.own F.generator
             (flat_column V.BasedVectorSpace.own vec.items) (F.value shift) (flat_column V.BasedVectorSpace.own out.items)) }
-        ensures serves { AtLog (vec_len vec) (λ k. OnOk result (served self.new k)) }
-        ensures later { IsLater promised coset_promised served made self.old self.new }
-        ensures cost { AtLog (vec_len vec)
-            (λ k. OnOk result (made self.new ≤ made self.old + bound k V.DIMENSION + 2 * (2 ^ k * V.DIMENSION))) }
+        ensures engine { AfterTransform facts self.old self.new (IsOk result) (flat_column V.BasedVectorSpace.own vec.items) 2 }
     {
         Ok(
             self.coset_idft_algebra_batch(RowMajorMatrix::new_col(vec), shift)?
@@ -668,10 +567,7 @@ pub trait TwoAdicSubgroupDft<F: TwoAdicField>: Clone + Default {
         ensures values { IfOk result (λ out.
             IsExtension F.Field.own F.generator
             (flat_column V.BasedVectorSpace.own vec.items) added_bits F.ring.one (flat_column V.BasedVectorSpace.own out.items)) }
-        ensures serves { AtLog (vec_len vec) (λ k. OnOk result (served self.new k × served self.new (k + added_bits))) }
-        ensures later { IsLater promised coset_promised served made self.old self.new }
-        ensures cost { AtLog (vec_len vec)
-            (λ k. OnOk result (made self.new ≤ made self.old + extension bound k added_bits V.DIMENSION)) }
+        ensures engine { AfterExtension facts self.old self.new (IsOk result) (flat_column V.BasedVectorSpace.own vec.items) added_bits }
     {
         Ok(
             self.lde_algebra_batch(RowMajorMatrix::new_col(vec), added_bits)?
@@ -690,10 +586,7 @@ pub trait TwoAdicSubgroupDft<F: TwoAdicField>: Clone + Default {
         ensures values { IfOk result (λ out.
             IsExtension F.Field.own F.generator
             (flat_column V.BasedVectorSpace.own vec.items) added_bits (F.value shift) (flat_column V.BasedVectorSpace.own out.items)) }
-        ensures serves { AtLog (vec_len vec) (λ k. OnOk result (served self.new k × served self.new (k + added_bits))) }
-        ensures later { IsLater promised coset_promised served made self.old self.new }
-        ensures cost { AtLog (vec_len vec)
-            (λ k. OnOk result (made self.new ≤ made self.old + extension bound k added_bits V.DIMENSION)) }
+        ensures engine { AfterExtension facts self.old self.new (IsOk result) (flat_column V.BasedVectorSpace.own vec.items) added_bits }
     {
         Ok(
             self.coset_lde_algebra_batch(RowMajorMatrix::new_col(vec), added_bits, shift)?
@@ -706,10 +599,16 @@ pub trait TwoAdicSubgroupDft<F: TwoAdicField>: Clone + Default {
 fn exchange_layouts<T>(mat: &mut RowMajorMatrix<T>, layout: Layout)
     requires power { (k : ℕ) × (height mat.old ≡ 2 ^ k) }
     ensures shape { HasShapeOf mat.new mat.old }
+    ensures was_whole { IsRowMajor mat.old }
+    ensures whole { IsRowMajor mat.new }
     ensures rows { (k : ℕ) → height mat.old ≡ 2 ^ k → (d : T) → Same (matrix d mat.new) (arrangement layout k (matrix d mat.old)) }
 {
+    let _width = mat.width();
     match layout {
         Layout::Natural => {}
-        Layout::BitReversed => reverse_rows(mat),
+        Layout::BitReversed => {
+            reverse_rows(mat);
+            let _same_width = mat.width();
+        }
     }
 }

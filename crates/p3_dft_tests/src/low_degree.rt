@@ -30,7 +30,7 @@ pub fn has_low_degree<F: TwoAdicField, D: TwoAdicSubgroupDft<F>>(
     ensures exact { AtLog (height values.now) (λ n. IfOk result.0 (λ told. IsTrue told
         ↔ ((c : Matrix F.Element) × (c.height ≡ 2 ^ log_degree)
         × IsValues F.ring (λ k. F.value (F.generator k)) c n (F.value shift) (values_of F.Field.own values.now)))) }
-    ensures later { IsLater D.promised D.coset_promised D.served D.made engine result.1 }
+    ensures later { IsLater D.facts engine result.1 }
 {
     let log_points = log2_strict_usize(values.height());
     let mut code = ReedSolomon::new(engine, log_degree, log_points - log_degree, shift);

@@ -23,7 +23,7 @@ fn values<F: TwoAdicField, D: TwoAdicSubgroupDft<F>>(
     ensures long { IfOk result (λ out. length out.items ≡ size) }
     ensures values { IfOk result (λ out. AtLog size (λ k. (i : ℕ) → i < size → F.value (get_or out.items i F.ZERO)
         ≡ value F.ring (map F.value coefficients.items) (point F.ring (λ n. F.value (F.generator n)) k F.ring.one i))) }
-    ensures later { IsLater D.promised D.coset_promised D.served D.made engine.old engine.new }
+    ensures later { IsLater D.facts engine.old engine.new }
 {
     let missing = size - coefficients.len();
     extend_by_zeros(&mut coefficients, missing)?;
@@ -58,7 +58,7 @@ pub fn product<F: TwoAdicField, D: TwoAdicSubgroupDft<F>>(
     ensures long { IfOk result (λ out. length out.items ≡ size) }
     ensures coefficients { IfOk result (λ out. (n : ℕ) → F.value (get_or out.items n F.ZERO)
         ≡ convolution F.ring (map F.value a.items) (map F.value b.items) n) }
-    ensures later { IsLater D.promised D.coset_promised D.served D.made engine.old engine.new }
+    ensures later { IsLater D.facts engine.old engine.new }
 {
     let entries = values(engine, a, size)?;
     let others = values(engine, b, size)?;

@@ -32,7 +32,7 @@ pub fn recorded_extension<F: TwoAdicField, D: TwoAdicSubgroupDft<F>>(
     ensures extension { IfOk result (λ p.
         IsExtension F.Field.own F.generator mat added_bits (F.value shift) (reversed_rows p.0.bits p.0.physical)) }
     ensures recorded { IfOk result (λ p. AtLog (height mat) (λ k.
-        IsPartition (D.block_rows k added_bits) p.0.physical p.1.blocks × (p.1.missed ≡ false))) }
+        IsPartition (D.facts.block_rows k added_bits) p.0.physical p.1.blocks × (p.1.missed ≡ false))) }
 {
     // There are no more blocks than rows.
     let rows = mat.height() << added_bits;
@@ -77,15 +77,15 @@ pub fn limited_extension<F: TwoAdicField, D: TwoAdicSubgroupDft<F>>(
     requires { FitsLde F.TWO_ADICITY (height mat) mat.width added_bits }
     ensures extension { IfOk result (λ p.
         IsExtension F.Field.own F.generator mat added_bits (F.value shift) (reversed_rows p.0.bits p.0.physical)) }
-    ensures counted { IfOk result (λ p. AtLog (height mat) (λ k. p.1 ≡ height p.0.physical / D.block_rows k added_bits)) }
+    ensures counted { IfOk result (λ p. AtLog (height mat) (λ k. p.1 ≡ height p.0.physical / D.facts.block_rows k added_bits)) }
     ensures within { IfOk result (λ p. p.1 ≤ limit) }
     ensures refused { IfErr result (λ e. IfSome e (λ refusal. AtLog (height mat) (λ k.
-        (refusal.start % D.block_rows k added_bits ≡ 0) × (refusal.start < 2 ^ (k + added_bits))
-        × (limit < 2 ^ (k + added_bits) / D.block_rows k added_bits)))) }
+        (refusal.start % D.facts.block_rows k added_bits ≡ 0) × (refusal.start < 2 ^ (k + added_bits))
+        × (limit < 2 ^ (k + added_bits) / D.facts.block_rows k added_bits)))) }
     ensures one_too_many { IfErr result (λ e. IfSome e (λ refusal. AtLog (height mat) (λ k. (out : Matrix F.Element)
         × AreTransformedValues F.Field.own F.generator (λ told answered. answered ≡ told) D.LAYOUT mat added_bits (F.value shift) out
         × (taken : List (ℕ × RowMajor F)) × (refused : ℕ × RowMajor F)
-        × AreBlocksOf (values_of F.Field.own) (D.block_rows k added_bits) (bit_reversal (k + added_bits) out) (taken ++ refused ∷ [])
+        × AreBlocksOf (values_of F.Field.own) (D.facts.block_rows k added_bits) (bit_reversal (k + added_bits) out) (taken ++ refused ∷ [])
         × (length taken ≡ limit) × (refusal.start ≡ refused.0)))) }
 {
     let answer = engine.coset_lde_batch_with_blocks(

@@ -1,6 +1,6 @@
 -- Coefficients whose rows lie in bit reversed order: that a transform at the inverse roots gives them, and values and extensions from
 -- them, with no row put into natural order.
-use Rattle.std.proofs.Common.{◌≡◌, ℕ, ◌+◌, ◌*◌, ◌<◌, ◌≤◌, ◌^◌, ◌++◌, List, length, get_or, take, Result, Ok, Err, OnOk, refl, sym, ap, ap₂, ◌∙◌, subst, arith}
+use Rattle.std.proofs.Common.{◌≡◌, ℕ, ◌+◌, ◌*◌, ◌<◌, ◌≤◌, ◌^◌, ◌++◌, List, length, get_or, take, refl, sym, ap, ap₂, ◌∙◌, subst, arith}
 use Rattle.p3_field.specs.Ring.{Ring, AreRoots, count, power}
 use Rattle.p3_field.specs.declared.fields.Field.{Ghosts as FieldMembers}
 use Rattle.p3_field.proofs.Rings
@@ -200,13 +200,15 @@ module _ {F : Type 0} (f : FieldMembers F) (generator : ℕ → F) where
 
   -- and so is what a transform answers of it
   pub extension_of_told_row : (may_answer : RowMajor F → RowMajor F → Type 0) (m answered : RowMajor F) (a : ℕ) (s : f.Element) → height m ≡ 1 → a ≡ 0
-      → may_answer m answered → height answered ≡ height m → IsTransformedExtension f generator may_answer BitReversed m a s answered
-  extension_of_told_row may_answer m answered a s one none called tall = record {
+      → IsRowMajor m → IsRowMajor answered → may_answer m answered → height answered ≡ height m → IsTransformedExtension f generator may_answer BitReversed m a s answered
+  extension_of_told_row may_answer m answered a s one none told_is answered_is called tall = record {
     coefficients = values_of f m;
     are_coefficients = λ k e. record { high = refl; wide = refl; values = transform_of_row f generator m one k e };
     told = m;
+    told_whole = told_is;
     told_in_layout = λ k e. reversed_row k (values_of f m) one;
     answered = answered;
+    answered_whole = answered_is;
     called = called;
     changed = values_of f answered;
     answered_in_layout = λ k e. reversed_row k (values_of f answered) (tall ∙ one);
@@ -216,15 +218,17 @@ module _ {F : Type 0} (f : FieldMembers F) (generator : ℕ → F) where
   -- values of what a transform, told the coefficients in bit reversed order, answered in that order
   pub values_of_answered : (may_answer : RowMajor F → RowMajor F → Type 0) (m told answered : RowMajor F) (a log : ℕ) (s : f.Element) (out : Matrix f.Element) → height m ≡ 2 ^ log
       → AreCoefficients f.ring (λ n. f.value (generator n)) (values_of f m) log f.ring.one (bit_reversal log (values_of f told))
-      → may_answer told answered → height answered ≡ height m
+      → IsRowMajor told → IsRowMajor answered → may_answer told answered → height answered ≡ height m
       → IsValues f.ring (λ n. f.value (generator n)) (bit_reversal log (values_of f answered)) (log + a) s out
       → AreTransformedValues f generator may_answer BitReversed m a s out
-  values_of_answered may_answer m told answered a log s out high are called tall values = record {
+  values_of_answered may_answer m told answered a log s out high are told_is answered_is called tall values = record {
     coefficients = bit_reversal log (values_of f told);
     are_coefficients = λ k e. subst (λ (n : ℕ). AreCoefficients f.ring (λ i. f.value (generator i)) (values_of f m) n f.ring.one (bit_reversal log (values_of f told))) (one_log k e) are;
     told = told;
+    told_whole = told_is;
     told_in_layout = λ k e. back told (are.high ∙ high) k e;
     answered = answered;
+    answered_whole = answered_is;
     called = called;
     changed = bit_reversal log (values_of f answered);
     answered_in_layout = λ k e. back answered (tall ∙ high) k e;
@@ -242,13 +246,15 @@ module _ {F : Type 0} (f : FieldMembers F) (generator : ℕ → F) where
   -- the same of a stored matrix
   pub extension_of_answered : (may_answer : RowMajor F → RowMajor F → Type 0) (m told answered out : RowMajor F) (a log : ℕ) (s : f.Element) → height m ≡ 2 ^ log
       → AreCoefficients f.ring (λ n. f.value (generator n)) (values_of f m) log f.ring.one (bit_reversal log (values_of f told))
-      → may_answer told answered → height answered ≡ height m
+      → IsRowMajor told → IsRowMajor answered → may_answer told answered → height answered ≡ height m
       → IsValues f.ring (λ n. f.value (generator n)) (bit_reversal log (values_of f answered)) (log + a) s (values_of f out)
       → IsTransformedExtension f generator may_answer BitReversed m a s out
-  extension_of_answered may_answer m told answered out a log s high are called tall values = values_of_answered may_answer m told answered a log s (values_of f out) high are called tall values
+  extension_of_answered may_answer m told answered out a log s high are told_is answered_is called tall values = values_of_answered may_answer m told answered a log s (values_of f out) high are told_is answered_is called tall values
 
 -- two networks, and two products for each entry of the smaller matrix, are within the bound of an extension
-pub within_extension : {T E : Type 0} (r : Result T E) (bound : ℕ → ℕ → ℕ) (k a w before after : ℕ) → after ≤ before + (bound k w + bound (k + a) w + 2 * (2 ^ k * w))
-    → OnOk r (after ≤ before + extension_bound bound k a w)
-within_extension (Ok x) bound k a w before after made = let rise = entries_rise k a w in omega (arith, made, rise)
-within_extension (Err e) bound k a w before after made = tt
+pub within_extension : (bound : ℕ → ℕ → ℕ) (k a w before after : ℕ) → after ≤ before + (bound k w + bound (k + a) w + 2 * (2 ^ k * w)) → after ≤ before + extension_bound bound k a w
+within_extension bound k a w before after made = let rise = entries_rise k a w in omega (arith, made, rise)
+
+-- and so is what was made when memory for the second was refused
+pub first_within_extension : (bound : ℕ → ℕ → ℕ) (k a w before after : ℕ) → after ≤ before + bound k w + 2 * (2 ^ k * w) → after ≤ before + extension_bound bound k a w
+first_within_extension bound k a w before after made = let rise = entries_rise k a w in omega (arith, made, rise)

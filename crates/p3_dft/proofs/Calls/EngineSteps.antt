@@ -1,22 +1,92 @@
 -- An engine after one call and then another.
-use Rattle.std.proofs.Common.{ℕ, ◌≡◌, ◌+◌, arith}
-use Rattle.p3_dft.specs.Engines.{IsLater, SameCosets, SameNumbers}
+use Rattle.std.proofs.Common.{ℕ, ◌≡◌, ◌+◌, ◌*◌, ◌^◌, ◌≤◌, Result, Ok, Err, IsOk, IsErr, ap, ap₂, ◌∙◌, add-one, arith, rules}
+use Rattle.std.proofs.Math.Nat.{le_refl, suc-mul}
+use Rattle.p3_matrix.specs.RowMajor.{HasShapeOf, RowMajor, height}
+use Rattle.p3_dft.specs.Engines.{AfterTransform, EngineFacts, HasProductsMore, IsAfter, IsLater}
 
-module _ {E F : Type 0} (promised : E → ℕ → Type 0) (coset_promised : E → ℕ → F → Type 0) (served : E → ℕ → Type 0) (made : E → ℕ) where
-  pub later_still : (a b c : E) → IsLater promised coset_promised served made a b → IsLater promised coset_promised served made b c → IsLater promised coset_promised served made a c
+-- an error is no answer
+pub no_answer : {A X : Type 0} (r : Result A X) → IsErr r → IsOk r → ⊥
+no_answer (Ok x) err ok = search rules
+no_answer (Err x) err ok = search rules
+
+module _ {E F : Type 0} (facts : EngineFacts E F) where
+  pub later_same : (e : E) → IsLater facts e e
+  later_same e = record { keeps = λ k was. was; keeps_cosets = λ k s was. was; keeps_ready = λ k was. was; grows = le_refl _ }
+
+  pub later_still : (a b c : E) → IsLater facts a b → IsLater facts b c → IsLater facts a c
   later_still a b c first second = record {
-    keeps = λ k given. second.keeps k (first.keeps k given);
-    keeps_cosets = λ k s given. second.keeps_cosets k s (first.keeps_cosets k s given);
-    keeps_served = λ k given. second.keeps_served k (first.keeps_served k given);
+    keeps = λ k was. second.keeps k (first.keeps k was);
+    keeps_cosets = λ k s was. second.keeps_cosets k s (first.keeps_cosets k s was);
+    keeps_ready = λ k was. second.keeps_ready k (first.keeps_ready k was);
     grows = omega (arith, first.grows, second.grows);
   }
 
   -- products that were counted elsewhere are added
-  pub later_by_products : (a b : E) (n : ℕ) → made b ≡ made a + n → SameNumbers (promised a) (promised b) → SameCosets (coset_promised a) (coset_promised b) → SameNumbers (served a) (served b)
-      → IsLater promised coset_promised served made a b
-  later_by_products a b n more same same_cosets same_served = record {
-    keeps = λ k. (same k).0;
-    keeps_cosets = λ k s. (same_cosets k s).0;
-    keeps_served = λ k. (same_served k).0;
-    grows = omega (arith, more);
+  pub later_by_products : (a b : E) (n : ℕ) → HasProductsMore facts a b n → IsLater facts a b
+  later_by_products a b n more = record {
+    keeps = λ k. (more.same k).0;
+    keeps_cosets = λ k s. (more.same_cosets k s).0;
+    keeps_ready = λ k. (more.same_ready k).0;
+    grows = omega (arith, more.counter);
+  }
+
+  -- memory was refused before a product was made
+  pub after_error : {A X : Type 0} {h : ℕ} {known : ℕ → Type 0} {p : ℕ → ℕ} (a b : E) (r : Result A X) → IsErr r → IsLater facts a b → facts.products_made b ≡ facts.products_made a
+      → IsAfter facts a b (IsOk r) h known p
+  after_error a b r none later same = record { later = later; ready = λ ok. absurd (no_answer r none ok); cost = λ k high. omega (arith, same) }
+
+  -- memory was refused after a part of a call, which made no more products than all of it may
+  pub after_part : {A X : Type 0} {h : ℕ} {known more_known : ℕ → Type 0} {p q : ℕ → ℕ} (a b : E) (answered : Type 0) (r : Result A X) → IsErr r → ((k : ℕ) → p k ≤ q k)
+      → IsAfter facts a b answered h known p → IsAfter facts a b (IsOk r) h more_known q
+  after_part a b answered r none fewer call = record {
+    later = call.later;
+    ready = λ ok. absurd (no_answer r none ok);
+    cost = λ k high. let made = call.cost k high in omega (arith, made, fewer k);
+  }
+
+  -- where less is answered
+  pub where_answered : {h : ℕ} {known : ℕ → Type 0} {p : ℕ → ℕ} (a b : E) (answered now : Type 0) → (now → answered) → IsAfter facts a b answered h known p → IsAfter facts a b now h known p
+  where_answered a b answered now there call = record { later = call.later; ready = λ yes. call.ready (there yes); cost = call.cost }
+
+  -- products, at most one an entry, and then a transform of a matrix of the same shape
+  pub transform_after : {T S : Type 0} (m : RowMajor T) (n : RowMajor S) (a b c : E) (answered : Type 0) (products : ℕ) → HasShapeOf n m → products ≤ height m * m.width
+      → HasProductsMore facts a b products → AfterTransform facts b c answered n 0 → AfterTransform facts a c answered m 1
+  transform_after m n a b c answered products (tall, wide) most more call = record {
+    later = later_still a b c (later_by_products a b products more) call.later;
+    ready = λ yes k high. call.ready yes k (tall ∙ high);
+    cost = λ k high.
+        let made = call.cost k (tall ∙ high) in
+        let same : facts.transform_products k n.width ≡ facts.transform_products k m.width = ap (facts.transform_products k) wide in
+        let entries : height m * m.width ≡ 2 ^ k * m.width = ap (λ h. h * m.width) high in
+        omega (arith, more.counter, made, same, entries, most);
+  }
+
+  -- a transform, and then products, at most one for each entry of a matrix of the same shape
+  pub products_after : {T S : Type 0} (first : ℕ) (m : RowMajor T) (n : RowMajor S) (a b c : E) (answered : Type 0) (products : ℕ) → HasShapeOf n m → products ≤ height n * n.width
+      → AfterTransform facts a b answered m first → HasProductsMore facts b c products → AfterTransform facts a c answered m (first + 1)
+  products_after first m n a b c answered products (tall, wide) most call more = record {
+    later = later_still a b c call.later (later_by_products b c products more);
+    ready = λ yes k high. (more.same_ready k).0 (call.ready yes k high);
+    cost = λ k high.
+        let made = call.cost k high in
+        let entries : height n * n.width ≡ 2 ^ k * m.width = ap₂ (λ (h w : ℕ). h * w) (tall ∙ high) wide in
+        let one_more : (first + 1) * (2 ^ k * m.width) ≡ first * (2 ^ k * m.width) + 2 ^ k * m.width = rw add-one (suc-mul first (2 ^ k * m.width)) in
+        omega (arith, more.counter, made, entries, most, one_more);
+  }
+
+  -- an inverse, and a transform of 2 ^ bits times as many rows
+  pub parts_after : {T S : Type 0} (first last : ℕ) (m : RowMajor T) (grown : RowMajor S) (bits : ℕ) (p : ℕ → ℕ) (a b c : E) (answered now : Type 0) → answered
+      → ((k : ℕ) → height m ≡ 2 ^ k → height grown ≡ 2 ^ (k + bits)) → grown.width ≡ m.width
+      → ((k : ℕ) → facts.transform_products k m.width + first * (2 ^ k * m.width) + (facts.transform_products (k + bits) m.width + last * (2 ^ (k + bits) * m.width)) ≤ p k)
+      → AfterTransform facts a b answered m first → AfterTransform facts b c now grown last
+      → IsAfter facts a c now (height m) (λ k. facts.IsReady c k × facts.IsReady c (k + bits)) p
+  parts_after first last m grown bits p a b c answered now given tall wide most one other = record {
+    later = later_still a b c one.later other.later;
+    ready = λ done k high. (other.later.keeps_ready k (one.ready given k high), other.ready done (k + bits) (tall k high));
+    cost = λ k high.
+        let before = one.cost k high in
+        let after = other.cost (k + bits) (tall k high) in
+        let same : facts.transform_products (k + bits) grown.width + last * (2 ^ (k + bits) * grown.width) ≡ facts.transform_products (k + bits) m.width + last * (2 ^ (k + bits) * m.width) =
+        ap (λ w. facts.transform_products (k + bits) w + last * (2 ^ (k + bits) * w)) wide in
+        omega (arith, before, after, same, most k);
   }

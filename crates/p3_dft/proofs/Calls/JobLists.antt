@@ -1,14 +1,16 @@
 -- Lists of jobs that are answered one after another.
-use Rattle.std.proofs.Common.{◌≡◌, ℕ, ◌+◌, ◌*◌, ◌^◌, ◌≤◌, List, [], ◌∷◌, ◌++◌, length, take, get_or, sym, ap, ◌∙◌, subst, append_assoc, length-append, arith, Result, Ok, Err, OnErr}
+use Rattle.std.proofs.Common.{◌≡◌, ℕ, ◌+◌, ◌*◌, ◌^◌, ◌≤◌, List, [], ◌∷◌, ◌++◌, length, take, get_or, refl, sym, ap, ◌∙◌, subst, append_assoc, length-append, arith, Result, Ok, Err, OnErr}
 use Rattle.std.proofs.Math.Seq.{get_or-append_seam, take-append_seam}
 use Rattle.std.proofs.lemmas.List.{append-nil}
+use Rattle.std.proofs.lemmas.List.Elements.{All-rest}
 use Rattle.std.proofs.lemmas.List.Sums.{sum_by_push}
 use Rattle.std.proofs.lemmas.Slice.Zip.{AllZip-long, all_zipped_more}
 use Rattle.std.specs.List.{All, AllZip, sum}
 use Rattle.p3_field.specs.declared.fields.Field.{Ghosts as FieldMembers}
 use Rattle.p3_matrix.specs.RowMajor.{RowMajor}
 use Rattle.p3_matrix.proofs.TwoPowers.{log_same}
-use Rattle.p3_dft.specs.Jobs.{AreFirstAnswers, CanRun, IsAnswer, IsCost, IsPromised, IsServed, NextIsNotPromised}
+use Rattle.p3_dft.specs.Engines.{EngineFacts, IsLater}
+use Rattle.p3_dft.specs.Jobs.{AreFirstAnswers, CanRun, IsAnswer, IsCost, IsPromised, IsReadyFor, NextIsNotPromised}
 use Rattle.p3_dft.specs.declared.jobs.Job.{Job}
 use Rattle.p3_dft.specs.declared.jobs.Job.TheVariants.{Dft, CosetDft, Idft, CosetIdft, Lde, CosetLde}
 
@@ -17,48 +19,47 @@ pub on_any_error : {T E P : Type 0} (r : Result T E) → P → OnErr r P
 on_any_error (Ok x) p = tt
 on_any_error (Err e) p = p
 
--- promises that stay are promises of jobs that stay
-pub promised_later : {F : Type 0} (before now : ℕ → Type 0) (coset_before coset_now : ℕ → F → Type 0) → ((k : ℕ) → before k → now k)
-    → ((k : ℕ) (s : F) → coset_before k s → coset_now k s) → (job : Job F) → IsPromised before coset_before job → IsPromised now coset_now job
-promised_later before now coset_before coset_now keeps keeps_cosets (Dft m) (k, high, promised) = (k, high, keeps k promised)
-promised_later before now coset_before coset_now keeps keeps_cosets (CosetDft m s) (k, high, promised, coset) = (k, high, keeps k promised, keeps_cosets k s coset)
-promised_later before now coset_before coset_now keeps keeps_cosets (Idft m) (k, high, promised) = (k, high, keeps k promised)
-promised_later before now coset_before coset_now keeps keeps_cosets (CosetIdft m s) (k, high, promised) = (k, high, keeps k promised)
-promised_later before now coset_before coset_now keeps keeps_cosets (Lde m a) none = none
-promised_later before now coset_before coset_now keeps keeps_cosets (CosetLde m a s) none = none
+module _ {E F : Type 0} (facts : EngineFacts E F) where
+  -- promises that stay are promises of jobs that stay
+  pub promised_later : (a b : E) → IsLater facts a b → (job : Job F) → IsPromised facts a job → IsPromised facts b job
+  promised_later a b later (Dft m) (k, high, promised) = (k, high, later.keeps k promised)
+  promised_later a b later (CosetDft m s) (k, high, promised, coset) = (k, high, later.keeps k promised, later.keeps_cosets k s coset)
+  promised_later a b later (Idft m) (k, high, promised) = (k, high, later.keeps k promised)
+  promised_later a b later (CosetIdft m s) (k, high, promised) = (k, high, later.keeps k promised)
+  promised_later a b later (Lde m x) none = none
+  promised_later a b later (CosetLde m x s) none = none
 
--- what stays known of heights stays known of those of a job
-pub served_later : {F : Type 0} (before now : ℕ → Type 0) → ((k : ℕ) → before k → now k) → (job : Job F) → IsServed before job → IsServed now job
-served_later before now keeps (Dft m) served = λ k high. keeps k (served k high)
-served_later before now keeps (CosetDft m s) served = λ k high. keeps k (served k high)
-served_later before now keeps (Idft m) served = λ k high. keeps k (served k high)
-served_later before now keeps (CosetIdft m s) served = λ k high. keeps k (served k high)
-served_later before now keeps (Lde m a) served = λ k high. let both = served k high in (keeps k both.0, keeps (k + a) both.1)
-served_later before now keeps (CosetLde m a s) served = λ k high. let both = served k high in (keeps k both.0, keeps (k + a) both.1)
+  -- what stays known of heights stays known of those of a job
+  pub ready_later : (a b : E) → IsLater facts a b → (job : Job F) → IsReadyFor facts a job → IsReadyFor facts b job
+  ready_later a b later (Dft m) ready = λ k high. later.keeps_ready k (ready k high)
+  ready_later a b later (CosetDft m s) ready = λ k high. later.keeps_ready k (ready k high)
+  ready_later a b later (Idft m) ready = λ k high. later.keeps_ready k (ready k high)
+  ready_later a b later (CosetIdft m s) ready = λ k high. later.keeps_ready k (ready k high)
+  ready_later a b later (Lde m x) ready = λ k high. let both = ready k high in (later.keeps_ready k both.0, later.keeps_ready (k + x) both.1)
+  ready_later a b later (CosetLde m x s) ready = λ k high. let both = ready k high in (later.keeps_ready k both.0, later.keeps_ready (k + x) both.1)
 
-module _ {F : Type 0} (bound : ℕ → ℕ → ℕ) (extension : (ℕ → ℕ → ℕ) → ℕ → ℕ → ℕ → ℕ) where
   -- a job that can be run has a cost
-  cost_of : (f : FieldMembers F) (bits : ℕ) (job : Job F) → CanRun f bits job → (n : ℕ) × IsCost bound extension job n
-  cost_of f bits (Dft m) fits = (bound fits.log m.width, λ k high. ap (λ l. bound l m.width) (log_same fits.log k (sym fits.high ∙ high)))
-  cost_of f bits (CosetDft m s) fits = (bound fits.log m.width + 2 ^ fits.log * m.width, λ k high. ap (λ l. bound l m.width + 2 ^ l * m.width) (log_same fits.log k (sym fits.high ∙ high)))
-  cost_of f bits (Idft m) fits = (bound fits.log m.width + 2 ^ fits.log * m.width, λ k high. ap (λ l. bound l m.width + 2 ^ l * m.width) (log_same fits.log k (sym fits.high ∙ high)))
+  cost_of : (f : FieldMembers F) (bits : ℕ) (job : Job F) → CanRun f bits job → (n : ℕ) × IsCost facts job n
+  cost_of f bits (Dft m) fits = (facts.transform_products fits.log m.width, λ k high. ap (λ l. facts.transform_products l m.width) (log_same fits.log k (sym fits.high ∙ high)))
+  cost_of f bits (CosetDft m s) fits = (facts.transform_products fits.log m.width + 2 ^ fits.log * m.width, λ k high. ap (λ l. facts.transform_products l m.width + 2 ^ l * m.width) (log_same fits.log k (sym fits.high ∙ high)))
+  cost_of f bits (Idft m) fits = (facts.transform_products fits.log m.width + 2 ^ fits.log * m.width, λ k high. ap (λ l. facts.transform_products l m.width + 2 ^ l * m.width) (log_same fits.log k (sym fits.high ∙ high)))
   cost_of f bits (CosetIdft m s) (fits, invertible) =
-      (bound fits.log m.width + 2 * (2 ^ fits.log * m.width), λ k high. ap (λ l. bound l m.width + 2 * (2 ^ l * m.width)) (log_same fits.log k (sym fits.high ∙ high)))
-  cost_of f bits (Lde m a) fits = (extension bound fits.log a m.width, λ k high. ap (λ l. extension bound l a m.width) (log_same fits.log k (sym fits.high ∙ high)))
-  cost_of f bits (CosetLde m a s) fits = (extension bound fits.log a m.width, λ k high. ap (λ l. extension bound l a m.width) (log_same fits.log k (sym fits.high ∙ high)))
+      (facts.transform_products fits.log m.width + 2 * (2 ^ fits.log * m.width), λ k high. ap (λ l. facts.transform_products l m.width + 2 * (2 ^ l * m.width)) (log_same fits.log k (sym fits.high ∙ high)))
+  cost_of f bits (Lde m a) fits = (facts.extension_products fits.log a m.width, λ k high. ap (λ l. facts.extension_products l a m.width) (log_same fits.log k (sym fits.high ∙ high)))
+  cost_of f bits (CosetLde m a s) fits = (facts.extension_products fits.log a m.width, λ k high. ap (λ l. facts.extension_products l a m.width) (log_same fits.log k (sym fits.high ∙ high)))
 
   -- no job, and one more, that made no more than its cost
-  pub costs_none : (none : List (Job F)) (before : ℕ) → none ≡ [] → (costs : List ℕ) × AllZip (IsCost bound extension) none costs × (before ≤ before + sum costs)
+  pub costs_none : (none : List (Job F)) (before : ℕ) → none ≡ [] → (costs : List ℕ) × AllZip (IsCost facts) none costs × (before ≤ before + sum costs)
   costs_none none before is = ([], rw is tt, omega arith)
 
   pub costs_more : (f : FieldMembers F) (bits : ℕ) (done : List (Job F)) (job : Job F) (before now after : ℕ) → CanRun f bits job
-      → (costs : List ℕ) × AllZip (IsCost bound extension) done costs × (now ≤ before + sum costs) → ((n : ℕ) → IsCost bound extension job n → after ≤ now + n)
-      → (costs : List ℕ) × AllZip (IsCost bound extension) (done ++ job ∷ []) costs × (after ≤ before + sum costs)
+      → (costs : List ℕ) × AllZip (IsCost facts) done costs × (now ≤ before + sum costs) → ((n : ℕ) → IsCost facts job n → after ≤ now + n)
+      → (costs : List ℕ) × AllZip (IsCost facts) (done ++ job ∷ []) costs × (after ≤ before + sum costs)
   costs_more f bits done job before now after runs (costs, each, so_far) turn =
       let (n, is) = cost_of f bits job runs in
       let made : after ≤ now + n = turn n is in
       let total : sum (costs ++ n ∷ []) ≡ sum costs + n = sum_by_push (λ (x : ℕ). x) costs n in
-      (costs ++ n ∷ [], all_zipped_more (IsCost bound extension) done costs job n each is, omega (arith, so_far, made, total))
+      (costs ++ n ∷ [], all_zipped_more (IsCost facts) done costs job n each is, omega (arith, so_far, made, total))
 
 module _ {F : Type 0} (f : FieldMembers F) (generator : ℕ → F) where
   -- the answers to the jobs before one that stands unanswered
@@ -74,14 +75,14 @@ module _ {F : Type 0} (f : FieldMembers F) (generator : ℕ → F) where
       }
 
   -- where the next job was refused, it was not promised, nor was it before
-  pub next_not_promised : (jobs done left later : List (Job F)) (job : Job F) (answers : List (RowMajor F)) (before now : ℕ → Type 0) (coset_before coset_now : ℕ → F → Type 0)
-      → jobs ≡ done ++ left → left ≡ job ∷ later → AllZip (IsAnswer f generator) done answers → ((k : ℕ) → before k → now k) → ((k : ℕ) (s : F) → coset_before k s → coset_now k s)
-      → (IsPromised now coset_now job → ⊥) → NextIsNotPromised before coset_before jobs answers
-  next_not_promised jobs done left later job answers before now coset_before coset_now split next answered keeps keeps_cosets refused d promised =
+  pub next_not_promised : {E : Type 0} (facts : EngineFacts E F) (jobs done left later : List (Job F)) (job : Job F) (answers : List (RowMajor F)) (before now : E)
+      → jobs ≡ done ++ left → left ≡ job ∷ later → AllZip (IsAnswer f generator) done answers → IsLater facts before now
+      → (IsPromised facts now job → ⊥) → NextIsNotPromised facts before jobs answers
+  next_not_promised facts jobs done left later job answers before now split next answered kept refused d promised =
       let counted : length answers ≡ length done = AllZip-long (IsAnswer f generator) done answers answered in
       let is : get_or jobs (length answers) d ≡ job =
       ap (λ xs. get_or xs (length answers) d) (split ∙ ap (λ rest. done ++ rest) next) ∙ ap (λ n. get_or (done ++ job ∷ later) n d) counted ∙ get_or-append_seam done job later d in
-      refused (promised_later before now coset_before coset_now keeps keeps_cosets job (subst (λ (x : Job F). IsPromised before coset_before x) is promised))
+      refused (promised_later facts before now kept job (subst (λ (x : Job F). IsPromised facts before x) is promised))
 
 -- one more element was taken
 pub split_more : {X : Type 0} (all done left later : List X) (x : X) → all ≡ done ++ left → left ≡ x ∷ later → all ≡ (done ++ x ∷ []) ++ later
@@ -94,3 +95,12 @@ of_all P all done left split none known = subst P (sym (split ∙ ap (λ rest. d
 -- the next one is one of all
 pub next_of_all : {X : Type 0} (P : X → Type 0) (x : X) (later left : List X) → left ≡ x ∷ later → All P left → P x
 next_of_all P x later left next known = subst (All P) next known 0 x (omega arith)
+
+-- the jobs that are left have costs too
+pub costs_rest : {E F : Type 0} (facts : EngineFacts E F) (f : FieldMembers F) (bits : ℕ) (jobs done left : List (Job F)) (before now : ℕ) → jobs ≡ done ++ left → All (CanRun f bits) left
+    → (costs : List ℕ) × AllZip (IsCost facts) done costs × (now ≤ before + sum costs) → (costs : List ℕ) × AllZip (IsCost facts) jobs costs × (now ≤ before + sum costs)
+costs_rest facts f bits jobs done [] before now split runs so_far =
+    of_all (λ xs. (costs : List ℕ) × AllZip (IsCost facts) xs costs × (now ≤ before + sum costs)) jobs done [] split refl so_far
+costs_rest facts f bits jobs done (job ∷ left) before now split runs so_far =
+    costs_rest facts f bits jobs (done ++ job ∷ []) left before now (split_more jobs done (job ∷ left) left job split refl) (All-rest (CanRun f bits) job left (job ∷ left) refl runs)
+    (costs_more facts f bits done job before now now (next_of_all (CanRun f bits) job left (job ∷ left) refl runs) so_far (λ n is. omega arith))

@@ -3,7 +3,7 @@ use Rattle.std.specs.Prelude.{⊤}
 use Rattle.std.proofs.Common.{◌≡◌, ◌⊎◌, inl, inr, ℕ, zero, suc, ◌+◌, ◌<◌, ◌≤◌, ◌^◌, List, Result, Ok, Err, IsOk, refl, ◌∙◌, subst, arith, rules}
 use Rattle.std.specs.List.{Contains, range_with_len}
 use Rattle.std.proofs.lemmas.List.FromFn.{get_or-range_with_len, length-range_with_len}
-use Rattle.p3_dft.specs.Engines.{Tabled, IsLater, IsPrepared}
+use Rattle.p3_dft.specs.Engines.{EngineFacts, HasProductsMore, IsLater, IsPrepared, Tabled}
 
 -- a height is prepared with every larger one
 pub prepared_with_larger : (e : Tabled) (k n : ℕ) → k ≤ n → IsPrepared e n → IsPrepared e k
@@ -51,17 +51,41 @@ still_above n k first (inr below) = inr below
 abbrev pub up_to : ℕ → ℕ → Tabled
 up_to log products = record { prepared = range_with_len 1 log; products = products }
 
--- no height and no product is lost
-pub later_with_heights : {F : Type 0} (before : Tabled) (log more_log products more_products : ℕ) → up_to log products ≡ before → log ≤ more_log → products ≤ more_products
-    → IsLater IsPrepared (λ (e : Tabled) (k : ℕ) (s : F). ⊤) IsPrepared (λ (e : Tabled). e.products) before (up_to more_log more_products)
-later_with_heights {F} before log more_log products more_products is higher grows =
-    let still = λ (k : ℕ) (there : IsPrepared (up_to log products) k). prepared_until more_log k (let held = until_prepared log k there in omega (arith, held, higher)) in
-    subst (λ (e : Tabled). IsLater IsPrepared (λ (e : Tabled) (k : ℕ) (s : F). ⊤) IsPrepared (λ (e : Tabled). e.products) e (up_to more_log more_products)) is (record {
-      keeps = still;
-      keeps_cosets = λ k s none. tt;
-      keeps_served = still;
-      grows = grows;
-    })
+-- the facts of an engine with tables of heights: a prepared height succeeds, whatever the shift, and is all that is known of one
+abbrev pub tabled_facts : {F : Type 0} → (ℕ → ℕ → ℕ) → (ℕ → ℕ → ℕ → ℕ) → (ℕ → ℕ → ℕ) → EngineFacts Tabled F
+tabled_facts transform_products extension_products block_rows = record {
+  Succeeds = IsPrepared;
+  SucceedsOnCoset = λ e k s. ⊤;
+  IsReady = IsPrepared;
+  transform_products = transform_products;
+  extension_products = extension_products;
+  block_rows = block_rows;
+  products_made = λ e. e.products;
+}
+
+module _ {F : Type 0} (t : ℕ → ℕ → ℕ) (x : ℕ → ℕ → ℕ → ℕ) (b : ℕ → ℕ → ℕ) where
+  -- no height and no product is lost
+  pub later_with_heights : (before : Tabled) (log more_log products more_products : ℕ) → up_to log products ≡ before → log ≤ more_log → products ≤ more_products
+      → IsLater (tabled_facts {F = F} t x b) before (up_to more_log more_products)
+  later_with_heights before log more_log products more_products is higher grows =
+      let still = λ (k : ℕ) (there : IsPrepared (up_to log products) k). prepared_until more_log k (let held = until_prepared log k there in omega (arith, held, higher)) in
+      subst (λ (e : Tabled). IsLater (tabled_facts {F = F} t x b) e (up_to more_log more_products)) is (record {
+        keeps = still;
+        keeps_cosets = λ k s none. tt;
+        keeps_ready = still;
+        grows = grows;
+      })
+
+  -- products that were counted
+  pub counted_with_heights : (before : Tabled) (log products more_products n : ℕ) → up_to log products ≡ before → more_products ≡ products + n
+      → HasProductsMore (tabled_facts {F = F} t x b) before (up_to log more_products) n
+  counted_with_heights before log products more_products n is counted =
+      subst (λ (e : Tabled). HasProductsMore (tabled_facts {F = F} t x b) e (up_to log more_products) n) is (record {
+        counter = counted;
+        same = λ k. (λ there. there, λ there. there);
+        same_cosets = λ k s. (λ none. none, λ none. none);
+        same_ready = λ k. (λ there. there, λ there. there);
+      })
 
 -- a refusal is no answer
 pub not_ok : {A E : Type 0} (r : Result A E) (e : E) → r ≡ Err e → IsOk r → ⊥

@@ -1,6 +1,6 @@
 -- Row numbers of which a fact holds: more and fewer of them, and the rows split by two facts.
 use Rattle.std.proofs.Common.{◌≡◌, ◌≢◌, ℕ, zero, suc, ◌+◌, ◌<◌, ◌≤◌, ◌⊎◌, inl, inr, [], ◌∷◌, length, get_or, map, refl, sym, ◌∙◌, subst, arith}
-use Rattle.std.specs.List.{All, AllPairs, range_with_len}
+use Rattle.std.specs.List.{range_with_len}
 use Rattle.std.proofs.lemmas.List.Elements.{All-cons}
 use Rattle.std.proofs.lemmas.List.FromFn.{length-map-range_with_len, get_or-map-range_with_len}
 use Rattle.std.proofs.lemmas.List.Kept.{AllPairs-cons}

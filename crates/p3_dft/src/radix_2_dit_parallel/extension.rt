@@ -38,8 +38,8 @@ pub(crate) fn coefficients_with_room<
     products: &mut Products,
 ) -> Result<RowMajorMatrix<F>, DftError>
     requires fits { FitsLde F.TWO_ADICITY (height mat) mat.width added_bits }
-    requires callable { (m : RowMajor F) → HasShapeOf m mat → T.pre transform m BitReversed }
-    requires shape { (m n : RowMajor F) → HasShapeOf m mat → T.post transform m BitReversed n → HasShapeOf n mat }
+    requires callable { (m : RowMajor F) → IsRowMajor m → HasShapeOf m mat → T.pre transform m BitReversed }
+    requires shape { (m n : RowMajor F) → IsRowMajor m → HasShapeOf m mat → T.post transform m BitReversed n → HasShapeOf n mat }
     ensures answer { IfOk result (λ out.
         IsAnswerOverZeros F.Field.own F.generator (λ m n. T.post transform m BitReversed n) mat added_bits out) }
     ensures prepared { AtLog (height mat) (λ k. OnOk result (k ≤ tables.new)) }

@@ -173,9 +173,9 @@ pub(crate) fn transform_promised<F: TwoAdicField, D: TwoAdicSubgroupDft<F>>(
 ) -> Result<D::Evaluations, DftError>
     requires fits { FitsDft F.TWO_ADICITY (height mat) mat.width }
     requires height { height mat ≡ 2 ^ log_h }
-    requires promised { D.promised engine.old log_h }
+    requires promised { D.facts.Succeeds engine.old log_h }
     ensures ok { IsOk result }
-    ensures still { D.promised engine.new log_h }
+    ensures still { D.facts.Succeeds engine.new log_h }
 {
     engine.dft_batch(mat)
 }
@@ -189,10 +189,10 @@ fn transform_on_promised_coset<F: TwoAdicField, D: TwoAdicSubgroupDft<F>>(
 ) -> Result<D::Evaluations, DftError>
     requires fits { FitsDft F.TWO_ADICITY (height mat) mat.width }
     requires height { height mat ≡ 2 ^ log_h }
-    requires promised { D.promised engine.old log_h }
-    requires coset { D.coset_promised engine.old log_h shift }
+    requires promised { D.facts.Succeeds engine.old log_h }
+    requires coset { D.facts.SucceedsOnCoset engine.old log_h shift }
     ensures ok { IsOk result }
-    ensures still { D.coset_promised engine.new log_h shift }
+    ensures still { D.facts.SucceedsOnCoset engine.new log_h shift }
 {
     engine.coset_dft_batch(mat, shift)
 }
@@ -248,7 +248,7 @@ fn transform_by_a_new_engine<F: TwoAdicField, D: TwoAdicSubgroupDft<F> + Drop>(
     mat: RowMajorMatrix<F>,
 ) -> Result<D, DftError>
     requires { FitsDft F.TWO_ADICITY (height mat) mat.width }
-    ensures { IfOk result (λ engine. AtLog (height mat) (λ k. D.made engine ≤ D.bound k mat.width)) }
+    ensures { IfOk result (λ engine. AtLog (height mat) (λ k. D.facts.products_made engine ≤ D.facts.transform_products k mat.width)) }
 {
     let mut engine = D::default();
     engine.dft_batch(mat)?;
@@ -261,7 +261,7 @@ fn extend_by_a_new_engine<F: TwoAdicField, D: TwoAdicSubgroupDft<F> + Drop>(
     added_bits: usize,
 ) -> Result<D, DftError>
     requires { FitsLde F.TWO_ADICITY (vec_len column) 1 added_bits }
-    ensures { IfOk result (λ engine. AtLog (vec_len column) (λ k. D.made engine ≤ D.extension D.bound k added_bits 1)) }
+    ensures { IfOk result (λ engine. AtLog (vec_len column) (λ k. D.facts.products_made engine ≤ D.facts.extension_products k added_bits 1)) }
 {
     let mut engine = D::default();
     engine.lde(column, added_bits)?;
@@ -350,7 +350,7 @@ fn transform_as_promised<F: CanonicalField, D: TwoAdicSubgroupDft<F>>(
     alloc: Global,
     engine: &mut D,
 )
-    requires { D.promised engine.old 1 }
+    requires { D.facts.Succeeds engine.old 1 }
 {
     let there = transform_promised(engine, two_rows(rt, alloc, [5, 4]), 1).expect(rt, "memory");
     assert_column(rt, &there.to_row_major_matrix(), &[9, 1]);

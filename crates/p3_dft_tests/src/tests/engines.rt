@@ -53,6 +53,7 @@ impl Clone for LimitedDft {
 impl<F: TwoAdicField> TwoAdicSubgroupDft<F> for LimitedDft {
     ghost use Rattle.std.specs.Prelude.{⊤, ℕ, ◌+◌, ◌*◌, ◌^◌};
     ghost use Rattle.std.proofs.Common.{refl, rules};
+    ghost use Rattle.p3_dft.specs.Engines.{plain_facts};
     ghost use Rattle.p3_dft.specs.declared.traits.Layout.TheVariants.{BitReversed};
 
     type Evaluations = RowMajorMatrix<F>;
@@ -61,21 +62,13 @@ impl<F: TwoAdicField> TwoAdicSubgroupDft<F> for LimitedDft {
 
     ghost LAYOUT = { BitReversed };
 
-    ghost promised = { λ _ _. ⊥ };
+    ghost facts = { plain_facts (λ _ _. ⊥) (λ _ _ _. ⊤) (λ _ _. ⊤) (λ k w. 2 ^ k * 2 ^ k * w) (λ e. e.sums) };
 
-    ghost coset_promised = { λ _ _ _. ⊤ };
-
-    ghost served = { λ _ _. ⊤ };
-
-    ghost bound = { λ k w. 2 ^ k * 2 ^ k * w };
-
-    ghost made = { λ e. e.sums };
-
-    ghost block_rows_law = { λ k a. (k + a, Prim.search (rules), refl) };
-
-    ghost default_law = { λ e none. none };
-
-    ghost clone_law = { λ e copy none. none };
+    ghost laws = { record {
+      power_of_two = λ k a. (k + a, Prim.search (rules), refl);
+      new_made_none = λ e none. none;
+      clone_made_none = λ e copy none. none;
+    } };
 
     fn dft_batch<N: IntoRowMajorMatrix<F>>(
         &mut self,

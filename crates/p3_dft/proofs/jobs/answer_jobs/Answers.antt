@@ -1,14 +1,13 @@
-use Rattle.std.proofs.Common.{refl, ◌≡◌, ℕ, ◌+◌, ◌≤◌, ◌++◌, List, [], ◌∷◌, subst, sym, ◌∙◌, arith, rules, inr}
-use Rattle.std.proofs.Math.Nat.{le_refl}
+use Rattle.std.proofs.Common.{refl, ◌≡◌, ◌++◌, List, [], ◌∷◌, subst, sym, ◌∙◌, arith, rules, inr}
 use Rattle.std.proofs.lemmas.List.{nil_from_length}
 use Rattle.std.proofs.lemmas.List.Elements.{All-nil, All-push, All-rest, All-weaker}
 use Rattle.std.proofs.lemmas.Slice.Zip.{all_zipped_more}
-use Rattle.std.specs.List.{All, AllZip, sum}
+use Rattle.std.specs.List.{All, AllZip}
 use Rattle.std.specs.Vec.Iter.{into_iter_items}
 use Rattle.p3_matrix.specs.RowMajor.{RowMajor}
-use Rattle.p3_dft.specs.Jobs.{AreFirstAnswers, CanRun, IsAnswer, IsCost, IsServed}
-use Rattle.p3_dft.proofs.Calls.EngineSteps.{later_still}
-use Rattle.p3_dft.proofs.Calls.JobLists.{costs_more, costs_none, first_answers, next_not_promised, next_of_all, of_all, on_any_error, served_later, split_more}
+use Rattle.p3_dft.specs.Jobs.{AreFirstAnswers, CanRun, IsAnswer, IsReadyFor}
+use Rattle.p3_dft.proofs.Calls.EngineSteps.{later_same, later_still}
+use Rattle.p3_dft.proofs.Calls.JobLists.{costs_more, costs_none, costs_rest, first_answers, next_not_promised, next_of_all, of_all, on_any_error, ready_later, split_more}
 use Rattle.p3_dft.proofs.jobs.answer_jobs.Goals as goal
 
 pub run_job-requires : goal.run_job-requires
@@ -20,20 +19,20 @@ loop-job-preserved g c =
     let answers = IsAnswer g.F.Field g.F.TwoAdicField.generator in
     let next = c.in-Some.ensures.steps.0 in
     let so_far = c.loop-job.invariant in
-    let served = g.D.TwoAdicSubgroupDft.served in
+    let facts = g.D.TwoAdicSubgroupDft.facts in
     record {
       split = split_more _ c.loop-job.yielded _ _ c.in-Some.job so_far.split next;
       answered = subst (λ (ys : List (RowMajor g.row.F.Denot)). AllZip answers (c.loop-job.yielded ++ c.in-Some.job ∷ []) ys) (sym c.in_ok-push.ensures.items)
           (all_zipped_more answers c.loop-job.yielded c.loop-job.answers.items c.in-Some.job c.in_ok-answer.answer so_far.answered c.in_ok-answer.ensures.answer);
       runnable = All-rest (CanRun g.F.Field g.F.TwoAdicField.TWO_ADICITY) c.in-Some.job _ _ next so_far.runnable;
       room = omega (arith, so_far.room, c.in_ok-push.ensures.capacity);
-      served = All-push (IsServed (served c.run_job.new.engine)) c.loop-job.yielded c.in-Some.job
-          (All-weaker (IsServed (served c.loop-job.engine)) (IsServed (served c.run_job.new.engine)) (served_later (served c.loop-job.engine) (served c.run_job.new.engine) c.in_ok-answer.ensures.later.keeps_served)
+      served = All-push (IsReadyFor facts c.run_job.new.engine) c.loop-job.yielded c.in-Some.job
+          (All-weaker (IsReadyFor facts c.loop-job.engine) (IsReadyFor facts c.run_job.new.engine) (ready_later facts _ _ c.in_ok-answer.ensures.later)
           c.loop-job.yielded so_far.served)
           c.in_ok-answer.ensures.serves;
-      cost = costs_more g.D.TwoAdicSubgroupDft.bound g.D.TwoAdicSubgroupDft.extension g.F.Field g.F.TwoAdicField.TWO_ADICITY c.loop-job.yielded c.in-Some.job _ _ _
+      cost = costs_more facts g.F.Field g.F.TwoAdicField.TWO_ADICITY c.loop-job.yielded c.in-Some.job _ _ _
           (next_of_all (CanRun g.F.Field g.F.TwoAdicField.TWO_ADICITY) c.in-Some.job _ _ next so_far.runnable) so_far.cost c.in_ok-answer.ensures.cost;
-      later = later_still g.D.TwoAdicSubgroupDft.promised g.D.TwoAdicSubgroupDft.coset_promised g.D.TwoAdicSubgroupDft.served g.D.TwoAdicSubgroupDft.made _ _ _ so_far.later c.in_ok-answer.ensures.later;
+      later = later_still facts _ _ _ so_far.later c.in_ok-answer.ensures.later;
     }
 
 pub returns-in_err-answer-clause-first : goal.returns-in_err-answer-clause-first
@@ -52,10 +51,9 @@ returns-in_err-push-clause-first g c =
 pub returns-in_err-answer-clause-refused : goal.returns-in_err-answer-clause-refused
 returns-in_err-answer-clause-refused g c =
     on_any_error c.from_residual-in_err-answer.result
-    (inr (next_not_promised g.F.Field g.F.TwoAdicField.generator c.args.jobs.items c.loop-job.yielded _ _ c.in-Some.job c.loop-job.answers.items
-    (g.D.TwoAdicSubgroupDft.promised c.args.engine.now) (g.D.TwoAdicSubgroupDft.promised c.loop-job.engine)
-    (g.D.TwoAdicSubgroupDft.coset_promised c.args.engine.now) (g.D.TwoAdicSubgroupDft.coset_promised c.loop-job.engine) c.loop-job.invariant.split
-    c.in-Some.ensures.steps.0 c.loop-job.invariant.answered c.loop-job.invariant.later.keeps c.loop-job.invariant.later.keeps_cosets (λ promised. let answered = c.in_err-answer.ensures.succeeds promised in absurd (search rules))))
+    (inr (next_not_promised g.F.Field g.F.TwoAdicField.generator g.D.TwoAdicSubgroupDft.facts c.args.jobs.items c.loop-job.yielded _ _ c.in-Some.job c.loop-job.answers.items
+    c.args.engine.now c.loop-job.engine c.loop-job.invariant.split
+    c.in-Some.ensures.steps.0 c.loop-job.invariant.answered c.loop-job.invariant.later (λ promised. let answered = c.in_err-answer.ensures.succeeds promised in absurd (search rules))))
 
 -- there is room for the answer to each job
 pub returns-in_err-push-clause-refused : goal.returns-in_err-push-clause-refused
@@ -73,14 +71,9 @@ loop-job-init g c =
       answered = subst (λ (ys : List (RowMajor g.row.F.Denot)). AllZip (IsAnswer g.F.Field g.F.TwoAdicField.generator) [] ys) (sym none) (search rules);
       runnable = subst (λ xs. All (CanRun g.F.Field g.F.TwoAdicField.TWO_ADICITY) xs) (sym given) c.requires.runnable;
       room = grind (arith, c.in_ok-reserve_exact.ensures.capacity, c.len.ensures);
-      served = All-nil (IsServed (g.D.TwoAdicSubgroupDft.served c.args.engine.now));
-      cost = costs_none {F = g.row.F.Denot} g.D.TwoAdicSubgroupDft.bound g.D.TwoAdicSubgroupDft.extension [] _ refl;
-      later = record {
-        keeps = λ k promised. promised;
-        keeps_cosets = λ k s promised. promised;
-        keeps_served = λ k served. served;
-        grows = le_refl _;
-      };
+      served = All-nil (IsReadyFor g.D.TwoAdicSubgroupDft.facts c.args.engine.now);
+      cost = costs_none g.D.TwoAdicSubgroupDft.facts [] _ refl;
+      later = later_same g.D.TwoAdicSubgroupDft.facts _;
     }
 
 pub returns-clause-all : goal.returns-clause-all
@@ -93,12 +86,33 @@ pub returns-clause-serves : goal.returns-clause-serves
 returns-clause-serves g c =
     let left = into_iter_items c.loop-job.job-iterator in
     let none : left ≡ [] = nil_from_length left (sym c.loop-job.job-iterator.rest.ok.0 ∙ c.in-None.ensures.steps.0) in
-    of_all (λ xs. All (IsServed (g.D.TwoAdicSubgroupDft.served c.loop-job.engine)) xs) _ c.loop-job.yielded left c.loop-job.invariant.split none c.loop-job.invariant.served
+    of_all (λ xs. All (IsReadyFor g.D.TwoAdicSubgroupDft.facts c.loop-job.engine) xs) _ c.loop-job.yielded left c.loop-job.invariant.split none c.loop-job.invariant.served
 
 pub returns-clause-cost : goal.returns-clause-cost
 returns-clause-cost g c =
-    let left = into_iter_items c.loop-job.job-iterator in
-    let none : left ≡ [] = nil_from_length left (sym c.loop-job.job-iterator.rest.ok.0 ∙ c.in-None.ensures.steps.0) in
-    let d = g.D.TwoAdicSubgroupDft in
-    of_all (λ xs. (costs : List ℕ) × AllZip (IsCost d.bound d.extension) xs costs × (d.made c.loop-job.engine ≤ d.made c.args.engine.now + sum costs))
-    _ c.loop-job.yielded left c.loop-job.invariant.split none c.loop-job.invariant.cost
+    costs_rest g.D.TwoAdicSubgroupDft.facts g.F.Field g.F.TwoAdicField.TWO_ADICITY _ c.loop-job.yielded _ _ _ c.loop-job.invariant.split c.loop-job.invariant.runnable c.loop-job.invariant.cost
+
+pub returns-in_err-reserve_exact-clause-cost : goal.returns-in_err-reserve_exact-clause-cost
+returns-in_err-reserve_exact-clause-cost g c =
+    costs_rest g.D.TwoAdicSubgroupDft.facts g.F.Field g.F.TwoAdicField.TWO_ADICITY c.args.jobs.items [] c.args.jobs.items _ _ refl c.requires.runnable
+    (costs_none g.D.TwoAdicSubgroupDft.facts [] _ refl)
+
+pub returns-in_err-answer-clause-cost : goal.returns-in_err-answer-clause-cost
+returns-in_err-answer-clause-cost g c =
+    let so_far = c.loop-job.invariant in
+    let next = c.in-Some.ensures.steps.0 in
+    let facts = g.D.TwoAdicSubgroupDft.facts in
+    let can_run = CanRun g.F.Field g.F.TwoAdicField.TWO_ADICITY in
+    costs_rest facts g.F.Field g.F.TwoAdicField.TWO_ADICITY _ (c.loop-job.yielded ++ c.in-Some.job ∷ []) _ _ _ (split_more _ c.loop-job.yielded _ _ c.in-Some.job so_far.split next)
+    (All-rest can_run c.in-Some.job _ _ next so_far.runnable)
+    (costs_more facts g.F.Field g.F.TwoAdicField.TWO_ADICITY c.loop-job.yielded c.in-Some.job _ _ _ (next_of_all can_run c.in-Some.job _ _ next so_far.runnable) so_far.cost c.run_job.ensures.cost)
+
+pub returns-in_err-push-clause-cost : goal.returns-in_err-push-clause-cost
+returns-in_err-push-clause-cost g c =
+    let so_far = c.loop-job.invariant in
+    let next = c.in-Some.ensures.steps.0 in
+    let facts = g.D.TwoAdicSubgroupDft.facts in
+    let can_run = CanRun g.F.Field g.F.TwoAdicField.TWO_ADICITY in
+    costs_rest facts g.F.Field g.F.TwoAdicField.TWO_ADICITY _ (c.loop-job.yielded ++ c.in-Some.job ∷ []) _ _ _ (split_more _ c.loop-job.yielded _ _ c.in-Some.job so_far.split next)
+    (All-rest can_run c.in-Some.job _ _ next so_far.runnable)
+    (costs_more facts g.F.Field g.F.TwoAdicField.TWO_ADICITY c.loop-job.yielded c.in-Some.job _ _ _ (next_of_all can_run c.in-Some.job _ _ next so_far.runnable) so_far.cost c.run_job.ensures.cost)

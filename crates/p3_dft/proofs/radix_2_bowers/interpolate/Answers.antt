@@ -4,6 +4,7 @@ use Rattle.p3_matrix.specs.RowMajor.{height}
 use Rattle.p3_networks.specs.Cosets.{IsQuotient}
 use Rattle.p3_dft.specs.Transforms.{values_of}
 use Rattle.p3_dft.proofs.BitReversed.Coefficients.{reversed_quotient}
+use Rattle.p3_dft.proofs.Calls.Transforms.{whole_kept}
 use Rattle.p3_dft.proofs.radix_2_bowers.interpolate.Goals as goal
 
 pub returns-clause-coefficients : goal.returns-clause-coefficients
@@ -22,3 +23,8 @@ returns-clause-cost g c k high =
     let entries : length c.interpolate_scaled.new.mat.values ≡ 2 ^ k * m.width =
     c.in_ok-interpolate_scaled.ensures.size ∙ sym c.interpolate_scaled.ensures.whole.full ∙ ap (λ n. n * m.width) high in
     omega (arith, c.interpolate_scaled.ensures.cost k high, c.divide_rows.ensures.count, entries)
+
+pub returns-clause-whole : goal.returns-clause-whole
+returns-clause-whole g c =
+    whole_kept c.interpolate_scaled.new.mat c.divide_rows.new.mat (whole_kept c.args.mat.now c.interpolate_scaled.new.mat c.interpolate_scaled.ensures.whole c.in_ok-interpolate_scaled.ensures.shape c.in_ok-interpolate_scaled.ensures.size)
+    c.divide_rows.ensures.shape c.divide_rows.ensures.size

@@ -19,8 +19,10 @@ answers_more f generator P Q layout m a s out more given = record {
   coefficients = given.coefficients;
   are_coefficients = given.are_coefficients;
   told = given.told;
+  told_whole = given.told_whole;
   told_in_layout = given.told_in_layout;
   answered = given.answered;
+  answered_whole = given.answered_whole;
   called = more given.told given.answered given.called;
   changed = given.changed;
   answered_in_layout = given.answered_in_layout;
@@ -45,8 +47,8 @@ pub returns-in-Refused-clause-refused : goal.returns-in-Refused-clause-refused
 returns-in-Refused-clause-refused g c = λ k e.
     let x = where_refused _ _ _ _ c.in-Refused.is c.in-Err.ensures.refused k e in
     let told = limit_refused _ _ _ _ _ _ x.2 in
-    let law = g.met.D.TwoAdicSubgroupDft.block_rows_law k c.args.added_bits in
-    let whole = power_divides (g.D.TwoAdicSubgroupDft.block_rows k c.args.added_bits) law.0 (k + c.args.added_bits) law.1 law.2 in
+    let law = g.met.D.TwoAdicSubgroupDft.laws.power_of_two k c.args.added_bits in
+    let whole = power_divides (g.D.TwoAdicSubgroupDft.facts.block_rows k c.args.added_bits) law.0 (k + c.args.added_bits) law.1 law.2 in
     let high = (x.1.extended k e).high in
     (told.1, rw high at told.2, limit_exceeded _ _ _ _ _ _ c.args.limit x.2 (λ r made. search of_calls) _ high whole.0 whole.1)
 

@@ -40,7 +40,7 @@ returns-in-Ok-clause-extension g c =
 pub returns-in-Ok-clause-recorded : goal.returns-in-Ok-clause-recorded
 returns-in-Ok-clause-recorded g c = λ k e.
     let a = c.args.added_bits in
-    let b = g.D.TwoAdicSubgroupDft.block_rows k a in
+    let b = g.D.TwoAdicSubgroupDft.facts.block_rows k a in
     let out = c.in-Ok.out.physical in
     let x = extension_of_same g.F.Field g.F.TwoAdicField.generator _ g.D.TwoAdicSubgroupDft.LAYOUT c.args.mat _ a (g.F.Field.value c.args.shift)
     (λ told answered called. search of_calls) c.in-Ok.ensures.values in

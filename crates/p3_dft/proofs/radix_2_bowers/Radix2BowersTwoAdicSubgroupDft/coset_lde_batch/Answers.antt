@@ -1,4 +1,4 @@
-use Rattle.std.proofs.Common.{◌≡◌, ℕ, ◌+◌, ◌*◌, ◌/◌, ◌^◌, ◌≤◌, OnOk, sym, ap, ap₂, ◌∙◌, subst, arith}
+use Rattle.std.proofs.Common.{◌≡◌, ℕ, ◌+◌, ◌*◌, ◌/◌, ◌^◌, ◌≤◌, refl, sym, ap, ap₂, ◌∙◌, subst, arith}
 use Rattle.std.proofs.Math.Nat.{le-add_right, le_trans}
 use Rattle.std.proofs.lemmas.Result.{IfOk-weaker}
 use Rattle.p3_field.specs.Ring.{count}
@@ -8,7 +8,7 @@ use Rattle.p3_matrix.specs.RowMajor.{RowMajor, height}
 use Rattle.p3_dft.specs.Extensions.{extension_bound}
 use Rattle.p3_dft.specs.Transforms.{values_of}
 use Rattle.p3_networks.proofs.Polynomials.Cosets.{coset_values}
-use Rattle.p3_dft.proofs.BitReversed.Coefficients.{extension_of_coefficients, extension_of_row, shifted_quotient, within_extension}
+use Rattle.p3_dft.proofs.BitReversed.Coefficients.{extension_of_coefficients, extension_of_row, first_within_extension, shifted_quotient, within_extension}
 use Rattle.p3_dft.proofs.Calls.Counts.{scaled_counted, weighed_counted}
 use Rattle.p3_dft.proofs.Calls.Shapes.{fits_lde_as, input_fits, log_within, more_points, output_log_small}
 use Rattle.p3_dft.proofs.radix_2_bowers.Radix2BowersTwoAdicSubgroupDft.coset_lde_batch.Goals as goal
@@ -50,9 +50,29 @@ returns-clause-cost g c k e =
     let entries : height c.interpolate_scaled.new.mat * c.interpolate_scaled.new.mat.width ≡ 2 ^ k * w = ap₂ (λ (h v : ℕ). h * v) (tall ∙ high) shape.1 in
     let last = c.extend.ensures.cost k (same.high ∙ tall ∙ high) in
     let wide : bound (k + a) c.weigh_reversed_rows.new.mat.width ≡ bound (k + a) w = ap (bound (k + a)) (same.wide ∙ shape.1) in
-    subst (λ (v : ℕ). OnOk c.extend.result (c.extend.new.products ≤ c.args.self.now + extension_bound bound k a v)) (ap (λ (n : RowMajor g.row.F.Denot). n.width) c.into_row_major_matrix-mat.ensures)
-    (within_extension c.extend.result bound k a w c.args.self.now c.extend.new.products
+    subst (λ (v : ℕ). c.extend.new.products ≤ c.args.self.now + extension_bound bound k a v) (ap (λ (n : RowMajor g.row.F.Denot). n.width) c.into_row_major_matrix-mat.ensures)
+    (within_extension bound k a w c.args.self.now c.extend.new.products
     (weighed_counted _ _ _ _ _ _ _ (scaled_counted _ _ _ _ _ _ first c.weigh_reversed_rows.ensures.cost entries) last wide))
+
+pub returns-in_err-interpolate_scaled-clause-cost : goal.returns-in_err-interpolate_scaled-clause-cost
+returns-in_err-interpolate_scaled-clause-cost g c k e =
+    let m = c.into_row_major_matrix-mat.result in
+    let bound = λ (n w : ℕ). w * (n * 2 ^ n / 2) in
+    let first = le_trans (rw c.self.view_is at (c.interpolate_scaled.ensures.cost k (ap height c.into_row_major_matrix-mat.ensures ∙ e))) (le-add_right _ (2 ^ k * m.width)) in
+    subst (λ (v : ℕ). c.interpolate_scaled.new.products ≤ c.args.self.now + extension_bound bound k c.args.added_bits v) (ap (λ (n : RowMajor g.row.F.Denot). n.width) c.into_row_major_matrix-mat.ensures)
+    (first_within_extension bound k c.args.added_bits m.width c.args.self.now c.interpolate_scaled.new.products (scaled_counted _ _ _ _ _ _ first (le-add_right _ _) refl))
+
+pub returns-in_err-weigh_reversed_rows-clause-cost : goal.returns-in_err-weigh_reversed_rows-clause-cost
+returns-in_err-weigh_reversed_rows-clause-cost g c k e =
+    let m = c.into_row_major_matrix-mat.result in
+    let bound = λ (n w : ℕ). w * (n * 2 ^ n / 2) in
+    let high : height m ≡ 2 ^ k = ap height c.into_row_major_matrix-mat.ensures ∙ e in
+    let shape = c.in_ok-interpolate_scaled.ensures.shape in
+    let first = le_trans (rw c.self.view_is at (c.interpolate_scaled.ensures.cost k high)) (le-add_right _ (2 ^ k * m.width)) in
+    let entries : height c.interpolate_scaled.new.mat * c.interpolate_scaled.new.mat.width ≡ 2 ^ k * m.width = ap₂ (λ (h v : ℕ). h * v) (shape.0 ∙ high) shape.1 in
+    subst (λ (v : ℕ). c.weigh_reversed_rows.new.products ≤ c.args.self.now + extension_bound bound k c.args.added_bits v) (ap (λ (n : RowMajor g.row.F.Denot). n.width) c.into_row_major_matrix-mat.ensures)
+    (first_within_extension bound k c.args.added_bits m.width c.args.self.now c.weigh_reversed_rows.new.products
+    (scaled_counted _ _ _ _ _ _ first c.weigh_reversed_rows.ensures.cost entries))
 
 pub interpolate_scaled-requires : goal.interpolate_scaled-requires
 interpolate_scaled-requires g c = record { fits = rw c.into_row_major_matrix-mat.ensures (input_fits _ _ _ _ c.requires.fits) }

@@ -1,10 +1,11 @@
 use Rattle.std.proofs.Common.{◌≡◌, ℕ, ◌+◌, ◌*◌, ◌/◌, ◌^◌, ◌≤◌, sym, ap, ap₂, ◌∙◌, refl, arith}
+use Rattle.std.proofs.Math.Nat.{le-add_right}
 use Rattle.std.proofs.lemmas.Result.{IfOk-weaker}
 use Rattle.p3_matrix.specs.BitOrder.{bit_reversal}
 use Rattle.p3_matrix.specs.RowMajor.{RowMajor, height}
 use Rattle.p3_dft.specs.Transforms.{values_of}
 use Rattle.p3_networks.proofs.Polynomials.Cosets.{coset_values}
-use Rattle.p3_dft.proofs.BitReversed.Coefficients.{extension_of_answered, extension_of_told_row, shifted_by_one, within_extension}
+use Rattle.p3_dft.proofs.BitReversed.Coefficients.{extension_of_answered, extension_of_told_row, first_within_extension, shifted_by_one, within_extension}
 use Rattle.p3_dft.proofs.Calls.Counts.{scaled_counted, weighed_counted}
 use Rattle.p3_dft.proofs.Calls.Shapes.{fits_lde_as, input_fits, log_within, more_points, output_log_small}
 use Rattle.p3_dft.proofs.radix_2_bowers.Radix2BowersTwoAdicSubgroupDft.coset_lde_batch_with_transform.Goals as goal
@@ -18,7 +19,7 @@ extend-requires g c =
     let stored = ap height c.into_row_major_matrix-mat.ensures in
     let high : height c.into_row_major_matrix-mat.result ≡ 2 ^ fits.log = stored ∙ fits.high in
     let are = c.in_ok-interpolate.ensures.coefficients fits.log high in
-    let shape = c.requires.shape c.interpolate.new.mat c.transform-changed.result
+    let shape = c.requires.shape c.interpolate.new.mat c.transform-changed.result c.in_ok-interpolate.ensures.whole
     (are.high ∙ stored, are.wide ∙ ap (λ (n : RowMajor g.row.F.Denot). n.width) c.into_row_major_matrix-mat.ensures) c.transform-changed.ensures in
     let same = c.in_ok-weigh_reversed_rows.ensures.rows fits.log (shape.0 ∙ fits.high) in
     record { fits = fits_lde_as _ _ _ c.args.added_bits _ _ fits (same.high ∙ shape.0) (same.wide ∙ shape.1) }
@@ -35,13 +36,14 @@ returns-clause-values g c =
     let answered = c.transform-changed.result in
     let stored = ap height c.into_row_major_matrix-mat.ensures in
     let are = c.in_ok-interpolate.ensures.coefficients log (stored ∙ fits.high) in
-    let shape = c.requires.shape told answered (are.high ∙ stored, are.wide ∙ ap (λ (n : RowMajor g.row.F.Denot). n.width) c.into_row_major_matrix-mat.ensures) c.transform-changed.ensures in
+    let shape = c.requires.shape told answered c.in_ok-interpolate.ensures.whole (are.high ∙ stored, are.wide ∙ ap (λ (n : RowMajor g.row.F.Denot). n.width) c.into_row_major_matrix-mat.ensures) c.transform-changed.ensures in
     let same = c.in_ok-weigh_reversed_rows.ensures.rows log (shape.0 ∙ fits.high) in
     let one = ap field.value c.ONE.ensures ∙ g.met.F.Field.one_law in
     let on_coset = shifted_by_one field.ring _ s (bit_reversal log (values_of field answered)) (bit_reversal log (values_of field c.weigh_reversed_rows.new.mat)) one same in
     IfOk-weaker c.extend.result _ _
     (λ out given.
-    extension_of_answered field g.F.TwoAdicField.generator _ m told answered out a log s fits.high (rw c.into_row_major_matrix-mat.ensures at are) c.transform-changed.ensures shape.0
+    extension_of_answered field g.F.TwoAdicField.generator _ m told answered out a log s fits.high (rw c.into_row_major_matrix-mat.ensures at are) c.in_ok-interpolate.ensures.whole c.weigh_reversed_rows.ensures.whole
+    c.transform-changed.ensures shape.0
     (coset_values field.ring (λ n. field.value (g.F.TwoAdicField.generator n)) (bit_reversal log (values_of field answered)) (bit_reversal log (values_of field c.weigh_reversed_rows.new.mat)) (log + a) s (values_of field out)
     on_coset given))
     (c.extend.ensures.values log (same.high ∙ shape.0 ∙ fits.high))
@@ -55,26 +57,45 @@ returns-clause-cost g c k e =
     let width = ap (λ (n : RowMajor g.row.F.Denot). n.width) c.into_row_major_matrix-mat.ensures in
     let w = (g.N.IntoRowMajorMatrix.stored c.args.mat).width in
     let are = c.in_ok-interpolate.ensures.coefficients k (stored ∙ e) in
-    let shape = c.requires.shape c.interpolate.new.mat c.transform-changed.result (are.high ∙ stored, are.wide ∙ width) c.transform-changed.ensures in
+    let shape = c.requires.shape c.interpolate.new.mat c.transform-changed.result c.in_ok-interpolate.ensures.whole (are.high ∙ stored, are.wide ∙ width) c.transform-changed.ensures in
     let same = c.in_ok-weigh_reversed_rows.ensures.rows k (shape.0 ∙ e) in
     let first : c.interpolate.new.products ≤ c.args.self.now + bound k w + 2 ^ k * w = rw (c.self.view_is, width) at (c.interpolate.ensures.cost k (stored ∙ e)) in
     let entries : height c.transform-changed.result * c.transform-changed.result.width ≡ 2 ^ k * w = ap₂ (λ (h v : ℕ). h * v) (shape.0 ∙ e) shape.1 in
     let last = c.extend.ensures.cost k (same.high ∙ shape.0 ∙ e) in
     let wide : bound (k + a) c.weigh_reversed_rows.new.mat.width ≡ bound (k + a) w = ap (bound (k + a)) (same.wide ∙ shape.1) in
-    within_extension c.extend.result bound k a w c.args.self.now c.extend.new.products
+    within_extension bound k a w c.args.self.now c.extend.new.products
     (weighed_counted _ _ _ _ _ _ _ (scaled_counted _ _ _ _ _ _ first c.weigh_reversed_rows.ensures.cost entries) last wide)
+
+pub returns-in_err-interpolate-clause-cost : goal.returns-in_err-interpolate-clause-cost
+returns-in_err-interpolate-clause-cost g c k e =
+    let width = ap (λ (n : RowMajor g.row.F.Denot). n.width) c.into_row_major_matrix-mat.ensures in
+    let w = (g.N.IntoRowMajorMatrix.stored c.args.mat).width in
+    let first = rw (c.self.view_is, width) at (c.interpolate.ensures.cost k (ap height c.into_row_major_matrix-mat.ensures ∙ e)) in
+    first_within_extension (λ n v. v * (n * 2 ^ n / 2)) k c.args.added_bits w c.args.self.now c.interpolate.new.products (scaled_counted _ _ _ _ _ _ first (le-add_right _ _) refl)
+
+pub returns-in_err-weigh_reversed_rows-clause-cost : goal.returns-in_err-weigh_reversed_rows-clause-cost
+returns-in_err-weigh_reversed_rows-clause-cost g c k e =
+    let bound = λ (n w : ℕ). w * (n * 2 ^ n / 2) in
+    let stored = ap height c.into_row_major_matrix-mat.ensures in
+    let width = ap (λ (n : RowMajor g.row.F.Denot). n.width) c.into_row_major_matrix-mat.ensures in
+    let w = (g.N.IntoRowMajorMatrix.stored c.args.mat).width in
+    let are = c.in_ok-interpolate.ensures.coefficients k (stored ∙ e) in
+    let shape = c.requires.shape c.interpolate.new.mat c.transform-changed.result c.in_ok-interpolate.ensures.whole (are.high ∙ stored, are.wide ∙ width) c.transform-changed.ensures in
+    let first : c.interpolate.new.products ≤ c.args.self.now + bound k w + 2 ^ k * w = rw (c.self.view_is, width) at (c.interpolate.ensures.cost k (stored ∙ e)) in
+    let entries : height c.transform-changed.result * c.transform-changed.result.width ≡ 2 ^ k * w = ap₂ (λ (h v : ℕ). h * v) (shape.0 ∙ e) shape.1 in
+    first_within_extension bound k c.args.added_bits w c.args.self.now c.weigh_reversed_rows.new.products (scaled_counted _ _ _ _ _ _ first c.weigh_reversed_rows.ensures.cost entries)
 
 pub transform-changed-requires : goal.transform-changed-requires
 transform-changed-requires g c =
     let stored = ap height c.into_row_major_matrix-mat.ensures in
     let are = c.in_ok-interpolate.ensures.coefficients c.requires.fits.log (stored ∙ c.requires.fits.high) in
-    c.requires.callable c.interpolate.new.mat (are.high ∙ stored, are.wide ∙ ap (λ (n : RowMajor g.row.F.Denot). n.width) c.into_row_major_matrix-mat.ensures)
+    c.requires.callable c.interpolate.new.mat c.in_ok-interpolate.ensures.whole (are.high ∙ stored, are.wide ∙ ap (λ (n : RowMajor g.row.F.Denot). n.width) c.into_row_major_matrix-mat.ensures)
 
 pub weigh_reversed_rows-requires : goal.weigh_reversed_rows-requires
 weigh_reversed_rows-requires g c =
     let stored = ap height c.into_row_major_matrix-mat.ensures in
     let are = c.in_ok-interpolate.ensures.coefficients c.requires.fits.log (stored ∙ c.requires.fits.high) in
-    let shape = c.requires.shape c.interpolate.new.mat c.transform-changed.result
+    let shape = c.requires.shape c.interpolate.new.mat c.transform-changed.result c.in_ok-interpolate.ensures.whole
     (are.high ∙ stored, are.wide ∙ ap (λ (n : RowMajor g.row.F.Denot). n.width) c.into_row_major_matrix-mat.ensures) c.transform-changed.ensures in
     record { power = (c.requires.fits.log, shape.0 ∙ c.requires.fits.high) }
 
@@ -84,18 +105,19 @@ overflow_add-log_h g c =
     (c.height.ensures.height ∙ ap height c.into_row_major_matrix-mat.ensures ∙ c.requires.fits.high) (output_log_small _ _ _ _ c.requires.fits) in
     omega (arith, small)
 
-pub transform-requires : goal.transform-requires
-transform-requires g c =
-    c.requires.callable c.into_row_major_matrix-mat.result (ap height c.into_row_major_matrix-mat.ensures, ap (λ (n : RowMajor g.row.F.Denot). n.width) c.into_row_major_matrix-mat.ensures)
+pub transform-row-requires : goal.transform-row-requires
+transform-row-requires g c =
+    c.requires.callable c.into_row_major_matrix-mat.result c.height.ensures.whole (ap height c.into_row_major_matrix-mat.ensures, ap (λ (n : RowMajor g.row.F.Denot). n.width) c.into_row_major_matrix-mat.ensures)
 
 pub returns-then-log_h-added_bits-eq0-clause-values : goal.returns-then-log_h-added_bits-eq0-clause-values
 returns-then-log_h-added_bits-eq0-clause-values g c =
     let none : c.log2_strict_usize-log_h.result ≡ 0 = omega (arith, c.if-log_h-added_bits-eq0.true) in
     let m = g.N.IntoRowMajorMatrix.stored c.args.mat in
     let one : height m ≡ 1 = sym (ap height c.into_row_major_matrix-mat.ensures) ∙ sym c.height.ensures.height ∙ c.log2_strict_usize-log_h.ensures.power ∙ ap (λ n. 2 ^ n) none in
-    let called = rw c.into_row_major_matrix-mat.ensures at c.transform.ensures in
-    extension_of_told_row g.F.Field g.F.TwoAdicField.generator _ m c.transform.result c.args.added_bits (g.F.Field.value c.args.shift) one (omega (arith, c.if-log_h-added_bits-eq0.true))
-    called (c.requires.shape m c.transform.result (refl, refl) called).0
+    let called = rw c.into_row_major_matrix-mat.ensures at c.transform-row.ensures in
+    let whole = rw c.into_row_major_matrix-mat.ensures at c.height.ensures.whole in
+    extension_of_told_row g.F.Field g.F.TwoAdicField.generator _ m c.transform-row.result c.args.added_bits (g.F.Field.value c.args.shift) one (omega (arith, c.if-log_h-added_bits-eq0.true))
+    whole c.width-width.ensures.whole called (c.requires.shape m c.transform-row.result whole (refl, refl) called).0
 
 pub returns-in_err-interpolate-clause-one_row : goal.returns-in_err-interpolate-clause-one_row
 returns-in_err-interpolate-clause-one_row g c one none =

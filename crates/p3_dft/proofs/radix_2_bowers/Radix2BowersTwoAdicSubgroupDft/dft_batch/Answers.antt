@@ -45,3 +45,10 @@ returns-clause-cost g c k high =
     let rows = c.reverse_rows.ensures.rows k tall g.F.Field.ZERO in
     let width : c.reverse_rows.new.mat.width ≡ (g.N.IntoRowMajorMatrix.stored c.args.mat).width = rows.wide ∙ ap (λ (m : RowMajor g.row.F.Denot). m.width) c.into_row_major_matrix-mat.ensures in
     rw (← c.self.view_is, ← width) (c.evaluate.ensures.cost k (rows.high ∙ tall))
+
+pub returns-in_err-evaluate-clause-cost : goal.returns-in_err-evaluate-clause-cost
+returns-in_err-evaluate-clause-cost g c k high =
+    let tall : height c.into_row_major_matrix-mat.result ≡ 2 ^ k = ap height c.into_row_major_matrix-mat.ensures ∙ high in
+    let rows = c.reverse_rows.ensures.rows k tall g.F.Field.ZERO in
+    let width : c.reverse_rows.new.mat.width ≡ (g.N.IntoRowMajorMatrix.stored c.args.mat).width = rows.wide ∙ ap (λ (m : RowMajor g.row.F.Denot). m.width) c.into_row_major_matrix-mat.ensures in
+    rw (← c.self.view_is, ← width) (c.evaluate.ensures.cost k (rows.high ∙ tall))

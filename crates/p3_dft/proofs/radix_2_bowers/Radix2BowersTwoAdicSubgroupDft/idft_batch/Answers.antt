@@ -53,3 +53,8 @@ pub returns-clause-cost : goal.returns-clause-cost
 returns-clause-cost g c k high =
     let width : c.into_row_major_matrix-mat.result.width ≡ (g.N.IntoRowMajorMatrix.stored c.args.mat).width = ap (λ (m : RowMajor g.row.F.Denot). m.width) c.into_row_major_matrix-mat.ensures in
     rw (← c.self.view_is, ← width) (c.interpolate.ensures.cost k (ap height c.into_row_major_matrix-mat.ensures ∙ high))
+
+pub returns-in_err-interpolate-clause-cost : goal.returns-in_err-interpolate-clause-cost
+returns-in_err-interpolate-clause-cost g c k high =
+    let width : c.into_row_major_matrix-mat.result.width ≡ (g.N.IntoRowMajorMatrix.stored c.args.mat).width = ap (λ (m : RowMajor g.row.F.Denot). m.width) c.into_row_major_matrix-mat.ensures in
+    rw (← c.self.view_is, ← width) (c.interpolate.ensures.cost k (ap height c.into_row_major_matrix-mat.ensures ∙ high))

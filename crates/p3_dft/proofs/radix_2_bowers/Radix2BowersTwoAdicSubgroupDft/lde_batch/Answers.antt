@@ -4,7 +4,7 @@ use Rattle.std.proofs.lemmas.Result.{IfOk-weaker}
 use Rattle.p3_matrix.specs.BitOrder.{bit_reversal}
 use Rattle.p3_matrix.specs.RowMajor.{RowMajor, height}
 use Rattle.p3_dft.specs.Transforms.{values_of}
-use Rattle.p3_dft.proofs.BitReversed.Coefficients.{extension_of_coefficients, extension_of_row, within_extension}
+use Rattle.p3_dft.proofs.BitReversed.Coefficients.{extension_of_coefficients, extension_of_row, first_within_extension, within_extension}
 use Rattle.p3_dft.proofs.Calls.Counts.{scaled_counted, weighed_counted}
 use Rattle.p3_dft.proofs.Calls.Shapes.{fits_lde_as, input_fits, log_within, more_points, output_log_small}
 use Rattle.p3_dft.proofs.radix_2_bowers.Radix2BowersTwoAdicSubgroupDft.lde_batch.Goals as goal
@@ -34,8 +34,15 @@ returns-clause-cost g c k e =
     let wide : c.interpolate.new.mat.width ≡ (g.N.IntoRowMajorMatrix.stored c.args.mat).width = are.wide ∙ width in
     let first = rw (c.self.view_is, width) at (c.interpolate.ensures.cost k tall) in
     let second = rw wide at (c.extend.ensures.cost k (are.high ∙ tall)) in
-    within_extension c.extend.result (λ n w. w * (n * 2 ^ n / 2)) k c.args.added_bits (g.N.IntoRowMajorMatrix.stored c.args.mat).width c.args.self.now c.extend.new.products
+    within_extension (λ n w. w * (n * 2 ^ n / 2)) k c.args.added_bits (g.N.IntoRowMajorMatrix.stored c.args.mat).width c.args.self.now c.extend.new.products
     (weighed_counted _ _ _ _ _ _ _ (scaled_counted _ _ _ _ _ _ first (le-add_right _ _) refl) second refl)
+
+pub returns-in_err-interpolate-clause-cost : goal.returns-in_err-interpolate-clause-cost
+returns-in_err-interpolate-clause-cost g c k e =
+    let width = ap (λ (m : RowMajor g.row.F.Denot). m.width) c.into_row_major_matrix-mat.ensures in
+    let first = rw (c.self.view_is, width) at (c.interpolate.ensures.cost k (ap height c.into_row_major_matrix-mat.ensures ∙ e)) in
+    first_within_extension (λ n w. w * (n * 2 ^ n / 2)) k c.args.added_bits (g.N.IntoRowMajorMatrix.stored c.args.mat).width c.args.self.now c.interpolate.new.products
+    (scaled_counted _ _ _ _ _ _ first (le-add_right _ _) refl)
 
 pub extend-requires : goal.extend-requires
 extend-requires g c =

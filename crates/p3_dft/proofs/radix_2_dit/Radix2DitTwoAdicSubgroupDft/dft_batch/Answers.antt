@@ -1,4 +1,4 @@
-use Rattle.std.proofs.Common.{false, ◌≡◌, ◌⊎◌, inl, ℕ, ◌≤◌, List, sym, ap, ap₂, ◌∙◌, subst, arith}
+use Rattle.std.proofs.Common.{false, ◌≡◌, ◌⊎◌, inl, ℕ, ◌^◌, ◌≤◌, List, sym, ap, ap₂, ◌∙◌, subst, arith}
 use Rattle.std.specs.List.{range_with_len}
 use Rattle.p3_matrix.specs.RowMajor.{RowMajor, height}
 use Rattle.p3_matrix.proofs.TwoPowers.{log_same}
@@ -6,20 +6,15 @@ use Rattle.p3_networks.specs.Twiddles.{root_powers}
 use Rattle.p3_dft.specs.Engines.{Tabled, IsPrepared}
 use Rattle.p3_networks.proofs.Tables.MoreTwiddles.{fewer_layers}
 use Rattle.p3_dft.proofs.Calls.PreparedHeights.{none_above, not_ok, prepared_before, until_prepared, later_with_heights, prepared_at}
+use Rattle.p3_dft.proofs.Calls.EngineSteps.{after_error, later_same}
 use Rattle.p3_dft.proofs.BitReversed.Rows.{transform_of_row}
-use Rattle.std.proofs.Math.Nat.{le_of_eq, le_refl}
+use Rattle.std.proofs.Math.Nat.{le-add_right, le_of_eq, le_refl}
 use Rattle.p3_dft.proofs.radix_2_dit.Radix2DitTwoAdicSubgroupDft.dft_batch.Goals as goal
 
 pub returns-then-height-eq1-clause-values : goal.returns-then-height-eq1-clause-values
 returns-then-height-eq1-clause-values g c =
     rw (← c.into_row_major_matrix-mat.ensures)
     (transform_of_row g.F.Field g.F.TwoAdicField.generator c.into_row_major_matrix-mat.result (sym c.height-height.ensures.height ∙ c.if-height-eq1.true))
-
-pub returns-then-height-eq1-clause-serves : goal.returns-then-height-eq1-clause-serves
-returns-then-height-eq1-clause-serves g c k high =
-    let tall : c.height-height.result ≡ height (g.N.IntoRowMajorMatrix.stored c.args.mat) = c.height-height.ensures.height ∙ ap height c.into_row_major_matrix-mat.ensures in
-    let none : k ≡ 0 = log_same k 0 (sym high ∙ sym tall ∙ c.if-height-eq1.true) in
-    inl none
 
 pub make-requires-clause-within : goal.make-requires-clause-within
 make-requires-clause-within g c =
@@ -53,13 +48,6 @@ returns-clause-values g c =
     c.new-mat.ensures ∙ ap₂ (λ (w : ℕ) (xs : List g.row.F.Denot). let r : RowMajor g.row.F.Denot = record { width = w; values = xs } in r) c.width-width.ensures.width c.into_values-values.ensures.values in
     rw (← c.into_row_major_matrix-mat.ensures, ← same) c.dit_matrix.ensures.values
 
-pub returns-clause-serves : goal.returns-clause-serves
-returns-clause-serves g c k high =
-    let tall : c.height-height.result ≡ height (g.N.IntoRowMajorMatrix.stored c.args.mat) = c.height-height.ensures.height ∙ ap height c.into_row_major_matrix-mat.ensures in
-    let log = c.log2_strict_usize-log_h.result in
-    let same : log ≡ k = log_same log k (sym c.log2_strict_usize-log_h.ensures.power ∙ tall ∙ high) in
-    prepared_at _ _ k same c.in_ok-make.ensures.made
-
 pub returns-in_err-make-clause-only : goal.returns-in_err-make-clause-only
 returns-in_err-make-clause-only g c k high n now =
     inl (subst (λ (e : Tabled). IsPrepared e n) c.self.view_is (subst (λ (t : ℕ). IsPrepared (record { prepared = range_with_len 1 t; products = c.self.inside.products }) n) c.in_err-make.ensures.refused now))
@@ -72,21 +60,33 @@ returns-clause-only g c k high n now =
     none_above n log k (le_of_eq same)
     (subst (λ (e : Tabled). IsPrepared e n ⊎ (n ≤ log)) c.self.view_is (prepared_before c.self.inside.twiddles c.make.new.self log n c.make.ensures.only now))
 
-pub returns-clause-later : goal.returns-clause-later
-returns-clause-later g c = later_with_heights c.args.self.now _ _ _ _ c.self.view_is c.make.ensures.keeps c.dit_matrix.ensures.grows
+pub returns-clause-one_row : goal.returns-clause-one_row
+returns-clause-one_row g c one = absurd (c.if-height-eq1.false (c.height-height.ensures.height ∙ ap height c.into_row_major_matrix-mat.ensures ∙ one))
 
-pub returns-clause-cost : goal.returns-clause-cost
-returns-clause-cost g c k high =
+pub returns-then-height-eq1-clause-engine : goal.returns-then-height-eq1-clause-engine
+returns-then-height-eq1-clause-engine g c =
+    let tall : c.height-height.result ≡ height (g.N.IntoRowMajorMatrix.stored c.args.mat) = c.height-height.ensures.height ∙ ap height c.into_row_major_matrix-mat.ensures in
+    record {
+      later = later_same _ _;
+      ready = λ _ k high. inl (log_same k 0 (sym high ∙ sym tall ∙ c.if-height-eq1.true));
+      cost = λ k high. le-add_right _ _;
+    }
+
+pub returns-clause-engine : goal.returns-clause-engine
+returns-clause-engine g c =
     let tall : c.height-height.result ≡ height (g.N.IntoRowMajorMatrix.stored c.args.mat) = c.height-height.ensures.height ∙ ap height c.into_row_major_matrix-mat.ensures in
     let log = c.log2_strict_usize-log_h.result in
-    let same : log ≡ k = log_same log k (sym c.log2_strict_usize-log_h.ensures.power ∙ tall ∙ high) in
+    let same = λ (k : ℕ) (high : height (g.N.IntoRowMajorMatrix.stored c.args.mat) ≡ 2 ^ k). log_same log k (sym c.log2_strict_usize-log_h.ensures.power ∙ tall ∙ high) in
     let products : c.self.inside.products ≡ c.args.self.now.products = ap (λ e. e.products) c.self.view_is in
     let width : c.new-mat.result.width ≡ (g.N.IntoRowMajorMatrix.stored c.args.mat).width =
     ap (λ (m : RowMajor g.row.F.Denot). m.width) c.new-mat.ensures ∙ c.width-width.ensures.width ∙ ap (λ (m : RowMajor g.row.F.Denot). m.width) c.into_row_major_matrix-mat.ensures in
-    rw (← products, ← width, ← same) c.dit_matrix.ensures.count
+    record {
+      later = later_with_heights _ _ _ c.args.self.now _ _ _ _ c.self.view_is c.make.ensures.keeps c.dit_matrix.ensures.grows;
+      ready = λ _ k high. prepared_at _ _ k (same k high) c.in_ok-make.ensures.made;
+      cost = λ k high. let made = rw (products, width, same k high) at c.dit_matrix.ensures.count in omega (arith, made);
+    }
 
-pub returns-in_err-make-clause-later : goal.returns-in_err-make-clause-later
-returns-in_err-make-clause-later g c = later_with_heights c.args.self.now _ _ _ _ c.self.view_is c.make.ensures.keeps (le_refl c.self.inside.products)
-
-pub returns-clause-one_row : goal.returns-clause-one_row
-returns-clause-one_row g c one = absurd (c.if-height-eq1.false (c.height-height.ensures.height ∙ ap height c.into_row_major_matrix-mat.ensures ∙ one))
+pub returns-in_err-make-clause-engine : goal.returns-in_err-make-clause-engine
+returns-in_err-make-clause-engine g c =
+    after_error _ _ _ _ c.from_residual.ensures.0 (later_with_heights _ _ _ c.args.self.now _ _ _ _ c.self.view_is c.make.ensures.keeps (le_refl c.self.inside.products))
+    (ap (λ e. e.products) c.self.view_is)

@@ -76,7 +76,7 @@ pub returns-in_err-place-clause-succeeds : goal.returns-in_err-place-clause-succ
 returns-in_err-place-clause-succeeds g c k high heights ready = returns-in_err-place-clause-ready g c k high ready
 
 pub returns-in_err-place-clause-later : goal.returns-in_err-place-clause-later
-returns-in_err-place-clause-later g c = later_with_tables g.F.Field c.args.self.now _ _ _ _ _ _ c.self.view_is (omega arith) (coset_stays g.F.Field _ _ _ c.make.ensures.only) (omega arith)
+returns-in_err-place-clause-later g c = later_with_tables g.F.Field _ _ _ c.args.self.now _ _ _ _ _ _ c.self.view_is (omega arith) (coset_stays g.F.Field _ _ _ c.make.ensures.only) (omega arith)
 
 pub evaluate_on_coset-requires-clause-table : goal.evaluate_on_coset-requires-clause-table
 evaluate_on_coset-requires-clause-table g c =
@@ -136,7 +136,7 @@ returns-clause-cosets g c k high =
     subst (made c.args.self.now.cosets) same (subst (λ xs. made xs c.log2_strict_usize-log_h.result) (ap (λ (e : CosetTabled g.row.F.Denot). e.cosets) c.self.view_is) c.make.ensures.only)
 
 pub returns-clause-later : goal.returns-clause-later
-returns-clause-later g c = later_with_tables g.F.Field c.args.self.now _ _ _ _ _ _ c.self.view_is (omega arith) (coset_stays g.F.Field _ _ _ c.make.ensures.only) c.evaluate_on_coset.ensures.grows
+returns-clause-later g c = later_with_tables g.F.Field _ _ _ c.args.self.now _ _ _ _ _ _ c.self.view_is (omega arith) (coset_stays g.F.Field _ _ _ c.make.ensures.only) c.evaluate_on_coset.ensures.grows
 
 pub returns-clause-pairs : goal.returns-clause-pairs
 returns-clause-pairs g c k high =

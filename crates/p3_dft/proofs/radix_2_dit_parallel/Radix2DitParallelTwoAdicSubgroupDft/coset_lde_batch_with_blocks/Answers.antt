@@ -21,7 +21,7 @@ slots_counted x y p w before middle after first second =
     omega (arith, first, second, spread)
 
 pub returns-in-Err-clause-later : goal.returns-in-Err-clause-later
-returns-in-Err-clause-later g c = later_with_tables g.F.Field c.args.self.now _ _ _ _ _ _ c.self.view_is c.coefficients_with_room-room.ensures.keeps c.coefficients_with_room-room.ensures.keeps_cosets c.coefficients_with_room-room.ensures.grows
+returns-in-Err-clause-later g c = later_with_tables g.F.Field _ _ _ c.args.self.now _ _ _ _ _ _ c.self.view_is c.coefficients_with_room-room.ensures.keeps c.coefficients_with_room-room.ensures.keeps_cosets c.coefficients_with_room-room.ensures.grows
 
 pub extend-extended-requires-clause-within : goal.extend-extended-requires-clause-within
 extend-extended-requires-clause-within g c =
@@ -43,8 +43,8 @@ extend-extended-requires-clause-height g c =
     let answer = c.in-Ok.ensures.answer in
     let high : height m ≡ 2 ^ log = sym c.height.ensures.height ∙ c.log2_strict_usize-log_h.ensures.power in
     let are = answer.are_coefficients log high in
-    let shape : HasShapeOf answer.answered m = rw c.into_row_major_matrix-mat.ensures (c.requires.shape answer.told answer.answered (rw (← c.into_row_major_matrix-mat.ensures) (are.high, are.wide)) answer.called) in
-    (padded_shape g.F.Field.ZERO m answer.answered c.in-Ok.mat c.args.added_bits log answer.whole shape high answer.over_zeros).0
+    let shape : HasShapeOf answer.answered m = rw c.into_row_major_matrix-mat.ensures (c.requires.shape answer.told answer.answered answer.told_whole (rw (← c.into_row_major_matrix-mat.ensures) (are.high, are.wide)) answer.called) in
+    (padded_shape g.F.Field.ZERO m answer.answered c.in-Ok.mat c.args.added_bits log answer.answered_whole shape high answer.over_zeros).0
 
 pub bit_reverse_rows-requires : goal.bit_reverse_rows-requires
 bit_reverse_rows-requires g c =
@@ -53,9 +53,9 @@ bit_reverse_rows-requires g c =
     let answer = c.in-Ok.ensures.answer in
     let high : height m ≡ 2 ^ log = sym c.height.ensures.height ∙ c.log2_strict_usize-log_h.ensures.power in
     let are = answer.are_coefficients log high in
-    let shape : HasShapeOf answer.answered m = rw c.into_row_major_matrix-mat.ensures (c.requires.shape answer.told answer.answered (rw (← c.into_row_major_matrix-mat.ensures) (are.high, are.wide)) answer.called) in (
+    let shape : HasShapeOf answer.answered m = rw c.into_row_major_matrix-mat.ensures (c.requires.shape answer.told answer.answered answer.told_whole (rw (← c.into_row_major_matrix-mat.ensures) (are.high, are.wide)) answer.called) in (
       log + c.args.added_bits,
-      c.extend-extended.ensures.shape.0 ∙ (padded_shape g.F.Field.ZERO m answer.answered c.in-Ok.mat c.args.added_bits log answer.whole shape high answer.over_zeros).0,
+      c.extend-extended.ensures.shape.0 ∙ (padded_shape g.F.Field.ZERO m answer.answered c.in-Ok.mat c.args.added_bits log answer.answered_whole shape high answer.over_zeros).0,
     )
 
 pub returns-clause-values : goal.returns-clause-values
@@ -70,17 +70,17 @@ returns-clause-values g c =
     let answer = c.in-Ok.ensures.answer in
     let high : height m ≡ 2 ^ log = sym c.height.ensures.height ∙ c.log2_strict_usize-log_h.ensures.power in
     let are = answer.are_coefficients log high in
-    let shape : HasShapeOf answer.answered m = rw c.into_row_major_matrix-mat.ensures (c.requires.shape answer.told answer.answered (rw (← c.into_row_major_matrix-mat.ensures) (are.high, are.wide)) answer.called) in
-    let tall = c.extend-extended.ensures.shape.0 ∙ (padded_shape field.ZERO m answer.answered grown a log answer.whole shape high answer.over_zeros).0 in
-    let whole : IsRowMajor grown = rw answer.over_zeros (padded_whole field.ZERO answer.answered answer.whole a) in
+    let shape : HasShapeOf answer.answered m = rw c.into_row_major_matrix-mat.ensures (c.requires.shape answer.told answer.answered answer.told_whole (rw (← c.into_row_major_matrix-mat.ensures) (are.high, are.wide)) answer.called) in
+    let tall = c.extend-extended.ensures.shape.0 ∙ (padded_shape field.ZERO m answer.answered grown a log answer.answered_whole shape high answer.over_zeros).0 in
+    let whole : IsRowMajor grown = rw answer.over_zeros (padded_whole field.ZERO answer.answered answer.answered_whole a) in
     let is_whole : IsRowMajor out = record { wide = omega (arith, whole.wide, c.extend-extended.ensures.shape.1); full = ap₂ (λ h w. h * w) c.extend-extended.ensures.shape.0 c.extend-extended.ensures.shape.1 ∙ whole.full ∙ sym c.extend-extended.ensures.size } in
     rw (← c.into_row_major_matrix-mat.ensures, c.bit_reverse_rows.ensures.matrix)
-    (extension_of_answered field g.F.TwoAdicField.generator _ m answer.told answer.answered _ a log s high are answer.called shape.0
+    (extension_of_answered field g.F.TwoAdicField.generator _ m answer.told answer.answered _ a log s high are answer.told_whole answer.answered_whole answer.called shape.0
     (values_seen field g.F.TwoAdicField.generator (bit_reversal log (values_of field answer.answered)) out s (log + a) c.bit_reverse_rows.result.bits is_whole tall c.bit_reverse_rows.ensures.height
-    (c.in_default.ensures.values answer.answered answer.whole (shape.0 ∙ high) answer.over_zeros)))
+    (c.in_default.ensures.values answer.answered answer.answered_whole (shape.0 ∙ high) answer.over_zeros)))
 
 pub returns-clause-later : goal.returns-clause-later
-returns-clause-later g c = later_with_tables g.F.Field c.args.self.now _ _ _ _ _ _ c.self.view_is c.coefficients_with_room-room.ensures.keeps c.coefficients_with_room-room.ensures.keeps_cosets (omega (arith, c.coefficients_with_room-room.ensures.grows, c.extend-extended.ensures.grows))
+returns-clause-later g c = later_with_tables g.F.Field _ _ _ c.args.self.now _ _ _ _ _ _ c.self.view_is c.coefficients_with_room-room.ensures.keeps c.coefficients_with_room-room.ensures.keeps_cosets (omega (arith, c.coefficients_with_room-room.ensures.grows, c.extend-extended.ensures.grows))
 
 pub returns-clause-cost : goal.returns-clause-cost
 returns-clause-cost g c k e =
@@ -94,7 +94,7 @@ returns-clause-cost g c k e =
     let products : c.self.inside.products ≡ c.args.self.now.roots.products = ap (λ (e : CosetTabled g.row.F.Denot). e.roots.products) c.self.view_is in
     let answer = c.in-Ok.ensures.answer in
     let are = answer.are_coefficients k (stored ∙ e) in
-    let shape = c.requires.shape answer.told answer.answered (rw (← c.into_row_major_matrix-mat.ensures) (are.high, are.wide)) answer.called in
+    let shape = c.requires.shape answer.told answer.answered answer.told_whole (rw (← c.into_row_major_matrix-mat.ensures) (are.high, are.wide)) answer.called in
     let grown : c.in-Ok.mat.width ≡ w = ap (λ (n : RowMajor g.row.F.Denot). n.width) answer.over_zeros ∙ shape.1 in
     let x = k * 2 ^ k / 2 in
     let first : c.coefficients_with_room-room.new.products ≤ c.args.self.now.roots.products + w * x + 2 ^ k * w =
@@ -134,12 +134,12 @@ returns-in-Err-extended-clause-refused g c k e =
     let answer = c.in-Ok.ensures.answer in
     let high : height m ≡ 2 ^ log = sym c.height.ensures.height ∙ c.log2_strict_usize-log_h.ensures.power in
     let are = answer.are_coefficients log high in
-    let shape : HasShapeOf answer.answered m = rw c.into_row_major_matrix-mat.ensures (c.requires.shape answer.told answer.answered (rw (← c.into_row_major_matrix-mat.ensures) (are.high, are.wide)) answer.called) in
+    let shape : HasShapeOf answer.answered m = rw c.into_row_major_matrix-mat.ensures (c.requires.shape answer.told answer.answered answer.told_whole (rw (← c.into_row_major_matrix-mat.ensures) (are.high, are.wide)) answer.called) in
     let same : log ≡ k = log_same log k (sym c.log2_strict_usize-log_h.ensures.power ∙ c.height.ensures.height ∙ stored ∙ e) in
     let asked : c.block_height-block_height.result ≡ 2 ^ (k - (k + 1) / 2) = c.block_height-block_height.ensures ∙ ap (λ n. 2 ^ (n - (n + 1) / 2)) same in
-    let (out, accepted, refused, values, blocks, stopped) = c.in-Err-extended.ensures.refused answer.answered answer.whole (shape.0 ∙ high) answer.over_zeros in (
+    let (out, accepted, refused, values, blocks, stopped) = c.in-Err-extended.ensures.refused answer.answered answer.answered_whole (shape.0 ∙ high) answer.over_zeros in (
       out,
-      rw (← c.into_row_major_matrix-mat.ensures) (values_of_answered field g.F.TwoAdicField.generator _ m answer.told answer.answered a log s out high are answer.called shape.0 values),
+      rw (← c.into_row_major_matrix-mat.ensures) (values_of_answered field g.F.TwoAdicField.generator _ m answer.told answer.answered a log s out high are answer.told_whole answer.answered_whole answer.called shape.0 values),
       record {
         first = c.make_consumer-consumer.result;
         made = subst (λ b. g.M.FnOnce.post c.args.make_consumer (b, tt) c.make_consumer-consumer.result) asked c.make_consumer-consumer.ensures;
@@ -151,7 +151,7 @@ returns-in-Err-extended-clause-refused g c k e =
     )
 
 pub returns-in-Err-extended-clause-later : goal.returns-in-Err-extended-clause-later
-returns-in-Err-extended-clause-later g c = later_with_tables g.F.Field c.args.self.now _ _ _ _ _ _ c.self.view_is c.coefficients_with_room-room.ensures.keeps c.coefficients_with_room-room.ensures.keeps_cosets (omega (arith, c.coefficients_with_room-room.ensures.grows, c.extend-extended.ensures.grows))
+returns-in-Err-extended-clause-later g c = later_with_tables g.F.Field _ _ _ c.args.self.now _ _ _ _ _ _ c.self.view_is c.coefficients_with_room-room.ensures.keeps c.coefficients_with_room-room.ensures.keeps_cosets (omega (arith, c.coefficients_with_room-room.ensures.grows, c.extend-extended.ensures.grows))
 
 pub returns-in-Err-extended-clause-cost : goal.returns-in-Err-extended-clause-cost
 returns-in-Err-extended-clause-cost g c k e =
@@ -165,7 +165,7 @@ returns-in-Err-extended-clause-cost g c k e =
     let products : c.self.inside.products ≡ c.args.self.now.roots.products = ap (λ (e : CosetTabled g.row.F.Denot). e.roots.products) c.self.view_is in
     let answer = c.in-Ok.ensures.answer in
     let are = answer.are_coefficients k (stored ∙ e) in
-    let shape = c.requires.shape answer.told answer.answered (rw (← c.into_row_major_matrix-mat.ensures) (are.high, are.wide)) answer.called in
+    let shape = c.requires.shape answer.told answer.answered answer.told_whole (rw (← c.into_row_major_matrix-mat.ensures) (are.high, are.wide)) answer.called in
     let grown : c.in-Ok.mat.width ≡ w = ap (λ (n : RowMajor g.row.F.Denot). n.width) answer.over_zeros ∙ shape.1 in
     let x = k * 2 ^ k / 2 in
     let first : c.coefficients_with_room-room.new.products ≤ c.args.self.now.roots.products + w * x + 2 ^ k * w =
@@ -276,7 +276,25 @@ returns-in-Err-extended-clause-tables g c k e = c.in-Ok.ensures.cosets k (ap hei
 pub extend-extended-requires-clause-whole : goal.extend-extended-requires-clause-whole
 extend-extended-requires-clause-whole g c =
     let answer = c.in-Ok.ensures.answer in
-    rw answer.over_zeros (padded_whole g.F.Field.ZERO answer.answered answer.whole c.args.added_bits)
+    rw answer.over_zeros (padded_whole g.F.Field.ZERO answer.answered answer.answered_whole c.args.added_bits)
 
 pub extend-extended-requires-clause-tables : goal.extend-extended-requires-clause-tables
 extend-extended-requires-clause-tables g c = c.in-Ok.ensures.cosets c.log2_strict_usize-log_h.result (sym c.height.ensures.height ∙ c.log2_strict_usize-log_h.ensures.power)
+
+-- an inverse with a product for each entry is within the bound of an extension
+first_counted : (x y p w before after : ℕ) → after ≤ before + w * x + y * w → after ≤ before + w * (x * (1 + p) + y)
+first_counted x y p w before after made =
+    let spread : w * x + y * w + p * (w * x) ≡ w * (x * (1 + p) + y) = omega arith in
+    omega (arith, made, spread)
+
+pub returns-in-Err-clause-cost : goal.returns-in-Err-clause-cost
+returns-in-Err-clause-cost g c k e =
+    let m = c.into_row_major_matrix-mat.result in
+    let w = (g.N.IntoRowMajorMatrix.stored c.args.mat).width in
+    let width = ap (λ (n : RowMajor g.row.F.Denot). n.width) c.into_row_major_matrix-mat.ensures in
+    let products : c.self.inside.products ≡ c.args.self.now.roots.products = ap (λ (e : CosetTabled g.row.F.Denot). e.roots.products) c.self.view_is in
+    let x = k * 2 ^ k / 2 in
+    first_counted x (2 ^ k) (2 ^ c.args.added_bits) w _ _
+    (subst (λ (v : ℕ). c.coefficients_with_room-room.new.products ≤ c.args.self.now.roots.products + v * x + 2 ^ k * v) width
+    (subst (λ (b : ℕ). c.coefficients_with_room-room.new.products ≤ b + m.width * x + 2 ^ k * m.width) products
+    (c.coefficients_with_room-room.ensures.cost k (ap height c.into_row_major_matrix-mat.ensures ∙ e))))

@@ -78,10 +78,10 @@ returns-clause-only g c k high n now =
     (prepared_before c.self.inside.tables c.make.new.self _ n c.make.ensures.only now))
 
 pub returns-in_err-make-clause-later : goal.returns-in_err-make-clause-later
-returns-in_err-make-clause-later g c = later_with_tables g.F.Field c.args.self.now _ _ _ _ _ _ c.self.view_is c.make.ensures.keeps (λ k s has. has) (omega arith)
+returns-in_err-make-clause-later g c = later_with_tables g.F.Field _ _ _ c.args.self.now _ _ _ _ _ _ c.self.view_is c.make.ensures.keeps (λ k s has. has) (omega arith)
 
 pub returns-clause-later : goal.returns-clause-later
-returns-clause-later g c = later_with_tables g.F.Field c.args.self.now _ _ _ _ _ _ c.self.view_is c.make.ensures.keeps (λ k s has. has) c.evaluate.ensures.grows
+returns-clause-later g c = later_with_tables g.F.Field _ _ _ c.args.self.now _ _ _ _ _ _ c.self.view_is c.make.ensures.keeps (λ k s has. has) c.evaluate.ensures.grows
 
 pub returns-clause-cost : goal.returns-clause-cost
 returns-clause-cost g c k high =

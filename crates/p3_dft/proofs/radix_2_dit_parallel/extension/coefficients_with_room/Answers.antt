@@ -7,6 +7,7 @@ use Rattle.p3_networks.specs.Cosets.{AreCoefficients}
 use Rattle.p3_networks.specs.Twiddles.{AddsCosets, HasCosets}
 use Rattle.p3_dft.specs.Transforms.{values_of}
 use Rattle.p3_dft.proofs.Calls.Shapes.{output_log_small, output_size}
+use Rattle.p3_dft.proofs.Calls.Transforms.{whole_kept}
 use Rattle.p3_dft.proofs.radix_2_dit_parallel.extension.coefficients_with_room.Goals as goal
 
 pub make-requires-clause-within : goal.make-requires-clause-within
@@ -24,7 +25,8 @@ pad_rows-requires-clause-bits g c = let small = output_log_small _ _ _ _ c.requi
 
 pub pad_rows-requires-clause-size : goal.pad_rows-requires-clause-size
 pad_rows-requires-clause-size g c =
-    let shape = c.requires.shape c.interpolate.new.mat c.transform-changed.result c.interpolate.ensures.shape c.transform-changed.ensures in
+    let shape = c.requires.shape c.interpolate.new.mat c.transform-changed.result
+    (whole_kept c.args.mat c.interpolate.new.mat c.height.ensures.whole c.interpolate.ensures.shape c.interpolate.ensures.size) c.interpolate.ensures.shape c.transform-changed.ensures in
     rw (shape.0, shape.1) (output_size _ _ _ _ c.requires.fits)
 
 pub returns-in_err-grown-clause-only : goal.returns-in_err-grown-clause-only
@@ -70,9 +72,10 @@ returns-clause-answer g c =
           let same : c.log2_strict_usize-log_h.result ≡ k = log_same _ k (sym c.log2_strict_usize-log_h.ensures.power ∙ c.height.ensures.height ∙ high) in
           subst (λ (n : ℕ). AreCoefficients field.ring (λ i. field.value (g.F.TwoAdicField.generator i)) (values_of field c.args.mat) n field.ring.one (bit_reversal n (values_of field told))) same
           c.interpolate.ensures.coefficients;
+      told_whole = whole_kept c.args.mat told c.height.ensures.whole c.interpolate.ensures.shape c.interpolate.ensures.size;
       answered = c.transform-changed.result;
+      answered_whole = c.pad_rows.ensures.whole;
       called = c.transform-changed.ensures;
-      whole = c.pad_rows.ensures.whole;
       over_zeros = c.in_ok-grown.ensures.padded;
     }
 
@@ -127,3 +130,7 @@ returns-clause-once g c k high all =
     let field = g.F.Field in
     let same : k ≡ c.log2_strict_usize-log_h.result = log_same k _ (sym high ∙ sym c.height.ensures.height ∙ c.log2_strict_usize-log_h.ensures.power) in
     c.make_all.ensures.once (subst (λ (n : ℕ). HasCosets field g.F.TwoAdicField.generator c.args.cosets.now n c.args.added_bits (field.value c.args.shift)) same all)
+
+pub transform-changed-requires : goal.transform-changed-requires
+transform-changed-requires g c =
+    c.requires.callable c.interpolate.new.mat (whole_kept c.args.mat c.interpolate.new.mat c.height.ensures.whole c.interpolate.ensures.shape c.interpolate.ensures.size) c.interpolate.ensures.shape

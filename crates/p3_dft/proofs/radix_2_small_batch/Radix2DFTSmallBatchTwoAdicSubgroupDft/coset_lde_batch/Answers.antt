@@ -1,10 +1,10 @@
-use Rattle.std.proofs.Common.{◌≡◌, ◌⊎◌, inl, ℕ, ◌+◌, ◌*◌, ◌/◌, ◌<◌, ◌^◌, ◌≤◌, Result, Ok, Err, OnOk, length, refl, sym, ap, ap₂, ◌∙◌, subst, arith}
+use Rattle.std.proofs.Common.{◌≡◌, ◌⊎◌, inl, ℕ, ◌+◌, ◌*◌, ◌/◌, ◌<◌, ◌^◌, ◌≤◌, Result, Ok, Err, OnOk, refl, sym, ap, ap₂, ◌∙◌, subst, arith}
 use Rattle.std.proofs.lemmas.Result.{IfOk-weaker}
 use Rattle.p3_field.specs.Ring.{count}
 use Rattle.p3_field.proofs.Powers.{count-power_of_two}
 use Rattle.p3_matrix.specs.BitOrder.{bit_reversal}
 use Rattle.p3_matrix.specs.Matrix.{image}
-use Rattle.p3_matrix.specs.RowMajor.{IsRowMajor, HasShapeOf, RowMajor, height}
+use Rattle.p3_matrix.specs.RowMajor.{RowMajor, height}
 use Rattle.p3_matrix.proofs.TwoPowers.{log_same}
 use Rattle.p3_networks.specs.Cosets.{coset_shift}
 use Rattle.p3_dft.specs.Extensions.{extension_bound}
@@ -16,6 +16,7 @@ use Rattle.p3_networks.proofs.Polynomials.Cosets.{coset_values}
 use Rattle.p3_dft.proofs.BitReversed.Coefficients.{extension_of_coefficients, extension_of_row, shifted_quotient}
 use Rattle.p3_dft.proofs.Calls.PreparedHeights.{prepared_before, later_with_heights, both_prepared}
 use Rattle.std.proofs.Math.Nat.{le_refl, le_trans, lt_of_lt_of_le}
+use Rattle.p3_dft.proofs.Calls.Transforms.{whole_kept}
 use Rattle.p3_dft.proofs.radix_2_small_batch.Radix2DFTSmallBatchTwoAdicSubgroupDft.coset_lde_batch.Goals as goal
 
 on_ok : {T E : Type 0} (r : Result T E) {P : Type 0} → P → OnOk r P
@@ -111,7 +112,7 @@ returns-clause-serves g c k high =
     on_ok c.extend.result (both_prepared _ _ c.args.added_bits k same c.in_ok-make.ensures.made)
 
 pub returns-clause-later : goal.returns-clause-later
-returns-clause-later g c = later_with_heights c.args.self.now _ _ _ _ c.self.view_is c.make.ensures.keeps (le_trans c.interpolate_reversed.ensures.grows c.extend.ensures.grows)
+returns-clause-later g c = later_with_heights _ _ _ c.args.self.now _ _ _ _ c.self.view_is c.make.ensures.keeps (le_trans c.interpolate_reversed.ensures.grows c.extend.ensures.grows)
 
 pub returns-clause-fewer : goal.returns-clause-fewer
 returns-clause-fewer g c k high =
@@ -124,7 +125,7 @@ returns-clause-fewer g c k high =
     let second : c.extend.new.products ≤ c.interpolate_reversed.new.products + w * (2 ^ a * x + 2 ^ (log + a)) =
     subst (λ (v : ℕ). c.extend.new.products ≤ c.interpolate_reversed.new.products + v * (2 ^ a * x + 2 ^ (log + a))) c.interpolate_reversed.ensures.shape.1 c.extend.ensures.cost in
     let all = extension_made x (2 ^ (log + a)) (2 ^ a) w c.self.inside.products c.interpolate_reversed.new.products c.extend.new.products c.interpolate_reversed.ensures.cost second in
-    rw (← products, ← c.into_row_major_matrix-mat.ensures, ← same) (on_ok c.extend.result all)
+    rw (← products, ← c.into_row_major_matrix-mat.ensures, ← same) all
 
 pub returns-clause-cost : goal.returns-clause-cost
 returns-clause-cost g c k high =
@@ -138,7 +139,7 @@ returns-clause-cost g c k high =
     subst (λ (v : ℕ). c.extend.new.products ≤ c.interpolate_reversed.new.products + v * (2 ^ a * x + 2 ^ (log + a))) c.interpolate_reversed.ensures.shape.1 c.extend.ensures.cost in
     let all = extension_made x (2 ^ (log + a)) (2 ^ a) w c.self.inside.products c.interpolate_reversed.new.products c.extend.new.products c.interpolate_reversed.ensures.cost second in
     let most : c.extend.new.products ≤ c.self.inside.products + extension_bound (λ n v. v * (n * 2 ^ n / 2)) log a w = omega (arith, all, fewer_than_parts log a w) in
-    rw (← products, ← c.into_row_major_matrix-mat.ensures, ← same) (on_ok c.extend.result most)
+    rw (← products, ← c.into_row_major_matrix-mat.ensures, ← same) most
 
 pub returns-clause-only : goal.returns-clause-only
 returns-clause-only g c k high n now =
@@ -165,7 +166,7 @@ returns-clause-one_row g c one none =
     (c.height.ensures.height ∙ ap height c.into_row_major_matrix-mat.ensures ∙ one) none)
 
 pub returns-in_err-make-clause-later : goal.returns-in_err-make-clause-later
-returns-in_err-make-clause-later g c = later_with_heights c.args.self.now _ _ _ _ c.self.view_is c.make.ensures.keeps (le_refl c.self.inside.products)
+returns-in_err-make-clause-later g c = later_with_heights _ _ _ c.args.self.now _ _ _ _ c.self.view_is c.make.ensures.keeps (le_refl c.self.inside.products)
 
 pub extend-requires-clause-twiddles : goal.extend-requires-clause-twiddles
 extend-requires-clause-twiddles g c = record {
@@ -181,9 +182,6 @@ interpolate_reversed-requires-clause-twiddles g c = record {
   size = λ l below. c.backward-backward.ensures.table.size l (low_layer l _ _ _ below c.in_ok-make.ensures.made);
   entries = λ l b below inside. c.backward-backward.ensures.table.entries l b (low_layer l _ _ _ below c.in_ok-make.ensures.made) inside;
 }
-
-whole_kept : {T : Type 0} (m out : RowMajor T) → IsRowMajor m → HasShapeOf out m → length out.values ≡ length m.values → IsRowMajor out
-whole_kept m out whole shape size = record { wide = omega (arith, whole.wide, shape.1); full = ap₂ (λ (h w : ℕ). h * w) shape.0 shape.1 ∙ whole.full ∙ sym size }
 
 pub extend-requires-clause-whole : goal.extend-requires-clause-whole
 extend-requires-clause-whole g c =

@@ -1,40 +1,46 @@
 use Rattle.std.proofs.Common.{◌≡◌, ℕ, ◌+◌, ◌*◌, ◌/◌, ◌^◌, ◌<◌, ◌≤◌, sym, ap, ap₂, ◌∙◌, subst, arith}
-use Rattle.std.specs.Bool.{⊤}
 use Rattle.std.proofs.Math.Pow.{pow-lt}
 use Rattle.p3_matrix.specs.RowMajor.{RowMajor, HasShapeOf, IsRowMajor, height}
 use Rattle.p3_matrix.proofs.TwoPowers.{log_same}
 use Rattle.p3_networks.proofs.Layers.Counts.{slots_made}
 use Rattle.p3_dft.specs.Engines.{Tabled, IsLater, IsPrepared}
+use Rattle.p3_dft.specs.Extensions.{extension_bound}
 use Rattle.p3_dft.specs.Transforms.{values_of}
 use Rattle.p3_dft.proofs.BitReversed.Rows.{values_seen}
+use Rattle.p3_dft.proofs.Calls.EngineSteps.{after_error, no_answer}
 use Rattle.p3_dft.proofs.Calls.ExtendedTransforms.{extension_of_natural}
 use Rattle.p3_dft.proofs.Calls.Padding.{padded_shape, padded_whole}
-use Rattle.p3_dft.proofs.Calls.PreparedHeights.{prepared_until, until_prepared, both_prepared}
+use Rattle.p3_dft.proofs.Calls.PreparedHeights.{prepared_until, until_prepared, both_prepared, tabled_facts}
 use Rattle.p3_dft.proofs.Calls.Shapes.{input_fits, log_within, output_log_small, output_size}
 use Rattle.p3_dft.proofs.radix_2_small_batch.Radix2DFTSmallBatchTwoAdicSubgroupDft.coset_lde_batch_bit_reversed.Goals as goal
 
 -- a call after heights were prepared, without a product
-after_preparing : {F : Type 0} {before prepared after : Tabled} → ((k : ℕ) → IsPrepared before k → IsPrepared prepared k) → prepared.products ≡ before.products
-    → IsLater {F = F} IsPrepared (λ _ _ _. ⊤) IsPrepared (λ e. e.products) prepared after → IsLater {F = F} IsPrepared (λ _ _ _. ⊤) IsPrepared (λ e. e.products) before after
-after_preparing keeps none later = record {
+after_preparing : {F : Type 0} (t : ℕ → ℕ → ℕ) (x : ℕ → ℕ → ℕ → ℕ) (b : ℕ → ℕ → ℕ) {before prepared after : Tabled} → ((k : ℕ) → IsPrepared before k → IsPrepared prepared k) → prepared.products ≡ before.products
+    → IsLater (tabled_facts {F = F} t x b) prepared after → IsLater (tabled_facts {F = F} t x b) before after
+after_preparing t x b keeps none later = record {
   keeps = λ k before. later.keeps k (keeps k before);
   keeps_cosets = λ k s promised. tt;
-  keeps_served = λ k before. later.keeps_served k (keeps k before);
+  keeps_ready = λ k before. later.keeps_ready k (keeps k before);
   grows = omega (arith, later.grows, none);
 }
 
 -- and where they were refused
-only_preparing : {F : Type 0} {before after : Tabled} → ((k : ℕ) → IsPrepared before k → IsPrepared after k) → after.products ≡ before.products
-    → IsLater {F = F} IsPrepared (λ _ _ _. ⊤) IsPrepared (λ e. e.products) before after
-only_preparing keeps none = record {
+only_preparing : {F : Type 0} (t : ℕ → ℕ → ℕ) (x : ℕ → ℕ → ℕ → ℕ) (b : ℕ → ℕ → ℕ) {before after : Tabled} → ((k : ℕ) → IsPrepared before k → IsPrepared after k) → after.products ≡ before.products
+    → IsLater (tabled_facts {F = F} t x b) before after
+only_preparing t x b keeps none = record {
   keeps = keeps;
   keeps_cosets = λ k s promised. tt;
-  keeps_served = keeps;
+  keeps_ready = keeps;
   grows = omega (arith, none);
 }
 
-pub returns-in_err-prepare-clause-later : goal.returns-in_err-prepare-clause-later
-returns-in_err-prepare-clause-later g c = only_preparing c.prepare.ensures.keeps c.prepare.ensures.products
+-- an inverse alone is within the bound of an extension
+inverse_made : (k a w before prepared after : ℕ) → prepared ≡ before → after ≤ prepared + w * (k * 2 ^ k / 2) + 2 ^ k * w → after ≤ before + extension_bound (λ n v. v * (n * 2 ^ n / 2)) k a w
+inverse_made k a w before prepared after same made = omega (arith, same, made)
+
+pub returns-in_err-prepare-clause-engine : goal.returns-in_err-prepare-clause-engine
+returns-in_err-prepare-clause-engine g c =
+    after_error _ _ _ _ c.from_residual.ensures.0 (only_preparing _ _ _ c.prepare.ensures.keeps c.prepare.ensures.products) c.prepare.ensures.products
 
 pub pad_rows-requires-clause-bits : goal.pad_rows-requires-clause-bits
 pad_rows-requires-clause-bits g c = let small = output_log_small _ _ _ _ c.requires.fits in omega (arith, small)
@@ -45,7 +51,7 @@ pad_rows-requires-clause-size g c =
     let log = c.log2_strict_usize-log_h.result in
     let high : height m ≡ 2 ^ log = sym c.height.ensures.height ∙ c.log2_strict_usize-log_h.ensures.power in
     let are = c.in_ok-coefficients.ensures.coefficients.holds log high in
-    let shape = c.requires.shape c.in_ok-coefficients.coefficients c.transform-changed.result (rw (← c.into_row_major_matrix-mat.ensures) (are.high, are.wide)) c.transform-changed.ensures in
+    let shape = c.requires.shape c.in_ok-coefficients.coefficients c.transform-changed.result c.width-width.ensures.whole (rw (← c.into_row_major_matrix-mat.ensures) (are.high, are.wide)) c.transform-changed.ensures in
     rw (shape.0, shape.1) (output_size _ _ _ _ c.requires.fits)
 
 pub overflow_add-log_h : goal.overflow_add-log_h
@@ -94,7 +100,7 @@ extend_in_slots-requires-clause-height g c =
     let log = c.log2_strict_usize-log_h.result in
     let high : height m ≡ 2 ^ log = sym c.height.ensures.height ∙ c.log2_strict_usize-log_h.ensures.power in
     let are = c.in_ok-coefficients.ensures.coefficients.holds log high in
-    let shape : HasShapeOf c.transform-changed.result m = rw c.into_row_major_matrix-mat.ensures (c.requires.shape c.in_ok-coefficients.coefficients c.transform-changed.result (rw (← c.into_row_major_matrix-mat.ensures) (are.high, are.wide)) c.transform-changed.ensures) in
+    let shape : HasShapeOf c.transform-changed.result m = rw c.into_row_major_matrix-mat.ensures (c.requires.shape c.in_ok-coefficients.coefficients c.transform-changed.result c.width-width.ensures.whole (rw (← c.into_row_major_matrix-mat.ensures) (are.high, are.wide)) c.transform-changed.ensures) in
     let grown = padded_shape g.F.Field.ZERO m c.transform-changed.result c.in_ok-grown.grown c.args.added_bits log c.pad_rows.ensures.whole shape high c.in_ok-grown.ensures.padded in
     grown.0
 
@@ -104,7 +110,7 @@ bit_reverse_rows-requires g c =
     let log = c.log2_strict_usize-log_h.result in
     let high : height m ≡ 2 ^ log = sym c.height.ensures.height ∙ c.log2_strict_usize-log_h.ensures.power in
     let are = c.in_ok-coefficients.ensures.coefficients.holds log high in
-    let shape : HasShapeOf c.transform-changed.result m = rw c.into_row_major_matrix-mat.ensures (c.requires.shape c.in_ok-coefficients.coefficients c.transform-changed.result (rw (← c.into_row_major_matrix-mat.ensures) (are.high, are.wide)) c.transform-changed.ensures) in
+    let shape : HasShapeOf c.transform-changed.result m = rw c.into_row_major_matrix-mat.ensures (c.requires.shape c.in_ok-coefficients.coefficients c.transform-changed.result c.width-width.ensures.whole (rw (← c.into_row_major_matrix-mat.ensures) (are.high, are.wide)) c.transform-changed.ensures) in
     let grown = padded_shape g.F.Field.ZERO m c.transform-changed.result c.in_ok-grown.grown c.args.added_bits log c.pad_rows.ensures.whole shape high c.in_ok-grown.ensures.padded in
     (log + c.args.added_bits, c.extend_in_slots.ensures.shape.0 ∙ grown.0)
 
@@ -121,66 +127,73 @@ returns-clause-values g c =
     let log = c.log2_strict_usize-log_h.result in
     let high : height m ≡ 2 ^ log = sym c.height.ensures.height ∙ c.log2_strict_usize-log_h.ensures.power in
     let are = c.in_ok-coefficients.ensures.coefficients.holds log high in
-    let shape : HasShapeOf c.transform-changed.result m = rw c.into_row_major_matrix-mat.ensures (c.requires.shape c.in_ok-coefficients.coefficients c.transform-changed.result (rw (← c.into_row_major_matrix-mat.ensures) (are.high, are.wide)) c.transform-changed.ensures) in
+    let shape : HasShapeOf c.transform-changed.result m = rw c.into_row_major_matrix-mat.ensures (c.requires.shape c.in_ok-coefficients.coefficients c.transform-changed.result c.width-width.ensures.whole (rw (← c.into_row_major_matrix-mat.ensures) (are.high, are.wide)) c.transform-changed.ensures) in
     let grown = padded_shape g.F.Field.ZERO m c.transform-changed.result c.in_ok-grown.grown c.args.added_bits log c.pad_rows.ensures.whole shape high c.in_ok-grown.ensures.padded in
     let tall : height out ≡ 2 ^ (log + a) = c.extend_in_slots.ensures.shape.0 ∙ grown.0 in
     let whole : IsRowMajor padded = rw c.in_ok-grown.ensures.padded (padded_whole field.ZERO answered c.pad_rows.ensures.whole a) in
     let is_whole : IsRowMajor out = record { wide = omega (arith, whole.wide, c.extend_in_slots.ensures.shape.1); full = ap₂ (λ h w. h * w) c.extend_in_slots.ensures.shape.0 c.extend_in_slots.ensures.shape.1 ∙ whole.full ∙ sym c.extend_in_slots.ensures.size } in
     rw (← c.into_row_major_matrix-mat.ensures, c.bit_reverse_rows.ensures.matrix)
-    (extension_of_natural field g.F.TwoAdicField.generator _ m c.in_ok-coefficients.coefficients answered _ a s c.in_ok-coefficients.ensures.coefficients c.transform-changed.ensures
+    (extension_of_natural field g.F.TwoAdicField.generator _ m c.in_ok-coefficients.coefficients answered _ a s c.in_ok-coefficients.ensures.coefficients c.width-width.ensures.whole c.pad_rows.ensures.whole
+    c.transform-changed.ensures
     (λ k e.
     values_seen field g.F.TwoAdicField.generator (values_of field answered) out s (k + a) bits is_whole (tall ∙ ap (λ n. 2 ^ (n + a)) (log_same log k (sym high ∙ e))) c.bit_reverse_rows.ensures.height
     (rw (← log_same log k (sym high ∙ e)) (c.extend_in_slots.ensures.values answered c.pad_rows.ensures.whole (shape.0 ∙ high) c.in_ok-grown.ensures.padded))))
 
-pub returns-clause-serves : goal.returns-clause-serves
-returns-clause-serves g c k e =
-    let log = c.log2_strict_usize-log_h.result in
-    let top = log + c.args.added_bits in
-    let same : log ≡ k = log_same log k (sym c.log2_strict_usize-log_h.ensures.power ∙ c.height.ensures.height ∙ ap height c.into_row_major_matrix-mat.ensures ∙ e) in
-    let there : top ≤ c.self.inside.tables = until_prepared _ top (subst (λ (e : Tabled). IsPrepared e top) (sym c.self.view_is) (c.idft_batch.ensures.later.keeps top c.in_ok-prepare.ensures.prepares)) in
-    both_prepared _ _ c.args.added_bits k same there
+pub returns-clause-engine : goal.returns-clause-engine
+returns-clause-engine g c = record {
+  later =
+      let first = c.idft_batch.ensures.later in
+      let products : c.self.inside.products ≡ c.idft_batch.new.self.products = ap (λ e. e.products) c.self.view_is in
+      let still = λ (k : ℕ) (before : IsPrepared c.args.self.now k). until_prepared _ k (subst (λ (e : Tabled). IsPrepared e k) (sym c.self.view_is) (first.keeps k (c.prepare.ensures.keeps k before))) in
+      record {
+        keeps = λ k before. prepared_until _ k (still k before);
+        keeps_cosets = λ k s none. tt;
+        keeps_ready = λ k before. prepared_until _ k (still k before);
+        grows = omega (arith, c.prepare.ensures.products, first.grows, products, c.extend_in_slots.ensures.grows);
+      };
+  ready = λ done k e.
+      let log = c.log2_strict_usize-log_h.result in
+      let top = log + c.args.added_bits in
+      let same : log ≡ k = log_same log k (sym c.log2_strict_usize-log_h.ensures.power ∙ c.height.ensures.height ∙ ap height c.into_row_major_matrix-mat.ensures ∙ e) in
+      let there : top ≤ c.self.inside.tables = until_prepared _ top (subst (λ (e : Tabled). IsPrepared e top) (sym c.self.view_is) (c.idft_batch.ensures.later.keeps top c.in_ok-prepare.ensures.prepares)) in
+      both_prepared _ _ c.args.added_bits k same there;
+  cost = λ k e.
+      let a = c.args.added_bits in
+      let m = c.into_row_major_matrix-mat.result in
+      let log = c.log2_strict_usize-log_h.result in
+      let high : height m ≡ 2 ^ log = sym c.height.ensures.height ∙ c.log2_strict_usize-log_h.ensures.power in
+      let are = c.in_ok-coefficients.ensures.coefficients.holds log high in
+      let shape : HasShapeOf c.transform-changed.result m = rw c.into_row_major_matrix-mat.ensures (c.requires.shape c.in_ok-coefficients.coefficients c.transform-changed.result c.width-width.ensures.whole (rw (← c.into_row_major_matrix-mat.ensures) (are.high, are.wide)) c.transform-changed.ensures) in
+      let grown = padded_shape g.F.Field.ZERO m c.transform-changed.result c.in_ok-grown.grown c.args.added_bits log c.pad_rows.ensures.whole shape high c.in_ok-grown.ensures.padded in
+      let stored = ap height c.into_row_major_matrix-mat.ensures in
+      let width = ap (λ (n : RowMajor g.row.F.Denot). n.width) c.into_row_major_matrix-mat.ensures in
+      let same : log ≡ k = log_same log k (sym high ∙ stored ∙ e) in
+      let products : c.self.inside.products ≡ c.idft_batch.new.self.products = ap (λ e. e.products) c.self.view_is in
+      let second : c.extend_in_slots.new.products ≤ c.self.inside.products + 2 ^ a * (m.width * (log * 2 ^ log / 2) + 2 ^ log * m.width) =
+      subst (λ (w : ℕ). c.extend_in_slots.new.products ≤ c.self.inside.products + 2 ^ a * (w * (log * 2 ^ log / 2) + 2 ^ log * w)) grown.1 c.extend_in_slots.ensures.cost in
+      let made = slots_made log a m.width c.self.inside.products c.extend_in_slots.new.products second in
+      let first = c.in_ok-coefficients.ensures.cost log high in
+      let all : c.extend_in_slots.new.products
+      ≤ c.args.self.now.products + (m.width * (log * 2 ^ log / 2) + 2 ^ log * m.width + (m.width * ((log + a) * 2 ^ (log + a) / 2) + 2 ^ (log + a) * m.width)) = omega (arith, made, first, products, c.prepare.ensures.products) in
+      subst (λ (n : ℕ). c.extend_in_slots.new.products
+      ≤ c.args.self.now.products + ((g.N.IntoRowMajorMatrix.stored c.args.mat).width * (n * 2 ^ n / 2) + 2 ^ n * (g.N.IntoRowMajorMatrix.stored c.args.mat).width
+      + ((g.N.IntoRowMajorMatrix.stored c.args.mat).width * ((n + a) * 2 ^ (n + a) / 2) + 2 ^ (n + a) * (g.N.IntoRowMajorMatrix.stored c.args.mat).width))) same
+      (subst (λ (w : ℕ). c.extend_in_slots.new.products ≤ c.args.self.now.products + (w * (log * 2 ^ log / 2) + 2 ^ log * w + (w * ((log + a) * 2 ^ (log + a) / 2) + 2 ^ (log + a) * w))) width all);
+}
 
-pub returns-clause-later : goal.returns-clause-later
-returns-clause-later g c =
-    let first = c.idft_batch.ensures.later in
-    let products : c.self.inside.products ≡ c.idft_batch.new.self.products = ap (λ e. e.products) c.self.view_is in
-    let still = λ (k : ℕ) (before : IsPrepared c.args.self.now k). until_prepared _ k (subst (λ (e : Tabled). IsPrepared e k) (sym c.self.view_is) (first.keeps k (c.prepare.ensures.keeps k before))) in
-    record {
-      keeps = λ k before. prepared_until _ k (still k before);
-      keeps_cosets = λ k s none. tt;
-      keeps_served = λ k before. prepared_until _ k (still k before);
-      grows = omega (arith, c.prepare.ensures.products, first.grows, products, c.extend_in_slots.ensures.grows);
-    }
+pub returns-in_err-coefficients-clause-engine : goal.returns-in_err-coefficients-clause-engine
+returns-in_err-coefficients-clause-engine g c = record {
+  later = after_preparing _ _ _ c.prepare.ensures.keeps c.prepare.ensures.products c.idft_batch.ensures.later;
+  ready = λ done. absurd (no_answer c.from_residual-in_err-coefficients.result c.from_residual-in_err-coefficients.ensures.0 done);
+  cost = λ k e. inverse_made k c.args.added_bits _ _ _ _ c.prepare.ensures.products ((rw c.into_row_major_matrix-mat.ensures at c.idft_batch.ensures.cost) k e);
+}
 
-pub returns-in_err-coefficients-clause-later : goal.returns-in_err-coefficients-clause-later
-returns-in_err-coefficients-clause-later g c = after_preparing c.prepare.ensures.keeps c.prepare.ensures.products c.idft_batch.ensures.later
-
-pub returns-in_err-grown-clause-later : goal.returns-in_err-grown-clause-later
-returns-in_err-grown-clause-later g c = after_preparing c.prepare.ensures.keeps c.prepare.ensures.products c.idft_batch.ensures.later
-
-pub returns-clause-cost : goal.returns-clause-cost
-returns-clause-cost g c k e =
-    let a = c.args.added_bits in
-    let m = c.into_row_major_matrix-mat.result in
-    let log = c.log2_strict_usize-log_h.result in
-    let high : height m ≡ 2 ^ log = sym c.height.ensures.height ∙ c.log2_strict_usize-log_h.ensures.power in
-    let are = c.in_ok-coefficients.ensures.coefficients.holds log high in
-    let shape : HasShapeOf c.transform-changed.result m = rw c.into_row_major_matrix-mat.ensures (c.requires.shape c.in_ok-coefficients.coefficients c.transform-changed.result (rw (← c.into_row_major_matrix-mat.ensures) (are.high, are.wide)) c.transform-changed.ensures) in
-    let grown = padded_shape g.F.Field.ZERO m c.transform-changed.result c.in_ok-grown.grown c.args.added_bits log c.pad_rows.ensures.whole shape high c.in_ok-grown.ensures.padded in
-    let stored = ap height c.into_row_major_matrix-mat.ensures in
-    let width = ap (λ (n : RowMajor g.row.F.Denot). n.width) c.into_row_major_matrix-mat.ensures in
-    let same : log ≡ k = log_same log k (sym high ∙ stored ∙ e) in
-    let products : c.self.inside.products ≡ c.idft_batch.new.self.products = ap (λ e. e.products) c.self.view_is in
-    let second : c.extend_in_slots.new.products ≤ c.self.inside.products + 2 ^ a * (m.width * (log * 2 ^ log / 2) + 2 ^ log * m.width) =
-    subst (λ (w : ℕ). c.extend_in_slots.new.products ≤ c.self.inside.products + 2 ^ a * (w * (log * 2 ^ log / 2) + 2 ^ log * w)) grown.1 c.extend_in_slots.ensures.cost in
-    let made = slots_made log a m.width c.self.inside.products c.extend_in_slots.new.products second in
-    let first = c.in_ok-coefficients.ensures.cost log high in
-    let all : c.extend_in_slots.new.products
-    ≤ c.args.self.now.products + (m.width * (log * 2 ^ log / 2) + 2 ^ log * m.width + (m.width * ((log + a) * 2 ^ (log + a) / 2) + 2 ^ (log + a) * m.width)) = omega (arith, made, first, products, c.prepare.ensures.products) in
-    subst (λ (n : ℕ). c.extend_in_slots.new.products
-    ≤ c.args.self.now.products + ((g.N.IntoRowMajorMatrix.stored c.args.mat).width * (n * 2 ^ n / 2) + 2 ^ n * (g.N.IntoRowMajorMatrix.stored c.args.mat).width
-    + ((g.N.IntoRowMajorMatrix.stored c.args.mat).width * ((n + a) * 2 ^ (n + a) / 2) + 2 ^ (n + a) * (g.N.IntoRowMajorMatrix.stored c.args.mat).width))) same
-    (subst (λ (w : ℕ). c.extend_in_slots.new.products ≤ c.args.self.now.products + (w * (log * 2 ^ log / 2) + 2 ^ log * w + (w * ((log + a) * 2 ^ (log + a) / 2) + 2 ^ (log + a) * w))) width all)
+pub returns-in_err-grown-clause-engine : goal.returns-in_err-grown-clause-engine
+returns-in_err-grown-clause-engine g c = record {
+  later = after_preparing _ _ _ c.prepare.ensures.keeps c.prepare.ensures.products c.idft_batch.ensures.later;
+  ready = λ done. absurd (no_answer c.from_residual-in_err-grown.result c.from_residual-in_err-grown.ensures.0 done);
+  cost = λ k e. inverse_made k c.args.added_bits _ _ _ _ c.prepare.ensures.products ((rw c.into_row_major_matrix-mat.ensures at c.idft_batch.ensures.cost) k e);
+}
 
 pub extend_in_slots-requires-clause-whole : goal.extend_in_slots-requires-clause-whole
 extend_in_slots-requires-clause-whole g c =

@@ -59,7 +59,7 @@ returns-clause-serves g c k high =
     prepared_at _ _ k same c.in_ok-make.ensures.made
 
 pub returns-clause-later : goal.returns-clause-later
-returns-clause-later g c = later_with_heights c.args.self.now _ _ _ _ c.self.view_is c.make.ensures.keeps c.evaluate.ensures.grows
+returns-clause-later g c = later_with_heights _ _ _ c.args.self.now _ _ _ _ c.self.view_is c.make.ensures.keeps c.evaluate.ensures.grows
 
 pub returns-clause-cost : goal.returns-clause-cost
 returns-clause-cost g c k high =
@@ -84,7 +84,7 @@ returns-in_err-make-clause-only g c k high n now =
     (prepared_before c.self.inside.tables c.make.new.self (k) n (subst (λ (m : ℕ). (c.make.new.self ≡ c.self.inside.tables) ⊎ (c.make.new.self ≡ m)) same c.make.ensures.only) now)
 
 pub returns-in_err-make-clause-later : goal.returns-in_err-make-clause-later
-returns-in_err-make-clause-later g c = later_with_heights c.args.self.now _ _ _ _ c.self.view_is c.make.ensures.keeps (le_refl c.self.inside.products)
+returns-in_err-make-clause-later g c = later_with_heights _ _ _ c.args.self.now _ _ _ _ c.self.view_is c.make.ensures.keeps (le_refl c.self.inside.products)
 
 pub returns-clause-one_row : goal.returns-clause-one_row
 returns-clause-one_row g c one = absurd (c.if-height-eq1.false (c.height-height.ensures.height ∙ ap height c.into_row_major_matrix-mat.ensures ∙ one))

@@ -1,4 +1,4 @@
-use Rattle.std.proofs.Common.{◌≤◌, ℕ, subst, sym, ◌∙◌}
+use Rattle.std.proofs.Common.{sym}
 use Rattle.p3_dft.proofs.Codes.Words.{message_inside, told_of_word}
 use Rattle.p3_dft.proofs.reed_solomon.ReedSolomon.is_codeword.Goals as goal
 
