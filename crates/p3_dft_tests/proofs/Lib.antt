@@ -1,2 +1,3 @@
 pub mod BlockSums
 pub mod Limits
+pub mod OppositeEntries

@@ -3,7 +3,7 @@
 //!
 //! They stand in a crate of their own since a crate with tests is proved once more with them. Beside
 //! them stand clients: the product of two polynomials, a transform on a coset that is undone, a low degree
-//! test, and extensions with published blocks.
+//! test, extensions with published blocks, and transforms of the coefficients that need whole rows.
 #![tactic(auto)]
 
 pub mod low_degree;
@@ -12,3 +12,4 @@ pub mod published;
 #[cfg(test)]
 mod tests;
 pub mod there_and_back;
+pub mod whole_rows;

@@ -27,6 +27,7 @@ mod reed_solomon;
 mod surface;
 mod tally;
 mod util;
+mod whole_rows;
 
 use calls::{Calls, CallsOf};
 use engines::LimitedDft;

@@ -1,0 +1,48 @@
+// Extensions by transforms that depend on whole rows, against numbers made elsewhere.
+
+use super::matrix;
+use crate::tests::fitting::{assert_column, extensible, transformable};
+use crate::whole_rows::{
+    counted_transform, extension_in_whole_rows, extension_of_opposite_entries,
+};
+use p3_dft::{BabyBear, CanonicalField, Field, NaiveDft, Radix2Dit, RowMajorMatrix, fits_lde};
+use std::alloc::Global;
+use std::process::Abort;
+
+fn transforms_two_rows<F: CanonicalField>(rt: &impl Abort, alloc: Global) {
+    let values: RowMajorMatrix<F> = transformable(rt, alloc, &[9, 1]);
+    let there = counted_transform(&mut NaiveDft::default(), values).expect(rt, "memory");
+    assert_column(rt, &there, &[10, 8]);
+}
+
+fn extends_two_rows<F: CanonicalField>(rt: &impl Abort, alloc: Global) {
+    let values: RowMajorMatrix<F> = extensible(rt, alloc, &[5, 4], 1);
+    let extended = extension_in_whole_rows(&mut NaiveDft::default(), values, 1, F::ONE);
+    let numbers = [5, 864202261, 4, 1149063669];
+    assert_column(rt, &extended.expect(rt, "memory"), &numbers);
+}
+
+// The columns are values of (9 + x) / 2 and of 5 + 4x, so that the extended ones are those of 4 + 5x and
+// of (1 + 9x) / 2.
+fn extends_in_opposite_order<F: CanonicalField>(rt: &impl Abort, alloc: Global) {
+    let values: RowMajorMatrix<F> = matrix(rt, alloc, &[5, 9, 4, 1], 2);
+    assert!(rt; values.width() == 2);
+    assert!(rt; fits_lde::<F>(values.height(), values.width(), 1));
+    let mut engine: Radix2Dit<F> = Radix2Dit::default();
+    let extended = extension_of_opposite_entries(&mut engine, values, 1, F::TWO);
+    let numbers = [
+        14, 1006632970, 1177917766, 456146210, 2013265915, 1006632952, 835348163, 1557119712,
+    ];
+    assert!(rt; extended.expect(rt, "memory") == matrix(rt, alloc, &numbers, 2));
+}
+
+fn each_client<F: CanonicalField>(rt: &impl Abort, alloc: Global) {
+    transforms_two_rows::<F>(rt, alloc);
+    extends_two_rows::<F>(rt, alloc);
+    extends_in_opposite_order::<F>(rt, alloc);
+}
+
+#[test]
+fn whole_rows(rt: HostRuntime) {
+    each_client::<BabyBear>(&rt, rt.alloc());
+}
