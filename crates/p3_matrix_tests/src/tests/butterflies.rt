@@ -1,6 +1,6 @@
 // Butterflies against values that were calculated by hand, and rows against single elements.
 
-ghost use Rattle.std.specs.Prelude.{◌≡◌, ◌≤◌, ℕ, ◌*◌, vec_len};
+ghost use Rattle.std.specs.Prelude.{◌≡◌, ◌≤◌, ℕ, ◌+◌, ◌*◌, length, vec_len};
 
 use super::{is, row};
 use p3_field::{
@@ -346,6 +346,51 @@ fn wraps<F: CanonicalField + Packable>(rt: &impl Abort, alloc: Global) {
 #[test]
 fn wraps_in_each_lane(rt: HostRuntime) {
     wraps::<BabyBear>(&rt, rt.alloc());
+}
+
+// On rows of eleven a butterfly with a twiddle counts eleven products, in place.
+fn counts_eleven<F: CanonicalField + Packable>(
+    row_1: &mut [F],
+    row_2: &mut [F],
+    products: &mut Products,
+)
+    requires first { length row_1.old ≡ 11 }
+    requires second { length row_2.old ≡ 11 }
+    ensures { products.new ≡ products.old + 11 }
+{
+    DitButterfly(F::from_u8(3)).apply_to_rows(row_1, row_2, products);
+}
+
+// And with a scale too, twice as many.
+fn counts_twenty_two<F: CanonicalField + Packable>(
+    row_1: &mut [F],
+    row_2: &mut [F],
+    products: &mut Products,
+)
+    requires first { length row_1.old ≡ 11 }
+    requires second { length row_2.old ≡ 11 }
+    ensures { products.new ≡ products.old + 22 }
+{
+    let butterfly = ScaledDitButterfly::new(F::from_u8(3), F::TWO);
+    butterfly.apply_to_rows(row_1, row_2, products);
+}
+
+// One after the other, of minus one and one: two and minus four first, then minus twenty and 28.
+fn counts<F: CanonicalField + Packable>(rt: &impl Abort, alloc: Global) {
+    let mut products = Products::new();
+    let mut row_1: Vec<F> = row(rt, alloc, 11, 2013265920, 0);
+    let mut row_2: Vec<F> = row(rt, alloc, 11, 1, 0);
+    counts_eleven(row_1.as_mut_slice(), row_2.as_mut_slice(), &mut products);
+    same_rows(rt, &row_1, &row(rt, alloc, 11, 2, 0));
+    same_rows(rt, &row_2, &row(rt, alloc, 11, 2013265917, 0));
+    counts_twenty_two(row_1.as_mut_slice(), row_2.as_mut_slice(), &mut products);
+    same_rows(rt, &row_1, &row(rt, alloc, 11, 2013265901, 0));
+    same_rows(rt, &row_2, &row(rt, alloc, 11, 28, 0));
+}
+
+#[test]
+fn products_of_rows(rt: HostRuntime) {
+    counts::<BabyBear>(&rt, rt.alloc());
 }
 
 // One through a matrix and two through views, with factors whose product is five.
