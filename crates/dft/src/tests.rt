@@ -214,6 +214,79 @@ fn answers(rt: HostRuntime) {
     }
 }
 
+// Each operation by the engine with tables of cosets, over the larger field, and extensions by two others at
+// zero and on a coset.
+#[test]
+fn answers_over_goldilocks(rt: HostRuntime) {
+    let line = "9\n1125899906842629\n1\n18445618169507741702\n";
+    let on_seven = "33\n7881299347898373\n18446744069414584298\n18438862770066685958\n";
+    let rows: [(&[&str], &str); 9] = [
+        (
+            &["goldilocks", "parallel", "dft", "1", "1", "2", "3", "4"],
+            "10\n18446181119461163007\n18446744069414584319\n562949953421310\n",
+        ),
+        (
+            &["goldilocks", "parallel", "coset-dft", "2", "1", "5", "4"],
+            "13\n18446744069414584318\n",
+        ),
+        (
+            &["goldilocks", "parallel", "idft", "2", "9", "5", "1", "5"],
+            "5 5\n4 0\n",
+        ),
+        (
+            &[
+                "goldilocks",
+                "parallel",
+                "coset-idft",
+                "2",
+                "1",
+                "13",
+                "18446744069414584318",
+            ],
+            "5\n4\n",
+        ),
+        (&["goldilocks", "parallel", "lde", "1", "1", "9", "1"], line),
+        (
+            &[
+                "goldilocks",
+                "parallel",
+                "coset-lde",
+                "1",
+                "7",
+                "1",
+                "9",
+                "1",
+            ],
+            on_seven,
+        ),
+        (
+            &[
+                "goldilocks",
+                "parallel",
+                "coset-lde",
+                "1",
+                "0",
+                "1",
+                "9",
+                "1",
+            ],
+            "5\n5\n5\n5\n",
+        ),
+        (
+            &["goldilocks", "bowers", "coset-lde", "1", "0", "1", "9", "1"],
+            "5\n5\n5\n5\n",
+        ),
+        (
+            &["goldilocks", "small", "coset-lde", "1", "7", "1", "9", "1"],
+            on_seven,
+        ),
+    ];
+    for (words, text) in rows {
+        let out = Stubborn::with_room(rt.alloc(), 1000);
+        ends(&rt, rt.alloc(), words, out, 0, text.as_bytes());
+    }
+}
+
 #[test]
 fn faults(rt: HostRuntime) {
     let unknown_field = "error 1: unknown field\n";
@@ -224,7 +297,7 @@ fn faults(rt: HostRuntime) {
     let not_below = "error 6: number not below the modulus\n";
     let unfit_shape = "error 7: shape does not fit\n";
     let no_inverse = "error 8: shift has no inverse\n";
-    let rows: [(&[&str], &str); 35] = [
+    let rows: [(&[&str], &str); 37] = [
         (&[], too_few_words),
         (&["babybear"], too_few_words),
         (&["babybear", "naive", "dft", "1"], too_few_words),
@@ -235,6 +308,7 @@ fn faults(rt: HostRuntime) {
         (&["babybear", "naive", "x"], unknown_operation),
         (&["babybear", "naive", "dft", "1", "-1", "2"], not_a_number),
         (&["babybear", "naive", "dft", "1", "+1", "2"], not_a_number),
+        (&["babybear", "naive", "dft", "+1", "2"], not_a_number),
         (&["babybear", "naive", "dft", "1", ""], not_a_number),
         (
             &["babybear", "naive", "dft", "1", "18446744073709551616"],
@@ -298,6 +372,10 @@ fn faults(rt: HostRuntime) {
         ),
         (
             &["babybear", "dit", "coset-idft", "2013265921", "1", "1"],
+            not_below,
+        ),
+        (
+            &["babybear", "bowers", "coset-idft", "2013265921", "1", "1"],
             not_below,
         ),
         (

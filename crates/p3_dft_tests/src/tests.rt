@@ -13,6 +13,7 @@ mod callers;
 mod calls;
 mod engines;
 mod extensions;
+mod factors;
 mod fitting;
 mod groups;
 mod jobs;
@@ -24,15 +25,16 @@ mod radix_2_dit;
 mod radix_2_dit_parallel;
 mod radix_2_small_batch;
 mod reed_solomon;
+mod shifts;
 mod surface;
 mod tally;
 mod util;
 mod whole_rows;
 
 use calls::{Calls, CallsOf};
-use engines::LimitedDft;
+use engines::{LimitedDft, NaturalToReversed, ReversedToReversed};
 use p3_dft::{
-    BabyBear, CanonicalField, Evaluations, Field, Layout, NaiveDft, Radix2Bowers,
+    BabyBear, CanonicalField, Evaluations, Field, Goldilocks, Layout, NaiveDft, Radix2Bowers,
     Radix2DFTSmallBatch, Radix2Dit, Radix2DitParallel, RowMajorMatrix, TwoAdicField,
     TwoAdicSubgroupDft, fits_lde,
 };
@@ -217,6 +219,8 @@ fn on_engines_of_one_block<F: TwoAdicField, R: Abort, T: EngineTest<F>>(
     on::<F, Radix2Bowers, R, T>(rt, alloc, test);
     on::<F, Radix2DFTSmallBatch<F>, R, T>(rt, alloc, test);
     on::<F, LimitedDft, R, T>(rt, alloc, test);
+    on::<F, NaturalToReversed, R, T>(rt, alloc, test);
+    on::<F, ReversedToReversed, R, T>(rt, alloc, test);
 }
 
 // Runs a test on every engine over a field.
@@ -234,31 +238,70 @@ fn calls_of_every_engine<F: TwoAdicField, R: Abort, T: CallsTest<F>>(
     on_every_engine(rt, alloc, &ByCalls { test });
 }
 
-// Worked transforms of one column.
-struct Columns;
+// Worked numbers over a field.
+struct Worked {
+    // The values of 1 + 2 x + 3 x^2 + 4 x^3 on the subgroup.
+    cubic: [u64; 4],
+    // Those of 5 + 4 x on the subgroup of order four, and twice these.
+    line: [u64; 4],
+    line_twice: [u64; 4],
+    // And on the cosets of two and of three, of two points each.
+    line_on_two: [u64; 2],
+    line_on_three: [u64; 2],
+}
 
-impl<F: CanonicalField> CallsTest<F> for Columns {
+const OVER_BABY_BEAR: Worked = Worked {
+    cubic: [10, 569722814, 2013265919, 1443543103],
+    line: [9, 873820294, 1, 1139445637],
+    line_twice: [18, 1747640588, 2, 265625353],
+    line_on_two: [13, 2013265918],
+    line_on_three: [17, 2013265914],
+};
+
+const OVER_GOLDILOCKS: Worked = Worked {
+    cubic: [
+        10,
+        18446181119461163007,
+        18446744069414584319,
+        562949953421310,
+    ],
+    line: [9, 1125899906842629, 1, 18445618169507741702],
+    line_twice: [18, 2251799813685258, 2, 18444492269600899083],
+    line_on_two: [13, 18446744069414584318],
+    line_on_three: [17, 18446744069414584314],
+};
+
+// Worked transforms of one column.
+#[derive(Drop)]
+struct Columns<'a> {
+    worked: &'a Worked,
+}
+
+impl<'a, F: CanonicalField> CallsTest<F> for Columns<'a> {
     fn run<R: Abort, C: Calls<F>>(&self, rt: &R, alloc: Global, engine: &mut C) {
         let values = engine.column_dft(rt, elements(rt, alloc, &[1, 2, 3, 4]));
-        assert_elements(rt, values, &[10, 569722814, 2013265919, 1443543103]);
+        assert_elements(rt, values, &self.worked.cubic);
         let values = engine.column_coset_dft(rt, elements(rt, alloc, &[5, 4]), F::TWO);
-        assert_elements(rt, values, &[13, 2013265918]);
+        assert_elements(rt, values, &self.worked.line_on_two);
         let values = engine.column_coset_dft(rt, elements(rt, alloc, &[5, 4]), F::ZERO);
         assert_elements(rt, values, &[5, 5]);
     }
 }
 
 // And worked inverses, by a clone.
-struct ColumnsBack;
+#[derive(Drop)]
+struct ColumnsBack<'a> {
+    worked: &'a Worked,
+}
 
-impl<F: CanonicalField> CallsTest<F> for ColumnsBack {
+impl<'a, F: CanonicalField> CallsTest<F> for ColumnsBack<'a> {
     fn run<R: Abort, C: Calls<F>>(&self, rt: &R, alloc: Global, engine: &mut C) {
         let mut engine = engine.copied(rt);
-        let values = elements(rt, alloc, &[10, 569722814, 2013265919, 1443543103]);
+        let values = elements(rt, alloc, &self.worked.cubic);
         assert_elements(rt, engine.column_idft(rt, values), &[1, 2, 3, 4]);
         let coefficients = engine.column_idft(rt, elements(rt, alloc, &[9, 1]));
         assert_elements(rt, coefficients, &[5, 4]);
-        let values = elements(rt, alloc, &[13, 2013265918]);
+        let values = elements(rt, alloc, &self.worked.line_on_two);
         let coefficients = engine.column_coset_idft(rt, values, F::TWO);
         assert_elements(rt, coefficients, &[5, 4]);
     }
@@ -279,49 +322,64 @@ fn shifted<F: CanonicalField, C: Calls<F>>(
 }
 
 // One column on cosets, each shift after others, and another column in between.
-struct ShiftsInTurn;
+#[derive(Drop)]
+struct ShiftsInTurn<'a> {
+    worked: &'a Worked,
+}
 
-impl<F: CanonicalField> CallsTest<F> for ShiftsInTurn {
+impl<'a, F: CanonicalField> CallsTest<F> for ShiftsInTurn<'a> {
     fn run<R: Abort, C: Calls<F>>(&self, rt: &R, alloc: Global, engine: &mut C) {
-        shifted(rt, alloc, engine, F::TWO, &[13, 2013265918]);
-        shifted(rt, alloc, engine, F::from_u8(3), &[17, 2013265914]);
-        shifted(rt, alloc, engine, F::TWO, &[13, 2013265918]);
+        let three = F::from_u8(3);
+        shifted(rt, alloc, engine, F::TWO, &self.worked.line_on_two);
+        shifted(rt, alloc, engine, three, &self.worked.line_on_three);
+        shifted(rt, alloc, engine, F::TWO, &self.worked.line_on_two);
     }
 }
 
 // Worked extensions of one column.
-struct ExtendedColumns;
+#[derive(Drop)]
+struct ExtendedColumns<'a> {
+    worked: &'a Worked,
+}
 
-impl<F: CanonicalField> CallsTest<F> for ExtendedColumns {
+impl<'a, F: CanonicalField> CallsTest<F> for ExtendedColumns<'a> {
     fn run<R: Abort, C: Calls<F>>(&self, rt: &R, alloc: Global, engine: &mut C) {
         let values = engine.column_lde(rt, elements(rt, alloc, &[9, 1]), 1);
-        assert_elements(rt, values, &[9, 873820294, 1, 1139445637]);
+        assert_elements(rt, values, &self.worked.line);
         let values = engine.column_coset_lde(rt, elements(rt, alloc, &[9, 1]), 1, F::ZERO);
         assert_elements(rt, values, &[5, 5, 5, 5]);
     }
 }
 
 // Two values on the coset of two become four.
-fn values_on_coset<F: CanonicalField, C: Calls<F>>(rt: &impl Abort, alloc: Global, engine: &mut C) {
+fn values_on_coset<F: CanonicalField, C: Calls<F>>(
+    rt: &impl Abort,
+    alloc: Global,
+    engine: &mut C,
+    wanted: &[u64],
+) {
     let values = matrix(rt, alloc, &[9, 1], 1);
     let coefficients = engine.coset_idft(rt, &values, F::TWO);
     assert_rows(rt, &coefficients, &[5, 2], 1);
     let padded = with_zeros(rt, coefficients, 4);
     let values = engine.coset_dft(rt, &padded, F::TWO);
-    assert_rows(rt, &values, &[9, 873820294, 1, 1139445637], 1);
+    assert_rows(rt, &values, wanted, 1);
 }
 
 // Worked examples on matrices: a single row, and values on the coset of two.
-struct Rows;
+#[derive(Drop)]
+struct Rows<'a> {
+    worked: &'a Worked,
+}
 
-impl<F: CanonicalField> CallsTest<F> for Rows {
+impl<'a, F: CanonicalField> CallsTest<F> for Rows<'a> {
     fn run<R: Abort, C: Calls<F>>(&self, rt: &R, alloc: Global, engine: &mut C) {
         let row = matrix(rt, alloc, &[42, 7], 2);
         let values = engine.coset_lde(rt, &row, 2, F::from_u8(31));
         assert_rows(rt, &values, &[42, 7, 42, 7, 42, 7, 42, 7], 2);
         assert_same(rt, &engine.dft(rt, &row), &row);
         assert_same(rt, &engine.idft(rt, &row), &row);
-        values_on_coset(rt, alloc, engine);
+        values_on_coset(rt, alloc, engine, &self.worked.line);
     }
 }
 
@@ -338,9 +396,12 @@ fn doubled<F: TwoAdicField>(mat: RowMajorMatrix<F>) -> RowMajorMatrix<F>
 }
 
 // An extension with twice each coefficient has twice each value.
-struct DoubledCoefficients;
+#[derive(Drop)]
+struct DoubledCoefficients<'a> {
+    worked: &'a Worked,
+}
 
-impl<F: CanonicalField> EngineTest<F> for DoubledCoefficients {
+impl<'a, F: CanonicalField> EngineTest<F> for DoubledCoefficients<'a> {
     fn run<R: Abort, D: TwoAdicSubgroupDft<F>>(&self, rt: &R, alloc: Global, mut engine: D) {
         let mat: RowMajorMatrix<F> = matrix(rt, alloc, &[9, 1], 1);
         assert!(rt; fits_lde::<F>(mat.height(), mat.width(), 1));
@@ -353,17 +414,19 @@ impl<F: CanonicalField> EngineTest<F> for DoubledCoefficients {
             { doubled(coefficients) },
         );
         let values = values.expect(rt, "memory").to_row_major_matrix();
-        assert_rows(rt, &values, &[18, 1747640588, 2, 265625353], 1);
+        assert_rows(rt, &values, &self.worked.line_twice, 1);
     }
 }
 
 // What the transform is told and what it sees, of the values of 1 + 2 x + 3 x^2 + 4 x^3.
-struct ToldLayouts;
+#[derive(Drop)]
+struct ToldLayouts<'a> {
+    worked: &'a Worked,
+}
 
-impl<F: CanonicalField> EngineTest<F> for ToldLayouts {
+impl<'a, F: CanonicalField> EngineTest<F> for ToldLayouts<'a> {
     fn run<R: Abort, D: TwoAdicSubgroupDft<F>>(&self, rt: &R, alloc: Global, mut engine: D) {
-        let numbers = [10, 569722814, 2013265919, 1443543103];
-        let mat: RowMajorMatrix<F> = matrix(rt, alloc, &numbers, 1);
+        let mat: RowMajorMatrix<F> = matrix(rt, alloc, &self.worked.cubic, 1);
         assert!(rt; fits_lde::<F>(mat.height(), mat.width(), 0));
         let again = engine.coset_lde_batch_with_transform(
             mat,
@@ -380,7 +443,7 @@ impl<F: CanonicalField> EngineTest<F> for ToldLayouts {
             },
         );
         let again = again.expect(rt, "memory").to_row_major_matrix();
-        assert_rows(rt, &again, &numbers, 1);
+        assert_rows(rt, &again, &self.worked.cubic, 1);
     }
 }
 
@@ -392,6 +455,8 @@ fn layouts<F: TwoAdicField>(rt: &impl Abort) {
     assert!(rt; <Radix2DitParallel<F> as TwoAdicSubgroupDft<F>>::LAYOUT == Layout::BitReversed);
     assert!(rt; <Radix2DFTSmallBatch<F> as TwoAdicSubgroupDft<F>>::LAYOUT == Layout::Natural);
     assert!(rt; <LimitedDft as TwoAdicSubgroupDft<F>>::LAYOUT == Layout::BitReversed);
+    assert!(rt; <NaturalToReversed as TwoAdicSubgroupDft<F>>::LAYOUT == Layout::Natural);
+    assert!(rt; <ReversedToReversed as TwoAdicSubgroupDft<F>>::LAYOUT == Layout::BitReversed);
 }
 
 // A constant has one coefficient, at one height.
@@ -430,26 +495,30 @@ impl<F: TwoAdicField> CallsTest<F> for Constants {
 }
 
 // All of these, on every engine.
-fn answers_of_every_engine<F: CanonicalField>(rt: &impl Abort, alloc: Global) {
-    calls_of_every_engine::<F, _, _>(rt, alloc, &Columns);
-    calls_of_every_engine::<F, _, _>(rt, alloc, &ColumnsBack);
-    calls_of_every_engine::<F, _, _>(rt, alloc, &ShiftsInTurn);
-    calls_of_every_engine::<F, _, _>(rt, alloc, &ExtendedColumns);
-    calls_of_every_engine::<F, _, _>(rt, alloc, &Rows);
-    on_every_engine::<F, _, _>(rt, alloc, &DoubledCoefficients);
-    on_every_engine::<F, _, _>(rt, alloc, &ToldLayouts);
+fn answers_of_every_engine<F: CanonicalField>(rt: &impl Abort, alloc: Global, worked: &Worked) {
+    calls_of_every_engine::<F, _, _>(rt, alloc, &Columns { worked });
+    calls_of_every_engine::<F, _, _>(rt, alloc, &ColumnsBack { worked });
+    calls_of_every_engine::<F, _, _>(rt, alloc, &ShiftsInTurn { worked });
+    calls_of_every_engine::<F, _, _>(rt, alloc, &ExtendedColumns { worked });
+    calls_of_every_engine::<F, _, _>(rt, alloc, &Rows { worked });
+    on_every_engine::<F, _, _>(rt, alloc, &DoubledCoefficients { worked });
+    on_every_engine::<F, _, _>(rt, alloc, &ToldLayouts { worked });
     calls_of_every_engine::<F, _, _>(rt, alloc, &Constants);
     layouts::<F>(rt);
 }
 
 #[test]
 fn worked_answers(rt: HostRuntime) {
-    answers_of_every_engine::<BabyBear>(&rt, rt.alloc());
+    answers_of_every_engine::<BabyBear>(&rt, rt.alloc(), &OVER_BABY_BEAR);
+    answers_of_every_engine::<Goldilocks>(&rt, rt.alloc(), &OVER_GOLDILOCKS);
 }
 
 const HEIGHTS: [usize; 8] = [1, 2, 4, 8, 16, 32, 64, 128];
 
 const WIDTHS: [usize; 4] = [1, 3, 8, 17];
+
+// Widths of less than a pack, of full packs, and of some with a rest of one or of another number.
+const MANY_WIDTHS: [usize; 6] = [1, 3, 7, 8, 17, 33];
 
 // At one shape: an inverse undoes a transform and is undone by it.
 #[derive(Drop)]
@@ -617,13 +686,27 @@ impl<F: TwoAdicField> CallsTest<F> for AsSums {
     }
 }
 
-#[test]
-fn same_as_sums(rt: HostRuntime) {
-    for height in HEIGHTS {
-        for width in WIDTHS {
-            calls_of_every_engine::<BabyBear, _, _>(&rt, rt.alloc(), &AsSums { height, width });
+fn same_as_sums_over<F: TwoAdicField>(rt: &impl Abort, alloc: Global) {
+    for height in [1usize, 2, 4, 8, 16, 32, 64] {
+        for width in MANY_WIDTHS {
+            calls_of_every_engine::<F, _, _>(rt, alloc, &AsSums { height, width });
         }
     }
+    let taller = AsSums {
+        height: 128,
+        width: 9,
+    };
+    calls_of_every_engine::<F, _, _>(rt, alloc, &taller);
+}
+
+#[test]
+fn same_as_sums(rt: HostRuntime) {
+    same_as_sums_over::<BabyBear>(&rt, rt.alloc());
+}
+
+#[test]
+fn same_as_sums_over_goldilocks(rt: HostRuntime) {
+    same_as_sums_over::<Goldilocks>(&rt, rt.alloc());
 }
 
 // Stops the test unless the rows of one matrix stand in another, `2^added_bits` apart.

@@ -12,8 +12,9 @@ ghost use Rattle.p3_dft.specs.Transforms.{IsInterpolation, IsTransform};
 use super::{CallsTest, assert_same, calls_of_every_engine, matrix_of, sample};
 use crate::tests::calls::{Calls, CallsOf};
 use p3_dft::{
-    BabyBear, BasedVectorSpace, CanonicalField, Coordinates, DftError, Field, Radix2DFTSmallBatch,
-    Radix2Dit, Radix2DitParallel, RowMajorMatrix, TwoAdicField, TwoAdicSubgroupDft,
+    BabyBear, BasedVectorSpace, CanonicalField, Coordinates, DftError, Field, Goldilocks,
+    Radix2DFTSmallBatch, Radix2Dit, Radix2DitParallel, RowMajorMatrix, TwoAdicField,
+    TwoAdicSubgroupDft,
 };
 use std::alloc::Global;
 use std::process::Abort;
@@ -95,20 +96,33 @@ fn assert_pairs<F: CanonicalField>(
     assert!(rt; found == expected);
 }
 
-// Worked columns of pairs, and a worked extension of one.
-struct WorkedPairs;
+// Worked columns of pairs, and a worked extension of one to pairs with these numbers.
+#[derive(Drop)]
+struct WorkedPairs {
+    extended: [u64; 8],
+}
 
-impl CallsTest<BabyBear> for WorkedPairs {
-    fn run<R: Abort, C: Calls<BabyBear>>(&self, rt: &R, alloc: Global, engine: &mut C) {
+impl<F: CanonicalField> CallsTest<F> for WorkedPairs {
+    fn run<R: Abort, C: Calls<F>>(&self, rt: &R, alloc: Global, engine: &mut C) {
         let values = engine.column_dft_algebra(rt, pairs(rt, alloc, &[5, 1, 4, 0]));
         assert_pairs(rt, alloc, values, &[9, 1, 1, 1]);
         let coefficients = engine.column_idft_algebra(rt, pairs(rt, alloc, &[9, 1, 1, 1]));
         assert_pairs(rt, alloc, coefficients, &[5, 1, 4, 0]);
         let values = engine.column_lde_algebra(rt, pairs(rt, alloc, &[9, 42, 1, 42]), 1);
-        let numbers = [9, 42, 873820294, 42, 1, 42, 1139445637, 42];
-        assert_pairs(rt, alloc, values, &numbers);
+        assert_pairs(rt, alloc, values, &self.extended);
+        let column = pairs(rt, alloc, &[9, 42, 1, 42]);
+        let values = engine.column_coset_lde_algebra(rt, column, 1, F::ZERO);
+        assert_pairs(rt, alloc, values, &[5, 42, 5, 42, 5, 42, 5, 42]);
     }
 }
+
+const PAIRS_OVER_BABY_BEAR: WorkedPairs = WorkedPairs {
+    extended: [9, 42, 873820294, 42, 1, 42, 1139445637, 42],
+};
+
+const PAIRS_OVER_GOLDILOCKS: WorkedPairs = WorkedPairs {
+    extended: [9, 42, 1125899906842629, 42, 1, 42, 18445618169507741702, 42],
+};
 
 // At one shape: in dimension one each form is the call over the field.
 #[derive(Drop)]
@@ -130,7 +144,7 @@ impl<F: TwoAdicField> CallsTest<F> for DimensionOne {
     }
 }
 
-// And each extension.
+// And each extension, also at zero.
 #[derive(Drop)]
 struct ExtendedInDimensionOne {
     height: usize,
@@ -144,6 +158,8 @@ impl<F: TwoAdicField> CallsTest<F> for ExtendedInDimensionOne {
         assert_same(rt, &engine.lde(rt, &x, 1), &engine.lde_algebra(rt, &x, 1));
         let values = engine.coset_lde(rt, &x, 1, shift);
         assert_same(rt, &values, &engine.coset_lde_algebra(rt, &x, 1, shift));
+        let values = engine.coset_lde(rt, &x, 1, F::ZERO);
+        assert_same(rt, &values, &engine.coset_lde_algebra(rt, &x, 1, F::ZERO));
     }
 }
 
@@ -216,6 +232,7 @@ fn same_as_over_the_field<F: TwoAdicField>(rt: &impl Abort, alloc: Global) {
 #[test]
 fn same_in_dimension_one(rt: HostRuntime) {
     same_as_over_the_field::<BabyBear>(&rt, rt.alloc());
+    same_as_over_the_field::<Goldilocks>(&rt, rt.alloc());
 }
 
 // A matrix of elements that look like any others.
@@ -296,10 +313,21 @@ impl CallsTest<BabyBear> for EachAlone {
     }
 }
 
+// In pairs over the larger field.
+struct PairsAlone;
+
+impl CallsTest<Goldilocks> for PairsAlone {
+    fn run<R: Abort, C: Calls<Goldilocks>>(&self, rt: &R, alloc: Global, engine: &mut C) {
+        alone::<Goldilocks, Pair<Goldilocks>, C>(rt, alloc, engine);
+    }
+}
+
 #[test]
 fn coordinates_of_columns(rt: HostRuntime) {
-    calls_of_every_engine::<BabyBear, _, _>(&rt, rt.alloc(), &WorkedPairs);
+    calls_of_every_engine::<BabyBear, _, _>(&rt, rt.alloc(), &PAIRS_OVER_BABY_BEAR);
     calls_of_every_engine::<BabyBear, _, _>(&rt, rt.alloc(), &EachAlone);
+    calls_of_every_engine::<Goldilocks, _, _>(&rt, rt.alloc(), &PAIRS_OVER_GOLDILOCKS);
+    calls_of_every_engine::<Goldilocks, _, _>(&rt, rt.alloc(), &PairsAlone);
 }
 
 // Every form over the field itself, at height two.
@@ -361,5 +389,5 @@ fn all_stay_prepared<F: TwoAdicField, T: CallsTest<F>>(rt: &impl Abort, alloc: G
 #[test]
 fn stays_prepared(rt: HostRuntime) {
     all_stay_prepared::<BabyBear, _>(&rt, rt.alloc(), &EveryForm);
-    all_stay_prepared::<BabyBear, _>(&rt, rt.alloc(), &WorkedPairs);
+    all_stay_prepared::<BabyBear, _>(&rt, rt.alloc(), &PAIRS_OVER_BABY_BEAR);
 }

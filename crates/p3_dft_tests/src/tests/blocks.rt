@@ -10,8 +10,8 @@ use super::{
 };
 use p3_dft::{
     BabyBear, BlockConsumer, BlockLimit, BlockRefused, BlocksStopped, CanonicalField, Evaluations,
-    Field, Layout, NaiveDft, Recorder, RowMajorMatrix, RowMajorMatrixView, TwoAdicField,
-    TwoAdicSubgroupDft, Unpublished, fits_lde,
+    Field, Goldilocks, Layout, NaiveDft, Recorder, RowMajorMatrix, RowMajorMatrixView,
+    TwoAdicField, TwoAdicSubgroupDft, Unpublished, fits_lde,
 };
 use std::alloc::Global;
 use std::cell::Cell;
@@ -32,10 +32,28 @@ fn has_rows_at<F: TwoAdicField>(
 
 // Compares each block with rows of a matrix as it is lent, and counts the rows.
 #[derive(Drop)]
-struct Compared<F> {
+pub(crate) struct Compared<F> {
     expected: RowMajorMatrix<F>,
     equal: bool,
     rows: usize,
+}
+
+impl<F: TwoAdicField> Compared<F> {
+    // With the rows of this matrix, before any block.
+    pub(crate) fn with(expected: RowMajorMatrix<F>) -> Self {
+        Compared {
+            expected,
+            equal: true,
+            rows: 0,
+        }
+    }
+
+    // Stops the test unless all rows were lent, as they are here too.
+    pub(crate) fn assert_all(self, rt: &impl Abort, out: &RowMajorMatrix<F>) {
+        assert!(rt; self.equal);
+        assert!(rt; self.rows == out.height());
+        assert!(rt; self.expected == *out);
+    }
 }
 
 impl<F: TwoAdicField> BlockConsumer<F> for Compared<F> {
@@ -140,15 +158,19 @@ fn assert_recorded<F: CanonicalField>(
     assert_rows(rt, &out, numbers, width);
 }
 
-// The blocks of an extension of one column on the subgroup, and those of a single row.
-struct RecordedBlocks;
+// The blocks of an extension of one column on the subgroup, whose physical rows have these numbers, and
+// those of a single row.
+#[derive(Drop)]
+struct RecordedBlocks {
+    physical: [u64; 4],
+}
 
 impl<F: CanonicalField> EngineTest<F> for RecordedBlocks {
     fn run<R: Abort, D: TwoAdicSubgroupDft<F>>(&self, rt: &R, alloc: Global, mut engine: D) {
         let mat = matrix(rt, alloc, &[9, 1], 1);
         let recorder = Recorder::with_room(alloc, 4, 4).expect(rt, "memory");
         let answer = extend_to(rt, &mut engine, &mat, 1, F::ONE, recorder);
-        assert_recorded(rt, answer, &[9, 1, 873820294, 1139445637], 1);
+        assert_recorded(rt, answer, &self.physical, 1);
         let row = matrix(rt, alloc, &[42, 7], 2);
         let recorder = Recorder::with_room(alloc, 4, 8).expect(rt, "memory");
         let answer = extend_to(rt, &mut engine, &row, 2, F::from_u8(31), recorder);
@@ -178,20 +200,12 @@ impl<F: CanonicalField> EngineTest<F> for DoubledBlocks {
                 |coefficients: RowMajorMatrix<F>, _layout: Layout| -> RowMajorMatrix<F>
                     ensures { HasShapeOf result coefficients }
                 { doubled(coefficients) },
-                |_rows: usize| -> Compared<F> {
-                    Compared {
-                        expected,
-                        equal: true,
-                        rows: 0,
-                    }
-                },
+                |_rows: usize| -> Compared<F> { Compared::with(expected) },
             );
             let Ok((out, compared)) = answer else {
                 panic!(rt; "not all blocks were taken");
             };
-            assert!(rt; compared.equal);
-            assert!(rt; compared.rows == out.height());
-            assert!(rt; compared.expected == out.bit_reverse_rows());
+            compared.assert_all(rt, &out.bit_reverse_rows());
         }
     }
 }
@@ -404,8 +418,8 @@ impl<F: CanonicalField> EngineTest<F> for MadeLater {
 }
 
 // What every engine publishes.
-fn published<F: CanonicalField>(rt: &impl Abort, alloc: Global) {
-    on_every_engine::<F, _, _>(rt, alloc, &RecordedBlocks);
+fn published<F: CanonicalField>(rt: &impl Abort, alloc: Global, physical: [u64; 4]) {
+    on_every_engine::<F, _, _>(rt, alloc, &RecordedBlocks { physical });
     on_every_engine::<F, _, _>(rt, alloc, &DoubledBlocks);
     on_every_engine::<F, _, _>(rt, alloc, &LimitedBlocks);
     on_every_engine::<F, _, _>(rt, alloc, &MadeLater);
@@ -413,7 +427,9 @@ fn published<F: CanonicalField>(rt: &impl Abort, alloc: Global) {
 
 #[test]
 fn published_blocks(rt: HostRuntime) {
-    published::<BabyBear>(&rt, rt.alloc());
+    published::<BabyBear>(&rt, rt.alloc(), [9, 1, 873820294, 1139445637]);
+    let physical = [9, 1, 1125899906842629, 18445618169507741702];
+    published::<Goldilocks>(&rt, rt.alloc(), physical);
 }
 
 // What some do.
@@ -427,4 +443,5 @@ fn sizes<F: CanonicalField>(rt: &impl Abort, alloc: Global) {
 #[test]
 fn sizes_of_blocks(rt: HostRuntime) {
     sizes::<BabyBear>(&rt, rt.alloc());
+    sizes::<Goldilocks>(&rt, rt.alloc());
 }

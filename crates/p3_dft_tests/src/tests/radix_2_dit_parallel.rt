@@ -3,24 +3,23 @@
 ghost use Rattle.std.specs.Prelude.{◌≡◌};
 ghost use Rattle.p3_matrix.specs.RowMajor.{HasShapeOf};
 
-use super::{EngineTest, elements, on_halves};
+use super::{EngineTest, OVER_BABY_BEAR, OVER_GOLDILOCKS, Worked, elements, on_halves};
 use crate::tests::calls::{Calls, CallsOf};
 use crate::tests::fitting::{assert_column, extensible, pair, transformable};
 use p3_dft::{
-    BabyBear, BlockConsumer, BlockLimit, BlocksStopped, CanonicalField, Evaluations, Field, Layout,
-    Radix2DitParallel, Recorder, RowMajorMatrix, TwoAdicSubgroupDft, fits_dft,
+    BabyBear, BlockConsumer, BlockLimit, BlocksStopped, CanonicalField, Evaluations, Field,
+    Goldilocks, Layout, Radix2DitParallel, Recorder, RowMajorMatrix, TwoAdicSubgroupDft, fits_dft,
 };
 use std::alloc::Global;
 use std::process::Abort;
 
-fn transforms_reversed<F: CanonicalField>(rt: &impl Abort, alloc: Global) {
+fn transforms_reversed<F: CanonicalField>(rt: &impl Abort, alloc: Global, worked: &Worked) {
     let column: RowMajorMatrix<F> = transformable(rt, alloc, &[1, 2, 3, 4]);
     let mut engine: Radix2DitParallel<F> = Radix2DitParallel::default();
     let values = engine.dft_batch(column).expect(rt, "memory");
-    let physical = [10, 2013265919, 569722814, 1443543103];
-    assert_column(rt, values.inner(), &physical);
-    let natural = [10, 569722814, 2013265919, 1443543103];
-    assert_column(rt, &values.to_row_major_matrix(), &natural);
+    let [first, second, third, fourth] = worked.cubic;
+    assert_column(rt, values.inner(), &[first, third, second, fourth]);
+    assert_column(rt, &values.to_row_major_matrix(), &worked.cubic);
 }
 
 fn prepares<F: CanonicalField>(rt: &impl Abort, alloc: Global, engine: &mut Radix2DitParallel<F>) {
@@ -49,24 +48,25 @@ fn transforms_and_inverts<F: CanonicalField, C: Calls<F>>(
     rt: &impl Abort,
     alloc: Global,
     engine: &mut C,
+    worked: &Worked,
 ) {
     let values = engine.column_dft(rt, elements(rt, alloc, &[1, 2, 3, 4]));
-    assert!(rt; values == elements(rt, alloc, &[10, 569722814, 2013265919, 1443543103]));
+    assert!(rt; values == elements(rt, alloc, &worked.cubic));
     let coefficients = engine.column_idft(rt, values);
     assert!(rt; coefficients == elements(rt, alloc, &[1, 2, 3, 4]));
 }
 
 // A transform prepares its height, for inverses too.
-fn transform_prepares<F: CanonicalField>(rt: &impl Abort, alloc: Global) {
+fn transform_prepares<F: CanonicalField>(rt: &impl Abort, alloc: Global, worked: &Worked) {
     let engine: Radix2DitParallel<F> = Radix2DitParallel::default();
     let mut calls = CallsOf { engine };
-    transforms_and_inverts::<F, _>(rt, alloc, &mut calls);
+    transforms_and_inverts::<F, _>(rt, alloc, &mut calls, worked);
     assert!(rt; calls.engine.is_prepared(2));
     assert!(rt; !calls.engine.is_prepared(3));
 }
 
-// The values 13, 2013265918 of 5, 4 on the coset of two are taken back, there and back on the
-// subgroup, and to the coset again, each call with what the one before answered.
+// The values of 5, 4 on the coset of two are taken back, there and back on the subgroup, and to the coset
+// again, each call with what the one before answered.
 fn hands_on<F: CanonicalField, C: Calls<F>>(
     rt: &impl Abort,
     engine: &mut C,
@@ -83,14 +83,14 @@ fn hands_on<F: CanonicalField, C: Calls<F>>(
 
 // Once all is made that they need, calls at a prepared height and on a coset that has its table hand one
 // column on from each to the next, and take no memory.
-fn calls_without_memory<F: CanonicalField>(rt: &impl Abort, alloc: Global) {
+fn calls_without_memory<F: CanonicalField>(rt: &impl Abort, alloc: Global, worked: &Worked) {
     let mut engine: Radix2DitParallel<F> = Radix2DitParallel::default();
     assert!(rt; F::TWO_ADICITY >= 1);
     engine.prepare(alloc, 1).expect(rt, "memory");
     let values = engine
         .coset_dft(pair(rt, alloc, [5, 4]), F::TWO)
         .expect(rt, "memory");
-    assert!(rt; values == elements(rt, alloc, &[13, 2013265918]));
+    assert!(rt; values == elements(rt, alloc, &worked.line_on_two));
     let coefficients = elements(rt, alloc, &[5, 4]);
     // No request for memory from here on.
     hands_on(rt, &mut CallsOf { engine }, values, &coefficients);
@@ -111,13 +111,15 @@ fn row_1_alone<F: Field>(mat: RowMajorMatrix<F>) -> RowMajorMatrix<F>
 }
 
 // The transform has the coefficients in bit reversed order: row 1 is that of the square.
-struct ExtendedSquare;
+#[derive(Drop)]
+struct ExtendedSquare<'a> {
+    worked: &'a Worked,
+}
 
-impl<F: CanonicalField> EngineTest<F> for ExtendedSquare {
+impl<'a, F: CanonicalField> EngineTest<F> for ExtendedSquare<'a> {
     fn run<R: Abort, D: TwoAdicSubgroupDft<F>>(&self, rt: &R, alloc: Global, mut engine: D) {
-        let numbers = [10, 569722814, 2013265919, 1443543103];
         let values = engine.coset_lde_batch_with_transform(
-            extensible(rt, alloc, &numbers, 0),
+            extensible(rt, alloc, &self.worked.cubic, 0),
             0,
             F::ONE,
             |coefficients: RowMajorMatrix<F>, _layout: Layout| -> RowMajorMatrix<F>
@@ -125,7 +127,8 @@ impl<F: CanonicalField> EngineTest<F> for ExtendedSquare {
             { row_1_alone(coefficients) },
         );
         let values = values.expect(rt, "memory").to_row_major_matrix();
-        assert_column(rt, &values, &[3, 2013265918, 3, 2013265918]);
+        let minus_three = F::ORDER_U64.saturating_sub(3);
+        assert_column(rt, &values, &[3, minus_three, 3, minus_three]);
     }
 }
 
@@ -172,11 +175,15 @@ fn blocks_of<F: Field>(rt: &impl Abort, recorder: &Recorder<F>, row: usize, valu
 }
 
 // Each row is a block of its own, in some order.
-struct SingleRows;
+#[derive(Drop)]
+struct SingleRows<'a> {
+    worked: &'a Worked,
+}
 
-impl<F: CanonicalField> EngineTest<F> for SingleRows {
+impl<'a, F: CanonicalField> EngineTest<F> for SingleRows<'a> {
     fn run<R: Abort, D: TwoAdicSubgroupDft<F>>(&self, rt: &R, alloc: Global, mut engine: D) {
-        let rows: Vec<F> = elements(rt, alloc, &[9, 1, 873820294, 1139445637]);
+        let [first, second, third, fourth] = self.worked.line;
+        let rows: Vec<F> = elements(rt, alloc, &[first, third, second, fourth]);
         let recorder: Recorder<F> = Recorder::with_room(alloc, 4, 4).expect(rt, "memory");
         let (recorder, _) = extend_to(rt, alloc, &mut engine, recorder);
         assert!(rt; recorder.blocks() == 4);
@@ -204,23 +211,24 @@ impl<F: CanonicalField> EngineTest<F> for TakenBlocks {
 }
 
 // These extensions and blocks.
-fn extends_by_halves<F: CanonicalField>(rt: &impl Abort, alloc: Global) {
-    on_halves::<F, _, _>(rt, alloc, &ExtendedSquare);
-    on_halves::<F, _, _>(rt, alloc, &SingleRows);
+fn extends_by_halves<F: CanonicalField>(rt: &impl Abort, alloc: Global, worked: &Worked) {
+    on_halves::<F, _, _>(rt, alloc, &ExtendedSquare { worked });
+    on_halves::<F, _, _>(rt, alloc, &SingleRows { worked });
     for (limit, refused) in [(4usize, false), (3, true), (0, true)] {
         on_halves::<F, _, _>(rt, alloc, &TakenBlocks { limit, refused });
     }
 }
 
-fn goes_by_halves<F: CanonicalField>(rt: &impl Abort, alloc: Global) {
-    transforms_reversed::<F>(rt, alloc);
+fn goes_by_halves<F: CanonicalField>(rt: &impl Abort, alloc: Global, worked: &Worked) {
+    transforms_reversed::<F>(rt, alloc, worked);
     prepares_heights::<F>(rt, alloc);
-    transform_prepares::<F>(rt, alloc);
-    calls_without_memory::<F>(rt, alloc);
-    extends_by_halves::<F>(rt, alloc);
+    transform_prepares::<F>(rt, alloc, worked);
+    calls_without_memory::<F>(rt, alloc, worked);
+    extends_by_halves::<F>(rt, alloc, worked);
 }
 
 #[test]
 fn rows_tables_and_blocks(rt: HostRuntime) {
-    goes_by_halves::<BabyBear>(&rt, rt.alloc());
+    goes_by_halves::<BabyBear>(&rt, rt.alloc(), &OVER_BABY_BEAR);
+    goes_by_halves::<Goldilocks>(&rt, rt.alloc(), &OVER_GOLDILOCKS);
 }

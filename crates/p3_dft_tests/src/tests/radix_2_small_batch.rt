@@ -7,8 +7,8 @@ use crate::tests::callers::transform_promised;
 use crate::tests::calls::{Calls, CallsOf};
 use crate::tests::fitting::{assert_column, transformable};
 use p3_dft::{
-    BabyBear, CanonicalField, Field, Radix2DFTSmallBatch, RowMajorMatrix, TwoAdicSubgroupDft,
-    fits_dft,
+    BabyBear, CanonicalField, Field, Goldilocks, Radix2DFTSmallBatch, RowMajorMatrix,
+    TwoAdicSubgroupDft, fits_dft,
 };
 use std::alloc::Global;
 use std::process::Abort;
@@ -75,6 +75,7 @@ fn answers_in_tiles<F: CanonicalField>(rt: &impl Abort, alloc: Global, tile: usi
 fn tiles_change_no_answer(rt: HostRuntime) {
     for tile in [1usize, 5, 8192, 1 << 32] {
         answers_in_tiles::<BabyBear>(&rt, rt.alloc(), tile);
+        answers_in_tiles::<Goldilocks>(&rt, rt.alloc(), tile);
     }
 }
 
