@@ -96,33 +96,23 @@ fn assert_pairs<F: CanonicalField>(
     assert!(rt; found == expected);
 }
 
-// Worked columns of pairs, and a worked extension of one to pairs with these numbers.
-#[derive(Drop)]
-struct WorkedPairs {
-    extended: [u64; 8],
-}
+// Worked columns of pairs, and a worked extension of one.
+struct WorkedPairs;
 
-impl<F: CanonicalField> CallsTest<F> for WorkedPairs {
-    fn run<R: Abort, C: Calls<F>>(&self, rt: &R, alloc: Global, engine: &mut C) {
+impl CallsTest<BabyBear> for WorkedPairs {
+    fn run<R: Abort, C: Calls<BabyBear>>(&self, rt: &R, alloc: Global, engine: &mut C) {
         let values = engine.column_dft_algebra(rt, pairs(rt, alloc, &[5, 1, 4, 0]));
         assert_pairs(rt, alloc, values, &[9, 1, 1, 1]);
         let coefficients = engine.column_idft_algebra(rt, pairs(rt, alloc, &[9, 1, 1, 1]));
         assert_pairs(rt, alloc, coefficients, &[5, 1, 4, 0]);
         let values = engine.column_lde_algebra(rt, pairs(rt, alloc, &[9, 42, 1, 42]), 1);
-        assert_pairs(rt, alloc, values, &self.extended);
+        let numbers = [9, 42, 873820294, 42, 1, 42, 1139445637, 42];
+        assert_pairs(rt, alloc, values, &numbers);
         let column = pairs(rt, alloc, &[9, 42, 1, 42]);
-        let values = engine.column_coset_lde_algebra(rt, column, 1, F::ZERO);
+        let values = engine.column_coset_lde_algebra(rt, column, 1, BabyBear::ZERO);
         assert_pairs(rt, alloc, values, &[5, 42, 5, 42, 5, 42, 5, 42]);
     }
 }
-
-const PAIRS_OVER_BABY_BEAR: WorkedPairs = WorkedPairs {
-    extended: [9, 42, 873820294, 42, 1, 42, 1139445637, 42],
-};
-
-const PAIRS_OVER_GOLDILOCKS: WorkedPairs = WorkedPairs {
-    extended: [9, 42, 1125899906842629, 42, 1, 42, 18445618169507741702, 42],
-};
 
 // At one shape: in dimension one each form is the call over the field.
 #[derive(Drop)]
@@ -313,21 +303,23 @@ impl CallsTest<BabyBear> for EachAlone {
     }
 }
 
-// In pairs over the larger field.
-struct PairsAlone;
+// In pairs over the larger field, and a worked extension of these.
+struct PairsOverGoldilocks;
 
-impl CallsTest<Goldilocks> for PairsAlone {
+impl CallsTest<Goldilocks> for PairsOverGoldilocks {
     fn run<R: Abort, C: Calls<Goldilocks>>(&self, rt: &R, alloc: Global, engine: &mut C) {
         alone::<Goldilocks, Pair<Goldilocks>, C>(rt, alloc, engine);
+        let values = engine.column_lde_algebra(rt, pairs(rt, alloc, &[9, 42, 1, 42]), 1);
+        let numbers = [9, 42, 1125899906842629, 42, 1, 42, 18445618169507741702, 42];
+        assert_pairs(rt, alloc, values, &numbers);
     }
 }
 
 #[test]
 fn coordinates_of_columns(rt: HostRuntime) {
-    calls_of_every_engine::<BabyBear, _, _>(&rt, rt.alloc(), &PAIRS_OVER_BABY_BEAR);
+    calls_of_every_engine::<BabyBear, _, _>(&rt, rt.alloc(), &WorkedPairs);
     calls_of_every_engine::<BabyBear, _, _>(&rt, rt.alloc(), &EachAlone);
-    calls_of_every_engine::<Goldilocks, _, _>(&rt, rt.alloc(), &PAIRS_OVER_GOLDILOCKS);
-    calls_of_every_engine::<Goldilocks, _, _>(&rt, rt.alloc(), &PairsAlone);
+    calls_of_every_engine::<Goldilocks, _, _>(&rt, rt.alloc(), &PairsOverGoldilocks);
 }
 
 // Every form over the field itself, at height two.
@@ -389,5 +381,5 @@ fn all_stay_prepared<F: TwoAdicField, T: CallsTest<F>>(rt: &impl Abort, alloc: G
 #[test]
 fn stays_prepared(rt: HostRuntime) {
     all_stay_prepared::<BabyBear, _>(&rt, rt.alloc(), &EveryForm);
-    all_stay_prepared::<BabyBear, _>(&rt, rt.alloc(), &PAIRS_OVER_BABY_BEAR);
+    all_stay_prepared::<BabyBear, _>(&rt, rt.alloc(), &WorkedPairs);
 }
