@@ -28,6 +28,7 @@ mod reed_solomon;
 mod shifts;
 mod surface;
 mod tally;
+mod tiles;
 mod util;
 mod whole_rows;
 
