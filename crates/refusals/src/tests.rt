@@ -275,7 +275,7 @@ fn answer<F: TwoAdicField>(rt: &impl Abort, alloc: Global, trials: &[Trial]) {
     }
 }
 
-// And with too little. Answers how often memory was refused.
+// Each trial with too little memory. Answers how often memory was refused.
 fn are_refused<F: TwoAdicField>(
     rt: &impl Abort,
     alloc: Global,

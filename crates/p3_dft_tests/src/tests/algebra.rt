@@ -134,7 +134,7 @@ impl<F: TwoAdicField> CallsTest<F> for DimensionOne {
     }
 }
 
-// And each extension, also at zero.
+// Each extension, also at zero.
 #[derive(Drop)]
 struct ExtendedInDimensionOne {
     height: usize,

@@ -125,7 +125,7 @@ impl<'a, F: TwoAdicField> EngineTest<F> for InBitReversedRows<'a, F> {
     }
 }
 
-// And block by block, as these are lent.
+// Block by block, as these are lent.
 #[derive(Drop)]
 struct InBlocks<'a, F> {
     extension: &'a Extension<F>,

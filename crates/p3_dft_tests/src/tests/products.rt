@@ -54,7 +54,7 @@ enum Method {
     Sums,
     // By butterflies, and extensions by an inverse and a transform of the larger height.
     Parts,
-    // The same, where a shift multiplies the rows of coefficients alone.
+    // By parts, where a shift multiplies the rows of coefficients alone.
     ShortShifts,
     // Extensions by an inverse and transforms on cosets.
     Cosets,
@@ -84,7 +84,7 @@ impl Method {
         column.saturating_mul(width)
     }
 
-    // Of each call.
+    // The most products of each call.
     fn bounds(self, shape: Shape) -> Bounds {
         let Shape {
             log_h,
@@ -228,7 +228,7 @@ impl<'a, T> Counted<'a, T> {
         self.count.set(0);
     }
 
-    // Where it made more.
+    // Stops the test where a call made more.
     fn at_most(&self, rt: &impl Abort, call: &str, most: usize) {
         self.within(rt, call, 0, most);
     }
@@ -349,7 +349,7 @@ fn with_transform<F: TwoAdicField, D: TwoAdicSubgroupDft<F>>(
     test.at_most(rt, "coset_lde_batch_with_transform", most);
 }
 
-// The same with its rows in bit reversed order.
+// The extension with its rows in bit reversed order.
 fn in_bit_reversed_order<F: TwoAdicField, D: TwoAdicSubgroupDft<F>>(
     rt: &impl Abort,
     test: &Counted<'_, F>,
@@ -368,7 +368,7 @@ fn in_bit_reversed_order<F: TwoAdicField, D: TwoAdicSubgroupDft<F>>(
     test.at_most(rt, "coset_lde_batch_bit_reversed", most);
 }
 
-// And with its blocks published.
+// The extension with its blocks published.
 fn with_blocks<F: TwoAdicField, D: TwoAdicSubgroupDft<F>>(
     rt: &impl Abort,
     test: &Counted<'_, F>,

@@ -15,7 +15,7 @@ fn shifts_in_place<F: CanonicalField>(rt: &impl Abort, alloc: Global, shift: F, 
     assert_elements(rt, values, numbers);
 }
 
-// And out of place.
+// Three rows of two entries, out of place.
 fn copies_shifted<F: CanonicalField>(rt: &impl Abort, alloc: Global, shift: F, numbers: &[u64]) {
     let rows: Vec<F> = elements(rt, alloc, &[1, 2, 3, 4, 5, 6]);
     let mut values: Vec<F> = elements(rt, alloc, &[9; 6]);

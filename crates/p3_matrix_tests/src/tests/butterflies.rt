@@ -361,7 +361,7 @@ fn counts_eleven<F: CanonicalField + Packable>(
     DitButterfly(F::from_u8(3)).apply_to_rows(row_1, row_2, products);
 }
 
-// And with a scale too, twice as many.
+// With a scale too it counts twice as many.
 fn counts_twenty_two<F: CanonicalField + Packable>(
     row_1: &mut [F],
     row_2: &mut [F],
