@@ -11,13 +11,13 @@ use Rattle.p3_matrix.proofs.RowMajor.{whole_rows}
 use Rattle.p3_matrix.proofs.TwoPowers.{log_same}
 use Rattle.p3_dft.specs.declared.jobs.Job.{Job}
 use Rattle.p3_dft.specs.declared.jobs.Job.TheVariants.{Dft, CosetDft, Idft, CosetIdft, Lde, CosetLde}
-use Rattle.p3_networks.specs.Cosets.{AreCoefficients, IsValues}
+use Rattle.p3_matrix.specs.Cosets.{AreCoefficients, IsValues, values_of}
 use Rattle.p3_dft.specs.Extensions.{IsExtension}
 use Rattle.p3_dft.specs.Jobs.{CanRun, IsAnswer}
 use Rattle.p3_dft.specs.Shapes.{FitsDft, FitsLde}
-use Rattle.p3_dft.specs.Transforms.{IsInterpolation, IsTransform, values_of}
-use Rattle.p3_networks.proofs.Polynomials.Cosets.{values_of_same, values_on_coset}
-use Rattle.p3_networks.proofs.Polynomials.Interpolation.{interpolated, same_coefficients, there_is_no_other, there_is_one}
+use Rattle.p3_dft.specs.Transforms.{IsInterpolation, IsTransform}
+use Rattle.p3_matrix.proofs.Polynomials.Cosets.{values_of_same, values_on_coset}
+use Rattle.p3_matrix.proofs.Polynomials.Interpolation.{interpolated, same_coefficients, there_is_no_other, there_is_one}
 use Rattle.dft.specs.NumberedFields.{NumberedField, members}
 
 -- a matrix by index as it is stored

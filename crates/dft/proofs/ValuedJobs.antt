@@ -9,13 +9,13 @@ use Rattle.p3_field.specs.declared.fields.Field.{Ghosts as FieldMembers}
 use Rattle.p3_matrix.specs.Matrix.{Matrix, Same}
 use Rattle.p3_matrix.specs.RowMajor.{RowMajor, IsRowMajor, height, row, rows}
 use Rattle.p3_matrix.proofs.Matrices.{same_sym, same_trans}
-use Rattle.p3_networks.specs.Cosets.{AreCoefficients}
+use Rattle.p3_matrix.specs.Cosets.{AreCoefficients, values_of}
 use Rattle.p3_dft.specs.Extensions.{IsExtension}
 use Rattle.p3_dft.specs.Jobs.{CanRun, IsAnswer}
 use Rattle.p3_dft.specs.Shapes.{FitsLde}
-use Rattle.p3_dft.specs.Transforms.{values_of, IsInterpolation, IsTransform}
-use Rattle.p3_networks.proofs.Polynomials.Cosets.{coefficients_same, values_same}
-use Rattle.p3_networks.proofs.Polynomials.Interpolation.{coefficients_of_same, same_coefficients}
+use Rattle.p3_dft.specs.Transforms.{IsInterpolation, IsTransform}
+use Rattle.p3_matrix.proofs.Polynomials.Cosets.{coefficients_same, values_same}
+use Rattle.p3_matrix.proofs.Polynomials.Interpolation.{coefficients_of_same, same_coefficients}
 use Rattle.p3_dft.proofs.Calls.Shapes.{input_fits}
 use Rattle.dft.specs.declared.names.Operation.{Operation}
 use Rattle.dft.specs.declared.names.Operation.TheVariants.{Dft, CosetDft, Idft, CosetIdft, Lde, CosetLde}

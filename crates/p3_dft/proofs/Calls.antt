@@ -6,7 +6,6 @@ pub mod EngineSteps
 pub mod ExtendedTransforms
 pub mod Inverses
 pub mod JobLists
-pub mod Padding
 pub mod PreparedCosets
 pub mod PreparedHeights
 pub mod PublishedExtensions

@@ -1,5 +1,2 @@
 -- Reed-Solomon codes: how far apart two words lie, and that a word is told by its coefficients.
-pub mod Distance
-pub mod RowNumbers
 pub mod Words
-pub mod ZeroRows

@@ -1,10 +1,9 @@
--- Reed-Solomon codes: their words, and in how many rows two words agree or differ.
-use Rattle.std.specs.Prelude.{◌≡◌, ◌≢◌, ℕ, ◌+◌, ◌^◌, ◌<◌, ◌≤◌, List, length}
-use Rattle.std.specs.List.{All, AllPairs}
+-- Reed-Solomon codes and their words.
+use Rattle.std.specs.Prelude.{◌≡◌, ℕ, ◌+◌, ◌^◌, ◌<◌, ◌≤◌}
 use Rattle.p3_field.specs.Ring.{IsInvertible}
 use Rattle.p3_field.specs.declared.fields.Field.{Ghosts as FieldMembers}
 use Rattle.p3_matrix.specs.Matrix.{Matrix}
-use Rattle.p3_networks.specs.Cosets.{IsValues}
+use Rattle.p3_matrix.specs.Cosets.{IsValues}
 
 -- polynomials with 2 ^ log_message coefficients, on the coset of the shift of 2 ^ added_bits times as many points
 pub record Code (F : Type 0) : Type 0 where
@@ -29,18 +28,3 @@ pub record IsCodeword {F : Type 0} (f : FieldMembers F) (generator : ℕ → F) 
   pub high : coefficients.height ≡ 2 ^ code.log_message
   pub values : IsValues f.ring (λ n. f.value (generator n)) coefficients (code.log_message + code.added_bits) (f.value code.shift) word
 
--- of at least n rows of so many P holds: there is a list of n row numbers or more, none twice, and P holds of each
-pub record HoldsInRows (n height : ℕ) (P : ℕ → Type 0) : Type 0 where
-  pub rows : List ℕ
-  pub enough : n ≤ length rows
-  pub distinct : AllPairs (λ i j. i ≢ j) rows
-  pub within : All (λ i. i < height) rows
-  pub holds : All P rows
-
--- in at least n rows all entries of x and y are equal
-abbrev pub AgreeInRows : {E : Type 0} → ℕ → Matrix E → Matrix E → Type 0
-AgreeInRows n x y = HoldsInRows n x.height (λ i. (j : ℕ) → j < x.width → x.entry i j ≡ y.entry i j)
-
--- in at least n rows an entry of x is another than that of y
-abbrev pub DifferInRows : {E : Type 0} → ℕ → Matrix E → Matrix E → Type 0
-DifferInRows n x y = HoldsInRows n x.height (λ i. (j : ℕ) × (j < x.width) × (x.entry i j ≢ y.entry i j))

@@ -86,23 +86,23 @@ abbrev pub one_column : {T : Type 0} → List T → RowMajor T
 one_column entries = record { width = 1; values = entries }
 
 -- the logarithms of the heights whose twiddles are there, and the number of products that were made
-pub record Tabled : Type 0 where
+pub record EngineState : Type 0 where
   pub prepared : List ℕ
   pub products : ℕ
 
 -- height 2 ^ k can be transformed without memory: height one has no layer and needs no twiddles, and a height is prepared with every larger one
-abbrev pub IsPrepared : Tabled → ℕ → Type 0
+abbrev pub IsPrepared : EngineState → ℕ → Type 0
 IsPrepared e k = (k ≡ 0) ⊎ ((n : ℕ) × (k ≤ n) × Contains e.prepared n)
 
 -- no height above 2 ^ k was made prepared
-abbrev pub PreparesNoneAbove : ℕ → Tabled → Tabled → Type 0
+abbrev pub PreparesNoneAbove : ℕ → EngineState → EngineState → Type 0
 PreparesNoneAbove k before after = (n : ℕ) → IsPrepared after n → IsPrepared before n ⊎ (n ≤ k)
 
 -- what an engine shows of itself that keeps tables of cosets besides
-pub record CosetTabled (F : Type 0) : Type 0 where
-  pub roots : Tabled
+pub record CosetEngineState (F : Type 0) : Type 0 where
+  pub roots : EngineState
   pub cosets : List (Coset F)
 
 -- the coset of s of order 2 ^ k can be transformed without memory: as a single point, as the subgroup, or by a table of its own
-abbrev pub IsCosetPrepared : {F : Type 0} (f : FieldMembers F) → CosetTabled F → ℕ → f.Element → Type 0
+abbrev pub IsCosetPrepared : {F : Type 0} (f : FieldMembers F) → CosetEngineState F → ℕ → f.Element → Type 0
 IsCosetPrepared f e k s = (k ≡ 0) ⊎ (((s ≡ f.ring.one) × IsPrepared e.roots k) ⊎ ((s ≢ f.ring.one) × HasCoset f e.cosets k s))

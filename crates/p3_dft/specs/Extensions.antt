@@ -1,11 +1,10 @@
 -- Low degree extensions: from the values of polynomials on a subgroup their values on a coset of a larger one.
-use Rattle.std.specs.Prelude.{◌≡◌, ℕ, ◌+◌, ◌-◌, ◌*◌, ◌^◌, ◌++◌, length, replicate}
+use Rattle.std.specs.Prelude.{◌≡◌, ℕ, ◌+◌, ◌*◌, ◌^◌}
 use Rattle.p3_field.specs.declared.fields.Field.{Ghosts as FieldMembers}
 use Rattle.p3_matrix.specs.BitOrder.{bit_reversal}
 use Rattle.p3_matrix.specs.Matrix.{Matrix, Same}
-use Rattle.p3_matrix.specs.RowMajor.{RowMajor, IsRowMajor, height}
-use Rattle.p3_networks.specs.Cosets.{IsValues, AreCoefficients}
-use Rattle.p3_dft.specs.Transforms.{values_of}
+use Rattle.p3_matrix.specs.RowMajor.{RowMajor, IsRowMajor, height, with_zeros}
+use Rattle.p3_matrix.specs.Cosets.{IsValues, AreCoefficients, values_of}
 use Rattle.p3_dft.specs.declared.traits.Layout.{Layout}
 use Rattle.p3_dft.specs.declared.traits.Layout.TheVariants.{Natural, BitReversed}
 
@@ -14,16 +13,16 @@ abbrev pub arrangement : {E : Type 0} → Layout → ℕ → Matrix E → Matrix
 arrangement Natural k m = m
 arrangement BitReversed k m = bit_reversal k m
 
--- m with rows of z below it, up to 2 ^ a times as many
-abbrev pub with_zeros : {T : Type 0} → T → RowMajor T → ℕ → RowMajor T
-with_zeros z m a = record { width = m.width; values = m.values ++ replicate (length m.values * 2 ^ a - length m.values) z }
-
 module _ {F : Type 0} (f : FieldMembers F) (generator : ℕ → F) where
   -- row i of out has the values, at point i of the coset of s of 2 ^ a times as many points, of the polynomials whose values on the subgroup are the columns of m
-  pub record IsExtension (m : RowMajor F) (a : ℕ) (s : f.Element) (out : RowMajor F) : Type 0 where
+  pub record AreExtendedValues (m : RowMajor F) (a : ℕ) (s : f.Element) (out : Matrix f.Element) : Type 0 where
     pub coefficients : Matrix f.Element
     pub are_coefficients : (k : ℕ) → height m ≡ 2 ^ k → AreCoefficients f.ring (λ n. f.value (generator n)) (values_of f m) k f.ring.one coefficients
-    pub extended : (k : ℕ) → height m ≡ 2 ^ k → IsValues f.ring (λ n. f.value (generator n)) coefficients (k + a) s (values_of f out)
+    pub extended : (k : ℕ) → height m ≡ 2 ^ k → IsValues f.ring (λ n. f.value (generator n)) coefficients (k + a) s out
+
+  -- the same of a stored matrix
+  abbrev pub IsExtension : RowMajor F → ℕ → f.Element → RowMajor F → Type 0
+  IsExtension m a s out = AreExtendedValues m a s (values_of f out)
 
   -- out has the same of the polynomials that a transform made of those: called with the coefficients in a layout it may answer the changed ones in that layout
   pub record AreTransformedValues (may_answer : RowMajor F → RowMajor F → Type 0) (layout : Layout) (m : RowMajor F) (a : ℕ) (s : f.Element) (out : Matrix f.Element) : Type 0 where

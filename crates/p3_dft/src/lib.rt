@@ -29,7 +29,7 @@ pub use p3_matrix::{
     DifButterfly, DifButterflyZeros, DitButterfly, Evaluations, IntoRowMajorMatrix, Recorder,
     RowMajorMatrix, RowMajorMatrixView, RowMajorMatrixViewMut, ScaledDitButterfly,
     TwiddleFreeButterfly, apply_dit_by_place, log2_strict_usize, reverse_bits_len,
-    reverse_matrix_index_bits, reverse_slice_index_bits, scale_slice_in_place, split_rows_mut,
+    reverse_matrix_index_bits, reverse_rows, reverse_slice_index_bits, scale_slice_in_place, split_rows_mut,
     swap_rows,
 };
 pub use radix_2_bowers::Radix2Bowers;
@@ -38,4 +38,4 @@ pub use radix_2_dit_parallel::Radix2DitParallel;
 pub use radix_2_small_batch::Radix2DFTSmallBatch;
 pub use reed_solomon::{ReedSolomon, fits_code};
 pub use traits::{Layout, TwoAdicSubgroupDft};
-pub use util::{divide_by_height, extend_by_zeros, fits_dft, fits_lde};
+pub use util::{divide_by_height, extend_by_zeros, extended_height, fits_dft, fits_lde};

@@ -5,17 +5,14 @@ ghost use Rattle.p3_field.specs.Ring.{power};
 ghost use Rattle.p3_matrix.specs.BitOrder.{bit_reversal};
 ghost use Rattle.p3_matrix.specs.Matrix.{Matrix, Same, matrix, image};
 ghost use Rattle.p3_matrix.specs.RowMajor.{HasShapeOf, IsRowMajor, height};
-ghost use Rattle.p3_networks.specs.Cosets.{AreCoefficients, IsQuotient, IsValues, coset_shift};
+ghost use Rattle.p3_matrix.specs.Cosets.{AreCoefficients, IsQuotient, IsValues, coset_shift, values_of};
 ghost use Rattle.p3_dft.specs.Engines.{AtLog};
 ghost use Rattle.p3_dft.specs.Shapes.{FitsDft, FitsLde};
-ghost use Rattle.p3_dft.specs.Transforms.{values_of};
 
 use crate::traits::{Layout, TwoAdicSubgroupDft};
-use crate::util::{divide_rows, exchange_rows, pad_rows, reverse_rows};
+use crate::util::{divide_rows, exchange_rows, pad_rows};
 use p3_field::{Field, Products, TwoAdicField};
-use p3_matrix::{
-    DftError, IntoRowMajorMatrix, RowMajorMatrix, log2_strict_usize, scale_slice_in_place,
-};
+use p3_matrix::{DftError, IntoRowMajorMatrix, RowMajorMatrix, log2_strict_usize, reverse_rows, scale_slice_in_place};
 use p3_networks::radix_2_bowers::{network_g, network_g_transposed};
 use p3_networks::twiddles::reversed_powers;
 use std::alloc::{AllocError, Global};

@@ -11,12 +11,8 @@ use crate::blocks::{BlocksStopped, Unpublished};
 use crate::radix_2_dit_parallel::extension::{Unread, coefficients_with_room, extend};
 use crate::radix_2_dit_parallel::transform::{evaluate, evaluate_on_coset, interpolate};
 use crate::traits::{Layout, TwoAdicSubgroupDft};
-use crate::util::reverse_rows;
 use p3_field::{Field, Products, TwoAdicField};
-use p3_matrix::{
-    BitReversedMatrixView, BlockConsumer, DftError, IntoRowMajorMatrix, RowMajorMatrix,
-    log2_strict_usize,
-};
+use p3_matrix::{BitReversedMatrixView, BlockConsumer, DftError, IntoRowMajorMatrix, RowMajorMatrix, log2_strict_usize, reverse_rows};
 use p3_networks::radix_2_dit_parallel::coset_tables::CosetTables;
 use p3_networks::radix_2_dit_parallel::tables::Tables;
 use std::alloc::{AllocError, Global};
@@ -49,9 +45,9 @@ pub struct Radix2DitParallel<F: TwoAdicField> {
 
 impl<F: TwoAdicField> Model for Radix2DitParallel<F> {
     ghost use Rattle.std.specs.List.{range_with_len};
-    ghost use Rattle.p3_dft.specs.Engines.{CosetTabled};
+    ghost use Rattle.p3_dft.specs.Engines.{CosetEngineState};
 
-    ghost Value = { CosetTabled F };
+    ghost Value = { CosetEngineState F };
 
     ghost view = { λ e. record {
       roots = record { prepared = range_with_len 1 e.tables; products = e.products };
@@ -127,7 +123,8 @@ impl<F: TwoAdicField> TwoAdicSubgroupDft<F> for Radix2DitParallel<F> {
     ghost use Rattle.p3_matrix.specs.Blocks.{IsPublished, IsRefused};
     ghost use Rattle.p3_matrix.specs.Matrix.{Matrix};
     ghost use Rattle.p3_dft.specs.Shapes.{FitsDft, FitsLde};
-    ghost use Rattle.p3_dft.specs.Transforms.{IsInterpolation, IsTransform, values_of};
+    ghost use Rattle.p3_dft.specs.Transforms.{IsInterpolation, IsTransform};
+    ghost use Rattle.p3_matrix.specs.Cosets.{values_of};
     ghost use Rattle.p3_dft.specs.declared.traits.Layout.TheVariants.{BitReversed};
 
     type Evaluations = BitReversedMatrixView<RowMajorMatrix<F>>;

@@ -3,23 +3,19 @@
 ghost use Rattle.std.specs.Prelude.{◌≡◌, ◌↔◌, ◌⊎◌, ℕ, ◌+◌, ◌*◌, ◌/◌, ◌^◌, ◌<◌, ◌≤◌, max, IsTrue, IsOk, IfOk, OnOk, OnErr, Ok, [], length};
 ghost use Rattle.p3_matrix.specs.BitOrder.{bit_reversal};
 ghost use Rattle.p3_matrix.specs.Matrix.{Matrix, image};
-ghost use Rattle.p3_matrix.specs.RowMajor.{HasShapeOf, IsRowMajor, RowMajor, height};
-ghost use Rattle.p3_networks.specs.Cosets.{AreCoefficients, IsQuotient, IsValues, coset_shift};
+ghost use Rattle.p3_matrix.specs.RowMajor.{HasShapeOf, IsRowMajor, RowMajor, height, with_zeros};
+ghost use Rattle.p3_matrix.specs.Cosets.{AreCoefficients, IsQuotient, IsValues, coset_shift, values_of};
 ghost use Rattle.p3_dft.specs.Engines.{AtLog, IsPrepared, PreparesNoneAbove};
-ghost use Rattle.p3_dft.specs.Extensions.{with_zeros};
-ghost use Rattle.p3_dft.specs.Transforms.{IsInterpolation, IsTransform, values_of};
+ghost use Rattle.p3_dft.specs.Transforms.{IsInterpolation, IsTransform};
 ghost use Rattle.p3_networks.specs.Twiddles.{AreTwiddlesFromStart, backward_root, block_powers, forward_root};
 
 use crate::traits::{Layout, TwoAdicSubgroupDft};
-use crate::util::{extend_by_zeros, pad_rows, reverse_rows};
+use crate::util::{extend_by_zeros, pad_rows};
 use p3_field::{Products, TwoAdicField};
-use p3_matrix::{
-    BitReversedMatrixView, DftError, Evaluations, IntoRowMajorMatrix, RowMajorMatrix,
-    log2_strict_usize,
-};
+use p3_matrix::{BitReversedMatrixView, DftError, Evaluations, IntoRowMajorMatrix, RowMajorMatrix, log2_strict_usize, reverse_rows};
 use p3_networks::radix_2_small_batch::groups::{log_tile_rows, piece_size};
 use p3_networks::radix_2_small_batch::networks::{
-    dif_network, dit_network, extending_network, scaled_dif_network,
+    dif_network, dit_network_to_reversed, extending_network, scaled_dif_network,
 };
 use p3_networks::radix_2_small_batch::slots::slots_network;
 use p3_networks::root_tables::RootTables;
@@ -53,9 +49,9 @@ pub struct Radix2DFTSmallBatch<F: TwoAdicField> {
 impl<F: TwoAdicField> Model for Radix2DFTSmallBatch<F> {
     ghost use Rattle.std.specs.Prelude.{◌≤◌};
     ghost use Rattle.std.specs.List.{range_with_len};
-    ghost use Rattle.p3_dft.specs.Engines.{Tabled};
+    ghost use Rattle.p3_dft.specs.Engines.{EngineState};
 
-    ghost Value = { Tabled };
+    ghost Value = { EngineState };
 
     ghost view = { λ e. record { prepared = range_with_len 1 e.tables; products = e.products } };
 
@@ -407,7 +403,7 @@ fn interpolate_reversed<F: TwoAdicField>(
     let width = mat.width();
     let log_rows = log_tile_rows(tile, width, log_h);
     let piece = piece_size(tile);
-    dit_network(
+    dit_network_to_reversed(
         twiddles,
         mat.values_mut(),
         width,

@@ -4,11 +4,12 @@ ghost use Rattle.std.specs.Prelude.{◌≡◌, ◌↔◌, ℕ, ◌+◌, ◌^◌,
 ghost use Rattle.p3_field.specs.Ring.{IsInvertible};
 ghost use Rattle.p3_matrix.specs.Matrix.{Matrix, Same};
 ghost use Rattle.p3_matrix.specs.RowMajor.{height};
-ghost use Rattle.p3_dft.specs.Codes.{AgreeInRows, IsCode, IsCodeword};
+ghost use Rattle.p3_dft.specs.Codes.{IsCode, IsCodeword};
+ghost use Rattle.p3_matrix.specs.RowNumbers.{AgreeInRows};
 ghost use Rattle.p3_dft.specs.Engines.{AfterExtension, AfterTransform};
 ghost use Rattle.p3_dft.specs.Extensions.{IsExtension};
 ghost use Rattle.p3_dft.specs.Shapes.{FitsDft, FitsLde};
-ghost use Rattle.p3_dft.specs.Transforms.{values_of};
+ghost use Rattle.p3_matrix.specs.Cosets.{values_of};
 
 use crate::traits::TwoAdicSubgroupDft;
 use p3_field::{Field, TwoAdicField};

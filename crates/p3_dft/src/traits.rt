@@ -7,20 +7,18 @@ ghost use Rattle.p3_matrix.specs.RowMajor.{HasShapeOf, IsRowMajor, RowMajor, hei
 ghost use Rattle.p3_dft.specs.Blocks.{IsNotOutOfMemory, OnOutOfMemory, OnRefused};
 ghost use Rattle.p3_dft.specs.Coordinates.{flat, flat_column};
 ghost use Rattle.p3_dft.specs.Engines.{AfterExtension, AfterExtensionByParts, AfterTransform, AtLog, EngineFacts, EngineLaws, HasProductsMore, one_column};
-ghost use Rattle.p3_dft.specs.Extensions.{AreTransformedValues, IsExtension, IsTransformedExtension, arrangement};
+ghost use Rattle.p3_dft.specs.Extensions.{AreExtendedValues, AreTransformedValues, IsExtension, IsTransformedExtension, arrangement};
 ghost use Rattle.p3_dft.specs.Shapes.{FitsDft, FitsLde};
 ghost use Rattle.p3_matrix.specs.Matrix.{Matrix, Same, matrix};
 ghost use Rattle.p3_field.specs.Ring.{IsInvertible};
-ghost use Rattle.p3_dft.specs.Transforms.{IsInterpolation, IsTransform, values_of};
+ghost use Rattle.p3_dft.specs.Transforms.{IsInterpolation, IsTransform};
+ghost use Rattle.p3_matrix.specs.Cosets.{values_of};
 
 use crate::algebra::{flatten, gather};
 use crate::blocks::{BlocksStopped, Unpublished};
-use crate::util::{coefficients_from_values, pad_rows, reverse_rows, shift_rows};
+use crate::util::{coefficients_from_values, pad_rows, shift_rows};
 use p3_field::{BasedVectorSpace, Field, Products, TwoAdicField};
-use p3_matrix::{
-    BitReversedMatrixView, BlockConsumer, DftError, Evaluations, IntoRowMajorMatrix,
-    RowMajorMatrix, log2_strict_usize, publish,
-};
+use p3_matrix::{BitReversedMatrixView, BlockConsumer, DftError, Evaluations, IntoRowMajorMatrix, RowMajorMatrix, log2_strict_usize, publish, reverse_rows};
 
 /// In which order the rows of a matrix of `2^k` coefficients lie.
 #[derive(Clone, Copy, Debug, PartialEq, Eq)]
@@ -260,7 +258,8 @@ pub trait TwoAdicSubgroupDft<F: TwoAdicField>: Clone + Default {
     /// not called, so that nothing was published, and comes back. A block is a run of so many rows of
     /// the output's physical matrix; the consumer is told the number of the first. When it refuses a
     /// block no further one is lent, and it comes back with the refusal. The order of the blocks is not
-    /// promised, and not whether `transform` or `make_consumer` is called first.
+    /// promised. The engines of this crate call `make_consumer` after `transform` and after the last
+    /// request for memory, which a test shows of the one and `unpublished` of the other.
     fn coset_lde_batch_with_blocks<
         N: IntoRowMajorMatrix<F>,
         T: FnOnce(RowMajorMatrix<F>, Layout) -> RowMajorMatrix<F> + Drop,
@@ -302,6 +301,43 @@ pub trait TwoAdicSubgroupDft<F: TwoAdicField>: Clone + Default {
                 }
             }
         }
+    }
+
+    /// What `coset_lde_batch` answers, with its rows in bit reversed order and published in blocks as by
+    /// `coset_lde_batch_with_blocks`: a commitment hashes them so while they are in the cache.
+    final fn coset_lde_batch_in_blocks<
+        N: IntoRowMajorMatrix<F>,
+        C: BlockConsumer<F>,
+        M: FnOnce(usize) -> C,
+    >(
+        &mut self,
+        mat: N,
+        added_bits: usize,
+        shift: F,
+        make_consumer: M,
+    ) -> Result<(BitReversedMatrixView<RowMajorMatrix<F>>, C), BlocksStopped<M, C, C::Refusal>>
+        requires fits { FitsLde F.TWO_ADICITY (height (N.stored mat)) (N.stored mat).width added_bits }
+        requires makes { AtLog (height (N.stored mat)) (λ k. M.pre make_consumer (facts.block_rows k added_bits)) }
+        ensures values { IfOk result (λ p.
+            IsExtension F.Field.own F.generator (N.stored mat) added_bits (F.value shift) (reversed_rows p.0.bits p.0.physical)) }
+        ensures published { IfOk result (λ p. AtLog (height (N.stored mat)) (λ k.
+            IsPublished C.step (λ c. M.post make_consumer (facts.block_rows k added_bits) c) (facts.block_rows k added_bits) p.0.physical p.1)) }
+        ensures refused { IfErr result (λ e. OnRefused e (λ c r. AtLog (height (N.stored mat)) (λ k. (out : Matrix F.Element)
+            × AreExtendedValues F.Field.own F.generator (N.stored mat) added_bits (F.value shift) out
+            × IsRefused C.step (λ c. M.post make_consumer (facts.block_rows k added_bits) c) (values_of F.Field.own)
+            (facts.block_rows k added_bits) (bit_reversal (k + added_bits) out) c r))) }
+        ensures unpublished { IfErr result (λ e. OnOutOfMemory e (λ m. m ≡ make_consumer)) }
+        ensures engine { AfterExtension facts self.old self.new (IsNotOutOfMemory result) (N.stored mat) added_bits }
+    {
+        self.coset_lde_batch_with_blocks(
+            mat,
+            added_bits,
+            shift,
+            |coefficients: RowMajorMatrix<F>, _layout: Layout| -> RowMajorMatrix<F>
+                ensures { result ≡ coefficients }
+            { coefficients },
+            make_consumer,
+        )
     }
 
     // A block has a power of two of rows, and an engine that was made or cloned has made no products.

@@ -1,21 +1,24 @@
 -- Sums over lists, and over the blocks of a matrix: whatever the order of the blocks, the sum of theirs is that of all entries.
-use Rattle.std.proofs.Common.{◌≡◌, ℕ, zero, suc, ◌+◌, ◌*◌, ◌/◌, ◌<◌, ◌≤◌, List, [], ◌∷◌, ◌++◌, length, get_or, take, drop, slice_range, Result, Ok, refl, sym, ap, ap₂, ◌∙◌, arith, add-one, ⊎_elim}
+use Rattle.std.proofs.Common.{◌≡◌, ◌≢◌, ℕ, zero, suc, ◌+◌, ◌*◌, ◌/◌, ◌%◌, ◌<◌, ◌≤◌, List, [], ◌∷◌, ◌++◌, length, get_or, map, take, drop, slice_range, Result, Ok, Err, refl, sym, ap, ap₂, ◌∙◌, subst, arith, rules, add-one, ⊎_elim}
 use Rattle.std.specs.Prelude.{⊤, IsPermutation}
-use Rattle.std.specs.List.{swap}
+use Rattle.std.specs.List.{All, AllPairs, swap}
 use Rattle.std.proofs.Math.ListN.{set}
 use Rattle.std.proofs.lemmas.Bool.Decides.{eqb_tells}
 use Rattle.std.proofs.Math.Nat.{add-mul, suc-mul}
-use Rattle.std.proofs.lemmas.List.{get_or-set_same, get_or-set_other, length-set, take-append-drop, take-take, take_all}
+use Rattle.std.proofs.lemmas.List.{get_or-map, get_or_append_left, length-map, places, get_or-set_same, get_or-set_other, length-set, take-append-drop, take-take, take_all}
 use Rattle.std.proofs.lemmas.List.FromFn.{map-range_with_len_more}
 use Rattle.std.proofs.lemmas.List.Sorted.{IsPermutation-keeps}
-use Rattle.std.proofs.lemmas.Nat.{div-add-mod'}
+use Rattle.std.proofs.lemmas.Nat.{div-add-mod', div_below, mod_below}
 use Rattle.std.proofs.lemmas.Slice.{between_is}
 use Rattle.p3_field.specs.Ring.{Ring}
 use Rattle.p3_field.proofs.Rings
 use Rattle.p3_field.proofs.RingSolver.{solve, va, vb, vc, ◌⊞◌}
-use Rattle.p3_matrix.specs.Blocks.{IsPublished, Run, block, first_blocks}
+use Rattle.p3_matrix.specs.Blocks.{IsBlockOf, IsPublished, IsRefused, Run, block, first_blocks}
+use Rattle.p3_matrix.specs.Matrix.{Matrix, image, matrix}
 use Rattle.p3_matrix.specs.RowMajor.{RowMajor, IsRowMajor, height}
-use Rattle.p3_networks.specs.Polynomials.{sum}
+use Rattle.p3_dft_tests.specs.Sums.{sum_of_blocks, sum_of_rows}
+use Rattle.p3_matrix.specs.Polynomials.{sum}
+use Rattle.p3_matrix.proofs.Polynomials.ByIndex.{sum_same}
 
 -- no terms
 pub sum_none : {A : Type 0} (R : Ring A) (t : ℕ → A) → sum R 0 t ≡ R.zero
@@ -132,3 +135,72 @@ module _ {A T : Type 0} (R : Ring A) (f : T → A) (d : T) where
       let size : (n * b) * m.width ≡ length m.values = ap (λ h. h * m.width) all ∙ whole.full in
       run_total step g adds x.blocks x.first last x.run ∙ ap (λ a. a ⊕ total R block_total none x.blocks) (new x.first x.made) ∙ Rings.zero-add R _
       ∙ total_permuted R block_total none (first_blocks b m n) x.blocks x.parts.each_once ∙ first_total b m n ∙ ap (total R f d) (take_all _ m.values (omega (arith, size)))
+
+module _ {A T : Type 0} (R : Ring A) (f : T → A) (d : T) (b : ℕ) (out : Matrix A) where
+  open R use {add as ◌⊕◌, zero as 𝟘}
+
+  infixl 60 ◌⊕◌
+  -- the entries of a block are those of its rows
+  block_entries : (p : ℕ × RowMajor T) → IsBlockOf (λ m. image f (matrix d m)) b out p → total R f d p.1.values ≡ sum_of_rows R b out p.0
+  block_entries p is =
+      let m = p.1 in
+      let w = m.width in
+      let wide : w ≡ out.width = is.rows.wide in
+      let tall : height m ≡ b = is.rows.high in
+      let size : length m.values ≡ b * out.width = sym is.whole.full ∙ ap₂ (λ (h v : ℕ). h * v) tall wide in
+      let some : 0 < w = omega (arith, is.whole.wide) in
+      sum_same R (length m.values) (λ i. f (get_or m.values i d)) (λ i. out.entry (p.0 + i / out.width) (i % out.width))
+      (λ i below.
+      ap (λ q. f (get_or m.values q d)) (sym (div-add-mod' i w))
+      ∙ is.rows.alike (i / w) (i % w) (div_below i w (height m) some (omega (arith, below, is.whole.full))) (mod_below i w some)
+      ∙ ap (λ v. out.entry (p.0 + i / v) (i % v)) wide)
+      ∙ ap (λ n. sum R n (λ i. out.entry (p.0 + i / out.width) (i % out.width))) size
+
+  -- a consumer that took blocks, each for one of those that it had left, and added up the entries of each
+  run_entries : {C X : Type 0} (step : C → ℕ → RowMajor T → Result ⊤ X → C → Type 0) (g : C → A) (left : C → ℕ)
+      → ((c : C) (start : ℕ) (m : RowMajor T) (e : C) → step c start m (Ok tt) e → (left c ≡ left e + 1) × (g e ≡ g c ⊕ total R f d m.values))
+      → (blocks : List (ℕ × RowMajor T)) (c e : C) → All (IsBlockOf (λ m. image f (matrix d m)) b out) blocks → Run step c blocks e
+      → (left c ≡ left e + length blocks) × (g e ≡ g c ⊕ sum_of_blocks R b out (map (λ p. p.0) blocks))
+  unfolding sum
+  run_entries step g left adds [] c e each run = (ap left run ∙ omega arith, ap g (sym run) ∙ sym (R.add_zero (g c)))
+  run_entries step g left adds (p ∷ ps) c e each (j, told, run) =
+      let here : IsBlockOf (λ m. image f (matrix d m)) b out p = each 0 p (omega arith) in
+      let rest = run_entries step g left adds ps j e (λ i x inside. each (suc i) x (omega (arith, inside))) run in
+      let one = adds c p.0 p.1 j told in (
+        omega (arith, one.0, rest.0),
+        rest.1 ∙ ap (λ a. a ⊕ sum_of_blocks R b out (map (λ q. q.0) ps)) (one.1 ∙ ap (λ a. g c ⊕ a) (block_entries p here)) ∙ R.add_assoc (g c) _ _,
+      )
+
+  -- one that began with zero, and refused a block when it had none left
+  pub sum_at_refusal : {C X : Type 0} (step : C → ℕ → RowMajor T → Result ⊤ X → C → Type 0) (may_make : C → Type 0) (g : C → A) (left : C → ℕ) (limit : ℕ) (last : C) (refusal : X)
+      → ((c : C) (start : ℕ) (m : RowMajor T) (e : C) → step c start m (Ok tt) e → (left c ≡ left e + 1) × (g e ≡ g c ⊕ total R f d m.values))
+      → ((c : C) (start : ℕ) (m : RowMajor T) (e : C) → step c start m (Err refusal) e → (left c ≡ 0) × (e ≡ c))
+      → ((c : C) → may_make c → (g c ≡ 𝟘) × (left c ≡ limit))
+      → IsRefused step may_make (λ m. image f (matrix d m)) b out last refusal
+      → (starts : List ℕ) × (length starts ≡ limit) × AllPairs (λ i j. i ≢ j) starts × All (λ start. (start % b ≡ 0) × (start < out.height)) starts
+      × (g last ≡ sum_of_blocks R b out starts)
+  sum_at_refusal step may_make g left limit last refusal adds refuses new x =
+      let first = new x.first x.made in
+      let blocks = x.accepted in
+      let middle = x.run.middle in
+      let stopped = refuses middle x.refused.0 x.refused.1 last x.run.stop in
+      let number = λ (p : ℕ × RowMajor T). p.0 in
+      let none = x.refused in
+      let joined : length (blocks ++ none ∷ []) ≡ length blocks + 1 = search (rules, places) in
+      let at : (i : ℕ) → i < length blocks → get_or (blocks ++ none ∷ []) i none ≡ get_or blocks i none = λ i l. get_or_append_left blocks (none ∷ []) none i l in
+      let each : All (IsBlockOf (λ m. image f (matrix d m)) b out) blocks = λ i e inside.
+      subst (IsBlockOf (λ m. image f (matrix d m)) b out) (get_or_append_left blocks (none ∷ []) e i inside) (x.blocks.each i e (omega (arith, inside, joined))) in
+      let told = run_entries step g left adds blocks x.first middle each x.run.run in
+      let start_is : (i e : ℕ) → i < length (map number blocks) → get_or (map number blocks) i e ≡ (get_or blocks i none).0 = λ i e inside.
+      get_or-map number blocks i none e (omega (arith, inside, length-map blocks number)) in (
+        map number blocks,
+        length-map blocks number ∙ omega (arith, told.0, first.1, stopped.0),
+        (λ i j e before inside same.
+        let in_blocks : j < length blocks = omega (arith, inside, length-map blocks number) in
+        x.blocks.distinct i j none before (omega (arith, in_blocks, joined))
+        (ap number (at i (omega (arith, before, in_blocks))) ∙ sym (start_is i e (omega (arith, before, inside))) ∙ same ∙ start_is j e inside ∙ sym (ap number (at j in_blocks)))),
+        (λ i e inside.
+        let here = each i none (omega (arith, inside, length-map blocks number)) in
+        rw (start_is i e inside) (here.multiple, here.within)),
+        ap g stopped.1 ∙ told.1 ∙ ap (λ a. a ⊕ sum_of_blocks R b out (map number blocks)) first.0 ∙ Rings.zero-add R _,
+      )

@@ -5,7 +5,7 @@ use Rattle.std.proofs.lemmas.List.{get_or-reverse}
 use Rattle.p3_field.specs.declared.fields.Field.{Ghosts as FieldMembers}
 use Rattle.p3_matrix.specs.Matrix.{Matrix, Same}
 use Rattle.p3_matrix.specs.RowMajor.{HasShapeOf, IsRowMajor, RowMajor, height}
-use Rattle.p3_dft.specs.Transforms.{values_of}
+use Rattle.p3_matrix.specs.Cosets.{values_of}
 
 -- they have the shape that they had
 pub same_shape : {T : Type 0} (m n : RowMajor T) → n.width ≡ m.width → n.values ≡ reverse m.values → HasShapeOf n m

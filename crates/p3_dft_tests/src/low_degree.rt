@@ -6,10 +6,9 @@ ghost use Rattle.std.specs.Prelude.{◌≡◌, ◌↔◌, ◌^◌, ◌≤◌, If
 ghost use Rattle.p3_field.specs.Ring.{IsInvertible};
 ghost use Rattle.p3_matrix.specs.Matrix.{Matrix};
 ghost use Rattle.p3_matrix.specs.RowMajor.{height};
-ghost use Rattle.p3_networks.specs.Cosets.{IsValues};
+ghost use Rattle.p3_matrix.specs.Cosets.{IsValues, values_of};
 ghost use Rattle.p3_dft.specs.Engines.{AtLog, IsLater};
 ghost use Rattle.p3_dft.specs.Shapes.{FitsDft};
-ghost use Rattle.p3_dft.specs.Transforms.{values_of};
 
 use p3_dft::{
     DftError, ReedSolomon, RowMajorMatrix, TwoAdicField, TwoAdicSubgroupDft, log2_strict_usize,

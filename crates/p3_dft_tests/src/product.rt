@@ -4,9 +4,9 @@
 //! It stands apart from the tests since must-fail edits are checked without them.
 
 ghost use Rattle.std.specs.Prelude.{◌≡◌, ℕ, ◌+◌, ◌<◌, ◌≤◌, IfOk, get_or, length, map, vec_len};
-ghost use Rattle.p3_networks.specs.Cosets.{point};
+ghost use Rattle.p3_matrix.specs.Cosets.{point};
 ghost use Rattle.p3_dft.specs.Engines.{AtLog, IsLater};
-ghost use Rattle.p3_networks.specs.Polynomials.{convolution, value};
+ghost use Rattle.p3_matrix.specs.Polynomials.{convolution, value};
 ghost use Rattle.p3_dft.specs.Shapes.{FitsDft};
 
 use p3_dft::{DftError, TwoAdicField, TwoAdicSubgroupDft, extend_by_zeros};

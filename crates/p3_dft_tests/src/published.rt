@@ -1,23 +1,24 @@
 //! Extensions with published blocks: clients for every field and engine.
 //!
-//! Each has closures of its own for the transform and for the maker of consumers. What a client may
-//! conclude, whatever the order of the blocks, is its contract.
+//! Each hands over a maker of consumers of its own. What a client may conclude, whatever the order of the
+//! blocks, is its contract.
 
-ghost use Rattle.std.specs.Prelude.{◌≡◌, ℕ, ◌+◌, ◌%◌, ◌/◌, ◌^◌, ◌<◌, ◌≤◌, ◌++◌, List, [], ◌∷◌};
-ghost use Rattle.std.specs.Prelude.{IfErr, IfOk, IfSome, Ok, false, get_or, length};
+ghost use Rattle.std.specs.Prelude.{◌≡◌, ℕ, ◌+◌, ◌%◌, ◌/◌, ◌^◌, ◌<◌, ◌≤◌, ◌≢◌, ◌++◌, List, [], ◌∷◌, IfErr, IfOk, IfSome, Ok, false, get_or, length};
 ghost use Rattle.p3_matrix.specs.BitOrder.{bit_reversal, reversed_rows};
 ghost use Rattle.p3_matrix.specs.Blocks.{AreBlocksOf, IsPartition};
 ghost use Rattle.p3_matrix.specs.Matrix.{Matrix};
 ghost use Rattle.p3_matrix.specs.RowMajor.{RowMajor, height};
-ghost use Rattle.p3_networks.specs.Polynomials.{sum};
+ghost use Rattle.p3_matrix.specs.Polynomials.{sum};
 ghost use Rattle.p3_dft.specs.Engines.{AtLog};
-ghost use Rattle.p3_dft.specs.Extensions.{AreTransformedValues, IsExtension};
+ghost use Rattle.p3_dft.specs.Extensions.{AreExtendedValues, IsExtension};
 ghost use Rattle.p3_dft.specs.Shapes.{FitsLde};
-ghost use Rattle.p3_dft.specs.Transforms.{values_of};
+ghost use Rattle.p3_dft_tests.specs.Sums.{sum_of_blocks};
+ghost use Rattle.std.specs.List.{All, AllPairs};
+ghost use Rattle.p3_matrix.specs.Cosets.{values_of};
 
 use p3_dft::{
     BitReversedMatrixView, BlockConsumer, BlockLimit, BlockRefused, BlocksStopped, DftError, Field,
-    Layout, Recorder, RowMajorMatrix, RowMajorMatrixView, TwoAdicField, TwoAdicSubgroupDft,
+    Recorder, RowMajorMatrix, RowMajorMatrixView, TwoAdicField, TwoAdicSubgroupDft, extended_height,
 };
 use std::convert::Infallible;
 
@@ -35,19 +36,9 @@ pub fn recorded_extension<F: TwoAdicField, D: TwoAdicSubgroupDft<F>>(
         IsPartition (D.facts.block_rows k added_bits) p.0.physical p.1.blocks × (p.1.missed ≡ false))) }
 {
     // There are no more blocks than rows.
-    let rows = mat.height() << added_bits;
+    let rows = extended_height::<F>(mat.height(), mat.width(), added_bits);
     let recorder = Recorder::with_room(*mat.allocator(), rows, rows * mat.width())?;
-    let answer = engine.coset_lde_batch_with_blocks(
-        mat,
-        added_bits,
-        shift,
-        |coefficients: RowMajorMatrix<F>, _layout: Layout| -> RowMajorMatrix<F>
-            ensures { result ≡ coefficients }
-        { coefficients },
-        |_rows: usize| -> Recorder<F>
-            ensures { result ≡ recorder }
-        { recorder },
-    );
+    let answer = engine.coset_lde_batch_in_blocks(mat, added_bits, shift, |_rows| recorder);
     match answer {
         Ok((out, recorder)) => {
             let _whole = out.height();
@@ -83,22 +74,13 @@ pub fn limited_extension<F: TwoAdicField, D: TwoAdicSubgroupDft<F>>(
         (refusal.start % D.facts.block_rows k added_bits ≡ 0) × (refusal.start < 2 ^ (k + added_bits))
         × (limit < 2 ^ (k + added_bits) / D.facts.block_rows k added_bits)))) }
     ensures one_too_many { IfErr result (λ e. IfSome e (λ refusal. AtLog (height mat) (λ k. (out : Matrix F.Element)
-        × AreTransformedValues F.Field.own F.generator (λ told answered. answered ≡ told) D.LAYOUT mat added_bits (F.value shift) out
+        × AreExtendedValues F.Field.own F.generator mat added_bits (F.value shift) out
         × (taken : List (ℕ × RowMajor F)) × (refused : ℕ × RowMajor F)
         × AreBlocksOf (values_of F.Field.own) (D.facts.block_rows k added_bits) (bit_reversal (k + added_bits) out) (taken ++ refused ∷ [])
         × (length taken ≡ limit) × (refusal.start ≡ refused.0)))) }
 {
-    let answer = engine.coset_lde_batch_with_blocks(
-        mat,
-        added_bits,
-        shift,
-        |coefficients: RowMajorMatrix<F>, _layout: Layout| -> RowMajorMatrix<F>
-            ensures { result ≡ coefficients }
-        { coefficients },
-        |_rows: usize| -> BlockLimit
-            ensures { (result.limit ≡ limit) × (result.seen ≡ 0) }
-        { BlockLimit::new(limit) },
-    );
+    let answer =
+        engine.coset_lde_batch_in_blocks(mat, added_bits, shift, |_rows| BlockLimit::new(limit));
     match answer {
         Ok((out, taken)) => Ok((out, taken.seen())),
         Err(stopped) => match stopped {
@@ -120,7 +102,7 @@ pub struct BlockSum<F> {
 
 impl<F: Field> BlockConsumer<F> for BlockSum<F> {
     ghost use Rattle.std.specs.Prelude.{◌≡◌, Ok, get_or, length};
-    ghost use Rattle.p3_networks.specs.Polynomials.{sum};
+    ghost use Rattle.p3_matrix.specs.Polynomials.{sum};
 
     type Refusal = Infallible;
 
@@ -160,17 +142,9 @@ pub fn summed_extension<F: TwoAdicField, D: TwoAdicSubgroupDft<F>>(
     ensures summed { IfOk result (λ p.
         F.value p.1 ≡ sum F.ring (length p.0.physical.values) (λ i. F.value (get_or p.0.physical.values i F.ZERO))) }
 {
-    let answer = engine.coset_lde_batch_with_blocks(
-        mat,
-        added_bits,
-        shift,
-        |coefficients: RowMajorMatrix<F>, _layout: Layout| -> RowMajorMatrix<F>
-            ensures { result ≡ coefficients }
-        { coefficients },
-        |_rows: usize| -> BlockSum<F>
-            ensures { F.value result.sum ≡ F.ring.zero }
-        { BlockSum { sum: F::ZERO } },
-    );
+    let answer = engine.coset_lde_batch_in_blocks(mat, added_bits, shift, |_rows| BlockSum {
+        sum: F::ZERO,
+    });
     match answer {
         Ok((out, total)) => {
             let _whole = out.height();
@@ -182,6 +156,71 @@ pub fn summed_extension<F: TwoAdicField, D: TwoAdicSubgroupDft<F>>(
                 refusal,
             } => match refusal {},
             BlocksStopped::OutOfMemory(_) => Err(DftError::OutOfMemory),
+        },
+    }
+}
+
+/// A consumer that adds up the entries of the first blocks, so many, and refuses any other.
+#[derive(Drop)]
+pub struct LimitedSum<F> {
+    /// The sum so far.
+    pub sum: F,
+    /// How many more blocks it takes.
+    pub left: usize,
+}
+
+impl<F: Field> BlockConsumer<F> for LimitedSum<F> {
+    ghost use Rattle.std.specs.Prelude.{◌≡◌, ◌+◌, Ok, Err, get_or, length};
+    ghost use Rattle.p3_matrix.specs.Polynomials.{sum};
+
+    type Refusal = ();
+
+    ghost step = { λ c start block answer e.
+        (answer ≡ Ok tt → (c.left ≡ e.left + 1) × (F.value e.sum
+        ≡ F.ring.add (F.value c.sum) (sum F.ring (length block.values) (λ i. F.value (get_or block.values i F.ZERO)))))
+        × (answer ≡ Err tt → (c.left ≡ 0) × (e ≡ c)) };
+
+    fn consume(&mut self, start: usize, block: RowMajorMatrixView<'_, F>) -> Result<(), ()>
+        ensures { ⟦<LimitedSum<F> as BlockConsumer<F>>⟧.step self.old start block.entry result self.new }
+    {
+        let _ = start;
+        if self.left == 0 {
+            return Err(());
+        }
+        self.left -= 1;
+        self.sum = self.sum + sum_of(block.values());
+        Ok(())
+    }
+}
+
+/// The sum of the entries of so many blocks of an extension, where it has more: of each block those of its
+/// rows, and no block twice. Else, or where memory was refused, there is none.
+pub fn sum_of_first_blocks<F: TwoAdicField, D: TwoAdicSubgroupDft<F>>(
+    engine: &mut D,
+    mat: RowMajorMatrix<F>,
+    added_bits: usize,
+    shift: F,
+    limit: usize,
+) -> Option<F>
+    requires { FitsLde F.TWO_ADICITY (height mat) mat.width added_bits }
+    ensures { IfSome result (λ total. AtLog (height mat) (λ k. (out : Matrix F.Element)
+        × AreExtendedValues F.Field.own F.generator mat added_bits (F.value shift) out
+        × (starts : List ℕ) × (length starts ≡ limit) × AllPairs (λ i j. i ≢ j) starts
+        × All (λ start. (start % D.facts.block_rows k added_bits ≡ 0) × (start < 2 ^ (k + added_bits))) starts
+        × (F.value total ≡ sum_of_blocks F.ring (D.facts.block_rows k added_bits) (bit_reversal (k + added_bits) out) starts))) }
+{
+    let answer = engine.coset_lde_batch_in_blocks(mat, added_bits, shift, |_rows| LimitedSum {
+        sum: F::ZERO,
+        left: limit,
+    });
+    match answer {
+        Ok(_all) => None,
+        Err(stopped) => match stopped {
+            BlocksStopped::Refused {
+                consumer,
+                refusal: (),
+            } => Some(consumer.sum),
+            BlocksStopped::OutOfMemory(_) => None,
         },
     }
 }

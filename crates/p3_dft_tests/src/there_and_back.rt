@@ -7,7 +7,7 @@ ghost use Rattle.p3_field.specs.Ring.{IsInvertible};
 ghost use Rattle.p3_matrix.specs.Matrix.{Same};
 ghost use Rattle.p3_matrix.specs.RowMajor.{height};
 ghost use Rattle.p3_dft.specs.Shapes.{FitsDft};
-ghost use Rattle.p3_dft.specs.Transforms.{values_of};
+ghost use Rattle.p3_matrix.specs.Cosets.{values_of};
 
 use p3_dft::{DftError, Evaluations, RowMajorMatrix, TwoAdicField, TwoAdicSubgroupDft};
 

@@ -6,11 +6,10 @@
 ghost use Rattle.std.specs.Prelude.{◌≡◌, ◌+◌, ◌-◌, ◌≤◌, IfOk, reverse};
 ghost use Rattle.p3_matrix.specs.Matrix.{Matrix};
 ghost use Rattle.p3_matrix.specs.RowMajor.{IsRowMajor, height};
-ghost use Rattle.p3_networks.specs.Cosets.{AreCoefficients, IsValues};
+ghost use Rattle.p3_matrix.specs.Cosets.{AreCoefficients, IsValues, values_of};
 ghost use Rattle.p3_dft.specs.Engines.{AtLog};
 ghost use Rattle.p3_dft.specs.Extensions.{IsExtension};
 ghost use Rattle.p3_dft.specs.Shapes.{FitsDft, FitsLde};
-ghost use Rattle.p3_dft.specs.Transforms.{values_of};
 
 use p3_dft::{DftError, Layout, Radix2Dit, RowMajorMatrix, TwoAdicField, TwoAdicSubgroupDft};
 

@@ -50,6 +50,7 @@ module _ {A T : Type 0} (value : T → A) (d : T) (m : RowMajor T) (whole : IsRo
       record {
         multiple = mul-mod_left q b;
         within = omega (arith, room, some, same.high);
+        whole = record { wide = whole.wide; full = ap (λ n. n * w) tall ∙ sym size };
         rows = record {
           high = tall;
           wide = same.wide;

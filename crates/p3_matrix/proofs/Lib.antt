@@ -6,10 +6,12 @@ pub mod Consumers
 pub mod HalfReversed
 pub mod Lanes
 pub mod Matrices
+pub mod Polynomials
 pub mod Recordings
 pub mod ReversedRows
 pub mod RowExchanges
 pub mod RowMajor
+pub mod Rows
 pub mod RowsByPacks
 pub mod Tiles
 pub mod TwoPowers

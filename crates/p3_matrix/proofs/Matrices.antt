@@ -2,7 +2,7 @@
 use Rattle.std.proofs.Common.{◌≡◌, ℕ, zero, suc, ◌<◌, refl, sym, ap, ap₂, ◌∙◌, [], ◌∷◌, ◌++◌, length, get_or, map, arith, add-one}
 use Rattle.std.specs.List.{range_with_len}
 use Rattle.std.proofs.lemmas.List.FromFn.{length-map-range_with_len, get_or-map-range_with_len, map-range_with_len_more}
-use Rattle.p3_matrix.specs.Matrix.{Matrix, Same, row_of, list_of_rows}
+use Rattle.p3_matrix.specs.Matrix.{Matrix, Same, image, row_of, list_of_rows}
 
 -- two lists by index are equal where their entries are
 pub list_same : {X : Type 0} (f g : ℕ → X) (n : ℕ) → ((i : ℕ) → i < n → f i ≡ g i) → map f (range_with_len 0 n) ≡ map g (range_with_len 0 n)
@@ -11,6 +11,10 @@ list_same f g (suc n) e =
     ap (λ k. map f (range_with_len 0 k)) (sym (add-one n)) ∙ map-range_with_len_more f 0 n n (omega arith)
     ∙ ap₂ (λ xs x. xs ++ x ∷ []) (list_same f g n (λ i l. e i (omega arith))) (e n (omega arith))
     ∙ sym (ap (λ k. map g (range_with_len 0 k)) (sym (add-one n)) ∙ map-range_with_len_more g 0 n n (omega arith))
+
+-- f of the entries of one matrix
+pub mapped_same : {T E : Type 0} (f : T → E) (a b : Matrix T) → Same a b → Same (image f a) (image f b)
+mapped_same f a b e = record { high = e.high; wide = e.wide; alike = λ i j p q. ap f (e.alike i j p q) }
 
 module _ {E : Type 0} where
   pub same_sym : (a b : Matrix E) → Same a b → Same b a
@@ -32,26 +36,3 @@ module _ {E : Type 0} where
   list_of_rows_same a b s =
       list_same (row_of a) (row_of b) a.height (λ i p. list_same (a.entry i) (b.entry i) a.width (λ j q. s.alike i j p q) ∙ ap (λ w. map (b.entry i) (range_with_len 0 w)) s.wide)
       ∙ ap (λ h. map (row_of b) (range_with_len 0 h)) s.high
-
-  -- and the other way round, where there is a row, which shows the width
-  pub same_of_rows : (a b : Matrix E) → 0 < a.height → list_of_rows a ≡ list_of_rows b → Same a b
-  same_of_rows a b some e = record {
-    high = high;
-    wide = wide;
-    alike = λ i j p q.
-        sym (get_or-map-range_with_len (a.entry i) 0 a.width j j (a.entry i j) q (omega arith))
-        ∙ ap (λ xs. get_or xs j (a.entry i j)) (rows i p)
-        ∙ get_or-map-range_with_len (b.entry i) 0 b.width j j (a.entry i j) (omega (arith, wide)) (omega arith);
-  }
-    where
-      high : a.height ≡ b.height
-      high = sym (length-map-range_with_len (row_of a) 0 a.height) ∙ ap length e ∙ length-map-range_with_len (row_of b) 0 b.height
-
-      rows : (i : ℕ) → i < a.height → row_of a i ≡ row_of b i
-      rows i p =
-          sym (get_or-map-range_with_len (row_of a) 0 a.height i i [] p (omega arith))
-          ∙ ap (λ xs. get_or xs i []) e
-          ∙ get_or-map-range_with_len (row_of b) 0 b.height i i [] (omega (arith, high)) (omega arith)
-
-      wide : a.width ≡ b.width
-      wide = sym (length-map-range_with_len (a.entry 0) 0 a.width) ∙ ap length (rows 0 some) ∙ length-map-range_with_len (b.entry 0) 0 b.width

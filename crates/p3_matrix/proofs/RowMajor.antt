@@ -1,12 +1,13 @@
--- Stored matrices: entries that fill whole rows, and that by index and as stored a matrix has the same rows.
-use Rattle.std.proofs.Common.{◌≡◌, ℕ, ◌+◌, ◌*◌, ◌/◌, ◌-◌, ◌<◌, ◌≤◌, List, length, get_or, map, take, drop, slice_range, sym, ap, ◌∙◌, arith, rules}
+-- Stored matrices: entries that fill whole rows, that by index and as stored a matrix has the same rows, and that entries written anew keep the shape.
+use Rattle.std.proofs.Common.{◌≡◌, ℕ, ◌+◌, ◌*◌, ◌/◌, ◌-◌, ◌<◌, ◌≤◌, List, ◌++◌, length, get_or, map, take, drop, slice_range, sym, ap, ap₂, ◌∙◌, arith, rules}
 use Rattle.std.specs.List.{range_with_len}
 use Rattle.std.proofs.lemmas.List.{places}
 use Rattle.std.proofs.lemmas.List.FromFn.{fill_by_all}
 use Rattle.std.proofs.Math.Nat.{add-mul, mul-le-mul_right, mul-div_cancel}
-use Rattle.p3_matrix.specs.RowMajor.{RowMajor, IsRowMajor, height, row, rows}
+use Rattle.p3_matrix.specs.RowMajor.{RowMajor, HasShapeOf, IsRowMajor, height, row, rows}
 use Rattle.p3_matrix.specs.Matrix.{matrix, row_of, list_of_rows}
 use Rattle.p3_matrix.proofs.Matrices.{list_same}
+use Rattle.p3_matrix.proofs.Rows.Overwritten.{written}
 
 -- h rows of w entries are h whole rows
 pub whole_rows : (size h w : ℕ) → 1 ≤ w → size ≡ h * w → (size / w ≡ h) × ((size / w) * w ≡ size)
@@ -39,3 +40,19 @@ pub list_of_rows_stored : {T : Type 0} (d : T) (m : RowMajor T) → IsRowMajor m
 list_of_rows_stored d m whole =
     list_same (row_of (matrix d m)) (row m) (height m)
     (λ i p. sym (part_by_index m.values (i * m.width) m.width d (row_within i (height m) m.width (length m.values) p whole.full)))
+
+-- the height of a stored matrix from the number of its entries
+pub height_of_parts : {T : Type 0} (m : RowMajor T) (values : List T) (w h : ℕ) → 1 ≤ w → length values ≡ h * w → m.width ≡ w → m.values ≡ values → height m ≡ h
+height_of_parts {T} m values w h wide size width_is values_is =
+    ap₂ (λ (xs : List T) (v : ℕ). length xs / v) values_is width_is ∙ ap (λ n. n / w) size ∙ mul-div_cancel h (omega arith)
+
+-- a matrix whose entries were all written anew has the shape that it had
+pub written_size : {T : Type 0} (xs ys : List T) → length ys ≡ length xs → length (take (length xs) (ys ++ drop (length ys) xs)) ≡ length xs
+written_size xs ys size = ap length (written (length xs) ys (drop (length ys) xs) size) ∙ size
+
+pub written_shape : {T : Type 0} (m out : RowMajor T) (ys : List T) → out.width ≡ m.width → out.values ≡ take (length m.values) (ys ++ drop (length ys) m.values) → length ys ≡ length m.values → HasShapeOf out m
+written_shape m out ys wide is size = (ap₂ (λ n w. n / w) (ap length is ∙ written_size m.values ys size) wide, wide)
+
+-- a matrix that keeps its shape and its size stays whole
+pub whole_kept : {T U : Type 0} (m : RowMajor T) (out : RowMajor U) → IsRowMajor m → HasShapeOf out m → length out.values ≡ length m.values → IsRowMajor out
+whole_kept m out whole (tall, wide) size = record { wide = omega (arith, whole.wide, wide); full = ap₂ (λ (h w : ℕ). h * w) tall wide ∙ whole.full ∙ sym size }

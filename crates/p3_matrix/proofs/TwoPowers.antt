@@ -1,8 +1,8 @@
--- Powers of two: their order is that of their logarithms.
-use Rattle.std.proofs.Common.{◌≡◌, ℕ, ◌<◌, ◌≤◌, ◌^◌, suc, ◌+◌, ◌*◌, ap, add-one, arith, ⊎_elim, ◌⊎◌, inl, inr, lit≤}
+-- Powers of two: their order is that of their logarithms, and numbers of entries in so many rows.
+use Rattle.std.proofs.Common.{◌≡◌, ℕ, ◌<◌, ◌≤◌, ◌^◌, suc, ◌+◌, ◌*◌, ap, add-one, arith, ⊎_elim, ◌⊎◌, inl, inr, lit≤, sym, ◌∙◌}
 use Rattle.std.proofs.lemmas.Bool.{cases_lt}
 use Rattle.std.proofs.lemmas.Nat.{pow_below, pow_pos}
-use Rattle.std.proofs.Math.Nat.{pow-le-pow_right, two-pow-succ}
+use Rattle.std.proofs.Math.Nat.{mul-le-mul_right, pow-le-pow_right, two-pow-succ}
 
 -- a smaller power has the smaller logarithm
 pub log_lt : (j k : ℕ) → 2 ^ j < 2 ^ k → j < k
@@ -32,3 +32,15 @@ digit_below t r d l b = let e : 2 ^ (t + 1) ≡ 2 ^ suc t = ap (λ m. 2 ^ m) (ad
 -- fewer digits than a usize has
 pub usize_holds : (t n : ℕ) → t ≤ 63 → n < 2 ^ t → n < 2 ^ 63
 usize_holds t n l b = omega (arith, pow-le-pow_right {n = 2} (lit≤ tt) l)
+
+-- an extension has no fewer entries
+pub entries_rise : (k a w : ℕ) → 2 ^ k * w ≤ 2 ^ (k + a) * w
+entries_rise k a w = mul-le-mul_right w (pow-le-pow_right (omega arith) (omega arith))
+
+-- more than one point is no single row without added bits
+pub more_points : (h log a : ℕ) → h ≡ 2 ^ log → (log + a ≡ 0 → ⊥) → h ≡ 1 → a ≡ 0 → ⊥
+more_points h log a is more one none = let single : log ≡ 0 = log_same log 0 (sym is ∙ one) in more (omega (arith, none, single))
+
+-- the logarithm of a height, as a program found it, is that of a shape
+pub log_within : (log a most fit h : ℕ) → h ≡ 2 ^ log → h ≡ 2 ^ fit → fit + a ≤ most → log + a ≤ most
+log_within log a most fit h is high within = let same : log ≡ fit = log_same log fit (sym is ∙ high) in omega (arith, same, within)

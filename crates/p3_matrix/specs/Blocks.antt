@@ -2,7 +2,7 @@
 use Rattle.std.specs.Prelude.{◌≡◌, ◌≢◌, ℕ, ◌+◌, ◌*◌, ◌/◌, ◌%◌, ◌<◌, List, [], ◌∷◌, ◌++◌, map, IsPermutation, Result, Ok, Err, ⊤}
 use Rattle.std.specs.List.{FoldsTo, All, AllPairs, range_with_len}
 use Rattle.p3_matrix.specs.Matrix.{Matrix, Same}
-use Rattle.p3_matrix.specs.RowMajor.{RowMajor, height, rows_from}
+use Rattle.p3_matrix.specs.RowMajor.{RowMajor, IsRowMajor, height, rows_from}
 
 -- block q of b rows: the number of its first row, and its rows
 abbrev pub block : {T : Type 0} → ℕ → RowMajor T → ℕ → ℕ × RowMajor T
@@ -21,10 +21,11 @@ pub record IsPartition {T : Type 0} (b : ℕ) (m : RowMajor T) (blocks : List (�
 abbrev pub part : {A : Type 0} → Matrix A → ℕ → ℕ → Matrix A
 part m start b = record { height = b; width = m.width; entry = λ i j. m.entry (start + i) j }
 
--- a block that starts at a multiple of b within m, with the values of the b rows there
+-- whole rows that start at a multiple of b within m, with the values of the b rows there
 pub record IsBlockOf {T A : Type 0} (values : RowMajor T → Matrix A) (b : ℕ) (m : Matrix A) (block : ℕ × RowMajor T) : Type 0 where
   pub multiple : block.0 % b ≡ 0
   pub within : block.0 < m.height
+  pub whole : IsRowMajor block.1
   pub rows : Same (values block.1) (part m block.0 b)
 
 -- such blocks, none twice

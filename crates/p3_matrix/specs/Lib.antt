@@ -1,11 +1,15 @@
 pub mod BitOrder
 pub mod Blocks
 pub mod Butterflies
+pub mod Combinations
 pub mod Consumers
+pub mod Cosets
 pub mod Exchange
 pub mod Loans
 pub mod Matrix
+pub mod Polynomials
 pub mod RowMajor
+pub mod RowNumbers
 pub mod SliceLoans
 pub mod ViewLoans
 pub mod Writes

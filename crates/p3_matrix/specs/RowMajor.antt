@@ -1,5 +1,5 @@
 -- Matrices as they are stored: the entries of one row after those of another.
-use Rattle.std.specs.Prelude.{◌≡◌, ℕ, ◌+◌, ◌*◌, ◌/◌, ◌≤◌, List, length, map, slice_range}
+use Rattle.std.specs.Prelude.{◌≡◌, ℕ, ◌+◌, ◌-◌, ◌*◌, ◌/◌, ◌^◌, ◌≤◌, List, ◌++◌, length, map, replicate, slice_range}
 use Rattle.std.specs.List.{range_with_len}
 
 -- a width, and the entries row by row
@@ -31,3 +31,7 @@ rows m = map (row m) (range_with_len 0 (height m))
 -- the n rows from row i on
 abbrev pub rows_from : {T : Type 0} → RowMajor T → ℕ → ℕ → RowMajor T
 rows_from m i n = record { width = m.width; values = slice_range m.values (i * m.width) (i * m.width + n * m.width) }
+
+-- m with rows of z below it, up to 2 ^ a times as many
+abbrev pub with_zeros : {T : Type 0} → T → RowMajor T → ℕ → RowMajor T
+with_zeros z m a = record { width = m.width; values = m.values ++ replicate (length m.values * 2 ^ a - length m.values) z }

@@ -3,7 +3,7 @@
 ghost use Rattle.std.specs.Prelude.{◌≡◌, ◌+◌, ◌*◌, ◌/◌, ◌^◌, ◌<◌, ◌≤◌, ◌⊎◌, ℕ, length, get_or};
 ghost use Rattle.p3_matrix.specs.RowMajor.{HasShapeOf, IsRowMajor, height};
 ghost use Rattle.p3_matrix.specs.Matrix.{matrix, Same};
-ghost use Rattle.p3_matrix.specs.BitOrder.{rev, bit_reversal};
+ghost use Rattle.p3_matrix.specs.BitOrder.{rev, bit_reversal, reversed_rows};
 
 use crate::dense::RowMajorMatrix;
 use crate::util::{exchange, log2_strict_usize};
@@ -136,6 +136,20 @@ pub fn reverse_matrix_index_bits<T>(view: &mut RowMajorMatrixViewMut<'_, T>)
     if height > 0 {
         reverse_runs(view.values_mut(), width, log2_strict_usize(height));
     }
+}
+
+/// `reverse_matrix_index_bits` of a matrix itself. The height is a power of two.
+pub fn reverse_rows<T>(mat: &mut RowMajorMatrix<T>)
+    requires power { (k : ℕ) × (height mat.old ≡ 2 ^ k) }
+    ensures shape { HasShapeOf mat.new mat.old }
+    ensures size { length mat.new.values ≡ length mat.old.values }
+    ensures rows { (k : ℕ) → height mat.old ≡ 2 ^ k
+        → (d : T) → Same (matrix d mat.new) (bit_reversal k (matrix d mat.old)) }
+    ensures there { (k : ℕ) → height mat.old ≡ 2 ^ k → mat.new ≡ reversed_rows k mat.old }
+    ensures back { (k : ℕ) → height mat.old ≡ 2 ^ k → mat.old ≡ reversed_rows k mat.new }
+{
+    let _whole = mat.width();
+    reverse_matrix_index_bits(&mut mat.as_view_mut());
 }
 
 /// Puts `2^bits` runs of `width` entries, which lie one after another in a slice, into bit reversed order,

@@ -2,9 +2,9 @@
 
 ghost use Rattle.std.specs.Prelude.{◌≡◌, ◌^◌, ℕ};
 ghost use Rattle.p3_matrix.specs.BitOrder.{reversed_rows};
-ghost use Rattle.p3_matrix.specs.RowMajor.{HasShapeOf, RowMajor, height};
+ghost use Rattle.p3_matrix.specs.RowMajor.{RowMajor, height};
 
-use crate::bitrev::{BitReversedMatrixView, reverse_matrix_index_bits};
+use crate::bitrev::{BitReversedMatrixView, reverse_rows};
 use crate::dense::RowMajorMatrix;
 
 /// A matrix that can be put into natural order, or into bit reversed order.
@@ -31,7 +31,7 @@ impl<F: Drop> Evaluations<F> for RowMajorMatrix<F> {
     }
 
     fn into_bit_reversed(mut self) -> BitReversedMatrixView<RowMajorMatrix<F>> {
-        reverse_row_order(&mut self);
+        reverse_rows(&mut self);
         self.bit_reverse_rows()
     }
 }
@@ -43,24 +43,13 @@ impl<F: Drop> Evaluations<F> for BitReversedMatrixView<RowMajorMatrix<F>> {
 
     fn to_row_major_matrix(self) -> RowMajorMatrix<F> {
         let mut mat = self.bit_reverse_rows();
-        reverse_row_order(&mut mat);
+        reverse_rows(&mut mat);
         mat
     }
 
     fn into_bit_reversed(self) -> BitReversedMatrixView<RowMajorMatrix<F>> {
         self
     }
-}
-
-// `reverse_matrix_index_bits` of a matrix itself.
-fn reverse_row_order<T>(mat: &mut RowMajorMatrix<T>)
-    requires { (k : ℕ) × (height mat.old ≡ 2 ^ k) }
-    ensures shape { HasShapeOf mat.new mat.old }
-    ensures there { (k : ℕ) → height mat.old ≡ 2 ^ k → mat.new ≡ reversed_rows k mat.old }
-    ensures back { (k : ℕ) → height mat.old ≡ 2 ^ k → mat.old ≡ reversed_rows k mat.new }
-{
-    let _whole = mat.width();
-    reverse_matrix_index_bits(&mut mat.as_view_mut());
 }
 
 /// What can be handed over as a matrix.

@@ -13,7 +13,8 @@ pub mod util;
 pub mod views;
 
 pub use bitrev::{
-    BitReversedMatrixView, reverse_bits_len, reverse_matrix_index_bits, reverse_slice_index_bits,
+    BitReversedMatrixView, reverse_bits_len, reverse_matrix_index_bits, reverse_rows,
+    reverse_slice_index_bits,
 };
 pub use blocks::{BlockConsumer, BlockLimit, BlockRefused, Recorder, publish};
 pub use butterflies::{

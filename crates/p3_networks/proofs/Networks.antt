@@ -7,6 +7,7 @@ pub mod HighRows
 pub mod LowLayers
 pub mod LowRows
 pub mod Runs
+pub mod SlotPlaces
 pub mod Slots
 pub mod Scaled
 pub mod Stages

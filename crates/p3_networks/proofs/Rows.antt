@@ -1,7 +1,3 @@
--- Rows of flat lists and of stored matrices: overwritten, in runs, exchanged in pairs, put into opposite order, with rows of zeros below.
+-- Rows of flat lists: blocks of them that are lent, and chunks.
 pub mod Lent
-pub mod OppositePlaces
-pub mod OppositeRows
-pub mod Overwritten
-pub mod Pairs
 pub mod Runs

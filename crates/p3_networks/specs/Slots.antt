@@ -5,8 +5,8 @@ use Rattle.p3_field.specs.declared.fields.Field.{Ghosts as FieldMembers}
 use Rattle.p3_matrix.specs.BitOrder.{rev}
 use Rattle.p3_matrix.specs.Matrix.{Matrix}
 use Rattle.p3_matrix.specs.RowMajor.{RowMajor, rows_from}
-use Rattle.p3_networks.specs.Cosets.{point}
-use Rattle.p3_networks.specs.Polynomials.{poly}
+use Rattle.p3_matrix.specs.Cosets.{point}
+use Rattle.p3_matrix.specs.Polynomials.{poly}
 use Rattle.p3_networks.specs.Twiddles.{forward_root}
 
 -- rows of w entries, from row number `first` of a matrix on: the number of the first row of their block q of b rows, and its rows

@@ -4,7 +4,7 @@ use Rattle.std.specs.List.{All}
 use Rattle.p3_field.specs.Ring.{power}
 use Rattle.p3_field.specs.declared.fields.Field.{Ghosts as FieldMembers}
 use Rattle.p3_matrix.specs.BitOrder.{rev}
-use Rattle.p3_networks.specs.Cosets.{point}
+use Rattle.p3_matrix.specs.Cosets.{point}
 
 module _ {F : Type 0} (f : FieldMembers F) where
   -- a table of the n values p 0, p 1, ..

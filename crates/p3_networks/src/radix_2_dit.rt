@@ -15,7 +15,7 @@ use p3_field::{Products, TwoAdicField};
 /// order. Layer l has `2^(log_h - 1 - l)` blocks of two halves of `2^l` rows. The twiddles are those of all
 /// layers, as `Twiddles` has them. Inlined, so that a width that the caller names is known in all layers.
 #[inline(always)]
-pub fn dit_network<F: TwoAdicField>(
+pub fn dit_network_to_natural<F: TwoAdicField>(
     values: &mut [F],
     width: usize,
     log_h: usize,

@@ -5,15 +5,15 @@ use Rattle.std.proofs.Math.ListN.{get_or-append}
 use Rattle.std.specs.List.{range_with_len}
 use Rattle.p3_field.specs.declared.fields.Field.{Ghosts as FieldMembers}
 use Rattle.p3_networks.specs.Twiddles.{Coset, HasCoset, IsCosetOf}
-use Rattle.p3_dft.specs.Engines.{CosetTabled, EngineFacts, IsCosetPrepared, IsLater, IsPrepared}
+use Rattle.p3_dft.specs.Engines.{CosetEngineState, EngineFacts, IsCosetPrepared, IsLater, IsPrepared}
 use Rattle.p3_dft.proofs.Calls.PreparedHeights.{prepared_until, until_prepared}
 
 -- an engine with powers of the roots up to a height, so many products, and tables of cosets
-abbrev pub tabled : {F : Type 0} → ℕ → ℕ → List (Coset F) → CosetTabled F
+abbrev pub tabled : {F : Type 0} → ℕ → ℕ → List (Coset F) → CosetEngineState F
 tabled log products cosets = record { roots = record { prepared = range_with_len 1 log; products = products }; cosets = cosets }
 
 -- the facts of an engine with tables of cosets besides: a prepared coset of a prepared height succeeds
-abbrev pub coset_tabled_facts : {F : Type 0} (f : FieldMembers F) → (ℕ → ℕ → ℕ) → (ℕ → ℕ → ℕ → ℕ) → (ℕ → ℕ → ℕ) → EngineFacts (CosetTabled F) F
+abbrev pub coset_tabled_facts : {F : Type 0} (f : FieldMembers F) → (ℕ → ℕ → ℕ) → (ℕ → ℕ → ℕ → ℕ) → (ℕ → ℕ → ℕ) → EngineFacts (CosetEngineState F) F
 coset_tabled_facts f transform_products extension_products block_rows = record {
   Succeeds = λ e. IsPrepared e.roots;
   SucceedsOnCoset = λ e k s. IsCosetPrepared f e k (f.value s);
@@ -38,19 +38,19 @@ module _ {F : Type 0} (f : FieldMembers F) where
   coset_stays old new c (inr more) k s has = subst (λ (xs : List (Coset F)). HasCoset f xs k s) (sym more) (coset_of_longer old (c ∷ []) k s has)
 
   -- a prepared coset stays prepared where heights and tables stay
-  prepared_coset_stays : (before after : CosetTabled F) → ((k : ℕ) → IsPrepared before.roots k → IsPrepared after.roots k)
+  prepared_coset_stays : (before after : CosetEngineState F) → ((k : ℕ) → IsPrepared before.roots k → IsPrepared after.roots k)
       → ((k : ℕ) (s : f.Element) → HasCoset f before.cosets k s → HasCoset f after.cosets k s) → (k : ℕ) (s : F) → IsCosetPrepared f before k (f.value s) → IsCosetPrepared f after k (f.value s)
   prepared_coset_stays before after heights cosets k s (inl point) = inl point
   prepared_coset_stays before after heights cosets k s (inr (inl (one, there))) = inr (inl (one, heights k there))
   prepared_coset_stays before after heights cosets k s (inr (inr (other, has))) = inr (inr (other, cosets k (f.value s) has))
 
   -- no power, no table and no product is lost
-  pub later_with_tables : (t : ℕ → ℕ → ℕ) (x : ℕ → ℕ → ℕ → ℕ) (b : ℕ → ℕ → ℕ) (before : CosetTabled F) (log more_log products more_products : ℕ) (cosets more_cosets : List (Coset F)) → tabled log products cosets ≡ before → log ≤ more_log
+  pub later_with_tables : (t : ℕ → ℕ → ℕ) (x : ℕ → ℕ → ℕ → ℕ) (b : ℕ → ℕ → ℕ) (before : CosetEngineState F) (log more_log products more_products : ℕ) (cosets more_cosets : List (Coset F)) → tabled log products cosets ≡ before → log ≤ more_log
       → ((k : ℕ) (s : f.Element) → HasCoset f cosets k s → HasCoset f more_cosets k s) → products ≤ more_products
       → IsLater (coset_tabled_facts f t x b) before (tabled more_log more_products more_cosets)
   later_with_tables t x b before log more_log products more_products cosets more_cosets is higher stays grows =
       let still = λ (k : ℕ) (there : IsPrepared (tabled log products cosets).roots k). prepared_until more_log k (let held = until_prepared log k there in omega (arith, held, higher)) in
-      subst (λ (e : CosetTabled F). IsLater (coset_tabled_facts f t x b) e (tabled more_log more_products more_cosets)) is (record {
+      subst (λ (e : CosetEngineState F). IsLater (coset_tabled_facts f t x b) e (tabled more_log more_products more_cosets)) is (record {
         keeps = still;
         keeps_cosets = prepared_coset_stays (tabled log products cosets) (tabled more_log more_products more_cosets) still stays;
         keeps_ready = λ k none. tt;

@@ -3,10 +3,10 @@ use Rattle.std.specs.Prelude.{⊤}
 use Rattle.std.proofs.Common.{◌≡◌, ◌⊎◌, inl, inr, ℕ, zero, suc, ◌+◌, ◌<◌, ◌≤◌, ◌^◌, List, Result, Ok, Err, IsOk, refl, ◌∙◌, subst, arith, rules}
 use Rattle.std.specs.List.{Contains, range_with_len}
 use Rattle.std.proofs.lemmas.List.FromFn.{get_or-range_with_len, length-range_with_len}
-use Rattle.p3_dft.specs.Engines.{EngineFacts, HasProductsMore, IsLater, IsPrepared, Tabled}
+use Rattle.p3_dft.specs.Engines.{EngineFacts, HasProductsMore, IsLater, IsPrepared, EngineState}
 
 -- a height is prepared with every larger one
-pub prepared_with_larger : (e : Tabled) (k n : ℕ) → k ≤ n → IsPrepared e n → IsPrepared e k
+pub prepared_with_larger : (e : EngineState) (k n : ℕ) → k ≤ n → IsPrepared e n → IsPrepared e k
 prepared_with_larger e k n below (inl none) = inl (omega (arith, below, none))
 prepared_with_larger e k n below (inr (m, above, has)) = inr (m, omega (arith, below, above), has)
 
@@ -48,11 +48,11 @@ still_above n k first (inl now) = first now
 still_above n k first (inr below) = inr below
 
 -- an engine with twiddles of all heights up to one, and so many products
-abbrev pub up_to : ℕ → ℕ → Tabled
+abbrev pub up_to : ℕ → ℕ → EngineState
 up_to log products = record { prepared = range_with_len 1 log; products = products }
 
 -- the facts of an engine with tables of heights: a prepared height succeeds, whatever the shift, and is all that is known of one
-abbrev pub tabled_facts : {F : Type 0} → (ℕ → ℕ → ℕ) → (ℕ → ℕ → ℕ → ℕ) → (ℕ → ℕ → ℕ) → EngineFacts Tabled F
+abbrev pub tabled_facts : {F : Type 0} → (ℕ → ℕ → ℕ) → (ℕ → ℕ → ℕ → ℕ) → (ℕ → ℕ → ℕ) → EngineFacts EngineState F
 tabled_facts transform_products extension_products block_rows = record {
   Succeeds = IsPrepared;
   SucceedsOnCoset = λ e k s. ⊤;
@@ -65,11 +65,11 @@ tabled_facts transform_products extension_products block_rows = record {
 
 module _ {F : Type 0} (t : ℕ → ℕ → ℕ) (x : ℕ → ℕ → ℕ → ℕ) (b : ℕ → ℕ → ℕ) where
   -- no height and no product is lost
-  pub later_with_heights : (before : Tabled) (log more_log products more_products : ℕ) → up_to log products ≡ before → log ≤ more_log → products ≤ more_products
+  pub later_with_heights : (before : EngineState) (log more_log products more_products : ℕ) → up_to log products ≡ before → log ≤ more_log → products ≤ more_products
       → IsLater (tabled_facts {F = F} t x b) before (up_to more_log more_products)
   later_with_heights before log more_log products more_products is higher grows =
       let still = λ (k : ℕ) (there : IsPrepared (up_to log products) k). prepared_until more_log k (let held = until_prepared log k there in omega (arith, held, higher)) in
-      subst (λ (e : Tabled). IsLater (tabled_facts {F = F} t x b) e (up_to more_log more_products)) is (record {
+      subst (λ (e : EngineState). IsLater (tabled_facts {F = F} t x b) e (up_to more_log more_products)) is (record {
         keeps = still;
         keeps_cosets = λ k s none. tt;
         keeps_ready = still;
@@ -77,10 +77,10 @@ module _ {F : Type 0} (t : ℕ → ℕ → ℕ) (x : ℕ → ℕ → ℕ → ℕ
       })
 
   -- products that were counted
-  pub counted_with_heights : (before : Tabled) (log products more_products n : ℕ) → up_to log products ≡ before → more_products ≡ products + n
+  pub counted_with_heights : (before : EngineState) (log products more_products n : ℕ) → up_to log products ≡ before → more_products ≡ products + n
       → HasProductsMore (tabled_facts {F = F} t x b) before (up_to log more_products) n
   counted_with_heights before log products more_products n is counted =
-      subst (λ (e : Tabled). HasProductsMore (tabled_facts {F = F} t x b) e (up_to log more_products) n) is (record {
+      subst (λ (e : EngineState). HasProductsMore (tabled_facts {F = F} t x b) e (up_to log more_products) n) is (record {
         counter = counted;
         same = λ k. (λ there. there, λ there. there);
         same_cosets = λ k s. (λ none. none, λ none. none);

@@ -5,12 +5,12 @@ use Rattle.p3_field.specs.declared.fields.Field.{Ghosts as FieldMembers}
 use Rattle.p3_matrix.specs.Matrix.{Matrix, Same}
 use Rattle.p3_matrix.specs.RowMajor.{RowMajor, height}
 use Rattle.p3_matrix.proofs.Matrices.{same_sym}
-use Rattle.p3_networks.specs.Cosets.{AreCoefficients}
-use Rattle.p3_networks.proofs.Polynomials.Cosets.{padded_values}
+use Rattle.p3_matrix.specs.Cosets.{AreCoefficients, values_of}
+use Rattle.p3_matrix.proofs.Polynomials.Cosets.{padded_values}
 use Rattle.p3_dft.specs.Codes.{Code, IsCodeword}
-use Rattle.p3_dft.specs.Combinations.{lengthened}
-use Rattle.p3_dft.specs.Transforms.{values_of, IsInterpolation}
-use Rattle.p3_dft.proofs.Laws.Combinations.{lengthened_values}
+use Rattle.p3_matrix.specs.Combinations.{lengthened}
+use Rattle.p3_dft.specs.Transforms.{IsInterpolation}
+use Rattle.p3_matrix.proofs.Polynomials.Combinations.{lengthened_values}
 
 -- a message has at most as many rows as a word
 pub message_within : (k a : ℕ) → 2 ^ k ≤ 2 ^ (k + a)

@@ -6,13 +6,13 @@ use Rattle.p3_field.specs.Ring.{AreRoots}
 use Rattle.p3_field.specs.declared.fields.Field.{Ghosts as FieldMembers}
 use Rattle.p3_matrix.specs.Matrix.{Matrix, Same}
 use Rattle.p3_matrix.specs.RowMajor.{RowMajor, height}
-use Rattle.p3_networks.specs.Cosets.{IsValues}
-use Rattle.p3_networks.proofs.Polynomials.Interpolation.{interpolated, there_is_one}
-use Rattle.p3_dft.specs.Codes.{AgreeInRows, Code, DifferInRows, IsCode, IsCodeword}
+use Rattle.p3_matrix.specs.Cosets.{IsValues, values_of}
+use Rattle.p3_matrix.proofs.Polynomials.Interpolation.{interpolated, there_is_one}
+use Rattle.p3_dft.specs.Codes.{Code, IsCode, IsCodeword}
+use Rattle.p3_matrix.specs.RowNumbers.{AgreeInRows, DifferInRows}
 use Rattle.p3_dft.specs.Extensions.{IsExtension}
-use Rattle.p3_dft.specs.Transforms.{values_of}
-use Rattle.p3_dft.proofs.Codes.Distance.{one_word}
-use Rattle.p3_dft.proofs.Codes.RowNumbers.{fewer, split, Split}
+use Rattle.p3_matrix.proofs.Polynomials.Distance.{one_word}
+use Rattle.p3_matrix.proofs.Rows.Numbers.{fewer, split, Split}
 use Rattle.p3_dft.proofs.Codes.Words.{message_within}
 
 -- an extension of a message is a codeword

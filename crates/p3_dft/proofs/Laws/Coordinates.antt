@@ -11,16 +11,16 @@ use Rattle.p3_field.specs.declared.fields.Field.{Ghosts as FieldMembers}
 use Rattle.p3_matrix.specs.Matrix.{Matrix, Same}
 use Rattle.p3_matrix.specs.RowMajor.{RowMajor, height}
 use Rattle.p3_matrix.proofs.Matrices.{same_sym}
-use Rattle.p3_networks.specs.Cosets.{AreCoefficients, IsValues}
-use Rattle.p3_networks.proofs.Polynomials.Cosets.{coefficients_same, values_same}
-use Rattle.p3_networks.proofs.Polynomials.Interpolation.{there_is_no_other}
-use Rattle.p3_dft.specs.Combinations.{chosen}
+use Rattle.p3_matrix.specs.Cosets.{AreCoefficients, IsValues, values_of}
+use Rattle.p3_matrix.proofs.Polynomials.Cosets.{coefficients_same, values_same}
+use Rattle.p3_matrix.proofs.Polynomials.Interpolation.{there_is_no_other}
+use Rattle.p3_matrix.specs.Combinations.{chosen}
 use Rattle.p3_dft.specs.Coordinates.{coordinate, flat}
 use Rattle.p3_dft.specs.Extensions.{IsExtension}
 use Rattle.p3_dft.specs.Shapes.{FitsDft}
-use Rattle.p3_dft.specs.Transforms.{values_of, IsInterpolation, IsTransform}
+use Rattle.p3_dft.specs.Transforms.{IsInterpolation, IsTransform}
 use Rattle.p3_dft.proofs.Calls.Coordinates.{height-flat}
-use Rattle.p3_dft.proofs.Laws.Combinations.{chosen_values}
+use Rattle.p3_matrix.proofs.Polynomials.Combinations.{chosen_values}
 use Rattle.p3_dft.proofs.Laws.TwoCalls.{exponent_within}
 
 -- ---- dimension one

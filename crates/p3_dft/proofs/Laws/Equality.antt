@@ -7,7 +7,7 @@ use Rattle.std.specs.Ordering.{eq_of_both, on}
 use Rattle.p3_field.specs.declared.fields.Field.{Ghosts as FieldMembers}
 use Rattle.p3_matrix.specs.Matrix.{Same}
 use Rattle.p3_matrix.specs.RowMajor.{RowMajor, IsRowMajor, height}
-use Rattle.p3_dft.specs.Transforms.{values_of}
+use Rattle.p3_matrix.specs.Cosets.{values_of}
 
 both : (s t : Bool) → (s && t) ≡ true → (s ≡ true) × (t ≡ true)
 both true t h = (refl, h)

@@ -7,11 +7,12 @@ use Rattle.p3_matrix.specs.RowMajor.{RowMajor, height}
 use Rattle.p3_dft.specs.Extensions.{IsExtension}
 use Rattle.p3_dft.specs.Jobs.{CanRun, IsAnswer}
 use Rattle.p3_dft.specs.Shapes.{FitsDft, FitsLde}
-use Rattle.p3_dft.specs.Transforms.{values_of, IsInterpolation, IsTransform}
+use Rattle.p3_dft.specs.Transforms.{IsInterpolation, IsTransform}
+use Rattle.p3_matrix.specs.Cosets.{values_of}
 use Rattle.p3_dft.specs.declared.jobs.Job.{Job}
 use Rattle.p3_dft.specs.declared.jobs.Job.TheVariants.{Dft, CosetDft, Idft, CosetIdft, Lde, CosetLde}
-use Rattle.p3_networks.proofs.Polynomials.Cosets.{coefficients_same, values_unique}
-use Rattle.p3_networks.proofs.Polynomials.Interpolation.{there_is_no_other}
+use Rattle.p3_matrix.proofs.Polynomials.Cosets.{coefficients_same, values_unique}
+use Rattle.p3_matrix.proofs.Polynomials.Interpolation.{there_is_no_other}
 
 module _ {F : Type 0} (f : FieldMembers F) (generator : ℕ → F) (bits : ℕ) (are_roots : AreRoots f.ring bits (λ n. f.value (generator n))) where
   abbrev roots : ℕ → f.Element

@@ -15,18 +15,18 @@ use Rattle.p3_matrix.specs.RowMajor.{RowMajor, height}
 use Rattle.p3_matrix.specs.Matrix.{Matrix, Same, column}
 use Rattle.p3_matrix.proofs.Matrices.{same_sym}
 use Rattle.p3_matrix.proofs.TwoPowers.{log_same}
-use Rattle.p3_networks.specs.Cosets.{point, AreCoefficients, IsValues, coset_shift}
+use Rattle.p3_matrix.specs.Cosets.{point, AreCoefficients, IsValues, coset_shift, values_of}
 use Rattle.p3_dft.specs.Engines.{one_column}
 use Rattle.p3_dft.specs.Extensions.{IsExtension}
 use Rattle.p3_dft.specs.Jobs.{CanRun, IsAnswer}
-use Rattle.p3_networks.specs.Polynomials.{value}
+use Rattle.p3_matrix.specs.Polynomials.{value}
 use Rattle.p3_dft.specs.Shapes.{FitsDft, FitsLde}
-use Rattle.p3_dft.specs.Transforms.{values_of, IsInterpolation, IsTransform}
+use Rattle.p3_dft.specs.Transforms.{IsInterpolation, IsTransform}
 use Rattle.p3_dft.specs.declared.jobs.Job.{Job}
-use Rattle.p3_dft.specs.Combinations.{alone, combination, lengthened}
-use Rattle.p3_dft.proofs.Laws.Combinations.{column_values, combination_values, lengthened_values, values_of_shifted}
-use Rattle.p3_networks.proofs.Polynomials.Cosets.{coefficients_same, point_of_one, shifted_values, values_same, values_unique}
-use Rattle.p3_networks.proofs.Polynomials.Interpolation.{there_is_no_other}
+use Rattle.p3_matrix.specs.Combinations.{alone, combination, lengthened}
+use Rattle.p3_matrix.proofs.Polynomials.Combinations.{column_values, combination_values, lengthened_values, values_of_shifted}
+use Rattle.p3_matrix.proofs.Polynomials.Cosets.{coefficients_same, point_of_one, shifted_values, values_same, values_unique}
+use Rattle.p3_matrix.proofs.Polynomials.Interpolation.{there_is_no_other}
 use Rattle.p3_dft.proofs.Laws.OneAnswer.{one_answer}
 use Rattle.p3_dft.proofs.Calls.Shapes.{input_fits, output_fits}
 

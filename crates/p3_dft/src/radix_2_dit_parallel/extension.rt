@@ -4,13 +4,12 @@ ghost use Rattle.std.specs.Prelude.{◌≡◌, ◌⊎◌, ℕ, ◌+◌, ◌-◌,
 ghost use Rattle.p3_matrix.specs.BitOrder.{bit_reversal};
 ghost use Rattle.p3_matrix.specs.Blocks.{AreBlocksOf, IsPartition, Run, RunToRefusal};
 ghost use Rattle.p3_matrix.specs.Matrix.{Matrix};
-ghost use Rattle.p3_matrix.specs.RowMajor.{HasShapeOf, IsRowMajor, RowMajor, height};
-ghost use Rattle.p3_networks.specs.Cosets.{IsValues};
+ghost use Rattle.p3_matrix.specs.RowMajor.{HasShapeOf, IsRowMajor, RowMajor, height, with_zeros};
+ghost use Rattle.p3_matrix.specs.Cosets.{IsValues, values_of};
 ghost use Rattle.p3_networks.specs.Twiddles.{AddsCosets, HasCoset, HasCosets};
 ghost use Rattle.p3_dft.specs.Engines.{AtLog};
-ghost use Rattle.p3_dft.specs.Extensions.{IsAnswerOverZeros, with_zeros};
+ghost use Rattle.p3_dft.specs.Extensions.{IsAnswerOverZeros};
 ghost use Rattle.p3_dft.specs.Shapes.{FitsLde};
-ghost use Rattle.p3_dft.specs.Transforms.{values_of};
 ghost use Rattle.p3_dft.specs.declared.traits.Layout.TheVariants.{BitReversed};
 
 use crate::radix_2_dit_parallel::transform::interpolate;

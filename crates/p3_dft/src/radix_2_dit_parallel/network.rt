@@ -4,14 +4,12 @@ ghost use Rattle.std.specs.Prelude.{◌≡◌, ℕ, ◌+◌, ◌*◌, ◌/◌, �
 ghost use Rattle.p3_field.specs.Ring.{AreRoots, power};
 ghost use Rattle.p3_matrix.specs.BitOrder.{rev};
 ghost use Rattle.p3_matrix.specs.RowMajor.{HasShapeOf, IsRowMajor, height};
-ghost use Rattle.p3_networks.specs.Cosets.{point};
-ghost use Rattle.p3_networks.specs.Polynomials.{poly};
-ghost use Rattle.p3_dft.specs.Transforms.{values_of};
+ghost use Rattle.p3_matrix.specs.Cosets.{point, values_of};
+ghost use Rattle.p3_matrix.specs.Polynomials.{poly};
 ghost use Rattle.p3_networks.specs.Twiddles.{AreBlockTwiddles, AreTwiddlesOfLayers, block_end, coset_twiddles, factor, scale_cost};
 
-use crate::util::reverse_rows;
 use p3_field::{Products, TwoAdicField};
-use p3_matrix::{RowMajorMatrix, scale_slice_in_place};
+use p3_matrix::{RowMajorMatrix, reverse_rows, scale_slice_in_place};
 use p3_networks::radix_2_dit_parallel::halves::{BlockTwiddles, first_half, second_half};
 
 // From coefficients in natural order, their values on a coset, in bit reversed order. The first half has

@@ -4,9 +4,8 @@ ghost use Rattle.std.specs.Prelude.{◌≡◌, ℕ, ◌+◌, ◌*◌, ◌/◌, �
 ghost use Rattle.p3_field.specs.Ring.{power};
 ghost use Rattle.p3_matrix.specs.BitOrder.{rev, bit_reversal};
 ghost use Rattle.p3_matrix.specs.RowMajor.{HasShapeOf, IsRowMajor, height};
-ghost use Rattle.p3_networks.specs.Cosets.{AreCoefficients, IsValues};
-ghost use Rattle.p3_networks.specs.Polynomials.{poly};
-ghost use Rattle.p3_dft.specs.Transforms.{values_of};
+ghost use Rattle.p3_matrix.specs.Cosets.{AreCoefficients, IsValues, values_of};
+ghost use Rattle.p3_matrix.specs.Polynomials.{poly};
 ghost use Rattle.p3_networks.specs.Twiddles.{factor, root_of, scale_cost};
 
 use crate::radix_2_dit_parallel::network::network;

@@ -86,18 +86,7 @@ where
 {
     let mat = mat.try_clone().expect(rt, "memory");
     assert!(rt; fits_lde::<F>(mat.height(), mat.width(), added_bits));
-    let answer = engine.coset_lde_batch_with_blocks(
-        mat,
-        added_bits,
-        shift,
-        |coefficients: RowMajorMatrix<F>, _layout: Layout| -> RowMajorMatrix<F>
-            ensures { result ≡ coefficients }
-        { coefficients },
-        |_rows: usize| -> C
-            ensures { result ≡ consumer }
-        { consumer },
-    );
-    match answer {
+    match engine.coset_lde_batch_in_blocks(mat, added_bits, shift, |_rows| consumer) {
         Ok((out, consumer)) => (out.bit_reverse_rows(), consumer),
         Err(_) => panic!(rt; "not all blocks were taken"),
     }
@@ -171,6 +160,10 @@ impl<F: CanonicalField> EngineTest<F> for RecordedBlocks {
         let recorder = Recorder::with_room(alloc, 4, 4).expect(rt, "memory");
         let answer = extend_to(rt, &mut engine, &mat, 1, F::ONE, recorder);
         assert_recorded(rt, answer, &self.physical, 1);
+        // On the coset of zero each row has the constant coefficients.
+        let recorder = Recorder::with_room(alloc, 4, 4).expect(rt, "memory");
+        let answer = extend_to(rt, &mut engine, &mat, 1, F::ZERO, recorder);
+        assert_recorded(rt, answer, &[5, 5, 5, 5], 1);
         let row = matrix(rt, alloc, &[42, 7], 2);
         let recorder = Recorder::with_room(alloc, 4, 8).expect(rt, "memory");
         let answer = extend_to(rt, &mut engine, &row, 2, F::from_u8(31), recorder);

@@ -6,14 +6,14 @@ ghost use Rattle.std.specs.List.{All, AllZip};
 ghost use Rattle.p3_field.specs.Ring.{IsInvertible};
 ghost use Rattle.p3_matrix.specs.Matrix.{Same};
 ghost use Rattle.p3_matrix.specs.RowMajor.{HasShapeOf, height};
-ghost use Rattle.p3_dft.specs.Combinations.{alone, combination, lengthened};
-ghost use Rattle.p3_networks.specs.Cosets.{IsValues, point};
+ghost use Rattle.p3_matrix.specs.Combinations.{alone, combination, lengthened};
+ghost use Rattle.p3_matrix.specs.Cosets.{IsValues, point, values_of};
 ghost use Rattle.p3_dft.specs.Engines.{AtLog};
 ghost use Rattle.p3_dft.specs.Extensions.{IsExtension};
 ghost use Rattle.p3_dft.specs.Jobs.{CanRun, IsAnswer};
-ghost use Rattle.p3_networks.specs.Polynomials.{value};
+ghost use Rattle.p3_matrix.specs.Polynomials.{value};
 ghost use Rattle.p3_dft.specs.Shapes.{FitsDft, FitsLde};
-ghost use Rattle.p3_dft.specs.Transforms.{IsInterpolation, IsTransform, values_of};
+ghost use Rattle.p3_dft.specs.Transforms.{IsInterpolation, IsTransform};
 
 use super::{EngineTest, elements, on_dit};
 use crate::tests::fitting::{assert_column, extensible, invertible, pair, transformable};

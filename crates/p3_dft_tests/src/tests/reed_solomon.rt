@@ -3,9 +3,10 @@
 ghost use Rattle.std.specs.Prelude.{◌≡◌, ◌+◌, ◌-◌, ◌^◌, IfOk, IsTrue};
 ghost use Rattle.p3_matrix.specs.Matrix.{Same};
 ghost use Rattle.p3_matrix.specs.RowMajor.{height};
-ghost use Rattle.p3_dft.specs.Codes.{AgreeInRows, DifferInRows, IsCode};
+ghost use Rattle.p3_dft.specs.Codes.{IsCode};
+ghost use Rattle.p3_matrix.specs.RowNumbers.{AgreeInRows, DifferInRows};
 ghost use Rattle.p3_dft.specs.Shapes.{FitsDft};
-ghost use Rattle.p3_dft.specs.Transforms.{values_of};
+ghost use Rattle.p3_matrix.specs.Cosets.{values_of};
 
 use super::{EngineTest, elements, matrix, matrix_of, on_every_engine};
 use crate::low_degree::has_low_degree;

@@ -6,7 +6,7 @@ use Rattle.std.proofs.Math.Nat.{mul-le-mul_right}
 use borrow.Rule.Slice.PartMut.{put_mid}
 use Rattle.p3_networks.specs.Groups.{HoldsColumns, IsLayer, TakesColumns}
 use Rattle.p3_networks.proofs.Layers.Blocks.{halves_are, row_below}
-use Rattle.p3_networks.proofs.Rows.Overwritten.{RowsDone, part_at, put_after, put_before, put_in, part-more}
+use Rattle.p3_matrix.proofs.Rows.Overwritten.{RowsDone, part_at, put_after, put_before, put_in, part-more}
 
 -- y stands in column j of a row: between two columns what is meant, else what was there
 pub record InColumns {A T : Type 0} (value : T → A) (at end : ℕ) (is : A) (was : T) (j : ℕ) (y : T) : Type 0 where

@@ -4,7 +4,7 @@ use Rattle.std.proofs.lemmas.List.{places}
 use Rattle.std.proofs.lemmas.Nat.{div-add-mod', div_below, mod_below, one_shl, pow_pos}
 use Rattle.std.proofs.Math.Nat.{add-sub_cancel_left, mul-div_cancel, mul-le-mul_right}
 use borrow.Rule.Slice.PartMut.{put_mid}
-use Rattle.p3_networks.proofs.Rows.Overwritten.{RowsDone, part-more, part_at, part_size}
+use Rattle.p3_matrix.proofs.Rows.Overwritten.{RowsDone, part-more, part_at, part_size}
 
 -- a place in a list of two parts
 pub in_first : {X : Type 0} (xs ys : List X) (i : ℕ) (d : X) → i < length xs → get_or (xs ++ ys) i d ≡ get_or xs i d

@@ -5,7 +5,7 @@ use Rattle.std.proofs.lemmas.List.{get_or-map, places}
 use Rattle.std.proofs.lemmas.Nat.{div-add-mod', div_below, mod_below}
 use borrow.Rule.Slice.PartMut.{put_mid}
 use Rattle.p3_networks.proofs.Layers.Halves.{block_room, block_size, in_first, in_second}
-use Rattle.p3_networks.proofs.Rows.Overwritten.{RowsDone, part_at, part-more}
+use Rattle.p3_matrix.proofs.Rows.Overwritten.{RowsDone, part_at, part-more}
 
 -- a pack lies within its list
 pub pack_room : (pack width w len k : ℕ) → 1 ≤ w → width ≡ w → len ≡ k * w → pack < len / width → pack * width + width ≤ len

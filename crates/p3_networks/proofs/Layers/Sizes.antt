@@ -3,7 +3,7 @@ use Rattle.std.proofs.Common.{◌≡◌, ℕ, ◌+◌, ◌*◌, ◌-◌, ◌%◌
 use Rattle.std.proofs.Math.Nat.{pow-le-pow_right}
 use Rattle.std.proofs.lemmas.Nat.{one_shl, pow_pos}
 use Rattle.p3_networks.proofs.Layers.Blocks.{halves_whole, blocks_whole}
-use Rattle.p3_networks.proofs.Rows.Overwritten.{part_size}
+use Rattle.p3_matrix.proofs.Rows.Overwritten.{part_size}
 
 -- a shift by the number of layers that are done, or that are left but one
 pub done_shift : (k l : ℕ) → l < k → k < 64 → 1 * 2 ^ l % 2 ^ 64 ≡ 2 ^ l

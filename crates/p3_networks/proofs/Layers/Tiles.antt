@@ -5,7 +5,7 @@ use Rattle.std.proofs.lemmas.Nat.{one_shl, pow-add, pow_pos, div-add-mod', div_b
 use borrow.Rule.Slice.PartMut.{put_mid}
 use Rattle.p3_networks.specs.Layers.{HoldsCells}
 use Rattle.p3_networks.proofs.Layers.Halves.{block_size, block_room}
-use Rattle.p3_networks.proofs.Rows.Overwritten.{RowsDone, part_at, rows-more}
+use Rattle.p3_matrix.proofs.Rows.Overwritten.{RowsDone, part_at, rows-more}
 
 -- the sizes of tiles of 2 ^ r of the 2 ^ k rows, as a program has them
 pub record TileSizes (k r w tiles size len : ℕ) : Type 0 where

@@ -7,12 +7,12 @@ use Rattle.p3_field.proofs.Powers.{power-mul, power_of_one}
 use Rattle.p3_matrix.specs.BitOrder.{rev}
 use Rattle.p3_matrix.specs.Butterflies.{dif_far, dif_near, dit_far, dit_near}
 use Rattle.p3_networks.specs.Layers.{AreLayers}
-use Rattle.p3_networks.specs.Polynomials.{poly}
+use Rattle.p3_matrix.specs.Polynomials.{poly}
 use Rattle.p3_networks.proofs.Networks.Formulas.{Formula}
 use Rattle.p3_networks.proofs.Networks.HighRows.{high_row, high_rows, high_start, high_end}
 use Rattle.p3_networks.proofs.Networks.Stages.{twiddle, twiddle_of_one}
 use Rattle.p3_networks.proofs.Networks.TurnedRows.{turned_row, turned_row_of_zeros, turned_rows, turned_row_start, turned_row_end}
-use Rattle.p3_networks.proofs.Polynomials.Cosets.{point_of_one}
+use Rattle.p3_matrix.proofs.Polynomials.Cosets.{point_of_one}
 
 together : {A : Type 0} (f : A → A → A → A) {x y p q u v : A} → x ≡ y → p ≡ u → q ≡ v → f x p q ≡ f y u v
 together f {y = y} {p = p} {q = q} e c d = ap (λ z. f z p q) e ∙ ap₂ (f y) c d

@@ -5,8 +5,8 @@ use Rattle.std.proofs.lemmas.Nat.{pow-add}
 use Rattle.p3_field.specs.Ring.{AreRoots}
 use Rattle.p3_field.specs.declared.fields.Field.{Ghosts as FieldMembers}
 use Rattle.p3_matrix.specs.BitOrder.{rev}
-use Rattle.p3_networks.specs.Cosets.{point}
-use Rattle.p3_networks.specs.Polynomials.{poly}
+use Rattle.p3_matrix.specs.Cosets.{point}
+use Rattle.p3_matrix.specs.Polynomials.{poly}
 use Rattle.p3_networks.specs.Twiddles.{AreBlockTwiddles, AreTwiddlesOfLayers, IsCosetTable, coset_twiddles, forward_root}
 use Rattle.p3_networks.proofs.Layers.Counts.{halves_counted}
 use Rattle.p3_networks.proofs.Networks.Runs.{rows_of_halves}

@@ -5,8 +5,8 @@ use Rattle.p3_field.specs.Ring.{Ring, AreRoots}
 use Rattle.p3_matrix.specs.BitOrder.{rev}
 use Rattle.p3_matrix.specs.Butterflies.{dit_near, dit_far}
 use Rattle.p3_matrix.proofs.BitReversal.{rev-even, rev-odd}
-use Rattle.p3_networks.specs.Polynomials.{poly}
-use Rattle.p3_networks.specs.Cosets.{point}
+use Rattle.p3_matrix.specs.Polynomials.{poly}
+use Rattle.p3_matrix.specs.Cosets.{point}
 use Rattle.p3_networks.proofs.Networks.Formulas.{Formula}
 use Rattle.p3_networks.proofs.Networks.Stages.{stage, twiddle, stage_start, stage_end, stage_near, stage_far}
 

@@ -6,13 +6,13 @@ use Rattle.p3_field.specs.declared.fields.Field.{Ghosts as FieldMembers}
 use Rattle.p3_matrix.specs.BitOrder.{rev}
 use Rattle.p3_matrix.specs.Butterflies.{dit_near, dit_far}
 use Rattle.p3_matrix.proofs.BitReversal.{rev-rev}
-use Rattle.p3_networks.specs.Cosets.{point}
-use Rattle.p3_networks.specs.Polynomials.{poly}
+use Rattle.p3_matrix.specs.Cosets.{point}
+use Rattle.p3_matrix.specs.Polynomials.{poly}
 use Rattle.p3_networks.specs.Twiddles.{AreTwiddles, AreTwiddlesOfLayers, coset_twiddles}
 use Rattle.p3_networks.proofs.Networks.Formulas.{whole_layer_taken}
 use Rattle.p3_networks.proofs.Networks.LowRows.{low_row, low_rows, low_start, low_end}
 use Rattle.p3_networks.proofs.Networks.Stages.{twiddle, twiddle_is}
-use Rattle.p3_networks.proofs.Rows.Overwritten.{part_at}
+use Rattle.p3_matrix.proofs.Rows.Overwritten.{part_at}
 
 module _ {F : Type 0} (field : FieldMembers F) (root : ℕ → field.Element) (s : field.Element) (k w : ℕ) where
   -- of rows in bit reversed order, before a layer

@@ -7,10 +7,10 @@ use Rattle.p3_field.proofs.Powers.{power-add, power-mul, power_of_product}
 use Rattle.p3_field.proofs.Roots.{root_strided, root_all}
 use Rattle.p3_matrix.specs.BitOrder.{rev}
 use Rattle.p3_matrix.proofs.BitReversal.{rev-block, rev-lt, rev-rev}
-use Rattle.p3_networks.specs.Cosets.{point}
-use Rattle.p3_networks.specs.Polynomials.{poly}
-use Rattle.p3_networks.proofs.Polynomials.ByIndex.{poly_same, poly-add, poly-append, poly-none, poly-times, poly_zeros}
-use Rattle.p3_networks.proofs.Polynomials.Cosets.{point-mul}
+use Rattle.p3_matrix.specs.Cosets.{point}
+use Rattle.p3_matrix.specs.Polynomials.{poly}
+use Rattle.p3_matrix.proofs.Polynomials.ByIndex.{poly_same, poly-add, poly-append, poly-none, poly-times, poly_zeros}
+use Rattle.p3_matrix.proofs.Polynomials.Cosets.{point-mul}
 use Rattle.p3_networks.proofs.Networks.Stages.{twiddle}
 
 -- the digits of a row of a run, in reverse

@@ -6,14 +6,14 @@ use Rattle.std.proofs.lemmas.Nat.{pow-add, pow_pos, div-add-mod', div_below, mod
 use Rattle.p3_field.specs.Ring.{power}
 use Rattle.p3_field.specs.declared.fields.Field.{Ghosts as FieldMembers}
 use Rattle.p3_matrix.specs.BitOrder.{rev}
-use Rattle.p3_networks.specs.Cosets.{point}
+use Rattle.p3_matrix.specs.Cosets.{point}
 use Rattle.p3_networks.specs.Layers.{AreValuesOfRows}
-use Rattle.p3_networks.specs.Polynomials.{poly}
+use Rattle.p3_matrix.specs.Polynomials.{poly}
 use Rattle.p3_networks.specs.Twiddles.{forward_root}
 use Rattle.p3_networks.proofs.Layers.Blocks.{row_below}
 use Rattle.p3_networks.proofs.Layers.Halves.{in_first, in_second, shifted_size}
-use Rattle.p3_networks.proofs.Polynomials.ByIndex.{poly_same, poly-scaled}
-use Rattle.p3_networks.proofs.Polynomials.Cosets.{point-mul}
+use Rattle.p3_matrix.proofs.Polynomials.ByIndex.{poly_same, poly-scaled}
+use Rattle.p3_matrix.proofs.Polynomials.Cosets.{point-mul}
 
 pub slots_whole : (k a w : ℕ) → 2 ^ (k + a) * w ≡ 2 ^ a * (2 ^ k * w)
 slots_whole k a w = ap (λ n. n * w) (pow-add 2 k a) ∙ omega arith

@@ -11,10 +11,10 @@ use Rattle.p3_field.proofs.RingSolver.{solve, va, vb, ◌⊠◌}
 use Rattle.p3_field.proofs.Powers.{power-one, power-add, power_of_one}
 use Rattle.p3_field.proofs.Roots.{root_squared, root_across, root_round}
 use Rattle.p3_matrix.specs.Butterflies.{dit_near, dit_far}
-use Rattle.p3_networks.specs.Polynomials.{poly}
-use Rattle.p3_networks.specs.Cosets.{point}
-use Rattle.p3_networks.proofs.Polynomials.Cosets.{point-mul}
-use Rattle.p3_networks.proofs.Polynomials.ByIndex.{poly-one, poly_padded, poly_same, poly-split}
+use Rattle.p3_matrix.specs.Polynomials.{poly}
+use Rattle.p3_matrix.specs.Cosets.{point}
+use Rattle.p3_matrix.proofs.Polynomials.Cosets.{point-mul}
+use Rattle.p3_matrix.proofs.Polynomials.ByIndex.{poly-one, poly_padded, poly_same, poly-split}
 
 module _ {A : Type 0} (R : Ring A) (g : ℕ → A) (s : A) where
   open R use {add as ◌⊕◌, mul as ◌⊗◌, neg, zero as 𝟘, one as 𝟙}

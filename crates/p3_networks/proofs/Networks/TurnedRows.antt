@@ -8,8 +8,8 @@ use Rattle.p3_field.proofs.Roots.{root_strided}
 use Rattle.p3_matrix.specs.BitOrder.{rev}
 use Rattle.p3_matrix.specs.Butterflies.{dif_near, dif_far}
 use Rattle.p3_matrix.proofs.BitReversal.{rev-zero}
-use Rattle.p3_networks.specs.Polynomials.{poly}
-use Rattle.p3_networks.specs.Cosets.{point}
+use Rattle.p3_matrix.specs.Polynomials.{poly}
+use Rattle.p3_matrix.specs.Cosets.{point}
 use Rattle.p3_networks.proofs.Networks.Formulas.{Formula}
 use Rattle.p3_networks.proofs.Networks.LowRows.{held_low, held_low_at, held_first, held_second, held_next}
 use Rattle.p3_networks.proofs.Networks.Stages.{stage, twiddle, stage_of_zeros, stage_start, stage_end, stage_near, stage_far}

@@ -113,6 +113,7 @@ module _ {A T : Type 0} (value : T → A) (d : T) (b w : ℕ) (some : 1 ≤ b) (
       record {
         multiple = ap (λ n. n % b) spread ∙ mul-mod_left (f + q) b;
         within = omega (arith, room, some, next);
+        whole = record { wide = wide; full = ap (λ n. n * w) tall ∙ sym size };
         rows = record {
           high = tall;
           wide = sym same_width;

@@ -3,11 +3,11 @@ use Rattle.std.proofs.Common.{◌≡◌, ℕ, ◌+◌, ◌*◌, ◌-◌, ◌/◌
 use borrow.Rule.Slice.PartMut.{put_mid}
 use Rattle.std.proofs.lemmas.Nat.{one_shl, pow-add}
 use Rattle.p3_field.specs.Ring.{Ring}
-use Rattle.p3_networks.specs.Polynomials.{poly}
+use Rattle.p3_matrix.specs.Polynomials.{poly}
 use Rattle.p3_networks.proofs.Layers.Blocks.{row_below}
 use Rattle.p3_networks.proofs.Layers.Halves.{block_room, shifted_room, shifted_size}
-use Rattle.p3_networks.proofs.Polynomials.ByIndex.{poly_same}
-use Rattle.p3_networks.proofs.Rows.Overwritten.{RowsDone, part_at, part-more}
+use Rattle.p3_matrix.proofs.Polynomials.ByIndex.{poly_same}
+use Rattle.p3_matrix.proofs.Rows.Overwritten.{RowsDone, part_at, part-more}
 
 -- 2 ^ log rows in runs of 2 ^ part: so many cells has a run, and all runs fit
 pub run_size : (log part w : ℕ) → part ≤ log → (2 ^ log * w) ≡ 2 ^ (log - part) * (2 ^ part * w)

@@ -5,7 +5,7 @@ use Rattle.std.proofs.lemmas.Bool.{cases_lt}
 use Rattle.std.proofs.lemmas.Nat.{pow_pos}
 use Rattle.p3_field.specs.declared.fields.Field.{Ghosts as FieldMembers}
 use Rattle.p3_networks.specs.Twiddles.{AreTwiddlesOfLayers}
-use Rattle.p3_networks.proofs.Rows.Overwritten.{part_at, part_size}
+use Rattle.p3_matrix.proofs.Rows.Overwritten.{part_at, part_size}
 
 -- the twiddles of a layer lie within those of all layers
 pub layer_end : (l k n : ℕ) → l < k → 2 ^ k - 1 ≤ n → 2 * 2 ^ l - 1 ≤ n

@@ -7,7 +7,7 @@ use Rattle.p3_field.proofs.RingSolver.{solve, va, vb, vc, ◌⊠◌}
 use Rattle.p3_matrix.specs.BitOrder.{rev, bit_reversal}
 use Rattle.p3_matrix.specs.Matrix.{Matrix, Same, image}
 use Rattle.p3_matrix.proofs.BitReversal.{rev_of_zero, rev-odd, rev-block, rev-lt, rev-rev}
-use Rattle.p3_networks.specs.Cosets.{coset_shift}
+use Rattle.p3_matrix.specs.Cosets.{coset_shift}
 use Rattle.p3_networks.specs.Twiddles.{layer_place}
 
 -- one binary digit more in front is one more behind

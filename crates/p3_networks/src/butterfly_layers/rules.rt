@@ -8,7 +8,7 @@ ghost use Rattle.p3_matrix.specs.Butterflies.{dit_near, dit_far};
 use crate::butterfly_layers::Rule;
 use p3_field::{Products, TwoAdicField};
 use p3_matrix::{
-    Butterfly, DifButterfly, DifButterflyZeros, DitButterfly, ScaledDitButterfly,
+    Butterfly, DifButterfly, DitButterfly, ScaledDitButterfly,
     TwiddleFreeButterfly, apply_dit_by_place,
 };
 
@@ -283,57 +283,6 @@ impl<F: TwoAdicField> Rule<F> for DifByBlock<'_, F> {
         } else {
             meet_rows(DifButterfly(self.twiddles[block]), row_1, row_2, products);
         }
-    }
-
-    #[inline(always)]
-    fn meet_column(self, block: usize, low: &mut [F], high: &mut [F], products: &mut Products) {
-        self.meet(block, 0, low, high, products);
-    }
-}
-
-/// Decimation in frequency where the far rows are zero, which are not looked at: every pair of block
-/// b has twiddle b. No network of this crate has such layers: `extending_network` writes what they
-/// would make.
-#[derive(Clone, Copy)]
-pub struct DifZerosByBlock<'a, F> {
-    /// That of block b stands in place b.
-    pub twiddles: &'a [F],
-}
-
-impl<F: TwoAdicField> Rule<F> for DifZerosByBlock<'_, F> {
-    ghost use Rattle.std.specs.Prelude.{◌<◌, length, get_or, true};
-    ghost use Rattle.p3_matrix.specs.Butterflies.{dif_zeros_near, dif_zeros_far};
-
-    ghost near = { λ A ring v r b t. dif_zeros_near ring (v (get_or r.twiddles.now b F.ZERO)) };
-
-    ghost far = { λ A ring v r b t. dif_zeros_far ring (v (get_or r.twiddles.now b F.ZERO)) };
-
-    ghost by_block = { true };
-
-    ghost cost = { 1 };
-
-    ghost has = { λ r b t. b < length r.twiddles.now };
-
-    #[inline(always)]
-    fn goes_by_block(self) -> bool {
-        true
-    }
-
-    #[inline(always)]
-    fn meet(
-        self,
-        block: usize,
-        _place: usize,
-        row_1: &mut [F],
-        row_2: &mut [F],
-        products: &mut Products,
-    ) {
-        meet_rows(
-            DifButterflyZeros(self.twiddles[block]),
-            row_1,
-            row_2,
-            products,
-        );
     }
 
     #[inline(always)]

@@ -5,11 +5,10 @@ ghost use Rattle.std.specs.Prelude.{◌≡◌, ℕ, ◌+◌, ◌-◌, ◌*◌, �
 ghost use Rattle.p3_field.specs.Ring.{AreRoots};
 ghost use Rattle.p3_matrix.specs.BitOrder.{rev};
 ghost use Rattle.p3_matrix.specs.Butterflies.{dit_near, dit_far};
-ghost use Rattle.p3_networks.specs.Cosets.{point};
-ghost use Rattle.p3_networks.specs.Polynomials.{poly};
+ghost use Rattle.p3_matrix.specs.Cosets.{point};
+ghost use Rattle.p3_matrix.specs.Polynomials.{poly};
 ghost use Rattle.p3_networks.specs.Layers.{AreValuesOfRows};
-ghost use Rattle.p3_networks.specs.Twiddles.{AreBlockTwiddles, AreTwiddlesOfLayers, coset_twiddles, block_end};
-ghost use Rattle.p3_networks.specs.Twiddles.{block_entries, factor, scale_cost};
+ghost use Rattle.p3_networks.specs.Twiddles.{AreBlockTwiddles, AreTwiddlesOfLayers, coset_twiddles, block_end, block_entries, factor, scale_cost};
 
 use crate::butterfly_layers::rules::{
     DitByBlock, DitByBlockOnCoset, DitByPlace, DitByPlaceOnCoset, ScaledDitByBlock,

@@ -1,16 +1,15 @@
 //! An extension coset by coset. Of its `2^(log_h + added_bits)` rows each run of `2^log_h` is a slot, which
 //! gets the values on a coset of its own. The coefficients are the first slot, in bit reversed order.
 
-ghost use Rattle.std.specs.Prelude.{◌≡◌, ℕ, ◌+◌, ◌-◌, ◌*◌, ◌/◌, ◌^◌, ◌<◌, ◌≤◌, ◌++◌, ◌∷◌, [], List};
-ghost use Rattle.std.specs.Prelude.{IfErr, IsPermutation, OnOk, get_or, length};
+ghost use Rattle.std.specs.Prelude.{◌≡◌, ℕ, ◌+◌, ◌-◌, ◌*◌, ◌/◌, ◌^◌, ◌<◌, ◌≤◌, ◌++◌, ◌∷◌, [], List, IfErr, IsPermutation, OnOk, get_or, length};
 ghost use Rattle.p3_field.specs.Ring.{AreRoots};
 ghost use Rattle.p3_matrix.specs.BitOrder.{rev};
 ghost use Rattle.p3_matrix.specs.Blocks.{AreBlocksOf, Run, RunToRefusal};
 ghost use Rattle.p3_matrix.specs.Matrix.{image, matrix};
 ghost use Rattle.p3_matrix.specs.RowMajor.{RowMajor};
-ghost use Rattle.p3_networks.specs.Cosets.{point};
+ghost use Rattle.p3_matrix.specs.Cosets.{point};
 ghost use Rattle.p3_networks.specs.Layers.{AreValuesOfRows};
-ghost use Rattle.p3_networks.specs.Polynomials.{poly};
+ghost use Rattle.p3_matrix.specs.Polynomials.{poly};
 ghost use Rattle.p3_networks.specs.Slots.{extended_rows, slot_block, slot_blocks};
 ghost use Rattle.p3_networks.specs.Twiddles.{AreBlockTwiddles, HasCoset, HasCosets, IsCosetOf, block_end, forward_root};
 

@@ -12,7 +12,7 @@ ghost use Rattle.p3_matrix.specs.Butterflies.{dif_far, dif_near};
 ghost use Rattle.p3_networks.specs.Groups.{AreLayersInOrder, cells_of};
 ghost use Rattle.p3_networks.specs.declared.radix_2_small_batch.groups.Order.{Order};
 ghost use Rattle.p3_networks.specs.Layers.{AreLayers, HoldsCells, AreValuesOfRows};
-ghost use Rattle.p3_networks.specs.Polynomials.{poly};
+ghost use Rattle.p3_matrix.specs.Polynomials.{poly};
 ghost use Rattle.p3_networks.specs.Twiddles.{AreTwiddlesFromStart, backward_root, block_powers, forward_root};
 
 use crate::butterfly_layers::rules::{DifByBlock, DitByBlock};
@@ -367,7 +367,7 @@ fn scaled_dif_tiles<F: TwoAdicField>(
 /// bit reversed order: the layers whose blocks are larger than a tile on the whole, in groups, then the
 /// others tile by tile. A tile has `2^log_rows` rows, at most all. A piece has `piece` entries of each part
 /// of a block, at least one. The first twiddle is one.
-pub fn dit_network<F: TwoAdicField>(
+pub fn dit_network_to_reversed<F: TwoAdicField>(
     twiddles: &[F],
     values: &mut [F],
     width: usize,
@@ -411,7 +411,7 @@ pub fn dit_network<F: TwoAdicField>(
 
 /// From rows in bit reversed order to their values at the powers of the root that `twiddles` are made of,
 /// in natural order: the layers whose blocks fit into a tile tile by tile, then the others on the whole,
-/// in groups. Tiles, pieces and the first twiddle are as for `dit_network`.
+/// in groups. Tiles, pieces and the first twiddle are as for `dit_network_to_reversed`.
 pub fn dif_network<F: TwoAdicField>(
     twiddles: &[F],
     values: &mut [F],
@@ -457,7 +457,7 @@ pub fn dif_network<F: TwoAdicField>(
 /// From rows in bit reversed order, each entry times `scale`, to their values at the powers of the
 /// inverse of the generator, in natural order: the layers whose blocks fit into a tile tile by tile,
 /// then the others on the whole, in groups. There are two rows or more; `twiddles` are the powers of that
-/// inverse, and tiles and pieces are as for `dit_network`.
+/// inverse, and tiles and pieces are as for `dit_network_to_reversed`.
 pub fn scaled_dif_network<F: TwoAdicField>(
     twiddles: &[F],
     scale: F,
@@ -630,7 +630,7 @@ fn spread_tiles<F: TwoAdicField>(
 /// From rows in bit reversed order, each times its weight, to their values at `2^added_bits` times as
 /// many points, `2^log_h`, in natural order. No row of zeros is met: those of a longer polynomial are known
 /// after the first layers. There are two points or more; `twiddles` are the powers of their generator, tiles
-/// and pieces are as for `dit_network`, and a tile has at least `2^added_bits` rows.
+/// and pieces are as for `dit_network_to_reversed`, and a tile has at least `2^added_bits` rows.
 pub fn extending_network<F: TwoAdicField>(
     twiddles: &[F],
     weights: &[F],

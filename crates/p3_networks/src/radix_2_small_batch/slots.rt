@@ -4,12 +4,12 @@
 ghost use Rattle.std.specs.Prelude.{◌≡◌, ℕ, ◌+◌, ◌*◌, ◌/◌, ◌^◌, ◌<◌, ◌≤◌, length, get_or};
 ghost use Rattle.p3_field.specs.Ring.{power};
 ghost use Rattle.p3_matrix.specs.BitOrder.{rev};
-ghost use Rattle.p3_networks.specs.Cosets.{point};
+ghost use Rattle.p3_matrix.specs.Cosets.{point};
 ghost use Rattle.p3_networks.specs.Layers.{AreValuesOfRows};
-ghost use Rattle.p3_networks.specs.Polynomials.{poly};
+ghost use Rattle.p3_matrix.specs.Polynomials.{poly};
 ghost use Rattle.p3_networks.specs.Twiddles.{AreTwiddlesFromStart, block_powers, forward_root};
 
-use crate::radix_2_small_batch::networks::dit_network;
+use crate::radix_2_small_batch::networks::dit_network_to_reversed;
 use crate::shifts::{copy_shifted, shift_values};
 use p3_field::{Products, TwoAdicField};
 use p3_matrix::reverse_bits_len;
@@ -134,6 +134,6 @@ fn evaluate<F: TwoAdicField>(
     ensures count { products.new ≤ products.old + width * (log_h * 2 ^ log_h / 2) }
 {
     if log_h > 0 {
-        dit_network(twiddles, values, width, log_rows, log_h, piece, products);
+        dit_network_to_reversed(twiddles, values, width, log_rows, log_h, piece, products);
     }
 }

@@ -1,8 +1,8 @@
 use Rattle.std.proofs.Common.{◌≡◌, ◌+◌, ◌*◌, ◌/◌, ◌^◌, sym, ap, ◌∙◌, arith}
 use Rattle.std.proofs.lemmas.Nat.{pow-add}
-use Rattle.p3_dft.specs.Transforms.{values_of}
+use Rattle.p3_matrix.specs.Cosets.{values_of}
 use Rattle.p3_dft.proofs.Calls.Shapes.{output_fits, output_log_small, output_size}
-use Rattle.p3_dft.proofs.BitReversed.SpreadRows.{values_of_spread}
+use Rattle.p3_matrix.proofs.Polynomials.SpreadRows.{values_of_spread}
 use Rattle.p3_dft.proofs.radix_2_bowers.extend.Goals as goal
 
 pub spread_rows-requires-clause-bits : goal.spread_rows-requires-clause-bits

@@ -1,10 +1,9 @@
 use Rattle.std.proofs.Common.{◌≡◌, ℕ, ◌*◌, ◌^◌, length, sym, ap, ◌∙◌, subst, arith}
 use Rattle.p3_matrix.specs.BitOrder.{bit_reversal}
 use Rattle.p3_matrix.specs.RowMajor.{height}
-use Rattle.p3_networks.specs.Cosets.{IsQuotient}
-use Rattle.p3_dft.specs.Transforms.{values_of}
-use Rattle.p3_dft.proofs.BitReversed.Coefficients.{reversed_quotient}
-use Rattle.p3_dft.proofs.Calls.Transforms.{whole_kept}
+use Rattle.p3_matrix.specs.Cosets.{IsQuotient, values_of}
+use Rattle.p3_matrix.proofs.Polynomials.Quotients.{reversed_quotient}
+use Rattle.p3_matrix.proofs.RowMajor.{whole_kept}
 use Rattle.p3_dft.proofs.radix_2_bowers.interpolate.Goals as goal
 
 pub returns-clause-coefficients : goal.returns-clause-coefficients

@@ -5,9 +5,10 @@ use Rattle.p3_field.proofs.Roots.{inverse_root, inverse_undoes}
 use Rattle.p3_matrix.specs.BitOrder.{rev}
 use Rattle.p3_matrix.specs.RowMajor.{height}
 use Rattle.p3_matrix.proofs.TwoPowers.{log_same}
-use Rattle.p3_dft.specs.Transforms.{values_of}
-use Rattle.p3_dft.proofs.BitReversed.Coefficients.{coefficients_of_parts, coefficients_of_row}
-use Rattle.p3_dft.proofs.Calls.Transforms.{written_shape, written_size}
+use Rattle.p3_matrix.specs.Cosets.{values_of}
+use Rattle.p3_dft.proofs.BitReversed.Coefficients.{coefficients_of_parts}
+use Rattle.p3_matrix.proofs.Polynomials.ReversedCoefficients.{coefficients_of_row}
+use Rattle.p3_matrix.proofs.RowMajor.{written_shape, written_size}
 use Rattle.p3_dft.proofs.radix_2_bowers.interpolate_scaled.Goals as goal
 
 pub returns-then-height-eq1-clause-coefficients : goal.returns-then-height-eq1-clause-coefficients

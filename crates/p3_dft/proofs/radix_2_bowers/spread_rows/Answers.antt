@@ -3,8 +3,8 @@ use Rattle.std.proofs.Math.Nat.{mod-eq_of_lt, mul-le-mul_left, mul-le-mul_right,
 use Rattle.std.proofs.lemmas.Nat.{pow_pos}
 use Rattle.p3_matrix.specs.RowMajor.{RowMajor, height}
 use Rattle.p3_matrix.specs.Matrix.{Same, row_exchange, matrix}
-use Rattle.p3_dft.proofs.Calls.Padding.{padded_above, padded_below, padded_high}
-use Rattle.p3_dft.proofs.BitReversed.SpreadRows.{SpreadFrom, spread_none, spread_exchanged, spread_rows, spread_others}
+use Rattle.p3_matrix.proofs.Rows.Padding.{padded_above, padded_below, padded_high}
+use Rattle.p3_matrix.proofs.Polynomials.SpreadRows.{SpreadFrom, spread_none, spread_exchanged, spread_rows, spread_others}
 use Rattle.p3_dft.proofs.radix_2_bowers.spread_rows.Goals as goal
 
 -- the place of a row is one that a usize holds

@@ -1,7 +1,7 @@
 use Rattle.std.proofs.Common.{ℕ, ◌+◌, ◌-◌, ◌^◌, ◌<◌}
 use Rattle.p3_matrix.specs.RowMajor.{HasShapeOf}
 use Rattle.p3_matrix.specs.Matrix.{matrix}
-use Rattle.p3_dft.proofs.BitReversed.SpreadRows.{SpreadFrom}
+use Rattle.p3_matrix.proofs.Polynomials.SpreadRows.{SpreadFrom}
 use Rattle.p3_dft.proofs.radix_2_bowers.spread_rows.Given as goal
 
 abbrev pub invariant-loop-done : goal.invariant-loop-done

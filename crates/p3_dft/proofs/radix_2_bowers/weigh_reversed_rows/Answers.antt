@@ -3,9 +3,9 @@ use Rattle.p3_field.specs.Ring.{power}
 use Rattle.p3_matrix.specs.BitOrder.{rev}
 use Rattle.p3_matrix.specs.RowMajor.{height}
 use Rattle.p3_matrix.proofs.TwoPowers.{log_same}
-use Rattle.p3_dft.specs.Transforms.{values_of}
+use Rattle.p3_matrix.specs.Cosets.{values_of}
 use Rattle.p3_networks.proofs.Tables.ReversedPowers.{weighed_rows}
-use Rattle.p3_networks.proofs.Rows.Overwritten.{written}
+use Rattle.p3_matrix.proofs.Rows.Overwritten.{written}
 use Rattle.p3_dft.proofs.Calls.Transforms.{entries_of_parts}
 use Rattle.p3_dft.proofs.radix_2_bowers.weigh_reversed_rows.Goals as goal
 

@@ -3,7 +3,7 @@ use Rattle.std.proofs.Math.Nat.{suc-mul, mul-le-mul_right}
 use borrow.Author.Rules.{scaled_fits≤}
 use Rattle.std.proofs.lemmas.List.{places, get_or_read_under}
 use Rattle.p3_networks.proofs.Layers.Halves.{block_room}
-use Rattle.p3_networks.proofs.Rows.Overwritten.{rows-none, rows-more, part_at, value_at}
+use Rattle.p3_matrix.proofs.Rows.Overwritten.{rows-none, rows-more, part_at, value_at}
 use Rattle.p3_dft.proofs.radix_2_bowers.weigh_rows.Goals as goal
 
 pub overflow_mul-start : goal.overflow_mul-start

@@ -5,10 +5,10 @@ use Rattle.std.proofs.lemmas.Nat.{pow-add}
 use Rattle.p3_field.specs.Ring.{power}
 use Rattle.p3_matrix.specs.BitOrder.{rev}
 use Rattle.p3_matrix.specs.RowMajor.{RowMajor}
-use Rattle.p3_networks.specs.Polynomials.{poly}
+use Rattle.p3_matrix.specs.Polynomials.{poly}
 use Rattle.p3_dft.proofs.BitReversed.OneReversal.{values_of_weighed}
 use Rattle.p3_networks.proofs.Layers.Counts.{extension_counted}
-use Rattle.p3_networks.proofs.Rows.Overwritten.{written}
+use Rattle.p3_matrix.proofs.Rows.Overwritten.{written}
 use Rattle.p3_dft.proofs.radix_2_small_batch.extend.Goals as goal
 
 -- as many zeros as the extension has entries

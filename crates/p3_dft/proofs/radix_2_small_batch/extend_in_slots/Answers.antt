@@ -2,15 +2,14 @@ use Rattle.std.proofs.Common.{◌≡◌, ℕ, ◌+◌, ◌*◌, ◌/◌, ◌^◌
 use Rattle.p3_matrix.specs.BitOrder.{rev}
 use Rattle.p3_matrix.specs.RowMajor.{RowMajor}
 use Rattle.p3_matrix.proofs.BitReversal.{rev-lt, rev-rev}
-use Rattle.p3_networks.specs.Cosets.{point}
-use Rattle.p3_networks.specs.Polynomials.{poly}
-use Rattle.p3_networks.proofs.Polynomials.ByIndex.{poly_same}
-use Rattle.p3_networks.proofs.Polynomials.Cosets.{is_values}
-use Rattle.p3_networks.proofs.Rows.Overwritten.{written}
-use Rattle.p3_dft.specs.Transforms.{values_of}
+use Rattle.p3_matrix.specs.Cosets.{point, values_of}
+use Rattle.p3_matrix.specs.Polynomials.{poly}
+use Rattle.p3_matrix.proofs.Polynomials.ByIndex.{poly_same}
+use Rattle.p3_matrix.proofs.Polynomials.Cosets.{is_values}
+use Rattle.p3_matrix.proofs.Rows.Overwritten.{written}
 use Rattle.p3_dft.proofs.BitReversed.Rows.{written_cell}
-use Rattle.p3_dft.proofs.Calls.Padding.{cell_above}
-use Rattle.p3_dft.proofs.Calls.Transforms.{written_shape, written_size}
+use Rattle.p3_matrix.proofs.Rows.Padding.{cell_above}
+use Rattle.p3_matrix.proofs.RowMajor.{written_shape, written_size}
 use Rattle.p3_dft.proofs.radix_2_small_batch.extend_in_slots.Goals as goal
 
 pub slots_network-requires-clause-size : goal.slots_network-requires-clause-size

@@ -1,4 +1,4 @@
-use Rattle.p3_dft.proofs.Codes.ZeroRows.{zeros_by_rows}
+use Rattle.p3_matrix.proofs.Rows.Zeros.{zeros_by_rows}
 use Rattle.p3_dft.proofs.reed_solomon.are_zeros_from.Goals as goal
 
 pub returns : goal.returns

@@ -5,9 +5,8 @@ use Rattle.p3_matrix.specs.Matrix.{Matrix}
 use Rattle.p3_matrix.specs.RowMajor.{RowMajor}
 use Rattle.std.proofs.lemmas.Nat.{pow-add, pow_pos}
 use Rattle.p3_matrix.proofs.TwoPowers.{log_lt, log_same}
-use Rattle.p3_networks.specs.Cosets.{IsValues}
+use Rattle.p3_matrix.specs.Cosets.{IsValues, values_of}
 use Rattle.p3_dft.specs.Codes.{Code, IsCodeword}
-use Rattle.p3_dft.specs.Transforms.{values_of}
 use Rattle.p3_dft.proofs.Laws.TwoCalls.{exponent_within}
 use Rattle.p3_dft_tests.proofs.low_degree.has_low_degree.Goals as goal
 

@@ -1,6 +1,6 @@
 use Rattle.std.proofs.Common.{arith, sym, ◌∙◌}
 use Rattle.std.proofs.lemmas.Result.{IfOk-weaker}
-use Rattle.p3_dft.proofs.Laws.Products.{inverse_of_products}
+use Rattle.p3_dft.proofs.Laws.Convolutions.{inverse_of_products}
 use Rattle.p3_dft_tests.proofs.product.product.Goals as goal
 
 pub returns-clause-coefficients : goal.returns-clause-coefficients

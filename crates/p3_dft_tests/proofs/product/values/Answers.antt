@@ -1,6 +1,6 @@
 use Rattle.std.proofs.Common.{arith}
 use Rattle.std.proofs.lemmas.Result.{IfOk-weaker}
-use Rattle.p3_dft.proofs.Laws.Products.{transform_with_zeros}
+use Rattle.p3_dft.proofs.Laws.Convolutions.{transform_with_zeros}
 use Rattle.p3_dft_tests.proofs.product.values.Goals as goal
 
 pub returns-clause-values : goal.returns-clause-values

@@ -1,38 +1,9 @@
-use Rattle.std.proofs.Common.{ℕ, ◌+◌, ◌∙◌, arith, of_calls}
-use Rattle.p3_field.specs.declared.fields.Field.{Ghosts as FieldMembers}
+use Rattle.std.proofs.Common.{◌+◌, ◌∙◌, arith, of_calls}
 use Rattle.p3_matrix.proofs.Consumers.{all_counted, limit_exceeded, limit_refused, limit_stays}
-use Rattle.p3_matrix.specs.Matrix.{Matrix}
-use Rattle.p3_matrix.specs.RowMajor.{RowMajor}
-use Rattle.p3_dft.specs.Extensions.{AreTransformedValues}
-use Rattle.p3_dft.specs.declared.traits.Layout.{Layout}
-use Rattle.p3_dft.proofs.Calls.ExtendedTransforms.{extension_of_same}
 use Rattle.p3_dft.proofs.Calls.PublishedExtensions.{power_divides}
 use Rattle.p3_dft.proofs.Laws.Blocks.{where_refused}
 use Rattle.p3_dft_tests.proofs.Limits.{one_too_many}
 use Rattle.p3_dft_tests.proofs.published.limited_extension.Goals as goal
-
--- what is answered, where more may be
-answers_more : {F : Type 0} (f : FieldMembers F) (generator : ℕ → F) (P Q : RowMajor F → RowMajor F → Type 0) (layout : Layout) (m : RowMajor F) (a : ℕ) (s : f.Element) (out : Matrix f.Element)
-    → ((told answered : RowMajor F) → P told answered → Q told answered)
-    → AreTransformedValues f generator P layout m a s out → AreTransformedValues f generator Q layout m a s out
-answers_more f generator P Q layout m a s out more given = record {
-  coefficients = given.coefficients;
-  are_coefficients = given.are_coefficients;
-  told = given.told;
-  told_whole = given.told_whole;
-  told_in_layout = given.told_in_layout;
-  answered = given.answered;
-  answered_whole = given.answered_whole;
-  called = more given.told given.answered given.called;
-  changed = given.changed;
-  answered_in_layout = given.answered_in_layout;
-  extended = given.extended;
-}
-
-pub returns-in-Ok-clause-extension : goal.returns-in-Ok-clause-extension
-returns-in-Ok-clause-extension g c =
-    extension_of_same g.F.Field g.F.TwoAdicField.generator _ g.D.TwoAdicSubgroupDft.LAYOUT c.args.mat _ c.args.added_bits (g.F.Field.value c.args.shift)
-    (λ told answered called. search of_calls) c.in-Ok.ensures.values
 
 pub returns-in-Ok-clause-counted : goal.returns-in-Ok-clause-counted
 returns-in-Ok-clause-counted g c = λ k e.
@@ -55,6 +26,5 @@ returns-in-Refused-clause-refused g c = λ k e.
 pub returns-in-Refused-clause-one_too_many : goal.returns-in-Refused-clause-one_too_many
 returns-in-Refused-clause-one_too_many g c = λ k e.
     let x = where_refused _ _ _ _ c.in-Refused.is c.in-Err.ensures.refused k e in
-    let values = answers_more g.F.Field g.F.TwoAdicField.generator _ _ _ _ _ _ _ (λ told answered called. search of_calls) x.1 in
     let (taken, refused, parts, many, start) = one_too_many _ _ _ _ _ _ c.args.limit (λ r made. search of_calls) x.2 in
-    (x.0, values, taken, refused, parts, many, start)
+    (x.0, x.1, taken, refused, parts, many, start)

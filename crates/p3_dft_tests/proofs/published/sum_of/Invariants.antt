@@ -1,5 +1,5 @@
 use Rattle.std.proofs.Common.{◌≡◌, get_or}
-use Rattle.p3_networks.specs.Polynomials.{sum}
+use Rattle.p3_matrix.specs.Polynomials.{sum}
 use Rattle.p3_dft_tests.proofs.published.sum_of.Given as goal
 
 abbrev pub invariant-loop-i : goal.invariant-loop-i

@@ -1,12 +1,6 @@
 use Rattle.std.proofs.Common.{of_calls}
-use Rattle.p3_dft.proofs.Calls.ExtendedTransforms.{extension_of_same}
 use Rattle.p3_dft_tests.proofs.BlockSums.{published_total}
 use Rattle.p3_dft_tests.proofs.published.summed_extension.Goals as goal
-
-pub returns-in-Ok-clause-extension : goal.returns-in-Ok-clause-extension
-returns-in-Ok-clause-extension g c =
-    extension_of_same g.F.Field g.F.TwoAdicField.generator _ g.D.TwoAdicSubgroupDft.LAYOUT c.args.mat _ c.args.added_bits (g.F.Field.value c.args.shift)
-    (λ told answered called. search of_calls) c.in-Ok.ensures.values
 
 pub returns-in-Ok-clause-summed : goal.returns-in-Ok-clause-summed
 returns-in-Ok-clause-summed g c =

@@ -1,9 +1,9 @@
 use Rattle.std.proofs.Common.{◌≡◌, ℕ, ◌+◌, reverse, sym, ◌∙◌, of_calls}
 use Rattle.std.proofs.lemmas.Result.{IfOk-weaker}
 use Rattle.p3_matrix.specs.RowMajor.{RowMajor}
-use Rattle.p3_networks.proofs.Polynomials.Cosets.{coefficients_same}
+use Rattle.p3_matrix.proofs.Polynomials.Cosets.{coefficients_same}
 use Rattle.p3_matrix.proofs.Matrices.{same_sym, same_trans}
-use Rattle.p3_dft.specs.Transforms.{values_of}
+use Rattle.p3_matrix.specs.Cosets.{values_of}
 use Rattle.p3_dft_tests.proofs.OppositeEntries.{opposite, same_shape}
 use Rattle.p3_dft_tests.proofs.whole_rows.extension_of_opposite_entries.Goals as goal
 

@@ -3,7 +3,7 @@ use borrow.Author.Rules.{scaled_fits≤}
 use Rattle.std.proofs.Math.Nat.{le_refl}
 use Rattle.p3_networks.proofs.Layers.Counts.{count_more, count_none, at_end}
 use Rattle.p3_networks.proofs.Layers.Halves.{block_room, part_length, blocks-from, first-all, second-all}
-use Rattle.p3_networks.proofs.Rows.Overwritten.{rows-none}
+use Rattle.p3_matrix.proofs.Rows.Overwritten.{rows-none}
 use Rattle.p3_networks.proofs.butterfly_layers.layer_from.Goals as goal
 
 pub overflow_mul-whole : goal.overflow_mul-whole

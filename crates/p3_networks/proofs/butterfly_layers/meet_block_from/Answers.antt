@@ -1,6 +1,6 @@
 use Rattle.std.proofs.Common.{ap, ◌∙◌, arith, ◌+◌, ◌*◌}
 use Rattle.p3_networks.proofs.Layers.Halves.{in_first, in_second, of_halves}
-use Rattle.p3_networks.proofs.Rows.Overwritten.{lane_at}
+use Rattle.p3_matrix.proofs.Rows.Overwritten.{lane_at}
 use Rattle.p3_networks.proofs.butterfly_layers.meet_block_from.Goals as goal
 
 pub returns-clause-near : goal.returns-clause-near

@@ -1,7 +1,7 @@
 use Rattle.std.proofs.Common.{◌≡◌, ℕ, ◌+◌, ◌*◌, length, get_or, ap, ap₂, ◌∙◌, arith}
 use Rattle.p3_networks.proofs.Layers.Counts.{count_more, count_all}
 use Rattle.p3_networks.proofs.Layers.Halves.{block_room}
-use Rattle.p3_networks.proofs.Rows.Overwritten.{rows-next, rows-none, rows-all}
+use Rattle.p3_matrix.proofs.Rows.Overwritten.{rows-next, rows-none, rows-all}
 use Rattle.p3_networks.proofs.butterfly_layers.meet_halves.Goals as goal
 
 pub meet_rows_at-requires-clause-room : goal.meet_rows_at-requires-clause-room

@@ -1,7 +1,7 @@
 use Rattle.std.proofs.Common.{◌≡◌, ℕ, ◌+◌, ◌*◌, ◌-◌, ◌<◌, ◌≤◌, ◌⊎◌, length, sym, ap, ap₂, ◌∙◌, subst, arith, rules}
 use borrow.Author.Rules.{scaled_fits≤}
 use Rattle.p3_networks.proofs.Layers.Halves.{part_length}
-use Rattle.p3_networks.proofs.Rows.Overwritten.{outside_kept, part_at, put_in}
+use Rattle.p3_matrix.proofs.Rows.Overwritten.{outside_kept, part_at, put_in}
 use Rattle.p3_networks.proofs.butterfly_layers.meet_rows_at.Goals as goal
 
 pub offset_bounds-low-start : goal.offset_bounds-low-start

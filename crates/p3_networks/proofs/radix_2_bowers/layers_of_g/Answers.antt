@@ -6,9 +6,9 @@ use Rattle.p3_field.proofs.Rings
 use Rattle.p3_matrix.specs.BitOrder.{rev}
 use Rattle.p3_matrix.specs.Butterflies.{dif_near, dif_far}
 use Rattle.p3_matrix.proofs.BitReversal.{rev_of_zero, rev-rev}
-use Rattle.p3_networks.specs.Polynomials.{poly}
+use Rattle.p3_matrix.specs.Polynomials.{poly}
 use Rattle.p3_networks.proofs.Layers.Blocks.{halves_whole}
-use Rattle.p3_networks.proofs.Polynomials.Cosets.{point_of_one}
+use Rattle.p3_matrix.proofs.Polynomials.Cosets.{point_of_one}
 use Rattle.p3_networks.proofs.Layers.Counts.{layer_counted, layers_counted}
 use Rattle.p3_networks.proofs.Layers.Sizes.{blocks_left, cells_by_halves, done_shift, left_shift, some_rows}
 use Rattle.p3_networks.proofs.Networks.Entries.{turned_entry}

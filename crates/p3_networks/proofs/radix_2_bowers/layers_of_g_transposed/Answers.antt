@@ -6,9 +6,9 @@ use Rattle.p3_field.proofs.Roots.{inverse_root, inverse_roots}
 use Rattle.p3_matrix.specs.BitOrder.{rev}
 use Rattle.p3_matrix.specs.Butterflies.{dit_near, dit_far}
 use Rattle.p3_matrix.proofs.BitReversal.{rev_of_zero}
-use Rattle.p3_networks.specs.Polynomials.{poly}
+use Rattle.p3_matrix.specs.Polynomials.{poly}
 use Rattle.p3_networks.proofs.Layers.Blocks.{blocks_whole}
-use Rattle.p3_networks.proofs.Polynomials.Cosets.{point_of_one}
+use Rattle.p3_matrix.proofs.Polynomials.Cosets.{point_of_one}
 use Rattle.p3_networks.proofs.Layers.Counts.{layer_counted, layers_counted}
 use Rattle.p3_networks.proofs.Layers.Sizes.{blocks_done, cells_by_blocks, done_shift, left_shift, some_rows}
 use Rattle.p3_networks.proofs.Networks.Entries.{high_entry}

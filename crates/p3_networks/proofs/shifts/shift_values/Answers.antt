@@ -5,7 +5,7 @@ use Rattle.p3_field.specs.Ring.{power}
 use Rattle.p3_field.proofs.Powers.{power-zero, power-more, power_of_one}
 use Rattle.p3_networks.proofs.Layers.Counts.{turn_counted, at_end}
 use Rattle.p3_networks.proofs.Layers.Halves.{block_room, part_length}
-use Rattle.p3_networks.proofs.Rows.Overwritten.{rows-none, rows-more, part_at, value_at}
+use Rattle.p3_matrix.proofs.Rows.Overwritten.{rows-none, rows-more, part_at, value_at}
 use Rattle.p3_networks.proofs.shifts.shift_values.Goals as goal
 
 pub overflow_mul-start : goal.overflow_mul-start

@@ -3,11 +3,13 @@ use Rattle.std.proofs.Math.Nat.{le-add_right}
 use Rattle.std.proofs.lemmas.Result.{IfOk-weaker}
 use Rattle.p3_matrix.specs.BitOrder.{bit_reversal}
 use Rattle.p3_matrix.specs.RowMajor.{RowMajor, height}
-use Rattle.p3_dft.specs.Transforms.{values_of}
-use Rattle.p3_networks.proofs.Polynomials.Cosets.{coset_values}
-use Rattle.p3_dft.proofs.BitReversed.Coefficients.{extension_of_answered, extension_of_told_row, first_within_extension, shifted_by_one, within_extension}
+use Rattle.p3_matrix.specs.Cosets.{values_of}
+use Rattle.p3_matrix.proofs.Polynomials.Cosets.{coset_values}
+use Rattle.p3_dft.proofs.BitReversed.Coefficients.{extension_of_answered, extension_of_told_row, first_within_extension, within_extension}
+use Rattle.p3_matrix.proofs.Polynomials.Quotients.{shifted_by_one}
 use Rattle.p3_dft.proofs.Calls.Counts.{scaled_counted, weighed_counted}
-use Rattle.p3_dft.proofs.Calls.Shapes.{fits_lde_as, input_fits, log_within, more_points, output_log_small}
+use Rattle.p3_dft.proofs.Calls.Shapes.{fits_lde_as, input_fits, output_log_small}
+use Rattle.p3_matrix.proofs.TwoPowers.{log_within, more_points}
 use Rattle.p3_dft.proofs.radix_2_bowers.Radix2BowersTwoAdicSubgroupDft.coset_lde_batch_with_transform.Goals as goal
 
 pub interpolate-requires : goal.interpolate-requires

@@ -3,10 +3,9 @@ use Rattle.p3_matrix.specs.BitOrder.{bit_reversal}
 use Rattle.p3_matrix.specs.Matrix.{matrix}
 use Rattle.p3_matrix.specs.RowMajor.{RowMajor, height}
 use Rattle.p3_matrix.proofs.BitReversal.{reversed_back}
-use Rattle.p3_matrix.proofs.Matrices.{same_sym}
-use Rattle.p3_dft.specs.Transforms.{values_of}
-use Rattle.p3_networks.proofs.Polynomials.Cosets.{coefficients_same}
-use Rattle.p3_dft.proofs.Calls.Inverses.{mapped_same}
+use Rattle.p3_matrix.proofs.Matrices.{same_sym, mapped_same}
+use Rattle.p3_matrix.specs.Cosets.{values_of}
+use Rattle.p3_matrix.proofs.Polynomials.Cosets.{coefficients_same}
 use Rattle.p3_dft.proofs.BitReversed.Rows.{transform_of_row}
 use Rattle.p3_dft.proofs.Calls.Shapes.{fits_dft_as}
 use Rattle.p3_dft.proofs.radix_2_bowers.Radix2BowersTwoAdicSubgroupDft.dft_batch.Goals as goal

@@ -3,10 +3,11 @@ use Rattle.std.proofs.Math.Nat.{le-add_right}
 use Rattle.std.proofs.lemmas.Result.{IfOk-weaker}
 use Rattle.p3_matrix.specs.BitOrder.{bit_reversal}
 use Rattle.p3_matrix.specs.RowMajor.{RowMajor, height}
-use Rattle.p3_dft.specs.Transforms.{values_of}
+use Rattle.p3_matrix.specs.Cosets.{values_of}
 use Rattle.p3_dft.proofs.BitReversed.Coefficients.{extension_of_coefficients, extension_of_row, first_within_extension, within_extension}
 use Rattle.p3_dft.proofs.Calls.Counts.{scaled_counted, weighed_counted}
-use Rattle.p3_dft.proofs.Calls.Shapes.{fits_lde_as, input_fits, log_within, more_points, output_log_small}
+use Rattle.p3_dft.proofs.Calls.Shapes.{fits_lde_as, input_fits, output_log_small}
+use Rattle.p3_matrix.proofs.TwoPowers.{log_within, more_points}
 use Rattle.p3_dft.proofs.radix_2_bowers.Radix2BowersTwoAdicSubgroupDft.lde_batch.Goals as goal
 
 pub interpolate-requires : goal.interpolate-requires

@@ -4,7 +4,7 @@ use Rattle.std.proofs.lemmas.Result.{IfOk-weaker}
 use Rattle.p3_matrix.specs.RowMajor.{height}
 use Rattle.p3_dft.proofs.Calls.EngineSteps.{after_part, parts_after, products_after}
 use Rattle.p3_dft.proofs.Calls.ExtendedTransforms.{answered_shape, extension_of_shifted}
-use Rattle.p3_dft.proofs.Calls.Padding.{padded_shape}
+use Rattle.p3_matrix.proofs.Rows.Padding.{padded_shape}
 use Rattle.p3_dft.proofs.Calls.PreparedHeights.{none_above, still_above}
 use Rattle.p3_dft.proofs.Calls.Shapes.{input_fits, output_fits, output_log_small, output_size}
 use Rattle.p3_dft.proofs.radix_2_dit.Radix2DitTwoAdicSubgroupDft.coset_lde_batch_with_transform.Goals as goal

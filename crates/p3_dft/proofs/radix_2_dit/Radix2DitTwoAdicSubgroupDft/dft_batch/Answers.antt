@@ -3,7 +3,7 @@ use Rattle.std.specs.List.{range_with_len}
 use Rattle.p3_matrix.specs.RowMajor.{RowMajor, height}
 use Rattle.p3_matrix.proofs.TwoPowers.{log_same}
 use Rattle.p3_networks.specs.Twiddles.{root_powers}
-use Rattle.p3_dft.specs.Engines.{Tabled, IsPrepared}
+use Rattle.p3_dft.specs.Engines.{EngineState, IsPrepared}
 use Rattle.p3_networks.proofs.Tables.MoreTwiddles.{fewer_layers}
 use Rattle.p3_dft.proofs.Calls.PreparedHeights.{none_above, not_ok, prepared_before, until_prepared, later_with_heights, prepared_at}
 use Rattle.p3_dft.proofs.Calls.EngineSteps.{after_error, later_same}
@@ -27,7 +27,7 @@ returns-in_err-make-clause-succeeds g c k high ready =
     let tall : c.height-height.result ≡ height (g.N.IntoRowMajorMatrix.stored c.args.mat) = c.height-height.ensures.height ∙ ap height c.into_row_major_matrix-mat.ensures in
     let log = c.log2_strict_usize-log_h.result in
     let same : k ≡ log = log_same k log (sym high ∙ sym tall ∙ c.log2_strict_usize-log_h.ensures.power) in
-    let held : k ≤ c.self.inside.twiddles = until_prepared _ k (subst (λ (e : Tabled). IsPrepared e k) (sym c.self.view_is) ready) in
+    let held : k ≤ c.self.inside.twiddles = until_prepared _ k (subst (λ (e : EngineState). IsPrepared e k) (sym c.self.view_is) ready) in
     let there : log ≤ c.self.inside.twiddles = omega (arith, same, held) in
     absurd (not_ok c.make.result _ c.in_err-make.was (c.make.ensures.ready there))
 
@@ -50,7 +50,7 @@ returns-clause-values g c =
 
 pub returns-in_err-make-clause-only : goal.returns-in_err-make-clause-only
 returns-in_err-make-clause-only g c k high n now =
-    inl (subst (λ (e : Tabled). IsPrepared e n) c.self.view_is (subst (λ (t : ℕ). IsPrepared (record { prepared = range_with_len 1 t; products = c.self.inside.products }) n) c.in_err-make.ensures.refused now))
+    inl (subst (λ (e : EngineState). IsPrepared e n) c.self.view_is (subst (λ (t : ℕ). IsPrepared (record { prepared = range_with_len 1 t; products = c.self.inside.products }) n) c.in_err-make.ensures.refused now))
 
 pub returns-clause-only : goal.returns-clause-only
 returns-clause-only g c k high n now =
@@ -58,7 +58,7 @@ returns-clause-only g c k high n now =
     let log = c.log2_strict_usize-log_h.result in
     let same : log ≡ k = log_same log k (sym c.log2_strict_usize-log_h.ensures.power ∙ tall ∙ high) in
     none_above n log k (le_of_eq same)
-    (subst (λ (e : Tabled). IsPrepared e n ⊎ (n ≤ log)) c.self.view_is (prepared_before c.self.inside.twiddles c.make.new.self log n c.make.ensures.only now))
+    (subst (λ (e : EngineState). IsPrepared e n ⊎ (n ≤ log)) c.self.view_is (prepared_before c.self.inside.twiddles c.make.new.self log n c.make.ensures.only now))
 
 pub returns-clause-one_row : goal.returns-clause-one_row
 returns-clause-one_row g c one = absurd (c.if-height-eq1.false (c.height-height.ensures.height ∙ ap height c.into_row_major_matrix-mat.ensures ∙ one))

@@ -2,10 +2,10 @@ use Rattle.std.proofs.Common.{◌≡◌, ◌⊎◌, inl, inr, Bool, false, ℕ, 
 use Rattle.p3_matrix.specs.RowMajor.{RowMajor, height}
 use Rattle.p3_matrix.specs.BitOrder.{bit_reversal, reversed_rows}
 use Rattle.p3_matrix.proofs.TwoPowers.{log_same}
-use Rattle.p3_networks.specs.Cosets.{IsValues}
-use Rattle.p3_dft.specs.Transforms.{values_of, IsTransform}
+use Rattle.p3_matrix.specs.Cosets.{IsValues, values_of}
+use Rattle.p3_dft.specs.Transforms.{IsTransform}
 use Rattle.p3_networks.specs.Twiddles.{Coset, HasCoset}
-use Rattle.p3_dft.specs.Engines.{CosetTabled, IsPrepared}
+use Rattle.p3_dft.specs.Engines.{CosetEngineState, IsPrepared}
 use Rattle.p3_dft.proofs.Calls.PreparedHeights.{not_ok}
 use Rattle.p3_dft.proofs.Calls.PreparedCosets.{coset_stays, later_with_tables}
 use Rattle.p3_dft.proofs.BitReversed.OneRow.{row_handed_back, row_seen}
@@ -66,11 +66,11 @@ returns-in_err-place-clause-ready g c k high ready =
     (λ none. c.if-height-eq1.false (tall ∙ high ∙ ap (λ n. 2 ^ n) none)) ready in
     let held : HasCoset field c.self.inside.cosets c.log2_strict_usize-log_h.result s =
     subst (λ (n : ℕ). HasCoset field c.self.inside.cosets n s) same
-    (subst (λ (xs : List (Coset g.row.F.Denot)). HasCoset field xs k s) (sym (ap (λ (e : CosetTabled g.row.F.Denot). e.cosets) c.self.view_is)) has) in
+    (subst (λ (xs : List (Coset g.row.F.Denot)). HasCoset field xs k s) (sym (ap (λ (e : CosetEngineState g.row.F.Denot). e.cosets) c.self.view_is)) has) in
     absurd (not_ok c.make.result _ c.in_err-place.was (c.make.ensures.ready held))
 
 pub returns-in_err-place-clause-only : goal.returns-in_err-place-clause-only
-returns-in_err-place-clause-only g c k high n now = inl (subst (λ (e : CosetTabled g.row.F.Denot). IsPrepared e.roots n) c.self.view_is now)
+returns-in_err-place-clause-only g c k high n now = inl (subst (λ (e : CosetEngineState g.row.F.Denot). IsPrepared e.roots n) c.self.view_is now)
 
 pub returns-in_err-place-clause-succeeds : goal.returns-in_err-place-clause-succeeds
 returns-in_err-place-clause-succeeds g c k high heights ready = returns-in_err-place-clause-ready g c k high ready
@@ -110,7 +110,7 @@ returns-clause-tables g c k high =
     ))
 
 pub returns-clause-only : goal.returns-clause-only
-returns-clause-only g c k high n now = inl (subst (λ (e : CosetTabled g.row.F.Denot). IsPrepared e.roots n) c.self.view_is now)
+returns-clause-only g c k high n now = inl (subst (λ (e : CosetEngineState g.row.F.Denot). IsPrepared e.roots n) c.self.view_is now)
 
 pub returns-clause-once : goal.returns-clause-once
 returns-clause-once g c k high ready =
@@ -124,8 +124,8 @@ returns-clause-once g c k high ready =
     (λ none. c.if-height-eq1.false (tall ∙ high ∙ ap (λ n. 2 ^ n) none)) ready in
     let held : HasCoset field c.self.inside.cosets c.log2_strict_usize-log_h.result s =
     subst (λ (n : ℕ). HasCoset field c.self.inside.cosets n s) same
-    (subst (λ (xs : List (Coset g.row.F.Denot)). HasCoset field xs k s) (sym (ap (λ (e : CosetTabled g.row.F.Denot). e.cosets) c.self.view_is)) has) in
-    c.make.ensures.once held ∙ ap (λ (e : CosetTabled g.row.F.Denot). e.cosets) c.self.view_is
+    (subst (λ (xs : List (Coset g.row.F.Denot)). HasCoset field xs k s) (sym (ap (λ (e : CosetEngineState g.row.F.Denot). e.cosets) c.self.view_is)) has) in
+    c.make.ensures.once held ∙ ap (λ (e : CosetEngineState g.row.F.Denot). e.cosets) c.self.view_is
 
 pub returns-clause-cosets : goal.returns-clause-cosets
 returns-clause-cosets g c k high =
@@ -133,7 +133,7 @@ returns-clause-cosets g c k high =
     let tall : c.height-height.result ≡ height (g.N.IntoRowMajorMatrix.stored c.args.mat) = c.height-height.ensures.height ∙ ap height c.into_row_major_matrix-mat.ensures in
     let same : c.log2_strict_usize-log_h.result ≡ k = log_same _ k (sym c.log2_strict_usize-log_h.ensures.power ∙ tall ∙ high) in
     let made = λ (xs : List (Coset g.row.F.Denot)) (n : ℕ). (c.make.new.self ≡ xs) ⊎ (c.make.new.self ≡ xs ++ record { log_h = n; shift = shift } ∷ []) in
-    subst (made c.args.self.now.cosets) same (subst (λ xs. made xs c.log2_strict_usize-log_h.result) (ap (λ (e : CosetTabled g.row.F.Denot). e.cosets) c.self.view_is) c.make.ensures.only)
+    subst (made c.args.self.now.cosets) same (subst (λ xs. made xs c.log2_strict_usize-log_h.result) (ap (λ (e : CosetEngineState g.row.F.Denot). e.cosets) c.self.view_is) c.make.ensures.only)
 
 pub returns-clause-later : goal.returns-clause-later
 returns-clause-later g c = later_with_tables g.F.Field _ _ _ c.args.self.now _ _ _ _ _ _ c.self.view_is (omega arith) (coset_stays g.F.Field _ _ _ c.make.ensures.only) c.evaluate_on_coset.ensures.grows
@@ -142,7 +142,7 @@ pub returns-clause-pairs : goal.returns-clause-pairs
 returns-clause-pairs g c k high =
     let tall : c.height-height.result ≡ height (g.N.IntoRowMajorMatrix.stored c.args.mat) = c.height-height.ensures.height ∙ ap height c.into_row_major_matrix-mat.ensures in
     let same : c.log2_strict_usize-log_h.result ≡ k = log_same _ k (sym c.log2_strict_usize-log_h.ensures.power ∙ tall ∙ high) in
-    let products : c.self.inside.products ≡ c.args.self.now.roots.products = ap (λ (e : CosetTabled g.row.F.Denot). e.roots.products) c.self.view_is in
+    let products : c.self.inside.products ≡ c.args.self.now.roots.products = ap (λ (e : CosetEngineState g.row.F.Denot). e.roots.products) c.self.view_is in
     let width = ap (λ (m : RowMajor g.row.F.Denot). m.width) c.into_row_major_matrix-mat.ensures in
     rw (← products, ← width, ← same) c.evaluate_on_coset.ensures.cost
 

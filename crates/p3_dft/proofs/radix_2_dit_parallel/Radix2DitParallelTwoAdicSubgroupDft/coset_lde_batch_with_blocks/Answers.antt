@@ -4,11 +4,11 @@ use Rattle.p3_matrix.specs.Blocks.{AreBlocksOf, IsPartition}
 use Rattle.p3_matrix.specs.RowMajor.{RowMajor, HasShapeOf, IsRowMajor, height}
 use Rattle.p3_matrix.proofs.TwoPowers.{log_same}
 use Rattle.p3_networks.specs.Twiddles.{AddsCosets, HasCoset, HasCosets}
-use Rattle.p3_dft.specs.Engines.{CosetTabled, IsPrepared}
-use Rattle.p3_dft.specs.Transforms.{values_of}
+use Rattle.p3_dft.specs.Engines.{CosetEngineState, IsPrepared}
+use Rattle.p3_matrix.specs.Cosets.{values_of}
 use Rattle.p3_dft.proofs.BitReversed.Coefficients.{extension_of_answered, values_of_answered}
 use Rattle.p3_dft.proofs.BitReversed.Rows.{values_seen}
-use Rattle.p3_dft.proofs.Calls.Padding.{padded_shape, padded_whole}
+use Rattle.p3_matrix.proofs.Rows.Padding.{padded_shape, padded_whole}
 use Rattle.p3_dft.proofs.Calls.PreparedCosets.{later_with_tables}
 use Rattle.p3_dft.proofs.Calls.PreparedHeights.{prepared_before, prepared_until}
 use Rattle.p3_dft.proofs.Calls.Shapes.{output_log_small}
@@ -91,7 +91,7 @@ returns-clause-cost g c k e =
     let stored = ap height c.into_row_major_matrix-mat.ensures in
     let width = ap (λ (n : RowMajor g.row.F.Denot). n.width) c.into_row_major_matrix-mat.ensures in
     let same : log ≡ k = log_same log k (sym c.log2_strict_usize-log_h.ensures.power ∙ c.height.ensures.height ∙ stored ∙ e) in
-    let products : c.self.inside.products ≡ c.args.self.now.roots.products = ap (λ (e : CosetTabled g.row.F.Denot). e.roots.products) c.self.view_is in
+    let products : c.self.inside.products ≡ c.args.self.now.roots.products = ap (λ (e : CosetEngineState g.row.F.Denot). e.roots.products) c.self.view_is in
     let answer = c.in-Ok.ensures.answer in
     let are = answer.are_coefficients k (stored ∙ e) in
     let shape = c.requires.shape answer.told answer.answered answer.told_whole (rw (← c.into_row_major_matrix-mat.ensures) (are.high, are.wide)) answer.called in
@@ -162,7 +162,7 @@ returns-in-Err-extended-clause-cost g c k e =
     let stored = ap height c.into_row_major_matrix-mat.ensures in
     let width = ap (λ (n : RowMajor g.row.F.Denot). n.width) c.into_row_major_matrix-mat.ensures in
     let same : log ≡ k = log_same log k (sym c.log2_strict_usize-log_h.ensures.power ∙ c.height.ensures.height ∙ stored ∙ e) in
-    let products : c.self.inside.products ≡ c.args.self.now.roots.products = ap (λ (e : CosetTabled g.row.F.Denot). e.roots.products) c.self.view_is in
+    let products : c.self.inside.products ≡ c.args.self.now.roots.products = ap (λ (e : CosetEngineState g.row.F.Denot). e.roots.products) c.self.view_is in
     let answer = c.in-Ok.ensures.answer in
     let are = answer.are_coefficients k (stored ∙ e) in
     let shape = c.requires.shape answer.told answer.answered answer.told_whole (rw (← c.into_row_major_matrix-mat.ensures) (are.high, are.wide)) answer.called in
@@ -178,33 +178,33 @@ returns-in-Err-extended-clause-cost g c k e =
 
 pub returns-in-Err-clause-only : goal.returns-in-Err-clause-only
 returns-in-Err-clause-only g c k e n now =
-    subst (λ (x : CosetTabled g.row.F.Denot). IsPrepared x.roots n ⊎ (n ≤ k)) c.self.view_is
+    subst (λ (x : CosetEngineState g.row.F.Denot). IsPrepared x.roots n ⊎ (n ≤ k)) c.self.view_is
     (prepared_before c.self.inside.tables c.coefficients_with_room-room.new.tables k n (c.coefficients_with_room-room.ensures.only k (ap height c.into_row_major_matrix-mat.ensures ∙ e)) now)
 
 pub returns-in-Err-clause-keeps_tables : goal.returns-in-Err-clause-keeps_tables
 returns-in-Err-clause-keeps_tables g c k s has =
-    c.coefficients_with_room-room.ensures.keeps_cosets k s (subst (λ (x : CosetTabled g.row.F.Denot). HasCoset g.F.Field x.cosets k s) (sym c.self.view_is) has)
+    c.coefficients_with_room-room.ensures.keeps_cosets k s (subst (λ (x : CosetEngineState g.row.F.Denot). HasCoset g.F.Field x.cosets k s) (sym c.self.view_is) has)
 
 pub returns-in-Err-extended-clause-only : goal.returns-in-Err-extended-clause-only
 returns-in-Err-extended-clause-only g c k e n now =
-    subst (λ (x : CosetTabled g.row.F.Denot). IsPrepared x.roots n ⊎ (n ≤ k)) c.self.view_is
+    subst (λ (x : CosetEngineState g.row.F.Denot). IsPrepared x.roots n ⊎ (n ≤ k)) c.self.view_is
     (prepared_before c.self.inside.tables c.coefficients_with_room-room.new.tables k n (c.coefficients_with_room-room.ensures.only k (ap height c.into_row_major_matrix-mat.ensures ∙ e)) now)
 
 pub returns-in-Err-extended-clause-keeps_tables : goal.returns-in-Err-extended-clause-keeps_tables
 returns-in-Err-extended-clause-keeps_tables g c k s has =
-    c.coefficients_with_room-room.ensures.keeps_cosets k s (subst (λ (x : CosetTabled g.row.F.Denot). HasCoset g.F.Field x.cosets k s) (sym c.self.view_is) has)
+    c.coefficients_with_room-room.ensures.keeps_cosets k s (subst (λ (x : CosetEngineState g.row.F.Denot). HasCoset g.F.Field x.cosets k s) (sym c.self.view_is) has)
 
 pub returns-in-Err-extended-clause-prepared : goal.returns-in-Err-extended-clause-prepared
 returns-in-Err-extended-clause-prepared g c k e = prepared_until _ k (c.in-Ok.ensures.prepared k (ap height c.into_row_major_matrix-mat.ensures ∙ e))
 
 pub returns-clause-only : goal.returns-clause-only
 returns-clause-only g c k e n now =
-    subst (λ (x : CosetTabled g.row.F.Denot). IsPrepared x.roots n ⊎ (n ≤ k)) c.self.view_is
+    subst (λ (x : CosetEngineState g.row.F.Denot). IsPrepared x.roots n ⊎ (n ≤ k)) c.self.view_is
     (prepared_before c.self.inside.tables c.coefficients_with_room-room.new.tables k n (c.coefficients_with_room-room.ensures.only k (ap height c.into_row_major_matrix-mat.ensures ∙ e)) now)
 
 pub returns-clause-keeps_tables : goal.returns-clause-keeps_tables
 returns-clause-keeps_tables g c k s has =
-    c.coefficients_with_room-room.ensures.keeps_cosets k s (subst (λ (x : CosetTabled g.row.F.Denot). HasCoset g.F.Field x.cosets k s) (sym c.self.view_is) has)
+    c.coefficients_with_room-room.ensures.keeps_cosets k s (subst (λ (x : CosetEngineState g.row.F.Denot). HasCoset g.F.Field x.cosets k s) (sym c.self.view_is) has)
 
 pub returns-clause-prepared : goal.returns-clause-prepared
 returns-clause-prepared g c k e = prepared_until _ k (c.in-Ok.ensures.prepared k (ap height c.into_row_major_matrix-mat.ensures ∙ e))
@@ -212,19 +212,19 @@ returns-clause-prepared g c k e = prepared_until _ k (c.in-Ok.ensures.prepared k
 pub returns-in-Err-clause-adds_tables : goal.returns-in-Err-clause-adds_tables
 returns-in-Err-clause-adds_tables g c k e =
     let field = g.F.Field in
-    subst (λ (x : CosetTabled g.row.F.Denot). AddsCosets field g.F.TwoAdicField.generator k c.args.added_bits (field.value c.args.shift) x.cosets c.coefficients_with_room-room.new.cosets) c.self.view_is
+    subst (λ (x : CosetEngineState g.row.F.Denot). AddsCosets field g.F.TwoAdicField.generator k c.args.added_bits (field.value c.args.shift) x.cosets c.coefficients_with_room-room.new.cosets) c.self.view_is
     (c.coefficients_with_room-room.ensures.adds k (ap height c.into_row_major_matrix-mat.ensures ∙ e))
 
 pub returns-in-Err-extended-clause-adds_tables : goal.returns-in-Err-extended-clause-adds_tables
 returns-in-Err-extended-clause-adds_tables g c k e =
     let field = g.F.Field in
-    subst (λ (x : CosetTabled g.row.F.Denot). AddsCosets field g.F.TwoAdicField.generator k c.args.added_bits (field.value c.args.shift) x.cosets c.coefficients_with_room-room.new.cosets) c.self.view_is
+    subst (λ (x : CosetEngineState g.row.F.Denot). AddsCosets field g.F.TwoAdicField.generator k c.args.added_bits (field.value c.args.shift) x.cosets c.coefficients_with_room-room.new.cosets) c.self.view_is
     (c.coefficients_with_room-room.ensures.adds k (ap height c.into_row_major_matrix-mat.ensures ∙ e))
 
 pub returns-clause-adds_tables : goal.returns-clause-adds_tables
 returns-clause-adds_tables g c k e =
     let field = g.F.Field in
-    subst (λ (x : CosetTabled g.row.F.Denot). AddsCosets field g.F.TwoAdicField.generator k c.args.added_bits (field.value c.args.shift) x.cosets c.coefficients_with_room-room.new.cosets) c.self.view_is
+    subst (λ (x : CosetEngineState g.row.F.Denot). AddsCosets field g.F.TwoAdicField.generator k c.args.added_bits (field.value c.args.shift) x.cosets c.coefficients_with_room-room.new.cosets) c.self.view_is
     (c.coefficients_with_room-room.ensures.adds k (ap height c.into_row_major_matrix-mat.ensures ∙ e))
 
 pub block_height-block_height-requires-clause-within : goal.block_height-block_height-requires-clause-within
@@ -243,20 +243,20 @@ block_height-block_height-requires-clause-small g c =
 pub returns-in-Err-clause-once : goal.returns-in-Err-clause-once
 returns-in-Err-clause-once g c k e all =
     let field = g.F.Field in
-    let held = subst (λ (x : CosetTabled g.row.F.Denot). HasCosets field g.F.TwoAdicField.generator x.cosets k c.args.added_bits (field.value c.args.shift)) (sym c.self.view_is) all in
-    c.coefficients_with_room-room.ensures.once k (ap height c.into_row_major_matrix-mat.ensures ∙ e) held ∙ ap (λ (x : CosetTabled g.row.F.Denot). x.cosets) c.self.view_is
+    let held = subst (λ (x : CosetEngineState g.row.F.Denot). HasCosets field g.F.TwoAdicField.generator x.cosets k c.args.added_bits (field.value c.args.shift)) (sym c.self.view_is) all in
+    c.coefficients_with_room-room.ensures.once k (ap height c.into_row_major_matrix-mat.ensures ∙ e) held ∙ ap (λ (x : CosetEngineState g.row.F.Denot). x.cosets) c.self.view_is
 
 pub returns-in-Err-extended-clause-once : goal.returns-in-Err-extended-clause-once
 returns-in-Err-extended-clause-once g c k e all =
     let field = g.F.Field in
-    let held = subst (λ (x : CosetTabled g.row.F.Denot). HasCosets field g.F.TwoAdicField.generator x.cosets k c.args.added_bits (field.value c.args.shift)) (sym c.self.view_is) all in
-    c.coefficients_with_room-room.ensures.once k (ap height c.into_row_major_matrix-mat.ensures ∙ e) held ∙ ap (λ (x : CosetTabled g.row.F.Denot). x.cosets) c.self.view_is
+    let held = subst (λ (x : CosetEngineState g.row.F.Denot). HasCosets field g.F.TwoAdicField.generator x.cosets k c.args.added_bits (field.value c.args.shift)) (sym c.self.view_is) all in
+    c.coefficients_with_room-room.ensures.once k (ap height c.into_row_major_matrix-mat.ensures ∙ e) held ∙ ap (λ (x : CosetEngineState g.row.F.Denot). x.cosets) c.self.view_is
 
 pub returns-clause-once : goal.returns-clause-once
 returns-clause-once g c k e all =
     let field = g.F.Field in
-    let held = subst (λ (x : CosetTabled g.row.F.Denot). HasCosets field g.F.TwoAdicField.generator x.cosets k c.args.added_bits (field.value c.args.shift)) (sym c.self.view_is) all in
-    c.coefficients_with_room-room.ensures.once k (ap height c.into_row_major_matrix-mat.ensures ∙ e) held ∙ ap (λ (x : CosetTabled g.row.F.Denot). x.cosets) c.self.view_is
+    let held = subst (λ (x : CosetEngineState g.row.F.Denot). HasCosets field g.F.TwoAdicField.generator x.cosets k c.args.added_bits (field.value c.args.shift)) (sym c.self.view_is) all in
+    c.coefficients_with_room-room.ensures.once k (ap height c.into_row_major_matrix-mat.ensures ∙ e) held ∙ ap (λ (x : CosetEngineState g.row.F.Denot). x.cosets) c.self.view_is
 
 pub coefficients_with_room-room-requires-clause-fits : goal.coefficients_with_room-room-requires-clause-fits
 coefficients_with_room-room-requires-clause-fits g c = rw c.into_row_major_matrix-mat.ensures c.requires.fits
@@ -292,7 +292,7 @@ returns-in-Err-clause-cost g c k e =
     let m = c.into_row_major_matrix-mat.result in
     let w = (g.N.IntoRowMajorMatrix.stored c.args.mat).width in
     let width = ap (λ (n : RowMajor g.row.F.Denot). n.width) c.into_row_major_matrix-mat.ensures in
-    let products : c.self.inside.products ≡ c.args.self.now.roots.products = ap (λ (e : CosetTabled g.row.F.Denot). e.roots.products) c.self.view_is in
+    let products : c.self.inside.products ≡ c.args.self.now.roots.products = ap (λ (e : CosetEngineState g.row.F.Denot). e.roots.products) c.self.view_is in
     let x = k * 2 ^ k / 2 in
     first_counted x (2 ^ k) (2 ^ c.args.added_bits) w _ _
     (subst (λ (v : ℕ). c.coefficients_with_room-room.new.products ≤ c.args.self.now.roots.products + v * x + 2 ^ k * v) width

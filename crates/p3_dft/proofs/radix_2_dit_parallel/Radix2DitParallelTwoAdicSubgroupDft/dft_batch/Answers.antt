@@ -2,7 +2,7 @@ use Rattle.std.proofs.Common.{◌≡◌, ◌⊎◌, inl, ℕ, ◌^◌, ◌≤◌
 use Rattle.std.specs.List.{range_with_len}
 use Rattle.p3_matrix.specs.RowMajor.{RowMajor, height}
 use Rattle.p3_matrix.proofs.TwoPowers.{log_same}
-use Rattle.p3_dft.specs.Engines.{CosetTabled, IsPrepared}
+use Rattle.p3_dft.specs.Engines.{CosetEngineState, IsPrepared}
 use Rattle.p3_dft.proofs.BitReversed.OneRow.{row_handed_back, row_seen}
 use Rattle.p3_dft.proofs.BitReversed.Rows.{transform_seen}
 use Rattle.p3_dft.proofs.Calls.PreparedCosets.{later_with_tables}
@@ -20,7 +20,7 @@ returns-in_err-make-clause-succeeds g c k high ready =
     let tall : c.height-height.result ≡ height (g.N.IntoRowMajorMatrix.stored c.args.mat) = c.height-height.ensures.height ∙ ap height c.into_row_major_matrix-mat.ensures in
     let log = c.log2_strict_usize-log_h.result in
     let same : k ≡ log = log_same k log (sym high ∙ sym tall ∙ c.log2_strict_usize-log_h.ensures.power) in
-    let held : k ≤ c.self.inside.tables = until_prepared _ k (subst (λ (e : CosetTabled g.row.F.Denot). IsPrepared e.roots k) (sym c.self.view_is) ready) in
+    let held : k ≤ c.self.inside.tables = until_prepared _ k (subst (λ (e : CosetEngineState g.row.F.Denot). IsPrepared e.roots k) (sym c.self.view_is) ready) in
     let there : log ≤ c.self.inside.tables = omega (arith, same, held) in
     absurd (not_ok c.make.result _ c.in_err-make.was (c.make.ensures.ready there))
 
@@ -65,7 +65,7 @@ pub returns-in_err-make-clause-only : goal.returns-in_err-make-clause-only
 returns-in_err-make-clause-only g c k high n now =
     let tall : c.height-height.result ≡ height (g.N.IntoRowMajorMatrix.stored c.args.mat) = c.height-height.ensures.height ∙ ap height c.into_row_major_matrix-mat.ensures in
     let same : c.log2_strict_usize-log_h.result ≡ k = log_same _ k (sym c.log2_strict_usize-log_h.ensures.power ∙ tall ∙ high) in
-    subst (λ (e : CosetTabled g.row.F.Denot). IsPrepared e.roots n ⊎ (n ≤ k)) c.self.view_is
+    subst (λ (e : CosetEngineState g.row.F.Denot). IsPrepared e.roots n ⊎ (n ≤ k)) c.self.view_is
     (subst (λ (l : ℕ). IsPrepared (record { prepared = range_with_len 1 c.self.inside.tables; products = c.self.inside.products }) n ⊎ (n ≤ l)) same
     (prepared_before c.self.inside.tables c.make.new.self _ n c.make.ensures.only now))
 
@@ -73,7 +73,7 @@ pub returns-clause-only : goal.returns-clause-only
 returns-clause-only g c k high n now =
     let tall : c.height-height.result ≡ height (g.N.IntoRowMajorMatrix.stored c.args.mat) = c.height-height.ensures.height ∙ ap height c.into_row_major_matrix-mat.ensures in
     let same : c.log2_strict_usize-log_h.result ≡ k = log_same _ k (sym c.log2_strict_usize-log_h.ensures.power ∙ tall ∙ high) in
-    subst (λ (e : CosetTabled g.row.F.Denot). IsPrepared e.roots n ⊎ (n ≤ k)) c.self.view_is
+    subst (λ (e : CosetEngineState g.row.F.Denot). IsPrepared e.roots n ⊎ (n ≤ k)) c.self.view_is
     (subst (λ (l : ℕ). IsPrepared (record { prepared = range_with_len 1 c.self.inside.tables; products = c.self.inside.products }) n ⊎ (n ≤ l)) same
     (prepared_before c.self.inside.tables c.make.new.self _ n c.make.ensures.only now))
 
@@ -88,7 +88,7 @@ returns-clause-cost g c k high =
     let tall : c.height-height.result ≡ height (g.N.IntoRowMajorMatrix.stored c.args.mat) = c.height-height.ensures.height ∙ ap height c.into_row_major_matrix-mat.ensures in
     let log = c.log2_strict_usize-log_h.result in
     let same : log ≡ k = log_same log k (sym c.log2_strict_usize-log_h.ensures.power ∙ tall ∙ high) in
-    let products : c.self.inside.products ≡ c.args.self.now.roots.products = ap (λ (e : CosetTabled g.row.F.Denot). e.roots.products) c.self.view_is in
+    let products : c.self.inside.products ≡ c.args.self.now.roots.products = ap (λ (e : CosetEngineState g.row.F.Denot). e.roots.products) c.self.view_is in
     let width = ap (λ (m : RowMajor g.row.F.Denot). m.width) c.into_row_major_matrix-mat.ensures in
     rw (← products, ← width, ← same) c.evaluate.ensures.cost
 
@@ -96,4 +96,4 @@ pub returns-clause-one_row : goal.returns-clause-one_row
 returns-clause-one_row g c one = absurd (c.if-height-eq1.false (c.height-height.ensures.height ∙ ap height c.into_row_major_matrix-mat.ensures ∙ one))
 
 pub returns-clause-cosets : goal.returns-clause-cosets
-returns-clause-cosets g c = ap (λ (e : CosetTabled g.row.F.Denot). e.cosets) c.self.view_is
+returns-clause-cosets g c = ap (λ (e : CosetEngineState g.row.F.Denot). e.cosets) c.self.view_is

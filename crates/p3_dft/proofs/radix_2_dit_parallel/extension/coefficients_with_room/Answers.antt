@@ -3,11 +3,10 @@ use Rattle.std.proofs.lemmas.List.{append-nil}
 use Rattle.std.proofs.lemmas.List.Elements.{All-nil}
 use Rattle.p3_matrix.specs.BitOrder.{bit_reversal}
 use Rattle.p3_matrix.proofs.TwoPowers.{log_same}
-use Rattle.p3_networks.specs.Cosets.{AreCoefficients}
+use Rattle.p3_matrix.specs.Cosets.{AreCoefficients, values_of}
 use Rattle.p3_networks.specs.Twiddles.{AddsCosets, HasCosets}
-use Rattle.p3_dft.specs.Transforms.{values_of}
 use Rattle.p3_dft.proofs.Calls.Shapes.{output_log_small, output_size}
-use Rattle.p3_dft.proofs.Calls.Transforms.{whole_kept}
+use Rattle.p3_matrix.proofs.RowMajor.{whole_kept}
 use Rattle.p3_dft.proofs.radix_2_dit_parallel.extension.coefficients_with_room.Goals as goal
 
 pub make-requires-clause-within : goal.make-requires-clause-within

@@ -9,16 +9,15 @@ use Rattle.p3_matrix.specs.Matrix.{Matrix}
 use Rattle.p3_matrix.specs.RowMajor.{RowMajor, rows_from}
 use Rattle.p3_matrix.proofs.BitReversal.{rev-lt, rev-rev}
 use Rattle.p3_matrix.proofs.Matrices.{list_same}
-use Rattle.p3_networks.specs.Cosets.{point}
-use Rattle.p3_networks.specs.Polynomials.{poly}
-use Rattle.p3_networks.proofs.Polynomials.ByIndex.{poly_same}
-use Rattle.p3_networks.proofs.Polynomials.Cosets.{is_values}
+use Rattle.p3_matrix.specs.Cosets.{point, values_of}
+use Rattle.p3_matrix.specs.Polynomials.{poly}
+use Rattle.p3_matrix.proofs.Polynomials.ByIndex.{poly_same}
+use Rattle.p3_matrix.proofs.Polynomials.Cosets.{is_values}
 use Rattle.p3_networks.specs.Slots.{slot_block, slot_blocks}
-use Rattle.p3_networks.proofs.Rows.Overwritten.{written}
-use Rattle.p3_dft.specs.Transforms.{values_of}
+use Rattle.p3_matrix.proofs.Rows.Overwritten.{written}
 use Rattle.p3_dft.proofs.BitReversed.Rows.{written_cell}
-use Rattle.p3_dft.proofs.Calls.Padding.{cell_above}
-use Rattle.p3_dft.proofs.Calls.Transforms.{written_shape, written_size}
+use Rattle.p3_matrix.proofs.Rows.Padding.{cell_above}
+use Rattle.p3_matrix.proofs.RowMajor.{written_shape, written_size}
 use Rattle.p3_dft.proofs.radix_2_dit_parallel.extension.extend.Goals as goal
 
 -- blocks of a slot that begins with row 0 are those of a matrix

@@ -1,13 +1,12 @@
 use Rattle.std.proofs.Common.{◌≡◌, ◌+◌, ◌*◌, ◌-◌, ◌^◌, ◌<◌, length, sym, ap, ◌∙◌, arith, refl}
 use Rattle.p3_matrix.specs.BitOrder.{rev}
 use Rattle.p3_matrix.proofs.BitReversal.{rev-block, rev-lt, rev-rev}
-use Rattle.p3_networks.specs.Cosets.{point}
-use Rattle.p3_dft.specs.Transforms.{values_of}
+use Rattle.p3_matrix.specs.Cosets.{point, values_of}
 use Rattle.p3_dft.proofs.BitReversed.Rows.{reversed_cell, written_cell}
 use Rattle.p3_networks.proofs.Layers.Blocks.{row_below}
-use Rattle.p3_networks.proofs.Polynomials.ByIndex.{poly_same}
+use Rattle.p3_matrix.proofs.Polynomials.ByIndex.{poly_same}
 use Rattle.std.proofs.lemmas.Nat.{pow-add}
-use Rattle.p3_dft.proofs.Calls.Transforms.{written_shape, written_size}
+use Rattle.p3_matrix.proofs.RowMajor.{written_shape, written_size}
 use Rattle.p3_dft.proofs.radix_2_dit_parallel.network.first_of_matrix.Goals as goal
 
 pub returns-clause-values : goal.returns-clause-values

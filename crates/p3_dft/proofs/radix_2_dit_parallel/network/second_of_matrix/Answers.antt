@@ -2,15 +2,14 @@ use Rattle.std.proofs.Common.{◌≡◌, ℕ, ◌+◌, ◌*◌, ◌^◌, ◌<◌
 use Rattle.std.proofs.lemmas.Nat.{pow-add}
 use Rattle.p3_matrix.specs.BitOrder.{rev}
 use Rattle.p3_matrix.specs.RowMajor.{height}
-use Rattle.p3_networks.specs.Cosets.{point}
-use Rattle.p3_networks.specs.Polynomials.{poly}
-use Rattle.p3_dft.specs.Transforms.{values_of}
+use Rattle.p3_matrix.specs.Cosets.{point, values_of}
+use Rattle.p3_matrix.specs.Polynomials.{poly}
 use Rattle.p3_networks.specs.Twiddles.{factor, scale_cost}
 use Rattle.p3_dft.proofs.BitReversed.Rows.{reversed_cell, written_cell}
 use Rattle.p3_networks.proofs.Layers.Blocks.{row_below}
 use Rattle.p3_networks.proofs.Networks.Runs.{row_digits}
-use Rattle.p3_networks.proofs.Polynomials.ByIndex.{poly_same, poly-one}
-use Rattle.p3_dft.proofs.Calls.Transforms.{written_shape, written_size}
+use Rattle.p3_matrix.proofs.Polynomials.ByIndex.{poly_same, poly-one}
+use Rattle.p3_matrix.proofs.RowMajor.{written_shape, written_size}
 use Rattle.p3_dft.proofs.radix_2_dit_parallel.network.second_of_matrix.Goals as goal
 
 pub returns-then-left-gt0-clause-values : goal.returns-then-left-gt0-clause-values

@@ -3,10 +3,10 @@ use Rattle.p3_field.specs.Ring.{power}
 use Rattle.p3_matrix.specs.BitOrder.{rev, bit_reversal}
 use Rattle.p3_matrix.specs.RowMajor.{height}
 use Rattle.p3_matrix.proofs.BitReversal.{rev-lt, rev-rev}
-use Rattle.p3_networks.specs.Polynomials.{poly}
-use Rattle.p3_dft.specs.Transforms.{values_of}
-use Rattle.p3_networks.proofs.Polynomials.ByIndex.{poly_same}
-use Rattle.p3_networks.proofs.Polynomials.Cosets.{is_subgroup_values}
+use Rattle.p3_matrix.specs.Polynomials.{poly}
+use Rattle.p3_matrix.specs.Cosets.{values_of}
+use Rattle.p3_matrix.proofs.Polynomials.ByIndex.{poly_same}
+use Rattle.p3_matrix.proofs.Polynomials.Cosets.{is_subgroup_values}
 use Rattle.p3_dft.proofs.radix_2_dit_parallel.transform.evaluate.Goals as goal
 
 pub returns-clause-values : goal.returns-clause-values

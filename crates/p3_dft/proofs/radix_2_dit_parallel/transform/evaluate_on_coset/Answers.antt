@@ -3,14 +3,13 @@ use Rattle.p3_field.specs.Ring.{AreRoots}
 use Rattle.p3_matrix.specs.BitOrder.{rev, bit_reversal}
 use Rattle.p3_matrix.specs.RowMajor.{height}
 use Rattle.p3_matrix.proofs.BitReversal.{rev-lt, rev-rev}
-use Rattle.p3_networks.specs.Cosets.{point}
-use Rattle.p3_networks.specs.Polynomials.{poly}
-use Rattle.p3_dft.specs.Transforms.{values_of}
+use Rattle.p3_matrix.specs.Cosets.{point, values_of}
+use Rattle.p3_matrix.specs.Polynomials.{poly}
 use Rattle.p3_networks.specs.Twiddles.{IsCosetTable}
 use Rattle.p3_networks.proofs.Layers.Counts.{halves_counted}
 use Rattle.p3_networks.proofs.Networks.CosetHalves.{halves_whole}
-use Rattle.p3_networks.proofs.Polynomials.ByIndex.{poly_same}
-use Rattle.p3_networks.proofs.Polynomials.Cosets.{is_values}
+use Rattle.p3_matrix.proofs.Polynomials.ByIndex.{poly_same}
+use Rattle.p3_matrix.proofs.Polynomials.Cosets.{is_values}
 use Rattle.p3_networks.proofs.Tables.CosetTables.{coset_room, high_of_coset, low_of_coset}
 use Rattle.p3_networks.proofs.Tables.RootPowers.{fewer_roots}
 use Rattle.p3_dft.proofs.radix_2_dit_parallel.transform.evaluate_on_coset.Goals as goal

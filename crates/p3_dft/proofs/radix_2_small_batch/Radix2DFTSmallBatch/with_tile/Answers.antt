@@ -2,12 +2,12 @@ use Rattle.std.proofs.Common.{◌≡◌, ◌⊎◌, inl, inr, ℕ, ◌^◌, ◌�
 use Rattle.std.proofs.Math.Nat.{pow-le-pow_right}
 use Rattle.std.proofs.lemmas.Nat.{pow_pos}
 use Rattle.p3_matrix.proofs.TwoPowers.{log_same}
-use Rattle.p3_dft.specs.Engines.{Tabled, IsPrepared}
+use Rattle.p3_dft.specs.Engines.{EngineState, IsPrepared}
 use Rattle.p3_dft.proofs.Calls.PreparedHeights.{PreparedBy, until_prepared}
 use Rattle.p3_dft.proofs.radix_2_small_batch.Radix2DFTSmallBatch.with_tile.Goals as goal
 
 -- where there are no tables, height one alone is prepared
-none_prepared : (e : Tabled) (k : ℕ) → e.prepared ≡ [] → IsPrepared e k → k ≡ 0
+none_prepared : (e : EngineState) (k : ℕ) → e.prepared ≡ [] → IsPrepared e k → k ≡ 0
 none_prepared e k none ready = let held : k ≤ 0 = until_prepared 0 k (subst (λ xs. PreparedBy xs k) none ready) in omega (arith, held)
 
 pub returns-then-n-le1-clause-prepares : goal.returns-then-n-le1-clause-prepares

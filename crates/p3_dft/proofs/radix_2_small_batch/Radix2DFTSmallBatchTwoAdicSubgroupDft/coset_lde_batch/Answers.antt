@@ -5,18 +5,18 @@ use Rattle.p3_field.proofs.Powers.{count-power_of_two}
 use Rattle.p3_matrix.specs.BitOrder.{bit_reversal}
 use Rattle.p3_matrix.specs.Matrix.{image}
 use Rattle.p3_matrix.specs.RowMajor.{RowMajor, height}
-use Rattle.p3_matrix.proofs.TwoPowers.{log_same}
-use Rattle.p3_networks.specs.Cosets.{coset_shift}
+use Rattle.p3_matrix.proofs.TwoPowers.{log_same, log_within, more_points}
+use Rattle.p3_matrix.specs.Cosets.{coset_shift, values_of}
 use Rattle.p3_dft.specs.Extensions.{extension_bound}
-use Rattle.p3_dft.specs.Transforms.{values_of}
-use Rattle.p3_dft.specs.Engines.{Tabled, IsPrepared}
-use Rattle.p3_dft.proofs.Calls.Shapes.{log_within, more_points, output_log_small}
+use Rattle.p3_dft.specs.Engines.{EngineState, IsPrepared}
+use Rattle.p3_dft.proofs.Calls.Shapes.{output_log_small}
 use Rattle.p3_networks.proofs.Layers.Counts.{extension_made, fewer_than_parts}
-use Rattle.p3_networks.proofs.Polynomials.Cosets.{coset_values}
-use Rattle.p3_dft.proofs.BitReversed.Coefficients.{extension_of_coefficients, extension_of_row, shifted_quotient}
+use Rattle.p3_matrix.proofs.Polynomials.Cosets.{coset_values}
+use Rattle.p3_dft.proofs.BitReversed.Coefficients.{extension_of_coefficients, extension_of_row}
+use Rattle.p3_matrix.proofs.Polynomials.Quotients.{shifted_quotient}
 use Rattle.p3_dft.proofs.Calls.PreparedHeights.{prepared_before, later_with_heights, both_prepared}
 use Rattle.std.proofs.Math.Nat.{le_refl, le_trans, lt_of_lt_of_le}
-use Rattle.p3_dft.proofs.Calls.Transforms.{whole_kept}
+use Rattle.p3_matrix.proofs.RowMajor.{whole_kept}
 use Rattle.p3_dft.proofs.radix_2_small_batch.Radix2DFTSmallBatchTwoAdicSubgroupDft.coset_lde_batch.Goals as goal
 
 on_ok : {T E : Type 0} (r : Result T E) {P : Type 0} → P → OnOk r P
@@ -145,14 +145,14 @@ pub returns-clause-only : goal.returns-clause-only
 returns-clause-only g c k high n now =
     let log = c.log2_strict_usize-log_h.result in
     let same : log ≡ k = log_same log k (sym c.log2_strict_usize-log_h.ensures.power ∙ c.height.ensures.height ∙ ap height c.into_row_major_matrix-mat.ensures ∙ high) in
-    subst (λ (e : Tabled). IsPrepared e n ⊎ (n ≤ k + c.args.added_bits)) c.self.view_is
+    subst (λ (e : EngineState). IsPrepared e n ⊎ (n ≤ k + c.args.added_bits)) c.self.view_is
     (prepared_before c.self.inside.tables c.make.new.self (k + c.args.added_bits) n (subst (λ (m : ℕ). (c.make.new.self ≡ c.self.inside.tables) ⊎ (c.make.new.self ≡ m + c.args.added_bits)) same c.make.ensures.only) now)
 
 pub returns-in_err-make-clause-only : goal.returns-in_err-make-clause-only
 returns-in_err-make-clause-only g c k high n now =
     let log = c.log2_strict_usize-log_h.result in
     let same : log ≡ k = log_same log k (sym c.log2_strict_usize-log_h.ensures.power ∙ c.height.ensures.height ∙ ap height c.into_row_major_matrix-mat.ensures ∙ high) in
-    subst (λ (e : Tabled). IsPrepared e n ⊎ (n ≤ k + c.args.added_bits)) c.self.view_is
+    subst (λ (e : EngineState). IsPrepared e n ⊎ (n ≤ k + c.args.added_bits)) c.self.view_is
     (prepared_before c.self.inside.tables c.make.new.self (k + c.args.added_bits) n (subst (λ (m : ℕ). (c.make.new.self ≡ c.self.inside.tables) ⊎ (c.make.new.self ≡ m + c.args.added_bits)) same c.make.ensures.only) now)
 
 pub returns-in_err-make-clause-one_row : goal.returns-in_err-make-clause-one_row

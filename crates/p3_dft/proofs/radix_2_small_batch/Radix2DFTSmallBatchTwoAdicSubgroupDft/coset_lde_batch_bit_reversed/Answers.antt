@@ -1,21 +1,21 @@
 use Rattle.std.proofs.Common.{◌≡◌, ℕ, ◌+◌, ◌*◌, ◌/◌, ◌^◌, ◌<◌, ◌≤◌, sym, ap, ap₂, ◌∙◌, subst, arith}
 use Rattle.std.proofs.Math.Pow.{pow-lt}
 use Rattle.p3_matrix.specs.RowMajor.{RowMajor, HasShapeOf, IsRowMajor, height}
-use Rattle.p3_matrix.proofs.TwoPowers.{log_same}
+use Rattle.p3_matrix.proofs.TwoPowers.{log_same, log_within}
 use Rattle.p3_networks.proofs.Layers.Counts.{slots_made}
-use Rattle.p3_dft.specs.Engines.{Tabled, IsLater, IsPrepared}
+use Rattle.p3_dft.specs.Engines.{EngineState, IsLater, IsPrepared}
 use Rattle.p3_dft.specs.Extensions.{extension_bound}
-use Rattle.p3_dft.specs.Transforms.{values_of}
+use Rattle.p3_matrix.specs.Cosets.{values_of}
 use Rattle.p3_dft.proofs.BitReversed.Rows.{values_seen}
 use Rattle.p3_dft.proofs.Calls.EngineSteps.{after_error, no_answer}
 use Rattle.p3_dft.proofs.Calls.ExtendedTransforms.{extension_of_natural}
-use Rattle.p3_dft.proofs.Calls.Padding.{padded_shape, padded_whole}
+use Rattle.p3_matrix.proofs.Rows.Padding.{padded_shape, padded_whole}
 use Rattle.p3_dft.proofs.Calls.PreparedHeights.{prepared_until, until_prepared, both_prepared, tabled_facts}
-use Rattle.p3_dft.proofs.Calls.Shapes.{input_fits, log_within, output_log_small, output_size}
+use Rattle.p3_dft.proofs.Calls.Shapes.{input_fits, output_log_small, output_size}
 use Rattle.p3_dft.proofs.radix_2_small_batch.Radix2DFTSmallBatchTwoAdicSubgroupDft.coset_lde_batch_bit_reversed.Goals as goal
 
 -- a call after heights were prepared, without a product
-after_preparing : {F : Type 0} (t : ℕ → ℕ → ℕ) (x : ℕ → ℕ → ℕ → ℕ) (b : ℕ → ℕ → ℕ) {before prepared after : Tabled} → ((k : ℕ) → IsPrepared before k → IsPrepared prepared k) → prepared.products ≡ before.products
+after_preparing : {F : Type 0} (t : ℕ → ℕ → ℕ) (x : ℕ → ℕ → ℕ → ℕ) (b : ℕ → ℕ → ℕ) {before prepared after : EngineState} → ((k : ℕ) → IsPrepared before k → IsPrepared prepared k) → prepared.products ≡ before.products
     → IsLater (tabled_facts {F = F} t x b) prepared after → IsLater (tabled_facts {F = F} t x b) before after
 after_preparing t x b keeps none later = record {
   keeps = λ k before. later.keeps k (keeps k before);
@@ -25,7 +25,7 @@ after_preparing t x b keeps none later = record {
 }
 
 -- and where they were refused
-only_preparing : {F : Type 0} (t : ℕ → ℕ → ℕ) (x : ℕ → ℕ → ℕ → ℕ) (b : ℕ → ℕ → ℕ) {before after : Tabled} → ((k : ℕ) → IsPrepared before k → IsPrepared after k) → after.products ≡ before.products
+only_preparing : {F : Type 0} (t : ℕ → ℕ → ℕ) (x : ℕ → ℕ → ℕ → ℕ) (b : ℕ → ℕ → ℕ) {before after : EngineState} → ((k : ℕ) → IsPrepared before k → IsPrepared after k) → after.products ≡ before.products
     → IsLater (tabled_facts {F = F} t x b) before after
 only_preparing t x b keeps none = record {
   keeps = keeps;
@@ -76,7 +76,7 @@ prepare-requires-clause-size g c =
 pub extend_in_slots-requires-clause-twiddles : goal.extend_in_slots-requires-clause-twiddles
 extend_in_slots-requires-clause-twiddles g c =
     let top = c.log2_strict_usize-log_h.result + c.args.added_bits in
-    let there : top ≤ c.self.inside.tables = until_prepared _ top (subst (λ (e : Tabled). IsPrepared e top) (sym c.self.view_is) (c.idft_batch.ensures.later.keeps top c.in_ok-prepare.ensures.prepares)) in
+    let there : top ≤ c.self.inside.tables = until_prepared _ top (subst (λ (e : EngineState). IsPrepared e top) (sym c.self.view_is) (c.idft_batch.ensures.later.keeps top c.in_ok-prepare.ensures.prepares)) in
     record {
       size = λ l below. c.forward-twiddles.ensures.table.size l (omega (arith, below, there));
       entries = λ l b below inside. c.forward-twiddles.ensures.table.entries l b (omega (arith, below, there)) inside;
@@ -144,7 +144,7 @@ returns-clause-engine g c = record {
   later =
       let first = c.idft_batch.ensures.later in
       let products : c.self.inside.products ≡ c.idft_batch.new.self.products = ap (λ e. e.products) c.self.view_is in
-      let still = λ (k : ℕ) (before : IsPrepared c.args.self.now k). until_prepared _ k (subst (λ (e : Tabled). IsPrepared e k) (sym c.self.view_is) (first.keeps k (c.prepare.ensures.keeps k before))) in
+      let still = λ (k : ℕ) (before : IsPrepared c.args.self.now k). until_prepared _ k (subst (λ (e : EngineState). IsPrepared e k) (sym c.self.view_is) (first.keeps k (c.prepare.ensures.keeps k before))) in
       record {
         keeps = λ k before. prepared_until _ k (still k before);
         keeps_cosets = λ k s none. tt;
@@ -155,7 +155,7 @@ returns-clause-engine g c = record {
       let log = c.log2_strict_usize-log_h.result in
       let top = log + c.args.added_bits in
       let same : log ≡ k = log_same log k (sym c.log2_strict_usize-log_h.ensures.power ∙ c.height.ensures.height ∙ ap height c.into_row_major_matrix-mat.ensures ∙ e) in
-      let there : top ≤ c.self.inside.tables = until_prepared _ top (subst (λ (e : Tabled). IsPrepared e top) (sym c.self.view_is) (c.idft_batch.ensures.later.keeps top c.in_ok-prepare.ensures.prepares)) in
+      let there : top ≤ c.self.inside.tables = until_prepared _ top (subst (λ (e : EngineState). IsPrepared e top) (sym c.self.view_is) (c.idft_batch.ensures.later.keeps top c.in_ok-prepare.ensures.prepares)) in
       both_prepared _ _ c.args.added_bits k same there;
   cost = λ k e.
       let a = c.args.added_bits in

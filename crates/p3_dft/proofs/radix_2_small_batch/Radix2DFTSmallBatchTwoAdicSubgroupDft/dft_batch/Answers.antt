@@ -2,7 +2,7 @@ use Rattle.std.proofs.Common.{◌≡◌, ◌⊎◌, inl, ℕ, ◌≤◌, sym, ap
 use Rattle.p3_matrix.specs.RowMajor.{height}
 use Rattle.p3_matrix.proofs.TwoPowers.{log_same}
 use Rattle.p3_networks.specs.Twiddles.{forward_root, block_powers}
-use Rattle.p3_dft.specs.Engines.{Tabled, IsPrepared}
+use Rattle.p3_dft.specs.Engines.{EngineState, IsPrepared}
 use Rattle.p3_networks.proofs.Tables.FromStart.{fewer_from_start}
 use Rattle.p3_dft.proofs.Calls.PreparedHeights.{not_ok, prepared_before, some_log, until_prepared, later_with_heights, prepared_at}
 use Rattle.p3_dft.proofs.BitReversed.Rows.{transform_of_row}
@@ -31,7 +31,7 @@ returns-in_err-make-clause-succeeds g c k high ready =
     let tall : c.height-height.result ≡ height (g.N.IntoRowMajorMatrix.stored c.args.mat) = c.height-height.ensures.height ∙ ap height c.into_row_major_matrix-mat.ensures in
     let log = c.log2_strict_usize-log_h.result in
     let same : k ≡ log = log_same k log (sym high ∙ sym tall ∙ c.log2_strict_usize-log_h.ensures.power) in
-    let held : k ≤ c.self.inside.tables = until_prepared _ k (subst (λ (e : Tabled). IsPrepared e k) (sym c.self.view_is) ready) in
+    let held : k ≤ c.self.inside.tables = until_prepared _ k (subst (λ (e : EngineState). IsPrepared e k) (sym c.self.view_is) ready) in
     let there : log ≤ c.self.inside.tables = omega (arith, same, held) in
     absurd (not_ok c.make.result _ c.in_err-make.was (c.make.ensures.ready there))
 
@@ -73,14 +73,14 @@ pub returns-clause-only : goal.returns-clause-only
 returns-clause-only g c k high n now =
     let log = c.log2_strict_usize-log_h.result in
     let same : log ≡ k = log_same log k (sym c.log2_strict_usize-log_h.ensures.power ∙ c.height-height.ensures.height ∙ ap height c.into_row_major_matrix-mat.ensures ∙ high) in
-    subst (λ (e : Tabled). IsPrepared e n ⊎ (n ≤ k)) c.self.view_is
+    subst (λ (e : EngineState). IsPrepared e n ⊎ (n ≤ k)) c.self.view_is
     (prepared_before c.self.inside.tables c.make.new.self (k) n (subst (λ (m : ℕ). (c.make.new.self ≡ c.self.inside.tables) ⊎ (c.make.new.self ≡ m)) same c.make.ensures.only) now)
 
 pub returns-in_err-make-clause-only : goal.returns-in_err-make-clause-only
 returns-in_err-make-clause-only g c k high n now =
     let log = c.log2_strict_usize-log_h.result in
     let same : log ≡ k = log_same log k (sym c.log2_strict_usize-log_h.ensures.power ∙ c.height-height.ensures.height ∙ ap height c.into_row_major_matrix-mat.ensures ∙ high) in
-    subst (λ (e : Tabled). IsPrepared e n ⊎ (n ≤ k)) c.self.view_is
+    subst (λ (e : EngineState). IsPrepared e n ⊎ (n ≤ k)) c.self.view_is
     (prepared_before c.self.inside.tables c.make.new.self (k) n (subst (λ (m : ℕ). (c.make.new.self ≡ c.self.inside.tables) ⊎ (c.make.new.self ≡ m)) same c.make.ensures.only) now)
 
 pub returns-in_err-make-clause-later : goal.returns-in_err-make-clause-later

@@ -1,9 +1,8 @@
-use Rattle.std.proofs.Common.{◌∙◌, arith}
+use Rattle.std.proofs.Common.{◌∙◌, arith, ℕ, ◌≡◌, ◌^◌, refl}
 use Rattle.std.proofs.lemmas.Result.{IfOk-weaker}
 use Rattle.p3_dft.proofs.Calls.ExtendedTransforms.{answered_shape, extension_of_parts}
-use Rattle.p3_dft.proofs.Calls.Padding.{padded_shape}
+use Rattle.p3_matrix.proofs.Rows.Padding.{padded_shape}
 use Rattle.p3_dft.proofs.Calls.Shapes.{input_fits, output_fits, output_log_small, output_size}
-use Rattle.std.proofs.Common.{ℕ, ◌≡◌, ◌^◌, refl}
 use Rattle.p3_matrix.specs.RowMajor.{height}
 use Rattle.p3_dft.proofs.Calls.EngineSteps.{parts_after}
 use Rattle.p3_dft.proofs.traits.TwoAdicSubgroupDft.coset_lde_batch_by_parts.Goals as goal

@@ -1,5 +1,5 @@
 use Rattle.std.proofs.lemmas.Result.{IfOk-weaker}
-use Rattle.p3_dft.specs.Transforms.{values_of}
+use Rattle.p3_matrix.specs.Cosets.{values_of}
 use Rattle.p3_dft.proofs.Laws.Codes.{every_word}
 use Rattle.p3_dft_tests.proofs.tests.reed_solomon.told_with_no_added_bits.Goals as goal
 

@@ -1,4 +1,4 @@
-use Rattle.p3_networks.proofs.Rows.Overwritten.{lane_at}
+use Rattle.p3_matrix.proofs.Rows.Overwritten.{lane_at}
 use Rattle.p3_networks.proofs.butterfly_layers.rules.meet_rows.Goals as goal
 
 pub returns-clause-near : goal.returns-clause-near

@@ -2,7 +2,7 @@ use Rattle.std.proofs.Common.{◌≡◌, ℕ, ◌+◌, ◌*◌, ◌-◌, ◌^◌
 use Rattle.std.proofs.Math.Nat.{pow-le-pow_right, mul-le-mul_right, le-add_right}
 use Rattle.p3_matrix.specs.BitOrder.{rev}
 use Rattle.p3_matrix.specs.Butterflies.{dit_near, dit_far}
-use Rattle.p3_networks.specs.Cosets.{point}
+use Rattle.p3_matrix.specs.Cosets.{point}
 use Rattle.p3_networks.specs.Twiddles.{factor, scale_cost, block_end, block_entries}
 use Rattle.p3_networks.proofs.Layers.Blocks.{blocks_whole}
 use Rattle.p3_networks.proofs.Layers.Counts.{layer_counted, layers_counted}

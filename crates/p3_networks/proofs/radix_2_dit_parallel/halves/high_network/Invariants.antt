@@ -1,7 +1,7 @@
 use Rattle.std.proofs.Common.{◌≡◌, ℕ, ◌+◌, ◌*◌, ◌-◌, ◌^◌, ◌<◌, ◌≤◌, get_or}
 use Rattle.p3_field.specs.Ring.{AreRoots}
 use Rattle.p3_matrix.specs.BitOrder.{rev}
-use Rattle.p3_networks.specs.Cosets.{point}
+use Rattle.p3_matrix.specs.Cosets.{point}
 use Rattle.p3_networks.specs.Twiddles.{AreBlockTwiddles, factor, scale_cost}
 use Rattle.p3_networks.proofs.Networks.HighRows.{high_row}
 use Rattle.p3_networks.proofs.radix_2_dit_parallel.halves.high_network.Given as goal

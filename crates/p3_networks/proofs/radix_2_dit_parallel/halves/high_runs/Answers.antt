@@ -1,13 +1,13 @@
 use Rattle.std.proofs.Common.{◌≡◌, ℕ, ◌+◌, ◌*◌, ◌/◌, ◌^◌, ◌%◌, ◌≤◌, length, ap, ◌∙◌, subst, arith, rules}
 use borrow.Author.Rules.{scaled_fits≤}
 use Rattle.p3_matrix.specs.BitOrder.{rev}
-use Rattle.p3_networks.specs.Cosets.{point}
+use Rattle.p3_matrix.specs.Cosets.{point}
 use Rattle.p3_networks.specs.Twiddles.{factor, scale_cost}
 use Rattle.p3_networks.proofs.Layers.Counts.{count_more}
 use Rattle.p3_networks.proofs.Layers.Halves.{part_length}
 use Rattle.p3_networks.proofs.Layers.Sizes.{first_shift}
 use Rattle.p3_networks.proofs.Rows.Runs.{high_run_cells, high_run_room, runs-all, runs-more}
-use Rattle.p3_networks.proofs.Rows.Overwritten.{rows-none}
+use Rattle.p3_matrix.proofs.Rows.Overwritten.{rows-none}
 use Rattle.p3_networks.proofs.radix_2_dit_parallel.halves.high_runs.Goals as goal
 
 pub overflow_mul-start : goal.overflow_mul-start

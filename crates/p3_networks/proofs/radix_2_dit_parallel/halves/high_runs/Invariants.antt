@@ -1,9 +1,9 @@
 use Rattle.std.proofs.Common.{ℕ, ◌+◌, ◌*◌, ◌/◌, ◌^◌, ◌≤◌, get_or}
 use Rattle.p3_field.specs.Ring.{AreRoots}
 use Rattle.p3_matrix.specs.BitOrder.{rev}
-use Rattle.p3_networks.specs.Cosets.{point}
+use Rattle.p3_matrix.specs.Cosets.{point}
 use Rattle.p3_networks.specs.Twiddles.{AreBlockTwiddles, factor, scale_cost}
-use Rattle.p3_networks.proofs.Rows.Overwritten.{RowsDone}
+use Rattle.p3_matrix.proofs.Rows.Overwritten.{RowsDone}
 use Rattle.p3_networks.proofs.Rows.Runs.{RunDone}
 use Rattle.p3_networks.proofs.radix_2_dit_parallel.halves.high_runs.Given as goal
 

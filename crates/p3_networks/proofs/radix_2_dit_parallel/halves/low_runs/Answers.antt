@@ -2,11 +2,11 @@ use Rattle.std.proofs.Common.{◌≡◌, ℕ, ◌+◌, ◌*◌, ◌-◌, ◌/◌
 use borrow.Author.Rules.{scaled_fits≤}
 use Rattle.p3_matrix.specs.BitOrder.{rev}
 use Rattle.p3_matrix.proofs.BitReversal.{rev-lt}
-use Rattle.p3_networks.specs.Cosets.{point}
+use Rattle.p3_matrix.specs.Cosets.{point}
 use Rattle.p3_networks.proofs.Layers.Counts.{count_more}
 use Rattle.p3_networks.proofs.Layers.Halves.{part_length}
 use Rattle.p3_networks.proofs.Rows.Runs.{run_cells, run_room, runs_are, runs-all, runs-more}
-use Rattle.p3_networks.proofs.Rows.Overwritten.{rows-none}
+use Rattle.p3_matrix.proofs.Rows.Overwritten.{rows-none}
 use Rattle.p3_networks.proofs.radix_2_dit_parallel.halves.low_runs.Goals as goal
 
 pub overflow_mul-start : goal.overflow_mul-start

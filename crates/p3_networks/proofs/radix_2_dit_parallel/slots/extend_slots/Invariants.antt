@@ -1,11 +1,11 @@
 use Rattle.std.proofs.Common.{◌≡◌, ℕ, ◌+◌, ◌-◌, ◌*◌, ◌/◌, ◌^◌, ◌<◌, ◌≤◌, get_or}
 use Rattle.p3_matrix.specs.BitOrder.{rev}
 use Rattle.p3_matrix.specs.Blocks.{Run}
-use Rattle.p3_networks.specs.Cosets.{point}
-use Rattle.p3_networks.specs.Polynomials.{poly}
+use Rattle.p3_matrix.specs.Cosets.{point}
+use Rattle.p3_matrix.specs.Polynomials.{poly}
 use Rattle.p3_networks.specs.Slots.{slot_blocks}
 use Rattle.p3_networks.specs.Twiddles.{forward_root}
-use Rattle.p3_networks.proofs.Rows.Overwritten.{RowsDone}
+use Rattle.p3_matrix.proofs.Rows.Overwritten.{RowsDone}
 use Rattle.p3_networks.proofs.radix_2_dit_parallel.slots.extend_slots.Given as goal
 
 -- the first of the other slots have their values, and were lent

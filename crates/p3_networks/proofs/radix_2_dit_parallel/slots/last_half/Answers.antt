@@ -8,16 +8,16 @@ use Rattle.std.proofs.lemmas.Slice.{between-put_mid, take-put_mid_below}
 use Rattle.p3_matrix.specs.BitOrder.{rev}
 use Rattle.p3_matrix.specs.Blocks.{Run}
 use Rattle.p3_matrix.specs.RowMajor.{RowMajor, rows_from}
-use Rattle.p3_networks.specs.Cosets.{point}
+use Rattle.p3_matrix.specs.Cosets.{point}
 use Rattle.p3_networks.specs.Slots.{slot_block, slot_blocks}
 use Rattle.p3_networks.proofs.Layers.Blocks.{row_below}
 use Rattle.p3_networks.proofs.Layers.Counts.{count_more}
 use Rattle.p3_networks.proofs.Layers.Halves.{part_length}
 use Rattle.p3_networks.proofs.Layers.Sizes.{first_shift, second_shift}
 use Rattle.p3_networks.proofs.Networks.Runs.{row_digits}
-use Rattle.p3_networks.proofs.Polynomials.ByIndex.{poly_same}
+use Rattle.p3_matrix.proofs.Polynomials.ByIndex.{poly_same}
 use Rattle.p3_networks.proofs.Rows.Lent.{blocks_kept, run_more}
-use Rattle.p3_networks.proofs.Rows.Overwritten.{rows-none}
+use Rattle.p3_matrix.proofs.Rows.Overwritten.{rows-none}
 use Rattle.p3_networks.proofs.Rows.Runs.{high_run_cells, high_run_fits, high_run_room, runs-all, runs-more}
 use Rattle.p3_networks.proofs.Tables.BlockTables.{blocks_within}
 use Rattle.p3_networks.proofs.radix_2_dit_parallel.slots.last_half.Goals as goal

@@ -2,10 +2,10 @@ use Rattle.std.proofs.Common.{ℕ, ◌+◌, ◌*◌, ◌/◌, ◌^◌, ◌≤◌
 use Rattle.p3_field.specs.Ring.{AreRoots}
 use Rattle.p3_matrix.specs.BitOrder.{rev}
 use Rattle.p3_matrix.specs.Blocks.{Run}
-use Rattle.p3_networks.specs.Cosets.{point}
+use Rattle.p3_matrix.specs.Cosets.{point}
 use Rattle.p3_networks.specs.Slots.{slot_blocks}
 use Rattle.p3_networks.specs.Twiddles.{AreBlockTwiddles}
-use Rattle.p3_networks.proofs.Rows.Overwritten.{RowsDone}
+use Rattle.p3_matrix.proofs.Rows.Overwritten.{RowsDone}
 use Rattle.p3_networks.proofs.Rows.Runs.{RunDone}
 use Rattle.p3_networks.proofs.radix_2_dit_parallel.slots.last_half.Given as goal
 

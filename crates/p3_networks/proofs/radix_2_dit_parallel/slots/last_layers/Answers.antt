@@ -1,8 +1,8 @@
 use Rattle.std.proofs.Common.{◌≡◌, ℕ, ◌+◌, ◌*◌, ◌^◌, get_or, sym, ap, ◌∙◌, arith}
 use Rattle.p3_matrix.specs.BitOrder.{rev}
-use Rattle.p3_networks.specs.Cosets.{point}
-use Rattle.p3_networks.specs.Polynomials.{poly}
-use Rattle.p3_networks.proofs.Polynomials.ByIndex.{poly_same, poly-one}
+use Rattle.p3_matrix.specs.Cosets.{point}
+use Rattle.p3_matrix.specs.Polynomials.{poly}
+use Rattle.p3_matrix.proofs.Polynomials.ByIndex.{poly_same, poly-one}
 use Rattle.p3_networks.proofs.radix_2_dit_parallel.slots.last_layers.Goals as goal
 
 pub returns-then-width-eq1-clause-values : goal.returns-then-width-eq1-clause-values

@@ -2,7 +2,7 @@ use Rattle.std.proofs.Common.{◌+◌, sym, ap, ap₂, ◌∙◌, subst}
 use Rattle.p3_field.specs.Ring.{power}
 use Rattle.p3_matrix.specs.BitOrder.{rev}
 use Rattle.p3_networks.specs.Twiddles.{HasCoset, forward_root}
-use Rattle.p3_networks.proofs.Polynomials.Cosets.{point-mul}
+use Rattle.p3_matrix.proofs.Polynomials.Cosets.{point-mul}
 use Rattle.p3_networks.proofs.radix_2_dit_parallel.slots.table_of_slot.Goals as goal
 
 pub of_coset-requires : goal.of_coset-requires

@@ -5,7 +5,7 @@ use Rattle.std.proofs.Math.Nat.{le_refl}
 use Rattle.p3_networks.proofs.Layers.Columns.{InColumns, columns_written}
 use Rattle.p3_networks.proofs.Layers.Counts.{count_more, count_none, at_end}
 use Rattle.p3_networks.proofs.Layers.Halves.{block_room, part_length}
-use Rattle.p3_networks.proofs.Rows.Overwritten.{part_at, part_size, put_length, rows-more, rows-all, rows-none}
+use Rattle.p3_matrix.proofs.Rows.Overwritten.{part_at, part_size, put_length, rows-more, rows-all, rows-none}
 use Rattle.p3_networks.proofs.radix_2_small_batch.groups.columns_of_halves.Goals as goal
 
 pub overflow_mul-start : goal.overflow_mul-start

@@ -1,6 +1,6 @@
 use Rattle.std.proofs.Common.{◌+◌, ◌-◌, ◌*◌, ◌≤◌, get_or}
 use Rattle.p3_networks.proofs.Layers.Columns.{InColumns}
-use Rattle.p3_networks.proofs.Rows.Overwritten.{RowsDone}
+use Rattle.p3_matrix.proofs.Rows.Overwritten.{RowsDone}
 use Rattle.p3_networks.proofs.radix_2_small_batch.groups.columns_of_halves.Given as goal
 
 abbrev pub invariant-loop-t : goal.invariant-loop-t

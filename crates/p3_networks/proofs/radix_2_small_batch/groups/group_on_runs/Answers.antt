@@ -8,7 +8,7 @@ use Rattle.p3_networks.proofs.Layers.Groups.{layers_more}
 use Rattle.p3_networks.proofs.Layers.Halves.{part_length}
 use Rattle.p3_networks.proofs.Layers.Tiles.{tile_held, tile_room, tile_rows, tile_sizes, tiles-more, tiles_all}
 use Rattle.p3_networks.proofs.Layers.Counts.{count_none}
-use Rattle.p3_networks.proofs.Rows.Overwritten.{rows-none}
+use Rattle.p3_matrix.proofs.Rows.Overwritten.{rows-none}
 use Rattle.p3_networks.proofs.radix_2_small_batch.groups.group_on_runs.Goals as goal
 
 pub overflow_mul-start : goal.overflow_mul-start

@@ -4,7 +4,7 @@ use Rattle.std.proofs.Math.Nat.{mul-le-mul_right, le_refl}
 use Rattle.p3_networks.proofs.Layers.Columns.{BlockColumns, blocks_of_columns-all, blocks_of_columns-more}
 use Rattle.p3_networks.proofs.Layers.Counts.{count_more, count_none, at_end}
 use Rattle.p3_networks.proofs.Layers.Halves.{block_room, part_length}
-use Rattle.p3_networks.proofs.Rows.Overwritten.{RowsDone, rows-none}
+use Rattle.p3_matrix.proofs.Rows.Overwritten.{RowsDone, rows-none}
 use Rattle.p3_networks.proofs.radix_2_small_batch.groups.layer_of_columns.Goals as goal
 
 pub overflow_mul-size : goal.overflow_mul-size

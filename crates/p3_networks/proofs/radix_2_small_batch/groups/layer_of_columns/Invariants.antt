@@ -1,7 +1,7 @@
 use Rattle.std.proofs.Common.{ℕ, ◌+◌, ◌-◌, ◌*◌, ◌≤◌}
 use Rattle.p3_networks.specs.Groups.{HoldsColumns, IsLayer}
 use Rattle.p3_networks.proofs.Layers.Columns.{BlockColumns}
-use Rattle.p3_networks.proofs.Rows.Overwritten.{RowsDone}
+use Rattle.p3_matrix.proofs.Rows.Overwritten.{RowsDone}
 use Rattle.p3_networks.proofs.radix_2_small_batch.groups.layer_of_columns.Given as goal
 
 abbrev pub invariant-loop-b : goal.invariant-loop-b

@@ -6,7 +6,7 @@ use Rattle.p3_matrix.proofs.BitReversal.{rev-lt, rev-rev}
 use Rattle.p3_networks.specs.Layers.{HoldsCells}
 use Rattle.p3_networks.proofs.Layers.Blocks.{row_below}
 use Rattle.p3_networks.proofs.Networks.Cells.{turned_cells, turned_cells_end, turned_cells_of_zeros, turned_layers}
-use Rattle.p3_networks.proofs.Polynomials.ByIndex.{first_behind, first_inside, first_of, poly_of_first}
+use Rattle.p3_matrix.proofs.Polynomials.ByIndex.{first_behind, first_inside, first_of, poly_of_first}
 use Rattle.p3_networks.proofs.Tables.FromStart.{enough_from_start, first_is_one, spread_root}
 use Rattle.p3_networks.proofs.radix_2_small_batch.networks.extending_network.Goals as goal
 

@@ -4,7 +4,7 @@ use Rattle.p3_networks.specs.Groups.{cells_of}
 use Rattle.p3_networks.proofs.Layers.Halves.{part_length}
 use Rattle.p3_networks.proofs.Layers.Runs.{costly_layer_more, run_sizes}
 use Rattle.p3_networks.proofs.Layers.Tiles.{held_from_first, held_from_start, place_of_run, tile_held, tile_room, tile_rows_of_run, tile_sizes, tiles-more, tiles_all}
-use Rattle.p3_networks.proofs.Rows.Overwritten.{rows-none}
+use Rattle.p3_matrix.proofs.Rows.Overwritten.{rows-none}
 use Rattle.p3_networks.proofs.radix_2_small_batch.networks.layers_of_short_runs.Goals as goal
 
 pub overflow_shl-runs : goal.overflow_shl-runs

@@ -2,7 +2,7 @@ use Rattle.std.proofs.Common.{ℕ, ◌+◌, ◌*◌, ◌^◌, ◌≤◌, length}
 use Rattle.p3_networks.specs.Groups.{AreLayersInOrder, cells_of}
 use Rattle.p3_networks.specs.Layers.{HoldsCells}
 use Rattle.p3_networks.proofs.Layers.Tiles.{InTiles}
-use Rattle.p3_networks.proofs.Rows.Overwritten.{RowsDone}
+use Rattle.p3_matrix.proofs.Rows.Overwritten.{RowsDone}
 use Rattle.p3_networks.proofs.radix_2_small_batch.networks.layers_of_short_runs.Given as goal
 
 abbrev pub invariant-loop-run : goal.invariant-loop-run

@@ -7,7 +7,7 @@ use Rattle.p3_networks.specs.Layers.{HoldsCells}
 use Rattle.p3_networks.proofs.Layers.Halves.{part_length}
 use Rattle.p3_networks.proofs.Layers.Runs.{costly_layer_more}
 use Rattle.p3_networks.proofs.Layers.Tiles.{tile_held, tile_room, tile_rows, tile_sizes, tiles-more, tiles_all}
-use Rattle.p3_networks.proofs.Rows.Overwritten.{rows-none}
+use Rattle.p3_matrix.proofs.Rows.Overwritten.{rows-none}
 use Rattle.p3_networks.proofs.radix_2_small_batch.networks.layers_of_tiles.Goals as goal
 
 pub overflow_mul-start : goal.overflow_mul-start

@@ -4,7 +4,7 @@ use Rattle.std.proofs.Math.Nat.{suc-mul, mul-le-mul_right}
 use Rattle.p3_field.specs.Ring.{power}
 use Rattle.p3_field.proofs.Powers.{power-zero, power-more}
 use Rattle.p3_networks.proofs.Layers.Halves.{block_room}
-use Rattle.p3_networks.proofs.Rows.Overwritten.{rows-none, rows-more, value_at}
+use Rattle.p3_matrix.proofs.Rows.Overwritten.{rows-none, rows-more, value_at}
 use Rattle.p3_networks.proofs.radix_2_small_batch.networks.multiples_of_row.Goals as goal
 
 pub overflow_mul-start : goal.overflow_mul-start

@@ -6,7 +6,7 @@ use Rattle.p3_networks.specs.Layers.{HoldsCells}
 use Rattle.p3_networks.proofs.Layers.Halves.{part_length}
 use Rattle.p3_networks.proofs.Layers.Runs.{layer_more}
 use Rattle.p3_networks.proofs.Layers.Tiles.{tile_held, tile_room, tile_rows, tile_sizes, tiles-more, tiles_all}
-use Rattle.p3_networks.proofs.Rows.Overwritten.{value_at, rows-none}
+use Rattle.p3_matrix.proofs.Rows.Overwritten.{value_at, rows-none}
 use Rattle.p3_networks.proofs.Layers.Counts.{turns_none}
 use Rattle.p3_networks.proofs.radix_2_small_batch.networks.scaled_dif_tiles.Goals as goal
 

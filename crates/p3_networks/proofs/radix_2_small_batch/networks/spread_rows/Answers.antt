@@ -6,7 +6,7 @@ use Rattle.std.proofs.lemmas.Nat.{div-add-mod', div_below, div-mul-add, mod-mul-
 use Rattle.p3_field.specs.Ring.{power}
 use Rattle.p3_networks.proofs.Layers.Counts.{turn_counted}
 use Rattle.p3_networks.proofs.Layers.Halves.{block_room, block_size, part_length}
-use Rattle.p3_networks.proofs.Rows.Overwritten.{rows-more, part_at, rows-none}
+use Rattle.p3_matrix.proofs.Rows.Overwritten.{rows-more, part_at, rows-none}
 use Rattle.p3_networks.proofs.radix_2_small_batch.networks.spread_rows.Goals as goal
 
 -- what comes after row q ends within all rows

@@ -8,7 +8,7 @@ use Rattle.p3_networks.proofs.Layers.Halves.{part_length}
 use Rattle.p3_networks.proofs.Layers.Runs.{layer_more}
 use Rattle.p3_networks.proofs.Layers.Tiles.{spread_held, spread_room, spread_sizes, tile_room, tile_rows, tile_sizes, tiles-more, tiles_all}
 use Rattle.p3_networks.proofs.Layers.Counts.{turns_none}
-use Rattle.p3_networks.proofs.Rows.Overwritten.{rows-none}
+use Rattle.p3_matrix.proofs.Rows.Overwritten.{rows-none}
 use Rattle.p3_networks.proofs.radix_2_small_batch.networks.spread_tiles.Goals as goal
 
 cells_of_tile : (count copies rows w : ℕ) → count * copies ≡ rows → rows * w ≡ count * (copies * w)

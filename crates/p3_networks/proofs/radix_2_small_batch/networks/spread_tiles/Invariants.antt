@@ -3,7 +3,7 @@ use Rattle.p3_field.specs.Ring.{power}
 use Rattle.p3_matrix.specs.Butterflies.{dif_far, dif_near}
 use Rattle.p3_networks.specs.Layers.{AreLayers}
 use Rattle.p3_networks.proofs.Layers.Tiles.{InTiles}
-use Rattle.p3_networks.proofs.Rows.Overwritten.{RowsDone}
+use Rattle.p3_matrix.proofs.Rows.Overwritten.{RowsDone}
 use Rattle.p3_networks.proofs.radix_2_small_batch.networks.spread_tiles.Given as goal
 
 abbrev pub invariant-loop-tile : goal.invariant-loop-tile

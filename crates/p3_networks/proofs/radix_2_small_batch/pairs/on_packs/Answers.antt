@@ -4,7 +4,7 @@ use Rattle.std.proofs.Math.Nat.{add-sub_cancel_left}
 use Rattle.p3_networks.proofs.Layers.Counts.{turn_counted}
 use Rattle.p3_networks.proofs.Layers.Halves.{block_size, part_length}
 use Rattle.p3_networks.proofs.Layers.Pairs.{far_done, near_done, pack_room, packs-more}
-use Rattle.p3_networks.proofs.Rows.Overwritten.{part_at, rows-none}
+use Rattle.p3_matrix.proofs.Rows.Overwritten.{part_at, rows-none}
 use Rattle.p3_networks.proofs.radix_2_small_batch.pairs.on_packs.Goals as goal
 
 -- the pairs of a pack

@@ -1,6 +1,6 @@
 use Rattle.std.proofs.Common.{◌≡◌, ℕ, ◌+◌, ◌*◌, get_or}
 use Rattle.p3_networks.proofs.Layers.Pairs.{BothEntries}
-use Rattle.p3_networks.proofs.Rows.Overwritten.{RowsDone}
+use Rattle.p3_matrix.proofs.Rows.Overwritten.{RowsDone}
 use Rattle.p3_networks.proofs.radix_2_small_batch.pairs.on_packs.Given as goal
 
 abbrev pub invariant-loop-pack : goal.invariant-loop-pack

@@ -1,23 +1,23 @@
 use Rattle.std.proofs.Common.{◌≡◌, ℕ, ◌+◌, ◌*◌, ◌^◌, get_or, sym, ap, ◌∙◌, arith}
 use Rattle.p3_field.specs.Ring.{power}
 use Rattle.p3_matrix.specs.BitOrder.{rev}
-use Rattle.p3_networks.specs.Polynomials.{poly}
+use Rattle.p3_matrix.specs.Polynomials.{poly}
 use Rattle.p3_networks.specs.Twiddles.{forward_root}
-use Rattle.p3_networks.proofs.Polynomials.ByIndex.{poly-one}
+use Rattle.p3_matrix.proofs.Polynomials.ByIndex.{poly-one}
 use Rattle.p3_networks.proofs.Tables.FromStart.{enough_from_start, first_is_one}
 use Rattle.p3_networks.proofs.radix_2_small_batch.slots.evaluate.Goals as goal
 
-pub dit_network-requires-clause-first : goal.dit_network-requires-clause-first
-dit_network-requires-clause-first g c =
+pub dit_network_to_reversed-requires-clause-first : goal.dit_network_to_reversed-requires-clause-first
+dit_network_to_reversed-requires-clause-first g c =
     first_is_one g.F.Field (forward_root g.F.Field g.F.TwoAdicField.generator) c.args.log_h c.args.twiddles.now (omega (arith, c.if-log_h-gt0.true)) c.requires.twiddles
 
-pub dit_network-requires-clause-enough : goal.dit_network-requires-clause-enough
-dit_network-requires-clause-enough g c =
+pub dit_network_to_reversed-requires-clause-enough : goal.dit_network_to_reversed-requires-clause-enough
+dit_network_to_reversed-requires-clause-enough g c =
     enough_from_start g.F.Field (forward_root g.F.Field g.F.TwoAdicField.generator) c.args.log_h c.args.twiddles.now (omega (arith, c.if-log_h-gt0.true)) c.requires.twiddles
 
 pub returns-then-log_h-gt0-clause-values : goal.returns-then-log_h-gt0-clause-values
 returns-then-log_h-gt0-clause-values g c =
-    c.dit_network.ensures.values _ _ g.met.F.TwoAdicField.roots_law c.requires.within c.requires.twiddles
+    c.dit_network_to_reversed.ensures.values _ _ g.met.F.TwoAdicField.roots_law c.requires.within c.requires.twiddles
 
 pub returns-else-log_h-gt0-clause-values : goal.returns-else-log_h-gt0-clause-values
 returns-else-log_h-gt0-clause-values g c r j below inside =

@@ -5,8 +5,8 @@ use Rattle.p3_field.specs.Ring.{AreRoots, power}
 use Rattle.p3_field.proofs.Powers.{power-zero}
 use Rattle.p3_matrix.specs.BitOrder.{rev}
 use Rattle.p3_matrix.proofs.BitReversal.{rev_of_zero}
-use Rattle.p3_networks.specs.Cosets.{point}
-use Rattle.p3_networks.specs.Polynomials.{poly}
+use Rattle.p3_matrix.specs.Cosets.{point}
+use Rattle.p3_matrix.specs.Polynomials.{poly}
 use Rattle.p3_networks.specs.Twiddles.{forward_root}
 use Rattle.p3_networks.proofs.Layers.Blocks.{row_below}
 use Rattle.p3_networks.proofs.Layers.Counts.{count_more}
@@ -14,9 +14,9 @@ use Rattle.p3_networks.proofs.Layers.Halves.{in_first, part_length}
 use Rattle.p3_networks.proofs.Layers.Sizes.{second_shift, some_rows}
 use Rattle.p3_networks.proofs.Networks.Runs.{slot_point}
 use Rattle.p3_networks.proofs.Networks.Slots.{rows_of_slots, slot_room, slot_size, slots_whole, values_of_shifted}
-use Rattle.p3_networks.proofs.Polynomials.ByIndex.{poly_same}
-use Rattle.p3_networks.proofs.Polynomials.Cosets.{point-mul}
-use Rattle.p3_networks.proofs.Rows.Overwritten.{part-more, rows-none}
+use Rattle.p3_matrix.proofs.Polynomials.ByIndex.{poly_same}
+use Rattle.p3_matrix.proofs.Polynomials.Cosets.{point-mul}
+use Rattle.p3_matrix.proofs.Rows.Overwritten.{part-more, rows-none}
 use Rattle.p3_networks.proofs.Tables.RootPowers.{fewer_roots}
 use Rattle.std.proofs.Math.Nat.{le_trans}
 use Rattle.p3_networks.proofs.radix_2_small_batch.slots.slots_network.Goals as goal

@@ -6,9 +6,9 @@ use borrow.Author.Count.{below_more}
 use Rattle.p3_field.specs.Ring.{power}
 use Rattle.p3_field.specs.declared.fields.Field.{Ghosts as FieldMembers}
 use Rattle.p3_field.proofs.Powers.{power-zero, power-more}
-use Rattle.p3_networks.specs.Cosets.{point}
+use Rattle.p3_matrix.specs.Cosets.{point}
 use Rattle.p3_networks.specs.Twiddles.{AddsCosets, Coset, HasCoset, IsOneOf, forward_root}
-use Rattle.p3_networks.proofs.Polynomials.Cosets.{point-mul}
+use Rattle.p3_matrix.proofs.Polynomials.Cosets.{point-mul}
 use Rattle.p3_networks.proofs.Tables.CosetTables.{coset_kept}
 use Rattle.p3_networks.proofs.Layers.Sizes.{second_shift}
 use Rattle.p3_networks.proofs.radix_2_dit_parallel.coset_tables.CosetTables.make_all.Goals as goal

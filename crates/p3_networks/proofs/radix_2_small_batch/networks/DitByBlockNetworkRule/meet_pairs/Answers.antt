@@ -1,6 +1,6 @@
 use Rattle.std.proofs.Common.{◌≡◌, ◌+◌, ◌-◌, ◌*◌, length, get_or, take, drop, ap, ◌∙◌, arith, lit<}
 use Rattle.p3_matrix.specs.Butterflies.{dit_near}
-use Rattle.p3_networks.proofs.Rows.Overwritten.{part_at}
+use Rattle.p3_matrix.proofs.Rows.Overwritten.{part_at}
 use Rattle.p3_networks.proofs.radix_2_small_batch.networks.DitByBlockNetworkRule.meet_pairs.Goals as goal
 
 pub overflow_add-first : goal.overflow_add-first

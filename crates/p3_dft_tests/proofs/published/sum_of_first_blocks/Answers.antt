@@ -1,0 +1,12 @@
+use Rattle.std.proofs.Common.{◌∙◌, of_calls}
+use Rattle.p3_dft.proofs.Laws.Blocks.{where_refused}
+use Rattle.p3_dft_tests.proofs.BlockSums.{sum_at_refusal}
+use Rattle.p3_dft_tests.proofs.published.sum_of_first_blocks.Goals as goal
+
+pub returns-in-Refused : goal.returns-in-Refused
+returns-in-Refused g c = λ k e.
+    let field = g.F.Field in
+    let x = where_refused _ _ _ _ c.in-Refused.is c.in-Err.ensures.refused k e in
+    let (starts, many, distinct, within, total) = sum_at_refusal field.ring field.value field.ZERO _ _ _ _ (λ s. field.value s.sum) (λ s. s.left) c.args.limit _ _
+    (λ s start r e told. told.0 refl) (λ s start r e told. told.1 refl) (λ s made. search of_calls) x.2 in
+    (x.0, x.1, starts, many, distinct, within, total)

@@ -1,0 +1,42 @@
+-- The points of a coset of a subgroup of two-power order, the values of polynomials on it, and their coefficients.
+-- g n is the generator of the subgroup of order 2 ^ n, and a matrix has a polynomial in each column.
+use Rattle.std.specs.Prelude.{◌≡◌, ℕ, ◌-◌, ◌%◌, ◌^◌, ◌<◌}
+use Rattle.p3_field.specs.Ring.{Ring, count, power}
+use Rattle.p3_field.specs.declared.fields.Field.{Ghosts as FieldMembers}
+use Rattle.p3_matrix.specs.Matrix.{Matrix, column, image, matrix}
+use Rattle.p3_matrix.specs.Polynomials.{value}
+use Rattle.p3_matrix.specs.RowMajor.{RowMajor}
+
+-- the values of the elements of a stored matrix
+abbrev pub values_of : {F : Type 0} (f : FieldMembers F) → RowMajor F → Matrix f.Element
+values_of f m = image f.value (matrix f.ZERO m)
+
+-- point i of the coset of s
+unfoldable pub point : {A : Type 0} → Ring A → (ℕ → A) → ℕ → A → ℕ → A
+point r g n s i = r.mul s (power r (g n) i)
+
+-- out has 2 ^ n rows, and row i has the values of the columns of c at point i
+pub record IsValues {A : Type 0} (r : Ring A) (g : ℕ → A) (c : Matrix A) (n : ℕ) (s : A) (out : Matrix A) : Type 0 where
+  pub high : out.height ≡ 2 ^ n
+  pub wide : out.width ≡ c.width
+  pub values : (i j : ℕ) → i < 2 ^ n → j < c.width → out.entry i j ≡ value r (column c j) (point r g n s i)
+
+-- c has the shape of m, which has 2 ^ k rows, and its values on the coset of s are m
+pub record AreCoefficients {A : Type 0} (r : Ring A) (g : ℕ → A) (m : Matrix A) (k : ℕ) (s : A) (c : Matrix A) : Type 0 where
+  pub high : c.height ≡ m.height
+  pub wide : c.width ≡ m.width
+  pub values : IsValues r g c k s m
+
+-- row i of c times the i-th power of s
+abbrev pub coset_shift : {A : Type 0} → Ring A → A → Matrix A → Matrix A
+coset_shift r s c = record { height = c.height; width = c.width; entry = λ i j. r.mul (c.entry i j) (power r s i) }
+
+-- row 0 stays, and row i of the others changes places with row height - i
+abbrev pub opposite_rows : {A : Type 0} → Matrix A → Matrix A
+opposite_rows m = record { height = m.height; width = m.width; entry = λ i j. m.entry ((m.height - i) % m.height) j }
+
+-- each entry of out is the y with n * y = x, where x is the entry of m in its place
+pub record IsQuotient {A : Type 0} (r : Ring A) (n : ℕ) (m out : Matrix A) : Type 0 where
+  pub high : out.height ≡ m.height
+  pub wide : out.width ≡ m.width
+  pub entries : (i j : ℕ) → i < m.height → j < m.width → r.mul (count r n) (out.entry i j) ≡ m.entry i j

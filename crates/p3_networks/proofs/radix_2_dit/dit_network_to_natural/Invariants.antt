@@ -1,0 +1,16 @@
+use Rattle.std.proofs.Common.{◌≡◌, ℕ, ◌+◌, ◌*◌, ◌-◌, ◌^◌, ◌<◌, ◌≤◌, get_or}
+use Rattle.p3_matrix.specs.BitOrder.{rev}
+use Rattle.p3_networks.proofs.Networks.LowRows.{low_row}
+use Rattle.p3_networks.proofs.radix_2_dit.dit_network_to_natural.Given as goal
+
+abbrev pub invariant-loop-l : goal.invariant-loop-l
+invariant-loop-l g l =
+    let field = g.F.Field in
+    let k = l.fn.log_h in
+    let w = l.fn.width in
+    record {
+      rows : (j r : ℕ) → j < w → r < 2 ^ k → field.value (get_or l.values (r * w + j) field.ZERO)
+          ≡ low_row field.ring (λ n. field.value (g.F.TwoAdicField.generator n)) field.ring.one l.l (k - l.l) (λ q. field.value (get_or l.fn.values (rev k q * w + j) field.ZERO)) r;
+      grows : l.fn.products ≤ l.products;
+      count : l.products ≤ l.fn.products + 1 * (l.l * (2 ^ (k - 1) * w));
+    }
