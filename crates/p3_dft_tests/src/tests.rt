@@ -33,7 +33,8 @@ mod util;
 mod whole_rows;
 
 use calls::{Calls, CallsOf};
-use engines::{LimitedDft, NaturalToReversed, ReversedToReversed};
+use crate::own_engine::NaturalToReversed;
+use engines::{LimitedDft, ReversedToReversed};
 use p3_dft::{
     BabyBear, CanonicalField, Evaluations, Field, Goldilocks, Layout, NaiveDft, Radix2Bowers,
     Radix2DFTSmallBatch, Radix2Dit, Radix2DitParallel, RowMajorMatrix, TwoAdicField,

@@ -256,6 +256,22 @@ fn with_blocks<F: TwoAdicField, D: TwoAdicSubgroupDft<F>>(
     }
 }
 
+fn in_blocks<F: TwoAdicField, D: TwoAdicSubgroupDft<F>>(
+    engine: &mut D,
+    column: Vec<F>,
+    added_bits: usize,
+    shift: F,
+    blocks: &Cell<usize>,
+) -> Result<Vec<F>, DftError>
+    requires { FitsLde F.TWO_ADICITY (vec_len column) 1 added_bits }
+{
+    let column = RowMajorMatrix::new_col(column);
+    match engine.coset_lde_batch_in_blocks(column, added_bits, shift, |_rows| Counted { blocks }) {
+        Ok((values, _counted)) => Ok(values.to_row_major_matrix().into_values()),
+        Err(_) => Err(DftError::OutOfMemory),
+    }
+}
+
 /// A transform or an inverse.
 pub fn transformed<F: TwoAdicField, D: TwoAdicSubgroupDft<F>, M: Memory>(
     alloc: Global,
@@ -389,9 +405,12 @@ pub fn extended<F: TwoAdicField, D: TwoAdicSubgroupDft<F>, M: Memory>(
         Extension::WithTransform => with_transform(engine, column, added_bits, shift),
         Extension::ByParts => by_parts(engine, column, added_bits, shift),
         Extension::BitReversed => bit_reversed(engine, column, added_bits, shift),
-        Extension::WithBlocks => {
+        Extension::WithBlocks | Extension::InBlocks => {
             let blocks = Cell::new(0);
-            let answer = with_blocks(engine, column, added_bits, shift, &blocks);
+            let answer = match extension {
+                Extension::InBlocks => in_blocks(engine, column, added_bits, shift, &blocks),
+                _ => with_blocks(engine, column, added_bits, shift, &blocks),
+            };
             if answer.is_err() != (blocks.get() == 0) {
                 return Outcome::Wrong(Fault::Blocks);
             }

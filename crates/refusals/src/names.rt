@@ -81,6 +81,7 @@ pub enum Extension {
     ByParts,
     BitReversed,
     WithBlocks,
+    InBlocks,
 }
 
 /// The calls of engines with tables.
@@ -131,6 +132,7 @@ impl Call {
             "by_parts" => Some(Call::Extension(Extension::ByParts)),
             "bit_reversed" => Some(Call::Extension(Extension::BitReversed)),
             "with_blocks" => Some(Call::Extension(Extension::WithBlocks)),
+            "in_blocks" => Some(Call::Extension(Extension::InBlocks)),
             "prepare" => Some(Call::Table(TableCall::Prepare)),
             "new" => Some(Call::Table(TableCall::New)),
             "with_tile" => Some(Call::Table(TableCall::WithTile)),

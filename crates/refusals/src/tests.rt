@@ -31,11 +31,12 @@ const FORMS: [Form; 4] = [
     Form::AlgebraVector,
 ];
 
-const ALONE: [Call; 12] = [
+const ALONE: [Call; 13] = [
     Call::Extension(Extension::WithTransform),
     Call::Extension(Extension::ByParts),
     Call::Extension(Extension::BitReversed),
     Call::Extension(Extension::WithBlocks),
+    Call::Extension(Extension::InBlocks),
     Call::Table(TableCall::Prepare),
     Call::Table(TableCall::New),
     Call::Table(TableCall::WithTile),

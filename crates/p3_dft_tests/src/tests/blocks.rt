@@ -190,10 +190,8 @@ impl<F: CanonicalField> EngineTest<F> for DoubledBlocks {
                 mat,
                 added_bits,
                 F::GENERATOR,
-                |coefficients: RowMajorMatrix<F>, _layout: Layout| -> RowMajorMatrix<F>
-                    ensures { HasShapeOf result coefficients }
-                { doubled(coefficients) },
-                |_rows: usize| -> Compared<F> { Compared::with(expected) },
+                |coefficients, _layout| doubled(coefficients),
+                |_rows| Compared::with(expected),
             );
             let Ok((out, compared)) = answer else {
                 panic!(rt; "not all blocks were taken");
@@ -215,9 +213,7 @@ fn doubled_extension<F: TwoAdicField>(
         mat,
         added_bits,
         F::GENERATOR,
-        |coefficients: RowMajorMatrix<F>, _layout: Layout| -> RowMajorMatrix<F>
-            ensures { HasShapeOf result coefficients }
-        { doubled(coefficients) },
+        |coefficients, _layout| doubled(coefficients),
     );
     let values = values.expect(rt, "memory");
     values.into_bit_reversed().bit_reverse_rows()
@@ -231,16 +227,7 @@ fn seen_within<F: TwoAdicField, D: TwoAdicSubgroupDft<F>>(
     limit: usize,
 ) -> (usize, Option<BlockRefused>) {
     assert!(rt; fits_lde::<F>(mat.height(), mat.width(), 1));
-    let answer = engine.coset_lde_batch_with_blocks(
-        mat,
-        1,
-        F::ONE,
-        |coefficients: RowMajorMatrix<F>, _layout: Layout| -> RowMajorMatrix<F>
-            ensures { result ≡ coefficients }
-        { coefficients },
-        |_rows: usize| -> BlockLimit { BlockLimit::new(limit) },
-    );
-    match answer {
+    match engine.coset_lde_batch_in_blocks(mat, 1, F::ONE, |_rows| BlockLimit::new(limit)) {
         Ok((_out, consumer)) => (consumer.seen(), None),
         Err(stopped) => match stopped {
             BlocksStopped::Refused { consumer, refusal } => (consumer.seen(), Some(refusal)),

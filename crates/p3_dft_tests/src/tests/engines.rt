@@ -1,5 +1,6 @@
-// Engines that own only what an engine must: all else of them is a default body of the trait. One has the
-// layout that `NaiveDft` does not have, and one for each layout leaves its values in bit reversed order.
+// Engines that own only what an engine must: all else of them is a default body of the trait. Both have the
+// layout that `NaiveDft` does not have, and one leaves its values in bit reversed order, as the client
+// `own_engine` does with the other layout.
 
 ghost use Rattle.std.specs.Prelude.{◌≡◌, ℕ, ◌*◌, ◌^◌};
 
@@ -99,86 +100,6 @@ impl<F: TwoAdicField> TwoAdicSubgroupDft<F> for LimitedDft {
         shift: F,
         transform: T,
     ) -> Result<RowMajorMatrix<F>, DftError> {
-        self.coset_lde_batch_by_parts(mat, added_bits, shift, transform)
-    }
-}
-
-// Takes coefficients in natural order, and leaves values in bit reversed order.
-#[derive(Drop)]
-pub(crate) struct NaturalToReversed {
-    sums: NaiveDft,
-}
-
-impl Default for NaturalToReversed {
-    ghost use Rattle.std.specs.Prelude.{◌≡◌};
-
-    ghost is_default = { λ e. e.sums ≡ 0 };
-
-    fn default() -> Self {
-        NaturalToReversed {
-            sums: NaiveDft::default(),
-        }
-    }
-}
-
-impl Clone for NaturalToReversed {
-    ghost use Rattle.std.specs.Prelude.{◌≡◌, ⊤};
-
-    ghost is_clone = { λ _ e. e.sums ≡ 0 };
-
-    ghost is_infallible = { λ _. ⊤ };
-
-    fn clone(&self) -> Result<Self, AllocError> {
-        Ok(Self::default())
-    }
-}
-
-impl<F: TwoAdicField> TwoAdicSubgroupDft<F> for NaturalToReversed {
-    ghost use Rattle.std.specs.Prelude.{⊤, ℕ, ◌+◌, ◌*◌, ◌^◌};
-    ghost use Rattle.std.proofs.Common.{refl, rules};
-    ghost use Rattle.p3_dft.specs.Engines.{plain_facts};
-    ghost use Rattle.p3_dft.specs.declared.traits.Layout.TheVariants.{Natural};
-
-    type Evaluations = BitReversedMatrixView<RowMajorMatrix<F>>;
-
-    const LAYOUT: Layout = Layout::Natural;
-
-    ghost LAYOUT = { Natural };
-
-    ghost facts = { plain_facts (λ _ _. ⊥) (λ _ _ _. ⊤) (λ _ _. ⊤) (λ k w. 2 ^ k * 2 ^ k * w) (λ e. e.sums) };
-
-    ghost laws = { record {
-      power_of_two = λ k a. (k + a, Prim.search (rules), refl);
-      new_made_none = λ e none. none;
-      clone_made_none = λ e copy none. none;
-    } };
-
-    fn dft_batch<N: IntoRowMajorMatrix<F>>(
-        &mut self,
-        mat: N,
-    ) -> Result<BitReversedMatrixView<RowMajorMatrix<F>>, DftError> {
-        let values: RowMajorMatrix<F> = self.sums.dft_batch(mat)?;
-        Ok(values.into_bit_reversed())
-    }
-
-    fn add_products(&mut self, products: Products) {
-        TwoAdicSubgroupDft::<F>::add_products(&mut self.sums, products);
-    }
-
-    fn block_height(&self, log_h: usize, added_bits: usize) -> usize {
-        1 << (log_h + added_bits)
-    }
-
-    fn coset_lde_batch_with_transform<
-        N: IntoRowMajorMatrix<F>,
-        T: FnOnce(RowMajorMatrix<F>, Layout) -> RowMajorMatrix<F> + Drop,
-    >(
-        &mut self,
-        mat: N,
-        added_bits: usize,
-        shift: F,
-        transform: T,
-    ) -> Result<BitReversedMatrixView<RowMajorMatrix<F>>, DftError> {
         self.coset_lde_batch_by_parts(mat, added_bits, shift, transform)
     }
 }

@@ -8,8 +8,8 @@ ghost use Rattle.p3_matrix.specs.Butterflies.{dit_near, dit_far};
 use crate::butterfly_layers::Rule;
 use p3_field::{Products, TwoAdicField};
 use p3_matrix::{
-    Butterfly, DifButterfly, DitButterfly, ScaledDitButterfly,
-    TwiddleFreeButterfly, apply_dit_by_place,
+    Butterfly, DifButterfly, DitButterfly, ScaledDitButterfly, TwiddleFreeButterfly,
+    apply_dit_by_place,
 };
 
 /// Decimation in time: pair t of every block has twiddle t. Twiddle 0 is one.

@@ -1,5 +1,5 @@
-use Rattle.std.proofs.Common.{◌≡◌, ℕ, ◌+◌, ◌*◌, ◌^◌, ◌<◌, ap, sym, ◌∙◌, arith}
-use Rattle.std.proofs.Math.Nat.{mul_comm, mul-le-mul_right}
+use Rattle.std.proofs.Common.{◌≡◌, ℕ, ◌+◌, ◌*◌, ◌%◌, ◌^◌, ◌<◌, ◌≤◌, ap, sym, ◌∙◌, arith}
+use Rattle.std.proofs.Math.Nat.{mod-eq_of_lt, mul_comm, mul-le-mul_right}
 use Rattle.std.proofs.lemmas.Nat.{pow-add}
 use Rattle.p3_dft.specs.Shapes.{FitsLde}
 use Rattle.p3_dft.proofs.Calls.Shapes.{output_log_small}
@@ -21,14 +21,14 @@ entries_small most height width added fits =
     let e : height * 2 ^ added * width ≡ width * 2 ^ (fits.log + added) = ap (λ n. n * width) (rows_are most height width added fits) ∙ mul_comm (2 ^ (fits.log + added)) width in
     omega (arith, e, fits.size)
 
-pub overflow_shl : goal.overflow_shl
-overflow_shl g c = omega (arith, output_log_small _ _ _ _ c.requires)
+pub overflow_shl-result : goal.overflow_shl-result
+overflow_shl-result g c = omega (arith, output_log_small _ _ _ _ c.requires)
 
 pub returns-clause-height : goal.returns-clause-height
 returns-clause-height g c = omega (arith, rows_small _ _ _ _ c.requires)
 
 pub returns-clause-entries : goal.returns-clause-entries
 returns-clause-entries g c =
-    let small = rows_small _ _ _ _ c.requires in
-    let all = entries_small _ _ _ _ c.requires in
-    omega (arith, small, all)
+    let all : c.args.height * 2 ^ c.args.added_bits % 18446744073709551616 * c.args.width ≡ c.args.height * 2 ^ c.args.added_bits * c.args.width =
+    ap (λ n. n * c.args.width) (mod-eq_of_lt (rows_small _ _ _ _ c.requires)) in
+    omega (arith, all, entries_small _ _ _ _ c.requires)
