@@ -1,7 +1,7 @@
 -- Matrices that are one, and that a matrix by index and the list of its rows say the same.
-use Rattle.std.proofs.Common.{◌≡◌, ℕ, zero, suc, ◌<◌, refl, sym, ap, ap₂, ◌∙◌, [], ◌∷◌, ◌++◌, length, get_or, map, arith, add-one}
+use Rattle.std.proofs.Common.{◌≡◌, ℕ, zero, suc, ◌<◌, refl, sym, ap, ap₂, ◌∙◌, [], ◌∷◌, ◌++◌, map, arith, add-one}
 use Rattle.std.specs.List.{range_with_len}
-use Rattle.std.proofs.lemmas.List.FromFn.{length-map-range_with_len, get_or-map-range_with_len, map-range_with_len_more}
+use Rattle.std.proofs.lemmas.List.FromFn.{map-range_with_len_more}
 use Rattle.p3_matrix.specs.Matrix.{Matrix, Same, image, row_of, list_of_rows}
 
 -- two lists by index are equal where their entries are

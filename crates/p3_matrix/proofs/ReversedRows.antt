@@ -1,5 +1,5 @@
 -- Stored matrices whose rows lie in bit reversed order: as lists of entries and by index.
-use Rattle.std.proofs.Common.{◌≡◌, ℕ, zero, suc, ◌+◌, ◌*◌, ◌<◌, ◌^◌, ◌/◌, ◌%◌, ◌++◌, List, length, get_or, sym, ap, ap₂, ◌∙◌, refl, arith, rules}
+use Rattle.std.proofs.Common.{◌≡◌, ℕ, zero, suc, ◌+◌, ◌*◌, ◌<◌, ◌≤◌, ◌^◌, ◌/◌, ◌%◌, ◌++◌, List, length, get_or, slice_range, sym, ap, ap₂, ◌∙◌, refl, arith, rules}
 use Rattle.std.specs.List.{flat_map, range_with_len}
 use Rattle.std.proofs.lemmas.List.{places, same_lists, get_or-append-add}
 use Rattle.std.proofs.lemmas.Nat.{div-add-mod', div_below, mod_below}
@@ -32,6 +32,13 @@ module _ {T : Type 0} (f : ℕ → List T) (w : ℕ) where
       ∙ joined_entry (a + 1) n i j d (λ i p. ap (λ k. length (f k)) (omega arith) ∙ each (suc i) (omega arith)) (omega arith) inside
       ∙ ap (λ k. get_or (f k) j d) (omega arith)
 
+-- a part of a list: its length, and its entries
+part_length : {T : Type 0} (xs : List T) (a w : ℕ) → a + w ≤ length xs → length (slice_range xs a (a + w)) ≡ w
+part_length xs a w l = search (rules, places)
+
+part_entry : {T : Type 0} (xs : List T) (a w k : ℕ) (d : T) → a + w ≤ length xs → k < w → get_or (slice_range xs a (a + w)) k d ≡ get_or xs (a + k) d
+part_entry xs a w k d l p = search (rules, places)
+
 module _ {T : Type 0} (n : ℕ) (m : RowMajor T) (whole : IsRowMajor m) (high : height m ≡ 2 ^ n) where
   row_length : (i : ℕ) → i < 2 ^ n → length (row m (rev n (0 + i))) ≡ m.width
   row_length i p =
@@ -46,6 +53,17 @@ module _ {T : Type 0} (n : ℕ) (m : RowMajor T) (whole : IsRowMajor m) (high : 
       let room = row_within (rev n i) (height m) m.width (length m.values) (omega (arith, rev-lt n i, high)) whole.full in
       let at : get_or (row m (rev n i)) j d ≡ get_or m.values (rev n i * m.width + j) d = search (rules, places) in
       joined_entry (λ i. row m (rev n i)) m.width 0 (2 ^ n) i j d row_length p q ∙ ap (λ k. get_or (row m (rev n k)) j d) (omega arith) ∙ at
+
+  -- row i is the physical row of the reversed number
+  pub reversed_row : (i : ℕ) → i < 2 ^ n → row (reversed_rows n m) i ≡ row m (rev n i)
+  reversed_row i p =
+      let w = m.width in
+      let vs = (reversed_rows n m).values in
+      let near : i * w + w ≤ length vs = row_within i (height m) w (length vs) (omega (arith, high)) (whole.full ∙ sym reversed_length) in
+      let far : rev n i * w + w ≤ length m.values = row_within (rev n i) (height m) w (length m.values) (omega (arith, rev-lt n i, high)) whole.full in
+      same_lists (row (reversed_rows n m) i) (row m (rev n i)) (part_length vs (i * w) w near ∙ sym (part_length m.values (rev n i * w) w far)) (λ k d l.
+      let inside : k < w = omega (arith, l, part_length vs (i * w) w near) in
+      part_entry vs (i * w) w k d near inside ∙ reversed_entry i k d p inside ∙ sym (part_entry m.values (rev n i * w) w k d far inside))
 
   -- by index
   pub reversed_same : (d : T) → Same (matrix d (reversed_rows n m)) (bit_reversal n (matrix d m))

@@ -2,7 +2,7 @@
 use Rattle.std.proofs.Common.{◌≡◌, ℕ, ◌<◌, ◌≤◌, ◌^◌, suc, ◌+◌, ◌*◌, ap, add-one, arith, ⊎_elim, ◌⊎◌, inl, inr, lit≤, sym, ◌∙◌}
 use Rattle.std.proofs.lemmas.Bool.{cases_lt}
 use Rattle.std.proofs.lemmas.Nat.{pow_below, pow_pos}
-use Rattle.std.proofs.Math.Nat.{mul-le-mul_right, pow-le-pow_right, two-pow-succ}
+use Rattle.std.proofs.Math.Nat.{mul-le-mul_left, mul-le-mul_right, pow-le-pow_right, two-pow-succ}
 
 -- a smaller power has the smaller logarithm
 pub log_lt : (j k : ℕ) → 2 ^ j < 2 ^ k → j < k
@@ -11,6 +11,10 @@ log_lt j k l = ⊎_elim (λ p. p) (λ p. absurd (omega (arith, pow-le-pow_right 
 -- a power that a usize holds
 pub log_of_usize : (k : ℕ) → 2 ^ k < 2 ^ 64 → k ≤ 63
 log_of_usize k l = omega (arith, log_lt k 64 l)
+
+-- the logarithm of a height whose entries a slice holds
+pub log_of_height : (k h w size : ℕ) → h ≡ 2 ^ k → 1 ≤ w → h * w ≡ size → size < 2 ^ 64 → k ≤ 63
+log_of_height k h w size high wide full l = log_of_usize k (omega (arith, mul-le-mul_left h wide))
 
 -- the power of two at or below another, and less than one power apart, has its logarithm
 pub log_unique : (j k : ℕ) → 2 ^ j ≤ 2 ^ k → 2 ^ k < 2 * 2 ^ j → j ≡ k

@@ -1,7 +1,7 @@
 //! Bit reversed order: element i goes where the binary digits of i, read backwards, name a place.
 
 ghost use Rattle.std.specs.Prelude.{◌≡◌, ◌+◌, ◌*◌, ◌/◌, ◌^◌, ◌<◌, ◌≤◌, ◌⊎◌, ℕ, length, get_or};
-ghost use Rattle.p3_matrix.specs.RowMajor.{HasShapeOf, IsRowMajor, height};
+ghost use Rattle.p3_matrix.specs.RowMajor.{HasShapeOf, IsRowMajor, height, row};
 ghost use Rattle.p3_matrix.specs.Matrix.{matrix, Same};
 ghost use Rattle.p3_matrix.specs.BitOrder.{rev, bit_reversal, reversed_rows};
 
@@ -26,7 +26,7 @@ impl<T> Rows for RowMajorMatrix<T> {
 /// number has the `bits` binary digits of i in reverse.
 ///
 /// Contracts see the physical matrix and the logarithm of its height.
-#[derive(Drop)]
+#[derive(Debug, Drop)]
 pub struct BitReversedMatrixView<M: Rows> {
     inner: M,
     bits: usize,
@@ -41,6 +41,31 @@ impl<M: Rows> Model for BitReversedMatrixView<M> {
     ghost view = { λ v. record { bits = v.bits; physical = v.inner } };
 
     ghost invariant = { λ v. M.rows v.inner ≡ 2 ^ v.bits };
+}
+
+impl<M: Rows + PartialEq> PartialEq for BitReversedMatrixView<M> {
+    ghost use Rattle.std.specs.Prelude.{◌==◌};
+    ghost use Rattle.std.specs.Cmp.{on_per, and_per};
+    ghost use Rattle.std.specs.Ordering.{on, eq_of_both};
+    ghost use Rattle.std.specs.Cmp.Rules.{comparing};
+    ghost use Rattle.std.proofs.Common.{rules};
+
+    ghost eq = { eq_of_both (on (λ v. v.bits) ◌==◌) (on (λ v. v.physical) M.eq) };
+
+    ghost laws = { and_per (on_per (λ v. v.bits) (Prim.search (comparing, rules))) (on_per (λ v. v.physical) M.laws) };
+
+    fn eq(&self, other: &Self) -> bool {
+        self.bits == other.bits && self.inner == other.inner
+    }
+}
+
+impl<M: Rows + Eq> Eq for BitReversedMatrixView<M> {
+    ghost use Rattle.std.specs.Cmp.{on_equiv, and_equiv};
+    ghost use Rattle.std.specs.Cmp.Rules.{comparing};
+    ghost use Rattle.std.proofs.Common.{rules};
+
+    ghost laws = { and_equiv (on_equiv (λ v. v.bits) (Prim.search (comparing, rules)))
+        (on_equiv (λ v. v.physical) M.Eq.laws) };
 }
 
 impl<T> BitReversedMatrixView<RowMajorMatrix<T>> {
@@ -59,6 +84,16 @@ impl<T> BitReversedMatrixView<RowMajorMatrix<T>> {
         ensures whole { IsRowMajor self.now.physical }
     {
         self.inner.height()
+    }
+
+    /// The entries of row i in natural order, which is below the height: the physical row whose number
+    /// has the digits of i in reverse.
+    pub fn row(&self, i: usize) -> &[T]
+        requires { i < height self.now.physical }
+        ensures { result.now ≡ row (reversed_rows self.now.bits self.now.physical) i }
+    {
+        let _whole = self.inner.values();
+        self.inner.row(reverse_bits_len(i, self.bits))
     }
 
     /// The physical matrix, whose height is a power of two.

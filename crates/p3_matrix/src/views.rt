@@ -26,6 +26,33 @@ impl<'a, T> Model for RowMajorMatrixView<'a, T> {
     ghost invariant = { λ m. IsRowMajor {T = T} (record { width = m.width; values = m.values.now }) };
 }
 
+impl<'a, T: PartialEq> PartialEq for RowMajorMatrixView<'a, T> {
+    ghost use Rattle.std.specs.Prelude.{◌==◌};
+    ghost use Rattle.std.specs.Cmp.{on_per, and_per};
+    ghost use Rattle.std.specs.Cmp.Lexicographic.{pointwise, lists_per};
+    ghost use Rattle.std.specs.Ordering.{on, eq_of_both};
+    ghost use Rattle.std.specs.Cmp.Rules.{comparing};
+    ghost use Rattle.std.proofs.Common.{rules};
+
+    ghost eq = { eq_of_both (on (λ m. m.width) ◌==◌) (on (λ m. m.values) (pointwise T.eq)) };
+
+    ghost laws = { and_per (on_per (λ m. m.width) (Prim.search (comparing, rules))) (on_per (λ m. m.values) (lists_per T.laws)) };
+
+    fn eq(&self, other: &Self) -> bool {
+        other.width == self.width && self.values == other.values
+    }
+}
+
+impl<'a, T: Eq> Eq for RowMajorMatrixView<'a, T> {
+    ghost use Rattle.std.specs.Cmp.{on_equiv, and_equiv};
+    ghost use Rattle.std.specs.Cmp.Lexicographic.{lists_equiv};
+    ghost use Rattle.std.specs.Cmp.Rules.{comparing};
+    ghost use Rattle.std.proofs.Common.{rules};
+
+    ghost laws = { and_equiv (on_equiv (λ m. m.width) (Prim.search (comparing, rules)))
+        (on_equiv (λ m. m.values) (lists_equiv T.Eq.laws)) };
+}
+
 impl<'a, T> RowMajorMatrixView<'a, T> {
     /// The matrix of these entries, `width` to a row, which is at least one. The entries fill whole rows;
     /// none at all make a matrix of no rows.
@@ -68,6 +95,13 @@ impl<'a, T> RowMajorMatrixView<'a, T> {
     {
         let start = i * self.width;
         &self.values[start..start + self.width]
+    }
+
+    /// The same rows, lent once more, for as long as these.
+    pub fn as_view(&self) -> RowMajorMatrixView<'a, T>
+        ensures { result ≡ self.now }
+    {
+        RowMajorMatrixView::new(self.values, self.width)
     }
 }
 

@@ -1,0 +1,24 @@
+use Rattle.std.proofs.Common.{◌^◌, ◌<◌, length, sym, ap, ◌∙◌, arith}
+use Rattle.p3_matrix.specs.RowMajor.{height, row}
+use Rattle.p3_matrix.proofs.BitReversal.{rev-lt}
+use Rattle.p3_matrix.proofs.ReversedRows.{reversed_row}
+use Rattle.p3_matrix.proofs.TwoPowers.{log_of_height}
+use Rattle.p3_matrix.proofs.bitrev.BitReversedMatrixView+RowMajorMatrix+T.row.Goals as goal
+
+pub reverse_bits_len-requires : goal.reverse_bits_len-requires
+reverse_bits_len-requires g c =
+    let m = c.self.inside.inner in
+    let whole = c.values-whole.ensures.whole in
+    let size : length m.values < 2 ^ 64 = omega (arith, ap length c.values-whole.ensures.values, c.values-whole.type_inv.0) in
+    log_of_height c.self.inside.bits (height m) m.width (length m.values) c.self.invariant whole.wide whole.full size
+
+pub row-requires : goal.row-requires
+row-requires g c = rw c.reverse_bits_len.ensures (rw c.self.invariant (rev-lt c.self.inside.bits c.args.i))
+
+pub returns : goal.returns
+returns g c =
+    let m = c.self.inside.inner in
+    let n = c.self.inside.bits in
+    let asks = rw (← c.self.view_is) at c.requires in
+    let below : c.args.i < 2 ^ n = omega (arith, asks, c.self.invariant) in
+    rw (← c.self.view_is) (c.row.ensures ∙ ap (row m) c.reverse_bits_len.ensures ∙ sym (reversed_row n m c.values-whole.ensures.whole c.self.invariant c.args.i below))
