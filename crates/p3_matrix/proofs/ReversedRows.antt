@@ -55,15 +55,20 @@ module _ {T : Type 0} (n : ℕ) (m : RowMajor T) (whole : IsRowMajor m) (high : 
       joined_entry (λ i. row m (rev n i)) m.width 0 (2 ^ n) i j d row_length p q ∙ ap (λ k. get_or (row m (rev n k)) j d) (omega arith) ∙ at
 
   -- row i is the physical row of the reversed number
+  reversed_within : (i : ℕ) → i < 2 ^ n → i * m.width + m.width ≤ length (reversed_rows n m).values
+  reversed_within i p = row_within i (height m) m.width (length (reversed_rows n m).values) (omega (arith, high)) (whole.full ∙ sym reversed_length)
+
+  pub reversed_row_length : (i : ℕ) → i < 2 ^ n → length (row (reversed_rows n m) i) ≡ m.width
+  reversed_row_length i p = part_length (reversed_rows n m).values (i * m.width) m.width (reversed_within i p)
+
   pub reversed_row : (i : ℕ) → i < 2 ^ n → row (reversed_rows n m) i ≡ row m (rev n i)
   reversed_row i p =
       let w = m.width in
-      let vs = (reversed_rows n m).values in
-      let near : i * w + w ≤ length vs = row_within i (height m) w (length vs) (omega (arith, high)) (whole.full ∙ sym reversed_length) in
       let far : rev n i * w + w ≤ length m.values = row_within (rev n i) (height m) w (length m.values) (omega (arith, rev-lt n i, high)) whole.full in
-      same_lists (row (reversed_rows n m) i) (row m (rev n i)) (part_length vs (i * w) w near ∙ sym (part_length m.values (rev n i * w) w far)) (λ k d l.
-      let inside : k < w = omega (arith, l, part_length vs (i * w) w near) in
-      part_entry vs (i * w) w k d near inside ∙ reversed_entry i k d p inside ∙ sym (part_entry m.values (rev n i * w) w k d far inside))
+      same_lists (row (reversed_rows n m) i) (row m (rev n i)) (reversed_row_length i p ∙ sym (part_length m.values (rev n i * w) w far)) (λ k d l.
+      let inside : k < w = omega (arith, l, reversed_row_length i p) in
+      part_entry (reversed_rows n m).values (i * w) w k d (reversed_within i p) inside ∙ reversed_entry i k d p inside
+      ∙ sym (part_entry m.values (rev n i * w) w k d far inside))
 
   -- by index
   pub reversed_same : (d : T) → Same (matrix d (reversed_rows n m)) (bit_reversal n (matrix d m))

@@ -90,7 +90,8 @@ impl<T> BitReversedMatrixView<RowMajorMatrix<T>> {
     /// has the digits of i in reverse.
     pub fn row(&self, i: usize) -> &[T]
         requires { i < height self.now.physical }
-        ensures { result.now ≡ row (reversed_rows self.now.bits self.now.physical) i }
+        ensures row { result.now ≡ row (reversed_rows self.now.bits self.now.physical) i }
+        ensures width { length result.now ≡ self.now.physical.width }
     {
         let _whole = self.inner.values();
         self.inner.row(reverse_bits_len(i, self.bits))

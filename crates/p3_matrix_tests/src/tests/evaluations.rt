@@ -1,10 +1,13 @@
 // Rows in natural and in bit reversed order, and what is seen in them.
 
-ghost use Rattle.std.specs.Prelude.{◌≡◌};
-ghost use Rattle.p3_matrix.specs.RowMajor.{IsRowMajor};
+ghost use Rattle.std.specs.Prelude.{◌≡◌, ◌<◌, ◌≤◌, get_or};
+ghost use Rattle.p3_matrix.specs.BitOrder.{reversed_rows};
+ghost use Rattle.p3_matrix.specs.RowMajor.{IsRowMajor, height, row};
 
 use super::{bytes, is};
-use p3_matrix::{Evaluations, IntoRowMajorMatrix, RowMajorMatrix};
+use p3_matrix::{BitReversedMatrixView, Evaluations, IntoRowMajorMatrix, RowMajorMatrix};
+use std::alloc::Global;
+use std::process::Abort;
 
 // A caller that knows no more of the evaluations than their trait.
 fn width_of<F: Drop, E: Evaluations<F>>(evaluations: E) -> usize
@@ -42,4 +45,23 @@ fn rows_told_to_be_reversed(rt: HostRuntime) {
     assert!(rt; view.to_row_major_matrix().values() == [10, 30, 20, 40].as_slice());
     let told = RowMajorMatrix::new_col(bytes(&rt, alloc, &[10, 20])).bit_reverse_rows();
     assert!(rt; told.bit_reverse_rows().values() == [10, 20].as_slice());
+}
+
+// The entry at a place of the rows in natural order.
+fn entry<T: Copy>(view: &BitReversedMatrixView<RowMajorMatrix<T>>, i: usize, j: usize) -> T
+    requires row { i < height view.now.physical }
+    requires column { j < view.now.physical.width }
+    ensures { result ≡ get_or (row (reversed_rows view.now.bits view.now.physical) i) j result }
+{
+    view.row(i)[j]
+}
+
+// Rows 10, 20, 30, 40 that lie in bit reversed order: in natural order they are 10, 30, 20, 40.
+#[test]
+fn rows_by_natural_number(rt: HostRuntime) {
+    let view = seen(&rt, bytes(&rt, rt.alloc(), &[10, 11, 20, 21, 30, 31, 40, 41]), 2);
+    assert!(rt; view.row(0) == [10, 11].as_slice());
+    assert!(rt; view.row(1) == [30, 31].as_slice());
+    assert!(rt; view.row(2) == [20, 21].as_slice());
+    is(&rt, entry(&view, 3, 1), 41);
 }

@@ -1,7 +1,8 @@
-use Rattle.std.proofs.Common.{◌^◌, ◌<◌, length, sym, ap, ◌∙◌, arith}
+use Rattle.std.proofs.Common.{◌≡◌, ◌^◌, ◌<◌, length, sym, ap, ◌∙◌, arith}
+use Rattle.p3_matrix.specs.BitOrder.{reversed_rows}
 use Rattle.p3_matrix.specs.RowMajor.{height, row}
 use Rattle.p3_matrix.proofs.BitReversal.{rev-lt}
-use Rattle.p3_matrix.proofs.ReversedRows.{reversed_row}
+use Rattle.p3_matrix.proofs.ReversedRows.{reversed_row, reversed_row_length}
 use Rattle.p3_matrix.proofs.TwoPowers.{log_of_height}
 use Rattle.p3_matrix.proofs.bitrev.BitReversedMatrixView+RowMajorMatrix+T.row.Goals as goal
 
@@ -19,6 +20,8 @@ pub returns : goal.returns
 returns g c =
     let m = c.self.inside.inner in
     let n = c.self.inside.bits in
+    let whole = c.values-whole.ensures.whole in
     let asks = rw (← c.self.view_is) at c.requires in
     let below : c.args.i < 2 ^ n = omega (arith, asks, c.self.invariant) in
-    rw (← c.self.view_is) (c.row.ensures ∙ ap (row m) c.reverse_bits_len.ensures ∙ sym (reversed_row n m c.values-whole.ensures.whole c.self.invariant c.args.i below))
+    let is : c.row.result.now ≡ row (reversed_rows n m) c.args.i = c.row.ensures ∙ ap (row m) c.reverse_bits_len.ensures ∙ sym (reversed_row n m whole c.self.invariant c.args.i below) in
+    rw (← c.self.view_is) (record { row = is; width = ap length is ∙ reversed_row_length n m whole c.self.invariant c.args.i below })
