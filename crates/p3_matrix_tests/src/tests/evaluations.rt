@@ -6,8 +6,6 @@ ghost use Rattle.p3_matrix.specs.RowMajor.{IsRowMajor, height, row};
 
 use super::{bytes, is};
 use p3_matrix::{BitReversedMatrixView, Evaluations, IntoRowMajorMatrix, RowMajorMatrix};
-use std::alloc::Global;
-use std::process::Abort;
 
 // A caller that knows no more of the evaluations than their trait.
 fn width_of<F: Drop, E: Evaluations<F>>(evaluations: E) -> usize
@@ -56,12 +54,23 @@ fn entry<T: Copy>(view: &BitReversedMatrixView<RowMajorMatrix<T>>, i: usize, j: 
     view.row(i)[j]
 }
 
-// Rows 10, 20, 30, 40 that lie in bit reversed order: in natural order they are 10, 30, 20, 40.
+// Rows that lie in bit reversed order, by their number in natural order.
 #[test]
 fn rows_by_natural_number(rt: HostRuntime) {
-    let view = seen(&rt, bytes(&rt, rt.alloc(), &[10, 11, 20, 21, 30, 31, 40, 41]), 2);
-    assert!(rt; view.row(0) == [10, 11].as_slice());
-    assert!(rt; view.row(1) == [30, 31].as_slice());
-    assert!(rt; view.row(2) == [20, 21].as_slice());
-    is(&rt, entry(&view, 3, 1), 41);
+    let alloc = rt.alloc();
+    let view = RowMajorMatrix::new_col(bytes(&rt, alloc, &[10, 20, 30, 40])).bit_reverse_rows();
+    is(&rt, (entry(&view, 0, 0), entry(&view, 1, 0)), (10, 30));
+    is(&rt, (entry(&view, 2, 0), entry(&view, 3, 0)), (20, 40));
+    assert!(rt; view.row(1) == [30].as_slice());
+}
+
+// Views are equal where their matrices are, and print both parts.
+#[test]
+fn reversed_views_compare(rt: HostRuntime) {
+    let alloc = rt.alloc();
+    let view = RowMajorMatrix::new_col(bytes(&rt, alloc, &[10, 20])).bit_reverse_rows();
+    let wide = RowMajorMatrix::new_row(bytes(&rt, alloc, &[10, 20])).bit_reverse_rows();
+    assert!(rt; view != wide);
+    let again = RowMajorMatrix::new_col(bytes(&rt, alloc, &[10, 20])).bit_reverse_rows();
+    is(&rt, view, again);
 }

@@ -71,3 +71,20 @@ fn reads_in_another_width(rt: HostRuntime) {
     is(&rt, (view.width(), view.height()), (3, 2));
     is(&rt, (view.row(1)[2], view.values()[5]), (8, 8));
 }
+
+// The same rows, lent twice.
+fn twice<'a, T>(
+    view: &RowMajorMatrixView<'a, T>,
+) -> (RowMajorMatrixView<'a, T>, RowMajorMatrixView<'a, T>)
+    ensures { result ≡ (view.now, view.now) }
+{
+    (view.as_view(), view.as_view())
+}
+
+#[test]
+fn lends_once_more_and_compares(rt: HostRuntime) {
+    let matrix = written(&rt, rt.alloc());
+    let (first, second) = twice(&matrix.as_view());
+    assert!(rt; first != RowMajorMatrixView::new(matrix.values(), 3));
+    is(&rt, first, second);
+}
