@@ -27,4 +27,3 @@ pub record IsCodeword {F : Type 0} (f : FieldMembers F) (generator : ℕ → F) 
   pub coefficients : Matrix f.Element
   pub high : coefficients.height ≡ 2 ^ code.log_message
   pub values : IsValues f.ring (λ n. f.value (generator n)) coefficients (code.log_message + code.added_bits) (f.value code.shift) word
-

@@ -12,7 +12,10 @@ ghost use Rattle.p3_dft.specs.Shapes.{FitsDft, FitsLde};
 use crate::traits::{Layout, TwoAdicSubgroupDft};
 use crate::util::{divide_rows, exchange_rows, pad_rows};
 use p3_field::{Field, Products, TwoAdicField};
-use p3_matrix::{DftError, IntoRowMajorMatrix, RowMajorMatrix, log2_strict_usize, reverse_rows, scale_slice_in_place};
+use p3_matrix::{
+    DftError, IntoRowMajorMatrix, RowMajorMatrix, log2_strict_usize, reverse_rows,
+    scale_slice_in_place,
+};
 use p3_networks::radix_2_bowers::{network_g, network_g_transposed};
 use p3_networks::twiddles::reversed_powers;
 use std::alloc::{AllocError, Global};

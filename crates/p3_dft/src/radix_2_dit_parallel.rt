@@ -12,7 +12,10 @@ use crate::radix_2_dit_parallel::extension::{Unread, coefficients_with_room, ext
 use crate::radix_2_dit_parallel::transform::{evaluate, evaluate_on_coset, interpolate};
 use crate::traits::{Layout, TwoAdicSubgroupDft};
 use p3_field::{Field, Products, TwoAdicField};
-use p3_matrix::{BitReversedMatrixView, BlockConsumer, DftError, IntoRowMajorMatrix, RowMajorMatrix, log2_strict_usize, reverse_rows};
+use p3_matrix::{
+    BitReversedMatrixView, BlockConsumer, DftError, IntoRowMajorMatrix, RowMajorMatrix,
+    log2_strict_usize, reverse_rows,
+};
 use p3_networks::radix_2_dit_parallel::coset_tables::CosetTables;
 use p3_networks::radix_2_dit_parallel::tables::Tables;
 use std::alloc::{AllocError, Global};

@@ -12,7 +12,10 @@ ghost use Rattle.p3_networks.specs.Twiddles.{AreTwiddlesFromStart, backward_root
 use crate::traits::{Layout, TwoAdicSubgroupDft};
 use crate::util::{extend_by_zeros, pad_rows};
 use p3_field::{Products, TwoAdicField};
-use p3_matrix::{BitReversedMatrixView, DftError, Evaluations, IntoRowMajorMatrix, RowMajorMatrix, log2_strict_usize, reverse_rows};
+use p3_matrix::{
+    BitReversedMatrixView, DftError, Evaluations, IntoRowMajorMatrix, RowMajorMatrix,
+    log2_strict_usize, reverse_rows,
+};
 use p3_networks::radix_2_small_batch::groups::{log_tile_rows, piece_size};
 use p3_networks::radix_2_small_batch::networks::{
     dif_network, dit_network_to_reversed, extending_network, scaled_dif_network,

@@ -18,7 +18,10 @@ use crate::algebra::{flatten, gather};
 use crate::blocks::{BlocksStopped, Unpublished};
 use crate::util::{coefficients_from_values, pad_rows, shift_rows};
 use p3_field::{BasedVectorSpace, Field, Products, TwoAdicField};
-use p3_matrix::{BitReversedMatrixView, BlockConsumer, DftError, Evaluations, IntoRowMajorMatrix, RowMajorMatrix, log2_strict_usize, publish, reverse_rows};
+use p3_matrix::{
+    BitReversedMatrixView, BlockConsumer, DftError, Evaluations, IntoRowMajorMatrix,
+    RowMajorMatrix, log2_strict_usize, publish, reverse_rows,
+};
 
 /// In which order the rows of a matrix of `2^k` coefficients lie.
 #[derive(Clone, Copy, Debug, PartialEq, Eq)]

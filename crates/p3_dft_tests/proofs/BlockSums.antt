@@ -196,11 +196,11 @@ module _ {A T : Type 0} (R : Ring A) (f : T → A) (d : T) (b : ℕ) (out : Matr
         map number blocks,
         length-map blocks number ∙ omega (arith, told.0, first.1, stopped.0),
         (λ i j e before inside same.
-        let in_blocks : j < length blocks = omega (arith, inside, length-map blocks number) in
-        x.blocks.distinct i j none before (omega (arith, in_blocks, joined))
-        (ap number (at i (omega (arith, before, in_blocks))) ∙ sym (start_is i e (omega (arith, before, inside))) ∙ same ∙ start_is j e inside ∙ sym (ap number (at j in_blocks)))),
+            let in_blocks : j < length blocks = omega (arith, inside, length-map blocks number) in
+            x.blocks.distinct i j none before (omega (arith, in_blocks, joined))
+            (ap number (at i (omega (arith, before, in_blocks))) ∙ sym (start_is i e (omega (arith, before, inside))) ∙ same ∙ start_is j e inside ∙ sym (ap number (at j in_blocks)))),
         (λ i e inside.
-        let here = each i none (omega (arith, inside, length-map blocks number)) in
-        rw (start_is i e inside) (here.multiple, here.within)),
+            let here = each i none (omega (arith, inside, length-map blocks number)) in
+            rw (start_is i e inside) (here.multiple, here.within)),
         ap g stopped.1 ∙ told.1 ∙ ap (λ a. a ⊕ sum_of_blocks R b out (map number blocks)) first.0 ∙ Rings.zero-add R _,
       )

@@ -18,7 +18,8 @@ ghost use Rattle.p3_matrix.specs.Cosets.{values_of};
 
 use p3_dft::{
     BitReversedMatrixView, BlockConsumer, BlockLimit, BlockRefused, BlocksStopped, DftError, Field,
-    Recorder, RowMajorMatrix, RowMajorMatrixView, TwoAdicField, TwoAdicSubgroupDft, extended_height,
+    Recorder, RowMajorMatrix, RowMajorMatrixView, TwoAdicField, TwoAdicSubgroupDft,
+    extended_height,
 };
 use std::convert::Infallible;
 
@@ -79,8 +80,12 @@ pub fn limited_extension<F: TwoAdicField, D: TwoAdicSubgroupDft<F>>(
         × AreBlocksOf (values_of F.Field.own) (D.facts.block_rows k added_bits) (bit_reversal (k + added_bits) out) (taken ++ refused ∷ [])
         × (length taken ≡ limit) × (refusal.start ≡ refused.0)))) }
 {
-    let answer =
-        engine.coset_lde_batch_in_blocks(mat, added_bits, shift, |_rows| BlockLimit::new(limit));
+    let answer = engine.coset_lde_batch_in_blocks(
+        mat,
+        added_bits,
+        shift,
+        |_rows| BlockLimit::new(limit),
+    );
     match answer {
         Ok((out, taken)) => Ok((out, taken.seen())),
         Err(stopped) => match stopped {
@@ -142,9 +147,12 @@ pub fn summed_extension<F: TwoAdicField, D: TwoAdicSubgroupDft<F>>(
     ensures summed { IfOk result (λ p.
         F.value p.1 ≡ sum F.ring (length p.0.physical.values) (λ i. F.value (get_or p.0.physical.values i F.ZERO))) }
 {
-    let answer = engine.coset_lde_batch_in_blocks(mat, added_bits, shift, |_rows| BlockSum {
-        sum: F::ZERO,
-    });
+    let answer = engine.coset_lde_batch_in_blocks(
+        mat,
+        added_bits,
+        shift,
+        |_rows| BlockSum { sum: F::ZERO },
+    );
     match answer {
         Ok((out, total)) => {
             let _whole = out.height();
@@ -209,10 +217,15 @@ pub fn sum_of_first_blocks<F: TwoAdicField, D: TwoAdicSubgroupDft<F>>(
         × All (λ start. (start % D.facts.block_rows k added_bits ≡ 0) × (start < 2 ^ (k + added_bits))) starts
         × (F.value total ≡ sum_of_blocks F.ring (D.facts.block_rows k added_bits) (bit_reversal (k + added_bits) out) starts))) }
 {
-    let answer = engine.coset_lde_batch_in_blocks(mat, added_bits, shift, |_rows| LimitedSum {
-        sum: F::ZERO,
-        left: limit,
-    });
+    let answer = engine.coset_lde_batch_in_blocks(
+        mat,
+        added_bits,
+        shift,
+        |_rows| LimitedSum {
+            sum: F::ZERO,
+            left: limit,
+        },
+    );
     match answer {
         Ok(_all) => None,
         Err(stopped) => match stopped {

@@ -32,8 +32,8 @@ mod tiles;
 mod util;
 mod whole_rows;
 
-use calls::{Calls, CallsOf};
 use crate::own_engine::NaturalToReversed;
+use calls::{Calls, CallsOf};
 use engines::{LimitedDft, ReversedToReversed};
 use p3_dft::{
     BabyBear, CanonicalField, Evaluations, Field, Goldilocks, Layout, NaiveDft, Radix2Bowers,

@@ -1,4 +1,4 @@
-use Rattle.std.proofs.Common.{◌∙◌, of_calls}
+use Rattle.std.proofs.Common.{refl, of_calls}
 use Rattle.p3_dft.proofs.Laws.Blocks.{where_refused}
 use Rattle.p3_dft_tests.proofs.BlockSums.{sum_at_refusal}
 use Rattle.p3_dft_tests.proofs.published.sum_of_first_blocks.Goals as goal
