@@ -14,4 +14,5 @@ pub mod published;
 #[cfg(test)]
 mod tests;
 pub mod there_and_back;
+pub mod views;
 pub mod whole_rows;
