@@ -1,4 +1,4 @@
 pub mod BitReversed
 pub mod Calls
-pub mod Codes
+pub mod Codewords
 pub mod Laws

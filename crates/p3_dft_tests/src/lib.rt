@@ -3,10 +3,11 @@
 //!
 //! They stand in a crate of their own since a crate with tests is proved once more with them. Beside
 //! them stand clients: the product of two polynomials, a transform on a coset that is undone, a low degree
-//! test, extensions with published blocks, transforms of the coefficients that need whole rows, and an engine
-//! of one's own.
+//! test, extensions with published blocks, transforms of the coefficients that need whole rows or are written
+//! without types, rows of a matrix by natural number, and an engine of one's own.
 #![tactic(auto)]
 
+pub mod closures;
 pub mod low_degree;
 pub mod own_engine;
 pub mod product;

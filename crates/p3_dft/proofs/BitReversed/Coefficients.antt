@@ -155,14 +155,6 @@ module _ {F : Type 0} (f : FieldMembers F) (generator : ℕ → F) where
           subst (λ (n : ℕ). Same (values_of f x) (bit_reversal n (bit_reversal log (values_of f x)))) (one_log k e)
           (same_sym (bit_reversal log (bit_reversal log (values_of f x))) (values_of f x) (reversed_twice log (values_of f x) of_log))
 
-  -- the same of a stored matrix
-  pub extension_of_answered : (may_answer : RowMajor F → RowMajor F → Type 0) (m told answered out : RowMajor F) (a log : ℕ) (s : f.Element) → height m ≡ 2 ^ log
-      → AreCoefficients f.ring (λ n. f.value (generator n)) (values_of f m) log f.ring.one (bit_reversal log (values_of f told))
-      → IsRowMajor told → IsRowMajor answered → may_answer told answered → height answered ≡ height m
-      → IsValues f.ring (λ n. f.value (generator n)) (bit_reversal log (values_of f answered)) (log + a) s (values_of f out)
-      → IsTransformedExtension f generator may_answer BitReversed m a s out
-  extension_of_answered may_answer m told answered out a log s high are told_is answered_is called tall values = values_of_answered may_answer m told answered a log s (values_of f out) high are told_is answered_is called tall values
-
 -- two networks, and two products for each entry of the smaller matrix, are within the bound of an extension
 pub within_extension : (bound : ℕ → ℕ → ℕ) (k a w before after : ℕ) → after ≤ before + (bound k w + bound (k + a) w + 2 * (2 ^ k * w)) → after ≤ before + extension_bound bound k a w
 within_extension bound k a w before after made = let rise = entries_rise k a w in omega (arith, made, rise)

@@ -13,7 +13,7 @@ use Rattle.p3_matrix.specs.RowNumbers.{AgreeInRows, DifferInRows}
 use Rattle.p3_dft.specs.Extensions.{IsExtension}
 use Rattle.p3_matrix.proofs.Polynomials.Distance.{one_word}
 use Rattle.p3_matrix.proofs.Rows.Numbers.{fewer, split, Split}
-use Rattle.p3_dft.proofs.Codes.Words.{message_within}
+use Rattle.p3_dft.proofs.Codewords.{message_within}
 
 -- an extension of a message is a codeword
 pub word_of_extension : {F : Type 0} (f : FieldMembers F) (generator : ℕ → F) (code : Code F) (m out : RowMajor F) → height m ≡ 2 ^ code.log_message

@@ -190,8 +190,10 @@ impl<F: CanonicalField> EngineTest<F> for DoubledBlocks {
                 mat,
                 added_bits,
                 F::GENERATOR,
-                |coefficients, _layout| doubled(coefficients),
-                |_rows| Compared::with(expected),
+                |coefficients: RowMajorMatrix<F>, _layout: Layout| -> RowMajorMatrix<F>
+                    ensures { HasShapeOf result coefficients }
+                { doubled(coefficients) },
+                |_rows: usize| -> Compared<F> { Compared::with(expected) },
             );
             let Ok((out, compared)) = answer else {
                 panic!(rt; "not all blocks were taken");
@@ -213,7 +215,9 @@ fn doubled_extension<F: TwoAdicField>(
         mat,
         added_bits,
         F::GENERATOR,
-        |coefficients, _layout| doubled(coefficients),
+        |coefficients: RowMajorMatrix<F>, _layout: Layout| -> RowMajorMatrix<F>
+            ensures { HasShapeOf result coefficients }
+        { doubled(coefficients) },
     );
     let values = values.expect(rt, "memory");
     values.into_bit_reversed().bit_reverse_rows()

@@ -1,4 +1,4 @@
-use Rattle.std.proofs.Common.{refl, of_calls}
+use Rattle.std.proofs.Common.{ℕ, ◌<◌, get_or, refl, subst, of_calls}
 use Rattle.p3_dft.proofs.Laws.Blocks.{where_refused}
 use Rattle.p3_dft_tests.proofs.BlockSums.{sum_at_refusal}
 use Rattle.p3_dft_tests.proofs.published.sum_of_first_blocks.Goals as goal
@@ -9,4 +9,5 @@ returns-in-Refused g c = λ k e.
     let x = where_refused _ _ _ _ c.in-Refused.is c.in-Err.ensures.refused k e in
     let (starts, many, distinct, within, total) = sum_at_refusal field.ring field.value field.ZERO _ _ _ _ (λ s. field.value s.sum) (λ s. s.left) c.args.limit _ _
     (λ s start r e told. told.0 refl) (λ s start r e told. told.1 refl) (λ s made. search of_calls) x.2 in
-    (x.0, x.1, starts, many, distinct, within, total)
+    let high = (x.1.extended k e).high in
+    (x.0, x.1, starts, many, distinct, (λ i d inside. let told = within i d inside in (told.0, subst (λ (h : ℕ). get_or starts i d < h) high told.1)), total)

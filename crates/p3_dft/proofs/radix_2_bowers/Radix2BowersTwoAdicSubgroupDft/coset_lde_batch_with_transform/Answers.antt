@@ -5,7 +5,7 @@ use Rattle.p3_matrix.specs.BitOrder.{bit_reversal}
 use Rattle.p3_matrix.specs.RowMajor.{RowMajor, height}
 use Rattle.p3_matrix.specs.Cosets.{values_of}
 use Rattle.p3_matrix.proofs.Polynomials.Cosets.{coset_values}
-use Rattle.p3_dft.proofs.BitReversed.Coefficients.{extension_of_answered, extension_of_told_row, first_within_extension, within_extension}
+use Rattle.p3_dft.proofs.BitReversed.Coefficients.{extension_of_told_row, first_within_extension, within_extension, values_of_answered}
 use Rattle.p3_matrix.proofs.Polynomials.Quotients.{shifted_by_one}
 use Rattle.p3_dft.proofs.Calls.Counts.{scaled_counted, weighed_counted}
 use Rattle.p3_dft.proofs.Calls.Shapes.{fits_lde_as, input_fits, output_log_small}
@@ -44,7 +44,7 @@ returns-clause-values g c =
     let on_coset = shifted_by_one field.ring _ s (bit_reversal log (values_of field answered)) (bit_reversal log (values_of field c.weigh_reversed_rows.new.mat)) one same in
     IfOk-weaker c.extend.result _ _
     (λ out given.
-    extension_of_answered field g.F.TwoAdicField.generator _ m told answered out a log s fits.high (rw c.into_row_major_matrix-mat.ensures at are) c.in_ok-interpolate.ensures.whole c.weigh_reversed_rows.ensures.whole
+    values_of_answered field g.F.TwoAdicField.generator _ m told answered a log s (values_of field out) fits.high (rw c.into_row_major_matrix-mat.ensures at are) c.in_ok-interpolate.ensures.whole c.weigh_reversed_rows.ensures.whole
     c.transform-changed.ensures shape.0
     (coset_values field.ring (λ n. field.value (g.F.TwoAdicField.generator n)) (bit_reversal log (values_of field answered)) (bit_reversal log (values_of field c.weigh_reversed_rows.new.mat)) (log + a) s (values_of field out)
     on_coset given))

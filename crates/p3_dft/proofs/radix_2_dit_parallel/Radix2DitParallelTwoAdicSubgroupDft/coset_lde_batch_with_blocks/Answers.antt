@@ -6,7 +6,7 @@ use Rattle.p3_matrix.proofs.TwoPowers.{log_same}
 use Rattle.p3_networks.specs.Twiddles.{AddsCosets, HasCoset, HasCosets}
 use Rattle.p3_dft.specs.Engines.{CosetEngineState, IsPrepared}
 use Rattle.p3_matrix.specs.Cosets.{values_of}
-use Rattle.p3_dft.proofs.BitReversed.Coefficients.{extension_of_answered, values_of_answered}
+use Rattle.p3_dft.proofs.BitReversed.Coefficients.{values_of_answered}
 use Rattle.p3_dft.proofs.BitReversed.Rows.{values_seen}
 use Rattle.p3_matrix.proofs.Rows.Padding.{padded_shape, padded_whole}
 use Rattle.p3_dft.proofs.Calls.PreparedCosets.{later_with_tables}
@@ -75,7 +75,7 @@ returns-clause-values g c =
     let whole : IsRowMajor grown = rw answer.over_zeros (padded_whole field.ZERO answer.answered answer.answered_whole a) in
     let is_whole : IsRowMajor out = record { wide = omega (arith, whole.wide, c.extend-extended.ensures.shape.1); full = ap₂ (λ h w. h * w) c.extend-extended.ensures.shape.0 c.extend-extended.ensures.shape.1 ∙ whole.full ∙ sym c.extend-extended.ensures.size } in
     rw (← c.into_row_major_matrix-mat.ensures, c.bit_reverse_rows.ensures.matrix)
-    (extension_of_answered field g.F.TwoAdicField.generator _ m answer.told answer.answered _ a log s high are answer.told_whole answer.answered_whole answer.called shape.0
+    (values_of_answered field g.F.TwoAdicField.generator _ m answer.told answer.answered a log s _ high are answer.told_whole answer.answered_whole answer.called shape.0
     (values_seen field g.F.TwoAdicField.generator (bit_reversal log (values_of field answer.answered)) out s (log + a) c.bit_reverse_rows.result.bits is_whole tall c.bit_reverse_rows.ensures.height
     (c.in_default.ensures.values answer.answered answer.answered_whole (shape.0 ∙ high) answer.over_zeros)))
 

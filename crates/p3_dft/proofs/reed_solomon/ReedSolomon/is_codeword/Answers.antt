@@ -1,5 +1,5 @@
 use Rattle.std.proofs.Common.{sym}
-use Rattle.p3_dft.proofs.Codes.Words.{message_inside, told_of_word}
+use Rattle.p3_dft.proofs.Codewords.{message_inside, told_of_word}
 use Rattle.p3_dft.proofs.reed_solomon.ReedSolomon.is_codeword.Goals as goal
 
 pub are_zeros_from-requires : goal.are_zeros_from-requires
