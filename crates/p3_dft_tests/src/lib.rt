@@ -8,6 +8,7 @@
 #![tactic(auto)]
 
 pub mod closures;
+pub mod inverses;
 pub mod low_degree;
 pub mod own_engine;
 pub mod product;

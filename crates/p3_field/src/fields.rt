@@ -1,6 +1,6 @@
 //! What a field is: its operations, and the laws that they obey.
 
-ghost use Rattle.std.specs.Prelude.{◌≡◌, ◌↔◌, ◌^◌, ℕ, IsTrue, IfSome, IsNone};
+ghost use Rattle.std.specs.Prelude.{◌≡◌, ◌↔◌, ◌^◌, ℕ, IsTrue, IfSome, IsNone, MatchBool, is_some};
 ghost use Rattle.p3_field.specs.Ring.{Ring, minus, two, count, power, IsInverse, IsInvertible};
 
 use std::ops::{Add, Mul, Neg, Sub};
@@ -54,6 +54,14 @@ pub trait Field: Copy
     const GENERATOR: Self;
 
     ghost GENERATOR: { Self };
+
+    /// `GENERATOR`, of which the caller then knows that it has an inverse, over a named field too.
+    final fn invertible_generator() -> Self
+        ensures same { result ≡ GENERATOR }
+        ensures invertible { IsInvertible ring (value result) }
+    {
+        Self::GENERATOR
+    }
 
     /// Twice the element.
     fn double(self) -> Self
@@ -126,6 +134,7 @@ pub trait Field: Copy
     /// The inverse, `Some` exactly where there is one.
     fn try_inverse(&self) -> Option<Self>
         ensures some { IfSome result (λ y. IsInverse ring (value self.now) (value y)) }
+        ensures found { MatchBool (is_some result) (IsInvertible ring (value self.now)) (¬ (IsInvertible ring (value self.now))) }
         ensures none { IsNone result → ¬ (IsInvertible ring (value self.now)) };
 
     /// The inverse, of an element that has one (`try_inverse` tells).
