@@ -3,7 +3,8 @@
 ghost use Rattle.std.specs.Prelude.{◌≡◌, ◌↔◌, ◌^◌, ℕ, IsTrue, IfSome, IsNone, MatchBool, is_some};
 ghost use Rattle.p3_field.specs.Ring.{Ring, minus, two, count, power, IsInverse, IsInvertible};
 
-use std::ops::{Add, Mul, Neg, Sub};
+use std::fmt::{Debug, Display};
+use std::ops::{Add, AddAssign, Mul, MulAssign, Neg, Sub, SubAssign};
 
 /// An element of a commutative ring with one in which halving is exact.
 ///
@@ -15,7 +16,12 @@ pub trait Field: Copy
     + Add<Self, Output = Self>
     + Sub<Self, Output = Self>
     + Mul<Self, Output = Self>
-    + Neg<Output = Self> {
+    + Neg<Output = Self>
+    + AddAssign<Self>
+    + SubAssign<Self>
+    + MulAssign<Self>
+    + Debug
+    + Display {
     // The values of elements.
     ghost Element: { Type 0 };
 
@@ -73,6 +79,13 @@ pub trait Field: Copy
     /// The element whose double is this one.
     fn halve(self) -> Self
         ensures { ring.add (value result) (value result) ≡ value self };
+
+    /// The product of the element and itself.
+    fn square(self) -> Self
+        ensures { value result ≡ ring.mul (value self) (value self) }
+    {
+        self * self
+    }
 
     /// Whether the element is zero.
     fn is_zero(&self) -> bool
@@ -180,6 +193,22 @@ pub trait Field: Copy
     ghost can_neg_law: { (a : Self) → Self.can_neg a };
 
     ghost neg_law: { (a r : Self) → Self.neg_gives a r → value r ≡ ring.neg (value a) };
+
+    // So are those that change an element in its place.
+    ghost can_add_assign_law: { (a b : Self) → Self.can_add_assign a b };
+
+    ghost add_assign_law: { (a b r : Self) → Self.add_assign_gives a b r
+        → value r ≡ ring.add (value a) (value b) };
+
+    ghost can_sub_assign_law: { (a b : Self) → Self.can_sub_assign a b };
+
+    ghost sub_assign_law: { (a b r : Self) → Self.sub_assign_gives a b r
+        → value r ≡ minus ring (value a) (value b) };
+
+    ghost can_mul_assign_law: { (a b : Self) → Self.can_mul_assign a b };
+
+    ghost mul_assign_law: { (a b r : Self) → Self.mul_assign_gives a b r
+        → value r ≡ ring.mul (value a) (value b) };
 
     // `==` is equality of values.
     ghost eq_law: { (a b : Self) → IsTrue (Self.eq a b) ↔ (value a ≡ value b) };

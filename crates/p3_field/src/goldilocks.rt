@@ -7,7 +7,8 @@ use crate::euclid::inverse_modulo;
 use crate::fields::Field;
 use crate::packed::{Packable, Packed, PackedField, Products};
 use crate::two_adic::{CanonicalField, TwoAdicField};
-use std::ops::{Add, Mul, Neg, Sub};
+use std::fmt;
+use std::ops::{Add, AddAssign, Mul, MulAssign, Neg, Sub, SubAssign};
 
 const MODULUS: u64 = 18446744069414584321;
 
@@ -18,7 +19,7 @@ const HALF: u64 = 9223372034707292161;
 const EPSILON: u64 = 4294967295;
 
 /// An integer modulo `2^64 - 2^32 + 1`, by its number below the modulus.
-#[derive(Clone, Copy, Debug, PartialEq, Eq, PartialOrd, Ord)]
+#[derive(Clone, Copy, PartialEq, Eq, PartialOrd, Ord)]
 pub struct Goldilocks {
     number: u64,
     ghost below: { number < goldilocks_modulus },
@@ -116,6 +117,62 @@ impl Neg for Goldilocks {
                 MODULUS - self.number
             },
         }
+    }
+}
+
+impl AddAssign for Goldilocks {
+    ghost use Rattle.p3_field.specs.Residues.{IsSum};
+
+    ghost add_assign_gives = { λ a b r. IsSum goldilocks_modulus a.number b.number r.number };
+
+    fn add_assign(&mut self, other: Goldilocks) {
+        *self = *self + other;
+    }
+}
+
+impl SubAssign for Goldilocks {
+    ghost use Rattle.p3_field.specs.Residues.{IsDifference};
+
+    ghost sub_assign_gives = { λ a b r. IsDifference goldilocks_modulus a.number b.number r.number };
+
+    fn sub_assign(&mut self, other: Goldilocks) {
+        *self = *self - other;
+    }
+}
+
+impl MulAssign for Goldilocks {
+    ghost use Rattle.p3_field.specs.Residues.{IsProduct};
+
+    ghost mul_assign_gives = { λ a b r. IsProduct goldilocks_modulus a.number b.number r.number };
+
+    fn mul_assign(&mut self, other: Goldilocks) {
+        *self = *self * other;
+    }
+}
+
+/// The number in decimal digits, with the options of a format as for a `u64`.
+impl fmt::Display for Goldilocks {
+    ghost use Rattle.std.specs.Prelude.{Some};
+    ghost use Rattle.std.specs.Fmt.{decimal, styled_decimal};
+
+    ghost output = { λ x. Some (decimal x.number) };
+
+    ghost styled_output = { λ x s. Some (styled_decimal s x.number) };
+
+    fn fmt<W: fmt::Write>(&self, f: &mut fmt::Formatter<W>) -> fmt::Result {
+        fmt::Display::fmt(&self.number, f)
+    }
+}
+
+/// The number in decimal digits.
+impl fmt::Debug for Goldilocks {
+    ghost use Rattle.std.specs.Prelude.{Some};
+    ghost use Rattle.std.specs.Fmt.{decimal};
+
+    ghost debug_output = { λ x. Some (decimal x.number) };
+
+    fn fmt<W: fmt::Write>(&self, f: &mut fmt::Formatter<W>) -> fmt::Result {
+        fmt::Debug::fmt(&self.number, f)
     }
 }
 
@@ -262,6 +319,18 @@ impl Field for Goldilocks {
     ghost can_neg_law = { λ _. tt };
 
     ghost neg_law = { λ a r h. residue-eq _ _ h };
+
+    ghost can_add_assign_law = { λ _ _. tt };
+
+    ghost add_assign_law = { λ a b r h. residue-eq _ _ h };
+
+    ghost can_sub_assign_law = { λ _ _. tt };
+
+    ghost sub_assign_law = { λ a b r h. residue-eq _ _ (difference_law _ _ _ _ h) };
+
+    ghost can_mul_assign_law = { λ _ _. tt };
+
+    ghost mul_assign_law = { λ a b r h. residue-eq _ _ h };
 
     ghost eq_law = { λ a b. eq_law _ _ };
 

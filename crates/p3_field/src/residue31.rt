@@ -8,8 +8,9 @@ use crate::packed::{Packable, Packed, PackedField, Products};
 use crate::residue31_x8::Residue31X8;
 use crate::two_adic::{CanonicalField, TwoAdicField};
 use std::alloc::AllocError;
+use std::fmt;
 use std::marker::PhantomData;
-use std::ops::{Add, Mul, Neg, Sub};
+use std::ops::{Add, AddAssign, Mul, MulAssign, Neg, Sub, SubAssign};
 
 /// The numbers that make a field: an odd modulus below `2^31` and above the sum of `2^30` and the
 /// remainder of `2^62` by it, a number with an inverse, and a root of one whose order is a power of
@@ -56,7 +57,7 @@ pub trait Numbers: Copy {
 }
 
 /// An integer modulo `N::MODULUS`, by its number below the modulus.
-#[derive_where(Copy, Debug, PartialEq, Eq, PartialOrd, Ord;)]
+#[derive_where(Copy, PartialEq, Eq, PartialOrd, Ord;)]
 pub struct Residue31<N: Numbers> {
     pub(crate) number: u32,
     #[derive_where(skip(EqHashOrd))]
@@ -143,6 +144,62 @@ impl<N: Numbers> Neg for Residue31<N> {
             },
             of: PhantomData,
         }
+    }
+}
+
+impl<N: Numbers> AddAssign for Residue31<N> {
+    ghost use Rattle.p3_field.specs.Residues.{IsSum};
+
+    ghost add_assign_gives = { λ a b r. IsSum N.numbers.modulus a.number b.number r.number };
+
+    fn add_assign(&mut self, other: Residue31<N>) {
+        *self = *self + other;
+    }
+}
+
+impl<N: Numbers> SubAssign for Residue31<N> {
+    ghost use Rattle.p3_field.specs.Residues.{IsDifference};
+
+    ghost sub_assign_gives = { λ a b r. IsDifference N.numbers.modulus a.number b.number r.number };
+
+    fn sub_assign(&mut self, other: Residue31<N>) {
+        *self = *self - other;
+    }
+}
+
+impl<N: Numbers> MulAssign for Residue31<N> {
+    ghost use Rattle.p3_field.specs.Residues.{IsProduct};
+
+    ghost mul_assign_gives = { λ a b r. IsProduct N.numbers.modulus a.number b.number r.number };
+
+    fn mul_assign(&mut self, other: Residue31<N>) {
+        *self = *self * other;
+    }
+}
+
+/// The number in decimal digits, with the options of a format as for a `u32`.
+impl<N: Numbers> fmt::Display for Residue31<N> {
+    ghost use Rattle.std.specs.Prelude.{Some};
+    ghost use Rattle.std.specs.Fmt.{decimal, styled_decimal};
+
+    ghost output = { λ x. Some (decimal x.number) };
+
+    ghost styled_output = { λ x s. Some (styled_decimal s x.number) };
+
+    fn fmt<W: fmt::Write>(&self, f: &mut fmt::Formatter<W>) -> fmt::Result {
+        fmt::Display::fmt(&self.number, f)
+    }
+}
+
+/// The number in decimal digits.
+impl<N: Numbers> fmt::Debug for Residue31<N> {
+    ghost use Rattle.std.specs.Prelude.{Some};
+    ghost use Rattle.std.specs.Fmt.{decimal};
+
+    ghost debug_output = { λ x. Some (decimal x.number) };
+
+    fn fmt<W: fmt::Write>(&self, f: &mut fmt::Formatter<W>) -> fmt::Result {
+        fmt::Debug::fmt(&self.number, f)
     }
 }
 
@@ -251,6 +308,18 @@ impl<N: Numbers> Field for Residue31<N> {
     ghost can_neg_law = { λ _. tt };
 
     ghost neg_law = { λ a r h. residue-eq _ _ h };
+
+    ghost can_add_assign_law = { λ _ _. tt };
+
+    ghost add_assign_law = { λ a b r h. residue-eq _ _ h };
+
+    ghost can_sub_assign_law = { λ _ _. tt };
+
+    ghost sub_assign_law = { λ a b r h. residue-eq _ _ (difference_law _ _ _ _ h) };
+
+    ghost can_mul_assign_law = { λ _ _. tt };
+
+    ghost mul_assign_law = { λ a b r h. residue-eq _ _ h };
 
     ghost eq_law = { λ a b. eq_law _ _ };
 
