@@ -1,8 +1,10 @@
+pub mod Accumulated
 pub mod Bezout
 pub mod LaneArithmetic
 pub mod LaneLoops
 pub mod Lists
 pub mod Parity
+pub mod PowerLists
 pub mod Powers
 pub mod ResidueLanes
 pub mod Residues

@@ -16,6 +16,10 @@ residue-eq {m} x y e =
     let residue : (n : ℕ) → n < m → Residue m = λ n h. record { number = n; below = h } in
     subst (λ (n : ℕ). (h : n < m) → x ≡ residue n h) e (λ h. ap (residue x.number) (le_prop x.below h)) y.below
 
+-- the residue of this number
+abbrev pub residue_at : (m n : ℕ) → n < m → Residue m
+residue_at m n below = record { number = n; below = below }
+
 -- r is the sum of a and b modulo m, and so on
 abbrev pub IsSum : ℕ → ℕ → ℕ → ℕ → Type 0
 IsSum m a b r = r ≡ (a + b) % m

@@ -1,9 +1,11 @@
 //! What a field is: its operations, and the laws that they obey.
 
-ghost use Rattle.std.specs.Prelude.{◌≡◌, ◌↔◌, ◌^◌, ℕ, IsTrue, IfSome, IsNone, MatchBool, is_some};
-ghost use Rattle.p3_field.specs.Ring.{Ring, minus, two, count, power, IsInverse, IsInvertible};
+ghost use Rattle.std.specs.Prelude.{◌≡◌, ◌↔◌, ◌^◌, ℕ, IsTrue, IfSome, IsNone, MatchBool, List, is_some, map};
+ghost use Rattle.p3_field.specs.Ring.{Ring, minus, two, count, power, sum_of, product_of, IsInverse, IsInvertible};
 
+use crate::power_iterator::Powers;
 use std::fmt::{Debug, Display};
+use std::iter::{Product, Sum};
 use std::ops::{Add, AddAssign, Mul, MulAssign, Neg, Sub, SubAssign};
 
 /// An element of a commutative ring with one in which halving is exact.
@@ -20,6 +22,8 @@ pub trait Field: Copy
     + AddAssign<Self>
     + SubAssign<Self>
     + MulAssign<Self>
+    + Sum<Self>
+    + Product<Self>
     + Debug
     + Display {
     // The values of elements.
@@ -81,7 +85,7 @@ pub trait Field: Copy
         ensures { ring.add (value result) (value result) ≡ value self };
 
     /// The product of the element and itself.
-    fn square(self) -> Self
+    final fn square(self) -> Self
         ensures { value result ≡ ring.mul (value self) (value self) }
     {
         self * self
@@ -122,6 +126,22 @@ pub trait Field: Copy
         product
     }
 
+    /// Its powers, without end: item i is the i-th power.
+    final fn powers(self) -> Powers<Self>
+        ensures base { result.base ≡ self }
+        ensures start { value result.current ≡ ring.one }
+    {
+        Powers::new(self, Self::ONE)
+    }
+
+    /// The products of `start` and its powers, without end: item i is that with the i-th power.
+    final fn shifted_powers(self, start: Self) -> Powers<Self>
+        ensures base { result.base ≡ self }
+        ensures start { result.current ≡ start }
+    {
+        Powers::new(self, start)
+    }
+
     /// The `2^n`-th power, by n squarings.
     fn exp_power_of_2(self, n: usize) -> Self
         ensures { value result ≡ power ring (value self) (2 ^ n) }
@@ -139,6 +159,27 @@ pub trait Field: Copy
 
     /// The element that is this many ones added up.
     fn from_u8(n: u8) -> Self
+        ensures { value result ≡ count ring n }
+    {
+        Self::from_usize(n as usize)
+    }
+
+    /// The element that is this many ones added up.
+    final fn from_u16(n: u16) -> Self
+        ensures { value result ≡ count ring n }
+    {
+        Self::from_usize(n as usize)
+    }
+
+    /// The element that is this many ones added up.
+    final fn from_u32(n: u32) -> Self
+        ensures { value result ≡ count ring n }
+    {
+        Self::from_usize(n as usize)
+    }
+
+    /// The element that is this many ones added up.
+    final fn from_u64(n: u64) -> Self
         ensures { value result ≡ count ring n }
     {
         Self::from_usize(n as usize)
@@ -209,6 +250,21 @@ pub trait Field: Copy
 
     ghost mul_assign_law: { (a b r : Self) → Self.mul_assign_gives a b r
         → value r ≡ ring.mul (value a) (value b) };
+
+    // Any elements of an iterator that ends have a sum and a product.
+    ghost can_sum_law: { (xs : List Self) → Self.can_sum xs };
+
+    ghost all_summed_law: { (r : Self) → Self.Sum.is_complete r };
+
+    ghost sum_law: { (xs : List Self) (r : Self) → Self.sum_gives xs r
+        → value r ≡ sum_of ring (map value xs) };
+
+    ghost can_product_law: { (xs : List Self) → Self.can_product xs };
+
+    ghost all_multiplied_law: { (r : Self) → Self.Product.is_complete r };
+
+    ghost product_law: { (xs : List Self) (r : Self) → Self.product_gives xs r
+        → value r ≡ product_of ring (map value xs) };
 
     // `==` is equality of values.
     ghost eq_law: { (a b : Self) → IsTrue (Self.eq a b) ↔ (value a ≡ value b) };

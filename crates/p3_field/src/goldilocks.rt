@@ -6,8 +6,10 @@ ghost use Rattle.p3_field.specs.Fields.{goldilocks_modulus};
 use crate::euclid::inverse_modulo;
 use crate::fields::Field;
 use crate::packed::{Packable, Packed, PackedField, Products};
+use crate::totals::{add_all, multiply_all};
 use crate::two_adic::{CanonicalField, TwoAdicField};
 use std::fmt;
+use std::iter::{Product, Sum};
 use std::ops::{Add, AddAssign, Mul, MulAssign, Neg, Sub, SubAssign};
 
 const MODULUS: u64 = 18446744069414584321;
@@ -147,6 +149,61 @@ impl MulAssign for Goldilocks {
 
     fn mul_assign(&mut self, other: Goldilocks) {
         *self = *self * other;
+    }
+}
+
+impl Sum<Goldilocks> for Goldilocks {
+    ghost use Rattle.std.specs.Prelude.{map};
+    ghost use Rattle.p3_field.specs.Fields.{goldilocks_ring};
+    ghost use Rattle.p3_field.specs.Residues.{residue_at};
+    ghost use Rattle.p3_field.specs.Ring.{sum_of};
+
+    ghost sum_gives = { λ xs r. residue_at goldilocks_modulus r.number r.below
+        ≡ sum_of goldilocks_ring (map (λ x. residue_at goldilocks_modulus x.number x.below) xs) };
+
+    fn sum<I: Iterator<Item = Goldilocks>>(iter: I) -> Goldilocks {
+        add_all(Goldilocks::ZERO, iter)
+    }
+}
+
+impl Product<Goldilocks> for Goldilocks {
+    ghost use Rattle.std.specs.Prelude.{map};
+    ghost use Rattle.p3_field.specs.Fields.{goldilocks_ring};
+    ghost use Rattle.p3_field.specs.Residues.{residue_at};
+    ghost use Rattle.p3_field.specs.Ring.{product_of};
+
+    ghost product_gives = { λ xs r. residue_at goldilocks_modulus r.number r.below
+        ≡ product_of goldilocks_ring (map (λ x. residue_at goldilocks_modulus x.number x.below) xs) };
+
+    fn product<I: Iterator<Item = Goldilocks>>(iter: I) -> Goldilocks {
+        multiply_all(Goldilocks::ONE, iter)
+    }
+}
+
+/// The element of this number.
+impl From<u8> for Goldilocks {
+    ghost from_gives = { λ n r. r.number ≡ n };
+
+    fn from(n: u8) -> Goldilocks {
+        Goldilocks { number: n as u64 }
+    }
+}
+
+/// The element of this number.
+impl From<u16> for Goldilocks {
+    ghost from_gives = { λ n r. r.number ≡ n };
+
+    fn from(n: u16) -> Goldilocks {
+        Goldilocks { number: n as u64 }
+    }
+}
+
+/// The element of this number.
+impl From<u32> for Goldilocks {
+    ghost from_gives = { λ n r. r.number ≡ n };
+
+    fn from(n: u32) -> Goldilocks {
+        Goldilocks { number: n as u64 }
     }
 }
 
@@ -331,6 +388,18 @@ impl Field for Goldilocks {
     ghost can_mul_assign_law = { λ _ _. tt };
 
     ghost mul_assign_law = { λ a b r h. residue-eq _ _ h };
+
+    ghost can_sum_law = { λ _. tt };
+
+    ghost all_summed_law = { λ _. tt };
+
+    ghost sum_law = { λ xs r h. h };
+
+    ghost can_product_law = { λ _. tt };
+
+    ghost all_multiplied_law = { λ _. tt };
+
+    ghost product_law = { λ xs r h. h };
 
     ghost eq_law = { λ a b. eq_law _ _ };
 

@@ -17,8 +17,10 @@ pub mod goldilocks;
 pub mod koala_bear;
 pub mod lanes;
 pub mod packed;
+pub mod power_iterator;
 pub mod residue31;
 pub mod residue31_x8;
+pub mod totals;
 pub mod two_adic;
 
 pub use algebra::{BasedVectorSpace, Coordinates};

@@ -6,9 +6,11 @@ use crate::euclid::inverse_modulo;
 use crate::fields::Field;
 use crate::packed::{Packable, Packed, PackedField, Products};
 use crate::residue31_x8::Residue31X8;
+use crate::totals::{add_all, multiply_all};
 use crate::two_adic::{CanonicalField, TwoAdicField};
 use std::alloc::AllocError;
 use std::fmt;
+use std::iter::{Product, Sum};
 use std::marker::PhantomData;
 use std::ops::{Add, AddAssign, Mul, MulAssign, Neg, Sub, SubAssign};
 
@@ -177,6 +179,70 @@ impl<N: Numbers> MulAssign for Residue31<N> {
     }
 }
 
+impl<N: Numbers> Sum<Residue31<N>> for Residue31<N> {
+    ghost use Rattle.std.specs.Prelude.{map};
+    ghost use Rattle.p3_field.specs.Fields.{field_ring};
+    ghost use Rattle.p3_field.specs.Residues.{residue_at};
+    ghost use Rattle.p3_field.specs.Ring.{sum_of};
+
+    ghost sum_gives = { λ xs r. residue_at N.numbers.modulus r.number r.below
+        ≡ sum_of (field_ring N.numbers) (map (λ x. residue_at N.numbers.modulus x.number x.below) xs) };
+
+    fn sum<I: Iterator<Item = Residue31<N>>>(iter: I) -> Residue31<N> {
+        add_all(
+            Residue31 {
+                number: 0,
+                of: PhantomData,
+            },
+            iter,
+        )
+    }
+}
+
+impl<N: Numbers> Product<Residue31<N>> for Residue31<N> {
+    ghost use Rattle.std.specs.Prelude.{map};
+    ghost use Rattle.p3_field.specs.Fields.{field_ring};
+    ghost use Rattle.p3_field.specs.Residues.{residue_at};
+    ghost use Rattle.p3_field.specs.Ring.{product_of};
+
+    ghost product_gives = { λ xs r. residue_at N.numbers.modulus r.number r.below
+        ≡ product_of (field_ring N.numbers) (map (λ x. residue_at N.numbers.modulus x.number x.below) xs) };
+
+    fn product<I: Iterator<Item = Residue31<N>>>(iter: I) -> Residue31<N> {
+        multiply_all(
+            Residue31 {
+                number: 1,
+                of: PhantomData,
+            },
+            iter,
+        )
+    }
+}
+
+/// The element of this number.
+impl<N: Numbers> From<u8> for Residue31<N> {
+    ghost from_gives = { λ n r. r.number ≡ n };
+
+    fn from(n: u8) -> Residue31<N> {
+        Residue31 {
+            number: n as u32,
+            of: PhantomData,
+        }
+    }
+}
+
+/// The element of this number.
+impl<N: Numbers> From<u16> for Residue31<N> {
+    ghost from_gives = { λ n r. r.number ≡ n };
+
+    fn from(n: u16) -> Residue31<N> {
+        Residue31 {
+            number: n as u32,
+            of: PhantomData,
+        }
+    }
+}
+
 /// The number in decimal digits, with the options of a format as for a `u32`.
 impl<N: Numbers> fmt::Display for Residue31<N> {
     ghost use Rattle.std.specs.Prelude.{Some};
@@ -320,6 +386,18 @@ impl<N: Numbers> Field for Residue31<N> {
     ghost can_mul_assign_law = { λ _ _. tt };
 
     ghost mul_assign_law = { λ a b r h. residue-eq _ _ h };
+
+    ghost can_sum_law = { λ _. tt };
+
+    ghost all_summed_law = { λ _. tt };
+
+    ghost sum_law = { λ xs r h. h };
+
+    ghost can_product_law = { λ _. tt };
+
+    ghost all_multiplied_law = { λ _. tt };
+
+    ghost product_law = { λ xs r h. h };
 
     ghost eq_law = { λ a b. eq_law _ _ };
 

@@ -1,0 +1,13 @@
+use Rattle.std.proofs.Common.{ℕ, ◌≡◌, ◌<◌, ◌≤◌, vec_len, vec_capacity, get_or}
+use Rattle.p3_field.specs.Ring.{power}
+use Rattle.p3_field.proofs.power_iterator.Powers.collect_n.Given as goal
+
+-- the first items are there, with room for the others, and the next one is at hand
+abbrev pub invariant-loop-i : goal.invariant-loop-i
+invariant-loop-i g l =
+    record {
+      long : vec_len l.powers ≡ l._i;
+      room : l.n ≤ vec_capacity l.powers;
+      next : g.F.Field.value l.current ≡ g.F.Field.ring.mul (g.F.Field.value l.initial.current) (power g.F.Field.ring (g.F.Field.value l.base) l._i);
+      filled : (j : ℕ) → j < l._i → g.F.Field.value (get_or l.powers.items j g.F.Field.ZERO) ≡ g.F.Field.ring.mul (g.F.Field.value l.initial.current) (power g.F.Field.ring (g.F.Field.value l.base) j);
+    }

@@ -1,0 +1,5 @@
+use Rattle.std.proofs.lemmas.Fn.{FoldsTo-push}
+use Rattle.p3_field.proofs.totals.add_all.Goals as goal
+
+pub loop-x-preserved : goal.loop-x-preserved
+loop-x-preserved g c = FoldsTo-push _ _ _ _ _ _ c.loop-x.invariant c.add-sum.ensures

@@ -1,0 +1,6 @@
+use Rattle.std.specs.List.{FoldsTo}
+use Rattle.p3_field.proofs.totals.multiply_all.Given as goal
+
+-- the operator took the first element through the items so far
+abbrev pub invariant-loop-x : goal.invariant-loop-x
+invariant-loop-x g l = FoldsTo g.A.Mul.mul_gives l.initial.product l.yielded l.product
