@@ -8,6 +8,7 @@
 #![tactic(auto)]
 
 pub mod closures;
+pub mod field_forms;
 pub mod inverses;
 pub mod low_degree;
 pub mod own_engine;
