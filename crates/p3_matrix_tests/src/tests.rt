@@ -12,6 +12,7 @@ mod butterflies;
 mod dense;
 mod error;
 mod evaluations;
+mod field_forms;
 mod fields;
 mod util;
 mod vectors;
