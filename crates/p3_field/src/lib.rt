@@ -6,7 +6,8 @@
 //! and `KoalaBear` are made of it. `Goldilocks` has a modulus below `2^64`. `PackedField` handles
 //! several scalars by one operation, as `Residue31X8` eight of a `Residue31`, and `Products` counts
 //! the products that were made, for contracts alone. `BasedVectorSpace` is what elements with
-//! coordinates are, as `Coordinates`.
+//! coordinates are, as `Coordinates`. `power_iterator` has the powers of an element, and `totals` what the
+//! sums and products of a new field can be made of.
 #![tactic(auto)]
 
 pub mod algebra;

@@ -1,7 +1,7 @@
 // Operators in place, sums, products, powers, numbers and printed elements: each at every field through its
 // bound, with values worked out by hand.
 
-use super::is;
+use super::{is, row};
 use p3_field::{BabyBear, CanonicalField, Field, Goldilocks, KoalaBear};
 use std::alloc::Global;
 use std::process::Abort;
@@ -20,12 +20,13 @@ fn changed_in_place<F: CanonicalField>(rt: &impl Abort) {
     has_number(rt, x.square(), 900);
 }
 
-fn totals<F: CanonicalField>(rt: &impl Abort) {
-    let elements = [F::TWO, F::from_u8(3), F::from_u8(5)];
-    has_number(rt, elements.iter().copied().sum::<F>(), 10);
-    has_number(rt, elements.iter().copied().product::<F>(), 30);
-    has_number(rt, elements[..0].iter().copied().sum::<F>(), 0);
-    has_number(rt, elements[..0].iter().copied().product::<F>(), 1);
+fn totals<F: CanonicalField>(rt: &impl Abort, alloc: Global) {
+    let elements: Vec<F> = row(rt, alloc, 3, 2, 1);
+    has_number(rt, elements.iter().copied().sum::<F>(), 9);
+    has_number(rt, elements.iter().copied().product::<F>(), 24);
+    let none: Vec<F> = row(rt, alloc, 0, 2, 1);
+    has_number(rt, none.iter().copied().sum::<F>(), 0);
+    has_number(rt, none.iter().copied().product::<F>(), 1);
 }
 
 // The first powers of three, and five times them.
@@ -48,21 +49,23 @@ fn numbers<F: CanonicalField>(rt: &impl Abort, below: u64, above: u64) {
     is(rt, F::invertible_generator(), F::GENERATOR);
 }
 
+// In a list, alone, and in three places.
 fn printed<F: CanonicalField>(rt: &impl Abort, alloc: Global, last: &str) {
-    let elements = [F::from_u8(9), F::from_u8(5)];
-    let text = format!(in alloc; "{elements:?}").expect(rt, "memory");
-    is(rt, text.as_str(), "[9, 5]");
+    let elements: Vec<F> = row(rt, alloc, 2, 9, 5);
+    let listed = elements.as_slice();
+    let text = format!(in alloc; "{listed:?}").expect(rt, "memory");
+    is(rt, text.as_str(), "[9, 14]");
     let minus_one = F::NEG_ONE;
     let text = format!(in alloc; "{minus_one}").expect(rt, "memory");
     is(rt, text.as_str(), last);
-    let five = elements[1];
+    let five = F::from_u8(5);
     let text = format!(in alloc; "{five:>3}").expect(rt, "memory");
     is(rt, text.as_str(), "  5");
 }
 
 fn agrees<F: CanonicalField>(rt: &impl Abort, alloc: Global, below: u64, above: u64, last: &str) {
     changed_in_place::<F>(rt);
-    totals::<F>(rt);
+    totals::<F>(rt, alloc);
     powers::<F>(rt, alloc);
     numbers::<F>(rt, below, above);
     printed::<F>(rt, alloc, last);
