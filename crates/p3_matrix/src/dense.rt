@@ -2,12 +2,15 @@
 
 ghost use Rattle.std.specs.Prelude.{◌≡◌, ◌+◌, ◌*◌, ◌/◌, ◌<◌, ◌≤◌, IfOk, length};
 ghost use Rattle.std.specs.Borrow.{sem};
+ghost use Rattle.std.specs.Iterator.Runs.{EveryRun, IsChunksExactRun};
+ghost use Rattle.std.specs.Slice.Iter.{chunks_exact_rest, chunks_exact_size, chunks_exact_steps};
 ghost use Rattle.p3_matrix.specs.RowMajor.{RowMajor, IsRowMajor, height, row, rows_from};
 
 use crate::error::DftError;
 use crate::views::{RowMajorMatrixView, RowMajorMatrixViewMut};
 use std::alloc::Global;
 use std::marker::Model;
+use std::slice::ChunksExact;
 
 /// A matrix of `height` rows of `width` entries, one row after the other. The width is at least
 /// one; the height may be zero.
@@ -131,6 +134,18 @@ impl<T> RowMajorMatrix<T> {
     {
         let start = i * self.width;
         &self.values[start..start + self.width]
+    }
+
+    /// The rows, one after another, each as its entries.
+    pub fn row_slices(&self) -> ChunksExact<'_, T>
+        ensures whole { IsRowMajor self.now }
+        ensures rest { chunks_exact_rest result ≡ self.now.values }
+        ensures size { chunks_exact_size result ≡ self.now.width }
+        ensures count { length (chunks_exact_rest result) / chunks_exact_size result ≡ height self.now }
+        ensures runs { EveryRun (chunks_exact_steps {A = T}) (λ p. 0 < chunks_exact_size p.from
+            → IsChunksExactRun p (chunks_exact_size p.from) (chunks_exact_rest p.from)) }
+    {
+        self.values.as_slice().chunks_exact(self.width)
     }
 
     /// The `count` rows from row `start` on, which the matrix has, lent for reading.

@@ -1,6 +1,7 @@
 // Callers that need no proof of their own to know all of the matrix afterwards.
 
 ghost use Rattle.std.specs.Prelude.{◌≡◌, length, slice_set};
+ghost use Rattle.p3_matrix.specs.RowMajor.{height};
 
 use super::{bytes, is};
 use p3_matrix::{RowMajorMatrix, RowMajorMatrixView, RowMajorMatrixViewMut, split_rows_mut};
@@ -79,6 +80,30 @@ fn twice<'a, T>(
     ensures { result ≡ (view.now, view.now) }
 {
     (view.as_view(), view.as_view())
+}
+
+// Whether a row begins with this entry, by the rows one after another.
+fn has_row_from(view: &RowMajorMatrixView<'_, u8>, first: u8) -> bool {
+    for row in view.row_slices() {
+        if row[0] == first {
+            return true;
+        }
+    }
+    false
+}
+
+fn rows_counted<T>(matrix: &RowMajorMatrix<T>) -> usize
+    ensures { result ≡ height matrix.now }
+{
+    matrix.row_slices().count()
+}
+
+#[test]
+fn rows_one_after_another(rt: HostRuntime) {
+    let matrix = written(&rt, rt.alloc());
+    let view = matrix.as_view();
+    is(&rt, (has_row_from(&view, 7), has_row_from(&view, 9)), (true, false));
+    is(&rt, rows_counted(&matrix), 3);
 }
 
 #[test]
