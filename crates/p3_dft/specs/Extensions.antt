@@ -3,7 +3,7 @@ use Rattle.std.specs.Prelude.{◌≡◌, ℕ, ◌+◌, ◌*◌, ◌^◌}
 use Rattle.p3_field.specs.declared.fields.Field.{Ghosts as FieldMembers}
 use Rattle.p3_matrix.specs.BitOrder.{bit_reversal}
 use Rattle.p3_matrix.specs.Matrix.{Matrix, Same}
-use Rattle.p3_matrix.specs.RowMajor.{RowMajor, IsRowMajor, height, with_zeros}
+use Rattle.p3_matrix.specs.RowMajor.{HasShapeOf, RowMajor, IsRowMajor, height, with_zeros}
 use Rattle.p3_matrix.specs.Cosets.{IsValues, AreCoefficients, values_of}
 use Rattle.p3_dft.specs.declared.traits.Layout.{Layout}
 use Rattle.p3_dft.specs.declared.traits.Layout.TheVariants.{Natural, BitReversed}
@@ -12,6 +12,14 @@ use Rattle.p3_dft.specs.declared.traits.Layout.TheVariants.{Natural, BitReversed
 abbrev pub arrangement : {E : Type 0} → Layout → ℕ → Matrix E → Matrix E
 arrangement Natural k m = m
 arrangement BitReversed k m = bit_reversal k m
+
+-- a transform may be called on every matrix of m's shape
+abbrev pub IsCallable : {F : Type 0} (m : RowMajor F) (may_be_called : RowMajor F → Type 0) → Type 0
+IsCallable {F} m may_be_called = (n : RowMajor F) → IsRowMajor n → HasShapeOf n m → may_be_called n
+
+-- and keeps that shape
+abbrev pub KeepsShape : {F : Type 0} (m : RowMajor F) (may_answer : RowMajor F → RowMajor F → Type 0) → Type 0
+KeepsShape {F} m may_answer = (n out : RowMajor F) → IsRowMajor n → HasShapeOf n m → may_answer n out → HasShapeOf out m
 
 module _ {F : Type 0} (f : FieldMembers F) (generator : ℕ → F) where
   -- row i of out has the values, at point i of the coset of s of 2 ^ a times as many points, of the polynomials whose values on the subgroup are the columns of m

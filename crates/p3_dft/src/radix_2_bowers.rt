@@ -68,9 +68,9 @@ impl Clone for Radix2Bowers {
 impl<F: TwoAdicField> TwoAdicSubgroupDft<F> for Radix2Bowers {
     ghost use Rattle.std.specs.Prelude.{◌≡◌, ⊤, ℕ, ◌+◌, ◌*◌, ◌/◌, ◌^◌, ◌≤◌, IfOk, IsOk, Ok};
     ghost use Rattle.std.proofs.Common.{refl, rules};
-    ghost use Rattle.p3_matrix.specs.RowMajor.{HasShapeOf, IsRowMajor, RowMajor, height};
+    ghost use Rattle.p3_matrix.specs.RowMajor.{height};
     ghost use Rattle.p3_dft.specs.Engines.{AtLog, IsLater, plain_facts};
-    ghost use Rattle.p3_dft.specs.Extensions.{IsExtension, IsTransformedExtension, extension_bound};
+    ghost use Rattle.p3_dft.specs.Extensions.{IsCallable, IsExtension, IsTransformedExtension, KeepsShape, extension_bound};
     ghost use Rattle.p3_dft.specs.Shapes.{FitsDft, FitsLde};
     ghost use Rattle.p3_dft.specs.Transforms.{IsInterpolation, IsTransform};
     ghost use Rattle.p3_dft.specs.declared.traits.Layout.TheVariants.{BitReversed};
@@ -154,8 +154,8 @@ impl<F: TwoAdicField> TwoAdicSubgroupDft<F> for Radix2Bowers {
         transform: T,
     ) -> Result<RowMajorMatrix<F>, DftError>
         requires fits { FitsLde F.TWO_ADICITY (height (N.stored mat)) (N.stored mat).width added_bits }
-        requires callable { (m : RowMajor F) → IsRowMajor m → HasShapeOf m (N.stored mat) → T.pre transform m BitReversed }
-        requires shape { (m n : RowMajor F) → IsRowMajor m → HasShapeOf m (N.stored mat) → T.post transform m BitReversed n → HasShapeOf n (N.stored mat) }
+        requires callable { IsCallable (N.stored mat) (λ m. T.pre transform m BitReversed) }
+        requires shape { KeepsShape (N.stored mat) (λ m n. T.post transform m BitReversed n) }
         ensures values { IfOk result (λ out. IsTransformedExtension F.Field.own F.generator
             (λ m n. T.post transform m BitReversed n) BitReversed (N.stored mat) added_bits (F.value shift) out) }
         ensures one_row { height (N.stored mat) ≡ 1 → added_bits ≡ 0 → IsOk result × (self.new ≡ self.old) }

@@ -118,10 +118,10 @@ impl<F: TwoAdicField> TwoAdicSubgroupDft<F> for Radix2DitParallel<F> {
     ghost use Rattle.std.specs.Prelude.{IfErr, IfOk, IsOk, OnOk, OnErr, Ok};
     ghost use Rattle.std.proofs.Common.{arith, refl};
     ghost use Rattle.p3_matrix.specs.BitOrder.{bit_reversal, reversed_rows};
-    ghost use Rattle.p3_matrix.specs.RowMajor.{HasShapeOf, IsRowMajor, RowMajor, height};
+    ghost use Rattle.p3_matrix.specs.RowMajor.{height};
     ghost use Rattle.p3_dft.specs.Engines.{AtLog, IsLater, IsCosetPrepared, IsPrepared, PreparesNoneAbove, plain_facts};
     ghost use Rattle.p3_networks.specs.Twiddles.{AddsCosets, HasCoset, HasCosets};
-    ghost use Rattle.p3_dft.specs.Extensions.{AreTransformedValues, IsTransformedExtension};
+    ghost use Rattle.p3_dft.specs.Extensions.{AreTransformedValues, IsCallable, IsTransformedExtension, KeepsShape};
     ghost use Rattle.p3_dft.specs.Blocks.{OnOutOfMemory, OnRefused, UnlessOutOfMemory};
     ghost use Rattle.p3_matrix.specs.Blocks.{IsPublished, IsRefused};
     ghost use Rattle.p3_matrix.specs.Matrix.{Matrix};
@@ -284,8 +284,8 @@ impl<F: TwoAdicField> TwoAdicSubgroupDft<F> for Radix2DitParallel<F> {
         transform: T,
     ) -> Result<BitReversedMatrixView<RowMajorMatrix<F>>, DftError>
         requires fits { FitsLde F.TWO_ADICITY (height (N.stored mat)) (N.stored mat).width added_bits }
-        requires callable { (m : RowMajor F) → IsRowMajor m → HasShapeOf m (N.stored mat) → T.pre transform m BitReversed }
-        requires shape { (m n : RowMajor F) → IsRowMajor m → HasShapeOf m (N.stored mat) → T.post transform m BitReversed n → HasShapeOf n (N.stored mat) }
+        requires callable { IsCallable (N.stored mat) (λ m. T.pre transform m BitReversed) }
+        requires shape { KeepsShape (N.stored mat) (λ m n. T.post transform m BitReversed n) }
         ensures values { IfOk result (λ out. IsTransformedExtension F.Field.own F.generator
             (λ m n. T.post transform m BitReversed n) BitReversed
             (N.stored mat) added_bits (F.value shift) (reversed_rows out.bits out.physical)) }
@@ -340,8 +340,8 @@ impl<F: TwoAdicField> TwoAdicSubgroupDft<F> for Radix2DitParallel<F> {
         make_consumer: M,
     ) -> Result<(BitReversedMatrixView<RowMajorMatrix<F>>, C), BlocksStopped<M, C, C::Refusal>>
         requires fits { FitsLde F.TWO_ADICITY (height (N.stored mat)) (N.stored mat).width added_bits }
-        requires callable { (m : RowMajor F) → IsRowMajor m → HasShapeOf m (N.stored mat) → T.pre transform m BitReversed }
-        requires shape { (m n : RowMajor F) → IsRowMajor m → HasShapeOf m (N.stored mat) → T.post transform m BitReversed n → HasShapeOf n (N.stored mat) }
+        requires callable { IsCallable (N.stored mat) (λ m. T.pre transform m BitReversed) }
+        requires shape { KeepsShape (N.stored mat) (λ m n. T.post transform m BitReversed n) }
         requires makes { AtLog (height (N.stored mat)) (λ k. M.pre make_consumer (2 ^ (k - (k + 1) / 2))) }
         ensures values { IfOk result (λ p. IsTransformedExtension F.Field.own F.generator
             (λ m n. T.post transform m BitReversed n) BitReversed

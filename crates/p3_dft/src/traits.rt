@@ -6,8 +6,10 @@ ghost use Rattle.p3_matrix.specs.Blocks.{IsPublished, IsRefused};
 ghost use Rattle.p3_matrix.specs.RowMajor.{HasShapeOf, IsRowMajor, RowMajor, height};
 ghost use Rattle.p3_dft.specs.Blocks.{IsNotOutOfMemory, OnOutOfMemory, OnRefused};
 ghost use Rattle.p3_dft.specs.Coordinates.{flat, flat_column};
-ghost use Rattle.p3_dft.specs.Engines.{AfterExtension, AfterExtensionByParts, AfterTransform, AtLog, EngineFacts, EngineLaws, HasProductsMore, one_column};
-ghost use Rattle.p3_dft.specs.Extensions.{AreExtendedValues, AreTransformedValues, IsExtension, IsTransformedExtension, arrangement};
+ghost use Rattle.p3_dft.specs.Engines.{AfterExtension, AfterExtensionByParts, AfterTransform, AtLog, EngineFacts};
+ghost use Rattle.p3_dft.specs.Engines.{EngineLaws, HasProductsMore, one_column};
+ghost use Rattle.p3_dft.specs.Extensions.{AreExtendedValues, AreTransformedValues, IsCallable, IsExtension};
+ghost use Rattle.p3_dft.specs.Extensions.{IsTransformedExtension, KeepsShape, arrangement};
 ghost use Rattle.p3_dft.specs.Shapes.{FitsDft, FitsLde};
 ghost use Rattle.p3_matrix.specs.Matrix.{Matrix, Same, matrix};
 ghost use Rattle.p3_field.specs.Ring.{IsInvertible};
@@ -149,8 +151,8 @@ pub trait TwoAdicSubgroupDft<F: TwoAdicField>: Clone + Default {
         transform: T,
     ) -> Result<Self::Evaluations, DftError>
         requires fits { FitsLde F.TWO_ADICITY (height (N.stored mat)) (N.stored mat).width added_bits }
-        requires callable { (m : RowMajor F) → IsRowMajor m → HasShapeOf m (N.stored mat) → T.pre transform m LAYOUT }
-        requires shape { (m n : RowMajor F) → IsRowMajor m → HasShapeOf m (N.stored mat) → T.post transform m LAYOUT n → HasShapeOf n (N.stored mat) }
+        requires callable { IsCallable (N.stored mat) (λ m. T.pre transform m LAYOUT) }
+        requires shape { KeepsShape (N.stored mat) (λ m n. T.post transform m LAYOUT n) }
         ensures values { IfOk result (λ out. IsTransformedExtension F.Field.own F.generator (λ m n. T.post transform m LAYOUT n) LAYOUT
             (N.stored mat) added_bits (F.value shift) (Self.Evaluations.natural out)) }
         ensures engine { AfterExtension facts self.old self.new (IsOk result) (N.stored mat) added_bits };
@@ -169,8 +171,8 @@ pub trait TwoAdicSubgroupDft<F: TwoAdicField>: Clone + Default {
         transform: T,
     ) -> Result<Self::Evaluations, DftError>
         requires fits { FitsLde F.TWO_ADICITY (height (N.stored mat)) (N.stored mat).width added_bits }
-        requires callable { (m : RowMajor F) → IsRowMajor m → HasShapeOf m (N.stored mat) → T.pre transform m LAYOUT }
-        requires shape { (m n : RowMajor F) → IsRowMajor m → HasShapeOf m (N.stored mat) → T.post transform m LAYOUT n → HasShapeOf n (N.stored mat) }
+        requires callable { IsCallable (N.stored mat) (λ m. T.pre transform m LAYOUT) }
+        requires shape { KeepsShape (N.stored mat) (λ m n. T.post transform m LAYOUT n) }
         ensures values { IfOk result (λ out. IsTransformedExtension F.Field.own F.generator (λ m n. T.post transform m LAYOUT n) LAYOUT
             (N.stored mat) added_bits (F.value shift) (Self.Evaluations.natural out)) }
         ensures engine { AfterExtensionByParts facts self.old self.new (IsOk result) (N.stored mat) added_bits }
@@ -196,8 +198,8 @@ pub trait TwoAdicSubgroupDft<F: TwoAdicField>: Clone + Default {
         transform: T,
     ) -> Result<BitReversedMatrixView<RowMajorMatrix<F>>, DftError>
         requires fits { FitsLde F.TWO_ADICITY (height (N.stored mat)) (N.stored mat).width added_bits }
-        requires callable { (m : RowMajor F) → IsRowMajor m → HasShapeOf m (N.stored mat) → T.pre transform m LAYOUT }
-        requires shape { (m n : RowMajor F) → IsRowMajor m → HasShapeOf m (N.stored mat) → T.post transform m LAYOUT n → HasShapeOf n (N.stored mat) }
+        requires callable { IsCallable (N.stored mat) (λ m. T.pre transform m LAYOUT) }
+        requires shape { KeepsShape (N.stored mat) (λ m n. T.post transform m LAYOUT n) }
         ensures values { IfOk result (λ out. IsTransformedExtension F.Field.own F.generator (λ m n. T.post transform m LAYOUT n) LAYOUT
             (N.stored mat) added_bits (F.value shift) (reversed_rows out.bits out.physical)) }
         ensures engine { AfterExtension facts self.old self.new (IsOk result) (N.stored mat) added_bits }
@@ -277,8 +279,8 @@ pub trait TwoAdicSubgroupDft<F: TwoAdicField>: Clone + Default {
         make_consumer: M,
     ) -> Result<(BitReversedMatrixView<RowMajorMatrix<F>>, C), BlocksStopped<M, C, C::Refusal>>
         requires fits { FitsLde F.TWO_ADICITY (height (N.stored mat)) (N.stored mat).width added_bits }
-        requires callable { (m : RowMajor F) → IsRowMajor m → HasShapeOf m (N.stored mat) → T.pre transform m LAYOUT }
-        requires shape { (m n : RowMajor F) → IsRowMajor m → HasShapeOf m (N.stored mat) → T.post transform m LAYOUT n → HasShapeOf n (N.stored mat) }
+        requires callable { IsCallable (N.stored mat) (λ m. T.pre transform m LAYOUT) }
+        requires shape { KeepsShape (N.stored mat) (λ m n. T.post transform m LAYOUT n) }
         requires makes { AtLog (height (N.stored mat)) (λ k. M.pre make_consumer (facts.block_rows k added_bits)) }
         ensures values { IfOk result (λ p. IsTransformedExtension F.Field.own F.generator (λ m n. T.post transform m LAYOUT n) LAYOUT
             (N.stored mat) added_bits (F.value shift) (reversed_rows p.0.bits p.0.physical)) }

@@ -8,7 +8,7 @@ ghost use Rattle.p3_matrix.specs.RowMajor.{HasShapeOf, IsRowMajor, RowMajor, hei
 ghost use Rattle.p3_matrix.specs.Cosets.{IsValues, values_of};
 ghost use Rattle.p3_networks.specs.Twiddles.{AddsCosets, HasCoset, HasCosets};
 ghost use Rattle.p3_dft.specs.Engines.{AtLog};
-ghost use Rattle.p3_dft.specs.Extensions.{IsAnswerOverZeros};
+ghost use Rattle.p3_dft.specs.Extensions.{IsAnswerOverZeros, IsCallable, KeepsShape};
 ghost use Rattle.p3_dft.specs.Shapes.{FitsLde};
 ghost use Rattle.p3_dft.specs.declared.traits.Layout.TheVariants.{BitReversed};
 
@@ -37,8 +37,8 @@ pub(crate) fn coefficients_with_room<
     products: &mut Products,
 ) -> Result<RowMajorMatrix<F>, DftError>
     requires fits { FitsLde F.TWO_ADICITY (height mat) mat.width added_bits }
-    requires callable { (m : RowMajor F) → IsRowMajor m → HasShapeOf m mat → T.pre transform m BitReversed }
-    requires shape { (m n : RowMajor F) → IsRowMajor m → HasShapeOf m mat → T.post transform m BitReversed n → HasShapeOf n mat }
+    requires callable { IsCallable mat (λ m. T.pre transform m BitReversed) }
+    requires shape { KeepsShape mat (λ m n. T.post transform m BitReversed n) }
     ensures answer { IfOk result (λ out.
         IsAnswerOverZeros F.Field.own F.generator (λ m n. T.post transform m BitReversed n) mat added_bits out) }
     ensures prepared { AtLog (height mat) (λ k. OnOk result (k ≤ tables.new)) }
