@@ -135,7 +135,7 @@ const FIRST_WORDS: [&str; 10] = [
 const FIRST_TEXT: &str = "9 5 0\n1 2013265920 0\n";
 
 #[test]
-fn answers(rt: HostRuntime) {
+fn every_operation_prints_its_rows(rt: HostRuntime) {
     let rows: [(&[&str], &str); 20] = [
         (&FIRST_WORDS, FIRST_TEXT),
         (
@@ -217,7 +217,7 @@ fn answers(rt: HostRuntime) {
 // Each operation by the engine with tables of cosets, over the larger field, and extensions by two others at
 // zero and on a coset.
 #[test]
-fn answers_over_goldilocks(rt: HostRuntime) {
+fn every_operation_answers_over_goldilocks(rt: HostRuntime) {
     let line = "9\n1125899906842629\n1\n18445618169507741702\n";
     let on_seven = "33\n7881299347898373\n18446744069414584298\n18438862770066685958\n";
     let rows: [(&[&str], &str); 9] = [
@@ -288,7 +288,7 @@ fn answers_over_goldilocks(rt: HostRuntime) {
 }
 
 #[test]
-fn faults(rt: HostRuntime) {
+fn the_first_fault_is_printed(rt: HostRuntime) {
     let unknown_field = "error 1: unknown field\n";
     let unknown_engine = "error 2: unknown engine\n";
     let unknown_operation = "error 3: unknown operation\n";
@@ -440,7 +440,7 @@ fn seven(rt: &impl Abort, alloc: Global, zeros: usize) -> String {
 }
 
 #[test]
-fn leading_zeros(rt: HostRuntime) {
+fn leading_zeros_are_read(rt: HostRuntime) {
     let seven = seven(&rt, rt.alloc(), 300);
     let words = ["babybear", "naive", "dft", "00001", seven.as_str()];
     let out = Stubborn::with_room(rt.alloc(), 1000);
@@ -457,7 +457,7 @@ fn fills(rt: &impl Abort, alloc: Global, room: usize) {
 }
 
 #[test]
-fn writers(rt: HostRuntime) {
+fn a_writer_gets_the_text_or_its_beginning(rt: HostRuntime) {
     let alloc = rt.alloc();
     let text = FIRST_TEXT.as_bytes();
     assert_eq!(rt; text.len(), 21);
@@ -493,7 +493,7 @@ fn leaves(rt: &impl Abort, alloc: Global, words: &[&[u8]], text: &[u8]) {
 
 // The program's own name is not read, and what is no UTF-8 is told the fault of its place.
 #[test]
-fn words_of_the_command_line(rt: HostRuntime) {
+fn invalid_utf8_is_a_fault_of_its_place(rt: HostRuntime) {
     let long = seven(&rt, rt.alloc(), 1000);
     let words: [&[u8]; 6] = [
         b"\xff",

@@ -510,7 +510,7 @@ fn answers_of_every_engine<F: CanonicalField>(rt: &impl Abort, alloc: Global, wo
 }
 
 #[test]
-fn worked_answers(rt: HostRuntime) {
+fn every_engine_answers_the_worked_numbers(rt: HostRuntime) {
     answers_of_every_engine::<BabyBear>(&rt, rt.alloc(), &OVER_BABY_BEAR);
     answers_of_every_engine::<Goldilocks>(&rt, rt.alloc(), &OVER_GOLDILOCKS);
 }
@@ -584,7 +584,7 @@ fn transforms_at<F: TwoAdicField>(rt: &impl Abort, alloc: Global, height: usize,
 }
 
 #[test]
-fn laws_of_transforms(rt: HostRuntime) {
+fn transforms_keep_their_laws(rt: HostRuntime) {
     for height in HEIGHTS {
         for width in WIDTHS {
             transforms_at::<BabyBear>(&rt, rt.alloc(), height, width);
@@ -702,12 +702,12 @@ fn same_as_sums_over<F: TwoAdicField>(rt: &impl Abort, alloc: Global) {
 }
 
 #[test]
-fn same_as_sums(rt: HostRuntime) {
+fn every_engine_agrees_with_naive_over_baby_bear(rt: HostRuntime) {
     same_as_sums_over::<BabyBear>(&rt, rt.alloc());
 }
 
 #[test]
-fn same_as_sums_over_goldilocks(rt: HostRuntime) {
+fn every_engine_agrees_with_naive_over_goldilocks(rt: HostRuntime) {
     same_as_sums_over::<Goldilocks>(&rt, rt.alloc());
 }
 
@@ -792,7 +792,7 @@ fn extensions_at<F: TwoAdicField>(
 }
 
 #[test]
-fn laws_of_extensions(rt: HostRuntime) {
+fn extensions_keep_their_laws(rt: HostRuntime) {
     for height in [1usize, 2, 4, 16] {
         for added_bits in [0usize, 1, 3] {
             extensions_at::<BabyBear>(&rt, rt.alloc(), height, added_bits);

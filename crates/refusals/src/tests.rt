@@ -445,21 +445,21 @@ fn work_rows<F: CanonicalField>(rt: &impl Abort, alloc: Global) {
 }
 
 #[test]
-fn worked_rows(rt: HostRuntime) {
+fn calls_answer_their_worked_rows(rt: HostRuntime) {
     work_rows::<BabyBear>(&rt, rt.alloc());
 }
 
 #[test]
-fn too_large_an_extension(rt: HostRuntime) {
+fn an_extension_above_all_memory_is_refused(rt: HostRuntime) {
     grow::<BabyBear, _>(&rt, rt.alloc());
 }
 
 #[test]
-fn too_little_memory(rt: HostRuntime) {
+fn every_call_answers_or_refuses_with_too_little_memory(rt: HostRuntime) {
     sweep_all::<BabyBear, _>(&rt, rt.alloc());
 }
 
 #[test]
-fn tables_and_answers_that_stay(rt: HostRuntime) {
+fn tables_and_answers_stay_after_a_refusal(rt: HostRuntime) {
     keep_rows::<BabyBear, _>(&rt, rt.alloc());
 }

@@ -220,7 +220,7 @@ fn same_as_over_the_field<F: TwoAdicField>(rt: &impl Abort, alloc: Global) {
 }
 
 #[test]
-fn same_in_dimension_one(rt: HostRuntime) {
+fn forms_in_dimension_one_are_the_calls(rt: HostRuntime) {
     same_as_over_the_field::<BabyBear>(&rt, rt.alloc());
     same_as_over_the_field::<Goldilocks>(&rt, rt.alloc());
 }
@@ -316,7 +316,7 @@ impl CallsTest<Goldilocks> for PairsOverGoldilocks {
 }
 
 #[test]
-fn coordinates_of_columns(rt: HostRuntime) {
+fn each_coordinate_is_transformed_alone(rt: HostRuntime) {
     calls_of_every_engine::<BabyBear, _, _>(&rt, rt.alloc(), &WorkedPairs);
     calls_of_every_engine::<BabyBear, _, _>(&rt, rt.alloc(), &EachAlone);
     calls_of_every_engine::<Goldilocks, _, _>(&rt, rt.alloc(), &PairsOverGoldilocks);
@@ -379,7 +379,7 @@ fn all_stay_prepared<F: TwoAdicField, T: CallsTest<F>>(rt: &impl Abort, alloc: G
 }
 
 #[test]
-fn stays_prepared(rt: HostRuntime) {
+fn forms_keep_prepared_heights(rt: HostRuntime) {
     all_stay_prepared::<BabyBear, _>(&rt, rt.alloc(), &EveryForm);
     all_stay_prepared::<BabyBear, _>(&rt, rt.alloc(), &WorkedPairs);
 }

@@ -410,7 +410,7 @@ fn published<F: CanonicalField>(rt: &impl Abort, alloc: Global, physical: [u64; 
 }
 
 #[test]
-fn published_blocks(rt: HostRuntime) {
+fn blocks_are_published_once_and_final(rt: HostRuntime) {
     published::<BabyBear>(&rt, rt.alloc(), [9, 1, 873820294, 1139445637]);
     let physical = [9, 1, 1125899906842629, 18445618169507741702];
     published::<Goldilocks>(&rt, rt.alloc(), physical);
@@ -425,7 +425,7 @@ fn sizes<F: CanonicalField>(rt: &impl Abort, alloc: Global) {
 }
 
 #[test]
-fn sizes_of_blocks(rt: HostRuntime) {
+fn blocks_have_the_promised_height(rt: HostRuntime) {
     sizes::<BabyBear>(&rt, rt.alloc());
     sizes::<Goldilocks>(&rt, rt.alloc());
 }

@@ -462,6 +462,6 @@ fn every_caller<F: CanonicalField>(rt: &impl Abort, alloc: Global) {
 }
 
 #[test]
-fn promises(rt: HostRuntime) {
+fn promised_calls_answer(rt: HostRuntime) {
     every_caller::<BabyBear>(&rt, rt.alloc());
 }

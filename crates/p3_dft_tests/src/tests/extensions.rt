@@ -144,7 +144,7 @@ fn moved_and_single<F: CanonicalField>(rt: &impl Abort, alloc: Global) {
 }
 
 #[test]
-fn moved_coefficients_and_single_rows(rt: HostRuntime) {
+fn moved_coefficients_and_single_rows_are_extended(rt: HostRuntime) {
     moved_and_single::<BabyBear>(&rt, rt.alloc());
 }
 
@@ -221,6 +221,6 @@ impl<F: CanonicalField> EngineTest<F> for NothingLent {
 }
 
 #[test]
-fn refused_memory(rt: HostRuntime) {
+fn nothing_is_lent_where_memory_is_refused(rt: HostRuntime) {
     on_every_engine::<BabyBear, _, _>(&rt, rt.alloc(), &NothingLent);
 }

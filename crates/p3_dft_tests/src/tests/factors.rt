@@ -200,7 +200,7 @@ fn factors_over<F: TwoAdicField>(rt: &impl Abort, alloc: Global) {
 }
 
 #[test]
-fn factors_over_both_fields(rt: HostRuntime) {
+fn factors_of_coefficients_meet_their_rows_in_each_layout(rt: HostRuntime) {
     factors_over::<BabyBear>(&rt, rt.alloc());
     factors_over::<Goldilocks>(&rt, rt.alloc());
 }

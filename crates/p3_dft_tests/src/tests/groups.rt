@@ -20,7 +20,7 @@ fn assert_groups(rt: &impl Abort, tile: usize, sizes: &[usize])
 }
 
 #[test]
-fn layers_on_the_whole(rt: HostRuntime) {
+fn groups_take_three_layers_and_then_the_rest(rt: HostRuntime) {
     assert_groups(&rt, 1, &[3, 3]);
     assert_groups(&rt, 6, &[3, 2]);
     assert_groups(&rt, 12, &[3, 1]);
@@ -29,7 +29,7 @@ fn layers_on_the_whole(rt: HostRuntime) {
 
 // A tile of each size has pieces of an eighth, and of one at least.
 #[test]
-fn pieces(rt: HostRuntime) {
+fn a_piece_is_an_eighth_of_a_tile(rt: HostRuntime) {
     for (tile, size) in [(1usize, 1usize), (6, 1), (12, 2), (192, 32), (8192, 1024)] {
         assert!(rt; piece_size(tile) == size);
     }

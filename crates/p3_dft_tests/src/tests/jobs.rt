@@ -161,7 +161,7 @@ fn refused_after<F: CanonicalField>(
 
 // Lists that begin with each kind, refused within each job.
 #[test]
-fn refused_jobs(rt: HostRuntime) {
+fn refused_jobs_leave_the_answers_before_them(rt: HostRuntime) {
     for first in 0..KINDS {
         for left in 0..9usize {
             refused_after::<BabyBear>(&rt, rt.alloc(), first, left);
@@ -224,6 +224,6 @@ fn lists<F: CanonicalField>(rt: &impl Abort, alloc: Global) {
 }
 
 #[test]
-fn jobs_in_order(rt: HostRuntime) {
+fn jobs_are_answered_in_order(rt: HostRuntime) {
     lists::<BabyBear>(&rt, rt.alloc());
 }

@@ -730,6 +730,6 @@ fn laws_over<F: CanonicalField>(rt: &impl Abort, alloc: Global) {
 }
 
 #[test]
-fn laws_of_two_calls(rt: HostRuntime) {
+fn two_calls_keep_their_laws(rt: HostRuntime) {
     laws_over::<BabyBear>(&rt, rt.alloc());
 }

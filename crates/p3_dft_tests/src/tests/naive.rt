@@ -31,7 +31,7 @@ fn over_the_smaller_field<F: CanonicalField>(rt: &impl Abort, alloc: Global) {
 }
 
 #[test]
-fn values_on_the_subgroup(rt: HostRuntime) {
+fn answers_values_on_the_subgroup(rt: HostRuntime) {
     over_the_smaller_field::<BabyBear>(&rt, rt.alloc());
     let values = [
         1,

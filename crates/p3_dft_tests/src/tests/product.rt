@@ -54,7 +54,7 @@ fn small_products_of<F: CanonicalField>(rt: &impl Abort, alloc: Global) {
 }
 
 #[test]
-fn products_over_baby_bear(rt: HostRuntime) {
+fn polynomials_multiply_over_baby_bear(rt: HostRuntime) {
     small_products_of::<BabyBear>(&rt, rt.alloc());
 }
 
@@ -81,6 +81,6 @@ fn large_products<F: CanonicalField>(rt: &impl Abort, alloc: Global) {
 }
 
 #[test]
-fn products_over_goldilocks(rt: HostRuntime) {
+fn polynomials_multiply_over_goldilocks(rt: HostRuntime) {
     large_products::<Goldilocks>(&rt, rt.alloc());
 }

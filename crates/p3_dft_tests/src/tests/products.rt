@@ -640,7 +640,7 @@ where
 type Counting<'a, const LANES: usize> = Tally<BabyBear, InPacks<'a, LANES>>;
 
 #[test]
-fn within_bounds_by_one_lane(rt: HostRuntime) {
+fn products_stay_within_bounds_by_one_lane(rt: HostRuntime) {
     let count = Cell::new(0);
     let mark = InPacks::of(&count);
     counts::<
@@ -652,7 +652,7 @@ fn within_bounds_by_one_lane(rt: HostRuntime) {
 }
 
 #[test]
-fn within_bounds_by_four_lanes(rt: HostRuntime) {
+fn products_stay_within_bounds_by_four_lanes(rt: HostRuntime) {
     let count = Cell::new(0);
     let mark = InPacks::of(&count);
     counts::<
@@ -664,7 +664,7 @@ fn within_bounds_by_four_lanes(rt: HostRuntime) {
 }
 
 #[test]
-fn within_bounds_by_eight_lanes(rt: HostRuntime) {
+fn products_stay_within_bounds_by_eight_lanes(rt: HostRuntime) {
     let count = Cell::new(0);
     let mark = InPacks::of(&count);
     counts::<

@@ -53,7 +53,7 @@ impl<F: CanonicalField> CallsTest<F> for LargeColumn {
 }
 
 #[test]
-fn values_of_the_larger_field(rt: HostRuntime) {
+fn answers_over_goldilocks(rt: HostRuntime) {
     on_dit::<Goldilocks, _, _>(&rt, rt.alloc(), &ByCalls { test: &LargeColumn });
 }
 
@@ -126,6 +126,6 @@ fn over_the_smaller_field<F: CanonicalField>(rt: &impl Abort, alloc: Global) {
 }
 
 #[test]
-fn values_and_prepared_heights(rt: HostRuntime) {
+fn a_transform_prepares_its_height(rt: HostRuntime) {
     over_the_smaller_field::<BabyBear>(&rt, rt.alloc());
 }

@@ -228,7 +228,7 @@ fn goes_by_halves<F: CanonicalField>(rt: &impl Abort, alloc: Global, worked: &Wo
 }
 
 #[test]
-fn rows_tables_and_blocks(rt: HostRuntime) {
+fn rows_tables_and_blocks_are_as_promised(rt: HostRuntime) {
     goes_by_halves::<BabyBear>(&rt, rt.alloc(), &OVER_BABY_BEAR);
     goes_by_halves::<Goldilocks>(&rt, rt.alloc(), &OVER_GOLDILOCKS);
 }

@@ -194,6 +194,6 @@ fn goes_by_tiles<F: CanonicalField>(rt: &impl Abort, alloc: Global) {
 }
 
 #[test]
-fn single_coefficients_and_heights(rt: HostRuntime) {
+fn heights_are_prepared_in_tiles_of_each_size(rt: HostRuntime) {
     goes_by_tiles::<BabyBear>(&rt, rt.alloc());
 }

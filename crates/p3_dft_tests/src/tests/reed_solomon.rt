@@ -251,7 +251,7 @@ fn words<F: CanonicalField>(rt: &impl Abort, alloc: Global, word: [u64; 4], shif
 }
 
 #[test]
-fn words_over_baby_bear(rt: HostRuntime) {
+fn words_are_told_from_others_over_baby_bear(rt: HostRuntime) {
     let word = [9, 873820294, 1, 1139445637];
     let shifted = [13, 1747640583, 2013265918, 265625348];
     words::<BabyBear>(&rt, rt.alloc(), word, shifted);
@@ -259,7 +259,7 @@ fn words_over_baby_bear(rt: HostRuntime) {
 
 // By sums over big integers.
 #[test]
-fn words_over_goldilocks(rt: HostRuntime) {
+fn words_are_told_from_others_over_goldilocks(rt: HostRuntime) {
     let word = [9, 1125899906842629, 1, 18445618169507741702];
     let shifted = [
         13,
@@ -297,6 +297,6 @@ fn within_each<F: CanonicalField>(rt: &impl Abort, alloc: Global) {
 }
 
 #[test]
-fn refused_words(rt: HostRuntime) {
+fn want_of_memory_leaves_the_code(rt: HostRuntime) {
     within_each::<BabyBear>(&rt, rt.alloc());
 }

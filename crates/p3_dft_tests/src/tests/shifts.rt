@@ -44,7 +44,7 @@ fn shifts<F: CanonicalField>(rt: &impl Abort, alloc: Global) {
 }
 
 #[test]
-fn three_rows(rt: HostRuntime) {
+fn rows_are_multiplied_by_powers_of_the_shift(rt: HostRuntime) {
     shifts::<BabyBear>(&rt, rt.alloc());
     shifts::<Goldilocks>(&rt, rt.alloc());
 }

@@ -26,7 +26,7 @@ fn one_is_one<F: Packable>(rt: &impl Abort) {
 }
 
 #[test]
-fn names_of_fields(rt: HostRuntime) {
+fn fields_are_named_by_p3_dft(rt: HostRuntime) {
     one_is_one::<Goldilocks>(&rt);
     assert!(rt; broadcast(Goldilocks::ONE) == Goldilocks::ONE);
 }
@@ -64,7 +64,7 @@ fn butterflies_and_scales<F: TwoAdicField + Packable>(rt: &impl Abort, alloc: Gl
 }
 
 #[test]
-fn names_of_butterflies_and_scales(rt: HostRuntime) {
+fn butterflies_are_named_by_p3_dft(rt: HostRuntime) {
     butterflies_and_scales::<BabyBear>(&rt, rt.alloc());
 }
 
@@ -87,7 +87,7 @@ fn rows_seen(view: BitReversedMatrixView<RowMajorMatrix<u8>>) -> usize {
 }
 
 #[test]
-fn names_of_views(rt: HostRuntime) {
+fn views_are_named_by_p3_dft(rt: HostRuntime) {
     let alloc = rt.alloc();
     let mut mat = RowMajorMatrix::new_col(vec![in alloc; 1u8, 2].expect(&rt, "memory"));
     assert!(rt; mat.height() == 2);
@@ -105,7 +105,7 @@ fn names_of_views(rt: HostRuntime) {
 }
 
 #[test]
-fn names_of_matrices(rt: HostRuntime) {
+fn matrices_are_named_by_p3_dft(rt: HostRuntime) {
     let alloc = rt.alloc();
     let mat = RowMajorMatrix::new_col(vec![in alloc; 1u8, 2].expect(&rt, "memory"));
     assert!(rt; first_natural(mat.try_clone().expect(&rt, "memory")) == Some(1));
@@ -114,7 +114,7 @@ fn names_of_matrices(rt: HostRuntime) {
 }
 
 #[test]
-fn names_of_orders(rt: HostRuntime) {
+fn orders_of_rows_are_named_by_p3_dft(rt: HostRuntime) {
     assert!(rt; log2_strict_usize(4) == 2);
     assert!(rt; reverse_bits_len(3, 3) == 6);
     let mut entries = vec![in rt.alloc(); 1u8, 2, 3, 4].expect(&rt, "memory");
@@ -124,7 +124,7 @@ fn names_of_orders(rt: HostRuntime) {
 
 // Packed values by their names.
 #[test]
-fn names_of_packed_values(rt: HostRuntime) {
+fn packed_values_are_named_by_p3_dft(rt: HostRuntime) {
     let three = BabyBear::from_u8(3);
     let mut lanes = [BabyBear::ZERO; 3];
     Lanes::<BabyBear, 3>::broadcast(three).store(&mut lanes);

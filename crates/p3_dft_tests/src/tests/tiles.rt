@@ -65,7 +65,7 @@ fn tiles_are_copied<F: CanonicalField, M: Packs<Tally<F, M>>>(
 }
 
 #[test]
-fn tile_of_a_copy(rt: HostRuntime) {
+fn a_clone_keeps_its_tile(rt: HostRuntime) {
     let count = Cell::new(0);
     let mark = InPacks::of(&count);
     tiles_are_copied::<BabyBear, InPacks<'_, 1>>(&rt, rt.alloc(), &count, mark);

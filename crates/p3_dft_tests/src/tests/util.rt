@@ -50,6 +50,6 @@ fn shapes_and_heights<F: CanonicalField>(rt: &impl Abort, alloc: Global) {
 }
 
 #[test]
-fn limits_and_heights(rt: HostRuntime) {
+fn shapes_fit_up_to_their_limits(rt: HostRuntime) {
     shapes_and_heights::<BabyBear>(&rt, rt.alloc());
 }

@@ -43,6 +43,6 @@ fn each_client<F: CanonicalField>(rt: &impl Abort, alloc: Global) {
 }
 
 #[test]
-fn whole_rows(rt: HostRuntime) {
+fn a_transform_is_told_whole_rows(rt: HostRuntime) {
     each_client::<BabyBear>(&rt, rt.alloc());
 }

@@ -24,7 +24,7 @@ fn in_dimension<const N: usize>(rt: &impl Abort, all: &[BabyBear])
 }
 
 #[test]
-fn coordinates(rt: HostRuntime) {
+fn coordinates_are_added_and_scaled(rt: HostRuntime) {
     let numbers = [1u8, 2, 3, 4, 5, 6, 7, 8].map(|n: u8| -> BabyBear { BabyBear::from_u8(n) });
     in_dimension::<1>(&rt, &numbers);
     in_dimension::<2>(&rt, &numbers);
@@ -37,14 +37,14 @@ fn coordinates(rt: HostRuntime) {
 }
 
 #[test]
-fn fields(rt: HostRuntime) {
+fn a_field_is_a_space_of_dimension_one(rt: HostRuntime) {
     there_and_back::<BabyBear, BabyBear>(&rt, [BabyBear::TWO].as_slice());
     there_and_back::<KoalaBear, KoalaBear>(&rt, [KoalaBear::TWO].as_slice());
     there_and_back::<Goldilocks, Goldilocks>(&rt, [Goldilocks::TWO].as_slice());
 }
 
 #[test]
-fn made_of_coordinates(rt: HostRuntime) {
+fn a_vector_is_made_of_its_coordinates(rt: HostRuntime) {
     let pair = Coordinates::new([BabyBear::ONE, BabyBear::TWO]);
     assert!(rt; pair.coordinate(0) == BabyBear::ONE);
     assert!(rt; pair.coordinate(1) == BabyBear::TWO);

@@ -280,7 +280,7 @@ fn packs_of<F: CanonicalField + Packable, P: PackedField<Scalar = F>>(
 }
 
 #[test]
-fn packs_of_other_widths(rt: HostRuntime) {
+fn packs_of_each_width_agree(rt: HostRuntime) {
     let alloc = rt.alloc();
     packs_of::<Goldilocks, Lanes<Goldilocks, 1>>(&rt, alloc);
     packs_of::<Goldilocks, Lanes<Goldilocks, 3>>(&rt, alloc);
@@ -326,7 +326,7 @@ fn rows_by_place<F: CanonicalField + Packable>(rt: &impl Abort, alloc: Global) {
 }
 
 #[test]
-fn twiddles_by_place(rt: HostRuntime) {
+fn twiddles_by_place_agree_with_single_ones(rt: HostRuntime) {
     rows_by_place::<BabyBear>(&rt, rt.alloc());
 }
 
@@ -389,7 +389,7 @@ fn counts<F: CanonicalField + Packable>(rt: &impl Abort, alloc: Global) {
 }
 
 #[test]
-fn products_of_rows(rt: HostRuntime) {
+fn products_of_rows_are_counted(rt: HostRuntime) {
     counts::<BabyBear>(&rt, rt.alloc());
 }
 

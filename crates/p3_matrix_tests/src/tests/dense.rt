@@ -4,7 +4,7 @@ use super::{bytes, is};
 use p3_matrix::RowMajorMatrix;
 
 #[test]
-fn shapes_and_rows(rt: HostRuntime) {
+fn shapes_and_rows_are_as_given(rt: HostRuntime) {
     let alloc = rt.alloc();
     let pairs = RowMajorMatrix::new(bytes(&rt, alloc, &[1, 2, 3, 4, 5, 6]), 2);
     is(&rt, (pairs.width(), pairs.height()), (2, 3));
@@ -15,7 +15,7 @@ fn shapes_and_rows(rt: HostRuntime) {
 }
 
 #[test]
-fn one_column_and_one_row(rt: HostRuntime) {
+fn one_column_and_one_row_are_matrices(rt: HostRuntime) {
     let alloc = rt.alloc();
     let pairs = RowMajorMatrix::new(bytes(&rt, alloc, &[1, 2, 3, 4, 5, 6]), 2);
     let mut sums = Vec::new(*pairs.allocator());

@@ -72,18 +72,18 @@ fn agrees<F: CanonicalField>(rt: &impl Abort, alloc: Global, below: u64, above: 
 }
 
 #[test]
-fn baby_bear(rt: HostRuntime) {
+fn baby_bear_has_the_forms_of_numbers(rt: HostRuntime) {
     agrees::<BabyBear>(&rt, rt.alloc(), 268435453, 268435454, "2013265920");
     has_number(&rt, BabyBear::from(7u8) + BabyBear::from(300u16), 307);
 }
 
 #[test]
-fn koala_bear(rt: HostRuntime) {
+fn koala_bear_has_the_forms_of_numbers(rt: HostRuntime) {
     agrees::<KoalaBear>(&rt, rt.alloc(), 33554429, 33554430, "2130706432");
 }
 
 #[test]
-fn goldilocks(rt: HostRuntime) {
+fn goldilocks_has_the_forms_of_numbers(rt: HostRuntime) {
     let last = "18446744069414584320";
     agrees::<Goldilocks>(&rt, rt.alloc(), 4294967295, 4294967296, last);
     let sum = Goldilocks::from(7u8) + Goldilocks::from(300u16) + Goldilocks::from(4294967295u32);

@@ -99,7 +99,7 @@ fn agrees<F: CanonicalField>(rt: &impl Abort, table: &Table) {
 }
 
 #[test]
-fn baby_bear(rt: HostRuntime) {
+fn baby_bear_computes_the_worked_numbers(rt: HostRuntime) {
     let table = Table {
         modulus: 2013265921,
         generator: 31,
@@ -114,7 +114,7 @@ fn baby_bear(rt: HostRuntime) {
 }
 
 #[test]
-fn koala_bear(rt: HostRuntime) {
+fn koala_bear_computes_the_worked_numbers(rt: HostRuntime) {
     let table = Table {
         modulus: 2130706433,
         generator: 3,
@@ -129,7 +129,7 @@ fn koala_bear(rt: HostRuntime) {
 }
 
 #[test]
-fn goldilocks(rt: HostRuntime) {
+fn goldilocks_computes_the_worked_numbers(rt: HostRuntime) {
     let table = Table {
         modulus: 18446744069414584321,
         generator: 7,
@@ -174,7 +174,7 @@ fn one_lane<F: CanonicalField + Packable>(rt: &impl Abort, alloc: Global, produc
 }
 
 #[test]
-fn lanes(rt: HostRuntime) {
+fn a_field_is_a_pack_of_one_lane(rt: HostRuntime) {
     let mut products = Products::new();
     let mut more = Products::new();
     one_lane::<BabyBear>(&rt, rt.alloc(), &mut products);
@@ -209,7 +209,7 @@ fn exchanges<F: CanonicalField, P: PackedField<Scalar = F>>(
 }
 
 #[test]
-fn pairs(rt: HostRuntime) {
+fn pairs_are_loaded_and_stored(rt: HostRuntime) {
     exchanges::<BabyBear, BabyBearX8>(&rt, rt.alloc(), 16);
     exchanges::<Goldilocks, Goldilocks>(&rt, rt.alloc(), 2);
     exchanges::<Goldilocks, Lanes<Goldilocks, 3>>(&rt, rt.alloc(), 6);
@@ -285,7 +285,7 @@ fn lanes_agree<N: Numbers>(rt: &impl Abort, table: &[(usize, usize, u64, u64, u6
 }
 
 #[test]
-fn eight_lanes(rt: HostRuntime) {
+fn eight_lanes_compute_as_single_elements(rt: HostRuntime) {
     lanes_agree::<BabyBearNumbers>(&rt, &vectors::BABY_BEAR);
     lanes_agree::<KoalaBearNumbers>(&rt, &vectors::KOALA_BEAR);
 }
