@@ -16,7 +16,7 @@ use p3_matrix::{
     BitReversedMatrixView, DftError, Evaluations, IntoRowMajorMatrix, RowMajorMatrix,
     log2_strict_usize, reverse_rows,
 };
-use p3_networks::radix_2_small_batch::groups::{log_tile_rows, piece_size};
+use p3_networks::radix_2_small_batch::groups::{TILE, log_tile_rows, piece_size};
 use p3_networks::radix_2_small_batch::networks::{
     dif_network, dit_network_to_reversed, extending_network, scaled_dif_network,
 };
@@ -25,9 +25,6 @@ use p3_networks::root_tables::RootTables;
 use p3_networks::twiddles::reversed_powers;
 use std::alloc::{AllocError, Global};
 use std::marker::Model;
-
-// How many elements a tile has where a caller does not say it: those of a small cache.
-const TILE: usize = 8192;
 
 /// Transforms by layers of butterflies, in place: those whose blocks are larger than a tile of rows on
 /// the whole matrix, in groups of three that go piece by piece, and all others tile by tile, so that a

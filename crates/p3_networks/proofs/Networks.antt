@@ -1,7 +1,6 @@
 -- The networks: what the rows hold after each layer, as formulas, and what takes them from one layer to the next.
 pub mod Cells
 pub mod CosetHalves
-pub mod Entries
 pub mod Formulas
 pub mod HighRows
 pub mod LowLayers

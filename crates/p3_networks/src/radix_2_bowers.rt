@@ -1,4 +1,5 @@
-//! The networks of Bowers: network G and G transposed.
+//! The networks of Bowers: network G and G transposed. Their layers go by tiles and groups, as those of
+//! `radix_2_small_batch` do.
 
 ghost use Rattle.std.specs.Prelude.{◌≡◌, ◌+◌, ◌*◌, ◌/◌, ◌-◌, ◌^◌, ◌<◌, ◌≤◌, length};
 ghost use Rattle.p3_field.specs.Ring.{power};
@@ -6,8 +7,8 @@ ghost use Rattle.p3_matrix.specs.BitOrder.{rev};
 ghost use Rattle.p3_networks.specs.Layers.{AreValuesOfRows};
 ghost use Rattle.p3_networks.specs.Twiddles.{AreTwiddles};
 
-use crate::butterfly_layers::layer;
-use crate::butterfly_layers::rules::{DifByBlock, DitByBlock};
+use crate::radix_2_small_batch::groups::{TILE, log_tile_rows, piece_size};
+use crate::radix_2_small_batch::networks::{dif_network, dit_network_to_reversed};
 use p3_field::{Products, TwoAdicField};
 
 /// Network G, from rows in bit reversed order to their values at the powers of the generator, in natural
@@ -33,48 +34,9 @@ pub fn network_g<F: TwoAdicField>(
     ensures grows { products.old ≤ products.new }
     ensures cost { products.new ≤ products.old + width * (log_h * 2 ^ log_h / 2) }
 {
-    // One column is made apart: where the width is known, no loop along a row is left.
-    if width == 1 {
-        layers_of_g(values, 1, log_h, twiddles, products);
-    } else {
-        layers_of_g(values, width, log_h, twiddles, products);
-    }
-}
-
-// The same. Inlined, so that a width that the caller names is known in all layers.
-#[inline(always)]
-fn layers_of_g<F: TwoAdicField>(
-    values: &mut [F],
-    width: usize,
-    log_h: usize,
-    twiddles: &[F],
-    products: &mut Products,
-)
-    requires wide { 1 ≤ width }
-    requires some { 1 ≤ log_h }
-    requires small { log_h < 64 }
-    requires rooted { log_h ≤ F.TWO_ADICITY }
-    requires height { length values.old ≡ 2 ^ log_h * width }
-    requires twiddles { AreTwiddles F.Field.own (2 ^ (log_h - 1))
-        (λ b. power F.ring (F.value (F.generator log_h)) (rev (log_h - 1) b)) twiddles.now }
-    ensures values { AreValuesOfRows F.Field.own width (2 ^ log_h) (rev log_h)
-        (λ r. power F.ring (F.value (F.generator log_h)) r) values.old values.new }
-    ensures grows { products.old ≤ products.new }
-    ensures cost { products.new ≤ products.old + width * (log_h * 2 ^ log_h / 2) }
-{
-    for l in 0..log_h {
-        let half = 1usize << l;
-        let blocks = 1usize << (log_h - 1 - l);
-        layer(
-            DifByBlock { twiddles },
-            values,
-            width,
-            half,
-            0,
-            blocks,
-            products,
-        );
-    }
+    let log_rows = log_tile_rows(TILE, width, log_h);
+    let piece = piece_size(TILE);
+    dif_network(twiddles, values, width, log_rows, log_h, piece, products);
 }
 
 /// Network G transposed, from rows in natural order to their values at the powers of the inverse of the
@@ -100,45 +62,7 @@ pub fn network_g_transposed<F: TwoAdicField>(
     ensures grows { products.old ≤ products.new }
     ensures cost { products.new ≤ products.old + width * (log_h * 2 ^ log_h / 2) }
 {
-    if width == 1 {
-        layers_of_g_transposed(values, 1, log_h, twiddles, products);
-    } else {
-        layers_of_g_transposed(values, width, log_h, twiddles, products);
-    }
-}
-
-// The same. Inlined as the layers of G are.
-#[inline(always)]
-fn layers_of_g_transposed<F: TwoAdicField>(
-    values: &mut [F],
-    width: usize,
-    log_h: usize,
-    twiddles: &[F],
-    products: &mut Products,
-)
-    requires wide { 1 ≤ width }
-    requires some { 1 ≤ log_h }
-    requires small { log_h < 64 }
-    requires rooted { log_h ≤ F.TWO_ADICITY }
-    requires height { length values.old ≡ 2 ^ log_h * width }
-    requires twiddles { AreTwiddles F.Field.own (2 ^ (log_h - 1))
-        (λ b. power F.ring (power F.ring (F.value (F.generator log_h)) (2 ^ log_h - 1)) (rev (log_h - 1) b)) twiddles.now }
-    ensures values { AreValuesOfRows F.Field.own width (2 ^ log_h) (λ q. q)
-        (λ r. power F.ring (power F.ring (F.value (F.generator log_h)) (2 ^ log_h - 1)) (rev log_h r)) values.old values.new }
-    ensures grows { products.old ≤ products.new }
-    ensures cost { products.new ≤ products.old + width * (log_h * 2 ^ log_h / 2) }
-{
-    for done in 0..log_h {
-        let half = 1usize << (log_h - 1 - done);
-        let blocks = 1usize << done;
-        layer(
-            DitByBlock { twiddles },
-            values,
-            width,
-            half,
-            0,
-            blocks,
-            products,
-        );
-    }
+    let log_rows = log_tile_rows(TILE, width, log_h);
+    let piece = piece_size(TILE);
+    dit_network_to_reversed(twiddles, values, width, log_rows, log_h, piece, products);
 }

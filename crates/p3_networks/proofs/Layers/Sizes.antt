@@ -1,6 +1,5 @@
 -- The sizes of a layer, as a program has them by shifts: l of k layers are done.
-use Rattle.std.proofs.Common.{◌≡◌, ℕ, ◌+◌, ◌*◌, ◌-◌, ◌%◌, ◌^◌, ◌<◌, ◌≤◌, List, length, take, drop, sym, ap, ◌∙◌, arith, lit≤}
-use Rattle.std.proofs.Math.Nat.{pow-le-pow_right}
+use Rattle.std.proofs.Common.{◌≡◌, ℕ, ◌+◌, ◌*◌, ◌-◌, ◌%◌, ◌^◌, ◌<◌, ◌≤◌, List, length, take, drop, sym, ap, ◌∙◌, arith}
 use Rattle.std.proofs.lemmas.Nat.{one_shl, pow_pos}
 use Rattle.p3_networks.proofs.Layers.Blocks.{halves_whole, blocks_whole}
 use Rattle.p3_matrix.proofs.Rows.Overwritten.{part_size}
@@ -29,13 +28,6 @@ cells_by_halves k l w below = ap (λ n. n * w) (sym (halves_whole k l below)) �
 
 pub cells_by_blocks : (k l w : ℕ) → l < k → 2 ^ k * w ≡ 2 ^ l * (2 * (2 ^ (k - 1 - l) * w))
 cells_by_blocks k l w below = ap (λ n. n * w) (sym (blocks_whole k l below)) ∙ omega arith
-
--- there are no more blocks than half the rows
-pub blocks_left : (k l : ℕ) → l < k → 2 ^ (k - 1 - l) ≤ 2 ^ (k - 1)
-blocks_left k l below = pow-le-pow_right {n = 2} (lit≤ tt) (omega arith)
-
-pub blocks_done : (k l : ℕ) → l < k → 2 ^ l ≤ 2 ^ (k - 1)
-blocks_done k l below = pow-le-pow_right {n = 2} (lit≤ tt) (omega arith)
 
 -- in tables one after another, that of layer l has its 2 ^ l entries
 pub layer_size : {T : Type 0} (xs : List T) (l : ℕ) → 2 * 2 ^ l - 1 ≤ length xs → length (take (2 ^ l) (drop (2 ^ l - 1) xs)) ≡ 2 ^ l

@@ -1,5 +1,5 @@
 -- One table for all layers: where its entries are those of the last layer, its first entries are those of each layer.
-use Rattle.std.proofs.Common.{◌≡◌, ℕ, zero, suc, ◌+◌, ◌*◌, ◌-◌, ◌/◌, ◌<◌, ◌≤◌, ◌^◌, List, length, get_or, take, false, sym, ap, ap₂, ◌∙◌, arith, rules, lit≤}
+use Rattle.std.proofs.Common.{◌≡◌, ℕ, zero, suc, ◌+◌, ◌*◌, ◌-◌, ◌/◌, ◌<◌, ◌≤◌, ◌^◌, List, length, get_or, take, false, sym, ap, ap₂, ◌∙◌, subst, arith, rules, lit≤}
 use Rattle.std.proofs.Math.Nat.{mul-le-mul_right, pow-le-pow_right}
 use Rattle.std.proofs.lemmas.List.{places}
 use Rattle.std.proofs.lemmas.Nat.{pow-add, pow_pos}
@@ -7,30 +7,43 @@ use Rattle.p3_field.specs.Ring.{power, AreRoots}
 use Rattle.p3_field.specs.declared.fields.Field.{Ghosts as FieldMembers}
 use Rattle.p3_field.proofs.Powers.{power-zero, power_of_one}
 use Rattle.p3_field.proofs.Rings
+use Rattle.p3_field.proofs.Roots.{root_strided}
 use Rattle.p3_matrix.specs.BitOrder.{rev}
 use Rattle.p3_matrix.proofs.BitReversal.{rev-block, rev_of_zero}
 use Rattle.p3_networks.proofs.Layers.Counts.{two_halves}
 use Rattle.p3_networks.specs.Twiddles.{AreBlockTwiddles, AreTwiddles, AreTwiddlesFromStart, block_powers}
-use Rattle.p3_networks.proofs.Networks.Entries.{turned_entry}
 
 module _ {F : Type 0} (f : FieldMembers F) (root : ℕ → f.Element) where
+  -- a power of a root is one of the root of a layer
+  layer_power : {bits : ℕ} → AreRoots f.ring bits root → (l m b : ℕ) → suc l + m ≤ bits → b < 2 ^ l → power f.ring (root (suc l + m)) (rev (l + m) b) ≡ power f.ring (root (suc l)) (rev l b)
+  layer_power G l m b within inside =
+      let first : b ≡ 0 * 2 ^ l + b = omega arith in
+      let digits : rev l b * 2 ^ m + rev m 0 ≡ rev l b * 2 ^ m = ap (λ x. rev l b * 2 ^ m + x) (rev_of_zero m) ∙ omega arith in
+      ap (power f.ring (root (suc l + m))) (ap (rev (l + m)) first ∙ rev-block l m 0 b inside ∙ digits) ∙ root_strided f.ring G (suc l) m (rev l b) within
+
   pub from_start : {bits : ℕ} → AreRoots f.ring bits root → (log : ℕ) (table : List F) → log ≤ bits → AreTwiddles f (2 ^ (log - 1)) (block_powers f root (log - 1)) table
       → AreTwiddlesFromStart f log (block_powers f root) table
   from_start G log table within are = record {
     size = λ l below. let rise : 2 ^ l ≤ 2 ^ (log - 1) = fewer l below in omega (arith, are.size, rise);
     entries = λ l b below inside.
         let rise : 2 ^ l ≤ 2 ^ (log - 1) = fewer l below in
-        let back : log - 1 - (log - 1 - l) ≡ l = omega (arith, below) in
-        let whole : log - 1 + 1 ≡ log = omega (arith, below) in
-        are.entries b (omega (arith, inside, rise))
-        ∙ ap (λ n. power f.ring (root n) (rev (log - 1) b)) whole
-        ∙ turned_entry f.ring G log (log - 1 - l) b within (omega (arith, below)) (omega (arith, inside, ap (λ n. 2 ^ n) back))
-        ∙ ap (λ n. power f.ring (root n) (rev (log - 1 - (log - 1 - l)) b)) (let e : suc (log - 1 - (log - 1 - l)) ≡ l + 1 = omega (arith, back) in e)
-        ∙ ap (λ n. power f.ring (root (l + 1)) (rev n b)) back;
+        let m = log - 1 - l in
+        let whole : log - 1 + 1 ≡ suc l + m = omega (arith, below) in
+        let digits : log - 1 ≡ l + m = omega (arith, below) in
+        are.entries b (omega (arith, inside, rise)) ∙ ap₂ (λ n u. power f.ring (root n) (rev u b)) whole digits
+        ∙ layer_power G l m b (omega (arith, within, below)) inside
+        ∙ ap (λ n. power f.ring (root n) (rev l b)) (let next : suc l ≡ l + 1 = omega arith in next);
   }
     where
       fewer : (l : ℕ) → l < log → 2 ^ l ≤ 2 ^ (log - 1)
       fewer l below = let less : l ≤ log - 1 = omega (arith, below) in pow-le-pow_right {n = 2} (lit≤ tt) less
+
+  -- the same of powers of the root of the whole
+  pub from_powers : {bits : ℕ} → AreRoots f.ring bits root → (log : ℕ) (table : List F) → 1 ≤ log → log ≤ bits → AreTwiddles f (2 ^ (log - 1)) (λ b. power f.ring (root log) (rev (log - 1) b)) table
+      → AreTwiddlesFromStart f log (block_powers f root) table
+  from_powers G log table some within are =
+      from_start G log table within
+      (subst (λ (n : ℕ). AreTwiddles f (2 ^ (log - 1)) (λ b. power f.ring (root n) (rev (log - 1) b)) table) (let whole : log ≡ log - 1 + 1 = omega (arith, some) in whole) are)
 
   -- powers that were made from a first one that is one
   pub powers_from_one : (n : ℕ) (one x : f.Element) (table : List F) → one ≡ f.ring.one → x ≡ root (n + 1)

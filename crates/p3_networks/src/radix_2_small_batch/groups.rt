@@ -12,6 +12,9 @@ use crate::butterfly_layers::Rule;
 use p3_field::{Products, TwoAdicField};
 use p3_matrix::log2_strict_usize;
 
+/// How many elements a tile has where a caller does not say it: those of a small cache.
+pub const TILE: usize = 8192;
+
 /// The logarithm of the number of rows of a tile of about `tile` elements: the least power of two that is
 /// not below the rows that fit into it, or the height if that is less. `tile` is at most `2^32`, and
 /// `width` at least one.
