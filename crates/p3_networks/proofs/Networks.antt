@@ -3,6 +3,7 @@ pub mod Cells
 pub mod CosetHalves
 pub mod Formulas
 pub mod HighRows
+pub mod LowHalves
 pub mod LowLayers
 pub mod LowRows
 pub mod Runs

@@ -6,15 +6,21 @@ ghost use Rattle.p3_matrix.specs.BitOrder.{rev};
 ghost use Rattle.p3_networks.specs.Layers.{AreValuesOfRows};
 ghost use Rattle.p3_networks.specs.Twiddles.{AreTwiddlesOfLayers, root_powers};
 
-use crate::butterfly_layers::layer;
-use crate::butterfly_layers::rules::DitByPlace;
+use crate::radix_2_dit_parallel::halves::{first_half, layer_by_place};
 use crate::twiddles::layer_twiddles;
 use p3_field::{Products, TwoAdicField};
 
+// Rows of at most so many elements are taken to stay in the second cache of a core, and go layer after
+// layer: 256 KiB over a field of 32 bits. With limits of 2^14 to 2^18 elements large transforms took the
+// same time within a few percent.
+const CACHED: usize = 65_536;
+
 /// All layers, from rows in bit reversed order to their values at the powers of the generator, in natural
 /// order. Layer l has `2^(log_h - 1 - l)` blocks of two halves of `2^l` rows. The twiddles are those of all
-/// layers, as `Twiddles` has them. Inlined, so that a width that the caller names is known in all layers.
-#[inline(always)]
+/// layers, as `Twiddles` has them.
+///
+/// Where the rows do not fit into the cache, each half of them, which is a network of its own, goes through
+/// all of its layers before the one that joins the two.
 pub fn dit_network_to_natural<F: TwoAdicField>(
     values: &mut [F],
     width: usize,
@@ -32,18 +38,13 @@ pub fn dit_network_to_natural<F: TwoAdicField>(
     ensures grows { products.old ≤ products.new }
     ensures count { products.new ≤ products.old + width * (log_h * 2 ^ log_h / 2) }
 {
-    for l in 0..log_h {
-        let half = 1usize << l;
-        let blocks = 1usize << (log_h - 1 - l);
-        let twiddles = layer_twiddles(twiddles, l);
-        layer(
-            DitByPlace { twiddles },
-            values,
-            width,
-            half,
-            0,
-            blocks,
-            products,
-        );
+    if log_h > 0 && values.len() > CACHED {
+        let (low, high) = values.split_at_mut(values.len() / 2);
+        dit_network_to_natural(low, width, log_h - 1, twiddles, products);
+        dit_network_to_natural(high, width, log_h - 1, twiddles, products);
+        let twiddles = layer_twiddles(twiddles, log_h - 1);
+        layer_by_place(twiddles, values, width, 1 << (log_h - 1), 1, products);
+    } else {
+        first_half(values, width, log_h, log_h, twiddles, products);
     }
 }

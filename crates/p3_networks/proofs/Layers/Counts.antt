@@ -90,6 +90,19 @@ halves_counted mid left k w scale is =
     together : (a b p : ℕ) → a * p + b * p ≡ (a + b) * p
     together a b p = omega arith
 
+-- two halves of 2 ^ k rows, and the layer that joins them
+pub joined_count : (k w before first second after : ℕ) → 0 < k → first ≤ before + w * ((k - 1) * 2 ^ (k - 1) / 2) → second ≤ first + w * ((k - 1) * 2 ^ (k - 1) / 2)
+    → after ≤ second + 1 * (1 * (2 ^ (k - 1) * w)) → after ≤ before + w * (k * 2 ^ k / 2)
+joined_count k w before first second after some low high layer =
+    let below : k - 1 + 1 - 1 ≡ k - 1 = omega arith in
+    let next : k - 1 + 1 ≡ k = omega (arith, some) in
+    let halves : 2 ^ 1 * ((k - 1) * 2 ^ (k - 1) / 2) ≡ (k - 1) * 2 ^ (k - 1) = half_of_runs (k - 1) 1 ∙ ap (λ n. (k - 1) * 2 ^ n) below in
+    let all : k * 2 ^ k / 2 ≡ (k - 1) * 2 ^ (k - 1) + 2 ^ (k - 1) =
+    half_count k ∙ ap (λ n. n * 2 ^ (k - 1)) (sym next) ∙ (let spread : (k - 1 + 1) * 2 ^ (k - 1) ≡ (k - 1) * 2 ^ (k - 1) + 2 ^ (k - 1) = omega arith in spread) in
+    let both : w * (2 ^ 1 * ((k - 1) * 2 ^ (k - 1) / 2)) ≡ w * ((k - 1) * 2 ^ (k - 1)) = ap (λ n. w * n) halves in
+    let whole : w * (k * 2 ^ k / 2) ≡ w * ((k - 1) * 2 ^ (k - 1) + 2 ^ (k - 1)) = ap (λ n. w * n) all in
+    omega (arith, low, high, layer, both, whole)
+
 -- what was counted twice: a product for each two cells and each layer
 pub counted_twice : (k w len before after : ℕ) → len ≡ 2 ^ k * w → 2 * after ≤ 2 * before + k * len → after ≤ before + w * (k * 2 ^ k / 2)
 counted_twice zero w len before after full twice = let none : w * (0 * 2 ^ 0 / 2) ≡ 0 = omega arith in omega (arith, twice, none)

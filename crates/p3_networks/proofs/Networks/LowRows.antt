@@ -1,11 +1,12 @@
 -- Low rows: t stands in the low l digits of a row's number, and j reversed in the m others. Decimation in time from reversed rows.
 use Rattle.std.proofs.Common.{◌≡◌, ℕ, suc, ◌+◌, ◌*◌, ◌<◌, ◌/◌, ◌%◌, ◌^◌, sym, ap, ap₂, ◌∙◌, arith, mod-eq_of_lt}
 use Rattle.std.proofs.lemmas.Nat.{div-mul-add, mod-mul-add}
-use Rattle.p3_field.specs.Ring.{Ring, AreRoots}
+use Rattle.p3_field.specs.Ring.{Ring, AreRoots, power}
 use Rattle.p3_matrix.specs.BitOrder.{rev}
 use Rattle.p3_matrix.specs.Butterflies.{dit_near, dit_far}
-use Rattle.p3_matrix.proofs.BitReversal.{rev-zero, rev-even, rev-odd}
+use Rattle.p3_matrix.proofs.BitReversal.{rev-block, rev-lt, rev-rev, rev-zero, rev-even, rev-odd}
 use Rattle.p3_matrix.specs.Polynomials.{poly}
+use Rattle.p3_matrix.proofs.Polynomials.ByIndex.{poly_same}
 use Rattle.p3_matrix.specs.Cosets.{point}
 use Rattle.p3_networks.proofs.Networks.Formulas.{Formula}
 use Rattle.p3_networks.proofs.Networks.Stages.{stage, twiddle, stage_start, stage_end, stage_near, stage_far}
@@ -44,6 +45,14 @@ module _ {A : Type 0} (R : Ring A) (g : ℕ → A) (s : A) where
   pub low_end : (l : ℕ) (c : ℕ → A) (r : ℕ) → r < 2 ^ l → low_row l 0 c r ≡ poly R (2 ^ l) c (point R g l s r)
   unfolding low_row
   low_end l c r h = ap₂ (stage R g s l 0 c) (rev-zero (r / 2 ^ l)) (mod-eq_of_lt h) ∙ stage_end R g s l c r
+
+  -- in the rows x a run of 2 ^ l of 2 ^ m ends as a network of its own on its rows
+  pub low_run : (l m : ℕ) (x : ℕ → A) (b t : ℕ) → b < 2 ^ m → t < 2 ^ l
+      → low_row l m (λ q. x (rev (m + l) q)) (b * 2 ^ l + t) ≡ poly R (2 ^ l) (λ q. x (b * 2 ^ l + rev l q)) (R.mul (power R s (2 ^ m)) (power R (g l) t))
+  unfolding low_row stage
+  low_run l m x b t run place =
+      held_low_at (stage R g s l m (λ q. x (rev (m + l) q))) l m b t place
+      ∙ poly_same R (2 ^ l) _ _ _ (λ q below. ap x (rev-block m l q (rev m b) (rev-lt m b) ∙ ap (λ n. n * 2 ^ l + rev l q) (rev-rev m b run)))
 
   -- one twiddle for a place in a block
   pub low_rows : {bits : ℕ} (G : AreRoots R bits g) (c : ℕ → A)

@@ -1,5 +1,5 @@
 -- Powers of the generators, or of their inverses, as the halves of a network on the subgroup take them.
-use Rattle.std.proofs.Common.{ℕ, ◌-◌, ◌≤◌, ◌^◌, List, Bool, true, false, sym, ap, ◌∙◌, arith}
+use Rattle.std.proofs.Common.{ℕ, ◌-◌, ◌≤◌, ◌^◌, List, Bool, true, false, sym, ap, ◌∙◌, subst, arith}
 use Rattle.p3_field.specs.Ring.{Ring, AreRoots, power}
 use Rattle.p3_field.specs.declared.fields.Field.{Ghosts as FieldMembers}
 use Rattle.p3_field.proofs.Rings
@@ -31,3 +31,10 @@ module _ {F : Type 0} (f : FieldMembers F) (generator : ℕ → F) where
               layer.entries t p ∙ sym (ap (λ x. f.ring.mul x power_is) (ap (λ x. power f.ring x (2 ^ (mid - 1 - l))) (power_of_one f.ring n) ∙ power_of_one f.ring (2 ^ (mid - 1 - l))) ∙ Rings.one-mul f.ring power_is);
         };
       }
+
+  -- and so for the generators themselves
+  pub subgroup_table : (log : ℕ) (xs : List F) → AreTwiddlesOfLayers f log (root_powers f generator false) xs
+      → AreTwiddlesOfLayers f log (coset_twiddles f (λ n. f.value (generator n)) f.ring.one log) xs
+  subgroup_table log xs table =
+      subst (λ (s : f.Element). AreTwiddlesOfLayers f log (coset_twiddles f (λ n. f.value (generator n)) s log) xs) (power_of_one f.ring 0)
+      (low_table false log log 0 xs (let all : log ≤ log = omega arith in all) table)

@@ -362,7 +362,7 @@ pub(crate) fn high_network<F: TwoAdicField>(
 // A layer by decimation in time in which row t of a block has twiddle t. Where twiddle 0 is one, its
 // rows are not multiplied.
 #[inline(always)]
-fn layer_by_place<F: TwoAdicField>(
+pub(crate) fn layer_by_place<F: TwoAdicField>(
     twiddles: &[F],
     values: &mut [F],
     width: usize,
