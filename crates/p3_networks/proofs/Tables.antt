@@ -1,6 +1,7 @@
 -- Tables of twiddles.
 pub mod BlockTables
 pub mod CosetTables
+pub mod CosetsApart
 pub mod FoundOne
 pub mod FromStart
 pub mod InversePowers

@@ -3,11 +3,13 @@
 ghost use Rattle.std.specs.Prelude.{◌≡◌, ◌⊎◌, ◌↔◌, ℕ, ◌+◌, ◌-◌, ◌^◌, ◌<◌, ◌≤◌, [], ◌∷◌, ◌++◌, length, get_or};
 ghost use Rattle.std.specs.Prelude.{IsTrue, IsOk, IfOk, OnOk, OnErr, IfSome, IsNone};
 ghost use Rattle.p3_networks.specs.Twiddles.{Coset, HasCoset, HasCosets, IsCosetAt, IsCosetOf, IsCosetTable};
-ghost use Rattle.p3_networks.specs.Twiddles.{AddsCosets};
+ghost use Rattle.p3_networks.specs.Twiddles.{AddsCosets, forward_root};
+ghost use Rattle.p3_matrix.specs.BitOrder.{rev};
+ghost use Rattle.p3_matrix.specs.Cosets.{point};
 
 use crate::twiddles::push_layer;
 use p3_field::{Field, TwoAdicField};
-use p3_matrix::DftError;
+use p3_matrix::{DftError, reverse_bits_len};
 use std::alloc::Global;
 use std::marker::Model;
 
@@ -84,6 +86,32 @@ fn coset_layers<F: TwoAdicField>(alloc: Global, log_h: usize, shift: F) -> Resul
     Ok(twiddles)
 }
 
+/// The shift of the coset of a slot: `shift` times a power of the generator of the larger order, whose
+/// exponent is the number of the slot in bit reversed order.
+pub(crate) fn slot_shift<F: TwoAdicField>(
+    log_h: usize,
+    added_bits: usize,
+    shift: F,
+    slot: usize,
+) -> F
+    requires within { log_h + added_bits ≤ F.TWO_ADICITY }
+    requires small { log_h + added_bits < 64 }
+    ensures { F.value result
+        ≡ point F.ring (forward_root F.Field.own F.generator) (log_h + added_bits) (F.value shift) (rev added_bits slot) }
+{
+    let root = F::two_adic_generator(log_h + added_bits);
+    shift * root.exp_u64(reverse_bits_len(slot, added_bits) as u64)
+}
+
+// How many slots have a coset that none before them has: all `2^added_bits`, but one where the shift is
+// zero, since all cosets of zero are one.
+fn slots_apart<F: TwoAdicField>(added_bits: usize, shift: F) -> usize
+    requires { added_bits < 64 }
+    ensures { ((F.value shift ≡ F.ring.zero) × (result ≡ 1)) ⊎ (¬ (F.value shift ≡ F.ring.zero) × (result ≡ 2 ^ added_bits)) }
+{
+    if shift.is_zero() { 1 } else { 1 << added_bits }
+}
+
 /// The tables of cosets, in the order in which they were made. A coset never has two.
 ///
 /// Contracts see a list of the cosets.
@@ -130,18 +158,31 @@ impl<F: TwoAdicField> CosetTables<F> {
         &self.as_slice()[place]
     }
 
-    // The place of the table of a coset, if it is there. A plain search: few are expected.
-    fn find(&self, log_h: usize, shift: F) -> Option<usize>
+    // The place of the table of a coset, if it lies in a place from `start` on that is below `end`.
+    fn find_within(&self, log_h: usize, shift: F, start: usize, end: usize) -> Option<usize>
+        requires { end ≤ length self.now }
         ensures some { IfSome result (IsCosetAt F.Field.own self.now log_h (F.value shift)) }
-        ensures none { IsNone result → ¬ (HasCoset F.Field.own self.now log_h (F.value shift)) }
+        ensures none { IsNone result → (i : ℕ) → start ≤ i → i < end → ¬ (IsCosetAt F.Field.own self.now log_h (F.value shift) i) }
     {
-        let tables = self.as_slice();
-        for i in 0..tables.len() {
-            if tables[i].is_of(log_h, shift) {
-                return Some(i);
+        for place in start..end {
+            if self.get(place).is_of(log_h, shift) {
+                return Some(place);
             }
         }
         None
+    }
+
+    // The place of the table of a coset, if it lies in a place below `end`. The search begins at `start` and
+    // goes round: tables that were made together lie one after another, and so they are asked for.
+    fn find(&self, log_h: usize, shift: F, start: usize, end: usize) -> Option<usize>
+        requires { end ≤ length self.now }
+        ensures some { IfSome result (IsCosetAt F.Field.own self.now log_h (F.value shift)) }
+        ensures none { IsNone result → (i : ℕ) → i < end → ¬ (IsCosetAt F.Field.own self.now log_h (F.value shift) i) }
+    {
+        if let Some(place) = self.find_within(log_h, shift, start, end) {
+            return Some(place);
+        }
+        self.find_within(log_h, shift, 0, start.min(end))
     }
 
     /// The place of the table of a coset, which is made unless it is there: then no memory is taken. The
@@ -155,7 +196,30 @@ impl<F: TwoAdicField> CosetTables<F> {
         ensures only { (self.new ≡ self.old) ⊎ (self.new ≡ self.old ++ record { log_h = log_h; shift = shift } ∷ []) }
         ensures refused { OnErr result (self.new ≡ self.old) }
     {
-        if let Some(place) = self.find(log_h, shift) {
+        let end = self.as_slice().len();
+        self.make_among(alloc, log_h, shift, 0, end)
+    }
+
+    // The same, of a coset whose table lies in no place from `end` on. The search begins at `start`.
+    fn make_among(
+        &mut self,
+        alloc: Global,
+        log_h: usize,
+        shift: F,
+        start: usize,
+        end: usize,
+    ) -> Result<usize, DftError>
+        requires within { log_h ≤ F.TWO_ADICITY }
+        requires small { log_h < 64 }
+        requires end { end ≤ length self.old }
+        requires others { (i : ℕ) → end ≤ i → ¬ (IsCosetAt F.Field.own self.old log_h (F.value shift) i) }
+        ensures made { IfOk result (IsCosetAt F.Field.own self.new log_h (F.value shift)) }
+        ensures ready { HasCoset F.Field.own self.old log_h (F.value shift) → IsOk result }
+        ensures once { HasCoset F.Field.own self.old log_h (F.value shift) → self.new ≡ self.old }
+        ensures only { (self.new ≡ self.old) ⊎ (self.new ≡ self.old ++ record { log_h = log_h; shift = shift } ∷ []) }
+        ensures refused { OnErr result (self.new ≡ self.old) }
+    {
+        if let Some(place) = self.find(log_h, shift, start, end) {
             return Ok(place);
         }
         let table = CosetTable::new(alloc, log_h, shift)?;
@@ -164,13 +228,13 @@ impl<F: TwoAdicField> CosetTables<F> {
         Ok(place)
     }
 
-    /// That of a coset that has one.
-    pub fn of_coset(&self, log_h: usize, shift: F) -> &CosetTable<F>
+    /// The place of the table of a coset that has one. The search begins at `start` and goes round.
+    pub fn place_of(&self, log_h: usize, shift: F, start: usize) -> usize
         requires { HasCoset F.Field.own self.now log_h (F.value shift) }
-        ensures { IsCosetOf F.Field.own log_h (F.value shift) result.now }
+        ensures { IsCosetAt F.Field.own self.now log_h (F.value shift) result }
     {
-        match self.find(log_h, shift) {
-            Some(place) => self.get(place),
+        match self.find(log_h, shift, start, self.as_slice().len()) {
+            Some(place) => place,
             None => unreachable!(),
         }
     }
@@ -194,11 +258,13 @@ impl<F: TwoAdicField> CosetTables<F> {
         ensures keeps { (k : ℕ) (s : F.Element) → HasCoset F.Field.own self.old k s → HasCoset F.Field.own self.new k s }
         ensures only { AddsCosets F.Field.own F.generator log_h added_bits (F.value shift) self.old self.new }
     {
-        let root = F::two_adic_generator(log_h + added_bits);
-        let mut coset = shift;
-        for _coset in 0..1usize << added_bits {
-            self.make(alloc, log_h, coset)?;
-            coset = coset * root;
+        // The tables that are made here are of other cosets, and are not searched.
+        let there = self.as_slice().len();
+        let slots = slots_apart(added_bits, shift);
+        let mut place = 0;
+        for slot in 0..slots {
+            let coset = slot_shift(log_h, added_bits, shift, slot);
+            place = self.make_among(alloc, log_h, coset, place, there)?;
         }
         Ok(())
     }

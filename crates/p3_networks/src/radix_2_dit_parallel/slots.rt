@@ -11,15 +11,15 @@ ghost use Rattle.p3_matrix.specs.Cosets.{point};
 ghost use Rattle.p3_networks.specs.Layers.{AreValuesOfRows};
 ghost use Rattle.p3_matrix.specs.Polynomials.{poly};
 ghost use Rattle.p3_networks.specs.Slots.{extended_rows, slot_block, slot_blocks};
-ghost use Rattle.p3_networks.specs.Twiddles.{AreBlockTwiddles, HasCoset, HasCosets, IsCosetOf, block_end, forward_root};
+ghost use Rattle.p3_networks.specs.Twiddles.{AreBlockTwiddles, HasCoset, HasCosets, IsCosetAt, block_end, forward_root};
 
-use crate::radix_2_dit_parallel::coset_tables::{CosetTable, CosetTables};
+use crate::radix_2_dit_parallel::coset_tables::{CosetTable, CosetTables, slot_shift};
 use crate::radix_2_dit_parallel::halves::{
     BlockTwiddles, first_half, first_half_from, high_network,
 };
 use p3_field::{Field, Products, TwoAdicField};
 use p3_matrix::bitrev::reverse_runs;
-use p3_matrix::{BlockConsumer, RowMajorMatrixView, reverse_bits_len};
+use p3_matrix::{BlockConsumer, RowMajorMatrixView};
 
 /// From coefficients in bit reversed order, which are the first slot, their values on the coset of `shift` of
 /// order `2^(log_h + added_bits)`, in bit reversed order. Slot m is the coset of `shift` times the power
@@ -58,8 +58,10 @@ pub fn extend_slots<F: TwoAdicField, C: BlockConsumer<F>>(
     let slots = 1usize << added_bits;
     let size = values.len() / slots;
     let (coefficients, others) = values.split_at_mut(size);
+    let mut found = 0;
     for place in 0..slots - 1 {
-        let table = table_of_slot(cosets, log_h, added_bits, shift, place + 1);
+        found = place_of_slot(cosets, log_h, added_bits, shift, place + 1, found);
+        let table = cosets.get(found);
         let start = place * size;
         let slot = &mut others[start..start + size];
         let first_row = (place + 1) << log_h;
@@ -76,28 +78,29 @@ pub fn extend_slots<F: TwoAdicField, C: BlockConsumer<F>>(
             return Err(refusal);
         }
     }
-    let table = table_of_slot(cosets, log_h, added_bits, shift, 0);
+    let found = place_of_slot(cosets, log_h, added_bits, shift, 0, found);
+    let table = cosets.get(found);
     evaluate_in_place(coefficients, width, log_h, table, 0, consumer, products)
 }
 
-// The table of the coset of a slot.
-fn table_of_slot<'a, F: TwoAdicField>(
-    cosets: &'a CosetTables<F>,
+// The place of the table of a slot's coset. The search begins at `start`.
+fn place_of_slot<F: TwoAdicField>(
+    cosets: &CosetTables<F>,
     log_h: usize,
     added_bits: usize,
     shift: F,
     slot: usize,
-) -> &'a CosetTable<F>
+    start: usize,
+) -> usize
     requires within { log_h + added_bits ≤ F.TWO_ADICITY }
     requires small { log_h + added_bits < 64 }
     requires there { HasCoset F.Field.own cosets.now log_h
         (point F.ring (forward_root F.Field.own F.generator) (log_h + added_bits) (F.value shift) (rev added_bits slot)) }
-    ensures { IsCosetOf F.Field.own log_h
-        (point F.ring (forward_root F.Field.own F.generator) (log_h + added_bits) (F.value shift) (rev added_bits slot)) result.now }
+    ensures { IsCosetAt F.Field.own cosets.now log_h
+        (point F.ring (forward_root F.Field.own F.generator) (log_h + added_bits) (F.value shift) (rev added_bits slot)) result }
 {
-    let root = F::two_adic_generator(log_h + added_bits);
-    let turn = root.exp_u64(reverse_bits_len(slot, added_bits) as u64);
-    cosets.of_coset(log_h, shift * turn)
+    let coset = slot_shift(log_h, added_bits, shift, slot);
+    cosets.place_of(log_h, coset, start)
 }
 
 // From coefficients in bit reversed order, which lie in another slice, their values on the coset that a

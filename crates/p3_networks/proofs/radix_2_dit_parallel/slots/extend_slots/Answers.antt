@@ -22,12 +22,13 @@ use Rattle.p3_networks.proofs.Networks.Slots.{rows_of_slots, slot_room, slot_siz
 use Rattle.p3_matrix.proofs.Polynomials.ByIndex.{poly_same}
 use Rattle.p3_networks.proofs.Rows.Lent.{run_joined}
 use Rattle.p3_matrix.proofs.Rows.Overwritten.{part-more, rows-none}
+use Rattle.p3_networks.proofs.Tables.CosetTables.{coset_read}
 use Rattle.p3_networks.proofs.Tables.RootPowers.{fewer_roots}
 use Rattle.p3_networks.proofs.Networks.SlotPlaces.{first_ends, blocks_whole, slot_row, front_poly, slot_entry, last_slot, others_room, not_last, slot_fits, slot_ends, blocks_more, blocks_all, refused_later, refused_first}
 use Rattle.p3_networks.proofs.radix_2_dit_parallel.slots.extend_slots.Goals as goal
 
-pub table_of_slot-table-requires-clause-there : goal.table_of_slot-table-requires-clause-there
-table_of_slot-table-requires-clause-there g c = c.requires.tables (rev c.args.added_bits (c.loop-place.place + 1)) (rev-lt c.args.added_bits (c.loop-place.place + 1))
+pub place_of_slot-found-requires-clause-there : goal.place_of_slot-found-requires-clause-there
+place_of_slot-found-requires-clause-there g c = c.requires.tables (rev c.args.added_bits (c.loop-place.place + 1)) (rev-lt c.args.added_bits (c.loop-place.place + 1))
 
 pub overflow_mul-start : goal.overflow_mul-start
 overflow_mul-start g c =
@@ -65,6 +66,12 @@ slice_bounds-slot-end g c =
     let is = slot_size len k a c.args.width c.requires.small c.requires.height in
     let room = slot_room c.loop-place.place a (2 ^ k * c.args.width) len (not_last c.loop-place.place _ a (second_shift k a c.requires.small) c.loop-place-test.true) (c.requires.height ∙ slots_whole k a c.args.width) in
     rw is (omega (arith, room, is, c.loop-place.auto.others, c.split_at_mut-coefficients.ensures.back_len))
+
+pub evaluate_from-requires-clause-table : goal.evaluate_from-requires-clause-table
+evaluate_from-requires-clause-table g c =
+    let field = g.F.Field in
+    (coset_read field c.args.cosets.now c.args.log_h c.place_of_slot-found.result
+    (point field.ring (forward_root field g.F.TwoAdicField.generator) (c.args.log_h + c.args.added_bits) (field.value c.args.shift) (rev c.args.added_bits (c.loop-place.place + 1))) c.get-table.result.now c.get-table.ensures c.place_of_slot-found.ensures).0
 
 pub evaluate_from-requires-clause-source : goal.evaluate_from-requires-clause-source
 evaluate_from-requires-clause-source g c =
@@ -116,7 +123,7 @@ loop-place-preserved g c =
           (λ u inside t j p q at.
           ap (λ n. field.value (get_or c.evaluate_from.new.values n field.ZERO)) at ∙ c.in_default.ensures.accepted.0 t j p q
           ∙ ap (poly field.ring (2 ^ k) (λ q. field.value (get_or coefficients (rev k q * w + j) field.ZERO)))
-          (ap (λ x. point field.ring gen k x (rev k t)) c.table_of_slot-table.ensures.1 ∙ slot_point field.ring roots s k a (place + 1) t (omega arith) p))
+          (ap (λ x. point field.ring gen k x (rev k t)) (coset_read field c.args.cosets.now k c.place_of_slot-found.result (point field.ring (forward_root field g.F.TwoAdicField.generator) (k + a) s (rev a (place + 1))) c.get-table.result.now c.get-table.ensures c.place_of_slot-found.ensures).1 ∙ slot_point field.ring roots s k a (place + 1) t (omega arith) p))
           c.loop-place.invariant.slots;
       told =
           subst (λ blocks. Run g.C.BlockConsumer.step c.args.consumer.now blocks c.evaluate_from.new.consumer)
@@ -161,11 +168,17 @@ returns-in-Err-clause-refused g c =
     (c.evaluate_from.auto.values ∙ part_length c.loop-place.others (place * whole) whole fits) within (slot_row place k a below c.requires.small)
     (λ p t j less small inside. c.loop-place.invariant.slots.done p (t * w + j) less (row_below t j w (2 ^ k) small inside) t j small inside refl ∙ front_poly field k w c.args.values.now coefficients back split source _ j inside)
     (λ t j less small inside. done t j less inside
-    ∙ slot_entry field g.F.TwoAdicField.generator k a w s c.args.values.now coefficients back split source roots _ (place + 1) t j c.table_of_slot-table.ensures.1 small inside)
+    ∙ slot_entry field g.F.TwoAdicField.generator k a w s c.args.values.now coefficients back split source roots _ (place + 1) t j (coset_read field c.args.cosets.now k c.place_of_slot-found.result (point field.ring (forward_root field g.F.TwoAdicField.generator) (k + a) s (rev a (place + 1))) c.get-table.result.now c.get-table.ensures c.place_of_slot-found.ensures).1 small inside)
     c.loop-place.invariant.told stopped
 
-pub table_of_slot-table-requires-2-clause-there : goal.table_of_slot-table-requires-2-clause-there
-table_of_slot-table-requires-2-clause-there g c = c.requires.tables (rev c.args.added_bits 0) (rev-lt c.args.added_bits 0)
+pub place_of_slot-found-requires-2-clause-there : goal.place_of_slot-found-requires-2-clause-there
+place_of_slot-found-requires-2-clause-there g c = c.requires.tables (rev c.args.added_bits 0) (rev-lt c.args.added_bits 0)
+
+pub evaluate_in_place-requires-clause-table : goal.evaluate_in_place-requires-clause-table
+evaluate_in_place-requires-clause-table g c =
+    let field = g.F.Field in
+    (coset_read field c.args.cosets.now c.args.log_h c.place_of_slot-found-2.result
+    (point field.ring (forward_root field g.F.TwoAdicField.generator) (c.args.log_h + c.args.added_bits) (field.value c.args.shift) (rev c.args.added_bits 0)) c.get-table-2.result.now c.get-table-2.ensures c.place_of_slot-found-2.ensures).0
 
 pub evaluate_in_place-requires-clause-height : goal.evaluate_in_place-requires-clause-height
 evaluate_in_place-requires-clause-height g c =
@@ -197,7 +210,7 @@ returns-clause-values g c =
     let whole : 0 * 2 ^ k + t ≡ t = omega arith in
     given.0 t j p inside ∙ same _ j inside
     ∙ ap (poly field.ring (2 ^ k) (λ u. field.value (get_or c.args.values.now (rev k u * w + j) field.ZERO)))
-    (ap (λ x. point field.ring gen k x (rev k t)) c.table_of_slot-table-2.ensures.1 ∙ slot_point field.ring roots s k a 0 t (omega arith) p
+    (ap (λ x. point field.ring gen k x (rev k t)) (coset_read field c.args.cosets.now k c.place_of_slot-found-2.result (point field.ring (forward_root field g.F.TwoAdicField.generator) (k + a) s (rev a 0)) c.get-table-2.result.now c.get-table-2.ensures c.place_of_slot-found-2.ensures).1 ∙ slot_point field.ring roots s k a 0 t (omega arith) p
     ∙ ap (λ n. point field.ring gen (k + a) s (rev (k + a) n)) whole))
     (λ p t j below q inside.
     c.loop-place.invariant.slots.done p (t * w + j) (omega (arith, below, second_shift k a c.requires.small, c.loop-place-test.false)) (row_below t j w (2 ^ k) q inside) t j q inside refl
@@ -250,7 +263,7 @@ returns-clause-refused g c =
     g.C.BlockConsumer.step place m c.loop-place.others c.evaluate_in_place.new.values refusal c.args.consumer.now c.loop-place.consumer c.evaluate_in_place.new.consumer all room (c.evaluate_in_place.auto.values ∙ source) within
     (λ p t j less small inside. c.loop-place.invariant.slots.done p (t * w + j) less (row_below t j w (2 ^ k) small inside) t j small inside refl ∙ front_poly field k w c.args.values.now coefficients back split source _ j inside)
     (λ t j less small inside. done t j less inside
-    ∙ slot_entry field g.F.TwoAdicField.generator k a w s c.args.values.now coefficients back split source roots _ 0 t j c.table_of_slot-table-2.ensures.1 small inside)
+    ∙ slot_entry field g.F.TwoAdicField.generator k a w s c.args.values.now coefficients back split source roots _ 0 t j (coset_read field c.args.cosets.now k c.place_of_slot-found-2.result (point field.ring (forward_root field g.F.TwoAdicField.generator) (k + a) s (rev a 0)) c.get-table-2.result.now c.get-table-2.ensures c.place_of_slot-found-2.ensures).1 small inside)
     c.loop-place.invariant.told stopped)
     c.evaluate_in_place.ensures.refused
 

@@ -1,16 +1,15 @@
-use Rattle.std.proofs.Common.{◌≡◌, ◌⊎◌, inl, inr, ℕ, ◌+◌, ◌*◌, ◌%◌, ◌^◌, ◌<◌, ◌++◌, List, [], ◌∷◌, refl, sym, ap, ap₂, ◌∙◌, subst, arith}
+use Rattle.std.proofs.Common.{◌≡◌, ◌⊎◌, inl, inr, ℕ, ◌+◌, ◌^◌, ◌<◌, ◌≤◌, ◌++◌, List, [], ◌∷◌, length, length-append, refl, sym, ap, ◌∙◌, subst, arith}
+use Rattle.std.proofs.lemmas.Bool.{false≢true}
 use Rattle.std.proofs.lemmas.List.{append-nil, append_assoc}
 use Rattle.std.proofs.lemmas.List.Elements.{All-append, All-cons, All-nil}
-use Rattle.std.proofs.lemmas.Nat.{one_shl}
 use borrow.Author.Count.{below_more}
-use Rattle.p3_field.specs.Ring.{power}
 use Rattle.p3_field.specs.declared.fields.Field.{Ghosts as FieldMembers}
-use Rattle.p3_field.proofs.Powers.{power-zero, power-more}
+use Rattle.p3_matrix.specs.BitOrder.{rev}
 use Rattle.p3_matrix.specs.Cosets.{point}
-use Rattle.p3_networks.specs.Twiddles.{AddsCosets, Coset, HasCoset, IsOneOf, forward_root}
-use Rattle.p3_matrix.proofs.Polynomials.Cosets.{point-mul}
-use Rattle.p3_networks.proofs.Tables.CosetTables.{coset_kept}
-use Rattle.p3_networks.proofs.Layers.Sizes.{second_shift}
+use Rattle.p3_matrix.proofs.BitReversal.{rev-lt}
+use Rattle.p3_networks.specs.Twiddles.{AddsCosets, Coset, HasCoset, IsCosetAt, IsOneOf, forward_root}
+use Rattle.p3_networks.proofs.Tables.CosetTables.{coset_kept, none_behind_kept}
+use Rattle.p3_networks.proofs.Tables.CosetsApart.{slot_of_coset, slots_differ}
 use Rattle.p3_networks.proofs.radix_2_dit_parallel.coset_tables.CosetTables.make_all.Goals as goal
 
 -- the tables so far, where one of the cosets may be added at the end
@@ -25,54 +24,79 @@ one_more {F} f generator k a s before now after shift c below is (inr longer) (a
       All-append (IsOneOf f generator k a s) added (last ∷ []) each (All-cons (IsOneOf f generator k a s) last [] (c, below, (refl, is)) (All-nil _)),
     )
 
-pub loop-coset-init : goal.loop-coset-init
-loop-coset-init g c =
-    let field = g.F.Field in
-    let gen = forward_root field g.F.TwoAdicField.generator in
-    let n = c.args.log_h + c.args.added_bits in
-    let s = field.value c.args.shift in
+-- a table that was there is there still, and is that of the coset of an equal shift
+coset_there : {F : Type 0} (f : FieldMembers F) (before now : List (Coset F)) (k : ℕ) (x s : f.Element) → now ≡ before → x ≡ s → HasCoset f before k s → HasCoset f now k x
+coset_there {F} f before now k x s same is has = subst (λ (xs : List (Coset F)). HasCoset f xs k x) (sym same) (subst (λ (y : f.Element). HasCoset f before k y) (sym is) has)
+
+-- the list grows
+longer_list : {T : Type 0} (n : ℕ) (before after : List T) (x : T) → (after ≡ before) ⊎ (after ≡ before ++ x ∷ []) → n ≤ length before → n ≤ length after
+longer_list n before after x (inl same) inside = omega (arith, ap length same, inside)
+longer_list n before after x (inr longer) inside = omega (arith, ap length longer, length-append before (x ∷ []), inside)
+
+pub loop-slot-init : goal.loop-slot-init
+loop-slot-init g c =
     record {
-      shift_is = sym (point-mul field.ring gen n s 0 ∙ ap (field.ring.mul s) (power-zero field.ring (gen n)) ∙ field.ring.mul_one s);
-      made = λ i none. absurd (omega arith);
+      inside = omega (arith, ap length c.as_slice-there.ensures);
+      made = λ m none. absurd (omega (arith, none));
+      others = λ m from below i behind at. omega (arith, behind, at.0, ap length c.as_slice-there.ensures);
       once = λ all. refl;
       only = ([], sym (append-nil _), All-nil _);
       keeps = λ k x has. has;
     }
 
-pub returns-in_err-make-clause-keeps : goal.returns-in_err-make-clause-keeps
-returns-in_err-make-clause-keeps g c k x has =
-    coset_kept g.F.Field c.loop-coset.self c.make.new.self _ k x c.make.ensures.only (c.loop-coset.invariant.keeps k x has)
+pub make_among-requires-clause-others : goal.make_among-requires-clause-others
+make_among-requires-clause-others g c i from at =
+    let field = g.F.Field in
+    c.loop-slot.invariant.others c.loop-slot.slot (omega arith) (omega (arith, c.loop-slot-test.true)) i from
+    (subst (λ (x : field.Element). IsCosetAt field c.loop-slot.self c.args.log_h x i) c.slot_shift-coset.ensures at)
 
-pub loop-coset-preserved : goal.loop-coset-preserved
-loop-coset-preserved g c =
+pub returns-in_err-place-clause-keeps : goal.returns-in_err-place-clause-keeps
+returns-in_err-place-clause-keeps g c k x has =
+    coset_kept g.F.Field c.loop-slot.self c.make_among.new.self _ k x c.make_among.ensures.only (c.loop-slot.invariant.keeps k x has)
+
+pub returns-in_err-place-clause-only : goal.returns-in_err-place-clause-only
+returns-in_err-place-clause-only g c =
+    rw c.in_err-place.ensures.refused c.loop-slot.invariant.only
+
+pub returns-in_err-place-clause-ready : goal.returns-in_err-place-clause-ready
+returns-in_err-place-clause-ready g c all =
+    let field = g.F.Field in
+    let k = c.args.log_h in
+    let a = c.args.added_bits in
+    absurd (false≢true (c.in_err-place.ensures.ready
+    (coset_there field _ _ k _ _ (c.loop-slot.invariant.once all) c.slot_shift-coset.ensures (all (rev a c.loop-slot.slot) (rev-lt a c.loop-slot.slot)))))
+
+pub loop-slot-preserved : goal.loop-slot-preserved
+loop-slot-preserved g c =
     let field = g.F.Field in
     let gen = forward_root field g.F.TwoAdicField.generator in
     let k = c.args.log_h in
-    let n = k + c.args.added_bits in
+    let a = c.args.added_bits in
     let s = field.value c.args.shift in
-    let i = c.loop-coset._coset in
-    let before = c.loop-coset.self in
-    let after = c.make.new.self in
-    let shift_is = c.loop-coset.invariant.shift_is in
-    let count : 1 * 2 ^ c.args.added_bits % 18446744073709551616 ≡ 2 ^ c.args.added_bits = one_shl c.args.added_bits 64 (omega (arith, c.requires.small)) in
-    let below : i < 2 ^ c.args.added_bits = omega (arith, count, c.loop-coset-test.true) in
-    let kept : (m : ℕ) (x : field.Element) → HasCoset field before m x → HasCoset field after m x = λ m x has. coset_kept field before after _ m x c.make.ensures.only has in
+    let at = point field.ring gen (k + a) s in
+    let m = c.loop-slot.slot in
+    let before = c.loop-slot.self in
+    let after = c.make_among.new.self in
+    let shift_is = c.slot_shift-coset.ensures in
+    let grown = c.make_among.ensures.only in
+    let kept : (n : ℕ) (x : field.Element) → HasCoset field before n x → HasCoset field after n x = λ n x has. coset_kept field before after _ n x grown has in
     record {
-      shift_is = g.met.F.Field.mul_law _ _ _ c.mul-coset.ensures ∙ ap₂ field.ring.mul (shift_is ∙ point-mul field.ring gen n s i) c.two_adic_generator-root.ensures
-          ∙ field.ring.mul_assoc s (power field.ring (gen n) i) (gen n) ∙ ap (field.ring.mul s) (sym (power-more field.ring (gen n) i)) ∙ sym (point-mul field.ring gen n s (i + 1));
-      made = below_more (λ m. HasCoset field after k (point field.ring gen n s m)) i (λ m less. kept k _ (c.loop-coset.invariant.made m less))
-          (subst (λ (x : field.Element). HasCoset field after k x) shift_is (c.in_ok-make.field-0, c.in_ok-make.ensures.made));
+      inside = longer_list (length c.as_slice-there.result.now) before after _ grown c.loop-slot.invariant.inside;
+      made = below_more (λ p. HasCoset field after k (at (rev a p))) m (λ p less. kept k _ (c.loop-slot.invariant.made p less))
+          (subst (λ (x : field.Element). HasCoset field after k x) shift_is (c.in_ok-place.place, c.in_ok-place.ensures.made));
+      others = λ p from below.
+          none_behind_kept field before after _ k (length c.as_slice-there.result.now) (at (rev a p)) grown
+          (λ same. slots_differ field.ring gen g.met.F.TwoAdicField.roots_law k a s c.slots_apart-slots.result m p c.requires.within c.slots_apart-slots.ensures (omega (arith, from)) below (sym shift_is ∙ same))
+          (c.loop-slot.invariant.others p (omega (arith, from)) below);
       once = λ all.
-          let same = c.loop-coset.invariant.once all in
-          c.make.ensures.once (subst (λ (x : field.Element). HasCoset field before k x) (sym shift_is) (subst (λ (xs : List (Coset g.row.F.Denot)). HasCoset field xs k (point field.ring gen n s i)) (sym same) (all i below)))
-          ∙ same;
-      only = one_more field g.F.TwoAdicField.generator k c.args.added_bits s c.args.self.now before after c.loop-coset.coset i below shift_is c.make.ensures.only c.loop-coset.invariant.only;
-      keeps = λ m x has. kept m x (c.loop-coset.invariant.keeps m x has);
+          let same = c.loop-slot.invariant.once all in
+          c.make_among.ensures.once (coset_there field _ _ k _ _ same shift_is (all (rev a m) (rev-lt a m))) ∙ same;
+      only = one_more field g.F.TwoAdicField.generator k a s c.args.self.now before after c.slot_shift-coset.result (rev a m) (rev-lt a m) shift_is grown c.loop-slot.invariant.only;
+      keeps = λ n x has. kept n x (c.loop-slot.invariant.keeps n x has);
     }
 
-pub returns-in_err-make-clause-only : goal.returns-in_err-make-clause-only
-returns-in_err-make-clause-only g c =
-    rw c.in_err-make.ensures.refused c.loop-coset.invariant.only
-
 pub returns-clause-made : goal.returns-clause-made
-returns-clause-made g c i below = c.loop-coset.invariant.made i (omega (arith, below, second_shift c.args.log_h c.args.added_bits c.requires.small, c.loop-coset-test.false))
+returns-clause-made g c i below =
+    let field = g.F.Field in
+    let (m, inside, is) = slot_of_coset field.ring (forward_root field g.F.TwoAdicField.generator) c.args.log_h c.args.added_bits (field.value c.args.shift) c.slots_apart-slots.result i c.slots_apart-slots.ensures below in
+    subst (λ (x : field.Element). HasCoset field c.loop-slot.self c.args.log_h x) is (c.loop-slot.invariant.made m (omega (arith, inside, c.loop-slot-test.false)))

@@ -1,44 +1,31 @@
-use Rattle.std.proofs.Common.{◌≡◌, ◌<◌, ◌≤◌, ◌-◌, ℕ, List, [], ◌∷◌, ◌++◌, length, get_or, refl, sym, ap, ◌∙◌, subst, arith, length-append, ⊎_elim}
+use Rattle.std.proofs.Common.{◌≡◌, ◌<◌, ◌≤◌, ℕ, List, [], ◌∷◌, ◌++◌, length, sym, ap, ◌∙◌, subst, ⊎_elim}
 use Rattle.std.proofs.lemmas.Bool.{cases_lt}
-use Rattle.std.proofs.lemmas.List.{get_or_append_left, get_or-append_right}
 use Rattle.p3_field.specs.declared.fields.Field.{Ghosts as FieldMembers}
 use Rattle.p3_networks.specs.CosetTables.{HasEachOnce}
-use Rattle.p3_networks.specs.Twiddles.{Coset, HasCoset, IsCosetAt, IsCosetOf, items_if_any}
+use Rattle.p3_networks.specs.Twiddles.{Coset, HasCoset, IsCosetAt, items_if_any}
+use Rattle.p3_networks.proofs.Tables.CosetTables.{last_place, place_before}
 use Rattle.p3_networks.proofs.radix_2_dit_parallel.coset_tables.CosetTables.push.Goals as goal
 
 module _ {F : Type 0} (f : FieldMembers F) (before : List (Coset F)) (added : Coset F) where
-  -- a place of the longer list that is not its last is one of the list as it was
-  place_before : (k : ℕ) (s : f.Element) (i : ℕ) → i < length before → IsCosetAt f (before ++ added ∷ []) k s i → IsCosetAt f before k s i
-  place_before k s i less at = (less, λ d. subst (IsCosetOf f k s) (get_or_append_left before (added ∷ []) d i less) (at.1 d))
-
-  -- the last has the one that was added
-  last_place : (k : ℕ) (s : f.Element) (i : ℕ) → length before ≤ i → IsCosetAt f (before ++ added ∷ []) k s i → (i ≡ length before) × IsCosetOf f k s added
-  last_place k s i more at =
-      let longer = length-append before (added ∷ []) in
-      let last : i ≡ length before = omega (arith, at.0, longer, more) in
-      let read = get_or-append_right before (added ∷ []) (length before) i added refl more in
-      let first : i - length before ≡ 0 = omega (arith, last) in
-      (last, subst (IsCosetOf f k s) (read ∙ ap (λ (n : ℕ). get_or (added ∷ []) n added) first) (at.1 added))
-
   -- so it is in no other place
   apart : (HasCoset f before added.log_h (f.value added.shift) → ⊥) → (k : ℕ) (s : f.Element) (i j : ℕ) → i < length before → length before ≤ j
       → IsCosetAt f (before ++ added ∷ []) k s i → IsCosetAt f (before ++ added ∷ []) k s j → ⊥
   apart fresh k s i j less more at_i at_j =
-      let (last, (log, shift)) = last_place k s j more at_j in
-      fresh (i, subst (λ (x : f.Element). IsCosetAt f before added.log_h x i) (sym shift) (subst (λ (n : ℕ). IsCosetAt f before n s i) (sym log) (place_before k s i less at_i)))
+      let (last, (log, shift)) = last_place f before added k s j more at_j in
+      fresh (i, subst (λ (x : f.Element). IsCosetAt f before added.log_h x i) (sym shift) (subst (λ (n : ℕ). IsCosetAt f before n s i) (sym log) (place_before f before added k s i less at_i)))
 
   once_more : HasEachOnce f before → (HasCoset f before added.log_h (f.value added.shift) → ⊥) → HasEachOnce f (before ++ added ∷ [])
   once_more each fresh k s i j at_i at_j =
       ⊎_elim
       (λ less_i.
       ⊎_elim
-      (λ less_j. each k s i j (place_before k s i less_i at_i) (place_before k s j less_j at_j))
+      (λ less_j. each k s i j (place_before f before added k s i less_i at_i) (place_before f before added k s j less_j at_j))
       (λ more_j. absurd (apart fresh k s i j less_i more_j at_i at_j))
       (cases_lt j (length before)))
       (λ more_i.
       ⊎_elim
       (λ less_j. absurd (apart fresh k s j i less_j more_i at_j at_i))
-      (λ more_j. (last_place k s i more_i at_i).0 ∙ sym (last_place k s j more_j at_j).0)
+      (λ more_j. (last_place f before added k s i more_i at_i).0 ∙ sym (last_place f before added k s j more_j at_j).0)
       (cases_lt j (length before)))
       (cases_lt i (length before))
 

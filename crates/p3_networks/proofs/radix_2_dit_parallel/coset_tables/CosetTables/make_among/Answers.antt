@@ -1,8 +1,9 @@
-use Rattle.std.proofs.Common.{◌≡◌, ℕ, ◌+◌, ◌++◌, List, [], ◌∷◌, length, get_or, length-append, refl, sym, ap, ◌∙◌, subst, arith, rules, inr}
+use Rattle.std.proofs.Common.{◌≡◌, ℕ, ◌+◌, ◌++◌, List, [], ◌∷◌, length, get_or, length-append, refl, sym, ap, ◌∙◌, subst, arith, rules, inr, ◌<◌, ◌≤◌, ⊎_elim}
+use Rattle.std.proofs.lemmas.Bool.{cases_lt}
 use Rattle.p3_networks.specs.Twiddles.{Coset, HasCoset, IsCosetAt, IsCosetOf}
 use Rattle.p3_field.specs.declared.fields.Field.{Ghosts as FieldMembers}
 use Rattle.p3_networks.proofs.Layers.Halves.{in_second}
-use Rattle.p3_networks.proofs.radix_2_dit_parallel.coset_tables.CosetTables.make.Goals as goal
+use Rattle.p3_networks.proofs.radix_2_dit_parallel.coset_tables.CosetTables.make_among.Goals as goal
 
 -- a table that was added at the end
 added_last : {F : Type 0} (f : FieldMembers F) (before now after : List (Coset F)) (k : ℕ) (s : F) (t : Coset F) → now ≡ before → after ≡ before ++ t ∷ [] → t ≡ record { log_h = k; shift = s } → IsCosetAt f after k (f.value s) (length now)
@@ -14,9 +15,13 @@ added_last f before now after k s t same added is =
           (subst (IsCosetOf f k (f.value s)) (sym is) (refl, refl)),
     )
 
+-- no place has the coset: none below the end, as was searched, and none from there on
+nowhere : {F : Type 0} (f : FieldMembers F) (all : List (Coset F)) (k n : ℕ) (s : f.Element) → ((i : ℕ) → i < n → IsCosetAt f all k s i → ⊥) → ((i : ℕ) → n ≤ i → IsCosetAt f all k s i → ⊥) → HasCoset f all k s → ⊥
+nowhere f all k n s below behind (i, at) = ⊎_elim (λ less. below i less at) (λ more. behind i more at) (cases_lt i n)
+
 pub push-requires : goal.push-requires
 push-requires g c there =
-    c.find.ensures.none (search rules)
+    nowhere g.F.Field c.args.self.now c.args.log_h c.args.end (g.F.Field.value c.args.shift) (c.find.ensures.none (search rules)) c.requires.others
     (subst (λ t. HasCoset g.F.Field c.args.self.now t.log_h (g.F.Field.value t.shift)) c.in_ok-table.ensures there)
 
 pub returns-clause-made : goal.returns-clause-made
@@ -24,13 +29,20 @@ returns-clause-made g c =
     added_last g.F.Field c.args.self.now c.as_slice-place.result.now c.push.new.self c.args.log_h c.args.shift c.in_ok-table.table c.as_slice-place.ensures c.in_ok-push.ensures.added c.in_ok-table.ensures
 
 pub returns-clause-once : goal.returns-clause-once
-returns-clause-once g c has = absurd (c.find.ensures.none (search rules) has)
+returns-clause-once g c has =
+    absurd (nowhere g.F.Field c.args.self.now c.args.log_h c.args.end (g.F.Field.value c.args.shift) (c.find.ensures.none (search rules)) c.requires.others has)
 
 pub returns-clause-only : goal.returns-clause-only
 returns-clause-only g c = inr (c.in_ok-push.ensures.added ∙ ap (λ t. c.args.self.now ++ t ∷ []) c.in_ok-table.ensures)
 
 pub returns-in_err-push-clause-ready : goal.returns-in_err-push-clause-ready
-returns-in_err-push-clause-ready g c has = absurd (c.find.ensures.none (search rules) has)
+returns-in_err-push-clause-ready g c has =
+    absurd (nowhere g.F.Field c.args.self.now c.args.log_h c.args.end (g.F.Field.value c.args.shift) (c.find.ensures.none (search rules)) c.requires.others has)
 
 pub returns-in_err-push-clause-once : goal.returns-in_err-push-clause-once
-returns-in_err-push-clause-once g c has = absurd (c.find.ensures.none (search rules) has)
+returns-in_err-push-clause-once g c has =
+    absurd (nowhere g.F.Field c.args.self.now c.args.log_h c.args.end (g.F.Field.value c.args.shift) (c.find.ensures.none (search rules)) c.requires.others has)
+
+pub returns-in_err-table-clause-ready : goal.returns-in_err-table-clause-ready
+returns-in_err-table-clause-ready g c has =
+    absurd (nowhere g.F.Field c.args.self.now c.args.log_h c.args.end (g.F.Field.value c.args.shift) (c.find.ensures.none (search rules)) c.requires.others has)

@@ -1,0 +1,7 @@
+use Rattle.std.proofs.Common.{ℕ, ◌<◌, ◌≤◌}
+use Rattle.p3_networks.specs.Twiddles.{IsCosetAt}
+use Rattle.p3_networks.proofs.radix_2_dit_parallel.coset_tables.CosetTables.find_within.Given as goal
+
+-- none of those so far is that of the coset
+abbrev pub invariant-loop-place : goal.invariant-loop-place
+invariant-loop-place g l = (i : ℕ) → l.fn.start ≤ i → i < l.place → IsCosetAt g.F.Field l.fn.self l.fn.log_h (g.F.Field.value l.fn.shift) i → ⊥

@@ -1,0 +1,7 @@
+use Rattle.std.proofs.Common.{rules, sym, subst, ◌<◌, length}
+use Rattle.p3_networks.proofs.radix_2_dit_parallel.coset_tables.CosetTables.place_of.Goals as goal
+
+pub unreachable-requires : goal.unreachable-requires
+unreachable-requires g c =
+    let (i, at) = c.requires in
+    c.find.ensures.none (search rules) i (subst (λ xs. i < length xs) (sym c.as_slice.ensures) at.0) at
