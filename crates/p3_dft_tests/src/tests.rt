@@ -32,9 +32,9 @@ mod tiles;
 mod util;
 mod whole_rows;
 
-use crate::own_engine::NaturalToReversed;
 use calls::{Calls, CallsOf};
 use engines::{LimitedDft, ReversedToReversed};
+use examples::own_engine::NaturalToReversed;
 use p3_dft::{
     BabyBear, CanonicalField, Evaluations, Field, Goldilocks, Layout, NaiveDft, Radix2Bowers,
     Radix2DFTSmallBatch, Radix2Dit, Radix2DitParallel, RowMajorMatrix, TwoAdicField,

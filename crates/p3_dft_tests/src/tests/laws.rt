@@ -17,7 +17,7 @@ ghost use Rattle.p3_dft.specs.Transforms.{IsInterpolation, IsTransform};
 
 use super::{EngineTest, elements, on_dit};
 use crate::tests::fitting::{assert_column, extensible, invertible, pair, transformable};
-use crate::there_and_back::there_and_back;
+use examples::there_and_back::there_and_back;
 use p3_dft::{
     BabyBear, CanonicalField, DftError, Evaluations, Field, Job, JobsStopped, Layout, NaiveDft,
     RowMajorMatrix, TwoAdicField, TwoAdicSubgroupDft, fits_dft, run_jobs,

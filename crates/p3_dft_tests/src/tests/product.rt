@@ -1,7 +1,7 @@
 // The product of two polynomials against numbers made elsewhere.
 
 use super::elements;
-use crate::product::product;
+use examples::product::product;
 use p3_dft::{
     BabyBear, CanonicalField, Goldilocks, NaiveDft, Radix2Bowers, Radix2Dit, TwoAdicSubgroupDft,
     fits_dft,

@@ -9,9 +9,9 @@ ghost use Rattle.p3_dft.specs.Shapes.{FitsDft};
 ghost use Rattle.p3_matrix.specs.Cosets.{values_of};
 
 use super::{EngineTest, elements, matrix, matrix_of, on_every_engine};
-use crate::low_degree::has_low_degree;
 use crate::tests::engines::LimitedDft;
 use crate::tests::fitting::{assert_column, extensible, invertible, transformable};
+use examples::low_degree::has_low_degree;
 use p3_dft::{
     BabyBear, CanonicalField, DftError, Field, Goldilocks, ReedSolomon, RowMajorMatrix,
     TwoAdicField, TwoAdicSubgroupDft, fits_code, fits_dft,

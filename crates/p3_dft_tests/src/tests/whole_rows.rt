@@ -2,7 +2,7 @@
 
 use super::matrix;
 use crate::tests::fitting::{assert_column, extensible, transformable};
-use crate::whole_rows::{
+use examples::whole_rows::{
     counted_transform, extension_in_whole_rows, extension_of_opposite_entries,
 };
 use p3_dft::{BabyBear, CanonicalField, Field, NaiveDft, Radix2Dit, RowMajorMatrix, fits_lde};

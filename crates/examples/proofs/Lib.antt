@@ -1,0 +1,4 @@
+pub mod BlockSums
+pub mod Limits
+pub mod MerkleTrees
+pub mod OppositeEntries

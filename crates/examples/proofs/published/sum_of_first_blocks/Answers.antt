@@ -1,0 +1,15 @@
+use Rattle.std.proofs.Common.{◌≡◌, ℕ, ◌<◌, ap, get_or, refl, subst, ◌∙◌, of_calls}
+use Rattle.p3_dft.proofs.Laws.Blocks.{where_refused}
+use Rattle.examples.proofs.BlockSums.{sum_at_refusal}
+use Rattle.examples.proofs.published.sum_of_first_blocks.Goals as goal
+
+pub returns-in-Refused : goal.returns-in-Refused
+returns-in-Refused g c = λ k e.
+    let field = g.F.Field in
+    let x = where_refused _ _ _ _ c.in-Refused.is c.in-Err.ensures.refused k e in
+    let (starts, many, distinct, within, total) = sum_at_refusal field.ring field.value field.ZERO _ _ _ _ (λ s. field.value s.sum) (λ s. s.left) c.args.limit _ _
+    (λ s start r e told. told.0 refl) (λ s start r e told. told.1 refl) (λ s made.
+    let none : s.sum ≡ field.ZERO = search of_calls in
+    (ap field.value none ∙ g.met.F.Field.zero_law, (let all : s.left ≡ c.args.limit = search of_calls in all))) x.2 in
+    let high = (x.1.extended k e).high in
+    (x.0, x.1, starts, many, distinct, (λ i d inside. let told = within i d inside in (told.0, subst (λ (h : ℕ). get_or starts i d < h) high told.1)), total)

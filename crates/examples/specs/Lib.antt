@@ -1,0 +1,2 @@
+pub mod MerkleTrees
+pub mod Sums

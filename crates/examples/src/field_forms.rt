@@ -1,0 +1,76 @@
+//! What stands in a prover's code beside the transforms, over any field and over named ones: operators
+//! that change an element in its place, squares, sums and products of iterators, powers, and printed
+//! elements.
+//!
+//! Proved: the values of each, with no proof file.
+
+ghost use Rattle.std.specs.Prelude.{◌≡◌, ◌<◌, ℕ, IfOk, map, get_or, vec_len};
+ghost use Rattle.p3_field.specs.Ring.{minus, power, product_of, sum_of};
+
+use p3_dft::{BabyBear, Field, Goldilocks};
+use std::alloc::{AllocError, Global};
+
+/// The square of a difference.
+pub fn squared_distance<F: Field>(a: F, b: F) -> F
+    ensures { F.value result ≡ F.ring.mul (minus F.ring (F.value a) (F.value b)) (minus F.ring (F.value a) (F.value b)) }
+{
+    let mut difference = a;
+    difference -= b;
+    difference.square()
+}
+
+/// The value of `3 x + 2` at a point.
+pub fn line_at(x: Goldilocks) -> Goldilocks {
+    let mut y = Goldilocks::from(3u8);
+    y *= x;
+    y += Goldilocks::TWO;
+    y
+}
+
+/// The sum of a slice.
+pub fn total<F: Field>(elements: &[F]) -> F
+    ensures { F.value result ≡ sum_of F.ring (map F.value elements.now) }
+{
+    elements.iter().copied().sum()
+}
+
+/// The product of a slice.
+pub fn all_multiplied<F: Field>(elements: &[F]) -> F
+    ensures { F.value result ≡ product_of F.ring (map F.value elements.now) }
+{
+    elements.iter().copied().product()
+}
+
+/// The sum of the squares of a slice.
+pub fn total_of_squares(elements: &[BabyBear]) -> BabyBear {
+    elements.iter().map(|x| x.square()).sum()
+}
+
+/// The first n powers of an element, from `start` on.
+pub fn first_powers<F: Field>(
+    alloc: Global,
+    base: F,
+    start: F,
+    n: usize,
+) -> Result<Vec<F>, AllocError>
+    ensures long { IfOk result (λ v. vec_len v ≡ n) }
+    ensures powers { IfOk result (λ v. (i : ℕ) → i < n → F.value (get_or v.items i F.ZERO)
+        ≡ F.ring.mul (F.value start) (power F.ring (F.value base) i)) }
+{
+    base.shifted_powers(start).collect_n(alloc, n)
+}
+
+/// The sum of the first n powers of an element.
+pub fn geometric_sum(base: BabyBear, n: usize) -> BabyBear {
+    base.powers().take(n).sum()
+}
+
+/// The numbers of a slice, as a failed comparison prints them.
+pub fn text_of<F: Field>(alloc: Global, elements: &[F]) -> Result<String, AllocError> {
+    format!(in alloc; "{elements:?}")
+}
+
+/// The number of an element, in eight places.
+pub fn aligned_text_of(alloc: Global, element: Goldilocks) -> Result<String, AllocError> {
+    format!(in alloc; "{element:>8}")
+}

@@ -1,0 +1,101 @@
+//! Inverses on cosets, over named fields and over any: which shifts a client hands over, and what it
+//! tests of one that comes from outside.
+//!
+//! Proved: each call has a shape that fits and a shift with an inverse, and so may be made. There is no proof
+//! file.
+
+ghost use Rattle.std.specs.Prelude.{IfOk, IfSome};
+ghost use Rattle.p3_matrix.specs.RowMajor.{height};
+ghost use Rattle.p3_dft.specs.Shapes.{FitsDft};
+ghost use Rattle.p3_dft.specs.Transforms.{IsInterpolation};
+
+use p3_dft::{
+    BabyBear, DftError, Field, Goldilocks, KoalaBear, RowMajorMatrix, TwoAdicField,
+    TwoAdicSubgroupDft, fits_dft,
+};
+
+/// The coefficients of a matrix of values on the coset of the field's generator.
+pub fn from_generator<F: TwoAdicField, D: TwoAdicSubgroupDft<F>>(
+    engine: &mut D,
+    values: RowMajorMatrix<F>,
+) -> Result<RowMajorMatrix<F>, DftError>
+    requires { FitsDft F.TWO_ADICITY (height values) values.width }
+{
+    engine.coset_idft_batch(values, F::GENERATOR)
+}
+
+/// The same over `BabyBear`, for a matrix of any shape: `None` where it does not fit.
+pub fn from_baby_bear_generator<D: TwoAdicSubgroupDft<BabyBear>>(
+    engine: &mut D,
+    values: RowMajorMatrix<BabyBear>,
+) -> Option<Result<RowMajorMatrix<BabyBear>, DftError>> {
+    if !fits_dft::<BabyBear>(values.height(), values.width()) {
+        return None;
+    }
+    Some(engine.coset_idft_batch(values, BabyBear::invertible_generator()))
+}
+
+/// The same over `KoalaBear`.
+pub fn from_koala_bear_generator<D: TwoAdicSubgroupDft<KoalaBear>>(
+    engine: &mut D,
+    values: RowMajorMatrix<KoalaBear>,
+) -> Option<Result<RowMajorMatrix<KoalaBear>, DftError>> {
+    if !fits_dft::<KoalaBear>(values.height(), values.width()) {
+        return None;
+    }
+    Some(engine.coset_idft_batch(values, KoalaBear::invertible_generator()))
+}
+
+/// The same over `Goldilocks`.
+pub fn from_goldilocks_generator<D: TwoAdicSubgroupDft<Goldilocks>>(
+    engine: &mut D,
+    values: RowMajorMatrix<Goldilocks>,
+) -> Option<Result<RowMajorMatrix<Goldilocks>, DftError>> {
+    if !fits_dft::<Goldilocks>(values.height(), values.width()) {
+        return None;
+    }
+    Some(engine.coset_idft_batch(values, Goldilocks::invertible_generator()))
+}
+
+/// The coefficients of a matrix of values on a coset: `None` where the shift has no inverse.
+pub fn from_shift<F: TwoAdicField, D: TwoAdicSubgroupDft<F>>(
+    engine: &mut D,
+    values: RowMajorMatrix<F>,
+    shift: F,
+) -> Option<Result<RowMajorMatrix<F>, DftError>>
+    requires { FitsDft F.TWO_ADICITY (height values) values.width }
+    ensures { IfSome result (λ answer. IfOk answer (λ out.
+        IsInterpolation F.Field.own F.generator values (F.value shift) out)) }
+{
+    if shift.try_inverse().is_none() {
+        return None;
+    }
+    Some(engine.coset_idft_batch(values, shift))
+}
+
+/// The same over `BabyBear`, for a matrix of any shape: `None` where it does not fit, too.
+pub fn from_baby_bear_shift<D: TwoAdicSubgroupDft<BabyBear>>(
+    engine: &mut D,
+    values: RowMajorMatrix<BabyBear>,
+    shift: BabyBear,
+) -> Option<Result<RowMajorMatrix<BabyBear>, DftError>> {
+    if shift.try_inverse().is_none() || !fits_dft::<BabyBear>(values.height(), values.width()) {
+        return None;
+    }
+    Some(engine.coset_idft_batch(values, shift))
+}
+
+/// The same over `Goldilocks`.
+pub fn from_goldilocks_shift<D: TwoAdicSubgroupDft<Goldilocks>>(
+    engine: &mut D,
+    values: RowMajorMatrix<Goldilocks>,
+    shift: Goldilocks,
+) -> Option<Result<RowMajorMatrix<Goldilocks>, DftError>> {
+    if !fits_dft::<Goldilocks>(values.height(), values.width()) {
+        return None;
+    }
+    match shift.try_inverse() {
+        Some(_) => Some(engine.coset_idft_batch(values, shift)),
+        None => None,
+    }
+}

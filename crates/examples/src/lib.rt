@@ -1,0 +1,19 @@
+//! Clients of `p3_dft`, as a user writes them, one to a file: each file says at its top what is proved of it.
+//!
+//! All are generic over the field and the engine, but where they show a named one. They name `p3_dft` alone;
+//! what their contracts speak of is brought in by `ghost use`.
+#![tactic(auto)]
+
+pub mod closures;
+pub mod field_forms;
+pub mod inverses;
+pub mod low_degree;
+pub mod merkle_root;
+pub mod own_engine;
+pub mod product;
+pub mod published;
+#[cfg(test)]
+mod tests;
+pub mod there_and_back;
+pub mod views;
+pub mod whole_rows;

@@ -1,0 +1,38 @@
+//! A low degree test, by a Reed-Solomon code, for every field and engine.
+//!
+//! Proved: it says yes where each column has the values of a polynomial of the degree, and nowhere else.
+
+ghost use Rattle.std.specs.Prelude.{◌≡◌, ◌↔◌, ◌^◌, ◌≤◌, IfOk, IsTrue};
+ghost use Rattle.p3_field.specs.Ring.{IsInvertible};
+ghost use Rattle.p3_matrix.specs.Matrix.{Matrix};
+ghost use Rattle.p3_matrix.specs.RowMajor.{height};
+ghost use Rattle.p3_matrix.specs.Cosets.{IsValues, values_of};
+ghost use Rattle.p3_dft.specs.Engines.{AtLog, IsLater};
+ghost use Rattle.p3_dft.specs.Shapes.{FitsDft};
+
+use p3_dft::{
+    DftError, ReedSolomon, RowMajorMatrix, TwoAdicField, TwoAdicSubgroupDft, log2_strict_usize,
+};
+
+/// Whether each column has the values of a polynomial of degree below `2^log_degree` on the coset of
+/// the shift with as many points as there are rows, which are at least `2^log_degree`. The engine comes
+/// back with what it has prepared.
+pub fn has_low_degree<F: TwoAdicField, D: TwoAdicSubgroupDft<F>>(
+    engine: D,
+    values: &RowMajorMatrix<F>,
+    log_degree: usize,
+    shift: F,
+) -> (Result<bool, DftError>, D)
+    requires fits { FitsDft F.TWO_ADICITY (height values.now) values.now.width }
+    requires degree { 2 ^ log_degree ≤ height values.now }
+    requires invertible { IsInvertible F.ring (F.value shift) }
+    ensures exact { AtLog (height values.now) (λ n. IfOk result.0 (λ told. IsTrue told
+        ↔ ((c : Matrix F.Element) × (c.height ≡ 2 ^ log_degree)
+        × IsValues F.ring (λ k. F.value (F.generator k)) c n (F.value shift) (values_of F.Field.own values.now)))) }
+    ensures later { IsLater D.facts engine result.1 }
+{
+    let log_points = log2_strict_usize(values.height());
+    let mut code = ReedSolomon::new(engine, log_degree, log_points - log_degree, shift);
+    let told = code.is_codeword(values);
+    (told, code.into_engine())
+}

@@ -1,0 +1,118 @@
+// Worked roots.
+//
+// The numbers were worked out by a program in Python from the definitions alone. Coefficient j of a column of n
+// values is `sum(v[i] * g^(-i * j)) / n`, and row i of the extension has the values of these polynomials at
+// `31 * h^i`, where g and h are powers of 440564289, whose order is 2^27. Leaf r is the digest of the row whose
+// number has the digits of r in reverse, and neighbours are joined until one is left.
+
+use crate::merkle_root::{HornerHash, merkle_root, roots_of_two};
+use p3_dft::{
+    BabyBear, CanonicalField, Field, NaiveDft, Radix2DitParallel, RowMajorMatrix,
+    TwoAdicSubgroupDft, fits_lde,
+};
+use std::alloc::Global;
+use std::process::Abort;
+
+// A matrix of the numbers from one on, and what comes of it.
+#[derive(Clone, Copy)]
+struct Worked {
+    rows: u8,
+    width: u8,
+    added_bits: usize,
+    base: u64,
+    // The first and the last.
+    leaves: (u64, u64),
+    root: u64,
+}
+
+impl Worked {
+    fn matrix(self, rt: &impl Abort, alloc: Global) -> RowMajorMatrix<BabyBear> {
+        let mut entries = Vec::new(alloc);
+        for n in 0..self.rows.saturating_mul(self.width) {
+            let entry = BabyBear::from_u8(n) + BabyBear::ONE;
+            entries.push(entry).expect(rt, "memory");
+        }
+        let width = self.width as usize;
+        assert!(rt; width != 0 && entries.len() % width == 0);
+        let mat = RowMajorMatrix::new(entries, width);
+        assert!(rt; fits_lde::<BabyBear>(mat.height(), mat.width(), self.added_bits));
+        mat
+    }
+
+    fn hash(self) -> HornerHash<BabyBear> {
+        HornerHash {
+            base: BabyBear::from_u64(self.base),
+        }
+    }
+
+    fn assert_on<D: TwoAdicSubgroupDft<BabyBear>>(
+        self,
+        rt: &impl Abort,
+        alloc: Global,
+        engine: &mut D,
+    ) {
+        let mat = self.matrix(rt, alloc);
+        assert!(rt; fits_lde::<BabyBear>(mat.height(), mat.width(), self.added_bits));
+        let made = merkle_root(
+            engine,
+            &self.hash(),
+            mat,
+            self.added_bits,
+            BabyBear::GENERATOR,
+        );
+        let made = made.expect(rt, "memory");
+        let leaves = made.leaves.as_slice();
+        assert!(rt; leaves.len() == made.rows.height());
+        let (Some(first), Some(last)) = (leaves.first(), leaves.last()) else {
+            panic!(rt; "no leaves");
+        };
+        assert!(rt; (first.as_canonical_u64(), last.as_canonical_u64()) == self.leaves);
+        assert!(rt; made.root.as_canonical_u64() == self.root);
+    }
+}
+
+const WORKED: [Worked; 2] = [
+    Worked {
+        rows: 4,
+        width: 2,
+        added_bits: 1,
+        base: 7,
+        leaves: (927955603, 758701637),
+        root: 622993614,
+    },
+    Worked {
+        rows: 4,
+        width: 3,
+        added_bits: 2,
+        base: 1000003,
+        leaves: (35417832, 362881735),
+        root: 1990375518,
+    },
+];
+
+// By the definition, in one block whose rows were in natural order, and in blocks of two rows.
+#[test]
+fn worked_roots(rt: HostRuntime) {
+    for worked in WORKED {
+        worked.assert_on(&rt, rt.alloc(), &mut NaiveDft::default());
+        worked.assert_on(&rt, rt.alloc(), &mut Radix2DitParallel::default());
+    }
+}
+
+#[test]
+fn one_root(rt: HostRuntime) {
+    for worked in WORKED {
+        let mat = worked.matrix(&rt, rt.alloc());
+        assert!(rt; fits_lde::<BabyBear>(mat.height(), mat.width(), worked.added_bits));
+        let roots = roots_of_two(
+            &mut Radix2DitParallel::default(),
+            &mut NaiveDft::default(),
+            &worked.hash(),
+            mat,
+            worked.added_bits,
+            BabyBear::ONE,
+        );
+        let (one, other) = roots.expect(&rt, "memory");
+        assert!(rt; one == other);
+    }
+}

@@ -1,0 +1,26 @@
+//! A matrix that is transformed on a coset and back, for every field and engine.
+//!
+//! Proved: the answer is the matrix.
+
+ghost use Rattle.std.specs.Prelude.{IfOk};
+ghost use Rattle.p3_field.specs.Ring.{IsInvertible};
+ghost use Rattle.p3_matrix.specs.Matrix.{Same};
+ghost use Rattle.p3_matrix.specs.RowMajor.{height};
+ghost use Rattle.p3_dft.specs.Shapes.{FitsDft};
+ghost use Rattle.p3_matrix.specs.Cosets.{values_of};
+
+use p3_dft::{DftError, Evaluations, RowMajorMatrix, TwoAdicField, TwoAdicSubgroupDft};
+
+/// The inverse of a transform is the matrix, where both are told one shift.
+pub fn there_and_back<F: TwoAdicField, D: TwoAdicSubgroupDft<F>>(
+    engine: &mut D,
+    mat: RowMajorMatrix<F>,
+    shift: F,
+) -> Result<RowMajorMatrix<F>, DftError>
+    requires fits { FitsDft F.TWO_ADICITY (height mat) mat.width }
+    requires invertible { IsInvertible F.ring (F.value shift) }
+    ensures { IfOk result (λ back. Same (values_of F.Field.own back) (values_of F.Field.own mat)) }
+{
+    let values = engine.coset_dft_batch(mat, shift)?;
+    engine.coset_idft_batch(values.to_row_major_matrix(), shift)
+}

@@ -1,3 +1,0 @@
-pub mod BlockSums
-pub mod Limits
-pub mod OppositeEntries

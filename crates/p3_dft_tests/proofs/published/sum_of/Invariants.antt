@@ -1,6 +1,0 @@
-use Rattle.std.proofs.Common.{◌≡◌, get_or}
-use Rattle.p3_matrix.specs.Polynomials.{sum}
-use Rattle.p3_dft_tests.proofs.published.sum_of.Given as goal
-
-abbrev pub invariant-loop-i : goal.invariant-loop-i
-invariant-loop-i g l = g.F.Field.value l.sum ≡ sum g.F.Field.ring l.i (λ j. g.F.Field.value (get_or l.fn.elements j g.F.Field.ZERO))
