@@ -104,7 +104,7 @@ impl<F: TwoAdicField> TwoAdicSubgroupDft<F> for Radix2Bowers {
             return Ok(mat);
         }
         reverse_rows(&mut mat);
-        evaluate(&mut mat, &mut self.products)?;
+        evaluate_to_natural(&mut mat, &mut self.products)?;
         Ok(mat)
     }
 
@@ -135,7 +135,7 @@ impl<F: TwoAdicField> TwoAdicSubgroupDft<F> for Radix2Bowers {
         if mat.height() == 1 {
             return Ok(mat);
         }
-        interpolate(&mut mat, &mut self.products)?;
+        interpolate_to_reversed(&mut mat, &mut self.products)?;
         reverse_rows(&mut mat);
         Ok(mat)
     }
@@ -170,10 +170,10 @@ impl<F: TwoAdicField> TwoAdicSubgroupDft<F> for Radix2Bowers {
             let _width = row.width();
             return Ok(row);
         }
-        interpolate(&mut mat, &mut self.products)?;
+        interpolate_to_reversed(&mut mat, &mut self.products)?;
         let mut changed = transform(mat, Layout::BitReversed);
         weigh_reversed_rows(&mut changed, F::ONE, shift, &mut self.products)?;
-        extend(changed, added_bits, &mut self.products)
+        extend_to_natural(changed, added_bits, &mut self.products)
     }
 
     /// As the trait says: one product an entry divides by the height and multiplies by the power of the
@@ -200,9 +200,9 @@ impl<F: TwoAdicField> TwoAdicSubgroupDft<F> for Radix2Bowers {
             return Ok(mat);
         }
         let inverse = F::ONE.div_2exp_u64(log_h as u64);
-        interpolate_scaled(&mut mat, &mut self.products)?;
+        interpolate_unscaled_to_reversed(&mut mat, &mut self.products)?;
         weigh_reversed_rows(&mut mat, inverse, shift, &mut self.products)?;
-        extend(mat, added_bits, &mut self.products)
+        extend_to_natural(mat, added_bits, &mut self.products)
     }
 
     /// As the trait says: no row is multiplied by a power of a shift. A matrix of height one without added
@@ -226,14 +226,14 @@ impl<F: TwoAdicField> TwoAdicSubgroupDft<F> for Radix2Bowers {
         if log_h + added_bits == 0 {
             return Ok(mat);
         }
-        interpolate(&mut mat, &mut self.products)?;
-        extend(mat, added_bits, &mut self.products)
+        interpolate_to_reversed(&mut mat, &mut self.products)?;
+        extend_to_natural(mat, added_bits, &mut self.products)
     }
 }
 
 // From coefficients, the values on the subgroup: rows in bit reversed order become rows in natural
 // order. That is network G. A single row takes no memory.
-fn evaluate<F: TwoAdicField>(
+fn evaluate_to_natural<F: TwoAdicField>(
     mat: &mut RowMajorMatrix<F>,
     products: &mut Products,
 ) -> Result<(), DftError>
@@ -264,7 +264,7 @@ fn evaluate<F: TwoAdicField>(
 // From values on the subgroup, the coefficients times the height: rows in natural order become rows in
 // bit reversed order. That is network G transposed, with the inverse twiddles. A single row takes no
 // memory.
-fn interpolate_scaled<F: TwoAdicField>(
+fn interpolate_unscaled_to_reversed<F: TwoAdicField>(
     mat: &mut RowMajorMatrix<F>,
     products: &mut Products,
 ) -> Result<(), DftError>
@@ -299,7 +299,7 @@ fn interpolate_scaled<F: TwoAdicField>(
 
 // From values on the subgroup, the coefficients: rows in natural order become rows in bit reversed
 // order.
-fn interpolate<F: TwoAdicField>(
+fn interpolate_to_reversed<F: TwoAdicField>(
     mat: &mut RowMajorMatrix<F>,
     products: &mut Products,
 ) -> Result<(), DftError>
@@ -310,14 +310,14 @@ fn interpolate<F: TwoAdicField>(
     ensures grows { products.old ≤ products.new }
     ensures cost { AtLog (height mat.old) (λ k. products.new ≤ products.old + mat.old.width * (k * 2 ^ k / 2) + 2 ^ k * mat.old.width) }
 {
-    interpolate_scaled(mat, products)?;
+    interpolate_unscaled_to_reversed(mat, products)?;
     divide_rows(mat, products);
     Ok(())
 }
 
 // From coefficients whose rows lie in bit reversed order, the values on the subgroup of
 // `2^added_bits` times as many points, in natural order.
-fn extend<F: TwoAdicField>(
+fn extend_to_natural<F: TwoAdicField>(
     mat: RowMajorMatrix<F>,
     added_bits: usize,
     products: &mut Products,
@@ -329,7 +329,7 @@ fn extend<F: TwoAdicField>(
     ensures cost { AtLog (height mat) (λ k. products.new ≤ products.old + mat.width * ((k + added_bits) * 2 ^ (k + added_bits) / 2)) }
 {
     let mut mat = spread_rows(mat, added_bits)?;
-    evaluate(&mut mat, products)?;
+    evaluate_to_natural(&mut mat, products)?;
     Ok(mat)
 }
 

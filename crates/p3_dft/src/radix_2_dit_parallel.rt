@@ -1,4 +1,4 @@
-//! The transform by two halves of layers, each run by run, which leaves its rows in bit reversed order.
+//! The transform by two halves of layers, each chunk by chunk, which leaves its rows in bit reversed order.
 
 ghost use Rattle.std.specs.Prelude.{◌≡◌, ◌↔◌, ◌⊎◌, ℕ, ◌+◌, ◌*◌, ◌/◌, ◌^◌, ◌<◌, ◌≤◌, IsTrue, IsOk, OnOk, OnErr};
 ghost use Rattle.p3_dft.specs.Engines.{IsPrepared, PreparesNoneAbove};
@@ -8,8 +8,8 @@ mod network;
 mod transform;
 
 use crate::blocks::{BlocksStopped, Unpublished};
-use crate::radix_2_dit_parallel::extension::{Unread, coefficients_with_room, extend};
-use crate::radix_2_dit_parallel::transform::{evaluate, evaluate_on_coset, interpolate};
+use crate::radix_2_dit_parallel::extension::{Unread, coefficients_with_room, extend_reversed};
+use crate::radix_2_dit_parallel::transform::{evaluate_to_reversed, evaluate_on_coset_to_reversed, interpolate_to_reversed};
 use crate::traits::{Layout, TwoAdicSubgroupDft};
 use p3_field::{Field, Products, TwoAdicField};
 use p3_matrix::{
@@ -22,8 +22,8 @@ use std::alloc::{AllocError, Global};
 use std::marker::Model;
 
 /// Transforms by layers of butterflies, in place, in two halves: the rows are reversed, the first half
-/// of the layers is done on each run of rows in turn, the rows are reversed again, and the second half
-/// is done on each run of rows in turn. A run has about as many rows as the square root of the height,
+/// of the layers is done on each chunk of rows in turn, the rows are reversed again, and the second half
+/// is done on each chunk of rows in turn. A chunk has about as many rows as the square root of the height,
 /// so that it stays in the cache for all layers of its half. The values are left in bit reversed order.
 /// At height `2^k` and width w that is at most `w * k * 2^k / 2` products, on a coset too, and `w * 2^k`
 /// more for an inverse. An extension by a bits takes those of an inverse and of `2^a` transforms.
@@ -176,7 +176,7 @@ impl<F: TwoAdicField> TwoAdicSubgroupDft<F> for Radix2DitParallel<F> {
         }
         let log_h = log2_strict_usize(height);
         self.tables.make(*mat.allocator(), log_h)?;
-        evaluate(&mut mat, log_h, &self.tables, &mut self.products);
+        evaluate_to_reversed(&mut mat, log_h, &self.tables, &mut self.products);
         Ok(mat.bit_reverse_rows())
     }
 
@@ -184,7 +184,7 @@ impl<F: TwoAdicField> TwoAdicSubgroupDft<F> for Radix2DitParallel<F> {
         self.products.add(products);
     }
 
-    /// As the trait says: a block is a run of rows of the second half.
+    /// As the trait says: a block is a chunk of rows of the second half.
     fn block_height(&self, log_h: usize, _added_bits: usize) -> usize {
         1 << (log_h - (log_h + 1) / 2)
     }
@@ -233,7 +233,7 @@ impl<F: TwoAdicField> TwoAdicSubgroupDft<F> for Radix2DitParallel<F> {
         let log_h = log2_strict_usize(height);
         let place = self.cosets.make(*mat.allocator(), log_h, shift)?;
         let table = self.cosets.get(place);
-        evaluate_on_coset(&mut mat, log_h, table, &mut self.products);
+        evaluate_on_coset_to_reversed(&mut mat, log_h, table, &mut self.products);
         Ok(mat.bit_reverse_rows())
     }
 
@@ -263,13 +263,13 @@ impl<F: TwoAdicField> TwoAdicSubgroupDft<F> for Radix2DitParallel<F> {
         }
         let log_h = log2_strict_usize(height);
         self.tables.make(*mat.allocator(), log_h)?;
-        interpolate(&mut mat, log_h, &self.tables, &mut self.products);
+        interpolate_to_reversed(&mut mat, log_h, &self.tables, &mut self.products);
         reverse_rows(&mut mat);
         Ok(mat)
     }
 
     /// As the trait says, coset by coset: the coefficients stay in bit reversed order, which the transform is
-    /// told, and each run of as many rows as the input has gets the values on a coset of its own. The rows
+    /// told, and each chunk of as many rows as the input has gets the values on a coset of its own. The rows
     /// of zeros are not looked at. `Ok` makes the height of the input prepared for good, and leaves the
     /// tables of all cosets. Where all of these were there, they stay as they were. After an error the height
     /// and some of these cosets may have their tables already; none is lost.
@@ -322,7 +322,7 @@ impl<F: TwoAdicField> TwoAdicSubgroupDft<F> for Radix2DitParallel<F> {
         }
     }
 
-    /// As the trait says: each run of rows of the second half is lent as soon as it is final, so that it is
+    /// As the trait says: each chunk of rows of the second half is lent as soon as it is final, so that it is
     /// in the cache still. The first rows, which hold the coefficients until the others are made from
     /// them, are the last that are lent. It leaves of the tables what `coset_lde_batch_with_transform`
     /// leaves; where the consumer refused, what that leaves with `Ok`.
@@ -385,7 +385,7 @@ impl<F: TwoAdicField> TwoAdicSubgroupDft<F> for Radix2DitParallel<F> {
             Err(_) => return Err(BlocksStopped::OutOfMemory(Unpublished { make_consumer })),
         };
         let mut consumer = make_consumer(block_height);
-        let extended = extend(
+        let extended = extend_reversed(
             &mut mat,
             log_h,
             added_bits,

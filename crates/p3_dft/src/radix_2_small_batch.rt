@@ -200,7 +200,7 @@ impl<F: TwoAdicField> TwoAdicSubgroupDft<F> for Radix2DFTSmallBatch<F> {
         let log_h = log2_strict_usize(height);
         self.tables.make(*mat.allocator(), log_h)?;
         let twiddles = self.tables.forward();
-        evaluate(&mut mat, log_h, self.tile, twiddles, &mut self.products);
+        evaluate_natural(&mut mat, log_h, self.tile, twiddles, &mut self.products);
         Ok(mat)
     }
 
@@ -238,7 +238,7 @@ impl<F: TwoAdicField> TwoAdicSubgroupDft<F> for Radix2DFTSmallBatch<F> {
         let log_h = log2_strict_usize(height);
         self.tables.make(*mat.allocator(), log_h)?;
         let twiddles = self.tables.backward();
-        interpolate(&mut mat, log_h, self.tile, twiddles, &mut self.products);
+        interpolate_natural(&mut mat, log_h, self.tile, twiddles, &mut self.products);
         Ok(mat)
     }
 
@@ -275,10 +275,10 @@ impl<F: TwoAdicField> TwoAdicSubgroupDft<F> for Radix2DFTSmallBatch<F> {
         self.tables.make(*mat.allocator(), log_h + added_bits)?;
         let tile = self.tile;
         let backward = self.tables.backward();
-        interpolate_reversed(&mut mat, log_h, tile, backward, &mut self.products);
+        interpolate_unscaled_to_reversed(&mut mat, log_h, tile, backward, &mut self.products);
         let scale = F::ONE.div_2exp_u64(log_h as u64);
         let forward = self.tables.forward();
-        extend(
+        extend_to_natural(
             mat,
             scale,
             shift,
@@ -312,7 +312,7 @@ impl<F: TwoAdicField> TwoAdicSubgroupDft<F> for Radix2DFTSmallBatch<F> {
         let changed = transform(coefficients, Layout::Natural);
         let mut grown = pad_rows(changed, added_bits)?;
         let twiddles = self.tables.forward();
-        extend_in_slots(
+        extend_to_reversed(
             &mut grown,
             log_h,
             added_bits,
@@ -340,7 +340,7 @@ impl<F: TwoAdicField> TwoAdicSubgroupDft<F> for Radix2DFTSmallBatch<F> {
 }
 
 // From coefficients to values on the subgroup, in place.
-fn evaluate<F: TwoAdicField>(
+fn evaluate_natural<F: TwoAdicField>(
     mat: &mut RowMajorMatrix<F>,
     log_h: usize,
     tile: usize,
@@ -350,7 +350,7 @@ fn evaluate<F: TwoAdicField>(
     requires whole { IsRowMajor mat.old }
     requires some { 1 ≤ log_h }
     requires small { log_h < 64 }
-    requires rooted { log_h ≤ F.TWO_ADICITY }
+    requires within { log_h ≤ F.TWO_ADICITY }
     requires height { height mat.old ≡ 2 ^ log_h }
     requires tile { tile ≤ 4294967296 }
     requires twiddles { AreTwiddlesFromStart F.Field.own log_h
@@ -376,7 +376,7 @@ fn evaluate<F: TwoAdicField>(
 
 // From values on the subgroup, the coefficients times the height, in place: rows in natural order
 // become rows in bit reversed order. A single row has no layer.
-fn interpolate_reversed<F: TwoAdicField>(
+fn interpolate_unscaled_to_reversed<F: TwoAdicField>(
     mat: &mut RowMajorMatrix<F>,
     log_h: usize,
     tile: usize,
@@ -385,7 +385,7 @@ fn interpolate_reversed<F: TwoAdicField>(
 )
     requires whole { IsRowMajor mat.old }
     requires small { log_h < 64 }
-    requires rooted { log_h ≤ F.TWO_ADICITY }
+    requires within { log_h ≤ F.TWO_ADICITY }
     requires height { height mat.old ≡ 2 ^ log_h }
     requires tile { tile ≤ 4294967296 }
     requires twiddles { AreTwiddlesFromStart F.Field.own log_h
@@ -416,7 +416,7 @@ fn interpolate_reversed<F: TwoAdicField>(
 
 // From coefficients whose rows lie in bit reversed order, times `scale`, the values on the coset of
 // `shift` of `2^added_bits` times as many points, which are more than one.
-fn extend<F: TwoAdicField>(
+fn extend_to_natural<F: TwoAdicField>(
     mat: RowMajorMatrix<F>,
     scale: F,
     shift: F,
@@ -429,7 +429,7 @@ fn extend<F: TwoAdicField>(
     requires whole { IsRowMajor mat }
     requires some { 1 ≤ log_h + added_bits }
     requires small { log_h + added_bits < 64 }
-    requires rooted { log_h + added_bits ≤ F.TWO_ADICITY }
+    requires within { log_h + added_bits ≤ F.TWO_ADICITY }
     requires height { height mat ≡ 2 ^ log_h }
     requires room { mat.width * 2 ^ (log_h + added_bits) < 2 ^ 64 }
     requires tile { tile ≤ 4294967296 }
@@ -464,7 +464,7 @@ fn extend<F: TwoAdicField>(
 
 // From coefficients in natural order, with rows of zeros below them, their values on the coset of `shift`
 // that has as many points as there are rows, in bit reversed order. What the zeros are does not matter.
-fn extend_in_slots<F: TwoAdicField>(
+fn extend_to_reversed<F: TwoAdicField>(
     mat: &mut RowMajorMatrix<F>,
     log_h: usize,
     added_bits: usize,
@@ -505,7 +505,7 @@ fn extend_in_slots<F: TwoAdicField>(
 }
 
 // From values on the subgroup to coefficients, in place.
-fn interpolate<F: TwoAdicField>(
+fn interpolate_natural<F: TwoAdicField>(
     mat: &mut RowMajorMatrix<F>,
     log_h: usize,
     tile: usize,
@@ -515,7 +515,7 @@ fn interpolate<F: TwoAdicField>(
     requires whole { IsRowMajor mat.old }
     requires some { 1 ≤ log_h }
     requires small { log_h < 64 }
-    requires rooted { log_h ≤ F.TWO_ADICITY }
+    requires within { log_h ≤ F.TWO_ADICITY }
     requires height { height mat.old ≡ 2 ^ log_h }
     requires tile { tile ≤ 4294967296 }
     requires twiddles { AreTwiddlesFromStart F.Field.own log_h

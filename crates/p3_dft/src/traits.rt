@@ -260,7 +260,7 @@ pub trait TwoAdicSubgroupDft<F: TwoAdicField>: Clone + Default {
     /// those of that call, and that `make_consumer` may be called with the height of a block.
     ///
     /// `make_consumer` is called once, with the height of a block, unless memory is refused: then it is
-    /// not called, so that nothing was published, and comes back. A block is a run of so many rows of
+    /// not called, so that nothing was published, and comes back. A block is a chunk of so many rows of
     /// the output's physical matrix; the consumer is told the number of the first. When it refuses a
     /// block no further one is lent, and it comes back with the refusal. The order of the blocks is not
     /// promised. The engines of this crate call `make_consumer` after `transform` and after the last

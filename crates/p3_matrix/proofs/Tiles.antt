@@ -131,9 +131,9 @@ module _ (bits m k : ℕ) (parts : bits ≡ k + m + k) where
       here a t b f g lo hi (inr c) (inl q) = absurd (omega (arith, row_within r t (2 ^ k * 2 ^ k) (t * (2 ^ k * 2 ^ k)) q refl))
       here a t b f g lo hi (inr c) (inr q) = omega arith
 
--- runs of w entries at different places
-pub runs_apart : (p q w : ℕ) → (p ≡ q → ⊥) → (p * w + w ≤ q * w) ⊎ (q * w + w ≤ p * w)
-runs_apart p q w n = ⊎_elim (λ l. inl (row_within p q w (q * w) l refl)) (λ l. inr (row_within q p w (p * w) (omega arith) refl)) (cases_lt p q)
+-- chunks of w entries at different places
+pub chunks_apart : (p q w : ℕ) → (p ≡ q → ⊥) → (p * w + w ≤ q * w) ⊎ (q * w + w ≤ p * w)
+chunks_apart p q w n = ⊎_elim (λ l. inl (row_within p q w (q * w) l refl)) (λ l. inr (row_within q p w (p * w) (omega arith) refl)) (cases_lt p q)
 
 -- a place and its mirror, by numbers that are those of tiles and of outer digits
 module _ (bits m k : ℕ) (outer : 2 * k ≤ bits) (inner : m ≡ bits - 2 * k) (tiles side : ℕ) (ts : tiles ≡ 2 ^ m) (ss : side ≡ 2 ^ k) where
@@ -144,17 +144,18 @@ module _ (bits m k : ℕ) (outer : 2 * k ≤ bits) (inner : m ≡ bits - 2 * k) 
   usize_size l = omega (arith, ap₂ (λ x y. y * x * y) ts ss, size_is bits m k digits, pow_below bits 64 (omega arith))
 
   module _ (near a r b : ℕ) (is : near ≡ (a * tiles + r) * side + b) (la : a < side) (lr : r < tiles) (lb : b < side) where
-    pub run_is : near ≡ place (2 ^ m) (2 ^ k) a r b
-    run_is = is ∙ ap₂ (λ x y. (a * x + r) * y + b) ts ss
+    pub chunk_is : near ≡ place (2 ^ m) (2 ^ k) a r b
+    chunk_is = is ∙ ap₂ (λ x y. (a * x + r) * y + b) ts ss
 
-    pub run_lt : near < 2 ^ bits
-    run_lt = omega (arith, run_is, place_below bits m k digits a r b (omega arith) (omega arith) (omega arith))
+    pub chunk_lt : near < 2 ^ bits
+    chunk_lt = omega (arith, chunk_is, place_below bits m k digits a r b (omega arith) (omega arith) (omega arith))
 
-    pub run_number : tile_order (2 ^ m) (2 ^ k) near ≡ (r * 2 ^ k + a) * 2 ^ k + b
-    run_number = ap (tile_order (2 ^ m) (2 ^ k)) run_is ∙ order_at (2 ^ m) (2 ^ k) a r b (omega arith) (omega arith)
+    pub chunk_in_tile_order : tile_order (2 ^ m) (2 ^ k) near ≡ (r * 2 ^ k + a) * 2 ^ k + b
+    chunk_in_tile_order =
+        ap (tile_order (2 ^ m) (2 ^ k)) chunk_is ∙ order_at (2 ^ m) (2 ^ k) a r b (omega arith) (omega arith)
 
     pub mirror_is : rev bits near ≡ place (2 ^ m) (2 ^ k) (rev k b) (rev m r) (rev k a)
-    mirror_is = ap (rev bits) run_is ∙ rev_place bits m k digits a r b (omega arith) (omega arith) (omega arith)
+    mirror_is = ap (rev bits) chunk_is ∙ rev_place bits m k digits a r b (omega arith) (omega arith) (omega arith)
 
     -- the partner of a place comes after it
     pub mirror_after : r ≤ rev m r → (r < rev m r) ⊎ (a < rev k b) → (r * 2 ^ k + a) * 2 ^ k + b < tile_order (2 ^ m) (2 ^ k) (rev bits near)
@@ -176,4 +177,4 @@ module _ (bits m k : ℕ) (outer : 2 * k ≤ bits) (inner : m ≡ bits - 2 * k) 
           omega (arith, mirror_after (omega arith) (⊎_elim (λ l. inl (omega arith)) (λ l. inr (omega arith)) before), ap (tile_order (2 ^ m) (2 ^ k)) partner_is)
 
       pub partner_not : r ≤ s → (r < s) ⊎ (a < c) → near ≡ far → ⊥
-      partner_not first before e = omega (arith, partner_after first before, run_number, ap (tile_order (2 ^ m) (2 ^ k)) e)
+      partner_not first before e = omega (arith, partner_after first before, chunk_in_tile_order, ap (tile_order (2 ^ m) (2 ^ k)) e)

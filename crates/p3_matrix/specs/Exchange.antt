@@ -1,4 +1,4 @@
--- Two runs of a list that change places.
+-- Two chunks of a list that change places.
 use Rattle.std.specs.Prelude.{◌≡◌, ℕ, ◌+◌, ◌<◌, ◌≤◌, ◌⊎◌, List, get_or}
 
 -- ys is xs with the n elements from a on and those from b on in each other's places

@@ -153,7 +153,7 @@ pub fn reverse_slice_index_bits<T>(values: &mut [T])
 {
     let size = values.len();
     if size > 0 {
-        reverse_runs(values, 1, log2_strict_usize(size));
+        reverse_chunks(values, 1, log2_strict_usize(size));
     }
 }
 
@@ -170,7 +170,7 @@ pub fn reverse_matrix_index_bits<T>(view: &mut RowMajorMatrixViewMut<'_, T>)
     let width = view.width();
     let height = view.height();
     if height > 0 {
-        reverse_runs(view.values_mut(), width, log2_strict_usize(height));
+        reverse_chunks(view.values_mut(), width, log2_strict_usize(height));
     }
 }
 
@@ -188,9 +188,9 @@ pub fn reverse_rows<T>(mat: &mut RowMajorMatrix<T>)
     reverse_matrix_index_bits(&mut mat.as_view_mut());
 }
 
-/// Puts `2^bits` runs of `width` entries, which lie one after another in a slice, into bit reversed order,
-/// in place: run i becomes what run `rev i` was. `bits` is at most 63.
-pub fn reverse_runs<T>(values: &mut [T], width: usize, bits: usize)
+/// Puts `2^bits` chunks of `width` entries, which lie one after another in a slice, into bit reversed order,
+/// in place: chunk i becomes what chunk `rev i` was. `bits` is at most 63.
+pub fn reverse_chunks<T>(values: &mut [T], width: usize, bits: usize)
     requires bits { bits ≤ 63 }
     requires size { length values.old ≡ 2 ^ bits * width }
     ensures { (d : T) (i j : ℕ) → i < 2 ^ bits → j < width
@@ -206,9 +206,9 @@ pub fn reverse_runs<T>(values: &mut [T], width: usize, bits: usize)
     }
 }
 
-// The digits of a run's number are `outer` first ones, those of its tile and `outer` last ones. The runs
+// The digits of a chunk's number are `outer` first ones, those of its tile and `outer` last ones. The chunks
 // of a tile change places with those of its mirror when the first of the two tiles is reached: so one
-// carry and one test serve them all, and runs that lie side by side are moved together.
+// carry and one test serve them all, and chunks that lie side by side are moved together.
 #[inline(always)]
 fn reverse_by_tiles<T>(values: &mut [T], width: usize, bits: usize, outer: usize)
     requires bits { bits ≤ 63 }
@@ -228,8 +228,8 @@ fn reverse_by_tiles<T>(values: &mut [T], width: usize, bits: usize, outer: usize
                 for last in 0..side {
                     let far_first = reverse_bits_len(last, outer);
                     if tile < mirror || first < far_first {
-                        let near = run(first, tile, last, tiles, side);
-                        let far = run(far_first, mirror, far_last, tiles, side);
+                        let near = chunk_number(first, tile, last, tiles, side);
+                        let far = chunk_number(far_first, mirror, far_last, tiles, side);
                         exchange(values, near * width, far * width, width);
                     }
                 }
@@ -239,9 +239,9 @@ fn reverse_by_tiles<T>(values: &mut [T], width: usize, bits: usize, outer: usize
     }
 }
 
-// The number of a run: its first digits, its tile and its last digits, one after the other.
+// The number of a chunk: its first digits, its tile and its last digits, one after the other.
 #[inline(always)]
-fn run(first: usize, tile: usize, last: usize, tiles: usize, side: usize) -> usize
+fn chunk_number(first: usize, tile: usize, last: usize, tiles: usize, side: usize) -> usize
     requires first { first < side }
     requires tile { tile < tiles }
     requires last { last < side }

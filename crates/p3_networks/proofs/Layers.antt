@@ -5,6 +5,6 @@ pub mod Counts
 pub mod Groups
 pub mod Halves
 pub mod Pairs
-pub mod Runs
+pub mod Chunks
 pub mod Sizes
 pub mod Tiles

@@ -6,9 +6,9 @@ pub mod HighRows
 pub mod LowHalves
 pub mod LowLayers
 pub mod LowRows
-pub mod Runs
+pub mod Chunks
 pub mod SlotPlaces
 pub mod Slots
 pub mod Scaled
 pub mod Stages
-pub mod TurnedRows
+pub mod TwistedRows

@@ -1,3 +1,3 @@
 -- Rows of flat lists: blocks of them that are lent, and chunks.
 pub mod Lent
-pub mod Runs
+pub mod Chunks

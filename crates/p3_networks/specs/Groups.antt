@@ -13,12 +13,12 @@ abbrev pub group_of : Order → ℕ → ℕ → ℕ
 group_of LargestFirst count done = done
 group_of SmallestFirst count done = count - 1 - done
 
--- the entry whose layer comes when so many of those from `from` up to `to` are done
-abbrev pub entry_of : Order → ℕ → ℕ → ℕ → ℕ
-entry_of LargestFirst from to done = to - 1 - done
-entry_of SmallestFirst from to done = from + done
+-- the layer that comes when so many of those from `from` up to `to` are done
+abbrev pub layer_of : Order → ℕ → ℕ → ℕ → ℕ
+layer_of LargestFirst from to done = to - 1 - done
+layer_of SmallestFirst from to done = from + done
 
--- cells e stand below entry e where the smallest blocks come first, and else behind it: which ones stand when so many layers are done
+-- cells e stand before layer e where the smallest blocks come first, and else behind it: which ones stand when so many layers are done
 abbrev pub cells_of : Order → ℕ → ℕ → ℕ → ℕ
 cells_of LargestFirst from to done = to - done
 cells_of SmallestFirst from to done = from + done

@@ -49,7 +49,7 @@ pub trait Rule<F: TwoAdicField>: Copy {
         ensures far { (j : ℕ) → j < length row_1.old → F.value (get_or row_2.new j F.ZERO)
             ≡ far F.Element F.ring F.value self block place (F.value (get_or row_1.old j F.ZERO)) (F.value (get_or row_2.old j F.ZERO)) }
         ensures grows { products.old ≤ products.new }
-        ensures count { products.new ≤ products.old + cost * length row_1.old };
+        ensures cost { products.new ≤ products.old + cost * length row_1.old };
 
     /// Takes the halves of a block of one column, whose place t is entry t, to the near and the far
     /// half in their places.
@@ -62,7 +62,7 @@ pub trait Rule<F: TwoAdicField>: Copy {
         ensures far { (t : ℕ) → t < length low.old → F.value (get_or high.new t F.ZERO)
             ≡ far F.Element F.ring F.value self block t (F.value (get_or low.old t F.ZERO)) (F.value (get_or high.old t F.ZERO)) }
         ensures grows { products.old ≤ products.new }
-        ensures count { products.new ≤ products.old + cost * length low.old };
+        ensures cost { products.new ≤ products.old + cost * length low.old };
 }
 
 /// Blocks of a layer. The rows come in blocks of two halves, of `half` rows each, and row t of the
@@ -100,7 +100,7 @@ pub fn layer<F: TwoAdicField, R: Rule<F>>(
         ≡ R.far F.Element F.ring F.value rule (first_block + b) (i / width)
         (cell values.old (b * (2 * size) + i)) (cell values.old (b * (2 * size) + (size + i))) }
     ensures grows { products.old ≤ products.new }
-    ensures count { products.new ≤ products.old + R.cost * (blocks * (half * width)) }
+    ensures cost { products.new ≤ products.old + R.cost * (blocks * (half * width)) }
 {
     // In a column whose halves are no full packs, the loops of a block of known size are unrolled.
     if width == 1 && half == 1 {
@@ -142,7 +142,7 @@ fn meet_blocks<F: TwoAdicField, R: Rule<F>>(
         ≡ R.far F.Element F.ring F.value rule (first_block + b) (i / width)
         (cell values.old (b * (2 * size) + i)) (cell values.old (b * (2 * size) + (size + i))) }
     ensures grows { products.old ≤ products.new }
-    ensures count { products.new ≤ products.old + R.cost * (blocks * (half * width)) }
+    ensures cost { products.new ≤ products.old + R.cost * (blocks * (half * width)) }
 {
     let size = 2 * (half * width);
     for b in 0..blocks {
@@ -175,7 +175,7 @@ fn meet_block<F: TwoAdicField, R: Rule<F>>(
         (i : ℕ) → i < size → cell values.new (size + i)
         ≡ R.far F.Element F.ring F.value rule block (i / width) (cell values.old i) (cell values.old (size + i)) }
     ensures grows { products.old ≤ products.new }
-    ensures count { products.new ≤ products.old + R.cost * (half * width) }
+    ensures cost { products.new ≤ products.old + R.cost * (half * width) }
 {
     let (low, high) = values.split_at_mut(half * width);
     if rule.goes_by_block() {
@@ -216,7 +216,7 @@ fn meet_halves<F: TwoAdicField, R: Rule<F>>(
         (t j : ℕ) → t < half → j < width → cell high.new (t * width + j)
         ≡ R.far F.Element F.ring F.value rule block t (cell low.old (t * width + j)) (cell high.old (t * width + j)) }
     ensures grows { products.old ≤ products.new }
-    ensures count { products.new ≤ products.old + R.cost * (half * width) }
+    ensures cost { products.new ≤ products.old + R.cost * (half * width) }
 {
     // The first pair stands apart: what a rule asks of place 0 is then known in the loop.
     meet_rows_at(rule, low, high, width, block, 0, products);
@@ -248,7 +248,7 @@ fn meet_rows_at<F: TwoAdicField, R: Rule<F>>(
     ensures low_stays { (n : ℕ) → (n < place * width) ⊎ (place * width + width ≤ n) → get_or low.new n F.ZERO ≡ get_or low.old n F.ZERO }
     ensures high_stays { (n : ℕ) → (n < place * width) ⊎ (place * width + width ≤ n) → get_or high.new n F.ZERO ≡ get_or high.old n F.ZERO }
     ensures grows { products.old ≤ products.new }
-    ensures count { products.new ≤ products.old + R.cost * width }
+    ensures cost { products.new ≤ products.old + R.cost * width }
 {
     let start = place * width;
     let end = start + width;
@@ -267,7 +267,7 @@ fn meet_rows_at<F: TwoAdicField, R: Rule<F>>(
 ///
 /// Inlined, so that a size that the caller names is known in the loop.
 #[inline(always)]
-pub fn layer_from<F: TwoAdicField, B: Butterfly<F>>(
+pub fn layer_oop<F: TwoAdicField, B: Butterfly<F>>(
     butterfly: B,
     source: &[F],
     values: &mut [F],
@@ -285,12 +285,12 @@ pub fn layer_from<F: TwoAdicField, B: Butterfly<F>>(
         (b i : ℕ) → b < blocks → i < size → cell values.new (b * (2 * size) + (size + i))
         ≡ B.far F.Element F.ring F.value butterfly (cell source.now (b * (2 * size) + i)) (cell source.now (b * (2 * size) + (size + i))) }
     ensures grows { products.old ≤ products.new }
-    ensures count { products.new ≤ products.old + B.cost * (blocks * size) }
+    ensures cost { products.new ≤ products.old + B.cost * (blocks * size) }
 {
     let whole = 2 * size;
     for b in 0..blocks {
         let start = b * whole;
-        meet_block_from(
+        meet_block_oop(
             butterfly,
             &source[start..start + whole],
             &mut values[start..start + whole],
@@ -302,7 +302,7 @@ pub fn layer_from<F: TwoAdicField, B: Butterfly<F>>(
 
 // One block of it.
 #[inline(always)]
-fn meet_block_from<F: TwoAdicField, B: Butterfly<F>>(
+fn meet_block_oop<F: TwoAdicField, B: Butterfly<F>>(
     butterfly: B,
     source: &[F],
     values: &mut [F],

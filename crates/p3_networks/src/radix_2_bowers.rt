@@ -25,8 +25,8 @@ pub fn network_g<F: TwoAdicField>(
     requires wide { 1 ≤ width }
     requires some { 1 ≤ log_h }
     requires small { log_h < 64 }
-    requires rooted { log_h ≤ F.TWO_ADICITY }
-    requires height { length values.old ≡ 2 ^ log_h * width }
+    requires within { log_h ≤ F.TWO_ADICITY }
+    requires size { length values.old ≡ 2 ^ log_h * width }
     requires twiddles { AreTwiddles F.Field.own (2 ^ (log_h - 1))
         (λ b. power F.ring (F.value (F.generator log_h)) (rev (log_h - 1) b)) twiddles.now }
     ensures values { AreValuesOfRows F.Field.own width (2 ^ log_h) (rev log_h)
@@ -53,8 +53,8 @@ pub fn network_g_transposed<F: TwoAdicField>(
     requires wide { 1 ≤ width }
     requires some { 1 ≤ log_h }
     requires small { log_h < 64 }
-    requires rooted { log_h ≤ F.TWO_ADICITY }
-    requires height { length values.old ≡ 2 ^ log_h * width }
+    requires within { log_h ≤ F.TWO_ADICITY }
+    requires size { length values.old ≡ 2 ^ log_h * width }
     requires twiddles { AreTwiddles F.Field.own (2 ^ (log_h - 1))
         (λ b. power F.ring (power F.ring (F.value (F.generator log_h)) (2 ^ log_h - 1)) (rev (log_h - 1) b)) twiddles.now }
     ensures values { AreValuesOfRows F.Field.own width (2 ^ log_h) (λ q. q)

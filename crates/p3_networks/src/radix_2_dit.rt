@@ -30,13 +30,13 @@ pub fn dit_network_to_natural<F: TwoAdicField>(
 )
     requires wide { 1 ≤ width }
     requires small { log_h < 64 }
-    requires rooted { log_h ≤ F.TWO_ADICITY }
-    requires height { length values.old ≡ 2 ^ log_h * width }
+    requires within { log_h ≤ F.TWO_ADICITY }
+    requires size { length values.old ≡ 2 ^ log_h * width }
     requires twiddles { AreTwiddlesOfLayers F.Field.own log_h (root_powers F.Field.own F.generator false) twiddles.now }
     ensures values { AreValuesOfRows F.Field.own width (2 ^ log_h) (rev log_h)
         (λ r. power F.ring (F.value (F.generator log_h)) r) values.old values.new }
     ensures grows { products.old ≤ products.new }
-    ensures count { products.new ≤ products.old + width * (log_h * 2 ^ log_h / 2) }
+    ensures cost { products.new ≤ products.old + width * (log_h * 2 ^ log_h / 2) }
 {
     if log_h > 0 && values.len() > CACHED {
         let (low, high) = values.split_at_mut(values.len() / 2);

@@ -1,6 +1,6 @@
-//! The two halves of the network that goes run by run, its tables, and the slots of its extension.
+//! The two halves of the network that goes chunk by chunk, its tables, and the slots of its extension.
 
 pub mod coset_tables;
 pub mod halves;
-pub mod slots;
+pub mod published_slots;
 pub mod tables;

@@ -105,7 +105,7 @@ impl<F: TwoAdicField> RootTables<F> {
 
 // From half the powers of a generator, in bit reversed order, those of its inverse, in that order. The
 // first stays. The j-th power of the inverse is the negative of power `2^(log_h - 1) - j`, so each
-// run of `2^l` entries from place `2^l` on is negated and turned around: no product is made.
+// chunk of `2^l` entries from place `2^l` on is negated and turned around: no product is made.
 fn inverse_powers<F: TwoAdicField>(
     alloc: Global,
     powers: &[F],
@@ -113,7 +113,7 @@ fn inverse_powers<F: TwoAdicField>(
 ) -> Result<Vec<F>, DftError>
     requires some { 1 ≤ log_h }
     requires small { log_h < 64 }
-    requires rooted { log_h ≤ F.TWO_ADICITY }
+    requires within { log_h ≤ F.TWO_ADICITY }
     requires powers { AreTwiddles F.Field.own (2 ^ (log_h - 1))
         (block_powers F.Field.own (forward_root F.Field.own F.generator) (log_h - 1)) powers.now }
     ensures { IfOk result (λ v. AreTwiddles F.Field.own (2 ^ (log_h - 1))
@@ -122,8 +122,8 @@ fn inverse_powers<F: TwoAdicField>(
     let mut inverse = Vec::with_capacity(alloc, powers.len())?;
     inverse.push(F::ONE)?;
     for b in 1..powers.len() {
-        let run = 1usize << b.ilog2();
-        inverse.push(-powers[3 * run - 1 - b])?;
+        let chunk = 1usize << b.ilog2();
+        inverse.push(-powers[3 * chunk - 1 - b])?;
     }
     Ok(inverse)
 }

@@ -19,7 +19,7 @@ pub fn shift_values<F: TwoAdicField>(
     ensures values { (i j : ℕ) → i < height → j < width → F.value (get_or values.new (i * width + j) F.ZERO)
         ≡ F.ring.mul (F.value (get_or values.old (i * width + j) F.ZERO)) (power F.ring (F.value shift) i) }
     ensures grows { products.old ≤ products.new }
-    ensures count { products.new ≤ products.old + height * width }
+    ensures cost { products.new ≤ products.old + height * width }
 {
     if shift == F::ONE {
         return;

@@ -66,7 +66,7 @@ impl<F: TwoAdicField> Twiddles<F> {
         if log_h <= self.log_h {
             return Ok(());
         }
-        let powers = root_layers(alloc, false, log_h)?;
+        let powers = twiddles_of_layers(alloc, false, log_h)?;
         self.powers = Some(powers);
         self.log_h = log_h;
         Ok(())
@@ -110,7 +110,7 @@ fn root<F: TwoAdicField>(inverse: bool, bits: usize) -> F
 
 /// The powers of the generators, or of their inverses, for the layers 0 to `layers - 1`, in natural order:
 /// those of layer l begin at place `2^l - 1`. There are at most `TWO_ADICITY` layers, and fewer than 64.
-pub fn root_layers<F: TwoAdicField>(
+pub fn twiddles_of_layers<F: TwoAdicField>(
     alloc: Global,
     inverse: bool,
     layers: usize,

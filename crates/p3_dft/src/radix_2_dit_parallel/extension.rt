@@ -12,13 +12,13 @@ ghost use Rattle.p3_dft.specs.Extensions.{IsAnswerOverZeros, IsCallable, KeepsSh
 ghost use Rattle.p3_dft.specs.Shapes.{FitsLde};
 ghost use Rattle.p3_dft.specs.declared.traits.Layout.TheVariants.{BitReversed};
 
-use crate::radix_2_dit_parallel::transform::interpolate;
+use crate::radix_2_dit_parallel::transform::interpolate_to_reversed;
 use crate::traits::Layout;
 use crate::util::pad_rows;
 use p3_field::{Products, TwoAdicField};
 use p3_matrix::{BlockConsumer, DftError, RowMajorMatrix, RowMajorMatrixView, log2_strict_usize};
 use p3_networks::radix_2_dit_parallel::coset_tables::CosetTables;
-use p3_networks::radix_2_dit_parallel::slots::extend_slots;
+use p3_networks::radix_2_dit_parallel::published_slots::extend_slots;
 use p3_networks::radix_2_dit_parallel::tables::Tables;
 use std::convert::Infallible;
 
@@ -56,7 +56,7 @@ pub(crate) fn coefficients_with_room<
     let alloc = *mat.allocator();
     let log_h = log2_strict_usize(mat.height());
     tables.make(alloc, log_h)?;
-    interpolate(&mut mat, log_h, tables, products);
+    interpolate_to_reversed(&mut mat, log_h, tables, products);
     let changed = transform(mat, Layout::BitReversed);
     let grown = pad_rows(changed, added_bits)?;
     cosets.make_all(alloc, log_h, added_bits, shift)?;
@@ -67,7 +67,7 @@ pub(crate) fn coefficients_with_room<
 // `shift` that has as many points as there are rows, in bit reversed order. What the zeros are does not
 // matter. Each block of rows is lent to the consumer when it is final; when one is refused, the rest is not
 // done.
-pub(crate) fn extend<F: TwoAdicField, C: BlockConsumer<F>>(
+pub(crate) fn extend_reversed<F: TwoAdicField, C: BlockConsumer<F>>(
     mat: &mut RowMajorMatrix<F>,
     log_h: usize,
     added_bits: usize,

@@ -14,7 +14,7 @@ use p3_networks::radix_2_dit_parallel::halves::{BlockTwiddles, first_half, secon
 
 // From coefficients in natural order, their values on a coset, in bit reversed order. The first half has
 // `mid` layers and the second `left`. With a scale, the values are multiplied by it.
-pub(crate) fn network<F: TwoAdicField>(
+pub(crate) fn network_to_reversed<F: TwoAdicField>(
     mat: &mut RowMajorMatrix<F>,
     mid: usize,
     left: usize,
@@ -37,7 +37,7 @@ pub(crate) fn network<F: TwoAdicField>(
         ≡ poly F.ring (2 ^ (mid + left)) (λ q. F.ring.mul ((values_of F.Field.own mat.old).entry q j) (factor F.Field.own scale))
         (point F.ring g (mid + left) s (rev (mid + left) r)) }
     ensures grows { products.old ≤ products.new }
-    ensures count { products.new ≤ products.old
+    ensures cost { products.new ≤ products.old
         + (2 ^ left * (mat.old.width * (mid * 2 ^ mid / 2))
         + 2 ^ mid * (mat.old.width * (left * 2 ^ left / 2) + scale_cost scale * (2 ^ left * mat.old.width))) }
 {
@@ -64,7 +64,7 @@ fn first_of_matrix<F: TwoAdicField>(
         → (a t j : ℕ) → a < 2 ^ left → t < 2 ^ mid → j < mat.old.width → (values_of F.Field.own mat.new).entry (a * 2 ^ mid + t) j
         ≡ poly F.ring (2 ^ mid) (λ q. (values_of F.Field.own mat.old).entry (q * 2 ^ left + rev left a) j) (point F.ring g mid s t) }
     ensures grows { products.old ≤ products.new }
-    ensures count { products.new ≤ products.old + 2 ^ left * (mat.old.width * (mid * 2 ^ mid / 2)) }
+    ensures cost { products.new ≤ products.old + 2 ^ left * (mat.old.width * (mid * 2 ^ mid / 2)) }
 {
     let width = mat.width();
     reverse_rows(mat);
@@ -94,7 +94,7 @@ fn second_of_matrix<F: TwoAdicField>(
         (λ q. F.ring.mul ((values_of F.Field.own mat.old).entry (rev left q * 2 ^ mid + rev mid a) j) (factor F.Field.own scale))
         (point F.ring g left (point F.ring g (mid + left) s (rev mid a)) (rev left t)) }
     ensures grows { products.old ≤ products.new }
-    ensures count { products.new ≤ products.old
+    ensures cost { products.new ≤ products.old
         + 2 ^ mid * (mat.old.width * (left * 2 ^ left / 2) + scale_cost scale * (2 ^ left * mat.old.width)) }
 {
     let width = mat.width();
@@ -118,7 +118,7 @@ fn scale_rows<F: TwoAdicField>(
     ensures values { (i j : ℕ) → i < height mat.old → j < mat.old.width → (values_of F.Field.own mat.new).entry i j
         ≡ F.ring.mul ((values_of F.Field.own mat.old).entry i j) (factor F.Field.own scale) }
     ensures grows { products.old ≤ products.new }
-    ensures count { products.new ≤ products.old + scale_cost scale * length mat.old.values }
+    ensures cost { products.new ≤ products.old + scale_cost scale * length mat.old.values }
 {
     match scale {
         Some(scale) => scale_slice_in_place(mat.values_mut(), scale, products),

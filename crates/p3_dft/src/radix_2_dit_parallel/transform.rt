@@ -8,7 +8,7 @@ ghost use Rattle.p3_matrix.specs.Cosets.{AreCoefficients, IsValues, values_of};
 ghost use Rattle.p3_matrix.specs.Polynomials.{poly};
 ghost use Rattle.p3_networks.specs.Twiddles.{factor, root_of, scale_cost};
 
-use crate::radix_2_dit_parallel::network::network;
+use crate::radix_2_dit_parallel::network::network_to_reversed;
 use p3_field::{Field, Products, TwoAdicField};
 use p3_matrix::RowMajorMatrix;
 use p3_networks::radix_2_dit_parallel::coset_tables::CosetTable;
@@ -17,7 +17,7 @@ use p3_networks::radix_2_dit_parallel::tables::Tables;
 
 // From coefficients in natural order, their values at the powers of the generator, or of its inverse, in
 // bit reversed order. With a scale, the values are multiplied by it.
-pub(crate) fn transform<F: TwoAdicField>(
+pub(crate) fn transform_to_reversed<F: TwoAdicField>(
     mat: &mut RowMajorMatrix<F>,
     log_h: usize,
     tables: &Tables<F>,
@@ -42,7 +42,7 @@ pub(crate) fn transform<F: TwoAdicField>(
         twiddles: tables.high(inverse),
         by_layer: false,
     };
-    network(
+    network_to_reversed(
         mat,
         mid,
         log_h - mid,
@@ -54,7 +54,7 @@ pub(crate) fn transform<F: TwoAdicField>(
 }
 
 // From coefficients in natural order, their values on the subgroup, in bit reversed order.
-pub(crate) fn evaluate<F: TwoAdicField>(
+pub(crate) fn evaluate_to_reversed<F: TwoAdicField>(
     mat: &mut RowMajorMatrix<F>,
     log_h: usize,
     tables: &Tables<F>,
@@ -71,11 +71,11 @@ pub(crate) fn evaluate<F: TwoAdicField>(
     ensures grows { products.old ≤ products.new }
     ensures cost { products.new ≤ products.old + mat.old.width * (log_h * 2 ^ log_h / 2) }
 {
-    transform(mat, log_h, tables, false, None, products);
+    transform_to_reversed(mat, log_h, tables, false, None, products);
 }
 
 // From values on the subgroup in natural order, the coefficients, in bit reversed order.
-pub(crate) fn interpolate<F: TwoAdicField>(
+pub(crate) fn interpolate_to_reversed<F: TwoAdicField>(
     mat: &mut RowMajorMatrix<F>,
     log_h: usize,
     tables: &Tables<F>,
@@ -85,7 +85,7 @@ pub(crate) fn interpolate<F: TwoAdicField>(
     requires small { log_h < 64 }
     requires height { height mat.old ≡ 2 ^ log_h }
     requires there { log_h ≤ tables.now }
-    requires rooted { log_h ≤ F.TWO_ADICITY }
+    requires within { log_h ≤ F.TWO_ADICITY }
     ensures shape { HasShapeOf mat.new mat.old }
     ensures size { length mat.new.values ≡ length mat.old.values }
     ensures coefficients { AreCoefficients F.ring (λ n. F.value (F.generator n)) (values_of F.Field.own mat.old) log_h F.ring.one
@@ -94,12 +94,12 @@ pub(crate) fn interpolate<F: TwoAdicField>(
     ensures cost { products.new ≤ products.old + mat.old.width * (log_h * 2 ^ log_h / 2) + 2 ^ log_h * mat.old.width }
 {
     let scale = F::ONE.div_2exp_u64(log_h as u64);
-    transform(mat, log_h, tables, true, Some(scale), products);
+    transform_to_reversed(mat, log_h, tables, true, Some(scale), products);
 }
 
 // From coefficients in natural order, their values on the coset that a table is of, in bit reversed
 // order.
-pub(crate) fn evaluate_on_coset<F: TwoAdicField>(
+pub(crate) fn evaluate_on_coset_to_reversed<F: TwoAdicField>(
     mat: &mut RowMajorMatrix<F>,
     log_h: usize,
     table: &CosetTable<F>,
@@ -122,5 +122,5 @@ pub(crate) fn evaluate_on_coset<F: TwoAdicField>(
         twiddles,
         by_layer: true,
     };
-    network(mat, mid, log_h - mid, twiddles, high, None, products);
+    network_to_reversed(mat, mid, log_h - mid, twiddles, high, None, products);
 }

@@ -57,10 +57,10 @@ layer_counted cost k l w blocks half before now after below whole so_far layer =
 pub layers_counted : (k w : ℕ) → 1 * (k * (2 ^ (k - 1) * w)) ≡ w * (k * 2 ^ k / 2)
 layers_counted k w = let e : 1 * (k * (2 ^ (k - 1) * w)) ≡ w * (k * 2 ^ (k - 1)) = omega arith in e ∙ ap (λ n. w * n) (sym (half_count k))
 
--- the same of 2 ^ m runs of 2 ^ n rows
-half_of_runs : (n m : ℕ) → 2 ^ m * (n * 2 ^ n / 2) ≡ n * 2 ^ (n + m - 1)
-half_of_runs zero m = let none : 0 * 2 ^ 0 / 2 ≡ 0 = refl in ap (λ x. 2 ^ m * x) none ∙ omega arith
-half_of_runs (suc n) m =
+-- the same of 2 ^ m chunks of 2 ^ n rows
+half_of_chunks : (n m : ℕ) → 2 ^ m * (n * 2 ^ n / 2) ≡ n * 2 ^ (n + m - 1)
+half_of_chunks zero m = let none : 0 * 2 ^ 0 / 2 ≡ 0 = refl in ap (λ x. 2 ^ m * x) none ∙ omega arith
+half_of_chunks (suc n) m =
     let e : suc n - 1 ≡ n = omega arith in
     let d : suc n + m - 1 ≡ n + m = omega arith in
     ap (λ x. 2 ^ m * x) (half_count (suc n) ∙ ap (λ x. suc n * 2 ^ x) e)
@@ -69,14 +69,14 @@ half_of_runs (suc n) m =
     swap_inner : (a b c : ℕ) → a * (b * c) ≡ b * (c * a)
     swap_inner a b c = omega arith
 
--- two halves of the layers, each run by run, and a scale
+-- two halves of the layers, each chunk by chunk, and a scale
 pub halves_counted : (mid left k w scale : ℕ) → mid + left ≡ k
     → 2 ^ left * (w * (mid * 2 ^ mid / 2)) + 2 ^ mid * (w * (left * 2 ^ left / 2) + scale * (2 ^ left * w)) ≡ w * (k * 2 ^ k / 2) + scale * (2 ^ k * w)
 halves_counted mid left k w scale is =
     let order : left + mid - 1 ≡ mid + left - 1 = omega arith in
     let p = 2 ^ (mid + left - 1) in
-    let low = half_of_runs mid left in
-    let high = half_of_runs left mid ∙ ap (λ n. left * 2 ^ n) order in
+    let low = half_of_chunks mid left in
+    let high = half_of_chunks left mid ∙ ap (λ n. left * 2 ^ n) order in
     spread (2 ^ left) (2 ^ mid) w (mid * 2 ^ mid / 2) (left * 2 ^ left / 2) scale
     ∙ ap₂ (λ a b. w * (a + b) + scale * ((2 ^ mid * 2 ^ left) * w)) low high
     ∙ ap (λ n. w * n + scale * ((2 ^ mid * 2 ^ left) * w)) (together mid left p)
@@ -96,7 +96,7 @@ pub joined_count : (k w before first second after : ℕ) → 0 < k → first ≤
 joined_count k w before first second after some low high layer =
     let below : k - 1 + 1 - 1 ≡ k - 1 = omega arith in
     let next : k - 1 + 1 ≡ k = omega (arith, some) in
-    let halves : 2 ^ 1 * ((k - 1) * 2 ^ (k - 1) / 2) ≡ (k - 1) * 2 ^ (k - 1) = half_of_runs (k - 1) 1 ∙ ap (λ n. (k - 1) * 2 ^ n) below in
+    let halves : 2 ^ 1 * ((k - 1) * 2 ^ (k - 1) / 2) ≡ (k - 1) * 2 ^ (k - 1) = half_of_chunks (k - 1) 1 ∙ ap (λ n. (k - 1) * 2 ^ n) below in
     let all : k * 2 ^ k / 2 ≡ (k - 1) * 2 ^ (k - 1) + 2 ^ (k - 1) =
     half_count k ∙ ap (λ n. n * 2 ^ (k - 1)) (sym next) ∙ (let spread : (k - 1 + 1) * 2 ^ (k - 1) ≡ (k - 1) * 2 ^ (k - 1) + 2 ^ (k - 1) = omega arith in spread) in
     let both : w * (2 ^ 1 * ((k - 1) * 2 ^ (k - 1) / 2)) ≡ w * ((k - 1) * 2 ^ (k - 1)) = ap (λ n. w * n) halves in
@@ -127,14 +127,14 @@ extension_counted k a w len before after some full twice =
     let each : k * len ≡ 2 * (w * (k * p)) = ap (λ n. k * n) (full ∙ ap (λ n. n * w) d) ∙ (let swap : k * (2 * p * w) ≡ 2 * (w * (k * p)) = omega arith in swap) in
     let all : (k + a - a + 2) * len ≡ k * len + 2 * len = ap (λ n. n * len) layers ∙ (let spread : (k + 2) * len ≡ k * len + 2 * len = omega arith in spread) in
     let half : w * (2 ^ a * (k * 2 ^ k / 2) + 2 ^ (k + a)) ≡ w * (k * p) + len =
-    ap (λ n. w * (n + 2 ^ (k + a))) (half_of_runs k a) ∙ (let spread : w * (k * p + 2 ^ (k + a)) ≡ w * (k * p) + 2 ^ (k + a) * w = omega arith in spread) ∙ ap (λ n. w * (k * p) + n) (sym full) in
+    ap (λ n. w * (n + 2 ^ (k + a))) (half_of_chunks k a) ∙ (let spread : w * (k * p + 2 ^ (k + a)) ≡ w * (k * p) + 2 ^ (k + a) * w = omega arith in spread) ∙ ap (λ n. w * (k * p) + n) (sym full) in
     omega (arith, twice, all, each, half)
 
 -- layers of 2 ^ k rows, 2 ^ a times, are no more than those of all rows
 pub layers_of_slots : (k a w : ℕ) → w * (2 ^ a * (k * 2 ^ k / 2)) ≤ w * ((k + a) * 2 ^ (k + a) / 2)
 layers_of_slots k a w =
     let rise : k * 2 ^ (k + a - 1) ≤ (k + a) * 2 ^ (k + a - 1) = mul-le-mul_right (2 ^ (k + a - 1)) (let l : k ≤ k + a = omega arith in l) in
-    mul-le-mul_left w (omega (arith, rise, half_of_runs k a, half_count (k + a)))
+    mul-le-mul_left w (omega (arith, rise, half_of_chunks k a, half_count (k + a)))
 
 pub fewer_than_parts : (k a w : ℕ) → w * (k * 2 ^ k / 2 * (1 + 2 ^ a) + 2 ^ (k + a)) ≤ w * (k * 2 ^ k / 2) + 2 ^ k * w + (w * ((k + a) * 2 ^ (k + a) / 2) + 2 ^ (k + a) * w)
 fewer_than_parts k a w =

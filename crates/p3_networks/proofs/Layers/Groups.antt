@@ -4,14 +4,14 @@ use Rattle.std.proofs.Math.Nat.{mul-le-mul, mul-le-mul_left, mul-le-mul_right, p
 use Rattle.std.proofs.lemmas.Bool.{cases_lt}
 use Rattle.std.proofs.lemmas.Nat.{div-add-mod', div_below, mod_below, one_shl, pow-add, pow_pos}
 use Rattle.p3_matrix.proofs.TwoPowers.{log_lt}
-use Rattle.p3_networks.specs.Groups.{AreLayersInOrder, HoldsColumns, IsLayer, TakesColumns, cells_of, entry_of, group_end, group_of}
+use Rattle.p3_networks.specs.Groups.{AreLayersInOrder, HoldsColumns, IsLayer, TakesColumns, cells_of, layer_of, group_end, group_of}
 use Rattle.p3_networks.specs.Layers.{AreLayers, HoldsCells}
 use Rattle.p3_networks.specs.declared.radix_2_small_batch.groups.Order.{Order}
 use Rattle.p3_networks.specs.declared.radix_2_small_batch.groups.Order.TheVariants.{LargestFirst, SmallestFirst}
 use Rattle.p3_networks.proofs.Layers.Blocks.{halves_whole, row_below}
-use Rattle.p3_networks.proofs.Layers.Runs.{run_sizes}
+use Rattle.p3_networks.proofs.Layers.Chunks.{chunk_sizes}
 
--- the sizes of layer e of a group on a run, as a program has them by shifts
+-- the sizes of layer e of a group on a chunk, as a program has them by shifts
 pub record PieceSizes (from to e number w half blocks part : ℕ) : Type 0 where
   pub digits : to < 64
   pub part_is : part ≡ 2 ^ from * w
@@ -26,28 +26,28 @@ pub record PieceSizes (from to e number w half blocks part : ℕ) : Type 0 where
 pub piece_sizes : (from to e number w : ℕ) → from ≤ e → e < to → (number + 1) * 2 ^ to < 2 ^ 64
     → PieceSizes from to e number w (1 * 2 ^ (e - from) % 18446744073709551616) (1 * 2 ^ (to - 1 - e) % 18446744073709551616) (1 * 2 ^ from % 18446744073709551616 * w)
 piece_sizes from to e number w first last small =
-    let run = run_sizes to e number last small in
-    let half : 1 * 2 ^ (e - from) % 18446744073709551616 ≡ 2 ^ (e - from) = one_shl (e - from) 64 (omega (arith, last, run.digits)) in
-    let part : 1 * 2 ^ from % 18446744073709551616 ≡ 2 ^ from = one_shl from 64 (omega (arith, first, last, run.digits)) in
+    let chunk = chunk_sizes to e number last small in
+    let half : 1 * 2 ^ (e - from) % 18446744073709551616 ≡ 2 ^ (e - from) = one_shl (e - from) 64 (omega (arith, last, chunk.digits)) in
+    let part : 1 * 2 ^ from % 18446744073709551616 ≡ 2 ^ from = one_shl from 64 (omega (arith, first, last, chunk.digits)) in
     let both : e - from + from ≡ e = omega (arith, first) in
     let left : to - from - 1 - (e - from) ≡ to - 1 - e = omega (arith, first, last) in
     let joined : 2 ^ (e - from) * 2 ^ from ≡ 2 ^ e = sym (pow-add 2 (e - from) from) ∙ ap (λ n. 2 ^ n) both in
     let cells : 1 * 2 ^ (e - from) % 18446744073709551616 * (1 * 2 ^ from % 18446744073709551616 * w) ≡ 2 ^ e * w =
     ap₂ (λ h p. h * (p * w)) half part ∙ (let assoc : 2 ^ (e - from) * (2 ^ from * w) ≡ 2 ^ (e - from) * 2 ^ from * w = omega arith in assoc) ∙ ap (λ n. n * w) joined in
     record {
-      digits = run.digits;
+      digits = chunk.digits;
       part_is = ap (λ n. n * w) part;
-      some_blocks = run.some_blocks;
+      some_blocks = chunk.some_blocks;
       half_cells = cells;
-      rows = ap₂ (λ b h. b * (2 * h)) run.blocks_is half ∙ ap (λ n. 2 ^ n * (2 * 2 ^ (e - from))) (sym left) ∙ halves_whole (to - from) (e - from) (omega (arith, first, last));
+      rows = ap₂ (λ b h. b * (2 * h)) chunk.blocks_is half ∙ ap (λ n. 2 ^ n * (2 * 2 ^ (e - from))) (sym left) ∙ halves_whole (to - from) (e - from) (omega (arith, first, last));
       cells = ap (λ n. n * w) (sym (halves_whole to e last)) ∙ (let spread : 2 ^ (to - 1 - e) * (2 * 2 ^ e) * w ≡ 2 ^ (to - 1 - e) * (2 * (2 ^ e * w)) = omega arith in spread)
-          ∙ sym (ap₂ (λ b n. b * (2 * n)) run.blocks_is cells);
-      numbers = run.numbers;
-      blocks_is = run.blocks_is;
-      room = run.room;
+          ∙ sym (ap₂ (λ b n. b * (2 * n)) chunk.blocks_is cells);
+      numbers = chunk.numbers;
+      blocks_is = chunk.blocks_is;
+      room = chunk.room;
     }
 
--- and of the group: a part, which is an eighth, a quarter or a half of a run, or the whole
+-- and of the group: a part, which is an eighth, a quarter or a half of a chunk, or the whole
 pub record PartSizes (from to number w part : ℕ) : Type 0 where
   pub digits : from < 64
   pub part_is : part ≡ 2 ^ from * w
@@ -70,7 +70,7 @@ part_sizes from to number w order small =
       rows = ap (λ n. n * w) (sym joined) ∙ omega arith;
     }
 
--- the rule has the blocks of a run
+-- the rule has the blocks of a chunk
 pub block_there : (top e number b : ℕ) → e < top → b < (number + 1) * 2 ^ (top - 1 - e) → 2 * b < (number + 1) * 2 ^ top
 block_there top e number b below inside =
     let all : (number + 1) * 2 ^ top ≡ 2 * ((number + 1) * 2 ^ (top - 1 - e) * 2 ^ e) =
@@ -80,7 +80,7 @@ block_there top e number b below inside =
 
 -- each layer of a group is one of those that lead through the cells
 pub layer_in_order : {A : Type 0} (order : Order) (k w from to done : ℕ) (near far : ℕ → A → A → A) (cells : ℕ → ℕ → A) → AreLayersInOrder order k w near far cells → done < to - from → to ≤ k
-    → IsLayer (2 ^ (k - 1 - entry_of order from to done)) (2 ^ entry_of order from to done * w) near far (cells (cells_of order from to done)) (cells (cells_of order from to (done + 1)))
+    → IsLayer (2 ^ (k - 1 - layer_of order from to done)) (2 ^ layer_of order from to done * w) near far (cells (cells_of order from to done)) (cells (cells_of order from to (done + 1)))
 layer_in_order LargestFirst k w from to done near far cells layers below within =
     let e = to - 1 - done in
     let before : e + 1 ≡ to - done = omega (arith, below) in
@@ -94,7 +94,7 @@ layer_in_order SmallestFirst k w from to done near far cells layers below within
     subst (λ (m : ℕ). IsLayer (2 ^ (k - 1 - e)) (2 ^ e * w) near far (cells e) (cells m)) after
     (record { near_cell = λ b i p q. layers.near_cell e b i (omega (arith, below, within)) p q; far_cell = λ b i p q. layers.far_cell e b i (omega (arith, below, within)) p q })
 
--- which cells stand before and behind the layer of an entry
+-- which cells stand before and behind a layer
 abbrev pub before_of : Order → ℕ → ℕ
 before_of LargestFirst e = e + 1
 before_of SmallestFirst e = e
@@ -108,11 +108,11 @@ pub layers_of_order : {A : Type 0} (order : Order) (k w : ℕ) (near far : ℕ �
 layers_of_order LargestFirst k w near far cells layers = layers
 layers_of_order SmallestFirst k w near far cells layers = layers
 
-pub before_is : (order : Order) (from to done : ℕ) → done < to - from → cells_of order from to done ≡ before_of order (entry_of order from to done)
+pub before_is : (order : Order) (from to done : ℕ) → done < to - from → cells_of order from to done ≡ before_of order (layer_of order from to done)
 before_is LargestFirst from to done below = let e : to - done ≡ to - 1 - done + 1 = omega (arith, below) in e
 before_is SmallestFirst from to done below = let e : from + done ≡ from + done = refl in e
 
-pub after_is : (order : Order) (from to done : ℕ) → done < to - from → after_of order (entry_of order from to done) ≡ cells_of order from to (done + 1)
+pub after_is : (order : Order) (from to done : ℕ) → done < to - from → after_of order (layer_of order from to done) ≡ cells_of order from to (done + 1)
 after_is LargestFirst from to done below = let e : to - 1 - done ≡ to - (done + 1) = omega arith in e
 after_is SmallestFirst from to done below = let e : from + done + 1 ≡ from + (done + 1) = omega arith in e
 

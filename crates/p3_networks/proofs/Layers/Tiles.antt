@@ -1,4 +1,4 @@
--- Runs of rows one after another, each done by itself.
+-- Chunks of rows one after another, each done by itself.
 use Rattle.std.proofs.Common.{◌≡◌, ℕ, suc, ◌+◌, ◌*◌, ◌-◌, ◌/◌, ◌%◌, ◌<◌, ◌≤◌, ◌^◌, List, length, get_or, take, drop, sym, ap, ap₂, ◌∙◌, arith}
 use Rattle.std.proofs.Math.Nat.{mul-le-mul_right}
 use Rattle.std.proofs.lemmas.Nat.{one_shl, pow-add, pow_pos, div-add-mod', div_below, mod_below}
@@ -37,16 +37,16 @@ tile_rows k r w tiles size len tile sizes inside =
     let next : (tile + 1) * 2 ^ r ≡ suc tile * 2 ^ r = omega arith in
     omega (arith, more, next, sizes.rows)
 
--- tiles of run `number` of 2 ^ k rows, among those of all such runs
-pub tile_rows_of_run : (k r w tiles size len number tile : ℕ) → TileSizes k r w tiles size len → tile < tiles → (number * tiles + tile + 1) * 2 ^ r ≤ (number + 1) * 2 ^ k
-tile_rows_of_run k r w tiles size len number tile sizes inside =
+-- tiles of chunk `number` of 2 ^ k rows, among those of all such chunks
+pub tile_rows_of_chunk : (k r w tiles size len number tile : ℕ) → TileSizes k r w tiles size len → tile < tiles → (number * tiles + tile + 1) * 2 ^ r ≤ (number + 1) * 2 ^ k
+tile_rows_of_chunk k r w tiles size len number tile sizes inside =
     let spread : (number * tiles + tile + 1) * 2 ^ r ≡ number * (tiles * 2 ^ r) + (tile + 1) * 2 ^ r = omega arith in
     let all : number * (tiles * 2 ^ r) ≡ number * 2 ^ k = ap (λ n. number * n) sizes.rows in
     let next : (number + 1) * 2 ^ k ≡ number * 2 ^ k + 2 ^ k = omega arith in
     omega (arith, spread, all, next, tile_rows k r w tiles size len tile sizes inside)
 
-pub place_of_run : (number tiles size len tile s i : ℕ) → len ≡ tiles * size → s ≡ size → number * len + (tile * s + i) ≡ (number * tiles + tile) * s + i
-place_of_run number tiles size len tile s i whole same =
+pub place_of_chunk : (number tiles size len tile s i : ℕ) → len ≡ tiles * size → s ≡ size → number * len + (tile * s + i) ≡ (number * tiles + tile) * s + i
+place_of_chunk number tiles size len tile s i whole same =
     ap (λ n. number * n + (tile * s + i)) (whole ∙ ap (λ n. tiles * n) (sym same)) ∙ omega arith
 
 -- the sizes of a tile of rows that are spread: `count` rows, each in `copies`
@@ -130,7 +130,7 @@ module _ {A T : Type 0} (value : T → A) (d : T) (size : ℕ) where
       ap (λ i. value (get_or after i d)) (sym is) ∙ all.done (n / size) (n % size) (div_below n size tiles some (omega (arith, inside, full, all.size))) (mod_below n size some)
       ∙ ap to (is ∙ omega arith)
 
-  -- the cells of a run, counted from its first on
+  -- the cells of a chunk, counted from its first on
   pub held_from_first : (cells : ℕ → A) (first : ℕ) (xs : List T) → HoldsCells value d first cells xs → HoldsCells value d 0 (λ i. cells (first + i)) xs
   held_from_first cells first xs holds i inside = holds i inside ∙ ap (λ n. cells (first + n)) (omega arith)
 

@@ -11,7 +11,7 @@ use Rattle.p3_matrix.specs.Polynomials.{poly}
 use Rattle.p3_networks.proofs.Networks.Formulas.{Formula}
 use Rattle.p3_networks.proofs.Networks.HighRows.{high_row, high_rows, high_start, high_end}
 use Rattle.p3_networks.proofs.Networks.Stages.{twiddle, twiddle_of_one}
-use Rattle.p3_networks.proofs.Networks.TurnedRows.{turned_row, turned_row_of_zeros, turned_rows, turned_row_start, turned_row_end}
+use Rattle.p3_networks.proofs.Networks.TwistedRows.{twisted_row, twisted_row_of_zeros, twisted_rows, twisted_row_start, twisted_row_end}
 use Rattle.p3_matrix.proofs.Polynomials.Cosets.{point_of_one}
 
 together : {A : Type 0} (f : A → A → A → A) {x y p q u v : A} → x ≡ y → p ≡ u → q ≡ v → f x p q ≡ f y u v
@@ -61,7 +61,7 @@ module _ {A : Type 0} {bits : ℕ} {half_of : ℕ → ℕ → ℕ} {near_of far_
       (ap (cell l (suc m)) (high_at b half t j) ∙ at_row l (suc m) (b * (2 * half) + (half + t)) j column)))
 
 module _ {A : Type 0} (R : Ring A) {g : ℕ → A} {bits : ℕ} (G : AreRoots R bits g) (k w : ℕ) (c : ℕ → ℕ → A) (entry : ℕ → A) where
-  -- the cells of high rows where column j has the coefficients c j: entries count down
+  -- the cells of high rows where column j has the coefficients c j: layers count down
   abbrev pub high_cells : ℕ → ℕ → A
   high_cells e n = high_row R g R.one (k - e) e (c (n % w)) (n / w)
 
@@ -93,13 +93,13 @@ module _ {A : Type 0} (R : Ring A) {g : ℕ → A} {bits : ℕ} (G : AreRoots R 
           entries (k - 1 - e) b (omega (arith, below)) block ∙ ap (λ n. power R (g n) (rev (k - 1 - e) b)) (add-one (k - 1 - e))
           ∙ sym (twiddle_of_one R g (k - 1 - e) e (rev (k - 1 - e) b))
 
-  -- and those of turned rows: entries count up
-  abbrev pub turned_cells : ℕ → ℕ → A
-  turned_cells e n = turned_row R g R.one e (k - e) (c (n % w)) (n / w)
+  -- and those of twisted rows: layers count up
+  abbrev pub twisted_cells : ℕ → ℕ → A
+  twisted_cells e n = twisted_row R g R.one e (k - e) (c (n % w)) (n / w)
 
-  pub turned_layers : 0 < w → k ≤ bits → ((l b : ℕ) → l < k → b < 2 ^ l → entry b ≡ power R (g (l + 1)) (rev l b))
-      → AreLayers k w (λ b. dif_near R (entry b)) (λ b. dif_far R (entry b)) turned_cells (λ e. turned_cells (e + 1))
-  turned_layers wide within entries = record {
+  pub twisted_layers : 0 < w → k ≤ bits → ((l b : ℕ) → l < k → b < 2 ^ l → entry b ≡ power R (g (l + 1)) (rev l b))
+      → AreLayers k w (λ b. dif_near R (entry b)) (λ b. dif_far R (entry b)) twisted_cells (λ e. twisted_cells (e + 1))
+  twisted_layers wide within entries = record {
     near_cell = λ e b i below block inside.
         after e _ ∙ near_cells rows formula w e (k - 1 - e) b i (2 ^ e) wide (omega (arith, below, within)) refl inside
         ∙ sym (together (dif_near R) (entry_is e b below block) (before e _ below) (before e _ below));
@@ -109,16 +109,16 @@ module _ {A : Type 0} (R : Ring A) {g : ℕ → A} {bits : ℕ} (G : AreRoots R 
   }
     where
       rows : ℕ → ℕ → ℕ → ℕ → A
-      rows j l m r = turned_row R g R.one l m (c j) r
+      rows j l m r = twisted_row R g R.one l m (c j) r
 
       formula : (j : ℕ) → Formula bits (λ l m. 2 ^ l) (λ l m b t. dif_near R (power R (g (suc m)) (rev m b))) (λ l m b t. dif_far R (power R (g (suc m)) (rev m b))) (rows j)
-      formula j = turned_rows R g R.one G (c j)
+      formula j = twisted_rows R g R.one G (c j)
 
-      after : (e n : ℕ) → turned_cells (e + 1) n ≡ cell rows formula w (suc e) (k - 1 - e) n
-      after e n = ap₂ (λ a m. turned_row R g R.one a m (c (n % w)) (n / w)) (add-one e) (let is : k - (e + 1) ≡ k - 1 - e = omega arith in is)
+      after : (e n : ℕ) → twisted_cells (e + 1) n ≡ cell rows formula w (suc e) (k - 1 - e) n
+      after e n = ap₂ (λ a m. twisted_row R g R.one a m (c (n % w)) (n / w)) (add-one e) (let is : k - (e + 1) ≡ k - 1 - e = omega arith in is)
 
-      before : (e n : ℕ) → e < k → turned_cells e n ≡ cell rows formula w e (suc (k - 1 - e)) n
-      before e n below = ap (λ m. turned_row R g R.one e m (c (n % w)) (n / w)) (let is : k - e ≡ suc (k - 1 - e) = omega (arith, below) in is)
+      before : (e n : ℕ) → e < k → twisted_cells e n ≡ cell rows formula w e (suc (k - 1 - e)) n
+      before e n below = ap (λ m. twisted_row R g R.one e m (c (n % w)) (n / w)) (let is : k - e ≡ suc (k - 1 - e) = omega (arith, below) in is)
 
       entry_is : (e b : ℕ) → e < k → b < 2 ^ (k - 1 - e) → entry b ≡ power R (g (suc (k - 1 - e))) (rev (k - 1 - e) b)
       entry_is e b below block = entries (k - 1 - e) b (omega (arith, below)) block ∙ ap (λ n. power R (g n) (rev (k - 1 - e) b)) (add-one (k - 1 - e))
@@ -140,33 +140,33 @@ module _ {A : Type 0} (R : Ring A) {g : ℕ → A} {bits : ℕ} (G : AreRoots R 
       ap (high_cells 0) plain ∙ ap₂ (λ a b. high_row R g R.one (k - 0) 0 (c a) b) (mod-mul-add r w j inside) (div-mul-add r w j inside)
       ∙ ap (λ l. high_row R g R.one l 0 (c j) r) all ∙ high_end R g R.one k (c j) r ∙ ap (poly R (2 ^ k) (c j)) (point_of_one R g k (rev k r))
 
-  pub turned_cells_start : 0 < w → (x : ℕ → A) → ((q j : ℕ) → q < 2 ^ k → c j (rev k q) ≡ x (q * w + j)) → (i : ℕ) → i < 2 ^ k * w → x i ≡ turned_cells 0 (0 + i)
-  turned_cells_start wide x are i inside =
+  pub twisted_cells_start : 0 < w → (x : ℕ → A) → ((q j : ℕ) → q < 2 ^ k → c j (rev k q) ≡ x (q * w + j)) → (i : ℕ) → i < 2 ^ k * w → x i ≡ twisted_cells 0 (0 + i)
+  twisted_cells_start wide x are i inside =
       let all : k - 0 ≡ k = omega arith in
       let plain : 0 + i ≡ i = omega arith in
       let q = i / w in
       let j = i % w in
       ap x (sym (div-add-mod' i w)) ∙ sym (are q j (div_below i w (2 ^ k) wide inside))
-      ∙ sym (turned_row_start R g R.one k (c j) q ∙ ap (λ y. R.mul y (c j (rev k q))) (power_of_one R (rev k q)) ∙ Rings.one-mul R (c j (rev k q)))
-      ∙ ap (λ m. turned_row R g R.one 0 m (c j) q) (sym all) ∙ ap (turned_cells 0) (sym plain)
+      ∙ sym (twisted_row_start R g R.one k (c j) q ∙ ap (λ y. R.mul y (c j (rev k q))) (power_of_one R (rev k q)) ∙ Rings.one-mul R (c j (rev k q)))
+      ∙ ap (λ m. twisted_row R g R.one 0 m (c j) q) (sym all) ∙ ap (twisted_cells 0) (sym plain)
 
-  pub turned_cells_end : (r j : ℕ) → r < 2 ^ k → j < w → turned_cells k (0 + (r * w + j)) ≡ poly R (2 ^ k) (c j) (power R (g k) r)
-  turned_cells_end r j below inside =
+  pub twisted_cells_end : (r j : ℕ) → r < 2 ^ k → j < w → twisted_cells k (0 + (r * w + j)) ≡ poly R (2 ^ k) (c j) (power R (g k) r)
+  twisted_cells_end r j below inside =
       let plain : 0 + (r * w + j) ≡ r * w + j = omega arith in
       let none : k - k ≡ 0 = omega arith in
-      ap (turned_cells k) plain ∙ ap₂ (λ a b. turned_row R g R.one k (k - k) (c a) b) (mod-mul-add r w j inside) (div-mul-add r w j inside)
-      ∙ ap (λ m. turned_row R g R.one k m (c j) r) none ∙ turned_row_end R g R.one k (c j) r below ∙ ap (poly R (2 ^ k) (c j)) (point_of_one R g k r)
+      ap (twisted_cells k) plain ∙ ap₂ (λ a b. twisted_row R g R.one k (k - k) (c a) b) (mod-mul-add r w j inside) (div-mul-add r w j inside)
+      ∙ ap (λ m. twisted_row R g R.one k m (c j) r) none ∙ twisted_row_end R g R.one k (c j) r below ∙ ap (poly R (2 ^ k) (c j)) (point_of_one R g k r)
 
   -- and those of a polynomial of 2 ^ (k - a) coefficients after the first a layers
-  pub turned_cells_of_zeros : (a : ℕ) → a ≤ k → ((j q : ℕ) → 2 ^ (k - a) ≤ q → c j q ≡ R.zero) → (q t j : ℕ) → t < 2 ^ a → j < w
-      → turned_cells a ((q * 2 ^ a + t) * w + j) ≡ R.mul (c j (rev (k - a) q)) (power R (power R (g k) (rev (k - a) q)) t)
-  turned_cells_of_zeros a within zeros q t j below inside =
+  pub twisted_cells_of_zeros : (a : ℕ) → a ≤ k → ((j q : ℕ) → 2 ^ (k - a) ≤ q → c j q ≡ R.zero) → (q t j : ℕ) → t < 2 ^ a → j < w
+      → twisted_cells a ((q * 2 ^ a + t) * w + j) ≡ R.mul (c j (rev (k - a) q)) (power R (power R (g k) (rev (k - a) q)) t)
+  twisted_cells_of_zeros a within zeros q t j below inside =
       let m = k - a in
       let n = rev m q in
       let all : a + m ≡ k = omega (arith, within) in
       let swap : t * n ≡ n * t = omega arith in
-      ap₂ (λ u b. turned_row R g R.one a m (c u) b) (mod-mul-add (q * 2 ^ a + t) w j inside) (div-mul-add (q * 2 ^ a + t) w j inside)
-      ∙ turned_row_of_zeros R g R.one a m (c j) q t (zeros j) below
+      ap₂ (λ u b. twisted_row R g R.one a m (c u) b) (mod-mul-add (q * 2 ^ a + t) w j inside) (div-mul-add (q * 2 ^ a + t) w j inside)
+      ∙ twisted_row_of_zeros R g R.one a m (c j) q t (zeros j) below
       ∙ ap (λ i. R.mul (power R (R.mul R.one (power R (g i) t)) n) (c j n)) all
       ∙ ap (λ x. R.mul (power R x n) (c j n)) (Rings.one-mul R (power R (g k) t))
       ∙ ap (λ x. R.mul x (c j n)) (sym (power-mul R (g k) t n) ∙ ap (power R (g k)) swap ∙ power-mul R (g k) n t)

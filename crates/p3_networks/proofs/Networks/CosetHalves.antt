@@ -9,11 +9,11 @@ use Rattle.p3_matrix.specs.Cosets.{point}
 use Rattle.p3_matrix.specs.Polynomials.{poly}
 use Rattle.p3_networks.specs.Twiddles.{AreBlockTwiddles, AreTwiddlesOfLayers, IsCosetTable, coset_twiddles, forward_root}
 use Rattle.p3_networks.proofs.Layers.Counts.{halves_counted}
-use Rattle.p3_networks.proofs.Networks.Runs.{rows_of_halves}
+use Rattle.p3_networks.proofs.Networks.Chunks.{rows_of_halves}
 use Rattle.p3_networks.proofs.Tables.CosetTables.{coset_room, high_of_coset, low_of_coset}
 use Rattle.p3_networks.proofs.Tables.RootPowers.{fewer_roots}
 
--- the layers of both halves, and the runs of the second
+-- the layers of both halves, and the chunks of the second
 pub halves_whole : (k : ℕ) → (k + 1) / 2 + (k - (k + 1) / 2) ≡ k
 halves_whole k = omega arith
 
@@ -37,7 +37,7 @@ module _ {F : Type 0} (field : FieldMembers F) (generator : ℕ → F) (s : fiel
   pub high_room : (l : ℕ) → l < (k + 1) / 2 + (k - (k + 1) / 2) → 2 * 2 ^ l - 1 ≤ length twiddles
   high_room l below = coset_room field generator s k twiddles l (omega (arith, below)) table
 
-  -- the first half leads from before to middle, the second to the first n runs of after
+  -- the first half leads from before to middle, the second to the first n chunks of after
   pub rows_on_coset : {bits : ℕ} → AreRoots field.ring bits (forward_root field generator) → k ≤ bits → (w n : ℕ) (before middle after : List F)
       → ((g : ℕ → field.Element) (x : field.Element) → AreRoots field.ring ((k + 1) / 2) g → AreTwiddlesOfLayers field ((k + 1) / 2) (coset_twiddles field g x ((k + 1) / 2)) twiddles
       → (a t j : ℕ) → a < 2 ^ (k - (k + 1) / 2) → t < 2 ^ ((k + 1) / 2) → j < w → field.value (get_or middle ((a * 2 ^ ((k + 1) / 2) + t) * w + j) field.ZERO)

@@ -15,7 +15,7 @@ use Rattle.p3_networks.specs.Layers.{AreValuesOfRows}
 use Rattle.p3_networks.proofs.Layers.Blocks.{row_below}
 use Rattle.p3_networks.proofs.Layers.Counts.{two_halves}
 use Rattle.p3_networks.proofs.Layers.Halves.{in_first, in_second}
-use Rattle.p3_networks.proofs.Networks.LowRows.{low_row, low_run}
+use Rattle.p3_networks.proofs.Networks.LowRows.{low_row, low_chunk}
 
 -- half of the cells
 pub half_size : (k w len : ℕ) → 0 < k → len ≡ 2 ^ k * w → len / 2 ≡ 2 ^ (k - 1) * w
@@ -86,6 +86,6 @@ module _ {F : Type 0} (field : FieldMembers F) (root : ℕ → field.Element) (k
           let left : 1 ≡ k - l = omega (arith, some) in
           let one_power = ap (λ x. field.ring.mul x (power field.ring (root l) t)) (power_of_one field.ring (2 ^ 1)) ∙ Rings.one-mul field.ring (power field.ring (root l) t) in
           held ∙ ap (poly field.ring (2 ^ l) (λ q. cell before j (b * 2 ^ l + rev l q))) (sym one_power)
-          ∙ sym (low_run field.ring root field.ring.one l 1 (cell before j) b t half place)
+          ∙ sym (low_chunk field.ring root field.ring.one l 1 (cell before j) b t half place)
           ∙ ap (λ n. low_row field.ring root field.ring.one l 1 (λ q. cell before j (rev n q)) (b * 2 ^ l + t)) whole
           ∙ ap₂ (λ m u. low_row field.ring root field.ring.one l m (λ q. cell before j (rev k q)) u) left (sym is)

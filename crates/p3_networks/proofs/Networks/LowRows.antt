@@ -46,13 +46,13 @@ module _ {A : Type 0} (R : Ring A) (g : ℕ → A) (s : A) where
   unfolding low_row
   low_end l c r h = ap₂ (stage R g s l 0 c) (rev-zero (r / 2 ^ l)) (mod-eq_of_lt h) ∙ stage_end R g s l c r
 
-  -- in the rows x a run of 2 ^ l of 2 ^ m ends as a network of its own on its rows
-  pub low_run : (l m : ℕ) (x : ℕ → A) (b t : ℕ) → b < 2 ^ m → t < 2 ^ l
+  -- in the rows x a chunk of 2 ^ l of 2 ^ m ends as a network of its own on its rows
+  pub low_chunk : (l m : ℕ) (x : ℕ → A) (b t : ℕ) → b < 2 ^ m → t < 2 ^ l
       → low_row l m (λ q. x (rev (m + l) q)) (b * 2 ^ l + t) ≡ poly R (2 ^ l) (λ q. x (b * 2 ^ l + rev l q)) (R.mul (power R s (2 ^ m)) (power R (g l) t))
   unfolding low_row stage
-  low_run l m x b t run place =
+  low_chunk l m x b t chunk place =
       held_low_at (stage R g s l m (λ q. x (rev (m + l) q))) l m b t place
-      ∙ poly_same R (2 ^ l) _ _ _ (λ q below. ap x (rev-block m l q (rev m b) (rev-lt m b) ∙ ap (λ n. n * 2 ^ l + rev l q) (rev-rev m b run)))
+      ∙ poly_same R (2 ^ l) _ _ _ (λ q below. ap x (rev-block m l q (rev m b) (rev-lt m b) ∙ ap (λ n. n * 2 ^ l + rev l q) (rev-rev m b chunk)))
 
   -- one twiddle for a place in a block
   pub low_rows : {bits : ℕ} (G : AreRoots R bits g) (c : ℕ → A)

@@ -22,7 +22,7 @@ use Rattle.p3_networks.specs.Slots.{extended_rows, slot_block, slot_blocks}
 use Rattle.p3_networks.specs.Twiddles.{forward_root}
 use Rattle.p3_networks.proofs.Layers.Blocks.{row_below}
 use Rattle.p3_networks.proofs.Layers.Halves.{in_first}
-use Rattle.p3_networks.proofs.Networks.Runs.{slot_point}
+use Rattle.p3_networks.proofs.Networks.Chunks.{slot_point}
 use Rattle.p3_networks.proofs.Networks.Slots.{by_slots, slot_room}
 use Rattle.p3_matrix.proofs.Polynomials.ByIndex.{poly_same}
 use Rattle.p3_networks.proofs.Rows.Lent.{are_blocks, block_of_part, blocks_joined, blocks_kept, blocks_of_part, refusal_joined, written_part}

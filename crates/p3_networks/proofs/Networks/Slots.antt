@@ -1,4 +1,4 @@
--- Slots: runs of 2 ^ k rows, one after another, 2 ^ a of them, which get the values on a coset each.
+-- Slots: chunks of 2 ^ k rows, one after another, 2 ^ a of them, which get the values on a coset each.
 use Rattle.std.proofs.Common.{◌≡◌, ℕ, suc, List, ◌++◌, ◌+◌, ◌*◌, ◌-◌, ◌/◌, ◌%◌, ◌<◌, ◌≤◌, ◌^◌, length, get_or, sym, ap, ◌∙◌, subst, arith, ⊎_elim}
 use Rattle.std.proofs.Math.Nat.{mul-le-mul_right}
 use Rattle.std.proofs.lemmas.Bool.{cases_lt}

@@ -1,4 +1,4 @@
--- Powers of the inverse of a root from those of the root, both in bit reversed order: a run of 2 ^ l entries from place 2 ^ l on is
+-- Powers of the inverse of a root from those of the root, both in bit reversed order: a chunk of 2 ^ l entries from place 2 ^ l on is
 -- turned around and negated.
 use Rattle.std.proofs.Common.{◌≡◌, ℕ, zero, suc, ◌+◌, ◌*◌, ◌-◌, ◌<◌, ◌≤◌, ◌^◌, sym, ap, ap₂, ◌∙◌, arith, add-one, ◌⊎◌, inl, inr}
 use Rattle.std.proofs.lemmas.Nat.{pow-add, pow_pos}
@@ -32,7 +32,7 @@ rev_flipped (suc l) t below = go (rev_flipped l) (even_or_odd t)
         let high = rev-even l (2 ^ l - 1 - j) in
         ap₂ (λ x y. rev (suc l) x + rev (suc l) y) e other ∙ omega (arith, low, high, ih j less, twice, pow_pos l)
 
--- two places of a run that change places
+-- two places of a chunk that change places
 rev_turned : (n l t : ℕ) → l < n → t < 2 ^ l → rev n (2 ^ l + t) + rev n (2 ^ l + (2 ^ l - 1 - t)) ≡ 2 ^ n
 rev_turned n l t below inside =
     let u = 2 ^ l - 1 - t in

@@ -1,5 +1,5 @@
-//! The two halves of the network. Each goes over the matrix run by run, and does all of its layers on one
-//! run before the next, so that a run that fits the cache stays there.
+//! The two halves of the network. Each goes over the matrix chunk by chunk, and does all of its layers on one
+//! chunk before the next, so that a chunk that fits the cache stays there.
 
 ghost use Rattle.std.specs.Prelude.{◌≡◌, ℕ, ◌+◌, ◌-◌, ◌*◌, ◌/◌, ◌^◌, ◌<◌, ◌≤◌, List, length, get_or};
 ghost use Rattle.p3_field.specs.Ring.{AreRoots};
@@ -13,7 +13,7 @@ ghost use Rattle.p3_networks.specs.Twiddles.{AreBlockTwiddles, AreTwiddlesOfLaye
 use crate::butterfly_layers::rules::{
     DitByBlock, DitByBlockOnCoset, DitByPlace, DitByPlaceOnCoset, ScaledDitByBlock,
 };
-use crate::butterfly_layers::{layer, layer_from};
+use crate::butterfly_layers::{layer, layer_oop};
 use crate::twiddles::layer_twiddles;
 use p3_field::{Field, Products, TwoAdicField};
 use p3_matrix::{DitButterfly, TwiddleFreeButterfly};
@@ -43,7 +43,7 @@ impl<'a, F: TwoAdicField> BlockTwiddles<'a, F> {
     }
 }
 
-/// The first half, on rows in bit reversed order: each run of `2^mid` rows has the coefficients of
+/// The first half, on rows in bit reversed order: each chunk of `2^mid` rows has the coefficients of
 /// polynomials, in bit reversed order, and becomes their values on a coset, in natural order. `mid` is at
 /// most `log_h`, and the twiddles are those of as many layers.
 pub fn first_half<F: TwoAdicField>(
@@ -57,7 +57,7 @@ pub fn first_half<F: TwoAdicField>(
     requires wide { 1 ≤ width }
     requires small { log_h < 64 }
     requires parts { mid ≤ log_h }
-    requires height { length values.old ≡ 2 ^ log_h * width }
+    requires size { length values.old ≡ 2 ^ log_h * width }
     requires table { 2 ^ mid - 1 ≤ length twiddles.now }
     ensures values { (g : ℕ → F.Element) (s : F.Element) → AreRoots F.ring mid g
         → AreTwiddlesOfLayers F.Field.own mid (coset_twiddles F.Field.own g s mid) twiddles.now
@@ -65,19 +65,19 @@ pub fn first_half<F: TwoAdicField>(
         → F.value (get_or values.new ((a * 2 ^ mid + t) * width + j) F.ZERO)
         ≡ poly F.ring (2 ^ mid) (λ q. F.value (get_or values.old ((a * 2 ^ mid + rev mid q) * width + j) F.ZERO)) (point F.ring g mid s t) }
     ensures grows { products.old ≤ products.new }
-    ensures count { products.new ≤ products.old + 2 ^ (log_h - mid) * (width * (mid * 2 ^ mid / 2)) }
+    ensures cost { products.new ≤ products.old + 2 ^ (log_h - mid) * (width * (mid * 2 ^ mid / 2)) }
 {
     // One column is made apart: where the width is known, no loop along a row is left.
     if width == 1 {
-        low_runs(values, 1, log_h, mid, twiddles, products);
+        low_chunks(values, 1, log_h, mid, twiddles, products);
     } else {
-        low_runs(values, width, log_h, mid, twiddles, products);
+        low_chunks(values, width, log_h, mid, twiddles, products);
     }
 }
 
 // The same. Inlined, so that a width that the caller names is known in all layers.
 #[inline(always)]
-fn low_runs<F: TwoAdicField>(
+fn low_chunks<F: TwoAdicField>(
     values: &mut [F],
     width: usize,
     log_h: usize,
@@ -88,7 +88,7 @@ fn low_runs<F: TwoAdicField>(
     requires wide { 1 ≤ width }
     requires small { log_h < 64 }
     requires parts { mid ≤ log_h }
-    requires height { length values.old ≡ 2 ^ log_h * width }
+    requires size { length values.old ≡ 2 ^ log_h * width }
     requires table { 2 ^ mid - 1 ≤ length twiddles.now }
     ensures values { (g : ℕ → F.Element) (s : F.Element) → AreRoots F.ring mid g
         → AreTwiddlesOfLayers F.Field.own mid (coset_twiddles F.Field.own g s mid) twiddles.now
@@ -96,19 +96,19 @@ fn low_runs<F: TwoAdicField>(
         → F.value (get_or values.new ((a * 2 ^ mid + t) * width + j) F.ZERO)
         ≡ poly F.ring (2 ^ mid) (λ q. F.value (get_or values.old ((a * 2 ^ mid + rev mid q) * width + j) F.ZERO)) (point F.ring g mid s t) }
     ensures grows { products.old ≤ products.new }
-    ensures count { products.new ≤ products.old + 2 ^ (log_h - mid) * (width * (mid * 2 ^ mid / 2)) }
+    ensures cost { products.new ≤ products.old + 2 ^ (log_h - mid) * (width * (mid * 2 ^ mid / 2)) }
 {
-    let runs = 1usize << (log_h - mid);
-    let size = values.len() / runs;
-    for run in 0..runs {
-        let start = run * size;
+    let chunks = 1usize << (log_h - mid);
+    let size = values.len() / chunks;
+    for chunk in 0..chunks {
+        let start = chunk * size;
         let rows = &mut values[start..start + size];
         low_network(rows, width, mid, twiddles, products);
     }
 }
 
 /// The first half, under the same conditions, from as many rows of another slice, which stay.
-pub fn first_half_from<F: TwoAdicField>(
+pub fn first_half_oop<F: TwoAdicField>(
     source: &[F],
     values: &mut [F],
     width: usize,
@@ -121,7 +121,7 @@ pub fn first_half_from<F: TwoAdicField>(
     requires small { log_h < 64 }
     requires parts { mid ≤ log_h }
     requires source { length source.now ≡ 2 ^ log_h * width }
-    requires height { length values.old ≡ 2 ^ log_h * width }
+    requires size { length values.old ≡ 2 ^ log_h * width }
     requires table { 2 ^ mid - 1 ≤ length twiddles.now }
     ensures values { (g : ℕ → F.Element) (s : F.Element) → AreRoots F.ring mid g
         → AreTwiddlesOfLayers F.Field.own mid (coset_twiddles F.Field.own g s mid) twiddles.now
@@ -129,18 +129,18 @@ pub fn first_half_from<F: TwoAdicField>(
         → F.value (get_or values.new ((a * 2 ^ mid + t) * width + j) F.ZERO)
         ≡ poly F.ring (2 ^ mid) (λ q. F.value (get_or source.now ((a * 2 ^ mid + rev mid q) * width + j) F.ZERO)) (point F.ring g mid s t) }
     ensures grows { products.old ≤ products.new }
-    ensures count { products.new ≤ products.old + 2 ^ (log_h - mid) * (width * (mid * 2 ^ mid / 2)) }
+    ensures cost { products.new ≤ products.old + 2 ^ (log_h - mid) * (width * (mid * 2 ^ mid / 2)) }
 {
     if width == 1 {
-        low_runs_from(source, values, 1, log_h, mid, twiddles, products);
+        low_chunks_oop(source, values, 1, log_h, mid, twiddles, products);
     } else {
-        low_runs_from(source, values, width, log_h, mid, twiddles, products);
+        low_chunks_oop(source, values, width, log_h, mid, twiddles, products);
     }
 }
 
-// The same. Inlined as the runs in place are.
+// The same. Inlined as the chunks in place are.
 #[inline(always)]
-fn low_runs_from<F: TwoAdicField>(
+fn low_chunks_oop<F: TwoAdicField>(
     source: &[F],
     values: &mut [F],
     width: usize,
@@ -153,7 +153,7 @@ fn low_runs_from<F: TwoAdicField>(
     requires small { log_h < 64 }
     requires parts { mid ≤ log_h }
     requires source { length source.now ≡ 2 ^ log_h * width }
-    requires height { length values.old ≡ 2 ^ log_h * width }
+    requires size { length values.old ≡ 2 ^ log_h * width }
     requires table { 2 ^ mid - 1 ≤ length twiddles.now }
     ensures values { (g : ℕ → F.Element) (s : F.Element) → AreRoots F.ring mid g
         → AreTwiddlesOfLayers F.Field.own mid (coset_twiddles F.Field.own g s mid) twiddles.now
@@ -161,13 +161,13 @@ fn low_runs_from<F: TwoAdicField>(
         → F.value (get_or values.new ((a * 2 ^ mid + t) * width + j) F.ZERO)
         ≡ poly F.ring (2 ^ mid) (λ q. F.value (get_or source.now ((a * 2 ^ mid + rev mid q) * width + j) F.ZERO)) (point F.ring g mid s t) }
     ensures grows { products.old ≤ products.new }
-    ensures count { products.new ≤ products.old + 2 ^ (log_h - mid) * (width * (mid * 2 ^ mid / 2)) }
+    ensures cost { products.new ≤ products.old + 2 ^ (log_h - mid) * (width * (mid * 2 ^ mid / 2)) }
 {
-    let runs = 1usize << (log_h - mid);
-    let size = values.len() / runs;
-    for run in 0..runs {
-        let start = run * size;
-        low_network_from(
+    let chunks = 1usize << (log_h - mid);
+    let size = values.len() / chunks;
+    for chunk in 0..chunks {
+        let start = chunk * size;
+        low_network_oop(
             &source[start..start + size],
             &mut values[start..start + size],
             width,
@@ -178,7 +178,7 @@ fn low_runs_from<F: TwoAdicField>(
     }
 }
 
-/// The second half, on rows in natural order: each run of `2^left` rows has the coefficients of
+/// The second half, on rows in natural order: each chunk of `2^left` rows has the coefficients of
 /// polynomials, and becomes their values on a coset of its own, in bit reversed order. With a scale, the
 /// coefficients are multiplied by it first. There is at least one layer, and the table has the twiddles of
 /// all.
@@ -194,7 +194,7 @@ pub fn second_half<F: TwoAdicField>(
     requires wide { 1 ≤ width }
     requires some { 1 ≤ left }
     requires small { mid + left < 64 }
-    requires height { length values.old ≡ 2 ^ (mid + left) * width }
+    requires size { length values.old ≡ 2 ^ (mid + left) * width }
     requires table { (l : ℕ) → mid ≤ l → l < mid + left → block_end table.by_layer l ≤ length table.twiddles.now }
     ensures values { (g : ℕ → F.Element) (s : F.Element) → AreRoots F.ring (mid + left) g
         → AreBlockTwiddles F.Field.own g s mid (mid + left) table.entry.by_layer table.entry.twiddles.now
@@ -204,18 +204,18 @@ pub fn second_half<F: TwoAdicField>(
         (λ q. F.ring.mul (F.value (get_or values.old ((a * 2 ^ left + q) * width + j) F.ZERO)) (factor F.Field.own scale))
         (point F.ring g left (point F.ring g (mid + left) s (rev mid a)) (rev left t)) }
     ensures grows { products.old ≤ products.new }
-    ensures count { products.new ≤ products.old + 2 ^ mid * (width * (left * 2 ^ left / 2) + scale_cost scale * (2 ^ left * width)) }
+    ensures cost { products.new ≤ products.old + 2 ^ mid * (width * (left * 2 ^ left / 2) + scale_cost scale * (2 ^ left * width)) }
 {
     if width == 1 {
-        high_runs(values, 1, mid, left, table, scale, products);
+        high_chunks(values, 1, mid, left, table, scale, products);
     } else {
-        high_runs(values, width, mid, left, table, scale, products);
+        high_chunks(values, width, mid, left, table, scale, products);
     }
 }
 
-// The same. Inlined as the runs of the first half are.
+// The same. Inlined as the chunks of the first half are.
 #[inline(always)]
-fn high_runs<F: TwoAdicField>(
+fn high_chunks<F: TwoAdicField>(
     values: &mut [F],
     width: usize,
     mid: usize,
@@ -227,7 +227,7 @@ fn high_runs<F: TwoAdicField>(
     requires wide { 1 ≤ width }
     requires some { 1 ≤ left }
     requires small { mid + left < 64 }
-    requires height { length values.old ≡ 2 ^ (mid + left) * width }
+    requires size { length values.old ≡ 2 ^ (mid + left) * width }
     requires table { (l : ℕ) → mid ≤ l → l < mid + left → block_end table.by_layer l ≤ length table.twiddles.now }
     ensures values { (g : ℕ → F.Element) (s : F.Element) → AreRoots F.ring (mid + left) g
         → AreBlockTwiddles F.Field.own g s mid (mid + left) table.entry.by_layer table.entry.twiddles.now
@@ -237,14 +237,14 @@ fn high_runs<F: TwoAdicField>(
         (λ q. F.ring.mul (F.value (get_or values.old ((a * 2 ^ left + q) * width + j) F.ZERO)) (factor F.Field.own scale))
         (point F.ring g left (point F.ring g (mid + left) s (rev mid a)) (rev left t)) }
     ensures grows { products.old ≤ products.new }
-    ensures count { products.new ≤ products.old + 2 ^ mid * (width * (left * 2 ^ left / 2) + scale_cost scale * (2 ^ left * width)) }
+    ensures cost { products.new ≤ products.old + 2 ^ mid * (width * (left * 2 ^ left / 2) + scale_cost scale * (2 ^ left * width)) }
 {
-    let runs = 1usize << mid;
-    let size = values.len() / runs;
-    for run in 0..runs {
-        let start = run * size;
+    let chunks = 1usize << mid;
+    let size = values.len() / chunks;
+    for chunk in 0..chunks {
+        let start = chunk * size;
         let rows = &mut values[start..start + size];
-        high_network(rows, width, mid, left, run, table, scale, products);
+        high_network(rows, width, mid, left, chunk, table, scale, products);
     }
 }
 
@@ -260,13 +260,13 @@ fn low_network<F: TwoAdicField>(
 )
     requires wide { 1 ≤ width }
     requires small { log_h < 64 }
-    requires height { length values.old ≡ 2 ^ log_h * width }
+    requires size { length values.old ≡ 2 ^ log_h * width }
     requires table { 2 ^ log_h - 1 ≤ length twiddles.now }
     ensures values { (g : ℕ → F.Element) (s : F.Element) → AreRoots F.ring log_h g
         → AreTwiddlesOfLayers F.Field.own log_h (coset_twiddles F.Field.own g s log_h) twiddles.now
         → AreValuesOfRows F.Field.own width (2 ^ log_h) (rev log_h) (point F.ring g log_h s) values.old values.new }
     ensures grows { products.old ≤ products.new }
-    ensures count { products.new ≤ products.old + width * (log_h * 2 ^ log_h / 2) }
+    ensures cost { products.new ≤ products.old + width * (log_h * 2 ^ log_h / 2) }
 {
     for l in 0..log_h {
         let half = 1usize << l;
@@ -279,7 +279,7 @@ fn low_network<F: TwoAdicField>(
 // All layers on rows of another slice, which stay: the first one goes from them into the values, the others
 // follow in place. Where there is no layer, the rows are copied.
 #[inline(always)]
-fn low_network_from<F: TwoAdicField>(
+fn low_network_oop<F: TwoAdicField>(
     source: &[F],
     values: &mut [F],
     width: usize,
@@ -290,19 +290,19 @@ fn low_network_from<F: TwoAdicField>(
     requires wide { 1 ≤ width }
     requires small { log_h < 64 }
     requires source { length source.now ≡ 2 ^ log_h * width }
-    requires height { length values.old ≡ 2 ^ log_h * width }
+    requires size { length values.old ≡ 2 ^ log_h * width }
     requires table { 2 ^ log_h - 1 ≤ length twiddles.now }
     ensures values { (g : ℕ → F.Element) (s : F.Element) → AreRoots F.ring log_h g
         → AreTwiddlesOfLayers F.Field.own log_h (coset_twiddles F.Field.own g s log_h) twiddles.now
         → AreValuesOfRows F.Field.own width (2 ^ log_h) (rev log_h) (point F.ring g log_h s) source.now values.new }
     ensures grows { products.old ≤ products.new }
-    ensures count { products.new ≤ products.old + width * (log_h * 2 ^ log_h / 2) }
+    ensures cost { products.new ≤ products.old + width * (log_h * 2 ^ log_h / 2) }
 {
     if log_h == 0 {
         values.copy_from_slice(source);
     } else {
         let pairs = 1usize << (log_h - 1);
-        first_layer_from(twiddles, source, values, width, pairs, products);
+        first_layer_oop(twiddles, source, values, width, pairs, products);
         for l in 1..log_h {
             let half = 1usize << l;
             let blocks = 1usize << (log_h - 1 - l);
@@ -312,7 +312,7 @@ fn low_network_from<F: TwoAdicField>(
     }
 }
 
-// All layers of one run, on rows in natural order: those from layer mid on of the whole matrix, in which
+// All layers of one chunk, on rows in natural order: those from layer mid on of the whole matrix, in which
 // blocks are counted over the whole matrix. With `done` of `left` layers done there are `2^done` blocks
 // of two halves of `2^(left - 1 - done)` rows.
 #[inline(always)]
@@ -321,7 +321,7 @@ pub(crate) fn high_network<F: TwoAdicField>(
     width: usize,
     mid: usize,
     left: usize,
-    run: usize,
+    chunk: usize,
     table: BlockTwiddles<'_, F>,
     scale: Option<F>,
     products: &mut Products,
@@ -329,20 +329,20 @@ pub(crate) fn high_network<F: TwoAdicField>(
     requires wide { 1 ≤ width }
     requires some { 1 ≤ left }
     requires small { mid + left < 64 }
-    requires run { run < 2 ^ mid }
-    requires height { length values.old ≡ 2 ^ left * width }
+    requires chunk { chunk < 2 ^ mid }
+    requires size { length values.old ≡ 2 ^ left * width }
     requires table { (l : ℕ) → mid ≤ l → l < mid + left → block_end table.by_layer l ≤ length table.twiddles.now }
     ensures values { (g : ℕ → F.Element) (s : F.Element) → AreRoots F.ring (mid + left) g
         → AreBlockTwiddles F.Field.own g s mid (mid + left) table.entry.by_layer table.entry.twiddles.now
         → (t j : ℕ) → t < 2 ^ left → j < width → F.value (get_or values.new (t * width + j) F.ZERO)
         ≡ poly F.ring (2 ^ left) (λ q. F.ring.mul (F.value (get_or values.old (q * width + j) F.ZERO)) (factor F.Field.own scale))
-        (point F.ring g left (point F.ring g (mid + left) s (rev mid run)) (rev left t)) }
+        (point F.ring g left (point F.ring g (mid + left) s (rev mid chunk)) (rev left t)) }
     ensures grows { products.old ≤ products.new }
-    ensures count { products.new ≤ products.old + (width * (left * 2 ^ left / 2) + scale_cost scale * (2 ^ left * width)) }
+    ensures cost { products.new ≤ products.old + (width * (left * 2 ^ left / 2) + scale_cost scale * (2 ^ left * width)) }
 {
     let half = 1usize << (left - 1);
     let twiddles = table.of_layer(mid);
-    scaled_layer(twiddles, scale, values, width, half, run, products);
+    scaled_layer(twiddles, scale, values, width, half, chunk, products);
     for done in 1..left {
         let half = 1usize << (left - 1 - done);
         let blocks = 1usize << done;
@@ -352,7 +352,7 @@ pub(crate) fn high_network<F: TwoAdicField>(
             values,
             width,
             half,
-            run * blocks,
+            chunk * blocks,
             blocks,
             products,
         );
@@ -386,7 +386,7 @@ pub(crate) fn layer_by_place<F: TwoAdicField>(
         ≡ dit_far F.ring (cell twiddles.now (i / width)) (cell values.old (b * (2 * size) + i))
         (cell values.old (b * (2 * size) + (size + i))) }
     ensures grows { products.old ≤ products.new }
-    ensures count { products.new ≤ products.old + 1 * (blocks * (half * width)) }
+    ensures cost { products.new ≤ products.old + 1 * (blocks * (half * width)) }
 {
     if twiddles[0] == F::ONE {
         layer(
@@ -413,7 +413,7 @@ pub(crate) fn layer_by_place<F: TwoAdicField>(
 
 // The first such layer, from rows of another slice: its blocks are pairs of rows, which all have twiddle 0.
 #[inline(always)]
-fn first_layer_from<F: TwoAdicField>(
+fn first_layer_oop<F: TwoAdicField>(
     twiddles: &[F],
     source: &[F],
     values: &mut [F],
@@ -432,12 +432,12 @@ fn first_layer_from<F: TwoAdicField>(
         (b i : ℕ) → b < pairs → i < width → cell values.new (b * (2 * width) + (width + i))
         ≡ dit_far F.ring (cell twiddles.now 0) (cell source.now (b * (2 * width) + i)) (cell source.now (b * (2 * width) + (width + i))) }
     ensures grows { products.old ≤ products.new }
-    ensures count { products.new ≤ products.old + 1 * (pairs * width) }
+    ensures cost { products.new ≤ products.old + 1 * (pairs * width) }
 {
     if twiddles[0] == F::ONE {
-        layer_from(TwiddleFreeButterfly, source, values, width, pairs, products);
+        layer_oop(TwiddleFreeButterfly, source, values, width, pairs, products);
     } else {
-        layer_from(
+        layer_oop(
             DitButterfly(twiddles[0]),
             source,
             values,
@@ -476,7 +476,7 @@ fn layer_by_block<F: TwoAdicField>(
         ≡ dit_far F.ring (cell twiddles.now (first_block + b))
         (cell values.old (b * (2 * size) + i)) (cell values.old (b * (2 * size) + (size + i))) }
     ensures grows { products.old ≤ products.new }
-    ensures count { products.new ≤ products.old + 1 * (blocks * (half * width)) }
+    ensures cost { products.new ≤ products.old + 1 * (blocks * (half * width)) }
 {
     if twiddles[0] == F::ONE {
         layer(
@@ -527,7 +527,7 @@ fn scaled_layer<F: TwoAdicField>(
         (b i : ℕ) → b < 1 → i < size → cell values.new (b * (2 * size) + (size + i)) ≡ dit_far F.ring (cell twiddles.now (block + b))
         (scaled (b * (2 * size) + i)) (scaled (b * (2 * size) + (size + i))) }
     ensures grows { products.old ≤ products.new }
-    ensures count { products.new ≤ products.old + (1 + scale_cost scale) * (1 * (half * width)) }
+    ensures cost { products.new ≤ products.old + (1 + scale_cost scale) * (1 * (half * width)) }
 {
     match scale {
         Some(scale) => layer(

@@ -4,7 +4,7 @@ ghost use Rattle.std.specs.Prelude.{◌≡◌, ◌⊎◌, ◌+◌, ◌-◌, ◌^
 ghost use Rattle.p3_networks.specs.Twiddles.{AreTwiddlesFromStart, AreTwiddlesOfLayers, block_powers, root_of, root_powers};
 
 use crate::root_tables::RootTables;
-use crate::twiddles::root_layers;
+use crate::twiddles::twiddles_of_layers;
 use p3_field::TwoAdicField;
 use p3_matrix::DftError;
 use std::alloc::Global;
@@ -74,8 +74,8 @@ impl<F: TwoAdicField> Tables<F> {
             return Ok(());
         }
         let layers = (log_h + 1) / 2;
-        let forward = root_layers(alloc, false, layers)?;
-        let backward = root_layers(alloc, true, layers)?;
+        let forward = twiddles_of_layers(alloc, false, layers)?;
+        let backward = twiddles_of_layers(alloc, true, layers)?;
         self.high.make(alloc, log_h)?;
         self.forward = Some(forward);
         self.backward = Some(backward);

@@ -5,7 +5,7 @@
 //! another, that stays in the cache from layer to layer; two layers go on quarters, one on halves.
 
 ghost use Rattle.std.specs.Prelude.{◌≡◌, ◌⊎◌, ℕ, ◌+◌, ◌-◌, ◌*◌, ◌/◌, ◌^◌, ◌<◌, ◌≤◌, List, length, get_or};
-ghost use Rattle.p3_networks.specs.Groups.{AreLayersInOrder, HoldsColumns, IsLayer, TakesColumns, cells_of, entry_of, group_end, group_of};
+ghost use Rattle.p3_networks.specs.Groups.{AreLayersInOrder, HoldsColumns, IsLayer, TakesColumns, cells_of, layer_of, group_end, group_of};
 ghost use Rattle.p3_networks.specs.Layers.{HoldsCells};
 
 use crate::butterfly_layers::Rule;
@@ -21,7 +21,7 @@ pub const TILE: usize = 8192;
 pub fn log_tile_rows(tile: usize, width: usize, log_h: usize) -> usize
     requires wide { 1 ≤ width }
     requires tile { tile ≤ 4294967296 }
-    ensures within { result ≤ log_h }
+    ensures inside { result ≤ log_h }
     ensures enough { result < log_h → tile / width ≤ 2 ^ result }
     ensures least { (r : ℕ) → r < result → 2 ^ r < tile / width }
 {
@@ -50,10 +50,10 @@ pub enum Order {
 }
 
 impl Order {
-    // The entry whose layer comes when `done` layers are done of those from `from` up to `to`.
-    pub(crate) fn entry(self, from: usize, to: usize, done: usize) -> usize
+    // The layer that comes when `done` layers are done of those from `from` up to `to`.
+    pub(crate) fn layer(self, from: usize, to: usize, done: usize) -> usize
         requires { done < to - from }
-        ensures entry { result ≡ entry_of self from to done }
+        ensures layer { result ≡ layer_of self from to done }
         ensures first { from ≤ result }
         ensures last { result < to }
     {
@@ -67,7 +67,7 @@ impl Order {
     fn group(self, count: usize, done: usize) -> usize
         requires { done < count }
         ensures group { result ≡ group_of self count done }
-        ensures within { result < count }
+        ensures inside { result < count }
     {
         match self {
             Order::LargestFirst => done,
@@ -85,7 +85,7 @@ pub fn groups(layers: usize) -> usize
     (layers + 2) / 3
 }
 
-/// Where group g ends, and where the one before it begins: group g has the entries from `group_end` of
+/// Where group g ends, and where the one before it begins: group g has the layers from `group_end` of
 /// `g + 1` up to that of g. Threes are counted from `log_h` down, and what is left goes down to `log_rows`,
 /// which is at most `log_h`. `g` is below 64.
 pub fn group_end(log_rows: usize, log_h: usize, g: usize) -> usize
@@ -96,7 +96,7 @@ pub fn group_end(log_rows: usize, log_h: usize, g: usize) -> usize
     log_rows + (log_h - log_rows).saturating_sub(3 * g)
 }
 
-// The layers of the entries from `log_rows` up to `log_h` on the whole, group after group. A piece has
+// The layers from `log_rows` up to `log_h` on the whole, group after group. A piece has
 // `piece` cells of each eighth.
 pub(crate) fn layers_in_groups<F: TwoAdicField, R: Rule<F>>(
     rule: R,
@@ -120,19 +120,19 @@ pub(crate) fn layers_in_groups<F: TwoAdicField, R: Rule<F>>(
         → HoldsCells F.value F.ZERO 0 (cells (cells_of order log_rows log_h 0)) values.old
         → HoldsCells F.value F.ZERO 0 (cells (cells_of order log_rows log_h (log_h - log_rows))) values.new }
     ensures grows { products.old ≤ products.new }
-    ensures count { 2 * products.new ≤ 2 * products.old + R.cost * ((log_h - log_rows) * length values.old) }
+    ensures cost { 2 * products.new ≤ 2 * products.old + R.cost * ((log_h - log_rows) * length values.old) }
 {
     let count = groups(log_h - log_rows);
     for done in 0..count {
         let group = order.group(count, done);
         let from = group_end(log_rows, log_h, group + 1);
         let to = group_end(log_rows, log_h, group);
-        group_on_runs(rule, order, values, width, from, to, log_h, piece, products);
+        group_on_chunks(rule, order, values, width, from, to, log_h, piece, products);
     }
 }
 
 // One group, block after block of its largest layer.
-fn group_on_runs<F: TwoAdicField, R: Rule<F>>(
+fn group_on_chunks<F: TwoAdicField, R: Rule<F>>(
     rule: R,
     order: Order,
     values: &mut [F],
@@ -156,19 +156,19 @@ fn group_on_runs<F: TwoAdicField, R: Rule<F>>(
         → HoldsCells F.value F.ZERO 0 (cells (cells_of order from to 0)) values.old
         → HoldsCells F.value F.ZERO 0 (cells (cells_of order from to (to - from))) values.new }
     ensures grows { products.old ≤ products.new }
-    ensures count { 2 * products.new ≤ 2 * products.old + R.cost * ((to - from) * length values.old) }
+    ensures cost { 2 * products.new ≤ 2 * products.old + R.cost * ((to - from) * length values.old) }
 {
-    let runs = 1usize << (log_h - to);
-    let size = values.len() / runs;
-    for run in 0..runs {
-        let start = run * size;
+    let chunks = 1usize << (log_h - to);
+    let size = values.len() / chunks;
+    for chunk in 0..chunks {
+        let start = chunk * size;
         let block = &mut values[start..start + size];
-        group_on_run(rule, order, block, width, from, to, run, piece, products);
+        group_on_chunk(rule, order, block, width, from, to, chunk, piece, products);
     }
 }
 
-// The same on one of these blocks, run `number` of `2^to` rows, piece after piece.
-fn group_on_run<F: TwoAdicField, R: Rule<F>>(
+// The same on one of these blocks, chunk `number` of `2^to` rows, piece after piece.
+fn group_on_chunk<F: TwoAdicField, R: Rule<F>>(
     rule: R,
     order: Order,
     values: &mut [F],
@@ -192,7 +192,7 @@ fn group_on_run<F: TwoAdicField, R: Rule<F>>(
         → HoldsCells F.value F.ZERO (number * length values.old) (cells (cells_of order from to 0)) values.old
         → HoldsCells F.value F.ZERO (number * length values.old) (cells (cells_of order from to (to - from))) values.new }
     ensures grows { products.old ≤ products.new }
-    ensures count { 2 * products.new ≤ 2 * products.old + R.cost * ((to - from) * length values.old) }
+    ensures cost { 2 * products.new ≤ 2 * products.old + R.cost * ((to - from) * length values.old) }
 {
     let part = (1usize << from) * width;
     let pieces = (part - 1) / piece + 1;
@@ -223,7 +223,7 @@ fn group_on_piece<F: TwoAdicField, R: Rule<F>>(
     requires small { (number + 1) * 2 ^ to < 2 ^ 64 }
     requires size { length values.old ≡ 2 ^ to * width }
     requires some { at ≤ end }
-    requires within { end ≤ 2 ^ from * width }
+    requires inside { end ≤ 2 ^ from * width }
     requires there { (b : ℕ) → 2 * b < (number + 1) * 2 ^ to → R.has rule b 0 }
     ensures cells { (k : ℕ) (cells : ℕ → ℕ → F.Element)
         → AreLayersInOrder order k width (λ b. R.near F.Element F.ring F.value rule b 0)
@@ -234,13 +234,13 @@ fn group_on_piece<F: TwoAdicField, R: Rule<F>>(
         → TakesColumns F.value F.ZERO (2 ^ from * width) (2 ^ (to - from)) (number * length values.old) at end
         (cells (cells_of order from to (to - from))) values.old values.new }
     ensures grows { products.old ≤ products.new }
-    ensures count { 2 * products.new ≤ 2 * products.old + R.cost * ((to - from) * (2 ^ (to - from) * (end - at))) }
+    ensures cost { 2 * products.new ≤ 2 * products.old + R.cost * ((to - from) * (2 ^ (to - from) * (end - at))) }
 {
     let part = (1usize << from) * width;
     for done in 0..to - from {
-        let entry = order.entry(from, to, done);
-        let half = 1usize << (entry - from);
-        let blocks = 1usize << (to - 1 - entry);
+        let log_half = order.layer(from, to, done);
+        let half = 1usize << (log_half - from);
+        let blocks = 1usize << (to - 1 - log_half);
         layer_of_columns(
             rule,
             values,
@@ -269,7 +269,7 @@ fn layer_of_columns<F: TwoAdicField, R: Rule<F>>(
     products: &mut Products,
 )
     requires some { at ≤ end }
-    requires within { end ≤ part }
+    requires inside { end ≤ part }
     requires blocks { 1 ≤ blocks }
     requires numbers { first_block + blocks < 2 ^ 64 }
     requires size { length values.old ≡ blocks * (2 * (half * part)) }
@@ -281,7 +281,7 @@ fn layer_of_columns<F: TwoAdicField, R: Rule<F>>(
         → HoldsColumns F.value F.ZERO part (blocks * (2 * half)) (first_block * (2 * (half * part))) at end before values.old
         → TakesColumns F.value F.ZERO part (blocks * (2 * half)) (first_block * (2 * (half * part))) at end after values.old values.new }
     ensures grows { products.old ≤ products.new }
-    ensures count { products.new ≤ products.old + R.cost * (blocks * (half * (end - at))) }
+    ensures cost { products.new ≤ products.old + R.cost * (blocks * (half * (end - at))) }
 {
     let size = 2 * (half * part);
     for b in 0..blocks {
@@ -303,7 +303,7 @@ fn columns_of_block<F: TwoAdicField, R: Rule<F>>(
     products: &mut Products,
 )
     requires some { at ≤ end }
-    requires within { end ≤ part }
+    requires inside { end ≤ part }
     requires size { length values.old ≡ 2 * (half * part) }
     requires there { R.has rule block 0 }
     ensures near { let cell = λ (xs : List F) (n : ℕ). F.value (get_or xs n F.ZERO) in
@@ -316,7 +316,7 @@ fn columns_of_block<F: TwoAdicField, R: Rule<F>>(
         → (get_or values.new (t * part + j) F.ZERO ≡ get_or values.old (t * part + j) F.ZERO)
         × (get_or values.new (half * part + (t * part + j)) F.ZERO ≡ get_or values.old (half * part + (t * part + j)) F.ZERO) }
     ensures grows { products.old ≤ products.new }
-    ensures count { products.new ≤ products.old + R.cost * (half * (end - at)) }
+    ensures cost { products.new ≤ products.old + R.cost * (half * (end - at)) }
 {
     let (low, high) = values.split_at_mut(half * part);
     columns_of_halves(rule, low, high, part, half, block, at, end, products);
@@ -335,7 +335,7 @@ fn columns_of_halves<F: TwoAdicField, R: Rule<F>>(
     products: &mut Products,
 )
     requires some { at ≤ end }
-    requires within { end ≤ part }
+    requires inside { end ≤ part }
     requires low { length low.old ≡ half * part }
     requires high { length high.old ≡ half * part }
     requires there { R.has rule block 0 }
@@ -349,7 +349,7 @@ fn columns_of_halves<F: TwoAdicField, R: Rule<F>>(
         → (get_or low.new (t * part + j) F.ZERO ≡ get_or low.old (t * part + j) F.ZERO)
         × (get_or high.new (t * part + j) F.ZERO ≡ get_or high.old (t * part + j) F.ZERO) }
     ensures grows { products.old ≤ products.new }
-    ensures count { products.new ≤ products.old + R.cost * (half * (end - at)) }
+    ensures cost { products.new ≤ products.old + R.cost * (half * (end - at)) }
 {
     for t in 0..half {
         let start = t * part;

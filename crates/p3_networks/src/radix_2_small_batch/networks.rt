@@ -1,9 +1,9 @@
-//! The networks of the engine: layers on runs of rows that lie one after another, whose cells are taken
+//! The networks of the engine: layers on chunks of rows that lie one after another, whose cells are taken
 //! in the order in which they lie.
 //!
-//! Entry e of a height is the layer whose blocks have `2^(e + 1)` rows. Runs of `2^top` rows count from
+//! Layer e of a height is that whose blocks have two halves of `2^e` rows. Chunks of `2^top` rows count from
 //! the first row on. One twiddle is for a whole block, so that a layer is one of cells: contracts say
-//! which cells a run holds before and after, for any layers that follow one another.
+//! which cells a chunk holds before and after, for any layers that follow one another.
 
 ghost use Rattle.std.specs.Prelude.{◌≡◌, ℕ, ◌+◌, ◌-◌, ◌*◌, ◌/◌, ◌^◌, ◌<◌, ◌≤◌, List, length, get_or};
 ghost use Rattle.p3_field.specs.Ring.{AreRoots, power};
@@ -41,7 +41,7 @@ pub(crate) trait NetworkRule<F: TwoAdicField>: Rule<F> {
             (b : ℕ) → b < 32 → cell values.new (2 * b + 1)
             ≡ Self.far F.Element F.ring F.value self (first + b) 0 (cell values.old (2 * b)) (cell values.old (2 * b + 1)) }
         ensures grows { products.old ≤ products.new }
-        ensures count { products.new ≤ products.old + Self.cost * 32 };
+        ensures cost { products.new ≤ products.old + Self.cost * 32 };
 
     // The place of a pair in its block makes no difference.
     ghost near_law: { (r : Self) (b t : ℕ) (p q : F.Element) → Self.near F.Element F.ring F.value r b t p q
@@ -93,37 +93,37 @@ impl<F: TwoAdicField> NetworkRule<F> for DifByBlock<'_, F> {
     ghost far_law = { λ r b t p q. refl };
 }
 
-// The layer of one entry, on run `number`.
+// Layer `log_half`, on chunk `number`.
 #[inline(always)]
-fn layer_of_run<F: TwoAdicField, R: NetworkRule<F>>(
+fn layer_of_chunk<F: TwoAdicField, R: NetworkRule<F>>(
     rule: R,
     values: &mut [F],
     width: usize,
-    entry: usize,
+    log_half: usize,
     top: usize,
     number: usize,
     products: &mut Products,
 )
     requires wide { 1 ≤ width }
-    requires below { entry < top }
+    requires below { log_half < top }
     requires small { (number + 1) * 2 ^ top < 2 ^ 64 }
     requires size { length values.old ≡ 2 ^ top * width }
     requires there { (b t : ℕ) → 2 * b < (number + 1) * 2 ^ top → R.has rule b t }
     ensures cells { (k : ℕ) (before after : ℕ → ℕ → F.Element)
         → AreLayers k width (λ b. R.near F.Element F.ring F.value rule b 0) (λ b. R.far F.Element F.ring F.value rule b 0) before after
-        → (number + 1) * 2 ^ top ≤ 2 ^ k → HoldsCells F.value F.ZERO (number * length values.old) (before entry) values.old
-        → HoldsCells F.value F.ZERO (number * length values.old) (after entry) values.new }
+        → (number + 1) * 2 ^ top ≤ 2 ^ k → HoldsCells F.value F.ZERO (number * length values.old) (before log_half) values.old
+        → HoldsCells F.value F.ZERO (number * length values.old) (after log_half) values.new }
     ensures grows { products.old ≤ products.new }
-    ensures count { 2 * products.new ≤ 2 * products.old + R.cost * length values.old }
+    ensures cost { 2 * products.new ≤ 2 * products.old + R.cost * length values.old }
 {
     // The pairs of a block have one twiddle, so that its half is one column, whatever the width. As a column,
     // because blocks of one column and a few entries have their size named in `layer`.
-    let half = (1usize << entry) * width;
-    let blocks = 1usize << (top - 1 - entry);
+    let half = (1usize << log_half) * width;
+    let blocks = 1usize << (top - 1 - log_half);
     layer(rule, values, 1, half, number * blocks, blocks, products);
 }
 
-// The layer of the smallest blocks, on run `number` of 64 rows of one column.
+// The layer of the smallest blocks, on chunk `number` of 64 rows of one column.
 #[inline(always)]
 fn layer_of_pairs<F: TwoAdicField, R: NetworkRule<F>>(
     rule: R,
@@ -139,13 +139,13 @@ fn layer_of_pairs<F: TwoAdicField, R: NetworkRule<F>>(
         → (number + 1) * 2 ^ 6 ≤ 2 ^ k → HoldsCells F.value F.ZERO (number * length values.old) (before 0) values.old
         → HoldsCells F.value F.ZERO (number * length values.old) (after 0) values.new }
     ensures grows { products.old ≤ products.new }
-    ensures count { 2 * products.new ≤ 2 * products.old + R.cost * length values.old }
+    ensures cost { 2 * products.new ≤ 2 * products.old + R.cost * length values.old }
 {
     rule.meet_pairs(number * 32, values, products);
 }
 
-// The layers of the entries from `from` up to `to` in the rule's order, on run `number`.
-fn layers_of_run<F: TwoAdicField, R: NetworkRule<F>>(
+// The layers from `from` up to `to` in the rule's order, on chunk `number`.
+fn layers_of_chunk<F: TwoAdicField, R: NetworkRule<F>>(
     rule: R,
     values: &mut [F],
     width: usize,
@@ -168,16 +168,16 @@ fn layers_of_run<F: TwoAdicField, R: NetworkRule<F>>(
         → HoldsCells F.value F.ZERO (number * length values.old) (cells (cells_of R.order from to 0)) values.old
         → HoldsCells F.value F.ZERO (number * length values.old) (cells (cells_of R.order from to (to - from))) values.new }
     ensures grows { products.old ≤ products.new }
-    ensures count { 2 * products.new ≤ 2 * products.old + R.cost * ((to - from) * length values.old) }
+    ensures cost { 2 * products.new ≤ 2 * products.old + R.cost * ((to - from) * length values.old) }
 {
     let order = rule.order();
     for done in 0..to - from {
-        let entry = order.entry(from, to, done);
-        layer_of_run(rule, values, width, entry, top, number, products);
+        let log_half = order.layer(from, to, done);
+        layer_of_chunk(rule, values, width, log_half, top, number, products);
     }
 }
 
-// The layers of the entries below `log_rows` in the rule's order, tile after tile: a tile has `2^log_rows`
+// The layers below `log_rows` in the rule's order, tile after tile: a tile has `2^log_rows`
 // rows, which these layers do not leave.
 fn layers_of_tiles<F: TwoAdicField, R: NetworkRule<F>>(
     rule: R,
@@ -198,7 +198,7 @@ fn layers_of_tiles<F: TwoAdicField, R: NetworkRule<F>>(
         → HoldsCells F.value F.ZERO 0 (cells (cells_of R.order 0 log_rows 0)) values.old
         → HoldsCells F.value F.ZERO 0 (cells (cells_of R.order 0 log_rows log_rows)) values.new }
     ensures grows { products.old ≤ products.new }
-    ensures count { 2 * products.new ≤ 2 * products.old + R.cost * (log_rows * length values.old) }
+    ensures cost { 2 * products.new ≤ 2 * products.old + R.cost * (log_rows * length values.old) }
 {
     let tiles = 1usize << (log_h - log_rows);
     let size = values.len() / tiles;
@@ -209,8 +209,8 @@ fn layers_of_tiles<F: TwoAdicField, R: NetworkRule<F>>(
     }
 }
 
-// The same of one tile, run `number` of `2^top` rows. In one column the layers of the six smallest blocks
-// are done together, on one run of 64 rows after another. The width is written as 1 in that call, so that it
+// The same of one tile, chunk `number` of `2^top` rows. In one column the layers of the six smallest blocks
+// are done together, on one chunk of 64 rows after another. The width is written as 1 in that call, so that it
 // is known in the loops.
 fn layers_of_tile<F: TwoAdicField, R: NetworkRule<F>>(
     rule: R,
@@ -231,27 +231,27 @@ fn layers_of_tile<F: TwoAdicField, R: NetworkRule<F>>(
         → HoldsCells F.value F.ZERO (number * length values.old) (cells (cells_of R.order 0 top 0)) values.old
         → HoldsCells F.value F.ZERO (number * length values.old) (cells (cells_of R.order 0 top top)) values.new }
     ensures grows { products.old ≤ products.new }
-    ensures count { 2 * products.new ≤ 2 * products.old + R.cost * (top * length values.old) }
+    ensures cost { 2 * products.new ≤ 2 * products.old + R.cost * (top * length values.old) }
 {
     if width == 1 && top >= 6 {
         match rule.order() {
             Order::LargestFirst => {
-                layers_of_run(rule, values, 1, 6, top, top, number, products);
-                layers_of_short_runs(rule, values, top, number, products);
+                layers_of_chunk(rule, values, 1, 6, top, top, number, products);
+                layers_of_short_chunks(rule, values, top, number, products);
             }
             Order::SmallestFirst => {
-                layers_of_short_runs(rule, values, top, number, products);
-                layers_of_run(rule, values, 1, 6, top, top, number, products);
+                layers_of_short_chunks(rule, values, top, number, products);
+                layers_of_chunk(rule, values, 1, 6, top, top, number, products);
             }
         }
     } else {
-        layers_of_run(rule, values, width, 0, top, top, number, products);
+        layers_of_chunk(rule, values, width, 0, top, top, number, products);
     }
 }
 
-// The layers of the entries below six, on run `number` of `2^top` rows of one column: one run of 64 rows
+// The layers below six, on chunk `number` of `2^top` rows of one column: one chunk of 64 rows
 // after another, which six layers do not leave, and whose smallest blocks have 32 twiddles.
-fn layers_of_short_runs<F: TwoAdicField, R: NetworkRule<F>>(
+fn layers_of_short_chunks<F: TwoAdicField, R: NetworkRule<F>>(
     rule: R,
     values: &mut [F],
     top: usize,
@@ -269,20 +269,20 @@ fn layers_of_short_runs<F: TwoAdicField, R: NetworkRule<F>>(
         → HoldsCells F.value F.ZERO (number * length values.old) (cells (cells_of R.order 0 6 0)) values.old
         → HoldsCells F.value F.ZERO (number * length values.old) (cells (cells_of R.order 0 6 6)) values.new }
     ensures grows { products.old ≤ products.new }
-    ensures count { 2 * products.new ≤ 2 * products.old + R.cost * (6 * length values.old) }
+    ensures cost { 2 * products.new ≤ 2 * products.old + R.cost * (6 * length values.old) }
 {
-    let runs = 1usize << (top - 6);
-    let size = values.len() / runs;
-    for run in 0..runs {
-        let start = run * size;
+    let chunks = 1usize << (top - 6);
+    let size = values.len() / chunks;
+    for chunk in 0..chunks {
+        let start = chunk * size;
         let rows = &mut values[start..start + size];
-        layers_of_short_run(rule, rows, number * runs + run, products);
+        layers_of_short_chunk(rule, rows, number * chunks + chunk, products);
     }
 }
 
-// The same on run `number` of 64 rows. The entries are named, so that the loops of each layer are of
+// The same on chunk `number` of 64 rows. The layers are named, so that the loops of each layer are of
 // known size.
-fn layers_of_short_run<F: TwoAdicField, R: NetworkRule<F>>(
+fn layers_of_short_chunk<F: TwoAdicField, R: NetworkRule<F>>(
     rule: R,
     values: &mut [F],
     number: usize,
@@ -298,29 +298,29 @@ fn layers_of_short_run<F: TwoAdicField, R: NetworkRule<F>>(
         → HoldsCells F.value F.ZERO (number * length values.old) (cells (cells_of R.order 0 6 0)) values.old
         → HoldsCells F.value F.ZERO (number * length values.old) (cells (cells_of R.order 0 6 6)) values.new }
     ensures grows { products.old ≤ products.new }
-    ensures count { 2 * products.new ≤ 2 * products.old + R.cost * (6 * length values.old) }
+    ensures cost { 2 * products.new ≤ 2 * products.old + R.cost * (6 * length values.old) }
 {
     match rule.order() {
         Order::LargestFirst => {
-            layer_of_run(rule, values, 1, 5, 6, number, products);
-            layer_of_run(rule, values, 1, 4, 6, number, products);
-            layer_of_run(rule, values, 1, 3, 6, number, products);
-            layer_of_run(rule, values, 1, 2, 6, number, products);
-            layer_of_run(rule, values, 1, 1, 6, number, products);
+            layer_of_chunk(rule, values, 1, 5, 6, number, products);
+            layer_of_chunk(rule, values, 1, 4, 6, number, products);
+            layer_of_chunk(rule, values, 1, 3, 6, number, products);
+            layer_of_chunk(rule, values, 1, 2, 6, number, products);
+            layer_of_chunk(rule, values, 1, 1, 6, number, products);
             layer_of_pairs(rule, values, number, products);
         }
         Order::SmallestFirst => {
             layer_of_pairs(rule, values, number, products);
-            layer_of_run(rule, values, 1, 1, 6, number, products);
-            layer_of_run(rule, values, 1, 2, 6, number, products);
-            layer_of_run(rule, values, 1, 3, 6, number, products);
-            layer_of_run(rule, values, 1, 4, 6, number, products);
-            layer_of_run(rule, values, 1, 5, 6, number, products);
+            layer_of_chunk(rule, values, 1, 1, 6, number, products);
+            layer_of_chunk(rule, values, 1, 2, 6, number, products);
+            layer_of_chunk(rule, values, 1, 3, 6, number, products);
+            layer_of_chunk(rule, values, 1, 4, 6, number, products);
+            layer_of_chunk(rule, values, 1, 5, 6, number, products);
         }
     }
 }
 
-// By decimation in frequency, the layers of the entries below `log_rows`, tile after tile, on the
+// By decimation in frequency, the layers below `log_rows`, tile after tile, on the
 // values times `scale`.
 fn scaled_dif_tiles<F: TwoAdicField>(
     twiddles: &[F],
@@ -344,7 +344,7 @@ fn scaled_dif_tiles<F: TwoAdicField>(
         → HoldsCells (λ x. F.ring.mul (F.value x) (F.value scale)) F.ZERO 0 (cells 0) values.old
         → HoldsCells F.value F.ZERO 0 (cells log_rows) values.new }
     ensures grows { products.old ≤ products.new }
-    ensures count { 2 * products.new ≤ 2 * products.old + (log_rows + 2) * length values.old }
+    ensures cost { 2 * products.new ≤ 2 * products.old + (log_rows + 2) * length values.old }
 {
     let tiles = 1usize << (log_h - log_rows);
     let size = values.len() / tiles;
@@ -473,7 +473,7 @@ pub fn scaled_dif_network<F: TwoAdicField>(
     requires some { 1 ≤ log_h }
     requires small { log_h < 64 }
     requires piece { 1 ≤ piece }
-    requires rooted { log_h ≤ F.TWO_ADICITY }
+    requires within { log_h ≤ F.TWO_ADICITY }
     requires size { length values.old ≡ 2 ^ log_h * width }
     requires twiddles { AreTwiddlesFromStart F.Field.own log_h
         (block_powers F.Field.own (backward_root F.Field.own F.generator)) twiddles.now }
@@ -561,7 +561,7 @@ fn spread_rows<F: TwoAdicField>(
     }
 }
 
-// Rows of coefficients, spread, and by decimation in frequency the layers of the entries from
+// Rows of coefficients, spread, and by decimation in frequency the layers from
 // `added_bits` up to `log_rows`, tile after tile.
 fn spread_tiles<F: TwoAdicField>(
     twiddles: &[F],
@@ -594,7 +594,7 @@ fn spread_tiles<F: TwoAdicField>(
         (power F.ring (F.value (get_or twiddles.now (q * (2 ^ added_bits / 2)) F.ZERO)) t)))
         → HoldsCells F.value F.ZERO 0 (cells log_rows) values.new }
     ensures grows { products.old ≤ products.new }
-    ensures count { 2 * products.new ≤ 2 * products.old + (log_rows - added_bits + 2) * length values.old }
+    ensures cost { 2 * products.new ≤ 2 * products.old + (log_rows - added_bits + 2) * length values.old }
 {
     let tiles = 1usize << (log_h - log_rows);
     let size = values.len() / tiles;
@@ -614,7 +614,7 @@ fn spread_tiles<F: TwoAdicField>(
             count,
             products,
         );
-        layers_of_run(
+        layers_of_chunk(
             DifByBlock { twiddles },
             out,
             width,
@@ -649,7 +649,7 @@ pub fn extending_network<F: TwoAdicField>(
     requires some { 1 ≤ log_h }
     requires small { log_h < 64 }
     requires piece { 1 ≤ piece }
-    requires rooted { log_h ≤ F.TWO_ADICITY }
+    requires within { log_h ≤ F.TWO_ADICITY }
     requires size { length values.old ≡ 2 ^ log_h * width }
     requires rows { length rows.now ≡ 2 ^ (log_h - added_bits) * width }
     requires weights { length weights.now ≡ 2 ^ (log_h - added_bits) }
@@ -660,7 +660,7 @@ pub fn extending_network<F: TwoAdicField>(
         (F.value (get_or rows.now (rev (log_h - added_bits) q * width + j) F.ZERO))
         (F.value (get_or weights.now (rev (log_h - added_bits) q) F.ZERO))) (power F.ring (F.value (F.generator log_h)) r) }
     ensures grows { products.old ≤ products.new }
-    ensures count { 2 * products.new ≤ 2 * products.old + (log_h - added_bits + 2) * length values.old }
+    ensures cost { 2 * products.new ≤ 2 * products.old + (log_h - added_bits + 2) * length values.old }
 {
     spread_tiles(
         twiddles, weights, rows, values, width, added_bits, log_rows, log_h, products,

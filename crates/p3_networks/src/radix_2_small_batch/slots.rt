@@ -1,4 +1,4 @@
-//! An extension whose rows come in bit reversed order. Of its `2^(log_h + added_bits)` rows each run of
+//! An extension whose rows come in bit reversed order. Of its `2^(log_h + added_bits)` rows each chunk of
 //! `2^log_h` is a slot, which gets the values on a coset of its own. The coefficients are the first slot.
 
 ghost use Rattle.std.specs.Prelude.{◌≡◌, ℕ, ◌+◌, ◌*◌, ◌/◌, ◌^◌, ◌<◌, ◌≤◌, length, get_or};
@@ -43,7 +43,7 @@ pub fn slots_network<F: TwoAdicField>(
         ≡ poly F.ring (2 ^ log_h) (λ q. F.value (get_or values.old (q * width + j) F.ZERO))
         (point F.ring (forward_root F.Field.own F.generator) (log_h + added_bits) (F.value shift) (rev (log_h + added_bits) r)) }
     ensures grows { products.old ≤ products.new }
-    ensures count { products.new ≤ products.old + 2 ^ added_bits * (width * (log_h * 2 ^ log_h / 2) + 2 ^ log_h * width) }
+    ensures cost { products.new ≤ products.old + 2 ^ added_bits * (width * (log_h * 2 ^ log_h / 2) + 2 ^ log_h * width) }
 {
     let slots = 1usize << added_bits;
     let size = values.len() / slots;
@@ -53,7 +53,7 @@ pub fn slots_network<F: TwoAdicField>(
         let start = place * size;
         let slot = &mut others[start..start + size];
         let turn = root.exp_u64(reverse_bits_len(place + 1, added_bits) as u64);
-        evaluate_from(
+        evaluate_to_reversed_oop(
             twiddles,
             coefficients,
             slot,
@@ -66,7 +66,7 @@ pub fn slots_network<F: TwoAdicField>(
         );
     }
     shift_values(coefficients, width, 1 << log_h, shift, products);
-    evaluate(
+    evaluate_to_reversed(
         twiddles,
         coefficients,
         width,
@@ -79,7 +79,7 @@ pub fn slots_network<F: TwoAdicField>(
 
 // From coefficients in natural order, which lie in another slice, their values on the coset of `shift`
 // that has as many points, in bit reversed order.
-fn evaluate_from<F: TwoAdicField>(
+fn evaluate_to_reversed_oop<F: TwoAdicField>(
     twiddles: &[F],
     coefficients: &[F],
     values: &mut [F],
@@ -103,15 +103,15 @@ fn evaluate_from<F: TwoAdicField>(
         ≡ poly F.ring (2 ^ log_h) (λ q. F.value (get_or coefficients.now (q * width + j) F.ZERO))
         (point F.ring (forward_root F.Field.own F.generator) log_h (F.value shift) (rev log_h r)) }
     ensures grows { products.old ≤ products.new }
-    ensures count { products.new ≤ products.old + (width * (log_h * 2 ^ log_h / 2) + 2 ^ log_h * width) }
+    ensures cost { products.new ≤ products.old + (width * (log_h * 2 ^ log_h / 2) + 2 ^ log_h * width) }
 {
     copy_shifted(coefficients, values, width, 1 << log_h, shift, products);
-    evaluate(twiddles, values, width, log_rows, log_h, piece, products);
+    evaluate_to_reversed(twiddles, values, width, log_rows, log_h, piece, products);
 }
 
 // From rows in natural order to their values on the subgroup, in bit reversed order. A single row has no
 // layer and needs no twiddles.
-fn evaluate<F: TwoAdicField>(
+fn evaluate_to_reversed<F: TwoAdicField>(
     twiddles: &[F],
     values: &mut [F],
     width: usize,
@@ -131,7 +131,7 @@ fn evaluate<F: TwoAdicField>(
     ensures values { AreValuesOfRows F.Field.own width (2 ^ log_h) (λ q. q)
         (λ r. power F.ring (forward_root F.Field.own F.generator log_h) (rev log_h r)) values.old values.new }
     ensures grows { products.old ≤ products.new }
-    ensures count { products.new ≤ products.old + width * (log_h * 2 ^ log_h / 2) }
+    ensures cost { products.new ≤ products.old + width * (log_h * 2 ^ log_h / 2) }
 {
     if log_h > 0 {
         dit_network_to_reversed(twiddles, values, width, log_rows, log_h, piece, products);

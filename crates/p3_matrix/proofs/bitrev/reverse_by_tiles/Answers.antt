@@ -4,7 +4,7 @@ use Rattle.p3_matrix.specs.BitOrder.{rev}
 use Rattle.p3_matrix.proofs.BitReversal.{rev_of_zero, rev-lt}
 use Rattle.p3_matrix.proofs.RowMajor.{row_within}
 use Rattle.p3_matrix.proofs.HalfReversed.{rows_half_reversed_none, rows_half_reversed_more, rows_half_reversed_kept, rows_half_reversed_skipped, rows_half_reversed_all, rows_half_reversed_at}
-use Rattle.p3_matrix.proofs.Tiles.{tile_order, digits, usize_size, run_lt, run_number, mirror_not_after, partner_is, partner_after, partner_not, runs_apart, are_numbers, all_below, tile_done}
+use Rattle.p3_matrix.proofs.Tiles.{tile_order, digits, usize_size, chunk_lt, chunk_in_tile_order, mirror_not_after, partner_is, partner_after, partner_not, chunks_apart, are_numbers, all_below, tile_done}
 use Rattle.p3_matrix.proofs.bitrev.reverse_by_tiles.Goals as goal
 use Rattle.p3_matrix.proofs.bitrev.reverse_by_tiles.Goals.{then-tile-mirror-2, else-tile-mirror-2+else-first-far_first, then-tile-mirror-2-via-then-tile-mirror-2, then-tile-mirror-2-via-else-tile-mirror-2+then-first-far_first, then-tile-mirror+else-loop-first-test, else-tile-mirror}
 
@@ -28,30 +28,30 @@ loop-last-init g c = record {
       ((c.loop-tile.tile * 2 ^ c.args.outer + c.loop-first.first) * 2 ^ c.args.outer) ((c.loop-tile.tile * 2 ^ c.args.outer + c.loop-first.first) * 2 ^ c.args.outer + 0) c.loop-first.values (omega arith) c.loop-first.invariant.half;
 }
 
-pub run-near-requires-clause-small : goal.run-near-requires-clause-small
-run-near-requires-clause-small g c = usize_size c.args.bits (c.args.bits - 2 * c.args.outer) c.args.outer c.requires.outer refl _ _ (one_shl (c.args.bits - 2 * c.args.outer) 64 (omega arith)) (one_shl c.args.outer 64 (omega arith)) c.requires.bits
+pub chunk_number-near-requires-clause-small : goal.chunk_number-near-requires-clause-small
+chunk_number-near-requires-clause-small g c = usize_size c.args.bits (c.args.bits - 2 * c.args.outer) c.args.outer c.requires.outer refl _ _ (one_shl (c.args.bits - 2 * c.args.outer) 64 (omega arith)) (one_shl c.args.outer 64 (omega arith)) c.requires.bits
 
-pub run-far-requires-clause-first : goal.run-far-requires-clause-first
-run-far-requires-clause-first g c = omega (arith, c.reverse_bits_len-far_first.ensures, rev-lt c.args.outer c.loop-last.last, one_shl c.args.outer 64 (omega arith))
+pub chunk_number-far-requires-clause-first : goal.chunk_number-far-requires-clause-first
+chunk_number-far-requires-clause-first g c = omega (arith, c.reverse_bits_len-far_first.ensures, rev-lt c.args.outer c.loop-last.last, one_shl c.args.outer 64 (omega arith))
 
-pub run-far-requires-clause-last : goal.run-far-requires-clause-last
-run-far-requires-clause-last g c = omega (arith, c.reverse_bits_len-far_last.ensures, rev-lt c.args.outer c.loop-first.first, one_shl c.args.outer 64 (omega arith))
+pub chunk_number-far-requires-clause-last : goal.chunk_number-far-requires-clause-last
+chunk_number-far-requires-clause-last g c = omega (arith, c.reverse_bits_len-far_last.ensures, rev-lt c.args.outer c.loop-first.first, one_shl c.args.outer 64 (omega arith))
 
-pub run-far-requires-clause-small : goal.run-far-requires-clause-small
-run-far-requires-clause-small g c = usize_size c.args.bits (c.args.bits - 2 * c.args.outer) c.args.outer c.requires.outer refl _ _ (one_shl (c.args.bits - 2 * c.args.outer) 64 (omega arith)) (one_shl c.args.outer 64 (omega arith)) c.requires.bits
+pub chunk_number-far-requires-clause-small : goal.chunk_number-far-requires-clause-small
+chunk_number-far-requires-clause-small g c = usize_size c.args.bits (c.args.bits - 2 * c.args.outer) c.args.outer c.requires.outer refl _ _ (one_shl (c.args.bits - 2 * c.args.outer) 64 (omega arith)) (one_shl c.args.outer 64 (omega arith)) c.requires.bits
 
 pub overflow_mul-near : goal.overflow_mul-near
 overflow_mul-near g c =
-    let below = run_lt c.args.bits (c.args.bits - 2 * c.args.outer) c.args.outer c.requires.outer refl _ _ (one_shl (c.args.bits - 2 * c.args.outer) 64 (omega arith)) (one_shl c.args.outer 64 (omega arith)) c.run-near.result c.loop-first.first c.loop-tile.tile c.loop-last.last c.run-near.ensures c.loop-first-test.true c.loop-tile-test.true c.loop-last-test.true in
-    omega (arith, row_within c.run-near.result (2 ^ c.args.bits) c.args.width (length c.args.values.now) below (sym c.requires.size))
+    let below = chunk_lt c.args.bits (c.args.bits - 2 * c.args.outer) c.args.outer c.requires.outer refl _ _ (one_shl (c.args.bits - 2 * c.args.outer) 64 (omega arith)) (one_shl c.args.outer 64 (omega arith)) c.chunk_number-near.result c.loop-first.first c.loop-tile.tile c.loop-last.last c.chunk_number-near.ensures c.loop-first-test.true c.loop-tile-test.true c.loop-last-test.true in
+    omega (arith, row_within c.chunk_number-near.result (2 ^ c.args.bits) c.args.width (length c.args.values.now) below (sym c.requires.size))
 
 pub overflow_mul-far : goal.overflow_mul-far
 overflow_mul-far g c =
-    let below = run_lt c.args.bits (c.args.bits - 2 * c.args.outer) c.args.outer c.requires.outer refl _ _ (one_shl (c.args.bits - 2 * c.args.outer) 64 (omega arith)) (one_shl c.args.outer 64 (omega arith)) c.run-far.result c.reverse_bits_len-far_first.result c.loop-tile.mirror c.reverse_bits_len-far_last.result c.run-far.ensures
+    let below = chunk_lt c.args.bits (c.args.bits - 2 * c.args.outer) c.args.outer c.requires.outer refl _ _ (one_shl (c.args.bits - 2 * c.args.outer) 64 (omega arith)) (one_shl c.args.outer 64 (omega arith)) c.chunk_number-far.result c.reverse_bits_len-far_first.result c.loop-tile.mirror c.reverse_bits_len-far_last.result c.chunk_number-far.ensures
     (omega (arith, c.reverse_bits_len-far_first.ensures, rev-lt c.args.outer c.loop-last.last, one_shl c.args.outer 64 (omega arith)))
     (omega (arith, c.loop-tile.invariant.below, one_shl (c.args.bits - 2 * c.args.outer) 64 (omega arith)))
     (omega (arith, c.reverse_bits_len-far_last.ensures, rev-lt c.args.outer c.loop-first.first, one_shl c.args.outer 64 (omega arith))) in
-    omega (arith, row_within c.run-far.result (2 ^ c.args.bits) c.args.width (length c.args.values.now) below (sym c.requires.size))
+    omega (arith, row_within c.chunk_number-far.result (2 ^ c.args.bits) c.args.width (length c.args.values.now) below (sym c.requires.size))
 
 pub exchange-requires-clause-apart : goal.exchange-requires-clause-apart
 exchange-requires-clause-apart g c =
@@ -62,22 +62,22 @@ exchange-requires-clause-apart g c =
       | then-tile-mirror-2-via-else-tile-mirror-2+then-first-far_first w ↦ inr w.if-first-far_first.true
     ]
     in
-    runs_apart c.run-near.result c.run-far.result c.args.width
-    (partner_not c.args.bits (c.args.bits - 2 * c.args.outer) c.args.outer c.requires.outer refl _ _ (one_shl (c.args.bits - 2 * c.args.outer) 64 (omega arith)) (one_shl c.args.outer 64 (omega arith)) c.run-near.result c.loop-first.first c.loop-tile.tile c.loop-last.last c.run-near.ensures c.loop-first-test.true c.loop-tile-test.true c.loop-last-test.true
-    c.run-far.result c.reverse_bits_len-far_first.result c.loop-tile.mirror c.reverse_bits_len-far_last.result c.run-far.ensures c.reverse_bits_len-far_first.ensures tile c.reverse_bits_len-far_last.ensures c.if-tile-mirror.true before)
+    chunks_apart c.chunk_number-near.result c.chunk_number-far.result c.args.width
+    (partner_not c.args.bits (c.args.bits - 2 * c.args.outer) c.args.outer c.requires.outer refl _ _ (one_shl (c.args.bits - 2 * c.args.outer) 64 (omega arith)) (one_shl c.args.outer 64 (omega arith)) c.chunk_number-near.result c.loop-first.first c.loop-tile.tile c.loop-last.last c.chunk_number-near.ensures c.loop-first-test.true c.loop-tile-test.true c.loop-last-test.true
+    c.chunk_number-far.result c.reverse_bits_len-far_first.result c.loop-tile.mirror c.reverse_bits_len-far_last.result c.chunk_number-far.ensures c.reverse_bits_len-far_first.ensures tile c.reverse_bits_len-far_last.ensures c.if-tile-mirror.true before)
 
 pub exchange-requires-clause-first : goal.exchange-requires-clause-first
 exchange-requires-clause-first g c =
-    let below = run_lt c.args.bits (c.args.bits - 2 * c.args.outer) c.args.outer c.requires.outer refl _ _ (one_shl (c.args.bits - 2 * c.args.outer) 64 (omega arith)) (one_shl c.args.outer 64 (omega arith)) c.run-near.result c.loop-first.first c.loop-tile.tile c.loop-last.last c.run-near.ensures c.loop-first-test.true c.loop-tile-test.true c.loop-last-test.true in
-    omega (arith, row_within c.run-near.result (2 ^ c.args.bits) c.args.width (length c.args.values.now) below (sym c.requires.size))
+    let below = chunk_lt c.args.bits (c.args.bits - 2 * c.args.outer) c.args.outer c.requires.outer refl _ _ (one_shl (c.args.bits - 2 * c.args.outer) 64 (omega arith)) (one_shl c.args.outer 64 (omega arith)) c.chunk_number-near.result c.loop-first.first c.loop-tile.tile c.loop-last.last c.chunk_number-near.ensures c.loop-first-test.true c.loop-tile-test.true c.loop-last-test.true in
+    omega (arith, row_within c.chunk_number-near.result (2 ^ c.args.bits) c.args.width (length c.args.values.now) below (sym c.requires.size))
 
 pub exchange-requires-clause-second : goal.exchange-requires-clause-second
 exchange-requires-clause-second g c =
-    let below = run_lt c.args.bits (c.args.bits - 2 * c.args.outer) c.args.outer c.requires.outer refl _ _ (one_shl (c.args.bits - 2 * c.args.outer) 64 (omega arith)) (one_shl c.args.outer 64 (omega arith)) c.run-far.result c.reverse_bits_len-far_first.result c.loop-tile.mirror c.reverse_bits_len-far_last.result c.run-far.ensures
+    let below = chunk_lt c.args.bits (c.args.bits - 2 * c.args.outer) c.args.outer c.requires.outer refl _ _ (one_shl (c.args.bits - 2 * c.args.outer) 64 (omega arith)) (one_shl c.args.outer 64 (omega arith)) c.chunk_number-far.result c.reverse_bits_len-far_first.result c.loop-tile.mirror c.reverse_bits_len-far_last.result c.chunk_number-far.ensures
     (omega (arith, c.reverse_bits_len-far_first.ensures, rev-lt c.args.outer c.loop-last.last, one_shl c.args.outer 64 (omega arith)))
     (omega (arith, c.loop-tile.invariant.below, one_shl (c.args.bits - 2 * c.args.outer) 64 (omega arith)))
     (omega (arith, c.reverse_bits_len-far_last.ensures, rev-lt c.args.outer c.loop-first.first, one_shl c.args.outer 64 (omega arith))) in
-    omega (arith, row_within c.run-far.result (2 ^ c.args.bits) c.args.width (length c.args.values.now) below (sym c.requires.size))
+    omega (arith, row_within c.chunk_number-far.result (2 ^ c.args.bits) c.args.width (length c.args.values.now) below (sym c.requires.size))
 
 pub loop-last-preserved : goal.loop-last-preserved
 loop-last-preserved g c =
@@ -105,13 +105,13 @@ loop-last-preserved g c =
                 ]
                 in
                 rw w.values-is (rows_half_reversed_at c.args.width n number xs (t + 1) ((r * 2 ^ k + a) * 2 ^ k + (b + 1)) w.exchange.new.values (omega arith)
-                (rows_half_reversed_more c.args.width n number xs w.run-near.result w.run-far.result t c.loop-last.values w.exchange.new.values apart
-                (run_lt n m k c.requires.outer refl _ _ ts ss w.run-near.result a r b w.run-near.ensures c.loop-first-test.true c.loop-tile-test.true c.loop-last-test.true)
-                (partner_is n m k c.requires.outer refl _ _ ts ss w.run-near.result a r b w.run-near.ensures c.loop-first-test.true c.loop-tile-test.true c.loop-last-test.true
-                w.run-far.result c.reverse_bits_len-far_first.result c.loop-tile.mirror c.reverse_bits_len-far_last.result w.run-far.ensures c.reverse_bits_len-far_first.ensures tile c.reverse_bits_len-far_last.ensures)
-                (run_number n m k c.requires.outer refl _ _ ts ss w.run-near.result a r b w.run-near.ensures c.loop-first-test.true c.loop-tile-test.true c.loop-last-test.true)
-                (partner_after n m k c.requires.outer refl _ _ ts ss w.run-near.result a r b w.run-near.ensures c.loop-first-test.true c.loop-tile-test.true c.loop-last-test.true
-                w.run-far.result c.reverse_bits_len-far_first.result c.loop-tile.mirror c.reverse_bits_len-far_last.result w.run-far.ensures c.reverse_bits_len-far_first.ensures tile c.reverse_bits_len-far_last.ensures c.if-tile-mirror.true before)
+                (rows_half_reversed_more c.args.width n number xs w.chunk_number-near.result w.chunk_number-far.result t c.loop-last.values w.exchange.new.values apart
+                (chunk_lt n m k c.requires.outer refl _ _ ts ss w.chunk_number-near.result a r b w.chunk_number-near.ensures c.loop-first-test.true c.loop-tile-test.true c.loop-last-test.true)
+                (partner_is n m k c.requires.outer refl _ _ ts ss w.chunk_number-near.result a r b w.chunk_number-near.ensures c.loop-first-test.true c.loop-tile-test.true c.loop-last-test.true
+                w.chunk_number-far.result c.reverse_bits_len-far_first.result c.loop-tile.mirror c.reverse_bits_len-far_last.result w.chunk_number-far.ensures c.reverse_bits_len-far_first.ensures tile c.reverse_bits_len-far_last.ensures)
+                (chunk_in_tile_order n m k c.requires.outer refl _ _ ts ss w.chunk_number-near.result a r b w.chunk_number-near.ensures c.loop-first-test.true c.loop-tile-test.true c.loop-last-test.true)
+                (partner_after n m k c.requires.outer refl _ _ ts ss w.chunk_number-near.result a r b w.chunk_number-near.ensures c.loop-first-test.true c.loop-tile-test.true c.loop-last-test.true
+                w.chunk_number-far.result c.reverse_bits_len-far_first.result c.loop-tile.mirror c.reverse_bits_len-far_last.result w.chunk_number-far.ensures c.reverse_bits_len-far_first.ensures tile c.reverse_bits_len-far_last.ensures c.if-tile-mirror.true before)
                 w.exchange.ensures c.loop-last.invariant.half))
             | else-tile-mirror-2+else-first-far_first w ↦
                 let tiles = 1 * 2 ^ m % 2 ^ 64 in
@@ -119,9 +119,9 @@ loop-last-preserved g c =
                 let near = (a * tiles + r) * side + b in
                 rw w.values-is (rows_half_reversed_at c.args.width n number xs (t + 1) ((r * 2 ^ k + a) * 2 ^ k + (b + 1)) c.loop-last.values (omega arith)
                 (rows_half_reversed_kept c.args.width n number xs near (rev n near) t c.loop-last.values apart
-                (run_lt n m k c.requires.outer refl tiles side ts ss near a r b refl c.loop-first-test.true c.loop-tile-test.true c.loop-last-test.true)
+                (chunk_lt n m k c.requires.outer refl tiles side ts ss near a r b refl c.loop-first-test.true c.loop-tile-test.true c.loop-last-test.true)
                 refl
-                (run_number n m k c.requires.outer refl tiles side ts ss near a r b refl c.loop-first-test.true c.loop-tile-test.true c.loop-last-test.true)
+                (chunk_in_tile_order n m k c.requires.outer refl tiles side ts ss near a r b refl c.loop-first-test.true c.loop-tile-test.true c.loop-last-test.true)
                 (mirror_not_after n m k c.requires.outer refl tiles side ts ss near a r b refl c.loop-first-test.true c.loop-tile-test.true c.loop-last-test.true
                 (omega (arith, tile, w.if-tile-mirror-2.false)) (omega (arith, c.reverse_bits_len-far_first.ensures, w.if-first-far_first.false)))
                 c.loop-last.invariant.half))

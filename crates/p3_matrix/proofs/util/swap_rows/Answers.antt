@@ -1,10 +1,10 @@
 use Rattle.std.proofs.Common.{length, ap, ◌∙◌}
 use Rattle.p3_matrix.proofs.RowExchanges.{swapped_column, exchanged_rows}
-use Rattle.p3_matrix.proofs.Tiles.{runs_apart}
+use Rattle.p3_matrix.proofs.Tiles.{chunks_apart}
 use Rattle.p3_matrix.proofs.util.swap_rows.Goals as goal
 
 pub exchange-requires-clause-apart : goal.exchange-requires-clause-apart
-exchange-requires-clause-apart g c = rw c.width-width.ensures.width (runs_apart c.args.i c.args.j _ c.if-i-j.true)
+exchange-requires-clause-apart g c = rw c.width-width.ensures.width (chunks_apart c.args.i c.args.j _ c.if-i-j.true)
 
 pub returns-then-i-j-clause-rows : goal.returns-then-i-j-clause-rows
 returns-then-i-j-clause-rows g c =

@@ -41,9 +41,9 @@ returns-then-half-eq1-clause-far g c =
     let field = g.F.Field in
     second_halves field.value field.ZERO (g.R.Rule.far field.Element field.ring field.value c.args.rule) c.args.values.now c.meet_blocks.new.values c.args.first_block c.args.blocks c.args.width c.args.half 1 1 c.if-width-eq1.true c.if-half-eq1.true c.meet_blocks.ensures.far
 
-pub returns-then-half-eq1-clause-count : goal.returns-then-half-eq1-clause-count
-returns-then-half-eq1-clause-count g c =
-    at_sizes (λ w h. c.meet_blocks.new.products ≤ c.args.products.now + g.R.Rule.cost * (c.args.blocks * (h * w))) c.args.width c.args.half 1 1 c.if-width-eq1.true c.if-half-eq1.true c.meet_blocks.ensures.count
+pub returns-then-half-eq1-clause-cost : goal.returns-then-half-eq1-clause-cost
+returns-then-half-eq1-clause-cost g c =
+    at_sizes (λ w h. c.meet_blocks.new.products ≤ c.args.products.now + g.R.Rule.cost * (c.args.blocks * (h * w))) c.args.width c.args.half 1 1 c.if-width-eq1.true c.if-half-eq1.true c.meet_blocks.ensures.cost
 
 pub meet_blocks-requires-then-half-eq2-clause-size : goal.meet_blocks-requires-then-half-eq2-clause-size
 meet_blocks-requires-then-half-eq2-clause-size g c = known_sizes (λ w h. length c.args.values.now ≡ c.args.blocks * (2 * (h * w))) c.args.width c.args.half 1 2 c.if-width-eq1-2.true c.if-half-eq2.true c.requires.size
@@ -61,9 +61,9 @@ returns-then-half-eq2-clause-far g c =
     let field = g.F.Field in
     second_halves field.value field.ZERO (g.R.Rule.far field.Element field.ring field.value c.args.rule) c.args.values.now c.meet_blocks-then-half-eq2.new.values c.args.first_block c.args.blocks c.args.width c.args.half 1 2 c.if-width-eq1-2.true c.if-half-eq2.true c.meet_blocks-then-half-eq2.ensures.far
 
-pub returns-then-half-eq2-clause-count : goal.returns-then-half-eq2-clause-count
-returns-then-half-eq2-clause-count g c =
-    at_sizes (λ w h. c.meet_blocks-then-half-eq2.new.products ≤ c.args.products.now + g.R.Rule.cost * (c.args.blocks * (h * w))) c.args.width c.args.half 1 2 c.if-width-eq1-2.true c.if-half-eq2.true c.meet_blocks-then-half-eq2.ensures.count
+pub returns-then-half-eq2-clause-cost : goal.returns-then-half-eq2-clause-cost
+returns-then-half-eq2-clause-cost g c =
+    at_sizes (λ w h. c.meet_blocks-then-half-eq2.new.products ≤ c.args.products.now + g.R.Rule.cost * (c.args.blocks * (h * w))) c.args.width c.args.half 1 2 c.if-width-eq1-2.true c.if-half-eq2.true c.meet_blocks-then-half-eq2.ensures.cost
 
 pub meet_blocks-requires-then-half-eq4-clause-size : goal.meet_blocks-requires-then-half-eq4-clause-size
 meet_blocks-requires-then-half-eq4-clause-size g c = known_sizes (λ w h. length c.args.values.now ≡ c.args.blocks * (2 * (h * w))) c.args.width c.args.half 1 4 c.if-width-eq1-3.true c.if-half-eq4.true c.requires.size
@@ -81,9 +81,9 @@ returns-then-half-eq4-clause-far g c =
     let field = g.F.Field in
     second_halves field.value field.ZERO (g.R.Rule.far field.Element field.ring field.value c.args.rule) c.args.values.now c.meet_blocks-then-half-eq4.new.values c.args.first_block c.args.blocks c.args.width c.args.half 1 4 c.if-width-eq1-3.true c.if-half-eq4.true c.meet_blocks-then-half-eq4.ensures.far
 
-pub returns-then-half-eq4-clause-count : goal.returns-then-half-eq4-clause-count
-returns-then-half-eq4-clause-count g c =
-    at_sizes (λ w h. c.meet_blocks-then-half-eq4.new.products ≤ c.args.products.now + g.R.Rule.cost * (c.args.blocks * (h * w))) c.args.width c.args.half 1 4 c.if-width-eq1-3.true c.if-half-eq4.true c.meet_blocks-then-half-eq4.ensures.count
+pub returns-then-half-eq4-clause-cost : goal.returns-then-half-eq4-clause-cost
+returns-then-half-eq4-clause-cost g c =
+    at_sizes (λ w h. c.meet_blocks-then-half-eq4.new.products ≤ c.args.products.now + g.R.Rule.cost * (c.args.blocks * (h * w))) c.args.width c.args.half 1 4 c.if-width-eq1-3.true c.if-half-eq4.true c.meet_blocks-then-half-eq4.ensures.cost
 
 pub returns-else-width-eq1-3-clause-near : goal.returns-else-width-eq1-3-clause-near
 returns-else-width-eq1-3-clause-near g c = c.meet_blocks-else-width-eq1-3.ensures.near

@@ -122,11 +122,11 @@ returns-then-is_column_of_packs-clause-far g c =
     ∙ ap (λ (k : ℕ). far k (get_or c.split_at_mut-low.result.0.now n field.ZERO) (get_or c.split_at_mut-low.result.1.now n field.ZERO)) place
     ∙ of_halves (far t) block _ _ (h * w) n field.ZERO front.front front.back inside)
 
-pub returns-then-is_column_of_packs-clause-count : goal.returns-then-is_column_of_packs-clause-count
-returns-then-is_column_of_packs-clause-count g c = subst (λ n. c.meet_column.new.products ≤ c.args.products.now + g.R.Rule.cost * n) c.split_at_mut-low.ensures.front_len c.meet_column.ensures.count
+pub returns-then-is_column_of_packs-clause-cost : goal.returns-then-is_column_of_packs-clause-cost
+returns-then-is_column_of_packs-clause-cost g c = subst (λ n. c.meet_column.new.products ≤ c.args.products.now + g.R.Rule.cost * n) c.split_at_mut-low.ensures.front_len c.meet_column.ensures.cost
 
-pub returns-then-goes_by_block-clause-count : goal.returns-then-goes_by_block-clause-count
-returns-then-goes_by_block-clause-count g c = subst (λ n. c.meet.new.products ≤ c.args.products.now + g.R.Rule.cost * n) c.split_at_mut-low.ensures.front_len c.meet.ensures.count
+pub returns-then-goes_by_block-clause-cost : goal.returns-then-goes_by_block-clause-cost
+returns-then-goes_by_block-clause-cost g c = subst (λ n. c.meet.new.products ≤ c.args.products.now + g.R.Rule.cost * n) c.split_at_mut-low.ensures.front_len c.meet.ensures.cost
 
 pub meet_column-requires-clause-some : goal.meet_column-requires-clause-some
 meet_column-requires-clause-some g c = subst (λ n. 1 ≤ n) (sym c.split_at_mut-low.ensures.front_len) (mul-le-mul c.requires.some c.requires.wide)

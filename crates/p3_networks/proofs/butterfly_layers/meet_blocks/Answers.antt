@@ -48,14 +48,14 @@ loop-b-preserved g c =
           c.args.values.now c.loop-b.values c.meet_block.new.values b whole refl fits (c.meet_block.auto.values ∙ part_length c.loop-b.values (b * whole) whole fits)
           c.meet_block.ensures.near c.meet_block.ensures.far c.loop-b.invariant.cells;
       grows = omega (arith, c.meet_block.ensures.grows, c.loop-b.invariant.grows);
-      count = count_more rule.cost b size _ _ _ c.loop-b.invariant.count c.meet_block.ensures.count;
+      cost = count_more rule.cost b size _ _ _ c.loop-b.invariant.cost c.meet_block.ensures.cost;
     }
 
 pub loop-b-init : goal.loop-b-init
 loop-b-init g c = record {
   cells = rows-none g.F.Field.ZERO _ _ c.args.values.now;
   grows = le_refl c.args.products.now;
-  count = count_none g.R.Rule.cost (c.args.half * c.args.width) c.args.products.now;
+  cost = count_none g.R.Rule.cost (c.args.half * c.args.width) c.args.products.now;
 }
 
 pub returns-clause-near : goal.returns-clause-near
@@ -69,5 +69,5 @@ returns-clause-far g c =
 pub meet_block-requires-clause-there : goal.meet_block-requires-clause-there
 meet_block-requires-clause-there g c t inside = c.requires.there c.loop-b.b t c.loop-b-test.true inside
 
-pub returns-clause-count : goal.returns-clause-count
-returns-clause-count g c = at_end (λ n. c.loop-b.products ≤ c.args.products.now + g.R.Rule.cost * (n * (c.args.half * c.args.width))) c.loop-b.b c.args.blocks c.loop-b.auto.b-end c.loop-b-test.false c.loop-b.invariant.count
+pub returns-clause-cost : goal.returns-clause-cost
+returns-clause-cost g c = at_end (λ n. c.loop-b.products ≤ c.args.products.now + g.R.Rule.cost * (n * (c.args.half * c.args.width))) c.loop-b.b c.args.blocks c.loop-b.auto.b-end c.loop-b-test.false c.loop-b.invariant.cost

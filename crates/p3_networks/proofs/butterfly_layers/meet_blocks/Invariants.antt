@@ -14,5 +14,5 @@ invariant-loop-b g l =
           (BothHalves size (λ b i. rule.near field.Element field.ring field.value l.fn.rule (l.fn.first_block + b) (i / w)) (λ b i. rule.far field.Element field.ring field.value l.fn.rule (l.fn.first_block + b) (i / w)) (λ n. field.value (get_or l.fn.values n field.ZERO)) field.value)
           l.fn.values l.b l.values;
       grows : l.fn.products ≤ l.products;
-      count : l.products ≤ l.fn.products + rule.cost * (l.b * size);
+      cost : l.products ≤ l.fn.products + rule.cost * (l.b * size);
     }

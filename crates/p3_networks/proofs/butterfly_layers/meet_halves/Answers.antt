@@ -22,7 +22,7 @@ loop-t-init g c =
       near = rows-next zero w _ c.args.low.now c.args.low.now c.meet_rows_at.new.low 0 c.meet_rows_at.auto.low c.meet_rows_at.ensures.low_stays c.meet_rows_at.ensures.near (rows-none zero w _ c.args.low.now);
       far = rows-next zero w _ c.args.high.now c.args.high.now c.meet_rows_at.new.high 0 c.meet_rows_at.auto.high c.meet_rows_at.ensures.high_stays c.meet_rows_at.ensures.far (rows-none zero w _ c.args.high.now);
       grows = c.meet_rows_at.ensures.grows;
-      count = omega (arith, c.meet_rows_at.ensures.count);
+      cost = omega (arith, c.meet_rows_at.ensures.cost);
     }
 
 pub loop-t-preserved : goal.loop-t-preserved
@@ -43,7 +43,7 @@ loop-t-preserved g c =
       far = rows-next zero w _ c.args.high.now c.loop-t.high met.new.high t met.auto.high met.ensures.high_stays
           (λ j inside. met.ensures.far j inside ∙ ap₂ (rule.far field.Element field.ring field.value c.args.rule c.args.block t) (a j) (b j)) c.loop-t.invariant.far;
       grows = omega (arith, met.ensures.grows, c.loop-t.invariant.grows);
-      count = count_more rule.cost t w _ _ _ c.loop-t.invariant.count met.ensures.count;
+      cost = count_more rule.cost t w _ _ _ c.loop-t.invariant.cost met.ensures.cost;
     }
 
 pub returns-clause-near : goal.returns-clause-near
@@ -52,5 +52,5 @@ returns-clause-near g c = rows-all g.F.Field.ZERO c.args.width _ c.args.low.now 
 pub returns-clause-far : goal.returns-clause-far
 returns-clause-far g c = rows-all g.F.Field.ZERO c.args.width _ c.args.high.now c.loop-t.high c.loop-t.t c.args.half c.loop-t-test.false c.loop-t.invariant.far
 
-pub returns-clause-count : goal.returns-clause-count
-returns-clause-count g c = count_all g.R.Rule.cost c.loop-t.t c.args.half c.args.width c.args.products.now c.loop-t.products (c.loop-t.auto.t-end c.requires.some) c.loop-t.invariant.count
+pub returns-clause-cost : goal.returns-clause-cost
+returns-clause-cost g c = count_all g.R.Rule.cost c.loop-t.t c.args.half c.args.width c.args.products.now c.loop-t.products (c.loop-t.auto.t-end c.requires.some) c.loop-t.invariant.cost

@@ -13,5 +13,5 @@ invariant-loop-t g l =
       near : RowsDone zero w (λ t j y. value y ≡ rule.near field.Element field.ring field.value l.fn.rule l.fn.block t (value (get_or l.fn.low (t * w + j) zero)) (value (get_or l.fn.high (t * w + j) zero))) l.fn.low l.t l.low;
       far : RowsDone zero w (λ t j y. value y ≡ rule.far field.Element field.ring field.value l.fn.rule l.fn.block t (value (get_or l.fn.low (t * w + j) zero)) (value (get_or l.fn.high (t * w + j) zero))) l.fn.high l.t l.high;
       grows : l.fn.products ≤ l.products;
-      count : l.products ≤ l.fn.products + rule.cost * (l.t * w);
+      cost : l.products ≤ l.fn.products + rule.cost * (l.t * w);
     }

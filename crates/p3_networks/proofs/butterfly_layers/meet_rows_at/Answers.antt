@@ -56,7 +56,7 @@ returns-clause-high_stays g c = λ n outside.
     outside_kept c.args.high.now c.meet.new.row_2 start _ n g.F.Field.ZERO (omega (arith, c.requires.room, c.requires.size)) (omega (arith, c.meet.auto.row_2, high_len, m))
     (subst (λ (v : ℕ). (n < start) ⊎ (start + v ≤ n)) (sym m) outside)
 
-pub returns-clause-count : goal.returns-clause-count
-returns-clause-count g c =
+pub returns-clause-cost : goal.returns-clause-cost
+returns-clause-cost g c =
     let low_len = part_length c.args.low.now (c.args.place * c.args.width) c.args.width c.requires.room in
-    subst (λ (n : ℕ). c.meet.new.products ≤ c.args.products.now + g.R.Rule.cost * n) low_len c.meet.ensures.count
+    subst (λ (n : ℕ). c.meet.new.products ≤ c.args.products.now + g.R.Rule.cost * n) low_len c.meet.ensures.cost

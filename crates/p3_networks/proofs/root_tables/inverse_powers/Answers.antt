@@ -14,15 +14,15 @@ use Rattle.p3_networks.proofs.Tables.InversePowers.{inverse_entry}
 use Rattle.p3_networks.proofs.Layers.Halves.{in_first}
 use Rattle.p3_networks.proofs.root_tables.inverse_powers.Goals as goal
 
--- the run of place b lies within half the powers, and so does the place that b changes with
-record IsRun (n p b run : ℕ) : Type 0 where
-  is : run ≡ 2 ^ p
+-- the chunk of place b lies within half the powers, and so does the place that b changes with
+record IsChunk (n p b chunk : ℕ) : Type 0 where
+  is : chunk ≡ 2 ^ p
   within : p < n
-  room : 2 * run ≤ 2 ^ n
-  half : run < 2 ^ 62
+  room : 2 * chunk ≤ 2 ^ n
+  half : chunk < 2 ^ 62
 
-run_of : (n p b len : ℕ) → n < 63 → len ≡ 2 ^ n → 2 ^ p ≤ b → b < len → p < 64 → IsRun n p b (1 * 2 ^ p % 18446744073709551616)
-run_of n p b len small full from inside bound =
+chunk_of : (n p b len : ℕ) → n < 63 → len ≡ 2 ^ n → 2 ^ p ≤ b → b < len → p < 64 → IsChunk n p b (1 * 2 ^ p % 18446744073709551616)
+chunk_of n p b len small full from inside bound =
     let is : 1 * 2 ^ p % 18446744073709551616 ≡ 2 ^ p = one_shl p 64 bound in
     let within : p < n = log_lt p n (omega (arith, from, inside, full)) in
     let rise : 2 ^ suc p ≤ 2 ^ n = pow-le-pow_right {n = 2} (lit≤ tt) within in
@@ -44,20 +44,20 @@ loop-b-init g c =
           ∙ sym (ap (power field.ring root) (ap (rev n) none ∙ rev_of_zero n) ∙ power-zero field.ring root);
     }
 
-pub overflow_mul-run : goal.overflow_mul-run
-overflow_mul-run g c =
-    let run = run_of (c.args.log_h - 1) c.ilog2.result c.loop-b.b _ (omega (arith, c.requires.some, c.requires.small)) c.requires.powers.size c.ilog2.ensures.power_le c.loop-b-test.true c.ilog2.ensures.bound in
-    omega (arith, run.half)
+pub overflow_mul-chunk : goal.overflow_mul-chunk
+overflow_mul-chunk g c =
+    let chunk = chunk_of (c.args.log_h - 1) c.ilog2.result c.loop-b.b _ (omega (arith, c.requires.some, c.requires.small)) c.requires.powers.size c.ilog2.ensures.power_le c.loop-b-test.true c.ilog2.ensures.bound in
+    omega (arith, chunk.half)
 
-pub offset_bounds-powers-run : goal.offset_bounds-powers-run
-offset_bounds-powers-run g c =
-    let run = run_of (c.args.log_h - 1) c.ilog2.result c.loop-b.b _ (omega (arith, c.requires.some, c.requires.small)) c.requires.powers.size c.ilog2.ensures.power_le c.loop-b-test.true c.ilog2.ensures.bound in
-    omega (arith, run.room, run.is, c.requires.powers.size, c.ilog2.ensures.power_le)
+pub offset_bounds-powers-chunk : goal.offset_bounds-powers-chunk
+offset_bounds-powers-chunk g c =
+    let chunk = chunk_of (c.args.log_h - 1) c.ilog2.result c.loop-b.b _ (omega (arith, c.requires.some, c.requires.small)) c.requires.powers.size c.ilog2.ensures.power_le c.loop-b-test.true c.ilog2.ensures.bound in
+    omega (arith, chunk.room, chunk.is, c.requires.powers.size, c.ilog2.ensures.power_le)
 
-pub bounds-powers-run : goal.bounds-powers-run
-bounds-powers-run g c =
-    let run = run_of (c.args.log_h - 1) c.ilog2.result c.loop-b.b _ (omega (arith, c.requires.some, c.requires.small)) c.requires.powers.size c.ilog2.ensures.power_le c.loop-b-test.true c.ilog2.ensures.bound in
-    omega (arith, run.room, run.is, c.requires.powers.size, c.ilog2.ensures.power_le, c.loop-b.auto.b)
+pub bounds-powers-chunk : goal.bounds-powers-chunk
+bounds-powers-chunk g c =
+    let chunk = chunk_of (c.args.log_h - 1) c.ilog2.result c.loop-b.b _ (omega (arith, c.requires.some, c.requires.small)) c.requires.powers.size c.ilog2.ensures.power_le c.loop-b-test.true c.ilog2.ensures.bound in
+    omega (arith, chunk.room, chunk.is, c.requires.powers.size, c.ilog2.ensures.power_le, c.loop-b.auto.b)
 
 pub loop-b-preserved : goal.loop-b-preserved
 loop-b-preserved g c =
@@ -66,16 +66,16 @@ loop-b-preserved g c =
     let n = c.args.log_h - 1 in
     let b = c.loop-b.b in
     let before = c.loop-b.inverse.items in
-    let run = run_of n c.ilog2.result b _ (omega (arith, c.requires.some, c.requires.small)) c.requires.powers.size c.ilog2.ensures.power_le c.loop-b-test.true c.ilog2.ensures.bound in
+    let chunk = chunk_of n c.ilog2.result b _ (omega (arith, c.requires.some, c.requires.small)) c.requires.powers.size c.ilog2.ensures.power_le c.loop-b-test.true c.ilog2.ensures.bound in
     let now : c.push-in-loop-b.new.self.items ≡ before ++ c.neg.result ∷ [] = c.in_ok-push-2.ensures.items in
-    let place : 3 * (1 * 2 ^ c.ilog2.result % 18446744073709551616) - 1 - b ≡ 3 * 2 ^ c.ilog2.result - 1 - b = ap (λ x. 3 * x - 1 - b) run.is in
+    let place : 3 * (1 * 2 ^ c.ilog2.result % 18446744073709551616) - 1 - b ≡ 3 * 2 ^ c.ilog2.result - 1 - b = ap (λ x. 3 * x - 1 - b) chunk.is in
     let entry : field.value c.neg.result ≡ block_powers field (backward_root field g.F.TwoAdicField.generator) n b =
     g.met.F.Field.neg_law _ _ c.neg.ensures
-    ∙ ap (λ x. field.ring.neg (field.value x)) (get_or_read_under c.args.powers.now (3 * (1 * 2 ^ c.ilog2.result % 18446744073709551616) - 1 - b) _ _ field.ZERO c.index-powers-run.is
-    (omega (arith, run.room, run.is, c.requires.powers.size, c.ilog2.ensures.power_le, c.loop-b.auto.b)) refl)
+    ∙ ap (λ x. field.ring.neg (field.value x)) (get_or_read_under c.args.powers.now (3 * (1 * 2 ^ c.ilog2.result % 18446744073709551616) - 1 - b) _ _ field.ZERO c.index-powers-chunk.is
+    (omega (arith, chunk.room, chunk.is, c.requires.powers.size, c.ilog2.ensures.power_le, c.loop-b.auto.b)) refl)
     ∙ ap (λ x. field.ring.neg (field.value (get_or c.args.powers.now x field.ZERO))) place
-    ∙ ap field.ring.neg (c.requires.powers.entries (3 * 2 ^ c.ilog2.result - 1 - b) (omega (arith, run.room, run.is, c.ilog2.ensures.power_le, c.loop-b.auto.b)))
-    ∙ inverse_entry field.ring g.met.F.TwoAdicField.roots_law n c.ilog2.result b (omega (arith, c.requires.some, c.requires.rooted)) run.within c.ilog2.ensures.power_le c.ilog2.ensures.next_power_gt in
+    ∙ ap field.ring.neg (c.requires.powers.entries (3 * 2 ^ c.ilog2.result - 1 - b) (omega (arith, chunk.room, chunk.is, c.ilog2.ensures.power_le, c.loop-b.auto.b)))
+    ∙ inverse_entry field.ring g.met.F.TwoAdicField.roots_law n c.ilog2.result b (omega (arith, c.requires.some, c.requires.within)) chunk.within c.ilog2.ensures.power_le c.ilog2.ensures.next_power_gt in
     record {
       size = ap length now ∙ length-append before (c.neg.result ∷ []) ∙ ap (λ k. k + 1) c.loop-b.invariant.size;
       entries = below_more (λ e. field.value (get_or c.push-in-loop-b.new.self.items e field.ZERO) ≡ block_powers field (backward_root field g.F.TwoAdicField.generator) n e) b

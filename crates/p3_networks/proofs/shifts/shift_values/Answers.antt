@@ -62,5 +62,5 @@ returns-then-eq-clause-values g c = λ i j below inside.
     let x = field.value (get_or c.args.values.now (i * c.args.width + j) field.ZERO) in
     sym (ap (λ s. field.ring.mul x (power field.ring s i)) one ∙ ap (field.ring.mul x) (power_of_one field.ring i) ∙ field.ring.mul_one x)
 
-pub returns-clause-count : goal.returns-clause-count
-returns-clause-count g c = le_of_eq (at_end (λ n. c.loop-i.products ≡ c.args.products.now + n * c.args.width) c.loop-i.i c.args.height c.loop-i.auto.i-end c.loop-i-test.false c.loop-i.invariant.count)
+pub returns-clause-cost : goal.returns-clause-cost
+returns-clause-cost g c = le_of_eq (at_end (λ n. c.loop-i.products ≡ c.args.products.now + n * c.args.width) c.loop-i.i c.args.height c.loop-i.auto.i-end c.loop-i-test.false c.loop-i.invariant.count)

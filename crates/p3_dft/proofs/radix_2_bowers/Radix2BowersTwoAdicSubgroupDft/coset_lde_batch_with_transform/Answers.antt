@@ -12,16 +12,19 @@ use Rattle.p3_dft.proofs.Calls.Shapes.{fits_lde_as, input_fits, output_log_small
 use Rattle.p3_matrix.proofs.TwoPowers.{log_within, more_points}
 use Rattle.p3_dft.proofs.radix_2_bowers.Radix2BowersTwoAdicSubgroupDft.coset_lde_batch_with_transform.Goals as goal
 
-pub interpolate-requires : goal.interpolate-requires
-interpolate-requires g c = record { fits = rw c.into_row_major_matrix-mat.ensures (input_fits _ _ _ _ c.requires.fits) }
+pub interpolate_to_reversed-requires : goal.interpolate_to_reversed-requires
+interpolate_to_reversed-requires g c =
+    record { fits = rw c.into_row_major_matrix-mat.ensures (input_fits _ _ _ _ c.requires.fits) }
 
-pub extend-requires : goal.extend-requires
-extend-requires g c =
+pub extend_to_natural-requires : goal.extend_to_natural-requires
+extend_to_natural-requires g c =
     let fits = c.requires.fits in
     let stored = ap height c.into_row_major_matrix-mat.ensures in
     let high : height c.into_row_major_matrix-mat.result ≡ 2 ^ fits.log = stored ∙ fits.high in
-    let are = c.in_ok-interpolate.ensures.coefficients fits.log high in
-    let shape = c.requires.shape c.interpolate.new.mat c.transform-changed.result c.in_ok-interpolate.ensures.whole
+    let are = c.in_ok-interpolate_to_reversed.ensures.coefficients fits.log high in
+    let shape =
+    c.requires.shape c.interpolate_to_reversed.new.mat c.transform-changed.result
+    c.in_ok-interpolate_to_reversed.ensures.whole
     (are.high ∙ stored, are.wide ∙ ap (λ (n : RowMajor g.row.F.Denot). n.width) c.into_row_major_matrix-mat.ensures) c.transform-changed.ensures in
     let same = c.in_ok-weigh_reversed_rows.ensures.rows fits.log (shape.0 ∙ fits.high) in
     record { fits = fits_lde_as _ _ _ c.args.added_bits _ _ fits (same.high ∙ shape.0) (same.wide ∙ shape.1) }
@@ -34,21 +37,21 @@ returns-clause-values g c =
     let a = c.args.added_bits in
     let s = field.value c.args.shift in
     let m = g.N.IntoRowMajorMatrix.stored c.args.mat in
-    let told = c.interpolate.new.mat in
+    let told = c.interpolate_to_reversed.new.mat in
     let answered = c.transform-changed.result in
     let stored = ap height c.into_row_major_matrix-mat.ensures in
-    let are = c.in_ok-interpolate.ensures.coefficients log (stored ∙ fits.high) in
-    let shape = c.requires.shape told answered c.in_ok-interpolate.ensures.whole (are.high ∙ stored, are.wide ∙ ap (λ (n : RowMajor g.row.F.Denot). n.width) c.into_row_major_matrix-mat.ensures) c.transform-changed.ensures in
+    let are = c.in_ok-interpolate_to_reversed.ensures.coefficients log (stored ∙ fits.high) in
+    let shape = c.requires.shape told answered c.in_ok-interpolate_to_reversed.ensures.whole (are.high ∙ stored, are.wide ∙ ap (λ (n : RowMajor g.row.F.Denot). n.width) c.into_row_major_matrix-mat.ensures) c.transform-changed.ensures in
     let same = c.in_ok-weigh_reversed_rows.ensures.rows log (shape.0 ∙ fits.high) in
     let one = ap field.value c.ONE.ensures ∙ g.met.F.Field.one_law in
     let on_coset = shifted_by_one field.ring _ s (bit_reversal log (values_of field answered)) (bit_reversal log (values_of field c.weigh_reversed_rows.new.mat)) one same in
-    IfOk-weaker c.extend.result _ _
+    IfOk-weaker c.extend_to_natural.result _ _
     (λ out given.
-    values_of_answered field g.F.TwoAdicField.generator _ m told answered a log s (values_of field out) fits.high (rw c.into_row_major_matrix-mat.ensures at are) c.in_ok-interpolate.ensures.whole c.weigh_reversed_rows.ensures.whole
+    values_of_answered field g.F.TwoAdicField.generator _ m told answered a log s (values_of field out) fits.high (rw c.into_row_major_matrix-mat.ensures at are) c.in_ok-interpolate_to_reversed.ensures.whole c.weigh_reversed_rows.ensures.whole
     c.transform-changed.ensures shape.0
     (coset_values field.ring (λ n. field.value (g.F.TwoAdicField.generator n)) (bit_reversal log (values_of field answered)) (bit_reversal log (values_of field c.weigh_reversed_rows.new.mat)) (log + a) s (values_of field out)
     on_coset given))
-    (c.extend.ensures.values log (same.high ∙ shape.0 ∙ fits.high))
+    (c.extend_to_natural.ensures.values log (same.high ∙ shape.0 ∙ fits.high))
 
 pub returns-clause-cost : goal.returns-clause-cost
 returns-clause-cost g c k e =
@@ -58,22 +61,22 @@ returns-clause-cost g c k e =
     let stored = ap height c.into_row_major_matrix-mat.ensures in
     let width = ap (λ (n : RowMajor g.row.F.Denot). n.width) c.into_row_major_matrix-mat.ensures in
     let w = (g.N.IntoRowMajorMatrix.stored c.args.mat).width in
-    let are = c.in_ok-interpolate.ensures.coefficients k (stored ∙ e) in
-    let shape = c.requires.shape c.interpolate.new.mat c.transform-changed.result c.in_ok-interpolate.ensures.whole (are.high ∙ stored, are.wide ∙ width) c.transform-changed.ensures in
+    let are = c.in_ok-interpolate_to_reversed.ensures.coefficients k (stored ∙ e) in
+    let shape = c.requires.shape c.interpolate_to_reversed.new.mat c.transform-changed.result c.in_ok-interpolate_to_reversed.ensures.whole (are.high ∙ stored, are.wide ∙ width) c.transform-changed.ensures in
     let same = c.in_ok-weigh_reversed_rows.ensures.rows k (shape.0 ∙ e) in
-    let first : c.interpolate.new.products ≤ c.args.self.now + bound k w + 2 ^ k * w = rw (c.self.view_is, width) at (c.interpolate.ensures.cost k (stored ∙ e)) in
+    let first : c.interpolate_to_reversed.new.products ≤ c.args.self.now + bound k w + 2 ^ k * w = rw (c.self.view_is, width) at (c.interpolate_to_reversed.ensures.cost k (stored ∙ e)) in
     let entries : height c.transform-changed.result * c.transform-changed.result.width ≡ 2 ^ k * w = ap₂ (λ (h v : ℕ). h * v) (shape.0 ∙ e) shape.1 in
-    let last = c.extend.ensures.cost k (same.high ∙ shape.0 ∙ e) in
+    let last = c.extend_to_natural.ensures.cost k (same.high ∙ shape.0 ∙ e) in
     let wide : bound (k + a) c.weigh_reversed_rows.new.mat.width ≡ bound (k + a) w = ap (bound (k + a)) (same.wide ∙ shape.1) in
-    within_extension bound k a w c.args.self.now c.extend.new.products
+    within_extension bound k a w c.args.self.now c.extend_to_natural.new.products
     (weighed_counted _ _ _ _ _ _ _ (scaled_counted _ _ _ _ _ _ first c.weigh_reversed_rows.ensures.cost entries) last wide)
 
-pub returns-in_err-interpolate-clause-cost : goal.returns-in_err-interpolate-clause-cost
-returns-in_err-interpolate-clause-cost g c k e =
+pub returns-in_err-interpolate_to_reversed-clause-cost : goal.returns-in_err-interpolate_to_reversed-clause-cost
+returns-in_err-interpolate_to_reversed-clause-cost g c k e =
     let width = ap (λ (n : RowMajor g.row.F.Denot). n.width) c.into_row_major_matrix-mat.ensures in
     let w = (g.N.IntoRowMajorMatrix.stored c.args.mat).width in
-    let first = rw (c.self.view_is, width) at (c.interpolate.ensures.cost k (ap height c.into_row_major_matrix-mat.ensures ∙ e)) in
-    first_within_extension (λ n v. v * (n * 2 ^ n / 2)) k c.args.added_bits w c.args.self.now c.interpolate.new.products (scaled_counted _ _ _ _ _ _ first (le-add_right _ _) refl)
+    let first = rw (c.self.view_is, width) at (c.interpolate_to_reversed.ensures.cost k (ap height c.into_row_major_matrix-mat.ensures ∙ e)) in
+    first_within_extension (λ n v. v * (n * 2 ^ n / 2)) k c.args.added_bits w c.args.self.now c.interpolate_to_reversed.new.products (scaled_counted _ _ _ _ _ _ first (le-add_right _ _) refl)
 
 pub returns-in_err-weigh_reversed_rows-clause-cost : goal.returns-in_err-weigh_reversed_rows-clause-cost
 returns-in_err-weigh_reversed_rows-clause-cost g c k e =
@@ -81,23 +84,27 @@ returns-in_err-weigh_reversed_rows-clause-cost g c k e =
     let stored = ap height c.into_row_major_matrix-mat.ensures in
     let width = ap (λ (n : RowMajor g.row.F.Denot). n.width) c.into_row_major_matrix-mat.ensures in
     let w = (g.N.IntoRowMajorMatrix.stored c.args.mat).width in
-    let are = c.in_ok-interpolate.ensures.coefficients k (stored ∙ e) in
-    let shape = c.requires.shape c.interpolate.new.mat c.transform-changed.result c.in_ok-interpolate.ensures.whole (are.high ∙ stored, are.wide ∙ width) c.transform-changed.ensures in
-    let first : c.interpolate.new.products ≤ c.args.self.now + bound k w + 2 ^ k * w = rw (c.self.view_is, width) at (c.interpolate.ensures.cost k (stored ∙ e)) in
+    let are = c.in_ok-interpolate_to_reversed.ensures.coefficients k (stored ∙ e) in
+    let shape = c.requires.shape c.interpolate_to_reversed.new.mat c.transform-changed.result c.in_ok-interpolate_to_reversed.ensures.whole (are.high ∙ stored, are.wide ∙ width) c.transform-changed.ensures in
+    let first : c.interpolate_to_reversed.new.products ≤ c.args.self.now + bound k w + 2 ^ k * w = rw (c.self.view_is, width) at (c.interpolate_to_reversed.ensures.cost k (stored ∙ e)) in
     let entries : height c.transform-changed.result * c.transform-changed.result.width ≡ 2 ^ k * w = ap₂ (λ (h v : ℕ). h * v) (shape.0 ∙ e) shape.1 in
     first_within_extension bound k c.args.added_bits w c.args.self.now c.weigh_reversed_rows.new.products (scaled_counted _ _ _ _ _ _ first c.weigh_reversed_rows.ensures.cost entries)
 
 pub transform-changed-requires : goal.transform-changed-requires
 transform-changed-requires g c =
     let stored = ap height c.into_row_major_matrix-mat.ensures in
-    let are = c.in_ok-interpolate.ensures.coefficients c.requires.fits.log (stored ∙ c.requires.fits.high) in
-    c.requires.callable c.interpolate.new.mat c.in_ok-interpolate.ensures.whole (are.high ∙ stored, are.wide ∙ ap (λ (n : RowMajor g.row.F.Denot). n.width) c.into_row_major_matrix-mat.ensures)
+    let are =
+    c.in_ok-interpolate_to_reversed.ensures.coefficients c.requires.fits.log (stored ∙ c.requires.fits.high) in
+    c.requires.callable c.interpolate_to_reversed.new.mat c.in_ok-interpolate_to_reversed.ensures.whole (are.high ∙ stored, are.wide ∙ ap (λ (n : RowMajor g.row.F.Denot). n.width) c.into_row_major_matrix-mat.ensures)
 
 pub weigh_reversed_rows-requires : goal.weigh_reversed_rows-requires
 weigh_reversed_rows-requires g c =
     let stored = ap height c.into_row_major_matrix-mat.ensures in
-    let are = c.in_ok-interpolate.ensures.coefficients c.requires.fits.log (stored ∙ c.requires.fits.high) in
-    let shape = c.requires.shape c.interpolate.new.mat c.transform-changed.result c.in_ok-interpolate.ensures.whole
+    let are =
+    c.in_ok-interpolate_to_reversed.ensures.coefficients c.requires.fits.log (stored ∙ c.requires.fits.high) in
+    let shape =
+    c.requires.shape c.interpolate_to_reversed.new.mat c.transform-changed.result
+    c.in_ok-interpolate_to_reversed.ensures.whole
     (are.high ∙ stored, are.wide ∙ ap (λ (n : RowMajor g.row.F.Denot). n.width) c.into_row_major_matrix-mat.ensures) c.transform-changed.ensures in
     record { power = (c.requires.fits.log, shape.0 ∙ c.requires.fits.high) }
 
@@ -121,8 +128,8 @@ returns-then-log_h-added_bits-eq0-clause-values g c =
     extension_of_told_row g.F.Field g.F.TwoAdicField.generator _ m c.transform-row.result c.args.added_bits (g.F.Field.value c.args.shift) one (omega (arith, c.if-log_h-added_bits-eq0.true))
     whole c.width-width.ensures.whole called (c.requires.shape m c.transform-row.result whole (refl, refl) called).0
 
-pub returns-in_err-interpolate-clause-one_row : goal.returns-in_err-interpolate-clause-one_row
-returns-in_err-interpolate-clause-one_row g c one none =
+pub returns-in_err-interpolate_to_reversed-clause-one_row : goal.returns-in_err-interpolate_to_reversed-clause-one_row
+returns-in_err-interpolate_to_reversed-clause-one_row g c one none =
     absurd (more_points c.height.result c.log2_strict_usize-log_h.result c.args.added_bits c.log2_strict_usize-log_h.ensures.power c.if-log_h-added_bits-eq0.false
     (c.height.ensures.height ∙ ap height c.into_row_major_matrix-mat.ensures ∙ one) none)
 

@@ -10,8 +10,8 @@ use Rattle.p3_dft.proofs.BitReversed.Rows.{transform_of_row}
 use Rattle.p3_dft.proofs.Calls.Shapes.{fits_dft_as}
 use Rattle.p3_dft.proofs.radix_2_bowers.Radix2BowersTwoAdicSubgroupDft.dft_batch.Goals as goal
 
-pub evaluate-requires : goal.evaluate-requires
-evaluate-requires g c =
+pub evaluate_to_natural-requires : goal.evaluate_to_natural-requires
+evaluate_to_natural-requires g c =
     let shape = c.reverse_rows.ensures.shape in
     record {
       fits = fits_dft_as _ _ _ _ _ c.requires.fits (shape.0 ∙ ap height c.into_row_major_matrix-mat.ensures)
@@ -31,9 +31,9 @@ returns-clause-values g c k high =
     let tall : height m ≡ 2 ^ k = ap height c.into_row_major_matrix-mat.ensures ∙ high in
     let back = mapped_same field.value (matrix field.ZERO r) (bit_reversal k (matrix field.ZERO m)) (c.reverse_rows.ensures.rows k tall field.ZERO) in
     rw (← c.into_row_major_matrix-mat.ensures)
-    (coefficients_same field.ring (λ n. field.value (g.F.TwoAdicField.generator n)) (bit_reversal k (values_of field r)) (values_of field m) k field.ring.one (values_of field c.evaluate.new.mat)
+    (coefficients_same field.ring (λ n. field.value (g.F.TwoAdicField.generator n)) (bit_reversal k (values_of field r)) (values_of field m) k field.ring.one (values_of field c.evaluate_to_natural.new.mat)
     (same_sym (values_of field m) (bit_reversal k (values_of field r)) (reversed_back k (values_of field r) (values_of field m) tall back))
-    (c.in_ok-evaluate.ensures.values k (back.high ∙ tall)))
+    (c.in_ok-evaluate_to_natural.ensures.values k (back.high ∙ tall)))
 
 pub returns-clause-one_row : goal.returns-clause-one_row
 returns-clause-one_row g c one = absurd (c.if-height-eq1.false (c.height.ensures.height ∙ ap height c.into_row_major_matrix-mat.ensures ∙ one))
@@ -43,11 +43,11 @@ returns-clause-cost g c k high =
     let tall : height c.into_row_major_matrix-mat.result ≡ 2 ^ k = ap height c.into_row_major_matrix-mat.ensures ∙ high in
     let rows = c.reverse_rows.ensures.rows k tall g.F.Field.ZERO in
     let width : c.reverse_rows.new.mat.width ≡ (g.N.IntoRowMajorMatrix.stored c.args.mat).width = rows.wide ∙ ap (λ (m : RowMajor g.row.F.Denot). m.width) c.into_row_major_matrix-mat.ensures in
-    rw (← c.self.view_is, ← width) (c.evaluate.ensures.cost k (rows.high ∙ tall))
+    rw (← c.self.view_is, ← width) (c.evaluate_to_natural.ensures.cost k (rows.high ∙ tall))
 
-pub returns-in_err-evaluate-clause-cost : goal.returns-in_err-evaluate-clause-cost
-returns-in_err-evaluate-clause-cost g c k high =
+pub returns-in_err-evaluate_to_natural-clause-cost : goal.returns-in_err-evaluate_to_natural-clause-cost
+returns-in_err-evaluate_to_natural-clause-cost g c k high =
     let tall : height c.into_row_major_matrix-mat.result ≡ 2 ^ k = ap height c.into_row_major_matrix-mat.ensures ∙ high in
     let rows = c.reverse_rows.ensures.rows k tall g.F.Field.ZERO in
     let width : c.reverse_rows.new.mat.width ≡ (g.N.IntoRowMajorMatrix.stored c.args.mat).width = rows.wide ∙ ap (λ (m : RowMajor g.row.F.Denot). m.width) c.into_row_major_matrix-mat.ensures in
-    rw (← c.self.view_is, ← width) (c.evaluate.ensures.cost k (rows.high ∙ tall))
+    rw (← c.self.view_is, ← width) (c.evaluate_to_natural.ensures.cost k (rows.high ∙ tall))

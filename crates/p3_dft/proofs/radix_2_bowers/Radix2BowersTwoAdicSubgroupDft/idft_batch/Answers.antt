@@ -9,13 +9,13 @@ use Rattle.p3_dft.proofs.BitReversed.Coefficients.{interpolation_of_coefficients
 use Rattle.p3_dft.proofs.BitReversed.Rows.{transform_of_row}
 use Rattle.p3_dft.proofs.radix_2_bowers.Radix2BowersTwoAdicSubgroupDft.idft_batch.Goals as goal
 
-pub interpolate-requires : goal.interpolate-requires
-interpolate-requires g c = record { fits = rw c.into_row_major_matrix-mat.ensures c.requires.fits }
+pub interpolate_to_reversed-requires : goal.interpolate_to_reversed-requires
+interpolate_to_reversed-requires g c = record { fits = rw c.into_row_major_matrix-mat.ensures c.requires.fits }
 
 pub reverse_rows-requires : goal.reverse_rows-requires
 reverse_rows-requires g c =
     let high : height c.into_row_major_matrix-mat.result ≡ 2 ^ c.requires.fits.log = ap height c.into_row_major_matrix-mat.ensures ∙ c.requires.fits.high in
-    record { power = (c.requires.fits.log, (c.in_ok-interpolate.ensures.coefficients c.requires.fits.log high).high ∙ high) }
+    record { power = (c.requires.fits.log, (c.in_ok-interpolate_to_reversed.ensures.coefficients c.requires.fits.log high).high ∙ high) }
 
 pub returns-then-height-eq1-clause-coefficients : goal.returns-then-height-eq1-clause-coefficients
 returns-then-height-eq1-clause-coefficients g c =
@@ -34,10 +34,10 @@ returns-clause-coefficients g c =
     let field = g.F.Field in
     let log = c.requires.fits.log in
     let m = c.into_row_major_matrix-mat.result in
-    let reversed_coefficients = c.interpolate.new.mat in
+    let reversed_coefficients = c.interpolate_to_reversed.new.mat in
     let out = c.reverse_rows.new.mat in
     let high : height m ≡ 2 ^ log = ap height c.into_row_major_matrix-mat.ensures ∙ c.requires.fits.high in
-    let are = c.in_ok-interpolate.ensures.coefficients log high in
+    let are = c.in_ok-interpolate_to_reversed.ensures.coefficients log high in
     rw (← c.into_row_major_matrix-mat.ensures)
     (interpolation_of_coefficients field g.F.TwoAdicField.generator g.met.F.TwoAdicField.roots_law m out log c.requires.fits.within high
     (same_coefficients field.ring g.met.F.TwoAdicField.roots_law (values_of field m) log field.ring.one (bit_reversal log (values_of field reversed_coefficients)) (values_of field out)
@@ -51,9 +51,11 @@ returns-clause-one_row g c one = absurd (c.if-height-eq1.false (c.height.ensures
 pub returns-clause-cost : goal.returns-clause-cost
 returns-clause-cost g c k high =
     let width : c.into_row_major_matrix-mat.result.width ≡ (g.N.IntoRowMajorMatrix.stored c.args.mat).width = ap (λ (m : RowMajor g.row.F.Denot). m.width) c.into_row_major_matrix-mat.ensures in
-    rw (← c.self.view_is, ← width) (c.interpolate.ensures.cost k (ap height c.into_row_major_matrix-mat.ensures ∙ high))
+    rw (← c.self.view_is, ← width) (c.interpolate_to_reversed.ensures.cost k
+    (ap height c.into_row_major_matrix-mat.ensures ∙ high))
 
-pub returns-in_err-interpolate-clause-cost : goal.returns-in_err-interpolate-clause-cost
-returns-in_err-interpolate-clause-cost g c k high =
+pub returns-in_err-interpolate_to_reversed-clause-cost : goal.returns-in_err-interpolate_to_reversed-clause-cost
+returns-in_err-interpolate_to_reversed-clause-cost g c k high =
     let width : c.into_row_major_matrix-mat.result.width ≡ (g.N.IntoRowMajorMatrix.stored c.args.mat).width = ap (λ (m : RowMajor g.row.F.Denot). m.width) c.into_row_major_matrix-mat.ensures in
-    rw (← c.self.view_is, ← width) (c.interpolate.ensures.cost k (ap height c.into_row_major_matrix-mat.ensures ∙ high))
+    rw (← c.self.view_is, ← width) (c.interpolate_to_reversed.ensures.cost k
+    (ap height c.into_row_major_matrix-mat.ensures ∙ high))

@@ -10,8 +10,9 @@ use Rattle.p3_dft.proofs.Calls.Shapes.{fits_lde_as, input_fits, output_log_small
 use Rattle.p3_matrix.proofs.TwoPowers.{log_within, more_points}
 use Rattle.p3_dft.proofs.radix_2_bowers.Radix2BowersTwoAdicSubgroupDft.lde_batch.Goals as goal
 
-pub interpolate-requires : goal.interpolate-requires
-interpolate-requires g c = record { fits = rw c.into_row_major_matrix-mat.ensures (input_fits _ _ _ _ c.requires.fits) }
+pub interpolate_to_reversed-requires : goal.interpolate_to_reversed-requires
+interpolate_to_reversed-requires g c =
+    record { fits = rw c.into_row_major_matrix-mat.ensures (input_fits _ _ _ _ c.requires.fits) }
 
 pub returns-clause-values : goal.returns-clause-values
 returns-clause-values g c =
@@ -19,37 +20,38 @@ returns-clause-values g c =
     let log = c.requires.fits.log in
     let m = c.into_row_major_matrix-mat.result in
     let high : height m ≡ 2 ^ log = ap height c.into_row_major_matrix-mat.ensures ∙ c.requires.fits.high in
-    let are = c.in_ok-interpolate.ensures.coefficients log high in
+    let are = c.in_ok-interpolate_to_reversed.ensures.coefficients log high in
     rw (← c.into_row_major_matrix-mat.ensures)
-    (IfOk-weaker c.extend.result _ _
+    (IfOk-weaker c.extend_to_natural.result _ _
     (λ out given.
-    extension_of_coefficients field g.F.TwoAdicField.generator m out (bit_reversal log (values_of field c.interpolate.new.mat)) c.args.added_bits log field.ring.one high are
+    extension_of_coefficients field g.F.TwoAdicField.generator m out (bit_reversal log (values_of field c.interpolate_to_reversed.new.mat)) c.args.added_bits log field.ring.one high are
     given)
-    (c.extend.ensures.values log (are.high ∙ high)))
+    (c.extend_to_natural.ensures.values log (are.high ∙ high)))
 
 pub returns-clause-cost : goal.returns-clause-cost
 returns-clause-cost g c k e =
     let width = ap (λ (m : RowMajor g.row.F.Denot). m.width) c.into_row_major_matrix-mat.ensures in
     let tall : height c.into_row_major_matrix-mat.result ≡ 2 ^ k = ap height c.into_row_major_matrix-mat.ensures ∙ e in
-    let are = c.in_ok-interpolate.ensures.coefficients k tall in
-    let wide : c.interpolate.new.mat.width ≡ (g.N.IntoRowMajorMatrix.stored c.args.mat).width = are.wide ∙ width in
-    let first = rw (c.self.view_is, width) at (c.interpolate.ensures.cost k tall) in
-    let second = rw wide at (c.extend.ensures.cost k (are.high ∙ tall)) in
-    within_extension (λ n w. w * (n * 2 ^ n / 2)) k c.args.added_bits (g.N.IntoRowMajorMatrix.stored c.args.mat).width c.args.self.now c.extend.new.products
+    let are = c.in_ok-interpolate_to_reversed.ensures.coefficients k tall in
+    let wide : c.interpolate_to_reversed.new.mat.width ≡ (g.N.IntoRowMajorMatrix.stored c.args.mat).width =
+    are.wide ∙ width in
+    let first = rw (c.self.view_is, width) at (c.interpolate_to_reversed.ensures.cost k tall) in
+    let second = rw wide at (c.extend_to_natural.ensures.cost k (are.high ∙ tall)) in
+    within_extension (λ n w. w * (n * 2 ^ n / 2)) k c.args.added_bits (g.N.IntoRowMajorMatrix.stored c.args.mat).width c.args.self.now c.extend_to_natural.new.products
     (weighed_counted _ _ _ _ _ _ _ (scaled_counted _ _ _ _ _ _ first (le-add_right _ _) refl) second refl)
 
-pub returns-in_err-interpolate-clause-cost : goal.returns-in_err-interpolate-clause-cost
-returns-in_err-interpolate-clause-cost g c k e =
+pub returns-in_err-interpolate_to_reversed-clause-cost : goal.returns-in_err-interpolate_to_reversed-clause-cost
+returns-in_err-interpolate_to_reversed-clause-cost g c k e =
     let width = ap (λ (m : RowMajor g.row.F.Denot). m.width) c.into_row_major_matrix-mat.ensures in
-    let first = rw (c.self.view_is, width) at (c.interpolate.ensures.cost k (ap height c.into_row_major_matrix-mat.ensures ∙ e)) in
-    first_within_extension (λ n w. w * (n * 2 ^ n / 2)) k c.args.added_bits (g.N.IntoRowMajorMatrix.stored c.args.mat).width c.args.self.now c.interpolate.new.products
+    let first = rw (c.self.view_is, width) at (c.interpolate_to_reversed.ensures.cost k (ap height c.into_row_major_matrix-mat.ensures ∙ e)) in
+    first_within_extension (λ n w. w * (n * 2 ^ n / 2)) k c.args.added_bits (g.N.IntoRowMajorMatrix.stored c.args.mat).width c.args.self.now c.interpolate_to_reversed.new.products
     (scaled_counted _ _ _ _ _ _ first (le-add_right _ _) refl)
 
-pub extend-requires : goal.extend-requires
-extend-requires g c =
+pub extend_to_natural-requires : goal.extend_to_natural-requires
+extend_to_natural-requires g c =
     let fits = c.requires.fits in
     let stored = ap height c.into_row_major_matrix-mat.ensures in
-    let are = c.in_ok-interpolate.ensures.coefficients fits.log (stored ∙ fits.high) in
+    let are = c.in_ok-interpolate_to_reversed.ensures.coefficients fits.log (stored ∙ fits.high) in
     record { fits = fits_lde_as _ _ _ c.args.added_bits _ _ fits (are.high ∙ stored) (are.wide ∙ ap (λ (n : RowMajor g.row.F.Denot). n.width) c.into_row_major_matrix-mat.ensures) }
 
 pub overflow_add-log_h : goal.overflow_add-log_h
@@ -65,8 +67,8 @@ returns-then-log_h-added_bits-eq0-clause-values g c =
     rw (← c.into_row_major_matrix-mat.ensures)
     (extension_of_row g.F.Field g.F.TwoAdicField.generator c.into_row_major_matrix-mat.result c.args.added_bits g.F.Field.ring.one one (omega (arith, c.if-log_h-added_bits-eq0.true)))
 
-pub returns-in_err-interpolate-clause-one_row : goal.returns-in_err-interpolate-clause-one_row
-returns-in_err-interpolate-clause-one_row g c one none =
+pub returns-in_err-interpolate_to_reversed-clause-one_row : goal.returns-in_err-interpolate_to_reversed-clause-one_row
+returns-in_err-interpolate_to_reversed-clause-one_row g c one none =
     absurd (more_points c.height.result c.log2_strict_usize-log_h.result c.args.added_bits c.log2_strict_usize-log_h.ensures.power c.if-log_h-added_bits-eq0.false
     (c.height.ensures.height ∙ ap height c.into_row_major_matrix-mat.ensures ∙ one) none)
 

@@ -31,8 +31,8 @@ returns-in_err-make-clause-succeeds g c k high ready =
     let there : log ≤ c.self.inside.twiddles = omega (arith, same, held) in
     absurd (not_ok c.make.result _ c.in_err-make.was (c.make.ensures.ready there))
 
-pub dit_matrix-requires-clause-rooted : goal.dit_matrix-requires-clause-rooted
-dit_matrix-requires-clause-rooted g c =
+pub dit_matrix-requires-clause-within : goal.dit_matrix-requires-clause-within
+dit_matrix-requires-clause-within g c =
     let tall : c.height-height.result ≡ height (g.N.IntoRowMajorMatrix.stored c.args.mat) = c.height-height.ensures.height ∙ ap height c.into_row_major_matrix-mat.ensures in
     let same : c.log2_strict_usize-log_h.result ≡ c.requires.fits.log = log_same _ _ (sym c.log2_strict_usize-log_h.ensures.power ∙ tall ∙ c.requires.fits.high) in
     omega (arith, same, c.requires.fits.within)
@@ -83,7 +83,7 @@ returns-clause-engine g c =
     record {
       later = later_with_heights _ _ _ c.args.self.now _ _ _ _ c.self.view_is c.make.ensures.keeps c.dit_matrix.ensures.grows;
       ready = λ _ k high. prepared_at _ _ k (same k high) c.in_ok-make.ensures.made;
-      cost = λ k high. let made = rw (products, width, same k high) at c.dit_matrix.ensures.count in omega (arith, made);
+      cost = λ k high. let made = rw (products, width, same k high) at c.dit_matrix.ensures.cost in omega (arith, made);
     }
 
 pub returns-in_err-make-clause-engine : goal.returns-in_err-make-clause-engine

@@ -78,8 +78,8 @@ returns-in_err-place-clause-succeeds g c k high heights ready = returns-in_err-p
 pub returns-in_err-place-clause-later : goal.returns-in_err-place-clause-later
 returns-in_err-place-clause-later g c = later_with_tables g.F.Field _ _ _ c.args.self.now _ _ _ _ _ _ c.self.view_is (omega arith) (coset_stays g.F.Field _ _ _ c.make.ensures.only) (omega arith)
 
-pub evaluate_on_coset-requires-clause-table : goal.evaluate_on_coset-requires-clause-table
-evaluate_on_coset-requires-clause-table g c =
+pub evaluate_on_coset_to_reversed-requires-clause-table : goal.evaluate_on_coset_to_reversed-requires-clause-table
+evaluate_on_coset_to_reversed-requires-clause-table g c =
     let table = c.get-table.result.now in
     ap (λ (t : Coset g.row.F.Denot). t.log_h) (c.get-table.ensures table) ∙ (c.in_ok-place.ensures.made.1 table).0
 
@@ -88,15 +88,15 @@ returns-clause-values g c =
     let field = g.F.Field in
     let s = field.value c.args.shift in
     let m = c.into_row_major_matrix-mat.result in
-    let out = c.evaluate_on_coset.new.mat in
+    let out = c.evaluate_on_coset_to_reversed.new.mat in
     let log = c.log2_strict_usize-log_h.result in
     let table = c.get-table.result.now in
     let high : height m ≡ 2 ^ log = sym c.height-height.ensures.height ∙ c.log2_strict_usize-log_h.ensures.power in
     let shift_is : field.value table.shift ≡ s = ap (λ (t : Coset g.row.F.Denot). field.value t.shift) (c.get-table.ensures table) ∙ (c.in_ok-place.ensures.made.1 table).1 in
     rw (← c.into_row_major_matrix-mat.ensures, c.bit_reverse_rows-2.ensures.matrix)
-    (transform_seen field g.F.TwoAdicField.generator m out s log c.bit_reverse_rows-2.result.bits high c.height-height.ensures.whole c.evaluate_on_coset.ensures.shape c.evaluate_on_coset.ensures.size
+    (transform_seen field g.F.TwoAdicField.generator m out s log c.bit_reverse_rows-2.result.bits high c.height-height.ensures.whole c.evaluate_on_coset_to_reversed.ensures.shape c.evaluate_on_coset_to_reversed.ensures.size
     c.bit_reverse_rows-2.ensures.height
-    (subst (λ (x : field.Element). IsValues field.ring (λ n. field.value (g.F.TwoAdicField.generator n)) (values_of field m) log x (bit_reversal log (values_of field out))) shift_is c.evaluate_on_coset.ensures.values))
+    (subst (λ (x : field.Element). IsValues field.ring (λ n. field.value (g.F.TwoAdicField.generator n)) (values_of field m) log x (bit_reversal log (values_of field out))) shift_is c.evaluate_on_coset_to_reversed.ensures.values))
 
 pub returns-clause-tables : goal.returns-clause-tables
 returns-clause-tables g c k high =
@@ -136,7 +136,7 @@ returns-clause-cosets g c k high =
     subst (made c.args.self.now.cosets) same (subst (λ xs. made xs c.log2_strict_usize-log_h.result) (ap (λ (e : CosetEngineState g.row.F.Denot). e.cosets) c.self.view_is) c.make.ensures.only)
 
 pub returns-clause-later : goal.returns-clause-later
-returns-clause-later g c = later_with_tables g.F.Field _ _ _ c.args.self.now _ _ _ _ _ _ c.self.view_is (omega arith) (coset_stays g.F.Field _ _ _ c.make.ensures.only) c.evaluate_on_coset.ensures.grows
+returns-clause-later g c = later_with_tables g.F.Field _ _ _ c.args.self.now _ _ _ _ _ _ c.self.view_is (omega arith) (coset_stays g.F.Field _ _ _ c.make.ensures.only) c.evaluate_on_coset_to_reversed.ensures.grows
 
 pub returns-clause-pairs : goal.returns-clause-pairs
 returns-clause-pairs g c k high =
@@ -144,7 +144,7 @@ returns-clause-pairs g c k high =
     let same : c.log2_strict_usize-log_h.result ≡ k = log_same _ k (sym c.log2_strict_usize-log_h.ensures.power ∙ tall ∙ high) in
     let products : c.self.inside.products ≡ c.args.self.now.roots.products = ap (λ (e : CosetEngineState g.row.F.Denot). e.roots.products) c.self.view_is in
     let width = ap (λ (m : RowMajor g.row.F.Denot). m.width) c.into_row_major_matrix-mat.ensures in
-    rw (← products, ← width, ← same) c.evaluate_on_coset.ensures.cost
+    rw (← products, ← width, ← same) c.evaluate_on_coset_to_reversed.ensures.cost
 
 pub returns-clause-cost : goal.returns-clause-cost
 returns-clause-cost g c k high = let few = returns-clause-pairs g c k high in omega (arith, few)

@@ -23,21 +23,21 @@ slots_counted x y p w before middle after first second =
 pub returns-in-Err-clause-later : goal.returns-in-Err-clause-later
 returns-in-Err-clause-later g c = later_with_tables g.F.Field _ _ _ c.args.self.now _ _ _ _ _ _ c.self.view_is c.coefficients_with_room-room.ensures.keeps c.coefficients_with_room-room.ensures.keeps_cosets c.coefficients_with_room-room.ensures.grows
 
-pub extend-extended-requires-clause-within : goal.extend-extended-requires-clause-within
-extend-extended-requires-clause-within g c =
+pub extend_reversed-extended-requires-clause-within : goal.extend_reversed-extended-requires-clause-within
+extend_reversed-extended-requires-clause-within g c =
     let stored = ap height c.into_row_major_matrix-mat.ensures in
     let same = log_same _ _ (sym c.log2_strict_usize-log_h.ensures.power ∙ c.height.ensures.height ∙ stored ∙ c.requires.fits.high) in
     omega (arith, same, c.requires.fits.within)
 
-pub extend-extended-requires-clause-small : goal.extend-extended-requires-clause-small
-extend-extended-requires-clause-small g c =
+pub extend_reversed-extended-requires-clause-small : goal.extend_reversed-extended-requires-clause-small
+extend_reversed-extended-requires-clause-small g c =
     let stored = ap height c.into_row_major_matrix-mat.ensures in
     let same = log_same _ _ (sym c.log2_strict_usize-log_h.ensures.power ∙ c.height.ensures.height ∙ stored ∙ c.requires.fits.high) in
     let small = output_log_small _ _ _ _ c.requires.fits in
     omega (arith, same, small)
 
-pub extend-extended-requires-clause-height : goal.extend-extended-requires-clause-height
-extend-extended-requires-clause-height g c =
+pub extend_reversed-extended-requires-clause-height : goal.extend_reversed-extended-requires-clause-height
+extend_reversed-extended-requires-clause-height g c =
     let m = c.into_row_major_matrix-mat.result in
     let log = c.log2_strict_usize-log_h.result in
     let answer = c.in-Ok.ensures.answer in
@@ -55,7 +55,7 @@ bit_reverse_rows-requires g c =
     let are = answer.are_coefficients log high in
     let shape : HasShapeOf answer.answered m = rw c.into_row_major_matrix-mat.ensures (c.requires.shape answer.told answer.answered answer.told_whole (rw (← c.into_row_major_matrix-mat.ensures) (are.high, are.wide)) answer.called) in (
       log + c.args.added_bits,
-      c.extend-extended.ensures.shape.0 ∙ (padded_shape g.F.Field.ZERO m answer.answered c.in-Ok.mat c.args.added_bits log answer.answered_whole shape high answer.over_zeros).0,
+      c.extend_reversed-extended.ensures.shape.0 ∙ (padded_shape g.F.Field.ZERO m answer.answered c.in-Ok.mat c.args.added_bits log answer.answered_whole shape high answer.over_zeros).0,
     )
 
 pub returns-clause-values : goal.returns-clause-values
@@ -65,22 +65,22 @@ returns-clause-values g c =
     let s = field.value c.args.shift in
     let m = c.into_row_major_matrix-mat.result in
     let grown = c.in-Ok.mat in
-    let out = c.extend-extended.new.mat in
+    let out = c.extend_reversed-extended.new.mat in
     let log = c.log2_strict_usize-log_h.result in
     let answer = c.in-Ok.ensures.answer in
     let high : height m ≡ 2 ^ log = sym c.height.ensures.height ∙ c.log2_strict_usize-log_h.ensures.power in
     let are = answer.are_coefficients log high in
     let shape : HasShapeOf answer.answered m = rw c.into_row_major_matrix-mat.ensures (c.requires.shape answer.told answer.answered answer.told_whole (rw (← c.into_row_major_matrix-mat.ensures) (are.high, are.wide)) answer.called) in
-    let tall = c.extend-extended.ensures.shape.0 ∙ (padded_shape field.ZERO m answer.answered grown a log answer.answered_whole shape high answer.over_zeros).0 in
+    let tall = c.extend_reversed-extended.ensures.shape.0 ∙ (padded_shape field.ZERO m answer.answered grown a log answer.answered_whole shape high answer.over_zeros).0 in
     let whole : IsRowMajor grown = rw answer.over_zeros (padded_whole field.ZERO answer.answered answer.answered_whole a) in
-    let is_whole : IsRowMajor out = record { wide = omega (arith, whole.wide, c.extend-extended.ensures.shape.1); full = ap₂ (λ h w. h * w) c.extend-extended.ensures.shape.0 c.extend-extended.ensures.shape.1 ∙ whole.full ∙ sym c.extend-extended.ensures.size } in
+    let is_whole : IsRowMajor out = record { wide = omega (arith, whole.wide, c.extend_reversed-extended.ensures.shape.1); full = ap₂ (λ h w. h * w) c.extend_reversed-extended.ensures.shape.0 c.extend_reversed-extended.ensures.shape.1 ∙ whole.full ∙ sym c.extend_reversed-extended.ensures.size } in
     rw (← c.into_row_major_matrix-mat.ensures, c.bit_reverse_rows.ensures.matrix)
     (values_of_answered field g.F.TwoAdicField.generator _ m answer.told answer.answered a log s _ high are answer.told_whole answer.answered_whole answer.called shape.0
     (values_seen field g.F.TwoAdicField.generator (bit_reversal log (values_of field answer.answered)) out s (log + a) c.bit_reverse_rows.result.bits is_whole tall c.bit_reverse_rows.ensures.height
     (c.in_default.ensures.values answer.answered answer.answered_whole (shape.0 ∙ high) answer.over_zeros)))
 
 pub returns-clause-later : goal.returns-clause-later
-returns-clause-later g c = later_with_tables g.F.Field _ _ _ c.args.self.now _ _ _ _ _ _ c.self.view_is c.coefficients_with_room-room.ensures.keeps c.coefficients_with_room-room.ensures.keeps_cosets (omega (arith, c.coefficients_with_room-room.ensures.grows, c.extend-extended.ensures.grows))
+returns-clause-later g c = later_with_tables g.F.Field _ _ _ c.args.self.now _ _ _ _ _ _ c.self.view_is c.coefficients_with_room-room.ensures.keeps c.coefficients_with_room-room.ensures.keeps_cosets (omega (arith, c.coefficients_with_room-room.ensures.grows, c.extend_reversed-extended.ensures.grows))
 
 pub returns-clause-cost : goal.returns-clause-cost
 returns-clause-cost g c k e =
@@ -100,9 +100,10 @@ returns-clause-cost g c k e =
     let first : c.coefficients_with_room-room.new.products ≤ c.args.self.now.roots.products + w * x + 2 ^ k * w =
     subst (λ (v : ℕ). c.coefficients_with_room-room.new.products ≤ c.args.self.now.roots.products + v * x + 2 ^ k * v) width
     (subst (λ (b : ℕ). c.coefficients_with_room-room.new.products ≤ b + m.width * x + 2 ^ k * m.width) products (c.coefficients_with_room-room.ensures.cost k (stored ∙ e))) in
-    let second : c.extend-extended.new.products ≤ c.coefficients_with_room-room.new.products + 2 ^ a * (w * x) =
-    subst (λ (n : ℕ). c.extend-extended.new.products ≤ c.coefficients_with_room-room.new.products + 2 ^ a * (w * (n * 2 ^ n / 2))) same
-    (subst (λ (v : ℕ). c.extend-extended.new.products ≤ c.coefficients_with_room-room.new.products + 2 ^ a * (v * (log * 2 ^ log / 2))) grown c.extend-extended.ensures.cost) in
+    let second : c.extend_reversed-extended.new.products ≤ c.coefficients_with_room-room.new.products + 2 ^ a *
+    (w * x) =
+    subst (λ (n : ℕ). c.extend_reversed-extended.new.products ≤ c.coefficients_with_room-room.new.products + 2 ^ a * (w * (n * 2 ^ n / 2))) same
+    (subst (λ (v : ℕ). c.extend_reversed-extended.new.products ≤ c.coefficients_with_room-room.new.products + 2 ^ a * (v * (log * 2 ^ log / 2))) grown c.extend_reversed-extended.ensures.cost) in
     slots_counted x (2 ^ k) (2 ^ a) w _ _ _ first second
 
 pub returns-clause-published : goal.returns-clause-published
@@ -118,7 +119,7 @@ returns-clause-published g c k e =
       first = c.make_consumer-consumer.result;
       made = subst (λ b. g.M.FnOnce.post c.args.make_consumer (b, tt) c.make_consumer-consumer.result) asked c.make_consumer-consumer.ensures;
       blocks = blocks;
-      parts = rw c.bit_reverse_rows.ensures.matrix (subst (λ (n : ℕ). IsPartition (2 ^ (n - (n + 1) / 2)) c.extend-extended.new.mat blocks) same parts);
+      parts = rw c.bit_reverse_rows.ensures.matrix (subst (λ (n : ℕ). IsPartition (2 ^ (n - (n + 1) / 2)) c.extend_reversed-extended.new.mat blocks) same parts);
       run = run;
     }
 
@@ -151,7 +152,7 @@ returns-in-Err-extended-clause-refused g c k e =
     )
 
 pub returns-in-Err-extended-clause-later : goal.returns-in-Err-extended-clause-later
-returns-in-Err-extended-clause-later g c = later_with_tables g.F.Field _ _ _ c.args.self.now _ _ _ _ _ _ c.self.view_is c.coefficients_with_room-room.ensures.keeps c.coefficients_with_room-room.ensures.keeps_cosets (omega (arith, c.coefficients_with_room-room.ensures.grows, c.extend-extended.ensures.grows))
+returns-in-Err-extended-clause-later g c = later_with_tables g.F.Field _ _ _ c.args.self.now _ _ _ _ _ _ c.self.view_is c.coefficients_with_room-room.ensures.keeps c.coefficients_with_room-room.ensures.keeps_cosets (omega (arith, c.coefficients_with_room-room.ensures.grows, c.extend_reversed-extended.ensures.grows))
 
 pub returns-in-Err-extended-clause-cost : goal.returns-in-Err-extended-clause-cost
 returns-in-Err-extended-clause-cost g c k e =
@@ -171,9 +172,10 @@ returns-in-Err-extended-clause-cost g c k e =
     let first : c.coefficients_with_room-room.new.products ≤ c.args.self.now.roots.products + w * x + 2 ^ k * w =
     subst (λ (v : ℕ). c.coefficients_with_room-room.new.products ≤ c.args.self.now.roots.products + v * x + 2 ^ k * v) width
     (subst (λ (b : ℕ). c.coefficients_with_room-room.new.products ≤ b + m.width * x + 2 ^ k * m.width) products (c.coefficients_with_room-room.ensures.cost k (stored ∙ e))) in
-    let second : c.extend-extended.new.products ≤ c.coefficients_with_room-room.new.products + 2 ^ a * (w * x) =
-    subst (λ (n : ℕ). c.extend-extended.new.products ≤ c.coefficients_with_room-room.new.products + 2 ^ a * (w * (n * 2 ^ n / 2))) same
-    (subst (λ (v : ℕ). c.extend-extended.new.products ≤ c.coefficients_with_room-room.new.products + 2 ^ a * (v * (log * 2 ^ log / 2))) grown c.extend-extended.ensures.cost) in
+    let second : c.extend_reversed-extended.new.products ≤ c.coefficients_with_room-room.new.products + 2 ^ a *
+    (w * x) =
+    subst (λ (n : ℕ). c.extend_reversed-extended.new.products ≤ c.coefficients_with_room-room.new.products + 2 ^ a * (w * (n * 2 ^ n / 2))) same
+    (subst (λ (v : ℕ). c.extend_reversed-extended.new.products ≤ c.coefficients_with_room-room.new.products + 2 ^ a * (v * (log * 2 ^ log / 2))) grown c.extend_reversed-extended.ensures.cost) in
     slots_counted x (2 ^ k) (2 ^ a) w _ _ _ first second
 
 pub returns-in-Err-clause-only : goal.returns-in-Err-clause-only
@@ -273,13 +275,13 @@ returns-clause-tables g c k e = c.in-Ok.ensures.cosets k (ap height c.into_row_m
 pub returns-in-Err-extended-clause-tables : goal.returns-in-Err-extended-clause-tables
 returns-in-Err-extended-clause-tables g c k e = c.in-Ok.ensures.cosets k (ap height c.into_row_major_matrix-mat.ensures ∙ e)
 
-pub extend-extended-requires-clause-whole : goal.extend-extended-requires-clause-whole
-extend-extended-requires-clause-whole g c =
+pub extend_reversed-extended-requires-clause-whole : goal.extend_reversed-extended-requires-clause-whole
+extend_reversed-extended-requires-clause-whole g c =
     let answer = c.in-Ok.ensures.answer in
     rw answer.over_zeros (padded_whole g.F.Field.ZERO answer.answered answer.answered_whole c.args.added_bits)
 
-pub extend-extended-requires-clause-tables : goal.extend-extended-requires-clause-tables
-extend-extended-requires-clause-tables g c = c.in-Ok.ensures.cosets c.log2_strict_usize-log_h.result (sym c.height.ensures.height ∙ c.log2_strict_usize-log_h.ensures.power)
+pub extend_reversed-extended-requires-clause-tables : goal.extend_reversed-extended-requires-clause-tables
+extend_reversed-extended-requires-clause-tables g c = c.in-Ok.ensures.cosets c.log2_strict_usize-log_h.result (sym c.height.ensures.height ∙ c.log2_strict_usize-log_h.ensures.power)
 
 -- an inverse with a product for each entry is within the bound of an extension
 first_counted : (x y p w before after : ℕ) → after ≤ before + w * x + y * w → after ≤ before + w * (x * (1 + p) + y)

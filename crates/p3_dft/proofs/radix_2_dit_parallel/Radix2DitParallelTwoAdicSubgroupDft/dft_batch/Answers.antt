@@ -31,8 +31,8 @@ returns-clause-values g c =
     let log = c.log2_strict_usize-log_h.result in
     let high : height m ≡ 2 ^ log = sym c.height-height.ensures.height ∙ c.log2_strict_usize-log_h.ensures.power in
     rw (← c.into_row_major_matrix-mat.ensures, c.bit_reverse_rows-2.ensures.matrix)
-    (transform_seen field g.F.TwoAdicField.generator m c.evaluate.new.mat field.ring.one log c.bit_reverse_rows-2.result.bits high c.height-height.ensures.whole c.evaluate.ensures.shape c.evaluate.ensures.size
-    c.bit_reverse_rows-2.ensures.height c.evaluate.ensures.values)
+    (transform_seen field g.F.TwoAdicField.generator m c.evaluate_to_reversed.new.mat field.ring.one log c.bit_reverse_rows-2.result.bits high c.height-height.ensures.whole c.evaluate_to_reversed.ensures.shape c.evaluate_to_reversed.ensures.size
+    c.bit_reverse_rows-2.ensures.height c.evaluate_to_reversed.ensures.values)
 
 pub returns-clause-serves : goal.returns-clause-serves
 returns-clause-serves g c k high =
@@ -81,7 +81,7 @@ pub returns-in_err-make-clause-later : goal.returns-in_err-make-clause-later
 returns-in_err-make-clause-later g c = later_with_tables g.F.Field _ _ _ c.args.self.now _ _ _ _ _ _ c.self.view_is c.make.ensures.keeps (λ k s has. has) (omega arith)
 
 pub returns-clause-later : goal.returns-clause-later
-returns-clause-later g c = later_with_tables g.F.Field _ _ _ c.args.self.now _ _ _ _ _ _ c.self.view_is c.make.ensures.keeps (λ k s has. has) c.evaluate.ensures.grows
+returns-clause-later g c = later_with_tables g.F.Field _ _ _ c.args.self.now _ _ _ _ _ _ c.self.view_is c.make.ensures.keeps (λ k s has. has) c.evaluate_to_reversed.ensures.grows
 
 pub returns-clause-cost : goal.returns-clause-cost
 returns-clause-cost g c k high =
@@ -90,7 +90,7 @@ returns-clause-cost g c k high =
     let same : log ≡ k = log_same log k (sym c.log2_strict_usize-log_h.ensures.power ∙ tall ∙ high) in
     let products : c.self.inside.products ≡ c.args.self.now.roots.products = ap (λ (e : CosetEngineState g.row.F.Denot). e.roots.products) c.self.view_is in
     let width = ap (λ (m : RowMajor g.row.F.Denot). m.width) c.into_row_major_matrix-mat.ensures in
-    rw (← products, ← width, ← same) c.evaluate.ensures.cost
+    rw (← products, ← width, ← same) c.evaluate_to_reversed.ensures.cost
 
 pub returns-clause-one_row : goal.returns-clause-one_row
 returns-clause-one_row g c one = absurd (c.if-height-eq1.false (c.height-height.ensures.height ∙ ap height c.into_row_major_matrix-mat.ensures ∙ one))

@@ -41,8 +41,8 @@ returns-in_err-make-clause-succeeds g c k high ready =
     let there : log ≤ c.self.inside.tables = omega (arith, same, held) in
     absurd (not_ok c.make.result _ c.in_err-make.was (c.make.ensures.ready there))
 
-pub interpolate-requires-clause-rooted : goal.interpolate-requires-clause-rooted
-interpolate-requires-clause-rooted g c =
+pub interpolate_to_reversed-requires-clause-within : goal.interpolate_to_reversed-requires-clause-within
+interpolate_to_reversed-requires-clause-within g c =
     let tall : c.height-height.result ≡ height (g.N.IntoRowMajorMatrix.stored c.args.mat) = c.height-height.ensures.height ∙ ap height c.into_row_major_matrix-mat.ensures in
     let same : c.log2_strict_usize-log_h.result ≡ c.requires.fits.log = log_same _ _ (sym c.log2_strict_usize-log_h.ensures.power ∙ tall ∙ c.requires.fits.high) in
     omega (arith, same, c.requires.fits.within)
@@ -52,12 +52,12 @@ returns-clause-coefficients g c =
     let field = g.F.Field in
     let log = c.log2_strict_usize-log_h.result in
     let m = c.into_row_major_matrix-mat.result in
-    let reversed_coefficients = c.interpolate.new.mat in
+    let reversed_coefficients = c.interpolate_to_reversed.new.mat in
     let out = c.reverse_rows.new.mat in
     let tall : c.height-height.result ≡ height (g.N.IntoRowMajorMatrix.stored c.args.mat) = c.height-height.ensures.height ∙ ap height c.into_row_major_matrix-mat.ensures in
     let same : log ≡ c.requires.fits.log = log_same _ _ (sym c.log2_strict_usize-log_h.ensures.power ∙ tall ∙ c.requires.fits.high) in
     let high : height m ≡ 2 ^ log = sym c.height-height.ensures.height ∙ c.log2_strict_usize-log_h.ensures.power in
-    let are = c.interpolate.ensures.coefficients in
+    let are = c.interpolate_to_reversed.ensures.coefficients in
     rw (← c.into_row_major_matrix-mat.ensures)
     (interpolation_of_coefficients field g.F.TwoAdicField.generator g.met.F.TwoAdicField.roots_law m out log (omega (arith, same, c.requires.fits.within)) high
     (same_coefficients field.ring g.met.F.TwoAdicField.roots_law (values_of field m) log field.ring.one (bit_reversal log (values_of field reversed_coefficients)) (values_of field out)
@@ -97,7 +97,7 @@ pub returns-in_err-make-clause-later : goal.returns-in_err-make-clause-later
 returns-in_err-make-clause-later g c = later_with_tables g.F.Field _ _ _ c.args.self.now _ _ _ _ _ _ c.self.view_is c.make.ensures.keeps (λ k s has. has) (omega arith)
 
 pub returns-clause-later : goal.returns-clause-later
-returns-clause-later g c = later_with_tables g.F.Field _ _ _ c.args.self.now _ _ _ _ _ _ c.self.view_is c.make.ensures.keeps (λ k s has. has) c.interpolate.ensures.grows
+returns-clause-later g c = later_with_tables g.F.Field _ _ _ c.args.self.now _ _ _ _ _ _ c.self.view_is c.make.ensures.keeps (λ k s has. has) c.interpolate_to_reversed.ensures.grows
 
 pub returns-clause-cost : goal.returns-clause-cost
 returns-clause-cost g c k high =
@@ -106,7 +106,7 @@ returns-clause-cost g c k high =
     let same : log ≡ k = log_same log k (sym c.log2_strict_usize-log_h.ensures.power ∙ tall ∙ high) in
     let products : c.self.inside.products ≡ c.args.self.now.roots.products = ap (λ (e : CosetEngineState g.row.F.Denot). e.roots.products) c.self.view_is in
     let width = ap (λ (m : RowMajor g.row.F.Denot). m.width) c.into_row_major_matrix-mat.ensures in
-    rw (← products, ← width, ← same) c.interpolate.ensures.cost
+    rw (← products, ← width, ← same) c.interpolate_to_reversed.ensures.cost
 
 pub returns-clause-one_row : goal.returns-clause-one_row
 returns-clause-one_row g c one = absurd (c.if-height-eq1.false (c.height-height.ensures.height ∙ ap height c.into_row_major_matrix-mat.ensures ∙ one))

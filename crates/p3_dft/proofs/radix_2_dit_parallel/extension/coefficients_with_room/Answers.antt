@@ -14,8 +14,8 @@ make-requires-clause-within g c =
     let same = log_same _ _ (sym c.log2_strict_usize-log_h.ensures.power ∙ c.height.ensures.height ∙ c.requires.fits.high) in
     omega (arith, same, c.requires.fits.within)
 
-pub interpolate-requires-clause-rooted : goal.interpolate-requires-clause-rooted
-interpolate-requires-clause-rooted g c =
+pub interpolate_to_reversed-requires-clause-within : goal.interpolate_to_reversed-requires-clause-within
+interpolate_to_reversed-requires-clause-within g c =
     let same = log_same _ _ (sym c.log2_strict_usize-log_h.ensures.power ∙ c.height.ensures.height ∙ c.requires.fits.high) in
     omega (arith, same, c.requires.fits.within)
 
@@ -24,8 +24,8 @@ pad_rows-requires-clause-bits g c = let small = output_log_small _ _ _ _ c.requi
 
 pub pad_rows-requires-clause-size : goal.pad_rows-requires-clause-size
 pad_rows-requires-clause-size g c =
-    let shape = c.requires.shape c.interpolate.new.mat c.transform-changed.result
-    (whole_kept c.args.mat c.interpolate.new.mat c.height.ensures.whole c.interpolate.ensures.shape c.interpolate.ensures.size) c.interpolate.ensures.shape c.transform-changed.ensures in
+    let shape = c.requires.shape c.interpolate_to_reversed.new.mat c.transform-changed.result
+    (whole_kept c.args.mat c.interpolate_to_reversed.new.mat c.height.ensures.whole c.interpolate_to_reversed.ensures.shape c.interpolate_to_reversed.ensures.size) c.interpolate_to_reversed.ensures.shape c.transform-changed.ensures in
     rw (shape.0, shape.1) (output_size _ _ _ _ c.requires.fits)
 
 pub returns-in_err-grown-clause-only : goal.returns-in_err-grown-clause-only
@@ -37,7 +37,7 @@ pub returns-in_err-grown-clause-cost : goal.returns-in_err-grown-clause-cost
 returns-in_err-grown-clause-cost g c k high =
     let same : c.log2_strict_usize-log_h.result ≡ k = log_same _ k (sym c.log2_strict_usize-log_h.ensures.power ∙ c.height.ensures.height ∙ high) in
     let w = c.args.mat.width in
-    subst (λ (n : ℕ). c.interpolate.new.products ≤ c.args.products.now + w * (n * 2 ^ n / 2) + 2 ^ n * w) same c.interpolate.ensures.cost
+    subst (λ (n : ℕ). c.interpolate_to_reversed.new.products ≤ c.args.products.now + w * (n * 2 ^ n / 2) + 2 ^ n * w) same c.interpolate_to_reversed.ensures.cost
 
 pub make_all-requires-clause-within : goal.make_all-requires-clause-within
 make_all-requires-clause-within g c =
@@ -59,19 +59,19 @@ pub returns-in_err-make_all-clause-cost : goal.returns-in_err-make_all-clause-co
 returns-in_err-make_all-clause-cost g c k high =
     let same : c.log2_strict_usize-log_h.result ≡ k = log_same _ k (sym c.log2_strict_usize-log_h.ensures.power ∙ c.height.ensures.height ∙ high) in
     let w = c.args.mat.width in
-    subst (λ (n : ℕ). c.interpolate.new.products ≤ c.args.products.now + w * (n * 2 ^ n / 2) + 2 ^ n * w) same c.interpolate.ensures.cost
+    subst (λ (n : ℕ). c.interpolate_to_reversed.new.products ≤ c.args.products.now + w * (n * 2 ^ n / 2) + 2 ^ n * w) same c.interpolate_to_reversed.ensures.cost
 
 pub returns-clause-answer : goal.returns-clause-answer
 returns-clause-answer g c =
     let field = g.F.Field in
-    let told = c.interpolate.new.mat in
+    let told = c.interpolate_to_reversed.new.mat in
     record {
       told = told;
       are_coefficients = λ k high.
           let same : c.log2_strict_usize-log_h.result ≡ k = log_same _ k (sym c.log2_strict_usize-log_h.ensures.power ∙ c.height.ensures.height ∙ high) in
           subst (λ (n : ℕ). AreCoefficients field.ring (λ i. field.value (g.F.TwoAdicField.generator i)) (values_of field c.args.mat) n field.ring.one (bit_reversal n (values_of field told))) same
-          c.interpolate.ensures.coefficients;
-      told_whole = whole_kept c.args.mat told c.height.ensures.whole c.interpolate.ensures.shape c.interpolate.ensures.size;
+          c.interpolate_to_reversed.ensures.coefficients;
+      told_whole = whole_kept c.args.mat told c.height.ensures.whole c.interpolate_to_reversed.ensures.shape c.interpolate_to_reversed.ensures.size;
       answered = c.transform-changed.result;
       answered_whole = c.pad_rows.ensures.whole;
       called = c.transform-changed.ensures;
@@ -98,7 +98,7 @@ pub returns-clause-cost : goal.returns-clause-cost
 returns-clause-cost g c k high =
     let same : c.log2_strict_usize-log_h.result ≡ k = log_same _ k (sym c.log2_strict_usize-log_h.ensures.power ∙ c.height.ensures.height ∙ high) in
     let w = c.args.mat.width in
-    subst (λ (n : ℕ). c.interpolate.new.products ≤ c.args.products.now + w * (n * 2 ^ n / 2) + 2 ^ n * w) same c.interpolate.ensures.cost
+    subst (λ (n : ℕ). c.interpolate_to_reversed.new.products ≤ c.args.products.now + w * (n * 2 ^ n / 2) + 2 ^ n * w) same c.interpolate_to_reversed.ensures.cost
 
 pub returns-in_err-make_all-clause-adds : goal.returns-in_err-make_all-clause-adds
 returns-in_err-make_all-clause-adds g c k high =
@@ -132,4 +132,4 @@ returns-clause-once g c k high all =
 
 pub transform-changed-requires : goal.transform-changed-requires
 transform-changed-requires g c =
-    c.requires.callable c.interpolate.new.mat (whole_kept c.args.mat c.interpolate.new.mat c.height.ensures.whole c.interpolate.ensures.shape c.interpolate.ensures.size) c.interpolate.ensures.shape
+    c.requires.callable c.interpolate_to_reversed.new.mat (whole_kept c.args.mat c.interpolate_to_reversed.new.mat c.height.ensures.whole c.interpolate_to_reversed.ensures.shape c.interpolate_to_reversed.ensures.size) c.interpolate_to_reversed.ensures.shape

@@ -7,7 +7,7 @@ use Rattle.p3_matrix.specs.Polynomials.{poly}
 use Rattle.p3_networks.specs.Twiddles.{factor, scale_cost}
 use Rattle.p3_dft.proofs.BitReversed.Rows.{reversed_cell, written_cell}
 use Rattle.p3_networks.proofs.Layers.Blocks.{row_below}
-use Rattle.p3_networks.proofs.Networks.Runs.{row_digits}
+use Rattle.p3_networks.proofs.Networks.Chunks.{row_digits}
 use Rattle.p3_matrix.proofs.Polynomials.ByIndex.{poly_same, poly-one}
 use Rattle.p3_matrix.proofs.RowMajor.{written_shape, written_size}
 use Rattle.p3_dft.proofs.radix_2_dit_parallel.network.second_of_matrix.Goals as goal
@@ -68,14 +68,14 @@ scales_counted after before cost n p q w x is made =
     let spread : p * (x + cost * (q * w)) ≡ p * x + cost * (p * q * w) = omega arith in
     omega (arith, made, entries, spread)
 
-pub returns-else-left-gt0-clause-count : goal.returns-else-left-gt0-clause-count
-returns-else-left-gt0-clause-count g c =
+pub returns-else-left-gt0-clause-cost : goal.returns-else-left-gt0-clause-cost
+returns-else-left-gt0-clause-cost g c =
     let m = c.args.mat.now in
     scales_counted _ _ (scale_cost c.args.scale) _ (2 ^ c.args.mid) (2 ^ c.args.left) m.width _
-    (c.reverse_rows.ensures.size ∙ sym c.requires.whole.full ∙ ap (λ h. h * m.width) (c.requires.height ∙ pow-add 2 c.args.mid c.args.left)) c.scale_rows.ensures.count
+    (c.reverse_rows.ensures.size ∙ sym c.requires.whole.full ∙ ap (λ h. h * m.width) (c.requires.height ∙ pow-add 2 c.args.mid c.args.left)) c.scale_rows.ensures.cost
 
-pub returns-then-left-gt0-clause-count : goal.returns-then-left-gt0-clause-count
-returns-then-left-gt0-clause-count g c =
+pub returns-then-left-gt0-clause-cost : goal.returns-then-left-gt0-clause-cost
+returns-then-left-gt0-clause-cost g c =
     let left = c.args.left in
     subst (λ (w : ℕ). c.second_half.new.products ≤ c.args.products.now + 2 ^ c.args.mid * (w * (left * 2 ^ left / 2) + scale_cost c.args.scale * (2 ^ left * w)))
-    c.width-width.ensures.width c.second_half.ensures.count
+    c.width-width.ensures.width c.second_half.ensures.cost

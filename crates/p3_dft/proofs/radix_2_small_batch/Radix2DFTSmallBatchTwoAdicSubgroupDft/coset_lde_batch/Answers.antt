@@ -46,28 +46,29 @@ make-requires-clause-small g c =
     (c.height.ensures.height ∙ ap height c.into_row_major_matrix-mat.ensures ∙ c.requires.fits.high) (output_log_small _ _ _ _ c.requires.fits) in
     omega (arith, small)
 
-pub interpolate_reversed-requires-clause-rooted : goal.interpolate_reversed-requires-clause-rooted
-interpolate_reversed-requires-clause-rooted g c =
+pub interpolate_unscaled_to_reversed-requires-clause-within :
+    goal.interpolate_unscaled_to_reversed-requires-clause-within
+interpolate_unscaled_to_reversed-requires-clause-within g c =
     let within = log_within c.log2_strict_usize-log_h.result c.args.added_bits _ c.requires.fits.log c.height.result c.log2_strict_usize-log_h.ensures.power
     (c.height.ensures.height ∙ ap height c.into_row_major_matrix-mat.ensures ∙ c.requires.fits.high) c.requires.fits.within in
     omega (arith, within)
 
-pub extend-requires-clause-small : goal.extend-requires-clause-small
-extend-requires-clause-small g c =
+pub extend_to_natural-requires-clause-small : goal.extend_to_natural-requires-clause-small
+extend_to_natural-requires-clause-small g c =
     let small = log_within c.log2_strict_usize-log_h.result c.args.added_bits 63 c.requires.fits.log c.height.result c.log2_strict_usize-log_h.ensures.power
     (c.height.ensures.height ∙ ap height c.into_row_major_matrix-mat.ensures ∙ c.requires.fits.high) (output_log_small _ _ _ _ c.requires.fits) in
     omega (arith, small)
 
-pub extend-requires-clause-rooted : goal.extend-requires-clause-rooted
-extend-requires-clause-rooted g c =
+pub extend_to_natural-requires-clause-within : goal.extend_to_natural-requires-clause-within
+extend_to_natural-requires-clause-within g c =
     log_within c.log2_strict_usize-log_h.result c.args.added_bits _ c.requires.fits.log c.height.result c.log2_strict_usize-log_h.ensures.power
     (c.height.ensures.height ∙ ap height c.into_row_major_matrix-mat.ensures ∙ c.requires.fits.high) c.requires.fits.within
 
-pub extend-requires-clause-room : goal.extend-requires-clause-room
-extend-requires-clause-room g c =
+pub extend_to_natural-requires-clause-room : goal.extend_to_natural-requires-clause-room
+extend_to_natural-requires-clause-room g c =
     let same : c.log2_strict_usize-log_h.result ≡ c.requires.fits.log =
     log_same _ _ (sym c.log2_strict_usize-log_h.ensures.power ∙ c.height.ensures.height ∙ ap height c.into_row_major_matrix-mat.ensures ∙ c.requires.fits.high) in
-    let entries = ap₂ (λ w n. w * 2 ^ (n + c.args.added_bits)) (c.interpolate_reversed.ensures.shape.1 ∙ ap (λ (n : RowMajor g.row.F.Denot). n.width) c.into_row_major_matrix-mat.ensures) same in
+    let entries = ap₂ (λ w n. w * 2 ^ (n + c.args.added_bits)) (c.interpolate_unscaled_to_reversed.ensures.shape.1 ∙ ap (λ (n : RowMajor g.row.F.Denot). n.width) c.into_row_major_matrix-mat.ensures) same in
     omega (arith, entries, c.requires.fits.size)
 
 pub returns-then-log_h-added_bits-eq0-clause-values : goal.returns-then-log_h-added_bits-eq0-clause-values
@@ -93,26 +94,26 @@ returns-clause-values g c =
     let s = field.value c.args.shift in
     let inverse = field.value c.div_2exp_u64-scale.result in
     let high : height m ≡ 2 ^ log = sym c.height.ensures.height ∙ c.log2_strict_usize-log_h.ensures.power in
-    let multiples = bit_reversal log (values_of field c.interpolate_reversed.new.mat) in
+    let multiples = bit_reversal log (values_of field c.interpolate_unscaled_to_reversed.new.mat) in
     let shifted = image (λ x. field.ring.mul x inverse) (coset_shift field.ring s multiples) in
     let undone : field.ring.mul (count field.ring (2 ^ log)) inverse ≡ field.ring.one =
     ap (λ x. field.ring.mul x inverse) (count-power_of_two field.ring log) ∙ c.div_2exp_u64-scale.ensures ∙ ap field.value c.ONE.ensures ∙ g.met.F.Field.one_law in
     let (d, quotient, on_coset) = shifted_quotient field.ring (2 ^ log) inverse s multiples shifted undone (record { high = refl; wide = refl; alike = λ i j p q. refl }) in
     rw (← c.into_row_major_matrix-mat.ensures)
-    (IfOk-weaker c.extend.result _ _
+    (IfOk-weaker c.extend_to_natural.result _ _
     (λ out given.
-    extension_of_coefficients field g.F.TwoAdicField.generator m out d a log s high (c.interpolate_reversed.ensures.coefficients d quotient)
+    extension_of_coefficients field g.F.TwoAdicField.generator m out d a log s high (c.interpolate_unscaled_to_reversed.ensures.coefficients d quotient)
     (coset_values field.ring (λ n. field.value (g.F.TwoAdicField.generator n)) d shifted (log + a) s (values_of field out) on_coset given))
-    c.extend.ensures.values)
+    c.extend_to_natural.ensures.values)
 
 pub returns-clause-serves : goal.returns-clause-serves
 returns-clause-serves g c k high =
     let log = c.log2_strict_usize-log_h.result in
     let same : log ≡ k = log_same log k (sym c.log2_strict_usize-log_h.ensures.power ∙ c.height.ensures.height ∙ ap height c.into_row_major_matrix-mat.ensures ∙ high) in
-    on_ok c.extend.result (both_prepared _ _ c.args.added_bits k same c.in_ok-make.ensures.made)
+    on_ok c.extend_to_natural.result (both_prepared _ _ c.args.added_bits k same c.in_ok-make.ensures.made)
 
 pub returns-clause-later : goal.returns-clause-later
-returns-clause-later g c = later_with_heights _ _ _ c.args.self.now _ _ _ _ c.self.view_is c.make.ensures.keeps (le_trans c.interpolate_reversed.ensures.grows c.extend.ensures.grows)
+returns-clause-later g c = later_with_heights _ _ _ c.args.self.now _ _ _ _ c.self.view_is c.make.ensures.keeps (le_trans c.interpolate_unscaled_to_reversed.ensures.grows c.extend_to_natural.ensures.grows)
 
 pub returns-clause-fewer : goal.returns-clause-fewer
 returns-clause-fewer g c k high =
@@ -122,9 +123,10 @@ returns-clause-fewer g c k high =
     let x = log * 2 ^ log / 2 in
     let same : log ≡ k = log_same log k (sym c.log2_strict_usize-log_h.ensures.power ∙ c.height.ensures.height ∙ ap height c.into_row_major_matrix-mat.ensures ∙ high) in
     let products : c.self.inside.products ≡ c.args.self.now.products = ap (λ e. e.products) c.self.view_is in
-    let second : c.extend.new.products ≤ c.interpolate_reversed.new.products + w * (2 ^ a * x + 2 ^ (log + a)) =
-    subst (λ (v : ℕ). c.extend.new.products ≤ c.interpolate_reversed.new.products + v * (2 ^ a * x + 2 ^ (log + a))) c.interpolate_reversed.ensures.shape.1 c.extend.ensures.cost in
-    let all = extension_made x (2 ^ (log + a)) (2 ^ a) w c.self.inside.products c.interpolate_reversed.new.products c.extend.new.products c.interpolate_reversed.ensures.cost second in
+    let second : c.extend_to_natural.new.products ≤ c.interpolate_unscaled_to_reversed.new.products + w *
+    (2 ^ a * x + 2 ^ (log + a)) =
+    subst (λ (v : ℕ). c.extend_to_natural.new.products ≤ c.interpolate_unscaled_to_reversed.new.products + v * (2 ^ a * x + 2 ^ (log + a))) c.interpolate_unscaled_to_reversed.ensures.shape.1 c.extend_to_natural.ensures.cost in
+    let all = extension_made x (2 ^ (log + a)) (2 ^ a) w c.self.inside.products c.interpolate_unscaled_to_reversed.new.products c.extend_to_natural.new.products c.interpolate_unscaled_to_reversed.ensures.cost second in
     rw (← products, ← c.into_row_major_matrix-mat.ensures, ← same) all
 
 pub returns-clause-cost : goal.returns-clause-cost
@@ -135,10 +137,11 @@ returns-clause-cost g c k high =
     let x = log * 2 ^ log / 2 in
     let same : log ≡ k = log_same log k (sym c.log2_strict_usize-log_h.ensures.power ∙ c.height.ensures.height ∙ ap height c.into_row_major_matrix-mat.ensures ∙ high) in
     let products : c.self.inside.products ≡ c.args.self.now.products = ap (λ e. e.products) c.self.view_is in
-    let second : c.extend.new.products ≤ c.interpolate_reversed.new.products + w * (2 ^ a * x + 2 ^ (log + a)) =
-    subst (λ (v : ℕ). c.extend.new.products ≤ c.interpolate_reversed.new.products + v * (2 ^ a * x + 2 ^ (log + a))) c.interpolate_reversed.ensures.shape.1 c.extend.ensures.cost in
-    let all = extension_made x (2 ^ (log + a)) (2 ^ a) w c.self.inside.products c.interpolate_reversed.new.products c.extend.new.products c.interpolate_reversed.ensures.cost second in
-    let most : c.extend.new.products ≤ c.self.inside.products + extension_bound (λ n v. v * (n * 2 ^ n / 2)) log a w = omega (arith, all, fewer_than_parts log a w) in
+    let second : c.extend_to_natural.new.products ≤ c.interpolate_unscaled_to_reversed.new.products + w *
+    (2 ^ a * x + 2 ^ (log + a)) =
+    subst (λ (v : ℕ). c.extend_to_natural.new.products ≤ c.interpolate_unscaled_to_reversed.new.products + v * (2 ^ a * x + 2 ^ (log + a))) c.interpolate_unscaled_to_reversed.ensures.shape.1 c.extend_to_natural.ensures.cost in
+    let all = extension_made x (2 ^ (log + a)) (2 ^ a) w c.self.inside.products c.interpolate_unscaled_to_reversed.new.products c.extend_to_natural.new.products c.interpolate_unscaled_to_reversed.ensures.cost second in
+    let most : c.extend_to_natural.new.products ≤ c.self.inside.products + extension_bound (λ n v. v * (n * 2 ^ n / 2)) log a w = omega (arith, all, fewer_than_parts log a w) in
     rw (← products, ← c.into_row_major_matrix-mat.ensures, ← same) most
 
 pub returns-clause-only : goal.returns-clause-only
@@ -168,8 +171,8 @@ returns-clause-one_row g c one none =
 pub returns-in_err-make-clause-later : goal.returns-in_err-make-clause-later
 returns-in_err-make-clause-later g c = later_with_heights _ _ _ c.args.self.now _ _ _ _ c.self.view_is c.make.ensures.keeps (le_refl c.self.inside.products)
 
-pub extend-requires-clause-twiddles : goal.extend-requires-clause-twiddles
-extend-requires-clause-twiddles g c = record {
+pub extend_to_natural-requires-clause-twiddles : goal.extend_to_natural-requires-clause-twiddles
+extend_to_natural-requires-clause-twiddles g c = record {
   size = λ l below. c.forward-forward.ensures.table.size l (lt_of_lt_of_le below c.in_ok-make.ensures.made);
   entries = λ l b below inside. c.forward-forward.ensures.table.entries l b (lt_of_lt_of_le below c.in_ok-make.ensures.made) inside;
 }
@@ -177,12 +180,13 @@ extend-requires-clause-twiddles g c = record {
 low_layer : (l k a n : ℕ) → l < k → k + a ≤ n → l < n
 low_layer l k a n below made = omega (arith, below, made)
 
-pub interpolate_reversed-requires-clause-twiddles : goal.interpolate_reversed-requires-clause-twiddles
-interpolate_reversed-requires-clause-twiddles g c = record {
+pub interpolate_unscaled_to_reversed-requires-clause-twiddles :
+    goal.interpolate_unscaled_to_reversed-requires-clause-twiddles
+interpolate_unscaled_to_reversed-requires-clause-twiddles g c = record {
   size = λ l below. c.backward-backward.ensures.table.size l (low_layer l _ _ _ below c.in_ok-make.ensures.made);
   entries = λ l b below inside. c.backward-backward.ensures.table.entries l b (low_layer l _ _ _ below c.in_ok-make.ensures.made) inside;
 }
 
-pub extend-requires-clause-whole : goal.extend-requires-clause-whole
-extend-requires-clause-whole g c =
-    whole_kept c.into_row_major_matrix-mat.result c.interpolate_reversed.new.mat c.height.ensures.whole c.interpolate_reversed.ensures.shape c.interpolate_reversed.ensures.size
+pub extend_to_natural-requires-clause-whole : goal.extend_to_natural-requires-clause-whole
+extend_to_natural-requires-clause-whole g c =
+    whole_kept c.into_row_major_matrix-mat.result c.interpolate_unscaled_to_reversed.new.mat c.height.ensures.whole c.interpolate_unscaled_to_reversed.ensures.shape c.interpolate_unscaled_to_reversed.ensures.size

@@ -73,8 +73,8 @@ prepare-requires-clause-size g c =
     let digits : c.log2_strict_usize-log_h.result + c.args.added_bits < 64 = omega (arith, small) in
     pow-lt digits
 
-pub extend_in_slots-requires-clause-twiddles : goal.extend_in_slots-requires-clause-twiddles
-extend_in_slots-requires-clause-twiddles g c =
+pub extend_to_reversed-requires-clause-twiddles : goal.extend_to_reversed-requires-clause-twiddles
+extend_to_reversed-requires-clause-twiddles g c =
     let top = c.log2_strict_usize-log_h.result + c.args.added_bits in
     let there : top ≤ c.self.inside.tables = until_prepared _ top (subst (λ (e : EngineState). IsPrepared e top) (sym c.self.view_is) (c.idft_batch.ensures.later.keeps top c.in_ok-prepare.ensures.prepares)) in
     record {
@@ -82,20 +82,20 @@ extend_in_slots-requires-clause-twiddles g c =
       entries = λ l b below inside. c.forward-twiddles.ensures.table.entries l b (omega (arith, below, there)) inside;
     }
 
-pub extend_in_slots-requires-clause-within : goal.extend_in_slots-requires-clause-within
-extend_in_slots-requires-clause-within g c =
+pub extend_to_reversed-requires-clause-within : goal.extend_to_reversed-requires-clause-within
+extend_to_reversed-requires-clause-within g c =
     let within = log_within c.log2_strict_usize-log_h.result c.args.added_bits _ c.requires.fits.log c.height.result c.log2_strict_usize-log_h.ensures.power
     (c.height.ensures.height ∙ ap height c.into_row_major_matrix-mat.ensures ∙ c.requires.fits.high) c.requires.fits.within in
     within
 
-pub extend_in_slots-requires-clause-small : goal.extend_in_slots-requires-clause-small
-extend_in_slots-requires-clause-small g c =
+pub extend_to_reversed-requires-clause-small : goal.extend_to_reversed-requires-clause-small
+extend_to_reversed-requires-clause-small g c =
     let small = log_within c.log2_strict_usize-log_h.result c.args.added_bits 63 c.requires.fits.log c.height.result c.log2_strict_usize-log_h.ensures.power
     (c.height.ensures.height ∙ ap height c.into_row_major_matrix-mat.ensures ∙ c.requires.fits.high) (output_log_small _ _ _ _ c.requires.fits) in
     omega (arith, small)
 
-pub extend_in_slots-requires-clause-height : goal.extend_in_slots-requires-clause-height
-extend_in_slots-requires-clause-height g c =
+pub extend_to_reversed-requires-clause-height : goal.extend_to_reversed-requires-clause-height
+extend_to_reversed-requires-clause-height g c =
     let m = c.into_row_major_matrix-mat.result in
     let log = c.log2_strict_usize-log_h.result in
     let high : height m ≡ 2 ^ log = sym c.height.ensures.height ∙ c.log2_strict_usize-log_h.ensures.power in
@@ -112,7 +112,7 @@ bit_reverse_rows-requires g c =
     let are = c.in_ok-coefficients.ensures.coefficients.holds log high in
     let shape : HasShapeOf c.transform-changed.result m = rw c.into_row_major_matrix-mat.ensures (c.requires.shape c.in_ok-coefficients.coefficients c.transform-changed.result c.width-width.ensures.whole (rw (← c.into_row_major_matrix-mat.ensures) (are.high, are.wide)) c.transform-changed.ensures) in
     let grown = padded_shape g.F.Field.ZERO m c.transform-changed.result c.in_ok-grown.grown c.args.added_bits log c.pad_rows.ensures.whole shape high c.in_ok-grown.ensures.padded in
-    (log + c.args.added_bits, c.extend_in_slots.ensures.shape.0 ∙ grown.0)
+    (log + c.args.added_bits, c.extend_to_reversed.ensures.shape.0 ∙ grown.0)
 
 pub returns-clause-values : goal.returns-clause-values
 returns-clause-values g c =
@@ -121,7 +121,7 @@ returns-clause-values g c =
     let s = field.value c.args.shift in
     let answered = c.transform-changed.result in
     let padded = c.in_ok-grown.grown in
-    let out = c.extend_in_slots.new.mat in
+    let out = c.extend_to_reversed.new.mat in
     let bits = c.bit_reverse_rows.result.bits in
     let m = c.into_row_major_matrix-mat.result in
     let log = c.log2_strict_usize-log_h.result in
@@ -129,15 +129,15 @@ returns-clause-values g c =
     let are = c.in_ok-coefficients.ensures.coefficients.holds log high in
     let shape : HasShapeOf c.transform-changed.result m = rw c.into_row_major_matrix-mat.ensures (c.requires.shape c.in_ok-coefficients.coefficients c.transform-changed.result c.width-width.ensures.whole (rw (← c.into_row_major_matrix-mat.ensures) (are.high, are.wide)) c.transform-changed.ensures) in
     let grown = padded_shape g.F.Field.ZERO m c.transform-changed.result c.in_ok-grown.grown c.args.added_bits log c.pad_rows.ensures.whole shape high c.in_ok-grown.ensures.padded in
-    let tall : height out ≡ 2 ^ (log + a) = c.extend_in_slots.ensures.shape.0 ∙ grown.0 in
+    let tall : height out ≡ 2 ^ (log + a) = c.extend_to_reversed.ensures.shape.0 ∙ grown.0 in
     let whole : IsRowMajor padded = rw c.in_ok-grown.ensures.padded (padded_whole field.ZERO answered c.pad_rows.ensures.whole a) in
-    let is_whole : IsRowMajor out = record { wide = omega (arith, whole.wide, c.extend_in_slots.ensures.shape.1); full = ap₂ (λ h w. h * w) c.extend_in_slots.ensures.shape.0 c.extend_in_slots.ensures.shape.1 ∙ whole.full ∙ sym c.extend_in_slots.ensures.size } in
+    let is_whole : IsRowMajor out = record { wide = omega (arith, whole.wide, c.extend_to_reversed.ensures.shape.1); full = ap₂ (λ h w. h * w) c.extend_to_reversed.ensures.shape.0 c.extend_to_reversed.ensures.shape.1 ∙ whole.full ∙ sym c.extend_to_reversed.ensures.size } in
     rw (← c.into_row_major_matrix-mat.ensures, c.bit_reverse_rows.ensures.matrix)
     (extension_of_natural field g.F.TwoAdicField.generator _ m c.in_ok-coefficients.coefficients answered _ a s c.in_ok-coefficients.ensures.coefficients c.width-width.ensures.whole c.pad_rows.ensures.whole
     c.transform-changed.ensures
     (λ k e.
     values_seen field g.F.TwoAdicField.generator (values_of field answered) out s (k + a) bits is_whole (tall ∙ ap (λ n. 2 ^ (n + a)) (log_same log k (sym high ∙ e))) c.bit_reverse_rows.ensures.height
-    (rw (← log_same log k (sym high ∙ e)) (c.extend_in_slots.ensures.values answered c.pad_rows.ensures.whole (shape.0 ∙ high) c.in_ok-grown.ensures.padded))))
+    (rw (← log_same log k (sym high ∙ e)) (c.extend_to_reversed.ensures.values answered c.pad_rows.ensures.whole (shape.0 ∙ high) c.in_ok-grown.ensures.padded))))
 
 pub returns-clause-engine : goal.returns-clause-engine
 returns-clause-engine g c = record {
@@ -149,7 +149,7 @@ returns-clause-engine g c = record {
         keeps = λ k before. prepared_until _ k (still k before);
         keeps_cosets = λ k s none. tt;
         keeps_ready = λ k before. prepared_until _ k (still k before);
-        grows = omega (arith, c.prepare.ensures.products, first.grows, products, c.extend_in_slots.ensures.grows);
+        grows = omega (arith, c.prepare.ensures.products, first.grows, products, c.extend_to_reversed.ensures.grows);
       };
   ready = λ done k e.
       let log = c.log2_strict_usize-log_h.result in
@@ -169,16 +169,16 @@ returns-clause-engine g c = record {
       let width = ap (λ (n : RowMajor g.row.F.Denot). n.width) c.into_row_major_matrix-mat.ensures in
       let same : log ≡ k = log_same log k (sym high ∙ stored ∙ e) in
       let products : c.self.inside.products ≡ c.idft_batch.new.self.products = ap (λ e. e.products) c.self.view_is in
-      let second : c.extend_in_slots.new.products ≤ c.self.inside.products + 2 ^ a * (m.width * (log * 2 ^ log / 2) + 2 ^ log * m.width) =
-      subst (λ (w : ℕ). c.extend_in_slots.new.products ≤ c.self.inside.products + 2 ^ a * (w * (log * 2 ^ log / 2) + 2 ^ log * w)) grown.1 c.extend_in_slots.ensures.cost in
-      let made = slots_made log a m.width c.self.inside.products c.extend_in_slots.new.products second in
+      let second : c.extend_to_reversed.new.products ≤ c.self.inside.products + 2 ^ a * (m.width * (log * 2 ^ log / 2) + 2 ^ log * m.width) =
+      subst (λ (w : ℕ). c.extend_to_reversed.new.products ≤ c.self.inside.products + 2 ^ a * (w * (log * 2 ^ log / 2) + 2 ^ log * w)) grown.1 c.extend_to_reversed.ensures.cost in
+      let made = slots_made log a m.width c.self.inside.products c.extend_to_reversed.new.products second in
       let first = c.in_ok-coefficients.ensures.cost log high in
-      let all : c.extend_in_slots.new.products
+      let all : c.extend_to_reversed.new.products
       ≤ c.args.self.now.products + (m.width * (log * 2 ^ log / 2) + 2 ^ log * m.width + (m.width * ((log + a) * 2 ^ (log + a) / 2) + 2 ^ (log + a) * m.width)) = omega (arith, made, first, products, c.prepare.ensures.products) in
-      subst (λ (n : ℕ). c.extend_in_slots.new.products
+      subst (λ (n : ℕ). c.extend_to_reversed.new.products
       ≤ c.args.self.now.products + ((g.N.IntoRowMajorMatrix.stored c.args.mat).width * (n * 2 ^ n / 2) + 2 ^ n * (g.N.IntoRowMajorMatrix.stored c.args.mat).width
       + ((g.N.IntoRowMajorMatrix.stored c.args.mat).width * ((n + a) * 2 ^ (n + a) / 2) + 2 ^ (n + a) * (g.N.IntoRowMajorMatrix.stored c.args.mat).width))) same
-      (subst (λ (w : ℕ). c.extend_in_slots.new.products ≤ c.args.self.now.products + (w * (log * 2 ^ log / 2) + 2 ^ log * w + (w * ((log + a) * 2 ^ (log + a) / 2) + 2 ^ (log + a) * w))) width all);
+      (subst (λ (w : ℕ). c.extend_to_reversed.new.products ≤ c.args.self.now.products + (w * (log * 2 ^ log / 2) + 2 ^ log * w + (w * ((log + a) * 2 ^ (log + a) / 2) + 2 ^ (log + a) * w))) width all);
 }
 
 pub returns-in_err-coefficients-clause-engine : goal.returns-in_err-coefficients-clause-engine
@@ -195,8 +195,8 @@ returns-in_err-grown-clause-engine g c = record {
   cost = λ k e. inverse_made k c.args.added_bits _ _ _ _ c.prepare.ensures.products ((rw c.into_row_major_matrix-mat.ensures at c.idft_batch.ensures.cost) k e);
 }
 
-pub extend_in_slots-requires-clause-whole : goal.extend_in_slots-requires-clause-whole
-extend_in_slots-requires-clause-whole g c =
+pub extend_to_reversed-requires-clause-whole : goal.extend_to_reversed-requires-clause-whole
+extend_to_reversed-requires-clause-whole g c =
     rw c.in_ok-grown.ensures.padded (padded_whole g.F.Field.ZERO c.transform-changed.result c.pad_rows.ensures.whole c.args.added_bits)
 
 pub idft_batch-requires : goal.idft_batch-requires

@@ -35,21 +35,21 @@ returns-in_err-make-clause-succeeds g c k high ready =
     let there : log ≤ c.self.inside.tables = omega (arith, same, held) in
     absurd (not_ok c.make.result _ c.in_err-make.was (c.make.ensures.ready there))
 
-pub evaluate-requires-clause-rooted : goal.evaluate-requires-clause-rooted
-evaluate-requires-clause-rooted g c =
+pub evaluate_natural-requires-clause-within : goal.evaluate_natural-requires-clause-within
+evaluate_natural-requires-clause-within g c =
     let tall : c.height-height.result ≡ height (g.N.IntoRowMajorMatrix.stored c.args.mat) = c.height-height.ensures.height ∙ ap height c.into_row_major_matrix-mat.ensures in
     let same : c.log2_strict_usize-log_h.result ≡ c.requires.fits.log = log_same _ _ (sym c.log2_strict_usize-log_h.ensures.power ∙ tall ∙ c.requires.fits.high) in
     omega (arith, same, c.requires.fits.within)
 
-pub evaluate-requires-clause-some : goal.evaluate-requires-clause-some
-evaluate-requires-clause-some g c = some_log c.height-height.result c.log2_strict_usize-log_h.result c.log2_strict_usize-log_h.ensures.power c.if-height-eq1.false
+pub evaluate_natural-requires-clause-some : goal.evaluate_natural-requires-clause-some
+evaluate_natural-requires-clause-some g c = some_log c.height-height.result c.log2_strict_usize-log_h.result c.log2_strict_usize-log_h.ensures.power c.if-height-eq1.false
 
-pub evaluate-requires-clause-twiddles : goal.evaluate-requires-clause-twiddles
-evaluate-requires-clause-twiddles g c =
+pub evaluate_natural-requires-clause-twiddles : goal.evaluate_natural-requires-clause-twiddles
+evaluate_natural-requires-clause-twiddles g c =
     fewer_from_start g.F.Field (block_powers g.F.Field (forward_root g.F.Field g.F.TwoAdicField.generator)) c.log2_strict_usize-log_h.result c.make.new.self _ c.in_ok-make.ensures.made c.forward-twiddles.ensures.table
 
 pub returns-clause-values : goal.returns-clause-values
-returns-clause-values g c = rw (← c.into_row_major_matrix-mat.ensures) c.evaluate.ensures.values
+returns-clause-values g c = rw (← c.into_row_major_matrix-mat.ensures) c.evaluate_natural.ensures.values
 
 pub returns-clause-serves : goal.returns-clause-serves
 returns-clause-serves g c k high =
@@ -59,7 +59,7 @@ returns-clause-serves g c k high =
     prepared_at _ _ k same c.in_ok-make.ensures.made
 
 pub returns-clause-later : goal.returns-clause-later
-returns-clause-later g c = later_with_heights _ _ _ c.args.self.now _ _ _ _ c.self.view_is c.make.ensures.keeps c.evaluate.ensures.grows
+returns-clause-later g c = later_with_heights _ _ _ c.args.self.now _ _ _ _ c.self.view_is c.make.ensures.keeps c.evaluate_natural.ensures.grows
 
 pub returns-clause-cost : goal.returns-clause-cost
 returns-clause-cost g c k high =
@@ -67,7 +67,7 @@ returns-clause-cost g c k high =
     let log = c.log2_strict_usize-log_h.result in
     let same : log ≡ k = log_same log k (sym c.log2_strict_usize-log_h.ensures.power ∙ tall ∙ high) in
     let products : c.self.inside.products ≡ c.args.self.now.products = ap (λ e. e.products) c.self.view_is in
-    rw (← products, ← c.into_row_major_matrix-mat.ensures, ← same) c.evaluate.ensures.cost
+    rw (← products, ← c.into_row_major_matrix-mat.ensures, ← same) c.evaluate_natural.ensures.cost
 
 pub returns-clause-only : goal.returns-clause-only
 returns-clause-only g c k high n now =

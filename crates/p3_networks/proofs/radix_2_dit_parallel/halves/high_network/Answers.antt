@@ -10,13 +10,13 @@ use Rattle.p3_networks.proofs.Layers.Sizes.{cells_by_blocks, done_shift, left_sh
 use Rattle.p3_networks.proofs.Networks.Formulas.{whole_layer_taken}
 use Rattle.p3_networks.proofs.Networks.HighRows.{high_row, high_rows, high_start, high_end}
 use Rattle.p3_networks.proofs.Networks.Stages.{twiddle}
-use Rattle.p3_networks.proofs.Tables.BlockTables.{block_count, blocks_within, run_entry}
+use Rattle.p3_networks.proofs.Tables.BlockTables.{block_count, blocks_within, chunk_entry}
 use Rattle.p3_networks.proofs.radix_2_dit_parallel.halves.high_network.Goals as goal
 
--- a run has a twiddle in the first of its layers
-first_there : {T : Type 0} (by_layer : Bool) (mid left run : ℕ) (xs ys : List T) → 1 ≤ left → run < 2 ^ mid → ((l : ℕ) → mid ≤ l → l < mid + left → block_end by_layer l ≤ length xs)
-    → ys ≡ block_entries by_layer mid xs → run + 1 ≤ length ys
-first_there by_layer mid left run xs ys some below reaches is =
+-- a chunk has a twiddle in the first of its layers
+first_there : {T : Type 0} (by_layer : Bool) (mid left chunk : ℕ) (xs ys : List T) → 1 ≤ left → chunk < 2 ^ mid → ((l : ℕ) → mid ≤ l → l < mid + left → block_end by_layer l ≤ length xs)
+    → ys ≡ block_entries by_layer mid xs → chunk + 1 ≤ length ys
+first_there by_layer mid left chunk xs ys some below reaches is =
     let count : length ys ≡ 2 ^ mid = ap length is ∙ block_count by_layer mid xs (reaches mid (omega arith) (omega (arith, some))) in
     omega (arith, count, below)
 
@@ -39,14 +39,14 @@ scaled_layer-requires-clause-size g c =
     let k = c.args.left in
     let half = first_half k c.requires.some (omega (arith, c.requires.small)) in
     let flat : 1 * (2 * (2 ^ (k - 1) * c.args.width)) ≡ 1 * (2 * 2 ^ (k - 1)) * c.args.width = omega arith in
-    rw half (c.requires.height ∙ ap (λ n. n * c.args.width) (sym (first_whole k c.requires.some)) ∙ sym flat)
+    rw half (c.requires.size ∙ ap (λ n. n * c.args.width) (sym (first_whole k c.requires.some)) ∙ sym flat)
 
 pub loop-done-init : goal.loop-done-init
 loop-done-init g c =
     let field = g.F.Field in
     let k = c.args.left in
     let mid = c.args.mid in
-    let run = c.args.run in
+    let chunk = c.args.chunk in
     let w = c.args.width in
     let half = 1 * 2 ^ (k - 1) % 18446744073709551616 in
     let some : 0 < k = omega (arith, c.requires.some) in
@@ -56,15 +56,15 @@ loop-done-init g c =
     let cell = λ (n : ℕ). field.value (get_or c.args.values.now n field.ZERO) in
     let scaled = λ (n : ℕ). field.ring.mul (cell n) (factor field c.args.scale) in
     let after = λ (n : ℕ). field.value (get_or c.scaled_layer.new.values n field.ZERO) in
-    let entry = λ (t : ℕ). field.value (get_or c.of_layer-twiddles.result.now (run + t) field.ZERO) in
+    let entry = λ (t : ℕ). field.value (get_or c.of_layer-twiddles.result.now (chunk + t) field.ZERO) in
     let size = half * w in
     let few : 2 ^ (k - 1) ≤ 2 ^ k = omega (arith, h, whole) in
     record {
       rows = λ root s roots table j r inside below.
-          let coset = point field.ring root (mid + k) s (rev mid run) in
+          let coset = point field.ring root (mid + k) s (rev mid chunk) in
           let entry_is : (u : ℕ) → u < 1 → entry u ≡ twiddle field.ring root coset 0 (k - 1 - 0) (rev 0 u) =
-          λ u p. ap (λ xs. field.value (get_or xs (run + u) field.ZERO)) c.of_layer-twiddles.ensures
-          ∙ run_entry field root s mid k run 0 u mid (run + u) c.args.table.by_layer c.args.table.twiddles.now roots table (omega arith) (omega arith) c.requires.run some p in
+          λ u p. ap (λ xs. field.value (get_or xs (chunk + u) field.ZERO)) c.of_layer-twiddles.ensures
+          ∙ chunk_entry field root s mid k chunk 0 u mid (chunk + u) c.args.table.by_layer c.args.table.twiddles.now roots table (omega arith) (omega arith) c.requires.chunk some p in
           let zero_more : (b : ℕ) → b ≡ 0 + b = λ b. omega arith in
           let keep : k ≡ k - 0 = omega arith in
           let less : k - 1 ≡ k - 1 - 0 = omega arith in
@@ -79,16 +79,16 @@ loop-done-init g c =
           (λ u v. sym (high_start field.ring root coset (k - 0) (λ q. scaled (q * w + j)) u (subst (λ (n : ℕ). u < 2 ^ n) keep v)))
           r below;
       grows = c.scaled_layer.ensures.grows;
-      count = counted (scale_cost c.args.scale) (half * w) (2 ^ (k - 1) * w) (2 ^ k * w) _ _ (ap (λ n. n * w) h) (mul-le-mul_right w few) c.scaled_layer.ensures.count;
+      cost = counted (scale_cost c.args.scale) (half * w) (2 ^ (k - 1) * w) (2 ^ k * w) _ _ (ap (λ n. n * w) h) (mul-le-mul_right w few) c.scaled_layer.ensures.cost;
     }
 
-pub overflow_mul-run : goal.overflow_mul-run
-overflow_mul-run g c =
+pub overflow_mul-chunk : goal.overflow_mul-chunk
+overflow_mul-chunk g c =
     let done = c.loop-done.done in
     let mid = c.args.mid in
     let highest : mid + done ≤ 63 = omega (arith, c.requires.small, c.loop-done-test.true) in
     let fits : 2 ^ (mid + done) ≤ 2 ^ 63 = pow-le-pow_right {n = 2} (lit≤ tt) highest in
-    rw (done_shift c.args.left done c.loop-done-test.true (omega (arith, c.requires.small))) (omega (arith, fits, blocks_within c.args.run mid done c.requires.run))
+    rw (done_shift c.args.left done c.loop-done-test.true (omega (arith, c.requires.small))) (omega (arith, fits, blocks_within c.args.chunk mid done c.requires.chunk))
 
 pub layer_by_block-requires-clause-size : goal.layer_by_block-requires-clause-size
 layer_by_block-requires-clause-size g c =
@@ -96,7 +96,7 @@ layer_by_block-requires-clause-size g c =
     let k = c.args.left in
     let small : k < 64 = omega (arith, c.requires.small) in
     rw (left_shift k l c.loop-done-test.true small, done_shift k l c.loop-done-test.true small)
-    (c.loop-done.auto.values ∙ c.scaled_layer.auto.values ∙ c.requires.height ∙ cells_by_blocks k l c.args.width c.loop-done-test.true)
+    (c.loop-done.auto.values ∙ c.scaled_layer.auto.values ∙ c.requires.size ∙ cells_by_blocks k l c.args.width c.loop-done-test.true)
 
 pub layer_by_block-requires-clause-table : goal.layer_by_block-requires-clause-table
 layer_by_block-requires-clause-table g c =
@@ -104,7 +104,7 @@ layer_by_block-requires-clause-table g c =
     let mid = c.args.mid in
     let count = ap length c.of_layer-twiddles-in-loop-done.ensures
     ∙ block_count c.args.table.by_layer (mid + l) c.args.table.twiddles.now (c.requires.table (mid + l) (omega arith) (omega (arith, c.loop-done-test.true))) in
-    rw (done_shift c.args.left l c.loop-done-test.true (omega (arith, c.requires.small)), count) (blocks_within c.args.run mid l c.requires.run)
+    rw (done_shift c.args.left l c.loop-done-test.true (omega (arith, c.requires.small)), count) (blocks_within c.args.chunk mid l c.requires.chunk)
 
 pub loop-done-preserved : goal.loop-done-preserved
 loop-done-preserved g c =
@@ -112,7 +112,7 @@ loop-done-preserved g c =
     let l = c.loop-done.done in
     let k = c.args.left in
     let mid = c.args.mid in
-    let run = c.args.run in
+    let chunk = c.args.chunk in
     let w = c.args.width in
     let half = 1 * 2 ^ (k - 1 - l) % 18446744073709551616 in
     let blocks = 1 * 2 ^ l % 18446744073709551616 in
@@ -123,14 +123,14 @@ loop-done-preserved g c =
     let before = λ (n : ℕ). field.value (get_or c.loop-done.values n field.ZERO) in
     let after = λ (n : ℕ). field.value (get_or c.layer_by_block.new.values n field.ZERO) in
     let scaled = λ (n : ℕ). field.ring.mul (field.value (get_or c.args.values.now n field.ZERO)) (factor field c.args.scale) in
-    let entry = λ (t : ℕ). field.value (get_or c.of_layer-twiddles-in-loop-done.result.now (run * blocks + t) field.ZERO) in
+    let entry = λ (t : ℕ). field.value (get_or c.of_layer-twiddles-in-loop-done.result.now (chunk * blocks + t) field.ZERO) in
     let size = half * w in
     record {
       rows = λ root s roots table j r inside below.
-          let coset = point field.ring root (mid + k) s (rev mid run) in
+          let coset = point field.ring root (mid + k) s (rev mid chunk) in
           let entry_is : (u : ℕ) → u < blocks → entry u ≡ twiddle field.ring root coset l (k - 1 - l) (rev l u) =
-          λ u p. ap (λ xs. field.value (get_or xs (run * blocks + u) field.ZERO)) c.of_layer-twiddles-in-loop-done.ensures
-          ∙ run_entry field root s mid k run l u (mid + l) (run * blocks + u) c.args.table.by_layer c.args.table.twiddles.now roots table refl (ap (λ n. run * n + u) b) c.requires.run c.loop-done-test.true (omega (arith, p, b)) in
+          λ u p. ap (λ xs. field.value (get_or xs (chunk * blocks + u) field.ZERO)) c.of_layer-twiddles-in-loop-done.ensures
+          ∙ chunk_entry field root s mid k chunk l u (mid + l) (chunk * blocks + u) c.args.table.by_layer c.args.table.twiddles.now roots table refl (ap (λ n. chunk * n + u) b) c.requires.chunk c.loop-done-test.true (omega (arith, p, b)) in
           let zero_more : (b : ℕ) → b ≡ 0 + b = λ b. omega arith in
           whole_layer_taken (high_rows field.ring root coset roots (λ u. scaled (u * w + j))) k l w half blocks
           (λ u t. dit_near field.ring (entry u)) (λ u t. dit_far field.ring (entry u)) before after
@@ -143,7 +143,7 @@ loop-done-preserved g c =
           (λ u v. c.loop-done.invariant.rows root s roots table j u inside v)
           r below;
       grows = omega (arith, c.loop-done.invariant.grows, c.layer_by_block.ensures.grows);
-      count = layer_counted 1 k l w blocks half _ c.loop-done.products c.layer_by_block.new.products c.loop-done-test.true whole c.loop-done.invariant.count c.layer_by_block.ensures.count;
+      cost = layer_counted 1 k l w blocks half _ c.loop-done.products c.layer_by_block.new.products c.loop-done-test.true whole c.loop-done.invariant.cost c.layer_by_block.ensures.cost;
     }
 
 pub returns-clause-values : goal.returns-clause-values
@@ -152,17 +152,17 @@ returns-clause-values g c root s roots table t j p q =
     let k = c.args.left in
     let e : c.loop-done.done ≡ k = omega (arith, c.requires.some) in
     let d : k - c.loop-done.done ≡ 0 = omega arith in
-    let coset = point field.ring root (c.args.mid + k) s (rev c.args.mid c.args.run) in
+    let coset = point field.ring root (c.args.mid + k) s (rev c.args.mid c.args.chunk) in
     let f = λ (u : ℕ). field.ring.mul (field.value (get_or c.args.values.now (u * c.args.width + j) field.ZERO)) (factor field c.args.scale) in
     c.loop-done.invariant.rows root s roots table j t q p ∙ ap₂ (λ x y. high_row field.ring root coset x y f t) e d ∙ high_end field.ring root coset k f t
 
-pub returns-clause-count : goal.returns-clause-count
-returns-clause-count g c =
+pub returns-clause-cost : goal.returns-clause-cost
+returns-clause-cost g c =
     let k = c.args.left in
     let w = c.args.width in
     let e : c.loop-done.done ≡ k = omega (arith, c.requires.some) in
     let all = ap (λ n. 1 * (n * (2 ^ (k - 1) * w))) e ∙ layers_counted k w in
-    omega (arith, all, c.loop-done.invariant.count)
+    omega (arith, all, c.loop-done.invariant.cost)
 
 -- a layer of the second half
 in_second_half : (mid done left : ℕ) → done < left → mid + done < mid + left
@@ -173,7 +173,7 @@ of_layer-twiddles-requires-in-loop-done-clause-inside g c =
     c.requires.table (c.args.mid + c.loop-done.done) (le-add_right c.args.mid c.loop-done.done) (in_second_half c.args.mid c.loop-done.done c.args.left c.loop-done-test.true)
 
 pub scaled_layer-requires-clause-table : goal.scaled_layer-requires-clause-table
-scaled_layer-requires-clause-table g c = first_there c.args.table.by_layer c.args.mid c.args.left c.args.run c.args.table.twiddles.now c.of_layer-twiddles.result.now c.requires.some c.requires.run c.requires.table c.of_layer-twiddles.ensures
+scaled_layer-requires-clause-table g c = first_there c.args.table.by_layer c.args.mid c.args.left c.args.chunk c.args.table.twiddles.now c.of_layer-twiddles.result.now c.requires.some c.requires.chunk c.requires.table c.of_layer-twiddles.ensures
 
 pub layer_by_block-requires-clause-some : goal.layer_by_block-requires-clause-some
 layer_by_block-requires-clause-some g c = some_rows _ (c.args.left - 1 - c.loop-done.done) (left_shift c.args.left c.loop-done.done c.loop-done-test.true (omega (arith, c.requires.small)))

@@ -15,8 +15,8 @@ invariant-loop-done g l =
       rows : (root : ℕ → field.Element) (s : field.Element) → AreRoots field.ring (l.fn.mid + k) root
           → AreBlockTwiddles field root s l.fn.mid (l.fn.mid + k) l.fn.table.by_layer l.fn.table.twiddles.now
           → (j r : ℕ) → j < w → r < 2 ^ k → field.value (get_or l.values (r * w + j) field.ZERO)
-          ≡ high_row field.ring root (point field.ring root (l.fn.mid + k) s (rev l.fn.mid l.fn.run)) l.done (k - l.done)
+          ≡ high_row field.ring root (point field.ring root (l.fn.mid + k) s (rev l.fn.mid l.fn.chunk)) l.done (k - l.done)
           (λ q. field.ring.mul (field.value (get_or l.fn.values (q * w + j) field.ZERO)) (factor field l.fn.scale)) r;
       grows : l.fn.products ≤ l.products;
-      count : l.products ≤ l.fn.products + scale_cost l.fn.scale * (2 ^ k * w) + 1 * (l.done * (2 ^ (k - 1) * w));
+      cost : l.products ≤ l.fn.products + scale_cost l.fn.scale * (2 ^ k * w) + 1 * (l.done * (2 ^ (k - 1) * w));
     }

@@ -13,7 +13,7 @@ loop-l-init g c =
     record {
       rows = λ root s roots table j r h q. low_begun field root s c.args.log_h c.args.width (λ n. field.value (get_or c.args.values.now n field.ZERO)) j r q;
       grows = omega arith;
-      count = omega arith;
+      cost = omega arith;
     }
 
 pub layer_twiddles-twiddles-requires-clause-inside : goal.layer_twiddles-twiddles-requires-clause-inside
@@ -30,7 +30,7 @@ layer_by_place-requires-clause-size g c =
     let l = c.loop-l.l in
     let k = c.args.log_h in
     rw (done_shift k l c.loop-l-test.true c.requires.small, left_shift k l c.loop-l-test.true c.requires.small)
-    (c.loop-l.auto.values ∙ c.requires.height ∙ cells_by_halves k l c.args.width c.loop-l-test.true)
+    (c.loop-l.auto.values ∙ c.requires.size ∙ cells_by_halves k l c.args.width c.loop-l-test.true)
 
 pub layer_by_place-requires-clause-table : goal.layer_by_place-requires-clause-table
 layer_by_place-requires-clause-table g c =
@@ -59,7 +59,7 @@ loop-l-preserved g c =
           c.layer_by_place.ensures.near c.layer_by_place.ensures.far j inside
           (λ u v. c.loop-l.invariant.rows root s roots layers j u inside v) r below;
       grows = omega (arith, c.loop-l.invariant.grows, c.layer_by_place.ensures.grows);
-      count = layer_counted 1 k l w blocks half c.args.products.now c.loop-l.products c.layer_by_place.new.products c.loop-l-test.true whole c.loop-l.invariant.count c.layer_by_place.ensures.count;
+      cost = layer_counted 1 k l w blocks half c.args.products.now c.loop-l.products c.layer_by_place.new.products c.loop-l-test.true whole c.loop-l.invariant.cost c.layer_by_place.ensures.cost;
     }
 
 pub returns-clause-values : goal.returns-clause-values
@@ -67,9 +67,9 @@ returns-clause-values g c root s roots layers r j q p =
     let field = g.F.Field in
     low_done field root s c.args.log_h c.args.width c.loop-l.l _ _ r (omega arith) (c.loop-l.invariant.rows root s roots layers j r p q) q
 
-pub returns-clause-count : goal.returns-clause-count
-returns-clause-count g c =
+pub returns-clause-cost : goal.returns-clause-cost
+returns-clause-cost g c =
     let k = c.args.log_h in
     let w = c.args.width in
     let e : c.loop-l.l ≡ k = omega arith in
-    subst (λ (n : ℕ). c.loop-l.products ≤ c.args.products.now + n) (ap (λ n. 1 * (n * (2 ^ (k - 1) * w))) e ∙ layers_counted k w) c.loop-l.invariant.count
+    subst (λ (n : ℕ). c.loop-l.products ≤ c.args.products.now + n) (ap (λ n. 1 * (n * (2 ^ (k - 1) * w))) e ∙ layers_counted k w) c.loop-l.invariant.cost

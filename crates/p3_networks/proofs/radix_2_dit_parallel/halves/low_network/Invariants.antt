@@ -15,5 +15,5 @@ invariant-loop-l g l =
           → (j r : ℕ) → j < w → r < 2 ^ k → field.value (get_or l.values (r * w + j) field.ZERO)
           ≡ low_row field.ring root s l.l (k - l.l) (λ q. field.value (get_or l.fn.values (rev k q * w + j) field.ZERO)) r;
       grows : l.fn.products ≤ l.products;
-      count : l.products ≤ l.fn.products + 1 * (l.l * (2 ^ (k - 1) * w));
+      cost : l.products ≤ l.fn.products + 1 * (l.l * (2 ^ (k - 1) * w));
     }

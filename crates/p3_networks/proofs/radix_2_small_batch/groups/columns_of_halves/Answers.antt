@@ -54,8 +54,8 @@ loop-t-preserved g c =
     let row_2 = take m (drop (t * part) high) in
     let len_1 : length row_1 ≡ part = part_length low (t * part) part low_room in
     let len_2 : length row_2 ≡ part = part_length high (t * part) part high_room in
-    let room_1 : at + (end - at) ≤ length row_1 = omega (arith, c.requires.some, c.requires.within, len_1) in
-    let room_2 : at + (end - at) ≤ length row_2 = omega (arith, c.requires.some, c.requires.within, len_2) in
+    let room_1 : at + (end - at) ≤ length row_1 = omega (arith, c.requires.some, c.requires.inside, len_1) in
+    let room_2 : at + (end - at) ≤ length row_2 = omega (arith, c.requires.some, c.requires.inside, len_2) in
     let met = take (end - at) (drop at row_1) in
     let met_len : length met ≡ end - at = part_size row_1 at (end - at) room_1 in
     let met_len_2 : length (take (end - at) (drop at row_2)) ≡ end - at = part_size row_2 at (end - at) room_2 in
@@ -64,26 +64,26 @@ loop-t-preserved g c =
     let y : (j : ℕ) → j < part → get_or row_2 j zero ≡ get_or c.args.high.now (t * part + j) zero =
     λ j inside. part_at high (t * part) m j zero (omega (arith, inside, full)) ∙ c.loop-t.invariant.far.rest (t * part + j) (omega arith) in
     let a : (j : ℕ) → j < end - at → field.value (get_or met j zero) ≡ field.value (get_or c.args.low.now (t * part + (at + j)) zero) =
-    λ j inside. ap field.value (part_at row_1 at (end - at) j zero inside ∙ x (at + j) (omega (arith, inside, c.requires.within))) in
+    λ j inside. ap field.value (part_at row_1 at (end - at) j zero inside ∙ x (at + j) (omega (arith, inside, c.requires.inside))) in
     let b : (j : ℕ) → j < end - at → field.value (get_or (take (end - at) (drop at row_2)) j zero) ≡ field.value (get_or c.args.high.now (t * part + (at + j)) zero) =
-    λ j inside. ap field.value (part_at row_2 at (end - at) j zero inside ∙ y (at + j) (omega (arith, inside, c.requires.within))) in
+    λ j inside. ap field.value (part_at row_2 at (end - at) j zero inside ∙ y (at + j) (omega (arith, inside, c.requires.inside))) in
     let near = λ (j : ℕ). rule.near field.Element field.ring field.value c.args.rule c.args.block 0 (field.value (get_or c.args.low.now (t * part + j) zero)) (field.value (get_or c.args.high.now (t * part + j) zero)) in
     let far = λ (j : ℕ). rule.far field.Element field.ring field.value c.args.rule c.args.block 0 (field.value (get_or c.args.low.now (t * part + j) zero)) (field.value (get_or c.args.high.now (t * part + j) zero)) in
     record {
       near = rows-more zero part _ _ low (put_mid at (end - at) row_1 c.meet.new.row_1) t m full low_room (put_length row_1 c.meet.new.row_1 at (end - at) room_1 (c.meet.auto.row_1 ∙ met_len) ∙ len_1)
           (λ j inside.
           subst (λ (was : g.row.F.Denot). InColumns field.value at end (near j) was j (get_or (put_mid at (end - at) row_1 c.meet.new.row_1) j zero)) (x j inside)
-          (columns_written field.value zero at end near row_1 c.meet.new.row_1 c.requires.some (omega (arith, c.requires.within, len_1)) (c.meet.auto.row_1 ∙ met_len)
+          (columns_written field.value zero at end near row_1 c.meet.new.row_1 c.requires.some (omega (arith, c.requires.inside, len_1)) (c.meet.auto.row_1 ∙ met_len)
           (λ i among. c.meet.ensures.near i (omega (arith, among, met_len)) ∙ ap₂ (rule.near field.Element field.ring field.value c.args.rule c.args.block 0) (a i among) (b i among)) j))
           c.loop-t.invariant.near;
       far = rows-more zero part _ _ high (put_mid at (end - at) row_2 c.meet.new.row_2) t m full high_room (put_length row_2 c.meet.new.row_2 at (end - at) room_2 (c.meet.auto.row_2 ∙ met_len_2) ∙ len_2)
           (λ j inside.
           subst (λ (was : g.row.F.Denot). InColumns field.value at end (far j) was j (get_or (put_mid at (end - at) row_2 c.meet.new.row_2) j zero)) (y j inside)
-          (columns_written field.value zero at end far row_2 c.meet.new.row_2 c.requires.some (omega (arith, c.requires.within, len_2)) (c.meet.auto.row_2 ∙ met_len_2)
+          (columns_written field.value zero at end far row_2 c.meet.new.row_2 c.requires.some (omega (arith, c.requires.inside, len_2)) (c.meet.auto.row_2 ∙ met_len_2)
           (λ i among. c.meet.ensures.far i (omega (arith, among, met_len)) ∙ ap₂ (rule.far field.Element field.ring field.value c.args.rule c.args.block 0) (a i among) (b i among)) j))
           c.loop-t.invariant.far;
       grows = omega (arith, c.meet.ensures.grows, c.loop-t.invariant.grows);
-      count = count_more rule.cost t (end - at) _ _ _ c.loop-t.invariant.count (subst (λ (n : ℕ). c.meet.new.products ≤ c.loop-t.products + rule.cost * n) met_len c.meet.ensures.count);
+      cost = count_more rule.cost t (end - at) _ _ _ c.loop-t.invariant.cost (subst (λ (n : ℕ). c.meet.new.products ≤ c.loop-t.products + rule.cost * n) met_len c.meet.ensures.cost);
     }
 
 -- the columns that meet are within a row, and so within the halves
@@ -92,18 +92,18 @@ columns_room at end part t half len order within below full = omega (arith, orde
 
 pub offset_bounds-row_1-at : goal.offset_bounds-row_1-at
 offset_bounds-row_1-at g c =
-    scaled_fits≤ c.args.at (length c.args.low.now) _ (columns_room c.args.at c.args.end c.args.part c.loop-t.t c.args.half (length c.args.low.now) c.requires.some c.requires.within c.loop-t-test.true c.requires.low) (search rules)
+    scaled_fits≤ c.args.at (length c.args.low.now) _ (columns_room c.args.at c.args.end c.args.part c.loop-t.t c.args.half (length c.args.low.now) c.requires.some c.requires.inside c.loop-t-test.true c.requires.low) (search rules)
 
 pub offset_bounds-row_2-at : goal.offset_bounds-row_2-at
 offset_bounds-row_2-at g c =
-    scaled_fits≤ c.args.at (length c.args.high.now) _ (columns_room c.args.at c.args.end c.args.part c.loop-t.t c.args.half (length c.args.high.now) c.requires.some c.requires.within c.loop-t-test.true c.requires.high) (search rules)
+    scaled_fits≤ c.args.at (length c.args.high.now) _ (columns_room c.args.at c.args.end c.args.part c.loop-t.t c.args.half (length c.args.high.now) c.requires.some c.requires.inside c.loop-t-test.true c.requires.high) (search rules)
 
 pub loop-t-init : goal.loop-t-init
 loop-t-init g c = record {
   near = rows-none g.F.Field.ZERO c.args.part _ c.args.low.now;
   far = rows-none g.F.Field.ZERO c.args.part _ c.args.high.now;
   grows = le_refl c.args.products.now;
-  count = count_none g.R.Rule.cost (c.args.end - c.args.at) c.args.products.now;
+  cost = count_none g.R.Rule.cost (c.args.end - c.args.at) c.args.products.now;
 }
 
 pub returns-clause-near : goal.returns-clause-near
@@ -118,5 +118,5 @@ returns-clause-kept g c t j p q other = (
   (rows-all g.F.Field.ZERO c.args.part _ c.args.high.now c.loop-t.high c.loop-t.t c.args.half c.loop-t-test.false c.loop-t.invariant.far t j p q).outside other,
 )
 
-pub returns-clause-count : goal.returns-clause-count
-returns-clause-count g c = at_end (λ n. c.loop-t.products ≤ c.args.products.now + g.R.Rule.cost * (n * (c.args.end - c.args.at))) c.loop-t.t c.args.half c.loop-t.auto.t-end c.loop-t-test.false c.loop-t.invariant.count
+pub returns-clause-cost : goal.returns-clause-cost
+returns-clause-cost g c = at_end (λ n. c.loop-t.products ≤ c.args.products.now + g.R.Rule.cost * (n * (c.args.end - c.args.at))) c.loop-t.t c.args.half c.loop-t.auto.t-end c.loop-t-test.false c.loop-t.invariant.cost

@@ -16,5 +16,5 @@ invariant-loop-t g l =
           (λ t j y. InColumns field.value l.fn.at l.fn.end (rule.far field.Element field.ring field.value l.fn.rule l.fn.block 0 (field.value (get_or l.fn.low (t * part + j) field.ZERO)) (field.value (get_or l.fn.high (t * part + j) field.ZERO)))
           (get_or l.fn.high (t * part + j) field.ZERO) j y) l.fn.high l.t l.high;
       grows : l.fn.products ≤ l.products;
-      count : l.products ≤ l.fn.products + rule.cost * (l.t * (l.fn.end - l.fn.at));
+      cost : l.products ≤ l.fn.products + rule.cost * (l.t * (l.fn.end - l.fn.at));
     }

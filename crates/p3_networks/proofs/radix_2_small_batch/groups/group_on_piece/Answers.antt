@@ -1,7 +1,7 @@
 use Rattle.std.proofs.Common.{◌≡◌, ℕ, ◌+◌, ◌*◌, ◌-◌, ◌%◌, ◌^◌, ◌≤◌, length, sym, ap, ◌∙◌, subst, arith}
 use Rattle.p3_networks.specs.Groups.{IsLayer, TakesColumns, cells_of}
 use Rattle.p3_networks.proofs.Layers.Groups.{block_there, columns_next, columns_none, layer_in_order, part_sizes, piece_layer_counted, piece_sizes}
-use Rattle.p3_networks.proofs.Layers.Runs.{blocks_within, run_within}
+use Rattle.p3_networks.proofs.Layers.Chunks.{blocks_within, chunk_within}
 use Rattle.p3_networks.proofs.Layers.Counts.{at_end}
 use Rattle.p3_networks.proofs.radix_2_small_batch.groups.group_on_piece.Goals as goal
 
@@ -17,35 +17,35 @@ pub loop-done-init : goal.loop-done-init
 loop-done-init g c = record {
   cells = λ k cells layers room holds. columns_none _ _ _ _ _ _ _ _ _ holds;
   grows = omega arith;
-  count = omega arith;
+  cost = omega arith;
 }
 
 pub overflow_shl-half : goal.overflow_shl-half
-overflow_shl-half g c = let sizes = piece_sizes c.args.from c.args.to c.entry-entry.result c.args.number c.args.width c.entry-entry.ensures.first c.entry-entry.ensures.last c.requires.small in omega (arith, sizes.digits, c.entry-entry.ensures.last)
+overflow_shl-half g c = let sizes = piece_sizes c.args.from c.args.to c.layer-log_half.result c.args.number c.args.width c.layer-log_half.ensures.first c.layer-log_half.ensures.last c.requires.small in omega (arith, sizes.digits, c.layer-log_half.ensures.last)
 
 pub overflow_shl-blocks : goal.overflow_shl-blocks
-overflow_shl-blocks g c = let sizes = piece_sizes c.args.from c.args.to c.entry-entry.result c.args.number c.args.width c.entry-entry.ensures.first c.entry-entry.ensures.last c.requires.small in omega (arith, sizes.digits)
+overflow_shl-blocks g c = let sizes = piece_sizes c.args.from c.args.to c.layer-log_half.result c.args.number c.args.width c.layer-log_half.ensures.first c.layer-log_half.ensures.last c.requires.small in omega (arith, sizes.digits)
 
 pub overflow_mul-number : goal.overflow_mul-number
-overflow_mul-number g c = let sizes = piece_sizes c.args.from c.args.to c.entry-entry.result c.args.number c.args.width c.entry-entry.ensures.first c.entry-entry.ensures.last c.requires.small in omega (arith, sizes.room)
+overflow_mul-number g c = let sizes = piece_sizes c.args.from c.args.to c.layer-log_half.result c.args.number c.args.width c.layer-log_half.ensures.first c.layer-log_half.ensures.last c.requires.small in omega (arith, sizes.room)
 
-pub layer_of_columns-requires-clause-within : goal.layer_of_columns-requires-clause-within
-layer_of_columns-requires-clause-within g c = let sizes = piece_sizes c.args.from c.args.to c.entry-entry.result c.args.number c.args.width c.entry-entry.ensures.first c.entry-entry.ensures.last c.requires.small in omega (arith, sizes.part_is, c.requires.within)
+pub layer_of_columns-requires-clause-inside : goal.layer_of_columns-requires-clause-inside
+layer_of_columns-requires-clause-inside g c = let sizes = piece_sizes c.args.from c.args.to c.layer-log_half.result c.args.number c.args.width c.layer-log_half.ensures.first c.layer-log_half.ensures.last c.requires.small in omega (arith, sizes.part_is, c.requires.inside)
 
 pub layer_of_columns-requires-clause-blocks : goal.layer_of_columns-requires-clause-blocks
-layer_of_columns-requires-clause-blocks g c = (piece_sizes c.args.from c.args.to c.entry-entry.result c.args.number c.args.width c.entry-entry.ensures.first c.entry-entry.ensures.last c.requires.small).some_blocks
+layer_of_columns-requires-clause-blocks g c = (piece_sizes c.args.from c.args.to c.layer-log_half.result c.args.number c.args.width c.layer-log_half.ensures.first c.layer-log_half.ensures.last c.requires.small).some_blocks
 
 pub layer_of_columns-requires-clause-numbers : goal.layer_of_columns-requires-clause-numbers
-layer_of_columns-requires-clause-numbers g c = (piece_sizes c.args.from c.args.to c.entry-entry.result c.args.number c.args.width c.entry-entry.ensures.first c.entry-entry.ensures.last c.requires.small).room
+layer_of_columns-requires-clause-numbers g c = (piece_sizes c.args.from c.args.to c.layer-log_half.result c.args.number c.args.width c.layer-log_half.ensures.first c.layer-log_half.ensures.last c.requires.small).room
 
 pub layer_of_columns-requires-clause-size : goal.layer_of_columns-requires-clause-size
 layer_of_columns-requires-clause-size g c =
-    c.loop-done.auto.values ∙ c.requires.size ∙ (piece_sizes c.args.from c.args.to c.entry-entry.result c.args.number c.args.width c.entry-entry.ensures.first c.entry-entry.ensures.last c.requires.small).cells
+    c.loop-done.auto.values ∙ c.requires.size ∙ (piece_sizes c.args.from c.args.to c.layer-log_half.result c.args.number c.args.width c.layer-log_half.ensures.first c.layer-log_half.ensures.last c.requires.small).cells
 
 pub layer_of_columns-requires-clause-there : goal.layer_of_columns-requires-clause-there
 layer_of_columns-requires-clause-there g c b inside =
-    let sizes = piece_sizes c.args.from c.args.to c.entry-entry.result c.args.number c.args.width c.entry-entry.ensures.first c.entry-entry.ensures.last c.requires.small in
-    c.requires.there _ (block_there c.args.to c.entry-entry.result c.args.number _ c.entry-entry.ensures.last (omega (arith, inside, sizes.numbers)))
+    let sizes = piece_sizes c.args.from c.args.to c.layer-log_half.result c.args.number c.args.width c.layer-log_half.ensures.first c.layer-log_half.ensures.last c.requires.small in
+    c.requires.there _ (block_there c.args.to c.layer-log_half.result c.args.number _ c.layer-log_half.ensures.last (omega (arith, inside, sizes.numbers)))
 
 pub loop-done-preserved : goal.loop-done-preserved
 loop-done-preserved g c =
@@ -55,7 +55,7 @@ loop-done-preserved g c =
     let to = c.args.to in
     let w = c.args.width in
     let number = c.args.number in
-    let e = c.entry-entry.result in
+    let e = c.layer-log_half.result in
     let done = c.loop-done.done in
     let rows = 2 ^ (to - from) in
     let half = 1 * 2 ^ (e - from) % 18446744073709551616 in
@@ -64,16 +64,16 @@ loop-done-preserved g c =
     let near = λ (b : ℕ). rule.near field.Element field.ring field.value c.args.rule b 0 in
     let far = λ (b : ℕ). rule.far field.Element field.ring field.value c.args.rule b 0 in
     let len = length c.args.values.now in
-    let sizes = piece_sizes from to e number w c.entry-entry.ensures.first c.entry-entry.ensures.last c.requires.small in
+    let sizes = piece_sizes from to e number w c.layer-log_half.ensures.first c.layer-log_half.ensures.last c.requires.small in
     record {
       cells = λ k cells layers room holds.
-          let within = run_within k to number room in
-          let all : number * blocks + blocks ≤ 2 ^ (k - 1 - e) = let part_of = blocks_within k to e number c.entry-entry.ensures.last room in omega (arith, part_of, ap (λ n. number * n + n) sizes.blocks_is) in
+          let within = chunk_within k to number room in
+          let all : number * blocks + blocks ≤ 2 ^ (k - 1 - e) = let part_of = blocks_within k to e number c.layer-log_half.ensures.last room in omega (arith, part_of, ap (λ n. number * n + n) sizes.blocks_is) in
           let before = cells (cells_of c.args.order from to done) in
           let after = cells (cells_of c.args.order from to (done + 1)) in
           let layer : IsLayer (2 ^ (k - 1 - e)) (half * part) near far before after =
           subst (λ (n : ℕ). IsLayer (2 ^ (k - 1 - e)) n near far before after) (sym sizes.half_cells)
-          (subst (λ (n : ℕ). IsLayer (2 ^ (k - 1 - n)) (2 ^ n * w) near far before after) (sym c.entry-entry.ensures.entry)
+          (subst (λ (n : ℕ). IsLayer (2 ^ (k - 1 - n)) (2 ^ n * w) near far before after) (sym c.layer-log_half.ensures.layer)
           (layer_in_order c.args.order k w from to done near far cells layers (omega (arith, c.loop-done-test.true)) within)) in
           let first : number * blocks * (2 * (half * part)) ≡ number * len =
           (let assoc : number * blocks * (2 * (half * part)) ≡ number * (blocks * (2 * (half * part))) = omega arith in assoc) ∙ ap (λ n. number * n) (sym sizes.cells ∙ sym c.requires.size) in
@@ -82,7 +82,7 @@ loop-done-preserved g c =
           (c.layer_of_columns.ensures.cells (2 ^ (k - 1 - e)) before after layer all)
           (c.loop-done.invariant.cells k cells layers room holds);
       grows = omega (arith, c.layer_of_columns.ensures.grows, c.loop-done.invariant.grows);
-      count = piece_layer_counted rule.cost done rows blocks half (c.args.end - c.args.at) c.args.products.now c.loop-done.products c.layer_of_columns.new.products sizes.rows c.loop-done.invariant.count c.layer_of_columns.ensures.count;
+      cost = piece_layer_counted rule.cost done rows blocks half (c.args.end - c.args.at) c.args.products.now c.loop-done.products c.layer_of_columns.new.products sizes.rows c.loop-done.invariant.cost c.layer_of_columns.ensures.cost;
     }
 
 pub returns-clause-cells : goal.returns-clause-cells
@@ -92,7 +92,7 @@ returns-clause-cells g c k cells layers room holds =
     subst (λ (n : ℕ). TakesColumns field.value field.ZERO (2 ^ c.args.from * c.args.width) (2 ^ (c.args.to - c.args.from)) (c.args.number * length c.args.values.now) c.args.at c.args.end (cells (cells_of c.args.order c.args.from c.args.to n)) c.args.values.now c.loop-done.values) end
     (c.loop-done.invariant.cells k cells layers room holds)
 
-pub returns-clause-count : goal.returns-clause-count
-returns-clause-count g c =
+pub returns-clause-cost : goal.returns-clause-cost
+returns-clause-cost g c =
     let e = c.args.to - c.args.from in
-    at_end (λ n. 2 * c.loop-done.products ≤ 2 * c.args.products.now + g.R.Rule.cost * (n * (2 ^ e * (c.args.end - c.args.at)))) c.loop-done.done e c.loop-done.auto.done-end c.loop-done-test.false c.loop-done.invariant.count
+    at_end (λ n. 2 * c.loop-done.products ≤ 2 * c.args.products.now + g.R.Rule.cost * (n * (2 ^ e * (c.args.end - c.args.at)))) c.loop-done.done e c.loop-done.auto.done-end c.loop-done-test.false c.loop-done.invariant.cost

@@ -15,5 +15,5 @@ invariant-loop-done g l =
           → HoldsColumns field.value field.ZERO (2 ^ l.fn.from * l.fn.width) rows first l.fn.at l.fn.end (cells (cells_of l.fn.order l.fn.from l.fn.to 0)) l.fn.values
           → TakesColumns field.value field.ZERO (2 ^ l.fn.from * l.fn.width) rows first l.fn.at l.fn.end (cells (cells_of l.fn.order l.fn.from l.fn.to l.done)) l.fn.values l.values;
       grows : l.fn.products ≤ l.products;
-      count : 2 * l.products ≤ 2 * l.fn.products + rule.cost * (l.done * (rows * (l.fn.end - l.fn.at)));
+      cost : 2 * l.products ≤ 2 * l.fn.products + rule.cost * (l.done * (rows * (l.fn.end - l.fn.at)));
     }

@@ -58,7 +58,7 @@ loop-b-preserved g c =
           (record { near_half = c.columns_of_block.ensures.near; far_half = c.columns_of_block.ensures.far; kept = c.columns_of_block.ensures.kept })
           (c.loop-b.invariant.cells all before after layer within holds);
       grows = omega (arith, c.columns_of_block.ensures.grows, c.loop-b.invariant.grows);
-      count = count_more rule.cost b (c.args.half * (c.args.end - c.args.at)) _ _ _ c.loop-b.invariant.count c.columns_of_block.ensures.count;
+      cost = count_more rule.cost b (c.args.half * (c.args.end - c.args.at)) _ _ _ c.loop-b.invariant.cost c.columns_of_block.ensures.cost;
     }
 
 pub returns-clause-cells : goal.returns-clause-cells
@@ -74,8 +74,8 @@ pub loop-b-init : goal.loop-b-init
 loop-b-init g c = record {
   cells = λ all before after layer within holds. rows-none g.F.Field.ZERO _ _ c.args.values.now;
   grows = le_refl c.args.products.now;
-  count = count_none g.R.Rule.cost (c.args.half * (c.args.end - c.args.at)) c.args.products.now;
+  cost = count_none g.R.Rule.cost (c.args.half * (c.args.end - c.args.at)) c.args.products.now;
 }
 
-pub returns-clause-count : goal.returns-clause-count
-returns-clause-count g c = at_end (λ n. c.loop-b.products ≤ c.args.products.now + g.R.Rule.cost * (n * (c.args.half * (c.args.end - c.args.at)))) c.loop-b.b c.args.blocks c.loop-b.auto.b-end c.loop-b-test.false c.loop-b.invariant.count
+pub returns-clause-cost : goal.returns-clause-cost
+returns-clause-cost g c = at_end (λ n. c.loop-b.products ≤ c.args.products.now + g.R.Rule.cost * (n * (c.args.half * (c.args.end - c.args.at)))) c.loop-b.b c.args.blocks c.loop-b.auto.b-end c.loop-b-test.false c.loop-b.invariant.cost

@@ -17,5 +17,5 @@ invariant-loop-b g l =
           → HoldsColumns field.value field.ZERO part (l.fn.blocks * (2 * half)) (l.fn.first_block * (2 * (half * part))) l.fn.at l.fn.end before l.fn.values
           → RowsDone field.ZERO (2 * (half * part)) (BlockColumns field.value field.ZERO part half l.fn.at l.fn.end (l.fn.first_block * (2 * (half * part))) after l.fn.values) l.fn.values l.b l.values;
       grows : l.fn.products ≤ l.products;
-      count : l.products ≤ l.fn.products + rule.cost * (l.b * (half * (l.fn.end - l.fn.at)));
+      cost : l.products ≤ l.fn.products + rule.cost * (l.b * (half * (l.fn.end - l.fn.at)));
     }

@@ -12,7 +12,7 @@ loop-done-init g c =
     record {
       cells = λ cells layers holds. subst (λ (e : ℕ). HoldsCells field.value field.ZERO 0 (cells e) c.args.values.now) (stand_first c.args.order c.args.log_rows c.args.log_h c.groups-count.result c.requires.below enough) holds;
       grows = omega arith;
-      count = omega arith;
+      cost = omega arith;
     }
 
 pub loop-done-preserved : goal.loop-done-preserved
@@ -34,13 +34,13 @@ loop-done-preserved g c =
     covered_next order r k n done c.requires.below c.loop-done-test.true ∙ sym (ap₂ (λ a b. covered order r k n done + (b - a)) from_is to_is) in
     record {
       cells = λ cells layers holds.
-          subst (λ (e : ℕ). HoldsCells field.value field.ZERO 0 (cells e) c.group_on_runs.new.values) last
-          (c.group_on_runs.ensures.cells cells layers
+          subst (λ (e : ℕ). HoldsCells field.value field.ZERO 0 (cells e) c.group_on_chunks.new.values) last
+          (c.group_on_chunks.ensures.cells cells layers
           (subst (λ (e : ℕ). HoldsCells field.value field.ZERO 0 (cells e) c.loop-done.values) first (c.loop-done.invariant.cells cells layers holds)));
-      grows = omega (arith, c.loop-done.invariant.grows, c.group_on_runs.ensures.grows);
-      count = layers_more g.R.Rule.cost (covered order r k n done) (to - from) (covered order r k n (done + 1)) (length c.args.values.now) c.args.products.now c.loop-done.products c.group_on_runs.new.products more
-          c.loop-done.invariant.count
-          (subst (λ (m : ℕ). 2 * c.group_on_runs.new.products ≤ 2 * c.loop-done.products + g.R.Rule.cost * ((to - from) * m)) c.loop-done.auto.values c.group_on_runs.ensures.count);
+      grows = omega (arith, c.loop-done.invariant.grows, c.group_on_chunks.ensures.grows);
+      cost = layers_more g.R.Rule.cost (covered order r k n done) (to - from) (covered order r k n (done + 1)) (length c.args.values.now) c.args.products.now c.loop-done.products c.group_on_chunks.new.products more
+          c.loop-done.invariant.cost
+          (subst (λ (m : ℕ). 2 * c.group_on_chunks.new.products ≤ 2 * c.loop-done.products + g.R.Rule.cost * ((to - from) * m)) c.loop-done.auto.values c.group_on_chunks.ensures.cost);
     }
 
 pub returns-clause-cells : goal.returns-clause-cells
@@ -53,11 +53,11 @@ returns-clause-cells g c cells layers holds =
     (ap (λ m. stand c.args.order c.args.log_rows c.args.log_h n m) end ∙ stand_last c.args.order c.args.log_rows c.args.log_h n c.requires.below enough)
     (c.loop-done.invariant.cells cells layers holds)
 
-pub returns-clause-count : goal.returns-clause-count
-returns-clause-count g c =
+pub returns-clause-cost : goal.returns-clause-cost
+returns-clause-cost g c =
     let n = c.groups-count.result in
     let enough : c.args.log_h - c.args.log_rows ≤ 3 * n = omega (arith, c.groups-count.ensures) in
     let end : c.loop-done.done ≡ n = omega arith in
     subst (λ (m : ℕ). 2 * c.loop-done.products ≤ 2 * c.args.products.now + g.R.Rule.cost * (m * length c.args.values.now))
     (ap (λ m. covered c.args.order c.args.log_rows c.args.log_h n m) end ∙ covered_last c.args.order c.args.log_rows c.args.log_h n c.requires.below enough)
-    c.loop-done.invariant.count
+    c.loop-done.invariant.cost

@@ -15,5 +15,5 @@ invariant-loop-done g l =
           → HoldsCells field.value field.ZERO 0 (cells (cells_of l.fn.order l.fn.log_rows l.fn.log_h 0)) l.fn.values
           → HoldsCells field.value field.ZERO 0 (cells (stand l.fn.order l.fn.log_rows l.fn.log_h l.count l.done)) l.values;
       grows : l.fn.products ≤ l.products;
-      count : 2 * l.products ≤ 2 * l.fn.products + rule.cost * (covered l.fn.order l.fn.log_rows l.fn.log_h l.count l.done * length l.fn.values);
+      cost : 2 * l.products ≤ 2 * l.fn.products + rule.cost * (covered l.fn.order l.fn.log_rows l.fn.log_h l.count l.done * length l.fn.values);
     }

@@ -38,9 +38,9 @@ returns-clause-values g c bits root roots within twiddles r j below inside =
 pub returns-clause-cost : goal.returns-clause-cost
 returns-clause-cost g c =
     let len = length c.args.values.now in
-    let first : 2 * c.layers_in_groups.new.products ≤ 2 * c.args.products.now + (c.args.log_h - c.args.log_rows) * len = omega (arith, c.layers_in_groups.ensures.count) in
+    let first : 2 * c.layers_in_groups.new.products ≤ 2 * c.args.products.now + (c.args.log_h - c.args.log_rows) * len = omega (arith, c.layers_in_groups.ensures.cost) in
     let second : 2 * c.layers_of_tiles.new.products ≤ 2 * c.layers_in_groups.new.products + c.args.log_rows * len =
     let each = ap (λ n. c.args.log_rows * n) c.layers_in_groups.auto.values in
-    omega (arith, c.layers_of_tiles.ensures.count, each) in
+    omega (arith, c.layers_of_tiles.ensures.cost, each) in
     counted_twice c.args.log_h c.args.width len c.args.products.now c.layers_of_tiles.new.products c.requires.size
     (layers_joined c.args.log_rows c.args.log_h len c.args.products.now c.layers_in_groups.new.products c.layers_of_tiles.new.products c.requires.below first second)

@@ -1,5 +1,5 @@
 use Rattle.std.proofs.Common.{◌≡◌, ℕ, ◌+◌, ◌*◌, List, get_or, refl, sym, ap, ap₂, ◌∙◌, arith}
-use Rattle.p3_networks.proofs.Layers.Runs.{run_taken}
+use Rattle.p3_networks.proofs.Layers.Chunks.{chunk_taken}
 use Rattle.p3_networks.proofs.radix_2_small_batch.networks.layer_of_pairs.Goals as goal
 
 pub meet_pairs-requires-clause-there : goal.meet_pairs-requires-clause-there
@@ -16,7 +16,7 @@ returns-clause-cells g c k before after layers room holds =
     let near = λ (b t : ℕ). g.R.Rule.near field.Element field.ring value c.args.rule b t in
     let far = λ (b t : ℕ). g.R.Rule.far field.Element field.ring value c.args.rule b t in
     let cell = λ (xs : List g.row.F.Denot) (n : ℕ). value (get_or xs n zero) in
-    run_taken value zero near far
+    chunk_taken value zero near far
     k 1 0 6 number 32 1 (λ i. 0) before after x y (omega arith) refl refl c.requires.size c.meet_pairs.auto.values room
     (g.met.R.NetworkRule.near_law c.args.rule) (g.met.R.NetworkRule.far_law c.args.rule) layers
     (λ b i inside one.
@@ -31,5 +31,5 @@ returns-clause-cells g c k before after layers room holds =
     ap (cell y) (sym second) ∙ c.meet_pairs.ensures.far b inside ∙ ap₂ (far (number * 32 + b) 0) (ap (cell x) (sym first)) (ap (cell x) second))
     holds
 
-pub returns-clause-count : goal.returns-clause-count
-returns-clause-count g c = omega (arith, c.meet_pairs.ensures.count, ap (λ n. g.R.Rule.cost * n) c.requires.size)
+pub returns-clause-cost : goal.returns-clause-cost
+returns-clause-cost g c = omega (arith, c.meet_pairs.ensures.cost, ap (λ n. g.R.Rule.cost * n) c.requires.size)

@@ -3,7 +3,7 @@ use Rattle.p3_networks.specs.Groups.{AreLayersInOrder, cells_of}
 use Rattle.p3_networks.specs.Layers.{HoldsCells}
 use Rattle.p3_networks.specs.declared.radix_2_small_batch.groups.Order.{Order}
 use Rattle.p3_networks.specs.declared.radix_2_small_batch.groups.Order.TheVariants.{LargestFirst, SmallestFirst}
-use Rattle.p3_networks.proofs.Layers.Runs.{held_as_long}
+use Rattle.p3_networks.proofs.Layers.Chunks.{held_as_long}
 use Rattle.p3_networks.proofs.radix_2_small_batch.networks.layers_of_tile.Goals as goal
 
 pub returns-in-LargestFirst-clause-cells : goal.returns-in-LargestFirst-clause-cells
@@ -24,12 +24,12 @@ returns-in-LargestFirst-clause-cells g c k cells layers room holds =
     let last : small order = subst small (sym is) (let e : 6 - 6 ≡ top - top = omega arith in e) in
     let begin = λ (o : Order). cells_of o 0 top 0 ≡ cells_of o 6 top 0 in
     let first : begin order = subst begin (sym is) refl in
-    let len = c.layers_of_run.auto.values in
+    let len = c.layers_of_chunk.auto.values in
     let held = λ (e : ℕ). HoldsCells value zero (number * length c.args.values.now) (cells e) in
-    let half = c.layers_of_run.ensures.cells k cells column room (subst (λ (e : ℕ). held e c.args.values.now) first holds) in
-    let done = c.layers_of_short_runs.ensures.cells k cells column room
-    (held_as_long value zero (cells (cells_of order 0 6 0)) number c.layers_of_run.new.values (sym len) (subst (λ (e : ℕ). held e c.layers_of_run.new.values) middle half)) in
-    subst (λ (e : ℕ). held e c.layers_of_short_runs.new.values) last (held_as_long value zero (cells (cells_of order 0 6 6)) number c.layers_of_short_runs.new.values len done)
+    let half = c.layers_of_chunk.ensures.cells k cells column room (subst (λ (e : ℕ). held e c.args.values.now) first holds) in
+    let done = c.layers_of_short_chunks.ensures.cells k cells column room
+    (held_as_long value zero (cells (cells_of order 0 6 0)) number c.layers_of_chunk.new.values (sym len) (subst (λ (e : ℕ). held e c.layers_of_chunk.new.values) middle half)) in
+    subst (λ (e : ℕ). held e c.layers_of_short_chunks.new.values) last (held_as_long value zero (cells (cells_of order 0 6 6)) number c.layers_of_short_chunks.new.values len done)
 
 pub returns-in-SmallestFirst-clause-cells : goal.returns-in-SmallestFirst-clause-cells
 returns-in-SmallestFirst-clause-cells g c k cells layers room holds =
@@ -49,8 +49,8 @@ returns-in-SmallestFirst-clause-cells g c k cells layers room holds =
     let last : large order = subst large (sym is) (let e : 6 + (top - 6) ≡ 0 + top = omega (arith, c.if-top-ge6.true) in e) in
     let begin = λ (o : Order). cells_of o 0 top 0 ≡ cells_of o 0 6 0 in
     let first : begin order = subst begin (sym is) refl in
-    let short = c.layers_of_short_runs-in-SmallestFirst in
-    let whole = c.layers_of_run-in-SmallestFirst in
+    let short = c.layers_of_short_chunks-in-SmallestFirst in
+    let whole = c.layers_of_chunk-in-SmallestFirst in
     let held = λ (e : ℕ). HoldsCells value zero (number * length c.args.values.now) (cells e) in
     let half = short.ensures.cells k cells column room (subst (λ (e : ℕ). held e c.args.values.now) first holds) in
     let done = whole.ensures.cells k cells column room
@@ -62,5 +62,5 @@ returns-else-width-eq1-clause-cells g c k cells layers room holds =
     let field = g.F.Field in
     let top = c.args.top in
     let all : top - 0 ≡ top = omega arith in
-    subst (λ (n : ℕ). HoldsCells field.value field.ZERO (c.args.number * length c.args.values.now) (cells (cells_of g.R.NetworkRule.order 0 top n)) c.layers_of_run-else-width-eq1.new.values) all
-    (c.layers_of_run-else-width-eq1.ensures.cells k cells layers room holds)
+    subst (λ (n : ℕ). HoldsCells field.value field.ZERO (c.args.number * length c.args.values.now) (cells (cells_of g.R.NetworkRule.order 0 top n)) c.layers_of_chunk-else-width-eq1.new.values) all
+    (c.layers_of_chunk-else-width-eq1.ensures.cells k cells layers room holds)

@@ -5,7 +5,7 @@ use Rattle.std.proofs.Math.Nat.{pow-le-pow_right, mul-le-mul, le_refl}
 use Rattle.p3_networks.specs.Groups.{cells_of}
 use Rattle.p3_networks.specs.Layers.{HoldsCells}
 use Rattle.p3_networks.proofs.Layers.Halves.{part_length}
-use Rattle.p3_networks.proofs.Layers.Runs.{costly_layer_more}
+use Rattle.p3_networks.proofs.Layers.Chunks.{costly_layer_more}
 use Rattle.p3_networks.proofs.Layers.Tiles.{tile_held, tile_room, tile_rows, tile_sizes, tiles-more, tiles_all}
 use Rattle.p3_matrix.proofs.Rows.Overwritten.{rows-none}
 use Rattle.p3_networks.proofs.radix_2_small_batch.networks.layers_of_tiles.Goals as goal
@@ -84,8 +84,8 @@ loop-tile-preserved g c =
           ∙ ap (cells first) (ap (λ n. tile * n + i) (is ∙ sym part_len)))))
           so_far;
       grows = omega (arith, c.loop-tile.invariant.grows, c.layers_of_tile.ensures.grows);
-      count = costly_layer_more each tile (r * size) c.args.products.now c.loop-tile.products c.layers_of_tile.new.products c.loop-tile.invariant.count
-          (subst (λ (n : ℕ). 2 * c.layers_of_tile.new.products ≤ 2 * c.loop-tile.products + each * (r * n)) part_len c.layers_of_tile.ensures.count);
+      cost = costly_layer_more each tile (r * size) c.args.products.now c.loop-tile.products c.layers_of_tile.new.products c.loop-tile.invariant.cost
+          (subst (λ (n : ℕ). 2 * c.layers_of_tile.new.products ≤ 2 * c.loop-tile.products + each * (r * n)) part_len c.layers_of_tile.ensures.cost);
     }
 
 pub returns-clause-cells : goal.returns-clause-cells
@@ -99,19 +99,19 @@ returns-clause-cells g c cells layers holds =
     tiles_all field.value field.ZERO size (cells (cells_of g.R.NetworkRule.order 0 c.args.log_rows c.args.log_rows)) c.args.values.now c.loop-tile.values c.loop-tile.tile some (sizes.whole ∙ ap (λ n. n * size) (sym end))
     (c.loop-tile.invariant.cells cells layers holds)
 
-pub returns-clause-count : goal.returns-clause-count
-returns-clause-count g c =
+pub returns-clause-cost : goal.returns-clause-cost
+returns-clause-cost g c =
     let r = c.args.log_rows in
     let sizes = tile_sizes c.args.log_h r c.args.width (length c.args.values.now) c.requires.small c.requires.below c.requires.size in
     let tiles = 1 * 2 ^ (c.args.log_h - r) % 18446744073709551616 in
     let size = length c.args.values.now / tiles in
     let end : c.loop-tile.tile ≡ tiles = omega arith in
     let all : c.loop-tile.tile * (r * size) ≡ r * length c.args.values.now = ap (λ n. n * (r * size)) end ∙ (let swap : tiles * (r * size) ≡ r * (tiles * size) = omega arith in swap) ∙ ap (λ n. r * n) (sym sizes.whole) in
-    subst (λ (n : ℕ). 2 * c.loop-tile.products ≤ 2 * c.args.products.now + g.R.Rule.cost * n) all c.loop-tile.invariant.count
+    subst (λ (n : ℕ). 2 * c.loop-tile.products ≤ 2 * c.args.products.now + g.R.Rule.cost * n) all c.loop-tile.invariant.cost
 
 pub loop-tile-init : goal.loop-tile-init
 loop-tile-init g c = record {
   cells = λ cells layers holds. rows-none g.F.Field.ZERO _ _ c.args.values.now;
   grows = le_refl c.args.products.now;
-  count = omega arith;
+  cost = omega arith;
 }

@@ -17,5 +17,5 @@ invariant-loop-tile g l =
       cells : (cells : ℕ → ℕ → field.Element) → AreLayersInOrder order l.fn.log_h l.fn.width near far cells → HoldsCells field.value field.ZERO 0 (cells (cells_of order 0 r 0)) l.fn.values
           → RowsDone field.ZERO l.size (InTiles field.value field.ZERO l.size (cells (cells_of order 0 r r))) l.fn.values l.tile l.values;
       grows : l.fn.products ≤ l.products;
-      count : 2 * l.products ≤ 2 * l.fn.products + rule.cost * (l.tile * (r * l.size));
+      cost : 2 * l.products ≤ 2 * l.fn.products + rule.cost * (l.tile * (r * l.size));
     }

@@ -8,7 +8,7 @@ use Rattle.p3_matrix.proofs.BitReversal.{rev_of_zero, rev-rev}
 use Rattle.p3_networks.specs.Layers.{HoldsCells}
 use Rattle.p3_networks.proofs.Layers.Blocks.{row_below}
 use Rattle.p3_networks.proofs.Layers.Counts.{counted_twice, layers_joined, two_halves}
-use Rattle.p3_networks.proofs.Networks.Cells.{turned_cells, turned_cells_end, turned_cells_start, turned_layers}
+use Rattle.p3_networks.proofs.Networks.Cells.{twisted_cells, twisted_cells_end, twisted_cells_start, twisted_layers}
 use Rattle.p3_networks.proofs.radix_2_small_batch.networks.scaled_dif_network.Goals as goal
 
 pub scaled_dif_tiles-requires-clause-first : goal.scaled_dif_tiles-requires-clause-first
@@ -43,10 +43,10 @@ returns-clause-values g c r j below inside =
     let scaled = λ (x : g.row.F.Denot). field.ring.mul (field.value x) (field.value c.args.scale) in
     let column = λ (u q : ℕ). scaled (get_or c.args.values.now (rev k q * w + u) field.ZERO) in
     let entry = λ (b : ℕ). field.value (get_or c.args.twiddles.now b field.ZERO) in
-    let cells = turned_cells field.ring roots k w column entry in
-    let layers = turned_layers field.ring roots k w column entry c.requires.wide c.requires.rooted (λ l b p q. c.requires.twiddles.entries l b p q) in
+    let cells = twisted_cells field.ring roots k w column entry in
+    let layers = twisted_layers field.ring roots k w column entry c.requires.wide c.requires.within (λ l b p q. c.requires.twiddles.entries l b p q) in
     let start : HoldsCells scaled field.ZERO 0 (cells 0) c.args.values.now = λ i p.
-    turned_cells_start field.ring roots k w column entry c.requires.wide (λ n. scaled (get_or c.args.values.now n field.ZERO))
+    twisted_cells_start field.ring roots k w column entry c.requires.wide (λ n. scaled (get_or c.args.values.now n field.ZERO))
     (λ q u small. ap (λ n. scaled (get_or c.args.values.now (n * w + u) field.ZERO)) (rev-rev k q small)) i (omega (arith, p, c.requires.size)) in
     let middle : HoldsCells field.value field.ZERO 0 (cells c.args.log_rows) c.scaled_dif_tiles.new.values = c.scaled_dif_tiles.ensures.cells cells layers start in
     let none : c.args.log_rows ≡ c.args.log_rows + 0 = omega arith in
@@ -54,7 +54,7 @@ returns-clause-values g c r j below inside =
     let done = subst (λ (e : ℕ). HoldsCells field.value field.ZERO 0 (cells e) c.layers_in_groups.new.values) all
     (c.layers_in_groups.ensures.cells cells layers (subst (λ (e : ℕ). HoldsCells field.value field.ZERO 0 (cells e) c.scaled_dif_tiles.new.values) none middle)) in
     done (r * w + j) (omega (arith, row_below r j w (2 ^ k) below inside, c.requires.size, c.layers_in_groups.auto.values, c.scaled_dif_tiles.auto.values))
-    ∙ turned_cells_end field.ring roots k w column entry r j below inside
+    ∙ twisted_cells_end field.ring roots k w column entry r j below inside
 
 pub returns-clause-cost : goal.returns-clause-cost
 returns-clause-cost g c =
@@ -63,9 +63,9 @@ returns-clause-cost g c =
     let first : 2 * c.scaled_dif_tiles.new.products ≤ 2 * (c.args.products.now + len) + (c.args.log_h - (c.args.log_h - r)) * len =
     let back : c.args.log_h - (c.args.log_h - r) ≡ r = omega (arith, c.requires.below) in
     let spread : (r + 2) * len ≡ r * len + 2 * len = omega arith in
-    omega (arith, c.scaled_dif_tiles.ensures.count, spread, ap (λ n. n * len) back) in
+    omega (arith, c.scaled_dif_tiles.ensures.cost, spread, ap (λ n. n * len) back) in
     let each : (c.args.log_h - r) * length c.scaled_dif_tiles.new.values ≡ (c.args.log_h - r) * len = ap (λ n. (c.args.log_h - r) * n) c.scaled_dif_tiles.auto.values in
-    let second : 2 * c.layers_in_groups.new.products ≤ 2 * c.scaled_dif_tiles.new.products + (c.args.log_h - r) * len = omega (arith, c.layers_in_groups.ensures.count, each) in
+    let second : 2 * c.layers_in_groups.new.products ≤ 2 * c.scaled_dif_tiles.new.products + (c.args.log_h - r) * len = omega (arith, c.layers_in_groups.ensures.cost, each) in
     let all = counted_twice c.args.log_h c.args.width len (c.args.products.now + len) c.layers_in_groups.new.products c.requires.size
     (layers_joined (c.args.log_h - r) c.args.log_h len (c.args.products.now + len) c.scaled_dif_tiles.new.products c.layers_in_groups.new.products (omega arith) first second) in
     omega (arith, all, c.requires.size)

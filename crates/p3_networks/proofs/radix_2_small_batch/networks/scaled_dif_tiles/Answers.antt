@@ -4,7 +4,7 @@ use Rattle.std.proofs.lemmas.Nat.{pow_pos}
 use Rattle.std.proofs.Math.Nat.{pow-le-pow_right, mul-le-mul, le_refl}
 use Rattle.p3_networks.specs.Layers.{HoldsCells}
 use Rattle.p3_networks.proofs.Layers.Halves.{part_length}
-use Rattle.p3_networks.proofs.Layers.Runs.{layer_more}
+use Rattle.p3_networks.proofs.Layers.Chunks.{layer_more}
 use Rattle.p3_networks.proofs.Layers.Tiles.{tile_held, tile_room, tile_rows, tile_sizes, tiles-more, tiles_all}
 use Rattle.p3_matrix.proofs.Rows.Overwritten.{value_at, rows-none}
 use Rattle.p3_networks.proofs.Layers.Counts.{turns_none}
@@ -76,7 +76,7 @@ loop-tile-preserved g c =
     let cost : 2 * c.layers_of_tile.new.products ≤ 2 * c.loop-tile.products + 1 * ((r + 2) * size) =
     let all : r * length scaled ≡ r * size = ap (λ n. r * n) scaled_len in
     let more : 1 * ((r + 2) * size) ≡ r * size + 2 * size = omega arith in
-    omega (arith, c.layers_of_tile.ensures.count, all, more, c.scale_slice_in_place.ensures.count, part_len) in
+    omega (arith, c.layers_of_tile.ensures.cost, all, more, c.scale_slice_in_place.ensures.count, part_len) in
     record {
       cells = λ cells layers holds.
           let so_far = c.loop-tile.invariant.cells cells layers holds in
@@ -90,7 +90,7 @@ loop-tile-preserved g c =
           ∙ ap (cells 0) (ap (λ n. tile * n + i) (is ∙ sym scaled_len))))))
           so_far;
       grows = omega (arith, c.loop-tile.invariant.grows, c.layers_of_tile.ensures.grows, c.scale_slice_in_place.ensures.count);
-      count = layer_more tile ((r + 2) * size) c.args.products.now c.loop-tile.products c.layers_of_tile.new.products c.loop-tile.invariant.count cost;
+      cost = layer_more tile ((r + 2) * size) c.args.products.now c.loop-tile.products c.layers_of_tile.new.products c.loop-tile.invariant.cost cost;
     }
 
 pub returns-clause-cells : goal.returns-clause-cells
@@ -103,18 +103,18 @@ returns-clause-cells g c cells layers holds =
     let some : 0 < size = let rows : 1 * 1 ≤ 2 ^ c.args.log_rows * c.args.width = mul-le-mul (pow_pos c.args.log_rows) c.requires.wide in omega (arith, rows, sizes.size_is) in
     tiles_all field.value field.ZERO size (cells c.args.log_rows) c.args.values.now c.loop-tile.values c.loop-tile.tile some (sizes.whole ∙ ap (λ n. n * size) (sym end)) (c.loop-tile.invariant.cells cells layers holds)
 
-pub returns-clause-count : goal.returns-clause-count
-returns-clause-count g c =
+pub returns-clause-cost : goal.returns-clause-cost
+returns-clause-cost g c =
     let sizes = tile_sizes c.args.log_h c.args.log_rows c.args.width (length c.args.values.now) c.requires.small c.requires.below c.requires.size in
     let tiles = 1 * 2 ^ (c.args.log_h - c.args.log_rows) % 18446744073709551616 in
     let size = length c.args.values.now / tiles in
     let end : c.loop-tile.tile ≡ tiles = omega arith in
     let all : c.loop-tile.tile * ((c.args.log_rows + 2) * size) ≡ (c.args.log_rows + 2) * length c.args.values.now = ap (λ n. n * ((c.args.log_rows + 2) * size)) end ∙ (let swap : tiles * ((c.args.log_rows + 2) * size) ≡ (c.args.log_rows + 2) * (tiles * size) = omega arith in swap) ∙ ap (λ n. (c.args.log_rows + 2) * n) (sym sizes.whole) in
-    subst (λ (n : ℕ). 2 * c.loop-tile.products ≤ 2 * c.args.products.now + n) all c.loop-tile.invariant.count
+    subst (λ (n : ℕ). 2 * c.loop-tile.products ≤ 2 * c.args.products.now + n) all c.loop-tile.invariant.cost
 
 pub loop-tile-init : goal.loop-tile-init
 loop-tile-init g c = record {
   cells = λ cells layers holds. rows-none g.F.Field.ZERO _ _ c.args.values.now;
   grows = le_refl c.args.products.now;
-  count = turns_none _ (2 * c.args.products.now);
+  cost = turns_none _ (2 * c.args.products.now);
 }

@@ -14,5 +14,5 @@ invariant-loop-tile g l =
           → HoldsCells (λ x. field.ring.mul (field.value x) (field.value l.fn.scale)) field.ZERO 0 (cells 0) l.fn.values
           → RowsDone field.ZERO l.size (InTiles field.value field.ZERO l.size (cells l.fn.log_rows)) l.fn.values l.tile l.values;
       grows : l.fn.products ≤ l.products;
-      count : 2 * l.products ≤ 2 * l.fn.products + l.tile * ((l.fn.log_rows + 2) * l.size);
+      cost : 2 * l.products ≤ 2 * l.fn.products + l.tile * ((l.fn.log_rows + 2) * l.size);
     }

@@ -5,7 +5,7 @@ use Rattle.std.proofs.Math.Nat.{pow-le-pow_right, mul-le-mul, mul-le-mul_right, 
 use Rattle.p3_field.specs.Ring.{power}
 use Rattle.p3_networks.specs.Layers.{HoldsCells}
 use Rattle.p3_networks.proofs.Layers.Halves.{part_length}
-use Rattle.p3_networks.proofs.Layers.Runs.{layer_more}
+use Rattle.p3_networks.proofs.Layers.Chunks.{layer_more}
 use Rattle.p3_networks.proofs.Layers.Tiles.{spread_held, spread_room, spread_sizes, tile_room, tile_rows, tile_sizes, tiles-more, tiles_all}
 use Rattle.p3_networks.proofs.Layers.Counts.{turns_none}
 use Rattle.p3_matrix.proofs.Rows.Overwritten.{rows-none}
@@ -39,16 +39,16 @@ slice_bounds-out-end g c =
     let room = tile_room _ _ _ _ _ _ c.loop-tile.tile sizes c.loop-tile-test.true in
     omega (arith, room, c.loop-tile.auto.values)
 
-pub layers_of_run-requires-clause-small : goal.layers_of_run-requires-clause-small
-layers_of_run-requires-clause-small g c =
+pub layers_of_chunk-requires-clause-small : goal.layers_of_chunk-requires-clause-small
+layers_of_chunk-requires-clause-small g c =
     let sizes = tile_sizes c.args.log_h c.args.log_rows c.args.width (length c.args.values.now) c.requires.small c.requires.below c.requires.size in
     let rows = tile_rows _ _ _ _ _ _ c.loop-tile.tile sizes c.loop-tile-test.true in
     let few : c.args.log_h ≤ 63 = omega (arith, c.requires.small) in
     let most : 2 ^ c.args.log_h ≤ 2 ^ 63 = pow-le-pow_right {n = 2} (lit≤ tt) few in
     omega (arith, rows, most)
 
-pub layers_of_run-requires-clause-size : goal.layers_of_run-requires-clause-size
-layers_of_run-requires-clause-size g c =
+pub layers_of_chunk-requires-clause-size : goal.layers_of_chunk-requires-clause-size
+layers_of_chunk-requires-clause-size g c =
     let sizes = tile_sizes c.args.log_h c.args.log_rows c.args.width (length c.args.values.now) c.requires.small c.requires.below c.requires.size in
     let room = tile_room _ _ _ _ _ _ c.loop-tile.tile sizes c.loop-tile-test.true in
     c.spread_rows.auto.values ∙ part_length c.loop-tile.values _ _ (omega (arith, room, c.loop-tile.auto.values)) ∙ sizes.size_is
@@ -90,8 +90,8 @@ spread_rows-requires-clause-enough g c =
     let room = mul-le-mul_right (1 * 2 ^ c.args.added_bits % 18446744073709551616) (spread_room _ _ _ _ _ _ c.loop-tile.tile spread c.loop-tile-test.true) in
     omega (arith, room, spread.all, c.requires.enough)
 
-pub layers_of_run-requires-clause-there : goal.layers_of_run-requires-clause-there
-layers_of_run-requires-clause-there g c b t inside =
+pub layers_of_chunk-requires-clause-there : goal.layers_of_chunk-requires-clause-there
+layers_of_chunk-requires-clause-there g c b t inside =
     let sizes = tile_sizes c.args.log_h c.args.log_rows c.args.width (length c.args.values.now) c.requires.small c.requires.below c.requires.size in
     let rows = tile_rows _ _ _ _ _ _ c.loop-tile.tile sizes c.loop-tile-test.true in
     (omega (arith, rows, inside, c.requires.enough), c.requires.first)
@@ -121,25 +121,26 @@ loop-tile-preserved g c =
     (field.ring.mul (field.value (get_or c.args.weights.now q field.ZERO)) (power field.ring (field.value (get_or c.args.twiddles.now (q * (n / 2)) field.ZERO)) t)) in
     let begin : a ≡ a + 0 = omega arith in
     let stop : a + (r - a) ≡ r = omega (arith, c.requires.added) in
-    let cost : 2 * c.layers_of_run.new.products ≤ 2 * c.loop-tile.products + 1 * ((r - a + 2) * size) =
+    let cost : 2 * c.layers_of_chunk.new.products ≤ 2 * c.loop-tile.products + 1 * ((r - a + 2) * size) =
     let all : (r - a) * length out ≡ (r - a) * size = ap (λ n. (r - a) * n) out_len in
     let more : 1 * ((r - a + 2) * size) ≡ (r - a) * size + 2 * size = omega arith in
-    omega (arith, c.layers_of_run.ensures.count, all, more, c.spread_rows.ensures.count, part_len) in
+    omega (arith, c.layers_of_chunk.ensures.cost, all, more, c.spread_rows.ensures.count, part_len) in
     record {
       cells = λ cells layers are.
           let so_far = c.loop-tile.invariant.cells cells layers are in
-          tiles-more field.value field.ZERO size (cells r) c.args.values.now now c.layers_of_run.new.values tile m is room (c.layers_of_run.auto.values ∙ out_len)
-          (subst (λ (n : ℕ). HoldsCells field.value field.ZERO (tile * n) (cells r) c.layers_of_run.new.values) out_len
-          (subst (λ (e : ℕ). HoldsCells field.value field.ZERO (tile * length out) (cells e) c.layers_of_run.new.values) stop
-          (c.layers_of_run.ensures.cells c.args.log_h cells layers (tile_rows _ _ _ _ _ _ tile sizes c.loop-tile-test.true)
+          tiles-more field.value field.ZERO size (cells r) c.args.values.now now c.layers_of_chunk.new.values tile m is room (c.layers_of_chunk.auto.values ∙ out_len)
+          (subst (λ (n : ℕ). HoldsCells field.value field.ZERO (tile * n) (cells r) c.layers_of_chunk.new.values)
+          out_len
+          (subst (λ (e : ℕ). HoldsCells field.value field.ZERO (tile * length out) (cells e) c.layers_of_chunk.new.values) stop
+          (c.layers_of_chunk.ensures.cells c.args.log_h cells layers (tile_rows _ _ _ _ _ _ tile sizes c.loop-tile-test.true)
           (subst (λ (e : ℕ). HoldsCells field.value field.ZERO (tile * length out) (cells e) out) begin
           (spread_held field.value field.ZERO (cells a) (made copies) tile count copies (2 ^ (c.args.log_h - a)) w out c.requires.wide (out_len ∙ sizes.size_is ∙ cells_of_tile _ _ _ w spread.tile)
           (spread_room _ _ _ _ _ _ tile spread c.loop-tile-test.true) spread.some_copies
           (subst (λ (n : ℕ). (q t j : ℕ) → q < 2 ^ (c.args.log_h - a) → t < n → j < w → cells a ((q * n + t) * w + j) ≡ made n q t j) (sym spread.copies_is) are)
           c.spread_rows.ensures.values)))))
           so_far;
-      grows = omega (arith, c.loop-tile.invariant.grows, c.layers_of_run.ensures.grows, c.spread_rows.ensures.count);
-      count = layer_more tile ((r - a + 2) * size) c.args.products.now c.loop-tile.products c.layers_of_run.new.products c.loop-tile.invariant.count cost;
+      grows = omega (arith, c.loop-tile.invariant.grows, c.layers_of_chunk.ensures.grows, c.spread_rows.ensures.count);
+      cost = layer_more tile ((r - a + 2) * size) c.args.products.now c.loop-tile.products c.layers_of_chunk.new.products c.loop-tile.invariant.cost cost;
     }
 
 pub returns-clause-cells : goal.returns-clause-cells
@@ -152,18 +153,18 @@ returns-clause-cells g c cells layers are =
     let some : 0 < size = let rows : 1 * 1 ≤ 2 ^ c.args.log_rows * c.args.width = mul-le-mul (pow_pos c.args.log_rows) c.requires.wide in omega (arith, rows, sizes.size_is) in
     tiles_all field.value field.ZERO size (cells c.args.log_rows) c.args.values.now c.loop-tile.values c.loop-tile.tile some (sizes.whole ∙ ap (λ n. n * size) (sym end)) (c.loop-tile.invariant.cells cells layers are)
 
-pub returns-clause-count : goal.returns-clause-count
-returns-clause-count g c =
+pub returns-clause-cost : goal.returns-clause-cost
+returns-clause-cost g c =
     let sizes = tile_sizes c.args.log_h c.args.log_rows c.args.width (length c.args.values.now) c.requires.small c.requires.below c.requires.size in
     let tiles = 1 * 2 ^ (c.args.log_h - c.args.log_rows) % 18446744073709551616 in
     let size = length c.args.values.now / tiles in
     let end : c.loop-tile.tile ≡ tiles = omega arith in
     let all : c.loop-tile.tile * ((c.args.log_rows - c.args.added_bits + 2) * size) ≡ (c.args.log_rows - c.args.added_bits + 2) * length c.args.values.now = ap (λ n. n * ((c.args.log_rows - c.args.added_bits + 2) * size)) end ∙ (let swap : tiles * ((c.args.log_rows - c.args.added_bits + 2) * size) ≡ (c.args.log_rows - c.args.added_bits + 2) * (tiles * size) = omega arith in swap) ∙ ap (λ n. (c.args.log_rows - c.args.added_bits + 2) * n) (sym sizes.whole) in
-    subst (λ (n : ℕ). 2 * c.loop-tile.products ≤ 2 * c.args.products.now + n) all c.loop-tile.invariant.count
+    subst (λ (n : ℕ). 2 * c.loop-tile.products ≤ 2 * c.args.products.now + n) all c.loop-tile.invariant.cost
 
 pub loop-tile-init : goal.loop-tile-init
 loop-tile-init g c = record {
   cells = λ cells layers holds. rows-none g.F.Field.ZERO _ _ c.args.values.now;
   grows = le_refl c.args.products.now;
-  count = turns_none _ (2 * c.args.products.now);
+  cost = turns_none _ (2 * c.args.products.now);
 }

@@ -17,5 +17,5 @@ invariant-loop-tile g l =
           (field.ring.mul (field.value (get_or l.fn.weights q field.ZERO)) (power field.ring (twiddle (q * (2 ^ l.fn.added_bits / 2))) t)))
           → RowsDone field.ZERO l.size (InTiles field.value field.ZERO l.size (cells l.fn.log_rows)) l.fn.values l.tile l.values;
       grows : l.fn.products ≤ l.products;
-      count : 2 * l.products ≤ 2 * l.fn.products + l.tile * ((l.fn.log_rows - l.fn.added_bits + 2) * l.size);
+      cost : 2 * l.products ≤ 2 * l.fn.products + l.tile * ((l.fn.log_rows - l.fn.added_bits + 2) * l.size);
     }

@@ -12,7 +12,7 @@ use Rattle.p3_networks.proofs.Layers.Blocks.{row_below}
 use Rattle.p3_networks.proofs.Layers.Counts.{count_more}
 use Rattle.p3_networks.proofs.Layers.Halves.{in_first, part_length}
 use Rattle.p3_networks.proofs.Layers.Sizes.{second_shift, some_rows}
-use Rattle.p3_networks.proofs.Networks.Runs.{slot_point}
+use Rattle.p3_networks.proofs.Networks.Chunks.{slot_point}
 use Rattle.p3_networks.proofs.Networks.Slots.{rows_of_slots, slot_room, slot_size, slots_whole, values_of_shifted}
 use Rattle.p3_matrix.proofs.Polynomials.ByIndex.{poly_same}
 use Rattle.p3_matrix.proofs.Polynomials.Cosets.{point-mul}
@@ -58,12 +58,12 @@ slice_bounds-slot-end g c =
     let room = slot_room c.loop-place.place a (2 ^ k * c.args.width) len (omega (arith, second_shift k a c.requires.small, c.loop-place-test.true)) (c.requires.size ∙ slots_whole k a c.args.width) in
     rw is (omega (arith, room, is, c.loop-place.auto.others, c.split_at_mut-coefficients.ensures.back_len))
 
-pub evaluate_from-requires-clause-source : goal.evaluate_from-requires-clause-source
-evaluate_from-requires-clause-source g c =
+pub evaluate_to_reversed_oop-requires-clause-source : goal.evaluate_to_reversed_oop-requires-clause-source
+evaluate_to_reversed_oop-requires-clause-source g c =
     c.split_at_mut-coefficients.ensures.front_len ∙ slot_size (length c.args.values.now) c.args.log_h c.args.added_bits c.args.width c.requires.small c.requires.size
 
-pub evaluate_from-requires-clause-size : goal.evaluate_from-requires-clause-size
-evaluate_from-requires-clause-size g c =
+pub evaluate_to_reversed_oop-requires-clause-size : goal.evaluate_to_reversed_oop-requires-clause-size
+evaluate_to_reversed_oop-requires-clause-size g c =
     let k = c.args.log_h in
     let a = c.args.added_bits in
     let len = length c.args.values.now in
@@ -77,7 +77,7 @@ loop-place-init g c =
     record {
       slots = rows-none g.F.Field.ZERO _ _ _;
       grows = omega arith;
-      count = omega arith;
+      cost = omega arith;
     }
 
 pub loop-place-preserved : goal.loop-place-preserved
@@ -101,15 +101,17 @@ loop-place-preserved g c =
     ∙ ap (field.ring.mul s) (c.exp_u64-turn.ensures ∙ ap₂ (power field.ring) c.two_adic_generator-root.ensures c.reverse_bits_len.ensures)
     ∙ sym (point-mul field.ring gen (k + a) s (rev a (place + 1))) in
     record {
-      slots = part-more field.ZERO (2 ^ k * w) _ _ c.loop-place.others c.evaluate_from.new.values place whole is fits
-          (c.evaluate_from.auto.values ∙ part_length c.loop-place.others (place * whole) whole fits ∙ is)
+      slots =
+          part-more field.ZERO (2 ^ k * w) _ _ c.loop-place.others c.evaluate_to_reversed_oop.new.values place whole is
+          fits
+          (c.evaluate_to_reversed_oop.auto.values ∙ part_length c.loop-place.others (place * whole) whole fits ∙ is)
           (λ u inside t j p q at.
-          ap (λ n. field.value (get_or c.evaluate_from.new.values n field.ZERO)) at ∙ c.evaluate_from.ensures.values t j p q
+          ap (λ n. field.value (get_or c.evaluate_to_reversed_oop.new.values n field.ZERO)) at ∙ c.evaluate_to_reversed_oop.ensures.values t j p q
           ∙ ap (poly field.ring (2 ^ k) (λ q. field.value (get_or coefficients (q * w + j) field.ZERO)))
           (ap (λ x. point field.ring gen k x (rev k t)) turned ∙ slot_point field.ring roots s k a (place + 1) t (omega arith) p))
           c.loop-place.invariant.slots;
-      grows = omega (arith, c.loop-place.invariant.grows, c.evaluate_from.ensures.grows);
-      count = count_more 1 place (w * (k * 2 ^ k / 2) + 2 ^ k * w) _ _ _ c.loop-place.invariant.count (omega (arith, c.evaluate_from.ensures.count));
+      grows = omega (arith, c.loop-place.invariant.grows, c.evaluate_to_reversed_oop.ensures.grows);
+      cost = count_more 1 place (w * (k * 2 ^ k / 2) + 2 ^ k * w) _ _ _ c.loop-place.invariant.cost (omega (arith, c.evaluate_to_reversed_oop.ensures.cost));
     }
 
 pub shift_values-requires : goal.shift_values-requires
@@ -117,8 +119,8 @@ shift_values-requires g c =
     let rows : 1 * 2 ^ c.args.log_h % 18446744073709551616 ≡ 2 ^ c.args.log_h = one_shl c.args.log_h 64 (omega (arith, c.requires.small)) in
     c.split_at_mut-coefficients.ensures.front_len ∙ slot_size (length c.args.values.now) c.args.log_h c.args.added_bits c.args.width c.requires.small c.requires.size ∙ ap (λ n. n * c.args.width) (sym rows)
 
-pub evaluate-requires-clause-size : goal.evaluate-requires-clause-size
-evaluate-requires-clause-size g c =
+pub evaluate_to_reversed-requires-clause-size : goal.evaluate_to_reversed-requires-clause-size
+evaluate_to_reversed-requires-clause-size g c =
     c.shift_values.auto.values ∙ c.split_at_mut-coefficients.ensures.front_len ∙ slot_size (length c.args.values.now) c.args.log_h c.args.added_bits c.args.width c.requires.small c.requires.size
 
 pub returns-clause-values : goal.returns-clause-values
@@ -129,7 +131,7 @@ returns-clause-values g c =
     let a = c.args.added_bits in
     let w = c.args.width in
     let s = field.value c.args.shift in
-    let front = c.evaluate.new.values in
+    let front = c.evaluate_to_reversed.new.values in
     let others = c.loop-place.others in
     let coefficients = c.split_at_mut-coefficients.result.0.now in
     let roots : AreRoots field.ring (k + a) gen = fewer_roots field.ring (k + a) _ c.requires.within g.met.F.TwoAdicField.roots_law in
@@ -144,10 +146,10 @@ returns-clause-values g c =
     ∙ ap (field.ring.mul s) (power-zero field.ring (gen (k + a))) ∙ field.ring.mul_one s) in
     rows_of_slots field.value field.ZERO k a w front others
     (λ r j. poly field.ring (2 ^ k) (λ u. field.value (get_or c.args.values.now (u * w + j) field.ZERO)) (point field.ring gen (k + a) s (rev (k + a) r)))
-    (c.evaluate.auto.values ∙ c.shift_values.auto.values ∙ size)
+    (c.evaluate_to_reversed.auto.values ∙ c.shift_values.auto.values ∙ size)
     (λ t j p inside.
     let whole : 0 * 2 ^ k + t ≡ t = omega arith in
-    values_of_shifted field g.F.TwoAdicField.generator k w s _ coefficients c.shift_values.new.values front (one_shl k 64 (omega (arith, c.requires.small))) c.shift_values.ensures.values c.evaluate.ensures.values t j p inside
+    values_of_shifted field g.F.TwoAdicField.generator k w s _ coefficients c.shift_values.new.values front (one_shl k 64 (omega (arith, c.requires.small))) c.shift_values.ensures.values c.evaluate_to_reversed.ensures.values t j p inside
     ∙ same _ j inside
     ∙ ap (poly field.ring (2 ^ k) (λ u. field.value (get_or c.args.values.now (u * w + j) field.ZERO)))
     (ap (λ x. point field.ring gen k x (rev k t)) first ∙ slot_point field.ring roots s k a 0 t (omega arith) p
@@ -156,8 +158,8 @@ returns-clause-values g c =
     c.loop-place.invariant.slots.done p (t * w + j) (omega (arith, below, second_shift k a c.requires.small, c.loop-place-test.false)) (row_below t j w (2 ^ k) q inside) t j q inside refl
     ∙ same _ j inside)
 
-pub returns-clause-count : goal.returns-clause-count
-returns-clause-count g c =
+pub returns-clause-cost : goal.returns-clause-cost
+returns-clause-cost g c =
     let k = c.args.log_h in
     let a = c.args.added_bits in
     let turn = c.args.width * (k * 2 ^ k / 2) + 2 ^ k * c.args.width in
@@ -165,18 +167,18 @@ returns-clause-count g c =
     let count = second_shift k a c.requires.small in
     let all : c.loop-place.place + 1 ≡ 2 ^ a = omega (arith, count, pow_pos a, c.loop-place-test.false, c.loop-place.auto.place-end) in
     let e : 1 * ((c.loop-place.place + 1) * turn) ≡ 2 ^ a * turn = ap (λ n. 1 * (n * turn)) all ∙ omega arith in
-    let last : c.evaluate.new.products ≤ c.loop-place.products + 1 * turn = omega (arith, c.shift_values.ensures.count, ap (λ n. n * c.args.width) rows, c.evaluate.ensures.count) in
-    subst (λ (n : ℕ). c.evaluate.new.products ≤ c.args.products.now + n) e
-    (count_more 1 c.loop-place.place turn _ _ _ c.loop-place.invariant.count last)
+    let last : c.evaluate_to_reversed.new.products ≤ c.loop-place.products + 1 * turn = omega (arith, c.shift_values.ensures.cost, ap (λ n. n * c.args.width) rows, c.evaluate_to_reversed.ensures.cost) in
+    subst (λ (n : ℕ). c.evaluate_to_reversed.new.products ≤ c.args.products.now + n) e
+    (count_more 1 c.loop-place.place turn _ _ _ c.loop-place.invariant.cost last)
 
-pub evaluate-requires-clause-twiddles : goal.evaluate-requires-clause-twiddles
-evaluate-requires-clause-twiddles g c = c.requires.twiddles
+pub evaluate_to_reversed-requires-clause-twiddles : goal.evaluate_to_reversed-requires-clause-twiddles
+evaluate_to_reversed-requires-clause-twiddles g c = c.requires.twiddles
 
-pub evaluate_from-requires-clause-twiddles : goal.evaluate_from-requires-clause-twiddles
-evaluate_from-requires-clause-twiddles g c = c.requires.twiddles
+pub evaluate_to_reversed_oop-requires-clause-twiddles : goal.evaluate_to_reversed_oop-requires-clause-twiddles
+evaluate_to_reversed_oop-requires-clause-twiddles g c = c.requires.twiddles
 
 pub returns-clause-grows : goal.returns-clause-grows
-returns-clause-grows g c = le_trans (le_trans c.loop-place.invariant.grows c.shift_values.ensures.grows) c.evaluate.ensures.grows
+returns-clause-grows g c = le_trans (le_trans c.loop-place.invariant.grows c.shift_values.ensures.grows) c.evaluate_to_reversed.ensures.grows
 
 pub overflow_sub-place-end : goal.overflow_sub-place-end
 overflow_sub-place-end g c = some_rows _ c.args.added_bits (second_shift c.args.log_h c.args.added_bits c.requires.small)

@@ -20,5 +20,5 @@ invariant-loop-place g l =
           (point field.ring (forward_root field g.F.TwoAdicField.generator) n (field.value l.fn.shift) (rev n ((p + 1) * 2 ^ k + t))))
           l.initial.others l.place l.others;
       grows : l.fn.products ≤ l.products;
-      count : l.products ≤ l.fn.products + 1 * (l.place * (w * (k * 2 ^ k / 2) + 2 ^ k * w));
+      cost : l.products ≤ l.fn.products + 1 * (l.place * (w * (k * 2 ^ k / 2) + 2 ^ k * w));
     }

@@ -1,0 +1,46 @@
+use Rattle.std.proofs.Common.{◌≡◌, ◌+◌, ◌*◌, ◌/◌, ◌^◌, sym, ap, ◌∙◌, arith}
+use Rattle.std.proofs.lemmas.Nat.{pow-add}
+use Rattle.p3_matrix.specs.Cosets.{values_of}
+use Rattle.p3_dft.proofs.Calls.Shapes.{output_fits, output_log_small, output_size}
+use Rattle.p3_matrix.proofs.Polynomials.SpreadRows.{values_of_spread}
+use Rattle.p3_dft.proofs.radix_2_bowers.extend_to_natural.Goals as goal
+
+pub spread_rows-requires-clause-bits : goal.spread_rows-requires-clause-bits
+spread_rows-requires-clause-bits g c = let small = output_log_small _ _ _ _ c.requires.fits in omega (arith, small)
+
+pub spread_rows-requires-clause-size : goal.spread_rows-requires-clause-size
+spread_rows-requires-clause-size g c = output_size _ _ _ _ c.requires.fits
+
+pub evaluate_to_natural-requires : goal.evaluate_to_natural-requires
+evaluate_to_natural-requires g c =
+    let fits = c.requires.fits in
+    let shape = c.in_ok-mat.ensures.shape in
+    record { fits = output_fits _ _ _ c.args.added_bits _ _ fits (shape.0 ∙ ap (λ h. h * 2 ^ c.args.added_bits) fits.high ∙ sym (pow-add 2 fits.log c.args.added_bits)) shape.1 }
+
+pub returns-clause-values : goal.returns-clause-values
+returns-clause-values g c k high =
+    let field = g.F.Field in
+    let a = c.args.added_bits in
+    let given = c.in_ok-mat.ensures in
+    values_of_spread field.ring (λ n. field.value (g.F.TwoAdicField.generator n)) k a field.ring.one (values_of field c.args.mat) (values_of field c.in_ok-mat.mat) (values_of field c.evaluate_to_natural.new.mat)
+    high given.shape.0 given.shape.1
+    (λ i j below inside. ap field.value (given.rows i j below inside))
+    (λ i r j below some less inside. ap field.value (given.others i r j below some less inside) ∙ g.met.F.Field.zero_law)
+    (c.in_ok-evaluate_to_natural.ensures.values (k + a)
+    (given.shape.0 ∙ ap (λ h. h * 2 ^ a) high ∙ sym (pow-add 2 k a)))
+
+pub returns-clause-cost : goal.returns-clause-cost
+returns-clause-cost g c k high =
+    let a = c.args.added_bits in
+    let shape = c.in_ok-mat.ensures.shape in
+    let cost = c.evaluate_to_natural.ensures.cost (k + a) (shape.0 ∙ ap (λ h. h * 2 ^ a) high ∙ sym (pow-add 2 k a)) in
+    let same : c.in_ok-mat.mat.width * ((k + a) * 2 ^ (k + a) / 2) ≡ c.args.mat.width * ((k + a) * 2 ^ (k + a) / 2) = ap (λ w. w * ((k + a) * 2 ^ (k + a) / 2)) shape.1 in
+    omega (arith, cost, same)
+
+pub returns-in_err-evaluate_to_natural-clause-cost : goal.returns-in_err-evaluate_to_natural-clause-cost
+returns-in_err-evaluate_to_natural-clause-cost g c k high =
+    let a = c.args.added_bits in
+    let shape = c.in_ok-mat.ensures.shape in
+    let cost = c.evaluate_to_natural.ensures.cost (k + a) (shape.0 ∙ ap (λ h. h * 2 ^ a) high ∙ sym (pow-add 2 k a)) in
+    let same : c.in_ok-mat.mat.width * ((k + a) * 2 ^ (k + a) / 2) ≡ c.args.mat.width * ((k + a) * 2 ^ (k + a) / 2) = ap (λ w. w * ((k + a) * 2 ^ (k + a) / 2)) shape.1 in
+    omega (arith, cost, same)

@@ -1,0 +1,125 @@
+use Rattle.std.specs.Prelude.{IsPermutation}
+use Rattle.std.proofs.Common.{◌≡◌, ℕ, ◌+◌, ◌-◌, ◌*◌, ◌/◌, ◌%◌, ◌^◌, ◌<◌, ◌++◌, List, length, get_or, take, drop, refl, sym, ap, ap₂, ◌∙◌, subst, arith}
+use Rattle.std.proofs.Math.Nat.{mul-div_cancel, mul-mod_left}
+use Rattle.std.proofs.lemmas.Nat.{pow-add, pow_pos}
+use Rattle.std.proofs.lemmas.Result.{IfErr-weaker, on_ok_weaker}
+use Rattle.p3_matrix.specs.BitOrder.{rev, bit_reversal}
+use Rattle.p3_matrix.specs.Blocks.{block, first_blocks}
+use Rattle.p3_matrix.specs.Matrix.{Matrix}
+use Rattle.p3_matrix.specs.RowMajor.{RowMajor, rows_from}
+use Rattle.p3_matrix.proofs.BitReversal.{rev-lt, rev-rev}
+use Rattle.p3_matrix.proofs.Matrices.{list_same}
+use Rattle.p3_matrix.specs.Cosets.{point, values_of}
+use Rattle.p3_matrix.specs.Polynomials.{poly}
+use Rattle.p3_matrix.proofs.Polynomials.ByIndex.{poly_same}
+use Rattle.p3_matrix.proofs.Polynomials.Cosets.{is_values}
+use Rattle.p3_networks.specs.Slots.{slot_block, slot_blocks}
+use Rattle.p3_matrix.proofs.Rows.Overwritten.{written}
+use Rattle.p3_dft.proofs.BitReversed.Rows.{written_cell}
+use Rattle.p3_matrix.proofs.Rows.Padding.{cell_above}
+use Rattle.p3_matrix.proofs.RowMajor.{written_shape, written_size}
+use Rattle.p3_dft.proofs.radix_2_dit_parallel.extension.extend_reversed.Goals as goal
+
+-- blocks of a slot that begins with row 0 are those of a matrix
+first_are : {T : Type 0} (b w : ℕ) (rows : List T) (n : ℕ) → slot_blocks 0 b w rows n ≡ first_blocks b (record { width = w; values = rows }) n
+first_are {T} b w rows n =
+    list_same (slot_block 0 b w rows) (block b (record { width = w; values = rows })) n
+    (λ q below. let number : 0 + q * b ≡ q * b = omega arith in ap (λ (x : ℕ). (x, rows_from (record { width = w; values = rows }) (q * b) b)) number)
+
+pub returns-clause-values : goal.returns-clause-values
+returns-clause-values g c =
+    let field = g.F.Field in
+    let gen = λ (n : ℕ). field.value (g.F.TwoAdicField.generator n) in
+    let log = c.args.log_h in
+    let n = log + c.args.added_bits in
+    let s = field.value c.args.shift in
+    let m = c.args.mat.now in
+    let w = c.width-width.result in
+    let after = c.extend_slots.new.values in
+    let start = c.values_mut.result.now in
+    let wide : m.width ≡ w = sym c.width-width.ensures.width in
+    let size : length after ≡ length m.values = c.extend_slots.auto.values ∙ ap length c.values_mut.ensures.values in
+    let tall = ap (λ xs. length xs / m.width) (written (length m.values) after _ size) ∙ ap (λ k. k / m.width) size ∙ c.requires.height in
+    on_ok_weaker c.extend_slots.result
+    (λ given upper whole high over_zeros.
+    let wide_upper : upper.width ≡ w = sym (ap (λ (x : RowMajor g.row.F.Denot). x.width) over_zeros) ∙ wide in
+    let coefficients = bit_reversal log (values_of field upper) in
+    is_values field.ring gen coefficients n s _ tall (wide ∙ sym wide_upper)
+    (λ i j below inside.
+    let l : j < w = omega (arith, inside, wide_upper) in
+    let column = λ (q : ℕ). coefficients.entry q j in
+    written_cell field m after _ w (rev n i) j size wide ∙ given (rev n i) j (rev-lt n i) l
+    ∙ ap (λ r. poly field.ring (2 ^ log) (λ q. field.value (get_or start (rev log q * w + j) field.ZERO)) (point field.ring gen n s r)) (rev-rev n i below)
+    ∙ poly_same field.ring (2 ^ log) _ column (point field.ring gen n s i)
+    (λ q p. cell_above field upper m start c.args.added_bits w (rev log q) j whole over_zeros c.values_mut.ensures.values wide_upper (omega (arith, rev-lt log q, high)) inside)
+    ∙ ap (λ h. poly field.ring h column (point field.ring gen n s i)) (sym high)))
+    c.extend_slots.ensures.values
+
+pub returns-clause-published : goal.returns-clause-published
+returns-clause-published g c =
+    let log = c.args.log_h in
+    let a = c.args.added_bits in
+    let m = c.args.mat.now in
+    let w = c.width-width.result in
+    let b = 2 ^ (log - (log + 1) / 2) in
+    let after = c.extend_slots.new.values in
+    let wide : m.width ≡ w = sym c.width-width.ensures.width in
+    let size : length after ≡ length m.values = c.extend_slots.auto.values ∙ ap length c.values_mut.ensures.values in
+    let entries = take (length m.values) (after ++ drop (length after) m.values) in
+    let values_is : entries ≡ after = written (length m.values) after (drop (length after) m.values) size in
+    let tall : length entries / m.width ≡ 2 ^ (log + a) = ap (λ xs. length xs / m.width) values_is ∙ ap (λ k. k / m.width) size ∙ c.requires.height in
+    let parts : (log + 1) / 2 + (log - (log + 1) / 2) ≡ log = omega arith in
+    let blocks : 2 ^ (log + a) ≡ 2 ^ a * 2 ^ ((log + 1) / 2) * b =
+    pow-add 2 log a ∙ ap (λ k. 2 ^ k * 2 ^ a) (sym parts) ∙ ap (λ k. k * 2 ^ a) (pow-add 2 ((log + 1) / 2) (log - (log + 1) / 2)) ∙ omega arith in
+    let number : 2 ^ a * 2 ^ ((log + 1) / 2) ≡ 2 ^ (log + a) / b = sym (ap (λ k. k / b) blocks ∙ mul-div_cancel (2 ^ a * 2 ^ ((log + 1) / 2)) (pow_pos (log - (log + 1) / 2))) in
+    let total = 2 ^ a * 2 ^ ((log + 1) / 2) in
+    let blocks_are : slot_blocks 0 b w after total ≡ first_blocks b (record { width = m.width; values = entries }) (length entries / m.width / b) =
+    first_are b w after total ∙ ap (first_blocks b (record { width = w; values = after })) (number ∙ sym (ap (λ h. h / b) tall))
+    ∙ ap₂ (λ (v : ℕ) (xs : List g.row.F.Denot). first_blocks b (record { width = v; values = xs }) (length entries / m.width / b)) (sym wide) (sym values_is) in
+    on_ok_weaker c.extend_slots.result
+    (λ given.
+    let (list, each, run) = given in (
+      list,
+      record {
+        divides = ap (λ h. h % b) tall ∙ ap (λ k. k % b) blocks ∙ mul-mod_left total b;
+        each_once = subst (λ xs. IsPermutation xs list) blocks_are each;
+      },
+      run,
+    ))
+    c.extend_slots.ensures.published
+
+pub returns-clause-refused : goal.returns-clause-refused
+returns-clause-refused g c =
+    let field = g.F.Field in
+    let gen = λ (n : ℕ). field.value (g.F.TwoAdicField.generator n) in
+    let log = c.args.log_h in
+    let n = log + c.args.added_bits in
+    let s = field.value c.args.shift in
+    let m = c.args.mat.now in
+    let w = c.width-width.result in
+    let start = c.values_mut.result.now in
+    let wide : m.width ≡ w = sym c.width-width.ensures.width in
+    let out : Matrix field.Element = record { height = 2 ^ n; width = w; entry = λ i j. poly field.ring (2 ^ log) (λ q. field.value (get_or start (rev log q * w + j) field.ZERO)) (point field.ring gen n s i) } in
+    IfErr-weaker c.extend_slots.result _ _
+    (λ refusal given upper whole high over_zeros.
+    let (accepted, refused, blocks, stopped) = given in
+    let wide_upper : upper.width ≡ w = sym (ap (λ (x : RowMajor g.row.F.Denot). x.width) over_zeros) ∙ wide in
+    let coefficients = bit_reversal log (values_of field upper) in (
+      out,
+      accepted,
+      refused,
+      is_values field.ring gen coefficients n s out refl (sym wide_upper)
+          (λ i j below inside.
+          poly_same field.ring (2 ^ log) _ (λ q. coefficients.entry q j) (point field.ring gen n s i)
+          (λ q p. cell_above field upper m start c.args.added_bits w (rev log q) j whole over_zeros c.values_mut.ensures.values wide_upper (omega (arith, rev-lt log q, high)) inside)
+          ∙ ap (λ h. poly field.ring h (λ q. coefficients.entry q j) (point field.ring gen n s i)) (sym high)),
+      blocks,
+      stopped,
+    ))
+    c.extend_slots.ensures.refused
+
+pub returns-clause-shape : goal.returns-clause-shape
+returns-clause-shape g c = written_shape c.args.mat.now _ c.extend_slots.new.values refl refl (c.extend_slots.auto.values ∙ ap length c.values_mut.ensures.values)
+
+pub returns-clause-size : goal.returns-clause-size
+returns-clause-size g c = written_size c.args.mat.now.values c.extend_slots.new.values (c.extend_slots.auto.values ∙ ap length c.values_mut.ensures.values)

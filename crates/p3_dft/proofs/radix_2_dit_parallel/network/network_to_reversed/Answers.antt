@@ -1,0 +1,38 @@
+use Rattle.std.proofs.Common.{◌≡◌, ℕ, ◌+◌, ◌*◌, ◌/◌, ◌%◌, ◌^◌, ◌<◌, sym, ap, ◌∙◌, arith}
+use Rattle.std.proofs.lemmas.Nat.{pow-add, pow_pos, div-add-mod', div_below, mod_below}
+use Rattle.p3_field.specs.Ring.{Ring, AreRoots, power}
+use Rattle.p3_matrix.specs.BitOrder.{rev}
+use Rattle.p3_matrix.proofs.BitReversal.{rev-lt}
+use Rattle.p3_matrix.specs.Cosets.{point, values_of}
+use Rattle.p3_matrix.specs.Polynomials.{poly}
+use Rattle.p3_networks.specs.Twiddles.{factor}
+use Rattle.p3_networks.proofs.Networks.Chunks.{halves_joined}
+use Rattle.p3_matrix.proofs.Polynomials.ByIndex.{poly_same}
+use Rattle.p3_dft.proofs.radix_2_dit_parallel.network.network_to_reversed.Goals as goal
+
+-- fewer roots are roots
+fewer_roots : {A : Type 0} (R : Ring A) (mid left : ℕ) {root : ℕ → A} → AreRoots R (mid + left) root → AreRoots R mid root
+fewer_roots R mid left roots = record { first = roots.first; second = roots.second; square = λ i p. roots.square i (omega arith) }
+
+pub returns-clause-values : goal.returns-clause-values
+returns-clause-values g c root s roots low high r j p q =
+    let field = g.F.Field in
+    let mid = c.args.mid in
+    let left = c.args.left in
+    let m = c.args.mat.now in
+    let half = c.first_of_matrix.new.mat in
+    let scale = factor field c.args.scale in
+    let a = r / 2 ^ left in
+    let t = r % 2 ^ left in
+    let split : a * 2 ^ left + t ≡ r = div-add-mod' r (2 ^ left) in
+    let all : 2 ^ (mid + left) ≡ 2 ^ mid * 2 ^ left = pow-add 2 mid left in
+    let below : a < 2 ^ mid = div_below r (2 ^ left) (2 ^ mid) (pow_pos left) (omega (arith, p, all)) in
+    let inside : t < 2 ^ left = mod_below r (2 ^ left) (pow_pos left) in
+    let x = point field.ring root left (point field.ring root (mid + left) s (rev mid a)) (rev left t) in
+    let wide : half.width ≡ m.width = c.first_of_matrix.ensures.shape.1 in
+    ap (λ n. (values_of field c.second_of_matrix.new.mat).entry n j) (sym split)
+    ∙ c.second_of_matrix.ensures.values root s roots high a t j below inside (omega (arith, q, wide))
+    ∙ poly_same field.ring (2 ^ left) _ _ x
+    (λ u l. ap (λ y. field.ring.mul y scale) (c.first_of_matrix.ensures.values root (power field.ring s (2 ^ left)) (fewer_roots field.ring mid left roots) low (rev left u) (rev mid a) j (rev-lt left u) (rev-lt mid a) q))
+    ∙ halves_joined field.ring roots s mid left a t (λ u. (values_of field m).entry u j) scale (omega arith) inside
+    ∙ ap (λ n. poly field.ring (2 ^ (mid + left)) (λ u. field.ring.mul ((values_of field m).entry u j) scale) (point field.ring root (mid + left) s (rev (mid + left) n))) split

@@ -1,0 +1,63 @@
+use Rattle.std.proofs.Common.{◌≡◌, ℕ, ◌+◌, ◌-◌, ◌/◌, ◌^◌, ◌<◌, sym, ap, ◌∙◌, subst, arith}
+use Rattle.p3_field.specs.Ring.{AreRoots}
+use Rattle.p3_matrix.specs.BitOrder.{rev, bit_reversal}
+use Rattle.p3_matrix.specs.RowMajor.{height}
+use Rattle.p3_matrix.proofs.BitReversal.{rev-lt, rev-rev}
+use Rattle.p3_matrix.specs.Cosets.{point, values_of}
+use Rattle.p3_matrix.specs.Polynomials.{poly}
+use Rattle.p3_networks.specs.Twiddles.{IsCosetTable}
+use Rattle.p3_networks.proofs.Layers.Counts.{halves_counted}
+use Rattle.p3_networks.proofs.Networks.CosetHalves.{halves_whole}
+use Rattle.p3_matrix.proofs.Polynomials.ByIndex.{poly_same}
+use Rattle.p3_matrix.proofs.Polynomials.Cosets.{is_values}
+use Rattle.p3_networks.proofs.Tables.CosetTables.{coset_room, high_of_coset, low_of_coset}
+use Rattle.p3_networks.proofs.Tables.RootPowers.{fewer_roots}
+use Rattle.p3_dft.proofs.radix_2_dit_parallel.transform.evaluate_on_coset_to_reversed.Goals as goal
+
+pub network_to_reversed-requires-clause-low : goal.network_to_reversed-requires-clause-low
+network_to_reversed-requires-clause-low g c =
+    let k = c.args.log_h in
+    let table : IsCosetTable g.F.Field g.F.TwoAdicField.generator (g.F.Field.value c.args.table.now.shift) k c.twiddles-twiddles.result.now =
+    subst (λ (n : ℕ). IsCosetTable g.F.Field g.F.TwoAdicField.generator (g.F.Field.value c.args.table.now.shift) n c.twiddles-twiddles.result.now) c.requires.table c.twiddles-twiddles.ensures.table in
+    (low_of_coset g.F.Field g.F.TwoAdicField.generator (g.F.Field.value c.args.table.now.shift) k c.twiddles-twiddles.result.now ((k + 1) / 2) (k - (k + 1) / 2) (omega arith) (halves_whole k) table).size
+
+pub network_to_reversed-requires-clause-high : goal.network_to_reversed-requires-clause-high
+network_to_reversed-requires-clause-high g c l from below =
+    let k = c.args.log_h in
+    coset_room g.F.Field g.F.TwoAdicField.generator (g.F.Field.value c.args.table.now.shift) k c.twiddles-twiddles.result.now l (omega (arith, below))
+    (subst (λ (n : ℕ). IsCosetTable g.F.Field g.F.TwoAdicField.generator (g.F.Field.value c.args.table.now.shift) n c.twiddles-twiddles.result.now) c.requires.table c.twiddles-twiddles.ensures.table)
+
+pub returns-clause-values : goal.returns-clause-values
+returns-clause-values g c =
+    let field = g.F.Field in
+    let gen = λ (n : ℕ). field.value (g.F.TwoAdicField.generator n) in
+    let k = c.args.log_h in
+    let mid = (k + 1) / 2 in
+    let left = k - mid in
+    let s = field.value c.args.table.now.shift in
+    let m = c.args.mat.now in
+    let out = c.network_to_reversed.new.mat in
+    let xs = c.twiddles-twiddles.result.now in
+    let k_is : mid + left ≡ k = halves_whole k in
+    let table : IsCosetTable field g.F.TwoAdicField.generator s k xs = subst (λ (n : ℕ). IsCosetTable field g.F.TwoAdicField.generator s n xs) c.requires.table c.twiddles-twiddles.ensures.table in
+    let roots : AreRoots field.ring (mid + left) gen = fewer_roots field.ring (mid + left) _ (omega (arith, c.requires.table, c.twiddles-twiddles.ensures.within)) g.met.F.TwoAdicField.roots_law in
+    let low = low_of_coset field g.F.TwoAdicField.generator s k xs mid left (omega arith) k_is table in
+    let high = high_of_coset field g.F.TwoAdicField.generator s k xs mid (mid + left) (omega arith) (sym k_is) table in
+    let tall : height out ≡ height m = c.network_to_reversed.ensures.shape.0 in
+    is_values field.ring gen (values_of field m) k s (bit_reversal k (values_of field out)) (tall ∙ c.requires.height) c.network_to_reversed.ensures.shape.1
+    (λ i j below inside.
+    let f = λ (q : ℕ). (values_of field m).entry q j in
+    let scaled = λ (q : ℕ). field.ring.mul (f q) field.ring.one in
+    let x = point field.ring gen k s i in
+    c.network_to_reversed.ensures.values gen s roots low high (rev k i) j (subst (λ (n : ℕ). rev k i < 2 ^ n) (sym k_is) (rev-lt k i)) inside
+    ∙ ap (λ n. poly field.ring (2 ^ n) scaled (point field.ring gen n s (rev n (rev k i)))) k_is
+    ∙ ap (λ r. poly field.ring (2 ^ k) scaled (point field.ring gen k s r)) (rev-rev k i below)
+    ∙ poly_same field.ring (2 ^ k) scaled f x (λ q p. field.ring.mul_one (f q))
+    ∙ ap (λ n. poly field.ring n f x) (sym c.requires.height))
+
+pub returns-clause-cost : goal.returns-clause-cost
+returns-clause-cost g c =
+    let k = c.args.log_h in
+    let mid = (k + 1) / 2 in
+    let e = halves_counted mid (k - mid) k c.args.mat.now.width 0 (halves_whole k) in
+    omega (arith, e, c.network_to_reversed.ensures.cost)

@@ -1,0 +1,42 @@
+use Rattle.std.proofs.Common.{◌≡◌, ℕ, ◌+◌, ◌-◌, ◌/◌, ◌^◌, ◌<◌, sym, ap, ◌∙◌, subst, arith}
+use Rattle.p3_field.specs.Ring.{AreRoots}
+use Rattle.p3_matrix.specs.BitOrder.{rev}
+use Rattle.p3_matrix.specs.Cosets.{point, values_of}
+use Rattle.p3_matrix.specs.Polynomials.{poly}
+use Rattle.p3_networks.specs.Twiddles.{factor, root_of, scale_cost}
+use Rattle.p3_networks.proofs.Layers.Counts.{halves_counted}
+use Rattle.p3_networks.proofs.Networks.CosetHalves.{halves_whole}
+use Rattle.p3_matrix.proofs.Polynomials.Cosets.{point_of_one}
+use Rattle.p3_networks.proofs.Tables.FromStart.{block_table}
+use Rattle.p3_networks.proofs.Tables.RootPowers.{are_roots, fewer_roots, low_table}
+use Rattle.p3_dft.proofs.radix_2_dit_parallel.transform.transform_to_reversed.Goals as goal
+
+pub network_to_reversed-requires-clause-high : goal.network_to_reversed-requires-clause-high
+network_to_reversed-requires-clause-high g c l from below =
+    c.high.ensures.table.size l (omega (arith, below, c.requires.there))
+
+pub returns-clause-values : goal.returns-clause-values
+returns-clause-values g c r j p q =
+    let field = g.F.Field in
+    let gen = g.F.TwoAdicField.generator in
+    let inverse = c.args.inverse in
+    let k = c.args.log_h in
+    let mid = (k + 1) / 2 in
+    let left = k - mid in
+    let root = root_of field gen inverse in
+    let k_is : mid + left ≡ k = halves_whole k in
+    let roots : AreRoots field.ring (mid + left) root = fewer_roots field.ring (mid + left) _ (omega (arith, c.requires.there, c.high.ensures.within)) (are_roots field gen inverse g.met.F.TwoAdicField.roots_law) in
+    let f = λ (u : ℕ). field.ring.mul ((values_of field c.args.mat.now).entry u j) (factor field c.args.scale) in
+    c.network_to_reversed.ensures.values root field.ring.one roots
+    (low_table field gen inverse mid _ (2 ^ left) c.low.result.now (omega (arith, c.requires.there)) c.low.ensures.table)
+    (block_table field root mid (mid + left) c.args.tables.now c.high.result.now (omega (arith, c.requires.there)) c.high.ensures.table)
+    r j (subst (λ (n : ℕ). r < 2 ^ n) (sym k_is) p) q
+    ∙ ap (λ n. poly field.ring (2 ^ n) f (point field.ring root n field.ring.one (rev n r))) k_is
+    ∙ ap (poly field.ring (2 ^ k) f) (point_of_one field.ring root k (rev k r))
+
+pub returns-clause-cost : goal.returns-clause-cost
+returns-clause-cost g c =
+    let k = c.args.log_h in
+    let mid = (k + 1) / 2 in
+    let e = halves_counted mid (k - mid) k c.args.mat.now.width (scale_cost c.args.scale) (halves_whole k) in
+    omega (arith, e, c.network_to_reversed.ensures.cost)

@@ -1,0 +1,16 @@
+use Rattle.std.proofs.Common.{◌≡◌, ◌^◌, refl, ap, ◌∙◌}
+use Rattle.p3_field.specs.Ring.{count}
+use Rattle.p3_field.proofs.Powers.{count-power_of_two}
+use Rattle.p3_dft.proofs.BitReversed.OneReversal.{interpolation_of_reversed}
+use Rattle.p3_dft.proofs.radix_2_small_batch.interpolate_natural.Goals as goal
+
+pub returns-clause-coefficients : goal.returns-clause-coefficients
+returns-clause-coefficients g c =
+    let field = g.F.Field in
+    let k = c.args.log_h in
+    let inverse = field.value c.div_2exp_u64-inverse.result in
+    let undone : field.ring.mul (count field.ring (2 ^ k)) inverse ≡ field.ring.one =
+    ap (λ x. field.ring.mul x inverse) (count-power_of_two field.ring k) ∙ c.div_2exp_u64-inverse.ensures ∙ ap field.value c.ONE.ensures ∙ g.met.F.Field.one_law in
+    interpolation_of_reversed field g.F.TwoAdicField.generator g.met.F.TwoAdicField.roots_law c.args.mat.now c.reverse_rows.new.mat _ c.values_mut.result.now c.scaled_dif_network.new.values _ k c.width-width.result
+    inverse c.requires.within c.requires.whole c.requires.height c.reverse_rows.ensures.shape c.reverse_rows.ensures.size c.reverse_rows.ensures.rows c.values_mut.ensures.values c.width-width.ensures.width
+    c.scaled_dif_network.auto.values refl refl undone c.scaled_dif_network.ensures.values

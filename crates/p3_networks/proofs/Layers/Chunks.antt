@@ -1,0 +1,116 @@
+-- A layer on a chunk of rows: the chunk with this number of those of 2 ^ top rows.
+use Rattle.std.proofs.Common.{◌≡◌, ℕ, suc, ◌+◌, ◌*◌, ◌-◌, ◌%◌, ◌<◌, ◌≤◌, ◌^◌, List, length, get_or, sym, ap, ap₂, ◌∙◌, subst, arith, lit≤, ⊎_elim}
+use Rattle.std.proofs.Math.Nat.{pow-le-pow_right, mul-le-mul_right, mul-le-mul_left, two-pow-succ}
+use Rattle.std.proofs.lemmas.Bool.{cases_lt}
+use Rattle.std.proofs.lemmas.Nat.{one_shl, pow_pos}
+use Rattle.p3_matrix.proofs.TwoPowers.{log_lt}
+use Rattle.p3_networks.specs.Layers.{AreLayers, HoldsCells}
+use Rattle.p3_networks.proofs.Layers.Blocks.{each_row, halves_whole}
+
+-- a chunk of 2 ^ top rows within 2 ^ k is no longer than they are
+pub chunk_within : (k top number : ℕ) → (number + 1) * 2 ^ top ≤ 2 ^ k → top ≤ k
+chunk_within k top number room =
+    ⊎_elim
+    (λ more.
+    let less : 2 ^ suc k ≤ 2 ^ top = pow-le-pow_right {n = 2} (lit≤ tt) more in
+    let spread : (number + 1) * 2 ^ top ≡ number * 2 ^ top + 2 ^ top = omega arith in
+    absurd (omega (arith, room, less, spread, two-pow-succ k, pow_pos k)))
+    (λ within. within)
+    (cases_lt k top)
+
+-- what lies within, in units of c
+cancelled : (a b c : ℕ) → 0 < c → a * c ≤ b * c → a ≤ b
+cancelled a b c some le = ⊎_elim (λ more. let l : suc b * c ≤ a * c = mul-le-mul_right c more in absurd (omega (arith, l, le, some))) (λ not_more. not_more) (cases_lt b a)
+
+-- the blocks of a chunk are blocks of the whole
+pub blocks_within : (k top e number : ℕ) → e < top → (number + 1) * 2 ^ top ≤ 2 ^ k → number * 2 ^ (top - 1 - e) + 2 ^ (top - 1 - e) ≤ 2 ^ (k - 1 - e)
+blocks_within k top e number below room =
+    let within = chunk_within k top number room in
+    let less : e < k = omega (arith, below, within) in
+    let part = halves_whole top e below in
+    let all = halves_whole k e less in
+    let spread : (number * 2 ^ (top - 1 - e) + 2 ^ (top - 1 - e)) * (2 * 2 ^ e) ≡ (number + 1) * (2 ^ (top - 1 - e) * (2 * 2 ^ e)) = omega arith in
+    cancelled (number * 2 ^ (top - 1 - e) + 2 ^ (top - 1 - e)) (2 ^ (k - 1 - e)) (2 * 2 ^ e) (let some = pow_pos e in omega (arith, some))
+    (rw (spread, part, all) room)
+
+module _ {A T : Type 0} (value : T → A) (d : T) (near far : ℕ → ℕ → A → A → A) where
+  -- as a program does it, where a place in a block makes no difference
+  pub chunk_taken : (k w e top number blocks half : ℕ) (place_of : ℕ → ℕ) (before after : ℕ → ℕ → A) (x y : List T) → e < top → blocks ≡ 2 ^ (top - 1 - e) → half ≡ 2 ^ e
+      → length x ≡ blocks * (2 * (half * w)) → length y ≡ length x → (number + 1) * 2 ^ top ≤ 2 ^ k
+      → ((b t : ℕ) (p q : A) → near b t p q ≡ near b 0 p q) → ((b t : ℕ) (p q : A) → far b t p q ≡ far b 0 p q)
+      → AreLayers k w (λ b. near b 0) (λ b. far b 0) before after
+      → ((b i : ℕ) → b < blocks → i < half * w → value (get_or y (b * (2 * (half * w)) + i) d)
+      ≡ near (number * blocks + b) (place_of i) (value (get_or x (b * (2 * (half * w)) + i) d)) (value (get_or x (b * (2 * (half * w)) + (half * w + i)) d)))
+      → ((b i : ℕ) → b < blocks → i < half * w → value (get_or y (b * (2 * (half * w)) + (half * w + i)) d)
+      ≡ far (number * blocks + b) (place_of i) (value (get_or x (b * (2 * (half * w)) + i) d)) (value (get_or x (b * (2 * (half * w)) + (half * w + i)) d)))
+      → HoldsCells value d (number * length x) (before e) x → HoldsCells value d (number * length x) (after e) y
+  chunk_taken k w e top number blocks half place_of before after x y below blocks_is half_is size same room near_same far_same layers is_near is_far holds n inside =
+      each_row (λ i. value (get_or y i d) ≡ after e (number * length x + i)) (half * w) blocks
+      (λ b i p q. (
+        is_near b i p q ∙ near_same _ _ _ _ ∙ ap₂ (near (number * blocks + b) 0) (held b i p (omega (arith, q))) (held b (half * w + i) p (omega (arith, q)))
+            ∙ sym (subst (λ (h : ℕ). after e ((number * blocks + b) * (2 * (h * w)) + i) ≡ near (number * blocks + b) 0 (before e ((number * blocks + b) * (2 * (h * w)) + i)) (before e ((number * blocks + b) * (2 * (h * w)) + (h * w + i)))) (sym half_is)
+            (layers.near_cell e (number * blocks + b) i (omega (arith, below, within)) (inside_all b p) (subst (λ (h : ℕ). i < h * w) half_is q)))
+            ∙ ap (after e) (place b i),
+        is_far b i p q ∙ far_same _ _ _ _ ∙ ap₂ (far (number * blocks + b) 0) (held b i p (omega (arith, q))) (held b (half * w + i) p (omega (arith, q)))
+            ∙ sym (subst (λ (h : ℕ). after e ((number * blocks + b) * (2 * (h * w)) + (h * w + i)) ≡ far (number * blocks + b) 0 (before e ((number * blocks + b) * (2 * (h * w)) + i)) (before e ((number * blocks + b) * (2 * (h * w)) + (h * w + i)))) (sym half_is)
+            (layers.far_cell e (number * blocks + b) i (omega (arith, below, within)) (inside_all b p) (subst (λ (h : ℕ). i < h * w) half_is q)))
+            ∙ ap (after e) (place b (half * w + i)),
+      ))
+      n (omega (arith, inside, same, size))
+    where
+      within : top ≤ k
+      within = chunk_within k top number room
+
+      place : (b u : ℕ) → (number * blocks + b) * (2 * (half * w)) + u ≡ number * length x + (b * (2 * (half * w)) + u)
+      place b u = let spread : (number * blocks + b) * (2 * (half * w)) + u ≡ number * (blocks * (2 * (half * w))) + (b * (2 * (half * w)) + u) = omega arith in spread ∙ ap (λ m. number * m + (b * (2 * (half * w)) + u)) (sym size)
+
+      held : (b u : ℕ) → b < blocks → u < 2 * (half * w) → value (get_or x (b * (2 * (half * w)) + u) d) ≡ before e ((number * blocks + b) * (2 * (half * w)) + u)
+      held b u p q =
+          let more : suc b * (2 * (half * w)) ≤ blocks * (2 * (half * w)) = mul-le-mul_right (2 * (half * w)) p in
+          let next : suc b * (2 * (half * w)) ≡ b * (2 * (half * w)) + 2 * (half * w) = omega arith in
+          holds (b * (2 * (half * w)) + u) (omega (arith, more, next, q, size)) ∙ ap (before e) (sym (place b u))
+
+      inside_all : (b : ℕ) → b < blocks → number * blocks + b < 2 ^ (k - 1 - e)
+      inside_all b p = let all = blocks_within k top e number below room in let is : number * blocks + blocks ≡ number * 2 ^ (top - 1 - e) + 2 ^ (top - 1 - e) = ap (λ m. number * m + m) blocks_is in omega (arith, all, is, p)
+
+-- the sizes of a layer of a chunk, as a program has them by shifts
+pub record ChunkSizes (top e number half blocks : ℕ) : Type 0 where
+  pub digits : top < 64
+  pub half_is : half ≡ 2 ^ e
+  pub blocks_is : blocks ≡ 2 ^ (top - 1 - e)
+  pub some : 1 ≤ half
+  pub some_blocks : 1 ≤ blocks
+  pub numbers : number * blocks + blocks ≡ (number + 1) * 2 ^ (top - 1 - e)
+  pub room : number * blocks + blocks < 2 ^ 64
+
+pub chunk_sizes : (top e number : ℕ) → e < top → (number + 1) * 2 ^ top < 2 ^ 64
+    → ChunkSizes top e number (1 * 2 ^ e % 18446744073709551616) (1 * 2 ^ (top - 1 - e) % 18446744073709551616)
+chunk_sizes top e number below small =
+    let some : 2 ^ top ≤ (number + 1) * 2 ^ top = let spread : (number + 1) * 2 ^ top ≡ number * 2 ^ top + 2 ^ top = omega arith in omega (arith, spread) in
+    let digits : top < 64 = log_lt top 64 (omega (arith, small, some)) in
+    let half : 1 * 2 ^ e % 18446744073709551616 ≡ 2 ^ e = one_shl e 64 (omega (arith, digits, below)) in
+    let blocks : 1 * 2 ^ (top - 1 - e) % 18446744073709551616 ≡ 2 ^ (top - 1 - e) = one_shl (top - 1 - e) 64 (omega (arith, digits)) in
+    let less : 2 ^ (top - 1 - e) ≤ 2 ^ top = pow-le-pow_right {n = 2} (lit≤ tt) (let l : top - 1 - e ≤ top = omega arith in l) in
+    let fewer : (number + 1) * 2 ^ (top - 1 - e) ≤ (number + 1) * 2 ^ top = mul-le-mul_left (number + 1) less in
+    let spread : number * 2 ^ (top - 1 - e) + 2 ^ (top - 1 - e) ≡ (number + 1) * 2 ^ (top - 1 - e) = omega arith in
+    record {
+      digits = digits;
+      half_is = half;
+      blocks_is = blocks;
+      some = omega (arith, half, pow_pos e);
+      some_blocks = omega (arith, blocks, pow_pos (top - 1 - e));
+      numbers = ap (λ n. number * n + n) blocks ∙ spread;
+      room = let is = ap (λ n. number * n + n) blocks ∙ spread in omega (arith, is, fewer, small);
+    }
+
+-- one layer more: each makes at most one product for each two of the cells
+pub layer_more : (done size before now after : ℕ) → 2 * now ≤ 2 * before + done * size → 2 * after ≤ 2 * now + 1 * size → 2 * after ≤ 2 * before + (done + 1) * size
+layer_more done size before now after so_far layer = let next : (done + 1) * size ≡ done * size + size = omega arith in omega (arith, so_far, layer, next)
+
+-- the same of layers that make so many products for each two of the cells
+pub costly_layer_more : (cost done size before now after : ℕ) → 2 * now ≤ 2 * before + cost * (done * size) → 2 * after ≤ 2 * now + cost * size → 2 * after ≤ 2 * before + cost * ((done + 1) * size)
+costly_layer_more cost done size before now after so_far layer = let next : cost * ((done + 1) * size) ≡ cost * (done * size) + cost * size = omega arith in omega (arith, so_far, layer, next)
+
+-- what a chunk holds, told by another name of its length
+pub held_as_long : {A T : Type 0} (value : T → A) (d : T) (cells : ℕ → A) (number : ℕ) {a b : ℕ} (xs : List T) → a ≡ b → HoldsCells value d (number * a) cells xs → HoldsCells value d (number * b) cells xs
+held_as_long value d cells number xs same holds = subst (λ (n : ℕ). HoldsCells value d (number * n) cells xs) same holds

@@ -1,0 +1,113 @@
+use Rattle.std.proofs.Common.{◌≡◌, ℕ, ◌+◌, ◌*◌, ◌-◌, ◌^◌, ◌%◌, ◌<◌, ◌≤◌, get_or, sym, ap, ◌∙◌, subst, arith, length}
+use Rattle.std.proofs.lemmas.Nat.{pow_pos}
+use Rattle.p3_matrix.specs.BitOrder.{rev}
+use Rattle.p3_networks.proofs.Layers.Blocks.{halves_whole}
+use Rattle.p3_networks.proofs.Layers.Counts.{layer_counted, layers_counted, two_halves}
+use Rattle.p3_networks.proofs.Layers.Sizes.{cells_by_halves, done_shift, layer_size, left_shift, some_rows}
+use Rattle.p3_networks.proofs.Networks.LowLayers.{low_begun, low_done, low_first, low_layer}
+use Rattle.p3_networks.proofs.Tables.MoreTwiddles.{layer_end}
+use Rattle.p3_networks.proofs.radix_2_dit_parallel.halves.low_network_oop.Goals as goal
+
+pairs_are : (k : ℕ) → 0 < k → k < 64 → 1 * 2 ^ (k - 1) % 18446744073709551616 ≡ 2 ^ (k - 1)
+pairs_are k some small = done_shift k (k - 1) (omega (arith, some)) small
+
+-- the rows are pairs
+pairs_whole : (k : ℕ) → 0 < k → 2 ^ k ≡ 2 ^ (k - 1) * (2 * 1)
+pairs_whole k some = two_halves k (λ e. absurd (omega (arith, e, some))) ∙ omega arith
+
+cells_of_pairs : (k w : ℕ) → 0 < k → k < 64 → 2 ^ k * w ≡ 1 * 2 ^ (k - 1) % 18446744073709551616 * (2 * w)
+cells_of_pairs k w some small = rw (pairs_are k some small) (ap (λ n. n * w) (pairs_whole k some) ∙ omega arith)
+
+pub first_layer_oop-requires-clause-source : goal.first_layer_oop-requires-clause-source
+first_layer_oop-requires-clause-source g c = c.requires.source ∙ cells_of_pairs c.args.log_h c.args.width (omega (arith, c.if-log_h-eq0.false)) c.requires.small
+
+pub first_layer_oop-requires-clause-size : goal.first_layer_oop-requires-clause-size
+first_layer_oop-requires-clause-size g c = c.requires.size ∙ cells_of_pairs c.args.log_h c.args.width (omega (arith, c.if-log_h-eq0.false)) c.requires.small
+
+pub first_layer_oop-requires-clause-table : goal.first_layer_oop-requires-clause-table
+first_layer_oop-requires-clause-table g c = omega (arith, pairs_whole c.args.log_h (omega (arith, c.if-log_h-eq0.false)), pow_pos (c.args.log_h - 1), c.requires.table)
+
+pub loop-l-init : goal.loop-l-init
+loop-l-init g c =
+    let field = g.F.Field in
+    let k = c.args.log_h in
+    let w = c.args.width in
+    let some : 0 < k = omega (arith, c.if-log_h-eq0.false) in
+    let pairs = 1 * 2 ^ (k - 1) % 18446744073709551616 in
+    let are : pairs ≡ 2 ^ (k - 1) = pairs_are k some c.requires.small in
+    let cells : pairs * w ≡ 2 ^ (k - 1) * w = ap (λ n. n * w) are in
+    record {
+      rows = λ root s roots layers j r inside below.
+          let cell = λ (n : ℕ). field.value (get_or c.args.source.now n field.ZERO) in
+          low_first field root s k w roots pairs c.args.twiddles.now (λ q. cell (rev k q * w + j)) cell (λ n. field.value (get_or c.first_layer_oop.new.values n field.ZERO))
+          some (rw are (sym (pairs_whole k some))) layers c.first_layer_oop.ensures.near c.first_layer_oop.ensures.far j inside
+          (λ u v. low_begun field root s k w cell j u v) r below;
+      grows = c.first_layer_oop.ensures.grows;
+      cost = omega (arith, c.first_layer_oop.ensures.cost, cells);
+    }
+
+pub layer_twiddles-twiddles-requires-clause-inside : goal.layer_twiddles-twiddles-requires-clause-inside
+layer_twiddles-twiddles-requires-clause-inside g c = layer_end c.loop-l.l c.args.log_h (length c.args.twiddles.now) c.loop-l-test.true c.requires.table
+
+pub layer_by_place-requires-clause-some : goal.layer_by_place-requires-clause-some
+layer_by_place-requires-clause-some g c = some_rows _ c.loop-l.l (done_shift c.args.log_h c.loop-l.l c.loop-l-test.true c.requires.small)
+
+pub layer_by_place-requires-clause-blocks : goal.layer_by_place-requires-clause-blocks
+layer_by_place-requires-clause-blocks g c = some_rows _ (c.args.log_h - 1 - c.loop-l.l) (left_shift c.args.log_h c.loop-l.l c.loop-l-test.true c.requires.small)
+
+pub layer_by_place-requires-clause-size : goal.layer_by_place-requires-clause-size
+layer_by_place-requires-clause-size g c =
+    let l = c.loop-l.l in
+    let k = c.args.log_h in
+    rw (done_shift k l c.loop-l-test.true c.requires.small, left_shift k l c.loop-l-test.true c.requires.small)
+    (c.loop-l.auto.values ∙ c.first_layer_oop.auto.values ∙ c.requires.size ∙ cells_by_halves k l c.args.width c.loop-l-test.true)
+
+pub layer_by_place-requires-clause-table : goal.layer_by_place-requires-clause-table
+layer_by_place-requires-clause-table g c =
+    let l = c.loop-l.l in
+    let k = c.args.log_h in
+    let half = done_shift k l c.loop-l-test.true c.requires.small in
+    let size = ap length c.layer_twiddles-twiddles.ensures ∙ layer_size c.args.twiddles.now l (layer_end l k (length c.args.twiddles.now) c.loop-l-test.true c.requires.table) in
+    omega (arith, half, size)
+
+pub loop-l-preserved : goal.loop-l-preserved
+loop-l-preserved g c =
+    let field = g.F.Field in
+    let l = c.loop-l.l in
+    let k = c.args.log_h in
+    let w = c.args.width in
+    let half = 1 * 2 ^ l % 18446744073709551616 in
+    let blocks = 1 * 2 ^ (k - 1 - l) % 18446744073709551616 in
+    let h : half ≡ 2 ^ l = done_shift k l c.loop-l-test.true c.requires.small in
+    let b : blocks ≡ 2 ^ (k - 1 - l) = left_shift k l c.loop-l-test.true c.requires.small in
+    let whole : blocks * (2 * half) ≡ 2 ^ k = rw (h, b) (halves_whole k l c.loop-l-test.true) in
+    record {
+      rows = λ root s roots layers j r inside below.
+          low_layer field root s k w roots l half blocks c.layer_twiddles-twiddles.result.now (λ u. field.value (get_or c.args.source.now (rev k u * w + j) field.ZERO))
+          (λ n. field.value (get_or c.loop-l.values n field.ZERO)) (λ n. field.value (get_or c.layer_by_place.new.values n field.ZERO))
+          c.loop-l-test.true h whole (rw c.layer_twiddles-twiddles.ensures (layers.layers l c.loop-l-test.true))
+          c.layer_by_place.ensures.near c.layer_by_place.ensures.far j inside
+          (λ u v. c.loop-l.invariant.rows root s roots layers j u inside v) r below;
+      grows = omega (arith, c.loop-l.invariant.grows, c.layer_by_place.ensures.grows);
+      cost = layer_counted 1 k l w blocks half c.args.products.now c.loop-l.products c.layer_by_place.new.products c.loop-l-test.true whole c.loop-l.invariant.cost c.layer_by_place.ensures.cost;
+    }
+
+pub returns-then-log_h-eq0-clause-values : goal.returns-then-log_h-eq0-clause-values
+returns-then-log_h-eq0-clause-values g c root s roots layers r j q p =
+    let field = g.F.Field in
+    let k = c.args.log_h in
+    let w = c.args.width in
+    rw c.copy_from_slice.ensures.after
+    (low_done field root s k w 0 _ _ r (sym c.if-log_h-eq0.true) (low_begun field root s k w (λ n. field.value (get_or c.args.source.now n field.ZERO)) j r q) q)
+
+pub returns-after-loop-l-clause-values : goal.returns-after-loop-l-clause-values
+returns-after-loop-l-clause-values g c root s roots layers r j q p =
+    let field = g.F.Field in
+    low_done field root s c.args.log_h c.args.width c.loop-l.l _ _ r (omega arith) (c.loop-l.invariant.rows root s roots layers j r p q) q
+
+pub returns-after-loop-l-clause-cost : goal.returns-after-loop-l-clause-cost
+returns-after-loop-l-clause-cost g c =
+    let k = c.args.log_h in
+    let w = c.args.width in
+    let e : c.loop-l.l ≡ k = omega arith in
+    subst (λ (n : ℕ). c.loop-l.products ≤ c.args.products.now + n) (ap (λ n. 1 * (n * (2 ^ (k - 1) * w))) e ∙ layers_counted k w) c.loop-l.invariant.cost

@@ -1,0 +1,11 @@
+use Rattle.std.proofs.Common.{◌≡◌, ◌-◌, ◌^◌, length}
+use Rattle.p3_networks.specs.Twiddles.{AreTwiddlesOfLayers, root_powers}
+use Rattle.p3_networks.proofs.twiddles.twiddles_of_layers.Given as goal
+
+-- the first layers are there
+abbrev pub invariant-loop-l : goal.invariant-loop-l
+invariant-loop-l g l =
+    record {
+      full : length l.powers.items ≡ 2 ^ l.l - 1;
+      layers : AreTwiddlesOfLayers g.F.Field l.l (root_powers g.F.Field g.F.TwoAdicField.generator l.fn.inverse) l.powers.items;
+    }

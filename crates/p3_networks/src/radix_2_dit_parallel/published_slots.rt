@@ -1,0 +1,318 @@
+//! An extension coset by coset. Of its `2^(log_h + added_bits)` rows each chunk of `2^log_h` is a slot, which
+//! gets the values on a coset of its own. The coefficients are the first slot, in bit reversed order.
+
+ghost use Rattle.std.specs.Prelude.{◌≡◌, ℕ, ◌+◌, ◌-◌, ◌*◌, ◌/◌, ◌^◌, ◌<◌, ◌≤◌, ◌++◌, ◌∷◌, [], List, IfErr, IsPermutation, OnOk, get_or, length};
+ghost use Rattle.p3_field.specs.Ring.{AreRoots};
+ghost use Rattle.p3_matrix.specs.BitOrder.{rev};
+ghost use Rattle.p3_matrix.specs.Blocks.{AreBlocksOf, Run, RunToRefusal};
+ghost use Rattle.p3_matrix.specs.Matrix.{image, matrix};
+ghost use Rattle.p3_matrix.specs.RowMajor.{RowMajor};
+ghost use Rattle.p3_matrix.specs.Cosets.{point};
+ghost use Rattle.p3_networks.specs.Layers.{AreValuesOfRows};
+ghost use Rattle.p3_matrix.specs.Polynomials.{poly};
+ghost use Rattle.p3_networks.specs.Slots.{extended_rows, slot_block, slot_blocks};
+ghost use Rattle.p3_networks.specs.Twiddles.{AreBlockTwiddles, HasCoset, HasCosets, IsCosetAt, block_end, forward_root};
+
+use crate::radix_2_dit_parallel::coset_tables::{CosetTable, CosetTables, slot_shift};
+use crate::radix_2_dit_parallel::halves::{
+    BlockTwiddles, first_half, first_half_oop, high_network,
+};
+use p3_field::{Field, Products, TwoAdicField};
+use p3_matrix::bitrev::reverse_chunks;
+use p3_matrix::{BlockConsumer, RowMajorMatrixView};
+
+/// From coefficients in bit reversed order, which are the first slot, their values on the coset of `shift` of
+/// order `2^(log_h + added_bits)`, in bit reversed order. Slot m is the coset of `shift` times the power
+/// `rev m` of the generator of the larger order, and has a table. The first slot is done last, since the
+/// others are made from the coefficients in it.
+///
+/// Each chunk of rows of the second half is lent to the consumer as soon as it is final. When one is refused,
+/// the rest is not done.
+pub fn extend_slots<F: TwoAdicField, C: BlockConsumer<F>>(
+    values: &mut [F],
+    width: usize,
+    log_h: usize,
+    added_bits: usize,
+    shift: F,
+    cosets: &CosetTables<F>,
+    consumer: &mut C,
+    products: &mut Products,
+) -> Result<(), C::Refusal>
+    requires wide { 1 ≤ width }
+    requires within { log_h + added_bits ≤ F.TWO_ADICITY }
+    requires small { log_h + added_bits < 64 }
+    requires size { length values.old ≡ 2 ^ (log_h + added_bits) * width }
+    requires tables { HasCosets F.Field.own F.generator cosets.now log_h added_bits (F.value shift) }
+    ensures values { OnOk result ((r j : ℕ) → r < 2 ^ (log_h + added_bits) → j < width → F.value (get_or values.new (r * width + j) F.ZERO)
+        ≡ (extended_rows F.Field.own F.generator log_h added_bits width (F.value shift) values.old).entry r j) }
+    ensures published { OnOk result ((blocks : List (ℕ × RowMajor F))
+        × IsPermutation (slot_blocks 0 (2 ^ (log_h - (log_h + 1) / 2)) width values.new (2 ^ added_bits * 2 ^ ((log_h + 1) / 2))) blocks
+        × Run C.step consumer.old blocks consumer.new) }
+    ensures refused { IfErr result (λ refusal. (accepted : List (ℕ × RowMajor F)) × (refused : ℕ × RowMajor F)
+        × AreBlocksOf (λ m. image F.value (matrix F.ZERO m)) (2 ^ (log_h - (log_h + 1) / 2))
+        (extended_rows F.Field.own F.generator log_h added_bits width (F.value shift) values.old) (accepted ++ refused ∷ [])
+        × RunToRefusal C.step consumer.old accepted refused refusal consumer.new) }
+    ensures grows { products.old ≤ products.new }
+    ensures cost { products.new ≤ products.old + 2 ^ added_bits * (width * (log_h * 2 ^ log_h / 2)) }
+{
+    let slots = 1usize << added_bits;
+    let size = values.len() / slots;
+    let (coefficients, others) = values.split_at_mut(size);
+    let mut found = 0;
+    for place in 0..slots - 1 {
+        found = place_of_slot(cosets, log_h, added_bits, shift, place + 1, found);
+        let table = cosets.get(found);
+        let start = place * size;
+        let slot = &mut others[start..start + size];
+        let first_row = (place + 1) << log_h;
+        if let Err(refusal) = evaluate_reversed_oop(
+            coefficients,
+            slot,
+            width,
+            log_h,
+            table,
+            first_row,
+            consumer,
+            products,
+        ) {
+            return Err(refusal);
+        }
+    }
+    let found = place_of_slot(cosets, log_h, added_bits, shift, 0, found);
+    let table = cosets.get(found);
+    evaluate_reversed(coefficients, width, log_h, table, 0, consumer, products)
+}
+
+// The place of the table of a slot's coset. The search begins at `start`.
+fn place_of_slot<F: TwoAdicField>(
+    cosets: &CosetTables<F>,
+    log_h: usize,
+    added_bits: usize,
+    shift: F,
+    slot: usize,
+    start: usize,
+) -> usize
+    requires within { log_h + added_bits ≤ F.TWO_ADICITY }
+    requires small { log_h + added_bits < 64 }
+    requires there { HasCoset F.Field.own cosets.now log_h
+        (point F.ring (forward_root F.Field.own F.generator) (log_h + added_bits) (F.value shift) (rev added_bits slot)) }
+    ensures { IsCosetAt F.Field.own cosets.now log_h
+        (point F.ring (forward_root F.Field.own F.generator) (log_h + added_bits) (F.value shift) (rev added_bits slot)) result }
+{
+    let coset = slot_shift(log_h, added_bits, shift, slot);
+    cosets.place_of(log_h, coset, start)
+}
+
+// From coefficients in bit reversed order, which lie in another slice, their values on the coset that a
+// table is of, in bit reversed order. The rows are those from number `first_row` on.
+fn evaluate_reversed_oop<F: TwoAdicField, C: BlockConsumer<F>>(
+    coefficients: &[F],
+    values: &mut [F],
+    width: usize,
+    log_h: usize,
+    table: &CosetTable<F>,
+    first_row: usize,
+    consumer: &mut C,
+    products: &mut Products,
+) -> Result<(), C::Refusal>
+    requires wide { 1 ≤ width }
+    requires small { log_h < 64 }
+    requires source { length coefficients.now ≡ 2 ^ log_h * width }
+    requires size { length values.old ≡ 2 ^ log_h * width }
+    requires table { table.now.log_h ≡ log_h }
+    requires rows { first_row + 2 ^ log_h < 2 ^ 64 }
+    ensures accepted { OnOk result (AreValuesOfRows F.Field.own width (2 ^ log_h) (rev log_h)
+        (λ r. point F.ring (forward_root F.Field.own F.generator) log_h (F.value table.now.shift) (rev log_h r)) coefficients.now values.new
+        × Run C.step consumer.old (slot_blocks first_row (2 ^ (log_h - (log_h + 1) / 2)) width values.new (2 ^ ((log_h + 1) / 2)))
+        consumer.new) }
+    ensures refused { IfErr result (λ refusal. (n : ℕ) × (n < 2 ^ ((log_h + 1) / 2))
+        × ((r j : ℕ) → r < (n + 1) * 2 ^ (log_h - (log_h + 1) / 2) → j < width → F.value (get_or values.new (r * width + j) F.ZERO)
+        ≡ poly F.ring (2 ^ log_h) (λ q. F.value (get_or coefficients.now (rev log_h q * width + j) F.ZERO))
+        (point F.ring (forward_root F.Field.own F.generator) log_h (F.value table.now.shift) (rev log_h r)))
+        × RunToRefusal C.step consumer.old (slot_blocks first_row (2 ^ (log_h - (log_h + 1) / 2)) width values.new n)
+        (slot_block first_row (2 ^ (log_h - (log_h + 1) / 2)) width values.new n) refusal consumer.new) }
+    ensures grows { products.old ≤ products.new }
+    ensures cost { products.new ≤ products.old + width * (log_h * 2 ^ log_h / 2) }
+{
+    let mid = (log_h + 1) / 2;
+    let twiddles = table.twiddles();
+    first_half_oop(coefficients, values, width, log_h, mid, twiddles, products);
+    let high = BlockTwiddles {
+        twiddles,
+        by_layer: true,
+    };
+    last_half(
+        values,
+        width,
+        mid,
+        log_h - mid,
+        high,
+        first_row,
+        consumer,
+        products,
+    )
+}
+
+// The same in their place.
+fn evaluate_reversed<F: TwoAdicField, C: BlockConsumer<F>>(
+    values: &mut [F],
+    width: usize,
+    log_h: usize,
+    table: &CosetTable<F>,
+    first_row: usize,
+    consumer: &mut C,
+    products: &mut Products,
+) -> Result<(), C::Refusal>
+    requires wide { 1 ≤ width }
+    requires small { log_h < 64 }
+    requires size { length values.old ≡ 2 ^ log_h * width }
+    requires table { table.now.log_h ≡ log_h }
+    requires rows { first_row + 2 ^ log_h < 2 ^ 64 }
+    ensures accepted { OnOk result (AreValuesOfRows F.Field.own width (2 ^ log_h) (rev log_h)
+        (λ r. point F.ring (forward_root F.Field.own F.generator) log_h (F.value table.now.shift) (rev log_h r)) values.old values.new
+        × Run C.step consumer.old (slot_blocks first_row (2 ^ (log_h - (log_h + 1) / 2)) width values.new (2 ^ ((log_h + 1) / 2)))
+        consumer.new) }
+    ensures refused { IfErr result (λ refusal. (n : ℕ) × (n < 2 ^ ((log_h + 1) / 2))
+        × ((r j : ℕ) → r < (n + 1) * 2 ^ (log_h - (log_h + 1) / 2) → j < width → F.value (get_or values.new (r * width + j) F.ZERO)
+        ≡ poly F.ring (2 ^ log_h) (λ q. F.value (get_or values.old (rev log_h q * width + j) F.ZERO))
+        (point F.ring (forward_root F.Field.own F.generator) log_h (F.value table.now.shift) (rev log_h r)))
+        × RunToRefusal C.step consumer.old (slot_blocks first_row (2 ^ (log_h - (log_h + 1) / 2)) width values.new n)
+        (slot_block first_row (2 ^ (log_h - (log_h + 1) / 2)) width values.new n) refusal consumer.new) }
+    ensures grows { products.old ≤ products.new }
+    ensures cost { products.new ≤ products.old + width * (log_h * 2 ^ log_h / 2) }
+{
+    let mid = (log_h + 1) / 2;
+    let twiddles = table.twiddles();
+    first_half(values, width, log_h, mid, twiddles, products);
+    let high = BlockTwiddles {
+        twiddles,
+        by_layer: true,
+    };
+    last_half(
+        values,
+        width,
+        mid,
+        log_h - mid,
+        high,
+        first_row,
+        consumer,
+        products,
+    )
+}
+
+// The rows, which are as the first half leaves them, are reversed, and go through the second half. Each chunk
+// is lent when it is done.
+fn last_half<F: TwoAdicField, C: BlockConsumer<F>>(
+    values: &mut [F],
+    width: usize,
+    mid: usize,
+    left: usize,
+    table: BlockTwiddles<'_, F>,
+    first_row: usize,
+    consumer: &mut C,
+    products: &mut Products,
+) -> Result<(), C::Refusal>
+    requires wide { 1 ≤ width }
+    requires small { mid + left < 64 }
+    requires size { length values.old ≡ 2 ^ (mid + left) * width }
+    requires table { (l : ℕ) → mid ≤ l → l < mid + left → block_end table.by_layer l ≤ length table.twiddles.now }
+    requires rows { first_row + 2 ^ (mid + left) < 2 ^ 64 }
+    ensures accepted { OnOk result (((g : ℕ → F.Element) (s : F.Element) → AreRoots F.ring (mid + left) g
+        → AreBlockTwiddles F.Field.own g s mid (mid + left) table.entry.by_layer table.entry.twiddles.now
+        → (a t j : ℕ) → a < 2 ^ mid → t < 2 ^ left → j < width
+        → F.value (get_or values.new ((a * 2 ^ left + t) * width + j) F.ZERO)
+        ≡ poly F.ring (2 ^ left) (λ q. F.value (get_or values.old ((rev left q * 2 ^ mid + rev mid a) * width + j) F.ZERO))
+        (point F.ring g left (point F.ring g (mid + left) s (rev mid a)) (rev left t)))
+        × Run C.step consumer.old (slot_blocks first_row (2 ^ left) width values.new (2 ^ mid)) consumer.new) }
+    ensures refused { IfErr result (λ refusal. (n : ℕ) × (n < 2 ^ mid)
+        × ((g : ℕ → F.Element) (s : F.Element) → AreRoots F.ring (mid + left) g
+        → AreBlockTwiddles F.Field.own g s mid (mid + left) table.entry.by_layer table.entry.twiddles.now
+        → (a t j : ℕ) → a < n + 1 → t < 2 ^ left → j < width
+        → F.value (get_or values.new ((a * 2 ^ left + t) * width + j) F.ZERO)
+        ≡ poly F.ring (2 ^ left) (λ q. F.value (get_or values.old ((rev left q * 2 ^ mid + rev mid a) * width + j) F.ZERO))
+        (point F.ring g left (point F.ring g (mid + left) s (rev mid a)) (rev left t)))
+        × RunToRefusal C.step consumer.old (slot_blocks first_row (2 ^ left) width values.new n)
+        (slot_block first_row (2 ^ left) width values.new n) refusal consumer.new) }
+    ensures grows { products.old ≤ products.new }
+    ensures cost { products.new ≤ products.old + 2 ^ mid * (width * (left * 2 ^ left / 2)) }
+{
+    reverse_chunks(values, width, mid + left);
+    let chunks = 1usize << mid;
+    let height = 1usize << left;
+    let size = values.len() / chunks;
+    for chunk in 0..chunks {
+        let start = chunk * size;
+        let rows = &mut values[start..start + size];
+        let row = first_row + chunk * height;
+        if let Err(refusal) = finish_chunk(
+            rows, width, mid, left, chunk, table, row, consumer, products,
+        ) {
+            return Err(refusal);
+        }
+    }
+    Ok(())
+}
+
+// One chunk of the second half, which is lent when it is done. Its first row has the number `row`.
+fn finish_chunk<F: TwoAdicField, C: BlockConsumer<F>>(
+    values: &mut [F],
+    width: usize,
+    mid: usize,
+    left: usize,
+    chunk: usize,
+    table: BlockTwiddles<'_, F>,
+    row: usize,
+    consumer: &mut C,
+    products: &mut Products,
+) -> Result<(), C::Refusal>
+    requires wide { 1 ≤ width }
+    requires small { mid + left < 64 }
+    requires chunk { chunk < 2 ^ mid }
+    requires size { length values.old ≡ 2 ^ left * width }
+    requires table { (l : ℕ) → mid ≤ l → l < mid + left → block_end table.by_layer l ≤ length table.twiddles.now }
+    ensures values { (g : ℕ → F.Element) (s : F.Element) → AreRoots F.ring (mid + left) g
+        → AreBlockTwiddles F.Field.own g s mid (mid + left) table.entry.by_layer table.entry.twiddles.now
+        → (t j : ℕ) → t < 2 ^ left → j < width → F.value (get_or values.new (t * width + j) F.ZERO)
+        ≡ poly F.ring (2 ^ left) (λ q. F.value (get_or values.old (q * width + j) F.ZERO))
+        (point F.ring g left (point F.ring g (mid + left) s (rev mid chunk)) (rev left t)) }
+    ensures lent { C.step consumer.old row (record { width = width; values = values.new }) result consumer.new }
+    ensures grows { products.old ≤ products.new }
+    ensures cost { products.new ≤ products.old + 1 * (width * (left * 2 ^ left / 2)) }
+{
+    last_layers(values, width, mid, left, chunk, table, products);
+    let block = RowMajorMatrixView::new(&values[..], width);
+    consumer.consume(row, block)
+}
+
+// The layers of one chunk of the second half. Where that has none, its rows are done.
+fn last_layers<F: TwoAdicField>(
+    values: &mut [F],
+    width: usize,
+    mid: usize,
+    left: usize,
+    chunk: usize,
+    table: BlockTwiddles<'_, F>,
+    products: &mut Products,
+)
+    requires wide { 1 ≤ width }
+    requires small { mid + left < 64 }
+    requires chunk { chunk < 2 ^ mid }
+    requires size { length values.old ≡ 2 ^ left * width }
+    requires table { (l : ℕ) → mid ≤ l → l < mid + left → block_end table.by_layer l ≤ length table.twiddles.now }
+    ensures values { (g : ℕ → F.Element) (s : F.Element) → AreRoots F.ring (mid + left) g
+        → AreBlockTwiddles F.Field.own g s mid (mid + left) table.entry.by_layer table.entry.twiddles.now
+        → (t j : ℕ) → t < 2 ^ left → j < width → F.value (get_or values.new (t * width + j) F.ZERO)
+        ≡ poly F.ring (2 ^ left) (λ q. F.value (get_or values.old (q * width + j) F.ZERO))
+        (point F.ring g left (point F.ring g (mid + left) s (rev mid chunk)) (rev left t)) }
+    ensures grows { products.old ≤ products.new }
+    ensures cost { products.new ≤ products.old + 1 * (width * (left * 2 ^ left / 2)) }
+{
+    if left > 0 {
+        // One column is made apart: where the width is known, no loop along a row is left.
+        if width == 1 {
+            high_network(values, 1, mid, left, chunk, table, None, products);
+        } else {
+            high_network(values, width, mid, left, chunk, table, None, products);
+        }
+    }
+}
