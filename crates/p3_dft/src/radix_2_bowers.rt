@@ -252,10 +252,10 @@ fn evaluate_to_natural<F: TwoAdicField>(
     let generator = F::two_adic_generator(log_h);
     let twiddles = reversed_powers(*mat.allocator(), F::ONE, generator, log_h - 1)?;
     network_g(
+        twiddles.as_slice(),
         mat.values_mut(),
         width,
         log_h,
-        twiddles.as_slice(),
         products,
     );
     Ok(())
@@ -288,10 +288,10 @@ fn interpolate_unscaled_to_reversed<F: TwoAdicField>(
     let inverse = generator.inverse();
     let twiddles = reversed_powers(*mat.allocator(), F::ONE, inverse, log_h - 1)?;
     network_g_transposed(
+        twiddles.as_slice(),
         mat.values_mut(),
         width,
         log_h,
-        twiddles.as_slice(),
         products,
     );
     Ok(())
@@ -335,9 +335,9 @@ fn extend_to_natural<F: TwoAdicField>(
 
 // Multiplies row i by weight i, with one product an entry.
 fn weigh_rows<F: TwoAdicField>(
+    weights: &[F],
     values: &mut [F],
     width: usize,
-    weights: &[F],
     products: &mut Products,
 )
     requires full { length values.old ≡ length weights.now * width }
@@ -370,7 +370,7 @@ fn weigh_reversed_rows<F: TwoAdicField>(
     let width = mat.width();
     let log_h = log2_strict_usize(mat.height());
     let weights = reversed_powers(*mat.allocator(), scale, shift, log_h)?;
-    weigh_rows(mat.values_mut(), width, weights.as_slice(), products);
+    weigh_rows(weights.as_slice(), mat.values_mut(), width, products);
     Ok(())
 }
 

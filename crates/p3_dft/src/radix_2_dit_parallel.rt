@@ -176,7 +176,7 @@ impl<F: TwoAdicField> TwoAdicSubgroupDft<F> for Radix2DitParallel<F> {
         }
         let log_h = log2_strict_usize(height);
         self.tables.make(*mat.allocator(), log_h)?;
-        evaluate_to_reversed(&mut mat, log_h, &self.tables, &mut self.products);
+        evaluate_to_reversed(&self.tables, &mut mat, log_h, &mut self.products);
         Ok(mat.bit_reverse_rows())
     }
 
@@ -233,7 +233,7 @@ impl<F: TwoAdicField> TwoAdicSubgroupDft<F> for Radix2DitParallel<F> {
         let log_h = log2_strict_usize(height);
         let place = self.cosets.make(*mat.allocator(), log_h, shift)?;
         let table = self.cosets.get(place);
-        evaluate_on_coset_to_reversed(&mut mat, log_h, table, &mut self.products);
+        evaluate_on_coset_to_reversed(table, &mut mat, log_h, &mut self.products);
         Ok(mat.bit_reverse_rows())
     }
 
@@ -263,7 +263,7 @@ impl<F: TwoAdicField> TwoAdicSubgroupDft<F> for Radix2DitParallel<F> {
         }
         let log_h = log2_strict_usize(height);
         self.tables.make(*mat.allocator(), log_h)?;
-        interpolate_to_reversed(&mut mat, log_h, &self.tables, &mut self.products);
+        interpolate_to_reversed(&self.tables, &mut mat, log_h, &mut self.products);
         reverse_rows(&mut mat);
         Ok(mat)
     }
@@ -372,12 +372,12 @@ impl<F: TwoAdicField> TwoAdicSubgroupDft<F> for Radix2DitParallel<F> {
         let log_h = log2_strict_usize(mat.height());
         let block_height = self.block_height(log_h, added_bits);
         let room = coefficients_with_room(
+            &mut self.tables,
+            &mut self.cosets,
             mat,
             added_bits,
             shift,
             transform,
-            &mut self.tables,
-            &mut self.cosets,
             &mut self.products,
         );
         let mut mat = match room {
@@ -386,11 +386,11 @@ impl<F: TwoAdicField> TwoAdicSubgroupDft<F> for Radix2DitParallel<F> {
         };
         let mut consumer = make_consumer(block_height);
         let extended = extend_reversed(
+            &self.cosets,
             &mut mat,
             log_h,
             added_bits,
             shift,
-            &self.cosets,
             &mut consumer,
             &mut self.products,
         );

@@ -200,7 +200,7 @@ impl<F: TwoAdicField> TwoAdicSubgroupDft<F> for Radix2DFTSmallBatch<F> {
         let log_h = log2_strict_usize(height);
         self.tables.make(*mat.allocator(), log_h)?;
         let twiddles = self.tables.forward();
-        evaluate_natural(&mut mat, log_h, self.tile, twiddles, &mut self.products);
+        evaluate_natural(twiddles, &mut mat, log_h, self.tile, &mut self.products);
         Ok(mat)
     }
 
@@ -238,7 +238,7 @@ impl<F: TwoAdicField> TwoAdicSubgroupDft<F> for Radix2DFTSmallBatch<F> {
         let log_h = log2_strict_usize(height);
         self.tables.make(*mat.allocator(), log_h)?;
         let twiddles = self.tables.backward();
-        interpolate_natural(&mut mat, log_h, self.tile, twiddles, &mut self.products);
+        interpolate_natural(twiddles, &mut mat, log_h, self.tile, &mut self.products);
         Ok(mat)
     }
 
@@ -275,17 +275,17 @@ impl<F: TwoAdicField> TwoAdicSubgroupDft<F> for Radix2DFTSmallBatch<F> {
         self.tables.make(*mat.allocator(), log_h + added_bits)?;
         let tile = self.tile;
         let backward = self.tables.backward();
-        interpolate_unscaled_to_reversed(&mut mat, log_h, tile, backward, &mut self.products);
+        interpolate_unscaled_to_reversed(backward, &mut mat, log_h, tile, &mut self.products);
         let scale = F::ONE.div_2exp_u64(log_h as u64);
         let forward = self.tables.forward();
         extend_to_natural(
-            mat,
+            forward,
             scale,
-            shift,
+            mat,
             log_h,
             added_bits,
+            shift,
             tile,
-            forward,
             &mut self.products,
         )
     }
@@ -313,12 +313,12 @@ impl<F: TwoAdicField> TwoAdicSubgroupDft<F> for Radix2DFTSmallBatch<F> {
         let mut grown = pad_rows(changed, added_bits)?;
         let twiddles = self.tables.forward();
         extend_to_reversed(
+            twiddles,
             &mut grown,
             log_h,
             added_bits,
             shift,
             self.tile,
-            twiddles,
             &mut self.products,
         );
         Ok(grown.bit_reverse_rows())
@@ -341,10 +341,10 @@ impl<F: TwoAdicField> TwoAdicSubgroupDft<F> for Radix2DFTSmallBatch<F> {
 
 // From coefficients to values on the subgroup, in place.
 fn evaluate_natural<F: TwoAdicField>(
+    twiddles: &[F],
     mat: &mut RowMajorMatrix<F>,
     log_h: usize,
     tile: usize,
-    twiddles: &[F],
     products: &mut Products,
 )
     requires whole { IsRowMajor mat.old }
@@ -377,10 +377,10 @@ fn evaluate_natural<F: TwoAdicField>(
 // From values on the subgroup, the coefficients times the height, in place: rows in natural order
 // become rows in bit reversed order. A single row has no layer.
 fn interpolate_unscaled_to_reversed<F: TwoAdicField>(
+    twiddles: &[F],
     mat: &mut RowMajorMatrix<F>,
     log_h: usize,
     tile: usize,
-    twiddles: &[F],
     products: &mut Products,
 )
     requires whole { IsRowMajor mat.old }
@@ -417,13 +417,13 @@ fn interpolate_unscaled_to_reversed<F: TwoAdicField>(
 // From coefficients whose rows lie in bit reversed order, times `scale`, the values on the coset of
 // `shift` of `2^added_bits` times as many points, which are more than one.
 fn extend_to_natural<F: TwoAdicField>(
-    mat: RowMajorMatrix<F>,
+    twiddles: &[F],
     scale: F,
-    shift: F,
+    mat: RowMajorMatrix<F>,
     log_h: usize,
     added_bits: usize,
+    shift: F,
     tile: usize,
-    twiddles: &[F],
     products: &mut Products,
 ) -> Result<RowMajorMatrix<F>, DftError>
     requires whole { IsRowMajor mat }
@@ -465,12 +465,12 @@ fn extend_to_natural<F: TwoAdicField>(
 // From coefficients in natural order, with rows of zeros below them, their values on the coset of `shift`
 // that has as many points as there are rows, in bit reversed order. What the zeros are does not matter.
 fn extend_to_reversed<F: TwoAdicField>(
+    twiddles: &[F],
     mat: &mut RowMajorMatrix<F>,
     log_h: usize,
     added_bits: usize,
     shift: F,
     tile: usize,
-    twiddles: &[F],
     products: &mut Products,
 )
     requires whole { IsRowMajor mat.old }
@@ -506,10 +506,10 @@ fn extend_to_reversed<F: TwoAdicField>(
 
 // From values on the subgroup to coefficients, in place.
 fn interpolate_natural<F: TwoAdicField>(
+    twiddles: &[F],
     mat: &mut RowMajorMatrix<F>,
     log_h: usize,
     tile: usize,
-    twiddles: &[F],
     products: &mut Products,
 )
     requires whole { IsRowMajor mat.old }

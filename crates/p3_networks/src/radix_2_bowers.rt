@@ -16,10 +16,10 @@ use p3_field::{Products, TwoAdicField};
 /// twiddle b. Block 0 has no product. There are two rows or more, and half as many twiddles: the powers of
 /// the generator, in bit reversed order.
 pub fn network_g<F: TwoAdicField>(
+    twiddles: &[F],
     values: &mut [F],
     width: usize,
     log_h: usize,
-    twiddles: &[F],
     products: &mut Products,
 )
     requires wide { 1 ≤ width }
@@ -44,10 +44,10 @@ pub fn network_g<F: TwoAdicField>(
 /// no product. There are two rows or more, and half as many twiddles: the powers of that inverse, in bit
 /// reversed order.
 pub fn network_g_transposed<F: TwoAdicField>(
+    twiddles: &[F],
     values: &mut [F],
     width: usize,
     log_h: usize,
-    twiddles: &[F],
     products: &mut Products,
 )
     requires wide { 1 ≤ width }

@@ -22,10 +22,10 @@ const CACHED: usize = 65_536;
 /// Where the rows do not fit into the cache, each half of them, which is a network of its own, goes through
 /// all of its layers before the one that joins the two.
 pub fn dit_network_to_natural<F: TwoAdicField>(
+    twiddles: &[F],
     values: &mut [F],
     width: usize,
     log_h: usize,
-    twiddles: &[F],
     products: &mut Products,
 )
     requires wide { 1 ≤ width }
@@ -40,11 +40,11 @@ pub fn dit_network_to_natural<F: TwoAdicField>(
 {
     if log_h > 0 && values.len() > CACHED {
         let (low, high) = values.split_at_mut(values.len() / 2);
-        dit_network_to_natural(low, width, log_h - 1, twiddles, products);
-        dit_network_to_natural(high, width, log_h - 1, twiddles, products);
+        dit_network_to_natural(twiddles, low, width, log_h - 1, products);
+        dit_network_to_natural(twiddles, high, width, log_h - 1, products);
         let twiddles = layer_twiddles(twiddles, log_h - 1);
         layer_by_place(twiddles, values, width, 1 << (log_h - 1), 1, products);
     } else {
-        first_half(values, width, log_h, log_h, twiddles, products);
+        first_half(twiddles, values, width, log_h, log_h, products);
     }
 }

@@ -28,12 +28,12 @@ pub(crate) fn coefficients_with_room<
     F: TwoAdicField,
     T: FnOnce(RowMajorMatrix<F>, Layout) -> RowMajorMatrix<F> + Drop,
 >(
+    tables: &mut Tables<F>,
+    cosets: &mut CosetTables<F>,
     mat: RowMajorMatrix<F>,
     added_bits: usize,
     shift: F,
     transform: T,
-    tables: &mut Tables<F>,
-    cosets: &mut CosetTables<F>,
     products: &mut Products,
 ) -> Result<RowMajorMatrix<F>, DftError>
     requires fits { FitsLde F.TWO_ADICITY (height mat) mat.width added_bits }
@@ -56,7 +56,7 @@ pub(crate) fn coefficients_with_room<
     let alloc = *mat.allocator();
     let log_h = log2_strict_usize(mat.height());
     tables.make(alloc, log_h)?;
-    interpolate_to_reversed(&mut mat, log_h, tables, products);
+    interpolate_to_reversed(tables, &mut mat, log_h, products);
     let changed = transform(mat, Layout::BitReversed);
     let grown = pad_rows(changed, added_bits)?;
     cosets.make_all(alloc, log_h, added_bits, shift)?;
@@ -68,11 +68,11 @@ pub(crate) fn coefficients_with_room<
 // matter. Each block of rows is lent to the consumer when it is final; when one is refused, the rest is not
 // done.
 pub(crate) fn extend_reversed<F: TwoAdicField, C: BlockConsumer<F>>(
+    cosets: &CosetTables<F>,
     mat: &mut RowMajorMatrix<F>,
     log_h: usize,
     added_bits: usize,
     shift: F,
-    cosets: &CosetTables<F>,
     consumer: &mut C,
     products: &mut Products,
 ) -> Result<(), C::Refusal>
@@ -100,12 +100,12 @@ pub(crate) fn extend_reversed<F: TwoAdicField, C: BlockConsumer<F>>(
 {
     let width = mat.width();
     extend_slots(
+        cosets,
         mat.values_mut(),
         width,
         log_h,
         added_bits,
         shift,
-        cosets,
         consumer,
         products,
     )

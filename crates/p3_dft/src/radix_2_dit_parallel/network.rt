@@ -15,12 +15,12 @@ use p3_networks::radix_2_dit_parallel::halves::{BlockTwiddles, first_half, secon
 // From coefficients in natural order, their values on a coset, in bit reversed order. The first half has
 // `mid` layers and the second `left`. With a scale, the values are multiplied by it.
 pub(crate) fn network_to_reversed<F: TwoAdicField>(
-    mat: &mut RowMajorMatrix<F>,
-    mid: usize,
-    left: usize,
     low: &[F],
     high: BlockTwiddles<'_, F>,
     scale: Option<F>,
+    mat: &mut RowMajorMatrix<F>,
+    mid: usize,
+    left: usize,
     products: &mut Products,
 )
     requires whole { IsRowMajor mat.old }
@@ -41,16 +41,16 @@ pub(crate) fn network_to_reversed<F: TwoAdicField>(
         + (2 ^ left * (mat.old.width * (mid * 2 ^ mid / 2))
         + 2 ^ mid * (mat.old.width * (left * 2 ^ left / 2) + scale_cost scale * (2 ^ left * mat.old.width))) }
 {
-    first_of_matrix(mat, mid, left, low, products);
-    second_of_matrix(mat, mid, left, high, scale, products);
+    first_of_matrix(low, mat, mid, left, products);
+    second_of_matrix(high, scale, mat, mid, left, products);
 }
 
 // The rows are reversed, then the first half.
 fn first_of_matrix<F: TwoAdicField>(
+    twiddles: &[F],
     mat: &mut RowMajorMatrix<F>,
     mid: usize,
     left: usize,
-    twiddles: &[F],
     products: &mut Products,
 )
     requires whole { IsRowMajor mat.old }
@@ -68,17 +68,17 @@ fn first_of_matrix<F: TwoAdicField>(
 {
     let width = mat.width();
     reverse_rows(mat);
-    first_half(mat.values_mut(), width, mid + left, mid, twiddles, products);
+    first_half(twiddles, mat.values_mut(), width, mid + left, mid, products);
 }
 
 // The rows are reversed, then the second half. Where that has no layer, its scale takes a pass of its
 // own.
 fn second_of_matrix<F: TwoAdicField>(
+    table: BlockTwiddles<'_, F>,
+    scale: Option<F>,
     mat: &mut RowMajorMatrix<F>,
     mid: usize,
     left: usize,
-    table: BlockTwiddles<'_, F>,
-    scale: Option<F>,
     products: &mut Products,
 )
     requires whole { IsRowMajor mat.old }
@@ -100,16 +100,16 @@ fn second_of_matrix<F: TwoAdicField>(
     let width = mat.width();
     reverse_rows(mat);
     if left > 0 {
-        second_half(mat.values_mut(), width, mid, left, table, scale, products);
+        second_half(table, scale, mat.values_mut(), width, mid, left, products);
     } else {
-        scale_rows(mat, scale, products);
+        scale_rows(scale, mat, products);
     }
 }
 
 // Multiplies all rows by the scale, if there is one.
 fn scale_rows<F: TwoAdicField>(
-    mat: &mut RowMajorMatrix<F>,
     scale: Option<F>,
+    mat: &mut RowMajorMatrix<F>,
     products: &mut Products,
 )
     requires whole { IsRowMajor mat.old }

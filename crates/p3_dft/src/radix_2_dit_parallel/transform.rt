@@ -18,11 +18,11 @@ use p3_networks::radix_2_dit_parallel::tables::Tables;
 // From coefficients in natural order, their values at the powers of the generator, or of its inverse, in
 // bit reversed order. With a scale, the values are multiplied by it.
 pub(crate) fn transform_to_reversed<F: TwoAdicField>(
-    mat: &mut RowMajorMatrix<F>,
-    log_h: usize,
     tables: &Tables<F>,
     inverse: bool,
     scale: Option<F>,
+    mat: &mut RowMajorMatrix<F>,
+    log_h: usize,
     products: &mut Products,
 )
     requires whole { IsRowMajor mat.old }
@@ -43,21 +43,21 @@ pub(crate) fn transform_to_reversed<F: TwoAdicField>(
         by_layer: false,
     };
     network_to_reversed(
-        mat,
-        mid,
-        log_h - mid,
         tables.low(inverse),
         high,
         scale,
+        mat,
+        mid,
+        log_h - mid,
         products,
     );
 }
 
 // From coefficients in natural order, their values on the subgroup, in bit reversed order.
 pub(crate) fn evaluate_to_reversed<F: TwoAdicField>(
+    tables: &Tables<F>,
     mat: &mut RowMajorMatrix<F>,
     log_h: usize,
-    tables: &Tables<F>,
     products: &mut Products,
 )
     requires whole { IsRowMajor mat.old }
@@ -71,14 +71,14 @@ pub(crate) fn evaluate_to_reversed<F: TwoAdicField>(
     ensures grows { products.old ≤ products.new }
     ensures cost { products.new ≤ products.old + mat.old.width * (log_h * 2 ^ log_h / 2) }
 {
-    transform_to_reversed(mat, log_h, tables, false, None, products);
+    transform_to_reversed(tables, false, None, mat, log_h, products);
 }
 
 // From values on the subgroup in natural order, the coefficients, in bit reversed order.
 pub(crate) fn interpolate_to_reversed<F: TwoAdicField>(
+    tables: &Tables<F>,
     mat: &mut RowMajorMatrix<F>,
     log_h: usize,
-    tables: &Tables<F>,
     products: &mut Products,
 )
     requires whole { IsRowMajor mat.old }
@@ -94,15 +94,15 @@ pub(crate) fn interpolate_to_reversed<F: TwoAdicField>(
     ensures cost { products.new ≤ products.old + mat.old.width * (log_h * 2 ^ log_h / 2) + 2 ^ log_h * mat.old.width }
 {
     let scale = F::ONE.div_2exp_u64(log_h as u64);
-    transform_to_reversed(mat, log_h, tables, true, Some(scale), products);
+    transform_to_reversed(tables, true, Some(scale), mat, log_h, products);
 }
 
 // From coefficients in natural order, their values on the coset that a table is of, in bit reversed
 // order.
 pub(crate) fn evaluate_on_coset_to_reversed<F: TwoAdicField>(
+    table: &CosetTable<F>,
     mat: &mut RowMajorMatrix<F>,
     log_h: usize,
-    table: &CosetTable<F>,
     products: &mut Products,
 )
     requires whole { IsRowMajor mat.old }
@@ -122,5 +122,5 @@ pub(crate) fn evaluate_on_coset_to_reversed<F: TwoAdicField>(
         twiddles,
         by_layer: true,
     };
-    network_to_reversed(mat, mid, log_h - mid, twiddles, high, None, products);
+    network_to_reversed(twiddles, high, None, mat, mid, log_h - mid, products);
 }

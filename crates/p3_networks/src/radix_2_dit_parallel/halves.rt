@@ -47,11 +47,11 @@ impl<'a, F: TwoAdicField> BlockTwiddles<'a, F> {
 /// polynomials, in bit reversed order, and becomes their values on a coset, in natural order. `mid` is at
 /// most `log_h`, and the twiddles are those of as many layers.
 pub fn first_half<F: TwoAdicField>(
+    twiddles: &[F],
     values: &mut [F],
     width: usize,
     log_h: usize,
     mid: usize,
-    twiddles: &[F],
     products: &mut Products,
 )
     requires wide { 1 ≤ width }
@@ -69,20 +69,20 @@ pub fn first_half<F: TwoAdicField>(
 {
     // One column is made apart: where the width is known, no loop along a row is left.
     if width == 1 {
-        low_chunks(values, 1, log_h, mid, twiddles, products);
+        low_chunks(twiddles, values, 1, log_h, mid, products);
     } else {
-        low_chunks(values, width, log_h, mid, twiddles, products);
+        low_chunks(twiddles, values, width, log_h, mid, products);
     }
 }
 
 // The same. Inlined, so that a width that the caller names is known in all layers.
 #[inline(always)]
 fn low_chunks<F: TwoAdicField>(
+    twiddles: &[F],
     values: &mut [F],
     width: usize,
     log_h: usize,
     mid: usize,
-    twiddles: &[F],
     products: &mut Products,
 )
     requires wide { 1 ≤ width }
@@ -103,18 +103,18 @@ fn low_chunks<F: TwoAdicField>(
     for chunk in 0..chunks {
         let start = chunk * size;
         let rows = &mut values[start..start + size];
-        low_network(rows, width, mid, twiddles, products);
+        low_network(twiddles, rows, width, mid, products);
     }
 }
 
 /// The first half, under the same conditions, from as many rows of another slice, which stay.
 pub fn first_half_oop<F: TwoAdicField>(
+    twiddles: &[F],
     source: &[F],
     values: &mut [F],
     width: usize,
     log_h: usize,
     mid: usize,
-    twiddles: &[F],
     products: &mut Products,
 )
     requires wide { 1 ≤ width }
@@ -132,21 +132,21 @@ pub fn first_half_oop<F: TwoAdicField>(
     ensures cost { products.new ≤ products.old + 2 ^ (log_h - mid) * (width * (mid * 2 ^ mid / 2)) }
 {
     if width == 1 {
-        low_chunks_oop(source, values, 1, log_h, mid, twiddles, products);
+        low_chunks_oop(twiddles, source, values, 1, log_h, mid, products);
     } else {
-        low_chunks_oop(source, values, width, log_h, mid, twiddles, products);
+        low_chunks_oop(twiddles, source, values, width, log_h, mid, products);
     }
 }
 
 // The same. Inlined as the chunks in place are.
 #[inline(always)]
 fn low_chunks_oop<F: TwoAdicField>(
+    twiddles: &[F],
     source: &[F],
     values: &mut [F],
     width: usize,
     log_h: usize,
     mid: usize,
-    twiddles: &[F],
     products: &mut Products,
 )
     requires wide { 1 ≤ width }
@@ -168,11 +168,11 @@ fn low_chunks_oop<F: TwoAdicField>(
     for chunk in 0..chunks {
         let start = chunk * size;
         low_network_oop(
+            twiddles,
             &source[start..start + size],
             &mut values[start..start + size],
             width,
             mid,
-            twiddles,
             products,
         );
     }
@@ -183,12 +183,12 @@ fn low_chunks_oop<F: TwoAdicField>(
 /// coefficients are multiplied by it first. There is at least one layer, and the table has the twiddles of
 /// all.
 pub fn second_half<F: TwoAdicField>(
+    table: BlockTwiddles<'_, F>,
+    scale: Option<F>,
     values: &mut [F],
     width: usize,
     mid: usize,
     left: usize,
-    table: BlockTwiddles<'_, F>,
-    scale: Option<F>,
     products: &mut Products,
 )
     requires wide { 1 ≤ width }
@@ -207,21 +207,21 @@ pub fn second_half<F: TwoAdicField>(
     ensures cost { products.new ≤ products.old + 2 ^ mid * (width * (left * 2 ^ left / 2) + scale_cost scale * (2 ^ left * width)) }
 {
     if width == 1 {
-        high_chunks(values, 1, mid, left, table, scale, products);
+        high_chunks(table, scale, values, 1, mid, left, products);
     } else {
-        high_chunks(values, width, mid, left, table, scale, products);
+        high_chunks(table, scale, values, width, mid, left, products);
     }
 }
 
 // The same. Inlined as the chunks of the first half are.
 #[inline(always)]
 fn high_chunks<F: TwoAdicField>(
+    table: BlockTwiddles<'_, F>,
+    scale: Option<F>,
     values: &mut [F],
     width: usize,
     mid: usize,
     left: usize,
-    table: BlockTwiddles<'_, F>,
-    scale: Option<F>,
     products: &mut Products,
 )
     requires wide { 1 ≤ width }
@@ -244,7 +244,7 @@ fn high_chunks<F: TwoAdicField>(
     for chunk in 0..chunks {
         let start = chunk * size;
         let rows = &mut values[start..start + size];
-        high_network(rows, width, mid, left, chunk, table, scale, products);
+        high_network(table, scale, rows, width, mid, left, chunk, products);
     }
 }
 
@@ -252,10 +252,10 @@ fn high_chunks<F: TwoAdicField>(
 // halves of `2^l` rows, and row t of a block meets by twiddle t of the layer.
 #[inline(always)]
 fn low_network<F: TwoAdicField>(
+    twiddles: &[F],
     values: &mut [F],
     width: usize,
     log_h: usize,
-    twiddles: &[F],
     products: &mut Products,
 )
     requires wide { 1 ≤ width }
@@ -280,11 +280,11 @@ fn low_network<F: TwoAdicField>(
 // follow in place. Where there is no layer, the rows are copied.
 #[inline(always)]
 fn low_network_oop<F: TwoAdicField>(
+    twiddles: &[F],
     source: &[F],
     values: &mut [F],
     width: usize,
     log_h: usize,
-    twiddles: &[F],
     products: &mut Products,
 )
     requires wide { 1 ≤ width }
@@ -317,13 +317,13 @@ fn low_network_oop<F: TwoAdicField>(
 // of two halves of `2^(left - 1 - done)` rows.
 #[inline(always)]
 pub(crate) fn high_network<F: TwoAdicField>(
+    table: BlockTwiddles<'_, F>,
+    scale: Option<F>,
     values: &mut [F],
     width: usize,
     mid: usize,
     left: usize,
     chunk: usize,
-    table: BlockTwiddles<'_, F>,
-    scale: Option<F>,
     products: &mut Products,
 )
     requires wide { 1 ≤ width }

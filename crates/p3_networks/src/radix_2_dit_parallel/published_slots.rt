@@ -29,12 +29,12 @@ use p3_matrix::{BlockConsumer, RowMajorMatrixView};
 /// Each chunk of rows of the second half is lent to the consumer as soon as it is final. When one is refused,
 /// the rest is not done.
 pub fn extend_slots<F: TwoAdicField, C: BlockConsumer<F>>(
+    cosets: &CosetTables<F>,
     values: &mut [F],
     width: usize,
     log_h: usize,
     added_bits: usize,
     shift: F,
-    cosets: &CosetTables<F>,
     consumer: &mut C,
     products: &mut Products,
 ) -> Result<(), C::Refusal>
@@ -66,11 +66,11 @@ pub fn extend_slots<F: TwoAdicField, C: BlockConsumer<F>>(
         let slot = &mut others[start..start + size];
         let first_row = (place + 1) << log_h;
         if let Err(refusal) = evaluate_reversed_oop(
+            table,
             coefficients,
             slot,
             width,
             log_h,
-            table,
             first_row,
             consumer,
             products,
@@ -80,7 +80,7 @@ pub fn extend_slots<F: TwoAdicField, C: BlockConsumer<F>>(
     }
     let found = place_of_slot(cosets, log_h, added_bits, shift, 0, found);
     let table = cosets.get(found);
-    evaluate_reversed(coefficients, width, log_h, table, 0, consumer, products)
+    evaluate_reversed(table, coefficients, width, log_h, 0, consumer, products)
 }
 
 // The place of the table of a slot's coset. The search begins at `start`.
@@ -106,11 +106,11 @@ fn place_of_slot<F: TwoAdicField>(
 // From coefficients in bit reversed order, which lie in another slice, their values on the coset that a
 // table is of, in bit reversed order. The rows are those from number `first_row` on.
 fn evaluate_reversed_oop<F: TwoAdicField, C: BlockConsumer<F>>(
+    table: &CosetTable<F>,
     coefficients: &[F],
     values: &mut [F],
     width: usize,
     log_h: usize,
-    table: &CosetTable<F>,
     first_row: usize,
     consumer: &mut C,
     products: &mut Products,
@@ -136,17 +136,17 @@ fn evaluate_reversed_oop<F: TwoAdicField, C: BlockConsumer<F>>(
 {
     let mid = (log_h + 1) / 2;
     let twiddles = table.twiddles();
-    first_half_oop(coefficients, values, width, log_h, mid, twiddles, products);
+    first_half_oop(twiddles, coefficients, values, width, log_h, mid, products);
     let high = BlockTwiddles {
         twiddles,
         by_layer: true,
     };
     last_half(
+        high,
         values,
         width,
         mid,
         log_h - mid,
-        high,
         first_row,
         consumer,
         products,
@@ -155,10 +155,10 @@ fn evaluate_reversed_oop<F: TwoAdicField, C: BlockConsumer<F>>(
 
 // The same in their place.
 fn evaluate_reversed<F: TwoAdicField, C: BlockConsumer<F>>(
+    table: &CosetTable<F>,
     values: &mut [F],
     width: usize,
     log_h: usize,
-    table: &CosetTable<F>,
     first_row: usize,
     consumer: &mut C,
     products: &mut Products,
@@ -183,17 +183,17 @@ fn evaluate_reversed<F: TwoAdicField, C: BlockConsumer<F>>(
 {
     let mid = (log_h + 1) / 2;
     let twiddles = table.twiddles();
-    first_half(values, width, log_h, mid, twiddles, products);
+    first_half(twiddles, values, width, log_h, mid, products);
     let high = BlockTwiddles {
         twiddles,
         by_layer: true,
     };
     last_half(
+        high,
         values,
         width,
         mid,
         log_h - mid,
-        high,
         first_row,
         consumer,
         products,
@@ -203,11 +203,11 @@ fn evaluate_reversed<F: TwoAdicField, C: BlockConsumer<F>>(
 // The rows, which are as the first half leaves them, are reversed, and go through the second half. Each chunk
 // is lent when it is done.
 fn last_half<F: TwoAdicField, C: BlockConsumer<F>>(
+    table: BlockTwiddles<'_, F>,
     values: &mut [F],
     width: usize,
     mid: usize,
     left: usize,
-    table: BlockTwiddles<'_, F>,
     first_row: usize,
     consumer: &mut C,
     products: &mut Products,
@@ -245,7 +245,7 @@ fn last_half<F: TwoAdicField, C: BlockConsumer<F>>(
         let rows = &mut values[start..start + size];
         let row = first_row + chunk * height;
         if let Err(refusal) = finish_chunk(
-            rows, width, mid, left, chunk, table, row, consumer, products,
+            table, rows, width, mid, left, chunk, row, consumer, products,
         ) {
             return Err(refusal);
         }
@@ -255,12 +255,12 @@ fn last_half<F: TwoAdicField, C: BlockConsumer<F>>(
 
 // One chunk of the second half, which is lent when it is done. Its first row has the number `row`.
 fn finish_chunk<F: TwoAdicField, C: BlockConsumer<F>>(
+    table: BlockTwiddles<'_, F>,
     values: &mut [F],
     width: usize,
     mid: usize,
     left: usize,
     chunk: usize,
-    table: BlockTwiddles<'_, F>,
     row: usize,
     consumer: &mut C,
     products: &mut Products,
@@ -279,19 +279,19 @@ fn finish_chunk<F: TwoAdicField, C: BlockConsumer<F>>(
     ensures grows { products.old ≤ products.new }
     ensures cost { products.new ≤ products.old + 1 * (width * (left * 2 ^ left / 2)) }
 {
-    last_layers(values, width, mid, left, chunk, table, products);
+    last_layers(table, values, width, mid, left, chunk, products);
     let block = RowMajorMatrixView::new(&values[..], width);
     consumer.consume(row, block)
 }
 
 // The layers of one chunk of the second half. Where that has none, its rows are done.
 fn last_layers<F: TwoAdicField>(
+    table: BlockTwiddles<'_, F>,
     values: &mut [F],
     width: usize,
     mid: usize,
     left: usize,
     chunk: usize,
-    table: BlockTwiddles<'_, F>,
     products: &mut Products,
 )
     requires wide { 1 ≤ width }
@@ -310,9 +310,9 @@ fn last_layers<F: TwoAdicField>(
     if left > 0 {
         // One column is made apart: where the width is known, no loop along a row is left.
         if width == 1 {
-            high_network(values, 1, mid, left, chunk, table, None, products);
+            high_network(table, None, values, 1, mid, left, chunk, products);
         } else {
-            high_network(values, width, mid, left, chunk, table, None, products);
+            high_network(table, None, values, width, mid, left, chunk, products);
         }
     }
 }
