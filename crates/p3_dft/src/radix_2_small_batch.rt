@@ -16,7 +16,7 @@ use p3_matrix::{
     BitReversedMatrixView, DftError, Evaluations, IntoRowMajorMatrix, RowMajorMatrix,
     log2_strict_usize, reverse_rows,
 };
-use p3_networks::radix_2_small_batch::groups::{TILE, log_tile_rows, piece_size};
+use p3_networks::radix_2_small_batch::groups::{MAX_TILE, TILE, log_tile_rows, piece_size};
 use p3_networks::radix_2_small_batch::networks::{
     dif_network, dit_network_to_reversed, extending_network, scaled_dif_network,
 };
@@ -83,7 +83,7 @@ impl<F: TwoAdicField> Clone for Radix2DFTSmallBatch<F> {
 impl<F: TwoAdicField> Radix2DFTSmallBatch<F> {
     // With tiles of so many elements and no tables.
     fn empty(tile: usize) -> Self
-        requires { tile ≤ 4294967296 }
+        requires { tile ≤ MAX_TILE }
         ensures prepared { result.prepared ≡ [] }
         ensures products { result.products ≡ 0 }
     {
@@ -352,7 +352,7 @@ fn evaluate_natural<F: TwoAdicField>(
     requires small { log_h < 64 }
     requires within { log_h ≤ F.TWO_ADICITY }
     requires height { height mat.old ≡ 2 ^ log_h }
-    requires tile { tile ≤ 4294967296 }
+    requires tile { tile ≤ MAX_TILE }
     requires twiddles { AreTwiddlesFromStart F.Field.own log_h
         (block_powers F.Field.own (forward_root F.Field.own F.generator)) twiddles.now }
     ensures values { IsTransform F.Field.own F.generator mat.old F.ring.one mat.new }
@@ -387,7 +387,7 @@ fn interpolate_unscaled_to_reversed<F: TwoAdicField>(
     requires small { log_h < 64 }
     requires within { log_h ≤ F.TWO_ADICITY }
     requires height { height mat.old ≡ 2 ^ log_h }
-    requires tile { tile ≤ 4294967296 }
+    requires tile { tile ≤ MAX_TILE }
     requires twiddles { AreTwiddlesFromStart F.Field.own log_h
         (block_powers F.Field.own (backward_root F.Field.own F.generator)) twiddles.now }
     ensures shape { HasShapeOf mat.new mat.old }
@@ -432,7 +432,7 @@ fn extend_to_natural<F: TwoAdicField>(
     requires within { log_h + added_bits ≤ F.TWO_ADICITY }
     requires height { height mat ≡ 2 ^ log_h }
     requires room { mat.width * 2 ^ (log_h + added_bits) < 2 ^ 64 }
-    requires tile { tile ≤ 4294967296 }
+    requires tile { tile ≤ MAX_TILE }
     requires twiddles { AreTwiddlesFromStart F.Field.own (log_h + added_bits)
         (block_powers F.Field.own (forward_root F.Field.own F.generator)) twiddles.now }
     ensures values { IfOk result (λ out. IsValues F.ring (λ n. F.value (F.generator n))
@@ -477,7 +477,7 @@ fn extend_to_reversed<F: TwoAdicField>(
     requires within { log_h + added_bits ≤ F.TWO_ADICITY }
     requires small { log_h + added_bits < 64 }
     requires height { height mat.old ≡ 2 ^ (log_h + added_bits) }
-    requires tile { tile ≤ 4294967296 }
+    requires tile { tile ≤ MAX_TILE }
     requires twiddles { AreTwiddlesFromStart F.Field.own log_h
         (block_powers F.Field.own (forward_root F.Field.own F.generator)) twiddles.now }
     ensures shape { HasShapeOf mat.new mat.old }
@@ -517,7 +517,7 @@ fn interpolate_natural<F: TwoAdicField>(
     requires small { log_h < 64 }
     requires within { log_h ≤ F.TWO_ADICITY }
     requires height { height mat.old ≡ 2 ^ log_h }
-    requires tile { tile ≤ 4294967296 }
+    requires tile { tile ≤ MAX_TILE }
     requires twiddles { AreTwiddlesFromStart F.Field.own log_h
         (block_powers F.Field.own (backward_root F.Field.own F.generator)) twiddles.now }
     ensures coefficients { IsInterpolation F.Field.own F.generator mat.old F.ring.one mat.new }

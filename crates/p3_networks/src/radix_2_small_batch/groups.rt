@@ -15,12 +15,20 @@ use p3_matrix::log2_strict_usize;
 /// How many elements a tile has where a caller does not say it: those of a small cache.
 pub const TILE: usize = 8192;
 
+/// The largest number of elements that a tile may have to be about.
+pub const MAX_TILE: usize = 4294967296;
+
+// How many layers a group has, and how many parts of a block go through them together.
+const LAYERS_PER_GROUP: usize = 3;
+
+const PARTS: usize = 1 << LAYERS_PER_GROUP;
+
 /// The logarithm of the number of rows of a tile of about `tile` elements: the least power of two that is
-/// not below the rows that fit into it, or the height if that is less. `tile` is at most `2^32`, and
+/// not below the rows that fit into it, or the height if that is less. `tile` is at most `MAX_TILE`, and
 /// `width` at least one.
 pub fn log_tile_rows(tile: usize, width: usize, log_h: usize) -> usize
     requires wide { 1 ≤ width }
-    requires tile { tile ≤ 4294967296 }
+    requires tile { tile ≤ MAX_TILE }
     ensures inside { result ≤ log_h }
     ensures enough { result < log_h → tile / width ≤ 2 ^ result }
     ensures least { (r : ℕ) → r < result → 2 ^ r < tile / width }
@@ -30,14 +38,14 @@ pub fn log_tile_rows(tile: usize, width: usize, log_h: usize) -> usize
 }
 
 /// How many elements a piece has of each eighth of a block, so that those of all eighths are about as many
-/// as a tile has: at least one. Quarters and halves have pieces of the same size. `tile` is at most `2^32`.
+/// as a tile has: at least one. Quarters and halves have pieces of the same size. `tile` is at most `MAX_TILE`.
 pub fn piece_size(tile: usize) -> usize
-    requires tile { tile ≤ 4294967296 }
+    requires tile { tile ≤ MAX_TILE }
     ensures some { 1 ≤ result }
-    ensures enough { tile ≤ 8 * result }
-    ensures most { 2 ≤ result → 8 * result < 2 * tile }
+    ensures enough { tile ≤ PARTS * result }
+    ensures most { 2 ≤ result → PARTS * result < 2 * tile }
 {
-    (tile.next_power_of_two() / 8).max(1)
+    (tile.next_power_of_two() / PARTS).max(1)
 }
 
 /// Which layers of a network come first: those of large blocks or those of small ones.
@@ -82,7 +90,7 @@ pub fn groups(layers: usize) -> usize
     requires { layers < 64 }
     ensures { result ≡ (layers + 2) / 3 }
 {
-    (layers + 2) / 3
+    layers.div_ceil(LAYERS_PER_GROUP)
 }
 
 /// Where group g ends, and where the one before it begins: group g has the layers from `group_end` of
@@ -93,7 +101,7 @@ pub fn group_end(log_rows: usize, log_h: usize, g: usize) -> usize
     requires small { g < 64 }
     ensures { result ≡ group_end log_rows log_h g }
 {
-    log_rows + (log_h - log_rows).saturating_sub(3 * g)
+    log_rows + (log_h - log_rows).saturating_sub(LAYERS_PER_GROUP * g)
 }
 
 // The layers from `log_rows` up to `log_h` on the whole, group after group. A piece has

@@ -22,6 +22,14 @@ use crate::radix_2_small_batch::pairs::{DifPair, DitPair, on_pairs};
 use p3_field::{Products, TwoAdicField};
 use p3_matrix::scale_slice_in_place;
 
+// In one column so many layers of the smallest blocks are done together, on a chunk of so many rows, which has
+// so many of the smallest blocks.
+const SHORT_LAYERS: usize = 6;
+
+const SHORT_ROWS: usize = 1 << SHORT_LAYERS;
+
+const SHORT_BLOCKS: usize = SHORT_ROWS / 2;
+
 /// A rule by blocks alone, with the order of the layers of its networks.
 pub(crate) trait NetworkRule<F: TwoAdicField>: Rule<F> {
     ghost order: { Order };
@@ -30,18 +38,18 @@ pub(crate) trait NetworkRule<F: TwoAdicField>: Rule<F> {
     fn order(self) -> Order
         ensures { result ≡ order };
 
-    /// The layer of the smallest blocks, on 64 rows of one column: the blocks are `first` and those after it.
+    /// The layer of the smallest blocks, on a short chunk of one column: the blocks are `first` and those after it.
     fn meet_pairs(self, first: usize, values: &mut [F], products: &mut Products)
-        requires there { (b : ℕ) → b < 32 → Self.has self (first + b) 0 }
-        requires size { length values.old ≡ 64 }
+        requires there { (b : ℕ) → b < SHORT_BLOCKS → Self.has self (first + b) 0 }
+        requires size { length values.old ≡ SHORT_ROWS }
         ensures near { let cell = λ (xs : List F) (n : ℕ). F.value (get_or xs n F.ZERO) in
-            (b : ℕ) → b < 32 → cell values.new (2 * b)
+            (b : ℕ) → b < SHORT_BLOCKS → cell values.new (2 * b)
             ≡ Self.near F.Element F.ring F.value self (first + b) 0 (cell values.old (2 * b)) (cell values.old (2 * b + 1)) }
         ensures far { let cell = λ (xs : List F) (n : ℕ). F.value (get_or xs n F.ZERO) in
-            (b : ℕ) → b < 32 → cell values.new (2 * b + 1)
+            (b : ℕ) → b < SHORT_BLOCKS → cell values.new (2 * b + 1)
             ≡ Self.far F.Element F.ring F.value self (first + b) 0 (cell values.old (2 * b)) (cell values.old (2 * b + 1)) }
         ensures grows { products.old ≤ products.new }
-        ensures cost { products.new ≤ products.old + Self.cost * 32 };
+        ensures cost { products.new ≤ products.old + Self.cost * SHORT_BLOCKS };
 
     // The place of a pair in its block makes no difference.
     ghost near_law: { (r : Self) (b t : ℕ) (p q : F.Element) → Self.near F.Element F.ring F.value r b t p q
@@ -64,7 +72,12 @@ impl<F: TwoAdicField> NetworkRule<F> for DitByBlock<'_, F> {
 
     #[inline(always)]
     fn meet_pairs(self, first: usize, values: &mut [F], products: &mut Products) {
-        on_pairs(DitPair, &self.twiddles[first..first + 32], values, products);
+        on_pairs(
+            DitPair,
+            &self.twiddles[first..first + SHORT_BLOCKS],
+            values,
+            products,
+        );
     }
 
     ghost near_law = { λ r b t p q. refl };
@@ -85,7 +98,12 @@ impl<F: TwoAdicField> NetworkRule<F> for DifByBlock<'_, F> {
 
     #[inline(always)]
     fn meet_pairs(self, first: usize, values: &mut [F], products: &mut Products) {
-        on_pairs(DifPair, &self.twiddles[first..first + 32], values, products);
+        on_pairs(
+            DifPair,
+            &self.twiddles[first..first + SHORT_BLOCKS],
+            values,
+            products,
+        );
     }
 
     ghost near_law = { λ r b t p q. refl };
@@ -111,7 +129,8 @@ fn layer_of_chunk<F: TwoAdicField, R: NetworkRule<F>>(
     requires there { (b t : ℕ) → 2 * b < (number + 1) * 2 ^ top → R.has rule b t }
     ensures cells { (k : ℕ) (before after : ℕ → ℕ → F.Element)
         → AreLayers k width (λ b. R.near F.Element F.ring F.value rule b 0) (λ b. R.far F.Element F.ring F.value rule b 0) before after
-        → (number + 1) * 2 ^ top ≤ 2 ^ k → HoldsCells F.value F.ZERO (number * length values.old) (before log_half) values.old
+        → (number + 1) * 2 ^ top ≤ 2 ^ k
+        → HoldsCells F.value F.ZERO (number * length values.old) (before log_half) values.old
         → HoldsCells F.value F.ZERO (number * length values.old) (after log_half) values.new }
     ensures grows { products.old ≤ products.new }
     ensures cost { 2 * products.new ≤ 2 * products.old + R.cost * length values.old }
@@ -123,7 +142,7 @@ fn layer_of_chunk<F: TwoAdicField, R: NetworkRule<F>>(
     layer(rule, values, 1, half, number * blocks, blocks, products);
 }
 
-// The layer of the smallest blocks, on chunk `number` of 64 rows of one column.
+// The layer of the smallest blocks, on short chunk `number` of one column.
 #[inline(always)]
 fn layer_of_pairs<F: TwoAdicField, R: NetworkRule<F>>(
     rule: R,
@@ -131,17 +150,18 @@ fn layer_of_pairs<F: TwoAdicField, R: NetworkRule<F>>(
     number: usize,
     products: &mut Products,
 )
-    requires small { (number + 1) * 2 ^ 6 < 2 ^ 64 }
-    requires size { length values.old ≡ 2 ^ 6 * 1 }
-    requires there { (b t : ℕ) → 2 * b < (number + 1) * 2 ^ 6 → R.has rule b t }
+    requires small { (number + 1) * 2 ^ SHORT_LAYERS < 2 ^ 64 }
+    requires size { length values.old ≡ 2 ^ SHORT_LAYERS * 1 }
+    requires there { (b t : ℕ) → 2 * b < (number + 1) * 2 ^ SHORT_LAYERS → R.has rule b t }
     ensures cells { (k : ℕ) (before after : ℕ → ℕ → F.Element)
         → AreLayers k 1 (λ b. R.near F.Element F.ring F.value rule b 0) (λ b. R.far F.Element F.ring F.value rule b 0) before after
-        → (number + 1) * 2 ^ 6 ≤ 2 ^ k → HoldsCells F.value F.ZERO (number * length values.old) (before 0) values.old
+        → (number + 1) * 2 ^ SHORT_LAYERS ≤ 2 ^ k
+        → HoldsCells F.value F.ZERO (number * length values.old) (before 0) values.old
         → HoldsCells F.value F.ZERO (number * length values.old) (after 0) values.new }
     ensures grows { products.old ≤ products.new }
     ensures cost { 2 * products.new ≤ 2 * products.old + R.cost * length values.old }
 {
-    rule.meet_pairs(number * 32, values, products);
+    rule.meet_pairs(number * SHORT_BLOCKS, values, products);
 }
 
 // The layers from `from` up to `to` in the rule's order, on chunk `number`.
@@ -209,8 +229,8 @@ fn layers_of_tiles<F: TwoAdicField, R: NetworkRule<F>>(
     }
 }
 
-// The same of one tile, chunk `number` of `2^top` rows. In one column the layers of the six smallest blocks
-// are done together, on one chunk of 64 rows after another. The width is written as 1 in that call, so that it
+// The same of one tile, chunk `number` of `2^top` rows. In one column the layers of the smallest blocks
+// are done together, on one short chunk after another. The width is written as 1 in that call, so that it
 // is known in the loops.
 fn layers_of_tile<F: TwoAdicField, R: NetworkRule<F>>(
     rule: R,
@@ -233,15 +253,15 @@ fn layers_of_tile<F: TwoAdicField, R: NetworkRule<F>>(
     ensures grows { products.old ≤ products.new }
     ensures cost { 2 * products.new ≤ 2 * products.old + R.cost * (top * length values.old) }
 {
-    if width == 1 && top >= 6 {
+    if width == 1 && top >= SHORT_LAYERS {
         match rule.order() {
             Order::LargestFirst => {
-                layers_of_chunk(rule, values, 1, 6, top, top, number, products);
+                layers_of_chunk(rule, values, 1, SHORT_LAYERS, top, top, number, products);
                 layers_of_short_chunks(rule, values, top, number, products);
             }
             Order::SmallestFirst => {
                 layers_of_short_chunks(rule, values, top, number, products);
-                layers_of_chunk(rule, values, 1, 6, top, top, number, products);
+                layers_of_chunk(rule, values, 1, SHORT_LAYERS, top, top, number, products);
             }
         }
     } else {
@@ -249,8 +269,8 @@ fn layers_of_tile<F: TwoAdicField, R: NetworkRule<F>>(
     }
 }
 
-// The layers below six, on chunk `number` of `2^top` rows of one column: one chunk of 64 rows
-// after another, which six layers do not leave, and whose smallest blocks have 32 twiddles.
+// The layers below `SHORT_LAYERS`, on chunk `number` of `2^top` rows of one column: one short chunk after
+// another, which these layers do not leave.
 fn layers_of_short_chunks<F: TwoAdicField, R: NetworkRule<F>>(
     rule: R,
     values: &mut [F],
@@ -258,7 +278,7 @@ fn layers_of_short_chunks<F: TwoAdicField, R: NetworkRule<F>>(
     number: usize,
     products: &mut Products,
 )
-    requires tall { 6 ≤ top }
+    requires tall { SHORT_LAYERS ≤ top }
     requires small { (number + 1) * 2 ^ top < 2 ^ 64 }
     requires size { length values.old ≡ 2 ^ top * 1 }
     requires there { (b t : ℕ) → 2 * b < (number + 1) * 2 ^ top → R.has rule b t }
@@ -266,12 +286,13 @@ fn layers_of_short_chunks<F: TwoAdicField, R: NetworkRule<F>>(
         → AreLayersInOrder R.order k 1 (λ b. R.near F.Element F.ring F.value rule b 0)
         (λ b. R.far F.Element F.ring F.value rule b 0) cells
         → (number + 1) * 2 ^ top ≤ 2 ^ k
-        → HoldsCells F.value F.ZERO (number * length values.old) (cells (cells_of R.order 0 6 0)) values.old
-        → HoldsCells F.value F.ZERO (number * length values.old) (cells (cells_of R.order 0 6 6)) values.new }
+        → HoldsCells F.value F.ZERO (number * length values.old) (cells (cells_of R.order 0 SHORT_LAYERS 0)) values.old
+        → HoldsCells F.value F.ZERO (number * length values.old)
+        (cells (cells_of R.order 0 SHORT_LAYERS SHORT_LAYERS)) values.new }
     ensures grows { products.old ≤ products.new }
-    ensures cost { 2 * products.new ≤ 2 * products.old + R.cost * (6 * length values.old) }
+    ensures cost { 2 * products.new ≤ 2 * products.old + R.cost * (SHORT_LAYERS * length values.old) }
 {
-    let chunks = 1usize << (top - 6);
+    let chunks = 1usize << (top - SHORT_LAYERS);
     let size = values.len() / chunks;
     for chunk in 0..chunks {
         let start = chunk * size;
@@ -280,7 +301,7 @@ fn layers_of_short_chunks<F: TwoAdicField, R: NetworkRule<F>>(
     }
 }
 
-// The same on chunk `number` of 64 rows. The layers are named, so that the loops of each layer are of
+// The same on short chunk `number`. The layers are named, so that the loops of each layer are of
 // known size.
 fn layers_of_short_chunk<F: TwoAdicField, R: NetworkRule<F>>(
     rule: R,
@@ -288,34 +309,35 @@ fn layers_of_short_chunk<F: TwoAdicField, R: NetworkRule<F>>(
     number: usize,
     products: &mut Products,
 )
-    requires small { (number + 1) * 2 ^ 6 < 2 ^ 64 }
-    requires size { length values.old ≡ 2 ^ 6 * 1 }
-    requires there { (b t : ℕ) → 2 * b < (number + 1) * 2 ^ 6 → R.has rule b t }
+    requires small { (number + 1) * 2 ^ SHORT_LAYERS < 2 ^ 64 }
+    requires size { length values.old ≡ 2 ^ SHORT_LAYERS * 1 }
+    requires there { (b t : ℕ) → 2 * b < (number + 1) * 2 ^ SHORT_LAYERS → R.has rule b t }
     ensures cells { (k : ℕ) (cells : ℕ → ℕ → F.Element)
         → AreLayersInOrder R.order k 1 (λ b. R.near F.Element F.ring F.value rule b 0)
         (λ b. R.far F.Element F.ring F.value rule b 0) cells
-        → (number + 1) * 2 ^ 6 ≤ 2 ^ k
-        → HoldsCells F.value F.ZERO (number * length values.old) (cells (cells_of R.order 0 6 0)) values.old
-        → HoldsCells F.value F.ZERO (number * length values.old) (cells (cells_of R.order 0 6 6)) values.new }
+        → (number + 1) * 2 ^ SHORT_LAYERS ≤ 2 ^ k
+        → HoldsCells F.value F.ZERO (number * length values.old) (cells (cells_of R.order 0 SHORT_LAYERS 0)) values.old
+        → HoldsCells F.value F.ZERO (number * length values.old)
+        (cells (cells_of R.order 0 SHORT_LAYERS SHORT_LAYERS)) values.new }
     ensures grows { products.old ≤ products.new }
-    ensures cost { 2 * products.new ≤ 2 * products.old + R.cost * (6 * length values.old) }
+    ensures cost { 2 * products.new ≤ 2 * products.old + R.cost * (SHORT_LAYERS * length values.old) }
 {
     match rule.order() {
         Order::LargestFirst => {
-            layer_of_chunk(rule, values, 1, 5, 6, number, products);
-            layer_of_chunk(rule, values, 1, 4, 6, number, products);
-            layer_of_chunk(rule, values, 1, 3, 6, number, products);
-            layer_of_chunk(rule, values, 1, 2, 6, number, products);
-            layer_of_chunk(rule, values, 1, 1, 6, number, products);
+            layer_of_chunk(rule, values, 1, 5, SHORT_LAYERS, number, products);
+            layer_of_chunk(rule, values, 1, 4, SHORT_LAYERS, number, products);
+            layer_of_chunk(rule, values, 1, 3, SHORT_LAYERS, number, products);
+            layer_of_chunk(rule, values, 1, 2, SHORT_LAYERS, number, products);
+            layer_of_chunk(rule, values, 1, 1, SHORT_LAYERS, number, products);
             layer_of_pairs(rule, values, number, products);
         }
         Order::SmallestFirst => {
             layer_of_pairs(rule, values, number, products);
-            layer_of_chunk(rule, values, 1, 1, 6, number, products);
-            layer_of_chunk(rule, values, 1, 2, 6, number, products);
-            layer_of_chunk(rule, values, 1, 3, 6, number, products);
-            layer_of_chunk(rule, values, 1, 4, 6, number, products);
-            layer_of_chunk(rule, values, 1, 5, 6, number, products);
+            layer_of_chunk(rule, values, 1, 1, SHORT_LAYERS, number, products);
+            layer_of_chunk(rule, values, 1, 2, SHORT_LAYERS, number, products);
+            layer_of_chunk(rule, values, 1, 3, SHORT_LAYERS, number, products);
+            layer_of_chunk(rule, values, 1, 4, SHORT_LAYERS, number, products);
+            layer_of_chunk(rule, values, 1, 5, SHORT_LAYERS, number, products);
         }
     }
 }

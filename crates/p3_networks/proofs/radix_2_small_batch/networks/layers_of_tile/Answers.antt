@@ -19,7 +19,7 @@ returns-in-LargestFirst-clause-cells g c k cells layers room holds =
     let is : order ≡ LargestFirst = sym c.order.ensures ∙ c.in-LargestFirst.is in
     let column = subst (λ (w : ℕ). AreLayersInOrder order k w near far cells) c.if-width-eq1.true layers in
     let large = λ (o : Order). cells_of o 6 top (top - 6) ≡ cells_of o 0 6 0 in
-    let middle : large order = subst large (sym is) (let e : top - (top - 6) ≡ 6 - 0 = omega (arith, c.if-top-ge6.true) in e) in
+    let middle : large order = subst large (sym is) (let e : top - (top - 6) ≡ 6 - 0 = omega (arith, c.if-top-ge-SHORT_LAYERS.true) in e) in
     let small = λ (o : Order). cells_of o 0 6 6 ≡ cells_of o 0 top top in
     let last : small order = subst small (sym is) (let e : 6 - 6 ≡ top - top = omega arith in e) in
     let begin = λ (o : Order). cells_of o 0 top 0 ≡ cells_of o 6 top 0 in
@@ -46,7 +46,7 @@ returns-in-SmallestFirst-clause-cells g c k cells layers room holds =
     let small = λ (o : Order). cells_of o 0 6 6 ≡ cells_of o 6 top 0 in
     let middle : small order = subst small (sym is) refl in
     let large = λ (o : Order). cells_of o 6 top (top - 6) ≡ cells_of o 0 top top in
-    let last : large order = subst large (sym is) (let e : 6 + (top - 6) ≡ 0 + top = omega (arith, c.if-top-ge6.true) in e) in
+    let last : large order = subst large (sym is) (let e : 6 + (top - 6) ≡ 0 + top = omega (arith, c.if-top-ge-SHORT_LAYERS.true) in e) in
     let begin = λ (o : Order). cells_of o 0 top 0 ≡ cells_of o 0 6 0 in
     let first : begin order = subst begin (sym is) refl in
     let short = c.layers_of_short_chunks-in-SmallestFirst in
