@@ -31,8 +31,14 @@ pub fn parse_arguments<F: CanonicalField>(
     words: &[String],
 ) -> Result<Arguments<'_>, Fault>
     ensures exact { (element : ℕ → F.Element) → ((n : ℕ) → n < F.ORDER_U64 → F.number (element n) ≡ n)
-        → seen (λ a. record { added_bits = a.added_bits; shift = a.shift; width = a.width; values = numbers_of a.values.now }) result
-        ≡ arguments (numbered F.Field.own F.generator F.TWO_ADICITY F.ORDER_U64 element) operation (map string_bytes words.now) }
+        → seen (λ a. record {
+          added_bits = a.added_bits;
+          shift = a.shift;
+          width = a.width;
+          values = numbers_of a.values.now;
+        }) result
+        ≡ arguments (numbered F.Field.own F.generator F.TWO_ADICITY F.ORDER_U64 element) operation
+        (map string_bytes words.now) }
     ensures below { IfOk result (λ a. reaches F.ORDER_U64 (numbers_of a.values.now) ≡ false) }
     ensures shift_below { IfOk result (λ a. a.shift < F.ORDER_U64) }
     ensures full { IfOk result (λ a. (length a.values.now / a.width) * a.width ≡ length a.values.now) }
@@ -76,10 +82,12 @@ fn settings(operation: Operation) -> usize
 
 fn arguments_of(operation: Operation, words: &[String]) -> Arguments<'_>
     requires { settings operation < length words.now }
-    ensures added_bits { result.added_bits ≡ (arguments_of operation (map number_or_zero (map string_bytes words.now))).added_bits }
+    ensures added_bits { result.added_bits
+        ≡ (arguments_of operation (map number_or_zero (map string_bytes words.now))).added_bits }
     ensures shift { result.shift ≡ (arguments_of operation (map number_or_zero (map string_bytes words.now))).shift }
     ensures width { result.width ≡ (arguments_of operation (map number_or_zero (map string_bytes words.now))).width }
-    ensures values { numbers_of result.values.now ≡ (arguments_of operation (map number_or_zero (map string_bytes words.now))).values }
+    ensures values { numbers_of result.values.now
+        ≡ (arguments_of operation (map number_or_zero (map string_bytes words.now))).values }
 {
     let behind = settings(operation);
     let first = number_or_zero(words[0].as_str());

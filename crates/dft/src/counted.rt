@@ -26,7 +26,11 @@ impl<W: Write> Model for Counted<W> {
 
     ghost Value = { Calls };
 
-    ghost view = { λ c. record { bytes = c.account.bytes; contents = W.contents c.writer; failures = c.account.failures } };
+    ghost view = { λ c. record {
+      bytes = c.account.bytes;
+      contents = W.contents c.writer;
+      failures = c.account.failures;
+    } };
 }
 
 impl<W: Write> Counted<W> {

@@ -37,7 +37,8 @@ pub fn text_of<F: CanonicalField>(
     matrix: &RowMajorMatrix<F>,
 ) -> Result<String, AllocError>
     ensures whole { IfOk result (λ _. IsRowMajor matrix.now) }
-    ensures text { IfOk result (λ text. string_bytes text ≡ text_of_rows (map (map (λ x. F.number (F.value x))) (rows matrix.now))) }
+    ensures text { IfOk result (λ text. string_bytes text
+        ≡ text_of_rows (map (map (λ x. F.number (F.value x))) (rows matrix.now))) }
 {
     let mut text = String::new(alloc);
     for i in 0..matrix.height() {
@@ -48,14 +49,16 @@ pub fn text_of<F: CanonicalField>(
 
 // Adds a line: the numbers in decimal, with one space between them.
 fn push_line<F: CanonicalField>(text: &mut String, row: &[F]) -> Result<(), AllocError>
-    ensures { OnOk result (string_bytes text.new ≡ string_bytes text.old ++ line_of_numbers (map (λ x. F.number (F.value x)) row.now)) }
+    ensures { OnOk result (string_bytes text.new
+        ≡ string_bytes text.old ++ line_of_numbers (map (λ x. F.number (F.value x)) row.now)) }
 {
     push_numbers(text, row)?;
     text.push('\n')
 }
 
 fn push_numbers<F: CanonicalField>(text: &mut String, row: &[F]) -> Result<(), AllocError>
-    ensures { OnOk result (string_bytes text.new ≡ string_bytes text.old ++ spaced (map (λ x. F.number (F.value x)) row.now)) }
+    ensures { OnOk result (string_bytes text.new
+        ≡ string_bytes text.old ++ spaced (map (λ x. F.number (F.value x)) row.now)) }
 {
     let Some((first, others)) = row.split_first() else {
         return Ok(());

@@ -35,10 +35,12 @@ pub fn run<W: Sink>(alloc: Global, words: &[String], out: &mut W) -> u8
         × IsOutcome (map string_bytes words.now) (record { status = result; text = text })
         × Took (W.calls out.old) (W.calls out.new) text }
     // There is an answer, and no memory for it.
-    ensures memory { result ≡ 3 → IsAnswerable (map string_bytes words.now) × Took (W.calls out.old) (W.calls out.new) memory_line }
+    ensures memory { result ≡ 3 → IsAnswerable (map string_bytes words.now)
+        × Took (W.calls out.old) (W.calls out.new) memory_line }
     // Writing stopped in the midst of one of these.
     ensures stopped { result ≡ 4
-        → ((o : Outcome) × IsOutcome (map string_bytes words.now) o × TookStartOf (W.calls out.old) (W.calls out.new) o.text)
+        → ((o : Outcome) × IsOutcome (map string_bytes words.now) o
+        × TookStartOf (W.calls out.old) (W.calls out.new) o.text)
         ⊎ (IsAnswerable (map string_bytes words.now) × TookStartOf (W.calls out.old) (W.calls out.new) memory_line) }
     ensures failed { (result ≡ 4) ↔ ((W.calls out.old).failures < (W.calls out.new).failures) }
 {

@@ -12,7 +12,8 @@ use std::alloc::{AllocError, Global};
 
 /// The square of a difference.
 pub fn squared_distance<F: Field>(a: F, b: F) -> F
-    ensures { F.value result ≡ F.ring.mul (minus F.ring (F.value a) (F.value b)) (minus F.ring (F.value a) (F.value b)) }
+    ensures { F.value result ≡ F.ring.mul (minus F.ring (F.value a) (F.value b))
+        (minus F.ring (F.value a) (F.value b)) }
 {
     let mut difference = a;
     difference -= b;

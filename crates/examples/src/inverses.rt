@@ -24,7 +24,8 @@ pub fn from_generator<F: TwoAdicField, D: TwoAdicSubgroupDft<F>>(
     engine.coset_idft_batch(values, F::GENERATOR)
 }
 
-/// The same over `BabyBear`, for a matrix of any shape: `None` where it does not fit.
+/// The coefficients of values on the coset of the generator of `BabyBear`, of a matrix of any shape: `None`
+/// where it does not fit.
 pub fn from_baby_bear_generator<D: TwoAdicSubgroupDft<BabyBear>>(
     engine: &mut D,
     values: RowMajorMatrix<BabyBear>,
@@ -35,7 +36,7 @@ pub fn from_baby_bear_generator<D: TwoAdicSubgroupDft<BabyBear>>(
     Some(engine.coset_idft_batch(values, BabyBear::invertible_generator()))
 }
 
-/// The same over `KoalaBear`.
+/// Coefficients of values on the coset of the generator of `KoalaBear`.
 pub fn from_koala_bear_generator<D: TwoAdicSubgroupDft<KoalaBear>>(
     engine: &mut D,
     values: RowMajorMatrix<KoalaBear>,
@@ -46,7 +47,7 @@ pub fn from_koala_bear_generator<D: TwoAdicSubgroupDft<KoalaBear>>(
     Some(engine.coset_idft_batch(values, KoalaBear::invertible_generator()))
 }
 
-/// The same over `Goldilocks`.
+/// Coefficients of values on the coset of the generator of `Goldilocks`.
 pub fn from_goldilocks_generator<D: TwoAdicSubgroupDft<Goldilocks>>(
     engine: &mut D,
     values: RowMajorMatrix<Goldilocks>,
@@ -73,7 +74,7 @@ pub fn from_shift<F: TwoAdicField, D: TwoAdicSubgroupDft<F>>(
     Some(engine.coset_idft_batch(values, shift))
 }
 
-/// The same over `BabyBear`, for a matrix of any shape: `None` where it does not fit, too.
+/// Over `BabyBear`, of a matrix of any shape: `None` where the shift has no inverse or the shape does not fit.
 pub fn from_baby_bear_shift<D: TwoAdicSubgroupDft<BabyBear>>(
     engine: &mut D,
     values: RowMajorMatrix<BabyBear>,
@@ -85,7 +86,7 @@ pub fn from_baby_bear_shift<D: TwoAdicSubgroupDft<BabyBear>>(
     Some(engine.coset_idft_batch(values, shift))
 }
 
-/// The same over `Goldilocks`.
+/// Over `Goldilocks`, with the inverse matched.
 pub fn from_goldilocks_shift<D: TwoAdicSubgroupDft<Goldilocks>>(
     engine: &mut D,
     values: RowMajorMatrix<Goldilocks>,

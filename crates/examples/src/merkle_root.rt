@@ -73,7 +73,8 @@ impl<F: Field> RowHash<F> for HornerHash<F> {
 
     ghost worth = { F.value };
 
-    ghost of_row = { λ h xs. fold (λ sum x. F.ring.add (F.ring.mul sum (F.value h.base)) x) F.ring.zero (map F.value xs) };
+    ghost of_row = { λ h xs. fold (λ sum x. F.ring.add (F.ring.mul sum (F.value h.base)) x) F.ring.zero
+        (map F.value xs) };
 
     ghost of_pair = { λ h left right. F.ring.add (F.ring.mul left (F.value h.base)) right };
 
@@ -89,7 +90,8 @@ impl<F: Field> RowHash<F> for HornerHash<F> {
         left * self.base + right
     }
 
-    ghost row_law = { λ h xs ys same. ap (fold (λ sum x. F.ring.add (F.ring.mul sum (F.value h.base)) x) F.ring.zero) same };
+    ghost row_law = { λ h xs ys same. ap (fold (λ sum x. F.ring.add (F.ring.mul sum (F.value h.base)) x) F.ring.zero)
+        same };
 }
 
 /// A consumer that puts the digest of each row that it is lent at the row's number, as far as there are
@@ -199,7 +201,8 @@ pub fn merkle_root<F: TwoAdicField, D: TwoAdicSubgroupDft<F>, H: RowHash<F>>(
 ) -> Result<Commitment<F, H::Digest>, DftError>
     requires { FitsLde F.TWO_ADICITY (height mat) mat.width added_bits }
     ensures extension { IfOk result (λ c.
-        IsExtension F.Field.own F.generator mat added_bits (F.value shift) (reversed_rows c.rows.bits c.rows.physical)) }
+        IsExtension F.Field.own F.generator mat added_bits (F.value shift)
+        (reversed_rows c.rows.bits c.rows.physical)) }
     ensures leaves { IfOk result (λ c. AreDigests H.worth (H.of_row hash.now) c.rows.physical c.leaves.items) }
     ensures root { IfOk result (λ c. H.worth c.root
         ≡ tree (H.of_pair hash.now) c.rows.bits (λ i. H.of_row hash.now (row c.rows.physical i))) }

@@ -4,7 +4,8 @@
 //!
 //! Proved: what a client may conclude, whatever the order of the blocks and whether one was refused.
 
-ghost use Rattle.std.specs.Prelude.{◌≡◌, ℕ, ◌+◌, ◌%◌, ◌/◌, ◌^◌, ◌<◌, ◌≤◌, ◌≢◌, ◌++◌, List, [], ◌∷◌, IfErr, IfOk, IfSome, Ok, false, get_or, length};
+ghost use Rattle.std.specs.Prelude.{◌≡◌, ℕ, ◌+◌, ◌%◌, ◌/◌, ◌^◌, ◌<◌, ◌≤◌, ◌≢◌, ◌++◌, List, [], ◌∷◌, IfErr, IfOk};
+ghost use Rattle.std.specs.Prelude.{IfSome, Ok, false, get_or, length};
 ghost use Rattle.p3_matrix.specs.BitOrder.{bit_reversal, reversed_rows};
 ghost use Rattle.p3_matrix.specs.Blocks.{AreBlocksOf, IsPartition};
 ghost use Rattle.p3_matrix.specs.Matrix.{Matrix};
@@ -70,7 +71,8 @@ pub fn limited_extension<F: TwoAdicField, D: TwoAdicSubgroupDft<F>>(
     requires { FitsLde F.TWO_ADICITY (height mat) mat.width added_bits }
     ensures extension { IfOk result (λ p.
         IsExtension F.Field.own F.generator mat added_bits (F.value shift) (reversed_rows p.0.bits p.0.physical)) }
-    ensures counted { IfOk result (λ p. AtLog (height mat) (λ k. p.1 ≡ height p.0.physical / D.facts.block_rows k added_bits)) }
+    ensures counted { IfOk result (λ p. AtLog (height mat)
+        (λ k. p.1 ≡ height p.0.physical / D.facts.block_rows k added_bits)) }
     ensures within { IfOk result (λ p. p.1 ≤ limit) }
     ensures refused { IfErr result (λ e. IfSome e (λ refusal. AtLog (height mat) (λ k.
         (refusal.start % D.facts.block_rows k added_bits ≡ 0) × (refusal.start < 2 ^ (k + added_bits))
@@ -78,7 +80,8 @@ pub fn limited_extension<F: TwoAdicField, D: TwoAdicSubgroupDft<F>>(
     ensures one_too_many { IfErr result (λ e. IfSome e (λ refusal. AtLog (height mat) (λ k. (out : Matrix F.Element)
         × AreExtendedValues F.Field.own F.generator mat added_bits (F.value shift) out
         × (taken : List (ℕ × RowMajor F)) × (refused : ℕ × RowMajor F)
-        × AreBlocksOf (values_of F.Field.own) (D.facts.block_rows k added_bits) (bit_reversal (k + added_bits) out) (taken ++ refused ∷ [])
+        × AreBlocksOf (values_of F.Field.own) (D.facts.block_rows k added_bits) (bit_reversal (k + added_bits) out)
+        (taken ++ refused ∷ [])
         × (length taken ≡ limit) × (refusal.start ≡ refused.0)))) }
 {
     let answer = engine.coset_lde_batch_in_blocks(
@@ -113,7 +116,8 @@ impl<F: Field> BlockConsumer<F> for BlockSum<F> {
     type Refusal = Infallible;
 
     ghost step = { λ c start block answer e. (answer ≡ Ok tt) × (F.value e.sum
-        ≡ F.ring.add (F.value c.sum) (sum F.ring (length block.values) (λ i. F.value (get_or block.values i F.ZERO)))) };
+        ≡ F.ring.add (F.value c.sum) (sum F.ring (length block.values)
+        (λ i. F.value (get_or block.values i F.ZERO)))) };
 
     fn consume(&mut self, start: usize, block: RowMajorMatrixView<'_, F>) -> Result<(), Infallible>
         ensures { ⟦<BlockSum<F> as BlockConsumer<F>>⟧.step self.old start block.entry result self.new }
@@ -216,7 +220,8 @@ pub fn sum_of_first_blocks<F: TwoAdicField, D: TwoAdicSubgroupDft<F>>(
         × AreExtendedValues F.Field.own F.generator mat added_bits (F.value shift) out
         × (starts : List ℕ) × (length starts ≡ limit) × AllPairs (λ i j. i ≢ j) starts
         × All (λ start. (start % D.facts.block_rows k added_bits ≡ 0) × (start < 2 ^ (k + added_bits))) starts
-        × (F.value total ≡ sum_of_blocks F.ring (D.facts.block_rows k added_bits) (bit_reversal (k + added_bits) out) starts))) }
+        × (F.value total ≡ sum_of_blocks F.ring (D.facts.block_rows k added_bits) (bit_reversal (k + added_bits) out)
+        starts))) }
 {
     let none_yet = LimitedSum {
         sum: F::ZERO,

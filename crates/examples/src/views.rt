@@ -25,7 +25,7 @@ pub fn opened_row<F: Field>(
     Ok(Vec::from_slice(*rows.inner().allocator(), rows.row(i))?)
 }
 
-/// The same over a named field.
+/// A row of an extension over a named field, by its natural number.
 pub fn opened_row_of_baby_bears(
     rows: &BitReversedMatrixView<RowMajorMatrix<BabyBear>>,
     i: usize,

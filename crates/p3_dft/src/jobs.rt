@@ -3,7 +3,8 @@
 ghost use Rattle.std.specs.Prelude.{◌≡◌, ℕ, ◌+◌, ◌≤◌, ◌⊎◌, List, [], IfOk, IfErr, IsOk, OnOk, OnErr};
 ghost use Rattle.std.specs.List.{All, AllZip, sum};
 ghost use Rattle.p3_dft.specs.Engines.{IsLater};
-ghost use Rattle.p3_dft.specs.Jobs.{AreFirstAnswers, CanRun, IsAnswer, IsCost, IsPromised, IsReadyFor, NextIsNotPromised};
+ghost use Rattle.p3_dft.specs.Jobs.{AreFirstAnswers, CanRun, IsAnswer, IsCost, IsPromised, IsReadyFor};
+ghost use Rattle.p3_dft.specs.Jobs.{NextIsNotPromised};
 
 use crate::traits::TwoAdicSubgroupDft;
 use p3_field::TwoAdicField;
@@ -27,7 +28,7 @@ pub enum Job<F> {
 }
 
 impl<F: Copy> Job<F> {
-    /// The same job, with entries in memory of its own. Where memory is refused, there is nothing but
+    /// A copy of the job, with entries in memory of its own. Where memory is refused, there is nothing but
     /// the error.
     pub fn try_clone(&self) -> Result<Self, DftError>
         ensures { IfOk result (λ job. job ≡ self.now) }
@@ -116,7 +117,8 @@ fn run_job<F: TwoAdicField, D: TwoAdicSubgroupDft<F>>(
     ensures answer { IfOk result (IsAnswer F.Field.own F.generator job) }
     ensures succeeds { IsPromised D.facts engine.old job → IsOk result }
     ensures serves { OnOk result (IsReadyFor D.facts engine.new job) }
-    ensures cost { (n : ℕ) → IsCost D.facts job n → D.facts.products_made engine.new ≤ D.facts.products_made engine.old + n }
+    ensures cost { (n : ℕ) → IsCost D.facts job n
+        → D.facts.products_made engine.new ≤ D.facts.products_made engine.old + n }
     ensures later { IsLater D.facts engine.old engine.new }
 {
     let values = match job {

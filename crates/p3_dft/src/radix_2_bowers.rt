@@ -70,7 +70,8 @@ impl<F: TwoAdicField> TwoAdicSubgroupDft<F> for Radix2Bowers {
     ghost use Rattle.std.proofs.Common.{refl, rules};
     ghost use Rattle.p3_matrix.specs.RowMajor.{height};
     ghost use Rattle.p3_dft.specs.Engines.{AtLog, IsLater, plain_facts};
-    ghost use Rattle.p3_dft.specs.Extensions.{IsCallable, IsExtension, IsTransformedExtension, KeepsShape, extension_bound};
+    ghost use Rattle.p3_dft.specs.Extensions.{IsCallable, IsExtension, IsTransformedExtension, KeepsShape};
+    ghost use Rattle.p3_dft.specs.Extensions.{extension_bound};
     ghost use Rattle.p3_dft.specs.Shapes.{FitsDft, FitsLde};
     ghost use Rattle.p3_dft.specs.Transforms.{IsInterpolation, IsTransform};
     ghost use Rattle.p3_dft.specs.declared.traits.Layout.TheVariants.{BitReversed};
@@ -97,7 +98,8 @@ impl<F: TwoAdicField> TwoAdicSubgroupDft<F> for Radix2Bowers {
         ensures succeeds { AtLog (height (N.stored mat)) (λ k. k ≡ 0 → IsOk result) }
         ensures one_row { height (N.stored mat) ≡ 1 → (result ≡ Ok (N.stored mat)) × (self.new ≡ self.old) }
         ensures later { IsLater ⟦<Radix2Bowers as TwoAdicSubgroupDft<F>>⟧.facts self.old self.new }
-        ensures cost { AtLog (height (N.stored mat)) (λ k. self.new ≤ self.old + (N.stored mat).width * (k * 2 ^ k / 2)) }
+        ensures cost { AtLog (height (N.stored mat))
+            (λ k. self.new ≤ self.old + (N.stored mat).width * (k * 2 ^ k / 2)) }
     {
         let mut mat = mat.into_row_major_matrix();
         if mat.height() == 1 {
@@ -124,7 +126,8 @@ impl<F: TwoAdicField> TwoAdicSubgroupDft<F> for Radix2Bowers {
         mat: N,
     ) -> Result<RowMajorMatrix<F>, DftError>
         requires fits { FitsDft F.TWO_ADICITY (height (N.stored mat)) (N.stored mat).width }
-        ensures coefficients { IfOk result (λ out. IsInterpolation F.Field.own F.generator (N.stored mat) F.ring.one out) }
+        ensures coefficients { IfOk result
+            (λ out. IsInterpolation F.Field.own F.generator (N.stored mat) F.ring.one out) }
         ensures succeeds { AtLog (height (N.stored mat)) (λ k. k ≡ 0 → IsOk result) }
         ensures one_row { height (N.stored mat) ≡ 1 → (result ≡ Ok (N.stored mat)) × (self.new ≡ self.old) }
         ensures later { IsLater ⟦<Radix2Bowers as TwoAdicSubgroupDft<F>>⟧.facts self.old self.new }
@@ -304,11 +307,13 @@ fn interpolate_to_reversed<F: TwoAdicField>(
     products: &mut Products,
 ) -> Result<(), DftError>
     requires fits { FitsDft F.TWO_ADICITY (height mat.old) mat.old.width }
-    ensures coefficients { AtLog (height mat.old) (λ k. OnOk result (AreCoefficients F.ring (λ n. F.value (F.generator n))
+    ensures coefficients { AtLog (height mat.old)
+        (λ k. OnOk result (AreCoefficients F.ring (λ n. F.value (F.generator n))
         (values_of F.Field.own mat.old) k F.ring.one (bit_reversal k (values_of F.Field.own mat.new)))) }
     ensures whole { OnOk result (IsRowMajor mat.new) }
     ensures grows { products.old ≤ products.new }
-    ensures cost { AtLog (height mat.old) (λ k. products.new ≤ products.old + mat.old.width * (k * 2 ^ k / 2) + 2 ^ k * mat.old.width) }
+    ensures cost { AtLog (height mat.old)
+        (λ k. products.new ≤ products.old + mat.old.width * (k * 2 ^ k / 2) + 2 ^ k * mat.old.width) }
 {
     interpolate_unscaled_to_reversed(mat, products)?;
     divide_rows(mat, products);
@@ -326,7 +331,8 @@ fn extend_to_natural<F: TwoAdicField>(
     ensures values { AtLog (height mat) (λ k. IfOk result (λ out. IsValues F.ring (λ n. F.value (F.generator n))
         (bit_reversal k (values_of F.Field.own mat)) (k + added_bits) F.ring.one (values_of F.Field.own out))) }
     ensures grows { products.old ≤ products.new }
-    ensures cost { AtLog (height mat) (λ k. products.new ≤ products.old + mat.width * ((k + added_bits) * 2 ^ (k + added_bits) / 2)) }
+    ensures cost { AtLog (height mat)
+        (λ k. products.new ≤ products.old + mat.width * ((k + added_bits) * 2 ^ (k + added_bits) / 2)) }
 {
     let mut mat = spread_rows(mat, added_bits)?;
     evaluate_to_natural(&mut mat, products)?;

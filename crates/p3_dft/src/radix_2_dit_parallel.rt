@@ -9,7 +9,9 @@ mod transform;
 
 use crate::blocks::{BlocksStopped, Unpublished};
 use crate::radix_2_dit_parallel::extension::{Unread, coefficients_with_room, extend_reversed};
-use crate::radix_2_dit_parallel::transform::{evaluate_to_reversed, evaluate_on_coset_to_reversed, interpolate_to_reversed};
+use crate::radix_2_dit_parallel::transform::{
+    evaluate_on_coset_to_reversed, evaluate_to_reversed, interpolate_to_reversed,
+};
 use crate::traits::{Layout, TwoAdicSubgroupDft};
 use p3_field::{Field, Products, TwoAdicField};
 use p3_matrix::{
@@ -203,7 +205,8 @@ impl<F: TwoAdicField> TwoAdicSubgroupDft<F> for Radix2DitParallel<F> {
             IsTransform F.Field.own F.generator (N.stored mat) (F.value shift) (reversed_rows out.bits out.physical)) }
         ensures succeeds { AtLog (height (N.stored mat)) (λ k. IsPrepared self.old.roots k
             → IsCosetPrepared F.Field.own self.old k (F.value shift) → IsOk result) }
-        ensures ready { AtLog (height (N.stored mat)) (λ k. IsCosetPrepared F.Field.own self.old k (F.value shift) → IsOk result) }
+        ensures ready { AtLog (height (N.stored mat))
+            (λ k. IsCosetPrepared F.Field.own self.old k (F.value shift) → IsOk result) }
         ensures tables { AtLog (height (N.stored mat))
             (λ k. OnOk result (IsCosetPrepared F.Field.own self.new k (F.value shift))) }
         ensures only { AtLog (height (N.stored mat)) (λ k. PreparesNoneAbove k self.old.roots self.new.roots) }
@@ -245,7 +248,8 @@ impl<F: TwoAdicField> TwoAdicSubgroupDft<F> for Radix2DitParallel<F> {
         mat: N,
     ) -> Result<RowMajorMatrix<F>, DftError>
         requires fits { FitsDft F.TWO_ADICITY (height (N.stored mat)) (N.stored mat).width }
-        ensures coefficients { IfOk result (λ out. IsInterpolation F.Field.own F.generator (N.stored mat) F.ring.one out) }
+        ensures coefficients { IfOk result
+            (λ out. IsInterpolation F.Field.own F.generator (N.stored mat) F.ring.one out) }
         ensures succeeds { AtLog (height (N.stored mat)) (λ k. IsPrepared self.old.roots k → IsOk result) }
         ensures serves { AtLog (height (N.stored mat)) (λ k. OnOk result (IsPrepared self.new.roots k)) }
         ensures only { AtLog (height (N.stored mat)) (λ k. PreparesNoneAbove k self.old.roots self.new.roots) }
@@ -297,7 +301,8 @@ impl<F: TwoAdicField> TwoAdicSubgroupDft<F> for Radix2DitParallel<F> {
             → HasCoset F.Field.own self.new.cosets k s }
         ensures adds_tables { AtLog (height (N.stored mat)) (λ k.
             AddsCosets F.Field.own F.generator k added_bits (F.value shift) self.old.cosets self.new.cosets) }
-        ensures once { AtLog (height (N.stored mat)) (λ k. HasCosets F.Field.own F.generator self.old.cosets k added_bits (F.value shift)
+        ensures once { AtLog (height (N.stored mat))
+            (λ k. HasCosets F.Field.own F.generator self.old.cosets k added_bits (F.value shift)
             → self.new.cosets ≡ self.old.cosets) }
         ensures later { IsLater ⟦<Radix2DitParallel<F> as TwoAdicSubgroupDft<F>>⟧.facts self.old self.new }
         ensures cost { AtLog (height (N.stored mat)) (λ k. self.new.roots.products
@@ -347,8 +352,10 @@ impl<F: TwoAdicField> TwoAdicSubgroupDft<F> for Radix2DitParallel<F> {
             (λ m n. T.post transform m BitReversed n) BitReversed
             (N.stored mat) added_bits (F.value shift) (reversed_rows p.0.bits p.0.physical)) }
         ensures published { IfOk result (λ p. AtLog (height (N.stored mat)) (λ k.
-            IsPublished C.step (λ c. M.post make_consumer (2 ^ (k - (k + 1) / 2)) c) (2 ^ (k - (k + 1) / 2)) p.0.physical p.1)) }
-        ensures refused { IfErr result (λ e. OnRefused e (λ c r. AtLog (height (N.stored mat)) (λ k. (out : Matrix F.Element)
+            IsPublished C.step (λ c. M.post make_consumer (2 ^ (k - (k + 1) / 2)) c) (2 ^ (k - (k + 1) / 2))
+            p.0.physical p.1)) }
+        ensures refused { IfErr result (λ e. OnRefused e
+            (λ c r. AtLog (height (N.stored mat)) (λ k. (out : Matrix F.Element)
             × AreTransformedValues F.Field.own F.generator (λ m n. T.post transform m BitReversed n) BitReversed
             (N.stored mat) added_bits (F.value shift) out
             × IsRefused C.step (λ c. M.post make_consumer (2 ^ (k - (k + 1) / 2)) c) (values_of F.Field.own)
@@ -362,7 +369,8 @@ impl<F: TwoAdicField> TwoAdicSubgroupDft<F> for Radix2DitParallel<F> {
             → HasCoset F.Field.own self.new.cosets k s }
         ensures adds_tables { AtLog (height (N.stored mat)) (λ k.
             AddsCosets F.Field.own F.generator k added_bits (F.value shift) self.old.cosets self.new.cosets) }
-        ensures once { AtLog (height (N.stored mat)) (λ k. HasCosets F.Field.own F.generator self.old.cosets k added_bits (F.value shift)
+        ensures once { AtLog (height (N.stored mat))
+            (λ k. HasCosets F.Field.own F.generator self.old.cosets k added_bits (F.value shift)
             → self.new.cosets ≡ self.old.cosets) }
         ensures later { IsLater ⟦<Radix2DitParallel<F> as TwoAdicSubgroupDft<F>>⟧.facts self.old self.new }
         ensures cost { AtLog (height (N.stored mat)) (λ k. self.new.roots.products

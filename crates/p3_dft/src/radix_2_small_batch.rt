@@ -1,6 +1,7 @@
 //! The transform that does most layers on tiles of rows that stay in the cache.
 
-ghost use Rattle.std.specs.Prelude.{◌≡◌, ◌↔◌, ◌⊎◌, ℕ, ◌+◌, ◌*◌, ◌/◌, ◌^◌, ◌<◌, ◌≤◌, max, IsTrue, IsOk, IfOk, OnOk, OnErr, Ok, [], length};
+ghost use Rattle.std.specs.Prelude.{◌≡◌, ◌↔◌, ◌⊎◌, ℕ, ◌+◌, ◌*◌, ◌/◌, ◌^◌, ◌<◌, ◌≤◌, max, IsTrue, IsOk, IfOk, OnOk};
+ghost use Rattle.std.specs.Prelude.{OnErr, Ok, [], length};
 ghost use Rattle.p3_matrix.specs.BitOrder.{bit_reversal};
 ghost use Rattle.p3_matrix.specs.Matrix.{Matrix, image};
 ghost use Rattle.p3_matrix.specs.RowMajor.{HasShapeOf, IsRowMajor, RowMajor, height, with_zeros};
@@ -107,8 +108,8 @@ impl<F: TwoAdicField> Radix2DFTSmallBatch<F> {
         Self::with_tile(alloc, n, TILE)
     }
 
-    /// The same with tiles of about `tile` elements: as many rows as have that many, up to the next
-    /// power of two, and at least one. `tile` is from one to `2^32`. An error is want of memory for the
+    /// An engine as `new` makes it, with tiles of about `tile` elements: as many rows as have that many, up to
+    /// the next power of two, and at least one. `tile` is from one to `2^32`. An error is want of memory for the
     /// tables.
     pub fn with_tile(alloc: Global, n: usize, tile: usize) -> Result<Self, DftError>
         requires height { 2 ≤ n → (k : ℕ) × (n ≡ 2 ^ k) × (k ≤ F.TWO_ADICITY) }
@@ -220,7 +221,8 @@ impl<F: TwoAdicField> TwoAdicSubgroupDft<F> for Radix2DFTSmallBatch<F> {
         mat: N,
     ) -> Result<RowMajorMatrix<F>, DftError>
         requires fits { FitsDft F.TWO_ADICITY (height (N.stored mat)) (N.stored mat).width }
-        ensures coefficients { IfOk result (λ out. IsInterpolation F.Field.own F.generator (N.stored mat) F.ring.one out) }
+        ensures coefficients { IfOk result
+            (λ out. IsInterpolation F.Field.own F.generator (N.stored mat) F.ring.one out) }
         ensures succeeds { AtLog (height (N.stored mat)) (λ k. IsPrepared self.old k → IsOk result) }
         ensures serves { AtLog (height (N.stored mat)) (λ k. OnOk result (IsPrepared self.new k)) }
         ensures one_row { height (N.stored mat) ≡ 1 → (result ≡ Ok (N.stored mat)) × (self.new ≡ self.old) }
@@ -265,7 +267,8 @@ impl<F: TwoAdicField> TwoAdicSubgroupDft<F> for Radix2DFTSmallBatch<F> {
         ensures cost { AtLog (height (N.stored mat)) (λ k. self.new.products
             ≤ self.old.products + extension_bound (λ n w. w * (n * 2 ^ n / 2)) k added_bits (N.stored mat).width) }
         ensures fewer { AtLog (height (N.stored mat)) (λ k. self.new.products
-            ≤ self.old.products + (N.stored mat).width * (k * 2 ^ k / 2 * (1 + 2 ^ added_bits) + 2 ^ (k + added_bits))) }
+            ≤ self.old.products + (N.stored mat).width
+            * (k * 2 ^ k / 2 * (1 + 2 ^ added_bits) + 2 ^ (k + added_bits))) }
     {
         let mut mat = mat.into_row_major_matrix();
         let log_h = log2_strict_usize(mat.height());
@@ -392,7 +395,8 @@ fn interpolate_unscaled_to_reversed<F: TwoAdicField>(
         (block_powers F.Field.own (backward_root F.Field.own F.generator)) twiddles.now }
     ensures shape { HasShapeOf mat.new mat.old }
     ensures size { length mat.new.values ≡ length mat.old.values }
-    ensures coefficients { (c : Matrix F.Element) → IsQuotient F.ring (2 ^ log_h) (bit_reversal log_h (values_of F.Field.own mat.new)) c
+    ensures coefficients { (c : Matrix F.Element)
+        → IsQuotient F.ring (2 ^ log_h) (bit_reversal log_h (values_of F.Field.own mat.new)) c
         → AreCoefficients F.ring (λ n. F.value (F.generator n)) (values_of F.Field.own mat.old) log_h F.ring.one c }
     ensures grows { products.old ≤ products.new }
     ensures cost { products.new ≤ products.old + mat.old.width * (log_h * 2 ^ log_h / 2) }
@@ -436,10 +440,12 @@ fn extend_to_natural<F: TwoAdicField>(
     requires twiddles { AreTwiddlesFromStart F.Field.own (log_h + added_bits)
         (block_powers F.Field.own (forward_root F.Field.own F.generator)) twiddles.now }
     ensures values { IfOk result (λ out. IsValues F.ring (λ n. F.value (F.generator n))
-        (image (λ x. F.ring.mul x (F.value scale)) (coset_shift F.ring (F.value shift) (bit_reversal log_h (values_of F.Field.own mat))))
+        (image (λ x. F.ring.mul x (F.value scale))
+        (coset_shift F.ring (F.value shift) (bit_reversal log_h (values_of F.Field.own mat))))
         (log_h + added_bits) F.ring.one (values_of F.Field.own out)) }
     ensures grows { products.old ≤ products.new }
-    ensures cost { products.new ≤ products.old + mat.width * (2 ^ added_bits * (log_h * 2 ^ log_h / 2) + 2 ^ (log_h + added_bits)) }
+    ensures cost { products.new ≤ products.old
+        + mat.width * (2 ^ added_bits * (log_h * 2 ^ log_h / 2) + 2 ^ (log_h + added_bits)) }
 {
     let alloc = *mat.allocator();
     let width = mat.width();

@@ -148,14 +148,17 @@ impl<F: TwoAdicField, D: TwoAdicSubgroupDft<F>> ReedSolomon<F, D> {
         requires message { height (N.stored mat) ≡ 2 ^ self.old.code.log_message }
         requires fits { FitsLde F.TWO_ADICITY (height (N.stored mat)) (N.stored mat).width self.old.code.added_bits }
         ensures extension { IfOk result (λ out.
-            IsExtension F.Field.own F.generator (N.stored mat) self.old.code.added_bits (F.value self.old.code.shift) out) }
-        ensures codeword { IfOk result (λ out. IsCodeword F.Field.own F.generator self.old.code (values_of F.Field.own out)) }
+            IsExtension F.Field.own F.generator (N.stored mat) self.old.code.added_bits (F.value self.old.code.shift)
+            out) }
+        ensures codeword { IfOk result (λ out. IsCodeword F.Field.own F.generator self.old.code
+            (values_of F.Field.own out)) }
         ensures distance { IfOk result (λ out. (other : Matrix F.Element)
             → IsCodeword F.Field.own F.generator self.old.code other → other.width ≡ out.width
             → AgreeInRows (2 ^ self.old.code.log_message) other (values_of F.Field.own out)
             → Same other (values_of F.Field.own out)) }
         ensures code { self.new.code ≡ self.old.code }
-        ensures engine { AfterExtension D.facts self.old.engine self.new.engine (IsOk result) (N.stored mat) self.old.code.added_bits }
+        ensures engine { AfterExtension D.facts self.old.engine self.new.engine (IsOk result) (N.stored mat)
+            self.old.code.added_bits }
     {
         let values = self
             .engine

@@ -66,7 +66,8 @@ pub trait TwoAdicSubgroupDft<F: TwoAdicField>: Clone + Default {
     /// The values on H of the polynomials whose coefficients are the columns.
     fn dft_batch<N: IntoRowMajorMatrix<F>>(&mut self, mat: N) -> Result<Self::Evaluations, DftError>
         requires fits { FitsDft F.TWO_ADICITY (height (N.stored mat)) (N.stored mat).width }
-        ensures values { IfOk result (λ out. IsTransform F.Field.own F.generator (N.stored mat) F.ring.one (Self.Evaluations.natural out)) }
+        ensures values { IfOk result (λ out. IsTransform F.Field.own F.generator (N.stored mat) F.ring.one
+            (Self.Evaluations.natural out)) }
         ensures succeeds { AtLog (height (N.stored mat)) (λ k. facts.Succeeds self.old k → IsOk result) }
         ensures engine { AfterTransform facts self.old self.new (IsOk result) (N.stored mat) 0 };
 
@@ -84,7 +85,8 @@ pub trait TwoAdicSubgroupDft<F: TwoAdicField>: Clone + Default {
         requires fits { FitsDft F.TWO_ADICITY (height (N.stored mat)) (N.stored mat).width }
         ensures values { IfOk result (λ out.
             IsTransform F.Field.own F.generator (N.stored mat) (F.value shift) (Self.Evaluations.natural out)) }
-        ensures succeeds { AtLog (height (N.stored mat)) (λ k. facts.Succeeds self.old k → facts.SucceedsOnCoset self.old k shift → IsOk result) }
+        ensures succeeds { AtLog (height (N.stored mat))
+            (λ k. facts.Succeeds self.old k → facts.SucceedsOnCoset self.old k shift → IsOk result) }
         ensures engine { AfterTransform facts self.old self.new (IsOk result) (N.stored mat) 1 }
     {
         let mut products = Products::new();
@@ -101,7 +103,8 @@ pub trait TwoAdicSubgroupDft<F: TwoAdicField>: Clone + Default {
         mat: N,
     ) -> Result<RowMajorMatrix<F>, DftError>
         requires fits { FitsDft F.TWO_ADICITY (height (N.stored mat)) (N.stored mat).width }
-        ensures coefficients { IfOk result (λ out. IsInterpolation F.Field.own F.generator (N.stored mat) F.ring.one out) }
+        ensures coefficients { IfOk result
+            (λ out. IsInterpolation F.Field.own F.generator (N.stored mat) F.ring.one out) }
         ensures succeeds { AtLog (height (N.stored mat)) (λ k. facts.Succeeds self.old k → IsOk result) }
         ensures engine { AfterTransform facts self.old self.new (IsOk result) (N.stored mat) 1 }
     {
@@ -122,7 +125,8 @@ pub trait TwoAdicSubgroupDft<F: TwoAdicField>: Clone + Default {
     ) -> Result<RowMajorMatrix<F>, DftError>
         requires fits { FitsDft F.TWO_ADICITY (height (N.stored mat)) (N.stored mat).width }
         requires invertible { IsInvertible F.ring (F.value shift) }
-        ensures coefficients { IfOk result (λ out. IsInterpolation F.Field.own F.generator (N.stored mat) (F.value shift) out) }
+        ensures coefficients { IfOk result
+            (λ out. IsInterpolation F.Field.own F.generator (N.stored mat) (F.value shift) out) }
         ensures succeeds { AtLog (height (N.stored mat)) (λ k. facts.Succeeds self.old k → IsOk result) }
         ensures engine { AfterTransform facts self.old self.new (IsOk result) (N.stored mat) 2 }
     {
@@ -153,7 +157,8 @@ pub trait TwoAdicSubgroupDft<F: TwoAdicField>: Clone + Default {
         requires fits { FitsLde F.TWO_ADICITY (height (N.stored mat)) (N.stored mat).width added_bits }
         requires callable { IsCallable (N.stored mat) (λ m. T.pre transform m LAYOUT) }
         requires shape { KeepsShape (N.stored mat) (λ m n. T.post transform m LAYOUT n) }
-        ensures values { IfOk result (λ out. IsTransformedExtension F.Field.own F.generator (λ m n. T.post transform m LAYOUT n) LAYOUT
+        ensures values { IfOk result (λ out. IsTransformedExtension F.Field.own F.generator
+            (λ m n. T.post transform m LAYOUT n) LAYOUT
             (N.stored mat) added_bits (F.value shift) (Self.Evaluations.natural out)) }
         ensures engine { AfterExtension facts self.old self.new (IsOk result) (N.stored mat) added_bits };
 
@@ -173,7 +178,8 @@ pub trait TwoAdicSubgroupDft<F: TwoAdicField>: Clone + Default {
         requires fits { FitsLde F.TWO_ADICITY (height (N.stored mat)) (N.stored mat).width added_bits }
         requires callable { IsCallable (N.stored mat) (λ m. T.pre transform m LAYOUT) }
         requires shape { KeepsShape (N.stored mat) (λ m n. T.post transform m LAYOUT n) }
-        ensures values { IfOk result (λ out. IsTransformedExtension F.Field.own F.generator (λ m n. T.post transform m LAYOUT n) LAYOUT
+        ensures values { IfOk result (λ out. IsTransformedExtension F.Field.own F.generator
+            (λ m n. T.post transform m LAYOUT n) LAYOUT
             (N.stored mat) added_bits (F.value shift) (Self.Evaluations.natural out)) }
         ensures engine { AfterExtensionByParts facts self.old self.new (IsOk result) (N.stored mat) added_bits }
     {
@@ -200,7 +206,8 @@ pub trait TwoAdicSubgroupDft<F: TwoAdicField>: Clone + Default {
         requires fits { FitsLde F.TWO_ADICITY (height (N.stored mat)) (N.stored mat).width added_bits }
         requires callable { IsCallable (N.stored mat) (λ m. T.pre transform m LAYOUT) }
         requires shape { KeepsShape (N.stored mat) (λ m n. T.post transform m LAYOUT n) }
-        ensures values { IfOk result (λ out. IsTransformedExtension F.Field.own F.generator (λ m n. T.post transform m LAYOUT n) LAYOUT
+        ensures values { IfOk result (λ out. IsTransformedExtension F.Field.own F.generator
+            (λ m n. T.post transform m LAYOUT n) LAYOUT
             (N.stored mat) added_bits (F.value shift) (reversed_rows out.bits out.physical)) }
         ensures engine { AfterExtension facts self.old self.new (IsOk result) (N.stored mat) added_bits }
     {
@@ -219,7 +226,8 @@ pub trait TwoAdicSubgroupDft<F: TwoAdicField>: Clone + Default {
     ) -> Result<Self::Evaluations, DftError>
         requires fits { FitsLde F.TWO_ADICITY (height (N.stored mat)) (N.stored mat).width added_bits }
         ensures values { IfOk result (λ out.
-            IsExtension F.Field.own F.generator (N.stored mat) added_bits (F.value shift) (Self.Evaluations.natural out)) }
+            IsExtension F.Field.own F.generator (N.stored mat) added_bits (F.value shift)
+            (Self.Evaluations.natural out)) }
         ensures engine { AfterExtension facts self.old self.new (IsOk result) (N.stored mat) added_bits }
     {
         self.coset_lde_batch_with_transform(
@@ -282,11 +290,14 @@ pub trait TwoAdicSubgroupDft<F: TwoAdicField>: Clone + Default {
         requires callable { IsCallable (N.stored mat) (λ m. T.pre transform m LAYOUT) }
         requires shape { KeepsShape (N.stored mat) (λ m n. T.post transform m LAYOUT n) }
         requires makes { AtLog (height (N.stored mat)) (λ k. M.pre make_consumer (facts.block_rows k added_bits)) }
-        ensures values { IfOk result (λ p. IsTransformedExtension F.Field.own F.generator (λ m n. T.post transform m LAYOUT n) LAYOUT
+        ensures values { IfOk result (λ p. IsTransformedExtension F.Field.own F.generator
+            (λ m n. T.post transform m LAYOUT n) LAYOUT
             (N.stored mat) added_bits (F.value shift) (reversed_rows p.0.bits p.0.physical)) }
         ensures published { IfOk result (λ p. AtLog (height (N.stored mat)) (λ k.
-            IsPublished C.step (λ c. M.post make_consumer (facts.block_rows k added_bits) c) (facts.block_rows k added_bits) p.0.physical p.1)) }
-        ensures refused { IfErr result (λ e. OnRefused e (λ c r. AtLog (height (N.stored mat)) (λ k. (out : Matrix F.Element)
+            IsPublished C.step (λ c. M.post make_consumer (facts.block_rows k added_bits) c)
+            (facts.block_rows k added_bits) p.0.physical p.1)) }
+        ensures refused { IfErr result (λ e. OnRefused e
+            (λ c r. AtLog (height (N.stored mat)) (λ k. (out : Matrix F.Element)
             × AreTransformedValues F.Field.own F.generator (λ m n. T.post transform m LAYOUT n) LAYOUT
             (N.stored mat) added_bits (F.value shift) out
             × IsRefused C.step (λ c. M.post make_consumer (facts.block_rows k added_bits) c) (values_of F.Field.own)
@@ -324,10 +335,13 @@ pub trait TwoAdicSubgroupDft<F: TwoAdicField>: Clone + Default {
         requires fits { FitsLde F.TWO_ADICITY (height (N.stored mat)) (N.stored mat).width added_bits }
         requires makes { AtLog (height (N.stored mat)) (λ k. M.pre make_consumer (facts.block_rows k added_bits)) }
         ensures values { IfOk result (λ p.
-            IsExtension F.Field.own F.generator (N.stored mat) added_bits (F.value shift) (reversed_rows p.0.bits p.0.physical)) }
+            IsExtension F.Field.own F.generator (N.stored mat) added_bits (F.value shift)
+            (reversed_rows p.0.bits p.0.physical)) }
         ensures published { IfOk result (λ p. AtLog (height (N.stored mat)) (λ k.
-            IsPublished C.step (λ c. M.post make_consumer (facts.block_rows k added_bits) c) (facts.block_rows k added_bits) p.0.physical p.1)) }
-        ensures refused { IfErr result (λ e. OnRefused e (λ c r. AtLog (height (N.stored mat)) (λ k. (out : Matrix F.Element)
+            IsPublished C.step (λ c. M.post make_consumer (facts.block_rows k added_bits) c)
+            (facts.block_rows k added_bits) p.0.physical p.1)) }
+        ensures refused { IfErr result (λ e. OnRefused e
+            (λ c r. AtLog (height (N.stored mat)) (λ k. (out : Matrix F.Element)
             × AreExtendedValues F.Field.own F.generator (N.stored mat) added_bits (F.value shift) out
             × IsRefused C.step (λ c. M.post make_consumer (facts.block_rows k added_bits) c) (values_of F.Field.own)
             (facts.block_rows k added_bits) (bit_reversal (k + added_bits) out) c r))) }
@@ -351,7 +365,8 @@ pub trait TwoAdicSubgroupDft<F: TwoAdicField>: Clone + Default {
     /// The values on H of the polynomial with these coefficients.
     final fn dft(&mut self, vec: Vec<F>) -> Result<Vec<F>, DftError>
         requires fits { FitsDft F.TWO_ADICITY (vec_len vec) 1 }
-        ensures values { IfOk result (λ out. IsTransform F.Field.own F.generator (one_column vec.items) F.ring.one (one_column out.items)) }
+        ensures values { IfOk result (λ out. IsTransform F.Field.own F.generator (one_column vec.items) F.ring.one
+            (one_column out.items)) }
         ensures succeeds { AtLog (vec_len vec) (λ k. facts.Succeeds self.old k → IsOk result) }
         ensures engine { AfterTransform facts self.old self.new (IsOk result) (one_column vec.items) 0 }
     {
@@ -364,7 +379,8 @@ pub trait TwoAdicSubgroupDft<F: TwoAdicField>: Clone + Default {
         requires fits { FitsDft F.TWO_ADICITY (vec_len vec) 1 }
         ensures values { IfOk result (λ out.
             IsTransform F.Field.own F.generator (one_column vec.items) (F.value shift) (one_column out.items)) }
-        ensures succeeds { AtLog (vec_len vec) (λ k. facts.Succeeds self.old k → facts.SucceedsOnCoset self.old k shift → IsOk result) }
+        ensures succeeds { AtLog (vec_len vec)
+            (λ k. facts.Succeeds self.old k → facts.SucceedsOnCoset self.old k shift → IsOk result) }
         ensures engine { AfterTransform facts self.old self.new (IsOk result) (one_column vec.items) 1 }
     {
         let values = self.coset_dft_batch(RowMajorMatrix::new_col(vec), shift)?;
@@ -420,7 +436,8 @@ pub trait TwoAdicSubgroupDft<F: TwoAdicField>: Clone + Default {
     ) -> Result<Vec<F>, DftError>
         requires fits { FitsLde F.TWO_ADICITY (vec_len vec) 1 added_bits }
         ensures values { IfOk result (λ out.
-            IsExtension F.Field.own F.generator (one_column vec.items) added_bits (F.value shift) (one_column out.items)) }
+            IsExtension F.Field.own F.generator (one_column vec.items) added_bits (F.value shift)
+            (one_column out.items)) }
         ensures engine { AfterExtension facts self.old self.new (IsOk result) (one_column vec.items) added_bits }
     {
         let values = self.coset_lde_batch(RowMajorMatrix::new_col(vec), added_bits, shift)?;
@@ -438,7 +455,8 @@ pub trait TwoAdicSubgroupDft<F: TwoAdicField>: Clone + Default {
     ) -> Result<RowMajorMatrix<V>, DftError>
         requires fits { FitsDft F.TWO_ADICITY (height mat) (mat.width * V.DIMENSION) }
         ensures values { IfOk result (λ out.
-            IsTransform F.Field.own F.generator (flat V.BasedVectorSpace.own mat) F.ring.one (flat V.BasedVectorSpace.own out)) }
+            IsTransform F.Field.own F.generator (flat V.BasedVectorSpace.own mat) F.ring.one
+            (flat V.BasedVectorSpace.own out)) }
         ensures engine { AfterTransform facts self.old self.new (IsOk result) (flat V.BasedVectorSpace.own mat) 0 }
     {
         let width = mat.width();
@@ -454,7 +472,8 @@ pub trait TwoAdicSubgroupDft<F: TwoAdicField>: Clone + Default {
     ) -> Result<RowMajorMatrix<V>, DftError>
         requires fits { FitsDft F.TWO_ADICITY (height mat) (mat.width * V.DIMENSION) }
         ensures values { IfOk result (λ out.
-            IsTransform F.Field.own F.generator (flat V.BasedVectorSpace.own mat) (F.value shift) (flat V.BasedVectorSpace.own out)) }
+            IsTransform F.Field.own F.generator (flat V.BasedVectorSpace.own mat) (F.value shift)
+            (flat V.BasedVectorSpace.own out)) }
         ensures engine { AfterTransform facts self.old self.new (IsOk result) (flat V.BasedVectorSpace.own mat) 1 }
     {
         let width = mat.width();
@@ -469,7 +488,8 @@ pub trait TwoAdicSubgroupDft<F: TwoAdicField>: Clone + Default {
     ) -> Result<RowMajorMatrix<V>, DftError>
         requires fits { FitsDft F.TWO_ADICITY (height mat) (mat.width * V.DIMENSION) }
         ensures coefficients { IfOk result (λ out.
-            IsInterpolation F.Field.own F.generator (flat V.BasedVectorSpace.own mat) F.ring.one (flat V.BasedVectorSpace.own out)) }
+            IsInterpolation F.Field.own F.generator (flat V.BasedVectorSpace.own mat) F.ring.one
+            (flat V.BasedVectorSpace.own out)) }
         ensures engine { AfterTransform facts self.old self.new (IsOk result) (flat V.BasedVectorSpace.own mat) 1 }
     {
         let width = mat.width();
@@ -505,7 +525,8 @@ pub trait TwoAdicSubgroupDft<F: TwoAdicField>: Clone + Default {
         ensures values { IfOk result (λ out.
             IsExtension F.Field.own F.generator
             (flat V.BasedVectorSpace.own mat) added_bits F.ring.one (flat V.BasedVectorSpace.own out)) }
-        ensures engine { AfterExtension facts self.old self.new (IsOk result) (flat V.BasedVectorSpace.own mat) added_bits }
+        ensures engine { AfterExtension facts self.old self.new (IsOk result) (flat V.BasedVectorSpace.own mat)
+            added_bits }
     {
         let width = mat.width();
         let values = self.lde_batch(flatten(mat)?, added_bits)?;
@@ -523,7 +544,8 @@ pub trait TwoAdicSubgroupDft<F: TwoAdicField>: Clone + Default {
         ensures values { IfOk result (λ out.
             IsExtension F.Field.own F.generator
             (flat V.BasedVectorSpace.own mat) added_bits (F.value shift) (flat V.BasedVectorSpace.own out)) }
-        ensures engine { AfterExtension facts self.old self.new (IsOk result) (flat V.BasedVectorSpace.own mat) added_bits }
+        ensures engine { AfterExtension facts self.old self.new (IsOk result) (flat V.BasedVectorSpace.own mat)
+            added_bits }
     {
         let width = mat.width();
         let values = self.coset_lde_batch(flatten(mat)?, added_bits, shift)?;
@@ -536,7 +558,8 @@ pub trait TwoAdicSubgroupDft<F: TwoAdicField>: Clone + Default {
         ensures values { IfOk result (λ out.
             IsTransform F.Field.own F.generator
             (flat_column V.BasedVectorSpace.own vec.items) F.ring.one (flat_column V.BasedVectorSpace.own out.items)) }
-        ensures engine { AfterTransform facts self.old self.new (IsOk result) (flat_column V.BasedVectorSpace.own vec.items) 0 }
+        ensures engine { AfterTransform facts self.old self.new (IsOk result)
+            (flat_column V.BasedVectorSpace.own vec.items) 0 }
     {
         Ok(
             self.dft_algebra_batch(RowMajorMatrix::new_col(vec))?
@@ -553,8 +576,10 @@ pub trait TwoAdicSubgroupDft<F: TwoAdicField>: Clone + Default {
         requires fits { FitsDft F.TWO_ADICITY (vec_len vec) V.DIMENSION }
         ensures values { IfOk result (λ out.
             IsTransform F.Field.own F.generator
-            (flat_column V.BasedVectorSpace.own vec.items) (F.value shift) (flat_column V.BasedVectorSpace.own out.items)) }
-        ensures engine { AfterTransform facts self.old self.new (IsOk result) (flat_column V.BasedVectorSpace.own vec.items) 1 }
+            (flat_column V.BasedVectorSpace.own vec.items) (F.value shift)
+            (flat_column V.BasedVectorSpace.own out.items)) }
+        ensures engine { AfterTransform facts self.old self.new (IsOk result)
+            (flat_column V.BasedVectorSpace.own vec.items) 1 }
     {
         Ok(
             self.coset_dft_algebra_batch(RowMajorMatrix::new_col(vec), shift)?
@@ -571,7 +596,8 @@ pub trait TwoAdicSubgroupDft<F: TwoAdicField>: Clone + Default {
         ensures coefficients { IfOk result (λ out.
             IsInterpolation F.Field.own F.generator
             (flat_column V.BasedVectorSpace.own vec.items) F.ring.one (flat_column V.BasedVectorSpace.own out.items)) }
-        ensures engine { AfterTransform facts self.old self.new (IsOk result) (flat_column V.BasedVectorSpace.own vec.items) 1 }
+        ensures engine { AfterTransform facts self.old self.new (IsOk result)
+            (flat_column V.BasedVectorSpace.own vec.items) 1 }
     {
         Ok(
             self.idft_algebra_batch(RowMajorMatrix::new_col(vec))?
@@ -589,8 +615,10 @@ pub trait TwoAdicSubgroupDft<F: TwoAdicField>: Clone + Default {
         requires invertible { IsInvertible F.ring (F.value shift) }
         ensures coefficients { IfOk result (λ out.
             IsInterpolation F.Field.own F.generator
-            (flat_column V.BasedVectorSpace.own vec.items) (F.value shift) (flat_column V.BasedVectorSpace.own out.items)) }
-        ensures engine { AfterTransform facts self.old self.new (IsOk result) (flat_column V.BasedVectorSpace.own vec.items) 2 }
+            (flat_column V.BasedVectorSpace.own vec.items) (F.value shift)
+            (flat_column V.BasedVectorSpace.own out.items)) }
+        ensures engine { AfterTransform facts self.old self.new (IsOk result)
+            (flat_column V.BasedVectorSpace.own vec.items) 2 }
     {
         Ok(
             self.coset_idft_algebra_batch(RowMajorMatrix::new_col(vec), shift)?
@@ -607,8 +635,10 @@ pub trait TwoAdicSubgroupDft<F: TwoAdicField>: Clone + Default {
         requires fits { FitsLde F.TWO_ADICITY (vec_len vec) V.DIMENSION added_bits }
         ensures values { IfOk result (λ out.
             IsExtension F.Field.own F.generator
-            (flat_column V.BasedVectorSpace.own vec.items) added_bits F.ring.one (flat_column V.BasedVectorSpace.own out.items)) }
-        ensures engine { AfterExtension facts self.old self.new (IsOk result) (flat_column V.BasedVectorSpace.own vec.items) added_bits }
+            (flat_column V.BasedVectorSpace.own vec.items) added_bits F.ring.one
+            (flat_column V.BasedVectorSpace.own out.items)) }
+        ensures engine { AfterExtension facts self.old self.new (IsOk result)
+            (flat_column V.BasedVectorSpace.own vec.items) added_bits }
     {
         Ok(
             self.lde_algebra_batch(RowMajorMatrix::new_col(vec), added_bits)?
@@ -626,8 +656,10 @@ pub trait TwoAdicSubgroupDft<F: TwoAdicField>: Clone + Default {
         requires fits { FitsLde F.TWO_ADICITY (vec_len vec) V.DIMENSION added_bits }
         ensures values { IfOk result (λ out.
             IsExtension F.Field.own F.generator
-            (flat_column V.BasedVectorSpace.own vec.items) added_bits (F.value shift) (flat_column V.BasedVectorSpace.own out.items)) }
-        ensures engine { AfterExtension facts self.old self.new (IsOk result) (flat_column V.BasedVectorSpace.own vec.items) added_bits }
+            (flat_column V.BasedVectorSpace.own vec.items) added_bits (F.value shift)
+            (flat_column V.BasedVectorSpace.own out.items)) }
+        ensures engine { AfterExtension facts self.old self.new (IsOk result)
+            (flat_column V.BasedVectorSpace.own vec.items) added_bits }
     {
         Ok(
             self.coset_lde_algebra_batch(RowMajorMatrix::new_col(vec), added_bits, shift)?
@@ -642,7 +674,8 @@ fn exchange_layouts<T>(mat: &mut RowMajorMatrix<T>, layout: Layout)
     ensures shape { HasShapeOf mat.new mat.old }
     ensures was_whole { IsRowMajor mat.old }
     ensures whole { IsRowMajor mat.new }
-    ensures rows { (k : ℕ) → height mat.old ≡ 2 ^ k → (d : T) → Same (matrix d mat.new) (arrangement layout k (matrix d mat.old)) }
+    ensures rows { (k : ℕ) → height mat.old ≡ 2 ^ k → (d : T)
+        → Same (matrix d mat.new) (arrangement layout k (matrix d mat.old)) }
 {
     let _width = mat.width();
     match layout {

@@ -231,7 +231,7 @@ fn on_every_engine<F: TwoAdicField, R: Abort, T: EngineTest<F>>(rt: &R, alloc: G
     on_halves(rt, alloc, test);
 }
 
-// The same of calls alone.
+// Runs a test of calls alone on every engine over a field.
 fn calls_of_every_engine<F: TwoAdicField, R: Abort, T: CallsTest<F>>(
     rt: &R,
     alloc: Global,
@@ -247,7 +247,7 @@ struct Worked {
     // Those of 5 + 4 x on the subgroup of order four, and twice these.
     line: [u64; 4],
     line_twice: [u64; 4],
-    // And on the cosets of two and of three, of two points each.
+    // The values of 5 + 4 x on the cosets of two and of three, of two points each.
     line_on_two: [u64; 2],
     line_on_three: [u64; 2],
 }
@@ -290,7 +290,7 @@ impl<'a, F: CanonicalField> CallsTest<F> for Columns<'a> {
     }
 }
 
-// And worked inverses, by a clone.
+// Worked inverses of columns, by a clone.
 #[derive(Drop)]
 struct ColumnsBack<'a> {
     worked: &'a Worked,
@@ -539,7 +539,7 @@ impl<F: TwoAdicField> CallsTest<F> for Inverses {
     }
 }
 
-// The same on a coset.
+// On a coset an inverse undoes a transform and is undone by it.
 #[derive(Drop)]
 struct CosetInverses {
     height: usize,
@@ -616,7 +616,7 @@ fn same_on_coset<F: TwoAdicField, C: Calls<F>, E: Calls<F>>(
     assert_same(rt, &values, &other.coset_dft(rt, x, shift));
 }
 
-// And transforms on the subgroup and on three cosets.
+// Transforms on the subgroup and on three cosets.
 fn same_transforms<F: TwoAdicField, C: Calls<F>, E: Calls<F>>(
     rt: &impl Abort,
     one: &mut C,
@@ -642,7 +642,7 @@ fn same_extended<F: TwoAdicField, C: Calls<F>, E: Calls<F>>(
     assert_same(rt, &values, &other.coset_lde(rt, x, added_bits, shift));
 }
 
-// And extensions by so many bits, on the subgroup and on three cosets.
+// Extensions by so many bits, on the subgroup and on three cosets.
 fn same_extensions<F: TwoAdicField, C: Calls<F>, E: Calls<F>>(
     rt: &impl Abort,
     one: &mut C,
@@ -657,7 +657,7 @@ fn same_extensions<F: TwoAdicField, C: Calls<F>, E: Calls<F>>(
     same_extended(rt, one, other, x, added_bits, F::GENERATOR);
 }
 
-// And all of these.
+// Inverses, transforms and extensions.
 fn same_answers<F: TwoAdicField, C: Calls<F>, E: Calls<F>>(
     rt: &impl Abort,
     one: &mut C,

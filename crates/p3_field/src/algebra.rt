@@ -1,6 +1,7 @@
 //! Vector spaces over a field, whose elements are given by coordinates.
 
-ghost use Rattle.std.specs.Prelude.{◌≡◌, ◌+◌, ◌++◌, ◌<◌, ◌≤◌, ℕ, List, OnOk, OnErr, IsOk, length, get_or, vec_len, vec_capacity};
+ghost use Rattle.std.specs.Prelude.{◌≡◌, ◌+◌, ◌++◌, ◌<◌, ◌≤◌, ℕ, List, OnOk, OnErr, IsOk, length, get_or, vec_len};
+ghost use Rattle.std.specs.Prelude.{vec_capacity};
 
 use crate::fields::Field;
 use std::alloc::AllocError;
@@ -120,5 +121,6 @@ impl<F: Field, const D: usize> BasedVectorSpace<F> for Coordinates<F, D> {
     ghost dimension_law = { λ x. x.long };
 
     ghost coordinates_law = { λ x y same.
-        made_of_list-eq (λ entries long. record { entries = entries; long = long }) x.entries y.entries x.long y.long same };
+        made_of_list-eq (λ entries long. record { entries = entries; long = long }) x.entries y.entries x.long y.long
+        same };
 }

@@ -188,7 +188,8 @@ pub trait Field: Copy
     /// The inverse, `Some` exactly where there is one.
     fn try_inverse(&self) -> Option<Self>
         ensures some { IfSome result (λ y. IsInverse ring (value self.now) (value y)) }
-        ensures found { MatchBool (is_some result) (IsInvertible ring (value self.now)) (¬ (IsInvertible ring (value self.now))) }
+        ensures found { MatchBool (is_some result) (IsInvertible ring (value self.now))
+            (¬ (IsInvertible ring (value self.now))) }
         ensures none { IsNone result → ¬ (IsInvertible ring (value self.now)) };
 
     /// The inverse, of an element that has one (`try_inverse` tells).

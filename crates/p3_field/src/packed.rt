@@ -64,12 +64,14 @@ where
     /// Adds lane by lane.
     fn add(self, other: Self) -> Self
         ensures { map Self.Scalar.value (lanes result)
-            ≡ by_lanes Self.Scalar.ring.add (map Self.Scalar.value (lanes self)) (map Self.Scalar.value (lanes other)) };
+            ≡ by_lanes Self.Scalar.ring.add (map Self.Scalar.value (lanes self))
+            (map Self.Scalar.value (lanes other)) };
 
     /// Subtracts lane by lane.
     fn sub(self, other: Self) -> Self
         ensures { map Self.Scalar.value (lanes result)
-            ≡ by_lanes (minus Self.Scalar.ring) (map Self.Scalar.value (lanes self)) (map Self.Scalar.value (lanes other)) };
+            ≡ by_lanes (minus Self.Scalar.ring) (map Self.Scalar.value (lanes self))
+            (map Self.Scalar.value (lanes other)) };
 
     /// Multiplies each lane by `t`, and counts `WIDTH` products.
     fn scaled(self, t: Self::Scalar, products: &mut Products) -> Self

@@ -45,7 +45,8 @@ pub fn publish<T, C: BlockConsumer<T>>(
     ensures accepted { OnOk result
         (Run C.step consumer.old (first_blocks block_height mat.now (height mat.now / block_height)) consumer.new) }
     ensures refused { IfErr result (λ refusal. (q : ℕ) × (q < height mat.now / block_height)
-        × RunToRefusal C.step consumer.old (first_blocks block_height mat.now q) (block block_height mat.now q) refusal consumer.new) }
+        × RunToRefusal C.step consumer.old (first_blocks block_height mat.now q) (block block_height mat.now q) refusal
+        consumer.new) }
     ensures whole { IsRowMajor mat.now }
 {
     for q in 0..mat.height() / block_height {
@@ -161,7 +162,8 @@ impl<T> Recorder<T> {
     /// Keeps so many blocks of so many elements together, in memory that is taken at once. Where it is
     /// refused, there is nothing but the error.
     pub fn with_room(alloc: Global, blocks: usize, elements: usize) -> Result<Self, DftError>
-        ensures { IfOk result (λ r. r ≡ record { blocks = []; missed = false; blocks_left = blocks; elements_left = elements }) }
+        ensures { IfOk result (λ r. r ≡ record
+            { blocks = []; missed = false; blocks_left = blocks; elements_left = elements }) }
     {
         Ok(Recorder {
             places: Vec::with_capacity(alloc, blocks)?,

@@ -26,7 +26,8 @@ pub trait Butterfly<F: Packable>: Copy {
     /// The near and the far value, lane by lane.
     fn apply<P: PackedField<Scalar = F>>(&self, x_1: P, x_2: P, products: &mut Products) -> (P, P)
         ensures near { map F.value (P.lanes result.0)
-            ≡ by_lanes (near F.Element F.ring F.value self.now) (map F.value (P.lanes x_1)) (map F.value (P.lanes x_2)) }
+            ≡ by_lanes (near F.Element F.ring F.value self.now) (map F.value (P.lanes x_1))
+            (map F.value (P.lanes x_2)) }
         ensures far { map F.value (P.lanes result.1)
             ≡ by_lanes (far F.Element F.ring F.value self.now) (map F.value (P.lanes x_1)) (map F.value (P.lanes x_2)) }
         ensures count { products.new ≡ products.old + cost * P.WIDTH };
@@ -39,9 +40,11 @@ pub trait Butterfly<F: Packable>: Copy {
         products: &mut Products,
     )
         ensures near { map F.value (P.lanes x_1.new)
-            ≡ by_lanes (near F.Element F.ring F.value self.now) (map F.value (P.lanes x_1.old)) (map F.value (P.lanes x_2.old)) }
+            ≡ by_lanes (near F.Element F.ring F.value self.now) (map F.value (P.lanes x_1.old))
+            (map F.value (P.lanes x_2.old)) }
         ensures far { map F.value (P.lanes x_2.new)
-            ≡ by_lanes (far F.Element F.ring F.value self.now) (map F.value (P.lanes x_1.old)) (map F.value (P.lanes x_2.old)) }
+            ≡ by_lanes (far F.Element F.ring F.value self.now) (map F.value (P.lanes x_1.old))
+            (map F.value (P.lanes x_2.old)) }
         ensures count { products.new ≡ products.old + cost * P.WIDTH }
     {
         let (near, far) = self.apply(*x_1, *x_2, products);
@@ -161,7 +164,8 @@ pub struct ScaledDitButterfly<F: Packable> {
     twiddle: F,
     scale: F,
     twiddle_times_scale: F,
-    pub ghost fits: { F.number (F.value twiddle_times_scale) ≡ F.number (F.ring.mul (F.value twiddle) (F.value scale)) },
+    pub ghost fits: { F.number (F.value twiddle_times_scale)
+        ≡ F.number (F.ring.mul (F.value twiddle) (F.value scale)) },
 }
 
 impl<F: Packable> Copy for ScaledDitButterfly<F> {}

@@ -40,7 +40,8 @@ impl<T: PartialEq> PartialEq for RowMajorMatrix<T> {
 
     ghost eq = { eq_of_both (on (λ m. m.width) ◌==◌) (on (λ m. m.values) (pointwise T.eq)) };
 
-    ghost laws = { and_per (on_per (λ m. m.width) (Prim.search (comparing, rules))) (on_per (λ m. m.values) (lists_per T.laws)) };
+    ghost laws = { and_per (on_per (λ m. m.width) (Prim.search (comparing, rules)))
+        (on_per (λ m. m.values) (lists_per T.laws)) };
 
     fn eq(&self, other: &Self) -> bool {
         other.width == self.width && self.values == other.values

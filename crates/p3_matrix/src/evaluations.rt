@@ -16,7 +16,7 @@ pub trait Evaluations<F>: Drop {
     fn to_row_major_matrix(self) -> RowMajorMatrix<F>
         ensures { result ≡ natural self };
 
-    /// The same rows, which lie in bit reversed order afterwards. They are moved in place, and no
+    /// These rows, which lie in bit reversed order afterwards. They are moved in place, and no
     /// memory is taken. The height is a power of two.
     fn into_bit_reversed(self) -> BitReversedMatrixView<RowMajorMatrix<F>>
         requires { (k : ℕ) × (height (natural self) ≡ 2 ^ k) }

@@ -22,7 +22,8 @@ impl<F: Packable> RowMajorMatrix<F> {
     /// Multiplies each entry by t, with one product each.
     pub fn scale(&mut self, t: F, products: &mut Products)
         ensures width { self.new.width ≡ self.old.width }
-        ensures values { map F.value self.new.values ≡ map (λ x. F.ring.mul x (F.value t)) (map F.value self.old.values) }
+        ensures values { map F.value self.new.values
+            ≡ map (λ x. F.ring.mul x (F.value t)) (map F.value self.old.values) }
         ensures count { products.new ≡ products.old + length self.old.values }
     {
         scale_slice_in_place(self.values_mut(), t, products);

@@ -48,7 +48,7 @@ pub(crate) fn exchange<T>(values: &mut [T], first: usize, second: usize, count: 
     }
 }
 
-// The same of chunks in this order.
+// Exchanges two chunks of one slice, of which the first lies before the second.
 fn exchange_slices<T>(values: &mut [T], first: usize, second: usize, count: usize)
     requires apart { first + count ≤ second }
     requires within { second + count ≤ length values.old }

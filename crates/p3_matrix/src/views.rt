@@ -39,7 +39,8 @@ impl<'a, T: PartialEq> PartialEq for RowMajorMatrixView<'a, T> {
 
     ghost eq = { eq_of_both (on (λ m. m.width) ◌==◌) (on (λ m. m.values) (pointwise T.eq)) };
 
-    ghost laws = { and_per (on_per (λ m. m.width) (Prim.search (comparing, rules))) (on_per (λ m. m.values) (lists_per T.laws)) };
+    ghost laws = { and_per (on_per (λ m. m.width) (Prim.search (comparing, rules)))
+        (on_per (λ m. m.values) (lists_per T.laws)) };
 
     fn eq(&self, other: &Self) -> bool {
         other.width == self.width && self.values == other.values
@@ -112,7 +113,7 @@ impl<'a, T> RowMajorMatrixView<'a, T> {
         self.values.chunks_exact(self.width)
     }
 
-    /// The same rows, lent once more, for as long as these.
+    /// Lends these rows once more, for as long as they are lent here.
     pub fn as_view(&self) -> RowMajorMatrixView<'a, T>
         ensures { result ≡ self.now }
     {

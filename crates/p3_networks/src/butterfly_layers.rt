@@ -45,9 +45,11 @@ pub trait Rule<F: TwoAdicField>: Copy {
         requires there { has self block place }
         requires size { length row_1.old ≡ length row_2.old }
         ensures near { (j : ℕ) → j < length row_1.old → F.value (get_or row_1.new j F.ZERO)
-            ≡ near F.Element F.ring F.value self block place (F.value (get_or row_1.old j F.ZERO)) (F.value (get_or row_2.old j F.ZERO)) }
+            ≡ near F.Element F.ring F.value self block place (F.value (get_or row_1.old j F.ZERO))
+            (F.value (get_or row_2.old j F.ZERO)) }
         ensures far { (j : ℕ) → j < length row_1.old → F.value (get_or row_2.new j F.ZERO)
-            ≡ far F.Element F.ring F.value self block place (F.value (get_or row_1.old j F.ZERO)) (F.value (get_or row_2.old j F.ZERO)) }
+            ≡ far F.Element F.ring F.value self block place (F.value (get_or row_1.old j F.ZERO))
+            (F.value (get_or row_2.old j F.ZERO)) }
         ensures grows { products.old ≤ products.new }
         ensures cost { products.new ≤ products.old + cost * length row_1.old };
 
@@ -58,9 +60,11 @@ pub trait Rule<F: TwoAdicField>: Copy {
         requires size { length low.old ≡ length high.old }
         requires there { (t : ℕ) → t < length low.old → has self block t }
         ensures near { (t : ℕ) → t < length low.old → F.value (get_or low.new t F.ZERO)
-            ≡ near F.Element F.ring F.value self block t (F.value (get_or low.old t F.ZERO)) (F.value (get_or high.old t F.ZERO)) }
+            ≡ near F.Element F.ring F.value self block t (F.value (get_or low.old t F.ZERO))
+            (F.value (get_or high.old t F.ZERO)) }
         ensures far { (t : ℕ) → t < length low.old → F.value (get_or high.new t F.ZERO)
-            ≡ far F.Element F.ring F.value self block t (F.value (get_or low.old t F.ZERO)) (F.value (get_or high.old t F.ZERO)) }
+            ≡ far F.Element F.ring F.value self block t (F.value (get_or low.old t F.ZERO))
+            (F.value (get_or high.old t F.ZERO)) }
         ensures grows { products.old ≤ products.new }
         ensures cost { products.new ≤ products.old + cost * length low.old };
 }
@@ -114,7 +118,7 @@ pub fn layer<F: TwoAdicField, R: Rule<F>>(
     }
 }
 
-// The same, block after block.
+// A layer, block after block.
 #[inline(always)]
 fn meet_blocks<F: TwoAdicField, R: Rule<F>>(
     rule: R,
@@ -241,12 +245,16 @@ fn meet_rows_at<F: TwoAdicField, R: Rule<F>>(
     requires there { R.has rule block place }
     ensures near { let cell = λ (xs : List F) (n : ℕ). F.value (get_or xs n F.ZERO) in
         (j : ℕ) → j < width → cell low.new (place * width + j)
-        ≡ R.near F.Element F.ring F.value rule block place (cell low.old (place * width + j)) (cell high.old (place * width + j)) }
+        ≡ R.near F.Element F.ring F.value rule block place (cell low.old (place * width + j))
+        (cell high.old (place * width + j)) }
     ensures far { let cell = λ (xs : List F) (n : ℕ). F.value (get_or xs n F.ZERO) in
         (j : ℕ) → j < width → cell high.new (place * width + j)
-        ≡ R.far F.Element F.ring F.value rule block place (cell low.old (place * width + j)) (cell high.old (place * width + j)) }
-    ensures low_stays { (n : ℕ) → (n < place * width) ⊎ (place * width + width ≤ n) → get_or low.new n F.ZERO ≡ get_or low.old n F.ZERO }
-    ensures high_stays { (n : ℕ) → (n < place * width) ⊎ (place * width + width ≤ n) → get_or high.new n F.ZERO ≡ get_or high.old n F.ZERO }
+        ≡ R.far F.Element F.ring F.value rule block place (cell low.old (place * width + j))
+        (cell high.old (place * width + j)) }
+    ensures low_stays { (n : ℕ) → (n < place * width) ⊎ (place * width + width ≤ n)
+        → get_or low.new n F.ZERO ≡ get_or low.old n F.ZERO }
+    ensures high_stays { (n : ℕ) → (n < place * width) ⊎ (place * width + width ≤ n)
+        → get_or high.new n F.ZERO ≡ get_or high.old n F.ZERO }
     ensures grows { products.old ≤ products.new }
     ensures cost { products.new ≤ products.old + R.cost * width }
 {
@@ -280,10 +288,12 @@ pub fn layer_oop<F: TwoAdicField, B: Butterfly<F>>(
     requires size { length values.old ≡ blocks * (2 * size) }
     ensures near { let cell = λ (xs : List F) (n : ℕ). F.value (get_or xs n F.ZERO) in
         (b i : ℕ) → b < blocks → i < size → cell values.new (b * (2 * size) + i)
-        ≡ B.near F.Element F.ring F.value butterfly (cell source.now (b * (2 * size) + i)) (cell source.now (b * (2 * size) + (size + i))) }
+        ≡ B.near F.Element F.ring F.value butterfly (cell source.now (b * (2 * size) + i))
+        (cell source.now (b * (2 * size) + (size + i))) }
     ensures far { let cell = λ (xs : List F) (n : ℕ). F.value (get_or xs n F.ZERO) in
         (b i : ℕ) → b < blocks → i < size → cell values.new (b * (2 * size) + (size + i))
-        ≡ B.far F.Element F.ring F.value butterfly (cell source.now (b * (2 * size) + i)) (cell source.now (b * (2 * size) + (size + i))) }
+        ≡ B.far F.Element F.ring F.value butterfly (cell source.now (b * (2 * size) + i))
+        (cell source.now (b * (2 * size) + (size + i))) }
     ensures grows { products.old ≤ products.new }
     ensures cost { products.new ≤ products.old + B.cost * (blocks * size) }
 {

@@ -56,9 +56,11 @@ pub fn network_g_transposed<F: TwoAdicField>(
     requires within { log_h ≤ F.TWO_ADICITY }
     requires size { length values.old ≡ 2 ^ log_h * width }
     requires twiddles { AreTwiddles F.Field.own (2 ^ (log_h - 1))
-        (λ b. power F.ring (power F.ring (F.value (F.generator log_h)) (2 ^ log_h - 1)) (rev (log_h - 1) b)) twiddles.now }
+        (λ b. power F.ring (power F.ring (F.value (F.generator log_h)) (2 ^ log_h - 1)) (rev (log_h - 1) b))
+        twiddles.now }
     ensures values { AreValuesOfRows F.Field.own width (2 ^ log_h) (λ q. q)
-        (λ r. power F.ring (power F.ring (F.value (F.generator log_h)) (2 ^ log_h - 1)) (rev log_h r)) values.old values.new }
+        (λ r. power F.ring (power F.ring (F.value (F.generator log_h)) (2 ^ log_h - 1)) (rev log_h r)) values.old
+        values.new }
     ensures grows { products.old ≤ products.new }
     ensures cost { products.new ≤ products.old + width * (log_h * 2 ^ log_h / 2) }
 {

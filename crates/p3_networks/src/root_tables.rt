@@ -1,7 +1,8 @@
 //! The powers of the roots, for both directions and all heights up to one, in bit reversed order.
 
 ghost use Rattle.std.specs.Prelude.{◌≡◌, ◌⊎◌, ℕ, ◌+◌, ◌-◌, ◌*◌, ◌^◌, ◌/◌, ◌<◌, ◌≤◌, IsOk, IfOk, OnOk, OnErr, length};
-ghost use Rattle.p3_networks.specs.Twiddles.{AreTwiddles, AreTwiddlesFromStart, backward_root, block_powers, forward_root};
+ghost use Rattle.p3_networks.specs.Twiddles.{AreTwiddles, AreTwiddlesFromStart, backward_root, block_powers};
+ghost use Rattle.p3_networks.specs.Twiddles.{forward_root};
 
 use crate::twiddles::reversed_powers;
 use p3_field::TwoAdicField;
@@ -23,7 +24,8 @@ pub struct RootTables<F: TwoAdicField> {
 
 impl<F: TwoAdicField> Model for RootTables<F> {
     ghost use Rattle.std.specs.Prelude.{◌≡◌, ℕ, ◌^◌, ◌/◌, length};
-    ghost use Rattle.p3_networks.specs.Twiddles.{AreTwiddlesFromStart, backward_root, block_powers, forward_root, items_if_any};
+    ghost use Rattle.p3_networks.specs.Twiddles.{AreTwiddlesFromStart, backward_root, block_powers, forward_root};
+    ghost use Rattle.p3_networks.specs.Twiddles.{items_if_any};
 
     ghost Value = { ℕ };
 
@@ -32,8 +34,10 @@ impl<F: TwoAdicField> Model for RootTables<F> {
     ghost invariant = { λ t.
         (length (items_if_any t.forward) ≡ 2 ^ t.log_h / 2)
         × (length (items_if_any t.backward) ≡ 2 ^ t.log_h / 2)
-        × AreTwiddlesFromStart F.Field t.log_h (block_powers F.Field (forward_root F.Field F.generator)) (items_if_any t.forward)
-        × AreTwiddlesFromStart F.Field t.log_h (block_powers F.Field (backward_root F.Field F.generator)) (items_if_any t.backward) };
+        × AreTwiddlesFromStart F.Field t.log_h (block_powers F.Field (forward_root F.Field F.generator))
+        (items_if_any t.forward)
+        × AreTwiddlesFromStart F.Field t.log_h (block_powers F.Field (backward_root F.Field F.generator))
+        (items_if_any t.backward) };
 }
 
 impl<F: TwoAdicField> RootTables<F> {

@@ -1,7 +1,8 @@
 //! Twiddles: powers of the generators, made once for all layers up to a height, and powers of other
 //! elements, in natural order or in bit reversed order.
 
-ghost use Rattle.std.specs.Prelude.{◌≡◌, ◌⊎◌, ℕ, ◌+◌, ◌-◌, ◌*◌, ◌^◌, ◌<◌, ◌≤◌, IsOk, IfOk, OnOk, OnErr, length, get_or, take, drop, false};
+ghost use Rattle.std.specs.Prelude.{◌≡◌, ◌⊎◌, ℕ, ◌+◌, ◌-◌, ◌*◌, ◌^◌, ◌<◌, ◌≤◌, IsOk, IfOk, OnOk, OnErr, length, get_or};
+ghost use Rattle.std.specs.Prelude.{take, drop, false};
 ghost use Rattle.p3_field.specs.Ring.{power};
 ghost use Rattle.p3_matrix.specs.BitOrder.{rev};
 ghost use Rattle.p3_networks.specs.Twiddles.{AreTwiddles, AreTwiddlesOfLayers, layer_place, root_of, root_powers};
@@ -75,7 +76,8 @@ impl<F: TwoAdicField> Twiddles<F> {
     /// The twiddles of all layers that are there, and no more.
     pub fn as_slice(&self) -> &[F]
         ensures size { length result.now ≡ 2 ^ self.now - 1 }
-        ensures table { AreTwiddlesOfLayers F.Field.own self.now (root_powers F.Field.own F.generator false) result.now }
+        ensures table { AreTwiddlesOfLayers F.Field.own self.now (root_powers F.Field.own F.generator false)
+            result.now }
     {
         match &self.powers {
             Some(powers) => powers.as_slice(),
@@ -118,7 +120,8 @@ pub fn twiddles_of_layers<F: TwoAdicField>(
     requires within { layers ≤ F.TWO_ADICITY }
     requires small { layers < 64 }
     ensures size { IfOk result (λ v. length v.items ≡ 2 ^ layers - 1) }
-    ensures table { IfOk result (λ v. AreTwiddlesOfLayers F.Field.own layers (root_powers F.Field.own F.generator inverse) v.items) }
+    ensures table { IfOk result (λ v. AreTwiddlesOfLayers F.Field.own layers
+        (root_powers F.Field.own F.generator inverse) v.items) }
 {
     let mut powers = Vec::with_capacity(alloc, (1 << layers) - 1)?;
     for l in 0..layers {
@@ -157,7 +160,8 @@ pub fn push_layer<F: TwoAdicField>(
     ensures size { OnOk result (length twiddles.new.items ≡ length twiddles.old.items + 2 ^ bits) }
     ensures before { OnOk result ((n : ℕ) → n < length twiddles.old.items
         → get_or twiddles.new.items n F.ZERO ≡ get_or twiddles.old.items n F.ZERO) }
-    ensures entries { OnOk result ((e : ℕ) → e < 2 ^ bits → F.value (get_or twiddles.new.items (length twiddles.old.items + e) F.ZERO)
+    ensures entries { OnOk result ((e : ℕ) → e < 2 ^ bits
+        → F.value (get_or twiddles.new.items (length twiddles.old.items + e) F.ZERO)
         ≡ F.ring.mul (F.value first) (power F.ring (F.value base) (layer_place reversed bits e))) }
 {
     let start = twiddles.len();

@@ -1,6 +1,7 @@
 // The extension coset by coset.
 
-ghost use Rattle.std.specs.Prelude.{◌≡◌, ◌⊎◌, ℕ, ◌+◌, ◌-◌, ◌*◌, ◌/◌, ◌^◌, ◌<◌, ◌≤◌, ◌++◌, ◌∷◌, [], List, IfErr, IfOk, OnOk, length};
+ghost use Rattle.std.specs.Prelude.{◌≡◌, ◌⊎◌, ℕ, ◌+◌, ◌-◌, ◌*◌, ◌/◌, ◌^◌, ◌<◌, ◌≤◌, ◌++◌, ◌∷◌, [], List, IfErr, IfOk};
+ghost use Rattle.std.specs.Prelude.{OnOk, length};
 ghost use Rattle.p3_matrix.specs.BitOrder.{bit_reversal};
 ghost use Rattle.p3_matrix.specs.Blocks.{AreBlocksOf, IsPartition, Run, RunToRefusal};
 ghost use Rattle.p3_matrix.specs.Matrix.{Matrix};
@@ -44,13 +45,17 @@ pub(crate) fn coefficients_with_room<
     ensures prepared { AtLog (height mat) (λ k. OnOk result (k ≤ tables.new)) }
     ensures keeps { tables.old ≤ tables.new }
     ensures only { AtLog (height mat) (λ k. (tables.new ≡ tables.old) ⊎ (tables.new ≡ k)) }
-    ensures cosets { AtLog (height mat) (λ k. OnOk result (HasCosets F.Field.own F.generator cosets.new k added_bits (F.value shift))) }
-    ensures keeps_cosets { (k : ℕ) (s : F.Element) → HasCoset F.Field.own cosets.old k s → HasCoset F.Field.own cosets.new k s }
-    ensures adds { AtLog (height mat) (λ k. AddsCosets F.Field.own F.generator k added_bits (F.value shift) cosets.old cosets.new) }
+    ensures cosets { AtLog (height mat)
+        (λ k. OnOk result (HasCosets F.Field.own F.generator cosets.new k added_bits (F.value shift))) }
+    ensures keeps_cosets { (k : ℕ) (s : F.Element) → HasCoset F.Field.own cosets.old k s
+        → HasCoset F.Field.own cosets.new k s }
+    ensures adds { AtLog (height mat)
+        (λ k. AddsCosets F.Field.own F.generator k added_bits (F.value shift) cosets.old cosets.new) }
     ensures once { AtLog (height mat) (λ k. HasCosets F.Field.own F.generator cosets.old k added_bits (F.value shift)
         → cosets.new ≡ cosets.old) }
     ensures grows { products.old ≤ products.new }
-    ensures cost { AtLog (height mat) (λ k. products.new ≤ products.old + mat.width * (k * 2 ^ k / 2) + 2 ^ k * mat.width) }
+    ensures cost { AtLog (height mat)
+        (λ k. products.new ≤ products.old + mat.width * (k * 2 ^ k / 2) + 2 ^ k * mat.width) }
 {
     let mut mat = mat;
     let alloc = *mat.allocator();
@@ -83,15 +88,18 @@ pub(crate) fn extend_reversed<F: TwoAdicField, C: BlockConsumer<F>>(
     requires tables { HasCosets F.Field.own F.generator cosets.now log_h added_bits (F.value shift) }
     ensures shape { HasShapeOf mat.new mat.old }
     ensures size { length mat.new.values ≡ length mat.old.values }
-    ensures values { OnOk result ((c : RowMajor F) → IsRowMajor c → height c ≡ 2 ^ log_h → mat.old ≡ with_zeros F.ZERO c added_bits
-        → IsValues F.ring (λ n. F.value (F.generator n)) (bit_reversal log_h (values_of F.Field.own c)) (log_h + added_bits) (F.value shift)
+    ensures values { OnOk result ((c : RowMajor F) → IsRowMajor c → height c ≡ 2 ^ log_h
+        → mat.old ≡ with_zeros F.ZERO c added_bits
+        → IsValues F.ring (λ n. F.value (F.generator n)) (bit_reversal log_h (values_of F.Field.own c))
+        (log_h + added_bits) (F.value shift)
         (bit_reversal (log_h + added_bits) (values_of F.Field.own mat.new))) }
     ensures published { OnOk result ((blocks : List (ℕ × RowMajor F))
         × IsPartition (2 ^ (log_h - (log_h + 1) / 2)) mat.new blocks × Run C.step consumer.old blocks consumer.new) }
     ensures refused { IfErr result (λ refusal. (c : RowMajor F) → IsRowMajor c → height c ≡ 2 ^ log_h
         → mat.old ≡ with_zeros F.ZERO c added_bits
         → (out : Matrix F.Element) × (accepted : List (ℕ × RowMajor F)) × (refused : ℕ × RowMajor F)
-        × IsValues F.ring (λ n. F.value (F.generator n)) (bit_reversal log_h (values_of F.Field.own c)) (log_h + added_bits)
+        × IsValues F.ring (λ n. F.value (F.generator n)) (bit_reversal log_h (values_of F.Field.own c))
+        (log_h + added_bits)
         (F.value shift) out
         × AreBlocksOf (values_of F.Field.own) (2 ^ (log_h - (log_h + 1) / 2)) (bit_reversal (log_h + added_bits) out)
         (accepted ++ refused ∷ []) × RunToRefusal C.step consumer.old accepted refused refusal consumer.new) }

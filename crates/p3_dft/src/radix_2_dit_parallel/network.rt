@@ -6,7 +6,8 @@ ghost use Rattle.p3_matrix.specs.BitOrder.{rev};
 ghost use Rattle.p3_matrix.specs.RowMajor.{HasShapeOf, IsRowMajor, height};
 ghost use Rattle.p3_matrix.specs.Cosets.{point, values_of};
 ghost use Rattle.p3_matrix.specs.Polynomials.{poly};
-ghost use Rattle.p3_networks.specs.Twiddles.{AreBlockTwiddles, AreTwiddlesOfLayers, block_end, coset_twiddles, factor, scale_cost};
+ghost use Rattle.p3_networks.specs.Twiddles.{AreBlockTwiddles, AreTwiddlesOfLayers, block_end, coset_twiddles, factor};
+ghost use Rattle.p3_networks.specs.Twiddles.{scale_cost};
 
 use p3_field::{Products, TwoAdicField};
 use p3_matrix::{RowMajorMatrix, reverse_rows, scale_slice_in_place};
@@ -34,7 +35,8 @@ pub(crate) fn network_to_reversed<F: TwoAdicField>(
         → AreTwiddlesOfLayers F.Field.own mid (coset_twiddles F.Field.own g (power F.ring s (2 ^ left)) mid) low.now
         → AreBlockTwiddles F.Field.own g s mid (mid + left) high.entry.by_layer high.entry.twiddles.now
         → (r j : ℕ) → r < 2 ^ (mid + left) → j < mat.old.width → (values_of F.Field.own mat.new).entry r j
-        ≡ poly F.ring (2 ^ (mid + left)) (λ q. F.ring.mul ((values_of F.Field.own mat.old).entry q j) (factor F.Field.own scale))
+        ≡ poly F.ring (2 ^ (mid + left))
+        (λ q. F.ring.mul ((values_of F.Field.own mat.old).entry q j) (factor F.Field.own scale))
         (point F.ring g (mid + left) s (rev (mid + left) r)) }
     ensures grows { products.old ≤ products.new }
     ensures cost { products.new ≤ products.old
@@ -61,8 +63,10 @@ fn first_of_matrix<F: TwoAdicField>(
     ensures size { length mat.new.values ≡ length mat.old.values }
     ensures values { (g : ℕ → F.Element) (s : F.Element) → AreRoots F.ring mid g
         → AreTwiddlesOfLayers F.Field.own mid (coset_twiddles F.Field.own g s mid) twiddles.now
-        → (a t j : ℕ) → a < 2 ^ left → t < 2 ^ mid → j < mat.old.width → (values_of F.Field.own mat.new).entry (a * 2 ^ mid + t) j
-        ≡ poly F.ring (2 ^ mid) (λ q. (values_of F.Field.own mat.old).entry (q * 2 ^ left + rev left a) j) (point F.ring g mid s t) }
+        → (a t j : ℕ) → a < 2 ^ left → t < 2 ^ mid → j < mat.old.width
+        → (values_of F.Field.own mat.new).entry (a * 2 ^ mid + t) j
+        ≡ poly F.ring (2 ^ mid) (λ q. (values_of F.Field.own mat.old).entry (q * 2 ^ left + rev left a) j)
+        (point F.ring g mid s t) }
     ensures grows { products.old ≤ products.new }
     ensures cost { products.new ≤ products.old + 2 ^ left * (mat.old.width * (mid * 2 ^ mid / 2)) }
 {
@@ -89,9 +93,11 @@ fn second_of_matrix<F: TwoAdicField>(
     ensures size { length mat.new.values ≡ length mat.old.values }
     ensures values { (g : ℕ → F.Element) (s : F.Element) → AreRoots F.ring (mid + left) g
         → AreBlockTwiddles F.Field.own g s mid (mid + left) table.entry.by_layer table.entry.twiddles.now
-        → (a t j : ℕ) → a < 2 ^ mid → t < 2 ^ left → j < mat.old.width → (values_of F.Field.own mat.new).entry (a * 2 ^ left + t) j
+        → (a t j : ℕ) → a < 2 ^ mid → t < 2 ^ left → j < mat.old.width
+        → (values_of F.Field.own mat.new).entry (a * 2 ^ left + t) j
         ≡ poly F.ring (2 ^ left)
-        (λ q. F.ring.mul ((values_of F.Field.own mat.old).entry (rev left q * 2 ^ mid + rev mid a) j) (factor F.Field.own scale))
+        (λ q. F.ring.mul ((values_of F.Field.own mat.old).entry (rev left q * 2 ^ mid + rev mid a) j)
+        (factor F.Field.own scale))
         (point F.ring g left (point F.ring g (mid + left) s (rev mid a)) (rev left t)) }
     ensures grows { products.old ≤ products.new }
     ensures cost { products.new ≤ products.old

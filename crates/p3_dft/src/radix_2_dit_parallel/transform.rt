@@ -32,10 +32,12 @@ pub(crate) fn transform_to_reversed<F: TwoAdicField>(
     ensures shape { HasShapeOf mat.new mat.old }
     ensures size { length mat.new.values ≡ length mat.old.values }
     ensures values { (r j : ℕ) → r < 2 ^ log_h → j < mat.old.width → (values_of F.Field.own mat.new).entry r j
-        ≡ poly F.ring (2 ^ log_h) (λ q. F.ring.mul ((values_of F.Field.own mat.old).entry q j) (factor F.Field.own scale))
+        ≡ poly F.ring (2 ^ log_h) (λ q. F.ring.mul ((values_of F.Field.own mat.old).entry q j)
+        (factor F.Field.own scale))
         (power F.ring (root_of F.Field.own F.generator inverse log_h) (rev log_h r)) }
     ensures grows { products.old ≤ products.new }
-    ensures cost { products.new ≤ products.old + mat.old.width * (log_h * 2 ^ log_h / 2) + scale_cost scale * (2 ^ log_h * mat.old.width) }
+    ensures cost { products.new ≤ products.old + mat.old.width * (log_h * 2 ^ log_h / 2)
+        + scale_cost scale * (2 ^ log_h * mat.old.width) }
 {
     let mid = (log_h + 1) / 2;
     let high = BlockTwiddles {
@@ -88,7 +90,8 @@ pub(crate) fn interpolate_to_reversed<F: TwoAdicField>(
     requires within { log_h ≤ F.TWO_ADICITY }
     ensures shape { HasShapeOf mat.new mat.old }
     ensures size { length mat.new.values ≡ length mat.old.values }
-    ensures coefficients { AreCoefficients F.ring (λ n. F.value (F.generator n)) (values_of F.Field.own mat.old) log_h F.ring.one
+    ensures coefficients { AreCoefficients F.ring
+        (λ n. F.value (F.generator n)) (values_of F.Field.own mat.old) log_h F.ring.one
         (bit_reversal log_h (values_of F.Field.own mat.new)) }
     ensures grows { products.old ≤ products.new }
     ensures cost { products.new ≤ products.old + mat.old.width * (log_h * 2 ^ log_h / 2) + 2 ^ log_h * mat.old.width }
@@ -111,7 +114,8 @@ pub(crate) fn evaluate_on_coset_to_reversed<F: TwoAdicField>(
     requires table { table.now.log_h ≡ log_h }
     ensures shape { HasShapeOf mat.new mat.old }
     ensures size { length mat.new.values ≡ length mat.old.values }
-    ensures values { IsValues F.ring (λ n. F.value (F.generator n)) (values_of F.Field.own mat.old) log_h (F.value table.now.shift)
+    ensures values { IsValues F.ring
+        (λ n. F.value (F.generator n)) (values_of F.Field.own mat.old) log_h (F.value table.now.shift)
         (bit_reversal log_h (values_of F.Field.own mat.new)) }
     ensures grows { products.old ≤ products.new }
     ensures cost { products.new ≤ products.old + mat.old.width * (log_h * 2 ^ log_h / 2) }

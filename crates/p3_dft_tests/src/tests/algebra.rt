@@ -38,7 +38,8 @@ fn coordinates_transformed<F: TwoAdicField, V: BasedVectorSpace<F>, D: TwoAdicSu
 ) -> Result<RowMajorMatrix<V>, DftError>
     requires { FitsDft F.TWO_ADICITY (height mat) (mat.width * V.DIMENSION) }
     ensures { IfOk result (λ out. (t : ℕ) → t < V.DIMENSION → IsTransform F.Field.own F.generator
-        (coordinate V.BasedVectorSpace.own F.ZERO t mat) (F.value shift) (coordinate V.BasedVectorSpace.own F.ZERO t out)) }
+        (coordinate V.BasedVectorSpace.own F.ZERO t mat) (F.value shift)
+        (coordinate V.BasedVectorSpace.own F.ZERO t out)) }
 {
     engine.coset_dft_algebra_batch(mat, shift)
 }
@@ -52,12 +53,13 @@ fn coordinates_undone<F: TwoAdicField, V: BasedVectorSpace<F>, D: TwoAdicSubgrou
     requires fits { FitsDft F.TWO_ADICITY (height mat) (mat.width * V.DIMENSION) }
     requires invertible { IsInvertible F.ring (F.value shift) }
     ensures { IfOk result (λ out. (t : ℕ) → t < V.DIMENSION → IsInterpolation F.Field.own F.generator
-        (coordinate V.BasedVectorSpace.own F.ZERO t mat) (F.value shift) (coordinate V.BasedVectorSpace.own F.ZERO t out)) }
+        (coordinate V.BasedVectorSpace.own F.ZERO t mat) (F.value shift)
+        (coordinate V.BasedVectorSpace.own F.ZERO t out)) }
 {
     engine.coset_idft_algebra_batch(mat, shift)
 }
 
-// And of an extension.
+// Each coordinate of an extension is the extension of that coordinate alone.
 fn coordinates_extended<F: TwoAdicField, V: BasedVectorSpace<F>, D: TwoAdicSubgroupDft<F>>(
     engine: &mut D,
     mat: RowMajorMatrix<V>,
@@ -66,7 +68,8 @@ fn coordinates_extended<F: TwoAdicField, V: BasedVectorSpace<F>, D: TwoAdicSubgr
 ) -> Result<RowMajorMatrix<V>, DftError>
     requires { FitsLde F.TWO_ADICITY (height mat) (mat.width * V.DIMENSION) added_bits }
     ensures { IfOk result (λ out. (t : ℕ) → t < V.DIMENSION → IsExtension F.Field.own F.generator
-        (coordinate V.BasedVectorSpace.own F.ZERO t mat) added_bits (F.value shift) (coordinate V.BasedVectorSpace.own F.ZERO t out)) }
+        (coordinate V.BasedVectorSpace.own F.ZERO t mat) added_bits (F.value shift)
+        (coordinate V.BasedVectorSpace.own F.ZERO t out)) }
 {
     engine.coset_lde_algebra_batch(mat, added_bits, shift)
 }
@@ -183,7 +186,7 @@ impl<F: TwoAdicField> CallsTest<F> for ColumnOnSubgroup {
     }
 }
 
-// And on a coset.
+// On a coset the forms over one column of coordinates are the calls on the column.
 #[derive(Drop)]
 struct ColumnOnCoset {
     height: usize,

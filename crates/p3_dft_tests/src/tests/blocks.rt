@@ -278,7 +278,7 @@ impl<F: CanonicalField> EngineTest<F> for OneBlock {
     }
 }
 
-// And it is kept where there is room for it.
+// The one block of such an engine is kept where there is room for it.
 struct OneBlockKept;
 
 impl<F: CanonicalField> EngineTest<F> for OneBlockKept {

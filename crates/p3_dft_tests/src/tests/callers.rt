@@ -93,7 +93,7 @@ fn invert_prepared_on_coset<F: TwoAdicField>(
     engine.coset_idft_batch(mat, shift)
 }
 
-// The same of one column.
+// At a prepared height a column is answered too.
 fn column_there<F: TwoAdicField>(
     engine: &mut Radix2Dit<F>,
     column: Vec<F>,
@@ -248,20 +248,22 @@ fn transform_by_a_new_engine<F: TwoAdicField, D: TwoAdicSubgroupDft<F> + Drop>(
     mat: RowMajorMatrix<F>,
 ) -> Result<D, DftError>
     requires { FitsDft F.TWO_ADICITY (height mat) mat.width }
-    ensures { IfOk result (λ engine. AtLog (height mat) (λ k. D.facts.products_made engine ≤ D.facts.transform_products k mat.width)) }
+    ensures { IfOk result (λ engine. AtLog (height mat)
+        (λ k. D.facts.products_made engine ≤ D.facts.transform_products k mat.width)) }
 {
     let mut engine = D::default();
     engine.dft_batch(mat)?;
     Ok(engine)
 }
 
-// And after one extension of a column, by the engine's own bound.
+// An engine that was just made, after one extension of a column: its products are within its own bound.
 fn extend_by_a_new_engine<F: TwoAdicField, D: TwoAdicSubgroupDft<F> + Drop>(
     column: Vec<F>,
     added_bits: usize,
 ) -> Result<D, DftError>
     requires { FitsLde F.TWO_ADICITY (vec_len column) 1 added_bits }
-    ensures { IfOk result (λ engine. AtLog (vec_len column) (λ k. D.facts.products_made engine ≤ D.facts.extension_products k added_bits 1)) }
+    ensures { IfOk result (λ engine. AtLog (vec_len column)
+        (λ k. D.facts.products_made engine ≤ D.facts.extension_products k added_bits 1)) }
 {
     let mut engine = D::default();
     engine.lde(column, added_bits)?;

@@ -114,7 +114,7 @@ pub(crate) trait Calls<F: TwoAdicField>: Drop {
         shift: F,
     ) -> RowMajorMatrix<V>;
 
-    // And over one column of them.
+    // Over one column of elements of a vector space.
 
     fn column_dft_algebra<R: Abort, V: BasedVectorSpace<F> + Drop>(
         &mut self,

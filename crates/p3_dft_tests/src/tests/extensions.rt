@@ -57,7 +57,7 @@ impl<F: CanonicalField> EngineTest<F> for SwappedCoefficients {
     }
 }
 
-// The same, with the rows of the answer in bit reversed order.
+// Swapped coefficients, with the rows of the answer in bit reversed order.
 struct SwappedInBitReversedRows;
 
 impl<F: CanonicalField> EngineTest<F> for SwappedInBitReversedRows {

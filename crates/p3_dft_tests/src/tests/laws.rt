@@ -33,7 +33,8 @@ fn back_and_there<F: TwoAdicField, D: TwoAdicSubgroupDft<F>>(
 ) -> Result<D::Evaluations, DftError>
     requires fits { FitsDft F.TWO_ADICITY (height mat) mat.width }
     requires invertible { IsInvertible F.ring (F.value shift) }
-    ensures { IfOk result (λ there. Same (values_of F.Field.own (D.Evaluations.natural there)) (values_of F.Field.own mat)) }
+    ensures { IfOk result (λ there. Same (values_of F.Field.own (D.Evaluations.natural there))
+        (values_of F.Field.own mat)) }
 {
     let coefficients = engine.coset_idft_batch(mat, shift)?;
     engine.coset_dft_batch(coefficients, shift)
@@ -56,7 +57,7 @@ fn transforms_agree<F: TwoAdicField, D: TwoAdicSubgroupDft<F>, E: TwoAdicSubgrou
     Ok(first == second)
 }
 
-// And on an inverse.
+// Two engines agree on an inverse.
 fn inverses_agree<F: TwoAdicField, D: TwoAdicSubgroupDft<F>, E: TwoAdicSubgroupDft<F>>(
     one: &mut D,
     other: &mut E,
@@ -72,7 +73,7 @@ fn inverses_agree<F: TwoAdicField, D: TwoAdicSubgroupDft<F>, E: TwoAdicSubgroupD
     Ok((first, second))
 }
 
-// And on an extension.
+// Two engines agree on an extension.
 fn extensions_agree<F: TwoAdicField, D: TwoAdicSubgroupDft<F>, E: TwoAdicSubgroupDft<F>>(
     one: &mut D,
     other: &mut E,
@@ -82,7 +83,8 @@ fn extensions_agree<F: TwoAdicField, D: TwoAdicSubgroupDft<F>, E: TwoAdicSubgrou
 ) -> Result<(D::Evaluations, E::Evaluations), DftError>
     requires { FitsLde F.TWO_ADICITY (height mat) mat.width added_bits }
     ensures { IfOk result (λ out.
-        Same (values_of F.Field.own (D.Evaluations.natural out.0)) (values_of F.Field.own (E.Evaluations.natural out.1))) }
+        Same (values_of F.Field.own (D.Evaluations.natural out.0))
+        (values_of F.Field.own (E.Evaluations.natural out.1))) }
 {
     let first = one.coset_lde_batch(mat.try_clone()?, added_bits, shift)?;
     let second = other.coset_lde_batch(mat, added_bits, shift)?;
@@ -102,7 +104,8 @@ fn extended_by_nothing<F: TwoAdicField, D: TwoAdicSubgroupDft<F>>(
     mat: RowMajorMatrix<F>,
 ) -> Result<D::Evaluations, DftError>
     requires { FitsLde F.TWO_ADICITY (height mat) mat.width 0 }
-    ensures { IfOk result (λ out. Same (values_of F.Field.own (D.Evaluations.natural out)) (values_of F.Field.own mat)) }
+    ensures { IfOk result (λ out. Same (values_of F.Field.own (D.Evaluations.natural out))
+        (values_of F.Field.own mat)) }
 {
     engine.lde_batch(mat, 0)
 }
@@ -114,7 +117,8 @@ fn extended_by_one<F: TwoAdicField, D: TwoAdicSubgroupDft<F>>(
     added_bits: usize,
 ) -> Result<D::Evaluations, DftError>
     requires { FitsLde F.TWO_ADICITY (height mat) mat.width added_bits }
-    ensures { IfOk result (λ out. IsExtension F.Field.own F.generator mat added_bits F.ring.one (D.Evaluations.natural out)) }
+    ensures { IfOk result (λ out. IsExtension F.Field.own F.generator mat added_bits F.ring.one
+        (D.Evaluations.natural out)) }
 {
     engine.coset_lde_batch(mat, added_bits, F::ONE)
 }
@@ -148,7 +152,8 @@ fn extended_with_rows_kept<F: TwoAdicField, D: TwoAdicSubgroupDft<F>>(
 ) -> Result<D::Evaluations, DftError>
     requires { FitsLde F.TWO_ADICITY (height mat) mat.width added_bits }
     ensures { IfOk result (λ out. (i j : ℕ) → i < height mat → j < mat.width
-        → (values_of F.Field.own (D.Evaluations.natural out)).entry (i * 2 ^ added_bits) j ≡ (values_of F.Field.own mat).entry i j) }
+        → (values_of F.Field.own (D.Evaluations.natural out)).entry (i * 2 ^ added_bits) j
+        ≡ (values_of F.Field.own mat).entry i j) }
 {
     engine.lde_batch(mat, added_bits)
 }
@@ -162,14 +167,15 @@ fn extended_coefficients<F: TwoAdicField, D: TwoAdicSubgroupDft<F>>(
 ) -> Result<(RowMajorMatrix<F>, D::Evaluations), DftError>
     requires { FitsLde F.TWO_ADICITY (height mat) mat.width added_bits }
     ensures { IfOk result (λ out. AtLog (height mat) (λ k. IsValues F.ring (λ n. F.value (F.generator n))
-        (values_of F.Field.own out.0) (k + added_bits) (F.value shift) (values_of F.Field.own (D.Evaluations.natural out.1)))) }
+        (values_of F.Field.own out.0) (k + added_bits) (F.value shift)
+        (values_of F.Field.own (D.Evaluations.natural out.1)))) }
 {
     let coefficients = engine.idft_batch(mat.try_clone()?)?;
     let values = engine.coset_lde_batch(mat, added_bits, shift)?;
     Ok((coefficients, values))
 }
 
-// And its inverse has these coefficients, with rows of zeros below.
+// The inverse of an extension has the coefficients of the input, with rows of zeros below.
 fn coefficients_and_zeros<F: TwoAdicField, D: TwoAdicSubgroupDft<F>>(
     engine: &mut D,
     mat: RowMajorMatrix<F>,
@@ -246,7 +252,8 @@ fn extended_unchanged<F: TwoAdicField, D: TwoAdicSubgroupDft<F>>(
     shift: F,
 ) -> Result<D::Evaluations, DftError>
     requires { FitsLde F.TWO_ADICITY (height mat) mat.width added_bits }
-    ensures { IfOk result (λ out. IsExtension F.Field.own F.generator mat added_bits (F.value shift) (D.Evaluations.natural out)) }
+    ensures { IfOk result (λ out. IsExtension F.Field.own F.generator mat added_bits (F.value shift)
+        (D.Evaluations.natural out)) }
 {
     engine.coset_lde_batch_with_transform(
         mat,
@@ -276,7 +283,8 @@ fn values_at_points<F: TwoAdicField, D: TwoAdicSubgroupDft<F>>(
     requires { FitsDft F.TWO_ADICITY (vec_len coefficients) 1 }
     ensures { IfOk result (λ out. AtLog (length coefficients.items) (λ k. (i : ℕ) → i < length coefficients.items
         → F.value (get_or out.items i F.ZERO)
-        ≡ value F.ring (map F.value coefficients.items) (point F.ring (λ n. F.value (F.generator n)) k (F.value shift) i))) }
+        ≡ value F.ring (map F.value coefficients.items)
+        (point F.ring (λ n. F.value (F.generator n)) k (F.value shift) i))) }
 {
     engine.coset_dft(coefficients, shift)
 }
@@ -299,7 +307,7 @@ fn column_alone<F: TwoAdicField, D: TwoAdicSubgroupDft<F>>(
     Ok((whole, one))
 }
 
-// The same of inverses.
+// The inverse of one column alone is that column of the inverse.
 fn column_undone_alone<F: TwoAdicField, D: TwoAdicSubgroupDft<F>>(
     engine: &mut D,
     mat: RowMajorMatrix<F>,
@@ -318,7 +326,7 @@ fn column_undone_alone<F: TwoAdicField, D: TwoAdicSubgroupDft<F>>(
     Ok((whole, one))
 }
 
-// And of extensions.
+// The extension of one column alone is that column of the extension.
 fn column_extended_alone<F: TwoAdicField, D: TwoAdicSubgroupDft<F>>(
     engine: &mut D,
     mat: RowMajorMatrix<F>,
@@ -345,7 +353,8 @@ fn transformed_for<F: TwoAdicField, D: TwoAdicSubgroupDft<F>>(
 ) -> Result<D::Evaluations, DftError>
     requires fits { FitsDft F.TWO_ADICITY (height mat) mat.width }
     requires equal { Same (values_of F.Field.own mat) (values_of F.Field.own like.now) }
-    ensures { IfOk result (λ out. IsTransform F.Field.own F.generator like.now (F.value shift) (D.Evaluations.natural out)) }
+    ensures { IfOk result (λ out. IsTransform F.Field.own F.generator like.now (F.value shift)
+        (D.Evaluations.natural out)) }
 {
     engine.coset_dft_batch(mat, shift)
 }
@@ -367,7 +376,8 @@ fn jobs_agree<F: TwoAdicField, D: TwoAdicSubgroupDft<F>, E: TwoAdicSubgroupDft<F
 ) -> Result<(Vec<RowMajorMatrix<F>>, Vec<RowMajorMatrix<F>>), JobsStopped<F>>
     requires runnable { All (CanRun F.Field.own F.TWO_ADICITY) jobs.items }
     requires again { again.items ≡ jobs.items }
-    ensures { IfOk result (λ out. AllZip (λ a b. Same (values_of F.Field.own a) (values_of F.Field.own b)) out.0.items out.1.items) }
+    ensures { IfOk result (λ out. AllZip
+        (λ a b. Same (values_of F.Field.own a) (values_of F.Field.own b)) out.0.items out.1.items) }
 {
     let first = run_jobs(one, jobs)?;
     let second = run_jobs(other, again)?;
@@ -407,9 +417,11 @@ fn transforms_of_a_sum<F: TwoAdicField, D: TwoAdicSubgroupDft<F>>(
     requires fits { FitsDft F.TWO_ADICITY (height given.first) given.first.width }
     requires shape { HasShapeOf given.second given.first }
     requires sum { Same (values_of F.Field.own given.third)
-        (combination F.ring (F.value a) (values_of F.Field.own given.first) (F.value b) (values_of F.Field.own given.second)) }
+        (combination F.ring (F.value a) (values_of F.Field.own given.first) (F.value b)
+        (values_of F.Field.own given.second)) }
     ensures { IfOk result (λ out. Same (values_of F.Field.own out.third)
-        (combination F.ring (F.value a) (values_of F.Field.own out.first) (F.value b) (values_of F.Field.own out.second))) }
+        (combination F.ring (F.value a) (values_of F.Field.own out.first) (F.value b)
+        (values_of F.Field.own out.second))) }
 {
     let first = engine
         .coset_dft_batch(given.first, shift)?
@@ -427,7 +439,7 @@ fn transforms_of_a_sum<F: TwoAdicField, D: TwoAdicSubgroupDft<F>>(
     })
 }
 
-// The same of inverses.
+// The inverse of a combination is the combination of the inverses.
 fn inverses_of_a_sum<F: TwoAdicField, D: TwoAdicSubgroupDft<F>>(
     engine: &mut D,
     given: Three<F>,
@@ -437,9 +449,11 @@ fn inverses_of_a_sum<F: TwoAdicField, D: TwoAdicSubgroupDft<F>>(
     requires fits { FitsDft F.TWO_ADICITY (height given.first) given.first.width }
     requires shape { HasShapeOf given.second given.first }
     requires sum { Same (values_of F.Field.own given.third)
-        (combination F.ring (F.value a) (values_of F.Field.own given.first) (F.value b) (values_of F.Field.own given.second)) }
+        (combination F.ring (F.value a) (values_of F.Field.own given.first) (F.value b)
+        (values_of F.Field.own given.second)) }
     ensures { IfOk result (λ out. Same (values_of F.Field.own out.third)
-        (combination F.ring (F.value a) (values_of F.Field.own out.first) (F.value b) (values_of F.Field.own out.second))) }
+        (combination F.ring (F.value a) (values_of F.Field.own out.first) (F.value b)
+        (values_of F.Field.own out.second))) }
 {
     let first = engine.idft_batch(given.first)?;
     let second = engine.idft_batch(given.second)?;
@@ -463,9 +477,11 @@ fn extensions_of_a_sum<F: TwoAdicField, D: TwoAdicSubgroupDft<F>>(
     requires fits { FitsLde F.TWO_ADICITY (height given.first) given.first.width added_bits }
     requires shape { HasShapeOf given.second given.first }
     requires sum { Same (values_of F.Field.own given.third)
-        (combination F.ring (F.value a) (values_of F.Field.own given.first) (F.value b) (values_of F.Field.own given.second)) }
+        (combination F.ring (F.value a) (values_of F.Field.own given.first) (F.value b)
+        (values_of F.Field.own given.second)) }
     ensures { IfOk result (λ out. Same (values_of F.Field.own out.third)
-        (combination F.ring (F.value a) (values_of F.Field.own out.first) (F.value b) (values_of F.Field.own out.second))) }
+        (combination F.ring (F.value a) (values_of F.Field.own out.first) (F.value b)
+        (values_of F.Field.own out.second))) }
 {
     let first = engine
         .coset_lde_batch(given.first, added_bits, shift)?

@@ -125,7 +125,7 @@ fn transform_of_eight_rows<F: CanonicalField>(
     assert_column(rt, &values, &[1, last, 1, last, 1, last, 1, last]);
 }
 
-// And one that is made for a height.
+// An engine that is made for a height is prepared for it.
 fn made_for_a_height<F: CanonicalField>(rt: &impl Abort, alloc: Global) {
     assert!(rt; F::TWO_ADICITY >= 3);
     let engine = Radix2DFTSmallBatch::new(alloc, 8);

@@ -19,7 +19,7 @@ fn shapes_that_fit<F: TwoAdicField>(rt: &impl Abort) {
     assert!(rt; !fits_dft::<F>(2, usize::MAX));
 }
 
-// And an extension.
+// Shapes that `fits_lde` accepts, and the first that it refuses.
 fn shapes_that_can_be_extended<F: TwoAdicField>(rt: &impl Abort) {
     assert!(rt; fits_lde::<F>(2, 1, 26));
     assert!(rt; !fits_lde::<F>(2, 1, 27));

@@ -73,7 +73,7 @@ fn reads_in_another_width(rt: HostRuntime) {
     is(&rt, (view.row(1)[2], view.values()[5]), (8, 8));
 }
 
-// The same rows, lent twice.
+// Rows that are lent twice.
 fn twice<'a, T>(
     view: &RowMajorMatrixView<'a, T>,
 ) -> (RowMajorMatrixView<'a, T>, RowMajorMatrixView<'a, T>)
@@ -102,7 +102,11 @@ fn rows_counted<T>(matrix: &RowMajorMatrix<T>) -> usize
 fn rows_one_after_another(rt: HostRuntime) {
     let matrix = written(&rt, rt.alloc());
     let view = matrix.as_view();
-    is(&rt, (has_row_from(&view, 7), has_row_from(&view, 9)), (true, false));
+    is(
+        &rt,
+        (has_row_from(&view, 7), has_row_from(&view, 9)),
+        (true, false),
+    );
     is(&rt, rows_counted(&matrix), 3);
 }
 

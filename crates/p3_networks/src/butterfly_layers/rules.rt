@@ -301,9 +301,11 @@ fn meet_rows<F: TwoAdicField, B: Butterfly<F>>(
 )
     requires { length row_1.old ≡ length row_2.old }
     ensures near { (j : ℕ) → j < length row_1.old → F.value (get_or row_1.new j F.ZERO)
-        ≡ B.near F.Element F.ring F.value butterfly (F.value (get_or row_1.old j F.ZERO)) (F.value (get_or row_2.old j F.ZERO)) }
+        ≡ B.near F.Element F.ring F.value butterfly (F.value (get_or row_1.old j F.ZERO))
+        (F.value (get_or row_2.old j F.ZERO)) }
     ensures far { (j : ℕ) → j < length row_1.old → F.value (get_or row_2.new j F.ZERO)
-        ≡ B.far F.Element F.ring F.value butterfly (F.value (get_or row_1.old j F.ZERO)) (F.value (get_or row_2.old j F.ZERO)) }
+        ≡ B.far F.Element F.ring F.value butterfly (F.value (get_or row_1.old j F.ZERO))
+        (F.value (get_or row_2.old j F.ZERO)) }
     ensures count { products.new ≡ products.old + B.cost * length row_1.old }
 {
     butterfly.apply_to_rows(row_1, row_2, products);
@@ -319,9 +321,11 @@ fn meet_by_place<F: TwoAdicField>(
     requires size { length low.old ≡ length high.old }
     requires enough { length low.old ≤ length twiddles.now }
     ensures near { let cell = λ (xs : List F) (n : ℕ). F.value (get_or xs n F.ZERO) in
-        (t : ℕ) → t < length low.old → cell low.new t ≡ dit_near F.ring (cell twiddles.now t) (cell low.old t) (cell high.old t) }
+        (t : ℕ) → t < length low.old → cell low.new t
+        ≡ dit_near F.ring (cell twiddles.now t) (cell low.old t) (cell high.old t) }
     ensures far { let cell = λ (xs : List F) (n : ℕ). F.value (get_or xs n F.ZERO) in
-        (t : ℕ) → t < length low.old → cell high.new t ≡ dit_far F.ring (cell twiddles.now t) (cell low.old t) (cell high.old t) }
+        (t : ℕ) → t < length low.old → cell high.new t
+        ≡ dit_far F.ring (cell twiddles.now t) (cell low.old t) (cell high.old t) }
     ensures count { products.new ≡ products.old + length low.old }
 {
     apply_dit_by_place(&twiddles[0..low.len()], low, high, products);

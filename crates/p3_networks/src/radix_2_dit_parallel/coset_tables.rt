@@ -34,7 +34,8 @@ impl<F: TwoAdicField> Model for CosetTable<F> {
 
     ghost invariant = { λ t.
         (length t.twiddles.items ≡ 2 ^ t.log_h - 1)
-        × IsCosetTable F.Field F.generator (F.Field.value t.shift) t.log_h t.twiddles.items × (t.log_h ≤ F.TWO_ADICITY) };
+        × IsCosetTable F.Field F.generator (F.Field.value t.shift) t.log_h t.twiddles.items
+        × (t.log_h ≤ F.TWO_ADICITY) };
 }
 
 impl<F: TwoAdicField> CosetTable<F> {
@@ -97,7 +98,8 @@ pub(crate) fn slot_shift<F: TwoAdicField>(
     requires within { log_h + added_bits ≤ F.TWO_ADICITY }
     requires small { log_h + added_bits < 64 }
     ensures { F.value result
-        ≡ point F.ring (forward_root F.Field.own F.generator) (log_h + added_bits) (F.value shift) (rev added_bits slot) }
+        ≡ point F.ring (forward_root F.Field.own F.generator) (log_h + added_bits) (F.value shift)
+        (rev added_bits slot) }
 {
     let root = F::two_adic_generator(log_h + added_bits);
     shift * root.exp_u64(reverse_bits_len(slot, added_bits) as u64)
@@ -107,7 +109,8 @@ pub(crate) fn slot_shift<F: TwoAdicField>(
 // zero, since all cosets of zero are one.
 fn slots_apart<F: TwoAdicField>(added_bits: usize, shift: F) -> usize
     requires { added_bits < 64 }
-    ensures { ((F.value shift ≡ F.ring.zero) × (result ≡ 1)) ⊎ (¬ (F.value shift ≡ F.ring.zero) × (result ≡ 2 ^ added_bits)) }
+    ensures { ((F.value shift ≡ F.ring.zero) × (result ≡ 1))
+        ⊎ (¬ (F.value shift ≡ F.ring.zero) × (result ≡ 2 ^ added_bits)) }
 {
     if shift.is_zero() { 1 } else { 1 << added_bits }
 }
@@ -162,7 +165,8 @@ impl<F: TwoAdicField> CosetTables<F> {
     fn find_within(&self, log_h: usize, shift: F, start: usize, end: usize) -> Option<usize>
         requires { end ≤ length self.now }
         ensures some { IfSome result (IsCosetAt F.Field.own self.now log_h (F.value shift)) }
-        ensures none { IsNone result → (i : ℕ) → start ≤ i → i < end → ¬ (IsCosetAt F.Field.own self.now log_h (F.value shift) i) }
+        ensures none { IsNone result → (i : ℕ) → start ≤ i → i < end
+            → ¬ (IsCosetAt F.Field.own self.now log_h (F.value shift) i) }
     {
         for place in start..end {
             if self.get(place).is_of(log_h, shift) {
@@ -200,7 +204,8 @@ impl<F: TwoAdicField> CosetTables<F> {
         self.make_among(alloc, log_h, shift, 0, end)
     }
 
-    // The same, of a coset whose table lies in no place from `end` on. The search begins at `start`.
+    // The place of the table of a coset, which is made unless it is there, where it lies in no place from `end`
+    // on. The search begins at `start`.
     fn make_among(
         &mut self,
         alloc: Global,
@@ -254,8 +259,10 @@ impl<F: TwoAdicField> CosetTables<F> {
         requires small { log_h + added_bits < 64 }
         ensures made { OnOk result (HasCosets F.Field.own F.generator self.new log_h added_bits (F.value shift)) }
         ensures ready { HasCosets F.Field.own F.generator self.old log_h added_bits (F.value shift) → IsOk result }
-        ensures once { HasCosets F.Field.own F.generator self.old log_h added_bits (F.value shift) → self.new ≡ self.old }
-        ensures keeps { (k : ℕ) (s : F.Element) → HasCoset F.Field.own self.old k s → HasCoset F.Field.own self.new k s }
+        ensures once { HasCosets F.Field.own F.generator self.old log_h added_bits (F.value shift)
+            → self.new ≡ self.old }
+        ensures keeps { (k : ℕ) (s : F.Element) → HasCoset F.Field.own self.old k s
+            → HasCoset F.Field.own self.new k s }
         ensures only { AddsCosets F.Field.own F.generator log_h added_bits (F.value shift) self.old self.new }
     {
         // The tables that are made here are of other cosets, and are not searched.

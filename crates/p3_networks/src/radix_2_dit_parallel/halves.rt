@@ -8,7 +8,8 @@ ghost use Rattle.p3_matrix.specs.Butterflies.{dit_near, dit_far};
 ghost use Rattle.p3_matrix.specs.Cosets.{point};
 ghost use Rattle.p3_matrix.specs.Polynomials.{poly};
 ghost use Rattle.p3_networks.specs.Layers.{AreValuesOfRows};
-ghost use Rattle.p3_networks.specs.Twiddles.{AreBlockTwiddles, AreTwiddlesOfLayers, coset_twiddles, block_end, block_entries, factor, scale_cost};
+ghost use Rattle.p3_networks.specs.Twiddles.{AreBlockTwiddles, AreTwiddlesOfLayers, coset_twiddles, block_end};
+ghost use Rattle.p3_networks.specs.Twiddles.{block_entries, factor, scale_cost};
 
 use crate::butterfly_layers::rules::{
     DitByBlock, DitByBlockOnCoset, DitByPlace, DitByPlaceOnCoset, ScaledDitByBlock,
@@ -63,7 +64,8 @@ pub fn first_half<F: TwoAdicField>(
         → AreTwiddlesOfLayers F.Field.own mid (coset_twiddles F.Field.own g s mid) twiddles.now
         → (a t j : ℕ) → a < 2 ^ (log_h - mid) → t < 2 ^ mid → j < width
         → F.value (get_or values.new ((a * 2 ^ mid + t) * width + j) F.ZERO)
-        ≡ poly F.ring (2 ^ mid) (λ q. F.value (get_or values.old ((a * 2 ^ mid + rev mid q) * width + j) F.ZERO)) (point F.ring g mid s t) }
+        ≡ poly F.ring (2 ^ mid) (λ q. F.value (get_or values.old ((a * 2 ^ mid + rev mid q) * width + j) F.ZERO))
+        (point F.ring g mid s t) }
     ensures grows { products.old ≤ products.new }
     ensures cost { products.new ≤ products.old + 2 ^ (log_h - mid) * (width * (mid * 2 ^ mid / 2)) }
 {
@@ -75,7 +77,8 @@ pub fn first_half<F: TwoAdicField>(
     }
 }
 
-// The same. Inlined, so that a width that the caller names is known in all layers.
+// The chunks of the first half, one after another. Inlined, so that a width that the caller names is known
+// in all layers.
 #[inline(always)]
 fn low_chunks<F: TwoAdicField>(
     twiddles: &[F],
@@ -94,7 +97,8 @@ fn low_chunks<F: TwoAdicField>(
         → AreTwiddlesOfLayers F.Field.own mid (coset_twiddles F.Field.own g s mid) twiddles.now
         → (a t j : ℕ) → a < 2 ^ (log_h - mid) → t < 2 ^ mid → j < width
         → F.value (get_or values.new ((a * 2 ^ mid + t) * width + j) F.ZERO)
-        ≡ poly F.ring (2 ^ mid) (λ q. F.value (get_or values.old ((a * 2 ^ mid + rev mid q) * width + j) F.ZERO)) (point F.ring g mid s t) }
+        ≡ poly F.ring (2 ^ mid) (λ q. F.value (get_or values.old ((a * 2 ^ mid + rev mid q) * width + j) F.ZERO))
+        (point F.ring g mid s t) }
     ensures grows { products.old ≤ products.new }
     ensures cost { products.new ≤ products.old + 2 ^ (log_h - mid) * (width * (mid * 2 ^ mid / 2)) }
 {
@@ -127,7 +131,8 @@ pub fn first_half_oop<F: TwoAdicField>(
         → AreTwiddlesOfLayers F.Field.own mid (coset_twiddles F.Field.own g s mid) twiddles.now
         → (a t j : ℕ) → a < 2 ^ (log_h - mid) → t < 2 ^ mid → j < width
         → F.value (get_or values.new ((a * 2 ^ mid + t) * width + j) F.ZERO)
-        ≡ poly F.ring (2 ^ mid) (λ q. F.value (get_or source.now ((a * 2 ^ mid + rev mid q) * width + j) F.ZERO)) (point F.ring g mid s t) }
+        ≡ poly F.ring (2 ^ mid) (λ q. F.value (get_or source.now ((a * 2 ^ mid + rev mid q) * width + j) F.ZERO))
+        (point F.ring g mid s t) }
     ensures grows { products.old ≤ products.new }
     ensures cost { products.new ≤ products.old + 2 ^ (log_h - mid) * (width * (mid * 2 ^ mid / 2)) }
 {
@@ -138,7 +143,7 @@ pub fn first_half_oop<F: TwoAdicField>(
     }
 }
 
-// The same. Inlined as the chunks in place are.
+// The chunks of the first half from rows in another slice. Inlined as the chunks in place are.
 #[inline(always)]
 fn low_chunks_oop<F: TwoAdicField>(
     twiddles: &[F],
@@ -159,7 +164,8 @@ fn low_chunks_oop<F: TwoAdicField>(
         → AreTwiddlesOfLayers F.Field.own mid (coset_twiddles F.Field.own g s mid) twiddles.now
         → (a t j : ℕ) → a < 2 ^ (log_h - mid) → t < 2 ^ mid → j < width
         → F.value (get_or values.new ((a * 2 ^ mid + t) * width + j) F.ZERO)
-        ≡ poly F.ring (2 ^ mid) (λ q. F.value (get_or source.now ((a * 2 ^ mid + rev mid q) * width + j) F.ZERO)) (point F.ring g mid s t) }
+        ≡ poly F.ring (2 ^ mid) (λ q. F.value (get_or source.now ((a * 2 ^ mid + rev mid q) * width + j) F.ZERO))
+        (point F.ring g mid s t) }
     ensures grows { products.old ≤ products.new }
     ensures cost { products.new ≤ products.old + 2 ^ (log_h - mid) * (width * (mid * 2 ^ mid / 2)) }
 {
@@ -201,10 +207,12 @@ pub fn second_half<F: TwoAdicField>(
         → (a t j : ℕ) → a < 2 ^ mid → t < 2 ^ left → j < width
         → F.value (get_or values.new ((a * 2 ^ left + t) * width + j) F.ZERO)
         ≡ poly F.ring (2 ^ left)
-        (λ q. F.ring.mul (F.value (get_or values.old ((a * 2 ^ left + q) * width + j) F.ZERO)) (factor F.Field.own scale))
+        (λ q. F.ring.mul (F.value (get_or values.old ((a * 2 ^ left + q) * width + j) F.ZERO))
+        (factor F.Field.own scale))
         (point F.ring g left (point F.ring g (mid + left) s (rev mid a)) (rev left t)) }
     ensures grows { products.old ≤ products.new }
-    ensures cost { products.new ≤ products.old + 2 ^ mid * (width * (left * 2 ^ left / 2) + scale_cost scale * (2 ^ left * width)) }
+    ensures cost { products.new ≤ products.old
+        + 2 ^ mid * (width * (left * 2 ^ left / 2) + scale_cost scale * (2 ^ left * width)) }
 {
     if width == 1 {
         high_chunks(table, scale, values, 1, mid, left, products);
@@ -213,7 +221,7 @@ pub fn second_half<F: TwoAdicField>(
     }
 }
 
-// The same. Inlined as the chunks of the first half are.
+// The chunks of the second half, one after another. Inlined as those of the first half are.
 #[inline(always)]
 fn high_chunks<F: TwoAdicField>(
     table: BlockTwiddles<'_, F>,
@@ -234,10 +242,12 @@ fn high_chunks<F: TwoAdicField>(
         → (a t j : ℕ) → a < 2 ^ mid → t < 2 ^ left → j < width
         → F.value (get_or values.new ((a * 2 ^ left + t) * width + j) F.ZERO)
         ≡ poly F.ring (2 ^ left)
-        (λ q. F.ring.mul (F.value (get_or values.old ((a * 2 ^ left + q) * width + j) F.ZERO)) (factor F.Field.own scale))
+        (λ q. F.ring.mul (F.value (get_or values.old ((a * 2 ^ left + q) * width + j) F.ZERO))
+        (factor F.Field.own scale))
         (point F.ring g left (point F.ring g (mid + left) s (rev mid a)) (rev left t)) }
     ensures grows { products.old ≤ products.new }
-    ensures cost { products.new ≤ products.old + 2 ^ mid * (width * (left * 2 ^ left / 2) + scale_cost scale * (2 ^ left * width)) }
+    ensures cost { products.new ≤ products.old
+        + 2 ^ mid * (width * (left * 2 ^ left / 2) + scale_cost scale * (2 ^ left * width)) }
 {
     let chunks = 1usize << mid;
     let size = values.len() / chunks;
@@ -335,10 +345,12 @@ pub(crate) fn high_network<F: TwoAdicField>(
     ensures values { (g : ℕ → F.Element) (s : F.Element) → AreRoots F.ring (mid + left) g
         → AreBlockTwiddles F.Field.own g s mid (mid + left) table.entry.by_layer table.entry.twiddles.now
         → (t j : ℕ) → t < 2 ^ left → j < width → F.value (get_or values.new (t * width + j) F.ZERO)
-        ≡ poly F.ring (2 ^ left) (λ q. F.ring.mul (F.value (get_or values.old (q * width + j) F.ZERO)) (factor F.Field.own scale))
+        ≡ poly F.ring (2 ^ left) (λ q. F.ring.mul (F.value (get_or values.old (q * width + j) F.ZERO))
+        (factor F.Field.own scale))
         (point F.ring g left (point F.ring g (mid + left) s (rev mid chunk)) (rev left t)) }
     ensures grows { products.old ≤ products.new }
-    ensures cost { products.new ≤ products.old + (width * (left * 2 ^ left / 2) + scale_cost scale * (2 ^ left * width)) }
+    ensures cost { products.new ≤ products.old
+        + (width * (left * 2 ^ left / 2) + scale_cost scale * (2 ^ left * width)) }
 {
     let half = 1usize << (left - 1);
     let twiddles = table.of_layer(mid);
@@ -427,10 +439,12 @@ fn first_layer_oop<F: TwoAdicField>(
     requires table { 1 ≤ length twiddles.now }
     ensures near { let cell = λ (xs : List F) (n : ℕ). F.value (get_or xs n F.ZERO) in
         (b i : ℕ) → b < pairs → i < width → cell values.new (b * (2 * width) + i)
-        ≡ dit_near F.ring (cell twiddles.now 0) (cell source.now (b * (2 * width) + i)) (cell source.now (b * (2 * width) + (width + i))) }
+        ≡ dit_near F.ring (cell twiddles.now 0) (cell source.now (b * (2 * width) + i))
+        (cell source.now (b * (2 * width) + (width + i))) }
     ensures far { let cell = λ (xs : List F) (n : ℕ). F.value (get_or xs n F.ZERO) in
         (b i : ℕ) → b < pairs → i < width → cell values.new (b * (2 * width) + (width + i))
-        ≡ dit_far F.ring (cell twiddles.now 0) (cell source.now (b * (2 * width) + i)) (cell source.now (b * (2 * width) + (width + i))) }
+        ≡ dit_far F.ring (cell twiddles.now 0) (cell source.now (b * (2 * width) + i))
+        (cell source.now (b * (2 * width) + (width + i))) }
     ensures grows { products.old ≤ products.new }
     ensures cost { products.new ≤ products.old + 1 * (pairs * width) }
 {
@@ -501,7 +515,7 @@ fn layer_by_block<F: TwoAdicField>(
     }
 }
 
-// The same of one block, whose rows are first multiplied by the scale, if there is one.
+// A layer of one block, whose rows are first multiplied by the scale, if there is one.
 #[inline(always)]
 fn scaled_layer<F: TwoAdicField>(
     twiddles: &[F],
@@ -519,12 +533,14 @@ fn scaled_layer<F: TwoAdicField>(
     ensures near { let cell = λ (xs : List F) (n : ℕ). F.value (get_or xs n F.ZERO) in
         let scaled = λ (n : ℕ). F.ring.mul (cell values.old n) (factor F.Field.own scale) in
         let size = half * width in
-        (b i : ℕ) → b < 1 → i < size → cell values.new (b * (2 * size) + i) ≡ dit_near F.ring (cell twiddles.now (block + b))
+        (b i : ℕ) → b < 1 → i < size → cell values.new (b * (2 * size) + i)
+        ≡ dit_near F.ring (cell twiddles.now (block + b))
         (scaled (b * (2 * size) + i)) (scaled (b * (2 * size) + (size + i))) }
     ensures far { let cell = λ (xs : List F) (n : ℕ). F.value (get_or xs n F.ZERO) in
         let scaled = λ (n : ℕ). F.ring.mul (cell values.old n) (factor F.Field.own scale) in
         let size = half * width in
-        (b i : ℕ) → b < 1 → i < size → cell values.new (b * (2 * size) + (size + i)) ≡ dit_far F.ring (cell twiddles.now (block + b))
+        (b i : ℕ) → b < 1 → i < size → cell values.new (b * (2 * size) + (size + i))
+        ≡ dit_far F.ring (cell twiddles.now (block + b))
         (scaled (b * (2 * size) + i)) (scaled (b * (2 * size) + (size + i))) }
     ensures grows { products.old ≤ products.new }
     ensures cost { products.new ≤ products.old + (1 + scale_cost scale) * (1 * (half * width)) }

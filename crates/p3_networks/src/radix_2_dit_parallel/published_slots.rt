@@ -1,7 +1,8 @@
 //! An extension coset by coset. Of its `2^(log_h + added_bits)` rows each chunk of `2^log_h` is a slot, which
 //! gets the values on a coset of its own. The coefficients are the first slot, in bit reversed order.
 
-ghost use Rattle.std.specs.Prelude.{◌≡◌, ℕ, ◌+◌, ◌-◌, ◌*◌, ◌/◌, ◌^◌, ◌<◌, ◌≤◌, ◌++◌, ◌∷◌, [], List, IfErr, IsPermutation, OnOk, get_or, length};
+ghost use Rattle.std.specs.Prelude.{◌≡◌, ℕ, ◌+◌, ◌-◌, ◌*◌, ◌/◌, ◌^◌, ◌<◌, ◌≤◌, ◌++◌, ◌∷◌, [], List, IfErr};
+ghost use Rattle.std.specs.Prelude.{IsPermutation, OnOk, get_or, length};
 ghost use Rattle.p3_field.specs.Ring.{AreRoots};
 ghost use Rattle.p3_matrix.specs.BitOrder.{rev};
 ghost use Rattle.p3_matrix.specs.Blocks.{AreBlocksOf, Run, RunToRefusal};
@@ -43,14 +44,17 @@ pub fn extend_slots<F: TwoAdicField, C: BlockConsumer<F>>(
     requires small { log_h + added_bits < 64 }
     requires size { length values.old ≡ 2 ^ (log_h + added_bits) * width }
     requires tables { HasCosets F.Field.own F.generator cosets.now log_h added_bits (F.value shift) }
-    ensures values { OnOk result ((r j : ℕ) → r < 2 ^ (log_h + added_bits) → j < width → F.value (get_or values.new (r * width + j) F.ZERO)
+    ensures values { OnOk result ((r j : ℕ) → r < 2 ^ (log_h + added_bits) → j < width
+        → F.value (get_or values.new (r * width + j) F.ZERO)
         ≡ (extended_rows F.Field.own F.generator log_h added_bits width (F.value shift) values.old).entry r j) }
     ensures published { OnOk result ((blocks : List (ℕ × RowMajor F))
-        × IsPermutation (slot_blocks 0 (2 ^ (log_h - (log_h + 1) / 2)) width values.new (2 ^ added_bits * 2 ^ ((log_h + 1) / 2))) blocks
+        × IsPermutation (slot_blocks 0 (2 ^ (log_h - (log_h + 1) / 2)) width values.new
+        (2 ^ added_bits * 2 ^ ((log_h + 1) / 2))) blocks
         × Run C.step consumer.old blocks consumer.new) }
     ensures refused { IfErr result (λ refusal. (accepted : List (ℕ × RowMajor F)) × (refused : ℕ × RowMajor F)
         × AreBlocksOf (λ m. image F.value (matrix F.ZERO m)) (2 ^ (log_h - (log_h + 1) / 2))
-        (extended_rows F.Field.own F.generator log_h added_bits width (F.value shift) values.old) (accepted ++ refused ∷ [])
+        (extended_rows F.Field.own F.generator log_h added_bits width (F.value shift) values.old)
+        (accepted ++ refused ∷ [])
         × RunToRefusal C.step consumer.old accepted refused refusal consumer.new) }
     ensures grows { products.old ≤ products.new }
     ensures cost { products.new ≤ products.old + 2 ^ added_bits * (width * (log_h * 2 ^ log_h / 2)) }
@@ -95,9 +99,11 @@ fn place_of_slot<F: TwoAdicField>(
     requires within { log_h + added_bits ≤ F.TWO_ADICITY }
     requires small { log_h + added_bits < 64 }
     requires there { HasCoset F.Field.own cosets.now log_h
-        (point F.ring (forward_root F.Field.own F.generator) (log_h + added_bits) (F.value shift) (rev added_bits slot)) }
+        (point F.ring (forward_root F.Field.own F.generator) (log_h + added_bits) (F.value shift)
+        (rev added_bits slot)) }
     ensures { IsCosetAt F.Field.own cosets.now log_h
-        (point F.ring (forward_root F.Field.own F.generator) (log_h + added_bits) (F.value shift) (rev added_bits slot)) result }
+        (point F.ring (forward_root F.Field.own F.generator) (log_h + added_bits) (F.value shift) (rev added_bits slot))
+        result }
 {
     let coset = slot_shift(log_h, added_bits, shift, slot);
     cosets.place_of(log_h, coset, start)
@@ -122,11 +128,14 @@ fn evaluate_reversed_oop<F: TwoAdicField, C: BlockConsumer<F>>(
     requires table { table.now.log_h ≡ log_h }
     requires rows { first_row + 2 ^ log_h < 2 ^ 64 }
     ensures accepted { OnOk result (AreValuesOfRows F.Field.own width (2 ^ log_h) (rev log_h)
-        (λ r. point F.ring (forward_root F.Field.own F.generator) log_h (F.value table.now.shift) (rev log_h r)) coefficients.now values.new
-        × Run C.step consumer.old (slot_blocks first_row (2 ^ (log_h - (log_h + 1) / 2)) width values.new (2 ^ ((log_h + 1) / 2)))
+        (λ r. point F.ring (forward_root F.Field.own F.generator) log_h (F.value table.now.shift) (rev log_h r))
+        coefficients.now values.new
+        × Run C.step consumer.old (slot_blocks first_row (2 ^ (log_h - (log_h + 1) / 2)) width values.new
+        (2 ^ ((log_h + 1) / 2)))
         consumer.new) }
     ensures refused { IfErr result (λ refusal. (n : ℕ) × (n < 2 ^ ((log_h + 1) / 2))
-        × ((r j : ℕ) → r < (n + 1) * 2 ^ (log_h - (log_h + 1) / 2) → j < width → F.value (get_or values.new (r * width + j) F.ZERO)
+        × ((r j : ℕ) → r < (n + 1) * 2 ^ (log_h - (log_h + 1) / 2) → j < width
+        → F.value (get_or values.new (r * width + j) F.ZERO)
         ≡ poly F.ring (2 ^ log_h) (λ q. F.value (get_or coefficients.now (rev log_h q * width + j) F.ZERO))
         (point F.ring (forward_root F.Field.own F.generator) log_h (F.value table.now.shift) (rev log_h r)))
         × RunToRefusal C.step consumer.old (slot_blocks first_row (2 ^ (log_h - (log_h + 1) / 2)) width values.new n)
@@ -153,7 +162,7 @@ fn evaluate_reversed_oop<F: TwoAdicField, C: BlockConsumer<F>>(
     )
 }
 
-// The same in their place.
+// From coefficients in bit reversed order to their values on such a coset, in their place.
 fn evaluate_reversed<F: TwoAdicField, C: BlockConsumer<F>>(
     table: &CosetTable<F>,
     values: &mut [F],
@@ -169,11 +178,14 @@ fn evaluate_reversed<F: TwoAdicField, C: BlockConsumer<F>>(
     requires table { table.now.log_h ≡ log_h }
     requires rows { first_row + 2 ^ log_h < 2 ^ 64 }
     ensures accepted { OnOk result (AreValuesOfRows F.Field.own width (2 ^ log_h) (rev log_h)
-        (λ r. point F.ring (forward_root F.Field.own F.generator) log_h (F.value table.now.shift) (rev log_h r)) values.old values.new
-        × Run C.step consumer.old (slot_blocks first_row (2 ^ (log_h - (log_h + 1) / 2)) width values.new (2 ^ ((log_h + 1) / 2)))
+        (λ r. point F.ring (forward_root F.Field.own F.generator) log_h (F.value table.now.shift) (rev log_h r))
+        values.old values.new
+        × Run C.step consumer.old (slot_blocks first_row (2 ^ (log_h - (log_h + 1) / 2)) width values.new
+        (2 ^ ((log_h + 1) / 2)))
         consumer.new) }
     ensures refused { IfErr result (λ refusal. (n : ℕ) × (n < 2 ^ ((log_h + 1) / 2))
-        × ((r j : ℕ) → r < (n + 1) * 2 ^ (log_h - (log_h + 1) / 2) → j < width → F.value (get_or values.new (r * width + j) F.ZERO)
+        × ((r j : ℕ) → r < (n + 1) * 2 ^ (log_h - (log_h + 1) / 2) → j < width
+        → F.value (get_or values.new (r * width + j) F.ZERO)
         ≡ poly F.ring (2 ^ log_h) (λ q. F.value (get_or values.old (rev log_h q * width + j) F.ZERO))
         (point F.ring (forward_root F.Field.own F.generator) log_h (F.value table.now.shift) (rev log_h r)))
         × RunToRefusal C.step consumer.old (slot_blocks first_row (2 ^ (log_h - (log_h + 1) / 2)) width values.new n)
@@ -221,7 +233,8 @@ fn last_half<F: TwoAdicField, C: BlockConsumer<F>>(
         → AreBlockTwiddles F.Field.own g s mid (mid + left) table.entry.by_layer table.entry.twiddles.now
         → (a t j : ℕ) → a < 2 ^ mid → t < 2 ^ left → j < width
         → F.value (get_or values.new ((a * 2 ^ left + t) * width + j) F.ZERO)
-        ≡ poly F.ring (2 ^ left) (λ q. F.value (get_or values.old ((rev left q * 2 ^ mid + rev mid a) * width + j) F.ZERO))
+        ≡ poly F.ring (2 ^ left) (λ q. F.value
+        (get_or values.old ((rev left q * 2 ^ mid + rev mid a) * width + j) F.ZERO))
         (point F.ring g left (point F.ring g (mid + left) s (rev mid a)) (rev left t)))
         × Run C.step consumer.old (slot_blocks first_row (2 ^ left) width values.new (2 ^ mid)) consumer.new) }
     ensures refused { IfErr result (λ refusal. (n : ℕ) × (n < 2 ^ mid)
@@ -229,7 +242,8 @@ fn last_half<F: TwoAdicField, C: BlockConsumer<F>>(
         → AreBlockTwiddles F.Field.own g s mid (mid + left) table.entry.by_layer table.entry.twiddles.now
         → (a t j : ℕ) → a < n + 1 → t < 2 ^ left → j < width
         → F.value (get_or values.new ((a * 2 ^ left + t) * width + j) F.ZERO)
-        ≡ poly F.ring (2 ^ left) (λ q. F.value (get_or values.old ((rev left q * 2 ^ mid + rev mid a) * width + j) F.ZERO))
+        ≡ poly F.ring (2 ^ left) (λ q. F.value
+        (get_or values.old ((rev left q * 2 ^ mid + rev mid a) * width + j) F.ZERO))
         (point F.ring g left (point F.ring g (mid + left) s (rev mid a)) (rev left t)))
         × RunToRefusal C.step consumer.old (slot_blocks first_row (2 ^ left) width values.new n)
         (slot_block first_row (2 ^ left) width values.new n) refusal consumer.new) }

@@ -5,7 +5,8 @@
 //! another, that stays in the cache from layer to layer; two layers go on quarters, one on halves.
 
 ghost use Rattle.std.specs.Prelude.{◌≡◌, ◌⊎◌, ℕ, ◌+◌, ◌-◌, ◌*◌, ◌/◌, ◌^◌, ◌<◌, ◌≤◌, List, length, get_or};
-ghost use Rattle.p3_networks.specs.Groups.{AreLayersInOrder, HoldsColumns, IsLayer, TakesColumns, cells_of, layer_of, group_end, group_of};
+ghost use Rattle.p3_networks.specs.Groups.{AreLayersInOrder, HoldsColumns, IsLayer, TakesColumns, cells_of, layer_of};
+ghost use Rattle.p3_networks.specs.Groups.{group_end, group_of};
 ghost use Rattle.p3_networks.specs.Layers.{HoldsCells};
 
 use crate::butterfly_layers::Rule;
@@ -175,7 +176,7 @@ fn group_on_chunks<F: TwoAdicField, R: Rule<F>>(
     }
 }
 
-// The same on one of these blocks, chunk `number` of `2^to` rows, piece after piece.
+// The layers of a group on one of these blocks, chunk `number` of `2^to` rows, piece after piece.
 fn group_on_chunk<F: TwoAdicField, R: Rule<F>>(
     rule: R,
     order: Order,
@@ -198,7 +199,8 @@ fn group_on_chunk<F: TwoAdicField, R: Rule<F>>(
         (λ b. R.far F.Element F.ring F.value rule b 0) cells
         → (number + 1) * 2 ^ to ≤ 2 ^ k
         → HoldsCells F.value F.ZERO (number * length values.old) (cells (cells_of order from to 0)) values.old
-        → HoldsCells F.value F.ZERO (number * length values.old) (cells (cells_of order from to (to - from))) values.new }
+        → HoldsCells F.value F.ZERO (number * length values.old) (cells (cells_of order from to (to - from)))
+        values.new }
     ensures grows { products.old ≤ products.new }
     ensures cost { 2 * products.new ≤ 2 * products.old + R.cost * ((to - from) * length values.old) }
 {
@@ -213,7 +215,7 @@ fn group_on_chunk<F: TwoAdicField, R: Rule<F>>(
     }
 }
 
-// The same on one piece: each of its parts, of `2^from` rows, goes by itself from cell `at` up to `end`.
+// The layers of a group on one piece: each of its parts, of `2^from` rows, goes by itself from cell `at` up to `end`.
 fn group_on_piece<F: TwoAdicField, R: Rule<F>>(
     rule: R,
     order: Order,
@@ -286,8 +288,10 @@ fn layer_of_columns<F: TwoAdicField, R: Rule<F>>(
         → IsLayer all (half * part) (λ b. R.near F.Element F.ring F.value rule b 0)
         (λ b. R.far F.Element F.ring F.value rule b 0) before after
         → first_block + blocks ≤ all
-        → HoldsColumns F.value F.ZERO part (blocks * (2 * half)) (first_block * (2 * (half * part))) at end before values.old
-        → TakesColumns F.value F.ZERO part (blocks * (2 * half)) (first_block * (2 * (half * part))) at end after values.old values.new }
+        → HoldsColumns F.value F.ZERO part (blocks * (2 * half)) (first_block * (2 * (half * part))) at end before
+        values.old
+        → TakesColumns F.value F.ZERO part (blocks * (2 * half)) (first_block * (2 * (half * part))) at end after
+        values.old values.new }
     ensures grows { products.old ≤ products.new }
     ensures cost { products.new ≤ products.old + R.cost * (blocks * (half * (end - at))) }
 {
@@ -299,7 +303,7 @@ fn layer_of_columns<F: TwoAdicField, R: Rule<F>>(
     }
 }
 
-// The same on one block.
+// A layer of some columns on one block.
 fn columns_of_block<F: TwoAdicField, R: Rule<F>>(
     rule: R,
     values: &mut [F],
@@ -316,13 +320,16 @@ fn columns_of_block<F: TwoAdicField, R: Rule<F>>(
     requires there { R.has rule block 0 }
     ensures near { let cell = λ (xs : List F) (n : ℕ). F.value (get_or xs n F.ZERO) in
         (t j : ℕ) → t < half → j < part → at ≤ j → j < end → cell values.new (t * part + j)
-        ≡ R.near F.Element F.ring F.value rule block 0 (cell values.old (t * part + j)) (cell values.old (half * part + (t * part + j))) }
+        ≡ R.near F.Element F.ring F.value rule block 0 (cell values.old (t * part + j))
+        (cell values.old (half * part + (t * part + j))) }
     ensures far { let cell = λ (xs : List F) (n : ℕ). F.value (get_or xs n F.ZERO) in
         (t j : ℕ) → t < half → j < part → at ≤ j → j < end → cell values.new (half * part + (t * part + j))
-        ≡ R.far F.Element F.ring F.value rule block 0 (cell values.old (t * part + j)) (cell values.old (half * part + (t * part + j))) }
+        ≡ R.far F.Element F.ring F.value rule block 0 (cell values.old (t * part + j))
+        (cell values.old (half * part + (t * part + j))) }
     ensures kept { (t j : ℕ) → t < half → j < part → (j < at) ⊎ (end ≤ j)
         → (get_or values.new (t * part + j) F.ZERO ≡ get_or values.old (t * part + j) F.ZERO)
-        × (get_or values.new (half * part + (t * part + j)) F.ZERO ≡ get_or values.old (half * part + (t * part + j)) F.ZERO) }
+        × (get_or values.new (half * part + (t * part + j)) F.ZERO
+        ≡ get_or values.old (half * part + (t * part + j)) F.ZERO) }
     ensures grows { products.old ≤ products.new }
     ensures cost { products.new ≤ products.old + R.cost * (half * (end - at)) }
 {

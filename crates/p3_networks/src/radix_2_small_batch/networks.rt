@@ -44,10 +44,12 @@ pub(crate) trait NetworkRule<F: TwoAdicField>: Rule<F> {
         requires size { length values.old ≡ SHORT_ROWS }
         ensures near { let cell = λ (xs : List F) (n : ℕ). F.value (get_or xs n F.ZERO) in
             (b : ℕ) → b < SHORT_BLOCKS → cell values.new (2 * b)
-            ≡ Self.near F.Element F.ring F.value self (first + b) 0 (cell values.old (2 * b)) (cell values.old (2 * b + 1)) }
+            ≡ Self.near F.Element F.ring F.value self (first + b) 0 (cell values.old (2 * b))
+            (cell values.old (2 * b + 1)) }
         ensures far { let cell = λ (xs : List F) (n : ℕ). F.value (get_or xs n F.ZERO) in
             (b : ℕ) → b < SHORT_BLOCKS → cell values.new (2 * b + 1)
-            ≡ Self.far F.Element F.ring F.value self (first + b) 0 (cell values.old (2 * b)) (cell values.old (2 * b + 1)) }
+            ≡ Self.far F.Element F.ring F.value self (first + b) 0 (cell values.old (2 * b))
+            (cell values.old (2 * b + 1)) }
         ensures grows { products.old ≤ products.new }
         ensures cost { products.new ≤ products.old + Self.cost * SHORT_BLOCKS };
 
@@ -128,7 +130,8 @@ fn layer_of_chunk<F: TwoAdicField, R: NetworkRule<F>>(
     requires size { length values.old ≡ 2 ^ top * width }
     requires there { (b t : ℕ) → 2 * b < (number + 1) * 2 ^ top → R.has rule b t }
     ensures cells { (k : ℕ) (before after : ℕ → ℕ → F.Element)
-        → AreLayers k width (λ b. R.near F.Element F.ring F.value rule b 0) (λ b. R.far F.Element F.ring F.value rule b 0) before after
+        → AreLayers k width (λ b. R.near F.Element F.ring F.value rule b 0)
+        (λ b. R.far F.Element F.ring F.value rule b 0) before after
         → (number + 1) * 2 ^ top ≤ 2 ^ k
         → HoldsCells F.value F.ZERO (number * length values.old) (before log_half) values.old
         → HoldsCells F.value F.ZERO (number * length values.old) (after log_half) values.new }
@@ -154,7 +157,8 @@ fn layer_of_pairs<F: TwoAdicField, R: NetworkRule<F>>(
     requires size { length values.old ≡ 2 ^ SHORT_LAYERS * 1 }
     requires there { (b t : ℕ) → 2 * b < (number + 1) * 2 ^ SHORT_LAYERS → R.has rule b t }
     ensures cells { (k : ℕ) (before after : ℕ → ℕ → F.Element)
-        → AreLayers k 1 (λ b. R.near F.Element F.ring F.value rule b 0) (λ b. R.far F.Element F.ring F.value rule b 0) before after
+        → AreLayers k 1 (λ b. R.near F.Element F.ring F.value rule b 0)
+        (λ b. R.far F.Element F.ring F.value rule b 0) before after
         → (number + 1) * 2 ^ SHORT_LAYERS ≤ 2 ^ k
         → HoldsCells F.value F.ZERO (number * length values.old) (before 0) values.old
         → HoldsCells F.value F.ZERO (number * length values.old) (after 0) values.new }
@@ -186,7 +190,8 @@ fn layers_of_chunk<F: TwoAdicField, R: NetworkRule<F>>(
         (λ b. R.far F.Element F.ring F.value rule b 0) cells
         → (number + 1) * 2 ^ top ≤ 2 ^ k
         → HoldsCells F.value F.ZERO (number * length values.old) (cells (cells_of R.order from to 0)) values.old
-        → HoldsCells F.value F.ZERO (number * length values.old) (cells (cells_of R.order from to (to - from))) values.new }
+        → HoldsCells F.value F.ZERO (number * length values.old) (cells (cells_of R.order from to (to - from)))
+        values.new }
     ensures grows { products.old ≤ products.new }
     ensures cost { 2 * products.new ≤ 2 * products.old + R.cost * ((to - from) * length values.old) }
 {
@@ -229,7 +234,7 @@ fn layers_of_tiles<F: TwoAdicField, R: NetworkRule<F>>(
     }
 }
 
-// The same of one tile, chunk `number` of `2^top` rows. In one column the layers of the smallest blocks
+// The layers of one tile, chunk `number` of `2^top` rows. In one column the layers of the smallest blocks
 // are done together, on one short chunk after another. The width is written as 1 in that call, so that it
 // is known in the loops.
 fn layers_of_tile<F: TwoAdicField, R: NetworkRule<F>>(
@@ -301,7 +306,7 @@ fn layers_of_short_chunks<F: TwoAdicField, R: NetworkRule<F>>(
     }
 }
 
-// The same on short chunk `number`. The layers are named, so that the loops of each layer are of
+// The layers below `SHORT_LAYERS` on short chunk `number`. They are named, so that the loops of each layer are of
 // known size.
 fn layers_of_short_chunk<F: TwoAdicField, R: NetworkRule<F>>(
     rule: R,
@@ -407,7 +412,8 @@ pub fn dit_network_to_reversed<F: TwoAdicField>(
     requires enough { 2 ^ log_h ≤ 2 * length twiddles.now }
     ensures values { (bits : ℕ) (root : ℕ → F.Element) → AreRoots F.ring bits root → log_h ≤ bits
         → AreTwiddlesFromStart F.Field.own log_h (block_powers F.Field.own root) twiddles.now
-        → AreValuesOfRows F.Field.own width (2 ^ log_h) (λ q. q) (λ r. power F.ring (root log_h) (rev log_h r)) values.old values.new }
+        → AreValuesOfRows F.Field.own width (2 ^ log_h) (λ q. q)
+        (λ r. power F.ring (root log_h) (rev log_h r)) values.old values.new }
     ensures grows { products.old ≤ products.new }
     ensures cost { products.new ≤ products.old + width * (log_h * 2 ^ log_h / 2) }
 {
@@ -500,7 +506,8 @@ pub fn scaled_dif_network<F: TwoAdicField>(
     requires twiddles { AreTwiddlesFromStart F.Field.own log_h
         (block_powers F.Field.own (backward_root F.Field.own F.generator)) twiddles.now }
     ensures values { (r j : ℕ) → r < 2 ^ log_h → j < width → F.value (get_or values.new (r * width + j) F.ZERO)
-        ≡ poly F.ring (2 ^ log_h) (λ q. F.ring.mul (F.value (get_or values.old (rev log_h q * width + j) F.ZERO)) (F.value scale))
+        ≡ poly F.ring (2 ^ log_h) (λ q. F.ring.mul (F.value (get_or values.old (rev log_h q * width + j) F.ZERO))
+        (F.value scale))
         (power F.ring (backward_root F.Field.own F.generator log_h) r) }
     ensures grows { products.old ≤ products.new }
     ensures cost { products.new ≤ products.old + width * (log_h * 2 ^ log_h / 2) + 2 ^ log_h * width }
@@ -528,7 +535,8 @@ fn multiples_of_row<F: TwoAdicField>(
     products: &mut Products,
 )
     requires { length values.old ≡ count * length row.now }
-    ensures values { (t j : ℕ) → t < count → j < length row.now → F.value (get_or values.new (t * length row.now + j) F.ZERO)
+    ensures values { (t j : ℕ) → t < count → j < length row.now
+        → F.value (get_or values.new (t * length row.now + j) F.ZERO)
         ≡ F.ring.mul (F.value (get_or row.now j F.ZERO)) (F.ring.mul (F.value first) (power F.ring (F.value step) t)) }
     ensures count { products.new ≡ products.old + count * length row.now }
 {
@@ -612,7 +620,8 @@ fn spread_tiles<F: TwoAdicField>(
         cells (λ e. cells (e + 1))
         → ((q t j : ℕ) → q < 2 ^ (log_h - added_bits) → t < 2 ^ added_bits → j < width
         → cells added_bits ((q * 2 ^ added_bits + t) * width + j)
-        ≡ F.ring.mul (F.value (get_or rows.now (q * width + j) F.ZERO)) (F.ring.mul (F.value (get_or weights.now q F.ZERO))
+        ≡ F.ring.mul (F.value (get_or rows.now (q * width + j) F.ZERO))
+        (F.ring.mul (F.value (get_or weights.now q F.ZERO))
         (power F.ring (F.value (get_or twiddles.now (q * (2 ^ added_bits / 2)) F.ZERO)) t)))
         → HoldsCells F.value F.ZERO 0 (cells log_rows) values.new }
     ensures grows { products.old ≤ products.new }
@@ -680,7 +689,8 @@ pub fn extending_network<F: TwoAdicField>(
     ensures values { (r j : ℕ) → r < 2 ^ log_h → j < width → F.value (get_or values.new (r * width + j) F.ZERO)
         ≡ poly F.ring (2 ^ (log_h - added_bits)) (λ q. F.ring.mul
         (F.value (get_or rows.now (rev (log_h - added_bits) q * width + j) F.ZERO))
-        (F.value (get_or weights.now (rev (log_h - added_bits) q) F.ZERO))) (power F.ring (F.value (F.generator log_h)) r) }
+        (F.value (get_or weights.now (rev (log_h - added_bits) q) F.ZERO)))
+        (power F.ring (F.value (F.generator log_h)) r) }
     ensures grows { products.old ≤ products.new }
     ensures cost { 2 * products.new ≤ 2 * products.old + (log_h - added_bits + 2) * length values.old }
 {

@@ -105,7 +105,7 @@ pub(crate) fn on_pairs<F: TwoAdicField, B: PairButterfly<F>>(
     on_packs::<F, F, B>(butterfly, others, other_pairs, products);
 }
 
-// The same, where the pairs are full packs.
+// A butterfly of pairs that fill packs.
 fn on_packs<F: TwoAdicField, P: PackedField<Scalar = F>, B: PairButterfly<F>>(
     butterfly: B,
     twiddles: &[F],

@@ -39,11 +39,14 @@ pub fn slots_network<F: TwoAdicField>(
     requires size { length values.old ≡ 2 ^ (log_h + added_bits) * width }
     requires twiddles { AreTwiddlesFromStart F.Field.own log_h
         (block_powers F.Field.own (forward_root F.Field.own F.generator)) twiddles.now }
-    ensures values { (r j : ℕ) → r < 2 ^ (log_h + added_bits) → j < width → F.value (get_or values.new (r * width + j) F.ZERO)
+    ensures values { (r j : ℕ) → r < 2 ^ (log_h + added_bits) → j < width
+        → F.value (get_or values.new (r * width + j) F.ZERO)
         ≡ poly F.ring (2 ^ log_h) (λ q. F.value (get_or values.old (q * width + j) F.ZERO))
-        (point F.ring (forward_root F.Field.own F.generator) (log_h + added_bits) (F.value shift) (rev (log_h + added_bits) r)) }
+        (point F.ring (forward_root F.Field.own F.generator) (log_h + added_bits) (F.value shift)
+        (rev (log_h + added_bits) r)) }
     ensures grows { products.old ≤ products.new }
-    ensures cost { products.new ≤ products.old + 2 ^ added_bits * (width * (log_h * 2 ^ log_h / 2) + 2 ^ log_h * width) }
+    ensures cost { products.new ≤ products.old
+        + 2 ^ added_bits * (width * (log_h * 2 ^ log_h / 2) + 2 ^ log_h * width) }
 {
     let slots = 1usize << added_bits;
     let size = values.len() / slots;
