@@ -1,5 +1,5 @@
 -- Rows of two entries, and the same entries in opposite order.
-use Rattle.std.proofs.Common.{◌≡◌, ℕ, ◌+◌, ◌-◌, ◌*◌, ◌/◌, ◌<◌, ◌≤◌, ◌^◌, length, get_or, reverse, refl, sym, ap, ap₂, ◌∙◌, arith}
+use Rattle.std.proofs.Common.{◌≡◌, ℕ, ◌+◌, ◌-◌, ◌*◌, ◌/◌, ◌<◌, length, get_or, reverse, sym, ap, ap₂, ◌∙◌, arith}
 use Rattle.std.proofs.Math.ListN.{length-reverse}
 use Rattle.std.proofs.lemmas.List.{get_or-reverse}
 use Rattle.p3_field.specs.declared.fields.Field.{Ghosts as FieldMembers}

@@ -1,6 +1,5 @@
 use Rattle.std.proofs.Common.{◌≡◌, ℕ, ◌+◌, reverse, sym, ◌∙◌, of_calls}
 use Rattle.std.proofs.lemmas.Result.{IfOk-weaker}
-use Rattle.p3_matrix.specs.RowMajor.{RowMajor}
 use Rattle.p3_matrix.proofs.Polynomials.Cosets.{coefficients_same}
 use Rattle.p3_matrix.proofs.Matrices.{same_sym, same_trans}
 use Rattle.p3_matrix.specs.Cosets.{values_of}
