@@ -125,9 +125,11 @@ fn inverse_powers<F: TwoAdicField>(
 {
     let mut inverse = Vec::with_capacity(alloc, powers.len())?;
     inverse.push(F::ONE)?;
-    for b in 1..powers.len() {
-        let chunk = 1usize << b.ilog2();
-        inverse.push(-powers[3 * chunk - 1 - b])?;
+    for l in 0..log_h - 1 {
+        let chunk = 1usize << l;
+        for b in chunk..2 * chunk {
+            inverse.push(-powers[3 * chunk - 1 - b])?;
+        }
     }
     Ok(inverse)
 }

@@ -1,4 +1,4 @@
-use Rattle.std.proofs.Common.{◌≡◌, ℕ, ◌+◌, ◌*◌, ◌-◌, ◌%◌, ◌^◌, ◌<◌, ◌≤◌, [], ◌∷◌, ◌++◌, suc, length, get_or, refl, sym, ap, ap₂, ◌∙◌, arith, lit≤, length-append, subst}
+use Rattle.std.proofs.Common.{◌≡◌, ℕ, ◌+◌, ◌*◌, ◌-◌, ◌%◌, ◌^◌, ◌<◌, ◌≤◌, [], ◌∷◌, ◌++◌, suc, length, get_or, refl, sym, ap, ap₂, ◌∙◌, arith, add-one, lit≤, length-append, subst}
 use Rattle.std.proofs.Math.Nat.{pow-le-pow_right, two-pow-succ}
 use Rattle.std.proofs.lemmas.List.{get_or_push, get_or_read_under}
 use borrow.Author.Count.{below_more}
@@ -8,30 +8,27 @@ use Rattle.p3_field.proofs.Powers.{power-zero}
 use Rattle.p3_field.proofs.Roots.{inverse_root}
 use Rattle.p3_matrix.specs.BitOrder.{rev}
 use Rattle.p3_matrix.proofs.BitReversal.{rev_of_zero}
-use Rattle.p3_matrix.proofs.TwoPowers.{log_lt}
 use Rattle.p3_networks.specs.Twiddles.{backward_root, block_powers, AreTwiddles}
 use Rattle.p3_networks.proofs.Tables.InversePowers.{inverse_entry}
 use Rattle.p3_networks.proofs.Layers.Halves.{in_first}
 use Rattle.p3_networks.proofs.root_tables.inverse_powers.Goals as goal
 
--- the chunk of place b lies within half the powers, and so does the place that b changes with
-record IsChunk (n p b chunk : ℕ) : Type 0 where
-  is : chunk ≡ 2 ^ p
-  within : p < n
+-- chunk l lies within half the powers
+record IsChunk (n l chunk : ℕ) : Type 0 where
+  is : chunk ≡ 2 ^ l
   room : 2 * chunk ≤ 2 ^ n
   half : chunk < 2 ^ 62
 
-chunk_of : (n p b len : ℕ) → n < 63 → len ≡ 2 ^ n → 2 ^ p ≤ b → b < len → p < 64 → IsChunk n p b (1 * 2 ^ p % 18446744073709551616)
-chunk_of n p b len small full from inside bound =
-    let is : 1 * 2 ^ p % 18446744073709551616 ≡ 2 ^ p = one_shl p 64 bound in
-    let within : p < n = log_lt p n (omega (arith, from, inside, full)) in
-    let rise : 2 ^ suc p ≤ 2 ^ n = pow-le-pow_right {n = 2} (lit≤ tt) within in
+chunk_of : (n l : ℕ) → n < 63 → l < n → IsChunk n l (1 * 2 ^ l % 18446744073709551616)
+chunk_of n l small within =
+    let is : 1 * 2 ^ l % 18446744073709551616 ≡ 2 ^ l = one_shl l 64 (omega (arith, small, within)) in
+    let rise : 2 ^ suc l ≤ 2 ^ n = pow-le-pow_right {n = 2} (lit≤ tt) within in
     let few : n ≤ 62 = omega (arith, small) in
     let most : 2 ^ n ≤ 2 ^ 62 = pow-le-pow_right {n = 2} (lit≤ tt) few in
-    record { is = is; within = within; room = omega (arith, rise, two-pow-succ p, is); half = omega (arith, rise, most, two-pow-succ p, is) }
+    record { is = is; room = omega (arith, rise, two-pow-succ l, is); half = omega (arith, rise, most, two-pow-succ l, is, pow_pos l) }
 
-pub loop-b-init : goal.loop-b-init
-loop-b-init g c =
+pub loop-l-init : goal.loop-l-init
+loop-l-init g c =
     let field = g.F.Field in
     let n = c.args.log_h - 1 in
     let root = inverse_root field.ring (λ k. field.value (g.F.TwoAdicField.generator k)) (n + 1) in
@@ -44,38 +41,47 @@ loop-b-init g c =
           ∙ sym (ap (power field.ring root) (ap (rev n) none ∙ rev_of_zero n) ∙ power-zero field.ring root);
     }
 
+pub loop-b-init : goal.loop-b-init
+loop-b-init g c =
+    let field = g.F.Field in
+    let n = c.args.log_h - 1 in
+    let chunk = chunk_of n c.loop-l.l (omega (arith, c.requires.some, c.requires.small)) (omega (arith, c.loop-l-test.true)) in
+    subst (λ (m : ℕ). AreTwiddles field m (block_powers field (backward_root field g.F.TwoAdicField.generator) n) c.loop-l.inverse.items) (sym chunk.is) c.loop-l.invariant
+
 pub overflow_mul-chunk : goal.overflow_mul-chunk
 overflow_mul-chunk g c =
-    let chunk = chunk_of (c.args.log_h - 1) c.ilog2.result c.loop-b.b _ (omega (arith, c.requires.some, c.requires.small)) c.requires.powers.size c.ilog2.ensures.power_le c.loop-b-test.true c.ilog2.ensures.bound in
+    let chunk = chunk_of (c.args.log_h - 1) c.loop-l.l (omega (arith, c.requires.some, c.requires.small)) (omega (arith, c.loop-l-test.true)) in
     omega (arith, chunk.half)
 
 pub offset_bounds-powers-chunk : goal.offset_bounds-powers-chunk
 offset_bounds-powers-chunk g c =
-    let chunk = chunk_of (c.args.log_h - 1) c.ilog2.result c.loop-b.b _ (omega (arith, c.requires.some, c.requires.small)) c.requires.powers.size c.ilog2.ensures.power_le c.loop-b-test.true c.ilog2.ensures.bound in
-    omega (arith, chunk.room, chunk.is, c.requires.powers.size, c.ilog2.ensures.power_le)
+    let chunk = chunk_of (c.args.log_h - 1) c.loop-l.l (omega (arith, c.requires.some, c.requires.small)) (omega (arith, c.loop-l-test.true)) in
+    omega (arith, chunk.room, c.requires.powers.size, c.loop-b.auto.b)
 
 pub bounds-powers-chunk : goal.bounds-powers-chunk
 bounds-powers-chunk g c =
-    let chunk = chunk_of (c.args.log_h - 1) c.ilog2.result c.loop-b.b _ (omega (arith, c.requires.some, c.requires.small)) c.requires.powers.size c.ilog2.ensures.power_le c.loop-b-test.true c.ilog2.ensures.bound in
-    omega (arith, chunk.room, chunk.is, c.requires.powers.size, c.ilog2.ensures.power_le, c.loop-b.auto.b)
+    let chunk = chunk_of (c.args.log_h - 1) c.loop-l.l (omega (arith, c.requires.some, c.requires.small)) (omega (arith, c.loop-l-test.true)) in
+    omega (arith, chunk.room, chunk.is, c.requires.powers.size, c.loop-b.auto.b, pow_pos c.loop-l.l)
 
 pub loop-b-preserved : goal.loop-b-preserved
 loop-b-preserved g c =
     let field = g.F.Field in
-    let gen = λ (k : ℕ). field.value (g.F.TwoAdicField.generator k) in
     let n = c.args.log_h - 1 in
+    let l = c.loop-l.l in
     let b = c.loop-b.b in
     let before = c.loop-b.inverse.items in
-    let chunk = chunk_of n c.ilog2.result b _ (omega (arith, c.requires.some, c.requires.small)) c.requires.powers.size c.ilog2.ensures.power_le c.loop-b-test.true c.ilog2.ensures.bound in
+    let chunk = chunk_of n l (omega (arith, c.requires.some, c.requires.small)) (omega (arith, c.loop-l-test.true)) in
     let now : c.push-in-loop-b.new.self.items ≡ before ++ c.neg.result ∷ [] = c.in_ok-push-2.ensures.items in
-    let place : 3 * (1 * 2 ^ c.ilog2.result % 18446744073709551616) - 1 - b ≡ 3 * 2 ^ c.ilog2.result - 1 - b = ap (λ x. 3 * x - 1 - b) chunk.is in
+    let from : 2 ^ l ≤ b = omega (arith, chunk.is, c.loop-b.auto.b) in
+    let until : b < 2 * 2 ^ l = omega (arith, chunk.is, c.loop-b-test.true) in
+    let place : 3 * (1 * 2 ^ l % 18446744073709551616) - 1 - b ≡ 3 * 2 ^ l - 1 - b = ap (λ x. 3 * x - 1 - b) chunk.is in
     let entry : field.value c.neg.result ≡ block_powers field (backward_root field g.F.TwoAdicField.generator) n b =
     g.met.F.Field.neg_law _ _ c.neg.ensures
-    ∙ ap (λ x. field.ring.neg (field.value x)) (get_or_read_under c.args.powers.now (3 * (1 * 2 ^ c.ilog2.result % 18446744073709551616) - 1 - b) _ _ field.ZERO c.index-powers-chunk.is
-    (omega (arith, chunk.room, chunk.is, c.requires.powers.size, c.ilog2.ensures.power_le, c.loop-b.auto.b)) refl)
+    ∙ ap (λ x. field.ring.neg (field.value x)) (get_or_read_under c.args.powers.now (3 * (1 * 2 ^ l % 18446744073709551616) - 1 - b) _ _ field.ZERO c.index-powers-chunk.is
+    (omega (arith, chunk.room, chunk.is, c.requires.powers.size, from, pow_pos l)) refl)
     ∙ ap (λ x. field.ring.neg (field.value (get_or c.args.powers.now x field.ZERO))) place
-    ∙ ap field.ring.neg (c.requires.powers.entries (3 * 2 ^ c.ilog2.result - 1 - b) (omega (arith, chunk.room, chunk.is, c.ilog2.ensures.power_le, c.loop-b.auto.b)))
-    ∙ inverse_entry field.ring g.met.F.TwoAdicField.roots_law n c.ilog2.result b (omega (arith, c.requires.some, c.requires.within)) chunk.within c.ilog2.ensures.power_le c.ilog2.ensures.next_power_gt in
+    ∙ ap field.ring.neg (c.requires.powers.entries (3 * 2 ^ l - 1 - b) (omega (arith, chunk.room, chunk.is, from, pow_pos l)))
+    ∙ inverse_entry field.ring g.met.F.TwoAdicField.roots_law n l b (omega (arith, c.requires.some, c.requires.within)) (omega (arith, c.loop-l-test.true)) from until in
     record {
       size = ap length now ∙ length-append before (c.neg.result ∷ []) ∙ ap (λ k. k + 1) c.loop-b.invariant.size;
       entries = below_more (λ e. field.value (get_or c.push-in-loop-b.new.self.items e field.ZERO) ≡ block_powers field (backward_root field g.F.TwoAdicField.generator) n e) b
@@ -83,9 +89,18 @@ loop-b-preserved g c =
           (ap (λ xs. field.value (get_or xs b field.ZERO)) now ∙ ap field.value (get_or_push before c.neg.result field.ZERO b c.loop-b.invariant.size) ∙ entry);
     }
 
+pub loop-l-preserved : goal.loop-l-preserved
+loop-l-preserved g c =
+    let field = g.F.Field in
+    let n = c.args.log_h - 1 in
+    let l = c.loop-l.l in
+    let chunk = chunk_of n l (omega (arith, c.requires.some, c.requires.small)) (omega (arith, c.loop-l-test.true)) in
+    let end : c.loop-b.b ≡ 2 ^ (l + 1) = omega (arith, c.loop-b-test.false, c.loop-b.auto.b-end, chunk.is, ap (λ (m : ℕ). 2 ^ m) (add-one l), two-pow-succ l) in
+    subst (λ (m : ℕ). AreTwiddles field m (block_powers field (backward_root field g.F.TwoAdicField.generator) n) c.loop-b.inverse.items) end c.loop-b.invariant
+
 pub returns : goal.returns
 returns g c =
     let field = g.F.Field in
     let n = c.args.log_h - 1 in
-    let end : c.loop-b.b ≡ 2 ^ n = omega (arith, c.loop-b-test.false, c.loop-b.auto.b-end, c.requires.powers.size, pow_pos n) in
-    subst (λ (m : ℕ). AreTwiddles field m (block_powers field (backward_root field g.F.TwoAdicField.generator) n) c.loop-b.inverse.items) end c.loop-b.invariant
+    let end : c.loop-l.l ≡ n = omega (arith, c.loop-l-test.false, c.loop-l.auto.l-end) in
+    subst (λ (m : ℕ). AreTwiddles field (2 ^ m) (block_powers field (backward_root field g.F.TwoAdicField.generator) n) c.loop-l.inverse.items) end c.loop-l.invariant
