@@ -18,6 +18,7 @@ use Rattle.p3_matrix.specs.Matrix.{Matrix, image, matrix}
 use Rattle.p3_matrix.specs.RowMajor.{RowMajor, IsRowMajor, height}
 use Rattle.examples.specs.Sums.{sum_of_blocks, sum_of_rows}
 use Rattle.p3_matrix.specs.Polynomials.{sum}
+use Rattle.p3_matrix.proofs.Consumers.{partition_length}
 use Rattle.p3_matrix.proofs.Polynomials.ByIndex.{sum_same}
 
 -- no terms
@@ -136,6 +137,19 @@ module _ {A T : Type 0} (R : Ring A) (f : T → A) (d : T) where
       run_total step g adds x.blocks x.first last x.run ∙ ap (λ a. a ⊕ total R block_total none x.blocks) (new x.first x.made) ∙ Rings.zero-add R _
       ∙ total_permuted R block_total none (first_blocks b m n) x.blocks x.parts.each_once ∙ first_total b m n ∙ ap (total R f d) (take_all _ m.values (omega (arith, size)))
 
+module _ {T C X : Type 0} (step : C → ℕ → RowMajor T → Result ⊤ X → C → Type 0) (left : C → ℕ)
+    (takes : (c : C) (start : ℕ) (m : RowMajor T) (e : C) → step c start m (Ok tt) e → left c ≡ left e + 1) where
+  -- a consumer that took blocks, each for one of those that it had left
+  pub run_left : (blocks : List (ℕ × RowMajor T)) (c e : C) → Run step c blocks e → left c ≡ left e + length blocks
+  run_left [] c e run = ap left run ∙ omega arith
+  run_left (p ∷ ps) c e (j, told, run) = omega (arith, takes c p.0 p.1 j told, run_left ps j e run)
+
+  -- one that took all blocks of a matrix had as many left
+  pub blocks_within : (may_make : C → Type 0) (limit b : ℕ) (m : RowMajor T) (last : C) → ((c : C) → may_make c → left c ≡ limit)
+      → IsPublished step may_make b m last → height m / b ≤ limit
+  blocks_within may_make limit b m last new x =
+      omega (arith, new x.first x.made, run_left x.blocks x.first last x.run, partition_length b m x.blocks x.parts)
+
 module _ {A T : Type 0} (R : Ring A) (f : T → A) (d : T) (b : ℕ) (out : Matrix A) where
   open R use {add as ◌⊕◌, zero as 𝟘}
 
@@ -156,20 +170,17 @@ module _ {A T : Type 0} (R : Ring A) (f : T → A) (d : T) (b : ℕ) (out : Matr
       ∙ ap (λ v. out.entry (p.0 + i / v) (i % v)) wide)
       ∙ ap (λ n. sum R n (λ i. out.entry (p.0 + i / out.width) (i % out.width))) size
 
-  -- a consumer that took blocks, each for one of those that it had left, and added up the entries of each
-  run_entries : {C X : Type 0} (step : C → ℕ → RowMajor T → Result ⊤ X → C → Type 0) (g : C → A) (left : C → ℕ)
-      → ((c : C) (start : ℕ) (m : RowMajor T) (e : C) → step c start m (Ok tt) e → (left c ≡ left e + 1) × (g e ≡ g c ⊕ total R f d m.values))
+  -- a consumer that added up the entries of each block that it took
+  run_entries : {C X : Type 0} (step : C → ℕ → RowMajor T → Result ⊤ X → C → Type 0) (g : C → A)
+      → ((c : C) (start : ℕ) (m : RowMajor T) (e : C) → step c start m (Ok tt) e → g e ≡ g c ⊕ total R f d m.values)
       → (blocks : List (ℕ × RowMajor T)) (c e : C) → All (IsBlockOf (λ m. image f (matrix d m)) b out) blocks → Run step c blocks e
-      → (left c ≡ left e + length blocks) × (g e ≡ g c ⊕ sum_of_blocks R b out (map (λ p. p.0) blocks))
+      → g e ≡ g c ⊕ sum_of_blocks R b out (map (λ p. p.0) blocks)
   unfolding sum
-  run_entries step g left adds [] c e each run = (ap left run ∙ omega arith, ap g (sym run) ∙ sym (R.add_zero (g c)))
-  run_entries step g left adds (p ∷ ps) c e each (j, told, run) =
+  run_entries step g adds [] c e each run = ap g (sym run) ∙ sym (R.add_zero (g c))
+  run_entries step g adds (p ∷ ps) c e each (j, told, run) =
       let here : IsBlockOf (λ m. image f (matrix d m)) b out p = each 0 p (omega arith) in
-      let rest = run_entries step g left adds ps j e (λ i x inside. each (suc i) x (omega (arith, inside))) run in
-      let one = adds c p.0 p.1 j told in (
-        omega (arith, one.0, rest.0),
-        rest.1 ∙ ap (λ a. a ⊕ sum_of_blocks R b out (map (λ q. q.0) ps)) (one.1 ∙ ap (λ a. g c ⊕ a) (block_entries p here)) ∙ R.add_assoc (g c) _ _,
-      )
+      let rest = run_entries step g adds ps j e (λ i x inside. each (suc i) x (omega (arith, inside))) run in
+      rest ∙ ap (λ a. a ⊕ sum_of_blocks R b out (map (λ q. q.0) ps)) (adds c p.0 p.1 j told ∙ ap (λ a. g c ⊕ a) (block_entries p here)) ∙ R.add_assoc (g c) _ _
 
   -- one that began with zero, and refused a block when it had none left
   pub sum_at_refusal : {C X : Type 0} (step : C → ℕ → RowMajor T → Result ⊤ X → C → Type 0) (may_make : C → Type 0) (g : C → A) (left : C → ℕ) (limit : ℕ) (last : C) (refusal : X)
@@ -190,11 +201,12 @@ module _ {A T : Type 0} (R : Ring A) (f : T → A) (d : T) (b : ℕ) (out : Matr
       let at : (i : ℕ) → i < length blocks → get_or (blocks ++ none ∷ []) i none ≡ get_or blocks i none = λ i l. get_or_append_left blocks (none ∷ []) none i l in
       let each : All (IsBlockOf (λ m. image f (matrix d m)) b out) blocks = λ i e inside.
       subst (IsBlockOf (λ m. image f (matrix d m)) b out) (get_or_append_left blocks (none ∷ []) e i inside) (x.blocks.each i e (omega (arith, inside, joined))) in
-      let told = run_entries step g left adds blocks x.first middle each x.run.run in
+      let many = run_left step left (λ c start m e told. (adds c start m e told).0) blocks x.first middle x.run.run in
+      let sums = run_entries step g (λ c start m e told. (adds c start m e told).1) blocks x.first middle each x.run.run in
       let start_is : (i e : ℕ) → i < length (map number blocks) → get_or (map number blocks) i e ≡ (get_or blocks i none).0 = λ i e inside.
       get_or-map number blocks i none e (omega (arith, inside, length-map blocks number)) in (
         map number blocks,
-        length-map blocks number ∙ omega (arith, told.0, first.1, stopped.0),
+        length-map blocks number ∙ omega (arith, many, first.1, stopped.0),
         (λ i j e before inside same.
             let in_blocks : j < length blocks = omega (arith, inside, length-map blocks number) in
             x.blocks.distinct i j none before (omega (arith, in_blocks, joined))
@@ -202,5 +214,5 @@ module _ {A T : Type 0} (R : Ring A) (f : T → A) (d : T) (b : ℕ) (out : Matr
         (λ i e inside.
             let here = each i none (omega (arith, inside, length-map blocks number)) in
             rw (start_is i e inside) (here.multiple, here.within)),
-        ap g stopped.1 ∙ told.1 ∙ ap (λ a. a ⊕ sum_of_blocks R b out (map number blocks)) first.0 ∙ Rings.zero-add R _,
+        ap g stopped.1 ∙ sums ∙ ap (λ a. a ⊕ sum_of_blocks R b out (map number blocks)) first.0 ∙ Rings.zero-add R _,
       )

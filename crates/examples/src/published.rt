@@ -5,7 +5,7 @@
 //! Proved: what a client may conclude, whatever the order of the blocks and whether one was refused.
 
 ghost use Rattle.std.specs.Prelude.{◌≡◌, ℕ, ◌+◌, ◌%◌, ◌/◌, ◌^◌, ◌<◌, ◌≤◌, ◌≢◌, ◌++◌, List, [], ◌∷◌, IfErr, IfOk};
-ghost use Rattle.std.specs.Prelude.{IfSome, Ok, false, get_or, length};
+ghost use Rattle.std.specs.Prelude.{IfSome, IsNone, Ok, false, get_or, length};
 ghost use Rattle.p3_matrix.specs.BitOrder.{bit_reversal, reversed_rows};
 ghost use Rattle.p3_matrix.specs.Blocks.{AreBlocksOf, IsPartition};
 ghost use Rattle.p3_matrix.specs.Matrix.{Matrix};
@@ -206,22 +206,24 @@ impl<F: Field> BlockConsumer<F> for LimitedSum<F> {
     }
 }
 
-/// The sum of the entries of so many blocks of an extension, where it has more: of each block those of its
-/// rows, and no block twice. Else, or where memory was refused, there is none.
+/// The sum of the entries of so many blocks of an extension: of each block those of its rows, and no block
+/// twice. There is none where the extension has no more blocks than that.
 pub fn sum_of_first_blocks<F: TwoAdicField, D: TwoAdicSubgroupDft<F>>(
     engine: &mut D,
     mat: RowMajorMatrix<F>,
     added_bits: usize,
     shift: F,
     limit: usize,
-) -> Option<F>
+) -> Result<Option<F>, DftError>
     requires { FitsLde F.TWO_ADICITY (height mat) mat.width added_bits }
-    ensures { IfSome result (λ total. AtLog (height mat) (λ k. (out : Matrix F.Element)
+    ensures first { IfOk result (λ found. IfSome found (λ total. AtLog (height mat) (λ k. (out : Matrix F.Element)
         × AreExtendedValues F.Field.own F.generator mat added_bits (F.value shift) out
         × (starts : List ℕ) × (length starts ≡ limit) × AllPairs (λ i j. i ≢ j) starts
         × All (λ start. (start % D.facts.block_rows k added_bits ≡ 0) × (start < 2 ^ (k + added_bits))) starts
         × (F.value total ≡ sum_of_blocks F.ring (D.facts.block_rows k added_bits) (bit_reversal (k + added_bits) out)
-        starts))) }
+        starts)))) }
+    ensures none { IfOk result (λ found. IsNone found
+        → AtLog (height mat) (λ k. 2 ^ (k + added_bits) / D.facts.block_rows k added_bits ≤ limit)) }
 {
     let none_yet = LimitedSum {
         sum: F::ZERO,
@@ -229,13 +231,17 @@ pub fn sum_of_first_blocks<F: TwoAdicField, D: TwoAdicSubgroupDft<F>>(
     };
     let answer = engine.coset_lde_batch_in_blocks(mat, added_bits, shift, |_rows| none_yet);
     match answer {
-        Ok(_all) => None,
+        Ok((out, taken)) => {
+            let _whole = out.height();
+            let _left = taken.left;
+            Ok(None)
+        }
         Err(stopped) => match stopped {
             BlocksStopped::Refused {
                 consumer,
                 refusal: (),
-            } => Some(consumer.sum),
-            BlocksStopped::OutOfMemory(_) => None,
+            } => Ok(Some(consumer.sum)),
+            BlocksStopped::OutOfMemory(_) => Err(DftError::OutOfMemory),
         },
     }
 }

@@ -1,0 +1,108 @@
+//! What a test of a shape tells, and an extension that is published with no transform, over any field and
+//! over a named one.
+//!
+//! Proved: behind the tests the sizes are counted by a `usize`, a vector of so many entries makes a matrix
+//! that can be transformed, and what is published is the extension. There is no proof file.
+
+ghost use Rattle.std.specs.Prelude.{◌≡◌, ◌*◌, ◌^◌, ◌<◌, ◌≤◌, IfOk, IfSome};
+ghost use Rattle.p3_matrix.specs.BitOrder.{reversed_rows};
+ghost use Rattle.p3_matrix.specs.RowMajor.{height};
+ghost use Rattle.p3_dft.specs.Extensions.{IsExtension};
+ghost use Rattle.p3_dft.specs.Shapes.{FitsDft, FitsLde};
+
+use p3_dft::{
+    BitReversedMatrixView, BlockLimit, DftError, Field, Goldilocks, RowMajorMatrix, TwoAdicField,
+    TwoAdicSubgroupDft, extended_height, fits_dft, fits_lde,
+};
+use std::alloc::Global;
+
+/// A matrix of zeros of so many rows and columns, which can be transformed: `None` where it does not fit.
+pub fn zeros<F: TwoAdicField>(
+    alloc: Global,
+    rows: usize,
+    columns: usize,
+) -> Result<Option<RowMajorMatrix<F>>, DftError>
+    ensures { IfOk result (λ made. IfSome made (λ mat. FitsDft F.TWO_ADICITY (height mat) mat.width)) }
+{
+    if !fits_dft::<F>(rows, columns) {
+        return Ok(None);
+    }
+    Ok(Some(filled(alloc, F::ZERO, rows, columns)?))
+}
+
+// A matrix of one element.
+fn filled<T: Copy>(
+    alloc: Global,
+    element: T,
+    rows: usize,
+    columns: usize,
+) -> Result<RowMajorMatrix<T>, DftError>
+    requires wide { 1 ≤ columns }
+    requires counted { rows * columns < 2 ^ 64 }
+    ensures high { IfOk result (λ mat. height mat ≡ rows) }
+    ensures wide { IfOk result (λ mat. mat.width ≡ columns) }
+{
+    let values = vec![in alloc; element; rows * columns]?;
+    Ok(RowMajorMatrix::new(values, columns))
+}
+
+/// A matrix of zeros over `Goldilocks`.
+pub fn zeros_of_goldilocks(
+    alloc: Global,
+    rows: usize,
+    columns: usize,
+) -> Result<Option<RowMajorMatrix<Goldilocks>>, DftError> {
+    if !fits_dft::<Goldilocks>(rows, columns) {
+        return Ok(None);
+    }
+    let values = vec![in alloc; Goldilocks::ZERO; rows * columns]?;
+    Ok(Some(RowMajorMatrix::new(values, columns)))
+}
+
+/// Room for all entries of an extension: `None` where it does not fit.
+pub fn room_for_extension<F: TwoAdicField>(
+    mat: &RowMajorMatrix<F>,
+    added_bits: usize,
+) -> Result<Option<Vec<F>>, DftError> {
+    if !fits_lde::<F>(mat.height(), mat.width(), added_bits) {
+        return Ok(None);
+    }
+    let rows = extended_height::<F>(mat.height(), mat.width(), added_bits);
+    Ok(Some(Vec::with_capacity(*mat.allocator(), rows * mat.width())?))
+}
+
+/// An extension that has at most so many blocks, which no transform changed: `None` where it has more, or
+/// memory was refused.
+pub fn extension_within<F: TwoAdicField, D: TwoAdicSubgroupDft<F>>(
+    engine: &mut D,
+    mat: RowMajorMatrix<F>,
+    added_bits: usize,
+    shift: F,
+    limit: usize,
+) -> Option<BitReversedMatrixView<RowMajorMatrix<F>>>
+    requires { FitsLde F.TWO_ADICITY (height mat) mat.width added_bits }
+    ensures { IfSome result (λ out.
+        IsExtension F.Field.own F.generator mat added_bits (F.value shift) (reversed_rows out.bits out.physical)) }
+{
+    match engine.coset_lde_batch_in_blocks(mat, added_bits, shift, |_rows| BlockLimit::new(limit)) {
+        Ok((out, _taken)) => Some(out),
+        Err(_) => None,
+    }
+}
+
+/// An extension over `Goldilocks` of a matrix of any shape: `None` where it does not fit, too.
+pub fn extension_of_goldilocks_within<D: TwoAdicSubgroupDft<Goldilocks>>(
+    engine: &mut D,
+    mat: RowMajorMatrix<Goldilocks>,
+    added_bits: usize,
+    limit: usize,
+) -> Option<BitReversedMatrixView<RowMajorMatrix<Goldilocks>>> {
+    if !fits_lde::<Goldilocks>(mat.height(), mat.width(), added_bits) {
+        return None;
+    }
+    let shift = Goldilocks::GENERATOR;
+    match engine.coset_lde_batch_in_blocks(mat, added_bits, shift, |_rows| BlockLimit::new(limit)) {
+        Ok((out, _taken)) => Some(out),
+        Err(_) => None,
+    }
+}
