@@ -41,7 +41,7 @@ pub enum Layout {
 /// `g = F::two_adic_generator(log2(height))`; row i of values, in natural order, belongs to the
 /// point `g^i` of H. A vector is a matrix of one column. Transforms and inverses ask for a shape that
 /// `fits_dft` accepts, and extensions, which have `lde` in their names, for one that `fits_lde` accepts.
-/// Where memory is refused, all answer `DftError::OutOfMemory`, and the form with blocks
+/// Where memory is refused, all answer `DftError::OutOfMemory`, and the two forms with blocks
 /// `BlocksStopped::OutOfMemory`; the matrix is then dropped, and the engine serves later calls as before.
 ///
 /// The clause `engine` of each call tells what is left of the engine, in the engine's own `facts`: what
@@ -271,8 +271,8 @@ pub trait TwoAdicSubgroupDft<F: TwoAdicField>: Clone + Default {
     /// not called, so that nothing was published, and comes back. A block is a chunk of so many rows of
     /// the output's physical matrix; the consumer is told the number of the first. When it refuses a
     /// block no further one is lent, and it comes back with the refusal. The order of the blocks is not
-    /// promised. The engines of this crate call `make_consumer` after `transform` and after the last
-    /// request for memory, which a test shows of the one and `unpublished` of the other.
+    /// promised. The engines of this crate call `make_consumer` after `transform`, which a test shows, and
+    /// after the last request for memory, which follows from `unpublished`.
     fn coset_lde_batch_with_blocks<
         N: IntoRowMajorMatrix<F>,
         T: FnOnce(RowMajorMatrix<F>, Layout) -> RowMajorMatrix<F> + Drop,
