@@ -1,15 +1,16 @@
 -- What a caller knows of its consumer after an extension with blocks: that one which never refuses was not refused with, and what those of this crate hold.
-use Rattle.std.proofs.Common.{◌≡◌, ℕ, zero, suc, ◌+◌, ◌*◌, ◌-◌, ◌/◌, ◌%◌, ◌<◌, ◌≤◌, List, [], ◌∷◌, ◌++◌, length, take, drop, map, true, false, Result, Ok, Err, sym, ap, ap₂, ◌∙◌, subst, arith, rules, add-one, get_or, ⊎_elim}
-use Rattle.std.specs.List.{list_any, sum_by}
+use Rattle.std.proofs.Common.{◌≡◌, ℕ, zero, suc, ◌+◌, ◌*◌, ◌-◌, ◌/◌, ◌%◌, ◌<◌, ◌≤◌, ◌⊎◌, inl, inr, List, [], ◌∷◌, ◌++◌, length, take, drop, map, true, false, Result, Ok, Err, refl, sym, ap, ap₂, ◌∙◌, subst, arith, rules, add-one, get_or, ⊎_elim}
+use Rattle.std.specs.List.{All, Contains, list_any, sum_by}
 use Rattle.std.specs.Prelude.{⊤}
 use Rattle.std.proofs.Math.Dec.{eqb}
 use Rattle.std.proofs.lemmas.Bool.{cases_lt}
 use Rattle.std.proofs.lemmas.Bool.Decides.{Decides-eqb, eqb_tells}
-use Rattle.std.proofs.Math.Nat.{mul-le-mul_right, div-lt_iff_lt-mul, div-mul-le_self, mul_assoc, suc-mul}
+use Rattle.std.proofs.Math.Nat.{mul-le-mul_right, div-lt_iff_lt-mul, div-mul-le_self, div-zero, mod-zero, mul-div_cancel, mul_assoc, suc-mul}
 use Rattle.std.proofs.lemmas.List.{append-nil, append_assoc, get_or-map, length-map, places}
+use Rattle.std.proofs.lemmas.List.Elements.{Contains-get_or}
 use Rattle.std.proofs.lemmas.List.Folds.{Any-from_list_any}
-use Rattle.std.proofs.lemmas.List.FromFn.{length-map-range_with_len, sum_by-map-range_with_len_more}
-use Rattle.std.proofs.lemmas.List.Sorted.{length_permutation, sum_by-IsPermutation}
+use Rattle.std.proofs.lemmas.List.FromFn.{get_or-map-range_with_len, length-map-range_with_len, sum_by-map-range_with_len_more}
+use Rattle.std.proofs.lemmas.List.Sorted.{All-permutation, Contains-permutation, length_permutation, sum_by-IsPermutation}
 use Rattle.std.proofs.lemmas.List.Sums.{sum_by-cons}
 use Rattle.std.proofs.lemmas.Map.Made.{IsDistinct-from_AllPairs}
 use Rattle.std.proofs.lemmas.Map.Steps.{length-le_from_distinct_below}
@@ -17,7 +18,7 @@ use Rattle.std.proofs.lemmas.Nat.{div-add-mod'}
 use Rattle.p3_matrix.specs.Blocks.{AreBlocksOf, IsBlockOf, IsPartition, IsPublished, IsRefused, Run, block, first_blocks}
 use Rattle.p3_matrix.specs.Consumers.{IsCounted, IsRecorded, Limited, Recording}
 use Rattle.p3_matrix.specs.Matrix.{Matrix}
-use Rattle.p3_matrix.specs.RowMajor.{RowMajor, height}
+use Rattle.p3_matrix.specs.RowMajor.{RowMajor, height, rows_from}
 use Rattle.p3_matrix.specs.declared.blocks.BlockRefused.{BlockRefused}
 
 -- a consumer that refuses no block was not refused with
@@ -41,6 +42,57 @@ whole_number start b multiple = omega (arith, div-add-mod' start b, multiple)
 -- a test of equality that answers true
 eqb_same : (q n : ℕ) → eqb q n ≡ true → q ≡ n
 eqb_same q n told = ⊎_elim (λ same. same.1) (λ other. search (rules, told)) (eqb_tells q n)
+
+-- a number that divides something into parts is not zero
+pub divisor : (b h q : ℕ) → q < h / b → 1 ≤ b
+divisor zero h q l = absurd (omega (arith, div-zero h))
+divisor (suc b) h q l = omega arith
+
+-- a row of a matrix of whole blocks lies in one of them
+pub within_blocks : (b h i : ℕ) → h % b ≡ 0 → i < h → i / b < h / b
+within_blocks zero h i divides below = absurd (omega (arith, mod-zero h, divides, below))
+within_blocks (suc b) h i divides below = (div-lt_iff_lt-mul (omega arith)).1 (omega (arith, div-add-mod' h (suc b), divides, below))
+
+module _ {C T R : Type 0} (step : C → ℕ → RowMajor T → Result ⊤ R → C → Type 0) (IsRight : C → Type 0) (Has : ℕ → C → Type 0) (b : ℕ) (m : RowMajor T)
+    (next : (q : ℕ) (c e : C) → q < height m / b → IsRight c → step c (q * b) (rows_from m (q * b) b) (Ok tt) e → IsRight e × ((p : ℕ) → p < height m / b → (p ≡ q) ⊎ Has p c → Has p e)) where
+  abbrev IsBlock : ℕ × RowMajor T → Type 0
+  IsBlock p = (q : ℕ) × (q < height m / b) × (block b m q ≡ p)
+
+  after_blocks : (blocks : List (ℕ × RowMajor T)) (c e : C) → All IsBlock blocks → IsRight c → Run step c blocks e
+      → IsRight e × ((p : ℕ) → p < height m / b → Has p c ⊎ Contains blocks (block b m p) → Has p e)
+  after_blocks [] c e each right run =
+      (subst IsRight run right, λ p below. ⊎_elim (λ has. subst (Has p) run has) (λ inside. absurd (omega (arith, inside.1))))
+  after_blocks (x ∷ xs) c e each right (d, told, run) =
+      let (q, low, is) : IsBlock x = each 0 x (omega arith) in
+      let one = next q c d low right (subst (λ n. step c n.0 n.1 (Ok tt) d) (sym is) told) in
+      let rest = after_blocks xs d e (λ i y inside. each (suc i) y (omega (arith, inside))) one.0 run in (
+        rest.0,
+        λ p below.
+            ⊎_elim (λ has. rest.1 p below (inl (one.1 p below (inr has))))
+            (λ inside. at q low is one.1 rest.1 p below inside),
+      )
+    where
+      at : (q : ℕ) → q < height m / b → block b m q ≡ x → ((p : ℕ) → p < height m / b → (p ≡ q) ⊎ Has p c → Has p d) → ((p : ℕ) → p < height m / b → Has p d ⊎ Contains xs (block b m p) → Has p e)
+          → (p : ℕ) → p < height m / b → Contains (x ∷ xs) (block b m p) → Has p e
+      at q low is one rest p below (zero, inside, found) =
+          let some = divisor b (height m) q low in
+          rest p below (inl (one p below (inl (sym (mul-div_cancel p some) ∙ ap (λ n. n.0 / b) (sym (is ∙ found)) ∙ mul-div_cancel q some))))
+      at q low is one rest p below (suc k, inside, found) = rest p below (inr (k, omega (arith, inside), found))
+
+  -- what the step of a block brings and no other takes away holds of all blocks
+  pub of_all_blocks : (may_make : C → Type 0) (last : C) → ((c : C) → may_make c → IsRight c) → IsPublished step may_make b m last
+      → IsRight last × ((q : ℕ) → q < height m / b → Has q last)
+  of_all_blocks may_make last new x =
+      let n = height m / b in
+      let first_are : All IsBlock (first_blocks b m n) = λ q e inside.
+      let low : q < n = omega (arith, inside, length-map-range_with_len (block b m) 0 n) in
+      subst IsBlock (sym (get_or-map-range_with_len (block b m) 0 n q q e low (omega arith))) (q, low, refl) in
+      let done = after_blocks x.blocks x.first last (All-permutation IsBlock _ _ x.parts.each_once first_are) (new x.first x.made) x.run in (
+        done.0,
+        λ q low. done.1 q low (inr (Contains-permutation _ _ _ x.parts.each_once
+            (subst (Contains (first_blocks b m n)) (get_or-map-range_with_len (block b m) 0 n q q (block b m 0) low (omega arith))
+            (Contains-get_or (first_blocks b m n) q (block b m 0) (omega (arith, low, length-map-range_with_len (block b m) 0 n)))))),
+      )
 
 module _ {T : Type 0} where
   -- how many entries the rows of a block have
