@@ -4,7 +4,8 @@
 //! Proved: each call has a shape that fits and a shift with an inverse, and so may be made. There is no proof
 //! file.
 
-ghost use Rattle.std.specs.Prelude.{IfOk, IfSome};
+ghost use Rattle.std.specs.Prelude.{IfOk, IfSome, IsNone};
+ghost use Rattle.p3_field.specs.Ring.{IsInvertible};
 ghost use Rattle.p3_matrix.specs.RowMajor.{height};
 ghost use Rattle.p3_dft.specs.Shapes.{FitsDft};
 ghost use Rattle.p3_dft.specs.Transforms.{IsInterpolation};
@@ -65,8 +66,9 @@ pub fn from_shift<F: TwoAdicField, D: TwoAdicSubgroupDft<F>>(
     shift: F,
 ) -> Option<Result<RowMajorMatrix<F>, DftError>>
     requires { FitsDft F.TWO_ADICITY (height values) values.width }
-    ensures { IfSome result (λ answer. IfOk answer (λ out.
+    ensures coefficients { IfSome result (λ answer. IfOk answer (λ out.
         IsInterpolation F.Field.own F.generator values (F.value shift) out)) }
+    ensures none { IsNone result → ¬ (IsInvertible F.ring (F.value shift)) }
 {
     if shift.try_inverse().is_none() {
         return None;

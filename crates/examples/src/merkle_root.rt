@@ -5,9 +5,10 @@
 //! root is the tree over these leaves, whatever the order in which the engine lends its blocks. So it depends
 //! on the rows alone: two engines have one root.
 
-ghost use Rattle.std.specs.Prelude.{◌≡◌, ◌^◌, IfOk, get_or, length};
+ghost use Rattle.std.specs.Prelude.{◌≡◌, ℕ, ◌^◌, IfOk, get_or, length};
 ghost use Rattle.p3_matrix.specs.BitOrder.{reversed_rows};
-ghost use Rattle.p3_matrix.specs.RowMajor.{height, row};
+ghost use Rattle.p3_matrix.specs.RowMajor.{RowMajor, height, row};
+ghost use Rattle.p3_dft.specs.Engines.{IsLater};
 ghost use Rattle.p3_dft.specs.Extensions.{IsExtension};
 ghost use Rattle.p3_dft.specs.Shapes.{FitsLde};
 ghost use Rattle.examples.specs.MerkleTrees.{AreDigests, tree};
@@ -136,6 +137,7 @@ fn hashed_extension<F: TwoAdicField, D: TwoAdicSubgroupDft<F>, H: RowHash<F>>(
     ensures extension { IfOk result (λ p.
         IsExtension F.Field.own F.generator mat added_bits (F.value shift) (reversed_rows p.0.bits p.0.physical)) }
     ensures leaves { IfOk result (λ p. AreDigests H.worth (H.of_row hash.now) p.0.physical p.1.items) }
+    ensures later { IsLater D.facts engine.old engine.new }
 {
     let count = extended_height::<F>(mat.height(), mat.width(), added_bits);
     // Each place is written once, so any digest will do.
@@ -206,13 +208,14 @@ pub fn merkle_root<F: TwoAdicField, D: TwoAdicSubgroupDft<F>, H: RowHash<F>>(
     ensures leaves { IfOk result (λ c. AreDigests H.worth (H.of_row hash.now) c.rows.physical c.leaves.items) }
     ensures root { IfOk result (λ c. H.worth c.root
         ≡ tree (H.of_pair hash.now) c.rows.bits (λ i. H.of_row hash.now (row c.rows.physical i))) }
+    ensures later { IsLater D.facts engine.old engine.new }
 {
     let (rows, leaves) = hashed_extension(engine, hash, mat, added_bits, shift)?;
     let root = root_over::<F, H>(hash, &leaves, log2_strict_usize(rows.height()));
     Ok(Commitment { rows, leaves, root })
 }
 
-/// The roots that two engines have for one matrix.
+/// The roots that two engines have for one matrix: that of its extension, twice.
 pub fn roots_of_two<
     F: TwoAdicField,
     D: TwoAdicSubgroupDft<F>,
@@ -227,7 +230,12 @@ pub fn roots_of_two<
     shift: F,
 ) -> Result<(H::Digest, H::Digest), DftError>
     requires { FitsLde F.TWO_ADICITY (height mat) mat.width added_bits }
-    ensures { IfOk result (λ p. H.worth p.0 ≡ H.worth p.1) }
+    ensures root { IfOk result (λ p. (k : ℕ) × (rows : RowMajor F)
+        × IsExtension F.Field.own F.generator mat added_bits (F.value shift) (reversed_rows k rows)
+        × (H.worth p.0 ≡ tree (H.of_pair hash.now) k (λ i. H.of_row hash.now (row rows i)))) }
+    ensures one { IfOk result (λ p. H.worth p.0 ≡ H.worth p.1) }
+    ensures later { IsLater D.facts one.old one.new }
+    ensures later_too { IsLater E.facts other.old other.new }
 {
     let copy = mat.try_clone()?;
     let made = merkle_root(one, hash, mat, added_bits, shift)?;

@@ -207,7 +207,7 @@ impl<F: Field> BlockConsumer<F> for LimitedSum<F> {
 }
 
 /// The sum of the entries of so many blocks of an extension: of each block those of its rows, and no block
-/// twice. There is none where the extension has no more blocks than that.
+/// twice. There is none only where the extension has no more blocks than that.
 pub fn sum_of_first_blocks<F: TwoAdicField, D: TwoAdicSubgroupDft<F>>(
     engine: &mut D,
     mat: RowMajorMatrix<F>,

@@ -1,13 +1,14 @@
-// Worked roots.
+// Worked roots, numbers and texts.
 //
 // The numbers were worked out by a program in Python from the definitions alone. Coefficient j of a column of n
 // values is `sum(v[i] * g^(-i * j)) / n`, and row i of the extension has the values of these polynomials at
 // `31 * h^i`, where g and h are powers of 440564289, whose order is 2^27. Leaf r is the digest of the row whose
 // number has the digits of r in reverse, and neighbours are joined until one is left.
 
+use crate::field_forms::{aligned_text_of, geometric_sum, line_at, text_of, total_of_squares};
 use crate::merkle_root::{HornerHash, merkle_root, roots_of_two};
 use p3_dft::{
-    BabyBear, CanonicalField, Field, NaiveDft, Radix2DitParallel, RowMajorMatrix,
+    BabyBear, CanonicalField, Field, Goldilocks, NaiveDft, Radix2DitParallel, RowMajorMatrix,
     TwoAdicSubgroupDft, fits_lde,
 };
 use std::alloc::Global;
@@ -115,4 +116,18 @@ fn one_root(rt: HostRuntime) {
         let (one, other) = roots.expect(&rt, "memory");
         assert!(rt; one == other);
     }
+}
+
+// 3 * 5 + 2, 1 + 4 + 9, and 1 + 2 + 4 + 8 + 16.
+#[test]
+fn elements_have_the_worked_numbers_and_texts(rt: HostRuntime) {
+    let alloc = rt.alloc();
+    assert!(rt; line_at(Goldilocks::from_u8(5)) == Goldilocks::from_u8(17));
+    let numbers = [1u8, 2, 3].map(|n: u8| -> BabyBear { BabyBear::from_u8(n) });
+    assert!(rt; total_of_squares(&numbers) == BabyBear::from_u8(14));
+    assert!(rt; geometric_sum(BabyBear::TWO, 5) == BabyBear::from_u8(31));
+    let pair = [BabyBear::from_u8(9), BabyBear::from_u8(5)];
+    assert!(rt; text_of(alloc, &pair).expect(&rt, "memory").as_str() == "[9, 5]");
+    let text = aligned_text_of(alloc, Goldilocks::from_u8(7)).expect(&rt, "memory");
+    assert!(rt; text.as_str() == "       7");
 }

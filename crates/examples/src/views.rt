@@ -2,7 +2,7 @@
 //!
 //! Proved, with no proof file: each is the row of the extension that it is asked for.
 
-ghost use Rattle.std.specs.Prelude.{◌≡◌, ◌<◌, IfOk, IfSome};
+ghost use Rattle.std.specs.Prelude.{◌≡◌, ◌<◌, ◌≤◌, IfOk, IfSome, IsNone};
 ghost use Rattle.p3_matrix.specs.BitOrder.{reversed_rows};
 ghost use Rattle.p3_matrix.specs.RowMajor.{height, row};
 ghost use Rattle.p3_dft.specs.Extensions.{IsExtension};
@@ -50,6 +50,7 @@ pub fn opened_extension<F: TwoAdicField>(
         IsExtension F.Field.own F.generator mat added_bits (F.value shift) (reversed_rows p.0.bits p.0.physical)) }
     ensures opened { IfOk result (λ p.
         IfSome p.1 (λ opened. opened.items ≡ row (reversed_rows p.0.bits p.0.physical) i)) }
+    ensures none { IfOk result (λ p. IsNone p.1 → height p.0.physical ≤ i) }
 {
     let extension = engine.coset_lde_batch(mat, added_bits, shift)?;
     if i >= extension.height() {

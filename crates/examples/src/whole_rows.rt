@@ -11,6 +11,7 @@ ghost use Rattle.p3_matrix.specs.Cosets.{AreCoefficients, IsValues, values_of};
 ghost use Rattle.p3_dft.specs.Engines.{AtLog};
 ghost use Rattle.p3_dft.specs.Extensions.{IsExtension};
 ghost use Rattle.p3_dft.specs.Shapes.{FitsDft, FitsLde};
+ghost use Rattle.p3_dft.specs.Transforms.{IsTransform};
 
 use p3_dft::{DftError, Layout, Radix2Dit, RowMajorMatrix, TwoAdicField, TwoAdicSubgroupDft};
 
@@ -82,7 +83,9 @@ pub fn counted_transform<F: TwoAdicField, D: TwoAdicSubgroupDft<F>>(
     mat: RowMajorMatrix<F>,
 ) -> Result<D::Evaluations, DftError>
     requires { FitsDft F.TWO_ADICITY (height mat) mat.width }
-    ensures { AtLog (height mat) (λ k. D.facts.products_made engine.new
+    ensures values { IfOk result (λ out.
+        IsTransform F.Field.own F.generator mat F.ring.one (D.Evaluations.natural out)) }
+    ensures cost { AtLog (height mat) (λ k. D.facts.products_made engine.new
         ≤ D.facts.products_made engine.old + D.facts.transform_products k mat.width) }
 {
     engine.dft_batch(mat)

@@ -33,8 +33,8 @@ two_roots f generator bits are_roots join of law m added s i j a b fits whole hi
     (same_sym _ _ (physical_values f j n b (reversed_rows j b) other tall refl long_too))) in
     one_root f join of law i a b whole other high same ∙ ap (λ k. tree join k (λ r. of (row b r))) log
 
-pub returns : goal.returns
-returns g c =
+pub returns-clause-one : goal.returns-clause-one
+returns-clause-one g c =
     let hash = c.args.hash.now in
     c.in_ok-made.ensures.root
     ∙ two_roots g.F.Field g.F.TwoAdicField.generator _ g.met.F.TwoAdicField.roots_law (g.H.RowHash.of_pair hash) (g.H.RowHash.of_row hash) (g.met.H.RowHash.row_law hash) c.args.mat
@@ -43,3 +43,6 @@ returns g c =
     c.height-whole_too.ensures.whole (sym c.height-whole_too.ensures.height ∙ c.height-whole_too.ensures.power)
     c.in_ok-made.ensures.extension (rw (sym c.in_ok-copy.ensures) c.in_ok-again.ensures.extension)
     ∙ sym c.in_ok-again.ensures.root
+
+pub returns-clause-root : goal.returns-clause-root
+returns-clause-root g c = (c.in_ok-made.made.rows.bits, c.in_ok-made.made.rows.physical, c.in_ok-made.ensures.extension, c.in_ok-made.ensures.root)
