@@ -10,6 +10,16 @@ pub enum Call {
     CosetLde,
 }
 
+impl Call {
+    /// How many bits it adds, of those that the words name: a transform adds none.
+    pub fn added_bits(self, named: usize) -> usize {
+        match self {
+            Call::CosetLde => named,
+            _ => 0,
+        }
+    }
+}
+
 /// How often a call is made.
 #[derive(Clone, Copy)]
 pub enum Calls {
@@ -36,6 +46,11 @@ fn power_of_two(log: usize) -> usize {
 }
 
 impl Case {
+    /// How many rows the input has, or zero where a `usize` does not hold the number.
+    pub fn height(self) -> usize {
+        power_of_two(self.log_height)
+    }
+
     /// How many rows the answer has, or zero where a `usize` does not hold the number.
     pub fn answer_height(self) -> usize {
         match self.call {

@@ -62,6 +62,10 @@ fn once<F: CanonicalField, D: TwoAdicSubgroupDft<F>>(
     engine: &mut D,
     case: Case,
 ) -> Result<(u64, u64), Fault> {
+    // Before any entry is made, so that a shape that never fits takes no memory.
+    if !fits_lde::<F>(case.height(), case.width, case.added_bits) {
+        return Err(Fault::UnfitShape);
+    }
     let Some(mat) = case.input::<F>(rt.alloc())? else {
         return Err(Fault::UnfitShape);
     };

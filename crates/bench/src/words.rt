@@ -54,13 +54,18 @@ impl Request {
         let [field, call, log_height, width, added_bits, calls] = words else {
             return Err(Fault::Words);
         };
+        let field = FieldName::of(field.as_str()).ok_or(Fault::UnknownField)?;
+        let call = call_named(call.as_str()).ok_or(Fault::UnknownCall)?;
+        let log_height = number(log_height.as_str())?;
+        let width = number(width.as_str())?;
+        let added_bits = number(added_bits.as_str())?;
         Ok(Request {
-            field: FieldName::of(field.as_str()).ok_or(Fault::UnknownField)?,
+            field,
             case: Case {
-                call: call_named(call.as_str()).ok_or(Fault::UnknownCall)?,
-                log_height: number(log_height.as_str())?,
-                width: number(width.as_str())?,
-                added_bits: number(added_bits.as_str())?,
+                call,
+                log_height,
+                width,
+                added_bits: call.added_bits(added_bits),
                 calls: calls_of(calls.as_str())?,
             },
         })
