@@ -26,8 +26,7 @@ returns-clause-values g c k high =
     high given.shape.0 given.shape.1
     (λ i j below inside. ap field.value (given.rows i j below inside))
     (λ i r j below some less inside. ap field.value (given.others i r j below some less inside) ∙ g.met.F.Field.zero_law)
-    (c.in_ok-evaluate_to_natural.ensures.values (k + a)
-    (given.shape.0 ∙ ap (λ h. h * 2 ^ a) high ∙ sym (pow-add 2 k a)))
+    (c.in_ok-evaluate_to_natural.ensures.values (k + a) (given.shape.0 ∙ ap (λ h. h * 2 ^ a) high ∙ sym (pow-add 2 k a)))
 
 pub returns-clause-cost : goal.returns-clause-cost
 returns-clause-cost g c k high =

@@ -12,8 +12,7 @@ returns-clause-coefficients g c k high =
     let multiples = c.interpolate_unscaled_to_reversed.new.mat in
     let shape = c.in_ok-interpolate_unscaled_to_reversed.ensures.shape in
     let tall : height multiples ≡ 2 ^ k = shape.0 ∙ high in
-    c.in_ok-interpolate_unscaled_to_reversed.ensures.coefficients k high
-    (bit_reversal k (values_of field c.divide_rows.new.mat))
+    c.in_ok-interpolate_unscaled_to_reversed.ensures.coefficients k high (bit_reversal k (values_of field c.divide_rows.new.mat))
     (reversed_quotient field.ring k (2 ^ k) (values_of field multiples) (values_of field c.divide_rows.new.mat) tall
     (subst (λ (n : ℕ). IsQuotient field.ring n (values_of field multiples) (values_of field c.divide_rows.new.mat)) tall c.divide_rows.ensures.divided))
 

@@ -26,8 +26,7 @@ returns-clause-values g c =
     let high : height m ≡ 2 ^ log = sym c.height.ensures.height ∙ c.log2_strict_usize-log_h.ensures.power in
     let multiples = bit_reversal log (values_of field c.interpolate_unscaled_to_reversed.new.mat) in
     let shifted = bit_reversal log (values_of field c.weigh_reversed_rows.new.mat) in
-    let tall : height c.interpolate_unscaled_to_reversed.new.mat ≡ 2 ^ log =
-    c.in_ok-interpolate_unscaled_to_reversed.ensures.shape.0 ∙ high in
+    let tall : height c.interpolate_unscaled_to_reversed.new.mat ≡ 2 ^ log = c.in_ok-interpolate_unscaled_to_reversed.ensures.shape.0 ∙ high in
     let same = c.in_ok-weigh_reversed_rows.ensures.rows log tall in
     let undone : field.ring.mul (count field.ring (2 ^ log)) inverse ≡ field.ring.one =
     ap (λ x. field.ring.mul x inverse) (count-power_of_two field.ring log) ∙ c.div_2exp_u64-inverse.ensures ∙ ap field.value c.ONE.ensures ∙ g.met.F.Field.one_law in
@@ -57,8 +56,7 @@ returns-clause-cost g c k e =
     (within_extension bound k a w c.args.self.now c.extend_to_natural.new.products
     (weighed_counted _ _ _ _ _ _ _ (scaled_counted _ _ _ _ _ _ first c.weigh_reversed_rows.ensures.cost entries) last wide))
 
-pub returns-in_err-interpolate_unscaled_to_reversed-clause-cost :
-    goal.returns-in_err-interpolate_unscaled_to_reversed-clause-cost
+pub returns-in_err-interpolate_unscaled_to_reversed-clause-cost : goal.returns-in_err-interpolate_unscaled_to_reversed-clause-cost
 returns-in_err-interpolate_unscaled_to_reversed-clause-cost g c k e =
     let m = c.into_row_major_matrix-mat.result in
     let bound = λ (n w : ℕ). w * (n * 2 ^ n / 2) in
@@ -102,8 +100,7 @@ returns-then-log_h-added_bits-eq0-clause-values g c =
     rw (← c.into_row_major_matrix-mat.ensures)
     (extension_of_row g.F.Field g.F.TwoAdicField.generator c.into_row_major_matrix-mat.result c.args.added_bits (g.F.Field.value c.args.shift) one (omega (arith, c.if-log_h-added_bits-eq0.true)))
 
-pub returns-in_err-interpolate_unscaled_to_reversed-clause-one_row :
-    goal.returns-in_err-interpolate_unscaled_to_reversed-clause-one_row
+pub returns-in_err-interpolate_unscaled_to_reversed-clause-one_row : goal.returns-in_err-interpolate_unscaled_to_reversed-clause-one_row
 returns-in_err-interpolate_unscaled_to_reversed-clause-one_row g c one none =
     absurd (more_points c.height.result c.log2_strict_usize-log_h.result c.args.added_bits c.log2_strict_usize-log_h.ensures.power c.if-log_h-added_bits-eq0.false
     (c.height.ensures.height ∙ ap height c.into_row_major_matrix-mat.ensures ∙ one) none)

@@ -13,8 +13,7 @@ use Rattle.p3_matrix.proofs.TwoPowers.{log_within, more_points}
 use Rattle.p3_dft.proofs.radix_2_bowers.Radix2BowersTwoAdicSubgroupDft.coset_lde_batch_with_transform.Goals as goal
 
 pub interpolate_to_reversed-requires : goal.interpolate_to_reversed-requires
-interpolate_to_reversed-requires g c =
-    record { fits = rw c.into_row_major_matrix-mat.ensures (input_fits _ _ _ _ c.requires.fits) }
+interpolate_to_reversed-requires g c = record { fits = rw c.into_row_major_matrix-mat.ensures (input_fits _ _ _ _ c.requires.fits) }
 
 pub extend_to_natural-requires : goal.extend_to_natural-requires
 extend_to_natural-requires g c =
@@ -93,15 +92,13 @@ returns-in_err-weigh_reversed_rows-clause-cost g c k e =
 pub transform-changed-requires : goal.transform-changed-requires
 transform-changed-requires g c =
     let stored = ap height c.into_row_major_matrix-mat.ensures in
-    let are =
-    c.in_ok-interpolate_to_reversed.ensures.coefficients c.requires.fits.log (stored ∙ c.requires.fits.high) in
+    let are = c.in_ok-interpolate_to_reversed.ensures.coefficients c.requires.fits.log (stored ∙ c.requires.fits.high) in
     c.requires.callable c.interpolate_to_reversed.new.mat c.in_ok-interpolate_to_reversed.ensures.whole (are.high ∙ stored, are.wide ∙ ap (λ (n : RowMajor g.row.F.Denot). n.width) c.into_row_major_matrix-mat.ensures)
 
 pub weigh_reversed_rows-requires : goal.weigh_reversed_rows-requires
 weigh_reversed_rows-requires g c =
     let stored = ap height c.into_row_major_matrix-mat.ensures in
-    let are =
-    c.in_ok-interpolate_to_reversed.ensures.coefficients c.requires.fits.log (stored ∙ c.requires.fits.high) in
+    let are = c.in_ok-interpolate_to_reversed.ensures.coefficients c.requires.fits.log (stored ∙ c.requires.fits.high) in
     let shape =
     c.requires.shape c.interpolate_to_reversed.new.mat c.transform-changed.result
     c.in_ok-interpolate_to_reversed.ensures.whole

@@ -51,11 +51,9 @@ returns-clause-one_row g c one = absurd (c.if-height-eq1.false (c.height.ensures
 pub returns-clause-cost : goal.returns-clause-cost
 returns-clause-cost g c k high =
     let width : c.into_row_major_matrix-mat.result.width ≡ (g.N.IntoRowMajorMatrix.stored c.args.mat).width = ap (λ (m : RowMajor g.row.F.Denot). m.width) c.into_row_major_matrix-mat.ensures in
-    rw (← c.self.view_is, ← width) (c.interpolate_to_reversed.ensures.cost k
-    (ap height c.into_row_major_matrix-mat.ensures ∙ high))
+    rw (← c.self.view_is, ← width) (c.interpolate_to_reversed.ensures.cost k (ap height c.into_row_major_matrix-mat.ensures ∙ high))
 
 pub returns-in_err-interpolate_to_reversed-clause-cost : goal.returns-in_err-interpolate_to_reversed-clause-cost
 returns-in_err-interpolate_to_reversed-clause-cost g c k high =
     let width : c.into_row_major_matrix-mat.result.width ≡ (g.N.IntoRowMajorMatrix.stored c.args.mat).width = ap (λ (m : RowMajor g.row.F.Denot). m.width) c.into_row_major_matrix-mat.ensures in
-    rw (← c.self.view_is, ← width) (c.interpolate_to_reversed.ensures.cost k
-    (ap height c.into_row_major_matrix-mat.ensures ∙ high))
+    rw (← c.self.view_is, ← width) (c.interpolate_to_reversed.ensures.cost k (ap height c.into_row_major_matrix-mat.ensures ∙ high))

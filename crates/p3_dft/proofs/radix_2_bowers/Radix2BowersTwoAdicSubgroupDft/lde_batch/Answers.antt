@@ -11,8 +11,7 @@ use Rattle.p3_matrix.proofs.TwoPowers.{log_within, more_points}
 use Rattle.p3_dft.proofs.radix_2_bowers.Radix2BowersTwoAdicSubgroupDft.lde_batch.Goals as goal
 
 pub interpolate_to_reversed-requires : goal.interpolate_to_reversed-requires
-interpolate_to_reversed-requires g c =
-    record { fits = rw c.into_row_major_matrix-mat.ensures (input_fits _ _ _ _ c.requires.fits) }
+interpolate_to_reversed-requires g c = record { fits = rw c.into_row_major_matrix-mat.ensures (input_fits _ _ _ _ c.requires.fits) }
 
 pub returns-clause-values : goal.returns-clause-values
 returns-clause-values g c =
@@ -33,8 +32,7 @@ returns-clause-cost g c k e =
     let width = ap (λ (m : RowMajor g.row.F.Denot). m.width) c.into_row_major_matrix-mat.ensures in
     let tall : height c.into_row_major_matrix-mat.result ≡ 2 ^ k = ap height c.into_row_major_matrix-mat.ensures ∙ e in
     let are = c.in_ok-interpolate_to_reversed.ensures.coefficients k tall in
-    let wide : c.interpolate_to_reversed.new.mat.width ≡ (g.N.IntoRowMajorMatrix.stored c.args.mat).width =
-    are.wide ∙ width in
+    let wide : c.interpolate_to_reversed.new.mat.width ≡ (g.N.IntoRowMajorMatrix.stored c.args.mat).width = are.wide ∙ width in
     let first = rw (c.self.view_is, width) at (c.interpolate_to_reversed.ensures.cost k tall) in
     let second = rw wide at (c.extend_to_natural.ensures.cost k (are.high ∙ tall)) in
     within_extension (λ n w. w * (n * 2 ^ n / 2)) k c.args.added_bits (g.N.IntoRowMajorMatrix.stored c.args.mat).width c.args.self.now c.extend_to_natural.new.products

@@ -101,8 +101,7 @@ returns-clause-cost g c k e =
     subst (λ (v : ℕ). c.coefficients_with_room-room.new.products ≤ c.args.self.now.roots.products + v * x + 2 ^ k * v) width
     (subst (λ (b : ℕ). c.coefficients_with_room-room.new.products ≤ b + m.width * x + 2 ^ k * m.width) products (c.coefficients_with_room-room.ensures.cost k (stored ∙ e))) in
     let second : c.extend_reversed-extended.new.products ≤ c.coefficients_with_room-room.new.products + 2 ^ a *
-    (w * x) =
-    subst (λ (n : ℕ). c.extend_reversed-extended.new.products ≤ c.coefficients_with_room-room.new.products + 2 ^ a * (w * (n * 2 ^ n / 2))) same
+    (w * x) = subst (λ (n : ℕ). c.extend_reversed-extended.new.products ≤ c.coefficients_with_room-room.new.products + 2 ^ a * (w * (n * 2 ^ n / 2))) same
     (subst (λ (v : ℕ). c.extend_reversed-extended.new.products ≤ c.coefficients_with_room-room.new.products + 2 ^ a * (v * (log * 2 ^ log / 2))) grown c.extend_reversed-extended.ensures.cost) in
     slots_counted x (2 ^ k) (2 ^ a) w _ _ _ first second
 
@@ -173,8 +172,7 @@ returns-in-Err-extended-clause-cost g c k e =
     subst (λ (v : ℕ). c.coefficients_with_room-room.new.products ≤ c.args.self.now.roots.products + v * x + 2 ^ k * v) width
     (subst (λ (b : ℕ). c.coefficients_with_room-room.new.products ≤ b + m.width * x + 2 ^ k * m.width) products (c.coefficients_with_room-room.ensures.cost k (stored ∙ e))) in
     let second : c.extend_reversed-extended.new.products ≤ c.coefficients_with_room-room.new.products + 2 ^ a *
-    (w * x) =
-    subst (λ (n : ℕ). c.extend_reversed-extended.new.products ≤ c.coefficients_with_room-room.new.products + 2 ^ a * (w * (n * 2 ^ n / 2))) same
+    (w * x) = subst (λ (n : ℕ). c.extend_reversed-extended.new.products ≤ c.coefficients_with_room-room.new.products + 2 ^ a * (w * (n * 2 ^ n / 2))) same
     (subst (λ (v : ℕ). c.extend_reversed-extended.new.products ≤ c.coefficients_with_room-room.new.products + 2 ^ a * (v * (log * 2 ^ log / 2))) grown c.extend_reversed-extended.ensures.cost) in
     slots_counted x (2 ^ k) (2 ^ a) w _ _ _ first second
 

@@ -12,8 +12,7 @@ use Rattle.p3_networks.proofs.Tables.RootPowers.{are_roots, fewer_roots, low_tab
 use Rattle.p3_dft.proofs.radix_2_dit_parallel.transform.transform_to_reversed.Goals as goal
 
 pub network_to_reversed-requires-clause-high : goal.network_to_reversed-requires-clause-high
-network_to_reversed-requires-clause-high g c l from below =
-    c.high.ensures.table.size l (omega (arith, below, c.requires.there))
+network_to_reversed-requires-clause-high g c l from below = c.high.ensures.table.size l (omega (arith, below, c.requires.there))
 
 pub returns-clause-values : goal.returns-clause-values
 returns-clause-values g c r j p q =

@@ -46,8 +46,7 @@ make-requires-clause-small g c =
     (c.height.ensures.height ∙ ap height c.into_row_major_matrix-mat.ensures ∙ c.requires.fits.high) (output_log_small _ _ _ _ c.requires.fits) in
     omega (arith, small)
 
-pub interpolate_unscaled_to_reversed-requires-clause-within :
-    goal.interpolate_unscaled_to_reversed-requires-clause-within
+pub interpolate_unscaled_to_reversed-requires-clause-within : goal.interpolate_unscaled_to_reversed-requires-clause-within
 interpolate_unscaled_to_reversed-requires-clause-within g c =
     let within = log_within c.log2_strict_usize-log_h.result c.args.added_bits _ c.requires.fits.log c.height.result c.log2_strict_usize-log_h.ensures.power
     (c.height.ensures.height ∙ ap height c.into_row_major_matrix-mat.ensures ∙ c.requires.fits.high) c.requires.fits.within in
@@ -123,8 +122,7 @@ returns-clause-fewer g c k high =
     let x = log * 2 ^ log / 2 in
     let same : log ≡ k = log_same log k (sym c.log2_strict_usize-log_h.ensures.power ∙ c.height.ensures.height ∙ ap height c.into_row_major_matrix-mat.ensures ∙ high) in
     let products : c.self.inside.products ≡ c.args.self.now.products = ap (λ e. e.products) c.self.view_is in
-    let second : c.extend_to_natural.new.products ≤ c.interpolate_unscaled_to_reversed.new.products + w *
-    (2 ^ a * x + 2 ^ (log + a)) =
+    let second : c.extend_to_natural.new.products ≤ c.interpolate_unscaled_to_reversed.new.products + w * (2 ^ a * x + 2 ^ (log + a)) =
     subst (λ (v : ℕ). c.extend_to_natural.new.products ≤ c.interpolate_unscaled_to_reversed.new.products + v * (2 ^ a * x + 2 ^ (log + a))) c.interpolate_unscaled_to_reversed.ensures.shape.1 c.extend_to_natural.ensures.cost in
     let all = extension_made x (2 ^ (log + a)) (2 ^ a) w c.self.inside.products c.interpolate_unscaled_to_reversed.new.products c.extend_to_natural.new.products c.interpolate_unscaled_to_reversed.ensures.cost second in
     rw (← products, ← c.into_row_major_matrix-mat.ensures, ← same) all
@@ -137,8 +135,7 @@ returns-clause-cost g c k high =
     let x = log * 2 ^ log / 2 in
     let same : log ≡ k = log_same log k (sym c.log2_strict_usize-log_h.ensures.power ∙ c.height.ensures.height ∙ ap height c.into_row_major_matrix-mat.ensures ∙ high) in
     let products : c.self.inside.products ≡ c.args.self.now.products = ap (λ e. e.products) c.self.view_is in
-    let second : c.extend_to_natural.new.products ≤ c.interpolate_unscaled_to_reversed.new.products + w *
-    (2 ^ a * x + 2 ^ (log + a)) =
+    let second : c.extend_to_natural.new.products ≤ c.interpolate_unscaled_to_reversed.new.products + w * (2 ^ a * x + 2 ^ (log + a)) =
     subst (λ (v : ℕ). c.extend_to_natural.new.products ≤ c.interpolate_unscaled_to_reversed.new.products + v * (2 ^ a * x + 2 ^ (log + a))) c.interpolate_unscaled_to_reversed.ensures.shape.1 c.extend_to_natural.ensures.cost in
     let all = extension_made x (2 ^ (log + a)) (2 ^ a) w c.self.inside.products c.interpolate_unscaled_to_reversed.new.products c.extend_to_natural.new.products c.interpolate_unscaled_to_reversed.ensures.cost second in
     let most : c.extend_to_natural.new.products ≤ c.self.inside.products + extension_bound (λ n v. v * (n * 2 ^ n / 2)) log a w = omega (arith, all, fewer_than_parts log a w) in
@@ -180,8 +177,7 @@ extend_to_natural-requires-clause-twiddles g c = record {
 low_layer : (l k a n : ℕ) → l < k → k + a ≤ n → l < n
 low_layer l k a n below made = omega (arith, below, made)
 
-pub interpolate_unscaled_to_reversed-requires-clause-twiddles :
-    goal.interpolate_unscaled_to_reversed-requires-clause-twiddles
+pub interpolate_unscaled_to_reversed-requires-clause-twiddles : goal.interpolate_unscaled_to_reversed-requires-clause-twiddles
 interpolate_unscaled_to_reversed-requires-clause-twiddles g c = record {
   size = λ l below. c.backward-backward.ensures.table.size l (low_layer l _ _ _ below c.in_ok-make.ensures.made);
   entries = λ l b below inside. c.backward-backward.ensures.table.entries l b (low_layer l _ _ _ below c.in_ok-make.ensures.made) inside;
