@@ -726,26 +726,82 @@ impl<F: CanonicalField> EngineTest<F> for AnsweringLists {
     }
 }
 
-// All of them, by a fast engine and by the definition.
-fn laws_over<F: CanonicalField>(rt: &impl Abort, alloc: Global) {
-    generators::<F>(rt, alloc);
-    on_dit::<F, _, _>(rt, alloc, &Undoing);
-    on_dit::<F, _, _>(rt, alloc, &Agreeing);
-    on_dit::<F, _, _>(rt, alloc, &Points);
-    on_dit::<F, _, _>(rt, alloc, &ExtendingOnSubgroups);
-    on_dit::<F, _, _>(rt, alloc, &ExtendingOnCosets);
-    on_dit::<F, _, _>(rt, alloc, &InvertingAlike);
-    on_dit::<F, _, _>(rt, alloc, &ExtendingAlike);
-    on_dit::<F, _, _>(rt, alloc, &CoefficientsOfAnExtension);
-    on_dit::<F, _, _>(rt, alloc, &CoefficientsBack);
-    on_dit::<F, _, _>(rt, alloc, &InvertingAnExtension);
-    on_dit::<F, _, _>(rt, alloc, &AnsweringAJob);
-    on_dit::<F, _, _>(rt, alloc, &TransformingAlone);
-    on_dit::<F, _, _>(rt, alloc, &ExtendingAlone);
-    on_dit::<F, _, _>(rt, alloc, &AnsweringLists);
+// One law, by a fast engine and by the definition.
+fn law<R: Abort, T: EngineTest<BabyBear>>(rt: &R, alloc: Global, test: &T) {
+    on_dit::<BabyBear, R, T>(rt, alloc, test);
 }
 
 #[test]
-fn two_calls_keep_their_laws(rt: HostRuntime) {
-    laws_over::<BabyBear>(&rt, rt.alloc());
+fn a_height_of_two_has_the_generator_minus_one(rt: HostRuntime) {
+    generators::<BabyBear>(&rt, rt.alloc());
+}
+
+#[test]
+fn an_inverse_undoes_a_transform_and_is_undone(rt: HostRuntime) {
+    law(&rt, rt.alloc(), &Undoing);
+}
+
+#[test]
+fn engines_agree_on_a_transform(rt: HostRuntime) {
+    law(&rt, rt.alloc(), &Agreeing);
+}
+
+#[test]
+fn entries_of_a_transform_are_values_at_points(rt: HostRuntime) {
+    law(&rt, rt.alloc(), &Points);
+}
+
+#[test]
+fn an_extension_on_the_subgroup_keeps_the_rows(rt: HostRuntime) {
+    law(&rt, rt.alloc(), &ExtendingOnSubgroups);
+}
+
+#[test]
+fn an_extension_from_a_coset_is_on_the_coset_of_the_product(rt: HostRuntime) {
+    law(&rt, rt.alloc(), &ExtendingOnCosets);
+}
+
+#[test]
+fn engines_agree_on_an_inverse(rt: HostRuntime) {
+    law(&rt, rt.alloc(), &InvertingAlike);
+}
+
+#[test]
+fn engines_agree_on_an_extension(rt: HostRuntime) {
+    law(&rt, rt.alloc(), &ExtendingAlike);
+}
+
+#[test]
+fn an_extension_has_the_coefficients_of_the_inverse(rt: HostRuntime) {
+    law(&rt, rt.alloc(), &CoefficientsOfAnExtension);
+}
+
+#[test]
+fn the_inverse_of_an_extension_begins_with_the_coefficients(rt: HostRuntime) {
+    law(&rt, rt.alloc(), &CoefficientsBack);
+}
+
+#[test]
+fn the_inverse_of_an_extension_ends_in_zeros(rt: HostRuntime) {
+    law(&rt, rt.alloc(), &InvertingAnExtension);
+}
+
+#[test]
+fn answers_of_a_job_are_equal(rt: HostRuntime) {
+    law(&rt, rt.alloc(), &AnsweringAJob);
+}
+
+#[test]
+fn a_column_is_transformed_and_inverted_alone(rt: HostRuntime) {
+    law(&rt, rt.alloc(), &TransformingAlone);
+}
+
+#[test]
+fn a_column_is_extended_alone(rt: HostRuntime) {
+    law(&rt, rt.alloc(), &ExtendingAlone);
+}
+
+#[test]
+fn engines_agree_on_a_list_of_jobs(rt: HostRuntime) {
+    law(&rt, rt.alloc(), &AnsweringLists);
 }
