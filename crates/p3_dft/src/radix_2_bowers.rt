@@ -334,7 +334,7 @@ fn extend_to_natural<F: TwoAdicField>(
     ensures cost { AtLog (height mat)
         (λ k. products.new ≤ products.old + mat.width * ((k + added_bits) * 2 ^ (k + added_bits) / 2)) }
 {
-    let mut mat = spread_rows(mat, added_bits)?;
+    let mut mat = spread_over_zeros(mat, added_bits)?;
     evaluate_to_natural(&mut mat, products)?;
     Ok(mat)
 }
@@ -382,7 +382,7 @@ fn weigh_reversed_rows<F: TwoAdicField>(
 
 // Brings row i into the place `i << added_bits`, with rows of zeros in the others. In bit reversed
 // order that is rows of zeros below all others.
-fn spread_rows<F: TwoAdicField>(
+fn spread_over_zeros<F: TwoAdicField>(
     mat: RowMajorMatrix<F>,
     added_bits: usize,
 ) -> Result<RowMajorMatrix<F>, DftError>

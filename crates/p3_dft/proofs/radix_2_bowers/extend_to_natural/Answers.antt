@@ -5,11 +5,11 @@ use Rattle.p3_dft.proofs.Calls.Shapes.{output_fits, output_log_small, output_siz
 use Rattle.p3_matrix.proofs.Polynomials.SpreadRows.{values_of_spread}
 use Rattle.p3_dft.proofs.radix_2_bowers.extend_to_natural.Goals as goal
 
-pub spread_rows-requires-clause-bits : goal.spread_rows-requires-clause-bits
-spread_rows-requires-clause-bits g c = let small = output_log_small _ _ _ _ c.requires.fits in omega (arith, small)
+pub spread_over_zeros-requires-clause-bits : goal.spread_over_zeros-requires-clause-bits
+spread_over_zeros-requires-clause-bits g c = let small = output_log_small _ _ _ _ c.requires.fits in omega (arith, small)
 
-pub spread_rows-requires-clause-size : goal.spread_rows-requires-clause-size
-spread_rows-requires-clause-size g c = output_size _ _ _ _ c.requires.fits
+pub spread_over_zeros-requires-clause-size : goal.spread_over_zeros-requires-clause-size
+spread_over_zeros-requires-clause-size g c = output_size _ _ _ _ c.requires.fits
 
 pub evaluate_to_natural-requires : goal.evaluate_to_natural-requires
 evaluate_to_natural-requires g c =

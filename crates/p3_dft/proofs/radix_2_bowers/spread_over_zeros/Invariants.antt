@@ -2,7 +2,7 @@ use Rattle.std.proofs.Common.{ℕ, ◌+◌, ◌-◌, ◌^◌, ◌<◌}
 use Rattle.p3_matrix.specs.RowMajor.{HasShapeOf}
 use Rattle.p3_matrix.specs.Matrix.{matrix}
 use Rattle.p3_matrix.proofs.Polynomials.SpreadRows.{SpreadFrom}
-use Rattle.p3_dft.proofs.radix_2_bowers.spread_rows.Given as goal
+use Rattle.p3_dft.proofs.radix_2_bowers.spread_over_zeros.Given as goal
 
 abbrev pub invariant-loop-done : goal.invariant-loop-done
 invariant-loop-done g l =

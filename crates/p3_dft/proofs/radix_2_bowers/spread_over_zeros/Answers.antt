@@ -5,7 +5,7 @@ use Rattle.p3_matrix.specs.RowMajor.{RowMajor, height}
 use Rattle.p3_matrix.specs.Matrix.{Same, row_exchange, matrix}
 use Rattle.p3_matrix.proofs.Rows.Padding.{padded_above, padded_below, padded_high}
 use Rattle.p3_matrix.proofs.Polynomials.SpreadRows.{SpreadFrom, spread_none, spread_exchanged, spread_rows, spread_others}
-use Rattle.p3_dft.proofs.radix_2_bowers.spread_rows.Goals as goal
+use Rattle.p3_dft.proofs.radix_2_bowers.spread_over_zeros.Goals as goal
 
 -- the place of a row is one that a usize holds
 place_is : (row h w a : ℕ) → row < h → 1 ≤ w → h * w * 2 ^ a < 2 ^ 64 → row * 2 ^ a % 2 ^ 64 ≡ row * 2 ^ a
