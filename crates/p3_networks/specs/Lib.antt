@@ -1,3 +1,4 @@
+pub mod Chunks
 pub mod CosetTables
 pub mod Groups
 pub mod Layers

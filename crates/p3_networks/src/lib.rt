@@ -6,6 +6,7 @@
 #![tactic(auto)]
 
 pub mod butterfly_layers;
+pub mod chunks;
 pub mod radix_2_bowers;
 pub mod radix_2_dit;
 pub mod radix_2_dit_parallel;

@@ -1,6 +1,6 @@
 -- Chunks of rows one after another, each done by itself.
-use Rattle.std.proofs.Common.{◌≡◌, ℕ, suc, ◌+◌, ◌*◌, ◌-◌, ◌/◌, ◌%◌, ◌<◌, ◌≤◌, ◌^◌, List, length, get_or, take, drop, sym, ap, ap₂, ◌∙◌, arith}
-use Rattle.std.proofs.Math.Nat.{mul-le-mul_right}
+use Rattle.std.proofs.Common.{◌≡◌, ℕ, suc, ◌+◌, ◌*◌, ◌-◌, ◌/◌, ◌%◌, ◌<◌, ◌≤◌, ◌^◌, List, length, get_or, take, drop, sym, ap, ap₂, ◌∙◌, arith, lit≤}
+use Rattle.std.proofs.Math.Nat.{mul-le-mul, mul-le-mul_right, pow-le-pow_right}
 use Rattle.std.proofs.lemmas.Nat.{one_shl, pow-add, pow_pos, div-add-mod', div_below, mod_below}
 use borrow.Rule.Slice.PartMut.{put_mid}
 use Rattle.p3_networks.specs.Layers.{HoldsCells}
@@ -36,6 +36,18 @@ tile_rows k r w tiles size len tile sizes inside =
     let more : suc tile * 2 ^ r ≤ tiles * 2 ^ r = mul-le-mul_right (2 ^ r) inside in
     let next : (tile + 1) * 2 ^ r ≡ suc tile * 2 ^ r = omega arith in
     omega (arith, more, next, sizes.rows)
+
+pub tile_small : (k r w tiles size len tile : ℕ) → k < 64 → TileSizes k r w tiles size len → tile < tiles → (tile + 1) * 2 ^ r < 2 ^ 64
+tile_small k r w tiles size len tile small sizes inside =
+    let most : 2 ^ k ≤ 2 ^ 63 = pow-le-pow_right {n = 2} (lit≤ tt) (let few : k ≤ 63 = omega (arith, small) in few) in
+    omega (arith, tile_rows k r w tiles size len tile sizes inside, most)
+
+pub tile_some : (k r w tiles size len : ℕ) → TileSizes k r w tiles size len → 1 ≤ w → 0 < size
+tile_some k r w tiles size len sizes wide = let rows : 1 * 1 ≤ 2 ^ r * w = mul-le-mul (pow_pos r) wide in omega (arith, rows, sizes.size_is)
+
+-- what all tiles cost, by what one costs
+pub tiles_cost : (k r w tiles size len each : ℕ) → TileSizes k r w tiles size len → tiles * (each * size) ≡ each * len
+tiles_cost k r w tiles size len each sizes = let swap : tiles * (each * size) ≡ each * (tiles * size) = omega arith in swap ∙ ap (λ n. each * n) (sym sizes.whole)
 
 -- tiles of chunk `number` of 2 ^ k rows, among those of all such chunks
 pub tile_rows_of_chunk : (k r w tiles size len number tile : ℕ) → TileSizes k r w tiles size len → tile < tiles → (number * tiles + tile + 1) * 2 ^ r ≤ (number + 1) * 2 ^ k

@@ -10,6 +10,7 @@ ghost use Rattle.p3_networks.specs.Groups.{group_end, group_of};
 ghost use Rattle.p3_networks.specs.Layers.{HoldsCells};
 
 use crate::butterfly_layers::Rule;
+use crate::chunks::on_each_chunk;
 use p3_field::{Products, TwoAdicField};
 use p3_matrix::log2_strict_usize;
 
@@ -169,11 +170,26 @@ fn group_on_chunks<F: TwoAdicField, R: Rule<F>>(
 {
     let chunks = 1usize << (log_h - to);
     let size = values.len() / chunks;
-    for chunk in 0..chunks {
-        let start = chunk * size;
-        let block = &mut values[start..start + size];
-        group_on_chunk(rule, order, block, width, from, to, chunk, piece, products);
-    }
+    let layers = move |chunk: usize, block: &mut [F], products: &mut Products|
+        requires wide { 1 ≤ width }
+        requires order { from ≤ to }
+        requires small { (chunk + 1) * 2 ^ to < 2 ^ 64 }
+        requires piece { 1 ≤ piece }
+        requires size { length block.now ≡ 2 ^ to * width }
+        requires there { (b : ℕ) → 2 * b < (chunk + 1) * 2 ^ to → R.has rule b 0 }
+        ensures cells { (k : ℕ) (cells : ℕ → ℕ → F.Element)
+            → AreLayersInOrder order k width (λ b. R.near F.Element F.ring F.value rule b 0)
+            (λ b. R.far F.Element F.ring F.value rule b 0) cells
+            → (chunk + 1) * 2 ^ to ≤ 2 ^ k
+            → HoldsCells F.value F.ZERO (chunk * length block.entry.now) (cells (cells_of order from to 0))
+            block.entry.now
+            → HoldsCells F.value F.ZERO (chunk * length block.entry.now) (cells (cells_of order from to (to - from)))
+            block.exit.now }
+        ensures grows { products.entry.now ≤ products.exit.now }
+        ensures cost { 2 * products.exit.now
+            ≤ 2 * products.entry.now + R.cost * ((to - from) * length block.entry.now) }
+    { group_on_chunk(rule, order, block, width, from, to, chunk, piece, products) };
+    on_each_chunk(layers, values, size, chunks, products);
 }
 
 // The layers of a group on one of these blocks, chunk `number` of `2^to` rows, piece after piece.

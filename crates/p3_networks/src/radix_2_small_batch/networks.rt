@@ -17,6 +17,7 @@ ghost use Rattle.p3_networks.specs.Twiddles.{AreTwiddlesFromStart, backward_root
 
 use crate::butterfly_layers::rules::{DifByBlock, DitByBlock};
 use crate::butterfly_layers::{Rule, layer};
+use crate::chunks::on_each_chunk;
 use crate::radix_2_small_batch::groups::{Order, layers_in_groups};
 use crate::radix_2_small_batch::pairs::{DifPair, DitPair, on_pairs};
 use p3_field::{Products, TwoAdicField};
@@ -227,11 +228,23 @@ fn layers_of_tiles<F: TwoAdicField, R: NetworkRule<F>>(
 {
     let tiles = 1usize << (log_h - log_rows);
     let size = values.len() / tiles;
-    for tile in 0..tiles {
-        let start = tile * size;
-        let rows = &mut values[start..start + size];
-        layers_of_tile(rule, rows, width, log_rows, tile, products);
-    }
+    let layers = move |tile: usize, rows: &mut [F], products: &mut Products|
+        requires wide { 1 ≤ width }
+        requires small { (tile + 1) * 2 ^ log_rows < 2 ^ 64 }
+        requires size { length rows.now ≡ 2 ^ log_rows * width }
+        requires there { (b t : ℕ) → 2 * b < (tile + 1) * 2 ^ log_rows → R.has rule b t }
+        ensures cells { (k : ℕ) (cells : ℕ → ℕ → F.Element)
+            → AreLayersInOrder R.order k width (λ b. R.near F.Element F.ring F.value rule b 0)
+            (λ b. R.far F.Element F.ring F.value rule b 0) cells
+            → (tile + 1) * 2 ^ log_rows ≤ 2 ^ k
+            → HoldsCells F.value F.ZERO (tile * length rows.entry.now) (cells (cells_of R.order 0 log_rows 0))
+            rows.entry.now
+            → HoldsCells F.value F.ZERO (tile * length rows.entry.now) (cells (cells_of R.order 0 log_rows log_rows))
+            rows.exit.now }
+        ensures grows { products.entry.now ≤ products.exit.now }
+        ensures cost { 2 * products.exit.now ≤ 2 * products.entry.now + R.cost * (log_rows * length rows.entry.now) }
+    { layers_of_tile(rule, rows, width, log_rows, tile, products) };
+    on_each_chunk(layers, values, size, tiles, products);
 }
 
 // The layers of one tile, chunk `number` of `2^top` rows. In one column the layers of the smallest blocks
@@ -299,11 +312,21 @@ fn layers_of_short_chunks<F: TwoAdicField, R: NetworkRule<F>>(
 {
     let chunks = 1usize << (top - SHORT_LAYERS);
     let size = values.len() / chunks;
-    for chunk in 0..chunks {
-        let start = chunk * size;
-        let rows = &mut values[start..start + size];
-        layers_of_short_chunk(rule, rows, number * chunks + chunk, products);
-    }
+    let layers = move |chunk: usize, rows: &mut [F], products: &mut Products|
+        requires small { (number * chunks + chunk + 1) * 2 ^ SHORT_LAYERS < 2 ^ 64 }
+        requires size { length rows.now ≡ 2 ^ SHORT_LAYERS * 1 }
+        requires there { (b t : ℕ) → 2 * b < (number * chunks + chunk + 1) * 2 ^ SHORT_LAYERS → R.has rule b t }
+        ensures cells { let first = (number * chunks + chunk) * length rows.entry.now in
+            (k : ℕ) (cells : ℕ → ℕ → F.Element)
+            → AreLayersInOrder R.order k 1 (λ b. R.near F.Element F.ring F.value rule b 0)
+            (λ b. R.far F.Element F.ring F.value rule b 0) cells
+            → (number * chunks + chunk + 1) * 2 ^ SHORT_LAYERS ≤ 2 ^ k
+            → HoldsCells F.value F.ZERO first (cells (cells_of R.order 0 SHORT_LAYERS 0)) rows.entry.now
+            → HoldsCells F.value F.ZERO first (cells (cells_of R.order 0 SHORT_LAYERS SHORT_LAYERS)) rows.exit.now }
+        ensures grows { products.entry.now ≤ products.exit.now }
+        ensures cost { 2 * products.exit.now ≤ 2 * products.entry.now + R.cost * (SHORT_LAYERS * length rows.entry.now) }
+    { layers_of_short_chunk(rule, rows, number * chunks + chunk, products) };
+    on_each_chunk(layers, values, size, chunks, products);
 }
 
 // The layers below `SHORT_LAYERS` on short chunk `number`. They are named, so that the loops of each layer are of
@@ -375,9 +398,23 @@ fn scaled_dif_tiles<F: TwoAdicField>(
 {
     let tiles = 1usize << (log_h - log_rows);
     let size = values.len() / tiles;
-    for tile in 0..tiles {
-        let start = tile * size;
-        let rows = &mut values[start..start + size];
+    let scaled_layers = move |tile: usize, rows: &mut [F], products: &mut Products|
+        requires wide { 1 ≤ width }
+        requires small { (tile + 1) * 2 ^ log_rows < 2 ^ 64 }
+        requires size { length rows.now ≡ 2 ^ log_rows * width }
+        requires first { F.value (get_or twiddles.now 0 F.ZERO) ≡ F.ring.one }
+        requires enough { (tile + 1) * 2 ^ log_rows ≤ 2 * length twiddles.now }
+        ensures cells { (k : ℕ) (cells : ℕ → ℕ → F.Element)
+            → AreLayers k width (λ b. dif_near F.ring (F.value (get_or twiddles.entry.now b F.ZERO)))
+            (λ b. dif_far F.ring (F.value (get_or twiddles.entry.now b F.ZERO)))
+            cells (λ e. cells (e + 1))
+            → (tile + 1) * 2 ^ log_rows ≤ 2 ^ k
+            → HoldsCells (λ x. F.ring.mul (F.value x) (F.value scale)) F.ZERO (tile * length rows.entry.now) (cells 0)
+            rows.entry.now
+            → HoldsCells F.value F.ZERO (tile * length rows.entry.now) (cells log_rows) rows.exit.now }
+        ensures grows { products.entry.now ≤ products.exit.now }
+        ensures cost { 2 * products.exit.now ≤ 2 * products.entry.now + (log_rows + 2) * length rows.entry.now }
+    {
         scale_slice_in_place(rows, scale, products);
         layers_of_tile(
             DifByBlock { twiddles },
@@ -387,7 +424,8 @@ fn scaled_dif_tiles<F: TwoAdicField>(
             tile,
             products,
         );
-    }
+    };
+    on_each_chunk(scaled_layers, values, size, tiles, products);
 }
 
 /// From rows in natural order to their values at the powers of the root that `twiddles` are made of, in
