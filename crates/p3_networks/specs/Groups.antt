@@ -1,6 +1,6 @@
 -- The order of layers, and layers in groups, each on one piece of the cells after another.
-use Rattle.std.specs.Prelude.{◌≡◌, ◌⊎◌, ℕ, ◌+◌, ◌-◌, ◌*◌, ◌<◌, ◌≤◌, List, get_or}
-use Rattle.p3_networks.specs.Layers.{AreLayers}
+use Rattle.std.specs.Prelude.{◌≡◌, ◌⊎◌, ℕ, ◌+◌, ◌-◌, ◌*◌, ◌^◌, ◌<◌, ◌≤◌, List, length, get_or}
+use Rattle.p3_networks.specs.Layers.{AreLayers, HoldsCells}
 use Rattle.p3_networks.specs.declared.radix_2_small_batch.groups.Order.{Order}
 use Rattle.p3_networks.specs.declared.radix_2_small_batch.groups.Order.TheVariants.{LargestFirst, SmallestFirst}
 
@@ -27,6 +27,11 @@ cells_of SmallestFirst from to done = from + done
 abbrev pub AreLayersInOrder : {A : Type 0} → Order → ℕ → ℕ → (ℕ → A → A → A) → (ℕ → A → A → A) → (ℕ → ℕ → A) → Type 0
 AreLayersInOrder LargestFirst k w near far cells = AreLayers k w near far (λ e. cells (e + 1)) cells
 AreLayersInOrder SmallestFirst k w near far cells = AreLayers k w near far cells (λ e. cells (e + 1))
+
+-- of 2 ^ top rows of w cells, chunk `number`: it held the cells from, by the values that it had, and then holds the cells to
+pub record TakesCells {T A : Type 0} (value_before value : T → A) (d : T) (order : Order) (w top number : ℕ) (near far : ℕ → A → A → A) (from to : ℕ) (before after : List T) : Type 0 where
+  pub taken : (k : ℕ) (cells : ℕ → ℕ → A) → AreLayersInOrder order k w near far cells → (number + 1) * 2 ^ top ≤ 2 ^ k
+      → HoldsCells value_before d (number * length before) (cells from) before → HoldsCells value d (number * length before) (cells to) after
 
 -- one layer, in blocks of two halves of so many cells
 pub record IsLayer {A : Type 0} (blocks half : ℕ) (near far : ℕ → A → A → A) (before after : ℕ → A) : Type 0 where

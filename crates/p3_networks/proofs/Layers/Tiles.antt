@@ -3,8 +3,14 @@ use Rattle.std.proofs.Common.{◌≡◌, ℕ, suc, ◌+◌, ◌*◌, ◌-◌, �
 use Rattle.std.proofs.Math.Nat.{mul-le-mul, mul-le-mul_right, pow-le-pow_right}
 use Rattle.std.proofs.lemmas.Nat.{one_shl, pow-add, pow_pos, div-add-mod', div_below, mod_below}
 use borrow.Rule.Slice.PartMut.{put_mid}
+use denote.Ref.{MutBor}
+use denote.Param.Members.{Shared}
+use Rattle.p3_networks.specs.Chunks.{WorkedOn}
+use Rattle.p3_networks.specs.Groups.{AreLayersInOrder, TakesCells}
 use Rattle.p3_networks.specs.Layers.{HoldsCells}
+use Rattle.p3_networks.specs.declared.radix_2_small_batch.groups.Order.{Order}
 use Rattle.p3_networks.proofs.Layers.Halves.{block_size, block_room}
+use Rattle.p3_networks.proofs.Rows.EachChunk.{cells_of_chunks}
 use Rattle.p3_matrix.proofs.Rows.Overwritten.{RowsDone, part_at, rows-more}
 
 -- the sizes of tiles of 2 ^ r of the 2 ^ k rows, as a program has them
@@ -148,3 +154,14 @@ module _ {A T : Type 0} (value : T → A) (d : T) (size : ℕ) where
 
   pub held_from_start : (cells : ℕ → A) (first : ℕ) (xs : List T) → HoldsCells value d 0 (λ i. cells (first + i)) xs → HoldsCells value d first cells xs
   held_from_start cells first xs holds i inside = holds i inside ∙ ap (λ n. cells (first + n)) (omega arith)
+
+-- where the work on each tile takes the cells that it holds by some layers, so does that on all tiles
+module _ {W T A : Type 0} (g : Shared W (ℕ × (MutBor (List T) × (MutBor ℕ × Unit {0}))) (Unit {0} × (MutBor (List T) × (MutBor ℕ × Unit {0})))) (work : W) (value_before value : T → A) (d : T) where
+  pub tiles_taken : (k r w tiles size : ℕ) (order : Order) (near far : ℕ → A → A → A) (from to : ℕ) (cells : ℕ → ℕ → A) (before after : List T) → TileSizes k r w tiles size (length before) → 1 ≤ w
+      → length after ≡ length before → ((n : ℕ) → n < tiles → WorkedOn g work size n before after)
+      → ((n : ℕ) (chunk left : MutBor (List T)) (made total : MutBor ℕ) → n < tiles → g.post work (n, (chunk, (made, tt))) (tt, (left, (total, tt)))
+      → TakesCells value_before value d order w r n near far from to chunk.now left.now)
+      → AreLayersInOrder order k w near far cells → HoldsCells value_before d 0 (cells from) before → HoldsCells value d 0 (cells to) after
+  tiles_taken k r w tiles size order near far from to cells before after sizes wide len done each layers =
+      cells_of_chunks g work size value_before value d (cells from) (cells to) 0 tiles (λ n s. n * s) before after (tile_some _ _ _ _ _ _ sizes wide) sizes.whole len (λ n. omega arith) done
+      (λ n chunk left made total below is as_long worked held. (each n chunk left made total below worked).taken k cells layers (tile_rows _ _ _ _ _ _ n sizes below) held)

@@ -5,7 +5,7 @@
 //! another, that stays in the cache from layer to layer; two layers go on quarters, one on halves.
 
 ghost use Rattle.std.specs.Prelude.{◌≡◌, ◌⊎◌, ℕ, ◌+◌, ◌-◌, ◌*◌, ◌/◌, ◌^◌, ◌<◌, ◌≤◌, List, length, get_or};
-ghost use Rattle.p3_networks.specs.Groups.{AreLayersInOrder, HoldsColumns, IsLayer, TakesColumns, cells_of, layer_of};
+ghost use Rattle.p3_networks.specs.Groups.{AreLayersInOrder, HoldsColumns, IsLayer, TakesCells, TakesColumns, cells_of, layer_of};
 ghost use Rattle.p3_networks.specs.Groups.{group_end, group_of};
 ghost use Rattle.p3_networks.specs.Layers.{HoldsCells};
 
@@ -177,14 +177,9 @@ fn group_on_chunks<F: TwoAdicField, R: Rule<F>>(
         requires piece { 1 ≤ piece }
         requires size { length block.now ≡ 2 ^ to * width }
         requires there { (b : ℕ) → 2 * b < (chunk + 1) * 2 ^ to → R.has rule b 0 }
-        ensures cells { (k : ℕ) (cells : ℕ → ℕ → F.Element)
-            → AreLayersInOrder order k width (λ b. R.near F.Element F.ring F.value rule b 0)
-            (λ b. R.far F.Element F.ring F.value rule b 0) cells
-            → (chunk + 1) * 2 ^ to ≤ 2 ^ k
-            → HoldsCells F.value F.ZERO (chunk * length block.entry.now) (cells (cells_of order from to 0))
-            block.entry.now
-            → HoldsCells F.value F.ZERO (chunk * length block.entry.now) (cells (cells_of order from to (to - from)))
-            block.exit.now }
+        ensures cells { TakesCells F.value F.value F.ZERO order width to chunk
+            (λ b. R.near F.Element F.ring F.value rule b 0) (λ b. R.far F.Element F.ring F.value rule b 0)
+            (cells_of order from to 0) (cells_of order from to (to - from)) block.entry.now block.exit.now }
         ensures grows { products.entry.now ≤ products.exit.now }
         ensures cost { 2 * products.exit.now
             ≤ 2 * products.entry.now + R.cost * ((to - from) * length block.entry.now) }
@@ -210,13 +205,9 @@ fn group_on_chunk<F: TwoAdicField, R: Rule<F>>(
     requires piece { 1 ≤ piece }
     requires size { length values.old ≡ 2 ^ to * width }
     requires there { (b : ℕ) → 2 * b < (number + 1) * 2 ^ to → R.has rule b 0 }
-    ensures cells { (k : ℕ) (cells : ℕ → ℕ → F.Element)
-        → AreLayersInOrder order k width (λ b. R.near F.Element F.ring F.value rule b 0)
-        (λ b. R.far F.Element F.ring F.value rule b 0) cells
-        → (number + 1) * 2 ^ to ≤ 2 ^ k
-        → HoldsCells F.value F.ZERO (number * length values.old) (cells (cells_of order from to 0)) values.old
-        → HoldsCells F.value F.ZERO (number * length values.old) (cells (cells_of order from to (to - from)))
-        values.new }
+    ensures cells { TakesCells F.value F.value F.ZERO order width to number
+        (λ b. R.near F.Element F.ring F.value rule b 0) (λ b. R.far F.Element F.ring F.value rule b 0)
+        (cells_of order from to 0) (cells_of order from to (to - from)) values.old values.new }
     ensures grows { products.old ≤ products.new }
     ensures cost { 2 * products.new ≤ 2 * products.old + R.cost * ((to - from) * length values.old) }
 {

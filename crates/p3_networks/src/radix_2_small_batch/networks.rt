@@ -9,8 +9,9 @@ ghost use Rattle.std.specs.Prelude.{◌≡◌, ℕ, ◌+◌, ◌-◌, ◌*◌, �
 ghost use Rattle.p3_field.specs.Ring.{AreRoots, power};
 ghost use Rattle.p3_matrix.specs.BitOrder.{rev};
 ghost use Rattle.p3_matrix.specs.Butterflies.{dif_far, dif_near};
-ghost use Rattle.p3_networks.specs.Groups.{AreLayersInOrder, cells_of};
+ghost use Rattle.p3_networks.specs.Groups.{AreLayersInOrder, TakesCells, cells_of};
 ghost use Rattle.p3_networks.specs.declared.radix_2_small_batch.groups.Order.{Order};
+ghost use Rattle.p3_networks.specs.declared.radix_2_small_batch.groups.Order.TheVariants.{SmallestFirst};
 ghost use Rattle.p3_networks.specs.Layers.{AreLayers, HoldsCells, AreValuesOfRows};
 ghost use Rattle.p3_matrix.specs.Polynomials.{poly};
 ghost use Rattle.p3_networks.specs.Twiddles.{AreTwiddlesFromStart, backward_root, block_powers, forward_root};
@@ -233,14 +234,9 @@ fn layers_of_tiles<F: TwoAdicField, R: NetworkRule<F>>(
         requires small { (tile + 1) * 2 ^ log_rows < 2 ^ 64 }
         requires size { length rows.now ≡ 2 ^ log_rows * width }
         requires there { (b t : ℕ) → 2 * b < (tile + 1) * 2 ^ log_rows → R.has rule b t }
-        ensures cells { (k : ℕ) (cells : ℕ → ℕ → F.Element)
-            → AreLayersInOrder R.order k width (λ b. R.near F.Element F.ring F.value rule b 0)
-            (λ b. R.far F.Element F.ring F.value rule b 0) cells
-            → (tile + 1) * 2 ^ log_rows ≤ 2 ^ k
-            → HoldsCells F.value F.ZERO (tile * length rows.entry.now) (cells (cells_of R.order 0 log_rows 0))
-            rows.entry.now
-            → HoldsCells F.value F.ZERO (tile * length rows.entry.now) (cells (cells_of R.order 0 log_rows log_rows))
-            rows.exit.now }
+        ensures cells { TakesCells F.value F.value F.ZERO R.order width log_rows tile
+            (λ b. R.near F.Element F.ring F.value rule b 0) (λ b. R.far F.Element F.ring F.value rule b 0)
+            (cells_of R.order 0 log_rows 0) (cells_of R.order 0 log_rows log_rows) rows.entry.now rows.exit.now }
         ensures grows { products.entry.now ≤ products.exit.now }
         ensures cost { 2 * products.exit.now ≤ 2 * products.entry.now + R.cost * (log_rows * length rows.entry.now) }
     { layers_of_tile(rule, rows, width, log_rows, tile, products) };
@@ -262,12 +258,9 @@ fn layers_of_tile<F: TwoAdicField, R: NetworkRule<F>>(
     requires small { (number + 1) * 2 ^ top < 2 ^ 64 }
     requires size { length values.old ≡ 2 ^ top * width }
     requires there { (b t : ℕ) → 2 * b < (number + 1) * 2 ^ top → R.has rule b t }
-    ensures cells { (k : ℕ) (cells : ℕ → ℕ → F.Element)
-        → AreLayersInOrder R.order k width (λ b. R.near F.Element F.ring F.value rule b 0)
-        (λ b. R.far F.Element F.ring F.value rule b 0) cells
-        → (number + 1) * 2 ^ top ≤ 2 ^ k
-        → HoldsCells F.value F.ZERO (number * length values.old) (cells (cells_of R.order 0 top 0)) values.old
-        → HoldsCells F.value F.ZERO (number * length values.old) (cells (cells_of R.order 0 top top)) values.new }
+    ensures cells { TakesCells F.value F.value F.ZERO R.order width top number
+        (λ b. R.near F.Element F.ring F.value rule b 0) (λ b. R.far F.Element F.ring F.value rule b 0)
+        (cells_of R.order 0 top 0) (cells_of R.order 0 top top) values.old values.new }
     ensures grows { products.old ≤ products.new }
     ensures cost { 2 * products.new ≤ 2 * products.old + R.cost * (top * length values.old) }
 {
@@ -316,13 +309,10 @@ fn layers_of_short_chunks<F: TwoAdicField, R: NetworkRule<F>>(
         requires small { (number * chunks + chunk + 1) * 2 ^ SHORT_LAYERS < 2 ^ 64 }
         requires size { length rows.now ≡ 2 ^ SHORT_LAYERS * 1 }
         requires there { (b t : ℕ) → 2 * b < (number * chunks + chunk + 1) * 2 ^ SHORT_LAYERS → R.has rule b t }
-        ensures cells { let first = (number * chunks + chunk) * length rows.entry.now in
-            (k : ℕ) (cells : ℕ → ℕ → F.Element)
-            → AreLayersInOrder R.order k 1 (λ b. R.near F.Element F.ring F.value rule b 0)
-            (λ b. R.far F.Element F.ring F.value rule b 0) cells
-            → (number * chunks + chunk + 1) * 2 ^ SHORT_LAYERS ≤ 2 ^ k
-            → HoldsCells F.value F.ZERO first (cells (cells_of R.order 0 SHORT_LAYERS 0)) rows.entry.now
-            → HoldsCells F.value F.ZERO first (cells (cells_of R.order 0 SHORT_LAYERS SHORT_LAYERS)) rows.exit.now }
+        ensures cells { TakesCells F.value F.value F.ZERO R.order 1 SHORT_LAYERS (number * chunks + chunk)
+            (λ b. R.near F.Element F.ring F.value rule b 0) (λ b. R.far F.Element F.ring F.value rule b 0)
+            (cells_of R.order 0 SHORT_LAYERS 0) (cells_of R.order 0 SHORT_LAYERS SHORT_LAYERS)
+            rows.entry.now rows.exit.now }
         ensures grows { products.entry.now ≤ products.exit.now }
         ensures cost { 2 * products.exit.now ≤ 2 * products.entry.now + R.cost * (SHORT_LAYERS * length rows.entry.now) }
     { layers_of_short_chunk(rule, rows, number * chunks + chunk, products) };
@@ -340,13 +330,9 @@ fn layers_of_short_chunk<F: TwoAdicField, R: NetworkRule<F>>(
     requires small { (number + 1) * 2 ^ SHORT_LAYERS < 2 ^ 64 }
     requires size { length values.old ≡ 2 ^ SHORT_LAYERS * 1 }
     requires there { (b t : ℕ) → 2 * b < (number + 1) * 2 ^ SHORT_LAYERS → R.has rule b t }
-    ensures cells { (k : ℕ) (cells : ℕ → ℕ → F.Element)
-        → AreLayersInOrder R.order k 1 (λ b. R.near F.Element F.ring F.value rule b 0)
-        (λ b. R.far F.Element F.ring F.value rule b 0) cells
-        → (number + 1) * 2 ^ SHORT_LAYERS ≤ 2 ^ k
-        → HoldsCells F.value F.ZERO (number * length values.old) (cells (cells_of R.order 0 SHORT_LAYERS 0)) values.old
-        → HoldsCells F.value F.ZERO (number * length values.old)
-        (cells (cells_of R.order 0 SHORT_LAYERS SHORT_LAYERS)) values.new }
+    ensures cells { TakesCells F.value F.value F.ZERO R.order 1 SHORT_LAYERS number
+        (λ b. R.near F.Element F.ring F.value rule b 0) (λ b. R.far F.Element F.ring F.value rule b 0)
+        (cells_of R.order 0 SHORT_LAYERS 0) (cells_of R.order 0 SHORT_LAYERS SHORT_LAYERS) values.old values.new }
     ensures grows { products.old ≤ products.new }
     ensures cost { 2 * products.new ≤ 2 * products.old + R.cost * (SHORT_LAYERS * length values.old) }
 {
@@ -404,14 +390,10 @@ fn scaled_dif_tiles<F: TwoAdicField>(
         requires size { length rows.now ≡ 2 ^ log_rows * width }
         requires first { F.value (get_or twiddles.now 0 F.ZERO) ≡ F.ring.one }
         requires enough { (tile + 1) * 2 ^ log_rows ≤ 2 * length twiddles.now }
-        ensures cells { (k : ℕ) (cells : ℕ → ℕ → F.Element)
-            → AreLayers k width (λ b. dif_near F.ring (F.value (get_or twiddles.entry.now b F.ZERO)))
-            (λ b. dif_far F.ring (F.value (get_or twiddles.entry.now b F.ZERO)))
-            cells (λ e. cells (e + 1))
-            → (tile + 1) * 2 ^ log_rows ≤ 2 ^ k
-            → HoldsCells (λ x. F.ring.mul (F.value x) (F.value scale)) F.ZERO (tile * length rows.entry.now) (cells 0)
-            rows.entry.now
-            → HoldsCells F.value F.ZERO (tile * length rows.entry.now) (cells log_rows) rows.exit.now }
+        ensures cells { let twiddle = λ (b : ℕ). F.value (get_or twiddles.entry.now b F.ZERO) in
+            TakesCells (λ x. F.ring.mul (F.value x) (F.value scale)) F.value F.ZERO SmallestFirst width log_rows tile
+            (λ b. dif_near F.ring (twiddle b)) (λ b. dif_far F.ring (twiddle b)) 0 log_rows
+            rows.entry.now rows.exit.now }
         ensures grows { products.entry.now ≤ products.exit.now }
         ensures cost { 2 * products.exit.now ≤ 2 * products.entry.now + (log_rows + 2) * length rows.entry.now }
     {

@@ -75,20 +75,22 @@ loop-p-preserved g c =
     }
 
 pub returns-clause-cells : goal.returns-clause-cells
-returns-clause-cells g c k cells layers room holds =
-    let field = g.F.Field in
-    let from = c.args.from in
-    let to = c.args.to in
-    let rows = 2 ^ (to - from) in
-    let part = 2 ^ from * c.args.width in
-    let sizes = part_sizes from to c.args.number c.args.width c.requires.order c.requires.small in
-    let pieces = (1 * 2 ^ from % 18446744073709551616 * c.args.width - 1) / c.args.piece + 1 in
-    let end : c.loop-p.p ≡ pieces = omega arith in
-    let cover : part ≤ c.loop-p.p * c.args.piece =
-    let all = pieces_cover c.args.piece (1 * 2 ^ from % 18446744073709551616 * c.args.width) c.requires.piece in
-    omega (arith, all, sizes.part_is, ap (λ n. n * c.args.piece) end) in
-    pieces_all field.value field.ZERO part rows (c.args.number * length c.args.values.now) (c.loop-p.p * c.args.piece) (cells (cells_of c.args.order from to (to - from))) c.args.values.now c.loop-p.values
-    (omega (arith, sizes.some c.requires.wide, sizes.part_is)) cover (c.loop-p.auto.values ∙ c.requires.size ∙ sizes.rows) (c.loop-p.invariant.cells k cells layers room holds)
+returns-clause-cells g c = record {
+  taken = λ k cells layers room holds.
+      let field = g.F.Field in
+      let from = c.args.from in
+      let to = c.args.to in
+      let rows = 2 ^ (to - from) in
+      let part = 2 ^ from * c.args.width in
+      let sizes = part_sizes from to c.args.number c.args.width c.requires.order c.requires.small in
+      let pieces = (1 * 2 ^ from % 18446744073709551616 * c.args.width - 1) / c.args.piece + 1 in
+      let end : c.loop-p.p ≡ pieces = omega arith in
+      let cover : part ≤ c.loop-p.p * c.args.piece =
+      let all = pieces_cover c.args.piece (1 * 2 ^ from % 18446744073709551616 * c.args.width) c.requires.piece in
+      omega (arith, all, sizes.part_is, ap (λ n. n * c.args.piece) end) in
+      pieces_all field.value field.ZERO part rows (c.args.number * length c.args.values.now) (c.loop-p.p * c.args.piece) (cells (cells_of c.args.order from to (to - from))) c.args.values.now c.loop-p.values
+      (omega (arith, sizes.some c.requires.wide, sizes.part_is)) cover (c.loop-p.auto.values ∙ c.requires.size ∙ sizes.rows) (c.loop-p.invariant.cells k cells layers room holds);
+}
 
 pub returns-clause-cost : goal.returns-clause-cost
 returns-clause-cost g c =

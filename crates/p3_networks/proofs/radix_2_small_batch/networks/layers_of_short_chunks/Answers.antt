@@ -42,7 +42,7 @@ returns g c =
           c.args.values.now c.on_each_chunk.new.values (tile_some _ _ _ _ _ _ sizes (omega arith)) sizes.whole c.on_each_chunk.auto.values
           (λ n. (let spread : (number * chunks + n) * size ≡ number * (chunks * size) + n * size = omega arith in spread) ∙ ap (λ m. number * m + n * size) (sym sizes.whole)) c.on_each_chunk.ensures.chunks
           (λ n chunk left made total below is as_long done held.
-          let rows = tile_rows_of_chunk _ _ _ _ _ _ number n sizes below in done.0 k cells layers (omega (arith, rows, room)) held) holds;
+          let rows = tile_rows_of_chunk _ _ _ _ _ _ number n sizes below in done.0.taken k cells layers (omega (arith, rows, room)) held) holds;
       grows = cost.0;
       cost = omega (arith, cost.1, tiles_cost _ _ _ _ _ _ (g.R.Rule.cost * 6) sizes);
     }

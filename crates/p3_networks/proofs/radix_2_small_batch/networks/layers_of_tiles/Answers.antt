@@ -1,7 +1,5 @@
-use Rattle.std.proofs.Common.{◌-◌, ◌*◌, ◌/◌, ◌%◌, ◌^◌, length, ◌∙◌, arith}
-use Rattle.p3_networks.specs.Groups.{cells_of}
-use Rattle.p3_networks.proofs.Layers.Tiles.{tile_rows, tile_sizes, tile_small, tile_some, tiles_cost}
-use Rattle.p3_networks.proofs.Rows.EachChunk.{cells_of_chunks}
+use Rattle.std.proofs.Common.{◌≡◌, ℕ, ◌+◌, ◌-◌, ◌*◌, ◌/◌, ◌%◌, ◌^◌, ◌<◌, ◌≤◌, length, ◌∙◌, arith, rules}
+use Rattle.p3_networks.proofs.Layers.Tiles.{tile_rows, tile_sizes, tile_small, tiles_cost, tiles_taken}
 use Rattle.p3_networks.proofs.radix_2_small_batch.networks.layers_of_tiles.Goals as goal
 
 pub on_each_chunk-requires : goal.on_each_chunk-requires
@@ -11,22 +9,19 @@ on_each_chunk-requires g c =
       whole = sizes.whole;
       accepts = λ n chunk made below is.
           let rows = tile_rows _ _ _ _ _ _ n sizes below in
-          (c.requires.wide, (tile_small _ _ _ _ _ _ n c.requires.small sizes below, (is ∙ sizes.size_is, λ b t inside. c.requires.there b t (omega (arith, rows, inside)))));
+          let small = tile_small _ _ _ _ _ _ n c.requires.small sizes below in
+          (c.requires.wide, (small, (is ∙ sizes.size_is, λ b t inside. c.requires.there b t (omega (arith, rows, inside)))));
     }
 
 pub returns : goal.returns
 returns g c =
     let field = g.F.Field in
-    let r = c.args.log_rows in
-    let order = g.R.NetworkRule.order in
-    let sizes = tile_sizes c.args.log_h r c.args.width (length c.args.values.now) c.requires.small c.requires.below c.requires.size in
-    let tiles = 1 * 2 ^ (c.args.log_h - r) % 18446744073709551616 in
-    let cost = c.on_each_chunk.ensures.cost 2 (λ n. g.R.Rule.cost * (r * n)) (λ n chunk left made total below is done. done.1) in
+    let sizes = tile_sizes c.args.log_h c.args.log_rows c.args.width (length c.args.values.now) c.requires.small c.requires.below c.requires.size in
+    let cost = c.on_each_chunk.ensures.cost 2 (λ n. g.R.Rule.cost * (c.args.log_rows * n)) (λ n chunk left made total below is done. done.1) in
     record {
       cells = λ cells layers holds.
-          cells_of_chunks _ _ (length c.args.values.now / tiles) field.value field.value field.ZERO (cells (cells_of order 0 r 0)) (cells (cells_of order 0 r r)) 0 tiles (λ n s. n * s)
-          c.args.values.now c.on_each_chunk.new.values (tile_some _ _ _ _ _ _ sizes c.requires.wide) sizes.whole c.on_each_chunk.auto.values (λ n. omega arith) c.on_each_chunk.ensures.chunks
-          (λ n chunk left made total below is as_long done held. done.0 c.args.log_h cells layers (tile_rows _ _ _ _ _ _ n sizes below) held) holds;
+          tiles_taken _ _ field.value field.value field.ZERO _ _ _ _ _ _ _ _ _ _ cells c.args.values.now c.on_each_chunk.new.values sizes c.requires.wide c.on_each_chunk.auto.values c.on_each_chunk.ensures.chunks
+          (λ n chunk left made total below done. done.0) layers holds;
       grows = cost.0;
-      cost = omega (arith, cost.1, tiles_cost _ _ _ _ _ _ (g.R.Rule.cost * r) sizes);
+      cost = omega (arith, cost.1, tiles_cost _ _ _ _ _ _ (g.R.Rule.cost * c.args.log_rows) sizes);
     }

@@ -1,6 +1,5 @@
-use Rattle.std.proofs.Common.{◌+◌, ◌-◌, ◌*◌, ◌/◌, ◌%◌, ◌^◌, length, ◌∙◌, arith}
-use Rattle.p3_networks.proofs.Layers.Tiles.{tile_rows, tile_sizes, tile_small, tile_some, tiles_cost}
-use Rattle.p3_networks.proofs.Rows.EachChunk.{cells_of_chunks}
+use Rattle.std.proofs.Common.{◌≡◌, ℕ, ◌+◌, ◌-◌, ◌*◌, ◌/◌, ◌%◌, ◌^◌, ◌<◌, ◌≤◌, length, ◌∙◌, arith, rules}
+use Rattle.p3_networks.proofs.Layers.Tiles.{tile_rows, tile_sizes, tile_small, tiles_cost, tiles_taken}
 use Rattle.p3_networks.proofs.radix_2_small_batch.networks.scaled_dif_tiles.Goals as goal
 
 pub on_each_chunk-requires : goal.on_each_chunk-requires
@@ -10,21 +9,19 @@ on_each_chunk-requires g c =
       whole = sizes.whole;
       accepts = λ n chunk made below is.
           let rows = tile_rows _ _ _ _ _ _ n sizes below in
-          (c.requires.wide, (tile_small _ _ _ _ _ _ n c.requires.small sizes below, (is ∙ sizes.size_is, (c.requires.first, omega (arith, rows, c.requires.enough)))));
+          let small = tile_small _ _ _ _ _ _ n c.requires.small sizes below in
+          (c.requires.wide, (small, (is ∙ sizes.size_is, (c.requires.first, omega (arith, rows, c.requires.enough)))));
     }
 
 pub returns : goal.returns
 returns g c =
     let field = g.F.Field in
-    let r = c.args.log_rows in
-    let sizes = tile_sizes c.args.log_h r c.args.width (length c.args.values.now) c.requires.small c.requires.below c.requires.size in
-    let tiles = 1 * 2 ^ (c.args.log_h - r) % 18446744073709551616 in
-    let cost = c.on_each_chunk.ensures.cost 2 (λ n. (r + 2) * n) (λ n chunk left made total below is done. done.1) in
+    let sizes = tile_sizes c.args.log_h c.args.log_rows c.args.width (length c.args.values.now) c.requires.small c.requires.below c.requires.size in
+    let cost = c.on_each_chunk.ensures.cost 2 (λ n. (c.args.log_rows + 2) * n) (λ n chunk left made total below is done. done.1) in
     record {
       cells = λ cells layers holds.
-          cells_of_chunks _ _ (length c.args.values.now / tiles) (λ x. field.ring.mul (field.value x) (field.value c.args.scale)) field.value field.ZERO (cells 0) (cells r) 0 tiles (λ n s. n * s)
-          c.args.values.now c.on_each_chunk.new.values (tile_some _ _ _ _ _ _ sizes c.requires.wide) sizes.whole c.on_each_chunk.auto.values (λ n. omega arith) c.on_each_chunk.ensures.chunks
-          (λ n chunk left made total below is as_long done held. done.0 c.args.log_h cells layers (tile_rows _ _ _ _ _ _ n sizes below) held) holds;
+          tiles_taken _ _ (λ x. field.ring.mul (field.value x) (field.value c.args.scale)) field.value field.ZERO _ _ _ _ _ _ _ _ _ _ cells c.args.values.now c.on_each_chunk.new.values sizes c.requires.wide c.on_each_chunk.auto.values c.on_each_chunk.ensures.chunks
+          (λ n chunk left made total below done. done.0) layers holds;
       grows = cost.0;
-      cost = omega (arith, cost.1, tiles_cost _ _ _ _ _ _ (r + 2) sizes);
+      cost = omega (arith, cost.1, tiles_cost _ _ _ _ _ _ (c.args.log_rows + 2) sizes);
     }

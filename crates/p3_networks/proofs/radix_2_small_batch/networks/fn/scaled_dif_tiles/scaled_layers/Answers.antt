@@ -15,13 +15,15 @@ returns g c =
     let same : r * length scaled ≡ r * length before = ap (λ n. r * n) len in
     let more : (r + 2) * length before ≡ r * length before + 2 * length before = omega arith in
     record {
-      cells = λ k cells layers room holds.
-          subst (λ (n : ℕ). HoldsCells field.value field.ZERO (tile * n) (cells r) c.layers_of_tile.new.values) len
-          (subst (λ (e : ℕ). HoldsCells field.value field.ZERO (tile * length scaled) (cells e) c.layers_of_tile.new.values) plain
-          (c.layers_of_tile.ensures.cells k cells layers room
-          (λ i inside.
-          value_at field.value (λ (x : field.Element). field.ring.mul x (field.value c.captures.scale)) before scaled i field.ZERO c.scale_slice_in_place.ensures.values len (omega (arith, inside, len))
-          ∙ holds i (omega (arith, inside, len)) ∙ ap (λ n. cells 0 (tile * n + i)) (sym len))));
+      cells = record {
+        taken = λ k cells layers room holds.
+            subst (λ (n : ℕ). HoldsCells field.value field.ZERO (tile * n) (cells r) c.layers_of_tile.new.values) len
+            (subst (λ (e : ℕ). HoldsCells field.value field.ZERO (tile * length scaled) (cells e) c.layers_of_tile.new.values) plain
+            (c.layers_of_tile.ensures.cells.taken k cells layers room
+            (λ i inside.
+            value_at field.value (λ (x : field.Element). field.ring.mul x (field.value c.captures.scale)) before scaled i field.ZERO c.scale_slice_in_place.ensures.values len (omega (arith, inside, len))
+            ∙ holds i (omega (arith, inside, len)) ∙ ap (λ n. cells 0 (tile * n + i)) (sym len))));
+      };
       grows = omega (arith, c.layers_of_tile.ensures.grows, c.scale_slice_in_place.ensures.count);
       cost = omega (arith, c.layers_of_tile.ensures.cost, c.scale_slice_in_place.ensures.count, same, more);
     }
