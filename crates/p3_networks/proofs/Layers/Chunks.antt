@@ -103,11 +103,7 @@ chunk_sizes top e number below small =
       room = let is = ap (λ n. number * n + n) blocks ∙ spread in omega (arith, is, fewer, small);
     }
 
--- one layer more: each makes at most one product for each two of the cells
-pub layer_more : (done size before now after : ℕ) → 2 * now ≤ 2 * before + done * size → 2 * after ≤ 2 * now + 1 * size → 2 * after ≤ 2 * before + (done + 1) * size
-layer_more done size before now after so_far layer = let next : (done + 1) * size ≡ done * size + size = omega arith in omega (arith, so_far, layer, next)
-
--- the same of layers that make so many products for each two of the cells
+-- one layer more: each makes at most so many products for each two of the cells
 pub costly_layer_more : (cost done size before now after : ℕ) → 2 * now ≤ 2 * before + cost * (done * size) → 2 * after ≤ 2 * now + cost * size → 2 * after ≤ 2 * before + cost * ((done + 1) * size)
 costly_layer_more cost done size before now after so_far layer = let next : cost * ((done + 1) * size) ≡ cost * (done * size) + cost * size = omega arith in omega (arith, so_far, layer, next)
 

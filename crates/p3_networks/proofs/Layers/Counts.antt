@@ -15,9 +15,6 @@ count_more cost n size before now after so_far turn =
 pub count_none : (cost size before : ℕ) → before ≤ before + cost * (0 * size)
 count_none cost size before = omega arith
 
-pub turns_none : (size before : ℕ) → before ≤ before + 0 * size
-turns_none size before = omega arith
-
 pub count_all : (cost n turns size before after : ℕ) → n ≤ turns → after ≤ before + cost * (n * size) → after ≤ before + cost * (turns * size)
 count_all cost n turns size before after done so_far = let more : cost * (n * size) ≤ cost * (turns * size) = mul-le-mul_left cost (mul-le-mul_right size done) in omega (arith, so_far, more)
 

@@ -1,17 +1,15 @@
 -- Chunks of rows one after another, each done by itself.
-use Rattle.std.proofs.Common.{◌≡◌, ℕ, suc, ◌+◌, ◌*◌, ◌-◌, ◌/◌, ◌%◌, ◌<◌, ◌≤◌, ◌^◌, List, length, get_or, take, drop, sym, ap, ap₂, ◌∙◌, arith, lit≤}
+use Rattle.std.proofs.Common.{◌≡◌, ℕ, suc, ◌+◌, ◌*◌, ◌-◌, ◌/◌, ◌%◌, ◌<◌, ◌≤◌, ◌^◌, List, length, get_or, sym, ap, ap₂, ◌∙◌, arith, lit≤}
 use Rattle.std.proofs.Math.Nat.{mul-le-mul, mul-le-mul_right, pow-le-pow_right}
 use Rattle.std.proofs.lemmas.Nat.{one_shl, pow-add, pow_pos, div-add-mod', div_below, mod_below}
-use borrow.Rule.Slice.PartMut.{put_mid}
 use denote.Ref.{MutBor}
 use denote.Param.Members.{Shared}
 use Rattle.p3_networks.specs.Chunks.{WorkedOn}
 use Rattle.p3_networks.specs.Groups.{AreLayersInOrder, TakesCells}
 use Rattle.p3_networks.specs.Layers.{HoldsCells}
 use Rattle.p3_networks.specs.declared.radix_2_small_batch.groups.Order.{Order}
-use Rattle.p3_networks.proofs.Layers.Halves.{block_size, block_room}
+use Rattle.p3_networks.proofs.Layers.Halves.{block_size}
 use Rattle.p3_networks.proofs.Rows.EachChunk.{cells_of_chunks}
-use Rattle.p3_matrix.proofs.Rows.Overwritten.{RowsDone, part_at, rows-more}
 
 -- the sizes of tiles of 2 ^ r of the 2 ^ k rows, as a program has them
 pub record TileSizes (k r w tiles size len : ℕ) : Type 0 where
@@ -33,10 +31,7 @@ tile_sizes k r w len small below full =
     let size = block_size len tiles (2 ^ r * w) some whole in
     record { tiles_is = is; some = some; size_is = size; whole = whole ∙ ap (λ n. tiles * n) (sym size); rows = rows }
 
--- one tile of them
-pub tile_room : (k r w tiles size len tile : ℕ) → TileSizes k r w tiles size len → tile < tiles → tile * size + size ≤ len
-tile_room k r w tiles size len tile sizes inside = block_room tile tiles size len inside sizes.whole
-
+-- the rows of one tile
 pub tile_rows : (k r w tiles size len tile : ℕ) → TileSizes k r w tiles size len → tile < tiles → (tile + 1) * 2 ^ r ≤ 2 ^ k
 tile_rows k r w tiles size len tile sizes inside =
     let more : suc tile * 2 ^ r ≤ tiles * 2 ^ r = mul-le-mul_right (2 ^ r) inside in
@@ -62,10 +57,6 @@ tile_rows_of_chunk k r w tiles size len number tile sizes inside =
     let all : number * (tiles * 2 ^ r) ≡ number * 2 ^ k = ap (λ n. number * n) sizes.rows in
     let next : (number + 1) * 2 ^ k ≡ number * 2 ^ k + 2 ^ k = omega arith in
     omega (arith, spread, all, next, tile_rows k r w tiles size len tile sizes inside)
-
-pub place_of_chunk : (number tiles size len tile s i : ℕ) → len ≡ tiles * size → s ≡ size → number * len + (tile * s + i) ≡ (number * tiles + tile) * s + i
-place_of_chunk number tiles size len tile s i whole same =
-    ap (λ n. number * n + (tile * s + i)) (whole ∙ ap (λ n. tiles * n) (sym same)) ∙ omega arith
 
 -- the sizes of a tile of rows that are spread: `count` rows, each in `copies`
 pub record SpreadSizes (k r a copies count tiles : ℕ) : Type 0 where
@@ -120,40 +111,6 @@ spread_held value d cells made tile count copies all w out wide size room some a
     let spread : ((tile * count + q) * copies + t) * w + j ≡ tile * (count * (copies * w)) + ((q * copies + t) * w + j) = omega arith in
     ap (λ n. value (get_or out n d)) (sym place) ∙ holds q t j below copy column ∙ sym (are (tile * count + q) t j (omega (arith, below, room)) copy column)
     ∙ ap cells (spread ∙ ap₂ (λ m n. tile * m + n) (sym size) place)
-
-module _ {A T : Type 0} (value : T → A) (d : T) (size : ℕ) where
-  -- what tile p holds in its place i
-  abbrev pub InTiles : (ℕ → A) → ℕ → ℕ → T → Type 0
-  InTiles cells p i y = value y ≡ cells (p * size + i)
-
-  -- the rows of a tile that comes are as they were
-  pub tile_held : (before_value : T → A) (from to : ℕ → A) (before now : List T) (tile m : ℕ) → m ≡ size → tile * size + size ≤ length now
-      → HoldsCells before_value d 0 from before → RowsDone d size (InTiles to) before tile now → (i : ℕ) → i < m
-      → before_value (get_or (take m (drop (tile * size) now)) i d) ≡ from (tile * m + i)
-  tile_held before_value from to before now tile m is room holds so_far i inside =
-      ap before_value (part_at now (tile * size) m i d inside ∙ so_far.rest (tile * size + i) (omega arith))
-      ∙ holds (tile * size + i) (omega (arith, room, inside, is, so_far.size)) ∙ ap from (let plain : 0 + (tile * size + i) ≡ tile * size + i = omega arith in plain ∙ ap (λ n. tile * n + i) (sym is))
-
-  -- one tile more
-  pub tiles-more : (to : ℕ → A) (before now part : List T) (tile m : ℕ) → m ≡ size → tile * size + size ≤ length now → length part ≡ size
-      → HoldsCells value d (tile * size) to part → RowsDone d size (InTiles to) before tile now
-      → RowsDone d size (InTiles to) before (tile + 1) (put_mid (tile * size) m now part)
-  tiles-more to before now part tile m is room len holds so_far =
-      rows-more d size (InTiles to) before now part tile m is room len (λ i inside. holds i (omega (arith, inside, len))) so_far
-
-  -- all tiles
-  pub tiles_all : (to : ℕ → A) (before after : List T) (tiles : ℕ) → 0 < size → length before ≡ tiles * size → RowsDone d size (InTiles to) before tiles after → HoldsCells value d 0 to after
-  tiles_all to before after tiles some full all n inside =
-      let is : n / size * size + n % size ≡ n = div-add-mod' n size in
-      ap (λ i. value (get_or after i d)) (sym is) ∙ all.done (n / size) (n % size) (div_below n size tiles some (omega (arith, inside, full, all.size))) (mod_below n size some)
-      ∙ ap to (is ∙ omega arith)
-
-  -- the cells of a chunk, counted from its first on
-  pub held_from_first : (cells : ℕ → A) (first : ℕ) (xs : List T) → HoldsCells value d first cells xs → HoldsCells value d 0 (λ i. cells (first + i)) xs
-  held_from_first cells first xs holds i inside = holds i inside ∙ ap (λ n. cells (first + n)) (omega arith)
-
-  pub held_from_start : (cells : ℕ → A) (first : ℕ) (xs : List T) → HoldsCells value d 0 (λ i. cells (first + i)) xs → HoldsCells value d first cells xs
-  held_from_start cells first xs holds i inside = holds i inside ∙ ap (λ n. cells (first + n)) (omega arith)
 
 -- where the work on each tile takes the cells that it holds by some layers, so does that on all tiles
 module _ {W T A : Type 0} (g : Shared W (ℕ × (MutBor (List T) × (MutBor ℕ × Unit {0}))) (Unit {0} × (MutBor (List T) × (MutBor ℕ × Unit {0})))) (work : W) (value_before value : T → A) (d : T) where

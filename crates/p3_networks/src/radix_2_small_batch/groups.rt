@@ -5,8 +5,8 @@
 //! another, that stays in the cache from layer to layer; two layers go on quarters, one on halves.
 
 ghost use Rattle.std.specs.Prelude.{◌≡◌, ◌⊎◌, ℕ, ◌+◌, ◌-◌, ◌*◌, ◌/◌, ◌^◌, ◌<◌, ◌≤◌, List, length, get_or};
-ghost use Rattle.p3_networks.specs.Groups.{AreLayersInOrder, HoldsColumns, IsLayer, TakesCells, TakesColumns, cells_of, layer_of};
-ghost use Rattle.p3_networks.specs.Groups.{group_end, group_of};
+ghost use Rattle.p3_networks.specs.Groups.{AreLayersInOrder, HoldsColumns, IsLayer, TakesCells, TakesColumns};
+ghost use Rattle.p3_networks.specs.Groups.{cells_of, group_end, group_of, layer_of};
 ghost use Rattle.p3_networks.specs.Layers.{HoldsCells};
 
 use crate::butterfly_layers::Rule;

@@ -314,7 +314,8 @@ fn layers_of_short_chunks<F: TwoAdicField, R: NetworkRule<F>>(
             (cells_of R.order 0 SHORT_LAYERS 0) (cells_of R.order 0 SHORT_LAYERS SHORT_LAYERS)
             rows.entry.now rows.exit.now }
         ensures grows { products.entry.now ≤ products.exit.now }
-        ensures cost { 2 * products.exit.now ≤ 2 * products.entry.now + R.cost * (SHORT_LAYERS * length rows.entry.now) }
+        ensures cost { 2 * products.exit.now
+            ≤ 2 * products.entry.now + R.cost * (SHORT_LAYERS * length rows.entry.now) }
     { layers_of_short_chunk(rule, rows, number * chunks + chunk, products) };
     on_each_chunk(layers, values, size, chunks, products);
 }
@@ -651,9 +652,33 @@ fn spread_tiles<F: TwoAdicField>(
     let size = values.len() / tiles;
     let copies = 1usize << added_bits;
     let count = 1usize << (log_rows - added_bits);
-    for tile in 0..tiles {
-        let start = tile * size;
-        let out = &mut values[start..start + size];
+    let spread = move |tile: usize, out: &mut [F], products: &mut Products|
+        requires wide { 1 ≤ width }
+        requires added { added_bits ≤ log_rows }
+        requires copies { copies ≡ 2 ^ added_bits }
+        requires some { 1 ≤ count }
+        requires count { count * copies ≡ 2 ^ log_rows }
+        requires small { (tile + 1) * 2 ^ log_rows < 2 ^ 64 }
+        requires size { length out.now ≡ 2 ^ log_rows * width }
+        requires rows { (tile * count + count) * width ≤ length rows.now }
+        requires weights { tile * count + count ≤ length weights.now }
+        requires first { F.value (get_or twiddles.now 0 F.ZERO) ≡ F.ring.one }
+        requires enough { (tile + 1) * 2 ^ log_rows ≤ 2 * length twiddles.now }
+        ensures cells { let twiddle = λ (b : ℕ). F.value (get_or twiddles.entry.now b F.ZERO) in
+            (k : ℕ) (cells : ℕ → ℕ → F.Element)
+            → AreLayers k width (λ b. dif_near F.ring (twiddle b)) (λ b. dif_far F.ring (twiddle b))
+            cells (λ e. cells (e + 1))
+            → (tile + 1) * 2 ^ log_rows ≤ 2 ^ k
+            → ((q t j : ℕ) → q < tile * count + count → t < 2 ^ added_bits → j < width
+            → cells added_bits ((q * 2 ^ added_bits + t) * width + j)
+            ≡ F.ring.mul (F.value (get_or rows.entry.now (q * width + j) F.ZERO))
+            (F.ring.mul (F.value (get_or weights.entry.now q F.ZERO))
+            (power F.ring (twiddle (q * (2 ^ added_bits / 2))) t)))
+            → HoldsCells F.value F.ZERO (tile * length out.entry.now) (cells log_rows) out.exit.now }
+        ensures grows { products.entry.now ≤ products.exit.now }
+        ensures cost { 2 * products.exit.now
+            ≤ 2 * products.entry.now + (log_rows - added_bits + 2) * length out.entry.now }
+    {
         spread_rows(
             twiddles,
             weights,
@@ -675,7 +700,8 @@ fn spread_tiles<F: TwoAdicField>(
             tile,
             products,
         );
-    }
+    };
+    on_each_chunk(spread, values, size, tiles, products);
 }
 
 /// From rows in bit reversed order, each times its weight, to their values at `2^added_bits` times as

@@ -1,4 +1,4 @@
-use Rattle.std.proofs.Common.{◌≡◌, ℕ, ◌+◌, ◌-◌, ◌*◌, ◌/◌, ◌%◌, ◌^◌, ◌<◌, ◌≤◌, length, ◌∙◌, arith, rules}
+use Rattle.std.proofs.Common.{◌*◌, length, ◌∙◌, arith}
 use Rattle.p3_networks.proofs.Layers.Tiles.{tile_rows, tile_sizes, tile_small, tiles_cost, tiles_taken}
 use Rattle.p3_networks.proofs.radix_2_small_batch.networks.layers_of_tiles.Goals as goal
 
