@@ -1,8 +1,9 @@
 -- Slots of an extension: each holds the values on a coset of its own.
-use Rattle.std.specs.Prelude.{ℕ, ◌+◌, ◌*◌, ◌^◌, List, get_or, map}
+use Rattle.std.specs.Prelude.{◌≡◌, ℕ, ◌+◌, ◌*◌, ◌^◌, ◌<◌, List, get_or, map, Result, MatchResult, ⊤}
 use Rattle.std.specs.List.{range_with_len}
 use Rattle.p3_field.specs.declared.fields.Field.{Ghosts as FieldMembers}
 use Rattle.p3_matrix.specs.BitOrder.{rev}
+use Rattle.p3_matrix.specs.Blocks.{Run, RunToRefusal}
 use Rattle.p3_matrix.specs.Matrix.{Matrix}
 use Rattle.p3_matrix.specs.RowMajor.{RowMajor, rows_from}
 use Rattle.p3_matrix.specs.Cosets.{point}
@@ -16,6 +17,16 @@ slot_block first b w rows q = (first + q * b, rows_from (record { width = w; val
 -- the first n blocks
 abbrev pub slot_blocks : {T : Type 0} → ℕ → ℕ → ℕ → List T → ℕ → List (ℕ × RowMajor T)
 slot_blocks first b w rows n = map (slot_block first b w rows) (range_with_len 0 n)
+
+-- n blocks of rows are lent, one after another, up to one that is refused; with the first m blocks final, `done m` holds
+abbrev pub LentInBlocks : {T C R : Type 0} → (C → ℕ → RowMajor T → Result ⊤ R → C → Type 0) → ℕ → ℕ → ℕ → ℕ → (ℕ → Type 0) → List T → C → Result ⊤ R → C → Type 0
+LentInBlocks step first b w n done rows before result after = MatchResult result (λ _. done n × Run step before (slot_blocks first b w rows n) after)
+    (λ refusal. (m : ℕ) × (m < n) × done (m + 1) × RunToRefusal step before (slot_blocks first b w rows m) (slot_block first b w rows m) refusal after)
+
+-- the first n rows of after have the values on the coset of s of order 2 ^ k, in bit reversed order, of the polynomials whose 2 ^ k coefficients are the rows of before in bit reversed order
+abbrev pub HasRowsOnCoset : {F : Type 0} (f : FieldMembers F) → (ℕ → F) → ℕ → ℕ → f.Element → ℕ → List F → List F → Type 0
+HasRowsOnCoset f generator k w s n before after = (r j : ℕ) → r < n → j < w → f.value (get_or after (r * w + j) f.ZERO)
+    ≡ poly f.ring (2 ^ k) (λ q. f.value (get_or before (rev k q * w + j) f.ZERO)) (point f.ring (forward_root f generator) k s (rev k r))
 
 -- the values on the coset of s of order 2 ^ (k + a), in bit reversed order, of the polynomials whose 2 ^ k coefficients are rows of w entries in bit reversed order
 abbrev pub extended_rows : {F : Type 0} (f : FieldMembers F) → (ℕ → F) → ℕ → ℕ → ℕ → f.Element → List F → Matrix f.Element

@@ -1,12 +1,16 @@
 -- Both halves of a network on a coset, by the table of the coset: it reaches for both, and where the rows lead from one half to the other they
 -- are values in the end. The first half takes the larger half of the layers.
-use Rattle.std.proofs.Common.{◌≡◌, ℕ, ◌+◌, ◌*◌, ◌-◌, ◌/◌, ◌^◌, ◌<◌, ◌≤◌, List, get_or, length, true, sym, ap, ◌∙◌, arith}
+use Rattle.std.specs.Prelude.{⊤}
+use Rattle.std.proofs.Common.{◌≡◌, ℕ, ◌+◌, ◌*◌, ◌-◌, ◌/◌, ◌^◌, ◌<◌, ◌≤◌, List, get_or, length, Result, true, sym, ap, ◌∙◌, arith}
 use Rattle.std.proofs.lemmas.Nat.{pow-add}
+use Rattle.std.proofs.lemmas.Result.{MatchResult-weaker}
 use Rattle.p3_field.specs.Ring.{AreRoots}
 use Rattle.p3_field.specs.declared.fields.Field.{Ghosts as FieldMembers}
 use Rattle.p3_matrix.specs.BitOrder.{rev}
 use Rattle.p3_matrix.specs.Cosets.{point}
 use Rattle.p3_matrix.specs.Polynomials.{poly}
+use Rattle.p3_matrix.specs.RowMajor.{RowMajor}
+use Rattle.p3_networks.specs.Slots.{HasRowsOnCoset, LentInBlocks}
 use Rattle.p3_networks.specs.Twiddles.{AreBlockTwiddles, AreTwiddlesOfLayers, IsCosetTable, coset_twiddles, forward_root}
 use Rattle.p3_networks.proofs.Layers.Counts.{halves_counted}
 use Rattle.p3_networks.proofs.Networks.Chunks.{rows_of_halves}
@@ -37,17 +41,21 @@ module _ {F : Type 0} (field : FieldMembers F) (generator : ℕ → F) (s : fiel
   pub high_room : (l : ℕ) → l < (k + 1) / 2 + (k - (k + 1) / 2) → 2 * 2 ^ l - 1 ≤ length twiddles
   high_room l below = coset_room field generator s k twiddles l (omega (arith, below)) table
 
-  -- the first half leads from before to middle, the second to the first n chunks of after
-  pub rows_on_coset : {bits : ℕ} → AreRoots field.ring bits (forward_root field generator) → k ≤ bits → (w n : ℕ) (before middle after : List F)
-      → ((g : ℕ → field.Element) (x : field.Element) → AreRoots field.ring ((k + 1) / 2) g → AreTwiddlesOfLayers field ((k + 1) / 2) (coset_twiddles field g x ((k + 1) / 2)) twiddles
+  -- what the first half makes of rows, and the first n chunks of the second
+  abbrev FirstHalf : ℕ → List F → List F → Type 0
+  FirstHalf w before middle = (g : ℕ → field.Element) (x : field.Element) → AreRoots field.ring ((k + 1) / 2) g → AreTwiddlesOfLayers field ((k + 1) / 2) (coset_twiddles field g x ((k + 1) / 2)) twiddles
       → (a t j : ℕ) → a < 2 ^ (k - (k + 1) / 2) → t < 2 ^ ((k + 1) / 2) → j < w → field.value (get_or middle ((a * 2 ^ ((k + 1) / 2) + t) * w + j) field.ZERO)
-      ≡ poly field.ring (2 ^ ((k + 1) / 2)) (λ q. field.value (get_or before ((a * 2 ^ ((k + 1) / 2) + rev ((k + 1) / 2) q) * w + j) field.ZERO)) (point field.ring g ((k + 1) / 2) x t))
-      → ((g : ℕ → field.Element) (x : field.Element) → AreRoots field.ring ((k + 1) / 2 + (k - (k + 1) / 2)) g → AreBlockTwiddles field g x ((k + 1) / 2) ((k + 1) / 2 + (k - (k + 1) / 2)) true twiddles
+      ≡ poly field.ring (2 ^ ((k + 1) / 2)) (λ q. field.value (get_or before ((a * 2 ^ ((k + 1) / 2) + rev ((k + 1) / 2) q) * w + j) field.ZERO)) (point field.ring g ((k + 1) / 2) x t)
+
+  abbrev SecondHalf : ℕ → List F → List F → ℕ → Type 0
+  SecondHalf w middle after n = (g : ℕ → field.Element) (x : field.Element) → AreRoots field.ring ((k + 1) / 2 + (k - (k + 1) / 2)) g → AreBlockTwiddles field g x ((k + 1) / 2) ((k + 1) / 2 + (k - (k + 1) / 2)) true twiddles
       → (a t j : ℕ) → a < n → t < 2 ^ (k - (k + 1) / 2) → j < w → field.value (get_or after ((a * 2 ^ (k - (k + 1) / 2) + t) * w + j) field.ZERO)
       ≡ poly field.ring (2 ^ (k - (k + 1) / 2)) (λ q. field.value (get_or middle ((rev (k - (k + 1) / 2) q * 2 ^ ((k + 1) / 2) + rev ((k + 1) / 2) a) * w + j) field.ZERO))
-      (point field.ring g (k - (k + 1) / 2) (point field.ring g ((k + 1) / 2 + (k - (k + 1) / 2)) x (rev ((k + 1) / 2) a)) (rev (k - (k + 1) / 2) t)))
-      → (r j : ℕ) → r < n * 2 ^ (k - (k + 1) / 2) → j < w → field.value (get_or after (r * w + j) field.ZERO)
-      ≡ poly field.ring (2 ^ k) (λ q. field.value (get_or before (rev k q * w + j) field.ZERO)) (point field.ring (forward_root field generator) k s (rev k r))
+      (point field.ring g (k - (k + 1) / 2) (point field.ring g ((k + 1) / 2 + (k - (k + 1) / 2)) x (rev ((k + 1) / 2) a)) (rev (k - (k + 1) / 2) t))
+
+  -- the first half leads from before to middle, the second to the first n chunks of after
+  pub rows_on_coset : {bits : ℕ} → AreRoots field.ring bits (forward_root field generator) → k ≤ bits → (w n : ℕ) (before middle after : List F)
+      → FirstHalf w before middle → SecondHalf w middle after n → HasRowsOnCoset field generator k w s (n * 2 ^ (k - (k + 1) / 2)) before after
   rows_on_coset roots_law within w n before middle after first second r j below inside =
       let gen = forward_root field generator in
       let mid = (k + 1) / 2 in
@@ -60,3 +68,13 @@ module _ {F : Type 0} (field : FieldMembers F) (generator : ℕ → F) (s : fiel
       (λ a t v p q l. second gen s roots (high_of_coset field generator s k twiddles mid (mid + left) (omega arith) (sym k_is) table) a t v p q l)
       r j below inside
       ∙ ap (λ m. poly field.ring (2 ^ m) (λ q. field.value (get_or before (rev m q * w + j) field.ZERO)) (point field.ring gen m s (rev m r))) k_is
+
+  -- and what the second lends are such rows
+  pub lent_on_coset : {C R : Type 0} {bits : ℕ} → AreRoots field.ring bits (forward_root field generator) → k ≤ bits → (step : C → ℕ → RowMajor F → Result ⊤ R → C → Type 0) (first_row w : ℕ) (before middle after : List F)
+      (c : C) (result : Result ⊤ R) (e : C) → FirstHalf w before middle
+      → LentInBlocks step first_row (2 ^ (k - (k + 1) / 2)) w (2 ^ ((k + 1) / 2)) (SecondHalf w middle after) after c result e
+      → LentInBlocks step first_row (2 ^ (k - (k + 1) / 2)) w (2 ^ ((k + 1) / 2)) (λ n. HasRowsOnCoset field generator k w s (n * 2 ^ (k - (k + 1) / 2)) before after) after c result e
+  lent_on_coset roots_law within step first_row w before middle after c result e first lent =
+      MatchResult-weaker result lent
+      (λ _ given. (rows_on_coset roots_law within w (2 ^ ((k + 1) / 2)) before middle after first given.0, given.1))
+      (λ refusal given. let (m, below, second, stopped) = given in (m, below, rows_on_coset roots_law within w (m + 1) before middle after first second, stopped))

@@ -12,6 +12,7 @@ use Rattle.p3_matrix.specs.Polynomials.{poly}
 use Rattle.p3_networks.specs.Twiddles.{forward_root}
 use Rattle.p3_networks.proofs.Layers.Blocks.{row_below}
 use Rattle.p3_networks.proofs.Layers.Halves.{in_first, in_second, shifted_size}
+use Rattle.p3_networks.proofs.Layers.Sizes.{second_shift}
 use Rattle.p3_matrix.proofs.Polynomials.ByIndex.{poly_same, poly-scaled}
 use Rattle.p3_matrix.proofs.Polynomials.Cosets.{point-mul}
 
@@ -28,6 +29,18 @@ slot_room place a size len below full =
     let all : suc (place + 1) * size ≤ 2 ^ a * size = mul-le-mul_right size below in
     let spread : suc (place + 1) * size ≡ place * size + size + size = omega arith in
     omega (arith, all, spread, full)
+
+-- the same as the program has the number of slots and their size, while its loop over all but one goes on
+module _ (len k a w place : ℕ) (small : k + a < 64) (full : len ≡ 2 ^ (k + a) * w) (below : place < 1 * 2 ^ a % 18446744073709551616 - 1) where
+  pub more_slots : place + 1 < 2 ^ a
+  more_slots = omega (arith, second_shift k a small, below)
+
+  pub slot_within : place * (len / (1 * 2 ^ a % 18446744073709551616)) + len / (1 * 2 ^ a % 18446744073709551616) ≤ len - len / (1 * 2 ^ a % 18446744073709551616)
+  slot_within = rw (slot_size len k a w small full) (slot_room place a (2 ^ k * w) len more_slots (full ∙ slots_whole k a w))
+
+  pub slot_inside : (back others : ℕ) → back + len / (1 * 2 ^ a % 18446744073709551616) ≡ len → others ≡ back
+      → place * (len / (1 * 2 ^ a % 18446744073709551616)) + len / (1 * 2 ^ a % 18446744073709551616) ≤ others
+  slot_inside back others split rest = omega (arith, slot_within, split, rest)
 
 -- the rows of n slots, slot by slot
 pub by_slots : (P : ℕ → Type 0) (k n : ℕ) → ((p t : ℕ) → p < n → t < 2 ^ k → P (p * 2 ^ k + t)) → (r : ℕ) → r < n * 2 ^ k → P r

@@ -1,7 +1,7 @@
 -- Blocks of rows that are lent to a consumer while other rows are still written.
 use Rattle.std.proofs.Common.{◌≡◌, ℕ, zero, suc, ◌+◌, ◌*◌, ◌-◌, ◌/◌, ◌%◌, ◌<◌, ◌≤◌, List, [], ◌∷◌, ◌++◌, length, get_or, map, take, drop, Result, Ok, refl, sym, ap, ap₂, ◌∙◌, subst, arith, rules, add-one, length-append, ⊎_elim}
 use Rattle.std.specs.Prelude.{⊤}
-use Rattle.std.specs.List.{All, range_with_len, between}
+use Rattle.std.specs.List.{range_with_len, between}
 use Rattle.std.proofs.Math.Nat.{mul-div_cancel, mul-le-mul_right, mul-mod_left}
 use Rattle.std.proofs.lemmas.Bool.{cases_lt}
 use Rattle.std.proofs.lemmas.Fn.{FoldsTo-push}
@@ -147,10 +147,10 @@ module _ {A T : Type 0} (value : T → A) (d : T) (b w : ℕ) (some : 1 ≤ b) (
             (λ same. starts_differ i j b some before (omega (arith, same)));
       }
 
-  -- blocks from a row on, and then blocks before it
-  pub blocks_joined : (bound : ℕ) (xs ys : List (ℕ × RowMajor T)) → All (λ p. bound ≤ p.0) xs → All (λ p. p.0 < bound) ys
+  -- blocks that begin at other rows than those before them
+  pub blocks_joined : (xs ys : List (ℕ × RowMajor T)) → ((i j : ℕ) (e : ℕ × RowMajor T) → i < length xs → j < length ys → (get_or xs i e).0 ≡ (get_or ys j e).0 → ⊥)
       → AreBlocksOf (λ r. image value (matrix d r)) b out xs → AreBlocksOf (λ r. image value (matrix d r)) b out ys → AreBlocksOf (λ r. image value (matrix d r)) b out (xs ++ ys)
-  blocks_joined bound xs ys late early first second = record {
+  blocks_joined xs ys apart first second = record {
     each = All-append (IsBlockOf (λ r. image value (matrix d r)) b out) xs ys first.each second.each;
     distinct = λ i j e before inside same.
         let size = length-append xs ys in
@@ -160,12 +160,8 @@ module _ {A T : Type 0} (value : T → A) (d : T) (b w : ℕ) (some : 1 ≤ b) (
         (λ more.
         let right : j - length xs < length ys = omega (arith, inside, size, more) in
         let at_j : (get_or (xs ++ ys) j e).0 ≡ (get_or ys (j - length xs) e).0 = ap (λ p. p.0) (get_or-append_right xs ys (length xs) j e refl more) in
-        let small : (get_or ys (j - length xs) e).0 < bound = early (j - length xs) e right in
         ⊎_elim
-        (λ less.
-        let at_i : (get_or (xs ++ ys) i e).0 ≡ (get_or xs i e).0 = ap (λ p. p.0) (get_or_append_left xs ys e i less) in
-        let large : bound ≤ (get_or xs i e).0 = late i e less in
-        absurd (omega (arith, same, at_i, at_j, small, large)))
+        (λ less. apart i (j - length xs) e less right (sym (ap (λ p. p.0) (get_or_append_left xs ys e i less)) ∙ same ∙ at_j))
         (λ both.
         let at_i : (get_or (xs ++ ys) i e).0 ≡ (get_or ys (i - length xs) e).0 = ap (λ p. p.0) (get_or-append_right xs ys (length xs) i e refl both) in
         let order : i - length xs < j - length xs = omega (arith, before, both, more) in

@@ -9,9 +9,8 @@ ghost use Rattle.p3_matrix.specs.Blocks.{AreBlocksOf, Run, RunToRefusal};
 ghost use Rattle.p3_matrix.specs.Matrix.{image, matrix};
 ghost use Rattle.p3_matrix.specs.RowMajor.{RowMajor};
 ghost use Rattle.p3_matrix.specs.Cosets.{point};
-ghost use Rattle.p3_networks.specs.Layers.{AreValuesOfRows};
 ghost use Rattle.p3_matrix.specs.Polynomials.{poly};
-ghost use Rattle.p3_networks.specs.Slots.{extended_rows, slot_block, slot_blocks};
+ghost use Rattle.p3_networks.specs.Slots.{HasRowsOnCoset, LentInBlocks, extended_rows, slot_blocks};
 ghost use Rattle.p3_networks.specs.Twiddles.{AreBlockTwiddles, HasCoset, HasCosets, IsCosetAt, block_end, forward_root};
 
 use crate::radix_2_dit_parallel::coset_tables::{CosetTable, CosetTables, slot_shift};
@@ -127,19 +126,10 @@ fn evaluate_reversed_oop<F: TwoAdicField, C: BlockConsumer<F>>(
     requires size { length values.old ≡ 2 ^ log_h * width }
     requires table { table.now.log_h ≡ log_h }
     requires rows { first_row + 2 ^ log_h < 2 ^ 64 }
-    ensures accepted { OnOk result (AreValuesOfRows F.Field.own width (2 ^ log_h) (rev log_h)
-        (λ r. point F.ring (forward_root F.Field.own F.generator) log_h (F.value table.now.shift) (rev log_h r))
-        coefficients.now values.new
-        × Run C.step consumer.old (slot_blocks first_row (2 ^ (log_h - (log_h + 1) / 2)) width values.new
-        (2 ^ ((log_h + 1) / 2)))
-        consumer.new) }
-    ensures refused { IfErr result (λ refusal. (n : ℕ) × (n < 2 ^ ((log_h + 1) / 2))
-        × ((r j : ℕ) → r < (n + 1) * 2 ^ (log_h - (log_h + 1) / 2) → j < width
-        → F.value (get_or values.new (r * width + j) F.ZERO)
-        ≡ poly F.ring (2 ^ log_h) (λ q. F.value (get_or coefficients.now (rev log_h q * width + j) F.ZERO))
-        (point F.ring (forward_root F.Field.own F.generator) log_h (F.value table.now.shift) (rev log_h r)))
-        × RunToRefusal C.step consumer.old (slot_blocks first_row (2 ^ (log_h - (log_h + 1) / 2)) width values.new n)
-        (slot_block first_row (2 ^ (log_h - (log_h + 1) / 2)) width values.new n) refusal consumer.new) }
+    ensures lent { LentInBlocks C.step first_row (2 ^ (log_h - (log_h + 1) / 2)) width (2 ^ ((log_h + 1) / 2))
+        (λ n. HasRowsOnCoset F.Field.own F.generator log_h width (F.value table.now.shift)
+        (n * 2 ^ (log_h - (log_h + 1) / 2)) coefficients.now values.new)
+        values.new consumer.old result consumer.new }
     ensures grows { products.old ≤ products.new }
     ensures cost { products.new ≤ products.old + width * (log_h * 2 ^ log_h / 2) }
 {
@@ -177,19 +167,10 @@ fn evaluate_reversed<F: TwoAdicField, C: BlockConsumer<F>>(
     requires size { length values.old ≡ 2 ^ log_h * width }
     requires table { table.now.log_h ≡ log_h }
     requires rows { first_row + 2 ^ log_h < 2 ^ 64 }
-    ensures accepted { OnOk result (AreValuesOfRows F.Field.own width (2 ^ log_h) (rev log_h)
-        (λ r. point F.ring (forward_root F.Field.own F.generator) log_h (F.value table.now.shift) (rev log_h r))
-        values.old values.new
-        × Run C.step consumer.old (slot_blocks first_row (2 ^ (log_h - (log_h + 1) / 2)) width values.new
-        (2 ^ ((log_h + 1) / 2)))
-        consumer.new) }
-    ensures refused { IfErr result (λ refusal. (n : ℕ) × (n < 2 ^ ((log_h + 1) / 2))
-        × ((r j : ℕ) → r < (n + 1) * 2 ^ (log_h - (log_h + 1) / 2) → j < width
-        → F.value (get_or values.new (r * width + j) F.ZERO)
-        ≡ poly F.ring (2 ^ log_h) (λ q. F.value (get_or values.old (rev log_h q * width + j) F.ZERO))
-        (point F.ring (forward_root F.Field.own F.generator) log_h (F.value table.now.shift) (rev log_h r)))
-        × RunToRefusal C.step consumer.old (slot_blocks first_row (2 ^ (log_h - (log_h + 1) / 2)) width values.new n)
-        (slot_block first_row (2 ^ (log_h - (log_h + 1) / 2)) width values.new n) refusal consumer.new) }
+    ensures lent { LentInBlocks C.step first_row (2 ^ (log_h - (log_h + 1) / 2)) width (2 ^ ((log_h + 1) / 2))
+        (λ n. HasRowsOnCoset F.Field.own F.generator log_h width (F.value table.now.shift)
+        (n * 2 ^ (log_h - (log_h + 1) / 2)) values.old values.new)
+        values.new consumer.old result consumer.new }
     ensures grows { products.old ≤ products.new }
     ensures cost { products.new ≤ products.old + width * (log_h * 2 ^ log_h / 2) }
 {
@@ -229,24 +210,15 @@ fn last_half<F: TwoAdicField, C: BlockConsumer<F>>(
     requires size { length values.old ≡ 2 ^ (mid + left) * width }
     requires table { (l : ℕ) → mid ≤ l → l < mid + left → block_end table.by_layer l ≤ length table.twiddles.now }
     requires rows { first_row + 2 ^ (mid + left) < 2 ^ 64 }
-    ensures accepted { OnOk result (((g : ℕ → F.Element) (s : F.Element) → AreRoots F.ring (mid + left) g
+    ensures lent { LentInBlocks C.step first_row (2 ^ left) width (2 ^ mid) (λ n. (g : ℕ → F.Element) (s : F.Element)
+        → AreRoots F.ring (mid + left) g
         → AreBlockTwiddles F.Field.own g s mid (mid + left) table.entry.by_layer table.entry.twiddles.now
-        → (a t j : ℕ) → a < 2 ^ mid → t < 2 ^ left → j < width
+        → (a t j : ℕ) → a < n → t < 2 ^ left → j < width
         → F.value (get_or values.new ((a * 2 ^ left + t) * width + j) F.ZERO)
         ≡ poly F.ring (2 ^ left) (λ q. F.value
         (get_or values.old ((rev left q * 2 ^ mid + rev mid a) * width + j) F.ZERO))
         (point F.ring g left (point F.ring g (mid + left) s (rev mid a)) (rev left t)))
-        × Run C.step consumer.old (slot_blocks first_row (2 ^ left) width values.new (2 ^ mid)) consumer.new) }
-    ensures refused { IfErr result (λ refusal. (n : ℕ) × (n < 2 ^ mid)
-        × ((g : ℕ → F.Element) (s : F.Element) → AreRoots F.ring (mid + left) g
-        → AreBlockTwiddles F.Field.own g s mid (mid + left) table.entry.by_layer table.entry.twiddles.now
-        → (a t j : ℕ) → a < n + 1 → t < 2 ^ left → j < width
-        → F.value (get_or values.new ((a * 2 ^ left + t) * width + j) F.ZERO)
-        ≡ poly F.ring (2 ^ left) (λ q. F.value
-        (get_or values.old ((rev left q * 2 ^ mid + rev mid a) * width + j) F.ZERO))
-        (point F.ring g left (point F.ring g (mid + left) s (rev mid a)) (rev left t)))
-        × RunToRefusal C.step consumer.old (slot_blocks first_row (2 ^ left) width values.new n)
-        (slot_block first_row (2 ^ left) width values.new n) refusal consumer.new) }
+        values.new consumer.old result consumer.new }
     ensures grows { products.old ≤ products.new }
     ensures cost { products.new ≤ products.old + 2 ^ mid * (width * (left * 2 ^ left / 2)) }
 {

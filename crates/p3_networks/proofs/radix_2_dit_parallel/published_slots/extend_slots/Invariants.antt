@@ -1,10 +1,6 @@
-use Rattle.std.proofs.Common.{◌≡◌, ℕ, ◌+◌, ◌-◌, ◌*◌, ◌/◌, ◌^◌, ◌<◌, ◌≤◌, get_or}
-use Rattle.p3_matrix.specs.BitOrder.{rev}
+use Rattle.std.proofs.Common.{◌≡◌, ℕ, ◌+◌, ◌-◌, ◌*◌, ◌/◌, ◌^◌, ◌<◌, ◌≤◌}
 use Rattle.p3_matrix.specs.Blocks.{Run}
-use Rattle.p3_matrix.specs.Cosets.{point}
-use Rattle.p3_matrix.specs.Polynomials.{poly}
-use Rattle.p3_networks.specs.Slots.{slot_blocks}
-use Rattle.p3_networks.specs.Twiddles.{forward_root}
+use Rattle.p3_networks.specs.Slots.{extended_rows, slot_blocks}
 use Rattle.p3_matrix.proofs.Rows.Overwritten.{RowsDone}
 use Rattle.p3_networks.proofs.radix_2_dit_parallel.published_slots.extend_slots.Given as goal
 
@@ -13,13 +9,11 @@ abbrev pub invariant-loop-place : goal.invariant-loop-place
 invariant-loop-place g l =
     let field = g.F.Field in
     let k = l.fn.log_h in
-    let n = k + l.fn.added_bits in
     let w = l.fn.width in
     record {
       slots : RowsDone field.ZERO (2 ^ k * w)
           (λ p u y. (t j : ℕ) → t < 2 ^ k → j < w → u ≡ t * w + j → field.value y
-          ≡ poly field.ring (2 ^ k) (λ q. field.value (get_or l.coefficients (rev k q * w + j) field.ZERO))
-          (point field.ring (forward_root field g.F.TwoAdicField.generator) n (field.value l.fn.shift) (rev n ((p + 1) * 2 ^ k + t))))
+          ≡ (extended_rows field g.F.TwoAdicField.generator k l.fn.added_bits w (field.value l.fn.shift) l.fn.values).entry ((p + 1) * 2 ^ k + t) j)
           l.initial.others l.place l.others;
       told : Run g.C.BlockConsumer.step l.fn.consumer (slot_blocks (2 ^ k) (2 ^ (k - (k + 1) / 2)) w l.others (l.place * 2 ^ ((k + 1) / 2))) l.consumer;
       grows : l.fn.products ≤ l.products;
