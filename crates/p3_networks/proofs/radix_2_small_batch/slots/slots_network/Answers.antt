@@ -1,4 +1,4 @@
-use Rattle.std.proofs.Common.{◌≡◌, ℕ, ◌+◌, ◌*◌, ◌/◌, ◌%◌, ◌<◌, ◌≤◌, ◌^◌, length, get_or, refl, sym, ap, ap₂, ◌∙◌, subst, arith, rules}
+use Rattle.std.proofs.Common.{◌≡◌, ℕ, ◌+◌, ◌*◌, ◌/◌, ◌%◌, ◌≤◌, ◌^◌, length, get_or, refl, sym, ap, ap₂, ◌∙◌, subst, arith, rules}
 use borrow.Author.Rules.{scaled_fits≤}
 use Rattle.std.proofs.lemmas.Nat.{one_shl, pow_pos}
 use Rattle.p3_field.specs.Ring.{AreRoots, power}
@@ -10,11 +10,10 @@ use Rattle.p3_matrix.specs.Polynomials.{poly}
 use Rattle.p3_networks.specs.Twiddles.{forward_root}
 use Rattle.p3_networks.proofs.Layers.Blocks.{row_below}
 use Rattle.p3_networks.proofs.Layers.Counts.{count_more}
-use Rattle.p3_networks.proofs.Layers.Halves.{in_first, part_length}
+use Rattle.p3_networks.proofs.Layers.Halves.{part_length}
 use Rattle.p3_networks.proofs.Layers.Sizes.{second_shift, some_rows}
-use Rattle.p3_networks.proofs.Networks.Chunks.{slot_point}
-use Rattle.p3_networks.proofs.Networks.Slots.{rows_of_slots, slot_room, slot_size, slots_whole, values_of_shifted}
-use Rattle.p3_matrix.proofs.Polynomials.ByIndex.{poly_same}
+use Rattle.p3_networks.proofs.Networks.SlotPlaces.{slot_entry}
+use Rattle.p3_networks.proofs.Networks.Slots.{rows_of_slots, slot_inside, slot_size, slot_within, values_of_shifted}
 use Rattle.p3_matrix.proofs.Polynomials.Cosets.{point-mul}
 use Rattle.p3_matrix.proofs.Rows.Overwritten.{part-more, rows-none}
 use Rattle.p3_networks.proofs.Tables.RootPowers.{fewer_roots}
@@ -22,41 +21,19 @@ use Rattle.std.proofs.Math.Nat.{le_trans}
 use Rattle.p3_networks.proofs.radix_2_small_batch.slots.slots_network.Goals as goal
 
 pub overflow_mul-start : goal.overflow_mul-start
-overflow_mul-start g c =
-    let k = c.args.log_h in
-    let a = c.args.added_bits in
-    let len = length c.args.values.now in
-    let is = slot_size len k a c.args.width c.requires.small c.requires.size in
-    let room = slot_room c.loop-place.place a (2 ^ k * c.args.width) len (omega (arith, second_shift k a c.requires.small, c.loop-place-test.true)) (c.requires.size ∙ slots_whole k a c.args.width) in
-    rw is (omega (arith, room))
+overflow_mul-start g c = omega (arith, slot_within (length c.args.values.now) c.args.log_h c.args.added_bits c.args.width c.loop-place.place c.requires.small c.requires.size c.loop-place-test.true)
 
 pub overflow_add-slot : goal.overflow_add-slot
-overflow_add-slot g c =
-    let k = c.args.log_h in
-    let a = c.args.added_bits in
-    let len = length c.args.values.now in
-    let is = slot_size len k a c.args.width c.requires.small c.requires.size in
-    let room = slot_room c.loop-place.place a (2 ^ k * c.args.width) len (omega (arith, second_shift k a c.requires.small, c.loop-place-test.true)) (c.requires.size ∙ slots_whole k a c.args.width) in
-    rw is (omega (arith, room))
+overflow_add-slot g c = omega (arith, slot_within (length c.args.values.now) c.args.log_h c.args.added_bits c.args.width c.loop-place.place c.requires.small c.requires.size c.loop-place-test.true)
 
 pub offset_bounds-others-start : goal.offset_bounds-others-start
 offset_bounds-others-start g c =
-    let k = c.args.log_h in
-    let a = c.args.added_bits in
-    let len = length c.args.values.now in
-    let is = slot_size len k a c.args.width c.requires.small c.requires.size in
-    let room = slot_room c.loop-place.place a (2 ^ k * c.args.width) len (omega (arith, second_shift k a c.requires.small, c.loop-place-test.true)) (c.requires.size ∙ slots_whole k a c.args.width) in
-    let below : c.loop-place.place * (len / (1 * 2 ^ a % 18446744073709551616)) ≤ len = rw is (omega (arith, room)) in
+    let below : c.loop-place.place * (length c.args.values.now / (1 * 2 ^ c.args.added_bits % 18446744073709551616)) ≤ length c.args.values.now =
+    omega (arith, slot_within (length c.args.values.now) c.args.log_h c.args.added_bits c.args.width c.loop-place.place c.requires.small c.requires.size c.loop-place-test.true) in
     scaled_fits≤ _ _ _ below (search rules)
 
 pub slice_bounds-slot-end : goal.slice_bounds-slot-end
-slice_bounds-slot-end g c =
-    let k = c.args.log_h in
-    let a = c.args.added_bits in
-    let len = length c.args.values.now in
-    let is = slot_size len k a c.args.width c.requires.small c.requires.size in
-    let room = slot_room c.loop-place.place a (2 ^ k * c.args.width) len (omega (arith, second_shift k a c.requires.small, c.loop-place-test.true)) (c.requires.size ∙ slots_whole k a c.args.width) in
-    rw is (omega (arith, room, is, c.loop-place.auto.others, c.split_at_mut-coefficients.ensures.back_len))
+slice_bounds-slot-end g c = slot_inside (length c.args.values.now) c.args.log_h c.args.added_bits c.args.width c.loop-place.place c.requires.small c.requires.size c.loop-place-test.true _ _ c.split_at_mut-coefficients.ensures.back_len c.loop-place.auto.others
 
 pub evaluate_to_reversed_oop-requires-clause-source : goal.evaluate_to_reversed_oop-requires-clause-source
 evaluate_to_reversed_oop-requires-clause-source g c =
@@ -64,13 +41,8 @@ evaluate_to_reversed_oop-requires-clause-source g c =
 
 pub evaluate_to_reversed_oop-requires-clause-size : goal.evaluate_to_reversed_oop-requires-clause-size
 evaluate_to_reversed_oop-requires-clause-size g c =
-    let k = c.args.log_h in
-    let a = c.args.added_bits in
-    let len = length c.args.values.now in
-    let whole = len / (1 * 2 ^ a % 18446744073709551616) in
-    let is = slot_size len k a c.args.width c.requires.small c.requires.size in
-    let room = slot_room c.loop-place.place a (2 ^ k * c.args.width) len (omega (arith, second_shift k a c.requires.small, c.loop-place-test.true)) (c.requires.size ∙ slots_whole k a c.args.width) in
-    part_length c.loop-place.others (c.loop-place.place * whole) whole (rw is (omega (arith, room, is, c.loop-place.auto.others, c.split_at_mut-coefficients.ensures.back_len))) ∙ is
+    part_length c.loop-place.others _ _ (slot_inside (length c.args.values.now) c.args.log_h c.args.added_bits c.args.width c.loop-place.place c.requires.small c.requires.size c.loop-place-test.true _ _ c.split_at_mut-coefficients.ensures.back_len c.loop-place.auto.others)
+    ∙ slot_size (length c.args.values.now) c.args.log_h c.args.added_bits c.args.width c.requires.small c.requires.size
 
 pub loop-place-init : goal.loop-place-init
 loop-place-init g c =
@@ -90,25 +62,21 @@ loop-place-preserved g c =
     let s = field.value c.args.shift in
     let place = c.loop-place.place in
     let len = length c.args.values.now in
-    let whole = len / (1 * 2 ^ a % 18446744073709551616) in
-    let is : whole ≡ 2 ^ k * w = slot_size len k a w c.requires.small c.requires.size in
-    let room = slot_room place a (2 ^ k * w) len (omega (arith, second_shift k a c.requires.small, c.loop-place-test.true)) (c.requires.size ∙ slots_whole k a w) in
-    let fits : place * whole + whole ≤ length c.loop-place.others = rw is (omega (arith, room, is, c.loop-place.auto.others, c.split_at_mut-coefficients.ensures.back_len)) in
+    let is = slot_size len k a w c.requires.small c.requires.size in
+    let fits = slot_inside len k a w place c.requires.small c.requires.size c.loop-place-test.true _ _ c.split_at_mut-coefficients.ensures.back_len c.loop-place.auto.others in
     let roots : AreRoots field.ring (k + a) gen = fewer_roots field.ring (k + a) _ c.requires.within g.met.F.TwoAdicField.roots_law in
-    let coefficients = c.split_at_mut-coefficients.result.0.now in
     let turned : field.value c.mul.result ≡ point field.ring gen (k + a) s (rev a (place + 1)) =
     g.met.F.Field.mul_law _ _ _ c.mul.ensures
     ∙ ap (field.ring.mul s) (c.exp_u64-turn.ensures ∙ ap₂ (power field.ring) c.two_adic_generator-root.ensures c.reverse_bits_len.ensures)
     ∙ sym (point-mul field.ring gen (k + a) s (rev a (place + 1))) in
     record {
       slots =
-          part-more field.ZERO (2 ^ k * w) _ _ c.loop-place.others c.evaluate_to_reversed_oop.new.values place whole is
-          fits
-          (c.evaluate_to_reversed_oop.auto.values ∙ part_length c.loop-place.others (place * whole) whole fits ∙ is)
+          part-more field.ZERO (2 ^ k * w) _ _ c.loop-place.others c.evaluate_to_reversed_oop.new.values place _ is fits
+          (c.evaluate_to_reversed_oop.auto.values ∙ part_length c.loop-place.others _ _ fits ∙ is)
           (λ u inside t j p q at.
           ap (λ n. field.value (get_or c.evaluate_to_reversed_oop.new.values n field.ZERO)) at ∙ c.evaluate_to_reversed_oop.ensures.values t j p q
-          ∙ ap (poly field.ring (2 ^ k) (λ q. field.value (get_or coefficients (q * w + j) field.ZERO)))
-          (ap (λ x. point field.ring gen k x (rev k t)) turned ∙ slot_point field.ring roots s k a (place + 1) t (omega arith) p))
+          ∙ slot_entry field g.F.TwoAdicField.generator k a w (λ q. q) s c.args.values.now c.split_at_mut-coefficients.result.0.now c.split_at_mut-coefficients.result.1.now c.split_at_mut-coefficients.ensures.value
+          (c.split_at_mut-coefficients.ensures.front_len ∙ is) (λ u l. l) roots _ (place + 1) t j turned p q)
           c.loop-place.invariant.slots;
       grows = omega (arith, c.loop-place.invariant.grows, c.evaluate_to_reversed_oop.ensures.grows);
       cost = count_more 1 place (w * (k * 2 ^ k / 2) + 2 ^ k * w) _ _ _ c.loop-place.invariant.cost (omega (arith, c.evaluate_to_reversed_oop.ensures.cost));
@@ -136,11 +104,6 @@ returns-clause-values g c =
     let coefficients = c.split_at_mut-coefficients.result.0.now in
     let roots : AreRoots field.ring (k + a) gen = fewer_roots field.ring (k + a) _ c.requires.within g.met.F.TwoAdicField.roots_law in
     let size : length coefficients ≡ 2 ^ k * w = c.split_at_mut-coefficients.ensures.front_len ∙ slot_size (length c.args.values.now) k a w c.requires.small c.requires.size in
-    let same : (x : field.Element) (j : ℕ) → j < w → poly field.ring (2 ^ k) (λ u. field.value (get_or coefficients (u * w + j) field.ZERO)) x
-    ≡ poly field.ring (2 ^ k) (λ u. field.value (get_or c.args.values.now (u * w + j) field.ZERO)) x = λ x j inside.
-    poly_same field.ring (2 ^ k) _ _ x (λ u l.
-    sym (ap (λ xs. field.value (get_or xs (u * w + j) field.ZERO)) c.split_at_mut-coefficients.ensures.value
-    ∙ ap field.value (in_first coefficients c.split_at_mut-coefficients.result.1.now (u * w + j) field.ZERO (omega (arith, size, row_below u j w (2 ^ k) l inside))))) in
     let first : s ≡ point field.ring gen (k + a) s (rev a 0) =
     sym (point-mul field.ring gen (k + a) s (rev a 0) ∙ ap (λ n. field.ring.mul s (power field.ring (gen (k + a)) n)) (rev_of_zero a)
     ∙ ap (field.ring.mul s) (power-zero field.ring (gen (k + a))) ∙ field.ring.mul_one s) in
@@ -150,13 +113,10 @@ returns-clause-values g c =
     (λ t j p inside.
     let whole : 0 * 2 ^ k + t ≡ t = omega arith in
     values_of_shifted field g.F.TwoAdicField.generator k w s _ coefficients c.shift_values.new.values front (one_shl k 64 (omega (arith, c.requires.small))) c.shift_values.ensures.values c.evaluate_to_reversed.ensures.values t j p inside
-    ∙ same _ j inside
-    ∙ ap (poly field.ring (2 ^ k) (λ u. field.value (get_or c.args.values.now (u * w + j) field.ZERO)))
-    (ap (λ x. point field.ring gen k x (rev k t)) first ∙ slot_point field.ring roots s k a 0 t (omega arith) p
-    ∙ ap (λ n. point field.ring gen (k + a) s (rev (k + a) n)) whole))
+    ∙ slot_entry field g.F.TwoAdicField.generator k a w (λ q. q) s c.args.values.now coefficients c.split_at_mut-coefficients.result.1.now c.split_at_mut-coefficients.ensures.value size (λ u l. l) roots _ 0 t j first p inside
+    ∙ ap (λ n. poly field.ring (2 ^ k) (λ u. field.value (get_or c.args.values.now (u * w + j) field.ZERO)) (point field.ring gen (k + a) s (rev (k + a) n))) whole)
     (λ p t j below q inside.
-    c.loop-place.invariant.slots.done p (t * w + j) (omega (arith, below, second_shift k a c.requires.small, c.loop-place-test.false)) (row_below t j w (2 ^ k) q inside) t j q inside refl
-    ∙ same _ j inside)
+    c.loop-place.invariant.slots.done p (t * w + j) (omega (arith, below, second_shift k a c.requires.small, c.loop-place-test.false)) (row_below t j w (2 ^ k) q inside) t j q inside refl)
 
 pub returns-clause-cost : goal.returns-clause-cost
 returns-clause-cost g c =

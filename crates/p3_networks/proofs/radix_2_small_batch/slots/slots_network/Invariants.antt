@@ -16,7 +16,7 @@ invariant-loop-place g l =
     record {
       slots : RowsDone field.ZERO (2 ^ k * w)
           (λ p u y. (t j : ℕ) → t < 2 ^ k → j < w → u ≡ t * w + j → field.value y
-          ≡ poly field.ring (2 ^ k) (λ q. field.value (get_or l.coefficients (q * w + j) field.ZERO))
+          ≡ poly field.ring (2 ^ k) (λ q. field.value (get_or l.fn.values (q * w + j) field.ZERO))
           (point field.ring (forward_root field g.F.TwoAdicField.generator) n (field.value l.fn.shift) (rev n ((p + 1) * 2 ^ k + t))))
           l.initial.others l.place l.others;
       grows : l.fn.products ≤ l.products;
