@@ -33,11 +33,6 @@ pub record TakesCells {T A : Type 0} (value_before value : T → A) (d : T) (ord
   pub taken : (k : ℕ) (cells : ℕ → ℕ → A) → AreLayersInOrder order k w near far cells → (number + 1) * 2 ^ top ≤ 2 ^ k
       → HoldsCells value_before d (number * length before) (cells from) before → HoldsCells value d (number * length before) (cells to) after
 
--- one layer, in blocks of two halves of so many cells
-pub record IsLayer {A : Type 0} (blocks half : ℕ) (near far : ℕ → A → A → A) (before after : ℕ → A) : Type 0 where
-  pub near_cell : (b i : ℕ) → b < blocks → i < half → after (b * (2 * half) + i) ≡ near b (before (b * (2 * half) + i)) (before (b * (2 * half) + (half + i)))
-  pub far_cell : (b i : ℕ) → b < blocks → i < half → after (b * (2 * half) + (half + i)) ≡ far b (before (b * (2 * half) + i)) (before (b * (2 * half) + (half + i)))
-
 -- rows of `part` cells, of which the list's first cell is number `first`, hold those of the columns from `at` up to `end`
 abbrev pub HoldsColumns : {T A : Type 0} → (T → A) → T → ℕ → ℕ → ℕ → ℕ → ℕ → (ℕ → A) → List T → Type 0
 HoldsColumns value d part rows first at end cells xs = (r j : ℕ) → r < rows → j < part → at ≤ j → j < end → value (get_or xs (r * part + j) d) ≡ cells (first + (r * part + j))

@@ -11,6 +11,15 @@ pub record AreLayers {A : Type 0} (k w : ℕ) (near far : ℕ → A → A → A)
   pub far_cell : (e b i : ℕ) → e < k → b < 2 ^ (k - 1 - e) → i < 2 ^ e * w
       → after e (b * (2 * (2 ^ e * w)) + (2 ^ e * w + i)) ≡ far b (before e (b * (2 * (2 ^ e * w)) + i)) (before e (b * (2 * (2 ^ e * w)) + (2 ^ e * w + i)))
 
+-- cell i of the first half of a block meets its like in the second: near stands in the first of them, far in the other
+pub record MeetHalves {A : Type 0} (half : ℕ) (near far : ℕ → A → A → A) (before after : ℕ → A) : Type 0 where
+  pub near_cell : (i : ℕ) → i < half → after i ≡ near i (before i) (before (half + i))
+  pub far_cell : (i : ℕ) → i < half → after (half + i) ≡ far i (before i) (before (half + i))
+
+-- one layer: each of so many blocks, of two halves of so many cells
+abbrev pub IsLayer : {A : Type 0} → ℕ → ℕ → (ℕ → ℕ → A → A → A) → (ℕ → ℕ → A → A → A) → (ℕ → A) → (ℕ → A) → Type 0
+IsLayer blocks half near far before after = (b : ℕ) → b < blocks → MeetHalves half (near b) (far b) (λ n. before (b * (2 * half) + n)) (λ n. after (b * (2 * half) + n))
+
 -- a list holds the cells from number `first` on
 abbrev pub HoldsCells : {T A : Type 0} → (T → A) → T → ℕ → (ℕ → A) → List T → Type 0
 HoldsCells value d first cells xs = (i : ℕ) → i < length xs → value (get_or xs i d) ≡ cells (first + i)

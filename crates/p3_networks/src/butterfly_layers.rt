@@ -1,7 +1,9 @@
 //! Layers of the networks, on rows that lie one after the other in a slice.
 
-ghost use Rattle.std.specs.Prelude.{◌≡◌, ◌↔◌, ◌⊎◌, ℕ, ◌+◌, ◌*◌, ◌/◌, ◌^◌, ◌<◌, ◌≤◌, Bool, IsTrue, List, length, get_or};
+ghost use Rattle.std.specs.Prelude.{◌≡◌, ◌↔◌, ◌⊎◌, ℕ, ◌+◌, ◌-◌, ◌*◌, ◌/◌, ◌^◌, ◌<◌, ◌≤◌};
+ghost use Rattle.std.specs.Prelude.{Bool, IsTrue, List, length, get_or};
 ghost use Rattle.p3_field.specs.Ring.{Ring};
+ghost use Rattle.p3_networks.specs.Layers.{IsLayer, MeetHalves};
 
 pub mod rules;
 
@@ -93,16 +95,10 @@ pub fn layer<F: TwoAdicField, R: Rule<F>>(
     requires numbers { first_block + blocks < 2 ^ 64 }
     requires size { length values.old ≡ blocks * (2 * (half * width)) }
     requires there { (b t : ℕ) → b < blocks → t < half → R.has rule (first_block + b) t }
-    ensures near { let cell = λ (xs : List F) (n : ℕ). F.value (get_or xs n F.ZERO) in
-        let size = half * width in
-        (b i : ℕ) → b < blocks → i < size → cell values.new (b * (2 * size) + i)
-        ≡ R.near F.Element F.ring F.value rule (first_block + b) (i / width)
-        (cell values.old (b * (2 * size) + i)) (cell values.old (b * (2 * size) + (size + i))) }
-    ensures far { let cell = λ (xs : List F) (n : ℕ). F.value (get_or xs n F.ZERO) in
-        let size = half * width in
-        (b i : ℕ) → b < blocks → i < size → cell values.new (b * (2 * size) + (size + i))
-        ≡ R.far F.Element F.ring F.value rule (first_block + b) (i / width)
-        (cell values.old (b * (2 * size) + i)) (cell values.old (b * (2 * size) + (size + i))) }
+    ensures cells { IsLayer blocks (half * width)
+        (λ b i. R.near F.Element F.ring F.value rule (first_block + b) (i / width))
+        (λ b i. R.far F.Element F.ring F.value rule (first_block + b) (i / width))
+        (λ n. F.value (get_or values.old n F.ZERO)) (λ n. F.value (get_or values.new n F.ZERO)) }
     ensures grows { products.old ≤ products.new }
     ensures cost { products.new ≤ products.old + R.cost * (blocks * (half * width)) }
 {
@@ -135,16 +131,10 @@ fn meet_blocks<F: TwoAdicField, R: Rule<F>>(
     requires numbers { first_block + blocks < 2 ^ 64 }
     requires size { length values.old ≡ blocks * (2 * (half * width)) }
     requires there { (b t : ℕ) → b < blocks → t < half → R.has rule (first_block + b) t }
-    ensures near { let cell = λ (xs : List F) (n : ℕ). F.value (get_or xs n F.ZERO) in
-        let size = half * width in
-        (b i : ℕ) → b < blocks → i < size → cell values.new (b * (2 * size) + i)
-        ≡ R.near F.Element F.ring F.value rule (first_block + b) (i / width)
-        (cell values.old (b * (2 * size) + i)) (cell values.old (b * (2 * size) + (size + i))) }
-    ensures far { let cell = λ (xs : List F) (n : ℕ). F.value (get_or xs n F.ZERO) in
-        let size = half * width in
-        (b i : ℕ) → b < blocks → i < size → cell values.new (b * (2 * size) + (size + i))
-        ≡ R.far F.Element F.ring F.value rule (first_block + b) (i / width)
-        (cell values.old (b * (2 * size) + i)) (cell values.old (b * (2 * size) + (size + i))) }
+    ensures cells { IsLayer blocks (half * width)
+        (λ b i. R.near F.Element F.ring F.value rule (first_block + b) (i / width))
+        (λ b i. R.far F.Element F.ring F.value rule (first_block + b) (i / width))
+        (λ n. F.value (get_or values.old n F.ZERO)) (λ n. F.value (get_or values.new n F.ZERO)) }
     ensures grows { products.old ≤ products.new }
     ensures cost { products.new ≤ products.old + R.cost * (blocks * (half * width)) }
 {
@@ -170,14 +160,9 @@ fn meet_block<F: TwoAdicField, R: Rule<F>>(
     requires some { 1 ≤ half }
     requires size { length values.old ≡ 2 * (half * width) }
     requires there { (t : ℕ) → t < half → R.has rule block t }
-    ensures near { let cell = λ (xs : List F) (n : ℕ). F.value (get_or xs n F.ZERO) in
-        let size = half * width in
-        (i : ℕ) → i < size → cell values.new i
-        ≡ R.near F.Element F.ring F.value rule block (i / width) (cell values.old i) (cell values.old (size + i)) }
-    ensures far { let cell = λ (xs : List F) (n : ℕ). F.value (get_or xs n F.ZERO) in
-        let size = half * width in
-        (i : ℕ) → i < size → cell values.new (size + i)
-        ≡ R.far F.Element F.ring F.value rule block (i / width) (cell values.old i) (cell values.old (size + i)) }
+    ensures cells { MeetHalves (half * width) (λ i. R.near F.Element F.ring F.value rule block (i / width))
+        (λ i. R.far F.Element F.ring F.value rule block (i / width))
+        (λ n. F.value (get_or values.old n F.ZERO)) (λ n. F.value (get_or values.new n F.ZERO)) }
     ensures grows { products.old ≤ products.new }
     ensures cost { products.new ≤ products.old + R.cost * (half * width) }
 {
@@ -223,43 +208,40 @@ fn meet_halves<F: TwoAdicField, R: Rule<F>>(
     ensures cost { products.new ≤ products.old + R.cost * (half * width) }
 {
     // The first pair stands apart: what a rule asks of place 0 is then known in the loop.
-    meet_rows_at(rule, low, high, width, block, 0, products);
+    meet_ranges(rule, low, high, 0, width, block, 0, products);
     for t in 1..half {
-        meet_rows_at(rule, low, high, width, block, t, products);
+        let start = t * width;
+        meet_ranges(rule, low, high, start, start + width, block, t, products);
     }
 }
 
-// The pair of rows at one place. The other rows stay.
+// The entries from `start` up to `end` of both halves, which are of one place. The others stay.
 #[inline(always)]
-fn meet_rows_at<F: TwoAdicField, R: Rule<F>>(
+pub(crate) fn meet_ranges<F: TwoAdicField, R: Rule<F>>(
     rule: R,
     low: &mut [F],
     high: &mut [F],
-    width: usize,
+    start: usize,
+    end: usize,
     block: usize,
     place: usize,
     products: &mut Products,
 )
-    requires room { place * width + width ≤ length low.old }
+    requires some { start ≤ end }
+    requires room { end ≤ length low.old }
     requires size { length low.old ≡ length high.old }
     requires there { R.has rule block place }
     ensures near { let cell = λ (xs : List F) (n : ℕ). F.value (get_or xs n F.ZERO) in
-        (j : ℕ) → j < width → cell low.new (place * width + j)
-        ≡ R.near F.Element F.ring F.value rule block place (cell low.old (place * width + j))
-        (cell high.old (place * width + j)) }
+        (n : ℕ) → start ≤ n → n < end → cell low.new n
+        ≡ R.near F.Element F.ring F.value rule block place (cell low.old n) (cell high.old n) }
     ensures far { let cell = λ (xs : List F) (n : ℕ). F.value (get_or xs n F.ZERO) in
-        (j : ℕ) → j < width → cell high.new (place * width + j)
-        ≡ R.far F.Element F.ring F.value rule block place (cell low.old (place * width + j))
-        (cell high.old (place * width + j)) }
-    ensures low_stays { (n : ℕ) → (n < place * width) ⊎ (place * width + width ≤ n)
-        → get_or low.new n F.ZERO ≡ get_or low.old n F.ZERO }
-    ensures high_stays { (n : ℕ) → (n < place * width) ⊎ (place * width + width ≤ n)
-        → get_or high.new n F.ZERO ≡ get_or high.old n F.ZERO }
+        (n : ℕ) → start ≤ n → n < end → cell high.new n
+        ≡ R.far F.Element F.ring F.value rule block place (cell low.old n) (cell high.old n) }
+    ensures low_stays { (n : ℕ) → (n < start) ⊎ (end ≤ n) → get_or low.new n F.ZERO ≡ get_or low.old n F.ZERO }
+    ensures high_stays { (n : ℕ) → (n < start) ⊎ (end ≤ n) → get_or high.new n F.ZERO ≡ get_or high.old n F.ZERO }
     ensures grows { products.old ≤ products.new }
-    ensures cost { products.new ≤ products.old + R.cost * width }
+    ensures cost { products.new ≤ products.old + R.cost * (end - start) }
 {
-    let start = place * width;
-    let end = start + width;
     rule.meet(
         block,
         place,
@@ -286,14 +268,9 @@ pub fn layer_oop<F: TwoAdicField, B: Butterfly<F>>(
     requires blocks { 1 ≤ blocks }
     requires source { length source.now ≡ blocks * (2 * size) }
     requires size { length values.old ≡ blocks * (2 * size) }
-    ensures near { let cell = λ (xs : List F) (n : ℕ). F.value (get_or xs n F.ZERO) in
-        (b i : ℕ) → b < blocks → i < size → cell values.new (b * (2 * size) + i)
-        ≡ B.near F.Element F.ring F.value butterfly (cell source.now (b * (2 * size) + i))
-        (cell source.now (b * (2 * size) + (size + i))) }
-    ensures far { let cell = λ (xs : List F) (n : ℕ). F.value (get_or xs n F.ZERO) in
-        (b i : ℕ) → b < blocks → i < size → cell values.new (b * (2 * size) + (size + i))
-        ≡ B.far F.Element F.ring F.value butterfly (cell source.now (b * (2 * size) + i))
-        (cell source.now (b * (2 * size) + (size + i))) }
+    ensures cells { IsLayer blocks size (λ b i. B.near F.Element F.ring F.value butterfly)
+        (λ b i. B.far F.Element F.ring F.value butterfly)
+        (λ n. F.value (get_or source.now n F.ZERO)) (λ n. F.value (get_or values.new n F.ZERO)) }
     ensures grows { products.old ≤ products.new }
     ensures cost { products.new ≤ products.old + B.cost * (blocks * size) }
 {
@@ -321,12 +298,9 @@ fn meet_block_oop<F: TwoAdicField, B: Butterfly<F>>(
 )
     requires source { length source.now ≡ 2 * size }
     requires size { length values.old ≡ 2 * size }
-    ensures near { let cell = λ (xs : List F) (n : ℕ). F.value (get_or xs n F.ZERO) in
-        (i : ℕ) → i < size → cell values.new i
-        ≡ B.near F.Element F.ring F.value butterfly (cell source.now i) (cell source.now (size + i)) }
-    ensures far { let cell = λ (xs : List F) (n : ℕ). F.value (get_or xs n F.ZERO) in
-        (i : ℕ) → i < size → cell values.new (size + i)
-        ≡ B.far F.Element F.ring F.value butterfly (cell source.now i) (cell source.now (size + i)) }
+    ensures cells { MeetHalves size (λ i. B.near F.Element F.ring F.value butterfly)
+        (λ i. B.far F.Element F.ring F.value butterfly)
+        (λ n. F.value (get_or source.now n F.ZERO)) (λ n. F.value (get_or values.new n F.ZERO)) }
     ensures count { products.new ≡ products.old + B.cost * size }
 {
     let (from_1, from_2) = source.split_at(size);

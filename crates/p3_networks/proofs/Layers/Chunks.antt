@@ -4,7 +4,7 @@ use Rattle.std.proofs.Math.Nat.{pow-le-pow_right, mul-le-mul_right, mul-le-mul_l
 use Rattle.std.proofs.lemmas.Bool.{cases_lt}
 use Rattle.std.proofs.lemmas.Nat.{one_shl, pow_pos}
 use Rattle.p3_matrix.proofs.TwoPowers.{log_lt}
-use Rattle.p3_networks.specs.Layers.{AreLayers, HoldsCells}
+use Rattle.p3_networks.specs.Layers.{AreLayers, HoldsCells, IsLayer}
 use Rattle.p3_networks.proofs.Layers.Blocks.{each_row, halves_whole}
 
 -- a chunk of 2 ^ top rows within 2 ^ k is no longer than they are
@@ -39,19 +39,16 @@ module _ {A T : Type 0} (value : T → A) (d : T) (near far : ℕ → ℕ → A 
       → length x ≡ blocks * (2 * (half * w)) → length y ≡ length x → (number + 1) * 2 ^ top ≤ 2 ^ k
       → ((b t : ℕ) (p q : A) → near b t p q ≡ near b 0 p q) → ((b t : ℕ) (p q : A) → far b t p q ≡ far b 0 p q)
       → AreLayers k w (λ b. near b 0) (λ b. far b 0) before after
-      → ((b i : ℕ) → b < blocks → i < half * w → value (get_or y (b * (2 * (half * w)) + i) d)
-      ≡ near (number * blocks + b) (place_of i) (value (get_or x (b * (2 * (half * w)) + i) d)) (value (get_or x (b * (2 * (half * w)) + (half * w + i)) d)))
-      → ((b i : ℕ) → b < blocks → i < half * w → value (get_or y (b * (2 * (half * w)) + (half * w + i)) d)
-      ≡ far (number * blocks + b) (place_of i) (value (get_or x (b * (2 * (half * w)) + i) d)) (value (get_or x (b * (2 * (half * w)) + (half * w + i)) d)))
+      → IsLayer blocks (half * w) (λ b i. near (number * blocks + b) (place_of i)) (λ b i. far (number * blocks + b) (place_of i)) (λ u. value (get_or x u d)) (λ u. value (get_or y u d))
       → HoldsCells value d (number * length x) (before e) x → HoldsCells value d (number * length x) (after e) y
-  chunk_taken k w e top number blocks half place_of before after x y below blocks_is half_is size same room near_same far_same layers is_near is_far holds n inside =
+  chunk_taken k w e top number blocks half place_of before after x y below blocks_is half_is size same room near_same far_same layers layer holds n inside =
       each_row (λ i. value (get_or y i d) ≡ after e (number * length x + i)) (half * w) blocks
       (λ b i p q. (
-        is_near b i p q ∙ near_same _ _ _ _ ∙ ap₂ (near (number * blocks + b) 0) (held b i p (omega (arith, q))) (held b (half * w + i) p (omega (arith, q)))
+        (layer b p).near_cell i q ∙ near_same _ _ _ _ ∙ ap₂ (near (number * blocks + b) 0) (held b i p (omega (arith, q))) (held b (half * w + i) p (omega (arith, q)))
             ∙ sym (subst (λ (h : ℕ). after e ((number * blocks + b) * (2 * (h * w)) + i) ≡ near (number * blocks + b) 0 (before e ((number * blocks + b) * (2 * (h * w)) + i)) (before e ((number * blocks + b) * (2 * (h * w)) + (h * w + i)))) (sym half_is)
             (layers.near_cell e (number * blocks + b) i (omega (arith, below, within)) (inside_all b p) (subst (λ (h : ℕ). i < h * w) half_is q)))
             ∙ ap (after e) (place b i),
-        is_far b i p q ∙ far_same _ _ _ _ ∙ ap₂ (far (number * blocks + b) 0) (held b i p (omega (arith, q))) (held b (half * w + i) p (omega (arith, q)))
+        (layer b p).far_cell i q ∙ far_same _ _ _ _ ∙ ap₂ (far (number * blocks + b) 0) (held b i p (omega (arith, q))) (held b (half * w + i) p (omega (arith, q)))
             ∙ sym (subst (λ (h : ℕ). after e ((number * blocks + b) * (2 * (h * w)) + (h * w + i)) ≡ far (number * blocks + b) 0 (before e ((number * blocks + b) * (2 * (h * w)) + i)) (before e ((number * blocks + b) * (2 * (h * w)) + (h * w + i)))) (sym half_is)
             (layers.far_cell e (number * blocks + b) i (omega (arith, below, within)) (inside_all b p) (subst (λ (h : ℕ). i < h * w) half_is q)))
             ∙ ap (after e) (place b (half * w + i)),

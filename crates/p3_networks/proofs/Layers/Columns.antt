@@ -4,32 +4,15 @@ use Rattle.std.proofs.lemmas.Bool.{cases_lt}
 use Rattle.std.proofs.lemmas.Nat.{div-add-mod', div_below, mod_below}
 use Rattle.std.proofs.Math.Nat.{mul-le-mul_right}
 use borrow.Rule.Slice.PartMut.{put_mid}
-use Rattle.p3_networks.specs.Groups.{HoldsColumns, IsLayer, TakesColumns}
+use Rattle.p3_networks.specs.Groups.{HoldsColumns, TakesColumns}
+use Rattle.p3_networks.specs.Layers.{IsLayer}
 use Rattle.p3_networks.proofs.Layers.Blocks.{halves_are, row_below}
-use Rattle.p3_matrix.proofs.Rows.Overwritten.{RowsDone, part_at, put_after, put_before, put_in, part-more}
+use Rattle.p3_matrix.proofs.Rows.Overwritten.{RowsDone, part_at, part-more}
 
 -- y stands in column j of a row: between two columns what is meant, else what was there
 pub record InColumns {A T : Type 0} (value : T → A) (at end : ℕ) (is : A) (was : T) (j : ℕ) (y : T) : Type 0 where
   pub inside : at ≤ j → j < end → value y ≡ is
   pub outside : (j < at) ⊎ (end ≤ j) → y ≡ was
-
-module _ {A T : Type 0} (value : T → A) (d : T) (at end : ℕ) where
-  -- a row whose columns were done as a part of their own
-  pub columns_written : (is : ℕ → A) (row new : List T) → at ≤ end → end ≤ length row → length new ≡ end - at
-      → ((j : ℕ) → j < end - at → value (get_or new j d) ≡ is (at + j))
-      → (j : ℕ) → InColumns value at end (is j) (get_or row j d) j (get_or (put_mid at (end - at) row new) j d)
-  columns_written is row new order room len are j = record {
-    inside = λ first last.
-        let back : at + (j - at) ≡ j = omega (arith, first) in
-        ap (λ n. value (get_or (put_mid at (end - at) row new) n d)) (sym back)
-        ∙ ap value (put_in row new at (end - at) (j - at) d (omega (arith, order, room)) (omega (arith, first, last, len)))
-        ∙ are (j - at) (omega (arith, first, last)) ∙ ap is back;
-    outside = λ where_is.
-        ⊎_elim
-        (λ before. put_before row new at (end - at) j d (omega (arith, order, room)) before)
-        (λ after. put_after row new at (end - at) j d (omega (arith, order, room)) len (omega (arith, order, after)))
-        where_is;
-  }
 
 -- a row of which a cell lies within n rows
 row_within : (u part j n : ℕ) → u * part + j < n * part → u < n
@@ -44,7 +27,7 @@ module _ {A T : Type 0} (value : T → A) (d : T) (part half at end : ℕ) where
         → (get_or new (t * part + j) d ≡ get_or old (t * part + j) d) × (get_or new (half * part + (t * part + j)) d ≡ get_or old (half * part + (t * part + j)) d)
 
   -- one block: the columns that met hold the cells behind the layer, and the others stay; x are the cells before
-  pub block_columns : (near far : ℕ → A → A → A) (all c : ℕ) (before after : ℕ → A) (x : ℕ → T) (old new : List T) → IsLayer all (half * part) near far before after → c < all
+  pub block_columns : (near far : ℕ → A → A → A) (all c : ℕ) (before after : ℕ → A) (x : ℕ → T) (old new : List T) → IsLayer all (half * part) (λ b i. near b) (λ b i. far b) before after → c < all
       → ((i : ℕ) → i < 2 * (half * part) → get_or old i d ≡ x i)
       → ((u j : ℕ) → u < 2 * half → j < part → at ≤ j → j < end → value (x (u * part + j)) ≡ before (c * (2 * (half * part)) + (u * part + j)))
       → MeetInColumns (near c) (far c) old new
@@ -54,7 +37,7 @@ module _ {A T : Type 0} (value : T → A) (d : T) (part half at end : ℕ) where
       (λ first.
       let inside : u * part + j < half * part = row_below u j part half first column in
       record {
-        inside = λ p q. met.near_half u j first column p q ∙ ap₂ (near c) (low_cell u first p q) (high_cell u first p q) ∙ sym (layer.near_cell c (u * part + j) among inside);
+        inside = λ p q. met.near_half u j first column p q ∙ ap₂ (near c) (low_cell u first p q) (high_cell u first p q) ∙ sym ((layer c among).near_cell (u * part + j) inside);
         outside = λ o. (met.kept u j first column o).0 ∙ same (u * part + j) (omega (arith, inside));
       })
       (λ second.
@@ -65,7 +48,7 @@ module _ {A T : Type 0} (value : T → A) (d : T) (part half at end : ℕ) where
       let place : half * part + (t * part + j) ≡ u * part + j = (let spread : half * part + (t * part + j) ≡ (half + t) * part + j = omega arith in spread) ∙ ap (λ n. n * part + j) is in
       subst (λ (n : ℕ). InColumns value at end (after (c * (2 * (half * part)) + n)) (x n) j (get_or new n d)) place
       (record {
-        inside = λ p q. met.far_half t j less column p q ∙ ap₂ (far c) (low_cell t less p q) (high_cell t less p q) ∙ sym (layer.far_cell c (t * part + j) among inside);
+        inside = λ p q. met.far_half t j less column p q ∙ ap₂ (far c) (low_cell t less p q) (high_cell t less p q) ∙ sym ((layer c among).far_cell (t * part + j) inside);
         outside = λ o. (met.kept t j less column o).1 ∙ same (half * part + (t * part + j)) (omega (arith, inside));
       }))
       (cases_lt u half)
@@ -84,7 +67,7 @@ module _ {A T : Type 0} (value : T → A) (d : T) (part half at end : ℕ) where
   BlockColumns first after old b n y = (u j : ℕ) → j < part → n ≡ u * part + j → InColumns value at end (after (first + (b * (2 * (half * part)) + n))) (get_or old (b * (2 * (half * part)) + n) d) j y
 
   -- one block more, of those from number `first_block` on
-  pub blocks_of_columns-more : (near far : ℕ → A → A → A) (all first_block blocks b whole : ℕ) (before after : ℕ → A) (old now new : List T) → IsLayer all (half * part) near far before after
+  pub blocks_of_columns-more : (near far : ℕ → A → A → A) (all first_block blocks b whole : ℕ) (before after : ℕ → A) (old now new : List T) → IsLayer all (half * part) (λ b i. near b) (λ b i. far b) before after
       → first_block + blocks ≤ all → b < blocks → whole ≡ 2 * (half * part) → b * whole + whole ≤ length now → length new ≡ 2 * (half * part)
       → HoldsColumns value d part (blocks * (2 * half)) (first_block * (2 * (half * part))) at end before old
       → MeetInColumns (near (first_block + b)) (far (first_block + b)) (take (b * whole + whole - b * whole) (drop (b * whole) now)) new

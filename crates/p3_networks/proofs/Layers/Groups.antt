@@ -4,8 +4,8 @@ use Rattle.std.proofs.Math.Nat.{mul-le-mul, mul-le-mul_left, mul-le-mul_right, p
 use Rattle.std.proofs.lemmas.Bool.{cases_lt}
 use Rattle.std.proofs.lemmas.Nat.{div-add-mod', div_below, mod_below, one_shl, pow-add, pow_pos}
 use Rattle.p3_matrix.proofs.TwoPowers.{log_lt}
-use Rattle.p3_networks.specs.Groups.{AreLayersInOrder, HoldsColumns, IsLayer, TakesColumns, cells_of, layer_of, group_end, group_of}
-use Rattle.p3_networks.specs.Layers.{AreLayers, HoldsCells}
+use Rattle.p3_networks.specs.Groups.{AreLayersInOrder, HoldsColumns, TakesColumns, cells_of, layer_of, group_end, group_of}
+use Rattle.p3_networks.specs.Layers.{AreLayers, HoldsCells, IsLayer}
 use Rattle.p3_networks.specs.declared.radix_2_small_batch.groups.Order.{Order}
 use Rattle.p3_networks.specs.declared.radix_2_small_batch.groups.Order.TheVariants.{LargestFirst, SmallestFirst}
 use Rattle.p3_networks.proofs.Layers.Blocks.{halves_whole, row_below}
@@ -80,19 +80,19 @@ block_there top e number b below inside =
 
 -- each layer of a group is one of those that lead through the cells
 pub layer_in_order : {A : Type 0} (order : Order) (k w from to done : ℕ) (near far : ℕ → A → A → A) (cells : ℕ → ℕ → A) → AreLayersInOrder order k w near far cells → done < to - from → to ≤ k
-    → IsLayer (2 ^ (k - 1 - layer_of order from to done)) (2 ^ layer_of order from to done * w) near far (cells (cells_of order from to done)) (cells (cells_of order from to (done + 1)))
+    → IsLayer (2 ^ (k - 1 - layer_of order from to done)) (2 ^ layer_of order from to done * w) (λ b i. near b) (λ b i. far b) (cells (cells_of order from to done)) (cells (cells_of order from to (done + 1)))
 layer_in_order LargestFirst k w from to done near far cells layers below within =
     let e = to - 1 - done in
     let before : e + 1 ≡ to - done = omega (arith, below) in
     let after : e ≡ to - (done + 1) = omega arith in
-    subst (λ (m : ℕ). IsLayer (2 ^ (k - 1 - e)) (2 ^ e * w) near far (cells m) (cells (to - (done + 1)))) before
-    (subst (λ (m : ℕ). IsLayer (2 ^ (k - 1 - e)) (2 ^ e * w) near far (cells (e + 1)) (cells m)) after
-    (record { near_cell = λ b i p q. layers.near_cell e b i (omega (arith, below, within)) p q; far_cell = λ b i p q. layers.far_cell e b i (omega (arith, below, within)) p q }))
+    subst (λ (m : ℕ). IsLayer (2 ^ (k - 1 - e)) (2 ^ e * w) (λ b i. near b) (λ b i. far b) (cells m) (cells (to - (done + 1)))) before
+    (subst (λ (m : ℕ). IsLayer (2 ^ (k - 1 - e)) (2 ^ e * w) (λ b i. near b) (λ b i. far b) (cells (e + 1)) (cells m)) after
+    (λ b p. record { near_cell = λ i q. layers.near_cell e b i (omega (arith, below, within)) p q; far_cell = λ i q. layers.far_cell e b i (omega (arith, below, within)) p q }))
 layer_in_order SmallestFirst k w from to done near far cells layers below within =
     let e = from + done in
     let after : e + 1 ≡ from + (done + 1) = omega arith in
-    subst (λ (m : ℕ). IsLayer (2 ^ (k - 1 - e)) (2 ^ e * w) near far (cells e) (cells m)) after
-    (record { near_cell = λ b i p q. layers.near_cell e b i (omega (arith, below, within)) p q; far_cell = λ b i p q. layers.far_cell e b i (omega (arith, below, within)) p q })
+    subst (λ (m : ℕ). IsLayer (2 ^ (k - 1 - e)) (2 ^ e * w) (λ b i. near b) (λ b i. far b) (cells e) (cells m)) after
+    (λ b p. record { near_cell = λ i q. layers.near_cell e b i (omega (arith, below, within)) p q; far_cell = λ i q. layers.far_cell e b i (omega (arith, below, within)) p q })
 
 -- which cells stand before and behind a layer
 abbrev pub before_of : Order → ℕ → ℕ

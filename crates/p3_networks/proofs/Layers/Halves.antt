@@ -4,6 +4,7 @@ use Rattle.std.proofs.lemmas.List.{places}
 use Rattle.std.proofs.lemmas.Nat.{div-add-mod', div_below, mod_below, one_shl, pow_pos}
 use Rattle.std.proofs.Math.Nat.{add-sub_cancel_left, mul-div_cancel, mul-le-mul_right}
 use borrow.Rule.Slice.PartMut.{put_mid}
+use Rattle.p3_networks.specs.Layers.{IsLayer, MeetHalves}
 use Rattle.p3_matrix.proofs.Rows.Overwritten.{RowsDone, part-more, part_at, part_size}
 
 -- a place in a list of two parts
@@ -65,52 +66,43 @@ module _ {A T : Type 0} (value : T → A) (d : T) (near far : ℕ → ℕ → A 
   -- one more block, from the cells x, which a part holds; the program has the size of a block in a variable of its own
   pub block-more : (x : ℕ → A) (before now part block : List T) (b whole : ℕ) → whole ≡ 2 * size → b * whole + whole ≤ length now → length block ≡ 2 * size
       → ((n : ℕ) → n < 2 * size → value (get_or part n d) ≡ x (b * (2 * size) + n))
-      → ((i : ℕ) → i < size → value (get_or block i d) ≡ near b i (value (get_or part i d)) (value (get_or part (size + i) d)))
-      → ((i : ℕ) → i < size → value (get_or block (size + i) d) ≡ far b i (value (get_or part i d)) (value (get_or part (size + i) d)))
+      → MeetHalves size (near b) (far b) (λ n. value (get_or part n d)) (λ n. value (get_or block n d))
       → RowsDone d (2 * size) (BothHalves size near far x value) before b now
       → RowsDone d (2 * size) (BothHalves size near far x value) before (b + 1) (put_mid (b * whole) (b * whole + whole - b * whole) now block)
-  block-more x before now part block b whole is room len cell is_near is_far so_far =
+  block-more x before now part block b whole is room len cell met so_far =
       part-more d (2 * size) (BothHalves size near far x value) before now block b whole is room len
       (λ n inside. record {
-        first = λ i p e. ap (λ k. value (get_or block k d)) e ∙ is_near i p ∙ ap₂ (near b i) (cell i (omega arith)) (cell (size + i) (omega arith));
-        second = λ i p e. ap (λ k. value (get_or block k d)) e ∙ is_far i p ∙ ap₂ (far b i) (cell i (omega arith)) (cell (size + i) (omega arith));
+        first = λ i p e. ap (λ k. value (get_or block k d)) e ∙ met.near_cell i p ∙ ap₂ (near b i) (cell i (omega arith)) (cell (size + i) (omega arith));
+        second = λ i p e. ap (λ k. value (get_or block k d)) e ∙ met.far_cell i p ∙ ap₂ (far b i) (cell i (omega arith)) (cell (size + i) (omega arith));
       }) so_far
 
-  -- the first halves of all blocks, when so many are done, and the second halves
-  pub first-all : (x : ℕ → A) (before after : List T) (n blocks : ℕ) → blocks ≤ n → RowsDone d (2 * size) (BothHalves size near far x value) before n after
-      → (b i : ℕ) → b < blocks → i < size → value (get_or after (b * (2 * size) + i) d) ≡ near b i (x (b * (2 * size) + i)) (x (b * (2 * size) + (size + i)))
-  first-all x before after n blocks all so_far b i below inside = (so_far.done b i (omega (arith, below, all)) (omega (arith, inside))).first i inside refl
-
-  pub second-all : (x : ℕ → A) (before after : List T) (n blocks : ℕ) → blocks ≤ n → RowsDone d (2 * size) (BothHalves size near far x value) before n after
-      → (b i : ℕ) → b < blocks → i < size → value (get_or after (b * (2 * size) + (size + i)) d) ≡ far b i (x (b * (2 * size) + i)) (x (b * (2 * size) + (size + i)))
-  second-all x before after n blocks all so_far b i below inside = (so_far.done b (size + i) (omega (arith, below, all)) (omega (arith, inside))).second i inside refl
+  -- the layer, when so many blocks are done
+  pub blocks-all : (x : ℕ → A) (before after : List T) (n blocks : ℕ) → blocks ≤ n → RowsDone d (2 * size) (BothHalves size near far x value) before n after → IsLayer blocks size near far x (λ i. value (get_or after i d))
+  blocks-all x before after n blocks all so_far b below = record {
+    near_cell = λ i inside. (so_far.done b i (omega (arith, below, all)) (omega (arith, inside))).first i inside refl;
+    far_cell = λ i inside. (so_far.done b (size + i) (omega (arith, below, all)) (omega (arith, inside))).second i inside refl;
+  }
 
   -- in place: the part is that of the list so far
   pub blocks-more : (before now block : List T) (b whole : ℕ) → whole ≡ 2 * size → b * whole + whole ≤ length now → length block ≡ 2 * size
-      → ((i : ℕ) → i < size → value (get_or block i d)
-      ≡ near b i (value (get_or (take (b * whole + whole - b * whole) (drop (b * whole) now)) i d)) (value (get_or (take (b * whole + whole - b * whole) (drop (b * whole) now)) (size + i) d)))
-      → ((i : ℕ) → i < size → value (get_or block (size + i) d)
-      ≡ far b i (value (get_or (take (b * whole + whole - b * whole) (drop (b * whole) now)) i d)) (value (get_or (take (b * whole + whole - b * whole) (drop (b * whole) now)) (size + i) d)))
+      → MeetHalves size (near b) (far b) (λ n. value (get_or (take (b * whole + whole - b * whole) (drop (b * whole) now)) n d)) (λ n. value (get_or block n d))
       → RowsDone d (2 * size) (BothHalves size near far (λ n. value (get_or before n d)) value) before b now
       → RowsDone d (2 * size) (BothHalves size near far (λ n. value (get_or before n d)) value) before (b + 1) (put_mid (b * whole) (b * whole + whole - b * whole) now block)
-  blocks-more before now block b whole is room len is_near is_far so_far =
+  blocks-more before now block b whole is room len met so_far =
       let m : b * whole + whole - b * whole ≡ whole = omega arith in
       let start : b * (2 * size) ≡ b * whole = ap (λ n. b * n) (sym is) in
       block-more (λ n. value (get_or before n d)) before now (take (b * whole + whole - b * whole) (drop (b * whole) now)) block b whole is room len
       (λ n inside. ap value (part_at now (b * whole) (b * whole + whole - b * whole) n d (omega (arith, m, is)) ∙ so_far.rest (b * whole + n) (omega (arith, start)) ∙ ap (λ a. get_or before (a + n) d) (sym start)))
-      is_near is_far so_far
+      met so_far
 
   -- from another list: the part is that of the source
   pub blocks-from : (source before now block : List T) (b whole : ℕ) → whole ≡ 2 * size → b * whole + whole ≤ length now → length block ≡ 2 * size
-      → ((i : ℕ) → i < size → value (get_or block i d)
-      ≡ near b i (value (get_or (take (b * whole + whole - b * whole) (drop (b * whole) source)) i d)) (value (get_or (take (b * whole + whole - b * whole) (drop (b * whole) source)) (size + i) d)))
-      → ((i : ℕ) → i < size → value (get_or block (size + i) d)
-      ≡ far b i (value (get_or (take (b * whole + whole - b * whole) (drop (b * whole) source)) i d)) (value (get_or (take (b * whole + whole - b * whole) (drop (b * whole) source)) (size + i) d)))
+      → MeetHalves size (near b) (far b) (λ n. value (get_or (take (b * whole + whole - b * whole) (drop (b * whole) source)) n d)) (λ n. value (get_or block n d))
       → RowsDone d (2 * size) (BothHalves size near far (λ n. value (get_or source n d)) value) before b now
       → RowsDone d (2 * size) (BothHalves size near far (λ n. value (get_or source n d)) value) before (b + 1) (put_mid (b * whole) (b * whole + whole - b * whole) now block)
-  blocks-from source before now block b whole is room len is_near is_far so_far =
+  blocks-from source before now block b whole is room len met so_far =
       let m : b * whole + whole - b * whole ≡ whole = omega arith in
       let start : b * (2 * size) ≡ b * whole = ap (λ n. b * n) (sym is) in
       block-more (λ n. value (get_or source n d)) before now (take (b * whole + whole - b * whole) (drop (b * whole) source)) block b whole is room len
       (λ n inside. ap value (part_at source (b * whole) (b * whole + whole - b * whole) n d (omega (arith, m, is)) ∙ ap (λ a. get_or source (a + n) d) (sym start)))
-      is_near is_far so_far
+      met so_far

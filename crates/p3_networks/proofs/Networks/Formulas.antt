@@ -1,6 +1,7 @@
 -- Formulas that layers take on: what each row holds when some layers are done and some are left, and what meets what in between.
-use Rattle.std.proofs.Common.{◌≡◌, ℕ, suc, ◌+◌, ◌*◌, ◌-◌, ◌/◌, ◌<◌, ◌≤◌, ◌^◌, sym, ap, ap₂, ◌∙◌, arith, add-one}
+use Rattle.std.proofs.Common.{◌≡◌, ℕ, suc, ◌+◌, ◌*◌, ◌-◌, ◌/◌, ◌<◌, ◌≤◌, ◌^◌, sym, ap, ap₂, ◌∙◌, subst, arith, add-one}
 use Rattle.std.proofs.lemmas.Nat.{div-mul-add}
+use Rattle.p3_networks.specs.Layers.{IsLayer, MeetHalves}
 use Rattle.p3_networks.proofs.Layers.Blocks.{row_below, each_row}
 
 -- Row r holds `rows l m r` when l layers are done and m are left. In the layer from l to l + 1 the rows come in blocks of two halves, of
@@ -17,15 +18,14 @@ module _ {A : Type 0} {bits : ℕ} {half_of : ℕ → ℕ → ℕ} {near_of far_
   pub layer_taken : (k l w half first blocks : ℕ) (near far : ℕ → ℕ → A → A → A) (x y : ℕ → A) → k ≤ bits → l < k → half ≡ half_of l (k - 1 - l)
       → ((b t : ℕ) → b < blocks → t < half → near (first + b) t ≡ near_of l (k - 1 - l) (first + b) t)
       → ((b t : ℕ) → b < blocks → t < half → far (first + b) t ≡ far_of l (k - 1 - l) (first + b) t)
-      → ((b i : ℕ) → b < blocks → i < half * w → y (b * (2 * (half * w)) + i) ≡ near (first + b) (i / w) (x (b * (2 * (half * w)) + i)) (x (b * (2 * (half * w)) + (half * w + i))))
-      → ((b i : ℕ) → b < blocks → i < half * w → y (b * (2 * (half * w)) + (half * w + i)) ≡ far (first + b) (i / w) (x (b * (2 * (half * w)) + i)) (x (b * (2 * (half * w)) + (half * w + i))))
+      → IsLayer blocks (half * w) (λ b i. near (first + b) (i / w)) (λ b i. far (first + b) (i / w)) x y
       → (j : ℕ) → j < w → ((r : ℕ) → r < blocks * (2 * half) → x (r * w + j) ≡ rows l (k - l) (first * (2 * half) + r))
       → (r : ℕ) → r < blocks * (2 * half) → y (r * w + j) ≡ rows (l + 1) (k - (l + 1)) (first * (2 * half) + r)
-  layer_taken k l w half first blocks near far x y within below is same_near same_far is_near is_far j inside start =
+  layer_taken k l w half first blocks near far x y within below is same_near same_far layer j inside start =
       each_row (λ r. y (r * w + j) ≡ rows (l + 1) (k - (l + 1)) (first * (2 * half) + r)) half blocks (λ b t p q. (
-        ap y (sym (low_at b t)) ∙ is_near b (t * w + j) p (row_below t j w half q inside) ∙ met (near (first + b)) b t p q
+        ap y (sym (low_at b t)) ∙ (layer b p).near_cell (t * w + j) (row_below t j w half q inside) ∙ met (near (first + b)) b t p q
             ∙ ap (λ f. f (held b t) (held b (half + t))) (same_near b t p q) ∙ near_held b t q,
-        ap y (sym (high_at b t)) ∙ is_far b (t * w + j) p (row_below t j w half q inside) ∙ met (far (first + b)) b t p q
+        ap y (sym (high_at b t)) ∙ (layer b p).far_cell (t * w + j) (row_below t j w half q inside) ∙ met (far (first + b)) b t p q
             ∙ ap (λ f. f (held b t) (held b (half + t))) (same_far b t p q) ∙ far_held b t q,
       ))
     where
@@ -66,13 +66,15 @@ module _ {A : Type 0} {bits : ℕ} {half_of : ℕ → ℕ → ℕ} {near_of far_
 
   -- the same on all rows
   pub whole_layer_taken : (k l w half blocks : ℕ) (near far : ℕ → ℕ → A → A → A) (x y : ℕ → A) → k ≤ bits → l < k → half ≡ half_of l (k - 1 - l) → blocks * (2 * half) ≡ 2 ^ k
-      → ((b t : ℕ) → b < blocks → t < half → near (0 + b) t ≡ near_of l (k - 1 - l) (0 + b) t)
-      → ((b t : ℕ) → b < blocks → t < half → far (0 + b) t ≡ far_of l (k - 1 - l) (0 + b) t)
-      → ((b i : ℕ) → b < blocks → i < half * w → y (b * (2 * (half * w)) + i) ≡ near (0 + b) (i / w) (x (b * (2 * (half * w)) + i)) (x (b * (2 * (half * w)) + (half * w + i))))
-      → ((b i : ℕ) → b < blocks → i < half * w → y (b * (2 * (half * w)) + (half * w + i)) ≡ far (0 + b) (i / w) (x (b * (2 * (half * w)) + i)) (x (b * (2 * (half * w)) + (half * w + i))))
+      → ((b t : ℕ) → b < blocks → t < half → near b t ≡ near_of l (k - 1 - l) b t)
+      → ((b t : ℕ) → b < blocks → t < half → far b t ≡ far_of l (k - 1 - l) b t)
+      → IsLayer blocks (half * w) (λ b i. near b (i / w)) (λ b i. far b (i / w)) x y
       → (j : ℕ) → j < w → ((r : ℕ) → r < 2 ^ k → x (r * w + j) ≡ rows l (k - l) r)
       → (r : ℕ) → r < 2 ^ k → y (r * w + j) ≡ rows (l + 1) (k - (l + 1)) r
-  whole_layer_taken k l w half blocks near far x y within below is whole same_near same_far is_near is_far j inside start r small =
-      layer_taken k l w half 0 blocks near far x y within below is same_near same_far is_near is_far j inside
+  whole_layer_taken k l w half blocks near far x y within below is whole same_near same_far layer j inside start r small =
+      let zero : (b : ℕ) → b ≡ 0 + b = λ b. omega arith in
+      layer_taken k l w half 0 blocks near far x y within below is
+      (λ b t p q. subst (λ (c : ℕ). near c t ≡ near_of l (k - 1 - l) c t) (zero b) (same_near b t p q)) (λ b t p q. subst (λ (c : ℕ). far c t ≡ far_of l (k - 1 - l) c t) (zero b) (same_far b t p q))
+      (λ b p. subst (λ (c : ℕ). MeetHalves (half * w) (λ i. near c (i / w)) (λ i. far c (i / w)) (λ n. x (b * (2 * (half * w)) + n)) (λ n. y (b * (2 * (half * w)) + n))) (zero b) (layer b p)) j inside
       (λ u p. start u (omega (arith, p, whole)) ∙ ap (rows l (k - l)) (omega arith)) r (omega (arith, small, whole))
       ∙ ap (rows (l + 1) (k - (l + 1))) (omega arith)

@@ -1,13 +1,13 @@
 //! The two halves of the network. Each goes over the matrix chunk by chunk, and does all of its layers on one
 //! chunk before the next, so that a chunk that fits the cache stays there.
 
-ghost use Rattle.std.specs.Prelude.{◌≡◌, ℕ, ◌+◌, ◌-◌, ◌*◌, ◌/◌, ◌^◌, ◌<◌, ◌≤◌, List, length, get_or};
+ghost use Rattle.std.specs.Prelude.{◌≡◌, ℕ, ◌+◌, ◌-◌, ◌*◌, ◌/◌, ◌^◌, ◌<◌, ◌≤◌, length, get_or, true};
 ghost use Rattle.p3_field.specs.Ring.{AreRoots};
 ghost use Rattle.p3_matrix.specs.BitOrder.{rev};
 ghost use Rattle.p3_matrix.specs.Butterflies.{dit_near, dit_far};
 ghost use Rattle.p3_matrix.specs.Cosets.{point};
 ghost use Rattle.p3_matrix.specs.Polynomials.{poly};
-ghost use Rattle.p3_networks.specs.Layers.{AreValuesOfRows};
+ghost use Rattle.p3_networks.specs.Layers.{AreValuesOfRows, IsLayer};
 ghost use Rattle.p3_networks.specs.Twiddles.{AreBlockTwiddles, AreTwiddlesOfLayers, coset_twiddles, block_end};
 ghost use Rattle.p3_networks.specs.Twiddles.{block_entries, factor, scale_cost};
 
@@ -279,10 +279,7 @@ fn low_network<F: TwoAdicField>(
     ensures cost { products.new ≤ products.old + width * (log_h * 2 ^ log_h / 2) }
 {
     for l in 0..log_h {
-        let half = 1usize << l;
-        let blocks = 1usize << (log_h - 1 - l);
-        let twiddles = layer_twiddles(twiddles, l);
-        layer_by_place(twiddles, values, width, half, blocks, products);
+        one_low_layer(twiddles, values, width, log_h, l, products);
     }
 }
 
@@ -314,12 +311,37 @@ fn low_network_oop<F: TwoAdicField>(
         let pairs = 1usize << (log_h - 1);
         first_layer_oop(twiddles, source, values, width, pairs, products);
         for l in 1..log_h {
-            let half = 1usize << l;
-            let blocks = 1usize << (log_h - 1 - l);
-            let twiddles = layer_twiddles(twiddles, l);
-            layer_by_place(twiddles, values, width, half, blocks, products);
+            one_low_layer(twiddles, values, width, log_h, l, products);
         }
     }
+}
+
+// Layer l of them, with the twiddles of its place in the tables.
+#[inline(always)]
+fn one_low_layer<F: TwoAdicField>(
+    twiddles: &[F],
+    values: &mut [F],
+    width: usize,
+    log_h: usize,
+    l: usize,
+    products: &mut Products,
+)
+    requires wide { 1 ≤ width }
+    requires small { log_h < 64 }
+    requires below { l < log_h }
+    requires size { length values.old ≡ 2 ^ log_h * width }
+    requires table { 2 ^ log_h - 1 ≤ length twiddles.now }
+    ensures cells { IsLayer (2 ^ (log_h - 1 - l)) (2 ^ l * width)
+        (λ b i. dit_near F.ring (F.value (get_or (block_entries true l twiddles.now) (i / width) F.ZERO)))
+        (λ b i. dit_far F.ring (F.value (get_or (block_entries true l twiddles.now) (i / width) F.ZERO)))
+        (λ n. F.value (get_or values.old n F.ZERO)) (λ n. F.value (get_or values.new n F.ZERO)) }
+    ensures grows { products.old ≤ products.new }
+    ensures cost { products.new ≤ products.old + 1 * (2 ^ (log_h - 1 - l) * (2 ^ l * width)) }
+{
+    let half = 1usize << l;
+    let blocks = 1usize << (log_h - 1 - l);
+    let twiddles = layer_twiddles(twiddles, l);
+    layer_by_place(twiddles, values, width, half, blocks, products);
 }
 
 // All layers of one chunk, on rows in natural order: those from layer mid on of the whole matrix, in which
@@ -387,16 +409,10 @@ pub(crate) fn layer_by_place<F: TwoAdicField>(
     requires blocks { 1 ≤ blocks }
     requires size { length values.old ≡ blocks * (2 * (half * width)) }
     requires table { half ≤ length twiddles.now }
-    ensures near { let cell = λ (xs : List F) (n : ℕ). F.value (get_or xs n F.ZERO) in
-        let size = half * width in
-        (b i : ℕ) → b < blocks → i < size → cell values.new (b * (2 * size) + i)
-        ≡ dit_near F.ring (cell twiddles.now (i / width)) (cell values.old (b * (2 * size) + i))
-        (cell values.old (b * (2 * size) + (size + i))) }
-    ensures far { let cell = λ (xs : List F) (n : ℕ). F.value (get_or xs n F.ZERO) in
-        let size = half * width in
-        (b i : ℕ) → b < blocks → i < size → cell values.new (b * (2 * size) + (size + i))
-        ≡ dit_far F.ring (cell twiddles.now (i / width)) (cell values.old (b * (2 * size) + i))
-        (cell values.old (b * (2 * size) + (size + i))) }
+    ensures cells { IsLayer blocks (half * width)
+        (λ b i. dit_near F.ring (F.value (get_or twiddles.now (i / width) F.ZERO)))
+        (λ b i. dit_far F.ring (F.value (get_or twiddles.now (i / width) F.ZERO)))
+        (λ n. F.value (get_or values.old n F.ZERO)) (λ n. F.value (get_or values.new n F.ZERO)) }
     ensures grows { products.old ≤ products.new }
     ensures cost { products.new ≤ products.old + 1 * (blocks * (half * width)) }
 {
@@ -437,14 +453,10 @@ fn first_layer_oop<F: TwoAdicField>(
     requires source { length source.now ≡ pairs * (2 * width) }
     requires size { length values.old ≡ pairs * (2 * width) }
     requires table { 1 ≤ length twiddles.now }
-    ensures near { let cell = λ (xs : List F) (n : ℕ). F.value (get_or xs n F.ZERO) in
-        (b i : ℕ) → b < pairs → i < width → cell values.new (b * (2 * width) + i)
-        ≡ dit_near F.ring (cell twiddles.now 0) (cell source.now (b * (2 * width) + i))
-        (cell source.now (b * (2 * width) + (width + i))) }
-    ensures far { let cell = λ (xs : List F) (n : ℕ). F.value (get_or xs n F.ZERO) in
-        (b i : ℕ) → b < pairs → i < width → cell values.new (b * (2 * width) + (width + i))
-        ≡ dit_far F.ring (cell twiddles.now 0) (cell source.now (b * (2 * width) + i))
-        (cell source.now (b * (2 * width) + (width + i))) }
+    ensures cells { IsLayer pairs width
+        (λ b i. dit_near F.ring (F.value (get_or twiddles.now 0 F.ZERO)))
+        (λ b i. dit_far F.ring (F.value (get_or twiddles.now 0 F.ZERO)))
+        (λ n. F.value (get_or source.now n F.ZERO)) (λ n. F.value (get_or values.new n F.ZERO)) }
     ensures grows { products.old ≤ products.new }
     ensures cost { products.new ≤ products.old + 1 * (pairs * width) }
 {
@@ -479,16 +491,10 @@ fn layer_by_block<F: TwoAdicField>(
     requires blocks { 1 ≤ blocks }
     requires size { length values.old ≡ blocks * (2 * (half * width)) }
     requires table { first_block + blocks ≤ length twiddles.now }
-    ensures near { let cell = λ (xs : List F) (n : ℕ). F.value (get_or xs n F.ZERO) in
-        let size = half * width in
-        (b i : ℕ) → b < blocks → i < size → cell values.new (b * (2 * size) + i)
-        ≡ dit_near F.ring (cell twiddles.now (first_block + b))
-        (cell values.old (b * (2 * size) + i)) (cell values.old (b * (2 * size) + (size + i))) }
-    ensures far { let cell = λ (xs : List F) (n : ℕ). F.value (get_or xs n F.ZERO) in
-        let size = half * width in
-        (b i : ℕ) → b < blocks → i < size → cell values.new (b * (2 * size) + (size + i))
-        ≡ dit_far F.ring (cell twiddles.now (first_block + b))
-        (cell values.old (b * (2 * size) + i)) (cell values.old (b * (2 * size) + (size + i))) }
+    ensures cells { IsLayer blocks (half * width)
+        (λ b i. dit_near F.ring (F.value (get_or twiddles.now (first_block + b) F.ZERO)))
+        (λ b i. dit_far F.ring (F.value (get_or twiddles.now (first_block + b) F.ZERO)))
+        (λ n. F.value (get_or values.old n F.ZERO)) (λ n. F.value (get_or values.new n F.ZERO)) }
     ensures grows { products.old ≤ products.new }
     ensures cost { products.new ≤ products.old + 1 * (blocks * (half * width)) }
 {
@@ -530,18 +536,11 @@ fn scaled_layer<F: TwoAdicField>(
     requires some { 1 ≤ half }
     requires size { length values.old ≡ 1 * (2 * (half * width)) }
     requires table { block + 1 ≤ length twiddles.now }
-    ensures near { let cell = λ (xs : List F) (n : ℕ). F.value (get_or xs n F.ZERO) in
-        let scaled = λ (n : ℕ). F.ring.mul (cell values.old n) (factor F.Field.own scale) in
-        let size = half * width in
-        (b i : ℕ) → b < 1 → i < size → cell values.new (b * (2 * size) + i)
-        ≡ dit_near F.ring (cell twiddles.now (block + b))
-        (scaled (b * (2 * size) + i)) (scaled (b * (2 * size) + (size + i))) }
-    ensures far { let cell = λ (xs : List F) (n : ℕ). F.value (get_or xs n F.ZERO) in
-        let scaled = λ (n : ℕ). F.ring.mul (cell values.old n) (factor F.Field.own scale) in
-        let size = half * width in
-        (b i : ℕ) → b < 1 → i < size → cell values.new (b * (2 * size) + (size + i))
-        ≡ dit_far F.ring (cell twiddles.now (block + b))
-        (scaled (b * (2 * size) + i)) (scaled (b * (2 * size) + (size + i))) }
+    ensures cells { IsLayer 1 (half * width)
+        (λ b i. dit_near F.ring (F.value (get_or twiddles.now (block + b) F.ZERO)))
+        (λ b i. dit_far F.ring (F.value (get_or twiddles.now (block + b) F.ZERO)))
+        (λ n. F.ring.mul (F.value (get_or values.old n F.ZERO)) (factor F.Field.own scale))
+        (λ n. F.value (get_or values.new n F.ZERO)) }
     ensures grows { products.old ≤ products.new }
     ensures cost { products.new ≤ products.old + (1 + scale_cost scale) * (1 * (half * width)) }
 {

@@ -5,11 +5,11 @@
 //! another, that stays in the cache from layer to layer; two layers go on quarters, one on halves.
 
 ghost use Rattle.std.specs.Prelude.{◌≡◌, ◌⊎◌, ℕ, ◌+◌, ◌-◌, ◌*◌, ◌/◌, ◌^◌, ◌<◌, ◌≤◌, List, length, get_or};
-ghost use Rattle.p3_networks.specs.Groups.{AreLayersInOrder, HoldsColumns, IsLayer, TakesCells, TakesColumns};
+ghost use Rattle.p3_networks.specs.Groups.{AreLayersInOrder, HoldsColumns, TakesCells, TakesColumns};
 ghost use Rattle.p3_networks.specs.Groups.{cells_of, group_end, group_of, layer_of};
-ghost use Rattle.p3_networks.specs.Layers.{HoldsCells};
+ghost use Rattle.p3_networks.specs.Layers.{HoldsCells, IsLayer};
 
-use crate::butterfly_layers::Rule;
+use crate::butterfly_layers::{Rule, meet_ranges};
 use crate::chunks::on_each_chunk;
 use p3_field::{Products, TwoAdicField};
 use p3_matrix::log2_strict_usize;
@@ -292,8 +292,8 @@ fn layer_of_columns<F: TwoAdicField, R: Rule<F>>(
     requires size { length values.old ≡ blocks * (2 * (half * part)) }
     requires there { (b : ℕ) → b < blocks → R.has rule (first_block + b) 0 }
     ensures cells { (all : ℕ) (before after : ℕ → F.Element)
-        → IsLayer all (half * part) (λ b. R.near F.Element F.ring F.value rule b 0)
-        (λ b. R.far F.Element F.ring F.value rule b 0) before after
+        → IsLayer all (half * part) (λ b i. R.near F.Element F.ring F.value rule b 0)
+        (λ b i. R.far F.Element F.ring F.value rule b 0) before after
         → first_block + blocks ≤ all
         → HoldsColumns F.value F.ZERO part (blocks * (2 * half)) (first_block * (2 * (half * part))) at end before
         values.old
@@ -375,8 +375,6 @@ fn columns_of_halves<F: TwoAdicField, R: Rule<F>>(
 {
     for t in 0..half {
         let start = t * part;
-        let row_1 = &mut low[start..start + part];
-        let row_2 = &mut high[start..start + part];
-        rule.meet(block, 0, &mut row_1[at..end], &mut row_2[at..end], products);
+        meet_ranges(rule, low, high, start + at, start + end, block, 0, products);
     }
 }

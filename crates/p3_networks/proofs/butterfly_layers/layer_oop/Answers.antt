@@ -2,7 +2,7 @@ use Rattle.std.proofs.Common.{◌+◌, ◌*◌, ◌≤◌, length, refl, ◌∙�
 use borrow.Author.Rules.{scaled_fits≤}
 use Rattle.std.proofs.Math.Nat.{le_refl}
 use Rattle.p3_networks.proofs.Layers.Counts.{count_more, count_none, at_end}
-use Rattle.p3_networks.proofs.Layers.Halves.{block_room, part_length, blocks-from, first-all, second-all}
+use Rattle.p3_networks.proofs.Layers.Halves.{block_room, part_length, blocks-from, blocks-all}
 use Rattle.p3_matrix.proofs.Rows.Overwritten.{rows-none}
 use Rattle.p3_networks.proofs.butterfly_layers.layer_oop.Goals as goal
 
@@ -59,7 +59,7 @@ loop-b-preserved g c =
     record {
       cells = blocks-from field.value field.ZERO (λ b i. butterfly.near field.Element field.ring field.value c.args.butterfly) (λ b i. butterfly.far field.Element field.ring field.value c.args.butterfly) size
           c.args.source.now c.args.values.now c.loop-b.values c.meet_block_oop.new.values b whole refl fits (c.meet_block_oop.auto.values ∙ part_length c.loop-b.values (b * whole) whole fits)
-          c.meet_block_oop.ensures.near c.meet_block_oop.ensures.far c.loop-b.invariant.cells;
+          c.meet_block_oop.ensures.cells c.loop-b.invariant.cells;
       grows = omega (arith, c.meet_block_oop.ensures.count, c.loop-b.invariant.grows);
       cost = count_more butterfly.cost b size _ _ _ c.loop-b.invariant.cost (omega (arith, c.meet_block_oop.ensures.count));
     }
@@ -71,13 +71,9 @@ loop-b-init g c = record {
   cost = count_none g.B.Butterfly.cost c.args.size c.args.products.now;
 }
 
-pub returns-clause-near : goal.returns-clause-near
-returns-clause-near g c =
-    first-all g.F.Field.value g.F.Field.ZERO _ _ c.args.size _ c.args.values.now c.loop-b.values c.loop-b.b c.args.blocks c.loop-b-test.false c.loop-b.invariant.cells
-
-pub returns-clause-far : goal.returns-clause-far
-returns-clause-far g c =
-    second-all g.F.Field.value g.F.Field.ZERO _ _ c.args.size _ c.args.values.now c.loop-b.values c.loop-b.b c.args.blocks c.loop-b-test.false c.loop-b.invariant.cells
+pub returns-clause-cells : goal.returns-clause-cells
+returns-clause-cells g c =
+    blocks-all g.F.Field.value g.F.Field.ZERO _ _ c.args.size _ c.args.values.now c.loop-b.values c.loop-b.b c.args.blocks c.loop-b-test.false c.loop-b.invariant.cells
 
 pub returns-clause-cost : goal.returns-clause-cost
 returns-clause-cost g c = at_end (λ n. c.loop-b.products ≤ c.args.products.now + g.B.Butterfly.cost * (n * c.args.size)) c.loop-b.b c.args.blocks c.loop-b.auto.b-end c.loop-b-test.false c.loop-b.invariant.cost

@@ -1,126 +1,69 @@
-use Rattle.std.proofs.Common.{◌≡◌, ℕ, ◌+◌, ◌*◌, ◌++◌, ◌<◌, get_or, ap, ◌∙◌, arith, ◌≤◌, sym, subst}
+use Rattle.std.proofs.Common.{◌≡◌, ℕ, ◌+◌, ◌*◌, ◌/◌, ◌++◌, ◌<◌, List, length, get_or, take, drop, ap, ◌∙◌, arith, ◌≤◌, sym, subst}
+use Rattle.p3_networks.specs.Layers.{MeetHalves}
 use Rattle.p3_networks.proofs.Layers.Blocks.{row_below}
 use Rattle.p3_networks.proofs.Layers.Halves.{in_first, in_second, of_halves, each_cell, halves_same}
 use Rattle.std.proofs.Math.Nat.{mul-le-mul}
 use Rattle.p3_networks.proofs.butterfly_layers.meet_block.Goals as goal
 
-pub returns-then-goes_by_block-clause-near : goal.returns-then-goes_by_block-clause-near
-returns-then-goes_by_block-clause-near g c =
-    let field = g.F.Field in
-    let w = c.args.width in
-    let h = c.args.half in
-    let block = c.args.values.now in
-    let near = λ (t : ℕ) (x y : g.row.F.Denot). g.R.Rule.near field.Element field.ring field.value c.args.rule c.args.block t (field.value x) (field.value y) in
-    let low = c.meet.new.row_1 in
-    let high = c.meet.new.row_2 in
-    let front = c.split_at_mut-low.ensures in
-    each_cell (λ t n. field.value (get_or (low ++ high) n field.ZERO) ≡ near t (get_or block n field.ZERO) (get_or block (h * w + n) field.ZERO)) w h c.requires.wide
-    (λ t j p q.
-    let n = t * w + j in
-    let inside : n < h * w = row_below t j w h p q in
-    ap field.value (in_first low high n field.ZERO (omega (arith, inside, c.meet.auto.row_1, front.front_len)))
-    ∙ c.meet.ensures.near n (omega (arith, inside, front.front_len))
-    ∙ ap (λ (f : field.Element → field.Element → field.Element). f (field.value (get_or (c.split_at_mut-low.result.0).now n field.ZERO)) (field.value (get_or (c.split_at_mut-low.result.1).now n field.ZERO)))
-    (c.goes_by_block.ensures.same c.if-goes_by_block.true c.args.block 0 t).0
-    ∙ of_halves (near t) block _ _ (h * w) n field.ZERO front.front front.back inside)
+-- halves that meet by the rows and columns of their cells
+halves_met : {A T : Type 0} (value : T → A) (d : T) (w h : ℕ) (near far : ℕ → A → A → A) (whole low high first second : List T) → 0 < w → low ≡ take (h * w) whole → high ≡ drop (h * w) whole → length first ≡ h * w
+    → ((t j : ℕ) → t < h → j < w → t * w + j < h * w → (value (get_or first (t * w + j) d) ≡ near t (value (get_or low (t * w + j) d)) (value (get_or high (t * w + j) d)))
+    × (value (get_or second (t * w + j) d) ≡ far t (value (get_or low (t * w + j) d)) (value (get_or high (t * w + j) d))))
+    → MeetHalves (h * w) (λ i. near (i / w)) (λ i. far (i / w)) (λ n. value (get_or whole n d)) (λ n. value (get_or (first ++ second) n d))
+halves_met value d w h near far whole low high first second wide low_is high_is size met = record {
+  near_cell = each_cell (λ t n. value (get_or (first ++ second) n d) ≡ near t (value (get_or whole n d)) (value (get_or whole (h * w + n) d))) w h wide
+      (λ t j p q. let inside = row_below t j w h p q in
+      ap value (in_first first second (t * w + j) d (omega (arith, inside, size))) ∙ (met t j p q inside).0 ∙ of_halves (λ x y. near t (value x) (value y)) whole low high (h * w) (t * w + j) d low_is high_is inside);
+  far_cell = each_cell (λ t n. value (get_or (first ++ second) (h * w + n) d) ≡ far t (value (get_or whole n d)) (value (get_or whole (h * w + n) d))) w h wide
+      (λ t j p q. let inside = row_below t j w h p q in
+      ap value (in_second first second (h * w) (t * w + j) d size) ∙ (met t j p q inside).1 ∙ of_halves (λ x y. far t (value x) (value y)) whole low high (h * w) (t * w + j) d low_is high_is inside);
+}
 
-pub returns-else-is_column_of_packs-clause-near : goal.returns-else-is_column_of_packs-clause-near
-returns-else-is_column_of_packs-clause-near g c =
+pub returns-then-goes_by_block-clause-cells : goal.returns-then-goes_by_block-clause-cells
+returns-then-goes_by_block-clause-cells g c =
     let field = g.F.Field in
     let w = c.args.width in
     let h = c.args.half in
-    let block = c.args.values.now in
-    let near = λ (t : ℕ) (x y : g.row.F.Denot). g.R.Rule.near field.Element field.ring field.value c.args.rule c.args.block t (field.value x) (field.value y) in
-    let low = c.meet_halves.new.low in
-    let high = c.meet_halves.new.high in
+    let near = g.R.Rule.near field.Element field.ring field.value c.args.rule c.args.block in
+    let far = g.R.Rule.far field.Element field.ring field.value c.args.rule c.args.block in
     let front = c.split_at_mut-low.ensures in
-    each_cell (λ t n. field.value (get_or (low ++ high) n field.ZERO) ≡ near t (get_or block n field.ZERO) (get_or block (h * w + n) field.ZERO)) w h c.requires.wide
-    (λ t j p q.
-    let n = t * w + j in
-    let inside : n < h * w = row_below t j w h p q in
-    ap field.value (in_first low high n field.ZERO (omega (arith, inside, c.meet_halves.auto.low, front.front_len)))
-    ∙ c.meet_halves.ensures.near t j p q
-    ∙ of_halves (near t) block _ _ (h * w) n field.ZERO front.front front.back inside)
+    halves_met field.value field.ZERO w h near far c.args.values.now c.split_at_mut-low.result.0.now c.split_at_mut-low.result.1.now c.meet.new.row_1 c.meet.new.row_2 c.requires.wide front.front front.back (c.meet.auto.row_1 ∙ front.front_len)
+    (λ t j p q inside.
+    let x = field.value (get_or c.split_at_mut-low.result.0.now (t * w + j) field.ZERO) in
+    let y = field.value (get_or c.split_at_mut-low.result.1.now (t * w + j) field.ZERO) in
+    let same = c.goes_by_block.ensures.same c.if-goes_by_block.true c.args.block 0 t in (
+      c.meet.ensures.near (t * w + j) (omega (arith, inside, front.front_len)) ∙ ap (λ (f : field.Element → field.Element → field.Element). f x y) same.0,
+      c.meet.ensures.far (t * w + j) (omega (arith, inside, front.front_len)) ∙ ap (λ (f : field.Element → field.Element → field.Element). f x y) same.1,
+    ))
 
-pub returns-then-goes_by_block-clause-far : goal.returns-then-goes_by_block-clause-far
-returns-then-goes_by_block-clause-far g c =
+pub returns-then-is_column_of_packs-clause-cells : goal.returns-then-is_column_of_packs-clause-cells
+returns-then-is_column_of_packs-clause-cells g c =
     let field = g.F.Field in
     let w = c.args.width in
     let h = c.args.half in
-    let block = c.args.values.now in
-    let far = λ (t : ℕ) (x y : g.row.F.Denot). g.R.Rule.far field.Element field.ring field.value c.args.rule c.args.block t (field.value x) (field.value y) in
-    let low = c.meet.new.row_1 in
-    let high = c.meet.new.row_2 in
+    let near = g.R.Rule.near field.Element field.ring field.value c.args.rule c.args.block in
+    let far = g.R.Rule.far field.Element field.ring field.value c.args.rule c.args.block in
     let front = c.split_at_mut-low.ensures in
-    each_cell (λ t n. field.value (get_or (low ++ high) (h * w + n) field.ZERO) ≡ far t (get_or block n field.ZERO) (get_or block (h * w + n) field.ZERO)) w h c.requires.wide
-    (λ t j p q.
-    let n = t * w + j in
-    let inside : n < h * w = row_below t j w h p q in
-    ap field.value (in_second low high (h * w) n field.ZERO (omega (arith, c.meet.auto.row_1, front.front_len)))
-    ∙ c.meet.ensures.far n (omega (arith, inside, front.front_len))
-    ∙ ap (λ (f : field.Element → field.Element → field.Element). f (field.value (get_or (c.split_at_mut-low.result.0).now n field.ZERO)) (field.value (get_or (c.split_at_mut-low.result.1).now n field.ZERO)))
-    (c.goes_by_block.ensures.same c.if-goes_by_block.true c.args.block 0 t).1
-    ∙ of_halves (far t) block _ _ (h * w) n field.ZERO front.front front.back inside)
-
-pub returns-else-is_column_of_packs-clause-far : goal.returns-else-is_column_of_packs-clause-far
-returns-else-is_column_of_packs-clause-far g c =
-    let field = g.F.Field in
-    let w = c.args.width in
-    let h = c.args.half in
-    let block = c.args.values.now in
-    let far = λ (t : ℕ) (x y : g.row.F.Denot). g.R.Rule.far field.Element field.ring field.value c.args.rule c.args.block t (field.value x) (field.value y) in
-    let low = c.meet_halves.new.low in
-    let high = c.meet_halves.new.high in
-    let front = c.split_at_mut-low.ensures in
-    each_cell (λ t n. field.value (get_or (low ++ high) (h * w + n) field.ZERO) ≡ far t (get_or block n field.ZERO) (get_or block (h * w + n) field.ZERO)) w h c.requires.wide
-    (λ t j p q.
-    let n = t * w + j in
-    let inside : n < h * w = row_below t j w h p q in
-    ap field.value (in_second low high (h * w) n field.ZERO (omega (arith, c.meet_halves.auto.low, front.front_len)))
-    ∙ c.meet_halves.ensures.far t j p q
-    ∙ of_halves (far t) block _ _ (h * w) n field.ZERO front.front front.back inside)
-
-pub returns-then-is_column_of_packs-clause-near : goal.returns-then-is_column_of_packs-clause-near
-returns-then-is_column_of_packs-clause-near g c =
-    let field = g.F.Field in
-    let w = c.args.width in
-    let h = c.args.half in
-    let block = c.args.values.now in
     let one : w ≡ 1 = (c.is_column_of_packs.ensures.0 c.if-is_column_of_packs.true).0 in
-    let near = λ (t : ℕ) (x y : g.row.F.Denot). g.R.Rule.near field.Element field.ring field.value c.args.rule c.args.block t (field.value x) (field.value y) in
-    let low = c.meet_column.new.low in
-    let high = c.meet_column.new.high in
-    let front = c.split_at_mut-low.ensures in
-    each_cell (λ t n. field.value (get_or (low ++ high) n field.ZERO) ≡ near t (get_or block n field.ZERO) (get_or block (h * w + n) field.ZERO)) w h c.requires.wide
-    (λ t j p q.
-    let n = t * w + j in
-    let inside : n < h * w = row_below t j w h p q in
-    let place : n ≡ t = ap (λ k. t * k + j) one ∙ omega (arith, q, one) in
-    ap field.value (in_first low high n field.ZERO (omega (arith, inside, c.meet_column.auto.low, front.front_len)))
-    ∙ c.meet_column.ensures.near n (omega (arith, inside, front.front_len))
-    ∙ ap (λ (k : ℕ). near k (get_or c.split_at_mut-low.result.0.now n field.ZERO) (get_or c.split_at_mut-low.result.1.now n field.ZERO)) place
-    ∙ of_halves (near t) block _ _ (h * w) n field.ZERO front.front front.back inside)
+    halves_met field.value field.ZERO w h near far c.args.values.now c.split_at_mut-low.result.0.now c.split_at_mut-low.result.1.now c.meet_column.new.low c.meet_column.new.high c.requires.wide front.front front.back (c.meet_column.auto.low ∙ front.front_len)
+    (λ t j p q inside.
+    let x = field.value (get_or c.split_at_mut-low.result.0.now (t * w + j) field.ZERO) in
+    let y = field.value (get_or c.split_at_mut-low.result.1.now (t * w + j) field.ZERO) in
+    let place : t * w + j ≡ t = ap (λ k. t * k + j) one ∙ omega (arith, q, one) in (
+      c.meet_column.ensures.near (t * w + j) (omega (arith, inside, front.front_len)) ∙ ap (λ (k : ℕ). near k x y) place,
+      c.meet_column.ensures.far (t * w + j) (omega (arith, inside, front.front_len)) ∙ ap (λ (k : ℕ). far k x y) place,
+    ))
 
-pub returns-then-is_column_of_packs-clause-far : goal.returns-then-is_column_of_packs-clause-far
-returns-then-is_column_of_packs-clause-far g c =
+pub returns-else-is_column_of_packs-clause-cells : goal.returns-else-is_column_of_packs-clause-cells
+returns-else-is_column_of_packs-clause-cells g c =
     let field = g.F.Field in
     let w = c.args.width in
     let h = c.args.half in
-    let block = c.args.values.now in
-    let one : w ≡ 1 = (c.is_column_of_packs.ensures.0 c.if-is_column_of_packs.true).0 in
-    let far = λ (t : ℕ) (x y : g.row.F.Denot). g.R.Rule.far field.Element field.ring field.value c.args.rule c.args.block t (field.value x) (field.value y) in
-    let low = c.meet_column.new.low in
-    let high = c.meet_column.new.high in
+    let near = g.R.Rule.near field.Element field.ring field.value c.args.rule c.args.block in
+    let far = g.R.Rule.far field.Element field.ring field.value c.args.rule c.args.block in
     let front = c.split_at_mut-low.ensures in
-    each_cell (λ t n. field.value (get_or (low ++ high) (h * w + n) field.ZERO) ≡ far t (get_or block n field.ZERO) (get_or block (h * w + n) field.ZERO)) w h c.requires.wide
-    (λ t j p q.
-    let n = t * w + j in
-    let inside : n < h * w = row_below t j w h p q in
-    let place : n ≡ t = ap (λ k. t * k + j) one ∙ omega (arith, q, one) in
-    ap field.value (in_second low high (h * w) n field.ZERO (omega (arith, c.meet_column.auto.low, front.front_len)))
-    ∙ c.meet_column.ensures.far n (omega (arith, inside, front.front_len))
-    ∙ ap (λ (k : ℕ). far k (get_or c.split_at_mut-low.result.0.now n field.ZERO) (get_or c.split_at_mut-low.result.1.now n field.ZERO)) place
-    ∙ of_halves (far t) block _ _ (h * w) n field.ZERO front.front front.back inside)
+    halves_met field.value field.ZERO w h near far c.args.values.now c.split_at_mut-low.result.0.now c.split_at_mut-low.result.1.now c.meet_halves.new.low c.meet_halves.new.high c.requires.wide front.front front.back (c.meet_halves.auto.low ∙ front.front_len)
+    (λ t j p q inside. (c.meet_halves.ensures.near t j p q, c.meet_halves.ensures.far t j p q))
 
 pub returns-then-is_column_of_packs-clause-cost : goal.returns-then-is_column_of_packs-clause-cost
 returns-then-is_column_of_packs-clause-cost g c = subst (λ n. c.meet_column.new.products ≤ c.args.products.now + g.R.Rule.cost * n) c.split_at_mut-low.ensures.front_len c.meet_column.ensures.cost

@@ -2,7 +2,7 @@ use Rattle.std.proofs.Common.{◌+◌, ◌*◌, ◌/◌, ◌≤◌, length, refl
 use borrow.Author.Rules.{scaled_fits≤}
 use Rattle.std.proofs.Math.Nat.{le_refl}
 use Rattle.p3_networks.proofs.Layers.Counts.{count_more, count_none, at_end}
-use Rattle.p3_networks.proofs.Layers.Halves.{block_room, part_length, blocks-more, first-all, second-all}
+use Rattle.p3_networks.proofs.Layers.Halves.{block_room, part_length, blocks-more, blocks-all}
 use Rattle.p3_matrix.proofs.Rows.Overwritten.{rows-none}
 use Rattle.p3_networks.proofs.butterfly_layers.meet_blocks.Goals as goal
 
@@ -46,7 +46,7 @@ loop-b-preserved g c =
     record {
       cells = blocks-more field.value field.ZERO (λ k i. rule.near field.Element field.ring field.value c.args.rule (c.args.first_block + k) (i / w)) (λ k i. rule.far field.Element field.ring field.value c.args.rule (c.args.first_block + k) (i / w)) size
           c.args.values.now c.loop-b.values c.meet_block.new.values b whole refl fits (c.meet_block.auto.values ∙ part_length c.loop-b.values (b * whole) whole fits)
-          c.meet_block.ensures.near c.meet_block.ensures.far c.loop-b.invariant.cells;
+          c.meet_block.ensures.cells c.loop-b.invariant.cells;
       grows = omega (arith, c.meet_block.ensures.grows, c.loop-b.invariant.grows);
       cost = count_more rule.cost b size _ _ _ c.loop-b.invariant.cost c.meet_block.ensures.cost;
     }
@@ -58,13 +58,9 @@ loop-b-init g c = record {
   cost = count_none g.R.Rule.cost (c.args.half * c.args.width) c.args.products.now;
 }
 
-pub returns-clause-near : goal.returns-clause-near
-returns-clause-near g c =
-    first-all g.F.Field.value g.F.Field.ZERO _ _ (c.args.half * c.args.width) _ c.args.values.now c.loop-b.values c.loop-b.b c.args.blocks c.loop-b-test.false c.loop-b.invariant.cells
-
-pub returns-clause-far : goal.returns-clause-far
-returns-clause-far g c =
-    second-all g.F.Field.value g.F.Field.ZERO _ _ (c.args.half * c.args.width) _ c.args.values.now c.loop-b.values c.loop-b.b c.args.blocks c.loop-b-test.false c.loop-b.invariant.cells
+pub returns-clause-cells : goal.returns-clause-cells
+returns-clause-cells g c =
+    blocks-all g.F.Field.value g.F.Field.ZERO _ _ (c.args.half * c.args.width) _ c.args.values.now c.loop-b.values c.loop-b.b c.args.blocks c.loop-b-test.false c.loop-b.invariant.cells
 
 pub meet_block-requires-clause-there : goal.meet_block-requires-clause-there
 meet_block-requires-clause-there g c t inside = c.requires.there c.loop-b.b t c.loop-b-test.true inside

@@ -1,28 +1,44 @@
-use Rattle.std.proofs.Common.{◌≡◌, ℕ, ◌+◌, ◌*◌, length, get_or, ap, ap₂, ◌∙◌, arith}
+use Rattle.std.proofs.Common.{◌≡◌, ◌⊎◌, ℕ, ◌+◌, ◌-◌, ◌*◌, ◌<◌, ◌≤◌, length, get_or, ap, ap₂, ◌∙◌, subst, arith}
 use Rattle.p3_networks.proofs.Layers.Counts.{count_more, count_all}
 use Rattle.p3_networks.proofs.Layers.Halves.{block_room}
 use Rattle.p3_matrix.proofs.Rows.Overwritten.{rows-next, rows-none, rows-all}
 use Rattle.p3_networks.proofs.butterfly_layers.meet_halves.Goals as goal
 
-pub meet_rows_at-requires-clause-room : goal.meet_rows_at-requires-clause-room
-meet_rows_at-requires-clause-room g c = omega (arith, block_room 0 c.args.half c.args.width (length c.args.low.now) c.requires.some c.requires.low)
+pub meet_ranges-requires-clause-room : goal.meet_ranges-requires-clause-room
+meet_ranges-requires-clause-room g c = omega (arith, block_room 0 c.args.half c.args.width (length c.args.low.now) c.requires.some c.requires.low)
 
-pub meet_rows_at-requires-in-loop-t-clause-room : goal.meet_rows_at-requires-in-loop-t-clause-room
-meet_rows_at-requires-in-loop-t-clause-room g c =
+pub overflow_mul-start : goal.overflow_mul-start
+overflow_mul-start g c = omega (arith, block_room c.loop-t.t c.args.half c.args.width (length c.args.low.now) c.loop-t-test.true c.requires.low)
+
+pub overflow_add-start : goal.overflow_add-start
+overflow_add-start g c = omega (arith, block_room c.loop-t.t c.args.half c.args.width (length c.args.low.now) c.loop-t-test.true c.requires.low)
+
+pub meet_ranges-requires-in-loop-t-clause-room : goal.meet_ranges-requires-in-loop-t-clause-room
+meet_ranges-requires-in-loop-t-clause-room g c =
     omega (arith, block_room c.loop-t.t c.args.half c.args.width (length c.args.low.now) c.loop-t-test.true c.requires.low, c.loop-t.invariant.near.size)
 
-pub meet_rows_at-requires-in-loop-t-clause-size : goal.meet_rows_at-requires-in-loop-t-clause-size
-meet_rows_at-requires-in-loop-t-clause-size g c = omega (arith, c.loop-t.invariant.near.size, c.loop-t.invariant.far.size, c.requires.low, c.requires.high)
+pub meet_ranges-requires-in-loop-t-clause-size : goal.meet_ranges-requires-in-loop-t-clause-size
+meet_ranges-requires-in-loop-t-clause-size g c = omega (arith, c.loop-t.invariant.near.size, c.loop-t.invariant.far.size, c.requires.low, c.requires.high)
+
+-- the first row, from its beginning
+at_zero : (P : ℕ → ℕ → Type 0) (w : ℕ) → P 0 w → P (0 * w) (0 * w + w)
+at_zero P w given = let none : 0 ≡ 0 * w = omega arith in let end : w ≡ 0 * w + w = omega arith in subst (λ n. P n (0 * w + w)) none (subst (λ n. P 0 n) end given)
 
 pub loop-t-init : goal.loop-t-init
 loop-t-init g c =
-    let zero = g.F.Field.ZERO in
+    let field = g.F.Field in
     let w = c.args.width in
+    let met = c.meet_ranges in
+    let place : (j : ℕ) → 0 * w + j ≡ j = λ j. omega arith in
     record {
-      near = rows-next zero w _ c.args.low.now c.args.low.now c.meet_rows_at.new.low 0 c.meet_rows_at.auto.low c.meet_rows_at.ensures.low_stays c.meet_rows_at.ensures.near (rows-none zero w _ c.args.low.now);
-      far = rows-next zero w _ c.args.high.now c.args.high.now c.meet_rows_at.new.high 0 c.meet_rows_at.auto.high c.meet_rows_at.ensures.high_stays c.meet_rows_at.ensures.far (rows-none zero w _ c.args.high.now);
-      grows = c.meet_rows_at.ensures.grows;
-      cost = omega (arith, c.meet_rows_at.ensures.cost);
+      near = rows-next field.ZERO w _ c.args.low.now c.args.low.now met.new.low 0 met.auto.low
+          (at_zero (λ a b. (n : ℕ) → (n < a) ⊎ (b ≤ n) → get_or met.new.low n field.ZERO ≡ get_or c.args.low.now n field.ZERO) w met.ensures.low_stays)
+          (λ j inside. met.ensures.near (0 * w + j) (omega arith) (omega (arith, inside, place j))) (rows-none field.ZERO w _ c.args.low.now);
+      far = rows-next field.ZERO w _ c.args.high.now c.args.high.now met.new.high 0 met.auto.high
+          (at_zero (λ a b. (n : ℕ) → (n < a) ⊎ (b ≤ n) → get_or met.new.high n field.ZERO ≡ get_or c.args.high.now n field.ZERO) w met.ensures.high_stays)
+          (λ j inside. met.ensures.far (0 * w + j) (omega arith) (omega (arith, inside, place j))) (rows-none field.ZERO w _ c.args.high.now);
+      grows = met.ensures.grows;
+      cost = let all : w - 0 ≡ 1 * w = omega arith in rw all at met.ensures.cost;
     }
 
 pub loop-t-preserved : goal.loop-t-preserved
@@ -32,18 +48,18 @@ loop-t-preserved g c =
     let zero = field.ZERO in
     let t = c.loop-t.t in
     let w = c.args.width in
-    let met = c.meet_rows_at-in-loop-t in
+    let met = c.meet_ranges-in-loop-t in
     let a : (j : ℕ) → field.value (get_or c.loop-t.low (t * w + j) zero) ≡ field.value (get_or c.args.low.now (t * w + j) zero) =
     λ j. ap field.value (c.loop-t.invariant.near.rest (t * w + j) (omega arith)) in
     let b : (j : ℕ) → field.value (get_or c.loop-t.high (t * w + j) zero) ≡ field.value (get_or c.args.high.now (t * w + j) zero) =
     λ j. ap field.value (c.loop-t.invariant.far.rest (t * w + j) (omega arith)) in
     record {
       near = rows-next zero w _ c.args.low.now c.loop-t.low met.new.low t met.auto.low met.ensures.low_stays
-          (λ j inside. met.ensures.near j inside ∙ ap₂ (rule.near field.Element field.ring field.value c.args.rule c.args.block t) (a j) (b j)) c.loop-t.invariant.near;
+          (λ j inside. met.ensures.near (t * w + j) (omega arith) (omega (arith, inside)) ∙ ap₂ (rule.near field.Element field.ring field.value c.args.rule c.args.block t) (a j) (b j)) c.loop-t.invariant.near;
       far = rows-next zero w _ c.args.high.now c.loop-t.high met.new.high t met.auto.high met.ensures.high_stays
-          (λ j inside. met.ensures.far j inside ∙ ap₂ (rule.far field.Element field.ring field.value c.args.rule c.args.block t) (a j) (b j)) c.loop-t.invariant.far;
+          (λ j inside. met.ensures.far (t * w + j) (omega arith) (omega (arith, inside)) ∙ ap₂ (rule.far field.Element field.ring field.value c.args.rule c.args.block t) (a j) (b j)) c.loop-t.invariant.far;
       grows = omega (arith, met.ensures.grows, c.loop-t.invariant.grows);
-      cost = count_more rule.cost t w _ _ _ c.loop-t.invariant.cost met.ensures.cost;
+      cost = let one : t * w + w - t * w ≡ w = omega arith in count_more rule.cost t w _ _ _ c.loop-t.invariant.cost (rw one at met.ensures.cost);
     }
 
 pub returns-clause-near : goal.returns-clause-near

@@ -66,7 +66,7 @@ returns-then-values-gt-CACHED-clause-values g t c r j below inside =
     let done = low_layer field root field.ring.one k w roots (k - 1) half 1 c.layer_twiddles-twiddles.result.now column
     (λ n. field.value (get_or (first ++ second) n field.ZERO)) (λ n. field.value (get_or c.layer_by_place.new.values n field.ZERO))
     last h whole (rw c.layer_twiddles-twiddles.ensures (table.layers (k - 1) last))
-    c.layer_by_place.ensures.near c.layer_by_place.ensures.far j inside begun r below in
+    c.layer_by_place.ensures.cells j inside begun r below in
     low_done field root field.ring.one k w (k - 1 + 1) column _ r (omega (arith, some)) done below ∙ ap (poly field.ring (2 ^ k) column) (point_of_one field.ring root k r)
 
 pub returns-then-values-gt-CACHED-clause-cost : goal.returns-then-values-gt-CACHED-clause-cost

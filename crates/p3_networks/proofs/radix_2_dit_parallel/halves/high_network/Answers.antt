@@ -57,7 +57,6 @@ loop-done-init g c =
     let scaled = λ (n : ℕ). field.ring.mul (cell n) (factor field c.args.scale) in
     let after = λ (n : ℕ). field.value (get_or c.scaled_layer.new.values n field.ZERO) in
     let entry = λ (t : ℕ). field.value (get_or c.of_layer-twiddles.result.now (chunk + t) field.ZERO) in
-    let size = half * w in
     let few : 2 ^ (k - 1) ≤ 2 ^ k = omega (arith, h, whole) in
     record {
       rows = λ root s roots table j r inside below.
@@ -65,16 +64,14 @@ loop-done-init g c =
           let entry_is : (u : ℕ) → u < 1 → entry u ≡ twiddle field.ring root coset 0 (k - 1 - 0) (rev 0 u) =
           λ u p. ap (λ xs. field.value (get_or xs (chunk + u) field.ZERO)) c.of_layer-twiddles.ensures
           ∙ chunk_entry field root s mid k chunk 0 u mid (chunk + u) c.args.table.by_layer c.args.table.twiddles.now roots table (omega arith) (omega arith) c.requires.chunk some p in
-          let zero_more : (b : ℕ) → b ≡ 0 + b = λ b. omega arith in
           let keep : k ≡ k - 0 = omega arith in
           let less : k - 1 ≡ k - 1 - 0 = omega arith in
           whole_layer_taken (high_rows field.ring root coset roots (λ u. scaled (u * w + j))) k 0 w half 1
           (λ u t. dit_near field.ring (entry u)) (λ u t. dit_far field.ring (entry u)) scaled after
           (omega arith) some (h ∙ ap (λ n. 2 ^ n) less) whole
-          (λ u t p q. ap (dit_near field.ring) (entry_is (0 + u) (omega (arith, p))))
-          (λ u t p q. ap (dit_far field.ring) (entry_is (0 + u) (omega (arith, p))))
-          (λ u i p q. c.scaled_layer.ensures.near u i p q ∙ ap (λ n. dit_near field.ring (entry n) (scaled (u * (2 * size) + i)) (scaled (u * (2 * size) + (size + i)))) (zero_more u))
-          (λ u i p q. c.scaled_layer.ensures.far u i p q ∙ ap (λ n. dit_far field.ring (entry n) (scaled (u * (2 * size) + i)) (scaled (u * (2 * size) + (size + i)))) (zero_more u))
+          (λ u t p q. ap (dit_near field.ring) (entry_is u p))
+          (λ u t p q. ap (dit_far field.ring) (entry_is u p))
+          c.scaled_layer.ensures.cells
           j inside
           (λ u v. sym (high_start field.ring root coset (k - 0) (λ q. scaled (q * w + j)) u (subst (λ (n : ℕ). u < 2 ^ n) keep v)))
           r below;
@@ -124,21 +121,18 @@ loop-done-preserved g c =
     let after = λ (n : ℕ). field.value (get_or c.layer_by_block.new.values n field.ZERO) in
     let scaled = λ (n : ℕ). field.ring.mul (field.value (get_or c.args.values.now n field.ZERO)) (factor field c.args.scale) in
     let entry = λ (t : ℕ). field.value (get_or c.of_layer-twiddles-in-loop-done.result.now (chunk * blocks + t) field.ZERO) in
-    let size = half * w in
     record {
       rows = λ root s roots table j r inside below.
           let coset = point field.ring root (mid + k) s (rev mid chunk) in
           let entry_is : (u : ℕ) → u < blocks → entry u ≡ twiddle field.ring root coset l (k - 1 - l) (rev l u) =
           λ u p. ap (λ xs. field.value (get_or xs (chunk * blocks + u) field.ZERO)) c.of_layer-twiddles-in-loop-done.ensures
           ∙ chunk_entry field root s mid k chunk l u (mid + l) (chunk * blocks + u) c.args.table.by_layer c.args.table.twiddles.now roots table refl (ap (λ n. chunk * n + u) b) c.requires.chunk c.loop-done-test.true (omega (arith, p, b)) in
-          let zero_more : (b : ℕ) → b ≡ 0 + b = λ b. omega arith in
           whole_layer_taken (high_rows field.ring root coset roots (λ u. scaled (u * w + j))) k l w half blocks
           (λ u t. dit_near field.ring (entry u)) (λ u t. dit_far field.ring (entry u)) before after
           (omega arith) c.loop-done-test.true h whole
-          (λ u t p q. ap (dit_near field.ring) (entry_is (0 + u) (omega (arith, p))))
-          (λ u t p q. ap (dit_far field.ring) (entry_is (0 + u) (omega (arith, p))))
-          (λ u i p q. c.layer_by_block.ensures.near u i p q ∙ ap (λ n. dit_near field.ring (entry n) (before (u * (2 * size) + i)) (before (u * (2 * size) + (size + i)))) (zero_more u))
-          (λ u i p q. c.layer_by_block.ensures.far u i p q ∙ ap (λ n. dit_far field.ring (entry n) (before (u * (2 * size) + i)) (before (u * (2 * size) + (size + i)))) (zero_more u))
+          (λ u t p q. ap (dit_near field.ring) (entry_is u p))
+          (λ u t p q. ap (dit_far field.ring) (entry_is u p))
+          c.layer_by_block.ensures.cells
           j inside
           (λ u v. c.loop-done.invariant.rows root s roots table j u inside v)
           r below;

@@ -10,14 +10,8 @@ layer-requires-clause-there g c b t p q =
           ∙ ap field.value c.ONE.ensures ∙ g.met.F.Field.one_law,
     )
 
-pub returns-then-eq-clause-near : goal.returns-then-eq-clause-near
-returns-then-eq-clause-near g c = c.layer.ensures.near
+pub returns-then-eq-clause-cells : goal.returns-then-eq-clause-cells
+returns-then-eq-clause-cells g c = c.layer.ensures.cells
 
-pub returns-then-eq-clause-far : goal.returns-then-eq-clause-far
-returns-then-eq-clause-far g c = c.layer.ensures.far
-
-pub returns-else-eq-clause-near : goal.returns-else-eq-clause-near
-returns-else-eq-clause-near g c = c.layer-else-eq.ensures.near
-
-pub returns-else-eq-clause-far : goal.returns-else-eq-clause-far
-returns-else-eq-clause-far g c = c.layer-else-eq.ensures.far
+pub returns-else-eq-clause-cells : goal.returns-else-eq-clause-cells
+returns-else-eq-clause-cells g c = c.layer-else-eq.ensures.cells

@@ -1,11 +1,10 @@
-use Rattle.std.proofs.Common.{◌≡◌, ℕ, ◌+◌, ◌*◌, ◌-◌, ◌^◌, ◌%◌, ◌<◌, ◌≤◌, get_or, sym, ap, ◌∙◌, subst, arith, length}
+use Rattle.std.proofs.Common.{◌≡◌, ℕ, ◌+◌, ◌*◌, ◌-◌, ◌^◌, ◌%◌, ◌<◌, ◌≤◌, get_or, refl, sym, ap, ◌∙◌, subst, arith}
 use Rattle.std.proofs.lemmas.Nat.{pow_pos}
 use Rattle.p3_matrix.specs.BitOrder.{rev}
 use Rattle.p3_networks.proofs.Layers.Blocks.{halves_whole}
 use Rattle.p3_networks.proofs.Layers.Counts.{layer_counted, layers_counted, two_halves}
-use Rattle.p3_networks.proofs.Layers.Sizes.{cells_by_halves, done_shift, layer_size, left_shift, some_rows}
+use Rattle.p3_networks.proofs.Layers.Sizes.{done_shift}
 use Rattle.p3_networks.proofs.Networks.LowLayers.{low_begun, low_done, low_first, low_layer}
-use Rattle.p3_networks.proofs.Tables.MoreTwiddles.{layer_end}
 use Rattle.p3_networks.proofs.radix_2_dit_parallel.halves.low_network_oop.Goals as goal
 
 pairs_are : (k : ℕ) → 0 < k → k < 64 → 1 * 2 ^ (k - 1) % 18446744073709551616 ≡ 2 ^ (k - 1)
@@ -40,35 +39,11 @@ loop-l-init g c =
       rows = λ root s roots layers j r inside below.
           let cell = λ (n : ℕ). field.value (get_or c.args.source.now n field.ZERO) in
           low_first field root s k w roots pairs c.args.twiddles.now (λ q. cell (rev k q * w + j)) cell (λ n. field.value (get_or c.first_layer_oop.new.values n field.ZERO))
-          some (rw are (sym (pairs_whole k some))) layers c.first_layer_oop.ensures.near c.first_layer_oop.ensures.far j inside
+          some (rw are (sym (pairs_whole k some))) layers c.first_layer_oop.ensures.cells j inside
           (λ u v. low_begun field root s k w cell j u v) r below;
       grows = c.first_layer_oop.ensures.grows;
       cost = omega (arith, c.first_layer_oop.ensures.cost, cells);
     }
-
-pub layer_twiddles-twiddles-requires-clause-inside : goal.layer_twiddles-twiddles-requires-clause-inside
-layer_twiddles-twiddles-requires-clause-inside g c = layer_end c.loop-l.l c.args.log_h (length c.args.twiddles.now) c.loop-l-test.true c.requires.table
-
-pub layer_by_place-requires-clause-some : goal.layer_by_place-requires-clause-some
-layer_by_place-requires-clause-some g c = some_rows _ c.loop-l.l (done_shift c.args.log_h c.loop-l.l c.loop-l-test.true c.requires.small)
-
-pub layer_by_place-requires-clause-blocks : goal.layer_by_place-requires-clause-blocks
-layer_by_place-requires-clause-blocks g c = some_rows _ (c.args.log_h - 1 - c.loop-l.l) (left_shift c.args.log_h c.loop-l.l c.loop-l-test.true c.requires.small)
-
-pub layer_by_place-requires-clause-size : goal.layer_by_place-requires-clause-size
-layer_by_place-requires-clause-size g c =
-    let l = c.loop-l.l in
-    let k = c.args.log_h in
-    rw (done_shift k l c.loop-l-test.true c.requires.small, left_shift k l c.loop-l-test.true c.requires.small)
-    (c.loop-l.auto.values ∙ c.first_layer_oop.auto.values ∙ c.requires.size ∙ cells_by_halves k l c.args.width c.loop-l-test.true)
-
-pub layer_by_place-requires-clause-table : goal.layer_by_place-requires-clause-table
-layer_by_place-requires-clause-table g c =
-    let l = c.loop-l.l in
-    let k = c.args.log_h in
-    let half = done_shift k l c.loop-l-test.true c.requires.small in
-    let size = ap length c.layer_twiddles-twiddles.ensures ∙ layer_size c.args.twiddles.now l (layer_end l k (length c.args.twiddles.now) c.loop-l-test.true c.requires.table) in
-    omega (arith, half, size)
 
 pub loop-l-preserved : goal.loop-l-preserved
 loop-l-preserved g c =
@@ -76,20 +51,15 @@ loop-l-preserved g c =
     let l = c.loop-l.l in
     let k = c.args.log_h in
     let w = c.args.width in
-    let half = 1 * 2 ^ l % 18446744073709551616 in
-    let blocks = 1 * 2 ^ (k - 1 - l) % 18446744073709551616 in
-    let h : half ≡ 2 ^ l = done_shift k l c.loop-l-test.true c.requires.small in
-    let b : blocks ≡ 2 ^ (k - 1 - l) = left_shift k l c.loop-l-test.true c.requires.small in
-    let whole : blocks * (2 * half) ≡ 2 ^ k = rw (h, b) (halves_whole k l c.loop-l-test.true) in
+    let whole = halves_whole k l c.loop-l-test.true in
     record {
       rows = λ root s roots layers j r inside below.
-          low_layer field root s k w roots l half blocks c.layer_twiddles-twiddles.result.now (λ u. field.value (get_or c.args.source.now (rev k u * w + j) field.ZERO))
-          (λ n. field.value (get_or c.loop-l.values n field.ZERO)) (λ n. field.value (get_or c.layer_by_place.new.values n field.ZERO))
-          c.loop-l-test.true h whole (rw c.layer_twiddles-twiddles.ensures (layers.layers l c.loop-l-test.true))
-          c.layer_by_place.ensures.near c.layer_by_place.ensures.far j inside
+          low_layer field root s k w roots l (2 ^ l) (2 ^ (k - 1 - l)) _ (λ u. field.value (get_or c.args.source.now (rev k u * w + j) field.ZERO))
+          (λ n. field.value (get_or c.loop-l.values n field.ZERO)) (λ n. field.value (get_or c.one_low_layer.new.values n field.ZERO))
+          c.loop-l-test.true refl whole (layers.layers l c.loop-l-test.true) c.one_low_layer.ensures.cells j inside
           (λ u v. c.loop-l.invariant.rows root s roots layers j u inside v) r below;
-      grows = omega (arith, c.loop-l.invariant.grows, c.layer_by_place.ensures.grows);
-      cost = layer_counted 1 k l w blocks half c.args.products.now c.loop-l.products c.layer_by_place.new.products c.loop-l-test.true whole c.loop-l.invariant.cost c.layer_by_place.ensures.cost;
+      grows = omega (arith, c.loop-l.invariant.grows, c.one_low_layer.ensures.grows);
+      cost = layer_counted 1 k l w (2 ^ (k - 1 - l)) (2 ^ l) c.args.products.now c.loop-l.products c.one_low_layer.new.products c.loop-l-test.true whole c.loop-l.invariant.cost c.one_low_layer.ensures.cost;
     }
 
 pub returns-then-log_h-eq0-clause-values : goal.returns-then-log_h-eq0-clause-values

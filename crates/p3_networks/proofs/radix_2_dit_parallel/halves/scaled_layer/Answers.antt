@@ -1,54 +1,24 @@
-use Rattle.std.proofs.Common.{ℕ, ◌+◌, ◌*◌, get_or, sym, ap, ◌∙◌, ◌≡◌, ap₂}
-use Rattle.p3_field.specs.Ring.{Ring}
+use Rattle.std.proofs.Common.{ℕ, ◌+◌, get_or, sym, ◌∙◌, ap₂}
 use Rattle.p3_matrix.specs.Butterflies.{dit_near, dit_far}
-use Rattle.p3_networks.specs.Twiddles.{factor}
 use Rattle.p3_networks.proofs.Networks.Scaled.{scaled_near, scaled_far}
 use Rattle.p3_networks.proofs.radix_2_dit_parallel.halves.scaled_layer.Goals as goal
 
-pub returns-in-Some-clause-near : goal.returns-in-Some-clause-near
-returns-in-Some-clause-near g c b i p q =
+pub returns-in-Some-clause-cells : goal.returns-in-Some-clause-cells
+returns-in-Some-clause-cells g c =
     let field = g.F.Field in
-    let size = c.args.half * c.args.width in
-    let cell = λ (n : ℕ). field.value (get_or c.args.values.now n field.ZERO) in
-    let x = cell (b * (2 * size) + i) in
-    let y = cell (b * (2 * size) + (size + i)) in
-    let t = field.value (get_or c.args.twiddles.now (c.args.block + b) field.ZERO) in
-    c.layer.ensures.near b i p q ∙ scaled_near field.ring t (field.value c.in-Some.scale) x y
-    ∙ ap (λ s. dit_near field.ring t (field.ring.mul x (factor field s)) (field.ring.mul y (factor field s))) (sym c.in-Some.is)
+    let t = λ (b : ℕ). field.value (get_or c.args.twiddles.now (c.args.block + b) field.ZERO) in
+    rw c.in-Some.is
+    (λ b p. record {
+      near_cell = λ i q. (c.layer.ensures.cells b p).near_cell i q ∙ scaled_near field.ring (t b) (field.value c.in-Some.scale) _ _;
+      far_cell = λ i q. (c.layer.ensures.cells b p).far_cell i q ∙ scaled_far field.ring (t b) (field.value c.in-Some.scale) _ _;
+    })
 
-pub returns-in-Some-clause-far : goal.returns-in-Some-clause-far
-returns-in-Some-clause-far g c b i p q =
+pub returns-in-None-clause-cells : goal.returns-in-None-clause-cells
+returns-in-None-clause-cells g c =
     let field = g.F.Field in
-    let size = c.args.half * c.args.width in
-    let cell = λ (n : ℕ). field.value (get_or c.args.values.now n field.ZERO) in
-    let x = cell (b * (2 * size) + i) in
-    let y = cell (b * (2 * size) + (size + i)) in
-    let t = field.value (get_or c.args.twiddles.now (c.args.block + b) field.ZERO) in
-    c.layer.ensures.far b i p q ∙ scaled_far field.ring t (field.value c.in-Some.scale) x y
-    ∙ ap (λ s. dit_far field.ring t (field.ring.mul x (factor field s)) (field.ring.mul y (factor field s))) (sym c.in-Some.is)
-
--- without a scale
-unscaled : {A : Type 0} (R : Ring A) (op : A → A → A) (x y : A) → op x y ≡ op (R.mul x R.one) (R.mul y R.one)
-unscaled R op x y = ap₂ op (sym (R.mul_one x)) (sym (R.mul_one y))
-
-pub returns-in-None-clause-near : goal.returns-in-None-clause-near
-returns-in-None-clause-near g c b i p q =
-    let field = g.F.Field in
-    let size = c.args.half * c.args.width in
-    let cell = λ (n : ℕ). field.value (get_or c.args.values.now n field.ZERO) in
-    let x = cell (b * (2 * size) + i) in
-    let y = cell (b * (2 * size) + (size + i)) in
-    let t = field.value (get_or c.args.twiddles.now (c.args.block + b) field.ZERO) in
-    c.layer_by_block.ensures.near b i p q ∙ unscaled field.ring (dit_near field.ring t) x y
-    ∙ ap (λ s. dit_near field.ring t (field.ring.mul x (factor field s)) (field.ring.mul y (factor field s))) (sym c.in-None.is)
-
-pub returns-in-None-clause-far : goal.returns-in-None-clause-far
-returns-in-None-clause-far g c b i p q =
-    let field = g.F.Field in
-    let size = c.args.half * c.args.width in
-    let cell = λ (n : ℕ). field.value (get_or c.args.values.now n field.ZERO) in
-    let x = cell (b * (2 * size) + i) in
-    let y = cell (b * (2 * size) + (size + i)) in
-    let t = field.value (get_or c.args.twiddles.now (c.args.block + b) field.ZERO) in
-    c.layer_by_block.ensures.far b i p q ∙ unscaled field.ring (dit_far field.ring t) x y
-    ∙ ap (λ s. dit_far field.ring t (field.ring.mul x (factor field s)) (field.ring.mul y (factor field s))) (sym c.in-None.is)
+    let t = λ (b : ℕ). field.value (get_or c.args.twiddles.now (c.args.block + b) field.ZERO) in
+    rw c.in-None.is
+    (λ b p. record {
+      near_cell = λ i q. (c.layer_by_block.ensures.cells b p).near_cell i q ∙ ap₂ (dit_near field.ring (t b)) (sym (field.ring.mul_one _)) (sym (field.ring.mul_one _));
+      far_cell = λ i q. (c.layer_by_block.ensures.cells b p).far_cell i q ∙ ap₂ (dit_far field.ring (t b)) (sym (field.ring.mul_one _)) (sym (field.ring.mul_one _));
+    })

@@ -1,5 +1,6 @@
 use Rattle.std.proofs.Common.{◌≡◌, ℕ, ◌+◌, ◌*◌, ◌-◌, ◌%◌, ◌^◌, ◌≤◌, length, sym, ap, ◌∙◌, subst, arith}
-use Rattle.p3_networks.specs.Groups.{IsLayer, TakesColumns, cells_of}
+use Rattle.p3_networks.specs.Groups.{TakesColumns, cells_of}
+use Rattle.p3_networks.specs.Layers.{IsLayer}
 use Rattle.p3_networks.proofs.Layers.Groups.{block_there, columns_next, columns_none, layer_in_order, part_sizes, piece_layer_counted, piece_sizes}
 use Rattle.p3_networks.proofs.Layers.Chunks.{blocks_within, chunk_within}
 use Rattle.p3_networks.proofs.Layers.Counts.{at_end}
@@ -71,9 +72,9 @@ loop-done-preserved g c =
           let all : number * blocks + blocks ≤ 2 ^ (k - 1 - e) = let part_of = blocks_within k to e number c.layer-log_half.ensures.last room in omega (arith, part_of, ap (λ n. number * n + n) sizes.blocks_is) in
           let before = cells (cells_of c.args.order from to done) in
           let after = cells (cells_of c.args.order from to (done + 1)) in
-          let layer : IsLayer (2 ^ (k - 1 - e)) (half * part) near far before after =
-          subst (λ (n : ℕ). IsLayer (2 ^ (k - 1 - e)) n near far before after) (sym sizes.half_cells)
-          (subst (λ (n : ℕ). IsLayer (2 ^ (k - 1 - n)) (2 ^ n * w) near far before after) (sym c.layer-log_half.ensures.layer)
+          let layer : IsLayer (2 ^ (k - 1 - e)) (half * part) (λ b i. near b) (λ b i. far b) before after =
+          subst (λ (n : ℕ). IsLayer (2 ^ (k - 1 - e)) n (λ b i. near b) (λ b i. far b) before after) (sym sizes.half_cells)
+          (subst (λ (n : ℕ). IsLayer (2 ^ (k - 1 - n)) (2 ^ n * w) (λ b i. near b) (λ b i. far b) before after) (sym c.layer-log_half.ensures.layer)
           (layer_in_order c.args.order k w from to done near far cells layers (omega (arith, c.loop-done-test.true)) within)) in
           let first : number * blocks * (2 * (half * part)) ≡ number * len =
           (let assoc : number * blocks * (2 * (half * part)) ≡ number * (blocks * (2 * (half * part))) = omega arith in assoc) ∙ ap (λ n. number * n) (sym sizes.cells ∙ sym c.requires.size) in

@@ -1,5 +1,6 @@
-use Rattle.std.proofs.Common.{◌≡◌, ℕ, ◌+◌, ◌-◌, ◌*◌, ◌/◌, ◌%◌, ◌^◌, ◌≤◌, List, length, get_or, sym, ap, ap₂, ◌∙◌, subst, arith}
+use Rattle.std.proofs.Common.{◌≡◌, ℕ, ◌+◌, ◌-◌, ◌*◌, ◌/◌, ◌%◌, ◌^◌, ◌≤◌, length, get_or, sym, ap, ap₂, ◌∙◌, subst, arith}
 use Rattle.std.proofs.Math.Nat.{mul-le-mul, mul-le-mul_right}
+use Rattle.p3_networks.specs.Layers.{IsLayer}
 use Rattle.p3_networks.proofs.Layers.Groups.{block_there}
 use Rattle.p3_networks.proofs.Layers.Chunks.{chunk_sizes, chunk_taken}
 use Rattle.p3_networks.proofs.Layers.Sizes.{cells_by_halves}
@@ -55,19 +56,13 @@ returns-clause-cells g c k before after layers room holds =
     let one : size * 1 ≡ size = omega arith in
     let near = λ (b t : ℕ). rule.near field.Element field.ring field.value c.args.rule b t in
     let far = λ (b t : ℕ). rule.far field.Element field.ring field.value c.args.rule b t in
-    let cell = λ (xs : List g.row.F.Denot) (n : ℕ). field.value (get_or xs n field.ZERO) in
     let x = c.args.values.now in
     let y = c.layer.new.values in
     chunk_taken field.value field.ZERO near far
     k c.args.width c.args.log_half c.args.top c.args.number blocks half (λ i. i / 1) before after x y c.requires.below sizes.blocks_is sizes.half_is
     (c.requires.size ∙ cells_by_halves c.args.top c.args.log_half c.args.width c.requires.below ∙ sym (ap₂ (λ (n h : ℕ). n * (2 * (h * c.args.width))) sizes.blocks_is sizes.half_is))
     c.layer.auto.values room (g.met.R.NetworkRule.near_law c.args.rule) (g.met.R.NetworkRule.far_law c.args.rule) layers
-    (λ b i p q.
-    subst (λ (n : ℕ). cell y (b * (2 * n) + i) ≡ near (c.args.number * blocks + b) (i / 1) (cell x (b * (2 * n) + i)) (cell x (b * (2 * n) + (n + i)))) one
-    (c.layer.ensures.near b i p (omega (arith, q, one))))
-    (λ b i p q.
-    subst (λ (n : ℕ). cell y (b * (2 * n) + (n + i)) ≡ far (c.args.number * blocks + b) (i / 1) (cell x (b * (2 * n) + i)) (cell x (b * (2 * n) + (n + i)))) one
-    (c.layer.ensures.far b i p (omega (arith, q, one))))
+    (subst (λ (n : ℕ). IsLayer blocks n (λ b i. near (c.args.number * blocks + b) (i / 1)) (λ b i. far (c.args.number * blocks + b) (i / 1)) (λ u. field.value (get_or x u field.ZERO)) (λ u. field.value (get_or y u field.ZERO))) one c.layer.ensures.cells)
     holds
 
 pub returns-clause-cost : goal.returns-clause-cost

@@ -19,16 +19,18 @@ returns-clause-cells g c k before after layers room holds =
     chunk_taken value zero near far
     k 1 0 6 number 32 1 (λ i. 0) before after x y (omega arith) refl refl c.requires.size c.meet_pairs.auto.values room
     (g.met.R.NetworkRule.near_law c.args.rule) (g.met.R.NetworkRule.far_law c.args.rule) layers
-    (λ b i inside one.
-    let none : i ≡ 0 = omega (arith, one) in
-    let first : b * 2 + i ≡ 2 * b = omega (arith, none) in
-    let second : 2 * b + 1 ≡ b * 2 + (1 + i) = omega (arith, none) in
-    ap (cell y) first ∙ c.meet_pairs.ensures.near b inside ∙ ap₂ (near (number * 32 + b) 0) (ap (cell x) (sym first)) (ap (cell x) second))
-    (λ b i inside one.
-    let none : i ≡ 0 = omega (arith, one) in
-    let first : b * 2 + i ≡ 2 * b = omega (arith, none) in
-    let second : 2 * b + 1 ≡ b * 2 + (1 + i) = omega (arith, none) in
-    ap (cell y) (sym second) ∙ c.meet_pairs.ensures.far b inside ∙ ap₂ (far (number * 32 + b) 0) (ap (cell x) (sym first)) (ap (cell x) second))
+    (λ b inside. record {
+      near_cell = λ i one.
+          let none : i ≡ 0 = omega (arith, one) in
+          let first : b * 2 + i ≡ 2 * b = omega (arith, none) in
+          let second : 2 * b + 1 ≡ b * 2 + (1 + i) = omega (arith, none) in
+          ap (cell y) first ∙ c.meet_pairs.ensures.near b inside ∙ ap₂ (near (number * 32 + b) 0) (ap (cell x) (sym first)) (ap (cell x) second);
+      far_cell = λ i one.
+          let none : i ≡ 0 = omega (arith, one) in
+          let first : b * 2 + i ≡ 2 * b = omega (arith, none) in
+          let second : 2 * b + 1 ≡ b * 2 + (1 + i) = omega (arith, none) in
+          ap (cell y) (sym second) ∙ c.meet_pairs.ensures.far b inside ∙ ap₂ (far (number * 32 + b) 0) (ap (cell x) (sym first)) (ap (cell x) second);
+    })
     holds
 
 pub returns-clause-cost : goal.returns-clause-cost
