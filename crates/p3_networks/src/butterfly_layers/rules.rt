@@ -1,8 +1,9 @@
 //! The rules of layers: which butterfly meets where. Twiddles are borrowed: they go by the place in a
-//! block or by the number of the block. `DitByPlace`, row by row, `DitByBlock` and `DifByBlock` ask that
-//! the first twiddle is one, and do not multiply its pairs.
+//! block or by the number of the block. A rule by block takes the butterflies of any `Decimation`, which is
+//! all that a new one has to be.
 
 ghost use Rattle.std.specs.Prelude.{◌≡◌, ℕ, ◌+◌, ◌*◌, ◌<◌, ◌≤◌, List, length, get_or};
+ghost use Rattle.p3_field.specs.Ring.{Ring};
 ghost use Rattle.p3_matrix.specs.Butterflies.{dit_near, dit_far};
 
 use crate::butterfly_layers::Rule;
@@ -12,257 +13,209 @@ use p3_matrix::{
     apply_dit_by_place,
 };
 
-/// Decimation in time: pair t of every block has twiddle t. Twiddle 0 is one.
-#[derive(Clone, Copy)]
-pub struct DitByPlace<'a, F> {
-    /// Twiddle t stands in place t.
-    pub twiddles: &'a [F],
+/// Butterflies of one formula, one for each twiddle.
+///
+/// Contracts name what stands in the near and in the far row by the twiddle and the entries that meet, over
+/// any ring.
+pub trait Decimation<F: TwoAdicField>: Copy {
+    ghost near: { (A : Type 0) → Ring A → (F → A) → Self → A → A → A → A };
+
+    ghost far: { (A : Type 0) → Ring A → (F → A) → Self → A → A → A → A };
+
+    // A pair of entries takes at most so many products.
+    ghost cost: { ℕ };
+
+    // What is asked of twiddle 0.
+    ghost asks: { (A : Type 0) → Ring A → A → Type 0 };
+
+    /// Takes two rows of one length to the near and the far row in their places, by twiddle `number`.
+    fn meet(
+        self,
+        number: usize,
+        twiddle: F,
+        row_1: &mut [F],
+        row_2: &mut [F],
+        products: &mut Products,
+    )
+        requires first { number ≡ 0 → asks F.Element F.ring (F.value twiddle) }
+        requires size { length row_1.old ≡ length row_2.old }
+        ensures near { (j : ℕ) → j < length row_1.old → F.value (get_or row_1.new j F.ZERO)
+            ≡ near F.Element F.ring F.value self (F.value twiddle) (F.value (get_or row_1.old j F.ZERO))
+            (F.value (get_or row_2.old j F.ZERO)) }
+        ensures far { (j : ℕ) → j < length row_1.old → F.value (get_or row_2.new j F.ZERO)
+            ≡ far F.Element F.ring F.value self (F.value twiddle) (F.value (get_or row_1.old j F.ZERO))
+            (F.value (get_or row_2.old j F.ZERO)) }
+        ensures grows { products.old ≤ products.new }
+        ensures cost { products.new ≤ products.old + cost * length row_1.old };
 }
 
-impl<F: TwoAdicField> Rule<F> for DitByPlace<'_, F> {
-    ghost use Rattle.std.specs.Prelude.{◌≡◌, ◌<◌, length, get_or, false};
+/// Decimation in time. If `FREE`, twiddle 0 is one, and its pairs are not multiplied.
+#[derive(Clone, Copy)]
+pub struct Dit<const FREE: bool>;
+
+impl<F: TwoAdicField, const FREE: bool> Decimation<F> for Dit<FREE> {
+    ghost use Rattle.std.specs.Prelude.{◌≡◌, IsTrue};
     ghost use Rattle.p3_matrix.specs.Butterflies.{dit_near, dit_far};
 
-    ghost near = { λ A ring v r b t. dit_near ring (v (get_or r.twiddles.now t F.ZERO)) };
+    ghost near = { λ A ring v d. dit_near ring };
 
-    ghost far = { λ A ring v r b t. dit_far ring (v (get_or r.twiddles.now t F.ZERO)) };
-
-    ghost by_block = { false };
+    ghost far = { λ A ring v d. dit_far ring };
 
     ghost cost = { 1 };
 
-    ghost has = { λ r b t. (t < length r.twiddles.now) × (F.value (get_or r.twiddles.now 0 F.ZERO) ≡ F.ring.one) };
-
-    #[inline(always)]
-    fn goes_by_block(self) -> bool {
-        false
-    }
+    ghost asks = { λ A ring t. IsTrue FREE → t ≡ ring.one };
 
     #[inline(always)]
     fn meet(
         self,
-        _block: usize,
-        place: usize,
+        number: usize,
+        twiddle: F,
         row_1: &mut [F],
         row_2: &mut [F],
         products: &mut Products,
     ) {
-        if place == 0 {
+        if FREE && number == 0 {
             meet_rows(TwiddleFreeButterfly, row_1, row_2, products);
         } else {
-            meet_rows(DitButterfly(self.twiddles[place]), row_1, row_2, products);
+            meet_rows(DitButterfly(twiddle), row_1, row_2, products);
         }
     }
-
-    #[inline(always)]
-    fn meet_column(self, _block: usize, low: &mut [F], high: &mut [F], products: &mut Products) {
-        meet_by_place(self.twiddles, low, high, products);
-    }
 }
 
-/// Decimation in time on a coset: pair t of every block has twiddle t, and none is free.
+/// Decimation in time, and both values times a scale.
 #[derive(Clone, Copy)]
-pub struct DitByPlaceOnCoset<'a, F> {
-    /// Twiddle t stands in place t.
-    pub twiddles: &'a [F],
-}
-
-impl<F: TwoAdicField> Rule<F> for DitByPlaceOnCoset<'_, F> {
-    ghost use Rattle.std.specs.Prelude.{◌<◌, length, get_or, false};
-    ghost use Rattle.p3_matrix.specs.Butterflies.{dit_near, dit_far};
-
-    ghost near = { λ A ring v r b t. dit_near ring (v (get_or r.twiddles.now t F.ZERO)) };
-
-    ghost far = { λ A ring v r b t. dit_far ring (v (get_or r.twiddles.now t F.ZERO)) };
-
-    ghost by_block = { false };
-
-    ghost cost = { 1 };
-
-    ghost has = { λ r b t. t < length r.twiddles.now };
-
-    #[inline(always)]
-    fn goes_by_block(self) -> bool {
-        false
-    }
-
-    #[inline(always)]
-    fn meet(
-        self,
-        _block: usize,
-        place: usize,
-        row_1: &mut [F],
-        row_2: &mut [F],
-        products: &mut Products,
-    ) {
-        meet_rows(DitButterfly(self.twiddles[place]), row_1, row_2, products);
-    }
-
-    #[inline(always)]
-    fn meet_column(self, _block: usize, low: &mut [F], high: &mut [F], products: &mut Products) {
-        meet_by_place(self.twiddles, low, high, products);
-    }
-}
-
-/// Decimation in time: every pair of block b has twiddle b. Twiddle 0 is one.
-#[derive(Clone, Copy)]
-pub struct DitByBlock<'a, F> {
-    /// That of block b stands in place b.
-    pub twiddles: &'a [F],
-}
-
-impl<F: TwoAdicField> Rule<F> for DitByBlock<'_, F> {
-    ghost use Rattle.std.specs.Prelude.{◌≡◌, ◌<◌, length, get_or, true};
-    ghost use Rattle.p3_matrix.specs.Butterflies.{dit_near, dit_far};
-
-    ghost near = { λ A ring v r b t. dit_near ring (v (get_or r.twiddles.now b F.ZERO)) };
-
-    ghost far = { λ A ring v r b t. dit_far ring (v (get_or r.twiddles.now b F.ZERO)) };
-
-    ghost by_block = { true };
-
-    ghost cost = { 1 };
-
-    ghost has = { λ r b t. (b < length r.twiddles.now) × (F.value (get_or r.twiddles.now 0 F.ZERO) ≡ F.ring.one) };
-
-    #[inline(always)]
-    fn goes_by_block(self) -> bool {
-        true
-    }
-
-    #[inline(always)]
-    fn meet(
-        self,
-        block: usize,
-        _place: usize,
-        row_1: &mut [F],
-        row_2: &mut [F],
-        products: &mut Products,
-    ) {
-        if block == 0 {
-            meet_rows(TwiddleFreeButterfly, row_1, row_2, products);
-        } else {
-            meet_rows(DitButterfly(self.twiddles[block]), row_1, row_2, products);
-        }
-    }
-
-    #[inline(always)]
-    fn meet_column(self, block: usize, low: &mut [F], high: &mut [F], products: &mut Products) {
-        self.meet(block, 0, low, high, products);
-    }
-}
-
-/// Decimation in time on a coset: every pair of block b has twiddle b, and none is free.
-#[derive(Clone, Copy)]
-pub struct DitByBlockOnCoset<'a, F> {
-    /// That of block b stands in place b.
-    pub twiddles: &'a [F],
-}
-
-impl<F: TwoAdicField> Rule<F> for DitByBlockOnCoset<'_, F> {
-    ghost use Rattle.std.specs.Prelude.{◌<◌, length, get_or, true};
-    ghost use Rattle.p3_matrix.specs.Butterflies.{dit_near, dit_far};
-
-    ghost near = { λ A ring v r b t. dit_near ring (v (get_or r.twiddles.now b F.ZERO)) };
-
-    ghost far = { λ A ring v r b t. dit_far ring (v (get_or r.twiddles.now b F.ZERO)) };
-
-    ghost by_block = { true };
-
-    ghost cost = { 1 };
-
-    ghost has = { λ r b t. b < length r.twiddles.now };
-
-    #[inline(always)]
-    fn goes_by_block(self) -> bool {
-        true
-    }
-
-    #[inline(always)]
-    fn meet(
-        self,
-        block: usize,
-        _place: usize,
-        row_1: &mut [F],
-        row_2: &mut [F],
-        products: &mut Products,
-    ) {
-        meet_rows(DitButterfly(self.twiddles[block]), row_1, row_2, products);
-    }
-
-    #[inline(always)]
-    fn meet_column(self, block: usize, low: &mut [F], high: &mut [F], products: &mut Products) {
-        self.meet(block, 0, low, high, products);
-    }
-}
-
-/// Decimation in time, and both values times a scale: every pair of block b has twiddle b.
-#[derive(Clone, Copy)]
-pub struct ScaledDitByBlock<'a, F> {
-    /// That of block b stands in place b.
-    pub twiddles: &'a [F],
+pub struct ScaledDit<F> {
     /// What both new entries of a pair are multiplied by.
     pub scale: F,
 }
 
-impl<F: TwoAdicField> Rule<F> for ScaledDitByBlock<'_, F> {
-    ghost use Rattle.std.specs.Prelude.{◌<◌, length, get_or, true};
+impl<F: TwoAdicField> Decimation<F> for ScaledDit<F> {
+    ghost use Rattle.std.specs.Prelude.{⊤};
     ghost use Rattle.p3_matrix.specs.Butterflies.{scaled_dit_near, scaled_dit_far};
 
-    ghost near = { λ A ring v r b t. scaled_dit_near ring (v (get_or r.twiddles.now b F.ZERO)) (v r.scale) };
+    ghost near = { λ A ring v d t. scaled_dit_near ring t (v d.scale) };
 
-    ghost far = { λ A ring v r b t. scaled_dit_far ring (v (get_or r.twiddles.now b F.ZERO)) (v r.scale) };
-
-    ghost by_block = { true };
+    ghost far = { λ A ring v d t. scaled_dit_far ring t (v d.scale) };
 
     ghost cost = { 2 };
 
-    ghost has = { λ r b t. b < length r.twiddles.now };
-
-    #[inline(always)]
-    fn goes_by_block(self) -> bool {
-        true
-    }
+    ghost asks = { λ A ring t. ⊤ };
 
     #[inline(always)]
     fn meet(
         self,
-        block: usize,
-        _place: usize,
+        _number: usize,
+        twiddle: F,
         row_1: &mut [F],
         row_2: &mut [F],
         products: &mut Products,
     ) {
-        let butterfly = ScaledDitButterfly::new(self.twiddles[block], self.scale);
+        let butterfly = ScaledDitButterfly::new(twiddle, self.scale);
         meet_rows(butterfly, row_1, row_2, products);
     }
-
-    #[inline(always)]
-    fn meet_column(self, block: usize, low: &mut [F], high: &mut [F], products: &mut Products) {
-        self.meet(block, 0, low, high, products);
-    }
 }
 
-/// Decimation in frequency: every pair of block b has twiddle b. Twiddle 0 is one.
+/// Decimation in frequency. Twiddle 0 is one, and its pairs are not multiplied.
 #[derive(Clone, Copy)]
-pub struct DifByBlock<'a, F> {
-    /// That of block b stands in place b.
-    pub twiddles: &'a [F],
-}
+pub struct Dif;
 
-impl<F: TwoAdicField> Rule<F> for DifByBlock<'_, F> {
-    ghost use Rattle.std.specs.Prelude.{◌≡◌, ◌<◌, length, get_or, true};
+impl<F: TwoAdicField> Decimation<F> for Dif {
+    ghost use Rattle.std.specs.Prelude.{◌≡◌};
     ghost use Rattle.p3_matrix.specs.Butterflies.{dif_near, dif_far};
 
-    ghost near = { λ A ring v r b t. dif_near ring (v (get_or r.twiddles.now b F.ZERO)) };
+    ghost near = { λ A ring v d. dif_near ring };
 
-    ghost far = { λ A ring v r b t. dif_far ring (v (get_or r.twiddles.now b F.ZERO)) };
-
-    ghost by_block = { true };
+    ghost far = { λ A ring v d. dif_far ring };
 
     ghost cost = { 1 };
 
-    ghost has = { λ r b t. (b < length r.twiddles.now) × (F.value (get_or r.twiddles.now 0 F.ZERO) ≡ F.ring.one) };
+    ghost asks = { λ A ring t. t ≡ ring.one };
+
+    #[inline(always)]
+    fn meet(
+        self,
+        number: usize,
+        twiddle: F,
+        row_1: &mut [F],
+        row_2: &mut [F],
+        products: &mut Products,
+    ) {
+        if number == 0 {
+            meet_rows(TwiddleFreeButterfly, row_1, row_2, products);
+        } else {
+            meet_rows(DifButterfly(twiddle), row_1, row_2, products);
+        }
+    }
+}
+
+/// Decimation in time: pair t of every block has twiddle t. If `FREE`, twiddle 0 is one, and its pairs are not
+/// multiplied, row by row.
+#[derive(Clone, Copy)]
+pub struct DitByPlace<'a, F, const FREE: bool> {
+    /// Twiddle t stands in place t.
+    pub twiddles: &'a [F],
+}
+
+impl<F: TwoAdicField, const FREE: bool> Rule<F> for DitByPlace<'_, F, FREE> {
+    ghost use Rattle.std.specs.Prelude.{◌≡◌, ◌<◌, length, get_or, false, IsTrue};
+    ghost use Rattle.p3_matrix.specs.Butterflies.{dit_near, dit_far};
+
+    ghost near = { λ A ring v r b t. dit_near ring (v (get_or r.twiddles.now t F.ZERO)) };
+
+    ghost far = { λ A ring v r b t. dit_far ring (v (get_or r.twiddles.now t F.ZERO)) };
+
+    ghost by_block = { false };
+
+    ghost cost = { 1 };
+
+    ghost has = { λ r b t. (t < length r.twiddles.now)
+        × (IsTrue FREE → F.value (get_or r.twiddles.now 0 F.ZERO) ≡ F.ring.one) };
+
+    #[inline(always)]
+    fn goes_by_block(self) -> bool {
+        false
+    }
+
+    #[inline(always)]
+    fn meet(
+        self,
+        _block: usize,
+        place: usize,
+        row_1: &mut [F],
+        row_2: &mut [F],
+        products: &mut Products,
+    ) {
+        Dit::<FREE>.meet(place, self.twiddles[place], row_1, row_2, products);
+    }
+
+    #[inline(always)]
+    fn meet_column(self, _block: usize, low: &mut [F], high: &mut [F], products: &mut Products) {
+        meet_by_place(self.twiddles, low, high, products);
+    }
+}
+
+/// Every pair of block b has twiddle b.
+#[derive(Clone, Copy)]
+pub struct ByBlock<'a, F, D> {
+    /// That of block b stands in place b.
+    pub twiddles: &'a [F],
+    /// Which butterflies meet.
+    pub decimation: D,
+}
+
+impl<F: TwoAdicField, D: Decimation<F>> Rule<F> for ByBlock<'_, F, D> {
+    ghost use Rattle.std.specs.Prelude.{◌<◌, length, get_or, true};
+
+    ghost near = { λ A ring v r b t. D.near A ring v r.decimation (v (get_or r.twiddles.now b F.ZERO)) };
+
+    ghost far = { λ A ring v r b t. D.far A ring v r.decimation (v (get_or r.twiddles.now b F.ZERO)) };
+
+    ghost by_block = { true };
+
+    ghost cost = { D.cost };
+
+    ghost has = { λ r b t. (b < length r.twiddles.now)
+        × D.asks F.Element F.ring (F.value (get_or r.twiddles.now 0 F.ZERO)) };
 
     #[inline(always)]
     fn goes_by_block(self) -> bool {
@@ -278,11 +231,8 @@ impl<F: TwoAdicField> Rule<F> for DifByBlock<'_, F> {
         row_2: &mut [F],
         products: &mut Products,
     ) {
-        if block == 0 {
-            meet_rows(TwiddleFreeButterfly, row_1, row_2, products);
-        } else {
-            meet_rows(DifButterfly(self.twiddles[block]), row_1, row_2, products);
-        }
+        self.decimation
+            .meet(block, self.twiddles[block], row_1, row_2, products);
     }
 
     #[inline(always)]

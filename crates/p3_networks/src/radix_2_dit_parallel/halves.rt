@@ -11,9 +11,7 @@ ghost use Rattle.p3_networks.specs.Layers.{AreValuesOfRows, IsLayer};
 ghost use Rattle.p3_networks.specs.Twiddles.{AreBlockTwiddles, AreTwiddlesOfLayers, coset_twiddles, block_end};
 ghost use Rattle.p3_networks.specs.Twiddles.{block_entries, factor, scale_cost};
 
-use crate::butterfly_layers::rules::{
-    DitByBlock, DitByBlockOnCoset, DitByPlace, DitByPlaceOnCoset, ScaledDitByBlock,
-};
+use crate::butterfly_layers::rules::{ByBlock, Dit, DitByPlace, ScaledDit};
 use crate::butterfly_layers::{layer, layer_oop};
 use crate::twiddles::layer_twiddles;
 use p3_field::{Field, Products, TwoAdicField};
@@ -418,7 +416,7 @@ pub(crate) fn layer_by_place<F: TwoAdicField>(
 {
     if twiddles[0] == F::ONE {
         layer(
-            DitByPlace { twiddles },
+            DitByPlace::<F, true> { twiddles },
             values,
             width,
             half,
@@ -428,7 +426,7 @@ pub(crate) fn layer_by_place<F: TwoAdicField>(
         );
     } else {
         layer(
-            DitByPlaceOnCoset { twiddles },
+            DitByPlace::<F, false> { twiddles },
             values,
             width,
             half,
@@ -500,7 +498,10 @@ fn layer_by_block<F: TwoAdicField>(
 {
     if twiddles[0] == F::ONE {
         layer(
-            DitByBlock { twiddles },
+            ByBlock {
+                twiddles,
+                decimation: Dit::<true>,
+            },
             values,
             width,
             half,
@@ -510,7 +511,10 @@ fn layer_by_block<F: TwoAdicField>(
         );
     } else {
         layer(
-            DitByBlockOnCoset { twiddles },
+            ByBlock {
+                twiddles,
+                decimation: Dit::<false>,
+            },
             values,
             width,
             half,
@@ -546,7 +550,10 @@ fn scaled_layer<F: TwoAdicField>(
 {
     match scale {
         Some(scale) => layer(
-            ScaledDitByBlock { twiddles, scale },
+            ByBlock {
+                twiddles,
+                decimation: ScaledDit { scale },
+            },
             values,
             width,
             half,

@@ -16,11 +16,11 @@ ghost use Rattle.p3_networks.specs.Layers.{AreLayers, HoldsCells, AreValuesOfRow
 ghost use Rattle.p3_matrix.specs.Polynomials.{poly};
 ghost use Rattle.p3_networks.specs.Twiddles.{AreTwiddlesFromStart, backward_root, block_powers, forward_root};
 
-use crate::butterfly_layers::rules::{DifByBlock, DitByBlock};
+use crate::butterfly_layers::rules::{ByBlock, Dif, Dit};
 use crate::butterfly_layers::{Rule, layer};
 use crate::chunks::on_each_chunk;
 use crate::radix_2_small_batch::groups::{Order, layers_in_groups};
-use crate::radix_2_small_batch::pairs::{DifPair, DitPair, on_pairs};
+use crate::radix_2_small_batch::pairs::{NetworkDecimation, on_pairs};
 use p3_field::{Products, TwoAdicField};
 use p3_matrix::scale_slice_in_place;
 
@@ -63,47 +63,20 @@ pub(crate) trait NetworkRule<F: TwoAdicField>: Rule<F> {
         ≡ Self.far F.Element F.ring F.value r b 0 p q };
 }
 
-impl<F: TwoAdicField> NetworkRule<F> for DitByBlock<'_, F> {
+impl<F: TwoAdicField, D: NetworkDecimation<F>> NetworkRule<F> for ByBlock<'_, F, D> {
     ghost use Rattle.std.specs.Prelude.{refl};
-    ghost use Rattle.p3_networks.specs.declared.radix_2_small_batch.groups.Order.TheVariants.{LargestFirst};
 
-    ghost order = { LargestFirst };
+    ghost order = { D.order };
 
     #[inline(always)]
     fn order(self) -> Order {
-        Order::LargestFirst
+        self.decimation.order()
     }
 
     #[inline(always)]
     fn meet_pairs(self, first: usize, values: &mut [F], products: &mut Products) {
         on_pairs(
-            DitPair,
-            &self.twiddles[first..first + SHORT_BLOCKS],
-            values,
-            products,
-        );
-    }
-
-    ghost near_law = { λ r b t p q. refl };
-
-    ghost far_law = { λ r b t p q. refl };
-}
-
-impl<F: TwoAdicField> NetworkRule<F> for DifByBlock<'_, F> {
-    ghost use Rattle.std.specs.Prelude.{refl};
-    ghost use Rattle.p3_networks.specs.declared.radix_2_small_batch.groups.Order.TheVariants.{SmallestFirst};
-
-    ghost order = { SmallestFirst };
-
-    #[inline(always)]
-    fn order(self) -> Order {
-        Order::SmallestFirst
-    }
-
-    #[inline(always)]
-    fn meet_pairs(self, first: usize, values: &mut [F], products: &mut Products) {
-        on_pairs(
-            DifPair,
+            self.decimation,
             &self.twiddles[first..first + SHORT_BLOCKS],
             values,
             products,
@@ -400,7 +373,10 @@ fn scaled_dif_tiles<F: TwoAdicField>(
     {
         scale_slice_in_place(rows, scale, products);
         layers_of_tile(
-            DifByBlock { twiddles },
+            ByBlock {
+                twiddles,
+                decimation: Dif,
+            },
             rows,
             width,
             log_rows,
@@ -439,7 +415,10 @@ pub fn dit_network_to_reversed<F: TwoAdicField>(
     ensures cost { products.new ≤ products.old + width * (log_h * 2 ^ log_h / 2) }
 {
     layers_in_groups(
-        DitByBlock { twiddles },
+        ByBlock {
+            twiddles,
+            decimation: Dit::<true>,
+        },
         Order::LargestFirst,
         values,
         width,
@@ -449,7 +428,10 @@ pub fn dit_network_to_reversed<F: TwoAdicField>(
         products,
     );
     layers_of_tiles(
-        DitByBlock { twiddles },
+        ByBlock {
+            twiddles,
+            decimation: Dit::<true>,
+        },
         values,
         width,
         log_rows,
@@ -484,7 +466,10 @@ pub fn dif_network<F: TwoAdicField>(
     ensures cost { products.new ≤ products.old + width * (log_h * 2 ^ log_h / 2) }
 {
     layers_of_tiles(
-        DifByBlock { twiddles },
+        ByBlock {
+            twiddles,
+            decimation: Dif,
+        },
         values,
         width,
         log_rows,
@@ -492,7 +477,10 @@ pub fn dif_network<F: TwoAdicField>(
         products,
     );
     layers_in_groups(
-        DifByBlock { twiddles },
+        ByBlock {
+            twiddles,
+            decimation: Dif,
+        },
         Order::SmallestFirst,
         values,
         width,
@@ -535,7 +523,10 @@ pub fn scaled_dif_network<F: TwoAdicField>(
 {
     scaled_dif_tiles(twiddles, scale, values, width, log_rows, log_h, products);
     layers_in_groups(
-        DifByBlock { twiddles },
+        ByBlock {
+            twiddles,
+            decimation: Dif,
+        },
         Order::SmallestFirst,
         values,
         width,
@@ -691,7 +682,10 @@ fn spread_tiles<F: TwoAdicField>(
             products,
         );
         layers_of_chunk(
-            DifByBlock { twiddles },
+            ByBlock {
+                twiddles,
+                decimation: Dif,
+            },
             out,
             width,
             added_bits,
@@ -744,7 +738,10 @@ pub fn extending_network<F: TwoAdicField>(
         twiddles, weights, rows, values, width, added_bits, log_rows, log_h, products,
     );
     layers_in_groups(
-        DifByBlock { twiddles },
+        ByBlock {
+            twiddles,
+            decimation: Dif,
+        },
         Order::SmallestFirst,
         values,
         width,

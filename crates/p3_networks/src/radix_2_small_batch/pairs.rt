@@ -2,17 +2,21 @@
 //! into one packed value, the second ones into another.
 
 ghost use Rattle.std.specs.Prelude.{◌≡◌, ℕ, ◌+◌, ◌*◌, ◌<◌, ◌≤◌, List, length, get_or};
-ghost use Rattle.p3_field.specs.Ring.{Ring};
+ghost use Rattle.p3_networks.specs.declared.radix_2_small_batch.groups.Order.{Order};
 
+use crate::butterfly_layers::rules::{Decimation, Dif, Dit};
+use crate::radix_2_small_batch::groups::Order;
 use p3_field::{PackedField, Products, TwoAdicField};
 use p3_matrix::packs::full_packs;
 
-/// A butterfly on pairs of entries that lie one after another, one pack of pairs at a time.
-pub(crate) trait PairButterfly<F: TwoAdicField>: Copy {
-    // What the first entry of a pair becomes, by its twiddle, the first entry and the second; far is the second.
-    ghost near: { (A : Type 0) → Ring A → A → A → A → A };
+/// A decimation of networks: the order of the layers, and what becomes of pairs of entries that lie one after
+/// another.
+pub(crate) trait NetworkDecimation<F: TwoAdicField>: Decimation<F> {
+    ghost order: { Order };
 
-    ghost far: { (A : Type 0) → Ring A → A → A → A → A };
+    /// Which layers of its networks come first.
+    fn order(self) -> Order
+        ensures { result ≡ order };
 
     /// One pack of pairs, each with a twiddle of its own.
     fn on_pack<P: PackedField<Scalar = F>>(
@@ -25,23 +29,27 @@ pub(crate) trait PairButterfly<F: TwoAdicField>: Copy {
         requires size { length values.old ≡ 2 * P.WIDTH }
         ensures near { let cell = λ (xs : List F) (n : ℕ). F.value (get_or xs n F.ZERO) in
             (i : ℕ) → i < P.WIDTH → cell values.new (2 * i)
-            ≡ near F.Element F.ring (cell twiddles.now i) (cell values.old (2 * i)) (cell values.old (2 * i + 1)) }
+            ≡ Self.near F.Element F.ring F.value self (cell twiddles.now i) (cell values.old (2 * i))
+            (cell values.old (2 * i + 1)) }
         ensures far { let cell = λ (xs : List F) (n : ℕ). F.value (get_or xs n F.ZERO) in
             (i : ℕ) → i < P.WIDTH → cell values.new (2 * i + 1)
-            ≡ far F.Element F.ring (cell twiddles.now i) (cell values.old (2 * i)) (cell values.old (2 * i + 1)) }
+            ≡ Self.far F.Element F.ring F.value self (cell twiddles.now i) (cell values.old (2 * i))
+            (cell values.old (2 * i + 1)) }
         ensures count { products.new ≡ products.old + P.WIDTH };
+
+    ghost cost_law: { 1 ≤ Self.cost };
 }
 
-/// The butterfly of decimation in time.
-#[derive(Clone, Copy)]
-pub(crate) struct DitPair;
+impl<F: TwoAdicField, const FREE: bool> NetworkDecimation<F> for Dit<FREE> {
+    ghost use Rattle.std.proofs.Common.{lit≤};
+    ghost use Rattle.p3_networks.specs.declared.radix_2_small_batch.groups.Order.TheVariants.{LargestFirst};
 
-impl<F: TwoAdicField> PairButterfly<F> for DitPair {
-    ghost use Rattle.p3_matrix.specs.Butterflies.{dit_near, dit_far};
+    ghost order = { LargestFirst };
 
-    ghost near = { λ A ring. dit_near ring };
-
-    ghost far = { λ A ring. dit_far ring };
+    #[inline(always)]
+    fn order(self) -> Order {
+        Order::LargestFirst
+    }
 
     #[inline(always)]
     fn on_pack<P: PackedField<Scalar = F>>(
@@ -56,18 +64,20 @@ impl<F: TwoAdicField> PairButterfly<F> for DitPair {
             .add(multiples)
             .store_pairs(first.sub(multiples), values);
     }
+
+    ghost cost_law = { lit≤ tt };
 }
 
-/// The butterfly of decimation in frequency.
-#[derive(Clone, Copy)]
-pub(crate) struct DifPair;
+impl<F: TwoAdicField> NetworkDecimation<F> for Dif {
+    ghost use Rattle.std.proofs.Common.{lit≤};
+    ghost use Rattle.p3_networks.specs.declared.radix_2_small_batch.groups.Order.TheVariants.{SmallestFirst};
 
-impl<F: TwoAdicField> PairButterfly<F> for DifPair {
-    ghost use Rattle.p3_matrix.specs.Butterflies.{dif_near, dif_far};
+    ghost order = { SmallestFirst };
 
-    ghost near = { λ A ring. dif_near ring };
-
-    ghost far = { λ A ring. dif_far ring };
+    #[inline(always)]
+    fn order(self) -> Order {
+        Order::SmallestFirst
+    }
 
     #[inline(always)]
     fn on_pack<P: PackedField<Scalar = F>>(
@@ -80,11 +90,13 @@ impl<F: TwoAdicField> PairButterfly<F> for DifPair {
         let multiples = first.sub(second).multiplied(P::load(twiddles), products);
         first.add(second).store_pairs(multiples, values);
     }
+
+    ghost cost_law = { lit≤ tt };
 }
 
-/// A butterfly on pairs of entries that lie one after another: those of pair i meet by twiddle i.
-pub(crate) fn on_pairs<F: TwoAdicField, B: PairButterfly<F>>(
-    butterfly: B,
+/// A decimation on pairs of entries that lie one after another: those of pair i meet by twiddle i.
+pub(crate) fn on_pairs<F: TwoAdicField, D: NetworkDecimation<F>>(
+    decimation: D,
     twiddles: &[F],
     values: &mut [F],
     products: &mut Products,
@@ -92,22 +104,24 @@ pub(crate) fn on_pairs<F: TwoAdicField, B: PairButterfly<F>>(
     requires { length values.old ≡ 2 * length twiddles.now }
     ensures near { let cell = λ (xs : List F) (n : ℕ). F.value (get_or xs n F.ZERO) in
         (i : ℕ) → i < length twiddles.now → cell values.new (2 * i)
-        ≡ B.near F.Element F.ring (cell twiddles.now i) (cell values.old (2 * i)) (cell values.old (2 * i + 1)) }
+        ≡ D.near F.Element F.ring F.value decimation (cell twiddles.now i) (cell values.old (2 * i))
+        (cell values.old (2 * i + 1)) }
     ensures far { let cell = λ (xs : List F) (n : ℕ). F.value (get_or xs n F.ZERO) in
         (i : ℕ) → i < length twiddles.now → cell values.new (2 * i + 1)
-        ≡ B.far F.Element F.ring (cell twiddles.now i) (cell values.old (2 * i)) (cell values.old (2 * i + 1)) }
+        ≡ D.far F.Element F.ring F.value decimation (cell twiddles.now i) (cell values.old (2 * i))
+        (cell values.old (2 * i + 1)) }
     ensures count { products.new ≡ products.old + length twiddles.now }
 {
     let full = full_packs(twiddles.len(), F::Packing::WIDTH);
     let (packed, others) = twiddles.split_at(full);
     let (packed_pairs, other_pairs) = values.split_at_mut(2 * full);
-    on_packs::<F, F::Packing, B>(butterfly, packed, packed_pairs, products);
-    on_packs::<F, F, B>(butterfly, others, other_pairs, products);
+    on_packs::<F, F::Packing, D>(decimation, packed, packed_pairs, products);
+    on_packs::<F, F, D>(decimation, others, other_pairs, products);
 }
 
-// A butterfly of pairs that fill packs.
-fn on_packs<F: TwoAdicField, P: PackedField<Scalar = F>, B: PairButterfly<F>>(
-    butterfly: B,
+// On pairs that fill packs.
+fn on_packs<F: TwoAdicField, P: PackedField<Scalar = F>, D: NetworkDecimation<F>>(
+    decimation: D,
     twiddles: &[F],
     values: &mut [F],
     products: &mut Products,
@@ -117,10 +131,12 @@ fn on_packs<F: TwoAdicField, P: PackedField<Scalar = F>, B: PairButterfly<F>>(
     requires size { length values.old ≡ 2 * length twiddles.now }
     ensures near { let cell = λ (xs : List F) (n : ℕ). F.value (get_or xs n F.ZERO) in
         (i : ℕ) → i < length twiddles.now → cell values.new (2 * i)
-        ≡ B.near F.Element F.ring (cell twiddles.now i) (cell values.old (2 * i)) (cell values.old (2 * i + 1)) }
+        ≡ D.near F.Element F.ring F.value decimation (cell twiddles.now i) (cell values.old (2 * i))
+        (cell values.old (2 * i + 1)) }
     ensures far { let cell = λ (xs : List F) (n : ℕ). F.value (get_or xs n F.ZERO) in
         (i : ℕ) → i < length twiddles.now → cell values.new (2 * i + 1)
-        ≡ B.far F.Element F.ring (cell twiddles.now i) (cell values.old (2 * i)) (cell values.old (2 * i + 1)) }
+        ≡ D.far F.Element F.ring F.value decimation (cell twiddles.now i) (cell values.old (2 * i))
+        (cell values.old (2 * i + 1)) }
     ensures count { products.new ≡ products.old + length twiddles.now }
 {
     let width = P::WIDTH;
@@ -128,7 +144,7 @@ fn on_packs<F: TwoAdicField, P: PackedField<Scalar = F>, B: PairButterfly<F>>(
         let at = pack * width;
         let size = 2 * width;
         let start = pack * size;
-        butterfly.on_pack::<P>(
+        decimation.on_pack::<P>(
             &twiddles[at..at + width],
             &mut values[start..start + size],
             products,

@@ -74,10 +74,10 @@ loop-pack-preserved g c =
     let part = take (pack * (2 * width) + 2 * width - pack * (2 * width)) (drop (pack * (2 * width)) c.loop-pack.values) in
     let at = λ (i : ℕ) (below : i < width). ap value (part_at c.args.twiddles.now (pack * width) (pack * width + width - pack * width) i zero (subst (λ n. i < n) (sym (add-sub_cancel_left (pack * width) width)) below)) in
     record {
-      packs = packs-more value zero (λ b. g.B.PairButterfly.near field.Element field.ring (twiddle b)) (λ b. g.B.PairButterfly.far field.Element field.ring (twiddle b)) width c.args.values.now c.loop-pack.values c.on_pack.new.values pack (2 * width) refl all
+      packs = packs-more value zero (λ b. g.D.Decimation.near field.Element field.ring field.value c.args.decimation (twiddle b)) (λ b. g.D.Decimation.far field.Element field.ring field.value c.args.decimation (twiddle b)) width c.args.values.now c.loop-pack.values c.on_pack.new.values pack (2 * width) refl all
           (c.on_pack.auto.values ∙ part_length c.loop-pack.values (pack * (2 * width)) (2 * width) all)
-          (λ i below. c.on_pack.ensures.near i (subst (λ n. i < n) c.WIDTH-width.ensures below) ∙ ap (λ t. g.B.PairButterfly.near field.Element field.ring t (value (get_or part (2 * i) zero)) (value (get_or part (2 * i + 1) zero))) (at i below))
-          (λ i below. c.on_pack.ensures.far i (subst (λ n. i < n) c.WIDTH-width.ensures below) ∙ ap (λ t. g.B.PairButterfly.far field.Element field.ring t (value (get_or part (2 * i) zero)) (value (get_or part (2 * i + 1) zero))) (at i below))
+          (λ i below. c.on_pack.ensures.near i (subst (λ n. i < n) c.WIDTH-width.ensures below) ∙ ap (λ t. g.D.Decimation.near field.Element field.ring field.value c.args.decimation t (value (get_or part (2 * i) zero)) (value (get_or part (2 * i + 1) zero))) (at i below))
+          (λ i below. c.on_pack.ensures.far i (subst (λ n. i < n) c.WIDTH-width.ensures below) ∙ ap (λ t. g.D.Decimation.far field.Element field.ring field.value c.args.decimation t (value (get_or part (2 * i) zero)) (value (get_or part (2 * i + 1) zero))) (at i below))
           c.loop-pack.invariant.packs;
       count = turn_counted pack width _ c.args.products.now c.loop-pack.products c.on_pack.new.products (sym c.WIDTH-width.ensures) c.loop-pack.invariant.count c.on_pack.ensures.count;
     }
@@ -93,7 +93,7 @@ returns-clause-near g c =
     let whole : len ≡ k * width = c.requires.whole.1 ∙ ap (λ n. k * n) (sym c.WIDTH-width.ensures) in
     let packs : len / width ≡ k = block_size len width k some (whole ∙ omega arith) in
     let end : c.loop-pack.pack ≡ k = omega (arith, c.loop-pack-test.false, c.loop-pack.auto.pack-end, packs) in
-    near_done field.value field.ZERO (λ b. g.B.PairButterfly.near field.Element field.ring (twiddle b)) (λ b. g.B.PairButterfly.far field.Element field.ring (twiddle b)) width c.args.values.now c.loop-pack.values c.loop-pack.pack (2 * width) len
+    near_done field.value field.ZERO (λ b. g.D.Decimation.near field.Element field.ring field.value c.args.decimation (twiddle b)) (λ b. g.D.Decimation.far field.Element field.ring field.value c.args.decimation (twiddle b)) width c.args.values.now c.loop-pack.values c.loop-pack.pack (2 * width) len
     some refl (whole ∙ ap (λ n. n * width) (sym end)) c.loop-pack.invariant.packs
 
 pub returns-clause-far : goal.returns-clause-far
@@ -107,7 +107,7 @@ returns-clause-far g c =
     let whole : len ≡ k * width = c.requires.whole.1 ∙ ap (λ n. k * n) (sym c.WIDTH-width.ensures) in
     let packs : len / width ≡ k = block_size len width k some (whole ∙ omega arith) in
     let end : c.loop-pack.pack ≡ k = omega (arith, c.loop-pack-test.false, c.loop-pack.auto.pack-end, packs) in
-    far_done field.value field.ZERO (λ b. g.B.PairButterfly.near field.Element field.ring (twiddle b)) (λ b. g.B.PairButterfly.far field.Element field.ring (twiddle b)) width c.args.values.now c.loop-pack.values c.loop-pack.pack (2 * width) len
+    far_done field.value field.ZERO (λ b. g.D.Decimation.near field.Element field.ring field.value c.args.decimation (twiddle b)) (λ b. g.D.Decimation.far field.Element field.ring field.value c.args.decimation (twiddle b)) width c.args.values.now c.loop-pack.values c.loop-pack.pack (2 * width) len
     some refl (whole ∙ ap (λ n. n * width) (sym end)) c.loop-pack.invariant.packs
 
 pub returns-clause-count : goal.returns-clause-count

@@ -14,7 +14,7 @@ returns-clause-near g c =
     let full = c.full_packs-full.result in
     let parts = c.split_at.ensures in
     let pairs = c.split_at_mut-packed_pairs.ensures in
-    joined field.value field.ZERO (g.B.PairButterfly.near field.Element field.ring) full c.args.twiddles.now c.split_at.result.0.now c.split_at.result.1.now c.args.values.now
+    joined field.value field.ZERO (g.D.Decimation.near field.Element field.ring field.value c.args.decimation) full c.args.twiddles.now c.split_at.result.0.now c.split_at.result.1.now c.args.values.now
     c.split_at_mut-packed_pairs.result.0.now c.split_at_mut-packed_pairs.result.1.now c.on_packs.new.values c.on_packs-2.new.values parts.front parts.back pairs.front pairs.back
     (c.on_packs.auto.values ∙ pairs.front_len) (λ i. 2 * i) (λ i below. omega (arith, below)) (λ i. omega arith)
     (λ i below. c.on_packs.ensures.near i (omega (arith, below, parts.front_len))) (length c.args.twiddles.now)
@@ -26,7 +26,7 @@ returns-clause-far g c =
     let full = c.full_packs-full.result in
     let parts = c.split_at.ensures in
     let pairs = c.split_at_mut-packed_pairs.ensures in
-    joined field.value field.ZERO (g.B.PairButterfly.far field.Element field.ring) full c.args.twiddles.now c.split_at.result.0.now c.split_at.result.1.now c.args.values.now
+    joined field.value field.ZERO (g.D.Decimation.far field.Element field.ring field.value c.args.decimation) full c.args.twiddles.now c.split_at.result.0.now c.split_at.result.1.now c.args.values.now
     c.split_at_mut-packed_pairs.result.0.now c.split_at_mut-packed_pairs.result.1.now c.on_packs.new.values c.on_packs-2.new.values parts.front parts.back pairs.front pairs.back
     (c.on_packs.auto.values ∙ pairs.front_len) (λ i. 2 * i + 1) (λ i below. omega (arith, below)) (λ i. omega arith)
     (λ i below. c.on_packs.ensures.far i (omega (arith, below, parts.front_len))) (length c.args.twiddles.now)

@@ -2,7 +2,7 @@ use Rattle.std.proofs.Common.{sym, ap₂, ◌∙◌, arith}
 use Rattle.p3_field.specs.Ring.{minus}
 use Rattle.p3_networks.proofs.Layers.Pairs.{same_at}
 use Rattle.p3_matrix.proofs.Rows.Overwritten.{lane_at}
-use Rattle.p3_networks.proofs.radix_2_small_batch.pairs.DifPairPairButterfly.on_pack.Goals as goal
+use Rattle.p3_networks.proofs.radix_2_small_batch.pairs.DifNetworkDecimation.on_pack.Goals as goal
 
 pub returns-clause-near : goal.returns-clause-near
 returns-clause-near g c i inside =
