@@ -2,6 +2,7 @@
 use Rattle.std.proofs.Common.{◌≡◌, ℕ, zero, suc, ◌+◌, ◌-◌, ◌*◌, ◌/◌, ◌%◌, ◌<◌, ◌≤◌, ◌^◌, Bool, true, false, cond, List, [], ◌∷◌, length, map, replicate, refl, sym, ap, ap₂, ◌∙◌, arith, ⊎_elim, lit<}
 use Rattle.std.proofs.Math.Dec.{ltb}
 use Rattle.std.proofs.Math.Nat.{mod-eq_of_lt, mod-lt, add-mod_right, add-mul-mod_self_right, mod-add-div', mul-le-mul, mul-le-mul_right, div-lt_iff_lt-mul}
+use Rattle.std.proofs.lemmas.Nat.{mul-mod_first}
 use Rattle.std.proofs.lemmas.Bool.{cases_lt, lt-ltb, le-ltb, cond-true, cond-false}
 use Rattle.std.specs.Simd.Lanes.{Each1, zip2, sel_l, top}
 use mir.Syntax.{w32}
@@ -77,6 +78,16 @@ module _ (m : ℕ) (above : 1 < m) (small : m < 2147483648) where
   differences_of_lanes (x ∷ xs) (y ∷ ys) zero e a b = absurd (omega (arith, e))
   differences_of_lanes (x ∷ xs) (y ∷ ys) (suc n) e a b = ap₂ ◌∷◌ (lane_difference x y a.0 b.0) (differences_of_lanes xs ys n (omega (arith, e)) a.1 b.1)
 
+  -- with the modulus added, a difference does not wrap
+  pub loose_differences_of_lanes : (xs ys : List ℕ) (n : ℕ) → length xs ≡ n → AreBelow m xs → AreBelow m ys
+      → zip2 wrapped_sum (zip2 wrapped_difference xs ys) (replicate n m) ≡ zip2 (λ x y. x + (m - y)) xs ys
+  loose_differences_of_lanes [] ys n e a b = refl
+  loose_differences_of_lanes (x ∷ xs) [] n e a b = refl
+  loose_differences_of_lanes (x ∷ xs) (y ∷ ys) zero e a b = absurd (omega (arith, e))
+  loose_differences_of_lanes (x ∷ xs) (y ∷ ys) (suc n) e a b =
+      let sum : wrapped_sum (wrapped_difference x y) m ≡ x + (m - y) = omega (arith, a.0, b.0, small) in
+      ap₂ ◌∷◌ sum (loose_differences_of_lanes xs ys n (omega (arith, e)) a.1 b.1)
+
   -- a sum does not wrap, and wants one correction
   pub sums_below : (xs ys : List ℕ) → AreBelow m xs → AreBelow m ys → AreBelow (m + m) (zip2 wrapped_sum xs ys)
   sums_below [] ys a b = tt
@@ -107,8 +118,8 @@ module _ (m : ℕ) (above : 1 < m) (small : m < 2147483648) (t : ℕ) (factor : 
       let word : (t * 4294967296) % 18446744073709551616 ≡ t * 4294967296 = omega (arith, factor, small) in
       ap (λ n. n / m % 4294967296) word ∙ mod-eq_of_lt ((div-lt_iff_lt-mul {k = m} (omega (arith, above))).1 (omega (arith, factor)))
 
-  -- the estimate is at most one less than the quotient
-  estimate_below : (x : ℕ) → x < m → (estimate x (quotient_of m t) * m ≤ x * t) × (x * t < estimate x (quotient_of m t) * m + (m + m))
+  -- the estimate is at most one less than the quotient, for any x of a lane
+  estimate_below : (x : ℕ) → x < 4294967296 → (estimate x (quotient_of m t) * m ≤ x * t) × (x * t < estimate x (quotient_of m t) * m + (m + m))
   estimate_below x below =
       let q : ℕ = quotient_of m t in
       let e : ℕ = estimate x q in
@@ -116,7 +127,7 @@ module _ (m : ℕ) (above : 1 < m) (small : m < 2147483648) (t : ℕ) (factor : 
       let u : ℕ = (x * q) % 4294967296 in
       let factor_parts : s + q * m ≡ t * 4294967296 = ap (λ k. s + k * m) quotient_is ∙ mod-add-div' (t * 4294967296) m in
       let quotient_word : q < 4294967296 = mod-lt (t * 4294967296 % 18446744073709551616 / m) (lit< tt) in
-      let x_word : x ≤ 4294967295 = omega (arith, below, small) in
+      let x_word : x ≤ 4294967295 = omega (arith, below) in
       let q_word : q ≤ 4294967295 = omega (arith, quotient_word) in
       let product : x * q ≤ 4294967295 * 4294967295 = mul-le-mul x_word q_word in
       let product_word : (x * q) % 18446744073709551616 ≡ x * q = mod-eq_of_lt (omega (arith, product)) in
@@ -133,17 +144,17 @@ module _ (m : ℕ) (above : 1 < m) (small : m < 2147483648) (t : ℕ) (factor : 
       a ∙ b ∙ ap (λ k. k * m + x * s) (sym parts) ∙ d in
       (omega (arith, spread), omega (arith, spread, first, second, above))
 
-  lane_rest : (x : ℕ) → x < m → rest_of_estimate m t (quotient_of m t) x + estimate x (quotient_of m t) * m ≡ x * t
+  lane_rest : (x : ℕ) → x < 4294967296 → rest_of_estimate m t (quotient_of m t) x + estimate x (quotient_of m t) * m ≡ x * t
   lane_rest x below =
       let near = estimate_below x below in
       omega (arith, near.0, near.1, small)
 
-  lane_rest_below : (x : ℕ) → x < m → rest_of_estimate m t (quotient_of m t) x < m + m
+  lane_rest_below : (x : ℕ) → x < 4294967296 → rest_of_estimate m t (quotient_of m t) x < m + m
   lane_rest_below x below =
       let near = estimate_below x below in
       omega (arith, near.0, near.1, lane_rest x below)
 
-  lane_multiple : (x : ℕ) → x < m → rest_of_estimate m t (quotient_of m t) x % m ≡ (x * t) % m
+  lane_multiple : (x : ℕ) → x < 4294967296 → rest_of_estimate m t (quotient_of m t) x % m ≡ (x * t) % m
   lane_multiple x below = sym (add-mul-mod_self_right (rest_of_estimate m t (quotient_of m t) x) (estimate x (quotient_of m t)) m) ∙ ap (λ n. n % m) (lane_rest x below)
 
   -- the quotient's estimate in all lanes, and the rest
@@ -153,22 +164,28 @@ module _ (m : ℕ) (above : 1 < m) (small : m < 2147483648) (t : ℕ) (factor : 
   abbrev rests : ℕ → List ℕ → List ℕ
   rests n xs = zip2 wrapped_difference (zip2 wrapped_product xs (replicate n t)) (zip2 wrapped_product (map (λ x. x) (estimates n xs)) (replicate n m))
 
-  pub estimates_fit : (xs : List ℕ) (n : ℕ) → length xs ≡ n → AreBelow m xs → Each1 (Fits w32) (estimates n xs)
-  estimates_fit [] n e below = tt
-  estimates_fit (x ∷ xs) zero e below = absurd (omega (arith, e))
-  estimates_fit (x ∷ xs) (suc n) e below =
+  pub estimates_fit : (xs : List ℕ) (n : ℕ) → length xs ≡ n → Each1 (Fits w32) (estimates n xs)
+  estimates_fit [] n e = tt
+  estimates_fit (x ∷ xs) zero e = absurd (omega (arith, e))
+  estimates_fit (x ∷ xs) (suc n) e =
       let fits : (x * quotient_of m t) % 18446744073709551616 / 4294967296 < 4294967296 = omega (arith, mod-lt (x * quotient_of m t) {m = 18446744073709551616} (lit< tt)) in
-      (record { fits = fits }, estimates_fit xs n (omega (arith, e)) below.1)
+      (record { fits = fits }, estimates_fit xs n (omega (arith, e)))
 
-  pub rests_below : (xs : List ℕ) (n : ℕ) → length xs ≡ n → AreBelow m xs → AreBelow (m + m) (rests n xs)
-  rests_below [] n e below = tt
-  rests_below (x ∷ xs) zero e below = absurd (omega (arith, e))
-  rests_below (x ∷ xs) (suc n) e below = (lane_rest_below x below.0, rests_below xs n (omega (arith, e)) below.1)
+  pub rests_below : (xs : List ℕ) (n : ℕ) → length xs ≡ n → Each1 (Fits w32) xs → AreBelow (m + m) (rests n xs)
+  rests_below [] n e fits = tt
+  rests_below (x ∷ xs) zero e fits = absurd (omega (arith, e))
+  rests_below (x ∷ xs) (suc n) e fits = (lane_rest_below x fits.0.fits, rests_below xs n (omega (arith, e)) fits.1)
 
-  pub multiples_of_lanes : (xs : List ℕ) (n : ℕ) → length xs ≡ n → AreBelow m xs → map (λ k. k % m) (rests n xs) ≡ map (λ x. (x * t) % m) xs
-  multiples_of_lanes [] n e below = refl
-  multiples_of_lanes (x ∷ xs) zero e below = absurd (omega (arith, e))
-  multiples_of_lanes (x ∷ xs) (suc n) e below = ap₂ ◌∷◌ (lane_multiple x below.0) (multiples_of_lanes xs n (omega (arith, e)) below.1)
+  pub multiples_of_lanes : (xs : List ℕ) (n : ℕ) → length xs ≡ n → Each1 (Fits w32) xs → map (λ k. k % m) (rests n xs) ≡ map (λ x. (x * t) % m) xs
+  multiples_of_lanes [] n e fits = refl
+  multiples_of_lanes (x ∷ xs) zero e fits = absurd (omega (arith, e))
+  multiples_of_lanes (x ∷ xs) (suc n) e fits = ap₂ ◌∷◌ (lane_multiple x fits.0.fits) (multiples_of_lanes xs n (omega (arith, e)) fits.1)
+
+-- a difference has the same multiples whether or not its remainder is taken
+pub multiples_of_loose : (m t : ℕ) (xs ys : List ℕ) → map (λ k. (k * t) % m) (zip2 (λ x y. x + (m - y)) xs ys) ≡ map (λ k. (k * t) % m) (zip2 (λ x y. (x + (m - y)) % m) xs ys)
+multiples_of_loose m t [] ys = refl
+multiples_of_loose m t (x ∷ xs) [] = refl
+multiples_of_loose m t (x ∷ xs) (y ∷ ys) = ap₂ ◌∷◌ (sym (mul-mod_first (x + (m - y)) t m)) (multiples_of_loose m t xs ys)
 
 -- ---- products of two lanes: u is the upper digits of a product, and e the quotient that it and the reciprocal of m estimate
 abbrev wide_product : ℕ → ℕ → ℕ

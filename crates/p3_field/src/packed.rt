@@ -79,6 +79,16 @@ where
             ≡ map (λ x. Self.Scalar.ring.mul x (Self.Scalar.value t)) (map Self.Scalar.value (lanes self)) }
         ensures count { products.new ≡ products.old + WIDTH };
 
+    /// Multiplies the difference of each two lanes by `t`, and counts `WIDTH` products.
+    fn sub_scaled(self, other: Self, t: Self::Scalar, products: &mut Products) -> Self
+        ensures lanes { map Self.Scalar.value (lanes result)
+            ≡ map (λ x. Self.Scalar.ring.mul x (Self.Scalar.value t)) (by_lanes (minus Self.Scalar.ring)
+            (map Self.Scalar.value (lanes self)) (map Self.Scalar.value (lanes other))) }
+        ensures count { products.new ≡ products.old + WIDTH }
+    {
+        self.sub(other).scaled(t, products)
+    }
+
     /// Multiplies lane by lane, and counts `WIDTH` products.
     fn multiplied(self, other: Self, products: &mut Products) -> Self
         ensures lanes { map Self.Scalar.value (lanes result)

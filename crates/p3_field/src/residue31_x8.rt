@@ -160,6 +160,20 @@ impl<N: Numbers> PackedField for Residue31X8<N> {
         }
     }
 
+    // The product takes the difference as it is, so that one correction serves both.
+    fn sub_scaled(
+        self,
+        other: Residue31X8<N>,
+        t: Residue31<N>,
+        products: &mut Products,
+    ) -> Residue31X8<N> {
+        products.rise(8);
+        Residue31X8 {
+            lanes: multiples::<N>(loose_differences::<N>(self.lanes, other.lanes), t.number),
+            of: PhantomData,
+        }
+    }
+
     fn multiplied(self, other: Residue31X8<N>, products: &mut Products) -> Residue31X8<N> {
         products.rise(8);
         Residue31X8 {
@@ -203,12 +217,22 @@ fn differences<N: Numbers>(a: u32x8, b: u32x8) -> u32x8
     difference.simd_min(difference + u32x8::splat(N::MODULUS))
 }
 
-// The product of each lane and t, all below the modulus. The quotient of a product is estimated by
-// that of t, which is one division for all lanes; the estimate is one too small at most.
+// The difference of each two lanes below the modulus, with the modulus added: no lane of it is negative,
+// and all are below twice the modulus.
+#[inline(always)]
+fn loose_differences<N: Numbers>(a: u32x8, b: u32x8) -> u32x8
+    requires first { AreBelow N.numbers.modulus a }
+    requires second { AreBelow N.numbers.modulus b }
+    ensures { result ≡ zip2 (λ x y. x + (N.numbers.modulus - y)) a b }
+{
+    (a - b) + u32x8::splat(N::MODULUS)
+}
+
+// The product of each lane, which may be any number, and t, below the modulus. The quotient of a product is
+// estimated by that of t, which is one division for all lanes; the estimate is one too small at most.
 #[inline(always)]
 fn multiples<N: Numbers>(a: u32x8, t: u32) -> u32x8
-    requires lanes { AreBelow N.numbers.modulus a }
-    requires factor { t < N.numbers.modulus }
+    requires { t < N.numbers.modulus }
     ensures { result ≡ map (λ x. (x * t) % N.numbers.modulus) a }
 {
     let quotient = ((t as u64) << 32) / N::MODULUS as u64 % 4294967296;

@@ -130,7 +130,7 @@ impl<F: Packable> Butterfly<F> for DifButterfly<F> {
     ghost cost = { 1 };
 
     fn apply<P: PackedField<Scalar = F>>(&self, x_1: P, x_2: P, products: &mut Products) -> (P, P) {
-        (x_1.add(x_2), x_1.sub(x_2).scaled(self.0, products))
+        (x_1.add(x_2), x_1.sub_scaled(x_2, self.0, products))
     }
 }
 

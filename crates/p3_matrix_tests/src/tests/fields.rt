@@ -270,6 +270,13 @@ fn lane_agrees<N: Numbers>(
         difference,
         Residue31::NEG_ONE - two,
     );
+    lane_is(
+        rt,
+        x.sub_scaled(y, Residue31::ONE, products),
+        lane,
+        difference,
+        Residue31::NEG_ONE - two,
+    );
     lane_is(rt, x.scaled(t, products), lane, product, -t);
     lane_is(rt, x.multiplied(y, products), lane, product, -two);
     lane_is(rt, Residue31X8::broadcast(t), lane, t.as_canonical_u64(), t);

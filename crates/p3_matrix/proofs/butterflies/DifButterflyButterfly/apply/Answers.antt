@@ -1,4 +1,4 @@
-use Rattle.std.proofs.Common.{map, ap, ◌∙◌}
+use Rattle.std.proofs.Common.{map, ◌∙◌}
 use Rattle.p3_field.specs.Ring.{minus}
 use Rattle.p3_matrix.proofs.Lanes.{map-by_lanes}
 use Rattle.p3_matrix.proofs.butterflies.DifButterflyButterfly.apply.Goals as goal
@@ -9,4 +9,4 @@ returns-clause-far g c =
     let xs = map f.value (g.P.PackedField.lanes c.args.x_1) in
     let ys = map f.value (g.P.PackedField.lanes c.args.x_2) in
     let times = λ (y : f.Element). f.ring.mul y (f.value c.args.self.now.0) in
-    c.scaled.ensures.lanes ∙ ap (map times) c.sub.ensures ∙ map-by_lanes (minus f.ring) times xs ys
+    c.sub_scaled.ensures.lanes ∙ map-by_lanes (minus f.ring) times xs ys
