@@ -5,6 +5,7 @@ ghost use Rattle.p3_field.specs.Fields.{goldilocks_modulus};
 
 use crate::euclid::inverse_modulo;
 use crate::fields::Field;
+use crate::lanes::Lanes;
 use crate::packed::{Packable, Packed, PackedField, Products};
 use crate::totals::{add_all, multiply_all};
 use crate::two_adic::{CanonicalField, TwoAdicField};
@@ -465,7 +466,7 @@ impl PackedField for Goldilocks {
 impl Packable for Goldilocks {
     ghost use Rattle.std.proofs.Common.{refl, lit≤};
 
-    type Packing = Goldilocks;
+    type Packing = Lanes<Goldilocks, 4>;
 
     ghost lane_law = { λ _. refl };
 

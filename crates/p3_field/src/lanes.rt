@@ -30,8 +30,12 @@ impl<F: Field, const N: usize> PackedField for Lanes<F, N> {
 
     ghost WIDTH = { N };
 
+    // So no more than one lane has to lie in registers.
+    const ONE_BY_ONE: bool = true;
+
     ghost lanes = { λ x. x.lanes };
 
+    #[inline(always)]
     fn load(from: &[F]) -> Lanes<F, N> {
         let mut lanes = [F::ZERO; N];
         for i in 0..N {
@@ -40,12 +44,14 @@ impl<F: Field, const N: usize> PackedField for Lanes<F, N> {
         Lanes { lanes }
     }
 
+    #[inline(always)]
     fn store(self, to: &mut [F]) {
         for i in 0..N {
             to[i] = self.lanes[i];
         }
     }
 
+    #[inline(always)]
     fn load_pairs(from: &[F]) -> (Lanes<F, N>, Lanes<F, N>) {
         let mut first = [F::ZERO; N];
         let mut second = [F::ZERO; N];
@@ -56,6 +62,7 @@ impl<F: Field, const N: usize> PackedField for Lanes<F, N> {
         (Lanes { lanes: first }, Lanes { lanes: second })
     }
 
+    #[inline(always)]
     fn store_pairs(self, second: Lanes<F, N>, to: &mut [F]) {
         for i in 0..N {
             to[2 * i] = self.lanes[i];
@@ -63,10 +70,12 @@ impl<F: Field, const N: usize> PackedField for Lanes<F, N> {
         }
     }
 
+    #[inline(always)]
     fn broadcast(scalar: F) -> Lanes<F, N> {
         Lanes { lanes: [scalar; N] }
     }
 
+    #[inline(always)]
     fn add(self, other: Lanes<F, N>) -> Lanes<F, N> {
         let mut lanes = self.lanes;
         for i in 0..N {
@@ -75,6 +84,7 @@ impl<F: Field, const N: usize> PackedField for Lanes<F, N> {
         Lanes { lanes }
     }
 
+    #[inline(always)]
     fn sub(self, other: Lanes<F, N>) -> Lanes<F, N> {
         let mut lanes = self.lanes;
         for i in 0..N {
@@ -83,6 +93,7 @@ impl<F: Field, const N: usize> PackedField for Lanes<F, N> {
         Lanes { lanes }
     }
 
+    #[inline(always)]
     fn scaled(self, t: F, products: &mut Products) -> Lanes<F, N> {
         products.rise(N);
         let mut lanes = self.lanes;
@@ -92,6 +103,7 @@ impl<F: Field, const N: usize> PackedField for Lanes<F, N> {
         Lanes { lanes }
     }
 
+    #[inline(always)]
     fn multiplied(self, other: Lanes<F, N>, products: &mut Products) -> Lanes<F, N> {
         products.rise(N);
         let mut lanes = self.lanes;

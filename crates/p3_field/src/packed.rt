@@ -26,6 +26,9 @@ where
 
     ghost WIDTH: { ℕ };
 
+    /// Whether lanes that lie in a slice are better taken one after another than all at once.
+    const ONE_BY_ONE: bool = false;
+
     // The lanes, in order.
     ghost lanes: { Self → List Self.Scalar };
 

@@ -1,8 +1,9 @@
 -- Rows that are worked through pack by pack: what they hold when the places below i are done.
-use Rattle.std.proofs.Common.{◌≡◌, ℕ, zero, suc, ◌+◌, ◌*◌, ◌<◌, ◌≤◌, List, ◌++◌, length, take, drop, map, sym, ap, ap₂, ◌∙◌, arith, append_assoc, append-nil}
+use Rattle.std.proofs.Common.{◌≡◌, ℕ, zero, suc, ◌+◌, ◌*◌, ◌<◌, ◌≤◌, List, [], ◌∷◌, ◌++◌, length, take, drop, map, get_or, set, sym, ap, ap₂, ◌∙◌, arith, append_assoc, append-nil}
 use Rattle.std.proofs.Math.Seq.{take-add, take-length, drop-length}
 use Rattle.std.proofs.lemmas.List.{take_at, drop_at, take-map, drop-map, map-append, drop-drop, length-map, length-take-le}
 use Rattle.p3_field.specs.Lanes.{by_lanes}
+use Rattle.p3_field.proofs.LaneLoops.{until, still, written, all_written, get_or-by_lanes}
 use Rattle.p3_matrix.proofs.Lanes.{by_lanes-append, length-by_lanes}
 
 module _ {E : Type 0} (op : E → E → E) where
@@ -74,3 +75,25 @@ three_in_parts v op op' xs ys ts us us' vs vs' ws ws' ps qs e f h l m p q =
     ∙ ap₂ (by_lanes op) (sym (ap (map v) e ∙ map-append v us us'))
     (sym (by_lanes-append op' (map v vs) (map v ws) (map v vs') (map v ws') inner)
     ∙ ap₂ (by_lanes op') (sym (ap (map v) f ∙ map-append v vs vs')) (sym (ap (map v) h ∙ map-append v ws ws')))
+
+-- what packed values of one lane hold
+pub of_one_lane : {F E : Type 0} (v : F → E) (op : E → E → E) (lanes : F → List F) → ((x : F) → lanes x ≡ x ∷ []) → (x y r : F)
+    → map v (lanes r) ≡ by_lanes op (map v (lanes x)) (map v (lanes y)) → v r ≡ op (v x) (v y)
+of_one_lane v op lanes law x y r is = ap (λ l. get_or l 0 (v r)) (ap (map v) (sym (law r)) ∙ is ∙ ap₂ (λ a b. by_lanes op (map v a) (map v b)) (law x) (law y))
+
+-- rows that are worked through element by element: op of two rows, written over a third
+module _ {F E : Type 0} (v : F → E) (op : E → E → E) (xs ys : List E) (same : length ys ≡ length xs) (zs : List F) (wide : length zs ≡ length xs) where
+  all_long : length (by_lanes op xs ys) ≡ length zs
+  all_long = length-by_lanes op xs ys (sym same) ∙ sym wide
+
+  pub element_stays : (now : List F) (i : ℕ) (z : F) (d : E) → i < length xs → length now ≡ length zs → map v now ≡ until i (by_lanes op xs ys) (map v zs)
+      → v (get_or now i z) ≡ get_or (map v zs) i d
+  element_stays now i z d below full is = still v zs (by_lanes op xs ys) all_long now i z d (omega (arith, below, wide)) full is
+
+  pub element_done : (now : List F) (i : ℕ) (r : F) (d : E) → i < length xs → map v now ≡ until i (by_lanes op xs ys) (map v zs)
+      → v r ≡ op (get_or xs i d) (get_or ys i d) → map v (set now i r) ≡ until (i + 1) (by_lanes op xs ys) (map v zs)
+  element_done now i r d below is gives =
+      written v zs (by_lanes op xs ys) all_long now i r d (omega (arith, below, wide)) is (gives ∙ sym (get_or-by_lanes op xs ys i d same below))
+
+  pub elements_done : (now : List F) (i : ℕ) → i ≡ length xs → map v now ≡ until i (by_lanes op xs ys) (map v zs) → map v now ≡ by_lanes op xs ys
+  elements_done now i end is = all_written v zs (by_lanes op xs ys) all_long now i (end ∙ sym wide) is

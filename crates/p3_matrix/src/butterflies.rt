@@ -4,7 +4,10 @@ ghost use Rattle.std.specs.Prelude.{◌≡◌, ◌+◌, ◌*◌, ◌≤◌, ℕ,
 ghost use Rattle.p3_field.specs.Ring.{Ring, minus};
 ghost use Rattle.p3_field.specs.Lanes.{by_lanes};
 
-use crate::packs::{apply_to_packs, apply_to_packs_oop, dit_on_packs, full_packs};
+use crate::packs::{
+    apply_by_packs, apply_by_packs_apart, apply_to_elements, apply_to_packs_oop, dit_on_elements,
+    dit_on_packs, full_packs,
+};
 use p3_field::{Packable, PackedField, Products};
 use std::alloc::AllocError;
 
@@ -53,6 +56,7 @@ pub trait Butterfly<F: Packable>: Copy {
     }
 
     /// Takes two rows of one length, which may be zero, to the near and the far row in their places.
+    #[inline(always)]
     final fn apply_to_rows(&self, row_1: &mut [F], row_2: &mut [F], products: &mut Products)
         requires { length row_1.old ≡ length row_2.old }
         ensures near { map F.value row_1.new
@@ -61,11 +65,13 @@ pub trait Butterfly<F: Packable>: Copy {
             ≡ by_lanes (far F.Element F.ring F.value self.now) (map F.value row_1.old) (map F.value row_2.old) }
         ensures count { products.new ≡ products.old + cost * length row_1.old }
     {
-        let full = full_packs(row_1.len(), F::Packing::WIDTH);
-        let (packed_1, rest_1) = row_1.split_at_mut(full);
-        let (packed_2, rest_2) = row_2.split_at_mut(full);
-        apply_to_packs::<F, F::Packing, Self>(self, packed_1, packed_2, products);
-        apply_to_packs::<F, F, Self>(self, rest_1, rest_2, products);
+        if !F::Packing::ONE_BY_ONE {
+            apply_by_packs_apart(self, row_1, row_2, products);
+        } else if row_1.len() < F::Packing::WIDTH {
+            apply_to_elements(self, row_1, row_2, products);
+        } else {
+            apply_by_packs(self, row_1, row_2, products);
+        }
     }
 
     /// Takes two rows of one length, which may be zero, to the near and the far row in two others
@@ -110,6 +116,7 @@ impl<F: Packable> Butterfly<F> for DitButterfly<F> {
 
     ghost cost = { 1 };
 
+    #[inline(always)]
     fn apply<P: PackedField<Scalar = F>>(&self, x_1: P, x_2: P, products: &mut Products) -> (P, P) {
         let turned = x_2.scaled(self.0, products);
         (x_1.add(turned), x_1.sub(turned))
@@ -129,6 +136,7 @@ impl<F: Packable> Butterfly<F> for DifButterfly<F> {
 
     ghost cost = { 1 };
 
+    #[inline(always)]
     fn apply<P: PackedField<Scalar = F>>(&self, x_1: P, x_2: P, products: &mut Products) -> (P, P) {
         (x_1.add(x_2), x_1.sub_scaled(x_2, self.0, products))
     }
@@ -148,6 +156,7 @@ impl<F: Packable> Butterfly<F> for DifButterflyZeros<F> {
 
     ghost cost = { 1 };
 
+    #[inline(always)]
     fn apply<P: PackedField<Scalar = F>>(
         &self,
         x_1: P,
@@ -226,6 +235,7 @@ impl<F: Packable> Butterfly<F> for ScaledDitButterfly<F> {
 
     ghost cost = { 2 };
 
+    #[inline(always)]
     fn apply<P: PackedField<Scalar = F>>(&self, x_1: P, x_2: P, products: &mut Products) -> (P, P) {
         let scaled = x_1.scaled(self.scale, products);
         let turned = x_2.scaled(self.twiddle_times_scale, products);
@@ -246,6 +256,7 @@ impl<F: Packable> Butterfly<F> for TwiddleFreeButterfly {
 
     ghost cost = { 0 };
 
+    #[inline(always)]
     fn apply<P: PackedField<Scalar = F>>(
         &self,
         x_1: P,
@@ -278,5 +289,5 @@ pub fn apply_dit_by_place<F: Packable>(
     let (packed_1, rest_1) = row_1.split_at_mut(full);
     let (packed_2, rest_2) = row_2.split_at_mut(full);
     dit_on_packs::<F, F::Packing>(packed, packed_1, packed_2, products);
-    dit_on_packs::<F, F>(rest, rest_1, rest_2, products);
+    dit_on_elements(rest, rest_1, rest_2, products);
 }

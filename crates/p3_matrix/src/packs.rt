@@ -6,7 +6,7 @@ ghost use Rattle.p3_field.specs.Ring.{Ring, minus};
 ghost use Rattle.p3_field.specs.Lanes.{by_lanes};
 
 use crate::butterflies::Butterfly;
-use p3_field::{Packable, PackedField, Products};
+use p3_field::{Packable, PackedField, Products, scaled};
 
 /// How many of `size` places full packs of `width`, which is at least one, take up.
 pub fn full_packs(size: usize, width: usize) -> usize
@@ -18,8 +18,50 @@ pub fn full_packs(size: usize, width: usize) -> usize
     size - size % width
 }
 
+// Takes two rows of one length to the near and the far row: full packs of the field's own packing, then
+// single elements.
+#[inline(always)]
+pub(crate) fn apply_by_packs<F: Packable, B: Butterfly<F>>(
+    butterfly: &B,
+    row_1: &mut [F],
+    row_2: &mut [F],
+    products: &mut Products,
+)
+    requires { length row_1.old ≡ length row_2.old }
+    ensures near { map F.value row_1.new
+        ≡ by_lanes (B.near F.Element F.ring F.value butterfly.now) (map F.value row_1.old) (map F.value row_2.old) }
+    ensures far { map F.value row_2.new
+        ≡ by_lanes (B.far F.Element F.ring F.value butterfly.now) (map F.value row_1.old) (map F.value row_2.old) }
+    ensures count { products.new ≡ products.old + B.cost * length row_1.old }
+{
+    let full = full_packs(row_1.len(), F::Packing::WIDTH);
+    let (packed_1, rest_1) = row_1.split_at_mut(full);
+    let (packed_2, rest_2) = row_2.split_at_mut(full);
+    apply_to_packs::<F, F::Packing, B>(butterfly, packed_1, packed_2, products);
+    apply_to_elements(butterfly, rest_1, rest_2, products);
+}
+
+// The same as a function of its own: where packs are loaded at once, one call for two rows is faster than its loops in
+// every layer.
+pub(crate) fn apply_by_packs_apart<F: Packable, B: Butterfly<F>>(
+    butterfly: &B,
+    row_1: &mut [F],
+    row_2: &mut [F],
+    products: &mut Products,
+)
+    requires { length row_1.old ≡ length row_2.old }
+    ensures near { map F.value row_1.new
+        ≡ by_lanes (B.near F.Element F.ring F.value butterfly.now) (map F.value row_1.old) (map F.value row_2.old) }
+    ensures far { map F.value row_2.new
+        ≡ by_lanes (B.far F.Element F.ring F.value butterfly.now) (map F.value row_1.old) (map F.value row_2.old) }
+    ensures count { products.new ≡ products.old + B.cost * length row_1.old }
+{
+    apply_by_packs(butterfly, row_1, row_2, products);
+}
+
 /// Takes two rows of full packs to the near and the far row. The rows have one length, a multiple of the
 /// packs' width, which is at least one.
+#[inline(always)]
 pub fn apply_to_packs<F: Packable, P: PackedField<Scalar = F>, B: Butterfly<F>>(
     butterfly: &B,
     row_1: &mut [F],
@@ -49,6 +91,7 @@ pub fn apply_to_packs<F: Packable, P: PackedField<Scalar = F>, B: Butterfly<F>>(
 }
 
 // Takes one pack of each row.
+#[inline(always)]
 fn apply_to_pack<F: Packable, P: PackedField<Scalar = F>, B: Butterfly<F>>(
     butterfly: &B,
     part_1: &mut [F],
@@ -63,9 +106,35 @@ fn apply_to_pack<F: Packable, P: PackedField<Scalar = F>, B: Butterfly<F>>(
         ≡ by_lanes (B.far F.Element F.ring F.value butterfly.now) (map F.value part_1.old) (map F.value part_2.old) }
     ensures count { products.new ≡ products.old + B.cost * P.WIDTH }
 {
-    let (near, far) = butterfly.apply(P::load(part_1), P::load(part_2), products);
-    near.store(part_1);
-    far.store(part_2);
+    if P::ONE_BY_ONE {
+        apply_to_elements(butterfly, part_1, part_2, products);
+    } else {
+        let (near, far) = butterfly.apply(P::load(part_1), P::load(part_2), products);
+        near.store(part_1);
+        far.store(part_2);
+    }
+}
+
+/// Takes two rows of one length, which may be zero, to the near and the far row, element by element.
+#[inline(always)]
+pub fn apply_to_elements<F: Packable, B: Butterfly<F>>(
+    butterfly: &B,
+    row_1: &mut [F],
+    row_2: &mut [F],
+    products: &mut Products,
+)
+    requires { length row_1.old ≡ length row_2.old }
+    ensures near { map F.value row_1.new
+        ≡ by_lanes (B.near F.Element F.ring F.value butterfly.now) (map F.value row_1.old) (map F.value row_2.old) }
+    ensures far { map F.value row_2.new
+        ≡ by_lanes (B.far F.Element F.ring F.value butterfly.now) (map F.value row_1.old) (map F.value row_2.old) }
+    ensures count { products.new ≡ products.old + B.cost * length row_1.old }
+{
+    for i in 0..row_1.len() {
+        let (near, far) = butterfly.apply::<F>(row_1[i], row_2[i], products);
+        row_1[i] = near;
+        row_2[i] = far;
+    }
 }
 
 // Takes two rows of full packs to the near and the far row in two others.
@@ -131,6 +200,7 @@ pub(crate) fn dit_on_packs<F: Packable, P: PackedField<Scalar = F>>(
 }
 
 // One pack of each row.
+#[inline(always)]
 fn dit_on_pack<F: Packable, P: PackedField<Scalar = F>>(
     twiddles: &[F],
     part_1: &mut [F],
@@ -146,10 +216,38 @@ fn dit_on_pack<F: Packable, P: PackedField<Scalar = F>>(
         (by_lanes F.ring.mul (map F.value part_2.old) (map F.value twiddles.now)) }
     ensures count { products.new ≡ products.old + P.WIDTH }
 {
-    let x = P::load(part_1);
-    let multiples = P::load(part_2).multiplied(P::load(twiddles), products);
-    x.add(multiples).store(part_1);
-    x.sub(multiples).store(part_2);
+    if P::ONE_BY_ONE {
+        dit_on_elements(twiddles, part_1, part_2, products);
+    } else {
+        let x = P::load(part_1);
+        let multiples = P::load(part_2).multiplied(P::load(twiddles), products);
+        x.add(multiples).store(part_1);
+        x.sub(multiples).store(part_2);
+    }
+}
+
+// Decimation in time on two rows of one length, element by element, where each pair has a twiddle of its own.
+#[inline(always)]
+pub(crate) fn dit_on_elements<F: Packable>(
+    twiddles: &[F],
+    row_1: &mut [F],
+    row_2: &mut [F],
+    products: &mut Products,
+)
+    requires rows { length row_1.old ≡ length row_2.old }
+    requires twiddles { length row_1.old ≡ length twiddles.now }
+    ensures near { map F.value row_1.new ≡ by_lanes F.ring.add (map F.value row_1.old)
+        (by_lanes F.ring.mul (map F.value row_2.old) (map F.value twiddles.now)) }
+    ensures far { map F.value row_2.new ≡ by_lanes (minus F.ring) (map F.value row_1.old)
+        (by_lanes F.ring.mul (map F.value row_2.old) (map F.value twiddles.now)) }
+    ensures count { products.new ≡ products.old + length row_1.old }
+{
+    for i in 0..row_1.len() {
+        let x = row_1[i];
+        let multiple = scaled(row_2[i], twiddles[i], products);
+        row_1[i] = x + multiple;
+        row_2[i] = x - multiple;
+    }
 }
 
 // Multiplies each of full packs of values by t.

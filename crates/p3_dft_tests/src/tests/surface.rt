@@ -28,7 +28,9 @@ fn one_is_one<F: Packable>(rt: &impl Abort) {
 #[test]
 fn fields_are_named_by_p3_dft(rt: HostRuntime) {
     one_is_one::<Goldilocks>(&rt);
-    assert!(rt; broadcast(Goldilocks::ONE) == Goldilocks::ONE);
+    let mut lanes = [Goldilocks::ZERO; 4];
+    broadcast(Goldilocks::ONE).store(&mut lanes);
+    assert!(rt; lanes == [Goldilocks::ONE; 4]);
 }
 
 // What a butterfly makes of two and one.
