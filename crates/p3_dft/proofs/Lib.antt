@@ -1,4 +1,3 @@
 pub mod BitReversed
 pub mod Calls
-pub mod Codewords
 pub mod Laws

@@ -22,8 +22,12 @@ pub record Encoder (F D : Type 0) : Type 0 where
   pub engine : D
   pub code : Code F
 
--- each column of the word has the values of such a polynomial
-pub record IsCodeword {F : Type 0} (f : FieldMembers F) (generator : ℕ → F) (code : Code F) (word : Matrix f.Element) : Type 0 where
+-- each column of m has the values, on the coset of s of order 2 ^ k, of a polynomial with h coefficients
+pub record HasDegreeBelow {F : Type 0} (f : FieldMembers F) (generator : ℕ → F) (h k : ℕ) (s : f.Element) (m : Matrix f.Element) : Type 0 where
   pub coefficients : Matrix f.Element
-  pub high : coefficients.height ≡ 2 ^ code.log_message
-  pub values : IsValues f.ring (λ n. f.value (generator n)) coefficients (code.log_message + code.added_bits) (f.value code.shift) word
+  pub high : coefficients.height ≡ h
+  pub values : IsValues f.ring (λ n. f.value (generator n)) coefficients k s m
+
+-- each column of the word has the values of a polynomial of the code
+abbrev pub IsCodeword : {F : Type 0} (f : FieldMembers F) → (ℕ → F) → Code F → Matrix f.Element → Type 0
+IsCodeword f generator code = HasDegreeBelow f generator (2 ^ code.log_message) (code.log_message + code.added_bits) (f.value code.shift)

@@ -28,9 +28,9 @@ pub use p3_matrix::{
     BitReversedMatrixView, BlockConsumer, BlockLimit, BlockRefused, Butterfly, DftError,
     DifButterfly, DifButterflyZeros, DitButterfly, Evaluations, IntoRowMajorMatrix, Recorder,
     RowMajorMatrix, RowMajorMatrixView, RowMajorMatrixViewMut, ScaledDitButterfly,
-    TwiddleFreeButterfly, apply_dit_by_place, log2_strict_usize, reverse_bits_len,
-    reverse_matrix_index_bits, reverse_rows, reverse_slice_index_bits, scale_slice_in_place,
-    split_rows_mut, swap_rows,
+    TwiddleFreeButterfly, apply_dit_by_place, has_degree_below, log2_strict_usize,
+    reverse_bits_len, reverse_matrix_index_bits, reverse_rows, reverse_slice_index_bits,
+    scale_slice_in_place, split_rows_mut, swap_rows,
 };
 pub use radix_2_bowers::Radix2Bowers;
 pub use radix_2_dit::Radix2Dit;

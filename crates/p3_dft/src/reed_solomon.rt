@@ -1,6 +1,6 @@
 //! Reed-Solomon codes: values of polynomials with few coefficients, on many points.
 
-ghost use Rattle.std.specs.Prelude.{◌≡◌, ◌↔◌, ℕ, ◌+◌, ◌^◌, ◌<◌, ◌≤◌, IsTrue, IfOk, IsOk, All};
+ghost use Rattle.std.specs.Prelude.{◌≡◌, ◌↔◌, ◌+◌, ◌^◌, ◌<◌, ◌≤◌, IsTrue, IfOk, IsOk};
 ghost use Rattle.p3_field.specs.Ring.{IsInvertible};
 ghost use Rattle.p3_matrix.specs.Matrix.{Matrix, Same};
 ghost use Rattle.p3_matrix.specs.RowMajor.{height};
@@ -12,8 +12,8 @@ ghost use Rattle.p3_dft.specs.Shapes.{FitsDft, FitsLde};
 ghost use Rattle.p3_matrix.specs.Cosets.{values_of};
 
 use crate::traits::TwoAdicSubgroupDft;
-use p3_field::{Field, TwoAdicField};
-use p3_matrix::{DftError, Evaluations, IntoRowMajorMatrix, RowMajorMatrix};
+use p3_field::TwoAdicField;
+use p3_matrix::{DftError, Evaluations, IntoRowMajorMatrix, RowMajorMatrix, has_degree_below};
 use std::marker::Model;
 
 /// A Reed-Solomon code, and the engine that makes and tests its words.
@@ -181,23 +181,6 @@ impl<F: TwoAdicField, D: TwoAdicSubgroupDft<F>> ReedSolomon<F, D> {
     {
         let message_height = self.message_height();
         let coefficients = self.engine.coset_idft_batch(word.try_clone()?, self.shift)?;
-        Ok(are_zeros_from(&coefficients, message_height))
+        Ok(has_degree_below(&coefficients, message_height))
     }
-}
-
-// Whether the rows from row `start` on have zeros alone.
-fn are_zeros_from<F: Field>(mat: &RowMajorMatrix<F>, start: usize) -> bool
-    requires { start ≤ height mat.now }
-    ensures { IsTrue result ↔ ((i j : ℕ) → start ≤ i → i < height mat.now → j < mat.now.width
-        → (values_of F.Field.own mat.now).entry i j ≡ F.ring.zero) }
-{
-    let values = mat.values();
-    are_zeros(&values[start * mat.width()..])
-}
-
-// Whether all are zero.
-fn are_zeros<F: Field>(elements: &[F]) -> bool
-    ensures { IsTrue result ↔ All (λ x. F.value x ≡ F.ring.zero) elements.now }
-{
-    elements.iter().all(|x| x.is_zero())
 }

@@ -5,8 +5,8 @@ use Rattle.std.specs.Prelude.{⊤}
 use Rattle.std.proofs.Math.Dec.{eqb}
 use Rattle.std.proofs.lemmas.Bool.{cases_lt}
 use Rattle.std.proofs.lemmas.Bool.Decides.{Decides-eqb, eqb_tells}
-use Rattle.std.proofs.Math.Nat.{mul-le-mul_right, div-lt_iff_lt-mul, div-mul-le_self, div-zero, mod-zero, mul-div_cancel, mul_assoc, suc-mul}
-use Rattle.std.proofs.lemmas.List.{append-nil, append_assoc, get_or-map, length-map, places}
+use Rattle.std.proofs.Math.Nat.{add-mul, mul-le-mul_right, div-lt_iff_lt-mul, div-mul-le_self, div-zero, mod-zero, mul-div_cancel, mul_assoc, suc-mul}
+use Rattle.std.proofs.lemmas.List.{append-nil, append_assoc, ext_get_or, get_or-map, length-map, places}
 use Rattle.std.proofs.lemmas.List.Elements.{Contains-get_or}
 use Rattle.std.proofs.lemmas.List.Folds.{Any-from_list_any}
 use Rattle.std.proofs.lemmas.List.FromFn.{get_or-map-range_with_len, length-map-range_with_len, sum_by-map-range_with_len_more}
@@ -14,11 +14,14 @@ use Rattle.std.proofs.lemmas.List.Sorted.{All-permutation, Contains-permutation,
 use Rattle.std.proofs.lemmas.List.Sums.{sum_by-cons}
 use Rattle.std.proofs.lemmas.Map.Made.{IsDistinct-from_AllPairs}
 use Rattle.std.proofs.lemmas.Map.Steps.{length-le_from_distinct_below}
-use Rattle.std.proofs.lemmas.Nat.{div-add-mod'}
+use Rattle.std.proofs.lemmas.Nat.{div-add-mod', div_below, mod_below}
 use Rattle.p3_matrix.specs.Blocks.{AreBlocksOf, IsBlockOf, IsPartition, IsPublished, IsRefused, Run, block, first_blocks}
-use Rattle.p3_matrix.specs.Consumers.{IsCounted, IsRecorded, Limited, Recording}
+use Rattle.p3_matrix.specs.Consumers.{IsCopied, IsCounted, IsRecorded, Limited, Recording}
 use Rattle.p3_matrix.specs.Matrix.{Matrix}
-use Rattle.p3_matrix.specs.RowMajor.{RowMajor, height, rows_from}
+use Rattle.p3_matrix.specs.RowMajor.{IsRowMajor, RowMajor, height, rows_from}
+use Rattle.p3_matrix.specs.Writes.{with_elements}
+use Rattle.p3_matrix.proofs.BlockRuns.{block_within}
+use Rattle.p3_matrix.proofs.RowMajor.{rows_within}
 use Rattle.p3_matrix.specs.declared.blocks.BlockRefused.{BlockRefused}
 
 -- a consumer that refuses no block was not refused with
@@ -225,3 +228,104 @@ module _ {T : Type 0} where
   pub limit_stays : (may_make : Limited → Type 0) (b : ℕ) (out : RowMajor T) (last : Limited) (limit : ℕ) → ((c : Limited) → may_make c → c.limit ≡ limit)
       → IsPublished {T = T} (λ c start rows answer e. IsCounted c start answer e) may_make b out last → last.limit ≡ limit
   limit_stays may_make b out last limit new x = (counted x.blocks x.first last x.run).0 ∙ new x.first x.made
+
+-- ---- consumers that copy each block to its place
+-- what is written over a part of a list, and the rest of it
+module _ {T : Type 0} (d : T) (xs ws : List T) (a : ℕ) (room : a + length ws ≤ length xs) where
+  elements_long : length (with_elements xs a ws) ≡ length xs
+  elements_long = search (rules, places)
+
+  elements_before : (i : ℕ) → i < a → get_or (with_elements xs a ws) i d ≡ get_or xs i d
+  elements_before i before = search (rules, places)
+
+  elements_in : (i : ℕ) → i < length ws → get_or (with_elements xs a ws) (a + i) d ≡ get_or ws i d
+  elements_in i inside = search (rules, places)
+
+  elements_behind : (i : ℕ) → a + length ws ≤ i → get_or (with_elements xs a ws) i d ≡ get_or xs i d
+  elements_behind i behind = search (rules, places)
+
+module _ {C T R : Type 0} {step : C → ℕ → RowMajor T → Result ⊤ R → C → Type 0} {may_make : C → Type 0} {b : ℕ} {last : C} (m : RowMajor T) (whole : IsRowMajor m) (entries : C → List T)
+    (copies : (c : C) (start : ℕ) (rows : RowMajor T) (e : C) → step c start rows (Ok tt) e → IsCopied (entries c) start rows (entries e))
+    (new : (c : C) → may_make c → length (entries c) ≡ length m.values) (x : IsPublished step may_make b m last) where
+  abbrev IsLong : C → Type 0
+  IsLong c = length (entries c) ≡ length m.values
+
+  abbrev HasBlock : T → ℕ → C → Type 0
+  HasBlock d q c = (i : ℕ) → (q * b) * m.width ≤ i → i < (q * b) * m.width + b * m.width → get_or (entries c) i d ≡ get_or m.values i d
+
+  -- block q lies within the matrix
+  block_fits : (q : ℕ) → q < height m / b → (q * b) * m.width + b * m.width ≤ length m.values
+  block_fits q low = rows_within (q * b) b (height m) m.width (length m.values) (block_within q b (height m) low) whole.full
+
+  block_entries : (q : ℕ) → q < height m / b → length (rows_from m (q * b) b).values ≡ b * m.width
+  block_entries q low =
+      let fits = block_fits q low in
+      let gap : ((q * b) * m.width + b * m.width) - (q * b) * m.width ≡ b * m.width = omega arith in
+      search (rules, places)
+
+  block_entry : (d : T) (q i : ℕ) → q < height m / b → i < b * m.width → get_or (rows_from m (q * b) b).values i d ≡ get_or m.values ((q * b) * m.width + i) d
+  block_entry d q i low inside =
+      let fits = block_fits q low in
+      let gap : ((q * b) * m.width + b * m.width) - (q * b) * m.width ≡ b * m.width = omega arith in
+      search (rules, places)
+
+  -- a block brings its entries, and leaves the others
+  one_more : (d : T) (q : ℕ) (c e : C) → q < height m / b → IsLong c → step c (q * b) (rows_from m (q * b) b) (Ok tt) e
+      → IsLong e × ((p : ℕ) → p < height m / b → (p ≡ q) ⊎ HasBlock d p c → HasBlock d p e)
+  one_more d q c e low long told =
+      let w = m.width in
+      let a = (q * b) * w in
+      let ws = (rows_from m (q * b) b).values in
+      let size = block_entries q low in
+      let room : a + length ws ≤ length (entries c) = omega (arith, size, block_fits q low, long) in
+      let is : entries e ≡ with_elements (entries c) a ws = copies c (q * b) (rows_from m (q * b) b) e told room in
+      let at : (i : ℕ) → get_or (entries e) i d ≡ get_or (with_elements (entries c) a ws) i d = λ i. ap (λ xs. get_or xs i d) is in
+      let inside : (i : ℕ) → a ≤ i → i < a + b * w → get_or (entries e) i d ≡ get_or m.values i d = λ i from to.
+      let place : a + (i - a) ≡ i = omega (arith, from) in
+      let below : i - a < b * w = omega (arith, from, to) in
+      subst (λ n. get_or (entries e) n d ≡ get_or m.values n d) place
+      (at (a + (i - a)) ∙ elements_in d (entries c) ws a room (i - a) (omega (arith, below, size)) ∙ block_entry d q (i - a) low below) in (
+        ap length is ∙ elements_long d (entries c) ws a room ∙ long,
+        λ p below choice i from to.
+            ⊎_elim
+            (λ before.
+            ⊎_elim
+            (λ same. absurd (omega (arith, before, subst (λ n. (n * b) * w ≤ i) same from)))
+            (λ has. at i ∙ elements_before d (entries c) ws a room i before ∙ has i from to)
+            choice)
+            (λ start.
+            ⊎_elim
+            (λ end. inside i start end)
+            (λ behind.
+            ⊎_elim
+            (λ same. absurd (omega (arith, behind, subst (λ n. i < (n * b) * w + b * w) same to)))
+            (λ has. at i ∙ elements_behind d (entries c) ws a room i (omega (arith, behind, size)) ∙ has i from to)
+            choice)
+            (cases_lt i (a + b * w)))
+            (cases_lt i a),
+      )
+
+  copied_by : T → entries last ≡ m.values
+  copied_by d =
+      let w = m.width in
+      let done = of_all_blocks step IsLong (HasBlock d) b m (one_more d) may_make last new x in
+      ext_get_or d (entries last) m.values done.0 (λ i inside.
+      let r = i / w in
+      let q = r / b in
+      let below : r < height m = div_below i w (height m) whole.wide (omega (arith, inside, done.0, whole.full)) in
+      let low : q < height m / b = within_blocks b (height m) r x.parts.divides below in
+      let row_low : q * b ≤ r = omega (arith, div-add-mod' r b) in
+      let row_high : r + 1 ≤ q * b + b = omega (arith, div-add-mod' r b, mod_below r b (divisor b (height m) q low)) in
+      let first : (q * b) * w ≤ i = omega (arith, mul-le-mul_right w row_low, div-add-mod' i w) in
+      let end : i < (q * b) * w + b * w =
+      omega (arith, mul-le-mul_right w row_high, add-mul (q * b) b w, add-mul r 1 w, div-add-mod' i w, mod_below i w whole.wide) in
+      done.1 q low i first end)
+
+  -- a consumer that copies each block to its place, and was made with as many entries as the matrix has, holds those of the matrix
+  pub all_copied : entries last ≡ m.values
+  all_copied = by (entries last) m.values refl refl
+    where
+      by : (xs ys : List T) → entries last ≡ xs → m.values ≡ ys → entries last ≡ m.values
+      by xs (d ∷ ys) is values = copied_by d
+      by (d ∷ xs) [] is values = copied_by d
+      by [] [] is values = is ∙ sym values

@@ -8,6 +8,7 @@ use Rattle.p3_matrix.specs.Matrix.{matrix, Same}
 use Rattle.p3_matrix.specs.RowMajor.{RowMajor, HasShapeOf, IsRowMajor, height, row}
 use Rattle.p3_matrix.proofs.BitReversal.{rev-lt, reversed_back}
 use Rattle.p3_matrix.proofs.RowMajor.{row_within}
+use Rattle.p3_matrix.proofs.TwoPowers.{log_same}
 
 module _ {T : Type 0} (f : ℕ → List T) (w : ℕ) where
   -- n lists of w elements each, joined
@@ -103,3 +104,7 @@ reversed_from n m r whole high shape size rows =
     let full : height r * r.width ≡ length r.values = ap₂ (λ h w. h * w) shape.0 shape.1 ∙ whole.full ∙ sym size in
     reversed_is n r (record { wide = omega (arith, whole.wide, shape.1); full = full }) (shape.0 ∙ high) m (sym shape.0, sym shape.1) (sym size)
     (λ d. reversed_back n (matrix d r) (matrix d m) high (rows d))
+
+-- of equal matrices of 2 ^ i and 2 ^ j rows the rows in bit reversed order are equal
+pub reversed_alike : {T : Type 0} (i j : ℕ) {m n : RowMajor T} → m ≡ n → height m ≡ 2 ^ i → height n ≡ 2 ^ j → reversed_rows i m ≡ reversed_rows j n
+reversed_alike i j is high tall = ap₂ (λ k x. reversed_rows k x) (log_same i j (sym high ∙ ap (λ x. height x) is ∙ tall)) is

@@ -1,9 +1,15 @@
 -- What the consumers of this crate make of a block.
-use Rattle.std.specs.Prelude.{◌≡◌, ℕ, ◌+◌, ◌-◌, ◌<◌, ◌≤◌, Bool, true, List, [], ◌∷◌, ◌++◌, length, slice_range, Result, Ok, Err, ⊤, Vec, vec_len, vec_capacity}
+use Rattle.std.specs.Prelude.{◌≡◌, ℕ, ◌+◌, ◌-◌, ◌*◌, ◌<◌, ◌≤◌, Bool, true, List, [], ◌∷◌, ◌++◌, length, slice_range, Result, Ok, Err, ⊤, Vec, vec_len, vec_capacity}
 use Rattle.std.specs.List.{All}
 use Rattle.p3_matrix.specs.RowMajor.{RowMajor, IsRowMajor}
 use Rattle.p3_matrix.specs.declared.blocks.BlockRefused.{BlockRefused}
 use Rattle.p3_matrix.specs.declared.blocks.Place.{Place}
+use Rattle.p3_matrix.specs.Writes.{with_elements}
+
+-- the rows from row `start` on are written to their place among the entries of all rows, where there is room
+abbrev pub IsCopied : {T : Type 0} → List T → ℕ → RowMajor T → List T → Type 0
+IsCopied before start rows after =
+    start * rows.width + length rows.values ≤ length before → after ≡ with_elements before (start * rows.width) rows.values
 
 -- how many blocks are taken in all, and how many were
 pub record Limited : Type 0 where

@@ -25,5 +25,5 @@ pub use dense::RowMajorMatrix;
 pub use error::DftError;
 pub use evaluations::{Evaluations, IntoRowMajorMatrix};
 pub use scale::scale_slice_in_place;
-pub use util::{log2_strict_usize, swap_rows};
+pub use util::{has_degree_below, log2_strict_usize, swap_rows};
 pub use views::{RowMajorMatrixView, RowMajorMatrixViewMut, split_rows_mut};

@@ -1,11 +1,14 @@
-//! Small helpers: logarithms, and rows that change places.
+//! Small helpers: logarithms, rows that change places, and the degree that coefficients have.
 
-ghost use Rattle.std.specs.Prelude.{◌≡◌, ◌+◌, ◌*◌, ◌/◌, ◌^◌, ◌<◌, ◌≤◌, ◌⊎◌, ℕ, length};
+ghost use Rattle.std.specs.Prelude.{◌≡◌, ◌↔◌, ◌+◌, ◌*◌, ◌/◌, ◌^◌, ◌<◌, ◌≤◌, ◌⊎◌, ℕ, All, IsTrue, length};
 ghost use Rattle.p3_matrix.specs.RowMajor.{height, HasShapeOf};
 ghost use Rattle.p3_matrix.specs.Matrix.{matrix, row_exchange, Same};
+ghost use Rattle.p3_matrix.specs.Cosets.{values_of};
 ghost use Rattle.p3_matrix.specs.Exchange.{IsExchange};
 
+use crate::dense::RowMajorMatrix;
 use crate::views::RowMajorMatrixViewMut;
+use p3_field::Field;
 
 /// The logarithm of a power of two.
 pub fn log2_strict_usize(n: usize) -> usize
@@ -14,6 +17,24 @@ pub fn log2_strict_usize(n: usize) -> usize
     ensures small { result ≤ 63 }
 {
     n.ilog2() as usize
+}
+
+/// Whether the polynomials with these coefficients, one in each column, have degrees below `bound`: the
+/// rows from row `bound` on are zero.
+pub fn has_degree_below<F: Field>(coefficients: &RowMajorMatrix<F>, bound: usize) -> bool
+    ensures { IsTrue result ↔ ((i j : ℕ) → bound ≤ i → i < height coefficients.now → j < coefficients.now.width
+        → (values_of F.Field.own coefficients.now).entry i j ≡ F.ring.zero) }
+{
+    let first = bound.min(coefficients.height());
+    let values = coefficients.values();
+    are_zeros(&values[first * coefficients.width()..])
+}
+
+// Whether all are zero.
+fn are_zeros<F: Field>(elements: &[F]) -> bool
+    ensures { IsTrue result ↔ All (λ x. F.value x ≡ F.ring.zero) elements.now }
+{
+    elements.iter().all(|x| x.is_zero())
 }
 
 /// Rows i and j, which are below the height, change places.

@@ -1,5 +1,6 @@
--- Laws of Reed-Solomon codes that a user cites: which matrices are codewords, and how far two codewords lie apart.
-use Rattle.std.proofs.Common.{◌≡◌, ◌≢◌, ◌↔◌, ℕ, zero, suc, ◌+◌, ◌-◌, ◌^◌, ◌<◌, ◌≤◌, ◌⊎◌, inl, inr, Bool, true, false, IsTrue, refl, sym, ◌∙◌, subst, arith}
+-- Laws of Reed-Solomon codes that a user cites: which values have low degree, which matrices are codewords, and how far two codewords lie apart.
+use Rattle.std.proofs.Common.{◌≡◌, ◌≢◌, ◌↔◌, ℕ, zero, suc, ◌+◌, ◌-◌, ◌^◌, ◌<◌, ◌≤◌, ◌⊎◌, inl, inr, ⊎_elim, Bool, true, false, IsTrue, cond, le-ltb, refl, sym, ap, ◌∙◌, subst, arith}
+use Rattle.std.proofs.Math.Nat.{pow-le-pow_right}
 use borrow.Author.Count.{below_more}
 use Rattle.std.proofs.lemmas.Bool.{cases_lt, true≢false}
 use Rattle.p3_field.specs.Ring.{AreRoots}
@@ -8,12 +9,65 @@ use Rattle.p3_matrix.specs.Matrix.{Matrix, Same}
 use Rattle.p3_matrix.specs.RowMajor.{RowMajor, height}
 use Rattle.p3_matrix.specs.Cosets.{IsValues, values_of}
 use Rattle.p3_matrix.proofs.Polynomials.Interpolation.{interpolated, there_is_one}
-use Rattle.p3_dft.specs.Codes.{Code, IsCode, IsCodeword}
+use Rattle.p3_matrix.specs.Combinations.{lengthened}
+use Rattle.p3_matrix.proofs.Matrices.{same_sym}
+use Rattle.p3_matrix.proofs.Polynomials.Combinations.{lengthened_values}
+use Rattle.p3_matrix.proofs.Polynomials.Cosets.{padded_values}
+use Rattle.p3_dft.specs.Codes.{Code, HasDegreeBelow, IsCode, IsCodeword}
 use Rattle.p3_matrix.specs.RowNumbers.{AgreeInRows, DifferInRows}
 use Rattle.p3_dft.specs.Extensions.{IsExtension}
+use Rattle.p3_dft.specs.Transforms.{IsInterpolation}
 use Rattle.p3_matrix.proofs.Polynomials.Distance.{one_word}
 use Rattle.p3_matrix.proofs.Rows.Numbers.{fewer, split, Split}
-use Rattle.p3_dft.proofs.Codewords.{message_within}
+
+-- a message has at most as many rows as a word
+message_within : (k a : ℕ) → 2 ^ k ≤ 2 ^ (k + a)
+message_within k a = pow-le-pow_right (omega arith) (omega arith)
+
+-- c are the coefficients of m, as an inverse gives them
+module _ {F : Type 0} (f : FieldMembers F) (generator : ℕ → F) (m c : RowMajor F) (s : f.Element) (k : ℕ) (high : height m ≡ 2 ^ k) (inverse : IsInterpolation f generator m s c) (h : ℕ) where
+  abbrev roots : ℕ → f.Element
+  roots n = f.value (generator n)
+
+  abbrev AreZeros : Type 0
+  AreZeros = (i j : ℕ) → h ≤ i → i < height c → j < c.width → (values_of f c).entry i j ≡ f.ring.zero
+
+  zeros_of_degree : HasDegreeBelow f generator h k s (values_of f m) → AreZeros
+  zeros_of_degree given i j behind below inside =
+      let are = inverse.holds k high in
+      let longer = lengthened f.ring.zero (height m) given.coefficients in
+      let same : Same longer (values_of f c) =
+      inverse.only k high longer
+      (record {
+        high = refl;
+        wide = sym given.values.wide;
+        values = lengthened_values f.ring roots given.coefficients (values_of f m) (height m) k s (omega (arith, given.high, behind, below, are.high)) given.values;
+      }) in
+      (same_sym longer (values_of f c) same).alike i j below inside
+      ∙ ap (λ t. cond t (given.coefficients.entry i j) f.ring.zero) (le-ltb i given.coefficients.height (omega (arith, given.high, behind)))
+
+  degree_of_zeros : AreZeros → HasDegreeBelow f generator h k s (values_of f m)
+  degree_of_zeros zeros =
+      let are = inverse.holds k high in
+      ⊎_elim
+      (λ less.
+      let first : Matrix f.Element = record { height = h; width = c.width; entry = (values_of f c).entry } in
+      record {
+        coefficients = first;
+        high = refl;
+        values = padded_values f.ring roots first (values_of f c) k s (values_of f m) (omega (arith, less)) refl (λ i j below inside. refl) zeros are.values;
+      })
+      (λ more.
+      record {
+        coefficients = lengthened f.ring.zero h (values_of f c);
+        high = refl;
+        values = lengthened_values f.ring roots (values_of f c) (values_of f m) h k s more are.values;
+      })
+      (cases_lt h (height c))
+
+  -- m has values of degree below h where `has_degree_below` says so of the coefficients, and only there
+  pub degree_told : (told : Bool) → (IsTrue told ↔ AreZeros) → IsTrue told ↔ HasDegreeBelow f generator h k s (values_of f m)
+  degree_told told exact = (λ t. degree_of_zeros (exact.0 t), λ given. exact.1 (zeros_of_degree given))
 
 -- an extension of a message is a codeword
 pub word_of_extension : {F : Type 0} (f : FieldMembers F) (generator : ℕ → F) (code : Code F) (m out : RowMajor F) → height m ≡ 2 ^ code.log_message

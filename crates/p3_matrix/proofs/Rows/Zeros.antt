@@ -1,5 +1,5 @@
 -- Rows of zeros in a stored matrix, and where they begin.
-use Rattle.std.proofs.Common.{◌≡◌, ◌↔◌, ℕ, ◌+◌, ◌-◌, ◌*◌, ◌/◌, ◌%◌, ◌<◌, ◌≤◌, Bool, IsTrue, length, get_or, take, drop, sym, ap, ◌∙◌, arith}
+use Rattle.std.proofs.Common.{◌≡◌, ◌↔◌, ℕ, ◌+◌, ◌-◌, ◌*◌, ◌/◌, ◌%◌, ◌<◌, ◌≤◌, Bool, IsTrue, length, get_or, min, take, drop, sym, ap, ◌∙◌, arith}
 use Rattle.std.specs.List.{All}
 use Rattle.std.proofs.Math.Nat.{mul-le-mul_right}
 use Rattle.std.proofs.lemmas.List.{get_or_default}
@@ -40,6 +40,16 @@ module _ {F : Type 0} (f : FieldMembers F) (m : RowMajor F) (start : ℕ) (whole
       ∙ ap (λ q. f.value (get_or m.values q f.ZERO)) (sym (div-add-mod' p w))
       ∙ zeros (p / w) (p % w) (le-div start p w some (omega arith)) (div_below p w (height m) some (omega (arith, there, whole.full))) (mod_below p w some)
 
-  pub zeros_by_rows : (told : Bool) → (IsTrue told ↔ All (λ x. f.value x ≡ f.ring.zero) (take rest (drop (start * m.width) m.values)))
+  zeros_by_rows : (told : Bool) → (IsTrue told ↔ All (λ x. f.value x ≡ f.ring.zero) (take rest (drop (start * m.width) m.values)))
       → IsTrue told ↔ ((i j : ℕ) → start ≤ i → i < height m → j < m.width → (values_of f m).entry i j ≡ f.ring.zero)
   zeros_by_rows told exact = (λ t. rows_of_entries (exact.0 t), λ zeros. exact.1 (entries_of_rows zeros))
+
+-- the rows from `bound` on are those from the smaller of it and the height on
+pub zeros_from_bound : {F : Type 0} (f : FieldMembers F) (m : RowMajor F) (bound start : ℕ) → IsRowMajor m → start ≡ min bound (height m) → (told : Bool)
+    → (IsTrue told ↔ All (λ x. f.value x ≡ f.ring.zero) (take (length m.values - start * m.width) (drop (start * m.width) m.values)))
+    → IsTrue told ↔ ((i j : ℕ) → bound ≤ i → i < height m → j < m.width → (values_of f m).entry i j ≡ f.ring.zero)
+zeros_from_bound f m bound start whole least told exact =
+    let by = zeros_by_rows f m start whole (omega (arith, least)) told exact in (
+      λ t i j behind below. by.0 t i j (omega (arith, least, behind)) below,
+      λ zeros. by.1 (λ i j behind below. zeros i j (omega (arith, least, behind, below)) below),
+    )
