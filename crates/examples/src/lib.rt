@@ -12,6 +12,7 @@ pub mod merkle_root;
 pub mod own_engine;
 pub mod product;
 pub mod published;
+pub mod published_degree;
 pub mod sizes;
 #[cfg(test)]
 mod tests;

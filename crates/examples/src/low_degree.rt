@@ -2,11 +2,11 @@
 //!
 //! Proved: it says yes where each column has the values of a polynomial of the degree, and nowhere else.
 
-ghost use Rattle.std.specs.Prelude.{◌≡◌, ◌↔◌, ◌^◌, ◌≤◌, IfOk, IsTrue};
+ghost use Rattle.std.specs.Prelude.{◌↔◌, ◌^◌, ◌≤◌, IfOk, IsTrue};
 ghost use Rattle.p3_field.specs.Ring.{IsInvertible};
-ghost use Rattle.p3_matrix.specs.Matrix.{Matrix};
 ghost use Rattle.p3_matrix.specs.RowMajor.{height};
-ghost use Rattle.p3_matrix.specs.Cosets.{IsValues, values_of};
+ghost use Rattle.p3_matrix.specs.Cosets.{values_of};
+ghost use Rattle.p3_dft.specs.Codes.{HasDegreeBelow};
 ghost use Rattle.p3_dft.specs.Engines.{AtLog, IsLater};
 ghost use Rattle.p3_dft.specs.Shapes.{FitsDft};
 
@@ -27,8 +27,8 @@ pub fn has_low_degree<F: TwoAdicField, D: TwoAdicSubgroupDft<F>>(
     requires degree { 2 ^ log_degree ≤ height values.now }
     requires invertible { IsInvertible F.ring (F.value shift) }
     ensures exact { AtLog (height values.now) (λ n. IfOk result.0 (λ told. IsTrue told
-        ↔ ((c : Matrix F.Element) × (c.height ≡ 2 ^ log_degree)
-        × IsValues F.ring (λ k. F.value (F.generator k)) c n (F.value shift) (values_of F.Field.own values.now)))) }
+        ↔ HasDegreeBelow F.Field.own F.generator (2 ^ log_degree) n (F.value shift)
+        (values_of F.Field.own values.now))) }
     ensures later { IsLater D.facts engine result.1 }
 {
     let log_points = log2_strict_usize(values.height());

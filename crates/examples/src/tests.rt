@@ -1,4 +1,4 @@
-// Worked roots, numbers and texts.
+// Worked roots, values, numbers and texts.
 //
 // The numbers were worked out by a program in Python from the definitions alone. Coefficient j of a column of n
 // values is `sum(v[i] * g^(-i * j)) / n`, and row i of the extension has the values of these polynomials at
@@ -7,9 +7,10 @@
 
 use crate::field_forms::{aligned_text_of, geometric_sum, line_at, text_of, total_of_squares};
 use crate::merkle_root::{HornerHash, merkle_root, roots_of_two};
+use crate::published_degree::published_degree;
 use p3_dft::{
     BabyBear, CanonicalField, Field, Goldilocks, NaiveDft, Radix2DitParallel, RowMajorMatrix,
-    TwoAdicSubgroupDft, fits_lde,
+    TwoAdicSubgroupDft, fits_lde, has_degree_below,
 };
 use std::alloc::Global;
 use std::process::Abort;
@@ -117,6 +118,43 @@ fn one_root(rt: HostRuntime) {
         assert!(rt; one == other);
     }
 }
+
+// The columns are the values of 2 - x and 3 - x at 1 and -1. The points of the extension are 7 times the powers of
+// `2^48`, whose square is -1 modulo `2^64 - 2^32 + 1`. Read as coefficients, its rows have degree below 4 and not
+// below 3.
+#[test]
+fn what_was_published_has_low_degree(rt: HostRuntime) {
+    let mut entries = Vec::new(rt.alloc());
+    for n in [1u8, 2, 3, 4] {
+        entries.push(Goldilocks::from_u8(n)).expect(&rt, "memory");
+    }
+    assert!(rt; entries.len() % 2 == 0);
+    let mat = RowMajorMatrix::new(entries, 2);
+    assert!(rt; fits_lde::<Goldilocks>(mat.height(), mat.width(), 1));
+    let shift = Goldilocks::invertible_generator();
+    let answer = published_degree(&mut Radix2DitParallel::default(), mat, 1, shift);
+    let (kept, low) = answer.expect(&rt, "memory");
+    assert!(rt; low && has_degree_below(&kept, 4) && !has_degree_below(&kept, 3));
+    assert!(rt; kept.width() == 2 && kept.values().len() == PUBLISHED.len());
+    for (x, number) in kept.values().iter().zip(PUBLISHED) {
+        assert!(rt; x.as_canonical_u64() == number);
+    }
+}
+
+const PUBLISHED: [u64; 8] = [
+    // at 7
+    18446744069414584316,
+    18446744069414584317,
+    // at 7 * 2^48
+    18444773744577609731,
+    18444773744577609732,
+    // at -7
+    9,
+    10,
+    // at -7 * 2^48
+    1970324836974594,
+    1970324836974595,
+];
 
 // 3 * 5 + 2, 1 + 4 + 9, and 1 + 2 + 4 + 8 + 16.
 #[test]

@@ -1,12 +1,9 @@
-use Rattle.std.proofs.Common.{◌≡◌, ◌↔◌, ℕ, ◌+◌, ◌-◌, ◌^◌, ◌≤◌, sym, ap, ◌∙◌, subst, arith}
+use Rattle.std.proofs.Common.{◌≡◌, ◌↔◌, ℕ, ◌+◌, ◌-◌, ◌^◌, ◌≤◌, IsTrue, sym, ap, ◌∙◌, subst, arith}
 use Rattle.std.proofs.lemmas.Result.{IfOk-weaker}
-use Rattle.p3_field.specs.declared.fields.Field.{Ghosts as FieldMembers}
-use Rattle.p3_matrix.specs.Matrix.{Matrix}
-use Rattle.p3_matrix.specs.RowMajor.{RowMajor}
 use Rattle.std.proofs.lemmas.Nat.{pow-add, pow_pos}
 use Rattle.p3_matrix.proofs.TwoPowers.{log_lt, log_same}
-use Rattle.p3_matrix.specs.Cosets.{IsValues, values_of}
-use Rattle.p3_dft.specs.Codes.{Code, IsCodeword}
+use Rattle.p3_matrix.specs.Cosets.{values_of}
+use Rattle.p3_dft.specs.Codes.{HasDegreeBelow}
 use Rattle.p3_dft.proofs.Laws.TwoCalls.{exponent_within}
 use Rattle.examples.proofs.low_degree.has_low_degree.Goals as goal
 
@@ -16,19 +13,6 @@ degree_within j k tall high less = omega (arith, log_lt j (k + 1) (omega (arith,
 
 degree_added : (j k : ℕ) → j ≤ k → j + (k - j) ≡ k
 degree_added j k less = omega arith
-
--- a codeword has the values of polynomials with so many coefficients on 2 ^ k points, and what has them is one
-by_degree : {F : Type 0} (f : FieldMembers F) (generator : ℕ → F) (code : Code F) (k : ℕ) (m : RowMajor F) → code.log_message + code.added_bits ≡ k
-    → IsCodeword f generator code (values_of f m)
-    ↔ ((c : Matrix f.Element) × (c.height ≡ 2 ^ code.log_message) × IsValues f.ring (λ n. f.value (generator n)) c k (f.value code.shift) (values_of f m))
-by_degree f generator code k m e = (
-  λ word. (word.coefficients, word.high, subst (λ (n : ℕ). IsValues f.ring (λ i. f.value (generator i)) word.coefficients n (f.value code.shift) (values_of f m)) e word.values),
-  λ given. record {
-    coefficients = given.0;
-    high = given.1;
-    values = subst (λ (n : ℕ). IsValues f.ring (λ i. f.value (generator i)) given.0 n (f.value code.shift) (values_of f m)) (sym e) given.2;
-  },
-)
 
 pub overflow_sub-log_points : goal.overflow_sub-log_points
 overflow_sub-log_points g c =
@@ -51,8 +35,5 @@ returns-clause-exact g c k high =
     let log : c.log2_strict_usize-log_points.result ≡ k = log_same _ k (sym points ∙ high) in
     let all = degree_added c.args.log_degree c.log2_strict_usize-log_points.result degree ∙ log in
     IfOk-weaker c.is_codeword-told.result _ _
-    (λ told exact. (
-      λ t. (by_degree g.F.Field g.F.TwoAdicField.generator _ k c.args.values.now all).0 (exact.0 t),
-      λ given. exact.1 ((by_degree g.F.Field g.F.TwoAdicField.generator _ k c.args.values.now all).1 given),
-    ))
+    (λ told exact. subst (λ (n : ℕ). IsTrue told ↔ HasDegreeBelow g.F.Field g.F.TwoAdicField.generator (2 ^ c.args.log_degree) n (g.F.Field.value c.args.shift) (values_of g.F.Field c.args.values.now)) all exact)
     (rw c.new-code.ensures at c.is_codeword-told.ensures.exact)

@@ -1,0 +1,133 @@
+//! A low degree test of the published blocks of an extension, over `Goldilocks`: a consumer keeps each block,
+//! and the test is of the rows that were kept.
+//!
+//! Proved: the rows that were kept are the extension. The test says yes where each of its columns has the values
+//! of a polynomial with no more coefficients than the input has rows, and nowhere else; and it says yes.
+
+ghost use Rattle.std.specs.Prelude.{◌≡◌, ◌↔◌, ◌*◌, ◌^◌, IfOk, IsTrue, length};
+ghost use Rattle.p3_field.specs.NamedFields.{goldilocks};
+ghost use Rattle.p3_field.specs.Ring.{IsInvertible};
+ghost use Rattle.p3_matrix.specs.BitOrder.{reversed_rows};
+ghost use Rattle.p3_matrix.specs.Cosets.{values_of};
+ghost use Rattle.p3_matrix.specs.RowMajor.{height};
+ghost use Rattle.p3_dft.specs.Codes.{HasDegreeBelow};
+ghost use Rattle.p3_dft.specs.Engines.{AtLog};
+ghost use Rattle.p3_dft.specs.Extensions.{IsExtension};
+ghost use Rattle.p3_dft.specs.Shapes.{FitsLde};
+
+use p3_dft::{
+    BitReversedMatrixView, BlockConsumer, BlocksStopped, DftError, Evaluations, Goldilocks,
+    RowMajorMatrix, RowMajorMatrixView, TwoAdicField, TwoAdicSubgroupDft, extended_height,
+    has_degree_below,
+};
+use std::convert::Infallible;
+
+/// A consumer that keeps the entries of each block at their place among those of all rows, and never refuses
+/// one.
+#[derive(Drop)]
+pub struct Kept {
+    entries: Vec<Goldilocks>,
+}
+
+impl BlockConsumer<Goldilocks> for Kept {
+    ghost use Rattle.std.specs.Prelude.{◌≡◌, Ok};
+    ghost use Rattle.p3_matrix.specs.Consumers.{IsCopied};
+
+    type Refusal = Infallible;
+
+    ghost step = { λ c start block answer e. (answer ≡ Ok tt)
+        × IsCopied c.entries.items start block e.entries.items };
+
+    fn consume(
+        &mut self,
+        start: usize,
+        block: RowMajorMatrixView<'_, Goldilocks>,
+    ) -> Result<(), Infallible>
+        ensures { ⟦<Kept as BlockConsumer<Goldilocks>>⟧.step self.old start block.entry result self.new }
+    {
+        let entries = block.values();
+        let first = start.saturating_mul(block.width());
+        let end = first.saturating_add(entries.len());
+        if end <= self.entries.len() {
+            self.entries[first..end].copy_from_slice(entries);
+        }
+        Ok(())
+    }
+}
+
+// As many zeros as the extension of the matrix has entries.
+fn zeros_for(
+    mat: &RowMajorMatrix<Goldilocks>,
+    added_bits: usize,
+) -> Result<Vec<Goldilocks>, DftError>
+    requires { FitsLde ⟦<Goldilocks as TwoAdicField>⟧.TWO_ADICITY (height mat.now) mat.now.width added_bits }
+    ensures { IfOk result (λ zeros. length zeros.items ≡ (height mat.now * 2 ^ added_bits) * mat.now.width) }
+{
+    let rows = extended_height::<Goldilocks>(mat.height(), mat.width(), added_bits);
+    Ok(vec![in *mat.allocator(); Goldilocks::ZERO; rows * mat.width()]?)
+}
+
+// The matrix in natural order whose rows, as they lie in memory, have the same entries as those of `out`.
+#[tactic(auto, using(p3_matrix::proofs::ReversedRows::reversed_alike))]
+fn in_natural_order(
+    entries: Vec<Goldilocks>,
+    out: &BitReversedMatrixView<RowMajorMatrix<Goldilocks>>,
+) -> RowMajorMatrix<Goldilocks>
+    requires { entries.items ≡ out.now.physical.values }
+    ensures { result ≡ reversed_rows out.now.bits out.now.physical }
+{
+    let width = out.inner().width();
+    let physical = RowMajorMatrix::new(entries, width);
+    physical.bit_reverse_rows().to_row_major_matrix()
+}
+
+/// The extension of a matrix, as its published blocks make it.
+pub fn kept_extension<D: TwoAdicSubgroupDft<Goldilocks>>(
+    engine: &mut D,
+    mat: RowMajorMatrix<Goldilocks>,
+    added_bits: usize,
+    shift: Goldilocks,
+) -> Result<RowMajorMatrix<Goldilocks>, DftError>
+    requires { FitsLde ⟦<Goldilocks as TwoAdicField>⟧.TWO_ADICITY (height mat) mat.width added_bits }
+    ensures { IfOk result (λ out. IsExtension goldilocks ⟦<Goldilocks as TwoAdicField>⟧.generator mat added_bits
+        (goldilocks.value shift) out) }
+{
+    let entries = zeros_for(&mat, added_bits)?;
+    let answer = engine.coset_lde_batch_in_blocks(mat, added_bits, shift, |_rows| Kept { entries });
+    match answer {
+        Ok((out, kept)) => {
+            let _whole = out.inner();
+            Ok(in_natural_order(kept.entries, &out))
+        }
+        Err(stopped) => match stopped {
+            BlocksStopped::Refused {
+                consumer: _consumer,
+                refusal,
+            } => match refusal {},
+            BlocksStopped::OutOfMemory(_) => Err(DftError::OutOfMemory),
+        },
+    }
+}
+
+/// The extension of a matrix, as its published blocks make it, and whether its columns have the values of
+/// polynomials with no more coefficients than the matrix has rows.
+pub fn published_degree<D: TwoAdicSubgroupDft<Goldilocks>>(
+    engine: &mut D,
+    mat: RowMajorMatrix<Goldilocks>,
+    added_bits: usize,
+    shift: Goldilocks,
+) -> Result<(RowMajorMatrix<Goldilocks>, bool), DftError>
+    requires fits { FitsLde ⟦<Goldilocks as TwoAdicField>⟧.TWO_ADICITY (height mat) mat.width added_bits }
+    requires invertible { IsInvertible goldilocks.ring (goldilocks.value shift) }
+    ensures extension { IfOk result (λ p. IsExtension goldilocks ⟦<Goldilocks as TwoAdicField>⟧.generator mat
+        added_bits (goldilocks.value shift) p.0) }
+    ensures exact { IfOk result (λ p. AtLog (height p.0) (λ k. IsTrue p.1 ↔ HasDegreeBelow goldilocks
+        ⟦<Goldilocks as TwoAdicField>⟧.generator (height mat) k (goldilocks.value shift) (values_of goldilocks p.0))) }
+    ensures low { IfOk result (λ p. IsTrue p.1) }
+{
+    let degree = mat.height();
+    let kept = kept_extension(engine, mat, added_bits, shift)?;
+    let coefficients = engine.coset_idft_batch(kept.try_clone()?, shift)?;
+    let low = has_degree_below(&coefficients, degree);
+    Ok((kept, low))
+}
