@@ -41,3 +41,10 @@ HoldsColumns value d part rows first at end cells xs = (r j : ℕ) → r < rows 
 pub record TakesColumns {T A : Type 0} (value : T → A) (d : T) (part rows first at end : ℕ) (to : ℕ → A) (before after : List T) : Type 0 where
   pub taken : HoldsColumns value d part rows first at end to after
   pub kept : (r j : ℕ) → r < rows → j < part → (j < at) ⊎ (end ≤ j) → get_or after (r * part + j) d ≡ get_or before (r * part + j) d
+
+-- of two halves of rows of `part` cells, the columns from `at` up to `end` meet, and the others stay
+pub record MeetInColumns {T A : Type 0} (value : T → A) (d : T) (part half at end : ℕ) (near far : A → A → A) (before after : List T) : Type 0 where
+  pub near_half : (t j : ℕ) → t < half → j < part → at ≤ j → j < end → value (get_or after (t * part + j) d) ≡ near (value (get_or before (t * part + j) d)) (value (get_or before (half * part + (t * part + j)) d))
+  pub far_half : (t j : ℕ) → t < half → j < part → at ≤ j → j < end → value (get_or after (half * part + (t * part + j)) d) ≡ far (value (get_or before (t * part + j) d)) (value (get_or before (half * part + (t * part + j)) d))
+  pub kept : (t j : ℕ) → t < half → j < part → (j < at) ⊎ (end ≤ j)
+      → (get_or after (t * part + j) d ≡ get_or before (t * part + j) d) × (get_or after (half * part + (t * part + j)) d ≡ get_or before (half * part + (t * part + j)) d)

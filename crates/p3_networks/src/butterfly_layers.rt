@@ -3,10 +3,12 @@
 ghost use Rattle.std.specs.Prelude.{◌≡◌, ◌↔◌, ◌⊎◌, ℕ, ◌+◌, ◌-◌, ◌*◌, ◌/◌, ◌^◌, ◌<◌, ◌≤◌};
 ghost use Rattle.std.specs.Prelude.{Bool, IsTrue, List, length, get_or};
 ghost use Rattle.p3_field.specs.Ring.{Ring};
+ghost use Rattle.p3_networks.specs.Chunks.{chunk_of};
 ghost use Rattle.p3_networks.specs.Layers.{IsLayer, MeetHalves};
 
 pub mod rules;
 
+use crate::chunks::{ChunkWork, chunk, on_each_chunk};
 use p3_field::{PackedField, Products, TwoAdicField};
 use p3_matrix::Butterfly;
 
@@ -139,10 +141,46 @@ fn meet_blocks<F: TwoAdicField, R: Rule<F>>(
     ensures cost { products.new ≤ products.old + R.cost * (blocks * (half * width)) }
 {
     let size = 2 * (half * width);
-    for b in 0..blocks {
-        let start = b * size;
-        let block = &mut values[start..start + size];
-        meet_block(rule, block, width, half, first_block + b, products);
+    let meet = Blocks {
+        rule,
+        width,
+        half,
+        first_block,
+    };
+    on_each_chunk(meet, values, size, blocks, products);
+}
+
+// The blocks of a layer, from number `first_block` on.
+#[derive(Clone, Copy)]
+struct Blocks<R> {
+    rule: R,
+    width: usize,
+    half: usize,
+    first_block: usize,
+}
+
+impl<F: TwoAdicField, R: Rule<F>> ChunkWork<F> for Blocks<R> {
+    ghost accepts = { λ it n size. (1 ≤ it.width) × ((1 ≤ it.half) × ((it.first_block + n < 2 ^ 64)
+        × ((size ≡ 2 * (it.half * it.width))
+        × ((t : ℕ) → t < it.half → R.has it.rule (it.first_block + n) t)))) };
+
+    ghost takes = { λ it n before after. MeetHalves (it.half * it.width)
+        (λ i. R.near F.Element F.ring F.value it.rule (it.first_block + n) (i / it.width))
+        (λ i. R.far F.Element F.ring F.value it.rule (it.first_block + n) (i / it.width))
+        (λ i. F.value (get_or before i F.ZERO)) (λ i. F.value (get_or after i F.ZERO)) };
+
+    ghost cost = { λ it size. 2 * (R.cost * (it.half * it.width)) };
+
+    #[inline(always)]
+    fn on_chunk(self, number: usize, chunk: &mut [F], products: &mut Products) {
+        meet_block(
+            self.rule,
+            chunk,
+            self.width,
+            self.half,
+            self.first_block + number,
+            products,
+        );
     }
 }
 
@@ -275,15 +313,36 @@ pub fn layer_oop<F: TwoAdicField, B: Butterfly<F>>(
     ensures cost { products.new ≤ products.old + B.cost * (blocks * size) }
 {
     let whole = 2 * size;
-    for b in 0..blocks {
-        let start = b * whole;
-        meet_block_oop(
-            butterfly,
-            &source[start..start + whole],
-            &mut values[start..start + whole],
-            size,
-            products,
-        );
+    let meet = BlocksOop {
+        butterfly,
+        source,
+        size,
+    };
+    on_each_chunk(meet, values, whole, blocks, products);
+}
+
+// Its blocks.
+#[derive(Clone, Copy)]
+struct BlocksOop<'a, F, B> {
+    butterfly: B,
+    source: &'a [F],
+    size: usize,
+}
+
+impl<F: TwoAdicField, B: Butterfly<F>> ChunkWork<F> for BlocksOop<'_, F, B> {
+    ghost accepts = { λ it n size. (size ≡ 2 * it.size) × (n * size + size ≤ length it.source.now) };
+
+    ghost takes = { λ it n before after. MeetHalves it.size (λ i. B.near F.Element F.ring F.value it.butterfly)
+        (λ i. B.far F.Element F.ring F.value it.butterfly)
+        (λ i. F.value (get_or (chunk_of (length before) n it.source.now) i F.ZERO))
+        (λ i. F.value (get_or after i F.ZERO)) };
+
+    ghost cost = { λ it size. 2 * (B.cost * it.size) };
+
+    #[inline(always)]
+    fn on_chunk(self, number: usize, values: &mut [F], products: &mut Products) {
+        let source = chunk(self.source, values.len(), number);
+        meet_block_oop(self.butterfly, source, values, self.size, products);
     }
 }
 

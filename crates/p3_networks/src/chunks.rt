@@ -1,16 +1,34 @@
 //! Chunks of a slice, one after another.
 
-ghost use Rattle.std.specs.Prelude.{◌≡◌, ℕ, ◌+◌, ◌*◌, ◌<◌, ◌≤◌, length};
-ghost use Rattle.p3_networks.specs.Chunks.{AcceptsChunks, CostsAtMost, WorkedOn};
+ghost use Rattle.std.specs.Prelude.{◌≡◌, ℕ, ◌+◌, ◌*◌, ◌<◌, ◌≤◌, List, length};
+ghost use Rattle.p3_networks.specs.Chunks.{chunk_of};
 
 use p3_field::{Products, TwoAdicField};
 
-/// Does the work on each of `count` chunks of `size` entries, one after another. The work gets the number of the
-/// chunk, the chunk and the counter.
+/// Work that is done on the chunks of a slice.
+pub(crate) trait ChunkWork<F: TwoAdicField>: Copy {
+    // Whether it may be done on a chunk of that number and of so many entries.
+    ghost accepts: { Self → ℕ → ℕ → Type 0 };
+
+    // What a chunk of that number was before the work and is after it.
+    ghost takes: { Self → ℕ → List F → List F → Type 0 };
+
+    // Twice the products that it makes at most on a chunk of so many entries.
+    ghost cost: { Self → ℕ → ℕ };
+
+    /// Does it on one chunk, in place.
+    fn on_chunk(self, number: usize, chunk: &mut [F], products: &mut Products)
+        requires { accepts self number (length chunk.old) }
+        ensures chunk { takes self number chunk.old chunk.new }
+        ensures grows { products.old ≤ products.new }
+        ensures cost { 2 * products.new ≤ 2 * products.old + cost self (length chunk.old) };
+}
+
+/// Does the work on each of `count` chunks of `size` entries, one after another.
 ///
-/// Inlined, as the work then is, so that what the caller names is known in its loops.
+/// Inlined, so that what the work names is known in its loops.
 #[inline(always)]
-pub(crate) fn on_each_chunk<F: TwoAdicField, W: Fn(usize, &mut [F], &mut Products)>(
+pub(crate) fn on_each_chunk<F: TwoAdicField, W: ChunkWork<F>>(
     work: W,
     values: &mut [F],
     size: usize,
@@ -18,14 +36,24 @@ pub(crate) fn on_each_chunk<F: TwoAdicField, W: Fn(usize, &mut [F], &mut Product
     products: &mut Products,
 )
     requires whole { length values.old ≡ count * size }
-    requires accepts { AcceptsChunks W.Fn work size count }
-    ensures chunks { (n : ℕ) → n < count → WorkedOn W.Fn work size n values.old values.new }
-    ensures cost { (scale : ℕ) (each : ℕ → ℕ) → CostsAtMost W.Fn work size count scale each
-        → (products.old ≤ products.new) × (scale * products.new ≤ scale * products.old + count * each size) }
+    requires accepts { (n : ℕ) → n < count → W.accepts work n size }
+    ensures chunks { (n : ℕ) → n < count → W.takes work n (chunk_of size n values.old) (chunk_of size n values.new) }
+    ensures grows { products.old ≤ products.new }
+    ensures cost { 2 * products.new ≤ 2 * products.old + count * W.cost work size }
 {
     for n in 0..count {
         let start = n * size;
         let chunk = &mut values[start..start + size];
-        work(n, chunk, products);
+        work.on_chunk(n, chunk, products);
     }
+}
+
+/// One chunk of `size` entries.
+#[inline(always)]
+pub(crate) fn chunk<F: TwoAdicField>(values: &[F], size: usize, number: usize) -> &[F]
+    requires { number * size + size ≤ length values.now }
+    ensures { result.now ≡ chunk_of size number values.now }
+{
+    let start = number * size;
+    &values[start..start + size]
 }

@@ -70,7 +70,7 @@ module _ {A T : Type 0} (value : T → A) (d : T) (near far : ℕ → ℕ → A 
       inside_all : (b : ℕ) → b < blocks → number * blocks + b < 2 ^ (k - 1 - e)
       inside_all b p = let all = blocks_within k top e number below room in let is : number * blocks + blocks ≡ number * 2 ^ (top - 1 - e) + 2 ^ (top - 1 - e) = ap (λ m. number * m + m) blocks_is in omega (arith, all, is, p)
 
--- the sizes of a layer of a chunk, as a program has them by shifts
+-- the sizes of a layer of a chunk, as a program has them by shifts, and the digits of its rows
 pub record ChunkSizes (top e number half blocks : ℕ) : Type 0 where
   pub digits : top < 64
   pub half_is : half ≡ 2 ^ e
@@ -80,11 +80,15 @@ pub record ChunkSizes (top e number half blocks : ℕ) : Type 0 where
   pub numbers : number * blocks + blocks ≡ (number + 1) * 2 ^ (top - 1 - e)
   pub room : number * blocks + blocks < 2 ^ 64
 
+pub chunk_digits : (top number : ℕ) → (number + 1) * 2 ^ top < 2 ^ 64 → top < 64
+chunk_digits top number small =
+    let some : 2 ^ top ≤ (number + 1) * 2 ^ top = let spread : (number + 1) * 2 ^ top ≡ number * 2 ^ top + 2 ^ top = omega arith in omega (arith, spread) in
+    log_lt top 64 (omega (arith, small, some))
+
 pub chunk_sizes : (top e number : ℕ) → e < top → (number + 1) * 2 ^ top < 2 ^ 64
     → ChunkSizes top e number (1 * 2 ^ e % 18446744073709551616) (1 * 2 ^ (top - 1 - e) % 18446744073709551616)
 chunk_sizes top e number below small =
-    let some : 2 ^ top ≤ (number + 1) * 2 ^ top = let spread : (number + 1) * 2 ^ top ≡ number * 2 ^ top + 2 ^ top = omega arith in omega (arith, spread) in
-    let digits : top < 64 = log_lt top 64 (omega (arith, small, some)) in
+    let digits = chunk_digits top number small in
     let half : 1 * 2 ^ e % 18446744073709551616 ≡ 2 ^ e = one_shl e 64 (omega (arith, digits, below)) in
     let blocks : 1 * 2 ^ (top - 1 - e) % 18446744073709551616 ≡ 2 ^ (top - 1 - e) = one_shl (top - 1 - e) 64 (omega (arith, digits)) in
     let less : 2 ^ (top - 1 - e) ≤ 2 ^ top = pow-le-pow_right {n = 2} (lit≤ tt) (let l : top - 1 - e ≤ top = omega arith in l) in

@@ -22,6 +22,10 @@ count_all cost n turns size before after done so_far = let more : cost * (n * si
 pub turn_counted : (n size made before now after : ℕ) → made ≡ size → now ≡ before + n * size → after ≡ now + made → after ≡ before + (n + 1) * size
 turn_counted n size made before now after full so_far turn = let next : (n + 1) * size ≡ n * size + size = omega arith in omega (arith, next, full, so_far, turn)
 
+-- what so many turns make, by twice what each makes
+pub turns_halved : (turns n size before after : ℕ) → turns ≡ n → 2 * after ≤ 2 * before + turns * (2 * size) → after ≤ before + n * size
+turns_halved turns n size before after is made = let spread : turns * (2 * size) ≡ 2 * (turns * size) = omega arith in omega (arith, made, spread, ap (λ t. t * size) is)
+
 -- what holds of so many turns, when a loop is over
 pub at_end : (P : ℕ → Type 0) (n turns : ℕ) → n ≤ turns → turns ≤ n → P n → P turns
 at_end P n turns most least so_far = let all : n ≡ turns = omega arith in subst P all so_far

@@ -1,11 +1,9 @@
 -- Blocks of two halves, cell by cell: what is said of the rows of the halves is said of the block's cells.
-use Rattle.std.proofs.Common.{◌≡◌, ℕ, suc, ◌+◌, ◌*◌, ◌-◌, ◌/◌, ◌%◌, ◌^◌, ◌++◌, ◌<◌, ◌≤◌, List, length, get_or, take, drop, refl, sym, ap, ap₂, ◌∙◌, arith, rules, subst}
+use Rattle.std.proofs.Common.{◌≡◌, ℕ, suc, ◌+◌, ◌*◌, ◌-◌, ◌/◌, ◌%◌, ◌^◌, ◌++◌, ◌<◌, ◌≤◌, List, length, get_or, take, drop, ap, ap₂, ◌∙◌, arith, rules, subst}
 use Rattle.std.proofs.lemmas.List.{places}
 use Rattle.std.proofs.lemmas.Nat.{div-add-mod', div_below, mod_below, one_shl, pow_pos}
 use Rattle.std.proofs.Math.Nat.{add-sub_cancel_left, mul-div_cancel, mul-le-mul_right}
-use borrow.Rule.Slice.PartMut.{put_mid}
-use Rattle.p3_networks.specs.Layers.{IsLayer, MeetHalves}
-use Rattle.p3_matrix.proofs.Rows.Overwritten.{RowsDone, part-more, part_at, part_size}
+use Rattle.p3_matrix.proofs.Rows.Overwritten.{part_size}
 
 -- a place in a list of two parts
 pub in_first : {X : Type 0} (xs ys : List X) (i : ℕ) (d : X) → i < length xs → get_or (xs ++ ys) i d ≡ get_or xs i d
@@ -35,11 +33,6 @@ pub each_cell : (P : ℕ → ℕ → Type 0) (w h : ℕ) → 0 < w → ((t j : �
 each_cell P w h wide each i inside =
     subst (λ (n : ℕ). P (i / w) n) (div-add-mod' i w) (each (i / w) (i % w) (div_below i w h wide inside) (mod_below i w wide))
 
--- y is what cell n of block b becomes, where cell i of the first half, before it x (b * 2 * size + i), meets cell i of the second
-pub record BothHalves {A T : Type 0} (size : ℕ) (near far : ℕ → ℕ → A → A → A) (x : ℕ → A) (value : T → A) (b n : ℕ) (y : T) : Type 0 where
-  pub first : (i : ℕ) → i < size → n ≡ i → value y ≡ near b i (x (b * (2 * size) + i)) (x (b * (2 * size) + (size + i)))
-  pub second : (i : ℕ) → i < size → n ≡ size + i → value y ≡ far b i (x (b * (2 * size) + i)) (x (b * (2 * size) + (size + i)))
-
 -- n blocks of one size
 pub block_size : (len n size : ℕ) → 1 ≤ n → len ≡ n * size → len / n ≡ size
 block_size len n size some e = let f : len ≡ size * n = omega (arith, e) in ap (λ m. m / n) f ∙ mul-div_cancel size some
@@ -61,48 +54,3 @@ pub shifted_room : (b len n size : ℕ) → n < 64 → len ≡ 2 ^ n * size → 
 shifted_room b len n size small full below =
     let count : 1 * 2 ^ n % 18446744073709551616 ≡ 2 ^ n = one_shl n 64 small in
     rw (shifted_size len n size small full) (block_room b (2 ^ n) size len (omega (arith, count, below)) full)
-
-module _ {A T : Type 0} (value : T → A) (d : T) (near far : ℕ → ℕ → A → A → A) (size : ℕ) where
-  -- one more block, from the cells x, which a part holds; the program has the size of a block in a variable of its own
-  pub block-more : (x : ℕ → A) (before now part block : List T) (b whole : ℕ) → whole ≡ 2 * size → b * whole + whole ≤ length now → length block ≡ 2 * size
-      → ((n : ℕ) → n < 2 * size → value (get_or part n d) ≡ x (b * (2 * size) + n))
-      → MeetHalves size (near b) (far b) (λ n. value (get_or part n d)) (λ n. value (get_or block n d))
-      → RowsDone d (2 * size) (BothHalves size near far x value) before b now
-      → RowsDone d (2 * size) (BothHalves size near far x value) before (b + 1) (put_mid (b * whole) (b * whole + whole - b * whole) now block)
-  block-more x before now part block b whole is room len cell met so_far =
-      part-more d (2 * size) (BothHalves size near far x value) before now block b whole is room len
-      (λ n inside. record {
-        first = λ i p e. ap (λ k. value (get_or block k d)) e ∙ met.near_cell i p ∙ ap₂ (near b i) (cell i (omega arith)) (cell (size + i) (omega arith));
-        second = λ i p e. ap (λ k. value (get_or block k d)) e ∙ met.far_cell i p ∙ ap₂ (far b i) (cell i (omega arith)) (cell (size + i) (omega arith));
-      }) so_far
-
-  -- the layer, when so many blocks are done
-  pub blocks-all : (x : ℕ → A) (before after : List T) (n blocks : ℕ) → blocks ≤ n → RowsDone d (2 * size) (BothHalves size near far x value) before n after → IsLayer blocks size near far x (λ i. value (get_or after i d))
-  blocks-all x before after n blocks all so_far b below = record {
-    near_cell = λ i inside. (so_far.done b i (omega (arith, below, all)) (omega (arith, inside))).first i inside refl;
-    far_cell = λ i inside. (so_far.done b (size + i) (omega (arith, below, all)) (omega (arith, inside))).second i inside refl;
-  }
-
-  -- in place: the part is that of the list so far
-  pub blocks-more : (before now block : List T) (b whole : ℕ) → whole ≡ 2 * size → b * whole + whole ≤ length now → length block ≡ 2 * size
-      → MeetHalves size (near b) (far b) (λ n. value (get_or (take (b * whole + whole - b * whole) (drop (b * whole) now)) n d)) (λ n. value (get_or block n d))
-      → RowsDone d (2 * size) (BothHalves size near far (λ n. value (get_or before n d)) value) before b now
-      → RowsDone d (2 * size) (BothHalves size near far (λ n. value (get_or before n d)) value) before (b + 1) (put_mid (b * whole) (b * whole + whole - b * whole) now block)
-  blocks-more before now block b whole is room len met so_far =
-      let m : b * whole + whole - b * whole ≡ whole = omega arith in
-      let start : b * (2 * size) ≡ b * whole = ap (λ n. b * n) (sym is) in
-      block-more (λ n. value (get_or before n d)) before now (take (b * whole + whole - b * whole) (drop (b * whole) now)) block b whole is room len
-      (λ n inside. ap value (part_at now (b * whole) (b * whole + whole - b * whole) n d (omega (arith, m, is)) ∙ so_far.rest (b * whole + n) (omega (arith, start)) ∙ ap (λ a. get_or before (a + n) d) (sym start)))
-      met so_far
-
-  -- from another list: the part is that of the source
-  pub blocks-from : (source before now block : List T) (b whole : ℕ) → whole ≡ 2 * size → b * whole + whole ≤ length now → length block ≡ 2 * size
-      → MeetHalves size (near b) (far b) (λ n. value (get_or (take (b * whole + whole - b * whole) (drop (b * whole) source)) n d)) (λ n. value (get_or block n d))
-      → RowsDone d (2 * size) (BothHalves size near far (λ n. value (get_or source n d)) value) before b now
-      → RowsDone d (2 * size) (BothHalves size near far (λ n. value (get_or source n d)) value) before (b + 1) (put_mid (b * whole) (b * whole + whole - b * whole) now block)
-  blocks-from source before now block b whole is room len met so_far =
-      let m : b * whole + whole - b * whole ≡ whole = omega arith in
-      let start : b * (2 * size) ≡ b * whole = ap (λ n. b * n) (sym is) in
-      block-more (λ n. value (get_or source n d)) before now (take (b * whole + whole - b * whole) (drop (b * whole) source)) block b whole is room len
-      (λ n inside. ap value (part_at source (b * whole) (b * whole + whole - b * whole) n d (omega (arith, m, is)) ∙ ap (λ a. get_or source (a + n) d) (sym start)))
-      met so_far

@@ -2,13 +2,11 @@
 use Rattle.std.proofs.Common.{◌≡◌, ℕ, suc, ◌+◌, ◌*◌, ◌-◌, ◌/◌, ◌%◌, ◌<◌, ◌≤◌, ◌^◌, List, length, get_or, sym, ap, ap₂, ◌∙◌, arith, lit≤}
 use Rattle.std.proofs.Math.Nat.{mul-le-mul, mul-le-mul_right, pow-le-pow_right}
 use Rattle.std.proofs.lemmas.Nat.{one_shl, pow-add, pow_pos, div-add-mod', div_below, mod_below}
-use denote.Ref.{MutBor}
-use denote.Param.Members.{Shared}
-use Rattle.p3_networks.specs.Chunks.{WorkedOn}
+use Rattle.p3_networks.specs.Chunks.{chunk_of}
 use Rattle.p3_networks.specs.Groups.{AreLayersInOrder, TakesCells}
 use Rattle.p3_networks.specs.Layers.{HoldsCells}
 use Rattle.p3_networks.specs.declared.radix_2_small_batch.groups.Order.{Order}
-use Rattle.p3_networks.proofs.Layers.Halves.{block_size}
+use Rattle.p3_networks.proofs.Layers.Halves.{block_room, block_size}
 use Rattle.p3_networks.proofs.Rows.EachChunk.{cells_of_chunks}
 
 -- the sizes of tiles of 2 ^ r of the 2 ^ k rows, as a program has them
@@ -19,17 +17,19 @@ pub record TileSizes (k r w tiles size len : ℕ) : Type 0 where
   pub whole : len ≡ tiles * size
   pub rows : tiles * 2 ^ r ≡ 2 ^ k
 
-pub tile_sizes : (k r w len : ℕ) → k < 64 → r ≤ k → len ≡ 2 ^ k * w
-    → TileSizes k r w (1 * 2 ^ (k - r) % 18446744073709551616) (len / (1 * 2 ^ (k - r) % 18446744073709551616)) len
-tile_sizes k r w len small below full =
-    let tiles = 1 * 2 ^ (k - r) % 18446744073709551616 in
-    let is : tiles ≡ 2 ^ (k - r) = one_shl (k - r) 64 (omega (arith, small)) in
-    let some : 1 ≤ tiles = omega (arith, is, pow_pos (k - r)) in
-    let all : k - r + r ≡ k = omega (arith, below) in
-    let rows : tiles * 2 ^ r ≡ 2 ^ k = ap (λ n. n * 2 ^ r) is ∙ sym (pow-add 2 (k - r) r) ∙ ap (λ n. 2 ^ n) all in
+pub shifted_sizes : (n k r w len : ℕ) → n < 64 → n + r ≡ k → len ≡ 2 ^ k * w → TileSizes k r w (1 * 2 ^ n % 18446744073709551616) (len / (1 * 2 ^ n % 18446744073709551616)) len
+shifted_sizes n k r w len small all full =
+    let tiles = 1 * 2 ^ n % 18446744073709551616 in
+    let is : tiles ≡ 2 ^ n = one_shl n 64 small in
+    let some : 1 ≤ tiles = omega (arith, is, pow_pos n) in
+    let rows : tiles * 2 ^ r ≡ 2 ^ k = ap (λ n. n * 2 ^ r) is ∙ sym (pow-add 2 n r) ∙ ap (λ n. 2 ^ n) all in
     let whole : len ≡ tiles * (2 ^ r * w) = full ∙ ap (λ n. n * w) (sym rows) ∙ omega arith in
     let size = block_size len tiles (2 ^ r * w) some whole in
-    record { tiles_is = is; some = some; size_is = size; whole = whole ∙ ap (λ n. tiles * n) (sym size); rows = rows }
+    record { tiles_is = is ∙ ap (λ n. 2 ^ n) (omega (arith, all)); some = some; size_is = size; whole = whole ∙ ap (λ n. tiles * n) (sym size); rows = rows }
+
+pub tile_sizes : (k r w len : ℕ) → k < 64 → r ≤ k → len ≡ 2 ^ k * w
+    → TileSizes k r w (1 * 2 ^ (k - r) % 18446744073709551616) (len / (1 * 2 ^ (k - r) % 18446744073709551616)) len
+tile_sizes k r w len small below full = shifted_sizes (k - r) k r w len (omega (arith, small)) (omega (arith, below)) full
 
 -- the rows of one tile
 pub tile_rows : (k r w tiles size len tile : ℕ) → TileSizes k r w tiles size len → tile < tiles → (tile + 1) * 2 ^ r ≤ 2 ^ k
@@ -59,37 +59,32 @@ tile_rows_of_chunk k r w tiles size len number tile sizes inside =
     omega (arith, spread, all, next, tile_rows k r w tiles size len tile sizes inside)
 
 -- the sizes of a tile of rows that are spread: `count` rows, each in `copies`
-pub record SpreadSizes (k r a copies count tiles : ℕ) : Type 0 where
+pub record SpreadSizes (r a copies count : ℕ) : Type 0 where
   pub copies_is : copies ≡ 2 ^ a
+  pub count_is : count ≡ 2 ^ (r - a)
   pub some_copies : 1 ≤ copies
   pub some : 1 ≤ count
-  pub tile : count * copies ≡ 2 ^ r
-  pub rows : tiles * count ≡ 2 ^ (k - a)
-  pub all : 2 ^ (k - a) * copies ≡ 2 ^ k
+  pub rows : count * copies ≡ 2 ^ r
 
-pub spread_sizes : (k r a : ℕ) → k < 64 → a ≤ r → r ≤ k → SpreadSizes k r a (1 * 2 ^ a % 18446744073709551616) (1 * 2 ^ (r - a) % 18446744073709551616) (1 * 2 ^ (k - r) % 18446744073709551616)
-spread_sizes k r a small added below =
-    let copies : 1 * 2 ^ a % 18446744073709551616 ≡ 2 ^ a = one_shl a 64 (omega (arith, small, added, below)) in
-    let count : 1 * 2 ^ (r - a) % 18446744073709551616 ≡ 2 ^ (r - a) = one_shl (r - a) 64 (omega (arith, small, below)) in
-    let tiles : 1 * 2 ^ (k - r) % 18446744073709551616 ≡ 2 ^ (k - r) = one_shl (k - r) 64 (omega (arith, small)) in
+pub spread_sizes : (r a : ℕ) → r < 64 → a ≤ r → SpreadSizes r a (1 * 2 ^ a % 18446744073709551616) (1 * 2 ^ (r - a) % 18446744073709551616)
+spread_sizes r a small added =
+    let copies : 1 * 2 ^ a % 18446744073709551616 ≡ 2 ^ a = one_shl a 64 (omega (arith, small, added)) in
+    let count : 1 * 2 ^ (r - a) % 18446744073709551616 ≡ 2 ^ (r - a) = one_shl (r - a) 64 (omega (arith, small)) in
     let part : r - a + a ≡ r = omega (arith, added) in
-    let parts : k - r + (r - a) ≡ k - a = omega (arith, added, below) in
-    let whole : k - a + a ≡ k = omega (arith, added, below) in
     record {
       copies_is = copies;
+      count_is = count;
       some_copies = omega (arith, copies, pow_pos a);
       some = omega (arith, count, pow_pos (r - a));
-      tile = ap₂ (λ m n. m * n) count copies ∙ sym (pow-add 2 (r - a) a) ∙ ap (λ n. 2 ^ n) part;
-      rows = ap₂ (λ m n. m * n) tiles count ∙ sym (pow-add 2 (k - r) (r - a)) ∙ ap (λ n. 2 ^ n) parts;
-      all = ap (λ n. 2 ^ (k - a) * n) copies ∙ sym (pow-add 2 (k - a) a) ∙ ap (λ n. 2 ^ n) whole;
+      rows = ap₂ (λ m n. m * n) count copies ∙ sym (pow-add 2 (r - a) a) ∙ ap (λ n. 2 ^ n) part;
     }
 
 -- the rows of a tile are some of all
-pub spread_room : (k r a copies count tiles tile : ℕ) → SpreadSizes k r a copies count tiles → tile < tiles → tile * count + count ≤ 2 ^ (k - a)
-spread_room k r a copies count tiles tile sizes inside =
-    let more : suc tile * count ≤ tiles * count = mul-le-mul_right count inside in
-    let next : suc tile * count ≡ tile * count + count = omega arith in
-    omega (arith, more, next, sizes.rows)
+pub spread_room : (k r a w tiles size len tile : ℕ) → a ≤ r → r ≤ k → TileSizes k r w tiles size len → tile < tiles → tile * 2 ^ (r - a) + 2 ^ (r - a) ≤ 2 ^ (k - a)
+spread_room k r a w tiles size len tile added below sizes inside =
+    let parts : k - r + (r - a) ≡ k - a = omega (arith, added, below) in
+    let all : tiles * 2 ^ (r - a) ≡ 2 ^ (k - a) = ap (λ n. n * 2 ^ (r - a)) sizes.tiles_is ∙ sym (pow-add 2 (k - r) (r - a)) ∙ ap (λ n. 2 ^ n) parts in
+    block_room tile tiles (2 ^ (r - a)) (2 ^ (k - a)) inside (sym all)
 
 -- and a tile holds its cells where each cell of the whole, by row, copy and column, is the one that was made
 pub spread_held : {A T : Type 0} (value : T → A) (d : T) (cells : ℕ → A) (made : ℕ → ℕ → ℕ → A) (tile count copies all w : ℕ) (out : List T) → 0 < w → length out ≡ count * (copies * w)
@@ -112,13 +107,11 @@ spread_held value d cells made tile count copies all w out wide size room some a
     ap (λ n. value (get_or out n d)) (sym place) ∙ holds q t j below copy column ∙ sym (are (tile * count + q) t j (omega (arith, below, room)) copy column)
     ∙ ap cells (spread ∙ ap₂ (λ m n. tile * m + n) (sym size) place)
 
--- where the work on each tile takes the cells that it holds by some layers, so does that on all tiles
-module _ {W T A : Type 0} (g : Shared W (ℕ × (MutBor (List T) × (MutBor ℕ × Unit {0}))) (Unit {0} × (MutBor (List T) × (MutBor ℕ × Unit {0})))) (work : W) (value_before value : T → A) (d : T) where
-  pub tiles_taken : (k r w tiles size : ℕ) (order : Order) (near far : ℕ → A → A → A) (from to : ℕ) (cells : ℕ → ℕ → A) (before after : List T) → TileSizes k r w tiles size (length before) → 1 ≤ w
-      → length after ≡ length before → ((n : ℕ) → n < tiles → WorkedOn g work size n before after)
-      → ((n : ℕ) (chunk left : MutBor (List T)) (made total : MutBor ℕ) → n < tiles → g.post work (n, (chunk, (made, tt))) (tt, (left, (total, tt)))
-      → TakesCells value_before value d order w r n near far from to chunk.now left.now)
-      → AreLayersInOrder order k w near far cells → HoldsCells value_before d 0 (cells from) before → HoldsCells value d 0 (cells to) after
-  tiles_taken k r w tiles size order near far from to cells before after sizes wide len done each layers =
-      cells_of_chunks g work size value_before value d (cells from) (cells to) 0 tiles (λ n s. n * s) before after (tile_some _ _ _ _ _ _ sizes wide) sizes.whole len (λ n. omega arith) done
-      (λ n chunk left made total below is as_long worked held. (each n chunk left made total below worked).taken k cells layers (tile_rows _ _ _ _ _ _ n sizes below) held)
+-- where each tile takes the cells that it holds by some layers, so do all tiles
+pub tiles_taken : {T A : Type 0} (value_before value : T → A) (d : T) (k r w tiles size : ℕ) (order : Order) (near far : ℕ → A → A → A) (from to : ℕ) (cells : ℕ → ℕ → A) (before after : List T)
+    → TileSizes k r w tiles size (length before) → 1 ≤ w → length after ≡ length before
+    → ((n : ℕ) → n < tiles → TakesCells value_before value d order w r n near far from to (chunk_of size n before) (chunk_of size n after))
+    → AreLayersInOrder order k w near far cells → HoldsCells value_before d 0 (cells from) before → HoldsCells value d 0 (cells to) after
+tiles_taken value_before value d k r w tiles size order near far from to cells before after sizes wide len each layers =
+    cells_of_chunks d size value_before value (cells from) (cells to) 0 tiles (λ n s. n * s) before after (tile_some _ _ _ _ _ _ sizes wide) sizes.whole len (λ n. omega arith)
+    (λ n below held. (each n below).taken k cells layers (tile_rows _ _ _ _ _ _ n sizes below) held)

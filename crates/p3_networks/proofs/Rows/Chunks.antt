@@ -1,7 +1,7 @@
 -- Chunks of rows of a flat list that are done one after another, each from its own rows alone.
 use Rattle.std.proofs.Common.{◌≡◌, ℕ, ◌+◌, ◌*◌, ◌-◌, ◌/◌, ◌%◌, ◌^◌, ◌<◌, ◌≤◌, List, length, get_or, take, drop, refl, sym, ap, ◌∙◌, arith}
 use borrow.Rule.Slice.PartMut.{put_mid}
-use Rattle.std.proofs.lemmas.Nat.{one_shl, pow-add}
+use Rattle.std.proofs.lemmas.Nat.{pow-add}
 use Rattle.p3_field.specs.Ring.{Ring}
 use Rattle.p3_matrix.specs.Polynomials.{poly}
 use Rattle.p3_networks.proofs.Layers.Blocks.{row_below}
@@ -9,29 +9,7 @@ use Rattle.p3_networks.proofs.Layers.Halves.{block_room, shifted_room, shifted_s
 use Rattle.p3_matrix.proofs.Polynomials.ByIndex.{poly_same}
 use Rattle.p3_matrix.proofs.Rows.Overwritten.{RowsDone, part_at, part-more}
 
--- 2 ^ log rows in chunks of 2 ^ part: so many cells has a chunk, and all chunks fit
-pub chunk_size : (log part w : ℕ) → part ≤ log → (2 ^ log * w) ≡ 2 ^ (log - part) * (2 ^ part * w)
-chunk_size log part w within =
-    let split : log - part + part ≡ log = omega arith in
-    let e : 2 ^ log ≡ 2 ^ (log - part) * 2 ^ part = sym (ap (λ n. 2 ^ n) split) ∙ pow-add 2 (log - part) part in
-    ap (λ n. n * w) e ∙ omega arith
-
--- chunks, as a program has their number by a shift: so many cells has each, and each lies within all of them
-module _ (len log part w : ℕ) (small : log < 64) (within : part ≤ log) (full : len ≡ 2 ^ log * w) where
-  pub chunks_are : 1 * 2 ^ (log - part) % 18446744073709551616 ≡ 2 ^ (log - part)
-  chunks_are = one_shl (log - part) 64 (omega arith)
-
-  chunks_whole : len ≡ 2 ^ (log - part) * (2 ^ part * w)
-  chunks_whole = full ∙ chunk_size log part w within
-
-  pub chunk_cells : len / (1 * 2 ^ (log - part) % 18446744073709551616) ≡ 2 ^ part * w
-  chunk_cells = shifted_size len (log - part) (2 ^ part * w) (omega arith) chunks_whole
-
-  pub chunk_room : (chunk : ℕ) → chunk < 1 * 2 ^ (log - part) % 18446744073709551616
-      → chunk * (len / (1 * 2 ^ (log - part) % 18446744073709551616)) + len / (1 * 2 ^ (log - part) % 18446744073709551616) ≤ len
-  chunk_room chunk below = shifted_room chunk len (log - part) (2 ^ part * w) (omega arith) chunks_whole below
-
--- the same of 2 ^ mid chunks of 2 ^ left rows
+-- 2 ^ mid chunks of 2 ^ left rows, as a program has their number by a shift: so many cells has each, and each lies within all of them
 module _ (len mid left w : ℕ) (small : mid + left < 64) (full : len ≡ 2 ^ (mid + left) * w) where
   high_chunks_whole : len ≡ 2 ^ mid * (2 ^ left * w)
   high_chunks_whole = full ∙ ap (λ n. n * w) (pow-add 2 mid left) ∙ omega arith
@@ -74,19 +52,6 @@ module _ {A T : Type 0} (R : Ring A) (value : T → A) (d : T) (m w : ℕ) (plac
       let start : a * (m * w) ≡ a * whole = ap (λ n. a * n) (sym is) in
       chunk-more (λ n. value (get_or before n d)) before now (take (a * whole + whole - a * whole) (drop (a * whole) now)) part a whole within is room len
       (λ n inside. ap value (part_at now (a * whole) (a * whole + whole - a * whole) n d (omega (arith, e, is)) ∙ so_far.rest (a * whole + n) (omega (arith, start)) ∙ ap (λ b. get_or before (b + n) d) (sym start)))
-      are so_far
-
-  -- from another list: from the part of the source
-  pub chunks-from : (source before now part : List T) (a whole : ℕ) → ((q : ℕ) → q < m → place q < m) → whole ≡ m * w → a * whole + whole ≤ length now → length part ≡ m * w
-      → ((t j : ℕ) → t < m → j < w → value (get_or part (t * w + j) d)
-      ≡ poly R m (λ q. change (value (get_or (take (a * whole + whole - a * whole) (drop (a * whole) source)) (place q * w + j) d))) (point a t))
-      → RowsDone d (m * w) (ChunkDone (λ n. value (get_or source n d))) before a now
-      → RowsDone d (m * w) (ChunkDone (λ n. value (get_or source n d))) before (a + 1) (put_mid (a * whole) (a * whole + whole - a * whole) now part)
-  chunks-from source before now part a whole within is room len are so_far =
-      let e : a * whole + whole - a * whole ≡ whole = omega arith in
-      let start : a * (m * w) ≡ a * whole = ap (λ n. a * n) (sym is) in
-      chunk-more (λ n. value (get_or source n d)) before now (take (a * whole + whole - a * whole) (drop (a * whole) source)) part a whole within is room len
-      (λ n inside. ap value (part_at source (a * whole) (a * whole + whole - a * whole) n d (omega (arith, e, is)) ∙ ap (λ b. get_or source (b + n) d) (sym start)))
       are so_far
 
   -- all chunks done, from the cells of a list

@@ -1,99 +1,112 @@
 -- Work that is done on the chunks of a list, one after another.
-use Rattle.std.proofs.Common.{◌≡◌, ℕ, ◌+◌, ◌*◌, ◌/◌, ◌%◌, ◌<◌, ◌≤◌, List, length, get_or, take, drop, refl, sym, ap, ◌∙◌, subst, arith, ⊎_elim}
+use Rattle.std.proofs.Common.{◌≡◌, ℕ, ◌+◌, ◌*◌, ◌-◌, ◌/◌, ◌%◌, ◌<◌, ◌≤◌, List, length, get_or, take, drop, refl, sym, ap, ap₂, ◌∙◌, subst, arith, ⊎_elim}
 use Rattle.std.proofs.lemmas.Bool.{cases_lt}
-use Rattle.std.proofs.lemmas.Nat.{div-add-mod', div_below, mod_below, mul-add-lt}
-use borrow.Rule.Slice.PartMut.{put_mid}
-use denote.Ref.{MutBor}
-use denote.Param.Members.{Shared}
-use Rattle.p3_matrix.proofs.Rows.Overwritten.{part_at, put_after, put_before, put_in, put_length}
-use Rattle.p3_networks.specs.Chunks.{CostsAtMost, WorkedOn}
-use Rattle.p3_networks.specs.Layers.{HoldsCells}
+use Rattle.std.proofs.lemmas.List.{drop-drop, ext_get_or}
+use Rattle.std.proofs.lemmas.Nat.{div-add-mod', div_below, mod_below}
+use Rattle.std.proofs.Math.Nat.{add-sub_cancel_left}
+use borrow.Rule.Slice.PartMut.{drop_put, put_mid}
+use Rattle.p3_field.specs.Ring.{Ring}
+use Rattle.p3_matrix.specs.Polynomials.{poly}
+use Rattle.p3_matrix.proofs.Polynomials.ByIndex.{poly_same}
+use Rattle.p3_matrix.proofs.Rows.Overwritten.{part_at, part_size, put_before, put_in, put_length}
+use Rattle.p3_networks.specs.Chunks.{chunk_of}
+use Rattle.p3_networks.specs.Layers.{HoldsCells, MeetHalves}
+use Rattle.p3_networks.proofs.Layers.Blocks.{row_below}
+use Rattle.p3_networks.proofs.Layers.Halves.{block_room}
 
-module _ {W T : Type 0} (g : Shared W (ℕ × (MutBor (List T) × (MutBor ℕ × Unit {0}))) (Unit {0} × (MutBor (List T) × (MutBor ℕ × Unit {0})))) (work : W) (size : ℕ) where
-  -- the first n chunks are done, and the rest stays
-  pub record ChunksDone (before : List T) (n : ℕ) (after : List T) : Type 0 where
-    pub len : length after ≡ length before
-    pub done : (p : ℕ) → p < n → WorkedOn g work size p before after
-    pub rest : (i : ℕ) (d : T) → n * size ≤ i → get_or after i d ≡ get_or before i d
+module _ {T : Type 0} (d : T) (size : ℕ) where
+  pub chunk_at : (n i : ℕ) (xs : List T) → i < size → get_or (chunk_of size n xs) i d ≡ get_or xs (n * size + i) d
+  chunk_at n i xs inside = part_at xs (n * size) size i d inside
 
-  pub chunks_none : (before : List T) → ChunksDone before 0 before
-  chunks_none before = record { len = refl; done = λ p none. absurd (omega arith); rest = λ i d inside. refl }
+  -- the chunk of a list whose entries there are those of a part
+  chunk_is : (n : ℕ) (xs part : List T) → n * size + size ≤ length xs → length part ≡ size → ((i : ℕ) → i < size → get_or xs (n * size + i) d ≡ get_or part i d) → chunk_of size n xs ≡ part
+  chunk_is n xs part room len same =
+      let long = part_size xs (n * size) size room in
+      ext_get_or d _ _ (long ∙ sym len) (λ i inside. let below : i < size = omega (arith, inside, long) in chunk_at n i xs below ∙ same i below)
 
-  -- a chunk that is done stays, where another list has the same entries in it
-  pub still_done : (p : ℕ) (before now after : List T) → ((i : ℕ) (d : T) → i < size → get_or after (p * size + i) d ≡ get_or now (p * size + i) d)
-      → WorkedOn g work size p before now → WorkedOn g work size p before after
-  still_done p before now after stays one = record {
-    chunk = one.chunk;
-    left = one.left;
-    made = one.made;
-    total = one.total;
-    work_done = one.work_done;
-    chunk_size = one.chunk_size;
-    left_size = one.left_size;
-    chunk_is = one.chunk_is;
-    left_is = λ i d inside. stays i d inside ∙ one.left_is i d inside;
-  }
+  module _ (Takes : ℕ → List T → List T → Type 0) where
+    -- the first n chunks are done, and the rest stays
+    pub record ChunksDone (before : List T) (n : ℕ) (after : List T) : Type 0 where
+      pub len : length after ≡ length before
+      pub done : (p : ℕ) → p < n → Takes p (chunk_of size p before) (chunk_of size p after)
+      pub rest : drop (n * size) after ≡ drop (n * size) before
 
-  -- one chunk more
-  pub chunks_next : (before now : List T) (chunk left : MutBor (List T)) (made total : MutBor ℕ) (n m : ℕ) → g.post work (n, (chunk, (made, tt))) (tt, (left, (total, tt)))
-      → m ≡ size → n * size + size ≤ length now → chunk.now ≡ take m (drop (n * size) now) → length chunk.now ≡ size → length left.now ≡ size
-      → ChunksDone before n now → ChunksDone before (n + 1) (put_mid (n * size) m now left.now)
-  chunks_next before now chunk left made total n m work_done is room chunk_is chunk_size left_size so_far =
-      let after = put_mid (n * size) m now left.now in
-      record {
-        len = put_length now left.now (n * size) m (omega (arith, room, is)) (left_size ∙ sym is) ∙ so_far.len;
-        done = λ p below.
-            ⊎_elim
-            (λ less. still_done p before now after
-            (λ i d inside. put_before now left.now (n * size) m (p * size + i) d (omega (arith, room)) (let earlier = mul-add-lt p size i n less inside in omega (arith, earlier)))
-            (so_far.done p less))
-            (λ not_less. let same : n ≡ p = omega (arith, below, not_less) in
-            subst (λ (q : ℕ). WorkedOn g work size q before after) same
-            (record {
-              chunk = chunk;
-              left = left;
-              made = made;
-              total = total;
-              work_done = work_done;
-              chunk_size = chunk_size;
-              left_size = left_size;
-              chunk_is = λ i d inside. ap (λ xs. get_or xs i d) chunk_is ∙ part_at now (n * size) m i d (omega (arith, inside, is)) ∙ so_far.rest (n * size + i) d (omega arith);
-              left_is = λ i d inside. put_in now left.now (n * size) m i d (omega (arith, room)) (omega (arith, inside, left_size));
-            }))
-            (cases_lt p n);
-        rest = λ i d behind.
-            put_after now left.now (n * size) m i d (omega (arith, room)) (left_size ∙ sym is) (let next : (n + 1) * size ≡ n * size + size = omega arith in omega (arith, behind, next, is))
-            ∙ so_far.rest i d (let next : (n + 1) * size ≡ n * size + size = omega arith in omega (arith, behind, next));
-      }
+    pub chunks_none : (before : List T) → ChunksDone before 0 before
+    chunks_none before = record { len = refl; done = λ p none. absurd (omega arith); rest = refl }
 
-  -- what each chunk costs, and all so far
-  pub costs_next : (count scale : ℕ) (each : ℕ → ℕ) (before : ℕ) (chunk left : MutBor (List T)) (made total : MutBor ℕ) (n : ℕ) → g.post work (n, (chunk, (made, tt))) (tt, (left, (total, tt)))
-      → n < count → length chunk.now ≡ size → CostsAtMost g work size count scale each
-      → (before ≤ made.now) × (scale * made.now ≤ scale * before + n * each size) → (before ≤ total.now) × (scale * total.now ≤ scale * before + (n + 1) * each size)
-  costs_next count scale each before chunk left made total n work_done below is costs so_far =
-      let one = costs n chunk left made total below is work_done in
-      let next : (n + 1) * each size ≡ n * each size + each size = omega arith in
-      let same : each (length chunk.now) ≡ each size = ap each is in
-      (omega (arith, one.0, so_far.0), omega (arith, one.1, so_far.1, next, same))
+    -- one chunk more
+    pub chunks_next : (before now part : List T) (n : ℕ) → n * size + size ≤ length now → length part ≡ size → Takes n (take (n * size + size - n * size) (drop (n * size) now)) part
+        → ChunksDone before n now → ChunksDone before (n + 1) (put_mid (n * size) (n * size + size - n * size) now part)
+    chunks_next before now part n room len takes so_far =
+        let m = add-sub_cancel_left (n * size) size in
+        let after = put_mid (n * size) (n * size + size - n * size) now part in
+        let begin : n * size ≤ length now = omega (arith, room) in
+        let long : length after ≡ length now = put_length now part (n * size) _ (omega (arith, room, m)) (len ∙ sym m) in
+        let next : (n + 1) * size ≡ n * size + size = omega arith in
+        let was : take (n * size + size - n * size) (drop (n * size) now) ≡ chunk_of size n before = ap (λ k. take k (drop (n * size) now)) m ∙ ap (take size) so_far.rest in
+        let is : chunk_of size n after ≡ part = chunk_is n after part (omega (arith, room, long)) len (λ i inside. put_in now part (n * size) _ i d begin (omega (arith, inside, len))) in
+        record {
+          len = long ∙ so_far.len;
+          done = λ p below.
+              ⊎_elim
+              (λ less.
+              let ends : p * size + size ≤ n * size = block_room p n size (n * size) less refl in
+              let room_p : p * size + size ≤ length now = omega (arith, ends, begin) in
+              let stays : chunk_of size p after ≡ chunk_of size p now = chunk_is p after (chunk_of size p now) (omega (arith, room_p, long)) (part_size now (p * size) size room_p)
+              (λ i inside. put_before now part (n * size) _ (p * size + i) d begin (omega (arith, inside, ends)) ∙ sym (chunk_at p i now inside)) in
+              subst (Takes p (chunk_of size p before)) (sym stays) (so_far.done p less))
+              (λ not_less. let same : n ≡ p = omega (arith, below, not_less) in
+              subst (λ (q : ℕ). Takes q (chunk_of size q before) (chunk_of size q after)) same
+              (subst (λ (xs : List T). Takes n xs (chunk_of size n after)) was (subst (Takes n (take (n * size + size - n * size) (drop (n * size) now))) (sym is) takes)))
+              (cases_lt p n);
+          rest = ap (λ k. drop k after) next ∙ drop_put (n * size) (n * size + size) now part (omega arith) room (len ∙ sym m)
+              ∙ sym (drop-drop size (n * size) now) ∙ ap (drop size) so_far.rest ∙ drop-drop size (n * size) before ∙ ap (λ k. drop k before) (sym next);
+        }
 
-  -- Where the work takes the cells that a chunk holds from those that were to those that are to be, so does the whole. The first cell of
-  -- all is number `first`, and that of chunk n is `start n size`.
-  pub cells_of_chunks : {A : Type 0} (value_before value : T → A) (d : T) (from to : ℕ → A) (first count : ℕ) (start : ℕ → ℕ → ℕ) (before after : List T)
+  -- Where each chunk holds cells afterwards, if it held others before, so does the whole. The first cell of all is number `first`, and that of
+  -- chunk n is `start n`, by its length.
+  pub cells_of_chunks : {A : Type 0} (value_before value : T → A) (from to : ℕ → A) (first count : ℕ) (start : ℕ → ℕ → ℕ) (before after : List T)
       → 0 < size → length before ≡ count * size → length after ≡ length before → ((n : ℕ) → start n size ≡ first + n * size)
-      → ((n : ℕ) → n < count → WorkedOn g work size n before after)
-      → ((n : ℕ) (chunk left : MutBor (List T)) (made total : MutBor ℕ) → n < count → length chunk.now ≡ size → length left.now ≡ size → g.post work (n, (chunk, (made, tt))) (tt, (left, (total, tt)))
-      → HoldsCells value_before d (start n (length chunk.now)) from chunk.now → HoldsCells value d (start n (length chunk.now)) to left.now)
+      → ((n : ℕ) → n < count → HoldsCells value_before d (start n (length (chunk_of size n before))) from (chunk_of size n before)
+      → HoldsCells value d (start n (length (chunk_of size n before))) to (chunk_of size n after))
       → HoldsCells value_before d first from before → HoldsCells value d first to after
-  cells_of_chunks value_before value d from to first count start before after some whole len start_is done each holds i inside =
+  cells_of_chunks value_before value from to first count start before after some whole len start_is each holds i inside =
       let n = i / size in
       let j = i % size in
       let place : n * size + j ≡ i = div-add-mod' i size in
       let below : n < count = div_below i size count some (omega (arith, inside, len, whole)) in
       let here : j < size = mod_below i size some in
-      let one = done n below in
-      let begins : start n (length one.chunk.now) ≡ first + n * size = ap (start n) one.chunk_size ∙ start_is n in
-      let cell : (u : ℕ) → start n (length one.chunk.now) + u ≡ first + (n * size + u) = λ u. omega (arith, begins) in
-      let held = each n one.chunk one.left one.made one.total below one.chunk_size one.left_size one.work_done
-      (λ u within. ap value_before (one.chunk_is u d (omega (arith, within, one.chunk_size)))
-      ∙ holds (n * size + u) (let room = mul-add-lt n size u count below (omega (arith, within, one.chunk_size)) in omega (arith, room, whole)) ∙ ap from (sym (cell u))) in
-      ap (λ u. value (get_or after u d)) (sym place) ∙ ap value (one.left_is j d here) ∙ held j (omega (arith, here, one.left_size)) ∙ ap to (cell j ∙ ap (λ u. first + u) place)
+      let room = block_room n count size (length before) below whole in
+      let long : length (chunk_of size n before) ≡ size = part_size before (n * size) size room in
+      let long_after : length (chunk_of size n after) ≡ size = part_size after (n * size) size (omega (arith, room, len)) in
+      let cell : (u : ℕ) → start n (length (chunk_of size n before)) + u ≡ first + (n * size + u) = λ u. ap (λ k. k + u) (ap (start n) long ∙ start_is n) ∙ omega arith in
+      let held = each n below
+      (λ u within. let near : u < size = omega (arith, within, long) in
+      ap value_before (chunk_at n u before near) ∙ holds (n * size + u) (omega (arith, near, room)) ∙ ap from (sym (cell u))) in
+      ap (λ u. value (get_or after u d)) (sym place) ∙ ap value (sym (chunk_at n j after here)) ∙ held j (omega (arith, here, long_after)) ∙ ap to (cell j ∙ ap (λ u. first + u) place)
+
+  -- entry j of row t of a chunk of m rows of w entries, and of the whole
+  pub row_at : (m w a t j : ℕ) (xs : List T) → size ≡ m * w → t < m → j < w → get_or (chunk_of size a xs) (t * w + j) d ≡ get_or xs ((a * m + t) * w + j) d
+  row_at m w a t j xs is inside column =
+      let flat : a * (m * w) + (t * w + j) ≡ (a * m + t) * w + j = omega arith in
+      chunk_at a (t * w + j) xs (omega (arith, row_below t j w m inside column, is)) ∙ ap (λ n. get_or xs n d) (ap (λ s. a * s + (t * w + j)) is ∙ flat)
+
+  -- Where row t of a chunk has a value of the columns of another list's chunk, whose coefficient q lies in row place q, so has it in the whole.
+  -- The size of that chunk may have another name.
+  pub row_taken : {A : Type 0} (R : Ring A) (value_before value : T → A) (m w : ℕ) (place : ℕ → ℕ) (long a t j : ℕ) (x : A) (before after : List T) → size ≡ m * w → long ≡ size → ((q : ℕ) → q < m → place q < m) → t < m → j < w
+      → value (get_or (chunk_of size a after) (t * w + j) d) ≡ poly R m (λ q. value_before (get_or (chunk_of long a before) (place q * w + j) d)) x
+      → value (get_or after ((a * m + t) * w + j) d) ≡ poly R m (λ q. value_before (get_or before ((a * m + place q) * w + j) d)) x
+  row_taken R value_before value m w place long a t j x before after is as_long within inside column held =
+      ap value (sym (row_at m w a t j after is inside column)) ∙ held
+      ∙ poly_same R m _ _ x (λ q below. ap value_before (ap (λ s. get_or (chunk_of s a before) (place q * w + j) d) as_long ∙ row_at m w a (place q) j before is (within q below) column))
+
+  -- where the halves of a chunk are made of those of another list's chunk, so are they in the whole
+  pub halves_taken : {A : Type 0} (value : T → A) (near far : ℕ → A → A → A) (half long b : ℕ) (before after : List T) → long ≡ size → size ≡ 2 * half
+      → MeetHalves half near far (λ i. value (get_or (chunk_of long b before) i d)) (λ i. value (get_or (chunk_of size b after) i d))
+      → MeetHalves half near far (λ i. value (get_or before (b * size + i) d)) (λ i. value (get_or after (b * size + i) d))
+  halves_taken value near far half long b before after as_long is met =
+      let was : (k : ℕ) → k < size → value (get_or (chunk_of long b before) k d) ≡ value (get_or before (b * size + k) d) = λ k below. ap value (ap (λ s. get_or (chunk_of s b before) k d) as_long ∙ chunk_at b k before below) in
+      record {
+        near_cell = λ i inside. ap value (sym (chunk_at b i after (omega (arith, inside, is)))) ∙ met.near_cell i inside ∙ ap₂ (near i) (was i (omega (arith, inside, is))) (was (half + i) (omega (arith, inside, is)));
+        far_cell = λ i inside. ap value (sym (chunk_at b (half + i) after (omega (arith, inside, is)))) ∙ met.far_cell i inside ∙ ap₂ (far i) (was i (omega (arith, inside, is))) (was (half + i) (omega (arith, inside, is)));
+      }

@@ -7,12 +7,14 @@ ghost use Rattle.p3_matrix.specs.BitOrder.{rev};
 ghost use Rattle.p3_matrix.specs.Butterflies.{dit_near, dit_far};
 ghost use Rattle.p3_matrix.specs.Cosets.{point};
 ghost use Rattle.p3_matrix.specs.Polynomials.{poly};
+ghost use Rattle.p3_networks.specs.Chunks.{chunk_of};
 ghost use Rattle.p3_networks.specs.Layers.{AreValuesOfRows, IsLayer};
 ghost use Rattle.p3_networks.specs.Twiddles.{AreBlockTwiddles, AreTwiddlesOfLayers, coset_twiddles, block_end};
 ghost use Rattle.p3_networks.specs.Twiddles.{block_entries, factor, scale_cost};
 
 use crate::butterfly_layers::rules::{ByBlock, Dit, DitByPlace, ScaledDit};
 use crate::butterfly_layers::{layer, layer_oop};
+use crate::chunks::{ChunkWork, chunk, on_each_chunk};
 use crate::twiddles::layer_twiddles;
 use p3_field::{Field, Products, TwoAdicField};
 use p3_matrix::{DitButterfly, TwiddleFreeButterfly};
@@ -67,45 +69,47 @@ pub fn first_half<F: TwoAdicField>(
     ensures grows { products.old ≤ products.new }
     ensures cost { products.new ≤ products.old + 2 ^ (log_h - mid) * (width * (mid * 2 ^ mid / 2)) }
 {
+    let chunks = 1usize << (log_h - mid);
+    let size = values.len() / chunks;
     // One column is made apart: where the width is known, no loop along a row is left.
     if width == 1 {
-        low_chunks(twiddles, values, 1, log_h, mid, products);
+        let layers = LowLayers {
+            twiddles,
+            width: 1,
+            mid,
+        };
+        on_each_chunk(layers, values, size, chunks, products);
     } else {
-        low_chunks(twiddles, values, width, log_h, mid, products);
+        let layers = LowLayers {
+            twiddles,
+            width,
+            mid,
+        };
+        on_each_chunk(layers, values, size, chunks, products);
     }
 }
 
-// The chunks of the first half, one after another. Inlined, so that a width that the caller names is known
-// in all layers.
-#[inline(always)]
-fn low_chunks<F: TwoAdicField>(
-    twiddles: &[F],
-    values: &mut [F],
+// The layers of the first half.
+#[derive(Clone, Copy)]
+struct LowLayers<'a, F> {
+    twiddles: &'a [F],
     width: usize,
-    log_h: usize,
     mid: usize,
-    products: &mut Products,
-)
-    requires wide { 1 ≤ width }
-    requires small { log_h < 64 }
-    requires parts { mid ≤ log_h }
-    requires size { length values.old ≡ 2 ^ log_h * width }
-    requires table { 2 ^ mid - 1 ≤ length twiddles.now }
-    ensures values { (g : ℕ → F.Element) (s : F.Element) → AreRoots F.ring mid g
-        → AreTwiddlesOfLayers F.Field.own mid (coset_twiddles F.Field.own g s mid) twiddles.now
-        → (a t j : ℕ) → a < 2 ^ (log_h - mid) → t < 2 ^ mid → j < width
-        → F.value (get_or values.new ((a * 2 ^ mid + t) * width + j) F.ZERO)
-        ≡ poly F.ring (2 ^ mid) (λ q. F.value (get_or values.old ((a * 2 ^ mid + rev mid q) * width + j) F.ZERO))
-        (point F.ring g mid s t) }
-    ensures grows { products.old ≤ products.new }
-    ensures cost { products.new ≤ products.old + 2 ^ (log_h - mid) * (width * (mid * 2 ^ mid / 2)) }
-{
-    let chunks = 1usize << (log_h - mid);
-    let size = values.len() / chunks;
-    for chunk in 0..chunks {
-        let start = chunk * size;
-        let rows = &mut values[start..start + size];
-        low_network(twiddles, rows, width, mid, products);
+}
+
+impl<F: TwoAdicField> ChunkWork<F> for LowLayers<'_, F> {
+    ghost accepts = { λ it n size. (1 ≤ it.width) × ((it.mid < 64) × ((size ≡ 2 ^ it.mid * it.width)
+        × (2 ^ it.mid - 1 ≤ length it.twiddles.now))) };
+
+    ghost takes = { λ it n before after. (g : ℕ → F.Element) (s : F.Element) → AreRoots F.ring it.mid g
+        → AreTwiddlesOfLayers F.Field.own it.mid (coset_twiddles F.Field.own g s it.mid) it.twiddles.now
+        → AreValuesOfRows F.Field.own it.width (2 ^ it.mid) (rev it.mid) (point F.ring g it.mid s) before after };
+
+    ghost cost = { λ it size. 2 * (it.width * (it.mid * 2 ^ it.mid / 2)) };
+
+    #[inline(always)]
+    fn on_chunk(self, _number: usize, chunk: &mut [F], products: &mut Products) {
+        low_network(self.twiddles, chunk, self.width, self.mid, products);
     }
 }
 
@@ -134,49 +138,56 @@ pub fn first_half_oop<F: TwoAdicField>(
     ensures grows { products.old ≤ products.new }
     ensures cost { products.new ≤ products.old + 2 ^ (log_h - mid) * (width * (mid * 2 ^ mid / 2)) }
 {
+    let chunks = 1usize << (log_h - mid);
+    let size = values.len() / chunks;
     if width == 1 {
-        low_chunks_oop(twiddles, source, values, 1, log_h, mid, products);
+        let layers = LowLayersOop {
+            twiddles,
+            source,
+            width: 1,
+            mid,
+        };
+        on_each_chunk(layers, values, size, chunks, products);
     } else {
-        low_chunks_oop(twiddles, source, values, width, log_h, mid, products);
+        let layers = LowLayersOop {
+            twiddles,
+            source,
+            width,
+            mid,
+        };
+        on_each_chunk(layers, values, size, chunks, products);
     }
 }
 
-// The chunks of the first half from rows in another slice. Inlined as the chunks in place are.
-#[inline(always)]
-fn low_chunks_oop<F: TwoAdicField>(
-    twiddles: &[F],
-    source: &[F],
-    values: &mut [F],
+// The layers of the first half, from the same chunk of another slice.
+#[derive(Clone, Copy)]
+struct LowLayersOop<'a, F> {
+    twiddles: &'a [F],
+    source: &'a [F],
     width: usize,
-    log_h: usize,
     mid: usize,
-    products: &mut Products,
-)
-    requires wide { 1 ≤ width }
-    requires small { log_h < 64 }
-    requires parts { mid ≤ log_h }
-    requires source { length source.now ≡ 2 ^ log_h * width }
-    requires size { length values.old ≡ 2 ^ log_h * width }
-    requires table { 2 ^ mid - 1 ≤ length twiddles.now }
-    ensures values { (g : ℕ → F.Element) (s : F.Element) → AreRoots F.ring mid g
-        → AreTwiddlesOfLayers F.Field.own mid (coset_twiddles F.Field.own g s mid) twiddles.now
-        → (a t j : ℕ) → a < 2 ^ (log_h - mid) → t < 2 ^ mid → j < width
-        → F.value (get_or values.new ((a * 2 ^ mid + t) * width + j) F.ZERO)
-        ≡ poly F.ring (2 ^ mid) (λ q. F.value (get_or source.now ((a * 2 ^ mid + rev mid q) * width + j) F.ZERO))
-        (point F.ring g mid s t) }
-    ensures grows { products.old ≤ products.new }
-    ensures cost { products.new ≤ products.old + 2 ^ (log_h - mid) * (width * (mid * 2 ^ mid / 2)) }
-{
-    let chunks = 1usize << (log_h - mid);
-    let size = values.len() / chunks;
-    for chunk in 0..chunks {
-        let start = chunk * size;
+}
+
+impl<F: TwoAdicField> ChunkWork<F> for LowLayersOop<'_, F> {
+    ghost accepts = { λ it n size. (1 ≤ it.width) × ((it.mid < 64) × ((size ≡ 2 ^ it.mid * it.width)
+        × ((2 ^ it.mid - 1 ≤ length it.twiddles.now) × (n * size + size ≤ length it.source.now)))) };
+
+    ghost takes = { λ it n before after. (g : ℕ → F.Element) (s : F.Element) → AreRoots F.ring it.mid g
+        → AreTwiddlesOfLayers F.Field.own it.mid (coset_twiddles F.Field.own g s it.mid) it.twiddles.now
+        → AreValuesOfRows F.Field.own it.width (2 ^ it.mid) (rev it.mid) (point F.ring g it.mid s)
+        (chunk_of (length before) n it.source.now) after };
+
+    ghost cost = { λ it size. 2 * (it.width * (it.mid * 2 ^ it.mid / 2)) };
+
+    #[inline(always)]
+    fn on_chunk(self, number: usize, values: &mut [F], products: &mut Products) {
+        let source = chunk(self.source, values.len(), number);
         low_network_oop(
-            twiddles,
-            &source[start..start + size],
-            &mut values[start..start + size],
-            width,
-            mid,
+            self.twiddles,
+            source,
+            values,
+            self.width,
+            self.mid,
             products,
         );
     }
@@ -212,47 +223,59 @@ pub fn second_half<F: TwoAdicField>(
     ensures cost { products.new ≤ products.old
         + 2 ^ mid * (width * (left * 2 ^ left / 2) + scale_cost scale * (2 ^ left * width)) }
 {
+    let chunks = 1usize << mid;
+    let size = values.len() / chunks;
     if width == 1 {
-        high_chunks(table, scale, values, 1, mid, left, products);
+        let layers = HighLayers {
+            table,
+            scale,
+            width: 1,
+            mid,
+            left,
+        };
+        on_each_chunk(layers, values, size, chunks, products);
     } else {
-        high_chunks(table, scale, values, width, mid, left, products);
+        let layers = HighLayers {
+            table,
+            scale,
+            width,
+            mid,
+            left,
+        };
+        on_each_chunk(layers, values, size, chunks, products);
     }
 }
 
-// The chunks of the second half, one after another. Inlined as those of the first half are.
-#[inline(always)]
-fn high_chunks<F: TwoAdicField>(
-    table: BlockTwiddles<'_, F>,
+// The layers of the second half, and the scale before them.
+#[derive(Clone, Copy)]
+struct HighLayers<'a, F> {
+    table: BlockTwiddles<'a, F>,
     scale: Option<F>,
-    values: &mut [F],
     width: usize,
     mid: usize,
     left: usize,
-    products: &mut Products,
-)
-    requires wide { 1 ≤ width }
-    requires some { 1 ≤ left }
-    requires small { mid + left < 64 }
-    requires size { length values.old ≡ 2 ^ (mid + left) * width }
-    requires table { (l : ℕ) → mid ≤ l → l < mid + left → block_end table.by_layer l ≤ length table.twiddles.now }
-    ensures values { (g : ℕ → F.Element) (s : F.Element) → AreRoots F.ring (mid + left) g
-        → AreBlockTwiddles F.Field.own g s mid (mid + left) table.entry.by_layer table.entry.twiddles.now
-        → (a t j : ℕ) → a < 2 ^ mid → t < 2 ^ left → j < width
-        → F.value (get_or values.new ((a * 2 ^ left + t) * width + j) F.ZERO)
-        ≡ poly F.ring (2 ^ left)
-        (λ q. F.ring.mul (F.value (get_or values.old ((a * 2 ^ left + q) * width + j) F.ZERO))
-        (factor F.Field.own scale))
-        (point F.ring g left (point F.ring g (mid + left) s (rev mid a)) (rev left t)) }
-    ensures grows { products.old ≤ products.new }
-    ensures cost { products.new ≤ products.old
-        + 2 ^ mid * (width * (left * 2 ^ left / 2) + scale_cost scale * (2 ^ left * width)) }
-{
-    let chunks = 1usize << mid;
-    let size = values.len() / chunks;
-    for chunk in 0..chunks {
-        let start = chunk * size;
-        let rows = &mut values[start..start + size];
-        high_network(table, scale, rows, width, mid, left, chunk, products);
+}
+
+impl<F: TwoAdicField> ChunkWork<F> for HighLayers<'_, F> {
+    ghost accepts = { λ it n size. (1 ≤ it.width) × ((1 ≤ it.left) × ((it.mid + it.left < 64) × ((n < 2 ^ it.mid)
+        × ((size ≡ 2 ^ it.left * it.width) × ((l : ℕ) → it.mid ≤ l → l < it.mid + it.left
+        → block_end it.table.by_layer l ≤ length it.table.twiddles.now))))) };
+
+    ghost takes = { λ it n before after. (g : ℕ → F.Element) (s : F.Element) → AreRoots F.ring (it.mid + it.left) g
+        → AreBlockTwiddles F.Field.own g s it.mid (it.mid + it.left) it.table.by_layer it.table.twiddles.now
+        → (t j : ℕ) → t < 2 ^ it.left → j < it.width → F.value (get_or after (t * it.width + j) F.ZERO)
+        ≡ poly F.ring (2 ^ it.left) (λ q. F.ring.mul (F.value (get_or before (q * it.width + j) F.ZERO))
+        (factor F.Field.own it.scale))
+        (point F.ring g it.left (point F.ring g (it.mid + it.left) s (rev it.mid n)) (rev it.left t)) };
+
+    ghost cost = { λ it size. 2 * (it.width * (it.left * 2 ^ it.left / 2)
+        + scale_cost it.scale * (2 ^ it.left * it.width)) };
+
+    #[inline(always)]
+    fn on_chunk(self, number: usize, chunk: &mut [F], products: &mut Products) {
+        high_network(
+            self.table, self.scale, chunk, self.width, self.mid, self.left, number, products,
+        );
     }
 }
 

@@ -5,12 +5,12 @@
 //! another, that stays in the cache from layer to layer; two layers go on quarters, one on halves.
 
 ghost use Rattle.std.specs.Prelude.{◌≡◌, ◌⊎◌, ℕ, ◌+◌, ◌-◌, ◌*◌, ◌/◌, ◌^◌, ◌<◌, ◌≤◌, List, length, get_or};
-ghost use Rattle.p3_networks.specs.Groups.{AreLayersInOrder, HoldsColumns, TakesCells, TakesColumns};
+ghost use Rattle.p3_networks.specs.Groups.{AreLayersInOrder, HoldsColumns, MeetInColumns, TakesCells, TakesColumns};
 ghost use Rattle.p3_networks.specs.Groups.{cells_of, group_end, group_of, layer_of};
 ghost use Rattle.p3_networks.specs.Layers.{HoldsCells, IsLayer};
 
 use crate::butterfly_layers::{Rule, meet_ranges};
-use crate::chunks::on_each_chunk;
+use crate::chunks::{ChunkWork, on_each_chunk};
 use p3_field::{Products, TwoAdicField};
 use p3_matrix::log2_strict_usize;
 
@@ -170,21 +170,46 @@ fn group_on_chunks<F: TwoAdicField, R: Rule<F>>(
 {
     let chunks = 1usize << (log_h - to);
     let size = values.len() / chunks;
-    let layers = move |chunk: usize, block: &mut [F], products: &mut Products|
-        requires wide { 1 ≤ width }
-        requires order { from ≤ to }
-        requires small { (chunk + 1) * 2 ^ to < 2 ^ 64 }
-        requires piece { 1 ≤ piece }
-        requires size { length block.now ≡ 2 ^ to * width }
-        requires there { (b : ℕ) → 2 * b < (chunk + 1) * 2 ^ to → R.has rule b 0 }
-        ensures cells { TakesCells F.value F.value F.ZERO order width to chunk
-            (λ b. R.near F.Element F.ring F.value rule b 0) (λ b. R.far F.Element F.ring F.value rule b 0)
-            (cells_of order from to 0) (cells_of order from to (to - from)) block.entry.now block.exit.now }
-        ensures grows { products.entry.now ≤ products.exit.now }
-        ensures cost { 2 * products.exit.now
-            ≤ 2 * products.entry.now + R.cost * ((to - from) * length block.entry.now) }
-    { group_on_chunk(rule, order, block, width, from, to, chunk, piece, products) };
+    let layers = GroupLayers {
+        rule,
+        order,
+        width,
+        from,
+        to,
+        piece,
+    };
     on_each_chunk(layers, values, size, chunks, products);
+}
+
+// The layers of a group.
+#[derive(Clone, Copy)]
+struct GroupLayers<R> {
+    rule: R,
+    order: Order,
+    width: usize,
+    from: usize,
+    to: usize,
+    piece: usize,
+}
+
+impl<F: TwoAdicField, R: Rule<F>> ChunkWork<F> for GroupLayers<R> {
+    ghost accepts = { λ it n size. (1 ≤ it.width) × ((it.from ≤ it.to) × (((n + 1) * 2 ^ it.to < 2 ^ 64)
+        × ((1 ≤ it.piece) × ((size ≡ 2 ^ it.to * it.width)
+        × ((b : ℕ) → 2 * b < (n + 1) * 2 ^ it.to → R.has it.rule b 0))))) };
+
+    ghost takes = { λ it n. TakesCells F.value F.value F.ZERO it.order it.width it.to n
+        (λ b. R.near F.Element F.ring F.value it.rule b 0) (λ b. R.far F.Element F.ring F.value it.rule b 0)
+        (cells_of it.order it.from it.to 0) (cells_of it.order it.from it.to (it.to - it.from)) };
+
+    ghost cost = { λ it size. R.cost * ((it.to - it.from) * size) };
+
+    #[inline(always)]
+    fn on_chunk(self, number: usize, chunk: &mut [F], products: &mut Products) {
+        group_on_chunk(
+            self.rule, self.order, chunk, self.width, self.from, self.to, number, self.piece,
+            products,
+        );
+    }
 }
 
 // The layers of a group on one of these blocks, chunk `number` of `2^to` rows, piece after piece.
@@ -303,10 +328,50 @@ fn layer_of_columns<F: TwoAdicField, R: Rule<F>>(
     ensures cost { products.new ≤ products.old + R.cost * (blocks * (half * (end - at))) }
 {
     let size = 2 * (half * part);
-    for b in 0..blocks {
-        let start = b * size;
-        let block = &mut values[start..start + size];
-        columns_of_block(rule, block, part, half, first_block + b, at, end, products);
+    let meet = Columns {
+        rule,
+        part,
+        half,
+        first_block,
+        at,
+        end,
+    };
+    on_each_chunk(meet, values, size, blocks, products);
+}
+
+// Its blocks, from number `first_block` on.
+#[derive(Clone, Copy)]
+struct Columns<R> {
+    rule: R,
+    part: usize,
+    half: usize,
+    first_block: usize,
+    at: usize,
+    end: usize,
+}
+
+impl<F: TwoAdicField, R: Rule<F>> ChunkWork<F> for Columns<R> {
+    ghost accepts = { λ it n size. (it.at ≤ it.end) × ((it.end ≤ it.part) × ((it.first_block + n < 2 ^ 64)
+        × ((size ≡ 2 * (it.half * it.part)) × R.has it.rule (it.first_block + n) 0))) };
+
+    ghost takes = { λ it n. MeetInColumns F.value F.ZERO it.part it.half it.at it.end
+        (R.near F.Element F.ring F.value it.rule (it.first_block + n) 0)
+        (R.far F.Element F.ring F.value it.rule (it.first_block + n) 0) };
+
+    ghost cost = { λ it size. 2 * (R.cost * (it.half * (it.end - it.at))) };
+
+    #[inline(always)]
+    fn on_chunk(self, number: usize, chunk: &mut [F], products: &mut Products) {
+        columns_of_block(
+            self.rule,
+            chunk,
+            self.part,
+            self.half,
+            self.first_block + number,
+            self.at,
+            self.end,
+            products,
+        );
     }
 }
 
@@ -325,18 +390,8 @@ fn columns_of_block<F: TwoAdicField, R: Rule<F>>(
     requires inside { end ≤ part }
     requires size { length values.old ≡ 2 * (half * part) }
     requires there { R.has rule block 0 }
-    ensures near { let cell = λ (xs : List F) (n : ℕ). F.value (get_or xs n F.ZERO) in
-        (t j : ℕ) → t < half → j < part → at ≤ j → j < end → cell values.new (t * part + j)
-        ≡ R.near F.Element F.ring F.value rule block 0 (cell values.old (t * part + j))
-        (cell values.old (half * part + (t * part + j))) }
-    ensures far { let cell = λ (xs : List F) (n : ℕ). F.value (get_or xs n F.ZERO) in
-        (t j : ℕ) → t < half → j < part → at ≤ j → j < end → cell values.new (half * part + (t * part + j))
-        ≡ R.far F.Element F.ring F.value rule block 0 (cell values.old (t * part + j))
-        (cell values.old (half * part + (t * part + j))) }
-    ensures kept { (t j : ℕ) → t < half → j < part → (j < at) ⊎ (end ≤ j)
-        → (get_or values.new (t * part + j) F.ZERO ≡ get_or values.old (t * part + j) F.ZERO)
-        × (get_or values.new (half * part + (t * part + j)) F.ZERO
-        ≡ get_or values.old (half * part + (t * part + j)) F.ZERO) }
+    ensures columns { MeetInColumns F.value F.ZERO part half at end (R.near F.Element F.ring F.value rule block 0)
+        (R.far F.Element F.ring F.value rule block 0) values.old values.new }
     ensures grows { products.old ≤ products.new }
     ensures cost { products.new ≤ products.old + R.cost * (half * (end - at)) }
 {

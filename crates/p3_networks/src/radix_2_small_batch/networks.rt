@@ -18,7 +18,7 @@ ghost use Rattle.p3_networks.specs.Twiddles.{AreTwiddlesFromStart, backward_root
 
 use crate::butterfly_layers::rules::{ByBlock, Dif, Dit};
 use crate::butterfly_layers::{Rule, layer};
-use crate::chunks::on_each_chunk;
+use crate::chunks::{ChunkWork, on_each_chunk};
 use crate::radix_2_small_batch::groups::{Order, layers_in_groups};
 use crate::radix_2_small_batch::pairs::{NetworkDecimation, on_pairs};
 use p3_field::{Products, TwoAdicField};
@@ -202,18 +202,44 @@ fn layers_of_tiles<F: TwoAdicField, R: NetworkRule<F>>(
 {
     let tiles = 1usize << (log_h - log_rows);
     let size = values.len() / tiles;
-    let layers = move |tile: usize, rows: &mut [F], products: &mut Products|
-        requires wide { 1 ≤ width }
-        requires small { (tile + 1) * 2 ^ log_rows < 2 ^ 64 }
-        requires size { length rows.now ≡ 2 ^ log_rows * width }
-        requires there { (b t : ℕ) → 2 * b < (tile + 1) * 2 ^ log_rows → R.has rule b t }
-        ensures cells { TakesCells F.value F.value F.ZERO R.order width log_rows tile
-            (λ b. R.near F.Element F.ring F.value rule b 0) (λ b. R.far F.Element F.ring F.value rule b 0)
-            (cells_of R.order 0 log_rows 0) (cells_of R.order 0 log_rows log_rows) rows.entry.now rows.exit.now }
-        ensures grows { products.entry.now ≤ products.exit.now }
-        ensures cost { 2 * products.exit.now ≤ 2 * products.entry.now + R.cost * (log_rows * length rows.entry.now) }
-    { layers_of_tile(rule, rows, width, log_rows, tile, products) };
+    let layers = TileLayers {
+        rule,
+        width,
+        log_rows,
+    };
     on_each_chunk(layers, values, size, tiles, products);
+}
+
+// The layers of tiles of `2^log_rows` rows.
+#[derive(Clone, Copy)]
+struct TileLayers<R> {
+    rule: R,
+    width: usize,
+    log_rows: usize,
+}
+
+impl<F: TwoAdicField, R: NetworkRule<F>> ChunkWork<F> for TileLayers<R> {
+    ghost accepts = { λ it n size. (1 ≤ it.width) × (((n + 1) * 2 ^ it.log_rows < 2 ^ 64)
+        × ((size ≡ 2 ^ it.log_rows * it.width)
+        × ((b t : ℕ) → 2 * b < (n + 1) * 2 ^ it.log_rows → R.has it.rule b t))) };
+
+    ghost takes = { λ it n. TakesCells F.value F.value F.ZERO R.order it.width it.log_rows n
+        (λ b. R.near F.Element F.ring F.value it.rule b 0) (λ b. R.far F.Element F.ring F.value it.rule b 0)
+        (cells_of R.order 0 it.log_rows 0) (cells_of R.order 0 it.log_rows it.log_rows) };
+
+    ghost cost = { λ it size. R.cost * (it.log_rows * size) };
+
+    #[inline(always)]
+    fn on_chunk(self, number: usize, chunk: &mut [F], products: &mut Products) {
+        layers_of_tile(
+            self.rule,
+            chunk,
+            self.width,
+            self.log_rows,
+            number,
+            products,
+        );
+    }
 }
 
 // The layers of one tile, chunk `number` of `2^top` rows. In one column the layers of the smallest blocks
@@ -278,19 +304,36 @@ fn layers_of_short_chunks<F: TwoAdicField, R: NetworkRule<F>>(
 {
     let chunks = 1usize << (top - SHORT_LAYERS);
     let size = values.len() / chunks;
-    let layers = move |chunk: usize, rows: &mut [F], products: &mut Products|
-        requires small { (number * chunks + chunk + 1) * 2 ^ SHORT_LAYERS < 2 ^ 64 }
-        requires size { length rows.now ≡ 2 ^ SHORT_LAYERS * 1 }
-        requires there { (b t : ℕ) → 2 * b < (number * chunks + chunk + 1) * 2 ^ SHORT_LAYERS → R.has rule b t }
-        ensures cells { TakesCells F.value F.value F.ZERO R.order 1 SHORT_LAYERS (number * chunks + chunk)
-            (λ b. R.near F.Element F.ring F.value rule b 0) (λ b. R.far F.Element F.ring F.value rule b 0)
-            (cells_of R.order 0 SHORT_LAYERS 0) (cells_of R.order 0 SHORT_LAYERS SHORT_LAYERS)
-            rows.entry.now rows.exit.now }
-        ensures grows { products.entry.now ≤ products.exit.now }
-        ensures cost { 2 * products.exit.now
-            ≤ 2 * products.entry.now + R.cost * (SHORT_LAYERS * length rows.entry.now) }
-    { layers_of_short_chunk(rule, rows, number * chunks + chunk, products) };
+    let layers = ShortLayers {
+        rule,
+        first: number * chunks,
+    };
     on_each_chunk(layers, values, size, chunks, products);
+}
+
+// The layers of short chunks, which count from `first` on.
+#[derive(Clone, Copy)]
+struct ShortLayers<R> {
+    rule: R,
+    first: usize,
+}
+
+impl<F: TwoAdicField, R: NetworkRule<F>> ChunkWork<F> for ShortLayers<R> {
+    ghost use Rattle.p3_networks.specs.declared.radix_2_small_batch.networks.TheConstants.{SHORT_LAYERS};
+
+    ghost accepts = { λ it n size. ((it.first + n + 1) * 2 ^ SHORT_LAYERS < 2 ^ 64) × ((size ≡ 2 ^ SHORT_LAYERS * 1)
+        × ((b t : ℕ) → 2 * b < (it.first + n + 1) * 2 ^ SHORT_LAYERS → R.has it.rule b t)) };
+
+    ghost takes = { λ it n. TakesCells F.value F.value F.ZERO R.order 1 SHORT_LAYERS (it.first + n)
+        (λ b. R.near F.Element F.ring F.value it.rule b 0) (λ b. R.far F.Element F.ring F.value it.rule b 0)
+        (cells_of R.order 0 SHORT_LAYERS 0) (cells_of R.order 0 SHORT_LAYERS SHORT_LAYERS) };
+
+    ghost cost = { λ it size. R.cost * (SHORT_LAYERS * size) };
+
+    #[inline(always)]
+    fn on_chunk(self, number: usize, chunk: &mut [F], products: &mut Products) {
+        layers_of_short_chunk(self.rule, chunk, self.first + number, products);
+    }
 }
 
 // The layers below `SHORT_LAYERS` on short chunk `number`. They are named, so that the loops of each layer are of
@@ -358,33 +401,50 @@ fn scaled_dif_tiles<F: TwoAdicField>(
 {
     let tiles = 1usize << (log_h - log_rows);
     let size = values.len() / tiles;
-    let scaled_layers = move |tile: usize, rows: &mut [F], products: &mut Products|
-        requires wide { 1 ≤ width }
-        requires small { (tile + 1) * 2 ^ log_rows < 2 ^ 64 }
-        requires size { length rows.now ≡ 2 ^ log_rows * width }
-        requires first { F.value (get_or twiddles.now 0 F.ZERO) ≡ F.ring.one }
-        requires enough { (tile + 1) * 2 ^ log_rows ≤ 2 * length twiddles.now }
-        ensures cells { let twiddle = λ (b : ℕ). F.value (get_or twiddles.entry.now b F.ZERO) in
-            TakesCells (λ x. F.ring.mul (F.value x) (F.value scale)) F.value F.ZERO SmallestFirst width log_rows tile
-            (λ b. dif_near F.ring (twiddle b)) (λ b. dif_far F.ring (twiddle b)) 0 log_rows
-            rows.entry.now rows.exit.now }
-        ensures grows { products.entry.now ≤ products.exit.now }
-        ensures cost { 2 * products.exit.now ≤ 2 * products.entry.now + (log_rows + 2) * length rows.entry.now }
-    {
-        scale_slice_in_place(rows, scale, products);
+    let layers = ScaledTileLayers {
+        twiddles,
+        scale,
+        width,
+        log_rows,
+    };
+    on_each_chunk(layers, values, size, tiles, products);
+}
+
+// The layers of tiles of `2^log_rows` rows, on the values times `scale`.
+#[derive(Clone, Copy)]
+struct ScaledTileLayers<'a, F> {
+    twiddles: &'a [F],
+    scale: F,
+    width: usize,
+    log_rows: usize,
+}
+
+impl<F: TwoAdicField> ChunkWork<F> for ScaledTileLayers<'_, F> {
+    ghost accepts = { λ it n size. (1 ≤ it.width) × (((n + 1) * 2 ^ it.log_rows < 2 ^ 64)
+        × ((size ≡ 2 ^ it.log_rows * it.width) × ((F.value (get_or it.twiddles.now 0 F.ZERO) ≡ F.ring.one)
+        × ((n + 1) * 2 ^ it.log_rows ≤ 2 * length it.twiddles.now)))) };
+
+    ghost takes = { λ it n. let twiddle = λ (b : ℕ). F.value (get_or it.twiddles.now b F.ZERO) in
+        TakesCells (λ x. F.ring.mul (F.value x) (F.value it.scale)) F.value F.ZERO SmallestFirst it.width it.log_rows n
+        (λ b. dif_near F.ring (twiddle b)) (λ b. dif_far F.ring (twiddle b)) 0 it.log_rows };
+
+    ghost cost = { λ it size. (it.log_rows + 2) * size };
+
+    #[inline(always)]
+    fn on_chunk(self, number: usize, chunk: &mut [F], products: &mut Products) {
+        scale_slice_in_place(chunk, self.scale, products);
         layers_of_tile(
             ByBlock {
-                twiddles,
+                twiddles: self.twiddles,
                 decimation: Dif,
             },
-            rows,
-            width,
-            log_rows,
-            tile,
+            chunk,
+            self.width,
+            self.log_rows,
+            number,
             products,
         );
-    };
-    on_each_chunk(scaled_layers, values, size, tiles, products);
+    }
 }
 
 /// From rows in natural order to their values at the powers of the root that `twiddles` are made of, in
@@ -641,61 +701,79 @@ fn spread_tiles<F: TwoAdicField>(
 {
     let tiles = 1usize << (log_h - log_rows);
     let size = values.len() / tiles;
-    let copies = 1usize << added_bits;
-    let count = 1usize << (log_rows - added_bits);
-    let spread = move |tile: usize, out: &mut [F], products: &mut Products|
-        requires wide { 1 ≤ width }
-        requires added { added_bits ≤ log_rows }
-        requires copies { copies ≡ 2 ^ added_bits }
-        requires some { 1 ≤ count }
-        requires count { count * copies ≡ 2 ^ log_rows }
-        requires small { (tile + 1) * 2 ^ log_rows < 2 ^ 64 }
-        requires size { length out.now ≡ 2 ^ log_rows * width }
-        requires rows { (tile * count + count) * width ≤ length rows.now }
-        requires weights { tile * count + count ≤ length weights.now }
-        requires first { F.value (get_or twiddles.now 0 F.ZERO) ≡ F.ring.one }
-        requires enough { (tile + 1) * 2 ^ log_rows ≤ 2 * length twiddles.now }
-        ensures cells { let twiddle = λ (b : ℕ). F.value (get_or twiddles.entry.now b F.ZERO) in
-            (k : ℕ) (cells : ℕ → ℕ → F.Element)
-            → AreLayers k width (λ b. dif_near F.ring (twiddle b)) (λ b. dif_far F.ring (twiddle b))
-            cells (λ e. cells (e + 1))
-            → (tile + 1) * 2 ^ log_rows ≤ 2 ^ k
-            → ((q t j : ℕ) → q < tile * count + count → t < 2 ^ added_bits → j < width
-            → cells added_bits ((q * 2 ^ added_bits + t) * width + j)
-            ≡ F.ring.mul (F.value (get_or rows.entry.now (q * width + j) F.ZERO))
-            (F.ring.mul (F.value (get_or weights.entry.now q F.ZERO))
-            (power F.ring (twiddle (q * (2 ^ added_bits / 2))) t)))
-            → HoldsCells F.value F.ZERO (tile * length out.entry.now) (cells log_rows) out.exit.now }
-        ensures grows { products.entry.now ≤ products.exit.now }
-        ensures cost { 2 * products.exit.now
-            ≤ 2 * products.entry.now + (log_rows - added_bits + 2) * length out.entry.now }
-    {
+    let layers = SpreadTileLayers {
+        twiddles,
+        weights,
+        rows,
+        width,
+        added_bits,
+        log_rows,
+    };
+    on_each_chunk(layers, values, size, tiles, products);
+}
+
+// Rows of coefficients, spread over tiles of `2^log_rows` rows, and the layers of each tile from `added_bits` on.
+#[derive(Clone, Copy)]
+struct SpreadTileLayers<'a, F> {
+    twiddles: &'a [F],
+    weights: &'a [F],
+    rows: &'a [F],
+    width: usize,
+    added_bits: usize,
+    log_rows: usize,
+}
+
+impl<F: TwoAdicField> ChunkWork<F> for SpreadTileLayers<'_, F> {
+    ghost accepts = { λ it n size. let count = 2 ^ (it.log_rows - it.added_bits) in
+        (1 ≤ it.width) × ((it.added_bits ≤ it.log_rows) × (((n + 1) * 2 ^ it.log_rows < 2 ^ 64)
+        × ((size ≡ 2 ^ it.log_rows * it.width) × (((n * count + count) * it.width ≤ length it.rows.now)
+        × ((n * count + count ≤ length it.weights.now) × ((F.value (get_or it.twiddles.now 0 F.ZERO) ≡ F.ring.one)
+        × ((n + 1) * 2 ^ it.log_rows ≤ 2 * length it.twiddles.now))))))) };
+
+    ghost takes = { λ it n before after. let count = 2 ^ (it.log_rows - it.added_bits) in
+        let twiddle = λ (b : ℕ). F.value (get_or it.twiddles.now b F.ZERO) in
+        (k : ℕ) (cells : ℕ → ℕ → F.Element)
+        → AreLayers k it.width (λ b. dif_near F.ring (twiddle b)) (λ b. dif_far F.ring (twiddle b))
+        cells (λ e. cells (e + 1))
+        → (n + 1) * 2 ^ it.log_rows ≤ 2 ^ k
+        → ((q t j : ℕ) → q < n * count + count → t < 2 ^ it.added_bits → j < it.width
+        → cells it.added_bits ((q * 2 ^ it.added_bits + t) * it.width + j)
+        ≡ F.ring.mul (F.value (get_or it.rows.now (q * it.width + j) F.ZERO))
+        (F.ring.mul (F.value (get_or it.weights.now q F.ZERO))
+        (power F.ring (twiddle (q * (2 ^ it.added_bits / 2))) t)))
+        → HoldsCells F.value F.ZERO (n * length before) (cells it.log_rows) after };
+
+    ghost cost = { λ it size. (it.log_rows - it.added_bits + 2) * size };
+
+    #[inline(always)]
+    fn on_chunk(self, number: usize, chunk: &mut [F], products: &mut Products) {
+        let copies = 1usize << self.added_bits;
+        let count = 1usize << (self.log_rows - self.added_bits);
         spread_rows(
-            twiddles,
-            weights,
-            rows,
-            out,
-            width,
+            self.twiddles,
+            self.weights,
+            self.rows,
+            chunk,
+            self.width,
             copies,
-            tile * count,
+            number * count,
             count,
             products,
         );
         layers_of_chunk(
             ByBlock {
-                twiddles,
+                twiddles: self.twiddles,
                 decimation: Dif,
             },
-            out,
-            width,
-            added_bits,
-            log_rows,
-            log_rows,
-            tile,
+            chunk,
+            self.width,
+            self.added_bits,
+            self.log_rows,
+            self.log_rows,
+            number,
             products,
         );
-    };
-    on_each_chunk(spread, values, size, tiles, products);
+    }
 }
 
 /// From rows in bit reversed order, each times its weight, to their values at `2^added_bits` times as

@@ -1,4 +1,4 @@
-use Rattle.std.proofs.Common.{◌-◌, ◌*◌, length, ◌∙◌, arith}
+use Rattle.std.proofs.Common.{◌-◌, ◌*◌, length, arith}
 use Rattle.p3_networks.proofs.Layers.Tiles.{tile_rows, tile_sizes, tile_small, tiles_cost, tiles_taken}
 use Rattle.p3_networks.proofs.radix_2_small_batch.groups.group_on_chunks.Goals as goal
 
@@ -7,21 +7,18 @@ on_each_chunk-requires g c =
     let sizes = tile_sizes c.args.log_h c.args.to c.args.width (length c.args.values.now) c.requires.small c.requires.below c.requires.size in
     record {
       whole = sizes.whole;
-      accepts = λ n chunk made below is.
+      accepts = λ n below.
           let rows = tile_rows _ _ _ _ _ _ n sizes below in
           let small = tile_small _ _ _ _ _ _ n c.requires.small sizes below in
-          (c.requires.wide, (c.requires.order, (small, (c.requires.piece, (is ∙ sizes.size_is, λ b inside. c.requires.there b (omega (arith, rows, inside)))))));
+          (c.requires.wide, (c.requires.order, (small, (c.requires.piece, (sizes.size_is, λ b inside. c.requires.there b (omega (arith, rows, inside)))))));
     }
 
 pub returns : goal.returns
 returns g c =
     let field = g.F.Field in
     let sizes = tile_sizes c.args.log_h c.args.to c.args.width (length c.args.values.now) c.requires.small c.requires.below c.requires.size in
-    let cost = c.on_each_chunk.ensures.cost 2 (λ n. g.R.Rule.cost * ((c.args.to - c.args.from) * n)) (λ n chunk left made total below is done. done.1) in
     record {
-      cells = λ cells layers holds.
-          tiles_taken _ _ field.value field.value field.ZERO _ _ _ _ _ _ _ _ _ _ cells c.args.values.now c.on_each_chunk.new.values sizes c.requires.wide c.on_each_chunk.auto.values c.on_each_chunk.ensures.chunks
-          (λ n chunk left made total below done. done.0) layers holds;
-      grows = cost.0;
-      cost = omega (arith, cost.1, tiles_cost _ _ _ _ _ _ (g.R.Rule.cost * (c.args.to - c.args.from)) sizes);
+      cells = λ cells layers. tiles_taken field.value field.value field.ZERO _ _ _ _ _ _ _ _ _ _ cells c.args.values.now c.on_each_chunk.new.values sizes c.requires.wide c.on_each_chunk.auto.values c.on_each_chunk.ensures.chunks layers;
+      grows = c.on_each_chunk.ensures.grows;
+      cost = omega (arith, c.on_each_chunk.ensures.cost, tiles_cost _ _ _ _ _ _ (g.R.Rule.cost * (c.args.to - c.args.from)) sizes);
     }

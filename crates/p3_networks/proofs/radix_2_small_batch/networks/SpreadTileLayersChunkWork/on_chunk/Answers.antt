@@ -1,0 +1,77 @@
+use Rattle.std.proofs.Common.{◌≡◌, ℕ, ◌+◌, ◌-◌, ◌*◌, ◌/◌, ◌%◌, ◌^◌, ◌<◌, ◌≤◌, length, get_or, sym, ap, ◌∙◌, subst, arith}
+use Rattle.std.proofs.Math.Nat.{le_refl}
+use Rattle.p3_field.specs.Ring.{power}
+use Rattle.p3_networks.specs.Layers.{HoldsCells}
+use Rattle.p3_networks.proofs.Layers.Chunks.{chunk_digits}
+use Rattle.p3_networks.proofs.Layers.Tiles.{spread_held, spread_sizes}
+use Rattle.p3_networks.proofs.radix_2_small_batch.networks.SpreadTileLayersChunkWork.on_chunk.Goals as goal
+
+cells_of_tile : (count copies rows w : ℕ) → count * copies ≡ rows → rows * w ≡ count * (copies * w)
+cells_of_tile count copies rows w is = ap (λ n. n * w) (sym is) ∙ omega arith
+
+pub overflow_shl-copies : goal.overflow_shl-copies
+overflow_shl-copies g c = let (wide, (added, (small, rest))) = c.requires in omega (arith, chunk_digits c.args.self.log_rows c.args.number small, added)
+
+pub overflow_shl-count : goal.overflow_shl-count
+overflow_shl-count g c = let (wide, (added, (small, rest))) = c.requires in omega (arith, chunk_digits c.args.self.log_rows c.args.number small)
+
+pub spread_rows-requires : goal.spread_rows-requires
+spread_rows-requires g c =
+    let it = c.args.self in
+    let tile = c.args.number in
+    let r = it.log_rows in
+    let a = it.added_bits in
+    let (wide, (added, (small, (size, (rows, (weights, (first, enough))))))) = c.requires in
+    let sizes = spread_sizes r a (chunk_digits r tile small) added in
+    let count = 1 * 2 ^ (r - a) % 18446744073709551616 in
+    let copies = 1 * 2 ^ a % 18446744073709551616 in
+    let all : (tile * count + count) * copies ≡ (tile + 1) * (count * copies) = omega arith in
+    record {
+      wide = wide;
+      copies = sizes.some_copies;
+      some = sizes.some;
+      size = size ∙ cells_of_tile count copies (2 ^ r) it.width sizes.rows;
+      rows = subst (λ (n : ℕ). (tile * n + n) * it.width ≤ length it.rows.now) (sym sizes.count_is) rows;
+      weights = subst (λ (n : ℕ). tile * n + n ≤ length it.weights.now) (sym sizes.count_is) weights;
+      enough = omega (arith, all, ap (λ n. (tile + 1) * n) sizes.rows, enough);
+    }
+
+pub layers_of_chunk-requires : goal.layers_of_chunk-requires
+layers_of_chunk-requires g c =
+    let (wide, (added, (small, (size, (rows, (weights, (first, enough))))))) = c.requires in
+    record { wide = wide; order = added; below = le_refl c.args.self.log_rows; small = small; size = c.spread_rows.auto.values ∙ size; there = λ b t inside. (omega (arith, inside, enough), first) }
+
+pub returns : goal.returns
+returns g c =
+    let field = g.F.Field in
+    let it = c.args.self in
+    let tile = c.args.number in
+    let a = it.added_bits in
+    let r = it.log_rows in
+    let w = it.width in
+    let (wide, (added, (small, (size, (rows, (weights, (first, enough))))))) = c.requires in
+    let sizes = spread_sizes r a (chunk_digits r tile small) added in
+    let count = 1 * 2 ^ (r - a) % 18446744073709551616 in
+    let copies = 1 * 2 ^ a % 18446744073709551616 in
+    let out = c.spread_rows.new.values in
+    let len : length out ≡ length c.args.chunk.now = c.spread_rows.auto.values in
+    let made = λ (n q t j : ℕ). field.ring.mul (field.value (get_or it.rows.now (q * w + j) field.ZERO))
+    (field.ring.mul (field.value (get_or it.weights.now q field.ZERO)) (power field.ring (field.value (get_or it.twiddles.now (q * (n / 2)) field.ZERO)) t)) in
+    let begin : a ≡ a + 0 = omega arith in
+    let stop : a + (r - a) ≡ r = omega (arith, added) in
+    let same : (r - a) * length out ≡ (r - a) * length c.args.chunk.now = ap (λ n. (r - a) * n) len in
+    let more : (r - a + 2) * length c.args.chunk.now ≡ (r - a) * length c.args.chunk.now + 2 * length c.args.chunk.now = omega arith in
+    record {
+      chunk = λ k cells layers room are.
+          subst (λ (n : ℕ). HoldsCells field.value field.ZERO (tile * n) (cells r) c.layers_of_chunk.new.values) len
+          (subst (λ (e : ℕ). HoldsCells field.value field.ZERO (tile * length out) (cells e) c.layers_of_chunk.new.values) stop
+          (c.layers_of_chunk.ensures.cells k cells layers room
+          (subst (λ (e : ℕ). HoldsCells field.value field.ZERO (tile * length out) (cells e) out) begin
+          (spread_held field.value field.ZERO (cells a) (made copies) tile count copies (tile * count + count) w out wide
+          (len ∙ size ∙ cells_of_tile count copies (2 ^ r) w sizes.rows) (le_refl (tile * count + count)) sizes.some_copies
+          (subst (λ (n : ℕ). (q t j : ℕ) → q < tile * count + count → t < n → j < w → cells a ((q * n + t) * w + j) ≡ made n q t j) (sym sizes.copies_is)
+          (subst (λ (n : ℕ). (q t j : ℕ) → q < tile * n + n → t < 2 ^ a → j < w → cells a ((q * 2 ^ a + t) * w + j) ≡ made (2 ^ a) q t j) (sym sizes.count_is) are))
+          c.spread_rows.ensures.values))));
+      grows = omega (arith, c.layers_of_chunk.ensures.grows, c.spread_rows.ensures.count);
+      cost = omega (arith, c.layers_of_chunk.ensures.cost, c.spread_rows.ensures.count, same, more, len);
+    }
