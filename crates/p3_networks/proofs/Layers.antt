@@ -6,5 +6,6 @@ pub mod Groups
 pub mod Halves
 pub mod Pairs
 pub mod Chunks
+pub mod Shifts
 pub mod Sizes
 pub mod Tiles

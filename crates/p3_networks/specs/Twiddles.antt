@@ -67,9 +67,13 @@ root_powers f generator inverse l t = power f.ring (root_of f generator inverse 
 abbrev pub layer_place : Bool → ℕ → ℕ → ℕ
 layer_place reversed l t = if reversed then rev l t else t
 
--- the table of the coset of s of order 2 ^ log: layer after layer, in natural order in the first half of the layers, which has the middle one of an odd number, and in bit reversed order in the second
+-- how many of k layers the first half has: the middle one of an odd number is among them
+abbrev pub mid_of : ℕ → ℕ
+mid_of k = (k + 1) / 2
+
+-- the table of the coset of s of order 2 ^ log: layer after layer, in natural order in the first half of the layers, and in bit reversed order in the second
 abbrev pub IsCosetTable : {F : Type 0} (f : FieldMembers F) → (ℕ → F) → f.Element → ℕ → List F → Type 0
-IsCosetTable f generator s log twiddles = AreTwiddlesOfLayers f log (λ l t. coset_twiddles f (forward_root f generator) s log l (layer_place (leb ((log + 1) / 2) l) l t)) twiddles
+IsCosetTable f generator s log twiddles = AreTwiddlesOfLayers f log (λ l t. coset_twiddles f (forward_root f generator) s log l (layer_place (leb (mid_of log) l) l t)) twiddles
 
 -- a coset: the logarithm of its order, and its shift
 pub record Coset (F : Type 0) : Type 0 where

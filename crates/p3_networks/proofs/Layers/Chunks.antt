@@ -6,6 +6,7 @@ use Rattle.std.proofs.lemmas.Nat.{one_shl, pow_pos}
 use Rattle.p3_matrix.proofs.TwoPowers.{log_lt}
 use Rattle.p3_networks.specs.Layers.{AreLayers, HoldsCells, IsLayer}
 use Rattle.p3_networks.proofs.Layers.Blocks.{each_row, halves_whole}
+use Rattle.p3_networks.proofs.Layers.Shifts.{one_shifted}
 
 -- a chunk of 2 ^ top rows within 2 ^ k is no longer than they are
 pub chunk_within : (k top number : ℕ) → (number + 1) * 2 ^ top ≤ 2 ^ k → top ≤ k
@@ -86,11 +87,11 @@ chunk_digits top number small =
     log_lt top 64 (omega (arith, small, some))
 
 pub chunk_sizes : (top e number : ℕ) → e < top → (number + 1) * 2 ^ top < 2 ^ 64
-    → ChunkSizes top e number (1 * 2 ^ e % 18446744073709551616) (1 * 2 ^ (top - 1 - e) % 18446744073709551616)
+    → ChunkSizes top e number (one_shifted e) (one_shifted (top - 1 - e))
 chunk_sizes top e number below small =
     let digits = chunk_digits top number small in
-    let half : 1 * 2 ^ e % 18446744073709551616 ≡ 2 ^ e = one_shl e 64 (omega (arith, digits, below)) in
-    let blocks : 1 * 2 ^ (top - 1 - e) % 18446744073709551616 ≡ 2 ^ (top - 1 - e) = one_shl (top - 1 - e) 64 (omega (arith, digits)) in
+    let half : one_shifted e ≡ 2 ^ e = one_shl e 64 (omega (arith, digits, below)) in
+    let blocks : one_shifted (top - 1 - e) ≡ 2 ^ (top - 1 - e) = one_shl (top - 1 - e) 64 (omega (arith, digits)) in
     let less : 2 ^ (top - 1 - e) ≤ 2 ^ top = pow-le-pow_right {n = 2} (lit≤ tt) (let l : top - 1 - e ≤ top = omega arith in l) in
     let fewer : (number + 1) * 2 ^ (top - 1 - e) ≤ (number + 1) * 2 ^ top = mul-le-mul_left (number + 1) less in
     let spread : number * 2 ^ (top - 1 - e) + 2 ^ (top - 1 - e) ≡ (number + 1) * 2 ^ (top - 1 - e) = omega arith in

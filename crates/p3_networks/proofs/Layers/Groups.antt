@@ -10,6 +10,7 @@ use Rattle.p3_networks.specs.declared.radix_2_small_batch.groups.Order.{Order}
 use Rattle.p3_networks.specs.declared.radix_2_small_batch.groups.Order.TheVariants.{LargestFirst, SmallestFirst}
 use Rattle.p3_networks.proofs.Layers.Blocks.{halves_whole, row_below}
 use Rattle.p3_networks.proofs.Layers.Chunks.{chunk_sizes}
+use Rattle.p3_networks.proofs.Layers.Shifts.{one_shifted}
 
 -- the sizes of layer e of a group on a chunk, as a program has them by shifts
 pub record PieceSizes (from to e number w half blocks part : ℕ) : Type 0 where
@@ -24,15 +25,15 @@ pub record PieceSizes (from to e number w half blocks part : ℕ) : Type 0 where
   pub room : number * blocks + blocks < 2 ^ 64
 
 pub piece_sizes : (from to e number w : ℕ) → from ≤ e → e < to → (number + 1) * 2 ^ to < 2 ^ 64
-    → PieceSizes from to e number w (1 * 2 ^ (e - from) % 18446744073709551616) (1 * 2 ^ (to - 1 - e) % 18446744073709551616) (1 * 2 ^ from % 18446744073709551616 * w)
+    → PieceSizes from to e number w (one_shifted (e - from)) (one_shifted (to - 1 - e)) (one_shifted from * w)
 piece_sizes from to e number w first last small =
     let chunk = chunk_sizes to e number last small in
-    let half : 1 * 2 ^ (e - from) % 18446744073709551616 ≡ 2 ^ (e - from) = one_shl (e - from) 64 (omega (arith, last, chunk.digits)) in
-    let part : 1 * 2 ^ from % 18446744073709551616 ≡ 2 ^ from = one_shl from 64 (omega (arith, first, last, chunk.digits)) in
+    let half : one_shifted (e - from) ≡ 2 ^ (e - from) = one_shl (e - from) 64 (omega (arith, last, chunk.digits)) in
+    let part : one_shifted from ≡ 2 ^ from = one_shl from 64 (omega (arith, first, last, chunk.digits)) in
     let both : e - from + from ≡ e = omega (arith, first) in
     let left : to - from - 1 - (e - from) ≡ to - 1 - e = omega (arith, first, last) in
     let joined : 2 ^ (e - from) * 2 ^ from ≡ 2 ^ e = sym (pow-add 2 (e - from) from) ∙ ap (λ n. 2 ^ n) both in
-    let cells : 1 * 2 ^ (e - from) % 18446744073709551616 * (1 * 2 ^ from % 18446744073709551616 * w) ≡ 2 ^ e * w =
+    let cells : one_shifted (e - from) * (one_shifted from * w) ≡ 2 ^ e * w =
     ap₂ (λ h p. h * (p * w)) half part ∙ (let assoc : 2 ^ (e - from) * (2 ^ from * w) ≡ 2 ^ (e - from) * 2 ^ from * w = omega arith in assoc) ∙ ap (λ n. n * w) joined in
     record {
       digits = chunk.digits;
@@ -55,7 +56,7 @@ pub record PartSizes (from to number w part : ℕ) : Type 0 where
   pub within : 2 ^ from * w ≤ 2 ^ to * w
   pub rows : 2 ^ to * w ≡ 2 ^ (to - from) * (2 ^ from * w)
 
-pub part_sizes : (from to number w : ℕ) → from ≤ to → (number + 1) * 2 ^ to < 2 ^ 64 → PartSizes from to number w (1 * 2 ^ from % 18446744073709551616 * w)
+pub part_sizes : (from to number w : ℕ) → from ≤ to → (number + 1) * 2 ^ to < 2 ^ 64 → PartSizes from to number w (one_shifted from * w)
 part_sizes from to number w order small =
     let some : 2 ^ to ≤ (number + 1) * 2 ^ to = let spread : (number + 1) * 2 ^ to ≡ number * 2 ^ to + 2 ^ to = omega arith in omega (arith, spread) in
     let digits : to < 64 = log_lt to 64 (omega (arith, small, some)) in

@@ -4,6 +4,7 @@ use Rattle.std.proofs.lemmas.List.{places}
 use Rattle.std.proofs.lemmas.Nat.{div-add-mod', div_below, mod_below, one_shl, pow_pos}
 use Rattle.std.proofs.Math.Nat.{add-sub_cancel_left, mul-div_cancel, mul-le-mul_right}
 use Rattle.p3_matrix.proofs.Rows.Overwritten.{part_size}
+use Rattle.p3_networks.proofs.Layers.Shifts.{one_shifted}
 
 -- a place in a list of two parts
 pub in_first : {X : Type 0} (xs ys : List X) (i : ℕ) (d : X) → i < length xs → get_or (xs ++ ys) i d ≡ get_or xs i d
@@ -44,13 +45,13 @@ pub part_length : {X : Type 0} (xs : List X) (a size : ℕ) → a + size ≤ len
 part_length xs a size room = ap (λ n. length (take n (drop a xs))) (add-sub_cancel_left a size) ∙ part_size xs a size room
 
 -- 2 ^ n blocks of one size, as a program has their number by a shift
-pub shifted_size : (len n size : ℕ) → n < 64 → len ≡ 2 ^ n * size → len / (1 * 2 ^ n % 18446744073709551616) ≡ size
+pub shifted_size : (len n size : ℕ) → n < 64 → len ≡ 2 ^ n * size → len / one_shifted n ≡ size
 shifted_size len n size small full =
-    let count : 1 * 2 ^ n % 18446744073709551616 ≡ 2 ^ n = one_shl n 64 small in
-    block_size len (1 * 2 ^ n % 18446744073709551616) size (omega (arith, count, pow_pos n)) (rw count full)
+    let count : one_shifted n ≡ 2 ^ n = one_shl n 64 small in
+    block_size len (one_shifted n) size (omega (arith, count, pow_pos n)) (rw count full)
 
-pub shifted_room : (b len n size : ℕ) → n < 64 → len ≡ 2 ^ n * size → b < 1 * 2 ^ n % 18446744073709551616
-    → b * (len / (1 * 2 ^ n % 18446744073709551616)) + len / (1 * 2 ^ n % 18446744073709551616) ≤ len
+pub shifted_room : (b len n size : ℕ) → n < 64 → len ≡ 2 ^ n * size → b < one_shifted n
+    → b * (len / one_shifted n) + len / one_shifted n ≤ len
 shifted_room b len n size small full below =
-    let count : 1 * 2 ^ n % 18446744073709551616 ≡ 2 ^ n = one_shl n 64 small in
+    let count : one_shifted n ≡ 2 ^ n = one_shl n 64 small in
     rw (shifted_size len n size small full) (block_room b (2 ^ n) size len (omega (arith, count, below)) full)

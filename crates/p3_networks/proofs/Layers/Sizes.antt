@@ -3,6 +3,7 @@ use Rattle.std.proofs.Common.{◌≡◌, ℕ, ◌+◌, ◌*◌, ◌-◌, ◌%◌
 use Rattle.std.proofs.lemmas.Nat.{one_shl, pow_pos}
 use Rattle.p3_networks.proofs.Layers.Blocks.{halves_whole, blocks_whole}
 use Rattle.p3_matrix.proofs.Rows.Overwritten.{part_size}
+use Rattle.p3_networks.proofs.Layers.Shifts.{one_shifted}
 
 -- a shift by the number of layers that are done, or that are left but one
 pub done_shift : (k l : ℕ) → l < k → k < 64 → 1 * 2 ^ l % 2 ^ 64 ≡ 2 ^ l
@@ -12,10 +13,10 @@ pub left_shift : (k l : ℕ) → l < k → k < 64 → 1 * 2 ^ (k - 1 - l) % 2 ^ 
 left_shift k l below small = one_shl (k - 1 - l) 64 (omega arith)
 
 -- a shift by one of two numbers
-pub first_shift : (n m : ℕ) → n + m < 64 → 1 * 2 ^ n % 18446744073709551616 ≡ 2 ^ n
+pub first_shift : (n m : ℕ) → n + m < 64 → one_shifted n ≡ 2 ^ n
 first_shift n m small = one_shl n 64 (omega arith)
 
-pub second_shift : (n m : ℕ) → n + m < 64 → 1 * 2 ^ m % 18446744073709551616 ≡ 2 ^ m
+pub second_shift : (n m : ℕ) → n + m < 64 → one_shifted m ≡ 2 ^ m
 second_shift n m small = one_shl m 64 (omega arith)
 
 -- a half has a row

@@ -8,6 +8,7 @@ use Rattle.p3_networks.specs.Layers.{HoldsCells}
 use Rattle.p3_networks.specs.declared.radix_2_small_batch.groups.Order.{Order}
 use Rattle.p3_networks.proofs.Layers.Halves.{block_room, block_size}
 use Rattle.p3_networks.proofs.Rows.EachChunk.{cells_of_chunks}
+use Rattle.p3_networks.proofs.Layers.Shifts.{one_shifted}
 
 -- the sizes of tiles of 2 ^ r of the 2 ^ k rows, as a program has them
 pub record TileSizes (k r w tiles size len : ℕ) : Type 0 where
@@ -17,9 +18,9 @@ pub record TileSizes (k r w tiles size len : ℕ) : Type 0 where
   pub whole : len ≡ tiles * size
   pub rows : tiles * 2 ^ r ≡ 2 ^ k
 
-pub shifted_sizes : (n k r w len : ℕ) → n < 64 → n + r ≡ k → len ≡ 2 ^ k * w → TileSizes k r w (1 * 2 ^ n % 18446744073709551616) (len / (1 * 2 ^ n % 18446744073709551616)) len
+pub shifted_sizes : (n k r w len : ℕ) → n < 64 → n + r ≡ k → len ≡ 2 ^ k * w → TileSizes k r w (one_shifted n) (len / one_shifted n) len
 shifted_sizes n k r w len small all full =
-    let tiles = 1 * 2 ^ n % 18446744073709551616 in
+    let tiles = one_shifted n in
     let is : tiles ≡ 2 ^ n = one_shl n 64 small in
     let some : 1 ≤ tiles = omega (arith, is, pow_pos n) in
     let rows : tiles * 2 ^ r ≡ 2 ^ k = ap (λ n. n * 2 ^ r) is ∙ sym (pow-add 2 n r) ∙ ap (λ n. 2 ^ n) all in
@@ -28,7 +29,7 @@ shifted_sizes n k r w len small all full =
     record { tiles_is = is ∙ ap (λ n. 2 ^ n) (omega (arith, all)); some = some; size_is = size; whole = whole ∙ ap (λ n. tiles * n) (sym size); rows = rows }
 
 pub tile_sizes : (k r w len : ℕ) → k < 64 → r ≤ k → len ≡ 2 ^ k * w
-    → TileSizes k r w (1 * 2 ^ (k - r) % 18446744073709551616) (len / (1 * 2 ^ (k - r) % 18446744073709551616)) len
+    → TileSizes k r w (one_shifted (k - r)) (len / (one_shifted (k - r))) len
 tile_sizes k r w len small below full = shifted_sizes (k - r) k r w len (omega (arith, small)) (omega (arith, below)) full
 
 -- the rows of one tile
@@ -66,10 +67,10 @@ pub record SpreadSizes (r a copies count : ℕ) : Type 0 where
   pub some : 1 ≤ count
   pub rows : count * copies ≡ 2 ^ r
 
-pub spread_sizes : (r a : ℕ) → r < 64 → a ≤ r → SpreadSizes r a (1 * 2 ^ a % 18446744073709551616) (1 * 2 ^ (r - a) % 18446744073709551616)
+pub spread_sizes : (r a : ℕ) → r < 64 → a ≤ r → SpreadSizes r a (one_shifted a) (one_shifted (r - a))
 spread_sizes r a small added =
-    let copies : 1 * 2 ^ a % 18446744073709551616 ≡ 2 ^ a = one_shl a 64 (omega (arith, small, added)) in
-    let count : 1 * 2 ^ (r - a) % 18446744073709551616 ≡ 2 ^ (r - a) = one_shl (r - a) 64 (omega (arith, small)) in
+    let copies : one_shifted a ≡ 2 ^ a = one_shl a 64 (omega (arith, small, added)) in
+    let count : one_shifted (r - a) ≡ 2 ^ (r - a) = one_shl (r - a) 64 (omega (arith, small)) in
     let part : r - a + a ≡ r = omega (arith, added) in
     record {
       copies_is = copies;

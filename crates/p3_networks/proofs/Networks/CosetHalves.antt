@@ -11,54 +11,54 @@ use Rattle.p3_matrix.specs.Cosets.{point}
 use Rattle.p3_matrix.specs.Polynomials.{poly}
 use Rattle.p3_matrix.specs.RowMajor.{RowMajor}
 use Rattle.p3_networks.specs.Slots.{HasRowsOnCoset, LentInBlocks}
-use Rattle.p3_networks.specs.Twiddles.{AreBlockTwiddles, AreTwiddlesOfLayers, IsCosetTable, coset_twiddles, forward_root}
+use Rattle.p3_networks.specs.Twiddles.{AreBlockTwiddles, AreTwiddlesOfLayers, IsCosetTable, coset_twiddles, forward_root, mid_of}
 use Rattle.p3_networks.proofs.Layers.Counts.{halves_counted}
 use Rattle.p3_networks.proofs.Networks.Chunks.{rows_of_halves}
 use Rattle.p3_networks.proofs.Tables.CosetTables.{coset_room, high_of_coset, low_of_coset}
 use Rattle.p3_networks.proofs.Tables.RootPowers.{fewer_roots}
 
 -- the layers of both halves, and the chunks of the second
-pub halves_whole : (k : ℕ) → (k + 1) / 2 + (k - (k + 1) / 2) ≡ k
+pub halves_whole : (k : ℕ) → mid_of k + (k - mid_of k) ≡ k
 halves_whole k = omega arith
 
-pub rows_whole : (k : ℕ) → 2 ^ k ≡ 2 ^ ((k + 1) / 2) * 2 ^ (k - (k + 1) / 2)
-rows_whole k = ap (λ n. 2 ^ n) (sym (halves_whole k)) ∙ pow-add 2 ((k + 1) / 2) (k - (k + 1) / 2)
+pub rows_whole : (k : ℕ) → 2 ^ k ≡ 2 ^ mid_of k * 2 ^ (k - mid_of k)
+rows_whole k = ap (λ n. 2 ^ n) (sym (halves_whole k)) ∙ pow-add 2 (mid_of k) (k - mid_of k)
 
 -- what both halves count
-pub both_counted : (k w before middle after : ℕ) → middle ≤ before + 2 ^ (k - (k + 1) / 2) * (w * ((k + 1) / 2 * 2 ^ ((k + 1) / 2) / 2))
-    → after ≤ middle + 2 ^ ((k + 1) / 2) * (w * ((k - (k + 1) / 2) * 2 ^ (k - (k + 1) / 2) / 2)) → after ≤ before + w * (k * 2 ^ k / 2)
+pub both_counted : (k w before middle after : ℕ) → middle ≤ before + 2 ^ (k - mid_of k) * (w * (mid_of k * 2 ^ mid_of k / 2))
+    → after ≤ middle + 2 ^ mid_of k * (w * ((k - mid_of k) * 2 ^ (k - mid_of k) / 2)) → after ≤ before + w * (k * 2 ^ k / 2)
 both_counted k w before middle after first second =
-    let mid = (k + 1) / 2 in
+    let mid = mid_of k in
     let left = k - mid in
     let none : 2 ^ mid * (w * (left * 2 ^ left / 2)) ≡ 2 ^ mid * (w * (left * 2 ^ left / 2) + 0 * (2 ^ left * w)) = let e : w * (left * 2 ^ left / 2) ≡ w * (left * 2 ^ left / 2) + 0 * (2 ^ left * w) = omega arith in ap (λ n. 2 ^ mid * n) e in
     let e = halves_counted mid left k w 0 (halves_whole k) in
     omega (arith, e, none, first, second)
 
 module _ {F : Type 0} (field : FieldMembers F) (generator : ℕ → F) (s : field.Element) (k : ℕ) (twiddles : List F) (table : IsCosetTable field generator s k twiddles) where
-  pub low_room : 2 ^ ((k + 1) / 2) - 1 ≤ length twiddles
-  low_room = (low_of_coset field generator s k twiddles ((k + 1) / 2) (k - (k + 1) / 2) (omega arith) (halves_whole k) table).size
+  pub low_room : 2 ^ mid_of k - 1 ≤ length twiddles
+  low_room = (low_of_coset field generator s k twiddles (mid_of k) (k - mid_of k) (omega arith) (halves_whole k) table).size
 
-  pub high_room : (l : ℕ) → l < (k + 1) / 2 + (k - (k + 1) / 2) → 2 * 2 ^ l - 1 ≤ length twiddles
+  pub high_room : (l : ℕ) → l < mid_of k + (k - mid_of k) → 2 * 2 ^ l - 1 ≤ length twiddles
   high_room l below = coset_room field generator s k twiddles l (omega (arith, below)) table
 
   -- what the first half makes of rows, and the first n chunks of the second
   abbrev FirstHalf : ℕ → List F → List F → Type 0
-  FirstHalf w before middle = (g : ℕ → field.Element) (x : field.Element) → AreRoots field.ring ((k + 1) / 2) g → AreTwiddlesOfLayers field ((k + 1) / 2) (coset_twiddles field g x ((k + 1) / 2)) twiddles
-      → (a t j : ℕ) → a < 2 ^ (k - (k + 1) / 2) → t < 2 ^ ((k + 1) / 2) → j < w → field.value (get_or middle ((a * 2 ^ ((k + 1) / 2) + t) * w + j) field.ZERO)
-      ≡ poly field.ring (2 ^ ((k + 1) / 2)) (λ q. field.value (get_or before ((a * 2 ^ ((k + 1) / 2) + rev ((k + 1) / 2) q) * w + j) field.ZERO)) (point field.ring g ((k + 1) / 2) x t)
+  FirstHalf w before middle = (g : ℕ → field.Element) (x : field.Element) → AreRoots field.ring (mid_of k) g → AreTwiddlesOfLayers field (mid_of k) (coset_twiddles field g x (mid_of k)) twiddles
+      → (a t j : ℕ) → a < 2 ^ (k - mid_of k) → t < 2 ^ mid_of k → j < w → field.value (get_or middle ((a * 2 ^ mid_of k + t) * w + j) field.ZERO)
+      ≡ poly field.ring (2 ^ mid_of k) (λ q. field.value (get_or before ((a * 2 ^ mid_of k + rev (mid_of k) q) * w + j) field.ZERO)) (point field.ring g (mid_of k) x t)
 
   abbrev SecondHalf : ℕ → List F → List F → ℕ → Type 0
-  SecondHalf w middle after n = (g : ℕ → field.Element) (x : field.Element) → AreRoots field.ring ((k + 1) / 2 + (k - (k + 1) / 2)) g → AreBlockTwiddles field g x ((k + 1) / 2) ((k + 1) / 2 + (k - (k + 1) / 2)) true twiddles
-      → (a t j : ℕ) → a < n → t < 2 ^ (k - (k + 1) / 2) → j < w → field.value (get_or after ((a * 2 ^ (k - (k + 1) / 2) + t) * w + j) field.ZERO)
-      ≡ poly field.ring (2 ^ (k - (k + 1) / 2)) (λ q. field.value (get_or middle ((rev (k - (k + 1) / 2) q * 2 ^ ((k + 1) / 2) + rev ((k + 1) / 2) a) * w + j) field.ZERO))
-      (point field.ring g (k - (k + 1) / 2) (point field.ring g ((k + 1) / 2 + (k - (k + 1) / 2)) x (rev ((k + 1) / 2) a)) (rev (k - (k + 1) / 2) t))
+  SecondHalf w middle after n = (g : ℕ → field.Element) (x : field.Element) → AreRoots field.ring (mid_of k + (k - mid_of k)) g → AreBlockTwiddles field g x (mid_of k) (mid_of k + (k - mid_of k)) true twiddles
+      → (a t j : ℕ) → a < n → t < 2 ^ (k - mid_of k) → j < w → field.value (get_or after ((a * 2 ^ (k - mid_of k) + t) * w + j) field.ZERO)
+      ≡ poly field.ring (2 ^ (k - mid_of k)) (λ q. field.value (get_or middle ((rev (k - mid_of k) q * 2 ^ mid_of k + rev (mid_of k) a) * w + j) field.ZERO))
+      (point field.ring g (k - mid_of k) (point field.ring g (mid_of k + (k - mid_of k)) x (rev (mid_of k) a)) (rev (k - mid_of k) t))
 
   -- the first half leads from before to middle, the second to the first n chunks of after
   pub rows_on_coset : {bits : ℕ} → AreRoots field.ring bits (forward_root field generator) → k ≤ bits → (w n : ℕ) (before middle after : List F)
-      → FirstHalf w before middle → SecondHalf w middle after n → HasRowsOnCoset field generator k w s (n * 2 ^ (k - (k + 1) / 2)) before after
+      → FirstHalf w before middle → SecondHalf w middle after n → HasRowsOnCoset field generator k w s (n * 2 ^ (k - mid_of k)) before after
   rows_on_coset roots_law within w n before middle after first second r j below inside =
       let gen = forward_root field generator in
-      let mid = (k + 1) / 2 in
+      let mid = mid_of k in
       let left = k - mid in
       let k_is = halves_whole k in
       let roots = fewer_roots field.ring (mid + left) _ (omega (arith, within)) roots_law in
@@ -72,9 +72,9 @@ module _ {F : Type 0} (field : FieldMembers F) (generator : ℕ → F) (s : fiel
   -- and what the second lends are such rows
   pub lent_on_coset : {C R : Type 0} {bits : ℕ} → AreRoots field.ring bits (forward_root field generator) → k ≤ bits → (step : C → ℕ → RowMajor F → Result ⊤ R → C → Type 0) (first_row w : ℕ) (before middle after : List F)
       (c : C) (result : Result ⊤ R) (e : C) → FirstHalf w before middle
-      → LentInBlocks step first_row (2 ^ (k - (k + 1) / 2)) w (2 ^ ((k + 1) / 2)) (SecondHalf w middle after) after c result e
-      → LentInBlocks step first_row (2 ^ (k - (k + 1) / 2)) w (2 ^ ((k + 1) / 2)) (λ n. HasRowsOnCoset field generator k w s (n * 2 ^ (k - (k + 1) / 2)) before after) after c result e
+      → LentInBlocks step first_row (2 ^ (k - mid_of k)) w (2 ^ mid_of k) (SecondHalf w middle after) after c result e
+      → LentInBlocks step first_row (2 ^ (k - mid_of k)) w (2 ^ mid_of k) (λ n. HasRowsOnCoset field generator k w s (n * 2 ^ (k - mid_of k)) before after) after c result e
   lent_on_coset roots_law within step first_row w before middle after c result e first lent =
       MatchResult-weaker result lent
-      (λ _ given. (rows_on_coset roots_law within w (2 ^ ((k + 1) / 2)) before middle after first given.0, given.1))
+      (λ _ given. (rows_on_coset roots_law within w (2 ^ mid_of k) before middle after first given.0, given.1))
       (λ refusal given. let (m, below, second, stopped) = given in (m, below, rows_on_coset roots_law within w (m + 1) before middle after first second, stopped))

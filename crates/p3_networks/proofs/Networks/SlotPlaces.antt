@@ -17,7 +17,7 @@ use Rattle.p3_matrix.specs.RowMajor.{RowMajor}
 use Rattle.p3_matrix.specs.Cosets.{point}
 use Rattle.p3_matrix.specs.Polynomials.{poly}
 use Rattle.p3_networks.specs.Slots.{slot_block, slot_blocks}
-use Rattle.p3_networks.specs.Twiddles.{forward_root}
+use Rattle.p3_networks.specs.Twiddles.{forward_root, mid_of}
 use Rattle.p3_networks.proofs.Layers.Blocks.{row_below}
 use Rattle.p3_networks.proofs.Layers.Halves.{in_first}
 use Rattle.p3_networks.proofs.Networks.Chunks.{slot_point}
@@ -30,11 +30,11 @@ pub first_ends : (k a : ℕ) → k + a < 64 → 0 + 2 ^ k < 18446744073709551616
 first_ends k a small = let fits : 2 ^ k < 2 ^ 64 = pow-lt (let l : k < 64 = omega (arith, small) in l) in omega (arith, fits)
 
 -- a slot is whole blocks
-pub blocks_whole : (k : ℕ) → 2 ^ ((k + 1) / 2) * 2 ^ (k - (k + 1) / 2) ≡ 2 ^ k
-blocks_whole k = let e : (k + 1) / 2 + (k - (k + 1) / 2) ≡ k = omega arith in sym (pow-add 2 ((k + 1) / 2) (k - (k + 1) / 2)) ∙ ap (λ n. 2 ^ n) e
+pub blocks_whole : (k : ℕ) → 2 ^ mid_of k * 2 ^ (k - mid_of k) ≡ 2 ^ k
+blocks_whole k = let e : mid_of k + (k - mid_of k) ≡ k = omega arith in sym (pow-add 2 (mid_of k) (k - mid_of k)) ∙ ap (λ n. 2 ^ n) e
 
-cells_whole : (k w : ℕ) → 2 ^ ((k + 1) / 2) * (2 ^ (k - (k + 1) / 2) * w) ≡ 2 ^ k * w
-cells_whole k w = let assoc : 2 ^ ((k + 1) / 2) * (2 ^ (k - (k + 1) / 2) * w) ≡ 2 ^ ((k + 1) / 2) * 2 ^ (k - (k + 1) / 2) * w = omega arith in assoc ∙ ap (λ n. n * w) (blocks_whole k)
+cells_whole : (k w : ℕ) → 2 ^ mid_of k * (2 ^ (k - mid_of k) * w) ≡ 2 ^ k * w
+cells_whole k w = let assoc : 2 ^ mid_of k * (2 ^ (k - mid_of k) * w) ≡ 2 ^ mid_of k * 2 ^ (k - mid_of k) * w = omega arith in assoc ∙ ap (λ n. n * w) (blocks_whole k)
 
 -- a list in front of another
 front_kept : {T : Type 0} (xs ys : List T) → take (length xs) xs ≡ take (length xs) (xs ++ ys)

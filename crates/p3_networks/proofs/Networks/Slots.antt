@@ -15,12 +15,13 @@ use Rattle.p3_networks.proofs.Layers.Halves.{in_first, in_second, shifted_size}
 use Rattle.p3_networks.proofs.Layers.Sizes.{second_shift}
 use Rattle.p3_matrix.proofs.Polynomials.ByIndex.{poly_same, poly-scaled}
 use Rattle.p3_matrix.proofs.Polynomials.Cosets.{point-mul}
+use Rattle.p3_networks.proofs.Layers.Shifts.{one_shifted}
 
 pub slots_whole : (k a w : ℕ) → 2 ^ (k + a) * w ≡ 2 ^ a * (2 ^ k * w)
 slots_whole k a w = ap (λ n. n * w) (pow-add 2 k a) ∙ omega arith
 
 -- a slot, as the program has its size
-pub slot_size : (len k a w : ℕ) → k + a < 64 → len ≡ 2 ^ (k + a) * w → len / (1 * 2 ^ a % 18446744073709551616) ≡ 2 ^ k * w
+pub slot_size : (len k a w : ℕ) → k + a < 64 → len ≡ 2 ^ (k + a) * w → len / one_shifted a ≡ 2 ^ k * w
 slot_size len k a w small height = shifted_size len a (2 ^ k * w) (omega arith) (height ∙ slots_whole k a w)
 
 -- room for one more slot of the others
@@ -31,15 +32,15 @@ slot_room place a size len below full =
     omega (arith, all, spread, full)
 
 -- the same as the program has the number of slots and their size, while its loop over all but one goes on
-module _ (len k a w place : ℕ) (small : k + a < 64) (full : len ≡ 2 ^ (k + a) * w) (below : place < 1 * 2 ^ a % 18446744073709551616 - 1) where
+module _ (len k a w place : ℕ) (small : k + a < 64) (full : len ≡ 2 ^ (k + a) * w) (below : place < one_shifted a - 1) where
   pub more_slots : place + 1 < 2 ^ a
   more_slots = omega (arith, second_shift k a small, below)
 
-  pub slot_within : place * (len / (1 * 2 ^ a % 18446744073709551616)) + len / (1 * 2 ^ a % 18446744073709551616) ≤ len - len / (1 * 2 ^ a % 18446744073709551616)
+  pub slot_within : place * (len / one_shifted a) + len / one_shifted a ≤ len - len / one_shifted a
   slot_within = rw (slot_size len k a w small full) (slot_room place a (2 ^ k * w) len more_slots (full ∙ slots_whole k a w))
 
-  pub slot_inside : (back others : ℕ) → back + len / (1 * 2 ^ a % 18446744073709551616) ≡ len → others ≡ back
-      → place * (len / (1 * 2 ^ a % 18446744073709551616)) + len / (1 * 2 ^ a % 18446744073709551616) ≤ others
+  pub slot_inside : (back others : ℕ) → back + len / one_shifted a ≡ len → others ≡ back
+      → place * (len / one_shifted a) + len / one_shifted a ≤ others
   slot_inside back others split rest = omega (arith, slot_within, split, rest)
 
 -- the rows of n slots, slot by slot

@@ -8,19 +8,20 @@ use Rattle.p3_networks.proofs.Layers.Blocks.{row_below}
 use Rattle.p3_networks.proofs.Layers.Halves.{block_room, shifted_room, shifted_size}
 use Rattle.p3_matrix.proofs.Polynomials.ByIndex.{poly_same}
 use Rattle.p3_matrix.proofs.Rows.Overwritten.{RowsDone, part_at, part-more}
+use Rattle.p3_networks.proofs.Layers.Shifts.{one_shifted}
 
 -- 2 ^ mid chunks of 2 ^ left rows, as a program has their number by a shift: so many cells has each, and each lies within all of them
 module _ (len mid left w : ℕ) (small : mid + left < 64) (full : len ≡ 2 ^ (mid + left) * w) where
   high_chunks_whole : len ≡ 2 ^ mid * (2 ^ left * w)
   high_chunks_whole = full ∙ ap (λ n. n * w) (pow-add 2 mid left) ∙ omega arith
 
-  pub high_chunk_cells : len / (1 * 2 ^ mid % 18446744073709551616) ≡ 2 ^ left * w
+  pub high_chunk_cells : len / one_shifted mid ≡ 2 ^ left * w
   high_chunk_cells = shifted_size len mid (2 ^ left * w) (omega arith) high_chunks_whole
 
   pub high_chunk_fits : (chunk : ℕ) → chunk < 2 ^ mid → chunk * (2 ^ left * w) + 2 ^ left * w ≤ len
   high_chunk_fits chunk below = block_room chunk (2 ^ mid) (2 ^ left * w) len below high_chunks_whole
 
-  pub high_chunk_room : (chunk : ℕ) → chunk < 1 * 2 ^ mid % 18446744073709551616 → chunk * (len / (1 * 2 ^ mid % 18446744073709551616)) + len / (1 * 2 ^ mid % 18446744073709551616) ≤ len
+  pub high_chunk_room : (chunk : ℕ) → chunk < one_shifted mid → chunk * (len / one_shifted mid) + len / one_shifted mid ≤ len
   high_chunk_room chunk below = shifted_room chunk len mid (2 ^ left * w) (omega arith) high_chunks_whole below
 
 module _ {A T : Type 0} (R : Ring A) (value : T → A) (d : T) (m w : ℕ) (place : ℕ → ℕ) (change : A → A) (point : ℕ → ℕ → A) where

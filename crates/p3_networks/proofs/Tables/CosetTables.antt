@@ -6,35 +6,35 @@ use Rattle.std.proofs.lemmas.Nat.{pow-add}
 use Rattle.p3_field.specs.Ring.{power}
 use Rattle.p3_field.specs.declared.fields.Field.{Ghosts as FieldMembers}
 use Rattle.p3_field.proofs.Powers.{power-mul}
-use Rattle.p3_networks.specs.Twiddles.{AreBlockTwiddles, AreTwiddlesOfLayers, Coset, HasCoset, IsCosetAt, IsCosetOf, IsCosetTable, coset_twiddles, forward_root, layer_place}
+use Rattle.p3_networks.specs.Twiddles.{AreBlockTwiddles, AreTwiddlesOfLayers, Coset, HasCoset, IsCosetAt, IsCosetOf, IsCosetTable, coset_twiddles, forward_root, layer_place, mid_of}
 use Rattle.p3_networks.proofs.Tables.MoreTwiddles.{fewer_layers, layer_end}
 
 module _ {F : Type 0} (f : FieldMembers F) (generator : ℕ → F) (s : f.Element) (log : ℕ) (xs : List F) where
   -- the first half is on the coset of the power of the shift
-  pub low_of_coset : (mid left : ℕ) → mid ≡ (log + 1) / 2 → mid + left ≡ log → IsCosetTable f generator s log xs
+  pub low_of_coset : (mid left : ℕ) → mid ≡ mid_of log → mid + left ≡ log → IsCosetTable f generator s log xs
       → AreTwiddlesOfLayers f mid (coset_twiddles f (forward_root f generator) (power f.ring s (2 ^ left)) mid) xs
   low_of_coset mid left half whole table =
       let root = forward_root f generator in
-      let fewer = fewer_layers f (λ l t. coset_twiddles f root s log l (layer_place (leb ((log + 1) / 2) l) l t)) mid log xs (omega (arith, whole)) table in
+      let fewer = fewer_layers f (λ l t. coset_twiddles f root s log l (layer_place (leb (mid_of log) l) l t)) mid log xs (omega (arith, whole)) table in
       record {
         size = fewer.size;
         layers = λ l below. let layer = fewer.layers l below in record {
           size = layer.size;
           entries = λ t p.
-              let natural = lt-leb ((log + 1) / 2) l (omega (arith, below, half)) in
+              let natural = lt-leb (mid_of log) l (omega (arith, below, half)) in
               let split : log - 1 - l ≡ left + (mid - 1 - l) = omega (arith, whole, below) in
               layer.entries t p ∙ ap (λ r. coset_twiddles f root s log l (layer_place r l t)) natural
               ∙ ap (λ x. f.ring.mul x (power f.ring (root (l + 1)) t)) (ap (λ n. power f.ring s (2 ^ n)) split ∙ ap (power f.ring s) (pow-add 2 left (mid - 1 - l)) ∙ power-mul f.ring s (2 ^ left) (2 ^ (mid - 1 - l)));
         };
       }
 
-  pub high_of_coset : (mid k : ℕ) → mid ≡ (log + 1) / 2 → log ≡ k → IsCosetTable f generator s log xs → AreBlockTwiddles f (forward_root f generator) s mid k true xs
+  pub high_of_coset : (mid k : ℕ) → mid ≡ mid_of log → log ≡ k → IsCosetTable f generator s log xs → AreBlockTwiddles f (forward_root f generator) s mid k true xs
   high_of_coset mid k half same table =
       let root = forward_root f generator in
       subst (λ (n : ℕ). AreBlockTwiddles f root s mid n true xs) same
       (λ l from below. let layer = table.layers l below in record {
         size = layer.size;
-        entries = λ b p. layer.entries b p ∙ ap (λ r. coset_twiddles f root s log l (layer_place r l b)) (le-leb ((log + 1) / 2) l (omega (arith, from, half)));
+        entries = λ b p. layer.entries b p ∙ ap (λ r. coset_twiddles f root s log l (layer_place r l b)) (le-leb (mid_of log) l (omega (arith, from, half)));
       })
 
   -- the table reaches so far

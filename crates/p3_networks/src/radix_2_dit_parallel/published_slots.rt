@@ -12,6 +12,7 @@ ghost use Rattle.p3_matrix.specs.Cosets.{point};
 ghost use Rattle.p3_matrix.specs.Polynomials.{poly};
 ghost use Rattle.p3_networks.specs.Slots.{HasRowsOnCoset, LentInBlocks, extended_rows, slot_blocks};
 ghost use Rattle.p3_networks.specs.Twiddles.{AreBlockTwiddles, HasCoset, HasCosets, IsCosetAt, block_end, forward_root};
+ghost use Rattle.p3_networks.specs.Twiddles.{mid_of};
 
 use crate::radix_2_dit_parallel::coset_tables::{CosetTable, CosetTables, slot_shift};
 use crate::radix_2_dit_parallel::halves::{
@@ -47,11 +48,11 @@ pub fn extend_slots<F: TwoAdicField, C: BlockConsumer<F>>(
         → F.value (get_or values.new (r * width + j) F.ZERO)
         ≡ (extended_rows F.Field.own F.generator log_h added_bits width (F.value shift) values.old).entry r j) }
     ensures published { OnOk result ((blocks : List (ℕ × RowMajor F))
-        × IsPermutation (slot_blocks 0 (2 ^ (log_h - (log_h + 1) / 2)) width values.new
-        (2 ^ added_bits * 2 ^ ((log_h + 1) / 2))) blocks
+        × IsPermutation (slot_blocks 0 (2 ^ (log_h - mid_of log_h)) width values.new
+        (2 ^ added_bits * 2 ^ mid_of log_h)) blocks
         × Run C.step consumer.old blocks consumer.new) }
     ensures refused { IfErr result (λ refusal. (accepted : List (ℕ × RowMajor F)) × (refused : ℕ × RowMajor F)
-        × AreBlocksOf (λ m. image F.value (matrix F.ZERO m)) (2 ^ (log_h - (log_h + 1) / 2))
+        × AreBlocksOf (λ m. image F.value (matrix F.ZERO m)) (2 ^ (log_h - mid_of log_h))
         (extended_rows F.Field.own F.generator log_h added_bits width (F.value shift) values.old)
         (accepted ++ refused ∷ [])
         × RunToRefusal C.step consumer.old accepted refused refusal consumer.new) }
@@ -126,9 +127,9 @@ fn evaluate_reversed_oop<F: TwoAdicField, C: BlockConsumer<F>>(
     requires size { length values.old ≡ 2 ^ log_h * width }
     requires table { table.now.log_h ≡ log_h }
     requires rows { first_row + 2 ^ log_h < 2 ^ 64 }
-    ensures lent { LentInBlocks C.step first_row (2 ^ (log_h - (log_h + 1) / 2)) width (2 ^ ((log_h + 1) / 2))
+    ensures lent { LentInBlocks C.step first_row (2 ^ (log_h - mid_of log_h)) width (2 ^ mid_of log_h)
         (λ n. HasRowsOnCoset F.Field.own F.generator log_h width (F.value table.now.shift)
-        (n * 2 ^ (log_h - (log_h + 1) / 2)) coefficients.now values.new)
+        (n * 2 ^ (log_h - mid_of log_h)) coefficients.now values.new)
         values.new consumer.old result consumer.new }
     ensures grows { products.old ≤ products.new }
     ensures cost { products.new ≤ products.old + width * (log_h * 2 ^ log_h / 2) }
@@ -167,9 +168,9 @@ fn evaluate_reversed<F: TwoAdicField, C: BlockConsumer<F>>(
     requires size { length values.old ≡ 2 ^ log_h * width }
     requires table { table.now.log_h ≡ log_h }
     requires rows { first_row + 2 ^ log_h < 2 ^ 64 }
-    ensures lent { LentInBlocks C.step first_row (2 ^ (log_h - (log_h + 1) / 2)) width (2 ^ ((log_h + 1) / 2))
+    ensures lent { LentInBlocks C.step first_row (2 ^ (log_h - mid_of log_h)) width (2 ^ mid_of log_h)
         (λ n. HasRowsOnCoset F.Field.own F.generator log_h width (F.value table.now.shift)
-        (n * 2 ^ (log_h - (log_h + 1) / 2)) values.old values.new)
+        (n * 2 ^ (log_h - mid_of log_h)) values.old values.new)
         values.new consumer.old result consumer.new }
     ensures grows { products.old ≤ products.new }
     ensures cost { products.new ≤ products.old + width * (log_h * 2 ^ log_h / 2) }

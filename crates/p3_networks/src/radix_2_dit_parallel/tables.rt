@@ -3,6 +3,7 @@
 ghost use Rattle.std.specs.Prelude.{◌≡◌, ◌⊎◌, ◌+◌, ◌-◌, ◌^◌, ◌/◌, ◌≤◌, ◌<◌, IsOk, OnOk, OnErr, length};
 ghost use Rattle.p3_networks.specs.Twiddles.{AreTwiddlesFromStart, AreTwiddlesOfLayers, block_powers, root_of};
 ghost use Rattle.p3_networks.specs.Twiddles.{root_powers};
+ghost use Rattle.p3_networks.specs.Twiddles.{mid_of};
 
 use crate::root_tables::RootTables;
 use crate::twiddles::twiddles_of_layers;
@@ -34,11 +35,11 @@ impl<F: TwoAdicField> Model for Tables<F> {
     ghost view = { λ t. t.high };
 
     ghost invariant = { λ t.
-        (length (items_if_any t.forward) ≡ 2 ^ ((t.high + 1) / 2) - 1)
-        × (length (items_if_any t.backward) ≡ 2 ^ ((t.high + 1) / 2) - 1)
-        × AreTwiddlesOfLayers F.Field ((t.high + 1) / 2) (root_powers F.Field F.generator false)
+        (length (items_if_any t.forward) ≡ 2 ^ mid_of t.high - 1)
+        × (length (items_if_any t.backward) ≡ 2 ^ mid_of t.high - 1)
+        × AreTwiddlesOfLayers F.Field (mid_of t.high) (root_powers F.Field F.generator false)
         (items_if_any t.forward)
-        × AreTwiddlesOfLayers F.Field ((t.high + 1) / 2) (root_powers F.Field F.generator true)
+        × AreTwiddlesOfLayers F.Field (mid_of t.high) (root_powers F.Field F.generator true)
         (items_if_any t.backward)
         × (t.high ≤ F.TWO_ADICITY) };
 }
@@ -87,8 +88,8 @@ impl<F: TwoAdicField> Tables<F> {
 
     /// The powers of the generators, or of their inverses, for the first half.
     pub fn low(&self, inverse: bool) -> &[F]
-        ensures size { length result.now ≡ 2 ^ ((self.now + 1) / 2) - 1 }
-        ensures table { AreTwiddlesOfLayers F.Field.own ((self.now + 1) / 2)
+        ensures size { length result.now ≡ 2 ^ mid_of self.now - 1 }
+        ensures table { AreTwiddlesOfLayers F.Field.own (mid_of self.now)
             (root_powers F.Field.own F.generator inverse) result.now }
     {
         let powers = if inverse {

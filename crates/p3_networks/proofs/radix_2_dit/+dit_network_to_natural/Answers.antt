@@ -12,6 +12,7 @@ use Rattle.p3_networks.proofs.Networks.LowHalves.{half_size, low_halves, rest_si
 use Rattle.p3_networks.proofs.Networks.LowLayers.{low_done, low_layer}
 use Rattle.p3_networks.proofs.Tables.MoreTwiddles.{fewer_layers}
 use Rattle.p3_networks.proofs.Tables.RootPowers.{fewer_roots, subgroup_table}
+use Rattle.p3_networks.proofs.Layers.Shifts.{one_shifted}
 use Rattle.p3_networks.proofs.radix_2_dit.+dit_network_to_natural.Goals as goal
 
 pub dit_network_to_natural-requires : goal.dit_network_to_natural-requires
@@ -33,7 +34,7 @@ layer_by_place-requires-clause-size g t c =
     let k = c.args.log_h in
     let w = c.args.width in
     let len = length c.args.values.now in
-    let half : 1 * 2 ^ (k - 1) % 18446744073709551616 ≡ 2 ^ (k - 1) = one_shl (k - 1) 64 (omega (arith, c.requires.small)) in
+    let half : one_shifted (k - 1) ≡ 2 ^ (k - 1) = one_shl (k - 1) 64 (omega (arith, c.requires.small)) in
     let first = c.dit_network_to_natural in
     let second = c.dit_network_to_natural-then-values-gt-CACHED in
     let front = first.auto.values ∙ c.split_at_mut-low.ensures.front_len ∙ half_size k w len c.if-log_h-gt0.true c.requires.size in
@@ -48,7 +49,7 @@ returns-then-values-gt-CACHED-clause-values g t c r j below inside =
     let k = c.args.log_h in
     let w = c.args.width in
     let some = c.if-log_h-gt0.true in
-    let half = 1 * 2 ^ (k - 1) % 18446744073709551616 in
+    let half = one_shifted (k - 1) in
     let h : half ≡ 2 ^ (k - 1) = one_shl (k - 1) 64 (omega (arith, c.requires.small)) in
     let last : k - 1 < k = omega (arith, some) in
     let one_block : 2 ^ (k - 1 - (k - 1)) ≡ 1 = let none : k - 1 - (k - 1) ≡ 0 = omega arith in ap (λ n. 2 ^ n) none in
@@ -72,7 +73,7 @@ returns-then-values-gt-CACHED-clause-values g t c r j below inside =
 pub returns-then-values-gt-CACHED-clause-cost : goal.returns-then-values-gt-CACHED-clause-cost
 returns-then-values-gt-CACHED-clause-cost g t c =
     let k = c.args.log_h in
-    let half : 1 * 2 ^ (k - 1) % 18446744073709551616 ≡ 2 ^ (k - 1) = one_shl (k - 1) 64 (omega (arith, c.requires.small)) in
+    let half : one_shifted (k - 1) ≡ 2 ^ (k - 1) = one_shl (k - 1) 64 (omega (arith, c.requires.small)) in
     joined_count k c.args.width c.args.products.now c.dit_network_to_natural.new.products c.dit_network_to_natural-then-values-gt-CACHED.new.products c.layer_by_place.new.products
     c.if-log_h-gt0.true c.dit_network_to_natural.ensures.cost c.dit_network_to_natural-then-values-gt-CACHED.ensures.cost
     (subst (λ (n : ℕ). c.layer_by_place.new.products ≤ c.dit_network_to_natural-then-values-gt-CACHED.new.products + 1 * (1 * (n * c.args.width))) half c.layer_by_place.ensures.cost)

@@ -11,6 +11,7 @@ use Rattle.p3_matrix.proofs.BitReversal.{rev_of_zero}
 use Rattle.p3_networks.specs.Twiddles.{backward_root, block_powers, AreTwiddles}
 use Rattle.p3_networks.proofs.Tables.InversePowers.{inverse_entry}
 use Rattle.p3_networks.proofs.Layers.Halves.{in_first}
+use Rattle.p3_networks.proofs.Layers.Shifts.{one_shifted}
 use Rattle.p3_networks.proofs.root_tables.inverse_powers.Goals as goal
 
 -- chunk l lies within half the powers
@@ -19,9 +20,9 @@ record IsChunk (n l chunk : ℕ) : Type 0 where
   room : 2 * chunk ≤ 2 ^ n
   half : chunk < 2 ^ 62
 
-chunk_of : (n l : ℕ) → n < 63 → l < n → IsChunk n l (1 * 2 ^ l % 18446744073709551616)
+chunk_of : (n l : ℕ) → n < 63 → l < n → IsChunk n l (one_shifted l)
 chunk_of n l small within =
-    let is : 1 * 2 ^ l % 18446744073709551616 ≡ 2 ^ l = one_shl l 64 (omega (arith, small, within)) in
+    let is : one_shifted l ≡ 2 ^ l = one_shl l 64 (omega (arith, small, within)) in
     let rise : 2 ^ suc l ≤ 2 ^ n = pow-le-pow_right {n = 2} (lit≤ tt) within in
     let few : n ≤ 62 = omega (arith, small) in
     let most : 2 ^ n ≤ 2 ^ 62 = pow-le-pow_right {n = 2} (lit≤ tt) few in
@@ -74,10 +75,10 @@ loop-b-preserved g c =
     let now : c.push-in-loop-b.new.self.items ≡ before ++ c.neg.result ∷ [] = c.in_ok-push-2.ensures.items in
     let from : 2 ^ l ≤ b = omega (arith, chunk.is, c.loop-b.auto.b) in
     let until : b < 2 * 2 ^ l = omega (arith, chunk.is, c.loop-b-test.true) in
-    let place : 3 * (1 * 2 ^ l % 18446744073709551616) - 1 - b ≡ 3 * 2 ^ l - 1 - b = ap (λ x. 3 * x - 1 - b) chunk.is in
+    let place : 3 * (one_shifted l) - 1 - b ≡ 3 * 2 ^ l - 1 - b = ap (λ x. 3 * x - 1 - b) chunk.is in
     let entry : field.value c.neg.result ≡ block_powers field (backward_root field g.F.TwoAdicField.generator) n b =
     g.met.F.Field.neg_law _ _ c.neg.ensures
-    ∙ ap (λ x. field.ring.neg (field.value x)) (get_or_read_under c.args.powers.now (3 * (1 * 2 ^ l % 18446744073709551616) - 1 - b) _ _ field.ZERO c.index-powers-chunk.is
+    ∙ ap (λ x. field.ring.neg (field.value x)) (get_or_read_under c.args.powers.now (3 * (one_shifted l) - 1 - b) _ _ field.ZERO c.index-powers-chunk.is
     (omega (arith, chunk.room, chunk.is, c.requires.powers.size, from, pow_pos l)) refl)
     ∙ ap (λ x. field.ring.neg (field.value (get_or c.args.powers.now x field.ZERO))) place
     ∙ ap field.ring.neg (c.requires.powers.entries (3 * 2 ^ l - 1 - b) (omega (arith, chunk.room, chunk.is, from, pow_pos l)))

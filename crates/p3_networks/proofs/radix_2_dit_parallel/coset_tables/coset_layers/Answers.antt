@@ -1,7 +1,7 @@
 use Rattle.std.proofs.Common.{◌≡◌, ◌+◌, ◌*◌, ◌-◌, ◌/◌, ◌^◌, leb, length, ap, ap₂, ◌∙◌, arith, add-one}
 use Rattle.std.proofs.lemmas.Nat.{pow_pos}
 use Rattle.p3_field.specs.Ring.{power}
-use Rattle.p3_networks.specs.Twiddles.{AreTwiddlesOfLayers, coset_twiddles, forward_root, layer_place}
+use Rattle.p3_networks.specs.Twiddles.{AreTwiddlesOfLayers, coset_twiddles, forward_root, layer_place, mid_of}
 use Rattle.p3_networks.proofs.Tables.MoreTwiddles.{one_more_layer}
 use Rattle.p3_networks.proofs.Layers.Counts.{at_end}
 use Rattle.p3_networks.proofs.radix_2_dit_parallel.coset_tables.coset_layers.Goals as goal
@@ -11,13 +11,13 @@ loop-l-preserved g c =
     let field = g.F.Field in
     let l = c.loop-l.l in
     let log = c.args.log_h in
-    let reversed = leb ((log + 1) / 2) l in
+    let reversed = leb (mid_of log) l in
     let longer = c.in_ok-push_layer.ensures.size in
     let twice : 2 ^ (l + 1) ≡ 2 * 2 ^ l = ap (λ n. 2 ^ n) (add-one l) ∙ omega arith in
     let some = pow_pos l in
     record {
       full = omega (arith, longer, c.loop-l.invariant.full, twice, some);
-      layers = one_more_layer field (λ i t. coset_twiddles field (forward_root field g.F.TwoAdicField.generator) (field.value c.args.shift) log i (layer_place (leb ((log + 1) / 2) i) i t)) l
+      layers = one_more_layer field (λ i t. coset_twiddles field (forward_root field g.F.TwoAdicField.generator) (field.value c.args.shift) log i (layer_place (leb (mid_of log) i) i t)) l
           c.loop-l.twiddles.items c.push_layer.new.twiddles.items c.loop-l.invariant.full c.loop-l.invariant.layers longer c.in_ok-push_layer.ensures.before
           (λ t below.
           c.in_ok-push_layer.ensures.entries t below
@@ -31,5 +31,5 @@ pub returns-clause-table : goal.returns-clause-table
 returns-clause-table g c =
     let field = g.F.Field in
     let log = c.args.log_h in
-    at_end (λ n. AreTwiddlesOfLayers field n (λ i t. coset_twiddles field (forward_root field g.F.TwoAdicField.generator) (field.value c.args.shift) log i (layer_place (leb ((log + 1) / 2) i) i t)) c.loop-l.twiddles.items)
+    at_end (λ n. AreTwiddlesOfLayers field n (λ i t. coset_twiddles field (forward_root field g.F.TwoAdicField.generator) (field.value c.args.shift) log i (layer_place (leb (mid_of log) i) i t)) c.loop-l.twiddles.items)
     c.loop-l.l log c.loop-l.auto.l-end c.loop-l-test.false c.loop-l.invariant.layers

@@ -1,5 +1,5 @@
 use Rattle.std.proofs.Common.{◌≡◌, ◌+◌, ◌-◌, ◌/◌, ◌^◌, leb, length}
-use Rattle.p3_networks.specs.Twiddles.{AreTwiddlesOfLayers, coset_twiddles, forward_root, layer_place}
+use Rattle.p3_networks.specs.Twiddles.{AreTwiddlesOfLayers, coset_twiddles, forward_root, layer_place, mid_of}
 use Rattle.p3_networks.proofs.radix_2_dit_parallel.coset_tables.coset_layers.Given as goal
 
 -- the first layers are there
@@ -9,5 +9,5 @@ invariant-loop-l g l =
     let log = l.fn.log_h in
     record {
       full : length l.twiddles.items ≡ 2 ^ l.l - 1;
-      layers : AreTwiddlesOfLayers field l.l (λ i t. coset_twiddles field (forward_root field g.F.TwoAdicField.generator) (field.value l.fn.shift) log i (layer_place (leb ((log + 1) / 2) i) i t)) l.twiddles.items;
+      layers : AreTwiddlesOfLayers field l.l (λ i t. coset_twiddles field (forward_root field g.F.TwoAdicField.generator) (field.value l.fn.shift) log i (layer_place (leb (mid_of log) i) i t)) l.twiddles.items;
     }

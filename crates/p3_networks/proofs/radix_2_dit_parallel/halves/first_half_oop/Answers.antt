@@ -7,6 +7,7 @@ use Rattle.p3_networks.proofs.Layers.Counts.{turns_halved}
 use Rattle.p3_networks.proofs.Layers.Halves.{block_room}
 use Rattle.p3_networks.proofs.Layers.Tiles.{tile_sizes}
 use Rattle.p3_networks.proofs.Rows.EachChunk.{row_taken}
+use Rattle.p3_networks.proofs.Layers.Shifts.{one_shifted}
 use Rattle.p3_networks.proofs.radix_2_dit_parallel.halves.first_half_oop.Goals as goal
 
 pub on_each_chunk-requires : goal.on_each_chunk-requires
@@ -25,7 +26,7 @@ returns-then-width-eq1-clause-values g c root s roots table =
     let mid = c.args.mid in
     let sizes = tile_sizes c.args.log_h c.args.mid 1 (length c.args.values.now) c.requires.small c.requires.parts (rw c.if-width-eq1.true at c.requires.size) in
     rw c.if-width-eq1.true (λ a t j below inside column.
-    let chunk : a < 1 * 2 ^ (c.args.log_h - mid) % 18446744073709551616 = omega (arith, below, sizes.tiles_is) in
+    let chunk : a < one_shifted (c.args.log_h - mid) = omega (arith, below, sizes.tiles_is) in
     row_taken field.ZERO _ field.ring field.value field.value (2 ^ mid) 1 (rev mid) _ a t j (point field.ring root mid s t) c.args.source.now c.on_each_chunk.new.values sizes.size_is
     (part_size c.args.values.now _ _ (block_room a _ _ _ chunk sizes.whole)) (λ q l. rev-lt mid q) inside column
     (c.on_each_chunk.ensures.chunks a chunk root s roots table t j inside column))
@@ -50,7 +51,7 @@ returns-else-width-eq1-clause-values g c root s roots table a t j below inside c
     let field = g.F.Field in
     let mid = c.args.mid in
     let sizes = tile_sizes c.args.log_h c.args.mid c.args.width (length c.args.values.now) c.requires.small c.requires.parts c.requires.size in
-    let chunk : a < 1 * 2 ^ (c.args.log_h - mid) % 18446744073709551616 = omega (arith, below, sizes.tiles_is) in
+    let chunk : a < one_shifted (c.args.log_h - mid) = omega (arith, below, sizes.tiles_is) in
     row_taken field.ZERO _ field.ring field.value field.value (2 ^ mid) c.args.width (rev mid) _ a t j (point field.ring root mid s t) c.args.source.now c.on_each_chunk-else-width-eq1.new.values sizes.size_is
     (part_size c.args.values.now _ _ (block_room a _ _ _ chunk sizes.whole)) (λ q l. rev-lt mid q) inside column
     (c.on_each_chunk-else-width-eq1.ensures.chunks a chunk root s roots table t j inside column)

@@ -11,6 +11,7 @@ use Rattle.p3_networks.proofs.Networks.Formulas.{whole_layer_taken}
 use Rattle.p3_networks.proofs.Networks.HighRows.{high_row, high_rows, high_start, high_end}
 use Rattle.p3_networks.proofs.Networks.Stages.{twiddle}
 use Rattle.p3_networks.proofs.Tables.BlockTables.{block_count, blocks_within, chunk_entry}
+use Rattle.p3_networks.proofs.Layers.Shifts.{one_shifted}
 use Rattle.p3_networks.proofs.radix_2_dit_parallel.halves.high_network.Goals as goal
 
 -- a chunk has a twiddle in the first of its layers
@@ -21,8 +22,8 @@ first_there by_layer mid left chunk xs ys some below reaches is =
     omega (arith, count, below)
 
 -- the half block of the first layer, of which there is one block
-first_half : (k : ℕ) → 1 ≤ k → k < 64 → 1 * 2 ^ (k - 1) % 18446744073709551616 ≡ 2 ^ (k - 1)
-first_half k some small = let e : k - 1 ≡ k - 1 - 0 = omega arith in ap (λ n. 1 * 2 ^ n % 18446744073709551616) e ∙ left_shift k 0 (omega arith) small ∙ ap (λ n. 2 ^ n) (sym e)
+first_half : (k : ℕ) → 1 ≤ k → k < 64 → one_shifted (k - 1) ≡ 2 ^ (k - 1)
+first_half k some small = let e : k - 1 ≡ k - 1 - 0 = omega arith in ap (λ n. one_shifted n) e ∙ left_shift k 0 (omega arith) small ∙ ap (λ n. 2 ^ n) (sym e)
 
 first_whole : (k : ℕ) → 1 ≤ k → 1 * (2 * 2 ^ (k - 1)) ≡ 2 ^ k
 first_whole k some = let e : k - 1 ≡ k - 1 - 0 = omega arith in ap (λ n. 1 * (2 * 2 ^ n)) e ∙ blocks_whole k 0 (omega arith)
@@ -48,7 +49,7 @@ loop-done-init g c =
     let mid = c.args.mid in
     let chunk = c.args.chunk in
     let w = c.args.width in
-    let half = 1 * 2 ^ (k - 1) % 18446744073709551616 in
+    let half = one_shifted (k - 1) in
     let some : 0 < k = omega (arith, c.requires.some) in
     let small : k < 64 = omega (arith, c.requires.small) in
     let h : half ≡ 2 ^ (k - 1) = first_half k c.requires.some small in
@@ -111,8 +112,8 @@ loop-done-preserved g c =
     let mid = c.args.mid in
     let chunk = c.args.chunk in
     let w = c.args.width in
-    let half = 1 * 2 ^ (k - 1 - l) % 18446744073709551616 in
-    let blocks = 1 * 2 ^ l % 18446744073709551616 in
+    let half = one_shifted (k - 1 - l) in
+    let blocks = one_shifted l in
     let small : k < 64 = omega (arith, c.requires.small) in
     let h : half ≡ 2 ^ (k - 1 - l) = left_shift k l c.loop-done-test.true small in
     let b : blocks ≡ 2 ^ l = done_shift k l c.loop-done-test.true small in

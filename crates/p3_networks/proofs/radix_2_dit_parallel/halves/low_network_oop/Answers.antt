@@ -5,16 +5,17 @@ use Rattle.p3_networks.proofs.Layers.Blocks.{halves_whole}
 use Rattle.p3_networks.proofs.Layers.Counts.{layer_counted, layers_counted, two_halves}
 use Rattle.p3_networks.proofs.Layers.Sizes.{done_shift}
 use Rattle.p3_networks.proofs.Networks.LowLayers.{low_begun, low_done, low_first, low_layer}
+use Rattle.p3_networks.proofs.Layers.Shifts.{one_shifted}
 use Rattle.p3_networks.proofs.radix_2_dit_parallel.halves.low_network_oop.Goals as goal
 
-pairs_are : (k : ℕ) → 0 < k → k < 64 → 1 * 2 ^ (k - 1) % 18446744073709551616 ≡ 2 ^ (k - 1)
+pairs_are : (k : ℕ) → 0 < k → k < 64 → one_shifted (k - 1) ≡ 2 ^ (k - 1)
 pairs_are k some small = done_shift k (k - 1) (omega (arith, some)) small
 
 -- the rows are pairs
 pairs_whole : (k : ℕ) → 0 < k → 2 ^ k ≡ 2 ^ (k - 1) * (2 * 1)
 pairs_whole k some = two_halves k (λ e. absurd (omega (arith, e, some))) ∙ omega arith
 
-cells_of_pairs : (k w : ℕ) → 0 < k → k < 64 → 2 ^ k * w ≡ 1 * 2 ^ (k - 1) % 18446744073709551616 * (2 * w)
+cells_of_pairs : (k w : ℕ) → 0 < k → k < 64 → 2 ^ k * w ≡ one_shifted (k - 1) * (2 * w)
 cells_of_pairs k w some small = rw (pairs_are k some small) (ap (λ n. n * w) (pairs_whole k some) ∙ omega arith)
 
 pub first_layer_oop-requires-clause-source : goal.first_layer_oop-requires-clause-source
@@ -32,7 +33,7 @@ loop-l-init g c =
     let k = c.args.log_h in
     let w = c.args.width in
     let some : 0 < k = omega (arith, c.if-log_h-eq0.false) in
-    let pairs = 1 * 2 ^ (k - 1) % 18446744073709551616 in
+    let pairs = one_shifted (k - 1) in
     let are : pairs ≡ 2 ^ (k - 1) = pairs_are k some c.requires.small in
     let cells : pairs * w ≡ 2 ^ (k - 1) * w = ap (λ n. n * w) are in
     record {

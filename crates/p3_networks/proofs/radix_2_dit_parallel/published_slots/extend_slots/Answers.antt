@@ -19,6 +19,8 @@ use Rattle.p3_matrix.proofs.Rows.Overwritten.{part-more, rows-none}
 use Rattle.p3_networks.proofs.Tables.CosetTables.{coset_read}
 use Rattle.p3_networks.proofs.Tables.RootPowers.{fewer_roots}
 use Rattle.p3_networks.proofs.Networks.SlotPlaces.{first_ends, blocks_whole, slot_starts, slot_entry, last_slot, others_room, slot_ends, blocks_more, blocks_all, refused_in_slot}
+use Rattle.p3_networks.proofs.Layers.Shifts.{one_shifted}
+use Rattle.p3_networks.specs.Twiddles.{mid_of}
 use Rattle.p3_networks.proofs.radix_2_dit_parallel.published_slots.extend_slots.Goals as goal
 
 pub place_of_slot-found-requires-clause-there : goal.place_of_slot-found-requires-clause-there
@@ -32,7 +34,7 @@ overflow_add-slot g c = omega (arith, slot_within (length c.args.values.now) c.a
 
 pub offset_bounds-others-start : goal.offset_bounds-others-start
 offset_bounds-others-start g c =
-    let below : c.loop-place.place * (length c.args.values.now / (1 * 2 ^ c.args.added_bits % 18446744073709551616)) ≤ length c.args.values.now =
+    let below : c.loop-place.place * (length c.args.values.now / (one_shifted c.args.added_bits)) ≤ length c.args.values.now =
     omega (arith, slot_within (length c.args.values.now) c.args.log_h c.args.added_bits c.args.width c.loop-place.place c.requires.small c.requires.size c.loop-place-test.true) in
     scaled_fits≤ _ _ _ below (search rules)
 
@@ -59,8 +61,8 @@ pub loop-place-init : goal.loop-place-init
 loop-place-init g c =
     record {
       slots = rows-none g.F.Field.ZERO _ _ _;
-      told = let none : 0 ≡ 0 * 2 ^ ((c.args.log_h + 1) / 2) = omega arith in
-          subst (λ (n : ℕ). Run g.C.BlockConsumer.step c.args.consumer.now (slot_blocks (2 ^ c.args.log_h) (2 ^ (c.args.log_h - (c.args.log_h + 1) / 2)) c.args.width c.split_at_mut-coefficients.result.1.now n) c.args.consumer.now) none refl;
+      told = let none : 0 ≡ 0 * 2 ^ mid_of c.args.log_h = omega arith in
+          subst (λ (n : ℕ). Run g.C.BlockConsumer.step c.args.consumer.now (slot_blocks (2 ^ c.args.log_h) (2 ^ (c.args.log_h - mid_of c.args.log_h)) c.args.width c.split_at_mut-coefficients.result.1.now n) c.args.consumer.now) none refl;
       grows = omega arith;
       cost = omega arith;
     }
@@ -87,7 +89,7 @@ loop-place-preserved g c =
           c.loop-place.invariant.slots;
       told =
           subst (λ blocks. Run g.C.BlockConsumer.step c.args.consumer.now blocks c.evaluate_reversed_oop.new.consumer)
-          (blocks_more place _ _ k w (2 ^ (k - (k + 1) / 2)) (2 ^ ((k + 1) / 2)) c.loop-place.others c.evaluate_reversed_oop.new.values (blocks_whole k) is fits size
+          (blocks_more place _ _ k w (2 ^ (k - mid_of k)) (2 ^ mid_of k) c.loop-place.others c.evaluate_reversed_oop.new.values (blocks_whole k) is fits size
           (slot_starts place k a (more_slots len k a w place c.requires.small c.requires.size c.loop-place-test.true) c.requires.small))
           (run_joined g.C.BlockConsumer.step _ _ c.args.consumer.now c.loop-place.consumer c.evaluate_reversed_oop.new.consumer c.loop-place.invariant.told c.in_default.ensures.lent.1);
       grows = omega (arith, c.loop-place.invariant.grows, c.evaluate_reversed_oop.ensures.grows);
@@ -118,7 +120,7 @@ returns-in-Err-clause-refused g c =
     let fits = slot_inside len k a w place c.requires.small c.requires.size c.loop-place-test.true _ _ c.split_at_mut-coefficients.ensures.back_len c.loop-place.auto.others in
     let roots = fewer_roots field.ring (k + a) _ c.requires.within g.met.F.TwoAdicField.roots_law in
     let (m, within, done, stopped) = c.in-Err.ensures.lent in
-    refused_in_slot field.value field.ZERO k a w (2 ^ (k - (k + 1) / 2)) (2 ^ ((k + 1) / 2)) c.requires.wide (pow_pos (k - (k + 1) / 2)) (blocks_whole k) (extended_rows field g.F.TwoAdicField.generator k a w (field.value c.args.shift) c.args.values.now) refl refl
+    refused_in_slot field.value field.ZERO k a w (2 ^ (k - mid_of k)) (2 ^ mid_of k) c.requires.wide (pow_pos (k - mid_of k)) (blocks_whole k) (extended_rows field g.F.TwoAdicField.generator k a w (field.value c.args.shift) c.args.values.now) refl refl
     g.C.BlockConsumer.step place (place + 1) _ m c.loop-place.others c.evaluate_reversed_oop.new.values c.in-Err.refusal c.args.consumer.now c.loop-place.consumer c.evaluate_reversed_oop.new.consumer
     (slot_starts place k a below c.requires.small) (omega (arith, below)) below (inr refl) (rw (sym is) (omega (arith, fits)))
     (c.evaluate_reversed_oop.auto.values ∙ part_length c.loop-place.others _ _ fits ∙ is) within
@@ -165,8 +167,8 @@ returns-clause-published g c =
     let k = c.args.log_h in
     let a = c.args.added_bits in
     let w = c.args.width in
-    let b = 2 ^ (k - (k + 1) / 2) in
-    let n = 2 ^ ((k + 1) / 2) in
+    let b = 2 ^ (k - mid_of k) in
+    let n = 2 ^ mid_of k in
     let place = c.loop-place.place in
     let front = c.evaluate_reversed.new.values in
     let others = c.loop-place.others in
@@ -198,7 +200,7 @@ returns-clause-refused g c =
     (λ _ _. tt)
     (λ refusal given.
     let (m, within, done, stopped) = given in
-    refused_in_slot field.value field.ZERO k a w (2 ^ (k - (k + 1) / 2)) (2 ^ ((k + 1) / 2)) c.requires.wide (pow_pos (k - (k + 1) / 2)) (blocks_whole k) (extended_rows field g.F.TwoAdicField.generator k a w (field.value c.args.shift) c.args.values.now) refl refl
+    refused_in_slot field.value field.ZERO k a w (2 ^ (k - mid_of k)) (2 ^ mid_of k) c.requires.wide (pow_pos (k - mid_of k)) (blocks_whole k) (extended_rows field g.F.TwoAdicField.generator k a w (field.value c.args.shift) c.args.values.now) refl refl
     g.C.BlockConsumer.step place 0 0 m c.loop-place.others c.evaluate_reversed.new.values refusal c.args.consumer.now c.loop-place.consumer c.evaluate_reversed.new.consumer
     (omega arith) (omega (arith, all)) (pow_pos a) (inl refl) room (c.evaluate_reversed.auto.values ∙ c.split_at_mut-coefficients.ensures.front_len ∙ is) within
     (λ p t j less small inside. c.loop-place.invariant.slots.done p (t * w + j) less (row_below t j w (2 ^ k) small inside) t j small inside refl)

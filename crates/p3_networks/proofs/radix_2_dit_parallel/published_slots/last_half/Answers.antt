@@ -22,6 +22,7 @@ use Rattle.p3_networks.proofs.Rows.Lent.{blocks_kept, run_more}
 use Rattle.p3_matrix.proofs.Rows.Overwritten.{RowsDone, rows-none}
 use Rattle.p3_networks.proofs.Rows.Chunks.{ChunkDone, high_chunk_cells, high_chunk_room, chunks-all, chunks-more}
 use Rattle.p3_networks.proofs.Tables.BlockTables.{blocks_within}
+use Rattle.p3_networks.proofs.Layers.Shifts.{one_shifted}
 use Rattle.p3_networks.proofs.radix_2_dit_parallel.published_slots.last_half.Goals as goal
 
 -- a chunk of b rows that is put into its place: the blocks before it stay, and it is the next one
@@ -61,7 +62,7 @@ overflow_add-rows g c = omega (arith, high_chunk_room (length c.reverse_chunks.n
 pub offset_bounds-values-start : goal.offset_bounds-values-start
 offset_bounds-values-start g c =
     let room = high_chunk_room (length c.reverse_chunks.new.values) c.args.mid c.args.left c.args.width c.requires.small (c.reverse_chunks.auto.values ∙ c.requires.size) c.loop-chunk.chunk c.loop-chunk-test.true in
-    let below : c.loop-chunk.chunk * (length c.reverse_chunks.new.values / (1 * 2 ^ c.args.mid % 18446744073709551616)) ≤ length c.args.values.now = omega (arith, room, c.reverse_chunks.auto.values) in
+    let below : c.loop-chunk.chunk * (length c.reverse_chunks.new.values / (one_shifted c.args.mid)) ≤ length c.args.values.now = omega (arith, room, c.reverse_chunks.auto.values) in
     scaled_fits≤ _ _ _ below (search rules)
 
 pub slice_bounds-rows-end : goal.slice_bounds-rows-end
@@ -104,7 +105,7 @@ loop-chunk-preserved g c =
     let part = c.finish_chunk.new.values in
     let is = high_chunk_cells (length c.reverse_chunks.new.values) c.args.mid c.args.left c.args.width c.requires.small (c.reverse_chunks.auto.values ∙ c.requires.size) in
     let room = high_chunk_room (length c.reverse_chunks.new.values) c.args.mid c.args.left c.args.width c.requires.small (c.reverse_chunks.auto.values ∙ c.requires.size) chunk c.loop-chunk-test.true in
-    let fits : chunk * (length c.reverse_chunks.new.values / (1 * 2 ^ mid % 18446744073709551616)) + length c.reverse_chunks.new.values / (1 * 2 ^ mid % 18446744073709551616) ≤ length now = omega (arith, room, c.loop-chunk.auto.values) in
+    let fits : chunk * (length c.reverse_chunks.new.values / (one_shifted mid)) + length c.reverse_chunks.new.values / (one_shifted mid) ≤ length now = omega (arith, room, c.loop-chunk.auto.values) in
     let size = c.finish_chunk.auto.values ∙ part_length now _ _ fits ∙ is in
     record {
       cells = λ root s roots table.
@@ -129,7 +130,7 @@ returns-in-Err-clause-lent g c =
     let is = high_chunk_cells (length c.reverse_chunks.new.values) c.args.mid c.args.left c.args.width c.requires.small (c.reverse_chunks.auto.values ∙ c.requires.size) in
     let room = high_chunk_room (length c.reverse_chunks.new.values) c.args.mid c.args.left c.args.width c.requires.small (c.reverse_chunks.auto.values ∙ c.requires.size) chunk c.loop-chunk-test.true in
     let below : chunk < 2 ^ mid = omega (arith, first_shift mid left c.requires.small, c.loop-chunk-test.true) in
-    let fits : chunk * (length c.reverse_chunks.new.values / (1 * 2 ^ mid % 18446744073709551616)) + length c.reverse_chunks.new.values / (1 * 2 ^ mid % 18446744073709551616) ≤ length now = omega (arith, room, c.loop-chunk.auto.values) in
+    let fits : chunk * (length c.reverse_chunks.new.values / (one_shifted mid)) + length c.reverse_chunks.new.values / (one_shifted mid) ≤ length now = omega (arith, room, c.loop-chunk.auto.values) in
     let size = c.finish_chunk.auto.values ∙ part_length now _ _ fits ∙ is in (
       chunk,
       below,

@@ -2,6 +2,7 @@ use Rattle.std.proofs.Common.{◌≡◌, ℕ, ◌+◌, ◌*◌, ◌-◌, ◌/◌
 use Rattle.std.proofs.Math.Nat.{div-le_self, le_of_lt}
 use Rattle.p3_networks.specs.Groups.{HoldsColumns, TakesColumns, cells_of}
 use Rattle.p3_networks.proofs.Layers.Groups.{part_sizes, piece_held, piece_start, pieces_all, pieces_counted, pieces_cover, pieces_next}
+use Rattle.p3_networks.proofs.Layers.Shifts.{one_shifted}
 use Rattle.p3_networks.proofs.radix_2_small_batch.groups.group_on_chunk.Goals as goal
 
 pub overflow_shl-part : goal.overflow_shl-part
@@ -18,7 +19,7 @@ overflow_sub-pieces g c = (part_sizes c.args.from c.args.to c.args.number c.args
 pub overflow_add-pieces : goal.overflow_add-pieces
 overflow_add-pieces g c =
     let sizes = part_sizes c.args.from c.args.to c.args.number c.args.width c.requires.order c.requires.small in
-    let part = 1 * 2 ^ c.args.from % 18446744073709551616 * c.args.width in
+    let part = one_shifted c.args.from * c.args.width in
     let fewer : (part - 1) / c.args.piece ≤ part - 1 = div-le_self (part - 1) c.args.piece in
     omega (arith, fewer, sizes.some c.requires.wide, sizes.part_is, sizes.within, c.requires.size)
 
@@ -83,10 +84,10 @@ returns-clause-cells g c = record {
       let rows = 2 ^ (to - from) in
       let part = 2 ^ from * c.args.width in
       let sizes = part_sizes from to c.args.number c.args.width c.requires.order c.requires.small in
-      let pieces = (1 * 2 ^ from % 18446744073709551616 * c.args.width - 1) / c.args.piece + 1 in
+      let pieces = (one_shifted from * c.args.width - 1) / c.args.piece + 1 in
       let end : c.loop-p.p ≡ pieces = omega arith in
       let cover : part ≤ c.loop-p.p * c.args.piece =
-      let all = pieces_cover c.args.piece (1 * 2 ^ from % 18446744073709551616 * c.args.width) c.requires.piece in
+      let all = pieces_cover c.args.piece (one_shifted from * c.args.width) c.requires.piece in
       omega (arith, all, sizes.part_is, ap (λ n. n * c.args.piece) end) in
       pieces_all field.value field.ZERO part rows (c.args.number * length c.args.values.now) (c.loop-p.p * c.args.piece) (cells (cells_of c.args.order from to (to - from))) c.args.values.now c.loop-p.values
       (omega (arith, sizes.some c.requires.wide, sizes.part_is)) cover (c.loop-p.auto.values ∙ c.requires.size ∙ sizes.rows) (c.loop-p.invariant.cells k cells layers room holds);
@@ -100,10 +101,10 @@ returns-clause-cost g c =
     let part = 2 ^ from * c.args.width in
     let done = c.loop-p.p * c.args.piece in
     let sizes = part_sizes from to c.args.number c.args.width c.requires.order c.requires.small in
-    let pieces = (1 * 2 ^ from % 18446744073709551616 * c.args.width - 1) / c.args.piece + 1 in
+    let pieces = (one_shifted from * c.args.width - 1) / c.args.piece + 1 in
     let end : c.loop-p.p ≡ pieces = omega arith in
     let all : done - (done - part) ≡ part =
-    let cover = pieces_cover c.args.piece (1 * 2 ^ from % 18446744073709551616 * c.args.width) c.requires.piece in
+    let cover = pieces_cover c.args.piece (one_shifted from * c.args.width) c.requires.piece in
     omega (arith, cover, sizes.part_is, ap (λ n. n * c.args.piece) end) in
     subst (λ (n : ℕ). 2 * c.loop-p.products ≤ 2 * c.args.products.now + g.R.Rule.cost * ((to - from) * n)) (ap (λ n. rows * n) all ∙ sym sizes.rows ∙ sym c.requires.size) c.loop-p.invariant.cost
 

@@ -4,6 +4,7 @@ use Rattle.p3_networks.specs.Layers.{IsLayer}
 use Rattle.p3_networks.proofs.Layers.Groups.{block_there, columns_next, columns_none, layer_in_order, part_sizes, piece_layer_counted, piece_sizes}
 use Rattle.p3_networks.proofs.Layers.Chunks.{blocks_within, chunk_within}
 use Rattle.p3_networks.proofs.Layers.Counts.{at_end}
+use Rattle.p3_networks.proofs.Layers.Shifts.{one_shifted}
 use Rattle.p3_networks.proofs.radix_2_small_batch.groups.group_on_piece.Goals as goal
 
 pub overflow_shl-part : goal.overflow_shl-part
@@ -59,9 +60,9 @@ loop-done-preserved g c =
     let e = c.layer-log_half.result in
     let done = c.loop-done.done in
     let rows = 2 ^ (to - from) in
-    let half = 1 * 2 ^ (e - from) % 18446744073709551616 in
-    let blocks = 1 * 2 ^ (to - 1 - e) % 18446744073709551616 in
-    let part = 1 * 2 ^ from % 18446744073709551616 * w in
+    let half = one_shifted (e - from) in
+    let blocks = one_shifted (to - 1 - e) in
+    let part = one_shifted from * w in
     let near = λ (b : ℕ). rule.near field.Element field.ring field.value c.args.rule b 0 in
     let far = λ (b : ℕ). rule.far field.Element field.ring field.value c.args.rule b 0 in
     let len = length c.args.values.now in

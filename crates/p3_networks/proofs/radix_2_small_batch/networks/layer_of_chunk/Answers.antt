@@ -4,6 +4,7 @@ use Rattle.p3_networks.specs.Layers.{IsLayer}
 use Rattle.p3_networks.proofs.Layers.Groups.{block_there}
 use Rattle.p3_networks.proofs.Layers.Chunks.{chunk_sizes, chunk_taken}
 use Rattle.p3_networks.proofs.Layers.Sizes.{cells_by_halves}
+use Rattle.p3_networks.proofs.Layers.Shifts.{one_shifted}
 use Rattle.p3_networks.proofs.radix_2_small_batch.networks.layer_of_chunk.Goals as goal
 
 pub overflow_shl-half : goal.overflow_shl-half
@@ -16,8 +17,8 @@ pub overflow_mul-half : goal.overflow_mul-half
 overflow_mul-half g c =
     let sizes = chunk_sizes c.args.top c.args.log_half c.args.number c.requires.below c.requires.small in
     let whole = c.requires.size ∙ cells_by_halves c.args.top c.args.log_half c.args.width c.requires.below ∙ sym (ap₂ (λ (n h : ℕ). n * (2 * (h * c.args.width))) sizes.blocks_is sizes.half_is) in
-    let once : 1 * (2 * ((1 * 2 ^ c.args.log_half % 18446744073709551616) * c.args.width)) ≤ (1 * 2 ^ (c.args.top - 1 - c.args.log_half) % 18446744073709551616) * (2 * ((1 * 2 ^ c.args.log_half % 18446744073709551616) * c.args.width)) =
-    mul-le-mul_right (2 * ((1 * 2 ^ c.args.log_half % 18446744073709551616) * c.args.width)) sizes.some_blocks in
+    let once : 1 * (2 * ((one_shifted c.args.log_half) * c.args.width)) ≤ (one_shifted (c.args.top - 1 - c.args.log_half)) * (2 * ((one_shifted c.args.log_half) * c.args.width)) =
+    mul-le-mul_right (2 * ((one_shifted c.args.log_half) * c.args.width)) sizes.some_blocks in
     omega (arith, once, whole)
 
 pub overflow_mul-number : goal.overflow_mul-number
@@ -26,7 +27,7 @@ overflow_mul-number g c = let sizes = chunk_sizes c.args.top c.args.log_half c.a
 pub layer-requires-clause-some : goal.layer-requires-clause-some
 layer-requires-clause-some g c =
     let sizes = chunk_sizes c.args.top c.args.log_half c.args.number c.requires.below c.requires.small in
-    let some : 1 * 1 ≤ (1 * 2 ^ c.args.log_half % 18446744073709551616) * c.args.width = mul-le-mul sizes.some c.requires.wide in
+    let some : 1 * 1 ≤ (one_shifted c.args.log_half) * c.args.width = mul-le-mul sizes.some c.requires.wide in
     omega (arith, some)
 
 pub layer-requires-clause-blocks : goal.layer-requires-clause-blocks
@@ -50,8 +51,8 @@ returns-clause-cells g c k before after layers room holds =
     let field = g.F.Field in
     let rule = g.R.Rule in
     let sizes = chunk_sizes c.args.top c.args.log_half c.args.number c.requires.below c.requires.small in
-    let half = 1 * 2 ^ c.args.log_half % 18446744073709551616 in
-    let blocks = 1 * 2 ^ (c.args.top - 1 - c.args.log_half) % 18446744073709551616 in
+    let half = one_shifted c.args.log_half in
+    let blocks = one_shifted (c.args.top - 1 - c.args.log_half) in
     let size = half * c.args.width in
     let one : size * 1 ≡ size = omega arith in
     let near = λ (b t : ℕ). rule.near field.Element field.ring field.value c.args.rule b t in
@@ -68,7 +69,7 @@ returns-clause-cells g c k before after layers room holds =
 pub returns-clause-cost : goal.returns-clause-cost
 returns-clause-cost g c =
     let sizes = chunk_sizes c.args.top c.args.log_half c.args.number c.requires.below c.requires.small in
-    let whole : length c.args.values.now ≡ 2 * ((1 * 2 ^ (c.args.top - 1 - c.args.log_half) % 18446744073709551616) * ((1 * 2 ^ c.args.log_half % 18446744073709551616) * c.args.width * 1)) =
+    let whole : length c.args.values.now ≡ 2 * ((one_shifted (c.args.top - 1 - c.args.log_half)) * ((one_shifted c.args.log_half) * c.args.width * 1)) =
     c.requires.size ∙ cells_by_halves c.args.top c.args.log_half c.args.width c.requires.below ∙ sym (ap₂ (λ (n h : ℕ). n * (2 * (h * c.args.width))) sizes.blocks_is sizes.half_is) ∙ omega arith in
     let pairs = ap (λ (n : ℕ). g.R.Rule.cost * n) whole in
     omega (arith, c.layer.ensures.cost, pairs)

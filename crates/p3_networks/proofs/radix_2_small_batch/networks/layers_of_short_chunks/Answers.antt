@@ -3,6 +3,7 @@ use Rattle.p3_networks.specs.Groups.{cells_of}
 use Rattle.p3_networks.proofs.Layers.Chunks.{chunk_digits}
 use Rattle.p3_networks.proofs.Layers.Tiles.{tile_rows_of_chunk, tile_sizes, tile_some, tiles_cost}
 use Rattle.p3_networks.proofs.Rows.EachChunk.{cells_of_chunks}
+use Rattle.p3_networks.proofs.Layers.Shifts.{one_shifted}
 use Rattle.p3_networks.proofs.radix_2_small_batch.networks.layers_of_short_chunks.Goals as goal
 
 pub overflow_shl-chunks : goal.overflow_shl-chunks
@@ -39,7 +40,7 @@ returns g c =
     let order = g.R.NetworkRule.order in
     let digits = chunk_digits c.args.top number c.requires.small in
     let sizes = tile_sizes c.args.top 6 1 len digits c.requires.tall c.requires.size in
-    let chunks = 1 * 2 ^ (c.args.top - 6) % 18446744073709551616 in
+    let chunks = one_shifted (c.args.top - 6) in
     let size = len / chunks in
     record {
       cells = λ k cells layers room holds.

@@ -2,6 +2,7 @@ use Rattle.std.proofs.Common.{◌+◌, ◌-◌, ◌*◌, ◌/◌, ◌%◌, ◌^�
 use Rattle.std.proofs.Math.Nat.{mul-le-mul_right}
 use Rattle.p3_networks.proofs.Layers.Tiles.{spread_room, tile_rows, tile_sizes, tile_small, tile_some, tiles_cost}
 use Rattle.p3_networks.proofs.Rows.EachChunk.{cells_of_chunks}
+use Rattle.p3_networks.proofs.Layers.Shifts.{one_shifted}
 use Rattle.p3_networks.proofs.radix_2_small_batch.networks.spread_tiles.Goals as goal
 
 pub on_each_chunk-requires : goal.on_each_chunk-requires
@@ -23,7 +24,7 @@ returns g c =
     let before = c.args.values.now in
     let layers_left = c.args.log_rows - c.args.added_bits in
     let sizes = tile_sizes c.args.log_h c.args.log_rows c.args.width (length before) c.requires.small c.requires.below c.requires.size in
-    let tiles = 1 * 2 ^ (c.args.log_h - c.args.log_rows) % 18446744073709551616 in
+    let tiles = one_shifted (c.args.log_h - c.args.log_rows) in
     record {
       cells = λ cells layers are.
           cells_of_chunks field.ZERO (length before / tiles) field.value field.value (λ i. field.value (get_or before i field.ZERO)) (cells c.args.log_rows) 0 tiles (λ n s. n * s) before c.on_each_chunk.new.values

@@ -18,6 +18,7 @@ use Rattle.p3_matrix.proofs.Polynomials.Cosets.{point-mul}
 use Rattle.p3_matrix.proofs.Rows.Overwritten.{part-more, rows-none}
 use Rattle.p3_networks.proofs.Tables.RootPowers.{fewer_roots}
 use Rattle.std.proofs.Math.Nat.{le_trans}
+use Rattle.p3_networks.proofs.Layers.Shifts.{one_shifted}
 use Rattle.p3_networks.proofs.radix_2_small_batch.slots.slots_network.Goals as goal
 
 pub overflow_mul-start : goal.overflow_mul-start
@@ -28,7 +29,7 @@ overflow_add-slot g c = omega (arith, slot_within (length c.args.values.now) c.a
 
 pub offset_bounds-others-start : goal.offset_bounds-others-start
 offset_bounds-others-start g c =
-    let below : c.loop-place.place * (length c.args.values.now / (1 * 2 ^ c.args.added_bits % 18446744073709551616)) ≤ length c.args.values.now =
+    let below : c.loop-place.place * (length c.args.values.now / (one_shifted c.args.added_bits)) ≤ length c.args.values.now =
     omega (arith, slot_within (length c.args.values.now) c.args.log_h c.args.added_bits c.args.width c.loop-place.place c.requires.small c.requires.size c.loop-place-test.true) in
     scaled_fits≤ _ _ _ below (search rules)
 
@@ -84,7 +85,7 @@ loop-place-preserved g c =
 
 pub shift_values-requires : goal.shift_values-requires
 shift_values-requires g c =
-    let rows : 1 * 2 ^ c.args.log_h % 18446744073709551616 ≡ 2 ^ c.args.log_h = one_shl c.args.log_h 64 (omega (arith, c.requires.small)) in
+    let rows : one_shifted c.args.log_h ≡ 2 ^ c.args.log_h = one_shl c.args.log_h 64 (omega (arith, c.requires.small)) in
     c.split_at_mut-coefficients.ensures.front_len ∙ slot_size (length c.args.values.now) c.args.log_h c.args.added_bits c.args.width c.requires.small c.requires.size ∙ ap (λ n. n * c.args.width) (sym rows)
 
 pub evaluate_to_reversed-requires-clause-size : goal.evaluate_to_reversed-requires-clause-size
@@ -123,7 +124,7 @@ returns-clause-cost g c =
     let k = c.args.log_h in
     let a = c.args.added_bits in
     let turn = c.args.width * (k * 2 ^ k / 2) + 2 ^ k * c.args.width in
-    let rows : 1 * 2 ^ k % 18446744073709551616 ≡ 2 ^ k = one_shl k 64 (omega (arith, c.requires.small)) in
+    let rows : one_shifted k ≡ 2 ^ k = one_shl k 64 (omega (arith, c.requires.small)) in
     let count = second_shift k a c.requires.small in
     let all : c.loop-place.place + 1 ≡ 2 ^ a = omega (arith, count, pow_pos a, c.loop-place-test.false, c.loop-place.auto.place-end) in
     let e : 1 * ((c.loop-place.place + 1) * turn) ≡ 2 ^ a * turn = ap (λ n. 1 * (n * turn)) all ∙ omega arith in

@@ -1,5 +1,5 @@
 use Rattle.std.proofs.Common.{◌≡◌, ℕ, ◌⊎◌, inl, inr, ◌+◌, ◌-◌, ◌/◌, ◌^◌, ◌<◌, ◌≤◌, length, true, false, sym, subst, arith, ◌∙◌}
-use Rattle.p3_networks.specs.Twiddles.{AreTwiddlesOfLayers, root_powers}
+use Rattle.p3_networks.specs.Twiddles.{AreTwiddlesOfLayers, root_powers, mid_of}
 use Rattle.p3_networks.proofs.radix_2_dit_parallel.tables.Tables.make.Goals as goal
 
 -- tables that were not there are now
@@ -14,8 +14,8 @@ pub invariant_of-self-2 : goal.invariant_of-self-2
 invariant_of-self-2 g c =
     let field = g.F.Field in
     let gen = g.F.TwoAdicField.generator in
-    subst (λ (n : ℕ). (length c.in_ok-forward.forward.items ≡ 2 ^ ((n + 1) / 2) - 1) × (length c.in_ok-backward.backward.items ≡ 2 ^ ((n + 1) / 2) - 1)
-    × AreTwiddlesOfLayers field ((n + 1) / 2) (root_powers field gen false) c.in_ok-forward.forward.items × AreTwiddlesOfLayers field ((n + 1) / 2) (root_powers field gen true) c.in_ok-backward.backward.items
+    subst (λ (n : ℕ). (length c.in_ok-forward.forward.items ≡ 2 ^ mid_of n - 1) × (length c.in_ok-backward.backward.items ≡ 2 ^ mid_of n - 1)
+    × AreTwiddlesOfLayers field (mid_of n) (root_powers field gen false) c.in_ok-forward.forward.items × AreTwiddlesOfLayers field (mid_of n) (root_powers field gen true) c.in_ok-backward.backward.items
     × (n ≤ g.F.TwoAdicField.TWO_ADICITY))
     (sym (only_made c.args.log_h _ _ _ c.if-log_h.false (c.log_h.ensures ∙ sym c.self.view_is) c.in_ok-make.ensures.made c.in_ok-make.ensures.only))
     (c.in_ok-forward.ensures.size, c.in_ok-backward.ensures.size, c.in_ok-forward.ensures.table, c.in_ok-backward.ensures.table, c.requires.within)

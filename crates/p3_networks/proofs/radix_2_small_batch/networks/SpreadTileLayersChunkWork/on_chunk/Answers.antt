@@ -4,6 +4,7 @@ use Rattle.p3_field.specs.Ring.{power}
 use Rattle.p3_networks.specs.Layers.{HoldsCells}
 use Rattle.p3_networks.proofs.Layers.Chunks.{chunk_digits}
 use Rattle.p3_networks.proofs.Layers.Tiles.{spread_held, spread_sizes}
+use Rattle.p3_networks.proofs.Layers.Shifts.{one_shifted}
 use Rattle.p3_networks.proofs.radix_2_small_batch.networks.SpreadTileLayersChunkWork.on_chunk.Goals as goal
 
 cells_of_tile : (count copies rows w : ℕ) → count * copies ≡ rows → rows * w ≡ count * (copies * w)
@@ -23,8 +24,8 @@ spread_rows-requires g c =
     let a = it.added_bits in
     let (wide, (added, (small, (size, (rows, (weights, (first, enough))))))) = c.requires in
     let sizes = spread_sizes r a (chunk_digits r tile small) added in
-    let count = 1 * 2 ^ (r - a) % 18446744073709551616 in
-    let copies = 1 * 2 ^ a % 18446744073709551616 in
+    let count = one_shifted (r - a) in
+    let copies = one_shifted a in
     let all : (tile * count + count) * copies ≡ (tile + 1) * (count * copies) = omega arith in
     record {
       wide = wide;
@@ -51,8 +52,8 @@ returns g c =
     let w = it.width in
     let (wide, (added, (small, (size, (rows, (weights, (first, enough))))))) = c.requires in
     let sizes = spread_sizes r a (chunk_digits r tile small) added in
-    let count = 1 * 2 ^ (r - a) % 18446744073709551616 in
-    let copies = 1 * 2 ^ a % 18446744073709551616 in
+    let count = one_shifted (r - a) in
+    let copies = one_shifted a in
     let out = c.spread_rows.new.values in
     let len : length out ≡ length c.args.chunk.now = c.spread_rows.auto.values in
     let made = λ (n q t j : ℕ). field.ring.mul (field.value (get_or it.rows.now (q * w + j) field.ZERO))
