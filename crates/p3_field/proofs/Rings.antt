@@ -61,9 +61,6 @@ module _ {A : Type 0} (R : Ring A) where
   pub half-double : (a : A) → R.half ⊗ (a ⊕ a) ≡ a
   half-double a = R.mul_add R.half a a ∙ sym (add-mul R.half R.half a) ∙ ap (λ x. x ⊗ a) R.half_twice ∙ one-mul a
 
-  pub double_cancel : (a b : A) → a ⊕ a ≡ b ⊕ b → a ≡ b
-  double_cancel a b e = sym (half-double a) ∙ ap (λ x. R.half ⊗ x) e ∙ half-double b
-
   -- an element has one inverse
   pub inverse_unique : (a b c : A) → a ⊗ b ≡ 𝟙 → a ⊗ c ≡ 𝟙 → b ≡ c
   inverse_unique a b c e d =

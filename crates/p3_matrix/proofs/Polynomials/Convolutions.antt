@@ -59,10 +59,6 @@ module _ {A : Type 0} (R : Ring A) where
       ∙ ap (λ y. c ⊗ y ⊕ x ⊗ (value R a x ⊗ value R b x)) (value_within (suc n) b x (omega (arith, h)))
       ∙ solve R (c ∷ value R b x ∷ x ∷ value R a x ∷ []) (va ⊠ vb ⊞ vc ⊠ (vd ⊠ vb)) ((va ⊞ vc ⊠ vd) ⊠ vb) refl
 
-  pub value_of_product : (n : ℕ) (a b : List A) (x : A) → length a + length b ≤ n + 1
-      → value R (map (convolution R a b) (range_with_len 0 n)) x ≡ value R a x ⊗ value R b x
-  value_of_product n a b x h = value-index R n (convolution R a b) x ∙ product_by_index n a b x h
-
   -- the product has no others: one less than both have together
   pub convolution_past : (a b : List A) (n : ℕ) → length a + length b ≤ n + 1 → convolution R a b n ≡ 𝟘
   convolution_past [] b n h = convolution_of_none b n

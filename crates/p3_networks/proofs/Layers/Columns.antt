@@ -15,24 +15,6 @@ pub record InColumns {A T : Type 0} (value : T → A) (at end : ℕ) (is : A) (w
   pub inside : at ≤ j → j < end → value y ≡ is
   pub outside : (j < at) ⊎ (end ≤ j) → y ≡ was
 
-module _ {A T : Type 0} (value : T → A) (d : T) (at end : ℕ) where
-  -- a row whose columns were done as a part of their own
-  pub columns_written : (is : ℕ → A) (row new : List T) → at ≤ end → end ≤ length row → length new ≡ end - at
-      → ((j : ℕ) → j < end - at → value (get_or new j d) ≡ is (at + j))
-      → (j : ℕ) → InColumns value at end (is j) (get_or row j d) j (get_or (put_mid at (end - at) row new) j d)
-  columns_written is row new order room len are j = record {
-    inside = λ first last.
-        let back : at + (j - at) ≡ j = omega (arith, first) in
-        ap (λ n. value (get_or (put_mid at (end - at) row new) n d)) (sym back)
-        ∙ ap value (put_in row new at (end - at) (j - at) d (omega (arith, order, room)) (omega (arith, first, last, len)))
-        ∙ are (j - at) (omega (arith, first, last)) ∙ ap is back;
-    outside = λ where_is.
-        ⊎_elim
-        (λ before. put_before row new at (end - at) j d (omega (arith, order, room)) before)
-        (λ after. put_after row new at (end - at) j d (omega (arith, order, room)) len (omega (arith, order, after)))
-        where_is;
-  }
-
 module _ {A T : Type 0} (value : T → A) (d : T) (part half at end : ℕ) where
   -- one block: the columns that met hold the cells behind the layer, and the others stay; x are the cells before
   pub block_columns : (near far : ℕ → A → A → A) (all c : ℕ) (before after : ℕ → A) (x : ℕ → T) (old new : List T) → IsLayer all (half * part) (λ b i. near b) (λ b i. far b) before after → c < all

@@ -21,9 +21,6 @@ use Rattle.p3_networks.proofs.Tables.RootPowers.{fewer_roots}
 pub halves_whole : (k : ℕ) → mid_of k + (k - mid_of k) ≡ k
 halves_whole k = omega arith
 
-pub rows_whole : (k : ℕ) → 2 ^ k ≡ 2 ^ mid_of k * 2 ^ (k - mid_of k)
-rows_whole k = ap (λ n. 2 ^ n) (sym (halves_whole k)) ∙ pow-add 2 (mid_of k) (k - mid_of k)
-
 -- what both halves count
 pub both_counted : (k w before middle after : ℕ) → middle ≤ before + 2 ^ (k - mid_of k) * (w * (mid_of k * 2 ^ mid_of k / 2))
     → after ≤ middle + 2 ^ mid_of k * (w * ((k - mid_of k) * 2 ^ (k - mid_of k) / 2)) → after ≤ before + w * (k * 2 ^ k / 2)

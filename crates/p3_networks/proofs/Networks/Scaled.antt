@@ -17,6 +17,3 @@ free_dit_near R t x y one = ap (R.add x) (sym (ap (R.mul y) one ∙ R.mul_one y)
 
 pub free_dit_far : {A : Type 0} (R : Ring A) (t x y : A) → t ≡ R.one → minus R x y ≡ dit_far R t x y
 free_dit_far R t x y one = ap (minus R x) (sym (ap (R.mul y) one ∙ R.mul_one y))
-
-pub free_dif_far : {A : Type 0} (R : Ring A) (t x y : A) → t ≡ R.one → minus R x y ≡ dif_far R t x y
-free_dif_far R t x y one = sym (ap (R.mul (minus R x y)) one ∙ R.mul_one (minus R x y))

@@ -33,9 +33,6 @@ first_ends k a small = let fits : 2 ^ k < 2 ^ 64 = pow-lt (let l : k < 64 = omeg
 pub blocks_whole : (k : ℕ) → 2 ^ mid_of k * 2 ^ (k - mid_of k) ≡ 2 ^ k
 blocks_whole k = let e : mid_of k + (k - mid_of k) ≡ k = omega arith in sym (pow-add 2 (mid_of k) (k - mid_of k)) ∙ ap (λ n. 2 ^ n) e
 
-cells_whole : (k w : ℕ) → 2 ^ mid_of k * (2 ^ (k - mid_of k) * w) ≡ 2 ^ k * w
-cells_whole k w = let assoc : 2 ^ mid_of k * (2 ^ (k - mid_of k) * w) ≡ 2 ^ mid_of k * 2 ^ (k - mid_of k) * w = omega arith in assoc ∙ ap (λ n. n * w) (blocks_whole k)
-
 -- a list in front of another
 front_kept : {T : Type 0} (xs ys : List T) → take (length xs) xs ≡ take (length xs) (xs ++ ys)
 front_kept xs ys = ap (take (length xs)) (sym (append-nil xs)) ∙ take_at xs [] (length xs) refl ∙ sym (take_at xs ys (length xs) refl)

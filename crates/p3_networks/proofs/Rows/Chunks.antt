@@ -18,9 +18,6 @@ module _ (len mid left w : ℕ) (small : mid + left < 64) (full : len ≡ 2 ^ (m
   pub high_chunk_cells : len / one_shifted mid ≡ 2 ^ left * w
   high_chunk_cells = shifted_size len mid (2 ^ left * w) (omega arith) high_chunks_whole
 
-  pub high_chunk_fits : (chunk : ℕ) → chunk < 2 ^ mid → chunk * (2 ^ left * w) + 2 ^ left * w ≤ len
-  high_chunk_fits chunk below = block_room chunk (2 ^ mid) (2 ^ left * w) len below high_chunks_whole
-
   pub high_chunk_room : (chunk : ℕ) → chunk < one_shifted mid → chunk * (len / one_shifted mid) + len / one_shifted mid ≤ len
   high_chunk_room chunk below = shifted_room chunk len mid (2 ^ left * w) (omega arith) high_chunks_whole below
 
