@@ -2,7 +2,7 @@
 use Rattle.std.proofs.Common.{◌≡◌, refl, sym, ap, ◌∙◌, [], ◌∷◌}
 use Rattle.p3_field.specs.Ring.{Ring, minus}
 use Rattle.p3_field.proofs.RingSolver.{solve, va, vb, vc, vd, ◌⊞◌, ◌⊟◌, ◌⊠◌}
-use Rattle.p3_matrix.specs.Butterflies.{dif_far, dit_near, dit_far, scaled_dit_near, scaled_dit_far}
+use Rattle.p3_matrix.specs.Butterflies.{dit_near, dit_far, scaled_dit_near, scaled_dit_far}
 
 module _ {A : Type 0} (R : Ring A) where
   pub scaled_near : (t s x y : A) → scaled_dit_near R t s x y ≡ dit_near R t (R.mul x s) (R.mul y s)

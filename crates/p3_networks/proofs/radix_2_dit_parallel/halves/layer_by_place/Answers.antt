@@ -6,7 +6,7 @@ pub layer-requires-clause-there : goal.layer-requires-clause-there
 layer-requires-clause-there g c b t p q =
     let field = g.F.Field in (
       omega (arith, q, c.requires.table),
-      found_one field.value g.F.PartialEq.eq g.met.F.Field.eq_law c.args.twiddles.now 0 c.index-twiddles-0.result c.ONE.result field.ZERO (omega (arith, c.requires.some, c.requires.table)) c.index-twiddles-0.is (sym c.eq.ensures ∙ c.if-eq.true)
+      λ _. found_one field.value g.F.PartialEq.eq g.met.F.Field.eq_law c.args.twiddles.now 0 c.index-twiddles-0.result c.ONE.result field.ZERO (omega (arith, c.requires.some, c.requires.table)) c.index-twiddles-0.is (sym c.eq.ensures ∙ c.if-eq.true)
           ∙ ap field.value c.ONE.ensures ∙ g.met.F.Field.one_law,
     )
 

@@ -6,10 +6,10 @@ use Rattle.p3_networks.proofs.Networks.Cells.{high_cells, high_cells_end, high_c
 use Rattle.p3_networks.proofs.radix_2_small_batch.networks.dit_network_to_reversed.Goals as goal
 
 pub layers_in_groups-requires-clause-there : goal.layers_in_groups-requires-clause-there
-layers_in_groups-requires-clause-there g c b inside = (omega (arith, inside, c.requires.enough), c.requires.first)
+layers_in_groups-requires-clause-there g c b inside = (omega (arith, inside, c.requires.enough), λ _. c.requires.first)
 
 pub layers_of_tiles-requires-clause-there : goal.layers_of_tiles-requires-clause-there
-layers_of_tiles-requires-clause-there g c b t inside = (omega (arith, inside, c.requires.enough), c.requires.first)
+layers_of_tiles-requires-clause-there g c b t inside = (omega (arith, inside, c.requires.enough), λ _. c.requires.first)
 
 pub returns-clause-values : goal.returns-clause-values
 returns-clause-values g c bits root roots within twiddles r j below inside =

@@ -1,6 +1,4 @@
-use Rattle.std.proofs.Common.{◌≡◌, ◌+◌, ◌-◌, ◌*◌, length, get_or, take, drop, ap, ◌∙◌, arith, lit<}
-use Rattle.std.proofs.Math.Nat.{mul-le-mul, le_refl}
-use Rattle.p3_matrix.proofs.Rows.Overwritten.{part_at}
+use Rattle.std.proofs.Common.{arith, lit<}
 use Rattle.p3_networks.proofs.radix_2_small_batch.networks.ByBlockNetworkRule.meet_pairs.Goals as goal
 
 pub overflow_add-first : goal.overflow_add-first
