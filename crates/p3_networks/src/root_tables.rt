@@ -4,7 +4,7 @@ ghost use Rattle.std.specs.Prelude.{◌≡◌, ◌⊎◌, ℕ, ◌+◌, ◌-◌,
 ghost use Rattle.p3_networks.specs.Twiddles.{AreTwiddles, AreTwiddlesFromStart, backward_root, block_powers};
 ghost use Rattle.p3_networks.specs.Twiddles.{forward_root};
 
-use crate::twiddles::reversed_powers;
+use crate::twiddles::{held, reversed_powers};
 use p3_field::TwoAdicField;
 use p3_matrix::DftError;
 use std::alloc::Global;
@@ -88,10 +88,7 @@ impl<F: TwoAdicField> RootTables<F> {
         ensures table { AreTwiddlesFromStart F.Field.own self.now
             (block_powers F.Field.own (forward_root F.Field.own F.generator)) result.now }
     {
-        match &self.forward {
-            Some(powers) => powers.as_slice(),
-            None => &[],
-        }
+        held(&self.forward)
     }
 
     /// The powers of their inverses, as many.
@@ -100,10 +97,7 @@ impl<F: TwoAdicField> RootTables<F> {
         ensures table { AreTwiddlesFromStart F.Field.own self.now
             (block_powers F.Field.own (backward_root F.Field.own F.generator)) result.now }
     {
-        match &self.backward {
-            Some(powers) => powers.as_slice(),
-            None => &[],
-        }
+        held(&self.backward)
     }
 }
 

@@ -5,7 +5,8 @@ ghost use Rattle.std.specs.Prelude.{◌≡◌, ◌⊎◌, ℕ, ◌+◌, ◌-◌,
 ghost use Rattle.std.specs.Prelude.{take, drop, false};
 ghost use Rattle.p3_field.specs.Ring.{power};
 ghost use Rattle.p3_matrix.specs.BitOrder.{rev};
-ghost use Rattle.p3_networks.specs.Twiddles.{AreTwiddles, AreTwiddlesOfLayers, layer_place, root_of, root_powers};
+ghost use Rattle.p3_networks.specs.Twiddles.{AreTwiddles, AreTwiddlesOfLayers, items_if_any, layer_place, root_of};
+ghost use Rattle.p3_networks.specs.Twiddles.{root_powers};
 
 use p3_field::{Field, TwoAdicField};
 use p3_matrix::DftError;
@@ -79,10 +80,17 @@ impl<F: TwoAdicField> Twiddles<F> {
         ensures table { AreTwiddlesOfLayers F.Field.own self.now (root_powers F.Field.own F.generator false)
             result.now }
     {
-        match &self.powers {
-            Some(powers) => powers.as_slice(),
-            None => &[],
-        }
+        held(&self.powers)
+    }
+}
+
+/// What is held, which is nothing before it was made.
+pub(crate) fn held<T>(items: &Option<Vec<T>>) -> &[T]
+    ensures { result.now ≡ items_if_any items.now }
+{
+    match items {
+        Some(items) => items.as_slice(),
+        None => &[],
     }
 }
 

@@ -7,7 +7,7 @@ ghost use Rattle.p3_networks.specs.Twiddles.{AddsCosets, forward_root};
 ghost use Rattle.p3_matrix.specs.BitOrder.{rev};
 ghost use Rattle.p3_matrix.specs.Cosets.{point};
 
-use crate::twiddles::push_layer;
+use crate::twiddles::{held, push_layer};
 use p3_field::{Field, TwoAdicField};
 use p3_matrix::{DftError, reverse_bits_len};
 use std::alloc::Global;
@@ -147,10 +147,7 @@ impl<F: TwoAdicField> CosetTables<F> {
     fn as_slice(&self) -> &[CosetTable<F>]
         ensures { result.now ≡ self.now }
     {
-        match &self.tables {
-            Some(tables) => tables.as_slice(),
-            None => &[],
-        }
+        held(&self.tables)
     }
 
     /// That in a place, which is below their number.

@@ -6,7 +6,7 @@ ghost use Rattle.p3_networks.specs.Twiddles.{root_powers};
 ghost use Rattle.p3_networks.specs.Twiddles.{mid_of};
 
 use crate::root_tables::RootTables;
-use crate::twiddles::twiddles_of_layers;
+use crate::twiddles::{held, twiddles_of_layers};
 use p3_field::TwoAdicField;
 use p3_matrix::DftError;
 use std::alloc::Global;
@@ -92,14 +92,10 @@ impl<F: TwoAdicField> Tables<F> {
         ensures table { AreTwiddlesOfLayers F.Field.own (mid_of self.now)
             (root_powers F.Field.own F.generator inverse) result.now }
     {
-        let powers = if inverse {
-            &self.backward
+        if inverse {
+            held(&self.backward)
         } else {
-            &self.forward
-        };
-        match powers {
-            Some(powers) => powers.as_slice(),
-            None => &[],
+            held(&self.forward)
         }
     }
 
