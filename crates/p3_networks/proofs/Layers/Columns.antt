@@ -1,14 +1,12 @@
 -- Columns of rows that lie one after another: cells that meet from one place of a row up to another, while the others stay.
-use Rattle.std.proofs.Common.{◌≡◌, ◌⊎◌, ℕ, ◌+◌, ◌*◌, ◌-◌, ◌/◌, ◌%◌, ◌<◌, ◌≤◌, List, length, get_or, sym, ap, ap₂, ◌∙◌, subst, arith, ⊎_elim}
+use Rattle.std.proofs.Common.{◌≡◌, ◌⊎◌, ℕ, ◌+◌, ◌*◌, ◌-◌, ◌/◌, ◌%◌, ◌<◌, ◌≤◌, List, get_or, sym, ap, ap₂, ◌∙◌, subst, arith, ⊎_elim}
 use Rattle.std.proofs.lemmas.Bool.{cases_lt}
 use Rattle.std.proofs.lemmas.Nat.{div-add-mod', div_below, mod_below}
-use borrow.Rule.Slice.PartMut.{put_mid}
 use Rattle.p3_networks.specs.Chunks.{chunk_of}
 use Rattle.p3_networks.specs.Groups.{HoldsColumns, MeetInColumns, TakesColumns}
 use Rattle.p3_networks.specs.Layers.{IsLayer}
 use Rattle.p3_networks.proofs.Layers.Blocks.{halves_are, row_below}
 use Rattle.p3_networks.proofs.Rows.EachChunk.{chunk_at}
-use Rattle.p3_matrix.proofs.Rows.Overwritten.{put_after, put_before, put_in}
 
 -- y stands in column j of a row: between two columns what is meant, else what was there
 pub record InColumns {A T : Type 0} (value : T → A) (at end : ℕ) (is : A) (was : T) (j : ℕ) (y : T) : Type 0 where

@@ -1,6 +1,6 @@
 -- Slots of an extension as rows and cells of one list: their places, their blocks, and what is lent of them so far.
 use Rattle.std.specs.Prelude.{⊤}
-use Rattle.std.proofs.Common.{◌≡◌, ◌⊎◌, ℕ, suc, List, [], ◌∷◌, take, drop, ◌+◌, ◌*◌, ◌-◌, ◌/◌, ◌%◌, ◌++◌, ◌<◌, ◌≤◌, ◌^◌, length, get_or, Result, refl, sym, ap, ◌∙◌, subst, arith, ⊎_elim}
+use Rattle.std.proofs.Common.{◌≡◌, ◌⊎◌, ℕ, suc, List, [], ◌∷◌, take, drop, ◌+◌, ◌*◌, ◌-◌, ◌%◌, ◌++◌, ◌<◌, ◌≤◌, ◌^◌, length, get_or, Result, refl, sym, ap, ◌∙◌, subst, arith, ⊎_elim}
 use borrow.Rule.Slice.PartMut.{put_mid}
 use Rattle.std.proofs.Math.Nat.{mod-eq_of_lt, mul-le-mul_right}
 use Rattle.std.proofs.Math.Pow.{pow-lt}

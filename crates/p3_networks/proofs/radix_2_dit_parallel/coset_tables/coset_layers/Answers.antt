@@ -1,4 +1,4 @@
-use Rattle.std.proofs.Common.{◌≡◌, ◌+◌, ◌*◌, ◌-◌, ◌/◌, ◌^◌, leb, length, ap, ap₂, ◌∙◌, arith, add-one}
+use Rattle.std.proofs.Common.{◌≡◌, ◌+◌, ◌*◌, ◌-◌, ◌^◌, leb, length, ap, ap₂, ◌∙◌, arith, add-one}
 use Rattle.std.proofs.lemmas.Nat.{pow_pos}
 use Rattle.p3_field.specs.Ring.{power}
 use Rattle.p3_networks.specs.Twiddles.{AreTwiddlesOfLayers, coset_twiddles, forward_root, layer_place, mid_of}

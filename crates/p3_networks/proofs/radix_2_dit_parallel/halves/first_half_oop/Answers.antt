@@ -1,4 +1,4 @@
-use Rattle.std.proofs.Common.{◌<◌, ◌*◌, ◌-◌, ◌/◌, ◌%◌, ◌^◌, length, sym, ◌∙◌, arith}
+use Rattle.std.proofs.Common.{◌<◌, ◌*◌, ◌-◌, ◌/◌, ◌^◌, length, sym, ◌∙◌, arith}
 use Rattle.p3_matrix.specs.BitOrder.{rev}
 use Rattle.p3_matrix.specs.Cosets.{point}
 use Rattle.p3_matrix.proofs.BitReversal.{rev-lt}

@@ -1,5 +1,5 @@
 use Rattle.std.specs.Prelude.{IsPermutation}
-use Rattle.std.proofs.Common.{◌≡◌, ℕ, ◌+◌, ◌*◌, ◌-◌, ◌/◌, ◌%◌, ◌++◌, ◌<◌, ◌≤◌, ◌^◌, length, get_or, refl, sym, ap, ◌∙◌, subst, arith, rules, inl, inr}
+use Rattle.std.proofs.Common.{◌≡◌, ℕ, ◌+◌, ◌*◌, ◌-◌, ◌/◌, ◌++◌, ◌<◌, ◌≤◌, ◌^◌, length, get_or, refl, sym, ap, ◌∙◌, subst, arith, rules, inl, inr}
 use borrow.Author.Rules.{scaled_fits≤}
 use Rattle.std.proofs.Math.Nat.{mul-le-mul_right, le_trans}
 use Rattle.std.proofs.lemmas.List.Sorted.{IsPermutation-append_comm}

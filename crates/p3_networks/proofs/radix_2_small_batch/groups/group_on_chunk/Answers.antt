@@ -1,4 +1,4 @@
-use Rattle.std.proofs.Common.{◌≡◌, ℕ, ◌+◌, ◌*◌, ◌-◌, ◌/◌, ◌%◌, ◌^◌, ◌<◌, ◌≤◌, length, sym, ap, ◌∙◌, subst, arith}
+use Rattle.std.proofs.Common.{◌≡◌, ℕ, ◌+◌, ◌*◌, ◌-◌, ◌/◌, ◌^◌, ◌<◌, ◌≤◌, length, sym, ap, ◌∙◌, subst, arith}
 use Rattle.std.proofs.Math.Nat.{div-le_self, le_of_lt}
 use Rattle.p3_networks.specs.Groups.{HoldsColumns, TakesColumns, cells_of}
 use Rattle.p3_networks.proofs.Layers.Groups.{part_sizes, piece_held, piece_start, pieces_all, pieces_counted, pieces_cover, pieces_next}

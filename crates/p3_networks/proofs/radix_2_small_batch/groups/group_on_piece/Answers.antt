@@ -1,4 +1,4 @@
-use Rattle.std.proofs.Common.{◌≡◌, ℕ, ◌+◌, ◌*◌, ◌-◌, ◌%◌, ◌^◌, ◌≤◌, length, sym, ap, ◌∙◌, subst, arith}
+use Rattle.std.proofs.Common.{◌≡◌, ℕ, ◌+◌, ◌*◌, ◌-◌, ◌^◌, ◌≤◌, length, sym, ap, ◌∙◌, subst, arith}
 use Rattle.p3_networks.specs.Groups.{TakesColumns, cells_of}
 use Rattle.p3_networks.specs.Layers.{IsLayer}
 use Rattle.p3_networks.proofs.Layers.Groups.{block_there, columns_next, columns_none, layer_in_order, part_sizes, piece_layer_counted, piece_sizes}

@@ -1,4 +1,4 @@
-use Rattle.std.proofs.Common.{◌≡◌, ◌+◌, ◌-◌, ◌*◌, ◌/◌, ◌%◌, ◌^◌, length, sym, ap, ◌∙◌, arith}
+use Rattle.std.proofs.Common.{◌≡◌, ◌+◌, ◌-◌, ◌*◌, ◌/◌, length, sym, ap, ◌∙◌, arith}
 use Rattle.p3_networks.specs.Groups.{cells_of}
 use Rattle.p3_networks.proofs.Layers.Chunks.{chunk_digits}
 use Rattle.p3_networks.proofs.Layers.Tiles.{tile_rows_of_chunk, tile_sizes, tile_some, tiles_cost}

@@ -1,4 +1,4 @@
-use Rattle.std.proofs.Common.{◌+◌, ◌-◌, ◌*◌, ◌/◌, ◌%◌, ◌^◌, length, get_or, ap, arith}
+use Rattle.std.proofs.Common.{◌+◌, ◌-◌, ◌*◌, ◌/◌, length, get_or, ap, arith}
 use Rattle.std.proofs.Math.Nat.{mul-le-mul_right}
 use Rattle.p3_networks.proofs.Layers.Tiles.{spread_room, tile_rows, tile_sizes, tile_small, tile_some, tiles_cost}
 use Rattle.p3_networks.proofs.Rows.EachChunk.{cells_of_chunks}

@@ -1,4 +1,4 @@
-use Rattle.std.proofs.Common.{◌≡◌, ℕ, ◌⊎◌, inl, inr, ◌+◌, ◌-◌, ◌/◌, ◌^◌, ◌<◌, ◌≤◌, length, true, false, sym, subst, arith, ◌∙◌}
+use Rattle.std.proofs.Common.{◌≡◌, ℕ, ◌⊎◌, inl, inr, ◌-◌, ◌^◌, ◌<◌, ◌≤◌, length, true, false, sym, subst, arith, ◌∙◌}
 use Rattle.p3_networks.specs.Twiddles.{AreTwiddlesOfLayers, root_powers, mid_of}
 use Rattle.p3_networks.proofs.radix_2_dit_parallel.tables.Tables.make.Goals as goal
 
