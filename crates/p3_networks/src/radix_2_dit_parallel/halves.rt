@@ -69,24 +69,47 @@ pub fn first_half<F: TwoAdicField>(
     ensures grows { products.old ≤ products.new }
     ensures cost { products.new ≤ products.old + 2 ^ (log_h - mid) * (width * (mid * 2 ^ mid / 2)) }
 {
-    let chunks = 1usize << (log_h - mid);
-    let size = values.len() / chunks;
     // One column is made apart: where the width is known, no loop along a row is left.
     if width == 1 {
-        let layers = LowLayers {
-            twiddles,
-            width: 1,
-            mid,
-        };
-        on_each_chunk(layers, values, size, chunks, products);
+        low_chunks(twiddles, values, 1, log_h, mid, products);
     } else {
-        let layers = LowLayers {
-            twiddles,
-            width,
-            mid,
-        };
-        on_each_chunk(layers, values, size, chunks, products);
+        low_chunks(twiddles, values, width, log_h, mid, products);
     }
+}
+
+// The chunks of the first half, one after another. Inlined, so that a width that the caller names is known
+// in all layers.
+#[inline(always)]
+fn low_chunks<F: TwoAdicField>(
+    twiddles: &[F],
+    values: &mut [F],
+    width: usize,
+    log_h: usize,
+    mid: usize,
+    products: &mut Products,
+)
+    requires wide { 1 ≤ width }
+    requires small { log_h < 64 }
+    requires parts { mid ≤ log_h }
+    requires size { length values.old ≡ 2 ^ log_h * width }
+    requires table { 2 ^ mid - 1 ≤ length twiddles.now }
+    ensures values { (g : ℕ → F.Element) (s : F.Element) → AreRoots F.ring mid g
+        → AreTwiddlesOfLayers F.Field.own mid (coset_twiddles F.Field.own g s mid) twiddles.now
+        → (a t j : ℕ) → a < 2 ^ (log_h - mid) → t < 2 ^ mid → j < width
+        → F.value (get_or values.new ((a * 2 ^ mid + t) * width + j) F.ZERO)
+        ≡ poly F.ring (2 ^ mid) (λ q. F.value (get_or values.old ((a * 2 ^ mid + rev mid q) * width + j) F.ZERO))
+        (point F.ring g mid s t) }
+    ensures grows { products.old ≤ products.new }
+    ensures cost { products.new ≤ products.old + 2 ^ (log_h - mid) * (width * (mid * 2 ^ mid / 2)) }
+{
+    let chunks = 1usize << (log_h - mid);
+    let size = values.len() / chunks;
+    let layers = LowLayers {
+        twiddles,
+        width,
+        mid,
+    };
+    on_each_chunk(layers, values, size, chunks, products);
 }
 
 // The layers of the first half.
@@ -138,25 +161,48 @@ pub fn first_half_oop<F: TwoAdicField>(
     ensures grows { products.old ≤ products.new }
     ensures cost { products.new ≤ products.old + 2 ^ (log_h - mid) * (width * (mid * 2 ^ mid / 2)) }
 {
+    if width == 1 {
+        low_chunks_oop(twiddles, source, values, 1, log_h, mid, products);
+    } else {
+        low_chunks_oop(twiddles, source, values, width, log_h, mid, products);
+    }
+}
+
+// The chunks of the first half from rows in another slice. Inlined as the chunks in place are.
+#[inline(always)]
+fn low_chunks_oop<F: TwoAdicField>(
+    twiddles: &[F],
+    source: &[F],
+    values: &mut [F],
+    width: usize,
+    log_h: usize,
+    mid: usize,
+    products: &mut Products,
+)
+    requires wide { 1 ≤ width }
+    requires small { log_h < 64 }
+    requires parts { mid ≤ log_h }
+    requires source { length source.now ≡ 2 ^ log_h * width }
+    requires size { length values.old ≡ 2 ^ log_h * width }
+    requires table { 2 ^ mid - 1 ≤ length twiddles.now }
+    ensures values { (g : ℕ → F.Element) (s : F.Element) → AreRoots F.ring mid g
+        → AreTwiddlesOfLayers F.Field.own mid (coset_twiddles F.Field.own g s mid) twiddles.now
+        → (a t j : ℕ) → a < 2 ^ (log_h - mid) → t < 2 ^ mid → j < width
+        → F.value (get_or values.new ((a * 2 ^ mid + t) * width + j) F.ZERO)
+        ≡ poly F.ring (2 ^ mid) (λ q. F.value (get_or source.now ((a * 2 ^ mid + rev mid q) * width + j) F.ZERO))
+        (point F.ring g mid s t) }
+    ensures grows { products.old ≤ products.new }
+    ensures cost { products.new ≤ products.old + 2 ^ (log_h - mid) * (width * (mid * 2 ^ mid / 2)) }
+{
     let chunks = 1usize << (log_h - mid);
     let size = values.len() / chunks;
-    if width == 1 {
-        let layers = LowLayersOop {
-            twiddles,
-            source,
-            width: 1,
-            mid,
-        };
-        on_each_chunk(layers, values, size, chunks, products);
-    } else {
-        let layers = LowLayersOop {
-            twiddles,
-            source,
-            width,
-            mid,
-        };
-        on_each_chunk(layers, values, size, chunks, products);
-    }
+    let layers = LowLayersOop {
+        twiddles,
+        source,
+        width,
+        mid,
+    };
+    on_each_chunk(layers, values, size, chunks, products);
 }
 
 // The layers of the first half, from the same chunk of another slice.
@@ -223,27 +269,51 @@ pub fn second_half<F: TwoAdicField>(
     ensures cost { products.new ≤ products.old
         + 2 ^ mid * (width * (left * 2 ^ left / 2) + scale_cost scale * (2 ^ left * width)) }
 {
+    if width == 1 {
+        high_chunks(table, scale, values, 1, mid, left, products);
+    } else {
+        high_chunks(table, scale, values, width, mid, left, products);
+    }
+}
+
+// The chunks of the second half, one after another. Inlined as those of the first half are.
+#[inline(always)]
+fn high_chunks<F: TwoAdicField>(
+    table: BlockTwiddles<'_, F>,
+    scale: Option<F>,
+    values: &mut [F],
+    width: usize,
+    mid: usize,
+    left: usize,
+    products: &mut Products,
+)
+    requires wide { 1 ≤ width }
+    requires some { 1 ≤ left }
+    requires small { mid + left < 64 }
+    requires size { length values.old ≡ 2 ^ (mid + left) * width }
+    requires table { (l : ℕ) → mid ≤ l → l < mid + left → block_end table.by_layer l ≤ length table.twiddles.now }
+    ensures values { (g : ℕ → F.Element) (s : F.Element) → AreRoots F.ring (mid + left) g
+        → AreBlockTwiddles F.Field.own g s mid (mid + left) table.entry.by_layer table.entry.twiddles.now
+        → (a t j : ℕ) → a < 2 ^ mid → t < 2 ^ left → j < width
+        → F.value (get_or values.new ((a * 2 ^ left + t) * width + j) F.ZERO)
+        ≡ poly F.ring (2 ^ left)
+        (λ q. F.ring.mul (F.value (get_or values.old ((a * 2 ^ left + q) * width + j) F.ZERO))
+        (factor F.Field.own scale))
+        (point F.ring g left (point F.ring g (mid + left) s (rev mid a)) (rev left t)) }
+    ensures grows { products.old ≤ products.new }
+    ensures cost { products.new ≤ products.old
+        + 2 ^ mid * (width * (left * 2 ^ left / 2) + scale_cost scale * (2 ^ left * width)) }
+{
     let chunks = 1usize << mid;
     let size = values.len() / chunks;
-    if width == 1 {
-        let layers = HighLayers {
-            table,
-            scale,
-            width: 1,
-            mid,
-            left,
-        };
-        on_each_chunk(layers, values, size, chunks, products);
-    } else {
-        let layers = HighLayers {
-            table,
-            scale,
-            width,
-            mid,
-            left,
-        };
-        on_each_chunk(layers, values, size, chunks, products);
-    }
+    let layers = HighLayers {
+        table,
+        scale,
+        width,
+        mid,
+        left,
+    };
+    on_each_chunk(layers, values, size, chunks, products);
 }
 
 // The layers of the second half, and the scale before them.
