@@ -468,6 +468,9 @@ impl Packable for Goldilocks {
 
     type Packing = Lanes<Goldilocks, 4>;
 
+    // So no more than one lane has to lie in registers.
+    const ONE_BY_ONE: bool = true;
+
     ghost lane_law = { λ _. refl };
 
     ghost one_lane_law = { refl };

@@ -30,9 +30,6 @@ impl<F: Field, const N: usize> PackedField for Lanes<F, N> {
 
     ghost WIDTH = { N };
 
-    // So no more than one lane has to lie in registers.
-    const ONE_BY_ONE: bool = true;
-
     ghost lanes = { λ x. x.lanes };
 
     #[inline(always)]

@@ -26,9 +26,6 @@ where
 
     ghost WIDTH: { ℕ };
 
-    /// Whether lanes that lie in a slice are better taken one after another than all at once.
-    const ONE_BY_ONE: bool = false;
-
     // The lanes, in order.
     ghost lanes: { Self → List Self.Scalar };
 
@@ -105,6 +102,9 @@ where
 pub trait Packable: Field + PackedField<Scalar = Self> {
     /// The packed values of this field.
     type Packing: PackedField<Scalar = Self>;
+
+    /// Whether the lanes of a pack that lies in a slice are better taken one after another than all at once.
+    const ONE_BY_ONE: bool = false;
 
     // An element is the one lane of itself.
     ghost lane_law: { (x : Self) → Self.lanes x ≡ x ∷ [] };

@@ -65,7 +65,7 @@ pub trait Butterfly<F: Packable>: Copy {
             ≡ by_lanes (far F.Element F.ring F.value self.now) (map F.value row_1.old) (map F.value row_2.old) }
         ensures count { products.new ≡ products.old + cost * length row_1.old }
     {
-        if !F::Packing::ONE_BY_ONE {
+        if !F::ONE_BY_ONE {
             apply_by_packs_apart(self, row_1, row_2, products);
         } else if row_1.len() < F::Packing::WIDTH {
             apply_to_elements(self, row_1, row_2, products);

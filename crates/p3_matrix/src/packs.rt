@@ -106,7 +106,7 @@ fn apply_to_pack<F: Packable, P: PackedField<Scalar = F>, B: Butterfly<F>>(
         ≡ by_lanes (B.far F.Element F.ring F.value butterfly.now) (map F.value part_1.old) (map F.value part_2.old) }
     ensures count { products.new ≡ products.old + B.cost * P.WIDTH }
 {
-    if P::ONE_BY_ONE {
+    if F::ONE_BY_ONE {
         apply_to_elements(butterfly, part_1, part_2, products);
     } else {
         let (near, far) = butterfly.apply(P::load(part_1), P::load(part_2), products);
@@ -216,7 +216,7 @@ fn dit_on_pack<F: Packable, P: PackedField<Scalar = F>>(
         (by_lanes F.ring.mul (map F.value part_2.old) (map F.value twiddles.now)) }
     ensures count { products.new ≡ products.old + P.WIDTH }
 {
-    if P::ONE_BY_ONE {
+    if F::ONE_BY_ONE {
         dit_on_elements(twiddles, part_1, part_2, products);
     } else {
         let x = P::load(part_1);

@@ -12,7 +12,7 @@ pub fn scale_slice_in_place<F: Packable>(values: &mut [F], t: F, products: &mut 
     ensures values { map F.value values.new ≡ map (λ x. F.ring.mul x (F.value t)) (map F.value values.old) }
     ensures count { products.new ≡ products.old + length values.old }
 {
-    if F::Packing::ONE_BY_ONE {
+    if F::ONE_BY_ONE {
         scale_packs::<F, F>(values, t, products);
         return;
     }
