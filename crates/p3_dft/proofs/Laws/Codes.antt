@@ -57,12 +57,7 @@ module _ {F : Type 0} (f : FieldMembers F) (generator : ℕ → F) (m c : RowMaj
         high = refl;
         values = padded_values f.ring roots first (values_of f c) k s (values_of f m) (omega (arith, less)) refl (λ i j below inside. refl) zeros are.values;
       })
-      (λ more.
-      record {
-        coefficients = lengthened f.ring.zero h (values_of f c);
-        high = refl;
-        values = lengthened_values f.ring roots (values_of f c) (values_of f m) h k s more are.values;
-      })
+      (λ more. record { coefficients = lengthened f.ring.zero h (values_of f c); high = refl; values = lengthened_values f.ring roots (values_of f c) (values_of f m) h k s more are.values })
       (cases_lt h (height c))
 
   -- m has values of degree below h where `has_degree_below` says so of the coefficients, and only there
@@ -72,11 +67,8 @@ module _ {F : Type 0} (f : FieldMembers F) (generator : ℕ → F) (m c : RowMaj
 -- an extension of a message is a codeword
 pub word_of_extension : {F : Type 0} (f : FieldMembers F) (generator : ℕ → F) (code : Code F) (m out : RowMajor F) → height m ≡ 2 ^ code.log_message
     → IsExtension f generator m code.added_bits (f.value code.shift) out → IsCodeword f generator code (values_of f out)
-word_of_extension f generator code m out high extension = record {
-  coefficients = extension.coefficients;
-  high = (extension.are_coefficients code.log_message high).high ∙ high;
-  values = extension.extended code.log_message high;
-}
+word_of_extension f generator code m out high extension =
+    record { coefficients = extension.coefficients; high = (extension.are_coefficients code.log_message high).high ∙ high; values = extension.extended code.log_message high }
 
 -- the first w entries of row i are equal
 abbrev RowsAgree : {E : Type 0} → Matrix E → Matrix E → ℕ → ℕ → Type 0
