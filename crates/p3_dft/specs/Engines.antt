@@ -1,6 +1,7 @@
 -- What the clauses of the engines say again and again, in words.
 use Rattle.std.specs.Prelude.{◌≡◌, ◌↔◌, ◌⊎◌, ◌≢◌, ℕ, ◌+◌, ◌*◌, ◌^◌, ◌≤◌, List}
 use Rattle.std.specs.List.{Contains}
+use Rattle.std.specs.declared.vec.Vec.{Vec}
 use Rattle.p3_field.specs.declared.fields.Field.{Ghosts as FieldMembers}
 use Rattle.p3_matrix.specs.RowMajor.{RowMajor, height}
 use Rattle.p3_networks.specs.Twiddles.{Coset, HasCoset}
@@ -54,18 +55,18 @@ module _ {E F : Type 0} (facts : EngineFacts E F) where
     pub cost : AtLog height (λ k. facts.products_made after ≤ facts.products_made before + products k)
 
   -- after a transform of a matrix of m's shape or its inverse, with so many more products an entry
-  abbrev pub AfterTransform : {T : Type 0} → E → E → Type 0 → RowMajor T → ℕ → Type 0
-  AfterTransform before after answered m more =
+  abbrev pub AfterDft : {T : Type 0} → E → E → Type 0 → RowMajor T → ℕ → Type 0
+  AfterDft before after answered m more =
       IsAfter before after answered (height m) (facts.IsReady after) (λ k. facts.transform_products k m.width + more * (2 ^ k * m.width))
 
   -- after an extension of one by a bits
-  abbrev pub AfterExtension : {T : Type 0} → E → E → Type 0 → RowMajor T → ℕ → Type 0
-  AfterExtension before after answered m a =
+  abbrev pub AfterLde : {T : Type 0} → E → E → Type 0 → RowMajor T → ℕ → Type 0
+  AfterLde before after answered m a =
       IsAfter before after answered (height m) (λ k. facts.IsReady after k × facts.IsReady after (k + a)) (λ k. facts.extension_products k a m.width)
 
   -- and after one by an inverse transform and a transform on the larger coset
-  abbrev pub AfterExtensionByParts : {T : Type 0} → E → E → Type 0 → RowMajor T → ℕ → Type 0
-  AfterExtensionByParts before after answered m a =
+  abbrev pub AfterLdeByParts : {T : Type 0} → E → E → Type 0 → RowMajor T → ℕ → Type 0
+  AfterLdeByParts before after answered m a =
       IsAfter before after answered (height m) (λ k. facts.IsReady after k × facts.IsReady after (k + a)) (λ k. extension_bound facts.transform_products k a m.width)
 
   -- products that were counted elsewhere came to an engine, and nothing else changed
@@ -84,6 +85,10 @@ module _ {E F : Type 0} (facts : EngineFacts E F) where
 -- a matrix of one column
 abbrev pub one_column : {T : Type 0} → List T → RowMajor T
 one_column entries = record { width = 1; values = entries }
+
+-- a vector as one, which `new_col` makes of it
+abbrev pub col : {T Z : Type 0} → Vec T Z → RowMajor T
+col vec = one_column vec.items
 
 -- the logarithms of the heights whose twiddles are there, and the number of products that were made
 pub record EngineState : Type 0 where

@@ -46,9 +46,9 @@ module _ {F : Type 0} (f : FieldMembers F) (generator : ℕ → F) where
     pub answered_in_layout : (k : ℕ) → height m ≡ 2 ^ k → Same (values_of f answered) (arrangement layout k changed)
     pub extended : (k : ℕ) → height m ≡ 2 ^ k → IsValues f.ring (λ n. f.value (generator n)) changed (k + a) s out
 
-  -- the same of a stored matrix
-  abbrev pub IsTransformedExtension : (RowMajor F → RowMajor F → Type 0) → Layout → RowMajor F → ℕ → f.Element → RowMajor F → Type 0
-  IsTransformedExtension may_answer layout m a s out = AreTransformedValues may_answer layout m a s (values_of f out)
+  -- the same of a stored matrix, where it is said for each layout what the transform may answer
+  abbrev pub IsTransformedExtension : (RowMajor F → Layout → RowMajor F → Type 0) → Layout → RowMajor F → ℕ → f.Element → RowMajor F → Type 0
+  IsTransformedExtension may_answer layout m a s out = AreTransformedValues (λ told answered. may_answer told layout answered) layout m a s (values_of f out)
 
   -- above rows of zeros, which make out 2 ^ a times as high, it has what a transform may answer that is called with the coefficients of m in bit reversed order
   pub record IsAnswerOverZeros (may_answer : RowMajor F → RowMajor F → Type 0) (m : RowMajor F) (a : ℕ) (out : RowMajor F) : Type 0 where

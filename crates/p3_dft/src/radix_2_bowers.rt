@@ -159,8 +159,8 @@ impl<F: TwoAdicField> TwoAdicSubgroupDft<F> for Radix2Bowers {
         requires fits { FitsLde F.TWO_ADICITY (height (N.stored mat)) (N.stored mat).width added_bits }
         requires callable { IsCallable (N.stored mat) (λ m. T.pre transform m BitReversed) }
         requires shape { KeepsShape (N.stored mat) (λ m n. T.post transform m BitReversed n) }
-        ensures values { IfOk result (λ out. IsTransformedExtension F.Field.own F.generator
-            (λ m n. T.post transform m BitReversed n) BitReversed (N.stored mat) added_bits (F.value shift) out) }
+        ensures values { IfOk result (IsTransformedExtension F.Field.own F.generator (T.post transform) BitReversed
+            (N.stored mat) added_bits (F.value shift)) }
         ensures one_row { height (N.stored mat) ≡ 1 → added_bits ≡ 0 → IsOk result × (self.new ≡ self.old) }
         ensures later { IsLater ⟦<Radix2Bowers as TwoAdicSubgroupDft<F>>⟧.facts self.old self.new }
         ensures cost { AtLog (height (N.stored mat)) (λ k. self.new

@@ -122,7 +122,7 @@ impl<F: TwoAdicField> TwoAdicSubgroupDft<F> for Radix2DitParallel<F> {
     ghost use Rattle.p3_matrix.specs.BitOrder.{bit_reversal, reversed_rows};
     ghost use Rattle.p3_matrix.specs.RowMajor.{height};
     ghost use Rattle.p3_dft.specs.Engines.{AtLog, IsLater, IsCosetPrepared, IsPrepared, PreparesNoneAbove, plain_facts};
-    ghost use Rattle.p3_networks.specs.Twiddles.{AddsCosets, HasCoset, HasCosets};
+    ghost use Rattle.p3_networks.specs.Twiddles.{AddsCosets, HasCoset, HasCosets, mid_of};
     ghost use Rattle.p3_dft.specs.Extensions.{AreTransformedValues, IsCallable, IsTransformedExtension, KeepsShape};
     ghost use Rattle.p3_dft.specs.Blocks.{OnOutOfMemory, OnRefused, UnlessOutOfMemory};
     ghost use Rattle.p3_matrix.specs.Blocks.{IsPublished, IsRefused};
@@ -141,7 +141,7 @@ impl<F: TwoAdicField> TwoAdicSubgroupDft<F> for Radix2DitParallel<F> {
     ghost facts = { record (plain_facts (λ e. IsPrepared e.roots) (λ e k s. IsCosetPrepared F.Field.own e k (F.value s))
         (λ _ _. ⊤) (λ k w. w * (k * 2 ^ k / 2)) (λ e. e.roots.products)) {
           extension_products = λ k a w. w * (k * 2 ^ k / 2 * (1 + 2 ^ a) + 2 ^ k);
-          block_rows = λ k a. 2 ^ (k - (k + 1) / 2);
+          block_rows = λ k a. 2 ^ (k - mid_of k);
         } };
 
     ghost laws = { record {
@@ -290,9 +290,8 @@ impl<F: TwoAdicField> TwoAdicSubgroupDft<F> for Radix2DitParallel<F> {
         requires fits { FitsLde F.TWO_ADICITY (height (N.stored mat)) (N.stored mat).width added_bits }
         requires callable { IsCallable (N.stored mat) (λ m. T.pre transform m BitReversed) }
         requires shape { KeepsShape (N.stored mat) (λ m n. T.post transform m BitReversed n) }
-        ensures values { IfOk result (λ out. IsTransformedExtension F.Field.own F.generator
-            (λ m n. T.post transform m BitReversed n) BitReversed
-            (N.stored mat) added_bits (F.value shift) (reversed_rows out.bits out.physical)) }
+        ensures values { IfOk result (λ out. IsTransformedExtension F.Field.own F.generator (T.post transform)
+            BitReversed (N.stored mat) added_bits (F.value shift) (reversed_rows out.bits out.physical)) }
         ensures prepared { AtLog (height (N.stored mat)) (λ k. OnOk result (IsPrepared self.new.roots k)) }
         ensures tables { AtLog (height (N.stored mat)) (λ k. OnOk result
             (HasCosets F.Field.own F.generator self.new.cosets k added_bits (F.value shift))) }
@@ -347,19 +346,18 @@ impl<F: TwoAdicField> TwoAdicSubgroupDft<F> for Radix2DitParallel<F> {
         requires fits { FitsLde F.TWO_ADICITY (height (N.stored mat)) (N.stored mat).width added_bits }
         requires callable { IsCallable (N.stored mat) (λ m. T.pre transform m BitReversed) }
         requires shape { KeepsShape (N.stored mat) (λ m n. T.post transform m BitReversed n) }
-        requires makes { AtLog (height (N.stored mat)) (λ k. M.pre make_consumer (2 ^ (k - (k + 1) / 2))) }
-        ensures values { IfOk result (λ p. IsTransformedExtension F.Field.own F.generator
-            (λ m n. T.post transform m BitReversed n) BitReversed
-            (N.stored mat) added_bits (F.value shift) (reversed_rows p.0.bits p.0.physical)) }
+        requires makes { AtLog (height (N.stored mat)) (λ k. M.pre make_consumer (2 ^ (k - mid_of k))) }
+        ensures values { IfOk result (λ p. IsTransformedExtension F.Field.own F.generator (T.post transform)
+            BitReversed (N.stored mat) added_bits (F.value shift) (reversed_rows p.0.bits p.0.physical)) }
         ensures published { IfOk result (λ p. AtLog (height (N.stored mat)) (λ k.
-            IsPublished C.step (λ c. M.post make_consumer (2 ^ (k - (k + 1) / 2)) c) (2 ^ (k - (k + 1) / 2))
+            IsPublished C.step (M.post make_consumer (2 ^ (k - mid_of k))) (2 ^ (k - mid_of k))
             p.0.physical p.1)) }
         ensures refused { IfErr result (λ e. OnRefused e
             (λ c r. AtLog (height (N.stored mat)) (λ k. (out : Matrix F.Element)
             × AreTransformedValues F.Field.own F.generator (λ m n. T.post transform m BitReversed n) BitReversed
             (N.stored mat) added_bits (F.value shift) out
-            × IsRefused C.step (λ c. M.post make_consumer (2 ^ (k - (k + 1) / 2)) c) (values_of F.Field.own)
-            (2 ^ (k - (k + 1) / 2)) (bit_reversal (k + added_bits) out) c r))) }
+            × IsRefused C.step (M.post make_consumer (2 ^ (k - mid_of k))) (values_of F.Field.own)
+            (2 ^ (k - mid_of k)) (bit_reversal (k + added_bits) out) c r))) }
         ensures unpublished { IfErr result (λ e. OnOutOfMemory e (λ m. m ≡ make_consumer)) }
         ensures prepared { AtLog (height (N.stored mat)) (λ k. UnlessOutOfMemory result (IsPrepared self.new.roots k)) }
         ensures tables { AtLog (height (N.stored mat)) (λ k. UnlessOutOfMemory result

@@ -6,7 +6,7 @@ ghost use Rattle.p3_matrix.specs.Matrix.{Matrix, Same};
 ghost use Rattle.p3_matrix.specs.RowMajor.{height};
 ghost use Rattle.p3_dft.specs.Codes.{IsCode, IsCodeword};
 ghost use Rattle.p3_matrix.specs.RowNumbers.{AgreeInRows};
-ghost use Rattle.p3_dft.specs.Engines.{AfterExtension, AfterTransform};
+ghost use Rattle.p3_dft.specs.Engines.{AfterDft, AfterLde};
 ghost use Rattle.p3_dft.specs.Extensions.{IsExtension};
 ghost use Rattle.p3_dft.specs.Shapes.{FitsDft, FitsLde};
 ghost use Rattle.p3_matrix.specs.Cosets.{values_of};
@@ -157,7 +157,7 @@ impl<F: TwoAdicField, D: TwoAdicSubgroupDft<F>> ReedSolomon<F, D> {
             → AgreeInRows (2 ^ self.old.code.log_message) other (values_of F.Field.own out)
             → Same other (values_of F.Field.own out)) }
         ensures code { self.new.code ≡ self.old.code }
-        ensures engine { AfterExtension D.facts self.old.engine self.new.engine (IsOk result) (N.stored mat)
+        ensures engine { AfterLde D.facts self.old.engine self.new.engine (IsOk result) (N.stored mat)
             self.old.code.added_bits }
     {
         let values = self
@@ -177,7 +177,7 @@ impl<F: TwoAdicField, D: TwoAdicSubgroupDft<F>> ReedSolomon<F, D> {
         ensures exact { IfOk result (λ told.
             IsTrue told ↔ IsCodeword F.Field.own F.generator self.old.code (values_of F.Field.own word.now)) }
         ensures code { self.new.code ≡ self.old.code }
-        ensures engine { AfterTransform D.facts self.old.engine self.new.engine (IsOk result) word.now 2 }
+        ensures engine { AfterDft D.facts self.old.engine self.new.engine (IsOk result) word.now 2 }
     {
         let message_height = self.message_height();
         let coefficients = self.engine.coset_idft_batch(word.try_clone()?, self.shift)?;

@@ -1,28 +1,28 @@
 //! The trait of the engines.
 
-ghost use Rattle.std.specs.Prelude.{◌≡◌, ℕ, ◌+◌, ◌*◌, ◌^◌, ◌≤◌, IfErr, IfOk, OnOk, IsOk, vec_len};
+ghost use Rattle.std.specs.Prelude.{◌≡◌, ◌+◌, ◌*◌, ◌^◌, ◌≤◌, IfErr, IfOk, IsOk, vec_len};
 ghost use Rattle.p3_matrix.specs.BitOrder.{bit_reversal, reversed_rows};
 ghost use Rattle.p3_matrix.specs.Blocks.{IsPublished, IsRefused};
-ghost use Rattle.p3_matrix.specs.RowMajor.{HasShapeOf, IsRowMajor, RowMajor, height};
+ghost use Rattle.p3_matrix.specs.RowMajor.{height};
 ghost use Rattle.p3_dft.specs.Blocks.{IsNotOutOfMemory, OnOutOfMemory, OnRefused};
-ghost use Rattle.p3_dft.specs.Coordinates.{flat, flat_column};
-ghost use Rattle.p3_dft.specs.Engines.{AfterExtension, AfterExtensionByParts, AfterTransform, AtLog, EngineFacts};
-ghost use Rattle.p3_dft.specs.Engines.{EngineLaws, HasProductsMore, one_column};
+ghost use Rattle.p3_dft.specs.Coordinates.{flat, flat_col};
+ghost use Rattle.p3_dft.specs.Engines.{AfterDft, AfterLde, AfterLdeByParts, AtLog, EngineFacts, EngineLaws};
+ghost use Rattle.p3_dft.specs.Engines.{HasProductsMore, col};
 ghost use Rattle.p3_dft.specs.Extensions.{AreExtendedValues, AreTransformedValues, IsCallable, IsExtension};
-ghost use Rattle.p3_dft.specs.Extensions.{IsTransformedExtension, KeepsShape, arrangement};
+ghost use Rattle.p3_dft.specs.Extensions.{IsTransformedExtension, KeepsShape};
 ghost use Rattle.p3_dft.specs.Shapes.{FitsDft, FitsLde};
-ghost use Rattle.p3_matrix.specs.Matrix.{Matrix, Same, matrix};
+ghost use Rattle.p3_matrix.specs.Matrix.{Matrix};
 ghost use Rattle.p3_field.specs.Ring.{IsInvertible};
 ghost use Rattle.p3_dft.specs.Transforms.{IsInterpolation, IsTransform};
 ghost use Rattle.p3_matrix.specs.Cosets.{values_of};
 
 use crate::algebra::{flatten, gather};
 use crate::blocks::{BlocksStopped, Unpublished};
-use crate::util::{coefficients_from_values, pad_rows, shift_rows};
+use crate::util::{coefficients_from_values, exchange_layouts, pad_rows, shift_rows};
 use p3_field::{BasedVectorSpace, Field, Products, TwoAdicField};
 use p3_matrix::{
     BitReversedMatrixView, BlockConsumer, DftError, Evaluations, IntoRowMajorMatrix,
-    RowMajorMatrix, log2_strict_usize, publish, reverse_rows,
+    RowMajorMatrix, log2_strict_usize, publish,
 };
 
 /// In which order the rows of a matrix of `2^k` coefficients lie.
@@ -69,7 +69,7 @@ pub trait TwoAdicSubgroupDft<F: TwoAdicField>: Clone + Default {
         ensures values { IfOk result (λ out. IsTransform F.Field.own F.generator (N.stored mat) F.ring.one
             (Self.Evaluations.natural out)) }
         ensures succeeds { AtLog (height (N.stored mat)) (λ k. facts.Succeeds self.old k → IsOk result) }
-        ensures engine { AfterTransform facts self.old self.new (IsOk result) (N.stored mat) 0 };
+        ensures engine { AfterDft facts self.old self.new (IsOk result) (N.stored mat) 0 };
 
     /// Adds to the engine's counter what was counted elsewhere. What the engine promises and serves stays.
     fn add_products(&mut self, products: Products)
@@ -83,11 +83,11 @@ pub trait TwoAdicSubgroupDft<F: TwoAdicField>: Clone + Default {
         shift: F,
     ) -> Result<Self::Evaluations, DftError>
         requires fits { FitsDft F.TWO_ADICITY (height (N.stored mat)) (N.stored mat).width }
-        ensures values { IfOk result (λ out.
-            IsTransform F.Field.own F.generator (N.stored mat) (F.value shift) (Self.Evaluations.natural out)) }
+        ensures values { IfOk result (λ out. IsTransform F.Field.own F.generator (N.stored mat) (F.value shift)
+            (Self.Evaluations.natural out)) }
         ensures succeeds { AtLog (height (N.stored mat))
             (λ k. facts.Succeeds self.old k → facts.SucceedsOnCoset self.old k shift → IsOk result) }
-        ensures engine { AfterTransform facts self.old self.new (IsOk result) (N.stored mat) 1 }
+        ensures engine { AfterDft facts self.old self.new (IsOk result) (N.stored mat) 1 }
     {
         let mut products = Products::new();
         let mut mat = mat.into_row_major_matrix();
@@ -103,10 +103,9 @@ pub trait TwoAdicSubgroupDft<F: TwoAdicField>: Clone + Default {
         mat: N,
     ) -> Result<RowMajorMatrix<F>, DftError>
         requires fits { FitsDft F.TWO_ADICITY (height (N.stored mat)) (N.stored mat).width }
-        ensures coefficients { IfOk result
-            (λ out. IsInterpolation F.Field.own F.generator (N.stored mat) F.ring.one out) }
+        ensures coefficients { IfOk result (IsInterpolation F.Field.own F.generator (N.stored mat) F.ring.one) }
         ensures succeeds { AtLog (height (N.stored mat)) (λ k. facts.Succeeds self.old k → IsOk result) }
-        ensures engine { AfterTransform facts self.old self.new (IsOk result) (N.stored mat) 1 }
+        ensures engine { AfterDft facts self.old self.new (IsOk result) (N.stored mat) 1 }
     {
         let values = self.dft_batch(mat)?.to_row_major_matrix();
         let mut products = Products::new();
@@ -125,10 +124,9 @@ pub trait TwoAdicSubgroupDft<F: TwoAdicField>: Clone + Default {
     ) -> Result<RowMajorMatrix<F>, DftError>
         requires fits { FitsDft F.TWO_ADICITY (height (N.stored mat)) (N.stored mat).width }
         requires invertible { IsInvertible F.ring (F.value shift) }
-        ensures coefficients { IfOk result
-            (λ out. IsInterpolation F.Field.own F.generator (N.stored mat) (F.value shift) out) }
+        ensures coefficients { IfOk result (IsInterpolation F.Field.own F.generator (N.stored mat) (F.value shift)) }
         ensures succeeds { AtLog (height (N.stored mat)) (λ k. facts.Succeeds self.old k → IsOk result) }
-        ensures engine { AfterTransform facts self.old self.new (IsOk result) (N.stored mat) 2 }
+        ensures engine { AfterDft facts self.old self.new (IsOk result) (N.stored mat) 2 }
     {
         let mut coefficients = self.idft_batch(mat)?;
         let mut products = Products::new();
@@ -157,10 +155,9 @@ pub trait TwoAdicSubgroupDft<F: TwoAdicField>: Clone + Default {
         requires fits { FitsLde F.TWO_ADICITY (height (N.stored mat)) (N.stored mat).width added_bits }
         requires callable { IsCallable (N.stored mat) (λ m. T.pre transform m LAYOUT) }
         requires shape { KeepsShape (N.stored mat) (λ m n. T.post transform m LAYOUT n) }
-        ensures values { IfOk result (λ out. IsTransformedExtension F.Field.own F.generator
-            (λ m n. T.post transform m LAYOUT n) LAYOUT
+        ensures values { IfOk result (λ out. IsTransformedExtension F.Field.own F.generator (T.post transform) LAYOUT
             (N.stored mat) added_bits (F.value shift) (Self.Evaluations.natural out)) }
-        ensures engine { AfterExtension facts self.old self.new (IsOk result) (N.stored mat) added_bits };
+        ensures engine { AfterLde facts self.old self.new (IsOk result) (N.stored mat) added_bits };
 
     /// What `coset_lde_batch_with_transform` answers, by an inverse transform, rows of zeros and a
     /// transform on the larger coset. An engine that has nothing better calls it there. The conditions
@@ -178,10 +175,9 @@ pub trait TwoAdicSubgroupDft<F: TwoAdicField>: Clone + Default {
         requires fits { FitsLde F.TWO_ADICITY (height (N.stored mat)) (N.stored mat).width added_bits }
         requires callable { IsCallable (N.stored mat) (λ m. T.pre transform m LAYOUT) }
         requires shape { KeepsShape (N.stored mat) (λ m n. T.post transform m LAYOUT n) }
-        ensures values { IfOk result (λ out. IsTransformedExtension F.Field.own F.generator
-            (λ m n. T.post transform m LAYOUT n) LAYOUT
+        ensures values { IfOk result (λ out. IsTransformedExtension F.Field.own F.generator (T.post transform) LAYOUT
             (N.stored mat) added_bits (F.value shift) (Self.Evaluations.natural out)) }
-        ensures engine { AfterExtensionByParts facts self.old self.new (IsOk result) (N.stored mat) added_bits }
+        ensures engine { AfterLdeByParts facts self.old self.new (IsOk result) (N.stored mat) added_bits }
     {
         let mut coefficients = self.idft_batch(mat)?;
         exchange_layouts(&mut coefficients, Self::LAYOUT);
@@ -206,10 +202,9 @@ pub trait TwoAdicSubgroupDft<F: TwoAdicField>: Clone + Default {
         requires fits { FitsLde F.TWO_ADICITY (height (N.stored mat)) (N.stored mat).width added_bits }
         requires callable { IsCallable (N.stored mat) (λ m. T.pre transform m LAYOUT) }
         requires shape { KeepsShape (N.stored mat) (λ m n. T.post transform m LAYOUT n) }
-        ensures values { IfOk result (λ out. IsTransformedExtension F.Field.own F.generator
-            (λ m n. T.post transform m LAYOUT n) LAYOUT
+        ensures values { IfOk result (λ out. IsTransformedExtension F.Field.own F.generator (T.post transform) LAYOUT
             (N.stored mat) added_bits (F.value shift) (reversed_rows out.bits out.physical)) }
-        ensures engine { AfterExtension facts self.old self.new (IsOk result) (N.stored mat) added_bits }
+        ensures engine { AfterLde facts self.old self.new (IsOk result) (N.stored mat) added_bits }
     {
         let values = self.coset_lde_batch_with_transform(mat, added_bits, shift, transform)?;
         Ok(values.into_bit_reversed())
@@ -225,10 +220,9 @@ pub trait TwoAdicSubgroupDft<F: TwoAdicField>: Clone + Default {
         shift: F,
     ) -> Result<Self::Evaluations, DftError>
         requires fits { FitsLde F.TWO_ADICITY (height (N.stored mat)) (N.stored mat).width added_bits }
-        ensures values { IfOk result (λ out.
-            IsExtension F.Field.own F.generator (N.stored mat) added_bits (F.value shift)
-            (Self.Evaluations.natural out)) }
-        ensures engine { AfterExtension facts self.old self.new (IsOk result) (N.stored mat) added_bits }
+        ensures values { IfOk result (λ out. IsExtension F.Field.own F.generator (N.stored mat) added_bits
+            (F.value shift) (Self.Evaluations.natural out)) }
+        ensures engine { AfterLde facts self.old self.new (IsOk result) (N.stored mat) added_bits }
     {
         self.coset_lde_batch_with_transform(
             mat,
@@ -248,9 +242,9 @@ pub trait TwoAdicSubgroupDft<F: TwoAdicField>: Clone + Default {
         added_bits: usize,
     ) -> Result<Self::Evaluations, DftError>
         requires fits { FitsLde F.TWO_ADICITY (height (N.stored mat)) (N.stored mat).width added_bits }
-        ensures values { IfOk result (λ out.
-            IsExtension F.Field.own F.generator (N.stored mat) added_bits F.ring.one (Self.Evaluations.natural out)) }
-        ensures engine { AfterExtension facts self.old self.new (IsOk result) (N.stored mat) added_bits }
+        ensures values { IfOk result (λ out. IsExtension F.Field.own F.generator (N.stored mat) added_bits
+            F.ring.one (Self.Evaluations.natural out)) }
+        ensures engine { AfterLde facts self.old self.new (IsOk result) (N.stored mat) added_bits }
     {
         self.coset_lde_batch(mat, added_bits, F::ONE)
     }
@@ -290,20 +284,17 @@ pub trait TwoAdicSubgroupDft<F: TwoAdicField>: Clone + Default {
         requires callable { IsCallable (N.stored mat) (λ m. T.pre transform m LAYOUT) }
         requires shape { KeepsShape (N.stored mat) (λ m n. T.post transform m LAYOUT n) }
         requires makes { AtLog (height (N.stored mat)) (λ k. M.pre make_consumer (facts.block_rows k added_bits)) }
-        ensures values { IfOk result (λ p. IsTransformedExtension F.Field.own F.generator
-            (λ m n. T.post transform m LAYOUT n) LAYOUT
+        ensures values { IfOk result (λ p. IsTransformedExtension F.Field.own F.generator (T.post transform) LAYOUT
             (N.stored mat) added_bits (F.value shift) (reversed_rows p.0.bits p.0.physical)) }
-        ensures published { IfOk result (λ p. AtLog (height (N.stored mat)) (λ k.
-            IsPublished C.step (λ c. M.post make_consumer (facts.block_rows k added_bits) c)
-            (facts.block_rows k added_bits) p.0.physical p.1)) }
-        ensures refused { IfErr result (λ e. OnRefused e
-            (λ c r. AtLog (height (N.stored mat)) (λ k. (out : Matrix F.Element)
-            × AreTransformedValues F.Field.own F.generator (λ m n. T.post transform m LAYOUT n) LAYOUT
-            (N.stored mat) added_bits (F.value shift) out
-            × IsRefused C.step (λ c. M.post make_consumer (facts.block_rows k added_bits) c) (values_of F.Field.own)
+        ensures published { IfOk result (λ p. AtLog (height (N.stored mat)) (λ k. IsPublished C.step
+            (M.post make_consumer (facts.block_rows k added_bits)) (facts.block_rows k added_bits) p.0.physical p.1)) }
+        ensures refused { IfErr result (λ e. OnRefused e (λ c r. AtLog (height (N.stored mat)) (λ k.
+            (out : Matrix F.Element) × AreTransformedValues F.Field.own F.generator
+            (λ m n. T.post transform m LAYOUT n) LAYOUT (N.stored mat) added_bits (F.value shift) out
+            × IsRefused C.step (M.post make_consumer (facts.block_rows k added_bits)) (values_of F.Field.own)
             (facts.block_rows k added_bits) (bit_reversal (k + added_bits) out) c r))) }
         ensures unpublished { IfErr result (λ e. OnOutOfMemory e (λ m. m ≡ make_consumer)) }
-        ensures engine { AfterExtension facts self.old self.new (IsNotOutOfMemory result) (N.stored mat) added_bits }
+        ensures engine { AfterLde facts self.old self.new (IsNotOutOfMemory result) (N.stored mat) added_bits }
     {
         let mat = mat.into_row_major_matrix();
         let block_height = self.block_height(log2_strict_usize(mat.height()), added_bits);
@@ -334,19 +325,16 @@ pub trait TwoAdicSubgroupDft<F: TwoAdicField>: Clone + Default {
     ) -> Result<(BitReversedMatrixView<RowMajorMatrix<F>>, C), BlocksStopped<M, C, C::Refusal>>
         requires fits { FitsLde F.TWO_ADICITY (height (N.stored mat)) (N.stored mat).width added_bits }
         requires makes { AtLog (height (N.stored mat)) (λ k. M.pre make_consumer (facts.block_rows k added_bits)) }
-        ensures values { IfOk result (λ p.
-            IsExtension F.Field.own F.generator (N.stored mat) added_bits (F.value shift)
-            (reversed_rows p.0.bits p.0.physical)) }
-        ensures published { IfOk result (λ p. AtLog (height (N.stored mat)) (λ k.
-            IsPublished C.step (λ c. M.post make_consumer (facts.block_rows k added_bits) c)
-            (facts.block_rows k added_bits) p.0.physical p.1)) }
-        ensures refused { IfErr result (λ e. OnRefused e
-            (λ c r. AtLog (height (N.stored mat)) (λ k. (out : Matrix F.Element)
-            × AreExtendedValues F.Field.own F.generator (N.stored mat) added_bits (F.value shift) out
-            × IsRefused C.step (λ c. M.post make_consumer (facts.block_rows k added_bits) c) (values_of F.Field.own)
-            (facts.block_rows k added_bits) (bit_reversal (k + added_bits) out) c r))) }
+        ensures values { IfOk result (λ p. IsExtension F.Field.own F.generator (N.stored mat) added_bits
+            (F.value shift) (reversed_rows p.0.bits p.0.physical)) }
+        ensures published { IfOk result (λ p. AtLog (height (N.stored mat)) (λ k. IsPublished C.step
+            (M.post make_consumer (facts.block_rows k added_bits)) (facts.block_rows k added_bits) p.0.physical p.1)) }
+        ensures refused { IfErr result (λ e. OnRefused e (λ c r. AtLog (height (N.stored mat)) (λ k.
+            (out : Matrix F.Element) × AreExtendedValues F.Field.own F.generator (N.stored mat) added_bits
+            (F.value shift) out × IsRefused C.step (M.post make_consumer (facts.block_rows k added_bits))
+            (values_of F.Field.own) (facts.block_rows k added_bits) (bit_reversal (k + added_bits) out) c r))) }
         ensures unpublished { IfErr result (λ e. OnOutOfMemory e (λ m. m ≡ make_consumer)) }
-        ensures engine { AfterExtension facts self.old self.new (IsNotOutOfMemory result) (N.stored mat) added_bits }
+        ensures engine { AfterLde facts self.old self.new (IsNotOutOfMemory result) (N.stored mat) added_bits }
     {
         self.coset_lde_batch_with_blocks(
             mat,
@@ -365,10 +353,9 @@ pub trait TwoAdicSubgroupDft<F: TwoAdicField>: Clone + Default {
     /// The values on H of the polynomial with these coefficients.
     final fn dft(&mut self, vec: Vec<F>) -> Result<Vec<F>, DftError>
         requires fits { FitsDft F.TWO_ADICITY (vec_len vec) 1 }
-        ensures values { IfOk result (λ out. IsTransform F.Field.own F.generator (one_column vec.items) F.ring.one
-            (one_column out.items)) }
+        ensures values { IfOk result (λ out. IsTransform F.Field.own F.generator (col vec) F.ring.one (col out)) }
         ensures succeeds { AtLog (vec_len vec) (λ k. facts.Succeeds self.old k → IsOk result) }
-        ensures engine { AfterTransform facts self.old self.new (IsOk result) (one_column vec.items) 0 }
+        ensures engine { AfterDft facts self.old self.new (IsOk result) (col vec) 0 }
     {
         let values = self.dft_batch(RowMajorMatrix::new_col(vec))?;
         Ok(values.to_row_major_matrix().into_values())
@@ -377,11 +364,10 @@ pub trait TwoAdicSubgroupDft<F: TwoAdicField>: Clone + Default {
     /// The values on `shift * H` of the polynomial with these coefficients. The shift may be zero.
     final fn coset_dft(&mut self, vec: Vec<F>, shift: F) -> Result<Vec<F>, DftError>
         requires fits { FitsDft F.TWO_ADICITY (vec_len vec) 1 }
-        ensures values { IfOk result (λ out.
-            IsTransform F.Field.own F.generator (one_column vec.items) (F.value shift) (one_column out.items)) }
+        ensures values { IfOk result (λ out. IsTransform F.Field.own F.generator (col vec) (F.value shift) (col out)) }
         ensures succeeds { AtLog (vec_len vec)
             (λ k. facts.Succeeds self.old k → facts.SucceedsOnCoset self.old k shift → IsOk result) }
-        ensures engine { AfterTransform facts self.old self.new (IsOk result) (one_column vec.items) 1 }
+        ensures engine { AfterDft facts self.old self.new (IsOk result) (col vec) 1 }
     {
         let values = self.coset_dft_batch(RowMajorMatrix::new_col(vec), shift)?;
         Ok(values.to_row_major_matrix().into_values())
@@ -390,10 +376,10 @@ pub trait TwoAdicSubgroupDft<F: TwoAdicField>: Clone + Default {
     /// The coefficients of the polynomial whose values on H these are.
     final fn idft(&mut self, vec: Vec<F>) -> Result<Vec<F>, DftError>
         requires fits { FitsDft F.TWO_ADICITY (vec_len vec) 1 }
-        ensures coefficients { IfOk result (λ out.
-            IsInterpolation F.Field.own F.generator (one_column vec.items) F.ring.one (one_column out.items)) }
+        ensures coefficients { IfOk result (λ out. IsInterpolation F.Field.own F.generator (col vec)
+            F.ring.one (col out)) }
         ensures succeeds { AtLog (vec_len vec) (λ k. facts.Succeeds self.old k → IsOk result) }
-        ensures engine { AfterTransform facts self.old self.new (IsOk result) (one_column vec.items) 1 }
+        ensures engine { AfterDft facts self.old self.new (IsOk result) (col vec) 1 }
     {
         Ok(self.idft_batch(RowMajorMatrix::new_col(vec))?.into_values())
     }
@@ -403,10 +389,10 @@ pub trait TwoAdicSubgroupDft<F: TwoAdicField>: Clone + Default {
     final fn coset_idft(&mut self, vec: Vec<F>, shift: F) -> Result<Vec<F>, DftError>
         requires fits { FitsDft F.TWO_ADICITY (vec_len vec) 1 }
         requires invertible { IsInvertible F.ring (F.value shift) }
-        ensures coefficients { IfOk result (λ out.
-            IsInterpolation F.Field.own F.generator (one_column vec.items) (F.value shift) (one_column out.items)) }
+        ensures coefficients { IfOk result (λ out. IsInterpolation F.Field.own F.generator (col vec)
+            (F.value shift) (col out)) }
         ensures succeeds { AtLog (vec_len vec) (λ k. facts.Succeeds self.old k → IsOk result) }
-        ensures engine { AfterTransform facts self.old self.new (IsOk result) (one_column vec.items) 2 }
+        ensures engine { AfterDft facts self.old self.new (IsOk result) (col vec) 2 }
     {
         Ok(
             self.coset_idft_batch(RowMajorMatrix::new_col(vec), shift)?
@@ -418,9 +404,9 @@ pub trait TwoAdicSubgroupDft<F: TwoAdicField>: Clone + Default {
     /// `len << added_bits`.
     final fn lde(&mut self, vec: Vec<F>, added_bits: usize) -> Result<Vec<F>, DftError>
         requires fits { FitsLde F.TWO_ADICITY (vec_len vec) 1 added_bits }
-        ensures values { IfOk result (λ out.
-            IsExtension F.Field.own F.generator (one_column vec.items) added_bits F.ring.one (one_column out.items)) }
-        ensures engine { AfterExtension facts self.old self.new (IsOk result) (one_column vec.items) added_bits }
+        ensures values { IfOk result (λ out. IsExtension F.Field.own F.generator (col vec) added_bits
+            F.ring.one (col out)) }
+        ensures engine { AfterLde facts self.old self.new (IsOk result) (col vec) added_bits }
     {
         let values = self.lde_batch(RowMajorMatrix::new_col(vec), added_bits)?;
         Ok(values.to_row_major_matrix().into_values())
@@ -435,10 +421,9 @@ pub trait TwoAdicSubgroupDft<F: TwoAdicField>: Clone + Default {
         shift: F,
     ) -> Result<Vec<F>, DftError>
         requires fits { FitsLde F.TWO_ADICITY (vec_len vec) 1 added_bits }
-        ensures values { IfOk result (λ out.
-            IsExtension F.Field.own F.generator (one_column vec.items) added_bits (F.value shift)
-            (one_column out.items)) }
-        ensures engine { AfterExtension facts self.old self.new (IsOk result) (one_column vec.items) added_bits }
+        ensures values { IfOk result (λ out. IsExtension F.Field.own F.generator (col vec) added_bits
+            (F.value shift) (col out)) }
+        ensures engine { AfterLde facts self.old self.new (IsOk result) (col vec) added_bits }
     {
         let values = self.coset_lde_batch(RowMajorMatrix::new_col(vec), added_bits, shift)?;
         Ok(values.to_row_major_matrix().into_values())
@@ -454,10 +439,9 @@ pub trait TwoAdicSubgroupDft<F: TwoAdicField>: Clone + Default {
         mat: RowMajorMatrix<V>,
     ) -> Result<RowMajorMatrix<V>, DftError>
         requires fits { FitsDft F.TWO_ADICITY (height mat) (mat.width * V.DIMENSION) }
-        ensures values { IfOk result (λ out.
-            IsTransform F.Field.own F.generator (flat V.BasedVectorSpace.own mat) F.ring.one
-            (flat V.BasedVectorSpace.own out)) }
-        ensures engine { AfterTransform facts self.old self.new (IsOk result) (flat V.BasedVectorSpace.own mat) 0 }
+        ensures values { IfOk result (λ out. IsTransform F.Field.own F.generator (flat V.BasedVectorSpace.own mat)
+            F.ring.one (flat V.BasedVectorSpace.own out)) }
+        ensures engine { AfterDft facts self.old self.new (IsOk result) (flat V.BasedVectorSpace.own mat) 0 }
     {
         let width = mat.width();
         let values = self.dft_batch(flatten(mat)?)?;
@@ -471,10 +455,9 @@ pub trait TwoAdicSubgroupDft<F: TwoAdicField>: Clone + Default {
         shift: F,
     ) -> Result<RowMajorMatrix<V>, DftError>
         requires fits { FitsDft F.TWO_ADICITY (height mat) (mat.width * V.DIMENSION) }
-        ensures values { IfOk result (λ out.
-            IsTransform F.Field.own F.generator (flat V.BasedVectorSpace.own mat) (F.value shift)
-            (flat V.BasedVectorSpace.own out)) }
-        ensures engine { AfterTransform facts self.old self.new (IsOk result) (flat V.BasedVectorSpace.own mat) 1 }
+        ensures values { IfOk result (λ out. IsTransform F.Field.own F.generator (flat V.BasedVectorSpace.own mat)
+            (F.value shift) (flat V.BasedVectorSpace.own out)) }
+        ensures engine { AfterDft facts self.old self.new (IsOk result) (flat V.BasedVectorSpace.own mat) 1 }
     {
         let width = mat.width();
         let values = self.coset_dft_batch(flatten(mat)?, shift)?;
@@ -487,10 +470,9 @@ pub trait TwoAdicSubgroupDft<F: TwoAdicField>: Clone + Default {
         mat: RowMajorMatrix<V>,
     ) -> Result<RowMajorMatrix<V>, DftError>
         requires fits { FitsDft F.TWO_ADICITY (height mat) (mat.width * V.DIMENSION) }
-        ensures coefficients { IfOk result (λ out.
-            IsInterpolation F.Field.own F.generator (flat V.BasedVectorSpace.own mat) F.ring.one
-            (flat V.BasedVectorSpace.own out)) }
-        ensures engine { AfterTransform facts self.old self.new (IsOk result) (flat V.BasedVectorSpace.own mat) 1 }
+        ensures coefficients { IfOk result (λ out. IsInterpolation F.Field.own F.generator
+            (flat V.BasedVectorSpace.own mat) F.ring.one (flat V.BasedVectorSpace.own out)) }
+        ensures engine { AfterDft facts self.old self.new (IsOk result) (flat V.BasedVectorSpace.own mat) 1 }
     {
         let width = mat.width();
         let coefficients = self.idft_batch(flatten(mat)?)?;
@@ -505,10 +487,9 @@ pub trait TwoAdicSubgroupDft<F: TwoAdicField>: Clone + Default {
     ) -> Result<RowMajorMatrix<V>, DftError>
         requires fits { FitsDft F.TWO_ADICITY (height mat) (mat.width * V.DIMENSION) }
         requires invertible { IsInvertible F.ring (F.value shift) }
-        ensures coefficients { IfOk result (λ out.
-            IsInterpolation F.Field.own F.generator
+        ensures coefficients { IfOk result (λ out. IsInterpolation F.Field.own F.generator
             (flat V.BasedVectorSpace.own mat) (F.value shift) (flat V.BasedVectorSpace.own out)) }
-        ensures engine { AfterTransform facts self.old self.new (IsOk result) (flat V.BasedVectorSpace.own mat) 2 }
+        ensures engine { AfterDft facts self.old self.new (IsOk result) (flat V.BasedVectorSpace.own mat) 2 }
     {
         let width = mat.width();
         let coefficients = self.coset_idft_batch(flatten(mat)?, shift)?;
@@ -522,11 +503,9 @@ pub trait TwoAdicSubgroupDft<F: TwoAdicField>: Clone + Default {
         added_bits: usize,
     ) -> Result<RowMajorMatrix<V>, DftError>
         requires fits { FitsLde F.TWO_ADICITY (height mat) (mat.width * V.DIMENSION) added_bits }
-        ensures values { IfOk result (λ out.
-            IsExtension F.Field.own F.generator
+        ensures values { IfOk result (λ out. IsExtension F.Field.own F.generator
             (flat V.BasedVectorSpace.own mat) added_bits F.ring.one (flat V.BasedVectorSpace.own out)) }
-        ensures engine { AfterExtension facts self.old self.new (IsOk result) (flat V.BasedVectorSpace.own mat)
-            added_bits }
+        ensures engine { AfterLde facts self.old self.new (IsOk result) (flat V.BasedVectorSpace.own mat) added_bits }
     {
         let width = mat.width();
         let values = self.lde_batch(flatten(mat)?, added_bits)?;
@@ -541,11 +520,9 @@ pub trait TwoAdicSubgroupDft<F: TwoAdicField>: Clone + Default {
         shift: F,
     ) -> Result<RowMajorMatrix<V>, DftError>
         requires fits { FitsLde F.TWO_ADICITY (height mat) (mat.width * V.DIMENSION) added_bits }
-        ensures values { IfOk result (λ out.
-            IsExtension F.Field.own F.generator
+        ensures values { IfOk result (λ out. IsExtension F.Field.own F.generator
             (flat V.BasedVectorSpace.own mat) added_bits (F.value shift) (flat V.BasedVectorSpace.own out)) }
-        ensures engine { AfterExtension facts self.old self.new (IsOk result) (flat V.BasedVectorSpace.own mat)
-            added_bits }
+        ensures engine { AfterLde facts self.old self.new (IsOk result) (flat V.BasedVectorSpace.own mat) added_bits }
     {
         let width = mat.width();
         let values = self.coset_lde_batch(flatten(mat)?, added_bits, shift)?;
@@ -555,11 +532,9 @@ pub trait TwoAdicSubgroupDft<F: TwoAdicField>: Clone + Default {
     /// `dft` over a vector space.
     final fn dft_algebra<V: BasedVectorSpace<F>>(&mut self, vec: Vec<V>) -> Result<Vec<V>, DftError>
         requires fits { FitsDft F.TWO_ADICITY (vec_len vec) V.DIMENSION }
-        ensures values { IfOk result (λ out.
-            IsTransform F.Field.own F.generator
-            (flat_column V.BasedVectorSpace.own vec.items) F.ring.one (flat_column V.BasedVectorSpace.own out.items)) }
-        ensures engine { AfterTransform facts self.old self.new (IsOk result)
-            (flat_column V.BasedVectorSpace.own vec.items) 0 }
+        ensures values { IfOk result (λ out. IsTransform F.Field.own F.generator
+            (flat_col V.BasedVectorSpace.own vec) F.ring.one (flat_col V.BasedVectorSpace.own out)) }
+        ensures engine { AfterDft facts self.old self.new (IsOk result) (flat_col V.BasedVectorSpace.own vec) 0 }
     {
         Ok(
             self.dft_algebra_batch(RowMajorMatrix::new_col(vec))?
@@ -574,12 +549,9 @@ pub trait TwoAdicSubgroupDft<F: TwoAdicField>: Clone + Default {
         shift: F,
     ) -> Result<Vec<V>, DftError>
         requires fits { FitsDft F.TWO_ADICITY (vec_len vec) V.DIMENSION }
-        ensures values { IfOk result (λ out.
-            IsTransform F.Field.own F.generator
-            (flat_column V.BasedVectorSpace.own vec.items) (F.value shift)
-            (flat_column V.BasedVectorSpace.own out.items)) }
-        ensures engine { AfterTransform facts self.old self.new (IsOk result)
-            (flat_column V.BasedVectorSpace.own vec.items) 1 }
+        ensures values { IfOk result (λ out. IsTransform F.Field.own F.generator
+            (flat_col V.BasedVectorSpace.own vec) (F.value shift) (flat_col V.BasedVectorSpace.own out)) }
+        ensures engine { AfterDft facts self.old self.new (IsOk result) (flat_col V.BasedVectorSpace.own vec) 1 }
     {
         Ok(
             self.coset_dft_algebra_batch(RowMajorMatrix::new_col(vec), shift)?
@@ -593,11 +565,9 @@ pub trait TwoAdicSubgroupDft<F: TwoAdicField>: Clone + Default {
         vec: Vec<V>,
     ) -> Result<Vec<V>, DftError>
         requires fits { FitsDft F.TWO_ADICITY (vec_len vec) V.DIMENSION }
-        ensures coefficients { IfOk result (λ out.
-            IsInterpolation F.Field.own F.generator
-            (flat_column V.BasedVectorSpace.own vec.items) F.ring.one (flat_column V.BasedVectorSpace.own out.items)) }
-        ensures engine { AfterTransform facts self.old self.new (IsOk result)
-            (flat_column V.BasedVectorSpace.own vec.items) 1 }
+        ensures coefficients { IfOk result (λ out. IsInterpolation F.Field.own F.generator
+            (flat_col V.BasedVectorSpace.own vec) F.ring.one (flat_col V.BasedVectorSpace.own out)) }
+        ensures engine { AfterDft facts self.old self.new (IsOk result) (flat_col V.BasedVectorSpace.own vec) 1 }
     {
         Ok(
             self.idft_algebra_batch(RowMajorMatrix::new_col(vec))?
@@ -613,12 +583,9 @@ pub trait TwoAdicSubgroupDft<F: TwoAdicField>: Clone + Default {
     ) -> Result<Vec<V>, DftError>
         requires fits { FitsDft F.TWO_ADICITY (vec_len vec) V.DIMENSION }
         requires invertible { IsInvertible F.ring (F.value shift) }
-        ensures coefficients { IfOk result (λ out.
-            IsInterpolation F.Field.own F.generator
-            (flat_column V.BasedVectorSpace.own vec.items) (F.value shift)
-            (flat_column V.BasedVectorSpace.own out.items)) }
-        ensures engine { AfterTransform facts self.old self.new (IsOk result)
-            (flat_column V.BasedVectorSpace.own vec.items) 2 }
+        ensures coefficients { IfOk result (λ out. IsInterpolation F.Field.own F.generator
+            (flat_col V.BasedVectorSpace.own vec) (F.value shift) (flat_col V.BasedVectorSpace.own out)) }
+        ensures engine { AfterDft facts self.old self.new (IsOk result) (flat_col V.BasedVectorSpace.own vec) 2 }
     {
         Ok(
             self.coset_idft_algebra_batch(RowMajorMatrix::new_col(vec), shift)?
@@ -633,12 +600,10 @@ pub trait TwoAdicSubgroupDft<F: TwoAdicField>: Clone + Default {
         added_bits: usize,
     ) -> Result<Vec<V>, DftError>
         requires fits { FitsLde F.TWO_ADICITY (vec_len vec) V.DIMENSION added_bits }
-        ensures values { IfOk result (λ out.
-            IsExtension F.Field.own F.generator
-            (flat_column V.BasedVectorSpace.own vec.items) added_bits F.ring.one
-            (flat_column V.BasedVectorSpace.own out.items)) }
-        ensures engine { AfterExtension facts self.old self.new (IsOk result)
-            (flat_column V.BasedVectorSpace.own vec.items) added_bits }
+        ensures values { IfOk result (λ out. IsExtension F.Field.own F.generator
+            (flat_col V.BasedVectorSpace.own vec) added_bits F.ring.one (flat_col V.BasedVectorSpace.own out)) }
+        ensures engine { AfterLde facts self.old self.new (IsOk result)
+            (flat_col V.BasedVectorSpace.own vec) added_bits }
     {
         Ok(
             self.lde_algebra_batch(RowMajorMatrix::new_col(vec), added_bits)?
@@ -654,35 +619,14 @@ pub trait TwoAdicSubgroupDft<F: TwoAdicField>: Clone + Default {
         shift: F,
     ) -> Result<Vec<V>, DftError>
         requires fits { FitsLde F.TWO_ADICITY (vec_len vec) V.DIMENSION added_bits }
-        ensures values { IfOk result (λ out.
-            IsExtension F.Field.own F.generator
-            (flat_column V.BasedVectorSpace.own vec.items) added_bits (F.value shift)
-            (flat_column V.BasedVectorSpace.own out.items)) }
-        ensures engine { AfterExtension facts self.old self.new (IsOk result)
-            (flat_column V.BasedVectorSpace.own vec.items) added_bits }
+        ensures values { IfOk result (λ out. IsExtension F.Field.own F.generator
+            (flat_col V.BasedVectorSpace.own vec) added_bits (F.value shift) (flat_col V.BasedVectorSpace.own out)) }
+        ensures engine { AfterLde facts self.old self.new (IsOk result)
+            (flat_col V.BasedVectorSpace.own vec) added_bits }
     {
         Ok(
             self.coset_lde_algebra_batch(RowMajorMatrix::new_col(vec), added_bits, shift)?
                 .into_values(),
         )
-    }
-}
-
-// Brings rows from natural order into the order of a layout, or back.
-fn exchange_layouts<T>(mat: &mut RowMajorMatrix<T>, layout: Layout)
-    requires power { (k : ℕ) × (height mat.old ≡ 2 ^ k) }
-    ensures shape { HasShapeOf mat.new mat.old }
-    ensures was_whole { IsRowMajor mat.old }
-    ensures whole { IsRowMajor mat.new }
-    ensures rows { (k : ℕ) → height mat.old ≡ 2 ^ k → (d : T)
-        → Same (matrix d mat.new) (arrangement layout k (matrix d mat.old)) }
-{
-    let _width = mat.width();
-    match layout {
-        Layout::Natural => {}
-        Layout::BitReversed => {
-            reverse_rows(mat);
-            let _same_width = mat.width();
-        }
     }
 }

@@ -11,7 +11,7 @@ use Rattle.p3_matrix.proofs.BitReversal.{reversed_twice}
 use Rattle.p3_matrix.proofs.Matrices.{same_sym}
 use Rattle.p3_matrix.proofs.TwoPowers.{log_same, entries_rise}
 use Rattle.p3_matrix.specs.Cosets.{AreCoefficients, IsQuotient, IsValues, point, values_of}
-use Rattle.p3_dft.specs.Extensions.{AreTransformedValues, IsExtension, IsTransformedExtension, extension_bound}
+use Rattle.p3_dft.specs.Extensions.{AreTransformedValues, IsExtension, extension_bound}
 use Rattle.p3_matrix.specs.Polynomials.{poly}
 use Rattle.p3_dft.specs.Transforms.{IsInterpolation}
 use Rattle.p3_networks.specs.Layers.{AreValuesOfRows}
@@ -112,7 +112,7 @@ module _ {F : Type 0} (f : FieldMembers F) (generator : ℕ → F) where
 
   -- and so is what a transform answers of it
   pub extension_of_told_row : (may_answer : RowMajor F → RowMajor F → Type 0) (m answered : RowMajor F) (a : ℕ) (s : f.Element) → height m ≡ 1 → a ≡ 0
-      → IsRowMajor m → IsRowMajor answered → may_answer m answered → height answered ≡ height m → IsTransformedExtension f generator may_answer BitReversed m a s answered
+      → IsRowMajor m → IsRowMajor answered → may_answer m answered → height answered ≡ height m → AreTransformedValues f generator may_answer BitReversed m a s (values_of f answered)
   extension_of_told_row may_answer m answered a s one none told_is answered_is called tall = record {
     coefficients = values_of f m;
     are_coefficients = λ k e. record { high = refl; wide = refl; values = transform_of_row f generator m one k e };

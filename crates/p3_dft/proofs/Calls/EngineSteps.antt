@@ -2,7 +2,7 @@
 use Rattle.std.proofs.Common.{ℕ, ◌≡◌, ◌+◌, ◌*◌, ◌^◌, ◌≤◌, Result, Ok, Err, IsOk, IsErr, ap, ap₂, ◌∙◌, add-one, arith, rules}
 use Rattle.std.proofs.Math.Nat.{le_refl, suc-mul}
 use Rattle.p3_matrix.specs.RowMajor.{HasShapeOf, RowMajor, height}
-use Rattle.p3_dft.specs.Engines.{AfterTransform, EngineFacts, HasProductsMore, IsAfter, IsLater}
+use Rattle.p3_dft.specs.Engines.{AfterDft, EngineFacts, HasProductsMore, IsAfter, IsLater}
 
 -- an error is no answer
 pub no_answer : {A X : Type 0} (r : Result A X) → IsErr r → IsOk r → ⊥
@@ -50,7 +50,7 @@ module _ {E F : Type 0} (facts : EngineFacts E F) where
 
   -- products, at most one an entry, and then a transform of a matrix of the same shape
   pub transform_after : {T S : Type 0} (m : RowMajor T) (n : RowMajor S) (a b c : E) (answered : Type 0) (products : ℕ) → HasShapeOf n m → products ≤ height m * m.width
-      → HasProductsMore facts a b products → AfterTransform facts b c answered n 0 → AfterTransform facts a c answered m 1
+      → HasProductsMore facts a b products → AfterDft facts b c answered n 0 → AfterDft facts a c answered m 1
   transform_after m n a b c answered products (tall, wide) most more call = record {
     later = later_still a b c (later_by_products a b products more) call.later;
     ready = λ yes k high. call.ready yes k (tall ∙ high);
@@ -63,7 +63,7 @@ module _ {E F : Type 0} (facts : EngineFacts E F) where
 
   -- a transform, and then products, at most one for each entry of a matrix of the same shape
   pub products_after : {T S : Type 0} (first : ℕ) (m : RowMajor T) (n : RowMajor S) (a b c : E) (answered : Type 0) (products : ℕ) → HasShapeOf n m → products ≤ height n * n.width
-      → AfterTransform facts a b answered m first → HasProductsMore facts b c products → AfterTransform facts a c answered m (first + 1)
+      → AfterDft facts a b answered m first → HasProductsMore facts b c products → AfterDft facts a c answered m (first + 1)
   products_after first m n a b c answered products (tall, wide) most call more = record {
     later = later_still a b c call.later (later_by_products b c products more);
     ready = λ yes k high. (more.same_ready k).0 (call.ready yes k high);
@@ -78,7 +78,7 @@ module _ {E F : Type 0} (facts : EngineFacts E F) where
   pub parts_after : {T S : Type 0} (first last : ℕ) (m : RowMajor T) (grown : RowMajor S) (bits : ℕ) (p : ℕ → ℕ) (a b c : E) (answered now : Type 0) → answered
       → ((k : ℕ) → height m ≡ 2 ^ k → height grown ≡ 2 ^ (k + bits)) → grown.width ≡ m.width
       → ((k : ℕ) → facts.transform_products k m.width + first * (2 ^ k * m.width) + (facts.transform_products (k + bits) m.width + last * (2 ^ (k + bits) * m.width)) ≤ p k)
-      → AfterTransform facts a b answered m first → AfterTransform facts b c now grown last
+      → AfterDft facts a b answered m first → AfterDft facts b c now grown last
       → IsAfter facts a c now (height m) (λ k. facts.IsReady c k × facts.IsReady c (k + bits)) p
   parts_after first last m grown bits p a b c answered now given tall wide most one other = record {
     later = later_still a b c one.later other.later;

@@ -7,7 +7,7 @@ ghost use Rattle.p3_matrix.specs.Blocks.{AreBlocksOf, IsPartition, Run, RunToRef
 ghost use Rattle.p3_matrix.specs.Matrix.{Matrix};
 ghost use Rattle.p3_matrix.specs.RowMajor.{HasShapeOf, IsRowMajor, RowMajor, height, with_zeros};
 ghost use Rattle.p3_matrix.specs.Cosets.{IsValues, values_of};
-ghost use Rattle.p3_networks.specs.Twiddles.{AddsCosets, HasCoset, HasCosets};
+ghost use Rattle.p3_networks.specs.Twiddles.{AddsCosets, HasCoset, HasCosets, mid_of};
 ghost use Rattle.p3_dft.specs.Engines.{AtLog};
 ghost use Rattle.p3_dft.specs.Extensions.{IsAnswerOverZeros, IsCallable, KeepsShape};
 ghost use Rattle.p3_dft.specs.Shapes.{FitsLde};
@@ -94,14 +94,14 @@ pub(crate) fn extend_reversed<F: TwoAdicField, C: BlockConsumer<F>>(
         (log_h + added_bits) (F.value shift)
         (bit_reversal (log_h + added_bits) (values_of F.Field.own mat.new))) }
     ensures published { OnOk result ((blocks : List (ℕ × RowMajor F))
-        × IsPartition (2 ^ (log_h - (log_h + 1) / 2)) mat.new blocks × Run C.step consumer.old blocks consumer.new) }
+        × IsPartition (2 ^ (log_h - mid_of log_h)) mat.new blocks × Run C.step consumer.old blocks consumer.new) }
     ensures refused { IfErr result (λ refusal. (c : RowMajor F) → IsRowMajor c → height c ≡ 2 ^ log_h
         → mat.old ≡ with_zeros F.ZERO c added_bits
         → (out : Matrix F.Element) × (accepted : List (ℕ × RowMajor F)) × (refused : ℕ × RowMajor F)
         × IsValues F.ring (λ n. F.value (F.generator n)) (bit_reversal log_h (values_of F.Field.own c))
         (log_h + added_bits)
         (F.value shift) out
-        × AreBlocksOf (values_of F.Field.own) (2 ^ (log_h - (log_h + 1) / 2)) (bit_reversal (log_h + added_bits) out)
+        × AreBlocksOf (values_of F.Field.own) (2 ^ (log_h - mid_of log_h)) (bit_reversal (log_h + added_bits) out)
         (accepted ++ refused ∷ []) × RunToRefusal C.step consumer.old accepted refused refusal consumer.new) }
     ensures grows { products.old ≤ products.new }
     ensures cost { products.new ≤ products.old + 2 ^ added_bits * (mat.old.width * (log_h * 2 ^ log_h / 2)) }

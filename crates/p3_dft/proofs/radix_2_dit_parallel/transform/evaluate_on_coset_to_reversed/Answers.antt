@@ -5,7 +5,7 @@ use Rattle.p3_matrix.specs.RowMajor.{height}
 use Rattle.p3_matrix.proofs.BitReversal.{rev-lt, rev-rev}
 use Rattle.p3_matrix.specs.Cosets.{point, values_of}
 use Rattle.p3_matrix.specs.Polynomials.{poly}
-use Rattle.p3_networks.specs.Twiddles.{IsCosetTable}
+use Rattle.p3_networks.specs.Twiddles.{IsCosetTable, mid_of}
 use Rattle.p3_networks.proofs.Layers.Counts.{halves_counted}
 use Rattle.p3_networks.proofs.Networks.CosetHalves.{halves_whole}
 use Rattle.p3_matrix.proofs.Polynomials.ByIndex.{poly_same}
@@ -32,7 +32,7 @@ returns-clause-values g c =
     let field = g.F.Field in
     let gen = λ (n : ℕ). field.value (g.F.TwoAdicField.generator n) in
     let k = c.args.log_h in
-    let mid = (k + 1) / 2 in
+    let mid = mid_of k in
     let left = k - mid in
     let s = field.value c.args.table.now.shift in
     let m = c.args.mat.now in
@@ -58,6 +58,6 @@ returns-clause-values g c =
 pub returns-clause-cost : goal.returns-clause-cost
 returns-clause-cost g c =
     let k = c.args.log_h in
-    let mid = (k + 1) / 2 in
+    let mid = mid_of k in
     let e = halves_counted mid (k - mid) k c.args.mat.now.width 0 (halves_whole k) in
     omega (arith, e, c.network_to_reversed.ensures.cost)

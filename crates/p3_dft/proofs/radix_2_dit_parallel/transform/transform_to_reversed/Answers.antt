@@ -1,9 +1,9 @@
-use Rattle.std.proofs.Common.{◌≡◌, ℕ, ◌+◌, ◌-◌, ◌/◌, ◌^◌, ◌<◌, sym, ap, ◌∙◌, subst, arith}
+use Rattle.std.proofs.Common.{◌≡◌, ℕ, ◌+◌, ◌-◌, ◌^◌, ◌<◌, sym, ap, ◌∙◌, subst, arith}
 use Rattle.p3_field.specs.Ring.{AreRoots}
 use Rattle.p3_matrix.specs.BitOrder.{rev}
 use Rattle.p3_matrix.specs.Cosets.{point, values_of}
 use Rattle.p3_matrix.specs.Polynomials.{poly}
-use Rattle.p3_networks.specs.Twiddles.{factor, root_of, scale_cost}
+use Rattle.p3_networks.specs.Twiddles.{factor, mid_of, root_of, scale_cost}
 use Rattle.p3_networks.proofs.Layers.Counts.{halves_counted}
 use Rattle.p3_networks.proofs.Networks.CosetHalves.{halves_whole}
 use Rattle.p3_matrix.proofs.Polynomials.Cosets.{point_of_one}
@@ -20,7 +20,7 @@ returns-clause-values g c r j p q =
     let gen = g.F.TwoAdicField.generator in
     let inverse = c.args.inverse in
     let k = c.args.log_h in
-    let mid = (k + 1) / 2 in
+    let mid = mid_of k in
     let left = k - mid in
     let root = root_of field gen inverse in
     let k_is : mid + left ≡ k = halves_whole k in
@@ -36,6 +36,6 @@ returns-clause-values g c r j p q =
 pub returns-clause-cost : goal.returns-clause-cost
 returns-clause-cost g c =
     let k = c.args.log_h in
-    let mid = (k + 1) / 2 in
+    let mid = mid_of k in
     let e = halves_counted mid (k - mid) k c.args.mat.now.width (scale_cost c.args.scale) (halves_whole k) in
     omega (arith, e, c.network_to_reversed.ensures.cost)
