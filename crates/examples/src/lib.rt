@@ -14,8 +14,6 @@ pub mod product;
 pub mod published;
 pub mod published_degree;
 pub mod sizes;
-#[cfg(test)]
-mod tests;
 pub mod there_and_back;
 pub mod views;
 pub mod whole_rows;

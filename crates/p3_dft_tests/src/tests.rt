@@ -11,6 +11,7 @@ mod algebra;
 mod blocks;
 mod callers;
 mod calls;
+mod clients;
 mod engines;
 mod extensions;
 mod factors;

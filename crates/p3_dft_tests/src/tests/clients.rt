@@ -1,13 +1,13 @@
-// Worked roots, values, numbers and texts.
+// Worked roots, values, numbers and texts of the clients in `examples`.
 //
 // The numbers were worked out by a program in Python from the definitions alone. Coefficient j of a column of n
 // values is `sum(v[i] * g^(-i * j)) / n`, and row i of the extension has the values of these polynomials at
 // `31 * h^i`, where g and h are powers of 440564289, whose order is 2^27. Leaf r is the digest of the row whose
 // number has the digits of r in reverse, and neighbours are joined until one is left.
 
-use crate::field_forms::{aligned_text_of, geometric_sum, line_at, text_of, total_of_squares};
-use crate::merkle_root::{HornerHash, merkle_root, roots_of_two};
-use crate::published_degree::published_degree;
+use examples::field_forms::{aligned_text_of, geometric_sum, line_at, text_of, total_of_squares};
+use examples::merkle_root::{HornerHash, merkle_root, roots_of_two};
+use examples::published_degree::published_degree;
 use p3_dft::{
     BabyBear, CanonicalField, Field, Goldilocks, NaiveDft, Radix2DitParallel, RowMajorMatrix,
     TwoAdicSubgroupDft, fits_lde, has_degree_below,
