@@ -1,10 +1,11 @@
 //! Inverses on cosets, over named fields and over any: which shifts a client hands over, and what it
 //! tests of one that comes from outside.
 //!
-//! Proved: each call has a shape that fits and a shift with an inverse, and so may be made. There is no proof
-//! file.
+//! Proved: each call has a shape that fits and a shift with an inverse, and so may be made; what it answers are the
+//! coefficients, in clauses that name the field. There is no proof file.
 
 ghost use Rattle.std.specs.Prelude.{IfOk, IfSome, IsNone};
+ghost use Rattle.p3_field.specs.NamedFields.{baby_bear, goldilocks, koala_bear};
 ghost use Rattle.p3_field.specs.Ring.{IsInvertible};
 ghost use Rattle.p3_matrix.specs.RowMajor.{height};
 ghost use Rattle.p3_dft.specs.Shapes.{FitsDft};
@@ -41,7 +42,10 @@ pub fn from_baby_bear_generator<D: TwoAdicSubgroupDft<BabyBear>>(
 pub fn from_koala_bear_generator<D: TwoAdicSubgroupDft<KoalaBear>>(
     engine: &mut D,
     values: RowMajorMatrix<KoalaBear>,
-) -> Option<Result<RowMajorMatrix<KoalaBear>, DftError>> {
+) -> Option<Result<RowMajorMatrix<KoalaBear>, DftError>>
+    ensures coefficients { IfSome result (λ answer. IfOk answer (IsInterpolation koala_bear
+        ⟦<KoalaBear as TwoAdicField>⟧.generator values (koala_bear.value koala_bear.GENERATOR))) }
+{
     if !fits_dft::<KoalaBear>(values.height(), values.width()) {
         return None;
     }
@@ -81,7 +85,10 @@ pub fn from_baby_bear_shift<D: TwoAdicSubgroupDft<BabyBear>>(
     engine: &mut D,
     values: RowMajorMatrix<BabyBear>,
     shift: BabyBear,
-) -> Option<Result<RowMajorMatrix<BabyBear>, DftError>> {
+) -> Option<Result<RowMajorMatrix<BabyBear>, DftError>>
+    ensures coefficients { IfSome result (λ answer. IfOk answer (IsInterpolation baby_bear
+        ⟦<BabyBear as TwoAdicField>⟧.generator values (baby_bear.value shift))) }
+{
     if shift.try_inverse().is_none() || !fits_dft::<BabyBear>(values.height(), values.width()) {
         return None;
     }
@@ -93,7 +100,10 @@ pub fn from_goldilocks_shift<D: TwoAdicSubgroupDft<Goldilocks>>(
     engine: &mut D,
     values: RowMajorMatrix<Goldilocks>,
     shift: Goldilocks,
-) -> Option<Result<RowMajorMatrix<Goldilocks>, DftError>> {
+) -> Option<Result<RowMajorMatrix<Goldilocks>, DftError>>
+    ensures coefficients { IfSome result (λ answer. IfOk answer (IsInterpolation goldilocks
+        ⟦<Goldilocks as TwoAdicField>⟧.generator values (goldilocks.value shift))) }
+{
     if !fits_dft::<Goldilocks>(values.height(), values.width()) {
         return None;
     }

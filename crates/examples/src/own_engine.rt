@@ -8,7 +8,7 @@
 //! which shifts besides, what is known of a height that was transformed (nothing), how many products a
 //! transform of `2^k` rows of w entries makes at most, and the engine's counter.
 
-ghost use Rattle.std.specs.Prelude.{◌≡◌, ℕ, ◌*◌, ◌^◌};
+ghost use Rattle.std.specs.Prelude.{◌≡◌, ◌*◌, ◌^◌};
 
 use p3_dft::{
     BitReversedMatrixView, DftError, Evaluations, IntoRowMajorMatrix, Layout, NaiveDft, Products,
@@ -48,7 +48,7 @@ impl Clone for NaturalToReversed {
 }
 
 impl<F: TwoAdicField> TwoAdicSubgroupDft<F> for NaturalToReversed {
-    ghost use Rattle.std.specs.Prelude.{⊤, ℕ, ◌+◌, ◌*◌, ◌^◌};
+    ghost use Rattle.std.specs.Prelude.{⊤, ◌+◌, ◌*◌, ◌^◌};
     ghost use Rattle.std.proofs.Common.{refl, rules};
     ghost use Rattle.p3_dft.specs.Engines.{plain_facts};
     ghost use Rattle.p3_dft.specs.declared.traits.Layout.TheVariants.{Natural};
