@@ -1,11 +1,10 @@
 -- Products of polynomials: the values of the convolution are the products of the values.
-use Rattle.std.proofs.Common.{◌≡◌, ℕ, zero, suc, ◌+◌, ◌-◌, ◌<◌, ◌≤◌, refl, sym, ap, ap₂, ◌∙◌, List, [], ◌∷◌, length, get_or, map, arith}
-use Rattle.std.specs.List.{range_with_len}
+use Rattle.std.proofs.Common.{◌≡◌, ℕ, zero, suc, ◌+◌, ◌-◌, ◌<◌, ◌≤◌, refl, sym, ap, ap₂, ◌∙◌, List, [], ◌∷◌, length, get_or, arith}
 use Rattle.p3_field.specs.Ring.{Ring}
 use Rattle.p3_field.proofs.Rings
 use Rattle.p3_field.proofs.RingSolver.{solve, va, vb, vc, vd, ve, zeroₑ, ◌⊞◌, ◌⊠◌}
 use Rattle.p3_matrix.specs.Polynomials.{convolution, poly, sum, value}
-use Rattle.p3_matrix.proofs.Polynomials.ByIndex.{poly-add, poly-times, poly_same, poly_zeros, sum_same, value-index}
+use Rattle.p3_matrix.proofs.Polynomials.ByIndex.{poly-add, poly-times, poly_same, poly_zeros, sum_same}
 
 module _ {A : Type 0} (R : Ring A) where
   open R use {add as ◌⊕◌, mul as ◌⊗◌, zero as 𝟘}
