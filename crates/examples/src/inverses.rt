@@ -1,8 +1,8 @@
 //! Inverses on cosets, over named fields and over any: which shifts a client hands over, and what it
 //! tests of one that comes from outside.
 //!
-//! Proved: each call has a shape that fits and a shift with an inverse, and so may be made; what it answers are the
-//! coefficients, in clauses that name the field. There is no proof file.
+//! Proved: each call has a shape that fits and a shift with an inverse, and so may be made. Four say in a clause that
+//! what they answer are the coefficients, three of them over a named field. There is no proof file.
 
 ghost use Rattle.std.specs.Prelude.{IfOk, IfSome, IsNone};
 ghost use Rattle.p3_field.specs.NamedFields.{baby_bear, goldilocks, koala_bear};

@@ -13,9 +13,9 @@ AtLog height P = (k : ℕ) → height ≡ 2 ^ k → P k
 
 -- what holds of the engines of a type, in each of their states, and what their calls make
 pub record EngineFacts (E F : Type 0) : Type 1 where
-  -- a transform of height 2 ^ k is promised to succeed
+  -- a transform of height 2 ^ k and both inverses are promised to succeed
   pub Succeeds : E → ℕ → Type 0
-  -- and where it is, so is one on the coset of this shift
+  -- and where they are, so is a transform on the coset of this shift
   pub SucceedsOnCoset : E → ℕ → F → Type 0
   -- what is known, from then on, at the logarithm of a height that was transformed
   pub IsReady : E → ℕ → Type 0
@@ -69,7 +69,7 @@ module _ {E F : Type 0} (facts : EngineFacts E F) where
   AfterLdeByParts before after answered m a =
       IsAfter before after answered (height m) (λ k. facts.IsReady after k × facts.IsReady after (k + a)) (λ k. extension_bound facts.transform_products k a m.width)
 
-  -- products that were counted elsewhere came to an engine, and nothing else changed
+  -- products that were counted elsewhere came to an engine, and what is promised and known of heights and cosets is the same
   pub record HasProductsMore (before after : E) (products : ℕ) : Type 0 where
     pub counter : facts.products_made after ≡ facts.products_made before + products
     pub same : (k : ℕ) → facts.Succeeds before k ↔ facts.Succeeds after k
@@ -86,7 +86,7 @@ module _ {E F : Type 0} (facts : EngineFacts E F) where
 abbrev pub one_column : {T : Type 0} → List T → RowMajor T
 one_column entries = record { width = 1; values = entries }
 
--- a vector as one, which `new_col` makes of it
+-- a vector as a matrix of one column, which `new_col` makes of it
 abbrev pub col : {T Z : Type 0} → Vec T Z → RowMajor T
 col vec = one_column vec.items
 

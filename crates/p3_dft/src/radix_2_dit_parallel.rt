@@ -40,7 +40,9 @@ use std::marker::Model;
 /// height, and it makes and keeps a table of each. No call takes a prepared height or coset back. A new
 /// engine and a clone have no tables and take no memory.
 ///
-/// Contracts see which heights are prepared, which cosets have a table, and how many products were made.
+/// Contracts see which heights are prepared, which cosets have a table, and how many products were made. What a call
+/// leaves prepared is in the clauses of `prepare` and of the calls that this engine states itself; of the others they
+/// say that no prepared height or coset is lost.
 #[derive(Drop)]
 pub struct Radix2DitParallel<F: TwoAdicField> {
     tables: Tables<F>,
@@ -87,11 +89,11 @@ impl<F: TwoAdicField> Clone for Radix2DitParallel<F> {
 }
 
 impl<F: TwoAdicField> Radix2DitParallel<F> {
-    /// Makes the tables for height `2^log_h`, from when on `dft_batch` and both inverses over the field
-    /// take no memory at that height and at smaller ones; a coset but the subgroup has a table of its own,
-    /// which no call makes alone. It takes none
-    /// itself where the height is prepared already, as height one always is. `log_h` is at most
-    /// `TWO_ADICITY`, and a `usize` holds the height. Where memory is refused, the engine is as before.
+    /// Makes the tables for height `2^log_h`; from then on `dft_batch` and both inverses over the field take no
+    /// memory at that height and at smaller ones. A coset but the subgroup needs a table of its own, which only a
+    /// transform or an extension on it makes. The call takes no memory where the height is prepared already, as
+    /// height one always is. `log_h` is at most `TWO_ADICITY`, and a `usize` holds the height. Where memory is
+    /// refused, the engine is as before.
     pub fn prepare(&mut self, alloc: Global, log_h: usize) -> Result<(), DftError>
         requires within { log_h ≤ F.TWO_ADICITY }
         requires size { 2 ^ log_h < 2 ^ 64 }
@@ -328,8 +330,8 @@ impl<F: TwoAdicField> TwoAdicSubgroupDft<F> for Radix2DitParallel<F> {
 
     /// As the trait says: each chunk of rows of the second half is lent as soon as it is final, so that it is
     /// in the cache still. The first rows, which hold the coefficients until the others are made from
-    /// them, are the last that are lent. It leaves of the tables what `coset_lde_batch_with_transform`
-    /// leaves; where the consumer refused, what that leaves with `Ok`.
+    /// them, are the last that are lent today; no order is promised. It leaves of the tables what
+    /// `coset_lde_batch_with_transform` leaves; where the consumer refused, what that leaves with `Ok`.
     fn coset_lde_batch_with_blocks<
         N: IntoRowMajorMatrix<F>,
         T: FnOnce(RowMajorMatrix<F>, Layout) -> RowMajorMatrix<F> + Drop,

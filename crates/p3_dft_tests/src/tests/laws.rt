@@ -1,5 +1,4 @@
-// What a caller proves of two calls at once: a caller for each law, which cites it, and five that need
-// none.
+// What a caller proves of two calls at once: callers that cite the laws, and some that need none.
 
 ghost use Rattle.std.specs.Prelude.{◌≡◌, ℕ, ◌+◌, ◌*◌, ◌^◌, ◌<◌, ◌≤◌, IfOk, IsTrue, get_or, length, map, vec_len};
 ghost use Rattle.std.specs.List.{All, AllZip};
