@@ -123,7 +123,8 @@ impl<F: TwoAdicField> TwoAdicSubgroupDft<F> for Radix2DitParallel<F> {
     ghost use Rattle.std.proofs.Common.{arith, refl};
     ghost use Rattle.p3_matrix.specs.BitOrder.{bit_reversal, reversed_rows};
     ghost use Rattle.p3_matrix.specs.RowMajor.{height};
-    ghost use Rattle.p3_dft.specs.Engines.{AtLog, IsLater, IsCosetPrepared, IsPrepared, PreparesNoneAbove, plain_facts};
+    ghost use Rattle.p3_dft.specs.Engines.{AtLog, HasProductsMore, IsLater, IsCosetPrepared, IsPrepared, PreparesNoneAbove};
+    ghost use Rattle.p3_dft.specs.Engines.{plain_facts};
     ghost use Rattle.p3_networks.specs.Twiddles.{AddsCosets, HasCoset, HasCosets, mid_of};
     ghost use Rattle.p3_dft.specs.Extensions.{AreTransformedValues, IsCallable, IsTransformedExtension, KeepsShape};
     ghost use Rattle.p3_dft.specs.Blocks.{OnOutOfMemory, OnRefused, UnlessOutOfMemory};
@@ -184,7 +185,12 @@ impl<F: TwoAdicField> TwoAdicSubgroupDft<F> for Radix2DitParallel<F> {
         Ok(mat.bit_reverse_rows())
     }
 
-    fn add_products(&mut self, products: Products) {
+    /// As the trait says; no table is lost.
+    fn add_products(&mut self, products: Products)
+        ensures engine { HasProductsMore ⟦<Radix2DitParallel<F> as TwoAdicSubgroupDft<F>>⟧.facts self.old self.new
+            products }
+        ensures cosets { self.new.cosets ≡ self.old.cosets }
+    {
         self.products.add(products);
     }
 

@@ -157,9 +157,11 @@ impl<F: TwoAdicField> Radix2DFTSmallBatch<F> {
 impl<F: TwoAdicField> TwoAdicSubgroupDft<F> for Radix2DFTSmallBatch<F> {
     ghost use Rattle.std.specs.Prelude.{◌≡◌, ℕ, ◌+◌, ◌*◌, ◌/◌, ◌^◌, ◌≤◌, IfOk, IsOk, OnOk, OnErr, Ok, ⊤};
     ghost use Rattle.std.proofs.Common.{refl, rules};
+    ghost use Rattle.p3_matrix.specs.BitOrder.{reversed_rows};
     ghost use Rattle.p3_matrix.specs.RowMajor.{HasShapeOf, RowMajor, height};
-    ghost use Rattle.p3_dft.specs.Engines.{AtLog, IsLater, IsPrepared, PreparesNoneAbove, plain_facts};
-    ghost use Rattle.p3_dft.specs.Extensions.{IsExtension, extension_bound};
+    ghost use Rattle.p3_dft.specs.Engines.{AfterLde, AtLog, IsLater, IsPrepared, PreparesNoneAbove, plain_facts};
+    ghost use Rattle.p3_dft.specs.Extensions.{IsCallable, IsExtension, IsTransformedExtension, KeepsShape};
+    ghost use Rattle.p3_dft.specs.Extensions.{extension_bound};
     ghost use Rattle.p3_dft.specs.Shapes.{FitsDft, FitsLde};
     ghost use Rattle.p3_dft.specs.Transforms.{IsInterpolation, IsTransform};
     ghost use Rattle.p3_dft.specs.declared.traits.Layout.TheVariants.{Natural};
@@ -296,7 +298,7 @@ impl<F: TwoAdicField> TwoAdicSubgroupDft<F> for Radix2DFTSmallBatch<F> {
     /// As the trait says, by the inverse and, slot after slot, by transforms on the cosets that the rows in
     /// bit reversed order lie on: no row of zeros is met, and no rows are reversed after the inverse. On
     /// `Ok` the heights of the input and of the extension are prepared for good; after an error their tables
-    /// may have been made already.
+    /// may have been made already. No larger height is prepared.
     fn coset_lde_batch_bit_reversed<
         N: IntoRowMajorMatrix<F>,
         T: FnOnce(RowMajorMatrix<F>, Layout) -> RowMajorMatrix<F> + Drop,
@@ -306,7 +308,16 @@ impl<F: TwoAdicField> TwoAdicSubgroupDft<F> for Radix2DFTSmallBatch<F> {
         added_bits: usize,
         shift: F,
         transform: T,
-    ) -> Result<BitReversedMatrixView<RowMajorMatrix<F>>, DftError> {
+    ) -> Result<BitReversedMatrixView<RowMajorMatrix<F>>, DftError>
+        requires fits { FitsLde F.TWO_ADICITY (height (N.stored mat)) (N.stored mat).width added_bits }
+        requires callable { IsCallable (N.stored mat) (λ m. T.pre transform m Natural) }
+        requires shape { KeepsShape (N.stored mat) (λ m n. T.post transform m Natural n) }
+        ensures values { IfOk result (λ out. IsTransformedExtension F.Field.own F.generator (T.post transform) Natural
+            (N.stored mat) added_bits (F.value shift) (reversed_rows out.bits out.physical)) }
+        ensures only { AtLog (height (N.stored mat)) (λ k. PreparesNoneAbove (k + added_bits) self.old self.new) }
+        ensures engine { AfterLde ⟦<Radix2DFTSmallBatch<F> as TwoAdicSubgroupDft<F>>⟧.facts self.old self.new
+            (IsOk result) (N.stored mat) added_bits }
+    {
         let mat = mat.into_row_major_matrix();
         let log_h = log2_strict_usize(mat.height());
         self.prepare(*mat.allocator(), log_h + added_bits)?;
@@ -327,6 +338,8 @@ impl<F: TwoAdicField> TwoAdicSubgroupDft<F> for Radix2DFTSmallBatch<F> {
         Ok(grown.bit_reverse_rows())
     }
 
+    /// As the trait says, by `coset_lde_batch_bit_reversed`, whose rows are then reversed in place. It leaves the tables
+    /// that this leaves.
     fn coset_lde_batch_with_transform<
         N: IntoRowMajorMatrix<F>,
         T: FnOnce(RowMajorMatrix<F>, Layout) -> RowMajorMatrix<F> + Drop,
@@ -336,7 +349,16 @@ impl<F: TwoAdicField> TwoAdicSubgroupDft<F> for Radix2DFTSmallBatch<F> {
         added_bits: usize,
         shift: F,
         transform: T,
-    ) -> Result<RowMajorMatrix<F>, DftError> {
+    ) -> Result<RowMajorMatrix<F>, DftError>
+        requires fits { FitsLde F.TWO_ADICITY (height (N.stored mat)) (N.stored mat).width added_bits }
+        requires callable { IsCallable (N.stored mat) (λ m. T.pre transform m Natural) }
+        requires shape { KeepsShape (N.stored mat) (λ m n. T.post transform m Natural n) }
+        ensures values { IfOk result (IsTransformedExtension F.Field.own F.generator (T.post transform) Natural
+            (N.stored mat) added_bits (F.value shift)) }
+        ensures only { AtLog (height (N.stored mat)) (λ k. PreparesNoneAbove (k + added_bits) self.old self.new) }
+        ensures engine { AfterLde ⟦<Radix2DFTSmallBatch<F> as TwoAdicSubgroupDft<F>>⟧.facts self.old self.new
+            (IsOk result) (N.stored mat) added_bits }
+    {
         let values = self.coset_lde_batch_bit_reversed(mat, added_bits, shift, transform)?;
         Ok(values.to_row_major_matrix())
     }

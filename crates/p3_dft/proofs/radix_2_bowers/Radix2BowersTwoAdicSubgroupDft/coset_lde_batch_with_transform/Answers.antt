@@ -8,8 +8,8 @@ use Rattle.p3_matrix.proofs.Polynomials.Cosets.{coset_values}
 use Rattle.p3_dft.proofs.BitReversed.Coefficients.{extension_of_told_row, first_within_extension, within_extension, values_of_answered}
 use Rattle.p3_matrix.proofs.Polynomials.Quotients.{shifted_by_one}
 use Rattle.p3_dft.proofs.Calls.Counts.{scaled_counted, weighed_counted}
-use Rattle.p3_dft.proofs.Calls.Shapes.{fits_lde_as, input_fits, output_log_small}
-use Rattle.p3_matrix.proofs.TwoPowers.{log_within, more_points}
+use Rattle.p3_dft.proofs.Calls.Shapes.{fits_lde_as, input_fits, log_fits}
+use Rattle.p3_matrix.proofs.TwoPowers.{more_points}
 use Rattle.p3_dft.proofs.radix_2_bowers.Radix2BowersTwoAdicSubgroupDft.coset_lde_batch_with_transform.Goals as goal
 
 pub interpolate_to_reversed-requires : goal.interpolate_to_reversed-requires
@@ -106,10 +106,7 @@ weigh_reversed_rows-requires g c =
     record { power = (c.requires.fits.log, shape.0 ∙ c.requires.fits.high) }
 
 pub overflow_add-log_h : goal.overflow_add-log_h
-overflow_add-log_h g c =
-    let small = log_within c.log2_strict_usize-log_h.result c.args.added_bits 63 c.requires.fits.log c.height.result c.log2_strict_usize-log_h.ensures.power
-    (c.height.ensures.height ∙ ap height c.into_row_major_matrix-mat.ensures ∙ c.requires.fits.high) (output_log_small _ _ _ _ c.requires.fits) in
-    omega (arith, small)
+overflow_add-log_h g c = omega (arith, (log_fits _ _ c.requires.fits c.log2_strict_usize-log_h.ensures.power (c.height.ensures.height ∙ ap height c.into_row_major_matrix-mat.ensures)).1)
 
 pub transform-row-requires : goal.transform-row-requires
 transform-row-requires g c =

@@ -6,8 +6,8 @@ use Rattle.p3_matrix.specs.RowMajor.{RowMajor, height}
 use Rattle.p3_matrix.specs.Cosets.{values_of}
 use Rattle.p3_dft.proofs.BitReversed.Coefficients.{extension_of_coefficients, extension_of_row, first_within_extension, within_extension}
 use Rattle.p3_dft.proofs.Calls.Counts.{scaled_counted, weighed_counted}
-use Rattle.p3_dft.proofs.Calls.Shapes.{fits_lde_as, input_fits, output_log_small}
-use Rattle.p3_matrix.proofs.TwoPowers.{log_within, more_points}
+use Rattle.p3_dft.proofs.Calls.Shapes.{fits_lde_as, input_fits, log_fits}
+use Rattle.p3_matrix.proofs.TwoPowers.{more_points}
 use Rattle.p3_dft.proofs.radix_2_bowers.Radix2BowersTwoAdicSubgroupDft.lde_batch.Goals as goal
 
 pub interpolate_to_reversed-requires : goal.interpolate_to_reversed-requires
@@ -53,10 +53,7 @@ extend_to_natural-requires g c =
     record { fits = fits_lde_as _ _ _ c.args.added_bits _ _ fits (are.high ∙ stored) (are.wide ∙ ap (λ (n : RowMajor g.row.F.Denot). n.width) c.into_row_major_matrix-mat.ensures) }
 
 pub overflow_add-log_h : goal.overflow_add-log_h
-overflow_add-log_h g c =
-    let small = log_within c.log2_strict_usize-log_h.result c.args.added_bits 63 c.requires.fits.log c.height.result c.log2_strict_usize-log_h.ensures.power
-    (c.height.ensures.height ∙ ap height c.into_row_major_matrix-mat.ensures ∙ c.requires.fits.high) (output_log_small _ _ _ _ c.requires.fits) in
-    omega (arith, small)
+overflow_add-log_h g c = omega (arith, (log_fits _ _ c.requires.fits c.log2_strict_usize-log_h.ensures.power (c.height.ensures.height ∙ ap height c.into_row_major_matrix-mat.ensures)).1)
 
 pub returns-then-log_h-added_bits-eq0-clause-values : goal.returns-then-log_h-added_bits-eq0-clause-values
 returns-then-log_h-added_bits-eq0-clause-values g c =

@@ -5,11 +5,11 @@ use Rattle.p3_field.proofs.Powers.{count-power_of_two}
 use Rattle.p3_matrix.specs.BitOrder.{bit_reversal}
 use Rattle.p3_matrix.specs.Matrix.{image}
 use Rattle.p3_matrix.specs.RowMajor.{RowMajor, height}
-use Rattle.p3_matrix.proofs.TwoPowers.{log_same, log_within, more_points}
+use Rattle.p3_matrix.proofs.TwoPowers.{log_same, more_points}
 use Rattle.p3_matrix.specs.Cosets.{coset_shift, values_of}
 use Rattle.p3_dft.specs.Extensions.{extension_bound}
 use Rattle.p3_dft.specs.Engines.{EngineState, IsPrepared}
-use Rattle.p3_dft.proofs.Calls.Shapes.{output_log_small}
+use Rattle.p3_dft.proofs.Calls.Shapes.{log_fits}
 use Rattle.p3_networks.proofs.Layers.Counts.{extension_made, fewer_than_parts}
 use Rattle.p3_matrix.proofs.Polynomials.Cosets.{coset_values}
 use Rattle.p3_dft.proofs.BitReversed.Coefficients.{extension_of_coefficients, extension_of_row}
@@ -24,44 +24,25 @@ on_ok (Ok x) known = known
 on_ok (Err e) known = tt
 
 pub overflow_add-log_h : goal.overflow_add-log_h
-overflow_add-log_h g c =
-    let small = log_within c.log2_strict_usize-log_h.result c.args.added_bits 63 c.requires.fits.log c.height.result c.log2_strict_usize-log_h.ensures.power
-    (c.height.ensures.height ∙ ap height c.into_row_major_matrix-mat.ensures ∙ c.requires.fits.high) (output_log_small _ _ _ _ c.requires.fits) in
-    omega (arith, small)
+overflow_add-log_h g c = omega (arith, (log_fits _ _ c.requires.fits c.log2_strict_usize-log_h.ensures.power (c.height.ensures.height ∙ ap height c.into_row_major_matrix-mat.ensures)).1)
 
 pub overflow_add-log_h-2 : goal.overflow_add-log_h-2
-overflow_add-log_h-2 g c =
-    let small = log_within c.log2_strict_usize-log_h.result c.args.added_bits 63 c.requires.fits.log c.height.result c.log2_strict_usize-log_h.ensures.power
-    (c.height.ensures.height ∙ ap height c.into_row_major_matrix-mat.ensures ∙ c.requires.fits.high) (output_log_small _ _ _ _ c.requires.fits) in
-    omega (arith, small)
+overflow_add-log_h-2 g c = omega (arith, (log_fits _ _ c.requires.fits c.log2_strict_usize-log_h.ensures.power (c.height.ensures.height ∙ ap height c.into_row_major_matrix-mat.ensures)).1)
 
 pub make-requires-clause-within : goal.make-requires-clause-within
-make-requires-clause-within g c =
-    log_within c.log2_strict_usize-log_h.result c.args.added_bits _ c.requires.fits.log c.height.result c.log2_strict_usize-log_h.ensures.power
-    (c.height.ensures.height ∙ ap height c.into_row_major_matrix-mat.ensures ∙ c.requires.fits.high) c.requires.fits.within
+make-requires-clause-within g c = (log_fits _ _ c.requires.fits c.log2_strict_usize-log_h.ensures.power (c.height.ensures.height ∙ ap height c.into_row_major_matrix-mat.ensures)).0
 
 pub make-requires-clause-small : goal.make-requires-clause-small
-make-requires-clause-small g c =
-    let small = log_within c.log2_strict_usize-log_h.result c.args.added_bits 63 c.requires.fits.log c.height.result c.log2_strict_usize-log_h.ensures.power
-    (c.height.ensures.height ∙ ap height c.into_row_major_matrix-mat.ensures ∙ c.requires.fits.high) (output_log_small _ _ _ _ c.requires.fits) in
-    omega (arith, small)
+make-requires-clause-small g c = omega (arith, (log_fits _ _ c.requires.fits c.log2_strict_usize-log_h.ensures.power (c.height.ensures.height ∙ ap height c.into_row_major_matrix-mat.ensures)).1)
 
 pub interpolate_unscaled_to_reversed-requires-clause-within : goal.interpolate_unscaled_to_reversed-requires-clause-within
-interpolate_unscaled_to_reversed-requires-clause-within g c =
-    let within = log_within c.log2_strict_usize-log_h.result c.args.added_bits _ c.requires.fits.log c.height.result c.log2_strict_usize-log_h.ensures.power
-    (c.height.ensures.height ∙ ap height c.into_row_major_matrix-mat.ensures ∙ c.requires.fits.high) c.requires.fits.within in
-    omega (arith, within)
+interpolate_unscaled_to_reversed-requires-clause-within g c = omega (arith, (log_fits _ _ c.requires.fits c.log2_strict_usize-log_h.ensures.power (c.height.ensures.height ∙ ap height c.into_row_major_matrix-mat.ensures)).0)
 
 pub extend_to_natural-requires-clause-small : goal.extend_to_natural-requires-clause-small
-extend_to_natural-requires-clause-small g c =
-    let small = log_within c.log2_strict_usize-log_h.result c.args.added_bits 63 c.requires.fits.log c.height.result c.log2_strict_usize-log_h.ensures.power
-    (c.height.ensures.height ∙ ap height c.into_row_major_matrix-mat.ensures ∙ c.requires.fits.high) (output_log_small _ _ _ _ c.requires.fits) in
-    omega (arith, small)
+extend_to_natural-requires-clause-small g c = omega (arith, (log_fits _ _ c.requires.fits c.log2_strict_usize-log_h.ensures.power (c.height.ensures.height ∙ ap height c.into_row_major_matrix-mat.ensures)).1)
 
 pub extend_to_natural-requires-clause-within : goal.extend_to_natural-requires-clause-within
-extend_to_natural-requires-clause-within g c =
-    log_within c.log2_strict_usize-log_h.result c.args.added_bits _ c.requires.fits.log c.height.result c.log2_strict_usize-log_h.ensures.power
-    (c.height.ensures.height ∙ ap height c.into_row_major_matrix-mat.ensures ∙ c.requires.fits.high) c.requires.fits.within
+extend_to_natural-requires-clause-within g c = (log_fits _ _ c.requires.fits c.log2_strict_usize-log_h.ensures.power (c.height.ensures.height ∙ ap height c.into_row_major_matrix-mat.ensures)).0
 
 pub extend_to_natural-requires-clause-room : goal.extend_to_natural-requires-clause-room
 extend_to_natural-requires-clause-room g c =

@@ -1,30 +1,20 @@
-use Rattle.std.proofs.Common.{◌≡◌, ℕ, ◌+◌, ◌*◌, ◌/◌, ◌^◌, ◌<◌, ◌≤◌, sym, ap, ap₂, ◌∙◌, subst, arith}
+use Rattle.std.proofs.Common.{◌≡◌, ◌⊎◌, ℕ, ◌+◌, ◌*◌, ◌/◌, ◌^◌, ◌<◌, ◌≤◌, sym, ap, ap₂, ◌∙◌, subst, arith}
 use Rattle.std.proofs.Math.Pow.{pow-lt}
 use Rattle.p3_matrix.specs.RowMajor.{RowMajor, HasShapeOf, IsRowMajor, height}
-use Rattle.p3_matrix.proofs.TwoPowers.{log_same, log_within}
+use Rattle.p3_matrix.proofs.TwoPowers.{log_same}
 use Rattle.p3_networks.proofs.Layers.Counts.{slots_made}
 use Rattle.p3_dft.specs.Engines.{EngineState, IsLater, IsPrepared}
 use Rattle.p3_dft.specs.Extensions.{extension_bound}
 use Rattle.p3_matrix.specs.Cosets.{values_of}
 use Rattle.p3_dft.proofs.BitReversed.Rows.{values_seen}
-use Rattle.p3_dft.proofs.Calls.EngineSteps.{after_error, no_answer}
+use Rattle.p3_dft.proofs.Calls.EngineSteps.{after_error, later_still, no_answer}
 use Rattle.p3_dft.proofs.Calls.ExtendedTransforms.{extension_of_natural}
 use Rattle.p3_matrix.proofs.Rows.Padding.{padded_shape, padded_whole}
-use Rattle.p3_dft.proofs.Calls.PreparedHeights.{prepared_until, until_prepared, both_prepared, tabled_facts}
-use Rattle.p3_dft.proofs.Calls.Shapes.{input_fits, output_log_small, output_size}
+use Rattle.p3_dft.proofs.Calls.PreparedHeights.{prepared_until, until_prepared, both_prepared, none_above, still_above, tabled_facts}
+use Rattle.p3_dft.proofs.Calls.Shapes.{input_fits, log_fits, output_log_small, output_size}
 use Rattle.p3_dft.proofs.radix_2_small_batch.Radix2DFTSmallBatchTwoAdicSubgroupDft.coset_lde_batch_bit_reversed.Goals as goal
 
--- a call after heights were prepared, without a product
-after_preparing : {F : Type 0} (t : ℕ → ℕ → ℕ) (x : ℕ → ℕ → ℕ → ℕ) (b : ℕ → ℕ → ℕ) {before prepared after : EngineState} → ((k : ℕ) → IsPrepared before k → IsPrepared prepared k) → prepared.products ≡ before.products
-    → IsLater (tabled_facts {F = F} t x b) prepared after → IsLater (tabled_facts {F = F} t x b) before after
-after_preparing t x b keeps none later = record {
-  keeps = λ k before. later.keeps k (keeps k before);
-  keeps_cosets = λ k s promised. tt;
-  keeps_ready = λ k before. later.keeps_ready k (keeps k before);
-  grows = omega (arith, later.grows, none);
-}
-
--- and where they were refused
+-- heights were prepared, without a product
 only_preparing : {F : Type 0} (t : ℕ → ℕ → ℕ) (x : ℕ → ℕ → ℕ → ℕ) (b : ℕ → ℕ → ℕ) {before after : EngineState} → ((k : ℕ) → IsPrepared before k → IsPrepared after k) → after.products ≡ before.products
     → IsLater (tabled_facts {F = F} t x b) before after
 only_preparing t x b keeps none = record {
@@ -33,6 +23,11 @@ only_preparing t x b keeps none = record {
   keeps_ready = keeps;
   grows = omega (arith, none);
 }
+
+-- and a call after that
+after_preparing : {F : Type 0} (t : ℕ → ℕ → ℕ) (x : ℕ → ℕ → ℕ → ℕ) (b : ℕ → ℕ → ℕ) {before prepared after : EngineState} → ((k : ℕ) → IsPrepared before k → IsPrepared prepared k) → prepared.products ≡ before.products
+    → IsLater (tabled_facts {F = F} t x b) prepared after → IsLater (tabled_facts {F = F} t x b) before after
+after_preparing t x b keeps none later = later_still (tabled_facts t x b) _ _ _ (only_preparing t x b keeps none) later
 
 -- an inverse alone is within the bound of an extension
 inverse_made : (k a w before prepared after : ℕ) → prepared ≡ before → after ≤ prepared + w * (k * 2 ^ k / 2) + 2 ^ k * w → after ≤ before + extension_bound (λ n v. v * (n * 2 ^ n / 2)) k a w
@@ -55,22 +50,14 @@ pad_rows-requires-clause-size g c =
     rw (shape.0, shape.1) (output_size _ _ _ _ c.requires.fits)
 
 pub overflow_add-log_h : goal.overflow_add-log_h
-overflow_add-log_h g c =
-    let small = log_within c.log2_strict_usize-log_h.result c.args.added_bits 63 c.requires.fits.log c.height.result c.log2_strict_usize-log_h.ensures.power
-    (c.height.ensures.height ∙ ap height c.into_row_major_matrix-mat.ensures ∙ c.requires.fits.high) (output_log_small _ _ _ _ c.requires.fits) in
-    omega (arith, small)
+overflow_add-log_h g c = omega (arith, (log_fits _ _ c.requires.fits c.log2_strict_usize-log_h.ensures.power (c.height.ensures.height ∙ ap height c.into_row_major_matrix-mat.ensures)).1)
 
 pub prepare-requires-clause-within : goal.prepare-requires-clause-within
-prepare-requires-clause-within g c =
-    let within = log_within c.log2_strict_usize-log_h.result c.args.added_bits _ c.requires.fits.log c.height.result c.log2_strict_usize-log_h.ensures.power
-    (c.height.ensures.height ∙ ap height c.into_row_major_matrix-mat.ensures ∙ c.requires.fits.high) c.requires.fits.within in
-    within
+prepare-requires-clause-within g c = (log_fits _ _ c.requires.fits c.log2_strict_usize-log_h.ensures.power (c.height.ensures.height ∙ ap height c.into_row_major_matrix-mat.ensures)).0
 
 pub prepare-requires-clause-size : goal.prepare-requires-clause-size
 prepare-requires-clause-size g c =
-    let small = log_within c.log2_strict_usize-log_h.result c.args.added_bits 63 c.requires.fits.log c.height.result c.log2_strict_usize-log_h.ensures.power
-    (c.height.ensures.height ∙ ap height c.into_row_major_matrix-mat.ensures ∙ c.requires.fits.high) (output_log_small _ _ _ _ c.requires.fits) in
-    let digits : c.log2_strict_usize-log_h.result + c.args.added_bits < 64 = omega (arith, small) in
+    let digits : c.log2_strict_usize-log_h.result + c.args.added_bits < 64 = omega (arith, (log_fits _ _ c.requires.fits c.log2_strict_usize-log_h.ensures.power (c.height.ensures.height ∙ ap height c.into_row_major_matrix-mat.ensures)).1) in
     pow-lt digits
 
 pub extend_to_reversed-requires-clause-twiddles : goal.extend_to_reversed-requires-clause-twiddles
@@ -83,16 +70,10 @@ extend_to_reversed-requires-clause-twiddles g c =
     }
 
 pub extend_to_reversed-requires-clause-within : goal.extend_to_reversed-requires-clause-within
-extend_to_reversed-requires-clause-within g c =
-    let within = log_within c.log2_strict_usize-log_h.result c.args.added_bits _ c.requires.fits.log c.height.result c.log2_strict_usize-log_h.ensures.power
-    (c.height.ensures.height ∙ ap height c.into_row_major_matrix-mat.ensures ∙ c.requires.fits.high) c.requires.fits.within in
-    within
+extend_to_reversed-requires-clause-within g c = (log_fits _ _ c.requires.fits c.log2_strict_usize-log_h.ensures.power (c.height.ensures.height ∙ ap height c.into_row_major_matrix-mat.ensures)).0
 
 pub extend_to_reversed-requires-clause-small : goal.extend_to_reversed-requires-clause-small
-extend_to_reversed-requires-clause-small g c =
-    let small = log_within c.log2_strict_usize-log_h.result c.args.added_bits 63 c.requires.fits.log c.height.result c.log2_strict_usize-log_h.ensures.power
-    (c.height.ensures.height ∙ ap height c.into_row_major_matrix-mat.ensures ∙ c.requires.fits.high) (output_log_small _ _ _ _ c.requires.fits) in
-    omega (arith, small)
+extend_to_reversed-requires-clause-small g c = omega (arith, (log_fits _ _ c.requires.fits c.log2_strict_usize-log_h.ensures.power (c.height.ensures.height ∙ ap height c.into_row_major_matrix-mat.ensures)).1)
 
 pub extend_to_reversed-requires-clause-height : goal.extend_to_reversed-requires-clause-height
 extend_to_reversed-requires-clause-height g c =
@@ -201,3 +182,31 @@ extend_to_reversed-requires-clause-whole g c =
 
 pub idft_batch-requires : goal.idft_batch-requires
 idft_batch-requires g c = record { fits = rw c.into_row_major_matrix-mat.ensures (input_fits _ _ _ _ c.requires.fits) }
+
+-- no height above the extension's was prepared, nor by an inverse after that
+preparing_alone : {P : Type 0} (n a k log : ℕ) {tall stored : ℕ} → tall ≡ 2 ^ log → tall ≡ stored → stored ≡ 2 ^ k → P ⊎ (n ≤ log + a) → P ⊎ (n ≤ k + a)
+preparing_alone n a k log power is e = none_above n (log + a) (k + a) (let same = log_same log k (sym power ∙ is ∙ e) in omega (arith, same))
+
+prepared_alone : {P Q R : Type 0} (n a k log : ℕ) {tall stored : ℕ} → tall ≡ 2 ^ log → tall ≡ stored → stored ≡ 2 ^ k → (Q → P ⊎ (n ≤ log + a)) → (R → Q ⊎ (n ≤ log)) → R → P ⊎ (n ≤ k + a)
+prepared_alone n a k log power is e first second now =
+    preparing_alone n a k log power is e (still_above n (log + a) first (none_above n log (log + a) (omega arith) (second now)))
+
+pub returns-in_err-prepare-clause-only : goal.returns-in_err-prepare-clause-only
+returns-in_err-prepare-clause-only g c k e n now =
+    preparing_alone n c.args.added_bits k c.log2_strict_usize-log_h.result c.log2_strict_usize-log_h.ensures.power (c.height.ensures.height ∙ ap height c.into_row_major_matrix-mat.ensures) e (c.prepare.ensures.only n now)
+
+pub returns-in_err-coefficients-clause-only : goal.returns-in_err-coefficients-clause-only
+returns-in_err-coefficients-clause-only g c k e n now =
+    prepared_alone n c.args.added_bits k c.log2_strict_usize-log_h.result c.log2_strict_usize-log_h.ensures.power (c.height.ensures.height ∙ ap height c.into_row_major_matrix-mat.ensures) e
+    (c.prepare.ensures.only n) (c.idft_batch.ensures.only _ (sym c.height.ensures.height ∙ c.log2_strict_usize-log_h.ensures.power) n) now
+
+pub returns-in_err-grown-clause-only : goal.returns-in_err-grown-clause-only
+returns-in_err-grown-clause-only g c k e n now =
+    prepared_alone n c.args.added_bits k c.log2_strict_usize-log_h.result c.log2_strict_usize-log_h.ensures.power (c.height.ensures.height ∙ ap height c.into_row_major_matrix-mat.ensures) e
+    (c.prepare.ensures.only n) (c.idft_batch.ensures.only _ (sym c.height.ensures.height ∙ c.log2_strict_usize-log_h.ensures.power) n) now
+
+pub returns-clause-only : goal.returns-clause-only
+returns-clause-only g c k e n now =
+    prepared_alone n c.args.added_bits k c.log2_strict_usize-log_h.result c.log2_strict_usize-log_h.ensures.power (c.height.ensures.height ∙ ap height c.into_row_major_matrix-mat.ensures) e
+    (c.prepare.ensures.only n) (c.idft_batch.ensures.only _ (sym c.height.ensures.height ∙ c.log2_strict_usize-log_h.ensures.power) n)
+    (subst (λ (s : EngineState). IsPrepared s n) c.self.view_is (prepared_until _ n (until_prepared _ n now)))
