@@ -33,7 +33,7 @@ module _ {F : Type 0} (f : FieldMembers F) (generator : ℕ → F) where
   IsExtension m a s out = AreExtendedValues m a s (values_of f out)
 
   -- out has the same of the polynomials that a transform made of those: called with the coefficients in a layout it may answer the changed ones in that layout
-  pub record AreTransformedValues (may_answer : RowMajor F → RowMajor F → Type 0) (layout : Layout) (m : RowMajor F) (a : ℕ) (s : f.Element) (out : Matrix f.Element) : Type 0 where
+  pub record AreTransformedValues (may_answer : RowMajor F → Layout → RowMajor F → Type 0) (layout : Layout) (m : RowMajor F) (a : ℕ) (s : f.Element) (out : Matrix f.Element) : Type 0 where
     pub coefficients : Matrix f.Element
     pub are_coefficients : (k : ℕ) → height m ≡ 2 ^ k → AreCoefficients f.ring (λ n. f.value (generator n)) (values_of f m) k f.ring.one coefficients
     pub told : RowMajor F
@@ -41,14 +41,14 @@ module _ {F : Type 0} (f : FieldMembers F) (generator : ℕ → F) where
     pub told_in_layout : (k : ℕ) → height m ≡ 2 ^ k → Same (values_of f told) (arrangement layout k coefficients)
     pub answered : RowMajor F
     pub answered_whole : IsRowMajor answered
-    pub called : may_answer told answered
+    pub called : may_answer told layout answered
     pub changed : Matrix f.Element
     pub answered_in_layout : (k : ℕ) → height m ≡ 2 ^ k → Same (values_of f answered) (arrangement layout k changed)
     pub extended : (k : ℕ) → height m ≡ 2 ^ k → IsValues f.ring (λ n. f.value (generator n)) changed (k + a) s out
 
-  -- the same of a stored matrix, where it is said for each layout what the transform may answer
+  -- the same of a stored matrix
   abbrev pub IsTransformedExtension : (RowMajor F → Layout → RowMajor F → Type 0) → Layout → RowMajor F → ℕ → f.Element → RowMajor F → Type 0
-  IsTransformedExtension may_answer layout m a s out = AreTransformedValues (λ told answered. may_answer told layout answered) layout m a s (values_of f out)
+  IsTransformedExtension may_answer layout m a s out = AreTransformedValues may_answer layout m a s (values_of f out)
 
   -- above rows of zeros, which make out 2 ^ a times as high, it has what a transform may answer that is called with the coefficients of m in bit reversed order
   pub record IsAnswerOverZeros (may_answer : RowMajor F → RowMajor F → Type 0) (m : RowMajor F) (a : ℕ) (out : RowMajor F) : Type 0 where

@@ -362,8 +362,8 @@ impl<F: TwoAdicField> TwoAdicSubgroupDft<F> for Radix2DitParallel<F> {
             p.0.physical p.1)) }
         ensures refused { IfErr result (λ e. OnRefused e
             (λ c r. AtLog (height (N.stored mat)) (λ k. (out : Matrix F.Element)
-            × AreTransformedValues F.Field.own F.generator (λ m n. T.post transform m BitReversed n) BitReversed
-            (N.stored mat) added_bits (F.value shift) out
+            × AreTransformedValues F.Field.own F.generator (T.post transform) BitReversed (N.stored mat) added_bits
+            (F.value shift) out
             × IsRefused C.step (M.post make_consumer (2 ^ (k - mid_of k))) (values_of F.Field.own)
             (2 ^ (k - mid_of k)) (bit_reversal (k + added_bits) out) c r))) }
         ensures unpublished { IfErr result (λ e. OnOutOfMemory e (λ m. m ≡ make_consumer)) }

@@ -295,8 +295,8 @@ pub trait TwoAdicSubgroupDft<F: TwoAdicField>: Clone + Default {
         ensures published { IfOk result (λ p. AtLog (height (N.stored mat)) (λ k. IsPublished C.step
             (M.post make_consumer (facts.block_rows k added_bits)) (facts.block_rows k added_bits) p.0.physical p.1)) }
         ensures refused { IfErr result (λ e. OnRefused e (λ c r. AtLog (height (N.stored mat)) (λ k.
-            (out : Matrix F.Element) × AreTransformedValues F.Field.own F.generator
-            (λ m n. T.post transform m LAYOUT n) LAYOUT (N.stored mat) added_bits (F.value shift) out
+            (out : Matrix F.Element) × AreTransformedValues F.Field.own F.generator (T.post transform) LAYOUT
+            (N.stored mat) added_bits (F.value shift) out
             × IsRefused C.step (M.post make_consumer (facts.block_rows k added_bits)) (values_of F.Field.own)
             (facts.block_rows k added_bits) (bit_reversal (k + added_bits) out) c r))) }
         ensures unpublished { IfErr result (λ e. OnOutOfMemory e (λ m. m ≡ make_consumer)) }

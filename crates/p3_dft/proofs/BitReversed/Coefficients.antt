@@ -15,6 +15,7 @@ use Rattle.p3_dft.specs.Extensions.{AreTransformedValues, IsExtension, extension
 use Rattle.p3_matrix.specs.Polynomials.{poly}
 use Rattle.p3_dft.specs.Transforms.{IsInterpolation}
 use Rattle.p3_networks.specs.Layers.{AreValuesOfRows}
+use Rattle.p3_dft.specs.declared.traits.Layout.{Layout}
 use Rattle.p3_dft.specs.declared.traits.Layout.TheVariants.{BitReversed}
 use Rattle.p3_matrix.proofs.Polynomials.Cosets.{coefficients_same, is_subgroup_values, is_values}
 use Rattle.p3_matrix.proofs.Polynomials.Interpolation.{there_is_no_other}
@@ -111,8 +112,8 @@ module _ {F : Type 0} (f : FieldMembers F) (generator : ℕ → F) where
       (row_on_coset m (0 + a) s one (one ∙ ap (λ n. 2 ^ n) single))
 
   -- and so is what a transform answers of it
-  pub extension_of_told_row : (may_answer : RowMajor F → RowMajor F → Type 0) (m answered : RowMajor F) (a : ℕ) (s : f.Element) → height m ≡ 1 → a ≡ 0
-      → IsRowMajor m → IsRowMajor answered → may_answer m answered → height answered ≡ height m → AreTransformedValues f generator may_answer BitReversed m a s (values_of f answered)
+  pub extension_of_told_row : (may_answer : RowMajor F → Layout → RowMajor F → Type 0) (m answered : RowMajor F) (a : ℕ) (s : f.Element) → height m ≡ 1 → a ≡ 0
+      → IsRowMajor m → IsRowMajor answered → may_answer m BitReversed answered → height answered ≡ height m → AreTransformedValues f generator may_answer BitReversed m a s (values_of f answered)
   extension_of_told_row may_answer m answered a s one none told_is answered_is called tall = record {
     coefficients = values_of f m;
     are_coefficients = λ k e. record { high = refl; wide = refl; values = transform_of_row f generator m one k e };
@@ -128,9 +129,9 @@ module _ {F : Type 0} (f : FieldMembers F) (generator : ℕ → F) where
   }
 
   -- values of what a transform, told the coefficients in bit reversed order, answered in that order
-  pub values_of_answered : (may_answer : RowMajor F → RowMajor F → Type 0) (m told answered : RowMajor F) (a log : ℕ) (s : f.Element) (out : Matrix f.Element) → height m ≡ 2 ^ log
+  pub values_of_answered : (may_answer : RowMajor F → Layout → RowMajor F → Type 0) (m told answered : RowMajor F) (a log : ℕ) (s : f.Element) (out : Matrix f.Element) → height m ≡ 2 ^ log
       → AreCoefficients f.ring (λ n. f.value (generator n)) (values_of f m) log f.ring.one (bit_reversal log (values_of f told))
-      → IsRowMajor told → IsRowMajor answered → may_answer told answered → height answered ≡ height m
+      → IsRowMajor told → IsRowMajor answered → may_answer told BitReversed answered → height answered ≡ height m
       → IsValues f.ring (λ n. f.value (generator n)) (bit_reversal log (values_of f answered)) (log + a) s out
       → AreTransformedValues f generator may_answer BitReversed m a s out
   values_of_answered may_answer m told answered a log s out high are told_is answered_is called tall values = record {
