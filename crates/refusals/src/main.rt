@@ -4,26 +4,14 @@
 //! it answered that memory was refused; it tells how that went.
 #![tactic(auto)]
 
-mod calls;
-mod codes;
-mod engines;
-mod jobs;
-mod line;
-mod memory;
-mod names;
-mod shapes;
-#[cfg(test)]
-mod tests;
-mod trial;
-
-use engines::on_engine;
-use memory::Asked;
-use names::{FieldName, Request};
 use p3_dft::{BabyBear, Goldilocks, TwoAdicField};
 use std::alloc::Global;
 use std::io;
 use std::process::ExitCode;
-use trial::{Once, Verdict};
+use trials::engines::on_engine;
+use trials::memory::Asked;
+use trials::names::{FieldName, Request};
+use trials::trial::{Once, Verdict};
 
 // More than the words of any trial.
 const MOST_TEXT: usize = 256;

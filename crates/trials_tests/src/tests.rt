@@ -3,18 +3,18 @@
 // Each test has a process of its own. It takes all of the address space once, for good, in blocks that it
 // never touches; then memory for a call is what it leaves free, from none up, until the call answers.
 
-use crate::engines::{EngineUse, Tables, on_engine};
-use crate::jobs::{are_first_answers, three_jobs};
-use crate::line::Line;
-use crate::memory::{Memory, Plenty};
-use crate::names::{Call, CodeCall, EngineName, Extension, Form, TableCall, Transform};
-use crate::trial::{Trial, Verdict, Work, tried};
 use p3_dft::{
     BabyBear, CanonicalField, DftError, Field, JobsStopped, NaiveDft, Radix2DFTSmallBatch,
     RowMajorMatrix, TwoAdicField, TwoAdicSubgroupDft, fits_dft, fits_lde, run_jobs,
 };
 use std::alloc::Global;
 use std::process::Abort;
+use trials::engines::{EngineUse, Tables, on_engine};
+use trials::jobs::{are_first_answers, three_jobs};
+use trials::line::Line;
+use trials::memory::{Memory, Plenty};
+use trials::names::{Call, CodeCall, EngineName, Extension, Form, TableCall, Transform};
+use trials::trial::{Trial, Verdict, Work, tried};
 
 const ENGINES: [EngineName; 5] = [
     EngineName::Naive,
