@@ -123,8 +123,8 @@ impl<F: TwoAdicField> TwoAdicSubgroupDft<F> for Radix2DitParallel<F> {
     ghost use Rattle.std.proofs.Common.{arith, refl};
     ghost use Rattle.p3_matrix.specs.BitOrder.{bit_reversal, reversed_rows};
     ghost use Rattle.p3_matrix.specs.RowMajor.{height};
-    ghost use Rattle.p3_dft.specs.Engines.{AtLog, HasProductsMore, IsLater, IsCosetPrepared, IsPrepared, PreparesNoneAbove};
-    ghost use Rattle.p3_dft.specs.Engines.{plain_facts};
+    ghost use Rattle.p3_dft.specs.Engines.{AtLog, HasProductsMore, IsLater, IsCosetPrepared, IsPrepared};
+    ghost use Rattle.p3_dft.specs.Engines.{PreparesNoneAbove, plain_facts};
     ghost use Rattle.p3_networks.specs.Twiddles.{AddsCosets, HasCoset, HasCosets, mid_of};
     ghost use Rattle.p3_dft.specs.Extensions.{AreTransformedValues, IsCallable, IsTransformedExtension, KeepsShape};
     ghost use Rattle.p3_dft.specs.Blocks.{OnOutOfMemory, OnRefused, UnlessOutOfMemory};

@@ -338,8 +338,8 @@ impl<F: TwoAdicField> TwoAdicSubgroupDft<F> for Radix2DFTSmallBatch<F> {
         Ok(grown.bit_reverse_rows())
     }
 
-    /// As the trait says, by `coset_lde_batch_bit_reversed`, whose rows are then reversed in place. It leaves the tables
-    /// that this leaves.
+    /// As the trait says, by `coset_lde_batch_bit_reversed`, whose rows are then reversed in place. It leaves the
+    /// tables that this leaves.
     fn coset_lde_batch_with_transform<
         N: IntoRowMajorMatrix<F>,
         T: FnOnce(RowMajorMatrix<F>, Layout) -> RowMajorMatrix<F> + Drop,
