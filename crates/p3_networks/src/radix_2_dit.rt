@@ -6,8 +6,7 @@ ghost use Rattle.p3_matrix.specs.BitOrder.{rev};
 ghost use Rattle.p3_networks.specs.Layers.{AreValuesOfRows};
 ghost use Rattle.p3_networks.specs.Twiddles.{AreTwiddlesOfLayers, root_powers};
 
-use crate::radix_2_dit_parallel::halves::{first_half, layer_by_place};
-use crate::twiddles::layer_twiddles;
+use crate::radix_2_dit_parallel::halves::{first_half, one_low_layer};
 use p3_field::{Products, TwoAdicField};
 
 // Rows of at most so many elements are taken to stay in the second cache of a core, and go layer after
@@ -39,12 +38,33 @@ pub fn dit_network_to_natural<F: TwoAdicField>(
     ensures cost { products.new ≤ products.old + width * (log_h * 2 ^ log_h / 2) }
 {
     if log_h > 0 && values.len() > CACHED {
+        let log_half = log_h - 1;
         let (low, high) = values.split_at_mut(values.len() / 2);
-        dit_network_to_natural(twiddles, low, width, log_h - 1, products);
-        dit_network_to_natural(twiddles, high, width, log_h - 1, products);
-        let twiddles = layer_twiddles(twiddles, log_h - 1);
-        layer_by_place(twiddles, values, width, 1 << (log_h - 1), 1, products);
+        dit_network_to_natural(twiddles, low, width, log_half, products);
+        dit_network_to_natural(twiddles, high, width, log_half, products);
+        one_low_layer(twiddles, values, width, log_h, log_half, products);
     } else {
-        first_half(twiddles, values, width, log_h, log_h, products);
+        cached_network(twiddles, values, width, log_h, products);
     }
+}
+
+// The network on rows that fit into the cache: one layer after another on all of them.
+fn cached_network<F: TwoAdicField>(
+    twiddles: &[F],
+    values: &mut [F],
+    width: usize,
+    log_h: usize,
+    products: &mut Products,
+)
+    requires wide { 1 ≤ width }
+    requires small { log_h < 64 }
+    requires within { log_h ≤ F.TWO_ADICITY }
+    requires size { length values.old ≡ 2 ^ log_h * width }
+    requires twiddles { AreTwiddlesOfLayers F.Field.own log_h (root_powers F.Field.own F.generator false) twiddles.now }
+    ensures values { AreValuesOfRows F.Field.own width (2 ^ log_h) (rev log_h)
+        (λ r. power F.ring (F.value (F.generator log_h)) r) values.old values.new }
+    ensures grows { products.old ≤ products.new }
+    ensures cost { products.new ≤ products.old + width * (log_h * 2 ^ log_h / 2) }
+{
+    first_half(twiddles, values, width, log_h, log_h, products);
 }

@@ -93,8 +93,11 @@ halves_counted mid left k w scale is =
 
 -- two halves of 2 ^ k rows, and the layer that joins them
 pub joined_count : (k w before first second after : ℕ) → 0 < k → first ≤ before + w * ((k - 1) * 2 ^ (k - 1) / 2) → second ≤ first + w * ((k - 1) * 2 ^ (k - 1) / 2)
-    → after ≤ second + 1 * (1 * (2 ^ (k - 1) * w)) → after ≤ before + w * (k * 2 ^ k / 2)
+    → after ≤ second + 1 * (2 ^ (k - 1 - (k - 1)) * (2 ^ (k - 1) * w)) → after ≤ before + w * (k * 2 ^ k / 2)
 joined_count k w before first second after some low high layer =
+    let none : k - 1 - (k - 1) ≡ 0 = omega arith in
+    let one_block : 2 ^ (k - 1 - (k - 1)) ≡ 1 = ap (λ n. 2 ^ n) none in
+    let one_layer : after ≤ second + 1 * (1 * (2 ^ (k - 1) * w)) = subst (λ (n : ℕ). after ≤ second + 1 * (n * (2 ^ (k - 1) * w))) one_block layer in
     let below : k - 1 + 1 - 1 ≡ k - 1 = omega arith in
     let next : k - 1 + 1 ≡ k = omega (arith, some) in
     let halves : 2 ^ 1 * ((k - 1) * 2 ^ (k - 1) / 2) ≡ (k - 1) * 2 ^ (k - 1) = half_of_chunks (k - 1) 1 ∙ ap (λ n. (k - 1) * 2 ^ n) below in
@@ -102,7 +105,14 @@ joined_count k w before first second after some low high layer =
     half_count k ∙ ap (λ n. n * 2 ^ (k - 1)) (sym next) ∙ (let spread : (k - 1 + 1) * 2 ^ (k - 1) ≡ (k - 1) * 2 ^ (k - 1) + 2 ^ (k - 1) = omega arith in spread) in
     let both : w * (2 ^ 1 * ((k - 1) * 2 ^ (k - 1) / 2)) ≡ w * ((k - 1) * 2 ^ (k - 1)) = ap (λ n. w * n) halves in
     let whole : w * (k * 2 ^ k / 2) ≡ w * ((k - 1) * 2 ^ (k - 1) + 2 ^ (k - 1)) = ap (λ n. w * n) all in
-    omega (arith, low, high, layer, both, whole)
+    omega (arith, low, high, one_layer, both, whole)
+
+-- where one chunk is all
+pub one_chunk_counted : (k n before after : ℕ) → after ≤ before + 2 ^ (k - k) * n → after ≤ before + n
+one_chunk_counted k n before after counted =
+    let none : k - k ≡ 0 = omega arith in
+    let one : 2 ^ (k - k) * n ≡ n = ap (λ m. 2 ^ m * n) none ∙ omega arith in
+    subst (λ (m : ℕ). after ≤ before + m) one counted
 
 -- what was counted twice: a product for each two cells and each layer
 pub counted_twice : (k w len before after : ℕ) → len ≡ 2 ^ k * w → 2 * after ≤ 2 * before + k * len → after ≤ before + w * (k * 2 ^ k / 2)

@@ -409,7 +409,7 @@ fn low_network_oop<F: TwoAdicField>(
 
 // Layer l of them, with the twiddles of its place in the tables.
 #[inline(always)]
-fn one_low_layer<F: TwoAdicField>(
+pub(crate) fn one_low_layer<F: TwoAdicField>(
     twiddles: &[F],
     values: &mut [F],
     width: usize,
@@ -487,7 +487,7 @@ pub(crate) fn high_network<F: TwoAdicField>(
 // A layer by decimation in time in which row t of a block has twiddle t. Where twiddle 0 is one, its
 // rows are not multiplied.
 #[inline(always)]
-pub(crate) fn layer_by_place<F: TwoAdicField>(
+fn layer_by_place<F: TwoAdicField>(
     twiddles: &[F],
     values: &mut [F],
     width: usize,

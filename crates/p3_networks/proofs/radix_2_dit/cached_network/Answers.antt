@@ -1,0 +1,29 @@
+use Rattle.std.proofs.Common.{◌≡◌, ℕ, ◌+◌, ◌*◌, ◌-◌, ◌^◌, get_or, sym, ap, ◌∙◌, arith}
+use Rattle.std.proofs.lemmas.Nat.{pow_pos}
+use Rattle.p3_matrix.specs.BitOrder.{rev}
+use Rattle.p3_matrix.specs.Polynomials.{poly}
+use Rattle.p3_matrix.proofs.Polynomials.ByIndex.{poly_same}
+use Rattle.p3_matrix.proofs.Polynomials.Cosets.{point_of_one}
+use Rattle.p3_networks.proofs.Layers.Counts.{one_chunk_counted}
+use Rattle.p3_networks.proofs.Tables.RootPowers.{fewer_roots, subgroup_table}
+use Rattle.p3_networks.proofs.radix_2_dit.cached_network.Goals as goal
+
+pub first_half-requires-clause-table : goal.first_half-requires-clause-table
+first_half-requires-clause-table g c = c.requires.twiddles.size
+
+pub returns-clause-values : goal.returns-clause-values
+returns-clause-values g c r j below inside =
+    let field = g.F.Field in
+    let root = λ (n : ℕ). field.value (g.F.TwoAdicField.generator n) in
+    let k = c.args.log_h in
+    let w = c.args.width in
+    let plain : (u : ℕ) → (0 * 2 ^ k + u) * w + j ≡ u * w + j = λ u. omega arith in
+    let table = subgroup_table field g.F.TwoAdicField.generator k c.args.twiddles.now c.requires.twiddles in
+    let roots = fewer_roots field.ring k g.F.TwoAdicField.TWO_ADICITY c.requires.within g.met.F.TwoAdicField.roots_law in
+    ap (λ n. field.value (get_or c.first_half.new.values n field.ZERO)) (sym (plain r))
+    ∙ c.first_half.ensures.values root field.ring.one roots table 0 r j (pow_pos (k - k)) below inside
+    ∙ ap (poly field.ring (2 ^ k) _) (point_of_one field.ring root k r)
+    ∙ poly_same field.ring (2 ^ k) _ _ _ (λ q p. ap (λ n. field.value (get_or c.args.values.now n field.ZERO)) (plain (rev k q)))
+
+pub returns-clause-cost : goal.returns-clause-cost
+returns-clause-cost g c = one_chunk_counted c.args.log_h _ _ _ c.first_half.ensures.cost
