@@ -279,14 +279,13 @@ impl<F: TwoAdicField> CosetTables<F> {
         ensures added { IfOk result (λ _. self.new ≡ self.old ++ table ∷ []) }
         ensures refused { OnErr result (self.new ≡ self.old) }
     {
-        match &mut self.tables {
-            Some(tables) => tables.push(table)?,
-            None => {
-                let mut tables = Vec::with_capacity(alloc, 1)?;
-                tables.push(table)?;
-                self.tables = Some(tables);
-            }
-        }
+        let mut tables = match self.tables.take() {
+            Some(tables) => tables,
+            None => Vec::with_capacity(alloc, 1)?,
+        };
+        let pushed = tables.push(table);
+        self.tables = Some(tables);
+        pushed?;
         Ok(())
     }
 }

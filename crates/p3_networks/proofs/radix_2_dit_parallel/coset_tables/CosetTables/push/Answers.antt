@@ -5,6 +5,7 @@ use Rattle.p3_networks.specs.CosetTables.{HasEachOnce}
 use Rattle.p3_networks.specs.Twiddles.{Coset, HasCoset, IsCosetAt, items_if_any}
 use Rattle.p3_networks.proofs.Tables.CosetTables.{last_place, place_before}
 use Rattle.p3_networks.proofs.radix_2_dit_parallel.coset_tables.CosetTables.push.Goals as goal
+use Rattle.p3_networks.proofs.radix_2_dit_parallel.coset_tables.CosetTables.push.Goals.{in-Some, in-None+in_ok-tables-in-None}
 
 module _ {F : Type 0} (f : FieldMembers F) (before : List (Coset F)) (added : Coset F) where
   -- so it is in no other place
@@ -29,18 +30,18 @@ module _ {F : Type 0} (f : FieldMembers F) (before : List (Coset F)) (added : Co
       (cases_lt j (length before)))
       (cases_lt i (length before))
 
-pub invariant_of-self : goal.invariant_of-self
-invariant_of-self g c =
+pub invariant_of-self-in_err-pushed : goal.invariant_of-self-in_err-pushed
+invariant_of-self-in_err-pushed g c =
+    let held : items_if_any c.self.inside.tables ≡ c.match-take.tables.items =
+    elim c.match-take.branch [ in-Some w ↦ rw w.tables-is (ap items_if_any (sym c.take.ensures.value ∙ w.in-Some.is)) | in-None+in_ok-tables-in-None w ↦ rw w.tables-is (ap items_if_any (sym c.take.ensures.value ∙ w.in-None.is) ∙ sym w.in_ok-tables-in-None.ensures.items) ] in
+    subst (HasEachOnce g.F.Field) (held ∙ sym c.in_err-pushed.ensures.items) c.self.invariant
+
+pub invariant_of-self-2 : goal.invariant_of-self-2
+invariant_of-self-2 g c =
     let field = g.F.Field in
     let s = field.value c.args.table.shift in
-    let held : items_if_any c.self.inside.tables ≡ c.in-Some.tables.items = ap items_if_any c.in-Some.is in
-    subst (HasEachOnce field) (sym c.in_ok-push-in-Some.ensures.items)
-    (once_more field c.in-Some.tables.items c.args.table (subst (HasEachOnce field) held c.self.invariant)
+    let held : items_if_any c.self.inside.tables ≡ c.match-take.tables.items =
+    elim c.match-take.branch [ in-Some w ↦ rw w.tables-is (ap items_if_any (sym c.take.ensures.value ∙ w.in-Some.is)) | in-None+in_ok-tables-in-None w ↦ rw w.tables-is (ap items_if_any (sym c.take.ensures.value ∙ w.in-None.is) ∙ sym w.in_ok-tables-in-None.ensures.items) ] in
+    subst (HasEachOnce field) (sym c.in_ok-pushed.ensures.items)
+    (once_more field c.match-take.tables.items c.args.table (subst (HasEachOnce field) held c.self.invariant)
     (λ has. c.requires (subst (λ (xs : List (Coset g.row.F.Denot)). HasCoset field xs c.args.table.log_h s) (sym held ∙ c.self.view_is) has)))
-
-pub invariant_of-self-in_err-push-in-Some : goal.invariant_of-self-in_err-push-in-Some
-invariant_of-self-in_err-push-in-Some g c =
-    subst (HasEachOnce g.F.Field) (ap items_if_any c.in-Some.is ∙ sym c.in_err-push-in-Some.ensures.items) c.self.invariant
-
-pub returns-in_ok-push-in-Some-clause-added : goal.returns-in_ok-push-in-Some-clause-added
-returns-in_ok-push-in-Some-clause-added g c = c.in_ok-push-in-Some.ensures.items ∙ ap (λ xs. xs ++ c.args.table ∷ []) (sym (ap items_if_any c.in-Some.is) ∙ c.self.view_is)
