@@ -151,7 +151,7 @@ fn meet_blocks<F: TwoAdicField, R: Rule<F>>(
 }
 
 // The blocks of a layer, from number `first_block` on.
-#[derive(Clone, Copy)]
+#[derive(Drop)]
 struct Blocks<R> {
     rule: R,
     width: usize,
@@ -172,7 +172,7 @@ impl<F: TwoAdicField, R: Rule<F>> ChunkWork<F> for Blocks<R> {
     ghost cost = { λ it size. 2 * (R.cost * (it.half * it.width)) };
 
     #[inline(always)]
-    fn on_chunk(self, number: usize, chunk: &mut [F], products: &mut Products) {
+    fn on_chunk(&self, number: usize, chunk: &mut [F], products: &mut Products) {
         meet_block(
             self.rule,
             chunk,
@@ -322,7 +322,7 @@ pub fn layer_oop<F: TwoAdicField, B: Butterfly<F>>(
 }
 
 // Its blocks.
-#[derive(Clone, Copy)]
+#[derive(Drop)]
 struct BlocksOop<'a, F, B> {
     butterfly: B,
     source: &'a [F],
@@ -340,7 +340,7 @@ impl<F: TwoAdicField, B: Butterfly<F>> ChunkWork<F> for BlocksOop<'_, F, B> {
     ghost cost = { λ it size. 2 * (B.cost * it.size) };
 
     #[inline(always)]
-    fn on_chunk(self, number: usize, values: &mut [F], products: &mut Products) {
+    fn on_chunk(&self, number: usize, values: &mut [F], products: &mut Products) {
         let source = chunk(self.source, values.len(), number);
         meet_block_oop(self.butterfly, source, values, self.size, products);
     }

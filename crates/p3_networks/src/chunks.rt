@@ -6,7 +6,7 @@ ghost use Rattle.p3_networks.specs.Chunks.{chunk_of};
 use p3_field::{Products, TwoAdicField};
 
 /// Work that is done on the chunks of a slice.
-pub(crate) trait ChunkWork<F: TwoAdicField>: Copy {
+pub(crate) trait ChunkWork<F: TwoAdicField>: Drop {
     // Whether it may be done on a chunk of that number and of so many entries.
     ghost accepts: { Self → ℕ → ℕ → Type 0 };
 
@@ -17,11 +17,11 @@ pub(crate) trait ChunkWork<F: TwoAdicField>: Copy {
     ghost cost: { Self → ℕ → ℕ };
 
     /// Does it on one chunk, in place.
-    fn on_chunk(self, number: usize, chunk: &mut [F], products: &mut Products)
-        requires { accepts self number (length chunk.old) }
-        ensures chunk { takes self number chunk.old chunk.new }
+    fn on_chunk(&self, number: usize, chunk: &mut [F], products: &mut Products)
+        requires { accepts self.now number (length chunk.old) }
+        ensures chunk { takes self.now number chunk.old chunk.new }
         ensures grows { products.old ≤ products.new }
-        ensures cost { 2 * products.new ≤ 2 * products.old + cost self (length chunk.old) };
+        ensures cost { 2 * products.new ≤ 2 * products.old + cost self.now (length chunk.old) };
 }
 
 /// Does the work on each of `count` chunks of `size` entries, one after another.

@@ -113,7 +113,7 @@ fn low_chunks<F: TwoAdicField>(
 }
 
 // The layers of the first half.
-#[derive(Clone, Copy)]
+#[derive(Drop)]
 struct LowLayers<'a, F> {
     twiddles: &'a [F],
     width: usize,
@@ -131,7 +131,7 @@ impl<F: TwoAdicField> ChunkWork<F> for LowLayers<'_, F> {
     ghost cost = { λ it size. 2 * (it.width * (it.mid * 2 ^ it.mid / 2)) };
 
     #[inline(always)]
-    fn on_chunk(self, _number: usize, chunk: &mut [F], products: &mut Products) {
+    fn on_chunk(&self, _number: usize, chunk: &mut [F], products: &mut Products) {
         low_network(self.twiddles, chunk, self.width, self.mid, products);
     }
 }
@@ -206,7 +206,7 @@ fn low_chunks_oop<F: TwoAdicField>(
 }
 
 // The layers of the first half, from the same chunk of another slice.
-#[derive(Clone, Copy)]
+#[derive(Drop)]
 struct LowLayersOop<'a, F> {
     twiddles: &'a [F],
     source: &'a [F],
@@ -226,7 +226,7 @@ impl<F: TwoAdicField> ChunkWork<F> for LowLayersOop<'_, F> {
     ghost cost = { λ it size. 2 * (it.width * (it.mid * 2 ^ it.mid / 2)) };
 
     #[inline(always)]
-    fn on_chunk(self, number: usize, values: &mut [F], products: &mut Products) {
+    fn on_chunk(&self, number: usize, values: &mut [F], products: &mut Products) {
         let source = chunk(self.source, values.len(), number);
         low_network_oop(
             self.twiddles,
@@ -317,7 +317,7 @@ fn high_chunks<F: TwoAdicField>(
 }
 
 // The layers of the second half, and the scale before them.
-#[derive(Clone, Copy)]
+#[derive(Drop)]
 struct HighLayers<'a, F> {
     table: BlockTwiddles<'a, F>,
     scale: Option<F>,
@@ -342,7 +342,7 @@ impl<F: TwoAdicField> ChunkWork<F> for HighLayers<'_, F> {
         + scale_cost it.scale * (2 ^ it.left * it.width)) };
 
     #[inline(always)]
-    fn on_chunk(self, number: usize, chunk: &mut [F], products: &mut Products) {
+    fn on_chunk(&self, number: usize, chunk: &mut [F], products: &mut Products) {
         high_network(
             self.table, self.scale, chunk, self.width, self.mid, self.left, number, products,
         );

@@ -182,7 +182,7 @@ fn group_on_chunks<F: TwoAdicField, R: Rule<F>>(
 }
 
 // The layers of a group.
-#[derive(Clone, Copy)]
+#[derive(Drop)]
 struct GroupLayers<R> {
     rule: R,
     order: Order,
@@ -204,7 +204,7 @@ impl<F: TwoAdicField, R: Rule<F>> ChunkWork<F> for GroupLayers<R> {
     ghost cost = { λ it size. R.cost * ((it.to - it.from) * size) };
 
     #[inline(always)]
-    fn on_chunk(self, number: usize, chunk: &mut [F], products: &mut Products) {
+    fn on_chunk(&self, number: usize, chunk: &mut [F], products: &mut Products) {
         group_on_chunk(
             self.rule, self.order, chunk, self.width, self.from, self.to, number, self.piece,
             products,
@@ -340,7 +340,7 @@ fn layer_of_columns<F: TwoAdicField, R: Rule<F>>(
 }
 
 // Its blocks, from number `first_block` on.
-#[derive(Clone, Copy)]
+#[derive(Drop)]
 struct Columns<R> {
     rule: R,
     part: usize,
@@ -361,7 +361,7 @@ impl<F: TwoAdicField, R: Rule<F>> ChunkWork<F> for Columns<R> {
     ghost cost = { λ it size. 2 * (R.cost * (it.half * (it.end - it.at))) };
 
     #[inline(always)]
-    fn on_chunk(self, number: usize, chunk: &mut [F], products: &mut Products) {
+    fn on_chunk(&self, number: usize, chunk: &mut [F], products: &mut Products) {
         columns_of_block(
             self.rule,
             chunk,

@@ -211,7 +211,7 @@ fn layers_of_tiles<F: TwoAdicField, R: NetworkRule<F>>(
 }
 
 // The layers of tiles of `2^log_rows` rows.
-#[derive(Clone, Copy)]
+#[derive(Drop)]
 struct TileLayers<R> {
     rule: R,
     width: usize,
@@ -230,7 +230,7 @@ impl<F: TwoAdicField, R: NetworkRule<F>> ChunkWork<F> for TileLayers<R> {
     ghost cost = { λ it size. R.cost * (it.log_rows * size) };
 
     #[inline(always)]
-    fn on_chunk(self, number: usize, chunk: &mut [F], products: &mut Products) {
+    fn on_chunk(&self, number: usize, chunk: &mut [F], products: &mut Products) {
         layers_of_tile(
             self.rule,
             chunk,
@@ -312,7 +312,7 @@ fn layers_of_short_chunks<F: TwoAdicField, R: NetworkRule<F>>(
 }
 
 // The layers of short chunks, which count from `first` on.
-#[derive(Clone, Copy)]
+#[derive(Drop)]
 struct ShortLayers<R> {
     rule: R,
     first: usize,
@@ -331,7 +331,7 @@ impl<F: TwoAdicField, R: NetworkRule<F>> ChunkWork<F> for ShortLayers<R> {
     ghost cost = { λ it size. R.cost * (SHORT_LAYERS * size) };
 
     #[inline(always)]
-    fn on_chunk(self, number: usize, chunk: &mut [F], products: &mut Products) {
+    fn on_chunk(&self, number: usize, chunk: &mut [F], products: &mut Products) {
         layers_of_short_chunk(self.rule, chunk, self.first + number, products);
     }
 }
@@ -411,7 +411,7 @@ fn scaled_dif_tiles<F: TwoAdicField>(
 }
 
 // The layers of tiles of `2^log_rows` rows, on the values times `scale`.
-#[derive(Clone, Copy)]
+#[derive(Drop)]
 struct ScaledTileLayers<'a, F> {
     twiddles: &'a [F],
     scale: F,
@@ -431,7 +431,7 @@ impl<F: TwoAdicField> ChunkWork<F> for ScaledTileLayers<'_, F> {
     ghost cost = { λ it size. (it.log_rows + 2) * size };
 
     #[inline(always)]
-    fn on_chunk(self, number: usize, chunk: &mut [F], products: &mut Products) {
+    fn on_chunk(&self, number: usize, chunk: &mut [F], products: &mut Products) {
         scale_slice_in_place(chunk, self.scale, products);
         layers_of_tile(
             ByBlock {
@@ -713,7 +713,7 @@ fn spread_tiles<F: TwoAdicField>(
 }
 
 // Rows of coefficients, spread over tiles of `2^log_rows` rows, and the layers of each tile from `added_bits` on.
-#[derive(Clone, Copy)]
+#[derive(Drop)]
 struct SpreadTileLayers<'a, F> {
     twiddles: &'a [F],
     weights: &'a [F],
@@ -746,7 +746,7 @@ impl<F: TwoAdicField> ChunkWork<F> for SpreadTileLayers<'_, F> {
     ghost cost = { λ it size. (it.log_rows - it.added_bits + 2) * size };
 
     #[inline(always)]
-    fn on_chunk(self, number: usize, chunk: &mut [F], products: &mut Products) {
+    fn on_chunk(&self, number: usize, chunk: &mut [F], products: &mut Products) {
         let copies = 1usize << self.added_bits;
         let count = 1usize << (self.log_rows - self.added_bits);
         spread_rows(

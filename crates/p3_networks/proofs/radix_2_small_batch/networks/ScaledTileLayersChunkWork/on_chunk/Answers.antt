@@ -6,7 +6,7 @@ use Rattle.p3_networks.proofs.radix_2_small_batch.networks.ScaledTileLayersChunk
 pub returns : goal.returns
 returns g c =
     let field = g.F.Field in
-    let r = c.args.self.log_rows in
+    let r = c.args.self.now.log_rows in
     let tile = c.args.number in
     let before = c.args.chunk.now in
     let scaled = c.scale_slice_in_place.new.values in
@@ -21,7 +21,7 @@ returns g c =
             (subst (λ (e : ℕ). HoldsCells field.value field.ZERO (tile * length scaled) (cells e) c.layers_of_tile.new.values) plain
             (c.layers_of_tile.ensures.cells.taken k cells layers room
             (λ i inside.
-            value_at field.value (λ (x : field.Element). field.ring.mul x (field.value c.args.self.scale)) before scaled i field.ZERO c.scale_slice_in_place.ensures.values len (omega (arith, inside, len))
+            value_at field.value (λ (x : field.Element). field.ring.mul x (field.value c.args.self.now.scale)) before scaled i field.ZERO c.scale_slice_in_place.ensures.values len (omega (arith, inside, len))
             ∙ holds i (omega (arith, inside, len)) ∙ ap (λ n. cells 0 (tile * n + i)) (sym len))));
       };
       grows = omega (arith, c.layers_of_tile.ensures.grows, c.scale_slice_in_place.ensures.count);

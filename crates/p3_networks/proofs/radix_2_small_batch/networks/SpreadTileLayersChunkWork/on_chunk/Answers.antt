@@ -11,14 +11,14 @@ cells_of_tile : (count copies rows w : ℕ) → count * copies ≡ rows → rows
 cells_of_tile count copies rows w is = ap (λ n. n * w) (sym is) ∙ omega arith
 
 pub overflow_shl-copies : goal.overflow_shl-copies
-overflow_shl-copies g c = let (wide, (added, (small, rest))) = c.requires in omega (arith, chunk_digits c.args.self.log_rows c.args.number small, added)
+overflow_shl-copies g c = let (wide, (added, (small, rest))) = c.requires in omega (arith, chunk_digits c.args.self.now.log_rows c.args.number small, added)
 
 pub overflow_shl-count : goal.overflow_shl-count
-overflow_shl-count g c = let (wide, (added, (small, rest))) = c.requires in omega (arith, chunk_digits c.args.self.log_rows c.args.number small)
+overflow_shl-count g c = let (wide, (added, (small, rest))) = c.requires in omega (arith, chunk_digits c.args.self.now.log_rows c.args.number small)
 
 pub spread_rows-requires : goal.spread_rows-requires
 spread_rows-requires g c =
-    let it = c.args.self in
+    let it = c.args.self.now in
     let tile = c.args.number in
     let r = it.log_rows in
     let a = it.added_bits in
@@ -40,12 +40,12 @@ spread_rows-requires g c =
 pub layers_of_chunk-requires : goal.layers_of_chunk-requires
 layers_of_chunk-requires g c =
     let (wide, (added, (small, (size, (rows, (weights, (first, enough))))))) = c.requires in
-    record { wide = wide; order = added; below = le_refl c.args.self.log_rows; small = small; size = c.spread_rows.auto.values ∙ size; there = λ b t inside. (omega (arith, inside, enough), first) }
+    record { wide = wide; order = added; below = le_refl c.args.self.now.log_rows; small = small; size = c.spread_rows.auto.values ∙ size; there = λ b t inside. (omega (arith, inside, enough), first) }
 
 pub returns : goal.returns
 returns g c =
     let field = g.F.Field in
-    let it = c.args.self in
+    let it = c.args.self.now in
     let tile = c.args.number in
     let a = it.added_bits in
     let r = it.log_rows in
