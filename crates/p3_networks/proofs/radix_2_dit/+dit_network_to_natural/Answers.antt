@@ -26,18 +26,24 @@ dit_network_to_natural-requires-then-values-gt-CACHED g t c κs within =
     let fewer = fewer_layers g.F.Field (root_powers g.F.Field g.F.TwoAdicField.generator false) (k - 1) k c.args.twiddles.now (omega arith) c.requires.twiddles in
     (omega (arith, c.decreases, c.if-log_h-gt0.true), (within.0, (within.1, (c.requires.wide, (omega (arith, c.requires.small), (omega (arith, c.requires.within), (size, fewer)))))))
 
-pub one_low_layer-requires : goal.one_low_layer-requires
-one_low_layer-requires g t c =
+pub one_low_layer-requires-clause-wide : goal.one_low_layer-requires-clause-wide
+one_low_layer-requires-clause-wide g t c = c.requires.wide
+
+pub one_low_layer-requires-clause-small : goal.one_low_layer-requires-clause-small
+one_low_layer-requires-clause-small g t c = c.requires.small
+
+pub one_low_layer-requires-clause-below : goal.one_low_layer-requires-clause-below
+one_low_layer-requires-clause-below g t c = omega (arith, c.if-log_h-gt0.true)
+
+pub one_low_layer-requires-clause-size : goal.one_low_layer-requires-clause-size
+one_low_layer-requires-clause-size g t c =
     let first = c.dit_network_to_natural in
     let second = c.dit_network_to_natural-then-values-gt-CACHED in
     let front = first.auto.values ∙ c.split_at_mut-low.ensures.front_len in
-    record {
-      wide = c.requires.wide;
-      small = c.requires.small;
-      below = omega (arith, c.if-log_h-gt0.true);
-      size = omega (arith, length-append first.new.values second.new.values, front, second.auto.values, c.split_at_mut-low.ensures.back_len, c.requires.size);
-      table = c.requires.twiddles.size;
-    }
+    omega (arith, length-append first.new.values second.new.values, front, second.auto.values, c.split_at_mut-low.ensures.back_len, c.requires.size)
+
+pub one_low_layer-requires-clause-table : goal.one_low_layer-requires-clause-table
+one_low_layer-requires-clause-table g t c = c.requires.twiddles.size
 
 pub returns-then-values-gt-CACHED-clause-values : goal.returns-then-values-gt-CACHED-clause-values
 returns-then-values-gt-CACHED-clause-values g t c r j below inside =
@@ -69,14 +75,20 @@ returns-then-values-gt-CACHED-clause-cost g t c =
     joined_count c.args.log_h c.args.width c.args.products.now c.dit_network_to_natural.new.products c.dit_network_to_natural-then-values-gt-CACHED.new.products c.one_low_layer.new.products
     c.if-log_h-gt0.true c.dit_network_to_natural.ensures.cost c.dit_network_to_natural-then-values-gt-CACHED.ensures.cost c.one_low_layer.ensures.cost
 
-pub cached_network-requires : goal.cached_network-requires
-cached_network-requires g t c = record {
-  wide = c.requires.wide;
-  small = c.requires.small;
-  within = c.requires.within;
-  size = c.requires.size;
-  twiddles = c.requires.twiddles;
-}
+pub cached_network-requires-clause-wide : goal.cached_network-requires-clause-wide
+cached_network-requires-clause-wide g t c = c.requires.wide
+
+pub cached_network-requires-clause-small : goal.cached_network-requires-clause-small
+cached_network-requires-clause-small g t c = c.requires.small
+
+pub cached_network-requires-clause-within : goal.cached_network-requires-clause-within
+cached_network-requires-clause-within g t c = c.requires.within
+
+pub cached_network-requires-clause-size : goal.cached_network-requires-clause-size
+cached_network-requires-clause-size g t c = c.requires.size
+
+pub cached_network-requires-clause-twiddles : goal.cached_network-requires-clause-twiddles
+cached_network-requires-clause-twiddles g t c = c.requires.twiddles
 
 pub returns-else-log_h-gt0 : goal.returns-else-log_h-gt0
 returns-else-log_h-gt0 g t c = record {
