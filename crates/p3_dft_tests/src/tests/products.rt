@@ -167,7 +167,11 @@ fn worked_bounds() -> BoundsOfEngines {
             coset_extension: 344,
             membership: 288,
         }),
-        dit: parts,
+        dit: Bounds {
+            extension: 60,
+            coset_extension: 60,
+            ..parts
+        },
         bowers: parts,
         parallel: Bounds {
             extension: 44,
