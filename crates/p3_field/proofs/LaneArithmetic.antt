@@ -5,9 +5,10 @@ use Rattle.std.proofs.Math.Nat.{mod-eq_of_lt, mod-lt, add-mod_right, add-mul-mod
 use Rattle.std.proofs.lemmas.Nat.{mul-mod_first}
 use Rattle.std.proofs.lemmas.Bool.{cases_lt, lt-ltb, le-ltb, cond-true, cond-false}
 use Rattle.std.specs.Simd.Lanes.{Each1, zip2, sel_l, top}
-use mir.Syntax.{w32}
+use mir.Syntax.{w32, w64}
 use mir.Val.{Fits}
 use Rattle.p3_field.specs.LaneNumbers.{AreBelow}
+use mir.Facts.{Fits-widen}
 
 -- what a lane's operations give, modulo 2^32
 abbrev wrapped_sum : ℕ → ℕ → ℕ
@@ -310,3 +311,12 @@ module _ (m : ℕ) (above : 1 < m) (small : m < 2147483648) (near : 1073741824 +
   products_of_lanes (x ∷ xs) [] n e a b = refl
   products_of_lanes (x ∷ xs) (y ∷ ys) zero e a b = absurd (omega (arith, e))
   products_of_lanes (x ∷ xs) (y ∷ ys) (suc n) e a b = ap₂ ◌∷◌ (lane_product x y a.0 b.0) (products_of_lanes xs ys n (omega (arith, e)) a.1 b.1)
+
+-- what fits 32 bits fits 64
+pub widened : (xs : List ℕ) → Each1 (Fits w32) xs → Each1 (Fits w64) xs
+widened [] fits = tt
+widened (x ∷ xs) fits = (Fits-widen tt fits.0, widened xs fits.1)
+
+pub widened_same : (xs : List ℕ) → Each1 (Fits w32) xs → Each1 (Fits w64) (map (λ x. x) xs)
+widened_same [] fits = tt
+widened_same (x ∷ xs) fits = (Fits-widen tt fits.0, widened_same xs fits.1)

@@ -121,3 +121,10 @@ module _ {T A : Type 0} (f : T → A) (z : T) (want : ℕ → A) where
       (λ k less. ap f (get_or-set_other (set now (2 * i) y) (2 * i + 1) (2 * k + 1) y' z (λ same. absurd (omega (arith, same, less)))
       ∙ get_or-set_other now (2 * i) (2 * k + 1) y z (λ same. absurd (omega (arith, same, less)))) ∙ so_far k less)
       (ap f (get_or-set_same (set now (2 * i) y) (2 * i + 1) y' z (omega (arith, below, length-set now (2 * i) y))) ∙ is)
+
+-- two places for each lane
+pub first_inside : {T : Type 0} (xs : List T) (i n : ℕ) → length xs ≡ 2 * n → i < n → 2 * i < length xs
+first_inside xs i n wide less = omega (arith, wide, less)
+
+pub second_inside : {T : Type 0} (xs : List T) (i n : ℕ) → length xs ≡ 2 * n → i < n → 2 * i + 1 < length xs
+second_inside xs i n wide less = omega (arith, wide, less)

@@ -1,6 +1,6 @@
 -- Lists of one element, and lists that grow by one.
-use Rattle.std.proofs.Common.{◌≡◌, ℕ, ◌+◌, ◌++◌, ◌<◌, List, [], ◌∷◌, length, get_or, take, slice_set, refl, sym, ap, ◌∙◌, arith}
-use Rattle.std.proofs.lemmas.List.{append_assoc, take_more}
+use Rattle.std.proofs.Common.{◌≡◌, ℕ, ◌+◌, ◌++◌, ◌<◌, List, [], ◌∷◌, length, get_or, take, slice_set, refl, sym, ap, ◌∙◌, arith, ◌≤◌}
+use Rattle.std.proofs.lemmas.List.{append_assoc, take_more, take_all}
 
 pub slice_set-single : {A : Type 0} (xs : List A) (x : A) → length xs ≡ 1 → slice_set xs 0 x ≡ x ∷ []
 slice_set-single [] x one = absurd (omega (arith, one))
@@ -11,3 +11,15 @@ slice_set-single (y ∷ z ∷ zs) x one = absurd (omega (arith, one))
 pub taken_more : {A : Type 0} (before xs : List A) (i : ℕ) (x : A) → i < length xs → ((d : A) → x ≡ get_or xs i d) → (before ++ take i xs) ++ x ∷ [] ≡ before ++ take (i + 1) xs
 taken_more before xs i x below is =
     append_assoc before (take i xs) (x ∷ []) ∙ ap (λ ys. before ++ ys) (ap (λ y. take i xs ++ y ∷ []) (is x) ∙ sym (take_more xs i x below))
+
+pub single : {A : Type 0} (xs : List A) (x : A) → length xs ≡ 1 → x ≡ get_or xs 0 x → x ∷ [] ≡ xs
+single [] x one is = absurd (omega (arith, one))
+single (y ∷ []) x one is = ap (λ z. z ∷ []) is
+single (y ∷ z ∷ zs) x one is = absurd (omega (arith, one))
+
+pub all_taken : {A : Type 0} (i n m : ℕ) (xs : List A) → n ≤ i → n ≡ m → length xs ≡ m → take i xs ≡ xs
+all_taken i n m xs end same long = take_all i xs (omega (arith, end, same, long))
+
+-- room for d more
+pub room_made : (len d d' cap : ℕ) → d ≡ d' → len + d ≤ cap → len + d' ≤ cap + 0
+room_made len d d' cap same room = omega arith

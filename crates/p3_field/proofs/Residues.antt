@@ -1,6 +1,6 @@
 -- Residues modulo an odd number: sums of ones, halves, and powers by squarings.
-use Rattle.std.proofs.Common.{◌≡◌, ℕ, zero, suc, ◌+◌, ◌/◌, ◌%◌, ◌^◌, ◌-◌, ◌<◌, ◌≤◌, sym, ap, ◌∙◌, arith, one-add, subst}
-use Rattle.std.proofs.Math.Nat.{add-mod-mod, add-mod_right, mod-eq_of_lt, mod_self, two-pow-succ}
+use Rattle.std.proofs.Common.{◌≡◌, ℕ, zero, suc, ◌+◌, ◌/◌, ◌%◌, ◌^◌, ◌-◌, ◌<◌, ◌≤◌, sym, ap, ◌∙◌, arith, one-add, subst, ◌*◌}
+use Rattle.std.proofs.Math.Nat.{add-mod-mod, add-mod_right, mod-eq_of_lt, mod_self, two-pow-succ, mul-le-mul}
 use Rattle.std.proofs.Math.Bridge.{le_prop}
 use Rattle.p3_field.specs.Ring.{Ring, count, power}
 use Rattle.p3_field.specs.Residues.{Residue, residues, residue-eq}
@@ -68,3 +68,11 @@ negative_other m a r below some is =
 -- what is made of a number below m is decided by the number
 pub bounded-eq : {m : ℕ} {B : Type 0} (make : (n : ℕ) → n < m → B) (a b : ℕ) (h : a < m) (k : b < m) → a ≡ b → make a h ≡ make b k
 bounded-eq {m} make a b h k e = subst (λ (n : ℕ). (k : n < m) → make a h ≡ make n k) e (λ k. ap (make a) (le_prop h k)) k
+
+-- a product of two numbers below m needs no more than 62 bits
+pub product_of : (m n a b : ℕ) → m < 2147483648 → a < m → b < m → n ≡ m → ((a * b) % 4611686018427387904) % n ≡ (a * b) % m
+product_of m n a b small left right same =
+    let a_most : a ≤ 2147483647 = omega (arith, left, small) in
+    let b_most : b ≤ 2147483647 = omega (arith, right, small) in
+    let product : a * b ≤ 2147483647 * 2147483647 = mul-le-mul a_most b_most in
+    ap (λ k. (a * b) % 4611686018427387904 % k) same ∙ ap (λ k. k % m) (mod-eq_of_lt (omega (arith, product)))

@@ -6,7 +6,7 @@ use Rattle.std.proofs.Math.Dec.{eqb}
 use Rattle.std.proofs.lemmas.Bool.{cases_lt}
 use Rattle.std.proofs.lemmas.Bool.Decides.{Decides-eqb, eqb_tells}
 use Rattle.std.proofs.Math.Nat.{add-mul, mul-le-mul_right, div-lt_iff_lt-mul, div-mul-le_self, div-zero, mod-zero, mul-div_cancel, mul_assoc, suc-mul}
-use Rattle.std.proofs.lemmas.List.{append-nil, append_assoc, ext_get_or, get_or-map, length-map, places}
+use Rattle.std.proofs.lemmas.List.{append-nil, append_assoc, ext_get_or, get_or-map, get_or_push, length-append, length-map, places}
 use Rattle.std.proofs.lemmas.List.Elements.{Contains-get_or}
 use Rattle.std.proofs.lemmas.List.Folds.{Any-from_list_any}
 use Rattle.std.proofs.lemmas.List.FromFn.{get_or-map-range_with_len, length-map-range_with_len, sum_by-map-range_with_len_more}
@@ -166,9 +166,8 @@ module _ {T : Type 0} where
       → IsRefused {T = T} (λ c start rows answer e. IsCounted c start answer e) may_make values b out last refusal → (last.limit ≤ last.seen) × (refusal.start % b ≡ 0) × (refusal.start < out.height)
   limit_refused may_make values b out last refusal x =
       let middle = x.run.middle in
-      let there : length x.accepted < length (x.accepted ++ x.refused ∷ []) = search (rules, places) in
-      let is : get_or (x.accepted ++ x.refused ∷ []) (length x.accepted) x.refused ≡ x.refused = search (rules, places) in
-      let of_out = subst (IsBlockOf values b out) is (x.blocks.each (length x.accepted) x.refused there) in
+      let there : length x.accepted < length (x.accepted ++ x.refused ∷ []) = omega (arith, length-append x.accepted (x.refused ∷ [])) in
+      let of_out = subst (IsBlockOf values b out) (get_or_push x.accepted x.refused x.refused _ refl) (x.blocks.each (length x.accepted) x.refused there) in
       ⊎_elim
       (λ below. absurd (ok_is_no_err _ _ (x.run.stop.taken below).0))
       (λ full.

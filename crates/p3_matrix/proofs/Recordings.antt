@@ -1,12 +1,13 @@
 -- Blocks that are kept one after another in two lists.
-use Rattle.std.proofs.Common.{◌≡◌, ℕ, ◌+◌, ◌-◌, ◌≤◌, List, [], ◌∷◌, ◌++◌, length, map, drop, slice_range, refl, sym, ap, ap₂, ◌∙◌, arith}
+use Rattle.std.proofs.Common.{◌≡◌, ℕ, ◌+◌, ◌-◌, ◌≤◌, List, [], ◌∷◌, ◌++◌, length, map, drop, slice_range, refl, sym, ap, ap₂, ◌∙◌, arith, subst}
 use Rattle.std.specs.List.{All}
-use Rattle.std.proofs.lemmas.List.{map-append, take-append-le}
-use Rattle.std.proofs.lemmas.List.Elements.{All-head, All-tail}
+use Rattle.std.proofs.lemmas.List.{map-append, take-append-le, length-append}
+use Rattle.std.proofs.lemmas.List.Elements.{All-head, All-tail, All-push, All-weaker}
 use Rattle.std.proofs.lemmas.Slice.{between_is}
 use Rattle.std.proofs.Math.Seq.{drop-append_seam, take-length}
 use Rattle.p3_matrix.specs.Consumers.{IsPlaceIn, block_at}
 use Rattle.p3_matrix.specs.declared.blocks.Place.{Place}
+use Rattle.p3_matrix.specs.RowMajor.{RowMajor, IsRowMajor}
 
 -- a part of the front of a list
 pub part_of_front : {T : Type 0} (xs ys : List T) (a b : ℕ) → a ≤ b → b ≤ length xs → slice_range (xs ++ ys) a b ≡ slice_range xs a b
@@ -33,3 +34,21 @@ pub one_more_block : {T : Type 0} (xs ys : List T) (ps : List Place) (start widt
 one_more_block xs ys ps start width each =
     map-append (block_at (xs ++ ys)) ps _
     ∙ ap₂ (λ kept values. kept ++ (start, record { width = width; values = values }) ∷ []) (blocks_kept xs ys ps each) (part_at_end xs ys)
+
+-- places stay within the elements when more follow, and those of one more block lie behind them
+pub place_kept : {T : Type 0} (xs ys : List T) (p : Place) → IsPlaceIn xs p → IsPlaceIn (xs ++ ys) p
+place_kept {T} xs ys p is = record {
+  ordered = is.ordered;
+  within = omega (arith, is.within, length-append xs ys);
+  whole = subst (λ vs. IsRowMajor {T = T} (record { width = p.width; values = vs })) (sym (part_of_front xs ys p.first p.end is.ordered is.within)) is.whole;
+}
+
+pub one_more_place : {T : Type 0} (xs ys zs : List T) (ps qs : List Place) (start width first : ℕ) (block : RowMajor T) → All (IsPlaceIn xs) ps → zs ≡ xs ++ ys
+    → qs ≡ ps ++ record { start = start; width = width; first = first; end = first + length ys } ∷ [] → first ≡ length xs → IsRowMajor block → width ≡ block.width → ys ≡ block.values
+    → All (IsPlaceIn zs) qs
+one_more_place {T} xs ys zs ps qs start width first block each more pushed behind whole wide is =
+    let part : slice_range (xs ++ ys) first (first + length ys) ≡ ys = ap (λ n. slice_range (xs ++ ys) n (n + length ys)) behind ∙ part_at_end xs ys in
+    let fits : IsRowMajor {T = T} (record { width = width; values = slice_range (xs ++ ys) first (first + length ys) }) = rw (part, wide, is) whole in
+    rw (more, pushed)
+    (All-push (IsPlaceIn (xs ++ ys)) ps _ (All-weaker (IsPlaceIn xs) (IsPlaceIn (xs ++ ys)) (place_kept xs ys) ps each)
+    (record { ordered = omega arith; within = omega (arith, behind, length-append xs ys); whole = fits }))

@@ -1,5 +1,5 @@
 -- Rows that change places in the list of a matrix's entries.
-use Rattle.std.proofs.Common.{◌≡◌, ℕ, ◌+◌, ◌*◌, ◌/◌, ◌<◌, ◌≤◌, ◌⊎◌, inl, inr, ⊎_elim, ◌==◌, if◌then◌else◌, List, ◌++◌, length, get_or, take, drop, refl, sym, ap, ◌∙◌, arith, append-nil}
+use Rattle.std.proofs.Common.{◌≡◌, ℕ, ◌+◌, ◌-◌, ◌*◌, ◌/◌, ◌<◌, ◌≤◌, ◌⊎◌, inl, inr, ⊎_elim, ◌==◌, if◌then◌else◌, List, ◌++◌, length, get_or, take, drop, refl, sym, ap, ◌∙◌, arith, append-nil, rules}
 use Rattle.std.proofs.Math.ListN.{drop_of_length-le}
 use Rattle.std.proofs.Math.Seq.{take-length}
 use Rattle.std.proofs.lemmas.Bool.{cases_lt, cases_eq, eq-eqb, ne_eqb}
@@ -9,6 +9,7 @@ use Rattle.p3_matrix.specs.Matrix.{matrix, row_exchange, Same}
 use Rattle.p3_matrix.specs.Exchange.{IsExchange}
 use Rattle.p3_matrix.specs.Writes.{with_values}
 use Rattle.p3_matrix.proofs.RowMajor.{row_within}
+use Rattle.std.proofs.lemmas.List.{places, length-append}
 
 -- as many entries written over all of a matrix replace them
 pub all_written : {T : Type 0} (xs ys : List T) → length ys ≡ length xs → take (length xs) (ys ++ drop (length ys) xs) ≡ ys
@@ -45,3 +46,18 @@ exchanged_rows m ys a b e s d =
           ap (λ zs. get_or zs (r * m.width + c) d) is
           ∙ swapped_at (λ k. get_or m.values (k * m.width + c) d) (λ k. get_or ys (k * m.width + c) d) a b (s c d q) r;
     }
+
+-- two parts of one length, in each other's places: the first lies in the front, the second begins the rest
+module _ {T : Type 0} (front back : List T) (a n : ℕ) (apart : a + n ≤ length front) (within : n ≤ length back) where
+  moved : IsExchange (front ++ back) ((take a front ++ (take n back ++ drop n (drop a front))) ++ (take n (drop a front) ++ drop n back)) a (length front) n
+  moved = record {
+    first = λ i d l. search (rules, places);
+    second = λ i d l. search (rules, places);
+    others = λ i d l r. ⊎_elim (λ low. search (rules, places)) (λ high. ⊎_elim (λ inner. search (rules, places)) (λ outer. search (rules, places)) r) l;
+  }
+
+pub exchanged_parts : {T : Type 0} (xs front back p q : List T) (a b n : ℕ) → xs ≡ front ++ back → length front ≡ b → a + n ≤ b → b + n ≤ length xs → p ≡ take n back → q ≡ take (a + n - a) (drop a front)
+    → IsExchange xs ((take a front ++ (p ++ drop (a + n - a) (drop a front))) ++ (q ++ drop n back)) a b n
+exchanged_parts xs front back p q a b n parts long apart within first second =
+    let same : a + n - a ≡ n = omega arith in
+    rw (parts, first, second, same, ← long) (moved front back a n (omega (arith, apart, long)) (omega (arith, within, ap length parts, length-append front back, long)))

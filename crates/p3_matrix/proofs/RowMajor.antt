@@ -1,5 +1,5 @@
 -- Stored matrices: entries that fill whole rows, that by index and as stored a matrix has the same rows, and that entries written anew keep the shape.
-use Rattle.std.proofs.Common.{◌≡◌, ℕ, ◌+◌, ◌*◌, ◌/◌, ◌-◌, ◌<◌, ◌≤◌, List, ◌++◌, length, get_or, map, take, drop, slice_range, sym, ap, ap₂, ◌∙◌, arith, rules}
+use Rattle.std.proofs.Common.{◌≡◌, ℕ, ◌+◌, ◌*◌, ◌/◌, ◌-◌, ◌<◌, ◌≤◌, List, ◌++◌, length, get_or, map, take, drop, slice_range, sym, ap, ap₂, ◌∙◌, arith, rules, min}
 use Rattle.std.specs.List.{range_with_len}
 use Rattle.std.proofs.lemmas.List.{places}
 use Rattle.std.proofs.lemmas.List.FromFn.{fill_by_all}
@@ -8,6 +8,7 @@ use Rattle.p3_matrix.specs.RowMajor.{RowMajor, HasShapeOf, IsRowMajor, height, r
 use Rattle.p3_matrix.specs.Matrix.{matrix, row_of, list_of_rows}
 use Rattle.p3_matrix.proofs.Matrices.{list_same}
 use Rattle.p3_matrix.proofs.Rows.Overwritten.{written}
+use Rattle.std.proofs.lemmas.Nat.{div-add-mod'}
 
 -- h rows of w entries are h whole rows
 pub whole_rows : (size h w : ℕ) → 1 ≤ w → size ≡ h * w → (size / w ≡ h) × ((size / w) * w ≡ size)
@@ -56,3 +57,23 @@ written_shape m out ys wide is size = (ap₂ (λ n w. n / w) (ap length is ∙ w
 -- a matrix that keeps its shape and its size stays whole
 pub whole_kept : {T U : Type 0} (m : RowMajor T) (out : RowMajor U) → IsRowMajor m → HasShapeOf out m → length out.values ≡ length m.values → IsRowMajor out
 whole_kept m out whole (tall, wide) size = record { wide = omega (arith, whole.wide, wide); full = ap₂ (λ (h w : ℕ). h * w) tall wide ∙ whole.full ∙ sym size }
+
+-- what is written over a whole list, any number of entries, leaves its length
+pub taken_size : {T : Type 0} (n : ℕ) (xs ys : List T) → length xs ≡ n → length (take n (ys ++ drop (length ys) xs)) ≡ n
+taken_size n xs ys size = search (rules, places)
+
+pub taken_whole : {T : Type 0} (n w : ℕ) (xs ys : List T) → length xs ≡ n → IsRowMajor {T = T} (record { width = w; values = xs }) → IsRowMajor {T = T} (record { width = w; values = take n (ys ++ drop (length ys) xs) })
+taken_whole n w xs ys size whole =
+    let e = taken_size n xs ys size ∙ sym size in
+    record { wide = whole.wide; full = ap (λ k. k / w * w) e ∙ whole.full ∙ sym e }
+
+-- the rows from one on that is at most the last
+pub bound_within : {T : Type 0} (m : RowMajor T) (bound h first w : ℕ) (vs : List T) → IsRowMajor m → h ≡ height m → first ≡ min bound h → w ≡ m.width → vs ≡ m.values → first * w ≤ length vs
+bound_within m bound h first w vs whole tall least wide is =
+    let below : first ≤ height m = omega (arith, tall, least) in
+    let e : first * w ≡ first * m.width = ap (λ n. first * n) wide in
+    omega (arith, e, mul-le-mul_right m.width below, whole.full, ap length is)
+
+-- a block of b rows begins within the rows
+pub block_starts : (q h b : ℕ) → q < h / b → q * b ≤ h
+block_starts q h b less = omega (arith, mul-le-mul_right b less, add-mul q 1 b, div-add-mod' h b)

@@ -1,7 +1,7 @@
 -- Rows that are worked through pack by pack: what they hold when the places below i are done.
-use Rattle.std.proofs.Common.{◌≡◌, ℕ, zero, suc, ◌+◌, ◌*◌, ◌<◌, ◌≤◌, List, [], ◌∷◌, ◌++◌, length, take, drop, map, get_or, set, sym, ap, ap₂, ◌∙◌, arith, append_assoc, append-nil}
+use Rattle.std.proofs.Common.{◌≡◌, ℕ, zero, suc, ◌+◌, ◌*◌, ◌<◌, ◌≤◌, List, [], ◌∷◌, ◌++◌, length, take, drop, map, get_or, set, sym, ap, ap₂, ◌∙◌, arith, append_assoc, append-nil, ◌-◌, refl}
 use Rattle.std.proofs.Math.Seq.{take-add, take-length, drop-length}
-use Rattle.std.proofs.lemmas.List.{take_at, drop_at, take-map, drop-map, map-append, drop-drop, length-map, length-take-le}
+use Rattle.std.proofs.lemmas.List.{take_at, drop_at, take-map, drop-map, map-append, drop-drop, length-map, length-take-le, length-append}
 use Rattle.p3_field.specs.Lanes.{by_lanes}
 use Rattle.p3_field.proofs.LaneLoops.{until, still, written, all_written, get_or-by_lanes}
 use Rattle.p3_matrix.proofs.Lanes.{by_lanes-append, length-by_lanes}
@@ -97,3 +97,40 @@ module _ {F E : Type 0} (v : F → E) (op : E → E → E) (xs ys : List E) (sam
 
   pub elements_done : (now : List F) (i : ℕ) → i ≡ length xs → map v now ≡ until i (by_lanes op xs ys) (map v zs) → map v now ≡ by_lanes op xs ys
   elements_done now i end is = all_written v zs (by_lanes op xs ys) all_long now i (end ∙ sym wide) is
+
+-- a loop over the packs of n places: how it begins, goes on and ends
+pub packs_left : (k w v n : ℕ) → v ≡ w → n ≡ k * w → 0 + k * v ≡ n
+packs_left k w v n same whole =
+    let e : k * v ≡ k * w = ap (λ m. k * m) same in
+    omega (arith, e, whole)
+
+pub pack_ends : (i k w m n : ℕ) → i < m → m ≡ n → i + k * w ≡ n → i + w ≤ n
+pack_ends i k w m n less same left = omega (arith, (pack_fits i k w n (omega (arith, less, same)) left).1)
+
+pub packs_smaller : (i w v m n : ℕ) → i < m → m ≡ n → w ≡ v → 1 ≤ v → n - (i + w) < n - i
+packs_smaller i w v m n less same width wide = omega (arith, less, same, width, wide)
+
+pub packs_end : (i r m n : ℕ) → m ≤ i → m ≡ n → i + r ≡ n → i ≡ n
+packs_end i r m n end same left = omega (arith, end, same, left)
+
+pub none_yet : (p cost : ℕ) → p ≡ p + cost * 0
+none_yet p cost = omega arith
+
+pub packs_done : {F E : Type 0} (v : F → E) (op : E → E → E) (i : ℕ) (xs ys zs : List F) → i ≡ length xs → length xs ≡ length ys → length xs ≡ length zs
+    → rows_done op i (map v xs) (map v ys) (map v zs) ≡ by_lanes op (map v xs) (map v ys)
+packs_done v op i xs ys zs end equal over =
+    rows_done_all op i (map v xs) (map v ys) (map v zs) (end ∙ sym (length-map xs v)) (length-map xs v ∙ equal ∙ sym (length-map ys v)) (length-map xs v ∙ over ∙ sym (length-map zs v))
+
+-- where the pack behind i lies in m places
+pub pack_sizes : (i w n m : ℕ) → i + w ≤ n → m ≡ n → (i ≤ m) × ((i + (i + w - i) ≤ m) × (i + w ≡ i + (i + w - i)))
+pack_sizes i w n m ends same = (omega (arith, ends, same), (omega (arith, ends, same), omega arith))
+
+-- how many products were made, with those of one more part
+pub more_products : (p q r cost a w v : ℕ) → q ≡ p + cost * a → r ≡ q + cost * v → w ≡ v → r ≡ p + cost * (a + w)
+more_products p q r cost a w v so_far more same = omega (arith, so_far, more, ap (λ m. cost * m) same)
+
+pub more_counted : (p q r a w v : ℕ) → q ≡ p + a → r ≡ q + v → w ≡ v → r ≡ p + (a + w)
+more_counted p q r a w v so_far more same = omega (arith, so_far, more, same)
+
+pub products_in_parts : {T : Type 0} (p q r cost : ℕ) (xs us vs : List T) → xs ≡ us ++ vs → q ≡ p + cost * length us → r ≡ q + cost * length vs → r ≡ p + cost * length xs
+products_in_parts p q r cost xs us vs parts first second = more_products p q r cost (length us) (length vs) (length vs) first second refl ∙ ap (λ n. p + cost * n) (sym (ap length parts ∙ length-append us vs))

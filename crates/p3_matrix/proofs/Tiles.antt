@@ -1,11 +1,13 @@
 -- Places by tiles: the digits of a place are k first ones, m of its tile and k last ones.
-use Rattle.std.proofs.Common.{◌≡◌, ℕ, ◌+◌, ◌-◌, ◌*◌, ◌/◌, ◌%◌, ◌<◌, ◌≤◌, ◌^◌, ◌⊎◌, inl, inr, ⊎_elim, refl, sym, ap, ap₂, ◌∙◌, arith}
+use Rattle.std.proofs.Common.{◌≡◌, ℕ, ◌+◌, ◌-◌, ◌*◌, ◌/◌, ◌%◌, ◌<◌, ◌≤◌, ◌^◌, ◌⊎◌, inl, inr, ⊎_elim, refl, sym, ap, ap₂, ◌∙◌, arith, Fits, le_of_lt, lt_of_lt_of_le}
 use Rattle.std.proofs.lemmas.Bool.{cases_lt}
 use Rattle.std.proofs.lemmas.Nat.{pow-add, pow_pos, pow_below, div-mul-add, mod-mul-add, div-add-mod', div_below, mod_below}
 use Rattle.p3_matrix.specs.BitOrder.{rev}
 use Rattle.p3_matrix.proofs.BitReversal.{rev-lt, rev-rev, rev-block}
 use Rattle.p3_matrix.proofs.RowMajor.{row_within}
 use Rattle.p3_matrix.proofs.HalfReversed.{AreNumbers}
+use mir.Syntax.{w64}
+use Rattle.std.proofs.Math.Nat.{mul-le-mul_right, add-mul}
 
 -- a number of two parts is below the next multiple
 pub part_lt : (a b w r : ℕ) → a < b → r < w → a * w + r < b * w
@@ -178,3 +180,13 @@ module _ (bits m k : ℕ) (outer : 2 * k ≤ bits) (inner : m ≡ bits - 2 * k) 
 
       pub partner_not : r ≤ s → (r < s) ⊎ (a < c) → near ≡ far → ⊥
       partner_not first before e = omega (arith, partner_after first before, chunk_in_tile_order, ap (tile_order (2 ^ m) (2 ^ k)) e)
+
+-- what a number of a chunk is made of fits as the count of all chunks does
+pub chunk_fits : (first tile last tiles side : ℕ) → first < side → tile < tiles → last < side → side * tiles * side < 2 ^ 64 → Fits w64 ((first * tiles + tile) * side + last)
+chunk_fits first tile last tiles side f t l small =
+    let row : first * tiles + tile + 1 ≤ side * tiles = omega (arith, mul-le-mul_right tiles f, add-mul first 1 tiles, t) in
+    record { fits = lt_of_lt_of_le (omega (arith, mul-le-mul_right side row, add-mul (first * tiles + tile) 1 side, l)) (le_of_lt small) }
+
+pub chunk_starts : (a last side : ℕ) → last < side → a ≤ a * side
+chunk_starts a last side l = let some : 1 ≤ side = omega (arith, l) in
+    omega (arith, mul-le-mul_right a some)

@@ -1,5 +1,5 @@
-use Rattle.std.proofs.Common.{◌≡◌, ◌+◌, ◌*◌, length, sym, ap, ◌∙◌, arith}
-use Rattle.p3_matrix.proofs.RowsByPacks.{rows_in_parts}
+use Rattle.std.proofs.Common.{sym, ◌∙◌}
+use Rattle.p3_matrix.proofs.RowsByPacks.{rows_in_parts, products_in_parts}
 use Rattle.p3_matrix.proofs.packs.apply_by_packs.Goals as goal
 
 pub returns-clause-near : goal.returns-clause-near
@@ -21,8 +21,4 @@ returns-clause-far g c =
     c.apply_to_elements.ensures.far
 
 pub returns-clause-count : goal.returns-clause-count
-returns-clause-count g c =
-    let cost = g.B.Butterfly.cost in
-    let one = c.split_at_mut-packed_1 in
-    let whole : length one.result.0.now + length one.result.1.now ≡ length c.args.row_1.now = omega (arith, one.ensures.front_len, one.ensures.back_len) in
-    omega (arith, c.apply_to_packs.ensures.count, c.apply_to_elements.ensures.count, ap (λ m. cost * m) whole)
+returns-clause-count g c = products_in_parts _ _ _ g.B.Butterfly.cost _ _ _ c.split_at_mut-packed_1.ensures.value c.apply_to_packs.ensures.count c.apply_to_elements.ensures.count

@@ -1,6 +1,7 @@
-use Rattle.std.proofs.Common.{◌≡◌, ◌*◌, ◌<◌, length, map, sym, ap, ap₂, ◌∙◌, arith}
+use Rattle.std.proofs.Common.{◌≡◌, ◌<◌, length, map, sym, ap, ap₂, ◌∙◌, arith, subst, refl}
 use Rattle.std.proofs.lemmas.List.{length-map}
-use Rattle.p3_matrix.proofs.RowsByPacks.{of_one_lane, element_stays, element_done, elements_done}
+use Rattle.p3_matrix.proofs.RowsByPacks.{of_one_lane, element_stays, element_done, elements_done, none_yet, more_products}
+use borrow.Author.Rules.{scaled_Fits}
 use Rattle.p3_matrix.proofs.packs.apply_to_elements.Goals as goal
 
 pub loop-i-preserved : goal.loop-i-preserved
@@ -18,14 +19,14 @@ loop-i-preserved g c =
     let wide : length xs ≡ length c.args.row_1.now = length-map c.args.row_1.now v in
     let tall : length ys ≡ length c.args.row_2.now = length-map c.args.row_2.now v in
     let same : length ys ≡ length xs = tall ∙ sym c.requires ∙ sym wide in
-    let below : l.i < length xs = omega (arith, wide, c.loop-i-test.true, l.auto.i-end) in
+    let below : l.i < length xs = subst (λ n. l.i < n) (sym wide) c.loop-i-test.true in
     let d = v r.0 in
     let here = ap v c.index-row_1-i.is ∙ element_stays v near xs ys same c.args.row_1.now (sym wide) l.row_1 l.i _ d below l.auto.row_1 l.invariant.near in
     let there = ap v c.index-row_2-i.is ∙ element_stays v far xs ys same c.args.row_2.now (sym c.requires ∙ sym wide) l.row_2 l.i _ d below l.auto.row_2 l.invariant.far in
     record {
       near = element_done v near xs ys same c.args.row_1.now (sym wide) l.row_1 l.i r.0 d below l.invariant.near (of_one_lane v near lanes law c.index-row_1-i.result c.index-row_2-i.result r.0 c.apply-near.ensures.near ∙ ap₂ near here there);
       far = element_done v far xs ys same c.args.row_2.now (sym c.requires ∙ sym wide) l.row_2 l.i r.1 d below l.invariant.far (of_one_lane v far lanes law c.index-row_1-i.result c.index-row_2-i.result r.1 c.apply-near.ensures.far ∙ ap₂ far here there);
-      count = omega (arith, c.apply-near.ensures.count, l.invariant.count, ap (λ m. g.B.Butterfly.cost * m) g.met.F.Packable.one_lane_law);
+      count = more_products _ _ _ _ _ 1 _ l.invariant.count c.apply-near.ensures.count (sym g.met.F.Packable.one_lane_law);
     }
 
 pub returns-clause-near : goal.returns-clause-near
@@ -49,3 +50,18 @@ returns-clause-far g c =
     let same : length ys ≡ length xs = length-map c.args.row_2.now v ∙ sym c.requires ∙ sym wide in
     elements_done v (g.B.Butterfly.far f.Element f.ring v c.args.butterfly.now) xs ys same c.args.row_2.now (sym c.requires ∙ sym wide) c.loop-i.row_2 c.loop-i.i
     (omega (arith, c.loop-i-test.false, c.loop-i.auto.i-end, wide)) c.loop-i.invariant.far
+
+pub loop-i-init : goal.loop-i-init
+loop-i-init g c = record { near = refl; far = refl; count = none_yet _ _ }
+
+pub offset_bounds-row_1-i : goal.offset_bounds-row_1-i
+offset_bounds-row_1-i g c = scaled_Fits _ _ _ c.loop-i-test.true c.well_formed.1.0.1
+
+pub offset_bounds-row_1-i-in-loop-i : goal.offset_bounds-row_1-i-in-loop-i
+offset_bounds-row_1-i-in-loop-i g c = scaled_Fits _ _ _ c.loop-i-test.true c.well_formed.1.0.1
+
+pub offset_bounds-row_2-i : goal.offset_bounds-row_2-i
+offset_bounds-row_2-i g c = scaled_Fits _ _ _ (subst (λ n. c.loop-i.i < n) c.requires c.loop-i-test.true) c.well_formed.1.1.0.1
+
+pub offset_bounds-row_2-i-in-loop-i : goal.offset_bounds-row_2-i-in-loop-i
+offset_bounds-row_2-i-in-loop-i g c = scaled_Fits _ _ _ (subst (λ n. c.loop-i.i < n) c.requires c.loop-i-test.true) c.well_formed.1.1.0.1

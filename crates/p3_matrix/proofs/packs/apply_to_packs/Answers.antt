@@ -1,23 +1,9 @@
-use Rattle.std.proofs.Common.{◌≡◌, ◌+◌, ◌-◌, ◌*◌, ◌≤◌, length, map, sym, ap, ap₂, ◌∙◌, arith}
+use Rattle.std.proofs.Common.{◌≡◌, ◌+◌, ◌-◌, ◌*◌, ◌≤◌, length, map, sym, ap, ap₂, ◌∙◌, ◌<◌, subst, refl, lt_of_le_of_lt}
 use Rattle.std.proofs.lemmas.List.{length-map}
 use Rattle.p3_field.specs.Lanes.{by_lanes}
-use Rattle.p3_matrix.proofs.RowsByPacks.{next_pack, pack_done, pack_fits}
+use Rattle.p3_matrix.proofs.RowsByPacks.{next_pack, pack_done, pack_fits, packs_left, pack_ends, packs_smaller, packs_end, none_yet, packs_done, pack_sizes, more_products}
+use borrow.Author.Rules.{scaled_Fits}
 use Rattle.p3_matrix.proofs.packs.apply_to_packs.Goals as goal
-
-pub overflow_add-at : goal.overflow_add-at
-overflow_add-at g c = omega (arith, (pack_fits c.loop-at.at c.loop-at.invariant.left.0 c.WIDTH-width.result (length c.args.row_1.now) (omega (arith, c.loop-at-test.true, c.loop-at.auto.row_1)) c.loop-at.invariant.left.1).1)
-
-pub overflow_add-at-in-loop-at : goal.overflow_add-at-in-loop-at
-overflow_add-at-in-loop-at g c = omega (arith, (pack_fits c.loop-at.at c.loop-at.invariant.left.0 c.WIDTH-width.result (length c.args.row_1.now) (omega (arith, c.loop-at-test.true, c.loop-at.auto.row_1)) c.loop-at.invariant.left.1).1)
-
-pub overflow_add-at-in-loop-at-2 : goal.overflow_add-at-in-loop-at-2
-overflow_add-at-in-loop-at-2 g c = omega (arith, (pack_fits c.loop-at.at c.loop-at.invariant.left.0 c.WIDTH-width.result (length c.args.row_1.now) (omega (arith, c.loop-at-test.true, c.loop-at.auto.row_1)) c.loop-at.invariant.left.1).1)
-
-pub slice_bounds-apply_to_pack-end : goal.slice_bounds-apply_to_pack-end
-slice_bounds-apply_to_pack-end g c = omega (arith, (pack_fits c.loop-at.at c.loop-at.invariant.left.0 c.WIDTH-width.result (length c.args.row_1.now) (omega (arith, c.loop-at-test.true, c.loop-at.auto.row_1)) c.loop-at.invariant.left.1).1, c.loop-at.auto.row_1)
-
-pub slice_bounds-apply_to_pack-end-in-loop-at : goal.slice_bounds-apply_to_pack-end-in-loop-at
-slice_bounds-apply_to_pack-end-in-loop-at g c = omega (arith, (pack_fits c.loop-at.at c.loop-at.invariant.left.0 c.WIDTH-width.result (length c.args.row_1.now) (omega (arith, c.loop-at-test.true, c.loop-at.auto.row_1)) c.loop-at.invariant.left.1).1, c.requires.equal, c.loop-at.auto.row_2)
 
 pub loop-at-preserved : goal.loop-at-preserved
 loop-at-preserved g c =
@@ -30,16 +16,51 @@ loop-at-preserved g c =
     let k = l.at + w - l.at in
     let xs = map v c.args.row_1.now in
     let ys = map v c.args.row_2.now in
-    let fits = pack_fits l.at l.invariant.left.0 w (length c.args.row_1.now) (omega (arith, c.loop-at-test.true, l.auto.row_1)) l.invariant.left.1 in
-    let here : l.at + w ≡ l.at + k = omega arith in
-    let within : l.at + k ≤ length xs = omega (arith, length-map c.args.row_1.now v, fits.1) in
+    let fits = pack_fits l.at l.invariant.left.0 w (length c.args.row_1.now) (subst (λ n. l.at < n) l.auto.row_1 c.loop-at-test.true) l.invariant.left.1 in
+    let sizes = pack_sizes l.at w (length c.args.row_1.now) (length xs) (pack_ends l.at l.invariant.left.0 w _ (length c.args.row_1.now) c.loop-at-test.true l.auto.row_1 l.invariant.left.1) (length-map c.args.row_1.now v) in
     let equal : length xs ≡ length ys = length-map c.args.row_1.now v ∙ c.requires.equal ∙ sym (length-map c.args.row_2.now v) in
-    let part_1 = next_pack near v l.at xs ys xs l.row_1 k (omega arith) equal l.invariant.near in
-    let part_2 = next_pack far v l.at xs ys ys l.row_2 k (omega arith) equal l.invariant.far in
+    let part_1 = next_pack near v l.at xs ys xs l.row_1 k sizes.0 equal l.invariant.near in
+    let part_2 = next_pack far v l.at xs ys ys l.row_2 k sizes.0 equal l.invariant.far in
     record {
       width = l.invariant.width;
       left = fits;
-      near = pack_done near v l.at xs ys xs l.row_1 k (l.at + w) c.apply_to_pack.new.part_1 within equal here l.invariant.near (c.apply_to_pack.ensures.near ∙ ap₂ (by_lanes near) part_1 part_2);
-      far = pack_done far v l.at xs ys ys l.row_2 k (l.at + w) c.apply_to_pack.new.part_2 within equal here l.invariant.far (c.apply_to_pack.ensures.far ∙ ap₂ (by_lanes far) part_1 part_2);
-      count = omega (arith, c.apply_to_pack.ensures.count, l.invariant.count, ap (λ m. g.B.Butterfly.cost * m) c.WIDTH-width.ensures);
+      near = pack_done near v l.at xs ys xs l.row_1 k (l.at + w) c.apply_to_pack.new.part_1 sizes.1.0 equal sizes.1.1 l.invariant.near (c.apply_to_pack.ensures.near ∙ ap₂ (by_lanes near) part_1 part_2);
+      far = pack_done far v l.at xs ys ys l.row_2 k (l.at + w) c.apply_to_pack.new.part_2 sizes.1.0 equal sizes.1.1 l.invariant.far (c.apply_to_pack.ensures.far ∙ ap₂ (by_lanes far) part_1 part_2);
+      count = more_products _ _ _ _ _ _ _ l.invariant.count c.apply_to_pack.ensures.count c.WIDTH-width.ensures;
+    }
+
+pub loop-at-init : goal.loop-at-init
+loop-at-init g c = record { width = c.WIDTH-width.ensures; left = (c.requires.whole.0, packs_left _ _ _ _ c.WIDTH-width.ensures c.requires.whole.1); near = refl; far = refl; count = none_yet _ _ }
+
+pub loop-at-smaller : goal.loop-at-smaller
+loop-at-smaller g c = packs_smaller _ _ _ _ _ c.loop-at-test.true c.loop-at.auto.row_1 c.WIDTH-width.ensures c.requires.wide
+
+pub offset_bounds-row_1-at : goal.offset_bounds-row_1-at
+offset_bounds-row_1-at g c = scaled_Fits _ _ _ (subst (λ n. c.loop-at.at < n) c.loop-at.auto.row_1 c.loop-at-test.true) c.well_formed.1.0.1
+
+pub offset_bounds-row_2-at : goal.offset_bounds-row_2-at
+offset_bounds-row_2-at g c = scaled_Fits _ _ _ (subst (λ n. c.loop-at.at < n) (c.loop-at.auto.row_1 ∙ c.requires.equal) c.loop-at-test.true) c.well_formed.1.1.0.1
+
+pub overflow_add-at : goal.overflow_add-at
+overflow_add-at g c = record { fits = lt_of_le_of_lt (pack_ends c.loop-at.at c.loop-at.invariant.left.0 c.WIDTH-width.result _ (length c.args.row_1.now) c.loop-at-test.true c.loop-at.auto.row_1 c.loop-at.invariant.left.1) c.well_formed.1.0.0 }
+
+pub overflow_add-at-in-loop-at : goal.overflow_add-at-in-loop-at
+overflow_add-at-in-loop-at g c = record { fits = lt_of_le_of_lt (pack_ends c.loop-at.at c.loop-at.invariant.left.0 c.WIDTH-width.result _ (length c.args.row_1.now) c.loop-at-test.true c.loop-at.auto.row_1 c.loop-at.invariant.left.1) c.well_formed.1.0.0 }
+
+pub overflow_add-at-in-loop-at-2 : goal.overflow_add-at-in-loop-at-2
+overflow_add-at-in-loop-at-2 g c = record { fits = lt_of_le_of_lt (pack_ends c.loop-at.at c.loop-at.invariant.left.0 c.WIDTH-width.result _ (length c.args.row_1.now) c.loop-at-test.true c.loop-at.auto.row_1 c.loop-at.invariant.left.1) c.well_formed.1.0.0 }
+
+pub slice_bounds-apply_to_pack-end : goal.slice_bounds-apply_to_pack-end
+slice_bounds-apply_to_pack-end g c = subst (λ n. c.loop-at.at + c.WIDTH-width.result ≤ n) (sym c.loop-at.auto.row_1) (pack_ends c.loop-at.at c.loop-at.invariant.left.0 c.WIDTH-width.result _ (length c.args.row_1.now) c.loop-at-test.true c.loop-at.auto.row_1 c.loop-at.invariant.left.1)
+
+pub slice_bounds-apply_to_pack-end-in-loop-at : goal.slice_bounds-apply_to_pack-end-in-loop-at
+slice_bounds-apply_to_pack-end-in-loop-at g c = subst (λ n. c.loop-at.at + c.WIDTH-width.result ≤ n) (c.requires.equal ∙ sym c.loop-at.auto.row_2) (pack_ends c.loop-at.at c.loop-at.invariant.left.0 c.WIDTH-width.result _ (length c.args.row_1.now) c.loop-at-test.true c.loop-at.auto.row_1 c.loop-at.invariant.left.1)
+
+pub returns : goal.returns
+returns g c =
+    let end = packs_end _ _ _ _ c.loop-at-test.false c.loop-at.auto.row_1 c.loop-at.invariant.left.1 in
+    record {
+      near = c.loop-at.invariant.near ∙ packs_done g.F.Field.value (g.B.Butterfly.near g.F.Field.Element g.F.Field.ring g.F.Field.value c.args.butterfly.now) c.loop-at.at c.args.row_1.now c.args.row_2.now c.args.row_1.now end c.requires.equal refl;
+      far = c.loop-at.invariant.far ∙ packs_done g.F.Field.value (g.B.Butterfly.far g.F.Field.Element g.F.Field.ring g.F.Field.value c.args.butterfly.now) c.loop-at.at c.args.row_1.now c.args.row_2.now c.args.row_2.now end c.requires.equal c.requires.equal;
+      count = c.loop-at.invariant.count ∙ ap (λ n. c.args.products.now + g.B.Butterfly.cost * n) end;
     }

@@ -1,10 +1,11 @@
-use Rattle.std.proofs.Common.{◌≡◌, ◌<◌, length, map, get_or, sym, ap, ap₂, ◌∙◌, arith}
+use Rattle.std.proofs.Common.{◌≡◌, ◌<◌, length, map, get_or, sym, ap, ap₂, ◌∙◌, arith, subst, refl, add-zero}
 use Rattle.std.proofs.lemmas.List.{length-map, get_or-map}
 use Rattle.p3_field.specs.Lanes.{by_lanes}
 use Rattle.p3_field.specs.Ring.{minus}
 use Rattle.p3_field.proofs.LaneLoops.{get_or-by_lanes}
 use Rattle.p3_matrix.proofs.Lanes.{length-by_lanes}
-use Rattle.p3_matrix.proofs.RowsByPacks.{element_stays, element_done, elements_done}
+use Rattle.p3_matrix.proofs.RowsByPacks.{element_stays, element_done, elements_done, more_counted}
+use borrow.Author.Rules.{scaled_Fits}
 use Rattle.p3_matrix.proofs.packs.dit_on_elements.Goals as goal
 
 pub loop-i-preserved : goal.loop-i-preserved
@@ -21,16 +22,16 @@ loop-i-preserved g c =
     let tall : length ys ≡ length xs = length-map c.args.row_2.now v ∙ sym c.requires.rows ∙ sym wide in
     let turned : length ts ≡ length ys = length-map c.args.twiddles.now v ∙ sym c.requires.twiddles ∙ sym wide ∙ sym tall in
     let same : length ms ≡ length xs = length-by_lanes r.mul ys ts (sym turned) ∙ tall in
-    let below : l.i < length xs = omega (arith, wide, c.loop-i-test.true, l.auto.i-end) in
+    let below : l.i < length xs = subst (λ n. l.i < n) (sym wide) c.loop-i-test.true in
     let d = v c.scaled-multiple.result in
     let here = ap v c.index-row_1-i.is ∙ element_stays v r.add xs ms same c.args.row_1.now (sym wide) l.row_1 l.i _ d below l.auto.row_1 l.invariant.near in
     let there = ap v c.index-row_2-i.is ∙ element_stays v (minus r) xs ms same c.args.row_2.now (sym c.requires.rows ∙ sym wide) l.row_2 l.i _ d below l.auto.row_2 l.invariant.far in
-    let by = ap v c.index-twiddles-i.is ∙ sym (get_or-map v c.args.twiddles.now l.i _ d (omega (arith, below, wide, c.requires.twiddles))) in
-    let multiple : d ≡ get_or ms l.i d = c.scaled-multiple.ensures.value ∙ ap₂ r.mul there by ∙ sym (get_or-by_lanes r.mul ys ts l.i d turned (omega (arith, below, tall))) in
+    let by = ap v c.index-twiddles-i.is ∙ sym (get_or-map v c.args.twiddles.now l.i _ d (subst (λ n. l.i < n) c.requires.twiddles c.loop-i-test.true)) in
+    let multiple : d ≡ get_or ms l.i d = c.scaled-multiple.ensures.value ∙ ap₂ r.mul there by ∙ sym (get_or-by_lanes r.mul ys ts l.i d turned (subst (λ n. l.i < n) (sym tall) below)) in
     record {
       near = element_done v r.add xs ms same c.args.row_1.now (sym wide) l.row_1 l.i _ d below l.invariant.near (g.met.F.Field.add_law _ _ _ c.add.ensures ∙ ap₂ r.add here multiple);
       far = element_done v (minus r) xs ms same c.args.row_2.now (sym c.requires.rows ∙ sym wide) l.row_2 l.i _ d below l.invariant.far (g.met.F.Field.sub_law _ _ _ c.sub.ensures ∙ ap₂ (minus r) here multiple);
-      count = omega (arith, c.scaled-multiple.ensures.count, l.invariant.count);
+      count = more_counted _ _ _ _ 1 1 l.invariant.count c.scaled-multiple.ensures.count refl;
     }
 
 pub returns-clause-near : goal.returns-clause-near
@@ -60,3 +61,24 @@ returns-clause-far g c =
     let turned : length ts ≡ length ys = length-map c.args.twiddles.now v ∙ sym c.requires.twiddles ∙ sym wide ∙ sym tall in
     elements_done v (minus r) xs (by_lanes r.mul ys ts) (length-by_lanes r.mul ys ts (sym turned) ∙ tall) c.args.row_2.now (sym c.requires.rows ∙ sym wide) c.loop-i.row_2 c.loop-i.i
     (omega (arith, c.loop-i-test.false, c.loop-i.auto.i-end, wide)) c.loop-i.invariant.far
+
+pub loop-i-init : goal.loop-i-init
+loop-i-init g c = record { near = refl; far = refl; count = sym (add-zero _) }
+
+pub offset_bounds-row_1-i : goal.offset_bounds-row_1-i
+offset_bounds-row_1-i g c = scaled_Fits _ _ _ c.loop-i-test.true c.well_formed.1.0.1
+
+pub offset_bounds-row_1-i-in-loop-i : goal.offset_bounds-row_1-i-in-loop-i
+offset_bounds-row_1-i-in-loop-i g c = scaled_Fits _ _ _ c.loop-i-test.true c.well_formed.1.0.1
+
+pub offset_bounds-row_2-i : goal.offset_bounds-row_2-i
+offset_bounds-row_2-i g c = scaled_Fits _ _ _ (subst (λ n. c.loop-i.i < n) c.requires.rows c.loop-i-test.true) c.well_formed.1.1.0.1
+
+pub offset_bounds-row_2-i-in-loop-i : goal.offset_bounds-row_2-i-in-loop-i
+offset_bounds-row_2-i-in-loop-i g c = scaled_Fits _ _ _ (subst (λ n. c.loop-i.i < n) c.requires.rows c.loop-i-test.true) c.well_formed.1.1.0.1
+
+pub bounds-row_1-i-in-loop-i : goal.bounds-row_1-i-in-loop-i
+bounds-row_1-i-in-loop-i g c = subst (λ n. c.loop-i.i < n) (sym c.loop-i.auto.row_1) c.loop-i-test.true
+
+pub bounds-row_2-i-in-loop-i : goal.bounds-row_2-i-in-loop-i
+bounds-row_2-i-in-loop-i g c = subst (λ n. c.loop-i.i < n) (c.requires.rows ∙ sym c.loop-i.auto.row_2) c.loop-i-test.true

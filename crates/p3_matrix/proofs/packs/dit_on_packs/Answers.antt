@@ -1,31 +1,11 @@
-use Rattle.std.proofs.Common.{◌≡◌, ◌+◌, ◌-◌, ◌≤◌, length, map, take, drop, refl, sym, ap, ap₂, ◌∙◌, arith}
+use Rattle.std.proofs.Common.{◌≡◌, ◌+◌, ◌-◌, ◌≤◌, length, map, take, drop, refl, sym, ap, ap₂, ◌∙◌, arith, ◌<◌, subst, add-zero, lt_of_le_of_lt}
 use Rattle.std.proofs.lemmas.List.{length-map, take-map, drop-map}
 use Rattle.p3_field.specs.Lanes.{by_lanes}
 use Rattle.p3_field.specs.Ring.{minus}
 use Rattle.p3_matrix.proofs.Lanes.{length-by_lanes, take-by_lanes, drop-by_lanes}
-use Rattle.p3_matrix.proofs.RowsByPacks.{next_pack, pack_done, pack_fits, rows_done_all}
+use Rattle.p3_matrix.proofs.RowsByPacks.{next_pack, pack_done, pack_fits, rows_done_all, packs_left, pack_ends, packs_smaller, pack_sizes, more_counted}
+use borrow.Author.Rules.{scaled_Fits}
 use Rattle.p3_matrix.proofs.packs.dit_on_packs.Goals as goal
-
-pub overflow_add-at : goal.overflow_add-at
-overflow_add-at g c = omega (arith, (pack_fits c.loop-at.at c.loop-at.invariant.left.0 c.WIDTH-width.result (length c.args.row_1.now) (omega (arith, c.loop-at-test.true, c.loop-at.auto.row_1)) c.loop-at.invariant.left.1).1)
-
-pub overflow_add-at-in-loop-at : goal.overflow_add-at-in-loop-at
-overflow_add-at-in-loop-at g c = omega (arith, (pack_fits c.loop-at.at c.loop-at.invariant.left.0 c.WIDTH-width.result (length c.args.row_1.now) (omega (arith, c.loop-at-test.true, c.loop-at.auto.row_1)) c.loop-at.invariant.left.1).1)
-
-pub overflow_add-at-in-loop-at-2 : goal.overflow_add-at-in-loop-at-2
-overflow_add-at-in-loop-at-2 g c = omega (arith, (pack_fits c.loop-at.at c.loop-at.invariant.left.0 c.WIDTH-width.result (length c.args.row_1.now) (omega (arith, c.loop-at-test.true, c.loop-at.auto.row_1)) c.loop-at.invariant.left.1).1)
-
-pub overflow_add-at-in-loop-at-3 : goal.overflow_add-at-in-loop-at-3
-overflow_add-at-in-loop-at-3 g c = omega (arith, (pack_fits c.loop-at.at c.loop-at.invariant.left.0 c.WIDTH-width.result (length c.args.row_1.now) (omega (arith, c.loop-at-test.true, c.loop-at.auto.row_1)) c.loop-at.invariant.left.1).1)
-
-pub slice_bounds-dit_on_pack-end : goal.slice_bounds-dit_on_pack-end
-slice_bounds-dit_on_pack-end g c = omega (arith, (pack_fits c.loop-at.at c.loop-at.invariant.left.0 c.WIDTH-width.result (length c.args.row_1.now) (omega (arith, c.loop-at-test.true, c.loop-at.auto.row_1)) c.loop-at.invariant.left.1).1, c.requires.twiddles)
-
-pub slice_bounds-dit_on_pack-end-in-loop-at : goal.slice_bounds-dit_on_pack-end-in-loop-at
-slice_bounds-dit_on_pack-end-in-loop-at g c = omega (arith, (pack_fits c.loop-at.at c.loop-at.invariant.left.0 c.WIDTH-width.result (length c.args.row_1.now) (omega (arith, c.loop-at-test.true, c.loop-at.auto.row_1)) c.loop-at.invariant.left.1).1, c.loop-at.auto.row_1)
-
-pub slice_bounds-dit_on_pack-end-in-loop-at-2 : goal.slice_bounds-dit_on_pack-end-in-loop-at-2
-slice_bounds-dit_on_pack-end-in-loop-at-2 g c = omega (arith, (pack_fits c.loop-at.at c.loop-at.invariant.left.0 c.WIDTH-width.result (length c.args.row_1.now) (omega (arith, c.loop-at-test.true, c.loop-at.auto.row_1)) c.loop-at.invariant.left.1).1, c.requires.equal, c.loop-at.auto.row_2)
 
 pub loop-at-preserved : goal.loop-at-preserved
 loop-at-preserved g c =
@@ -38,14 +18,13 @@ loop-at-preserved g c =
     let ys = map v c.args.row_2.now in
     let ts = map v c.args.twiddles.now in
     let ms = by_lanes f.ring.mul ys ts in
-    let fits = pack_fits l.at l.invariant.left.0 w (length c.args.row_1.now) (omega (arith, c.loop-at-test.true, l.auto.row_1)) l.invariant.left.1 in
-    let here : l.at + w ≡ l.at + k = omega arith in
-    let within : l.at + k ≤ length xs = omega (arith, length-map c.args.row_1.now v, fits.1) in
+    let fits = pack_fits l.at l.invariant.left.0 w (length c.args.row_1.now) (subst (λ n. l.at < n) l.auto.row_1 c.loop-at-test.true) l.invariant.left.1 in
+    let sizes = pack_sizes l.at w (length c.args.row_1.now) (length xs) (pack_ends l.at l.invariant.left.0 w _ (length c.args.row_1.now) c.loop-at-test.true l.auto.row_1 l.invariant.left.1) (length-map c.args.row_1.now v) in
     let equal : length xs ≡ length ys = length-map c.args.row_1.now v ∙ c.requires.equal ∙ sym (length-map c.args.row_2.now v) in
     let turned : length ys ≡ length ts = sym equal ∙ length-map c.args.row_1.now v ∙ c.requires.twiddles ∙ sym (length-map c.args.twiddles.now v) in
     let long : length xs ≡ length ms = equal ∙ sym (length-by_lanes f.ring.mul ys ts turned) in
-    let part_1 = next_pack f.ring.add v l.at xs ms xs l.row_1 k (omega arith) long l.invariant.near in
-    let part_2 = next_pack (minus f.ring) v l.at xs ms ys l.row_2 k (omega arith) long l.invariant.far in
+    let part_1 = next_pack f.ring.add v l.at xs ms xs l.row_1 k sizes.0 long l.invariant.near in
+    let part_2 = next_pack (minus f.ring) v l.at xs ms ys l.row_2 k sizes.0 long l.invariant.far in
     let part_t : map v (take k (drop l.at c.args.twiddles.now)) ≡ take k (drop l.at ts) = sym (take-map v k (drop l.at c.args.twiddles.now)) ∙ ap (take k) (sym (drop-map v l.at c.args.twiddles.now)) in
     let part_m : by_lanes f.ring.mul (take k (drop l.at ys)) (take k (drop l.at ts)) ≡ take k (drop l.at ms) =
     sym (ap (take k) (drop-by_lanes f.ring.mul l.at ys ts turned) ∙ take-by_lanes f.ring.mul k (drop l.at ys) (drop l.at ts)) in
@@ -53,9 +32,9 @@ loop-at-preserved g c =
     record {
       width = l.invariant.width;
       left = fits;
-      near = pack_done f.ring.add v l.at xs ms xs l.row_1 k (l.at + w) c.dit_on_pack.new.part_1 within long here l.invariant.near (c.dit_on_pack.ensures.near ∙ ap₂ (by_lanes f.ring.add) part_1 multiples);
-      far = pack_done (minus f.ring) v l.at xs ms ys l.row_2 k (l.at + w) c.dit_on_pack.new.part_2 within long here l.invariant.far (c.dit_on_pack.ensures.far ∙ ap₂ (by_lanes (minus f.ring)) part_1 multiples);
-      count = omega (arith, c.dit_on_pack.ensures.count, l.invariant.count, c.WIDTH-width.ensures);
+      near = pack_done f.ring.add v l.at xs ms xs l.row_1 k (l.at + w) c.dit_on_pack.new.part_1 sizes.1.0 long sizes.1.1 l.invariant.near (c.dit_on_pack.ensures.near ∙ ap₂ (by_lanes f.ring.add) part_1 multiples);
+      far = pack_done (minus f.ring) v l.at xs ms ys l.row_2 k (l.at + w) c.dit_on_pack.new.part_2 sizes.1.0 long sizes.1.1 l.invariant.far (c.dit_on_pack.ensures.far ∙ ap₂ (by_lanes (minus f.ring)) part_1 multiples);
+      count = more_counted _ _ _ _ _ _ l.invariant.count c.dit_on_pack.ensures.count c.WIDTH-width.ensures;
     }
 
 pub returns-clause-near : goal.returns-clause-near
@@ -87,3 +66,36 @@ returns-clause-far g c =
     l.invariant.far
     ∙ rows_done_all (minus f.ring) l.at xs (by_lanes f.ring.mul ys ts) ys (omega (arith, c.loop-at-test.false, l.auto.row_1, l.invariant.left.1, wide))
     (equal ∙ sym (length-by_lanes f.ring.mul ys ts turned)) equal
+
+pub loop-at-init : goal.loop-at-init
+loop-at-init g c = record { width = c.WIDTH-width.ensures; left = (c.requires.whole.0, packs_left _ _ _ _ c.WIDTH-width.ensures c.requires.whole.1); near = refl; far = refl; count = sym (add-zero _) }
+
+pub loop-at-smaller : goal.loop-at-smaller
+loop-at-smaller g c = packs_smaller _ _ _ _ _ c.loop-at-test.true c.loop-at.auto.row_1 c.WIDTH-width.ensures c.requires.wide
+
+pub offset_bounds-row_1-at : goal.offset_bounds-row_1-at
+offset_bounds-row_1-at g c = scaled_Fits _ _ _ (subst (λ n. c.loop-at.at < n) c.loop-at.auto.row_1 c.loop-at-test.true) c.well_formed.1.0.1
+
+pub offset_bounds-row_2-at : goal.offset_bounds-row_2-at
+offset_bounds-row_2-at g c = scaled_Fits _ _ _ (subst (λ n. c.loop-at.at < n) (c.loop-at.auto.row_1 ∙ c.requires.equal) c.loop-at-test.true) c.well_formed.1.1.0.1
+
+pub overflow_add-at : goal.overflow_add-at
+overflow_add-at g c = record { fits = lt_of_le_of_lt (pack_ends c.loop-at.at c.loop-at.invariant.left.0 c.WIDTH-width.result _ (length c.args.row_1.now) c.loop-at-test.true c.loop-at.auto.row_1 c.loop-at.invariant.left.1) c.well_formed.1.0.0 }
+
+pub overflow_add-at-in-loop-at : goal.overflow_add-at-in-loop-at
+overflow_add-at-in-loop-at g c = record { fits = lt_of_le_of_lt (pack_ends c.loop-at.at c.loop-at.invariant.left.0 c.WIDTH-width.result _ (length c.args.row_1.now) c.loop-at-test.true c.loop-at.auto.row_1 c.loop-at.invariant.left.1) c.well_formed.1.0.0 }
+
+pub overflow_add-at-in-loop-at-2 : goal.overflow_add-at-in-loop-at-2
+overflow_add-at-in-loop-at-2 g c = record { fits = lt_of_le_of_lt (pack_ends c.loop-at.at c.loop-at.invariant.left.0 c.WIDTH-width.result _ (length c.args.row_1.now) c.loop-at-test.true c.loop-at.auto.row_1 c.loop-at.invariant.left.1) c.well_formed.1.0.0 }
+
+pub overflow_add-at-in-loop-at-3 : goal.overflow_add-at-in-loop-at-3
+overflow_add-at-in-loop-at-3 g c = record { fits = lt_of_le_of_lt (pack_ends c.loop-at.at c.loop-at.invariant.left.0 c.WIDTH-width.result _ (length c.args.row_1.now) c.loop-at-test.true c.loop-at.auto.row_1 c.loop-at.invariant.left.1) c.well_formed.1.0.0 }
+
+pub slice_bounds-dit_on_pack-end : goal.slice_bounds-dit_on_pack-end
+slice_bounds-dit_on_pack-end g c = subst (λ n. c.loop-at.at + c.WIDTH-width.result ≤ n) c.requires.twiddles (pack_ends c.loop-at.at c.loop-at.invariant.left.0 c.WIDTH-width.result _ (length c.args.row_1.now) c.loop-at-test.true c.loop-at.auto.row_1 c.loop-at.invariant.left.1)
+
+pub slice_bounds-dit_on_pack-end-in-loop-at : goal.slice_bounds-dit_on_pack-end-in-loop-at
+slice_bounds-dit_on_pack-end-in-loop-at g c = subst (λ n. c.loop-at.at + c.WIDTH-width.result ≤ n) (sym c.loop-at.auto.row_1) (pack_ends c.loop-at.at c.loop-at.invariant.left.0 c.WIDTH-width.result _ (length c.args.row_1.now) c.loop-at-test.true c.loop-at.auto.row_1 c.loop-at.invariant.left.1)
+
+pub slice_bounds-dit_on_pack-end-in-loop-at-2 : goal.slice_bounds-dit_on_pack-end-in-loop-at-2
+slice_bounds-dit_on_pack-end-in-loop-at-2 g c = subst (λ n. c.loop-at.at + c.WIDTH-width.result ≤ n) (c.requires.equal ∙ sym c.loop-at.auto.row_2) (pack_ends c.loop-at.at c.loop-at.invariant.left.0 c.WIDTH-width.result _ (length c.args.row_1.now) c.loop-at-test.true c.loop-at.auto.row_1 c.loop-at.invariant.left.1)

@@ -1,5 +1,7 @@
-use Rattle.std.proofs.Common.{◌∙◌, ap}
+use Rattle.std.proofs.Common.{◌∙◌, ap, sym}
 use Rattle.p3_field.proofs.Powers.{halved-more, power-zero}
+use Rattle.p3_field.proofs.PowerLists.{at_end}
+use Rattle.p3_field.specs.Ring.{power, two}
 use Rattle.p3_field.proofs.fields.Field.div_2exp_u64.Goals as goal
 
 pub loop-i-init : goal.loop-i-init
@@ -10,3 +12,6 @@ loop-i-init g c =
 
 pub loop-i-preserved : goal.loop-i-preserved
 loop-i-preserved g c = halved-more g.Self.Field.ring _ _ _ c.loop-i._i c.loop-i.invariant c.halve-halved.ensures
+
+pub returns : goal.returns
+returns g c = ap (λ k. g.Self.Field.ring.mul (power g.Self.Field.ring (two g.Self.Field.ring) k) (g.Self.Field.value c.loop-i.halved)) (sym (at_end _ _ c.loop-i.auto._i-end c.loop-i-test.false)) ∙ c.loop-i.invariant

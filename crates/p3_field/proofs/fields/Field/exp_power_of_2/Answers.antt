@@ -1,5 +1,7 @@
-use Rattle.std.proofs.Common.{◌∙◌, sym, ap}
+use Rattle.std.proofs.Common.{◌∙◌, sym, ap, ◌^◌}
 use Rattle.p3_field.proofs.Powers.{power-double, power-suc, power-zero}
+use Rattle.p3_field.proofs.PowerLists.{at_end}
+use Rattle.p3_field.specs.Ring.{power}
 use Rattle.p3_field.proofs.fields.Field.exp_power_of_2.Goals as goal
 
 pub loop-i-init : goal.loop-i-init
@@ -12,3 +14,6 @@ pub loop-i-preserved : goal.loop-i-preserved
 loop-i-preserved g c =
     g.met.Self.Field.mul_law c.loop-i.power_so_far c.loop-i.power_so_far c.mul-power_so_far.result c.mul-power_so_far.ensures
     ∙ power-double g.Self.Field.ring _ _ c.loop-i._i c.loop-i.invariant
+
+pub returns : goal.returns
+returns g c = c.loop-i.invariant ∙ ap (λ k. power g.Self.Field.ring (g.Self.Field.value c.args.self) (2 ^ k)) (at_end _ _ c.loop-i.auto._i-end c.loop-i-test.false)

@@ -1,10 +1,13 @@
-use Rattle.std.proofs.Common.{rules, sym, ◌∙◌, arith}
+use Rattle.std.proofs.Common.{rules, sym, ◌∙◌, refl}
+use Rattle.p3_field.proofs.PowerLists.{at_end}
+use Rattle.std.proofs.lemmas.List.{length-set}
 use Rattle.p3_field.proofs.LaneLoops.{more_pairs, all_written, pairs, length-pairs}
+use borrow.Author.Rules.{scaled_Fits}
 use Rattle.p3_field.proofs.lanes.LanesPackedField.add.Goals as goal
 
 pub loop-i-preserved : goal.loop-i-preserved
 loop-i-preserved g c = record {
-  long = search rules;
+  long = length-set c.loop-i.lanes c.loop-i.i _ ∙ c.loop-i.invariant.long;
   lanes =
       more_pairs g.F.Field.value g.F.Field.ring.add c.args.self.lanes c.args.other.lanes (c.args.other.long ∙ sym c.args.self.long) c.loop-i.lanes c.loop-i.i c.add.result _ _ g.row.N
       (sym c.args.self.long) c.loop-i-test.true c.loop-i.invariant.long c.loop-i.invariant.lanes (g.met.F.Field.add_law _ _ _ c.add.ensures);
@@ -14,4 +17,13 @@ pub returns : goal.returns
 returns g c =
     all_written g.F.Field.value c.args.self.lanes (pairs g.F.Field.value g.F.Field.ring.add c.args.self.lanes c.args.other.lanes (c.args.other.long ∙ sym c.args.self.long))
     (length-pairs g.F.Field.value g.F.Field.ring.add c.args.self.lanes c.args.other.lanes (c.args.other.long ∙ sym c.args.self.long)) c.loop-i.lanes c.loop-i.i
-    (omega (arith, c.loop-i-test.false, c.loop-i.auto.i-end, c.args.self.long)) c.loop-i.invariant.lanes
+    (at_end c.loop-i.i _ c.loop-i.auto.i-end c.loop-i-test.false ∙ sym c.args.self.long) c.loop-i.invariant.lanes
+
+pub loop-i-init : goal.loop-i-init
+loop-i-init g c = record { long = c.args.self.long; lanes = refl }
+
+pub offset_bounds-lanes-i : goal.offset_bounds-lanes-i
+offset_bounds-lanes-i g c = scaled_Fits _ g.row.N _ c.loop-i-test.true (search rules)
+
+pub offset_bounds-lanes-i-in-loop-i : goal.offset_bounds-lanes-i-in-loop-i
+offset_bounds-lanes-i-in-loop-i g c = scaled_Fits _ g.row.N _ c.loop-i-test.true (search rules)

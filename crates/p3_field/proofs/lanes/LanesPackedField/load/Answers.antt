@@ -1,6 +1,9 @@
-use Rattle.std.proofs.Common.{rules, ap, sym, ◌∙◌, arith, map, replicate}
-use Rattle.std.proofs.lemmas.List.{length-map, length-replicate, get_or-map}
+use Rattle.std.proofs.Common.{rules, ap, sym, ◌∙◌, map, replicate, refl}
+use Rattle.p3_field.proofs.ResidueLanes.{inside}
+use Rattle.p3_field.proofs.PowerLists.{at_end}
+use Rattle.std.proofs.lemmas.List.{length-map, length-replicate, get_or-map, length-set}
 use Rattle.p3_field.proofs.LaneLoops.{written, all_written}
+use borrow.Author.Rules.{scaled_Fits}
 use Rattle.p3_field.proofs.lanes.LanesPackedField.load.Goals as goal
 
 pub loop-i-preserved : goal.loop-i-preserved
@@ -9,11 +12,11 @@ loop-i-preserved g c =
     let start = replicate g.row.N c.ZERO-lanes.result in
     let wide = length-replicate g.row.N c.ZERO-lanes.result in
     record {
-      long = search rules;
+      long = length-set c.loop-i.lanes c.loop-i.i _ ∙ c.loop-i.invariant.long;
       lanes =
           written value start (map value c.args.from.now) (length-map c.args.from.now value ∙ c.requires ∙ sym wide) c.loop-i.lanes c.loop-i.i c.index-from-i.result (value c.index-from-i.result)
-          (omega (arith, c.loop-i-test.true, wide)) c.loop-i.invariant.lanes
-          (ap value c.index-from-i.is ∙ sym (get_or-map value c.args.from.now c.loop-i.i c.index-from-i.result (value c.index-from-i.result) (omega (arith, c.loop-i-test.true, c.requires))));
+          (inside start c.loop-i.i _ wide c.loop-i-test.true) c.loop-i.invariant.lanes
+          (ap value c.index-from-i.is ∙ sym (get_or-map value c.args.from.now c.loop-i.i c.index-from-i.result (value c.index-from-i.result) (inside c.args.from.now c.loop-i.i _ c.requires c.loop-i-test.true)));
     }
 
 pub returns : goal.returns
@@ -21,4 +24,10 @@ returns g c =
     let value = g.F.Field.value in
     let wide = length-replicate g.row.N c.ZERO-lanes.result in
     all_written value (replicate g.row.N c.ZERO-lanes.result) (map value c.args.from.now) (length-map c.args.from.now value ∙ c.requires ∙ sym wide) c.loop-i.lanes c.loop-i.i
-    (omega (arith, c.loop-i-test.false, c.loop-i.auto.i-end, wide)) c.loop-i.invariant.lanes
+    (at_end c.loop-i.i _ c.loop-i.auto.i-end c.loop-i-test.false ∙ sym wide) c.loop-i.invariant.lanes
+
+pub loop-i-init : goal.loop-i-init
+loop-i-init g c = record { long = length-replicate g.row.N _; lanes = refl }
+
+pub offset_bounds-lanes-i : goal.offset_bounds-lanes-i
+offset_bounds-lanes-i g c = scaled_Fits _ g.row.N _ c.loop-i-test.true (search rules)

@@ -1,19 +1,22 @@
-use Rattle.std.proofs.Common.{rules, arith}
-use Rattle.p3_field.proofs.PowerLists.{first_power, next_power, next_pushed}
+use Rattle.std.proofs.Common.{arith, ◌∙◌, lt_of_lt_of_le, ap, sym, ◌+◌, subst, ◌≤◌}
+use Rattle.p3_field.proofs.PowerLists.{first_power, next_power, next_pushed, at_end}
 use Rattle.p3_field.proofs.power_iterator.Powers.collect_n.Goals as goal
 
 pub loop-i-init : goal.loop-i-init
 loop-i-init g c = record {
-  long = search rules;
-  room = search rules;
+  long = c.in_ok-powers.ensures.len;
+  room = c.in_ok-powers.ensures.capacity;
   next = first_power g.F.Field.ring _ _;
   filled = λ j below. absurd (omega (arith, below));
 }
 
 pub loop-i-preserved : goal.loop-i-preserved
 loop-i-preserved g c = record {
-  long = search rules;
-  room = search rules;
+  long = c.push_reserved.ensures.len ∙ ap (λ k. k + 1) c.loop-i.invariant.long;
+  room = subst (λ k. c.args.n ≤ k) (sym c.push_reserved.ensures.capacity) c.loop-i.invariant.room;
   next = next_power g.F.Field.ring _ _ _ _ c.loop-i._i c.loop-i.invariant.next (g.met.F.Field.mul_assign_law _ _ _ c.mul_assign.ensures.after);
-  filled = next_pushed g.F.Field.value g.F.Field.ZERO _ c.loop-i.powers.items _ c.loop-i._i c.loop-i.current c.push_reserved.ensures.items (search rules) c.loop-i.invariant.filled c.loop-i.invariant.next;
+  filled = next_pushed g.F.Field.value g.F.Field.ZERO _ c.loop-i.powers.items _ c.loop-i._i c.loop-i.current c.push_reserved.ensures.items (sym c.loop-i.powers.ok.0 ∙ c.loop-i.invariant.long) c.loop-i.invariant.filled c.loop-i.invariant.next;
 }
+
+pub returns : goal.returns
+returns g c = record { long = c.loop-i.invariant.long ∙ at_end _ _ c.loop-i.auto._i-end c.loop-i-test.false; powers = λ i below. c.loop-i.invariant.filled i (lt_of_lt_of_le below c.loop-i-test.false) }

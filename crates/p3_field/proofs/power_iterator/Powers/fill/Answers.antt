@@ -1,6 +1,7 @@
-use Rattle.std.proofs.Common.{rules, arith}
+use Rattle.std.proofs.Common.{rules, arith, length, lt_of_lt_of_le}
 use Rattle.p3_field.proofs.LaneLoops.{next_written}
 use Rattle.p3_field.proofs.PowerLists.{first_power, next_power}
+use borrow.Author.Rules.{scaled_Fits}
 use Rattle.p3_field.proofs.power_iterator.Powers.fill.Goals as goal
 
 pub loop-i-init : goal.loop-i-init
@@ -14,3 +15,9 @@ loop-i-preserved g c = record {
   next = next_power g.F.Field.ring _ _ _ _ c.loop-i.i c.loop-i.invariant.next (g.met.F.Field.mul_assign_law _ _ _ c.mul_assign.ensures.after);
   filled = next_written g.F.Field.value g.F.Field.ZERO _ c.loop-i.to c.loop-i.i c.loop-i.current (search rules) c.loop-i.invariant.filled c.loop-i.invariant.next;
 }
+
+pub offset_bounds-to-i : goal.offset_bounds-to-i
+offset_bounds-to-i g c = scaled_Fits _ (length c.args.to.now) _ c.loop-i-test.true (search rules)
+
+pub returns : goal.returns
+returns g c = record { long = c.loop-i.auto.to; powers = λ i below. c.loop-i.invariant.filled i (lt_of_lt_of_le below c.loop-i-test.false) }

@@ -1,6 +1,6 @@
-use Rattle.std.proofs.Common.{◌≡◌, ◌+◌, ◌*◌, ◌++◌, length, sym, ap, ap₂, ◌∙◌, arith}
+use Rattle.std.proofs.Common.{◌*◌, ◌++◌, length, sym, ap, ap₂, ◌∙◌, arith}
 use Rattle.std.proofs.lemmas.List.{take-append-drop}
-use Rattle.p3_matrix.proofs.RowsByPacks.{rows_in_parts}
+use Rattle.p3_matrix.proofs.RowsByPacks.{rows_in_parts, products_in_parts}
 use Rattle.p3_matrix.proofs.butterflies.Butterfly.apply_to_rows_oop.Goals as goal
 
 pub apply_to_packs_oop-requires-2-clause-whole : goal.apply_to_packs_oop-requires-2-clause-whole
@@ -34,7 +34,6 @@ returns-clause-far g c =
 
 pub returns-clause-count : goal.returns-clause-count
 returns-clause-count g c =
-    let cost = g.Self.Butterfly.cost in
     let one = c.split_at in
-    let whole : length one.result.0.now + length one.result.1.now ≡ length c.args.src_1.now = omega (arith, one.ensures.front_len, one.ensures.back_len) in
-    omega (arith, c.apply_to_packs_oop.ensures.count, c.apply_to_packs_oop-2.ensures.count, ap (λ m. cost * m) whole)
+    let whole = sym (ap₂ ◌++◌ one.ensures.front one.ensures.back ∙ take-append-drop c.full_packs-full.result c.args.src_1.now) in
+    products_in_parts _ _ _ g.Self.Butterfly.cost c.args.src_1.now one.result.0.now one.result.1.now whole c.apply_to_packs_oop.ensures.count c.apply_to_packs_oop-2.ensures.count

@@ -1,0 +1,6 @@
+use Rattle.std.proofs.Common.{sym, subst}
+use Rattle.p3_field.specs.Ring.{IsInvertible}
+use Rattle.p3_field.proofs.fields.Field.invertible_generator.Goals as goal
+
+pub returns : goal.returns
+returns g c = record { same = c.GENERATOR.ensures; invertible = subst (λ x. IsInvertible g.Self.Field.ring (g.Self.Field.value x)) (sym c.GENERATOR.ensures) g.met.Self.Field.generator_law }
