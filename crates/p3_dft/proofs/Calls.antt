@@ -6,8 +6,10 @@ pub mod EngineSteps
 pub mod ExtendedTransforms
 pub mod Inverses
 pub mod JobLists
+pub mod JobRuns
 pub mod PreparedCosets
 pub mod PreparedHeights
 pub mod PublishedExtensions
+pub mod SameInputs
 pub mod Shapes
 pub mod Transforms

@@ -1,6 +1,8 @@
 -- An engine after one call and then another.
-use Rattle.std.proofs.Common.{ℕ, ◌≡◌, ◌+◌, ◌*◌, ◌^◌, ◌≤◌, Result, Ok, Err, IsOk, IsErr, ap, ap₂, ◌∙◌, add-one, arith, rules}
+use Rattle.std.proofs.Common.{ℕ, ◌≡◌, ◌+◌, ◌*◌, ◌^◌, ◌≤◌, Result, Ok, Err, IsOk, IsErr, refl, ap, ap₂, ◌∙◌, add-one, arith, rules}
 use Rattle.std.proofs.Math.Nat.{le_refl, suc-mul}
+use Rattle.std.specs.Result.{IfOk, OnOk}
+use Rattle.std.proofs.lemmas.Result.{IfOk-from_err}
 use Rattle.p3_matrix.specs.RowMajor.{HasShapeOf, RowMajor, height}
 use Rattle.p3_dft.specs.Engines.{AfterDft, EngineFacts, HasProductsMore, IsAfter, IsLater}
 
@@ -8,6 +10,25 @@ use Rattle.p3_dft.specs.Engines.{AfterDft, EngineFacts, HasProductsMore, IsAfter
 pub no_answer : {A X : Type 0} (r : Result A X) → IsErr r → IsOk r → ⊥
 no_answer (Ok x) err ok = search rules
 no_answer (Err x) err ok = search rules
+
+-- what holds where there is an answer
+pub where_ok : {A X P : Type 0} (r : Result A X) → (IsOk r → P) → OnOk r P
+where_ok (Ok x) given = given refl
+where_ok (Err x) given = tt
+
+-- a bound on products may be larger
+pub more_allowed : (made bound more : ℕ) → made ≤ bound → made ≤ bound + more
+more_allowed made bound more within = omega arith
+
+pub larger_bound : (made before bound larger : ℕ) → made ≤ before + bound → bound ≤ larger → made ≤ before + larger
+larger_bound made before bound larger within more = omega (arith, within, more)
+
+pub none_more : (made before bound : ℕ) → made ≡ before → made ≤ before + bound
+none_more made before bound same = omega (arith, same)
+
+-- and nothing is said of the answer
+pub none_given : {A X : Type 0} (r : Result A X) (P : A → Type 0) → IsErr r → IfOk r P
+none_given r P err = IfOk-from_err r P err
 
 module _ {E F : Type 0} (facts : EngineFacts E F) where
   pub later_same : (e : E) → IsLater facts e e
@@ -47,6 +68,10 @@ module _ {E F : Type 0} (facts : EngineFacts E F) where
   -- where less is answered
   pub where_answered : {h : ℕ} {known : ℕ → Type 0} {p : ℕ → ℕ} (a b : E) (answered now : Type 0) → (now → answered) → IsAfter facts a b answered h known p → IsAfter facts a b now h known p
   where_answered a b answered now there call = record { later = call.later; ready = λ yes. call.ready (there yes); cost = call.cost }
+
+  -- memory was refused after a call, whose bound is that of the whole
+  pub after_refusal : {A X : Type 0} {h : ℕ} {known : ℕ → Type 0} {p : ℕ → ℕ} (a b : E) (answered : Type 0) (r : Result A X) → IsErr r → IsAfter facts a b answered h known p → IsAfter facts a b (IsOk r) h known p
+  after_refusal a b answered r none call = where_answered a b answered (IsOk r) (λ ok. absurd (no_answer r none ok)) call
 
   -- products, at most one an entry, and then a transform of a matrix of the same shape
   pub transform_after : {T S : Type 0} (m : RowMajor T) (n : RowMajor S) (a b c : E) (answered : Type 0) (products : ℕ) → HasShapeOf n m → products ≤ height m * m.width

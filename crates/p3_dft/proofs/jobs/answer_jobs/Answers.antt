@@ -1,4 +1,4 @@
-use Rattle.std.proofs.Common.{refl, ◌≡◌, ◌++◌, List, [], ◌∷◌, subst, sym, ◌∙◌, arith, rules, inr}
+use Rattle.std.proofs.Common.{refl, ◌≡◌, ◌++◌, List, [], ◌∷◌, subst, sym, ◌∙◌, arith, rules, inr, inl}
 use Rattle.std.proofs.lemmas.List.{nil_from_length}
 use Rattle.std.proofs.lemmas.List.Elements.{All-nil, All-push, All-rest, All-weaker}
 use Rattle.std.proofs.lemmas.Slice.Zip.{all_zipped_more}
@@ -6,13 +6,27 @@ use Rattle.std.specs.List.{All, AllZip}
 use Rattle.std.specs.Vec.Iter.{into_iter_items}
 use Rattle.p3_matrix.specs.RowMajor.{RowMajor}
 use Rattle.p3_dft.specs.Jobs.{AreFirstAnswers, CanRun, IsAnswer, IsReadyFor}
-use Rattle.p3_dft.proofs.Calls.EngineSteps.{later_same, later_still}
+use Rattle.p3_dft.proofs.Calls.EngineSteps.{later_same, later_still, none_given}
 use Rattle.p3_dft.proofs.Calls.JobLists.{costs_more, costs_none, costs_rest, first_answers, next_not_promised, next_of_all, of_all, on_any_error, ready_later, split_more}
 use Rattle.p3_dft.proofs.jobs.answer_jobs.Goals as goal
 
 pub run_job-requires : goal.run_job-requires
 run_job-requires g c =
     record { runnable = next_of_all (CanRun g.F.Field g.F.TwoAdicField.TWO_ADICITY) c.in-Some.job _ _ c.in-Some.ensures.steps.0 c.loop-job.invariant.runnable }
+
+pub loop-job-init : goal.loop-job-init
+loop-job-init g c =
+    let given : into_iter_items c.into_iter-job-iterator.result ≡ c.args.jobs.items = c.into_iter-job-iterator.ensures.into_iter_gives.0 in
+    let none : c.reserve_exact.new.self.items ≡ [] = c.in_ok-reserve_exact.ensures.items ∙ c.requires.empty in
+    record {
+      split = sym given;
+      answered = subst (λ (ys : List (RowMajor g.row.F.Denot)). AllZip (IsAnswer g.F.Field g.F.TwoAdicField.generator) [] ys) (sym none) (search rules);
+      runnable = subst (λ xs. All (CanRun g.F.Field g.F.TwoAdicField.TWO_ADICITY) xs) (sym given) c.requires.runnable;
+      room = grind (arith, c.in_ok-reserve_exact.ensures.capacity, c.len.ensures);
+      served = All-nil (IsReadyFor g.D.TwoAdicSubgroupDft.facts c.args.engine.now);
+      cost = costs_none g.D.TwoAdicSubgroupDft.facts [] _ refl;
+      later = later_same g.D.TwoAdicSubgroupDft.facts _;
+    }
 
 pub loop-job-preserved : goal.loop-job-preserved
 loop-job-preserved g c =
@@ -35,84 +49,49 @@ loop-job-preserved g c =
       later = later_still facts _ _ _ so_far.later c.in_ok-answer.ensures.later;
     }
 
-pub returns-in_err-answer-clause-first : goal.returns-in_err-answer-clause-first
-returns-in_err-answer-clause-first g c =
-    on_any_error c.from_residual-in_err-answer.result
-    (first_answers g.F.Field g.F.TwoAdicField.generator c.args.jobs.items c.loop-job.yielded _ _ c.in-Some.job c.loop-job.answers.items c.loop-job.invariant.split
-    c.in-Some.ensures.steps.0 c.loop-job.invariant.answered)
-
-pub returns-in_err-push-clause-first : goal.returns-in_err-push-clause-first
-returns-in_err-push-clause-first g c =
-    on_any_error c.from_residual-in_err-push.result
-    (subst (λ (ys : List (RowMajor g.row.F.Denot)). AreFirstAnswers g.F.Field g.F.TwoAdicField.generator c.args.jobs.items ys) (sym c.in_err-push.ensures.items)
-    (first_answers g.F.Field g.F.TwoAdicField.generator c.args.jobs.items c.loop-job.yielded _ _ c.in-Some.job c.loop-job.answers.items c.loop-job.invariant.split
-    c.in-Some.ensures.steps.0 c.loop-job.invariant.answered))
-
-pub returns-in_err-answer-clause-refused : goal.returns-in_err-answer-clause-refused
-returns-in_err-answer-clause-refused g c =
-    on_any_error c.from_residual-in_err-answer.result
-    (inr (next_not_promised g.F.Field g.F.TwoAdicField.generator g.D.TwoAdicSubgroupDft.facts c.args.jobs.items c.loop-job.yielded _ _ c.in-Some.job c.loop-job.answers.items
-    c.args.engine.now c.loop-job.engine c.loop-job.invariant.split
-    c.in-Some.ensures.steps.0 c.loop-job.invariant.answered c.loop-job.invariant.later (λ promised. let answered = c.in_err-answer.ensures.succeeds promised in absurd (search rules))))
-
--- there is room for the answer to each job
-pub returns-in_err-push-clause-refused : goal.returns-in_err-push-clause-refused
-returns-in_err-push-clause-refused g c =
-    let first = first_answers g.F.Field g.F.TwoAdicField.generator c.args.jobs.items c.loop-job.yielded _ _ c.in-Some.job c.loop-job.answers.items c.loop-job.invariant.split
-    c.in-Some.ensures.steps.0 c.loop-job.invariant.answered in
-    absurd (omega (arith, first.fewer, c.loop-job.invariant.room, c.in_err-push.ensures.full, c.loop-job.answers.ok.0, c.args.jobs.ok.0))
-
-pub loop-job-init : goal.loop-job-init
-loop-job-init g c =
-    let given : into_iter_items c.into_iter-job-iterator.result ≡ c.args.jobs.items = c.into_iter-job-iterator.ensures.into_iter_gives.0 in
-    let none : c.reserve_exact.new.self.items ≡ [] = c.in_ok-reserve_exact.ensures.items ∙ c.requires.empty in
+pub returns-in_err-reserve_exact : goal.returns-in_err-reserve_exact
+returns-in_err-reserve_exact g c =
+    let err = c.from_residual.ensures.0 in
     record {
-      split = sym given;
-      answered = subst (λ (ys : List (RowMajor g.row.F.Denot)). AllZip (IsAnswer g.F.Field g.F.TwoAdicField.generator) [] ys) (sym none) (search rules);
-      runnable = subst (λ xs. All (CanRun g.F.Field g.F.TwoAdicField.TWO_ADICITY) xs) (sym given) c.requires.runnable;
-      room = grind (arith, c.in_ok-reserve_exact.ensures.capacity, c.len.ensures);
-      served = All-nil (IsReadyFor g.D.TwoAdicSubgroupDft.facts c.args.engine.now);
-      cost = costs_none g.D.TwoAdicSubgroupDft.facts [] _ refl;
-      later = later_same g.D.TwoAdicSubgroupDft.facts _;
+      all = none_given _ _ err;
+      serves = none_given _ _ err;
+      cost = costs_rest g.D.TwoAdicSubgroupDft.facts g.F.Field g.F.TwoAdicField.TWO_ADICITY c.args.jobs.items [] c.args.jobs.items _ _ refl c.requires.runnable (costs_none g.D.TwoAdicSubgroupDft.facts [] _ refl);
+      first = search rules;
+      refused = on_any_error _ (inl (refl, c.in_err-reserve_exact.ensures.items ∙ c.requires.empty));
+      later = later_same _ _;
     }
 
-pub returns-clause-all : goal.returns-clause-all
-returns-clause-all g c =
-    let left = into_iter_items c.loop-job.job-iterator in
-    let none : left ≡ [] = nil_from_length left (sym c.loop-job.job-iterator.rest.ok.0 ∙ c.in-None.ensures.steps.0) in
-    of_all (λ xs. AllZip (IsAnswer g.F.Field g.F.TwoAdicField.generator) xs c.loop-job.answers.items) _ c.loop-job.yielded left c.loop-job.invariant.split none c.loop-job.invariant.answered
+pub returns-in_err-answer : goal.returns-in_err-answer
+returns-in_err-answer g c =
+    let err = c.from_residual-in_err-answer.ensures.0 in
+    record {
+      all = none_given _ _ err;
+      serves = none_given _ _ err;
+      cost = let so_far = c.loop-job.invariant in let next = c.in-Some.ensures.steps.0 in let facts = g.D.TwoAdicSubgroupDft.facts in let can_run = CanRun g.F.Field g.F.TwoAdicField.TWO_ADICITY in costs_rest facts g.F.Field g.F.TwoAdicField.TWO_ADICITY _ (c.loop-job.yielded ++ c.in-Some.job ∷ []) _ _ _ (split_more _ c.loop-job.yielded _ _ c.in-Some.job so_far.split next) (All-rest can_run c.in-Some.job _ _ next so_far.runnable) (costs_more facts g.F.Field g.F.TwoAdicField.TWO_ADICITY c.loop-job.yielded c.in-Some.job _ _ _ (next_of_all can_run c.in-Some.job _ _ next so_far.runnable) so_far.cost c.run_job.ensures.cost);
+      first = on_any_error c.from_residual-in_err-answer.result (first_answers g.F.Field g.F.TwoAdicField.generator c.args.jobs.items c.loop-job.yielded _ _ c.in-Some.job c.loop-job.answers.items c.loop-job.invariant.split c.in-Some.ensures.steps.0 c.loop-job.invariant.answered);
+      refused = on_any_error c.from_residual-in_err-answer.result (inr (next_not_promised g.F.Field g.F.TwoAdicField.generator g.D.TwoAdicSubgroupDft.facts c.args.jobs.items c.loop-job.yielded _ _ c.in-Some.job c.loop-job.answers.items c.args.engine.now c.loop-job.engine c.loop-job.invariant.split c.in-Some.ensures.steps.0 c.loop-job.invariant.answered c.loop-job.invariant.later (λ promised. let answered = c.in_err-answer.ensures.succeeds promised in absurd (search rules))));
+      later = later_still _ _ _ _ c.loop-job.invariant.later c.run_job.ensures.later;
+    }
 
-pub returns-clause-serves : goal.returns-clause-serves
-returns-clause-serves g c =
-    let left = into_iter_items c.loop-job.job-iterator in
-    let none : left ≡ [] = nil_from_length left (sym c.loop-job.job-iterator.rest.ok.0 ∙ c.in-None.ensures.steps.0) in
-    of_all (λ xs. All (IsReadyFor g.D.TwoAdicSubgroupDft.facts c.loop-job.engine) xs) _ c.loop-job.yielded left c.loop-job.invariant.split none c.loop-job.invariant.served
+pub returns-in_err-push : goal.returns-in_err-push
+returns-in_err-push g c =
+    let err = c.from_residual-in_err-push.ensures.0 in
+    record {
+      all = none_given _ _ err;
+      serves = none_given _ _ err;
+      cost = let so_far = c.loop-job.invariant in let next = c.in-Some.ensures.steps.0 in let facts = g.D.TwoAdicSubgroupDft.facts in let can_run = CanRun g.F.Field g.F.TwoAdicField.TWO_ADICITY in costs_rest facts g.F.Field g.F.TwoAdicField.TWO_ADICITY _ (c.loop-job.yielded ++ c.in-Some.job ∷ []) _ _ _ (split_more _ c.loop-job.yielded _ _ c.in-Some.job so_far.split next) (All-rest can_run c.in-Some.job _ _ next so_far.runnable) (costs_more facts g.F.Field g.F.TwoAdicField.TWO_ADICITY c.loop-job.yielded c.in-Some.job _ _ _ (next_of_all can_run c.in-Some.job _ _ next so_far.runnable) so_far.cost c.run_job.ensures.cost);
+      first = on_any_error c.from_residual-in_err-push.result (subst (λ (ys : List (RowMajor g.row.F.Denot)). AreFirstAnswers g.F.Field g.F.TwoAdicField.generator c.args.jobs.items ys) (sym c.in_err-push.ensures.items) (first_answers g.F.Field g.F.TwoAdicField.generator c.args.jobs.items c.loop-job.yielded _ _ c.in-Some.job c.loop-job.answers.items c.loop-job.invariant.split c.in-Some.ensures.steps.0 c.loop-job.invariant.answered));
+      refused = let first = first_answers g.F.Field g.F.TwoAdicField.generator c.args.jobs.items c.loop-job.yielded _ _ c.in-Some.job c.loop-job.answers.items c.loop-job.invariant.split c.in-Some.ensures.steps.0 c.loop-job.invariant.answered in absurd (omega (arith, first.fewer, c.loop-job.invariant.room, c.in_err-push.ensures.full, c.loop-job.answers.ok.0, c.args.jobs.ok.0));
+      later = later_still _ _ _ _ c.loop-job.invariant.later c.in_ok-answer.ensures.later;
+    }
 
-pub returns-clause-cost : goal.returns-clause-cost
-returns-clause-cost g c =
-    costs_rest g.D.TwoAdicSubgroupDft.facts g.F.Field g.F.TwoAdicField.TWO_ADICITY _ c.loop-job.yielded _ _ _ c.loop-job.invariant.split c.loop-job.invariant.runnable c.loop-job.invariant.cost
-
-pub returns-in_err-reserve_exact-clause-cost : goal.returns-in_err-reserve_exact-clause-cost
-returns-in_err-reserve_exact-clause-cost g c =
-    costs_rest g.D.TwoAdicSubgroupDft.facts g.F.Field g.F.TwoAdicField.TWO_ADICITY c.args.jobs.items [] c.args.jobs.items _ _ refl c.requires.runnable
-    (costs_none g.D.TwoAdicSubgroupDft.facts [] _ refl)
-
-pub returns-in_err-answer-clause-cost : goal.returns-in_err-answer-clause-cost
-returns-in_err-answer-clause-cost g c =
-    let so_far = c.loop-job.invariant in
-    let next = c.in-Some.ensures.steps.0 in
-    let facts = g.D.TwoAdicSubgroupDft.facts in
-    let can_run = CanRun g.F.Field g.F.TwoAdicField.TWO_ADICITY in
-    costs_rest facts g.F.Field g.F.TwoAdicField.TWO_ADICITY _ (c.loop-job.yielded ++ c.in-Some.job ∷ []) _ _ _ (split_more _ c.loop-job.yielded _ _ c.in-Some.job so_far.split next)
-    (All-rest can_run c.in-Some.job _ _ next so_far.runnable)
-    (costs_more facts g.F.Field g.F.TwoAdicField.TWO_ADICITY c.loop-job.yielded c.in-Some.job _ _ _ (next_of_all can_run c.in-Some.job _ _ next so_far.runnable) so_far.cost c.run_job.ensures.cost)
-
-pub returns-in_err-push-clause-cost : goal.returns-in_err-push-clause-cost
-returns-in_err-push-clause-cost g c =
-    let so_far = c.loop-job.invariant in
-    let next = c.in-Some.ensures.steps.0 in
-    let facts = g.D.TwoAdicSubgroupDft.facts in
-    let can_run = CanRun g.F.Field g.F.TwoAdicField.TWO_ADICITY in
-    costs_rest facts g.F.Field g.F.TwoAdicField.TWO_ADICITY _ (c.loop-job.yielded ++ c.in-Some.job ∷ []) _ _ _ (split_more _ c.loop-job.yielded _ _ c.in-Some.job so_far.split next)
-    (All-rest can_run c.in-Some.job _ _ next so_far.runnable)
-    (costs_more facts g.F.Field g.F.TwoAdicField.TWO_ADICITY c.loop-job.yielded c.in-Some.job _ _ _ (next_of_all can_run c.in-Some.job _ _ next so_far.runnable) so_far.cost c.run_job.ensures.cost)
+pub returns : goal.returns
+returns g c =
+    record {
+      all = let left = into_iter_items c.loop-job.job-iterator in let none : left ≡ [] = nil_from_length left (sym c.loop-job.job-iterator.rest.ok.0 ∙ c.in-None.ensures.steps.0) in of_all (λ xs. AllZip (IsAnswer g.F.Field g.F.TwoAdicField.generator) xs c.loop-job.answers.items) _ c.loop-job.yielded left c.loop-job.invariant.split none c.loop-job.invariant.answered;
+      serves = let left = into_iter_items c.loop-job.job-iterator in let none : left ≡ [] = nil_from_length left (sym c.loop-job.job-iterator.rest.ok.0 ∙ c.in-None.ensures.steps.0) in of_all (λ xs. All (IsReadyFor g.D.TwoAdicSubgroupDft.facts c.loop-job.engine) xs) _ c.loop-job.yielded left c.loop-job.invariant.split none c.loop-job.invariant.served;
+      cost = costs_rest g.D.TwoAdicSubgroupDft.facts g.F.Field g.F.TwoAdicField.TWO_ADICITY _ c.loop-job.yielded _ _ _ c.loop-job.invariant.split c.loop-job.invariant.runnable c.loop-job.invariant.cost;
+      first = tt;
+      refused = tt;
+      later = c.loop-job.invariant.later;
+    }

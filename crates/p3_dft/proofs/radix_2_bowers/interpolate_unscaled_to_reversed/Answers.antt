@@ -1,4 +1,4 @@
-use Rattle.std.proofs.Common.{◌≡◌, ℕ, ◌-◌, ◌^◌, length, get_or, refl, sym, ap, ap₂, ◌∙◌, arith}
+use Rattle.std.proofs.Common.{◌≡◌, ℕ, ◌-◌, ◌^◌, length, get_or, refl, sym, ap, ap₂, ◌∙◌, arith, ◌*◌}
 use Rattle.p3_field.specs.Ring.{power}
 use Rattle.p3_field.proofs.Rings
 use Rattle.p3_field.proofs.Roots.{inverse_root, inverse_undoes}
@@ -9,13 +9,10 @@ use Rattle.p3_matrix.specs.Cosets.{values_of}
 use Rattle.p3_dft.proofs.BitReversed.Coefficients.{coefficients_of_parts}
 use Rattle.p3_matrix.proofs.Polynomials.ReversedCoefficients.{coefficients_of_row}
 use Rattle.p3_matrix.proofs.RowMajor.{written_shape, written_size}
+use Rattle.std.proofs.Math.Nat.{le_refl}
+use Rattle.p3_dft.proofs.Calls.EngineSteps.{none_given, none_more}
+use Rattle.p3_dft.proofs.Calls.PreparedHeights.{some_log}
 use Rattle.p3_dft.proofs.radix_2_bowers.interpolate_unscaled_to_reversed.Goals as goal
-
-pub returns-then-height-eq1-clause-coefficients : goal.returns-then-height-eq1-clause-coefficients
-returns-then-height-eq1-clause-coefficients g c k high d quotient =
-    let same : c.requires.fits.log ≡ k = log_same _ _ (sym c.requires.fits.high ∙ high) in
-    coefficients_of_row g.F.Field.ring g.met.F.TwoAdicField.roots_law (values_of g.F.Field c.args.mat.now) d k (omega (arith, same, c.requires.fits.within))
-    (sym c.height-height.ensures.height ∙ c.if-height-eq1.true) high quotient
 
 pub two_adic_generator-generator-requires : goal.two_adic_generator-generator-requires
 two_adic_generator-generator-requires g c =
@@ -59,23 +56,30 @@ network_g_transposed-requires-clause-twiddles g c =
           ∙ Rings.one-mul field.ring (power field.ring (inverse_root field.ring gen log) (rev (log - 1) b));
     }
 
-pub returns-clause-coefficients : goal.returns-clause-coefficients
-returns-clause-coefficients g c k high =
-    let log = c.log2_strict_usize-log_h.result in
-    let tall : height c.args.mat.now ≡ 2 ^ log = sym c.height-height.ensures.height ∙ c.log2_strict_usize-log_h.ensures.power in
-    let fits : log ≡ c.requires.fits.log = log_same _ _ (sym tall ∙ c.requires.fits.high) in
-    coefficients_of_parts g.F.Field g.F.TwoAdicField.generator g.met.F.TwoAdicField.roots_law c.args.mat.now _ c.values_mut.result.now c.network_g_transposed.new.values _ c.width-width.result log k
-    (omega (arith, fits, c.requires.fits.within)) (log_same log k (sym tall ∙ high)) c.width-width.ensures.whole tall c.values_mut.ensures.values c.width-width.ensures.width c.network_g_transposed.auto.values
-    refl refl c.network_g_transposed.ensures.values
+pub network_g_transposed-requires-clause-size : goal.network_g_transposed-requires-clause-size
+network_g_transposed-requires-clause-size g c = ap length c.values_mut.ensures.values ∙ sym c.width-width.ensures.whole.full ∙ ap₂ (λ (h w : ℕ). h * w) (sym c.height-height.ensures.height ∙ c.log2_strict_usize-log_h.ensures.power) (sym c.width-width.ensures.width)
 
-pub returns-clause-cost : goal.returns-clause-cost
-returns-clause-cost g c k high =
-    let log = c.log2_strict_usize-log_h.result in
-    let same : log ≡ k = log_same log k (sym c.log2_strict_usize-log_h.ensures.power ∙ c.height-height.ensures.height ∙ high) in
-    rw (← same, ← c.width-width.ensures.width) c.network_g_transposed.ensures.cost
+pub network_g_transposed-requires-clause-some : goal.network_g_transposed-requires-clause-some
+network_g_transposed-requires-clause-some g c = some_log c.height-height.result c.log2_strict_usize-log_h.result c.log2_strict_usize-log_h.ensures.power c.if-height-eq1.false
 
-pub returns-clause-shape : goal.returns-clause-shape
-returns-clause-shape g c = written_shape c.args.mat.now _ c.network_g_transposed.new.values refl refl (c.network_g_transposed.auto.values ∙ ap length c.values_mut.ensures.values)
+pub returns-in_err-twiddles : goal.returns-in_err-twiddles
+returns-in_err-twiddles g c =
+    let err = c.from_residual.ensures.0 in
+    record { whole = c.width-width.ensures.whole; shape = none_given _ _ err; size = none_given _ _ err; coefficients = λ k high. none_given _ _ err; grows = le_refl _; cost = λ k high. none_more _ _ _ refl }
 
-pub returns-clause-size : goal.returns-clause-size
-returns-clause-size g c = written_size c.args.mat.now.values c.network_g_transposed.new.values (c.network_g_transposed.auto.values ∙ ap length c.values_mut.ensures.values)
+pub returns : goal.returns
+returns g c =
+    record {
+      whole = c.width-width.ensures.whole;
+      shape = written_shape c.args.mat.now _ c.network_g_transposed.new.values refl refl (c.network_g_transposed.auto.values ∙ ap length c.values_mut.ensures.values);
+      size = written_size c.args.mat.now.values c.network_g_transposed.new.values (c.network_g_transposed.auto.values ∙ ap length c.values_mut.ensures.values);
+      coefficients = λ k high. let log = c.log2_strict_usize-log_h.result in let tall : height c.args.mat.now ≡ 2 ^ log = sym c.height-height.ensures.height ∙ c.log2_strict_usize-log_h.ensures.power in let fits : log ≡ c.requires.fits.log = log_same _ _ (sym tall ∙ c.requires.fits.high) in coefficients_of_parts g.F.Field g.F.TwoAdicField.generator g.met.F.TwoAdicField.roots_law c.args.mat.now _ c.values_mut.result.now c.network_g_transposed.new.values _ c.width-width.result log k (omega (arith, fits, c.requires.fits.within)) (log_same log k (sym tall ∙ high)) c.width-width.ensures.whole tall c.values_mut.ensures.values c.width-width.ensures.width c.network_g_transposed.auto.values refl refl c.network_g_transposed.ensures.values;
+      grows = c.network_g_transposed.ensures.grows;
+      cost = λ k high. let log = c.log2_strict_usize-log_h.result in let same : log ≡ k = log_same log k (sym c.log2_strict_usize-log_h.ensures.power ∙ c.height-height.ensures.height ∙ high) in rw (← same, ← c.width-width.ensures.width) c.network_g_transposed.ensures.cost;
+    }
+
+pub returns-then-height-eq1-clause-coefficients : goal.returns-then-height-eq1-clause-coefficients
+returns-then-height-eq1-clause-coefficients g c k high d quotient =
+    let same : c.requires.fits.log ≡ k = log_same _ _ (sym c.requires.fits.high ∙ high) in
+    coefficients_of_row g.F.Field.ring g.met.F.TwoAdicField.roots_law (values_of g.F.Field c.args.mat.now) d k (omega (arith, same, c.requires.fits.within))
+    (sym c.height-height.ensures.height ∙ c.if-height-eq1.true) high quotient

@@ -1,4 +1,4 @@
-use Rattle.std.proofs.Common.{ℕ, refl, ◌∙◌}
+use Rattle.std.proofs.Common.{ℕ, refl, ◌∙◌, ap, ap₂, sym, length, ◌*◌}
 use Rattle.p3_dft.proofs.BitReversed.Rows.{transform_of_reversed}
 use Rattle.p3_networks.proofs.Tables.FromStart.{enough_from_start, first_is_one}
 use Rattle.p3_dft.proofs.radix_2_small_batch.evaluate_natural.Goals as goal
@@ -15,3 +15,6 @@ returns-clause-values g c =
     c.requires.whole c.requires.height (c.width-width.ensures.width ∙ c.reverse_rows.ensures.shape.1) c.reverse_rows.ensures.shape c.reverse_rows.ensures.size (c.reverse_rows.ensures.rows c.args.log_h c.requires.height)
     c.values_mut.ensures.values c.dif_network.auto.values refl refl
     (c.dif_network.ensures.values _ (λ (n : ℕ). g.F.Field.value (g.F.TwoAdicField.generator n)) g.met.F.TwoAdicField.roots_law c.requires.within c.requires.twiddles)
+
+pub dif_network-requires-clause-size : goal.dif_network-requires-clause-size
+dif_network-requires-clause-size g c = ap length c.values_mut.ensures.values ∙ c.reverse_rows.ensures.size ∙ sym c.requires.whole.full ∙ ap₂ (λ (h w : ℕ). h * w) c.requires.height (sym (c.width-width.ensures.width ∙ c.reverse_rows.ensures.shape.1))

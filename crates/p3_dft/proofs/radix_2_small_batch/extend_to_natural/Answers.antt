@@ -1,5 +1,5 @@
 use Rattle.std.proofs.Common.{ℕ, List, [], ◌≡◌, ◌*◌, ◌/◌, ◌%◌, ◌+◌, ◌-◌, ◌^◌, ◌<◌, ◌≤◌, ◌++◌, length, get_or, replicate, drop, refl, sym, ◌∙◌, ap, ap₂, arith}
-use Rattle.std.proofs.Math.Nat.{mod-eq_of_lt, mul-div_cancel}
+use Rattle.std.proofs.Math.Nat.{mod-eq_of_lt, mul-div_cancel, le_refl}
 use Rattle.std.proofs.lemmas.List.{length-replicate}
 use Rattle.std.proofs.lemmas.Nat.{pow-add}
 use Rattle.p3_field.specs.Ring.{power}
@@ -9,6 +9,7 @@ use Rattle.p3_matrix.specs.Polynomials.{poly}
 use Rattle.p3_dft.proofs.BitReversed.OneReversal.{values_of_weighed}
 use Rattle.p3_networks.proofs.Layers.Counts.{extension_counted}
 use Rattle.p3_matrix.proofs.Rows.Overwritten.{written}
+use Rattle.p3_dft.proofs.Calls.EngineSteps.{none_given, none_more}
 use Rattle.p3_dft.proofs.radix_2_small_batch.extend_to_natural.Goals as goal
 
 -- as many zeros as the extension has entries
@@ -43,38 +44,41 @@ new-requires-clause-full g c =
     (written c.extend_by_zeros.new.values.len c.extending_network.new.values (drop (length c.extending_network.new.values) items) (omega (arith, len, c.extend_by_zeros.new.values.ok.0)))
     (omega (arith, c.requires.whole.wide, c.width-width.ensures.width)) (len ∙ size)
 
-pub returns-clause-cost : goal.returns-clause-cost
-returns-clause-cost g c =
-    let w = c.width-width.result in
-    let k = c.args.log_h in
-    let a = c.args.added_bits in
-    let size : length c.as_mut_slice.result.now ≡ 2 ^ (k + a) * w = ap length c.as_mut_slice.ensures.value ∙ zeros_length g.F.Field.ZERO c.new-values.result.items c.extend_by_zeros.new.values.items c.values.result.now c.args.mat.values _ _ c.args.mat.width c.width-width.result c.args.log_h c.args.added_bits
-    c.new-values.ensures.items c.in_ok-extend_by_zeros.ensures.ok refl c.values.ensures.values c.requires.whole.full c.requires.height c.width-width.ensures.width c.requires.room in
-    let same : w * (2 ^ a * (k * 2 ^ k / 2) + 2 ^ (k + a)) ≡ c.args.mat.width * (2 ^ a * (k * 2 ^ k / 2) + 2 ^ (k + a)) = ap (λ n. n * (2 ^ a * (k * 2 ^ k / 2) + 2 ^ (k + a))) c.width-width.ensures.width in
-    let made = extension_counted k a w (length c.as_mut_slice.result.now) c.args.products.now c.extending_network.new.products c.requires.some size c.extending_network.ensures.cost in
-    omega (arith, made, same)
-
-pub returns-clause-values : goal.returns-clause-values
-returns-clause-values g c =
-    let field = g.F.Field in
-    let w = c.width-width.result in
-    let k = c.args.log_h in
-    let a = c.args.added_bits in
-    let items = c.extend_by_zeros.new.values.items in
-    let after = c.extending_network.new.values in
-    let wide : 1 ≤ w = omega (arith, c.requires.whole.wide, c.width-width.ensures.width) in
-    let back : k + a - a ≡ k = omega arith in
-    let size : length items ≡ 2 ^ (k + a) * w = zeros_length g.F.Field.ZERO c.new-values.result.items c.extend_by_zeros.new.values.items c.values.result.now c.args.mat.values _ _ c.args.mat.width c.width-width.result c.args.log_h c.args.added_bits
-    c.new-values.ensures.items c.in_ok-extend_by_zeros.ensures.ok refl c.values.ensures.values c.requires.whole.full c.requires.height c.width-width.ensures.width c.requires.room in
-    let len : length after ≡ length items = c.extending_network.auto.values ∙ ap length c.as_mut_slice.ensures.value in
-    let values_is = written c.extend_by_zeros.new.values.len after (drop (length after) items) (omega (arith, len, c.extend_by_zeros.new.values.ok.0)) in
-    values_of_weighed field g.F.TwoAdicField.generator c.args.mat c.new.result after c.as_slice.result.now w k (k + a) (field.value c.args.scale) (field.value c.args.shift) c.requires.height wide c.width-width.ensures.width
-    (ap (λ (n : RowMajor g.row.F.Denot). n.width) c.new.ensures) (ap (λ (n : RowMajor g.row.F.Denot). n.values) c.new.ensures ∙ values_is) (len ∙ size)
-    (λ b below. ap (λ xs. field.value (get_or xs b field.ZERO)) c.as_slice.ensures.value ∙ c.in_ok-weights.ensures.entries b below)
-    (λ i j below inside.
-    c.extending_network.ensures.values i j below inside
-    ∙ ap₂ (λ n xs. poly field.ring (2 ^ n) (λ q. field.ring.mul (field.value (get_or xs (rev n q * w + j) field.ZERO)) (field.value (get_or c.as_slice.result.now (rev n q) field.ZERO))) (power field.ring (field.value (g.F.TwoAdicField.generator (k + a))) i))
-    back c.values-2.ensures.values)
-
 pub extending_network-requires-clause-twiddles : goal.extending_network-requires-clause-twiddles
 extending_network-requires-clause-twiddles g c = c.requires.twiddles
+
+added-sub : (k a : ℕ) → k + a - a ≡ k
+added-sub k a = omega arith
+
+pub extending_network-requires-clause-rows : goal.extending_network-requires-clause-rows
+extending_network-requires-clause-rows g c = ap length c.values-2.ensures.values ∙ sym c.requires.whole.full ∙ ap₂ (λ (h w : ℕ). h * w) (c.requires.height ∙ ap (λ n. 2 ^ n) (sym (added-sub c.args.log_h c.args.added_bits))) (sym c.width-width.ensures.width)
+
+pub extending_network-requires-clause-weights : goal.extending_network-requires-clause-weights
+extending_network-requires-clause-weights g c = ap length c.as_slice.ensures.value ∙ c.in_ok-weights.ensures.size ∙ ap (λ n. 2 ^ n) (sym (added-sub c.args.log_h c.args.added_bits))
+
+pub extending_network-requires-clause-some : goal.extending_network-requires-clause-some
+extending_network-requires-clause-some g c = c.requires.some
+
+pub extending_network-requires-clause-small : goal.extending_network-requires-clause-small
+extending_network-requires-clause-small g c = c.requires.small
+
+pub extending_network-requires-clause-within : goal.extending_network-requires-clause-within
+extending_network-requires-clause-within g c = c.requires.within
+
+pub returns-in_err-weights : goal.returns-in_err-weights
+returns-in_err-weights g c =
+    let err = c.from_residual.ensures.0 in
+    record { values = none_given _ _ err; grows = le_refl _; cost = none_more _ _ _ refl }
+
+pub returns-in_err-extend_by_zeros : goal.returns-in_err-extend_by_zeros
+returns-in_err-extend_by_zeros g c =
+    let err = c.from_residual-in_err-extend_by_zeros.ensures.0 in
+    record { values = none_given _ _ err; grows = le_refl _; cost = none_more _ _ _ refl }
+
+pub returns : goal.returns
+returns g c =
+    record {
+      values = let field = g.F.Field in let w = c.width-width.result in let k = c.args.log_h in let a = c.args.added_bits in let items = c.extend_by_zeros.new.values.items in let after = c.extending_network.new.values in let wide : 1 ≤ w = omega (arith, c.requires.whole.wide, c.width-width.ensures.width) in let back : k + a - a ≡ k = omega arith in let size : length items ≡ 2 ^ (k + a) * w = zeros_length g.F.Field.ZERO c.new-values.result.items c.extend_by_zeros.new.values.items c.values.result.now c.args.mat.values _ _ c.args.mat.width c.width-width.result c.args.log_h c.args.added_bits c.new-values.ensures.items c.in_ok-extend_by_zeros.ensures.ok refl c.values.ensures.values c.requires.whole.full c.requires.height c.width-width.ensures.width c.requires.room in let len : length after ≡ length items = c.extending_network.auto.values ∙ ap length c.as_mut_slice.ensures.value in let values_is = written c.extend_by_zeros.new.values.len after (drop (length after) items) (omega (arith, len, c.extend_by_zeros.new.values.ok.0)) in values_of_weighed field g.F.TwoAdicField.generator c.args.mat c.new.result after c.as_slice.result.now w k (k + a) (field.value c.args.scale) (field.value c.args.shift) c.requires.height wide c.width-width.ensures.width (ap (λ (n : RowMajor g.row.F.Denot). n.width) c.new.ensures) (ap (λ (n : RowMajor g.row.F.Denot). n.values) c.new.ensures ∙ values_is) (len ∙ size) (λ b below. ap (λ xs. field.value (get_or xs b field.ZERO)) c.as_slice.ensures.value ∙ c.in_ok-weights.ensures.entries b below) (λ i j below inside. c.extending_network.ensures.values i j below inside ∙ ap₂ (λ n xs. poly field.ring (2 ^ n) (λ q. field.ring.mul (field.value (get_or xs (rev n q * w + j) field.ZERO)) (field.value (get_or c.as_slice.result.now (rev n q) field.ZERO))) (power field.ring (field.value (g.F.TwoAdicField.generator (k + a))) i)) back c.values-2.ensures.values);
+      grows = c.extending_network.ensures.grows;
+      cost = let w = c.width-width.result in let k = c.args.log_h in let a = c.args.added_bits in let size : length c.as_mut_slice.result.now ≡ 2 ^ (k + a) * w = ap length c.as_mut_slice.ensures.value ∙ zeros_length g.F.Field.ZERO c.new-values.result.items c.extend_by_zeros.new.values.items c.values.result.now c.args.mat.values _ _ c.args.mat.width c.width-width.result c.args.log_h c.args.added_bits c.new-values.ensures.items c.in_ok-extend_by_zeros.ensures.ok refl c.values.ensures.values c.requires.whole.full c.requires.height c.width-width.ensures.width c.requires.room in let same : w * (2 ^ a * (k * 2 ^ k / 2) + 2 ^ (k + a)) ≡ c.args.mat.width * (2 ^ a * (k * 2 ^ k / 2) + 2 ^ (k + a)) = ap (λ n. n * (2 ^ a * (k * 2 ^ k / 2) + 2 ^ (k + a))) c.width-width.ensures.width in let made = extension_counted k a w (length c.as_mut_slice.result.now) c.args.products.now c.extending_network.new.products c.requires.some size c.extending_network.ensures.cost in omega (arith, made, same);
+    }

@@ -1,4 +1,4 @@
-use Rattle.std.proofs.Common.{◌≡◌, ◌^◌, refl, ap, ◌∙◌}
+use Rattle.std.proofs.Common.{◌≡◌, ◌^◌, refl, ap, ◌∙◌, ℕ, ap₂, sym, length, ◌*◌}
 use Rattle.p3_field.specs.Ring.{count}
 use Rattle.p3_field.proofs.Powers.{count-power_of_two}
 use Rattle.p3_dft.proofs.BitReversed.OneReversal.{interpolation_of_reversed}
@@ -14,3 +14,9 @@ returns-clause-coefficients g c =
     interpolation_of_reversed field g.F.TwoAdicField.generator g.met.F.TwoAdicField.roots_law c.args.mat.now c.reverse_rows.new.mat _ c.values_mut.result.now c.scaled_dif_network.new.values _ k c.width-width.result
     inverse c.requires.within c.requires.whole c.requires.height c.reverse_rows.ensures.shape c.reverse_rows.ensures.size c.reverse_rows.ensures.rows c.values_mut.ensures.values c.width-width.ensures.width
     c.scaled_dif_network.auto.values refl refl undone c.scaled_dif_network.ensures.values
+
+pub scaled_dif_network-requires-clause-size : goal.scaled_dif_network-requires-clause-size
+scaled_dif_network-requires-clause-size g c = ap length c.values_mut.ensures.values ∙ c.reverse_rows.ensures.size ∙ sym c.requires.whole.full ∙ ap₂ (λ (h w : ℕ). h * w) c.requires.height (sym c.width-width.ensures.width)
+
+pub scaled_dif_network-requires-clause-twiddles : goal.scaled_dif_network-requires-clause-twiddles
+scaled_dif_network-requires-clause-twiddles g c = c.requires.twiddles

@@ -2,7 +2,7 @@ use Rattle.std.proofs.Common.{ℕ, ◌≡◌, ◌+◌, ◌^◌, ◌∙◌, refl,
 use Rattle.std.proofs.Math.Nat.{le-add_right}
 use Rattle.std.proofs.lemmas.Result.{IfOk-weaker}
 use Rattle.p3_matrix.specs.RowMajor.{height}
-use Rattle.p3_dft.proofs.Calls.EngineSteps.{after_part, parts_after, products_after}
+use Rattle.p3_dft.proofs.Calls.EngineSteps.{after_part, parts_after, products_after, none_given}
 use Rattle.p3_dft.proofs.Calls.ExtendedTransforms.{answered_shape, extension_of_shifted}
 use Rattle.p3_matrix.proofs.Rows.Padding.{padded_shape}
 use Rattle.p3_dft.proofs.Calls.PreparedHeights.{none_above, still_above}
@@ -50,10 +50,6 @@ returns-clause-values g c =
 pub returns-in_err-coefficients-clause-only : goal.returns-in_err-coefficients-clause-only
 returns-in_err-coefficients-clause-only g c k e n now = none_above n k (k + c.args.added_bits) (le-add_right _ _) (c.idft_batch.ensures.only k e n now)
 
-pub returns-in_err-padded-clause-only : goal.returns-in_err-padded-clause-only
-returns-in_err-padded-clause-only g c k e n now =
-    none_above n k (k + c.args.added_bits) (le-add_right _ _) (c.in_ok-coefficients.ensures.only k e n ((c.add_products.ensures.engine.same n).1 now))
-
 pub returns-clause-only : goal.returns-clause-only
 returns-clause-only g c = λ k e n now.
     let a = c.args.added_bits in
@@ -63,15 +59,6 @@ returns-clause-only g c = λ k e n now.
     let grown = padded_shape g.F.Field.ZERO (g.N.IntoRowMajorMatrix.stored c.args.mat) c.shift_rows.new.mat c.in_ok-padded.padded a k c.pad_rows.ensures.whole
     (same.high ∙ shape.0, same.wide ∙ shape.1) e c.in_ok-padded.ensures.padded in
     still_above n (k + a) (λ more. none_above n k (k + a) (le-add_right k a) (c.in_ok-coefficients.ensures.only k e n ((c.add_products.ensures.engine.same n).1 more))) (c.dft_batch.ensures.only (k + a) grown.0 n now)
-
-pub returns-in_err-padded-clause-engine : goal.returns-in_err-padded-clause-engine
-returns-in_err-padded-clause-engine g c =
-    let fits = c.requires.fits in
-    let m = g.N.IntoRowMajorMatrix.stored c.args.mat in
-    let shape = answered_shape g.F.Field g.F.TwoAdicField.generator _ _ _ _ _ fits.log fits.high c.in_ok-coefficients.ensures.coefficients (refl, refl) c.width-width.ensures.whole c.requires.shape
-    c.transform-changed.ensures in
-    after_part _ _ _ _ _ c.from_residual-in_err-padded.ensures.0 (λ k. omega arith)
-    (products_after _ 1 m c.transform-changed.result _ _ _ _ _ shape (omega (arith, c.shift_rows.ensures.cost, c.new-products.ensures)) c.in_ok-coefficients.ensures.engine c.add_products.ensures.engine)
 
 pub returns-clause-engine : goal.returns-clause-engine
 returns-clause-engine g c =
@@ -86,3 +73,16 @@ returns-clause-engine g c =
     parts_after _ 2 0 m c.in_ok-padded.padded a _ _ _ _ _ _ refl (λ k e. (grown k e).0) (grown fits.log fits.high).1 (λ k. omega arith)
     (products_after _ 1 m c.transform-changed.result _ _ _ _ _ shape (omega (arith, c.shift_rows.ensures.cost, c.new-products.ensures)) c.in_ok-coefficients.ensures.engine c.add_products.ensures.engine)
     c.dft_batch.ensures.engine
+
+pub transform-changed-requires : goal.transform-changed-requires
+transform-changed-requires g c =
+    let are = c.in_ok-coefficients.ensures.coefficients.holds c.requires.fits.log c.requires.fits.high in
+    c.requires.callable c.in_ok-coefficients.coefficients c.width-width.ensures.whole (are.high, are.wide)
+
+pub returns-in_err-padded : goal.returns-in_err-padded
+returns-in_err-padded g c =
+    record {
+      values = none_given _ _ c.from_residual-in_err-padded.ensures.0;
+      only = λ k e n now. none_above n k (k + c.args.added_bits) (le-add_right _ _) (c.in_ok-coefficients.ensures.only k e n ((c.add_products.ensures.engine.same n).1 now));
+      engine = let fits = c.requires.fits in let m = g.N.IntoRowMajorMatrix.stored c.args.mat in let shape = answered_shape g.F.Field g.F.TwoAdicField.generator _ _ _ _ _ fits.log fits.high c.in_ok-coefficients.ensures.coefficients (refl, refl) c.width-width.ensures.whole c.requires.shape c.transform-changed.ensures in after_part _ _ _ _ _ c.from_residual-in_err-padded.ensures.0 (λ k. omega arith) (products_after _ 1 m c.transform-changed.result _ _ _ _ _ shape (omega (arith, c.shift_rows.ensures.cost, c.new-products.ensures)) c.in_ok-coefficients.ensures.engine c.add_products.ensures.engine);
+    }

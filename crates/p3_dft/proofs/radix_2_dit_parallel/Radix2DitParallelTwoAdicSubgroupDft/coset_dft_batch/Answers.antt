@@ -1,16 +1,21 @@
-use Rattle.std.proofs.Common.{◌≡◌, ◌⊎◌, inl, inr, Bool, false, ℕ, ◌^◌, ◌∷◌, [], ◌++◌, List, IsTrue, refl, sym, ap, ◌∙◌, subst, arith, rules, IfOk}
+use Rattle.std.proofs.Common.{◌≡◌, ◌⊎◌, inl, inr, Bool, false, ℕ, ◌^◌, ◌∷◌, [], ◌++◌, List, IsTrue, refl, sym, ap, ◌∙◌, subst, rules, IfOk, ◌+◌, ◌*◌, ◌/◌, ◌≤◌}
 use Rattle.p3_matrix.specs.RowMajor.{RowMajor, height}
 use Rattle.p3_matrix.specs.BitOrder.{bit_reversal, reversed_rows}
 use Rattle.p3_matrix.proofs.TwoPowers.{log_same}
 use Rattle.p3_matrix.specs.Cosets.{IsValues, values_of}
 use Rattle.p3_dft.specs.Transforms.{IsTransform}
 use Rattle.p3_networks.specs.Twiddles.{Coset, HasCoset}
-use Rattle.p3_dft.specs.Engines.{CosetEngineState, IsPrepared}
+use Rattle.p3_dft.specs.Engines.{CosetEngineState, IsPrepared, IsCosetPrepared}
 use Rattle.p3_dft.proofs.Calls.PreparedHeights.{not_ok}
-use Rattle.p3_dft.proofs.Calls.PreparedCosets.{coset_stays, later_with_tables}
+use Rattle.p3_dft.proofs.Calls.PreparedCosets.{coset_stays, later_with_tables, tabled}
 use Rattle.p3_dft.proofs.BitReversed.OneRow.{row_handed_back, row_seen}
 use Rattle.p3_dft.proofs.BitReversed.Rows.{transform_seen}
 use Rattle.std.proofs.lemmas.Result.{on_ok_weaker}
+use Rattle.p3_dft.proofs.Calls.Shapes.{log_fits_dft}
+use Rattle.p3_dft.proofs.Calls.JobLists.{on_any_error}
+use Rattle.p3_dft.proofs.Calls.EngineSteps.{later_same, more_allowed, none_given, none_more}
+use Rattle.std.proofs.Math.Nat.{le_refl}
+use Rattle.p3_dft.proofs.Calls.SameInputs.{subst₃}
 use Rattle.p3_dft.proofs.radix_2_dit_parallel.Radix2DitParallelTwoAdicSubgroupDft.coset_dft_batch.Goals as goal
 
 not_both : (b : Bool) → b ≡ false → IsTrue b → ⊥
@@ -28,159 +33,91 @@ its_heights one (inl point) = inl point
 its_heights one (inr (inl (same, there))) = there
 its_heights one (inr (inr (other, has))) = absurd (other one)
 
-pub returns-then-height-eq1-clause-values : goal.returns-then-height-eq1-clause-values
-returns-then-height-eq1-clause-values g c =
-    let m = c.into_row_major_matrix-mat.result in
-    let one : height m ≡ 1 = sym c.height-height.ensures.height ∙ c.if-height-eq1.true in
-    rw (← c.into_row_major_matrix-mat.ensures)
-    (row_seen g.F.Field g.F.TwoAdicField.generator m c.bit_reverse_rows.result.physical (g.F.Field.value c.args.shift) c.bit_reverse_rows.result.bits c.height-height.ensures.whole one
-    c.bit_reverse_rows.ensures.matrix c.bit_reverse_rows.ensures.height)
+pub returns-then-eq : goal.returns-then-eq
+returns-then-eq g c =
+    let is : g.F.Field.value c.args.shift ≡ g.F.Field.ring.one = (g.met.F.Field.eq_law c.args.shift c.ONE.result).0 (search rules) ∙ ap g.F.Field.value c.ONE.ensures ∙ g.met.F.Field.one_law in
+    let field = g.F.Field in
+    record { values = subst (λ (s : field.Element). IfOk c.dft_batch.result (λ out. IsTransform field g.F.TwoAdicField.generator (g.N.IntoRowMajorMatrix.stored c.args.mat) s (reversed_rows out.bits out.physical))) (sym is) c.dft_batch.ensures.values; succeeds = λ k high heights ready. c.dft_batch.ensures.succeeds k high heights; ready = λ k high ready. c.dft_batch.ensures.succeeds k high (its_heights is ready); tables = λ k high. on_ok_weaker c.dft_batch.result (λ there. inr (inl (is, there))) (c.dft_batch.ensures.serves k high); only = c.dft_batch.ensures.only; roots = λ other. absurd (other is); once = λ k high ready. c.dft_batch.ensures.cosets; one = λ same. c.dft_batch.ensures.cosets; cosets = λ k high. inl c.dft_batch.ensures.cosets; refused = c.dft_batch.ensures.refused; one_row = c.dft_batch.ensures.one_row; later = c.dft_batch.ensures.later; cost = λ k high. more_allowed _ _ _ (c.dft_batch.ensures.cost k high); pairs = c.dft_batch.ensures.cost }
 
-pub returns-then-height-eq1-clause-tables : goal.returns-then-height-eq1-clause-tables
-returns-then-height-eq1-clause-tables g c k high =
+pub returns-then-height-eq1 : goal.returns-then-height-eq1
+returns-then-height-eq1 g c =
+    let m = c.into_row_major_matrix-mat.result in let one : height m ≡ 1 = sym c.height-height.ensures.height ∙ c.if-height-eq1.true in
     let tall : c.height-height.result ≡ height (g.N.IntoRowMajorMatrix.stored c.args.mat) = c.height-height.ensures.height ∙ ap height c.into_row_major_matrix-mat.ensures in
-    inl (log_same k 0 (sym high ∙ sym tall ∙ c.if-height-eq1.true))
-
-pub returns-then-height-eq1-clause-one_row : goal.returns-then-height-eq1-clause-one_row
-returns-then-height-eq1-clause-one_row g c one = (
-  row_handed_back c.bit_reverse_rows.result (g.N.IntoRowMajorMatrix.stored c.args.mat) (height c.into_row_major_matrix-mat.result)
-      (c.bit_reverse_rows.ensures.matrix ∙ c.into_row_major_matrix-mat.ensures) c.bit_reverse_rows.ensures.height (sym c.height-height.ensures.height ∙ c.if-height-eq1.true),
-  refl,
-)
+    record { values = rw (← c.into_row_major_matrix-mat.ensures) (row_seen g.F.Field g.F.TwoAdicField.generator m c.bit_reverse_rows.result.physical (g.F.Field.value c.args.shift) c.bit_reverse_rows.result.bits c.height-height.ensures.whole one c.bit_reverse_rows.ensures.matrix c.bit_reverse_rows.ensures.height); succeeds = λ k high heights ready. refl; ready = λ k high ready. refl; tables = λ k high. inl (log_same k 0 (sym high ∙ sym tall ∙ c.if-height-eq1.true)); only = λ k high n now. inl now; roots = λ other. refl; once = λ k high ready. refl; one = λ same. refl; cosets = λ k high. inl refl; refused = tt; one_row = λ same. (row_handed_back c.bit_reverse_rows.result (g.N.IntoRowMajorMatrix.stored c.args.mat) (height c.into_row_major_matrix-mat.result) (c.bit_reverse_rows.ensures.matrix ∙ c.into_row_major_matrix-mat.ensures) c.bit_reverse_rows.ensures.height (sym c.height-height.ensures.height ∙ c.if-height-eq1.true), refl); later = later_same _ _; cost = λ k high. more_allowed _ _ _ (none_more _ _ _ refl); pairs = λ k high. none_more _ _ _ refl }
 
 pub make-requires-clause-within : goal.make-requires-clause-within
-make-requires-clause-within g c =
-    let tall : c.height-height.result ≡ height (g.N.IntoRowMajorMatrix.stored c.args.mat) = c.height-height.ensures.height ∙ ap height c.into_row_major_matrix-mat.ensures in
-    let same : c.log2_strict_usize-log_h.result ≡ c.requires.fits.log = log_same _ _ (sym c.log2_strict_usize-log_h.ensures.power ∙ tall ∙ c.requires.fits.high) in
-    omega (arith, same, c.requires.fits.within)
+make-requires-clause-within g c = (log_fits_dft _ _ c.requires.fits c.log2_strict_usize-log_h.ensures.power (c.height-height.ensures.height ∙ ap height c.into_row_major_matrix-mat.ensures)).0
 
-pub returns-in_err-place-clause-ready : goal.returns-in_err-place-clause-ready
-returns-in_err-place-clause-ready g c k high ready =
-    let field = g.F.Field in
-    let s = field.value c.args.shift in
-    let tall : c.height-height.result ≡ height (g.N.IntoRowMajorMatrix.stored c.args.mat) = c.height-height.ensures.height ∙ ap height c.into_row_major_matrix-mat.ensures in
-    let same : k ≡ c.log2_strict_usize-log_h.result = log_same k _ (sym high ∙ sym tall ∙ c.log2_strict_usize-log_h.ensures.power) in
-    let has : HasCoset field c.args.self.now.cosets k s =
-    its_table
-    (λ is. not_both c.eq.result c.if-eq.false (search (rules, (g.met.F.Field.eq_law c.args.shift c.ONE.result).1 (is ∙ sym (ap field.value c.ONE.ensures ∙ g.met.F.Field.one_law)))))
-    (λ none. c.if-height-eq1.false (tall ∙ high ∙ ap (λ n. 2 ^ n) none)) ready in
-    let held : HasCoset field c.self.inside.cosets c.log2_strict_usize-log_h.result s =
-    subst (λ (n : ℕ). HasCoset field c.self.inside.cosets n s) same
-    (subst (λ (xs : List (Coset g.row.F.Denot)). HasCoset field xs k s) (sym (ap (λ (e : CosetEngineState g.row.F.Denot). e.cosets) c.self.view_is)) has) in
-    absurd (not_ok c.make.result _ c.in_err-place.was (c.make.ensures.ready held))
+pub make-requires-clause-small : goal.make-requires-clause-small
+make-requires-clause-small g c = (log_fits_dft _ _ c.requires.fits c.log2_strict_usize-log_h.ensures.power (c.height-height.ensures.height ∙ ap height c.into_row_major_matrix-mat.ensures)).1
 
-pub returns-in_err-place-clause-only : goal.returns-in_err-place-clause-only
-returns-in_err-place-clause-only g c k high n now = inl (subst (λ (e : CosetEngineState g.row.F.Denot). IsPrepared e.roots n) c.self.view_is now)
+pub evaluate_on_coset_to_reversed-requires-clause-whole : goal.evaluate_on_coset_to_reversed-requires-clause-whole
+evaluate_on_coset_to_reversed-requires-clause-whole g c = c.height-height.ensures.whole
 
-pub returns-in_err-place-clause-succeeds : goal.returns-in_err-place-clause-succeeds
-returns-in_err-place-clause-succeeds g c k high heights ready = returns-in_err-place-clause-ready g c k high ready
+pub evaluate_on_coset_to_reversed-requires-clause-small : goal.evaluate_on_coset_to_reversed-requires-clause-small
+evaluate_on_coset_to_reversed-requires-clause-small g c = (log_fits_dft _ _ c.requires.fits c.log2_strict_usize-log_h.ensures.power (c.height-height.ensures.height ∙ ap height c.into_row_major_matrix-mat.ensures)).1
 
-pub returns-in_err-place-clause-later : goal.returns-in_err-place-clause-later
-returns-in_err-place-clause-later g c = later_with_tables g.F.Field _ _ _ c.args.self.now _ _ _ _ _ _ c.self.view_is (omega arith) (coset_stays g.F.Field _ _ _ c.make.ensures.only) (omega arith)
+pub evaluate_on_coset_to_reversed-requires-clause-height : goal.evaluate_on_coset_to_reversed-requires-clause-height
+evaluate_on_coset_to_reversed-requires-clause-height g c = sym c.height-height.ensures.height ∙ c.log2_strict_usize-log_h.ensures.power
 
 pub evaluate_on_coset_to_reversed-requires-clause-table : goal.evaluate_on_coset_to_reversed-requires-clause-table
 evaluate_on_coset_to_reversed-requires-clause-table g c =
     let table = c.get-table.result.now in
     ap (λ (t : Coset g.row.F.Denot). t.log_h) (c.get-table.ensures table) ∙ (c.in_ok-place.ensures.made.1 table).0
 
-pub returns-clause-values : goal.returns-clause-values
-returns-clause-values g c =
-    let field = g.F.Field in
-    let s = field.value c.args.shift in
-    let m = c.into_row_major_matrix-mat.result in
-    let out = c.evaluate_on_coset_to_reversed.new.mat in
-    let log = c.log2_strict_usize-log_h.result in
-    let table = c.get-table.result.now in
-    let high : height m ≡ 2 ^ log = sym c.height-height.ensures.height ∙ c.log2_strict_usize-log_h.ensures.power in
+pub returns-in_err-place : goal.returns-in_err-place
+returns-in_err-place g c =
+    let field = g.F.Field in let s = field.value c.args.shift in
+    let tall : c.height-height.result ≡ height (g.N.IntoRowMajorMatrix.stored c.args.mat) = c.height-height.ensures.height ∙ ap height c.into_row_major_matrix-mat.ensures in
+    let old_cosets = ap (λ (e : CosetEngineState g.row.F.Denot). e.cosets) c.self.view_is in
+    let other = λ (is : s ≡ field.ring.one). not_both c.eq.result c.if-eq.false (search (rules, (g.met.F.Field.eq_law c.args.shift c.ONE.result).1 (is ∙ sym (ap field.value c.ONE.ensures ∙ g.met.F.Field.one_law)))) in
+    let held = λ (k : ℕ) (high : height (g.N.IntoRowMajorMatrix.stored c.args.mat) ≡ 2 ^ k) (ready : IsCosetPrepared field c.args.self.now k s). subst (λ (n : ℕ). HasCoset field c.self.inside.cosets n s) (log_same k _ (sym high ∙ sym tall ∙ c.log2_strict_usize-log_h.ensures.power)) (subst (λ (xs : List (Coset g.row.F.Denot)). HasCoset field xs k s) (sym old_cosets) (its_table other (λ none. c.if-height-eq1.false (tall ∙ high ∙ ap (λ n. 2 ^ n) none)) ready)) in
+    let products : c.self.inside.products ≡ c.args.self.now.roots.products = ap (λ (e : CosetEngineState g.row.F.Denot). e.roots.products) c.self.view_is in let err = c.from_residual.ensures.0 in
+    let kept = c.in_err-place.ensures.refused in
+    let refusal = λ (k : ℕ) (high : height (g.N.IntoRowMajorMatrix.stored c.args.mat) ≡ 2 ^ k) (ready : IsCosetPrepared field c.args.self.now k s). not_ok c.make.result _ c.in_err-place.was (c.make.ensures.ready (held k high ready)) in
+    record {
+      values = none_given _ _ err;
+      succeeds = λ k high heights ready. absurd (refusal k high ready);
+      ready = λ k high ready. absurd (refusal k high ready);
+      tables = λ k high. none_given _ _ err;
+      only = λ k high n now. inl (subst (λ (e : CosetEngineState g.row.F.Denot). IsPrepared e.roots n) c.self.view_is now);
+      roots = λ is_other. ap (λ (e : CosetEngineState g.row.F.Denot). e.roots.prepared) c.self.view_is;
+      once = λ k high ready. kept ∙ old_cosets;
+      one = λ is. kept ∙ old_cosets;
+      cosets = λ k high. inl (kept ∙ old_cosets);
+      refused = on_any_error _ (ap (tabled c.self.inside.tables c.self.inside.products) kept ∙ c.self.view_is);
+      one_row = λ one. absurd (c.if-height-eq1.false (tall ∙ one));
+      later = later_with_tables g.F.Field _ _ _ c.args.self.now _ _ _ _ _ _ c.self.view_is (le_refl _) (coset_stays g.F.Field _ _ _ c.make.ensures.only) (le_refl _);
+      cost = λ k high. more_allowed _ _ _ (none_more _ _ _ products);
+      pairs = λ k high. none_more _ _ _ products;
+    }
+
+pub returns : goal.returns
+returns g c =
+    let field = g.F.Field in let s = field.value c.args.shift in let m = c.into_row_major_matrix-mat.result in let out = c.evaluate_on_coset_to_reversed.new.mat in
+    let log = c.log2_strict_usize-log_h.result in let table = c.get-table.result.now in let high : height m ≡ 2 ^ log = sym c.height-height.ensures.height ∙ c.log2_strict_usize-log_h.ensures.power in
     let shift_is : field.value table.shift ≡ s = ap (λ (t : Coset g.row.F.Denot). field.value t.shift) (c.get-table.ensures table) ∙ (c.in_ok-place.ensures.made.1 table).1 in
-    rw (← c.into_row_major_matrix-mat.ensures, c.bit_reverse_rows-2.ensures.matrix)
-    (transform_seen field g.F.TwoAdicField.generator m out s log c.bit_reverse_rows-2.result.bits high c.height-height.ensures.whole c.evaluate_on_coset_to_reversed.ensures.shape c.evaluate_on_coset_to_reversed.ensures.size
-    c.bit_reverse_rows-2.ensures.height
-    (subst (λ (x : field.Element). IsValues field.ring (λ n. field.value (g.F.TwoAdicField.generator n)) (values_of field m) log x (bit_reversal log (values_of field out))) shift_is c.evaluate_on_coset_to_reversed.ensures.values))
-
-pub returns-clause-tables : goal.returns-clause-tables
-returns-clause-tables g c k high =
-    let field = g.F.Field in
-    let s = field.value c.args.shift in
     let tall : c.height-height.result ≡ height (g.N.IntoRowMajorMatrix.stored c.args.mat) = c.height-height.ensures.height ∙ ap height c.into_row_major_matrix-mat.ensures in
-    let same : c.log2_strict_usize-log_h.result ≡ k = log_same _ k (sym c.log2_strict_usize-log_h.ensures.power ∙ tall ∙ high) in
-    inr (inr (
-      λ is. not_both c.eq.result c.if-eq.false (search (rules, (g.met.F.Field.eq_law c.args.shift c.ONE.result).1 (is ∙ sym (ap field.value c.ONE.ensures ∙ g.met.F.Field.one_law)))),
-      subst (λ (n : ℕ). HasCoset field c.make.new.self n s) same (c.in_ok-place.place, c.in_ok-place.ensures.made),
-    ))
-
-pub returns-clause-only : goal.returns-clause-only
-returns-clause-only g c k high n now = inl (subst (λ (e : CosetEngineState g.row.F.Denot). IsPrepared e.roots n) c.self.view_is now)
-
-pub returns-clause-once : goal.returns-clause-once
-returns-clause-once g c k high ready =
-    let field = g.F.Field in
-    let s = field.value c.args.shift in
-    let tall : c.height-height.result ≡ height (g.N.IntoRowMajorMatrix.stored c.args.mat) = c.height-height.ensures.height ∙ ap height c.into_row_major_matrix-mat.ensures in
-    let same : k ≡ c.log2_strict_usize-log_h.result = log_same k _ (sym high ∙ sym tall ∙ c.log2_strict_usize-log_h.ensures.power) in
-    let has : HasCoset field c.args.self.now.cosets k s =
-    its_table
-    (λ is. not_both c.eq.result c.if-eq.false (search (rules, (g.met.F.Field.eq_law c.args.shift c.ONE.result).1 (is ∙ sym (ap field.value c.ONE.ensures ∙ g.met.F.Field.one_law)))))
-    (λ none. c.if-height-eq1.false (tall ∙ high ∙ ap (λ n. 2 ^ n) none)) ready in
-    let held : HasCoset field c.self.inside.cosets c.log2_strict_usize-log_h.result s =
-    subst (λ (n : ℕ). HasCoset field c.self.inside.cosets n s) same
-    (subst (λ (xs : List (Coset g.row.F.Denot)). HasCoset field xs k s) (sym (ap (λ (e : CosetEngineState g.row.F.Denot). e.cosets) c.self.view_is)) has) in
-    c.make.ensures.once held ∙ ap (λ (e : CosetEngineState g.row.F.Denot). e.cosets) c.self.view_is
-
-pub returns-clause-cosets : goal.returns-clause-cosets
-returns-clause-cosets g c k high =
-    let shift = c.args.shift in
-    let tall : c.height-height.result ≡ height (g.N.IntoRowMajorMatrix.stored c.args.mat) = c.height-height.ensures.height ∙ ap height c.into_row_major_matrix-mat.ensures in
-    let same : c.log2_strict_usize-log_h.result ≡ k = log_same _ k (sym c.log2_strict_usize-log_h.ensures.power ∙ tall ∙ high) in
-    let made = λ (xs : List (Coset g.row.F.Denot)) (n : ℕ). (c.make.new.self ≡ xs) ⊎ (c.make.new.self ≡ xs ++ record { log_h = n; shift = shift } ∷ []) in
-    subst (made c.args.self.now.cosets) same (subst (λ xs. made xs c.log2_strict_usize-log_h.result) (ap (λ (e : CosetEngineState g.row.F.Denot). e.cosets) c.self.view_is) c.make.ensures.only)
-
-pub returns-clause-later : goal.returns-clause-later
-returns-clause-later g c = later_with_tables g.F.Field _ _ _ c.args.self.now _ _ _ _ _ _ c.self.view_is (omega arith) (coset_stays g.F.Field _ _ _ c.make.ensures.only) c.evaluate_on_coset_to_reversed.ensures.grows
-
-pub returns-clause-pairs : goal.returns-clause-pairs
-returns-clause-pairs g c k high =
-    let tall : c.height-height.result ≡ height (g.N.IntoRowMajorMatrix.stored c.args.mat) = c.height-height.ensures.height ∙ ap height c.into_row_major_matrix-mat.ensures in
-    let same : c.log2_strict_usize-log_h.result ≡ k = log_same _ k (sym c.log2_strict_usize-log_h.ensures.power ∙ tall ∙ high) in
+    let old_cosets = ap (λ (e : CosetEngineState g.row.F.Denot). e.cosets) c.self.view_is in
+    let other = λ (is : s ≡ field.ring.one). not_both c.eq.result c.if-eq.false (search (rules, (g.met.F.Field.eq_law c.args.shift c.ONE.result).1 (is ∙ sym (ap field.value c.ONE.ensures ∙ g.met.F.Field.one_law)))) in
+    let held = λ (k : ℕ) (high : height (g.N.IntoRowMajorMatrix.stored c.args.mat) ≡ 2 ^ k) (ready : IsCosetPrepared field c.args.self.now k s). subst (λ (n : ℕ). HasCoset field c.self.inside.cosets n s) (log_same k _ (sym high ∙ sym tall ∙ c.log2_strict_usize-log_h.ensures.power)) (subst (λ (xs : List (Coset g.row.F.Denot)). HasCoset field xs k s) (sym old_cosets) (its_table other (λ none. c.if-height-eq1.false (tall ∙ high ∙ ap (λ n. 2 ^ n) none)) ready)) in
     let products : c.self.inside.products ≡ c.args.self.now.roots.products = ap (λ (e : CosetEngineState g.row.F.Denot). e.roots.products) c.self.view_is in
+    let same = λ (k : ℕ) (high : height (g.N.IntoRowMajorMatrix.stored c.args.mat) ≡ 2 ^ k). log_same c.log2_strict_usize-log_h.result k (sym c.log2_strict_usize-log_h.ensures.power ∙ tall ∙ high) in
     let width = ap (λ (m : RowMajor g.row.F.Denot). m.width) c.into_row_major_matrix-mat.ensures in
-    rw (← products, ← width, ← same) c.evaluate_on_coset_to_reversed.ensures.cost
-
-pub returns-clause-cost : goal.returns-clause-cost
-returns-clause-cost g c k high = let few = returns-clause-pairs g c k high in omega (arith, few)
-
-pub returns-clause-one_row : goal.returns-clause-one_row
-returns-clause-one_row g c one = absurd (c.if-height-eq1.false (c.height-height.ensures.height ∙ ap height c.into_row_major_matrix-mat.ensures ∙ one))
-
-pub returns-clause-one : goal.returns-clause-one
-returns-clause-one g c is =
-    absurd (not_both c.eq.result c.if-eq.false (search (rules, (g.met.F.Field.eq_law c.args.shift c.ONE.result).1 (is ∙ sym (ap g.F.Field.value c.ONE.ensures ∙ g.met.F.Field.one_law)))))
-
-pub returns-then-eq-clause-values : goal.returns-then-eq-clause-values
-returns-then-eq-clause-values g c =
-    let field = g.F.Field in
-    let is : g.F.Field.value c.args.shift ≡ g.F.Field.ring.one =
-    (g.met.F.Field.eq_law c.args.shift c.ONE.result).0 (search rules) ∙ ap g.F.Field.value c.ONE.ensures ∙ g.met.F.Field.one_law in
-    subst (λ (s : field.Element). IfOk c.dft_batch.result (λ out. IsTransform field g.F.TwoAdicField.generator (g.N.IntoRowMajorMatrix.stored c.args.mat) s (reversed_rows out.bits out.physical)))
-    (sym is) c.dft_batch.ensures.values
-
-pub returns-then-eq-clause-succeeds : goal.returns-then-eq-clause-succeeds
-returns-then-eq-clause-succeeds g c k high heights ready = c.dft_batch.ensures.succeeds k high heights
-
-pub returns-then-eq-clause-ready : goal.returns-then-eq-clause-ready
-returns-then-eq-clause-ready g c k high ready =
-    let is : g.F.Field.value c.args.shift ≡ g.F.Field.ring.one =
-    (g.met.F.Field.eq_law c.args.shift c.ONE.result).0 (search rules) ∙ ap g.F.Field.value c.ONE.ensures ∙ g.met.F.Field.one_law in
-    c.dft_batch.ensures.succeeds k high (its_heights is ready)
-
-pub returns-then-eq-clause-tables : goal.returns-then-eq-clause-tables
-returns-then-eq-clause-tables g c k high =
-    let is : g.F.Field.value c.args.shift ≡ g.F.Field.ring.one =
-    (g.met.F.Field.eq_law c.args.shift c.ONE.result).0 (search rules) ∙ ap g.F.Field.value c.ONE.ensures ∙ g.met.F.Field.one_law in
-    on_ok_weaker c.dft_batch.result (λ there. inr (inl (is, there))) (c.dft_batch.ensures.serves k high)
-
-pub returns-then-eq-clause-roots : goal.returns-then-eq-clause-roots
-returns-then-eq-clause-roots g c other =
-    let is : g.F.Field.value c.args.shift ≡ g.F.Field.ring.one =
-    (g.met.F.Field.eq_law c.args.shift c.ONE.result).0 (search rules) ∙ ap g.F.Field.value c.ONE.ensures ∙ g.met.F.Field.one_law in
-    absurd (other is)
+    let made = λ (xs : List (Coset g.row.F.Denot)) (n : ℕ). (c.make.new.self ≡ xs) ⊎ (c.make.new.self ≡ xs ++ record { log_h = n; shift = c.args.shift } ∷ []) in
+    record {
+      values = rw (← c.into_row_major_matrix-mat.ensures, c.bit_reverse_rows-2.ensures.matrix) (transform_seen field g.F.TwoAdicField.generator m out s log c.bit_reverse_rows-2.result.bits high c.height-height.ensures.whole c.evaluate_on_coset_to_reversed.ensures.shape c.evaluate_on_coset_to_reversed.ensures.size c.bit_reverse_rows-2.ensures.height (subst (λ (x : field.Element). IsValues field.ring (λ n. field.value (g.F.TwoAdicField.generator n)) (values_of field m) log x (bit_reversal log (values_of field out))) shift_is c.evaluate_on_coset_to_reversed.ensures.values));
+      succeeds = λ k high heights ready. refl;
+      ready = λ k high ready. refl;
+      tables = λ k high. inr (inr (other, subst (λ (n : ℕ). HasCoset field c.make.new.self n s) (same k high) (c.in_ok-place.place, c.in_ok-place.ensures.made)));
+      only = λ k high n now. inl (subst (λ (e : CosetEngineState g.row.F.Denot). IsPrepared e.roots n) c.self.view_is now);
+      roots = λ is_other. ap (λ (e : CosetEngineState g.row.F.Denot). e.roots.prepared) c.self.view_is;
+      once = λ k high ready. c.make.ensures.once (held k high ready) ∙ old_cosets;
+      one = λ is. absurd (other is);
+      cosets = λ k high. subst (made c.args.self.now.cosets) (same k high) (subst (λ xs. made xs c.log2_strict_usize-log_h.result) old_cosets c.make.ensures.only);
+      refused = tt;
+      one_row = λ one. absurd (c.if-height-eq1.false (tall ∙ one));
+      later = later_with_tables g.F.Field _ _ _ c.args.self.now _ _ _ _ _ _ c.self.view_is (le_refl _) (coset_stays g.F.Field _ _ _ c.make.ensures.only) c.evaluate_on_coset_to_reversed.ensures.grows;
+      cost = λ k high. more_allowed _ _ _ (subst₃ (λ (p w n : ℕ). c.evaluate_on_coset_to_reversed.new.products ≤ p + w * (n * 2 ^ n / 2)) _ _ _ _ _ _ products width (same k high) c.evaluate_on_coset_to_reversed.ensures.cost);
+      pairs = λ k high. subst₃ (λ (p w n : ℕ). c.evaluate_on_coset_to_reversed.new.products ≤ p + w * (n * 2 ^ n / 2)) _ _ _ _ _ _ products width (same k high) c.evaluate_on_coset_to_reversed.ensures.cost;
+    }

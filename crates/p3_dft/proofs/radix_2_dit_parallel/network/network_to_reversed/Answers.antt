@@ -8,6 +8,7 @@ use Rattle.p3_matrix.specs.Polynomials.{poly}
 use Rattle.p3_networks.specs.Twiddles.{factor}
 use Rattle.p3_networks.proofs.Networks.Chunks.{halves_joined}
 use Rattle.p3_matrix.proofs.Polynomials.ByIndex.{poly_same}
+use Rattle.p3_matrix.proofs.RowMajor.{whole_kept}
 use Rattle.p3_dft.proofs.radix_2_dit_parallel.network.network_to_reversed.Goals as goal
 
 -- fewer roots are roots
@@ -36,3 +37,9 @@ returns-clause-values g c root s roots low high r j p q =
     (λ u l. ap (λ y. field.ring.mul y scale) (c.first_of_matrix.ensures.values root (power field.ring s (2 ^ left)) (fewer_roots field.ring mid left roots) low (rev left u) (rev mid a) j (rev-lt left u) (rev-lt mid a) q))
     ∙ halves_joined field.ring roots s mid left a t (λ u. (values_of field m).entry u j) scale (omega arith) inside
     ∙ ap (λ n. poly field.ring (2 ^ (mid + left)) (λ u. field.ring.mul ((values_of field m).entry u j) scale) (point field.ring root (mid + left) s (rev (mid + left) n))) split
+
+pub second_of_matrix-requires-clause-table : goal.second_of_matrix-requires-clause-table
+second_of_matrix-requires-clause-table g c = c.requires.high
+
+pub second_of_matrix-requires-clause-whole : goal.second_of_matrix-requires-clause-whole
+second_of_matrix-requires-clause-whole g c = whole_kept c.args.mat.now c.first_of_matrix.new.mat c.requires.whole c.first_of_matrix.ensures.shape c.first_of_matrix.ensures.size

@@ -7,7 +7,7 @@ use Rattle.p3_dft.specs.Engines.{EngineState, IsLater, IsPrepared}
 use Rattle.p3_dft.specs.Extensions.{extension_bound}
 use Rattle.p3_matrix.specs.Cosets.{values_of}
 use Rattle.p3_dft.proofs.BitReversed.Rows.{values_seen}
-use Rattle.p3_dft.proofs.Calls.EngineSteps.{after_error, later_still, no_answer}
+use Rattle.p3_dft.proofs.Calls.EngineSteps.{after_error, later_still, no_answer, none_given}
 use Rattle.p3_dft.proofs.Calls.ExtendedTransforms.{extension_of_natural}
 use Rattle.p3_matrix.proofs.Rows.Padding.{padded_shape, padded_whole}
 use Rattle.p3_dft.proofs.Calls.PreparedHeights.{prepared_until, until_prepared, both_prepared, none_above, still_above, tabled_facts}
@@ -17,12 +17,7 @@ use Rattle.p3_dft.proofs.radix_2_small_batch.Radix2DFTSmallBatchTwoAdicSubgroupD
 -- heights were prepared, without a product
 only_preparing : {F : Type 0} (t : ℕ → ℕ → ℕ) (x : ℕ → ℕ → ℕ → ℕ) (b : ℕ → ℕ → ℕ) {before after : EngineState} → ((k : ℕ) → IsPrepared before k → IsPrepared after k) → after.products ≡ before.products
     → IsLater (tabled_facts {F = F} t x b) before after
-only_preparing t x b keeps none = record {
-  keeps = keeps;
-  keeps_cosets = λ k s promised. tt;
-  keeps_ready = keeps;
-  grows = omega (arith, none);
-}
+only_preparing t x b keeps none = record { keeps = keeps; keeps_cosets = λ k s promised. tt; keeps_ready = keeps; grows = omega (arith, none) }
 
 -- and a call after that
 after_preparing : {F : Type 0} (t : ℕ → ℕ → ℕ) (x : ℕ → ℕ → ℕ → ℕ) (b : ℕ → ℕ → ℕ) {before prepared after : EngineState} → ((k : ℕ) → IsPrepared before k → IsPrepared prepared k) → prepared.products ≡ before.products
@@ -30,12 +25,8 @@ after_preparing : {F : Type 0} (t : ℕ → ℕ → ℕ) (x : ℕ → ℕ → �
 after_preparing t x b keeps none later = later_still (tabled_facts t x b) _ _ _ (only_preparing t x b keeps none) later
 
 -- an inverse alone is within the bound of an extension
-inverse_made : (k a w before prepared after : ℕ) → prepared ≡ before → after ≤ prepared + w * (k * 2 ^ k / 2) + 2 ^ k * w → after ≤ before + extension_bound (λ n v. v * (n * 2 ^ n / 2)) k a w
-inverse_made k a w before prepared after same made = omega (arith, same, made)
-
-pub returns-in_err-prepare-clause-engine : goal.returns-in_err-prepare-clause-engine
-returns-in_err-prepare-clause-engine g c =
-    after_error _ _ _ _ c.from_residual.ensures.0 (only_preparing _ _ _ c.prepare.ensures.keeps c.prepare.ensures.products) c.prepare.ensures.products
+inverse_made : {T : Type 0} (m n : RowMajor T) (k a before prepared after : ℕ) → m ≡ n → prepared ≡ before → after ≤ prepared + m.width * (k * 2 ^ k / 2) + 2 ^ k * m.width → after ≤ before + extension_bound (λ l v. v * (l * 2 ^ l / 2)) k a n.width
+inverse_made {T = T} m n k a before prepared after is same made = subst (λ (x : RowMajor T). after ≤ before + extension_bound (λ l v. v * (l * 2 ^ l / 2)) k a x.width) is (omega (arith, same, made))
 
 pub pad_rows-requires-clause-bits : goal.pad_rows-requires-clause-bits
 pad_rows-requires-clause-bits g c = let small = output_log_small _ _ _ _ c.requires.fits in omega (arith, small)
@@ -64,10 +55,7 @@ pub extend_to_reversed-requires-clause-twiddles : goal.extend_to_reversed-requir
 extend_to_reversed-requires-clause-twiddles g c =
     let top = c.log2_strict_usize-log_h.result + c.args.added_bits in
     let there : top ≤ c.self.inside.tables = until_prepared _ top (subst (λ (e : EngineState). IsPrepared e top) (sym c.self.view_is) (c.idft_batch.ensures.later.keeps top c.in_ok-prepare.ensures.prepares)) in
-    record {
-      size = λ l below. c.forward-twiddles.ensures.table.size l (omega (arith, below, there));
-      entries = λ l b below inside. c.forward-twiddles.ensures.table.entries l b (omega (arith, below, there)) inside;
-    }
+    record { size = λ l below. c.forward-twiddles.ensures.table.size l (omega (arith, below, there)); entries = λ l b below inside. c.forward-twiddles.ensures.table.entries l b (omega (arith, below, there)) inside }
 
 pub extend_to_reversed-requires-clause-within : goal.extend_to_reversed-requires-clause-within
 extend_to_reversed-requires-clause-within g c = (log_fits _ _ c.requires.fits c.log2_strict_usize-log_h.ensures.power (c.height.ensures.height ∙ ap height c.into_row_major_matrix-mat.ensures)).0
@@ -126,12 +114,7 @@ returns-clause-engine g c = record {
       let first = c.idft_batch.ensures.later in
       let products : c.self.inside.products ≡ c.idft_batch.new.self.products = ap (λ e. e.products) c.self.view_is in
       let still = λ (k : ℕ) (before : IsPrepared c.args.self.now k). until_prepared _ k (subst (λ (e : EngineState). IsPrepared e k) (sym c.self.view_is) (first.keeps k (c.prepare.ensures.keeps k before))) in
-      record {
-        keeps = λ k before. prepared_until _ k (still k before);
-        keeps_cosets = λ k s none. tt;
-        keeps_ready = λ k before. prepared_until _ k (still k before);
-        grows = omega (arith, c.prepare.ensures.products, first.grows, products, c.extend_to_reversed.ensures.grows);
-      };
+      record { keeps = λ k before. prepared_until _ k (still k before); keeps_cosets = λ k s none. tt; keeps_ready = λ k before. prepared_until _ k (still k before); grows = omega (arith, c.prepare.ensures.products, first.grows, products, c.extend_to_reversed.ensures.grows) };
   ready = λ done k e.
       let log = c.log2_strict_usize-log_h.result in
       let top = log + c.args.added_bits in
@@ -162,20 +145,6 @@ returns-clause-engine g c = record {
       (subst (λ (w : ℕ). c.extend_to_reversed.new.products ≤ c.args.self.now.products + (w * (log * 2 ^ log / 2) + 2 ^ log * w + (w * ((log + a) * 2 ^ (log + a) / 2) + 2 ^ (log + a) * w))) width all);
 }
 
-pub returns-in_err-coefficients-clause-engine : goal.returns-in_err-coefficients-clause-engine
-returns-in_err-coefficients-clause-engine g c = record {
-  later = after_preparing _ _ _ c.prepare.ensures.keeps c.prepare.ensures.products c.idft_batch.ensures.later;
-  ready = λ done. absurd (no_answer c.from_residual-in_err-coefficients.result c.from_residual-in_err-coefficients.ensures.0 done);
-  cost = λ k e. inverse_made k c.args.added_bits _ _ _ _ c.prepare.ensures.products ((rw c.into_row_major_matrix-mat.ensures at c.idft_batch.ensures.cost) k e);
-}
-
-pub returns-in_err-grown-clause-engine : goal.returns-in_err-grown-clause-engine
-returns-in_err-grown-clause-engine g c = record {
-  later = after_preparing _ _ _ c.prepare.ensures.keeps c.prepare.ensures.products c.idft_batch.ensures.later;
-  ready = λ done. absurd (no_answer c.from_residual-in_err-grown.result c.from_residual-in_err-grown.ensures.0 done);
-  cost = λ k e. inverse_made k c.args.added_bits _ _ _ _ c.prepare.ensures.products ((rw c.into_row_major_matrix-mat.ensures at c.idft_batch.ensures.cost) k e);
-}
-
 pub extend_to_reversed-requires-clause-whole : goal.extend_to_reversed-requires-clause-whole
 extend_to_reversed-requires-clause-whole g c =
     rw c.in_ok-grown.ensures.padded (padded_whole g.F.Field.ZERO c.transform-changed.result c.pad_rows.ensures.whole c.args.added_bits)
@@ -191,22 +160,40 @@ prepared_alone : {P Q R : Type 0} (n a k log : ℕ) {tall stored : ℕ} → tall
 prepared_alone n a k log power is e first second now =
     preparing_alone n a k log power is e (still_above n (log + a) first (none_above n log (log + a) (omega arith) (second now)))
 
-pub returns-in_err-prepare-clause-only : goal.returns-in_err-prepare-clause-only
-returns-in_err-prepare-clause-only g c k e n now =
-    preparing_alone n c.args.added_bits k c.log2_strict_usize-log_h.result c.log2_strict_usize-log_h.ensures.power (c.height.ensures.height ∙ ap height c.into_row_major_matrix-mat.ensures) e (c.prepare.ensures.only n now)
-
-pub returns-in_err-coefficients-clause-only : goal.returns-in_err-coefficients-clause-only
-returns-in_err-coefficients-clause-only g c k e n now =
-    prepared_alone n c.args.added_bits k c.log2_strict_usize-log_h.result c.log2_strict_usize-log_h.ensures.power (c.height.ensures.height ∙ ap height c.into_row_major_matrix-mat.ensures) e
-    (c.prepare.ensures.only n) (c.idft_batch.ensures.only _ (sym c.height.ensures.height ∙ c.log2_strict_usize-log_h.ensures.power) n) now
-
-pub returns-in_err-grown-clause-only : goal.returns-in_err-grown-clause-only
-returns-in_err-grown-clause-only g c k e n now =
-    prepared_alone n c.args.added_bits k c.log2_strict_usize-log_h.result c.log2_strict_usize-log_h.ensures.power (c.height.ensures.height ∙ ap height c.into_row_major_matrix-mat.ensures) e
-    (c.prepare.ensures.only n) (c.idft_batch.ensures.only _ (sym c.height.ensures.height ∙ c.log2_strict_usize-log_h.ensures.power) n) now
-
 pub returns-clause-only : goal.returns-clause-only
 returns-clause-only g c k e n now =
     prepared_alone n c.args.added_bits k c.log2_strict_usize-log_h.result c.log2_strict_usize-log_h.ensures.power (c.height.ensures.height ∙ ap height c.into_row_major_matrix-mat.ensures) e
     (c.prepare.ensures.only n) (c.idft_batch.ensures.only _ (sym c.height.ensures.height ∙ c.log2_strict_usize-log_h.ensures.power) n)
     (subst (λ (s : EngineState). IsPrepared s n) c.self.view_is (prepared_until _ n (until_prepared _ n now)))
+
+pub transform-changed-requires : goal.transform-changed-requires
+transform-changed-requires g c =
+    let are = c.in_ok-coefficients.ensures.coefficients.holds c.log2_strict_usize-log_h.result (sym c.height.ensures.height ∙ c.log2_strict_usize-log_h.ensures.power) in
+    c.requires.callable c.in_ok-coefficients.coefficients c.width-width.ensures.whole (rw (← c.into_row_major_matrix-mat.ensures) (are.high, are.wide))
+
+pub returns-in_err-prepare : goal.returns-in_err-prepare
+returns-in_err-prepare g c =
+    let err = c.from_residual.ensures.0 in
+    record {
+      values = none_given _ _ err;
+      only = λ k e n now. preparing_alone n c.args.added_bits k c.log2_strict_usize-log_h.result c.log2_strict_usize-log_h.ensures.power (c.height.ensures.height ∙ ap height c.into_row_major_matrix-mat.ensures) e (c.prepare.ensures.only n now);
+      engine = after_error _ _ _ _ c.from_residual.ensures.0 (only_preparing _ _ _ c.prepare.ensures.keeps c.prepare.ensures.products) c.prepare.ensures.products;
+    }
+
+pub returns-in_err-coefficients : goal.returns-in_err-coefficients
+returns-in_err-coefficients g c =
+    let err = c.from_residual-in_err-coefficients.ensures.0 in
+    record {
+      values = none_given _ _ err;
+      only = λ k e n now. prepared_alone n c.args.added_bits k c.log2_strict_usize-log_h.result c.log2_strict_usize-log_h.ensures.power (c.height.ensures.height ∙ ap height c.into_row_major_matrix-mat.ensures) e (c.prepare.ensures.only n) (c.idft_batch.ensures.only _ (sym c.height.ensures.height ∙ c.log2_strict_usize-log_h.ensures.power) n) now;
+      engine = record { later = after_preparing _ _ _ c.prepare.ensures.keeps c.prepare.ensures.products c.idft_batch.ensures.later; ready = λ done. absurd (no_answer c.from_residual-in_err-coefficients.result c.from_residual-in_err-coefficients.ensures.0 done); cost = λ k e. inverse_made _ _ k c.args.added_bits _ _ _ c.into_row_major_matrix-mat.ensures c.prepare.ensures.products (c.idft_batch.ensures.cost k (ap height c.into_row_major_matrix-mat.ensures ∙ e)) };
+    }
+
+pub returns-in_err-grown : goal.returns-in_err-grown
+returns-in_err-grown g c =
+    let err = c.from_residual-in_err-grown.ensures.0 in
+    record {
+      values = none_given _ _ err;
+      only = λ k e n now. prepared_alone n c.args.added_bits k c.log2_strict_usize-log_h.result c.log2_strict_usize-log_h.ensures.power (c.height.ensures.height ∙ ap height c.into_row_major_matrix-mat.ensures) e (c.prepare.ensures.only n) (c.idft_batch.ensures.only _ (sym c.height.ensures.height ∙ c.log2_strict_usize-log_h.ensures.power) n) now;
+      engine = record { later = after_preparing _ _ _ c.prepare.ensures.keeps c.prepare.ensures.products c.idft_batch.ensures.later; ready = λ done. absurd (no_answer c.from_residual-in_err-grown.result c.from_residual-in_err-grown.ensures.0 done); cost = λ k e. inverse_made _ _ k c.args.added_bits _ _ _ c.into_row_major_matrix-mat.ensures c.prepare.ensures.products (c.idft_batch.ensures.cost k (ap height c.into_row_major_matrix-mat.ensures ∙ e)) };
+    }

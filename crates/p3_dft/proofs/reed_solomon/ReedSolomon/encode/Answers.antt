@@ -1,21 +1,15 @@
-use Rattle.std.proofs.Common.{sym}
+use Rattle.std.proofs.Common.{sym, refl}
 use Rattle.p3_dft.proofs.Laws.Codes.{one_codeword, word_of_extension}
 use Rattle.p3_dft.proofs.reed_solomon.ReedSolomon.encode.Goals as goal
 
-pub returns-clause-codeword : goal.returns-clause-codeword
-returns-clause-codeword g c =
+pub returns : goal.returns
+returns g c =
     rw (sym c.self.view_is)
-    (word_of_extension g.F.Field g.F.TwoAdicField.generator
-    (record { log_message = c.self.inside.log_message; added_bits = c.self.inside.added_bits; shift = c.self.inside.shift })
-    (g.N.IntoRowMajorMatrix.stored c.args.mat) c.to_row_major_matrix.result (rw (sym c.self.view_is) at c.requires.message)
-    (rw c.to_row_major_matrix.ensures c.in_ok-values.ensures.values))
-
-pub returns-clause-distance : goal.returns-clause-distance
-returns-clause-distance g c =
-    rw (sym c.self.view_is)
-    (λ other word. one_codeword g.F.Field g.F.TwoAdicField.generator g.met.F.TwoAdicField.roots_law
-    (record { log_message = c.self.inside.log_message; added_bits = c.self.inside.added_bits; shift = c.self.inside.shift }) c.self.invariant other _ word
-    (word_of_extension g.F.Field g.F.TwoAdicField.generator
-    (record { log_message = c.self.inside.log_message; added_bits = c.self.inside.added_bits; shift = c.self.inside.shift })
-    (g.N.IntoRowMajorMatrix.stored c.args.mat) c.to_row_major_matrix.result (rw (sym c.self.view_is) at c.requires.message)
-    (rw c.to_row_major_matrix.ensures c.in_ok-values.ensures.values)))
+    (record {
+      extension = rw c.to_row_major_matrix.ensures c.in_ok-values.ensures.values;
+      codeword = word_of_extension g.F.Field g.F.TwoAdicField.generator (record { log_message = c.self.inside.log_message; added_bits = c.self.inside.added_bits; shift = c.self.inside.shift }) (g.N.IntoRowMajorMatrix.stored c.args.mat) c.to_row_major_matrix.result (rw (sym c.self.view_is) at c.requires.message) (rw c.to_row_major_matrix.ensures c.in_ok-values.ensures.values);
+      distance = λ other word. one_codeword g.F.Field g.F.TwoAdicField.generator g.met.F.TwoAdicField.roots_law (record { log_message = c.self.inside.log_message; added_bits = c.self.inside.added_bits; shift = c.self.inside.shift }) c.self.invariant other _ word
+          (word_of_extension g.F.Field g.F.TwoAdicField.generator (record { log_message = c.self.inside.log_message; added_bits = c.self.inside.added_bits; shift = c.self.inside.shift }) (g.N.IntoRowMajorMatrix.stored c.args.mat) c.to_row_major_matrix.result (rw (sym c.self.view_is) at c.requires.message) (rw c.to_row_major_matrix.ensures c.in_ok-values.ensures.values));
+      code = refl;
+      engine = c.in_ok-values.ensures.engine;
+    })

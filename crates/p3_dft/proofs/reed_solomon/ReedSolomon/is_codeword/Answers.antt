@@ -1,5 +1,6 @@
-use Rattle.std.proofs.Common.{sym}
+use Rattle.std.proofs.Common.{sym, ap}
 use Rattle.p3_dft.proofs.Laws.Codes.{degree_told}
+use Rattle.p3_dft.specs.Codes.{Encoder}
 use Rattle.p3_dft.proofs.reed_solomon.ReedSolomon.is_codeword.Goals as goal
 
 pub returns-clause-exact : goal.returns-clause-exact
@@ -7,3 +8,9 @@ returns-clause-exact g c =
     degree_told g.F.Field g.F.TwoAdicField.generator c.args.word.now c.in_ok-coefficients.coefficients _ _ c.requires.points
     (rw (sym c.self.view_is) (rw c.in_ok-try_clone.ensures at c.in_ok-coefficients.ensures.coefficients)) _ c.has_degree_below.result
     (rw c.message_height-message_height.ensures at c.has_degree_below.ensures)
+
+pub returns-clause-code : goal.returns-clause-code
+returns-clause-code g c = ap (λ (e : Encoder g.row.F.Denot g.row.D.Denot). e.code) c.self.view_is
+
+pub coset_idft_batch-requires-clause-fits : goal.coset_idft_batch-requires-clause-fits
+coset_idft_batch-requires-clause-fits g c = rw c.in_ok-try_clone.ensures c.requires.fits

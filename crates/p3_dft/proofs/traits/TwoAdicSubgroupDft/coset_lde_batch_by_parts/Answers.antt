@@ -76,3 +76,8 @@ returns-clause-engine g c =
     (back.0 ∙ shape.0, back.1 ∙ shape.1) e c.in_ok-coefficients-2.ensures.padded in
     parts_after g.Self.TwoAdicSubgroupDft.facts 1 1 m c.in_ok-coefficients-2.coefficients a _ _ _ _ _ _ refl (λ k e. (grown k e).0) (grown fits.log fits.high).1 (λ k. omega arith)
     c.in_ok-coefficients.ensures.engine c.coset_dft_batch.ensures.engine
+
+pub transform-coefficients-requires : goal.transform-coefficients-requires
+transform-coefficients-requires g c =
+    let are = c.in_ok-coefficients.ensures.coefficients.holds c.requires.fits.log c.requires.fits.high in
+    rw c.LAYOUT-2.ensures (c.requires.callable c.exchange_layouts.new.mat c.exchange_layouts.ensures.whole (c.exchange_layouts.ensures.shape.0 ∙ are.high, c.exchange_layouts.ensures.shape.1 ∙ are.wide))
