@@ -37,7 +37,7 @@ struct Shape {
 struct Bounds {
     least: usize,
     transform: usize,
-    // Also of a transform on a coset.
+    coset_transform: usize,
     inverse: usize,
     coset_inverse: usize,
     extension: usize,
@@ -56,7 +56,7 @@ enum Method {
     Parts,
     // By parts, where a shift multiplies the rows of coefficients alone.
     ShortShifts,
-    // Extensions by an inverse and transforms on cosets.
+    // Extensions by an inverse and transforms on cosets, whose shifts stand in the twiddles.
     Cosets,
     // `coset_lde_batch` without rows of zeros.
     WithoutZeros,
@@ -105,6 +105,11 @@ impl Method {
         Bounds {
             least: if self == Method::Sums { transform } else { 0 },
             transform,
+            coset_transform: if self == Method::Cosets {
+                transform
+            } else {
+                total(&[transform, entries])
+            },
             inverse: total(&[transform, entries]),
             coset_inverse: total(&[transform, entries, entries]),
             extension,
@@ -151,6 +156,7 @@ fn worked_bounds() -> BoundsOfEngines {
     let parts = Bounds {
         least: 1,
         transform: 12,
+        coset_transform: 20,
         inverse: 20,
         coset_inverse: 28,
         extension: 68,
@@ -161,6 +167,7 @@ fn worked_bounds() -> BoundsOfEngines {
         naive: Some(Bounds {
             least: 64,
             transform: 64,
+            coset_transform: 72,
             inverse: 72,
             coset_inverse: 80,
             extension: 344,
@@ -174,6 +181,7 @@ fn worked_bounds() -> BoundsOfEngines {
         },
         bowers: parts,
         parallel: Bounds {
+            coset_transform: 12,
             extension: 44,
             coset_extension: 44,
             ..parts
@@ -250,7 +258,7 @@ fn over_matrices<F: TwoAdicField, C: Calls<F>>(
     let _ = engine.idft(rt, test.mat);
     test.at_most(rt, "idft_batch", bounds.inverse);
     let _ = engine.coset_dft(rt, test.mat, F::GENERATOR);
-    test.at_most(rt, "coset_dft_batch", bounds.inverse);
+    test.at_most(rt, "coset_dft_batch", bounds.coset_transform);
     let _ = engine.coset_idft(rt, test.mat, F::GENERATOR);
     test.at_most(rt, "coset_idft_batch", bounds.coset_inverse);
     let _ = engine.lde(rt, test.mat, test.added_bits);
@@ -271,7 +279,7 @@ fn over_columns<F: TwoAdicField, C: Calls<F>>(
     let _ = engine.column_idft(rt, entries_of(rt, test.mat));
     test.at_most(rt, "idft", bounds.inverse);
     let _ = engine.column_coset_dft(rt, entries_of(rt, test.mat), F::GENERATOR);
-    test.at_most(rt, "coset_dft", bounds.inverse);
+    test.at_most(rt, "coset_dft", bounds.coset_transform);
     let _ = engine.column_coset_idft(rt, entries_of(rt, test.mat), F::GENERATOR);
     test.at_most(rt, "coset_idft", bounds.coset_inverse);
     let _ = engine.column_lde(rt, entries_of(rt, test.mat), test.added_bits);
@@ -293,7 +301,7 @@ fn over_space<F: TwoAdicField, V: BasedVectorSpace<F> + Copy, C: Calls<F>>(
     let _ = engine.idft_algebra(rt, test.mat);
     test.at_most(rt, "idft_algebra_batch", bounds.inverse);
     let _ = engine.coset_dft_algebra(rt, test.mat, F::GENERATOR);
-    test.at_most(rt, "coset_dft_algebra_batch", bounds.inverse);
+    test.at_most(rt, "coset_dft_algebra_batch", bounds.coset_transform);
     let _ = engine.coset_idft_algebra(rt, test.mat, F::GENERATOR);
     test.at_most(rt, "coset_idft_algebra_batch", bounds.coset_inverse);
     let _ = engine.lde_algebra(rt, test.mat, test.added_bits);
@@ -314,7 +322,7 @@ fn over_columns_of_space<F: TwoAdicField, V: BasedVectorSpace<F> + Copy, C: Call
     let _ = engine.column_idft_algebra(rt, entries_of(rt, test.mat));
     test.at_most(rt, "idft_algebra", bounds.inverse);
     let _ = engine.column_coset_dft_algebra(rt, entries_of(rt, test.mat), F::GENERATOR);
-    test.at_most(rt, "coset_dft_algebra", bounds.inverse);
+    test.at_most(rt, "coset_dft_algebra", bounds.coset_transform);
     let _ = engine.column_coset_idft_algebra(rt, entries_of(rt, test.mat), F::GENERATOR);
     test.at_most(rt, "coset_idft_algebra", bounds.coset_inverse);
     let _ = engine.column_lde_algebra(rt, entries_of(rt, test.mat), test.added_bits);
@@ -415,7 +423,7 @@ fn as_jobs<F: CanonicalField, D: TwoAdicSubgroupDft<F>>(
     let bounds = test.bounds.get();
     let most = total(&[
         bounds.transform,
-        bounds.inverse,
+        bounds.coset_transform,
         bounds.inverse,
         bounds.coset_inverse,
         bounds.extension,
