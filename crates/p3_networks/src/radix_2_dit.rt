@@ -44,12 +44,13 @@ pub fn dit_network_to_natural<F: TwoAdicField>(
         dit_network_to_natural(twiddles, high, width, log_half, products);
         one_low_layer(twiddles, values, width, log_h, log_half, products);
     } else {
-        cached_network(twiddles, values, width, log_h, products);
+        network_in_cache(twiddles, values, width, log_h, products);
     }
 }
 
-// The network on rows that fit into the cache: one layer after another on all of them.
-fn cached_network<F: TwoAdicField>(
+// One layer after another on all rows, where these fit into the cache or are one. It is a function of its own
+// since a goal of the recursion above reads both calls of itself.
+fn network_in_cache<F: TwoAdicField>(
     twiddles: &[F],
     values: &mut [F],
     width: usize,

@@ -284,6 +284,7 @@ impl<F: TwoAdicField> CosetTables<F> {
             None => Vec::with_capacity(alloc, 1)?,
         };
         let pushed = tables.push(table);
+        // The tables go back before an error is told.
         self.tables = Some(tables);
         pushed?;
         Ok(())

@@ -407,7 +407,8 @@ fn low_network_oop<F: TwoAdicField>(
     }
 }
 
-// Layer l of them, with the twiddles of its place in the tables.
+// Layer l of those of `low_network`: row t of a block meets by twiddle t of the layer, whose twiddles follow those
+// of the layers before it.
 #[inline(always)]
 pub(crate) fn one_low_layer<F: TwoAdicField>(
     twiddles: &[F],

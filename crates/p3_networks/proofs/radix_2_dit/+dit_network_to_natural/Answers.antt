@@ -75,24 +75,24 @@ returns-then-values-gt-CACHED-clause-cost g t c =
     joined_count c.args.log_h c.args.width c.args.products.now c.dit_network_to_natural.new.products c.dit_network_to_natural-then-values-gt-CACHED.new.products c.one_low_layer.new.products
     c.if-log_h-gt0.true c.dit_network_to_natural.ensures.cost c.dit_network_to_natural-then-values-gt-CACHED.ensures.cost c.one_low_layer.ensures.cost
 
-pub cached_network-requires-clause-wide : goal.cached_network-requires-clause-wide
-cached_network-requires-clause-wide g t c = c.requires.wide
+pub network_in_cache-requires-clause-wide : goal.network_in_cache-requires-clause-wide
+network_in_cache-requires-clause-wide g t c = c.requires.wide
 
-pub cached_network-requires-clause-small : goal.cached_network-requires-clause-small
-cached_network-requires-clause-small g t c = c.requires.small
+pub network_in_cache-requires-clause-small : goal.network_in_cache-requires-clause-small
+network_in_cache-requires-clause-small g t c = c.requires.small
 
-pub cached_network-requires-clause-within : goal.cached_network-requires-clause-within
-cached_network-requires-clause-within g t c = c.requires.within
+pub network_in_cache-requires-clause-within : goal.network_in_cache-requires-clause-within
+network_in_cache-requires-clause-within g t c = c.requires.within
 
-pub cached_network-requires-clause-size : goal.cached_network-requires-clause-size
-cached_network-requires-clause-size g t c = c.requires.size
+pub network_in_cache-requires-clause-size : goal.network_in_cache-requires-clause-size
+network_in_cache-requires-clause-size g t c = c.requires.size
 
-pub cached_network-requires-clause-twiddles : goal.cached_network-requires-clause-twiddles
-cached_network-requires-clause-twiddles g t c = c.requires.twiddles
+pub network_in_cache-requires-clause-twiddles : goal.network_in_cache-requires-clause-twiddles
+network_in_cache-requires-clause-twiddles g t c = c.requires.twiddles
 
 pub returns-else-log_h-gt0 : goal.returns-else-log_h-gt0
 returns-else-log_h-gt0 g t c = record {
-  values = c.cached_network.ensures.values;
-  grows = c.cached_network.ensures.grows;
-  cost = c.cached_network.ensures.cost;
+  values = c.network_in_cache.ensures.values;
+  grows = c.network_in_cache.ensures.grows;
+  cost = c.network_in_cache.ensures.cost;
 }

@@ -6,7 +6,7 @@ use Rattle.p3_matrix.proofs.Polynomials.ByIndex.{poly_same}
 use Rattle.p3_matrix.proofs.Polynomials.Cosets.{point_of_one}
 use Rattle.p3_networks.proofs.Layers.Counts.{one_chunk_counted}
 use Rattle.p3_networks.proofs.Tables.RootPowers.{fewer_roots, subgroup_table}
-use Rattle.p3_networks.proofs.radix_2_dit.cached_network.Goals as goal
+use Rattle.p3_networks.proofs.radix_2_dit.network_in_cache.Goals as goal
 
 pub first_half-requires-clause-table : goal.first_half-requires-clause-table
 first_half-requires-clause-table g c = c.requires.twiddles.size
