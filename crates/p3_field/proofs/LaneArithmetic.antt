@@ -316,7 +316,3 @@ module _ (m : ℕ) (above : 1 < m) (small : m < 2147483648) (near : 1073741824 +
 pub widened : (xs : List ℕ) → Each1 (Fits w32) xs → Each1 (Fits w64) xs
 widened [] fits = tt
 widened (x ∷ xs) fits = (Fits-widen tt fits.0, widened xs fits.1)
-
-pub widened_same : (xs : List ℕ) → Each1 (Fits w32) xs → Each1 (Fits w64) (map (λ x. x) xs)
-widened_same [] fits = tt
-widened_same (x ∷ xs) fits = (Fits-widen tt fits.0, widened_same xs fits.1)

@@ -1,5 +1,5 @@
--- Lists of one element, and lists that grow by one.
-use Rattle.std.proofs.Common.{◌≡◌, ℕ, ◌+◌, ◌++◌, ◌<◌, List, [], ◌∷◌, length, get_or, take, slice_set, refl, sym, ap, ◌∙◌, arith, ◌≤◌}
+-- Lists of one element, lists that grow by one, and places in a list.
+use Rattle.std.proofs.Common.{◌≡◌, ℕ, ◌+◌, ◌++◌, ◌<◌, List, [], ◌∷◌, length, get_or, take, slice_set, refl, sym, ap, ◌∙◌, arith, ◌≤◌, subst}
 use Rattle.std.proofs.lemmas.List.{append_assoc, take_more, take_all}
 
 pub slice_set-single : {A : Type 0} (xs : List A) (x : A) → length xs ≡ 1 → slice_set xs 0 x ≡ x ∷ []
@@ -19,6 +19,10 @@ single (y ∷ z ∷ zs) x one is = absurd (omega (arith, one))
 
 pub all_taken : {A : Type 0} (i n m : ℕ) (xs : List A) → n ≤ i → n ≡ m → length xs ≡ m → take i xs ≡ xs
 all_taken i n m xs end same long = take_all i xs (omega (arith, end, same, long))
+
+-- a place below the length that a list has lies in the list
+pub place_inside : {A : Type 0} (xs : List A) (i n : ℕ) → length xs ≡ n → i < n → i < length xs
+place_inside xs i n long below = subst (λ k. i < k) (sym long) below
 
 -- room for d more
 pub room_made : (len d d' cap : ℕ) → d ≡ d' → len + d ≤ cap → len + d' ≤ cap + 0

@@ -1,5 +1,5 @@
 -- Lists of powers, which are made one after another.
-use Rattle.std.proofs.Common.{◌≡◌, ℕ, ◌+◌, ◌<◌, List, [], ◌∷◌, ◌++◌, length, get_or, sym, ap, ◌∙◌, arith, ◌≤◌}
+use Rattle.std.proofs.Common.{◌≡◌, ℕ, ◌+◌, ◌<◌, List, [], ◌∷◌, ◌++◌, length, get_or, sym, ap, ◌∙◌, arith}
 use Rattle.std.proofs.lemmas.List.{get_or_append_left, get_or_push}
 use borrow.Author.Count.{below_more}
 use Rattle.p3_field.specs.Ring.{Ring, power}
@@ -18,6 +18,3 @@ module _ {S A : Type 0} (v : S → A) (z : S) (want : ℕ → A) where
       below_more (λ k. v (get_or ys k z) ≡ want k) n
       (λ k below. ap (λ zs. v (get_or zs k z)) pushed ∙ ap v (get_or_append_left xs (y ∷ []) z k (omega arith)) ∙ so_far k below)
       (ap (λ zs. v (get_or zs n z)) pushed ∙ ap v (get_or_push xs y z n long) ∙ is)
-
-pub at_end : (i n : ℕ) → i ≤ n → n ≤ i → i ≡ n
-at_end i n most least = omega arith

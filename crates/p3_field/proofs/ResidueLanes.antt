@@ -163,6 +163,3 @@ module _ {m : ℕ} where
         same_numbers _ _ (ap (λ rs. numbers (map value rs)) (eight_written ys x0 x1 x2 x3 x4 x5 x6 x7 wide)
         ∙ (λ i. e0 i ∷ e1 i ∷ e2 i ∷ e3 i ∷ e4 i ∷ e5 i ∷ e6 i ∷ e7 i ∷ [])
         ∙ eight_elements (λ x. x) xs 0 0 0 0 0 0 0 0 long ∙ map-id xs ∙ sym (numbers_of_elements xs below))
-
-pub inside : {A : Type 0} (xs : List A) (i n : ℕ) → length xs ≡ n → i < n → i < length xs
-inside xs i n long below = subst (λ k. i < k) (sym long) below

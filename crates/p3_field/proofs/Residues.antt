@@ -69,9 +69,9 @@ negative_other m a r below some is =
 pub bounded-eq : {m : ℕ} {B : Type 0} (make : (n : ℕ) → n < m → B) (a b : ℕ) (h : a < m) (k : b < m) → a ≡ b → make a h ≡ make b k
 bounded-eq {m} make a b h k e = subst (λ (n : ℕ). (k : n < m) → make a h ≡ make n k) e (λ k. ap (make a) (le_prop h k)) k
 
--- a product of two numbers below m needs no more than 62 bits
-pub product_of : (m n a b : ℕ) → m < 2147483648 → a < m → b < m → n ≡ m → ((a * b) % 4611686018427387904) % n ≡ (a * b) % m
-product_of m n a b small left right same =
+-- a product of two numbers below m, which is below 2^31, fits 62 bits: cut to 62 bits it has the same remainder by m
+pub product_within_62_bits : (m n a b : ℕ) → m < 2147483648 → a < m → b < m → n ≡ m → ((a * b) % 4611686018427387904) % n ≡ (a * b) % m
+product_within_62_bits m n a b small left right same =
     let a_most : a ≤ 2147483647 = omega (arith, left, small) in
     let b_most : b ≤ 2147483647 = omega (arith, right, small) in
     let product : a * b ≤ 2147483647 * 2147483647 = mul-le-mul a_most b_most in

@@ -36,7 +36,7 @@ one_more_block xs ys ps start width each =
     ∙ ap₂ (λ kept values. kept ++ (start, record { width = width; values = values }) ∷ []) (blocks_kept xs ys ps each) (part_at_end xs ys)
 
 -- places stay within the elements when more follow, and those of one more block lie behind them
-pub place_kept : {T : Type 0} (xs ys : List T) (p : Place) → IsPlaceIn xs p → IsPlaceIn (xs ++ ys) p
+place_kept : {T : Type 0} (xs ys : List T) (p : Place) → IsPlaceIn xs p → IsPlaceIn (xs ++ ys) p
 place_kept {T} xs ys p is = record {
   ordered = is.ordered;
   within = omega (arith, is.within, length-append xs ys);

@@ -1,5 +1,5 @@
 -- Stored matrices: entries that fill whole rows, that by index and as stored a matrix has the same rows, and that entries written anew keep the shape.
-use Rattle.std.proofs.Common.{◌≡◌, ℕ, ◌+◌, ◌*◌, ◌/◌, ◌-◌, ◌<◌, ◌≤◌, List, ◌++◌, length, get_or, map, take, drop, slice_range, sym, ap, ap₂, ◌∙◌, arith, rules, min}
+use Rattle.std.proofs.Common.{◌≡◌, ℕ, ◌+◌, ◌*◌, ◌/◌, ◌-◌, ◌<◌, ◌≤◌, List, ◌++◌, length, get_or, map, take, drop, slice_range, refl, sym, ap, ap₂, ◌∙◌, arith, rules, min}
 use Rattle.std.specs.List.{range_with_len}
 use Rattle.std.proofs.lemmas.List.{places}
 use Rattle.std.proofs.lemmas.List.FromFn.{fill_by_all}
@@ -7,7 +7,6 @@ use Rattle.std.proofs.Math.Nat.{add-mul, mul-le-mul_right, mul-div_cancel}
 use Rattle.p3_matrix.specs.RowMajor.{RowMajor, HasShapeOf, IsRowMajor, height, row, rows}
 use Rattle.p3_matrix.specs.Matrix.{matrix, row_of, list_of_rows}
 use Rattle.p3_matrix.proofs.Matrices.{list_same}
-use Rattle.p3_matrix.proofs.Rows.Overwritten.{written}
 use Rattle.std.proofs.lemmas.Nat.{div-add-mod'}
 
 -- h rows of w entries are h whole rows
@@ -47,10 +46,15 @@ pub height_of_parts : {T : Type 0} (m : RowMajor T) (values : List T) (w h : ℕ
 height_of_parts {T} m values w h wide size width_is values_is =
     ap₂ (λ (xs : List T) (v : ℕ). length xs / v) values_is width_is ∙ ap (λ n. n / w) size ∙ mul-div_cancel h (omega arith)
 
--- a matrix whose entries were all written anew has the shape that it had
-pub written_size : {T : Type 0} (xs ys : List T) → length ys ≡ length xs → length (take (length xs) (ys ++ drop (length ys) xs)) ≡ length xs
-written_size xs ys size = ap length (written (length xs) ys (drop (length ys) xs) size) ∙ size
+-- what is written over a whole list, any number of entries, leaves its length
+taken_size : {T : Type 0} (n : ℕ) (xs ys : List T) → length xs ≡ n → length (take n (ys ++ drop (length ys) xs)) ≡ n
+taken_size n xs ys size = search (rules, places)
 
+-- so do entries that are as many as its own
+pub written_size : {T : Type 0} (xs ys : List T) → length ys ≡ length xs → length (take (length xs) (ys ++ drop (length ys) xs)) ≡ length xs
+written_size xs ys size = taken_size (length xs) xs ys refl
+
+-- a matrix whose entries were all written anew has the shape that it had
 pub written_shape : {T : Type 0} (m out : RowMajor T) (ys : List T) → out.width ≡ m.width → out.values ≡ take (length m.values) (ys ++ drop (length ys) m.values) → length ys ≡ length m.values → HasShapeOf out m
 written_shape m out ys wide is size = (ap₂ (λ n w. n / w) (ap length is ∙ written_size m.values ys size) wide, wide)
 
@@ -58,10 +62,7 @@ written_shape m out ys wide is size = (ap₂ (λ n w. n / w) (ap length is ∙ w
 pub whole_kept : {T U : Type 0} (m : RowMajor T) (out : RowMajor U) → IsRowMajor m → HasShapeOf out m → length out.values ≡ length m.values → IsRowMajor out
 whole_kept m out whole (tall, wide) size = record { wide = omega (arith, whole.wide, wide); full = ap₂ (λ (h w : ℕ). h * w) tall wide ∙ whole.full ∙ sym size }
 
--- what is written over a whole list, any number of entries, leaves its length
-pub taken_size : {T : Type 0} (n : ℕ) (xs ys : List T) → length xs ≡ n → length (take n (ys ++ drop (length ys) xs)) ≡ n
-taken_size n xs ys size = search (rules, places)
-
+-- a matrix over which any number of entries are written stays whole
 pub taken_whole : {T : Type 0} (n w : ℕ) (xs ys : List T) → length xs ≡ n → IsRowMajor {T = T} (record { width = w; values = xs }) → IsRowMajor {T = T} (record { width = w; values = take n (ys ++ drop (length ys) xs) })
 taken_whole n w xs ys size whole =
     let e = taken_size n xs ys size ∙ sym size in

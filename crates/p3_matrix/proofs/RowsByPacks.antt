@@ -98,24 +98,29 @@ module _ {F E : Type 0} (v : F → E) (op : E → E → E) (xs ys : List E) (sam
   pub elements_done : (now : List F) (i : ℕ) → i ≡ length xs → map v now ≡ until i (by_lanes op xs ys) (map v zs) → map v now ≡ by_lanes op xs ys
   elements_done now i end is = all_written v zs (by_lanes op xs ys) all_long now i (end ∙ sym wide) is
 
--- a loop over the packs of n places: how it begins, goes on and ends
+-- a loop over the packs of n places: at its start all packs are left
 pub packs_left : (k w v n : ℕ) → v ≡ w → n ≡ k * w → 0 + k * v ≡ n
 packs_left k w v n same whole =
     let e : k * v ≡ k * w = ap (λ m. k * m) same in
     omega (arith, e, whole)
 
-pub pack_ends : (i k w m n : ℕ) → i < m → m ≡ n → i + k * w ≡ n → i + w ≤ n
-pack_ends i k w m n less same left = omega (arith, (pack_fits i k w n (omega (arith, less, same)) left).1)
+-- where a place is left, a whole pack is
+pub pack_within : (i k w m n : ℕ) → i < m → m ≡ n → i + k * w ≡ n → i + w ≤ n
+pack_within i k w m n less same left = omega (arith, (pack_fits i k w n (omega (arith, less, same)) left).1)
 
+-- with each pack fewer places are left
 pub packs_smaller : (i w v m n : ℕ) → i < m → m ≡ n → w ≡ v → 1 ≤ v → n - (i + w) < n - i
 packs_smaller i w v m n less same width wide = omega (arith, less, same, width, wide)
 
-pub packs_end : (i r m n : ℕ) → m ≤ i → m ≡ n → i + r ≡ n → i ≡ n
-packs_end i r m n end same left = omega (arith, end, same, left)
+-- the loop ends behind the last of the places
+pub loop_ends : (i r m n : ℕ) → m ≤ i → m ≡ n → i + r ≡ n → i ≡ n
+loop_ends i r m n end same left = omega (arith, end, same, left)
 
+-- before the first part no product was made
 pub none_yet : (p cost : ℕ) → p ≡ p + cost * 0
 none_yet p cost = omega arith
 
+-- all packs are done
 pub packs_done : {F E : Type 0} (v : F → E) (op : E → E → E) (i : ℕ) (xs ys zs : List F) → i ≡ length xs → length xs ≡ length ys → length xs ≡ length zs
     → rows_done op i (map v xs) (map v ys) (map v zs) ≡ by_lanes op (map v xs) (map v ys)
 packs_done v op i xs ys zs end equal over =
@@ -129,8 +134,6 @@ pack_sizes i w n m ends same = (omega (arith, ends, same), (omega (arith, ends, 
 pub more_products : (p q r cost a w v : ℕ) → q ≡ p + cost * a → r ≡ q + cost * v → w ≡ v → r ≡ p + cost * (a + w)
 more_products p q r cost a w v so_far more same = omega (arith, so_far, more, ap (λ m. cost * m) same)
 
-pub more_counted : (p q r a w v : ℕ) → q ≡ p + a → r ≡ q + v → w ≡ v → r ≡ p + (a + w)
-more_counted p q r a w v so_far more same = omega (arith, so_far, more, same)
-
+-- the products of two parts of a list are those of the whole
 pub products_in_parts : {T : Type 0} (p q r cost : ℕ) (xs us vs : List T) → xs ≡ us ++ vs → q ≡ p + cost * length us → r ≡ q + cost * length vs → r ≡ p + cost * length xs
 products_in_parts p q r cost xs us vs parts first second = more_products p q r cost (length us) (length vs) (length vs) first second refl ∙ ap (λ n. p + cost * n) (sym (ap length parts ∙ length-append us vs))

@@ -186,7 +186,3 @@ pub chunk_fits : (first tile last tiles side : ℕ) → first < side → tile < 
 chunk_fits first tile last tiles side f t l small =
     let row : first * tiles + tile + 1 ≤ side * tiles = omega (arith, mul-le-mul_right tiles f, add-mul first 1 tiles, t) in
     record { fits = lt_of_lt_of_le (omega (arith, mul-le-mul_right side row, add-mul (first * tiles + tile) 1 side, l)) (le_of_lt small) }
-
-pub chunk_starts : (a last side : ℕ) → last < side → a ≤ a * side
-chunk_starts a last side l = let some : 1 ≤ side = omega (arith, l) in
-    omega (arith, mul-le-mul_right a some)

@@ -1,5 +1,6 @@
 use Rattle.std.proofs.Common.{◌∙◌}
-use Rattle.p3_field.proofs.LaneArithmetic.{uppers_fit, rests_of_products_fit, rests_of_products_below, products_of_lanes, widened, widened_same}
+use Rattle.std.proofs.lemmas.List.{map-id}
+use Rattle.p3_field.proofs.LaneArithmetic.{uppers_fit, rests_of_products_fit, rests_of_products_below, products_of_lanes, widened}
 use Rattle.p3_field.proofs.residue31_x8.lane_products.Goals as goal
 
 pub overflow_cast-upper : goal.overflow_cast-upper
@@ -29,4 +30,4 @@ pub overflow_cast-product-2 : goal.overflow_cast-product-2
 overflow_cast-product-2 g c = widened c.args.b c.fits-b.1
 
 pub overflow_cast-estimate : goal.overflow_cast-estimate
-overflow_cast-estimate g c = widened_same _ (uppers_fit g.N.Numbers.numbers.modulus g.N.Numbers.numbers.above g.N.Numbers.small_law g.N.Numbers.quotient_law c.args.a c.args.b 8 c.fits-a.0 c.requires.first c.requires.second)
+overflow_cast-estimate g c = rw map-id (widened _ (uppers_fit g.N.Numbers.numbers.modulus g.N.Numbers.numbers.above g.N.Numbers.small_law g.N.Numbers.quotient_law c.args.a c.args.b 8 c.fits-a.0 c.requires.first c.requires.second))

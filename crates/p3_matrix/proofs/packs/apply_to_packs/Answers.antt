@@ -1,7 +1,7 @@
 use Rattle.std.proofs.Common.{◌≡◌, ◌+◌, ◌-◌, ◌*◌, ◌≤◌, length, map, sym, ap, ap₂, ◌∙◌, ◌<◌, subst, refl, lt_of_le_of_lt}
 use Rattle.std.proofs.lemmas.List.{length-map}
 use Rattle.p3_field.specs.Lanes.{by_lanes}
-use Rattle.p3_matrix.proofs.RowsByPacks.{next_pack, pack_done, pack_fits, packs_left, pack_ends, packs_smaller, packs_end, none_yet, packs_done, pack_sizes, more_products}
+use Rattle.p3_matrix.proofs.RowsByPacks.{next_pack, pack_done, pack_fits, packs_left, pack_within, packs_smaller, loop_ends, none_yet, packs_done, pack_sizes, more_products}
 use borrow.Author.Rules.{scaled_Fits}
 use Rattle.p3_matrix.proofs.packs.apply_to_packs.Goals as goal
 
@@ -17,7 +17,7 @@ loop-at-preserved g c =
     let xs = map v c.args.row_1.now in
     let ys = map v c.args.row_2.now in
     let fits = pack_fits l.at l.invariant.left.0 w (length c.args.row_1.now) (subst (λ n. l.at < n) l.auto.row_1 c.loop-at-test.true) l.invariant.left.1 in
-    let sizes = pack_sizes l.at w (length c.args.row_1.now) (length xs) (pack_ends l.at l.invariant.left.0 w _ (length c.args.row_1.now) c.loop-at-test.true l.auto.row_1 l.invariant.left.1) (length-map c.args.row_1.now v) in
+    let sizes = pack_sizes l.at w (length c.args.row_1.now) (length xs) (pack_within l.at l.invariant.left.0 w _ (length c.args.row_1.now) c.loop-at-test.true l.auto.row_1 l.invariant.left.1) (length-map c.args.row_1.now v) in
     let equal : length xs ≡ length ys = length-map c.args.row_1.now v ∙ c.requires.equal ∙ sym (length-map c.args.row_2.now v) in
     let part_1 = next_pack near v l.at xs ys xs l.row_1 k sizes.0 equal l.invariant.near in
     let part_2 = next_pack far v l.at xs ys ys l.row_2 k sizes.0 equal l.invariant.far in
@@ -42,23 +42,23 @@ pub offset_bounds-row_2-at : goal.offset_bounds-row_2-at
 offset_bounds-row_2-at g c = scaled_Fits _ _ _ (subst (λ n. c.loop-at.at < n) (c.loop-at.auto.row_1 ∙ c.requires.equal) c.loop-at-test.true) c.well_formed.1.1.0.1
 
 pub overflow_add-at : goal.overflow_add-at
-overflow_add-at g c = record { fits = lt_of_le_of_lt (pack_ends c.loop-at.at c.loop-at.invariant.left.0 c.WIDTH-width.result _ (length c.args.row_1.now) c.loop-at-test.true c.loop-at.auto.row_1 c.loop-at.invariant.left.1) c.well_formed.1.0.0 }
+overflow_add-at g c = record { fits = lt_of_le_of_lt (pack_within c.loop-at.at c.loop-at.invariant.left.0 c.WIDTH-width.result _ (length c.args.row_1.now) c.loop-at-test.true c.loop-at.auto.row_1 c.loop-at.invariant.left.1) c.well_formed.1.0.0 }
 
 pub overflow_add-at-in-loop-at : goal.overflow_add-at-in-loop-at
-overflow_add-at-in-loop-at g c = record { fits = lt_of_le_of_lt (pack_ends c.loop-at.at c.loop-at.invariant.left.0 c.WIDTH-width.result _ (length c.args.row_1.now) c.loop-at-test.true c.loop-at.auto.row_1 c.loop-at.invariant.left.1) c.well_formed.1.0.0 }
+overflow_add-at-in-loop-at g c = record { fits = lt_of_le_of_lt (pack_within c.loop-at.at c.loop-at.invariant.left.0 c.WIDTH-width.result _ (length c.args.row_1.now) c.loop-at-test.true c.loop-at.auto.row_1 c.loop-at.invariant.left.1) c.well_formed.1.0.0 }
 
 pub overflow_add-at-in-loop-at-2 : goal.overflow_add-at-in-loop-at-2
-overflow_add-at-in-loop-at-2 g c = record { fits = lt_of_le_of_lt (pack_ends c.loop-at.at c.loop-at.invariant.left.0 c.WIDTH-width.result _ (length c.args.row_1.now) c.loop-at-test.true c.loop-at.auto.row_1 c.loop-at.invariant.left.1) c.well_formed.1.0.0 }
+overflow_add-at-in-loop-at-2 g c = record { fits = lt_of_le_of_lt (pack_within c.loop-at.at c.loop-at.invariant.left.0 c.WIDTH-width.result _ (length c.args.row_1.now) c.loop-at-test.true c.loop-at.auto.row_1 c.loop-at.invariant.left.1) c.well_formed.1.0.0 }
 
 pub slice_bounds-apply_to_pack-end : goal.slice_bounds-apply_to_pack-end
-slice_bounds-apply_to_pack-end g c = subst (λ n. c.loop-at.at + c.WIDTH-width.result ≤ n) (sym c.loop-at.auto.row_1) (pack_ends c.loop-at.at c.loop-at.invariant.left.0 c.WIDTH-width.result _ (length c.args.row_1.now) c.loop-at-test.true c.loop-at.auto.row_1 c.loop-at.invariant.left.1)
+slice_bounds-apply_to_pack-end g c = subst (λ n. c.loop-at.at + c.WIDTH-width.result ≤ n) (sym c.loop-at.auto.row_1) (pack_within c.loop-at.at c.loop-at.invariant.left.0 c.WIDTH-width.result _ (length c.args.row_1.now) c.loop-at-test.true c.loop-at.auto.row_1 c.loop-at.invariant.left.1)
 
 pub slice_bounds-apply_to_pack-end-in-loop-at : goal.slice_bounds-apply_to_pack-end-in-loop-at
-slice_bounds-apply_to_pack-end-in-loop-at g c = subst (λ n. c.loop-at.at + c.WIDTH-width.result ≤ n) (c.requires.equal ∙ sym c.loop-at.auto.row_2) (pack_ends c.loop-at.at c.loop-at.invariant.left.0 c.WIDTH-width.result _ (length c.args.row_1.now) c.loop-at-test.true c.loop-at.auto.row_1 c.loop-at.invariant.left.1)
+slice_bounds-apply_to_pack-end-in-loop-at g c = subst (λ n. c.loop-at.at + c.WIDTH-width.result ≤ n) (c.requires.equal ∙ sym c.loop-at.auto.row_2) (pack_within c.loop-at.at c.loop-at.invariant.left.0 c.WIDTH-width.result _ (length c.args.row_1.now) c.loop-at-test.true c.loop-at.auto.row_1 c.loop-at.invariant.left.1)
 
 pub returns : goal.returns
 returns g c =
-    let end = packs_end _ _ _ _ c.loop-at-test.false c.loop-at.auto.row_1 c.loop-at.invariant.left.1 in
+    let end = loop_ends _ _ _ _ c.loop-at-test.false c.loop-at.auto.row_1 c.loop-at.invariant.left.1 in
     record {
       near = c.loop-at.invariant.near ∙ packs_done g.F.Field.value (g.B.Butterfly.near g.F.Field.Element g.F.Field.ring g.F.Field.value c.args.butterfly.now) c.loop-at.at c.args.row_1.now c.args.row_2.now c.args.row_1.now end c.requires.equal refl;
       far = c.loop-at.invariant.far ∙ packs_done g.F.Field.value (g.B.Butterfly.far g.F.Field.Element g.F.Field.ring g.F.Field.value c.args.butterfly.now) c.loop-at.at c.args.row_1.now c.args.row_2.now c.args.row_2.now end c.requires.equal c.requires.equal;

@@ -4,7 +4,7 @@ use Rattle.p3_field.specs.Lanes.{by_lanes}
 use Rattle.p3_field.specs.Ring.{minus}
 use Rattle.p3_field.proofs.LaneLoops.{get_or-by_lanes}
 use Rattle.p3_matrix.proofs.Lanes.{length-by_lanes}
-use Rattle.p3_matrix.proofs.RowsByPacks.{element_stays, element_done, elements_done, more_counted}
+use Rattle.p3_matrix.proofs.RowsByPacks.{element_stays, element_done, elements_done}
 use borrow.Author.Rules.{scaled_Fits}
 use Rattle.p3_matrix.proofs.packs.dit_on_elements.Goals as goal
 
@@ -31,7 +31,7 @@ loop-i-preserved g c =
     record {
       near = element_done v r.add xs ms same c.args.row_1.now (sym wide) l.row_1 l.i _ d below l.invariant.near (g.met.F.Field.add_law _ _ _ c.add.ensures ∙ ap₂ r.add here multiple);
       far = element_done v (minus r) xs ms same c.args.row_2.now (sym c.requires.rows ∙ sym wide) l.row_2 l.i _ d below l.invariant.far (g.met.F.Field.sub_law _ _ _ c.sub.ensures ∙ ap₂ (minus r) here multiple);
-      count = more_counted _ _ _ _ 1 1 l.invariant.count c.scaled-multiple.ensures.count refl;
+      count = omega (arith, l.invariant.count, c.scaled-multiple.ensures.count);
     }
 
 pub returns-clause-near : goal.returns-clause-near

@@ -3,7 +3,7 @@ use Rattle.std.proofs.lemmas.List.{length-map, take-map, drop-map}
 use Rattle.p3_field.specs.Lanes.{by_lanes}
 use Rattle.p3_field.specs.Ring.{minus}
 use Rattle.p3_matrix.proofs.Lanes.{length-by_lanes, take-by_lanes, drop-by_lanes}
-use Rattle.p3_matrix.proofs.RowsByPacks.{next_pack, pack_done, pack_fits, rows_done_all, packs_left, pack_ends, packs_smaller, pack_sizes, more_counted}
+use Rattle.p3_matrix.proofs.RowsByPacks.{next_pack, pack_done, pack_fits, rows_done_all, packs_left, pack_within, packs_smaller, pack_sizes}
 use borrow.Author.Rules.{scaled_Fits}
 use Rattle.p3_matrix.proofs.packs.dit_on_packs.Goals as goal
 
@@ -19,7 +19,7 @@ loop-at-preserved g c =
     let ts = map v c.args.twiddles.now in
     let ms = by_lanes f.ring.mul ys ts in
     let fits = pack_fits l.at l.invariant.left.0 w (length c.args.row_1.now) (subst (λ n. l.at < n) l.auto.row_1 c.loop-at-test.true) l.invariant.left.1 in
-    let sizes = pack_sizes l.at w (length c.args.row_1.now) (length xs) (pack_ends l.at l.invariant.left.0 w _ (length c.args.row_1.now) c.loop-at-test.true l.auto.row_1 l.invariant.left.1) (length-map c.args.row_1.now v) in
+    let sizes = pack_sizes l.at w (length c.args.row_1.now) (length xs) (pack_within l.at l.invariant.left.0 w _ (length c.args.row_1.now) c.loop-at-test.true l.auto.row_1 l.invariant.left.1) (length-map c.args.row_1.now v) in
     let equal : length xs ≡ length ys = length-map c.args.row_1.now v ∙ c.requires.equal ∙ sym (length-map c.args.row_2.now v) in
     let turned : length ys ≡ length ts = sym equal ∙ length-map c.args.row_1.now v ∙ c.requires.twiddles ∙ sym (length-map c.args.twiddles.now v) in
     let long : length xs ≡ length ms = equal ∙ sym (length-by_lanes f.ring.mul ys ts turned) in
@@ -34,7 +34,7 @@ loop-at-preserved g c =
       left = fits;
       near = pack_done f.ring.add v l.at xs ms xs l.row_1 k (l.at + w) c.dit_on_pack.new.part_1 sizes.1.0 long sizes.1.1 l.invariant.near (c.dit_on_pack.ensures.near ∙ ap₂ (by_lanes f.ring.add) part_1 multiples);
       far = pack_done (minus f.ring) v l.at xs ms ys l.row_2 k (l.at + w) c.dit_on_pack.new.part_2 sizes.1.0 long sizes.1.1 l.invariant.far (c.dit_on_pack.ensures.far ∙ ap₂ (by_lanes (minus f.ring)) part_1 multiples);
-      count = more_counted _ _ _ _ _ _ l.invariant.count c.dit_on_pack.ensures.count c.WIDTH-width.ensures;
+      count = omega (arith, l.invariant.count, c.dit_on_pack.ensures.count, c.WIDTH-width.ensures);
     }
 
 pub returns-clause-near : goal.returns-clause-near
@@ -80,22 +80,22 @@ pub offset_bounds-row_2-at : goal.offset_bounds-row_2-at
 offset_bounds-row_2-at g c = scaled_Fits _ _ _ (subst (λ n. c.loop-at.at < n) (c.loop-at.auto.row_1 ∙ c.requires.equal) c.loop-at-test.true) c.well_formed.1.1.0.1
 
 pub overflow_add-at : goal.overflow_add-at
-overflow_add-at g c = record { fits = lt_of_le_of_lt (pack_ends c.loop-at.at c.loop-at.invariant.left.0 c.WIDTH-width.result _ (length c.args.row_1.now) c.loop-at-test.true c.loop-at.auto.row_1 c.loop-at.invariant.left.1) c.well_formed.1.0.0 }
+overflow_add-at g c = record { fits = lt_of_le_of_lt (pack_within c.loop-at.at c.loop-at.invariant.left.0 c.WIDTH-width.result _ (length c.args.row_1.now) c.loop-at-test.true c.loop-at.auto.row_1 c.loop-at.invariant.left.1) c.well_formed.1.0.0 }
 
 pub overflow_add-at-in-loop-at : goal.overflow_add-at-in-loop-at
-overflow_add-at-in-loop-at g c = record { fits = lt_of_le_of_lt (pack_ends c.loop-at.at c.loop-at.invariant.left.0 c.WIDTH-width.result _ (length c.args.row_1.now) c.loop-at-test.true c.loop-at.auto.row_1 c.loop-at.invariant.left.1) c.well_formed.1.0.0 }
+overflow_add-at-in-loop-at g c = record { fits = lt_of_le_of_lt (pack_within c.loop-at.at c.loop-at.invariant.left.0 c.WIDTH-width.result _ (length c.args.row_1.now) c.loop-at-test.true c.loop-at.auto.row_1 c.loop-at.invariant.left.1) c.well_formed.1.0.0 }
 
 pub overflow_add-at-in-loop-at-2 : goal.overflow_add-at-in-loop-at-2
-overflow_add-at-in-loop-at-2 g c = record { fits = lt_of_le_of_lt (pack_ends c.loop-at.at c.loop-at.invariant.left.0 c.WIDTH-width.result _ (length c.args.row_1.now) c.loop-at-test.true c.loop-at.auto.row_1 c.loop-at.invariant.left.1) c.well_formed.1.0.0 }
+overflow_add-at-in-loop-at-2 g c = record { fits = lt_of_le_of_lt (pack_within c.loop-at.at c.loop-at.invariant.left.0 c.WIDTH-width.result _ (length c.args.row_1.now) c.loop-at-test.true c.loop-at.auto.row_1 c.loop-at.invariant.left.1) c.well_formed.1.0.0 }
 
 pub overflow_add-at-in-loop-at-3 : goal.overflow_add-at-in-loop-at-3
-overflow_add-at-in-loop-at-3 g c = record { fits = lt_of_le_of_lt (pack_ends c.loop-at.at c.loop-at.invariant.left.0 c.WIDTH-width.result _ (length c.args.row_1.now) c.loop-at-test.true c.loop-at.auto.row_1 c.loop-at.invariant.left.1) c.well_formed.1.0.0 }
+overflow_add-at-in-loop-at-3 g c = record { fits = lt_of_le_of_lt (pack_within c.loop-at.at c.loop-at.invariant.left.0 c.WIDTH-width.result _ (length c.args.row_1.now) c.loop-at-test.true c.loop-at.auto.row_1 c.loop-at.invariant.left.1) c.well_formed.1.0.0 }
 
 pub slice_bounds-dit_on_pack-end : goal.slice_bounds-dit_on_pack-end
-slice_bounds-dit_on_pack-end g c = subst (λ n. c.loop-at.at + c.WIDTH-width.result ≤ n) c.requires.twiddles (pack_ends c.loop-at.at c.loop-at.invariant.left.0 c.WIDTH-width.result _ (length c.args.row_1.now) c.loop-at-test.true c.loop-at.auto.row_1 c.loop-at.invariant.left.1)
+slice_bounds-dit_on_pack-end g c = subst (λ n. c.loop-at.at + c.WIDTH-width.result ≤ n) c.requires.twiddles (pack_within c.loop-at.at c.loop-at.invariant.left.0 c.WIDTH-width.result _ (length c.args.row_1.now) c.loop-at-test.true c.loop-at.auto.row_1 c.loop-at.invariant.left.1)
 
 pub slice_bounds-dit_on_pack-end-in-loop-at : goal.slice_bounds-dit_on_pack-end-in-loop-at
-slice_bounds-dit_on_pack-end-in-loop-at g c = subst (λ n. c.loop-at.at + c.WIDTH-width.result ≤ n) (sym c.loop-at.auto.row_1) (pack_ends c.loop-at.at c.loop-at.invariant.left.0 c.WIDTH-width.result _ (length c.args.row_1.now) c.loop-at-test.true c.loop-at.auto.row_1 c.loop-at.invariant.left.1)
+slice_bounds-dit_on_pack-end-in-loop-at g c = subst (λ n. c.loop-at.at + c.WIDTH-width.result ≤ n) (sym c.loop-at.auto.row_1) (pack_within c.loop-at.at c.loop-at.invariant.left.0 c.WIDTH-width.result _ (length c.args.row_1.now) c.loop-at-test.true c.loop-at.auto.row_1 c.loop-at.invariant.left.1)
 
 pub slice_bounds-dit_on_pack-end-in-loop-at-2 : goal.slice_bounds-dit_on_pack-end-in-loop-at-2
-slice_bounds-dit_on_pack-end-in-loop-at-2 g c = subst (λ n. c.loop-at.at + c.WIDTH-width.result ≤ n) (c.requires.equal ∙ sym c.loop-at.auto.row_2) (pack_ends c.loop-at.at c.loop-at.invariant.left.0 c.WIDTH-width.result _ (length c.args.row_1.now) c.loop-at-test.true c.loop-at.auto.row_1 c.loop-at.invariant.left.1)
+slice_bounds-dit_on_pack-end-in-loop-at-2 g c = subst (λ n. c.loop-at.at + c.WIDTH-width.result ≤ n) (c.requires.equal ∙ sym c.loop-at.auto.row_2) (pack_within c.loop-at.at c.loop-at.invariant.left.0 c.WIDTH-width.result _ (length c.args.row_1.now) c.loop-at-test.true c.loop-at.auto.row_1 c.loop-at.invariant.left.1)

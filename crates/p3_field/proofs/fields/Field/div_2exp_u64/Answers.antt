@@ -1,6 +1,5 @@
-use Rattle.std.proofs.Common.{◌∙◌, ap, sym}
+use Rattle.std.proofs.Common.{◌∙◌, ap, sym, le_antisymm}
 use Rattle.p3_field.proofs.Powers.{halved-more, power-zero}
-use Rattle.p3_field.proofs.PowerLists.{at_end}
 use Rattle.p3_field.specs.Ring.{power, two}
 use Rattle.p3_field.proofs.fields.Field.div_2exp_u64.Goals as goal
 
@@ -14,4 +13,4 @@ pub loop-i-preserved : goal.loop-i-preserved
 loop-i-preserved g c = halved-more g.Self.Field.ring _ _ _ c.loop-i._i c.loop-i.invariant c.halve-halved.ensures
 
 pub returns : goal.returns
-returns g c = ap (λ k. g.Self.Field.ring.mul (power g.Self.Field.ring (two g.Self.Field.ring) k) (g.Self.Field.value c.loop-i.halved)) (sym (at_end _ _ c.loop-i.auto._i-end c.loop-i-test.false)) ∙ c.loop-i.invariant
+returns g c = ap (λ k. g.Self.Field.ring.mul (power g.Self.Field.ring (two g.Self.Field.ring) k) (g.Self.Field.value c.loop-i.halved)) (sym (le_antisymm c.loop-i.auto._i-end c.loop-i-test.false)) ∙ c.loop-i.invariant

@@ -1,6 +1,5 @@
-use Rattle.std.proofs.Common.{◌∙◌, sym, ap, ◌^◌}
+use Rattle.std.proofs.Common.{◌∙◌, sym, ap, ◌^◌, le_antisymm}
 use Rattle.p3_field.proofs.Powers.{power-double, power-suc, power-zero}
-use Rattle.p3_field.proofs.PowerLists.{at_end}
 use Rattle.p3_field.specs.Ring.{power}
 use Rattle.p3_field.proofs.fields.Field.exp_power_of_2.Goals as goal
 
@@ -16,4 +15,4 @@ loop-i-preserved g c =
     ∙ power-double g.Self.Field.ring _ _ c.loop-i._i c.loop-i.invariant
 
 pub returns : goal.returns
-returns g c = c.loop-i.invariant ∙ ap (λ k. power g.Self.Field.ring (g.Self.Field.value c.args.self) (2 ^ k)) (at_end _ _ c.loop-i.auto._i-end c.loop-i-test.false)
+returns g c = c.loop-i.invariant ∙ ap (λ k. power g.Self.Field.ring (g.Self.Field.value c.args.self) (2 ^ k)) (le_antisymm c.loop-i.auto._i-end c.loop-i-test.false)

@@ -1,5 +1,4 @@
-use Rattle.std.proofs.Common.{rules, sym, ◌∙◌, refl}
-use Rattle.p3_field.proofs.PowerLists.{at_end}
+use Rattle.std.proofs.Common.{rules, sym, ◌∙◌, refl, le_antisymm}
 use Rattle.std.proofs.lemmas.List.{length-set}
 use Rattle.p3_field.proofs.LaneLoops.{more_pairs, all_written, pairs, length-pairs}
 use borrow.Author.Rules.{scaled_Fits}
@@ -17,7 +16,7 @@ pub returns : goal.returns
 returns g c =
     all_written g.F.Field.value c.args.self.lanes (pairs g.F.Field.value g.F.Field.ring.add c.args.self.lanes c.args.other.lanes (c.args.other.long ∙ sym c.args.self.long))
     (length-pairs g.F.Field.value g.F.Field.ring.add c.args.self.lanes c.args.other.lanes (c.args.other.long ∙ sym c.args.self.long)) c.loop-i.lanes c.loop-i.i
-    (at_end c.loop-i.i _ c.loop-i.auto.i-end c.loop-i-test.false ∙ sym c.args.self.long) c.loop-i.invariant.lanes
+    (le_antisymm c.loop-i.auto.i-end c.loop-i-test.false ∙ sym c.args.self.long) c.loop-i.invariant.lanes
 
 pub loop-i-init : goal.loop-i-init
 loop-i-init g c = record { long = c.args.self.long; lanes = refl }

@@ -1,6 +1,5 @@
-use Rattle.std.proofs.Common.{rules, ap, sym, ◌∙◌, map, replicate, refl}
-use Rattle.p3_field.proofs.ResidueLanes.{inside}
-use Rattle.p3_field.proofs.PowerLists.{at_end}
+use Rattle.std.proofs.Common.{rules, ap, sym, ◌∙◌, map, replicate, refl, le_antisymm}
+use Rattle.p3_field.proofs.Lists.{place_inside}
 use Rattle.std.proofs.lemmas.List.{length-map, length-replicate, get_or-map, length-set}
 use Rattle.p3_field.proofs.LaneLoops.{written, all_written}
 use borrow.Author.Rules.{scaled_Fits}
@@ -15,8 +14,8 @@ loop-i-preserved g c =
       long = length-set c.loop-i.lanes c.loop-i.i _ ∙ c.loop-i.invariant.long;
       lanes =
           written value start (map value c.args.from.now) (length-map c.args.from.now value ∙ c.requires ∙ sym wide) c.loop-i.lanes c.loop-i.i c.index-from-i.result (value c.index-from-i.result)
-          (inside start c.loop-i.i _ wide c.loop-i-test.true) c.loop-i.invariant.lanes
-          (ap value c.index-from-i.is ∙ sym (get_or-map value c.args.from.now c.loop-i.i c.index-from-i.result (value c.index-from-i.result) (inside c.args.from.now c.loop-i.i _ c.requires c.loop-i-test.true)));
+          (place_inside start c.loop-i.i _ wide c.loop-i-test.true) c.loop-i.invariant.lanes
+          (ap value c.index-from-i.is ∙ sym (get_or-map value c.args.from.now c.loop-i.i c.index-from-i.result (value c.index-from-i.result) (place_inside c.args.from.now c.loop-i.i _ c.requires c.loop-i-test.true)));
     }
 
 pub returns : goal.returns
@@ -24,7 +23,7 @@ returns g c =
     let value = g.F.Field.value in
     let wide = length-replicate g.row.N c.ZERO-lanes.result in
     all_written value (replicate g.row.N c.ZERO-lanes.result) (map value c.args.from.now) (length-map c.args.from.now value ∙ c.requires ∙ sym wide) c.loop-i.lanes c.loop-i.i
-    (at_end c.loop-i.i _ c.loop-i.auto.i-end c.loop-i-test.false ∙ sym wide) c.loop-i.invariant.lanes
+    (le_antisymm c.loop-i.auto.i-end c.loop-i-test.false ∙ sym wide) c.loop-i.invariant.lanes
 
 pub loop-i-init : goal.loop-i-init
 loop-i-init g c = record { long = length-replicate g.row.N _; lanes = refl }

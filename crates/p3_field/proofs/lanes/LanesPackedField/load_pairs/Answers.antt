@@ -1,5 +1,5 @@
 use Rattle.std.proofs.Common.{◌+◌, ◌*◌, ◌∙◌, ap, rules, get_or, lt_of_lt_of_le}
-use Rattle.p3_field.proofs.ResidueLanes.{inside}
+use Rattle.p3_field.proofs.Lists.{place_inside}
 use Rattle.std.proofs.lemmas.List.{get_or_default, length-replicate, length-set}
 use Rattle.p3_field.proofs.LaneLoops.{next_written, first_inside, second_inside}
 use borrow.Author.Count.{below_none}
@@ -13,9 +13,9 @@ loop-i-preserved g c =
     record {
       long = length-set c.loop-i.first c.loop-i.i _ ∙ c.loop-i.invariant.long;
       long_second = length-set c.loop-i.second c.loop-i.i _ ∙ c.loop-i.invariant.long_second;
-      first = next_written value zero (λ k. value (get_or c.args.from.now (2 * k) zero)) c.loop-i.first c.loop-i.i _ (inside c.loop-i.first c.loop-i.i _ c.loop-i.invariant.long c.loop-i-test.true) c.loop-i.invariant.first
+      first = next_written value zero (λ k. value (get_or c.args.from.now (2 * k) zero)) c.loop-i.first c.loop-i.i _ (place_inside c.loop-i.first c.loop-i.i _ c.loop-i.invariant.long c.loop-i-test.true) c.loop-i.invariant.first
           (ap value (c.index-from-i.is ∙ get_or_default c.args.from.now (2 * c.loop-i.i) _ _ (first_inside c.args.from.now c.loop-i.i g.row.N c.requires c.loop-i-test.true)));
-      second = next_written value zero (λ k. value (get_or c.args.from.now (2 * k + 1) zero)) c.loop-i.second c.loop-i.i _ (inside c.loop-i.second c.loop-i.i _ c.loop-i.invariant.long_second c.loop-i-test.true) c.loop-i.invariant.second
+      second = next_written value zero (λ k. value (get_or c.args.from.now (2 * k + 1) zero)) c.loop-i.second c.loop-i.i _ (place_inside c.loop-i.second c.loop-i.i _ c.loop-i.invariant.long_second c.loop-i-test.true) c.loop-i.invariant.second
           (ap value (c.index-from-i-in-loop-i.is ∙ get_or_default c.args.from.now (2 * c.loop-i.i + 1) _ _ (second_inside c.args.from.now c.loop-i.i g.row.N c.requires c.loop-i-test.true)));
     }
 

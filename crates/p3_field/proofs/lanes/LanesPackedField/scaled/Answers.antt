@@ -1,5 +1,4 @@
-use Rattle.std.proofs.Common.{rules, sym, ◌∙◌, map, refl}
-use Rattle.p3_field.proofs.PowerLists.{at_end}
+use Rattle.std.proofs.Common.{rules, sym, ◌∙◌, map, refl, le_antisymm}
 use Rattle.std.proofs.lemmas.List.{length-map, length-set}
 use Rattle.p3_field.proofs.LaneLoops.{more_images, all_written}
 use borrow.Author.Rules.{scaled_Fits}
@@ -18,7 +17,7 @@ returns-clause-lanes g c =
     let op : g.F.Field.Element → g.F.Field.Element = λ x. g.F.Field.ring.mul x (g.F.Field.value c.args.t) in
     let values = map g.F.Field.value c.args.self.lanes in
     all_written g.F.Field.value c.args.self.lanes (map op values) (length-map values op ∙ length-map c.args.self.lanes g.F.Field.value) c.loop-i.lanes c.loop-i.i
-    (at_end c.loop-i.i _ c.loop-i.auto.i-end c.loop-i-test.false ∙ sym c.args.self.long) c.loop-i.invariant.lanes
+    (le_antisymm c.loop-i.auto.i-end c.loop-i-test.false ∙ sym c.args.self.long) c.loop-i.invariant.lanes
 
 pub loop-i-init : goal.loop-i-init
 loop-i-init g c = record { long = c.args.self.long; lanes = refl }

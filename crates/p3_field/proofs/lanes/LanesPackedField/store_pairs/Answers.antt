@@ -1,5 +1,5 @@
 use Rattle.std.proofs.Common.{◌+◌, ◌*◌, ◌<◌, length, ap, rules, get_or, lt_of_lt_of_le, set, ◌∙◌}
-use Rattle.p3_field.proofs.ResidueLanes.{inside as room}
+use Rattle.p3_field.proofs.Lists.{place_inside}
 use Rattle.std.proofs.lemmas.List.{get_or_default, length-set}
 use Rattle.p3_field.proofs.LaneLoops.{next_first, next_second, first_inside, second_inside}
 use borrow.Author.Rules.{scaled_Fits, Below-set}
@@ -13,9 +13,9 @@ loop-i-preserved g c =
     record {
       long = length-set (set c.loop-i.to (2 * c.loop-i.i) _) (2 * c.loop-i.i + 1) _ ∙ length-set c.loop-i.to (2 * c.loop-i.i) _ ∙ c.loop-i.invariant.long;
       first = next_first value zero (λ k. value (get_or c.args.self.lanes k zero)) c.loop-i.to c.loop-i.i _ _ inside c.loop-i.invariant.first
-          (ap value (get_or_default c.args.self.lanes c.loop-i.i _ _ (room c.args.self.lanes c.loop-i.i _ c.args.self.long c.loop-i-test.true)));
+          (ap value (get_or_default c.args.self.lanes c.loop-i.i _ _ (place_inside c.args.self.lanes c.loop-i.i _ c.args.self.long c.loop-i-test.true)));
       second = next_second value zero (λ k. value (get_or c.args.second.lanes k zero)) c.loop-i.to c.loop-i.i _ _ inside c.loop-i.invariant.second
-          (ap value (get_or_default c.args.second.lanes c.loop-i.i _ _ (room c.args.second.lanes c.loop-i.i _ c.args.second.long c.loop-i-test.true)));
+          (ap value (get_or_default c.args.second.lanes c.loop-i.i _ _ (place_inside c.args.second.lanes c.loop-i.i _ c.args.second.long c.loop-i-test.true)));
     }
 
 pub returns : goal.returns

@@ -1,5 +1,5 @@
-use Rattle.std.proofs.Common.{arith, ◌∙◌, lt_of_lt_of_le, ap, sym, ◌+◌, subst, ◌≤◌}
-use Rattle.p3_field.proofs.PowerLists.{first_power, next_power, next_pushed, at_end}
+use Rattle.std.proofs.Common.{arith, ◌∙◌, lt_of_lt_of_le, ap, sym, ◌+◌, subst, ◌≤◌, le_antisymm}
+use Rattle.p3_field.proofs.PowerLists.{first_power, next_power, next_pushed}
 use Rattle.p3_field.proofs.power_iterator.Powers.collect_n.Goals as goal
 
 pub loop-i-init : goal.loop-i-init
@@ -19,4 +19,4 @@ loop-i-preserved g c = record {
 }
 
 pub returns : goal.returns
-returns g c = record { long = c.loop-i.invariant.long ∙ at_end _ _ c.loop-i.auto._i-end c.loop-i-test.false; powers = λ i below. c.loop-i.invariant.filled i (lt_of_lt_of_le below c.loop-i-test.false) }
+returns g c = record { long = c.loop-i.invariant.long ∙ le_antisymm c.loop-i.auto._i-end c.loop-i-test.false; powers = λ i below. c.loop-i.invariant.filled i (lt_of_lt_of_le below c.loop-i-test.false) }
