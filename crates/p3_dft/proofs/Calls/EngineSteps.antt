@@ -1,8 +1,7 @@
 -- An engine after one call and then another.
 use Rattle.std.proofs.Common.{ℕ, ◌≡◌, ◌+◌, ◌*◌, ◌^◌, ◌≤◌, Result, Ok, Err, IsOk, IsErr, refl, ap, ap₂, ◌∙◌, add-one, arith, rules}
 use Rattle.std.proofs.Math.Nat.{le_refl, suc-mul}
-use Rattle.std.specs.Result.{IfOk, OnOk}
-use Rattle.std.proofs.lemmas.Result.{IfOk-from_err}
+use Rattle.std.specs.Result.{OnOk}
 use Rattle.p3_matrix.specs.RowMajor.{HasShapeOf, RowMajor, height}
 use Rattle.p3_dft.specs.Engines.{AfterDft, EngineFacts, HasProductsMore, IsAfter, IsLater}
 
@@ -15,20 +14,6 @@ no_answer (Err x) err ok = search rules
 pub where_ok : {A X P : Type 0} (r : Result A X) → (IsOk r → P) → OnOk r P
 where_ok (Ok x) given = given refl
 where_ok (Err x) given = tt
-
--- a bound on products may be larger
-pub more_allowed : (made bound more : ℕ) → made ≤ bound → made ≤ bound + more
-more_allowed made bound more within = omega arith
-
-pub larger_bound : (made before bound larger : ℕ) → made ≤ before + bound → bound ≤ larger → made ≤ before + larger
-larger_bound made before bound larger within more = omega (arith, within, more)
-
-pub none_more : (made before bound : ℕ) → made ≡ before → made ≤ before + bound
-none_more made before bound same = omega (arith, same)
-
--- and nothing is said of the answer
-pub none_given : {A X : Type 0} (r : Result A X) (P : A → Type 0) → IsErr r → IfOk r P
-none_given r P err = IfOk-from_err r P err
 
 module _ {E F : Type 0} (facts : EngineFacts E F) where
   pub later_same : (e : E) → IsLater facts e e

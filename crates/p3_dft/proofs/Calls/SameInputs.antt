@@ -3,10 +3,6 @@ use Rattle.std.proofs.Common.{◌≡◌, ℕ, subst}
 use Rattle.p3_matrix.specs.RowMajor.{RowMajor}
 use Rattle.p3_dft.specs.Engines.{AfterDft, AfterLde, EngineFacts}
 
--- what is known of three numbers is known of equal ones
-pub subst₃ : (P : ℕ → ℕ → ℕ → Type 0) (a b c d e f : ℕ) → a ≡ d → b ≡ e → c ≡ f → P a b c → P d e f
-subst₃ P a b c d e f x y z known = subst (λ (n : ℕ). P d e n) z (subst (λ (n : ℕ). P d n c) y (subst (λ (n : ℕ). P n b c) x known))
-
 module _ {E F T : Type 0} (facts : EngineFacts E F) (m n : RowMajor T) (a b : E) (answered : Type 0) where
   pub dft_of_same : (more : ℕ) → m ≡ n → AfterDft facts a b answered m more → AfterDft facts a b answered n more
   dft_of_same more same call = subst (λ (x : RowMajor T). AfterDft facts a b answered x more) same call

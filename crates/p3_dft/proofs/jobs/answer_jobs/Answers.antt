@@ -1,14 +1,26 @@
-use Rattle.std.proofs.Common.{refl, ◌≡◌, ◌++◌, List, [], ◌∷◌, subst, sym, ◌∙◌, arith, rules, inr, inl}
+use Rattle.std.proofs.Common.{refl, ◌≡◌, ℕ, ◌+◌, ◌≤◌, ◌++◌, List, [], ◌∷◌, subst, sym, ◌∙◌, arith, rules, inr, inl}
 use Rattle.std.proofs.lemmas.List.{nil_from_length}
 use Rattle.std.proofs.lemmas.List.Elements.{All-nil, All-push, All-rest, All-weaker}
 use Rattle.std.proofs.lemmas.Slice.Zip.{all_zipped_more}
-use Rattle.std.specs.List.{All, AllZip}
+use Rattle.std.proofs.lemmas.Result.{IfOk-from_err}
+use Rattle.std.specs.List.{All, AllZip, sum}
 use Rattle.std.specs.Vec.Iter.{into_iter_items}
+use Rattle.p3_field.specs.declared.fields.Field.{Ghosts as FieldMembers}
 use Rattle.p3_matrix.specs.RowMajor.{RowMajor}
-use Rattle.p3_dft.specs.Jobs.{AreFirstAnswers, CanRun, IsAnswer, IsReadyFor}
-use Rattle.p3_dft.proofs.Calls.EngineSteps.{later_same, later_still, none_given}
+use Rattle.p3_dft.specs.Engines.{EngineFacts}
+use Rattle.p3_dft.specs.Jobs.{AreFirstAnswers, CanRun, IsAnswer, IsCost, IsReadyFor}
+use Rattle.p3_dft.specs.declared.jobs.Job.{Job}
+use Rattle.p3_dft.proofs.Calls.EngineSteps.{later_same, later_still}
 use Rattle.p3_dft.proofs.Calls.JobLists.{costs_more, costs_none, costs_rest, first_answers, next_not_promised, next_of_all, of_all, on_any_error, ready_later, split_more}
 use Rattle.p3_dft.proofs.jobs.answer_jobs.Goals as goal
+
+-- the next job was run, and those after it have costs too
+costs_more_and_rest : {E F : Type 0} (facts : EngineFacts E F) (f : FieldMembers F) (bits : ℕ) (jobs done left later : List (Job F)) (job : Job F) (before now after : ℕ) → jobs ≡ done ++ left → left ≡ job ∷ later
+    → All (CanRun f bits) left → (costs : List ℕ) × AllZip (IsCost facts) done costs × (now ≤ before + sum costs) → ((n : ℕ) → IsCost facts job n → after ≤ now + n)
+    → (costs : List ℕ) × AllZip (IsCost facts) jobs costs × (after ≤ before + sum costs)
+costs_more_and_rest facts f bits jobs done left later job before now after split next runs so_far turn =
+    costs_rest facts f bits jobs (done ++ job ∷ []) later before after (split_more jobs done left later job split next) (All-rest (CanRun f bits) job later left next runs)
+    (costs_more facts f bits done job before now after (next_of_all (CanRun f bits) job later left next runs) so_far turn)
 
 pub run_job-requires : goal.run_job-requires
 run_job-requires g c =
@@ -53,8 +65,8 @@ pub returns-in_err-reserve_exact : goal.returns-in_err-reserve_exact
 returns-in_err-reserve_exact g c =
     let err = c.from_residual.ensures.0 in
     record {
-      all = none_given _ _ err;
-      serves = none_given _ _ err;
+      all = IfOk-from_err _ _ err;
+      serves = IfOk-from_err _ _ err;
       cost = costs_rest g.D.TwoAdicSubgroupDft.facts g.F.Field g.F.TwoAdicField.TWO_ADICITY c.args.jobs.items [] c.args.jobs.items _ _ refl c.requires.runnable (costs_none g.D.TwoAdicSubgroupDft.facts [] _ refl);
       first = search rules;
       refused = on_any_error _ (inl (refl, c.in_err-reserve_exact.ensures.items ∙ c.requires.empty));
@@ -65,9 +77,9 @@ pub returns-in_err-answer : goal.returns-in_err-answer
 returns-in_err-answer g c =
     let err = c.from_residual-in_err-answer.ensures.0 in
     record {
-      all = none_given _ _ err;
-      serves = none_given _ _ err;
-      cost = let so_far = c.loop-job.invariant in let next = c.in-Some.ensures.steps.0 in let facts = g.D.TwoAdicSubgroupDft.facts in let can_run = CanRun g.F.Field g.F.TwoAdicField.TWO_ADICITY in costs_rest facts g.F.Field g.F.TwoAdicField.TWO_ADICITY _ (c.loop-job.yielded ++ c.in-Some.job ∷ []) _ _ _ (split_more _ c.loop-job.yielded _ _ c.in-Some.job so_far.split next) (All-rest can_run c.in-Some.job _ _ next so_far.runnable) (costs_more facts g.F.Field g.F.TwoAdicField.TWO_ADICITY c.loop-job.yielded c.in-Some.job _ _ _ (next_of_all can_run c.in-Some.job _ _ next so_far.runnable) so_far.cost c.run_job.ensures.cost);
+      all = IfOk-from_err _ _ err;
+      serves = IfOk-from_err _ _ err;
+      cost = costs_more_and_rest g.D.TwoAdicSubgroupDft.facts g.F.Field g.F.TwoAdicField.TWO_ADICITY _ c.loop-job.yielded _ _ c.in-Some.job _ _ _ c.loop-job.invariant.split c.in-Some.ensures.steps.0 c.loop-job.invariant.runnable c.loop-job.invariant.cost c.run_job.ensures.cost;
       first = on_any_error c.from_residual-in_err-answer.result (first_answers g.F.Field g.F.TwoAdicField.generator c.args.jobs.items c.loop-job.yielded _ _ c.in-Some.job c.loop-job.answers.items c.loop-job.invariant.split c.in-Some.ensures.steps.0 c.loop-job.invariant.answered);
       refused = on_any_error c.from_residual-in_err-answer.result (inr (next_not_promised g.F.Field g.F.TwoAdicField.generator g.D.TwoAdicSubgroupDft.facts c.args.jobs.items c.loop-job.yielded _ _ c.in-Some.job c.loop-job.answers.items c.args.engine.now c.loop-job.engine c.loop-job.invariant.split c.in-Some.ensures.steps.0 c.loop-job.invariant.answered c.loop-job.invariant.later (λ promised. let answered = c.in_err-answer.ensures.succeeds promised in absurd (search rules))));
       later = later_still _ _ _ _ c.loop-job.invariant.later c.run_job.ensures.later;
@@ -76,12 +88,14 @@ returns-in_err-answer g c =
 pub returns-in_err-push : goal.returns-in_err-push
 returns-in_err-push g c =
     let err = c.from_residual-in_err-push.ensures.0 in
+    let first = first_answers g.F.Field g.F.TwoAdicField.generator c.args.jobs.items c.loop-job.yielded _ _ c.in-Some.job c.loop-job.answers.items c.loop-job.invariant.split c.in-Some.ensures.steps.0 c.loop-job.invariant.answered in
     record {
-      all = none_given _ _ err;
-      serves = none_given _ _ err;
-      cost = let so_far = c.loop-job.invariant in let next = c.in-Some.ensures.steps.0 in let facts = g.D.TwoAdicSubgroupDft.facts in let can_run = CanRun g.F.Field g.F.TwoAdicField.TWO_ADICITY in costs_rest facts g.F.Field g.F.TwoAdicField.TWO_ADICITY _ (c.loop-job.yielded ++ c.in-Some.job ∷ []) _ _ _ (split_more _ c.loop-job.yielded _ _ c.in-Some.job so_far.split next) (All-rest can_run c.in-Some.job _ _ next so_far.runnable) (costs_more facts g.F.Field g.F.TwoAdicField.TWO_ADICITY c.loop-job.yielded c.in-Some.job _ _ _ (next_of_all can_run c.in-Some.job _ _ next so_far.runnable) so_far.cost c.run_job.ensures.cost);
-      first = on_any_error c.from_residual-in_err-push.result (subst (λ (ys : List (RowMajor g.row.F.Denot)). AreFirstAnswers g.F.Field g.F.TwoAdicField.generator c.args.jobs.items ys) (sym c.in_err-push.ensures.items) (first_answers g.F.Field g.F.TwoAdicField.generator c.args.jobs.items c.loop-job.yielded _ _ c.in-Some.job c.loop-job.answers.items c.loop-job.invariant.split c.in-Some.ensures.steps.0 c.loop-job.invariant.answered));
-      refused = let first = first_answers g.F.Field g.F.TwoAdicField.generator c.args.jobs.items c.loop-job.yielded _ _ c.in-Some.job c.loop-job.answers.items c.loop-job.invariant.split c.in-Some.ensures.steps.0 c.loop-job.invariant.answered in absurd (omega (arith, first.fewer, c.loop-job.invariant.room, c.in_err-push.ensures.full, c.loop-job.answers.ok.0, c.args.jobs.ok.0));
+      all = IfOk-from_err _ _ err;
+      serves = IfOk-from_err _ _ err;
+      cost = costs_more_and_rest g.D.TwoAdicSubgroupDft.facts g.F.Field g.F.TwoAdicField.TWO_ADICITY _ c.loop-job.yielded _ _ c.in-Some.job _ _ _ c.loop-job.invariant.split c.in-Some.ensures.steps.0 c.loop-job.invariant.runnable c.loop-job.invariant.cost c.run_job.ensures.cost;
+      first = on_any_error c.from_residual-in_err-push.result (subst (λ (ys : List (RowMajor g.row.F.Denot)). AreFirstAnswers g.F.Field g.F.TwoAdicField.generator c.args.jobs.items ys) (sym c.in_err-push.ensures.items) first);
+      -- there is room for the answer to each job
+      refused = absurd (omega (arith, first.fewer, c.loop-job.invariant.room, c.in_err-push.ensures.full, c.loop-job.answers.ok.0, c.args.jobs.ok.0));
       later = later_still _ _ _ _ c.loop-job.invariant.later c.in_ok-answer.ensures.later;
     }
 

@@ -6,8 +6,9 @@ use Rattle.p3_matrix.specs.RowMajor.{height}
 use Rattle.p3_matrix.proofs.TwoPowers.{log_same}
 use Rattle.p3_dft.proofs.BitReversed.Coefficients.{values_of_parts, values_of_row}
 use Rattle.std.proofs.Math.Nat.{le_refl}
-use Rattle.p3_dft.proofs.Calls.EngineSteps.{none_given, none_more}
+use Rattle.std.proofs.lemmas.Result.{IfOk-from_err}
 use Rattle.p3_dft.proofs.Calls.PreparedHeights.{some_log}
+use Rattle.p3_dft.proofs.Calls.Counts.{none_more}
 use Rattle.p3_dft.proofs.radix_2_bowers.evaluate_to_natural.Goals as goal
 
 pub two_adic_generator-generator-requires : goal.two_adic_generator-generator-requires
@@ -43,7 +44,7 @@ network_g-requires-clause-some g c = some_log c.height-height.result c.log2_stri
 pub returns-in_err-twiddles : goal.returns-in_err-twiddles
 returns-in_err-twiddles g c =
     let err = c.from_residual.ensures.0 in
-    record { values = λ k high. none_given _ _ err; grows = le_refl _; cost = λ k high. none_more _ _ _ refl }
+    record { values = λ k high. IfOk-from_err _ _ err; grows = le_refl _; cost = λ k high. none_more _ _ _ refl }
 
 pub returns : goal.returns
 returns g c =

@@ -10,8 +10,9 @@ use Rattle.p3_dft.proofs.BitReversed.Coefficients.{coefficients_of_parts}
 use Rattle.p3_matrix.proofs.Polynomials.ReversedCoefficients.{coefficients_of_row}
 use Rattle.p3_matrix.proofs.RowMajor.{written_shape, written_size}
 use Rattle.std.proofs.Math.Nat.{le_refl}
-use Rattle.p3_dft.proofs.Calls.EngineSteps.{none_given, none_more}
+use Rattle.std.proofs.lemmas.Result.{IfOk-from_err}
 use Rattle.p3_dft.proofs.Calls.PreparedHeights.{some_log}
+use Rattle.p3_dft.proofs.Calls.Counts.{none_more}
 use Rattle.p3_dft.proofs.radix_2_bowers.interpolate_unscaled_to_reversed.Goals as goal
 
 pub two_adic_generator-generator-requires : goal.two_adic_generator-generator-requires
@@ -65,7 +66,7 @@ network_g_transposed-requires-clause-some g c = some_log c.height-height.result 
 pub returns-in_err-twiddles : goal.returns-in_err-twiddles
 returns-in_err-twiddles g c =
     let err = c.from_residual.ensures.0 in
-    record { whole = c.width-width.ensures.whole; shape = none_given _ _ err; size = none_given _ _ err; coefficients = λ k high. none_given _ _ err; grows = le_refl _; cost = λ k high. none_more _ _ _ refl }
+    record { whole = c.width-width.ensures.whole; shape = IfOk-from_err _ _ err; size = IfOk-from_err _ _ err; coefficients = λ k high. IfOk-from_err _ _ err; grows = le_refl _; cost = λ k high. none_more _ _ _ refl }
 
 pub returns : goal.returns
 returns g c =

@@ -2,6 +2,7 @@ use Rattle.std.proofs.Common.{ℕ, List, [], ◌≡◌, ◌*◌, ◌/◌, ◌%�
 use Rattle.std.proofs.Math.Nat.{mod-eq_of_lt, mul-div_cancel, le_refl}
 use Rattle.std.proofs.lemmas.List.{length-replicate}
 use Rattle.std.proofs.lemmas.Nat.{pow-add}
+use Rattle.std.proofs.lemmas.Result.{IfOk-from_err}
 use Rattle.p3_field.specs.Ring.{power}
 use Rattle.p3_matrix.specs.BitOrder.{rev}
 use Rattle.p3_matrix.specs.RowMajor.{RowMajor}
@@ -9,8 +10,8 @@ use Rattle.p3_matrix.specs.Polynomials.{poly}
 use Rattle.p3_dft.proofs.BitReversed.OneReversal.{values_of_weighed}
 use Rattle.p3_networks.proofs.Layers.Counts.{extension_counted}
 use Rattle.p3_matrix.proofs.Rows.Overwritten.{written}
-use Rattle.p3_dft.proofs.Calls.EngineSteps.{none_given, none_more}
 use Rattle.p3_dft.proofs.radix_2_small_batch.extend_to_natural.Goals as goal
+use Rattle.p3_dft.proofs.Calls.Counts.{none_more}
 
 -- as many zeros as the extension has entries
 zeros_length : {T : Type 0} (z : T) (old xs given values : List T) (len h w v k a : ℕ) → old ≡ [] → xs ≡ old ++ replicate (len * 2 ^ a % 2 ^ 64) z → len ≡ length given → given ≡ values → h * w ≡ length values → h ≡ 2 ^ k → v ≡ w
@@ -68,17 +69,38 @@ extending_network-requires-clause-within g c = c.requires.within
 pub returns-in_err-weights : goal.returns-in_err-weights
 returns-in_err-weights g c =
     let err = c.from_residual.ensures.0 in
-    record { values = none_given _ _ err; grows = le_refl _; cost = none_more _ _ _ refl }
+    record { values = IfOk-from_err _ _ err; grows = le_refl _; cost = none_more _ _ _ refl }
 
 pub returns-in_err-extend_by_zeros : goal.returns-in_err-extend_by_zeros
 returns-in_err-extend_by_zeros g c =
     let err = c.from_residual-in_err-extend_by_zeros.ensures.0 in
-    record { values = none_given _ _ err; grows = le_refl _; cost = none_more _ _ _ refl }
+    record { values = IfOk-from_err _ _ err; grows = le_refl _; cost = none_more _ _ _ refl }
 
 pub returns : goal.returns
 returns g c =
+    let field = g.F.Field in
+    let w = c.width-width.result in
+    let k = c.args.log_h in
+    let a = c.args.added_bits in
+    let items = c.extend_by_zeros.new.values.items in
+    let after = c.extending_network.new.values in
+    let size : length items ≡ 2 ^ (k + a) * w = zeros_length field.ZERO c.new-values.result.items items c.values.result.now c.args.mat.values _ _ c.args.mat.width w k a
+    c.new-values.ensures.items c.in_ok-extend_by_zeros.ensures.ok refl c.values.ensures.values c.requires.whole.full c.requires.height c.width-width.ensures.width c.requires.room in
+    let len : length after ≡ length items = c.extending_network.auto.values ∙ ap length c.as_mut_slice.ensures.value in
     record {
-      values = let field = g.F.Field in let w = c.width-width.result in let k = c.args.log_h in let a = c.args.added_bits in let items = c.extend_by_zeros.new.values.items in let after = c.extending_network.new.values in let wide : 1 ≤ w = omega (arith, c.requires.whole.wide, c.width-width.ensures.width) in let back : k + a - a ≡ k = omega arith in let size : length items ≡ 2 ^ (k + a) * w = zeros_length g.F.Field.ZERO c.new-values.result.items c.extend_by_zeros.new.values.items c.values.result.now c.args.mat.values _ _ c.args.mat.width c.width-width.result c.args.log_h c.args.added_bits c.new-values.ensures.items c.in_ok-extend_by_zeros.ensures.ok refl c.values.ensures.values c.requires.whole.full c.requires.height c.width-width.ensures.width c.requires.room in let len : length after ≡ length items = c.extending_network.auto.values ∙ ap length c.as_mut_slice.ensures.value in let values_is = written c.extend_by_zeros.new.values.len after (drop (length after) items) (omega (arith, len, c.extend_by_zeros.new.values.ok.0)) in values_of_weighed field g.F.TwoAdicField.generator c.args.mat c.new.result after c.as_slice.result.now w k (k + a) (field.value c.args.scale) (field.value c.args.shift) c.requires.height wide c.width-width.ensures.width (ap (λ (n : RowMajor g.row.F.Denot). n.width) c.new.ensures) (ap (λ (n : RowMajor g.row.F.Denot). n.values) c.new.ensures ∙ values_is) (len ∙ size) (λ b below. ap (λ xs. field.value (get_or xs b field.ZERO)) c.as_slice.ensures.value ∙ c.in_ok-weights.ensures.entries b below) (λ i j below inside. c.extending_network.ensures.values i j below inside ∙ ap₂ (λ n xs. poly field.ring (2 ^ n) (λ q. field.ring.mul (field.value (get_or xs (rev n q * w + j) field.ZERO)) (field.value (get_or c.as_slice.result.now (rev n q) field.ZERO))) (power field.ring (field.value (g.F.TwoAdicField.generator (k + a))) i)) back c.values-2.ensures.values);
+      values =
+          let wide : 1 ≤ w = omega (arith, c.requires.whole.wide, c.width-width.ensures.width) in
+          let values_is = written c.extend_by_zeros.new.values.len after (drop (length after) items) (omega (arith, len, c.extend_by_zeros.new.values.ok.0)) in
+          values_of_weighed field g.F.TwoAdicField.generator c.args.mat c.new.result after c.as_slice.result.now w k (k + a) (field.value c.args.scale) (field.value c.args.shift) c.requires.height wide c.width-width.ensures.width
+          (ap (λ (n : RowMajor g.row.F.Denot). n.width) c.new.ensures) (ap (λ (n : RowMajor g.row.F.Denot). n.values) c.new.ensures ∙ values_is) (len ∙ size)
+          (λ b below. ap (λ xs. field.value (get_or xs b field.ZERO)) c.as_slice.ensures.value ∙ c.in_ok-weights.ensures.entries b below)
+          (λ i j below inside. c.extending_network.ensures.values i j below inside
+          ∙ ap₂ (λ n xs. poly field.ring (2 ^ n) (λ q. field.ring.mul (field.value (get_or xs (rev n q * w + j) field.ZERO)) (field.value (get_or c.as_slice.result.now (rev n q) field.ZERO))) (power field.ring (field.value (g.F.TwoAdicField.generator (k + a))) i))
+          (added-sub k a) c.values-2.ensures.values);
       grows = c.extending_network.ensures.grows;
-      cost = let w = c.width-width.result in let k = c.args.log_h in let a = c.args.added_bits in let size : length c.as_mut_slice.result.now ≡ 2 ^ (k + a) * w = ap length c.as_mut_slice.ensures.value ∙ zeros_length g.F.Field.ZERO c.new-values.result.items c.extend_by_zeros.new.values.items c.values.result.now c.args.mat.values _ _ c.args.mat.width c.width-width.result c.args.log_h c.args.added_bits c.new-values.ensures.items c.in_ok-extend_by_zeros.ensures.ok refl c.values.ensures.values c.requires.whole.full c.requires.height c.width-width.ensures.width c.requires.room in let same : w * (2 ^ a * (k * 2 ^ k / 2) + 2 ^ (k + a)) ≡ c.args.mat.width * (2 ^ a * (k * 2 ^ k / 2) + 2 ^ (k + a)) = ap (λ n. n * (2 ^ a * (k * 2 ^ k / 2) + 2 ^ (k + a))) c.width-width.ensures.width in let made = extension_counted k a w (length c.as_mut_slice.result.now) c.args.products.now c.extending_network.new.products c.requires.some size c.extending_network.ensures.cost in omega (arith, made, same);
+      cost =
+          let taken : length c.as_mut_slice.result.now ≡ 2 ^ (k + a) * w = ap length c.as_mut_slice.ensures.value ∙ size in
+          let same : w * (2 ^ a * (k * 2 ^ k / 2) + 2 ^ (k + a)) ≡ c.args.mat.width * (2 ^ a * (k * 2 ^ k / 2) + 2 ^ (k + a)) = ap (λ n. n * (2 ^ a * (k * 2 ^ k / 2) + 2 ^ (k + a))) c.width-width.ensures.width in
+          let made = extension_counted k a w (length c.as_mut_slice.result.now) c.args.products.now c.extending_network.new.products c.requires.some taken c.extending_network.ensures.cost in
+          omega (arith, made, same);
     }

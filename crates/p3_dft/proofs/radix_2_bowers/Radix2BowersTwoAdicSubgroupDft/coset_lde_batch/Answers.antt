@@ -1,6 +1,6 @@
 use Rattle.std.proofs.Common.{◌≡◌, ℕ, ◌+◌, ◌*◌, ◌/◌, ◌^◌, ◌≤◌, refl, sym, ap, ap₂, ◌∙◌, subst, arith, Ok}
 use Rattle.std.proofs.Math.Nat.{le-add_right, le_trans}
-use Rattle.std.proofs.lemmas.Result.{IfOk-weaker}
+use Rattle.std.proofs.lemmas.Result.{IfOk-from_err, IfOk-weaker}
 use Rattle.p3_field.specs.Ring.{count}
 use Rattle.p3_field.proofs.Powers.{count-power_of_two}
 use Rattle.p3_matrix.specs.BitOrder.{bit_reversal}
@@ -10,10 +10,10 @@ use Rattle.p3_matrix.specs.Cosets.{values_of}
 use Rattle.p3_matrix.proofs.Polynomials.Cosets.{coset_values}
 use Rattle.p3_dft.proofs.BitReversed.Coefficients.{extension_of_coefficients, extension_of_row, first_within_extension, within_extension}
 use Rattle.p3_matrix.proofs.Polynomials.Quotients.{shifted_quotient}
-use Rattle.p3_dft.proofs.Calls.Counts.{scaled_counted, weighed_counted}
+use Rattle.p3_dft.proofs.Calls.Counts.{none_more, scaled_counted, weighed_counted}
 use Rattle.p3_dft.proofs.Calls.Shapes.{fits_lde_as, input_fits, log_fits}
 use Rattle.p3_matrix.proofs.TwoPowers.{more_points}
-use Rattle.p3_dft.proofs.Calls.EngineSteps.{later_same, none_given, none_more}
+use Rattle.p3_dft.proofs.Calls.EngineSteps.{later_same}
 use Rattle.p3_dft.proofs.radix_2_bowers.Radix2BowersTwoAdicSubgroupDft.coset_lde_batch.Goals as goal
 
 pub interpolate_unscaled_to_reversed-requires : goal.interpolate_unscaled_to_reversed-requires
@@ -43,7 +43,7 @@ pub returns-in_err-interpolate_unscaled_to_reversed : goal.returns-in_err-interp
 returns-in_err-interpolate_unscaled_to_reversed g c =
     let err = c.from_residual.ensures.0 in
     record {
-      values = none_given _ _ err;
+      values = IfOk-from_err _ _ err;
       one_row = λ one none. absurd (more_points c.height.result c.log2_strict_usize-log_h.result c.args.added_bits c.log2_strict_usize-log_h.ensures.power c.if-log_h-added_bits-eq0.false (c.height.ensures.height ∙ ap height c.into_row_major_matrix-mat.ensures ∙ one) none);
       later = record { keeps = λ k was. was; keeps_cosets = λ k s was. was; keeps_ready = λ k was. was; grows = subst (λ (b : ℕ). b ≤ c.interpolate_unscaled_to_reversed.new.products) c.self.view_is c.interpolate_unscaled_to_reversed.ensures.grows };
       cost = λ k e. let m = c.into_row_major_matrix-mat.result in let bound = λ (n w : ℕ). w * (n * 2 ^ n / 2) in let first = le_trans (rw c.self.view_is at (c.interpolate_unscaled_to_reversed.ensures.cost k (ap height c.into_row_major_matrix-mat.ensures ∙ e))) (le-add_right _ (2 ^ k * m.width)) in subst (λ (v : ℕ). c.interpolate_unscaled_to_reversed.new.products ≤ c.args.self.now + extension_bound bound k c.args.added_bits v) (ap (λ (n : RowMajor g.row.F.Denot). n.width) c.into_row_major_matrix-mat.ensures) (first_within_extension bound k c.args.added_bits m.width c.args.self.now c.interpolate_unscaled_to_reversed.new.products (scaled_counted _ _ _ _ _ _ first (le-add_right _ _) refl));
@@ -53,7 +53,7 @@ pub returns-in_err-weigh_reversed_rows : goal.returns-in_err-weigh_reversed_rows
 returns-in_err-weigh_reversed_rows g c =
     let err = c.from_residual-in_err-weigh_reversed_rows.ensures.0 in
     record {
-      values = none_given _ _ err;
+      values = IfOk-from_err _ _ err;
       one_row = λ one none. absurd (more_points c.height.result c.log2_strict_usize-log_h.result c.args.added_bits c.log2_strict_usize-log_h.ensures.power c.if-log_h-added_bits-eq0.false (c.height.ensures.height ∙ ap height c.into_row_major_matrix-mat.ensures ∙ one) none);
       later = record { keeps = λ k was. was; keeps_cosets = λ k s was. was; keeps_ready = λ k was. was; grows = subst (λ (b : ℕ). b ≤ c.weigh_reversed_rows.new.products) c.self.view_is (le_trans c.interpolate_unscaled_to_reversed.ensures.grows c.weigh_reversed_rows.ensures.grows) };
       cost = λ k e. let m = c.into_row_major_matrix-mat.result in let bound = λ (n w : ℕ). w * (n * 2 ^ n / 2) in let high : height m ≡ 2 ^ k = ap height c.into_row_major_matrix-mat.ensures ∙ e in let shape = c.in_ok-interpolate_unscaled_to_reversed.ensures.shape in let first = le_trans (rw c.self.view_is at (c.interpolate_unscaled_to_reversed.ensures.cost k high)) (le-add_right _ (2 ^ k * m.width)) in let entries : height c.interpolate_unscaled_to_reversed.new.mat * c.interpolate_unscaled_to_reversed.new.mat.width ≡ 2 ^ k * m.width = ap₂ (λ (h v : ℕ). h * v) (shape.0 ∙ high) shape.1 in subst (λ (v : ℕ). c.weigh_reversed_rows.new.products ≤ c.args.self.now + extension_bound bound k c.args.added_bits v) (ap (λ (n : RowMajor g.row.F.Denot). n.width) c.into_row_major_matrix-mat.ensures) (first_within_extension bound k c.args.added_bits m.width c.args.self.now c.weigh_reversed_rows.new.products (scaled_counted _ _ _ _ _ _ first c.weigh_reversed_rows.ensures.cost entries));

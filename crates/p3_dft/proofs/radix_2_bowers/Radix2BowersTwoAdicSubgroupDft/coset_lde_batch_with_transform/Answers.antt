@@ -1,16 +1,16 @@
 use Rattle.std.proofs.Common.{◌≡◌, ℕ, ◌+◌, ◌*◌, ◌/◌, ◌^◌, ◌≤◌, sym, ap, ap₂, ◌∙◌, refl, arith, subst}
 use Rattle.std.proofs.Math.Nat.{le-add_right, le_trans}
-use Rattle.std.proofs.lemmas.Result.{IfOk-weaker}
+use Rattle.std.proofs.lemmas.Result.{IfOk-from_err, IfOk-weaker}
 use Rattle.p3_matrix.specs.BitOrder.{bit_reversal}
 use Rattle.p3_matrix.specs.RowMajor.{RowMajor, height}
 use Rattle.p3_matrix.specs.Cosets.{values_of}
 use Rattle.p3_matrix.proofs.Polynomials.Cosets.{coset_values}
 use Rattle.p3_dft.proofs.BitReversed.Coefficients.{extension_of_told_row, first_within_extension, within_extension, values_of_answered}
 use Rattle.p3_matrix.proofs.Polynomials.Quotients.{shifted_by_one}
-use Rattle.p3_dft.proofs.Calls.Counts.{scaled_counted, weighed_counted}
+use Rattle.p3_dft.proofs.Calls.Counts.{none_more, scaled_counted, weighed_counted}
 use Rattle.p3_dft.proofs.Calls.Shapes.{fits_lde_as, input_fits, log_fits}
 use Rattle.p3_matrix.proofs.TwoPowers.{more_points}
-use Rattle.p3_dft.proofs.Calls.EngineSteps.{later_same, none_given, none_more}
+use Rattle.p3_dft.proofs.Calls.EngineSteps.{later_same}
 use Rattle.p3_dft.proofs.radix_2_bowers.Radix2BowersTwoAdicSubgroupDft.coset_lde_batch_with_transform.Goals as goal
 
 pub interpolate_to_reversed-requires : goal.interpolate_to_reversed-requires
@@ -65,7 +65,7 @@ pub returns-in_err-interpolate_to_reversed : goal.returns-in_err-interpolate_to_
 returns-in_err-interpolate_to_reversed g c =
     let err = c.from_residual.ensures.0 in
     record {
-      values = none_given _ _ err;
+      values = IfOk-from_err _ _ err;
       one_row = λ one none. absurd (more_points c.height.result c.log2_strict_usize-log_h.result c.args.added_bits c.log2_strict_usize-log_h.ensures.power c.if-log_h-added_bits-eq0.false (c.height.ensures.height ∙ ap height c.into_row_major_matrix-mat.ensures ∙ one) none);
       later = record { keeps = λ k was. was; keeps_cosets = λ k s was. was; keeps_ready = λ k was. was; grows = subst (λ (b : ℕ). b ≤ c.interpolate_to_reversed.new.products) c.self.view_is c.interpolate_to_reversed.ensures.grows };
       cost = λ k e. let width = ap (λ (n : RowMajor g.row.F.Denot). n.width) c.into_row_major_matrix-mat.ensures in let w = (g.N.IntoRowMajorMatrix.stored c.args.mat).width in let first = rw (c.self.view_is, width) at (c.interpolate_to_reversed.ensures.cost k (ap height c.into_row_major_matrix-mat.ensures ∙ e)) in first_within_extension (λ n v. v * (n * 2 ^ n / 2)) k c.args.added_bits w c.args.self.now c.interpolate_to_reversed.new.products (scaled_counted _ _ _ _ _ _ first (le-add_right _ _) refl);
@@ -75,7 +75,7 @@ pub returns-in_err-weigh_reversed_rows : goal.returns-in_err-weigh_reversed_rows
 returns-in_err-weigh_reversed_rows g c =
     let err = c.from_residual-in_err-weigh_reversed_rows.ensures.0 in
     record {
-      values = none_given _ _ err;
+      values = IfOk-from_err _ _ err;
       one_row = λ one none. absurd (more_points c.height.result c.log2_strict_usize-log_h.result c.args.added_bits c.log2_strict_usize-log_h.ensures.power c.if-log_h-added_bits-eq0.false (c.height.ensures.height ∙ ap height c.into_row_major_matrix-mat.ensures ∙ one) none);
       later = record { keeps = λ k was. was; keeps_cosets = λ k s was. was; keeps_ready = λ k was. was; grows = subst (λ (b : ℕ). b ≤ c.weigh_reversed_rows.new.products) c.self.view_is (le_trans c.interpolate_to_reversed.ensures.grows c.weigh_reversed_rows.ensures.grows) };
       cost = λ k e. let bound = λ (n w : ℕ). w * (n * 2 ^ n / 2) in let stored = ap height c.into_row_major_matrix-mat.ensures in let width = ap (λ (n : RowMajor g.row.F.Denot). n.width) c.into_row_major_matrix-mat.ensures in let w = (g.N.IntoRowMajorMatrix.stored c.args.mat).width in let are = c.in_ok-interpolate_to_reversed.ensures.coefficients k (stored ∙ e) in let shape = c.requires.shape c.interpolate_to_reversed.new.mat c.transform-changed.result c.in_ok-interpolate_to_reversed.ensures.whole (are.high ∙ stored, are.wide ∙ width) c.transform-changed.ensures in let first : c.interpolate_to_reversed.new.products ≤ c.args.self.now + bound k w + 2 ^ k * w = rw (c.self.view_is, width) at (c.interpolate_to_reversed.ensures.cost k (stored ∙ e)) in let entries : height c.transform-changed.result * c.transform-changed.result.width ≡ 2 ^ k * w = ap₂ (λ (h v : ℕ). h * v) (shape.0 ∙ e) shape.1 in first_within_extension bound k c.args.added_bits w c.args.self.now c.weigh_reversed_rows.new.products (scaled_counted _ _ _ _ _ _ first c.weigh_reversed_rows.ensures.cost entries);

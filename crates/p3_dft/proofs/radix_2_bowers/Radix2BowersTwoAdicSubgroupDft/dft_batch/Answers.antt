@@ -1,4 +1,5 @@
 use Rattle.std.proofs.Common.{◌≡◌, ◌^◌, ap, ◌∙◌, sym, ℕ, Ok, refl, subst, ◌≤◌}
+use Rattle.std.proofs.lemmas.Result.{IfOk-from_err}
 use Rattle.p3_matrix.specs.BitOrder.{bit_reversal}
 use Rattle.p3_matrix.specs.Matrix.{matrix}
 use Rattle.p3_matrix.specs.RowMajor.{RowMajor, height}
@@ -8,7 +9,8 @@ use Rattle.p3_matrix.specs.Cosets.{values_of}
 use Rattle.p3_matrix.proofs.Polynomials.Cosets.{coefficients_same}
 use Rattle.p3_dft.proofs.BitReversed.Rows.{transform_of_row}
 use Rattle.p3_dft.proofs.Calls.Shapes.{fits_dft_as}
-use Rattle.p3_dft.proofs.Calls.EngineSteps.{later_same, none_given, none_more}
+use Rattle.p3_dft.proofs.Calls.EngineSteps.{later_same}
+use Rattle.p3_dft.proofs.Calls.Counts.{none_more}
 use Rattle.p3_dft.proofs.radix_2_bowers.Radix2BowersTwoAdicSubgroupDft.dft_batch.Goals as goal
 
 pub evaluate_to_natural-requires : goal.evaluate_to_natural-requires
@@ -27,7 +29,7 @@ pub returns-in_err-evaluate_to_natural : goal.returns-in_err-evaluate_to_natural
 returns-in_err-evaluate_to_natural g c =
     let err = c.from_residual.ensures.0 in
     record {
-      values = none_given _ _ err;
+      values = IfOk-from_err _ _ err;
       succeeds = λ k high none. absurd (c.if-height-eq1.false (c.height.ensures.height ∙ ap height c.into_row_major_matrix-mat.ensures ∙ high ∙ ap (λ n. 2 ^ n) none));
       one_row = λ one. absurd (c.if-height-eq1.false (c.height.ensures.height ∙ ap height c.into_row_major_matrix-mat.ensures ∙ one));
       later = record { keeps = λ k was. was; keeps_cosets = λ k s was. was; keeps_ready = λ k was. was; grows = subst (λ (b : ℕ). b ≤ c.evaluate_to_natural.new.products) c.self.view_is c.evaluate_to_natural.ensures.grows };

@@ -1,4 +1,5 @@
 use Rattle.std.proofs.Common.{◌≡◌, ◌^◌, refl, ap, ◌∙◌, sym, ℕ, Ok, subst, ◌≤◌}
+use Rattle.std.proofs.lemmas.Result.{IfOk-from_err}
 use Rattle.p3_matrix.specs.BitOrder.{bit_reversal}
 use Rattle.p3_matrix.specs.Matrix.{matrix}
 use Rattle.p3_matrix.specs.RowMajor.{RowMajor, height}
@@ -7,7 +8,8 @@ use Rattle.p3_matrix.specs.Cosets.{values_of}
 use Rattle.p3_matrix.proofs.Polynomials.Interpolation.{same_coefficients}
 use Rattle.p3_dft.proofs.BitReversed.Coefficients.{interpolation_of_coefficients}
 use Rattle.p3_dft.proofs.BitReversed.Rows.{transform_of_row}
-use Rattle.p3_dft.proofs.Calls.EngineSteps.{later_same, more_allowed, none_given, none_more}
+use Rattle.p3_dft.proofs.Calls.EngineSteps.{later_same}
+use Rattle.p3_dft.proofs.Calls.Counts.{more_allowed, none_more}
 use Rattle.p3_dft.proofs.radix_2_bowers.Radix2BowersTwoAdicSubgroupDft.idft_batch.Goals as goal
 
 pub interpolate_to_reversed-requires : goal.interpolate_to_reversed-requires
@@ -32,7 +34,7 @@ pub returns-in_err-interpolate_to_reversed : goal.returns-in_err-interpolate_to_
 returns-in_err-interpolate_to_reversed g c =
     let err = c.from_residual.ensures.0 in
     record {
-      coefficients = none_given _ _ err;
+      coefficients = IfOk-from_err _ _ err;
       succeeds = λ k high none. absurd (c.if-height-eq1.false (c.height.ensures.height ∙ ap height c.into_row_major_matrix-mat.ensures ∙ high ∙ ap (λ n. 2 ^ n) none));
       one_row = λ one. absurd (c.if-height-eq1.false (c.height.ensures.height ∙ ap height c.into_row_major_matrix-mat.ensures ∙ one));
       later = record { keeps = λ k was. was; keeps_cosets = λ k s was. was; keeps_ready = λ k was. was; grows = subst (λ (b : ℕ). b ≤ c.interpolate_to_reversed.new.products) c.self.view_is c.interpolate_to_reversed.ensures.grows };

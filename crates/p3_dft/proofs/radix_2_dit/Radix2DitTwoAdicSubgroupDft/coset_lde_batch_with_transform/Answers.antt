@@ -1,8 +1,8 @@
 use Rattle.std.proofs.Common.{ℕ, ◌≡◌, ◌+◌, ◌^◌, ◌∙◌, refl, arith}
 use Rattle.std.proofs.Math.Nat.{le-add_right}
-use Rattle.std.proofs.lemmas.Result.{IfOk-weaker}
+use Rattle.std.proofs.lemmas.Result.{IfOk-from_err, IfOk-weaker}
 use Rattle.p3_matrix.specs.RowMajor.{height}
-use Rattle.p3_dft.proofs.Calls.EngineSteps.{after_part, parts_after, products_after, none_given}
+use Rattle.p3_dft.proofs.Calls.EngineSteps.{after_part, parts_after, products_after}
 use Rattle.p3_dft.proofs.Calls.ExtendedTransforms.{answered_shape, extension_of_shifted}
 use Rattle.p3_matrix.proofs.Rows.Padding.{padded_shape}
 use Rattle.p3_dft.proofs.Calls.PreparedHeights.{none_above, still_above}
@@ -82,7 +82,7 @@ transform-changed-requires g c =
 pub returns-in_err-padded : goal.returns-in_err-padded
 returns-in_err-padded g c =
     record {
-      values = none_given _ _ c.from_residual-in_err-padded.ensures.0;
+      values = IfOk-from_err _ _ c.from_residual-in_err-padded.ensures.0;
       only = λ k e n now. none_above n k (k + c.args.added_bits) (le-add_right _ _) (c.in_ok-coefficients.ensures.only k e n ((c.add_products.ensures.engine.same n).1 now));
       engine = let fits = c.requires.fits in let m = g.N.IntoRowMajorMatrix.stored c.args.mat in let shape = answered_shape g.F.Field g.F.TwoAdicField.generator _ _ _ _ _ fits.log fits.high c.in_ok-coefficients.ensures.coefficients (refl, refl) c.width-width.ensures.whole c.requires.shape c.transform-changed.ensures in after_part _ _ _ _ _ c.from_residual-in_err-padded.ensures.0 (λ k. omega arith) (products_after _ 1 m c.transform-changed.result _ _ _ _ _ shape (omega (arith, c.shift_rows.ensures.cost, c.new-products.ensures)) c.in_ok-coefficients.ensures.engine c.add_products.ensures.engine);
     }

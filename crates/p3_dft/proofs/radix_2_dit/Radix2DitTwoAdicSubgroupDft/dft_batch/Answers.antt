@@ -6,12 +6,13 @@ use Rattle.p3_networks.specs.Twiddles.{root_powers}
 use Rattle.p3_dft.specs.Engines.{EngineState, IsPrepared}
 use Rattle.p3_networks.proofs.Tables.MoreTwiddles.{fewer_layers}
 use Rattle.p3_dft.proofs.Calls.PreparedHeights.{none_above, not_ok, prepared_before, until_prepared, later_with_heights, prepared_at, up_to}
-use Rattle.p3_dft.proofs.Calls.EngineSteps.{after_error, later_same, none_given, larger_bound}
+use Rattle.p3_dft.proofs.Calls.EngineSteps.{after_error, later_same}
 use Rattle.p3_dft.proofs.BitReversed.Rows.{transform_of_row}
 use Rattle.std.proofs.Math.Nat.{le-add_right, le_of_eq, le_refl}
+use Rattle.std.proofs.lemmas.Result.{IfOk-from_err}
 use Rattle.p3_dft.proofs.Calls.JobLists.{on_any_error}
 use Rattle.p3_dft.proofs.Calls.Shapes.{log_fits_dft}
-use Rattle.p3_dft.proofs.Calls.SameInputs.{subst₃}
+use Rattle.p3_dft.proofs.Calls.Counts.{larger_bound, subst₃}
 use Rattle.p3_dft.proofs.radix_2_dit.Radix2DitTwoAdicSubgroupDft.dft_batch.Goals as goal
 
 pub make-requires-clause-within : goal.make-requires-clause-within
@@ -54,7 +55,7 @@ pub returns-in_err-make : goal.returns-in_err-make
 returns-in_err-make g c =
     let err = c.from_residual.ensures.0 in
     record {
-      values = none_given _ _ err;
+      values = IfOk-from_err _ _ err;
       succeeds = λ k high ready. let tall : c.height-height.result ≡ height (g.N.IntoRowMajorMatrix.stored c.args.mat) = c.height-height.ensures.height ∙ ap height c.into_row_major_matrix-mat.ensures in let log = c.log2_strict_usize-log_h.result in let same : k ≡ log = log_same k log (sym high ∙ sym tall ∙ c.log2_strict_usize-log_h.ensures.power) in let held : k ≤ c.self.inside.twiddles = until_prepared _ k (subst (λ (e : EngineState). IsPrepared e k) (sym c.self.view_is) ready) in let there : log ≤ c.self.inside.twiddles = omega (arith, same, held) in absurd (not_ok c.make.result _ c.in_err-make.was (c.make.ensures.ready there));
       only = λ k high n now. inl (subst (λ (e : EngineState). IsPrepared e n) c.self.view_is (subst (λ (t : ℕ). IsPrepared (record { prepared = range_with_len 1 t; products = c.self.inside.products }) n) c.in_err-make.ensures.refused now));
       refused = on_any_error _ (ap (λ l. up_to l c.self.inside.products) c.in_err-make.ensures.refused ∙ c.self.view_is);

@@ -10,12 +10,12 @@ use Rattle.p3_dft.proofs.Calls.PreparedHeights.{not_ok}
 use Rattle.p3_dft.proofs.Calls.PreparedCosets.{coset_stays, later_with_tables, tabled}
 use Rattle.p3_dft.proofs.BitReversed.OneRow.{row_handed_back, row_seen}
 use Rattle.p3_dft.proofs.BitReversed.Rows.{transform_seen}
-use Rattle.std.proofs.lemmas.Result.{on_ok_weaker}
+use Rattle.std.proofs.lemmas.Result.{IfOk-from_err, on_ok_weaker}
 use Rattle.p3_dft.proofs.Calls.Shapes.{log_fits_dft}
 use Rattle.p3_dft.proofs.Calls.JobLists.{on_any_error}
-use Rattle.p3_dft.proofs.Calls.EngineSteps.{later_same, more_allowed, none_given, none_more}
+use Rattle.p3_dft.proofs.Calls.EngineSteps.{later_same}
+use Rattle.p3_dft.proofs.Calls.Counts.{more_allowed, none_more, subst₃}
 use Rattle.std.proofs.Math.Nat.{le_refl}
-use Rattle.p3_dft.proofs.Calls.SameInputs.{subst₃}
 use Rattle.p3_dft.proofs.radix_2_dit_parallel.Radix2DitParallelTwoAdicSubgroupDft.coset_dft_batch.Goals as goal
 
 not_both : (b : Bool) → b ≡ false → IsTrue b → ⊥
@@ -37,13 +37,43 @@ pub returns-then-eq : goal.returns-then-eq
 returns-then-eq g c =
     let is : g.F.Field.value c.args.shift ≡ g.F.Field.ring.one = (g.met.F.Field.eq_law c.args.shift c.ONE.result).0 (search rules) ∙ ap g.F.Field.value c.ONE.ensures ∙ g.met.F.Field.one_law in
     let field = g.F.Field in
-    record { values = subst (λ (s : field.Element). IfOk c.dft_batch.result (λ out. IsTransform field g.F.TwoAdicField.generator (g.N.IntoRowMajorMatrix.stored c.args.mat) s (reversed_rows out.bits out.physical))) (sym is) c.dft_batch.ensures.values; succeeds = λ k high heights ready. c.dft_batch.ensures.succeeds k high heights; ready = λ k high ready. c.dft_batch.ensures.succeeds k high (its_heights is ready); tables = λ k high. on_ok_weaker c.dft_batch.result (λ there. inr (inl (is, there))) (c.dft_batch.ensures.serves k high); only = c.dft_batch.ensures.only; roots = λ other. absurd (other is); once = λ k high ready. c.dft_batch.ensures.cosets; one = λ same. c.dft_batch.ensures.cosets; cosets = λ k high. inl c.dft_batch.ensures.cosets; refused = c.dft_batch.ensures.refused; one_row = c.dft_batch.ensures.one_row; later = c.dft_batch.ensures.later; cost = λ k high. more_allowed _ _ _ (c.dft_batch.ensures.cost k high); pairs = c.dft_batch.ensures.cost }
+    record {
+      values = subst (λ (s : field.Element). IfOk c.dft_batch.result (λ out. IsTransform field g.F.TwoAdicField.generator (g.N.IntoRowMajorMatrix.stored c.args.mat) s (reversed_rows out.bits out.physical))) (sym is) c.dft_batch.ensures.values;
+      succeeds = λ k high heights ready. c.dft_batch.ensures.succeeds k high heights;
+      ready = λ k high ready. c.dft_batch.ensures.succeeds k high (its_heights is ready);
+      tables = λ k high. on_ok_weaker c.dft_batch.result (λ there. inr (inl (is, there))) (c.dft_batch.ensures.serves k high);
+      only = c.dft_batch.ensures.only;
+      roots = λ other. absurd (other is);
+      once = λ k high ready. c.dft_batch.ensures.cosets;
+      one = λ same. c.dft_batch.ensures.cosets;
+      cosets = λ k high. inl c.dft_batch.ensures.cosets;
+      refused = c.dft_batch.ensures.refused;
+      one_row = c.dft_batch.ensures.one_row;
+      later = c.dft_batch.ensures.later;
+      cost = λ k high. more_allowed _ _ _ (c.dft_batch.ensures.cost k high);
+      pairs = c.dft_batch.ensures.cost;
+    }
 
 pub returns-then-height-eq1 : goal.returns-then-height-eq1
 returns-then-height-eq1 g c =
     let m = c.into_row_major_matrix-mat.result in let one : height m ≡ 1 = sym c.height-height.ensures.height ∙ c.if-height-eq1.true in
     let tall : c.height-height.result ≡ height (g.N.IntoRowMajorMatrix.stored c.args.mat) = c.height-height.ensures.height ∙ ap height c.into_row_major_matrix-mat.ensures in
-    record { values = rw (← c.into_row_major_matrix-mat.ensures) (row_seen g.F.Field g.F.TwoAdicField.generator m c.bit_reverse_rows.result.physical (g.F.Field.value c.args.shift) c.bit_reverse_rows.result.bits c.height-height.ensures.whole one c.bit_reverse_rows.ensures.matrix c.bit_reverse_rows.ensures.height); succeeds = λ k high heights ready. refl; ready = λ k high ready. refl; tables = λ k high. inl (log_same k 0 (sym high ∙ sym tall ∙ c.if-height-eq1.true)); only = λ k high n now. inl now; roots = λ other. refl; once = λ k high ready. refl; one = λ same. refl; cosets = λ k high. inl refl; refused = tt; one_row = λ same. (row_handed_back c.bit_reverse_rows.result (g.N.IntoRowMajorMatrix.stored c.args.mat) (height c.into_row_major_matrix-mat.result) (c.bit_reverse_rows.ensures.matrix ∙ c.into_row_major_matrix-mat.ensures) c.bit_reverse_rows.ensures.height (sym c.height-height.ensures.height ∙ c.if-height-eq1.true), refl); later = later_same _ _; cost = λ k high. more_allowed _ _ _ (none_more _ _ _ refl); pairs = λ k high. none_more _ _ _ refl }
+    record {
+      values = rw (← c.into_row_major_matrix-mat.ensures) (row_seen g.F.Field g.F.TwoAdicField.generator m c.bit_reverse_rows.result.physical (g.F.Field.value c.args.shift) c.bit_reverse_rows.result.bits c.height-height.ensures.whole one c.bit_reverse_rows.ensures.matrix c.bit_reverse_rows.ensures.height);
+      succeeds = λ k high heights ready. refl;
+      ready = λ k high ready. refl;
+      tables = λ k high. inl (log_same k 0 (sym high ∙ sym tall ∙ c.if-height-eq1.true));
+      only = λ k high n now. inl now;
+      roots = λ other. refl;
+      once = λ k high ready. refl;
+      one = λ same. refl;
+      cosets = λ k high. inl refl;
+      refused = tt;
+      one_row = λ same. (row_handed_back c.bit_reverse_rows.result (g.N.IntoRowMajorMatrix.stored c.args.mat) (height c.into_row_major_matrix-mat.result) (c.bit_reverse_rows.ensures.matrix ∙ c.into_row_major_matrix-mat.ensures) c.bit_reverse_rows.ensures.height (sym c.height-height.ensures.height ∙ c.if-height-eq1.true), refl);
+      later = later_same _ _;
+      cost = λ k high. more_allowed _ _ _ (none_more _ _ _ refl);
+      pairs = λ k high. none_more _ _ _ refl;
+    }
 
 pub make-requires-clause-within : goal.make-requires-clause-within
 make-requires-clause-within g c = (log_fits_dft _ _ c.requires.fits c.log2_strict_usize-log_h.ensures.power (c.height-height.ensures.height ∙ ap height c.into_row_major_matrix-mat.ensures)).0
@@ -76,10 +106,10 @@ returns-in_err-place g c =
     let kept = c.in_err-place.ensures.refused in
     let refusal = λ (k : ℕ) (high : height (g.N.IntoRowMajorMatrix.stored c.args.mat) ≡ 2 ^ k) (ready : IsCosetPrepared field c.args.self.now k s). not_ok c.make.result _ c.in_err-place.was (c.make.ensures.ready (held k high ready)) in
     record {
-      values = none_given _ _ err;
+      values = IfOk-from_err _ _ err;
       succeeds = λ k high heights ready. absurd (refusal k high ready);
       ready = λ k high ready. absurd (refusal k high ready);
-      tables = λ k high. none_given _ _ err;
+      tables = λ k high. IfOk-from_err _ _ err;
       only = λ k high n now. inl (subst (λ (e : CosetEngineState g.row.F.Denot). IsPrepared e.roots n) c.self.view_is now);
       roots = λ is_other. ap (λ (e : CosetEngineState g.row.F.Denot). e.roots.prepared) c.self.view_is;
       once = λ k high ready. kept ∙ old_cosets;

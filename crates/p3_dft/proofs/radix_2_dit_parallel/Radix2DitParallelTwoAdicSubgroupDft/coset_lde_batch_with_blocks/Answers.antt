@@ -1,7 +1,8 @@
-use Rattle.std.proofs.Common.{◌⊎◌, ◌≡◌, ℕ, ◌+◌, ◌-◌, ◌*◌, ◌/◌, ◌^◌, ◌≤◌, ◌++◌, ◌∷◌, [], sym, ap, ap₂, ◌∙◌, subst, arith, refl}
+use Rattle.std.proofs.Common.{◌⊎◌, ◌≡◌, ℕ, ◌+◌, ◌-◌, ◌*◌, ◌/◌, ◌^◌, ◌≤◌, ◌++◌, ◌∷◌, [], sym, ap, ◌∙◌, subst, arith, refl}
 use Rattle.p3_matrix.specs.BitOrder.{bit_reversal}
 use Rattle.p3_matrix.specs.Blocks.{AreBlocksOf, IsPartition}
 use Rattle.p3_matrix.specs.RowMajor.{RowMajor, HasShapeOf, IsRowMajor, height}
+use Rattle.p3_matrix.proofs.RowMajor.{whole_kept}
 use Rattle.p3_matrix.proofs.TwoPowers.{log_same}
 use Rattle.p3_networks.specs.Twiddles.{AddsCosets, HasCoset, HasCosets}
 use Rattle.p3_dft.specs.Engines.{CosetEngineState, IsPrepared}
@@ -11,7 +12,7 @@ use Rattle.p3_dft.proofs.BitReversed.Rows.{values_seen}
 use Rattle.p3_matrix.proofs.Rows.Padding.{padded_shape, padded_whole}
 use Rattle.p3_dft.proofs.Calls.PreparedCosets.{later_with_tables}
 use Rattle.p3_dft.proofs.Calls.PreparedHeights.{prepared_before, prepared_until}
-use Rattle.p3_dft.proofs.Calls.Shapes.{output_log_small, logs_fit}
+use Rattle.p3_dft.proofs.Calls.Shapes.{output_log_small, both_logs_fit}
 use Rattle.p3_dft.proofs.radix_2_dit_parallel.Radix2DitParallelTwoAdicSubgroupDft.coset_lde_batch_with_blocks.Goals as goal
 
 -- an inverse with a product for each entry, and a transform for each slot
@@ -20,6 +21,14 @@ slots_counted x y p w before middle after first second =
     let spread : w * x + y * w + p * (w * x) ≡ w * (x * (1 + p) + y) = omega arith in
     omega (arith, first, second, spread)
 
+-- the same of a width, a logarithm and an engine that equal those of the answer
+slots_of_equal : (k log a w v u inside before middle after : ℕ) → log ≡ k → v ≡ w → u ≡ w → inside ≡ before → middle ≤ inside + v * (k * 2 ^ k / 2) + 2 ^ k * v
+    → after ≤ middle + 2 ^ a * (u * (log * 2 ^ log / 2)) → after ≤ before + w * (k * 2 ^ k / 2 * (1 + 2 ^ a) + 2 ^ k)
+slots_of_equal k log a w v u inside before middle after same width grown products first second =
+    slots_counted (k * 2 ^ k / 2) (2 ^ k) (2 ^ a) w before middle after
+    (subst (λ (n : ℕ). middle ≤ before + n * (k * 2 ^ k / 2) + 2 ^ k * n) width (subst (λ (b : ℕ). middle ≤ b + v * (k * 2 ^ k / 2) + 2 ^ k * v) products first))
+    (subst (λ (l : ℕ). after ≤ middle + 2 ^ a * (w * (l * 2 ^ l / 2))) same (subst (λ (n : ℕ). after ≤ middle + 2 ^ a * (n * (log * 2 ^ log / 2))) grown second))
+
 -- an inverse with a product for each entry is within the bound of an extension
 first_counted : (x y p w before after : ℕ) → after ≤ before + w * x + y * w → after ≤ before + w * (x * (1 + p) + y)
 first_counted x y p w before after made =
@@ -27,10 +36,10 @@ first_counted x y p w before after made =
     omega (arith, made, spread)
 
 pub extend_reversed-extended-requires-clause-within : goal.extend_reversed-extended-requires-clause-within
-extend_reversed-extended-requires-clause-within g c = (logs_fit _ _ c.requires.fits c.log2_strict_usize-log_h.ensures.power (c.height.ensures.height ∙ ap height c.into_row_major_matrix-mat.ensures)).2
+extend_reversed-extended-requires-clause-within g c = (both_logs_fit _ _ c.requires.fits c.log2_strict_usize-log_h.ensures.power (c.height.ensures.height ∙ ap height c.into_row_major_matrix-mat.ensures)).2
 
 pub extend_reversed-extended-requires-clause-small : goal.extend_reversed-extended-requires-clause-small
-extend_reversed-extended-requires-clause-small g c = (logs_fit _ _ c.requires.fits c.log2_strict_usize-log_h.ensures.power (c.height.ensures.height ∙ ap height c.into_row_major_matrix-mat.ensures)).3
+extend_reversed-extended-requires-clause-small g c = (both_logs_fit _ _ c.requires.fits c.log2_strict_usize-log_h.ensures.power (c.height.ensures.height ∙ ap height c.into_row_major_matrix-mat.ensures)).3
 
 pub extend_reversed-extended-requires-clause-height : goal.extend_reversed-extended-requires-clause-height
 extend_reversed-extended-requires-clause-height g c =
@@ -106,34 +115,100 @@ returns-in-Err g c =
 
 pub returns-in-Err-extended : goal.returns-in-Err-extended
 returns-in-Err-extended g c =
+    let field = g.F.Field in
+    let generator = g.F.TwoAdicField.generator in
+    let a = c.args.added_bits in
+    let s = field.value c.args.shift in
+    let m = c.into_row_major_matrix-mat.result in
+    let log = c.log2_strict_usize-log_h.result in
+    let stored = ap height c.into_row_major_matrix-mat.ensures in
+    let answer = c.in-Ok.ensures.answer in
+    let high : height m ≡ 2 ^ log = sym c.height.ensures.height ∙ c.log2_strict_usize-log_h.ensures.power in
+    let are = answer.are_coefficients log high in
+    let kept = c.requires.shape answer.told answer.answered answer.told_whole (rw (← c.into_row_major_matrix-mat.ensures) (are.high, are.wide)) answer.called in
+    let shape : HasShapeOf answer.answered m = rw c.into_row_major_matrix-mat.ensures kept in
+    let width = ap (λ (n : RowMajor g.row.F.Denot). n.width) c.into_row_major_matrix-mat.ensures in
+    let grown : c.in-Ok.mat.width ≡ (g.N.IntoRowMajorMatrix.stored c.args.mat).width = ap (λ (n : RowMajor g.row.F.Denot). n.width) answer.over_zeros ∙ kept.1 in
+    let products : c.self.inside.products ≡ c.args.self.now.roots.products = ap (λ (e : CosetEngineState g.row.F.Denot). e.roots.products) c.self.view_is in
+    let same : (k : ℕ) → height (g.N.IntoRowMajorMatrix.stored c.args.mat) ≡ 2 ^ k → log ≡ k = λ k e. log_same log k (sym c.log2_strict_usize-log_h.ensures.power ∙ c.height.ensures.height ∙ stored ∙ e) in
+    let asked : (k : ℕ) → height (g.N.IntoRowMajorMatrix.stored c.args.mat) ≡ 2 ^ k → c.block_height-block_height.result ≡ 2 ^ (k - (k + 1) / 2) = λ k e. c.block_height-block_height.ensures ∙ ap (λ n. 2 ^ (n - (n + 1) / 2)) (same k e) in
     record {
       values = tt;
       published = tt;
-      refused = λ k e. let field = g.F.Field in let gen = λ (n : ℕ). field.value (g.F.TwoAdicField.generator n) in let a = c.args.added_bits in let s = field.value c.args.shift in let m = c.into_row_major_matrix-mat.result in let log = c.log2_strict_usize-log_h.result in let stored = ap height c.into_row_major_matrix-mat.ensures in let answer = c.in-Ok.ensures.answer in let high : height m ≡ 2 ^ log = sym c.height.ensures.height ∙ c.log2_strict_usize-log_h.ensures.power in let are = answer.are_coefficients log high in let shape : HasShapeOf answer.answered m = rw c.into_row_major_matrix-mat.ensures (c.requires.shape answer.told answer.answered answer.told_whole (rw (← c.into_row_major_matrix-mat.ensures) (are.high, are.wide)) answer.called) in let same : log ≡ k = log_same log k (sym c.log2_strict_usize-log_h.ensures.power ∙ c.height.ensures.height ∙ stored ∙ e) in let asked : c.block_height-block_height.result ≡ 2 ^ (k - (k + 1) / 2) = c.block_height-block_height.ensures ∙ ap (λ n. 2 ^ (n - (n + 1) / 2)) same in let (out, accepted, refused, values, blocks, stopped) = c.in-Err-extended.ensures.refused answer.answered answer.answered_whole (shape.0 ∙ high) answer.over_zeros in (out, rw (← c.into_row_major_matrix-mat.ensures) (values_of_answered field g.F.TwoAdicField.generator _ m answer.told answer.answered a log s out high are answer.told_whole answer.answered_whole answer.called shape.0 values), record { first = c.make_consumer-consumer.result; made = subst (λ b. g.M.FnOnce.post c.args.make_consumer (b, tt) c.make_consumer-consumer.result) asked c.make_consumer-consumer.ensures; accepted = accepted; refused = refused; blocks = subst (λ (n : ℕ). AreBlocksOf (values_of field) (2 ^ (n - (n + 1) / 2)) (bit_reversal (n + a) out) (accepted ++ refused ∷ [])) same blocks; run = stopped });
+      refused = λ k e.
+          let (values, accepted, refused, are_values, blocks, stopped) = c.in-Err-extended.ensures.refused answer.answered answer.answered_whole (shape.0 ∙ high) answer.over_zeros in (
+            values,
+            rw (← c.into_row_major_matrix-mat.ensures) (values_of_answered field generator _ m answer.told answer.answered a log s values high are answer.told_whole answer.answered_whole answer.called shape.0 are_values),
+            record {
+              first = c.make_consumer-consumer.result;
+              made = subst (λ b. g.M.FnOnce.post c.args.make_consumer (b, tt) c.make_consumer-consumer.result) (asked k e) c.make_consumer-consumer.ensures;
+              accepted = accepted;
+              refused = refused;
+              blocks = subst (λ (n : ℕ). AreBlocksOf (values_of field) (2 ^ (n - (n + 1) / 2)) (bit_reversal (n + a) values) (accepted ++ refused ∷ [])) (same k e) blocks;
+              run = stopped;
+            },
+          );
       unpublished = tt;
-      prepared = λ k e. prepared_until _ k (c.in-Ok.ensures.prepared k (ap height c.into_row_major_matrix-mat.ensures ∙ e));
-      tables = λ k e. c.in-Ok.ensures.cosets k (ap height c.into_row_major_matrix-mat.ensures ∙ e);
-      only = λ k e n now. subst (λ (x : CosetEngineState g.row.F.Denot). IsPrepared x.roots n ⊎ (n ≤ k)) c.self.view_is (prepared_before c.self.inside.tables c.coefficients_with_room-room.new.tables k n (c.coefficients_with_room-room.ensures.only k (ap height c.into_row_major_matrix-mat.ensures ∙ e)) now);
-      keeps_tables = λ k s has. c.coefficients_with_room-room.ensures.keeps_cosets k s (subst (λ (x : CosetEngineState g.row.F.Denot). HasCoset g.F.Field x.cosets k s) (sym c.self.view_is) has);
-      adds_tables = λ k e. let field = g.F.Field in subst (λ (x : CosetEngineState g.row.F.Denot). AddsCosets field g.F.TwoAdicField.generator k c.args.added_bits (field.value c.args.shift) x.cosets c.coefficients_with_room-room.new.cosets) c.self.view_is (c.coefficients_with_room-room.ensures.adds k (ap height c.into_row_major_matrix-mat.ensures ∙ e));
-      once = λ k e all. let field = g.F.Field in let held = subst (λ (x : CosetEngineState g.row.F.Denot). HasCosets field g.F.TwoAdicField.generator x.cosets k c.args.added_bits (field.value c.args.shift)) (sym c.self.view_is) all in c.coefficients_with_room-room.ensures.once k (ap height c.into_row_major_matrix-mat.ensures ∙ e) held ∙ ap (λ (x : CosetEngineState g.row.F.Denot). x.cosets) c.self.view_is;
-      later = later_with_tables g.F.Field _ _ _ c.args.self.now _ _ _ _ _ _ c.self.view_is c.coefficients_with_room-room.ensures.keeps c.coefficients_with_room-room.ensures.keeps_cosets (omega (arith, c.coefficients_with_room-room.ensures.grows, c.extend_reversed-extended.ensures.grows));
-      cost = λ k e. let a = c.args.added_bits in let m = c.into_row_major_matrix-mat.result in let w = (g.N.IntoRowMajorMatrix.stored c.args.mat).width in let log = c.log2_strict_usize-log_h.result in let stored = ap height c.into_row_major_matrix-mat.ensures in let width = ap (λ (n : RowMajor g.row.F.Denot). n.width) c.into_row_major_matrix-mat.ensures in let same : log ≡ k = log_same log k (sym c.log2_strict_usize-log_h.ensures.power ∙ c.height.ensures.height ∙ stored ∙ e) in let products : c.self.inside.products ≡ c.args.self.now.roots.products = ap (λ (e : CosetEngineState g.row.F.Denot). e.roots.products) c.self.view_is in let answer = c.in-Ok.ensures.answer in let are = answer.are_coefficients k (stored ∙ e) in let shape = c.requires.shape answer.told answer.answered answer.told_whole (rw (← c.into_row_major_matrix-mat.ensures) (are.high, are.wide)) answer.called in let grown : c.in-Ok.mat.width ≡ w = ap (λ (n : RowMajor g.row.F.Denot). n.width) answer.over_zeros ∙ shape.1 in let x = k * 2 ^ k / 2 in let first : c.coefficients_with_room-room.new.products ≤ c.args.self.now.roots.products + w * x + 2 ^ k * w = subst (λ (v : ℕ). c.coefficients_with_room-room.new.products ≤ c.args.self.now.roots.products + v * x + 2 ^ k * v) width (subst (λ (b : ℕ). c.coefficients_with_room-room.new.products ≤ b + m.width * x + 2 ^ k * m.width) products (c.coefficients_with_room-room.ensures.cost k (stored ∙ e))) in let second : c.extend_reversed-extended.new.products ≤ c.coefficients_with_room-room.new.products + 2 ^ a * (w * x) = subst (λ (n : ℕ). c.extend_reversed-extended.new.products ≤ c.coefficients_with_room-room.new.products + 2 ^ a * (w * (n * 2 ^ n / 2))) same (subst (λ (v : ℕ). c.extend_reversed-extended.new.products ≤ c.coefficients_with_room-room.new.products + 2 ^ a * (v * (log * 2 ^ log / 2))) grown c.extend_reversed-extended.ensures.cost) in slots_counted x (2 ^ k) (2 ^ a) w _ _ _ first second;
+      prepared = λ k e. prepared_until _ k (c.in-Ok.ensures.prepared k (stored ∙ e));
+      tables = λ k e. c.in-Ok.ensures.cosets k (stored ∙ e);
+      only = λ k e n now. subst (λ (x : CosetEngineState g.row.F.Denot). IsPrepared x.roots n ⊎ (n ≤ k)) c.self.view_is (prepared_before c.self.inside.tables c.coefficients_with_room-room.new.tables k n (c.coefficients_with_room-room.ensures.only k (stored ∙ e)) now);
+      keeps_tables = λ k shift has. c.coefficients_with_room-room.ensures.keeps_cosets k shift (subst (λ (x : CosetEngineState g.row.F.Denot). HasCoset field x.cosets k shift) (sym c.self.view_is) has);
+      adds_tables = λ k e. subst (λ (x : CosetEngineState g.row.F.Denot). AddsCosets field generator k a s x.cosets c.coefficients_with_room-room.new.cosets) c.self.view_is (c.coefficients_with_room-room.ensures.adds k (stored ∙ e));
+      once = λ k e all.
+          let held = subst (λ (x : CosetEngineState g.row.F.Denot). HasCosets field generator x.cosets k a s) (sym c.self.view_is) all in
+          c.coefficients_with_room-room.ensures.once k (stored ∙ e) held ∙ ap (λ (x : CosetEngineState g.row.F.Denot). x.cosets) c.self.view_is;
+      later = later_with_tables field _ _ _ c.args.self.now _ _ _ _ _ _ c.self.view_is c.coefficients_with_room-room.ensures.keeps c.coefficients_with_room-room.ensures.keeps_cosets (omega (arith, c.coefficients_with_room-room.ensures.grows, c.extend_reversed-extended.ensures.grows));
+      cost = λ k e. slots_of_equal k log a _ _ _ _ _ _ _ (same k e) width grown products (c.coefficients_with_room-room.ensures.cost k (stored ∙ e)) c.extend_reversed-extended.ensures.cost;
     }
 
 pub returns : goal.returns
 returns g c =
+    let field = g.F.Field in
+    let generator = g.F.TwoAdicField.generator in
+    let a = c.args.added_bits in
+    let s = field.value c.args.shift in
+    let m = c.into_row_major_matrix-mat.result in
+    let log = c.log2_strict_usize-log_h.result in
+    let stored = ap height c.into_row_major_matrix-mat.ensures in
+    let answer = c.in-Ok.ensures.answer in
+    let high : height m ≡ 2 ^ log = sym c.height.ensures.height ∙ c.log2_strict_usize-log_h.ensures.power in
+    let are = answer.are_coefficients log high in
+    let kept = c.requires.shape answer.told answer.answered answer.told_whole (rw (← c.into_row_major_matrix-mat.ensures) (are.high, are.wide)) answer.called in
+    let shape : HasShapeOf answer.answered m = rw c.into_row_major_matrix-mat.ensures kept in
+    let width = ap (λ (n : RowMajor g.row.F.Denot). n.width) c.into_row_major_matrix-mat.ensures in
+    let grown : c.in-Ok.mat.width ≡ (g.N.IntoRowMajorMatrix.stored c.args.mat).width = ap (λ (n : RowMajor g.row.F.Denot). n.width) answer.over_zeros ∙ kept.1 in
+    let products : c.self.inside.products ≡ c.args.self.now.roots.products = ap (λ (e : CosetEngineState g.row.F.Denot). e.roots.products) c.self.view_is in
+    let same : (k : ℕ) → height (g.N.IntoRowMajorMatrix.stored c.args.mat) ≡ 2 ^ k → log ≡ k = λ k e. log_same log k (sym c.log2_strict_usize-log_h.ensures.power ∙ c.height.ensures.height ∙ stored ∙ e) in
+    let asked : (k : ℕ) → height (g.N.IntoRowMajorMatrix.stored c.args.mat) ≡ 2 ^ k → c.block_height-block_height.result ≡ 2 ^ (k - (k + 1) / 2) = λ k e. c.block_height-block_height.ensures ∙ ap (λ n. 2 ^ (n - (n + 1) / 2)) (same k e) in
+    let out = c.extend_reversed-extended.new.mat in
     record {
-      values = let field = g.F.Field in let a = c.args.added_bits in let s = field.value c.args.shift in let m = c.into_row_major_matrix-mat.result in let grown = c.in-Ok.mat in let out = c.extend_reversed-extended.new.mat in let log = c.log2_strict_usize-log_h.result in let answer = c.in-Ok.ensures.answer in let high : height m ≡ 2 ^ log = sym c.height.ensures.height ∙ c.log2_strict_usize-log_h.ensures.power in let are = answer.are_coefficients log high in let shape : HasShapeOf answer.answered m = rw c.into_row_major_matrix-mat.ensures (c.requires.shape answer.told answer.answered answer.told_whole (rw (← c.into_row_major_matrix-mat.ensures) (are.high, are.wide)) answer.called) in let tall = c.extend_reversed-extended.ensures.shape.0 ∙ (padded_shape field.ZERO m answer.answered grown a log answer.answered_whole shape high answer.over_zeros).0 in let whole : IsRowMajor grown = rw answer.over_zeros (padded_whole field.ZERO answer.answered answer.answered_whole a) in let is_whole : IsRowMajor out = record { wide = omega (arith, whole.wide, c.extend_reversed-extended.ensures.shape.1); full = ap₂ (λ h w. h * w) c.extend_reversed-extended.ensures.shape.0 c.extend_reversed-extended.ensures.shape.1 ∙ whole.full ∙ sym c.extend_reversed-extended.ensures.size } in rw (← c.into_row_major_matrix-mat.ensures, c.bit_reverse_rows.ensures.matrix) (values_of_answered field g.F.TwoAdicField.generator _ m answer.told answer.answered a log s _ high are answer.told_whole answer.answered_whole answer.called shape.0 (values_seen field g.F.TwoAdicField.generator (bit_reversal log (values_of field answer.answered)) out s (log + a) c.bit_reverse_rows.result.bits is_whole tall c.bit_reverse_rows.ensures.height (c.in_default.ensures.values answer.answered answer.answered_whole (shape.0 ∙ high) answer.over_zeros)));
-      published = λ k e. let a = c.args.added_bits in let step = g.C.BlockConsumer.step in let log = c.log2_strict_usize-log_h.result in let stored = ap height c.into_row_major_matrix-mat.ensures in let same : log ≡ k = log_same log k (sym c.log2_strict_usize-log_h.ensures.power ∙ c.height.ensures.height ∙ stored ∙ e) in let asked : c.block_height-block_height.result ≡ 2 ^ (k - (k + 1) / 2) = c.block_height-block_height.ensures ∙ ap (λ n. 2 ^ (n - (n + 1) / 2)) same in let (blocks, parts, run) = c.in_default.ensures.published in record { first = c.make_consumer-consumer.result; made = subst (λ b. g.M.FnOnce.post c.args.make_consumer (b, tt) c.make_consumer-consumer.result) asked c.make_consumer-consumer.ensures; blocks = blocks; parts = rw c.bit_reverse_rows.ensures.matrix (subst (λ (n : ℕ). IsPartition (2 ^ (n - (n + 1) / 2)) c.extend_reversed-extended.new.mat blocks) same parts); run = run };
+      values =
+          let tall = c.extend_reversed-extended.ensures.shape.0 ∙ (padded_shape field.ZERO m answer.answered c.in-Ok.mat a log answer.answered_whole shape high answer.over_zeros).0 in
+          let whole : IsRowMajor c.in-Ok.mat = rw answer.over_zeros (padded_whole field.ZERO answer.answered answer.answered_whole a) in
+          let is_whole = whole_kept c.in-Ok.mat out whole c.extend_reversed-extended.ensures.shape c.extend_reversed-extended.ensures.size in
+          rw (← c.into_row_major_matrix-mat.ensures, c.bit_reverse_rows.ensures.matrix)
+          (values_of_answered field generator _ m answer.told answer.answered a log s _ high are answer.told_whole answer.answered_whole answer.called shape.0
+          (values_seen field generator (bit_reversal log (values_of field answer.answered)) out s (log + a) c.bit_reverse_rows.result.bits is_whole tall c.bit_reverse_rows.ensures.height
+          (c.in_default.ensures.values answer.answered answer.answered_whole (shape.0 ∙ high) answer.over_zeros)));
+      published = λ k e.
+          let (blocks, parts, run) = c.in_default.ensures.published in
+          record {
+            first = c.make_consumer-consumer.result;
+            made = subst (λ b. g.M.FnOnce.post c.args.make_consumer (b, tt) c.make_consumer-consumer.result) (asked k e) c.make_consumer-consumer.ensures;
+            blocks = blocks;
+            parts = rw c.bit_reverse_rows.ensures.matrix (subst (λ (n : ℕ). IsPartition (2 ^ (n - (n + 1) / 2)) out blocks) (same k e) parts);
+            run = run;
+          };
       refused = tt;
       unpublished = tt;
-      prepared = λ k e. prepared_until _ k (c.in-Ok.ensures.prepared k (ap height c.into_row_major_matrix-mat.ensures ∙ e));
-      tables = λ k e. c.in-Ok.ensures.cosets k (ap height c.into_row_major_matrix-mat.ensures ∙ e);
-      only = λ k e n now. subst (λ (x : CosetEngineState g.row.F.Denot). IsPrepared x.roots n ⊎ (n ≤ k)) c.self.view_is (prepared_before c.self.inside.tables c.coefficients_with_room-room.new.tables k n (c.coefficients_with_room-room.ensures.only k (ap height c.into_row_major_matrix-mat.ensures ∙ e)) now);
-      keeps_tables = λ k s has. c.coefficients_with_room-room.ensures.keeps_cosets k s (subst (λ (x : CosetEngineState g.row.F.Denot). HasCoset g.F.Field x.cosets k s) (sym c.self.view_is) has);
-      adds_tables = λ k e. let field = g.F.Field in subst (λ (x : CosetEngineState g.row.F.Denot). AddsCosets field g.F.TwoAdicField.generator k c.args.added_bits (field.value c.args.shift) x.cosets c.coefficients_with_room-room.new.cosets) c.self.view_is (c.coefficients_with_room-room.ensures.adds k (ap height c.into_row_major_matrix-mat.ensures ∙ e));
-      once = λ k e all. let field = g.F.Field in let held = subst (λ (x : CosetEngineState g.row.F.Denot). HasCosets field g.F.TwoAdicField.generator x.cosets k c.args.added_bits (field.value c.args.shift)) (sym c.self.view_is) all in c.coefficients_with_room-room.ensures.once k (ap height c.into_row_major_matrix-mat.ensures ∙ e) held ∙ ap (λ (x : CosetEngineState g.row.F.Denot). x.cosets) c.self.view_is;
-      later = later_with_tables g.F.Field _ _ _ c.args.self.now _ _ _ _ _ _ c.self.view_is c.coefficients_with_room-room.ensures.keeps c.coefficients_with_room-room.ensures.keeps_cosets (omega (arith, c.coefficients_with_room-room.ensures.grows, c.extend_reversed-extended.ensures.grows));
-      cost = λ k e. let a = c.args.added_bits in let m = c.into_row_major_matrix-mat.result in let w = (g.N.IntoRowMajorMatrix.stored c.args.mat).width in let log = c.log2_strict_usize-log_h.result in let stored = ap height c.into_row_major_matrix-mat.ensures in let width = ap (λ (n : RowMajor g.row.F.Denot). n.width) c.into_row_major_matrix-mat.ensures in let same : log ≡ k = log_same log k (sym c.log2_strict_usize-log_h.ensures.power ∙ c.height.ensures.height ∙ stored ∙ e) in let products : c.self.inside.products ≡ c.args.self.now.roots.products = ap (λ (e : CosetEngineState g.row.F.Denot). e.roots.products) c.self.view_is in let answer = c.in-Ok.ensures.answer in let are = answer.are_coefficients k (stored ∙ e) in let shape = c.requires.shape answer.told answer.answered answer.told_whole (rw (← c.into_row_major_matrix-mat.ensures) (are.high, are.wide)) answer.called in let grown : c.in-Ok.mat.width ≡ w = ap (λ (n : RowMajor g.row.F.Denot). n.width) answer.over_zeros ∙ shape.1 in let x = k * 2 ^ k / 2 in let first : c.coefficients_with_room-room.new.products ≤ c.args.self.now.roots.products + w * x + 2 ^ k * w = subst (λ (v : ℕ). c.coefficients_with_room-room.new.products ≤ c.args.self.now.roots.products + v * x + 2 ^ k * v) width (subst (λ (b : ℕ). c.coefficients_with_room-room.new.products ≤ b + m.width * x + 2 ^ k * m.width) products (c.coefficients_with_room-room.ensures.cost k (stored ∙ e))) in let second : c.extend_reversed-extended.new.products ≤ c.coefficients_with_room-room.new.products + 2 ^ a * (w * x) = subst (λ (n : ℕ). c.extend_reversed-extended.new.products ≤ c.coefficients_with_room-room.new.products + 2 ^ a * (w * (n * 2 ^ n / 2))) same (subst (λ (v : ℕ). c.extend_reversed-extended.new.products ≤ c.coefficients_with_room-room.new.products + 2 ^ a * (v * (log * 2 ^ log / 2))) grown c.extend_reversed-extended.ensures.cost) in slots_counted x (2 ^ k) (2 ^ a) w _ _ _ first second;
+      prepared = λ k e. prepared_until _ k (c.in-Ok.ensures.prepared k (stored ∙ e));
+      tables = λ k e. c.in-Ok.ensures.cosets k (stored ∙ e);
+      only = λ k e n now. subst (λ (x : CosetEngineState g.row.F.Denot). IsPrepared x.roots n ⊎ (n ≤ k)) c.self.view_is (prepared_before c.self.inside.tables c.coefficients_with_room-room.new.tables k n (c.coefficients_with_room-room.ensures.only k (stored ∙ e)) now);
+      keeps_tables = λ k shift has. c.coefficients_with_room-room.ensures.keeps_cosets k shift (subst (λ (x : CosetEngineState g.row.F.Denot). HasCoset field x.cosets k shift) (sym c.self.view_is) has);
+      adds_tables = λ k e. subst (λ (x : CosetEngineState g.row.F.Denot). AddsCosets field generator k a s x.cosets c.coefficients_with_room-room.new.cosets) c.self.view_is (c.coefficients_with_room-room.ensures.adds k (stored ∙ e));
+      once = λ k e all.
+          let held = subst (λ (x : CosetEngineState g.row.F.Denot). HasCosets field generator x.cosets k a s) (sym c.self.view_is) all in
+          c.coefficients_with_room-room.ensures.once k (stored ∙ e) held ∙ ap (λ (x : CosetEngineState g.row.F.Denot). x.cosets) c.self.view_is;
+      later = later_with_tables field _ _ _ c.args.self.now _ _ _ _ _ _ c.self.view_is c.coefficients_with_room-room.ensures.keeps c.coefficients_with_room-room.ensures.keeps_cosets (omega (arith, c.coefficients_with_room-room.ensures.grows, c.extend_reversed-extended.ensures.grows));
+      cost = λ k e. slots_of_equal k log a _ _ _ _ _ _ _ (same k e) width grown products (c.coefficients_with_room-room.ensures.cost k (stored ∙ e)) c.extend_reversed-extended.ensures.cost;
     }

@@ -8,10 +8,11 @@ use Rattle.p3_dft.proofs.BitReversed.Rows.{transform_seen}
 use Rattle.p3_dft.proofs.Calls.PreparedCosets.{later_with_tables, tabled}
 use Rattle.p3_dft.proofs.Calls.PreparedHeights.{not_ok, prepared_before, until_prepared, prepared_at}
 use Rattle.std.proofs.Math.Nat.{le_refl}
-use Rattle.p3_dft.proofs.Calls.EngineSteps.{later_same, none_given, none_more}
+use Rattle.std.proofs.lemmas.Result.{IfOk-from_err}
+use Rattle.p3_dft.proofs.Calls.EngineSteps.{later_same}
 use Rattle.p3_dft.proofs.Calls.JobLists.{on_any_error}
 use Rattle.p3_dft.proofs.Calls.Shapes.{log_fits_dft}
-use Rattle.p3_dft.proofs.Calls.SameInputs.{subst₃}
+use Rattle.p3_dft.proofs.Calls.Counts.{none_more, subst₃}
 use Rattle.p3_dft.proofs.radix_2_dit_parallel.Radix2DitParallelTwoAdicSubgroupDft.dft_batch.Goals as goal
 
 pub returns-then-height-eq1 : goal.returns-then-height-eq1
@@ -50,9 +51,9 @@ pub returns-in_err-make : goal.returns-in_err-make
 returns-in_err-make g c =
     let err = c.from_residual.ensures.0 in
     record {
-      values = none_given _ _ err;
+      values = IfOk-from_err _ _ err;
       succeeds = λ k high ready. let tall : c.height-height.result ≡ height (g.N.IntoRowMajorMatrix.stored c.args.mat) = c.height-height.ensures.height ∙ ap height c.into_row_major_matrix-mat.ensures in let log = c.log2_strict_usize-log_h.result in let same : k ≡ log = log_same k log (sym high ∙ sym tall ∙ c.log2_strict_usize-log_h.ensures.power) in let held : k ≤ c.self.inside.tables = until_prepared _ k (subst (λ (e : CosetEngineState g.row.F.Denot). IsPrepared e.roots k) (sym c.self.view_is) ready) in let there : log ≤ c.self.inside.tables = omega (arith, same, held) in absurd (not_ok c.make.result _ c.in_err-make.was (c.make.ensures.ready there));
-      serves = λ k high. none_given _ _ err;
+      serves = λ k high. IfOk-from_err _ _ err;
       only = λ k high n now. let tall : c.height-height.result ≡ height (g.N.IntoRowMajorMatrix.stored c.args.mat) = c.height-height.ensures.height ∙ ap height c.into_row_major_matrix-mat.ensures in let same : c.log2_strict_usize-log_h.result ≡ k = log_same _ k (sym c.log2_strict_usize-log_h.ensures.power ∙ tall ∙ high) in subst (λ (e : CosetEngineState g.row.F.Denot). IsPrepared e.roots n ⊎ (n ≤ k)) c.self.view_is (subst (λ (l : ℕ). IsPrepared (record { prepared = range_with_len 1 c.self.inside.tables; products = c.self.inside.products }) n ⊎ (n ≤ l)) same (prepared_before c.self.inside.tables c.make.new.self _ n c.make.ensures.only now));
       refused = on_any_error _ (ap (λ l. tabled l c.self.inside.products c.self.inside.cosets) c.in_err-make.ensures.refused ∙ c.self.view_is);
       one_row = λ one. absurd (c.if-height-eq1.false (c.height-height.ensures.height ∙ ap height c.into_row_major_matrix-mat.ensures ∙ one));
@@ -63,14 +64,16 @@ returns-in_err-make g c =
 
 pub returns : goal.returns
 returns g c =
+    let log = c.log2_strict_usize-log_h.result in
+    let same : (k : ℕ) → height (g.N.IntoRowMajorMatrix.stored c.args.mat) ≡ 2 ^ k → log ≡ k = λ k high. log_same log k (sym c.log2_strict_usize-log_h.ensures.power ∙ c.height-height.ensures.height ∙ ap height c.into_row_major_matrix-mat.ensures ∙ high) in
     record {
-      values = let field = g.F.Field in let m = c.into_row_major_matrix-mat.result in let log = c.log2_strict_usize-log_h.result in let high : height m ≡ 2 ^ log = sym c.height-height.ensures.height ∙ c.log2_strict_usize-log_h.ensures.power in rw (← c.into_row_major_matrix-mat.ensures, c.bit_reverse_rows-2.ensures.matrix) (transform_seen field g.F.TwoAdicField.generator m c.evaluate_to_reversed.new.mat field.ring.one log c.bit_reverse_rows-2.result.bits high c.height-height.ensures.whole c.evaluate_to_reversed.ensures.shape c.evaluate_to_reversed.ensures.size c.bit_reverse_rows-2.ensures.height c.evaluate_to_reversed.ensures.values);
+      values = let field = g.F.Field in let m = c.into_row_major_matrix-mat.result in let high : height m ≡ 2 ^ log = sym c.height-height.ensures.height ∙ c.log2_strict_usize-log_h.ensures.power in rw (← c.into_row_major_matrix-mat.ensures, c.bit_reverse_rows-2.ensures.matrix) (transform_seen field g.F.TwoAdicField.generator m c.evaluate_to_reversed.new.mat field.ring.one log c.bit_reverse_rows-2.result.bits high c.height-height.ensures.whole c.evaluate_to_reversed.ensures.shape c.evaluate_to_reversed.ensures.size c.bit_reverse_rows-2.ensures.height c.evaluate_to_reversed.ensures.values);
       succeeds = λ k high ready. refl;
-      serves = λ k high. let tall : c.height-height.result ≡ height (g.N.IntoRowMajorMatrix.stored c.args.mat) = c.height-height.ensures.height ∙ ap height c.into_row_major_matrix-mat.ensures in let log = c.log2_strict_usize-log_h.result in let same : log ≡ k = log_same log k (sym c.log2_strict_usize-log_h.ensures.power ∙ tall ∙ high) in prepared_at _ _ k same c.in_ok-make.ensures.made;
-      only = λ k high n now. let tall : c.height-height.result ≡ height (g.N.IntoRowMajorMatrix.stored c.args.mat) = c.height-height.ensures.height ∙ ap height c.into_row_major_matrix-mat.ensures in let same : c.log2_strict_usize-log_h.result ≡ k = log_same _ k (sym c.log2_strict_usize-log_h.ensures.power ∙ tall ∙ high) in subst (λ (e : CosetEngineState g.row.F.Denot). IsPrepared e.roots n ⊎ (n ≤ k)) c.self.view_is (subst (λ (l : ℕ). IsPrepared (record { prepared = range_with_len 1 c.self.inside.tables; products = c.self.inside.products }) n ⊎ (n ≤ l)) same (prepared_before c.self.inside.tables c.make.new.self _ n c.make.ensures.only now));
+      serves = λ k high. prepared_at _ _ k (same k high) c.in_ok-make.ensures.made;
+      only = λ k high n now. subst (λ (e : CosetEngineState g.row.F.Denot). IsPrepared e.roots n ⊎ (n ≤ k)) c.self.view_is (subst (λ (l : ℕ). IsPrepared (record { prepared = range_with_len 1 c.self.inside.tables; products = c.self.inside.products }) n ⊎ (n ≤ l)) (same k high) (prepared_before c.self.inside.tables c.make.new.self _ n c.make.ensures.only now));
       refused = tt;
       one_row = λ one. absurd (c.if-height-eq1.false (c.height-height.ensures.height ∙ ap height c.into_row_major_matrix-mat.ensures ∙ one));
       cosets = ap (λ (e : CosetEngineState g.row.F.Denot). e.cosets) c.self.view_is;
       later = later_with_tables g.F.Field _ _ _ c.args.self.now _ _ _ _ _ _ c.self.view_is c.make.ensures.keeps (λ k s has. has) c.evaluate_to_reversed.ensures.grows;
-      cost = λ k high. let tall : c.height-height.result ≡ height (g.N.IntoRowMajorMatrix.stored c.args.mat) = c.height-height.ensures.height ∙ ap height c.into_row_major_matrix-mat.ensures in let log = c.log2_strict_usize-log_h.result in let same : log ≡ k = log_same log k (sym c.log2_strict_usize-log_h.ensures.power ∙ tall ∙ high) in let products : c.self.inside.products ≡ c.args.self.now.roots.products = ap (λ (e : CosetEngineState g.row.F.Denot). e.roots.products) c.self.view_is in let width = ap (λ (m : RowMajor g.row.F.Denot). m.width) c.into_row_major_matrix-mat.ensures in subst₃ (λ (p w n : ℕ). c.evaluate_to_reversed.new.products ≤ p + w * (n * 2 ^ n / 2)) _ _ _ _ _ _ products width same c.evaluate_to_reversed.ensures.cost;
+      cost = λ k high. let products : c.self.inside.products ≡ c.args.self.now.roots.products = ap (λ (e : CosetEngineState g.row.F.Denot). e.roots.products) c.self.view_is in let width = ap (λ (m : RowMajor g.row.F.Denot). m.width) c.into_row_major_matrix-mat.ensures in subst₃ (λ (p w n : ℕ). c.evaluate_to_reversed.new.products ≤ p + w * (n * 2 ^ n / 2)) _ _ _ _ _ _ products width (same k high) c.evaluate_to_reversed.ensures.cost;
     }

@@ -1,5 +1,5 @@
 use Rattle.std.proofs.Common.{◌≡◌, ◌⊎◌, inl, ℕ, ◌+◌, ◌*◌, ◌/◌, ◌<◌, ◌^◌, ◌≤◌, Result, Ok, Err, OnOk, refl, sym, ap, ap₂, ◌∙◌, subst, arith}
-use Rattle.std.proofs.lemmas.Result.{IfOk-weaker}
+use Rattle.std.proofs.lemmas.Result.{IfOk-from_err, IfOk-weaker}
 use Rattle.p3_field.specs.Ring.{count}
 use Rattle.p3_field.proofs.Powers.{count-power_of_two}
 use Rattle.p3_matrix.specs.BitOrder.{bit_reversal}
@@ -8,7 +8,7 @@ use Rattle.p3_matrix.specs.RowMajor.{RowMajor, height}
 use Rattle.p3_matrix.proofs.TwoPowers.{log_same, more_points}
 use Rattle.p3_matrix.specs.Cosets.{coset_shift, values_of}
 use Rattle.p3_dft.specs.Engines.{EngineState, IsPrepared}
-use Rattle.p3_dft.proofs.Calls.Shapes.{log_fits, both_none, logs_fit}
+use Rattle.p3_dft.proofs.Calls.Shapes.{log_fits, both_none, both_logs_fit}
 use Rattle.p3_networks.proofs.Layers.Counts.{extension_made, fewer_than_parts}
 use Rattle.p3_matrix.proofs.Polynomials.Cosets.{coset_values}
 use Rattle.p3_dft.proofs.BitReversed.Coefficients.{extension_of_coefficients, extension_of_row}
@@ -16,15 +16,16 @@ use Rattle.p3_matrix.proofs.Polynomials.Quotients.{shifted_quotient}
 use Rattle.p3_dft.proofs.Calls.PreparedHeights.{prepared_before, later_with_heights, both_prepared}
 use Rattle.std.proofs.Math.Nat.{le_refl, le_trans, lt_of_lt_of_le}
 use Rattle.p3_matrix.proofs.RowMajor.{whole_kept}
-use Rattle.p3_dft.proofs.Calls.EngineSteps.{larger_bound, later_same, none_given, none_more}
+use Rattle.p3_dft.proofs.Calls.EngineSteps.{later_same}
+use Rattle.p3_dft.proofs.Calls.Counts.{larger_bound, none_more}
 use Rattle.p3_dft.proofs.radix_2_small_batch.Radix2DFTSmallBatchTwoAdicSubgroupDft.coset_lde_batch.Goals as goal
 
 on_ok : {T E : Type 0} (r : Result T E) {P : Type 0} → P → OnOk r P
 on_ok (Ok x) known = known
 on_ok (Err e) known = tt
 
-low_layer : (l k a n : ℕ) → l < k → k + a ≤ n → l < n
-low_layer l k a n below made = omega (arith, below, made)
+layer_within : (l k a n : ℕ) → l < k → k + a ≤ n → l < n
+layer_within l k a n below made = omega (arith, below, made)
 
 pub overflow_add-log_h : goal.overflow_add-log_h
 overflow_add-log_h g c = omega (arith, (log_fits _ _ c.requires.fits c.log2_strict_usize-log_h.ensures.power (c.height.ensures.height ∙ ap height c.into_row_major_matrix-mat.ensures)).1)
@@ -33,16 +34,16 @@ pub overflow_add-log_h-2 : goal.overflow_add-log_h-2
 overflow_add-log_h-2 g c = omega (arith, (log_fits _ _ c.requires.fits c.log2_strict_usize-log_h.ensures.power (c.height.ensures.height ∙ ap height c.into_row_major_matrix-mat.ensures)).1)
 
 pub make-requires-clause-within : goal.make-requires-clause-within
-make-requires-clause-within g c = (logs_fit _ _ c.requires.fits c.log2_strict_usize-log_h.ensures.power (c.height.ensures.height ∙ ap height c.into_row_major_matrix-mat.ensures)).2
+make-requires-clause-within g c = (both_logs_fit _ _ c.requires.fits c.log2_strict_usize-log_h.ensures.power (c.height.ensures.height ∙ ap height c.into_row_major_matrix-mat.ensures)).2
 
 pub make-requires-clause-small : goal.make-requires-clause-small
-make-requires-clause-small g c = (logs_fit _ _ c.requires.fits c.log2_strict_usize-log_h.ensures.power (c.height.ensures.height ∙ ap height c.into_row_major_matrix-mat.ensures)).3
+make-requires-clause-small g c = (both_logs_fit _ _ c.requires.fits c.log2_strict_usize-log_h.ensures.power (c.height.ensures.height ∙ ap height c.into_row_major_matrix-mat.ensures)).3
 
 pub interpolate_unscaled_to_reversed-requires-clause-within : goal.interpolate_unscaled_to_reversed-requires-clause-within
-interpolate_unscaled_to_reversed-requires-clause-within g c = (logs_fit _ _ c.requires.fits c.log2_strict_usize-log_h.ensures.power (c.height.ensures.height ∙ ap height c.into_row_major_matrix-mat.ensures)).0
+interpolate_unscaled_to_reversed-requires-clause-within g c = (both_logs_fit _ _ c.requires.fits c.log2_strict_usize-log_h.ensures.power (c.height.ensures.height ∙ ap height c.into_row_major_matrix-mat.ensures)).0
 
 pub interpolate_unscaled_to_reversed-requires-clause-small : goal.interpolate_unscaled_to_reversed-requires-clause-small
-interpolate_unscaled_to_reversed-requires-clause-small g c = (logs_fit _ _ c.requires.fits c.log2_strict_usize-log_h.ensures.power (c.height.ensures.height ∙ ap height c.into_row_major_matrix-mat.ensures)).1
+interpolate_unscaled_to_reversed-requires-clause-small g c = (both_logs_fit _ _ c.requires.fits c.log2_strict_usize-log_h.ensures.power (c.height.ensures.height ∙ ap height c.into_row_major_matrix-mat.ensures)).1
 
 pub interpolate_unscaled_to_reversed-requires-clause-height : goal.interpolate_unscaled_to_reversed-requires-clause-height
 interpolate_unscaled_to_reversed-requires-clause-height g c = sym c.height.ensures.height ∙ c.log2_strict_usize-log_h.ensures.power
@@ -51,13 +52,13 @@ pub interpolate_unscaled_to_reversed-requires-clause-whole : goal.interpolate_un
 interpolate_unscaled_to_reversed-requires-clause-whole g c = c.height.ensures.whole
 
 pub interpolate_unscaled_to_reversed-requires-clause-twiddles : goal.interpolate_unscaled_to_reversed-requires-clause-twiddles
-interpolate_unscaled_to_reversed-requires-clause-twiddles g c = record { size = λ l below. c.backward-backward.ensures.table.size l (low_layer l _ _ _ below c.in_ok-make.ensures.made); entries = λ l b below inside. c.backward-backward.ensures.table.entries l b (low_layer l _ _ _ below c.in_ok-make.ensures.made) inside }
+interpolate_unscaled_to_reversed-requires-clause-twiddles g c = record { size = λ l below. c.backward-backward.ensures.table.size l (layer_within l _ _ _ below c.in_ok-make.ensures.made); entries = λ l b below inside. c.backward-backward.ensures.table.entries l b (layer_within l _ _ _ below c.in_ok-make.ensures.made) inside }
 
 pub extend_to_natural-requires-clause-small : goal.extend_to_natural-requires-clause-small
-extend_to_natural-requires-clause-small g c = (logs_fit _ _ c.requires.fits c.log2_strict_usize-log_h.ensures.power (c.height.ensures.height ∙ ap height c.into_row_major_matrix-mat.ensures)).3
+extend_to_natural-requires-clause-small g c = (both_logs_fit _ _ c.requires.fits c.log2_strict_usize-log_h.ensures.power (c.height.ensures.height ∙ ap height c.into_row_major_matrix-mat.ensures)).3
 
 pub extend_to_natural-requires-clause-within : goal.extend_to_natural-requires-clause-within
-extend_to_natural-requires-clause-within g c = (logs_fit _ _ c.requires.fits c.log2_strict_usize-log_h.ensures.power (c.height.ensures.height ∙ ap height c.into_row_major_matrix-mat.ensures)).2
+extend_to_natural-requires-clause-within g c = (both_logs_fit _ _ c.requires.fits c.log2_strict_usize-log_h.ensures.power (c.height.ensures.height ∙ ap height c.into_row_major_matrix-mat.ensures)).2
 
 pub extend_to_natural-requires-clause-height : goal.extend_to_natural-requires-clause-height
 extend_to_natural-requires-clause-height g c = c.interpolate_unscaled_to_reversed.ensures.shape.0 ∙ sym c.height.ensures.height ∙ c.log2_strict_usize-log_h.ensures.power
@@ -91,8 +92,8 @@ pub returns-in_err-make : goal.returns-in_err-make
 returns-in_err-make g c =
     let err = c.from_residual.ensures.0 in let products : c.self.inside.products ≡ c.args.self.now.products = ap (λ e. e.products) c.self.view_is in
     record {
-      values = none_given _ _ err;
-      serves = λ k high. none_given _ _ err;
+      values = IfOk-from_err _ _ err;
+      serves = λ k high. IfOk-from_err _ _ err;
       one_row = λ one none. absurd (more_points c.height.result c.log2_strict_usize-log_h.result c.args.added_bits c.log2_strict_usize-log_h.ensures.power c.if-log_h-added_bits-eq0.false (c.height.ensures.height ∙ ap height c.into_row_major_matrix-mat.ensures ∙ one) none);
       only = λ k high n now. let log = c.log2_strict_usize-log_h.result in let same : log ≡ k = log_same log k (sym c.log2_strict_usize-log_h.ensures.power ∙ c.height.ensures.height ∙ ap height c.into_row_major_matrix-mat.ensures ∙ high) in subst (λ (e : EngineState). IsPrepared e n ⊎ (n ≤ k + c.args.added_bits)) c.self.view_is (prepared_before c.self.inside.tables c.make.new.self (k + c.args.added_bits) n (subst (λ (m : ℕ). (c.make.new.self ≡ c.self.inside.tables) ⊎ (c.make.new.self ≡ m + c.args.added_bits)) same c.make.ensures.only) now);
       later = later_with_heights _ _ _ c.args.self.now _ _ _ _ c.self.view_is c.make.ensures.keeps (le_refl c.self.inside.products);

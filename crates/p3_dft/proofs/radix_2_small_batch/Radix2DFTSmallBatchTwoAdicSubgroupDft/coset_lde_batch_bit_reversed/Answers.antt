@@ -1,5 +1,6 @@
 use Rattle.std.proofs.Common.{◌≡◌, ◌⊎◌, ℕ, ◌+◌, ◌*◌, ◌/◌, ◌^◌, ◌<◌, ◌≤◌, sym, ap, ap₂, ◌∙◌, subst, arith}
 use Rattle.std.proofs.Math.Pow.{pow-lt}
+use Rattle.std.proofs.lemmas.Result.{IfOk-from_err}
 use Rattle.p3_matrix.specs.RowMajor.{RowMajor, HasShapeOf, IsRowMajor, height}
 use Rattle.p3_matrix.proofs.TwoPowers.{log_same}
 use Rattle.p3_networks.proofs.Layers.Counts.{slots_made}
@@ -7,7 +8,7 @@ use Rattle.p3_dft.specs.Engines.{EngineState, IsLater, IsPrepared}
 use Rattle.p3_dft.specs.Extensions.{extension_bound}
 use Rattle.p3_matrix.specs.Cosets.{values_of}
 use Rattle.p3_dft.proofs.BitReversed.Rows.{values_seen}
-use Rattle.p3_dft.proofs.Calls.EngineSteps.{after_error, later_still, no_answer, none_given}
+use Rattle.p3_dft.proofs.Calls.EngineSteps.{after_error, later_still, no_answer}
 use Rattle.p3_dft.proofs.Calls.ExtendedTransforms.{extension_of_natural}
 use Rattle.p3_matrix.proofs.Rows.Padding.{padded_shape, padded_whole}
 use Rattle.p3_dft.proofs.Calls.PreparedHeights.{prepared_until, until_prepared, both_prepared, none_above, still_above, tabled_facts}
@@ -175,7 +176,7 @@ pub returns-in_err-prepare : goal.returns-in_err-prepare
 returns-in_err-prepare g c =
     let err = c.from_residual.ensures.0 in
     record {
-      values = none_given _ _ err;
+      values = IfOk-from_err _ _ err;
       only = λ k e n now. preparing_alone n c.args.added_bits k c.log2_strict_usize-log_h.result c.log2_strict_usize-log_h.ensures.power (c.height.ensures.height ∙ ap height c.into_row_major_matrix-mat.ensures) e (c.prepare.ensures.only n now);
       engine = after_error _ _ _ _ c.from_residual.ensures.0 (only_preparing _ _ _ c.prepare.ensures.keeps c.prepare.ensures.products) c.prepare.ensures.products;
     }
@@ -184,7 +185,7 @@ pub returns-in_err-coefficients : goal.returns-in_err-coefficients
 returns-in_err-coefficients g c =
     let err = c.from_residual-in_err-coefficients.ensures.0 in
     record {
-      values = none_given _ _ err;
+      values = IfOk-from_err _ _ err;
       only = λ k e n now. prepared_alone n c.args.added_bits k c.log2_strict_usize-log_h.result c.log2_strict_usize-log_h.ensures.power (c.height.ensures.height ∙ ap height c.into_row_major_matrix-mat.ensures) e (c.prepare.ensures.only n) (c.idft_batch.ensures.only _ (sym c.height.ensures.height ∙ c.log2_strict_usize-log_h.ensures.power) n) now;
       engine = record { later = after_preparing _ _ _ c.prepare.ensures.keeps c.prepare.ensures.products c.idft_batch.ensures.later; ready = λ done. absurd (no_answer c.from_residual-in_err-coefficients.result c.from_residual-in_err-coefficients.ensures.0 done); cost = λ k e. inverse_made _ _ k c.args.added_bits _ _ _ c.into_row_major_matrix-mat.ensures c.prepare.ensures.products (c.idft_batch.ensures.cost k (ap height c.into_row_major_matrix-mat.ensures ∙ e)) };
     }
@@ -193,7 +194,7 @@ pub returns-in_err-grown : goal.returns-in_err-grown
 returns-in_err-grown g c =
     let err = c.from_residual-in_err-grown.ensures.0 in
     record {
-      values = none_given _ _ err;
+      values = IfOk-from_err _ _ err;
       only = λ k e n now. prepared_alone n c.args.added_bits k c.log2_strict_usize-log_h.result c.log2_strict_usize-log_h.ensures.power (c.height.ensures.height ∙ ap height c.into_row_major_matrix-mat.ensures) e (c.prepare.ensures.only n) (c.idft_batch.ensures.only _ (sym c.height.ensures.height ∙ c.log2_strict_usize-log_h.ensures.power) n) now;
       engine = record { later = after_preparing _ _ _ c.prepare.ensures.keeps c.prepare.ensures.products c.idft_batch.ensures.later; ready = λ done. absurd (no_answer c.from_residual-in_err-grown.result c.from_residual-in_err-grown.ensures.0 done); cost = λ k e. inverse_made _ _ k c.args.added_bits _ _ _ c.into_row_major_matrix-mat.ensures c.prepare.ensures.products (c.idft_batch.ensures.cost k (ap height c.into_row_major_matrix-mat.ensures ∙ e)) };
     }

@@ -1,7 +1,8 @@
 use Rattle.std.proofs.Common.{refl}
+use Rattle.std.proofs.lemmas.Result.{IfOk-from_err}
 use Rattle.p3_dft.specs.declared.traits.Layout.TheVariants.{Natural}
 use Rattle.p3_dft.proofs.Calls.PublishedExtensions.{extension_of_equal}
-use Rattle.p3_dft.proofs.Calls.EngineSteps.{after_refusal, none_given}
+use Rattle.p3_dft.proofs.Calls.EngineSteps.{after_refusal}
 use Rattle.p3_dft.proofs.radix_2_small_batch.Radix2DFTSmallBatchTwoAdicSubgroupDft.coset_lde_batch_with_transform.Goals as goal
 
 pub coset_lde_batch_bit_reversed-requires-clause-fits : goal.coset_lde_batch_bit_reversed-requires-clause-fits
@@ -19,4 +20,4 @@ returns g c = record { values = extension_of_equal g.F.Field g.F.TwoAdicField.ge
 pub returns-in_err-values : goal.returns-in_err-values
 returns-in_err-values g c =
     let err = c.from_residual.ensures.0 in
-    record { values = none_given _ _ err; only = c.in_err-values.ensures.only; engine = after_refusal _ _ _ _ _ err c.in_err-values.ensures.engine }
+    record { values = IfOk-from_err _ _ err; only = c.in_err-values.ensures.only; engine = after_refusal _ _ _ _ _ err c.in_err-values.ensures.engine }

@@ -8,10 +8,11 @@ use Rattle.p3_dft.proofs.Calls.PreparedHeights.{not_ok, prepared_before, some_lo
 use Rattle.p3_dft.proofs.BitReversed.Coefficients.{interpolation_of_coefficients}
 use Rattle.p3_dft.proofs.BitReversed.Rows.{transform_of_row}
 use Rattle.std.proofs.Math.Nat.{le_refl}
-use Rattle.p3_dft.proofs.Calls.EngineSteps.{later_same, more_allowed, none_given, none_more}
+use Rattle.std.proofs.lemmas.Result.{IfOk-from_err}
+use Rattle.p3_dft.proofs.Calls.EngineSteps.{later_same}
 use Rattle.p3_dft.proofs.Calls.JobLists.{on_any_error}
 use Rattle.p3_dft.proofs.Calls.Shapes.{log_fits_dft}
-use Rattle.p3_dft.proofs.Calls.SameInputs.{subst₃}
+use Rattle.p3_dft.proofs.Calls.Counts.{more_allowed, none_more, subst₃}
 use Rattle.p3_dft.proofs.radix_2_small_batch.Radix2DFTSmallBatchTwoAdicSubgroupDft.idft_batch.Goals as goal
 
 pub returns-then-height-eq1 : goal.returns-then-height-eq1
@@ -56,9 +57,9 @@ pub returns-in_err-make : goal.returns-in_err-make
 returns-in_err-make g c =
     let err = c.from_residual.ensures.0 in
     record {
-      coefficients = none_given _ _ err;
+      coefficients = IfOk-from_err _ _ err;
       succeeds = λ k high ready. let tall : c.height-height.result ≡ height (g.N.IntoRowMajorMatrix.stored c.args.mat) = c.height-height.ensures.height ∙ ap height c.into_row_major_matrix-mat.ensures in let log = c.log2_strict_usize-log_h.result in let same : k ≡ log = log_same k log (sym high ∙ sym tall ∙ c.log2_strict_usize-log_h.ensures.power) in let held : k ≤ c.self.inside.tables = until_prepared _ k (subst (λ (e : EngineState). IsPrepared e k) (sym c.self.view_is) ready) in let there : log ≤ c.self.inside.tables = omega (arith, same, held) in absurd (not_ok c.make.result _ c.in_err-make.was (c.make.ensures.ready there));
-      serves = λ k high. none_given _ _ err;
+      serves = λ k high. IfOk-from_err _ _ err;
       only = λ k high n now. let log = c.log2_strict_usize-log_h.result in let same : log ≡ k = log_same log k (sym c.log2_strict_usize-log_h.ensures.power ∙ c.height-height.ensures.height ∙ ap height c.into_row_major_matrix-mat.ensures ∙ high) in subst (λ (e : EngineState). IsPrepared e n ⊎ (n ≤ k)) c.self.view_is (prepared_before c.self.inside.tables c.make.new.self (k) n (subst (λ (m : ℕ). (c.make.new.self ≡ c.self.inside.tables) ⊎ (c.make.new.self ≡ m)) same c.make.ensures.only) now);
       refused = on_any_error _ (ap (λ l. up_to l c.self.inside.products) c.in_err-make.ensures.refused ∙ c.self.view_is);
       one_row = λ one. absurd (c.if-height-eq1.false (c.height-height.ensures.height ∙ ap height c.into_row_major_matrix-mat.ensures ∙ one));
