@@ -84,10 +84,11 @@ module _ {A : Type 0} (r : Ring A) where
       let twice : 2 ^ (n + 1) ≡ 2 ^ n + 2 ^ n = rw (add-one, two-pow-succ) in
       cc (ap (power r x) twice, power-add x (2 ^ n) (2 ^ n), e)
 
-  -- one more halving
-  pub halved-more : (s x y : A) (n : ℕ) → r.mul (power r (two r) n) x ≡ s → r.add y y ≡ x → r.mul (power r (two r) (n + 1)) y ≡ s
-  halved-more s x y n e h =
-      ap (λ w. r.mul w y) (power-more (two r) n) ∙ r.mul_assoc (power r (two r) n) (two r) y ∙ ap (r.mul (power r (two r) n)) (Rings.two-mul r y ∙ h) ∙ e
+  -- n halvings undo n doublings
+  pub halved : (x h : A) (n : ℕ) → r.add h h ≡ r.one → r.mul (power r (two r) n) (r.mul x (power r h n)) ≡ x
+  halved x h n is =
+      Rings.mul_left_comm r (power r (two r) n) x (power r h n) ∙ ap (r.mul x) (power-inverse (two r) h n (Rings.two-mul r h ∙ is))
+      ∙ r.mul_one x
 
   pub count-zero : count r 0 ≡ r.zero
   unfolding count

@@ -1,22 +1,16 @@
 -- Residues modulo an odd number: sums of ones, halves, and powers by squarings.
-use Rattle.std.proofs.Common.{◌≡◌, ℕ, zero, suc, ◌+◌, ◌/◌, ◌%◌, ◌^◌, ◌-◌, ◌<◌, ◌≤◌, sym, ap, ◌∙◌, arith, one-add, subst, ◌*◌}
-use Rattle.std.proofs.Math.Nat.{add-mod-mod, add-mod_right, mod-eq_of_lt, mod_self, two-pow-succ, mul-le-mul}
+use Rattle.std.proofs.Common.{◌≡◌, ℕ, zero, suc, ◌+◌, ◌/◌, ◌%◌, ◌^◌, ◌-◌, ◌<◌, ◌≤◌, sym, ap, ◌∙◌, arith, subst, ◌*◌}
+use Rattle.std.proofs.Math.Nat.{add-mod_right, mod-eq_of_lt, mod_self, two-pow-succ, mul-le-mul}
 use Rattle.std.proofs.Math.Bridge.{le_prop}
 use Rattle.p3_field.specs.Ring.{Ring, count, power}
 use Rattle.p3_field.specs.Residues.{Residue, residues, residue-eq}
 use Rattle.p3_field.specs.Squarings.{repeated_square}
-use Rattle.p3_field.proofs.Powers.{count-zero, count-suc, power-zero, power-suc, power-add, power-square}
+use Rattle.p3_field.specs.FieldLaws.{count-number}
+use Rattle.p3_field.proofs.Powers.{power-zero, power-suc, power-add, power-square}
 
 module _ (m : ℕ) (above : 1 < m) (odd : m % 2 ≡ 1) where
-  -- n ones add up to the remainder of n
-  count-number : (n : ℕ) → (count (residues m above odd) n).number ≡ n % m
-  count-number zero = ap (λ (x : Residue m). x.number) (count-zero (residues m above odd)) ∙ sym (mod-eq_of_lt (omega arith))
-  count-number (suc n) =
-      ap (λ (x : Residue m). x.number) (count-suc (residues m above odd) n) ∙ ap (λ k. (1 + k) % m) (count-number n) ∙ add-mod-mod 1 n m
-      ∙ ap (λ k. k % m) (one-add n)
-
   pub count-residue : (n : ℕ) (x : Residue m) → x.number ≡ n % m → x ≡ count (residues m above odd) n
-  count-residue n x is = residue-eq _ _ (is ∙ sym (count-number n))
+  count-residue n x is = residue-eq _ _ (is ∙ sym (count-number m above odd n))
 
 -- the half of an even number is its half, that of an odd one half of its sum with the modulus
 pub even_half : (m n r : ℕ) → n < m → n % 2 ≡ 0 → r ≡ n / 2 → (r + r) % m ≡ n

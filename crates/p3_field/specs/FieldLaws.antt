@@ -1,10 +1,10 @@
 -- Proofs, and no definitions: what an implementation of a field by residues owes beside `residue-eq`.
-use Rattle.std.proofs.Common.{◌≡◌, ◌↔◌, ℕ, zero, suc, ◌+◌, ◌-◌, ◌%◌, IsTrue, nat_cmp, refl, sym, ap, ◌∙◌, arith}
+use Rattle.std.proofs.Common.{◌≡◌, ◌↔◌, ℕ, zero, suc, ◌+◌, ◌-◌, ◌%◌, ◌<◌, IsTrue, nat_cmp, refl, sym, ap, ◌∙◌, arith, one-add}
 use Rattle.std.proofs.lemmas.Bool.{eqb-true, eq-eqb}
 use Rattle.std.proofs.Math.Dec.{eqb}
-use Rattle.std.proofs.Math.Nat.{add-mod-mod}
-use Rattle.p3_field.specs.Residues.{Residue, residue-eq, IsDifference}
-use Rattle.p3_field.specs.Ring.{Ring, AreRoots}
+use Rattle.std.proofs.Math.Nat.{add-mod-mod, mod-eq_of_lt}
+use Rattle.p3_field.specs.Residues.{Residue, residue-eq, residues, IsDifference}
+use Rattle.p3_field.specs.Ring.{Ring, AreRoots, count}
 use Rattle.p3_field.specs.Squarings.{repeated_square}
 
 -- a difference is the sum with a negative
@@ -21,6 +21,16 @@ module _ {m : ℕ} where
       let left : a.number ≡ c.number = ap (λ (x : Residue m). x.number) e in
       let right : b.number ≡ d.number = ap (λ (x : Residue m). x.number) f in
       cc
+
+module _ (m : ℕ) (above : 1 < m) (odd : m % 2 ≡ 1) where
+  -- n ones add up to the remainder of n
+  pub count-number : (n : ℕ) → (count (residues m above odd) n).number ≡ n % m
+  unfolding count
+  count-number zero = sym (mod-eq_of_lt (omega arith))
+  count-number (suc n) = ap (λ k. (1 + k) % m) (count-number n) ∙ add-mod-mod 1 n m ∙ ap (λ k. k % m) (one-add n)
+
+  pub count_law : (n : ℕ) → n < m → (count (residues m above odd) n).number ≡ n
+  count_law n below = count-number n ∙ mod-eq_of_lt below
 
 module _ {A : Type 0} (r : Ring A) where
   repeated_square-suc : (x : A) (n : ℕ) → repeated_square r x (suc n) ≡ r.mul (repeated_square r x n) (repeated_square r x n)

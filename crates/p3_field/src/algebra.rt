@@ -81,6 +81,12 @@ pub struct Coordinates<F, const D: usize> {
 impl<F: Copy, const D: usize> Copy for Coordinates<F, D> {}
 
 impl<F: Copy, const D: usize> Clone for Coordinates<F, D> {
+    ghost use Rattle.std.specs.Prelude.{◌≡◌, ⊤};
+
+    ghost is_clone = { λ x y. y ≡ x };
+
+    ghost is_infallible = { λ _. ⊤ };
+
     fn clone(&self) -> Result<Coordinates<F, D>, AllocError> {
         Ok(*self)
     }

@@ -102,11 +102,7 @@ pub trait Field: Copy
     fn div_2exp_u64(self, n: u64) -> Self
         ensures { ring.mul (power ring (two ring) n) (value result) ≡ value self }
     {
-        let mut halved = self;
-        for _i in 0..n {
-            halved = halved.halve();
-        }
-        halved
+        self * Self::ONE.halve().exp_u64(n)
     }
 
     /// The n-th power, one for n = 0.

@@ -501,6 +501,9 @@ impl TwoAdicField for Goldilocks {
 }
 
 impl CanonicalField for Goldilocks {
+    ghost use Rattle.p3_field.specs.FieldLaws.{count_law};
+    ghost use Rattle.p3_field.specs.Fields.{goldilocks_numbers};
+
     const ORDER_U64: u64 = 18446744069414584321;
 
     ghost ORDER_U64 = { goldilocks_modulus };
@@ -518,4 +521,6 @@ impl CanonicalField for Goldilocks {
     }
 
     ghost number_below_law = { λ x. x.below };
+
+    ghost count_law = { count_law goldilocks_numbers.modulus goldilocks_numbers.above goldilocks_numbers.odd };
 }

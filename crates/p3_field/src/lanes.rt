@@ -16,6 +16,12 @@ pub struct Lanes<F, const N: usize> {
 impl<F: Copy, const N: usize> Copy for Lanes<F, N> {}
 
 impl<F: Copy, const N: usize> Clone for Lanes<F, N> {
+    ghost use Rattle.std.specs.Prelude.{◌≡◌, ⊤};
+
+    ghost is_clone = { λ x y. y ≡ x };
+
+    ghost is_infallible = { λ _. ⊤ };
+
     fn clone(&self) -> Result<Lanes<F, N>, AllocError> {
         Ok(*self)
     }

@@ -68,6 +68,12 @@ pub struct Residue31<N: Numbers> {
 }
 
 impl<N: Numbers> Clone for Residue31<N> {
+    ghost use Rattle.std.specs.Prelude.{◌≡◌, ⊤};
+
+    ghost is_clone = { λ x y. y ≡ x };
+
+    ghost is_infallible = { λ _. ⊤ };
+
     fn clone(&self) -> Result<Residue31<N>, AllocError> {
         Ok(*self)
     }
@@ -499,6 +505,8 @@ impl<N: Numbers> TwoAdicField for Residue31<N> {
 }
 
 impl<N: Numbers> CanonicalField for Residue31<N> {
+    ghost use Rattle.p3_field.specs.FieldLaws.{count_law};
+
     const ORDER_U64: u64 = N::MODULUS as u64;
 
     ghost ORDER_U64 = { N.numbers.modulus };
@@ -519,4 +527,6 @@ impl<N: Numbers> CanonicalField for Residue31<N> {
     }
 
     ghost number_below_law = { λ x. x.below };
+
+    ghost count_law = { count_law N.numbers.modulus N.numbers.above N.numbers.odd };
 }

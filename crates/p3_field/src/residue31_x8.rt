@@ -21,6 +21,12 @@ pub struct Residue31X8<N: Numbers> {
 }
 
 impl<N: Numbers> Clone for Residue31X8<N> {
+    ghost use Rattle.std.specs.Prelude.{◌≡◌, ⊤};
+
+    ghost is_clone = { λ x y. y ≡ x };
+
+    ghost is_infallible = { λ _. ⊤ };
+
     fn clone(&self) -> Result<Residue31X8<N>, AllocError> {
         Ok(*self)
     }

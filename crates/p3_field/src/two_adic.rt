@@ -1,7 +1,7 @@
 //! Fields with roots of unity of two-power order, and fields with canonical numbers.
 
 ghost use Rattle.std.specs.Prelude.{◌≡◌, ◌≤◌, ◌<◌, ◌↔◌, ℕ, IfSome, IsNone};
-ghost use Rattle.p3_field.specs.Ring.{AreRoots};
+ghost use Rattle.p3_field.specs.Ring.{AreRoots, count};
 
 use crate::packed::Packable;
 
@@ -42,4 +42,7 @@ pub trait CanonicalField: TwoAdicField {
         ensures { result ≡ Self.number (Self.value self.now) };
 
     ghost number_below_law: { (x : Self) → Self.number (Self.value x) < ORDER_U64 };
+
+    // A number below the modulus is that of as many ones, added up: so each value is the sum of so many ones.
+    ghost count_law: { (n : ℕ) → n < ORDER_U64 → Self.number (count Self.ring n) ≡ n };
 }

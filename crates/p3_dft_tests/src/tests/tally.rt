@@ -470,4 +470,6 @@ impl<F: CanonicalField, M: Packs<Tally<F, M>>> CanonicalField for Tally<F, M> {
     }
 
     ghost number_below_law = { λ x. F.number_below_law x.element };
+
+    ghost count_law = { F.count_law };
 }
