@@ -10,6 +10,7 @@ use crate::error::DftError;
 use crate::views::RowMajorMatrixView;
 use std::alloc::Global;
 use std::marker::Model;
+use thiserror::Error;
 
 /// What is lent blocks of rows, one after another, and may refuse one.
 ///
@@ -64,7 +65,8 @@ pub struct BlockLimit {
 }
 
 /// The block that was one too many.
-#[derive(Clone, Copy, Debug, PartialEq, Eq)]
+#[derive(Clone, Copy, Debug, PartialEq, Eq, Error)]
+#[error("the block from row {start} on was one too many")]
 pub struct BlockRefused {
     /// The number of its first row.
     pub start: usize,
@@ -159,8 +161,8 @@ impl<T> Model for Recorder<T> {
 }
 
 impl<T> Recorder<T> {
-    /// Keeps so many blocks of so many elements together, in memory that is taken at once. Where it is
-    /// refused, there is nothing but the error.
+    /// A recorder with room for `blocks` blocks and `elements` elements in all, in memory that is taken at
+    /// once. Where it is refused, there is nothing but the error.
     pub fn with_room(alloc: Global, blocks: usize, elements: usize) -> Result<Self, DftError>
         ensures { IfOk result (λ r. r ≡ record
             { blocks = []; missed = false; blocks_left = blocks; elements_left = elements }) }
@@ -181,7 +183,7 @@ impl<T> Recorder<T> {
         self.places.len()
     }
 
-    /// The number of the first row of the block that was kept after i others.
+    /// The number of the first row of the block that was kept after i others, where i is below `blocks()`.
     pub fn start(&self, i: usize) -> usize
         requires { i < length self.now.blocks }
         ensures { (d : ℕ × RowMajor T) → result ≡ (get_or self.now.blocks i d).0 }
@@ -189,7 +191,7 @@ impl<T> Recorder<T> {
         self.places[i].start
     }
 
-    /// The rows of the block that was kept after i others.
+    /// The rows of the block that was kept after i others, where i is below `blocks()`.
     pub fn rows(&self, i: usize) -> RowMajorMatrixView<'_, T>
         requires { i < length self.now.blocks }
         ensures { (d : ℕ × RowMajor T) → result ≡ (get_or self.now.blocks i d).1 }

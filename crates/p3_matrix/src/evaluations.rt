@@ -52,7 +52,8 @@ impl<F: Drop> Evaluations<F> for BitReversedMatrixView<RowMajorMatrix<F>> {
     }
 }
 
-/// What can be handed over as a matrix.
+/// What can be handed over as a matrix, as a `RowMajorMatrix` can. The engines' calls are generic over it, since
+/// the checker takes no method of a trait that is handed a `RowMajorMatrix` of the trait's own field by value.
 pub trait IntoRowMajorMatrix<T>: Drop {
     // The matrix.
     ghost stored: { Self → RowMajor T };

@@ -127,7 +127,7 @@ impl<'a, T> RowMajorMatrixView<'a, T> {
 /// view still lends the same matrix: so a caller knows all of the matrix afterwards.
 #[derive(Drop)]
 pub struct RowMajorMatrixViewMut<'a, T> {
-    /// The matrix that is lent.
+    /// The matrix that is lent. Another one may be put into its place, of another shape too.
     pub matrix: &'a mut RowMajorMatrix<T>,
 }
 
