@@ -5,10 +5,10 @@
 //! Proved, with no proof file: that each can be called, and of those with a clause what they answer. Tests show
 //! the numbers and texts of the others.
 
-ghost use Rattle.std.specs.Prelude.{◌≡◌, ◌<◌, ℕ, IfOk, map, get_or, vec_len};
-ghost use Rattle.p3_field.specs.Ring.{minus, power, product_of, sum_of};
+ghost use Rattle.std.specs.Prelude.{◌≡◌, ◌<◌, ℕ, IfOk, IfSome, Ok, map, get_or, vec_len};
+ghost use Rattle.p3_field.specs.Ring.{count, minus, power, product_of, sum_of};
 
-use p3_dft::{BabyBear, Field, Goldilocks};
+use p3_dft::{BabyBear, CanonicalField, Field, Goldilocks};
 use std::alloc::{AllocError, Global};
 
 /// The square of a difference.
@@ -27,6 +27,20 @@ pub fn line_at(x: Goldilocks) -> Goldilocks {
     y *= x;
     y += Goldilocks::TWO;
     y
+}
+
+/// The element with this number, if there is one: that many ones added up, over any field.
+pub fn numbered<F: CanonicalField>(number: u64) -> Option<F>
+    ensures { IfSome result (λ x. F.value x ≡ count F.ring number) }
+{
+    F::new(number)
+}
+
+/// A clone of an element over a named field.
+pub fn cloned(x: BabyBear) -> Result<BabyBear, AllocError>
+    ensures { result ≡ Ok x }
+{
+    x.clone()
 }
 
 /// The sum of a slice.

@@ -32,9 +32,10 @@ pub trait CanonicalField: TwoAdicField {
 
     ghost ORDER_U64: { ℕ };
 
-    /// The element with this number: `None` from the modulus on.
+    /// The element with this number, which is that many ones added up: `None` from the modulus on.
     fn new(number: u64) -> Option<Self>
         ensures some { IfSome result (λ x. Self.number (Self.value x) ≡ number) }
+        ensures value { IfSome result (λ x. Self.value x ≡ count Self.ring number) }
         ensures none { IsNone result ↔ (ORDER_U64 ≤ number) };
 
     /// The number of the element, below the modulus.
