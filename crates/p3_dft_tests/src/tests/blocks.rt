@@ -223,15 +223,22 @@ fn doubled_extension<F: TwoAdicField>(
     values.into_bit_reversed().bit_reverse_rows()
 }
 
-// How many blocks were taken of the extension of a column by one bit, and the one that was too many.
-fn seen_within<F: TwoAdicField, D: TwoAdicSubgroupDft<F>>(
+// How many blocks were taken of the extension of a matrix, and the one that was too many.
+pub(crate) fn seen_within<F: TwoAdicField, D: TwoAdicSubgroupDft<F>>(
     rt: &impl Abort,
     engine: &mut D,
     mat: RowMajorMatrix<F>,
+    added_bits: usize,
     limit: usize,
 ) -> (usize, Option<BlockRefused>) {
-    assert!(rt; fits_lde::<F>(mat.height(), mat.width(), 1));
-    match engine.coset_lde_batch_in_blocks(mat, 1, F::ONE, |_rows| BlockLimit::new(limit)) {
+    assert!(rt; fits_lde::<F>(mat.height(), mat.width(), added_bits));
+    let answer = engine.coset_lde_batch_in_blocks(
+        mat,
+        added_bits,
+        F::ONE,
+        |_rows| BlockLimit::new(limit),
+    );
+    match answer {
         Ok((_out, consumer)) => (consumer.seen(), None),
         Err(stopped) => match stopped {
             BlocksStopped::Refused { consumer, refusal } => (consumer.seen(), Some(refusal)),
@@ -245,9 +252,9 @@ struct LimitedBlocks;
 
 impl<F: CanonicalField> EngineTest<F> for LimitedBlocks {
     fn run<R: Abort, D: TwoAdicSubgroupDft<F>>(&self, rt: &R, alloc: Global, mut engine: D) {
-        let (seen, refused) = seen_within(rt, &mut engine, matrix(rt, alloc, &[9, 1], 1), 0);
+        let (seen, refused) = seen_within(rt, &mut engine, matrix(rt, alloc, &[9, 1], 1), 1, 0);
         assert!(rt; seen == 0 && refused.is_some());
-        let (seen, refused) = seen_within(rt, &mut engine, matrix(rt, alloc, &[9, 1], 1), 4);
+        let (seen, refused) = seen_within(rt, &mut engine, matrix(rt, alloc, &[9, 1], 1), 1, 4);
         assert!(rt; seen > 0 && refused.is_none());
     }
 }
@@ -271,9 +278,9 @@ struct OneBlock;
 
 impl<F: CanonicalField> EngineTest<F> for OneBlock {
     fn run<R: Abort, D: TwoAdicSubgroupDft<F>>(&self, rt: &R, alloc: Global, mut engine: D) {
-        let taken = seen_within(rt, &mut engine, matrix(rt, alloc, &[9, 1], 1), 1);
+        let taken = seen_within(rt, &mut engine, matrix(rt, alloc, &[9, 1], 1), 1, 1);
         assert!(rt; taken == (1, None));
-        let refused = seen_within(rt, &mut engine, matrix(rt, alloc, &[9, 1], 1), 0);
+        let refused = seen_within(rt, &mut engine, matrix(rt, alloc, &[9, 1], 1), 1, 0);
         assert!(rt; refused == (0, Some(BlockRefused { start: 0 })));
     }
 }

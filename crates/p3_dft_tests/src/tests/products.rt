@@ -8,7 +8,7 @@ ghost use Rattle.p3_matrix.specs.RowMajor.{height};
 ghost use Rattle.p3_dft.specs.Jobs.{CanRun};
 ghost use Rattle.p3_dft.specs.Shapes.{FitsDft, FitsLde};
 
-use super::blocks::extend_to;
+use super::blocks::{extend_to, seen_within};
 use super::calls::{Calls, CallsOf};
 use super::fitting::invertible;
 use super::jobs::and_then;
@@ -43,6 +43,8 @@ struct Bounds {
     extension: usize,
     // Of `coset_lde_batch`.
     coset_extension: usize,
+    // Of an extension whose first block is refused.
+    refused: usize,
     // Of telling whether an extension is a codeword.
     membership: usize,
 }
@@ -118,6 +120,12 @@ impl Method {
             } else {
                 extension
             },
+            // The first block is one of the first coset, and then there is no other.
+            refused: if self == Method::Cosets {
+                total(&[transform, entries, transform])
+            } else {
+                extension
+            },
             membership: total(&[larger, extended, extended]),
         }
     }
@@ -161,6 +169,7 @@ fn worked_bounds() -> BoundsOfEngines {
         coset_inverse: 28,
         extension: 68,
         coset_extension: 68,
+        refused: 68,
         membership: 64,
     };
     BoundsOfEngines {
@@ -172,11 +181,13 @@ fn worked_bounds() -> BoundsOfEngines {
             coset_inverse: 80,
             extension: 344,
             coset_extension: 344,
+            refused: 344,
             membership: 288,
         }),
         dit: Bounds {
             extension: 60,
             coset_extension: 60,
+            refused: 60,
             ..parts
         },
         bowers: parts,
@@ -184,6 +195,7 @@ fn worked_bounds() -> BoundsOfEngines {
             coset_transform: 12,
             extension: 44,
             coset_extension: 44,
+            refused: 32,
             ..parts
         },
         small_batch: Bounds {
@@ -392,6 +404,19 @@ fn with_blocks<F: TwoAdicField, D: TwoAdicSubgroupDft<F>>(
     test.at_most(rt, "coset_lde_batch_with_blocks", most);
 }
 
+// The same where the first block is refused: what no block needs is not made any more.
+fn with_first_block_refused<F: TwoAdicField, D: TwoAdicSubgroupDft<F>>(
+    rt: &impl Abort,
+    test: &Counted<'_, F>,
+    engine: &mut D,
+) {
+    let mat = test.mat.try_clone().expect(rt, "memory");
+    let (seen, refused) = seen_within(rt, engine, mat, test.added_bits, 0);
+    assert!(rt; seen == 0 && refused.is_some());
+    let most = test.bounds.get().refused;
+    test.at_most(rt, "coset_lde_batch_with_blocks, refused", most);
+}
+
 // A job of each kind.
 fn jobs_of<F: CanonicalField>(
     rt: &impl Abort,
@@ -464,6 +489,7 @@ impl<'a, F: CanonicalField> EngineTest<F> for Counted<'a, F> {
         with_transform(rt, self, &mut engine);
         in_bit_reversed_order(rt, self, &mut engine);
         with_blocks(rt, self, &mut engine);
+        with_first_block_refused(rt, self, &mut engine);
         as_jobs(rt, self, &mut engine);
         as_code(rt, self, engine);
     }
