@@ -126,6 +126,16 @@ impl Model for Products {
     ghost view = { λ p. p.so_far.number };
 }
 
+impl Default for Products {
+    ghost use Rattle.std.specs.Prelude.{◌≡◌};
+
+    ghost is_default = { λ p. p ≡ 0 };
+
+    fn default() -> Products {
+        Products::new()
+    }
+}
+
 impl Products {
     /// No product yet.
     pub fn new() -> Products
