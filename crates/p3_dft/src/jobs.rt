@@ -1,9 +1,9 @@
 //! Lists of transforms, answered one after another by one engine.
 
-ghost use Rattle.std.specs.Prelude.{◌≡◌, ℕ, ◌+◌, ◌≤◌, ◌⊎◌, List, [], IfOk, IfErr, IsOk, OnOk, OnErr};
-ghost use Rattle.std.specs.List.{All, AllZip, sum};
+ghost use Rattle.std.specs.Prelude.{◌≡◌, ℕ, ◌+◌, ◌≤◌, ◌⊎◌, [], length, take, IfOk, IfErr, IsOk, OnOk, OnErr};
+ghost use Rattle.std.specs.List.{All, AllZip};
 ghost use Rattle.p3_dft.specs.Engines.{IsLater};
-ghost use Rattle.p3_dft.specs.Jobs.{AreFirstAnswers, CanRun, IsAnswer, IsCost, IsPromised, IsReadyFor};
+ghost use Rattle.p3_dft.specs.Jobs.{AreFirstAnswers, CanRun, HasMade, IsAnswer, IsCost, IsPromised, IsReadyFor};
 ghost use Rattle.p3_dft.specs.Jobs.{NextIsNotPromised};
 
 use crate::traits::TwoAdicSubgroupDft;
@@ -56,12 +56,13 @@ pub struct JobsStopped<F> {
 }
 
 /// Answers the jobs, each with rows in natural order, in the order of the jobs. Where memory is
-/// refused, answers of the first jobs come back with the error and the other jobs are dropped.
+/// refused, the answers of the jobs before come back with the error, and the other jobs are dropped.
 ///
 /// Memory for the list of answers is taken first. Where that is refused there are no answers and the
 /// engine is as before; else the first job without an answer is one that the engine was not promised
-/// to answer. After `Ok` the engine serves the heights of all jobs, as after the calls themselves. The
-/// products are at most the sum of what the calls of all jobs may make, whatever the answer is.
+/// to answer. The engine serves the heights of all jobs that have an answer, as after the calls
+/// themselves. The products are at most the sum of what the calls of these jobs may make, and of the first
+/// job without an answer.
 pub fn run_jobs<F: TwoAdicField, D: TwoAdicSubgroupDft<F>>(
     engine: &mut D,
     jobs: Vec<Job<F>>,
@@ -69,9 +70,12 @@ pub fn run_jobs<F: TwoAdicField, D: TwoAdicSubgroupDft<F>>(
     requires runnable { All (CanRun F.Field.own F.TWO_ADICITY) jobs.items }
     ensures all { IfOk result (λ answers. AllZip (IsAnswer F.Field.own F.generator) jobs.items answers.items) }
     ensures serves { OnOk result (All (IsReadyFor D.facts engine.new) jobs.items) }
-    ensures cost { (costs : List ℕ) × AllZip (IsCost D.facts) jobs.items costs
-        × (D.facts.products_made engine.new ≤ D.facts.products_made engine.old + sum costs) }
+    ensures cost { HasMade D.facts engine.old engine.new jobs.items }
     ensures first { IfErr result (λ stopped. AreFirstAnswers F.Field.own F.generator jobs.items stopped.answers.items) }
+    ensures serves_first { IfErr result (λ stopped. All (IsReadyFor D.facts engine.new)
+        (take (length stopped.answers.items) jobs.items)) }
+    ensures cost_of_first { IfErr result (λ stopped. HasMade D.facts engine.old engine.new
+        (take (length stopped.answers.items + 1) jobs.items)) }
     ensures refused { IfErr result (λ stopped. ((engine.new ≡ engine.old) × (stopped.answers.items ≡ []))
         ⊎ NextIsNotPromised D.facts engine.old jobs.items stopped.answers.items) }
     ensures later { IsLater D.facts engine.old engine.new }
@@ -93,9 +97,12 @@ fn answer_jobs<F: TwoAdicField, D: TwoAdicSubgroupDft<F>>(
     requires empty { answers.old.items ≡ [] }
     ensures all { OnOk result (AllZip (IsAnswer F.Field.own F.generator) jobs.items answers.new.items) }
     ensures serves { OnOk result (All (IsReadyFor D.facts engine.new) jobs.items) }
-    ensures cost { (costs : List ℕ) × AllZip (IsCost D.facts) jobs.items costs
-        × (D.facts.products_made engine.new ≤ D.facts.products_made engine.old + sum costs) }
+    ensures cost { HasMade D.facts engine.old engine.new jobs.items }
     ensures first { OnErr result (AreFirstAnswers F.Field.own F.generator jobs.items answers.new.items) }
+    ensures serves_first { OnErr result (All (IsReadyFor D.facts engine.new)
+        (take (length answers.new.items) jobs.items)) }
+    ensures cost_of_first { OnErr result (HasMade D.facts engine.old engine.new
+        (take (length answers.new.items + 1) jobs.items)) }
     ensures refused { OnErr result (((engine.new ≡ engine.old) × (answers.new.items ≡ []))
         ⊎ NextIsNotPromised D.facts engine.old jobs.items answers.new.items) }
     ensures later { IsLater D.facts engine.old engine.new }

@@ -19,6 +19,23 @@ pub on_any_error : {T E P : Type 0} (r : Result T E) → P → OnErr r P
 on_any_error (Ok x) p = tt
 on_any_error (Err e) p = p
 
+-- one more element was taken
+pub split_more : {X : Type 0} (all done left later : List X) (x : X) → all ≡ done ++ left → left ≡ x ∷ later → all ≡ (done ++ x ∷ []) ++ later
+split_more all done left later x split next = split ∙ ap (λ rest. done ++ rest) next ∙ sym (append_assoc done (x ∷ []) later)
+
+-- as many of all as were answered are those that were taken, and one more is the next
+pub taken : {X Y : Type 0} (R : X → Y → Type 0) (all done left : List X) (answers : List Y) → all ≡ done ++ left → AllZip R done answers
+    → take (length answers) all ≡ done
+taken R all done left answers split answered =
+    ap (take (length answers)) split ∙ ap (λ n. take n (done ++ left)) (AllZip-long R done answers answered) ∙ take-append_seam done left
+
+pub taken_and_next : {X Y : Type 0} (R : X → Y → Type 0) (all done left later : List X) (x : X) (answers : List Y) → all ≡ done ++ left → left ≡ x ∷ later
+    → AllZip R done answers → take (length answers + 1) all ≡ done ++ x ∷ []
+taken_and_next R all done left later x answers split next answered =
+    let long : length answers + 1 ≡ length (done ++ x ∷ []) = omega (arith, AllZip-long R done answers answered, length-append done (x ∷ [])) in
+    ap (take (length answers + 1)) (split_more all done left later x split next) ∙ ap (λ n. take n ((done ++ x ∷ []) ++ later)) long
+    ∙ take-append_seam (done ++ x ∷ []) later
+
 module _ {E F : Type 0} (facts : EngineFacts E F) where
   -- promises that stay are promises of jobs that stay
   pub promised_later : (a b : E) → IsLater facts a b → (job : Job F) → IsPromised facts a job → IsPromised facts b job
@@ -71,7 +88,7 @@ module _ {F : Type 0} (f : FieldMembers F) (generator : ℕ → F) where
       record {
         fewer = omega (arith, counted, ap length whole, length-append done (job ∷ later));
         answered = subst (λ (xs : List (Job F)). AllZip (IsAnswer f generator) xs answers)
-            (sym (ap (take (length answers)) whole ∙ ap (λ n. take n (done ++ job ∷ later)) counted ∙ take-append_seam done (job ∷ later))) answered;
+            (sym (taken (IsAnswer f generator) jobs done left answers split answered)) answered;
       }
 
   -- where the next job was refused, it was not promised, nor was it before
@@ -83,10 +100,6 @@ module _ {F : Type 0} (f : FieldMembers F) (generator : ℕ → F) where
       let is : get_or jobs (length answers) d ≡ job =
       ap (λ xs. get_or xs (length answers) d) (split ∙ ap (λ rest. done ++ rest) next) ∙ ap (λ n. get_or (done ++ job ∷ later) n d) counted ∙ get_or-append_seam done job later d in
       refused (promised_later facts before now kept job (subst (λ (x : Job F). IsPromised facts before x) is promised))
-
--- one more element was taken
-pub split_more : {X : Type 0} (all done left later : List X) (x : X) → all ≡ done ++ left → left ≡ x ∷ later → all ≡ (done ++ x ∷ []) ++ later
-split_more all done left later x split next = split ∙ ap (λ rest. done ++ rest) next ∙ sym (append_assoc done (x ∷ []) later)
 
 -- what holds of those that were taken holds of all, when none is left
 pub of_all : {X : Type 0} (P : List X → Type 0) (all done left : List X) → all ≡ done ++ left → left ≡ [] → P done → P all

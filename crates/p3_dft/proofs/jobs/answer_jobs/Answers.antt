@@ -1,26 +1,15 @@
-use Rattle.std.proofs.Common.{refl, ◌≡◌, ℕ, ◌+◌, ◌≤◌, ◌++◌, List, [], ◌∷◌, subst, sym, ◌∙◌, arith, rules, inr, inl}
+use Rattle.std.proofs.Common.{refl, ◌≡◌, ◌++◌, List, [], ◌∷◌, length, take, subst, sym, ◌∙◌, arith, rules, inr, inl}
 use Rattle.std.proofs.lemmas.List.{nil_from_length}
-use Rattle.std.proofs.lemmas.List.Elements.{All-nil, All-push, All-rest, All-weaker}
+use Rattle.std.proofs.lemmas.List.Elements.{All-nil, All-push, All-rest, All-take, All-weaker}
 use Rattle.std.proofs.lemmas.Slice.Zip.{all_zipped_more}
 use Rattle.std.proofs.lemmas.Result.{IfOk-from_err}
-use Rattle.std.specs.List.{All, AllZip, sum}
+use Rattle.std.specs.List.{All, AllZip}
 use Rattle.std.specs.Vec.Iter.{into_iter_items}
-use Rattle.p3_field.specs.declared.fields.Field.{Ghosts as FieldMembers}
 use Rattle.p3_matrix.specs.RowMajor.{RowMajor}
-use Rattle.p3_dft.specs.Engines.{EngineFacts}
-use Rattle.p3_dft.specs.Jobs.{AreFirstAnswers, CanRun, IsAnswer, IsCost, IsReadyFor}
-use Rattle.p3_dft.specs.declared.jobs.Job.{Job}
+use Rattle.p3_dft.specs.Jobs.{CanRun, HasMade, IsAnswer, IsReadyFor}
 use Rattle.p3_dft.proofs.Calls.EngineSteps.{later_same, later_still}
-use Rattle.p3_dft.proofs.Calls.JobLists.{costs_more, costs_none, costs_rest, first_answers, next_not_promised, next_of_all, of_all, on_any_error, ready_later, split_more}
+use Rattle.p3_dft.proofs.Calls.JobLists.{costs_more, costs_none, costs_rest, first_answers, next_not_promised, next_of_all, of_all, on_any_error, ready_later, split_more, taken, taken_and_next}
 use Rattle.p3_dft.proofs.jobs.answer_jobs.Goals as goal
-
--- the next job was run, and those after it have costs too
-costs_more_and_rest : {E F : Type 0} (facts : EngineFacts E F) (f : FieldMembers F) (bits : ℕ) (jobs done left later : List (Job F)) (job : Job F) (before now after : ℕ) → jobs ≡ done ++ left → left ≡ job ∷ later
-    → All (CanRun f bits) left → (costs : List ℕ) × AllZip (IsCost facts) done costs × (now ≤ before + sum costs) → ((n : ℕ) → IsCost facts job n → after ≤ now + n)
-    → (costs : List ℕ) × AllZip (IsCost facts) jobs costs × (after ≤ before + sum costs)
-costs_more_and_rest facts f bits jobs done left later job before now after split next runs so_far turn =
-    costs_rest facts f bits jobs (done ++ job ∷ []) later before after (split_more jobs done left later job split next) (All-rest (CanRun f bits) job later left next runs)
-    (costs_more facts f bits done job before now after (next_of_all (CanRun f bits) job later left next runs) so_far turn)
 
 pub run_job-requires : goal.run_job-requires
 run_job-requires g c =
@@ -69,6 +58,9 @@ returns-in_err-reserve_exact g c =
       serves = IfOk-from_err _ _ err;
       cost = costs_rest g.D.TwoAdicSubgroupDft.facts g.F.Field g.F.TwoAdicField.TWO_ADICITY c.args.jobs.items [] c.args.jobs.items _ _ refl c.requires.runnable (costs_none g.D.TwoAdicSubgroupDft.facts [] _ refl);
       first = search rules;
+      serves_first = on_any_error _ (subst (λ (ys : List (RowMajor g.row.F.Denot)). All (IsReadyFor g.D.TwoAdicSubgroupDft.facts c.args.engine.now) (take (length ys) c.args.jobs.items))
+          (sym (c.in_err-reserve_exact.ensures.items ∙ c.requires.empty)) (All-nil (IsReadyFor g.D.TwoAdicSubgroupDft.facts c.args.engine.now)));
+      cost_of_first = on_any_error _ (costs_rest g.D.TwoAdicSubgroupDft.facts g.F.Field g.F.TwoAdicField.TWO_ADICITY _ [] _ _ _ refl (All-take (CanRun g.F.Field g.F.TwoAdicField.TWO_ADICITY) _ c.args.jobs.items c.requires.runnable) (costs_none g.D.TwoAdicSubgroupDft.facts [] _ refl));
       refused = on_any_error _ (inl (refl, c.in_err-reserve_exact.ensures.items ∙ c.requires.empty));
       later = later_same _ _;
     }
@@ -76,28 +68,30 @@ returns-in_err-reserve_exact g c =
 pub returns-in_err-answer : goal.returns-in_err-answer
 returns-in_err-answer g c =
     let err = c.from_residual-in_err-answer.ensures.0 in
+    let runs = CanRun g.F.Field g.F.TwoAdicField.TWO_ADICITY in
+    let answers = IsAnswer g.F.Field g.F.TwoAdicField.generator in
+    let facts = g.D.TwoAdicSubgroupDft.facts in
+    let next = c.in-Some.ensures.steps.0 in
+    let so_far = c.loop-job.invariant in
+    let result = c.from_residual-in_err-answer.result in
+    let made = costs_more facts g.F.Field g.F.TwoAdicField.TWO_ADICITY c.loop-job.yielded c.in-Some.job _ _ _ (next_of_all runs c.in-Some.job _ _ next so_far.runnable) so_far.cost c.run_job.ensures.cost in
     record {
       all = IfOk-from_err _ _ err;
       serves = IfOk-from_err _ _ err;
-      cost = costs_more_and_rest g.D.TwoAdicSubgroupDft.facts g.F.Field g.F.TwoAdicField.TWO_ADICITY _ c.loop-job.yielded _ _ c.in-Some.job _ _ _ c.loop-job.invariant.split c.in-Some.ensures.steps.0 c.loop-job.invariant.runnable c.loop-job.invariant.cost c.run_job.ensures.cost;
-      first = on_any_error c.from_residual-in_err-answer.result (first_answers g.F.Field g.F.TwoAdicField.generator c.args.jobs.items c.loop-job.yielded _ _ c.in-Some.job c.loop-job.answers.items c.loop-job.invariant.split c.in-Some.ensures.steps.0 c.loop-job.invariant.answered);
-      refused = on_any_error c.from_residual-in_err-answer.result (inr (next_not_promised g.F.Field g.F.TwoAdicField.generator g.D.TwoAdicSubgroupDft.facts c.args.jobs.items c.loop-job.yielded _ _ c.in-Some.job c.loop-job.answers.items c.args.engine.now c.loop-job.engine c.loop-job.invariant.split c.in-Some.ensures.steps.0 c.loop-job.invariant.answered c.loop-job.invariant.later (λ promised. let answered = c.in_err-answer.ensures.succeeds promised in absurd (search rules))));
-      later = later_still _ _ _ _ c.loop-job.invariant.later c.run_job.ensures.later;
+      cost = costs_rest facts g.F.Field g.F.TwoAdicField.TWO_ADICITY _ _ _ _ _ (split_more _ c.loop-job.yielded _ _ c.in-Some.job so_far.split next) (All-rest runs c.in-Some.job _ _ next so_far.runnable) made;
+      first = on_any_error result (first_answers g.F.Field g.F.TwoAdicField.generator c.args.jobs.items c.loop-job.yielded _ _ c.in-Some.job c.loop-job.answers.items so_far.split next so_far.answered);
+      serves_first = on_any_error result (subst (All (IsReadyFor facts c.run_job.new.engine)) (sym (taken answers c.args.jobs.items c.loop-job.yielded _ c.loop-job.answers.items so_far.split so_far.answered))
+          (All-weaker (IsReadyFor facts c.loop-job.engine) (IsReadyFor facts c.run_job.new.engine) (ready_later facts _ _ c.run_job.ensures.later) c.loop-job.yielded so_far.served));
+      cost_of_first = on_any_error result (subst (HasMade facts c.args.engine.now c.run_job.new.engine) (sym (taken_and_next answers c.args.jobs.items c.loop-job.yielded _ _ c.in-Some.job c.loop-job.answers.items so_far.split next so_far.answered)) made);
+      refused = on_any_error result (inr (next_not_promised g.F.Field g.F.TwoAdicField.generator facts c.args.jobs.items c.loop-job.yielded _ _ c.in-Some.job c.loop-job.answers.items c.args.engine.now c.loop-job.engine so_far.split next so_far.answered so_far.later (λ promised. let answered = c.in_err-answer.ensures.succeeds promised in absurd (search rules))));
+      later = later_still _ _ _ _ so_far.later c.run_job.ensures.later;
     }
 
+-- there is room for the answer to each job
 pub returns-in_err-push : goal.returns-in_err-push
 returns-in_err-push g c =
-    let err = c.from_residual-in_err-push.ensures.0 in
     let first = first_answers g.F.Field g.F.TwoAdicField.generator c.args.jobs.items c.loop-job.yielded _ _ c.in-Some.job c.loop-job.answers.items c.loop-job.invariant.split c.in-Some.ensures.steps.0 c.loop-job.invariant.answered in
-    record {
-      all = IfOk-from_err _ _ err;
-      serves = IfOk-from_err _ _ err;
-      cost = costs_more_and_rest g.D.TwoAdicSubgroupDft.facts g.F.Field g.F.TwoAdicField.TWO_ADICITY _ c.loop-job.yielded _ _ c.in-Some.job _ _ _ c.loop-job.invariant.split c.in-Some.ensures.steps.0 c.loop-job.invariant.runnable c.loop-job.invariant.cost c.run_job.ensures.cost;
-      first = on_any_error c.from_residual-in_err-push.result (subst (λ (ys : List (RowMajor g.row.F.Denot)). AreFirstAnswers g.F.Field g.F.TwoAdicField.generator c.args.jobs.items ys) (sym c.in_err-push.ensures.items) first);
-      -- there is room for the answer to each job
-      refused = absurd (omega (arith, first.fewer, c.loop-job.invariant.room, c.in_err-push.ensures.full, c.loop-job.answers.ok.0, c.args.jobs.ok.0));
-      later = later_still _ _ _ _ c.loop-job.invariant.later c.in_ok-answer.ensures.later;
-    }
+    absurd (omega (arith, first.fewer, c.loop-job.invariant.room, c.in_err-push.ensures.full, c.loop-job.answers.ok.0, c.args.jobs.ok.0))
 
 pub returns : goal.returns
 returns g c =
@@ -106,6 +100,8 @@ returns g c =
       serves = let left = into_iter_items c.loop-job.job-iterator in let none : left ≡ [] = nil_from_length left (sym c.loop-job.job-iterator.rest.ok.0 ∙ c.in-None.ensures.steps.0) in of_all (λ xs. All (IsReadyFor g.D.TwoAdicSubgroupDft.facts c.loop-job.engine) xs) _ c.loop-job.yielded left c.loop-job.invariant.split none c.loop-job.invariant.served;
       cost = costs_rest g.D.TwoAdicSubgroupDft.facts g.F.Field g.F.TwoAdicField.TWO_ADICITY _ c.loop-job.yielded _ _ _ c.loop-job.invariant.split c.loop-job.invariant.runnable c.loop-job.invariant.cost;
       first = tt;
+      serves_first = tt;
+      cost_of_first = tt;
       refused = tt;
       later = c.loop-job.invariant.later;
     }
