@@ -55,6 +55,16 @@ pub struct JobsStopped<F> {
     pub error: DftError,
 }
 
+impl<F: Drop> From<JobsStopped<F>> for DftError {
+    ghost use Rattle.std.specs.Prelude.{◌≡◌};
+
+    ghost from_gives = { λ stopped e. e ≡ stopped.error };
+
+    fn from(stopped: JobsStopped<F>) -> DftError {
+        stopped.error
+    }
+}
+
 /// Answers the jobs, each with rows in natural order, in the order of the jobs. Where memory is
 /// refused, the answers of the jobs before come back with the error, and the other jobs are dropped.
 ///

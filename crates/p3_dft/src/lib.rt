@@ -20,6 +20,7 @@ pub mod util;
 pub use blocks::{BlocksStopped, Unpublished};
 pub use jobs::{Job, JobsStopped, run_jobs};
 pub use naive::NaiveDft;
+pub use p3_field::power_iterator::Powers;
 pub use p3_field::{
     BabyBear, BabyBearX8, BasedVectorSpace, CanonicalField, Coordinates, Field, Goldilocks,
     KoalaBear, KoalaBearX8, Lanes, Packable, Packed, PackedField, Products, TwoAdicField, scaled,
