@@ -150,6 +150,7 @@ fn hashed_extension<F: TwoAdicField, D: TwoAdicSubgroupDft<F>, H: RowHash<F>>(
     );
     match answer {
         Ok((rows, leaves)) => {
+            // Tells the prover that the rows are whole.
             let _whole = rows.height();
             Ok((rows, leaves.digests))
         }
@@ -240,6 +241,7 @@ pub fn roots_of_two<
     let copy = mat.try_clone()?;
     let made = merkle_root(one, hash, mat, added_bits, shift)?;
     let again = merkle_root(other, hash, copy, added_bits, shift)?;
+    // Tells the prover that the rows are whole.
     let _whole = made.rows.height();
     let _whole_too = again.rows.height();
     Ok((made.root, again.root))

@@ -44,6 +44,7 @@ pub fn recorded_extension<F: TwoAdicField, D: TwoAdicSubgroupDft<F>>(
     let answer = engine.coset_lde_batch_in_blocks(mat, added_bits, shift, |_rows| recorder);
     match answer {
         Ok((out, recorder)) => {
+            // Tells the prover that the rows are whole.
             let _whole = out.height();
             Ok((out, recorder))
         }
@@ -160,6 +161,7 @@ pub fn summed_extension<F: TwoAdicField, D: TwoAdicSubgroupDft<F>>(
     );
     match answer {
         Ok((out, total)) => {
+            // Tells the prover that the rows are whole.
             let _whole = out.height();
             Ok((out, total.sum))
         }
@@ -232,6 +234,7 @@ pub fn sum_of_first_blocks<F: TwoAdicField, D: TwoAdicSubgroupDft<F>>(
     let answer = engine.coset_lde_batch_in_blocks(mat, added_bits, shift, |_rows| none_yet);
     match answer {
         Ok((out, taken)) => {
+            // Tells the prover that the rows are whole.
             let _whole = out.height();
             let _left = taken.left;
             Ok(None)

@@ -96,6 +96,7 @@ pub fn kept_extension<D: TwoAdicSubgroupDft<Goldilocks>>(
     let answer = engine.coset_lde_batch_in_blocks(mat, added_bits, shift, |_rows| Kept { entries });
     match answer {
         Ok((out, kept)) => {
+            // Tells the prover that the rows are whole.
             let _whole = out.inner();
             Ok(in_natural_order(kept.entries, &out))
         }

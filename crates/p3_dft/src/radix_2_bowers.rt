@@ -170,6 +170,7 @@ impl<F: TwoAdicField> TwoAdicSubgroupDft<F> for Radix2Bowers {
         let log_h = log2_strict_usize(mat.height());
         if log_h + added_bits == 0 {
             let row = transform(mat, Layout::BitReversed);
+            // Tells the prover that the rows are whole.
             let _width = row.width();
             return Ok(row);
         }

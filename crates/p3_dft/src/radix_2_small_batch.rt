@@ -322,6 +322,7 @@ impl<F: TwoAdicField> TwoAdicSubgroupDft<F> for Radix2DFTSmallBatch<F> {
         let log_h = log2_strict_usize(mat.height());
         self.prepare(*mat.allocator(), log_h + added_bits)?;
         let coefficients = self.idft_batch(mat)?;
+        // Tells the prover that the rows are whole.
         let _width = coefficients.width();
         let changed = transform(coefficients, Layout::Natural);
         let mut grown = pad_rows(changed, added_bits)?;

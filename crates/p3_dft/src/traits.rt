@@ -219,6 +219,9 @@ pub trait TwoAdicSubgroupDft<F: TwoAdicField>: Clone + Default {
     /// The values on `shift * K` of the polynomials whose values on H are the columns, where K is the
     /// subgroup of order `height << added_bits`. The shift may be zero. The shape is one that
     /// `fits_lde` accepts.
+    ///
+    /// Where the columns are values on a coset `u * H`, the answer has the values of their polynomials on
+    /// `u * shift * K`, as the law `extension_of_coset` says.
     fn coset_lde_batch<N: IntoRowMajorMatrix<F>>(
         &mut self,
         mat: N,

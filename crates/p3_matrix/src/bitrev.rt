@@ -93,6 +93,7 @@ impl<T> BitReversedMatrixView<RowMajorMatrix<T>> {
         ensures row { result.now ≡ row (reversed_rows self.now.bits self.now.physical) i }
         ensures width { length result.now ≡ self.now.physical.width }
     {
+        // Tells the prover that the rows are whole.
         let _whole = self.inner.values();
         self.inner.row(reverse_bits_len(i, self.bits))
     }
@@ -103,6 +104,7 @@ impl<T> BitReversedMatrixView<RowMajorMatrix<T>> {
         ensures height { height self.now.physical ≡ 2 ^ self.now.bits }
         ensures whole { IsRowMajor self.now.physical }
     {
+        // Tells the prover that the rows are whole.
         let _whole = self.inner.width();
         &self.inner
     }
@@ -184,6 +186,7 @@ pub fn reverse_rows<T>(mat: &mut RowMajorMatrix<T>)
     ensures there { (k : ℕ) → height mat.old ≡ 2 ^ k → mat.new ≡ reversed_rows k mat.old }
     ensures back { (k : ℕ) → height mat.old ≡ 2 ^ k → mat.old ≡ reversed_rows k mat.new }
 {
+    // Tells the prover that the rows are whole.
     let _whole = mat.width();
     reverse_matrix_index_bits(&mut mat.as_view_mut());
 }
