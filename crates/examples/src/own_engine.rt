@@ -1,12 +1,14 @@
 //! An engine of one's own, whole: what an engine owes, in the order in which one writes it. All other calls
 //! of the trait, extensions and published blocks among them, come with their proofs as default bodies.
 //!
-//! Proved, with no proof file: it meets every clause of the trait, as the engines of the library do.
+//! Proved, with no proof file: it meets every clause of the trait, as the engines of the library do. Of every
+//! engine there is another, without an error and with no products made (`another`), by what `laws` says of clones.
 //!
-//! A new engine and a clone have made no products (`is_default`, `is_clone`), which `laws` asks for. `facts`
-//! tells contracts, one after another: at which heights a transform is promised to succeed (none here), with
-//! which shifts besides, what is known of a height that was transformed (nothing), how many products a
-//! transform of `2^k` rows of w entries makes at most, and the engine's counter.
+//! A new engine and a clone have made no products (`is_default`, `is_clone`), and a clone takes no memory
+//! (`is_infallible`), which `laws` asks for. `facts` tells contracts, one after another: at which heights a
+//! transform is promised to succeed (none here), with which shifts besides, what is known of a height that was
+//! transformed (nothing), how many products a transform of `2^k` rows of w entries makes at most, and the
+//! engine's counter.
 
 ghost use Rattle.std.specs.Prelude.{◌≡◌, ◌*◌, ◌^◌};
 
@@ -65,6 +67,7 @@ impl<F: TwoAdicField> TwoAdicSubgroupDft<F> for NaturalToReversed {
       power_of_two = λ k a. (k + a, Prim.search (rules), refl);
       new_made_none = λ e none. none;
       clone_made_none = λ e copy none. none;
+      clones = λ e. tt;
     } };
 
     fn dft_batch<N: IntoRowMajorMatrix<F>>(
@@ -94,5 +97,16 @@ impl<F: TwoAdicField> TwoAdicSubgroupDft<F> for NaturalToReversed {
         transform: T,
     ) -> Result<BitReversedMatrixView<RowMajorMatrix<F>>, DftError> {
         self.coset_lde_batch_by_parts(mat, added_bits, shift, transform)
+    }
+}
+
+/// Another engine of the type, whatever it is, for work that does not wait for the first: a clone takes no
+/// memory, and has made no products.
+pub fn another<F: TwoAdicField, D: TwoAdicSubgroupDft<F>>(engine: &D) -> D
+    ensures { D.facts.products_made result ≡ 0 }
+{
+    match engine.clone() {
+        Ok(copy) => copy,
+        Err(_) => unreachable!(),
     }
 }

@@ -77,10 +77,11 @@ module _ {E F : Type 0} (facts : EngineFacts E F) where
     pub same_ready : (k : ℕ) → facts.IsReady before k ↔ facts.IsReady after k
 
   -- what every engine's facts meet
-  pub record EngineLaws (IsNew : E → Type 0) (IsClone : E → E → Type 0) : Type 0 where
+  pub record EngineLaws (IsNew : E → Type 0) (IsClone : E → E → Type 0) (IsInfallible : E → Type 0) : Type 0 where
     pub power_of_two : (k a : ℕ) → (l : ℕ) × (l ≤ k + a) × (facts.block_rows k a ≡ 2 ^ l)
     pub new_made_none : (e : E) → IsNew e → facts.products_made e ≡ 0
     pub clone_made_none : (e copy : E) → IsClone e copy → facts.products_made copy ≡ 0
+    pub clones : (e : E) → IsInfallible e
 
 -- a matrix of one column
 abbrev pub one_column : {T : Type 0} → List T → RowMajor T

@@ -88,6 +88,7 @@ impl<F: TwoAdicField> TwoAdicSubgroupDft<F> for Radix2Bowers {
       power_of_two = λ k a. (k + a, Prim.search (rules), refl);
       new_made_none = λ e none. none;
       clone_made_none = λ e copy none. none;
+      clones = λ e. tt;
     } };
 
     /// As the trait says: the rows are reversed, then network G. A matrix of height one is its own

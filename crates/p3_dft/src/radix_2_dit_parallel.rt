@@ -151,6 +151,7 @@ impl<F: TwoAdicField> TwoAdicSubgroupDft<F> for Radix2DitParallel<F> {
       power_of_two = λ k a. (k - (k + 1) / 2, omega (arith), refl);
       new_made_none = λ e new. new.2;
       clone_made_none = λ e copy new. new.2;
+      clones = λ e. tt;
     } };
 
     /// As the trait says. `Ok` makes the height prepared for good, and an error leaves the engine as it

@@ -178,6 +178,7 @@ impl<F: TwoAdicField> TwoAdicSubgroupDft<F> for Radix2DFTSmallBatch<F> {
       power_of_two = λ k a. (k + a, Prim.search (rules), refl);
       new_made_none = λ e new. new.1;
       clone_made_none = λ e copy new. new.1;
+      clones = λ e. tt;
     } };
 
     /// As the trait says. `Ok` makes the height prepared for good, and no larger one; an error leaves the

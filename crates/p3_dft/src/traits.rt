@@ -358,8 +358,9 @@ pub trait TwoAdicSubgroupDft<F: TwoAdicField>: Clone + Default {
         )
     }
 
-    // A block has a power of two of rows, and an engine that was made or cloned has made no products.
-    ghost laws: { EngineLaws facts Self.is_default Self.is_clone };
+    // A block has a power of two of rows, an engine that was made or cloned has made no products, and a clone
+    // takes no memory, so that `clone` answers `Ok`.
+    ghost laws: { EngineLaws facts Self.is_default Self.is_clone Self.is_infallible };
 
     /// The values on H of the polynomial with these coefficients.
     final fn dft(&mut self, vec: Vec<F>) -> Result<Vec<F>, DftError>

@@ -69,6 +69,7 @@ impl<F: TwoAdicField> TwoAdicSubgroupDft<F> for LimitedDft {
       power_of_two = λ k a. (k + a, Prim.search (rules), refl);
       new_made_none = λ e none. none;
       clone_made_none = λ e copy none. none;
+      clones = λ e. tt;
     } };
 
     fn dft_batch<N: IntoRowMajorMatrix<F>>(
@@ -152,6 +153,7 @@ impl<F: TwoAdicField> TwoAdicSubgroupDft<F> for ReversedToReversed {
       power_of_two = λ k a. (k + a, Prim.search (rules), refl);
       new_made_none = λ e none. none;
       clone_made_none = λ e copy none. none;
+      clones = λ e. tt;
     } };
 
     fn dft_batch<N: IntoRowMajorMatrix<F>>(
