@@ -1,6 +1,6 @@
 //! The transform by the networks of Bowers, whose twiddles are read one after another.
 
-ghost use Rattle.std.specs.Prelude.{◌≡◌, ℕ, ◌+◌, ◌*◌, ◌/◌, ◌^◌, ◌<◌, ◌≤◌, length, get_or, IfOk, OnOk, Ok};
+ghost use Rattle.std.specs.Prelude.{◌≡◌, ℕ, ◌+◌, ◌*◌, ◌/◌, ◌^◌, ◌<◌, ◌≤◌, length, get_or, IfOk, OnErr, OnOk, Ok};
 ghost use Rattle.p3_field.specs.Ring.{power};
 ghost use Rattle.p3_matrix.specs.BitOrder.{bit_reversal};
 ghost use Rattle.p3_matrix.specs.Matrix.{Matrix, Same, matrix, image};
@@ -66,7 +66,7 @@ impl Clone for Radix2Bowers {
 }
 
 impl<F: TwoAdicField> TwoAdicSubgroupDft<F> for Radix2Bowers {
-    ghost use Rattle.std.specs.Prelude.{◌≡◌, ⊤, ℕ, ◌+◌, ◌*◌, ◌/◌, ◌^◌, ◌≤◌, IfOk, IsOk, Ok};
+    ghost use Rattle.std.specs.Prelude.{◌≡◌, ⊤, ℕ, ◌+◌, ◌*◌, ◌/◌, ◌^◌, ◌≤◌, IfOk, IsOk, OnErr, Ok};
     ghost use Rattle.std.proofs.Common.{refl, rules};
     ghost use Rattle.p3_matrix.specs.RowMajor.{height};
     ghost use Rattle.p3_dft.specs.Engines.{AtLog, IsLater, plain_facts};
@@ -92,12 +92,13 @@ impl<F: TwoAdicField> TwoAdicSubgroupDft<F> for Radix2Bowers {
     } };
 
     /// As the trait says: the rows are reversed, then network G. A matrix of height one is its own
-    /// transform: it is handed back, with no product and no memory taken.
+    /// transform: it is handed back, with no product and no memory taken. After an error no product was made.
     fn dft_batch<N: IntoRowMajorMatrix<F>>(&mut self, mat: N) -> Result<RowMajorMatrix<F>, DftError>
         requires fits { FitsDft F.TWO_ADICITY (height (N.stored mat)) (N.stored mat).width }
         ensures values { IfOk result (λ out. IsTransform F.Field.own F.generator (N.stored mat) F.ring.one out) }
         ensures succeeds { AtLog (height (N.stored mat)) (λ k. k ≡ 0 → IsOk result) }
         ensures one_row { height (N.stored mat) ≡ 1 → (result ≡ Ok (N.stored mat)) × (self.new ≡ self.old) }
+        ensures refused { OnErr result (self.new ≡ self.old) }
         ensures later { IsLater ⟦<Radix2Bowers as TwoAdicSubgroupDft<F>>⟧.facts self.old self.new }
         ensures cost { AtLog (height (N.stored mat))
             (λ k. self.new ≤ self.old + (N.stored mat).width * (k * 2 ^ k / 2)) }
@@ -121,7 +122,7 @@ impl<F: TwoAdicField> TwoAdicSubgroupDft<F> for Radix2Bowers {
 
     /// As the trait says: network G transposed, division by the height, then the rows are reversed. A
     /// matrix of height one is its own inverse transform: it is handed back, with no product and no
-    /// memory taken.
+    /// memory taken. After an error no product was made.
     fn idft_batch<N: IntoRowMajorMatrix<F>>(
         &mut self,
         mat: N,
@@ -131,6 +132,7 @@ impl<F: TwoAdicField> TwoAdicSubgroupDft<F> for Radix2Bowers {
             (λ out. IsInterpolation F.Field.own F.generator (N.stored mat) F.ring.one out) }
         ensures succeeds { AtLog (height (N.stored mat)) (λ k. k ≡ 0 → IsOk result) }
         ensures one_row { height (N.stored mat) ≡ 1 → (result ≡ Ok (N.stored mat)) × (self.new ≡ self.old) }
+        ensures refused { OnErr result (self.new ≡ self.old) }
         ensures later { IsLater ⟦<Radix2Bowers as TwoAdicSubgroupDft<F>>⟧.facts self.old self.new }
         ensures cost { AtLog (height (N.stored mat))
             (λ k. self.new ≤ self.old + (N.stored mat).width * (k * 2 ^ k / 2) + 2 ^ k * (N.stored mat).width) }
@@ -245,6 +247,7 @@ fn evaluate_to_natural<F: TwoAdicField>(
     requires fits { FitsDft F.TWO_ADICITY (height mat.old) mat.old.width }
     ensures values { AtLog (height mat.old) (λ k. OnOk result (IsValues F.ring (λ n. F.value (F.generator n))
         (bit_reversal k (values_of F.Field.own mat.old)) k F.ring.one (values_of F.Field.own mat.new))) }
+    ensures refused { OnErr result (products.new ≡ products.old) }
     ensures grows { products.old ≤ products.new }
     ensures cost { AtLog (height mat.old) (λ k. products.new ≤ products.old + mat.old.width * (k * 2 ^ k / 2)) }
 {
@@ -280,6 +283,7 @@ fn interpolate_unscaled_to_reversed<F: TwoAdicField>(
     ensures coefficients { AtLog (height mat.old) (λ k. OnOk result ((c : Matrix F.Element)
         → IsQuotient F.ring (2 ^ k) (bit_reversal k (values_of F.Field.own mat.new)) c
         → AreCoefficients F.ring (λ n. F.value (F.generator n)) (values_of F.Field.own mat.old) k F.ring.one c)) }
+    ensures refused { OnErr result (products.new ≡ products.old) }
     ensures grows { products.old ≤ products.new }
     ensures cost { AtLog (height mat.old) (λ k. products.new ≤ products.old + mat.old.width * (k * 2 ^ k / 2)) }
 {
@@ -313,6 +317,7 @@ fn interpolate_to_reversed<F: TwoAdicField>(
         (λ k. OnOk result (AreCoefficients F.ring (λ n. F.value (F.generator n))
         (values_of F.Field.own mat.old) k F.ring.one (bit_reversal k (values_of F.Field.own mat.new)))) }
     ensures whole { OnOk result (IsRowMajor mat.new) }
+    ensures refused { OnErr result (products.new ≡ products.old) }
     ensures grows { products.old ≤ products.new }
     ensures cost { AtLog (height mat.old)
         (λ k. products.new ≤ products.old + mat.old.width * (k * 2 ^ k / 2) + 2 ^ k * mat.old.width) }

@@ -10,6 +10,7 @@ use Rattle.p3_matrix.proofs.Polynomials.Cosets.{coefficients_same}
 use Rattle.p3_dft.proofs.BitReversed.Rows.{transform_of_row}
 use Rattle.p3_dft.proofs.Calls.Shapes.{fits_dft_as}
 use Rattle.p3_dft.proofs.Calls.EngineSteps.{later_same}
+use Rattle.p3_dft.proofs.Calls.JobLists.{on_any_error}
 use Rattle.p3_dft.proofs.Calls.Counts.{none_more}
 use Rattle.p3_dft.proofs.radix_2_bowers.Radix2BowersTwoAdicSubgroupDft.dft_batch.Goals as goal
 
@@ -23,7 +24,7 @@ evaluate_to_natural-requires g c =
 
 pub returns-then-height-eq1 : goal.returns-then-height-eq1
 returns-then-height-eq1 g c =
-    record { values = rw (← c.into_row_major_matrix-mat.ensures) (transform_of_row g.F.Field g.F.TwoAdicField.generator c.into_row_major_matrix-mat.result (sym c.height.ensures.height ∙ c.if-height-eq1.true)); succeeds = λ k high none. refl; one_row = λ one. (ap Ok c.into_row_major_matrix-mat.ensures, refl); later = later_same _ _; cost = λ k high. none_more _ _ _ refl }
+    record { values = rw (← c.into_row_major_matrix-mat.ensures) (transform_of_row g.F.Field g.F.TwoAdicField.generator c.into_row_major_matrix-mat.result (sym c.height.ensures.height ∙ c.if-height-eq1.true)); succeeds = λ k high none. refl; one_row = λ one. (ap Ok c.into_row_major_matrix-mat.ensures, refl); refused = tt; later = later_same _ _; cost = λ k high. none_more _ _ _ refl }
 
 pub returns-in_err-evaluate_to_natural : goal.returns-in_err-evaluate_to_natural
 returns-in_err-evaluate_to_natural g c =
@@ -32,6 +33,7 @@ returns-in_err-evaluate_to_natural g c =
       values = IfOk-from_err _ _ err;
       succeeds = λ k high none. absurd (c.if-height-eq1.false (c.height.ensures.height ∙ ap height c.into_row_major_matrix-mat.ensures ∙ high ∙ ap (λ n. 2 ^ n) none));
       one_row = λ one. absurd (c.if-height-eq1.false (c.height.ensures.height ∙ ap height c.into_row_major_matrix-mat.ensures ∙ one));
+      refused = on_any_error _ (c.in_err-evaluate_to_natural.ensures.refused ∙ c.self.view_is);
       later = record { keeps = λ k was. was; keeps_cosets = λ k s was. was; keeps_ready = λ k was. was; grows = subst (λ (b : ℕ). b ≤ c.evaluate_to_natural.new.products) c.self.view_is c.evaluate_to_natural.ensures.grows };
       cost = λ k high. let tall : height c.into_row_major_matrix-mat.result ≡ 2 ^ k = ap height c.into_row_major_matrix-mat.ensures ∙ high in let rows = c.reverse_rows.ensures.rows k tall g.F.Field.ZERO in let width : c.reverse_rows.new.mat.width ≡ (g.N.IntoRowMajorMatrix.stored c.args.mat).width = rows.wide ∙ ap (λ (m : RowMajor g.row.F.Denot). m.width) c.into_row_major_matrix-mat.ensures in rw (← c.self.view_is, ← width) (c.evaluate_to_natural.ensures.cost k (rows.high ∙ tall));
     }
@@ -42,6 +44,7 @@ returns g c =
       values = λ k high. let field = g.F.Field in let m = c.into_row_major_matrix-mat.result in let r = c.reverse_rows.new.mat in let tall : height m ≡ 2 ^ k = ap height c.into_row_major_matrix-mat.ensures ∙ high in let back = mapped_same field.value (matrix field.ZERO r) (bit_reversal k (matrix field.ZERO m)) (c.reverse_rows.ensures.rows k tall field.ZERO) in rw (← c.into_row_major_matrix-mat.ensures) (coefficients_same field.ring (λ n. field.value (g.F.TwoAdicField.generator n)) (bit_reversal k (values_of field r)) (values_of field m) k field.ring.one (values_of field c.evaluate_to_natural.new.mat) (same_sym (values_of field m) (bit_reversal k (values_of field r)) (reversed_back k (values_of field r) (values_of field m) tall back)) (c.in_ok-evaluate_to_natural.ensures.values k (back.high ∙ tall)));
       succeeds = λ k high none. refl;
       one_row = λ one. absurd (c.if-height-eq1.false (c.height.ensures.height ∙ ap height c.into_row_major_matrix-mat.ensures ∙ one));
+      refused = tt;
       later = record { keeps = λ k was. was; keeps_cosets = λ k s was. was; keeps_ready = λ k was. was; grows = subst (λ (b : ℕ). b ≤ c.evaluate_to_natural.new.products) c.self.view_is c.evaluate_to_natural.ensures.grows };
       cost = λ k high. let tall : height c.into_row_major_matrix-mat.result ≡ 2 ^ k = ap height c.into_row_major_matrix-mat.ensures ∙ high in let rows = c.reverse_rows.ensures.rows k tall g.F.Field.ZERO in let width : c.reverse_rows.new.mat.width ≡ (g.N.IntoRowMajorMatrix.stored c.args.mat).width = rows.wide ∙ ap (λ (m : RowMajor g.row.F.Denot). m.width) c.into_row_major_matrix-mat.ensures in rw (← c.self.view_is, ← width) (c.evaluate_to_natural.ensures.cost k (rows.high ∙ tall));
     }
