@@ -78,9 +78,9 @@ RowsAgree x y w i = (j : ℕ) → j < w → x.entry i j ≡ y.entry i j
 abbrev RowsDiffer : {E : Type 0} → Matrix E → Matrix E → ℕ → ℕ → Type 0
 RowsDiffer x y w i = (j : ℕ) × (j < w) × (x.entry i j ≢ y.entry i j)
 
-row_decided : {E : Type 0} (x y : Matrix E) → ((i j : ℕ) → (x.entry i j ≡ y.entry i j) ⊎ (x.entry i j ≢ y.entry i j)) → (i w : ℕ) → RowsAgree x y w i ⊎ RowsDiffer x y w i
-row_decided x y decide i zero = inl (λ j below. absurd (omega (arith, below)))
-row_decided x y decide i (suc w) = next (row_decided x y decide i w) (decide i w)
+row_decided : {E : Type 0} (x y : Matrix E) (i w : ℕ) → ((j : ℕ) → j < w → (x.entry i j ≡ y.entry i j) ⊎ (x.entry i j ≢ y.entry i j)) → RowsAgree x y w i ⊎ RowsDiffer x y w i
+row_decided x y i zero decide = inl (λ j below. absurd (omega (arith, below)))
+row_decided x y i (suc w) decide = next (row_decided x y i w (λ j below. decide j (omega (arith, below)))) (decide w (omega arith))
   where
     next : RowsAgree x y w i ⊎ RowsDiffer x y w i → (x.entry i w ≡ y.entry i w) ⊎ (x.entry i w ≢ y.entry i w) → RowsAgree x y (suc w) i ⊎ RowsDiffer x y (suc w) i
     next (inr found) here = inr (found.0, omega (arith, found.1), found.2)
@@ -108,11 +108,11 @@ module _ {F : Type 0} (f : FieldMembers F) (generator : ℕ → F) {bits : ℕ} 
       one_word f.ring are_roots first.coefficients second.coefficients (code.log_message + code.added_bits) (f.value code.shift) x y is.within is.invertible (first.high ∙ sym second.high)
       first.values second.values wide (subst (λ (n : ℕ). AgreeInRows n x y) (sym first.high) agree)
 
-  -- of n points and messages of k rows, two codewords that are not equal differ in at least n - k + 1 rows, where it can be told of each two entries whether they are equal
-  pub words_apart : (x y : Matrix f.Element) → ((i j : ℕ) → (x.entry i j ≡ y.entry i j) ⊎ (x.entry i j ≢ y.entry i j)) → IsCodeword f generator code x → IsCodeword f generator code y
-      → x.width ≡ y.width → ¬ Same x y → DifferInRows (2 ^ (code.log_message + code.added_bits) - 2 ^ code.log_message + 1) x y
+  -- of n points and messages of k rows, two codewords that are not equal differ in at least n - k + 1 rows, where it can be told of each entry whether it is equal in both
+  pub words_apart : (x y : Matrix f.Element) → ((i j : ℕ) → i < x.height → j < x.width → (x.entry i j ≡ y.entry i j) ⊎ (x.entry i j ≢ y.entry i j)) → IsCodeword f generator code x
+      → IsCodeword f generator code y → x.width ≡ y.width → ¬ Same x y → DifferInRows (2 ^ (code.log_message + code.added_bits) - 2 ^ code.log_message + 1) x y
   words_apart x y decide first second wide different =
-      by (split x.height (RowsAgree x y x.width) (RowsDiffer x y x.width) (λ i below. row_decided x y decide i x.width))
+      by (split x.height (RowsAgree x y x.width) (RowsDiffer x y x.width) (λ i below. row_decided x y i x.width (λ j inside. decide i j below inside)))
     where
       by : Split x.height (RowsAgree x y x.width) (RowsDiffer x y x.width) → DifferInRows (2 ^ (code.log_message + code.added_bits) - 2 ^ code.log_message + 1) x y
       by s = cases (cases_lt s.p (2 ^ code.log_message))
@@ -128,7 +128,7 @@ module _ {F : Type 0} (f : FieldMembers F) (generator : ℕ → F) {bits : ℕ} 
       → IsCodeword f generator code (values_of f n) → m.width ≡ n.width → ¬ Same (values_of f m) (values_of f n)
       → DifferInRows (2 ^ (code.log_message + code.added_bits) - 2 ^ code.log_message + 1) (values_of f m) (values_of f n)
   codewords_apart E decides m n first second wide different =
-      words_apart (values_of f m) (values_of f n) (λ i j. told _ _) first second wide different
+      words_apart (values_of f m) (values_of f n) (λ i j below inside. told _ _) first second wide different
     where
       told : (a b : F) → (f.value a ≡ f.value b) ⊎ (f.value a ≢ f.value b)
       told a b = by (E a b) (decides a b)

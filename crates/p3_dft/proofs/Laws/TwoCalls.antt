@@ -26,7 +26,7 @@ use Rattle.p3_dft.specs.declared.jobs.Job.{Job}
 use Rattle.p3_matrix.specs.Combinations.{alone, combination, lengthened}
 use Rattle.p3_matrix.proofs.Polynomials.Combinations.{column_values, combination_values, lengthened_values, values_of_shifted}
 use Rattle.p3_matrix.proofs.Polynomials.Cosets.{coefficients_same, point_of_one, shifted_values, values_same, values_unique}
-use Rattle.p3_matrix.proofs.Polynomials.Interpolation.{there_is_no_other}
+use Rattle.p3_matrix.proofs.Polynomials.Interpolation.{coefficients_of_same, there_is_no_other}
 use Rattle.p3_dft.proofs.Laws.OneAnswer.{one_answer}
 use Rattle.p3_dft.proofs.Calls.Shapes.{input_fits, output_fits}
 
@@ -130,6 +130,20 @@ module _ {F : Type 0} (f : FieldMembers F) (generator : ℕ → F) where
   extension_by_one m out a s one given = subst (λ (x : f.Element). IsExtension f generator m a x out) one given
 
   module _ {bits : ℕ} (are_roots : AreRoots f.ring bits roots) where
+    -- equal inputs have one interpolation and one extension
+    pub interpolation_of_equal : (m n c : RowMajor F) (s : f.Element) → Same (values m) (values n) → IsInterpolation f generator m s c → IsInterpolation f generator n s c
+    interpolation_of_equal m n c s same inverse = record {
+      holds = λ k e. coefficients_of_same f.ring are_roots (values m) (values n) k s (values c) same (inverse.holds k (same.high ∙ e));
+      only = λ k e d are. inverse.only k (same.high ∙ e) d (coefficients_of_same f.ring are_roots (values n) (values m) k s d (same_sym (values m) (values n) same) are);
+    }
+
+    pub extension_of_equal : (m n out : RowMajor F) (a : ℕ) (s : f.Element) → Same (values m) (values n) → IsExtension f generator m a s out → IsExtension f generator n a s out
+    extension_of_equal m n out a s same extension = record {
+      coefficients = extension.coefficients;
+      are_coefficients = λ k e. coefficients_of_same f.ring are_roots (values m) (values n) k f.ring.one extension.coefficients same (extension.are_coefficients k (same.high ∙ e));
+      extended = λ k e. extension.extended k (same.high ∙ e);
+    }
+
     -- the one matrix of coefficients on the subgroup
     one_coefficients : (m : RowMajor F) (k : ℕ) (c d : Matrix f.Element) → k ≤ bits → AreCoefficients f.ring roots (values m) k f.ring.one c → AreCoefficients f.ring roots (values m) k f.ring.one d → Same c d
     one_coefficients m k c d within = there_is_no_other f.ring are_roots (values m) k f.ring.one within (f.ring.one, f.ring.mul_one f.ring.one) c d
