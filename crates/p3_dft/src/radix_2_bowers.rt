@@ -239,23 +239,20 @@ impl<F: TwoAdicField> TwoAdicSubgroupDft<F> for Radix2Bowers {
 }
 
 // From coefficients, the values on the subgroup: rows in bit reversed order become rows in natural
-// order. That is network G. A single row takes no memory.
+// order. That is network G, of two rows or more.
 fn evaluate_to_natural<F: TwoAdicField>(
     mat: &mut RowMajorMatrix<F>,
     products: &mut Products,
 ) -> Result<(), DftError>
     requires fits { FitsDft F.TWO_ADICITY (height mat.old) mat.old.width }
+    requires several { ¬ (height mat.old ≡ 1) }
     ensures values { AtLog (height mat.old) (λ k. OnOk result (IsValues F.ring (λ n. F.value (F.generator n))
         (bit_reversal k (values_of F.Field.own mat.old)) k F.ring.one (values_of F.Field.own mat.new))) }
     ensures refused { OnErr result (products.new ≡ products.old) }
     ensures grows { products.old ≤ products.new }
     ensures cost { AtLog (height mat.old) (λ k. products.new ≤ products.old + mat.old.width * (k * 2 ^ k / 2)) }
 {
-    let height = mat.height();
-    if height == 1 {
-        return Ok(());
-    }
-    let log_h = log2_strict_usize(height);
+    let log_h = log2_strict_usize(mat.height());
     let width = mat.width();
     let generator = F::two_adic_generator(log_h);
     let twiddles = reversed_powers(*mat.allocator(), F::ONE, generator, log_h - 1)?;
@@ -328,13 +325,14 @@ fn interpolate_to_reversed<F: TwoAdicField>(
 }
 
 // From coefficients whose rows lie in bit reversed order, the values on the subgroup of
-// `2^added_bits` times as many points, in natural order.
+// `2^added_bits` times as many points, which are two or more, in natural order.
 fn extend_to_natural<F: TwoAdicField>(
     mat: RowMajorMatrix<F>,
     added_bits: usize,
     products: &mut Products,
 ) -> Result<RowMajorMatrix<F>, DftError>
     requires fits { FitsLde F.TWO_ADICITY (height mat) mat.width added_bits }
+    requires several { height mat ≡ 1 → ¬ (added_bits ≡ 0) }
     ensures values { AtLog (height mat) (λ k. IfOk result (λ out. IsValues F.ring (λ n. F.value (F.generator n))
         (bit_reversal k (values_of F.Field.own mat)) (k + added_bits) F.ring.one (values_of F.Field.own out))) }
     ensures grows { products.old ≤ products.new }

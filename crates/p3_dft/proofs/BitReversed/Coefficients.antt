@@ -17,7 +17,7 @@ use Rattle.p3_dft.specs.Transforms.{IsInterpolation}
 use Rattle.p3_networks.specs.Layers.{AreValuesOfRows}
 use Rattle.p3_dft.specs.declared.traits.Layout.{Layout}
 use Rattle.p3_dft.specs.declared.traits.Layout.TheVariants.{BitReversed}
-use Rattle.p3_matrix.proofs.Polynomials.Cosets.{coefficients_same, is_subgroup_values, is_values}
+use Rattle.p3_matrix.proofs.Polynomials.Cosets.{is_subgroup_values, is_values}
 use Rattle.p3_matrix.proofs.Polynomials.Interpolation.{there_is_no_other}
 use Rattle.p3_matrix.proofs.Polynomials.ByIndex.{poly-one}
 use Rattle.p3_dft.proofs.BitReversed.Rows.{transform_of_row}
@@ -26,14 +26,7 @@ use Rattle.p3_matrix.proofs.RowMajor.{height_of_parts}
 use Rattle.p3_matrix.proofs.Polynomials.ReversedCoefficients.{coefficients_of_reversed, reversed_row}
 
 module _ {F : Type 0} (f : FieldMembers F) (generator : ℕ → F) where
-  -- a single row is its own values
-  pub values_of_row : (m : RowMajor F) (k : ℕ) → height m ≡ 1 → height m ≡ 2 ^ k
-      → IsValues f.ring (λ n. f.value (generator n)) (bit_reversal k (values_of f m)) k f.ring.one (values_of f m)
-  values_of_row m k one high =
-      coefficients_same f.ring (λ n. f.value (generator n)) (values_of f m) (bit_reversal k (values_of f m)) k f.ring.one (values_of f m)
-      (reversed_row k (values_of f m) one) (transform_of_row f generator m one k high)
-
-  -- on every coset
+  -- a single row is its own values on every coset
   row_on_coset : (m : RowMajor F) (n : ℕ) (s : f.Element) → height m ≡ 1 → height m ≡ 2 ^ n → IsValues f.ring (λ n. f.value (generator n)) (values_of f m) n s (values_of f m)
   row_on_coset m n s one high =
       is_values f.ring (λ n. f.value (generator n)) (values_of f m) n s (values_of f m) high refl

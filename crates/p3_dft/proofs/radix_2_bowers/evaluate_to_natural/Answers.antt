@@ -4,7 +4,7 @@ use Rattle.p3_field.proofs.Rings
 use Rattle.p3_matrix.specs.BitOrder.{rev}
 use Rattle.p3_matrix.specs.RowMajor.{height}
 use Rattle.p3_matrix.proofs.TwoPowers.{log_same}
-use Rattle.p3_dft.proofs.BitReversed.Coefficients.{values_of_parts, values_of_row}
+use Rattle.p3_dft.proofs.BitReversed.Coefficients.{values_of_parts}
 use Rattle.std.proofs.Math.Nat.{le_refl}
 use Rattle.std.proofs.lemmas.Result.{IfOk-from_err}
 use Rattle.p3_dft.proofs.Calls.PreparedHeights.{some_log}
@@ -14,12 +14,12 @@ use Rattle.p3_dft.proofs.radix_2_bowers.evaluate_to_natural.Goals as goal
 
 pub two_adic_generator-generator-requires : goal.two_adic_generator-generator-requires
 two_adic_generator-generator-requires g c =
-    let same : c.log2_strict_usize-log_h.result ≡ c.requires.fits.log = log_same _ _ (sym c.log2_strict_usize-log_h.ensures.power ∙ c.height-height.ensures.height ∙ c.requires.fits.high) in
+    let same : c.log2_strict_usize-log_h.result ≡ c.requires.fits.log = log_same _ _ (sym c.log2_strict_usize-log_h.ensures.power ∙ c.height.ensures.height ∙ c.requires.fits.high) in
     omega (arith, same, c.requires.fits.within)
 
 pub network_g-requires-clause-within : goal.network_g-requires-clause-within
 network_g-requires-clause-within g c =
-    let same : c.log2_strict_usize-log_h.result ≡ c.requires.fits.log = log_same _ _ (sym c.log2_strict_usize-log_h.ensures.power ∙ c.height-height.ensures.height ∙ c.requires.fits.high) in
+    let same : c.log2_strict_usize-log_h.result ≡ c.requires.fits.log = log_same _ _ (sym c.log2_strict_usize-log_h.ensures.power ∙ c.height.ensures.height ∙ c.requires.fits.high) in
     omega (arith, same, c.requires.fits.within)
 
 pub network_g-requires-clause-twiddles : goal.network_g-requires-clause-twiddles
@@ -37,10 +37,10 @@ network_g-requires-clause-twiddles g c =
     }
 
 pub network_g-requires-clause-size : goal.network_g-requires-clause-size
-network_g-requires-clause-size g c = ap length c.values_mut.ensures.values ∙ sym c.width-width.ensures.whole.full ∙ ap₂ (λ (h w : ℕ). h * w) (sym c.height-height.ensures.height ∙ c.log2_strict_usize-log_h.ensures.power) (sym c.width-width.ensures.width)
+network_g-requires-clause-size g c = ap length c.values_mut.ensures.values ∙ sym c.width-width.ensures.whole.full ∙ ap₂ (λ (h w : ℕ). h * w) (sym c.height.ensures.height ∙ c.log2_strict_usize-log_h.ensures.power) (sym c.width-width.ensures.width)
 
 pub network_g-requires-clause-some : goal.network_g-requires-clause-some
-network_g-requires-clause-some g c = some_log c.height-height.result c.log2_strict_usize-log_h.result c.log2_strict_usize-log_h.ensures.power c.if-height-eq1.false
+network_g-requires-clause-some g c = some_log c.height.result c.log2_strict_usize-log_h.result c.log2_strict_usize-log_h.ensures.power (λ one. c.requires.several (sym c.height.ensures.height ∙ one))
 
 pub returns-in_err-twiddles : goal.returns-in_err-twiddles
 returns-in_err-twiddles g c =
@@ -50,12 +50,8 @@ returns-in_err-twiddles g c =
 pub returns : goal.returns
 returns g c =
     record {
-      values = λ k high. let log = c.log2_strict_usize-log_h.result in let tall : height c.args.mat.now ≡ 2 ^ log = sym c.height-height.ensures.height ∙ c.log2_strict_usize-log_h.ensures.power in values_of_parts g.F.Field g.F.TwoAdicField.generator c.args.mat.now _ c.values_mut.result.now c.network_g.new.values _ c.width-width.result log k (log_same log k (sym tall ∙ high)) c.width-width.ensures.whole tall c.values_mut.ensures.values c.width-width.ensures.width c.network_g.auto.values refl refl c.network_g.ensures.values;
+      values = λ k high. let log = c.log2_strict_usize-log_h.result in let tall : height c.args.mat.now ≡ 2 ^ log = sym c.height.ensures.height ∙ c.log2_strict_usize-log_h.ensures.power in values_of_parts g.F.Field g.F.TwoAdicField.generator c.args.mat.now _ c.values_mut.result.now c.network_g.new.values _ c.width-width.result log k (log_same log k (sym tall ∙ high)) c.width-width.ensures.whole tall c.values_mut.ensures.values c.width-width.ensures.width c.network_g.auto.values refl refl c.network_g.ensures.values;
       refused = tt;
       grows = c.network_g.ensures.grows;
-      cost = λ k high. let log = c.log2_strict_usize-log_h.result in let same : log ≡ k = log_same log k (sym c.log2_strict_usize-log_h.ensures.power ∙ c.height-height.ensures.height ∙ high) in rw (← same, ← c.width-width.ensures.width) c.network_g.ensures.cost;
+      cost = λ k high. let log = c.log2_strict_usize-log_h.result in let same : log ≡ k = log_same log k (sym c.log2_strict_usize-log_h.ensures.power ∙ c.height.ensures.height ∙ high) in rw (← same, ← c.width-width.ensures.width) c.network_g.ensures.cost;
     }
-
-pub returns-then-height-eq1-clause-values : goal.returns-then-height-eq1-clause-values
-returns-then-height-eq1-clause-values g c k high =
-    values_of_row g.F.Field g.F.TwoAdicField.generator c.args.mat.now k (sym c.height-height.ensures.height ∙ c.if-height-eq1.true) high

@@ -1,6 +1,7 @@
 use Rattle.std.proofs.Common.{◌≡◌, ◌+◌, ◌*◌, ◌/◌, ◌^◌, sym, ap, ◌∙◌, arith}
 use Rattle.std.proofs.lemmas.Nat.{pow-add}
 use Rattle.p3_matrix.specs.Cosets.{values_of}
+use Rattle.p3_matrix.proofs.TwoPowers.{log_same}
 use Rattle.p3_dft.proofs.Calls.Shapes.{output_fits, output_log_small, output_size}
 use Rattle.p3_matrix.proofs.Polynomials.SpreadRows.{values_of_spread}
 use Rattle.p3_dft.proofs.radix_2_bowers.extend_to_natural.Goals as goal
@@ -15,7 +16,11 @@ pub evaluate_to_natural-requires : goal.evaluate_to_natural-requires
 evaluate_to_natural-requires g c =
     let fits = c.requires.fits in
     let shape = c.in_ok-mat.ensures.shape in
-    record { fits = output_fits _ _ _ c.args.added_bits _ _ fits (shape.0 ∙ ap (λ h. h * 2 ^ c.args.added_bits) fits.high ∙ sym (pow-add 2 fits.log c.args.added_bits)) shape.1 }
+    let high = shape.0 ∙ ap (λ h. h * 2 ^ c.args.added_bits) fits.high ∙ sym (pow-add 2 fits.log c.args.added_bits) in
+    record {
+      fits = output_fits _ _ _ c.args.added_bits _ _ fits high shape.1;
+      several = λ one. let sum = log_same (fits.log + c.args.added_bits) 0 (sym high ∙ one) in let none : fits.log ≡ 0 = omega (arith, sum) in c.requires.several (fits.high ∙ ap (λ n. 2 ^ n) none) (omega (arith, sum));
+    }
 
 pub returns-clause-values : goal.returns-clause-values
 returns-clause-values g c k high =

@@ -27,7 +27,7 @@ extend_to_natural-requires g c =
     c.in_ok-interpolate_to_reversed.ensures.whole
     (are.high ∙ stored, are.wide ∙ ap (λ (n : RowMajor g.row.F.Denot). n.width) c.into_row_major_matrix-mat.ensures) c.transform-changed.ensures in
     let same = c.in_ok-weigh_reversed_rows.ensures.rows fits.log (shape.0 ∙ fits.high) in
-    record { fits = fits_lde_as _ _ _ c.args.added_bits _ _ fits (same.high ∙ shape.0) (same.wide ∙ shape.1) }
+    record { fits = fits_lde_as _ _ _ c.args.added_bits _ _ fits (same.high ∙ shape.0) (same.wide ∙ shape.1); several = λ one. more_points _ _ _ c.log2_strict_usize-log_h.ensures.power c.if-log_h-added_bits-eq0.false (c.height.ensures.height ∙ stored ∙ sym shape.0 ∙ sym same.high ∙ one) }
 
 pub transform-changed-requires : goal.transform-changed-requires
 transform-changed-requires g c =
@@ -66,7 +66,7 @@ returns-in_err-interpolate_to_reversed g c =
     let err = c.from_residual.ensures.0 in
     record {
       values = IfOk-from_err _ _ err;
-      one_row = λ one none. absurd (more_points c.height.result c.log2_strict_usize-log_h.result c.args.added_bits c.log2_strict_usize-log_h.ensures.power c.if-log_h-added_bits-eq0.false (c.height.ensures.height ∙ ap height c.into_row_major_matrix-mat.ensures ∙ one) none);
+      one_row = λ one none. absurd (more_points _ _ _ c.log2_strict_usize-log_h.ensures.power c.if-log_h-added_bits-eq0.false (c.height.ensures.height ∙ ap height c.into_row_major_matrix-mat.ensures ∙ one) none);
       later = record { keeps = λ k was. was; keeps_cosets = λ k s was. was; keeps_ready = λ k was. was; grows = subst (λ (b : ℕ). b ≤ c.interpolate_to_reversed.new.products) c.self.view_is c.interpolate_to_reversed.ensures.grows };
       cost = λ k e. let width = ap (λ (n : RowMajor g.row.F.Denot). n.width) c.into_row_major_matrix-mat.ensures in let w = (g.N.IntoRowMajorMatrix.stored c.args.mat).width in let first = rw (c.self.view_is, width) at (c.interpolate_to_reversed.ensures.cost k (ap height c.into_row_major_matrix-mat.ensures ∙ e)) in first_within_extension (λ n v. v * (n * 2 ^ n / 2)) k c.args.added_bits w c.args.self.now c.interpolate_to_reversed.new.products (scaled_counted _ _ _ _ _ _ first (le-add_right _ _) refl);
     }
@@ -76,7 +76,7 @@ returns-in_err-weigh_reversed_rows g c =
     let err = c.from_residual-in_err-weigh_reversed_rows.ensures.0 in
     record {
       values = IfOk-from_err _ _ err;
-      one_row = λ one none. absurd (more_points c.height.result c.log2_strict_usize-log_h.result c.args.added_bits c.log2_strict_usize-log_h.ensures.power c.if-log_h-added_bits-eq0.false (c.height.ensures.height ∙ ap height c.into_row_major_matrix-mat.ensures ∙ one) none);
+      one_row = λ one none. absurd (more_points _ _ _ c.log2_strict_usize-log_h.ensures.power c.if-log_h-added_bits-eq0.false (c.height.ensures.height ∙ ap height c.into_row_major_matrix-mat.ensures ∙ one) none);
       later = record { keeps = λ k was. was; keeps_cosets = λ k s was. was; keeps_ready = λ k was. was; grows = subst (λ (b : ℕ). b ≤ c.weigh_reversed_rows.new.products) c.self.view_is (le_trans c.interpolate_to_reversed.ensures.grows c.weigh_reversed_rows.ensures.grows) };
       cost = λ k e. let bound = λ (n w : ℕ). w * (n * 2 ^ n / 2) in let stored = ap height c.into_row_major_matrix-mat.ensures in let width = ap (λ (n : RowMajor g.row.F.Denot). n.width) c.into_row_major_matrix-mat.ensures in let w = (g.N.IntoRowMajorMatrix.stored c.args.mat).width in let are = c.in_ok-interpolate_to_reversed.ensures.coefficients k (stored ∙ e) in let shape = c.requires.shape c.interpolate_to_reversed.new.mat c.transform-changed.result c.in_ok-interpolate_to_reversed.ensures.whole (are.high ∙ stored, are.wide ∙ width) c.transform-changed.ensures in let first : c.interpolate_to_reversed.new.products ≤ c.args.self.now + bound k w + 2 ^ k * w = rw (c.self.view_is, width) at (c.interpolate_to_reversed.ensures.cost k (stored ∙ e)) in let entries : height c.transform-changed.result * c.transform-changed.result.width ≡ 2 ^ k * w = ap₂ (λ (h v : ℕ). h * v) (shape.0 ∙ e) shape.1 in first_within_extension bound k c.args.added_bits w c.args.self.now c.weigh_reversed_rows.new.products (scaled_counted _ _ _ _ _ _ first c.weigh_reversed_rows.ensures.cost entries);
     }
@@ -85,7 +85,7 @@ pub returns : goal.returns
 returns g c =
     record {
       values = let field = g.F.Field in let fits = c.requires.fits in let log = fits.log in let a = c.args.added_bits in let s = field.value c.args.shift in let m = g.N.IntoRowMajorMatrix.stored c.args.mat in let told = c.interpolate_to_reversed.new.mat in let answered = c.transform-changed.result in let stored = ap height c.into_row_major_matrix-mat.ensures in let are = c.in_ok-interpolate_to_reversed.ensures.coefficients log (stored ∙ fits.high) in let shape = c.requires.shape told answered c.in_ok-interpolate_to_reversed.ensures.whole (are.high ∙ stored, are.wide ∙ ap (λ (n : RowMajor g.row.F.Denot). n.width) c.into_row_major_matrix-mat.ensures) c.transform-changed.ensures in let same = c.in_ok-weigh_reversed_rows.ensures.rows log (shape.0 ∙ fits.high) in let one = ap field.value c.ONE.ensures ∙ g.met.F.Field.one_law in let on_coset = shifted_by_one field.ring _ s (bit_reversal log (values_of field answered)) (bit_reversal log (values_of field c.weigh_reversed_rows.new.mat)) one same in IfOk-weaker c.extend_to_natural.result _ _ (λ out given. values_of_answered field g.F.TwoAdicField.generator _ m told answered a log s (values_of field out) fits.high (rw c.into_row_major_matrix-mat.ensures at are) c.in_ok-interpolate_to_reversed.ensures.whole c.weigh_reversed_rows.ensures.whole c.transform-changed.ensures shape.0 (coset_values field.ring (λ n. field.value (g.F.TwoAdicField.generator n)) (bit_reversal log (values_of field answered)) (bit_reversal log (values_of field c.weigh_reversed_rows.new.mat)) (log + a) s (values_of field out) on_coset given)) (c.extend_to_natural.ensures.values log (same.high ∙ shape.0 ∙ fits.high));
-      one_row = λ one none. absurd (more_points c.height.result c.log2_strict_usize-log_h.result c.args.added_bits c.log2_strict_usize-log_h.ensures.power c.if-log_h-added_bits-eq0.false (c.height.ensures.height ∙ ap height c.into_row_major_matrix-mat.ensures ∙ one) none);
+      one_row = λ one none. absurd (more_points _ _ _ c.log2_strict_usize-log_h.ensures.power c.if-log_h-added_bits-eq0.false (c.height.ensures.height ∙ ap height c.into_row_major_matrix-mat.ensures ∙ one) none);
       later = record { keeps = λ k was. was; keeps_cosets = λ k s was. was; keeps_ready = λ k was. was; grows = subst (λ (b : ℕ). b ≤ c.extend_to_natural.new.products) c.self.view_is (le_trans (le_trans c.interpolate_to_reversed.ensures.grows c.weigh_reversed_rows.ensures.grows) c.extend_to_natural.ensures.grows) };
       cost = λ k e. let a = c.args.added_bits in let m = c.into_row_major_matrix-mat.result in let bound = λ (n w : ℕ). w * (n * 2 ^ n / 2) in let stored = ap height c.into_row_major_matrix-mat.ensures in let width = ap (λ (n : RowMajor g.row.F.Denot). n.width) c.into_row_major_matrix-mat.ensures in let w = (g.N.IntoRowMajorMatrix.stored c.args.mat).width in let are = c.in_ok-interpolate_to_reversed.ensures.coefficients k (stored ∙ e) in let shape = c.requires.shape c.interpolate_to_reversed.new.mat c.transform-changed.result c.in_ok-interpolate_to_reversed.ensures.whole (are.high ∙ stored, are.wide ∙ width) c.transform-changed.ensures in let same = c.in_ok-weigh_reversed_rows.ensures.rows k (shape.0 ∙ e) in let first : c.interpolate_to_reversed.new.products ≤ c.args.self.now + bound k w + 2 ^ k * w = rw (c.self.view_is, width) at (c.interpolate_to_reversed.ensures.cost k (stored ∙ e)) in let entries : height c.transform-changed.result * c.transform-changed.result.width ≡ 2 ^ k * w = ap₂ (λ (h v : ℕ). h * v) (shape.0 ∙ e) shape.1 in let last = c.extend_to_natural.ensures.cost k (same.high ∙ shape.0 ∙ e) in let wide : bound (k + a) c.weigh_reversed_rows.new.mat.width ≡ bound (k + a) w = ap (bound (k + a)) (same.wide ∙ shape.1) in within_extension bound k a w c.args.self.now c.extend_to_natural.new.products (weighed_counted _ _ _ _ _ _ _ (scaled_counted _ _ _ _ _ _ first c.weigh_reversed_rows.ensures.cost entries) last wide);
     }

@@ -20,6 +20,7 @@ evaluate_to_natural-requires g c =
     record {
       fits = fits_dft_as _ _ _ _ _ c.requires.fits (shape.0 ∙ ap height c.into_row_major_matrix-mat.ensures)
           (shape.1 ∙ ap (λ (m : RowMajor g.row.F.Denot). m.width) c.into_row_major_matrix-mat.ensures);
+      several = λ one. c.if-height-eq1.false (c.height.ensures.height ∙ sym shape.0 ∙ one);
     }
 
 pub returns-then-height-eq1 : goal.returns-then-height-eq1

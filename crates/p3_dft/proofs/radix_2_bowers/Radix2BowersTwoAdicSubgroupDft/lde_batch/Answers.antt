@@ -19,7 +19,7 @@ extend_to_natural-requires g c =
     let fits = c.requires.fits in
     let stored = ap height c.into_row_major_matrix-mat.ensures in
     let are = c.in_ok-interpolate_to_reversed.ensures.coefficients fits.log (stored ∙ fits.high) in
-    record { fits = fits_lde_as _ _ _ c.args.added_bits _ _ fits (are.high ∙ stored) (are.wide ∙ ap (λ (n : RowMajor g.row.F.Denot). n.width) c.into_row_major_matrix-mat.ensures) }
+    record { fits = fits_lde_as _ _ _ c.args.added_bits _ _ fits (are.high ∙ stored) (are.wide ∙ ap (λ (n : RowMajor g.row.F.Denot). n.width) c.into_row_major_matrix-mat.ensures); several = λ one. more_points _ _ _ c.log2_strict_usize-log_h.ensures.power c.if-log_h-added_bits-eq0.false (c.height.ensures.height ∙ sym are.high ∙ one) }
 
 pub overflow_add-log_h : goal.overflow_add-log_h
 overflow_add-log_h g c = omega (arith, (log_fits _ _ c.requires.fits c.log2_strict_usize-log_h.ensures.power (c.height.ensures.height ∙ ap height c.into_row_major_matrix-mat.ensures)).1)
@@ -38,7 +38,7 @@ returns-in_err-interpolate_to_reversed g c =
     let err = c.from_residual.ensures.0 in
     record {
       values = IfOk-from_err _ _ err;
-      one_row = λ one none. absurd (more_points c.height.result c.log2_strict_usize-log_h.result c.args.added_bits c.log2_strict_usize-log_h.ensures.power c.if-log_h-added_bits-eq0.false (c.height.ensures.height ∙ ap height c.into_row_major_matrix-mat.ensures ∙ one) none);
+      one_row = λ one none. absurd (more_points _ _ _ c.log2_strict_usize-log_h.ensures.power c.if-log_h-added_bits-eq0.false (c.height.ensures.height ∙ ap height c.into_row_major_matrix-mat.ensures ∙ one) none);
       later = record { keeps = λ k was. was; keeps_cosets = λ k s was. was; keeps_ready = λ k was. was; grows = subst (λ (b : ℕ). b ≤ c.interpolate_to_reversed.new.products) c.self.view_is c.interpolate_to_reversed.ensures.grows };
       cost = λ k e. let width = ap (λ (m : RowMajor g.row.F.Denot). m.width) c.into_row_major_matrix-mat.ensures in let first = rw (c.self.view_is, width) at (c.interpolate_to_reversed.ensures.cost k (ap height c.into_row_major_matrix-mat.ensures ∙ e)) in first_within_extension (λ n w. w * (n * 2 ^ n / 2)) k c.args.added_bits (g.N.IntoRowMajorMatrix.stored c.args.mat).width c.args.self.now c.interpolate_to_reversed.new.products (scaled_counted _ _ _ _ _ _ first (le-add_right _ _) refl);
     }
@@ -47,7 +47,7 @@ pub returns : goal.returns
 returns g c =
     record {
       values = let field = g.F.Field in let log = c.requires.fits.log in let m = c.into_row_major_matrix-mat.result in let high : height m ≡ 2 ^ log = ap height c.into_row_major_matrix-mat.ensures ∙ c.requires.fits.high in let are = c.in_ok-interpolate_to_reversed.ensures.coefficients log high in rw (← c.into_row_major_matrix-mat.ensures) (IfOk-weaker c.extend_to_natural.result _ _ (λ out given. extension_of_coefficients field g.F.TwoAdicField.generator m out (bit_reversal log (values_of field c.interpolate_to_reversed.new.mat)) c.args.added_bits log field.ring.one high are given) (c.extend_to_natural.ensures.values log (are.high ∙ high)));
-      one_row = λ one none. absurd (more_points c.height.result c.log2_strict_usize-log_h.result c.args.added_bits c.log2_strict_usize-log_h.ensures.power c.if-log_h-added_bits-eq0.false (c.height.ensures.height ∙ ap height c.into_row_major_matrix-mat.ensures ∙ one) none);
+      one_row = λ one none. absurd (more_points _ _ _ c.log2_strict_usize-log_h.ensures.power c.if-log_h-added_bits-eq0.false (c.height.ensures.height ∙ ap height c.into_row_major_matrix-mat.ensures ∙ one) none);
       later = record { keeps = λ k was. was; keeps_cosets = λ k s was. was; keeps_ready = λ k was. was; grows = subst (λ (b : ℕ). b ≤ c.extend_to_natural.new.products) c.self.view_is (le_trans c.interpolate_to_reversed.ensures.grows c.extend_to_natural.ensures.grows) };
       cost = λ k e. let width = ap (λ (m : RowMajor g.row.F.Denot). m.width) c.into_row_major_matrix-mat.ensures in let tall : height c.into_row_major_matrix-mat.result ≡ 2 ^ k = ap height c.into_row_major_matrix-mat.ensures ∙ e in let are = c.in_ok-interpolate_to_reversed.ensures.coefficients k tall in let wide : c.interpolate_to_reversed.new.mat.width ≡ (g.N.IntoRowMajorMatrix.stored c.args.mat).width = are.wide ∙ width in let first = rw (c.self.view_is, width) at (c.interpolate_to_reversed.ensures.cost k tall) in let second = rw wide at (c.extend_to_natural.ensures.cost k (are.high ∙ tall)) in within_extension (λ n w. w * (n * 2 ^ n / 2)) k c.args.added_bits (g.N.IntoRowMajorMatrix.stored c.args.mat).width c.args.self.now c.extend_to_natural.new.products (weighed_counted _ _ _ _ _ _ _ (scaled_counted _ _ _ _ _ _ first (le-add_right _ _) refl) second refl);
     }
