@@ -1,8 +1,5 @@
 use Rattle.p3_dft.proofs.radix_2_dit.Radix2DitTwoAdicSubgroupDft.coset_lde_batch_with_blocks.Goals as goal
 
-pub coset_lde_batch_with_blocks-requires-clause-fits : goal.coset_lde_batch_with_blocks-requires-clause-fits
-coset_lde_batch_with_blocks-requires-clause-fits g c = c.requires.fits
-
 pub coset_lde_batch_with_blocks-requires-clause-callable : goal.coset_lde_batch_with_blocks-requires-clause-callable
 coset_lde_batch_with_blocks-requires-clause-callable g c = c.requires.callable
 

@@ -6,12 +6,6 @@ use Rattle.p3_dft.proofs.Calls.ExtendedTransforms.{extended_of_same}
 use Rattle.p3_dft.proofs.Laws.Blocks.{on_refused_weaker}
 use Rattle.p3_dft.proofs.traits.TwoAdicSubgroupDft.coset_lde_batch_in_blocks.Goals as goal
 
-pub coset_lde_batch_with_blocks-requires-clause-fits : goal.coset_lde_batch_with_blocks-requires-clause-fits
-coset_lde_batch_with_blocks-requires-clause-fits g c = c.requires.fits
-
-pub coset_lde_batch_with_blocks-requires-clause-makes : goal.coset_lde_batch_with_blocks-requires-clause-makes
-coset_lde_batch_with_blocks-requires-clause-makes g c = c.requires.makes
-
 pub returns : goal.returns
 returns g c =
     record {
