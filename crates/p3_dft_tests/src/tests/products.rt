@@ -120,7 +120,7 @@ impl Method {
             } else {
                 extension
             },
-            // The first block is one of the first coset, and then there is no other.
+            // The coset that the first block is of is the only one begun.
             refused: if self == Method::Cosets {
                 total(&[transform, entries, transform])
             } else {
@@ -404,7 +404,7 @@ fn with_blocks<F: TwoAdicField, D: TwoAdicSubgroupDft<F>>(
     test.at_most(rt, "coset_lde_batch_with_blocks", most);
 }
 
-// The same where the first block is refused: what no block needs is not made any more.
+// An extension on the subgroup whose first block is refused: no other coset is begun.
 fn with_first_block_refused<F: TwoAdicField, D: TwoAdicSubgroupDft<F>>(
     rt: &impl Abort,
     test: &Counted<'_, F>,
