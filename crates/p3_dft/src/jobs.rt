@@ -71,8 +71,8 @@ impl<F: Drop> From<JobsStopped<F>> for DftError {
 /// Memory for the list of answers is taken first. Where that is refused there are no answers and the
 /// engine is as before; else the first job without an answer is one that the engine was not promised
 /// to answer. The engine serves the heights of all jobs that have an answer, as after the calls
-/// themselves. The products are at most the sum of what the calls of these jobs may make, and of the first
-/// job without an answer.
+/// themselves. The products are at most the sum of what the calls of these jobs, and of the first job
+/// without an answer, may make.
 pub fn run_jobs<F: TwoAdicField, D: TwoAdicSubgroupDft<F>>(
     engine: &mut D,
     jobs: Vec<Job<F>>,

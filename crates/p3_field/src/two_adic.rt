@@ -44,6 +44,6 @@ pub trait CanonicalField: TwoAdicField {
 
     ghost number_below_law: { (x : Self) → Self.number (Self.value x) < ORDER_U64 };
 
-    // A number below the modulus is that of as many ones, added up: so each value is the sum of so many ones.
+    // A number below the modulus is that of as many ones, added up: so the value of each element is a sum of ones.
     ghost count_law: { (n : ℕ) → n < ORDER_U64 → Self.number (count Self.ring n) ≡ n };
 }

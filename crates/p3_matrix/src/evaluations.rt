@@ -52,8 +52,8 @@ impl<F: Drop> Evaluations<F> for BitReversedMatrixView<RowMajorMatrix<F>> {
     }
 }
 
-/// What can be handed over as a matrix, as a `RowMajorMatrix` can. The engines' calls are generic over it, since
-/// the checker takes no method of a trait that is handed a `RowMajorMatrix` of the trait's own field by value.
+/// What can be handed over as a matrix, as a `RowMajorMatrix` can. The engines' calls are generic over it, since a
+/// method that takes a `RowMajorMatrix` of the trait's own field by value cannot hand its clauses down to an impl.
 pub trait IntoRowMajorMatrix<T>: Drop {
     // The matrix.
     ghost stored: { Self → RowMajor T };
