@@ -7,6 +7,8 @@
 pub mod closures;
 pub mod field_forms;
 pub mod inverses;
+pub mod jobs;
+pub mod known;
 pub mod low_degree;
 pub mod merkle_root;
 pub mod own_engine;

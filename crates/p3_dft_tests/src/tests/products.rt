@@ -401,7 +401,7 @@ fn with_blocks<F: TwoAdicField, D: TwoAdicSubgroupDft<F>>(
     let all = BlockLimit::new(usize::MAX);
     let _ = extend_to(rt, engine, test.mat, test.added_bits, F::GENERATOR, all);
     let most = test.bounds.get().extension;
-    test.at_most(rt, "coset_lde_batch_with_blocks", most);
+    test.at_most(rt, "coset_lde_batch_in_blocks", most);
 }
 
 // An extension on the subgroup whose first block is refused: no other coset is begun.
@@ -414,7 +414,7 @@ fn with_first_block_refused<F: TwoAdicField, D: TwoAdicSubgroupDft<F>>(
     let (seen, refused) = seen_within(rt, engine, mat, test.added_bits, 0);
     assert!(rt; seen == 0 && refused.is_some());
     let most = test.bounds.get().refused;
-    test.at_most(rt, "coset_lde_batch_with_blocks, refused", most);
+    test.at_most(rt, "coset_lde_batch_in_blocks, refused", most);
 }
 
 // A job of each kind.

@@ -1,0 +1,21 @@
+//! A list of jobs, where all answers are wanted or none.
+//!
+//! Proved: the answers are those of the jobs, in their order, with no proof file.
+
+ghost use Rattle.std.specs.Prelude.{IfOk};
+ghost use Rattle.std.specs.List.{All, AllZip};
+ghost use Rattle.p3_dft.specs.Jobs.{CanRun, IsAnswer};
+
+use p3_dft::{DftError, Job, RowMajorMatrix, TwoAdicField, TwoAdicSubgroupDft, run_jobs};
+
+/// The answers of all jobs. Where memory is refused, those of the first jobs are dropped.
+pub fn all_answers<F: TwoAdicField, D: TwoAdicSubgroupDft<F>>(
+    engine: &mut D,
+    jobs: Vec<Job<F>>,
+) -> Result<Vec<RowMajorMatrix<F>>, DftError>
+    requires { All (CanRun F.Field.own F.TWO_ADICITY) jobs.items }
+    ensures { IfOk result (λ answers. AllZip (IsAnswer F.Field.own F.generator) jobs.items answers.items) }
+{
+    let answers = run_jobs(engine, jobs)?;
+    Ok(answers)
+}
