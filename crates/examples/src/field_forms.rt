@@ -5,7 +5,7 @@
 //! Proved, with no proof file: that each can be called, and of those with a clause what they answer. Tests show
 //! the numbers and texts of the others.
 
-ghost use Rattle.std.specs.Prelude.{◌≡◌, ◌<◌, ℕ, IfOk, IfSome, Ok, map, get_or, vec_len};
+ghost use Rattle.std.specs.Prelude.{◌≡◌, ◌↔◌, ◌<◌, ◌≤◌, ℕ, IfOk, IfSome, IsNone, Ok, map, get_or, vec_len};
 ghost use Rattle.p3_field.specs.Ring.{count, minus, power, product_of, sum_of};
 
 use p3_dft::{BabyBear, CanonicalField, Field, Goldilocks};
@@ -31,7 +31,8 @@ pub fn line_at(x: Goldilocks) -> Goldilocks {
 
 /// The element with this number, if there is one: that many ones added up, over any field.
 pub fn numbered<F: CanonicalField>(number: u64) -> Option<F>
-    ensures { IfSome result (λ x. F.value x ≡ count F.ring number) }
+    ensures value { IfSome result (λ x. F.value x ≡ count F.ring number) }
+    ensures none { IsNone result ↔ F.ORDER_U64 ≤ number }
 {
     F::new(number)
 }

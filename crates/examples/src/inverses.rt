@@ -1,13 +1,15 @@
 //! Inverses on cosets, over named fields and over any: which shifts a client hands over, and what it
 //! tests of one that comes from outside.
 //!
-//! Proved: each call has a shape that fits and a shift with an inverse, and so may be made. Four say in a clause that
-//! what they answer are the coefficients, three of them over a named field. There is no proof file.
+//! Proved: each call has a shape that fits and a shift with an inverse, and so may be made; what is answered are the
+//! coefficients; and there is none only where the shape does not fit or the shift has no inverse. There is no proof
+//! file.
 
 ghost use Rattle.std.specs.Prelude.{IfOk, IfSome, IsNone};
 ghost use Rattle.p3_field.specs.NamedFields.{baby_bear, goldilocks, koala_bear};
 ghost use Rattle.p3_field.specs.Ring.{IsInvertible};
 ghost use Rattle.p3_matrix.specs.RowMajor.{height};
+ghost use Rattle.p3_dft.specs.Engines.{IsLater};
 ghost use Rattle.p3_dft.specs.Shapes.{FitsDft};
 ghost use Rattle.p3_dft.specs.Transforms.{IsInterpolation};
 
@@ -22,6 +24,9 @@ pub fn from_generator<F: TwoAdicField, D: TwoAdicSubgroupDft<F>>(
     values: RowMajorMatrix<F>,
 ) -> Result<RowMajorMatrix<F>, DftError>
     requires { FitsDft F.TWO_ADICITY (height values) values.width }
+    ensures coefficients { IfOk result
+        (IsInterpolation F.Field.own F.generator values (F.value F.GENERATOR)) }
+    ensures later { IsLater D.facts engine.old engine.new }
 {
     engine.coset_idft_batch(values, F::GENERATOR)
 }
@@ -31,7 +36,12 @@ pub fn from_generator<F: TwoAdicField, D: TwoAdicSubgroupDft<F>>(
 pub fn from_baby_bear_generator<D: TwoAdicSubgroupDft<BabyBear>>(
     engine: &mut D,
     values: RowMajorMatrix<BabyBear>,
-) -> Option<Result<RowMajorMatrix<BabyBear>, DftError>> {
+) -> Option<Result<RowMajorMatrix<BabyBear>, DftError>>
+    ensures coefficients { IfSome result (λ answer. IfOk answer (IsInterpolation baby_bear
+        ⟦<BabyBear as TwoAdicField>⟧.generator values (baby_bear.value baby_bear.GENERATOR))) }
+    ensures none { IsNone result → ¬ (FitsDft ⟦<BabyBear as TwoAdicField>⟧.TWO_ADICITY (height values) values.width) }
+    ensures later { IsLater D.facts engine.old engine.new }
+{
     if !fits_dft::<BabyBear>(values.height(), values.width()) {
         return None;
     }
@@ -45,6 +55,8 @@ pub fn from_koala_bear_generator<D: TwoAdicSubgroupDft<KoalaBear>>(
 ) -> Option<Result<RowMajorMatrix<KoalaBear>, DftError>>
     ensures coefficients { IfSome result (λ answer. IfOk answer (IsInterpolation koala_bear
         ⟦<KoalaBear as TwoAdicField>⟧.generator values (koala_bear.value koala_bear.GENERATOR))) }
+    ensures none { IsNone result → ¬ (FitsDft ⟦<KoalaBear as TwoAdicField>⟧.TWO_ADICITY (height values) values.width) }
+    ensures later { IsLater D.facts engine.old engine.new }
 {
     if !fits_dft::<KoalaBear>(values.height(), values.width()) {
         return None;
@@ -56,7 +68,12 @@ pub fn from_koala_bear_generator<D: TwoAdicSubgroupDft<KoalaBear>>(
 pub fn from_goldilocks_generator<D: TwoAdicSubgroupDft<Goldilocks>>(
     engine: &mut D,
     values: RowMajorMatrix<Goldilocks>,
-) -> Option<Result<RowMajorMatrix<Goldilocks>, DftError>> {
+) -> Option<Result<RowMajorMatrix<Goldilocks>, DftError>>
+    ensures coefficients { IfSome result (λ answer. IfOk answer (IsInterpolation goldilocks
+        ⟦<Goldilocks as TwoAdicField>⟧.generator values (goldilocks.value goldilocks.GENERATOR))) }
+    ensures none { IsNone result → ¬ (FitsDft ⟦<Goldilocks as TwoAdicField>⟧.TWO_ADICITY (height values) values.width) }
+    ensures later { IsLater D.facts engine.old engine.new }
+{
     if !fits_dft::<Goldilocks>(values.height(), values.width()) {
         return None;
     }
@@ -73,6 +90,7 @@ pub fn from_shift<F: TwoAdicField, D: TwoAdicSubgroupDft<F>>(
     ensures coefficients { IfSome result (λ answer. IfOk answer (λ out.
         IsInterpolation F.Field.own F.generator values (F.value shift) out)) }
     ensures none { IsNone result → ¬ (IsInvertible F.ring (F.value shift)) }
+    ensures later { IsLater D.facts engine.old engine.new }
 {
     if shift.try_inverse().is_none() {
         return None;
@@ -88,6 +106,9 @@ pub fn from_baby_bear_shift<D: TwoAdicSubgroupDft<BabyBear>>(
 ) -> Option<Result<RowMajorMatrix<BabyBear>, DftError>>
     ensures coefficients { IfSome result (λ answer. IfOk answer (IsInterpolation baby_bear
         ⟦<BabyBear as TwoAdicField>⟧.generator values (baby_bear.value shift))) }
+    ensures none { IsNone result → ¬ (FitsDft ⟦<BabyBear as TwoAdicField>⟧.TWO_ADICITY (height values) values.width
+        × IsInvertible baby_bear.ring (baby_bear.value shift)) }
+    ensures later { IsLater D.facts engine.old engine.new }
 {
     if shift.try_inverse().is_none() || !fits_dft::<BabyBear>(values.height(), values.width()) {
         return None;
@@ -103,6 +124,9 @@ pub fn from_goldilocks_shift<D: TwoAdicSubgroupDft<Goldilocks>>(
 ) -> Option<Result<RowMajorMatrix<Goldilocks>, DftError>>
     ensures coefficients { IfSome result (λ answer. IfOk answer (IsInterpolation goldilocks
         ⟦<Goldilocks as TwoAdicField>⟧.generator values (goldilocks.value shift))) }
+    ensures none { IsNone result → ¬ (FitsDft ⟦<Goldilocks as TwoAdicField>⟧.TWO_ADICITY (height values) values.width
+        × IsInvertible goldilocks.ring (goldilocks.value shift)) }
+    ensures later { IsLater D.facts engine.old engine.new }
 {
     if !fits_dft::<Goldilocks>(values.height(), values.width()) {
         return None;

@@ -4,6 +4,7 @@
 
 ghost use Rattle.std.specs.Prelude.{IfOk};
 ghost use Rattle.std.specs.List.{All, AllZip};
+ghost use Rattle.p3_dft.specs.Engines.{IsLater};
 ghost use Rattle.p3_dft.specs.Jobs.{CanRun, IsAnswer};
 
 use p3_dft::{DftError, Job, RowMajorMatrix, TwoAdicField, TwoAdicSubgroupDft, run_jobs};
@@ -14,7 +15,8 @@ pub fn all_answers<F: TwoAdicField, D: TwoAdicSubgroupDft<F>>(
     jobs: Vec<Job<F>>,
 ) -> Result<Vec<RowMajorMatrix<F>>, DftError>
     requires { All (CanRun F.Field.own F.TWO_ADICITY) jobs.items }
-    ensures { IfOk result (λ answers. AllZip (IsAnswer F.Field.own F.generator) jobs.items answers.items) }
+    ensures answers { IfOk result (λ answers. AllZip (IsAnswer F.Field.own F.generator) jobs.items answers.items) }
+    ensures later { IsLater D.facts engine.old engine.new }
 {
     let answers = run_jobs(engine, jobs)?;
     Ok(answers)

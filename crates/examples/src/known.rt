@@ -5,6 +5,7 @@
 
 ghost use Rattle.std.specs.Prelude.{IfOk};
 ghost use Rattle.p3_matrix.specs.RowMajor.{height};
+ghost use Rattle.p3_dft.specs.Engines.{IsLater};
 ghost use Rattle.p3_dft.specs.Extensions.{IsExtension};
 ghost use Rattle.p3_dft.specs.Shapes.{FitsDft, FitsLde};
 ghost use Rattle.p3_dft.specs.Transforms.{IsInterpolation};
@@ -20,7 +21,8 @@ pub fn inverse_or_known<F: TwoAdicField, D: TwoAdicSubgroupDft<F>>(
 ) -> Result<RowMajorMatrix<F>, DftError>
     requires fits { FitsDft F.TWO_ADICITY (height values) values.width }
     requires known { IsInterpolation F.Field.own F.generator known.now F.ring.one coefficients.now }
-    ensures { IfOk result (IsInterpolation F.Field.own F.generator values F.ring.one) }
+    ensures coefficients { IfOk result (IsInterpolation F.Field.own F.generator values F.ring.one) }
+    ensures later { IsLater D.facts engine.old engine.new }
 {
     if *known == values {
         return Ok(coefficients.try_clone()?);
@@ -39,7 +41,8 @@ pub fn extension_or_known<F: TwoAdicField, D: TwoAdicSubgroupDft<F>>(
 ) -> Result<RowMajorMatrix<F>, DftError>
     requires fits { FitsLde F.TWO_ADICITY (height values) values.width added_bits }
     requires known { IsExtension F.Field.own F.generator known.now added_bits (F.value shift) extension.now }
-    ensures { IfOk result (IsExtension F.Field.own F.generator values added_bits (F.value shift)) }
+    ensures extension { IfOk result (IsExtension F.Field.own F.generator values added_bits (F.value shift)) }
+    ensures later { IsLater D.facts engine.old engine.new }
 {
     if *known == values {
         return Ok(extension.try_clone()?);

@@ -11,7 +11,7 @@ ghost use Rattle.p3_matrix.specs.Blocks.{AreBlocksOf, IsPartition};
 ghost use Rattle.p3_matrix.specs.Matrix.{Matrix};
 ghost use Rattle.p3_matrix.specs.RowMajor.{RowMajor, height};
 ghost use Rattle.p3_matrix.specs.Polynomials.{sum};
-ghost use Rattle.p3_dft.specs.Engines.{AtLog};
+ghost use Rattle.p3_dft.specs.Engines.{AtLog, IsLater};
 ghost use Rattle.p3_dft.specs.Extensions.{AreExtendedValues, IsExtension};
 ghost use Rattle.p3_dft.specs.Shapes.{FitsLde};
 ghost use Rattle.examples.specs.Sums.{sum_of_blocks};
@@ -37,6 +37,7 @@ pub fn recorded_extension<F: TwoAdicField, D: TwoAdicSubgroupDft<F>>(
         IsExtension F.Field.own F.generator mat added_bits (F.value shift) (reversed_rows p.0.bits p.0.physical)) }
     ensures recorded { IfOk result (λ p. AtLog (height mat) (λ k.
         IsPartition (D.facts.block_rows k added_bits) p.0.physical p.1.blocks × (p.1.missed ≡ false))) }
+    ensures later { IsLater D.facts engine.old engine.new }
 {
     // There are no more blocks than rows.
     let rows = extended_height::<F>(mat.height(), mat.width(), added_bits);
@@ -84,6 +85,7 @@ pub fn limited_extension<F: TwoAdicField, D: TwoAdicSubgroupDft<F>>(
         × AreBlocksOf (values_of F.Field.own) (D.facts.block_rows k added_bits) (bit_reversal (k + added_bits) out)
         (taken ++ refused ∷ [])
         × (length taken ≡ limit) × (refusal.start ≡ refused.0)))) }
+    ensures later { IsLater D.facts engine.old engine.new }
 {
     let answer = engine.coset_lde_batch_in_blocks(
         mat,
@@ -152,6 +154,7 @@ pub fn summed_extension<F: TwoAdicField, D: TwoAdicSubgroupDft<F>>(
         IsExtension F.Field.own F.generator mat added_bits (F.value shift) (reversed_rows p.0.bits p.0.physical)) }
     ensures summed { IfOk result (λ p.
         F.value p.1 ≡ sum F.ring (length p.0.physical.values) (λ i. F.value (get_or p.0.physical.values i F.ZERO))) }
+    ensures later { IsLater D.facts engine.old engine.new }
 {
     let answer = engine.coset_lde_batch_in_blocks(
         mat,
@@ -226,6 +229,7 @@ pub fn sum_of_first_blocks<F: TwoAdicField, D: TwoAdicSubgroupDft<F>>(
         starts)))) }
     ensures none { IfOk result (λ found. IsNone found
         → AtLog (height mat) (λ k. 2 ^ (k + added_bits) / D.facts.block_rows k added_bits ≤ limit)) }
+    ensures later { IsLater D.facts engine.old engine.new }
 {
     let none_yet = LimitedSum {
         sum: F::ZERO,

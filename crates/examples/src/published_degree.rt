@@ -11,7 +11,7 @@ ghost use Rattle.p3_matrix.specs.BitOrder.{reversed_rows};
 ghost use Rattle.p3_matrix.specs.Cosets.{values_of};
 ghost use Rattle.p3_matrix.specs.RowMajor.{height};
 ghost use Rattle.p3_dft.specs.Codes.{HasDegreeBelow};
-ghost use Rattle.p3_dft.specs.Engines.{AtLog};
+ghost use Rattle.p3_dft.specs.Engines.{AtLog, IsLater};
 ghost use Rattle.p3_dft.specs.Extensions.{IsExtension};
 ghost use Rattle.p3_dft.specs.Shapes.{FitsLde};
 
@@ -89,8 +89,9 @@ pub fn kept_extension<D: TwoAdicSubgroupDft<Goldilocks>>(
     shift: Goldilocks,
 ) -> Result<RowMajorMatrix<Goldilocks>, DftError>
     requires { FitsLde ⟦<Goldilocks as TwoAdicField>⟧.TWO_ADICITY (height mat) mat.width added_bits }
-    ensures { IfOk result (λ out. IsExtension goldilocks ⟦<Goldilocks as TwoAdicField>⟧.generator mat added_bits
-        (goldilocks.value shift) out) }
+    ensures extension { IfOk result (λ out. IsExtension goldilocks ⟦<Goldilocks as TwoAdicField>⟧.generator mat
+        added_bits (goldilocks.value shift) out) }
+    ensures later { IsLater D.facts engine.old engine.new }
 {
     let entries = zeros_for(&mat, added_bits)?;
     let answer = engine.coset_lde_batch_in_blocks(mat, added_bits, shift, |_rows| Kept { entries });
@@ -125,6 +126,7 @@ pub fn published_degree<D: TwoAdicSubgroupDft<Goldilocks>>(
     ensures exact { IfOk result (λ p. AtLog (height p.0) (λ k. IsTrue p.1 ↔ HasDegreeBelow goldilocks
         ⟦<Goldilocks as TwoAdicField>⟧.generator (height mat) k (goldilocks.value shift) (values_of goldilocks p.0))) }
     ensures low { IfOk result (λ p. IsTrue p.1) }
+    ensures later { IsLater D.facts engine.old engine.new }
 {
     let degree = mat.height();
     let kept = kept_extension(engine, mat, added_bits, shift)?;

@@ -2,11 +2,13 @@
 //! over a named one.
 //!
 //! Proved: behind the tests the sizes are counted by a `usize`, a vector of so many entries makes a matrix
-//! that can be transformed, and what is published is the extension. There is no proof file.
+//! that can be transformed, there is none only where the shape does not fit, and what is published is the extension.
+//! There is no proof file.
 
-ghost use Rattle.std.specs.Prelude.{◌≡◌, ◌*◌, ◌^◌, ◌<◌, ◌≤◌, IfOk, IfSome};
+ghost use Rattle.std.specs.Prelude.{◌≡◌, ◌*◌, ◌^◌, ◌<◌, ◌≤◌, IfOk, IfSome, IsNone, vec_capacity};
 ghost use Rattle.p3_matrix.specs.BitOrder.{reversed_rows};
 ghost use Rattle.p3_matrix.specs.RowMajor.{height};
+ghost use Rattle.p3_dft.specs.Engines.{IsLater};
 ghost use Rattle.p3_dft.specs.Extensions.{IsExtension};
 ghost use Rattle.p3_dft.specs.Shapes.{FitsDft, FitsLde};
 
@@ -22,7 +24,9 @@ pub fn zeros<F: TwoAdicField>(
     rows: usize,
     columns: usize,
 ) -> Result<Option<RowMajorMatrix<F>>, DftError>
-    ensures { IfOk result (λ made. IfSome made (λ mat. FitsDft F.TWO_ADICITY (height mat) mat.width)) }
+    ensures fits { IfOk result (λ made. IfSome made (λ mat. FitsDft F.TWO_ADICITY (height mat) mat.width)) }
+    ensures shape { IfOk result (λ made. IfSome made (λ mat. (height mat ≡ rows) × (mat.width ≡ columns))) }
+    ensures none { IfOk result (λ made. IsNone made → ¬ (FitsDft F.TWO_ADICITY rows columns)) }
 {
     if !fits_dft::<F>(rows, columns) {
         return Ok(None);
@@ -51,7 +55,11 @@ pub fn zeros_of_goldilocks(
     alloc: Global,
     rows: usize,
     columns: usize,
-) -> Result<Option<RowMajorMatrix<Goldilocks>>, DftError> {
+) -> Result<Option<RowMajorMatrix<Goldilocks>>, DftError>
+    ensures shape { IfOk result (λ made. IfSome made (λ mat. (height mat ≡ rows) × (mat.width ≡ columns))) }
+    ensures none { IfOk result (λ made. IsNone made
+        → ¬ (FitsDft ⟦<Goldilocks as TwoAdicField>⟧.TWO_ADICITY rows columns)) }
+{
     if !fits_dft::<Goldilocks>(rows, columns) {
         return Ok(None);
     }
@@ -63,7 +71,12 @@ pub fn zeros_of_goldilocks(
 pub fn room_for_extension<F: TwoAdicField>(
     mat: &RowMajorMatrix<F>,
     added_bits: usize,
-) -> Result<Option<Vec<F>>, DftError> {
+) -> Result<Option<Vec<F>>, DftError>
+    ensures room { IfOk result (λ found. IfSome found (λ v.
+        (height mat.now * 2 ^ added_bits) * mat.now.width ≤ vec_capacity v)) }
+    ensures none { IfOk result (λ found. IsNone found
+        → ¬ (FitsLde F.TWO_ADICITY (height mat.now) mat.now.width added_bits)) }
+{
     if !fits_lde::<F>(mat.height(), mat.width(), added_bits) {
         return Ok(None);
     }
@@ -81,8 +94,9 @@ pub fn extension_within<F: TwoAdicField, D: TwoAdicSubgroupDft<F>>(
     limit: usize,
 ) -> Option<BitReversedMatrixView<RowMajorMatrix<F>>>
     requires { FitsLde F.TWO_ADICITY (height mat) mat.width added_bits }
-    ensures { IfSome result (λ out.
+    ensures extension { IfSome result (λ out.
         IsExtension F.Field.own F.generator mat added_bits (F.value shift) (reversed_rows out.bits out.physical)) }
+    ensures later { IsLater D.facts engine.old engine.new }
 {
     match engine.coset_lde_batch_in_blocks(mat, added_bits, shift, |_rows| BlockLimit::new(limit)) {
         Ok((out, _taken)) => Some(out),
@@ -96,7 +110,9 @@ pub fn extension_of_goldilocks_within<D: TwoAdicSubgroupDft<Goldilocks>>(
     mat: RowMajorMatrix<Goldilocks>,
     added_bits: usize,
     limit: usize,
-) -> Option<BitReversedMatrixView<RowMajorMatrix<Goldilocks>>> {
+) -> Option<BitReversedMatrixView<RowMajorMatrix<Goldilocks>>>
+    ensures later { IsLater D.facts engine.old engine.new }
+{
     if !fits_lde::<Goldilocks>(mat.height(), mat.width(), added_bits) {
         return None;
     }

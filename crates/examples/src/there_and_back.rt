@@ -7,6 +7,7 @@ ghost use Rattle.std.specs.Prelude.{IfOk};
 ghost use Rattle.p3_field.specs.Ring.{IsInvertible};
 ghost use Rattle.p3_matrix.specs.Matrix.{Same};
 ghost use Rattle.p3_matrix.specs.RowMajor.{height};
+ghost use Rattle.p3_dft.specs.Engines.{IsLater};
 ghost use Rattle.p3_dft.specs.Shapes.{FitsDft};
 ghost use Rattle.p3_dft.specs.Transforms.{IsTransform};
 ghost use Rattle.p3_matrix.specs.Cosets.{values_of};
@@ -20,8 +21,9 @@ pub fn values_on_a_coset<F: TwoAdicField, D: TwoAdicSubgroupDft<F>>(
     shift: F,
 ) -> Result<D::Evaluations, DftError>
     requires { FitsDft F.TWO_ADICITY (height coefficients) coefficients.width }
-    ensures { IfOk result (λ out.
+    ensures values { IfOk result (λ out.
         IsTransform F.Field.own F.generator coefficients (F.value shift) (D.Evaluations.natural out)) }
+    ensures later { IsLater D.facts engine.old engine.new }
 {
     engine.coset_dft_batch(coefficients, shift)
 }
@@ -34,7 +36,8 @@ pub fn there_and_back<F: TwoAdicField, D: TwoAdicSubgroupDft<F>>(
 ) -> Result<RowMajorMatrix<F>, DftError>
     requires fits { FitsDft F.TWO_ADICITY (height mat) mat.width }
     requires invertible { IsInvertible F.ring (F.value shift) }
-    ensures { IfOk result (λ back. Same (values_of F.Field.own back) (values_of F.Field.own mat)) }
+    ensures same { IfOk result (λ back. Same (values_of F.Field.own back) (values_of F.Field.own mat)) }
+    ensures later { IsLater D.facts engine.old engine.new }
 {
     let values = engine.coset_dft_batch(mat, shift)?;
     engine.coset_idft_batch(values.to_row_major_matrix(), shift)

@@ -5,6 +5,7 @@
 ghost use Rattle.std.specs.Prelude.{◌≡◌, ◌<◌, ◌≤◌, IfOk, IfSome, IsNone};
 ghost use Rattle.p3_matrix.specs.BitOrder.{reversed_rows};
 ghost use Rattle.p3_matrix.specs.RowMajor.{height, row};
+ghost use Rattle.p3_dft.specs.Engines.{IsLater};
 ghost use Rattle.p3_dft.specs.Extensions.{IsExtension};
 ghost use Rattle.p3_dft.specs.Shapes.{FitsLde};
 
@@ -51,6 +52,7 @@ pub fn opened_extension<F: TwoAdicField>(
     ensures opened { IfOk result (λ p.
         IfSome p.1 (λ opened. opened.items ≡ row (reversed_rows p.0.bits p.0.physical) i)) }
     ensures none { IfOk result (λ p. IsNone p.1 → height p.0.physical ≤ i) }
+    ensures later { IsLater ⟦<Radix2DitParallel<F> as TwoAdicSubgroupDft<F>>⟧.facts engine.old engine.new }
 {
     let extension = engine.coset_lde_batch(mat, added_bits, shift)?;
     if i >= extension.height() {

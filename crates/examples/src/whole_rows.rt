@@ -8,7 +8,7 @@ ghost use Rattle.std.specs.Prelude.{◌≡◌, ◌+◌, ◌-◌, ◌≤◌, IfOk
 ghost use Rattle.p3_matrix.specs.Matrix.{Matrix};
 ghost use Rattle.p3_matrix.specs.RowMajor.{IsRowMajor, height};
 ghost use Rattle.p3_matrix.specs.Cosets.{AreCoefficients, IsValues, values_of};
-ghost use Rattle.p3_dft.specs.Engines.{AtLog};
+ghost use Rattle.p3_dft.specs.Engines.{AtLog, IsLater};
 ghost use Rattle.p3_dft.specs.Extensions.{IsExtension};
 ghost use Rattle.p3_dft.specs.Shapes.{FitsDft, FitsLde};
 ghost use Rattle.p3_dft.specs.Transforms.{IsTransform};
@@ -23,8 +23,9 @@ pub fn extension_in_whole_rows<F: TwoAdicField, D: TwoAdicSubgroupDft<F>>(
     shift: F,
 ) -> Result<D::Evaluations, DftError>
     requires { FitsLde F.TWO_ADICITY (height mat) mat.width added_bits }
-    ensures { IfOk result (λ out.
+    ensures extension { IfOk result (λ out.
         IsExtension F.Field.own F.generator mat added_bits (F.value shift) (D.Evaluations.natural out)) }
+    ensures later { IsLater D.facts engine.old engine.new }
 {
     engine.coset_lde_batch_with_transform(
         mat,
@@ -59,11 +60,12 @@ pub fn extension_of_opposite_entries<F: TwoAdicField>(
 ) -> Result<RowMajorMatrix<F>, DftError>
     requires fits { FitsLde F.TWO_ADICITY (height mat) mat.width added_bits }
     requires two { mat.width ≡ 2 }
-    ensures { IfOk result (λ out. AtLog (height mat) (λ k. (c : Matrix F.Element)
+    ensures values { IfOk result (λ out. AtLog (height mat) (λ k. (c : Matrix F.Element)
         × AreCoefficients F.ring (λ n. F.value (F.generator n)) (values_of F.Field.own mat) k F.ring.one c
         × IsValues F.ring (λ n. F.value (F.generator n))
         (record { height = c.height; width = 2; entry = λ i j. c.entry (c.height - 1 - i) (1 - j) })
         (k + added_bits) (F.value shift) (values_of F.Field.own out))) }
+    ensures later { IsLater ⟦<Radix2Dit<F> as TwoAdicSubgroupDft<F>>⟧.facts engine.old engine.new }
 {
     engine.coset_lde_batch_with_transform(
         mat,
@@ -87,6 +89,7 @@ pub fn counted_transform<F: TwoAdicField, D: TwoAdicSubgroupDft<F>>(
         IsTransform F.Field.own F.generator mat F.ring.one (D.Evaluations.natural out)) }
     ensures cost { AtLog (height mat) (λ k. D.facts.products_made engine.new
         ≤ D.facts.products_made engine.old + D.facts.transform_products k mat.width) }
+    ensures later { IsLater D.facts engine.old engine.new }
 {
     engine.dft_batch(mat)
 }

@@ -12,5 +12,5 @@ pub returns-clause-low : goal.returns-clause-low
 returns-clause-low g c =
     c.has_degree_below-low.ensures.1
     (rw c.height-degree.ensures.height
-    (low_degree goldilocks _ c.args.mat c.in_ok-kept.kept c.in_ok-coefficients.coefficients c.args.added_bits _ c.requires.fits c.in_ok-kept.ensures
+    (low_degree goldilocks _ c.args.mat c.in_ok-kept.kept c.in_ok-coefficients.coefficients c.args.added_bits _ c.requires.fits c.in_ok-kept.ensures.extension
     (rw c.in_ok-try_clone.ensures at c.in_ok-coefficients.ensures.coefficients)))

@@ -4,8 +4,8 @@ use Rattle.p3_matrix.specs.Cosets.{values_of}
 use Rattle.p3_dft.proofs.Calls.ExtendedTransforms.{extended_of_same}
 use Rattle.examples.proofs.whole_rows.extension_in_whole_rows.Goals as goal
 
-pub returns : goal.returns
-returns g c =
+pub returns-clause-extension : goal.returns-clause-extension
+returns-clause-extension g c =
     IfOk-weaker c.coset_lde_batch_with_transform.result _ _
     (λ out given.
     extended_of_same g.F.Field g.F.TwoAdicField.generator _ g.D.TwoAdicSubgroupDft.LAYOUT c.args.mat (values_of g.F.Field (g.D.Evaluations.Evaluations.natural out))

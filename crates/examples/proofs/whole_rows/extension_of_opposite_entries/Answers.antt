@@ -13,8 +13,8 @@ coset_lde_batch_with_transform-requires-clause-shape g c m n whole shape called 
     let same = same_shape m n (width ∙ sym (shape.1 ∙ c.requires.two)) values in
     (same.0 ∙ shape.0, same.1 ∙ shape.1)
 
-pub returns : goal.returns
-returns g c =
+pub returns-clause-values : goal.returns-clause-values
+returns-clause-values g c =
     let field = g.F.Field in
     let generator = λ (n : ℕ). field.value (g.F.TwoAdicField.generator n) in
     IfOk-weaker c.coset_lde_batch_with_transform.result _ _

@@ -1,0 +1,13 @@
+use Rattle.std.proofs.Common.{of_calls}
+use Rattle.std.proofs.lemmas.Result.{IfOk-weaker}
+use Rattle.p3_matrix.specs.Cosets.{values_of}
+use Rattle.p3_dft.proofs.Calls.ExtendedTransforms.{extended_of_same}
+use Rattle.examples.proofs.closures.extension_of_unchanged.Goals as goal
+
+pub returns-clause-extension : goal.returns-clause-extension
+returns-clause-extension g c =
+    IfOk-weaker c.coset_lde_batch_with_transform.result _ _
+    (λ out given.
+    extended_of_same g.F.Field g.F.TwoAdicField.generator _ g.D.TwoAdicSubgroupDft.LAYOUT c.args.mat (values_of g.F.Field (g.D.Evaluations.Evaluations.natural out))
+    c.args.added_bits (g.F.Field.value c.args.shift) (λ told answered called. search of_calls) given)
+    c.coset_lde_batch_with_transform.ensures.values
