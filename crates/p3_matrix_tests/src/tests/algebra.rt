@@ -24,7 +24,7 @@ fn in_dimension<const N: usize>(rt: &impl Abort, all: &[BabyBear])
 }
 
 #[test]
-fn coordinates_are_added_and_scaled(rt: HostRuntime) {
+fn an_element_has_the_coordinates_it_was_made_of(rt: HostRuntime) {
     let numbers = [1u8, 2, 3, 4, 5, 6, 7, 8].map(|n: u8| -> BabyBear { BabyBear::from_u8(n) });
     in_dimension::<1>(&rt, &numbers);
     in_dimension::<2>(&rt, &numbers);
