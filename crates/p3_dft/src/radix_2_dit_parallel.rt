@@ -28,7 +28,8 @@ use std::marker::Model;
 /// is done on each chunk of rows in turn. A chunk has about as many rows as the square root of the height,
 /// so that it stays in the cache for all layers of its half. The values are left in bit reversed order.
 /// At height `2^k` and width w that is at most `w * k * 2^k / 2` products, on a coset too, and `w * 2^k`
-/// more for an inverse. An extension by a bits takes those of an inverse and of `2^a` transforms.
+/// more for an inverse. An extension by a bits, but one by parts, takes those of an inverse and of `2^a`
+/// transforms.
 ///
 /// Powers of the generators and of their inverses are kept for the largest height so far, from its first
 /// transform or inverse on, or from `prepare`, until the engine ends; then `dft_batch`, `idft_batch` and
@@ -36,9 +37,9 @@ use std::marker::Model;
 /// height and at smaller ones.
 /// A coset has a table of its own, of one entry less than its height, for its height and its shift,
 /// which is kept from its first `coset_dft_batch` on; the coset of one, which is the subgroup, needs none
-/// there. An extension goes coset by coset: its output is made of `2^added_bits` cosets of the input's
-/// height, and it makes and keeps a table of each. No call takes a prepared height or coset back. A new
-/// engine and a clone have no tables and take no memory.
+/// there. An extension, but one by parts, goes coset by coset: its output is made of `2^added_bits` cosets
+/// of the input's height, and it makes and keeps a table of each. No call takes a prepared height or coset
+/// back. A new engine and a clone have no tables and take no memory.
 ///
 /// Contracts see which heights are prepared, which cosets have a table, and how many products were made. What a call
 /// leaves prepared is in the clauses of `prepare` and of the calls that this engine states itself; of the others they

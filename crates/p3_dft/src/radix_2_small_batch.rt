@@ -31,7 +31,7 @@ use std::marker::Model;
 /// the whole matrix, in groups of three that go piece by piece, and all others tile by tile, so that a
 /// piece and a tile go through their layers while they are in the cache. At height `2^k` and width w
 /// that is at most `w * k * 2^k / 2` products, and `w * 2^k` more for an inverse, which has a network of
-/// its own. So have the extensions, which meet no row of zeros.
+/// its own. So have the extensions, but the one by parts, which meet no row of zeros.
 ///
 /// Two tables of twiddles are kept for the largest height so far, from its first transform on, or from
 /// `prepare`, until the engine ends; then `dft_batch`, `idft_batch` and the calls that stand on them,

@@ -222,7 +222,7 @@ impl fmt::Display for Goldilocks {
     }
 }
 
-/// The number in decimal digits.
+/// The number in decimal digits. Clauses say so of a formatter without options.
 impl fmt::Debug for Goldilocks {
     ghost use Rattle.std.specs.Prelude.{Some};
     ghost use Rattle.std.specs.Fmt.{decimal};

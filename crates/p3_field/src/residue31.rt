@@ -263,7 +263,7 @@ impl<N: Numbers> fmt::Display for Residue31<N> {
     }
 }
 
-/// The number in decimal digits.
+/// The number in decimal digits. Clauses say so of a formatter without options.
 impl<N: Numbers> fmt::Debug for Residue31<N> {
     ghost use Rattle.std.specs.Prelude.{Some};
     ghost use Rattle.std.specs.Fmt.{decimal};

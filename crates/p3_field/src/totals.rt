@@ -1,5 +1,5 @@
-//! Sums and products of the items of an iterator, for any type that has the operator: what the `Sum` and
-//! `Product` of a new field can be made of.
+//! Sums and products of the items of an iterator, for any type whose operator may be used on all its values:
+//! what the `Sum` and `Product` of a new field can be made of.
 
 ghost use Rattle.std.specs.Prelude.{List};
 ghost use Rattle.std.specs.Iterator.{Drains, IsFinite};

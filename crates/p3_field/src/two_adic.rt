@@ -7,7 +7,8 @@ use crate::packed::Packable;
 
 /// A field with a chain of roots of one, each the square of the next.
 pub trait TwoAdicField: Packable {
-    /// The logarithm of the order of the largest subgroup: the most bits that a generator has.
+    /// The most bits that a generator here has: the logarithm of the order of the largest subgroup that
+    /// `two_adic_generator` gives. That the field has no larger one is not claimed.
     const TWO_ADICITY: usize;
 
     ghost TWO_ADICITY: { ℕ };

@@ -119,7 +119,7 @@ impl<T> RowMajorMatrix<T> {
         self.values.allocator()
     }
 
-    /// The entries, row after row, in the vector that held them.
+    /// The entries, row after row, in the vector that held them. No clause says what room it has besides.
     pub fn into_values(self) -> Vec<T>
         ensures values { result.items ≡ self.values }
         ensures whole { IsRowMajor self }
