@@ -1,7 +1,8 @@
-//! Answers that are at hand: where `==` tells that the input is one that was answered before, no transform is made.
+//! Answers that are at hand: where `==` tells that the input is one that was answered before, a copy of that answer is
+//! given.
 //!
 //! Proved: what is answered are the coefficients, or the extension, of the input, though it was found for another
-//! matrix.
+//! matrix. No clause says that no transform is made then.
 
 ghost use Rattle.std.specs.Prelude.{IfOk};
 ghost use Rattle.p3_matrix.specs.RowMajor.{height};
