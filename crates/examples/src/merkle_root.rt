@@ -14,8 +14,8 @@ ghost use Rattle.p3_dft.specs.Shapes.{FitsLde};
 ghost use Rattle.examples.specs.MerkleTrees.{AreDigests, tree};
 
 use p3_dft::{
-    BitReversedMatrixView, BlockConsumer, BlocksStopped, DftError, Field, RowMajorMatrix,
-    RowMajorMatrixView, TwoAdicField, TwoAdicSubgroupDft, extended_height, log2_strict_usize,
+    BitReversedMatrixView, BlockConsumer, DftError, Field, RowMajorMatrix, RowMajorMatrixView,
+    TwoAdicField, TwoAdicSubgroupDft, extended_height, log2_strict_usize,
 };
 use std::convert::Infallible;
 
@@ -142,26 +142,15 @@ fn hashed_extension<F: TwoAdicField, D: TwoAdicSubgroupDft<F>, H: RowHash<F>>(
     let count = extended_height::<F>(mat.height(), mat.width(), added_bits);
     // Each place is written once, so any digest will do.
     let digests = vec![in *mat.allocator(); hash.hash_row(&[]); count]?;
-    let answer = engine.coset_lde_batch_in_blocks(
+    let (rows, leaves) = engine.coset_lde_batch_in_blocks(
         mat,
         added_bits,
         shift,
         |_rows| Leaves { hash, digests },
-    );
-    match answer {
-        Ok((rows, leaves)) => {
-            // Tells the prover that the rows are whole.
-            let _whole = rows.height();
-            Ok((rows, leaves.digests))
-        }
-        Err(stopped) => match stopped {
-            BlocksStopped::Refused {
-                consumer: _consumer,
-                refusal,
-            } => match refusal {},
-            BlocksStopped::OutOfMemory(_) => Err(DftError::OutOfMemory),
-        },
-    }
+    )?;
+    // Tells the prover that the rows are whole.
+    let _whole = rows.height();
+    Ok((rows, leaves.digests))
 }
 
 // The root over `2^log_leaves` digests.

@@ -156,26 +156,15 @@ pub fn summed_extension<F: TwoAdicField, D: TwoAdicSubgroupDft<F>>(
         F.value p.1 ≡ sum F.ring (length p.0.physical.values) (λ i. F.value (get_or p.0.physical.values i F.ZERO))) }
     ensures later { IsLater D.facts engine.old engine.new }
 {
-    let answer = engine.coset_lde_batch_in_blocks(
+    let (out, total) = engine.coset_lde_batch_in_blocks(
         mat,
         added_bits,
         shift,
         |_rows| BlockSum { sum: F::ZERO },
-    );
-    match answer {
-        Ok((out, total)) => {
-            // Tells the prover that the rows are whole.
-            let _whole = out.height();
-            Ok((out, total.sum))
-        }
-        Err(stopped) => match stopped {
-            BlocksStopped::Refused {
-                consumer: _consumer,
-                refusal,
-            } => match refusal {},
-            BlocksStopped::OutOfMemory(_) => Err(DftError::OutOfMemory),
-        },
-    }
+    )?;
+    // Tells the prover that the rows are whole.
+    let _whole = out.height();
+    Ok((out, total.sum))
 }
 
 /// A consumer that adds up the entries of the first blocks, so many, and refuses any other.

@@ -16,9 +16,8 @@ ghost use Rattle.p3_dft.specs.Extensions.{IsExtension};
 ghost use Rattle.p3_dft.specs.Shapes.{FitsLde};
 
 use p3_dft::{
-    BitReversedMatrixView, BlockConsumer, BlocksStopped, DftError, Evaluations, Goldilocks,
-    RowMajorMatrix, RowMajorMatrixView, TwoAdicField, TwoAdicSubgroupDft, extended_height,
-    has_degree_below,
+    BitReversedMatrixView, BlockConsumer, DftError, Evaluations, Goldilocks, RowMajorMatrix,
+    RowMajorMatrixView, TwoAdicField, TwoAdicSubgroupDft, extended_height, has_degree_below,
 };
 use std::convert::Infallible;
 
@@ -94,21 +93,15 @@ pub fn kept_extension<D: TwoAdicSubgroupDft<Goldilocks>>(
     ensures later { IsLater D.facts engine.old engine.new }
 {
     let entries = zeros_for(&mat, added_bits)?;
-    let answer = engine.coset_lde_batch_in_blocks(mat, added_bits, shift, |_rows| Kept { entries });
-    match answer {
-        Ok((out, kept)) => {
-            // Tells the prover that the rows are whole.
-            let _whole = out.inner();
-            Ok(in_natural_order(kept.entries, &out))
-        }
-        Err(stopped) => match stopped {
-            BlocksStopped::Refused {
-                consumer: _consumer,
-                refusal,
-            } => match refusal {},
-            BlocksStopped::OutOfMemory(_) => Err(DftError::OutOfMemory),
-        },
-    }
+    let (out, kept) = engine.coset_lde_batch_in_blocks(
+        mat,
+        added_bits,
+        shift,
+        |_rows| Kept { entries },
+    )?;
+    // Tells the prover that the rows are whole.
+    let _whole = out.inner();
+    Ok(in_natural_order(kept.entries, &out))
 }
 
 /// The extension of a matrix, as its published blocks make it, and whether its columns have the values of

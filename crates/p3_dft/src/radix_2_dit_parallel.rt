@@ -317,23 +317,14 @@ impl<F: TwoAdicField> TwoAdicSubgroupDft<F> for Radix2DitParallel<F> {
         ensures cost { AtLog (height (N.stored mat)) (λ k. self.new.roots.products
             ≤ self.old.roots.products + (N.stored mat).width * (k * 2 ^ k / 2 * (1 + 2 ^ added_bits) + 2 ^ k)) }
     {
-        let answer = self.coset_lde_batch_with_blocks(
+        let (values, _unread) = self.coset_lde_batch_with_blocks(
             mat,
             added_bits,
             shift,
             transform,
             |_rows: usize| -> Unread { Unread },
-        );
-        match answer {
-            Ok((values, _unread)) => Ok(values),
-            Err(stopped) => match stopped {
-                BlocksStopped::Refused {
-                    consumer: _unread,
-                    refusal,
-                } => match refusal {},
-                BlocksStopped::OutOfMemory(_) => Err(DftError::OutOfMemory),
-            },
-        }
+        )?;
+        Ok(values)
     }
 
     /// As the trait says: each chunk of rows of the second half is lent as soon as it is final, so that it is

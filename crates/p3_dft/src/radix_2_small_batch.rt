@@ -31,7 +31,7 @@ use std::marker::Model;
 /// the whole matrix, in groups of three that go piece by piece, and all others tile by tile, so that a
 /// piece and a tile go through their layers while they are in the cache. At height `2^k` and width w
 /// that is at most `w * k * 2^k / 2` products, and `w * 2^k` more for an inverse, which has a network of
-/// its own. So have the extensions, but the one by parts, which meet no row of zeros.
+/// its own. All extensions but the one by parts have networks of their own too, which meet no row of zeros.
 ///
 /// Two tables of twiddles are kept for the largest height so far, from its first transform on, or from
 /// `prepare`, until the engine ends; then `dft_batch`, `idft_batch` and the calls that stand on them,
@@ -128,8 +128,8 @@ impl<F: TwoAdicField> Radix2DFTSmallBatch<F> {
         Ok(engine)
     }
 
-    /// Makes the tables for height `2^log_h`, from when on transforms and inverses over the field, of
-    /// that height and of smaller ones, take no memory. It takes none itself where the height is prepared
+    /// Makes the tables for height `2^log_h`, after which transforms and inverses over the field, of that height and of
+    /// smaller ones, take no memory. It takes none itself where the height is prepared
     /// already, as height one always is. `log_h` is at most `TWO_ADICITY`, and a `usize` holds the
     /// height. Where memory is refused, the engine is as before.
     pub fn prepare(&mut self, alloc: Global, log_h: usize) -> Result<(), DftError>
@@ -294,6 +294,29 @@ impl<F: TwoAdicField> TwoAdicSubgroupDft<F> for Radix2DFTSmallBatch<F> {
             tile,
             &mut self.products,
         )
+    }
+
+    /// `coset_lde_batch` with the shift one, whose coset is the subgroup; its clauses are those of that call.
+    fn lde_batch<N: IntoRowMajorMatrix<F>>(
+        &mut self,
+        mat: N,
+        added_bits: usize,
+    ) -> Result<RowMajorMatrix<F>, DftError>
+        requires fits { FitsLde F.TWO_ADICITY (height (N.stored mat)) (N.stored mat).width added_bits }
+        ensures values { IfOk result (IsExtension F.Field.own F.generator (N.stored mat) added_bits F.ring.one) }
+        ensures serves { AtLog (height (N.stored mat))
+            (λ k. OnOk result (IsPrepared self.new k × IsPrepared self.new (k + added_bits))) }
+        ensures one_row { height (N.stored mat) ≡ 1 → added_bits ≡ 0
+            → (result ≡ Ok (N.stored mat)) × (self.new ≡ self.old) }
+        ensures only { AtLog (height (N.stored mat)) (λ k. PreparesNoneAbove (k + added_bits) self.old self.new) }
+        ensures later { IsLater ⟦<Radix2DFTSmallBatch<F> as TwoAdicSubgroupDft<F>>⟧.facts self.old self.new }
+        ensures cost { AtLog (height (N.stored mat)) (λ k. self.new.products
+            ≤ self.old.products + extension_bound (λ n w. w * (n * 2 ^ n / 2)) k added_bits (N.stored mat).width) }
+        ensures fewer { AtLog (height (N.stored mat)) (λ k. self.new.products
+            ≤ self.old.products + (N.stored mat).width
+            * (k * 2 ^ k / 2 * (1 + 2 ^ added_bits) + 2 ^ (k + added_bits))) }
+    {
+        self.coset_lde_batch(mat, added_bits, F::ONE)
     }
 
     /// As the trait says, by the inverse and, slot after slot, by transforms on the cosets that the rows in

@@ -5,7 +5,7 @@ use Rattle.std.proofs.Math.ListN.{get_or-append}
 use Rattle.std.specs.List.{range_with_len}
 use Rattle.p3_field.specs.declared.fields.Field.{Ghosts as FieldMembers}
 use Rattle.p3_networks.specs.Twiddles.{Coset, HasCoset, IsCosetOf}
-use Rattle.p3_dft.specs.Engines.{CosetEngineState, EngineFacts, IsCosetPrepared, IsLater, IsPrepared}
+use Rattle.p3_dft.specs.Engines.{CosetEngineState, EngineFacts, IsCosetPrepared, IsLater, IsPrepared, plain_facts}
 use Rattle.p3_dft.proofs.Calls.PreparedHeights.{prepared_until, until_prepared}
 
 -- an engine with powers of the roots up to a height, so many products, and tables of cosets
@@ -14,15 +14,11 @@ tabled log products cosets = record { roots = record { prepared = range_with_len
 
 -- the facts of an engine with tables of cosets besides: a prepared coset of a prepared height succeeds
 abbrev pub coset_tabled_facts : {F : Type 0} (f : FieldMembers F) → (ℕ → ℕ → ℕ) → (ℕ → ℕ → ℕ → ℕ) → (ℕ → ℕ → ℕ) → EngineFacts (CosetEngineState F) F
-coset_tabled_facts f transform_products extension_products block_rows = record {
-  Succeeds = λ e. IsPrepared e.roots;
-  SucceedsOnCoset = λ e k s. IsCosetPrepared f e k (f.value s);
-  IsReady = λ e k. ⊤;
-  transform_products = transform_products;
-  extension_products = extension_products;
-  block_rows = block_rows;
-  products_made = λ e. e.roots.products;
-}
+coset_tabled_facts f transform_products extension_products block_rows =
+    record (plain_facts (λ e. IsPrepared e.roots) (λ e k s. IsCosetPrepared f e k (f.value s)) (λ _ _. ⊤) transform_products (λ e. e.roots.products)) {
+      extension_products = extension_products;
+      block_rows = block_rows;
+    }
 
 module _ {F : Type 0} (f : FieldMembers F) where
   -- a coset that is in a list is in a longer one

@@ -10,19 +10,19 @@ use Rattle.examples.proofs.merkle_root.hashed_extension.Goals as goal
 counted : (count high k a rows : ℕ) → count ≡ high * 2 ^ a → high ≡ 2 ^ k → rows ≡ 2 ^ (k + a) → count ≡ rows
 counted count high k a rows is log tall = is ∙ ap (λ h. h * 2 ^ a) log ∙ sym (pow-add 2 k a) ∙ sym tall
 
-pub returns-in-Ok-clause-leaves : goal.returns-in-Ok-clause-leaves
-returns-in-Ok-clause-leaves g c =
+pub returns-clause-leaves : goal.returns-clause-leaves
+returns-clause-leaves g c =
     let field = g.F.Field in
     let hash = c.args.hash.now in
     let k = c.requires.log in
     let a = c.args.added_bits in
-    let out = c.in-Ok.rows.physical in
-    let tall = physical_height field c.in-Ok.rows.bits (k + a) out _ c.height-whole.ensures.whole (sym c.height-whole.ensures.height ∙ c.height-whole.ensures.power) refl
-    (c.in-Ok.ensures.values.extended k c.requires.high).high in
+    let out = c.in_ok-rows.rows.physical in
+    let tall = physical_height field c.in_ok-rows.rows.bits (k + a) out _ c.height-whole.ensures.whole (sym c.height-whole.ensures.height ∙ c.height-whole.ensures.power) refl
+    (c.in_ok-rows.ensures.values.extended k c.requires.high).high in
     let count = counted _ _ k a (height out) c.extended_height-count.ensures.height (c.height.ensures.height ∙ c.requires.high) tall in
     let made_long : length c.in_ok-digests.digests.items ≡ c.extended_height-count.result = omega (arith, c.in_ok-digests.ensures.len, c.in_ok-digests.digests.ok.0) in
     all_hashed _ g.H.RowHash.worth (g.H.RowHash.of_row hash) (λ s. s.digests.items) (λ s. s.hash.now ≡ hash)
     (λ s start rows n right told.
     (told.1 ∙ right, subst (λ h. AreHashed g.H.RowHash.worth (λ r. g.H.RowHash.of_row h (row rows r)) start (height rows) s.digests.items n.digests.items) right told.2))
-    field.ZERO out c.height-whole.ensures.whole _ _ c.in-Ok.leaves (λ s made. (search of_calls, ap length (let is : s.digests.items ≡ c.in_ok-digests.digests.items = search of_calls in is) ∙ made_long ∙ count))
-    (c.in-Ok.ensures.published k c.requires.high)
+    field.ZERO out c.height-whole.ensures.whole _ _ c.in_ok-rows.leaves (λ s made. (search of_calls, ap length (let is : s.digests.items ≡ c.in_ok-digests.digests.items = search of_calls in is) ∙ made_long ∙ count))
+    (c.in_ok-rows.ensures.published k c.requires.high)
