@@ -4,11 +4,14 @@
 //! what their contracts speak of is brought in by `ghost use`.
 #![tactic(auto)]
 
+pub mod agreement;
 pub mod closures;
+pub mod extended;
 pub mod field_forms;
 pub mod inverses;
 pub mod jobs;
 pub mod known;
+pub mod linearity;
 pub mod low_degree;
 pub mod merkle_root;
 pub mod own_engine;

@@ -2,8 +2,8 @@
 //! over a named one.
 //!
 //! Proved: behind the tests the sizes are counted by a `usize`, a vector of so many entries makes a matrix
-//! that can be transformed, there is none only where the shape does not fit, and what is published is the extension.
-//! There is no proof file.
+//! that can be transformed, there is none only where the shape does not fit, what is published is the extension, and
+//! the height's logarithm has a generator. That alone has a proof file.
 
 ghost use Rattle.std.specs.Prelude.{◌≡◌, ◌*◌, ◌^◌, ◌<◌, ◌≤◌, IfOk, IfSome, IsNone, vec_capacity};
 ghost use Rattle.p3_matrix.specs.BitOrder.{reversed_rows};
@@ -121,4 +121,13 @@ pub fn extension_of_goldilocks_within<D: TwoAdicSubgroupDft<Goldilocks>>(
         Ok((out, _taken)) => Some(out),
         Err(_) => None,
     }
+}
+
+/// The generator of the subgroup whose order is the height of a matrix that can be transformed.
+pub fn generator_of<F: TwoAdicField>(mat: &RowMajorMatrix<F>, log_height: usize) -> F
+    requires fits { FitsDft F.TWO_ADICITY (height mat.now) mat.now.width }
+    requires height { height mat.now ≡ 2 ^ log_height }
+    ensures { F.value result ≡ F.value (F.generator log_height) }
+{
+    F::two_adic_generator(log_height)
 }

@@ -18,7 +18,6 @@ mod factors;
 mod fitting;
 mod groups;
 mod jobs;
-mod laws;
 mod naive;
 mod product;
 mod products;
@@ -127,6 +126,21 @@ fn combined<F: TwoAdicField>(
         entries.push(a * *p + b * *q).expect(rt, "memory");
     }
     matrix_of(rt, entries, x.width())
+}
+
+// Column j of a matrix, which has it.
+fn column_of<F: TwoAdicField>(
+    rt: &impl Abort,
+    mat: &RowMajorMatrix<F>,
+    j: usize,
+) -> RowMajorMatrix<F> {
+    let mut entries = Vec::new(*mat.allocator());
+    for i in 0..mat.height() {
+        let row = mat.row(i);
+        assert!(rt; j < row.len());
+        entries.push(row[j]).expect(rt, "memory");
+    }
+    matrix_of(rt, entries, 1)
 }
 
 // The matrix with zeros after its entries, up to so many.
@@ -593,6 +607,32 @@ fn transforms_keep_their_laws(rt: HostRuntime) {
     }
 }
 
+// Each column becomes what it becomes alone, in transforms, inverses and extensions.
+struct ColumnsAlone;
+
+impl<F: TwoAdicField> CallsTest<F> for ColumnsAlone {
+    fn run<R: Abort, C: Calls<F>>(&self, rt: &R, alloc: Global, engine: &mut C) {
+        let x = sample(rt, alloc, 8, 3, 1);
+        let values = engine.coset_dft(rt, &x, F::GENERATOR);
+        let coefficients = engine.idft(rt, &x);
+        let extended = engine.coset_lde(rt, &x, 1, F::GENERATOR);
+        for j in 0..3usize {
+            let alone = column_of(rt, &x, j);
+            let of_column = engine.coset_dft(rt, &alone, F::GENERATOR);
+            assert_same(rt, &of_column, &column_of(rt, &values, j));
+            let of_column = engine.idft(rt, &alone);
+            assert_same(rt, &of_column, &column_of(rt, &coefficients, j));
+            let of_column = engine.coset_lde(rt, &alone, 1, F::GENERATOR);
+            assert_same(rt, &of_column, &column_of(rt, &extended, j));
+        }
+    }
+}
+
+#[test]
+fn each_column_is_worked_alone(rt: HostRuntime) {
+    calls_of_every_engine::<BabyBear, _, _>(&rt, rt.alloc(), &ColumnsAlone);
+}
+
 // Two engines answer the same: inverses.
 fn same_inverses<F: TwoAdicField, C: Calls<F>, E: Calls<F>>(
     rt: &impl Abort,
@@ -695,11 +735,9 @@ fn same_as_sums_over<F: TwoAdicField>(rt: &impl Abort, alloc: Global) {
             calls_of_every_engine::<F, _, _>(rt, alloc, &AsSums { height, width });
         }
     }
-    let taller = AsSums {
-        height: 128,
-        width: 9,
-    };
-    calls_of_every_engine::<F, _, _>(rt, alloc, &taller);
+    for width in WIDTHS {
+        calls_of_every_engine::<F, _, _>(rt, alloc, &AsSums { height: 128, width });
+    }
 }
 
 #[test]

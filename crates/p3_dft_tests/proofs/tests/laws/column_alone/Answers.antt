@@ -1,8 +1,0 @@
-use Rattle.p3_dft.proofs.Laws.TwoCalls.{transform_of_column}
-use Rattle.p3_dft_tests.proofs.tests.laws.column_alone.Goals as goal
-
-pub returns : goal.returns
-returns g c =
-    transform_of_column g.F.Field g.F.TwoAdicField.generator g.met.F.TwoAdicField.roots_law c.args.mat c.args.column c.args.j (g.F.Field.value c.args.shift)
-    c.requires.fits c.requires.inside c.requires.column c.to_row_major_matrix-whole.result c.to_row_major_matrix-one.result
-    (rw c.to_row_major_matrix-whole.ensures c.in_ok-coset_dft_batch.ensures.values) (rw c.to_row_major_matrix-one.ensures c.in_ok-coset_dft_batch-2.ensures.values)

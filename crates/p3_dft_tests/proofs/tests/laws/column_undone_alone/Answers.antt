@@ -1,7 +1,0 @@
-use Rattle.p3_dft.proofs.Laws.TwoCalls.{inverse_of_column}
-use Rattle.p3_dft_tests.proofs.tests.laws.column_undone_alone.Goals as goal
-
-pub returns : goal.returns
-returns g c =
-    inverse_of_column g.F.Field g.F.TwoAdicField.generator g.met.F.TwoAdicField.roots_law c.args.mat c.args.column c.args.j (g.F.Field.value c.args.shift)
-    c.requires.fits c.requires.inside c.requires.column c.in_ok-whole.whole c.in_ok-one.one c.in_ok-whole.ensures.coefficients c.in_ok-one.ensures.coefficients

@@ -1,8 +1,0 @@
-use Rattle.std.proofs.Common.{sym}
-use Rattle.p3_dft.proofs.Laws.OneAnswer.{one_extension}
-use Rattle.p3_dft_tests.proofs.tests.laws.extensions_agree.Goals as goal
-
-pub returns : goal.returns
-returns g c =
-    one_extension g.F.Field g.F.TwoAdicField.generator g.F.TwoAdicField.TWO_ADICITY g.met.F.TwoAdicField.roots_law c.args.mat _ _ c.args.added_bits (g.F.Field.value c.args.shift)
-    c.requires (rw (sym c.in_ok-try_clone.ensures) c.in_ok-first.ensures.values) c.in_ok-second.ensures.values

@@ -1,8 +1,0 @@
-use Rattle.std.proofs.Common.{sym}
-use Rattle.p3_dft.proofs.Laws.TwoCalls.{one_list_of_answers}
-use Rattle.p3_dft_tests.proofs.tests.laws.jobs_agree.Goals as goal
-
-pub returns : goal.returns
-returns g c =
-    one_list_of_answers g.F.Field g.F.TwoAdicField.generator g.met.F.TwoAdicField.roots_law c.args.jobs.items _ _ c.requires.runnable c.in_ok-first.ensures.all
-    (rw (sym c.requires.again) c.in_ok-second.ensures.all)

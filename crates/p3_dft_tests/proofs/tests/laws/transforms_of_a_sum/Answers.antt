@@ -1,9 +1,0 @@
-use Rattle.p3_dft.proofs.Laws.TwoCalls.{transform_of_combination}
-use Rattle.p3_dft_tests.proofs.tests.laws.transforms_of_a_sum.Goals as goal
-
-pub returns : goal.returns
-returns g c =
-    transform_of_combination g.F.Field g.F.TwoAdicField.generator g.met.F.TwoAdicField.roots_law _ _ _ (g.F.Field.value c.args.a) (g.F.Field.value c.args.b) (g.F.Field.value c.args.shift)
-    c.requires.fits c.requires.shape.0 c.requires.shape.1 c.requires.sum c.to_row_major_matrix-first.result c.to_row_major_matrix-second.result c.to_row_major_matrix-third.result
-    (rw c.to_row_major_matrix-first.ensures c.in_ok-coset_dft_batch.ensures.values) (rw c.to_row_major_matrix-second.ensures c.in_ok-coset_dft_batch-2.ensures.values)
-    (rw c.to_row_major_matrix-third.ensures c.in_ok-coset_dft_batch-3.ensures.values)
