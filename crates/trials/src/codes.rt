@@ -4,16 +4,17 @@ ghost use Rattle.std.specs.Prelude.{◌≡◌, IfSome};
 ghost use Rattle.p3_matrix.specs.RowMajor.{height};
 ghost use Rattle.p3_dft.specs.Shapes.{FitsDft, FitsLde};
 
+use crate::engines::Tables;
 use crate::line::has_inverse;
 use crate::memory::{Memory, Plenty};
 use crate::names::CodeCall;
 use crate::shapes::{extensible, has_height, transformable};
-use crate::trial::{Outcome, Verdict, Work};
+use crate::trial::{Fault, Outcome, Verdict, Work, tables};
 use p3_dft::{ReedSolomon, RowMajorMatrix, TwoAdicField, TwoAdicSubgroupDft};
 use std::alloc::Global;
 
 /// A call of the code whose words have `2^log_h` coefficients, with little memory and again with enough.
-pub fn tried_by_code<F: TwoAdicField, D: TwoAdicSubgroupDft<F>, M: Memory>(
+pub fn tried_by_code<F: TwoAdicField, D: TwoAdicSubgroupDft<F> + Tables, M: Memory>(
     alloc: Global,
     memory: &mut M,
     engine: D,
@@ -29,9 +30,13 @@ pub fn tried_by_code<F: TwoAdicField, D: TwoAdicSubgroupDft<F>, M: Memory>(
     if !has_inverse(work.shift) {
         return Verdict::Absent;
     }
+    let before = tables(&engine);
     let mut code = ReedSolomon::new(engine, work.log_h, work.added_bits, work.shift);
     let first = coded(alloc, memory, &mut code, call, work);
     memory.relieve();
+    if tables(code.engine()) < before {
+        return Verdict::Wrong(Fault::TablesLost);
+    }
     match first {
         Outcome::Refused => Verdict::of(first, coded(alloc, &mut Plenty, &mut code, call, work)),
         _ => Verdict::of(first, first),

@@ -138,8 +138,8 @@ impl Verdict {
     }
 }
 
-// How many heights, from one on, have their tables: those below one that has them have theirs.
-fn tables<D: Tables>(engine: &D) -> usize {
+/// How many heights, from one on, have their tables: those below one that has them have theirs.
+pub fn tables<D: Tables>(engine: &D) -> usize {
     let mut count = 0usize;
     for log_h in 0..16usize {
         if engine.has_tables(log_h) {

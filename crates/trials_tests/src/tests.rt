@@ -224,6 +224,29 @@ fn always_takes_memory(call: Call) -> bool {
     }
 }
 
+// Whether an engine that has the tables of a height transforms there without memory: one has a table of each coset
+// besides.
+fn goes_by_tables(engine: EngineName, transform: Transform) -> bool {
+    match engine {
+        EngineName::Naive | EngineName::Bowers => false,
+        EngineName::Dit | EngineName::Small => true,
+        EngineName::Parallel => match transform {
+            Transform::Dft | Transform::Idft | Transform::CosetIdft => true,
+            Transform::CosetDft => false,
+        },
+    }
+}
+
+// Whether a trial's call is promised to answer, however little memory there is.
+fn is_promised(engine: EngineName, trial: Trial) -> bool {
+    match trial.call {
+        Call::Transform(transform, Form::Batch) | Call::Transform(transform, Form::Vector) => {
+            trial.prepared.is_some() && goes_by_tables(engine, transform)
+        }
+        _ => false,
+    }
+}
+
 // The trials of a call: of the worked rows and of more, on new engines and on such as have the tables.
 fn add_trials(rt: &impl Abort, trials: &mut Vec<Trial>, call: Call) {
     for (log_h, added_bits, shift) in [(1, 1, 2), (3, 2, 0), (4, 1, 3)] {
@@ -276,7 +299,7 @@ fn answer<F: TwoAdicField>(rt: &impl Abort, alloc: Global, trials: &[Trial]) {
     }
 }
 
-// Each trial with too little memory. Answers how often memory was refused.
+// Each trial with too little memory: promised calls answer with none. Answers how often memory was refused.
 fn are_refused<F: TwoAdicField>(
     rt: &impl Abort,
     alloc: Global,
@@ -297,6 +320,7 @@ fn are_refused<F: TwoAdicField>(
             assert_answered(rt, verdict);
             let free = verdict == Verdict::Absent || !always_takes_memory(trial.call);
             assert!(rt; times > 0 || free);
+            assert!(rt; times == 0 || !is_promised(engine, *trial));
             refused = refused.saturating_add(times);
         }
     }
@@ -347,11 +371,11 @@ fn sweep_all<F: TwoAdicField, R: Abort>(rt: &R, alloc: Global) {
     }
 }
 
-// An engine that is prepared for height 8, and to which height 32 is refused, transforms eight rows while
-// no memory is given.
+// An engine that was made for height 8, and to which height 32 is refused, transforms eight rows while no memory is
+// given.
 fn keep_tables<F: TwoAdicField>(rt: &impl Abort, alloc: Global, scarce: &mut Scarce) {
-    let mut engine = Radix2DFTSmallBatch::<F>::default();
-    assert!(rt; engine.make_tables(alloc, 3) == Some(Ok(())));
+    let made = Radix2DFTSmallBatch::<F>::made(alloc, 3, TableCall::New);
+    let mut engine = made.expect(rt, "a call").expect(rt, "memory");
     let line = Line::new(3);
     let coefficients = line.coefficients(alloc, 3).expect(rt, "memory");
     let mat = RowMajorMatrix::new_col(coefficients);

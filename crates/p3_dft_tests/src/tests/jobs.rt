@@ -1,5 +1,6 @@
 // Lists of jobs on every engine, and what stays where memory is refused within a list.
 
+ghost use Rattle.std.specs.Prelude.{◌≡◌};
 ghost use Rattle.std.specs.List.{All};
 ghost use Rattle.p3_dft.specs.Jobs.{CanRun};
 
@@ -33,6 +34,13 @@ fn job<F: CanonicalField>(rt: &impl Abort, alloc: Global, kind: usize) -> Job<F>
     }
 }
 
+// A copy of a job.
+fn copy_of<F: CanonicalField>(rt: &impl Abort, job: &Job<F>) -> Job<F>
+    ensures { result ≡ job.now }
+{
+    job.try_clone().expect(rt, "memory")
+}
+
 // The list with one more job.
 pub(crate) fn and_then<F: CanonicalField>(
     rt: &impl Abort,
@@ -47,13 +55,14 @@ pub(crate) fn and_then<F: CanonicalField>(
     jobs
 }
 
-// One of each kind, beginning with one of them.
+// A copy of one of each kind, beginning with one of them.
 fn list_from<F: CanonicalField>(rt: &impl Abort, alloc: Global, first: usize) -> Vec<Job<F>>
     ensures { All (CanRun F.Field.own F.TWO_ADICITY) result.items }
 {
     let mut jobs = Vec::new(alloc);
     for n in 0..KINDS {
-        jobs = and_then(rt, jobs, job(rt, alloc, first.wrapping_add(n)));
+        let job = job(rt, alloc, first.wrapping_add(n));
+        jobs = and_then(rt, jobs, copy_of(rt, &job));
     }
     jobs
 }

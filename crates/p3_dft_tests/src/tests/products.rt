@@ -41,7 +41,7 @@ struct Bounds {
     inverse: usize,
     coset_inverse: usize,
     extension: usize,
-    // Of `coset_lde_batch`.
+    // Of `lde_batch` and `coset_lde_batch`.
     coset_extension: usize,
     // Of an extension whose first block is refused.
     refused: usize,
@@ -60,7 +60,7 @@ enum Method {
     ShortShifts,
     // Extensions by an inverse and transforms on cosets, whose shifts stand in the twiddles.
     Cosets,
-    // `coset_lde_batch` without rows of zeros.
+    // `lde_batch` and `coset_lde_batch` without rows of zeros.
     WithoutZeros,
 }
 
@@ -274,7 +274,7 @@ fn over_matrices<F: TwoAdicField, C: Calls<F>>(
     let _ = engine.coset_idft(rt, test.mat, F::GENERATOR);
     test.at_most(rt, "coset_idft_batch", bounds.coset_inverse);
     let _ = engine.lde(rt, test.mat, test.added_bits);
-    test.at_most(rt, "lde_batch", bounds.extension);
+    test.at_most(rt, "lde_batch", bounds.coset_extension);
     let _ = engine.coset_lde(rt, test.mat, test.added_bits, F::GENERATOR);
     test.at_most(rt, "coset_lde_batch", bounds.coset_extension);
 }
@@ -690,7 +690,7 @@ fn products_stay_within_bounds_by_one_lane(rt: HostRuntime) {
 }
 
 #[test]
-fn products_stay_within_bounds_by_four_lanes(rt: HostRuntime) {
+fn products_stay_within_bounds_by_four_lanes_one_by_one(rt: HostRuntime) {
     let count = Cell::new(0);
     let mark = InPacks::of(&count);
     counts::<

@@ -19,9 +19,12 @@ pub(crate) trait Meter: Copy {
     fn count(self);
 }
 
-// How many elements of a field whose products a meter counts go in a pack.
+// How many elements of a field whose products a meter counts go in a pack, and whether its lanes go one after
+// another.
 pub(crate) trait Packs<T: Field>: Meter {
     type Packing: PackedField<Scalar = T>;
+
+    const ONE_BY_ONE: bool;
 
     ghost some: { 1 ≤ Self.Packing.WIDTH };
 }
@@ -49,13 +52,18 @@ impl<'a, T: Field> Packs<T> for InPacks<'a, 1> {
 
     type Packing = Lanes<T, 1>;
 
+    const ONE_BY_ONE: bool = false;
+
     ghost some = { lit≤ tt };
 }
 
+// As Goldilocks.
 impl<'a, T: Field> Packs<T> for InPacks<'a, 4> {
     ghost use Rattle.std.proofs.Common.{lit≤};
 
     type Packing = Lanes<T, 4>;
+
+    const ONE_BY_ONE: bool = true;
 
     ghost some = { lit≤ tt };
 }
@@ -64,6 +72,8 @@ impl<'a, T: Field> Packs<T> for InPacks<'a, 8> {
     ghost use Rattle.std.proofs.Common.{lit≤};
 
     type Packing = Lanes<T, 8>;
+
+    const ONE_BY_ONE: bool = false;
 
     ghost some = { lit≤ tt };
 }
@@ -423,6 +433,8 @@ impl<F: Packable, M: Packs<Tally<F, M>>> Packable for Tally<F, M> {
     ghost use Rattle.std.proofs.Common.{refl};
 
     type Packing = M::Packing;
+
+    const ONE_BY_ONE: bool = M::ONE_BY_ONE;
 
     ghost lane_law = { λ _. refl };
 

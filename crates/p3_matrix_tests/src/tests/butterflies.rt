@@ -6,7 +6,7 @@ use super::{is, row};
 use p3_field::{
     BabyBear, CanonicalField, Field, Goldilocks, Lanes, Packable, PackedField, Products,
 };
-use p3_matrix::packs::{apply_to_packs, full_packs};
+use p3_matrix::packs::{apply_to_elements, apply_to_packs, full_packs};
 use p3_matrix::{
     Butterfly, DifButterfly, DifButterflyZeros, DitButterfly, RowMajorMatrix, ScaledDitButterfly,
     TwiddleFreeButterfly, apply_dit_by_place,
@@ -205,6 +205,24 @@ fn by_packs<F: CanonicalField + Packable, P: PackedField<Scalar = F>, B: Butterf
     (row_1, row_2)
 }
 
+// Two rows element by element.
+fn by_elements<F: CanonicalField + Packable, B: Butterfly<F>>(
+    rt: &impl Abort,
+    alloc: Global,
+    b: B,
+    step_2: usize,
+    size: usize,
+) -> (Vec<F>, Vec<F>) {
+    let (mut row_1, mut row_2) = rows_of(rt, alloc, size, step_2);
+    apply_to_elements(
+        &b,
+        row_1.as_mut_slice(),
+        row_2.as_mut_slice(),
+        &mut Products::new(),
+    );
+    (row_1, row_2)
+}
+
 // Rows of packs of this width, by packs and by single elements.
 fn packs_like_elements<F: CanonicalField + Packable, P: PackedField<Scalar = F>, B: Butterfly<F>>(
     rt: &impl Abort,
@@ -217,7 +235,7 @@ fn packs_like_elements<F: CanonicalField + Packable, P: PackedField<Scalar = F>,
 {
     let full = full_packs(size, P::WIDTH);
     let (row_1, row_2) = by_packs::<F, P, B>(rt, alloc, b, step_2, full);
-    let (one_1, one_2) = by_packs::<F, F, B>(rt, alloc, b, step_2, full);
+    let (one_1, one_2) = by_elements(rt, alloc, b, step_2, full);
     same_rows(rt, &row_1, &one_1);
     same_rows(rt, &row_2, &one_2);
 }
@@ -247,6 +265,7 @@ fn rows_of_butterflies<F: CanonicalField + Packable>(rt: &impl Abort, alloc: Glo
 #[test]
 fn applies_to_rows(rt: HostRuntime) {
     rows_of_butterflies::<BabyBear>(&rt, rt.alloc());
+    rows_of_butterflies::<Goldilocks>(&rt, rt.alloc());
 }
 
 // Rows of full packs, by packs and by single elements.
@@ -279,13 +298,14 @@ fn packs_of<F: CanonicalField + Packable, P: PackedField<Scalar = F>>(
     packs_agree::<F, P, TwiddleFreeButterfly>(rt, alloc, TwiddleFreeButterfly, 1000003);
 }
 
+// Over a field whose packs go all at once: over `Goldilocks`, whose lanes go one after another, no pack is loaded.
 #[test]
 fn packs_of_each_width_agree(rt: HostRuntime) {
     let alloc = rt.alloc();
-    packs_of::<Goldilocks, Lanes<Goldilocks, 1>>(&rt, alloc);
-    packs_of::<Goldilocks, Lanes<Goldilocks, 3>>(&rt, alloc);
-    packs_of::<Goldilocks, Lanes<Goldilocks, 4>>(&rt, alloc);
-    packs_of::<Goldilocks, Lanes<Goldilocks, 8>>(&rt, alloc);
+    packs_of::<BabyBear, Lanes<BabyBear, 1>>(&rt, alloc);
+    packs_of::<BabyBear, Lanes<BabyBear, 3>>(&rt, alloc);
+    packs_of::<BabyBear, Lanes<BabyBear, 4>>(&rt, alloc);
+    packs_of::<BabyBear, Lanes<BabyBear, 8>>(&rt, alloc);
 }
 
 // Stops the test where decimation in time makes another pair of an element of each row.
