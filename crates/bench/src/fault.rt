@@ -13,6 +13,7 @@ pub enum Fault {
     OutOfMemory,
     NoClock,
     NotWritten,
+    AnswersDiffer,
 }
 
 impl Fault {
@@ -27,16 +28,18 @@ impl Fault {
             Fault::OutOfMemory => "error 6: out of memory",
             Fault::NoClock => "error 7: the clock cannot be read",
             Fault::NotWritten => "error 8: the output cannot be written",
+            Fault::AnswersDiffer => "error 9: an engine's answers differ",
         }
     }
 
     /// The exit status that tells it, as of the program `dft`: 2 for words, 3 for want of memory, 4 for the
-    /// output, and 5 for the clock.
+    /// output; 5 for the clock, and 6 for answers that differ.
     pub fn status(self) -> u8 {
         match self {
             Fault::OutOfMemory => 3,
             Fault::NotWritten => 4,
             Fault::NoClock => 5,
+            Fault::AnswersDiffer => 6,
             _ => 2,
         }
     }

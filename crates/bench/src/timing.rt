@@ -88,7 +88,21 @@ fn once<F: CanonicalField, D: TwoAdicSubgroupDft<F>>(
     Ok((u64::try_from(spent.as_nanos()).unwrap_or(u64::MAX), sum))
 }
 
-/// Makes the calls of a case by a new engine.
+// The time of a call that answers what the first did.
+fn again<F: CanonicalField, D: TwoAdicSubgroupDft<F>>(
+    rt: &(impl AllocGlobal + Clock),
+    engine: &mut D,
+    case: Case,
+    sum: u64,
+) -> Result<u64, Fault> {
+    let (time, found) = once::<F, D>(rt, engine, case)?;
+    if found != sum {
+        return Err(Fault::AnswersDiffer);
+    }
+    Ok(time)
+}
+
+/// Makes the calls of a case by a new engine, each with the answer of the first.
 pub fn report_of<F: CanonicalField, D: TwoAdicSubgroupDft<F>>(
     rt: &(impl AllocGlobal + Clock),
     case: Case,
@@ -98,11 +112,10 @@ pub fn report_of<F: CanonicalField, D: TwoAdicSubgroupDft<F>>(
     let times = match case.calls {
         Calls::Untimed => None,
         Calls::Timed(more) => {
-            let (next, _sum) = once::<F, D>(rt, &mut engine, case)?;
+            let next = again::<F, D>(rt, &mut engine, case, sum)?;
             let mut least = next;
             for _n in 0..more {
-                let (time, _sum) = once::<F, D>(rt, &mut engine, case)?;
-                least = least.min(time);
+                least = least.min(again::<F, D>(rt, &mut engine, case, sum)?);
             }
             Some(Times { first, next, least })
         }
