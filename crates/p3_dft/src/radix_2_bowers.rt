@@ -27,8 +27,9 @@ use std::marker::Model;
 /// extension, which goes by G transposed and then by G, reverses no rows: coefficients lie in bit
 /// reversed order in it, which is the layout that a transform is told.
 ///
-/// In every layer all pairs of a block have one twiddle, and blocks take the twiddles one after another.
-/// These are made in every call. The engine keeps nothing between calls but its counter, which is what
+/// In every layer all pairs of a block have one twiddle, and blocks take the twiddles one after another (Bowers,
+/// Lippert, Dror and Shaw, "Improved Twiddle Access for Fast Fourier Transforms", 2010). These are made in every call.
+/// The engine keeps nothing between calls but its counter, which is what
 /// contracts see of it. It takes no memory for a transform of height one.
 #[derive(Drop)]
 pub struct Radix2Bowers {

@@ -16,7 +16,8 @@ use p3_field::TwoAdicField;
 use p3_matrix::{DftError, Evaluations, IntoRowMajorMatrix, RowMajorMatrix, has_degree_below};
 use std::marker::Model;
 
-/// A Reed-Solomon code, and the engine that makes and tests its words.
+/// A Reed-Solomon code ("Polynomial Codes over Certain Finite Fields", 1960), and the engine that makes and tests its
+/// words.
 ///
 /// A codeword has `2^(log_message + added_bits)` rows. Each column has the values of one polynomial with
 /// `2^log_message` coefficients on the coset `shift * K`, where K is the subgroup with as many points as

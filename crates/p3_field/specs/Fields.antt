@@ -1,11 +1,11 @@
--- The fields of this crate by their numbers: a modulus, a number with an inverse, and a root of one of two-power order.
+-- The fields of this crate by their numbers: a modulus, a number with an inverse, and a root of unity of two-power order.
 use Rattle.std.proofs.Common.{◌≡◌, ℕ, ◌-◌, ◌%◌, ◌<◌, ◌≤◌, refl, ap, ◌∙◌, arith, lit<, lit≤}
 use Rattle.p3_field.specs.Residues.{Residue, residue-eq, residues}
 use Rattle.p3_field.specs.Ring.{Ring, IsInvertible, AreRoots}
 use Rattle.p3_field.specs.Squarings.{repeated_square}
 use Rattle.p3_field.specs.FieldLaws.{roots_law}
 
--- what makes a field: the residues of an odd modulus, one with an inverse, and a root of one of order 2 ^ two_adicity
+-- what makes a field: the residues of an odd modulus, one with an inverse, and a root of unity of order 2 ^ two_adicity
 pub record FieldNumbers : Type 0 where
   pub modulus : ℕ
   pub above : 1 < modulus

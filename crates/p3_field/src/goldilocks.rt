@@ -245,7 +245,7 @@ fn reduce(x: u128) -> u64
     add_and_reduce(subtract(low, top), middle * EPSILON)
 }
 
-// The difference by the modulus. It is below zero for about one product in 2^32.
+// The difference by the modulus. It is below zero for fewer than one product in 2^32.
 #[inline(always)]
 fn subtract(low: u64, top: u64) -> u64
     requires { top < 4294967296 }

@@ -1,4 +1,4 @@
-//! Residues of an odd modulus below `2^31`, once for every such modulus.
+//! Residues of an odd modulus below `2^31` and above `2^30` plus the remainder of `2^62` by it, once for all.
 
 ghost use Rattle.std.specs.Prelude.{◌≡◌, ◌<◌, ◌≤◌, ◌%◌, ◌-◌, ℕ, ◌+◌};
 
@@ -15,7 +15,7 @@ use std::marker::PhantomData;
 use std::ops::{Add, AddAssign, Mul, MulAssign, Neg, Sub, SubAssign};
 
 /// The numbers that make a field: an odd modulus below `2^31` and above the sum of `2^30` and the
-/// remainder of `2^62` by it, a number with an inverse, and a root of one whose order is a power of
+/// remainder of `2^62` by it, a number with an inverse, and a root of unity whose order is a power of
 /// two. A type of this trait has no values of interest: it stands for its constants.
 pub trait Numbers: Copy {
     ghost use Rattle.p3_field.specs.Fields.{FieldNumbers};
@@ -33,7 +33,7 @@ pub trait Numbers: Copy {
 
     ghost GENERATOR: { ℕ };
 
-    /// A root of one of order `2^TWO_ADICITY`.
+    /// A root of unity of order `2^TWO_ADICITY`.
     const ROOT: u32;
 
     ghost ROOT: { ℕ };

@@ -1,4 +1,4 @@
-//! Eight elements of a field below `2^31` in the lanes of one vector.
+//! Eight elements of a field whose modulus is below `2^31`, in the lanes of one vector.
 
 ghost use Rattle.std.specs.Prelude.{◌≡◌, ◌+◌, ◌-◌, ◌*◌, ◌%◌, ◌<◌, ℕ, length, map, get_or};
 ghost use Rattle.std.specs.Simd.Lanes.{zip2};
@@ -11,7 +11,7 @@ use std::alloc::AllocError;
 use std::marker::PhantomData;
 use std::simd::prelude::*;
 
-/// Eight elements of a field below `2^31`, by their numbers.
+/// Eight elements of a field whose modulus is below `2^31`, by their numbers.
 #[derive_where(Copy;)]
 pub struct Residue31X8<N: Numbers> {
     lanes: u32x8,

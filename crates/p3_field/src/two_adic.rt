@@ -5,7 +5,7 @@ ghost use Rattle.p3_field.specs.Ring.{AreRoots, count};
 
 use crate::packed::Packable;
 
-/// A field with a chain of roots of one, each the square of the next.
+/// A field with a chain of roots of unity, each the square of the next.
 pub trait TwoAdicField: Packable {
     /// The most bits that a generator here has: the logarithm of the order of the largest subgroup that
     /// `two_adic_generator` gives. That the field has no larger one is not claimed.

@@ -103,7 +103,7 @@ pub trait Butterfly<F: Packable>: Copy {
     }
 }
 
-/// Decimation in time: `(x_1 + x_2 * t, x_1 - x_2 * t)` for the twiddle t, with one product.
+/// Decimation in time (Cooley and Tukey): `(x_1 + x_2 * t, x_1 - x_2 * t)` for the twiddle t, with one product.
 #[derive(Clone, Copy)]
 pub struct DitButterfly<F>(pub F);
 
@@ -123,7 +123,7 @@ impl<F: Packable> Butterfly<F> for DitButterfly<F> {
     }
 }
 
-/// Decimation in frequency: `(x_1 + x_2, (x_1 - x_2) * t)` for the twiddle t, with one product.
+/// Decimation in frequency (Gentleman and Sande): `(x_1 + x_2, (x_1 - x_2) * t)` for the twiddle t, with one product.
 #[derive(Clone, Copy)]
 pub struct DifButterfly<F>(pub F);
 

@@ -41,8 +41,8 @@ pub(crate) fn apply_by_packs<F: Packable, B: Butterfly<F>>(
     apply_to_elements(butterfly, rest_1, rest_2, products);
 }
 
-// `apply_by_packs` as a function of its own: where packs are loaded at once, one call for two rows is faster than its
-// loops in every layer.
+// `apply_by_packs` as a function of its own, unless the compiler inlines it: where packs are loaded at once, one call
+// for two rows is faster than its loops in every layer.
 pub(crate) fn apply_by_packs_apart<F: Packable, B: Butterfly<F>>(
     butterfly: &B,
     row_1: &mut [F],

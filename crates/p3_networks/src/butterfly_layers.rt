@@ -30,7 +30,7 @@ pub trait Rule<F: TwoAdicField>: Copy {
     // Whether every pair of a block has one butterfly.
     ghost by_block: { Bool };
 
-    /// Whether it has: the halves of a block then meet as two long rows.
+    /// Whether every pair of a block has one butterfly: the halves of a block then meet as two long rows.
     fn goes_by_block(self) -> bool
         ensures told { result ≡ by_block }
         ensures same { let value = F.value in IsTrue result → (b s t : ℕ)

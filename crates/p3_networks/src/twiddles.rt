@@ -84,7 +84,7 @@ impl<F: TwoAdicField> Twiddles<F> {
     }
 }
 
-/// What is held, which is nothing before it was made.
+/// The entries of a table, of which there are none before it was made.
 pub(crate) fn held<T>(items: &Option<Vec<T>>) -> &[T]
     ensures { result.now ≡ items_if_any items.now }
 {

@@ -36,7 +36,7 @@ const SHORT_BLOCKS: usize = SHORT_ROWS / 2;
 pub(crate) trait NetworkRule<F: TwoAdicField>: Rule<F> {
     ghost order: { Order };
 
-    /// Which of its layers come first.
+    /// Whether the layers of small blocks come first, or those of large ones.
     fn order(self) -> Order
         ensures { result ≡ order };
 
