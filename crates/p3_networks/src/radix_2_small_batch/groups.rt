@@ -137,51 +137,19 @@ pub(crate) fn layers_in_groups<F: TwoAdicField, R: Rule<F>>(
         let group = order.group(count, done);
         let from = group_end(log_rows, log_h, group + 1);
         let to = group_end(log_rows, log_h, group);
-        group_on_chunks(rule, order, values, width, from, to, log_h, piece, products);
+        let layers = GroupLayers {
+            rule,
+            order,
+            width,
+            from,
+            to,
+            piece,
+        };
+        group_on_chunks(layers, values, log_h, products);
     }
 }
 
-// One group, block after block of its largest layer.
-fn group_on_chunks<F: TwoAdicField, R: Rule<F>>(
-    rule: R,
-    order: Order,
-    values: &mut [F],
-    width: usize,
-    from: usize,
-    to: usize,
-    log_h: usize,
-    piece: usize,
-    products: &mut Products,
-)
-    requires wide { 1 ≤ width }
-    requires order { from ≤ to }
-    requires below { to ≤ log_h }
-    requires small { log_h < 64 }
-    requires piece { 1 ≤ piece }
-    requires size { length values.old ≡ 2 ^ log_h * width }
-    requires there { (b : ℕ) → 2 * b < 2 ^ log_h → R.has rule b 0 }
-    ensures cells { (cells : ℕ → ℕ → F.Element)
-        → AreLayersInOrder order log_h width (λ b. R.near F.Element F.ring F.value rule b 0)
-        (λ b. R.far F.Element F.ring F.value rule b 0) cells
-        → HoldsCells F.value F.ZERO 0 (cells (cells_of order from to 0)) values.old
-        → HoldsCells F.value F.ZERO 0 (cells (cells_of order from to (to - from))) values.new }
-    ensures grows { products.old ≤ products.new }
-    ensures cost { 2 * products.new ≤ 2 * products.old + R.cost * ((to - from) * length values.old) }
-{
-    let chunks = 1usize << (log_h - to);
-    let size = values.len() / chunks;
-    let layers = GroupLayers {
-        rule,
-        order,
-        width,
-        from,
-        to,
-        piece,
-    };
-    on_each_chunk(layers, values, size, chunks, products);
-}
-
-// The layers of a group.
+// The layers of a group, on a block of its largest one, piece after piece.
 #[derive(Drop)]
 struct GroupLayers<R> {
     rule: R,
@@ -190,6 +158,35 @@ struct GroupLayers<R> {
     from: usize,
     to: usize,
     piece: usize,
+}
+
+// They on one block after another.
+fn group_on_chunks<F: TwoAdicField, R: Rule<F>>(
+    layers: GroupLayers<R>,
+    values: &mut [F],
+    log_h: usize,
+    products: &mut Products,
+)
+    requires wide { 1 ≤ layers.width }
+    requires order { layers.from ≤ layers.to }
+    requires below { layers.to ≤ log_h }
+    requires small { log_h < 64 }
+    requires piece { 1 ≤ layers.piece }
+    requires size { length values.old ≡ 2 ^ log_h * layers.width }
+    requires there { (b : ℕ) → 2 * b < 2 ^ log_h → R.has layers.rule b 0 }
+    ensures cells { let it = layers in
+        (cells : ℕ → ℕ → F.Element)
+        → AreLayersInOrder it.order log_h it.width (λ b. R.near F.Element F.ring F.value it.rule b 0)
+        (λ b. R.far F.Element F.ring F.value it.rule b 0) cells
+        → HoldsCells F.value F.ZERO 0 (cells (cells_of it.order it.from it.to 0)) values.old
+        → HoldsCells F.value F.ZERO 0 (cells (cells_of it.order it.from it.to (it.to - it.from))) values.new }
+    ensures grows { products.old ≤ products.new }
+    ensures cost { 2 * products.new
+        ≤ 2 * products.old + R.cost * ((layers.to - layers.from) * length values.old) }
+{
+    let chunks = 1usize << (log_h - layers.to);
+    let size = values.len() / chunks;
+    on_each_chunk(layers, values, size, chunks, products);
 }
 
 impl<F: TwoAdicField, R: Rule<F>> ChunkWork<F> for GroupLayers<R> {
@@ -205,141 +202,70 @@ impl<F: TwoAdicField, R: Rule<F>> ChunkWork<F> for GroupLayers<R> {
 
     #[inline(always)]
     fn on_chunk(&self, number: usize, chunk: &mut [F], products: &mut Products) {
-        group_on_chunk(
-            self.rule, self.order, chunk, self.width, self.from, self.to, number, self.piece,
-            products,
-        );
+        let part = (1usize << self.from) * self.width;
+        let pieces = (part - 1) / self.piece + 1;
+        for p in 0..pieces {
+            let at = p * self.piece;
+            let end = at + self.piece.min(part - at);
+            self.on_piece(number, chunk, at, end, products);
+        }
     }
 }
 
-// The layers of a group on one of these blocks, chunk `number` of `2^to` rows, piece after piece.
-fn group_on_chunk<F: TwoAdicField, R: Rule<F>>(
-    rule: R,
-    order: Order,
-    values: &mut [F],
-    width: usize,
-    from: usize,
-    to: usize,
-    number: usize,
-    piece: usize,
-    products: &mut Products,
-)
-    requires wide { 1 ≤ width }
-    requires order { from ≤ to }
-    requires small { (number + 1) * 2 ^ to < 2 ^ 64 }
-    requires piece { 1 ≤ piece }
-    requires size { length values.old ≡ 2 ^ to * width }
-    requires there { (b : ℕ) → 2 * b < (number + 1) * 2 ^ to → R.has rule b 0 }
-    ensures cells { TakesCells F.value F.value F.ZERO order width to number
-        (λ b. R.near F.Element F.ring F.value rule b 0) (λ b. R.far F.Element F.ring F.value rule b 0)
-        (cells_of order from to 0) (cells_of order from to (to - from)) values.old values.new }
-    ensures grows { products.old ≤ products.new }
-    ensures cost { 2 * products.new ≤ 2 * products.old + R.cost * ((to - from) * length values.old) }
-{
-    let part = (1usize << from) * width;
-    let pieces = (part - 1) / piece + 1;
-    for p in 0..pieces {
-        let at = p * piece;
-        let end = at + piece.min(part - at);
-        group_on_piece(
-            rule, order, values, width, from, to, number, at, end, products,
-        );
-    }
-}
-
-// The layers of a group on one piece: each of its parts, of `2^from` rows, goes by itself from cell `at` up to `end`.
-fn group_on_piece<F: TwoAdicField, R: Rule<F>>(
-    rule: R,
-    order: Order,
-    values: &mut [F],
-    width: usize,
-    from: usize,
-    to: usize,
-    number: usize,
-    at: usize,
-    end: usize,
-    products: &mut Products,
-)
-    requires wide { 1 ≤ width }
-    requires order { from ≤ to }
-    requires small { (number + 1) * 2 ^ to < 2 ^ 64 }
-    requires size { length values.old ≡ 2 ^ to * width }
-    requires some { at ≤ end }
-    requires inside { end ≤ 2 ^ from * width }
-    requires there { (b : ℕ) → 2 * b < (number + 1) * 2 ^ to → R.has rule b 0 }
-    ensures cells { (k : ℕ) (cells : ℕ → ℕ → F.Element)
-        → AreLayersInOrder order k width (λ b. R.near F.Element F.ring F.value rule b 0)
-        (λ b. R.far F.Element F.ring F.value rule b 0) cells
-        → (number + 1) * 2 ^ to ≤ 2 ^ k
-        → HoldsColumns F.value F.ZERO (2 ^ from * width) (2 ^ (to - from)) (number * length values.old) at end
-        (cells (cells_of order from to 0)) values.old
-        → TakesColumns F.value F.ZERO (2 ^ from * width) (2 ^ (to - from)) (number * length values.old) at end
-        (cells (cells_of order from to (to - from))) values.old values.new }
-    ensures grows { products.old ≤ products.new }
-    ensures cost { 2 * products.new ≤ 2 * products.old + R.cost * ((to - from) * (2 ^ (to - from) * (end - at))) }
-{
-    let part = (1usize << from) * width;
-    for done in 0..to - from {
-        let log_half = order.layer(from, to, done);
-        let half = 1usize << (log_half - from);
-        let blocks = 1usize << (to - 1 - log_half);
-        layer_of_columns(
-            rule,
-            values,
-            part,
-            half,
-            number * blocks,
-            blocks,
-            at,
-            end,
-            products,
-        );
+impl<R> GroupLayers<R> {
+    // One piece: each part of the chunk, of `2^from` rows, goes by itself from cell `at` up to `end`.
+    fn on_piece<F: TwoAdicField>(
+        &self,
+        number: usize,
+        chunk: &mut [F],
+        at: usize,
+        end: usize,
+        products: &mut Products,
+    )
+    where
+        R: Rule<F>,
+        requires order { self.now.from ≤ self.now.to }
+        requires small { (number + 1) * 2 ^ self.now.to < 2 ^ 64 }
+        requires size { length chunk.old ≡ 2 ^ self.now.to * self.now.width }
+        requires some { at ≤ end }
+        requires inside { end ≤ 2 ^ self.now.from * self.now.width }
+        requires there { (b : ℕ) → 2 * b < (number + 1) * 2 ^ self.now.to → R.has self.now.rule b 0 }
+        ensures cells { let it = self.now in
+            let part = 2 ^ it.from * it.width in
+            let rows = 2 ^ (it.to - it.from) in
+            (k : ℕ) (cells : ℕ → ℕ → F.Element)
+            → AreLayersInOrder it.order k it.width (λ b. R.near F.Element F.ring F.value it.rule b 0)
+            (λ b. R.far F.Element F.ring F.value it.rule b 0) cells
+            → (number + 1) * 2 ^ it.to ≤ 2 ^ k
+            → HoldsColumns F.value F.ZERO part rows (number * length chunk.old) at end
+            (cells (cells_of it.order it.from it.to 0)) chunk.old
+            → TakesColumns F.value F.ZERO part rows (number * length chunk.old) at end
+            (cells (cells_of it.order it.from it.to (it.to - it.from))) chunk.old chunk.new }
+        ensures grows { products.old ≤ products.new }
+        ensures cost { let it = self.now in 2 * products.new
+            ≤ 2 * products.old + R.cost * ((it.to - it.from) * (2 ^ (it.to - it.from) * (end - at))) }
+    {
+        let part = (1usize << self.from) * self.width;
+        for done in 0..self.to - self.from {
+            let log_half = self.order.layer(self.from, self.to, done);
+            let half = 1usize << (log_half - self.from);
+            let blocks = 1usize << (self.to - 1 - log_half);
+            let first_block = number * blocks;
+            let meet = Columns {
+                rule: self.rule,
+                part,
+                half,
+                first_block,
+                at,
+                end,
+            };
+            layer_of_columns(meet, chunk, blocks, products);
+        }
     }
 }
 
 // One layer, on columns: of rows of `part` cells, `half` of which are half a block, those from cell `at` up
-// to `end` meet. The blocks count from `first_block` on.
-fn layer_of_columns<F: TwoAdicField, R: Rule<F>>(
-    rule: R,
-    values: &mut [F],
-    part: usize,
-    half: usize,
-    first_block: usize,
-    blocks: usize,
-    at: usize,
-    end: usize,
-    products: &mut Products,
-)
-    requires some { at ≤ end }
-    requires inside { end ≤ part }
-    requires blocks { 1 ≤ blocks }
-    requires numbers { first_block + blocks < 2 ^ 64 }
-    requires size { length values.old ≡ blocks * (2 * (half * part)) }
-    requires there { (b : ℕ) → b < blocks → R.has rule (first_block + b) 0 }
-    ensures cells { (all : ℕ) (before after : ℕ → F.Element)
-        → IsLayer all (half * part) (λ b i. R.near F.Element F.ring F.value rule b 0)
-        (λ b i. R.far F.Element F.ring F.value rule b 0) before after
-        → first_block + blocks ≤ all
-        → HoldsColumns F.value F.ZERO part (blocks * (2 * half)) (first_block * (2 * (half * part))) at end before
-        values.old
-        → TakesColumns F.value F.ZERO part (blocks * (2 * half)) (first_block * (2 * (half * part))) at end after
-        values.old values.new }
-    ensures grows { products.old ≤ products.new }
-    ensures cost { products.new ≤ products.old + R.cost * (blocks * (half * (end - at))) }
-{
-    let size = 2 * (half * part);
-    let meet = Columns {
-        rule,
-        part,
-        half,
-        first_block,
-        at,
-        end,
-    };
-    on_each_chunk(meet, values, size, blocks, products);
-}
-
-// Its blocks, from number `first_block` on.
+// to `end` meet. Blocks count from `first_block` on.
 #[derive(Drop)]
 struct Columns<R> {
     rule: R,
@@ -348,6 +274,34 @@ struct Columns<R> {
     first_block: usize,
     at: usize,
     end: usize,
+}
+
+// The layer on so many blocks.
+fn layer_of_columns<F: TwoAdicField, R: Rule<F>>(
+    meet: Columns<R>,
+    values: &mut [F],
+    blocks: usize,
+    products: &mut Products,
+)
+    requires some { meet.at ≤ meet.end }
+    requires inside { meet.end ≤ meet.part }
+    requires blocks { 1 ≤ blocks }
+    requires numbers { meet.first_block + blocks < 2 ^ 64 }
+    requires size { length values.old ≡ blocks * (2 * (meet.half * meet.part)) }
+    requires there { (b : ℕ) → b < blocks → R.has meet.rule (meet.first_block + b) 0 }
+    ensures cells { let first = meet.first_block * (2 * (meet.half * meet.part)) in
+        (all : ℕ) (before after : ℕ → F.Element)
+        → IsLayer all (meet.half * meet.part) (λ b i. R.near F.Element F.ring F.value meet.rule b 0)
+        (λ b i. R.far F.Element F.ring F.value meet.rule b 0) before after
+        → meet.first_block + blocks ≤ all
+        → HoldsColumns F.value F.ZERO meet.part (blocks * (2 * meet.half)) first meet.at meet.end before values.old
+        → TakesColumns F.value F.ZERO meet.part (blocks * (2 * meet.half)) first meet.at meet.end after
+        values.old values.new }
+    ensures grows { products.old ≤ products.new }
+    ensures cost { products.new ≤ products.old + R.cost * (blocks * (meet.half * (meet.end - meet.at))) }
+{
+    let size = 2 * (meet.half * meet.part);
+    on_each_chunk(meet, values, size, blocks, products);
 }
 
 impl<F: TwoAdicField, R: Rule<F>> ChunkWork<F> for Columns<R> {
@@ -362,74 +316,53 @@ impl<F: TwoAdicField, R: Rule<F>> ChunkWork<F> for Columns<R> {
 
     #[inline(always)]
     fn on_chunk(&self, number: usize, chunk: &mut [F], products: &mut Products) {
-        columns_of_block(
-            self.rule,
-            chunk,
-            self.part,
-            self.half,
-            self.first_block + number,
-            self.at,
-            self.end,
-            products,
-        );
+        let (low, high) = chunk.split_at_mut(self.half * self.part);
+        self.on_halves(self.first_block + number, low, high, products);
     }
 }
 
-// A layer of some columns on one block.
-fn columns_of_block<F: TwoAdicField, R: Rule<F>>(
-    rule: R,
-    values: &mut [F],
-    part: usize,
-    half: usize,
-    block: usize,
-    at: usize,
-    end: usize,
-    products: &mut Products,
-)
-    requires some { at ≤ end }
-    requires inside { end ≤ part }
-    requires size { length values.old ≡ 2 * (half * part) }
-    requires there { R.has rule block 0 }
-    ensures columns { MeetInColumns F.value F.ZERO part half at end (R.near F.Element F.ring F.value rule block 0)
-        (R.far F.Element F.ring F.value rule block 0) values.old values.new }
-    ensures grows { products.old ≤ products.new }
-    ensures cost { products.new ≤ products.old + R.cost * (half * (end - at)) }
-{
-    let (low, high) = values.split_at_mut(half * part);
-    columns_of_halves(rule, low, high, part, half, block, at, end, products);
-}
-
-// The rows of its two halves, pair by pair.
-fn columns_of_halves<F: TwoAdicField, R: Rule<F>>(
-    rule: R,
-    low: &mut [F],
-    high: &mut [F],
-    part: usize,
-    half: usize,
-    block: usize,
-    at: usize,
-    end: usize,
-    products: &mut Products,
-)
-    requires some { at ≤ end }
-    requires inside { end ≤ part }
-    requires low { length low.old ≡ half * part }
-    requires high { length high.old ≡ half * part }
-    requires there { R.has rule block 0 }
-    ensures near { let cell = λ (xs : List F) (n : ℕ). F.value (get_or xs n F.ZERO) in
-        (t j : ℕ) → t < half → j < part → at ≤ j → j < end → cell low.new (t * part + j)
-        ≡ R.near F.Element F.ring F.value rule block 0 (cell low.old (t * part + j)) (cell high.old (t * part + j)) }
-    ensures far { let cell = λ (xs : List F) (n : ℕ). F.value (get_or xs n F.ZERO) in
-        (t j : ℕ) → t < half → j < part → at ≤ j → j < end → cell high.new (t * part + j)
-        ≡ R.far F.Element F.ring F.value rule block 0 (cell low.old (t * part + j)) (cell high.old (t * part + j)) }
-    ensures kept { (t j : ℕ) → t < half → j < part → (j < at) ⊎ (end ≤ j)
-        → (get_or low.new (t * part + j) F.ZERO ≡ get_or low.old (t * part + j) F.ZERO)
-        × (get_or high.new (t * part + j) F.ZERO ≡ get_or high.old (t * part + j) F.ZERO) }
-    ensures grows { products.old ≤ products.new }
-    ensures cost { products.new ≤ products.old + R.cost * (half * (end - at)) }
-{
-    for t in 0..half {
-        let start = t * part;
-        meet_ranges(rule, low, high, start + at, start + end, block, 0, products);
+impl<R> Columns<R> {
+    // The rows of a block's two halves, pair by pair.
+    fn on_halves<F: TwoAdicField>(
+        &self,
+        block: usize,
+        low: &mut [F],
+        high: &mut [F],
+        products: &mut Products,
+    )
+    where
+        R: Rule<F>,
+        requires some { self.now.at ≤ self.now.end }
+        requires inside { self.now.end ≤ self.now.part }
+        requires low { length low.old ≡ self.now.half * self.now.part }
+        requires high { length high.old ≡ self.now.half * self.now.part }
+        requires there { R.has self.now.rule block 0 }
+        ensures near { let it = self.now in let cell = λ (xs : List F) (n : ℕ). F.value (get_or xs n F.ZERO) in
+            (t j : ℕ) → t < it.half → j < it.part → it.at ≤ j → j < it.end → cell low.new (t * it.part + j)
+            ≡ R.near F.Element F.ring F.value it.rule block 0 (cell low.old (t * it.part + j))
+            (cell high.old (t * it.part + j)) }
+        ensures far { let it = self.now in let cell = λ (xs : List F) (n : ℕ). F.value (get_or xs n F.ZERO) in
+            (t j : ℕ) → t < it.half → j < it.part → it.at ≤ j → j < it.end → cell high.new (t * it.part + j)
+            ≡ R.far F.Element F.ring F.value it.rule block 0 (cell low.old (t * it.part + j))
+            (cell high.old (t * it.part + j)) }
+        ensures kept { let it = self.now in (t j : ℕ) → t < it.half → j < it.part → (j < it.at) ⊎ (it.end ≤ j)
+            → (get_or low.new (t * it.part + j) F.ZERO ≡ get_or low.old (t * it.part + j) F.ZERO)
+            × (get_or high.new (t * it.part + j) F.ZERO ≡ get_or high.old (t * it.part + j) F.ZERO) }
+        ensures grows { products.old ≤ products.new }
+        ensures cost { products.new ≤ products.old + R.cost * (self.now.half * (self.now.end - self.now.at)) }
+    {
+        for t in 0..self.half {
+            let start = t * self.part;
+            meet_ranges(
+                self.rule,
+                low,
+                high,
+                start + self.at,
+                start + self.end,
+                block,
+                0,
+                products,
+            );
+        }
     }
 }

@@ -4,7 +4,7 @@ use Rattle.p3_networks.proofs.radix_2_small_batch.groups.group_on_chunks.Goals a
 
 pub on_each_chunk-requires : goal.on_each_chunk-requires
 on_each_chunk-requires g c =
-    let sizes = tile_sizes c.args.log_h c.args.to c.args.width (length c.args.values.now) c.requires.small c.requires.below c.requires.size in
+    let sizes = tile_sizes c.args.log_h c.args.layers.to c.args.layers.width (length c.args.values.now) c.requires.small c.requires.below c.requires.size in
     record {
       whole = sizes.whole;
       accepts = λ n below.
@@ -16,9 +16,9 @@ on_each_chunk-requires g c =
 pub returns : goal.returns
 returns g c =
     let field = g.F.Field in
-    let sizes = tile_sizes c.args.log_h c.args.to c.args.width (length c.args.values.now) c.requires.small c.requires.below c.requires.size in
+    let sizes = tile_sizes c.args.log_h c.args.layers.to c.args.layers.width (length c.args.values.now) c.requires.small c.requires.below c.requires.size in
     record {
       cells = λ cells layers. tiles_taken field.value field.value field.ZERO _ _ _ _ _ _ _ _ _ _ cells c.args.values.now c.on_each_chunk.new.values sizes c.requires.wide c.on_each_chunk.auto.values c.on_each_chunk.ensures.chunks layers;
       grows = c.on_each_chunk.ensures.grows;
-      cost = omega (arith, c.on_each_chunk.ensures.cost, tiles_cost _ _ _ _ _ _ (g.R.Rule.cost * (c.args.to - c.args.from)) sizes);
+      cost = omega (arith, c.on_each_chunk.ensures.cost, tiles_cost _ _ _ _ _ _ (g.R.Rule.cost * (c.args.layers.to - c.args.layers.from)) sizes);
     }

@@ -5,14 +5,14 @@ use Rattle.p3_networks.proofs.Layers.Groups.{block_there, columns_next, columns_
 use Rattle.p3_networks.proofs.Layers.Chunks.{blocks_within, chunk_within}
 use Rattle.p3_networks.proofs.Layers.Counts.{at_end}
 use Rattle.p3_networks.proofs.Layers.Shifts.{one_shifted}
-use Rattle.p3_networks.proofs.radix_2_small_batch.groups.group_on_piece.Goals as goal
+use Rattle.p3_networks.proofs.radix_2_small_batch.groups.GroupLayers.on_piece.Goals as goal
 
 pub overflow_shl-part : goal.overflow_shl-part
-overflow_shl-part g c = (part_sizes c.args.from c.args.to c.args.number c.args.width c.requires.order c.requires.small).digits
+overflow_shl-part g c = (part_sizes c.args.self.now.from c.args.self.now.to c.args.number c.args.self.now.width c.requires.order c.requires.small).digits
 
 pub overflow_mul-part : goal.overflow_mul-part
 overflow_mul-part g c =
-    let sizes = part_sizes c.args.from c.args.to c.args.number c.args.width c.requires.order c.requires.small in
+    let sizes = part_sizes c.args.self.now.from c.args.self.now.to c.args.number c.args.self.now.width c.requires.order c.requires.small in
     omega (arith, sizes.part_is, sizes.within, c.requires.size)
 
 pub loop-done-init : goal.loop-done-init
@@ -23,39 +23,39 @@ loop-done-init g c = record {
 }
 
 pub overflow_shl-half : goal.overflow_shl-half
-overflow_shl-half g c = let sizes = piece_sizes c.args.from c.args.to c.layer-log_half.result c.args.number c.args.width c.layer-log_half.ensures.first c.layer-log_half.ensures.last c.requires.small in omega (arith, sizes.digits, c.layer-log_half.ensures.last)
+overflow_shl-half g c = let sizes = piece_sizes c.args.self.now.from c.args.self.now.to c.layer-log_half.result c.args.number c.args.self.now.width c.layer-log_half.ensures.first c.layer-log_half.ensures.last c.requires.small in omega (arith, sizes.digits, c.layer-log_half.ensures.last)
 
 pub overflow_shl-blocks : goal.overflow_shl-blocks
-overflow_shl-blocks g c = let sizes = piece_sizes c.args.from c.args.to c.layer-log_half.result c.args.number c.args.width c.layer-log_half.ensures.first c.layer-log_half.ensures.last c.requires.small in omega (arith, sizes.digits)
+overflow_shl-blocks g c = let sizes = piece_sizes c.args.self.now.from c.args.self.now.to c.layer-log_half.result c.args.number c.args.self.now.width c.layer-log_half.ensures.first c.layer-log_half.ensures.last c.requires.small in omega (arith, sizes.digits)
 
-pub overflow_mul-number : goal.overflow_mul-number
-overflow_mul-number g c = let sizes = piece_sizes c.args.from c.args.to c.layer-log_half.result c.args.number c.args.width c.layer-log_half.ensures.first c.layer-log_half.ensures.last c.requires.small in omega (arith, sizes.room)
+pub overflow_mul-first_block : goal.overflow_mul-first_block
+overflow_mul-first_block g c = let sizes = piece_sizes c.args.self.now.from c.args.self.now.to c.layer-log_half.result c.args.number c.args.self.now.width c.layer-log_half.ensures.first c.layer-log_half.ensures.last c.requires.small in omega (arith, sizes.room)
 
 pub layer_of_columns-requires-clause-inside : goal.layer_of_columns-requires-clause-inside
-layer_of_columns-requires-clause-inside g c = let sizes = piece_sizes c.args.from c.args.to c.layer-log_half.result c.args.number c.args.width c.layer-log_half.ensures.first c.layer-log_half.ensures.last c.requires.small in omega (arith, sizes.part_is, c.requires.inside)
+layer_of_columns-requires-clause-inside g c = let sizes = piece_sizes c.args.self.now.from c.args.self.now.to c.layer-log_half.result c.args.number c.args.self.now.width c.layer-log_half.ensures.first c.layer-log_half.ensures.last c.requires.small in omega (arith, sizes.part_is, c.requires.inside)
 
 pub layer_of_columns-requires-clause-blocks : goal.layer_of_columns-requires-clause-blocks
-layer_of_columns-requires-clause-blocks g c = (piece_sizes c.args.from c.args.to c.layer-log_half.result c.args.number c.args.width c.layer-log_half.ensures.first c.layer-log_half.ensures.last c.requires.small).some_blocks
+layer_of_columns-requires-clause-blocks g c = (piece_sizes c.args.self.now.from c.args.self.now.to c.layer-log_half.result c.args.number c.args.self.now.width c.layer-log_half.ensures.first c.layer-log_half.ensures.last c.requires.small).some_blocks
 
 pub layer_of_columns-requires-clause-numbers : goal.layer_of_columns-requires-clause-numbers
-layer_of_columns-requires-clause-numbers g c = (piece_sizes c.args.from c.args.to c.layer-log_half.result c.args.number c.args.width c.layer-log_half.ensures.first c.layer-log_half.ensures.last c.requires.small).room
+layer_of_columns-requires-clause-numbers g c = (piece_sizes c.args.self.now.from c.args.self.now.to c.layer-log_half.result c.args.number c.args.self.now.width c.layer-log_half.ensures.first c.layer-log_half.ensures.last c.requires.small).room
 
 pub layer_of_columns-requires-clause-size : goal.layer_of_columns-requires-clause-size
 layer_of_columns-requires-clause-size g c =
-    c.loop-done.auto.values ∙ c.requires.size ∙ (piece_sizes c.args.from c.args.to c.layer-log_half.result c.args.number c.args.width c.layer-log_half.ensures.first c.layer-log_half.ensures.last c.requires.small).cells
+    c.loop-done.auto.chunk ∙ c.requires.size ∙ (piece_sizes c.args.self.now.from c.args.self.now.to c.layer-log_half.result c.args.number c.args.self.now.width c.layer-log_half.ensures.first c.layer-log_half.ensures.last c.requires.small).cells
 
 pub layer_of_columns-requires-clause-there : goal.layer_of_columns-requires-clause-there
 layer_of_columns-requires-clause-there g c b inside =
-    let sizes = piece_sizes c.args.from c.args.to c.layer-log_half.result c.args.number c.args.width c.layer-log_half.ensures.first c.layer-log_half.ensures.last c.requires.small in
-    c.requires.there _ (block_there c.args.to c.layer-log_half.result c.args.number _ c.layer-log_half.ensures.last (omega (arith, inside, sizes.numbers)))
+    let sizes = piece_sizes c.args.self.now.from c.args.self.now.to c.layer-log_half.result c.args.number c.args.self.now.width c.layer-log_half.ensures.first c.layer-log_half.ensures.last c.requires.small in
+    c.requires.there _ (block_there c.args.self.now.to c.layer-log_half.result c.args.number _ c.layer-log_half.ensures.last (omega (arith, inside, sizes.numbers)))
 
 pub loop-done-preserved : goal.loop-done-preserved
 loop-done-preserved g c =
     let field = g.F.Field in
     let rule = g.R.Rule in
-    let from = c.args.from in
-    let to = c.args.to in
-    let w = c.args.width in
+    let from = c.args.self.now.from in
+    let to = c.args.self.now.to in
+    let w = c.args.self.now.width in
     let number = c.args.number in
     let e = c.layer-log_half.result in
     let done = c.loop-done.done in
@@ -63,24 +63,24 @@ loop-done-preserved g c =
     let half = one_shifted (e - from) in
     let blocks = one_shifted (to - 1 - e) in
     let part = one_shifted from * w in
-    let near = λ (b : ℕ). rule.near field.Element field.ring field.value c.args.rule b 0 in
-    let far = λ (b : ℕ). rule.far field.Element field.ring field.value c.args.rule b 0 in
-    let len = length c.args.values.now in
+    let near = λ (b : ℕ). rule.near field.Element field.ring field.value c.args.self.now.rule b 0 in
+    let far = λ (b : ℕ). rule.far field.Element field.ring field.value c.args.self.now.rule b 0 in
+    let len = length c.args.chunk.now in
     let sizes = piece_sizes from to e number w c.layer-log_half.ensures.first c.layer-log_half.ensures.last c.requires.small in
     record {
       cells = λ k cells layers room holds.
           let within = chunk_within k to number room in
           let all : number * blocks + blocks ≤ 2 ^ (k - 1 - e) = let part_of = blocks_within k to e number c.layer-log_half.ensures.last room in omega (arith, part_of, ap (λ n. number * n + n) sizes.blocks_is) in
-          let before = cells (cells_of c.args.order from to done) in
-          let after = cells (cells_of c.args.order from to (done + 1)) in
+          let before = cells (cells_of c.args.self.now.order from to done) in
+          let after = cells (cells_of c.args.self.now.order from to (done + 1)) in
           let layer : IsLayer (2 ^ (k - 1 - e)) (half * part) (λ b i. near b) (λ b i. far b) before after =
           subst (λ (n : ℕ). IsLayer (2 ^ (k - 1 - e)) n (λ b i. near b) (λ b i. far b) before after) (sym sizes.half_cells)
           (subst (λ (n : ℕ). IsLayer (2 ^ (k - 1 - n)) (2 ^ n * w) (λ b i. near b) (λ b i. far b) before after) (sym c.layer-log_half.ensures.layer)
-          (layer_in_order c.args.order k w from to done near far cells layers (omega (arith, c.loop-done-test.true)) within)) in
+          (layer_in_order c.args.self.now.order k w from to done near far cells layers (omega (arith, c.loop-done-test.true)) within)) in
           let first : number * blocks * (2 * (half * part)) ≡ number * len =
           (let assoc : number * blocks * (2 * (half * part)) ≡ number * (blocks * (2 * (half * part))) = omega arith in assoc) ∙ ap (λ n. number * n) (sym sizes.cells ∙ sym c.requires.size) in
           columns_next field.value field.ZERO c.args.at c.args.end (2 ^ from * w) part rows (blocks * (2 * half)) (number * len) (number * blocks * (2 * (half * part))) before after
-          c.args.values.now c.loop-done.values c.layer_of_columns.new.values sizes.part_is sizes.rows first
+          c.args.chunk.now c.loop-done.chunk c.layer_of_columns.new.values sizes.part_is sizes.rows first
           (c.layer_of_columns.ensures.cells (2 ^ (k - 1 - e)) before after layer all)
           (c.loop-done.invariant.cells k cells layers room holds);
       grows = omega (arith, c.layer_of_columns.ensures.grows, c.loop-done.invariant.grows);
@@ -90,11 +90,11 @@ loop-done-preserved g c =
 pub returns-clause-cells : goal.returns-clause-cells
 returns-clause-cells g c k cells layers room holds =
     let field = g.F.Field in
-    let end : c.loop-done.done ≡ c.args.to - c.args.from = omega arith in
-    subst (λ (n : ℕ). TakesColumns field.value field.ZERO (2 ^ c.args.from * c.args.width) (2 ^ (c.args.to - c.args.from)) (c.args.number * length c.args.values.now) c.args.at c.args.end (cells (cells_of c.args.order c.args.from c.args.to n)) c.args.values.now c.loop-done.values) end
+    let end : c.loop-done.done ≡ c.args.self.now.to - c.args.self.now.from = omega arith in
+    subst (λ (n : ℕ). TakesColumns field.value field.ZERO (2 ^ c.args.self.now.from * c.args.self.now.width) (2 ^ (c.args.self.now.to - c.args.self.now.from)) (c.args.number * length c.args.chunk.now) c.args.at c.args.end (cells (cells_of c.args.self.now.order c.args.self.now.from c.args.self.now.to n)) c.args.chunk.now c.loop-done.chunk) end
     (c.loop-done.invariant.cells k cells layers room holds)
 
 pub returns-clause-cost : goal.returns-clause-cost
 returns-clause-cost g c =
-    let e = c.args.to - c.args.from in
+    let e = c.args.self.now.to - c.args.self.now.from in
     at_end (λ n. 2 * c.loop-done.products ≤ 2 * c.args.products.now + g.R.Rule.cost * (n * (2 ^ e * (c.args.end - c.args.at)))) c.loop-done.done e c.loop-done.auto.done-end c.loop-done-test.false c.loop-done.invariant.cost
