@@ -8,7 +8,7 @@ use crate::views::RowMajorMatrixViewMut;
 use p3_field::{Packable, PackedField, Products};
 
 /// Multiplies each value by t, with one product each.
-// Never inlined: in its callers the loop is compiled for the worse, and inverses take up to 7 percent longer.
+// Never inlined: in its callers the loop is compiled for the worse, and inverses take longer.
 #[inline(never)]
 pub fn scale_slice_in_place<F: Packable>(values: &mut [F], t: F, products: &mut Products)
     ensures values { map F.value values.new ≡ map (λ x. F.ring.mul x (F.value t)) (map F.value values.old) }

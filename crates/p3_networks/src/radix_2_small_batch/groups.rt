@@ -160,7 +160,7 @@ struct GroupLayers<R> {
     piece: usize,
 }
 
-// They on one block after another.
+// Does them on one block after another.
 fn group_on_chunks<F: TwoAdicField, R: Rule<F>>(
     layers: GroupLayers<R>,
     values: &mut [F],
@@ -276,7 +276,7 @@ struct Columns<R> {
     end: usize,
 }
 
-// The layer on so many blocks.
+// Does it on so many blocks.
 fn layer_of_columns<F: TwoAdicField, R: Rule<F>>(
     meet: Columns<R>,
     values: &mut [F],
