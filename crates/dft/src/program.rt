@@ -18,7 +18,7 @@ use crate::names::{EngineName, FieldName, Operation};
 use crate::sink::{Sink, write_text};
 use p3_dft::{
     BabyBear, CanonicalField, DftError, Goldilocks, Job, NaiveDft, Radix2Bowers,
-    Radix2DFTSmallBatch, Radix2Dit, Radix2DitParallel, RowMajorMatrix, TwoAdicSubgroupDft,
+    Radix2DFTSmallBatch, Radix2Dit, Radix2DitParallel, RowMajorMatrix, TwoAdicSubgroupDft, growth,
     run_jobs,
 };
 use std::alloc::Global;
@@ -191,8 +191,8 @@ fn answer_to<F: CanonicalField, D: TwoAdicSubgroupDft<F>>(
     requires { CanRun F.Field.own F.TWO_ADICITY job }
     ensures { IfOk result (IsAnswer F.Field.own F.generator job) }
 {
-    let mut jobs = Vec::with_capacity(alloc, 1)?;
-    jobs.push(job)?;
+    let mut jobs = growth::with_capacity(alloc, 1)?;
+    growth::push(&mut jobs, job)?;
     match run_jobs(engine, jobs) {
         Ok(mut answers) => Ok(answers.pop().unwrap()),
         Err(stopped) => Err(stopped.error),

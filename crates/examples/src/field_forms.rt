@@ -8,7 +8,7 @@
 ghost use Rattle.std.specs.Prelude.{◌≡◌, ◌↔◌, ◌<◌, ◌≤◌, ℕ, IfOk, IfSome, IsNone, Ok, map, get_or, vec_len};
 ghost use Rattle.p3_field.specs.Ring.{count, minus, power, product_of, sum_of};
 
-use p3_dft::{BabyBear, CanonicalField, Field, Goldilocks};
+use p3_dft::{BabyBear, CanonicalField, Field, Goldilocks, Refused};
 use std::alloc::{AllocError, Global};
 
 /// The square of a difference.
@@ -64,12 +64,7 @@ pub fn total_of_squares(elements: &[BabyBear]) -> BabyBear {
 }
 
 /// The first n powers of an element, from `start` on.
-pub fn first_powers<F: Field>(
-    alloc: Global,
-    base: F,
-    start: F,
-    n: usize,
-) -> Result<Vec<F>, AllocError>
+pub fn first_powers<F: Field>(alloc: Global, base: F, start: F, n: usize) -> Result<Vec<F>, Refused>
     ensures long { IfOk result (λ v. vec_len v ≡ n) }
     ensures powers { IfOk result (λ v. (i : ℕ) → i < n → F.value (get_or v.items i F.ZERO)
         ≡ F.ring.mul (F.value start) (power F.ring (F.value base) i)) }

@@ -15,7 +15,7 @@ ghost use Rattle.examples.specs.MerkleTrees.{AreDigests, tree};
 
 use p3_dft::{
     BitReversedMatrixView, BlockConsumer, DftError, Field, RowMajorMatrix, RowMajorMatrixView,
-    TwoAdicField, TwoAdicSubgroupDft, extended_height, log2_strict_usize,
+    TwoAdicField, TwoAdicSubgroupDft, extended_height, growth, log2_strict_usize,
 };
 use std::convert::Infallible;
 
@@ -141,7 +141,8 @@ fn hashed_extension<F: TwoAdicField, D: TwoAdicSubgroupDft<F>, H: RowHash<F>>(
 {
     let count = extended_height::<F>(mat.height(), mat.width(), added_bits);
     // Each place is written once, so any digest will do.
-    let digests = vec![in *mat.allocator(); hash.hash_row(&[]); count]?;
+    let mut digests = Vec::new(*mat.allocator());
+    growth::resize(&mut digests, count, hash.hash_row(&[]))?;
     let (rows, leaves) = engine.coset_lde_batch_in_blocks(
         mat,
         added_bits,

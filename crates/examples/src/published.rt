@@ -54,7 +54,7 @@ pub fn recorded_extension<F: TwoAdicField, D: TwoAdicSubgroupDft<F>>(
                 consumer: _consumer,
                 refusal: (),
             } => unreachable!(),
-            BlocksStopped::OutOfMemory(_) => Err(DftError::OutOfMemory),
+            BlocksStopped::OutOfMemory(unpublished) => Err(unpublished.error),
         },
     }
 }
@@ -237,7 +237,7 @@ pub fn sum_of_first_blocks<F: TwoAdicField, D: TwoAdicSubgroupDft<F>>(
                 consumer,
                 refusal: (),
             } => Ok(Some(consumer.sum)),
-            BlocksStopped::OutOfMemory(_) => Err(DftError::OutOfMemory),
+            BlocksStopped::OutOfMemory(unpublished) => Err(unpublished.error),
         },
     }
 }

@@ -17,7 +17,8 @@ ghost use Rattle.p3_dft.specs.Shapes.{FitsLde};
 
 use p3_dft::{
     BitReversedMatrixView, BlockConsumer, DftError, Evaluations, Goldilocks, RowMajorMatrix,
-    RowMajorMatrixView, TwoAdicField, TwoAdicSubgroupDft, extended_height, has_degree_below,
+    RowMajorMatrixView, TwoAdicField, TwoAdicSubgroupDft, extended_height, growth,
+    has_degree_below,
 };
 use std::convert::Infallible;
 
@@ -63,7 +64,9 @@ fn zeros_for(
     ensures { IfOk result (λ zeros. length zeros.items ≡ (height mat.now * 2 ^ added_bits) * mat.now.width) }
 {
     let rows = extended_height::<Goldilocks>(mat.height(), mat.width(), added_bits);
-    Ok(vec![in *mat.allocator(); Goldilocks::ZERO; rows * mat.width()]?)
+    let mut zeros = Vec::new(*mat.allocator());
+    growth::resize(&mut zeros, rows * mat.width(), Goldilocks::ZERO)?;
+    Ok(zeros)
 }
 
 // The matrix in natural order whose rows, as they lie in memory, have the same entries as those of `out`.

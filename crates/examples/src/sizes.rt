@@ -14,7 +14,7 @@ ghost use Rattle.p3_dft.specs.Shapes.{FitsDft, FitsLde};
 
 use p3_dft::{
     BitReversedMatrixView, BlockLimit, DftError, Field, Goldilocks, RowMajorMatrix, TwoAdicField,
-    TwoAdicSubgroupDft, extended_height, fits_dft, fits_lde,
+    TwoAdicSubgroupDft, extended_height, fits_dft, fits_lde, growth,
 };
 use std::alloc::Global;
 
@@ -46,7 +46,8 @@ fn filled<T: Copy>(
     ensures high { IfOk result (λ mat. height mat ≡ rows) }
     ensures wide { IfOk result (λ mat. mat.width ≡ columns) }
 {
-    let values = vec![in alloc; element; rows * columns]?;
+    let mut values = Vec::new(alloc);
+    growth::resize(&mut values, rows * columns, element)?;
     Ok(RowMajorMatrix::new(values, columns))
 }
 
@@ -63,7 +64,8 @@ pub fn zeros_of_goldilocks(
     if !fits_dft::<Goldilocks>(rows, columns) {
         return Ok(None);
     }
-    let values = vec![in alloc; Goldilocks::ZERO; rows * columns]?;
+    let mut values = Vec::new(alloc);
+    growth::resize(&mut values, rows * columns, Goldilocks::ZERO)?;
     Ok(Some(RowMajorMatrix::new(values, columns)))
 }
 
@@ -81,7 +83,8 @@ pub fn room_for_extension<F: TwoAdicField>(
         return Ok(None);
     }
     let rows = extended_height::<F>(mat.height(), mat.width(), added_bits);
-    Ok(Some(Vec::with_capacity(*mat.allocator(), rows * mat.width())?))
+    let room = growth::with_capacity(*mat.allocator(), rows * mat.width())?;
+    Ok(Some(room))
 }
 
 /// An extension that has at most so many blocks, which no transform changed: `None` where it has more, or

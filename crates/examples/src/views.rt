@@ -11,7 +11,7 @@ ghost use Rattle.p3_dft.specs.Shapes.{FitsLde};
 
 use p3_dft::{
     BabyBear, BitReversedMatrixView, DftError, Field, Radix2DitParallel, RowMajorMatrix,
-    TwoAdicField, TwoAdicSubgroupDft,
+    TwoAdicField, TwoAdicSubgroupDft, growth,
 };
 
 /// Row i of a matrix that lies in bit reversed order, in memory of its own: that of the matrix in natural
@@ -23,7 +23,7 @@ pub fn opened_row<F: Field>(
     requires { i < height rows.now.physical }
     ensures { IfOk result (λ opened. opened.items ≡ row (reversed_rows rows.now.bits rows.now.physical) i) }
 {
-    Ok(Vec::from_slice(*rows.inner().allocator(), rows.row(i))?)
+    Ok(growth::from_slice(*rows.inner().allocator(), rows.row(i))?)
 }
 
 /// A row of an extension over a named field, by its natural number.
@@ -34,7 +34,7 @@ pub fn opened_row_of_baby_bears(
     requires { i < height rows.now.physical }
     ensures { IfOk result (λ opened. opened.items ≡ row (reversed_rows rows.now.bits rows.now.physical) i) }
 {
-    Ok(Vec::from_slice(*rows.inner().allocator(), rows.row(i))?)
+    Ok(growth::from_slice(*rows.inner().allocator(), rows.row(i))?)
 }
 
 /// An extension whose rows lie in bit reversed order, with its row i if it has one: row i of the extension in

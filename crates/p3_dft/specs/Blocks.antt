@@ -1,5 +1,6 @@
 -- What is said of an extension with blocks, for each of its outcomes.
-use Rattle.std.specs.Prelude.{Result, Ok, Err, ⊤}
+use Rattle.std.specs.Prelude.{◌≡◌, Result, Ok, Err, ⊤}
+use Rattle.p3_matrix.specs.declared.error.DftError.{DftError}
 use Rattle.p3_dft.specs.declared.blocks.BlocksStopped.{BlocksStopped}
 use Rattle.p3_dft.specs.declared.blocks.BlocksStopped.TheVariants.{Refused, OutOfMemory}
 
@@ -12,6 +13,11 @@ OnRefused (OutOfMemory unpublished) P = ⊤
 abbrev pub OnOutOfMemory : {M C R : Type 0} → BlocksStopped M C R → (M → Type 0) → Type 0
 OnOutOfMemory (Refused consumer refusal) P = ⊤
 OnOutOfMemory (OutOfMemory unpublished) P = P unpublished.make_consumer
+
+-- the error that stopped an extension is this one, if it was no refused block
+abbrev pub HasError : {M C R : Type 0} → BlocksStopped M C R → DftError → Type 0
+HasError (Refused consumer refusal) error = ⊤
+HasError (OutOfMemory unpublished) error = error ≡ unpublished.error
 
 -- an extension with blocks was made, whether all of it was accepted or not
 abbrev pub IsNotOutOfMemory : {T M C R : Type 0} → Result T (BlocksStopped M C R) → Type 0

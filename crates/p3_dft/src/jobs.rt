@@ -61,7 +61,11 @@ impl<F: Drop> From<JobsStopped<F>> for DftError {
     ghost from_gives = { λ stopped e. e ≡ stopped.error };
 
     fn from(stopped: JobsStopped<F>) -> DftError {
-        stopped.error
+        let JobsStopped {
+            answers: _answers,
+            error,
+        } = stopped;
+        error
     }
 }
 
@@ -117,10 +121,10 @@ fn answer_jobs<F: TwoAdicField, D: TwoAdicSubgroupDft<F>>(
         ⊎ NextIsNotPromised D.facts engine.old jobs.items answers.new.items) }
     ensures later { IsLater D.facts engine.old engine.new }
 {
-    answers.reserve_exact(jobs.len())?;
+    growth::reserve_exact(answers, jobs.len())?;
     for job in jobs {
         let answer = run_job(engine, job)?;
-        answers.push(answer)?;
+        growth::push(answers, answer)?;
     }
     Ok(())
 }

@@ -18,6 +18,8 @@ pub mod traits;
 pub mod util;
 
 pub use blocks::{BlocksStopped, Unpublished};
+pub use growth;
+pub use growth::Refused;
 pub use jobs::{Job, JobsStopped, run_jobs};
 pub use naive::NaiveDft;
 pub use p3_field::power_iterator::Powers;

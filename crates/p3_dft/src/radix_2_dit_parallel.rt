@@ -389,7 +389,12 @@ impl<F: TwoAdicField> TwoAdicSubgroupDft<F> for Radix2DitParallel<F> {
         );
         let mut mat = match room {
             Ok(mat) => mat,
-            Err(_) => return Err(BlocksStopped::OutOfMemory(Unpublished { make_consumer })),
+            Err(error) => {
+                return Err(BlocksStopped::OutOfMemory(Unpublished {
+                    make_consumer,
+                    error,
+                }));
+            }
         };
         let mut consumer = make_consumer(block_height);
         let extended = extend_reversed(

@@ -4,6 +4,7 @@ ghost use Rattle.std.specs.Prelude.{◌≡◌, ◌+◌, ◌++◌, ◌<◌, ◌�
 ghost use Rattle.std.specs.Prelude.{vec_capacity};
 
 use crate::fields::Field;
+use growth::Refused;
 use std::alloc::AllocError;
 
 /// A vector space over F with a basis. Its elements are the lists of `DIMENSION` elements of F,
@@ -29,12 +30,12 @@ pub trait BasedVectorSpace<F: Field>: Drop {
 
     /// Adds the coordinates at the end of a list. It takes no memory where there is room for them; where
     /// memory is refused, the list stays as it was.
-    fn push_coordinates(&self, to: &mut Vec<F>) -> Result<(), AllocError>
+    fn push_coordinates(&self, to: &mut Vec<F>) -> Result<(), Refused>
         ensures items { OnOk result (to.new.items ≡ to.old.items ++ coordinates self.now) }
         ensures room { vec_len to.old + DIMENSION ≤ vec_capacity to.old → IsOk result }
         ensures refused { OnErr result (to.new.items ≡ to.old.items) }
     {
-        to.reserve(Self::DIMENSION)?;
+        growth::reserve(to, Self::DIMENSION)?;
         for i in 0..Self::DIMENSION {
             to.push_reserved(self.coordinate(i));
         }
@@ -120,8 +121,8 @@ impl<F: Field, const D: usize> BasedVectorSpace<F> for Coordinates<F, D> {
         Coordinates { entries }
     }
 
-    fn push_coordinates(&self, to: &mut Vec<F>) -> Result<(), AllocError> {
-        to.extend_from_slice(&self.entries)
+    fn push_coordinates(&self, to: &mut Vec<F>) -> Result<(), Refused> {
+        growth::extend_from_slice(to, &self.entries)
     }
 
     ghost dimension_law = { λ x. x.long };

@@ -4,7 +4,8 @@ ghost use Rattle.std.specs.Prelude.{◌≡◌, ◌<◌, ℕ, Some, IfOk, length,
 ghost use Rattle.p3_field.specs.Ring.{power};
 
 use crate::fields::Field;
-use std::alloc::{AllocError, Global};
+use growth::Refused;
+use std::alloc::Global;
 
 /// An element, and its products with a base, with the base's square, and so on, without end: item i is
 /// the product of the element and the i-th power of the base.
@@ -41,12 +42,12 @@ impl<F: Field> Powers<F> {
     }
 
     /// The first n items, in memory for n of them.
-    pub fn collect_n(self, alloc: Global, n: usize) -> Result<Vec<F>, AllocError>
+    pub fn collect_n(self, alloc: Global, n: usize) -> Result<Vec<F>, Refused>
         ensures long { IfOk result (λ v. vec_len v ≡ n) }
         ensures powers { IfOk result (λ v. (i : ℕ) → i < n → F.value (get_or v.items i F.ZERO)
             ≡ F.ring.mul (F.value self.current) (power F.ring (F.value self.base) i)) }
     {
-        let mut powers = Vec::with_capacity(alloc, n)?;
+        let mut powers = growth::with_capacity(alloc, n)?;
         let base = self.base;
         let mut current = self.current;
         for _i in 0..n {

@@ -168,8 +168,8 @@ impl<T> Recorder<T> {
             { blocks = []; missed = false; blocks_left = blocks; elements_left = elements }) }
     {
         Ok(Recorder {
-            places: Vec::with_capacity(alloc, blocks)?,
-            elements: Vec::with_capacity(alloc, elements)?,
+            places: growth::with_capacity(alloc, blocks)?,
+            elements: growth::with_capacity(alloc, elements)?,
             blocks_left: blocks,
             elements_left: elements,
             missed: false,

@@ -198,7 +198,7 @@ impl<T> RowMajorMatrix<T> {
         T: Copy,
         ensures { IfOk result (λ m. m ≡ self.now) }
     {
-        let values = Vec::from_slice(*self.allocator(), self.values())?;
+        let values = growth::from_slice(*self.allocator(), self.values())?;
         Ok(Self::new(values, self.width))
     }
 }

@@ -1,36 +1,24 @@
 //! The one way in which a transform can fail.
 
-use std::alloc::{AllocError, AllocFailed};
+use growth::Refused;
 use thiserror::Error;
 
 /// Why a transform gave no answer.
-#[derive(Clone, Copy, Debug, PartialEq, Eq, Error)]
+#[derive(Debug, Drop, PartialEq, Eq, Error)]
 pub enum DftError {
-    /// Memory was asked for and refused.
+    /// Memory was asked for and refused: what it holds was made where that happened, and nowhere else can be.
     #[error("out of memory")]
-    OutOfMemory,
+    OutOfMemory(Refused),
 }
 
-impl From<AllocError> for DftError {
+impl From<Refused> for DftError {
     ghost use Rattle.std.specs.Prelude.{◌≡◌};
     ghost use Rattle.p3_matrix.specs.declared.error.DftError.{DftError};
     ghost use Rattle.p3_matrix.specs.declared.error.DftError.TheVariants.{OutOfMemory};
 
-    ghost from_gives = { λ _ e. e ≡ OutOfMemory };
+    ghost from_gives = { λ refused e. e ≡ OutOfMemory refused };
 
-    fn from(_refused: AllocError) -> DftError {
-        DftError::OutOfMemory
-    }
-}
-
-impl<T: Drop> From<AllocFailed<T>> for DftError {
-    ghost use Rattle.std.specs.Prelude.{◌≡◌};
-    ghost use Rattle.p3_matrix.specs.declared.error.DftError.{DftError};
-    ghost use Rattle.p3_matrix.specs.declared.error.DftError.TheVariants.{OutOfMemory};
-
-    ghost from_gives = { λ _ e. e ≡ OutOfMemory };
-
-    fn from(_refused: AllocFailed<T>) -> DftError {
-        DftError::OutOfMemory
+    fn from(refused: Refused) -> DftError {
+        DftError::OutOfMemory(refused)
     }
 }

@@ -117,12 +117,12 @@ fn inverse_powers<F: TwoAdicField>(
     ensures { IfOk result (λ v. AreTwiddles F.Field.own (2 ^ (log_h - 1))
         (block_powers F.Field.own (backward_root F.Field.own F.generator) (log_h - 1)) v.items) }
 {
-    let mut inverse = Vec::with_capacity(alloc, powers.len())?;
-    inverse.push(F::ONE)?;
+    let mut inverse = growth::with_capacity(alloc, powers.len())?;
+    growth::push(&mut inverse, F::ONE)?;
     for l in 0..log_h - 1 {
         let chunk = 1usize << l;
         for b in chunk..2 * chunk {
-            inverse.push(-powers[3 * chunk - 1 - b])?;
+            growth::push(&mut inverse, -powers[3 * chunk - 1 - b])?;
         }
     }
     Ok(inverse)

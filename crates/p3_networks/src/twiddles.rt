@@ -131,7 +131,7 @@ pub fn twiddles_of_layers<F: TwoAdicField>(
     ensures table { IfOk result (λ v. AreTwiddlesOfLayers F.Field.own layers
         (root_powers F.Field.own F.generator inverse) v.items) }
 {
-    let mut powers = Vec::with_capacity(alloc, (1 << layers) - 1)?;
+    let mut powers = growth::with_capacity(alloc, (1 << layers) - 1)?;
     for l in 0..layers {
         push_layer(&mut powers, F::ONE, root::<F>(inverse, l + 1), l, false)?;
     }
@@ -149,7 +149,7 @@ pub fn reversed_powers<F: TwoAdicField>(
     ensures { IfOk result (λ v. AreTwiddles F.Field.own (2 ^ bits)
         (λ b. F.ring.mul (F.value first) (power F.ring (F.value base) (rev bits b))) v.items) }
 {
-    let mut powers = Vec::with_capacity(alloc, 1 << bits)?;
+    let mut powers = growth::with_capacity(alloc, 1 << bits)?;
     push_layer(&mut powers, first, base, bits, true)?;
     Ok(powers)
 }
@@ -173,7 +173,7 @@ pub fn push_layer<F: TwoAdicField>(
         ≡ F.ring.mul (F.value first) (power F.ring (F.value base) (layer_place reversed bits e))) }
 {
     let start = twiddles.len();
-    twiddles.push(first)?;
+    growth::push(twiddles, first)?;
     for l in 0..bits {
         let factor = base.exp_power_of_2(if reversed { bits - 1 - l } else { l });
         push_multiples(twiddles, start, factor)?;
@@ -193,7 +193,7 @@ fn push_multiples<F: Field>(elements: &mut Vec<F>, from: usize, factor: F) -> Re
 {
     for i in from..elements.len() {
         let multiple = elements[i] * factor;
-        elements.push(multiple)?;
+        growth::push(elements, multiple)?;
     }
     Ok(())
 }

@@ -14,6 +14,7 @@ use p3_dft::{
 };
 use std::alloc::Global;
 use std::cell::Cell;
+use std::convert::Infallible;
 
 fn dft<F: TwoAdicField, D: TwoAdicSubgroupDft<F>>(
     engine: &mut D,
@@ -218,11 +219,11 @@ struct Counted<'a> {
 impl<'a, F> BlockConsumer<F> for Counted<'a> {
     ghost use Rattle.std.specs.Prelude.{◌≡◌, Ok};
 
-    type Refusal = ();
+    type Refusal = Infallible;
 
     ghost step = { λ c start block answer e. answer ≡ Ok tt };
 
-    fn consume(&mut self, start: usize, block: RowMajorMatrixView<'_, F>) -> Result<(), ()>
+    fn consume(&mut self, start: usize, block: RowMajorMatrixView<'_, F>) -> Result<(), Infallible>
         ensures { ⟦<Counted<'a> as BlockConsumer<F>>⟧.step self.old start block.entry result self.new }
     {
         let _ = start;
@@ -241,7 +242,7 @@ fn with_blocks<F: TwoAdicField, D: TwoAdicSubgroupDft<F>>(
 ) -> Result<Vec<F>, DftError>
     requires { FitsLde F.TWO_ADICITY (vec_len column) 1 added_bits }
 {
-    let answer = engine.coset_lde_batch_with_blocks(
+    let (values, _counted) = engine.coset_lde_batch_with_blocks(
         RowMajorMatrix::new_col(column),
         added_bits,
         shift,
@@ -249,11 +250,8 @@ fn with_blocks<F: TwoAdicField, D: TwoAdicSubgroupDft<F>>(
             ensures { result ≡ coefficients }
         { coefficients },
         |_rows: usize| -> Counted<'_> { Counted { blocks } },
-    );
-    match answer {
-        Ok((values, _counted)) => Ok(values.to_row_major_matrix().into_values()),
-        Err(_) => Err(DftError::OutOfMemory),
-    }
+    )?;
+    Ok(values.to_row_major_matrix().into_values())
 }
 
 fn in_blocks<F: TwoAdicField, D: TwoAdicSubgroupDft<F>>(
@@ -266,10 +264,13 @@ fn in_blocks<F: TwoAdicField, D: TwoAdicSubgroupDft<F>>(
     requires { FitsLde F.TWO_ADICITY (vec_len column) 1 added_bits }
 {
     let column = RowMajorMatrix::new_col(column);
-    match engine.coset_lde_batch_in_blocks(column, added_bits, shift, |_rows| Counted { blocks }) {
-        Ok((values, _counted)) => Ok(values.to_row_major_matrix().into_values()),
-        Err(_) => Err(DftError::OutOfMemory),
-    }
+    let (values, _counted) = engine.coset_lde_batch_in_blocks(
+        column,
+        added_bits,
+        shift,
+        |_rows| Counted { blocks },
+    )?;
+    Ok(values.to_row_major_matrix().into_values())
 }
 
 /// A transform or an inverse.

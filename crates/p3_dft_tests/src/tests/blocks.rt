@@ -368,7 +368,7 @@ impl<F: CanonicalField> EngineTest<F> for NothingLent {
             { coefficients },
             |_rows: usize| -> Counter<'_> { Counter { blocks: &blocks } },
         );
-        let Err(BlocksStopped::OutOfMemory(Unpublished { make_consumer })) = answer else {
+        let Err(BlocksStopped::OutOfMemory(Unpublished { make_consumer, .. })) = answer else {
             panic!(rt; "not out of memory");
         };
         let mut consumer = make_consumer(4);

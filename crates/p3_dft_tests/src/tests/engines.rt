@@ -6,7 +6,7 @@ ghost use Rattle.std.specs.Prelude.{◌≡◌, ℕ, ◌*◌, ◌^◌};
 
 use p3_dft::{
     BitReversedMatrixView, DftError, Evaluations, IntoRowMajorMatrix, Layout, NaiveDft, Products,
-    RowMajorMatrix, TwoAdicField, TwoAdicSubgroupDft,
+    RowMajorMatrix, TwoAdicField, TwoAdicSubgroupDft, growth,
 };
 use std::alloc::AllocError;
 
@@ -76,10 +76,12 @@ impl<F: TwoAdicField> TwoAdicSubgroupDft<F> for LimitedDft {
         &mut self,
         mat: N,
     ) -> Result<RowMajorMatrix<F>, DftError> {
+        let mat = mat.into_row_major_matrix();
         if self.left == 0 {
-            return Err(DftError::OutOfMemory);
+            // No process has room for so many elements.
+            let _none: Vec<F> = growth::with_capacity(*mat.allocator(), usize::MAX)?;
         }
-        self.left -= 1;
+        self.left = self.left.saturating_sub(1);
         self.sums.dft_batch(mat)
     }
 

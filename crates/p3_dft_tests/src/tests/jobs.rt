@@ -127,10 +127,14 @@ fn answers_in_turn<F: CanonicalField, D: TwoAdicSubgroupDft<F>>(
             assert!(rt; count == KINDS);
             assert!(rt; answers == expected);
         }
-        Err(JobsStopped { answers, error }) => {
+        Err(
+            JobsStopped {
+                answers,
+                error: DftError::OutOfMemory(_),
+            },
+        ) => {
             assert!(rt; count < KINDS);
             assert!(rt; answers == expected);
-            assert!(rt; error == DftError::OutOfMemory);
         }
     }
 }

@@ -1,10 +1,16 @@
 // The texts of errors.
 
+use growth::Refused;
 use p3_matrix::{BlockRefused, DftError};
 
 #[test]
 fn says_what_was_refused(rt: HostRuntime) {
-    let text = DftError::OutOfMemory
+    // No process has room for so many bytes.
+    let answer: Result<Vec<u8>, Refused> = growth::with_capacity(rt.alloc(), usize::MAX);
+    let Err(refused) = answer else {
+        panic!(rt; "room for 2^64 - 1 bytes");
+    };
+    let text = DftError::from(refused)
         .to_string(rt.alloc())
         .expect(&rt, "memory");
     assert_eq!(rt; text.as_str(), "out of memory");

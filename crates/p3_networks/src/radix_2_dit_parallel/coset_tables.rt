@@ -78,7 +78,7 @@ fn coset_layers<F: TwoAdicField>(alloc: Global, log_h: usize, shift: F) -> Resul
     ensures table { IfOk result (λ v. IsCosetTable F.Field.own F.generator (F.value shift) log_h v.items) }
 {
     let mid = (log_h + 1) / 2;
-    let mut twiddles = Vec::with_capacity(alloc, (1 << log_h) - 1)?;
+    let mut twiddles = growth::with_capacity(alloc, (1 << log_h) - 1)?;
     for l in 0..log_h {
         let first = shift.exp_power_of_2(log_h - 1 - l);
         let root = F::two_adic_generator(l + 1);
@@ -281,9 +281,9 @@ impl<F: TwoAdicField> CosetTables<F> {
     {
         let mut tables = match self.tables.take() {
             Some(tables) => tables,
-            None => Vec::with_capacity(alloc, 1)?,
+            None => growth::with_capacity(alloc, 1)?,
         };
-        let pushed = tables.push(table);
+        let pushed = growth::push(&mut tables, table);
         // The tables go back before an error is told.
         self.tables = Some(tables);
         pushed?;

@@ -18,7 +18,7 @@ run_job-requires g c =
 pub loop-job-init : goal.loop-job-init
 loop-job-init g c =
     let given : into_iter_items c.into_iter-job-iterator.result ≡ c.args.jobs.items = c.into_iter-job-iterator.ensures.into_iter_gives.0 in
-    let none : c.reserve_exact.new.self.items ≡ [] = c.in_ok-reserve_exact.ensures.items ∙ c.requires.empty in
+    let none : c.reserve_exact.new.items.items ≡ [] = c.in_ok-reserve_exact.ensures.items ∙ c.requires.empty in
     record {
       split = sym given;
       answered = subst (λ (ys : List (RowMajor g.row.F.Denot)). AllZip (IsAnswer g.F.Field g.F.TwoAdicField.generator) [] ys) (sym none) (search rules);

@@ -33,7 +33,7 @@ loop-l-init g c =
     let field = g.F.Field in
     let n = c.args.log_h - 1 in
     let root = inverse_root field.ring (λ k. field.value (g.F.TwoAdicField.generator k)) (n + 1) in
-    let now : c.push.new.self.items ≡ c.ONE.result ∷ [] = c.in_ok-push.ensures.items ∙ ap (λ xs. xs ++ c.ONE.result ∷ []) c.in_ok-inverse.ensures.items in
+    let now : c.push.new.items.items ≡ c.ONE.result ∷ [] = c.in_ok-push.ensures.items ∙ ap (λ xs. xs ++ c.ONE.result ∷ []) c.in_ok-inverse.ensures.items in
     record {
       size = ap length now;
       entries = λ b below.
@@ -72,7 +72,7 @@ loop-b-preserved g c =
     let b = c.loop-b.b in
     let before = c.loop-b.inverse.items in
     let chunk = chunk_of n l (omega (arith, c.requires.some, c.requires.small)) (omega (arith, c.loop-l-test.true)) in
-    let now : c.push-in-loop-b.new.self.items ≡ before ++ c.neg.result ∷ [] = c.in_ok-push-2.ensures.items in
+    let now : c.push-in-loop-b.new.items.items ≡ before ++ c.neg.result ∷ [] = c.in_ok-push-2.ensures.items in
     let from : 2 ^ l ≤ b = omega (arith, chunk.is, c.loop-b.auto.b) in
     let until : b < 2 * 2 ^ l = omega (arith, chunk.is, c.loop-b-test.true) in
     let place : 3 * (one_shifted l) - 1 - b ≡ 3 * 2 ^ l - 1 - b = ap (λ x. 3 * x - 1 - b) chunk.is in
@@ -85,7 +85,7 @@ loop-b-preserved g c =
     ∙ inverse_entry field.ring g.met.F.TwoAdicField.roots_law n l b (omega (arith, c.requires.some, c.requires.within)) (omega (arith, c.loop-l-test.true)) from until in
     record {
       size = ap length now ∙ length-append before (c.neg.result ∷ []) ∙ ap (λ k. k + 1) c.loop-b.invariant.size;
-      entries = below_more (λ e. field.value (get_or c.push-in-loop-b.new.self.items e field.ZERO) ≡ block_powers field (backward_root field g.F.TwoAdicField.generator) n e) b
+      entries = below_more (λ e. field.value (get_or c.push-in-loop-b.new.items.items e field.ZERO) ≡ block_powers field (backward_root field g.F.TwoAdicField.generator) n e) b
           (λ e below. ap (λ xs. field.value (get_or xs e field.ZERO)) now ∙ ap field.value (in_first before (c.neg.result ∷ []) e field.ZERO (omega (arith, below, c.loop-b.invariant.size))) ∙ c.loop-b.invariant.entries e below)
           (ap (λ xs. field.value (get_or xs b field.ZERO)) now ∙ ap field.value (get_or_push before c.neg.result field.ZERO b c.loop-b.invariant.size) ∙ entry);
     }

@@ -14,7 +14,7 @@ loop-l-init g c =
     let field = g.F.Field in
     let old = c.args.twiddles.now.items in
     let first = c.args.first in
-    let now : c.push.new.self.items ≡ old ++ first ∷ [] = c.in_ok-push.ensures.items in
+    let now : c.push.new.items.items ≡ old ++ first ∷ [] = c.in_ok-push.ensures.items in
     record {
       size = ap length now ∙ length-append old (first ∷ []);
       before = λ n below. ap (λ xs. get_or xs n field.ZERO) now ∙ in_first old (first ∷ []) n field.ZERO below;

@@ -32,7 +32,7 @@ loop-i-preserved g c =
     let times = λ (a : field.Element). field.ring.mul a (field.value c.args.factor) in
     let old = c.args.elements.now.items in
     let now = c.loop-i.elements.items in
-    let new = c.push.new.self.items in
+    let new = c.push.new.items.items in
     let among : c.loop-i.i < length old = omega (arith, c.len-i-end.ensures, c.loop-i-test.true) in
     record {
       size = more_size field.value field.ZERO times old now new c.args.from c.loop-i.i c.index.result.now c.mul-multiple.result c.loop-i.invariant.size c.loop-i.auto.i c.in_ok-push.ensures.items;

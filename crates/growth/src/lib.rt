@@ -1,0 +1,146 @@
+//! Growths of vectors, each of which either happens or leaves the evidence that it was refused.
+//!
+//! Each function is the one of `Vec` with its name, and promises what that one promises. What differs is
+//! the error: a `Refused` is made here alone, each where the allocator, or a length beyond every memory,
+//! refused just that growth. So an error that holds a `Refused` cannot be answered where nothing was
+//! refused. The vectors are those in the process's own memory, since an allocator of a caller's could
+//! refuse at will.
+#![tactic(auto)]
+
+ghost use Rattle.std.specs.Prelude.{◌≡◌, ◌+◌, ◌-◌, ◌<◌, ◌≤◌, ◌++◌, ◌∷◌, [], IfOk, IsOk, OnOk, OnErr, is_ok};
+ghost use Rattle.std.specs.Prelude.{if◌then◌else◌, length, max, take, replicate, vec_len, vec_capacity};
+
+use std::alloc::{AllocError, AllocFailed, Global};
+use std::fmt;
+
+/// A vector asked for memory and was refused.
+///
+/// It can be passed on and dropped, and not copied. It takes no bytes.
+#[derive(Drop, PartialEq, Eq)]
+pub struct Refused {
+    // Nothing outside this module can make one.
+    seal: (),
+}
+
+impl fmt::Debug for Refused {
+    fn fmt<W: fmt::Write>(&self, f: &mut fmt::Formatter<W>) -> fmt::Result {
+        f.write_str("Refused")
+    }
+}
+
+impl fmt::Display for Refused {
+    fn fmt<W: fmt::Write>(&self, f: &mut fmt::Formatter<W>) -> fmt::Result {
+        f.write_str("out of memory")
+    }
+}
+
+// The one place where a `Refused` is made: of an error of std's.
+fn evidence(_error: AllocError) -> Refused {
+    Refused { seal: () }
+}
+
+/// An empty vector with room for `capacity` elements.
+pub fn with_capacity<T>(alloc: Global, capacity: usize) -> Result<Vec<T>, Refused>
+    ensures items { IfOk result (λ v. v.items ≡ []) }
+    ensures len { IfOk result (λ v. vec_len v ≡ 0) }
+    ensures capacity { IfOk result (λ v. capacity ≤ vec_capacity v) }
+    ensures exact { IfOk result (λ v. vec_capacity v ≡ capacity) }
+    ensures succeeds { capacity ≡ 0 → IsOk result }
+{
+    match Vec::with_capacity(alloc, capacity) {
+        Ok(items) => Ok(items),
+        Err(error) => Err(evidence(error)),
+    }
+}
+
+/// A vector of these elements.
+pub fn from_slice<T: Copy>(alloc: Global, from: &[T]) -> Result<Vec<T>, Refused>
+    ensures items { IfOk result (λ v. v.items ≡ from.now) }
+    ensures len { IfOk result (λ v. vec_len v ≡ length from.now) }
+{
+    match Vec::from_slice(alloc, from) {
+        Ok(items) => Ok(items),
+        Err(error) => Err(evidence(error)),
+    }
+}
+
+/// Makes room for `additional` more elements.
+pub fn reserve<T>(items: &mut Vec<T>, additional: usize) -> Result<(), Refused>
+    ensures items { items.new.items ≡ items.old.items }
+    ensures len { vec_len items.new ≡ vec_len items.old }
+    ensures ok { OnOk result (vec_len items.new + additional ≤ vec_capacity items.new) }
+    ensures capacity { vec_capacity items.old ≤ vec_capacity items.new }
+    ensures succeeds { vec_len items.old + additional ≤ vec_capacity items.old → IsOk result }
+    ensures full { OnErr result (vec_capacity items.old < vec_len items.old + additional) }
+    ensures err { OnErr result (vec_capacity items.new ≡ vec_capacity items.old) }
+{
+    match items.reserve(additional) {
+        Ok(()) => Ok(()),
+        Err(error) => Err(evidence(error)),
+    }
+}
+
+/// Makes room for `additional` more elements, and for no others.
+pub fn reserve_exact<T>(items: &mut Vec<T>, additional: usize) -> Result<(), Refused>
+    ensures items { items.new.items ≡ items.old.items }
+    ensures len { vec_len items.new ≡ vec_len items.old }
+    ensures ok { OnOk result (vec_len items.new + additional ≤ vec_capacity items.new) }
+    ensures capacity { vec_capacity items.old ≤ vec_capacity items.new }
+    ensures capacity_exact { OnOk result
+        (vec_capacity items.new ≡ max (vec_capacity items.old) (vec_len items.old + additional)) }
+    ensures succeeds { vec_len items.old + additional ≤ vec_capacity items.old → IsOk result }
+    ensures full { OnErr result (vec_capacity items.old < vec_len items.old + additional) }
+    ensures err { OnErr result (vec_capacity items.new ≡ vec_capacity items.old) }
+{
+    match items.reserve_exact(additional) {
+        Ok(()) => Ok(()),
+        Err(error) => Err(evidence(error)),
+    }
+}
+
+/// Appends an element. Where memory is refused it is dropped.
+pub fn push<T: Drop>(items: &mut Vec<T>, value: T) -> Result<(), Refused>
+    ensures items { items.new.items
+        ≡ (if is_ok result then items.old.items ++ value ∷ [] else items.old.items) }
+    ensures len { vec_len items.new ≡ (if is_ok result then vec_len items.old + 1 else vec_len items.old) }
+    ensures capacity { vec_capacity items.old ≤ vec_capacity items.new }
+    ensures succeeds { vec_len items.old < vec_capacity items.old → IsOk result }
+    ensures full { OnErr result (vec_capacity items.old ≤ vec_len items.old) }
+{
+    match items.push(value) {
+        Ok(()) => Ok(()),
+        Err(AllocFailed { value: _value }) => Err(evidence(AllocError)),
+    }
+}
+
+/// Cuts the vector to n elements, or fills it up with `value`.
+pub fn resize<T: Copy>(items: &mut Vec<T>, n: usize, value: T) -> Result<(), Refused>
+    ensures items { items.new.items
+        ≡ (if is_ok result then take n items.old.items ++ replicate (n - vec_len items.old) value
+        else items.old.items) }
+    ensures len { vec_len items.new ≡ (if is_ok result then n else vec_len items.old) }
+    ensures capacity { vec_capacity items.old ≤ vec_capacity items.new }
+    ensures succeeds { n ≤ vec_capacity items.old → IsOk result }
+    ensures full { OnErr result (vec_capacity items.old < n) }
+{
+    match items.resize(n, value) {
+        Ok(()) => Ok(()),
+        Err(error) => Err(evidence(error)),
+    }
+}
+
+/// Appends copies of these elements.
+pub fn extend_from_slice<T: Copy>(items: &mut Vec<T>, from: &[T]) -> Result<(), Refused>
+    ensures items { items.new.items
+        ≡ (if is_ok result then items.old.items ++ from.now else items.old.items) }
+    ensures len { vec_len items.new
+        ≡ (if is_ok result then vec_len items.old + length from.now else vec_len items.old) }
+    ensures capacity { vec_capacity items.old ≤ vec_capacity items.new }
+    ensures succeeds { vec_len items.old + length from.now ≤ vec_capacity items.old → IsOk result }
+    ensures full { OnErr result (vec_capacity items.old < vec_len items.old + length from.now) }
+{
+    match items.extend_from_slice(from) {
+        Ok(()) => Ok(()),
+        Err(error) => Err(evidence(error)),
+    }
+}
