@@ -8,6 +8,7 @@ pub mod Inverses
 pub mod JobLists
 pub mod JobRuns
 pub mod PreparedCosets
+pub mod AtLogs
 pub mod PreparedHeights
 pub mod PublishedExtensions
 pub mod SameInputs

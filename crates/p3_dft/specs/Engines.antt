@@ -1,6 +1,5 @@
 -- What the clauses of the engines say again and again, in words.
-use Rattle.std.specs.Prelude.{◌≡◌, ◌↔◌, ◌⊎◌, ◌≢◌, ℕ, ◌+◌, ◌*◌, ◌^◌, ◌≤◌, List}
-use Rattle.std.specs.List.{Contains}
+use Rattle.std.specs.Prelude.{◌≡◌, ◌↔◌, ◌⊎◌, ◌≢◌, ℕ, ◌+◌, ◌*◌, ◌^◌, ◌≤◌, max, List}
 use Rattle.std.specs.declared.vec.Vec.{Vec}
 use Rattle.p3_field.specs.declared.fields.Field.{Ghosts as FieldMembers}
 use Rattle.p3_matrix.specs.RowMajor.{RowMajor, height}
@@ -91,18 +90,18 @@ one_column entries = record { width = 1; values = entries }
 abbrev pub col : {T Z : Type 0} → Vec T Z → RowMajor T
 col vec = one_column vec.items
 
--- the logarithms of the heights whose twiddles are there, and the number of products that were made
+-- the logarithm of the largest height whose twiddles are there, and the number of products that were made
 pub record EngineState : Type 0 where
-  pub prepared : List ℕ
+  pub prepared : ℕ
   pub products : ℕ
 
--- height 2 ^ k can be transformed without memory: height one has no layer and needs no twiddles, and a height is prepared with every larger one
+-- height 2 ^ k can be transformed without memory, as height one always can, and each height with every larger one
 abbrev pub IsPrepared : EngineState → ℕ → Type 0
-IsPrepared e k = (k ≡ 0) ⊎ ((n : ℕ) × (k ≤ n) × Contains e.prepared n)
+IsPrepared e k = k ≤ e.prepared
 
 -- no height above 2 ^ k was made prepared
 abbrev pub PreparesNoneAbove : ℕ → EngineState → EngineState → Type 0
-PreparesNoneAbove k before after = (n : ℕ) → IsPrepared after n → IsPrepared before n ⊎ (n ≤ k)
+PreparesNoneAbove k before after = after.prepared ≤ max before.prepared k
 
 -- what an engine shows of itself that keeps tables of cosets besides
 pub record CosetEngineState (F : Type 0) : Type 0 where

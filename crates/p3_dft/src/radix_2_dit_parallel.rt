@@ -1,7 +1,7 @@
 //! The transform by two halves of layers, each chunk by chunk, which leaves its rows in bit reversed order.
 
-ghost use Rattle.std.specs.Prelude.{◌≡◌, ◌↔◌, ◌⊎◌, ℕ, ◌+◌, ◌*◌, ◌/◌, ◌^◌, ◌<◌, ◌≤◌, IsTrue, IsOk, OnOk, OnErr};
-ghost use Rattle.p3_dft.specs.Engines.{IsPrepared, PreparesNoneAbove};
+ghost use Rattle.std.specs.Prelude.{◌≡◌, ◌↔◌, ◌⊎◌, ℕ, ◌+◌, ◌*◌, ◌/◌, ◌^◌, ◌<◌, ◌≤◌, IsTrue, IsOk, OnOk, OnErr, max};
+ghost use Rattle.p3_dft.specs.Engines.{IsPrepared};
 
 mod extension;
 mod network;
@@ -52,13 +52,12 @@ pub struct Radix2DitParallel<F: TwoAdicField> {
 }
 
 impl<F: TwoAdicField> Model for Radix2DitParallel<F> {
-    ghost use Rattle.std.specs.List.{range_with_len};
     ghost use Rattle.p3_dft.specs.Engines.{CosetEngineState};
 
     ghost Value = { CosetEngineState F };
 
     ghost view = { λ e. record {
-      roots = record { prepared = range_with_len 1 e.tables; products = e.products };
+      roots = record { prepared = e.tables; products = e.products };
       cosets = e.cosets;
     } };
 }
@@ -66,7 +65,7 @@ impl<F: TwoAdicField> Model for Radix2DitParallel<F> {
 impl<F: TwoAdicField> Default for Radix2DitParallel<F> {
     ghost use Rattle.std.specs.Prelude.{◌≡◌, []};
 
-    ghost is_default = { λ e. (e.roots.prepared ≡ []) × (e.cosets ≡ []) × (e.roots.products ≡ 0) };
+    ghost is_default = { λ e. (e.roots.prepared ≡ 0) × (e.cosets ≡ []) × (e.roots.products ≡ 0) };
 
     fn default() -> Self {
         Radix2DitParallel {
@@ -80,7 +79,7 @@ impl<F: TwoAdicField> Default for Radix2DitParallel<F> {
 impl<F: TwoAdicField> Clone for Radix2DitParallel<F> {
     ghost use Rattle.std.specs.Prelude.{◌≡◌, [], ⊤};
 
-    ghost is_clone = { λ _ e. (e.roots.prepared ≡ []) × (e.cosets ≡ []) × (e.roots.products ≡ 0) };
+    ghost is_clone = { λ _ e. (e.roots.prepared ≡ 0) × (e.cosets ≡ []) × (e.roots.products ≡ 0) };
 
     ghost is_infallible = { λ _. ⊤ };
 
@@ -98,10 +97,8 @@ impl<F: TwoAdicField> Radix2DitParallel<F> {
     pub fn prepare(&mut self, alloc: Global, log_h: usize) -> Result<(), DftError>
         requires within { log_h ≤ F.TWO_ADICITY }
         requires size { 2 ^ log_h < 2 ^ 64 }
-        ensures prepares { OnOk result (IsPrepared self.new.roots log_h) }
+        ensures made { OnOk result (self.new.roots.prepared ≡ max self.old.roots.prepared log_h) }
         ensures ready { IsPrepared self.old.roots log_h → IsOk result }
-        ensures keeps { (k : ℕ) → IsPrepared self.old.roots k → IsPrepared self.new.roots k }
-        ensures only { PreparesNoneAbove log_h self.old.roots self.new.roots }
         ensures refused { OnErr result (self.new ≡ self.old) }
         ensures cosets { self.new.cosets ≡ self.old.cosets }
         ensures products { self.new.roots.products ≡ self.old.roots.products }

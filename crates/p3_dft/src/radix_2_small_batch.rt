@@ -49,20 +49,19 @@ pub struct Radix2DFTSmallBatch<F: TwoAdicField> {
 
 impl<F: TwoAdicField> Model for Radix2DFTSmallBatch<F> {
     ghost use Rattle.std.specs.Prelude.{◌≤◌};
-    ghost use Rattle.std.specs.List.{range_with_len};
     ghost use Rattle.p3_dft.specs.Engines.{EngineState};
 
     ghost Value = { EngineState };
 
-    ghost view = { λ e. record { prepared = range_with_len 1 e.tables; products = e.products } };
+    ghost view = { λ e. record { prepared = e.tables; products = e.products } };
 
     ghost invariant = { λ e. e.tile ≤ 4294967296 };
 }
 
 impl<F: TwoAdicField> Default for Radix2DFTSmallBatch<F> {
-    ghost use Rattle.std.specs.Prelude.{◌≡◌, []};
+    ghost use Rattle.std.specs.Prelude.{◌≡◌};
 
-    ghost is_default = { λ e. (e.prepared ≡ []) × (e.products ≡ 0) };
+    ghost is_default = { λ e. (e.prepared ≡ 0) × (e.products ≡ 0) };
 
     fn default() -> Self {
         Self::empty(TILE)
@@ -70,9 +69,9 @@ impl<F: TwoAdicField> Default for Radix2DFTSmallBatch<F> {
 }
 
 impl<F: TwoAdicField> Clone for Radix2DFTSmallBatch<F> {
-    ghost use Rattle.std.specs.Prelude.{◌≡◌, [], ⊤};
+    ghost use Rattle.std.specs.Prelude.{◌≡◌, ⊤};
 
-    ghost is_clone = { λ _ e. (e.prepared ≡ []) × (e.products ≡ 0) };
+    ghost is_clone = { λ _ e. (e.prepared ≡ 0) × (e.products ≡ 0) };
 
     ghost is_infallible = { λ _. ⊤ };
 
@@ -85,7 +84,7 @@ impl<F: TwoAdicField> Radix2DFTSmallBatch<F> {
     // With tiles of so many elements and no tables.
     fn empty(tile: usize) -> Self
         requires { tile ≤ MAX_TILE }
-        ensures prepared { result.prepared ≡ [] }
+        ensures prepared { result.prepared ≡ 0 }
         ensures products { result.products ≡ 0 }
     {
         Radix2DFTSmallBatch {
@@ -100,8 +99,7 @@ impl<F: TwoAdicField> Radix2DFTSmallBatch<F> {
     /// error is want of memory for the tables.
     pub fn new(alloc: Global, n: usize) -> Result<Self, DftError>
         requires { 2 ≤ n → (k : ℕ) × (n ≡ 2 ^ k) × (k ≤ F.TWO_ADICITY) }
-        ensures prepares { AtLog n (λ k. IfOk result (λ e. IsPrepared e k)) }
-        ensures only { IfOk result (λ e. (k : ℕ) → IsPrepared e k → 2 ^ k ≤ max 1 n) }
+        ensures prepares { IfOk result (λ e. 2 ^ e.prepared ≡ max 1 n) }
         ensures ready { n ≤ 1 → IsOk result }
         ensures products { IfOk result (λ e. e.products ≡ 0) }
     {
@@ -115,8 +113,7 @@ impl<F: TwoAdicField> Radix2DFTSmallBatch<F> {
         requires height { 2 ≤ n → (k : ℕ) × (n ≡ 2 ^ k) × (k ≤ F.TWO_ADICITY) }
         requires some { 1 ≤ tile }
         requires tile { tile ≤ 2 ^ 32 }
-        ensures prepares { AtLog n (λ k. IfOk result (λ e. IsPrepared e k)) }
-        ensures only { IfOk result (λ e. (k : ℕ) → IsPrepared e k → 2 ^ k ≤ max 1 n) }
+        ensures prepares { IfOk result (λ e. 2 ^ e.prepared ≡ max 1 n) }
         ensures ready { n ≤ 1 → IsOk result }
         ensures products { IfOk result (λ e. e.products ≡ 0) }
     {
@@ -135,10 +132,8 @@ impl<F: TwoAdicField> Radix2DFTSmallBatch<F> {
     pub fn prepare(&mut self, alloc: Global, log_h: usize) -> Result<(), DftError>
         requires within { log_h ≤ F.TWO_ADICITY }
         requires size { 2 ^ log_h < 2 ^ 64 }
-        ensures prepares { OnOk result (IsPrepared self.new log_h) }
+        ensures made { OnOk result (self.new.prepared ≡ max self.old.prepared log_h) }
         ensures ready { IsPrepared self.old log_h → IsOk result }
-        ensures keeps { (k : ℕ) → IsPrepared self.old k → IsPrepared self.new k }
-        ensures only { PreparesNoneAbove log_h self.old self.new }
         ensures refused { OnErr result (self.new ≡ self.old) }
         ensures products { self.new.products ≡ self.old.products }
     {

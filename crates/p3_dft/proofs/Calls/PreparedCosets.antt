@@ -2,15 +2,13 @@
 use Rattle.std.specs.Prelude.{⊤}
 use Rattle.std.proofs.Common.{◌≡◌, ◌⊎◌, inl, inr, ℕ, ◌≤◌, List, [], ◌∷◌, ◌++◌, sym, subst, length-append, arith}
 use Rattle.std.proofs.Math.ListN.{get_or-append}
-use Rattle.std.specs.List.{range_with_len}
 use Rattle.p3_field.specs.declared.fields.Field.{Ghosts as FieldMembers}
 use Rattle.p3_networks.specs.Twiddles.{Coset, HasCoset, IsCosetOf}
 use Rattle.p3_dft.specs.Engines.{CosetEngineState, EngineFacts, IsCosetPrepared, IsLater, IsPrepared, plain_facts}
-use Rattle.p3_dft.proofs.Calls.PreparedHeights.{prepared_until, until_prepared}
 
 -- an engine with powers of the roots up to a height, so many products, and tables of cosets
 abbrev pub tabled : {F : Type 0} → ℕ → ℕ → List (Coset F) → CosetEngineState F
-tabled log products cosets = record { roots = record { prepared = range_with_len 1 log; products = products }; cosets = cosets }
+tabled log products cosets = record { roots = record { prepared = log; products = products }; cosets = cosets }
 
 -- the facts of an engine with tables of cosets besides: a prepared coset of a prepared height succeeds
 abbrev pub coset_tabled_facts : {F : Type 0} (f : FieldMembers F) → (ℕ → ℕ → ℕ) → (ℕ → ℕ → ℕ → ℕ) → (ℕ → ℕ → ℕ) → EngineFacts (CosetEngineState F) F
@@ -45,7 +43,7 @@ module _ {F : Type 0} (f : FieldMembers F) where
       → ((k : ℕ) (s : f.Element) → HasCoset f cosets k s → HasCoset f more_cosets k s) → products ≤ more_products
       → IsLater (coset_tabled_facts f t x b) before (tabled more_log more_products more_cosets)
   later_with_tables t x b before log more_log products more_products cosets more_cosets is higher stays grows =
-      let still = λ (k : ℕ) (there : IsPrepared (tabled log products cosets).roots k). prepared_until more_log k (let held = until_prepared log k there in omega (arith, held, higher)) in
+      let still : (k : ℕ) → k ≤ log → k ≤ more_log = λ k there. omega (arith, there, higher) in
       subst (λ (e : CosetEngineState F). IsLater (coset_tabled_facts f t x b) e (tabled more_log more_products more_cosets)) is (record {
         keeps = still;
         keeps_cosets = prepared_coset_stays (tabled log products cosets) (tabled more_log more_products more_cosets) still stays;

@@ -1,11 +1,10 @@
 use Rattle.std.proofs.Common.{ℕ, ◌≡◌, ◌+◌, ◌^◌, ◌∙◌, refl, arith}
-use Rattle.std.proofs.Math.Nat.{le-add_right}
+use Rattle.std.proofs.Math.Nat.{le_refl}
 use Rattle.std.proofs.lemmas.Result.{IfOk-from_err, IfOk-weaker}
 use Rattle.p3_matrix.specs.RowMajor.{height}
 use Rattle.p3_dft.proofs.Calls.EngineSteps.{after_part, parts_after, products_after}
 use Rattle.p3_dft.proofs.Calls.ExtendedTransforms.{answered_shape, extension_of_shifted}
 use Rattle.p3_matrix.proofs.Rows.Padding.{padded_shape}
-use Rattle.p3_dft.proofs.Calls.PreparedHeights.{none_above, still_above}
 use Rattle.p3_dft.proofs.Calls.Shapes.{input_fits, output_fits, output_log_small, output_size}
 use Rattle.p3_dft.proofs.radix_2_dit.Radix2DitTwoAdicSubgroupDft.coset_lde_batch_with_transform.Goals as goal
 
@@ -48,17 +47,17 @@ returns-clause-values g c =
     c.dft_batch.ensures.values
 
 pub returns-in_err-coefficients-clause-only : goal.returns-in_err-coefficients-clause-only
-returns-in_err-coefficients-clause-only g c k e n now = none_above n k (k + c.args.added_bits) (le-add_right _ _) (c.idft_batch.ensures.only k e n now)
+returns-in_err-coefficients-clause-only g c k e = omega (arith, c.idft_batch.ensures.only k e)
 
 pub returns-clause-only : goal.returns-clause-only
-returns-clause-only g c = λ k e n now.
+returns-clause-only g c = λ k e.
     let a = c.args.added_bits in
     let shape = answered_shape g.F.Field g.F.TwoAdicField.generator _ _ _ _ _ k e c.in_ok-coefficients.ensures.coefficients (refl, refl) c.width-width.ensures.whole c.requires.shape
     c.transform-changed.ensures in
     let same = c.shift_rows.ensures.shifted in
     let grown = padded_shape g.F.Field.ZERO (g.N.IntoRowMajorMatrix.stored c.args.mat) c.shift_rows.new.mat c.in_ok-padded.padded a k c.pad_rows.ensures.whole
     (same.high ∙ shape.0, same.wide ∙ shape.1) e c.in_ok-padded.ensures.padded in
-    still_above n (k + a) (λ more. none_above n k (k + a) (le-add_right k a) (c.in_ok-coefficients.ensures.only k e n ((c.add_products.ensures.engine.same n).1 more))) (c.dft_batch.ensures.only (k + a) grown.0 n now)
+    omega (arith, c.in_ok-coefficients.ensures.only k e, (c.add_products.ensures.engine.same _).1 (le_refl _), c.dft_batch.ensures.only (k + a) grown.0)
 
 pub returns-clause-engine : goal.returns-clause-engine
 returns-clause-engine g c =
@@ -83,6 +82,6 @@ pub returns-in_err-padded : goal.returns-in_err-padded
 returns-in_err-padded g c =
     record {
       values = IfOk-from_err _ _ c.from_residual-in_err-padded.ensures.0;
-      only = λ k e n now. none_above n k (k + c.args.added_bits) (le-add_right _ _) (c.in_ok-coefficients.ensures.only k e n ((c.add_products.ensures.engine.same n).1 now));
+      only = λ k e. omega (arith, c.in_ok-coefficients.ensures.only k e, (c.add_products.ensures.engine.same _).1 (le_refl _));
       engine = let fits = c.requires.fits in let m = g.N.IntoRowMajorMatrix.stored c.args.mat in let shape = answered_shape g.F.Field g.F.TwoAdicField.generator _ _ _ _ _ fits.log fits.high c.in_ok-coefficients.ensures.coefficients (refl, refl) c.width-width.ensures.whole c.requires.shape c.transform-changed.ensures in after_part _ _ _ _ _ c.from_residual-in_err-padded.ensures.0 (λ k. omega arith) (products_after _ 1 m c.transform-changed.result _ _ _ _ _ shape (omega (arith, c.shift_rows.ensures.cost, c.new-products.ensures)) c.in_ok-coefficients.ensures.engine c.add_products.ensures.engine);
     }

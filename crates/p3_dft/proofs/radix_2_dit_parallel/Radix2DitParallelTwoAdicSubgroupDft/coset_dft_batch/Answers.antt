@@ -1,11 +1,11 @@
-use Rattle.std.proofs.Common.{◌≡◌, ◌⊎◌, inl, inr, Bool, false, ℕ, ◌^◌, ◌∷◌, [], ◌++◌, List, IsTrue, refl, sym, ap, ◌∙◌, subst, rules, IfOk, ◌+◌, ◌*◌, ◌/◌, ◌≤◌}
+use Rattle.std.proofs.Common.{◌≡◌, ◌⊎◌, inl, inr, Bool, false, ℕ, ◌^◌, ◌∷◌, [], ◌++◌, List, IsTrue, refl, sym, ap, ◌∙◌, subst, arith, rules, IfOk, ◌+◌, ◌*◌, ◌/◌, ◌≤◌}
 use Rattle.p3_matrix.specs.RowMajor.{RowMajor, height}
 use Rattle.p3_matrix.specs.BitOrder.{bit_reversal, reversed_rows}
 use Rattle.p3_matrix.proofs.TwoPowers.{log_same}
 use Rattle.p3_matrix.specs.Cosets.{IsValues, values_of}
 use Rattle.p3_dft.specs.Transforms.{IsTransform}
 use Rattle.p3_networks.specs.Twiddles.{Coset, HasCoset}
-use Rattle.p3_dft.specs.Engines.{CosetEngineState, IsPrepared, IsCosetPrepared}
+use Rattle.p3_dft.specs.Engines.{CosetEngineState, IsCosetPrepared}
 use Rattle.p3_dft.proofs.Calls.PreparedHeights.{not_ok}
 use Rattle.p3_dft.proofs.Calls.PreparedCosets.{coset_stays, later_with_tables, tabled}
 use Rattle.p3_dft.proofs.BitReversed.OneRow.{row_handed_back, row_seen}
@@ -28,8 +28,8 @@ its_table other more (inr (inl (one, there))) = absurd (other one)
 its_table other more (inr (inr (other_too, has))) = has
 
 -- the subgroup is prepared where the coset of one is
-its_heights : {O N Q H : Type 0} → O → N ⊎ ((O × (N ⊎ Q)) ⊎ ((O → ⊥) × H)) → N ⊎ Q
-its_heights one (inl point) = inl point
+its_heights : {O H : Type 0} {k n : ℕ} → O → (k ≡ 0) ⊎ ((O × (k ≤ n)) ⊎ ((O → ⊥) × H)) → k ≤ n
+its_heights one (inl point) = omega (arith, point)
 its_heights one (inr (inl (same, there))) = there
 its_heights one (inr (inr (other, has))) = absurd (other one)
 
@@ -63,7 +63,7 @@ returns-then-height-eq1 g c =
       succeeds = λ k high heights ready. refl;
       ready = λ k high ready. refl;
       tables = λ k high. inl (log_same k 0 (sym high ∙ sym tall ∙ c.if-height-eq1.true));
-      only = λ k high n now. inl now;
+      only = λ k high. omega arith;
       roots = λ other. refl;
       once = λ k high ready. refl;
       one = λ same. refl;
@@ -110,7 +110,7 @@ returns-in_err-place g c =
       succeeds = λ k high heights ready. absurd (refusal k high ready);
       ready = λ k high ready. absurd (refusal k high ready);
       tables = λ k high. IfOk-from_err _ _ err;
-      only = λ k high n now. inl (subst (λ (e : CosetEngineState g.row.F.Denot). IsPrepared e.roots n) c.self.view_is now);
+      only = λ k high. omega (arith, ap (λ (e : CosetEngineState g.row.F.Denot). e.roots.prepared) c.self.view_is);
       roots = λ is_other. ap (λ (e : CosetEngineState g.row.F.Denot). e.roots.prepared) c.self.view_is;
       once = λ k high ready. kept ∙ old_cosets;
       one = λ is. kept ∙ old_cosets;
@@ -140,7 +140,7 @@ returns g c =
       succeeds = λ k high heights ready. refl;
       ready = λ k high ready. refl;
       tables = λ k high. inr (inr (other, subst (λ (n : ℕ). HasCoset field c.make.new.self n s) (same k high) (c.in_ok-place.place, c.in_ok-place.ensures.made)));
-      only = λ k high n now. inl (subst (λ (e : CosetEngineState g.row.F.Denot). IsPrepared e.roots n) c.self.view_is now);
+      only = λ k high. omega (arith, ap (λ (e : CosetEngineState g.row.F.Denot). e.roots.prepared) c.self.view_is);
       roots = λ is_other. ap (λ (e : CosetEngineState g.row.F.Denot). e.roots.prepared) c.self.view_is;
       once = λ k high ready. c.make.ensures.once (held k high ready) ∙ old_cosets;
       one = λ is. absurd (other is);

@@ -1,17 +1,16 @@
-use Rattle.std.proofs.Common.{◌⊎◌, ◌≡◌, ℕ, ◌+◌, ◌-◌, ◌*◌, ◌/◌, ◌^◌, ◌≤◌, ◌++◌, ◌∷◌, [], sym, ap, ◌∙◌, subst, arith, refl}
+use Rattle.std.proofs.Common.{◌≡◌, ℕ, ◌+◌, ◌-◌, ◌*◌, ◌/◌, ◌^◌, ◌≤◌, ◌++◌, ◌∷◌, [], sym, ap, ◌∙◌, subst, arith, refl}
 use Rattle.p3_matrix.specs.BitOrder.{bit_reversal}
 use Rattle.p3_matrix.specs.Blocks.{AreBlocksOf, IsPartition}
 use Rattle.p3_matrix.specs.RowMajor.{RowMajor, HasShapeOf, IsRowMajor, height}
 use Rattle.p3_matrix.proofs.RowMajor.{whole_kept}
 use Rattle.p3_matrix.proofs.TwoPowers.{log_same}
 use Rattle.p3_networks.specs.Twiddles.{AddsCosets, HasCoset, HasCosets}
-use Rattle.p3_dft.specs.Engines.{CosetEngineState, IsPrepared}
+use Rattle.p3_dft.specs.Engines.{CosetEngineState}
 use Rattle.p3_matrix.specs.Cosets.{values_of}
 use Rattle.p3_dft.proofs.BitReversed.Coefficients.{values_of_answered}
 use Rattle.p3_dft.proofs.BitReversed.Rows.{values_seen}
 use Rattle.p3_matrix.proofs.Rows.Padding.{padded_shape, padded_whole}
 use Rattle.p3_dft.proofs.Calls.PreparedCosets.{later_with_tables}
-use Rattle.p3_dft.proofs.Calls.PreparedHeights.{prepared_before, prepared_until}
 use Rattle.p3_dft.proofs.Calls.Shapes.{output_log_small, both_logs_fit}
 use Rattle.p3_dft.proofs.radix_2_dit_parallel.Radix2DitParallelTwoAdicSubgroupDft.coset_lde_batch_with_blocks.Goals as goal
 
@@ -105,7 +104,7 @@ returns-in-Err g c =
       unpublished = refl;
       prepared = λ k high. tt;
       tables = λ k high. tt;
-      only = λ k e n now. subst (λ (x : CosetEngineState g.row.F.Denot). IsPrepared x.roots n ⊎ (n ≤ k)) c.self.view_is (prepared_before c.self.inside.tables c.coefficients_with_room-room.new.tables k n (c.coefficients_with_room-room.ensures.only k (ap height c.into_row_major_matrix-mat.ensures ∙ e)) now);
+      only = λ k e. omega (arith, ap (λ (e : CosetEngineState g.row.F.Denot). e.roots.prepared) c.self.view_is, c.coefficients_with_room-room.ensures.only k (ap height c.into_row_major_matrix-mat.ensures ∙ e));
       keeps_tables = λ k s has. c.coefficients_with_room-room.ensures.keeps_cosets k s (subst (λ (x : CosetEngineState g.row.F.Denot). HasCoset g.F.Field x.cosets k s) (sym c.self.view_is) has);
       adds_tables = λ k e. let field = g.F.Field in subst (λ (x : CosetEngineState g.row.F.Denot). AddsCosets field g.F.TwoAdicField.generator k c.args.added_bits (field.value c.args.shift) x.cosets c.coefficients_with_room-room.new.cosets) c.self.view_is (c.coefficients_with_room-room.ensures.adds k (ap height c.into_row_major_matrix-mat.ensures ∙ e));
       once = λ k e all. let field = g.F.Field in let held = subst (λ (x : CosetEngineState g.row.F.Denot). HasCosets field g.F.TwoAdicField.generator x.cosets k c.args.added_bits (field.value c.args.shift)) (sym c.self.view_is) all in c.coefficients_with_room-room.ensures.once k (ap height c.into_row_major_matrix-mat.ensures ∙ e) held ∙ ap (λ (x : CosetEngineState g.row.F.Denot). x.cosets) c.self.view_is;
@@ -149,9 +148,9 @@ returns-in-Err-extended g c =
             },
           );
       unpublished = tt;
-      prepared = λ k e. prepared_until _ k (c.in-Ok.ensures.prepared k (stored ∙ e));
+      prepared = λ k e. c.in-Ok.ensures.prepared k (stored ∙ e);
       tables = λ k e. c.in-Ok.ensures.cosets k (stored ∙ e);
-      only = λ k e n now. subst (λ (x : CosetEngineState g.row.F.Denot). IsPrepared x.roots n ⊎ (n ≤ k)) c.self.view_is (prepared_before c.self.inside.tables c.coefficients_with_room-room.new.tables k n (c.coefficients_with_room-room.ensures.only k (stored ∙ e)) now);
+      only = λ k e. omega (arith, ap (λ (e : CosetEngineState g.row.F.Denot). e.roots.prepared) c.self.view_is, c.coefficients_with_room-room.ensures.only k (stored ∙ e));
       keeps_tables = λ k shift has. c.coefficients_with_room-room.ensures.keeps_cosets k shift (subst (λ (x : CosetEngineState g.row.F.Denot). HasCoset field x.cosets k shift) (sym c.self.view_is) has);
       adds_tables = λ k e. subst (λ (x : CosetEngineState g.row.F.Denot). AddsCosets field generator k a s x.cosets c.coefficients_with_room-room.new.cosets) c.self.view_is (c.coefficients_with_room-room.ensures.adds k (stored ∙ e));
       once = λ k e all.
@@ -201,9 +200,9 @@ returns g c =
           };
       refused = tt;
       unpublished = tt;
-      prepared = λ k e. prepared_until _ k (c.in-Ok.ensures.prepared k (stored ∙ e));
+      prepared = λ k e. c.in-Ok.ensures.prepared k (stored ∙ e);
       tables = λ k e. c.in-Ok.ensures.cosets k (stored ∙ e);
-      only = λ k e n now. subst (λ (x : CosetEngineState g.row.F.Denot). IsPrepared x.roots n ⊎ (n ≤ k)) c.self.view_is (prepared_before c.self.inside.tables c.coefficients_with_room-room.new.tables k n (c.coefficients_with_room-room.ensures.only k (stored ∙ e)) now);
+      only = λ k e. omega (arith, ap (λ (e : CosetEngineState g.row.F.Denot). e.roots.prepared) c.self.view_is, c.coefficients_with_room-room.ensures.only k (stored ∙ e));
       keeps_tables = λ k shift has. c.coefficients_with_room-room.ensures.keeps_cosets k shift (subst (λ (x : CosetEngineState g.row.F.Denot). HasCoset field x.cosets k shift) (sym c.self.view_is) has);
       adds_tables = λ k e. subst (λ (x : CosetEngineState g.row.F.Denot). AddsCosets field generator k a s x.cosets c.coefficients_with_room-room.new.cosets) c.self.view_is (c.coefficients_with_room-room.ensures.adds k (stored ∙ e));
       once = λ k e all.

@@ -1,17 +1,16 @@
-use Rattle.std.proofs.Common.{◌≡◌, ◌⊎◌, inl, ℕ, ◌^◌, ◌≤◌, refl, sym, ap, ◌∙◌, subst, arith, Ok, ◌+◌, ◌*◌, ◌/◌}
-use Rattle.std.specs.List.{range_with_len}
+use Rattle.std.proofs.Common.{◌≡◌, ℕ, ◌^◌, ◌≤◌, refl, sym, ap, ◌∙◌, arith, Ok, ◌+◌, ◌*◌, ◌/◌}
 use Rattle.p3_matrix.specs.BitOrder.{bit_reversal}
 use Rattle.p3_matrix.specs.Matrix.{matrix}
 use Rattle.p3_matrix.specs.RowMajor.{RowMajor, height}
 use Rattle.p3_matrix.proofs.Matrices.{same_sym, mapped_same}
 use Rattle.p3_matrix.proofs.TwoPowers.{log_same}
 use Rattle.p3_matrix.specs.Cosets.{values_of}
-use Rattle.p3_dft.specs.Engines.{CosetEngineState, IsPrepared}
+use Rattle.p3_dft.specs.Engines.{CosetEngineState}
 use Rattle.p3_dft.proofs.BitReversed.Coefficients.{interpolation_of_coefficients}
 use Rattle.p3_dft.proofs.BitReversed.Rows.{transform_of_row}
 use Rattle.p3_matrix.proofs.Polynomials.Interpolation.{same_coefficients}
 use Rattle.p3_dft.proofs.Calls.PreparedCosets.{later_with_tables, tabled}
-use Rattle.p3_dft.proofs.Calls.PreparedHeights.{not_ok, prepared_before, until_prepared, prepared_at}
+use Rattle.p3_dft.proofs.Calls.PreparedHeights.{not_ok}
 use Rattle.std.proofs.Math.Nat.{le_refl}
 use Rattle.std.proofs.lemmas.Result.{IfOk-from_err}
 use Rattle.p3_dft.proofs.Calls.EngineSteps.{later_same}
@@ -25,8 +24,8 @@ returns-then-height-eq1 g c =
     record {
       coefficients = let m = c.into_row_major_matrix-mat.result in let high : height m ≡ 2 ^ c.requires.fits.log = ap height c.into_row_major_matrix-mat.ensures ∙ c.requires.fits.high in rw (← c.into_row_major_matrix-mat.ensures) (interpolation_of_coefficients g.F.Field g.F.TwoAdicField.generator g.met.F.TwoAdicField.roots_law m m c.requires.fits.log c.requires.fits.within high (record { high = refl; wide = refl; values = transform_of_row g.F.Field g.F.TwoAdicField.generator m (sym c.height-height.ensures.height ∙ c.if-height-eq1.true) c.requires.fits.log high }));
       succeeds = λ k high ready. refl;
-      serves = λ k high. let tall : c.height-height.result ≡ height (g.N.IntoRowMajorMatrix.stored c.args.mat) = c.height-height.ensures.height ∙ ap height c.into_row_major_matrix-mat.ensures in inl (log_same k 0 (sym high ∙ sym tall ∙ c.if-height-eq1.true));
-      only = λ k high n now. inl now;
+      serves = λ k high. let tall : c.height-height.result ≡ height (g.N.IntoRowMajorMatrix.stored c.args.mat) = c.height-height.ensures.height ∙ ap height c.into_row_major_matrix-mat.ensures in let none : k ≡ 0 = log_same k 0 (sym high ∙ sym tall ∙ c.if-height-eq1.true) in omega (arith, none);
+      only = λ k high. omega arith;
       refused = tt;
       one_row = λ one. (ap Ok c.into_row_major_matrix-mat.ensures, refl);
       cosets = refl;
@@ -60,9 +59,9 @@ returns-in_err-make g c =
     let err = c.from_residual.ensures.0 in
     record {
       coefficients = IfOk-from_err _ _ err;
-      succeeds = λ k high ready. let tall : c.height-height.result ≡ height (g.N.IntoRowMajorMatrix.stored c.args.mat) = c.height-height.ensures.height ∙ ap height c.into_row_major_matrix-mat.ensures in let log = c.log2_strict_usize-log_h.result in let same : k ≡ log = log_same k log (sym high ∙ sym tall ∙ c.log2_strict_usize-log_h.ensures.power) in let held : k ≤ c.self.inside.tables = until_prepared _ k (subst (λ (e : CosetEngineState g.row.F.Denot). IsPrepared e.roots k) (sym c.self.view_is) ready) in let there : log ≤ c.self.inside.tables = omega (arith, same, held) in absurd (not_ok c.make.result _ c.in_err-make.was (c.make.ensures.ready there));
+      succeeds = λ k high ready. let tall : c.height-height.result ≡ height (g.N.IntoRowMajorMatrix.stored c.args.mat) = c.height-height.ensures.height ∙ ap height c.into_row_major_matrix-mat.ensures in let log = c.log2_strict_usize-log_h.result in let same : k ≡ log = log_same k log (sym high ∙ sym tall ∙ c.log2_strict_usize-log_h.ensures.power) in let there : log ≤ c.self.inside.tables = omega (arith, same, ready, ap (λ (e : CosetEngineState g.row.F.Denot). e.roots.prepared) c.self.view_is) in absurd (not_ok c.make.result _ c.in_err-make.was (c.make.ensures.ready there));
       serves = λ k high. IfOk-from_err _ _ err;
-      only = λ k high n now. let tall : c.height-height.result ≡ height (g.N.IntoRowMajorMatrix.stored c.args.mat) = c.height-height.ensures.height ∙ ap height c.into_row_major_matrix-mat.ensures in let same : c.log2_strict_usize-log_h.result ≡ k = log_same _ k (sym c.log2_strict_usize-log_h.ensures.power ∙ tall ∙ high) in subst (λ (e : CosetEngineState g.row.F.Denot). IsPrepared e.roots n ⊎ (n ≤ k)) c.self.view_is (subst (λ (l : ℕ). IsPrepared (record { prepared = range_with_len 1 c.self.inside.tables; products = c.self.inside.products }) n ⊎ (n ≤ l)) same (prepared_before c.self.inside.tables c.make.new.self _ n c.make.ensures.only now));
+      only = λ k high. let tall : c.height-height.result ≡ height (g.N.IntoRowMajorMatrix.stored c.args.mat) = c.height-height.ensures.height ∙ ap height c.into_row_major_matrix-mat.ensures in let same : c.log2_strict_usize-log_h.result ≡ k = log_same _ k (sym c.log2_strict_usize-log_h.ensures.power ∙ tall ∙ high) in omega (arith, same, ap (λ (e : CosetEngineState g.row.F.Denot). e.roots.prepared) c.self.view_is, c.make.ensures.only);
       refused = on_any_error _ (ap (λ l. tabled l c.self.inside.products c.self.inside.cosets) c.in_err-make.ensures.refused ∙ c.self.view_is);
       one_row = λ one. absurd (c.if-height-eq1.false (c.height-height.ensures.height ∙ ap height c.into_row_major_matrix-mat.ensures ∙ one));
       cosets = ap (λ (e : CosetEngineState g.row.F.Denot). e.cosets) c.self.view_is;
@@ -75,8 +74,8 @@ returns g c =
     record {
       coefficients = let field = g.F.Field in let log = c.log2_strict_usize-log_h.result in let m = c.into_row_major_matrix-mat.result in let reversed_coefficients = c.interpolate_to_reversed.new.mat in let out = c.reverse_rows.new.mat in let tall : c.height-height.result ≡ height (g.N.IntoRowMajorMatrix.stored c.args.mat) = c.height-height.ensures.height ∙ ap height c.into_row_major_matrix-mat.ensures in let same : log ≡ c.requires.fits.log = log_same _ _ (sym c.log2_strict_usize-log_h.ensures.power ∙ tall ∙ c.requires.fits.high) in let high : height m ≡ 2 ^ log = sym c.height-height.ensures.height ∙ c.log2_strict_usize-log_h.ensures.power in let are = c.interpolate_to_reversed.ensures.coefficients in rw (← c.into_row_major_matrix-mat.ensures) (interpolation_of_coefficients field g.F.TwoAdicField.generator g.met.F.TwoAdicField.roots_law m out log (omega (arith, same, c.requires.fits.within)) high (same_coefficients field.ring g.met.F.TwoAdicField.roots_law (values_of field m) log field.ring.one (bit_reversal log (values_of field reversed_coefficients)) (values_of field out) (same_sym (values_of field out) (bit_reversal log (values_of field reversed_coefficients)) (mapped_same field.value (matrix field.ZERO out) (bit_reversal log (matrix field.ZERO reversed_coefficients)) (c.reverse_rows.ensures.rows log (are.high ∙ high) field.ZERO))) are));
       succeeds = λ k high ready. refl;
-      serves = λ k high. let tall : c.height-height.result ≡ height (g.N.IntoRowMajorMatrix.stored c.args.mat) = c.height-height.ensures.height ∙ ap height c.into_row_major_matrix-mat.ensures in let log = c.log2_strict_usize-log_h.result in let same : log ≡ k = log_same log k (sym c.log2_strict_usize-log_h.ensures.power ∙ tall ∙ high) in prepared_at _ _ k same c.in_ok-make.ensures.made;
-      only = λ k high n now. let tall : c.height-height.result ≡ height (g.N.IntoRowMajorMatrix.stored c.args.mat) = c.height-height.ensures.height ∙ ap height c.into_row_major_matrix-mat.ensures in let same : c.log2_strict_usize-log_h.result ≡ k = log_same _ k (sym c.log2_strict_usize-log_h.ensures.power ∙ tall ∙ high) in subst (λ (e : CosetEngineState g.row.F.Denot). IsPrepared e.roots n ⊎ (n ≤ k)) c.self.view_is (subst (λ (l : ℕ). IsPrepared (record { prepared = range_with_len 1 c.self.inside.tables; products = c.self.inside.products }) n ⊎ (n ≤ l)) same (prepared_before c.self.inside.tables c.make.new.self _ n c.make.ensures.only now));
+      serves = λ k high. let tall : c.height-height.result ≡ height (g.N.IntoRowMajorMatrix.stored c.args.mat) = c.height-height.ensures.height ∙ ap height c.into_row_major_matrix-mat.ensures in let log = c.log2_strict_usize-log_h.result in let same : log ≡ k = log_same log k (sym c.log2_strict_usize-log_h.ensures.power ∙ tall ∙ high) in omega (arith, same, c.in_ok-make.ensures.made);
+      only = λ k high. let tall : c.height-height.result ≡ height (g.N.IntoRowMajorMatrix.stored c.args.mat) = c.height-height.ensures.height ∙ ap height c.into_row_major_matrix-mat.ensures in let same : c.log2_strict_usize-log_h.result ≡ k = log_same _ k (sym c.log2_strict_usize-log_h.ensures.power ∙ tall ∙ high) in omega (arith, same, ap (λ (e : CosetEngineState g.row.F.Denot). e.roots.prepared) c.self.view_is, c.make.ensures.only);
       refused = tt;
       one_row = λ one. absurd (c.if-height-eq1.false (c.height-height.ensures.height ∙ ap height c.into_row_major_matrix-mat.ensures ∙ one));
       cosets = ap (λ (e : CosetEngineState g.row.F.Denot). e.cosets) c.self.view_is;

@@ -1,4 +1,4 @@
-use Rattle.std.proofs.Common.{◌≡◌, ◌⊎◌, inl, ℕ, ◌+◌, ◌*◌, ◌/◌, ◌<◌, ◌^◌, ◌≤◌, Result, Ok, Err, OnOk, refl, sym, ap, ap₂, ◌∙◌, subst, arith}
+use Rattle.std.proofs.Common.{◌≡◌, ℕ, ◌+◌, ◌*◌, ◌/◌, ◌<◌, ◌^◌, ◌≤◌, Result, Ok, Err, OnOk, refl, sym, ap, ap₂, ◌∙◌, subst, arith}
 use Rattle.std.proofs.lemmas.Result.{IfOk-from_err, IfOk-weaker}
 use Rattle.p3_field.specs.Ring.{count}
 use Rattle.p3_field.proofs.Powers.{count-power_of_two}
@@ -7,13 +7,12 @@ use Rattle.p3_matrix.specs.Matrix.{image}
 use Rattle.p3_matrix.specs.RowMajor.{RowMajor, height}
 use Rattle.p3_matrix.proofs.TwoPowers.{log_same, more_points}
 use Rattle.p3_matrix.specs.Cosets.{coset_shift, values_of}
-use Rattle.p3_dft.specs.Engines.{EngineState, IsPrepared}
 use Rattle.p3_dft.proofs.Calls.Shapes.{log_fits, both_none, both_logs_fit}
 use Rattle.p3_networks.proofs.Layers.Counts.{extension_made, fewer_than_parts}
 use Rattle.p3_matrix.proofs.Polynomials.Cosets.{coset_values}
 use Rattle.p3_dft.proofs.BitReversed.Coefficients.{extension_of_coefficients, extension_of_row}
 use Rattle.p3_matrix.proofs.Polynomials.Quotients.{shifted_quotient}
-use Rattle.p3_dft.proofs.Calls.PreparedHeights.{prepared_before, later_with_heights, both_prepared}
+use Rattle.p3_dft.proofs.Calls.PreparedHeights.{later_with_heights}
 use Rattle.std.proofs.Math.Nat.{le_refl, le_trans, lt_of_lt_of_le}
 use Rattle.p3_matrix.proofs.RowMajor.{whole_kept}
 use Rattle.p3_dft.proofs.Calls.EngineSteps.{later_same}
@@ -80,9 +79,9 @@ returns-then-log_h-added_bits-eq0 g c =
     let log = c.log2_strict_usize-log_h.result in let none = both_none log c.args.added_bits c.if-log_h-added_bits-eq0.true in
     record {
       values = rw (← c.into_row_major_matrix-mat.ensures) (extension_of_row g.F.Field g.F.TwoAdicField.generator c.into_row_major_matrix-mat.result c.args.added_bits (g.F.Field.value c.args.shift) (sym c.height.ensures.height ∙ c.log2_strict_usize-log_h.ensures.power ∙ ap (λ n. 2 ^ n) none.0) none.1);
-      serves = λ k high. let same : k ≡ 0 = sym (log_same log k (sym c.log2_strict_usize-log_h.ensures.power ∙ (c.height.ensures.height ∙ ap height c.into_row_major_matrix-mat.ensures) ∙ high)) ∙ none.0 in (inl same, inl (ap₂ (λ (n m : ℕ). n + m) same none.1));
+      serves = λ k high. let same : k ≡ 0 = sym (log_same log k (sym c.log2_strict_usize-log_h.ensures.power ∙ (c.height.ensures.height ∙ ap height c.into_row_major_matrix-mat.ensures) ∙ high)) ∙ none.0 in (omega (arith, same), omega (arith, same, none.1));
       one_row = λ one no_bits. (ap Ok c.into_row_major_matrix-mat.ensures, refl);
-      only = λ k high n now. inl now;
+      only = λ k high. omega arith;
       later = later_same _ _;
       cost = λ k high. none_more _ _ _ refl;
       fewer = λ k high. none_more _ _ _ refl;
@@ -95,7 +94,7 @@ returns-in_err-make g c =
       values = IfOk-from_err _ _ err;
       serves = λ k high. IfOk-from_err _ _ err;
       one_row = λ one none. absurd (more_points c.height.result c.log2_strict_usize-log_h.result c.args.added_bits c.log2_strict_usize-log_h.ensures.power c.if-log_h-added_bits-eq0.false (c.height.ensures.height ∙ ap height c.into_row_major_matrix-mat.ensures ∙ one) none);
-      only = λ k high n now. let log = c.log2_strict_usize-log_h.result in let same : log ≡ k = log_same log k (sym c.log2_strict_usize-log_h.ensures.power ∙ c.height.ensures.height ∙ ap height c.into_row_major_matrix-mat.ensures ∙ high) in subst (λ (e : EngineState). IsPrepared e n ⊎ (n ≤ k + c.args.added_bits)) c.self.view_is (prepared_before c.self.inside.tables c.make.new.self (k + c.args.added_bits) n (subst (λ (m : ℕ). (c.make.new.self ≡ c.self.inside.tables) ⊎ (c.make.new.self ≡ m + c.args.added_bits)) same c.make.ensures.only) now);
+      only = λ k high. let log = c.log2_strict_usize-log_h.result in let same : log ≡ k = log_same log k (sym c.log2_strict_usize-log_h.ensures.power ∙ c.height.ensures.height ∙ ap height c.into_row_major_matrix-mat.ensures ∙ high) in omega (arith, same, ap (λ e. e.prepared) c.self.view_is, c.make.ensures.only);
       later = later_with_heights _ _ _ c.args.self.now _ _ _ _ c.self.view_is c.make.ensures.keeps (le_refl c.self.inside.products);
       cost = λ k high. none_more _ _ _ products;
       fewer = λ k high. none_more _ _ _ products;
@@ -106,9 +105,9 @@ returns g c =
     let fewer : (k : ℕ) → height (g.N.IntoRowMajorMatrix.stored c.args.mat) ≡ 2 ^ k → c.extend_to_natural.new.products ≤ c.args.self.now.products + (g.N.IntoRowMajorMatrix.stored c.args.mat).width * (k * 2 ^ k / 2 * (1 + 2 ^ c.args.added_bits) + 2 ^ (k + c.args.added_bits)) = λ k high. let log = c.log2_strict_usize-log_h.result in let a = c.args.added_bits in let w = c.into_row_major_matrix-mat.result.width in let x = log * 2 ^ log / 2 in let same : log ≡ k = log_same log k (sym c.log2_strict_usize-log_h.ensures.power ∙ c.height.ensures.height ∙ ap height c.into_row_major_matrix-mat.ensures ∙ high) in let products : c.self.inside.products ≡ c.args.self.now.products = ap (λ e. e.products) c.self.view_is in let second : c.extend_to_natural.new.products ≤ c.interpolate_unscaled_to_reversed.new.products + w * (2 ^ a * x + 2 ^ (log + a)) = subst (λ (v : ℕ). c.extend_to_natural.new.products ≤ c.interpolate_unscaled_to_reversed.new.products + v * (2 ^ a * x + 2 ^ (log + a))) c.interpolate_unscaled_to_reversed.ensures.shape.1 c.extend_to_natural.ensures.cost in let all = extension_made x (2 ^ (log + a)) (2 ^ a) w c.self.inside.products c.interpolate_unscaled_to_reversed.new.products c.extend_to_natural.new.products c.interpolate_unscaled_to_reversed.ensures.cost second in rw (← products, ← c.into_row_major_matrix-mat.ensures, ← same) all in
     record {
       values = let field = g.F.Field in let log = c.log2_strict_usize-log_h.result in let m = c.into_row_major_matrix-mat.result in let a = c.args.added_bits in let s = field.value c.args.shift in let inverse = field.value c.div_2exp_u64-scale.result in let high : height m ≡ 2 ^ log = sym c.height.ensures.height ∙ c.log2_strict_usize-log_h.ensures.power in let multiples = bit_reversal log (values_of field c.interpolate_unscaled_to_reversed.new.mat) in let shifted = image (λ x. field.ring.mul x inverse) (coset_shift field.ring s multiples) in let undone : field.ring.mul (count field.ring (2 ^ log)) inverse ≡ field.ring.one = ap (λ x. field.ring.mul x inverse) (count-power_of_two field.ring log) ∙ c.div_2exp_u64-scale.ensures ∙ ap field.value c.ONE.ensures ∙ g.met.F.Field.one_law in let (d, quotient, on_coset) = shifted_quotient field.ring (2 ^ log) inverse s multiples shifted undone (record { high = refl; wide = refl; alike = λ i j p q. refl }) in rw (← c.into_row_major_matrix-mat.ensures) (IfOk-weaker c.extend_to_natural.result _ _ (λ out given. extension_of_coefficients field g.F.TwoAdicField.generator m out d a log s high (c.interpolate_unscaled_to_reversed.ensures.coefficients d quotient) (coset_values field.ring (λ n. field.value (g.F.TwoAdicField.generator n)) d shifted (log + a) s (values_of field out) on_coset given)) c.extend_to_natural.ensures.values);
-      serves = λ k high. let log = c.log2_strict_usize-log_h.result in let same : log ≡ k = log_same log k (sym c.log2_strict_usize-log_h.ensures.power ∙ c.height.ensures.height ∙ ap height c.into_row_major_matrix-mat.ensures ∙ high) in on_ok c.extend_to_natural.result (both_prepared _ _ c.args.added_bits k same c.in_ok-make.ensures.made);
+      serves = λ k high. let log = c.log2_strict_usize-log_h.result in let same : log ≡ k = log_same log k (sym c.log2_strict_usize-log_h.ensures.power ∙ c.height.ensures.height ∙ ap height c.into_row_major_matrix-mat.ensures ∙ high) in on_ok c.extend_to_natural.result (omega (arith, same, c.in_ok-make.ensures.made), omega (arith, same, c.in_ok-make.ensures.made));
       one_row = λ one none. absurd (more_points c.height.result c.log2_strict_usize-log_h.result c.args.added_bits c.log2_strict_usize-log_h.ensures.power c.if-log_h-added_bits-eq0.false (c.height.ensures.height ∙ ap height c.into_row_major_matrix-mat.ensures ∙ one) none);
-      only = λ k high n now. let log = c.log2_strict_usize-log_h.result in let same : log ≡ k = log_same log k (sym c.log2_strict_usize-log_h.ensures.power ∙ c.height.ensures.height ∙ ap height c.into_row_major_matrix-mat.ensures ∙ high) in subst (λ (e : EngineState). IsPrepared e n ⊎ (n ≤ k + c.args.added_bits)) c.self.view_is (prepared_before c.self.inside.tables c.make.new.self (k + c.args.added_bits) n (subst (λ (m : ℕ). (c.make.new.self ≡ c.self.inside.tables) ⊎ (c.make.new.self ≡ m + c.args.added_bits)) same c.make.ensures.only) now);
+      only = λ k high. let log = c.log2_strict_usize-log_h.result in let same : log ≡ k = log_same log k (sym c.log2_strict_usize-log_h.ensures.power ∙ c.height.ensures.height ∙ ap height c.into_row_major_matrix-mat.ensures ∙ high) in omega (arith, same, ap (λ e. e.prepared) c.self.view_is, c.make.ensures.only);
       later = later_with_heights _ _ _ c.args.self.now _ _ _ _ c.self.view_is c.make.ensures.keeps (le_trans c.interpolate_unscaled_to_reversed.ensures.grows c.extend_to_natural.ensures.grows);
       cost = λ k high. larger_bound _ _ _ _ (fewer k high) (fewer_than_parts k c.args.added_bits _);
       fewer = fewer;

@@ -1,27 +1,28 @@
-use Rattle.std.proofs.Common.{◌≡◌, ◌⊎◌, ℕ, ◌+◌, ◌*◌, ◌/◌, ◌^◌, ◌<◌, ◌≤◌, sym, ap, ap₂, ◌∙◌, subst, arith}
+use Rattle.std.proofs.Common.{◌≡◌, ℕ, ◌+◌, ◌*◌, ◌/◌, ◌^◌, ◌<◌, ◌≤◌, sym, ap, ap₂, ◌∙◌, subst, arith}
+use Rattle.std.proofs.Math.Nat.{le_of_eq}
 use Rattle.std.proofs.Math.Pow.{pow-lt}
 use Rattle.std.proofs.lemmas.Result.{IfOk-from_err}
 use Rattle.p3_matrix.specs.RowMajor.{RowMajor, HasShapeOf, IsRowMajor, height}
 use Rattle.p3_matrix.proofs.TwoPowers.{log_same}
 use Rattle.p3_networks.proofs.Layers.Counts.{slots_made}
-use Rattle.p3_dft.specs.Engines.{EngineState, IsLater, IsPrepared}
+use Rattle.p3_dft.specs.Engines.{EngineState, IsLater}
 use Rattle.p3_dft.specs.Extensions.{extension_bound}
 use Rattle.p3_matrix.specs.Cosets.{values_of}
 use Rattle.p3_dft.proofs.BitReversed.Rows.{values_seen}
 use Rattle.p3_dft.proofs.Calls.EngineSteps.{after_error, later_still, no_answer}
 use Rattle.p3_dft.proofs.Calls.ExtendedTransforms.{extension_of_natural}
 use Rattle.p3_matrix.proofs.Rows.Padding.{padded_shape, padded_whole}
-use Rattle.p3_dft.proofs.Calls.PreparedHeights.{prepared_until, until_prepared, both_prepared, none_above, still_above, tabled_facts}
+use Rattle.p3_dft.proofs.Calls.PreparedHeights.{tabled_facts}
 use Rattle.p3_dft.proofs.Calls.Shapes.{input_fits, log_fits, output_log_small, output_size}
 use Rattle.p3_dft.proofs.radix_2_small_batch.Radix2DFTSmallBatchTwoAdicSubgroupDft.coset_lde_batch_bit_reversed.Goals as goal
 
 -- heights were prepared, without a product
-only_preparing : {F : Type 0} (t : ℕ → ℕ → ℕ) (x : ℕ → ℕ → ℕ → ℕ) (b : ℕ → ℕ → ℕ) {before after : EngineState} → ((k : ℕ) → IsPrepared before k → IsPrepared after k) → after.products ≡ before.products
+only_preparing : {F : Type 0} (t : ℕ → ℕ → ℕ) (x : ℕ → ℕ → ℕ → ℕ) (b : ℕ → ℕ → ℕ) {before after : EngineState} → before.prepared ≤ after.prepared → after.products ≡ before.products
     → IsLater (tabled_facts {F = F} t x b) before after
-only_preparing t x b keeps none = record { keeps = keeps; keeps_cosets = λ k s promised. tt; keeps_ready = keeps; grows = omega (arith, none) }
+only_preparing t x b keeps none = record { keeps = λ k there. omega (arith, there, keeps); keeps_cosets = λ k s promised. tt; keeps_ready = λ k there. omega (arith, there, keeps); grows = omega (arith, none) }
 
 -- and a call after that
-after_preparing : {F : Type 0} (t : ℕ → ℕ → ℕ) (x : ℕ → ℕ → ℕ → ℕ) (b : ℕ → ℕ → ℕ) {before prepared after : EngineState} → ((k : ℕ) → IsPrepared before k → IsPrepared prepared k) → prepared.products ≡ before.products
+after_preparing : {F : Type 0} (t : ℕ → ℕ → ℕ) (x : ℕ → ℕ → ℕ → ℕ) (b : ℕ → ℕ → ℕ) {before prepared after : EngineState} → before.prepared ≤ prepared.prepared → prepared.products ≡ before.products
     → IsLater (tabled_facts {F = F} t x b) prepared after → IsLater (tabled_facts {F = F} t x b) before after
 after_preparing t x b keeps none later = later_still (tabled_facts t x b) _ _ _ (only_preparing t x b keeps none) later
 
@@ -55,7 +56,7 @@ prepare-requires-clause-size g c =
 pub extend_to_reversed-requires-clause-twiddles : goal.extend_to_reversed-requires-clause-twiddles
 extend_to_reversed-requires-clause-twiddles g c =
     let top = c.log2_strict_usize-log_h.result + c.args.added_bits in
-    let there : top ≤ c.self.inside.tables = until_prepared _ top (subst (λ (e : EngineState). IsPrepared e top) (sym c.self.view_is) (c.idft_batch.ensures.later.keeps top c.in_ok-prepare.ensures.prepares)) in
+    let there : top ≤ c.self.inside.tables = let held : top ≤ c.prepare.new.self.prepared = omega (arith, c.in_ok-prepare.ensures.made) in omega (arith, c.idft_batch.ensures.later.keeps top held, ap (λ e. e.prepared) c.self.view_is) in
     record { size = λ l below. c.forward-twiddles.ensures.table.size l (omega (arith, below, there)); entries = λ l b below inside. c.forward-twiddles.ensures.table.entries l b (omega (arith, below, there)) inside }
 
 pub extend_to_reversed-requires-clause-within : goal.extend_to_reversed-requires-clause-within
@@ -114,14 +115,14 @@ returns-clause-engine g c = record {
   later =
       let first = c.idft_batch.ensures.later in
       let products : c.self.inside.products ≡ c.idft_batch.new.self.products = ap (λ e. e.products) c.self.view_is in
-      let still = λ (k : ℕ) (before : IsPrepared c.args.self.now k). until_prepared _ k (subst (λ (e : EngineState). IsPrepared e k) (sym c.self.view_is) (first.keeps k (c.prepare.ensures.keeps k before))) in
-      record { keeps = λ k before. prepared_until _ k (still k before); keeps_cosets = λ k s none. tt; keeps_ready = λ k before. prepared_until _ k (still k before); grows = omega (arith, c.prepare.ensures.products, first.grows, products, c.extend_to_reversed.ensures.grows) };
+      let still : (k : ℕ) → k ≤ c.args.self.now.prepared → k ≤ c.self.inside.tables = λ k before. let held : k ≤ c.prepare.new.self.prepared = omega (arith, before, c.in_ok-prepare.ensures.made) in omega (arith, first.keeps k held, ap (λ e. e.prepared) c.self.view_is) in
+      record { keeps = still; keeps_cosets = λ k s none. tt; keeps_ready = still; grows = omega (arith, c.prepare.ensures.products, first.grows, products, c.extend_to_reversed.ensures.grows) };
   ready = λ done k e.
       let log = c.log2_strict_usize-log_h.result in
       let top = log + c.args.added_bits in
       let same : log ≡ k = log_same log k (sym c.log2_strict_usize-log_h.ensures.power ∙ c.height.ensures.height ∙ ap height c.into_row_major_matrix-mat.ensures ∙ e) in
-      let there : top ≤ c.self.inside.tables = until_prepared _ top (subst (λ (e : EngineState). IsPrepared e top) (sym c.self.view_is) (c.idft_batch.ensures.later.keeps top c.in_ok-prepare.ensures.prepares)) in
-      both_prepared _ _ c.args.added_bits k same there;
+      let there : top ≤ c.self.inside.tables = let held : top ≤ c.prepare.new.self.prepared = omega (arith, c.in_ok-prepare.ensures.made) in omega (arith, c.idft_batch.ensures.later.keeps top held, ap (λ e. e.prepared) c.self.view_is) in
+      (omega (arith, same, there), omega (arith, same, there));
   cost = λ k e.
       let a = c.args.added_bits in
       let m = c.into_row_major_matrix-mat.result in
@@ -153,19 +154,8 @@ extend_to_reversed-requires-clause-whole g c =
 pub idft_batch-requires : goal.idft_batch-requires
 idft_batch-requires g c = record { fits = rw c.into_row_major_matrix-mat.ensures (input_fits _ _ _ _ c.requires.fits) }
 
--- no height above the extension's was prepared, nor by an inverse after that
-preparing_alone : {P : Type 0} (n a k log : ℕ) {tall stored : ℕ} → tall ≡ 2 ^ log → tall ≡ stored → stored ≡ 2 ^ k → P ⊎ (n ≤ log + a) → P ⊎ (n ≤ k + a)
-preparing_alone n a k log power is e = none_above n (log + a) (k + a) (let same = log_same log k (sym power ∙ is ∙ e) in omega (arith, same))
-
-prepared_alone : {P Q R : Type 0} (n a k log : ℕ) {tall stored : ℕ} → tall ≡ 2 ^ log → tall ≡ stored → stored ≡ 2 ^ k → (Q → P ⊎ (n ≤ log + a)) → (R → Q ⊎ (n ≤ log)) → R → P ⊎ (n ≤ k + a)
-prepared_alone n a k log power is e first second now =
-    preparing_alone n a k log power is e (still_above n (log + a) first (none_above n log (log + a) (omega arith) (second now)))
-
 pub returns-clause-only : goal.returns-clause-only
-returns-clause-only g c k e n now =
-    prepared_alone n c.args.added_bits k c.log2_strict_usize-log_h.result c.log2_strict_usize-log_h.ensures.power (c.height.ensures.height ∙ ap height c.into_row_major_matrix-mat.ensures) e
-    (c.prepare.ensures.only n) (c.idft_batch.ensures.only _ (sym c.height.ensures.height ∙ c.log2_strict_usize-log_h.ensures.power) n)
-    (subst (λ (s : EngineState). IsPrepared s n) c.self.view_is (prepared_until _ n (until_prepared _ n now)))
+returns-clause-only g c k e = omega (arith, log_same c.log2_strict_usize-log_h.result k (sym c.log2_strict_usize-log_h.ensures.power ∙ c.height.ensures.height ∙ ap height c.into_row_major_matrix-mat.ensures ∙ e), c.in_ok-prepare.ensures.made, c.idft_batch.ensures.only _ (sym c.height.ensures.height ∙ c.log2_strict_usize-log_h.ensures.power), ap (λ e. e.prepared) c.self.view_is)
 
 pub transform-changed-requires : goal.transform-changed-requires
 transform-changed-requires g c =
@@ -177,8 +167,8 @@ returns-in_err-prepare g c =
     let err = c.from_residual.ensures.0 in
     record {
       values = IfOk-from_err _ _ err;
-      only = λ k e n now. preparing_alone n c.args.added_bits k c.log2_strict_usize-log_h.result c.log2_strict_usize-log_h.ensures.power (c.height.ensures.height ∙ ap height c.into_row_major_matrix-mat.ensures) e (c.prepare.ensures.only n now);
-      engine = after_error _ _ _ _ c.from_residual.ensures.0 (only_preparing _ _ _ c.prepare.ensures.keeps c.prepare.ensures.products) c.prepare.ensures.products;
+      only = λ k e. omega (arith, log_same c.log2_strict_usize-log_h.result k (sym c.log2_strict_usize-log_h.ensures.power ∙ c.height.ensures.height ∙ ap height c.into_row_major_matrix-mat.ensures ∙ e), ap (λ (e : EngineState). e.prepared) c.in_err-prepare.ensures.refused);
+      engine = after_error _ _ _ _ c.from_residual.ensures.0 (only_preparing _ _ _ (le_of_eq (ap (λ (e : EngineState). e.prepared) (sym c.in_err-prepare.ensures.refused))) c.prepare.ensures.products) c.prepare.ensures.products;
     }
 
 pub returns-in_err-coefficients : goal.returns-in_err-coefficients
@@ -186,8 +176,8 @@ returns-in_err-coefficients g c =
     let err = c.from_residual-in_err-coefficients.ensures.0 in
     record {
       values = IfOk-from_err _ _ err;
-      only = λ k e n now. prepared_alone n c.args.added_bits k c.log2_strict_usize-log_h.result c.log2_strict_usize-log_h.ensures.power (c.height.ensures.height ∙ ap height c.into_row_major_matrix-mat.ensures) e (c.prepare.ensures.only n) (c.idft_batch.ensures.only _ (sym c.height.ensures.height ∙ c.log2_strict_usize-log_h.ensures.power) n) now;
-      engine = record { later = after_preparing _ _ _ c.prepare.ensures.keeps c.prepare.ensures.products c.idft_batch.ensures.later; ready = λ done. absurd (no_answer c.from_residual-in_err-coefficients.result c.from_residual-in_err-coefficients.ensures.0 done); cost = λ k e. inverse_made _ _ k c.args.added_bits _ _ _ c.into_row_major_matrix-mat.ensures c.prepare.ensures.products (c.idft_batch.ensures.cost k (ap height c.into_row_major_matrix-mat.ensures ∙ e)) };
+      only = λ k e. omega (arith, log_same c.log2_strict_usize-log_h.result k (sym c.log2_strict_usize-log_h.ensures.power ∙ c.height.ensures.height ∙ ap height c.into_row_major_matrix-mat.ensures ∙ e), c.in_ok-prepare.ensures.made, c.idft_batch.ensures.only _ (sym c.height.ensures.height ∙ c.log2_strict_usize-log_h.ensures.power));
+      engine = record { later = after_preparing _ _ _ (let kept : c.args.self.now.prepared ≤ c.prepare.new.self.prepared = omega (arith, c.in_ok-prepare.ensures.made) in kept) c.prepare.ensures.products c.idft_batch.ensures.later; ready = λ done. absurd (no_answer c.from_residual-in_err-coefficients.result c.from_residual-in_err-coefficients.ensures.0 done); cost = λ k e. inverse_made _ _ k c.args.added_bits _ _ _ c.into_row_major_matrix-mat.ensures c.prepare.ensures.products (c.idft_batch.ensures.cost k (ap height c.into_row_major_matrix-mat.ensures ∙ e)) };
     }
 
 pub returns-in_err-grown : goal.returns-in_err-grown
@@ -195,6 +185,6 @@ returns-in_err-grown g c =
     let err = c.from_residual-in_err-grown.ensures.0 in
     record {
       values = IfOk-from_err _ _ err;
-      only = λ k e n now. prepared_alone n c.args.added_bits k c.log2_strict_usize-log_h.result c.log2_strict_usize-log_h.ensures.power (c.height.ensures.height ∙ ap height c.into_row_major_matrix-mat.ensures) e (c.prepare.ensures.only n) (c.idft_batch.ensures.only _ (sym c.height.ensures.height ∙ c.log2_strict_usize-log_h.ensures.power) n) now;
-      engine = record { later = after_preparing _ _ _ c.prepare.ensures.keeps c.prepare.ensures.products c.idft_batch.ensures.later; ready = λ done. absurd (no_answer c.from_residual-in_err-grown.result c.from_residual-in_err-grown.ensures.0 done); cost = λ k e. inverse_made _ _ k c.args.added_bits _ _ _ c.into_row_major_matrix-mat.ensures c.prepare.ensures.products (c.idft_batch.ensures.cost k (ap height c.into_row_major_matrix-mat.ensures ∙ e)) };
+      only = λ k e. omega (arith, log_same c.log2_strict_usize-log_h.result k (sym c.log2_strict_usize-log_h.ensures.power ∙ c.height.ensures.height ∙ ap height c.into_row_major_matrix-mat.ensures ∙ e), c.in_ok-prepare.ensures.made, c.idft_batch.ensures.only _ (sym c.height.ensures.height ∙ c.log2_strict_usize-log_h.ensures.power));
+      engine = record { later = after_preparing _ _ _ (let kept : c.args.self.now.prepared ≤ c.prepare.new.self.prepared = omega (arith, c.in_ok-prepare.ensures.made) in kept) c.prepare.ensures.products c.idft_batch.ensures.later; ready = λ done. absurd (no_answer c.from_residual-in_err-grown.result c.from_residual-in_err-grown.ensures.0 done); cost = λ k e. inverse_made _ _ k c.args.added_bits _ _ _ c.into_row_major_matrix-mat.ensures c.prepare.ensures.products (c.idft_batch.ensures.cost k (ap height c.into_row_major_matrix-mat.ensures ∙ e)) };
     }
