@@ -11,27 +11,16 @@ ghost use Rattle.std.specs.Prelude.{◌≡◌, ◌+◌, ◌-◌, ◌<◌, ◌≤
 ghost use Rattle.std.specs.Prelude.{if◌then◌else◌, length, max, take, replicate, vec_len, vec_capacity};
 
 use std::alloc::{AllocError, AllocFailed, Global};
-use std::fmt;
+use thiserror::Error;
 
 /// A vector asked for memory and was refused.
 ///
 /// It can be passed on and dropped, and not copied. It takes no bytes.
-#[derive(Drop, PartialEq, Eq)]
+#[derive(Debug, Drop, PartialEq, Eq, Error)]
+#[error("out of memory")]
 pub struct Refused {
     // Nothing outside this module can make one.
     seal: (),
-}
-
-impl fmt::Debug for Refused {
-    fn fmt<W: fmt::Write>(&self, f: &mut fmt::Formatter<W>) -> fmt::Result {
-        f.write_str("Refused")
-    }
-}
-
-impl fmt::Display for Refused {
-    fn fmt<W: fmt::Write>(&self, f: &mut fmt::Formatter<W>) -> fmt::Result {
-        f.write_str("out of memory")
-    }
 }
 
 // The one place where a `Refused` is made: of an error of std's.
