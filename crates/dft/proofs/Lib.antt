@@ -1,6 +1,8 @@
 pub mod Lines
 pub mod Shapes
+pub mod Told
 pub mod Took
+pub mod Unnamed
 pub mod Elements
 pub mod Inverses
 pub mod OneOutcome

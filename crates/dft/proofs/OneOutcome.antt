@@ -1,7 +1,7 @@
 -- The words have one outcome: there is one, and no other.
 use Rattle.std.proofs.Common.{◌≡◌, ℕ, ◌/◌, Bool, true, false, not, List, [], ◌∷◌, length, map, drop, Option, Some, None, Result, Ok, Err, refl, sym, ap, ap₂, ◌∙◌, subst}
 use Rattle.std.specs.Global.{Global}
-use Rattle.std.specs.Prelude.{⊤, String}
+use Rattle.std.specs.Prelude.{⊤, Vec}
 use Rattle.std.proofs.lemmas.List.{length-map}
 use Rattle.p3_field.specs.FieldLaws.{roots_law}
 use Rattle.p3_field.specs.Fields.{baby_bear_ring, baby_bear_root, goldilocks_ring, goldilocks_root}
@@ -18,6 +18,7 @@ use Rattle.p3_dft.proofs.Laws.OneAnswer.{one_answer}
 use Rattle.dft.specs.declared.fault.Fault.{Fault}
 use Rattle.dft.specs.declared.fault.Stopped.{Stopped}
 use Rattle.dft.specs.declared.fault.Stopped.TheVariants.{OutOfMemory}
+use Rattle.growth.specs.declared.Refused.{Refused}
 use Rattle.dft.specs.declared.names.FieldName.{FieldName}
 use Rattle.dft.specs.declared.names.FieldName.TheVariants.{BabyBear, Goldilocks}
 use Rattle.dft.specs.declared.names.Operation.{Operation}
@@ -123,6 +124,6 @@ answerable : (words : List (List ℕ)) → ((o : Outcome) → IsOutcome words o 
 answerable words all = let one = one_outcome words in (one.0, one.1, one.2, all one.0 one.1)
 
 -- and where memory ran out
-pub answerable_without_memory : (words : List (List ℕ)) (s : Stopped) (r : Result (String Global) Stopped) → r ≡ Err s → s ≡ OutOfMemory → Gives r (IsOutcome words) → IsAnswerable words
+pub answerable_without_memory : (words : List (List ℕ)) (s : Stopped) {refused : Refused} (r : Result (Vec ℕ Global) Stopped) → r ≡ Err s → s ≡ OutOfMemory refused → Gives r (IsOutcome words) → IsAnswerable words
 answerable_without_memory words s r stopped is gives =
-    answerable words (subst (λ (given : Result (String Global) Stopped). Gives given (IsOutcome words)) (stopped ∙ ap Err is) gives)
+    answerable words (subst (λ (given : Result (Vec ℕ Global) Stopped). Gives given (IsOutcome words)) (stopped ∙ ap Err is) gives)

@@ -1,3 +1,4 @@
+pub mod Accounts
 pub mod Answers
 pub mod Arguments
 pub mod Faults
@@ -7,3 +8,4 @@ pub mod Numbers
 pub mod Outcome
 pub mod Sinks
 pub mod Text
+pub mod Words

@@ -13,27 +13,36 @@ abbrev pub behind : {T : Type 0} → List ℕ → List (List ℕ × T) → Optio
 behind word [] = None
 behind word (row ∷ rows) = if bytes_eq word row.0 then Some row.1 else behind word rows
 
-abbrev pub field_named : List ℕ → Option FieldName
-field_named word = behind word (
+abbrev pub fields : List (List ℕ × FieldName)
+fields =
     (codes "babybear", field.BabyBear)
     ∷ (codes "goldilocks", field.Goldilocks)
-    ∷ [])
+    ∷ []
 
-abbrev pub engine_named : List ℕ → Option EngineName
-engine_named word = behind word (
+abbrev pub engines : List (List ℕ × EngineName)
+engines =
     (codes "naive", engine.Naive)
     ∷ (codes "dit", engine.Dit)
     ∷ (codes "bowers", engine.Bowers)
     ∷ (codes "parallel", engine.Parallel)
     ∷ (codes "small", engine.Small)
-    ∷ [])
+    ∷ []
 
-abbrev pub operation_named : List ℕ → Option Operation
-operation_named word = behind word (
+abbrev pub operations : List (List ℕ × Operation)
+operations =
     (codes "dft", operation.Dft)
     ∷ (codes "coset-dft", operation.CosetDft)
     ∷ (codes "idft", operation.Idft)
     ∷ (codes "coset-idft", operation.CosetIdft)
     ∷ (codes "lde", operation.Lde)
     ∷ (codes "coset-lde", operation.CosetLde)
-    ∷ [])
+    ∷ []
+
+abbrev pub field_named : List ℕ → Option FieldName
+field_named word = behind word fields
+
+abbrev pub engine_named : List ℕ → Option EngineName
+engine_named word = behind word engines
+
+abbrev pub operation_named : List ℕ → Option Operation
+operation_named word = behind word operations

@@ -1,12 +1,12 @@
 -- What the program writes for the words after its name, and the status that it ends with.
-use Rattle.std.specs.Prelude.{◌≡◌, ℕ, List, drop, slice_get, Option, Some, None, Result, Ok, Err, String}
+use Rattle.std.specs.Prelude.{◌≡◌, ◌⊎◌, ℕ, List, drop, slice_get, Option, Some, None, Result, Ok, Err, Vec}
 use Rattle.std.specs.Global.{Global}
 use Rattle.std.specs.Option.{ok_or}
-use Rattle.std.specs.String.{string_bytes}
+use Rattle.std.specs.Vec.{vec_items}
 use Rattle.dft.specs.declared.fault.Fault.{Fault}
 use Rattle.dft.specs.declared.fault.Fault.TheVariants.{UnknownField, UnknownEngine, UnknownOperation, TooFewWords}
 use Rattle.dft.specs.declared.fault.Stopped.{Stopped}
-use Rattle.dft.specs.declared.fault.Stopped.TheVariants.{Refused, OutOfMemory}
+use Rattle.dft.specs.declared.fault.Stopped.TheVariants.{ByFault, OutOfMemory}
 use Rattle.dft.specs.declared.names.FieldName.{FieldName}
 use Rattle.dft.specs.declared.names.FieldName.TheVariants.{BabyBear, Goldilocks}
 use Rattle.dft.specs.declared.names.Operation.{Operation}
@@ -16,6 +16,7 @@ use Rattle.dft.specs.Arguments.{Arguments, arguments}
 use Rattle.dft.specs.Faults.{◌>>=◌, line_of}
 use Rattle.dft.specs.Names.{field_named, engine_named, operation_named}
 use Rattle.dft.specs.NumberedFields.{NumberedField, baby_bear, goldilocks}
+use Rattle.dft.specs.Words.{Told, ToldAll, ToldFirst}
 
 -- what the word names, if it is there
 abbrev pub named : {T : Type 0} → (List ℕ → Option T) → Fault → Option (List ℕ) → Result T Fault
@@ -65,7 +66,12 @@ abbrev pub IsAnswerable : List (List ℕ) → Type 0
 IsAnswerable words = (o : Outcome) × IsOutcome words o × ((p : Outcome) → IsOutcome words p → p ≡ o) × (o.status ≡ 0)
 
 -- What a function returned is an outcome; where memory ran out, each outcome has an answer.
-abbrev pub Gives : Result (String Global) Stopped → (Outcome → Type 0) → Type 0
-Gives (Ok text) IsOne = IsOne (record { status = 0; text = string_bytes text })
-Gives (Err (Refused fault)) IsOne = IsOne (told fault)
-Gives (Err OutOfMemory) IsOne = (o : Outcome) → IsOne o → o.status ≡ 0
+abbrev pub Gives : Result (Vec ℕ Global) Stopped → (Outcome → Type 0) → Type 0
+Gives (Ok text) IsOne = IsOne (record { status = 0; text = vec_items text })
+Gives (Err (ByFault fault)) IsOne = IsOne (told fault)
+Gives (Err (OutOfMemory refused)) IsOne = (o : Outcome) → IsOne o → o.status ≡ 0
+
+-- memory ran out while words were told, or once all were, and these have an answer
+abbrev pub RanOut : List Told → List Told → Type 0
+RanOut old new = ((words : List (List ℕ)) × ToldFirst old new words)
+    ⊎ ((words : List (List ℕ)) × ToldAll old new words × IsAnswerable words)

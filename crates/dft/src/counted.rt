@@ -2,10 +2,8 @@
 
 ghost use Rattle.std.specs.Prelude.{◌≡◌, []};
 
-mod account;
-
+use crate::account::Account;
 use crate::sink::Sink;
-use account::Account;
 use std::io;
 use std::io::Write;
 use std::marker::Model;
@@ -22,14 +20,16 @@ pub struct Counted<W: Write> {
 }
 
 impl<W: Write> Model for Counted<W> {
+    ghost use Rattle.std.specs.Prelude.{sum_by};
+    ghost use Rattle.std.specs.List.{flat_map};
     ghost use Rattle.dft.specs.Sinks.{Calls};
 
     ghost Value = { Calls };
 
     ghost view = { λ c. record {
-      bytes = c.account.bytes;
+      bytes = flat_map (λ call. call.bytes) c.account.calls;
       contents = W.contents c.writer;
-      failures = c.account.failures;
+      failures = sum_by (λ call. call.failures) c.account.calls;
     } };
 }
 
@@ -60,9 +60,9 @@ impl<W: Write> Sink for Counted<W> {
     fn write(&mut self, buf: &[u8]) -> io::Result<usize> {
         let answer = self.writer.write(buf);
         self.account = match &answer {
-            Ok(0) if !buf.is_empty() => Account::with(&self.account, &[], &1),
-            Ok(count) => Account::with(&self.account, &buf[..*count], &0),
-            Err(_) => Account::with(&self.account, &[], &1),
+            Ok(0) if !buf.is_empty() => Account::with(&self.account, &0, &[], &1),
+            Ok(count) => Account::with(&self.account, &0, &buf[..*count], &0),
+            Err(_) => Account::with(&self.account, &0, &[], &1),
         };
         answer
     }
@@ -70,8 +70,8 @@ impl<W: Write> Sink for Counted<W> {
     fn flush(&mut self) -> io::Result<()> {
         let answer = self.writer.flush();
         self.account = match &answer {
-            Ok(()) => Account::with(&self.account, &[], &0),
-            Err(_) => Account::with(&self.account, &[], &1),
+            Ok(()) => Account::with(&self.account, &0, &[], &0),
+            Err(_) => Account::with(&self.account, &0, &[], &1),
         };
         answer
     }

@@ -2,10 +2,10 @@
 
 ghost use Rattle.std.specs.Prelude.{◌≡◌};
 ghost use Rattle.dft.specs.Faults.{line_of};
-ghost use Rattle.dft.specs.declared.fault.Stopped.TheVariants.{Refused, OutOfMemory};
+ghost use Rattle.growth.specs.declared.Refused.{Refused};
+ghost use Rattle.dft.specs.declared.fault.Stopped.TheVariants.{ByFault, OutOfMemory};
 
-use p3_dft::DftError;
-use std::alloc::AllocError;
+use p3_dft::{DftError, Refused};
 
 /// What is wrong with the words.
 #[derive(Clone, Copy)]
@@ -38,33 +38,35 @@ impl Fault {
     }
 }
 
-/// Why there is no answer.
-#[derive(Clone, Copy)]
+/// Why there is no answer: a fault of the words, or a growth that was refused.
+#[derive(Drop)]
 pub enum Stopped {
-    Refused(Fault),
-    OutOfMemory,
+    ByFault(Fault),
+    OutOfMemory(Refused),
 }
 
 impl From<Fault> for Stopped {
-    ghost from_gives = { λ fault e. e ≡ Refused fault };
+    ghost from_gives = { λ fault e. e ≡ ByFault fault };
 
     fn from(fault: Fault) -> Stopped {
-        Stopped::Refused(fault)
+        Stopped::ByFault(fault)
+    }
+}
+
+impl From<Refused> for Stopped {
+    ghost from_gives = { λ refused e. e ≡ OutOfMemory refused };
+
+    fn from(refused: Refused) -> Stopped {
+        Stopped::OutOfMemory(refused)
     }
 }
 
 impl From<DftError> for Stopped {
-    ghost from_gives = { λ _ e. e ≡ OutOfMemory };
+    ghost from_gives = { λ _ e. (refused : Refused) × (e ≡ OutOfMemory refused) };
 
-    fn from(_error: DftError) -> Stopped {
-        Stopped::OutOfMemory
-    }
-}
-
-impl From<AllocError> for Stopped {
-    ghost from_gives = { λ _ e. e ≡ OutOfMemory };
-
-    fn from(_error: AllocError) -> Stopped {
-        Stopped::OutOfMemory
+    fn from(error: DftError) -> Stopped {
+        match error {
+            DftError::OutOfMemory(refused) => Stopped::OutOfMemory(refused),
+        }
     }
 }

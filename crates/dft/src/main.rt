@@ -4,8 +4,10 @@
 //! for each row.
 #![tactic(auto)]
 
+mod account;
 mod arguments;
 mod counted;
+mod environment;
 mod fault;
 mod matrices;
 mod names;
@@ -17,17 +19,13 @@ mod tests;
 mod words;
 
 use counted::Counted;
-use program::{run, tell_out_of_memory};
-use std::alloc::AllocError;
+use environment::Environment;
+use program::run;
 use std::io;
 use std::process::ExitCode;
-use words::words_after_name;
 
 fn main(rt: HostRuntime) -> ExitCode {
+    let mut line = Environment::new(&rt);
     let mut out = Counted::new(io::writer(&rt));
-    let status = match words_after_name(&rt, rt.alloc()) {
-        Ok(words) => run(rt.alloc(), words.as_slice(), &mut out),
-        Err(AllocError) => tell_out_of_memory(&mut out),
-    };
-    ExitCode::from(status)
+    ExitCode::from(run(rt.alloc(), &mut line, &mut out))
 }

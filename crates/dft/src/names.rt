@@ -3,6 +3,8 @@
 ghost use Rattle.std.specs.Prelude.{◌≡◌};
 ghost use Rattle.dft.specs.Names.{field_named, engine_named, operation_named};
 
+use std::str;
+
 /// A field that has a name on the command line.
 #[derive(Clone, Copy)]
 pub enum FieldName {
@@ -12,10 +14,11 @@ pub enum FieldName {
 
 impl FieldName {
     /// The field of this name.
-    pub fn of(word: &str) -> Option<FieldName>
+    #[tactic(auto, using(crate::proofs::Unnamed::no_field))]
+    pub fn of(word: &[u8]) -> Option<FieldName>
         ensures { result ≡ field_named word.now }
     {
-        match word {
+        match str::from_utf8(word).ok()? {
             "babybear" => Some(FieldName::BabyBear),
             "goldilocks" => Some(FieldName::Goldilocks),
             _ => None,
@@ -35,10 +38,11 @@ pub enum EngineName {
 
 impl EngineName {
     /// The engine of this name.
-    pub fn of(word: &str) -> Option<EngineName>
+    #[tactic(auto, using(crate::proofs::Unnamed::no_engine))]
+    pub fn of(word: &[u8]) -> Option<EngineName>
         ensures { result ≡ engine_named word.now }
     {
-        match word {
+        match str::from_utf8(word).ok()? {
             "naive" => Some(EngineName::Naive),
             "dit" => Some(EngineName::Dit),
             "bowers" => Some(EngineName::Bowers),
@@ -62,10 +66,11 @@ pub enum Operation {
 
 impl Operation {
     /// The operation of this name.
-    pub fn of(word: &str) -> Option<Operation>
+    #[tactic(auto, using(crate::proofs::Unnamed::no_operation))]
+    pub fn of(word: &[u8]) -> Option<Operation>
         ensures { result ≡ operation_named word.now }
     {
-        match word {
+        match str::from_utf8(word).ok()? {
             "dft" => Some(Operation::Dft),
             "coset-dft" => Some(Operation::CosetDft),
             "idft" => Some(Operation::Idft),

@@ -3,73 +3,99 @@
 ghost use Rattle.std.specs.Prelude.{◌≡◌, ◌≢◌, ◌<◌, ◌≤◌, ◌↔◌, ◌⊎◌, ℕ, List, map, length, Result, IfOk, OnOk};
 ghost use Rattle.std.specs.Option.{ok_or};
 ghost use Rattle.std.specs.List.{slice_get};
-ghost use Rattle.std.specs.String.{string_bytes};
+ghost use Rattle.std.specs.Vec.{vec_items};
 ghost use Rattle.p3_dft.specs.Jobs.{CanRun, IsAnswer};
 ghost use Rattle.dft.specs.Answers.{job_of};
 ghost use Rattle.dft.specs.Faults.{memory_line, seen};
 ghost use Rattle.dft.specs.NumberedFields.{numbered};
-ghost use Rattle.dft.specs.Outcome.{Gives, IsAnswerable, IsOutcome, IsOutcomeIn, IsOutcomeOver, Outcome, asked};
+ghost use Rattle.dft.specs.Outcome.{Gives, IsAnswerable, IsOutcome, IsOutcomeIn, IsOutcomeOver, Outcome, RanOut, asked};
 ghost use Rattle.dft.specs.Sinks.{Took, TookStartOf};
+ghost use Rattle.dft.specs.Words.{ToldAll};
 
 use crate::arguments::{element_of, parse_arguments};
 use crate::fault::{Fault, Stopped};
 use crate::matrices::{matrix_of, text_of};
 use crate::names::{EngineName, FieldName, Operation};
 use crate::sink::{Sink, write_text};
+use crate::words::{CommandLine, words_after_name};
 use p3_dft::{
     BabyBear, CanonicalField, DftError, Goldilocks, Job, NaiveDft, Radix2Bowers,
-    Radix2DFTSmallBatch, Radix2Dit, Radix2DitParallel, RowMajorMatrix, TwoAdicSubgroupDft, growth,
-    run_jobs,
+    Radix2DFTSmallBatch, Radix2Dit, Radix2DitParallel, Refused, RowMajorMatrix, TwoAdicSubgroupDft,
+    growth, run_jobs,
 };
 use std::alloc::Global;
 
 const OUT_OF_MEMORY: &str = "error 9: out of memory\n";
 
-/// Writes what the words after the program's name ask for, and answers the status.
+/// Writes what the words of a command line ask for, and answers the status.
 ///
 /// The whole text is made before its first byte is written.
-pub fn run<W: Sink>(alloc: Global, words: &[String], out: &mut W) -> u8
+pub fn run<L: CommandLine, W: Sink>(alloc: Global, line: &mut L, out: &mut W) -> u8
     ensures status { (result ≡ 0) ⊎ (result ≡ 2) ⊎ (result ≡ 3) ⊎ (result ≡ 4) }
-    // The outcome of the words was written.
-    ensures ended { (result ≡ 0) ⊎ (result ≡ 2) → (text : List ℕ)
-        × IsOutcome (map string_bytes words.now) (record { status = result; text = text })
+    // All words were told, and their outcome was written.
+    ensures ended { (result ≡ 0) ⊎ (result ≡ 2) → (words : List (List ℕ)) × (text : List ℕ)
+        × ToldAll (L.told line.old) (L.told line.new) words
+        × IsOutcome words (record { status = result; text = text })
         × Took (W.calls out.old) (W.calls out.new) text }
-    // There is an answer, and no memory for it.
-    ensures memory { result ≡ 3 → IsAnswerable (map string_bytes words.now)
+    ensures memory { result ≡ 3 → RanOut (L.told line.old) (L.told line.new)
         × Took (W.calls out.old) (W.calls out.new) memory_line }
     // Writing stopped in the midst of one of these.
-    ensures stopped { result ≡ 4
-        → ((o : Outcome) × IsOutcome (map string_bytes words.now) o
+    ensures stopped { result ≡ 4 → ((words : List (List ℕ)) × (o : Outcome)
+        × ToldAll (L.told line.old) (L.told line.new) words × IsOutcome words o
         × TookStartOf (W.calls out.old) (W.calls out.new) o.text)
-        ⊎ (IsAnswerable (map string_bytes words.now) × TookStartOf (W.calls out.old) (W.calls out.new) memory_line) }
+        ⊎ (RanOut (L.told line.old) (L.told line.new)
+        × TookStartOf (W.calls out.old) (W.calls out.new) memory_line) }
     ensures failed { (result ≡ 4) ↔ ((W.calls out.old).failures < (W.calls out.new).failures) }
 {
-    match answer(alloc, words) {
-        Ok(text) => finish(out, text.as_str(), 0),
-        Err(Stopped::Refused(fault)) => finish(out, fault.line(), 2),
-        Err(Stopped::OutOfMemory) => tell_out_of_memory(out),
+    match words_after_name(alloc, line) {
+        Ok(words) => write_outcome(alloc, words.as_slice(), out),
+        Err(refused) => tell_out_of_memory(refused, out),
     }
 }
 
-/// Writes the line that tells that memory was refused, and answers the status.
-pub fn tell_out_of_memory<W: Sink>(out: &mut W) -> u8
+/// Writes what the words after the program's name ask for, and answers the status.
+pub fn write_outcome<W: Sink>(alloc: Global, words: &[Vec<u8>], out: &mut W) -> u8
+    ensures status { (result ≡ 0) ⊎ (result ≡ 2) ⊎ (result ≡ 3) ⊎ (result ≡ 4) }
+    // The outcome of the words was written.
+    ensures ended { (result ≡ 0) ⊎ (result ≡ 2) → (text : List ℕ)
+        × IsOutcome (map vec_items words.now) (record { status = result; text = text })
+        × Took (W.calls out.old) (W.calls out.new) text }
+    // There is an answer, and no memory for it.
+    ensures memory { result ≡ 3 → IsAnswerable (map vec_items words.now)
+        × Took (W.calls out.old) (W.calls out.new) memory_line }
+    // Writing stopped in the midst of one of these.
+    ensures stopped { result ≡ 4
+        → ((o : Outcome) × IsOutcome (map vec_items words.now) o
+        × TookStartOf (W.calls out.old) (W.calls out.new) o.text)
+        ⊎ (IsAnswerable (map vec_items words.now) × TookStartOf (W.calls out.old) (W.calls out.new) memory_line) }
+    ensures failed { (result ≡ 4) ↔ ((W.calls out.old).failures < (W.calls out.new).failures) }
+{
+    match answer(alloc, words) {
+        Ok(text) => finish(out, text.as_slice(), 0),
+        Err(Stopped::ByFault(fault)) => finish(out, fault.line().as_bytes(), 2),
+        Err(Stopped::OutOfMemory(refused)) => tell_out_of_memory(refused, out),
+    }
+}
+
+// Writes the line that tells that memory was refused, and answers the status.
+fn tell_out_of_memory<W: Sink>(_refused: Refused, out: &mut W) -> u8
     ensures status { (result ≡ 3) ⊎ (result ≡ 4) }
     ensures memory { result ≡ 3 → Took (W.calls out.old) (W.calls out.new) memory_line }
     ensures stopped { result ≡ 4 → TookStartOf (W.calls out.old) (W.calls out.new) memory_line }
     ensures failed { (result ≡ 4) ↔ ((W.calls out.old).failures < (W.calls out.new).failures) }
 {
-    finish(out, OUT_OF_MEMORY, 3)
+    finish(out, OUT_OF_MEMORY.as_bytes(), 3)
 }
 
 // Writes the text, and answers the status: this one, or 4 where a call of the sink failed.
-fn finish<W: Sink>(out: &mut W, text: &str, status: u8) -> u8
+fn finish<W: Sink>(out: &mut W, text: &[u8], status: u8) -> u8
     requires { status < 4 }
     ensures status { (result ≡ status) ⊎ (result ≡ 4) }
     ensures all { result ≢ 4 → Took (W.calls out.old) (W.calls out.new) text.now }
     ensures start { result ≡ 4 → TookStartOf (W.calls out.old) (W.calls out.new) text.now }
     ensures failed { (result ≡ 4) ↔ ((W.calls out.old).failures < (W.calls out.new).failures) }
 {
-    match write_text(out, text.as_bytes()) {
+    match write_text(out, text) {
         Ok(()) => status,
         Err(_) => 4,
     }
@@ -84,15 +110,15 @@ pub struct Request {
 }
 
 // The text of the answer.
-fn answer(alloc: Global, words: &[String]) -> Result<String, Stopped>
-    ensures { Gives result (IsOutcome (map string_bytes words.now)) }
+fn answer(alloc: Global, words: &[Vec<u8>]) -> Result<Vec<u8>, Stopped>
+    ensures { Gives result (IsOutcome (map vec_items words.now)) }
 {
     let request = asked(words)?;
     answer_in_field(alloc, request, &words[3..])
 }
 
-fn asked(words: &[String]) -> Result<Request, Fault>
-    ensures exact { result ≡ asked (map string_bytes words.now) }
+fn asked(words: &[Vec<u8>]) -> Result<Request, Fault>
+    ensures exact { result ≡ asked (map vec_items words.now) }
     ensures behind { OnOk result (3 ≤ length words.now) }
 {
     let field = FieldName::of(word_at(words, 0)?).ok_or(Fault::UnknownField)?;
@@ -105,18 +131,18 @@ fn asked(words: &[String]) -> Result<Request, Fault>
     })
 }
 
-fn word_at(words: &[String], i: usize) -> Result<&str, Fault>
-    ensures word { seen (λ word. word.now) result ≡ ok_or (slice_get (map string_bytes words.now) i) Fault.TooFewWords }
+fn word_at(words: &[Vec<u8>], i: usize) -> Result<&[u8], Fault>
+    ensures word { seen (λ word. word.now) result ≡ ok_or (slice_get (map vec_items words.now) i) Fault.TooFewWords }
     ensures within { OnOk result (i < length words.now) }
 {
     match words.get(i) {
-        Some(word) => Ok(word.as_str()),
+        Some(word) => Ok(word.as_slice()),
         None => Err(Fault::TooFewWords),
     }
 }
 
-fn answer_in_field(alloc: Global, request: Request, words: &[String]) -> Result<String, Stopped>
-    ensures { Gives result (IsOutcomeIn request.field request.operation (map string_bytes words.now)) }
+fn answer_in_field(alloc: Global, request: Request, words: &[Vec<u8>]) -> Result<Vec<u8>, Stopped>
+    ensures { Gives result (IsOutcomeIn request.field request.operation (map vec_items words.now)) }
 {
     match request.field {
         FieldName::BabyBear => {
@@ -132,11 +158,11 @@ fn answer_in<F: CanonicalField>(
     alloc: Global,
     engine: EngineName,
     operation: Operation,
-    words: &[String],
-) -> Result<String, Stopped>
+    words: &[Vec<u8>],
+) -> Result<Vec<u8>, Stopped>
     ensures { (element : ℕ → F.Element) → ((n : ℕ) → n < F.ORDER_U64 → F.number (element n) ≡ n)
         → Gives result (IsOutcomeOver (numbered F.Field.own F.generator F.TWO_ADICITY F.ORDER_U64 element)
-        operation (map string_bytes words.now)) }
+        operation (map vec_items words.now)) }
 {
     let arguments = parse_arguments::<F>(operation, words)?;
     let matrix = matrix_of::<F>(alloc, arguments.width, arguments.values)?;

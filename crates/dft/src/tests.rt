@@ -1,10 +1,11 @@
 ghost use Rattle.std.specs.Prelude.{◌≡◌, ◌++◌, ◌⊎◌, ℕ, List, map};
-ghost use Rattle.std.specs.String.{string_bytes};
+ghost use Rattle.std.specs.Vec.{vec_items};
 ghost use Rattle.dft.specs.Faults.{memory_line};
 ghost use Rattle.dft.specs.Outcome.{IsOutcome};
 
 use crate::counted::Counted;
-use crate::program::run;
+use crate::environment::Environment;
+use crate::program::{run, write_outcome};
 use crate::words::words_after_name;
 use std::alloc::Global;
 use std::env::FillError;
@@ -64,50 +65,13 @@ impl Write for Stubborn {
     }
 }
 
-// The words as a command line owns them. A test stops where memory is refused.
-fn owned(rt: &impl Abort, alloc: Global, words: &[&str]) -> Vec<String> {
-    let mut owned = Vec::new(alloc);
-    for word in words {
-        let word = String::from_str(alloc, *word).expect(rt, "memory");
-        owned.push(word).expect(rt, "memory");
-    }
-    owned
-}
-
-// Stops the test unless the program, on this writer, ends with this status and leaves this text.
-fn ends(
-    rt: &impl Abort,
-    alloc: Global,
-    words: &[&str],
-    mut out: Stubborn,
-    status: u8,
-    text: &[u8],
-) {
-    let words = owned(rt, alloc, words);
-    let found = run(alloc, words.as_slice(), &mut Counted::new(&mut out));
-    assert_eq!(rt; found, status);
-    assert_eq!(rt; out.held.as_slice(), text);
-}
-
-// Runs the program on a `Vec`, of which contracts say what it holds.
-fn run_into(alloc: Global, words: &[String], held: Vec<u8>) -> (u8, Vec<u8>)
-    ensures ended { (result.0 ≡ 0) ⊎ (result.0 ≡ 2) → (text : List ℕ)
-        × IsOutcome (map string_bytes words.now) (record { status = result.0; text = text })
-        × (result.1.items ≡ held.items ++ text) }
-    ensures memory { result.0 ≡ 3 → result.1.items ≡ held.items ++ memory_line }
-{
-    let mut out = Counted::new(held);
-    let status = run(alloc, words, &mut out);
-    (status, out.into_writer())
-}
-
-// A command line.
+// An environment with these words, the program's name among them.
 #[derive(Clone, Copy)]
-struct CommandLine<'a> {
+struct FakeEnvironment<'a> {
     words: &'a [&'a [u8]],
 }
 
-impl Env for CommandLine<'_> {
+impl Env for FakeEnvironment<'_> {
     fn arg(&self, i: usize, buf: &mut [u8]) -> Result<usize, FillError> {
         let Some(word) = self.words.get(i) else {
             return Err(FillError::NotPresent);
@@ -126,6 +90,49 @@ impl Env for CommandLine<'_> {
     fn var_at(&self, _i: usize, _buf: &mut [u8]) -> Result<usize, FillError> {
         Err(FillError::NotPresent)
     }
+}
+
+// These words behind the program's name. A test stops where memory is refused.
+fn line_of<'a>(rt: &impl Abort, alloc: Global, words: &[&'a str]) -> Vec<&'a [u8]> {
+    let mut line = Vec::new(alloc);
+    line.push(b"dft".as_slice()).expect(rt, "memory");
+    for word in words {
+        line.push(word.as_bytes()).expect(rt, "memory");
+    }
+    line
+}
+
+// What the program answers for a command line.
+fn status_of(alloc: Global, words: &[&[u8]], out: &mut Stubborn) -> u8 {
+    let mut line = Environment::new(FakeEnvironment { words });
+    run(alloc, &mut line, &mut Counted::new(out))
+}
+
+// Stops the test unless the program, on this writer, ends with this status and leaves this text.
+fn ends(
+    rt: &impl Abort,
+    alloc: Global,
+    words: &[&str],
+    mut out: Stubborn,
+    status: u8,
+    text: &[u8],
+) {
+    let line = line_of(rt, alloc, words);
+    let found = status_of(alloc, line.as_slice(), &mut out);
+    assert_eq!(rt; found, status);
+    assert_eq!(rt; out.held.as_slice(), text);
+}
+
+// Runs the program on a `Vec`, of which contracts say what it holds.
+fn run_into(alloc: Global, words: &[Vec<u8>], held: Vec<u8>) -> (u8, Vec<u8>)
+    ensures ended { (result.0 ≡ 0) ⊎ (result.0 ≡ 2) → (text : List ℕ)
+        × IsOutcome (map vec_items words.now) (record { status = result.0; text = text })
+        × (result.1.items ≡ held.items ++ text) }
+    ensures memory { result.0 ≡ 3 → result.1.items ≡ held.items ++ memory_line }
+{
+    let mut out = Counted::new(held);
+    let status = write_outcome(alloc, words, &mut out);
+    (status, out.into_writer())
 }
 
 const FIRST_WORDS: [&str; 10] = [
@@ -478,15 +485,10 @@ fn a_writer_gets_the_text_or_its_beginning(rt: HostRuntime) {
     ends(&rt, alloc, &FIRST_WORDS, unflushed, 4, text);
 }
 
-// Stops the test unless these words are those of a command line from the one after its name on.
-fn reads(rt: &impl Abort, alloc: Global, words: &[&[u8]], wanted: &[&str]) {
-    let read = words_after_name(&CommandLine { words }, alloc).expect(rt, "memory");
-    assert!(rt; read == owned(rt, alloc, wanted));
-}
-
-// Or unless a command line makes the program leave this text.
+// Stops the test unless a command line makes the program leave this text.
 fn leaves(rt: &impl Abort, alloc: Global, words: &[&[u8]], text: &[u8]) {
-    let read = words_after_name(&CommandLine { words }, alloc).expect(rt, "memory");
+    let mut line = Environment::new(FakeEnvironment { words });
+    let read = words_after_name(alloc, &mut line).expect(rt, "memory");
     let (_, held) = run_into(alloc, read.as_slice(), Vec::new(alloc));
     assert_eq!(rt; held.as_slice(), text);
 }
@@ -494,18 +496,6 @@ fn leaves(rt: &impl Abort, alloc: Global, words: &[&[u8]], text: &[u8]) {
 // The program's own name is not read, and what is no UTF-8 is told the fault of its place.
 #[test]
 fn invalid_utf8_is_a_fault_of_its_place(rt: HostRuntime) {
-    let long = seven(&rt, rt.alloc(), 1000);
-    let words: [&[u8]; 6] = [
-        b"\xff",
-        b"babybear",
-        b"",
-        b"na\xffive",
-        long.as_bytes(),
-        b"\xe2\x82",
-    ];
-    let wanted = ["babybear", "", "na\u{FFFD}ive", long.as_str(), "\u{FFFD}"];
-    reads(&rt, rt.alloc(), &words, &wanted);
-
     let rows: [(&[&[u8]], &str); 5] = [
         (&[b"\xff", b"babybear", b"naive", b"dft", b"1", b"7"], "7\n"),
         (&[b"dft", b"baby\xffbear"], "error 1: unknown field\n"),
@@ -522,4 +512,113 @@ fn invalid_utf8_is_a_fault_of_its_place(rt: HostRuntime) {
     for (words, text) in rows {
         leaves(&rt, rt.alloc(), words, text.as_bytes());
     }
+}
+
+// The numbers from 1 to 300, four rows of 75: an extension by no bits keeps its values.
+#[test]
+fn three_hundred_values_are_read_in_order(rt: HostRuntime) {
+    let alloc = rt.alloc();
+    let mut typed = String::new(alloc);
+    let mut text = String::new(alloc);
+    for n in 1..301u64 {
+        let end = if n % 75 == 0 { '\n' } else { ' ' };
+        write!(typed, " {n}").expect(&rt, "memory");
+        write!(text, "{n}{end}").expect(&rt, "memory");
+    }
+    let mut words = Vec::new(alloc);
+    for word in ["goldilocks", "dit", "lde", "0", "75"] {
+        words.push(word).expect(&rt, "memory");
+    }
+    for word in typed.as_str().split_whitespace() {
+        words.push(word).expect(&rt, "memory");
+    }
+    let out = Stubborn::with_room(alloc, 2000);
+    ends(&rt, alloc, words.as_slice(), out, 0, text.as_bytes());
+}
+
+// Takes all blocks of this size that there are, as long as `held` has room for more.
+fn take_all_of(alloc: Global, held: &mut Vec<Vec<u8>>, size: usize) {
+    for _n in held.len()..held.capacity() {
+        let Ok(block) = Vec::with_capacity(alloc, size) else {
+            break;
+        };
+        let _ = held.push(block);
+    }
+}
+
+// What is free while the program runs is the rest of a block of so many bytes.
+const SPARE: usize = 4096;
+
+// Takes all memory but so many bytes.
+fn strain(rt: &impl Abort, alloc: Global, held: &mut Vec<Vec<u8>>, left: usize) {
+    let spare = Vec::<u8>::with_capacity(alloc, SPARE).expect(rt, "memory");
+    for n in 0..6usize {
+        take_all_of(alloc, held, 65536 >> n);
+    }
+    for n in 0..64usize {
+        take_all_of(alloc, held, 1032 - 16 * n);
+    }
+    drop(spare);
+    let rest = Vec::with_capacity(alloc, SPARE.saturating_sub(left)).expect(rt, "memory");
+    held.push(rest).expect(rt, "room");
+}
+
+// Runs the program with no memory left, and with more and more until it ends with this status and text. Before that
+// memory is refused to it: answers how often.
+fn refusals(
+    rt: &impl Abort,
+    alloc: Global,
+    held: &mut Vec<Vec<u8>>,
+    words: &[&str],
+    status: u8,
+    text: &[u8],
+) -> usize {
+    let line = line_of(rt, alloc, words);
+    let taken = held.len();
+    for n in 0..500usize {
+        let mut out = Stubborn::with_room(alloc, 100);
+        out.held.reserve(100).expect(rt, "memory");
+        strain(rt, alloc, held, 16 * n);
+        let found = status_of(alloc, line.as_slice(), &mut out);
+        held.truncate(taken);
+        if found != 3 {
+            assert_eq!(rt; found, status);
+            assert_eq!(rt; out.held.as_slice(), text);
+            return n;
+        }
+        assert_eq!(rt; out.held.as_slice(), b"error 9: out of memory\n".as_slice());
+    }
+    panic!(rt; "no memory is enough")
+}
+
+// Each test has a process of its own. This one takes all of its address space but what runs of the program need, in
+// blocks that are never touched.
+#[test]
+fn each_refused_request_is_told(rt: HostRuntime) {
+    let alloc = rt.alloc();
+    let mut held = Vec::with_capacity(alloc, 40000).expect(&rt, "memory");
+    let mut kept = Vec::with_capacity(alloc, 160).expect(&rt, "memory");
+    for _n in 0..160usize {
+        let block = Vec::<u8>::with_capacity(alloc, 100000).expect(&rt, "memory");
+        kept.push(block).expect(&rt, "memory");
+    }
+    for n in 0..46usize {
+        take_all_of(alloc, &mut held, (1 << 46) >> n);
+    }
+    // Where small blocks have memory of their own, as in a process that looks for misuse of memory, nothing can be
+    // shown in this way.
+    if held.len() == held.capacity() {
+        return;
+    }
+    drop(kept);
+    let line = "13\n1747640583\n2013265918\n265625348\n";
+    for engine in ["naive", "dit", "bowers", "parallel", "small"] {
+        let words = ["babybear", engine, "coset-lde", "1", "2", "1", "9", "1"];
+        let times = refusals(&rt, alloc, &mut held, &words, 0, line.as_bytes());
+        assert!(rt; times > 40, "{times}");
+    }
+    let words = ["x"];
+    let fault = b"error 1: unknown field\n".as_slice();
+    let times = refusals(&rt, alloc, &mut held, &words, 2, fault);
+    assert!(rt; times > 10, "{times}");
 }

@@ -1,41 +1,65 @@
 //! The words of the command line.
 
-use std::alloc::{AllocError, Global};
-use std::env::FillError;
-use std::rt::Env;
+ghost use Rattle.std.specs.Prelude.{◌≡◌, ◌++◌, ◌<◌, ◌⊎◌, ℕ, List, map, option_map, vec_len, IfOk, OnErr};
+ghost use Rattle.std.specs.Vec.{vec_items};
+ghost use Rattle.std.specs.Io.{WritesAtMost};
+ghost use Rattle.dft.specs.Words.{Told, ToldAll, ToldFirst, told_at, told_by};
 
-/// The words after the program's name, which is never read.
+use p3_dft::{Refused, growth};
+use std::alloc::Global;
+use std::env::FillError;
+
+/// A command line: the program's own name at place 0, and words behind it.
 ///
-/// Where a word is no UTF-8, U+FFFD stands for what is none: it is no digit, and no name has it.
-pub fn words_after_name<E: Env>(env: &E, alloc: Global) -> Result<Vec<String>, AllocError> {
+/// Contracts see what its answers told.
+pub trait CommandLine {
+    // Of each place that was asked for: the word there, or that there is none.
+    ghost told: { Self → List Told };
+
+    /// Copies the word at this place to the start of `buf`, and answers how many bytes it has.
+    fn word(&mut self, place: usize, buf: &mut [u8]) -> Result<usize, FillError>
+        ensures bound { WritesAtMost result buf.new }
+        ensures told { told self.new ≡ told self.old ++ told_by place result buf.new };
+}
+
+/// All words after the program's name, which is never read.
+pub fn words_after_name<L: CommandLine>(
+    alloc: Global,
+    line: &mut L,
+) -> Result<Vec<Vec<u8>>, Refused>
+    ensures all { IfOk result (λ words. ToldAll (L.told line.old) (L.told line.new) (map vec_items words.items)) }
+    ensures first { OnErr result ((words : List (List ℕ)) × ToldFirst (L.told line.old) (L.told line.new) words) }
+{
     let mut words = Vec::new(alloc);
     let mut buffer = Vec::new(alloc);
-    buffer.resize(256, 0)?;
-    for i in 1..usize::MAX {
-        match word_at(env, alloc, i, &mut buffer)? {
-            Some(word) => words.push(word)?,
-            None => break,
-        }
+    growth::resize(&mut buffer, 256, 0)?;
+    while let Some(word) = word_at(alloc, line, 1 + words.as_slice().len(), &mut buffer)? {
+        growth::push(&mut words, word)?;
     }
     Ok(words)
 }
 
-// Word i of the command line, if there are so many. The buffer grows until the word has room in it.
-fn word_at<E: Env>(
-    env: &E,
+// The word at this place, if there is one. The buffer grows until the word has room in it.
+fn word_at<L: CommandLine>(
     alloc: Global,
-    i: usize,
+    line: &mut L,
+    place: usize,
     buffer: &mut Vec<u8>,
-) -> Result<Option<String>, AllocError> {
-    for _ in 0..usize::BITS {
-        match env.arg(i, buffer.as_mut_slice()) {
-            Ok(count) => {
-                let word = String::from_utf8_lossy(alloc, &buffer[..count])?;
-                return Ok(Some(word));
-            }
+) -> Result<Option<Vec<u8>>, Refused>
+    requires { 0 < vec_len buffer.old }
+    ensures room { 0 < vec_len buffer.new }
+    ensures word { IfOk result (λ word. L.told line.new ≡ L.told line.old ++ told_at place (option_map vec_items word)) }
+    ensures refused { OnErr result ((L.told line.new ≡ L.told line.old)
+        ⊎ ((word : List ℕ) × (L.told line.new ≡ L.told line.old ++ told_at place (Some word)))) }
+{
+    loop {
+        match line.word(place, buffer.as_mut_slice()) {
+            Ok(count) => return Ok(Some(growth::from_slice(alloc, &buffer[..count])?)),
             Err(FillError::NotPresent) => return Ok(None),
-            Err(FillError::TooLong) => buffer.resize(buffer.len().saturating_mul(2), 0)?,
+            Err(FillError::TooLong) => {
+                let room = 2 * buffer.as_slice().len();
+                growth::resize(buffer, room, 0)?;
+            }
         }
     }
-    Err(AllocError)
 }

@@ -1,6 +1,6 @@
 use Rattle.std.proofs.Common.{◌≡◌, ◌/◌, ℕ, length, Result, refl, sym, ap, ◌∙◌, subst}
 use Rattle.std.proofs.lemmas.List.{length-map}
-use Rattle.std.specs.String.{string_bytes}
+use Rattle.std.specs.Vec.{vec_items}
 use Rattle.p3_matrix.specs.RowMajor.{height}
 use Rattle.p3_dft.specs.Shapes.{FitsLde}
 use Rattle.dft.specs.declared.fault.Fault.{Fault}
@@ -16,7 +16,7 @@ answer_by-requires g c =
     let matrix = c.in_ok-matrix.matrix in
     let bits = g.F.TwoAdicField.TWO_ADICITY in
     let counted : length arguments.values.now ≡ length matrix.values =
-    sym (length-map arguments.values.now (λ word. number_or_zero (string_bytes word)))
+    sym (length-map arguments.values.now (λ word. number_or_zero (vec_items word)))
     ∙ ap length (sym c.in_ok-matrix.ensures.numbers)
     ∙ length-map matrix.values (λ x. g.F.Field.number (g.F.Field.value x)) in
     let wide : arguments.width ≡ matrix.width = sym c.in_ok-matrix.ensures.wide in
@@ -31,7 +31,7 @@ pub returns : goal.returns
 returns g c element named =
     let field = numbered g.F.Field g.F.TwoAdicField.generator g.F.TwoAdicField.TWO_ADICITY g.F.CanonicalField.ORDER_U64 element in
     let arguments = c.in_ok-arguments.arguments in
-    let text = string_bytes c.in_ok-text_of.field-0 in
+    let text = vec_items c.in_ok-text_of.field-0 in
     subst (λ (read : Result Arguments Fault). FaultOr read (IsAnswered field c.args.operation) (record { status = 0; text = text })) (c.in_ok-arguments.ensures.exact element named) (
       refl,
       text_of_answer g.F.Field g.F.TwoAdicField.generator g.F.TwoAdicField.TWO_ADICITY g.F.CanonicalField.ORDER_U64 element g.met.F.Field.zero_law g.met.F.TwoAdicField.roots_law

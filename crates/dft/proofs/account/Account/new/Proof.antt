@@ -12,10 +12,10 @@ use denote.Shadow.{pure_i}
 use denote.Signature.{types_at}
 use denote.Triple.Entry.{alive}
 use denote.Triple.Walked.{walk_of, says, ends_at}
-use Rattle.dft.specs.contracts.counted.account.Account as token
-use Rattle.dft.specs.contracts.counted.account.Account.new as f
-use Rattle.dft.proofs.counted.account.Account.new.Statement.{statement}
-use Rattle.dft.proofs.counted.account.Account.new.Code as code
+use Rattle.dft.specs.contracts.account.Account as token
+use Rattle.dft.specs.contracts.account.Account.new as f
+use Rattle.dft.proofs.account.Account.new.Statement.{statement}
+use Rattle.dft.proofs.account.Account.new.Code as code
 
 pub new_spec : {M : Type 1} → statement M
 new_spec 𝓤 𝓛 𝓜 𝓡 wired =
@@ -28,11 +28,11 @@ new_spec 𝓤 𝓛 𝓜 𝓡 wired =
     (λ κs qs bounds a _ are.
     let y : W.Ghost = ((κs, qs, bounds, a, tt), tt) in
     let passed : Fml = owns (types_at f.signature.params κs) a tt in
-    let made : token.the_row.Denot = record { bytes = []; failures = 0 } in
+    let made : token.the_row.Denot = record { calls = [] } in
     qed 𝓛 ((raw (alive 𝓛 f.signature κs qs) ⊛ ‵ passed) ∷ ‵ ftrue ∷ []) ∵
     split ! $ move ! (2 ∷ []) $ drop ! $ enter ! _ _ _ _ _ $
     alloc_all ! (λ l. pass_all ! refl tt $ sets ! (agg ! (no_more !)) refl (tt, tt) $
     returns ! (look_at ! 0 refl) $ free_all ! refl $
     suffices ! _ (ends_at 𝓛 f.ended tt c y (vstruct vnil) made tt tt) $
-    says ! (refl, refl) $ pure_i ! (token.the_row.own_val made (vstruct vnil ∷ [])) ((λ vss. (tt, tt)), tt) ((tt, (refl, tt)), tt) $
+    says ! refl $ pure_i ! (token.the_row.own_val made (vstruct vnil ∷ [])) ((λ vss. (tt, tt)), tt) ((tt, (refl, tt)), tt) $
     move ! (1 ∷ 2 ∷ 0 ∷ []) $ done !))
