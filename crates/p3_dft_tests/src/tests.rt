@@ -36,8 +36,8 @@ use calls::{Calls, CallsOf};
 use engines::{LimitedDft, ReversedToReversed};
 use examples::own_engine::NaturalToReversed;
 use p3_dft::{
-    BabyBear, CanonicalField, Evaluations, Field, Goldilocks, Layout, NaiveDft, Radix2Bowers,
-    Radix2DFTSmallBatch, Radix2Dit, Radix2DitParallel, RowMajorMatrix, TwoAdicField,
+    BabyBear, CanonicalField, Evaluations, Field, Goldilocks, KoalaBear, Layout, NaiveDft,
+    Radix2Bowers, Radix2DFTSmallBatch, Radix2Dit, Radix2DitParallel, RowMajorMatrix, TwoAdicField,
     TwoAdicSubgroupDft, fits_lde,
 };
 use std::alloc::Global;
@@ -225,16 +225,25 @@ fn on_halves<F: TwoAdicField, R: Abort, T: EngineTest<F>>(rt: &R, alloc: Global,
     on::<F, Radix2DitParallel<F>, R, T>(rt, alloc, test);
 }
 
+// On the fast engines whose extensions are one block each.
+fn on_fast_engines_of_one_block<F: TwoAdicField, R: Abort, T: EngineTest<F>>(
+    rt: &R,
+    alloc: Global,
+    test: &T,
+) {
+    on_dit(rt, alloc, test);
+    on::<F, Radix2Bowers, R, T>(rt, alloc, test);
+    on::<F, Radix2DFTSmallBatch<F>, R, T>(rt, alloc, test);
+}
+
 // Runs a test on every engine over a field whose extensions are one block each.
 fn on_engines_of_one_block<F: TwoAdicField, R: Abort, T: EngineTest<F>>(
     rt: &R,
     alloc: Global,
     test: &T,
 ) {
+    on_fast_engines_of_one_block(rt, alloc, test);
     on::<F, NaiveDft, R, T>(rt, alloc, test);
-    on_dit(rt, alloc, test);
-    on::<F, Radix2Bowers, R, T>(rt, alloc, test);
-    on::<F, Radix2DFTSmallBatch<F>, R, T>(rt, alloc, test);
     on::<F, LimitedDft, R, T>(rt, alloc, test);
     on::<F, NaturalToReversed, R, T>(rt, alloc, test);
     on::<F, ReversedToReversed, R, T>(rt, alloc, test);
@@ -729,6 +738,27 @@ impl<F: TwoAdicField> CallsTest<F> for AsSums {
     }
 }
 
+// At one shape, with so many bits added: each call answers what the engine by decimation in time answers, twice
+// the same.
+#[derive(Drop)]
+struct AsDit {
+    height: usize,
+    width: usize,
+    added_bits: usize,
+}
+
+impl<F: TwoAdicField> CallsTest<F> for AsDit {
+    fn run<R: Abort, C: Calls<F>>(&self, rt: &R, alloc: Global, engine: &mut C) {
+        let x = sample(rt, alloc, self.height, self.width, 3);
+        let mut dit = CallsOf {
+            engine: Radix2Dit::default(),
+        };
+        same_transforms(rt, &mut dit, engine, &x);
+        same_inverses(rt, &mut dit, engine, &x);
+        same_extensions(rt, &mut dit, engine, &x, self.added_bits);
+    }
+}
+
 fn same_as_sums_over<F: TwoAdicField>(rt: &impl Abort, alloc: Global) {
     for height in [1usize, 2, 4, 8, 16, 32, 64] {
         for width in MANY_WIDTHS {
@@ -770,12 +800,13 @@ fn assert_rows_kept<F: TwoAdicField>(
 #[derive(Drop)]
 struct RowsKept {
     height: usize,
+    width: usize,
     added_bits: usize,
 }
 
 impl<F: TwoAdicField> CallsTest<F> for RowsKept {
     fn run<R: Abort, C: Calls<F>>(&self, rt: &R, alloc: Global, engine: &mut C) {
-        let x = sample(rt, alloc, self.height, 3, 1);
+        let x = sample(rt, alloc, self.height, self.width, 1);
         let extended = engine.lde(rt, &x, self.added_bits);
         assert_rows_kept(rt, &x, &extended, self.added_bits);
         let on_coset = engine.coset_lde(rt, &x, self.added_bits, F::ONE);
@@ -825,7 +856,16 @@ fn extensions_at<F: TwoAdicField>(
     height: usize,
     added_bits: usize,
 ) {
-    calls_of_every_engine::<F, _, _>(rt, alloc, &RowsKept { height, added_bits });
+    let width = 3;
+    calls_of_every_engine::<F, _, _>(
+        rt,
+        alloc,
+        &RowsKept {
+            height,
+            width,
+            added_bits,
+        },
+    );
     calls_of_every_engine::<F, _, _>(rt, alloc, &ZerosAbove { height, added_bits });
     calls_of_every_engine::<F, _, _>(rt, alloc, &NestedCosets { height, added_bits });
 }
@@ -837,4 +877,60 @@ fn extensions_keep_their_laws(rt: HostRuntime) {
             extensions_at::<BabyBear>(&rt, rt.alloc(), height, added_bits);
         }
     }
+}
+
+// Heights whose tables are larger than a tile or a cache, rows wider than four packs, and many bits: the height, the
+// width and the bits that are added.
+const LARGE_SHAPES: [(usize, usize, usize); 6] = [
+    (1 << 12, 5, 1),
+    (1 << 17, 1, 1),
+    (1 << 16, 2, 1),
+    (64, 33, 2),
+    (64, 100, 1),
+    (16, 3, 8),
+];
+
+// An inverse undoes a transform, an extension keeps rows, and two fast engines agree.
+struct LargeShapes;
+
+impl<F: TwoAdicField> CallsTest<F> for LargeShapes {
+    fn run<R: Abort, C: Calls<F>>(&self, rt: &R, alloc: Global, engine: &mut C) {
+        for (height, width, added_bits) in LARGE_SHAPES {
+            CallsTest::<F>::run(&Inverses { height, width }, rt, alloc, engine);
+            CallsTest::<F>::run(&CosetInverses { height, width }, rt, alloc, engine);
+            CallsTest::<F>::run(
+                &RowsKept {
+                    height,
+                    width,
+                    added_bits,
+                },
+                rt,
+                alloc,
+                engine,
+            );
+            CallsTest::<F>::run(
+                &AsDit {
+                    height,
+                    width,
+                    added_bits,
+                },
+                rt,
+                alloc,
+                engine,
+            );
+        }
+    }
+}
+
+fn large_shapes_over<F: TwoAdicField>(rt: &impl Abort, alloc: Global) {
+    let test = ByCalls { test: &LargeShapes };
+    on_fast_engines_of_one_block::<F, _, _>(rt, alloc, &test);
+    on_halves::<F, _, _>(rt, alloc, &test);
+}
+
+#[test]
+fn fast_engines_keep_their_laws_at_large_shapes(rt: HostRuntime) {
+    large_shapes_over::<BabyBear>(&rt, rt.alloc());
+    large_shapes_over::<KoalaBear>(&rt, rt.alloc());
+    large_shapes_over::<Goldilocks>(&rt, rt.alloc());
 }

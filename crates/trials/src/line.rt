@@ -67,10 +67,11 @@ impl<F: TwoAdicField> Line<F> {
     pub fn values(self, alloc: Global, log_h: usize, shift: F) -> Result<Vec<F>, AllocError> {
         let count = height(log_h);
         let mut values = Vec::with_capacity(alloc, count)?;
+        let generator = generator(log_h);
         let mut point = shift;
         for _i in 0..count {
             values.push(self.value(point))?;
-            point = point * generator(log_h);
+            point = point * generator;
         }
         Ok(values)
     }
@@ -87,10 +88,11 @@ impl<F: TwoAdicField> Line<F> {
     /// Whether these are its values there.
     pub fn has_values(self, found: &[F], log_h: usize, shift: F) -> bool {
         let mut same = found.len() == height(log_h);
+        let generator = generator(log_h);
         let mut point = shift;
         for i in 0..found.len() {
             same = same && found[i] == self.value(point);
-            point = point * generator(log_h);
+            point = point * generator;
         }
         same
     }

@@ -9,6 +9,7 @@ use crate::memory::{Asked, Memory, Plenty};
 use crate::names::{Call, TableCall};
 use p3_dft::{TwoAdicField, TwoAdicSubgroupDft};
 use std::alloc::Global;
+use std::mem;
 
 /// A call, and on what it is made.
 #[derive(Clone, Copy)]
@@ -141,7 +142,7 @@ impl Verdict {
 /// How many heights, from one on, have their tables: those below one that has them have theirs.
 pub fn tables<D: Tables>(engine: &D) -> usize {
     let mut count = 0usize;
-    for log_h in 0..16usize {
+    for log_h in 0..32usize {
         if engine.has_tables(log_h) {
             count = count.saturating_add(1);
         }
@@ -230,19 +231,22 @@ fn tried_by_engine<F: TwoAdicField, D: TwoAdicSubgroupDft<F> + Tables, M: Memory
     }
 }
 
-/// A trial of one call.
+/// A trial of one call. A code takes what the engine has, and leaves a new one.
 pub fn tried<F: TwoAdicField, D: TwoAdicSubgroupDft<F> + Tables, M: Memory>(
     alloc: Global,
     memory: &mut M,
-    mut engine: D,
+    engine: &mut D,
     trial: Trial,
 ) -> Verdict {
-    if let Err(verdict) = ready(&mut engine, alloc, trial.prepared) {
+    if let Err(verdict) = ready(engine, alloc, trial.prepared) {
         return verdict;
     }
     match trial.call {
-        Call::Code(call) => tried_by_code(alloc, memory, engine, call, trial.work()),
-        call => tried_by_engine(alloc, memory, &mut engine, call, trial.work()),
+        Call::Code(call) => {
+            let engine = mem::replace(engine, D::default());
+            tried_by_code(alloc, memory, engine, call, trial.work())
+        }
+        call => tried_by_engine(alloc, memory, engine, call, trial.work()),
     }
 }
 
@@ -256,6 +260,6 @@ pub struct Once {
 
 impl<F: TwoAdicField> EngineUse<F> for Once {
     fn on<D: TwoAdicSubgroupDft<F> + Tables>(&mut self) -> Verdict {
-        tried(self.alloc, &mut self.memory, D::default(), self.trial)
+        tried(self.alloc, &mut self.memory, &mut D::default(), self.trial)
     }
 }

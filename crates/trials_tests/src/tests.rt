@@ -4,8 +4,9 @@
 // never touches; then memory for a call is what it leaves free, from none up, until the call answers.
 
 use p3_dft::{
-    BabyBear, CanonicalField, DftError, Field, JobsStopped, NaiveDft, Radix2DFTSmallBatch,
-    RowMajorMatrix, TwoAdicField, TwoAdicSubgroupDft, fits_dft, fits_lde, run_jobs,
+    BabyBear, CanonicalField, DftError, Field, Goldilocks, JobsStopped, KoalaBear, NaiveDft,
+    Radix2DFTSmallBatch, RowMajorMatrix, TwoAdicField, TwoAdicSubgroupDft, fits_dft, fits_lde,
+    run_jobs,
 };
 use std::alloc::Global;
 use std::process::Abort;
@@ -18,6 +19,13 @@ use trials::trial::{Trial, Verdict, Work, tried};
 
 const ENGINES: [EngineName; 5] = [
     EngineName::Naive,
+    EngineName::Dit,
+    EngineName::Bowers,
+    EngineName::Parallel,
+    EngineName::Small,
+];
+
+const FAST_ENGINES: [EngineName; 4] = [
     EngineName::Dit,
     EngineName::Bowers,
     EngineName::Parallel,
@@ -59,20 +67,32 @@ fn calls_in(form: Form) -> [Call; 6] {
     ]
 }
 
+// Shapes of a column: the logarithm of its height, the bits that are added, and the shift.
+const SHAPES: [(usize, usize, usize); 3] = [(1, 1, 2), (3, 2, 0), (4, 1, 3)];
+
+// Shapes for the engine that works by sums, and for the others.
+const SHAPES_OF_SUMS: [(usize, usize, usize); 2] = [(12, 0, 3), (2, 8, 3)];
+
+const LARGE_SHAPES: [(usize, usize, usize); 3] = [(12, 1, 2), (17, 1, 3), (4, 8, 0)];
+
 // Room for what is held while a call is made.
 const MOST_BLOCKS: usize = 20000;
 
-// What is free while a call is made is the rest of a block of so many bytes.
-const SPARE: usize = 4096;
-
-// Blocks that are taken before a call and given back afterwards, and how many bytes are left free.
+// Blocks that are taken before a call and given back afterwards, whether small ones are among them, and how many bytes
+// are left free.
 #[derive(Drop)]
 struct Scarce {
     held: Vec<Vec<u8>>,
+    small: bool,
     left: usize,
 }
 
 impl Scarce {
+    // What is free while a call is made is the rest of a block of so many bytes.
+    fn spare(&self) -> usize {
+        if self.small { 4096 } else { 16384 }
+    }
+
     // Takes a block, if there is one of this size.
     fn take(&mut self, alloc: Global, size: usize) -> bool {
         if self.held.len() >= self.held.capacity() {
@@ -99,20 +119,22 @@ impl Scarce {
         for n in 0..6usize {
             self.take_all_of(alloc, 65536 >> n);
         }
-        for n in 0..64usize {
-            self.take_all_of(alloc, 1032 - 16 * n);
+        if self.small {
+            for n in 0..64usize {
+                self.take_all_of(alloc, 1032 - 16 * n);
+            }
         }
     }
 }
 
 impl Memory for Scarce {
     fn strain(&mut self, alloc: Global) -> bool {
-        let Ok(spare) = Vec::<u8>::with_capacity(alloc, SPARE) else {
+        let Ok(spare) = Vec::<u8>::with_capacity(alloc, self.spare()) else {
             return false;
         };
         self.take_rest(alloc);
         drop(spare);
-        self.take(alloc, SPARE.saturating_sub(self.left))
+        self.take(alloc, self.spare().saturating_sub(self.left))
     }
 
     fn relieve(&mut self) {
@@ -133,11 +155,12 @@ fn take_for_good(alloc: Global, size: usize, most: usize) -> bool {
     false
 }
 
-// What a test needs beside.
-fn kept(rt: &impl Abort, alloc: Global) -> Vec<Vec<u8>> {
+// What a test needs beside. Small blocks that were freed stay apart, and need more.
+fn kept(rt: &impl Abort, alloc: Global, small: bool) -> Vec<Vec<u8>> {
+    let size = if small { 100000 } else { 4000 };
     let mut kept = Vec::new(alloc);
     for _n in 0..16usize {
-        let block = Vec::with_capacity(alloc, 100000).expect(rt, "memory");
+        let block = Vec::with_capacity(alloc, size).expect(rt, "memory");
         kept.push(block).expect(rt, "memory");
     }
     kept
@@ -146,9 +169,9 @@ fn kept(rt: &impl Abort, alloc: Global) -> Vec<Vec<u8>> {
 // Takes all memory for good, but for what a test needs, and answers what makes that scarce. None where small
 // blocks have memory of their own beside the address space that a process can get: so it is in a process
 // that looks for misuse of memory, where nothing can be shown in this way.
-fn scarce_memory(rt: &impl Abort, alloc: Global) -> Option<Scarce> {
+fn scarce_memory(rt: &impl Abort, alloc: Global, small: bool) -> Option<Scarce> {
     let held = Vec::with_capacity(alloc, MOST_BLOCKS).expect(rt, "memory");
-    let kept = kept(rt, alloc);
+    let kept = kept(rt, alloc, small);
     for n in 0..27usize {
         assert!(rt; take_for_good(alloc, (1 << 46) >> n, 200000));
     }
@@ -159,7 +182,11 @@ fn scarce_memory(rt: &impl Abort, alloc: Global) -> Option<Scarce> {
         assert!(rt; take_for_good(alloc, 65536 >> n, 20000));
     }
     drop(kept);
-    Some(Scarce { held, left: 0 })
+    Some(Scarce {
+        held,
+        small,
+        left: 0,
+    })
 }
 
 // How much is left free for the n-th try of a call: nothing, and then from what an allocator hands out at
@@ -189,12 +216,45 @@ impl<'a, F: TwoAdicField> EngineUse<F> for Sweep<'a> {
     fn on<D: TwoAdicSubgroupDft<F> + Tables>(&mut self) -> Verdict {
         for n in 0..MOST_TRIES {
             self.scarce.left = left_free(n);
-            match tried(self.alloc, self.scarce, D::default(), self.trial) {
+            match tried(self.alloc, self.scarce, &mut D::default(), self.trial) {
                 Verdict::RefusedFirst => self.refused = self.refused.saturating_add(1),
                 verdict => return verdict,
             }
         }
         Verdict::RefusedFirst
+    }
+}
+
+// How often a call is made again: what it was passed would fill the memory several times over.
+const TIMES: usize = 128;
+
+// Makes a call again and again, by a new engine and by one that goes on: with too little memory, of four amounts in
+// turn, and with enough. Were what it was passed kept, there would soon be no memory for the next. It counts how often
+// memory was refused.
+#[derive(Drop)]
+struct Again<'a> {
+    alloc: Global,
+    scarce: &'a mut Scarce,
+    trial: Trial,
+    refused: usize,
+}
+
+impl<'a, F: TwoAdicField> EngineUse<F> for Again<'a> {
+    fn on<D: TwoAdicSubgroupDft<F> + Tables>(&mut self) -> Verdict {
+        let mut engine = D::default();
+        for n in 0..TIMES {
+            self.scarce.left = n % 4 * 4096;
+            match tried(self.alloc, self.scarce, &mut D::default(), self.trial) {
+                Verdict::Answered => {}
+                Verdict::RefusedFirst => self.refused = self.refused.saturating_add(1),
+                verdict => return verdict,
+            }
+            match tried(self.alloc, self.scarce, &mut engine, self.trial) {
+                Verdict::Answered | Verdict::RefusedFirst => {}
+                verdict => return verdict,
+            }
+        }
+        Verdict::Answered
     }
 }
 
@@ -207,7 +267,7 @@ struct WithPlenty {
 
 impl<F: TwoAdicField> EngineUse<F> for WithPlenty {
     fn on<D: TwoAdicSubgroupDft<F> + Tables>(&mut self) -> Verdict {
-        tried(self.alloc, &mut Plenty, D::default(), self.trial)
+        tried(self.alloc, &mut Plenty, &mut D::default(), self.trial)
     }
 }
 
@@ -247,15 +307,20 @@ fn is_promised(engine: EngineName, trial: Trial) -> bool {
     }
 }
 
-// The trials of a call: of the worked rows and of more, on new engines and on such as have the tables.
-fn add_trials(rt: &impl Abort, trials: &mut Vec<Trial>, call: Call) {
-    for (log_h, added_bits, shift) in [(1, 1, 2), (3, 2, 0), (4, 1, 3)] {
-        for prepared in [None, Some(log_h)] {
+// The trials of a call at each shape, on new engines and on such as have the tables.
+fn add_trials(
+    rt: &impl Abort,
+    trials: &mut Vec<Trial>,
+    shapes: &[(usize, usize, usize)],
+    call: Call,
+) {
+    for (log_h, added_bits, shift) in shapes {
+        for prepared in [None, Some(*log_h)] {
             let trial = Trial {
                 call,
-                log_h,
-                added_bits,
-                shift,
+                log_h: *log_h,
+                added_bits: *added_bits,
+                shift: *shift,
                 prepared,
             };
             trials.push(trial).expect(rt, "memory");
@@ -264,15 +329,15 @@ fn add_trials(rt: &impl Abort, trials: &mut Vec<Trial>, call: Call) {
 }
 
 // Those of all calls.
-fn all_trials(rt: &impl Abort, alloc: Global) -> Vec<Trial> {
+fn all_trials(rt: &impl Abort, alloc: Global, shapes: &[(usize, usize, usize)]) -> Vec<Trial> {
     let mut trials = Vec::new(alloc);
     for form in FORMS {
         for call in calls_in(form) {
-            add_trials(rt, &mut trials, call);
+            add_trials(rt, &mut trials, shapes, call);
         }
     }
     for call in ALONE {
-        add_trials(rt, &mut trials, call);
+        add_trials(rt, &mut trials, shapes, call);
     }
     trials
 }
@@ -286,15 +351,17 @@ fn assert_answered(rt: &impl Abort, verdict: Verdict) {
     );
 }
 
-// All trials with enough memory.
-fn answer<F: TwoAdicField>(rt: &impl Abort, alloc: Global, trials: &[Trial]) {
-    for engine in ENGINES {
-        for trial in trials {
-            let mut use_of = WithPlenty {
-                alloc,
-                trial: *trial,
-            };
-            assert_answered(rt, on_engine::<F, _>(engine, &mut use_of));
+// All trials at some shapes with enough memory.
+fn answer<F: TwoAdicField>(
+    rt: &impl Abort,
+    alloc: Global,
+    engines: &[EngineName],
+    shapes: &[(usize, usize, usize)],
+) {
+    for trial in all_trials(rt, alloc, shapes) {
+        for engine in engines {
+            let mut use_of = WithPlenty { alloc, trial };
+            assert_answered(rt, on_engine::<F, _>(*engine, &mut use_of));
         }
     }
 }
@@ -351,7 +418,7 @@ impl<'a, F: TwoAdicField, R: Abort> EngineUse<F> for Growth<'a, R> {
             shift: 1,
             prepared: None,
         };
-        tried(self.alloc, &mut Plenty, engine, trial)
+        tried(self.alloc, &mut Plenty, &mut engine, trial)
     }
 }
 
@@ -363,11 +430,48 @@ fn grow<F: TwoAdicField, R: Abort>(rt: &R, alloc: Global) {
 
 // Every call on every engine with every amount of memory up to one that is enough.
 fn sweep_all<F: TwoAdicField, R: Abort>(rt: &R, alloc: Global) {
-    let trials = all_trials(rt, alloc);
-    answer::<F>(rt, alloc, trials.as_slice());
-    if let Some(mut scarce) = scarce_memory(rt, alloc) {
+    answer::<F>(rt, alloc, &ENGINES, &SHAPES);
+    let trials = all_trials(rt, alloc, &SHAPES);
+    if let Some(mut scarce) = scarce_memory(rt, alloc, true) {
         let refused = are_refused::<F>(rt, alloc, trials.as_slice(), &mut scarce);
         assert!(rt; refused > 5000);
+    }
+}
+
+// Every call on these engines again and again.
+fn call_again<F: TwoAdicField>(
+    rt: &impl Abort,
+    alloc: Global,
+    scarce: &mut Scarce,
+    engines: &[EngineName],
+    trials: &[Trial],
+) {
+    for engine in engines {
+        for trial in trials {
+            let mut again = Again {
+                alloc,
+                scarce,
+                trial: *trial,
+                refused: 0,
+            };
+            assert_answered(rt, on_engine::<F, _>(*engine, &mut again));
+        }
+    }
+}
+
+// What is passed is given back, whether a call answers or is refused memory.
+fn give_back<F: TwoAdicField, R: Abort>(rt: &R, alloc: Global) {
+    let of_sums = all_trials(rt, alloc, &[(8, 1, 3)]);
+    let larger = all_trials(rt, alloc, &[(9, 1, 3)]);
+    if let Some(mut scarce) = scarce_memory(rt, alloc, false) {
+        call_again::<F>(rt, alloc, &mut scarce, &FAST_ENGINES, larger.as_slice());
+        call_again::<F>(
+            rt,
+            alloc,
+            &mut scarce,
+            &[EngineName::Naive],
+            of_sums.as_slice(),
+        );
     }
 }
 
@@ -442,7 +546,7 @@ fn stop_within_list<F: TwoAdicField>(rt: &impl Abort, alloc: Global, scarce: &mu
 }
 
 fn keep_rows<F: TwoAdicField, R: Abort>(rt: &R, alloc: Global) {
-    if let Some(mut scarce) = scarce_memory(rt, alloc) {
+    if let Some(mut scarce) = scarce_memory(rt, alloc, true) {
         keep_tables::<F>(rt, alloc, &mut scarce);
         stop_within_list::<F>(rt, alloc, &mut scarce);
     }
@@ -491,4 +595,27 @@ fn every_call_answers_or_refuses_with_too_little_memory(rt: HostRuntime) {
 #[test]
 fn tables_and_answers_stay_after_a_refusal(rt: HostRuntime) {
     keep_rows::<BabyBear, _>(&rt, rt.alloc());
+}
+
+#[test]
+fn what_is_passed_is_given_back(rt: HostRuntime) {
+    give_back::<Goldilocks, _>(&rt, rt.alloc());
+}
+
+#[test]
+fn calls_answer_at_large_shapes_over_baby_bear(rt: HostRuntime) {
+    answer::<BabyBear>(&rt, rt.alloc(), &[EngineName::Naive], &SHAPES_OF_SUMS);
+    answer::<BabyBear>(&rt, rt.alloc(), &FAST_ENGINES, &LARGE_SHAPES);
+}
+
+#[test]
+fn calls_answer_at_large_shapes_over_koala_bear(rt: HostRuntime) {
+    answer::<KoalaBear>(&rt, rt.alloc(), &ENGINES, &SHAPES);
+    answer::<KoalaBear>(&rt, rt.alloc(), &FAST_ENGINES, &LARGE_SHAPES);
+}
+
+#[test]
+fn calls_answer_at_large_shapes_over_goldilocks(rt: HostRuntime) {
+    answer::<Goldilocks>(&rt, rt.alloc(), &ENGINES, &SHAPES);
+    answer::<Goldilocks>(&rt, rt.alloc(), &FAST_ENGINES, &LARGE_SHAPES);
 }

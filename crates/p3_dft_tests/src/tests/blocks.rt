@@ -379,18 +379,22 @@ impl<F: CanonicalField> EngineTest<F> for NothingLent {
     }
 }
 
-// The consumer is made once the coefficients were transformed.
-struct MadeLater;
+// The consumer is made once the coefficients were transformed, of one or two rows.
+#[derive(Drop)]
+struct MadeLater {
+    width: usize,
+    added_bits: usize,
+}
 
 impl<F: CanonicalField> EngineTest<F> for MadeLater {
     fn run<R: Abort, D: TwoAdicSubgroupDft<F>>(&self, rt: &R, alloc: Global, mut engine: D) {
         let called = Cell::new(false);
         let made_later = Cell::new(false);
-        let mat: RowMajorMatrix<F> = matrix(rt, alloc, &[9, 1], 1);
-        assert!(rt; fits_lde::<F>(mat.height(), mat.width(), 1));
+        let mat: RowMajorMatrix<F> = matrix(rt, alloc, &[9, 1], self.width);
+        assert!(rt; fits_lde::<F>(mat.height(), mat.width(), self.added_bits));
         let answer = engine.coset_lde_batch_with_blocks(
             mat,
-            1,
+            self.added_bits,
             F::ONE,
             |coefficients: RowMajorMatrix<F>, _layout: Layout| -> RowMajorMatrix<F>
                 ensures { HasShapeOf result coefficients }
@@ -413,7 +417,9 @@ fn published<F: CanonicalField>(rt: &impl Abort, alloc: Global, physical: [u64; 
     on_every_engine::<F, _, _>(rt, alloc, &RecordedBlocks { physical });
     on_every_engine::<F, _, _>(rt, alloc, &DoubledBlocks);
     on_every_engine::<F, _, _>(rt, alloc, &LimitedBlocks);
-    on_every_engine::<F, _, _>(rt, alloc, &MadeLater);
+    for (width, added_bits) in [(1, 0), (1, 1), (2, 0), (2, 1)] {
+        on_every_engine::<F, _, _>(rt, alloc, &MadeLater { width, added_bits });
+    }
 }
 
 #[test]

@@ -14,8 +14,10 @@ use p3_dft::{
 use std::alloc::Global;
 use std::process::Abort;
 
-// How many kinds of job there are.
+// How many kinds of job there are, and how many jobs a list has.
 const KINDS: usize = 6;
+
+const JOBS: usize = 20;
 
 // A job of each kind.
 fn job<F: CanonicalField>(rt: &impl Abort, alloc: Global, kind: usize) -> Job<F>
@@ -55,12 +57,12 @@ pub(crate) fn and_then<F: CanonicalField>(
     jobs
 }
 
-// A copy of one of each kind, beginning with one of them.
+// Copies of jobs of each kind in turn, beginning with one of them.
 fn list_from<F: CanonicalField>(rt: &impl Abort, alloc: Global, first: usize) -> Vec<Job<F>>
     ensures { All (CanRun F.Field.own F.TWO_ADICITY) result.items }
 {
     let mut jobs = Vec::new(alloc);
-    for n in 0..KINDS {
+    for n in 0..JOBS {
         let job = job(rt, alloc, first.wrapping_add(n));
         jobs = and_then(rt, jobs, copy_of(rt, &job));
     }
@@ -102,17 +104,17 @@ fn transforms(kind: usize) -> usize {
 // How many of the jobs, beginning with one kind, so many transforms answer.
 fn answered(first: usize, transforms_left: usize) -> usize {
     let mut left = transforms_left;
-    for n in 0..KINDS {
+    for n in 0..JOBS {
         let taken = transforms(first.wrapping_add(n));
         if left < taken {
             return n;
         }
         left -= taken;
     }
-    KINDS
+    JOBS
 }
 
-// A job of each kind, beginning with one of them, of which so many are answered before memory is
+// Jobs of each kind in turn, beginning with one of them, of which so many are answered before memory is
 // refused.
 fn answers_in_turn<F: CanonicalField, D: TwoAdicSubgroupDft<F>>(
     rt: &impl Abort,
@@ -124,7 +126,7 @@ fn answers_in_turn<F: CanonicalField, D: TwoAdicSubgroupDft<F>>(
     let expected: Vec<RowMajorMatrix<F>> = answers(rt, alloc, first, count);
     match run_jobs(engine, list_from(rt, alloc, first)) {
         Ok(answers) => {
-            assert!(rt; count == KINDS);
+            assert!(rt; count == JOBS);
             assert!(rt; answers == expected);
         }
         Err(
@@ -133,7 +135,7 @@ fn answers_in_turn<F: CanonicalField, D: TwoAdicSubgroupDft<F>>(
                 error: DftError::OutOfMemory(_),
             },
         ) => {
-            assert!(rt; count < KINDS);
+            assert!(rt; count < JOBS);
             assert!(rt; answers == expected);
         }
     }
@@ -152,12 +154,12 @@ impl<F: CanonicalField> EngineTest<F> for NoJobs {
     }
 }
 
-// A job of each kind.
+// Jobs of each kind in turn.
 struct Jobs;
 
 impl<F: CanonicalField> EngineTest<F> for Jobs {
     fn run<R: Abort, D: TwoAdicSubgroupDft<F>>(&self, rt: &R, alloc: Global, mut engine: D) {
-        answers_in_turn(rt, alloc, &mut engine, 0, KINDS);
+        answers_in_turn(rt, alloc, &mut engine, 0, JOBS);
     }
 }
 
@@ -176,7 +178,7 @@ fn refused_after<F: CanonicalField>(
 #[test]
 fn refused_jobs_leave_the_answers_before_them(rt: HostRuntime) {
     for first in 0..KINDS {
-        for left in 0..9usize {
+        for left in 0..28usize {
             refused_after::<BabyBear>(&rt, rt.alloc(), first, left);
         }
     }

@@ -15,8 +15,8 @@ use super::jobs::and_then;
 use super::tally::{InPacks, Meter, Packs, Tally};
 use super::{ByCalls, CallsTest, EngineTest, matrix_of, on, on_dit, on_halves};
 use p3_dft::{
-    BabyBear, BasedVectorSpace, BlockLimit, CanonicalField, Coordinates, Field, Job, Layout,
-    NaiveDft, PackedField, Products, Radix2Bowers, Radix2DFTSmallBatch, ReedSolomon,
+    BabyBear, BasedVectorSpace, BlockLimit, CanonicalField, Coordinates, Field, Goldilocks, Job,
+    Layout, NaiveDft, PackedField, Products, Radix2Bowers, Radix2DFTSmallBatch, ReedSolomon,
     RowMajorMatrix, TwoAdicField, TwoAdicSubgroupDft, fits_code, fits_dft, fits_lde,
     log2_strict_usize, run_jobs, scaled,
 };
@@ -605,8 +605,40 @@ fn over_coordinates<
     on_engines(rt, alloc, all, &bounds, &ByCalls { test: &test });
 }
 
+// Every call at one shape, over the field and over both vector spaces.
+fn at_shape<F, M, V, W>(
+    rt: &impl Abort,
+    alloc: Global,
+    counted: (&Cell<usize>, M),
+    (log_h, width, added_bits): (usize, usize, usize),
+)
+where
+    F: CanonicalField,
+    M: Packs<Tally<F, M>>,
+    V: BasedVectorSpace<Tally<F, M>> + Copy,
+    W: BasedVectorSpace<Tally<F, M>> + Copy,
+{
+    let shape = Shape {
+        log_h,
+        width,
+        added_bits,
+    };
+    over_field::<F, M>(rt, alloc, counted, shape, bounds_at(shape));
+    over_coordinates::<F, M, V>(rt, alloc, counted, shape);
+    over_coordinates::<F, M, W>(rt, alloc, counted, shape);
+}
+
+// Wider rows and larger heights: the height's logarithm, the width and the bits that are added.
+const LARGER_SHAPES: [(usize, usize, usize); 5] = [
+    (5, 7, 1),
+    (2, 100, 1),
+    (8, 5, 1),
+    (10, 1, 1),
+    (17, 1, 1),
+];
+
 // Every call at every shape.
-fn at_every_shape<F, M, V, W>(rt: &impl Abort, alloc: Global, (count, mark): (&Cell<usize>, M))
+fn at_every_shape<F, M, V, W>(rt: &impl Abort, alloc: Global, counted: (&Cell<usize>, M))
 where
     F: CanonicalField,
     M: Packs<Tally<F, M>>,
@@ -616,16 +648,12 @@ where
     for log_h in 0..7usize {
         for width in [1usize, 3] {
             for added_bits in 0..6usize {
-                let shape = Shape {
-                    log_h,
-                    width,
-                    added_bits,
-                };
-                over_field::<F, M>(rt, alloc, (count, mark), shape, bounds_at(shape));
-                over_coordinates::<F, M, V>(rt, alloc, (count, mark), shape);
-                over_coordinates::<F, M, W>(rt, alloc, (count, mark), shape);
+                at_shape::<F, M, V, W>(rt, alloc, counted, (log_h, width, added_bits));
             }
         }
+    }
+    for shape in LARGER_SHAPES {
+        at_shape::<F, M, V, W>(rt, alloc, counted, shape);
     }
 }
 
@@ -675,7 +703,7 @@ where
 }
 
 // An element that counts, and packs of so many of it.
-type Counting<'a, const LANES: usize> = Tally<BabyBear, InPacks<'a, LANES>>;
+type Counting<'a, F, const LANES: usize> = Tally<F, InPacks<'a, LANES>>;
 
 #[test]
 fn products_stay_within_bounds_by_one_lane(rt: HostRuntime) {
@@ -684,8 +712,8 @@ fn products_stay_within_bounds_by_one_lane(rt: HostRuntime) {
     counts::<
         BabyBear,
         InPacks<'_, 1>,
-        Coordinates<Counting<'_, 1>, 1>,
-        Coordinates<Counting<'_, 1>, 2>,
+        Coordinates<Counting<'_, BabyBear, 1>, 1>,
+        Coordinates<Counting<'_, BabyBear, 1>, 2>,
     >(&rt, rt.alloc(), &count, mark);
 }
 
@@ -694,10 +722,10 @@ fn products_stay_within_bounds_by_four_lanes_one_by_one(rt: HostRuntime) {
     let count = Cell::new(0);
     let mark = InPacks::of(&count);
     counts::<
-        BabyBear,
+        Goldilocks,
         InPacks<'_, 4>,
-        Coordinates<Counting<'_, 4>, 1>,
-        Coordinates<Counting<'_, 4>, 2>,
+        Coordinates<Counting<'_, Goldilocks, 4>, 1>,
+        Coordinates<Counting<'_, Goldilocks, 4>, 2>,
     >(&rt, rt.alloc(), &count, mark);
 }
 
@@ -708,7 +736,7 @@ fn products_stay_within_bounds_by_eight_lanes(rt: HostRuntime) {
     counts::<
         BabyBear,
         InPacks<'_, 8>,
-        Coordinates<Counting<'_, 8>, 1>,
-        Coordinates<Counting<'_, 8>, 2>,
+        Coordinates<Counting<'_, BabyBear, 8>, 1>,
+        Coordinates<Counting<'_, BabyBear, 8>, 2>,
     >(&rt, rt.alloc(), &count, mark);
 }
