@@ -1,0 +1,30 @@
+-- Words and elements that are gone through side by side, each word naming the element in its place.
+use Rattle.std.proofs.Common.{◌≡◌, ℕ, ◌+◌, ◌<◌, Bool, true, false, IsTrue, ◌&&◌, List, [], ◌∷◌, ◌++◌, length, get_or, set, take, refl, sym, ◌∙◌, subst}
+use Rattle.std.specs.List.{AllZip}
+use Rattle.std.proofs.lemmas.Bool.{true≢false}
+use Rattle.std.proofs.lemmas.List.{take_more, take_more_set}
+use Rattle.std.proofs.lemmas.Slice.Zip.{all_zipped_more}
+use Rattle.p3_field.specs.Ring.{IsInvertible}
+use Rattle.liktrob.specs.Words.{FieldInWords, HasInverse, Names}
+
+module _ {W X : Type 0} (R : W → X → Type 0) (words : List W) (xs : List X) (i : ℕ) where
+  -- one more element is read
+  pub one_read : (x : X) (d : W) → i < length words → AllZip R (take i words) xs → R (get_or words i d) x → AllZip R (take (i + 1) words) (xs ++ x ∷ [])
+  one_read x d in_words before named = rw (take_more words i d in_words) (all_zipped_more R (take i words) xs (get_or words i d) x before named)
+
+  -- one more word is written
+  pub one_written : (w : W) (d : X) → i < length words → i < length xs → AllZip R (take i words) (take i xs) → R w (get_or xs i d)
+      → AllZip R (take (i + 1) (set words i w)) (take (i + 1) xs)
+  one_written w d in_words in_xs before named =
+      rw (take_more_set words i w in_words, take_more xs i d in_xs) (all_zipped_more R (take i words) (take i xs) w (get_or xs i d) before named)
+
+-- where both tests passed
+pub both : (s t : Bool) → IsTrue (s && t) → IsTrue s × IsTrue t
+both true t h = (refl, h)
+both false t h = absurd (true≢false (sym h))
+
+-- an element has an inverse where a shift that names it does
+pub named_inverse : {F W : Type 0} (f : FieldInWords F W) → ((x y : f.members.Element) → f.members.number x ≡ f.members.number y → x ≡ y) → (shift : W) (s : F) → Names f shift s
+    → HasInverse f shift → IsInvertible f.members.ring (f.members.value s)
+named_inverse f one_value shift s named has =
+    subst (λ (x : f.members.Element). IsInvertible f.members.ring x) (one_value (f.members.value has.0) (f.members.value s) (sym has.1 ∙ named)) has.2

@@ -1,0 +1,33 @@
+use Rattle.std.proofs.Common.{◌≡◌, ℕ, ◌*◌, ◌^◌, ◌∙◌, sym, ap₂}
+use Rattle.std.proofs.lemmas.Slice.Zip.{AllZip-long}
+use Rattle.liktrob.proofs.Shapes.{named_fits, named_high, whole_rows}
+use Rattle.liktrob.proofs.calls.answer.Goals as goal
+
+pub asked-requires : goal.asked-requires
+asked-requires g c = λ fit. whole_rows fit
+
+pub answer_by-requires-clause-fits : goal.answer_by-requires-clause-fits
+answer_by-requires-clause-fits g c =
+    let read = c.in_ok-engine in
+    rw (sym c.added_bits.ensures) (named_fits _ c.args.words.now read.mat read.ensures.wide read.ensures.entries read.ensures.told.2)
+
+pub returns-clause-size : goal.returns-clause-size
+returns-clause-size g c =
+    let read = c.in_ok-engine in
+    let long = AllZip-long _ c.args.words.now read.mat.values read.ensures.entries in
+    c.in_ok-answer_by.ensures.size ∙ ap₂ (λ (n a : ℕ). n * 2 ^ a) long (sym c.added_bits.ensures) ∙ sym read.ensures.told.2.room
+
+pub returns-clause-answer : goal.returns-clause-answer
+returns-clause-answer g c = λ answer told.
+    let read = c.in_ok-engine in
+    let fit = read.ensures.told.2 in
+    let high = named_high _ c.args.words.now read.mat read.ensures.wide read.ensures.entries fit in
+    record {
+      log = fit.fits.log;
+      asked = read.mat;
+      by = read.shift;
+      named = record { wide = read.ensures.wide; high = high; entries = read.ensures.entries; coset = read.ensures.coset };
+      found = c.in_ok-answer_by.field-0;
+      answers = c.in_ok-answer_by.ensures.answer fit.fits.log high;
+      told = told;
+    }

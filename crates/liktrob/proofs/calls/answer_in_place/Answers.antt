@@ -1,0 +1,5 @@
+use Rattle.std.proofs.Common.{rules}
+use Rattle.liktrob.proofs.calls.answer_in_place.Goals as goal
+
+pub returns-in-Ok-clause-answer : goal.returns-in-Ok-clause-answer
+returns-in-Ok-clause-answer g c = λ _. c.in-Ok.ensures.answer c.write.new.words (rw c.values.ensures.values at c.write.ensures)

@@ -1,0 +1,35 @@
+use Rattle.std.proofs.Common.{◌≡◌, ◌↔◌, ℕ, ◌+◌, ◌/◌, ◌∙◌, IsTrue, sym, subst}
+use Rattle.p3_matrix.specs.Cosets.{values_of}
+use Rattle.p3_dft.specs.Codes.{HasDegreeBelow}
+use Rattle.p3_dft.proofs.Laws.Codes.{degree_told}
+use Rattle.liktrob.proofs.Shapes.{named_fits, named_high, rows_are, whole_rows, word_fits}
+use Rattle.liktrob.proofs.calls.has_low_degree.Goals as goal
+
+pub asked-requires : goal.asked-requires
+asked-requires g c = λ fit. whole_rows (word_fits fit)
+
+pub answer_by-requires-clause-fits : goal.answer_by-requires-clause-fits
+answer_by-requires-clause-fits g c =
+    let read = c.in_ok-engine in
+    named_fits _ c.args.words.now read.word read.ensures.wide read.ensures.entries (word_fits read.ensures.told.2)
+
+pub returns-clause-answer : goal.returns-clause-answer
+returns-clause-answer g c = λ answer two_valued exact.
+    let f = g.F.Field in
+    let roots = g.F.TwoAdicField.generator in
+    let read = c.in_ok-engine in
+    let fit = read.ensures.told.2 in
+    let log = fit.fits.log + c.args.added_bits in
+    let s = f.value read.shift in
+    let high = named_high _ c.args.words.now read.word read.ensures.wide read.ensures.entries (word_fits fit) in
+    let told =
+    subst (λ (h : ℕ). IsTrue c.has_degree_below.result ↔ HasDegreeBelow f roots h log s (values_of f read.word)) (sym (rows_are fit) ∙ fit.fits.high)
+    (degree_told f roots read.word c.in_ok-coefficients.coefficients s log high (c.in_ok-coefficients.ensures.answer log high) (c.message_size.result / c.args.width) c.has_degree_below.result c.has_degree_below.ensures) in
+    record {
+      log_message = fit.fits.log;
+      word = read.word;
+      by = read.shift;
+      named = record { wide = read.ensures.wide; high = high; entries = read.ensures.entries; coset = read.ensures.coset };
+      two_valued = two_valued;
+      exact = (λ one. told.0 (exact.0 one), λ codeword. exact.1 (told.1 codeword));
+    }

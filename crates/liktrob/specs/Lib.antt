@@ -1,0 +1,4 @@
+pub mod Answers
+pub mod NamedFields
+pub mod Statuses
+pub mod Words

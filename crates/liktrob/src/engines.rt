@@ -1,0 +1,202 @@
+//! The engines by number, and the operations that each answers.
+
+ghost use Rattle.std.specs.Prelude.{◌≡◌, ℕ, ◌+◌, ◌*◌, ◌^◌, ◌≤◌, ◌↔◌, length, IfOk, IsSome, slice_get, true};
+ghost use Rattle.p3_field.specs.Ring.{IsInvertible};
+ghost use Rattle.p3_matrix.specs.RowMajor.{RowMajor, IsRowMajor, height, with_zeros};
+ghost use Rattle.p3_matrix.specs.BitOrder.{reversed_rows};
+ghost use Rattle.p3_matrix.specs.Cosets.{IsValues, values_of};
+ghost use Rattle.p3_dft.specs.Extensions.{IsExtension};
+ghost use Rattle.p3_dft.specs.Shapes.{FitsLde};
+ghost use Rattle.liktrob.specs.Answers.{IsAnswer, added, undoes};
+
+use p3_dft::{
+    DftError, Evaluations, Layout, NaiveDft, Radix2Bowers, Radix2DFTSmallBatch, Radix2Dit,
+    Radix2DitParallel, RowMajorMatrix, TwoAdicField, TwoAdicSubgroupDft, extend_by_zeros,
+    extended_height,
+};
+
+/// An engine of `p3_dft`.
+#[derive(Clone, Copy)]
+pub enum Engine {
+    Naive,
+    Dit,
+    Bowers,
+    Parallel,
+    SmallBatch,
+}
+
+// The first is the fastest, for callers who do not choose.
+const ENGINES: [Engine; 6] = [
+    Engine::SmallBatch,
+    Engine::Naive,
+    Engine::Dit,
+    Engine::Bowers,
+    Engine::Parallel,
+    Engine::SmallBatch,
+];
+
+impl Engine {
+    /// The engine of this number.
+    pub fn of(number: u32) -> Option<Engine>
+        ensures engine { result ≡ slice_get ENGINES number }
+        ensures some { IsSome result ↔ (number ≤ 5) }
+    {
+        ENGINES.get(number as usize).copied()
+    }
+}
+
+/// What is made of a matrix on the coset of a shift.
+#[derive(Clone, Copy)]
+pub enum Operation {
+    /// Values on the coset of `2^added_bits` times as many points, of coefficients.
+    CosetDft(usize),
+    /// Coefficients of values on the coset.
+    CosetIdft,
+    /// Values on the coset of `2^added_bits` times as many points, of values on the subgroup.
+    CosetLde(usize),
+    /// The same with rows in bit reversed order.
+    CosetLdeBitReversed(usize),
+}
+
+impl Operation {
+    /// By how many bits the answer is extended.
+    pub fn added_bits(self) -> usize
+        ensures { result ≡ added self }
+    {
+        match self {
+            Operation::CosetDft(added_bits) => added_bits,
+            Operation::CosetIdft => 0,
+            Operation::CosetLde(added_bits) => added_bits,
+            Operation::CosetLdeBitReversed(added_bits) => added_bits,
+        }
+    }
+
+    /// Whether the shift is to have an inverse.
+    pub fn undoes_shift(self) -> bool
+        ensures { result ≡ undoes self }
+    {
+        match self {
+            Operation::CosetIdft => true,
+            Operation::CosetDft(_) | Operation::CosetLde(_) | Operation::CosetLdeBitReversed(_) => {
+                false
+            }
+        }
+    }
+}
+
+/// What the engine answers.
+pub fn answer_by<F: TwoAdicField>(
+    engine: Engine,
+    operation: Operation,
+    mat: RowMajorMatrix<F>,
+    shift: F,
+) -> Result<RowMajorMatrix<F>, DftError>
+    requires fits { FitsLde F.TWO_ADICITY (height mat) mat.width (added operation) }
+    requires invertible { undoes operation ≡ true → IsInvertible F.ring (F.value shift) }
+    ensures size { IfOk result (λ out. length out.values ≡ length mat.values * 2 ^ added operation) }
+    ensures answer { IfOk result (λ out. (k : ℕ) → height mat ≡ 2 ^ k
+        → IsAnswer F.Field.own F.generator operation mat k (F.value shift) out) }
+{
+    match engine {
+        Engine::Naive => answer_to(&mut NaiveDft::default(), operation, mat, shift),
+        Engine::Dit => answer_to(&mut Radix2Dit::default(), operation, mat, shift),
+        Engine::Bowers => answer_to(&mut Radix2Bowers::default(), operation, mat, shift),
+        Engine::Parallel => answer_to(&mut Radix2DitParallel::default(), operation, mat, shift),
+        Engine::SmallBatch => answer_to(&mut Radix2DFTSmallBatch::default(), operation, mat, shift),
+    }
+}
+
+fn answer_to<F: TwoAdicField, D: TwoAdicSubgroupDft<F>>(
+    engine: &mut D,
+    operation: Operation,
+    mat: RowMajorMatrix<F>,
+    shift: F,
+) -> Result<RowMajorMatrix<F>, DftError>
+    requires fits { FitsLde F.TWO_ADICITY (height mat) mat.width (added operation) }
+    requires invertible { undoes operation ≡ true → IsInvertible F.ring (F.value shift) }
+    ensures size { IfOk result (λ out. length out.values ≡ length mat.values * 2 ^ added operation) }
+    ensures answer { IfOk result (λ out. (k : ℕ) → height mat ≡ 2 ^ k
+        → IsAnswer F.Field.own F.generator operation mat k (F.value shift) out) }
+{
+    match operation {
+        Operation::CosetDft(added_bits) => padded_transform(engine, mat, added_bits, shift),
+        Operation::CosetIdft => engine.coset_idft_batch(mat, shift),
+        Operation::CosetLde(added_bits) => extension(engine, mat, added_bits, shift),
+        Operation::CosetLdeBitReversed(added_bits) => {
+            bit_reversed_extension(engine, mat, added_bits, shift)
+        }
+    }
+}
+
+// The values of the columns' polynomials on the larger coset.
+fn padded_transform<F: TwoAdicField, D: TwoAdicSubgroupDft<F>>(
+    engine: &mut D,
+    mat: RowMajorMatrix<F>,
+    added_bits: usize,
+    shift: F,
+) -> Result<RowMajorMatrix<F>, DftError>
+    requires { FitsLde F.TWO_ADICITY (height mat) mat.width added_bits }
+    ensures size { IfOk result (λ out. length out.values ≡ length mat.values * 2 ^ added_bits) }
+    ensures values { IfOk result (λ out. (k : ℕ) → height mat ≡ 2 ^ k → IsValues F.ring
+        (λ n. F.value (F.generator n)) (values_of F.Field.own mat) (k + added_bits) (F.value shift)
+        (values_of F.Field.own out)) }
+{
+    let padded = pad_rows(mat, added_bits)?;
+    let values = engine.coset_dft_batch(padded, shift)?;
+    Ok(values.to_row_major_matrix())
+}
+
+// The matrix with rows of zeros below it, up to `2^added_bits` times the height.
+fn pad_rows<F: TwoAdicField>(
+    mat: RowMajorMatrix<F>,
+    added_bits: usize,
+) -> Result<RowMajorMatrix<F>, DftError>
+    requires { FitsLde F.TWO_ADICITY (height mat) mat.width added_bits }
+    ensures whole { IsRowMajor mat }
+    ensures padded { IfOk result (λ out. out ≡ with_zeros F.ZERO mat added_bits) }
+{
+    let width = mat.width();
+    let height = extended_height::<F>(mat.height(), width, added_bits);
+    let mut values = mat.into_values();
+    let missing = height * width - values.len();
+    extend_by_zeros(&mut values, missing)?;
+    Ok(RowMajorMatrix::new(values, width))
+}
+
+// The extension, in natural order.
+fn extension<F: TwoAdicField, D: TwoAdicSubgroupDft<F>>(
+    engine: &mut D,
+    mat: RowMajorMatrix<F>,
+    added_bits: usize,
+    shift: F,
+) -> Result<RowMajorMatrix<F>, DftError>
+    requires { FitsLde F.TWO_ADICITY (height mat) mat.width added_bits }
+    ensures size { IfOk result (λ out. length out.values ≡ length mat.values * 2 ^ added_bits) }
+    ensures values { IfOk result (IsExtension F.Field.own F.generator mat added_bits (F.value shift)) }
+{
+    let values = engine.coset_lde_batch(mat, added_bits, shift)?;
+    Ok(values.to_row_major_matrix())
+}
+
+// The extension, in bit reversed order.
+fn bit_reversed_extension<F: TwoAdicField, D: TwoAdicSubgroupDft<F>>(
+    engine: &mut D,
+    mat: RowMajorMatrix<F>,
+    added_bits: usize,
+    shift: F,
+) -> Result<RowMajorMatrix<F>, DftError>
+    requires { FitsLde F.TWO_ADICITY (height mat) mat.width added_bits }
+    ensures size { IfOk result (λ out. length out.values ≡ length mat.values * 2 ^ added_bits) }
+    ensures values { IfOk result (λ out. (k : ℕ) → height mat ≡ 2 ^ k → IsExtension F.Field.own F.generator mat
+        added_bits (F.value shift) (reversed_rows (k + added_bits) out)) }
+{
+    let values = engine.coset_lde_batch_bit_reversed(
+        mat,
+        added_bits,
+        shift,
+        |coefficients: RowMajorMatrix<F>, _layout: Layout| -> RowMajorMatrix<F>
+            ensures { result ≡ coefficients }
+        { coefficients },
+    )?;
+    Ok(values.bit_reverse_rows())
+}

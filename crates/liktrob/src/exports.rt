@@ -1,0 +1,424 @@
+//! The functions that C, Rust and Python call, for each field.
+//!
+//! Each answers a status: 0 where it answered, else the number of the first condition that fails, or 5 where an
+//! allocation was refused; then what was lent has not changed.
+
+ghost use Rattle.std.specs.Prelude.{◌≡◌, ◌≢◌, ◌/◌, ◌^◌, ◌≤◌, ⊤, length};
+ghost use Rattle.liktrob.specs.Answers.{IsAnswered, IsToldCodeword};
+ghost use Rattle.liktrob.specs.NamedFields.{baby_bear, goldilocks, koala_bear};
+ghost use Rattle.liktrob.specs.Statuses.{IsStatus};
+ghost use Rattle.liktrob.specs.Words.{AreBelow, Fits, HasInverse};
+ghost use Rattle.liktrob.specs.declared.engines.Operation.TheVariants.{CosetDft, CosetIdft, CosetLde, CosetLdeBitReversed};
+
+use crate::calls::{answer_in_place, answer_into, is_codeword};
+use crate::engines::Operation;
+use p3_dft::{BabyBear, Goldilocks, KoalaBear};
+use std::alloc::Global;
+
+/// Values on the coset of the shift in place of coefficients.
+#[unsafe(no_mangle)]
+pub extern "C" fn liktrob_baby_bear_coset_dft(
+    alloc: Global,
+    engine: u32,
+    words: &mut [u32],
+    width: usize,
+    shift: u32,
+) -> u32
+    ensures answer { result ≡ 0 → IsAnswered baby_bear (CosetDft 0) words.old width shift words.new }
+    ensures kept { result ≢ 0 → words.new ≡ words.old }
+    ensures status { IsStatus result (engine ≤ 5) (AreBelow baby_bear shift words.old)
+        (Fits baby_bear.two_adicity (length words.old) width 0 (length words.old)) ⊤ }
+{
+    answer_in_place::<BabyBear>(alloc, Operation::CosetDft(0), engine, words, width, shift)
+}
+
+/// Coefficients in place of values on the coset of the shift.
+#[unsafe(no_mangle)]
+pub extern "C" fn liktrob_baby_bear_coset_idft(
+    alloc: Global,
+    engine: u32,
+    words: &mut [u32],
+    width: usize,
+    shift: u32,
+) -> u32
+    ensures answer { result ≡ 0 → IsAnswered baby_bear CosetIdft words.old width shift words.new }
+    ensures kept { result ≢ 0 → words.new ≡ words.old }
+    ensures status { IsStatus result (engine ≤ 5) (AreBelow baby_bear shift words.old)
+        (Fits baby_bear.two_adicity (length words.old) width 0 (length words.old)) (HasInverse baby_bear shift) }
+{
+    answer_in_place::<BabyBear>(alloc, Operation::CosetIdft, engine, words, width, shift)
+}
+
+/// Values on the coset of the shift of `2^added_bits` times as many points, of values on the subgroup.
+#[unsafe(no_mangle)]
+pub extern "C" fn liktrob_baby_bear_coset_lde(
+    alloc: Global,
+    engine: u32,
+    words: &[u32],
+    width: usize,
+    added_bits: usize,
+    shift: u32,
+    out: &mut [u32],
+) -> u32
+    ensures answer { result ≡ 0 → IsAnswered baby_bear (CosetLde added_bits) words.now width shift out.new }
+    ensures kept { result ≢ 0 → out.new ≡ out.old }
+    ensures status { IsStatus result (engine ≤ 5) (AreBelow baby_bear shift words.now)
+        (Fits baby_bear.two_adicity (length words.now) width added_bits (length out.old)) ⊤ }
+{
+    answer_into::<BabyBear>(
+        alloc,
+        Operation::CosetLde(added_bits),
+        engine,
+        words,
+        width,
+        shift,
+        out,
+    )
+}
+
+/// The same values, with rows in bit reversed order.
+#[unsafe(no_mangle)]
+pub extern "C" fn liktrob_baby_bear_coset_lde_bit_reversed(
+    alloc: Global,
+    engine: u32,
+    words: &[u32],
+    width: usize,
+    added_bits: usize,
+    shift: u32,
+    out: &mut [u32],
+) -> u32
+    ensures answer { result ≡ 0 → IsAnswered baby_bear (CosetLdeBitReversed added_bits) words.now width shift out.new }
+    ensures kept { result ≢ 0 → out.new ≡ out.old }
+    ensures status { IsStatus result (engine ≤ 5) (AreBelow baby_bear shift words.now)
+        (Fits baby_bear.two_adicity (length words.now) width added_bits (length out.old)) ⊤ }
+{
+    answer_into::<BabyBear>(
+        alloc,
+        Operation::CosetLdeBitReversed(added_bits),
+        engine,
+        words,
+        width,
+        shift,
+        out,
+    )
+}
+
+/// Values on the coset of the shift of `2^added_bits` times as many points, of coefficients.
+#[unsafe(no_mangle)]
+pub extern "C" fn liktrob_baby_bear_coset_dft_padded(
+    alloc: Global,
+    engine: u32,
+    words: &[u32],
+    width: usize,
+    added_bits: usize,
+    shift: u32,
+    out: &mut [u32],
+) -> u32
+    ensures answer { result ≡ 0 → IsAnswered baby_bear (CosetDft added_bits) words.now width shift out.new }
+    ensures kept { result ≢ 0 → out.new ≡ out.old }
+    ensures status { IsStatus result (engine ≤ 5) (AreBelow baby_bear shift words.now)
+        (Fits baby_bear.two_adicity (length words.now) width added_bits (length out.old)) ⊤ }
+{
+    answer_into::<BabyBear>(
+        alloc,
+        Operation::CosetDft(added_bits),
+        engine,
+        words,
+        width,
+        shift,
+        out,
+    )
+}
+
+/// Whether the columns are the values, on the coset of the shift, of polynomials with one coefficient for each
+/// `2^added_bits` points: the answer is one or zero.
+#[unsafe(no_mangle)]
+pub extern "C" fn liktrob_baby_bear_is_codeword(
+    alloc: Global,
+    engine: u32,
+    words: &[u32],
+    width: usize,
+    added_bits: usize,
+    shift: u32,
+    answer: &mut u32,
+) -> u32
+    ensures answer { result ≡ 0 → IsToldCodeword baby_bear words.now width added_bits shift answer.new }
+    ensures kept { result ≢ 0 → answer.new ≡ answer.old }
+    ensures status { IsStatus result (engine ≤ 5) (AreBelow baby_bear shift words.now)
+        (Fits baby_bear.two_adicity (length words.now / 2 ^ added_bits) width added_bits (length words.now))
+        (HasInverse baby_bear shift) }
+{
+    is_codeword::<BabyBear>(alloc, engine, words, width, added_bits, shift, answer)
+}
+
+/// Values on the coset of the shift in place of coefficients.
+#[unsafe(no_mangle)]
+pub extern "C" fn liktrob_koala_bear_coset_dft(
+    alloc: Global,
+    engine: u32,
+    words: &mut [u32],
+    width: usize,
+    shift: u32,
+) -> u32
+    ensures answer { result ≡ 0 → IsAnswered koala_bear (CosetDft 0) words.old width shift words.new }
+    ensures kept { result ≢ 0 → words.new ≡ words.old }
+    ensures status { IsStatus result (engine ≤ 5) (AreBelow koala_bear shift words.old)
+        (Fits koala_bear.two_adicity (length words.old) width 0 (length words.old)) ⊤ }
+{
+    answer_in_place::<KoalaBear>(alloc, Operation::CosetDft(0), engine, words, width, shift)
+}
+
+/// Coefficients in place of values on the coset of the shift.
+#[unsafe(no_mangle)]
+pub extern "C" fn liktrob_koala_bear_coset_idft(
+    alloc: Global,
+    engine: u32,
+    words: &mut [u32],
+    width: usize,
+    shift: u32,
+) -> u32
+    ensures answer { result ≡ 0 → IsAnswered koala_bear CosetIdft words.old width shift words.new }
+    ensures kept { result ≢ 0 → words.new ≡ words.old }
+    ensures status { IsStatus result (engine ≤ 5) (AreBelow koala_bear shift words.old)
+        (Fits koala_bear.two_adicity (length words.old) width 0 (length words.old)) (HasInverse koala_bear shift) }
+{
+    answer_in_place::<KoalaBear>(alloc, Operation::CosetIdft, engine, words, width, shift)
+}
+
+/// Values on the coset of the shift of `2^added_bits` times as many points, of values on the subgroup.
+#[unsafe(no_mangle)]
+pub extern "C" fn liktrob_koala_bear_coset_lde(
+    alloc: Global,
+    engine: u32,
+    words: &[u32],
+    width: usize,
+    added_bits: usize,
+    shift: u32,
+    out: &mut [u32],
+) -> u32
+    ensures answer { result ≡ 0 → IsAnswered koala_bear (CosetLde added_bits) words.now width shift out.new }
+    ensures kept { result ≢ 0 → out.new ≡ out.old }
+    ensures status { IsStatus result (engine ≤ 5) (AreBelow koala_bear shift words.now)
+        (Fits koala_bear.two_adicity (length words.now) width added_bits (length out.old)) ⊤ }
+{
+    answer_into::<KoalaBear>(
+        alloc,
+        Operation::CosetLde(added_bits),
+        engine,
+        words,
+        width,
+        shift,
+        out,
+    )
+}
+
+/// The same values, with rows in bit reversed order.
+#[unsafe(no_mangle)]
+pub extern "C" fn liktrob_koala_bear_coset_lde_bit_reversed(
+    alloc: Global,
+    engine: u32,
+    words: &[u32],
+    width: usize,
+    added_bits: usize,
+    shift: u32,
+    out: &mut [u32],
+) -> u32
+    ensures answer { result ≡ 0 → IsAnswered koala_bear (CosetLdeBitReversed added_bits) words.now width shift out.new }
+    ensures kept { result ≢ 0 → out.new ≡ out.old }
+    ensures status { IsStatus result (engine ≤ 5) (AreBelow koala_bear shift words.now)
+        (Fits koala_bear.two_adicity (length words.now) width added_bits (length out.old)) ⊤ }
+{
+    answer_into::<KoalaBear>(
+        alloc,
+        Operation::CosetLdeBitReversed(added_bits),
+        engine,
+        words,
+        width,
+        shift,
+        out,
+    )
+}
+
+/// Values on the coset of the shift of `2^added_bits` times as many points, of coefficients.
+#[unsafe(no_mangle)]
+pub extern "C" fn liktrob_koala_bear_coset_dft_padded(
+    alloc: Global,
+    engine: u32,
+    words: &[u32],
+    width: usize,
+    added_bits: usize,
+    shift: u32,
+    out: &mut [u32],
+) -> u32
+    ensures answer { result ≡ 0 → IsAnswered koala_bear (CosetDft added_bits) words.now width shift out.new }
+    ensures kept { result ≢ 0 → out.new ≡ out.old }
+    ensures status { IsStatus result (engine ≤ 5) (AreBelow koala_bear shift words.now)
+        (Fits koala_bear.two_adicity (length words.now) width added_bits (length out.old)) ⊤ }
+{
+    answer_into::<KoalaBear>(
+        alloc,
+        Operation::CosetDft(added_bits),
+        engine,
+        words,
+        width,
+        shift,
+        out,
+    )
+}
+
+/// Whether the columns are the values, on the coset of the shift, of polynomials with one coefficient for each
+/// `2^added_bits` points: the answer is one or zero.
+#[unsafe(no_mangle)]
+pub extern "C" fn liktrob_koala_bear_is_codeword(
+    alloc: Global,
+    engine: u32,
+    words: &[u32],
+    width: usize,
+    added_bits: usize,
+    shift: u32,
+    answer: &mut u32,
+) -> u32
+    ensures answer { result ≡ 0 → IsToldCodeword koala_bear words.now width added_bits shift answer.new }
+    ensures kept { result ≢ 0 → answer.new ≡ answer.old }
+    ensures status { IsStatus result (engine ≤ 5) (AreBelow koala_bear shift words.now)
+        (Fits koala_bear.two_adicity (length words.now / 2 ^ added_bits) width added_bits (length words.now))
+        (HasInverse koala_bear shift) }
+{
+    is_codeword::<KoalaBear>(alloc, engine, words, width, added_bits, shift, answer)
+}
+
+/// Values on the coset of the shift in place of coefficients.
+#[unsafe(no_mangle)]
+pub extern "C" fn liktrob_goldilocks_coset_dft(
+    alloc: Global,
+    engine: u32,
+    words: &mut [u64],
+    width: usize,
+    shift: u64,
+) -> u32
+    ensures answer { result ≡ 0 → IsAnswered goldilocks (CosetDft 0) words.old width shift words.new }
+    ensures kept { result ≢ 0 → words.new ≡ words.old }
+    ensures status { IsStatus result (engine ≤ 5) (AreBelow goldilocks shift words.old)
+        (Fits goldilocks.two_adicity (length words.old) width 0 (length words.old)) ⊤ }
+{
+    answer_in_place::<Goldilocks>(alloc, Operation::CosetDft(0), engine, words, width, shift)
+}
+
+/// Coefficients in place of values on the coset of the shift.
+#[unsafe(no_mangle)]
+pub extern "C" fn liktrob_goldilocks_coset_idft(
+    alloc: Global,
+    engine: u32,
+    words: &mut [u64],
+    width: usize,
+    shift: u64,
+) -> u32
+    ensures answer { result ≡ 0 → IsAnswered goldilocks CosetIdft words.old width shift words.new }
+    ensures kept { result ≢ 0 → words.new ≡ words.old }
+    ensures status { IsStatus result (engine ≤ 5) (AreBelow goldilocks shift words.old)
+        (Fits goldilocks.two_adicity (length words.old) width 0 (length words.old)) (HasInverse goldilocks shift) }
+{
+    answer_in_place::<Goldilocks>(alloc, Operation::CosetIdft, engine, words, width, shift)
+}
+
+/// Values on the coset of the shift of `2^added_bits` times as many points, of values on the subgroup.
+#[unsafe(no_mangle)]
+pub extern "C" fn liktrob_goldilocks_coset_lde(
+    alloc: Global,
+    engine: u32,
+    words: &[u64],
+    width: usize,
+    added_bits: usize,
+    shift: u64,
+    out: &mut [u64],
+) -> u32
+    ensures answer { result ≡ 0 → IsAnswered goldilocks (CosetLde added_bits) words.now width shift out.new }
+    ensures kept { result ≢ 0 → out.new ≡ out.old }
+    ensures status { IsStatus result (engine ≤ 5) (AreBelow goldilocks shift words.now)
+        (Fits goldilocks.two_adicity (length words.now) width added_bits (length out.old)) ⊤ }
+{
+    answer_into::<Goldilocks>(
+        alloc,
+        Operation::CosetLde(added_bits),
+        engine,
+        words,
+        width,
+        shift,
+        out,
+    )
+}
+
+/// The same values, with rows in bit reversed order.
+#[unsafe(no_mangle)]
+pub extern "C" fn liktrob_goldilocks_coset_lde_bit_reversed(
+    alloc: Global,
+    engine: u32,
+    words: &[u64],
+    width: usize,
+    added_bits: usize,
+    shift: u64,
+    out: &mut [u64],
+) -> u32
+    ensures answer { result ≡ 0 → IsAnswered goldilocks (CosetLdeBitReversed added_bits) words.now width shift out.new }
+    ensures kept { result ≢ 0 → out.new ≡ out.old }
+    ensures status { IsStatus result (engine ≤ 5) (AreBelow goldilocks shift words.now)
+        (Fits goldilocks.two_adicity (length words.now) width added_bits (length out.old)) ⊤ }
+{
+    answer_into::<Goldilocks>(
+        alloc,
+        Operation::CosetLdeBitReversed(added_bits),
+        engine,
+        words,
+        width,
+        shift,
+        out,
+    )
+}
+
+/// Values on the coset of the shift of `2^added_bits` times as many points, of coefficients.
+#[unsafe(no_mangle)]
+pub extern "C" fn liktrob_goldilocks_coset_dft_padded(
+    alloc: Global,
+    engine: u32,
+    words: &[u64],
+    width: usize,
+    added_bits: usize,
+    shift: u64,
+    out: &mut [u64],
+) -> u32
+    ensures answer { result ≡ 0 → IsAnswered goldilocks (CosetDft added_bits) words.now width shift out.new }
+    ensures kept { result ≢ 0 → out.new ≡ out.old }
+    ensures status { IsStatus result (engine ≤ 5) (AreBelow goldilocks shift words.now)
+        (Fits goldilocks.two_adicity (length words.now) width added_bits (length out.old)) ⊤ }
+{
+    answer_into::<Goldilocks>(
+        alloc,
+        Operation::CosetDft(added_bits),
+        engine,
+        words,
+        width,
+        shift,
+        out,
+    )
+}
+
+/// Whether the columns are the values, on the coset of the shift, of polynomials with one coefficient for each
+/// `2^added_bits` points: the answer is one or zero.
+#[unsafe(no_mangle)]
+pub extern "C" fn liktrob_goldilocks_is_codeword(
+    alloc: Global,
+    engine: u32,
+    words: &[u64],
+    width: usize,
+    added_bits: usize,
+    shift: u64,
+    answer: &mut u32,
+) -> u32
+    ensures answer { result ≡ 0 → IsToldCodeword goldilocks words.now width added_bits shift answer.new }
+    ensures kept { result ≢ 0 → answer.new ≡ answer.old }
+    ensures status { IsStatus result (engine ≤ 5) (AreBelow goldilocks shift words.now)
+        (Fits goldilocks.two_adicity (length words.now / 2 ^ added_bits) width added_bits (length words.now))
+        (HasInverse goldilocks shift) }
+{
+    is_codeword::<Goldilocks>(alloc, engine, words, width, added_bits, shift, answer)
+}

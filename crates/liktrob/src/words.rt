@@ -1,0 +1,124 @@
+//! Words, by which callers name the elements of fields.
+
+ghost use Rattle.std.specs.Prelude.{◌≡◌, ◌<◌, ◌≤◌, ◌↔◌, ℕ, length, IfOk, IfSome, IsSome, IsTrue};
+ghost use Rattle.std.specs.List.{All, AllZip};
+
+use p3_dft::{BabyBear, CanonicalField, DftError, Field, Goldilocks, KoalaBear};
+use std::alloc::Global;
+
+/// A field whose elements callers name by words of one size.
+pub trait WordField: CanonicalField {
+    /// An unsigned integer that holds each number below the modulus.
+    type Word: Copy;
+
+    // The number that a word is.
+    ghost word_number: { Self.Word → ℕ };
+
+    /// Whether the word's number is below the modulus.
+    fn is_below(word: Self::Word) -> bool
+        ensures { IsTrue result ↔ (word_number word < Self.ORDER_U64) };
+
+    /// The element that the word names, or zero where it names none: a choice that many words take at once.
+    fn from_word(word: Self::Word) -> Self
+        ensures { word_number word < Self.ORDER_U64 → word_number word ≡ Self.number (Self.value result) };
+
+    /// The word that names the element.
+    fn to_word(&self) -> Self::Word
+        ensures { word_number result ≡ Self.number (Self.value self.now) };
+}
+
+impl WordField for BabyBear {
+    type Word = u32;
+
+    ghost word_number = { λ n. n };
+
+    fn is_below(word: u32) -> bool {
+        (word as u64) < BabyBear::ORDER_U64
+    }
+
+    fn from_word(word: u32) -> BabyBear {
+        BabyBear::new(word as u64).unwrap_or(BabyBear::ZERO)
+    }
+
+    fn to_word(&self) -> u32 {
+        self.as_canonical_u64() as u32
+    }
+}
+
+impl WordField for KoalaBear {
+    type Word = u32;
+
+    ghost word_number = { λ n. n };
+
+    fn is_below(word: u32) -> bool {
+        (word as u64) < KoalaBear::ORDER_U64
+    }
+
+    fn from_word(word: u32) -> KoalaBear {
+        KoalaBear::new(word as u64).unwrap_or(KoalaBear::ZERO)
+    }
+
+    fn to_word(&self) -> u32 {
+        self.as_canonical_u64() as u32
+    }
+}
+
+impl WordField for Goldilocks {
+    type Word = u64;
+
+    ghost word_number = { λ n. n };
+
+    fn is_below(word: u64) -> bool {
+        word < Goldilocks::ORDER_U64
+    }
+
+    fn from_word(word: u64) -> Goldilocks {
+        Goldilocks::new(word).unwrap_or(Goldilocks::ZERO)
+    }
+
+    fn to_word(&self) -> u64 {
+        self.as_canonical_u64()
+    }
+}
+
+/// The elements that the words name, or that there is no memory for them: `None` where a word names none.
+pub fn elements<F: WordField>(alloc: Global, words: &[F::Word]) -> Option<Result<Vec<F>, DftError>>
+    ensures named { IsSome result ↔ All (λ word. F.word_number word < F.ORDER_U64) words.now }
+    ensures elements { IfSome result (λ read. IfOk read (λ xs.
+        AllZip (λ word x. F.word_number word ≡ F.number (F.value x)) words.now xs.items)) }
+{
+    let mut elements = match Vec::with_capacity(alloc, words.len()) {
+        Ok(elements) => elements,
+        Err(refused) => {
+            return if are_below::<F>(words) {
+                Some(Err(DftError::from(refused)))
+            } else {
+                None
+            };
+        }
+    };
+    // Each word is read once, and no test ends the loop, so that many are read together.
+    let mut all_below = true;
+    for word in words {
+        all_below &= F::is_below(*word);
+        elements.push_reserved(F::from_word(*word));
+    }
+    if all_below { Some(Ok(elements)) } else { None }
+}
+
+// Whether all words' numbers are below the modulus.
+fn are_below<F: WordField>(words: &[F::Word]) -> bool
+    ensures { IsTrue result ↔ All (λ word. F.word_number word < F.ORDER_U64) words.now }
+{
+    words.iter().all(|word| F::is_below(*word))
+}
+
+/// Writes the words that name the elements over as many.
+pub fn write<F: WordField>(elements: &[F], words: &mut [F::Word])
+    requires { length elements.now ≡ length words.old }
+    ensures { AllZip (λ word x. F.word_number word ≡ F.number (F.value x)) words.new elements.now }
+{
+    for i in 0..words.len() {
+        words[i] = elements[i].to_word();
+    }
+}
