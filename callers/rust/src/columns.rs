@@ -1,0 +1,99 @@
+//! Columns of a matrix, shared among threads.
+//!
+//! Each column is transformed by itself, so a thread copies some columns out, works on that matrix, and the answers
+//! are copied in once all threads are done. Nothing is written before, so an error leaves the output as it was.
+
+use std::alloc::{self, Layout};
+use std::ops::Range;
+use std::sync::Mutex;
+use std::thread;
+
+use crate::field::Word;
+
+/// What was answered for some of the columns.
+pub struct Part<A> {
+    columns: Range<usize>,
+    answer: Option<A>,
+}
+
+/// The answers that `work` gives for the columns of a matrix of whole rows. It is passed a copy of some columns and how
+/// many they are. Nothing where one of its answers is nothing, or where memory for a copy is refused.
+pub fn answers<W: Word, A: Send>(
+    threads: usize,
+    words: &[W],
+    width: usize,
+    work: impl Fn(Vec<W>, usize) -> Option<A> + Sync,
+) -> Option<Vec<Part<A>>> {
+    let mut parts: Vec<Part<A>> = shares(width, threads).map(|columns| Part { columns, answer: None }).collect();
+    on_threads(threads, parts.iter_mut(), |part| {
+        part.answer = copy_of(words, width, &part.columns).and_then(|copy| work(copy, part.columns.len()));
+    });
+    parts.iter().all(|part| part.answer.is_some()).then_some(parts)
+}
+
+/// The answers alone.
+pub fn each_of<A>(parts: Vec<Part<A>>) -> impl Iterator<Item = A> {
+    parts.into_iter().filter_map(|part| part.answer)
+}
+
+/// Writes the columns that were answered into a matrix of this width, some rows on each thread.
+pub fn write<W: Word>(threads: usize, parts: &[Part<Vec<W>>], out: &mut [W], width: usize) {
+    let rows = (out.len() / width).div_ceil(threads).max(1);
+    on_threads(threads, out.chunks_mut(rows * width).enumerate(), |(chunk, out)| {
+        for part in parts {
+            let answered = part.answer.as_deref().unwrap_or_default();
+            let from = answered.chunks_exact(part.columns.len()).skip(chunk * rows);
+            for (to, from) in out.chunks_exact_mut(width).zip(from) {
+                to[part.columns.clone()].copy_from_slice(from);
+            }
+        }
+    });
+}
+
+/// So many zeros. Nothing where memory is refused.
+pub fn zeros<W: Word>(len: usize) -> Option<Vec<W>> {
+    let layout = Layout::array::<W>(len).ok()?;
+    if layout.size() == 0 {
+        return Some(Vec::new());
+    }
+    // SAFETY: the layout has a size.
+    let start = unsafe { alloc::alloc_zeroed(layout) };
+    // SAFETY: the block comes from the global allocator with the layout of `len` words, and zeros are words.
+    (!start.is_null()).then(|| unsafe { Vec::from_raw_parts(start.cast(), len, len) })
+}
+
+/// The columns in at most so many ranges, of which none is empty.
+fn shares(width: usize, threads: usize) -> impl Iterator<Item = Range<usize>> {
+    let count = threads.clamp(1, width.max(1));
+    let (least, further) = (width / count, width % count);
+    (0..count).map(move |i| i * least + i.min(further)..(i + 1) * least + (i + 1).min(further))
+}
+
+/// A copy of some columns of a matrix. Nothing where memory is refused.
+fn copy_of<W: Word>(words: &[W], width: usize, columns: &Range<usize>) -> Option<Vec<W>> {
+    let mut copy = Vec::new();
+    copy.try_reserve_exact(words.len() / width * columns.len()).ok()?;
+    words.chunks_exact(width).for_each(|row| copy.extend_from_slice(&row[columns.clone()]));
+    Some(copy)
+}
+
+/// Does the work on each item, on at most so many threads. The calling thread is one of them, so where the system has
+/// no further threads, those that run do all.
+fn on_threads<T>(threads: usize, items: impl ExactSizeIterator<Item = T> + Send, work: impl Fn(T) + Sync) {
+    let threads = threads.min(items.len());
+    let items = Mutex::new(items);
+    let next = || items.lock().ok()?.next();
+    let worker = || {
+        while let Some(item) = next() {
+            work(item);
+        }
+    };
+    thread::scope(|scope| {
+        for _ in 1..threads {
+            if thread::Builder::new().spawn_scoped(scope, worker).is_err() {
+                break;
+            }
+        }
+        worker();
+    });
+}
