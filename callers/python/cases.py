@@ -1,0 +1,51 @@
+"""Answers the cases that tools/check_callers makes. A line has FIELD ENGINE CALL THREADS WIDTH ADDED SHIFT OUT_LEN and then
+the numbers; its answer is a status and, where that is 0, numbers. Threads are none of this module's."""
+
+import array
+import sys
+
+import liktrob
+
+FIELDS = {"baby_bear": liktrob.baby_bear, "koala_bear": liktrob.koala_bear, "goldilocks": liktrob.goldilocks}
+
+
+def answer_of(field, engine, call, width, added_bits, shift, out_len, words):
+    """The numbers that the call answers."""
+    others = {"width": width, "engine": engine}
+    if call in ("coset_dft", "coset_idft"):
+        if shift == 1:
+            getattr(field, call.removeprefix("coset_"))(words, **others)
+        else:
+            getattr(field, call)(words, shift, **others)
+        return words
+    if call == "is_codeword":
+        return [int(field.is_codeword(words, added_bits, shift, **others))]
+    function = getattr(field, call)
+    if call == "coset_lde" and shift == 1:
+        function = lambda words, bits, _, **others: field.lde(words, bits, **others)
+    out = array.array(field.typecode, [1] * out_len)
+    try:
+        function(words, added_bits, shift, out=out, **others)
+    except liktrob.LiktrobError:
+        assert out == array.array(field.typecode, [1] * out_len), "an error with a changed output"
+        raise
+    assert function(words, added_bits, shift, **others) == out, "an output of the module's own differs"
+    return out
+
+
+def main():
+    for line in sys.stdin:
+        field, engine, call, _, width, added_bits, shift, out_len, *numbers = line.split()
+        field = FIELDS[field]
+        words = field.array(map(int, numbers))
+        before = words[:]
+        given = int(width), int(added_bits), int(shift), int(out_len)
+        try:
+            print(0, *answer_of(field, int(engine), call, *given, words))
+        except liktrob.LiktrobError as error:
+            assert words == before, "an error with a changed buffer"
+            print(int(error.status))
+
+
+if __name__ == "__main__":
+    main()

@@ -1,0 +1,213 @@
+"""Tests of what the module does before and after a call: kinds of buffers, exceptions, and numbers that no word holds.
+
+    LIKTROB_LIB=FOLDER python3 test_liktrob.py
+
+What the calls answer is tested by tools/check_callers.
+"""
+
+import array
+import ctypes
+import importlib.util
+import unittest
+
+import liktrob
+from liktrob import Engine, LiktrobError, Status, baby_bear, goldilocks, koala_bear
+
+GIVEN = [5, 2, 0, 4, 3, 0]
+VALUES = [9, 5, 0, 1, 2013265920, 0]
+FIELDS = [baby_bear, koala_bear, goldilocks]
+
+
+def calls_of(field):
+    """Each call as a function of words, shift, width and engine, and added bits where it takes them."""
+    yield lambda words, shift, bits, **others: field.coset_dft(words, shift, **others)
+    yield lambda words, shift, bits, **others: field.coset_idft(words, shift, **others)
+    for call in [field.coset_lde, field.coset_lde_bit_reversed, field.coset_dft_padded, field.is_codeword]:
+        yield lambda words, shift, bits, call=call, **others: call(words, bits, shift, **others)
+
+
+class Buffers(unittest.TestCase):
+    def test_any_buffer_of_unsigned_words_is_changed_in_place(self):
+        for words in [
+            array.array("I", GIVEN),
+            memoryview(bytearray(24)).cast("I"),
+            (ctypes.c_uint32 * 6)(*GIVEN),
+            memoryview(array.array("I", [7] * 9))[2:8],
+        ]:
+            words[0:6] = array.array("I", GIVEN) if not isinstance(words, ctypes.Array) else GIVEN
+            self.assertIsNone(baby_bear.dft(words, width=3))
+            self.assertEqual(list(words), VALUES)
+
+    def test_words_beside_a_view_stay(self):
+        words = array.array("I", [7, 7, *GIVEN, 7])
+        baby_bear.dft(memoryview(words)[2:8], width=3)
+        self.assertEqual(list(words), [7, 7, *VALUES, 7])
+
+    def test_the_width_is_the_last_dimension_or_one(self):
+        words = array.array("I", GIVEN)
+        rows = memoryview(words).cast("B").cast("I", shape=[2, 3])
+        baby_bear.dft(rows)
+        self.assertEqual(list(words), VALUES)
+        baby_bear.idft(rows, width=3)
+        self.assertEqual(list(words), GIVEN)
+        column = array.array("I", [9, 1])
+        baby_bear.idft(column)
+        self.assertEqual(list(column), [5, 4])
+
+    def test_words_of_both_names_of_64_bits_are_taken(self):
+        for code in "QL":
+            words = array.array(code, [9, 1])
+            goldilocks.idft(words)
+            self.assertEqual(list(words), [5, 4])
+
+    @unittest.skipUnless(importlib.util.find_spec("numpy"), "there is no numpy")
+    def test_numpy_arrays_are_changed_in_place(self):
+        import numpy
+
+        words = numpy.array(GIVEN, dtype=numpy.uint32).reshape(2, 3)
+        baby_bear.dft(words)
+        self.assertEqual(words.ravel().tolist(), VALUES)
+        with self.assertRaises(TypeError):
+            baby_bear.dft(words.T)
+        with self.assertRaises(TypeError):
+            baby_bear.dft(words.astype(numpy.int64))
+
+    def test_other_buffers_are_refused(self):
+        for words in [
+            array.array("i", GIVEN),
+            array.array("f", GIVEN),
+            array.array("Q", GIVEN),
+            array.array("H", GIVEN),
+            bytearray(24),
+            (ctypes.c_uint32.__ctype_be__ * 6)(),
+            memoryview(array.array("I", GIVEN))[::2],
+            memoryview(bytearray(25))[1:].cast("I"),
+            memoryview(array.array("I", GIVEN)).toreadonly(),
+            GIVEN,
+            None,
+        ]:
+            for call in [baby_bear.dft, koala_bear.idft]:
+                with self.assertRaises(TypeError, msg=repr(words)):
+                    call(words, width=3)
+        for words in [array.array("I", GIVEN), array.array("d", GIVEN), array.array("q", GIVEN)]:
+            with self.assertRaises(TypeError, msg=repr(words)):
+                goldilocks.dft(words, width=3)
+
+    def test_what_is_only_read_may_be_read_only(self):
+        words = memoryview(array.array("I", [9, 1])).toreadonly()
+        self.assertEqual(baby_bear.coset_lde(words, 1, 31)[0], 5 + 4 * 31)
+        self.assertTrue(baby_bear.is_codeword(words, 0, 1))
+        with self.assertRaises(TypeError):
+            baby_bear.lde(array.array("I", [9, 1]), 1, out=memoryview(array.array("I", [0] * 4)).toreadonly())
+
+    def test_an_output_is_filled_and_answered(self):
+        out = array.array("I", [7] * 4)
+        self.assertIs(baby_bear.coset_dft_padded(array.array("I", [5, 4]), 1, 31, out=out), out)
+        self.assertEqual(out, baby_bear.coset_lde(array.array("I", [9, 1]), 1, 31))
+        for length in [0, 3, 5, 8]:
+            with self.assertRaises(LiktrobError) as caught:
+                baby_bear.lde(array.array("I", [9, 1]), 1, out=array.array("I", [7] * length))
+            self.assertEqual(caught.exception.status, Status.SHAPE)
+
+    def test_an_output_that_overlaps_is_refused(self):
+        words = array.array("I", [9, 1, 7, 7, 7, 7, 7])
+        view = memoryview(words)
+        for start in [0, 1]:
+            with self.assertRaisesRegex(ValueError, "shares memory"):
+                baby_bear.lde(view[0:2], 1, out=view[start:start + 4])
+        with self.assertRaisesRegex(ValueError, "shares memory"):
+            baby_bear.lde(view[3:5], 1, out=view[0:4])
+        self.assertEqual(list(words), [9, 1, 7, 7, 7, 7, 7])
+        baby_bear.lde(view[0:2], 1, out=view[2:6])
+        self.assertEqual(words[2:6], baby_bear.lde(array.array("I", [9, 1]), 1))
+        self.assertEqual((words[0], words[1], words[6]), (9, 1, 7))
+
+
+class Faults(unittest.TestCase):
+    def assert_status(self, status, words, shift, bits, **others):
+        """Each call raises the status, changes nothing, and leaves the buffer free to be resized."""
+        for field in FIELDS:
+            for number, call in enumerate(calls_of(field)):
+                given = field.array(field.modulus if word is None else word for word in words)
+                before = given[:]
+                try:
+                    call(given, shift, bits, **others)
+                except LiktrobError as error:
+                    self.assertEqual(error.status, status, f"call {number}")
+                    self.assertEqual(given, before)
+                    given.append(1)
+                else:
+                    self.fail(f"call {number} answered")
+
+    def test_each_fault_has_its_status(self):
+        self.assert_status(Status.ENGINE, [1, 2], 1, 1, engine=6)
+        self.assert_status(Status.NUMBER, [1, None], 1, 1)
+        self.assert_status(Status.SHAPE, [1, 2, 3], 1, 1)
+        self.assert_status(Status.SHAPE, [], 1, 1)
+        self.assert_status(Status.SHAPE, [1, 2], 1, 1, width=0)
+        for call in [goldilocks.coset_idft, lambda words, shift: goldilocks.is_codeword(words, 1, shift)]:
+            with self.assertRaises(LiktrobError) as caught:
+                call(goldilocks.array([1, 2]), 0)
+            self.assertEqual(caught.exception.status, Status.SHIFT)
+
+    def test_numbers_that_no_word_holds_are_not_cut(self):
+        for engine in [-1, 6, 2**32, 2**32 + 1, 2**64]:
+            self.assert_status(Status.ENGINE, [1, None], -1, -1, engine=engine, width=-1)
+        for shift in [-1, 2**64, 2**64 + 1]:
+            self.assert_status(Status.NUMBER, [1, 2], shift, 2**64, width=-1)
+        for width in [-1, -(2**64) + 1, 2**64, 2**64 + 1]:
+            self.assert_status(Status.SHAPE, [1, 2], 0, 1, width=width)
+        for field in [baby_bear, koala_bear]:
+            with self.assertRaises(LiktrobError) as caught:
+                field.coset_dft(field.array([1, 2]), 2**32 + 1)
+            self.assertEqual(caught.exception.status, Status.NUMBER)
+        for field in FIELDS:
+            calls = list(calls_of(field))[2:]
+            for bits in [-1, 28 if field is not goldilocks else 33, 63, 64, 65, 2**64, 2**64 + 1]:
+                for call in calls:
+                    with self.assertRaises(LiktrobError) as caught:
+                        call(field.array([1, 2]), 1, bits)
+                    self.assertEqual(caught.exception.status, Status.SHAPE)
+
+    def test_numbers_are_whole(self):
+        for shift, bits, others in [(1.0, 1, {}), (1, "1", {}), (1, 1, {"width": 1.0}), (1, 1, {"engine": "1"})]:
+            for number, call in enumerate(calls_of(baby_bear)):
+                if bits == 1 or number > 1:
+                    with self.assertRaises(TypeError):
+                        call(baby_bear.array([1, 2]), shift, bits, **others)
+
+    def test_memory_that_is_refused_is_a_memory_error_after_other_faults(self):
+        class Refused(liktrob.Field):
+            def _count_of_extension(self, words, added_bits, width):
+                return 1 << 60
+
+        field = Refused(liktrob._LIBRARY, "goldilocks", "Q", ctypes.c_uint64, 2**64 - 2**32 + 1, 7, 32)
+        with self.assertRaises(MemoryError):
+            field.lde(field.array([1, 2]), 1)
+        for status, words, engine in [(Status.NUMBER, [1, 2**64 - 1], 0), (Status.ENGINE, [1, 2**64 - 1], 6)]:
+            with self.assertRaises(LiktrobError) as caught:
+                field.lde(field.array(words), 1, engine=engine)
+            self.assertEqual(caught.exception.status, status)
+
+
+class Library(unittest.TestCase):
+    def test_the_interpreters_lock_is_kept(self):
+        self.assertIs(type(liktrob._LIBRARY), ctypes.PyDLL)
+
+    def test_statuses_and_engines_have_the_numbers_of_the_header(self):
+        header = liktrob.pathlib.Path(__file__).resolve().parent.parent / "include/liktrob.h"
+        text = " ".join(header.read_text(encoding="utf-8").replace(",", " ").split())
+        for member in [*Status, *Engine]:
+            self.assertIn(f" LIKTROB_{member.name} = {member.value} ", text)
+
+    def test_generators_are_those_of_plonky3(self):
+        self.assertEqual(baby_bear.two_adic_generator(27), 0x1A427A41)
+        self.assertEqual(koala_bear.two_adic_generator(24), 0x6AC49F88)
+        self.assertEqual(goldilocks.two_adic_generator(32), 1753635133440165772)
+        for bits in [-1, 28]:
+            with self.assertRaises(LiktrobError):
+                baby_bear.two_adic_generator(bits)
+
+
+if __name__ == "__main__":
+    unittest.main()
