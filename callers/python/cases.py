@@ -1,5 +1,5 @@
-"""Answers the cases that tools/check_callers makes. A line has FIELD ENGINE CALL THREADS WIDTH ADDED SHIFT OUT_LEN and then
-the numbers; its answer is a status and, where that is 0, numbers. Threads are none of this module's."""
+"""Answers the cases that tools/check_callers makes. A line has FIELD ENGINE CALL THREADS WIDTH ADDED SHIFT OUT_LEN and
+then the numbers; its answer is a status and, where that is 0, numbers. Threads are none of this module's."""
 
 import array
 import sys

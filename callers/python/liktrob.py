@@ -1,8 +1,8 @@
 # SPDX-License-Identifier: MIT OR Apache-2.0
 """Proved Fourier transforms over the finite fields BabyBear, KoalaBear and Goldilocks.
 
-A matrix is a buffer of numbers below the modulus, row after row. Each column is one polynomial: its coefficients, or its
-values. Row i of values belongs to the point shift * g^i, where g is two_adic_generator of the logarithm of the height.
+A matrix is a buffer of numbers below the modulus, row after row. Each column is one polynomial: its coefficients, or
+its values. Row i of values belongs to the point shift * g^i, where g is two_adic_generator of the height's logarithm.
 
     >>> import liktrob
     >>> words = liktrob.baby_bear.array([5, 2, 0, 4, 3, 0])
@@ -10,16 +10,17 @@ values. Row i of values belongs to the point shift * g^i, where g is two_adic_ge
     >>> list(words)
     [9, 5, 0, 1, 2013265920, 0]
 
-Those are the values at 1 and -1 of 5 + 4x, 2 + 3x and 0. Any buffer of unsigned words of 32 bits (baby_bear, koala_bear)
-or 64 bits (goldilocks) that lies in one piece is a matrix: an array.array, a memoryview, a ctypes array, a numpy array.
-The transforms and inverses change it in place. Where a numpy array has two dimensions, the width is the second.
+Those are the values at 1 and -1 of 5 + 4x, 2 + 3x and 0. Any buffer of unsigned words of 32 bits (baby_bear,
+koala_bear) or 64 bits (goldilocks) that lies in one piece is a matrix: an array.array, a memoryview, a ctypes array, a
+numpy array. Transforms and inverses change it in place. The width of a numpy array of two dimensions is the second.
 
 A fault raises LiktrobError, whose status says which, or MemoryError. No buffer has changed then. A buffer of another
 kind is a TypeError.
 
-The library is libliktrob.so in the folder that the variable LIKTROB_LIB names, or else in ../lib beside this module, or
-next to it. The interpreter's lock is kept during a call, so no other Python thread runs meanwhile. What does not hold the
-lock, as another process on shared memory, must not write a buffer of a running call.
+The library is libliktrob.so in the folder that the variable LIKTROB_LIB names. Without the variable it is looked for in
+the folder ../lib beside this module's, and in this module's. The interpreter's lock is kept during a call, so no other
+Python thread runs meanwhile. What does not hold the lock, as another process on shared memory, must not write a buffer
+of a running call.
 """
 
 import array
@@ -80,8 +81,8 @@ def _library():
             # PyDLL keeps the interpreter's lock.
             return ctypes.PyDLL(str(path))
     raise ImportError(
-        "Set LIKTROB_LIB to the folder that holds libliktrob.so, which tools/build_library of Liktrob's repository makes "
-        "as dist/lib."
+        "Set LIKTROB_LIB to the folder that holds libliktrob.so, which tools/build_library of Liktrob's repository "
+        "makes as dist/lib."
     )
 
 
@@ -167,8 +168,8 @@ class Field:
         return self.coset_lde(words, added_bits, 1, width, engine, out)
 
     def coset_lde(self, words, added_bits, shift, width=None, engine=Engine.DEFAULT, out=None):
-        """Answers the values, on the coset of shift of the subgroup 2^added_bits times as large, of the polynomials whose
-        values on the subgroup are given.
+        """Answers the values, on the coset of shift of the subgroup 2^added_bits times as large, of the polynomials
+        whose values on the subgroup are given.
 
         The answer is out, a buffer of 2^added_bits times as many words that shares no memory with words, or else a new
         array.array.
@@ -176,18 +177,18 @@ class Field:
         return self._extended(self._coset_lde, words, added_bits, shift, width, engine, out)
 
     def coset_lde_bit_reversed(self, words, added_bits, shift, width=None, engine=Engine.DEFAULT, out=None):
-        """As coset_lde, with rows in bit reversed order: row i belongs to the point whose number has the binary digits of
-        i in reverse."""
+        """As coset_lde, with rows in bit reversed order: row i belongs to the point whose number has the binary digits
+        of i in reverse."""
         return self._extended(self._coset_lde_bit_reversed, words, added_bits, shift, width, engine, out)
 
     def coset_dft_padded(self, words, added_bits, shift, width=None, engine=Engine.DEFAULT, out=None):
-        """Answers the values, on the coset of shift of the subgroup 2^added_bits times as large, of the polynomials whose
-        coefficients are given. The answer is as that of coset_lde."""
+        """Answers the values, on the coset of shift of the subgroup 2^added_bits times as large, of the polynomials
+        whose coefficients are given. The answer is as that of coset_lde."""
         return self._extended(self._coset_dft_padded, words, added_bits, shift, width, engine, out)
 
     def is_codeword(self, words, added_bits, shift, width=None, engine=Engine.DEFAULT):
-        """Whether each column has the values, on the coset of shift, of a polynomial of 2^k coefficients, where the height
-        is 2^(k + added_bits)."""
+        """Whether each column has the values, on the coset of shift, of a polynomial of 2^k coefficients, where the
+        height is 2^(k + added_bits)."""
         answer = ctypes.c_uint32()
         _answered(self._tested(words, added_bits, shift, width, engine, answer))
         return bool(answer.value)
