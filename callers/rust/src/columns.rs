@@ -36,9 +36,12 @@ pub fn each_of<A>(parts: Vec<Part<A>>) -> impl Iterator<Item = A> {
     parts.into_iter().filter_map(|part| part.answer)
 }
 
+/// How many numbers a thread writes at a time: so few that the cache holds them while each part adds its columns.
+const CHUNK: usize = 1 << 13;
+
 /// Writes the columns that were answered into a matrix of this width, some rows on each thread.
 pub fn write<W: Word>(threads: usize, parts: &[Part<Vec<W>>], out: &mut [W], width: usize) {
-    let rows = (out.len() / width).div_ceil(threads).max(1);
+    let rows = (CHUNK / width).max(1);
     on_threads(threads, out.chunks_mut(rows * width).enumerate(), |(chunk, out)| {
         for part in parts {
             let answered = part.answer.as_deref().unwrap_or_default();
