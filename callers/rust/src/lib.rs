@@ -32,7 +32,7 @@
 //! A transform is linear: numbers times a constant become values times that constant. So numbers in Montgomery form,
 //! `x * 2^32` below the modulus, are passed as they are and answered in that form. The shift alone is canonical.
 
-#![warn(missing_docs)]
+#![deny(missing_docs)]
 
 mod columns;
 mod dft;
