@@ -169,6 +169,14 @@ class Faults(unittest.TestCase):
                         call(field.array([1, 2]), 1, bits)
                     self.assertEqual(caught.exception.status, Status.SHAPE)
 
+    def test_bits_are_not_cut_where_the_output_has_the_cut_length(self):
+        for field in FIELDS:
+            for call in list(calls_of(field))[2:5]:
+                for bits in [2**32 + 1, 2**64 + 1, 33, 65]:
+                    with self.assertRaises(LiktrobError) as caught:
+                        call(field.array([1, 2]), 1, bits, out=field.array([7] * 4))
+                    self.assertEqual(caught.exception.status, Status.SHAPE)
+
     def test_numbers_are_whole(self):
         for shift, bits, others in [(1.0, 1, {}), (1, "1", {}), (1, 1, {"width": 1.0}), (1, 1, {"engine": "1"})]:
             for number, call in enumerate(calls_of(baby_bear)):

@@ -205,7 +205,7 @@ impl Exports<u32> for Meeting {
     fn coset_dft(_: u32, _: &mut [u32], _: usize, _: u32) -> u32 {
         MET.fetch_add(1, Ordering::SeqCst);
         let begun = Instant::now();
-        while MET.load(Ordering::SeqCst) < 4 && begun.elapsed() < Duration::from_secs(20) {
+        while MET.load(Ordering::SeqCst) < 4 && begun.elapsed() < Duration::from_secs(5) {
             std::thread::yield_now();
         }
         u32::from(MET.load(Ordering::SeqCst) != 4) * 3
