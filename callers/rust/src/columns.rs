@@ -3,7 +3,6 @@
 //! Each column is transformed by itself, so a thread copies some columns out, works on that matrix, and the answers
 //! are copied in once all threads are done. Nothing is written before, so an error leaves the output as it was.
 
-use std::alloc::{self, Layout};
 use std::ops::Range;
 use std::sync::Mutex;
 use std::thread;
@@ -13,7 +12,7 @@ use crate::field::Word;
 /// What was answered for some of the columns.
 pub struct Part<A> {
     columns: Range<usize>,
-    answer: Option<A>,
+    pub answer: A,
 }
 
 /// The answers that `work` gives for the columns of a matrix of whole rows. It is passed a copy of some columns and how
@@ -24,16 +23,12 @@ pub fn answers<W: Word, A: Send>(
     width: usize,
     work: impl Fn(Vec<W>, usize) -> Option<A> + Sync,
 ) -> Option<Vec<Part<A>>> {
-    let mut parts: Vec<Part<A>> = shares(width, threads).map(|columns| Part { columns, answer: None }).collect();
+    let mut parts: Vec<Part<Option<A>>> =
+        shares(width, threads).map(|columns| Part { columns, answer: None }).collect();
     on_threads(threads, parts.iter_mut(), |part| {
         part.answer = copy_of(words, width, &part.columns).and_then(|copy| work(copy, part.columns.len()));
     });
-    parts.iter().all(|part| part.answer.is_some()).then_some(parts)
-}
-
-/// The answers alone.
-pub fn each_of<A>(parts: Vec<Part<A>>) -> impl Iterator<Item = A> {
-    parts.into_iter().filter_map(|part| part.answer)
+    parts.into_iter().map(|Part { columns, answer }| Some(Part { columns, answer: answer? })).collect()
 }
 
 /// How many numbers a thread writes at a time: so few that the cache holds them while each part adds its columns.
@@ -44,25 +39,12 @@ pub fn write<W: Word>(threads: usize, parts: &[Part<Vec<W>>], out: &mut [W], wid
     let rows = (CHUNK / width).max(1);
     on_threads(threads, out.chunks_mut(rows * width).enumerate(), |(chunk, out)| {
         for part in parts {
-            let answered = part.answer.as_deref().unwrap_or_default();
-            let from = answered.chunks_exact(part.columns.len()).skip(chunk * rows);
+            let from = part.answer.chunks_exact(part.columns.len()).skip(chunk * rows);
             for (to, from) in out.chunks_exact_mut(width).zip(from) {
                 to[part.columns.clone()].copy_from_slice(from);
             }
         }
     });
-}
-
-/// So many zeros. Nothing where memory is refused.
-pub fn zeros<W: Word>(len: usize) -> Option<Vec<W>> {
-    let layout = Layout::array::<W>(len).ok()?;
-    if layout.size() == 0 {
-        return Some(Vec::new());
-    }
-    // SAFETY: the layout has a size.
-    let start = unsafe { alloc::alloc_zeroed(layout) };
-    // SAFETY: the block comes from the global allocator with the layout of `len` words, and zeros are words.
-    (!start.is_null()).then(|| unsafe { Vec::from_raw_parts(start.cast(), len, len) })
 }
 
 /// The columns in at most so many ranges, of which none is empty.

@@ -3,6 +3,7 @@ use crate::error::{Error, answer};
 use crate::exports::{Extension, InPlace};
 use crate::field::Field;
 use crate::matrix::RowMajorMatrix;
+use crate::zeros::zeros;
 
 /// The library's engines. All answer the same; they differ in time and in memory.
 #[derive(Clone, Copy, Debug, Default, PartialEq, Eq, Hash)]
@@ -284,7 +285,7 @@ impl Dft {
         if self.is_shared(words, width) {
             let parts = columns::answers(self.threads, words, width, |part, columns| call(&part, columns).ok());
             if let Some(parts) = parts {
-                return Ok(columns::each_of(parts).all(|is_codeword| is_codeword));
+                return Ok(parts.iter().all(|part| part.answer));
             }
         }
         call(words, width)
@@ -331,7 +332,7 @@ impl Dft {
         let engine = self.engine.number();
         if self.is_shared(words, width) && extended_len(words.len(), added_bits) == Some(out.len()) {
             let parts = columns::answers(self.threads, words, width, |part, columns| {
-                let mut values = columns::zeros(part.len() << added_bits)?;
+                let mut values = zeros(part.len() << added_bits)?;
                 (call(engine, &part, columns, added_bits, shift, &mut values) == 0).then_some(values)
             });
             if let Some(parts) = parts {
@@ -354,7 +355,7 @@ impl Dft {
         if !has_extension(mat, added_bits) {
             return Err(fault().err().unwrap_or(Error::Shape));
         }
-        let Some(mut values) = columns::zeros(mat.values.len() << added_bits) else {
+        let Some(mut values) = zeros(mat.values.len() << added_bits) else {
             // With no output the library says whether the numbers have a fault, which comes before that of memory.
             return Err(fault().err().filter(|error| *error == Error::Number).unwrap_or(Error::Memory));
         };

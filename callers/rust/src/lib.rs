@@ -24,7 +24,7 @@
 //! # What is proved
 //!
 //! The proof ends at the library's exported functions. This crate is trusted to pass each a pointer and a length of one
-//! slice; its `unsafe` code is in two files, `exports.rs` and `columns.rs`. What it does besides is to share columns
+//! slice; its `unsafe` code is in two files, `exports.rs` and `zeros.rs`. What it does besides is to share columns
 //! among threads and to make outputs, which its tests hold against sums.
 //!
 //! # Numbers in Montgomery form
@@ -40,6 +40,7 @@ mod error;
 mod exports;
 mod field;
 mod matrix;
+mod zeros;
 
 pub use dft::{Dft, Engine};
 pub use error::Error;
