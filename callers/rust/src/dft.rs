@@ -10,17 +10,17 @@ use crate::zeros::zeros;
 pub enum Engine {
     /// The fastest, which is [`Engine::Radix2DFTSmallBatch`].
     #[default]
-    Default,
+    Default = 0,
     /// The definition, by sums: `4^k` products for each column of `2^k` rows.
-    NaiveDft,
+    NaiveDft = 1,
     /// Decimation in time, rows one by one.
-    Radix2Dit,
+    Radix2Dit = 2,
     /// The network of Bowers.
-    Radix2Bowers,
+    Radix2Bowers = 3,
     /// Decimation in time in two halves.
-    Radix2DitParallel,
+    Radix2DitParallel = 4,
     /// Several layers at once, on rows that the cache holds.
-    Radix2DFTSmallBatch,
+    Radix2DFTSmallBatch = 5,
 }
 
 impl Engine {
