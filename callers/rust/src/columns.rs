@@ -9,6 +9,9 @@ use std::thread;
 
 use crate::field::Word;
 
+/// How many bytes of a row a part has at most: a line of the cache. Narrow parts are transformed faster.
+const LINE: usize = 64;
+
 /// What was answered for some of the columns.
 pub struct Part<A> {
     columns: Range<usize>,
@@ -23,8 +26,8 @@ pub fn answers<W: Word, A: Send>(
     width: usize,
     work: impl Fn(Vec<W>, usize) -> Option<A> + Sync,
 ) -> Option<Vec<Part<A>>> {
-    let mut parts: Vec<Part<Option<A>>> =
-        shares(width, threads).map(|columns| Part { columns, answer: None }).collect();
+    let shares = shares(width, threads, LINE / size_of::<W>());
+    let mut parts: Vec<Part<Option<A>>> = shares.map(|columns| Part { columns, answer: None }).collect();
     on_threads(threads, parts.iter_mut(), |part| {
         part.answer = copy_of(words, width, &part.columns).and_then(|copy| work(copy, part.columns.len()));
     });
@@ -47,9 +50,11 @@ pub fn write<W: Word>(threads: usize, parts: &[Part<Vec<W>>], out: &mut [W], wid
     });
 }
 
-/// The columns in at most so many ranges, of which none is empty.
-fn shares(width: usize, threads: usize) -> impl Iterator<Item = Range<usize>> {
-    let count = threads.clamp(1, width.max(1));
+/// The columns in ranges that are as long as each other but for one, as many for each thread, and no longer than `most`.
+/// None is empty, so where there are fewer columns than threads, each has a range.
+fn shares(width: usize, threads: usize, most: usize) -> impl Iterator<Item = Range<usize>> {
+    let threads = threads.clamp(1, width.max(1));
+    let count = (threads * width.div_ceil(most).div_ceil(threads)).clamp(1, width.max(1));
     let (least, further) = (width / count, width % count);
     (0..count).map(move |i| i * least + i.min(further)..(i + 1) * least + (i + 1).min(further))
 }
@@ -81,4 +86,32 @@ fn on_threads<T>(threads: usize, items: impl ExactSizeIterator<Item = T> + Send,
         }
         worker();
     });
+}
+
+#[cfg(test)]
+mod tests {
+    use super::shares;
+
+    #[test]
+    fn shares_have_each_column_once() {
+        for width in 1..200 {
+            for threads in [1, 2, 3, 4, 7, 64, usize::MAX] {
+                let mut next = 0;
+                for columns in shares(width, threads, 16) {
+                    assert_eq!(columns.start, next);
+                    assert!((1..=16).contains(&columns.len()), "{width} columns, {threads} threads: {columns:?}");
+                    next = columns.end;
+                }
+                assert_eq!(next, width);
+            }
+        }
+    }
+
+    #[test]
+    fn each_thread_has_as_many_shares() {
+        assert_eq!(shares(64, 4, 16).map(|it| it.len()).collect::<Vec<_>>(), [16; 4]);
+        assert_eq!(shares(64, 2, 16).map(|it| it.len()).collect::<Vec<_>>(), [16; 4]);
+        assert_eq!(shares(100, 4, 16).map(|it| it.len()).collect::<Vec<_>>(), [13, 13, 13, 13, 12, 12, 12, 12]);
+        assert_eq!(shares(3, 8, 16).map(|it| it.len()).collect::<Vec<_>>(), [1; 3]);
+    }
 }
