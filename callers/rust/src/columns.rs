@@ -50,8 +50,8 @@ pub fn write<W: Word>(threads: usize, parts: &[Part<Vec<W>>], out: &mut [W], wid
     });
 }
 
-/// The columns in ranges that are as long as each other but for one, as many for each thread, and no longer than `most`.
-/// None is empty, so where there are fewer columns than threads, each has a range.
+/// The columns in ranges of at most `most`, as many for each thread. Their lengths differ by one at most. None is
+/// empty, so where there are fewer columns than threads, each column is a range.
 fn shares(width: usize, threads: usize, most: usize) -> impl Iterator<Item = Range<usize>> {
     let threads = threads.clamp(1, width.max(1));
     let count = (threads * width.div_ceil(most).div_ceil(threads)).clamp(1, width.max(1));
