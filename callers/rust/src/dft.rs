@@ -43,7 +43,8 @@ impl Engine {
 /// Transforms by one engine, on one thread or on several.
 ///
 /// Calls that end in `_batch` take and answer a [`RowMajorMatrix`], and have the names and meanings that `p3-dft` gives
-/// them, but they answer an [`Error`] where those panic. The others work on slices.
+/// them, but they answer an [`Error`] where those panic; the matrix is dropped then. The others work on slices, which
+/// an error leaves as they were.
 ///
 /// With several threads the columns are shared among them. Answers and errors are the same however many they are.
 ///
