@@ -454,7 +454,11 @@ fn call_again<F: TwoAdicField>(
                 trial: *trial,
                 refused: 0,
             };
-            assert_answered(rt, on_engine::<F, _>(*engine, &mut again));
+            let verdict = on_engine::<F, _>(*engine, &mut again);
+            let times = again.refused;
+            assert_answered(rt, verdict);
+            let free = verdict == Verdict::Absent || !always_takes_memory(trial.call);
+            assert!(rt; times > 0 || free);
         }
     }
 }
