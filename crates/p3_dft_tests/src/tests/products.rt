@@ -609,7 +609,7 @@ fn over_coordinates<
 fn at_shape<F, M, V, W>(
     rt: &impl Abort,
     alloc: Global,
-    counted: (&Cell<usize>, M),
+    (count, mark): (&Cell<usize>, M),
     (log_h, width, added_bits): (usize, usize, usize),
 )
 where
@@ -623,9 +623,9 @@ where
         width,
         added_bits,
     };
-    over_field::<F, M>(rt, alloc, counted, shape, bounds_at(shape));
-    over_coordinates::<F, M, V>(rt, alloc, counted, shape);
-    over_coordinates::<F, M, W>(rt, alloc, counted, shape);
+    over_field::<F, M>(rt, alloc, (count, mark), shape, bounds_at(shape));
+    over_coordinates::<F, M, V>(rt, alloc, (count, mark), shape);
+    over_coordinates::<F, M, W>(rt, alloc, (count, mark), shape);
 }
 
 // Wider rows and larger heights: the height's logarithm, the width and the bits that are added.
@@ -638,7 +638,7 @@ const LARGER_SHAPES: [(usize, usize, usize); 5] = [
 ];
 
 // Every call at every shape.
-fn at_every_shape<F, M, V, W>(rt: &impl Abort, alloc: Global, counted: (&Cell<usize>, M))
+fn at_every_shape<F, M, V, W>(rt: &impl Abort, alloc: Global, (count, mark): (&Cell<usize>, M))
 where
     F: CanonicalField,
     M: Packs<Tally<F, M>>,
@@ -648,12 +648,12 @@ where
     for log_h in 0..7usize {
         for width in [1usize, 3] {
             for added_bits in 0..6usize {
-                at_shape::<F, M, V, W>(rt, alloc, counted, (log_h, width, added_bits));
+                at_shape::<F, M, V, W>(rt, alloc, (count, mark), (log_h, width, added_bits));
             }
         }
     }
     for shape in LARGER_SHAPES {
-        at_shape::<F, M, V, W>(rt, alloc, counted, shape);
+        at_shape::<F, M, V, W>(rt, alloc, (count, mark), shape);
     }
 }
 
