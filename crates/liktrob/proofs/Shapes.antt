@@ -1,5 +1,5 @@
 -- Shapes that fit: whole rows are as many as the division tells, what is extended has a size that a usize holds, and what is answered is as many times as large.
-use Rattle.std.proofs.Common.{add-zero, ◌≡◌, ℕ, ◌*◌, ◌/◌, ◌%◌, ◌^◌, ◌+◌, ◌<◌, ◌≤◌, List, length, sym, ap, ap₂, ◌∙◌, subst, arith}
+use Rattle.std.proofs.Common.{add-zero, ◌≡◌, ℕ, ◌*◌, ◌/◌, ◌%◌, ◌^◌, ◌+◌, ◌<◌, List, length, sym, ap, ap₂, ◌∙◌, subst, arith}
 use Rattle.std.proofs.Math.Nat.{mod-eq_of_lt, mul-div_cancel}
 use Rattle.std.proofs.lemmas.Nat.{pow-add}
 use Rattle.std.proofs.lemmas.Slice.Zip.{AllZip-long}

@@ -1,5 +1,5 @@
 -- Words, by which callers name elements of fields and matrices of them.
-use Rattle.std.specs.Prelude.{◌≡◌, ℕ, ◌*◌, ◌^◌, ◌<◌, List, ◌∷◌}
+use Rattle.std.specs.Prelude.{◌≡◌, ℕ, ◌*◌, ◌^◌, ◌<◌, List}
 use Rattle.std.specs.List.{All, AllZip}
 use Rattle.p3_field.specs.Ring.{IsInvertible}
 use Rattle.p3_field.specs.declared.fields.Field.{Ghosts as FieldMembers}

@@ -3,7 +3,7 @@
 ghost use Rattle.std.specs.Prelude.{◌≡◌, ◌<◌, ◌≤◌, ◌↔◌, ℕ, length, IfOk, IfSome, IsSome, IsTrue};
 ghost use Rattle.std.specs.List.{All, AllZip};
 
-use p3_dft::{BabyBear, CanonicalField, DftError, Field, Goldilocks, KoalaBear};
+use p3_dft::{BabyBear, CanonicalField, DftError, Field, Goldilocks, KoalaBear, growth};
 use std::alloc::Global;
 
 /// A field whose elements callers name by words of one size.
@@ -87,7 +87,7 @@ pub fn elements<F: WordField>(alloc: Global, words: &[F::Word]) -> Option<Result
     ensures elements { IfSome result (λ read. IfOk read (λ xs.
         AllZip (λ word x. F.word_number word ≡ F.number (F.value x)) words.now xs.items)) }
 {
-    let mut elements = match Vec::with_capacity(alloc, words.len()) {
+    let mut elements = match growth::with_capacity(alloc, words.len()) {
         Ok(elements) => elements,
         Err(refused) => {
             return if are_below::<F>(words) {

@@ -1,4 +1,4 @@
-use Rattle.std.proofs.Common.{◌≡◌, ℕ, ◌*◌, ◌^◌, ◌∙◌, sym, ap₂}
+use Rattle.std.proofs.Common.{ℕ, ◌*◌, ◌^◌, ◌∙◌, sym, ap₂}
 use Rattle.std.proofs.lemmas.Slice.Zip.{AllZip-long}
 use Rattle.liktrob.proofs.Shapes.{named_fits, named_high, whole_rows}
 use Rattle.liktrob.proofs.calls.answer.Goals as goal

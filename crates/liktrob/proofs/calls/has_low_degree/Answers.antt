@@ -1,4 +1,4 @@
-use Rattle.std.proofs.Common.{◌≡◌, ◌↔◌, ℕ, ◌+◌, ◌/◌, ◌∙◌, IsTrue, sym, subst}
+use Rattle.std.proofs.Common.{◌↔◌, ℕ, ◌+◌, ◌/◌, ◌∙◌, IsTrue, sym, subst}
 use Rattle.p3_matrix.specs.Cosets.{values_of}
 use Rattle.p3_dft.specs.Codes.{HasDegreeBelow}
 use Rattle.p3_dft.proofs.Laws.Codes.{degree_told}

@@ -1,4 +1,4 @@
-use Rattle.std.proofs.Common.{ℕ, List, ◌≡◌, ◌*◌, ◌-◌, ◌^◌, ◌<◌, ◌≤◌, ◌++◌, length, replicate, sym, ◌∙◌, ap, ap₂, le-mul_of_pos_right, arith}
+use Rattle.std.proofs.Common.{ℕ, List, ◌≡◌, ◌*◌, ◌-◌, ◌^◌, ◌≤◌, ◌++◌, length, replicate, ◌∙◌, ap, ap₂, le-mul_of_pos_right, arith}
 use Rattle.std.proofs.lemmas.Nat.{pow_pos}
 use Rattle.p3_matrix.specs.RowMajor.{RowMajor, IsRowMajor, height, with_zeros}
 use Rattle.p3_matrix.proofs.Rows.Padding.{padded_whole}

@@ -1,4 +1,4 @@
-use Rattle.std.proofs.Common.{◌≡◌, ◌*◌, ◌/◌, ◌^◌, ◌∙◌, rules, refl, sym, arith}
+use Rattle.std.proofs.Common.{◌≡◌, ◌*◌, ◌/◌, ◌∙◌, refl, sym, arith}
 use Rattle.std.proofs.lemmas.Bool.{true≢false}
 use Rattle.p3_dft.proofs.Calls.Shapes.{output_log_small}
 use Rattle.liktrob.proofs.Shapes.{rows_fit, size_held, whole_rows}
