@@ -8,7 +8,8 @@ ghost use Rattle.liktrob.specs.Answers.{IsAnswered, IsToldCodeword};
 ghost use Rattle.liktrob.specs.NamedFields.{baby_bear, goldilocks, koala_bear};
 ghost use Rattle.liktrob.specs.Statuses.{IsStatus};
 ghost use Rattle.liktrob.specs.Words.{AreBelow, Fits, HasInverse};
-ghost use Rattle.liktrob.specs.declared.engines.Operation.TheVariants.{CosetDft, CosetIdft, CosetLde, CosetLdeBitReversed};
+ghost use Rattle.liktrob.specs.declared.engines.Operation.TheVariants.{CosetDft, CosetIdft};
+ghost use Rattle.liktrob.specs.declared.engines.Operation.TheVariants.{CosetLde, CosetLdeBitReversed};
 
 use crate::calls::{answer_in_place, answer_into, is_codeword};
 use crate::engines::Operation;
