@@ -46,7 +46,8 @@ impl Engine {
 /// them, but they answer an [`Error`] where those panic; the matrix is dropped then. The others work on slices, which
 /// an error leaves as they were.
 ///
-/// With several threads the columns are shared among them. Answers and errors are the same however many they are.
+/// With several threads the columns are shared among them. Answers and errors are the same however many they are, but
+/// for [`Error::Memory`]: small parts may have memory where a whole copy has none.
 ///
 /// ```
 /// use liktrob::{BabyBear, Dft, Engine, RowMajorMatrix};
