@@ -25,7 +25,8 @@ pub use naive::NaiveDft;
 pub use p3_field::power_iterator::Powers;
 pub use p3_field::{
     BabyBear, BabyBearX8, BasedVectorSpace, CanonicalField, Coordinates, Field, Goldilocks,
-    KoalaBear, KoalaBearX8, Lanes, Packable, Packed, PackedField, Products, TwoAdicField, scaled,
+    GoldilocksX8, KoalaBear, KoalaBearX8, Lanes, Packable, Packed, PackedField, Products,
+    TwoAdicField, WideGoldilocks, scaled,
 };
 pub use p3_matrix::{
     BitReversedMatrixView, BlockConsumer, BlockLimit, BlockRefused, Butterfly, DftError,

@@ -1,5 +1,6 @@
 pub mod Accumulated
 pub mod Bezout
+mod GoldilocksLanes
 pub mod LaneArithmetic
 pub mod LaneLoops
 pub mod Lists

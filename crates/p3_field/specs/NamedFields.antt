@@ -2,11 +2,15 @@
 use Rattle.p3_field.specs.declared.fields.Field.{Ghosts as FieldMembers}
 use Rattle.p3_field.specs.declared.residue31.Residue31.{Residue31}
 use Rattle.p3_field.specs.declared.baby_bear.BabyBearNumbers.{BabyBearNumbers}
-use Rattle.p3_field.specs.declared.goldilocks.Goldilocks.{Goldilocks}
+use Rattle.p3_field.specs.declared.goldilocks.GoldilocksIn.{GoldilocksIn}
+use Rattle.p3_field.specs.declared.goldilocks.ScalarLanes.{ScalarLanes}
+use Rattle.p3_field.specs.declared.goldilocks.VectorLanes.{VectorLanes}
 use Rattle.p3_field.specs.declared.koala_bear.KoalaBearNumbers.{KoalaBearNumbers}
 use Rattle.p3_field.specs.contracts.baby_bear.BabyBearNumbers.{the_row as baby_bear_row}
 use Rattle.p3_field.specs.contracts.baby_bear.BabyBearNumbersNumbers.TheImpl.{ghosts as baby_bear_members, dict as baby_bear_dict}
-use Rattle.p3_field.specs.contracts.goldilocks.GoldilocksField.TheImpl.{ghosts as goldilocks_members}
+use Rattle.p3_field.specs.contracts.goldilocks.ScalarLanes.{the_row as scalar_row}
+use Rattle.p3_field.specs.contracts.goldilocks.VectorLanes.{the_row as vector_row}
+use Rattle.p3_field.specs.contracts.goldilocks.GoldilocksInField.TheImpl.{ghosts as goldilocks_members}
 use Rattle.p3_field.specs.contracts.koala_bear.KoalaBearNumbers.{the_row as koala_bear_row}
 use Rattle.p3_field.specs.contracts.koala_bear.KoalaBearNumbersNumbers.TheImpl.{ghosts as koala_bear_members, dict as koala_bear_dict}
 use Rattle.p3_field.specs.contracts.residue31.Residue31Field.TheImpl.{ghosts as residue31_members}
@@ -18,5 +22,8 @@ baby_bear = residue31_members baby_bear_row baby_bear_members baby_bear_dict (co
 abbrev pub koala_bear : FieldMembers (Residue31 KoalaBearNumbers koala_bear_members)
 koala_bear = residue31_members koala_bear_row koala_bear_members koala_bear_dict (copied koala_bear_row) (copied_dict koala_bear_row)
 
-abbrev pub goldilocks : FieldMembers Goldilocks
-goldilocks = goldilocks_members
+abbrev pub goldilocks : FieldMembers (GoldilocksIn ScalarLanes)
+goldilocks = goldilocks_members scalar_row (copied scalar_row) (copied_dict scalar_row)
+
+abbrev pub wide_goldilocks : FieldMembers (GoldilocksIn VectorLanes)
+wide_goldilocks = goldilocks_members vector_row (copied vector_row) (copied_dict vector_row)

@@ -1,16 +1,23 @@
-//! The field of the numbers below `2^64 - 2^32 + 1`.
+//! The field of the numbers below `2^64 - 2^32 + 1`, with packed values for two kinds of processors.
+//!
+//! Which packing is fast depends on the processor that a program is built for: `Goldilocks` has four lanes, one after
+//! another, and is the faster one for x86-64 and x86-64-v2; `WideGoldilocks` has eight lanes in vectors, and is the
+//! faster one for x86-64-v3 and x86-64-v4. The elements, their numbers and all laws are the same.
 
 ghost use Rattle.std.specs.Prelude.{◌≡◌, ◌<◌, ◌≤◌, ◌+◌, ◌%◌, ℕ};
 ghost use Rattle.p3_field.specs.Fields.{goldilocks_modulus};
 
 use crate::euclid::inverse_modulo;
 use crate::fields::Field;
+use crate::goldilocks_x8::GoldilocksX8;
 use crate::lanes::Lanes;
 use crate::packed::{Packable, Packed, PackedField, Products};
 use crate::totals::{add_all, multiply_all};
 use crate::two_adic::{CanonicalField, TwoAdicField};
+use std::alloc::AllocError;
 use std::fmt;
 use std::iter::{Product, Sum};
+use std::marker::PhantomData;
 use std::ops::{Add, AddAssign, Mul, MulAssign, Neg, Sub, SubAssign};
 
 const MODULUS: u64 = 18446744069414584321;
@@ -21,139 +28,191 @@ const HALF: u64 = 9223372034707292161;
 // `2^64` modulo the modulus, `2^32 - 1`.
 const EPSILON: u64 = 4294967295;
 
-/// An integer modulo `2^64 - 2^32 + 1`, by its number below the modulus.
-#[derive(Clone, Copy, PartialEq, Eq, PartialOrd, Ord)]
-pub struct Goldilocks {
-    number: u64,
+/// The lanes of packed values of the field. Elements and what they compute do not depend on it.
+pub trait GoldilocksPacking: Copy {
+    /// Several elements, handled by one operation.
+    type Packing: PackedField<Scalar = GoldilocksIn<Self>>;
+
+    /// Whether lanes are better taken one after another than all at once, where rows change in place.
+    const ONE_BY_ONE: bool;
+
+    ghost some_law: { 1 ≤ Self.Packing.WIDTH };
+}
+
+/// Four lanes, one after another.
+#[derive(Clone, Copy, Debug)]
+pub struct ScalarLanes;
+
+/// Eight lanes in vectors of words of 64 bits.
+#[derive(Clone, Copy, Debug)]
+pub struct VectorLanes;
+
+/// An integer modulo `2^64 - 2^32 + 1`, for programs that are built for x86-64 or x86-64-v2, as `rt` does by default.
+pub type Goldilocks = GoldilocksIn<ScalarLanes>;
+
+/// An integer modulo `2^64 - 2^32 + 1`, for programs that are built for processors with vectors of 256 or 512 bits,
+/// x86-64-v3 and x86-64-v4. Elsewhere it answers the same, and is slower than `Goldilocks`.
+pub type WideGoldilocks = GoldilocksIn<VectorLanes>;
+
+/// An integer modulo `2^64 - 2^32 + 1`, by its number below the modulus. `P` names the lanes of its packed values.
+#[derive_where(Copy, PartialEq, Eq, PartialOrd, Ord;)]
+pub struct GoldilocksIn<P: Copy> {
+    pub(crate) number: u64,
+    #[derive_where(skip(EqHashOrd))]
+    pub(crate) of: PhantomData<P>,
     ghost below: { number < goldilocks_modulus },
+}
+
+impl<P: Copy> Clone for GoldilocksIn<P> {
+    ghost use Rattle.std.specs.Prelude.{◌≡◌, ⊤};
+
+    ghost is_clone = { λ x y. y ≡ x };
+
+    ghost is_infallible = { λ _. ⊤ };
+
+    fn clone(&self) -> Result<GoldilocksIn<P>, AllocError> {
+        Ok(*self)
+    }
 }
 
 impl Goldilocks {
     /// Zero.
-    pub const ZERO: Goldilocks = Goldilocks { number: 0 };
+    pub const ZERO: Goldilocks = Goldilocks {
+        number: 0,
+        of: PhantomData,
+    };
 
     /// One.
-    pub const ONE: Goldilocks = Goldilocks { number: 1 };
+    pub const ONE: Goldilocks = Goldilocks {
+        number: 1,
+        of: PhantomData,
+    };
 
     /// One plus one.
-    pub const TWO: Goldilocks = Goldilocks { number: 2 };
+    pub const TWO: Goldilocks = Goldilocks {
+        number: 2,
+        of: PhantomData,
+    };
 
     /// Minus one.
     pub const NEG_ONE: Goldilocks = Goldilocks {
         number: 18446744069414584320,
+        of: PhantomData,
     };
 
     /// 7, which has an inverse.
-    pub const GENERATOR: Goldilocks = Goldilocks { number: 7 };
-
-    // The generator of the subgroup of order 2^32.
-    const TOP_ROOT: Goldilocks = Goldilocks {
-        number: 1753635133440165772,
+    pub const GENERATOR: Goldilocks = Goldilocks {
+        number: 7,
+        of: PhantomData,
     };
 }
 
-impl Add for Goldilocks {
+impl<P: Copy> Add for GoldilocksIn<P> {
     ghost use Rattle.p3_field.specs.Residues.{IsSum};
 
-    type Output = Goldilocks;
+    type Output = GoldilocksIn<P>;
 
     ghost add_gives = { λ a b r. IsSum goldilocks_modulus a.number b.number r.number };
 
-    fn add(self, other: Goldilocks) -> Goldilocks {
+    fn add(self, other: GoldilocksIn<P>) -> GoldilocksIn<P> {
         // The sum less the modulus, modulo `2^64`: that passes `2^64` where the sum reaches the modulus,
         // and only there.
         let reduced = self.number.wrapping_add(other.number + EPSILON);
-        Goldilocks {
+        GoldilocksIn {
             number: if reduced < self.number {
                 reduced
             } else {
                 self.number + other.number
             },
+            of: PhantomData,
         }
     }
 }
 
-impl Sub for Goldilocks {
+impl<P: Copy> Sub for GoldilocksIn<P> {
     ghost use Rattle.p3_field.specs.Residues.{IsDifference};
 
-    type Output = Goldilocks;
+    type Output = GoldilocksIn<P>;
 
     ghost sub_gives = { λ a b r. IsDifference goldilocks_modulus a.number b.number r.number };
 
-    fn sub(self, other: Goldilocks) -> Goldilocks {
-        Goldilocks {
+    fn sub(self, other: GoldilocksIn<P>) -> GoldilocksIn<P> {
+        GoldilocksIn {
             number: if self.number >= other.number {
                 self.number - other.number
             } else {
                 self.number + (MODULUS - other.number)
             },
+            of: PhantomData,
         }
     }
 }
 
-impl Mul for Goldilocks {
+impl<P: Copy> Mul for GoldilocksIn<P> {
     ghost use Rattle.p3_field.specs.Residues.{IsProduct};
 
-    type Output = Goldilocks;
+    type Output = GoldilocksIn<P>;
 
     ghost mul_gives = { λ a b r. IsProduct goldilocks_modulus a.number b.number r.number };
 
-    fn mul(self, other: Goldilocks) -> Goldilocks {
-        Goldilocks {
+    fn mul(self, other: GoldilocksIn<P>) -> GoldilocksIn<P> {
+        GoldilocksIn {
             number: reduce(self.number as u128 * other.number as u128),
+            of: PhantomData,
         }
     }
 }
 
-impl Neg for Goldilocks {
+impl<P: Copy> Neg for GoldilocksIn<P> {
     ghost use Rattle.p3_field.specs.Residues.{IsNegative};
 
-    type Output = Goldilocks;
+    type Output = GoldilocksIn<P>;
 
     ghost neg_gives = { λ a r. IsNegative goldilocks_modulus a.number r.number };
 
-    fn neg(self) -> Goldilocks {
-        Goldilocks {
+    fn neg(self) -> GoldilocksIn<P> {
+        GoldilocksIn {
             number: if self.number == 0 {
                 0
             } else {
                 MODULUS - self.number
             },
+            of: PhantomData,
         }
     }
 }
 
-impl AddAssign for Goldilocks {
+impl<P: Copy> AddAssign for GoldilocksIn<P> {
     ghost use Rattle.p3_field.specs.Residues.{IsSum};
 
     ghost add_assign_gives = { λ a b r. IsSum goldilocks_modulus a.number b.number r.number };
 
-    fn add_assign(&mut self, other: Goldilocks) {
+    fn add_assign(&mut self, other: GoldilocksIn<P>) {
         *self = *self + other;
     }
 }
 
-impl SubAssign for Goldilocks {
+impl<P: Copy> SubAssign for GoldilocksIn<P> {
     ghost use Rattle.p3_field.specs.Residues.{IsDifference};
 
     ghost sub_assign_gives = { λ a b r. IsDifference goldilocks_modulus a.number b.number r.number };
 
-    fn sub_assign(&mut self, other: Goldilocks) {
+    fn sub_assign(&mut self, other: GoldilocksIn<P>) {
         *self = *self - other;
     }
 }
 
-impl MulAssign for Goldilocks {
+impl<P: Copy> MulAssign for GoldilocksIn<P> {
     ghost use Rattle.p3_field.specs.Residues.{IsProduct};
 
     ghost mul_assign_gives = { λ a b r. IsProduct goldilocks_modulus a.number b.number r.number };
 
-    fn mul_assign(&mut self, other: Goldilocks) {
+    fn mul_assign(&mut self, other: GoldilocksIn<P>) {
         *self = *self * other;
     }
 }
 
-impl Sum<Goldilocks> for Goldilocks {
+impl<P: Copy> Sum<GoldilocksIn<P>> for GoldilocksIn<P> {
     ghost use Rattle.std.specs.Prelude.{map};
     ghost use Rattle.p3_field.specs.Fields.{goldilocks_ring};
     ghost use Rattle.p3_field.specs.Residues.{residue_at};
@@ -162,12 +221,18 @@ impl Sum<Goldilocks> for Goldilocks {
     ghost sum_gives = { λ xs r. residue_at goldilocks_modulus r.number r.below
         ≡ sum_of goldilocks_ring (map (λ x. residue_at goldilocks_modulus x.number x.below) xs) };
 
-    fn sum<I: Iterator<Item = Goldilocks>>(iter: I) -> Goldilocks {
-        add_all(Goldilocks::ZERO, iter)
+    fn sum<I: Iterator<Item = GoldilocksIn<P>>>(iter: I) -> GoldilocksIn<P> {
+        add_all(
+            GoldilocksIn {
+                number: 0,
+                of: PhantomData,
+            },
+            iter,
+        )
     }
 }
 
-impl Product<Goldilocks> for Goldilocks {
+impl<P: Copy> Product<GoldilocksIn<P>> for GoldilocksIn<P> {
     ghost use Rattle.std.specs.Prelude.{map};
     ghost use Rattle.p3_field.specs.Fields.{goldilocks_ring};
     ghost use Rattle.p3_field.specs.Residues.{residue_at};
@@ -176,40 +241,55 @@ impl Product<Goldilocks> for Goldilocks {
     ghost product_gives = { λ xs r. residue_at goldilocks_modulus r.number r.below
         ≡ product_of goldilocks_ring (map (λ x. residue_at goldilocks_modulus x.number x.below) xs) };
 
-    fn product<I: Iterator<Item = Goldilocks>>(iter: I) -> Goldilocks {
-        multiply_all(Goldilocks::ONE, iter)
+    fn product<I: Iterator<Item = GoldilocksIn<P>>>(iter: I) -> GoldilocksIn<P> {
+        multiply_all(
+            GoldilocksIn {
+                number: 1,
+                of: PhantomData,
+            },
+            iter,
+        )
     }
 }
 
 /// The element of this number.
-impl From<u8> for Goldilocks {
+impl<P: Copy> From<u8> for GoldilocksIn<P> {
     ghost from_gives = { λ n r. r.number ≡ n };
 
-    fn from(n: u8) -> Goldilocks {
-        Goldilocks { number: n as u64 }
+    fn from(n: u8) -> GoldilocksIn<P> {
+        GoldilocksIn {
+            number: n as u64,
+            of: PhantomData,
+        }
     }
 }
 
 /// The element of this number.
-impl From<u16> for Goldilocks {
+impl<P: Copy> From<u16> for GoldilocksIn<P> {
     ghost from_gives = { λ n r. r.number ≡ n };
 
-    fn from(n: u16) -> Goldilocks {
-        Goldilocks { number: n as u64 }
+    fn from(n: u16) -> GoldilocksIn<P> {
+        GoldilocksIn {
+            number: n as u64,
+            of: PhantomData,
+        }
     }
 }
 
 /// The element of this number.
-impl From<u32> for Goldilocks {
+impl<P: Copy> From<u32> for GoldilocksIn<P> {
     ghost from_gives = { λ n r. r.number ≡ n };
 
-    fn from(n: u32) -> Goldilocks {
-        Goldilocks { number: n as u64 }
+    fn from(n: u32) -> GoldilocksIn<P> {
+        GoldilocksIn {
+            number: n as u64,
+            of: PhantomData,
+        }
     }
 }
 
 /// The number in decimal digits, with the options of a format as for a `u64`.
-impl fmt::Display for Goldilocks {
+impl<P: Copy> fmt::Display for GoldilocksIn<P> {
     ghost use Rattle.std.specs.Prelude.{Some};
     ghost use Rattle.std.specs.Fmt.{decimal, styled_decimal};
 
@@ -223,7 +303,7 @@ impl fmt::Display for Goldilocks {
 }
 
 /// The number in decimal digits. Clauses say so of a formatter without options.
-impl fmt::Debug for Goldilocks {
+impl<P: Copy> fmt::Debug for GoldilocksIn<P> {
     ghost use Rattle.std.specs.Prelude.{Some};
     ghost use Rattle.std.specs.Fmt.{decimal};
 
@@ -295,7 +375,7 @@ fn subtract_modulus(x: u64) -> u64
     x - MODULUS
 }
 
-impl Field for Goldilocks {
+impl<P: Copy> Field for GoldilocksIn<P> {
     ghost use Rattle.std.proofs.Common.{lit<, refl};
     ghost use Rattle.p3_field.specs.Residues.{Residue, residue-eq};
     ghost use Rattle.p3_field.specs.FieldLaws.{difference_law, eq_law, order_law};
@@ -309,45 +389,67 @@ impl Field for Goldilocks {
 
     ghost value = { λ x. record { number = x.number; below = x.below } };
 
-    const ZERO: Goldilocks = Goldilocks::ZERO;
+    const ZERO: GoldilocksIn<P> = GoldilocksIn {
+        number: 0,
+        of: PhantomData,
+    };
 
-    ghost ZERO = { record { number = 0; below = lit< tt } };
+    ghost ZERO = { record { number = 0; of = _; below = lit< tt } };
 
-    const ONE: Goldilocks = Goldilocks::ONE;
+    const ONE: GoldilocksIn<P> = GoldilocksIn {
+        number: 1,
+        of: PhantomData,
+    };
 
-    ghost ONE = { record { number = 1; below = lit< tt } };
+    ghost ONE = { record { number = 1; of = _; below = lit< tt } };
 
-    const TWO: Goldilocks = Goldilocks::TWO;
+    const TWO: GoldilocksIn<P> = GoldilocksIn {
+        number: 2,
+        of: PhantomData,
+    };
 
-    ghost TWO = { record { number = 2; below = lit< tt } };
+    ghost TWO = { record { number = 2; of = _; below = lit< tt } };
 
-    const NEG_ONE: Goldilocks = Goldilocks::NEG_ONE;
+    const NEG_ONE: GoldilocksIn<P> = GoldilocksIn {
+        number: 18446744069414584320,
+        of: PhantomData,
+    };
 
-    ghost NEG_ONE = { record { number = 18446744069414584320; below = lit< tt } };
+    ghost NEG_ONE = { record { number = 18446744069414584320; of = _; below = lit< tt } };
 
-    const GENERATOR: Goldilocks = Goldilocks::GENERATOR;
+    const GENERATOR: GoldilocksIn<P> = GoldilocksIn {
+        number: 7,
+        of: PhantomData,
+    };
 
-    ghost GENERATOR = { record { number = 7; below = lit< tt } };
+    ghost GENERATOR = { record { number = 7; of = _; below = lit< tt } };
 
-    fn halve(self) -> Goldilocks {
+    fn halve(self) -> GoldilocksIn<P> {
         let shifted = self.number / 2;
         let number = if self.number % 2 == 0 {
             shifted
         } else {
             shifted + HALF
         };
-        Goldilocks { number }
-    }
-
-    fn from_usize(n: usize) -> Goldilocks {
-        Goldilocks {
-            number: n as u64 % MODULUS,
+        GoldilocksIn {
+            number,
+            of: PhantomData,
         }
     }
 
-    fn try_inverse(&self) -> Option<Goldilocks> {
+    fn from_usize(n: usize) -> GoldilocksIn<P> {
+        GoldilocksIn {
+            number: n as u64 % MODULUS,
+            of: PhantomData,
+        }
+    }
+
+    fn try_inverse(&self) -> Option<GoldilocksIn<P>> {
         let inverse = inverse_modulo(MODULUS, self.number)?;
-        Some(Goldilocks { number: inverse })
+        Some(GoldilocksIn {
+            number: inverse,
+            of: PhantomData,
+        })
     }
 
     ghost number_law = { residue-eq };
@@ -407,11 +509,11 @@ impl Field for Goldilocks {
     ghost order_law = { λ a b c d e f. order_law _ _ _ _ e f };
 }
 
-impl Packed for Goldilocks {
-    type Scalar = Goldilocks;
+impl<P: Copy> Packed for GoldilocksIn<P> {
+    type Scalar = GoldilocksIn<P>;
 }
 
-impl PackedField for Goldilocks {
+impl<P: Copy> PackedField for GoldilocksIn<P> {
     ghost use Rattle.std.specs.Prelude.{[], ◌∷◌};
     ghost use Rattle.std.proofs.Common.{refl};
 
@@ -421,41 +523,41 @@ impl PackedField for Goldilocks {
 
     ghost lanes = { λ x. x ∷ [] };
 
-    fn load(from: &[Goldilocks]) -> Goldilocks {
+    fn load(from: &[GoldilocksIn<P>]) -> GoldilocksIn<P> {
         from[0]
     }
 
-    fn store(self, to: &mut [Goldilocks]) {
+    fn store(self, to: &mut [GoldilocksIn<P>]) {
         to[0] = self;
     }
 
-    fn load_pairs(from: &[Goldilocks]) -> (Goldilocks, Goldilocks) {
+    fn load_pairs(from: &[GoldilocksIn<P>]) -> (GoldilocksIn<P>, GoldilocksIn<P>) {
         (from[0], from[1])
     }
 
-    fn store_pairs(self, second: Goldilocks, to: &mut [Goldilocks]) {
+    fn store_pairs(self, second: GoldilocksIn<P>, to: &mut [GoldilocksIn<P>]) {
         to[0] = self;
         to[1] = second;
     }
 
-    fn broadcast(scalar: Goldilocks) -> Goldilocks {
+    fn broadcast(scalar: GoldilocksIn<P>) -> GoldilocksIn<P> {
         scalar
     }
 
-    fn add(self, other: Goldilocks) -> Goldilocks {
+    fn add(self, other: GoldilocksIn<P>) -> GoldilocksIn<P> {
         self + other
     }
 
-    fn sub(self, other: Goldilocks) -> Goldilocks {
+    fn sub(self, other: GoldilocksIn<P>) -> GoldilocksIn<P> {
         self - other
     }
 
-    fn scaled(self, t: Goldilocks, products: &mut Products) -> Goldilocks {
+    fn scaled(self, t: GoldilocksIn<P>, products: &mut Products) -> GoldilocksIn<P> {
         products.rise(1);
         self * t
     }
 
-    fn multiplied(self, other: Goldilocks, products: &mut Products) -> Goldilocks {
+    fn multiplied(self, other: GoldilocksIn<P>, products: &mut Products) -> GoldilocksIn<P> {
         products.rise(1);
         self * other
     }
@@ -463,22 +565,66 @@ impl PackedField for Goldilocks {
     ghost width_law = { λ _. refl };
 }
 
-impl Packable for Goldilocks {
-    ghost use Rattle.std.proofs.Common.{refl, lit≤};
+impl<P: GoldilocksPacking> Packable for GoldilocksIn<P> {
+    ghost use Rattle.std.proofs.Common.{refl};
 
-    type Packing = Lanes<Goldilocks, 4>;
+    type Packing = P::Packing;
 
-    // So no more than one lane has to lie in registers.
-    const ONE_BY_ONE: bool = true;
+    const ONE_BY_ONE: bool = P::ONE_BY_ONE;
 
     ghost lane_law = { λ _. refl };
 
     ghost one_lane_law = { refl };
 
-    ghost packing_law = { lit≤ tt };
+    ghost packing_law = { P.some_law };
 }
 
-impl TwoAdicField for Goldilocks {
+impl GoldilocksPacking for ScalarLanes {
+    ghost use Rattle.std.proofs.Common.{lit≤};
+
+    type Packing = Lanes<GoldilocksIn<ScalarLanes>, 4>;
+
+    // So no more than one lane has to lie in registers.
+    const ONE_BY_ONE: bool = true;
+
+    ghost some_law = { lit≤ tt };
+}
+
+impl GoldilocksPacking for VectorLanes {
+    ghost use Rattle.std.proofs.Common.{lit≤};
+
+    type Packing = GoldilocksX8;
+
+    const ONE_BY_ONE: bool = false;
+
+    ghost some_law = { lit≤ tt };
+}
+
+/// The element of the same number.
+impl From<Goldilocks> for WideGoldilocks {
+    ghost from_gives = { λ x r. r.number ≡ x.number };
+
+    fn from(x: Goldilocks) -> WideGoldilocks {
+        GoldilocksIn {
+            number: x.number,
+            of: PhantomData,
+        }
+    }
+}
+
+/// The element of the same number.
+impl From<WideGoldilocks> for Goldilocks {
+    ghost from_gives = { λ x r. r.number ≡ x.number };
+
+    fn from(x: WideGoldilocks) -> Goldilocks {
+        GoldilocksIn {
+            number: x.number,
+            of: PhantomData,
+        }
+    }
+}
+
+impl<P: GoldilocksPacking> TwoAdicField for GoldilocksIn<P> {
     ghost use Rattle.std.proofs.Common.{lit≤};
     ghost use Rattle.p3_field.specs.Fields.{goldilocks_numbers, goldilocks_generator, are_field_generators};
 
@@ -488,11 +634,17 @@ impl TwoAdicField for Goldilocks {
 
     ghost generator = { λ bits. record {
       number = (goldilocks_generator bits).number;
+      of = _;
       below = (goldilocks_generator bits).below;
     } };
 
-    fn two_adic_generator(bits: usize) -> Goldilocks {
-        Goldilocks::TOP_ROOT.exp_power_of_2(32 - bits)
+    fn two_adic_generator(bits: usize) -> GoldilocksIn<P> {
+        // Of order 2^32.
+        let root = GoldilocksIn::<P> {
+            number: 1753635133440165772,
+            of: PhantomData,
+        };
+        root.exp_power_of_2(32 - bits)
     }
 
     ghost two_adicity_law = { lit≤ tt };
@@ -500,7 +652,7 @@ impl TwoAdicField for Goldilocks {
     ghost roots_law = { are_field_generators goldilocks_numbers };
 }
 
-impl CanonicalField for Goldilocks {
+impl<P: GoldilocksPacking> CanonicalField for GoldilocksIn<P> {
     ghost use Rattle.p3_field.specs.FieldLaws.{count_law};
     ghost use Rattle.p3_field.specs.Fields.{goldilocks_numbers};
 
@@ -508,9 +660,12 @@ impl CanonicalField for Goldilocks {
 
     ghost ORDER_U64 = { goldilocks_modulus };
 
-    fn new(number: u64) -> Option<Goldilocks> {
+    fn new(number: u64) -> Option<GoldilocksIn<P>> {
         if number < MODULUS {
-            Some(Goldilocks { number })
+            Some(GoldilocksIn {
+                number,
+                of: PhantomData,
+            })
         } else {
             None
         }

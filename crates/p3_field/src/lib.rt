@@ -3,9 +3,10 @@
 //! `Field` has the operations of a commutative ring with one in which halving is exact, and their
 //! laws; `TwoAdicField` adds the roots of unity, `CanonicalField` the numbers below a modulus.
 //! `Residue31` is such a field for each record of `Numbers` with a modulus below `2^31`: `BabyBear`
-//! and `KoalaBear` are made of it. `Goldilocks` has a modulus below `2^64`. `PackedField` handles
-//! several scalars by one operation, as `Residue31X8` eight of a `Residue31`, and `Products` counts
-//! the products that were made, for contracts alone. `BasedVectorSpace` is what elements with
+//! and `KoalaBear` are made of it. `Goldilocks` has a modulus below `2^64`, and `WideGoldilocks` is the
+//! same field for processors with wider vectors. `PackedField` handles several scalars by one operation,
+//! as `Residue31X8` eight of a `Residue31` and `GoldilocksX8` eight of a `WideGoldilocks`, and `Products`
+//! counts the products that were made, for contracts alone. `BasedVectorSpace` is what elements with
 //! coordinates are, as `Coordinates`. `power_iterator` has the powers of an element, and `totals` what the
 //! sums and products of a new field can be made of.
 #![tactic(auto)]
@@ -15,6 +16,7 @@ pub mod baby_bear;
 mod euclid;
 pub mod fields;
 pub mod goldilocks;
+pub mod goldilocks_x8;
 pub mod koala_bear;
 pub mod lanes;
 pub mod packed;
@@ -27,7 +29,10 @@ pub mod two_adic;
 pub use algebra::{BasedVectorSpace, Coordinates};
 pub use baby_bear::{BabyBear, BabyBearX8};
 pub use fields::Field;
-pub use goldilocks::Goldilocks;
+pub use goldilocks::{
+    Goldilocks, GoldilocksIn, GoldilocksPacking, ScalarLanes, VectorLanes, WideGoldilocks,
+};
+pub use goldilocks_x8::GoldilocksX8;
 pub use koala_bear::{KoalaBear, KoalaBearX8};
 pub use lanes::Lanes;
 pub use packed::{Packable, Packed, PackedField, Products, scaled};

@@ -1,0 +1,319 @@
+-- Arithmetic modulo 2^64 - 2^32 + 1 on the lanes of a vector of words of 64 bits.
+use Rattle.std.proofs.Common.{◌≡◌, ℕ, zero, suc, ◌+◌, ◌-◌, ◌*◌, ◌/◌, ◌%◌, ◌<◌, ◌≤◌, ◌^◌, Bool, true, false, cond, List, [], ◌∷◌, length, map, replicate, refl, sym, ap, ap₂, ◌∙◌, arith, ⊎_elim}
+use Rattle.std.proofs.Math.Dec.{ltb}
+use Rattle.std.proofs.Math.Nat.{mod-eq_of_lt, add-mul-mod_self_right, mul-le-mul, mod-add-div'}
+use Rattle.std.proofs.lemmas.Nat.{and_mask}
+use Rattle.std.specs.Int.Bits.{bit_and}
+use Rattle.std.proofs.lemmas.Bool.{cases_lt, lt-ltb, le-ltb, cond-true, cond-false}
+use Rattle.std.specs.Simd.Lanes.{Each1, zip2, sel_l, top}
+use mir.Syntax.{w64}
+use mir.Val.{Fits}
+use Rattle.p3_field.specs.Fields.{goldilocks_modulus}
+use Rattle.p3_field.specs.LaneNumbers.{AreBelow}
+
+-- what a lane's operations give, modulo 2^64
+abbrev word_sum : ℕ → ℕ → ℕ
+word_sum x y = (x + y) % 18446744073709551616
+
+abbrev word_difference : ℕ → ℕ → ℕ
+word_difference x y = (x + (18446744073709551616 - y)) % 18446744073709551616
+
+-- what a comparison leaves in a lane, and what is selected by it
+abbrev word_mask : ℕ → ℕ → ℕ
+word_mask x y = cond (ltb x y) 18446744073709551615 0
+
+chosen_word : (b : Bool) (x y : ℕ) → cond (top 63 (cond b 18446744073709551615 0)) x y ≡ cond b x y
+chosen_word true x y = refl
+chosen_word false x y = refl
+
+if_less : (x y a b : ℕ) → x < y → cond (top 63 (word_mask x y)) a b ≡ a
+if_less x y a b l = chosen_word (ltb x y) a b ∙ cond-true (ltb x y) a b (lt-ltb x y l)
+
+if_not_less : (x y a b : ℕ) → y ≤ x → cond (top 63 (word_mask x y)) a b ≡ b
+if_not_less x y a b l = chosen_word (ltb x y) a b ∙ cond-false (ltb x y) a b (le-ltb x y l)
+
+-- a number with its highest bit turned, and what is selected where one so turned is greater
+abbrev turned : ℕ → ℕ
+turned x = word_sum x 9223372036854775808
+
+abbrev where_greater : ℕ → ℕ → ℕ → ℕ → ℕ
+where_greater x y a b = cond (top 63 (word_mask (turned y) (turned x))) a b
+
+-- ---- one lane
+lane_sum : (x y : ℕ) → x < goldilocks_modulus → y < goldilocks_modulus
+    → word_difference (word_sum (turned x) (turned y)) (word_difference goldilocks_modulus (where_greater (word_difference goldilocks_modulus (turned y)) (turned x) goldilocks_modulus 0))
+    ≡ (x + y) % goldilocks_modulus
+lane_sum x y a b =
+    let p : ℕ = goldilocks_modulus in
+    let u : ℕ = turned x in
+    let s : ℕ = word_sum u (turned y) in
+    let k : ℕ = word_difference p (turned y) in
+    let s_is : s ≡ (x + y) % 18446744073709551616 = omega arith in
+    let k_is : turned k ≡ p - y = omega (arith, b) in
+    let u_is : turned u ≡ x = omega (arith, a) in
+    ⊎_elim
+    (λ less.
+    ap (λ m. word_difference s (word_difference p m)) (if_less (turned u) (turned k) p 0 less)
+    ∙ omega (arith, s_is, k_is, u_is, less, a, b))
+    (λ reaches.
+    ap (λ m. word_difference s (word_difference p m)) (if_not_less (turned u) (turned k) p 0 reaches)
+    ∙ omega (arith, s_is, k_is, u_is, reaches, a, b))
+    (cases_lt (turned u) (turned k))
+
+lane_difference : (x y : ℕ) → x < goldilocks_modulus → y < goldilocks_modulus
+    → word_sum (word_difference (turned x) (turned y)) (where_greater (turned y) (turned x) goldilocks_modulus 0) ≡ (x + (goldilocks_modulus - y)) % goldilocks_modulus
+lane_difference x y a b =
+    let p : ℕ = goldilocks_modulus in
+    let u : ℕ = turned x in
+    let v : ℕ = turned y in
+    let d : ℕ = word_difference u v in
+    let d_is : d ≡ word_difference x y = omega (arith, a, b) in
+    let u_is : turned u ≡ x = omega (arith, a) in
+    let v_is : turned v ≡ y = omega (arith, b) in
+    ⊎_elim
+    (λ less. ap (word_sum d) (if_less (turned u) (turned v) p 0 less) ∙ omega (arith, d_is, u_is, v_is, less, a, b))
+    (λ reaches. ap (word_sum d) (if_not_less (turned u) (turned v) p 0 reaches) ∙ omega (arith, d_is, u_is, v_is, reaches, a, b))
+    (cases_lt (turned u) (turned v))
+
+-- ---- all lanes
+abbrev all_turned : ℕ → List ℕ → List ℕ
+all_turned n xs = zip2 word_sum xs (replicate n 9223372036854775808)
+
+-- a where a lane of xs is above that of ys, both with their highest bits turned, and b elsewhere
+abbrev all_where : ℕ → List ℕ → List ℕ → ℕ → ℕ → List ℕ
+all_where n xs ys a b = sel_l (map (top 63) (zip2 word_mask (all_turned n ys) (all_turned n xs))) (replicate n a) (replicate n b)
+
+pub goldilocks_sums : (xs ys : List ℕ) (n : ℕ) → length xs ≡ n → length ys ≡ n → AreBelow goldilocks_modulus xs → AreBelow goldilocks_modulus ys
+    → zip2 word_difference (zip2 word_sum (all_turned n xs) (all_turned n ys))
+    (zip2 word_difference (replicate n goldilocks_modulus) (all_where n (zip2 word_difference (replicate n goldilocks_modulus) (all_turned n ys)) (all_turned n xs) goldilocks_modulus 0))
+    ≡ zip2 (λ x y. (x + y) % goldilocks_modulus) xs ys
+goldilocks_sums [] ys n e f a b = refl
+goldilocks_sums (x ∷ xs) [] zero e f a b = absurd (omega (arith, e))
+goldilocks_sums (x ∷ xs) [] (suc n) e f a b = absurd (omega (arith, f))
+goldilocks_sums (x ∷ xs) (y ∷ ys) zero e f a b = absurd (omega (arith, e))
+goldilocks_sums (x ∷ xs) (y ∷ ys) (suc n) e f a b = ap₂ ◌∷◌ (lane_sum x y a.0 b.0) (goldilocks_sums xs ys n (omega (arith, e)) (omega (arith, f)) a.1 b.1)
+
+pub goldilocks_differences : (xs ys : List ℕ) (n : ℕ) → length xs ≡ n → AreBelow goldilocks_modulus xs → AreBelow goldilocks_modulus ys
+    → zip2 word_sum (zip2 word_difference (all_turned n xs) (all_turned n ys)) (all_where n (all_turned n ys) (all_turned n xs) goldilocks_modulus 0)
+    ≡ zip2 (λ x y. (x + (goldilocks_modulus - y)) % goldilocks_modulus) xs ys
+goldilocks_differences [] ys n e a b = refl
+goldilocks_differences (x ∷ xs) ys zero e a b = absurd (omega (arith, e))
+goldilocks_differences (x ∷ xs) [] (suc n) e a b = refl
+goldilocks_differences (x ∷ xs) (y ∷ ys) (suc n) e a b = ap₂ ◌∷◌ (lane_difference x y a.0 b.0) (goldilocks_differences xs ys n (omega (arith, e)) a.1 b.1)
+
+-- ---- a product of two words, by halves of 32 bits
+abbrev word_product : ℕ → ℕ → ℕ
+word_product x y = (x * y) % 18446744073709551616
+
+abbrev half_right : ℕ → ℕ → ℕ
+half_right x s = x / 2 ^ s
+
+abbrev half_left : ℕ → ℕ → ℕ
+half_left x s = (x * 2 ^ s) % 18446744073709551616
+
+low_half : (x : ℕ) → bit_and x 4294967295 ≡ x % 4294967296
+low_half x = and_mask x 32
+
+abbrev first_part : ℕ → ℕ → ℕ
+first_part x t = word_sum (word_product (half_right x 32) (bit_and t 4294967295)) (half_right (word_product (bit_and x 4294967295) (bit_and t 4294967295)) 32)
+
+abbrev second_part : ℕ → ℕ → ℕ
+second_part x t = word_sum (word_product (bit_and x 4294967295) (half_right t 32)) (bit_and (first_part x t) 4294967295)
+
+abbrev low_word : ℕ → ℕ → ℕ
+low_word x t = word_sum (bit_and (word_product (bit_and x 4294967295) (bit_and t 4294967295)) 4294967295) (half_left (second_part x t) 32)
+
+abbrev high_word : ℕ → ℕ → ℕ
+high_word x t = word_sum (word_sum (word_product (half_right x 32) (half_right t 32)) (half_right (first_part x t) 32)) (half_right (second_part x t) 32)
+
+-- halves do not wrap
+half_product : (x y : ℕ) → x < 4294967296 → y < 4294967296 → (word_product x y ≡ x * y) × (x * y ≤ 18446744065119617025)
+half_product x y a b =
+    let x_most : x ≤ 4294967295 = omega (arith, a) in
+    let y_most : y ≤ 4294967295 = omega (arith, b) in
+    let most : x * y ≤ 4294967295 * 4294967295 = mul-le-mul x_most y_most in
+    (mod-eq_of_lt (omega (arith, most)), omega (arith, most))
+
+-- the parts of a product, from its four products of halves
+parts : (ll lh hl hh f s l h : ℕ) → ll ≤ 18446744065119617025 → lh ≤ 18446744065119617025 → hl ≤ 18446744065119617025 → hh ≤ 18446744065119617025
+    → f ≡ word_sum hl (ll / 4294967296) → s ≡ word_sum lh (f % 4294967296)
+    → l ≡ word_sum (ll % 4294967296) ((s * 4294967296) % 18446744073709551616) → h ≡ word_sum (word_sum hh (f / 4294967296)) (s / 4294967296)
+    → ll + (lh + hl) * 4294967296 + hh * 18446744073709551616 < 340282366920938463463374607431768211456
+    → (l + h * 18446744073709551616 ≡ ll + (lh + hl) * 4294967296 + hh * 18446744073709551616) × (l < 18446744073709551616)
+parts ll lh hl hh f s l h a b c d f_is s_is l_is h_is all =
+    let first : f ≡ hl + ll / 4294967296 = omega (arith, a, c, f_is) in
+    let second : s ≡ lh + f % 4294967296 = omega (arith, b, s_is) in
+    let shifted : (s * 4294967296) % 18446744073709551616 ≡ s % 4294967296 * 4294967296 = omega arith in
+    let low : l ≡ ll % 4294967296 + s % 4294967296 * 4294967296 = omega (arith, l_is, shifted) in
+    let first_small : f / 4294967296 ≤ 4294967295 = omega (arith, first, a, c) in
+    let second_small : s / 4294967296 ≤ 4294967295 = omega (arith, second, b) in
+    let high : h ≡ hh + f / 4294967296 + s / 4294967296 = omega (arith, h_is, first_small, second_small, d) in
+    (omega (arith, first, second, low, high), omega (arith, low))
+
+product_of_words : (x t : ℕ) → x < 18446744073709551616 → t < 18446744073709551616
+    → (low_word x t + high_word x t * 18446744073709551616 ≡ x * t) × (low_word x t < 18446744073709551616)
+product_of_words x t a b =
+    let x0 : ℕ = x % 4294967296 in
+    let x1 : ℕ = x / 4294967296 in
+    let t0 : ℕ = t % 4294967296 in
+    let t1 : ℕ = t / 4294967296 in
+    let x0_below : x0 < 4294967296 = omega arith in
+    let x1_below : x1 < 4294967296 = omega (arith, a) in
+    let t0_below : t0 < 4294967296 = omega arith in
+    let t1_below : t1 < 4294967296 = omega (arith, b) in
+    let ll = half_product x0 t0 x0_below t0_below in
+    let lh = half_product x0 t1 x0_below t1_below in
+    let hl = half_product x1 t0 x1_below t0_below in
+    let hh = half_product x1 t1 x1_below t1_below in
+    let x_most : x ≤ 18446744073709551615 = omega (arith, a) in
+    let t_most : t ≤ 18446744073709551615 = omega (arith, b) in
+    let most : x * t ≤ 18446744073709551615 * 18446744073709551615 = mul-le-mul x_most t_most in
+    let x_parts : x0 + x1 * 4294967296 ≡ x = mod-add-div' x 4294967296 in
+    let t_parts : t0 + t1 * 4294967296 ≡ t = mod-add-div' t 4294967296 in
+    let spread : x0 * t0 + (x0 * t1 + x1 * t0) * 4294967296 + x1 * t1 * 18446744073709551616 ≡ (x0 + x1 * 4294967296) * (t0 + t1 * 4294967296) = omega arith in
+    let whole : x0 * t0 + (x0 * t1 + x1 * t0) * 4294967296 + x1 * t1 * 18446744073709551616 ≡ x * t = spread ∙ ap₂ ◌*◌ x_parts t_parts in
+    let ll_is : word_product (bit_and x 4294967295) (bit_and t 4294967295) ≡ x0 * t0 = ap₂ word_product (low_half x) (low_half t) ∙ ll.0 in
+    let lh_is : word_product (bit_and x 4294967295) t1 ≡ x0 * t1 = ap (λ k. word_product k t1) (low_half x) ∙ lh.0 in
+    let hl_is : word_product x1 (bit_and t 4294967295) ≡ x1 * t0 = ap (word_product x1) (low_half t) ∙ hl.0 in
+    let made = parts (x0 * t0) (x0 * t1) (x1 * t0) (x1 * t1) (first_part x t) (second_part x t) (low_word x t) (high_word x t) ll.1 lh.1 hl.1 hh.1
+    (ap₂ (λ p q. word_sum p (q / 4294967296)) hl_is ll_is)
+    (ap₂ word_sum lh_is (low_half (first_part x t)))
+    (ap (λ q. word_sum q (half_left (second_part x t) 32)) (low_half (word_product (bit_and x 4294967295) (bit_and t 4294967295)) ∙ ap (λ q. q % 4294967296) ll_is))
+    (ap (λ q. word_sum (word_sum q (half_right (first_part x t) 32)) (half_right (second_part x t) 32)) hh.0)
+    (omega (arith, whole, most)) in
+    (made.0 ∙ whole, made.1)
+
+low_of_product : (x t : ℕ) → x < 18446744073709551616 → t < 18446744073709551616 → low_word x t ≡ (x * t) % 18446744073709551616
+low_of_product x t a b = let p = product_of_words x t a b in omega (arith, p.0, p.1)
+
+high_of_product : (x t : ℕ) → x < 18446744073709551616 → t < 18446744073709551616 → high_word x t ≡ x * t / 18446744073709551616
+high_of_product x t a b = let p = product_of_words x t a b in omega (arith, p.0, p.1)
+
+-- ---- the remainder of two words
+abbrev borrowed : ℕ → ℕ → ℕ
+borrowed l u = word_difference (word_difference (turned l) u) (where_greater (word_difference (turned l) u) (turned l) 4294967295 0)
+
+abbrev carried : ℕ → ℕ → ℕ
+carried b m = word_sum (word_sum b m) (where_greater b (word_sum b m) 4294967295 0)
+
+abbrev corrected : ℕ → ℕ
+corrected c = turned (word_sum c (word_difference 4294967295 (where_greater 9223372032559808513 c 4294967295 0)))
+
+-- the modulus is added at most once, or taken away
+borrowed_is : (l u : ℕ) → l < 18446744073709551616 → u < 4294967296
+    → (e : ℕ) × ((turned (borrowed l u) + u ≡ l + e * goldilocks_modulus) × (borrowed l u < 18446744073709551616))
+borrowed_is l u a b =
+    let t : ℕ = turned l in
+    let d : ℕ = word_difference t u in
+    let t_is : turned t ≡ l = omega (arith, a) in
+    let d_is : turned d ≡ word_difference l u = omega (arith, a, b) in
+    ⊎_elim
+    (λ less.
+    let is : borrowed l u ≡ word_difference d 4294967295 = ap (word_difference d) (if_less (turned t) (turned d) 4294967295 0 less) in
+    (1, (omega (arith, is, t_is, d_is, less, a, b), omega (arith, is))))
+    (λ reaches.
+    let is : borrowed l u ≡ word_difference d 0 = ap (word_difference d) (if_not_less (turned t) (turned d) 4294967295 0 reaches) in
+    (0, (omega (arith, is, t_is, d_is, reaches, a, b), omega (arith, is))))
+    (cases_lt (turned t) (turned d))
+
+carried_is : (b m : ℕ) → b < 18446744073709551616 → m ≤ 18446744065119617025
+    → (e : ℕ) × ((turned (carried b m) + e * goldilocks_modulus ≡ turned b + m) × (carried b m < 18446744073709551616))
+carried_is b m below most =
+    let s : ℕ = word_sum b m in
+    let s_is : turned s ≡ word_sum (turned b) m = omega arith in
+    ⊎_elim
+    (λ less.
+    let is : carried b m ≡ word_sum s 4294967295 = ap (word_sum s) (if_less (turned s) (turned b) 4294967295 0 less) in
+    (1, (omega (arith, is, s_is, less, below, most), omega (arith, is))))
+    (λ reaches.
+    let is : carried b m ≡ word_sum s 0 = ap (word_sum s) (if_not_less (turned s) (turned b) 4294967295 0 reaches) in
+    (0, (omega (arith, is, s_is, reaches, below, most), omega (arith, is))))
+    (cases_lt (turned s) (turned b))
+
+corrected_is : (c : ℕ) → c < 18446744073709551616 → corrected c ≡ turned c % goldilocks_modulus
+corrected_is c below =
+    let correct : ℕ → ℕ = λ m. turned (word_sum c (word_difference 4294967295 m)) in
+    ⊎_elim
+    (λ less. ap correct (if_less (turned c) goldilocks_modulus 4294967295 0 less) ∙ omega (arith, less, below))
+    (λ reaches. ap correct (if_not_less (turned c) goldilocks_modulus 4294967295 0 reaches) ∙ omega (arith, reaches, below))
+    (cases_lt (turned c) goldilocks_modulus)
+
+abbrev reduced_word : ℕ → ℕ → ℕ
+reduced_word l h = corrected (carried (borrowed l (half_right h 32)) (word_product (bit_and h 4294967295) 4294967295))
+
+reduced_word_is : (l h : ℕ) → l < 18446744073709551616 → h < 18446744073709551616
+    → reduced_word l h ≡ (l + h * 18446744073709551616) % goldilocks_modulus
+reduced_word_is l h a b =
+    let p : ℕ = goldilocks_modulus in
+    let u : ℕ = h / 4294967296 in
+    let h0 : ℕ = h % 4294967296 in
+    let u_below : u < 4294967296 = omega (arith, b) in
+    let m : ℕ = word_product (bit_and h 4294967295) 4294967295 in
+    let m_is : m ≡ h0 * 4294967295 = ap (λ k. word_product k 4294967295) (low_half h) ∙ omega arith in
+    let m_most : m ≤ 18446744065119617025 = omega (arith, m_is) in
+    let (e, first) = borrowed_is l u a u_below in
+    let (f, second) = carried_is (borrowed l u) m first.1 m_most in
+    let whole : l + h * 18446744073709551616 + e * p ≡ turned (carried (borrowed l u) m) + (f + h0 + u * 4294967297) * p = omega (arith, first.0, second.0, m_is) in
+    corrected_is (carried (borrowed l u) m) second.1
+    ∙ sym (add-mul-mod_self_right (turned (carried (borrowed l u) m)) (f + h0 + u * 4294967297) p)
+    ∙ ap (λ k. k % p) (sym whole)
+    ∙ add-mul-mod_self_right (l + h * 18446744073709551616) e p
+
+-- ---- all lanes
+abbrev masked : ℕ → List ℕ → List ℕ
+masked n xs = zip2 bit_and xs (replicate n 4294967295)
+
+abbrev upper : ℕ → List ℕ → List ℕ
+upper n xs = zip2 half_right xs (replicate n 32)
+
+abbrev firsts : ℕ → List ℕ → List ℕ → List ℕ
+firsts n xs ts = zip2 word_sum (zip2 word_product (upper n xs) (masked n ts)) (upper n (zip2 word_product (masked n xs) (masked n ts)))
+
+abbrev seconds : ℕ → List ℕ → List ℕ → List ℕ
+seconds n xs ts = zip2 word_sum (zip2 word_product (masked n xs) (upper n ts)) (masked n (firsts n xs ts))
+
+pub low_words : (xs ts : List ℕ) (n : ℕ) → length xs ≡ n → Each1 (Fits w64) xs → Each1 (Fits w64) ts
+    → zip2 word_sum (masked n (zip2 word_product (masked n xs) (masked n ts))) (zip2 half_left (seconds n xs ts) (replicate n 32))
+    ≡ zip2 (λ x t. (x * t) % 18446744073709551616) xs ts
+low_words [] ts n e a b = refl
+low_words (x ∷ xs) ts zero e a b = absurd (omega (arith, e))
+low_words (x ∷ xs) [] (suc n) e a b = refl
+low_words (x ∷ xs) (t ∷ ts) (suc n) e a b = ap₂ ◌∷◌ (low_of_product x t a.0.fits b.0.fits) (low_words xs ts n (omega (arith, e)) a.1 b.1)
+
+pub high_words : (xs ts : List ℕ) (n : ℕ) → length xs ≡ n → Each1 (Fits w64) xs → Each1 (Fits w64) ts
+    → zip2 word_sum (zip2 word_sum (zip2 word_product (upper n xs) (upper n ts)) (upper n (firsts n xs ts))) (upper n (seconds n xs ts))
+    ≡ zip2 (λ x t. x * t / 18446744073709551616) xs ts
+high_words [] ts n e a b = refl
+high_words (x ∷ xs) ts zero e a b = absurd (omega (arith, e))
+high_words (x ∷ xs) [] (suc n) e a b = refl
+high_words (x ∷ xs) (t ∷ ts) (suc n) e a b = ap₂ ◌∷◌ (high_of_product x t a.0.fits b.0.fits) (high_words xs ts n (omega (arith, e)) a.1 b.1)
+
+abbrev all_borrowed : ℕ → List ℕ → List ℕ → List ℕ
+all_borrowed n ls hs =
+    let less = zip2 word_difference (all_turned n ls) (upper n hs) in
+    zip2 word_difference less (all_where n less (all_turned n ls) 4294967295 0)
+
+abbrev middles : ℕ → List ℕ → List ℕ
+middles n hs = zip2 word_product (masked n hs) (replicate n 4294967295)
+
+abbrev all_carried : ℕ → List ℕ → List ℕ → List ℕ
+all_carried n ls hs =
+    let sums = zip2 word_sum (all_borrowed n ls hs) (middles n hs) in
+    zip2 word_sum sums (all_where n (all_borrowed n ls hs) sums 4294967295 0)
+
+pub reduced_words : (ls hs : List ℕ) (n : ℕ) → length ls ≡ n → Each1 (Fits w64) ls → Each1 (Fits w64) hs
+    → all_turned n (zip2 word_sum (all_carried n ls hs)
+    (zip2 word_difference (replicate n 4294967295) (all_where n (replicate n 9223372032559808513) (all_carried n ls hs) 4294967295 0)))
+    ≡ zip2 (λ l h. (l + h * 18446744073709551616) % goldilocks_modulus) ls hs
+reduced_words [] hs n e a b = refl
+reduced_words (l ∷ ls) hs zero e a b = absurd (omega (arith, e))
+reduced_words (l ∷ ls) [] (suc n) e a b = refl
+reduced_words (l ∷ ls) (h ∷ hs) (suc n) e a b = ap₂ ◌∷◌ (reduced_word_is l h a.0.fits b.0.fits) (reduced_words ls hs n (omega (arith, e)) a.1 b.1)
+
+-- the two words of a product, and its remainder
+pub words_together : (xs ts : List ℕ)
+    → zip2 (λ l h. (l + h * 18446744073709551616) % goldilocks_modulus) (zip2 (λ x t. (x * t) % 18446744073709551616) xs ts) (zip2 (λ x t. x * t / 18446744073709551616) xs ts)
+    ≡ zip2 (λ x t. (x * t) % goldilocks_modulus) xs ts
+words_together [] ts = refl
+words_together (x ∷ xs) [] = refl
+words_together (x ∷ xs) (t ∷ ts) = ap₂ ◌∷◌ (ap (λ k. k % goldilocks_modulus) (mod-add-div' (x * t) 18446744073709551616)) (words_together xs ts)

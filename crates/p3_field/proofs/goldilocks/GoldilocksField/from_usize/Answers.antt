@@ -1,6 +1,0 @@
-use Rattle.std.proofs.Common.{refl}
-use Rattle.p3_field.proofs.Residues.{count-residue}
-use Rattle.p3_field.proofs.goldilocks.GoldilocksField.from_usize.Goals as goal
-
-pub returns : goal.returns
-returns c = count-residue _ _ _ c.args.n _ refl

@@ -1,0 +1,6 @@
+use Rattle.std.proofs.Common.{refl}
+use Rattle.p3_field.proofs.Residues.{count-residue}
+use Rattle.p3_field.proofs.goldilocks.GoldilocksInField.from_usize.Goals as goal
+
+pub returns : goal.returns
+returns g c = count-residue _ _ _ c.args.n _ refl

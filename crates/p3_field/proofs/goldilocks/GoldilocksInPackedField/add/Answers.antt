@@ -1,0 +1,7 @@
+use Rattle.std.proofs.Common.{ap, [], ◌∷◌}
+use Rattle.p3_field.specs.Fields.{goldilocks_modulus}
+use Rattle.p3_field.specs.Residues.{Residue, residue-eq}
+use Rattle.p3_field.proofs.goldilocks.GoldilocksInPackedField.add.Goals as goal
+
+pub returns : goal.returns
+returns g c = ap (λ (x : Residue goldilocks_modulus). x ∷ []) (residue-eq _ _ c.add.ensures)

@@ -1,7 +1,0 @@
-use Rattle.std.proofs.Common.{ap, [], ◌∷◌}
-use Rattle.p3_field.specs.Fields.{goldilocks_modulus}
-use Rattle.p3_field.specs.Residues.{Residue, residue-eq}
-use Rattle.p3_field.proofs.goldilocks.GoldilocksPackedField.add.Goals as goal
-
-pub returns : goal.returns
-returns c = ap (λ (x : Residue goldilocks_modulus). x ∷ []) (residue-eq _ _ c.add.ensures)

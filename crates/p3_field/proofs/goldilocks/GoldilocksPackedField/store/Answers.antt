@@ -1,6 +1,0 @@
-use Rattle.std.proofs.Common.{ap, map}
-use Rattle.p3_field.proofs.Lists.{slice_set-single}
-use Rattle.p3_field.proofs.goldilocks.GoldilocksPackedField.store.Goals as goal
-
-pub returns : goal.returns
-returns c = ap (map _) (slice_set-single c.args.to.now c.args.self c.requires)
