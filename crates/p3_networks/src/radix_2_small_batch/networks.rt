@@ -21,7 +21,7 @@ use crate::butterfly_layers::{Rule, layer};
 use crate::chunks::{ChunkWork, on_each_chunk};
 use crate::radix_2_small_batch::groups::{Order, layers_in_groups};
 use crate::radix_2_small_batch::pairs::{NetworkDecimation, on_pairs};
-use p3_field::{Products, TwoAdicField};
+use p3_field::{PackedField, Products, TwoAdicField};
 use p3_matrix::scale_slice_in_place;
 
 // In one column so many layers of the smallest blocks are done together, on a chunk of so many rows, which has
@@ -612,6 +612,29 @@ fn multiples_of_row<F: TwoAdicField>(
         ≡ F.ring.mul (F.value (get_or row.now j F.ZERO)) (F.ring.mul (F.value first) (power F.ring (F.value step) t)) }
     ensures count { products.new ≡ products.old + count * length row.now }
 {
+    // Shorter than two packs.
+    if row.len() / 2 < F::Packing::WIDTH {
+        multiples_by_doubling(first, step, row, values, count, products);
+    } else {
+        multiples_one_by_one(first, step, row, values, count, products);
+    }
+}
+
+// The same, row after row: each costs a call and waits for its factor.
+fn multiples_one_by_one<F: TwoAdicField>(
+    first: F,
+    step: F,
+    row: &[F],
+    values: &mut [F],
+    count: usize,
+    products: &mut Products,
+)
+    requires { length values.old ≡ count * length row.now }
+    ensures values { (t j : ℕ) → t < count → j < length row.now
+        → F.value (get_or values.new (t * length row.now + j) F.ZERO)
+        ≡ F.ring.mul (F.value (get_or row.now j F.ZERO)) (F.ring.mul (F.value first) (power F.ring (F.value step) t)) }
+    ensures count { products.new ≡ products.old + count * length row.now }
+{
     let width = row.len();
     let mut factor = first;
     for t in 0..count {
@@ -621,6 +644,59 @@ fn multiples_of_row<F: TwoAdicField>(
         scale_slice_in_place(multiple, factor, products);
         factor = factor * step;
     }
+}
+
+// The same for short rows: all rows that are done, times one factor, are as many more.
+fn multiples_by_doubling<F: TwoAdicField>(
+    first: F,
+    step: F,
+    row: &[F],
+    values: &mut [F],
+    count: usize,
+    products: &mut Products,
+)
+    requires { length values.old ≡ count * length row.now }
+    ensures values { (t j : ℕ) → t < count → j < length row.now
+        → F.value (get_or values.new (t * length row.now + j) F.ZERO)
+        ≡ F.ring.mul (F.value (get_or row.now j F.ZERO)) (F.ring.mul (F.value first) (power F.ring (F.value step) t)) }
+    ensures count { products.new ≡ products.old + count * length row.now }
+{
+    if count == 0 {
+        return;
+    }
+    let width = row.len();
+    let head = &mut values[0..width];
+    head.copy_from_slice(row);
+    scale_slice_in_place(head, first, products);
+    let mut done = 1;
+    let mut factor = step;
+    while done < count {
+        let more = done.min(count - done);
+        scale_behind(values, done * width, more * width, factor, products);
+        factor = factor * factor;
+        done += more;
+    }
+}
+
+// Entries behind the first `size`, so many, become the first ones times the factor.
+fn scale_behind<F: TwoAdicField>(
+    values: &mut [F],
+    size: usize,
+    count: usize,
+    factor: F,
+    products: &mut Products,
+)
+    requires there { count ≤ size }
+    requires room { size + count ≤ length values.old }
+    ensures kept { (n : ℕ) → n < size → get_or values.new n F.ZERO ≡ get_or values.old n F.ZERO }
+    ensures scaled { (n : ℕ) → n < count → F.value (get_or values.new (size + n) F.ZERO)
+        ≡ F.ring.mul (F.value (get_or values.old n F.ZERO)) (F.value factor) }
+    ensures count { products.new ≡ products.old + count }
+{
+    let (first, behind) = values.split_at_mut(size);
+    let part = &mut behind[0..count];
+    part.copy_from_slice(&first[0..count]);
+    scale_slice_in_place(part, factor, products);
 }
 
 // `count` rows of coefficients in bit reversed order, from number `first` on, each in `copies` rows:

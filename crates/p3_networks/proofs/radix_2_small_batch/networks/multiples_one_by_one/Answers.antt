@@ -5,7 +5,7 @@ use Rattle.p3_field.specs.Ring.{power}
 use Rattle.p3_field.proofs.Powers.{power-zero, power-more}
 use Rattle.p3_networks.proofs.Layers.Halves.{block_room}
 use Rattle.p3_matrix.proofs.Rows.Overwritten.{rows-none, rows-more, value_at}
-use Rattle.p3_networks.proofs.radix_2_small_batch.networks.multiples_of_row.Goals as goal
+use Rattle.p3_networks.proofs.radix_2_small_batch.networks.multiples_one_by_one.Goals as goal
 
 pub overflow_mul-start : goal.overflow_mul-start
 overflow_mul-start g c = omega (arith, block_room c.loop-t.t c.args.count (length c.args.row.now) (length c.args.values.now) c.loop-t-test.true c.requires)

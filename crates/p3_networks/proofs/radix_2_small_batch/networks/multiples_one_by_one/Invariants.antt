@@ -1,7 +1,7 @@
 use Rattle.std.proofs.Common.{◌≡◌, ◌+◌, ◌*◌, get_or}
 use Rattle.p3_field.specs.Ring.{power}
 use Rattle.p3_matrix.proofs.Rows.Overwritten.{RowsDone}
-use Rattle.p3_networks.proofs.radix_2_small_batch.networks.multiples_of_row.Given as goal
+use Rattle.p3_networks.proofs.radix_2_small_batch.networks.multiples_one_by_one.Given as goal
 
 abbrev pub invariant-loop-t : goal.invariant-loop-t
 invariant-loop-t g l =
