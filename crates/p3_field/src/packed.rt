@@ -4,10 +4,8 @@ ghost use Rattle.std.specs.Prelude.{◌≡◌, ◌<◌, ◌≤◌, ◌+◌, ◌*
 ghost use Rattle.p3_field.specs.Ring.{minus};
 ghost use Rattle.p3_field.specs.Lanes.{by_lanes};
 
-mod count;
-
 use crate::fields::Field;
-use count::Count;
+use growth::Count;
 use std::marker::Model;
 
 /// A type that holds scalars, one in each lane.

@@ -11,6 +11,7 @@ pub mod Recordings
 pub mod ReversedRows
 pub mod RowExchanges
 pub mod RowMajor
+pub mod Rooms
 pub mod Rows
 pub mod RowsByPacks
 pub mod Tiles

@@ -8,6 +8,7 @@ pub mod Exchange
 pub mod Loans
 pub mod Matrix
 pub mod Polynomials
+pub mod Room
 pub mod RowMajor
 pub mod RowNumbers
 pub mod SliceLoans

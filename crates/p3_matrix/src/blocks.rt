@@ -1,8 +1,9 @@
 //! Blocks of rows that are lent to a consumer, which may refuse one.
 
 ghost use Rattle.std.specs.Prelude.{◌≡◌, ℕ, ◌+◌, ◌*◌, ◌/◌, ◌%◌, ◌<◌, ◌≤◌, ◌++◌, Bool, IfErr, IfOk};
-ghost use Rattle.std.specs.Prelude.{OnOk, [], false, get_or, length, vec_capacity, vec_len};
+ghost use Rattle.std.specs.Prelude.{OnOk, [], false, get_or, length, max, vec_capacity, vec_len};
 ghost use Rattle.p3_matrix.specs.Blocks.{Run, RunToRefusal, block, first_blocks};
+ghost use Rattle.p3_matrix.specs.Room.{IsWithin};
 ghost use Rattle.p3_matrix.specs.RowMajor.{IsRowMajor, RowMajor, height};
 
 use crate::dense::RowMajorMatrix;
@@ -164,8 +165,9 @@ impl<T> Recorder<T> {
     /// A recorder with room for `blocks` blocks and `elements` elements in all, in memory that is taken at
     /// once. Where it is refused, there is nothing but the error.
     pub fn with_room(alloc: Global, blocks: usize, elements: usize) -> Result<Self, DftError>
-        ensures { IfOk result (λ r. r ≡ record
+        ensures made { IfOk result (λ r. r ≡ record
             { blocks = []; missed = false; blocks_left = blocks; elements_left = elements }) }
+        ensures room { IfErr result (IsWithin (max blocks elements)) }
     {
         Ok(Recorder {
             places: growth::with_capacity(alloc, blocks)?,

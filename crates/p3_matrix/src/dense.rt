@@ -1,10 +1,11 @@
 //! Matrices that own their entries, which lie row after row.
 
-ghost use Rattle.std.specs.Prelude.{◌≡◌, ◌+◌, ◌*◌, ◌/◌, ◌<◌, ◌≤◌, IfOk, length};
+ghost use Rattle.std.specs.Prelude.{◌≡◌, ◌+◌, ◌*◌, ◌/◌, ◌<◌, ◌≤◌, IfErr, IfOk, length};
 ghost use Rattle.std.specs.Borrow.{sem};
 ghost use Rattle.std.specs.Iterator.Runs.{EveryRun, IsChunksExactRun};
 ghost use Rattle.std.specs.Slice.Iter.{chunks_exact_rest, chunks_exact_size, chunks_exact_steps};
 ghost use Rattle.p3_matrix.specs.RowMajor.{RowMajor, IsRowMajor, height, row, rows_from};
+ghost use Rattle.p3_matrix.specs.Room.{IsWithin};
 
 use crate::error::DftError;
 use crate::views::{RowMajorMatrixView, RowMajorMatrixViewMut};
@@ -196,7 +197,8 @@ impl<T> RowMajorMatrix<T> {
     pub fn try_clone(&self) -> Result<Self, DftError>
     where
         T: Copy,
-        ensures { IfOk result (λ m. m ≡ self.now) }
+        ensures copy { IfOk result (λ m. m ≡ self.now) }
+        ensures room { IfErr result (IsWithin (length self.now.values)) }
     {
         let values = growth::from_slice(*self.allocator(), self.values())?;
         Ok(Self::new(values, self.width))

@@ -4,9 +4,11 @@ use growth::Refused;
 use thiserror::Error;
 
 /// Why a transform gave no answer.
-#[derive(Debug, Drop, PartialEq, Eq, Error)]
+#[derive(Debug, Drop, Error)]
 pub enum DftError {
-    /// Memory was asked for and refused: what it holds was made where that happened, and nowhere else can be.
+    /// Memory was asked for and refused, in the call that answers this or before it. What it holds is made by the
+    /// functions of `growth` alone, each where one growth of a vector was refused. Contracts see for how many
+    /// elements that vector was to have room.
     #[error("out of memory")]
     OutOfMemory(Refused),
 }

@@ -1,10 +1,11 @@
 //! The tables of cosets that the engine keeps until it ends.
 
 ghost use Rattle.std.specs.Prelude.{◌≡◌, ◌⊎◌, ◌↔◌, ℕ, ◌+◌, ◌-◌, ◌^◌, ◌<◌, ◌≤◌, [], ◌∷◌, ◌++◌, length, get_or};
-ghost use Rattle.std.specs.Prelude.{IsTrue, IsOk, IfOk, OnOk, OnErr, IfSome, IsNone};
+ghost use Rattle.std.specs.Prelude.{IsTrue, IsOk, IfErr, IfOk, OnOk, OnErr, IfSome, IsNone};
 ghost use Rattle.p3_networks.specs.Twiddles.{Coset, HasCoset, HasCosets, IsCosetAt, IsCosetOf, IsCosetTable};
 ghost use Rattle.p3_networks.specs.Twiddles.{AddsCosets, forward_root};
 ghost use Rattle.p3_matrix.specs.BitOrder.{rev};
+ghost use Rattle.p3_matrix.specs.Room.{IsWithin};
 ghost use Rattle.p3_matrix.specs.Cosets.{point};
 
 use crate::twiddles::{held, push_layer};
@@ -43,7 +44,8 @@ impl<F: TwoAdicField> CosetTable<F> {
     fn new(alloc: Global, log_h: usize, shift: F) -> Result<Self, DftError>
         requires within { log_h ≤ F.TWO_ADICITY }
         requires small { log_h < 64 }
-        ensures { IfOk result (λ t. t ≡ record { log_h = log_h; shift = shift }) }
+        ensures made { IfOk result (λ t. t ≡ record { log_h = log_h; shift = shift }) }
+        ensures room { IfErr result (IsWithin (2 ^ log_h - 1)) }
     {
         let twiddles = coset_layers(alloc, log_h, shift)?;
         Ok(CosetTable {
@@ -76,6 +78,7 @@ fn coset_layers<F: TwoAdicField>(alloc: Global, log_h: usize, shift: F) -> Resul
     requires small { log_h < 64 }
     ensures size { IfOk result (λ v. length v.items ≡ 2 ^ log_h - 1) }
     ensures table { IfOk result (λ v. IsCosetTable F.Field.own F.generator (F.value shift) log_h v.items) }
+    ensures room { IfErr result (IsWithin (2 ^ log_h - 1)) }
 {
     let mid = (log_h + 1) / 2;
     let mut twiddles = growth::with_capacity(alloc, (1 << log_h) - 1)?;
@@ -196,6 +199,7 @@ impl<F: TwoAdicField> CosetTables<F> {
         ensures once { HasCoset F.Field.own self.old log_h (F.value shift) → self.new ≡ self.old }
         ensures only { (self.new ≡ self.old) ⊎ (self.new ≡ self.old ++ record { log_h = log_h; shift = shift } ∷ []) }
         ensures refused { OnErr result (self.new ≡ self.old) }
+        ensures room { IfErr result (IsWithin (2 ^ log_h + length self.new)) }
     {
         let end = self.as_slice().len();
         self.make_among(alloc, log_h, shift, 0, end)
@@ -220,6 +224,7 @@ impl<F: TwoAdicField> CosetTables<F> {
         ensures once { HasCoset F.Field.own self.old log_h (F.value shift) → self.new ≡ self.old }
         ensures only { (self.new ≡ self.old) ⊎ (self.new ≡ self.old ++ record { log_h = log_h; shift = shift } ∷ []) }
         ensures refused { OnErr result (self.new ≡ self.old) }
+        ensures room { IfErr result (IsWithin (2 ^ log_h + length self.new)) }
     {
         if let Some(place) = self.find(log_h, shift, start, end) {
             return Ok(place);
@@ -261,6 +266,7 @@ impl<F: TwoAdicField> CosetTables<F> {
         ensures keeps { (k : ℕ) (s : F.Element) → HasCoset F.Field.own self.old k s
             → HasCoset F.Field.own self.new k s }
         ensures only { AddsCosets F.Field.own F.generator log_h added_bits (F.value shift) self.old self.new }
+        ensures room { IfErr result (IsWithin (2 ^ log_h + length self.new)) }
     {
         // The tables that are made here are of other cosets, and are not searched.
         let there = self.as_slice().len();
@@ -278,6 +284,7 @@ impl<F: TwoAdicField> CosetTables<F> {
         requires { ¬ (HasCoset F.Field.own self.old table.log_h (F.value table.shift)) }
         ensures added { IfOk result (λ _. self.new ≡ self.old ++ table ∷ []) }
         ensures refused { OnErr result (self.new ≡ self.old) }
+        ensures room { IfErr result (IsWithin (length self.new + 1)) }
     {
         let mut tables = match self.tables.take() {
             Some(tables) => tables,

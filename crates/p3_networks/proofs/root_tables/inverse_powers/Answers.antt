@@ -8,6 +8,7 @@ use Rattle.p3_field.proofs.Powers.{power-zero}
 use Rattle.p3_field.proofs.Roots.{inverse_root}
 use Rattle.p3_matrix.specs.BitOrder.{rev}
 use Rattle.p3_matrix.proofs.BitReversal.{rev_of_zero}
+use Rattle.p3_matrix.proofs.Rooms.{room_of}
 use Rattle.p3_networks.specs.Twiddles.{backward_root, block_powers, AreTwiddles}
 use Rattle.p3_networks.proofs.Tables.InversePowers.{inverse_entry}
 use Rattle.p3_networks.proofs.Layers.Halves.{in_first}
@@ -99,9 +100,15 @@ loop-l-preserved g c =
     let end : c.loop-b.b ≡ 2 ^ (l + 1) = omega (arith, c.loop-b-test.false, c.loop-b.auto.b-end, chunk.is, ap (λ (m : ℕ). 2 ^ m) (add-one l), two-pow-succ l) in
     subst (λ (m : ℕ). AreTwiddles field m (block_powers field (backward_root field g.F.TwoAdicField.generator) n) c.loop-b.inverse.items) end c.loop-b.invariant
 
-pub returns : goal.returns
-returns g c =
+pub returns-clause-powers : goal.returns-clause-powers
+returns-clause-powers g c =
     let field = g.F.Field in
     let n = c.args.log_h - 1 in
     let end : c.loop-l.l ≡ n = omega (arith, c.loop-l-test.false, c.loop-l.auto.l-end) in
     subst (λ (m : ℕ). AreTwiddles field (2 ^ m) (block_powers field (backward_root field g.F.TwoAdicField.generator) n) c.loop-l.inverse.items) end c.loop-l.invariant
+
+pub returns-in_err-push-2-clause-room : goal.returns-in_err-push-2-clause-room
+returns-in_err-push-2-clause-room g c =
+    let chunk = chunk_of (c.args.log_h - 1) c.loop-l.l (omega (arith, c.requires.some, c.requires.small)) (omega (arith, c.loop-l-test.true)) in
+    room_of c.from_residual-in_err-push-2.result _ _ _ c.from_residual-in_err-push-2.ensures
+    (omega (arith, chunk.room, c.requires.powers.size, c.loop-b.invariant.size, c.loop-b-test.true, c.loop-b.inverse.ok.0)) c.in_err-push-2.ensures.room

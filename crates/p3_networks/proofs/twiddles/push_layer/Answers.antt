@@ -1,4 +1,6 @@
-use Rattle.std.proofs.Common.{◌≡◌, ℕ, ◌+◌, ◌*◌, ◌^◌, [], ◌∷◌, ◌++◌, length, get_or, sym, ap, ◌∙◌, arith, add-one, length-append, ◌<◌}
+use Rattle.std.proofs.Common.{◌≡◌, ℕ, ◌+◌, ◌*◌, ◌^◌, [], ◌∷◌, ◌++◌, length, get_or, sym, ap, ◌∙◌, arith, add-one, length-append, ◌<◌, ◌≤◌, lit≤}
+use Rattle.std.proofs.Math.Nat.{pow-le-pow_right}
+use Rattle.p3_matrix.proofs.Rooms.{room_of}
 use Rattle.std.proofs.lemmas.List.{get_or_push}
 use Rattle.p3_field.specs.Ring.{power}
 use Rattle.p3_field.proofs.Powers.{power-zero}
@@ -60,3 +62,10 @@ returns-clause-size g c = at_end (λ l. length c.loop-l.twiddles.items ≡ lengt
 
 pub returns-clause-entries : goal.returns-clause-entries
 returns-clause-entries g c e inside = c.loop-l.invariant.entries e (at_end (λ l. e < 2 ^ l) c.args.bits c.loop-l.l c.loop-l-test.false c.loop-l.auto.l-end inside)
+
+pub returns-in_err-push_multiples-clause-room : goal.returns-in_err-push_multiples-clause-room
+returns-in_err-push_multiples-clause-room g c =
+    let most : 2 ^ (c.loop-l.l + 1) ≤ 2 ^ c.args.bits = pow-le-pow_right {n = 2} (lit≤ tt) (omega (arith, c.loop-l-test.true)) in
+    let twice : 2 ^ (c.loop-l.l + 1) ≡ 2 * 2 ^ c.loop-l.l = ap (λ k. 2 ^ k) (add-one c.loop-l.l) ∙ omega arith in
+    room_of c.from_residual-in_err-push_multiples.result _ _ _ c.from_residual-in_err-push_multiples.ensures
+    (omega (arith, most, twice, c.loop-l.invariant.size, c.len-start.ensures, c.args.twiddles.now.ok)) c.in_err-push_multiples.ensures.room

@@ -1,8 +1,8 @@
 use Rattle.std.proofs.Common.{◌≡◌, ◌+◌, length, get_or, ap, ◌∙◌, arith}
 use Rattle.p3_networks.proofs.twiddles.reversed_powers.Goals as goal
 
-pub returns : goal.returns
-returns g c =
+pub returns-clause-powers : goal.returns-clause-powers
+returns-clause-powers g c =
     let field = g.F.Field in
     let none : length c.in_ok-powers.powers.items ≡ 0 = ap length c.in_ok-powers.ensures.items in
     let now = c.push_layer.new.twiddles.items in

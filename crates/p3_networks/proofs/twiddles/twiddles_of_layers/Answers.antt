@@ -1,4 +1,6 @@
-use Rattle.std.proofs.Common.{◌≡◌, ◌+◌, ◌*◌, ◌-◌, ◌^◌, length, ap, ap₂, ◌∙◌, arith, add-one}
+use Rattle.std.proofs.Common.{◌≡◌, ◌+◌, ◌*◌, ◌-◌, ◌^◌, length, ap, ap₂, ◌∙◌, ◌≤◌, lit≤, arith, add-one}
+use Rattle.std.proofs.Math.Nat.{pow-le-pow_right}
+use Rattle.p3_matrix.proofs.Rooms.{room_of}
 use Rattle.std.proofs.lemmas.Nat.{pow_pos}
 use Rattle.p3_field.specs.Ring.{power}
 use Rattle.p3_field.proofs.Rings
@@ -29,3 +31,10 @@ returns-clause-size g c = at_end (λ l. length c.loop-l.powers.items ≡ 2 ^ l -
 
 pub returns-clause-table : goal.returns-clause-table
 returns-clause-table g c = at_end (λ l. AreTwiddlesOfLayers g.F.Field l (root_powers g.F.Field g.F.TwoAdicField.generator c.args.inverse) c.loop-l.powers.items) c.loop-l.l c.args.layers c.loop-l.auto.l-end c.loop-l-test.false c.loop-l.invariant.layers
+
+pub returns-in_err-push_layer-clause-room : goal.returns-in_err-push_layer-clause-room
+returns-in_err-push_layer-clause-room g c =
+    let most : 2 ^ (c.loop-l.l + 1) ≤ 2 ^ c.args.layers = pow-le-pow_right {n = 2} (lit≤ tt) (omega (arith, c.loop-l-test.true)) in
+    let twice : 2 ^ (c.loop-l.l + 1) ≡ 2 * 2 ^ c.loop-l.l = ap (λ k. 2 ^ k) (add-one c.loop-l.l) ∙ omega arith in
+    room_of c.from_residual-in_err-push_layer.result _ _ _ c.from_residual-in_err-push_layer.ensures
+    (omega (arith, most, twice, c.loop-l.invariant.full, pow_pos c.loop-l.l)) c.in_err-push_layer.ensures.room

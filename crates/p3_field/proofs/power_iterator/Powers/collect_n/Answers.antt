@@ -19,4 +19,4 @@ loop-i-preserved g c = record {
 }
 
 pub returns : goal.returns
-returns g c = record { long = c.loop-i.invariant.long ∙ le_antisymm c.loop-i.auto._i-end c.loop-i-test.false; powers = λ i below. c.loop-i.invariant.filled i (lt_of_lt_of_le below c.loop-i-test.false) }
+returns g c = record { long = c.loop-i.invariant.long ∙ le_antisymm c.loop-i.auto._i-end c.loop-i-test.false; powers = λ i below. c.loop-i.invariant.filled i (lt_of_lt_of_le below c.loop-i-test.false); room = tt }

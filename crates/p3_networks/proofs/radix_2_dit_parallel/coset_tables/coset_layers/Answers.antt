@@ -1,4 +1,6 @@
-use Rattle.std.proofs.Common.{◌≡◌, ◌+◌, ◌*◌, ◌-◌, ◌^◌, leb, length, ap, ap₂, ◌∙◌, arith, add-one}
+use Rattle.std.proofs.Common.{◌≡◌, ◌+◌, ◌*◌, ◌-◌, ◌^◌, leb, length, ap, ap₂, ◌∙◌, ◌≤◌, lit≤, arith, add-one}
+use Rattle.std.proofs.Math.Nat.{pow-le-pow_right}
+use Rattle.p3_matrix.proofs.Rooms.{room_of}
 use Rattle.std.proofs.lemmas.Nat.{pow_pos}
 use Rattle.p3_field.specs.Ring.{power}
 use Rattle.p3_networks.specs.Twiddles.{AreTwiddlesOfLayers, coset_twiddles, forward_root, layer_place, mid_of}
@@ -33,3 +35,10 @@ returns-clause-table g c =
     let log = c.args.log_h in
     at_end (λ n. AreTwiddlesOfLayers field n (λ i t. coset_twiddles field (forward_root field g.F.TwoAdicField.generator) (field.value c.args.shift) log i (layer_place (leb (mid_of log) i) i t)) c.loop-l.twiddles.items)
     c.loop-l.l log c.loop-l.auto.l-end c.loop-l-test.false c.loop-l.invariant.layers
+
+pub returns-in_err-push_layer-clause-room : goal.returns-in_err-push_layer-clause-room
+returns-in_err-push_layer-clause-room g c =
+    let most : 2 ^ (c.loop-l.l + 1) ≤ 2 ^ c.args.log_h = pow-le-pow_right {n = 2} (lit≤ tt) (omega (arith, c.loop-l-test.true)) in
+    let twice : 2 ^ (c.loop-l.l + 1) ≡ 2 * 2 ^ c.loop-l.l = ap (λ k. 2 ^ k) (add-one c.loop-l.l) ∙ omega arith in
+    room_of c.from_residual-in_err-push_layer.result _ _ _ c.from_residual-in_err-push_layer.ensures
+    (omega (arith, most, twice, c.loop-l.invariant.full, pow_pos c.loop-l.l)) c.in_err-push_layer.ensures.room

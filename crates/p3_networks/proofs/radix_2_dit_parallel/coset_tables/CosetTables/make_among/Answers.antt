@@ -22,18 +22,18 @@ nowhere f all k n s below behind (i, at) = ⊎_elim (λ less. below i less at) (
 pub push-requires : goal.push-requires
 push-requires g c there =
     nowhere g.F.Field c.args.self.now c.args.log_h c.args.end (g.F.Field.value c.args.shift) (c.find.ensures.none (search rules)) c.requires.others
-    (subst (λ t. HasCoset g.F.Field c.args.self.now t.log_h (g.F.Field.value t.shift)) c.in_ok-table.ensures there)
+    (subst (λ t. HasCoset g.F.Field c.args.self.now t.log_h (g.F.Field.value t.shift)) c.in_ok-table.ensures.made there)
 
 pub returns-clause-made : goal.returns-clause-made
 returns-clause-made g c =
-    added_last g.F.Field c.args.self.now c.as_slice-place.result.now c.push.new.self c.args.log_h c.args.shift c.in_ok-table.table c.as_slice-place.ensures c.in_ok-push.ensures.added c.in_ok-table.ensures
+    added_last g.F.Field c.args.self.now c.as_slice-place.result.now c.push.new.self c.args.log_h c.args.shift c.in_ok-table.table c.as_slice-place.ensures c.in_ok-push.ensures.added c.in_ok-table.ensures.made
 
 pub returns-clause-once : goal.returns-clause-once
 returns-clause-once g c has =
     absurd (nowhere g.F.Field c.args.self.now c.args.log_h c.args.end (g.F.Field.value c.args.shift) (c.find.ensures.none (search rules)) c.requires.others has)
 
 pub returns-clause-only : goal.returns-clause-only
-returns-clause-only g c = inr (c.in_ok-push.ensures.added ∙ ap (λ t. c.args.self.now ++ t ∷ []) c.in_ok-table.ensures)
+returns-clause-only g c = inr (c.in_ok-push.ensures.added ∙ ap (λ t. c.args.self.now ++ t ∷ []) c.in_ok-table.ensures.made)
 
 pub returns-in_err-push-clause-ready : goal.returns-in_err-push-clause-ready
 returns-in_err-push-clause-ready g c has =

@@ -1,4 +1,6 @@
-use Rattle.std.proofs.Common.{◌≡◌, ℕ, ◌⊎◌, inl, inr, ◌-◌, ◌^◌, ◌<◌, ◌≤◌, length, true, false, sym, subst, arith, ◌∙◌}
+use Rattle.std.proofs.Common.{◌≡◌, ℕ, ◌⊎◌, inl, inr, ◌+◌, ◌-◌, ◌/◌, ◌^◌, lit≤, ◌<◌, ◌≤◌, length, true, false, sym, subst, arith, ◌∙◌}
+use Rattle.std.proofs.Math.Nat.{pow-le-pow_right}
+use Rattle.p3_matrix.proofs.Rooms.{room_of}
 use Rattle.p3_networks.specs.Twiddles.{AreTwiddlesOfLayers, root_powers, mid_of}
 use Rattle.p3_networks.proofs.radix_2_dit_parallel.tables.Tables.make.Goals as goal
 
@@ -34,3 +36,13 @@ returns-clause-keeps g c = subst (λ n. n ≤ c.make.new.self) c.self.view_is c.
 
 pub returns-clause-made : goal.returns-clause-made
 returns-clause-made g c = c.in_ok-make.ensures.made
+
+-- the first half has no more layers than all
+few_layers : (log : ℕ) → 2 ^ ((log + 1) / 2) ≤ 2 ^ log
+few_layers log = pow-le-pow_right {n = 2} (lit≤ tt) (omega arith)
+
+pub returns-in_err-forward-clause-room : goal.returns-in_err-forward-clause-room
+returns-in_err-forward-clause-room g c = room_of c.from_residual.result _ _ _ c.from_residual.ensures (omega (arith, few_layers c.args.log_h)) c.in_err-forward.ensures.room
+
+pub returns-in_err-backward-clause-room : goal.returns-in_err-backward-clause-room
+returns-in_err-backward-clause-room g c = room_of c.from_residual-in_err-backward.result _ _ _ c.from_residual-in_err-backward.ensures (omega (arith, few_layers c.args.log_h)) c.in_err-backward.ensures.room

@@ -16,10 +16,10 @@ use denote.Signature.{plain, types_at}
 use denote.Triple.Entry.{alive}
 use denote.Triple.Walked.{Stays, walk_of, says, stay_none_ref, Goes-none_ref, ends_at}
 use denote.Builtin.{usize}
-use Rattle.p3_field.specs.contracts.packed.count.Count as token
-use Rattle.p3_field.specs.contracts.packed.count.Count.of as f
-use Rattle.p3_field.proofs.packed.count.Count.of.Statement.{statement}
-use Rattle.p3_field.proofs.packed.count.Count.of.Code as code
+use Rattle.growth.specs.contracts.count.Count as token
+use Rattle.growth.specs.contracts.count.Count.of as f
+use Rattle.growth.proofs.count.Count.of.Statement.{statement}
+use Rattle.growth.proofs.count.Count.of.Code as code
 
 abbrev stayed : Stays f.ended.signature.params f.ended.kept
 stayed = (stay_none_ref (0 ∷ []) tt (plain (λ _. usize)) yes, tt)

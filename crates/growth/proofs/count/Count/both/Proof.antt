@@ -15,10 +15,10 @@ use denote.Shadow.{pure_i}
 use denote.Signature.{plain, types_at}
 use denote.Triple.Entry.{alive}
 use denote.Triple.Walked.{Stays, walk_of, says, stay_none_ref, Goes-none_ref, ends_at}
-use Rattle.p3_field.specs.contracts.packed.count.Count as token
-use Rattle.p3_field.specs.contracts.packed.count.Count.both as f
-use Rattle.p3_field.proofs.packed.count.Count.both.Statement.{statement}
-use Rattle.p3_field.proofs.packed.count.Count.both.Code as code
+use Rattle.growth.specs.contracts.count.Count as token
+use Rattle.growth.specs.contracts.count.Count.both as f
+use Rattle.growth.proofs.count.Count.both.Statement.{statement}
+use Rattle.growth.proofs.count.Count.both.Code as code
 
 abbrev stayed : Stays f.ended.signature.params f.ended.kept
 stayed = (stay_none_ref (0 ∷ []) tt (plain (λ _. token.the_row)) yes, (stay_none_ref (1 ∷ []) tt (plain (λ _. token.the_row)) yes, tt))
