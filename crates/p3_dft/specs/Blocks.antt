@@ -19,11 +19,11 @@ abbrev pub HasError : {M C R : Type 0} → BlocksStopped M C R → DftError → 
 HasError (Refused consumer refusal) error = ⊤
 HasError (OutOfMemory unpublished) error = error ≡ unpublished.error
 
--- an extension with blocks was made, whether all of it was accepted or not
-abbrev pub IsNotOutOfMemory : {T M C R : Type 0} → Result T (BlocksStopped M C R) → Type 0
-IsNotOutOfMemory (Ok out) = ⊤
-IsNotOutOfMemory (Err (Refused consumer refusal)) = ⊤
-IsNotOutOfMemory (Err (OutOfMemory unpublished)) = ⊥
+-- an extension with blocks was made, whether all of it was accepted or not, or this error stopped it
+abbrev pub outcome : {T M C R : Type 0} → Result T (BlocksStopped M C R) → Result ⊤ DftError
+outcome (Ok out) = Ok tt
+outcome (Err (Refused consumer refusal)) = Ok tt
+outcome (Err (OutOfMemory unpublished)) = Err unpublished.error
 
 -- P, but where memory was refused
 abbrev pub UnlessOutOfMemory : {T M C R : Type 0} → Result T (BlocksStopped M C R) → Type 0 → Type 0

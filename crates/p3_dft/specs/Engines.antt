@@ -1,7 +1,9 @@
 -- What the clauses of the engines say again and again, in words.
-use Rattle.std.specs.Prelude.{◌≡◌, ◌↔◌, ◌⊎◌, ◌≢◌, ℕ, ◌+◌, ◌*◌, ◌^◌, ◌≤◌, max, List}
+use Rattle.std.specs.Prelude.{◌≡◌, ◌↔◌, ◌⊎◌, ◌≢◌, ℕ, ◌+◌, ◌*◌, ◌^◌, ◌≤◌, max, List, Result, IfErr, IsOk}
 use Rattle.std.specs.declared.vec.Vec.{Vec}
 use Rattle.p3_field.specs.declared.fields.Field.{Ghosts as FieldMembers}
+use Rattle.p3_matrix.specs.declared.error.DftError.{DftError}
+use Rattle.p3_matrix.specs.Room.{IsWithin}
 use Rattle.p3_matrix.specs.RowMajor.{RowMajor, height}
 use Rattle.p3_networks.specs.Twiddles.{Coset, HasCoset}
 use Rattle.p3_dft.specs.Extensions.{extension_bound}
@@ -26,8 +28,10 @@ pub record EngineFacts (E F : Type 0) : Type 1 where
   pub block_rows : ℕ → ℕ → ℕ
   -- how many products an engine has made
   pub products_made : E → ℕ
+  -- for how many more elements than an answer has entries it may ask in one growth: the tables that a list of tables keeps
+  pub more_room : E → ℕ
 
--- the facts of an engine whose extensions are an inverse transform and a transform on the larger coset, and published as one block
+-- the facts of an engine whose extensions are an inverse transform and a transform on the larger coset, and published as one block, and which asks for no more room than an answer takes
 abbrev pub plain_facts : {E F : Type 0} → (E → ℕ → Type 0) → (E → ℕ → F → Type 0) → (E → ℕ → Type 0) → (ℕ → ℕ → ℕ) → (E → ℕ) → EngineFacts E F
 plain_facts Succeeds SucceedsOnCoset IsReady transform_products products_made = record {
   Succeeds = Succeeds;
@@ -37,6 +41,7 @@ plain_facts Succeeds SucceedsOnCoset IsReady transform_products products_made = 
   extension_products = extension_bound transform_products;
   block_rows = λ k a. 2 ^ (k + a);
   products_made = products_made;
+  more_room = λ e. 0;
 }
 
 module _ {E F : Type 0} (facts : EngineFacts E F) where
@@ -47,26 +52,28 @@ module _ {E F : Type 0} (facts : EngineFacts E F) where
     pub keeps_ready : (k : ℕ) → facts.IsReady before k → facts.IsReady after k
     pub grows : facts.products_made before ≤ facts.products_made after
 
-  -- an engine after a call of 2 ^ k rows: whatever it answered, at most so many products were made, and where it answered the values, what is said of k is known
-  pub record IsAfter (before after : E) (answered : Type 0) (height : ℕ) (known : ℕ → Type 0) (products : ℕ → ℕ) : Type 0 where
+  -- an engine after a call of 2 ^ k rows: whatever it answered, at most so many products were made; where it answered the values, what is said of k is known;
+  -- and where it answered an error, the vector that was refused was to have room for no more elements than the answer has entries, and those that the engine may ask for besides
+  pub record IsAfter {A : Type 0} (before after : E) (result : Result A DftError) (height : ℕ) (known : ℕ → Type 0) (products : ℕ → ℕ) (entries : ℕ) : Type 0 where
     pub later : IsLater before after
-    pub ready : answered → AtLog height known
+    pub ready : IsOk result → AtLog height known
     pub cost : AtLog height (λ k. facts.products_made after ≤ facts.products_made before + products k)
+    pub refused : IfErr result (IsWithin (facts.more_room after + entries))
 
   -- after a transform of a matrix of m's shape or its inverse, with so many more products an entry
-  abbrev pub AfterDft : {T : Type 0} → E → E → Type 0 → RowMajor T → ℕ → Type 0
-  AfterDft before after answered m more =
-      IsAfter before after answered (height m) (facts.IsReady after) (λ k. facts.transform_products k m.width + more * (2 ^ k * m.width))
+  abbrev pub AfterDft : {A T : Type 0} → E → E → Result A DftError → RowMajor T → ℕ → Type 0
+  AfterDft before after result m more =
+      IsAfter before after result (height m) (facts.IsReady after) (λ k. facts.transform_products k m.width + more * (2 ^ k * m.width)) (height m * m.width)
 
   -- after an extension of one by a bits
-  abbrev pub AfterLde : {T : Type 0} → E → E → Type 0 → RowMajor T → ℕ → Type 0
-  AfterLde before after answered m a =
-      IsAfter before after answered (height m) (λ k. facts.IsReady after k × facts.IsReady after (k + a)) (λ k. facts.extension_products k a m.width)
+  abbrev pub AfterLde : {A T : Type 0} → E → E → Result A DftError → RowMajor T → ℕ → Type 0
+  AfterLde before after result m a =
+      IsAfter before after result (height m) (λ k. facts.IsReady after k × facts.IsReady after (k + a)) (λ k. facts.extension_products k a m.width) (height m * m.width * 2 ^ a)
 
   -- and after one by an inverse transform and a transform on the larger coset
-  abbrev pub AfterLdeByParts : {T : Type 0} → E → E → Type 0 → RowMajor T → ℕ → Type 0
-  AfterLdeByParts before after answered m a =
-      IsAfter before after answered (height m) (λ k. facts.IsReady after k × facts.IsReady after (k + a)) (λ k. extension_bound facts.transform_products k a m.width)
+  abbrev pub AfterLdeByParts : {A T : Type 0} → E → E → Result A DftError → RowMajor T → ℕ → Type 0
+  AfterLdeByParts before after result m a =
+      IsAfter before after result (height m) (λ k. facts.IsReady after k × facts.IsReady after (k + a)) (λ k. extension_bound facts.transform_products k a m.width) (height m * m.width * 2 ^ a)
 
   -- products that were counted elsewhere came to an engine, and what is promised and known of heights and cosets is the same
   pub record HasProductsMore (before after : E) (products : ℕ) : Type 0 where

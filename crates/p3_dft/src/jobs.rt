@@ -1,10 +1,11 @@
 //! Lists of transforms, answered one after another by one engine.
 
-ghost use Rattle.std.specs.Prelude.{◌≡◌, ℕ, ◌+◌, ◌≤◌, ◌⊎◌, [], length, take, IfOk, IfErr, IsOk, OnOk, OnErr};
+ghost use Rattle.std.specs.Prelude.{◌≡◌, ℕ, ◌+◌, ◌≤◌, ◌⊎◌, [], length, get_or, take, IfOk, IfErr, IsOk, OnOk, OnErr};
 ghost use Rattle.std.specs.List.{All, AllZip};
 ghost use Rattle.p3_dft.specs.Engines.{IsLater};
 ghost use Rattle.p3_dft.specs.Jobs.{AreFirstAnswers, CanRun, HasMade, IsAnswer, IsCost, IsPromised, IsReadyFor};
-ghost use Rattle.p3_dft.specs.Jobs.{NextIsNotPromised};
+ghost use Rattle.p3_dft.specs.Jobs.{NextIsNotPromised, answer_entries};
+ghost use Rattle.p3_matrix.specs.Room.{IsWithin};
 
 use crate::traits::TwoAdicSubgroupDft;
 use p3_field::TwoAdicField;
@@ -93,6 +94,8 @@ pub fn run_jobs<F: TwoAdicField, D: TwoAdicSubgroupDft<F>>(
     ensures refused { IfErr result (λ stopped. ((engine.new ≡ engine.old) × (stopped.answers.items ≡ []))
         ⊎ NextIsNotPromised D.facts engine.old jobs.items stopped.answers.items) }
     ensures later { IsLater D.facts engine.old engine.new }
+    ensures room { IfErr result (λ stopped. (d : Job F) → IsWithin (D.facts.more_room engine.new + length jobs.items
+        + answer_entries (get_or jobs.items (length stopped.answers.items) d)) stopped.error) }
 {
     let mut answers = Vec::new(*jobs.allocator());
     match answer_jobs(engine, jobs, &mut answers) {
@@ -120,6 +123,8 @@ fn answer_jobs<F: TwoAdicField, D: TwoAdicSubgroupDft<F>>(
     ensures refused { OnErr result (((engine.new ≡ engine.old) × (answers.new.items ≡ []))
         ⊎ NextIsNotPromised D.facts engine.old jobs.items answers.new.items) }
     ensures later { IsLater D.facts engine.old engine.new }
+    ensures room { IfErr result (λ e. (d : Job F) → IsWithin (D.facts.more_room engine.new + length jobs.items
+        + answer_entries (get_or jobs.items (length answers.new.items) d)) e) }
 {
     growth::reserve_exact(answers, jobs.len())?;
     for job in jobs {
@@ -141,6 +146,7 @@ fn run_job<F: TwoAdicField, D: TwoAdicSubgroupDft<F>>(
     ensures cost { (n : ℕ) → IsCost D.facts job n
         → D.facts.products_made engine.new ≤ D.facts.products_made engine.old + n }
     ensures later { IsLater D.facts engine.old engine.new }
+    ensures room { IfErr result (IsWithin (D.facts.more_room engine.new + answer_entries job)) }
 {
     let values = match job {
         Job::Idft(mat) => return engine.idft_batch(mat),

@@ -1,9 +1,10 @@
 //! The transform by the networks of Bowers, whose twiddles are read one after another.
 
-ghost use Rattle.std.specs.Prelude.{◌≡◌, ℕ, ◌+◌, ◌*◌, ◌/◌, ◌^◌, ◌<◌, ◌≤◌, length, get_or, IfOk, OnErr, OnOk, Ok};
+ghost use Rattle.std.specs.Prelude.{◌≡◌, ℕ, ◌+◌, ◌*◌, ◌/◌, ◌^◌, ◌<◌, ◌≤◌, length, get_or, IfErr, IfOk, OnErr, OnOk, Ok};
 ghost use Rattle.p3_field.specs.Ring.{power};
 ghost use Rattle.p3_matrix.specs.BitOrder.{bit_reversal};
 ghost use Rattle.p3_matrix.specs.Matrix.{Matrix, Same, matrix, image};
+ghost use Rattle.p3_matrix.specs.Room.{IsWithin};
 ghost use Rattle.p3_matrix.specs.RowMajor.{HasShapeOf, IsRowMajor, height};
 ghost use Rattle.p3_matrix.specs.Cosets.{AreCoefficients, IsQuotient, IsValues, coset_shift, values_of};
 ghost use Rattle.p3_dft.specs.Engines.{AtLog};
@@ -67,7 +68,8 @@ impl Clone for Radix2Bowers {
 }
 
 impl<F: TwoAdicField> TwoAdicSubgroupDft<F> for Radix2Bowers {
-    ghost use Rattle.std.specs.Prelude.{◌≡◌, ⊤, ℕ, ◌+◌, ◌*◌, ◌/◌, ◌^◌, ◌≤◌, IfOk, IsOk, OnErr, Ok};
+    ghost use Rattle.std.specs.Prelude.{◌≡◌, ⊤, ℕ, ◌+◌, ◌*◌, ◌/◌, ◌^◌, ◌≤◌, IfErr, IfOk, IsOk, OnErr, Ok};
+    ghost use Rattle.p3_matrix.specs.Room.{IsWithin};
     ghost use Rattle.std.proofs.Common.{refl, rules};
     ghost use Rattle.p3_matrix.specs.RowMajor.{height};
     ghost use Rattle.p3_dft.specs.Engines.{AtLog, IsLater, plain_facts};
@@ -103,6 +105,7 @@ impl<F: TwoAdicField> TwoAdicSubgroupDft<F> for Radix2Bowers {
         ensures later { IsLater ⟦<Radix2Bowers as TwoAdicSubgroupDft<F>>⟧.facts self.old self.new }
         ensures cost { AtLog (height (N.stored mat))
             (λ k. self.new ≤ self.old + (N.stored mat).width * (k * 2 ^ k / 2)) }
+        ensures room { IfErr result (IsWithin (height (N.stored mat) * (N.stored mat).width)) }
     {
         let mut mat = mat.into_row_major_matrix();
         if mat.height() == 1 {
@@ -137,6 +140,7 @@ impl<F: TwoAdicField> TwoAdicSubgroupDft<F> for Radix2Bowers {
         ensures later { IsLater ⟦<Radix2Bowers as TwoAdicSubgroupDft<F>>⟧.facts self.old self.new }
         ensures cost { AtLog (height (N.stored mat))
             (λ k. self.new ≤ self.old + (N.stored mat).width * (k * 2 ^ k / 2) + 2 ^ k * (N.stored mat).width) }
+        ensures room { IfErr result (IsWithin (height (N.stored mat) * (N.stored mat).width)) }
     {
         let mut mat = mat.into_row_major_matrix();
         if mat.height() == 1 {
@@ -169,6 +173,7 @@ impl<F: TwoAdicField> TwoAdicSubgroupDft<F> for Radix2Bowers {
         ensures later { IsLater ⟦<Radix2Bowers as TwoAdicSubgroupDft<F>>⟧.facts self.old self.new }
         ensures cost { AtLog (height (N.stored mat)) (λ k. self.new
             ≤ self.old + extension_bound (λ n w. w * (n * 2 ^ n / 2)) k added_bits (N.stored mat).width) }
+        ensures room { IfErr result (IsWithin (height (N.stored mat) * (N.stored mat).width * 2 ^ added_bits)) }
     {
         let mut mat = mat.into_row_major_matrix();
         let log_h = log2_strict_usize(mat.height());
@@ -201,6 +206,7 @@ impl<F: TwoAdicField> TwoAdicSubgroupDft<F> for Radix2Bowers {
         ensures later { IsLater ⟦<Radix2Bowers as TwoAdicSubgroupDft<F>>⟧.facts self.old self.new }
         ensures cost { AtLog (height (N.stored mat)) (λ k. self.new
             ≤ self.old + extension_bound (λ n w. w * (n * 2 ^ n / 2)) k added_bits (N.stored mat).width) }
+        ensures room { IfErr result (IsWithin (height (N.stored mat) * (N.stored mat).width * 2 ^ added_bits)) }
     {
         let mut mat = mat.into_row_major_matrix();
         let log_h = log2_strict_usize(mat.height());
@@ -228,6 +234,7 @@ impl<F: TwoAdicField> TwoAdicSubgroupDft<F> for Radix2Bowers {
         ensures later { IsLater ⟦<Radix2Bowers as TwoAdicSubgroupDft<F>>⟧.facts self.old self.new }
         ensures cost { AtLog (height (N.stored mat)) (λ k. self.new
             ≤ self.old + extension_bound (λ n w. w * (n * 2 ^ n / 2)) k added_bits (N.stored mat).width) }
+        ensures room { IfErr result (IsWithin (height (N.stored mat) * (N.stored mat).width * 2 ^ added_bits)) }
     {
         let mut mat = mat.into_row_major_matrix();
         let log_h = log2_strict_usize(mat.height());
@@ -252,6 +259,7 @@ fn evaluate_to_natural<F: TwoAdicField>(
     ensures refused { OnErr result (products.new ≡ products.old) }
     ensures grows { products.old ≤ products.new }
     ensures cost { AtLog (height mat.old) (λ k. products.new ≤ products.old + mat.old.width * (k * 2 ^ k / 2)) }
+    ensures room { IfErr result (IsWithin (height mat.old * mat.old.width)) }
 {
     let log_h = log2_strict_usize(mat.height());
     let width = mat.width();
@@ -284,6 +292,7 @@ fn interpolate_unscaled_to_reversed<F: TwoAdicField>(
     ensures refused { OnErr result (products.new ≡ products.old) }
     ensures grows { products.old ≤ products.new }
     ensures cost { AtLog (height mat.old) (λ k. products.new ≤ products.old + mat.old.width * (k * 2 ^ k / 2)) }
+    ensures room { IfErr result (IsWithin (height mat.old * mat.old.width)) }
 {
     let height = mat.height();
     if height == 1 {
@@ -319,6 +328,7 @@ fn interpolate_to_reversed<F: TwoAdicField>(
     ensures grows { products.old ≤ products.new }
     ensures cost { AtLog (height mat.old)
         (λ k. products.new ≤ products.old + mat.old.width * (k * 2 ^ k / 2) + 2 ^ k * mat.old.width) }
+    ensures room { IfErr result (IsWithin (height mat.old * mat.old.width)) }
 {
     interpolate_unscaled_to_reversed(mat, products)?;
     divide_rows(mat, products);
@@ -339,6 +349,7 @@ fn extend_to_natural<F: TwoAdicField>(
     ensures grows { products.old ≤ products.new }
     ensures cost { AtLog (height mat)
         (λ k. products.new ≤ products.old + mat.width * ((k + added_bits) * 2 ^ (k + added_bits) / 2)) }
+    ensures room { IfErr result (IsWithin (height mat * mat.width * 2 ^ added_bits)) }
 {
     let mut mat = spread_over_zeros(mat, added_bits)?;
     evaluate_to_natural(&mut mat, products)?;
@@ -378,6 +389,7 @@ fn weigh_reversed_rows<F: TwoAdicField>(
         (coset_shift F.ring (F.value shift) (bit_reversal k (values_of F.Field.own mat.old)))))) }
     ensures grows { products.old ≤ products.new }
     ensures cost { products.new ≤ products.old + height mat.old * mat.old.width }
+    ensures room { IfErr result (IsWithin (height mat.old * mat.old.width)) }
 {
     let width = mat.width();
     let log_h = log2_strict_usize(mat.height());
@@ -400,6 +412,7 @@ fn spread_over_zeros<F: TwoAdicField>(
         → (matrix F.ZERO out).entry (i * 2 ^ added_bits) j ≡ (matrix F.ZERO mat).entry i j) }
     ensures others { IfOk result (λ out. (i r j : ℕ) → i < height mat → 0 < r → r < 2 ^ added_bits → j < mat.width
         → (matrix F.ZERO out).entry (i * 2 ^ added_bits + r) j ≡ F.ZERO) }
+    ensures room { IfErr result (IsWithin (height mat * mat.width * 2 ^ added_bits)) }
 {
     if added_bits == 0 {
         return Ok(mat);

@@ -1,6 +1,7 @@
 //! The transform by two halves of layers, each chunk by chunk, which leaves its rows in bit reversed order.
 
-ghost use Rattle.std.specs.Prelude.{◌≡◌, ◌↔◌, ◌⊎◌, ℕ, ◌+◌, ◌*◌, ◌/◌, ◌^◌, ◌<◌, ◌≤◌, IsTrue, IsOk, OnOk, OnErr, max};
+ghost use Rattle.std.specs.Prelude.{◌≡◌, ◌↔◌, ◌⊎◌, ℕ, ◌+◌, ◌*◌, ◌/◌, ◌^◌, ◌<◌, ◌≤◌, IsTrue, IfErr, IsOk, OnOk, OnErr, max};
+ghost use Rattle.p3_matrix.specs.Room.{IsWithin};
 ghost use Rattle.p3_dft.specs.Engines.{IsPrepared};
 
 mod extension;
@@ -102,6 +103,7 @@ impl<F: TwoAdicField> Radix2DitParallel<F> {
         ensures refused { OnErr result (self.new ≡ self.old) }
         ensures cosets { self.new.cosets ≡ self.old.cosets }
         ensures products { self.new.roots.products ≡ self.old.roots.products }
+        ensures room { IfErr result (IsWithin (2 ^ log_h)) }
     {
         self.tables.make(alloc, log_h)
     }
@@ -117,7 +119,8 @@ impl<F: TwoAdicField> Radix2DitParallel<F> {
 
 impl<F: TwoAdicField> TwoAdicSubgroupDft<F> for Radix2DitParallel<F> {
     ghost use Rattle.std.specs.Prelude.{◌≡◌, ◌≢◌, ◌⊎◌, ⊤, ℕ, ◌+◌, ◌-◌, ◌*◌, ◌/◌, ◌^◌, ◌≤◌, [], ◌∷◌, ◌++◌};
-    ghost use Rattle.std.specs.Prelude.{IfErr, IfOk, IsOk, OnOk, OnErr, Ok};
+    ghost use Rattle.std.specs.Prelude.{IfErr, IfOk, IsOk, OnOk, OnErr, Ok, length};
+    ghost use Rattle.p3_matrix.specs.Room.{IsWithin};
     ghost use Rattle.std.proofs.Common.{arith, refl};
     ghost use Rattle.p3_matrix.specs.BitOrder.{bit_reversal, reversed_rows};
     ghost use Rattle.p3_matrix.specs.RowMajor.{height};
@@ -125,7 +128,7 @@ impl<F: TwoAdicField> TwoAdicSubgroupDft<F> for Radix2DitParallel<F> {
     ghost use Rattle.p3_dft.specs.Engines.{PreparesNoneAbove, plain_facts};
     ghost use Rattle.p3_networks.specs.Twiddles.{AddsCosets, HasCoset, HasCosets, mid_of};
     ghost use Rattle.p3_dft.specs.Extensions.{AreTransformedValues, IsCallable, IsTransformedExtension, KeepsShape};
-    ghost use Rattle.p3_dft.specs.Blocks.{OnOutOfMemory, OnRefused, UnlessOutOfMemory};
+    ghost use Rattle.p3_dft.specs.Blocks.{OnOutOfMemory, OnRefused, UnlessOutOfMemory, outcome};
     ghost use Rattle.p3_matrix.specs.Blocks.{IsPublished, IsRefused};
     ghost use Rattle.p3_matrix.specs.Matrix.{Matrix};
     ghost use Rattle.p3_dft.specs.Shapes.{FitsDft, FitsLde};
@@ -143,6 +146,7 @@ impl<F: TwoAdicField> TwoAdicSubgroupDft<F> for Radix2DitParallel<F> {
         (λ _ _. ⊤) (λ k w. w * (k * 2 ^ k / 2)) (λ e. e.roots.products)) {
           extension_products = λ k a w. w * (k * 2 ^ k / 2 * (1 + 2 ^ a) + 2 ^ k);
           block_rows = λ k a. 2 ^ (k - mid_of k);
+          more_room = λ e. length e.cosets;
         } };
 
     ghost laws = { record {
@@ -172,6 +176,7 @@ impl<F: TwoAdicField> TwoAdicSubgroupDft<F> for Radix2DitParallel<F> {
         ensures later { IsLater ⟦<Radix2DitParallel<F> as TwoAdicSubgroupDft<F>>⟧.facts self.old self.new }
         ensures cost { AtLog (height (N.stored mat))
             (λ k. self.new.roots.products ≤ self.old.roots.products + (N.stored mat).width * (k * 2 ^ k / 2)) }
+        ensures room { IfErr result (IsWithin (length self.new.cosets + height (N.stored mat) * (N.stored mat).width)) }
     {
         let mut mat = mat.into_row_major_matrix();
         let height = mat.height();
@@ -231,6 +236,7 @@ impl<F: TwoAdicField> TwoAdicSubgroupDft<F> for Radix2DitParallel<F> {
             ≤ self.old.roots.products + (N.stored mat).width * (k * 2 ^ k / 2) + 2 ^ k * (N.stored mat).width) }
         ensures pairs { AtLog (height (N.stored mat)) (λ k. self.new.roots.products
             ≤ self.old.roots.products + (N.stored mat).width * (k * 2 ^ k / 2)) }
+        ensures room { IfErr result (IsWithin (length self.new.cosets + height (N.stored mat) * (N.stored mat).width)) }
     {
         if shift == F::ONE {
             return self.dft_batch(mat);
@@ -266,6 +272,7 @@ impl<F: TwoAdicField> TwoAdicSubgroupDft<F> for Radix2DitParallel<F> {
         ensures later { IsLater ⟦<Radix2DitParallel<F> as TwoAdicSubgroupDft<F>>⟧.facts self.old self.new }
         ensures cost { AtLog (height (N.stored mat)) (λ k. self.new.roots.products
             ≤ self.old.roots.products + (N.stored mat).width * (k * 2 ^ k / 2) + 2 ^ k * (N.stored mat).width) }
+        ensures room { IfErr result (IsWithin (length self.new.cosets + height (N.stored mat) * (N.stored mat).width)) }
     {
         let mut mat = mat.into_row_major_matrix();
         let height = mat.height();
@@ -313,6 +320,8 @@ impl<F: TwoAdicField> TwoAdicSubgroupDft<F> for Radix2DitParallel<F> {
         ensures later { IsLater ⟦<Radix2DitParallel<F> as TwoAdicSubgroupDft<F>>⟧.facts self.old self.new }
         ensures cost { AtLog (height (N.stored mat)) (λ k. self.new.roots.products
             ≤ self.old.roots.products + (N.stored mat).width * (k * 2 ^ k / 2 * (1 + 2 ^ added_bits) + 2 ^ k)) }
+        ensures room { IfErr result
+            (IsWithin (length self.new.cosets + height (N.stored mat) * (N.stored mat).width * 2 ^ added_bits)) }
     {
         let (values, _unread) = self.coset_lde_batch_with_blocks(
             mat,
@@ -371,6 +380,8 @@ impl<F: TwoAdicField> TwoAdicSubgroupDft<F> for Radix2DitParallel<F> {
         ensures later { IsLater ⟦<Radix2DitParallel<F> as TwoAdicSubgroupDft<F>>⟧.facts self.old self.new }
         ensures cost { AtLog (height (N.stored mat)) (λ k. self.new.roots.products
             ≤ self.old.roots.products + (N.stored mat).width * (k * 2 ^ k / 2 * (1 + 2 ^ added_bits) + 2 ^ k)) }
+        ensures room { IfErr (outcome result)
+            (IsWithin (length self.new.cosets + height (N.stored mat) * (N.stored mat).width * 2 ^ added_bits)) }
     {
         let mat = mat.into_row_major_matrix();
         let log_h = log2_strict_usize(mat.height());

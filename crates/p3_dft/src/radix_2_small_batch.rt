@@ -1,9 +1,10 @@
 //! The transform that does most layers on tiles of rows that stay in the cache.
 
 ghost use Rattle.std.specs.Prelude.{◌≡◌, ◌↔◌, ℕ, ◌+◌, ◌*◌, ◌/◌, ◌^◌, ◌<◌, ◌≤◌, max, IsTrue, IsOk, IfOk, OnOk};
-ghost use Rattle.std.specs.Prelude.{OnErr, Ok, [], length};
+ghost use Rattle.std.specs.Prelude.{IfErr, OnErr, Ok, [], length};
 ghost use Rattle.p3_matrix.specs.BitOrder.{bit_reversal};
 ghost use Rattle.p3_matrix.specs.Matrix.{Matrix, image};
+ghost use Rattle.p3_matrix.specs.Room.{IsWithin};
 ghost use Rattle.p3_matrix.specs.RowMajor.{HasShapeOf, IsRowMajor, RowMajor, height, with_zeros};
 ghost use Rattle.p3_matrix.specs.Cosets.{AreCoefficients, IsQuotient, IsValues, coset_shift, values_of};
 ghost use Rattle.p3_dft.specs.Engines.{AtLog, IsPrepared, PreparesNoneAbove};
@@ -102,6 +103,7 @@ impl<F: TwoAdicField> Radix2DFTSmallBatch<F> {
         ensures prepares { IfOk result (λ e. 2 ^ e.prepared ≡ max 1 n) }
         ensures ready { n ≤ 1 → IsOk result }
         ensures products { IfOk result (λ e. e.products ≡ 0) }
+        ensures room { IfErr result (IsWithin n) }
     {
         Self::with_tile(alloc, n, TILE)
     }
@@ -116,6 +118,7 @@ impl<F: TwoAdicField> Radix2DFTSmallBatch<F> {
         ensures prepares { IfOk result (λ e. 2 ^ e.prepared ≡ max 1 n) }
         ensures ready { n ≤ 1 → IsOk result }
         ensures products { IfOk result (λ e. e.products ≡ 0) }
+        ensures room { IfErr result (IsWithin n) }
     {
         let mut engine = Self::empty(tile);
         if n <= 1 {
@@ -136,6 +139,7 @@ impl<F: TwoAdicField> Radix2DFTSmallBatch<F> {
         ensures ready { IsPrepared self.old log_h → IsOk result }
         ensures refused { OnErr result (self.new ≡ self.old) }
         ensures products { self.new.products ≡ self.old.products }
+        ensures room { IfErr result (IsWithin (2 ^ log_h)) }
     {
         self.tables.make(alloc, log_h)
     }
@@ -150,7 +154,8 @@ impl<F: TwoAdicField> Radix2DFTSmallBatch<F> {
 }
 
 impl<F: TwoAdicField> TwoAdicSubgroupDft<F> for Radix2DFTSmallBatch<F> {
-    ghost use Rattle.std.specs.Prelude.{◌≡◌, ℕ, ◌+◌, ◌*◌, ◌/◌, ◌^◌, ◌≤◌, IfOk, IsOk, OnOk, OnErr, Ok, ⊤};
+    ghost use Rattle.std.specs.Prelude.{◌≡◌, ℕ, ◌+◌, ◌*◌, ◌/◌, ◌^◌, ◌≤◌, IfErr, IfOk, IsOk, OnOk, OnErr, Ok, ⊤};
+    ghost use Rattle.p3_matrix.specs.Room.{IsWithin};
     ghost use Rattle.std.proofs.Common.{refl, rules};
     ghost use Rattle.p3_matrix.specs.BitOrder.{reversed_rows};
     ghost use Rattle.p3_matrix.specs.RowMajor.{HasShapeOf, RowMajor, height};
@@ -190,6 +195,7 @@ impl<F: TwoAdicField> TwoAdicSubgroupDft<F> for Radix2DFTSmallBatch<F> {
         ensures later { IsLater ⟦<Radix2DFTSmallBatch<F> as TwoAdicSubgroupDft<F>>⟧.facts self.old self.new }
         ensures cost { AtLog (height (N.stored mat))
             (λ k. self.new.products ≤ self.old.products + (N.stored mat).width * (k * 2 ^ k / 2)) }
+        ensures room { IfErr result (IsWithin (height (N.stored mat) * (N.stored mat).width)) }
     {
         let mut mat = mat.into_row_major_matrix();
         let height = mat.height();
@@ -229,6 +235,7 @@ impl<F: TwoAdicField> TwoAdicSubgroupDft<F> for Radix2DFTSmallBatch<F> {
         ensures later { IsLater ⟦<Radix2DFTSmallBatch<F> as TwoAdicSubgroupDft<F>>⟧.facts self.old self.new }
         ensures cost { AtLog (height (N.stored mat)) (λ k. self.new.products
             ≤ self.old.products + (N.stored mat).width * (k * 2 ^ k / 2) + 2 ^ k * (N.stored mat).width) }
+        ensures room { IfErr result (IsWithin (height (N.stored mat) * (N.stored mat).width)) }
     {
         let mut mat = mat.into_row_major_matrix();
         let height = mat.height();
@@ -267,6 +274,7 @@ impl<F: TwoAdicField> TwoAdicSubgroupDft<F> for Radix2DFTSmallBatch<F> {
         ensures fewer { AtLog (height (N.stored mat)) (λ k. self.new.products
             ≤ self.old.products + (N.stored mat).width
             * (k * 2 ^ k / 2 * (1 + 2 ^ added_bits) + 2 ^ (k + added_bits))) }
+        ensures room { IfErr result (IsWithin (height (N.stored mat) * (N.stored mat).width * 2 ^ added_bits)) }
     {
         let mut mat = mat.into_row_major_matrix();
         let log_h = log2_strict_usize(mat.height());
@@ -310,6 +318,7 @@ impl<F: TwoAdicField> TwoAdicSubgroupDft<F> for Radix2DFTSmallBatch<F> {
         ensures fewer { AtLog (height (N.stored mat)) (λ k. self.new.products
             ≤ self.old.products + (N.stored mat).width
             * (k * 2 ^ k / 2 * (1 + 2 ^ added_bits) + 2 ^ (k + added_bits))) }
+        ensures room { IfErr result (IsWithin (height (N.stored mat) * (N.stored mat).width * 2 ^ added_bits)) }
     {
         self.coset_lde_batch(mat, added_bits, F::ONE)
     }
@@ -335,7 +344,7 @@ impl<F: TwoAdicField> TwoAdicSubgroupDft<F> for Radix2DFTSmallBatch<F> {
             (N.stored mat) added_bits (F.value shift) (reversed_rows out.bits out.physical)) }
         ensures only { AtLog (height (N.stored mat)) (λ k. PreparesNoneAbove (k + added_bits) self.old self.new) }
         ensures engine { AfterLde ⟦<Radix2DFTSmallBatch<F> as TwoAdicSubgroupDft<F>>⟧.facts self.old self.new
-            (IsOk result) (N.stored mat) added_bits }
+            result (N.stored mat) added_bits }
     {
         let mat = mat.into_row_major_matrix();
         let log_h = log2_strict_usize(mat.height());
@@ -377,7 +386,7 @@ impl<F: TwoAdicField> TwoAdicSubgroupDft<F> for Radix2DFTSmallBatch<F> {
             (N.stored mat) added_bits (F.value shift)) }
         ensures only { AtLog (height (N.stored mat)) (λ k. PreparesNoneAbove (k + added_bits) self.old self.new) }
         ensures engine { AfterLde ⟦<Radix2DFTSmallBatch<F> as TwoAdicSubgroupDft<F>>⟧.facts self.old self.new
-            (IsOk result) (N.stored mat) added_bits }
+            result (N.stored mat) added_bits }
     {
         let values = self.coset_lde_batch_bit_reversed(mat, added_bits, shift, transform)?;
         Ok(values.to_row_major_matrix())
@@ -488,6 +497,7 @@ fn extend_to_natural<F: TwoAdicField>(
     ensures grows { products.old ≤ products.new }
     ensures cost { products.new ≤ products.old
         + mat.width * (2 ^ added_bits * (log_h * 2 ^ log_h / 2) + 2 ^ (log_h + added_bits)) }
+    ensures room { IfErr result (IsWithin (height mat * mat.width * 2 ^ added_bits)) }
 {
     let alloc = *mat.allocator();
     let width = mat.width();

@@ -158,7 +158,7 @@ impl<F: TwoAdicField, D: TwoAdicSubgroupDft<F>> ReedSolomon<F, D> {
             → AgreeInRows (2 ^ self.old.code.log_message) other (values_of F.Field.own out)
             → Same other (values_of F.Field.own out)) }
         ensures code { self.new.code ≡ self.old.code }
-        ensures engine { AfterLde D.facts self.old.engine self.new.engine (IsOk result) (N.stored mat)
+        ensures engine { AfterLde D.facts self.old.engine self.new.engine result (N.stored mat)
             self.old.code.added_bits }
     {
         let values = self
@@ -178,9 +178,11 @@ impl<F: TwoAdicField, D: TwoAdicSubgroupDft<F>> ReedSolomon<F, D> {
         ensures exact { IfOk result (λ told.
             IsTrue told ↔ IsCodeword F.Field.own F.generator self.old.code (values_of F.Field.own word.now)) }
         ensures code { self.new.code ≡ self.old.code }
-        ensures engine { AfterDft D.facts self.old.engine self.new.engine (IsOk result) word.now 2 }
+        ensures engine { AfterDft D.facts self.old.engine self.new.engine result word.now 2 }
     {
         let message_height = self.message_height();
+        // Tells the prover that the rows are whole.
+        let _width = word.width();
         let coefficients = self.engine.coset_idft_batch(word.try_clone()?, self.shift)?;
         Ok(has_degree_below(&coefficients, message_height))
     }

@@ -4,7 +4,7 @@ ghost use Rattle.std.specs.Prelude.{◌≡◌, ◌+◌, ◌*◌, ◌^◌, ◌≤
 ghost use Rattle.p3_matrix.specs.BitOrder.{bit_reversal, reversed_rows};
 ghost use Rattle.p3_matrix.specs.Blocks.{IsPublished, IsRefused};
 ghost use Rattle.p3_matrix.specs.RowMajor.{height};
-ghost use Rattle.p3_dft.specs.Blocks.{IsNotOutOfMemory, OnOutOfMemory, OnRefused};
+ghost use Rattle.p3_dft.specs.Blocks.{OnOutOfMemory, OnRefused, outcome};
 ghost use Rattle.p3_dft.specs.Coordinates.{flat, flat_col};
 ghost use Rattle.p3_dft.specs.Engines.{AfterDft, AfterLde, AfterLdeByParts, AtLog, EngineFacts, EngineLaws};
 ghost use Rattle.p3_dft.specs.Engines.{HasProductsMore, col};
@@ -73,7 +73,7 @@ pub trait TwoAdicSubgroupDft<F: TwoAdicField>: Clone + Default {
         ensures values { IfOk result (λ out. IsTransform F.Field.own F.generator (N.stored mat) F.ring.one
             (Self.Evaluations.natural out)) }
         ensures succeeds { AtLog (height (N.stored mat)) (λ k. facts.Succeeds self.old k → IsOk result) }
-        ensures engine { AfterDft facts self.old self.new (IsOk result) (N.stored mat) 0 };
+        ensures engine { AfterDft facts self.old self.new result (N.stored mat) 0 };
 
     /// Adds to the engine's counter what was counted elsewhere. What the engine promises and knows of heights and
     /// cosets is the same afterwards.
@@ -92,7 +92,7 @@ pub trait TwoAdicSubgroupDft<F: TwoAdicField>: Clone + Default {
             (Self.Evaluations.natural out)) }
         ensures succeeds { AtLog (height (N.stored mat))
             (λ k. facts.Succeeds self.old k → facts.SucceedsOnCoset self.old k shift → IsOk result) }
-        ensures engine { AfterDft facts self.old self.new (IsOk result) (N.stored mat) 1 }
+        ensures engine { AfterDft facts self.old self.new result (N.stored mat) 1 }
     {
         let mut products = Products::new();
         let mut mat = mat.into_row_major_matrix();
@@ -110,7 +110,7 @@ pub trait TwoAdicSubgroupDft<F: TwoAdicField>: Clone + Default {
         requires fits { FitsDft F.TWO_ADICITY (height (N.stored mat)) (N.stored mat).width }
         ensures coefficients { IfOk result (IsInterpolation F.Field.own F.generator (N.stored mat) F.ring.one) }
         ensures succeeds { AtLog (height (N.stored mat)) (λ k. facts.Succeeds self.old k → IsOk result) }
-        ensures engine { AfterDft facts self.old self.new (IsOk result) (N.stored mat) 1 }
+        ensures engine { AfterDft facts self.old self.new result (N.stored mat) 1 }
     {
         let values = self.dft_batch(mat)?.to_row_major_matrix();
         let mut products = Products::new();
@@ -131,7 +131,7 @@ pub trait TwoAdicSubgroupDft<F: TwoAdicField>: Clone + Default {
         requires invertible { IsInvertible F.ring (F.value shift) }
         ensures coefficients { IfOk result (IsInterpolation F.Field.own F.generator (N.stored mat) (F.value shift)) }
         ensures succeeds { AtLog (height (N.stored mat)) (λ k. facts.Succeeds self.old k → IsOk result) }
-        ensures engine { AfterDft facts self.old self.new (IsOk result) (N.stored mat) 2 }
+        ensures engine { AfterDft facts self.old self.new result (N.stored mat) 2 }
     {
         let mut coefficients = self.idft_batch(mat)?;
         let mut products = Products::new();
@@ -162,7 +162,7 @@ pub trait TwoAdicSubgroupDft<F: TwoAdicField>: Clone + Default {
         requires shape { KeepsShape (N.stored mat) (λ m n. T.post transform m LAYOUT n) }
         ensures values { IfOk result (λ out. IsTransformedExtension F.Field.own F.generator (T.post transform) LAYOUT
             (N.stored mat) added_bits (F.value shift) (Self.Evaluations.natural out)) }
-        ensures engine { AfterLde facts self.old self.new (IsOk result) (N.stored mat) added_bits };
+        ensures engine { AfterLde facts self.old self.new result (N.stored mat) added_bits };
 
     /// What `coset_lde_batch_with_transform` answers, by an inverse transform, rows of zeros and a
     /// transform on the larger coset. An engine that has nothing better calls it there. The conditions
@@ -183,7 +183,7 @@ pub trait TwoAdicSubgroupDft<F: TwoAdicField>: Clone + Default {
         requires shape { KeepsShape (N.stored mat) (λ m n. T.post transform m LAYOUT n) }
         ensures values { IfOk result (λ out. IsTransformedExtension F.Field.own F.generator (T.post transform) LAYOUT
             (N.stored mat) added_bits (F.value shift) (Self.Evaluations.natural out)) }
-        ensures engine { AfterLdeByParts facts self.old self.new (IsOk result) (N.stored mat) added_bits }
+        ensures engine { AfterLdeByParts facts self.old self.new result (N.stored mat) added_bits }
     {
         let mut coefficients = self.idft_batch(mat)?;
         exchange_layouts(&mut coefficients, Self::LAYOUT);
@@ -210,7 +210,7 @@ pub trait TwoAdicSubgroupDft<F: TwoAdicField>: Clone + Default {
         requires shape { KeepsShape (N.stored mat) (λ m n. T.post transform m LAYOUT n) }
         ensures values { IfOk result (λ out. IsTransformedExtension F.Field.own F.generator (T.post transform) LAYOUT
             (N.stored mat) added_bits (F.value shift) (reversed_rows out.bits out.physical)) }
-        ensures engine { AfterLde facts self.old self.new (IsOk result) (N.stored mat) added_bits }
+        ensures engine { AfterLde facts self.old self.new result (N.stored mat) added_bits }
     {
         let values = self.coset_lde_batch_with_transform(mat, added_bits, shift, transform)?;
         Ok(values.into_bit_reversed())
@@ -231,7 +231,7 @@ pub trait TwoAdicSubgroupDft<F: TwoAdicField>: Clone + Default {
         requires fits { FitsLde F.TWO_ADICITY (height (N.stored mat)) (N.stored mat).width added_bits }
         ensures values { IfOk result (λ out. IsExtension F.Field.own F.generator (N.stored mat) added_bits
             (F.value shift) (Self.Evaluations.natural out)) }
-        ensures engine { AfterLde facts self.old self.new (IsOk result) (N.stored mat) added_bits }
+        ensures engine { AfterLde facts self.old self.new result (N.stored mat) added_bits }
     {
         self.coset_lde_batch_with_transform(
             mat,
@@ -253,7 +253,7 @@ pub trait TwoAdicSubgroupDft<F: TwoAdicField>: Clone + Default {
         requires fits { FitsLde F.TWO_ADICITY (height (N.stored mat)) (N.stored mat).width added_bits }
         ensures values { IfOk result (λ out. IsExtension F.Field.own F.generator (N.stored mat) added_bits
             F.ring.one (Self.Evaluations.natural out)) }
-        ensures engine { AfterLde facts self.old self.new (IsOk result) (N.stored mat) added_bits }
+        ensures engine { AfterLde facts self.old self.new result (N.stored mat) added_bits }
     {
         self.coset_lde_batch(mat, added_bits, F::ONE)
     }
@@ -303,7 +303,7 @@ pub trait TwoAdicSubgroupDft<F: TwoAdicField>: Clone + Default {
             × IsRefused C.step (M.post make_consumer (facts.block_rows k added_bits)) (values_of F.Field.own)
             (facts.block_rows k added_bits) (bit_reversal (k + added_bits) out) c r))) }
         ensures unpublished { IfErr result (λ e. OnOutOfMemory e (λ m. m ≡ make_consumer)) }
-        ensures engine { AfterLde facts self.old self.new (IsNotOutOfMemory result) (N.stored mat) added_bits }
+        ensures engine { AfterLde facts self.old self.new (outcome result) (N.stored mat) added_bits }
     {
         let mat = mat.into_row_major_matrix();
         let block_height = self.block_height(log2_strict_usize(mat.height()), added_bits);
@@ -348,7 +348,7 @@ pub trait TwoAdicSubgroupDft<F: TwoAdicField>: Clone + Default {
             × IsRefused C.step (M.post make_consumer (facts.block_rows k added_bits)) (values_of F.Field.own)
             (facts.block_rows k added_bits) (bit_reversal (k + added_bits) out) c r))) }
         ensures unpublished { IfErr result (λ e. OnOutOfMemory e (λ m. m ≡ make_consumer)) }
-        ensures engine { AfterLde facts self.old self.new (IsNotOutOfMemory result) (N.stored mat) added_bits }
+        ensures engine { AfterLde facts self.old self.new (outcome result) (N.stored mat) added_bits }
     {
         self.coset_lde_batch_with_blocks(
             mat,
@@ -370,7 +370,7 @@ pub trait TwoAdicSubgroupDft<F: TwoAdicField>: Clone + Default {
         requires fits { FitsDft F.TWO_ADICITY (vec_len vec) 1 }
         ensures values { IfOk result (λ out. IsTransform F.Field.own F.generator (col vec) F.ring.one (col out)) }
         ensures succeeds { AtLog (vec_len vec) (λ k. facts.Succeeds self.old k → IsOk result) }
-        ensures engine { AfterDft facts self.old self.new (IsOk result) (col vec) 0 }
+        ensures engine { AfterDft facts self.old self.new result (col vec) 0 }
     {
         let values = self.dft_batch(RowMajorMatrix::new_col(vec))?;
         Ok(values.to_row_major_matrix().into_values())
@@ -382,7 +382,7 @@ pub trait TwoAdicSubgroupDft<F: TwoAdicField>: Clone + Default {
         ensures values { IfOk result (λ out. IsTransform F.Field.own F.generator (col vec) (F.value shift) (col out)) }
         ensures succeeds { AtLog (vec_len vec)
             (λ k. facts.Succeeds self.old k → facts.SucceedsOnCoset self.old k shift → IsOk result) }
-        ensures engine { AfterDft facts self.old self.new (IsOk result) (col vec) 1 }
+        ensures engine { AfterDft facts self.old self.new result (col vec) 1 }
     {
         let values = self.coset_dft_batch(RowMajorMatrix::new_col(vec), shift)?;
         Ok(values.to_row_major_matrix().into_values())
@@ -394,7 +394,7 @@ pub trait TwoAdicSubgroupDft<F: TwoAdicField>: Clone + Default {
         ensures coefficients { IfOk result (λ out. IsInterpolation F.Field.own F.generator (col vec)
             F.ring.one (col out)) }
         ensures succeeds { AtLog (vec_len vec) (λ k. facts.Succeeds self.old k → IsOk result) }
-        ensures engine { AfterDft facts self.old self.new (IsOk result) (col vec) 1 }
+        ensures engine { AfterDft facts self.old self.new result (col vec) 1 }
     {
         Ok(self.idft_batch(RowMajorMatrix::new_col(vec))?.into_values())
     }
@@ -407,7 +407,7 @@ pub trait TwoAdicSubgroupDft<F: TwoAdicField>: Clone + Default {
         ensures coefficients { IfOk result (λ out. IsInterpolation F.Field.own F.generator (col vec)
             (F.value shift) (col out)) }
         ensures succeeds { AtLog (vec_len vec) (λ k. facts.Succeeds self.old k → IsOk result) }
-        ensures engine { AfterDft facts self.old self.new (IsOk result) (col vec) 2 }
+        ensures engine { AfterDft facts self.old self.new result (col vec) 2 }
     {
         Ok(
             self.coset_idft_batch(RowMajorMatrix::new_col(vec), shift)?
@@ -421,7 +421,7 @@ pub trait TwoAdicSubgroupDft<F: TwoAdicField>: Clone + Default {
         requires fits { FitsLde F.TWO_ADICITY (vec_len vec) 1 added_bits }
         ensures values { IfOk result (λ out. IsExtension F.Field.own F.generator (col vec) added_bits
             F.ring.one (col out)) }
-        ensures engine { AfterLde facts self.old self.new (IsOk result) (col vec) added_bits }
+        ensures engine { AfterLde facts self.old self.new result (col vec) added_bits }
     {
         let values = self.lde_batch(RowMajorMatrix::new_col(vec), added_bits)?;
         Ok(values.to_row_major_matrix().into_values())
@@ -438,7 +438,7 @@ pub trait TwoAdicSubgroupDft<F: TwoAdicField>: Clone + Default {
         requires fits { FitsLde F.TWO_ADICITY (vec_len vec) 1 added_bits }
         ensures values { IfOk result (λ out. IsExtension F.Field.own F.generator (col vec) added_bits
             (F.value shift) (col out)) }
-        ensures engine { AfterLde facts self.old self.new (IsOk result) (col vec) added_bits }
+        ensures engine { AfterLde facts self.old self.new result (col vec) added_bits }
     {
         let values = self.coset_lde_batch(RowMajorMatrix::new_col(vec), added_bits, shift)?;
         Ok(values.to_row_major_matrix().into_values())
@@ -456,7 +456,7 @@ pub trait TwoAdicSubgroupDft<F: TwoAdicField>: Clone + Default {
         requires fits { FitsDft F.TWO_ADICITY (height mat) (mat.width * V.DIMENSION) }
         ensures values { IfOk result (λ out. IsTransform F.Field.own F.generator (flat V.BasedVectorSpace.own mat)
             F.ring.one (flat V.BasedVectorSpace.own out)) }
-        ensures engine { AfterDft facts self.old self.new (IsOk result) (flat V.BasedVectorSpace.own mat) 0 }
+        ensures engine { AfterDft facts self.old self.new result (flat V.BasedVectorSpace.own mat) 0 }
     {
         let width = mat.width();
         let values = self.dft_batch(flatten(mat)?)?;
@@ -472,7 +472,7 @@ pub trait TwoAdicSubgroupDft<F: TwoAdicField>: Clone + Default {
         requires fits { FitsDft F.TWO_ADICITY (height mat) (mat.width * V.DIMENSION) }
         ensures values { IfOk result (λ out. IsTransform F.Field.own F.generator (flat V.BasedVectorSpace.own mat)
             (F.value shift) (flat V.BasedVectorSpace.own out)) }
-        ensures engine { AfterDft facts self.old self.new (IsOk result) (flat V.BasedVectorSpace.own mat) 1 }
+        ensures engine { AfterDft facts self.old self.new result (flat V.BasedVectorSpace.own mat) 1 }
     {
         let width = mat.width();
         let values = self.coset_dft_batch(flatten(mat)?, shift)?;
@@ -487,7 +487,7 @@ pub trait TwoAdicSubgroupDft<F: TwoAdicField>: Clone + Default {
         requires fits { FitsDft F.TWO_ADICITY (height mat) (mat.width * V.DIMENSION) }
         ensures coefficients { IfOk result (λ out. IsInterpolation F.Field.own F.generator
             (flat V.BasedVectorSpace.own mat) F.ring.one (flat V.BasedVectorSpace.own out)) }
-        ensures engine { AfterDft facts self.old self.new (IsOk result) (flat V.BasedVectorSpace.own mat) 1 }
+        ensures engine { AfterDft facts self.old self.new result (flat V.BasedVectorSpace.own mat) 1 }
     {
         let width = mat.width();
         let coefficients = self.idft_batch(flatten(mat)?)?;
@@ -504,7 +504,7 @@ pub trait TwoAdicSubgroupDft<F: TwoAdicField>: Clone + Default {
         requires invertible { IsInvertible F.ring (F.value shift) }
         ensures coefficients { IfOk result (λ out. IsInterpolation F.Field.own F.generator
             (flat V.BasedVectorSpace.own mat) (F.value shift) (flat V.BasedVectorSpace.own out)) }
-        ensures engine { AfterDft facts self.old self.new (IsOk result) (flat V.BasedVectorSpace.own mat) 2 }
+        ensures engine { AfterDft facts self.old self.new result (flat V.BasedVectorSpace.own mat) 2 }
     {
         let width = mat.width();
         let coefficients = self.coset_idft_batch(flatten(mat)?, shift)?;
@@ -520,7 +520,7 @@ pub trait TwoAdicSubgroupDft<F: TwoAdicField>: Clone + Default {
         requires fits { FitsLde F.TWO_ADICITY (height mat) (mat.width * V.DIMENSION) added_bits }
         ensures values { IfOk result (λ out. IsExtension F.Field.own F.generator
             (flat V.BasedVectorSpace.own mat) added_bits F.ring.one (flat V.BasedVectorSpace.own out)) }
-        ensures engine { AfterLde facts self.old self.new (IsOk result) (flat V.BasedVectorSpace.own mat) added_bits }
+        ensures engine { AfterLde facts self.old self.new result (flat V.BasedVectorSpace.own mat) added_bits }
     {
         let width = mat.width();
         let values = self.lde_batch(flatten(mat)?, added_bits)?;
@@ -537,7 +537,7 @@ pub trait TwoAdicSubgroupDft<F: TwoAdicField>: Clone + Default {
         requires fits { FitsLde F.TWO_ADICITY (height mat) (mat.width * V.DIMENSION) added_bits }
         ensures values { IfOk result (λ out. IsExtension F.Field.own F.generator
             (flat V.BasedVectorSpace.own mat) added_bits (F.value shift) (flat V.BasedVectorSpace.own out)) }
-        ensures engine { AfterLde facts self.old self.new (IsOk result) (flat V.BasedVectorSpace.own mat) added_bits }
+        ensures engine { AfterLde facts self.old self.new result (flat V.BasedVectorSpace.own mat) added_bits }
     {
         let width = mat.width();
         let values = self.coset_lde_batch(flatten(mat)?, added_bits, shift)?;
@@ -549,7 +549,7 @@ pub trait TwoAdicSubgroupDft<F: TwoAdicField>: Clone + Default {
         requires fits { FitsDft F.TWO_ADICITY (vec_len vec) V.DIMENSION }
         ensures values { IfOk result (λ out. IsTransform F.Field.own F.generator
             (flat_col V.BasedVectorSpace.own vec) F.ring.one (flat_col V.BasedVectorSpace.own out)) }
-        ensures engine { AfterDft facts self.old self.new (IsOk result) (flat_col V.BasedVectorSpace.own vec) 0 }
+        ensures engine { AfterDft facts self.old self.new result (flat_col V.BasedVectorSpace.own vec) 0 }
     {
         Ok(
             self.dft_algebra_batch(RowMajorMatrix::new_col(vec))?
@@ -566,7 +566,7 @@ pub trait TwoAdicSubgroupDft<F: TwoAdicField>: Clone + Default {
         requires fits { FitsDft F.TWO_ADICITY (vec_len vec) V.DIMENSION }
         ensures values { IfOk result (λ out. IsTransform F.Field.own F.generator
             (flat_col V.BasedVectorSpace.own vec) (F.value shift) (flat_col V.BasedVectorSpace.own out)) }
-        ensures engine { AfterDft facts self.old self.new (IsOk result) (flat_col V.BasedVectorSpace.own vec) 1 }
+        ensures engine { AfterDft facts self.old self.new result (flat_col V.BasedVectorSpace.own vec) 1 }
     {
         Ok(
             self.coset_dft_algebra_batch(RowMajorMatrix::new_col(vec), shift)?
@@ -582,7 +582,7 @@ pub trait TwoAdicSubgroupDft<F: TwoAdicField>: Clone + Default {
         requires fits { FitsDft F.TWO_ADICITY (vec_len vec) V.DIMENSION }
         ensures coefficients { IfOk result (λ out. IsInterpolation F.Field.own F.generator
             (flat_col V.BasedVectorSpace.own vec) F.ring.one (flat_col V.BasedVectorSpace.own out)) }
-        ensures engine { AfterDft facts self.old self.new (IsOk result) (flat_col V.BasedVectorSpace.own vec) 1 }
+        ensures engine { AfterDft facts self.old self.new result (flat_col V.BasedVectorSpace.own vec) 1 }
     {
         Ok(
             self.idft_algebra_batch(RowMajorMatrix::new_col(vec))?
@@ -600,7 +600,7 @@ pub trait TwoAdicSubgroupDft<F: TwoAdicField>: Clone + Default {
         requires invertible { IsInvertible F.ring (F.value shift) }
         ensures coefficients { IfOk result (λ out. IsInterpolation F.Field.own F.generator
             (flat_col V.BasedVectorSpace.own vec) (F.value shift) (flat_col V.BasedVectorSpace.own out)) }
-        ensures engine { AfterDft facts self.old self.new (IsOk result) (flat_col V.BasedVectorSpace.own vec) 2 }
+        ensures engine { AfterDft facts self.old self.new result (flat_col V.BasedVectorSpace.own vec) 2 }
     {
         Ok(
             self.coset_idft_algebra_batch(RowMajorMatrix::new_col(vec), shift)?
@@ -617,7 +617,7 @@ pub trait TwoAdicSubgroupDft<F: TwoAdicField>: Clone + Default {
         requires fits { FitsLde F.TWO_ADICITY (vec_len vec) V.DIMENSION added_bits }
         ensures values { IfOk result (λ out. IsExtension F.Field.own F.generator
             (flat_col V.BasedVectorSpace.own vec) added_bits F.ring.one (flat_col V.BasedVectorSpace.own out)) }
-        ensures engine { AfterLde facts self.old self.new (IsOk result)
+        ensures engine { AfterLde facts self.old self.new result
             (flat_col V.BasedVectorSpace.own vec) added_bits }
     {
         Ok(
@@ -636,7 +636,7 @@ pub trait TwoAdicSubgroupDft<F: TwoAdicField>: Clone + Default {
         requires fits { FitsLde F.TWO_ADICITY (vec_len vec) V.DIMENSION added_bits }
         ensures values { IfOk result (λ out. IsExtension F.Field.own F.generator
             (flat_col V.BasedVectorSpace.own vec) added_bits (F.value shift) (flat_col V.BasedVectorSpace.own out)) }
-        ensures engine { AfterLde facts self.old self.new (IsOk result)
+        ensures engine { AfterLde facts self.old self.new result
             (flat_col V.BasedVectorSpace.own vec) added_bits }
     {
         Ok(

@@ -1,8 +1,12 @@
 -- An engine after one call and then another.
-use Rattle.std.proofs.Common.{ℕ, ◌≡◌, ◌+◌, ◌*◌, ◌^◌, ◌≤◌, Result, Ok, Err, IsOk, IsErr, refl, ap, ap₂, ◌∙◌, add-one, arith, rules}
+use Rattle.std.proofs.Common.{ℕ, ◌≡◌, ◌+◌, ◌*◌, ◌^◌, ◌≤◌, Result, Ok, Err, IsOk, IsErr, IfErr, IsErrAnd, refl, ap, ap₂, ◌∙◌, add-one, arith, rules, subst, sym}
 use Rattle.std.proofs.Math.Nat.{le_refl, suc-mul}
 use Rattle.std.specs.Result.{OnOk}
+use Rattle.p3_matrix.specs.declared.error.DftError.{DftError}
+use Rattle.p3_matrix.specs.Room.{IsWithin}
+use Rattle.p3_matrix.proofs.Rooms.{room_of}
 use Rattle.p3_matrix.specs.RowMajor.{HasShapeOf, RowMajor, height}
+use Rattle.p3_dft.proofs.Calls.Shapes.{extended_entries}
 use Rattle.p3_dft.specs.Engines.{AfterDft, EngineFacts, HasProductsMore, IsAfter, IsLater}
 
 -- an error is no answer
@@ -37,31 +41,44 @@ module _ {E F : Type 0} (facts : EngineFacts E F) where
   }
 
   -- memory was refused before a product was made
-  pub after_error : {A X : Type 0} {h : ℕ} {known : ℕ → Type 0} {p : ℕ → ℕ} (a b : E) (r : Result A X) → IsErr r → IsLater facts a b → facts.products_made b ≡ facts.products_made a
-      → IsAfter facts a b (IsOk r) h known p
-  after_error a b r none later same = record { later = later; ready = λ ok. absurd (no_answer r none ok); cost = λ k high. omega (arith, same) }
+  pub after_error : {A : Type 0} {h entries : ℕ} {known : ℕ → Type 0} {p : ℕ → ℕ} (a b : E) (r : Result A DftError) → IsErr r → IsLater facts a b → facts.products_made b ≡ facts.products_made a
+      → IfErr r (IsWithin (facts.more_room b + entries)) → IsAfter facts a b r h known p entries
+  after_error a b r none later same room = record { later = later; ready = λ ok. absurd (no_answer r none ok); cost = λ k high. omega (arith, same); refused = room }
 
-  -- memory was refused after a part of a call, which made no more products than all of it may
-  pub after_part : {A X : Type 0} {h : ℕ} {known more_known : ℕ → Type 0} {p q : ℕ → ℕ} (a b : E) (answered : Type 0) (r : Result A X) → IsErr r → ((k : ℕ) → p k ≤ q k)
-      → IsAfter facts a b answered h known p → IsAfter facts a b (IsOk r) h more_known q
-  after_part a b answered r none fewer call = record {
+  -- memory was refused to what follows a part of a call, which made no more products than all of it may
+  pub after_part : {A B : Type 0} {h few entries : ℕ} {known more_known : ℕ → Type 0} {p q : ℕ → ℕ} (a b : E) (s : Result B DftError) (r : Result A DftError) → IsErr r → ((k : ℕ) → p k ≤ q k)
+      → IfErr r (IsWithin (facts.more_room b + entries)) → IsAfter facts a b s h known p few → IsAfter facts a b r h more_known q entries
+  after_part a b s r none fewer room call = record {
     later = call.later;
     ready = λ ok. absurd (no_answer r none ok);
     cost = λ k high. let made = call.cost k high in omega (arith, made, fewer k);
+    refused = room;
   }
 
-  -- where less is answered
-  pub where_answered : {h : ℕ} {known : ℕ → Type 0} {p : ℕ → ℕ} (a b : E) (answered now : Type 0) → (now → answered) → IsAfter facts a b answered h known p → IsAfter facts a b now h known p
-  where_answered a b answered now there call = record { later = call.later; ready = λ yes. call.ready (there yes); cost = call.cost }
+  -- memory was refused to a part of a call, and `?` hands the error on
+  pub part_refused : {A B : Type 0} {h few entries : ℕ} {known more_known : ℕ → Type 0} {p q : ℕ → ℕ} (a b : E) (e : DftError) (r : Result A DftError) → IsErr r × IsErrAnd r (λ y. y ≡ e) → ((k : ℕ) → p k ≤ q k)
+      → few ≤ entries → IsAfter facts {A = B} a b (Err e) h known p few → IsAfter facts a b r h more_known q entries
+  part_refused {few = few} {entries = entries} a b e r told fewer smaller call =
+      after_part a b (Err e) r told.0 fewer (room_of r e (facts.more_room b + few) (facts.more_room b + entries) told (omega (arith, smaller)) call.refused) call
 
-  -- memory was refused after a call, whose bound is that of the whole
-  pub after_refusal : {A X : Type 0} {h : ℕ} {known : ℕ → Type 0} {p : ℕ → ℕ} (a b : E) (answered : Type 0) (r : Result A X) → IsErr r → IsAfter facts a b answered h known p → IsAfter facts a b (IsOk r) h known p
-  after_refusal a b answered r none call = where_answered a b answered (IsOk r) (λ ok. absurd (no_answer r none ok)) call
+  -- the same where the bounds are those of the whole
+  pub after_refusal : {A B : Type 0} {h entries : ℕ} {known : ℕ → Type 0} {p : ℕ → ℕ} (a b : E) (e : DftError) (r : Result A DftError) → IsErr r × IsErrAnd r (λ y. y ≡ e)
+      → IsAfter facts {A = B} a b (Err e) h known p entries → IsAfter facts a b r h known p entries
+  after_refusal a b e r told call = part_refused a b e r told (λ k. le_refl _) (le_refl _) call
+
+  -- the answer, as it is stored
+  pub as_stored : {A B : Type 0} {v : A} {w : B} {h entries : ℕ} {known : ℕ → Type 0} {p : ℕ → ℕ} (a b : E) → IsAfter facts a b (Ok v) h known p entries → IsAfter facts a b (Ok w) h known p entries
+  as_stored a b call = record { later = call.later; ready = λ yes. call.ready refl; cost = call.cost; refused = tt }
+
+  -- where less is answered
+  pub where_answered : {A B : Type 0} {h entries : ℕ} {known : ℕ → Type 0} {p : ℕ → ℕ} (a b : E) (s : Result B DftError) (r : Result A DftError) → (IsOk r → IsOk s) → IfErr r (IsWithin (facts.more_room b + entries))
+      → IsAfter facts a b s h known p entries → IsAfter facts a b r h known p entries
+  where_answered a b s r there room call = record { later = call.later; ready = λ yes. call.ready (there yes); cost = call.cost; refused = room }
 
   -- products, at most one an entry, and then a transform of a matrix of the same shape
-  pub transform_after : {T S : Type 0} (m : RowMajor T) (n : RowMajor S) (a b c : E) (answered : Type 0) (products : ℕ) → HasShapeOf n m → products ≤ height m * m.width
-      → HasProductsMore facts a b products → AfterDft facts b c answered n 0 → AfterDft facts a c answered m 1
-  transform_after m n a b c answered products (tall, wide) most more call = record {
+  pub transform_after : {A T S : Type 0} (m : RowMajor T) (n : RowMajor S) (a b c : E) (r : Result A DftError) (products : ℕ) → HasShapeOf n m → products ≤ height m * m.width
+      → HasProductsMore facts a b products → AfterDft facts b c r n 0 → AfterDft facts a c r m 1
+  transform_after m n a b c r products (tall, wide) most more call = record {
     later = later_still a b c (later_by_products a b products more) call.later;
     ready = λ yes k high. call.ready yes k (tall ∙ high);
     cost = λ k high.
@@ -69,34 +86,37 @@ module _ {E F : Type 0} (facts : EngineFacts E F) where
         let same : facts.transform_products k n.width ≡ facts.transform_products k m.width = ap (facts.transform_products k) wide in
         let entries : height m * m.width ≡ 2 ^ k * m.width = ap (λ h. h * m.width) high in
         omega (arith, more.counter, made, same, entries, most);
+    refused = subst (λ (room : ℕ). IfErr r (IsWithin (facts.more_room c + room))) (ap₂ (λ (h w : ℕ). h * w) tall wide) call.refused;
   }
 
   -- a transform, and then products, at most one for each entry of a matrix of the same shape
-  pub products_after : {T S : Type 0} (first : ℕ) (m : RowMajor T) (n : RowMajor S) (a b c : E) (answered : Type 0) (products : ℕ) → HasShapeOf n m → products ≤ height n * n.width
-      → AfterDft facts a b answered m first → HasProductsMore facts b c products → AfterDft facts a c answered m (first + 1)
-  products_after first m n a b c answered products (tall, wide) most call more = record {
+  pub products_after : {A B T S : Type 0} {v : B} (first : ℕ) (m : RowMajor T) (n : RowMajor S) (a b c : E) (w : A) (products : ℕ) → HasShapeOf n m → products ≤ height n * n.width
+      → AfterDft facts a b (Ok v) m first → HasProductsMore facts b c products → AfterDft facts a c (Ok w) m (first + 1)
+  products_after first m n a b c w products (tall, wide) most call more = record {
     later = later_still a b c call.later (later_by_products b c products more);
-    ready = λ yes k high. (more.same_ready k).0 (call.ready yes k high);
+    ready = λ yes k high. (more.same_ready k).0 (call.ready refl k high);
     cost = λ k high.
         let made = call.cost k high in
         let entries : height n * n.width ≡ 2 ^ k * m.width = ap₂ (λ (h w : ℕ). h * w) (tall ∙ high) wide in
         let one_more : (first + 1) * (2 ^ k * m.width) ≡ first * (2 ^ k * m.width) + 2 ^ k * m.width = rw add-one (suc-mul first (2 ^ k * m.width)) in
         omega (arith, more.counter, made, entries, most, one_more);
+    refused = tt;
   }
 
   -- an inverse, and a transform of 2 ^ bits times as many rows
-  pub parts_after : {T S : Type 0} (first last : ℕ) (m : RowMajor T) (grown : RowMajor S) (bits : ℕ) (p : ℕ → ℕ) (a b c : E) (answered now : Type 0) → answered
+  pub parts_after : {A B T S : Type 0} {v : B} (first last : ℕ) (m : RowMajor T) (grown : RowMajor S) (bits : ℕ) (p : ℕ → ℕ) (a b c : E) (r : Result A DftError) → (log : ℕ) → height m ≡ 2 ^ log
       → ((k : ℕ) → height m ≡ 2 ^ k → height grown ≡ 2 ^ (k + bits)) → grown.width ≡ m.width
       → ((k : ℕ) → facts.transform_products k m.width + first * (2 ^ k * m.width) + (facts.transform_products (k + bits) m.width + last * (2 ^ (k + bits) * m.width)) ≤ p k)
-      → AfterDft facts a b answered m first → AfterDft facts b c now grown last
-      → IsAfter facts a c now (height m) (λ k. facts.IsReady c k × facts.IsReady c (k + bits)) p
-  parts_after first last m grown bits p a b c answered now given tall wide most one other = record {
+      → AfterDft facts a b (Ok v) m first → AfterDft facts b c r grown last
+      → IsAfter facts a c r (height m) (λ k. facts.IsReady c k × facts.IsReady c (k + bits)) p (height m * m.width * 2 ^ bits)
+  parts_after first last m grown bits p a b c r log whole tall wide most one other = record {
     later = later_still a b c one.later other.later;
-    ready = λ done k high. (other.later.keeps_ready k (one.ready given k high), other.ready done (k + bits) (tall k high));
+    ready = λ done k high. (other.later.keeps_ready k (one.ready refl k high), other.ready done (k + bits) (tall k high));
     cost = λ k high.
         let before = one.cost k high in
         let after = other.cost (k + bits) (tall k high) in
         let same : facts.transform_products (k + bits) grown.width + last * (2 ^ (k + bits) * grown.width) ≡ facts.transform_products (k + bits) m.width + last * (2 ^ (k + bits) * m.width) =
         ap (λ w. facts.transform_products (k + bits) w + last * (2 ^ (k + bits) * w)) wide in
         omega (arith, before, after, same, most k);
+    refused = subst (λ (room : ℕ). IfErr r (IsWithin (facts.more_room c + room))) (extended_entries log bits whole (tall log whole) wide) other.refused;
   }

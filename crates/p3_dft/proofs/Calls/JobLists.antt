@@ -91,14 +91,19 @@ module _ {F : Type 0} (f : FieldMembers F) (generator : ℕ → F) where
             (sym (taken (IsAnswer f generator) jobs done left answers split answered)) answered;
       }
 
+  -- the next job is the one whose place has no answer
+  pub next_is : (jobs done left later : List (Job F)) (job : Job F) (answers : List (RowMajor F)) (d : Job F) → jobs ≡ done ++ left → left ≡ job ∷ later → AllZip (IsAnswer f generator) done answers
+      → get_or jobs (length answers) d ≡ job
+  next_is jobs done left later job answers d split next answered =
+      let counted : length answers ≡ length done = AllZip-long (IsAnswer f generator) done answers answered in
+      ap (λ xs. get_or xs (length answers) d) (split ∙ ap (λ rest. done ++ rest) next) ∙ ap (λ n. get_or (done ++ job ∷ later) n d) counted ∙ get_or-append_seam done job later d
+
   -- where the next job was refused, it was not promised, nor was it before
   pub next_not_promised : {E : Type 0} (facts : EngineFacts E F) (jobs done left later : List (Job F)) (job : Job F) (answers : List (RowMajor F)) (before now : E)
       → jobs ≡ done ++ left → left ≡ job ∷ later → AllZip (IsAnswer f generator) done answers → IsLater facts before now
       → (IsPromised facts now job → ⊥) → NextIsNotPromised facts before jobs answers
   next_not_promised facts jobs done left later job answers before now split next answered kept refused d promised =
-      let counted : length answers ≡ length done = AllZip-long (IsAnswer f generator) done answers answered in
-      let is : get_or jobs (length answers) d ≡ job =
-      ap (λ xs. get_or xs (length answers) d) (split ∙ ap (λ rest. done ++ rest) next) ∙ ap (λ n. get_or (done ++ job ∷ later) n d) counted ∙ get_or-append_seam done job later d in
+      let is = next_is jobs done left later job answers d split next answered in
       refused (promised_later facts before now kept job (subst (λ (x : Job F). IsPromised facts before x) is promised))
 
 -- what holds of those that were taken holds of all, when none is left

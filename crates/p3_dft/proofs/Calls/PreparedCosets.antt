@@ -1,6 +1,6 @@
 -- Which cosets are prepared where tables were added.
 use Rattle.std.specs.Prelude.{⊤}
-use Rattle.std.proofs.Common.{◌≡◌, ◌⊎◌, inl, inr, ℕ, ◌≤◌, List, [], ◌∷◌, ◌++◌, sym, subst, length-append, arith}
+use Rattle.std.proofs.Common.{◌≡◌, ◌⊎◌, inl, inr, ℕ, ◌≤◌, List, [], ◌∷◌, ◌++◌, sym, subst, length, length-append, arith}
 use Rattle.std.proofs.Math.ListN.{get_or-append}
 use Rattle.p3_field.specs.declared.fields.Field.{Ghosts as FieldMembers}
 use Rattle.p3_networks.specs.Twiddles.{Coset, HasCoset, IsCosetOf}
@@ -16,6 +16,7 @@ coset_tabled_facts f transform_products extension_products block_rows =
     record (plain_facts (λ e. IsPrepared e.roots) (λ e k s. IsCosetPrepared f e k (f.value s)) (λ _ _. ⊤) transform_products (λ e. e.roots.products)) {
       extension_products = extension_products;
       block_rows = block_rows;
+      more_room = λ e. length e.cosets;
     }
 
 module _ {F : Type 0} (f : FieldMembers F) where

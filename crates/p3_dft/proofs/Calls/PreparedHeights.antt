@@ -17,6 +17,7 @@ tabled_facts transform_products extension_products block_rows = record {
   extension_products = extension_products;
   block_rows = block_rows;
   products_made = λ e. e.products;
+  more_room = λ e. 0;
 }
 
 module _ {F : Type 0} (t : ℕ → ℕ → ℕ) (x : ℕ → ℕ → ℕ → ℕ) (b : ℕ → ℕ → ℕ) where

@@ -5,6 +5,7 @@ ghost use Rattle.std.specs.Prelude.{OnOk, length};
 ghost use Rattle.p3_matrix.specs.BitOrder.{bit_reversal};
 ghost use Rattle.p3_matrix.specs.Blocks.{AreBlocksOf, IsPartition, Run, RunToRefusal};
 ghost use Rattle.p3_matrix.specs.Matrix.{Matrix};
+ghost use Rattle.p3_matrix.specs.Room.{IsWithin};
 ghost use Rattle.p3_matrix.specs.RowMajor.{HasShapeOf, IsRowMajor, RowMajor, height, with_zeros};
 ghost use Rattle.p3_matrix.specs.Cosets.{IsValues, values_of};
 ghost use Rattle.p3_networks.specs.Twiddles.{AddsCosets, HasCoset, HasCosets, mid_of};
@@ -56,6 +57,7 @@ pub(crate) fn coefficients_with_room<
     ensures grows { products.old ≤ products.new }
     ensures cost { AtLog (height mat)
         (λ k. products.new ≤ products.old + mat.width * (k * 2 ^ k / 2) + 2 ^ k * mat.width) }
+    ensures room { IfErr result (IsWithin (length cosets.new + height mat * mat.width * 2 ^ added_bits)) }
 {
     let mut mat = mat;
     let alloc = *mat.allocator();

@@ -14,6 +14,8 @@ use Rattle.std.proofs.lemmas.Result.{IfOk-from_err}
 use Rattle.p3_dft.proofs.Calls.PreparedHeights.{some_log}
 use Rattle.p3_dft.proofs.Calls.Counts.{none_more}
 use Rattle.p3_dft.proofs.Calls.JobLists.{on_any_error}
+use Rattle.p3_matrix.proofs.Rooms.{room_of}
+use Rattle.p3_dft.proofs.Calls.Shapes.{half_table_fits}
 use Rattle.p3_dft.proofs.radix_2_bowers.interpolate_unscaled_to_reversed.Goals as goal
 
 pub two_adic_generator-generator-requires : goal.two_adic_generator-generator-requires
@@ -49,7 +51,7 @@ network_g_transposed-requires-clause-twiddles g c =
     let root : field.value c.inverse-inverse.result ≡ inverse_root field.ring gen log =
     Rings.inverse_unique field.ring (gen log) (field.value c.inverse-inverse.result) (inverse_root field.ring gen log) undone
     ((inverse_undoes field.ring g.met.F.TwoAdicField.roots_law).undo log (omega (arith, same, c.requires.fits.within))) in
-    let table = c.in_ok-twiddles.ensures in
+    let table = c.in_ok-twiddles.ensures.powers in
     record {
       size = ap length c.as_slice.ensures.value ∙ table.size;
       entries = λ b below.
@@ -67,7 +69,7 @@ network_g_transposed-requires-clause-some g c = some_log c.height-height.result 
 pub returns-in_err-twiddles : goal.returns-in_err-twiddles
 returns-in_err-twiddles g c =
     let err = c.from_residual.ensures.0 in
-    record { whole = c.width-width.ensures.whole; shape = IfOk-from_err _ _ err; size = IfOk-from_err _ _ err; coefficients = λ k high. IfOk-from_err _ _ err; refused = on_any_error _ refl; grows = le_refl _; cost = λ k high. none_more _ _ _ refl }
+    record { whole = c.width-width.ensures.whole; shape = IfOk-from_err _ _ err; size = IfOk-from_err _ _ err; coefficients = λ k high. IfOk-from_err _ _ err; refused = on_any_error _ refl; grows = le_refl _; cost = λ k high. none_more _ _ _ refl; room = room_of c.from_residual.result _ _ _ c.from_residual.ensures (half_table_fits _ c.requires.fits (sym c.height-height.ensures.height ∙ c.log2_strict_usize-log_h.ensures.power)) c.in_err-twiddles.ensures.room }
 
 pub returns : goal.returns
 returns g c =
@@ -77,6 +79,7 @@ returns g c =
       size = written_size c.args.mat.now.values c.network_g_transposed.new.values (c.network_g_transposed.auto.values ∙ ap length c.values_mut.ensures.values);
       coefficients = λ k high. let log = c.log2_strict_usize-log_h.result in let tall : height c.args.mat.now ≡ 2 ^ log = sym c.height-height.ensures.height ∙ c.log2_strict_usize-log_h.ensures.power in let fits : log ≡ c.requires.fits.log = log_same _ _ (sym tall ∙ c.requires.fits.high) in coefficients_of_parts g.F.Field g.F.TwoAdicField.generator g.met.F.TwoAdicField.roots_law c.args.mat.now _ c.values_mut.result.now c.network_g_transposed.new.values _ c.width-width.result log k (omega (arith, fits, c.requires.fits.within)) (log_same log k (sym tall ∙ high)) c.width-width.ensures.whole tall c.values_mut.ensures.values c.width-width.ensures.width c.network_g_transposed.auto.values refl refl c.network_g_transposed.ensures.values;
       refused = tt;
+      room = tt;
       grows = c.network_g_transposed.ensures.grows;
       cost = λ k high. let log = c.log2_strict_usize-log_h.result in let same : log ≡ k = log_same log k (sym c.log2_strict_usize-log_h.ensures.power ∙ c.height-height.ensures.height ∙ high) in rw (← same, ← c.width-width.ensures.width) c.network_g_transposed.ensures.cost;
     }

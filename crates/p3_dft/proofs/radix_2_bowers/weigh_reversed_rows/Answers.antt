@@ -7,6 +7,8 @@ use Rattle.p3_matrix.specs.Cosets.{values_of}
 use Rattle.p3_networks.proofs.Tables.ReversedPowers.{weighed_rows}
 use Rattle.p3_matrix.proofs.Rows.Overwritten.{written}
 use Rattle.p3_dft.proofs.Calls.Transforms.{entries_of_parts}
+use Rattle.p3_matrix.proofs.Rooms.{room_of}
+use Rattle.p3_dft.proofs.Calls.Shapes.{powers_fit}
 use Rattle.p3_dft.proofs.radix_2_bowers.weigh_reversed_rows.Goals as goal
 
 pub returns-clause-rows : goal.returns-clause-rows
@@ -19,7 +21,7 @@ returns-clause-rows g c k high =
     let log = c.log2_strict_usize-log_h.result in
     let tall : height m ≡ 2 ^ log = sym c.height.ensures.height ∙ c.log2_strict_usize-log_h.ensures.power in
     let same : log ≡ k = log_same log k (sym tall ∙ high) in
-    let weights = c.in_ok-weights.ensures in
+    let weights = c.in_ok-weights.ensures.powers in
     let count : h ≡ 2 ^ log = ap length c.as_slice.ensures.value ∙ weights.size in
     let after = c.weigh_rows.new.values in
     let whole = c.width-width.ensures.whole in
@@ -34,3 +36,7 @@ returns-clause-rows g c k high =
     let under : b < 2 ^ log = subst (λ (n : ℕ). b < 2 ^ n) (sym same) below in
     ap (λ xs. field.value (get_or xs b field.ZERO)) c.as_slice.ensures.value ∙ weights.entries b under
     ∙ ap (λ n. field.ring.mul (field.value c.args.scale) (power field.ring (field.value c.args.shift) (rev n b))) same)
+
+pub returns-in_err-weights-clause-room : goal.returns-in_err-weights-clause-room
+returns-in_err-weights-clause-room g c =
+    room_of c.from_residual.result _ _ _ c.from_residual.ensures (powers_fit _ c.width-width.ensures.whole.wide (sym c.height.ensures.height ∙ c.log2_strict_usize-log_h.ensures.power)) c.in_err-weights.ensures.room

@@ -1,15 +1,17 @@
 use Rattle.std.proofs.Common.{ℕ, List, [], ◌≡◌, ◌*◌, ◌/◌, ◌%◌, ◌+◌, ◌-◌, ◌^◌, ◌<◌, ◌≤◌, ◌++◌, length, get_or, replicate, drop, refl, sym, ◌∙◌, ap, ap₂, arith}
-use Rattle.std.proofs.Math.Nat.{mod-eq_of_lt, mul-div_cancel, le_refl}
+use Rattle.std.proofs.Math.Nat.{mod-eq_of_lt, mod-le, mul-div_cancel, le_refl}
 use Rattle.std.proofs.lemmas.List.{length-replicate}
 use Rattle.std.proofs.lemmas.Nat.{pow-add}
 use Rattle.std.proofs.lemmas.Result.{IfOk-from_err}
 use Rattle.p3_field.specs.Ring.{power}
 use Rattle.p3_matrix.specs.BitOrder.{rev}
-use Rattle.p3_matrix.specs.RowMajor.{RowMajor}
+use Rattle.p3_matrix.specs.RowMajor.{RowMajor, height}
 use Rattle.p3_matrix.specs.Polynomials.{poly}
 use Rattle.p3_dft.proofs.BitReversed.OneReversal.{values_of_weighed}
 use Rattle.p3_networks.proofs.Layers.Counts.{extension_counted}
 use Rattle.p3_matrix.proofs.Rows.Overwritten.{written}
+use Rattle.p3_matrix.proofs.Rooms.{room_of}
+use Rattle.p3_dft.proofs.Calls.Shapes.{fewer_entries, powers_fit}
 use Rattle.p3_dft.proofs.radix_2_small_batch.extend_to_natural.Goals as goal
 use Rattle.p3_dft.proofs.Calls.Counts.{none_more}
 
@@ -55,7 +57,7 @@ pub extending_network-requires-clause-rows : goal.extending_network-requires-cla
 extending_network-requires-clause-rows g c = ap length c.values-2.ensures.values ∙ sym c.requires.whole.full ∙ ap₂ (λ (h w : ℕ). h * w) (c.requires.height ∙ ap (λ n. 2 ^ n) (sym (added-sub c.args.log_h c.args.added_bits))) (sym c.width-width.ensures.width)
 
 pub extending_network-requires-clause-weights : goal.extending_network-requires-clause-weights
-extending_network-requires-clause-weights g c = ap length c.as_slice.ensures.value ∙ c.in_ok-weights.ensures.size ∙ ap (λ n. 2 ^ n) (sym (added-sub c.args.log_h c.args.added_bits))
+extending_network-requires-clause-weights g c = ap length c.as_slice.ensures.value ∙ c.in_ok-weights.ensures.powers.size ∙ ap (λ n. 2 ^ n) (sym (added-sub c.args.log_h c.args.added_bits))
 
 pub extending_network-requires-clause-some : goal.extending_network-requires-clause-some
 extending_network-requires-clause-some g c = c.requires.some
@@ -69,12 +71,17 @@ extending_network-requires-clause-within g c = c.requires.within
 pub returns-in_err-weights : goal.returns-in_err-weights
 returns-in_err-weights g c =
     let err = c.from_residual.ensures.0 in
-    record { values = IfOk-from_err _ _ err; grows = le_refl _; cost = none_more _ _ _ refl }
+    let table = powers_fit c.args.log_h c.requires.whole.wide c.requires.height in
+    record { values = IfOk-from_err _ _ err; grows = le_refl _; cost = none_more _ _ _ refl; room = room_of c.from_residual.result _ _ _ c.from_residual.ensures (omega (arith, table, fewer_entries (height c.args.mat * c.args.mat.width) c.args.added_bits)) c.in_err-weights.ensures.room }
 
 pub returns-in_err-extend_by_zeros : goal.returns-in_err-extend_by_zeros
 returns-in_err-extend_by_zeros g c =
     let err = c.from_residual-in_err-extend_by_zeros.ensures.0 in
-    record { values = IfOk-from_err _ _ err; grows = le_refl _; cost = none_more _ _ _ refl }
+    let empty : c.new-values.result.len ≡ 0 = omega (arith, c.new-values.result.ok.0, ap length c.new-values.ensures.items) in
+    let entries : length c.values.result.now * 2 ^ c.args.added_bits ≡ height c.args.mat * c.args.mat.width * 2 ^ c.args.added_bits =
+    ap (λ n. n * 2 ^ c.args.added_bits) (ap length c.values.ensures.values ∙ sym c.requires.whole.full) in
+    let shifted = mod-le (length c.values.result.now * 2 ^ c.args.added_bits) (2 ^ 64) in
+    record { values = IfOk-from_err _ _ err; grows = le_refl _; cost = none_more _ _ _ refl; room = room_of c.from_residual-in_err-extend_by_zeros.result _ _ _ c.from_residual-in_err-extend_by_zeros.ensures (omega (arith, empty, entries, shifted)) c.in_err-extend_by_zeros.ensures.room }
 
 pub returns : goal.returns
 returns g c =
@@ -93,7 +100,7 @@ returns g c =
           let values_is = written c.extend_by_zeros.new.values.len after (drop (length after) items) (omega (arith, len, c.extend_by_zeros.new.values.ok.0)) in
           values_of_weighed field g.F.TwoAdicField.generator c.args.mat c.new.result after c.as_slice.result.now w k (k + a) (field.value c.args.scale) (field.value c.args.shift) c.requires.height wide c.width-width.ensures.width
           (ap (λ (n : RowMajor g.row.F.Denot). n.width) c.new.ensures) (ap (λ (n : RowMajor g.row.F.Denot). n.values) c.new.ensures ∙ values_is) (len ∙ size)
-          (λ b below. ap (λ xs. field.value (get_or xs b field.ZERO)) c.as_slice.ensures.value ∙ c.in_ok-weights.ensures.entries b below)
+          (λ b below. ap (λ xs. field.value (get_or xs b field.ZERO)) c.as_slice.ensures.value ∙ c.in_ok-weights.ensures.powers.entries b below)
           (λ i j below inside. c.extending_network.ensures.values i j below inside
           ∙ ap₂ (λ n xs. poly field.ring (2 ^ n) (λ q. field.ring.mul (field.value (get_or xs (rev n q * w + j) field.ZERO)) (field.value (get_or c.as_slice.result.now (rev n q) field.ZERO))) (power field.ring (field.value (g.F.TwoAdicField.generator (k + a))) i))
           (added-sub k a) c.values-2.ensures.values);
@@ -103,4 +110,5 @@ returns g c =
           let same : w * (2 ^ a * (k * 2 ^ k / 2) + 2 ^ (k + a)) ≡ c.args.mat.width * (2 ^ a * (k * 2 ^ k / 2) + 2 ^ (k + a)) = ap (λ n. n * (2 ^ a * (k * 2 ^ k / 2) + 2 ^ (k + a))) c.width-width.ensures.width in
           let made = extension_counted k a w (length c.as_mut_slice.result.now) c.args.products.now c.extending_network.new.products c.requires.some taken c.extending_network.ensures.cost in
           omega (arith, made, same);
+      room = tt;
     }

@@ -14,6 +14,8 @@ use Rattle.p3_dft.proofs.Calls.Counts.{none_more, scaled_counted, weighed_counte
 use Rattle.p3_dft.proofs.Calls.Shapes.{fits_lde_as, input_fits, log_fits}
 use Rattle.p3_matrix.proofs.TwoPowers.{more_points}
 use Rattle.p3_dft.proofs.Calls.EngineSteps.{later_same}
+use Rattle.p3_matrix.proofs.Rooms.{if_within_more, room_of}
+use Rattle.p3_dft.proofs.Calls.Shapes.{fewer_of_same, same_extended}
 use Rattle.p3_dft.proofs.radix_2_bowers.Radix2BowersTwoAdicSubgroupDft.coset_lde_batch.Goals as goal
 
 pub interpolate_unscaled_to_reversed-requires : goal.interpolate_unscaled_to_reversed-requires
@@ -37,6 +39,7 @@ returns-then-log_h-added_bits-eq0 g c =
       one_row = λ one none. (ap Ok c.into_row_major_matrix-mat.ensures, refl);
       later = later_same _ _;
       cost = λ k high. none_more _ _ _ refl;
+      room = tt;
     }
 
 pub returns-in_err-interpolate_unscaled_to_reversed : goal.returns-in_err-interpolate_unscaled_to_reversed
@@ -47,6 +50,7 @@ returns-in_err-interpolate_unscaled_to_reversed g c =
       one_row = λ one none. absurd (more_points _ _ _ c.log2_strict_usize-log_h.ensures.power c.if-log_h-added_bits-eq0.false (c.height.ensures.height ∙ ap height c.into_row_major_matrix-mat.ensures ∙ one) none);
       later = record { keeps = λ k was. was; keeps_cosets = λ k s was. was; keeps_ready = λ k was. was; grows = subst (λ (b : ℕ). b ≤ c.interpolate_unscaled_to_reversed.new.products) c.self.view_is c.interpolate_unscaled_to_reversed.ensures.grows };
       cost = λ k e. let m = c.into_row_major_matrix-mat.result in let bound = λ (n w : ℕ). w * (n * 2 ^ n / 2) in let first = le_trans (rw c.self.view_is at (c.interpolate_unscaled_to_reversed.ensures.cost k (ap height c.into_row_major_matrix-mat.ensures ∙ e))) (le-add_right _ (2 ^ k * m.width)) in subst (λ (v : ℕ). c.interpolate_unscaled_to_reversed.new.products ≤ c.args.self.now + extension_bound bound k c.args.added_bits v) (ap (λ (n : RowMajor g.row.F.Denot). n.width) c.into_row_major_matrix-mat.ensures) (first_within_extension bound k c.args.added_bits m.width c.args.self.now c.interpolate_unscaled_to_reversed.new.products (scaled_counted _ _ _ _ _ _ first (le-add_right _ _) refl));
+      room = room_of c.from_residual.result _ _ _ c.from_residual.ensures (fewer_of_same c.args.added_bits (ap height c.into_row_major_matrix-mat.ensures) (ap (λ (m : RowMajor g.row.F.Denot). m.width) c.into_row_major_matrix-mat.ensures)) c.in_err-interpolate_unscaled_to_reversed.ensures.room;
     }
 
 pub returns-in_err-weigh_reversed_rows : goal.returns-in_err-weigh_reversed_rows
@@ -57,6 +61,7 @@ returns-in_err-weigh_reversed_rows g c =
       one_row = λ one none. absurd (more_points _ _ _ c.log2_strict_usize-log_h.ensures.power c.if-log_h-added_bits-eq0.false (c.height.ensures.height ∙ ap height c.into_row_major_matrix-mat.ensures ∙ one) none);
       later = record { keeps = λ k was. was; keeps_cosets = λ k s was. was; keeps_ready = λ k was. was; grows = subst (λ (b : ℕ). b ≤ c.weigh_reversed_rows.new.products) c.self.view_is (le_trans c.interpolate_unscaled_to_reversed.ensures.grows c.weigh_reversed_rows.ensures.grows) };
       cost = λ k e. let m = c.into_row_major_matrix-mat.result in let bound = λ (n w : ℕ). w * (n * 2 ^ n / 2) in let high : height m ≡ 2 ^ k = ap height c.into_row_major_matrix-mat.ensures ∙ e in let shape = c.in_ok-interpolate_unscaled_to_reversed.ensures.shape in let first = le_trans (rw c.self.view_is at (c.interpolate_unscaled_to_reversed.ensures.cost k high)) (le-add_right _ (2 ^ k * m.width)) in let entries : height c.interpolate_unscaled_to_reversed.new.mat * c.interpolate_unscaled_to_reversed.new.mat.width ≡ 2 ^ k * m.width = ap₂ (λ (h v : ℕ). h * v) (shape.0 ∙ high) shape.1 in subst (λ (v : ℕ). c.weigh_reversed_rows.new.products ≤ c.args.self.now + extension_bound bound k c.args.added_bits v) (ap (λ (n : RowMajor g.row.F.Denot). n.width) c.into_row_major_matrix-mat.ensures) (first_within_extension bound k c.args.added_bits m.width c.args.self.now c.weigh_reversed_rows.new.products (scaled_counted _ _ _ _ _ _ first c.weigh_reversed_rows.ensures.cost entries));
+      room = let shape = c.in_ok-interpolate_unscaled_to_reversed.ensures.shape in let tall = shape.0 ∙ ap height c.into_row_major_matrix-mat.ensures in let wide = shape.1 ∙ ap (λ (m : RowMajor g.row.F.Denot). m.width) c.into_row_major_matrix-mat.ensures in room_of c.from_residual-in_err-weigh_reversed_rows.result _ _ _ c.from_residual-in_err-weigh_reversed_rows.ensures (fewer_of_same c.args.added_bits tall wide) c.in_err-weigh_reversed_rows.ensures.room;
     }
 
 pub returns : goal.returns
@@ -66,4 +71,5 @@ returns g c =
       one_row = λ one none. absurd (more_points _ _ _ c.log2_strict_usize-log_h.ensures.power c.if-log_h-added_bits-eq0.false (c.height.ensures.height ∙ ap height c.into_row_major_matrix-mat.ensures ∙ one) none);
       later = record { keeps = λ k was. was; keeps_cosets = λ k s was. was; keeps_ready = λ k was. was; grows = subst (λ (b : ℕ). b ≤ c.extend_to_natural.new.products) c.self.view_is (le_trans (le_trans c.interpolate_unscaled_to_reversed.ensures.grows c.weigh_reversed_rows.ensures.grows) c.extend_to_natural.ensures.grows) };
       cost = λ k e. let a = c.args.added_bits in let m = c.into_row_major_matrix-mat.result in let bound = λ (n w : ℕ). w * (n * 2 ^ n / 2) in let high : height m ≡ 2 ^ k = ap height c.into_row_major_matrix-mat.ensures ∙ e in let w = m.width in let shape = c.in_ok-interpolate_unscaled_to_reversed.ensures.shape in let tall : height c.interpolate_unscaled_to_reversed.new.mat ≡ height m = shape.0 in let same = c.in_ok-weigh_reversed_rows.ensures.rows k (tall ∙ high) in let first = le_trans (rw c.self.view_is at (c.interpolate_unscaled_to_reversed.ensures.cost k high)) (le-add_right _ (2 ^ k * w)) in let entries : height c.interpolate_unscaled_to_reversed.new.mat * c.interpolate_unscaled_to_reversed.new.mat.width ≡ 2 ^ k * w = ap₂ (λ (h v : ℕ). h * v) (tall ∙ high) shape.1 in let last = c.extend_to_natural.ensures.cost k (same.high ∙ tall ∙ high) in let wide : bound (k + a) c.weigh_reversed_rows.new.mat.width ≡ bound (k + a) w = ap (bound (k + a)) (same.wide ∙ shape.1) in subst (λ (v : ℕ). c.extend_to_natural.new.products ≤ c.args.self.now + extension_bound bound k a v) (ap (λ (n : RowMajor g.row.F.Denot). n.width) c.into_row_major_matrix-mat.ensures) (within_extension bound k a w c.args.self.now c.extend_to_natural.new.products (weighed_counted _ _ _ _ _ _ _ (scaled_counted _ _ _ _ _ _ first c.weigh_reversed_rows.ensures.cost entries) last wide));
+      room = let shape = c.in_ok-interpolate_unscaled_to_reversed.ensures.shape in let tall = shape.0 ∙ ap height c.into_row_major_matrix-mat.ensures in let wide = shape.1 ∙ ap (λ (m : RowMajor g.row.F.Denot). m.width) c.into_row_major_matrix-mat.ensures in let same = c.in_ok-weigh_reversed_rows.ensures.rows c.requires.fits.log (tall ∙ c.requires.fits.high) in if_within_more c.extend_to_natural.result _ _ (same_extended c.args.added_bits (same.high ∙ tall) (same.wide ∙ wide)) c.extend_to_natural.ensures.room;
     }

@@ -1,4 +1,4 @@
-use Rattle.std.proofs.Common.{◌≡◌, ◌^◌, refl, ap, ◌∙◌, sym, ℕ, Ok, subst, ◌≤◌}
+use Rattle.std.proofs.Common.{◌≡◌, ◌^◌, refl, ap, ◌∙◌, sym, ℕ, Ok, subst, ◌≤◌, ap₂, arith, ◌*◌}
 use Rattle.std.proofs.lemmas.Result.{IfOk-from_err}
 use Rattle.p3_matrix.specs.BitOrder.{bit_reversal}
 use Rattle.p3_matrix.specs.Matrix.{matrix}
@@ -11,6 +11,7 @@ use Rattle.p3_dft.proofs.BitReversed.Rows.{transform_of_row}
 use Rattle.p3_dft.proofs.Calls.EngineSteps.{later_same}
 use Rattle.p3_dft.proofs.Calls.JobLists.{on_any_error}
 use Rattle.p3_dft.proofs.Calls.Counts.{more_allowed, none_more}
+use Rattle.p3_matrix.proofs.Rooms.{room_of}
 use Rattle.p3_dft.proofs.radix_2_bowers.Radix2BowersTwoAdicSubgroupDft.idft_batch.Goals as goal
 
 pub interpolate_to_reversed-requires : goal.interpolate_to_reversed-requires
@@ -28,6 +29,7 @@ returns-then-height-eq1 g c =
       succeeds = λ k high none. refl;
       one_row = λ one. (ap Ok c.into_row_major_matrix-mat.ensures, refl);
       refused = tt;
+      room = tt;
       later = later_same _ _;
       cost = λ k high. more_allowed _ _ _ (none_more _ _ _ refl);
     }
@@ -40,6 +42,7 @@ returns-in_err-interpolate_to_reversed g c =
       succeeds = λ k high none. absurd (c.if-height-eq1.false (c.height.ensures.height ∙ ap height c.into_row_major_matrix-mat.ensures ∙ high ∙ ap (λ n. 2 ^ n) none));
       one_row = λ one. absurd (c.if-height-eq1.false (c.height.ensures.height ∙ ap height c.into_row_major_matrix-mat.ensures ∙ one));
       refused = on_any_error _ (c.in_err-interpolate_to_reversed.ensures.refused ∙ c.self.view_is);
+      room = room_of c.from_residual.result _ _ _ c.from_residual.ensures (omega (arith, ap₂ (λ (h w : ℕ). h * w) (ap height c.into_row_major_matrix-mat.ensures) (ap (λ (m : RowMajor g.row.F.Denot). m.width) c.into_row_major_matrix-mat.ensures))) c.in_err-interpolate_to_reversed.ensures.room;
       later = record { keeps = λ k was. was; keeps_cosets = λ k s was. was; keeps_ready = λ k was. was; grows = subst (λ (b : ℕ). b ≤ c.interpolate_to_reversed.new.products) c.self.view_is c.interpolate_to_reversed.ensures.grows };
       cost = λ k high. let width : c.into_row_major_matrix-mat.result.width ≡ (g.N.IntoRowMajorMatrix.stored c.args.mat).width = ap (λ (m : RowMajor g.row.F.Denot). m.width) c.into_row_major_matrix-mat.ensures in rw (← c.self.view_is, ← width) (c.interpolate_to_reversed.ensures.cost k (ap height c.into_row_major_matrix-mat.ensures ∙ high));
     }
@@ -51,6 +54,7 @@ returns g c =
       succeeds = λ k high none. refl;
       one_row = λ one. absurd (c.if-height-eq1.false (c.height.ensures.height ∙ ap height c.into_row_major_matrix-mat.ensures ∙ one));
       refused = tt;
+      room = tt;
       later = record { keeps = λ k was. was; keeps_cosets = λ k s was. was; keeps_ready = λ k was. was; grows = subst (λ (b : ℕ). b ≤ c.interpolate_to_reversed.new.products) c.self.view_is c.interpolate_to_reversed.ensures.grows };
       cost = λ k high. let width : c.into_row_major_matrix-mat.result.width ≡ (g.N.IntoRowMajorMatrix.stored c.args.mat).width = ap (λ (m : RowMajor g.row.F.Denot). m.width) c.into_row_major_matrix-mat.ensures in rw (← c.self.view_is, ← width) (c.interpolate_to_reversed.ensures.cost k (ap height c.into_row_major_matrix-mat.ensures ∙ high));
     }

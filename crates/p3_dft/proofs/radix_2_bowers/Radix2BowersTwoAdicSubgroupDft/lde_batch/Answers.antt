@@ -9,6 +9,8 @@ use Rattle.p3_dft.proofs.Calls.Counts.{none_more, scaled_counted, weighed_counte
 use Rattle.p3_dft.proofs.Calls.Shapes.{fits_lde_as, input_fits, log_fits}
 use Rattle.p3_matrix.proofs.TwoPowers.{more_points}
 use Rattle.p3_dft.proofs.Calls.EngineSteps.{later_same}
+use Rattle.p3_matrix.proofs.Rooms.{if_within_more, room_of}
+use Rattle.p3_dft.proofs.Calls.Shapes.{fewer_of_same, same_extended}
 use Rattle.p3_dft.proofs.radix_2_bowers.Radix2BowersTwoAdicSubgroupDft.lde_batch.Goals as goal
 
 pub interpolate_to_reversed-requires : goal.interpolate_to_reversed-requires
@@ -31,6 +33,7 @@ returns-then-log_h-added_bits-eq0 g c =
       one_row = λ one none. (ap Ok c.into_row_major_matrix-mat.ensures, refl);
       later = later_same _ _;
       cost = λ k high. none_more _ _ _ refl;
+      room = tt;
     }
 
 pub returns-in_err-interpolate_to_reversed : goal.returns-in_err-interpolate_to_reversed
@@ -41,6 +44,7 @@ returns-in_err-interpolate_to_reversed g c =
       one_row = λ one none. absurd (more_points _ _ _ c.log2_strict_usize-log_h.ensures.power c.if-log_h-added_bits-eq0.false (c.height.ensures.height ∙ ap height c.into_row_major_matrix-mat.ensures ∙ one) none);
       later = record { keeps = λ k was. was; keeps_cosets = λ k s was. was; keeps_ready = λ k was. was; grows = subst (λ (b : ℕ). b ≤ c.interpolate_to_reversed.new.products) c.self.view_is c.interpolate_to_reversed.ensures.grows };
       cost = λ k e. let width = ap (λ (m : RowMajor g.row.F.Denot). m.width) c.into_row_major_matrix-mat.ensures in let first = rw (c.self.view_is, width) at (c.interpolate_to_reversed.ensures.cost k (ap height c.into_row_major_matrix-mat.ensures ∙ e)) in first_within_extension (λ n w. w * (n * 2 ^ n / 2)) k c.args.added_bits (g.N.IntoRowMajorMatrix.stored c.args.mat).width c.args.self.now c.interpolate_to_reversed.new.products (scaled_counted _ _ _ _ _ _ first (le-add_right _ _) refl);
+      room = room_of c.from_residual.result _ _ _ c.from_residual.ensures (fewer_of_same c.args.added_bits (ap height c.into_row_major_matrix-mat.ensures) (ap (λ (m : RowMajor g.row.F.Denot). m.width) c.into_row_major_matrix-mat.ensures)) c.in_err-interpolate_to_reversed.ensures.room;
     }
 
 pub returns : goal.returns
@@ -50,4 +54,5 @@ returns g c =
       one_row = λ one none. absurd (more_points _ _ _ c.log2_strict_usize-log_h.ensures.power c.if-log_h-added_bits-eq0.false (c.height.ensures.height ∙ ap height c.into_row_major_matrix-mat.ensures ∙ one) none);
       later = record { keeps = λ k was. was; keeps_cosets = λ k s was. was; keeps_ready = λ k was. was; grows = subst (λ (b : ℕ). b ≤ c.extend_to_natural.new.products) c.self.view_is (le_trans c.interpolate_to_reversed.ensures.grows c.extend_to_natural.ensures.grows) };
       cost = λ k e. let width = ap (λ (m : RowMajor g.row.F.Denot). m.width) c.into_row_major_matrix-mat.ensures in let tall : height c.into_row_major_matrix-mat.result ≡ 2 ^ k = ap height c.into_row_major_matrix-mat.ensures ∙ e in let are = c.in_ok-interpolate_to_reversed.ensures.coefficients k tall in let wide : c.interpolate_to_reversed.new.mat.width ≡ (g.N.IntoRowMajorMatrix.stored c.args.mat).width = are.wide ∙ width in let first = rw (c.self.view_is, width) at (c.interpolate_to_reversed.ensures.cost k tall) in let second = rw wide at (c.extend_to_natural.ensures.cost k (are.high ∙ tall)) in within_extension (λ n w. w * (n * 2 ^ n / 2)) k c.args.added_bits (g.N.IntoRowMajorMatrix.stored c.args.mat).width c.args.self.now c.extend_to_natural.new.products (weighed_counted _ _ _ _ _ _ _ (scaled_counted _ _ _ _ _ _ first (le-add_right _ _) refl) second refl);
+      room = let are = c.in_ok-interpolate_to_reversed.ensures.coefficients c.requires.fits.log (ap height c.into_row_major_matrix-mat.ensures ∙ c.requires.fits.high) in if_within_more c.extend_to_natural.result _ _ (same_extended c.args.added_bits (are.high ∙ ap height c.into_row_major_matrix-mat.ensures) (are.wide ∙ ap (λ (m : RowMajor g.row.F.Denot). m.width) c.into_row_major_matrix-mat.ensures)) c.extend_to_natural.ensures.room;
     }

@@ -1,11 +1,12 @@
-use Rattle.std.proofs.Common.{ℕ, ◌≡◌, ◌+◌, ◌^◌, ◌∙◌, refl, arith}
+use Rattle.std.proofs.Common.{ℕ, ◌≡◌, ◌+◌, ◌*◌, ◌^◌, ◌∙◌, ap₂, refl, arith}
 use Rattle.std.proofs.Math.Nat.{le_refl}
 use Rattle.std.proofs.lemmas.Result.{IfOk-from_err, IfOk-weaker}
 use Rattle.p3_matrix.specs.RowMajor.{height}
-use Rattle.p3_dft.proofs.Calls.EngineSteps.{after_part, parts_after, products_after}
+use Rattle.p3_dft.proofs.Calls.EngineSteps.{after_part, part_refused, parts_after, products_after}
 use Rattle.p3_dft.proofs.Calls.ExtendedTransforms.{answered_shape, extension_of_shifted}
+use Rattle.p3_matrix.proofs.Rooms.{room_of}
 use Rattle.p3_matrix.proofs.Rows.Padding.{padded_shape}
-use Rattle.p3_dft.proofs.Calls.Shapes.{input_fits, output_fits, output_log_small, output_size}
+use Rattle.p3_dft.proofs.Calls.Shapes.{fewer_entries, input_fits, output_fits, output_log_small, output_size}
 use Rattle.p3_dft.proofs.radix_2_dit.Radix2DitTwoAdicSubgroupDft.coset_lde_batch_with_transform.Goals as goal
 
 pub idft_batch-requires : goal.idft_batch-requires
@@ -49,6 +50,10 @@ returns-clause-values g c =
 pub returns-in_err-coefficients-clause-only : goal.returns-in_err-coefficients-clause-only
 returns-in_err-coefficients-clause-only g c k e = omega (arith, c.idft_batch.ensures.only k e)
 
+pub returns-in_err-coefficients-clause-engine : goal.returns-in_err-coefficients-clause-engine
+returns-in_err-coefficients-clause-engine g c =
+    part_refused _ _ _ _ _ c.from_residual.ensures (λ k. omega arith) (fewer_entries _ _) c.in_err-coefficients.ensures.engine
+
 pub returns-clause-only : goal.returns-clause-only
 returns-clause-only g c = λ k e.
     let a = c.args.added_bits in
@@ -69,8 +74,8 @@ returns-clause-engine g c =
     let same = c.shift_rows.ensures.shifted in
     let grown = λ (k : ℕ) (e : height m ≡ 2 ^ k). padded_shape g.F.Field.ZERO m c.shift_rows.new.mat c.in_ok-padded.padded a k c.pad_rows.ensures.whole
     (same.high ∙ shape.0, same.wide ∙ shape.1) e c.in_ok-padded.ensures.padded in
-    parts_after _ 2 0 m c.in_ok-padded.padded a _ _ _ _ _ _ refl (λ k e. (grown k e).0) (grown fits.log fits.high).1 (λ k. omega arith)
-    (products_after _ 1 m c.transform-changed.result _ _ _ _ _ shape (omega (arith, c.shift_rows.ensures.cost, c.new-products.ensures)) c.in_ok-coefficients.ensures.engine c.add_products.ensures.engine)
+    parts_after _ 2 0 m c.in_ok-padded.padded a _ _ _ _ _ fits.log fits.high (λ k e. (grown k e).0) (grown fits.log fits.high).1 (λ k. omega arith)
+    (products_after _ 1 m c.transform-changed.result _ _ _ c.transform-changed.result _ shape (omega (arith, c.shift_rows.ensures.cost, c.new-products.ensures)) c.in_ok-coefficients.ensures.engine c.add_products.ensures.engine)
     c.dft_batch.ensures.engine
 
 pub transform-changed-requires : goal.transform-changed-requires
@@ -83,5 +88,5 @@ returns-in_err-padded g c =
     record {
       values = IfOk-from_err _ _ c.from_residual-in_err-padded.ensures.0;
       only = λ k e. omega (arith, c.in_ok-coefficients.ensures.only k e, (c.add_products.ensures.engine.same _).1 (le_refl _));
-      engine = let fits = c.requires.fits in let m = g.N.IntoRowMajorMatrix.stored c.args.mat in let shape = answered_shape g.F.Field g.F.TwoAdicField.generator _ _ _ _ _ fits.log fits.high c.in_ok-coefficients.ensures.coefficients (refl, refl) c.width-width.ensures.whole c.requires.shape c.transform-changed.ensures in after_part _ _ _ _ _ c.from_residual-in_err-padded.ensures.0 (λ k. omega arith) (products_after _ 1 m c.transform-changed.result _ _ _ _ _ shape (omega (arith, c.shift_rows.ensures.cost, c.new-products.ensures)) c.in_ok-coefficients.ensures.engine c.add_products.ensures.engine);
+      engine = let fits = c.requires.fits in let m = g.N.IntoRowMajorMatrix.stored c.args.mat in let shape = answered_shape g.F.Field g.F.TwoAdicField.generator _ _ _ _ _ fits.log fits.high c.in_ok-coefficients.ensures.coefficients (refl, refl) c.width-width.ensures.whole c.requires.shape c.transform-changed.ensures in let same = c.shift_rows.ensures.shifted in after_part _ _ _ _ _ c.from_residual-in_err-padded.ensures.0 (λ k. omega arith) (room_of c.from_residual-in_err-padded.result _ _ _ c.from_residual-in_err-padded.ensures (omega (arith, ap₂ (λ (h w : ℕ). h * w * 2 ^ c.args.added_bits) (same.high ∙ shape.0) (same.wide ∙ shape.1))) c.in_err-padded.ensures.room) (products_after _ 1 m c.transform-changed.result _ _ _ c.transform-changed.result _ shape (omega (arith, c.shift_rows.ensures.cost, c.new-products.ensures)) c.in_ok-coefficients.ensures.engine c.add_products.ensures.engine);
     }

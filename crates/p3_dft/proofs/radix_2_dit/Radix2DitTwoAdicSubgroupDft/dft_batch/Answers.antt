@@ -8,7 +8,8 @@ use Rattle.p3_dft.proofs.Calls.PreparedHeights.{not_ok, later_with_heights}
 use Rattle.p3_dft.proofs.Calls.EngineSteps.{after_error, later_same}
 use Rattle.p3_dft.proofs.BitReversed.Rows.{transform_of_row}
 use Rattle.std.proofs.Math.Nat.{le-add_right, le_refl}
-use Rattle.p3_dft.proofs.Calls.Shapes.{log_fits_dft}
+use Rattle.p3_dft.proofs.Calls.Shapes.{log_fits_dft, table_fits}
+use Rattle.p3_matrix.proofs.Rooms.{room_of}
 use Rattle.p3_dft.proofs.Calls.Counts.{larger_bound}
 use Rattle.p3_dft.proofs.radix_2_dit.Radix2DitTwoAdicSubgroupDft.dft_batch.Goals as goal
 
@@ -38,7 +39,7 @@ pub returns-then-height-eq1-clause-values : goal.returns-then-height-eq1-clause-
 returns-then-height-eq1-clause-values g c = rw (← c.into_row_major_matrix-mat.ensures) (transform_of_row g.F.Field g.F.TwoAdicField.generator c.into_row_major_matrix-mat.result (sym c.height-height.ensures.height ∙ c.if-height-eq1.true))
 
 pub returns-then-height-eq1-clause-engine : goal.returns-then-height-eq1-clause-engine
-returns-then-height-eq1-clause-engine g c = record { later = later_same _ _; ready = λ _. at_log _ _ 0 (sym (ap height c.into_row_major_matrix-mat.ensures) ∙ sym c.height-height.ensures.height ∙ c.if-height-eq1.true) (omega arith); cost = λ k high. le-add_right _ _ }
+returns-then-height-eq1-clause-engine g c = record { later = later_same _ _; ready = λ _. at_log _ _ 0 (sym (ap height c.into_row_major_matrix-mat.ensures) ∙ sym c.height-height.ensures.height ∙ c.if-height-eq1.true) (omega arith); cost = λ k high. le-add_right _ _; refused = tt }
 
 pub returns-in_err-make-clause-succeeds : goal.returns-in_err-make-clause-succeeds
 returns-in_err-make-clause-succeeds g c =
@@ -48,6 +49,8 @@ returns-in_err-make-clause-succeeds g c =
 
 pub returns-in_err-make-clause-engine : goal.returns-in_err-make-clause-engine
 returns-in_err-make-clause-engine g c = after_error _ _ _ _ c.from_residual.ensures.0 (later_with_heights _ _ _ c.args.self.now _ _ _ _ c.self.view_is c.make.ensures.keeps (le_refl c.self.inside.products)) (ap (λ e. e.products) c.self.view_is)
+    (let high : height (g.N.IntoRowMajorMatrix.stored c.args.mat) ≡ 2 ^ c.log2_strict_usize-log_h.result = sym (ap height c.into_row_major_matrix-mat.ensures) ∙ sym c.height-height.ensures.height ∙ c.log2_strict_usize-log_h.ensures.power in
+    room_of c.from_residual.result _ _ _ c.from_residual.ensures (omega (arith, table_fits _ c.requires.fits high)) c.in_err-make.ensures.room)
 
 pub returns-clause-values : goal.returns-clause-values
 returns-clause-values g c = rw (← c.into_row_major_matrix-mat.ensures) c.dit_matrix.ensures.values
@@ -61,4 +64,4 @@ returns-clause-only g c =
 pub returns-clause-engine : goal.returns-clause-engine
 returns-clause-engine g c =
     let high : height (g.N.IntoRowMajorMatrix.stored c.args.mat) ≡ 2 ^ c.log2_strict_usize-log_h.result = sym (ap height c.into_row_major_matrix-mat.ensures) ∙ sym c.height-height.ensures.height ∙ c.log2_strict_usize-log_h.ensures.power in
-    record { later = later_with_heights _ _ _ c.args.self.now _ _ _ _ c.self.view_is c.make.ensures.keeps c.dit_matrix.ensures.grows; ready = λ _. at_log _ _ _ high c.in_ok-make.ensures.made; cost = at_log _ _ _ high (larger_bound _ _ _ _ (rw (← ap (λ (e : EngineState). e.products) c.self.view_is, ← c.into_row_major_matrix-mat.ensures) c.dit_matrix.ensures.cost) (le-add_right _ _)) }
+    record { later = later_with_heights _ _ _ c.args.self.now _ _ _ _ c.self.view_is c.make.ensures.keeps c.dit_matrix.ensures.grows; ready = λ _. at_log _ _ _ high c.in_ok-make.ensures.made; cost = at_log _ _ _ high (larger_bound _ _ _ _ (rw (← ap (λ (e : EngineState). e.products) c.self.view_is, ← c.into_row_major_matrix-mat.ensures) c.dit_matrix.ensures.cost) (le-add_right _ _)); refused = tt }

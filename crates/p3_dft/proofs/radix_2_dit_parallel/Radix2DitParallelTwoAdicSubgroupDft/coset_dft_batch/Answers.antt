@@ -16,6 +16,8 @@ use Rattle.p3_dft.proofs.Calls.JobLists.{on_any_error}
 use Rattle.p3_dft.proofs.Calls.EngineSteps.{later_same}
 use Rattle.p3_dft.proofs.Calls.Counts.{more_allowed, none_more, subst₃}
 use Rattle.std.proofs.Math.Nat.{le_refl}
+use Rattle.p3_matrix.proofs.Rooms.{room_of}
+use Rattle.p3_dft.proofs.Calls.Shapes.{table_fits}
 use Rattle.p3_dft.proofs.radix_2_dit_parallel.Radix2DitParallelTwoAdicSubgroupDft.coset_dft_batch.Goals as goal
 
 not_both : (b : Bool) → b ≡ false → IsTrue b → ⊥
@@ -52,6 +54,7 @@ returns-then-eq g c =
       later = c.dft_batch.ensures.later;
       cost = λ k high. more_allowed _ _ _ (c.dft_batch.ensures.cost k high);
       pairs = c.dft_batch.ensures.cost;
+      room = c.dft_batch.ensures.room;
     }
 
 pub returns-then-height-eq1 : goal.returns-then-height-eq1
@@ -73,6 +76,7 @@ returns-then-height-eq1 g c =
       later = later_same _ _;
       cost = λ k high. more_allowed _ _ _ (none_more _ _ _ refl);
       pairs = λ k high. none_more _ _ _ refl;
+      room = tt;
     }
 
 pub make-requires-clause-within : goal.make-requires-clause-within
@@ -120,6 +124,7 @@ returns-in_err-place g c =
       later = later_with_tables g.F.Field _ _ _ c.args.self.now _ _ _ _ _ _ c.self.view_is (le_refl _) (coset_stays g.F.Field _ _ _ c.make.ensures.only) (le_refl _);
       cost = λ k high. more_allowed _ _ _ (none_more _ _ _ products);
       pairs = λ k high. none_more _ _ _ products;
+      room = room_of c.from_residual.result _ _ _ c.from_residual.ensures (omega (arith, table_fits _ c.requires.fits (sym (ap height c.into_row_major_matrix-mat.ensures) ∙ sym c.height-height.ensures.height ∙ c.log2_strict_usize-log_h.ensures.power))) c.in_err-place.ensures.room;
     }
 
 pub returns : goal.returns
@@ -150,4 +155,5 @@ returns g c =
       later = later_with_tables g.F.Field _ _ _ c.args.self.now _ _ _ _ _ _ c.self.view_is (le_refl _) (coset_stays g.F.Field _ _ _ c.make.ensures.only) c.evaluate_on_coset_to_reversed.ensures.grows;
       cost = λ k high. more_allowed _ _ _ (subst₃ (λ (p w n : ℕ). c.evaluate_on_coset_to_reversed.new.products ≤ p + w * (n * 2 ^ n / 2)) _ _ _ _ _ _ products width (same k high) c.evaluate_on_coset_to_reversed.ensures.cost);
       pairs = λ k high. subst₃ (λ (p w n : ℕ). c.evaluate_on_coset_to_reversed.new.products ≤ p + w * (n * 2 ^ n / 2)) _ _ _ _ _ _ products width (same k high) c.evaluate_on_coset_to_reversed.ensures.cost;
+      room = tt;
     }

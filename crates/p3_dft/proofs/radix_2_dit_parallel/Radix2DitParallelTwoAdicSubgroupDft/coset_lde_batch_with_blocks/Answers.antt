@@ -12,6 +12,8 @@ use Rattle.p3_dft.proofs.BitReversed.Rows.{values_seen}
 use Rattle.p3_matrix.proofs.Rows.Padding.{padded_shape, padded_whole}
 use Rattle.p3_dft.proofs.Calls.PreparedCosets.{later_with_tables}
 use Rattle.p3_dft.proofs.Calls.Shapes.{output_log_small, both_logs_fit}
+use Rattle.p3_matrix.proofs.Rooms.{within_more}
+use Rattle.p3_dft.proofs.Calls.Shapes.{same_extended}
 use Rattle.p3_dft.proofs.radix_2_dit_parallel.Radix2DitParallelTwoAdicSubgroupDft.coset_lde_batch_with_blocks.Goals as goal
 
 -- an inverse with a product for each entry, and a transform for each slot
@@ -110,6 +112,7 @@ returns-in-Err g c =
       once = λ k e all. let field = g.F.Field in let held = subst (λ (x : CosetEngineState g.row.F.Denot). HasCosets field g.F.TwoAdicField.generator x.cosets k c.args.added_bits (field.value c.args.shift)) (sym c.self.view_is) all in c.coefficients_with_room-room.ensures.once k (ap height c.into_row_major_matrix-mat.ensures ∙ e) held ∙ ap (λ (x : CosetEngineState g.row.F.Denot). x.cosets) c.self.view_is;
       later = later_with_tables g.F.Field _ _ _ c.args.self.now _ _ _ _ _ _ c.self.view_is c.coefficients_with_room-room.ensures.keeps c.coefficients_with_room-room.ensures.keeps_cosets c.coefficients_with_room-room.ensures.grows;
       cost = λ k e. let m = c.into_row_major_matrix-mat.result in let w = (g.N.IntoRowMajorMatrix.stored c.args.mat).width in let width = ap (λ (n : RowMajor g.row.F.Denot). n.width) c.into_row_major_matrix-mat.ensures in let products : c.self.inside.products ≡ c.args.self.now.roots.products = ap (λ (e : CosetEngineState g.row.F.Denot). e.roots.products) c.self.view_is in let x = k * 2 ^ k / 2 in first_counted x (2 ^ k) (2 ^ c.args.added_bits) w _ _ (subst (λ (v : ℕ). c.coefficients_with_room-room.new.products ≤ c.args.self.now.roots.products + v * x + 2 ^ k * v) width (subst (λ (b : ℕ). c.coefficients_with_room-room.new.products ≤ b + m.width * x + 2 ^ k * m.width) products (c.coefficients_with_room-room.ensures.cost k (ap height c.into_row_major_matrix-mat.ensures ∙ e))));
+      room = within_more _ _ (omega (arith, same_extended c.args.added_bits (ap height c.into_row_major_matrix-mat.ensures) (ap (λ (m : RowMajor g.row.F.Denot). m.width) c.into_row_major_matrix-mat.ensures))) _ c.in-Err.ensures.room;
     }
 
 pub returns-in-Err-extended : goal.returns-in-Err-extended
@@ -158,6 +161,7 @@ returns-in-Err-extended g c =
           c.coefficients_with_room-room.ensures.once k (stored ∙ e) held ∙ ap (λ (x : CosetEngineState g.row.F.Denot). x.cosets) c.self.view_is;
       later = later_with_tables field _ _ _ c.args.self.now _ _ _ _ _ _ c.self.view_is c.coefficients_with_room-room.ensures.keeps c.coefficients_with_room-room.ensures.keeps_cosets (omega (arith, c.coefficients_with_room-room.ensures.grows, c.extend_reversed-extended.ensures.grows));
       cost = λ k e. slots_of_equal k log a _ _ _ _ _ _ _ (same k e) width grown products (c.coefficients_with_room-room.ensures.cost k (stored ∙ e)) c.extend_reversed-extended.ensures.cost;
+      room = tt;
     }
 
 pub returns : goal.returns
@@ -210,4 +214,5 @@ returns g c =
           c.coefficients_with_room-room.ensures.once k (stored ∙ e) held ∙ ap (λ (x : CosetEngineState g.row.F.Denot). x.cosets) c.self.view_is;
       later = later_with_tables field _ _ _ c.args.self.now _ _ _ _ _ _ c.self.view_is c.coefficients_with_room-room.ensures.keeps c.coefficients_with_room-room.ensures.keeps_cosets (omega (arith, c.coefficients_with_room-room.ensures.grows, c.extend_reversed-extended.ensures.grows));
       cost = λ k e. slots_of_equal k log a _ _ _ _ _ _ _ (same k e) width grown products (c.coefficients_with_room-room.ensures.cost k (stored ∙ e)) c.extend_reversed-extended.ensures.cost;
+      room = tt;
     }

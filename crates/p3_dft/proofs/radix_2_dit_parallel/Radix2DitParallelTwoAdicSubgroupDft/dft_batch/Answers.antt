@@ -7,7 +7,8 @@ use Rattle.p3_dft.proofs.BitReversed.Rows.{transform_seen}
 use Rattle.p3_dft.proofs.Calls.PreparedCosets.{later_with_tables}
 use Rattle.p3_dft.proofs.Calls.PreparedHeights.{not_ok}
 use Rattle.std.proofs.Math.Nat.{le_refl}
-use Rattle.p3_dft.proofs.Calls.Shapes.{log_fits_dft}
+use Rattle.p3_dft.proofs.Calls.Shapes.{log_fits_dft, table_fits}
+use Rattle.p3_matrix.proofs.Rooms.{room_of}
 use Rattle.p3_dft.proofs.radix_2_dit_parallel.Radix2DitParallelTwoAdicSubgroupDft.dft_batch.Goals as goal
 
 pub returns-then-height-eq1-clause-values : goal.returns-then-height-eq1-clause-values
@@ -67,3 +68,6 @@ returns-in_err-make-clause-later g c = later_with_tables g.F.Field _ _ _ c.args.
 
 pub returns-clause-later : goal.returns-clause-later
 returns-clause-later g c = later_with_tables g.F.Field _ _ _ c.args.self.now _ _ _ _ _ _ c.self.view_is c.make.ensures.keeps (λ k s has. has) c.evaluate_to_reversed.ensures.grows
+
+pub returns-in_err-make-clause-room : goal.returns-in_err-make-clause-room
+returns-in_err-make-clause-room g c = room_of c.from_residual.result _ _ _ c.from_residual.ensures (omega (arith, table_fits _ c.requires.fits (sym (ap height c.into_row_major_matrix-mat.ensures) ∙ sym c.height-height.ensures.height ∙ c.log2_strict_usize-log_h.ensures.power))) c.in_err-make.ensures.room

@@ -17,6 +17,8 @@ use Rattle.p3_dft.proofs.Calls.EngineSteps.{later_same}
 use Rattle.p3_dft.proofs.Calls.JobLists.{on_any_error}
 use Rattle.p3_dft.proofs.Calls.Shapes.{log_fits_dft}
 use Rattle.p3_dft.proofs.Calls.Counts.{more_allowed, none_more, subst₃}
+use Rattle.p3_matrix.proofs.Rooms.{room_of}
+use Rattle.p3_dft.proofs.Calls.Shapes.{table_fits}
 use Rattle.p3_dft.proofs.radix_2_dit_parallel.Radix2DitParallelTwoAdicSubgroupDft.idft_batch.Goals as goal
 
 pub returns-then-height-eq1 : goal.returns-then-height-eq1
@@ -31,6 +33,7 @@ returns-then-height-eq1 g c =
       cosets = refl;
       later = later_same _ _;
       cost = λ k high. more_allowed _ _ _ (none_more _ _ _ refl);
+      room = tt;
     }
 
 pub make-requires-clause-within : goal.make-requires-clause-within
@@ -67,6 +70,7 @@ returns-in_err-make g c =
       cosets = ap (λ (e : CosetEngineState g.row.F.Denot). e.cosets) c.self.view_is;
       later = later_with_tables g.F.Field _ _ _ c.args.self.now _ _ _ _ _ _ c.self.view_is c.make.ensures.keeps (λ k s has. has) (le_refl _);
       cost = λ k high. more_allowed _ _ _ (none_more _ _ _ (ap (λ (e : CosetEngineState g.row.F.Denot). e.roots.products) c.self.view_is));
+      room = room_of c.from_residual.result _ _ _ c.from_residual.ensures (omega (arith, table_fits _ c.requires.fits (sym (ap height c.into_row_major_matrix-mat.ensures) ∙ sym c.height-height.ensures.height ∙ c.log2_strict_usize-log_h.ensures.power))) c.in_err-make.ensures.room;
     }
 
 pub returns : goal.returns
@@ -81,4 +85,5 @@ returns g c =
       cosets = ap (λ (e : CosetEngineState g.row.F.Denot). e.cosets) c.self.view_is;
       later = later_with_tables g.F.Field _ _ _ c.args.self.now _ _ _ _ _ _ c.self.view_is c.make.ensures.keeps (λ k s has. has) c.interpolate_to_reversed.ensures.grows;
       cost = λ k high. let tall : c.height-height.result ≡ height (g.N.IntoRowMajorMatrix.stored c.args.mat) = c.height-height.ensures.height ∙ ap height c.into_row_major_matrix-mat.ensures in let log = c.log2_strict_usize-log_h.result in let same : log ≡ k = log_same log k (sym c.log2_strict_usize-log_h.ensures.power ∙ tall ∙ high) in let products : c.self.inside.products ≡ c.args.self.now.roots.products = ap (λ (e : CosetEngineState g.row.F.Denot). e.roots.products) c.self.view_is in let width = ap (λ (m : RowMajor g.row.F.Denot). m.width) c.into_row_major_matrix-mat.ensures in subst₃ (λ (p w n : ℕ). c.interpolate_to_reversed.new.products ≤ p + w * (n * 2 ^ n / 2) + 2 ^ n * w) _ _ _ _ _ _ products width same c.interpolate_to_reversed.ensures.cost;
+      room = tt;
     }

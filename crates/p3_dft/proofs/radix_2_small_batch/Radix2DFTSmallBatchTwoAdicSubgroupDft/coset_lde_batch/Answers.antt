@@ -17,6 +17,8 @@ use Rattle.std.proofs.Math.Nat.{le_refl, le_trans, lt_of_lt_of_le}
 use Rattle.p3_matrix.proofs.RowMajor.{whole_kept}
 use Rattle.p3_dft.proofs.Calls.EngineSteps.{later_same}
 use Rattle.p3_dft.proofs.Calls.Counts.{larger_bound, none_more}
+use Rattle.p3_matrix.proofs.Rooms.{if_within_more, room_of}
+use Rattle.p3_dft.proofs.Calls.Shapes.{extended_table_fits, same_extended}
 use Rattle.p3_dft.proofs.radix_2_small_batch.Radix2DFTSmallBatchTwoAdicSubgroupDft.coset_lde_batch.Goals as goal
 
 on_ok : {T E : Type 0} (r : Result T E) {P : Type 0} → P → OnOk r P
@@ -85,6 +87,7 @@ returns-then-log_h-added_bits-eq0 g c =
       later = later_same _ _;
       cost = λ k high. none_more _ _ _ refl;
       fewer = λ k high. none_more _ _ _ refl;
+      room = tt;
     }
 
 pub returns-in_err-make : goal.returns-in_err-make
@@ -98,6 +101,7 @@ returns-in_err-make g c =
       later = later_with_heights _ _ _ c.args.self.now _ _ _ _ c.self.view_is c.make.ensures.keeps (le_refl c.self.inside.products);
       cost = λ k high. none_more _ _ _ products;
       fewer = λ k high. none_more _ _ _ products;
+      room = room_of c.from_residual.result _ _ _ c.from_residual.ensures (extended_table_fits _ c.requires.fits (sym (ap height c.into_row_major_matrix-mat.ensures) ∙ sym c.height.ensures.height ∙ c.log2_strict_usize-log_h.ensures.power)) c.in_err-make.ensures.room;
     }
 
 pub returns : goal.returns
@@ -111,4 +115,5 @@ returns g c =
       later = later_with_heights _ _ _ c.args.self.now _ _ _ _ c.self.view_is c.make.ensures.keeps (le_trans c.interpolate_unscaled_to_reversed.ensures.grows c.extend_to_natural.ensures.grows);
       cost = λ k high. larger_bound _ _ _ _ (fewer k high) (fewer_than_parts k c.args.added_bits _);
       fewer = fewer;
+      room = let shape = c.interpolate_unscaled_to_reversed.ensures.shape in if_within_more c.extend_to_natural.result _ _ (same_extended c.args.added_bits (shape.0 ∙ ap height c.into_row_major_matrix-mat.ensures) (shape.1 ∙ ap (λ (m : RowMajor g.row.F.Denot). m.width) c.into_row_major_matrix-mat.ensures)) c.extend_to_natural.ensures.room;
     }

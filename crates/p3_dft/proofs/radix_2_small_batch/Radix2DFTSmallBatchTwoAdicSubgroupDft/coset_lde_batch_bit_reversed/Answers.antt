@@ -14,6 +14,8 @@ use Rattle.p3_dft.proofs.Calls.ExtendedTransforms.{extension_of_natural}
 use Rattle.p3_matrix.proofs.Rows.Padding.{padded_shape, padded_whole}
 use Rattle.p3_dft.proofs.Calls.PreparedHeights.{tabled_facts}
 use Rattle.p3_dft.proofs.Calls.Shapes.{input_fits, log_fits, output_log_small, output_size}
+use Rattle.p3_matrix.proofs.Rooms.{room_of}
+use Rattle.p3_dft.proofs.Calls.Shapes.{extended_table_fits, fewer_of_same, same_extended}
 use Rattle.p3_dft.proofs.radix_2_small_batch.Radix2DFTSmallBatchTwoAdicSubgroupDft.coset_lde_batch_bit_reversed.Goals as goal
 
 -- heights were prepared, without a product
@@ -112,6 +114,7 @@ returns-clause-values g c =
 
 pub returns-clause-engine : goal.returns-clause-engine
 returns-clause-engine g c = record {
+  refused = tt;
   later =
       let first = c.idft_batch.ensures.later in
       let products : c.self.inside.products ≡ c.idft_batch.new.self.products = ap (λ e. e.products) c.self.view_is in
@@ -168,7 +171,7 @@ returns-in_err-prepare g c =
     record {
       values = IfOk-from_err _ _ err;
       only = λ k e. omega (arith, log_same c.log2_strict_usize-log_h.result k (sym c.log2_strict_usize-log_h.ensures.power ∙ c.height.ensures.height ∙ ap height c.into_row_major_matrix-mat.ensures ∙ e), ap (λ (e : EngineState). e.prepared) c.in_err-prepare.ensures.refused);
-      engine = after_error _ _ _ _ c.from_residual.ensures.0 (only_preparing _ _ _ (le_of_eq (ap (λ (e : EngineState). e.prepared) (sym c.in_err-prepare.ensures.refused))) c.prepare.ensures.products) c.prepare.ensures.products;
+      engine = after_error _ _ _ _ c.from_residual.ensures.0 (only_preparing _ _ _ (le_of_eq (ap (λ (e : EngineState). e.prepared) (sym c.in_err-prepare.ensures.refused))) c.prepare.ensures.products) c.prepare.ensures.products (room_of c.from_residual.result _ _ _ c.from_residual.ensures (omega (arith, extended_table_fits _ c.requires.fits (sym (ap height c.into_row_major_matrix-mat.ensures) ∙ sym c.height.ensures.height ∙ c.log2_strict_usize-log_h.ensures.power))) c.in_err-prepare.ensures.room);
     }
 
 pub returns-in_err-coefficients : goal.returns-in_err-coefficients
@@ -177,7 +180,7 @@ returns-in_err-coefficients g c =
     record {
       values = IfOk-from_err _ _ err;
       only = λ k e. omega (arith, log_same c.log2_strict_usize-log_h.result k (sym c.log2_strict_usize-log_h.ensures.power ∙ c.height.ensures.height ∙ ap height c.into_row_major_matrix-mat.ensures ∙ e), c.in_ok-prepare.ensures.made, c.idft_batch.ensures.only _ (sym c.height.ensures.height ∙ c.log2_strict_usize-log_h.ensures.power));
-      engine = record { later = after_preparing _ _ _ (let kept : c.args.self.now.prepared ≤ c.prepare.new.self.prepared = omega (arith, c.in_ok-prepare.ensures.made) in kept) c.prepare.ensures.products c.idft_batch.ensures.later; ready = λ done. absurd (no_answer c.from_residual-in_err-coefficients.result c.from_residual-in_err-coefficients.ensures.0 done); cost = λ k e. inverse_made _ _ k c.args.added_bits _ _ _ c.into_row_major_matrix-mat.ensures c.prepare.ensures.products (c.idft_batch.ensures.cost k (ap height c.into_row_major_matrix-mat.ensures ∙ e)) };
+      engine = record { later = after_preparing _ _ _ (let kept : c.args.self.now.prepared ≤ c.prepare.new.self.prepared = omega (arith, c.in_ok-prepare.ensures.made) in kept) c.prepare.ensures.products c.idft_batch.ensures.later; refused = room_of c.from_residual-in_err-coefficients.result _ _ _ c.from_residual-in_err-coefficients.ensures (omega (arith, fewer_of_same c.args.added_bits (ap height c.into_row_major_matrix-mat.ensures) (ap (λ (m : RowMajor g.row.F.Denot). m.width) c.into_row_major_matrix-mat.ensures))) c.in_err-coefficients.ensures.room; ready = λ done. absurd (no_answer c.from_residual-in_err-coefficients.result c.from_residual-in_err-coefficients.ensures.0 done); cost = λ k e. inverse_made _ _ k c.args.added_bits _ _ _ c.into_row_major_matrix-mat.ensures c.prepare.ensures.products (c.idft_batch.ensures.cost k (ap height c.into_row_major_matrix-mat.ensures ∙ e)) };
     }
 
 pub returns-in_err-grown : goal.returns-in_err-grown
@@ -186,5 +189,5 @@ returns-in_err-grown g c =
     record {
       values = IfOk-from_err _ _ err;
       only = λ k e. omega (arith, log_same c.log2_strict_usize-log_h.result k (sym c.log2_strict_usize-log_h.ensures.power ∙ c.height.ensures.height ∙ ap height c.into_row_major_matrix-mat.ensures ∙ e), c.in_ok-prepare.ensures.made, c.idft_batch.ensures.only _ (sym c.height.ensures.height ∙ c.log2_strict_usize-log_h.ensures.power));
-      engine = record { later = after_preparing _ _ _ (let kept : c.args.self.now.prepared ≤ c.prepare.new.self.prepared = omega (arith, c.in_ok-prepare.ensures.made) in kept) c.prepare.ensures.products c.idft_batch.ensures.later; ready = λ done. absurd (no_answer c.from_residual-in_err-grown.result c.from_residual-in_err-grown.ensures.0 done); cost = λ k e. inverse_made _ _ k c.args.added_bits _ _ _ c.into_row_major_matrix-mat.ensures c.prepare.ensures.products (c.idft_batch.ensures.cost k (ap height c.into_row_major_matrix-mat.ensures ∙ e)) };
+      engine = record { later = after_preparing _ _ _ (let kept : c.args.self.now.prepared ≤ c.prepare.new.self.prepared = omega (arith, c.in_ok-prepare.ensures.made) in kept) c.prepare.ensures.products c.idft_batch.ensures.later; refused = let m = c.into_row_major_matrix-mat.result in let log = c.log2_strict_usize-log_h.result in let high : height m ≡ 2 ^ log = sym c.height.ensures.height ∙ c.log2_strict_usize-log_h.ensures.power in let are = c.in_ok-coefficients.ensures.coefficients.holds log high in let shape = c.requires.shape c.in_ok-coefficients.coefficients c.transform-changed.result c.width-width.ensures.whole (rw (← c.into_row_major_matrix-mat.ensures) (are.high, are.wide)) c.transform-changed.ensures in room_of c.from_residual-in_err-grown.result _ _ _ c.from_residual-in_err-grown.ensures (omega (arith, same_extended c.args.added_bits shape.0 shape.1)) c.in_err-grown.ensures.room; ready = λ done. absurd (no_answer c.from_residual-in_err-grown.result c.from_residual-in_err-grown.ensures.0 done); cost = λ k e. inverse_made _ _ k c.args.added_bits _ _ _ c.into_row_major_matrix-mat.ensures c.prepare.ensures.products (c.idft_batch.ensures.cost k (ap height c.into_row_major_matrix-mat.ensures ∙ e)) };
     }

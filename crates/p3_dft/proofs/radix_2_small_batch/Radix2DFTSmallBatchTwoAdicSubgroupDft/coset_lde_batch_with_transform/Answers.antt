@@ -2,7 +2,7 @@ use Rattle.std.proofs.Common.{refl}
 use Rattle.std.proofs.lemmas.Result.{IfOk-from_err}
 use Rattle.p3_dft.specs.declared.traits.Layout.TheVariants.{Natural}
 use Rattle.p3_dft.proofs.Calls.PublishedExtensions.{extension_of_equal}
-use Rattle.p3_dft.proofs.Calls.EngineSteps.{after_refusal}
+use Rattle.p3_dft.proofs.Calls.EngineSteps.{after_refusal, as_stored}
 use Rattle.p3_dft.proofs.radix_2_small_batch.Radix2DFTSmallBatchTwoAdicSubgroupDft.coset_lde_batch_with_transform.Goals as goal
 
 pub coset_lde_batch_bit_reversed-requires-clause-fits : goal.coset_lde_batch_bit_reversed-requires-clause-fits
@@ -15,9 +15,9 @@ pub coset_lde_batch_bit_reversed-requires-clause-shape : goal.coset_lde_batch_bi
 coset_lde_batch_bit_reversed-requires-clause-shape g c = c.requires.shape
 
 pub returns : goal.returns
-returns g c = record { values = extension_of_equal g.F.Field g.F.TwoAdicField.generator _ Natural _ _ c.args.added_bits (g.F.Field.value c.args.shift) _ _ refl c.to_row_major_matrix.ensures c.in_ok-values.ensures.values; only = c.in_ok-values.ensures.only; engine = c.in_ok-values.ensures.engine }
+returns g c = record { values = extension_of_equal g.F.Field g.F.TwoAdicField.generator _ Natural _ _ c.args.added_bits (g.F.Field.value c.args.shift) _ _ refl c.to_row_major_matrix.ensures c.in_ok-values.ensures.values; only = c.in_ok-values.ensures.only; engine = as_stored _ _ _ c.in_ok-values.ensures.engine }
 
 pub returns-in_err-values : goal.returns-in_err-values
 returns-in_err-values g c =
     let err = c.from_residual.ensures.0 in
-    record { values = IfOk-from_err _ _ err; only = c.in_err-values.ensures.only; engine = after_refusal _ _ _ _ _ err c.in_err-values.ensures.engine }
+    record { values = IfOk-from_err _ _ err; only = c.in_err-values.ensures.only; engine = after_refusal _ _ _ _ _ c.from_residual.ensures c.in_err-values.ensures.engine }

@@ -6,7 +6,8 @@ use Rattle.p3_dft.specs.Engines.{EngineState}
 use Rattle.p3_networks.proofs.Tables.FromStart.{fewer_from_start}
 use Rattle.p3_dft.proofs.Calls.PreparedHeights.{not_ok, some_log}
 use Rattle.p3_dft.proofs.BitReversed.Rows.{transform_of_row}
-use Rattle.p3_dft.proofs.Calls.Shapes.{log_fits_dft}
+use Rattle.p3_dft.proofs.Calls.Shapes.{log_fits_dft, table_fits}
+use Rattle.p3_matrix.proofs.Rooms.{room_of}
 use Rattle.p3_dft.proofs.radix_2_small_batch.Radix2DFTSmallBatchTwoAdicSubgroupDft.dft_batch.Goals as goal
 
 pub returns-then-height-eq1-clause-values : goal.returns-then-height-eq1-clause-values
@@ -54,3 +55,8 @@ returns-clause-only g c = let high : height (g.N.IntoRowMajorMatrix.stored c.arg
 
 pub returns-clause-cost : goal.returns-clause-cost
 returns-clause-cost g c = let high : height (g.N.IntoRowMajorMatrix.stored c.args.mat) ≡ 2 ^ c.log2_strict_usize-log_h.result = sym (ap height c.into_row_major_matrix-mat.ensures) ∙ sym c.height-height.ensures.height ∙ c.log2_strict_usize-log_h.ensures.power in at_log _ _ _ high (rw (← ap (λ (e : EngineState). e.products) c.self.view_is, ← c.into_row_major_matrix-mat.ensures) c.evaluate_natural.ensures.cost)
+
+pub returns-in_err-make-clause-room : goal.returns-in_err-make-clause-room
+returns-in_err-make-clause-room g c =
+    let high : height (g.N.IntoRowMajorMatrix.stored c.args.mat) ≡ 2 ^ c.log2_strict_usize-log_h.result = sym (ap height c.into_row_major_matrix-mat.ensures) ∙ sym c.height-height.ensures.height ∙ c.log2_strict_usize-log_h.ensures.power in
+    room_of c.from_residual.result _ _ _ c.from_residual.ensures (table_fits _ c.requires.fits high) c.in_err-make.ensures.room

@@ -1,4 +1,5 @@
 use Rattle.std.proofs.Common.{sym, refl}
+use Rattle.p3_dft.proofs.Calls.EngineSteps.{as_stored}
 use Rattle.p3_dft.proofs.Laws.Codes.{one_codeword, word_of_extension}
 use Rattle.p3_dft.proofs.reed_solomon.ReedSolomon.encode.Goals as goal
 
@@ -11,5 +12,5 @@ returns g c =
       distance = λ other word. one_codeword g.F.Field g.F.TwoAdicField.generator g.met.F.TwoAdicField.roots_law (record { log_message = c.self.inside.log_message; added_bits = c.self.inside.added_bits; shift = c.self.inside.shift }) c.self.invariant other _ word
           (word_of_extension g.F.Field g.F.TwoAdicField.generator (record { log_message = c.self.inside.log_message; added_bits = c.self.inside.added_bits; shift = c.self.inside.shift }) (g.N.IntoRowMajorMatrix.stored c.args.mat) c.to_row_major_matrix.result (rw (sym c.self.view_is) at c.requires.message) (rw c.to_row_major_matrix.ensures c.in_ok-values.ensures.values));
       code = refl;
-      engine = c.in_ok-values.ensures.engine;
+      engine = as_stored _ _ _ c.in_ok-values.ensures.engine;
     })

@@ -1,4 +1,7 @@
-use Rattle.std.proofs.Common.{sym, ap}
+use Rattle.std.proofs.Common.{sym, ap, arith, refl}
+use Rattle.p3_matrix.proofs.Rooms.{room_of}
+use Rattle.p3_dft.proofs.Calls.EngineSteps.{after_error, after_refusal, as_stored, later_same}
+use Rattle.p3_dft.proofs.Calls.SameInputs.{dft_of_same}
 use Rattle.p3_dft.proofs.Laws.Codes.{degree_told}
 use Rattle.p3_dft.specs.Codes.{Encoder}
 use Rattle.p3_dft.proofs.reed_solomon.ReedSolomon.is_codeword.Goals as goal
@@ -6,11 +9,23 @@ use Rattle.p3_dft.proofs.reed_solomon.ReedSolomon.is_codeword.Goals as goal
 pub returns-clause-exact : goal.returns-clause-exact
 returns-clause-exact g c =
     degree_told g.F.Field g.F.TwoAdicField.generator c.args.word.now c.in_ok-coefficients.coefficients _ _ c.requires.points
-    (rw (sym c.self.view_is) (rw c.in_ok-try_clone.ensures at c.in_ok-coefficients.ensures.coefficients)) _ c.has_degree_below.result
+    (rw (sym c.self.view_is) (rw c.in_ok-try_clone.ensures.copy at c.in_ok-coefficients.ensures.coefficients)) _ c.has_degree_below.result
     (rw c.message_height-message_height.ensures at c.has_degree_below.ensures)
 
 pub returns-clause-code : goal.returns-clause-code
 returns-clause-code g c = ap (λ (e : Encoder g.row.F.Denot g.row.D.Denot). e.code) c.self.view_is
 
 pub coset_idft_batch-requires-clause-fits : goal.coset_idft_batch-requires-clause-fits
-coset_idft_batch-requires-clause-fits g c = rw c.in_ok-try_clone.ensures c.requires.fits
+coset_idft_batch-requires-clause-fits g c = rw c.in_ok-try_clone.ensures.copy c.requires.fits
+
+pub returns-in_err-try_clone-clause-engine : goal.returns-in_err-try_clone-clause-engine
+returns-in_err-try_clone-clause-engine g c =
+    rw (sym c.self.view_is) (after_error _ _ _ _ c.from_residual.ensures.0 (later_same _ _) refl (room_of c.from_residual.result _ _ _ c.from_residual.ensures (omega (arith, c.width-width.ensures.whole.full)) c.in_err-try_clone.ensures.room))
+
+pub returns-in_err-coefficients-clause-engine : goal.returns-in_err-coefficients-clause-engine
+returns-in_err-coefficients-clause-engine g c =
+    rw (sym c.self.view_is) (dft_of_same g.D.TwoAdicSubgroupDft.facts _ _ _ _ _ 2 c.in_ok-try_clone.ensures.copy (after_refusal _ _ _ _ _ c.from_residual-in_err-coefficients.ensures c.in_err-coefficients.ensures.engine))
+
+pub returns-clause-engine : goal.returns-clause-engine
+returns-clause-engine g c =
+    rw (sym c.self.view_is) (dft_of_same g.D.TwoAdicSubgroupDft.facts _ _ _ _ _ 2 c.in_ok-try_clone.ensures.copy (as_stored _ _ _ c.in_ok-coefficients.ensures.engine))

@@ -1,10 +1,11 @@
 use Rattle.std.proofs.Common.{◌∙◌, arith, ℕ, ◌≡◌, ◌^◌, refl}
 use Rattle.std.proofs.lemmas.Result.{IfOk-weaker}
 use Rattle.p3_dft.proofs.Calls.ExtendedTransforms.{answered_shape, extension_of_parts}
+use Rattle.p3_matrix.proofs.Rooms.{room_of}
 use Rattle.p3_matrix.proofs.Rows.Padding.{padded_shape}
-use Rattle.p3_dft.proofs.Calls.Shapes.{input_fits, output_fits, output_log_small, output_size}
+use Rattle.p3_dft.proofs.Calls.Shapes.{fewer_entries, same_extended, input_fits, output_fits, output_log_small, output_size}
 use Rattle.p3_matrix.specs.RowMajor.{height}
-use Rattle.p3_dft.proofs.Calls.EngineSteps.{parts_after}
+use Rattle.p3_dft.proofs.Calls.EngineSteps.{after_part, part_refused, parts_after}
 use Rattle.p3_dft.proofs.traits.TwoAdicSubgroupDft.coset_lde_batch_by_parts.Goals as goal
 
 pub idft_batch-requires : goal.idft_batch-requires
@@ -74,10 +75,24 @@ returns-clause-engine g c =
     let back = c.exchange_layouts-2.ensures.shape in
     let grown = λ (k : ℕ) (e : height m ≡ 2 ^ k). padded_shape g.F.Field.ZERO m c.exchange_layouts-2.new.mat c.in_ok-coefficients-2.coefficients a k c.pad_rows.ensures.whole
     (back.0 ∙ shape.0, back.1 ∙ shape.1) e c.in_ok-coefficients-2.ensures.padded in
-    parts_after g.Self.TwoAdicSubgroupDft.facts 1 1 m c.in_ok-coefficients-2.coefficients a _ _ _ _ _ _ refl (λ k e. (grown k e).0) (grown fits.log fits.high).1 (λ k. omega arith)
+    parts_after g.Self.TwoAdicSubgroupDft.facts 1 1 m c.in_ok-coefficients-2.coefficients a _ _ _ _ _ fits.log fits.high (λ k e. (grown k e).0) (grown fits.log fits.high).1 (λ k. omega arith)
     c.in_ok-coefficients.ensures.engine c.coset_dft_batch.ensures.engine
 
 pub transform-coefficients-requires : goal.transform-coefficients-requires
 transform-coefficients-requires g c =
     let are = c.in_ok-coefficients.ensures.coefficients.holds c.requires.fits.log c.requires.fits.high in
     rw c.LAYOUT-2.ensures (c.requires.callable c.exchange_layouts.new.mat c.exchange_layouts.ensures.whole (c.exchange_layouts.ensures.shape.0 ∙ are.high, c.exchange_layouts.ensures.shape.1 ∙ are.wide))
+
+pub returns-in_err-coefficients-clause-engine : goal.returns-in_err-coefficients-clause-engine
+returns-in_err-coefficients-clause-engine g c =
+    part_refused _ _ _ _ _ c.from_residual.ensures (λ k. omega arith) (fewer_entries _ _) c.in_err-coefficients.ensures.engine
+
+pub returns-in_err-coefficients-2-clause-engine : goal.returns-in_err-coefficients-2-clause-engine
+returns-in_err-coefficients-2-clause-engine g c =
+    let fits = c.requires.fits in
+    let shape = answered_shape g.F.Field g.F.TwoAdicField.generator _ _ _ _ _ fits.log fits.high c.in_ok-coefficients.ensures.coefficients c.exchange_layouts.ensures.shape c.exchange_layouts.ensures.whole c.requires.shape
+    (rw c.LAYOUT-2.ensures at c.transform-coefficients.ensures) in
+    let back = c.exchange_layouts-2.ensures.shape in
+    after_part _ _ _ _ _ c.from_residual-in_err-coefficients-2.ensures.0 (λ k. omega arith)
+    (room_of c.from_residual-in_err-coefficients-2.result _ _ _ c.from_residual-in_err-coefficients-2.ensures (omega (arith, same_extended c.args.added_bits (back.0 ∙ shape.0) (back.1 ∙ shape.1))) c.in_err-coefficients-2.ensures.room)
+    c.in_ok-coefficients.ensures.engine
