@@ -3,11 +3,9 @@
 ghost use Rattle.std.specs.Prelude.{◌≡◌, ◌*◌, ◌<◌, length};
 
 use super::{is, row, vectors};
-use p3_field::baby_bear::BabyBearNumbers;
-use p3_field::koala_bear::KoalaBearNumbers;
 use p3_field::{
-    BabyBear, BabyBearX8, CanonicalField, Field, Goldilocks, KoalaBear, Lanes, Numbers, Packable,
-    Packed, PackedField, Products, Residue31, Residue31X8, TwoAdicField, scaled,
+    BabyBear, BabyBearX8, CanonicalField, Field, Goldilocks, GoldilocksX8, KoalaBear, KoalaBearX8,
+    Lanes, Packable, Packed, PackedField, Products, TwoAdicField, WideGoldilocks, scaled,
 };
 use std::alloc::Global;
 use std::mem::size_of;
@@ -141,6 +139,7 @@ fn goldilocks_computes_the_worked_numbers(rt: HostRuntime) {
         half: (7, 9223372034707292164),
     };
     agrees::<Goldilocks>(&rt, &table);
+    agrees::<WideGoldilocks>(&rt, &table);
 }
 
 // Twice the sum and once the difference of a lane and two.
@@ -213,86 +212,103 @@ fn pairs_are_loaded_and_stored(rt: HostRuntime) {
     exchanges::<BabyBear, BabyBearX8>(&rt, rt.alloc(), 16);
     exchanges::<Goldilocks, Goldilocks>(&rt, rt.alloc(), 2);
     exchanges::<Goldilocks, Lanes<Goldilocks, 3>>(&rt, rt.alloc(), 6);
+    exchanges::<WideGoldilocks, GoldilocksX8>(&rt, rt.alloc(), 16);
 }
 
 // What stands in one lane of eight, and in the lane beside it.
-fn at_lanes<N: Numbers>(x: Residue31X8<N>, lane: usize) -> (Residue31<N>, Residue31<N>)
-    requires { lane < 8 }
+fn at_lanes<F: CanonicalField, P: PackedField<Scalar = F>>(
+    rt: &impl Abort,
+    alloc: Global,
+    x: P,
+    lane: usize,
+) -> (F, F)
+    requires width { P.WIDTH ≡ 8 }
+    requires lane { lane < 8 }
 {
-    let mut lanes = [Residue31::<N>::ZERO; 8];
-    x.store(&mut lanes);
+    let mut lanes: Vec<F> = row(rt, alloc, 8, 0, 0);
+    x.store(lanes.as_mut_slice());
     (lanes[lane], lanes[(lane + 1) % 8])
 }
 
 // Eight lanes of one element, but for one lane.
-fn lanes_of<N: Numbers>(x: Residue31<N>, lane: usize, other: Residue31<N>) -> Residue31X8<N>
-    requires { lane < 8 }
+fn lanes_of<F: CanonicalField, P: PackedField<Scalar = F>>(
+    rt: &impl Abort,
+    alloc: Global,
+    x: F,
+    lane: usize,
+    other: F,
+) -> P
+    requires width { P.WIDTH ≡ 8 }
+    requires lane { lane < 8 }
 {
-    let mut lanes = [other; 8];
+    let mut lanes = vec![in alloc; other; 8].expect(rt, "memory");
     lanes[lane] = x;
-    Residue31X8::load(&lanes)
+    P::load(lanes.as_slice())
 }
 
 // Stops the test where one lane has another number, or the lane beside it is another element.
-fn lane_is<N: Numbers>(
+fn lane_is<F: CanonicalField, P: PackedField<Scalar = F>>(
     rt: &impl Abort,
-    x: Residue31X8<N>,
+    alloc: Global,
+    x: P,
     lane: usize,
     number: u64,
-    beside: Residue31<N>,
+    beside: F,
 )
-    requires { lane < 8 }
+    requires width { P.WIDTH ≡ 8 }
+    requires lane { lane < 8 }
 {
-    let (found, other) = at_lanes(x, lane);
+    let (found, other) = at_lanes::<F, P>(rt, alloc, x, lane);
     has_number(rt, found, number);
     has_number(rt, other, beside.as_canonical_u64());
 }
 
 // Each operation in one lane of eight, beside others that have answers of their own.
-fn lane_agrees<N: Numbers>(
+fn lane_agrees<F: CanonicalField, P: PackedField<Scalar = F>>(
     rt: &impl Abort,
+    alloc: Global,
     lane: usize,
     row: &(usize, usize, u64, u64, u64),
     products: &mut Products,
 )
-    requires { lane < 8 }
+    requires width { P.WIDTH ≡ 8 }
+    requires lane { lane < 8 }
 {
     let (a, b, sum, difference, product) = *row;
-    let t = Residue31::<N>::from_usize(b);
-    let two = Residue31::<N>::TWO;
-    let x = lanes_of(Residue31::from_usize(a), lane, Residue31::<N>::NEG_ONE);
-    let y = lanes_of(t, lane, two);
-    lane_is(rt, PackedField::add(x, y), lane, sum, Residue31::ONE);
-    lane_is(
-        rt,
-        PackedField::sub(x, y),
-        lane,
-        difference,
-        Residue31::NEG_ONE - two,
-    );
-    lane_is(
-        rt,
-        x.sub_scaled(y, Residue31::ONE, products),
-        lane,
-        difference,
-        Residue31::NEG_ONE - two,
-    );
-    lane_is(rt, x.scaled(t, products), lane, product, -t);
-    lane_is(rt, x.multiplied(y, products), lane, product, -two);
-    lane_is(rt, Residue31X8::broadcast(t), lane, t.as_canonical_u64(), t);
+    let t = F::from_usize(b);
+    let beside = F::NEG_ONE - F::TWO;
+    let x = lanes_of::<F, P>(rt, alloc, F::from_usize(a), lane, F::NEG_ONE);
+    let y = lanes_of::<F, P>(rt, alloc, t, lane, F::TWO);
+    lane_is(rt, alloc, x.add(y), lane, sum, F::ONE);
+    lane_is(rt, alloc, x.sub(y), lane, difference, beside);
+    let by_one = x.sub_scaled(y, F::ONE, products);
+    lane_is(rt, alloc, by_one, lane, difference, beside);
+    lane_is(rt, alloc, x.scaled(t, products), lane, product, -t);
+    let by_lanes = x.multiplied(y, products);
+    lane_is(rt, alloc, by_lanes, lane, product, -F::TWO);
+    let all = P::broadcast(t);
+    lane_is(rt, alloc, all, lane, t.as_canonical_u64(), t);
 }
 
-fn lanes_agree<N: Numbers>(rt: &impl Abort, table: &[(usize, usize, u64, u64, u64)]) {
+fn lanes_agree<F: CanonicalField, P: PackedField<Scalar = F>>(
+    rt: &impl Abort,
+    alloc: Global,
+    table: &[(usize, usize, u64, u64, u64)],
+)
+    requires { P.WIDTH ≡ 8 }
+{
     let mut products = Products::new();
     for row in table {
         for lane in 0..8usize {
-            lane_agrees::<N>(rt, lane, row, &mut products);
+            lane_agrees::<F, P>(rt, alloc, lane, row, &mut products);
         }
     }
 }
 
 #[test]
 fn eight_lanes_compute_as_single_elements(rt: HostRuntime) {
-    lanes_agree::<BabyBearNumbers>(&rt, &vectors::BABY_BEAR);
-    lanes_agree::<KoalaBearNumbers>(&rt, &vectors::KOALA_BEAR);
+    let alloc = rt.alloc();
+    lanes_agree::<BabyBear, BabyBearX8>(&rt, alloc, &vectors::BABY_BEAR);
+    lanes_agree::<KoalaBear, KoalaBearX8>(&rt, alloc, &vectors::KOALA_BEAR);
+    lanes_agree::<WideGoldilocks, GoldilocksX8>(&rt, alloc, &vectors::GOLDILOCKS);
 }
