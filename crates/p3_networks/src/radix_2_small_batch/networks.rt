@@ -612,8 +612,8 @@ fn multiples_of_row<F: TwoAdicField>(
         ≡ F.ring.mul (F.value (get_or row.now j F.ZERO)) (F.ring.mul (F.value first) (power F.ring (F.value step) t)) }
     ensures count { products.new ≡ products.old + count * length row.now }
 {
-    // Shorter than two packs.
-    if row.len() / 2 < F::Packing::WIDTH {
+    // Shorter than two packs, and so many that doubling saves calls.
+    if row.len() / 2 < F::Packing::WIDTH && count > 2 {
         multiples_by_doubling(first, step, row, values, count, products);
     } else {
         multiples_one_by_one(first, step, row, values, count, products);
