@@ -43,7 +43,7 @@ enum liktrob_status {
 
 /* All engines answer the same. They differ in time and in memory. */
 enum liktrob_engine {
-    LIKTROB_DEFAULT = 0, /* the fastest, which is the last */
+    LIKTROB_DEFAULT = 0, /* the one that was fastest, by call and shape */
     LIKTROB_NAIVE_DFT = 1,
     LIKTROB_RADIX_2_DIT = 2,
     LIKTROB_RADIX_2_BOWERS = 3,

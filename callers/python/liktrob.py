@@ -45,7 +45,8 @@ class Status(enum.IntEnum):
 
 
 class Engine(enum.IntEnum):
-    """The engines. All answer the same; they differ in time and in memory. The default is the last, the fastest."""
+    """The engines. All answer the same; they differ in time and in memory. The default is the one that was fastest, by
+    call and shape."""
 
     DEFAULT = 0
     NAIVE_DFT = 1

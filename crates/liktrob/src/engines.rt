@@ -15,9 +15,10 @@ use p3_dft::{
     extended_height,
 };
 
-/// An engine of `p3_dft`.
+/// An engine of `p3_dft`, or the one of them that is the fastest for what is asked.
 #[derive(Clone, Copy)]
 pub enum Engine {
+    Fastest,
     Naive,
     Dit,
     Bowers,
@@ -25,9 +26,9 @@ pub enum Engine {
     SmallBatch,
 }
 
-// The first is the fastest, for callers who do not choose.
+// The first is for callers who do not choose.
 const ENGINES: [Engine; 6] = [
-    Engine::SmallBatch,
+    Engine::Fastest,
     Engine::Naive,
     Engine::Dit,
     Engine::Bowers,
@@ -97,12 +98,37 @@ pub fn answer_by<F: TwoAdicField>(
     ensures answer { IfOk result (λ out. (k : ℕ) → height mat ≡ 2 ^ k
         → IsAnswer F.Field.own F.generator operation mat k (F.value shift) out) }
 {
+    let engine = match engine {
+        Engine::Fastest => fastest(operation, mat.height(), mat.width()),
+        chosen => chosen,
+    };
     match engine {
         Engine::Naive => answer_to(&mut NaiveDft::default(), operation, mat, shift),
         Engine::Dit => answer_to(&mut Radix2Dit::default(), operation, mat, shift),
         Engine::Bowers => answer_to(&mut Radix2Bowers::default(), operation, mat, shift),
         Engine::Parallel => answer_to(&mut Radix2DitParallel::default(), operation, mat, shift),
-        Engine::SmallBatch => answer_to(&mut Radix2DFTSmallBatch::default(), operation, mat, shift),
+        Engine::Fastest | Engine::SmallBatch => answer_to(
+            &mut Radix2DFTSmallBatch::default(),
+            operation,
+            mat,
+            shift,
+        ),
+    }
+}
+
+// The engine by which one call is fastest, as measured. No table is kept for a second call, and `Radix2Bowers` makes
+// fewer of them; its inverses begin with the inverse of a generator, which is dear in a short column.
+fn fastest(operation: Operation, height: usize, width: usize) -> Engine {
+    match operation {
+        Operation::CosetDft(_) => Engine::Bowers,
+        Operation::CosetIdft => Engine::SmallBatch,
+        Operation::CosetLde(_) | Operation::CosetLdeBitReversed(_) => {
+            if width == 1 && height >= 64 {
+                Engine::Bowers
+            } else {
+                Engine::SmallBatch
+            }
+        }
     }
 }
 
