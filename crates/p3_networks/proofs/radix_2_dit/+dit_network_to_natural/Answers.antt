@@ -89,10 +89,3 @@ network_in_cache-requires-clause-size g t c = c.requires.size
 
 pub network_in_cache-requires-clause-twiddles : goal.network_in_cache-requires-clause-twiddles
 network_in_cache-requires-clause-twiddles g t c = c.requires.twiddles
-
-pub returns-else-log_h-gt0 : goal.returns-else-log_h-gt0
-returns-else-log_h-gt0 g t c = record {
-  values = c.network_in_cache.ensures.values;
-  grows = c.network_in_cache.ensures.grows;
-  cost = c.network_in_cache.ensures.cost;
-}

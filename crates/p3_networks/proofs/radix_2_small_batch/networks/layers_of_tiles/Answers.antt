@@ -12,12 +12,8 @@ on_each_chunk-requires g c =
           (c.requires.wide, (tile_small _ _ _ _ _ _ n c.requires.small sizes below, (sizes.size_is, λ b t inside. c.requires.there b t (omega (arith, rows, inside)))));
     }
 
-pub returns : goal.returns
-returns g c =
-    let field = g.F.Field in
-    let sizes = tile_sizes c.args.log_h c.args.log_rows c.args.width (length c.args.values.now) c.requires.small c.requires.below c.requires.size in
-    record {
-      cells = λ cells layers. tiles_taken field.value field.value field.ZERO _ _ _ _ _ _ _ _ _ _ cells c.args.values.now c.on_each_chunk.new.values sizes c.requires.wide c.on_each_chunk.auto.values c.on_each_chunk.ensures.chunks layers;
-      grows = c.on_each_chunk.ensures.grows;
-      cost = omega (arith, c.on_each_chunk.ensures.cost, tiles_cost _ _ _ _ _ _ (g.R.Rule.cost * c.args.log_rows) sizes);
-    }
+pub returns-clause-cells : goal.returns-clause-cells
+returns-clause-cells g c = let field = g.F.Field in let sizes = tile_sizes c.args.log_h c.args.log_rows c.args.width (length c.args.values.now) c.requires.small c.requires.below c.requires.size in λ cells layers. tiles_taken field.value field.value field.ZERO _ _ _ _ _ _ _ _ _ _ cells c.args.values.now c.on_each_chunk.new.values sizes c.requires.wide c.on_each_chunk.auto.values c.on_each_chunk.ensures.chunks layers
+
+pub returns-clause-cost : goal.returns-clause-cost
+returns-clause-cost g c = let sizes = tile_sizes c.args.log_h c.args.log_rows c.args.width (length c.args.values.now) c.requires.small c.requires.below c.requires.size in omega (arith, c.on_each_chunk.ensures.cost, tiles_cost _ _ _ _ _ _ (g.R.Rule.cost * c.args.log_rows) sizes)
