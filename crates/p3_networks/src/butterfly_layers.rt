@@ -295,7 +295,7 @@ pub(crate) fn meet_ranges<F: TwoAdicField, R: Rule<F>>(
 ///
 /// Inlined, so that a size that the caller names is known in the loop.
 #[inline(always)]
-pub fn layer_oop<F: TwoAdicField, B: Butterfly<F>>(
+pub(crate) fn layer_oop<F: TwoAdicField, B: Butterfly<F>>(
     butterfly: B,
     source: &[F],
     values: &mut [F],

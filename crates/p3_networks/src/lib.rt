@@ -5,8 +5,8 @@
 //! the columns at a point. `p3_dft` makes engines of them and gives the names that a user needs.
 #![tactic(auto)]
 
-pub mod butterfly_layers;
-pub mod chunks;
+mod butterfly_layers;
+mod chunks;
 pub mod radix_2_bowers;
 pub mod radix_2_dit;
 pub mod radix_2_dit_parallel;

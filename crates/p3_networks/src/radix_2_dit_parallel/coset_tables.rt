@@ -236,7 +236,7 @@ impl<F: TwoAdicField> CosetTables<F> {
     }
 
     /// The place of the table of a coset that has one. The search begins at `start` and goes round.
-    pub fn place_of(&self, log_h: usize, shift: F, start: usize) -> usize
+    pub(crate) fn place_of(&self, log_h: usize, shift: F, start: usize) -> usize
         requires { HasCoset F.Field.own self.now log_h (F.value shift) }
         ensures { IsCosetAt F.Field.own self.now log_h (F.value shift) result }
     {

@@ -137,7 +137,7 @@ impl<F: TwoAdicField> ChunkWork<F> for LowLayers<'_, F> {
 }
 
 /// The first half, under the same conditions, from as many rows of another slice, which stay.
-pub fn first_half_oop<F: TwoAdicField>(
+pub(crate) fn first_half_oop<F: TwoAdicField>(
     twiddles: &[F],
     source: &[F],
     values: &mut [F],
