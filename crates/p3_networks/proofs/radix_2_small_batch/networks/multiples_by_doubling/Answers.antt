@@ -1,9 +1,9 @@
-use Rattle.std.proofs.Common.{◌≡◌, ℕ, ◌+◌, ◌-◌, ◌*◌, ◌<◌, ◌≤◌, ◌++◌, min, length, get_or, sym, ap, ap₂, ◌∙◌, subst, arith, ⊎_elim}
+use Rattle.std.proofs.Common.{◌≡◌, ℕ, ◌+◌, ◌-◌, ◌*◌, ◌<◌, ◌≤◌, ◌++◌, min, length, get_or, sym, ap, ap₂, ◌∙◌, arith, ⊎_elim}
 use borrow.Rule.Slice.PartMut.{post_of}
 use Rattle.std.proofs.Math.Nat.{mul-le-mul_right}
 use Rattle.std.proofs.lemmas.Bool.{cases_lt}
 use Rattle.std.proofs.lemmas.Nat.{mul-add-lt}
-use Rattle.p3_field.specs.Ring.{Ring, power}
+use Rattle.p3_field.specs.Ring.{power}
 use Rattle.p3_field.proofs.Powers.{power-add, power-one, power-zero}
 use Rattle.p3_matrix.proofs.Rows.Overwritten.{value_at}
 use Rattle.p3_networks.proofs.Layers.Halves.{in_first}

@@ -1,4 +1,4 @@
-use Rattle.std.proofs.Common.{◌≡◌, ℕ, ◌+◌, ◌-◌, ◌*◌, ◌<◌, ◌≤◌, get_or, length}
+use Rattle.std.proofs.Common.{◌≡◌, ℕ, ◌+◌, ◌-◌, ◌*◌, ◌<◌, ◌≤◌, get_or}
 use Rattle.p3_field.specs.Ring.{power}
 use Rattle.p3_networks.proofs.radix_2_small_batch.networks.multiples_by_doubling.Given as goal
 

@@ -1,4 +1,4 @@
-use Rattle.std.proofs.Common.{◌≡◌, ◌+◌, ◌-◌, ◌++◌, length, get_or, ap, sym, ◌∙◌, arith, zero-add}
+use Rattle.std.proofs.Common.{◌≡◌, ◌-◌, length, get_or, ap, sym, ◌∙◌, arith, zero-add}
 use Rattle.p3_matrix.proofs.Rows.Overwritten.{part_at, value_at}
 use Rattle.p3_networks.proofs.Layers.Halves.{in_first, in_second}
 use Rattle.p3_networks.proofs.radix_2_small_batch.networks.scale_behind.Goals as goal
