@@ -18,7 +18,6 @@ use Rattle.p3_dft.proofs.Laws.OneAnswer.{one_answer}
 use Rattle.dft.specs.declared.fault.Fault.{Fault}
 use Rattle.dft.specs.declared.fault.Stopped.{Stopped}
 use Rattle.dft.specs.declared.fault.Stopped.TheVariants.{OutOfMemory}
-use Rattle.growth.specs.declared.Refused.{Refused}
 use Rattle.dft.specs.declared.names.FieldName.{FieldName}
 use Rattle.dft.specs.declared.names.FieldName.TheVariants.{BabyBear, Goldilocks}
 use Rattle.dft.specs.declared.names.Operation.{Operation}
@@ -124,6 +123,6 @@ answerable : (words : List (List ℕ)) → ((o : Outcome) → IsOutcome words o 
 answerable words all = let one = one_outcome words in (one.0, one.1, one.2, all one.0 one.1)
 
 -- and where memory ran out
-pub answerable_without_memory : (words : List (List ℕ)) (s : Stopped) {refused : Refused} (r : Result (Vec ℕ Global) Stopped) → r ≡ Err s → s ≡ OutOfMemory refused → Gives r (IsOutcome words) → IsAnswerable words
+pub answerable_without_memory : (words : List (List ℕ)) (s : Stopped) {refused : ℕ} (r : Result (Vec ℕ Global) Stopped) → r ≡ Err s → s ≡ OutOfMemory refused → Gives r (IsOutcome words) → IsAnswerable words
 answerable_without_memory words s r stopped is gives =
     answerable words (subst (λ (given : Result (Vec ℕ Global) Stopped). Gives given (IsOutcome words)) (stopped ∙ ap Err is) gives)

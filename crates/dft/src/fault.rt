@@ -1,8 +1,7 @@
 //! Why the program has no answer.
 
-ghost use Rattle.std.specs.Prelude.{◌≡◌};
+ghost use Rattle.std.specs.Prelude.{◌≡◌, ℕ};
 ghost use Rattle.dft.specs.Faults.{line_of};
-ghost use Rattle.growth.specs.declared.Refused.{Refused};
 ghost use Rattle.dft.specs.declared.fault.Stopped.TheVariants.{ByFault, OutOfMemory};
 
 use p3_dft::{DftError, Refused};
@@ -62,7 +61,7 @@ impl From<Refused> for Stopped {
 }
 
 impl From<DftError> for Stopped {
-    ghost from_gives = { λ _ e. (refused : Refused) × (e ≡ OutOfMemory refused) };
+    ghost from_gives = { λ _ e. (refused : ℕ) × (e ≡ OutOfMemory refused) };
 
     fn from(error: DftError) -> Stopped {
         match error {
