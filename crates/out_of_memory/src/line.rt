@@ -1,8 +1,5 @@
 //! A polynomial whose coefficients and values are known at every height.
 
-ghost use Rattle.std.specs.Prelude.{◌↔◌, IsTrue};
-ghost use Rattle.p3_field.specs.Ring.{IsInvertible};
-
 use p3_dft::{Field, TwoAdicField};
 use std::alloc::{AllocError, Global};
 
@@ -13,7 +10,7 @@ pub struct Line<F> {
 }
 
 /// `2^log_h`, or zero where a `usize` does not hold it.
-pub fn height(log_h: usize) -> usize {
+fn height(log_h: usize) -> usize {
     if log_h < 64 { 1 << log_h } else { 0 }
 }
 
@@ -24,13 +21,6 @@ fn generator<F: TwoAdicField>(log_h: usize) -> F {
     } else {
         F::ONE
     }
-}
-
-/// Whether an element has an inverse.
-pub fn has_inverse<F: Field>(x: F) -> bool
-    ensures { IsTrue result ↔ IsInvertible F.ring (F.value x) }
-{
-    x.try_inverse().is_some()
 }
 
 impl<F: TwoAdicField> Line<F> {

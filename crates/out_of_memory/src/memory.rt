@@ -33,21 +33,9 @@ pub enum Before {
     Stop,
 }
 
-/// Requests that come before a call.
-#[derive(Drop)]
-pub struct Asked {
-    before: Before,
-}
-
-impl Asked {
-    pub fn of(before: Before) -> Self {
-        Asked { before }
-    }
-}
-
-impl Memory for Asked {
+impl Memory for Before {
     fn strain(&mut self, alloc: Global) -> bool {
-        match self.before {
+        match *self {
             Before::Stop => false,
             Before::Requests(times) => {
                 for _n in 0..times {

@@ -1,6 +1,6 @@
 //! Columns of shapes that are tested.
 
-ghost use Rattle.std.specs.Prelude.{◌≡◌, ◌^◌, ◌<◌, IfSome, IsTrue};
+ghost use Rattle.std.specs.Prelude.{IfSome};
 ghost use Rattle.p3_matrix.specs.RowMajor.{height};
 ghost use Rattle.p3_dft.specs.Shapes.{FitsDft, FitsLde};
 
@@ -28,12 +28,4 @@ pub fn extensible<F: TwoAdicField>(column: Vec<F>, added_bits: usize) -> Option<
     } else {
         None
     }
-}
-
-/// Whether there are `2^log_h` rows.
-pub fn has_height<F>(mat: &RowMajorMatrix<F>, log_h: usize) -> bool
-    ensures height { IsTrue result → height mat.now ≡ 2 ^ log_h }
-    ensures small { IsTrue result → log_h < 64 }
-{
-    log_h < 64 && mat.height() == 1 << log_h
 }
