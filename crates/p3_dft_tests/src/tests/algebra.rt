@@ -9,12 +9,14 @@ ghost use Rattle.p3_dft.specs.Extensions.{IsExtension};
 ghost use Rattle.p3_dft.specs.Shapes.{FitsDft, FitsLde};
 ghost use Rattle.p3_dft.specs.Transforms.{IsInterpolation, IsTransform};
 
-use super::{CallsTest, assert_same, calls_of_every_engine, matrix_of, sample};
-use crate::tests::calls::{Calls, CallsOf};
+use super::helpers::engines::{EVERY_ENGINE, Kind, TestEngine, assert_rows_of, input, rows_of};
+use super::helpers::matrices::{assert_same, matrix, matrix_of, sample};
+use engine_calls::answers::Answer;
+use engine_calls::engines::Engine;
+use engine_calls::names::{Call, EngineName, OPERATIONS, Operation};
 use p3_dft::{
     BabyBear, BasedVectorSpace, CanonicalField, Coordinates, DftError, Field, Goldilocks,
-    Radix2DFTSmallBatch, Radix2Dit, Radix2DitParallel, RowMajorMatrix, TwoAdicField,
-    TwoAdicSubgroupDft,
+    RowMajorMatrix, TwoAdicField, TwoAdicSubgroupDft,
 };
 use std::alloc::Global;
 use std::process::Abort;
@@ -74,315 +76,245 @@ fn coordinates_extended<F: TwoAdicField, V: BasedVectorSpace<F>, D: TwoAdicSubgr
     engine.coset_lde_algebra_batch(mat, added_bits, shift)
 }
 
-type Pair<F> = Coordinates<F, 2>;
-
-// The pairs with these numbers, one pair after another.
-fn pairs<F: CanonicalField>(rt: &impl Abort, alloc: Global, numbers: &[u64]) -> Vec<Pair<F>> {
-    let coordinates: Vec<F> = super::elements(rt, alloc, numbers);
-    let mut pairs = Vec::new(alloc);
-    for i in 0..coordinates.len() / 2 {
-        pairs
-            .push(Coordinates::new([coordinates[2 * i], coordinates[2 * i + 1]]))
-            .expect(rt, "memory");
-    }
-    pairs
+// A column of pairs that was worked: what is done, the coordinates, the added bits, the shift, and the answer's.
+struct Pairs {
+    operation: Operation,
+    rows: &'static [u64],
+    added_bits: usize,
+    shift: usize,
+    answer: &'static [u64],
 }
 
-// Stops the test where an answer is not the pairs with these numbers.
-fn assert_pairs<F: CanonicalField>(
+const PAIRS_OVER_BABY_BEAR: [Pairs; 4] = [
+    Pairs {
+        operation: Operation::Dft,
+        rows: &[5, 1, 4, 0],
+        added_bits: 0,
+        shift: 1,
+        answer: &[9, 1, 1, 1],
+    },
+    Pairs {
+        operation: Operation::Idft,
+        rows: &[9, 1, 1, 1],
+        added_bits: 0,
+        shift: 1,
+        answer: &[5, 1, 4, 0],
+    },
+    Pairs {
+        operation: Operation::Lde,
+        rows: &[9, 42, 1, 42],
+        added_bits: 1,
+        shift: 1,
+        answer: &[9, 42, 873820294, 42, 1, 42, 1139445637, 42],
+    },
+    Pairs {
+        operation: Operation::CosetLde,
+        rows: &[9, 42, 1, 42],
+        added_bits: 1,
+        shift: 0,
+        answer: &[5, 42, 5, 42, 5, 42, 5, 42],
+    },
+];
+
+const PAIRS_OVER_GOLDILOCKS: [Pairs; 1] = [Pairs {
+    operation: Operation::Lde,
+    rows: &[9, 42, 1, 42],
+    added_bits: 1,
+    shift: 1,
+    answer: &[9, 42, 1125899906842629, 42, 1, 42, 18445618169507741702, 42],
+}];
+
+// The matrix of the elements whose coordinates are the rows of another, one after another.
+pub(crate) fn elements_of<F: TwoAdicField, V: BasedVectorSpace<F>>(
     rt: &impl Abort,
-    alloc: Global,
-    found: Vec<Pair<F>>,
-    numbers: &[u64],
-) {
-    let expected: Vec<Pair<F>> = pairs(rt, alloc, numbers);
-    assert!(rt; found == expected);
-}
-
-// Worked columns of pairs, and a worked extension of one.
-struct WorkedPairs;
-
-impl CallsTest<BabyBear> for WorkedPairs {
-    fn run<R: Abort, C: Calls<BabyBear>>(&self, rt: &R, alloc: Global, engine: &mut C) {
-        let values = engine.column_dft_algebra(rt, pairs(rt, alloc, &[5, 1, 4, 0]));
-        assert_pairs(rt, alloc, values, &[9, 1, 1, 1]);
-        let coefficients = engine.column_idft_algebra(rt, pairs(rt, alloc, &[9, 1, 1, 1]));
-        assert_pairs(rt, alloc, coefficients, &[5, 1, 4, 0]);
-        let values = engine.column_lde_algebra(rt, pairs(rt, alloc, &[9, 42, 1, 42]), 1);
-        let numbers = [9, 42, 873820294, 42, 1, 42, 1139445637, 42];
-        assert_pairs(rt, alloc, values, &numbers);
-        let column = pairs(rt, alloc, &[9, 42, 1, 42]);
-        let values = engine.column_coset_lde_algebra(rt, column, 1, BabyBear::ZERO);
-        assert_pairs(rt, alloc, values, &[5, 42, 5, 42, 5, 42, 5, 42]);
-    }
-}
-
-// At one shape: in dimension one each form is the call over the field.
-#[derive(Drop)]
-struct DimensionOne {
-    height: usize,
-    width: usize,
-}
-
-impl<F: TwoAdicField> CallsTest<F> for DimensionOne {
-    fn run<R: Abort, C: Calls<F>>(&self, rt: &R, alloc: Global, engine: &mut C) {
-        let shift = F::GENERATOR;
-        let x = sample(rt, alloc, self.height, self.width, 3);
-        assert_same(rt, &engine.dft(rt, &x), &engine.dft_algebra(rt, &x));
-        let values = engine.coset_dft(rt, &x, shift);
-        assert_same(rt, &values, &engine.coset_dft_algebra(rt, &x, shift));
-        assert_same(rt, &engine.idft(rt, &x), &engine.idft_algebra(rt, &x));
-        let coefficients = engine.coset_idft(rt, &x, shift);
-        assert_same(rt, &coefficients, &engine.coset_idft_algebra(rt, &x, shift));
-    }
-}
-
-// Each extension, also at zero.
-#[derive(Drop)]
-struct ExtendedInDimensionOne {
-    height: usize,
-    width: usize,
-}
-
-impl<F: TwoAdicField> CallsTest<F> for ExtendedInDimensionOne {
-    fn run<R: Abort, C: Calls<F>>(&self, rt: &R, alloc: Global, engine: &mut C) {
-        let shift = F::GENERATOR;
-        let x = sample(rt, alloc, self.height, self.width, 3);
-        assert_same(rt, &engine.lde(rt, &x, 1), &engine.lde_algebra(rt, &x, 1));
-        let values = engine.coset_lde(rt, &x, 1, shift);
-        assert_same(rt, &values, &engine.coset_lde_algebra(rt, &x, 1, shift));
-        let values = engine.coset_lde(rt, &x, 1, F::ZERO);
-        assert_same(rt, &values, &engine.coset_lde_algebra(rt, &x, 1, F::ZERO));
-    }
-}
-
-// The entries of a matrix of one column.
-fn entries_of<F: TwoAdicField>(rt: &impl Abort, mat: &RowMajorMatrix<F>) -> Vec<F> {
-    mat.try_clone().expect(rt, "memory").into_values()
-}
-
-// Stops the test where a column is not that of a matrix.
-fn assert_entries<F: TwoAdicField>(rt: &impl Abort, found: Vec<F>, wanted: &RowMajorMatrix<F>) {
-    assert_same(rt, &matrix_of(rt, found, 1), wanted);
-}
-
-// One column on the subgroup.
-#[derive(Drop)]
-struct ColumnOnSubgroup {
-    height: usize,
-}
-
-impl<F: TwoAdicField> CallsTest<F> for ColumnOnSubgroup {
-    fn run<R: Abort, C: Calls<F>>(&self, rt: &R, alloc: Global, engine: &mut C) {
-        let x = sample(rt, alloc, self.height, 1, 3);
-        let values = engine.dft(rt, &x);
-        let found = engine.column_dft_algebra(rt, entries_of(rt, &x));
-        assert_entries(rt, found, &values);
-        let found = engine.column_idft_algebra(rt, entries_of(rt, &values));
-        assert_entries(rt, found, &x);
-        let values = engine.lde(rt, &x, 1);
-        let found = engine.column_lde_algebra(rt, entries_of(rt, &x), 1);
-        assert_entries(rt, found, &values);
-    }
-}
-
-// On a coset the forms over one column of coordinates are the calls on the column.
-#[derive(Drop)]
-struct ColumnOnCoset {
-    height: usize,
-}
-
-impl<F: TwoAdicField> CallsTest<F> for ColumnOnCoset {
-    fn run<R: Abort, C: Calls<F>>(&self, rt: &R, alloc: Global, engine: &mut C) {
-        let shift = F::GENERATOR;
-        let x = sample(rt, alloc, self.height, 1, 3);
-        let values = engine.coset_dft(rt, &x, shift);
-        let found = engine.column_coset_dft_algebra(rt, entries_of(rt, &x), shift);
-        assert_entries(rt, found, &values);
-        let found = engine.column_coset_idft_algebra(rt, entries_of(rt, &values), shift);
-        assert_entries(rt, found, &x);
-        let values = engine.coset_lde(rt, &x, 1, shift);
-        let found = engine.column_coset_lde_algebra(rt, entries_of(rt, &x), 1, shift);
-        assert_entries(rt, found, &values);
-    }
-}
-
-fn forms_at<F: TwoAdicField>(rt: &impl Abort, alloc: Global, height: usize, width: usize) {
-    calls_of_every_engine::<F, _, _>(rt, alloc, &DimensionOne { height, width });
-    calls_of_every_engine::<F, _, _>(rt, alloc, &ExtendedInDimensionOne { height, width });
-}
-
-fn same_as_over_the_field<F: TwoAdicField>(rt: &impl Abort, alloc: Global) {
-    for height in [1usize, 4] {
-        for width in [1usize, 3] {
-            forms_at::<F>(rt, alloc, height, width);
-        }
-        calls_of_every_engine::<F, _, _>(rt, alloc, &ColumnOnSubgroup { height });
-        calls_of_every_engine::<F, _, _>(rt, alloc, &ColumnOnCoset { height });
-    }
-}
-
-#[test]
-fn forms_in_dimension_one_are_the_calls(rt: HostRuntime) {
-    same_as_over_the_field::<BabyBear>(&rt, rt.alloc());
-    same_as_over_the_field::<Goldilocks>(&rt, rt.alloc());
-}
-
-// A matrix of elements that look like any others.
-fn elements<F: TwoAdicField, V: BasedVectorSpace<F>>(
-    rt: &impl Abort,
-    alloc: Global,
-    height: usize,
+    coordinates: &RowMajorMatrix<F>,
     width: usize,
 ) -> RowMajorMatrix<V> {
-    let count = height.checked_mul(width).expect(rt, "so many entries");
-    let coordinates = sample(rt, alloc, count, V::DIMENSION, 5);
-    let mut elements = Vec::new(alloc);
-    for i in 0..coordinates.height() {
-        let row = coordinates.row(i);
+    assert!(rt; V::DIMENSION != 0);
+    let mut elements = Vec::new(*coordinates.allocator());
+    for row in coordinates.values().chunks_exact(V::DIMENSION) {
         assert!(rt; row.len() == V::DIMENSION);
         elements.push(V::from_coordinates(row)).expect(rt, "memory");
     }
     matrix_of(rt, elements, width)
 }
 
-// Coordinate t of the entries in column j.
-fn coordinates<F: TwoAdicField, V: BasedVectorSpace<F>>(
+// The coordinates of a matrix's elements, row after row.
+fn coordinates_of<F: TwoAdicField, V: BasedVectorSpace<F>>(
     rt: &impl Abort,
-    alloc: Global,
     mat: &RowMajorMatrix<V>,
-    j: usize,
-    t: usize,
 ) -> RowMajorMatrix<F> {
-    assert!(rt; t < V::DIMENSION);
-    let mut column = Vec::new(alloc);
-    for i in 0..mat.height() {
-        let element = mat.row(i).get(j).expect(rt, "such a column");
-        column.push(element.coordinate(t)).expect(rt, "memory");
+    let mut entries = Vec::new(*mat.allocator());
+    for element in mat.values() {
+        for t in 0..V::DIMENSION {
+            entries.push(element.coordinate(t)).expect(rt, "memory");
+        }
     }
-    matrix_of(rt, column, 1)
+    let width = mat
+        .width()
+        .checked_mul(V::DIMENSION)
+        .expect(rt, "so many coordinates");
+    matrix_of(rt, entries, width)
 }
 
-// A coordinate of a column is transformed on a coset as if it stood alone.
-fn coordinate_alone<F: TwoAdicField, V: BasedVectorSpace<F>, C: Calls<F>>(
+// The coordinates of what a call answers on the elements with these.
+fn rows_in_space<F: TwoAdicField, V: BasedVectorSpace<F> + Copy>(
     rt: &impl Abort,
-    alloc: Global,
-    engine: &mut C,
-    (mat, values): (&RowMajorMatrix<V>, &RowMajorMatrix<V>),
-    (j, t): (usize, usize),
-) {
-    let column = coordinates::<F, V>(rt, alloc, mat, j, t);
-    let transformed = coordinates::<F, V>(rt, alloc, values, j, t);
-    let found = engine.coset_dft(rt, &column, F::GENERATOR);
-    assert_same(rt, &transformed, &found);
+    engine: &mut TestEngine<F>,
+    call: Call,
+    coordinates: &RowMajorMatrix<F>,
+    width: usize,
+    added_bits: usize,
+    shift: F,
+) -> RowMajorMatrix<F> {
+    let elements: RowMajorMatrix<V> = elements_of(rt, coordinates, width);
+    match engine.answer_in_space(call, elements, added_bits, shift) {
+        Answer::Rows(rows) => coordinates_of::<F, V>(rt, &rows),
+        _ => panic!(rt;
+            "{} {} on {}: no answer",
+            call.form(),
+            call.word(),
+            engine.name
+        ),
+    }
 }
 
-// So is each coordinate of each column.
-fn alone<F: TwoAdicField, V: BasedVectorSpace<F> + Copy, C: Calls<F>>(
+// The worked columns of pairs, by every engine.
+fn worked_pairs<F: CanonicalField, V: BasedVectorSpace<F> + Copy>(
     rt: &impl Abort,
     alloc: Global,
-    engine: &mut C,
+    cases: &[Pairs],
 ) {
-    for width in [1usize, 3] {
-        let x: RowMajorMatrix<V> = elements::<F, V>(rt, alloc, 4, width);
-        let values = engine.coset_dft_algebra(rt, &x, F::GENERATOR);
-        for j in 0..width {
-            for t in 0..V::DIMENSION {
-                coordinate_alone::<F, V, C>(rt, alloc, engine, (&x, &values), (j, t));
+    for name in EVERY_ENGINE {
+        let mut engine: TestEngine<F> = TestEngine::new(name);
+        for case in cases {
+            let call = Call::AlgebraVector(case.operation);
+            let pairs = matrix(rt, alloc, case.rows, 2);
+            let (bits, shift) = (case.added_bits, F::from_usize(case.shift));
+            let found = rows_in_space::<F, V>(rt, &mut engine, call, &pairs, 1, bits, shift);
+            assert_same(rt, &found, &matrix(rt, alloc, case.answer, 2));
+        }
+    }
+}
+
+#[test]
+fn columns_of_pairs_have_the_worked_answers(rt: HostRuntime) {
+    let alloc = rt.alloc();
+    worked_pairs::<BabyBear, Coordinates<BabyBear, 2>>(&rt, alloc, &PAIRS_OVER_BABY_BEAR);
+    worked_pairs::<Goldilocks, Coordinates<Goldilocks, 2>>(&rt, alloc, &PAIRS_OVER_GOLDILOCKS);
+}
+
+// At one shape each form of a call answers what the call on the matrix answers, on a coset and at zero.
+fn forms_agree<F: TwoAdicField>(
+    rt: &impl Abort,
+    engine: &mut TestEngine<F>,
+    x: &RowMajorMatrix<F>,
+    shift: F,
+) {
+    for operation in OPERATIONS {
+        if operation != Operation::CosetIdft || shift != F::ZERO {
+            let rows = rows_of(rt, engine, Call::Batch(operation), input(rt, x, 1, shift));
+            for call in [
+                Call::Vector(operation),
+                Call::AlgebraBatch(operation),
+                Call::AlgebraVector(operation),
+            ] {
+                if x.width() == 1 || !call.is_of_column() {
+                    assert_rows_of(rt, engine, call, input(rt, x, 1, shift), &rows);
+                }
             }
         }
     }
 }
 
-// In some dimensions.
-struct EachAlone;
-
-impl CallsTest<BabyBear> for EachAlone {
-    fn run<R: Abort, C: Calls<BabyBear>>(&self, rt: &R, alloc: Global, engine: &mut C) {
-        alone::<BabyBear, Coordinates<BabyBear, 1>, C>(rt, alloc, engine);
-        alone::<BabyBear, Coordinates<BabyBear, 2>, C>(rt, alloc, engine);
-        alone::<BabyBear, Coordinates<BabyBear, 3>, C>(rt, alloc, engine);
-        alone::<BabyBear, Coordinates<BabyBear, 8>, C>(rt, alloc, engine);
+fn forms_over<F: TwoAdicField>(rt: &impl Abort, alloc: Global) {
+    for height in [1usize, 2, 4] {
+        for width in [1usize, 3] {
+            let x = sample(rt, alloc, height, width, 3);
+            for name in EVERY_ENGINE {
+                let mut engine: TestEngine<F> = TestEngine::new(name);
+                forms_agree(rt, &mut engine, &x, F::GENERATOR);
+                forms_agree(rt, &mut engine, &x, F::ZERO);
+            }
+        }
     }
 }
 
-// In pairs over the larger field, and a worked extension of these.
-struct PairsOverGoldilocks;
+#[test]
+fn forms_in_dimension_one_are_the_calls(rt: HostRuntime) {
+    forms_over::<BabyBear>(&rt, rt.alloc());
+    forms_over::<Goldilocks>(&rt, rt.alloc());
+}
 
-impl CallsTest<Goldilocks> for PairsOverGoldilocks {
-    fn run<R: Abort, C: Calls<Goldilocks>>(&self, rt: &R, alloc: Global, engine: &mut C) {
-        alone::<Goldilocks, Pair<Goldilocks>, C>(rt, alloc, engine);
-        let values = engine.column_lde_algebra(rt, pairs(rt, alloc, &[9, 42, 1, 42]), 1);
-        let numbers = [9, 42, 1125899906842629, 42, 1, 42, 18445618169507741702, 42];
-        assert_pairs(rt, alloc, values, &numbers);
+// Each call over a vector space answers what the call on the matrix of coordinates answers, so that each coordinate is
+// worked as if it stood alone.
+fn coordinates_agree<F: TwoAdicField, V: BasedVectorSpace<F> + Copy>(
+    rt: &impl Abort,
+    alloc: Global,
+    engine: &mut TestEngine<F>,
+) {
+    for width in [1usize, 3] {
+        let count = width
+            .checked_mul(V::DIMENSION)
+            .expect(rt, "so many coordinates");
+        let x = sample(rt, alloc, 4, count, 5);
+        for operation in OPERATIONS {
+            let rows = input(rt, &x, 1, F::GENERATOR);
+            let rows = rows_of(rt, engine, Call::Batch(operation), rows);
+            for call in [
+                Call::AlgebraBatch(operation),
+                Call::AlgebraVector(operation),
+            ] {
+                if width == 1 || !call.is_of_column() {
+                    let shift = F::GENERATOR;
+                    let found = rows_in_space::<F, V>(rt, engine, call, &x, width, 1, shift);
+                    assert_same(rt, &found, &rows);
+                }
+            }
+        }
+    }
+}
+
+// In one space.
+fn space_over<F: TwoAdicField, V: BasedVectorSpace<F> + Copy>(rt: &impl Abort, alloc: Global) {
+    for name in EVERY_ENGINE {
+        let mut engine: TestEngine<F> = TestEngine::new(name);
+        coordinates_agree::<F, V>(rt, alloc, &mut engine);
     }
 }
 
 #[test]
 fn each_coordinate_is_transformed_alone(rt: HostRuntime) {
-    calls_of_every_engine::<BabyBear, _, _>(&rt, rt.alloc(), &WorkedPairs);
-    calls_of_every_engine::<BabyBear, _, _>(&rt, rt.alloc(), &EachAlone);
-    calls_of_every_engine::<Goldilocks, _, _>(&rt, rt.alloc(), &PairsOverGoldilocks);
+    space_over::<BabyBear, Coordinates<BabyBear, 1>>(&rt, rt.alloc());
+    space_over::<BabyBear, Coordinates<BabyBear, 2>>(&rt, rt.alloc());
+    space_over::<BabyBear, Coordinates<BabyBear, 3>>(&rt, rt.alloc());
+    space_over::<BabyBear, Coordinates<BabyBear, 8>>(&rt, rt.alloc());
+    space_over::<Goldilocks, Coordinates<Goldilocks, 2>>(&rt, rt.alloc());
 }
 
-// Every form over the field itself, at height two.
-struct EveryForm;
-
-impl<F: TwoAdicField> CallsTest<F> for EveryForm {
-    fn run<R: Abort, C: Calls<F>>(&self, rt: &R, alloc: Global, engine: &mut C) {
-        let (height, width) = (2, 3);
-        DimensionOne { height, width }.run(rt, alloc, engine);
-        ExtendedInDimensionOne { height, width }.run(rt, alloc, engine);
-        ColumnOnSubgroup { height }.run(rt, alloc, engine);
-        ColumnOnCoset { height }.run(rt, alloc, engine)
+// After all forms at height two that height is prepared as before.
+fn stay_prepared<F: TwoAdicField, V: BasedVectorSpace<F> + Copy>(rt: &impl Abort, alloc: Global) {
+    let x = sample(rt, alloc, 2, 1, 3);
+    for name in [EngineName::Dit, EngineName::Parallel, EngineName::Small] {
+        let mut engine: Engine<F> = Engine::new(name);
+        let made = engine.prepare(alloc, 1);
+        assert!(rt; matches!(&made, Some(Ok(()))));
+        let mut engine = TestEngine::of(name, engine);
+        forms_agree(rt, &mut engine, &x, F::GENERATOR);
+        coordinates_agree::<F, V>(rt, alloc, &mut engine);
+        assert!(rt; is_prepared(&engine, 1), "{}", name.word());
     }
 }
 
-// After all forms of a test height two is prepared as before.
-
-fn dit_stays_prepared<F: TwoAdicField, R: Abort, T: CallsTest<F>>(rt: &R, alloc: Global, test: &T) {
-    assert!(rt; F::TWO_ADICITY >= 1);
-    let mut engine: Radix2Dit<F> = Radix2Dit::default();
-    engine.prepare(alloc, 1).expect(rt, "memory");
-    let mut calls = CallsOf { engine };
-    test.run(rt, alloc, &mut calls);
-    assert!(rt; calls.engine.is_prepared(1));
-}
-
-fn halves_stay_prepared<F: TwoAdicField, R: Abort, T: CallsTest<F>>(
-    rt: &R,
-    alloc: Global,
-    test: &T,
-) {
-    assert!(rt; F::TWO_ADICITY >= 1);
-    let mut engine: Radix2DitParallel<F> = Radix2DitParallel::default();
-    engine.prepare(alloc, 1).expect(rt, "memory");
-    let mut calls = CallsOf { engine };
-    test.run(rt, alloc, &mut calls);
-    assert!(rt; calls.engine.is_prepared(1));
-}
-
-fn tiles_stay_prepared<F: TwoAdicField, R: Abort, T: CallsTest<F>>(
-    rt: &R,
-    alloc: Global,
-    test: &T,
-) {
-    assert!(rt; F::TWO_ADICITY >= 1);
-    let mut engine: Radix2DFTSmallBatch<F> = Radix2DFTSmallBatch::default();
-    engine.prepare(alloc, 1).expect(rt, "memory");
-    let mut calls = CallsOf { engine };
-    test.run(rt, alloc, &mut calls);
-    assert!(rt; calls.engine.is_prepared(1));
-}
-
-fn all_stay_prepared<F: TwoAdicField, T: CallsTest<F>>(rt: &impl Abort, alloc: Global, test: &T) {
-    dit_stays_prepared(rt, alloc, test);
-    halves_stay_prepared(rt, alloc, test);
-    tiles_stay_prepared(rt, alloc, test);
+// Whether an engine of the library is prepared.
+pub(crate) fn is_prepared<F: TwoAdicField>(engine: &TestEngine<F>, log_h: usize) -> bool {
+    match &engine.kind {
+        Kind::Library(engine) => engine.is_prepared(log_h),
+        _ => false,
+    }
 }
 
 #[test]
 fn forms_keep_prepared_heights(rt: HostRuntime) {
-    all_stay_prepared::<BabyBear, _>(&rt, rt.alloc(), &EveryForm);
-    all_stay_prepared::<BabyBear, _>(&rt, rt.alloc(), &WorkedPairs);
+    stay_prepared::<BabyBear, Coordinates<BabyBear, 2>>(&rt, rt.alloc());
 }

@@ -2,16 +2,19 @@
 // memory stops the call.
 
 ghost use Rattle.std.specs.Prelude.{◌≡◌, ◌<◌, Ok, length};
-ghost use Rattle.p3_matrix.specs.RowMajor.{HasShapeOf};
 
-use super::{
-    EngineTest, LimitedDft, assert_rows, doubled, matrix, matrix_of, on_engines_of_one_block,
-    on_every_engine, on_halves, sample,
+use super::helpers::engines::{
+    EVERY_ENGINE, Kind, Name, TestEngine, assert_rows_of, input, rows_of,
 };
+use super::helpers::matrices::{assert_same, matrix, matrix_of, sample, with_zeros};
+use super::helpers::own_engines::LimitedDft;
+use engine_calls::answers::Input;
+use engine_calls::blocks::{Counter, Publication};
+use engine_calls::changes::Change;
+use engine_calls::names::{Call, EngineName, Operation};
 use p3_dft::{
-    BabyBear, BlockConsumer, BlockLimit, BlockRefused, BlocksStopped, CanonicalField, Evaluations,
-    Field, Goldilocks, Layout, NaiveDft, Recorder, RowMajorMatrix, RowMajorMatrixView,
-    TwoAdicField, TwoAdicSubgroupDft, Unpublished, fits_lde,
+    BabyBear, BlockConsumer, BlockLimit, BlockRefused, CanonicalField, Field, Goldilocks, Layout,
+    Recorder, RowMajorMatrix, RowMajorMatrixView, TwoAdicField, reverse_bits_len,
 };
 use std::alloc::Global;
 use std::cell::Cell;
@@ -32,31 +35,13 @@ fn has_rows_at<F: TwoAdicField>(
 
 // Compares each block with rows of a matrix as it is lent, and counts the rows.
 #[derive(Drop)]
-pub(crate) struct Compared<F> {
+struct Comparer<F> {
     expected: RowMajorMatrix<F>,
     equal: bool,
     rows: usize,
 }
 
-impl<F: TwoAdicField> Compared<F> {
-    // With the rows of this matrix, before any block.
-    pub(crate) fn with(expected: RowMajorMatrix<F>) -> Self {
-        Compared {
-            expected,
-            equal: true,
-            rows: 0,
-        }
-    }
-
-    // Stops the test unless all rows were lent, as they are here too.
-    pub(crate) fn assert_all(self, rt: &impl Abort, out: &RowMajorMatrix<F>) {
-        assert!(rt; self.equal);
-        assert!(rt; self.rows == out.height());
-        assert!(rt; self.expected == *out);
-    }
-}
-
-impl<F: TwoAdicField> BlockConsumer<F> for Compared<F> {
+impl<F: TwoAdicField> BlockConsumer<F> for Comparer<F> {
     ghost use Rattle.std.specs.Prelude.{◌≡◌, Ok};
 
     type Refusal = ();
@@ -64,31 +49,11 @@ impl<F: TwoAdicField> BlockConsumer<F> for Compared<F> {
     ghost step = { λ c start block answer e. answer ≡ Ok tt };
 
     fn consume(&mut self, start: usize, block: RowMajorMatrixView<'_, F>) -> Result<(), ()>
-        ensures { ⟦<Compared<F> as BlockConsumer<F>>⟧.step self.old start block.entry result self.new }
+        ensures { ⟦<Comparer<F> as BlockConsumer<F>>⟧.step self.old start block.entry result self.new }
     {
         self.equal = self.equal && has_rows_at(&self.expected, start, &block);
         self.rows = self.rows.saturating_add(block.height());
         Ok(())
-    }
-}
-
-// The physical rows of an extension without a transform, and a consumer that took all of them.
-pub(crate) fn extend_to<F: TwoAdicField, D: TwoAdicSubgroupDft<F>, C: BlockConsumer<F> + Drop>(
-    rt: &impl Abort,
-    engine: &mut D,
-    mat: &RowMajorMatrix<F>,
-    added_bits: usize,
-    shift: F,
-    consumer: C,
-) -> (RowMajorMatrix<F>, C)
-where
-    C::Refusal: Drop,
-{
-    let mat = mat.try_clone().expect(rt, "memory");
-    assert!(rt; fits_lde::<F>(mat.height(), mat.width(), added_bits));
-    match engine.coset_lde_batch_in_blocks(mat, added_bits, shift, |_rows| consumer) {
-        Ok((out, consumer)) => (out.bit_reverse_rows(), consumer),
-        Err(_) => panic!(rt; "not all blocks were taken"),
     }
 }
 
@@ -122,179 +87,119 @@ fn has_blocks_of<F: TwoAdicField>(
     right
 }
 
-// Whether the blocks that are kept have one height, and each row of the matrix is in one of them.
-fn has_each_row_once<F: TwoAdicField>(mat: &RowMajorMatrix<F>, recorder: &Recorder<F>) -> bool {
-    let blocks = recorder.blocks();
-    if blocks == 0 || recorder.missed() {
-        return false;
+// The physical rows of an extension, and a consumer that took all of them.
+fn publish_all<F: TwoAdicField, C: BlockConsumer<F> + Drop>(
+    rt: &impl Abort,
+    engine: &mut TestEngine<F>,
+    rows: Input<F>,
+    consumer: C,
+) -> (RowMajorMatrix<F>, C)
+where
+    C::Refusal: Drop,
+{
+    match engine.publish(rows, consumer) {
+        Publication::Whole { rows, consumer } => (rows, consumer),
+        _ => panic!(rt; "with_blocks on {}: not all blocks were taken", engine.name),
     }
-    let height = recorder.rows(0).height();
-    height > 0
-        && mat.height() % height == 0
-        && blocks == mat.height() / height
-        && has_blocks_of(mat, recorder, height)
 }
 
-// Stops the test unless the physical rows are those of these numbers, and each is in a block that is
-// kept.
-fn assert_recorded<F: CanonicalField>(
-    rt: &impl Abort,
-    (out, recorder): (RowMajorMatrix<F>, Recorder<F>),
-    numbers: &[u64],
+// An extension with blocks: the rows, the added bits and the shift, how many rows a block has of an engine in several
+// blocks, and the numbers of the physical rows.
+struct Worked {
     width: usize,
-) {
-    assert!(rt; has_each_row_once(&out, &recorder));
-    assert_rows(rt, &out, numbers, width);
-}
-
-// The blocks of an extension of one column on the subgroup, whose physical rows have these numbers, and
-// those of a single row.
-#[derive(Drop)]
-struct RecordedBlocks {
-    physical: [u64; 4],
-}
-
-impl<F: CanonicalField> EngineTest<F> for RecordedBlocks {
-    fn run<R: Abort, D: TwoAdicSubgroupDft<F>>(&self, rt: &R, alloc: Global, mut engine: D) {
-        let mat = matrix(rt, alloc, &[9, 1], 1);
-        let recorder = Recorder::with_room(alloc, 4, 4).expect(rt, "memory");
-        let answer = extend_to(rt, &mut engine, &mat, 1, F::ONE, recorder);
-        assert_recorded(rt, answer, &self.physical, 1);
-        // On the coset of zero each row has the constant coefficients.
-        let recorder = Recorder::with_room(alloc, 4, 4).expect(rt, "memory");
-        let answer = extend_to(rt, &mut engine, &mat, 1, F::ZERO, recorder);
-        assert_recorded(rt, answer, &[5, 5, 5, 5], 1);
-        let row = matrix(rt, alloc, &[42, 7], 2);
-        let recorder = Recorder::with_room(alloc, 4, 8).expect(rt, "memory");
-        let answer = extend_to(rt, &mut engine, &row, 2, F::from_u8(31), recorder);
-        assert_recorded(rt, answer, &[42, 7, 42, 7, 42, 7, 42, 7], 2);
-    }
-}
-
-// Each block of an extension with twice each coefficient, as it is lent.
-struct DoubledBlocks;
-
-impl<F: CanonicalField> EngineTest<F> for DoubledBlocks {
-    fn run<R: Abort, D: TwoAdicSubgroupDft<F>>(&self, rt: &R, alloc: Global, mut engine: D) {
-        for (height, width, added_bits) in [
-            (1, 1, 0),
-            (1, 3, 2),
-            (2, 8, 1),
-            (8, 3, 0),
-            (16, 17, 3),
-        ] {
-            let mat = sample(rt, alloc, height, width, 5);
-            let expected = doubled_extension(rt, &mat, added_bits);
-            assert!(rt; fits_lde::<F>(mat.height(), mat.width(), added_bits));
-            let answer = engine.coset_lde_batch_with_blocks(
-                mat,
-                added_bits,
-                F::GENERATOR,
-                |coefficients: RowMajorMatrix<F>, _layout: Layout| -> RowMajorMatrix<F>
-                    ensures { HasShapeOf result coefficients }
-                { doubled(coefficients) },
-                |_rows: usize| -> Compared<F> { Compared::with(expected) },
-            );
-            let Ok((out, compared)) = answer else {
-                panic!(rt; "not all blocks were taken");
-            };
-            compared.assert_all(rt, &out.bit_reverse_rows());
-        }
-    }
-}
-
-// The physical rows of an extension with twice each coefficient.
-fn doubled_extension<F: TwoAdicField>(
-    rt: &impl Abort,
-    mat: &RowMajorMatrix<F>,
+    rows: &'static [u64],
     added_bits: usize,
+    shift: usize,
+    block: usize,
+    physical: &'static [u64],
+}
+
+const OVER_BABY_BEAR: [Worked; 3] = [
+    Worked {
+        width: 1,
+        rows: &[9, 1],
+        added_bits: 1,
+        shift: 1,
+        block: 1,
+        physical: &[9, 1, 873820294, 1139445637],
+    },
+    // On the coset of zero each row has the constant coefficients.
+    Worked {
+        width: 1,
+        rows: &[9, 1],
+        added_bits: 1,
+        shift: 0,
+        block: 1,
+        physical: &[5, 5, 5, 5],
+    },
+    Worked {
+        width: 2,
+        rows: &[42, 7],
+        added_bits: 2,
+        shift: 31,
+        block: 1,
+        physical: &[42, 7, 42, 7, 42, 7, 42, 7],
+    },
+];
+
+const OVER_GOLDILOCKS: [Worked; 1] = [Worked {
+    width: 1,
+    rows: &[9, 1],
+    added_bits: 1,
+    shift: 1,
+    block: 1,
+    physical: &[9, 1, 1125899906842629, 18445618169507741702],
+}];
+
+// How many rows a block has: one engine has blocks of some rows, the others one block.
+fn block_height(name: Name, block: usize, height: usize) -> usize {
+    match name {
+        Name::Library(EngineName::Parallel) => block,
+        _ => height,
+    }
+}
+
+// Stops the test unless as many blocks of so many rows are kept as there is room for, with their rows, and the rest are
+// missed.
+fn assert_recorded<F: TwoAdicField>(
+    rt: &impl Abort,
+    engine: &mut TestEngine<F>,
+    rows: Input<F>,
+    (blocks, elements): (usize, usize),
+    (kept, block): (usize, usize),
 ) -> RowMajorMatrix<F> {
-    let mat = mat.try_clone().expect(rt, "memory");
-    assert!(rt; fits_lde::<F>(mat.height(), mat.width(), added_bits));
-    let values = NaiveDft::default().coset_lde_batch_with_transform(
-        mat,
-        added_bits,
-        F::GENERATOR,
-        |coefficients: RowMajorMatrix<F>, _layout: Layout| -> RowMajorMatrix<F>
-            ensures { HasShapeOf result coefficients }
-        { doubled(coefficients) },
+    let recorder = Recorder::with_room(*rows.mat.allocator(), blocks, elements);
+    let recorder: Recorder<F> = recorder.expect(rt, "memory");
+    let (physical, recorder) = publish_all(rt, engine, rows, recorder);
+    let whole = kept.checked_mul(block) == Some(physical.height());
+    assert!(rt;
+        recorder.blocks() == kept
+            && recorder.missed() != whole
+            && has_blocks_of(&physical, &recorder, block),
+        "with_blocks on {}: {} blocks kept, not {kept} of {block} rows",
+        engine.name,
+        recorder.blocks()
     );
-    let values = values.expect(rt, "memory");
-    values.into_bit_reversed().bit_reverse_rows()
+    physical
 }
 
-// How many blocks were taken of the extension of a matrix, and the one that was too many.
-pub(crate) fn seen_within<F: TwoAdicField, D: TwoAdicSubgroupDft<F>>(
-    rt: &impl Abort,
-    engine: &mut D,
-    mat: RowMajorMatrix<F>,
-    added_bits: usize,
-    limit: usize,
-) -> (usize, Option<BlockRefused>) {
-    assert!(rt; fits_lde::<F>(mat.height(), mat.width(), added_bits));
-    let answer = engine.coset_lde_batch_in_blocks(
-        mat,
-        added_bits,
-        F::ONE,
-        |_rows| BlockLimit::new(limit),
-    );
-    match answer {
-        Ok((_out, consumer)) => (consumer.seen(), None),
-        Err(stopped) => match stopped {
-            BlocksStopped::Refused { consumer, refusal } => (consumer.seen(), Some(refusal)),
-            BlocksStopped::OutOfMemory(_unpublished) => panic!(rt; "memory"),
-        },
-    }
-}
-
-// No block is taken, and then as many as there are.
-struct LimitedBlocks;
-
-impl<F: CanonicalField> EngineTest<F> for LimitedBlocks {
-    fn run<R: Abort, D: TwoAdicSubgroupDft<F>>(&self, rt: &R, alloc: Global, mut engine: D) {
-        let (seen, refused) = seen_within(rt, &mut engine, matrix(rt, alloc, &[9, 1], 1), 1, 0);
-        assert!(rt; seen == 0 && refused.is_some());
-        let (seen, refused) = seen_within(rt, &mut engine, matrix(rt, alloc, &[9, 1], 1), 1, 4);
-        assert!(rt; seen > 0 && refused.is_none());
-    }
-}
-
-// Stops the test unless so many of all blocks, of four rows each, are kept with their rows, and the rest
-// are missed.
-fn assert_kept<F: TwoAdicField>(
-    rt: &impl Abort,
-    (out, recorder): (RowMajorMatrix<F>, Recorder<F>),
-    kept: usize,
-    all: usize,
-) {
-    assert!(rt; recorder.blocks() == kept);
-    assert!(rt; recorder.missed() == (kept < all));
-    assert!(rt; has_blocks_of(&out, &recorder, 4));
-    assert!(rt; has_each_row_once(&out, &recorder) == (kept == all));
-}
-
-// An engine with the trait's own body has one block, which begins with the first row.
-struct OneBlock;
-
-impl<F: CanonicalField> EngineTest<F> for OneBlock {
-    fn run<R: Abort, D: TwoAdicSubgroupDft<F>>(&self, rt: &R, alloc: Global, mut engine: D) {
-        let taken = seen_within(rt, &mut engine, matrix(rt, alloc, &[9, 1], 1), 1, 1);
-        assert!(rt; taken == (1, None));
-        let refused = seen_within(rt, &mut engine, matrix(rt, alloc, &[9, 1], 1), 1, 0);
-        assert!(rt; refused == (0, Some(BlockRefused { start: 0 })));
-    }
-}
-
-// The one block of such an engine is kept where there is room for it.
-struct OneBlockKept;
-
-impl<F: CanonicalField> EngineTest<F> for OneBlockKept {
-    fn run<R: Abort, D: TwoAdicSubgroupDft<F>>(&self, rt: &R, alloc: Global, mut engine: D) {
-        let mat = matrix(rt, alloc, &[9, 1], 1);
-        for (blocks, elements, kept) in [(1, 4, 1), (0, 4, 0), (1, 3, 0)] {
-            let recorder = Recorder::with_room(alloc, blocks, elements).expect(rt, "memory");
-            let answer = extend_to(rt, &mut engine, &mat, 1, F::ONE, recorder);
-            assert_kept(rt, answer, kept, 1);
+// The worked extensions, with room for all blocks.
+fn records_worked<F: CanonicalField>(rt: &impl Abort, alloc: Global, cases: &[Worked]) {
+    for name in EVERY_ENGINE {
+        let mut engine: TestEngine<F> = TestEngine::new(name);
+        for case in cases {
+            let rows = Input {
+                mat: matrix(rt, alloc, case.rows, case.width),
+                added_bits: case.added_bits,
+                shift: F::from_usize(case.shift),
+                change: Change::Nothing,
+            };
+            let expected = matrix(rt, alloc, case.physical, case.width);
+            let block = block_height(name, case.block, expected.height());
+            assert!(rt; block > 0);
+            let kept = expected.height() / block;
+            let found = assert_recorded(rt, &mut engine, rows, (4, 8), (kept, block));
+            assert_same(rt, &found, &expected);
         }
     }
 }
@@ -314,131 +219,235 @@ fn counting<F: TwoAdicField>(
     matrix_of(rt, entries, width)
 }
 
-// Of 32 blocks of four rows as many are kept as there is room for.
-struct BlocksOfFourRows;
-
-impl<F: TwoAdicField> EngineTest<F> for BlocksOfFourRows {
-    fn run<R: Abort, D: TwoAdicSubgroupDft<F>>(&self, rt: &R, alloc: Global, mut engine: D) {
-        let mat = counting(rt, alloc, 16, 17);
-        for (blocks, elements, kept) in [(32, 2176, 32), (31, 2176, 31), (32, 2175, 31)] {
-            let recorder = Recorder::with_room(alloc, blocks, elements).expect(rt, "memory");
-            let answer = extend_to(rt, &mut engine, &mat, 3, F::GENERATOR, recorder);
-            assert_kept(rt, answer, kept, 32);
+// Where there is room for fewer blocks or elements, the rest are missed: of 32 blocks of four rows, and of one block.
+fn records_what_has_room<F: TwoAdicField>(rt: &impl Abort, alloc: Global) {
+    let mat = counting(rt, alloc, 16, 17);
+    for name in EVERY_ENGINE {
+        let mut engine: TestEngine<F> = TestEngine::new(name);
+        let block = block_height(name, 4, 128);
+        assert!(rt; block > 0);
+        let all = 128 / block;
+        for (blocks, elements, kept) in [
+            (all, 2176, all),
+            (all.saturating_sub(1), 2176, all.saturating_sub(1)),
+            (all, 2175, all.saturating_sub(1)),
+        ] {
+            let rows = input(rt, &mat, 3, F::GENERATOR);
+            let _rows = assert_recorded(rt, &mut engine, rows, (blocks, elements), (kept, block));
         }
     }
 }
 
-// Counts blocks in what is lent to it.
-#[derive(Drop)]
-struct Counter<'a> {
-    blocks: &'a Cell<usize>,
-}
-
-impl<'a, T> BlockConsumer<T> for Counter<'a> {
-    ghost use Rattle.std.specs.Prelude.{◌≡◌, Ok};
-
-    type Refusal = ();
-
-    ghost step = { λ c start block answer e. answer ≡ Ok tt };
-
-    fn consume(&mut self, start: usize, block: RowMajorMatrixView<'_, T>) -> Result<(), ()>
-        ensures { ⟦<Counter<'a> as BlockConsumer<T>>⟧.step self.old start block.entry result self.new }
-    {
-        let _ = start;
-        let _ = block;
-        self.blocks.set(self.blocks.get().saturating_add(1));
-        Ok(())
+// How many blocks were taken, and the one that was too many.
+fn blocks_within<F: TwoAdicField>(
+    rt: &impl Abort,
+    engine: &mut TestEngine<F>,
+    mat: &RowMajorMatrix<F>,
+    limit: usize,
+) -> (usize, Option<BlockRefused>) {
+    match engine.publish(input(rt, mat, 1, F::ONE), BlockLimit::new(limit)) {
+        Publication::Whole {
+            rows: _rows,
+            consumer,
+        } => (consumer.seen(), None),
+        Publication::Refused { consumer, refusal } => (consumer.seen(), Some(refusal)),
+        Publication::OutOfMemory(_consumer) => panic!(rt; "with_blocks on {}: memory", engine.name),
+        Publication::Absent => panic!(rt; "with_blocks on {}: no answer", engine.name),
     }
 }
 
-// The second transform is refused its memory: nothing was lent, and the maker of consumers comes back.
-struct NothingLent;
-
-impl<F: CanonicalField> EngineTest<F> for NothingLent {
-    fn run<R: Abort, D: TwoAdicSubgroupDft<F>>(&self, rt: &R, alloc: Global, mut engine: D) {
-        let blocks = Cell::new(0);
-        let mat: RowMajorMatrix<F> = matrix(rt, alloc, &[9, 1], 1);
-        assert!(rt; fits_lde::<F>(mat.height(), mat.width(), 1));
-        let answer = engine.coset_lde_batch_with_blocks(
-            mat,
-            1,
-            F::ONE,
-            |coefficients: RowMajorMatrix<F>, _layout: Layout| -> RowMajorMatrix<F>
-                ensures { result ≡ coefficients }
-            { coefficients },
-            |_rows: usize| -> Counter<'_> { Counter { blocks: &blocks } },
-        );
-        let Err(BlocksStopped::OutOfMemory(Unpublished { make_consumer, .. })) = answer else {
-            panic!(rt; "not out of memory");
-        };
-        let mut consumer = make_consumer(4);
-        assert_eq!(rt; blocks.get(), 0);
-        let one: RowMajorMatrix<F> = matrix(rt, alloc, &[9], 1);
-        assert!(rt; consumer.consume(0, one.as_view()) == Ok(()));
-        assert_eq!(rt; blocks.get(), 1);
+// No block is taken, then fewer than there are, and then all. The one block begins with the first row.
+fn blocks_limited<F: CanonicalField>(rt: &impl Abort, alloc: Global) {
+    let mat = matrix(rt, alloc, &[9, 1], 1);
+    for name in EVERY_ENGINE {
+        let mut engine: TestEngine<F> = TestEngine::new(name);
+        let block = block_height(name, 1, 4);
+        assert!(rt; block > 0);
+        let all = 4 / block;
+        for limit in 0..5usize {
+            let (seen, refused) = blocks_within(rt, &mut engine, &mat, limit);
+            assert!(rt;
+                seen == limit.min(all) && refused.is_some() == (limit < all),
+                "with_blocks on {}: {seen} blocks within {limit}",
+                engine.name
+            );
+            if all == 1 && limit == 0 {
+                assert!(rt; refused == Some(BlockRefused { start: 0 }));
+            }
+        }
     }
 }
 
 // The consumer is made once the coefficients were transformed, of one or two rows.
-#[derive(Drop)]
-struct MadeLater {
-    width: usize,
-    added_bits: usize,
-}
-
-impl<F: CanonicalField> EngineTest<F> for MadeLater {
-    fn run<R: Abort, D: TwoAdicSubgroupDft<F>>(&self, rt: &R, alloc: Global, mut engine: D) {
-        let called = Cell::new(false);
-        let made_later = Cell::new(false);
-        let mat: RowMajorMatrix<F> = matrix(rt, alloc, &[9, 1], self.width);
-        assert!(rt; fits_lde::<F>(mat.height(), mat.width(), self.added_bits));
-        let answer = engine.coset_lde_batch_with_blocks(
-            mat,
-            self.added_bits,
-            F::ONE,
-            |coefficients: RowMajorMatrix<F>, _layout: Layout| -> RowMajorMatrix<F>
-                ensures { HasShapeOf result coefficients }
-            {
-                called.set(true);
-                coefficients
-            },
-            |_rows: usize| -> BlockLimit {
-                made_later.set(called.get());
-                BlockLimit::new(4)
-            },
-        );
-        assert!(rt; answer.is_ok());
-        assert!(rt; made_later.get());
+fn consumers_made_late<F: CanonicalField>(rt: &impl Abort, alloc: Global) {
+    for name in EVERY_ENGINE {
+        let mut engine: TestEngine<F> = TestEngine::new(name);
+        for (width, added_bits) in [(1usize, 0usize), (1, 1), (2, 0), (2, 1)] {
+            let mat = matrix(rt, alloc, &[9, 1], width);
+            let late = engine.makes_consumer_late(input(rt, &mat, added_bits, F::ONE));
+            assert!(rt;
+                late,
+                "with_blocks on {}: width {width}, {added_bits} bits",
+                engine.name
+            );
+        }
     }
 }
 
-// What every engine publishes.
-fn published<F: CanonicalField>(rt: &impl Abort, alloc: Global, physical: [u64; 4]) {
-    on_every_engine::<F, _, _>(rt, alloc, &RecordedBlocks { physical });
-    on_every_engine::<F, _, _>(rt, alloc, &DoubledBlocks);
-    on_every_engine::<F, _, _>(rt, alloc, &LimitedBlocks);
-    for (width, added_bits) in [(1, 0), (1, 1), (2, 0), (2, 1)] {
-        on_every_engine::<F, _, _>(rt, alloc, &MadeLater { width, added_bits });
-    }
+fn published<F: CanonicalField>(rt: &impl Abort, alloc: Global, cases: &[Worked]) {
+    records_worked::<F>(rt, alloc, cases);
+    records_what_has_room::<F>(rt, alloc);
+    blocks_limited::<F>(rt, alloc);
+    consumers_made_late::<F>(rt, alloc);
 }
 
 #[test]
 fn blocks_are_published_once_and_final(rt: HostRuntime) {
-    published::<BabyBear>(&rt, rt.alloc(), [9, 1, 873820294, 1139445637]);
-    let physical = [9, 1, 1125899906842629, 18445618169507741702];
-    published::<Goldilocks>(&rt, rt.alloc(), physical);
+    published::<BabyBear>(&rt, rt.alloc(), &OVER_BABY_BEAR);
+    published::<Goldilocks>(&rt, rt.alloc(), &OVER_GOLDILOCKS);
 }
 
-// What some do.
-fn sizes<F: CanonicalField>(rt: &impl Abort, alloc: Global) {
-    on_engines_of_one_block::<F, _, _>(rt, alloc, &OneBlock);
-    on_engines_of_one_block::<F, _, _>(rt, alloc, &OneBlockKept);
-    on_halves::<F, _, _>(rt, alloc, &BlocksOfFourRows);
-    EngineTest::<F>::run(&NothingLent, rt, alloc, LimitedDft::new(1));
+// The second transform is refused its memory: nothing was lent, and the consumer was not made, so that it comes back
+// and takes a block. With memory the call answers.
+fn nothing_lent<F: CanonicalField>(rt: &impl Abort, alloc: Global) {
+    let mat = matrix(rt, alloc, &[9, 1], 1);
+    let blocks = Cell::new(0);
+    let mut engine: TestEngine<F> = TestEngine {
+        name: "limited",
+        kind: Kind::Limited(LimitedDft::new(1)),
+    };
+    let answer = engine.publish(input(rt, &mat, 1, F::ONE), Counter { blocks: &blocks });
+    let Publication::OutOfMemory(mut consumer) = answer else {
+        panic!(rt; "not out of memory");
+    };
+    assert!(rt; blocks.get() == 0);
+    let one: RowMajorMatrix<F> = matrix(rt, alloc, &[9], 1);
+    assert!(rt; consumer.consume(0, one.as_view()).is_ok());
+    assert!(rt; blocks.get() == 1);
 }
 
 #[test]
-fn blocks_have_the_promised_height(rt: HostRuntime) {
-    sizes::<BabyBear>(&rt, rt.alloc());
-    sizes::<Goldilocks>(&rt, rt.alloc());
+fn nothing_is_lent_where_memory_is_refused(rt: HostRuntime) {
+    nothing_lent::<BabyBear>(&rt, rt.alloc());
+    nothing_lent::<Goldilocks>(&rt, rt.alloc());
+}
+
+// The rows in bit reversed order.
+fn in_bit_reversed_order<F: TwoAdicField>(
+    rt: &impl Abort,
+    mat: &RowMajorMatrix<F>,
+) -> RowMajorMatrix<F> {
+    let height = mat.height();
+    let mut entries = Vec::new(*mat.allocator());
+    for i in 0..height {
+        let row = reversed(i, height);
+        assert!(rt; row < height);
+        entries.extend_from_slice(mat.row(row)).expect(rt, "memory");
+    }
+    matrix_of(rt, entries, mat.width())
+}
+
+// The number whose binary digits are those of a row's number in reverse, of a power of two of rows.
+fn reversed(row: usize, height: usize) -> usize {
+    let unused = usize::BITS.saturating_sub(height.trailing_zeros());
+    row.reverse_bits().checked_shr(unused).unwrap_or(0)
+}
+
+// The rows of an extension whose coefficients are changed, by calls of the definition without a transform.
+fn changed_extension<F: TwoAdicField>(
+    rt: &impl Abort,
+    mat: &RowMajorMatrix<F>,
+    added_bits: usize,
+    shift: F,
+    change: Change,
+) -> RowMajorMatrix<F> {
+    let mut sums = TestEngine::new(Name::Library(EngineName::Naive));
+    let coefficients = input(rt, mat, 0, F::ONE);
+    let coefficients = rows_of(rt, &mut sums, Call::Batch(Operation::Idft), coefficients);
+    let coefficients = change.of(coefficients, Layout::Natural);
+    assert!(rt; added_bits < 64);
+    let count = coefficients.values().len().saturating_mul(1 << added_bits);
+    let padded = input(rt, &with_zeros(rt, coefficients, count), 0, shift);
+    rows_of(rt, &mut sums, Call::Batch(Operation::CosetDft), padded)
+}
+
+// At one shape: each extension with a transform that multiplies or doubles coefficients, with rows as an engine leaves
+// them, in bit reversed order, and block by block as these are lent. Which row a coefficient lies in is known from the
+// layout that the transform is told alone.
+fn changes_at<F: TwoAdicField>(
+    rt: &impl Abort,
+    mat: &RowMajorMatrix<F>,
+    added_bits: usize,
+    shift: F,
+    change: Change,
+) {
+    let expected = changed_extension(rt, mat, added_bits, shift, change);
+    let physical = in_bit_reversed_order(rt, &expected);
+    for name in EVERY_ENGINE {
+        let mut engine: TestEngine<F> = TestEngine::new(name);
+        for call in [
+            Call::WithTransform,
+            Call::ByParts,
+            Call::BitReversed,
+            Call::WithBlocks,
+        ] {
+            let mut rows = input(rt, mat, added_bits, shift);
+            rows.change = change;
+            assert_rows_of(rt, &mut engine, call, rows, &expected);
+        }
+        let mut rows = input(rt, mat, added_bits, shift);
+        rows.change = change;
+        let comparer = Comparer {
+            expected: physical.try_clone().expect(rt, "memory"),
+            equal: true,
+            rows: 0,
+        };
+        let (out, comparer) = publish_all(rt, &mut engine, rows, comparer);
+        assert_same(rt, &out, &physical);
+        assert!(rt;
+            comparer.equal && comparer.rows == out.height(),
+            "with_blocks on {}: other rows were lent",
+            engine.name
+        );
+    }
+}
+
+// Heights, widths and added bits.
+const SHAPES: [(usize, usize, usize); 20] = [
+    (1, 3, 0),
+    (1, 3, 1),
+    (1, 3, 3),
+    (2, 1, 0),
+    (2, 1, 1),
+    (2, 1, 3),
+    (4, 3, 0),
+    (4, 3, 1),
+    (4, 3, 3),
+    (16, 1, 0),
+    (16, 1, 1),
+    (16, 1, 3),
+    (8, 9, 0),
+    (8, 9, 1),
+    (8, 9, 3),
+    (1, 1, 0),
+    (1, 3, 2),
+    (2, 8, 1),
+    (8, 3, 0),
+    (16, 17, 3),
+];
+
+fn changes_over<F: TwoAdicField>(rt: &impl Abort, alloc: Global) {
+    for (height, width, added_bits) in SHAPES {
+        let mat = sample(rt, alloc, height, width, 7);
+        changes_at(rt, &mat, added_bits, F::ZERO, Change::Weighed);
+        changes_at(rt, &mat, added_bits, F::ONE, Change::Weighed);
+        changes_at(rt, &mat, added_bits, F::GENERATOR, Change::Weighed);
+        changes_at(rt, &mat, added_bits, F::GENERATOR, Change::Doubled);
+    }
+}
+
+#[test]
+fn changed_coefficients_meet_their_rows_in_each_layout(rt: HostRuntime) {
+    changes_over::<BabyBear>(&rt, rt.alloc());
+    changes_over::<Goldilocks>(&rt, rt.alloc());
 }

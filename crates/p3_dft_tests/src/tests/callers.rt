@@ -7,8 +7,8 @@ ghost use Rattle.p3_matrix.specs.RowMajor.{height};
 ghost use Rattle.p3_dft.specs.Engines.{AtLog, IsCosetPrepared, IsPrepared};
 ghost use Rattle.p3_dft.specs.Shapes.{FitsDft, FitsLde};
 
-use super::elements;
-use crate::tests::fitting::{assert_column, extensible, invertible, pair, transformable};
+use super::helpers::fitting::{assert_column, extensible, invertible, pair, transformable};
+use super::helpers::matrices::elements;
 use p3_dft::{
     BabyBear, BitReversedMatrixView, CanonicalField, DftError, Evaluations, Field, NaiveDft,
     Radix2DFTSmallBatch, Radix2Dit, Radix2DitParallel, RowMajorMatrix, TwoAdicField,

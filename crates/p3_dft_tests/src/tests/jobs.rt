@@ -4,13 +4,11 @@ ghost use Rattle.std.specs.Prelude.{◌≡◌};
 ghost use Rattle.std.specs.List.{All};
 ghost use Rattle.p3_dft.specs.Jobs.{CanRun};
 
-use super::{EngineTest, matrix, on_every_engine};
-use crate::tests::engines::LimitedDft;
-use crate::tests::fitting::{extensible, invertible, transformable};
-use p3_dft::{
-    BabyBear, CanonicalField, DftError, Job, JobsStopped, RowMajorMatrix, TwoAdicSubgroupDft,
-    run_jobs,
-};
+use super::helpers::engines::{EVERY_ENGINE, Kind, TestEngine};
+use super::helpers::fitting::{extensible, invertible, transformable};
+use super::helpers::matrices::matrix;
+use super::helpers::own_engines::LimitedDft;
+use p3_dft::{BabyBear, CanonicalField, DftError, Job, JobsStopped, RowMajorMatrix};
 use std::alloc::Global;
 use std::process::Abort;
 
@@ -69,31 +67,29 @@ fn list_from<F: CanonicalField>(rt: &impl Abort, alloc: Global, first: usize) ->
     jobs
 }
 
-// What answers a job.
-fn answer<F: CanonicalField>(rt: &impl Abort, alloc: Global, kind: usize) -> RowMajorMatrix<F> {
-    match kind % KINDS {
-        0 => matrix(rt, alloc, &[10, 569722814, 2013265919, 1443543103], 1),
-        1 => matrix(rt, alloc, &[13, 2013265918], 1),
-        2 | 3 => matrix(rt, alloc, &[5, 4], 1),
-        4 => matrix(rt, alloc, &[9, 873820294, 1, 1139445637], 1),
-        _ => matrix(rt, alloc, &[5, 5, 5, 5], 1),
-    }
-}
+// The numbers of the answer to a job of each kind.
+const ANSWERS: [&[u64]; KINDS] = [
+    &[10, 569722814, 2013265919, 1443543103],
+    &[13, 2013265918],
+    &[5, 4],
+    &[5, 4],
+    &[9, 873820294, 1, 1139445637],
+    &[5, 5, 5, 5],
+];
 
-// What answers the first so many, beginning with one kind.
-fn answers<F: CanonicalField>(
+// Whether these answer the first of the jobs, beginning with one kind.
+fn are_answers<F: CanonicalField>(
     rt: &impl Abort,
     alloc: Global,
     first: usize,
-    count: usize,
-) -> Vec<RowMajorMatrix<F>> {
-    let mut answers = Vec::new(alloc);
-    for n in 0..count {
-        answers
-            .push(answer(rt, alloc, first.wrapping_add(n)))
-            .expect(rt, "memory");
+    answers: &[RowMajorMatrix<F>],
+) -> bool {
+    let mut right = true;
+    for (n, answer) in answers.iter().enumerate() {
+        let numbers = ANSWERS[first.wrapping_add(n) % KINDS];
+        right = right && *answer == matrix(rt, alloc, numbers, 1);
     }
-    answers
+    right
 }
 
 // How many transforms it takes: an extension is an inverse and a transform.
@@ -102,7 +98,7 @@ fn transforms(kind: usize) -> usize {
 }
 
 // How many of the jobs, beginning with one kind, so many transforms answer.
-fn answered(first: usize, transforms_left: usize) -> usize {
+fn count_within(first: usize, transforms_left: usize) -> usize {
     let mut left = transforms_left;
     for n in 0..JOBS {
         let taken = transforms(first.wrapping_add(n));
@@ -116,72 +112,52 @@ fn answered(first: usize, transforms_left: usize) -> usize {
 
 // Jobs of each kind in turn, beginning with one of them, of which so many are answered before memory is
 // refused.
-fn answers_in_turn<F: CanonicalField, D: TwoAdicSubgroupDft<F>>(
+fn answers_in_turn<F: CanonicalField>(
     rt: &impl Abort,
     alloc: Global,
-    engine: &mut D,
+    engine: &mut TestEngine<F>,
     first: usize,
     count: usize,
 ) {
-    let expected: Vec<RowMajorMatrix<F>> = answers(rt, alloc, first, count);
-    match run_jobs(engine, list_from(rt, alloc, first)) {
-        Ok(answers) => {
-            assert!(rt; count == JOBS);
-            assert!(rt; answers == expected);
-        }
+    let (answers, all) = match engine.run_jobs(list_from(rt, alloc, first)) {
+        Ok(answers) => (answers, true),
         Err(
             JobsStopped {
                 answers,
                 error: DftError::OutOfMemory(_),
             },
-        ) => {
-            assert!(rt; count < JOBS);
-            assert!(rt; answers == expected);
+        ) => (answers, false),
+    };
+    assert!(rt;
+        answers.len() == count && all == (count == JOBS),
+        "run_jobs on {}: {} answers, not {count}",
+        engine.name,
+        answers.len()
+    );
+    assert!(rt;
+        are_answers(rt, alloc, first, answers.as_slice()),
+        "run_jobs on {}",
+        engine.name
+    );
+}
+
+// Lists that begin with each kind, refused after each number of transforms.
+fn refused_within<F: CanonicalField>(rt: &impl Abort, alloc: Global) {
+    for first in 0..KINDS {
+        for transforms in 0..28usize {
+            let mut engine: TestEngine<F> = TestEngine {
+                name: "limited",
+                kind: Kind::Limited(LimitedDft::new(transforms)),
+            };
+            let count = count_within(first, transforms);
+            answers_in_turn(rt, alloc, &mut engine, first, count);
         }
     }
 }
 
-// No jobs.
-struct NoJobs;
-
-impl<F: CanonicalField> EngineTest<F> for NoJobs {
-    fn run<R: Abort, D: TwoAdicSubgroupDft<F>>(&self, rt: &R, alloc: Global, mut engine: D) {
-        let none: Result<Vec<RowMajorMatrix<F>>, JobsStopped<F>> = run_jobs(
-            &mut engine,
-            Vec::new(alloc),
-        );
-        assert!(rt; none.is_ok_and(|answers| answers.is_empty()));
-    }
-}
-
-// Jobs of each kind in turn.
-struct Jobs;
-
-impl<F: CanonicalField> EngineTest<F> for Jobs {
-    fn run<R: Abort, D: TwoAdicSubgroupDft<F>>(&self, rt: &R, alloc: Global, mut engine: D) {
-        answers_in_turn(rt, alloc, &mut engine, 0, JOBS);
-    }
-}
-
-// A list that begins with one kind, refused after so many transforms.
-fn refused_after<F: CanonicalField>(
-    rt: &impl Abort,
-    alloc: Global,
-    first: usize,
-    transforms: usize,
-) {
-    let count = answered(first, transforms);
-    answers_in_turn::<F, _>(rt, alloc, &mut LimitedDft::new(transforms), first, count);
-}
-
-// Lists that begin with each kind, refused within each job.
 #[test]
 fn refused_jobs_leave_the_answers_before_them(rt: HostRuntime) {
-    for first in 0..KINDS {
-        for left in 0..28usize {
-            refused_after::<BabyBear>(&rt, rt.alloc(), first, left);
-        }
-    }
+    refused_within::<BabyBear>(&rt, rt.alloc());
 }
 
 // A job on a coset, of one column.
@@ -202,40 +178,47 @@ fn coset_jobs<F: CanonicalField>(rt: &impl Abort, alloc: Global) -> Vec<Job<F>>
     and_then(rt, jobs, coset_job(rt, alloc, &[5, 4], F::TWO))
 }
 
-fn answers_on_cosets<F: CanonicalField>(rt: &impl Abort, alloc: Global) -> Vec<RowMajorMatrix<F>> {
-    let mut answers = Vec::new(alloc);
-    answers
-        .push(matrix(rt, alloc, &[13, 2013265918], 1))
-        .expect(rt, "memory");
-    answers
-        .push(matrix(rt, alloc, &[1, 1, 1, 1], 1))
-        .expect(rt, "memory");
-    answers
-        .push(matrix(rt, alloc, &[17, 2013265914], 1))
-        .expect(rt, "memory");
-    answers
-        .push(matrix(rt, alloc, &[10, 569722814, 2013265919, 1443543103], 1))
-        .expect(rt, "memory");
-    answers
-        .push(matrix(rt, alloc, &[13, 2013265918], 1))
-        .expect(rt, "memory");
-    answers
-}
+// The numbers of their answers.
+const ON_COSETS: [&[u64]; 5] = [
+    &[13, 2013265918],
+    &[1, 1, 1, 1],
+    &[17, 2013265914],
+    &[10, 569722814, 2013265919, 1443543103],
+    &[13, 2013265918],
+];
 
-struct CosetsInTurn;
-
-impl<F: CanonicalField> EngineTest<F> for CosetsInTurn {
-    fn run<R: Abort, D: TwoAdicSubgroupDft<F>>(&self, rt: &R, alloc: Global, mut engine: D) {
-        let expected: Vec<RowMajorMatrix<F>> = answers_on_cosets(rt, alloc);
-        let answered = run_jobs(&mut engine, coset_jobs(rt, alloc));
-        assert!(rt; answered.is_ok_and(|answers| answers == expected));
+fn cosets_in_turn<F: CanonicalField>(rt: &impl Abort, alloc: Global, engine: &mut TestEngine<F>) {
+    let Ok(answers) = engine.run_jobs(coset_jobs(rt, alloc)) else {
+        panic!(rt; "memory");
+    };
+    assert!(rt;
+        answers.len() == ON_COSETS.len(),
+        "run_jobs on {}",
+        engine.name
+    );
+    for (answer, numbers) in answers.iter().zip(ON_COSETS) {
+        assert!(rt;
+            *answer == matrix(rt, alloc, numbers, 1),
+            "run_jobs on {}",
+            engine.name
+        );
     }
 }
 
+fn no_jobs<F: CanonicalField>(rt: &impl Abort, alloc: Global, engine: &mut TestEngine<F>) {
+    let Ok(answers) = engine.run_jobs(Vec::new(alloc)) else {
+        panic!(rt; "memory");
+    };
+    assert!(rt; answers.is_empty());
+}
+
 fn lists<F: CanonicalField>(rt: &impl Abort, alloc: Global) {
-    on_every_engine::<F, _, _>(rt, alloc, &NoJobs);
-    on_every_engine::<F, _, _>(rt, alloc, &Jobs);
-    on_every_engine::<F, _, _>(rt, alloc, &CosetsInTurn);
+    for name in EVERY_ENGINE {
+        let mut engine: TestEngine<F> = TestEngine::new(name);
+        no_jobs(rt, alloc, &mut engine);
+        answers_in_turn(rt, alloc, &mut engine, 0, JOBS);
+        cosets_in_turn(rt, alloc, &mut engine);
+    }
 }
 
 #[test]

@@ -1,6 +1,6 @@
 // The product of two polynomials against numbers made elsewhere.
 
-use super::elements;
+use super::helpers::matrices::elements;
 use examples::product::product;
 use p3_dft::{
     BabyBear, CanonicalField, Goldilocks, NaiveDft, Radix2Bowers, Radix2Dit, TwoAdicSubgroupDft,

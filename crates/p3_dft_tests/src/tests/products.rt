@@ -2,23 +2,24 @@
 // within the bounds that are proved of the engine's own counter. A product with a row of zeros that an
 // extension adds is not among them, since those zeros are no entries of the matrix.
 
-ghost use Rattle.std.specs.Prelude.{◌≡◌};
 ghost use Rattle.std.specs.List.{All};
 ghost use Rattle.p3_matrix.specs.RowMajor.{height};
 ghost use Rattle.p3_dft.specs.Jobs.{CanRun};
 ghost use Rattle.p3_dft.specs.Shapes.{FitsDft, FitsLde};
 
-use super::blocks::{extend_to, seen_within};
-use super::calls::{Calls, CallsOf};
-use super::fitting::invertible;
+use super::algebra::elements_of;
+use super::answers::by_tiles;
+use super::helpers::counting_field::{InPacks, Meter, Packs, Tally};
+use super::helpers::engines::{Name, TestEngine, input, rows_of};
+use super::helpers::fitting::invertible;
+use super::helpers::matrices::matrix_of;
 use super::jobs::and_then;
-use super::tally::{InPacks, Meter, Packs, Tally};
-use super::{ByCalls, CallsTest, EngineTest, matrix_of, on, on_dit, on_halves};
+use engine_calls::answers::Answer;
+use engine_calls::blocks::Publication;
+use engine_calls::names::{CALLS, Call, ENGINES, EngineName, OPERATIONS, Operation};
 use p3_dft::{
     BabyBear, BasedVectorSpace, BlockLimit, CanonicalField, Coordinates, Field, Goldilocks, Job,
-    Layout, NaiveDft, PackedField, Products, Radix2Bowers, Radix2DFTSmallBatch, ReedSolomon,
-    RowMajorMatrix, TwoAdicField, TwoAdicSubgroupDft, fits_code, fits_dft, fits_lde,
-    log2_strict_usize, run_jobs, scaled,
+    PackedField, Products, RowMajorMatrix, TwoAdicField, fits_dft, fits_lde, scaled,
 };
 use std::alloc::Global;
 use std::cell::Cell;
@@ -205,6 +206,119 @@ fn worked_bounds() -> BoundsOfEngines {
     }
 }
 
+// How many products a matrix's calls may make, and the cell that counts them.
+#[derive(Drop)]
+struct Count<'a> {
+    cell: &'a Cell<usize>,
+}
+
+impl<'a> Count<'a> {
+    // Stops the test where a call made fewer or more products, and counts anew.
+    fn assert_within(
+        &self,
+        rt: &impl Abort,
+        (form, word, engine): (&str, &str, &str),
+        shape: Shape,
+        (least, most): (usize, usize),
+    ) {
+        let count = self.cell.get();
+        assert!(rt;
+            least <= count && count <= most,
+            "{form} {word} on {engine}: {count} products, not {least} to {most}, log_h {}, width {}, added bits {}",
+            shape.log_h,
+            shape.width,
+            shape.added_bits
+        );
+        self.cell.set(0);
+    }
+}
+
+impl Bounds {
+    // The least and the most products of a call, if it makes any.
+    fn of(self, call: Call) -> Option<(usize, usize)> {
+        match call {
+            Call::Batch(operation) => Some(self.of_operation(operation, self.coset_extension)),
+            Call::Vector(operation)
+            | Call::AlgebraBatch(operation)
+            | Call::AlgebraVector(operation) => Some(self.of_operation(operation, self.extension)),
+            Call::WithTransform
+            | Call::BitReversed
+            | Call::WithBlocks
+            | Call::InBlocks
+            | Call::Encode => Some((0, self.extension)),
+            Call::IsCodeword => Some((0, self.membership)),
+            _ => None,
+        }
+    }
+
+    fn of_operation(self, operation: Operation, extension: usize) -> (usize, usize) {
+        match operation {
+            Operation::Dft => (self.least, self.transform),
+            Operation::CosetDft => (0, self.coset_transform),
+            Operation::Idft => (0, self.inverse),
+            Operation::CosetIdft => (0, self.coset_inverse),
+            Operation::Lde | Operation::CosetLde => (0, extension),
+        }
+    }
+}
+
+// Stops the test where an engine makes other numbers of products: each call on a matrix.
+fn calls_within<F: CanonicalField>(
+    rt: &impl Abort,
+    count: &Count<'_>,
+    engine: &mut TestEngine<F>,
+    mat: &RowMajorMatrix<F>,
+    (shape, bounds): (Shape, Bounds),
+) {
+    for call in CALLS {
+        let made = call != Call::IsCodeword && (mat.width() == 1 || !call.is_of_column());
+        if let (Some(limits), true) = (bounds.of(call), made) {
+            let _rows = rows_of(
+                rt,
+                engine,
+                call,
+                input(rt, mat, shape.added_bits, F::GENERATOR),
+            );
+            count.assert_within(rt, (call.form(), call.word(), engine.name), shape, limits);
+        }
+    }
+}
+
+// Whether the codeword of the matrix is one.
+fn codeword_within<F: CanonicalField>(
+    rt: &impl Abort,
+    count: &Count<'_>,
+    engine: &mut TestEngine<F>,
+    mat: &RowMajorMatrix<F>,
+    (shape, bounds): (Shape, Bounds),
+) {
+    let message = input(rt, mat, shape.added_bits, F::GENERATOR);
+    let word = rows_of(rt, engine, Call::Encode, message);
+    count.cell.set(0);
+    let answer = engine.answer(
+        Call::IsCodeword,
+        input(rt, &word, shape.added_bits, F::GENERATOR),
+    );
+    assert!(rt; matches!(&answer, Answer::Holds(true)));
+    let names = ("alone", "is_codeword", engine.name);
+    count.assert_within(rt, names, shape, (0, bounds.membership));
+}
+
+// An extension whose first block is refused: no other coset is begun.
+fn refusal_within<F: CanonicalField>(
+    rt: &impl Abort,
+    count: &Count<'_>,
+    engine: &mut TestEngine<F>,
+    mat: &RowMajorMatrix<F>,
+    (shape, bounds): (Shape, Bounds),
+) {
+    let rows = input(rt, mat, shape.added_bits, F::ONE);
+    let publication = engine.publish(rows, BlockLimit::new(0));
+    assert!(rt; matches!(&publication, Publication::Refused { .. }));
+    let names = ("alone", "with_blocks, refused", engine.name);
+    count.assert_within(rt, names, shape, (0, bounds.refused));
+}
+
 // A matrix that can be transformed, with entries in memory of its own.
 fn transformable<F: TwoAdicField>(rt: &impl Abort, mat: &RowMajorMatrix<F>) -> RowMajorMatrix<F>
     ensures { FitsDft F.TWO_ADICITY (height result) result.width }
@@ -225,196 +339,6 @@ fn extensible<F: TwoAdicField>(
     let mat = mat.try_clone().expect(rt, "memory");
     assert!(rt; fits_lde::<F>(mat.height(), mat.width(), added_bits));
     mat
-}
-
-// The entries of a matrix.
-fn entries_of<T: Copy>(rt: &impl Abort, mat: &RowMajorMatrix<T>) -> Vec<T> {
-    mat.try_clone().expect(rt, "memory").into_values()
-}
-
-// A matrix whose products a cell counts, and how many they may be.
-#[derive(Drop)]
-struct Counted<'a, T> {
-    mat: &'a RowMajorMatrix<T>,
-    added_bits: usize,
-    count: &'a Cell<usize>,
-    bounds: &'a Cell<Bounds>,
-}
-
-impl<'a, T> Counted<'a, T> {
-    // Stops the test where a call made fewer or more, and counts anew.
-    fn within(&self, rt: &impl Abort, call: &str, least: usize, most: usize) {
-        let count = self.count.get();
-        assert!(rt;
-            least <= count && count <= most,
-            "{call}: {count}, not {least} to {most}"
-        );
-        self.count.set(0);
-    }
-
-    // Stops the test where a call made more.
-    fn at_most(&self, rt: &impl Abort, call: &str, most: usize) {
-        self.within(rt, call, 0, most);
-    }
-}
-
-// Calls over matrices.
-fn over_matrices<F: TwoAdicField, C: Calls<F>>(
-    rt: &impl Abort,
-    test: &Counted<'_, F>,
-    engine: &mut C,
-) {
-    let bounds = test.bounds.get();
-    let _ = engine.dft(rt, test.mat);
-    test.within(rt, "dft_batch", bounds.least, bounds.transform);
-    let _ = engine.idft(rt, test.mat);
-    test.at_most(rt, "idft_batch", bounds.inverse);
-    let _ = engine.coset_dft(rt, test.mat, F::GENERATOR);
-    test.at_most(rt, "coset_dft_batch", bounds.coset_transform);
-    let _ = engine.coset_idft(rt, test.mat, F::GENERATOR);
-    test.at_most(rt, "coset_idft_batch", bounds.coset_inverse);
-    let _ = engine.lde(rt, test.mat, test.added_bits);
-    test.at_most(rt, "lde_batch", bounds.coset_extension);
-    let _ = engine.coset_lde(rt, test.mat, test.added_bits, F::GENERATOR);
-    test.at_most(rt, "coset_lde_batch", bounds.coset_extension);
-}
-
-// Over one column.
-fn over_columns<F: TwoAdicField, C: Calls<F>>(
-    rt: &impl Abort,
-    test: &Counted<'_, F>,
-    engine: &mut C,
-) {
-    let bounds = test.bounds.get();
-    let _ = engine.column_dft(rt, entries_of(rt, test.mat));
-    test.within(rt, "dft", bounds.least, bounds.transform);
-    let _ = engine.column_idft(rt, entries_of(rt, test.mat));
-    test.at_most(rt, "idft", bounds.inverse);
-    let _ = engine.column_coset_dft(rt, entries_of(rt, test.mat), F::GENERATOR);
-    test.at_most(rt, "coset_dft", bounds.coset_transform);
-    let _ = engine.column_coset_idft(rt, entries_of(rt, test.mat), F::GENERATOR);
-    test.at_most(rt, "coset_idft", bounds.coset_inverse);
-    let _ = engine.column_lde(rt, entries_of(rt, test.mat), test.added_bits);
-    test.at_most(rt, "lde", bounds.extension);
-    let column = entries_of(rt, test.mat);
-    let _ = engine.column_coset_lde(rt, column, test.added_bits, F::GENERATOR);
-    test.at_most(rt, "coset_lde", bounds.extension);
-}
-
-// Over matrices of a vector space.
-fn over_space<F: TwoAdicField, V: BasedVectorSpace<F> + Copy, C: Calls<F>>(
-    rt: &impl Abort,
-    test: &Counted<'_, V>,
-    engine: &mut C,
-) {
-    let bounds = test.bounds.get();
-    let _ = engine.dft_algebra(rt, test.mat);
-    test.within(rt, "dft_algebra_batch", bounds.least, bounds.transform);
-    let _ = engine.idft_algebra(rt, test.mat);
-    test.at_most(rt, "idft_algebra_batch", bounds.inverse);
-    let _ = engine.coset_dft_algebra(rt, test.mat, F::GENERATOR);
-    test.at_most(rt, "coset_dft_algebra_batch", bounds.coset_transform);
-    let _ = engine.coset_idft_algebra(rt, test.mat, F::GENERATOR);
-    test.at_most(rt, "coset_idft_algebra_batch", bounds.coset_inverse);
-    let _ = engine.lde_algebra(rt, test.mat, test.added_bits);
-    test.at_most(rt, "lde_algebra_batch", bounds.extension);
-    let _ = engine.coset_lde_algebra(rt, test.mat, test.added_bits, F::GENERATOR);
-    test.at_most(rt, "coset_lde_algebra_batch", bounds.extension);
-}
-
-// Over one column of a vector space.
-fn over_columns_of_space<F: TwoAdicField, V: BasedVectorSpace<F> + Copy, C: Calls<F>>(
-    rt: &impl Abort,
-    test: &Counted<'_, V>,
-    engine: &mut C,
-) {
-    let bounds = test.bounds.get();
-    let _ = engine.column_dft_algebra(rt, entries_of(rt, test.mat));
-    test.within(rt, "dft_algebra", bounds.least, bounds.transform);
-    let _ = engine.column_idft_algebra(rt, entries_of(rt, test.mat));
-    test.at_most(rt, "idft_algebra", bounds.inverse);
-    let _ = engine.column_coset_dft_algebra(rt, entries_of(rt, test.mat), F::GENERATOR);
-    test.at_most(rt, "coset_dft_algebra", bounds.coset_transform);
-    let _ = engine.column_coset_idft_algebra(rt, entries_of(rt, test.mat), F::GENERATOR);
-    test.at_most(rt, "coset_idft_algebra", bounds.coset_inverse);
-    let _ = engine.column_lde_algebra(rt, entries_of(rt, test.mat), test.added_bits);
-    test.at_most(rt, "lde_algebra", bounds.extension);
-    let column = entries_of(rt, test.mat);
-    let _ = engine.column_coset_lde_algebra(rt, column, test.added_bits, F::GENERATOR);
-    test.at_most(rt, "coset_lde_algebra", bounds.extension);
-}
-
-impl<'a, F: TwoAdicField, V: BasedVectorSpace<F> + Copy> CallsTest<F> for Counted<'a, V> {
-    fn run<R: Abort, C: Calls<F>>(&self, rt: &R, alloc: Global, engine: &mut C) {
-        let _ = alloc;
-        over_space(rt, self, engine);
-        if self.mat.width() == 1 {
-            over_columns_of_space(rt, self, engine);
-        }
-    }
-}
-
-// The extension with a transform that changes nothing.
-fn with_transform<F: TwoAdicField, D: TwoAdicSubgroupDft<F>>(
-    rt: &impl Abort,
-    test: &Counted<'_, F>,
-    engine: &mut D,
-) {
-    let answer = engine.coset_lde_batch_with_transform(
-        extensible(rt, test.mat, test.added_bits),
-        test.added_bits,
-        F::GENERATOR,
-        |coefficients: RowMajorMatrix<F>, _layout: Layout| -> RowMajorMatrix<F>
-            ensures { result ≡ coefficients }
-        { coefficients },
-    );
-    assert!(rt; answer.is_ok());
-    let most = test.bounds.get().extension;
-    test.at_most(rt, "coset_lde_batch_with_transform", most);
-}
-
-// The extension with its rows in bit reversed order.
-fn in_bit_reversed_order<F: TwoAdicField, D: TwoAdicSubgroupDft<F>>(
-    rt: &impl Abort,
-    test: &Counted<'_, F>,
-    engine: &mut D,
-) {
-    let answer = engine.coset_lde_batch_bit_reversed(
-        extensible(rt, test.mat, test.added_bits),
-        test.added_bits,
-        F::GENERATOR,
-        |coefficients: RowMajorMatrix<F>, _layout: Layout| -> RowMajorMatrix<F>
-            ensures { result ≡ coefficients }
-        { coefficients },
-    );
-    assert!(rt; answer.is_ok());
-    let most = test.bounds.get().extension;
-    test.at_most(rt, "coset_lde_batch_bit_reversed", most);
-}
-
-// The extension with its blocks published.
-fn with_blocks<F: TwoAdicField, D: TwoAdicSubgroupDft<F>>(
-    rt: &impl Abort,
-    test: &Counted<'_, F>,
-    engine: &mut D,
-) {
-    let all = BlockLimit::new(usize::MAX);
-    let _ = extend_to(rt, engine, test.mat, test.added_bits, F::GENERATOR, all);
-    let most = test.bounds.get().extension;
-    test.at_most(rt, "coset_lde_batch_in_blocks", most);
-}
-
-// An extension on the subgroup whose first block is refused: no other coset is begun.
-fn with_first_block_refused<F: TwoAdicField, D: TwoAdicSubgroupDft<F>>(
-    rt: &impl Abort,
-    test: &Counted<'_, F>,
-    engine: &mut D,
-) {
-    let mat = test.mat.try_clone().expect(rt, "memory");
-    let (seen, refused) = seen_within(rt, engine, mat, test.added_bits, 0);
-    assert!(rt; seen == 0 && refused.is_some());
-    let most = test.bounds.get().refused;
-    test.at_most(rt, "coset_lde_batch_in_blocks, refused", most);
 }
 
 // A job of each kind.
@@ -438,14 +362,15 @@ fn jobs_of<F: CanonicalField>(
 }
 
 // All of them in one list.
-fn as_jobs<F: CanonicalField, D: TwoAdicSubgroupDft<F>>(
+fn jobs_within<F: CanonicalField>(
     rt: &impl Abort,
-    test: &Counted<'_, F>,
-    engine: &mut D,
+    count: &Count<'_>,
+    engine: &mut TestEngine<F>,
+    mat: &RowMajorMatrix<F>,
+    (shape, bounds): (Shape, Bounds),
 ) {
-    let answers = run_jobs(engine, jobs_of(rt, test.mat, test.added_bits));
+    let answers = engine.run_jobs(jobs_of(rt, mat, shape.added_bits));
     assert!(rt; answers.is_ok());
-    let bounds = test.bounds.get();
     let most = total(&[
         bounds.transform,
         bounds.coset_transform,
@@ -454,85 +379,64 @@ fn as_jobs<F: CanonicalField, D: TwoAdicSubgroupDft<F>>(
         bounds.extension,
         bounds.extension,
     ]);
-    test.at_most(rt, "run_jobs", most);
+    count.assert_within(rt, ("alone", "run_jobs", engine.name), shape, (0, most));
 }
 
-// The codeword of the matrix, and whether it is one.
-fn as_code<F: TwoAdicField, D: TwoAdicSubgroupDft<F>>(
+// Each call over a vector space.
+fn space_within<F: CanonicalField, V: BasedVectorSpace<F> + Copy>(
     rt: &impl Abort,
-    test: &Counted<'_, F>,
-    engine: D,
+    count: &Count<'_>,
+    engine: &mut TestEngine<F>,
+    mat: &RowMajorMatrix<V>,
+    (shape, bounds): (Shape, Bounds),
 ) {
-    let message = extensible(rt, test.mat, test.added_bits);
-    let log_message = log2_strict_usize(message.height());
-    assert!(rt; fits_code::<F>(log_message, test.added_bits));
-    let shift = invertible(rt, F::GENERATOR);
-    let mut code = ReedSolomon::new(engine, log_message, test.added_bits, shift);
-    let bounds = test.bounds.get();
-    let word = code.encode(message).expect(rt, "memory");
-    test.at_most(rt, "encode", bounds.extension);
-    let word = transformable(rt, &word);
-    assert!(rt; word.height() == code.word_height());
-    assert!(rt; code.is_codeword(&word).expect(rt, "memory"));
-    test.at_most(rt, "is_codeword", bounds.membership);
-}
-
-impl<'a, F: CanonicalField> EngineTest<F> for Counted<'a, F> {
-    fn run<R: Abort, D: TwoAdicSubgroupDft<F>>(&self, rt: &R, alloc: Global, engine: D) {
-        let _ = alloc;
-        let mut calls = CallsOf { engine };
-        over_matrices(rt, self, &mut calls);
-        if self.mat.width() == 1 {
-            over_columns(rt, self, &mut calls);
+    for operation in OPERATIONS {
+        for call in [
+            Call::AlgebraBatch(operation),
+            Call::AlgebraVector(operation),
+        ] {
+            if mat.width() == 1 || !call.is_of_column() {
+                let elements = mat.try_clone().expect(rt, "memory");
+                let bits = shape.added_bits;
+                let answer = engine.answer_in_space::<V>(call, elements, bits, F::GENERATOR);
+                assert!(rt; matches!(&answer, Answer::Rows(_)));
+                let limits = bounds.of_operation(operation, bounds.extension);
+                count.assert_within(rt, (call.form(), call.word(), engine.name), shape, limits);
+            }
         }
-        let CallsOf { mut engine } = calls;
-        with_transform(rt, self, &mut engine);
-        in_bit_reversed_order(rt, self, &mut engine);
-        with_blocks(rt, self, &mut engine);
-        with_first_block_refused(rt, self, &mut engine);
-        as_jobs(rt, self, &mut engine);
-        as_code(rt, self, engine);
     }
 }
 
-// On an engine by tiles of one size.
-fn on_tiles<F: TwoAdicField, R: Abort, T: EngineTest<F>>(
-    rt: &R,
-    alloc: Global,
-    tile: usize,
-    test: &T,
-) {
-    assert!(rt; 1 <= tile && tile <= 1 << 32);
-    let engine = Radix2DFTSmallBatch::with_tile(alloc, 1, tile);
-    let engine: Radix2DFTSmallBatch<F> = engine.expect(rt, "memory");
-    test.run(rt, alloc, engine);
-}
-
-// On every engine, each with bounds of its own.
-fn on_engines<F: TwoAdicField, R: Abort, T: EngineTest<F>>(
-    rt: &R,
+// The engines, each with its bounds: none for the definition where its products are too many to wait for.
+fn engines_and_bounds<F: TwoAdicField>(
+    rt: &impl Abort,
     alloc: Global,
     all: BoundsOfEngines,
-    bounds: &Cell<Bounds>,
-    test: &T,
-) {
-    if let Some(naive) = all.naive {
-        bounds.set(naive);
-        on::<F, NaiveDft, R, T>(rt, alloc, test);
+) -> Vec<(TestEngine<F>, Bounds)> {
+    let mut engines = Vec::new(alloc);
+    for name in ENGINES {
+        let bounds = match name {
+            EngineName::Naive => all.naive,
+            EngineName::Dit => Some(all.dit),
+            EngineName::Bowers => Some(all.bowers),
+            EngineName::Parallel => Some(all.parallel),
+            EngineName::Small => Some(all.small_batch),
+        };
+        if let Some(bounds) = bounds {
+            let engine = TestEngine::new(Name::Library(name));
+            engines.push((engine, bounds)).expect(rt, "memory");
+        }
     }
-    bounds.set(all.dit);
-    on_dit(rt, alloc, test);
-    bounds.set(all.bowers);
-    on::<F, Radix2Bowers, R, T>(rt, alloc, test);
-    bounds.set(all.parallel);
-    on_halves(rt, alloc, test);
-    bounds.set(all.small_batch);
-    on_tiles(rt, alloc, 1, test);
-    on_tiles(rt, alloc, 8192, test);
+    for tile in [1usize, 8192] {
+        engines
+            .push((by_tiles(rt, alloc, tile), all.small_batch))
+            .expect(rt, "memory");
+    }
+    engines
 }
 
 // Entries that are all marked.
-fn marked<F: CanonicalField, M: Meter>(
+pub(crate) fn marked<F: CanonicalField, M: Meter>(
     rt: &impl Abort,
     alloc: Global,
     height: usize,
@@ -552,34 +456,18 @@ fn marked<F: CanonicalField, M: Meter>(
 fn over_field<F: CanonicalField, M: Packs<Tally<F, M>>>(
     rt: &impl Abort,
     alloc: Global,
-    (count, mark): (&Cell<usize>, M),
+    (count, mark): (&Count<'_>, M),
     shape: Shape,
     all: BoundsOfEngines,
 ) {
     let mat = marked::<F, M>(rt, alloc, rows(shape.log_h), shape.width, mark);
-    let bounds = Cell::new(all.dit);
-    let test = Counted {
-        mat: &mat,
-        added_bits: shape.added_bits,
-        count,
-        bounds: &bounds,
-    };
-    on_engines(rt, alloc, all, &bounds, &test);
-}
-
-// The matrix of the elements whose coordinates are the rows of another, one after another.
-fn elements_of<F: TwoAdicField, V: BasedVectorSpace<F>>(
-    rt: &impl Abort,
-    coordinates: &RowMajorMatrix<F>,
-    width: usize,
-) -> RowMajorMatrix<V> {
-    let mut elements = Vec::new(*coordinates.allocator());
-    for i in 0..coordinates.height() {
-        let row = coordinates.row(i);
-        assert!(rt; row.len() == V::DIMENSION);
-        elements.push(V::from_coordinates(row)).expect(rt, "memory");
+    for (engine, bounds) in engines_and_bounds(rt, alloc, all) {
+        let mut engine = engine;
+        calls_within(rt, count, &mut engine, &mat, (shape, bounds));
+        codeword_within(rt, count, &mut engine, &mat, (shape, bounds));
+        refusal_within(rt, count, &mut engine, &mat, (shape, bounds));
+        jobs_within(rt, count, &mut engine, &mat, (shape, bounds));
     }
-    matrix_of(rt, elements, width)
 }
 
 // Every call over a vector space.
@@ -587,7 +475,7 @@ fn over_coordinates<
     F: CanonicalField,
     M: Packs<Tally<F, M>>,
     V: BasedVectorSpace<Tally<F, M>> + Copy,
->(rt: &impl Abort, alloc: Global, (count, mark): (&Cell<usize>, M), shape: Shape) {
+>(rt: &impl Abort, alloc: Global, (count, mark): (&Count<'_>, M), shape: Shape) {
     let elements = rows(shape.log_h).saturating_mul(shape.width);
     let coordinates = marked::<F, M>(rt, alloc, elements, V::DIMENSION, mark);
     let mat = elements_of::<Tally<F, M>, V>(rt, &coordinates, shape.width);
@@ -595,21 +483,17 @@ fn over_coordinates<
         width: shape.width.saturating_mul(V::DIMENSION),
         ..shape
     });
-    let bounds = Cell::new(all.dit);
-    let test = Counted {
-        mat: &mat,
-        added_bits: shape.added_bits,
-        count,
-        bounds: &bounds,
-    };
-    on_engines(rt, alloc, all, &bounds, &ByCalls { test: &test });
+    for (engine, bounds) in engines_and_bounds(rt, alloc, all) {
+        let mut engine = engine;
+        space_within::<Tally<F, M>, V>(rt, count, &mut engine, &mat, (shape, bounds));
+    }
 }
 
 // Every call at one shape, over the field and over both vector spaces.
 fn at_shape<F, M, V, W>(
     rt: &impl Abort,
     alloc: Global,
-    (count, mark): (&Cell<usize>, M),
+    (count, mark): (&Count<'_>, M),
     (log_h, width, added_bits): (usize, usize, usize),
 )
 where
@@ -638,7 +522,7 @@ const LARGER_SHAPES: [(usize, usize, usize); 5] = [
 ];
 
 // Every call at every shape.
-fn at_every_shape<F, M, V, W>(rt: &impl Abort, alloc: Global, (count, mark): (&Cell<usize>, M))
+fn at_every_shape<F, M, V, W>(rt: &impl Abort, alloc: Global, (count, mark): (&Count<'_>, M))
 where
     F: CanonicalField,
     M: Packs<Tally<F, M>>,
@@ -658,16 +542,16 @@ where
 }
 
 // Stops the test unless so many products were counted, and counts anew.
-fn assert_seen(rt: &impl Abort, count: &Cell<usize>, wanted: usize) {
-    assert!(rt; count.get() == wanted);
-    count.set(0);
+fn assert_seen(rt: &impl Abort, count: &Count<'_>, wanted: usize) {
+    assert!(rt; count.cell.get() == wanted);
+    count.cell.set(0);
 }
 
 // One product is counted for each that a marked element, or what came of one, has a part in: in packs one for
 // each lane.
 fn sees_products<F: CanonicalField, M: Packs<Tally<F, M>>>(
     rt: &impl Abort,
-    (count, mark): (&Cell<usize>, M),
+    (count, mark): (&Count<'_>, M),
 ) {
     let one = Tally::<F, M>::ONE;
     let x = -(one - Tally::marked(F::TWO, mark)).halve() + one;
@@ -685,13 +569,14 @@ fn sees_products<F: CanonicalField, M: Packs<Tally<F, M>>>(
 }
 
 // The rows that were worked, and every shape.
-fn counts<F, M, V, W>(rt: &impl Abort, alloc: Global, count: &Cell<usize>, mark: M)
+fn counts<F, M, V, W>(rt: &impl Abort, alloc: Global, cell: &Cell<usize>, mark: M)
 where
     F: CanonicalField,
     M: Packs<Tally<F, M>>,
     V: BasedVectorSpace<Tally<F, M>> + Copy,
     W: BasedVectorSpace<Tally<F, M>> + Copy,
 {
+    let count = &Count { cell };
     sees_products::<F, M>(rt, (count, mark));
     let shape = Shape {
         log_h: 3,

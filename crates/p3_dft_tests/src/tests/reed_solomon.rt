@@ -8,13 +8,16 @@ ghost use Rattle.p3_matrix.specs.RowNumbers.{AgreeInRows, DifferInRows};
 ghost use Rattle.p3_dft.specs.Shapes.{FitsDft};
 ghost use Rattle.p3_matrix.specs.Cosets.{values_of};
 
-use super::{EngineTest, elements, matrix, matrix_of, on_every_engine};
-use crate::tests::engines::LimitedDft;
-use crate::tests::fitting::{assert_column, extensible, invertible, transformable};
+use super::helpers::engines::{EVERY_ENGINE, TestEngine, assert_rows_of, input};
+use super::helpers::fitting::{assert_column, extensible, invertible, transformable};
+use super::helpers::matrices::{elements, matrix, matrix_of};
+use super::helpers::own_engines::LimitedDft;
+use engine_calls::answers::Answer;
+use engine_calls::names::Call;
 use examples::low_degree::has_low_degree;
 use p3_dft::{
-    BabyBear, CanonicalField, DftError, Field, Goldilocks, ReedSolomon, RowMajorMatrix,
-    TwoAdicField, TwoAdicSubgroupDft, fits_code, fits_dft,
+    BabyBear, CanonicalField, DftError, Field, Goldilocks, NaiveDft, Radix2DitParallel,
+    ReedSolomon, RowMajorMatrix, TwoAdicField, TwoAdicSubgroupDft, fits_code,
 };
 use std::alloc::Global;
 use std::process::Abort;
@@ -93,19 +96,19 @@ fn of_two<F: TwoAdicField, D: TwoAdicSubgroupDft<F>>(
     ReedSolomon::new(engine, 1, 1, invertible(rt, shift))
 }
 
-// Whether four numbers are a word.
-fn tells<F: CanonicalField, D: TwoAdicSubgroupDft<F>>(
+// Stops the test unless an engine tells whether four numbers are a word of a message of two.
+fn tells<F: TwoAdicField>(
     rt: &impl Abort,
-    code: &mut ReedSolomon<F, D>,
+    engine: &mut TestEngine<F>,
     word: &RowMajorMatrix<F>,
-    told: bool,
-)
-    requires { code.old.code.log_message + code.old.code.added_bits ≡ 2 }
-    ensures { code.new.code ≡ code.old.code }
-{
-    assert!(rt; fits_dft::<F>(word.height(), word.width()));
-    assert!(rt; word.height() == 4);
-    assert!(rt; code.is_codeword(word).expect(rt, "memory") == told);
+    shift: F,
+    is_word: bool,
+) {
+    let holds = match engine.answer(Call::IsCodeword, input(rt, word, 1, shift)) {
+        Answer::Holds(holds) => holds,
+        _ => panic!(rt; "is_codeword on {}: no answer", engine.name),
+    };
+    assert!(rt; holds == is_word, "is_codeword on {}: {holds}", engine.name);
 }
 
 // The word with one added to one of its entries.
@@ -121,133 +124,109 @@ fn changed<F: CanonicalField>(
     matrix_of(rt, entries, 1)
 }
 
-// That a word with an entry changed is none, of each entry in turn.
-fn tells_none_changed<F: CanonicalField, D: TwoAdicSubgroupDft<F>>(
+// The message 9, 1 and its word on a coset: it is one, and none with an entry changed.
+fn word_of<F: CanonicalField>(
     rt: &impl Abort,
     alloc: Global,
-    code: &mut ReedSolomon<F, D>,
-    word: &[u64],
-)
-    requires { code.old.code.log_message + code.old.code.added_bits ≡ 2 }
-{
-    for place in 0..word.len() {
-        tells(rt, code, &changed(rt, alloc, word, place), false);
-    }
-}
-
-// A message of two numbers and its word on a coset: it is one, and none with an entry changed.
-#[derive(Drop)]
-struct Word<F> {
+    engine: &mut TestEngine<F>,
     shift: F,
-    message: [u64; 2],
-    word: [u64; 4],
-}
-
-impl<F: CanonicalField> EngineTest<F> for Word<F> {
-    fn run<R: Abort, D: TwoAdicSubgroupDft<F>>(&self, rt: &R, alloc: Global, engine: D) {
-        let mut code = of_two(rt, engine, self.shift);
-        let mat = extensible(rt, alloc, &self.message, 1);
-        assert!(rt; mat.height() == code.message_height());
-        let word = code.encode(mat).expect(rt, "memory");
-        assert_column(rt, &word, &self.word);
-        tells(rt, &mut code, &word, true);
-        tells_none_changed(rt, alloc, &mut code, &self.word);
+    numbers: &[u64],
+) {
+    let message = input(rt, &matrix(rt, alloc, &[9, 1], 1), 1, shift);
+    let word = matrix(rt, alloc, numbers, 1);
+    assert_rows_of(rt, engine, Call::Encode, message, &word);
+    tells(rt, engine, &word, shift, true);
+    for place in 0..numbers.len() {
+        tells(
+            rt,
+            engine,
+            &changed(rt, alloc, numbers, place),
+            shift,
+            false,
+        );
     }
 }
 
 // Constants are words, and two columns of four numbers are none.
-struct Constants;
+const COLUMNS: [([u64; 4], bool); 4] = [
+    ([0, 0, 0, 0], true),
+    ([7, 7, 7, 7], true),
+    ([9, 873820294, 1, 0], false),
+    ([1, 2013265920, 1, 2013265920], false),
+];
 
-impl<F: CanonicalField> EngineTest<F> for Constants {
-    fn run<R: Abort, D: TwoAdicSubgroupDft<F>>(&self, rt: &R, alloc: Global, engine: D) {
-        let mut code = of_two(rt, engine, F::ONE);
-        tells(rt, &mut code, &matrix(rt, alloc, &[0, 0, 0, 0], 1), true);
-        tells(rt, &mut code, &matrix(rt, alloc, &[7, 7, 7, 7], 1), true);
-        let far = matrix(rt, alloc, &[9, 873820294, 1, 0], 1);
-        tells(rt, &mut code, &far, false);
-        let alternating = matrix(rt, alloc, &[1, 2013265920, 1, 2013265920], 1);
-        tells(rt, &mut code, &alternating, false);
+// A word of a message on two cosets, and other columns, on every engine.
+fn words<F: CanonicalField>(rt: &impl Abort, alloc: Global, word: [u64; 4], on_two: [u64; 4]) {
+    for name in EVERY_ENGINE {
+        let mut engine: TestEngine<F> = TestEngine::new(name);
+        word_of(rt, alloc, &mut engine, F::ONE, &word);
+        word_of(rt, alloc, &mut engine, F::TWO, &on_two);
+        for (column, is_word) in COLUMNS {
+            let column = matrix(rt, alloc, &column, 1);
+            tells(rt, &mut engine, &column, F::ONE, is_word);
+        }
     }
 }
 
 // With as many points as coefficients each column is a word, and of degree below four, but not two.
-struct AllWords;
-
-impl<F: CanonicalField> EngineTest<F> for AllWords {
-    fn run<R: Abort, D: TwoAdicSubgroupDft<F>>(&self, rt: &R, alloc: Global, engine: D) {
-        let shift = invertible(rt, F::GENERATOR);
-        assert!(rt; fits_code::<F>(2, 0));
-        let mut code = ReedSolomon::new(engine, 2, 0, shift);
-        let word = transformable(rt, alloc, &[9, 873820294, 1, 0]);
-        assert!(rt; word.height() == 4);
-        let told = told_with_no_added_bits(&mut code, &word);
-        assert!(rt; told.expect(rt, "memory"));
-        let (told, engine) = has_low_degree(code.into_engine(), &word, 2, shift);
-        assert!(rt; told.expect(rt, "memory"));
-        let (told, _engine) = has_low_degree(engine, &word, 1, shift);
-        assert!(rt; !told.expect(rt, "memory"));
-    }
+fn all_words<F: CanonicalField, D: TwoAdicSubgroupDft<F>>(
+    rt: &impl Abort,
+    alloc: Global,
+    engine: D,
+) {
+    let shift = invertible(rt, F::GENERATOR);
+    assert!(rt; fits_code::<F>(2, 0));
+    let mut code = ReedSolomon::new(engine, 2, 0, shift);
+    let word = transformable(rt, alloc, &[9, 873820294, 1, 0]);
+    assert!(rt; word.height() == 4);
+    let told = told_with_no_added_bits(&mut code, &word);
+    assert!(rt; told.expect(rt, "memory"));
+    let (told, engine) = has_low_degree(code.into_engine(), &word, 2, shift);
+    assert!(rt; told.expect(rt, "memory"));
+    let (told, _engine) = has_low_degree(engine, &word, 1, shift);
+    assert!(rt; !told.expect(rt, "memory"));
 }
 
 // Two words of polynomials that differ in one coefficient.
-struct TwoWords;
-
-impl<F: CanonicalField> EngineTest<F> for TwoWords {
-    fn run<R: Abort, D: TwoAdicSubgroupDft<F>>(&self, rt: &R, alloc: Global, engine: D) {
-        let mut code = of_two(rt, engine, F::ONE);
-        let one = transformable(rt, alloc, &[7, 7, 7, 7]);
-        let other = transformable(rt, alloc, &[8, 8, 8, 8]);
-        assert!(rt; one.height() == code.word_height());
-        assert!(rt; other.height() == one.height());
-        assert!(rt; other.width() == one.width());
-        assert!(rt; told_by_few_rows(&mut code, &one, &other).expect(rt, "memory"));
-        assert!(rt; lie_apart(&mut code, &one, &other).expect(rt, "memory"));
-        assert!(rt; !lie_apart(&mut code, &one, &one).expect(rt, "memory"));
-    }
+fn two_words<F: CanonicalField, D: TwoAdicSubgroupDft<F>>(
+    rt: &impl Abort,
+    alloc: Global,
+    engine: D,
+) {
+    let mut code = of_two(rt, engine, F::ONE);
+    let one = transformable(rt, alloc, &[7, 7, 7, 7]);
+    let other = transformable(rt, alloc, &[8, 8, 8, 8]);
+    assert!(rt; one.height() == code.word_height());
+    assert!(rt; other.height() == one.height());
+    assert!(rt; other.width() == one.width());
+    assert!(rt; told_by_few_rows(&mut code, &one, &other).expect(rt, "memory"));
+    assert!(rt; lie_apart(&mut code, &one, &other).expect(rt, "memory"));
+    assert!(rt; !lie_apart(&mut code, &one, &one).expect(rt, "memory"));
 }
 
 // The numbers of a code are those that it was made of.
-struct Numbers;
-
-impl<F: CanonicalField> EngineTest<F> for Numbers {
-    fn run<R: Abort, D: TwoAdicSubgroupDft<F>>(&self, rt: &R, alloc: Global, engine: D) {
-        let _ = alloc;
-        assert!(rt; fits_code::<F>(1, 3) && !fits_code::<F>(usize::MAX, 1));
-        let code = ReedSolomon::new(engine, 1, 3, invertible(rt, F::TWO));
-        assert!(rt; (code.log_message(), code.added_bits()) == (1, 3));
-        assert!(rt; (code.message_height(), code.word_height()) == (2, 16));
-        assert!(rt; code.shift() == F::TWO);
-        let _ = code.engine();
-    }
+fn numbers<F: CanonicalField>(rt: &impl Abort) {
+    assert!(rt; fits_code::<F>(1, 3) && !fits_code::<F>(usize::MAX, 1));
+    let code = ReedSolomon::new(NaiveDft::default(), 1, 3, invertible(rt, F::TWO));
+    assert!(rt; (code.log_message(), code.added_bits()) == (1, 3));
+    assert!(rt; (code.message_height(), code.word_height()) == (2, 16));
+    assert!(rt; code.shift() == F::TWO);
+    let _ = code.engine();
 }
 
-// A word of each message on two cosets, and what else holds on every engine.
-fn words<F: CanonicalField>(rt: &impl Abort, alloc: Global, word: [u64; 4], shifted: [u64; 4]) {
-    let message = [9, 1];
-    let shift = F::ONE;
-    on_every_engine(
-        rt,
-        alloc,
-        &Word::<F> {
-            shift,
-            message,
-            word,
-        },
-    );
-    let (shift, word) = (F::TWO, shifted);
-    on_every_engine(
-        rt,
-        alloc,
-        &Word::<F> {
-            shift,
-            message,
-            word,
-        },
-    );
-    on_every_engine::<F, _, _>(rt, alloc, &Constants);
-    on_every_engine::<F, _, _>(rt, alloc, &AllWords);
-    on_every_engine::<F, _, _>(rt, alloc, &TwoWords);
-    on_every_engine::<F, _, _>(rt, alloc, &Numbers);
+// By the definition and by halves.
+fn laws<F: CanonicalField>(rt: &impl Abort, alloc: Global) {
+    all_words::<F, NaiveDft>(rt, alloc, NaiveDft::default());
+    all_words::<F, Radix2DitParallel<F>>(rt, alloc, Radix2DitParallel::default());
+    two_words::<F, NaiveDft>(rt, alloc, NaiveDft::default());
+    two_words::<F, Radix2DitParallel<F>>(rt, alloc, Radix2DitParallel::default());
+    numbers::<F>(rt);
+}
+
+#[test]
+fn callers_of_codes_have_their_laws(rt: HostRuntime) {
+    laws::<BabyBear>(&rt, rt.alloc());
+    laws::<Goldilocks>(&rt, rt.alloc());
 }
 
 #[test]

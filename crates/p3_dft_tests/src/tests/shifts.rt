@@ -1,6 +1,6 @@
 // Rows times the powers of a shift, of a height that no transform has.
 
-use super::{assert_elements, elements};
+use super::helpers::matrices::{assert_elements, elements};
 use p3_dft::{BabyBear, CanonicalField, Field, Goldilocks, Products};
 use p3_networks::shifts::{copy_shifted, shift_values};
 use std::alloc::Global;

@@ -3,37 +3,26 @@
 // layer the first block of each layer goes without products, and in a tile that of the first layer does not. How
 // many products there are is not promised.
 
-use super::matrix_of;
-use super::tally::{InPacks, Meter, Packs, Tally};
-use crate::tests::calls::{Calls, CallsOf};
-use p3_dft::{BabyBear, CanonicalField, Field, Radix2DFTSmallBatch, RowMajorMatrix, TwoAdicField};
+use super::answers::by_tiles;
+use super::helpers::counting_field::{InPacks, Packs, Tally};
+use super::helpers::engines::{TestEngine, input, rows_of};
+use super::products::marked;
+use engine_calls::names::{Call, Operation};
+use p3_dft::{BabyBear, CanonicalField, RowMajorMatrix, TwoAdicField};
 use std::alloc::Global;
 use std::cell::Cell;
 use std::process::Abort;
 
-// A column of 64 entries whose products are counted.
-fn marked<F: CanonicalField, M: Meter>(
-    rt: &impl Abort,
-    alloc: Global,
-    mark: M,
-) -> RowMajorMatrix<Tally<F, M>> {
-    let mut entries = Vec::new(alloc);
-    for n in 0..64usize {
-        let entry = Tally::marked(F::from_usize(n), mark);
-        entries.push(entry).expect(rt, "memory");
-    }
-    matrix_of(rt, entries, 1)
-}
-
 // How many products a transform makes.
-fn products_of<F: TwoAdicField, C: Calls<F>>(
+fn products_of<F: TwoAdicField>(
     rt: &impl Abort,
-    engine: &mut C,
+    engine: &mut TestEngine<F>,
     column: &RowMajorMatrix<F>,
     count: &Cell<usize>,
 ) -> usize {
     count.set(0);
-    let _values = engine.dft(rt, column);
+    let rows = input(rt, column, 0, F::ONE);
+    let _values = rows_of(rt, engine, Call::Batch(Operation::Dft), rows);
     count.get()
 }
 
@@ -44,11 +33,8 @@ fn products_by_tile<F: TwoAdicField>(
     count: &Cell<usize>,
     tile: usize,
 ) -> usize {
-    assert!(rt; 1 <= tile && tile <= 1 << 32);
-    let engine = Radix2DFTSmallBatch::with_tile(*column.allocator(), 1, tile);
-    let engine: Radix2DFTSmallBatch<F> = engine.expect(rt, "memory");
-    let mut engine = CallsOf { engine };
-    let mut copy = Calls::<F>::copied(&engine, rt);
+    let mut engine = by_tiles(rt, *column.allocator(), tile);
+    let mut copy = engine.copied(rt);
     let products = products_of(rt, &mut engine, column, count);
     assert_eq!(rt; products_of(rt, &mut copy, column, count), products);
     products
@@ -60,7 +46,7 @@ fn tiles_are_copied<F: CanonicalField, M: Packs<Tally<F, M>>>(
     count: &Cell<usize>,
     mark: M,
 ) {
-    let column: RowMajorMatrix<Tally<F, M>> = marked(rt, alloc, mark);
+    let column: RowMajorMatrix<Tally<F, M>> = marked(rt, alloc, 64, 1, mark);
     let by_element = products_by_tile(rt, &column, count, 1);
     assert!(rt; products_by_tile(rt, &column, count, 8192) != by_element);
 }

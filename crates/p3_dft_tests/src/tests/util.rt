@@ -1,6 +1,6 @@
 // Shapes at their limits, and the division by the height.
 
-use super::matrix;
+use super::helpers::matrices::matrix;
 use p3_dft::{
     BabyBear, CanonicalField, Products, RowMajorMatrix, TwoAdicField, divide_by_height, fits_dft,
     fits_lde,

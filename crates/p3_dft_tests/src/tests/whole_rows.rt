@@ -1,7 +1,7 @@
 // Extensions by transforms that depend on whole rows, against numbers made elsewhere.
 
-use super::matrix;
-use crate::tests::fitting::{assert_column, extensible, transformable};
+use super::helpers::fitting::{assert_column, extensible, transformable};
+use super::helpers::matrices::matrix;
 use examples::whole_rows::{
     counted_transform, extension_in_whole_rows, extension_of_opposite_entries,
 };

@@ -1,13 +1,14 @@
 // Columns of numbers, of shapes that fit, and shifts that have an inverse: what the calls of an engine
 // ask for is tested here once, and then told by a clause.
 
-ghost use Rattle.std.specs.Prelude.{◌≡◌, ◌↔◌, IsTrue, vec_len};
+ghost use Rattle.std.specs.Prelude.{◌≡◌, vec_len};
 ghost use Rattle.p3_field.specs.Ring.{IsInvertible};
 ghost use Rattle.p3_matrix.specs.RowMajor.{height};
 ghost use Rattle.p3_dft.specs.Shapes.{FitsDft, FitsLde};
 
-use super::{elements, matrix};
-use p3_dft::{CanonicalField, Field, RowMajorMatrix, TwoAdicSubgroupDft, fits_dft, fits_lde};
+use super::matrices::{elements, matrix};
+use engine_calls::answers::has_inverse;
+use p3_dft::{CanonicalField, Field, RowMajorMatrix, fits_dft, fits_lde};
 use std::alloc::Global;
 use std::process::Abort;
 
@@ -49,13 +50,6 @@ pub(crate) fn pair<F: CanonicalField>(rt: &impl Abort, alloc: Global, numbers: [
     column
 }
 
-// Whether an element has an inverse.
-fn has_inverse<F: Field>(x: F) -> bool
-    ensures { IsTrue result ↔ IsInvertible F.ring (F.value x) }
-{
-    x.try_inverse().is_some()
-}
-
 // A shift that has an inverse.
 pub(crate) fn invertible<F: Field>(rt: &impl Abort, shift: F) -> F
     ensures same { result ≡ shift }
@@ -73,17 +67,4 @@ pub(crate) fn assert_column<F: CanonicalField>(
 ) {
     let wanted: RowMajorMatrix<F> = matrix(rt, *found.allocator(), numbers, 1);
     assert!(rt; *found == wanted);
-}
-
-// One call of `dft`: the polynomial with these coefficients has these values.
-pub(crate) fn evaluates<F: CanonicalField, D: TwoAdicSubgroupDft<F>>(
-    rt: &impl Abort,
-    alloc: Global,
-    engine: &mut D,
-    coefficients: &[u64],
-    values: &[u64],
-) {
-    let column: Vec<F> = elements(rt, alloc, coefficients);
-    assert!(rt; fits_dft::<F>(column.len(), 1));
-    assert!(rt; engine.dft(column).expect(rt, "memory") == elements(rt, alloc, values));
 }

@@ -1,6 +1,6 @@
 use Rattle.std.proofs.Common.{◌∙◌, ap}
 use Rattle.p3_field.proofs.Accumulated.{multiplied}
-use Rattle.p3_dft_tests.proofs.tests.tally.TallyProduct.product.Goals as goal
+use Rattle.p3_dft_tests.proofs.tests.helpers.counting_field.TallyProduct.product.Goals as goal
 
 pub returns : goal.returns
 returns g c =

@@ -1,6 +1,6 @@
 use Rattle.std.proofs.Common.{◌∙◌, ap}
 use Rattle.p3_field.proofs.Accumulated.{added_up}
-use Rattle.p3_dft_tests.proofs.tests.tally.TallySum.sum.Goals as goal
+use Rattle.p3_dft_tests.proofs.tests.helpers.counting_field.TallySum.sum.Goals as goal
 
 pub returns : goal.returns
 returns g c =

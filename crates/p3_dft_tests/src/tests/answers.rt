@@ -1,0 +1,685 @@
+// Calls whose answers were worked out by hand or by another program, on every engine, one after another on the same
+// engine and again on a clone: so that a call that left something behind for a later one would show.
+
+use super::helpers::engines::{EVERY_ENGINE, Name, TestEngine, assert_rows_of, input, rows_of};
+use super::helpers::matrices::{assert_rows, column, matrix};
+use engine_calls::answers::Input;
+use engine_calls::changes::Change;
+use engine_calls::engines::Engine;
+use engine_calls::names::{Call, EngineName, Operation};
+use p3_dft::{BabyBear, CanonicalField, Goldilocks, Layout, Radix2DFTSmallBatch, TwoAdicField};
+use std::alloc::Global;
+use std::process::Abort;
+
+// A call on rows with these numbers, and the numbers of its answer.
+struct Worked {
+    call: Call,
+    change: Change,
+    width: usize,
+    rows: &'static [u64],
+    added_bits: usize,
+    shift: usize,
+    answer: &'static [u64],
+}
+
+// The polynomials are 1 + 2 x + 3 x^2 + 4 x^3 and 5 + 4 x, and others.
+const OVER_BABY_BEAR: [Worked; 29] = [
+    Worked {
+        call: Call::Vector(Operation::Dft),
+        change: Change::Nothing,
+        width: 1,
+        rows: &[1, 2, 3, 4],
+        added_bits: 0,
+        shift: 1,
+        answer: &[10, 569722814, 2013265919, 1443543103],
+    },
+    Worked {
+        call: Call::Vector(Operation::CosetDft),
+        change: Change::Nothing,
+        width: 1,
+        rows: &[5, 4],
+        added_bits: 0,
+        shift: 2,
+        answer: &[13, 2013265918],
+    },
+    Worked {
+        call: Call::Vector(Operation::CosetDft),
+        change: Change::Nothing,
+        width: 1,
+        rows: &[5, 4],
+        added_bits: 0,
+        shift: 0,
+        answer: &[5, 5],
+    },
+    Worked {
+        call: Call::Vector(Operation::Idft),
+        change: Change::Nothing,
+        width: 1,
+        rows: &[10, 569722814, 2013265919, 1443543103],
+        added_bits: 0,
+        shift: 1,
+        answer: &[1, 2, 3, 4],
+    },
+    Worked {
+        call: Call::Vector(Operation::Idft),
+        change: Change::Nothing,
+        width: 1,
+        rows: &[9, 1],
+        added_bits: 0,
+        shift: 1,
+        answer: &[5, 4],
+    },
+    Worked {
+        call: Call::Vector(Operation::CosetIdft),
+        change: Change::Nothing,
+        width: 1,
+        rows: &[13, 2013265918],
+        added_bits: 0,
+        shift: 2,
+        answer: &[5, 4],
+    },
+    Worked {
+        call: Call::Vector(Operation::CosetDft),
+        change: Change::Nothing,
+        width: 1,
+        rows: &[5, 4],
+        added_bits: 0,
+        shift: 2,
+        answer: &[13, 2013265918],
+    },
+    Worked {
+        call: Call::Vector(Operation::CosetDft),
+        change: Change::Nothing,
+        width: 1,
+        rows: &[1, 2, 3, 4],
+        added_bits: 0,
+        shift: 0,
+        answer: &[1, 1, 1, 1],
+    },
+    Worked {
+        call: Call::Vector(Operation::CosetDft),
+        change: Change::Nothing,
+        width: 1,
+        rows: &[5, 4],
+        added_bits: 0,
+        shift: 3,
+        answer: &[17, 2013265914],
+    },
+    Worked {
+        call: Call::Vector(Operation::CosetDft),
+        change: Change::Nothing,
+        width: 1,
+        rows: &[1, 2, 3, 4],
+        added_bits: 0,
+        shift: 0,
+        answer: &[1, 1, 1, 1],
+    },
+    Worked {
+        call: Call::Vector(Operation::CosetDft),
+        change: Change::Nothing,
+        width: 1,
+        rows: &[5, 4],
+        added_bits: 0,
+        shift: 2,
+        answer: &[13, 2013265918],
+    },
+    Worked {
+        call: Call::Vector(Operation::CosetDft),
+        change: Change::Nothing,
+        width: 1,
+        rows: &[1, 2, 3, 4],
+        added_bits: 0,
+        shift: 0,
+        answer: &[1, 1, 1, 1],
+    },
+    Worked {
+        call: Call::Vector(Operation::Lde),
+        change: Change::Nothing,
+        width: 1,
+        rows: &[9, 1],
+        added_bits: 1,
+        shift: 1,
+        answer: &[9, 873820294, 1, 1139445637],
+    },
+    Worked {
+        call: Call::Vector(Operation::CosetLde),
+        change: Change::Nothing,
+        width: 1,
+        rows: &[9, 1],
+        added_bits: 1,
+        shift: 0,
+        answer: &[5, 5, 5, 5],
+    },
+    Worked {
+        call: Call::Vector(Operation::CosetLde),
+        change: Change::Nothing,
+        width: 1,
+        rows: &[7, 7],
+        added_bits: 3,
+        shift: 31,
+        answer: &[7, 7, 7, 7, 7, 7, 7, 7, 7, 7, 7, 7, 7, 7, 7, 7],
+    },
+    Worked {
+        call: Call::Batch(Operation::CosetLde),
+        change: Change::Nothing,
+        width: 2,
+        rows: &[42, 7],
+        added_bits: 2,
+        shift: 31,
+        answer: &[42, 7, 42, 7, 42, 7, 42, 7],
+    },
+    Worked {
+        call: Call::Batch(Operation::Dft),
+        change: Change::Nothing,
+        width: 2,
+        rows: &[42, 7],
+        added_bits: 0,
+        shift: 1,
+        answer: &[42, 7],
+    },
+    Worked {
+        call: Call::Batch(Operation::Idft),
+        change: Change::Nothing,
+        width: 2,
+        rows: &[42, 7],
+        added_bits: 0,
+        shift: 1,
+        answer: &[42, 7],
+    },
+    Worked {
+        call: Call::Batch(Operation::CosetIdft),
+        change: Change::Nothing,
+        width: 1,
+        rows: &[9, 1],
+        added_bits: 0,
+        shift: 2,
+        answer: &[5, 2],
+    },
+    Worked {
+        call: Call::Batch(Operation::CosetDft),
+        change: Change::Nothing,
+        width: 1,
+        rows: &[5, 2, 0, 0],
+        added_bits: 0,
+        shift: 2,
+        answer: &[9, 873820294, 1, 1139445637],
+    },
+    Worked {
+        call: Call::WithTransform,
+        change: Change::Doubled,
+        width: 1,
+        rows: &[9, 1],
+        added_bits: 1,
+        shift: 1,
+        answer: &[18, 1747640588, 2, 265625353],
+    },
+    Worked {
+        call: Call::Vector(Operation::Dft),
+        change: Change::Nothing,
+        width: 1,
+        rows: &[7],
+        added_bits: 0,
+        shift: 1,
+        answer: &[7],
+    },
+    Worked {
+        call: Call::Vector(Operation::Dft),
+        change: Change::Nothing,
+        width: 1,
+        rows: &[0, 0, 0, 0, 0, 0, 0, 0, 0, 0, 0, 0, 0, 0, 0, 0],
+        added_bits: 0,
+        shift: 1,
+        answer: &[0, 0, 0, 0, 0, 0, 0, 0, 0, 0, 0, 0, 0, 0, 0, 0],
+    },
+    Worked {
+        call: Call::Vector(Operation::Dft),
+        change: Change::Nothing,
+        width: 1,
+        rows: &[1, 2, 3, 4, 5, 6, 7, 8],
+        added_bits: 0,
+        shift: 1,
+        answer: &[
+            36, 1976151680, 1139445628, 1710526337, 2013265917, 302739576, 873820285, 37114233,
+        ],
+    },
+    Worked {
+        call: Call::Vector(Operation::Dft),
+        change: Change::Nothing,
+        width: 1,
+        rows: &[0, 0, 0, 0, 1, 0, 0, 0],
+        added_bits: 0,
+        shift: 1,
+        answer: &[1, 2013265920, 1, 2013265920, 1, 2013265920, 1, 2013265920],
+    },
+    Worked {
+        call: Call::Batch(Operation::Dft),
+        change: Change::Nothing,
+        width: 3,
+        rows: &[5, 2, 0, 4, 3, 0],
+        added_bits: 0,
+        shift: 1,
+        answer: &[9, 5, 0, 1, 2013265920, 0],
+    },
+    Worked {
+        call: Call::Batch(Operation::Dft),
+        change: Change::Nothing,
+        width: 3,
+        rows: &[1, 2, 3, 4, 5, 6, 7, 8, 9, 10, 11, 12],
+        added_bits: 0,
+        shift: 1,
+        answer: &[
+            22, 26, 30, 1709168442, 1709168442, 1709168442, 2013265915, 2013265915, 2013265915,
+            304097467, 304097467, 304097467,
+        ],
+    },
+    Worked {
+        call: Call::WithTransform,
+        change: Change::TurnedAround,
+        width: 1,
+        rows: &[9, 1],
+        added_bits: 1,
+        shift: 1,
+        answer: &[9, 588958885, 2013265920, 1424307044],
+    },
+    Worked {
+        call: Call::BitReversed,
+        change: Change::TurnedAround,
+        width: 1,
+        rows: &[9, 1],
+        added_bits: 1,
+        shift: 1,
+        answer: &[9, 588958885, 2013265920, 1424307044],
+    },
+];
+
+const OVER_GOLDILOCKS: [Worked; 25] = [
+    Worked {
+        call: Call::Vector(Operation::Dft),
+        change: Change::Nothing,
+        width: 1,
+        rows: &[1, 2, 3, 4],
+        added_bits: 0,
+        shift: 1,
+        answer: &[
+            10,
+            18446181119461163007,
+            18446744069414584319,
+            562949953421310,
+        ],
+    },
+    Worked {
+        call: Call::Vector(Operation::CosetDft),
+        change: Change::Nothing,
+        width: 1,
+        rows: &[5, 4],
+        added_bits: 0,
+        shift: 2,
+        answer: &[13, 18446744069414584318],
+    },
+    Worked {
+        call: Call::Vector(Operation::CosetDft),
+        change: Change::Nothing,
+        width: 1,
+        rows: &[5, 4],
+        added_bits: 0,
+        shift: 0,
+        answer: &[5, 5],
+    },
+    Worked {
+        call: Call::Vector(Operation::Idft),
+        change: Change::Nothing,
+        width: 1,
+        rows: &[
+            10,
+            18446181119461163007,
+            18446744069414584319,
+            562949953421310,
+        ],
+        added_bits: 0,
+        shift: 1,
+        answer: &[1, 2, 3, 4],
+    },
+    Worked {
+        call: Call::Vector(Operation::Idft),
+        change: Change::Nothing,
+        width: 1,
+        rows: &[9, 1],
+        added_bits: 0,
+        shift: 1,
+        answer: &[5, 4],
+    },
+    Worked {
+        call: Call::Vector(Operation::CosetIdft),
+        change: Change::Nothing,
+        width: 1,
+        rows: &[13, 18446744069414584318],
+        added_bits: 0,
+        shift: 2,
+        answer: &[5, 4],
+    },
+    Worked {
+        call: Call::Vector(Operation::CosetDft),
+        change: Change::Nothing,
+        width: 1,
+        rows: &[5, 4],
+        added_bits: 0,
+        shift: 2,
+        answer: &[13, 18446744069414584318],
+    },
+    Worked {
+        call: Call::Vector(Operation::CosetDft),
+        change: Change::Nothing,
+        width: 1,
+        rows: &[1, 2, 3, 4],
+        added_bits: 0,
+        shift: 0,
+        answer: &[1, 1, 1, 1],
+    },
+    Worked {
+        call: Call::Vector(Operation::CosetDft),
+        change: Change::Nothing,
+        width: 1,
+        rows: &[5, 4],
+        added_bits: 0,
+        shift: 3,
+        answer: &[17, 18446744069414584314],
+    },
+    Worked {
+        call: Call::Vector(Operation::CosetDft),
+        change: Change::Nothing,
+        width: 1,
+        rows: &[1, 2, 3, 4],
+        added_bits: 0,
+        shift: 0,
+        answer: &[1, 1, 1, 1],
+    },
+    Worked {
+        call: Call::Vector(Operation::CosetDft),
+        change: Change::Nothing,
+        width: 1,
+        rows: &[5, 4],
+        added_bits: 0,
+        shift: 2,
+        answer: &[13, 18446744069414584318],
+    },
+    Worked {
+        call: Call::Vector(Operation::CosetDft),
+        change: Change::Nothing,
+        width: 1,
+        rows: &[1, 2, 3, 4],
+        added_bits: 0,
+        shift: 0,
+        answer: &[1, 1, 1, 1],
+    },
+    Worked {
+        call: Call::Vector(Operation::Lde),
+        change: Change::Nothing,
+        width: 1,
+        rows: &[9, 1],
+        added_bits: 1,
+        shift: 1,
+        answer: &[9, 1125899906842629, 1, 18445618169507741702],
+    },
+    Worked {
+        call: Call::Vector(Operation::CosetLde),
+        change: Change::Nothing,
+        width: 1,
+        rows: &[9, 1],
+        added_bits: 1,
+        shift: 0,
+        answer: &[5, 5, 5, 5],
+    },
+    Worked {
+        call: Call::Vector(Operation::CosetLde),
+        change: Change::Nothing,
+        width: 1,
+        rows: &[7, 7],
+        added_bits: 3,
+        shift: 31,
+        answer: &[7, 7, 7, 7, 7, 7, 7, 7, 7, 7, 7, 7, 7, 7, 7, 7],
+    },
+    Worked {
+        call: Call::Batch(Operation::CosetLde),
+        change: Change::Nothing,
+        width: 2,
+        rows: &[42, 7],
+        added_bits: 2,
+        shift: 31,
+        answer: &[42, 7, 42, 7, 42, 7, 42, 7],
+    },
+    Worked {
+        call: Call::Batch(Operation::Dft),
+        change: Change::Nothing,
+        width: 2,
+        rows: &[42, 7],
+        added_bits: 0,
+        shift: 1,
+        answer: &[42, 7],
+    },
+    Worked {
+        call: Call::Batch(Operation::Idft),
+        change: Change::Nothing,
+        width: 2,
+        rows: &[42, 7],
+        added_bits: 0,
+        shift: 1,
+        answer: &[42, 7],
+    },
+    Worked {
+        call: Call::Batch(Operation::CosetIdft),
+        change: Change::Nothing,
+        width: 1,
+        rows: &[9, 1],
+        added_bits: 0,
+        shift: 2,
+        answer: &[5, 2],
+    },
+    Worked {
+        call: Call::Batch(Operation::CosetDft),
+        change: Change::Nothing,
+        width: 1,
+        rows: &[5, 2, 0, 0],
+        added_bits: 0,
+        shift: 2,
+        answer: &[9, 1125899906842629, 1, 18445618169507741702],
+    },
+    Worked {
+        call: Call::WithTransform,
+        change: Change::Doubled,
+        width: 1,
+        rows: &[9, 1],
+        added_bits: 1,
+        shift: 1,
+        answer: &[18, 2251799813685258, 2, 18444492269600899083],
+    },
+    Worked {
+        call: Call::Vector(Operation::Dft),
+        change: Change::Nothing,
+        width: 1,
+        rows: &[7],
+        added_bits: 0,
+        shift: 1,
+        answer: &[7],
+    },
+    Worked {
+        call: Call::Vector(Operation::Dft),
+        change: Change::Nothing,
+        width: 1,
+        rows: &[0, 0, 0, 0, 0, 0, 0, 0, 0, 0, 0, 0, 0, 0, 0, 0],
+        added_bits: 0,
+        shift: 1,
+        answer: &[0, 0, 0, 0, 0, 0, 0, 0, 0, 0, 0, 0, 0, 0, 0, 0],
+    },
+    Worked {
+        call: Call::Vector(Operation::Dft),
+        change: Change::Nothing,
+        width: 1,
+        rows: &[3, 1, 4, 1, 5, 9, 2, 6],
+        added_bits: 0,
+        shift: 1,
+        answer: &[
+            31,
+            568447645776638,
+            844424930131970,
+            18446189915638069247,
+            18446744069414584318,
+            557452261065982,
+            18445899644484452355,
+            18446172323284256767,
+        ],
+    },
+    Worked {
+        call: Call::Vector(Operation::Dft),
+        change: Change::Nothing,
+        width: 1,
+        rows: &[0, 1, 0, 0],
+        added_bits: 0,
+        shift: 1,
+        answer: &[
+            1,
+            281474976710656,
+            18446744069414584320,
+            18446462594437873665,
+        ],
+    },
+];
+
+// All of these by one engine.
+fn answers_of<F: CanonicalField>(
+    rt: &impl Abort,
+    alloc: Global,
+    engine: &mut TestEngine<F>,
+    cases: &[Worked],
+) {
+    for case in cases {
+        let rows = Input {
+            mat: matrix(rt, alloc, case.rows, case.width),
+            added_bits: case.added_bits,
+            shift: F::from_usize(case.shift),
+            change: case.change,
+        };
+        let answer = matrix(rt, alloc, case.answer, case.width);
+        assert_rows_of(rt, engine, case.call, rows, &answer);
+    }
+}
+
+// By every engine, by a clone of it, and by tiles of some elements and of one row.
+fn answers_over<F: CanonicalField>(rt: &impl Abort, alloc: Global, cases: &[Worked]) {
+    for name in EVERY_ENGINE {
+        let mut engine: TestEngine<F> = TestEngine::new(name);
+        answers_of(rt, alloc, &mut engine, cases);
+        answers_of(rt, alloc, &mut engine.copied(rt), cases);
+    }
+    for tile in [1usize, 6, 12, 192] {
+        let mut engine: TestEngine<F> = by_tiles(rt, alloc, tile);
+        answers_of(rt, alloc, &mut engine, cases);
+    }
+}
+
+// An engine by tiles of one size.
+pub(crate) fn by_tiles<F: TwoAdicField>(
+    rt: &impl Abort,
+    alloc: Global,
+    tile: usize,
+) -> TestEngine<F> {
+    assert!(rt; 1 <= tile && tile <= 1 << 32);
+    let engine = Radix2DFTSmallBatch::with_tile(alloc, 1, tile);
+    TestEngine::of(
+        EngineName::Small,
+        Engine::Small(engine.expect(rt, "memory")),
+    )
+}
+
+#[test]
+fn calls_answer_worked_numbers_over_baby_bear(rt: HostRuntime) {
+    answers_over::<BabyBear>(&rt, rt.alloc(), &OVER_BABY_BEAR);
+}
+
+#[test]
+fn calls_answer_worked_numbers_over_goldilocks(rt: HostRuntime) {
+    answers_over::<Goldilocks>(&rt, rt.alloc(), &OVER_GOLDILOCKS);
+}
+
+// Of 1 + 2 x + 3 x^2 + 4 x^3 the coefficient in row 1 stays: 2 x, or 3 x^2 where the rows are in bit reversed
+// order.
+fn coefficient_alone<F: CanonicalField>(
+    rt: &impl Abort,
+    alloc: Global,
+    engine: &mut TestEngine<F>,
+) {
+    let rows = Input {
+        mat: matrix(rt, alloc, &[10, 569722814, 2013265919, 1443543103], 1),
+        added_bits: 0,
+        shift: F::ONE,
+        change: Change::EntryOneAlone,
+    };
+    let answer = match engine.layout() {
+        Layout::Natural => [2, 1443543105, 2013265919, 569722816],
+        Layout::BitReversed => [3, 2013265918, 3, 2013265918],
+    };
+    let found = rows_of(rt, engine, Call::WithTransform, rows);
+    assert_rows(rt, &found, &answer, 1);
+}
+
+// Which engines hand over coefficients in natural order.
+fn has_layout(name: Name) -> Layout {
+    match name {
+        Name::Library(EngineName::Naive)
+        | Name::Library(EngineName::Dit)
+        | Name::Library(EngineName::Small)
+        | Name::NaturalToReversed => Layout::Natural,
+        _ => Layout::BitReversed,
+    }
+}
+
+fn layouts_over<F: CanonicalField>(rt: &impl Abort, alloc: Global) {
+    for name in EVERY_ENGINE {
+        let mut engine: TestEngine<F> = TestEngine::new(name);
+        assert!(rt;
+            engine.layout() == has_layout(name),
+            "layout of {}",
+            name.word()
+        );
+        coefficient_alone(rt, alloc, &mut engine);
+    }
+}
+
+#[test]
+fn each_engine_hands_over_coefficients_in_its_order(rt: HostRuntime) {
+    layouts_over::<BabyBear>(&rt, rt.alloc());
+}
+
+// A constant has one coefficient, and that of zeros is zero, at one height.
+fn constants_at<F: TwoAdicField>(
+    rt: &impl Abort,
+    alloc: Global,
+    engine: &mut TestEngine<F>,
+    height: usize,
+) {
+    for (first, operation, later, value) in [
+        (13, Operation::Dft, 0, 13),
+        (7, Operation::Idft, 7, 0),
+        (0, Operation::Dft, 0, 0),
+        (0, Operation::Idft, 0, 0),
+    ] {
+        let rows = column(rt, alloc, height, first, later);
+        let answer = column(rt, alloc, height, first, value);
+        let rows = input(rt, &rows, 0, F::ONE);
+        assert_rows_of(rt, engine, Call::Batch(operation), rows, &answer);
+    }
+}
+
+fn constants_over<F: TwoAdicField>(rt: &impl Abort, alloc: Global) {
+    for name in EVERY_ENGINE {
+        let mut engine: TestEngine<F> = TestEngine::new(name);
+        for height in [1usize, 2, 4, 8, 16, 32, 64] {
+            constants_at(rt, alloc, &mut engine, height);
+        }
+    }
+}
+
+#[test]
+fn constants_have_one_coefficient(rt: HostRuntime) {
+    constants_over::<BabyBear>(&rt, rt.alloc());
+    constants_over::<Goldilocks>(&rt, rt.alloc());
+}

@@ -1,0 +1,243 @@
+// The engines that tests are run on: those of the library, and some that own only what an engine must. A test stops
+// where one of them does not answer, and tells the call, the engine and the shape.
+
+ghost use Rattle.std.specs.List.{All};
+ghost use Rattle.p3_dft.specs.Jobs.{CanRun};
+
+use super::own_engines::{LimitedDft, ReversedToReversed};
+use engine_calls::algebra::answer_in_space;
+use engine_calls::answers::{Answer, Input, answer_to};
+use engine_calls::blocks::{Publication, makes_consumer_late, publish};
+use engine_calls::changes::Change;
+use engine_calls::engines::Engine;
+use engine_calls::names::{Call, EngineName};
+use examples::own_engine::NaturalToReversed;
+use p3_dft::{
+    BasedVectorSpace, BlockConsumer, Job, JobsStopped, Layout, RowMajorMatrix, TwoAdicField,
+    TwoAdicSubgroupDft, run_jobs,
+};
+use std::process::Abort;
+
+#[derive(Clone, Copy)]
+pub(crate) enum Name {
+    Library(EngineName),
+    Limited,
+    NaturalToReversed,
+    ReversedToReversed,
+}
+
+pub(crate) const EVERY_ENGINE: [Name; 8] = [
+    Name::Library(EngineName::Parallel),
+    Name::Library(EngineName::Dit),
+    Name::Library(EngineName::Bowers),
+    Name::Library(EngineName::Small),
+    Name::Library(EngineName::Naive),
+    Name::Limited,
+    Name::NaturalToReversed,
+    Name::ReversedToReversed,
+];
+
+// The engine whose extensions are in several blocks is the first.
+pub(crate) const FAST_ENGINES: usize = 4;
+
+impl Name {
+    pub(crate) fn word(self) -> &'static str {
+        match self {
+            Name::Library(name) => name.word(),
+            Name::Limited => "limited",
+            Name::NaturalToReversed => "natural to reversed",
+            Name::ReversedToReversed => "reversed to reversed",
+        }
+    }
+}
+
+// An engine of one of these kinds.
+#[derive(Drop)]
+pub(crate) enum Kind<F: TwoAdicField> {
+    Library(Engine<F>),
+    Limited(LimitedDft),
+    NaturalToReversed(NaturalToReversed),
+    ReversedToReversed(ReversedToReversed),
+}
+
+// One under test.
+#[derive(Drop)]
+pub(crate) struct TestEngine<F: TwoAdicField> {
+    pub(crate) name: &'static str,
+    pub(crate) kind: Kind<F>,
+}
+
+impl<F: TwoAdicField> TestEngine<F> {
+    // A new engine.
+    pub(crate) fn new(name: Name) -> Self {
+        let kind = match name {
+            Name::Library(name) => Kind::Library(Engine::new(name)),
+            Name::Limited => Kind::Limited(LimitedDft::default()),
+            Name::NaturalToReversed => Kind::NaturalToReversed(NaturalToReversed::default()),
+            Name::ReversedToReversed => Kind::ReversedToReversed(ReversedToReversed::default()),
+        };
+        let name = name.word();
+        TestEngine { name, kind }
+    }
+
+    // One of the library's, of this name.
+    pub(crate) fn of(name: EngineName, engine: Engine<F>) -> Self {
+        TestEngine {
+            name: name.word(),
+            kind: Kind::Library(engine),
+        }
+    }
+
+    // The answer to a call.
+    pub(crate) fn answer(&mut self, call: Call, input: Input<F>) -> Answer<F> {
+        match &mut self.kind {
+            Kind::Library(engine) => engine.answer(call, input),
+            Kind::Limited(engine) => answer_to(engine, call, input),
+            Kind::NaturalToReversed(engine) => answer_to(engine, call, input),
+            Kind::ReversedToReversed(engine) => answer_to(engine, call, input),
+        }
+    }
+
+    // The answer to a call over a vector space.
+    pub(crate) fn answer_in_space<V: BasedVectorSpace<F> + Copy>(
+        &mut self,
+        call: Call,
+        mat: RowMajorMatrix<V>,
+        added_bits: usize,
+        shift: F,
+    ) -> Answer<V> {
+        match &mut self.kind {
+            Kind::Library(engine) => engine.answer_in_space(call, mat, added_bits, shift),
+            Kind::Limited(engine) => answer_in_space(engine, call, mat, added_bits, shift),
+            Kind::NaturalToReversed(engine) => {
+                answer_in_space(engine, call, mat, added_bits, shift)
+            }
+            Kind::ReversedToReversed(engine) => {
+                answer_in_space(engine, call, mat, added_bits, shift)
+            }
+        }
+    }
+
+    // The answers to jobs.
+    pub(crate) fn run_jobs(
+        &mut self,
+        jobs: Vec<Job<F>>,
+    ) -> Result<Vec<RowMajorMatrix<F>>, JobsStopped<F>>
+        requires { All (CanRun F.Field.own F.TWO_ADICITY) jobs.items }
+    {
+        match &mut self.kind {
+            Kind::Library(engine) => engine.run_jobs(jobs),
+            Kind::Limited(engine) => run_jobs(engine, jobs),
+            Kind::NaturalToReversed(engine) => run_jobs(engine, jobs),
+            Kind::ReversedToReversed(engine) => run_jobs(engine, jobs),
+        }
+    }
+
+    // An extension with blocks.
+    pub(crate) fn publish<C: BlockConsumer<F> + Drop>(
+        &mut self,
+        input: Input<F>,
+        consumer: C,
+    ) -> Publication<F, C, C::Refusal>
+    where
+        C::Refusal: Drop,
+    {
+        match &mut self.kind {
+            Kind::Library(engine) => engine.publish(input, consumer),
+            Kind::Limited(engine) => publish(engine, input, consumer),
+            Kind::NaturalToReversed(engine) => publish(engine, input, consumer),
+            Kind::ReversedToReversed(engine) => publish(engine, input, consumer),
+        }
+    }
+
+    // Whether the consumer of one is made once the coefficients were transformed.
+    pub(crate) fn makes_consumer_late(&mut self, input: Input<F>) -> bool {
+        match &mut self.kind {
+            Kind::Library(engine) => engine.makes_consumer_late(input),
+            Kind::Limited(engine) => makes_consumer_late(engine, input),
+            Kind::NaturalToReversed(engine) => makes_consumer_late(engine, input),
+            Kind::ReversedToReversed(engine) => makes_consumer_late(engine, input),
+        }
+    }
+
+    // In which order the engine hands over coefficients.
+    pub(crate) fn layout(&self) -> Layout {
+        match &self.kind {
+            Kind::Library(engine) => engine.layout(),
+            Kind::Limited(_) => <LimitedDft as TwoAdicSubgroupDft<F>>::LAYOUT,
+            Kind::NaturalToReversed(_) => <NaturalToReversed as TwoAdicSubgroupDft<F>>::LAYOUT,
+            Kind::ReversedToReversed(_) => <ReversedToReversed as TwoAdicSubgroupDft<F>>::LAYOUT,
+        }
+    }
+
+    // A clone.
+    pub(crate) fn copied(&self, rt: &impl Abort) -> Self {
+        let kind = match &self.kind {
+            Kind::Library(engine) => Kind::Library(engine.copied().expect(rt, "memory")),
+            Kind::Limited(engine) => Kind::Limited(engine.clone().expect(rt, "memory")),
+            Kind::NaturalToReversed(engine) => {
+                Kind::NaturalToReversed(engine.clone().expect(rt, "memory"))
+            }
+            Kind::ReversedToReversed(engine) => {
+                Kind::ReversedToReversed(engine.clone().expect(rt, "memory"))
+            }
+        };
+        let name = self.name;
+        TestEngine { name, kind }
+    }
+}
+
+// A copy of a matrix, and what a call takes beside it.
+pub(crate) fn input<F: TwoAdicField>(
+    rt: &impl Abort,
+    mat: &RowMajorMatrix<F>,
+    added_bits: usize,
+    shift: F,
+) -> Input<F> {
+    Input {
+        mat: mat.try_clone().expect(rt, "memory"),
+        added_bits,
+        shift,
+        change: Change::Nothing,
+    }
+}
+
+// The rows that a call answers.
+pub(crate) fn rows_of<F: TwoAdicField>(
+    rt: &impl Abort,
+    engine: &mut TestEngine<F>,
+    call: Call,
+    input: Input<F>,
+) -> RowMajorMatrix<F> {
+    let height = input.mat.height();
+    let width = input.mat.width();
+    let added_bits = input.added_bits;
+    let (form, word) = (call.form(), call.word());
+    match engine.answer(call, input) {
+        Answer::Rows(rows) => rows,
+        _ => panic!(rt;
+            "{form} {word} on {}: no answer at {height} rows of {width}, {added_bits} added bits",
+            engine.name
+        ),
+    }
+}
+
+// Stops the test unless a call answers these rows.
+pub(crate) fn assert_rows_of<F: TwoAdicField>(
+    rt: &impl Abort,
+    engine: &mut TestEngine<F>,
+    call: Call,
+    input: Input<F>,
+    expected: &RowMajorMatrix<F>,
+) {
+    let height = input.mat.height();
+    let width = input.mat.width();
+    let added_bits = input.added_bits;
+    let (form, word) = (call.form(), call.word());
+    let rows = rows_of(rt, engine, call, input);
+    assert!(rt;
+        rows == *expected,
+        "{form} {word} on {}: wrong at {height} rows of {width}, {added_bits} added bits",
+        engine.name
+    );
+}
