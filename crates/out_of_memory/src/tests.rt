@@ -389,12 +389,17 @@ fn give_back<F: TwoAdicField>(rt: &impl Abort, alloc: Global) {
     }
 }
 
+// An engine that was made for height `2^log_h`.
+fn made_for<F: TwoAdicField>(rt: &impl Abort, alloc: Global, log_h: usize) -> Engine<F> {
+    assert!(rt; log_h <= F::TWO_ADICITY && log_h <= 63);
+    let engine = Radix2DFTSmallBatch::new(alloc, 1 << log_h);
+    Engine::Small(engine.expect(rt, "memory"))
+}
+
 // An engine that was made for height 8, and to which height 32 is refused, transforms eight rows while no memory is
 // given.
 fn keep_tables<F: TwoAdicField>(rt: &impl Abort, alloc: Global, scarce: &mut Scarce) {
-    assert!(rt; F::TWO_ADICITY >= 5);
-    let engine = Radix2DFTSmallBatch::new(alloc, 8).expect(rt, "memory");
-    let mut engine: Engine<F> = Engine::Small(engine);
+    let mut engine: Engine<F> = made_for(rt, alloc, 3);
     let line = Line::new(3);
     let coefficients = line.coefficients(alloc, 3).expect(rt, "memory");
     let input = Input {
