@@ -5,4 +5,5 @@ pub mod Convolutions
 pub mod Coordinates
 pub mod Equality
 pub mod OneAnswer
+pub mod Points
 pub mod TwoCalls
