@@ -1,2 +1,3 @@
+pub mod Foldings
 pub mod MerkleTrees
 pub mod Sums
