@@ -17,8 +17,8 @@ ghost use Rattle.p3_dft.specs.Shapes.{FitsDft};
 ghost use Rattle.examples.specs.Foldings.{AreFoldedRows, IsFoldedPair, IsFolding, far_row, near_row, pair_point};
 
 use p3_dft::{
-    DftError, Field, Layout, RowMajorMatrix, TwoAdicField, growth, log2_strict_usize,
-    reverse_slice_index_bits,
+    DftError, Field, Layout, RowMajorMatrix, TwoAdicField, growth, invertible_root,
+    log2_strict_usize, reverse_slice_index_bits,
 };
 use std::alloc::Global;
 
@@ -63,7 +63,7 @@ fn factors<F: TwoAdicField>(
         (F.ring.mul (point F.ring (λ n. F.value (F.generator n)) (suc log_half) (F.value shift) i)
         (F.value (get_or v.items i F.ZERO))) ≡ F.value beta) }
 {
-    let root = F::two_adic_generator(log_half + 1).inverse();
+    let root = invertible_root::<F>(log_half + 1).inverse();
     let first = beta.halve() * shift.inverse();
     Ok(root.shifted_powers(first).collect_n(alloc, half)?)
 }
@@ -137,9 +137,9 @@ fn fold_rows<F: Field>(
     Ok(RowMajorMatrix::new(folded, width))
 }
 
-/// The values on the coset of the squared shift of the folded polynomials, one in each column, whose rows lie in the
-/// layout of the values handed over. Over those of the coset of `shift` the polynomials are arbitrary: of each one
-/// with these values the result has the values of the folded one.
+/// The values of the folded polynomials, one in each column, on the coset of the squared shift; the rows lie in the
+/// layout of those handed over, which are two or more. Whatever polynomials have the values that are handed over, the
+/// result has those of the folded ones. An error is want of memory.
 pub fn fold<F: TwoAdicField>(
     values: &RowMajorMatrix<F>,
     layout: Layout,
@@ -152,10 +152,12 @@ pub fn fold<F: TwoAdicField>(
     ensures shape { IfOk result (λ out. (2 * height out ≡ height values.now) × (out.width ≡ values.now.width)) }
     ensures folded { IfOk result (λ out. (k : ℕ) → height values.now ≡ 2 ^ suc k
         → IsFolding F.ring (λ n. F.value (F.generator n)) (F.value beta) k (F.value shift)
-        (arrangement layout (suc k) (values_of F.Field.own values.now)) (arrangement layout k (values_of F.Field.own out))) }
+        (arrangement layout (suc k) (values_of F.Field.own values.now))
+        (arrangement layout k (values_of F.Field.own out))) }
     ensures rows { IfOk result (λ out. (k : ℕ) → height values.now ≡ 2 ^ suc k
         → AreFoldedRows F.ring (λ n. F.value (F.generator n)) (F.value beta) k (F.value shift)
-        (arrangement layout (suc k) (values_of F.Field.own values.now)) (arrangement layout k (values_of F.Field.own out))) }
+        (arrangement layout (suc k) (values_of F.Field.own values.now))
+        (arrangement layout k (values_of F.Field.own out))) }
     ensures degree { IfOk result (λ out. (k h : ℕ) → height values.now ≡ 2 ^ suc k
         → HasDegreeBelow F.Field.own F.generator h (suc k) (F.value shift)
         (arrangement layout (suc k) (values_of F.Field.own values.now))

@@ -9,6 +9,7 @@ mod algebra;
 pub mod blocks;
 pub mod jobs;
 pub mod naive;
+pub mod points;
 pub mod radix_2_bowers;
 pub mod radix_2_dit;
 pub mod radix_2_dit_parallel;
@@ -36,6 +37,7 @@ pub use p3_matrix::{
     reverse_bits_len, reverse_matrix_index_bits, reverse_rows, reverse_slice_index_bits,
     scale_slice_in_place, split_rows_mut, swap_rows,
 };
+pub use points::{invertible_root, invertible_square};
 pub use radix_2_bowers::Radix2Bowers;
 pub use radix_2_dit::Radix2Dit;
 pub use radix_2_dit_parallel::Radix2DitParallel;
