@@ -13,4 +13,5 @@ pub mod PreparedHeights
 pub mod PublishedExtensions
 pub mod SameInputs
 pub mod Shapes
+pub mod Stored
 pub mod Transforms

@@ -5,10 +5,11 @@ ghost use Rattle.p3_field.specs.Ring.{power};
 ghost use Rattle.p3_matrix.specs.BitOrder.{bit_reversal};
 ghost use Rattle.p3_matrix.specs.Matrix.{Matrix, Same, matrix, image};
 ghost use Rattle.p3_matrix.specs.Room.{IsWithin};
-ghost use Rattle.p3_matrix.specs.RowMajor.{HasShapeOf, IsRowMajor, height};
+ghost use Rattle.p3_matrix.specs.RowMajor.{IsRowMajor, height};
 ghost use Rattle.p3_matrix.specs.Cosets.{AreCoefficients, IsQuotient, IsValues, coset_shift, values_of};
 ghost use Rattle.p3_dft.specs.Engines.{AtLog};
 ghost use Rattle.p3_dft.specs.Shapes.{FitsDft, FitsLde};
+ghost use Rattle.p3_dft.specs.Stored.{HasEntriesOf};
 
 use crate::traits::{Layout, TwoAdicSubgroupDft};
 use crate::util::{divide_rows, exchange_rows, pad_rows};
@@ -68,13 +69,11 @@ impl Clone for Radix2Bowers {
 }
 
 impl<F: TwoAdicField> TwoAdicSubgroupDft<F> for Radix2Bowers {
-    ghost use Rattle.std.specs.Prelude.{◌≡◌, ⊤, ℕ, ◌+◌, ◌*◌, ◌/◌, ◌^◌, ◌≤◌, IfErr, IfOk, IsOk, OnErr, Ok};
-    ghost use Rattle.p3_matrix.specs.Room.{IsWithin};
+    ghost use Rattle.std.specs.Prelude.{◌≡◌, ⊤, ℕ, ◌+◌, ◌*◌, ◌/◌, ◌^◌, ◌≤◌, IfOk, IsOk, OnErr, Ok};
     ghost use Rattle.std.proofs.Common.{refl, rules};
     ghost use Rattle.p3_matrix.specs.RowMajor.{height};
-    ghost use Rattle.p3_dft.specs.Engines.{AtLog, IsLater, plain_facts};
+    ghost use Rattle.p3_dft.specs.Engines.{AfterDft, AfterLde, AtLog, plain_facts};
     ghost use Rattle.p3_dft.specs.Extensions.{IsCallable, IsExtension, IsTransformedExtension, KeepsShape};
-    ghost use Rattle.p3_dft.specs.Extensions.{extension_bound};
     ghost use Rattle.p3_dft.specs.Shapes.{FitsDft, FitsLde};
     ghost use Rattle.p3_dft.specs.Transforms.{IsInterpolation, IsTransform};
     ghost use Rattle.p3_dft.specs.declared.traits.Layout.TheVariants.{BitReversed};
@@ -102,10 +101,8 @@ impl<F: TwoAdicField> TwoAdicSubgroupDft<F> for Radix2Bowers {
         ensures succeeds { AtLog (height (N.stored mat)) (λ k. k ≡ 0 → IsOk result) }
         ensures one_row { height (N.stored mat) ≡ 1 → (result ≡ Ok (N.stored mat)) × (self.new ≡ self.old) }
         ensures refused { OnErr result (self.new ≡ self.old) }
-        ensures later { IsLater ⟦<Radix2Bowers as TwoAdicSubgroupDft<F>>⟧.facts self.old self.new }
-        ensures cost { AtLog (height (N.stored mat))
-            (λ k. self.new ≤ self.old + (N.stored mat).width * (k * 2 ^ k / 2)) }
-        ensures room { IfErr result (IsWithin (height (N.stored mat) * (N.stored mat).width)) }
+        ensures engine { AfterDft ⟦<Radix2Bowers as TwoAdicSubgroupDft<F>>⟧.facts self.old self.new result
+            (N.stored mat) 0 }
     {
         let mut mat = mat.into_row_major_matrix();
         if mat.height() == 1 {
@@ -137,10 +134,8 @@ impl<F: TwoAdicField> TwoAdicSubgroupDft<F> for Radix2Bowers {
         ensures succeeds { AtLog (height (N.stored mat)) (λ k. k ≡ 0 → IsOk result) }
         ensures one_row { height (N.stored mat) ≡ 1 → (result ≡ Ok (N.stored mat)) × (self.new ≡ self.old) }
         ensures refused { OnErr result (self.new ≡ self.old) }
-        ensures later { IsLater ⟦<Radix2Bowers as TwoAdicSubgroupDft<F>>⟧.facts self.old self.new }
-        ensures cost { AtLog (height (N.stored mat))
-            (λ k. self.new ≤ self.old + (N.stored mat).width * (k * 2 ^ k / 2) + 2 ^ k * (N.stored mat).width) }
-        ensures room { IfErr result (IsWithin (height (N.stored mat) * (N.stored mat).width)) }
+        ensures engine { AfterDft ⟦<Radix2Bowers as TwoAdicSubgroupDft<F>>⟧.facts self.old self.new result
+            (N.stored mat) 1 }
     {
         let mut mat = mat.into_row_major_matrix();
         if mat.height() == 1 {
@@ -170,10 +165,8 @@ impl<F: TwoAdicField> TwoAdicSubgroupDft<F> for Radix2Bowers {
         ensures values { IfOk result (IsTransformedExtension F.Field.own F.generator (T.post transform) BitReversed
             (N.stored mat) added_bits (F.value shift)) }
         ensures one_row { height (N.stored mat) ≡ 1 → added_bits ≡ 0 → IsOk result × (self.new ≡ self.old) }
-        ensures later { IsLater ⟦<Radix2Bowers as TwoAdicSubgroupDft<F>>⟧.facts self.old self.new }
-        ensures cost { AtLog (height (N.stored mat)) (λ k. self.new
-            ≤ self.old + extension_bound (λ n w. w * (n * 2 ^ n / 2)) k added_bits (N.stored mat).width) }
-        ensures room { IfErr result (IsWithin (height (N.stored mat) * (N.stored mat).width * 2 ^ added_bits)) }
+        ensures engine { AfterLde ⟦<Radix2Bowers as TwoAdicSubgroupDft<F>>⟧.facts self.old self.new result
+            (N.stored mat) added_bits }
     {
         let mut mat = mat.into_row_major_matrix();
         let log_h = log2_strict_usize(mat.height());
@@ -203,10 +196,8 @@ impl<F: TwoAdicField> TwoAdicSubgroupDft<F> for Radix2Bowers {
             IsExtension F.Field.own F.generator (N.stored mat) added_bits (F.value shift) out) }
         ensures one_row { height (N.stored mat) ≡ 1 → added_bits ≡ 0
             → (result ≡ Ok (N.stored mat)) × (self.new ≡ self.old) }
-        ensures later { IsLater ⟦<Radix2Bowers as TwoAdicSubgroupDft<F>>⟧.facts self.old self.new }
-        ensures cost { AtLog (height (N.stored mat)) (λ k. self.new
-            ≤ self.old + extension_bound (λ n w. w * (n * 2 ^ n / 2)) k added_bits (N.stored mat).width) }
-        ensures room { IfErr result (IsWithin (height (N.stored mat) * (N.stored mat).width * 2 ^ added_bits)) }
+        ensures engine { AfterLde ⟦<Radix2Bowers as TwoAdicSubgroupDft<F>>⟧.facts self.old self.new result
+            (N.stored mat) added_bits }
     {
         let mut mat = mat.into_row_major_matrix();
         let log_h = log2_strict_usize(mat.height());
@@ -231,10 +222,8 @@ impl<F: TwoAdicField> TwoAdicSubgroupDft<F> for Radix2Bowers {
             IsExtension F.Field.own F.generator (N.stored mat) added_bits F.ring.one out) }
         ensures one_row { height (N.stored mat) ≡ 1 → added_bits ≡ 0
             → (result ≡ Ok (N.stored mat)) × (self.new ≡ self.old) }
-        ensures later { IsLater ⟦<Radix2Bowers as TwoAdicSubgroupDft<F>>⟧.facts self.old self.new }
-        ensures cost { AtLog (height (N.stored mat)) (λ k. self.new
-            ≤ self.old + extension_bound (λ n w. w * (n * 2 ^ n / 2)) k added_bits (N.stored mat).width) }
-        ensures room { IfErr result (IsWithin (height (N.stored mat) * (N.stored mat).width * 2 ^ added_bits)) }
+        ensures engine { AfterLde ⟦<Radix2Bowers as TwoAdicSubgroupDft<F>>⟧.facts self.old self.new result
+            (N.stored mat) added_bits }
     {
         let mut mat = mat.into_row_major_matrix();
         let log_h = log2_strict_usize(mat.height());
@@ -284,8 +273,7 @@ fn interpolate_unscaled_to_reversed<F: TwoAdicField>(
 ) -> Result<(), DftError>
     requires fits { FitsDft F.TWO_ADICITY (height mat.old) mat.old.width }
     ensures whole { IsRowMajor mat.old }
-    ensures shape { OnOk result (HasShapeOf mat.new mat.old) }
-    ensures size { OnOk result (length mat.new.values ≡ length mat.old.values) }
+    ensures same { OnOk result (HasEntriesOf mat.new mat.old) }
     ensures coefficients { AtLog (height mat.old) (λ k. OnOk result ((c : Matrix F.Element)
         → IsQuotient F.ring (2 ^ k) (bit_reversal k (values_of F.Field.own mat.new)) c
         → AreCoefficients F.ring (λ n. F.value (F.generator n)) (values_of F.Field.own mat.old) k F.ring.one c)) }

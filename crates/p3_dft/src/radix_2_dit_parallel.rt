@@ -119,19 +119,20 @@ impl<F: TwoAdicField> Radix2DitParallel<F> {
 
 impl<F: TwoAdicField> TwoAdicSubgroupDft<F> for Radix2DitParallel<F> {
     ghost use Rattle.std.specs.Prelude.{◌≡◌, ◌≢◌, ◌⊎◌, ⊤, ℕ, ◌+◌, ◌-◌, ◌*◌, ◌/◌, ◌^◌, ◌≤◌, [], ◌∷◌, ◌++◌};
-    ghost use Rattle.std.specs.Prelude.{IfErr, IfOk, IsOk, OnOk, OnErr, Ok, length};
+    ghost use Rattle.std.specs.Prelude.{IfErr, IfOk, IsOk, OnOk, OnErr, Ok, length, max};
     ghost use Rattle.p3_matrix.specs.Room.{IsWithin};
     ghost use Rattle.std.proofs.Common.{arith, refl};
     ghost use Rattle.p3_matrix.specs.BitOrder.{bit_reversal, reversed_rows};
     ghost use Rattle.p3_matrix.specs.RowMajor.{height};
     ghost use Rattle.p3_dft.specs.Engines.{AtLog, HasProductsMore, IsLater, IsCosetPrepared, IsPrepared};
     ghost use Rattle.p3_dft.specs.Engines.{PreparesNoneAbove, plain_facts};
-    ghost use Rattle.p3_networks.specs.Twiddles.{AddsCosets, HasCoset, HasCosets, mid_of};
+    ghost use Rattle.p3_networks.specs.Twiddles.{HasCoset, HasCosets, mid_of};
     ghost use Rattle.p3_dft.specs.Extensions.{AreTransformedValues, IsCallable, IsTransformedExtension, KeepsShape};
     ghost use Rattle.p3_dft.specs.Blocks.{OnOutOfMemory, OnRefused, UnlessOutOfMemory, outcome};
     ghost use Rattle.p3_matrix.specs.Blocks.{IsPublished, IsRefused};
     ghost use Rattle.p3_matrix.specs.Matrix.{Matrix};
     ghost use Rattle.p3_dft.specs.Shapes.{FitsDft, FitsLde};
+    ghost use Rattle.p3_dft.specs.Tables.{LeavesTables};
     ghost use Rattle.p3_dft.specs.Transforms.{IsInterpolation, IsTransform};
     ghost use Rattle.p3_matrix.specs.Cosets.{values_of};
     ghost use Rattle.p3_dft.specs.declared.traits.Layout.TheVariants.{BitReversed};
@@ -167,8 +168,8 @@ impl<F: TwoAdicField> TwoAdicSubgroupDft<F> for Radix2DitParallel<F> {
         ensures values { IfOk result (λ out.
             IsTransform F.Field.own F.generator (N.stored mat) F.ring.one (reversed_rows out.bits out.physical)) }
         ensures succeeds { AtLog (height (N.stored mat)) (λ k. IsPrepared self.old.roots k → IsOk result) }
-        ensures serves { AtLog (height (N.stored mat)) (λ k. OnOk result (IsPrepared self.new.roots k)) }
-        ensures only { AtLog (height (N.stored mat)) (λ k. PreparesNoneAbove k self.old.roots self.new.roots) }
+        ensures made { AtLog (height (N.stored mat))
+            (λ k. OnOk result (self.new.roots.prepared ≡ max self.old.roots.prepared k)) }
         ensures refused { OnErr result (self.new ≡ self.old) }
         ensures one_row { height (N.stored mat) ≡ 1
             → (result ≡ Ok (record { physical = N.stored mat; bits = 0 })) × (self.new ≡ self.old) }
@@ -264,8 +265,8 @@ impl<F: TwoAdicField> TwoAdicSubgroupDft<F> for Radix2DitParallel<F> {
         ensures coefficients { IfOk result
             (λ out. IsInterpolation F.Field.own F.generator (N.stored mat) F.ring.one out) }
         ensures succeeds { AtLog (height (N.stored mat)) (λ k. IsPrepared self.old.roots k → IsOk result) }
-        ensures serves { AtLog (height (N.stored mat)) (λ k. OnOk result (IsPrepared self.new.roots k)) }
-        ensures only { AtLog (height (N.stored mat)) (λ k. PreparesNoneAbove k self.old.roots self.new.roots) }
+        ensures made { AtLog (height (N.stored mat))
+            (λ k. OnOk result (self.new.roots.prepared ≡ max self.old.roots.prepared k)) }
         ensures refused { OnErr result (self.new ≡ self.old) }
         ensures one_row { height (N.stored mat) ≡ 1 → (result ≡ Ok (N.stored mat)) × (self.new ≡ self.old) }
         ensures cosets { self.new.cosets ≡ self.old.cosets }
@@ -309,14 +310,11 @@ impl<F: TwoAdicField> TwoAdicSubgroupDft<F> for Radix2DitParallel<F> {
         ensures prepared { AtLog (height (N.stored mat)) (λ k. OnOk result (IsPrepared self.new.roots k)) }
         ensures tables { AtLog (height (N.stored mat)) (λ k. OnOk result
             (HasCosets F.Field.own F.generator self.new.cosets k added_bits (F.value shift))) }
-        ensures only { AtLog (height (N.stored mat)) (λ k. PreparesNoneAbove k self.old.roots self.new.roots) }
         ensures keeps_tables { (k : ℕ) (s : F.Element) → HasCoset F.Field.own self.old.cosets k s
             → HasCoset F.Field.own self.new.cosets k s }
-        ensures adds_tables { AtLog (height (N.stored mat)) (λ k.
-            AddsCosets F.Field.own F.generator k added_bits (F.value shift) self.old.cosets self.new.cosets) }
-        ensures once { AtLog (height (N.stored mat))
-            (λ k. HasCosets F.Field.own F.generator self.old.cosets k added_bits (F.value shift)
-            → self.new.cosets ≡ self.old.cosets) }
+        ensures leaves { AtLog (height (N.stored mat))
+            (λ k. LeavesTables F.Field.own F.generator k added_bits (F.value shift)
+            self.old.roots.prepared self.new.roots.prepared self.old.cosets self.new.cosets) }
         ensures later { IsLater ⟦<Radix2DitParallel<F> as TwoAdicSubgroupDft<F>>⟧.facts self.old self.new }
         ensures cost { AtLog (height (N.stored mat)) (λ k. self.new.roots.products
             ≤ self.old.roots.products + (N.stored mat).width * (k * 2 ^ k / 2 * (1 + 2 ^ added_bits) + 2 ^ k)) }
@@ -369,14 +367,11 @@ impl<F: TwoAdicField> TwoAdicSubgroupDft<F> for Radix2DitParallel<F> {
         ensures prepared { AtLog (height (N.stored mat)) (λ k. UnlessOutOfMemory result (IsPrepared self.new.roots k)) }
         ensures tables { AtLog (height (N.stored mat)) (λ k. UnlessOutOfMemory result
             (HasCosets F.Field.own F.generator self.new.cosets k added_bits (F.value shift))) }
-        ensures only { AtLog (height (N.stored mat)) (λ k. PreparesNoneAbove k self.old.roots self.new.roots) }
         ensures keeps_tables { (k : ℕ) (s : F.Element) → HasCoset F.Field.own self.old.cosets k s
             → HasCoset F.Field.own self.new.cosets k s }
-        ensures adds_tables { AtLog (height (N.stored mat)) (λ k.
-            AddsCosets F.Field.own F.generator k added_bits (F.value shift) self.old.cosets self.new.cosets) }
-        ensures once { AtLog (height (N.stored mat))
-            (λ k. HasCosets F.Field.own F.generator self.old.cosets k added_bits (F.value shift)
-            → self.new.cosets ≡ self.old.cosets) }
+        ensures leaves { AtLog (height (N.stored mat))
+            (λ k. LeavesTables F.Field.own F.generator k added_bits (F.value shift)
+            self.old.roots.prepared self.new.roots.prepared self.old.cosets self.new.cosets) }
         ensures later { IsLater ⟦<Radix2DitParallel<F> as TwoAdicSubgroupDft<F>>⟧.facts self.old self.new }
         ensures cost { AtLog (height (N.stored mat)) (λ k. self.new.roots.products
             ≤ self.old.roots.products + (N.stored mat).width * (k * 2 ^ k / 2 * (1 + 2 ^ added_bits) + 2 ^ k)) }

@@ -5,11 +5,12 @@ ghost use Rattle.std.specs.Prelude.{IfErr, OnErr, Ok, [], length};
 ghost use Rattle.p3_matrix.specs.BitOrder.{bit_reversal};
 ghost use Rattle.p3_matrix.specs.Matrix.{Matrix, image};
 ghost use Rattle.p3_matrix.specs.Room.{IsWithin};
-ghost use Rattle.p3_matrix.specs.RowMajor.{HasShapeOf, IsRowMajor, RowMajor, height, with_zeros};
+ghost use Rattle.p3_matrix.specs.RowMajor.{IsRowMajor, RowMajor, height, with_zeros};
 ghost use Rattle.p3_matrix.specs.Cosets.{AreCoefficients, IsQuotient, IsValues, coset_shift, values_of};
 ghost use Rattle.p3_dft.specs.Engines.{AtLog, IsPrepared, PreparesNoneAbove};
 ghost use Rattle.p3_dft.specs.Transforms.{IsInterpolation, IsTransform};
 ghost use Rattle.p3_networks.specs.Twiddles.{AreTwiddlesFromStart, backward_root, block_powers, forward_root};
+ghost use Rattle.p3_dft.specs.Stored.{HasEntriesOf, HasTwoPowerRows};
 
 use crate::traits::{Layout, TwoAdicSubgroupDft};
 use crate::util::{extend_by_zeros, pad_rows};
@@ -154,14 +155,12 @@ impl<F: TwoAdicField> Radix2DFTSmallBatch<F> {
 }
 
 impl<F: TwoAdicField> TwoAdicSubgroupDft<F> for Radix2DFTSmallBatch<F> {
-    ghost use Rattle.std.specs.Prelude.{◌≡◌, ℕ, ◌+◌, ◌*◌, ◌/◌, ◌^◌, ◌≤◌, IfErr, IfOk, IsOk, OnOk, OnErr, Ok, ⊤};
-    ghost use Rattle.p3_matrix.specs.Room.{IsWithin};
+    ghost use Rattle.std.specs.Prelude.{◌≡◌, ℕ, ◌+◌, ◌*◌, ◌/◌, ◌^◌, ◌≤◌, IfOk, IsOk, OnOk, OnErr, Ok, max, ⊤};
     ghost use Rattle.std.proofs.Common.{refl, rules};
     ghost use Rattle.p3_matrix.specs.BitOrder.{reversed_rows};
-    ghost use Rattle.p3_matrix.specs.RowMajor.{HasShapeOf, RowMajor, height};
-    ghost use Rattle.p3_dft.specs.Engines.{AfterLde, AtLog, IsLater, IsPrepared, PreparesNoneAbove, plain_facts};
+    ghost use Rattle.p3_matrix.specs.RowMajor.{RowMajor, height};
+    ghost use Rattle.p3_dft.specs.Engines.{AfterDft, AfterLde, AtLog, IsPrepared, PreparesNoneAbove, plain_facts};
     ghost use Rattle.p3_dft.specs.Extensions.{IsCallable, IsExtension, IsTransformedExtension, KeepsShape};
-    ghost use Rattle.p3_dft.specs.Extensions.{extension_bound};
     ghost use Rattle.p3_dft.specs.Shapes.{FitsDft, FitsLde};
     ghost use Rattle.p3_dft.specs.Transforms.{IsInterpolation, IsTransform};
     ghost use Rattle.p3_dft.specs.declared.traits.Layout.TheVariants.{Natural};
@@ -188,14 +187,12 @@ impl<F: TwoAdicField> TwoAdicSubgroupDft<F> for Radix2DFTSmallBatch<F> {
         requires fits { FitsDft F.TWO_ADICITY (height (N.stored mat)) (N.stored mat).width }
         ensures values { IfOk result (λ out. IsTransform F.Field.own F.generator (N.stored mat) F.ring.one out) }
         ensures succeeds { AtLog (height (N.stored mat)) (λ k. IsPrepared self.old k → IsOk result) }
-        ensures serves { AtLog (height (N.stored mat)) (λ k. OnOk result (IsPrepared self.new k)) }
+        ensures made { AtLog (height (N.stored mat))
+            (λ k. OnOk result (self.new.prepared ≡ max self.old.prepared k)) }
         ensures one_row { height (N.stored mat) ≡ 1 → (result ≡ Ok (N.stored mat)) × (self.new ≡ self.old) }
-        ensures only { AtLog (height (N.stored mat)) (λ k. PreparesNoneAbove k self.old self.new) }
         ensures refused { OnErr result (self.new ≡ self.old) }
-        ensures later { IsLater ⟦<Radix2DFTSmallBatch<F> as TwoAdicSubgroupDft<F>>⟧.facts self.old self.new }
-        ensures cost { AtLog (height (N.stored mat))
-            (λ k. self.new.products ≤ self.old.products + (N.stored mat).width * (k * 2 ^ k / 2)) }
-        ensures room { IfErr result (IsWithin (height (N.stored mat) * (N.stored mat).width)) }
+        ensures engine { AfterDft ⟦<Radix2DFTSmallBatch<F> as TwoAdicSubgroupDft<F>>⟧.facts self.old self.new
+            result (N.stored mat) 0 }
     {
         let mut mat = mat.into_row_major_matrix();
         let height = mat.height();
@@ -228,14 +225,12 @@ impl<F: TwoAdicField> TwoAdicSubgroupDft<F> for Radix2DFTSmallBatch<F> {
         ensures coefficients { IfOk result
             (λ out. IsInterpolation F.Field.own F.generator (N.stored mat) F.ring.one out) }
         ensures succeeds { AtLog (height (N.stored mat)) (λ k. IsPrepared self.old k → IsOk result) }
-        ensures serves { AtLog (height (N.stored mat)) (λ k. OnOk result (IsPrepared self.new k)) }
+        ensures made { AtLog (height (N.stored mat))
+            (λ k. OnOk result (self.new.prepared ≡ max self.old.prepared k)) }
         ensures one_row { height (N.stored mat) ≡ 1 → (result ≡ Ok (N.stored mat)) × (self.new ≡ self.old) }
-        ensures only { AtLog (height (N.stored mat)) (λ k. PreparesNoneAbove k self.old self.new) }
         ensures refused { OnErr result (self.new ≡ self.old) }
-        ensures later { IsLater ⟦<Radix2DFTSmallBatch<F> as TwoAdicSubgroupDft<F>>⟧.facts self.old self.new }
-        ensures cost { AtLog (height (N.stored mat)) (λ k. self.new.products
-            ≤ self.old.products + (N.stored mat).width * (k * 2 ^ k / 2) + 2 ^ k * (N.stored mat).width) }
-        ensures room { IfErr result (IsWithin (height (N.stored mat) * (N.stored mat).width)) }
+        ensures engine { AfterDft ⟦<Radix2DFTSmallBatch<F> as TwoAdicSubgroupDft<F>>⟧.facts self.old self.new
+            result (N.stored mat) 1 }
     {
         let mut mat = mat.into_row_major_matrix();
         let height = mat.height();
@@ -263,18 +258,14 @@ impl<F: TwoAdicField> TwoAdicSubgroupDft<F> for Radix2DFTSmallBatch<F> {
         requires fits { FitsLde F.TWO_ADICITY (height (N.stored mat)) (N.stored mat).width added_bits }
         ensures values { IfOk result (λ out.
             IsExtension F.Field.own F.generator (N.stored mat) added_bits (F.value shift) out) }
-        ensures serves { AtLog (height (N.stored mat))
-            (λ k. OnOk result (IsPrepared self.new k × IsPrepared self.new (k + added_bits))) }
         ensures one_row { height (N.stored mat) ≡ 1 → added_bits ≡ 0
             → (result ≡ Ok (N.stored mat)) × (self.new ≡ self.old) }
         ensures only { AtLog (height (N.stored mat)) (λ k. PreparesNoneAbove (k + added_bits) self.old self.new) }
-        ensures later { IsLater ⟦<Radix2DFTSmallBatch<F> as TwoAdicSubgroupDft<F>>⟧.facts self.old self.new }
-        ensures cost { AtLog (height (N.stored mat)) (λ k. self.new.products
-            ≤ self.old.products + extension_bound (λ n w. w * (n * 2 ^ n / 2)) k added_bits (N.stored mat).width) }
+        ensures engine { AfterLde ⟦<Radix2DFTSmallBatch<F> as TwoAdicSubgroupDft<F>>⟧.facts self.old self.new
+            result (N.stored mat) added_bits }
         ensures fewer { AtLog (height (N.stored mat)) (λ k. self.new.products
             ≤ self.old.products + (N.stored mat).width
             * (k * 2 ^ k / 2 * (1 + 2 ^ added_bits) + 2 ^ (k + added_bits))) }
-        ensures room { IfErr result (IsWithin (height (N.stored mat) * (N.stored mat).width * 2 ^ added_bits)) }
     {
         let mut mat = mat.into_row_major_matrix();
         let log_h = log2_strict_usize(mat.height());
@@ -307,18 +298,14 @@ impl<F: TwoAdicField> TwoAdicSubgroupDft<F> for Radix2DFTSmallBatch<F> {
     ) -> Result<RowMajorMatrix<F>, DftError>
         requires fits { FitsLde F.TWO_ADICITY (height (N.stored mat)) (N.stored mat).width added_bits }
         ensures values { IfOk result (IsExtension F.Field.own F.generator (N.stored mat) added_bits F.ring.one) }
-        ensures serves { AtLog (height (N.stored mat))
-            (λ k. OnOk result (IsPrepared self.new k × IsPrepared self.new (k + added_bits))) }
         ensures one_row { height (N.stored mat) ≡ 1 → added_bits ≡ 0
             → (result ≡ Ok (N.stored mat)) × (self.new ≡ self.old) }
         ensures only { AtLog (height (N.stored mat)) (λ k. PreparesNoneAbove (k + added_bits) self.old self.new) }
-        ensures later { IsLater ⟦<Radix2DFTSmallBatch<F> as TwoAdicSubgroupDft<F>>⟧.facts self.old self.new }
-        ensures cost { AtLog (height (N.stored mat)) (λ k. self.new.products
-            ≤ self.old.products + extension_bound (λ n w. w * (n * 2 ^ n / 2)) k added_bits (N.stored mat).width) }
+        ensures engine { AfterLde ⟦<Radix2DFTSmallBatch<F> as TwoAdicSubgroupDft<F>>⟧.facts self.old self.new
+            result (N.stored mat) added_bits }
         ensures fewer { AtLog (height (N.stored mat)) (λ k. self.new.products
             ≤ self.old.products + (N.stored mat).width
             * (k * 2 ^ k / 2 * (1 + 2 ^ added_bits) + 2 ^ (k + added_bits))) }
-        ensures room { IfErr result (IsWithin (height (N.stored mat) * (N.stored mat).width * 2 ^ added_bits)) }
     {
         self.coset_lde_batch(mat, added_bits, F::ONE)
     }
@@ -401,11 +388,9 @@ fn evaluate_natural<F: TwoAdicField>(
     tile: usize,
     products: &mut Products,
 )
-    requires whole { IsRowMajor mat.old }
+    requires rows { HasTwoPowerRows mat.old log_h }
     requires some { 1 ≤ log_h }
-    requires small { log_h < 64 }
     requires within { log_h ≤ F.TWO_ADICITY }
-    requires height { height mat.old ≡ 2 ^ log_h }
     requires tile { tile ≤ MAX_TILE }
     requires twiddles { AreTwiddlesFromStart F.Field.own log_h
         (block_powers F.Field.own (forward_root F.Field.own F.generator)) twiddles.now }
@@ -437,15 +422,12 @@ fn interpolate_unscaled_to_reversed<F: TwoAdicField>(
     tile: usize,
     products: &mut Products,
 )
-    requires whole { IsRowMajor mat.old }
-    requires small { log_h < 64 }
+    requires rows { HasTwoPowerRows mat.old log_h }
     requires within { log_h ≤ F.TWO_ADICITY }
-    requires height { height mat.old ≡ 2 ^ log_h }
     requires tile { tile ≤ MAX_TILE }
     requires twiddles { AreTwiddlesFromStart F.Field.own log_h
         (block_powers F.Field.own (backward_root F.Field.own F.generator)) twiddles.now }
-    ensures shape { HasShapeOf mat.new mat.old }
-    ensures size { length mat.new.values ≡ length mat.old.values }
+    ensures same { HasEntriesOf mat.new mat.old }
     ensures coefficients { (c : Matrix F.Element)
         → IsQuotient F.ring (2 ^ log_h) (bit_reversal log_h (values_of F.Field.own mat.new)) c
         → AreCoefficients F.ring (λ n. F.value (F.generator n)) (values_of F.Field.own mat.old) log_h F.ring.one c }
@@ -531,15 +513,12 @@ fn extend_to_reversed<F: TwoAdicField>(
     tile: usize,
     products: &mut Products,
 )
-    requires whole { IsRowMajor mat.old }
+    requires rows { HasTwoPowerRows mat.old (log_h + added_bits) }
     requires within { log_h + added_bits ≤ F.TWO_ADICITY }
-    requires small { log_h + added_bits < 64 }
-    requires height { height mat.old ≡ 2 ^ (log_h + added_bits) }
     requires tile { tile ≤ MAX_TILE }
     requires twiddles { AreTwiddlesFromStart F.Field.own log_h
         (block_powers F.Field.own (forward_root F.Field.own F.generator)) twiddles.now }
-    ensures shape { HasShapeOf mat.new mat.old }
-    ensures size { length mat.new.values ≡ length mat.old.values }
+    ensures same { HasEntriesOf mat.new mat.old }
     ensures values { (c : RowMajor F) → IsRowMajor c → height c ≡ 2 ^ log_h → mat.old ≡ with_zeros F.ZERO c added_bits
         → IsValues F.ring (λ n. F.value (F.generator n)) (values_of F.Field.own c) (log_h + added_bits) (F.value shift)
         (bit_reversal (log_h + added_bits) (values_of F.Field.own mat.new)) }
@@ -570,11 +549,9 @@ fn interpolate_natural<F: TwoAdicField>(
     tile: usize,
     products: &mut Products,
 )
-    requires whole { IsRowMajor mat.old }
+    requires rows { HasTwoPowerRows mat.old log_h }
     requires some { 1 ≤ log_h }
-    requires small { log_h < 64 }
     requires within { log_h ≤ F.TWO_ADICITY }
-    requires height { height mat.old ≡ 2 ^ log_h }
     requires tile { tile ≤ MAX_TILE }
     requires twiddles { AreTwiddlesFromStart F.Field.own log_h
         (block_powers F.Field.own (backward_root F.Field.own F.generator)) twiddles.now }

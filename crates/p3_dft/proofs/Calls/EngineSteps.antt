@@ -1,13 +1,14 @@
 -- An engine after one call and then another.
+use Rattle.std.specs.Prelude.{⊤}
 use Rattle.std.proofs.Common.{ℕ, ◌≡◌, ◌+◌, ◌*◌, ◌^◌, ◌≤◌, Result, Ok, Err, IsOk, IsErr, IfErr, IsErrAnd, refl, ap, ap₂, ◌∙◌, add-one, arith, rules, subst, sym}
-use Rattle.std.proofs.Math.Nat.{le_refl, suc-mul}
+use Rattle.std.proofs.Math.Nat.{le-add_right, le_refl, suc-mul}
 use Rattle.std.specs.Result.{OnOk}
 use Rattle.p3_matrix.specs.declared.error.DftError.{DftError}
 use Rattle.p3_matrix.specs.Room.{IsWithin}
-use Rattle.p3_matrix.proofs.Rooms.{room_of}
+use Rattle.p3_matrix.proofs.Rooms.{if_within_more, room_of}
 use Rattle.p3_matrix.specs.RowMajor.{HasShapeOf, RowMajor, height}
 use Rattle.p3_dft.proofs.Calls.Shapes.{extended_entries}
-use Rattle.p3_dft.specs.Engines.{AfterDft, EngineFacts, HasProductsMore, IsAfter, IsLater}
+use Rattle.p3_dft.specs.Engines.{AfterDft, AtLog, EngineFacts, HasProductsMore, IsAfter, IsLater, plain_facts}
 
 -- an error is no answer
 pub no_answer : {A X : Type 0} (r : Result A X) → IsErr r → IsOk r → ⊥
@@ -120,3 +121,17 @@ module _ {E F : Type 0} (facts : EngineFacts E F) where
         omega (arith, before, after, same, most k);
     refused = subst (λ (room : ℕ). IfErr r (IsWithin (facts.more_room c + room))) (extended_entries log bits whole (tall log whole) wide) other.refused;
   }
+
+  -- nothing was done
+  pub after_none : {A : Type 0} {v : A} {h entries : ℕ} {known : ℕ → Type 0} {p : ℕ → ℕ} (e : E) (now : IsOk {E = DftError} (Ok v) → AtLog h known) → IsAfter facts e e (Ok v) h known p entries
+  after_none e now = record { later = later_same e; ready = now; cost = λ k high. le-add_right _ _; refused = tt }
+
+-- products were made by an engine that shows nothing but their number, and knows of every height what it always did
+pub after_counting : {A F : Type 0} {t : ℕ → ℕ → ℕ} {r : Result A DftError} {h entries : ℕ} {known : ℕ → Type 0} {p : ℕ → ℕ} (before inside after : ℕ) → inside ≡ before → inside ≤ after → ((k : ℕ) → known k)
+    → AtLog h (λ k. after ≤ before + p k) → IfErr r (IsWithin entries) → IsAfter (plain_facts {F = F} (λ _ k. k ≡ 0) (λ _ _ _. ⊤) (λ _ _. ⊤) t (λ e. e)) before after r h known p entries
+after_counting {r = r} {entries = entries} before inside after is grows known cost room = record {
+  later = record { keeps = λ k was. was; keeps_cosets = λ k s was. was; keeps_ready = λ k was. was; grows = omega (arith, is, grows) };
+  ready = λ done k high. known k;
+  cost = cost;
+  refused = if_within_more r entries (0 + entries) (omega arith) room;
+}

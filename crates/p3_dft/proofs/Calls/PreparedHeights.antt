@@ -1,6 +1,6 @@
 -- The steps of an engine that shows the largest height whose twiddles are there.
-use Rattle.std.specs.Prelude.{⊤}
-use Rattle.std.proofs.Common.{◌≡◌, ℕ, zero, suc, ◌+◌, ◌≤◌, ◌^◌, Result, Ok, Err, IsOk, subst, arith, rules}
+use Rattle.std.specs.Prelude.{⊤, max}
+use Rattle.std.proofs.Common.{◌≡◌, ℕ, zero, suc, ◌+◌, ◌≤◌, ◌^◌, Result, Ok, Err, IsOk, OnErr, OnOk, ap, subst, arith, rules}
 use Rattle.p3_dft.specs.Engines.{EngineFacts, HasProductsMore, IsLater, IsPrepared, EngineState}
 
 -- an engine with twiddles of all heights up to one, and so many products
@@ -53,3 +53,8 @@ not_ok (Err x) e is ok = search rules
 pub some_log : (h k : ℕ) → h ≡ 2 ^ k → (h ≡ 1 → ⊥) → 1 ≤ k
 some_log h zero high more = absurd (more high)
 some_log h (suc k) high more = omega arith
+
+-- where an answer prepares a height and an error changes nothing, no larger height is prepared
+pub none_above : {X T E : Type 0} (prepared : X → ℕ) (r : Result T E) (a b : X) (k : ℕ) → OnOk r (prepared b ≡ max (prepared a) k) → OnErr r (b ≡ a) → prepared b ≤ max (prepared a) k
+none_above prepared (Ok x) a b k made same = omega (arith, made)
+none_above prepared (Err e) a b k made same = omega (arith, ap prepared same)

@@ -1,18 +1,20 @@
 // The extension coset by coset.
 
-ghost use Rattle.std.specs.Prelude.{◌≡◌, ◌⊎◌, ℕ, ◌+◌, ◌-◌, ◌*◌, ◌/◌, ◌^◌, ◌<◌, ◌≤◌, ◌++◌, ◌∷◌, [], List, IfErr, IfOk};
+ghost use Rattle.std.specs.Prelude.{◌≡◌, ℕ, ◌+◌, ◌-◌, ◌*◌, ◌/◌, ◌^◌, ◌<◌, ◌≤◌, ◌++◌, ◌∷◌, [], List, IfErr, IfOk};
 ghost use Rattle.std.specs.Prelude.{OnOk, length};
 ghost use Rattle.p3_matrix.specs.BitOrder.{bit_reversal};
 ghost use Rattle.p3_matrix.specs.Blocks.{AreBlocksOf, IsPartition, Run, RunToRefusal};
 ghost use Rattle.p3_matrix.specs.Matrix.{Matrix};
 ghost use Rattle.p3_matrix.specs.Room.{IsWithin};
-ghost use Rattle.p3_matrix.specs.RowMajor.{HasShapeOf, IsRowMajor, RowMajor, height, with_zeros};
+ghost use Rattle.p3_matrix.specs.RowMajor.{IsRowMajor, RowMajor, height, with_zeros};
 ghost use Rattle.p3_matrix.specs.Cosets.{IsValues, values_of};
-ghost use Rattle.p3_networks.specs.Twiddles.{AddsCosets, HasCoset, HasCosets, mid_of};
+ghost use Rattle.p3_networks.specs.Twiddles.{HasCoset, HasCosets, mid_of};
 ghost use Rattle.p3_dft.specs.Engines.{AtLog};
 ghost use Rattle.p3_dft.specs.Extensions.{IsAnswerOverZeros, IsCallable, KeepsShape};
 ghost use Rattle.p3_dft.specs.Shapes.{FitsLde};
 ghost use Rattle.p3_dft.specs.declared.traits.Layout.TheVariants.{BitReversed};
+ghost use Rattle.p3_dft.specs.Stored.{HasEntriesOf, HasTwoPowerRows};
+ghost use Rattle.p3_dft.specs.Tables.{LeavesTables};
 
 use crate::radix_2_dit_parallel::transform::interpolate_to_reversed;
 use crate::traits::Layout;
@@ -45,15 +47,12 @@ pub(crate) fn coefficients_with_room<
         IsAnswerOverZeros F.Field.own F.generator (λ m n. T.post transform m BitReversed n) mat added_bits out) }
     ensures prepared { AtLog (height mat) (λ k. OnOk result (k ≤ tables.new)) }
     ensures keeps { tables.old ≤ tables.new }
-    ensures only { AtLog (height mat) (λ k. (tables.new ≡ tables.old) ⊎ (tables.new ≡ k)) }
     ensures cosets { AtLog (height mat)
         (λ k. OnOk result (HasCosets F.Field.own F.generator cosets.new k added_bits (F.value shift))) }
     ensures keeps_cosets { (k : ℕ) (s : F.Element) → HasCoset F.Field.own cosets.old k s
         → HasCoset F.Field.own cosets.new k s }
-    ensures adds { AtLog (height mat)
-        (λ k. AddsCosets F.Field.own F.generator k added_bits (F.value shift) cosets.old cosets.new) }
-    ensures once { AtLog (height mat) (λ k. HasCosets F.Field.own F.generator cosets.old k added_bits (F.value shift)
-        → cosets.new ≡ cosets.old) }
+    ensures leaves { AtLog (height mat) (λ k. LeavesTables F.Field.own F.generator k added_bits (F.value shift)
+        tables.old tables.new cosets.old cosets.new) }
     ensures grows { products.old ≤ products.new }
     ensures cost { AtLog (height mat)
         (λ k. products.new ≤ products.old + mat.width * (k * 2 ^ k / 2) + 2 ^ k * mat.width) }
@@ -83,13 +82,10 @@ pub(crate) fn extend_reversed<F: TwoAdicField, C: BlockConsumer<F>>(
     consumer: &mut C,
     products: &mut Products,
 ) -> Result<(), C::Refusal>
-    requires whole { IsRowMajor mat.old }
+    requires rows { HasTwoPowerRows mat.old (log_h + added_bits) }
     requires within { log_h + added_bits ≤ F.TWO_ADICITY }
-    requires small { log_h + added_bits < 64 }
-    requires height { height mat.old ≡ 2 ^ (log_h + added_bits) }
     requires tables { HasCosets F.Field.own F.generator cosets.now log_h added_bits (F.value shift) }
-    ensures shape { HasShapeOf mat.new mat.old }
-    ensures size { length mat.new.values ≡ length mat.old.values }
+    ensures same { HasEntriesOf mat.new mat.old }
     ensures values { OnOk result ((c : RowMajor F) → IsRowMajor c → height c ≡ 2 ^ log_h
         → mat.old ≡ with_zeros F.ZERO c added_bits
         → IsValues F.ring (λ n. F.value (F.generator n)) (bit_reversal log_h (values_of F.Field.own c))

@@ -3,11 +3,12 @@
 ghost use Rattle.std.specs.Prelude.{◌≡◌, ℕ, ◌+◌, ◌*◌, ◌/◌, ◌-◌, ◌^◌, ◌<◌, ◌≤◌, length};
 ghost use Rattle.p3_field.specs.Ring.{AreRoots, power};
 ghost use Rattle.p3_matrix.specs.BitOrder.{rev};
-ghost use Rattle.p3_matrix.specs.RowMajor.{HasShapeOf, IsRowMajor, height};
+ghost use Rattle.p3_matrix.specs.RowMajor.{IsRowMajor, height};
 ghost use Rattle.p3_matrix.specs.Cosets.{point, values_of};
 ghost use Rattle.p3_matrix.specs.Polynomials.{poly};
 ghost use Rattle.p3_networks.specs.Twiddles.{AreBlockTwiddles, AreTwiddlesOfLayers, block_end, coset_twiddles, factor};
 ghost use Rattle.p3_networks.specs.Twiddles.{scale_cost};
+ghost use Rattle.p3_dft.specs.Stored.{HasEntriesOf, HasTwoPowerRows};
 
 use p3_field::{Products, TwoAdicField};
 use p3_matrix::{RowMajorMatrix, reverse_rows, scale_slice_in_place};
@@ -24,13 +25,10 @@ pub(crate) fn network_to_reversed<F: TwoAdicField>(
     left: usize,
     products: &mut Products,
 )
-    requires whole { IsRowMajor mat.old }
-    requires small { mid + left < 64 }
-    requires height { height mat.old ≡ 2 ^ (mid + left) }
+    requires rows { HasTwoPowerRows mat.old (mid + left) }
     requires low { 2 ^ mid - 1 ≤ length low.now }
     requires high { (l : ℕ) → mid ≤ l → l < mid + left → block_end high.by_layer l ≤ length high.twiddles.now }
-    ensures shape { HasShapeOf mat.new mat.old }
-    ensures size { length mat.new.values ≡ length mat.old.values }
+    ensures same { HasEntriesOf mat.new mat.old }
     ensures values { (g : ℕ → F.Element) (s : F.Element) → AreRoots F.ring (mid + left) g
         → AreTwiddlesOfLayers F.Field.own mid (coset_twiddles F.Field.own g (power F.ring s (2 ^ left)) mid) low.now
         → AreBlockTwiddles F.Field.own g s mid (mid + left) high.entry.by_layer high.entry.twiddles.now
@@ -55,12 +53,9 @@ fn first_of_matrix<F: TwoAdicField>(
     left: usize,
     products: &mut Products,
 )
-    requires whole { IsRowMajor mat.old }
-    requires small { mid + left < 64 }
-    requires height { height mat.old ≡ 2 ^ (mid + left) }
+    requires rows { HasTwoPowerRows mat.old (mid + left) }
     requires table { 2 ^ mid - 1 ≤ length twiddles.now }
-    ensures shape { HasShapeOf mat.new mat.old }
-    ensures size { length mat.new.values ≡ length mat.old.values }
+    ensures same { HasEntriesOf mat.new mat.old }
     ensures values { (g : ℕ → F.Element) (s : F.Element) → AreRoots F.ring mid g
         → AreTwiddlesOfLayers F.Field.own mid (coset_twiddles F.Field.own g s mid) twiddles.now
         → (a t j : ℕ) → a < 2 ^ left → t < 2 ^ mid → j < mat.old.width
@@ -85,12 +80,9 @@ fn second_of_matrix<F: TwoAdicField>(
     left: usize,
     products: &mut Products,
 )
-    requires whole { IsRowMajor mat.old }
-    requires small { mid + left < 64 }
-    requires height { height mat.old ≡ 2 ^ (mid + left) }
+    requires rows { HasTwoPowerRows mat.old (mid + left) }
     requires table { (l : ℕ) → mid ≤ l → l < mid + left → block_end table.by_layer l ≤ length table.twiddles.now }
-    ensures shape { HasShapeOf mat.new mat.old }
-    ensures size { length mat.new.values ≡ length mat.old.values }
+    ensures same { HasEntriesOf mat.new mat.old }
     ensures values { (g : ℕ → F.Element) (s : F.Element) → AreRoots F.ring (mid + left) g
         → AreBlockTwiddles F.Field.own g s mid (mid + left) table.entry.by_layer table.entry.twiddles.now
         → (a t j : ℕ) → a < 2 ^ mid → t < 2 ^ left → j < mat.old.width
@@ -119,8 +111,7 @@ fn scale_rows<F: TwoAdicField>(
     products: &mut Products,
 )
     requires whole { IsRowMajor mat.old }
-    ensures shape { HasShapeOf mat.new mat.old }
-    ensures size { length mat.new.values ≡ length mat.old.values }
+    ensures same { HasEntriesOf mat.new mat.old }
     ensures values { (i j : ℕ) → i < height mat.old → j < mat.old.width → (values_of F.Field.own mat.new).entry i j
         ≡ F.ring.mul ((values_of F.Field.own mat.old).entry i j) (factor F.Field.own scale) }
     ensures grows { products.old ≤ products.new }

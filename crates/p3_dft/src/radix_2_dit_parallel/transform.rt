@@ -3,10 +3,11 @@
 ghost use Rattle.std.specs.Prelude.{◌≡◌, ℕ, ◌+◌, ◌*◌, ◌/◌, ◌^◌, ◌<◌, ◌≤◌, length};
 ghost use Rattle.p3_field.specs.Ring.{power};
 ghost use Rattle.p3_matrix.specs.BitOrder.{rev, bit_reversal};
-ghost use Rattle.p3_matrix.specs.RowMajor.{HasShapeOf, IsRowMajor, height};
+ghost use Rattle.p3_matrix.specs.RowMajor.{height};
 ghost use Rattle.p3_matrix.specs.Cosets.{AreCoefficients, IsValues, values_of};
 ghost use Rattle.p3_matrix.specs.Polynomials.{poly};
 ghost use Rattle.p3_networks.specs.Twiddles.{factor, root_of, scale_cost};
+ghost use Rattle.p3_dft.specs.Stored.{HasEntriesOf, HasTwoPowerRows};
 
 use crate::radix_2_dit_parallel::network::network_to_reversed;
 use p3_field::{Field, Products, TwoAdicField};
@@ -25,12 +26,9 @@ pub(crate) fn transform_to_reversed<F: TwoAdicField>(
     log_h: usize,
     products: &mut Products,
 )
-    requires whole { IsRowMajor mat.old }
-    requires small { log_h < 64 }
-    requires height { height mat.old ≡ 2 ^ log_h }
+    requires rows { HasTwoPowerRows mat.old log_h }
     requires there { log_h ≤ tables.now }
-    ensures shape { HasShapeOf mat.new mat.old }
-    ensures size { length mat.new.values ≡ length mat.old.values }
+    ensures same { HasEntriesOf mat.new mat.old }
     ensures values { (r j : ℕ) → r < 2 ^ log_h → j < mat.old.width → (values_of F.Field.own mat.new).entry r j
         ≡ poly F.ring (2 ^ log_h) (λ q. F.ring.mul ((values_of F.Field.own mat.old).entry q j)
         (factor F.Field.own scale))
@@ -62,12 +60,9 @@ pub(crate) fn evaluate_to_reversed<F: TwoAdicField>(
     log_h: usize,
     products: &mut Products,
 )
-    requires whole { IsRowMajor mat.old }
-    requires small { log_h < 64 }
-    requires height { height mat.old ≡ 2 ^ log_h }
+    requires rows { HasTwoPowerRows mat.old log_h }
     requires there { log_h ≤ tables.now }
-    ensures shape { HasShapeOf mat.new mat.old }
-    ensures size { length mat.new.values ≡ length mat.old.values }
+    ensures same { HasEntriesOf mat.new mat.old }
     ensures values { IsValues F.ring (λ n. F.value (F.generator n)) (values_of F.Field.own mat.old) log_h F.ring.one
         (bit_reversal log_h (values_of F.Field.own mat.new)) }
     ensures grows { products.old ≤ products.new }
@@ -83,13 +78,10 @@ pub(crate) fn interpolate_to_reversed<F: TwoAdicField>(
     log_h: usize,
     products: &mut Products,
 )
-    requires whole { IsRowMajor mat.old }
-    requires small { log_h < 64 }
-    requires height { height mat.old ≡ 2 ^ log_h }
+    requires rows { HasTwoPowerRows mat.old log_h }
     requires there { log_h ≤ tables.now }
     requires within { log_h ≤ F.TWO_ADICITY }
-    ensures shape { HasShapeOf mat.new mat.old }
-    ensures size { length mat.new.values ≡ length mat.old.values }
+    ensures same { HasEntriesOf mat.new mat.old }
     ensures coefficients { AreCoefficients F.ring
         (λ n. F.value (F.generator n)) (values_of F.Field.own mat.old) log_h F.ring.one
         (bit_reversal log_h (values_of F.Field.own mat.new)) }
@@ -108,12 +100,9 @@ pub(crate) fn evaluate_on_coset_to_reversed<F: TwoAdicField>(
     log_h: usize,
     products: &mut Products,
 )
-    requires whole { IsRowMajor mat.old }
-    requires small { log_h < 64 }
-    requires height { height mat.old ≡ 2 ^ log_h }
+    requires rows { HasTwoPowerRows mat.old log_h }
     requires table { table.now.log_h ≡ log_h }
-    ensures shape { HasShapeOf mat.new mat.old }
-    ensures size { length mat.new.values ≡ length mat.old.values }
+    ensures same { HasEntriesOf mat.new mat.old }
     ensures values { IsValues F.ring
         (λ n. F.value (F.generator n)) (values_of F.Field.own mat.old) log_h (F.value table.now.shift)
         (bit_reversal log_h (values_of F.Field.own mat.new)) }

@@ -5,11 +5,7 @@ use Rattle.p3_matrix.specs.BitOrder.{rev}
 use Rattle.p3_matrix.specs.RowMajor.{height}
 use Rattle.p3_matrix.proofs.TwoPowers.{log_same}
 use Rattle.p3_dft.proofs.BitReversed.Coefficients.{values_of_parts}
-use Rattle.std.proofs.Math.Nat.{le_refl}
-use Rattle.std.proofs.lemmas.Result.{IfOk-from_err}
 use Rattle.p3_dft.proofs.Calls.PreparedHeights.{some_log}
-use Rattle.p3_dft.proofs.Calls.Counts.{none_more}
-use Rattle.p3_dft.proofs.Calls.JobLists.{on_any_error}
 use Rattle.p3_matrix.proofs.Rooms.{room_of}
 use Rattle.p3_dft.proofs.Calls.Shapes.{half_table_fits}
 use Rattle.p3_dft.proofs.radix_2_bowers.evaluate_to_natural.Goals as goal
@@ -44,17 +40,12 @@ network_g-requires-clause-size g c = ap length c.values_mut.ensures.values ∙ s
 pub network_g-requires-clause-some : goal.network_g-requires-clause-some
 network_g-requires-clause-some g c = some_log c.height.result c.log2_strict_usize-log_h.result c.log2_strict_usize-log_h.ensures.power (λ one. c.requires.several (sym c.height.ensures.height ∙ one))
 
-pub returns-in_err-twiddles : goal.returns-in_err-twiddles
-returns-in_err-twiddles g c =
-    let err = c.from_residual.ensures.0 in
-    record { values = λ k high. IfOk-from_err _ _ err; refused = on_any_error _ refl; grows = le_refl _; cost = λ k high. none_more _ _ _ refl; room = room_of c.from_residual.result _ _ _ c.from_residual.ensures (half_table_fits _ c.requires.fits (sym c.height.ensures.height ∙ c.log2_strict_usize-log_h.ensures.power)) c.in_err-twiddles.ensures.room }
+pub returns-in_err-twiddles-clause-room : goal.returns-in_err-twiddles-clause-room
+returns-in_err-twiddles-clause-room g c =
+    room_of c.from_residual.result _ _ _ c.from_residual.ensures (half_table_fits _ c.requires.fits (sym c.height.ensures.height ∙ c.log2_strict_usize-log_h.ensures.power)) c.in_err-twiddles.ensures.room
 
-pub returns : goal.returns
-returns g c =
-    record {
-      values = λ k high. let log = c.log2_strict_usize-log_h.result in let tall : height c.args.mat.now ≡ 2 ^ log = sym c.height.ensures.height ∙ c.log2_strict_usize-log_h.ensures.power in values_of_parts g.F.Field g.F.TwoAdicField.generator c.args.mat.now _ c.values_mut.result.now c.network_g.new.values _ c.width-width.result log k (log_same log k (sym tall ∙ high)) c.width-width.ensures.whole tall c.values_mut.ensures.values c.width-width.ensures.width c.network_g.auto.values refl refl c.network_g.ensures.values;
-      refused = tt;
-      room = tt;
-      grows = c.network_g.ensures.grows;
-      cost = λ k high. let log = c.log2_strict_usize-log_h.result in let same : log ≡ k = log_same log k (sym c.log2_strict_usize-log_h.ensures.power ∙ c.height.ensures.height ∙ high) in rw (← same, ← c.width-width.ensures.width) c.network_g.ensures.cost;
-    }
+pub returns-clause-values : goal.returns-clause-values
+returns-clause-values g c k high = let log = c.log2_strict_usize-log_h.result in let tall : height c.args.mat.now ≡ 2 ^ log = sym c.height.ensures.height ∙ c.log2_strict_usize-log_h.ensures.power in values_of_parts g.F.Field g.F.TwoAdicField.generator c.args.mat.now _ c.values_mut.result.now c.network_g.new.values _ c.width-width.result log k (log_same log k (sym tall ∙ high)) c.width-width.ensures.whole tall c.values_mut.ensures.values c.width-width.ensures.width c.network_g.auto.values refl refl c.network_g.ensures.values
+
+pub returns-clause-cost : goal.returns-clause-cost
+returns-clause-cost g c k high = let log = c.log2_strict_usize-log_h.result in let same : log ≡ k = log_same log k (sym c.log2_strict_usize-log_h.ensures.power ∙ c.height.ensures.height ∙ high) in rw (← same, ← c.width-width.ensures.width) c.network_g.ensures.cost

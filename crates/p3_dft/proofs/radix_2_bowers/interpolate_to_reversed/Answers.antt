@@ -10,7 +10,7 @@ pub returns-clause-coefficients : goal.returns-clause-coefficients
 returns-clause-coefficients g c k high =
     let field = g.F.Field in
     let multiples = c.interpolate_unscaled_to_reversed.new.mat in
-    let shape = c.in_ok-interpolate_unscaled_to_reversed.ensures.shape in
+    let shape = c.in_ok-interpolate_unscaled_to_reversed.ensures.same.shape in
     let tall : height multiples ≡ 2 ^ k = shape.0 ∙ high in
     c.in_ok-interpolate_unscaled_to_reversed.ensures.coefficients k high (bit_reversal k (values_of field c.divide_rows.new.mat))
     (reversed_quotient field.ring k (2 ^ k) (values_of field multiples) (values_of field c.divide_rows.new.mat) tall
@@ -20,10 +20,10 @@ pub returns-clause-cost : goal.returns-clause-cost
 returns-clause-cost g c k high =
     let m = c.args.mat.now in
     let entries : length c.interpolate_unscaled_to_reversed.new.mat.values ≡ 2 ^ k * m.width =
-    c.in_ok-interpolate_unscaled_to_reversed.ensures.size ∙ sym c.interpolate_unscaled_to_reversed.ensures.whole.full ∙ ap (λ n. n * m.width) high in
+    c.in_ok-interpolate_unscaled_to_reversed.ensures.same.size ∙ sym c.interpolate_unscaled_to_reversed.ensures.whole.full ∙ ap (λ n. n * m.width) high in
     omega (arith, c.interpolate_unscaled_to_reversed.ensures.cost k high, c.divide_rows.ensures.count, entries)
 
 pub returns-clause-whole : goal.returns-clause-whole
 returns-clause-whole g c =
-    whole_kept c.interpolate_unscaled_to_reversed.new.mat c.divide_rows.new.mat (whole_kept c.args.mat.now c.interpolate_unscaled_to_reversed.new.mat c.interpolate_unscaled_to_reversed.ensures.whole c.in_ok-interpolate_unscaled_to_reversed.ensures.shape c.in_ok-interpolate_unscaled_to_reversed.ensures.size)
+    whole_kept c.interpolate_unscaled_to_reversed.new.mat c.divide_rows.new.mat (whole_kept c.args.mat.now c.interpolate_unscaled_to_reversed.new.mat c.interpolate_unscaled_to_reversed.ensures.whole c.in_ok-interpolate_unscaled_to_reversed.ensures.same.shape c.in_ok-interpolate_unscaled_to_reversed.ensures.same.size)
     c.divide_rows.ensures.shape c.divide_rows.ensures.size

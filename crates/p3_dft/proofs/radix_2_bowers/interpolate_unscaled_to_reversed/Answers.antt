@@ -8,12 +8,8 @@ use Rattle.p3_matrix.proofs.TwoPowers.{log_same}
 use Rattle.p3_matrix.specs.Cosets.{values_of}
 use Rattle.p3_dft.proofs.BitReversed.Coefficients.{coefficients_of_parts}
 use Rattle.p3_matrix.proofs.Polynomials.ReversedCoefficients.{coefficients_of_row}
-use Rattle.p3_matrix.proofs.RowMajor.{written_shape, written_size}
-use Rattle.std.proofs.Math.Nat.{le_refl}
-use Rattle.std.proofs.lemmas.Result.{IfOk-from_err}
 use Rattle.p3_dft.proofs.Calls.PreparedHeights.{some_log}
-use Rattle.p3_dft.proofs.Calls.Counts.{none_more}
-use Rattle.p3_dft.proofs.Calls.JobLists.{on_any_error}
+use Rattle.p3_dft.proofs.Calls.Stored.{entries_written}
 use Rattle.p3_matrix.proofs.Rooms.{room_of}
 use Rattle.p3_dft.proofs.Calls.Shapes.{half_table_fits}
 use Rattle.p3_dft.proofs.radix_2_bowers.interpolate_unscaled_to_reversed.Goals as goal
@@ -66,23 +62,18 @@ network_g_transposed-requires-clause-size g c = ap length c.values_mut.ensures.v
 pub network_g_transposed-requires-clause-some : goal.network_g_transposed-requires-clause-some
 network_g_transposed-requires-clause-some g c = some_log c.height-height.result c.log2_strict_usize-log_h.result c.log2_strict_usize-log_h.ensures.power c.if-height-eq1.false
 
-pub returns-in_err-twiddles : goal.returns-in_err-twiddles
-returns-in_err-twiddles g c =
-    let err = c.from_residual.ensures.0 in
-    record { whole = c.width-width.ensures.whole; shape = IfOk-from_err _ _ err; size = IfOk-from_err _ _ err; coefficients = λ k high. IfOk-from_err _ _ err; refused = on_any_error _ refl; grows = le_refl _; cost = λ k high. none_more _ _ _ refl; room = room_of c.from_residual.result _ _ _ c.from_residual.ensures (half_table_fits _ c.requires.fits (sym c.height-height.ensures.height ∙ c.log2_strict_usize-log_h.ensures.power)) c.in_err-twiddles.ensures.room }
+pub returns-in_err-twiddles-clause-room : goal.returns-in_err-twiddles-clause-room
+returns-in_err-twiddles-clause-room g c =
+    room_of c.from_residual.result _ _ _ c.from_residual.ensures (half_table_fits _ c.requires.fits (sym c.height-height.ensures.height ∙ c.log2_strict_usize-log_h.ensures.power)) c.in_err-twiddles.ensures.room
 
-pub returns : goal.returns
-returns g c =
-    record {
-      whole = c.width-width.ensures.whole;
-      shape = written_shape c.args.mat.now _ c.network_g_transposed.new.values refl refl (c.network_g_transposed.auto.values ∙ ap length c.values_mut.ensures.values);
-      size = written_size c.args.mat.now.values c.network_g_transposed.new.values (c.network_g_transposed.auto.values ∙ ap length c.values_mut.ensures.values);
-      coefficients = λ k high. let log = c.log2_strict_usize-log_h.result in let tall : height c.args.mat.now ≡ 2 ^ log = sym c.height-height.ensures.height ∙ c.log2_strict_usize-log_h.ensures.power in let fits : log ≡ c.requires.fits.log = log_same _ _ (sym tall ∙ c.requires.fits.high) in coefficients_of_parts g.F.Field g.F.TwoAdicField.generator g.met.F.TwoAdicField.roots_law c.args.mat.now _ c.values_mut.result.now c.network_g_transposed.new.values _ c.width-width.result log k (omega (arith, fits, c.requires.fits.within)) (log_same log k (sym tall ∙ high)) c.width-width.ensures.whole tall c.values_mut.ensures.values c.width-width.ensures.width c.network_g_transposed.auto.values refl refl c.network_g_transposed.ensures.values;
-      refused = tt;
-      room = tt;
-      grows = c.network_g_transposed.ensures.grows;
-      cost = λ k high. let log = c.log2_strict_usize-log_h.result in let same : log ≡ k = log_same log k (sym c.log2_strict_usize-log_h.ensures.power ∙ c.height-height.ensures.height ∙ high) in rw (← same, ← c.width-width.ensures.width) c.network_g_transposed.ensures.cost;
-    }
+pub returns-clause-same : goal.returns-clause-same
+returns-clause-same g c = entries_written c.args.mat.now _ c.network_g_transposed.new.values refl refl (c.network_g_transposed.auto.values ∙ ap length c.values_mut.ensures.values)
+
+pub returns-clause-coefficients : goal.returns-clause-coefficients
+returns-clause-coefficients g c k high = let log = c.log2_strict_usize-log_h.result in let tall : height c.args.mat.now ≡ 2 ^ log = sym c.height-height.ensures.height ∙ c.log2_strict_usize-log_h.ensures.power in let fits : log ≡ c.requires.fits.log = log_same _ _ (sym tall ∙ c.requires.fits.high) in coefficients_of_parts g.F.Field g.F.TwoAdicField.generator g.met.F.TwoAdicField.roots_law c.args.mat.now _ c.values_mut.result.now c.network_g_transposed.new.values _ c.width-width.result log k (omega (arith, fits, c.requires.fits.within)) (log_same log k (sym tall ∙ high)) c.width-width.ensures.whole tall c.values_mut.ensures.values c.width-width.ensures.width c.network_g_transposed.auto.values refl refl c.network_g_transposed.ensures.values
+
+pub returns-clause-cost : goal.returns-clause-cost
+returns-clause-cost g c k high = let log = c.log2_strict_usize-log_h.result in let same : log ≡ k = log_same log k (sym c.log2_strict_usize-log_h.ensures.power ∙ c.height-height.ensures.height ∙ high) in rw (← same, ← c.width-width.ensures.width) c.network_g_transposed.ensures.cost
 
 pub returns-then-height-eq1-clause-coefficients : goal.returns-then-height-eq1-clause-coefficients
 returns-then-height-eq1-clause-coefficients g c k high d quotient =

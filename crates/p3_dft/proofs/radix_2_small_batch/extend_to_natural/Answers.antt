@@ -1,8 +1,7 @@
 use Rattle.std.proofs.Common.{ℕ, List, [], ◌≡◌, ◌*◌, ◌/◌, ◌%◌, ◌+◌, ◌-◌, ◌^◌, ◌<◌, ◌≤◌, ◌++◌, length, get_or, replicate, drop, refl, sym, ◌∙◌, ap, ap₂, arith}
-use Rattle.std.proofs.Math.Nat.{mod-eq_of_lt, mod-le, mul-div_cancel, le_refl}
+use Rattle.std.proofs.Math.Nat.{mod-eq_of_lt, mod-le, mul-div_cancel}
 use Rattle.std.proofs.lemmas.List.{length-replicate}
 use Rattle.std.proofs.lemmas.Nat.{pow-add}
-use Rattle.std.proofs.lemmas.Result.{IfOk-from_err}
 use Rattle.p3_field.specs.Ring.{power}
 use Rattle.p3_matrix.specs.BitOrder.{rev}
 use Rattle.p3_matrix.specs.RowMajor.{RowMajor, height}
@@ -13,7 +12,6 @@ use Rattle.p3_matrix.proofs.Rows.Overwritten.{written}
 use Rattle.p3_matrix.proofs.Rooms.{room_of}
 use Rattle.p3_dft.proofs.Calls.Shapes.{fewer_entries, powers_fit}
 use Rattle.p3_dft.proofs.radix_2_small_batch.extend_to_natural.Goals as goal
-use Rattle.p3_dft.proofs.Calls.Counts.{none_more}
 
 -- as many zeros as the extension has entries
 zeros_length : {T : Type 0} (z : T) (old xs given values : List T) (len h w v k a : ℕ) → old ≡ [] → xs ≡ old ++ replicate (len * 2 ^ a % 2 ^ 64) z → len ≡ length given → given ≡ values → h * w ≡ length values → h ≡ 2 ^ k → v ≡ w
@@ -68,20 +66,18 @@ extending_network-requires-clause-small g c = c.requires.small
 pub extending_network-requires-clause-within : goal.extending_network-requires-clause-within
 extending_network-requires-clause-within g c = c.requires.within
 
-pub returns-in_err-weights : goal.returns-in_err-weights
-returns-in_err-weights g c =
-    let err = c.from_residual.ensures.0 in
+pub returns-in_err-weights-clause-room : goal.returns-in_err-weights-clause-room
+returns-in_err-weights-clause-room g c =
     let table = powers_fit c.args.log_h c.requires.whole.wide c.requires.height in
-    record { values = IfOk-from_err _ _ err; grows = le_refl _; cost = none_more _ _ _ refl; room = room_of c.from_residual.result _ _ _ c.from_residual.ensures (omega (arith, table, fewer_entries (height c.args.mat * c.args.mat.width) c.args.added_bits)) c.in_err-weights.ensures.room }
+    room_of c.from_residual.result _ _ _ c.from_residual.ensures (omega (arith, table, fewer_entries (height c.args.mat * c.args.mat.width) c.args.added_bits)) c.in_err-weights.ensures.room
 
-pub returns-in_err-extend_by_zeros : goal.returns-in_err-extend_by_zeros
-returns-in_err-extend_by_zeros g c =
-    let err = c.from_residual-in_err-extend_by_zeros.ensures.0 in
+pub returns-in_err-extend_by_zeros-clause-room : goal.returns-in_err-extend_by_zeros-clause-room
+returns-in_err-extend_by_zeros-clause-room g c =
     let empty : c.new-values.result.len ≡ 0 = omega (arith, c.new-values.result.ok.0, ap length c.new-values.ensures.items) in
     let entries : length c.values.result.now * 2 ^ c.args.added_bits ≡ height c.args.mat * c.args.mat.width * 2 ^ c.args.added_bits =
     ap (λ n. n * 2 ^ c.args.added_bits) (ap length c.values.ensures.values ∙ sym c.requires.whole.full) in
     let shifted = mod-le (length c.values.result.now * 2 ^ c.args.added_bits) (2 ^ 64) in
-    record { values = IfOk-from_err _ _ err; grows = le_refl _; cost = none_more _ _ _ refl; room = room_of c.from_residual-in_err-extend_by_zeros.result _ _ _ c.from_residual-in_err-extend_by_zeros.ensures (omega (arith, empty, entries, shifted)) c.in_err-extend_by_zeros.ensures.room }
+    room_of c.from_residual-in_err-extend_by_zeros.result _ _ _ c.from_residual-in_err-extend_by_zeros.ensures (omega (arith, empty, entries, shifted)) c.in_err-extend_by_zeros.ensures.room
 
 pub returns : goal.returns
 returns g c =

@@ -9,12 +9,12 @@ use Rattle.p3_matrix.proofs.Polynomials.Cosets.{is_values}
 use Rattle.p3_matrix.proofs.Rows.Overwritten.{written}
 use Rattle.p3_dft.proofs.BitReversed.Rows.{written_cell}
 use Rattle.p3_matrix.proofs.Rows.Padding.{cell_above}
-use Rattle.p3_matrix.proofs.RowMajor.{written_shape, written_size}
+use Rattle.p3_dft.proofs.Calls.Stored.{entries_written}
 use Rattle.p3_dft.proofs.radix_2_small_batch.extend_to_reversed.Goals as goal
 
 pub slots_network-requires-clause-size : goal.slots_network-requires-clause-size
 slots_network-requires-clause-size g c =
-    ap length c.values_mut.ensures.values ∙ sym c.requires.whole.full ∙ ap₂ (λ h w. h * w) c.requires.height (sym c.width-width.ensures.width)
+    ap length c.values_mut.ensures.values ∙ sym c.requires.rows.whole.full ∙ ap₂ (λ h w. h * w) c.requires.rows.high (sym c.width-width.ensures.width)
 
 pub returns-clause-values : goal.returns-clause-values
 returns-clause-values g c upper whole high over_zeros =
@@ -31,7 +31,7 @@ returns-clause-values g c upper whole high over_zeros =
     let wide : m.width ≡ w = sym c.width-width.ensures.width in
     let wide_upper : upper.width ≡ w = sym (ap (λ (x : RowMajor g.row.F.Denot). x.width) over_zeros) ∙ wide in
     let size : length after ≡ length m.values = c.slots_network.auto.values ∙ ap length c.values_mut.ensures.values in
-    let tall = ap (λ xs. length xs / m.width) (written (length m.values) after _ size) ∙ ap (λ k. k / m.width) size ∙ c.requires.height in
+    let tall = ap (λ xs. length xs / m.width) (written (length m.values) after _ size) ∙ ap (λ k. k / m.width) size ∙ c.requires.rows.high in
     is_values field.ring gen coefficients n s _ tall (wide ∙ sym wide_upper)
     (λ i j below inside.
     let l : j < w = omega (arith, inside, wide_upper) in
@@ -46,8 +46,5 @@ pub returns-clause-cost : goal.returns-clause-cost
 returns-clause-cost g c =
     subst (λ (w : ℕ). c.slots_network.new.products ≤ c.args.products.now + 2 ^ c.args.added_bits * (w * (c.args.log_h * 2 ^ c.args.log_h / 2) + 2 ^ c.args.log_h * w)) c.width-width.ensures.width c.slots_network.ensures.cost
 
-pub returns-clause-shape : goal.returns-clause-shape
-returns-clause-shape g c = written_shape c.args.mat.now _ c.slots_network.new.values refl refl (c.slots_network.auto.values ∙ ap length c.values_mut.ensures.values)
-
-pub returns-clause-size : goal.returns-clause-size
-returns-clause-size g c = written_size c.args.mat.now.values c.slots_network.new.values (c.slots_network.auto.values ∙ ap length c.values_mut.ensures.values)
+pub returns-clause-same : goal.returns-clause-same
+returns-clause-same g c = entries_written c.args.mat.now _ c.slots_network.new.values refl refl (c.slots_network.auto.values ∙ ap length c.values_mut.ensures.values)

@@ -1,4 +1,4 @@
-use Rattle.std.proofs.Common.{◌≡◌, ℕ, ◌+◌, ◌*◌, ◌/◌, ◌^◌, ◌≤◌, sym, ap, ap₂, ◌∙◌, refl, arith, subst}
+use Rattle.std.proofs.Common.{◌≡◌, ℕ, ◌+◌, ◌*◌, ◌/◌, ◌^◌, ◌≤◌, sym, ap, ap₂, ◌∙◌, refl, arith}
 use Rattle.std.proofs.Math.Nat.{le-add_right, le_trans}
 use Rattle.std.proofs.lemmas.Result.{IfOk-from_err, IfOk-weaker}
 use Rattle.p3_matrix.specs.BitOrder.{bit_reversal}
@@ -7,12 +7,11 @@ use Rattle.p3_matrix.specs.Cosets.{values_of}
 use Rattle.p3_matrix.proofs.Polynomials.Cosets.{coset_values}
 use Rattle.p3_dft.proofs.BitReversed.Coefficients.{extension_of_told_row, first_within_extension, within_extension, values_of_answered}
 use Rattle.p3_matrix.proofs.Polynomials.Quotients.{shifted_by_one}
-use Rattle.p3_dft.proofs.Calls.Counts.{none_more, scaled_counted, weighed_counted}
-use Rattle.p3_dft.proofs.Calls.Shapes.{fits_lde_as, input_fits, log_fits}
+use Rattle.p3_dft.proofs.Calls.Counts.{scaled_counted, weighed_counted}
+use Rattle.p3_dft.proofs.Calls.Shapes.{fewer_of_same, fits_lde_as, input_fits, log_fits, same_extended}
 use Rattle.p3_matrix.proofs.TwoPowers.{more_points}
-use Rattle.p3_dft.proofs.Calls.EngineSteps.{later_same}
+use Rattle.p3_dft.proofs.Calls.EngineSteps.{after_counting, after_none}
 use Rattle.p3_matrix.proofs.Rooms.{if_within_more, room_of}
-use Rattle.p3_dft.proofs.Calls.Shapes.{fewer_of_same, same_extended}
 use Rattle.p3_dft.proofs.radix_2_bowers.Radix2BowersTwoAdicSubgroupDft.coset_lde_batch_with_transform.Goals as goal
 
 pub interpolate_to_reversed-requires : goal.interpolate_to_reversed-requires
@@ -54,36 +53,26 @@ pub transform-row-requires : goal.transform-row-requires
 transform-row-requires g c =
     c.requires.callable c.into_row_major_matrix-mat.result c.height.ensures.whole (ap height c.into_row_major_matrix-mat.ensures, ap (λ (n : RowMajor g.row.F.Denot). n.width) c.into_row_major_matrix-mat.ensures)
 
-pub returns-then-log_h-added_bits-eq0 : goal.returns-then-log_h-added_bits-eq0
-returns-then-log_h-added_bits-eq0 g c =
-    record {
-      values = let none : c.log2_strict_usize-log_h.result ≡ 0 = omega (arith, c.if-log_h-added_bits-eq0.true) in let m = g.N.IntoRowMajorMatrix.stored c.args.mat in let one : height m ≡ 1 = sym (ap height c.into_row_major_matrix-mat.ensures) ∙ sym c.height.ensures.height ∙ c.log2_strict_usize-log_h.ensures.power ∙ ap (λ n. 2 ^ n) none in let called = rw c.into_row_major_matrix-mat.ensures at c.transform-row.ensures in let whole = rw c.into_row_major_matrix-mat.ensures at c.height.ensures.whole in extension_of_told_row g.F.Field g.F.TwoAdicField.generator _ m c.transform-row.result c.args.added_bits (g.F.Field.value c.args.shift) one (omega (arith, c.if-log_h-added_bits-eq0.true)) whole c.width-width.ensures.whole called (c.requires.shape m c.transform-row.result whole (refl, refl) called).0;
-      one_row = λ one none. (refl, refl);
-      later = later_same _ _;
-      cost = λ k high. none_more _ _ _ refl;
-      room = tt;
-    }
+pub returns-then-log_h-added_bits-eq0-clause-values : goal.returns-then-log_h-added_bits-eq0-clause-values
+returns-then-log_h-added_bits-eq0-clause-values g c = let none : c.log2_strict_usize-log_h.result ≡ 0 = omega (arith, c.if-log_h-added_bits-eq0.true) in let m = g.N.IntoRowMajorMatrix.stored c.args.mat in let one : height m ≡ 1 = sym (ap height c.into_row_major_matrix-mat.ensures) ∙ sym c.height.ensures.height ∙ c.log2_strict_usize-log_h.ensures.power ∙ ap (λ n. 2 ^ n) none in let called = rw c.into_row_major_matrix-mat.ensures at c.transform-row.ensures in let whole = rw c.into_row_major_matrix-mat.ensures at c.height.ensures.whole in extension_of_told_row g.F.Field g.F.TwoAdicField.generator _ m c.transform-row.result c.args.added_bits (g.F.Field.value c.args.shift) one (omega (arith, c.if-log_h-added_bits-eq0.true)) whole c.width-width.ensures.whole called (c.requires.shape m c.transform-row.result whole (refl, refl) called).0
+
+pub returns-then-log_h-added_bits-eq0-clause-engine : goal.returns-then-log_h-added_bits-eq0-clause-engine
+returns-then-log_h-added_bits-eq0-clause-engine g c = after_none _ _ (λ _ k high. (tt, tt))
 
 pub returns-in_err-interpolate_to_reversed : goal.returns-in_err-interpolate_to_reversed
 returns-in_err-interpolate_to_reversed g c =
-    let err = c.from_residual.ensures.0 in
     record {
-      values = IfOk-from_err _ _ err;
+      values = IfOk-from_err _ _ c.from_residual.ensures.0;
       one_row = λ one none. absurd (more_points _ _ _ c.log2_strict_usize-log_h.ensures.power c.if-log_h-added_bits-eq0.false (c.height.ensures.height ∙ ap height c.into_row_major_matrix-mat.ensures ∙ one) none);
-      later = record { keeps = λ k was. was; keeps_cosets = λ k s was. was; keeps_ready = λ k was. was; grows = subst (λ (b : ℕ). b ≤ c.interpolate_to_reversed.new.products) c.self.view_is c.interpolate_to_reversed.ensures.grows };
-      cost = λ k e. let width = ap (λ (n : RowMajor g.row.F.Denot). n.width) c.into_row_major_matrix-mat.ensures in let w = (g.N.IntoRowMajorMatrix.stored c.args.mat).width in let first = rw (c.self.view_is, width) at (c.interpolate_to_reversed.ensures.cost k (ap height c.into_row_major_matrix-mat.ensures ∙ e)) in first_within_extension (λ n v. v * (n * 2 ^ n / 2)) k c.args.added_bits w c.args.self.now c.interpolate_to_reversed.new.products (scaled_counted _ _ _ _ _ _ first (le-add_right _ _) refl);
-      room = room_of c.from_residual.result _ _ _ c.from_residual.ensures (fewer_of_same c.args.added_bits (ap height c.into_row_major_matrix-mat.ensures) (ap (λ (m : RowMajor g.row.F.Denot). m.width) c.into_row_major_matrix-mat.ensures)) c.in_err-interpolate_to_reversed.ensures.room;
+      engine = after_counting _ _ _ c.self.view_is c.interpolate_to_reversed.ensures.grows (λ k. (tt, tt)) (λ k e. let width = ap (λ (n : RowMajor g.row.F.Denot). n.width) c.into_row_major_matrix-mat.ensures in let w = (g.N.IntoRowMajorMatrix.stored c.args.mat).width in let first = rw (c.self.view_is, width) at (c.interpolate_to_reversed.ensures.cost k (ap height c.into_row_major_matrix-mat.ensures ∙ e)) in first_within_extension (λ n v. v * (n * 2 ^ n / 2)) k c.args.added_bits w c.args.self.now c.interpolate_to_reversed.new.products (scaled_counted _ _ _ _ _ _ first (le-add_right _ _) refl)) (room_of c.from_residual.result _ _ _ c.from_residual.ensures (fewer_of_same c.args.added_bits (ap height c.into_row_major_matrix-mat.ensures) (ap (λ (m : RowMajor g.row.F.Denot). m.width) c.into_row_major_matrix-mat.ensures)) c.in_err-interpolate_to_reversed.ensures.room);
     }
 
 pub returns-in_err-weigh_reversed_rows : goal.returns-in_err-weigh_reversed_rows
 returns-in_err-weigh_reversed_rows g c =
-    let err = c.from_residual-in_err-weigh_reversed_rows.ensures.0 in
     record {
-      values = IfOk-from_err _ _ err;
+      values = IfOk-from_err _ _ c.from_residual-in_err-weigh_reversed_rows.ensures.0;
       one_row = λ one none. absurd (more_points _ _ _ c.log2_strict_usize-log_h.ensures.power c.if-log_h-added_bits-eq0.false (c.height.ensures.height ∙ ap height c.into_row_major_matrix-mat.ensures ∙ one) none);
-      later = record { keeps = λ k was. was; keeps_cosets = λ k s was. was; keeps_ready = λ k was. was; grows = subst (λ (b : ℕ). b ≤ c.weigh_reversed_rows.new.products) c.self.view_is (le_trans c.interpolate_to_reversed.ensures.grows c.weigh_reversed_rows.ensures.grows) };
-      cost = λ k e. let bound = λ (n w : ℕ). w * (n * 2 ^ n / 2) in let stored = ap height c.into_row_major_matrix-mat.ensures in let width = ap (λ (n : RowMajor g.row.F.Denot). n.width) c.into_row_major_matrix-mat.ensures in let w = (g.N.IntoRowMajorMatrix.stored c.args.mat).width in let are = c.in_ok-interpolate_to_reversed.ensures.coefficients k (stored ∙ e) in let shape = c.requires.shape c.interpolate_to_reversed.new.mat c.transform-changed.result c.in_ok-interpolate_to_reversed.ensures.whole (are.high ∙ stored, are.wide ∙ width) c.transform-changed.ensures in let first : c.interpolate_to_reversed.new.products ≤ c.args.self.now + bound k w + 2 ^ k * w = rw (c.self.view_is, width) at (c.interpolate_to_reversed.ensures.cost k (stored ∙ e)) in let entries : height c.transform-changed.result * c.transform-changed.result.width ≡ 2 ^ k * w = ap₂ (λ (h v : ℕ). h * v) (shape.0 ∙ e) shape.1 in first_within_extension bound k c.args.added_bits w c.args.self.now c.weigh_reversed_rows.new.products (scaled_counted _ _ _ _ _ _ first c.weigh_reversed_rows.ensures.cost entries);
-      room = let stored = ap height c.into_row_major_matrix-mat.ensures in let are = c.in_ok-interpolate_to_reversed.ensures.coefficients c.requires.fits.log (stored ∙ c.requires.fits.high) in let shape = c.requires.shape c.interpolate_to_reversed.new.mat c.transform-changed.result c.in_ok-interpolate_to_reversed.ensures.whole (are.high ∙ stored, are.wide ∙ ap (λ (m : RowMajor g.row.F.Denot). m.width) c.into_row_major_matrix-mat.ensures) c.transform-changed.ensures in room_of c.from_residual-in_err-weigh_reversed_rows.result _ _ _ c.from_residual-in_err-weigh_reversed_rows.ensures (fewer_of_same c.args.added_bits shape.0 shape.1) c.in_err-weigh_reversed_rows.ensures.room;
+      engine = after_counting _ _ _ c.self.view_is (le_trans c.interpolate_to_reversed.ensures.grows c.weigh_reversed_rows.ensures.grows) (λ k. (tt, tt)) (λ k e. let bound = λ (n w : ℕ). w * (n * 2 ^ n / 2) in let stored = ap height c.into_row_major_matrix-mat.ensures in let width = ap (λ (n : RowMajor g.row.F.Denot). n.width) c.into_row_major_matrix-mat.ensures in let w = (g.N.IntoRowMajorMatrix.stored c.args.mat).width in let are = c.in_ok-interpolate_to_reversed.ensures.coefficients k (stored ∙ e) in let shape = c.requires.shape c.interpolate_to_reversed.new.mat c.transform-changed.result c.in_ok-interpolate_to_reversed.ensures.whole (are.high ∙ stored, are.wide ∙ width) c.transform-changed.ensures in let first : c.interpolate_to_reversed.new.products ≤ c.args.self.now + bound k w + 2 ^ k * w = rw (c.self.view_is, width) at (c.interpolate_to_reversed.ensures.cost k (stored ∙ e)) in let entries : height c.transform-changed.result * c.transform-changed.result.width ≡ 2 ^ k * w = ap₂ (λ (h v : ℕ). h * v) (shape.0 ∙ e) shape.1 in first_within_extension bound k c.args.added_bits w c.args.self.now c.weigh_reversed_rows.new.products (scaled_counted _ _ _ _ _ _ first c.weigh_reversed_rows.ensures.cost entries)) (let stored = ap height c.into_row_major_matrix-mat.ensures in let are = c.in_ok-interpolate_to_reversed.ensures.coefficients c.requires.fits.log (stored ∙ c.requires.fits.high) in let shape = c.requires.shape c.interpolate_to_reversed.new.mat c.transform-changed.result c.in_ok-interpolate_to_reversed.ensures.whole (are.high ∙ stored, are.wide ∙ ap (λ (m : RowMajor g.row.F.Denot). m.width) c.into_row_major_matrix-mat.ensures) c.transform-changed.ensures in room_of c.from_residual-in_err-weigh_reversed_rows.result _ _ _ c.from_residual-in_err-weigh_reversed_rows.ensures (fewer_of_same c.args.added_bits shape.0 shape.1) c.in_err-weigh_reversed_rows.ensures.room);
     }
 
 pub returns : goal.returns
@@ -91,7 +80,5 @@ returns g c =
     record {
       values = let field = g.F.Field in let fits = c.requires.fits in let log = fits.log in let a = c.args.added_bits in let s = field.value c.args.shift in let m = g.N.IntoRowMajorMatrix.stored c.args.mat in let told = c.interpolate_to_reversed.new.mat in let answered = c.transform-changed.result in let stored = ap height c.into_row_major_matrix-mat.ensures in let are = c.in_ok-interpolate_to_reversed.ensures.coefficients log (stored ∙ fits.high) in let shape = c.requires.shape told answered c.in_ok-interpolate_to_reversed.ensures.whole (are.high ∙ stored, are.wide ∙ ap (λ (n : RowMajor g.row.F.Denot). n.width) c.into_row_major_matrix-mat.ensures) c.transform-changed.ensures in let same = c.in_ok-weigh_reversed_rows.ensures.rows log (shape.0 ∙ fits.high) in let one = ap field.value c.ONE.ensures ∙ g.met.F.Field.one_law in let on_coset = shifted_by_one field.ring _ s (bit_reversal log (values_of field answered)) (bit_reversal log (values_of field c.weigh_reversed_rows.new.mat)) one same in IfOk-weaker c.extend_to_natural.result _ _ (λ out given. values_of_answered field g.F.TwoAdicField.generator _ m told answered a log s (values_of field out) fits.high (rw c.into_row_major_matrix-mat.ensures at are) c.in_ok-interpolate_to_reversed.ensures.whole c.weigh_reversed_rows.ensures.whole c.transform-changed.ensures shape.0 (coset_values field.ring (λ n. field.value (g.F.TwoAdicField.generator n)) (bit_reversal log (values_of field answered)) (bit_reversal log (values_of field c.weigh_reversed_rows.new.mat)) (log + a) s (values_of field out) on_coset given)) (c.extend_to_natural.ensures.values log (same.high ∙ shape.0 ∙ fits.high));
       one_row = λ one none. absurd (more_points _ _ _ c.log2_strict_usize-log_h.ensures.power c.if-log_h-added_bits-eq0.false (c.height.ensures.height ∙ ap height c.into_row_major_matrix-mat.ensures ∙ one) none);
-      later = record { keeps = λ k was. was; keeps_cosets = λ k s was. was; keeps_ready = λ k was. was; grows = subst (λ (b : ℕ). b ≤ c.extend_to_natural.new.products) c.self.view_is (le_trans (le_trans c.interpolate_to_reversed.ensures.grows c.weigh_reversed_rows.ensures.grows) c.extend_to_natural.ensures.grows) };
-      cost = λ k e. let a = c.args.added_bits in let m = c.into_row_major_matrix-mat.result in let bound = λ (n w : ℕ). w * (n * 2 ^ n / 2) in let stored = ap height c.into_row_major_matrix-mat.ensures in let width = ap (λ (n : RowMajor g.row.F.Denot). n.width) c.into_row_major_matrix-mat.ensures in let w = (g.N.IntoRowMajorMatrix.stored c.args.mat).width in let are = c.in_ok-interpolate_to_reversed.ensures.coefficients k (stored ∙ e) in let shape = c.requires.shape c.interpolate_to_reversed.new.mat c.transform-changed.result c.in_ok-interpolate_to_reversed.ensures.whole (are.high ∙ stored, are.wide ∙ width) c.transform-changed.ensures in let same = c.in_ok-weigh_reversed_rows.ensures.rows k (shape.0 ∙ e) in let first : c.interpolate_to_reversed.new.products ≤ c.args.self.now + bound k w + 2 ^ k * w = rw (c.self.view_is, width) at (c.interpolate_to_reversed.ensures.cost k (stored ∙ e)) in let entries : height c.transform-changed.result * c.transform-changed.result.width ≡ 2 ^ k * w = ap₂ (λ (h v : ℕ). h * v) (shape.0 ∙ e) shape.1 in let last = c.extend_to_natural.ensures.cost k (same.high ∙ shape.0 ∙ e) in let wide : bound (k + a) c.weigh_reversed_rows.new.mat.width ≡ bound (k + a) w = ap (bound (k + a)) (same.wide ∙ shape.1) in within_extension bound k a w c.args.self.now c.extend_to_natural.new.products (weighed_counted _ _ _ _ _ _ _ (scaled_counted _ _ _ _ _ _ first c.weigh_reversed_rows.ensures.cost entries) last wide);
-      room = let stored = ap height c.into_row_major_matrix-mat.ensures in let are = c.in_ok-interpolate_to_reversed.ensures.coefficients c.requires.fits.log (stored ∙ c.requires.fits.high) in let shape = c.requires.shape c.interpolate_to_reversed.new.mat c.transform-changed.result c.in_ok-interpolate_to_reversed.ensures.whole (are.high ∙ stored, are.wide ∙ ap (λ (m : RowMajor g.row.F.Denot). m.width) c.into_row_major_matrix-mat.ensures) c.transform-changed.ensures in let same = c.in_ok-weigh_reversed_rows.ensures.rows c.requires.fits.log (shape.0 ∙ c.requires.fits.high) in if_within_more c.extend_to_natural.result _ _ (same_extended c.args.added_bits (same.high ∙ shape.0) (same.wide ∙ shape.1)) c.extend_to_natural.ensures.room;
+      engine = after_counting _ _ _ c.self.view_is (le_trans (le_trans c.interpolate_to_reversed.ensures.grows c.weigh_reversed_rows.ensures.grows) c.extend_to_natural.ensures.grows) (λ k. (tt, tt)) (λ k e. let a = c.args.added_bits in let m = c.into_row_major_matrix-mat.result in let bound = λ (n w : ℕ). w * (n * 2 ^ n / 2) in let stored = ap height c.into_row_major_matrix-mat.ensures in let width = ap (λ (n : RowMajor g.row.F.Denot). n.width) c.into_row_major_matrix-mat.ensures in let w = (g.N.IntoRowMajorMatrix.stored c.args.mat).width in let are = c.in_ok-interpolate_to_reversed.ensures.coefficients k (stored ∙ e) in let shape = c.requires.shape c.interpolate_to_reversed.new.mat c.transform-changed.result c.in_ok-interpolate_to_reversed.ensures.whole (are.high ∙ stored, are.wide ∙ width) c.transform-changed.ensures in let same = c.in_ok-weigh_reversed_rows.ensures.rows k (shape.0 ∙ e) in let first : c.interpolate_to_reversed.new.products ≤ c.args.self.now + bound k w + 2 ^ k * w = rw (c.self.view_is, width) at (c.interpolate_to_reversed.ensures.cost k (stored ∙ e)) in let entries : height c.transform-changed.result * c.transform-changed.result.width ≡ 2 ^ k * w = ap₂ (λ (h v : ℕ). h * v) (shape.0 ∙ e) shape.1 in let last = c.extend_to_natural.ensures.cost k (same.high ∙ shape.0 ∙ e) in let wide : bound (k + a) c.weigh_reversed_rows.new.mat.width ≡ bound (k + a) w = ap (bound (k + a)) (same.wide ∙ shape.1) in within_extension bound k a w c.args.self.now c.extend_to_natural.new.products (weighed_counted _ _ _ _ _ _ _ (scaled_counted _ _ _ _ _ _ first c.weigh_reversed_rows.ensures.cost entries) last wide)) (let stored = ap height c.into_row_major_matrix-mat.ensures in let are = c.in_ok-interpolate_to_reversed.ensures.coefficients c.requires.fits.log (stored ∙ c.requires.fits.high) in let shape = c.requires.shape c.interpolate_to_reversed.new.mat c.transform-changed.result c.in_ok-interpolate_to_reversed.ensures.whole (are.high ∙ stored, are.wide ∙ ap (λ (m : RowMajor g.row.F.Denot). m.width) c.into_row_major_matrix-mat.ensures) c.transform-changed.ensures in let same = c.in_ok-weigh_reversed_rows.ensures.rows c.requires.fits.log (shape.0 ∙ c.requires.fits.high) in if_within_more c.extend_to_natural.result _ _ (same_extended c.args.added_bits (same.high ∙ shape.0) (same.wide ∙ shape.1)) c.extend_to_natural.ensures.room);
     }

@@ -1,16 +1,15 @@
-use Rattle.std.proofs.Common.{◌≡◌, ◌*◌, ◌/◌, ◌^◌, refl, sym, ap, ◌∙◌, arith, ℕ, Ok, subst, ◌≤◌}
+use Rattle.std.proofs.Common.{◌≡◌, ◌*◌, ◌/◌, ◌^◌, refl, sym, ap, ◌∙◌, arith}
 use Rattle.std.proofs.Math.Nat.{le-add_right, le_trans}
 use Rattle.std.proofs.lemmas.Result.{IfOk-from_err, IfOk-weaker}
 use Rattle.p3_matrix.specs.BitOrder.{bit_reversal}
 use Rattle.p3_matrix.specs.RowMajor.{RowMajor, height}
 use Rattle.p3_matrix.specs.Cosets.{values_of}
 use Rattle.p3_dft.proofs.BitReversed.Coefficients.{extension_of_coefficients, extension_of_row, first_within_extension, within_extension}
-use Rattle.p3_dft.proofs.Calls.Counts.{none_more, scaled_counted, weighed_counted}
-use Rattle.p3_dft.proofs.Calls.Shapes.{fits_lde_as, input_fits, log_fits}
+use Rattle.p3_dft.proofs.Calls.Counts.{scaled_counted, weighed_counted}
+use Rattle.p3_dft.proofs.Calls.Shapes.{fewer_of_same, fits_lde_as, input_fits, log_fits, same_extended}
 use Rattle.p3_matrix.proofs.TwoPowers.{more_points}
-use Rattle.p3_dft.proofs.Calls.EngineSteps.{later_same}
+use Rattle.p3_dft.proofs.Calls.EngineSteps.{after_counting, after_none}
 use Rattle.p3_matrix.proofs.Rooms.{if_within_more, room_of}
-use Rattle.p3_dft.proofs.Calls.Shapes.{fewer_of_same, same_extended}
 use Rattle.p3_dft.proofs.radix_2_bowers.Radix2BowersTwoAdicSubgroupDft.lde_batch.Goals as goal
 
 pub interpolate_to_reversed-requires : goal.interpolate_to_reversed-requires
@@ -26,25 +25,18 @@ extend_to_natural-requires g c =
 pub overflow_add-log_h : goal.overflow_add-log_h
 overflow_add-log_h g c = omega (arith, (log_fits _ _ c.requires.fits c.log2_strict_usize-log_h.ensures.power (c.height.ensures.height ∙ ap height c.into_row_major_matrix-mat.ensures)).1)
 
-pub returns-then-log_h-added_bits-eq0 : goal.returns-then-log_h-added_bits-eq0
-returns-then-log_h-added_bits-eq0 g c =
-    record {
-      values = let none : c.log2_strict_usize-log_h.result ≡ 0 = omega (arith, c.if-log_h-added_bits-eq0.true) in let one : height c.into_row_major_matrix-mat.result ≡ 1 = sym c.height.ensures.height ∙ c.log2_strict_usize-log_h.ensures.power ∙ ap (λ n. 2 ^ n) none in rw (← c.into_row_major_matrix-mat.ensures) (extension_of_row g.F.Field g.F.TwoAdicField.generator c.into_row_major_matrix-mat.result c.args.added_bits g.F.Field.ring.one one (omega (arith, c.if-log_h-added_bits-eq0.true)));
-      one_row = λ one none. (ap Ok c.into_row_major_matrix-mat.ensures, refl);
-      later = later_same _ _;
-      cost = λ k high. none_more _ _ _ refl;
-      room = tt;
-    }
+pub returns-then-log_h-added_bits-eq0-clause-values : goal.returns-then-log_h-added_bits-eq0-clause-values
+returns-then-log_h-added_bits-eq0-clause-values g c = let none : c.log2_strict_usize-log_h.result ≡ 0 = omega (arith, c.if-log_h-added_bits-eq0.true) in let one : height c.into_row_major_matrix-mat.result ≡ 1 = sym c.height.ensures.height ∙ c.log2_strict_usize-log_h.ensures.power ∙ ap (λ n. 2 ^ n) none in rw (← c.into_row_major_matrix-mat.ensures) (extension_of_row g.F.Field g.F.TwoAdicField.generator c.into_row_major_matrix-mat.result c.args.added_bits g.F.Field.ring.one one (omega (arith, c.if-log_h-added_bits-eq0.true)))
+
+pub returns-then-log_h-added_bits-eq0-clause-engine : goal.returns-then-log_h-added_bits-eq0-clause-engine
+returns-then-log_h-added_bits-eq0-clause-engine g c = after_none _ _ (λ _ k high. (tt, tt))
 
 pub returns-in_err-interpolate_to_reversed : goal.returns-in_err-interpolate_to_reversed
 returns-in_err-interpolate_to_reversed g c =
-    let err = c.from_residual.ensures.0 in
     record {
-      values = IfOk-from_err _ _ err;
+      values = IfOk-from_err _ _ c.from_residual.ensures.0;
       one_row = λ one none. absurd (more_points _ _ _ c.log2_strict_usize-log_h.ensures.power c.if-log_h-added_bits-eq0.false (c.height.ensures.height ∙ ap height c.into_row_major_matrix-mat.ensures ∙ one) none);
-      later = record { keeps = λ k was. was; keeps_cosets = λ k s was. was; keeps_ready = λ k was. was; grows = subst (λ (b : ℕ). b ≤ c.interpolate_to_reversed.new.products) c.self.view_is c.interpolate_to_reversed.ensures.grows };
-      cost = λ k e. let width = ap (λ (m : RowMajor g.row.F.Denot). m.width) c.into_row_major_matrix-mat.ensures in let first = rw (c.self.view_is, width) at (c.interpolate_to_reversed.ensures.cost k (ap height c.into_row_major_matrix-mat.ensures ∙ e)) in first_within_extension (λ n w. w * (n * 2 ^ n / 2)) k c.args.added_bits (g.N.IntoRowMajorMatrix.stored c.args.mat).width c.args.self.now c.interpolate_to_reversed.new.products (scaled_counted _ _ _ _ _ _ first (le-add_right _ _) refl);
-      room = room_of c.from_residual.result _ _ _ c.from_residual.ensures (fewer_of_same c.args.added_bits (ap height c.into_row_major_matrix-mat.ensures) (ap (λ (m : RowMajor g.row.F.Denot). m.width) c.into_row_major_matrix-mat.ensures)) c.in_err-interpolate_to_reversed.ensures.room;
+      engine = after_counting _ _ _ c.self.view_is c.interpolate_to_reversed.ensures.grows (λ k. (tt, tt)) (λ k e. let width = ap (λ (m : RowMajor g.row.F.Denot). m.width) c.into_row_major_matrix-mat.ensures in let first = rw (c.self.view_is, width) at (c.interpolate_to_reversed.ensures.cost k (ap height c.into_row_major_matrix-mat.ensures ∙ e)) in first_within_extension (λ n w. w * (n * 2 ^ n / 2)) k c.args.added_bits (g.N.IntoRowMajorMatrix.stored c.args.mat).width c.args.self.now c.interpolate_to_reversed.new.products (scaled_counted _ _ _ _ _ _ first (le-add_right _ _) refl)) (room_of c.from_residual.result _ _ _ c.from_residual.ensures (fewer_of_same c.args.added_bits (ap height c.into_row_major_matrix-mat.ensures) (ap (λ (m : RowMajor g.row.F.Denot). m.width) c.into_row_major_matrix-mat.ensures)) c.in_err-interpolate_to_reversed.ensures.room);
     }
 
 pub returns : goal.returns
@@ -52,7 +44,5 @@ returns g c =
     record {
       values = let field = g.F.Field in let log = c.requires.fits.log in let m = c.into_row_major_matrix-mat.result in let high : height m ≡ 2 ^ log = ap height c.into_row_major_matrix-mat.ensures ∙ c.requires.fits.high in let are = c.in_ok-interpolate_to_reversed.ensures.coefficients log high in rw (← c.into_row_major_matrix-mat.ensures) (IfOk-weaker c.extend_to_natural.result _ _ (λ out given. extension_of_coefficients field g.F.TwoAdicField.generator m out (bit_reversal log (values_of field c.interpolate_to_reversed.new.mat)) c.args.added_bits log field.ring.one high are given) (c.extend_to_natural.ensures.values log (are.high ∙ high)));
       one_row = λ one none. absurd (more_points _ _ _ c.log2_strict_usize-log_h.ensures.power c.if-log_h-added_bits-eq0.false (c.height.ensures.height ∙ ap height c.into_row_major_matrix-mat.ensures ∙ one) none);
-      later = record { keeps = λ k was. was; keeps_cosets = λ k s was. was; keeps_ready = λ k was. was; grows = subst (λ (b : ℕ). b ≤ c.extend_to_natural.new.products) c.self.view_is (le_trans c.interpolate_to_reversed.ensures.grows c.extend_to_natural.ensures.grows) };
-      cost = λ k e. let width = ap (λ (m : RowMajor g.row.F.Denot). m.width) c.into_row_major_matrix-mat.ensures in let tall : height c.into_row_major_matrix-mat.result ≡ 2 ^ k = ap height c.into_row_major_matrix-mat.ensures ∙ e in let are = c.in_ok-interpolate_to_reversed.ensures.coefficients k tall in let wide : c.interpolate_to_reversed.new.mat.width ≡ (g.N.IntoRowMajorMatrix.stored c.args.mat).width = are.wide ∙ width in let first = rw (c.self.view_is, width) at (c.interpolate_to_reversed.ensures.cost k tall) in let second = rw wide at (c.extend_to_natural.ensures.cost k (are.high ∙ tall)) in within_extension (λ n w. w * (n * 2 ^ n / 2)) k c.args.added_bits (g.N.IntoRowMajorMatrix.stored c.args.mat).width c.args.self.now c.extend_to_natural.new.products (weighed_counted _ _ _ _ _ _ _ (scaled_counted _ _ _ _ _ _ first (le-add_right _ _) refl) second refl);
-      room = let are = c.in_ok-interpolate_to_reversed.ensures.coefficients c.requires.fits.log (ap height c.into_row_major_matrix-mat.ensures ∙ c.requires.fits.high) in if_within_more c.extend_to_natural.result _ _ (same_extended c.args.added_bits (are.high ∙ ap height c.into_row_major_matrix-mat.ensures) (are.wide ∙ ap (λ (m : RowMajor g.row.F.Denot). m.width) c.into_row_major_matrix-mat.ensures)) c.extend_to_natural.ensures.room;
+      engine = after_counting _ _ _ c.self.view_is (le_trans c.interpolate_to_reversed.ensures.grows c.extend_to_natural.ensures.grows) (λ k. (tt, tt)) (λ k e. let width = ap (λ (m : RowMajor g.row.F.Denot). m.width) c.into_row_major_matrix-mat.ensures in let tall : height c.into_row_major_matrix-mat.result ≡ 2 ^ k = ap height c.into_row_major_matrix-mat.ensures ∙ e in let are = c.in_ok-interpolate_to_reversed.ensures.coefficients k tall in let wide : c.interpolate_to_reversed.new.mat.width ≡ (g.N.IntoRowMajorMatrix.stored c.args.mat).width = are.wide ∙ width in let first = rw (c.self.view_is, width) at (c.interpolate_to_reversed.ensures.cost k tall) in let second = rw wide at (c.extend_to_natural.ensures.cost k (are.high ∙ tall)) in within_extension (λ n w. w * (n * 2 ^ n / 2)) k c.args.added_bits (g.N.IntoRowMajorMatrix.stored c.args.mat).width c.args.self.now c.extend_to_natural.new.products (weighed_counted _ _ _ _ _ _ _ (scaled_counted _ _ _ _ _ _ first (le-add_right _ _) refl) second refl)) (let are = c.in_ok-interpolate_to_reversed.ensures.coefficients c.requires.fits.log (ap height c.into_row_major_matrix-mat.ensures ∙ c.requires.fits.high) in if_within_more c.extend_to_natural.result _ _ (same_extended c.args.added_bits (are.high ∙ ap height c.into_row_major_matrix-mat.ensures) (are.wide ∙ ap (λ (m : RowMajor g.row.F.Denot). m.width) c.into_row_major_matrix-mat.ensures)) c.extend_to_natural.ensures.room);
     }

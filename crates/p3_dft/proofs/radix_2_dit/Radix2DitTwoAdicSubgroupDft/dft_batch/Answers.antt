@@ -1,5 +1,5 @@
-use Rattle.std.proofs.Common.{false, ◌≡◌, ℕ, ◌^◌, List, sym, ap, ap₂, ◌∙◌, subst, arith, length, ◌/◌, ◌*◌}
-use Rattle.p3_matrix.specs.RowMajor.{RowMajor, height, IsRowMajor}
+use Rattle.std.proofs.Common.{false, ◌≡◌, ◌^◌, sym, ap, ◌∙◌, arith}
+use Rattle.p3_matrix.specs.RowMajor.{height}
 use Rattle.p3_dft.specs.Engines.{EngineState}
 use Rattle.p3_dft.proofs.Calls.AtLogs.{at_log}
 use Rattle.p3_networks.specs.Twiddles.{root_powers}

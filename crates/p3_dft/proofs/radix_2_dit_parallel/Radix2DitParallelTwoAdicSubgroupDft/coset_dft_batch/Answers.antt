@@ -6,18 +6,18 @@ use Rattle.p3_matrix.specs.Cosets.{IsValues, values_of}
 use Rattle.p3_dft.specs.Transforms.{IsTransform}
 use Rattle.p3_networks.specs.Twiddles.{Coset, HasCoset}
 use Rattle.p3_dft.specs.Engines.{CosetEngineState, IsCosetPrepared}
-use Rattle.p3_dft.proofs.Calls.PreparedHeights.{not_ok}
+use Rattle.p3_dft.proofs.Calls.PreparedHeights.{not_ok, none_above}
 use Rattle.p3_dft.proofs.Calls.PreparedCosets.{coset_stays, later_with_tables, tabled}
 use Rattle.p3_dft.proofs.BitReversed.OneRow.{row_handed_back, row_seen}
 use Rattle.p3_dft.proofs.BitReversed.Rows.{transform_seen}
 use Rattle.std.proofs.lemmas.Result.{IfOk-from_err, on_ok_weaker}
-use Rattle.p3_dft.proofs.Calls.Shapes.{log_fits_dft}
+use Rattle.p3_dft.proofs.Calls.Shapes.{log_fits_dft, table_fits}
 use Rattle.p3_dft.proofs.Calls.JobLists.{on_any_error}
-use Rattle.p3_dft.proofs.Calls.EngineSteps.{later_same}
 use Rattle.p3_dft.proofs.Calls.Counts.{more_allowed, none_more, subst₃}
 use Rattle.std.proofs.Math.Nat.{le_refl}
 use Rattle.p3_matrix.proofs.Rooms.{room_of}
-use Rattle.p3_dft.proofs.Calls.Shapes.{table_fits}
+use Rattle.p3_dft.proofs.Calls.Stored.{rows_found}
+use Rattle.std.specs.Prelude.{max}
 use Rattle.p3_dft.proofs.radix_2_dit_parallel.Radix2DitParallelTwoAdicSubgroupDft.coset_dft_batch.Goals as goal
 
 not_both : (b : Bool) → b ≡ false → IsTrue b → ⊥
@@ -35,6 +35,10 @@ its_heights one (inl point) = omega (arith, point)
 its_heights one (inr (inl (same, there))) = there
 its_heights one (inr (inr (other, has))) = absurd (other one)
 
+-- and as one it is prepared, once its height is
+prepared_alone : {O P H : Type 0} (k n m : ℕ) → O → n ≡ max m k → P ⊎ ((O × (k ≤ n)) ⊎ H)
+prepared_alone k n m one made = let there : k ≤ n = omega (arith, made) in inr (inl (one, there))
+
 pub returns-then-eq : goal.returns-then-eq
 returns-then-eq g c =
     let is : g.F.Field.value c.args.shift ≡ g.F.Field.ring.one = (g.met.F.Field.eq_law c.args.shift c.ONE.result).0 (search rules) ∙ ap g.F.Field.value c.ONE.ensures ∙ g.met.F.Field.one_law in
@@ -43,8 +47,8 @@ returns-then-eq g c =
       values = subst (λ (s : field.Element). IfOk c.dft_batch.result (λ out. IsTransform field g.F.TwoAdicField.generator (g.N.IntoRowMajorMatrix.stored c.args.mat) s (reversed_rows out.bits out.physical))) (sym is) c.dft_batch.ensures.values;
       succeeds = λ k high heights ready. c.dft_batch.ensures.succeeds k high heights;
       ready = λ k high ready. c.dft_batch.ensures.succeeds k high (its_heights is ready);
-      tables = λ k high. on_ok_weaker c.dft_batch.result (λ there. inr (inl (is, there))) (c.dft_batch.ensures.serves k high);
-      only = c.dft_batch.ensures.only;
+      tables = λ k high. on_ok_weaker c.dft_batch.result (prepared_alone k _ _ is) (c.dft_batch.ensures.made k high);
+      only = λ k high. none_above (λ (e : CosetEngineState g.row.F.Denot). e.roots.prepared) c.dft_batch.result _ _ k (c.dft_batch.ensures.made k high) c.dft_batch.ensures.refused;
       roots = λ other. absurd (other is);
       once = λ k high ready. c.dft_batch.ensures.cosets;
       one = λ same. c.dft_batch.ensures.cosets;
@@ -57,42 +61,25 @@ returns-then-eq g c =
       room = c.dft_batch.ensures.room;
     }
 
-pub returns-then-height-eq1 : goal.returns-then-height-eq1
-returns-then-height-eq1 g c =
-    let m = c.into_row_major_matrix-mat.result in let one : height m ≡ 1 = sym c.height-height.ensures.height ∙ c.if-height-eq1.true in
-    let tall : c.height-height.result ≡ height (g.N.IntoRowMajorMatrix.stored c.args.mat) = c.height-height.ensures.height ∙ ap height c.into_row_major_matrix-mat.ensures in
-    record {
-      values = rw (← c.into_row_major_matrix-mat.ensures) (row_seen g.F.Field g.F.TwoAdicField.generator m c.bit_reverse_rows.result.physical (g.F.Field.value c.args.shift) c.bit_reverse_rows.result.bits c.height-height.ensures.whole one c.bit_reverse_rows.ensures.matrix c.bit_reverse_rows.ensures.height);
-      succeeds = λ k high heights ready. refl;
-      ready = λ k high ready. refl;
-      tables = λ k high. inl (log_same k 0 (sym high ∙ sym tall ∙ c.if-height-eq1.true));
-      only = λ k high. omega arith;
-      roots = λ other. refl;
-      once = λ k high ready. refl;
-      one = λ same. refl;
-      cosets = λ k high. inl refl;
-      refused = tt;
-      one_row = λ same. (row_handed_back c.bit_reverse_rows.result (g.N.IntoRowMajorMatrix.stored c.args.mat) (height c.into_row_major_matrix-mat.result) (c.bit_reverse_rows.ensures.matrix ∙ c.into_row_major_matrix-mat.ensures) c.bit_reverse_rows.ensures.height (sym c.height-height.ensures.height ∙ c.if-height-eq1.true), refl);
-      later = later_same _ _;
-      cost = λ k high. more_allowed _ _ _ (none_more _ _ _ refl);
-      pairs = λ k high. none_more _ _ _ refl;
-      room = tt;
-    }
+pub returns-then-height-eq1-clause-values : goal.returns-then-height-eq1-clause-values
+returns-then-height-eq1-clause-values g c = let m = c.into_row_major_matrix-mat.result in let one : height m ≡ 1 = sym c.height-height.ensures.height ∙ c.if-height-eq1.true in rw (← c.into_row_major_matrix-mat.ensures) (row_seen g.F.Field g.F.TwoAdicField.generator m c.bit_reverse_rows.result.physical (g.F.Field.value c.args.shift) c.bit_reverse_rows.result.bits c.height-height.ensures.whole one c.bit_reverse_rows.ensures.matrix c.bit_reverse_rows.ensures.height)
 
-pub make-requires-clause-within : goal.make-requires-clause-within
-make-requires-clause-within g c = (log_fits_dft _ _ c.requires.fits c.log2_strict_usize-log_h.ensures.power (c.height-height.ensures.height ∙ ap height c.into_row_major_matrix-mat.ensures)).0
+pub returns-then-height-eq1-clause-tables : goal.returns-then-height-eq1-clause-tables
+returns-then-height-eq1-clause-tables g c = let tall : c.height-height.result ≡ height (g.N.IntoRowMajorMatrix.stored c.args.mat) = c.height-height.ensures.height ∙ ap height c.into_row_major_matrix-mat.ensures in λ k high. inl (log_same k 0 (sym high ∙ sym tall ∙ c.if-height-eq1.true))
 
-pub make-requires-clause-small : goal.make-requires-clause-small
-make-requires-clause-small g c = (log_fits_dft _ _ c.requires.fits c.log2_strict_usize-log_h.ensures.power (c.height-height.ensures.height ∙ ap height c.into_row_major_matrix-mat.ensures)).1
+pub returns-then-height-eq1-clause-one_row : goal.returns-then-height-eq1-clause-one_row
+returns-then-height-eq1-clause-one_row g c same = (row_handed_back c.bit_reverse_rows.result (g.N.IntoRowMajorMatrix.stored c.args.mat) (height c.into_row_major_matrix-mat.result) (c.bit_reverse_rows.ensures.matrix ∙ c.into_row_major_matrix-mat.ensures) c.bit_reverse_rows.ensures.height (sym c.height-height.ensures.height ∙ c.if-height-eq1.true), refl)
 
-pub evaluate_on_coset_to_reversed-requires-clause-whole : goal.evaluate_on_coset_to_reversed-requires-clause-whole
-evaluate_on_coset_to_reversed-requires-clause-whole g c = c.height-height.ensures.whole
+pub returns-then-height-eq1-clause-cost : goal.returns-then-height-eq1-clause-cost
+returns-then-height-eq1-clause-cost g c k high = more_allowed _ _ _ (none_more _ _ _ refl)
 
-pub evaluate_on_coset_to_reversed-requires-clause-small : goal.evaluate_on_coset_to_reversed-requires-clause-small
-evaluate_on_coset_to_reversed-requires-clause-small g c = (log_fits_dft _ _ c.requires.fits c.log2_strict_usize-log_h.ensures.power (c.height-height.ensures.height ∙ ap height c.into_row_major_matrix-mat.ensures)).1
+pub make-requires : goal.make-requires
+make-requires g c =
+    let both = log_fits_dft _ _ c.requires.fits c.log2_strict_usize-log_h.ensures.power (c.height-height.ensures.height ∙ ap height c.into_row_major_matrix-mat.ensures) in
+    record { within = both.0; small = both.1 }
 
-pub evaluate_on_coset_to_reversed-requires-clause-height : goal.evaluate_on_coset_to_reversed-requires-clause-height
-evaluate_on_coset_to_reversed-requires-clause-height g c = sym c.height-height.ensures.height ∙ c.log2_strict_usize-log_h.ensures.power
+pub evaluate_on_coset_to_reversed-requires-clause-rows : goal.evaluate_on_coset_to_reversed-requires-clause-rows
+evaluate_on_coset_to_reversed-requires-clause-rows g c = rows_found _ _ _ c.height-height.ensures.whole c.height-height.ensures.height c.log2_strict_usize-log_h.ensures.power c.requires.fits (ap height c.into_row_major_matrix-mat.ensures)
 
 pub evaluate_on_coset_to_reversed-requires-clause-table : goal.evaluate_on_coset_to_reversed-requires-clause-table
 evaluate_on_coset_to_reversed-requires-clause-table g c =
@@ -141,7 +128,7 @@ returns g c =
     let width = ap (λ (m : RowMajor g.row.F.Denot). m.width) c.into_row_major_matrix-mat.ensures in
     let made = λ (xs : List (Coset g.row.F.Denot)) (n : ℕ). (c.make.new.self ≡ xs) ⊎ (c.make.new.self ≡ xs ++ record { log_h = n; shift = c.args.shift } ∷ []) in
     record {
-      values = rw (← c.into_row_major_matrix-mat.ensures, c.bit_reverse_rows-2.ensures.matrix) (transform_seen field g.F.TwoAdicField.generator m out s log c.bit_reverse_rows-2.result.bits high c.height-height.ensures.whole c.evaluate_on_coset_to_reversed.ensures.shape c.evaluate_on_coset_to_reversed.ensures.size c.bit_reverse_rows-2.ensures.height (subst (λ (x : field.Element). IsValues field.ring (λ n. field.value (g.F.TwoAdicField.generator n)) (values_of field m) log x (bit_reversal log (values_of field out))) shift_is c.evaluate_on_coset_to_reversed.ensures.values));
+      values = rw (← c.into_row_major_matrix-mat.ensures, c.bit_reverse_rows-2.ensures.matrix) (transform_seen field g.F.TwoAdicField.generator m out s log c.bit_reverse_rows-2.result.bits high c.height-height.ensures.whole c.evaluate_on_coset_to_reversed.ensures.same.shape c.evaluate_on_coset_to_reversed.ensures.same.size c.bit_reverse_rows-2.ensures.height (subst (λ (x : field.Element). IsValues field.ring (λ n. field.value (g.F.TwoAdicField.generator n)) (values_of field m) log x (bit_reversal log (values_of field out))) shift_is c.evaluate_on_coset_to_reversed.ensures.values));
       succeeds = λ k high heights ready. refl;
       ready = λ k high ready. refl;
       tables = λ k high. inr (inr (other, subst (λ (n : ℕ). HasCoset field c.make.new.self n s) (same k high) (c.in_ok-place.place, c.in_ok-place.ensures.made)));

@@ -2,18 +2,19 @@ use Rattle.std.proofs.Common.{◌≡◌, ℕ, ◌+◌, ◌-◌, ◌*◌, ◌/◌
 use Rattle.p3_matrix.specs.BitOrder.{bit_reversal}
 use Rattle.p3_matrix.specs.Blocks.{AreBlocksOf, IsPartition}
 use Rattle.p3_matrix.specs.RowMajor.{RowMajor, HasShapeOf, IsRowMajor, height}
-use Rattle.p3_matrix.proofs.RowMajor.{whole_kept}
 use Rattle.p3_matrix.proofs.TwoPowers.{log_same}
-use Rattle.p3_networks.specs.Twiddles.{AddsCosets, HasCoset, HasCosets}
+use Rattle.p3_networks.specs.Twiddles.{HasCoset}
 use Rattle.p3_dft.specs.Engines.{CosetEngineState}
 use Rattle.p3_matrix.specs.Cosets.{values_of}
 use Rattle.p3_dft.proofs.BitReversed.Coefficients.{values_of_answered}
 use Rattle.p3_dft.proofs.BitReversed.Rows.{values_seen}
 use Rattle.p3_matrix.proofs.Rows.Padding.{padded_shape, padded_whole}
 use Rattle.p3_dft.proofs.Calls.PreparedCosets.{later_with_tables}
-use Rattle.p3_dft.proofs.Calls.Shapes.{output_log_small, both_logs_fit}
+use Rattle.p3_dft.proofs.Calls.Shapes.{output_log_small, both_logs_fit, same_extended}
 use Rattle.p3_matrix.proofs.Rooms.{within_more}
-use Rattle.p3_dft.proofs.Calls.Shapes.{same_extended}
+use Rattle.p3_dft.proofs.Calls.Stored.{whole_still}
+use Rattle.p3_dft.specs.Tables.{LeavesTables}
+use Rattle.std.proofs.Math.Nat.{le_trans}
 use Rattle.p3_dft.proofs.radix_2_dit_parallel.Radix2DitParallelTwoAdicSubgroupDft.coset_lde_batch_with_blocks.Goals as goal
 
 -- an inverse with a product for each entry, and a transform for each slot
@@ -39,18 +40,19 @@ first_counted x y p w before after made =
 pub extend_reversed-extended-requires-clause-within : goal.extend_reversed-extended-requires-clause-within
 extend_reversed-extended-requires-clause-within g c = (both_logs_fit _ _ c.requires.fits c.log2_strict_usize-log_h.ensures.power (c.height.ensures.height ∙ ap height c.into_row_major_matrix-mat.ensures)).2
 
-pub extend_reversed-extended-requires-clause-small : goal.extend_reversed-extended-requires-clause-small
-extend_reversed-extended-requires-clause-small g c = (both_logs_fit _ _ c.requires.fits c.log2_strict_usize-log_h.ensures.power (c.height.ensures.height ∙ ap height c.into_row_major_matrix-mat.ensures)).3
-
-pub extend_reversed-extended-requires-clause-height : goal.extend_reversed-extended-requires-clause-height
-extend_reversed-extended-requires-clause-height g c =
+pub extend_reversed-extended-requires-clause-rows : goal.extend_reversed-extended-requires-clause-rows
+extend_reversed-extended-requires-clause-rows g c =
     let m = c.into_row_major_matrix-mat.result in
     let log = c.log2_strict_usize-log_h.result in
     let answer = c.in-Ok.ensures.answer in
     let high : height m ≡ 2 ^ log = sym c.height.ensures.height ∙ c.log2_strict_usize-log_h.ensures.power in
     let are = answer.are_coefficients log high in
     let shape : HasShapeOf answer.answered m = rw c.into_row_major_matrix-mat.ensures (c.requires.shape answer.told answer.answered answer.told_whole (rw (← c.into_row_major_matrix-mat.ensures) (are.high, are.wide)) answer.called) in
-    (padded_shape g.F.Field.ZERO m answer.answered c.in-Ok.mat c.args.added_bits log answer.answered_whole shape high answer.over_zeros).0
+    record {
+      whole = rw answer.over_zeros (padded_whole g.F.Field.ZERO answer.answered answer.answered_whole c.args.added_bits);
+      high = (padded_shape g.F.Field.ZERO m answer.answered c.in-Ok.mat c.args.added_bits log answer.answered_whole shape high answer.over_zeros).0;
+      small = (both_logs_fit _ _ c.requires.fits c.log2_strict_usize-log_h.ensures.power (c.height.ensures.height ∙ ap height c.into_row_major_matrix-mat.ensures)).3;
+    }
 
 pub bit_reverse_rows-requires : goal.bit_reverse_rows-requires
 bit_reverse_rows-requires g c =
@@ -61,7 +63,7 @@ bit_reverse_rows-requires g c =
     let are = answer.are_coefficients log high in
     let shape : HasShapeOf answer.answered m = rw c.into_row_major_matrix-mat.ensures (c.requires.shape answer.told answer.answered answer.told_whole (rw (← c.into_row_major_matrix-mat.ensures) (are.high, are.wide)) answer.called) in (
       log + c.args.added_bits,
-      c.extend_reversed-extended.ensures.shape.0 ∙ (padded_shape g.F.Field.ZERO m answer.answered c.in-Ok.mat c.args.added_bits log answer.answered_whole shape high answer.over_zeros).0,
+      c.extend_reversed-extended.ensures.same.shape.0 ∙ (padded_shape g.F.Field.ZERO m answer.answered c.in-Ok.mat c.args.added_bits log answer.answered_whole shape high answer.over_zeros).0,
     )
 
 pub block_height-block_height-requires-clause-within : goal.block_height-block_height-requires-clause-within
@@ -86,11 +88,6 @@ coefficients_with_room-room-requires-clause-callable g c = rw c.into_row_major_m
 pub coefficients_with_room-room-requires-clause-shape : goal.coefficients_with_room-room-requires-clause-shape
 coefficients_with_room-room-requires-clause-shape g c = rw c.into_row_major_matrix-mat.ensures c.requires.shape
 
-pub extend_reversed-extended-requires-clause-whole : goal.extend_reversed-extended-requires-clause-whole
-extend_reversed-extended-requires-clause-whole g c =
-    let answer = c.in-Ok.ensures.answer in
-    rw answer.over_zeros (padded_whole g.F.Field.ZERO answer.answered answer.answered_whole c.args.added_bits)
-
 pub extend_reversed-extended-requires-clause-tables : goal.extend_reversed-extended-requires-clause-tables
 extend_reversed-extended-requires-clause-tables g c = c.in-Ok.ensures.cosets c.log2_strict_usize-log_h.result (sym c.height.ensures.height ∙ c.log2_strict_usize-log_h.ensures.power)
 
@@ -106,10 +103,8 @@ returns-in-Err g c =
       unpublished = refl;
       prepared = λ k high. tt;
       tables = λ k high. tt;
-      only = λ k e. omega (arith, ap (λ (e : CosetEngineState g.row.F.Denot). e.roots.prepared) c.self.view_is, c.coefficients_with_room-room.ensures.only k (ap height c.into_row_major_matrix-mat.ensures ∙ e));
       keeps_tables = λ k s has. c.coefficients_with_room-room.ensures.keeps_cosets k s (subst (λ (x : CosetEngineState g.row.F.Denot). HasCoset g.F.Field x.cosets k s) (sym c.self.view_is) has);
-      adds_tables = λ k e. let field = g.F.Field in subst (λ (x : CosetEngineState g.row.F.Denot). AddsCosets field g.F.TwoAdicField.generator k c.args.added_bits (field.value c.args.shift) x.cosets c.coefficients_with_room-room.new.cosets) c.self.view_is (c.coefficients_with_room-room.ensures.adds k (ap height c.into_row_major_matrix-mat.ensures ∙ e));
-      once = λ k e all. let field = g.F.Field in let held = subst (λ (x : CosetEngineState g.row.F.Denot). HasCosets field g.F.TwoAdicField.generator x.cosets k c.args.added_bits (field.value c.args.shift)) (sym c.self.view_is) all in c.coefficients_with_room-room.ensures.once k (ap height c.into_row_major_matrix-mat.ensures ∙ e) held ∙ ap (λ (x : CosetEngineState g.row.F.Denot). x.cosets) c.self.view_is;
+      leaves = λ k e. subst (λ (x : CosetEngineState g.row.F.Denot). LeavesTables g.F.Field g.F.TwoAdicField.generator k c.args.added_bits (g.F.Field.value c.args.shift) x.roots.prepared c.coefficients_with_room-room.new.tables x.cosets c.coefficients_with_room-room.new.cosets) c.self.view_is (c.coefficients_with_room-room.ensures.leaves k (ap height c.into_row_major_matrix-mat.ensures ∙ e));
       later = later_with_tables g.F.Field _ _ _ c.args.self.now _ _ _ _ _ _ c.self.view_is c.coefficients_with_room-room.ensures.keeps c.coefficients_with_room-room.ensures.keeps_cosets c.coefficients_with_room-room.ensures.grows;
       cost = λ k e. let m = c.into_row_major_matrix-mat.result in let w = (g.N.IntoRowMajorMatrix.stored c.args.mat).width in let width = ap (λ (n : RowMajor g.row.F.Denot). n.width) c.into_row_major_matrix-mat.ensures in let products : c.self.inside.products ≡ c.args.self.now.roots.products = ap (λ (e : CosetEngineState g.row.F.Denot). e.roots.products) c.self.view_is in let x = k * 2 ^ k / 2 in first_counted x (2 ^ k) (2 ^ c.args.added_bits) w _ _ (subst (λ (v : ℕ). c.coefficients_with_room-room.new.products ≤ c.args.self.now.roots.products + v * x + 2 ^ k * v) width (subst (λ (b : ℕ). c.coefficients_with_room-room.new.products ≤ b + m.width * x + 2 ^ k * m.width) products (c.coefficients_with_room-room.ensures.cost k (ap height c.into_row_major_matrix-mat.ensures ∙ e))));
       room = within_more _ _ (omega (arith, same_extended c.args.added_bits (ap height c.into_row_major_matrix-mat.ensures) (ap (λ (m : RowMajor g.row.F.Denot). m.width) c.into_row_major_matrix-mat.ensures))) _ c.in-Err.ensures.room;
@@ -153,13 +148,9 @@ returns-in-Err-extended g c =
       unpublished = tt;
       prepared = λ k e. c.in-Ok.ensures.prepared k (stored ∙ e);
       tables = λ k e. c.in-Ok.ensures.cosets k (stored ∙ e);
-      only = λ k e. omega (arith, ap (λ (e : CosetEngineState g.row.F.Denot). e.roots.prepared) c.self.view_is, c.coefficients_with_room-room.ensures.only k (stored ∙ e));
       keeps_tables = λ k shift has. c.coefficients_with_room-room.ensures.keeps_cosets k shift (subst (λ (x : CosetEngineState g.row.F.Denot). HasCoset field x.cosets k shift) (sym c.self.view_is) has);
-      adds_tables = λ k e. subst (λ (x : CosetEngineState g.row.F.Denot). AddsCosets field generator k a s x.cosets c.coefficients_with_room-room.new.cosets) c.self.view_is (c.coefficients_with_room-room.ensures.adds k (stored ∙ e));
-      once = λ k e all.
-          let held = subst (λ (x : CosetEngineState g.row.F.Denot). HasCosets field generator x.cosets k a s) (sym c.self.view_is) all in
-          c.coefficients_with_room-room.ensures.once k (stored ∙ e) held ∙ ap (λ (x : CosetEngineState g.row.F.Denot). x.cosets) c.self.view_is;
-      later = later_with_tables field _ _ _ c.args.self.now _ _ _ _ _ _ c.self.view_is c.coefficients_with_room-room.ensures.keeps c.coefficients_with_room-room.ensures.keeps_cosets (omega (arith, c.coefficients_with_room-room.ensures.grows, c.extend_reversed-extended.ensures.grows));
+      leaves = λ k e. subst (λ (x : CosetEngineState g.row.F.Denot). LeavesTables field generator k a s x.roots.prepared c.coefficients_with_room-room.new.tables x.cosets c.coefficients_with_room-room.new.cosets) c.self.view_is (c.coefficients_with_room-room.ensures.leaves k (stored ∙ e));
+      later = later_with_tables field _ _ _ c.args.self.now _ _ _ _ _ _ c.self.view_is c.coefficients_with_room-room.ensures.keeps c.coefficients_with_room-room.ensures.keeps_cosets (le_trans c.coefficients_with_room-room.ensures.grows c.extend_reversed-extended.ensures.grows);
       cost = λ k e. slots_of_equal k log a _ _ _ _ _ _ _ (same k e) width grown products (c.coefficients_with_room-room.ensures.cost k (stored ∙ e)) c.extend_reversed-extended.ensures.cost;
       room = tt;
     }
@@ -186,9 +177,9 @@ returns g c =
     let out = c.extend_reversed-extended.new.mat in
     record {
       values =
-          let tall = c.extend_reversed-extended.ensures.shape.0 ∙ (padded_shape field.ZERO m answer.answered c.in-Ok.mat a log answer.answered_whole shape high answer.over_zeros).0 in
+          let tall = c.extend_reversed-extended.ensures.same.shape.0 ∙ (padded_shape field.ZERO m answer.answered c.in-Ok.mat a log answer.answered_whole shape high answer.over_zeros).0 in
           let whole : IsRowMajor c.in-Ok.mat = rw answer.over_zeros (padded_whole field.ZERO answer.answered answer.answered_whole a) in
-          let is_whole = whole_kept c.in-Ok.mat out whole c.extend_reversed-extended.ensures.shape c.extend_reversed-extended.ensures.size in
+          let is_whole = whole_still c.in-Ok.mat out whole c.extend_reversed-extended.ensures.same in
           rw (← c.into_row_major_matrix-mat.ensures, c.bit_reverse_rows.ensures.matrix)
           (values_of_answered field generator _ m answer.told answer.answered a log s _ high are answer.told_whole answer.answered_whole answer.called shape.0
           (values_seen field generator (bit_reversal log (values_of field answer.answered)) out s (log + a) c.bit_reverse_rows.result.bits is_whole tall c.bit_reverse_rows.ensures.height
@@ -206,13 +197,9 @@ returns g c =
       unpublished = tt;
       prepared = λ k e. c.in-Ok.ensures.prepared k (stored ∙ e);
       tables = λ k e. c.in-Ok.ensures.cosets k (stored ∙ e);
-      only = λ k e. omega (arith, ap (λ (e : CosetEngineState g.row.F.Denot). e.roots.prepared) c.self.view_is, c.coefficients_with_room-room.ensures.only k (stored ∙ e));
       keeps_tables = λ k shift has. c.coefficients_with_room-room.ensures.keeps_cosets k shift (subst (λ (x : CosetEngineState g.row.F.Denot). HasCoset field x.cosets k shift) (sym c.self.view_is) has);
-      adds_tables = λ k e. subst (λ (x : CosetEngineState g.row.F.Denot). AddsCosets field generator k a s x.cosets c.coefficients_with_room-room.new.cosets) c.self.view_is (c.coefficients_with_room-room.ensures.adds k (stored ∙ e));
-      once = λ k e all.
-          let held = subst (λ (x : CosetEngineState g.row.F.Denot). HasCosets field generator x.cosets k a s) (sym c.self.view_is) all in
-          c.coefficients_with_room-room.ensures.once k (stored ∙ e) held ∙ ap (λ (x : CosetEngineState g.row.F.Denot). x.cosets) c.self.view_is;
-      later = later_with_tables field _ _ _ c.args.self.now _ _ _ _ _ _ c.self.view_is c.coefficients_with_room-room.ensures.keeps c.coefficients_with_room-room.ensures.keeps_cosets (omega (arith, c.coefficients_with_room-room.ensures.grows, c.extend_reversed-extended.ensures.grows));
+      leaves = λ k e. subst (λ (x : CosetEngineState g.row.F.Denot). LeavesTables field generator k a s x.roots.prepared c.coefficients_with_room-room.new.tables x.cosets c.coefficients_with_room-room.new.cosets) c.self.view_is (c.coefficients_with_room-room.ensures.leaves k (stored ∙ e));
+      later = later_with_tables field _ _ _ c.args.self.now _ _ _ _ _ _ c.self.view_is c.coefficients_with_room-room.ensures.keeps c.coefficients_with_room-room.ensures.keeps_cosets (le_trans c.coefficients_with_room-room.ensures.grows c.extend_reversed-extended.ensures.grows);
       cost = λ k e. slots_of_equal k log a _ _ _ _ _ _ _ (same k e) width grown products (c.coefficients_with_room-room.ensures.cost k (stored ∙ e)) c.extend_reversed-extended.ensures.cost;
       room = tt;
     }

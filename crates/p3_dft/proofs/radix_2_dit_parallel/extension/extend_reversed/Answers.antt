@@ -17,7 +17,7 @@ use Rattle.p3_networks.specs.Slots.{slot_block, slot_blocks}
 use Rattle.p3_matrix.proofs.Rows.Overwritten.{written}
 use Rattle.p3_dft.proofs.BitReversed.Rows.{written_cell}
 use Rattle.p3_matrix.proofs.Rows.Padding.{cell_above}
-use Rattle.p3_matrix.proofs.RowMajor.{written_shape, written_size}
+use Rattle.p3_dft.proofs.Calls.Stored.{entries_written}
 use Rattle.p3_dft.proofs.radix_2_dit_parallel.extension.extend_reversed.Goals as goal
 
 -- blocks of a slot that begins with row 0 are those of a matrix
@@ -39,7 +39,7 @@ returns-clause-values g c =
     let start = c.values_mut.result.now in
     let wide : m.width ≡ w = sym c.width-width.ensures.width in
     let size : length after ≡ length m.values = c.extend_slots.auto.values ∙ ap length c.values_mut.ensures.values in
-    let tall = ap (λ xs. length xs / m.width) (written (length m.values) after _ size) ∙ ap (λ k. k / m.width) size ∙ c.requires.height in
+    let tall = ap (λ xs. length xs / m.width) (written (length m.values) after _ size) ∙ ap (λ k. k / m.width) size ∙ c.requires.rows.high in
     on_ok_weaker c.extend_slots.result
     (λ given upper whole high over_zeros.
     let wide_upper : upper.width ≡ w = sym (ap (λ (x : RowMajor g.row.F.Denot). x.width) over_zeros) ∙ wide in
@@ -67,7 +67,7 @@ returns-clause-published g c =
     let size : length after ≡ length m.values = c.extend_slots.auto.values ∙ ap length c.values_mut.ensures.values in
     let entries = take (length m.values) (after ++ drop (length after) m.values) in
     let values_is : entries ≡ after = written (length m.values) after (drop (length after) m.values) size in
-    let tall : length entries / m.width ≡ 2 ^ (log + a) = ap (λ xs. length xs / m.width) values_is ∙ ap (λ k. k / m.width) size ∙ c.requires.height in
+    let tall : length entries / m.width ≡ 2 ^ (log + a) = ap (λ xs. length xs / m.width) values_is ∙ ap (λ k. k / m.width) size ∙ c.requires.rows.high in
     let parts : (log + 1) / 2 + (log - (log + 1) / 2) ≡ log = omega arith in
     let blocks : 2 ^ (log + a) ≡ 2 ^ a * 2 ^ ((log + 1) / 2) * b =
     pow-add 2 log a ∙ ap (λ k. 2 ^ k * 2 ^ a) (sym parts) ∙ ap (λ k. k * 2 ^ a) (pow-add 2 ((log + 1) / 2) (log - (log + 1) / 2)) ∙ omega arith in
@@ -118,8 +118,5 @@ returns-clause-refused g c =
     ))
     c.extend_slots.ensures.refused
 
-pub returns-clause-shape : goal.returns-clause-shape
-returns-clause-shape g c = written_shape c.args.mat.now _ c.extend_slots.new.values refl refl (c.extend_slots.auto.values ∙ ap length c.values_mut.ensures.values)
-
-pub returns-clause-size : goal.returns-clause-size
-returns-clause-size g c = written_size c.args.mat.now.values c.extend_slots.new.values (c.extend_slots.auto.values ∙ ap length c.values_mut.ensures.values)
+pub returns-clause-same : goal.returns-clause-same
+returns-clause-same g c = entries_written c.args.mat.now _ c.extend_slots.new.values refl refl (c.extend_slots.auto.values ∙ ap length c.values_mut.ensures.values)

@@ -6,7 +6,7 @@ use Rattle.p3_dft.proofs.BitReversed.Rows.{reversed_cell, written_cell}
 use Rattle.p3_networks.proofs.Layers.Blocks.{row_below}
 use Rattle.p3_matrix.proofs.Polynomials.ByIndex.{poly_same}
 use Rattle.std.proofs.lemmas.Nat.{pow-add}
-use Rattle.p3_matrix.proofs.RowMajor.{written_shape, written_size}
+use Rattle.p3_dft.proofs.Calls.Stored.{entries_then, entries_written}
 use Rattle.p3_dft.proofs.radix_2_dit_parallel.network.first_of_matrix.Goals as goal
 
 pub returns-clause-values : goal.returns-clause-values
@@ -24,15 +24,9 @@ returns-clause-values g c root s roots table a t j p q l =
     ∙ c.first_half.ensures.values root s roots table a t j (rw runs p) q inside
     ∙ poly_same field.ring (2 ^ mid) _ _ (point field.ring root mid s t)
     (λ u b.
-    reversed_cell field m r c.values_mut.result.now (mid + left) w (a * 2 ^ mid + rev mid u) j c.requires.height c.width-width.ensures.width c.reverse_rows.ensures.shape
-    (c.reverse_rows.ensures.rows (mid + left) c.requires.height) c.values_mut.ensures.values (omega (arith, all, row_below a (rev mid u) (2 ^ mid) (2 ^ left) p (rev-lt mid u))) inside
+    reversed_cell field m r c.values_mut.result.now (mid + left) w (a * 2 ^ mid + rev mid u) j c.requires.rows.high c.width-width.ensures.width c.reverse_rows.ensures.shape
+    (c.reverse_rows.ensures.rows (mid + left) c.requires.rows.high) c.values_mut.ensures.values (omega (arith, all, row_below a (rev mid u) (2 ^ mid) (2 ^ left) p (rev-lt mid u))) inside
     ∙ ap (λ n. (values_of field m).entry n j) (rev-block mid left a (rev mid u) (rev-lt mid u) ∙ ap (λ n. n * 2 ^ left + rev left a) (rev-rev mid u b)))
 
-pub returns-clause-shape : goal.returns-clause-shape
-returns-clause-shape g c =
-    let kept = written_shape c.reverse_rows.new.mat _ c.first_half.new.values refl refl (c.first_half.auto.values ∙ ap length c.values_mut.ensures.values) in
-    (kept.0 ∙ c.reverse_rows.ensures.shape.0, c.reverse_rows.ensures.shape.1)
-
-pub returns-clause-size : goal.returns-clause-size
-returns-clause-size g c =
-    written_size c.reverse_rows.new.mat.values c.first_half.new.values (c.first_half.auto.values ∙ ap length c.values_mut.ensures.values) ∙ c.reverse_rows.ensures.size
+pub returns-clause-same : goal.returns-clause-same
+returns-clause-same g c = entries_then c.args.mat.now c.reverse_rows.new.mat _ c.reverse_rows.ensures.shape c.reverse_rows.ensures.size (entries_written c.reverse_rows.new.mat _ c.first_half.new.values refl refl (c.first_half.auto.values ∙ ap length c.values_mut.ensures.values))

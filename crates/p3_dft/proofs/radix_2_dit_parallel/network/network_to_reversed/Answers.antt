@@ -8,7 +8,7 @@ use Rattle.p3_matrix.specs.Polynomials.{poly}
 use Rattle.p3_networks.specs.Twiddles.{factor}
 use Rattle.p3_networks.proofs.Networks.Chunks.{halves_joined}
 use Rattle.p3_matrix.proofs.Polynomials.ByIndex.{poly_same}
-use Rattle.p3_matrix.proofs.RowMajor.{whole_kept}
+use Rattle.p3_dft.proofs.Calls.Stored.{entries_then, rows_still}
 use Rattle.p3_dft.proofs.radix_2_dit_parallel.network.network_to_reversed.Goals as goal
 
 -- fewer roots are roots
@@ -30,7 +30,7 @@ returns-clause-values g c root s roots low high r j p q =
     let below : a < 2 ^ mid = div_below r (2 ^ left) (2 ^ mid) (pow_pos left) (omega (arith, p, all)) in
     let inside : t < 2 ^ left = mod_below r (2 ^ left) (pow_pos left) in
     let x = point field.ring root left (point field.ring root (mid + left) s (rev mid a)) (rev left t) in
-    let wide : half.width ≡ m.width = c.first_of_matrix.ensures.shape.1 in
+    let wide : half.width ≡ m.width = c.first_of_matrix.ensures.same.shape.1 in
     ap (λ n. (values_of field c.second_of_matrix.new.mat).entry n j) (sym split)
     ∙ c.second_of_matrix.ensures.values root s roots high a t j below inside (omega (arith, q, wide))
     ∙ poly_same field.ring (2 ^ left) _ _ x
@@ -41,5 +41,8 @@ returns-clause-values g c root s roots low high r j p q =
 pub second_of_matrix-requires-clause-table : goal.second_of_matrix-requires-clause-table
 second_of_matrix-requires-clause-table g c = c.requires.high
 
-pub second_of_matrix-requires-clause-whole : goal.second_of_matrix-requires-clause-whole
-second_of_matrix-requires-clause-whole g c = whole_kept c.args.mat.now c.first_of_matrix.new.mat c.requires.whole c.first_of_matrix.ensures.shape c.first_of_matrix.ensures.size
+pub second_of_matrix-requires-clause-rows : goal.second_of_matrix-requires-clause-rows
+second_of_matrix-requires-clause-rows g c = rows_still c.args.mat.now c.first_of_matrix.new.mat _ c.requires.rows c.first_of_matrix.ensures.same
+
+pub returns-clause-same : goal.returns-clause-same
+returns-clause-same g c = entries_then c.args.mat.now c.first_of_matrix.new.mat c.second_of_matrix.new.mat c.first_of_matrix.ensures.same.shape c.first_of_matrix.ensures.same.size c.second_of_matrix.ensures.same

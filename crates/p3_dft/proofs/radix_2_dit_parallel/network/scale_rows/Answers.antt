@@ -4,7 +4,7 @@ use Rattle.p3_matrix.specs.Cosets.{values_of}
 use Rattle.p3_networks.specs.Twiddles.{factor}
 use Rattle.p3_networks.proofs.Layers.Blocks.{row_below}
 use Rattle.p3_matrix.proofs.Rows.Overwritten.{value_at, written}
-use Rattle.p3_matrix.proofs.RowMajor.{written_shape, written_size}
+use Rattle.p3_dft.proofs.Calls.Stored.{entries_written}
 use Rattle.p3_dft.proofs.radix_2_dit_parallel.network.scale_rows.Goals as goal
 
 pub returns-in-Some-clause-values : goal.returns-in-Some-clause-values
@@ -21,8 +21,5 @@ returns-in-Some-clause-values g c i j p q =
     ∙ ap (λ xs. field.ring.mul (field.value (get_or xs at field.ZERO)) (field.value c.in-Some.scale)) c.values_mut.ensures.values
     ∙ ap (λ s. field.ring.mul ((values_of field m).entry i j) (factor field s)) (sym c.in-Some.is)
 
-pub returns-in-Some-clause-shape : goal.returns-in-Some-clause-shape
-returns-in-Some-clause-shape g c = written_shape c.args.mat.now _ c.scale_slice_in_place.new.values refl refl (c.scale_slice_in_place.auto.values ∙ ap length c.values_mut.ensures.values)
-
-pub returns-in-Some-clause-size : goal.returns-in-Some-clause-size
-returns-in-Some-clause-size g c = written_size c.args.mat.now.values c.scale_slice_in_place.new.values (c.scale_slice_in_place.auto.values ∙ ap length c.values_mut.ensures.values)
+pub returns-in-Some-clause-same : goal.returns-in-Some-clause-same
+returns-in-Some-clause-same g c = entries_written c.args.mat.now _ c.scale_slice_in_place.new.values refl refl (c.scale_slice_in_place.auto.values ∙ ap length c.values_mut.ensures.values)

@@ -12,7 +12,11 @@ use Rattle.p3_matrix.proofs.Polynomials.ByIndex.{poly_same}
 use Rattle.p3_matrix.proofs.Polynomials.Cosets.{is_values}
 use Rattle.p3_networks.proofs.Tables.CosetTables.{coset_room, high_of_coset, low_of_coset}
 use Rattle.p3_networks.proofs.Tables.RootPowers.{fewer_roots}
+use Rattle.p3_dft.specs.Stored.{HasTwoPowerRows}
 use Rattle.p3_dft.proofs.radix_2_dit_parallel.transform.evaluate_on_coset_to_reversed.Goals as goal
+
+pub network_to_reversed-requires-clause-rows : goal.network_to_reversed-requires-clause-rows
+network_to_reversed-requires-clause-rows g c = subst (HasTwoPowerRows c.args.mat.now) (sym (halves_whole c.args.log_h)) c.requires.rows
 
 pub network_to_reversed-requires-clause-low : goal.network_to_reversed-requires-clause-low
 network_to_reversed-requires-clause-low g c =
@@ -43,8 +47,8 @@ returns-clause-values g c =
     let roots : AreRoots field.ring (mid + left) gen = fewer_roots field.ring (mid + left) _ (omega (arith, c.requires.table, c.twiddles-twiddles.ensures.within)) g.met.F.TwoAdicField.roots_law in
     let low = low_of_coset field g.F.TwoAdicField.generator s k xs mid left (omega arith) k_is table in
     let high = high_of_coset field g.F.TwoAdicField.generator s k xs mid (mid + left) (omega arith) (sym k_is) table in
-    let tall : height out ≡ height m = c.network_to_reversed.ensures.shape.0 in
-    is_values field.ring gen (values_of field m) k s (bit_reversal k (values_of field out)) (tall ∙ c.requires.height) c.network_to_reversed.ensures.shape.1
+    let tall : height out ≡ height m = c.network_to_reversed.ensures.same.shape.0 in
+    is_values field.ring gen (values_of field m) k s (bit_reversal k (values_of field out)) (tall ∙ c.requires.rows.high) c.network_to_reversed.ensures.same.shape.1
     (λ i j below inside.
     let f = λ (q : ℕ). (values_of field m).entry q j in
     let scaled = λ (q : ℕ). field.ring.mul (f q) field.ring.one in
@@ -53,7 +57,7 @@ returns-clause-values g c =
     ∙ ap (λ n. poly field.ring (2 ^ n) scaled (point field.ring gen n s (rev n (rev k i)))) k_is
     ∙ ap (λ r. poly field.ring (2 ^ k) scaled (point field.ring gen k s r)) (rev-rev k i below)
     ∙ poly_same field.ring (2 ^ k) scaled f x (λ q p. field.ring.mul_one (f q))
-    ∙ ap (λ n. poly field.ring n f x) (sym c.requires.height))
+    ∙ ap (λ n. poly field.ring n f x) (sym c.requires.rows.high))
 
 pub returns-clause-cost : goal.returns-clause-cost
 returns-clause-cost g c =

@@ -16,11 +16,11 @@ returns-clause-values g c =
     let k = c.args.log_h in
     let m = c.args.mat.now in
     let out = c.transform_to_reversed.new.mat in
-    let tall : height out ≡ height m = c.transform_to_reversed.ensures.shape.0 in
-    is_subgroup_values field.ring (λ n. field.value (gen n)) (values_of field m) k (bit_reversal k (values_of field out)) (tall ∙ c.requires.height) c.transform_to_reversed.ensures.shape.1
+    let tall : height out ≡ height m = c.transform_to_reversed.ensures.same.shape.0 in
+    is_subgroup_values field.ring (λ n. field.value (gen n)) (values_of field m) k (bit_reversal k (values_of field out)) (tall ∙ c.requires.rows.high) c.transform_to_reversed.ensures.same.shape.1
     (λ i j below inside.
     let f = λ (q : ℕ). (values_of field m).entry q j in
     c.transform_to_reversed.ensures.values (rev k i) j (rev-lt k i) inside
     ∙ ap (λ r. poly field.ring (2 ^ k) (λ q. field.ring.mul (f q) field.ring.one) (power field.ring (field.value (gen k)) r)) (rev-rev k i below)
     ∙ poly_same field.ring (2 ^ k) _ f (power field.ring (field.value (gen k)) i) (λ q p. field.ring.mul_one (f q))
-    ∙ ap (λ n. poly field.ring n f (power field.ring (field.value (gen k)) i)) (sym c.requires.height))
+    ∙ ap (λ n. poly field.ring n f (power field.ring (field.value (gen k)) i)) (sym c.requires.rows.high))

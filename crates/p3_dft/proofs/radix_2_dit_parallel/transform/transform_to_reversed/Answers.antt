@@ -9,6 +9,7 @@ use Rattle.p3_networks.proofs.Networks.CosetHalves.{halves_whole}
 use Rattle.p3_matrix.proofs.Polynomials.Cosets.{point_of_one}
 use Rattle.p3_networks.proofs.Tables.FromStart.{block_table}
 use Rattle.p3_networks.proofs.Tables.RootPowers.{are_roots, fewer_roots, low_table}
+use Rattle.p3_dft.specs.Stored.{HasTwoPowerRows}
 use Rattle.p3_dft.proofs.radix_2_dit_parallel.transform.transform_to_reversed.Goals as goal
 
 halves_below : (k n : ℕ) → k ≤ n → mid_of k ≤ mid_of n
@@ -17,8 +18,8 @@ halves_below k n below = omega (arith, below)
 pub network_to_reversed-requires-clause-low : goal.network_to_reversed-requires-clause-low
 network_to_reversed-requires-clause-low g c = (low_table g.F.Field g.F.TwoAdicField.generator c.args.inverse (mid_of c.args.log_h) _ 0 c.low.result.now (halves_below c.args.log_h _ c.requires.there) c.low.ensures.table).size
 
-pub network_to_reversed-requires-clause-height : goal.network_to_reversed-requires-clause-height
-network_to_reversed-requires-clause-height g c = c.requires.height ∙ ap (λ n. 2 ^ n) (sym (halves_whole c.args.log_h))
+pub network_to_reversed-requires-clause-rows : goal.network_to_reversed-requires-clause-rows
+network_to_reversed-requires-clause-rows g c = subst (HasTwoPowerRows c.args.mat.now) (sym (halves_whole c.args.log_h)) c.requires.rows
 
 pub network_to_reversed-requires-clause-high : goal.network_to_reversed-requires-clause-high
 network_to_reversed-requires-clause-high g c l from below = c.high.ensures.table.size l (omega (arith, below, c.requires.there))

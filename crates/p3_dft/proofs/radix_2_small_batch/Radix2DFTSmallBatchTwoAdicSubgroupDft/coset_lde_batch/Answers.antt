@@ -1,5 +1,5 @@
-use Rattle.std.proofs.Common.{◌≡◌, ℕ, ◌+◌, ◌*◌, ◌/◌, ◌<◌, ◌^◌, ◌≤◌, Result, Ok, Err, OnOk, refl, sym, ap, ap₂, ◌∙◌, subst, arith}
-use Rattle.std.proofs.lemmas.Result.{IfOk-from_err, IfOk-weaker}
+use Rattle.std.proofs.Common.{◌≡◌, ℕ, ◌+◌, ◌*◌, ◌/◌, ◌<◌, ◌^◌, ◌≤◌, refl, sym, ap, ap₂, ◌∙◌, subst, arith, ◌⊎◌}
+use Rattle.std.proofs.lemmas.Result.{IfOk-weaker}
 use Rattle.p3_field.specs.Ring.{count}
 use Rattle.p3_field.proofs.Powers.{count-power_of_two}
 use Rattle.p3_matrix.specs.BitOrder.{bit_reversal}
@@ -7,23 +7,22 @@ use Rattle.p3_matrix.specs.Matrix.{image}
 use Rattle.p3_matrix.specs.RowMajor.{RowMajor, height}
 use Rattle.p3_matrix.proofs.TwoPowers.{log_same, more_points}
 use Rattle.p3_matrix.specs.Cosets.{coset_shift, values_of}
-use Rattle.p3_dft.proofs.Calls.Shapes.{log_fits, both_none, both_logs_fit}
+use Rattle.p3_dft.proofs.Calls.Shapes.{log_fits, both_none, both_logs_fit, extended_table_fits, same_extended}
 use Rattle.p3_networks.proofs.Layers.Counts.{extension_made, fewer_than_parts}
 use Rattle.p3_matrix.proofs.Polynomials.Cosets.{coset_values}
 use Rattle.p3_dft.proofs.BitReversed.Coefficients.{extension_of_coefficients, extension_of_row}
 use Rattle.p3_matrix.proofs.Polynomials.Quotients.{shifted_quotient}
 use Rattle.p3_dft.proofs.Calls.PreparedHeights.{later_with_heights}
 use Rattle.std.proofs.Math.Nat.{le_refl, le_trans, lt_of_lt_of_le}
-use Rattle.p3_matrix.proofs.RowMajor.{whole_kept}
-use Rattle.p3_dft.proofs.Calls.EngineSteps.{later_same}
-use Rattle.p3_dft.proofs.Calls.Counts.{larger_bound, none_more}
+use Rattle.p3_dft.proofs.Calls.EngineSteps.{after_error, after_none}
+use Rattle.p3_dft.proofs.Calls.Counts.{larger_bound}
+use Rattle.p3_dft.proofs.Calls.Stored.{rows_found_lde, whole_still}
 use Rattle.p3_matrix.proofs.Rooms.{if_within_more, room_of}
-use Rattle.p3_dft.proofs.Calls.Shapes.{extended_table_fits, same_extended}
+use Rattle.std.specs.Prelude.{max}
 use Rattle.p3_dft.proofs.radix_2_small_batch.Radix2DFTSmallBatchTwoAdicSubgroupDft.coset_lde_batch.Goals as goal
 
-on_ok : {T E : Type 0} (r : Result T E) {P : Type 0} → P → OnOk r P
-on_ok (Ok x) known = known
-on_ok (Err e) known = tt
+above_none : (k log a before inside after : ℕ) → log ≡ k → inside ≡ before → (after ≡ inside) ⊎ (after ≡ log + a) → after ≤ max before (k + a)
+above_none k log a before inside after same view made = omega arith
 
 layer_within : (l k a n : ℕ) → l < k → k + a ≤ n → l < n
 layer_within l k a n below made = omega (arith, below, made)
@@ -34,23 +33,16 @@ overflow_add-log_h g c = omega (arith, (log_fits _ _ c.requires.fits c.log2_stri
 pub overflow_add-log_h-2 : goal.overflow_add-log_h-2
 overflow_add-log_h-2 g c = omega (arith, (log_fits _ _ c.requires.fits c.log2_strict_usize-log_h.ensures.power (c.height.ensures.height ∙ ap height c.into_row_major_matrix-mat.ensures)).1)
 
-pub make-requires-clause-within : goal.make-requires-clause-within
-make-requires-clause-within g c = (both_logs_fit _ _ c.requires.fits c.log2_strict_usize-log_h.ensures.power (c.height.ensures.height ∙ ap height c.into_row_major_matrix-mat.ensures)).2
-
-pub make-requires-clause-small : goal.make-requires-clause-small
-make-requires-clause-small g c = (both_logs_fit _ _ c.requires.fits c.log2_strict_usize-log_h.ensures.power (c.height.ensures.height ∙ ap height c.into_row_major_matrix-mat.ensures)).3
+pub make-requires : goal.make-requires
+make-requires g c =
+    let (within, small, all_within, all_small) = both_logs_fit _ _ c.requires.fits c.log2_strict_usize-log_h.ensures.power (c.height.ensures.height ∙ ap height c.into_row_major_matrix-mat.ensures) in
+    record { within = all_within; small = all_small }
 
 pub interpolate_unscaled_to_reversed-requires-clause-within : goal.interpolate_unscaled_to_reversed-requires-clause-within
 interpolate_unscaled_to_reversed-requires-clause-within g c = (both_logs_fit _ _ c.requires.fits c.log2_strict_usize-log_h.ensures.power (c.height.ensures.height ∙ ap height c.into_row_major_matrix-mat.ensures)).0
 
-pub interpolate_unscaled_to_reversed-requires-clause-small : goal.interpolate_unscaled_to_reversed-requires-clause-small
-interpolate_unscaled_to_reversed-requires-clause-small g c = (both_logs_fit _ _ c.requires.fits c.log2_strict_usize-log_h.ensures.power (c.height.ensures.height ∙ ap height c.into_row_major_matrix-mat.ensures)).1
-
-pub interpolate_unscaled_to_reversed-requires-clause-height : goal.interpolate_unscaled_to_reversed-requires-clause-height
-interpolate_unscaled_to_reversed-requires-clause-height g c = sym c.height.ensures.height ∙ c.log2_strict_usize-log_h.ensures.power
-
-pub interpolate_unscaled_to_reversed-requires-clause-whole : goal.interpolate_unscaled_to_reversed-requires-clause-whole
-interpolate_unscaled_to_reversed-requires-clause-whole g c = c.height.ensures.whole
+pub interpolate_unscaled_to_reversed-requires-clause-rows : goal.interpolate_unscaled_to_reversed-requires-clause-rows
+interpolate_unscaled_to_reversed-requires-clause-rows g c = rows_found_lde _ _ _ c.height.ensures.whole c.height.ensures.height c.log2_strict_usize-log_h.ensures.power c.requires.fits (ap height c.into_row_major_matrix-mat.ensures)
 
 pub interpolate_unscaled_to_reversed-requires-clause-twiddles : goal.interpolate_unscaled_to_reversed-requires-clause-twiddles
 interpolate_unscaled_to_reversed-requires-clause-twiddles g c = record { size = λ l below. c.backward-backward.ensures.table.size l (layer_within l _ _ _ below c.in_ok-make.ensures.made); entries = λ l b below inside. c.backward-backward.ensures.table.entries l b (layer_within l _ _ _ below c.in_ok-make.ensures.made) inside }
@@ -62,58 +54,52 @@ pub extend_to_natural-requires-clause-within : goal.extend_to_natural-requires-c
 extend_to_natural-requires-clause-within g c = (both_logs_fit _ _ c.requires.fits c.log2_strict_usize-log_h.ensures.power (c.height.ensures.height ∙ ap height c.into_row_major_matrix-mat.ensures)).2
 
 pub extend_to_natural-requires-clause-height : goal.extend_to_natural-requires-clause-height
-extend_to_natural-requires-clause-height g c = c.interpolate_unscaled_to_reversed.ensures.shape.0 ∙ sym c.height.ensures.height ∙ c.log2_strict_usize-log_h.ensures.power
+extend_to_natural-requires-clause-height g c = c.interpolate_unscaled_to_reversed.ensures.same.shape.0 ∙ sym c.height.ensures.height ∙ c.log2_strict_usize-log_h.ensures.power
 
 pub extend_to_natural-requires-clause-whole : goal.extend_to_natural-requires-clause-whole
 extend_to_natural-requires-clause-whole g c =
-    whole_kept c.into_row_major_matrix-mat.result c.interpolate_unscaled_to_reversed.new.mat c.height.ensures.whole c.interpolate_unscaled_to_reversed.ensures.shape c.interpolate_unscaled_to_reversed.ensures.size
+    whole_still c.into_row_major_matrix-mat.result c.interpolate_unscaled_to_reversed.new.mat c.height.ensures.whole c.interpolate_unscaled_to_reversed.ensures.same
 
 pub extend_to_natural-requires-clause-twiddles : goal.extend_to_natural-requires-clause-twiddles
 extend_to_natural-requires-clause-twiddles g c = record { size = λ l below. c.forward-forward.ensures.table.size l (lt_of_lt_of_le below c.in_ok-make.ensures.made); entries = λ l b below inside. c.forward-forward.ensures.table.entries l b (lt_of_lt_of_le below c.in_ok-make.ensures.made) inside }
 
 pub extend_to_natural-requires-clause-room : goal.extend_to_natural-requires-clause-room
 extend_to_natural-requires-clause-room g c =
-    let same : c.log2_strict_usize-log_h.result ≡ c.requires.fits.log = log_same _ _ (sym c.log2_strict_usize-log_h.ensures.power ∙ c.height.ensures.height ∙ ap height c.into_row_major_matrix-mat.ensures ∙ c.requires.fits.high) in let entries = ap₂ (λ w n. w * 2 ^ (n + c.args.added_bits)) (c.interpolate_unscaled_to_reversed.ensures.shape.1 ∙ ap (λ (n : RowMajor g.row.F.Denot). n.width) c.into_row_major_matrix-mat.ensures) same in
+    let same : c.log2_strict_usize-log_h.result ≡ c.requires.fits.log = log_same _ _ (sym c.log2_strict_usize-log_h.ensures.power ∙ c.height.ensures.height ∙ ap height c.into_row_major_matrix-mat.ensures ∙ c.requires.fits.high) in let entries = ap₂ (λ w n. w * 2 ^ (n + c.args.added_bits)) (c.interpolate_unscaled_to_reversed.ensures.same.shape.1 ∙ ap (λ (n : RowMajor g.row.F.Denot). n.width) c.into_row_major_matrix-mat.ensures) same in
     subst (λ (n : ℕ). n < 2 ^ 64) (sym entries) c.requires.fits.size
 
-pub returns-then-log_h-added_bits-eq0 : goal.returns-then-log_h-added_bits-eq0
-returns-then-log_h-added_bits-eq0 g c =
-    let log = c.log2_strict_usize-log_h.result in let none = both_none log c.args.added_bits c.if-log_h-added_bits-eq0.true in
-    record {
-      values = rw (← c.into_row_major_matrix-mat.ensures) (extension_of_row g.F.Field g.F.TwoAdicField.generator c.into_row_major_matrix-mat.result c.args.added_bits (g.F.Field.value c.args.shift) (sym c.height.ensures.height ∙ c.log2_strict_usize-log_h.ensures.power ∙ ap (λ n. 2 ^ n) none.0) none.1);
-      serves = λ k high. let same : k ≡ 0 = sym (log_same log k (sym c.log2_strict_usize-log_h.ensures.power ∙ (c.height.ensures.height ∙ ap height c.into_row_major_matrix-mat.ensures) ∙ high)) ∙ none.0 in (omega (arith, same), omega (arith, same, none.1));
-      one_row = λ one no_bits. (ap Ok c.into_row_major_matrix-mat.ensures, refl);
-      only = λ k high. omega arith;
-      later = later_same _ _;
-      cost = λ k high. none_more _ _ _ refl;
-      fewer = λ k high. none_more _ _ _ refl;
-      room = tt;
-    }
+pub returns-then-log_h-added_bits-eq0-clause-values : goal.returns-then-log_h-added_bits-eq0-clause-values
+returns-then-log_h-added_bits-eq0-clause-values g c = let log = c.log2_strict_usize-log_h.result in let none = both_none log c.args.added_bits c.if-log_h-added_bits-eq0.true in rw (← c.into_row_major_matrix-mat.ensures) (extension_of_row g.F.Field g.F.TwoAdicField.generator c.into_row_major_matrix-mat.result c.args.added_bits (g.F.Field.value c.args.shift) (sym c.height.ensures.height ∙ c.log2_strict_usize-log_h.ensures.power ∙ ap (λ n. 2 ^ n) none.0) none.1)
 
-pub returns-in_err-make : goal.returns-in_err-make
-returns-in_err-make g c =
-    let err = c.from_residual.ensures.0 in let products : c.self.inside.products ≡ c.args.self.now.products = ap (λ e. e.products) c.self.view_is in
-    record {
-      values = IfOk-from_err _ _ err;
-      serves = λ k high. IfOk-from_err _ _ err;
-      one_row = λ one none. absurd (more_points c.height.result c.log2_strict_usize-log_h.result c.args.added_bits c.log2_strict_usize-log_h.ensures.power c.if-log_h-added_bits-eq0.false (c.height.ensures.height ∙ ap height c.into_row_major_matrix-mat.ensures ∙ one) none);
-      only = λ k high. let log = c.log2_strict_usize-log_h.result in let same : log ≡ k = log_same log k (sym c.log2_strict_usize-log_h.ensures.power ∙ c.height.ensures.height ∙ ap height c.into_row_major_matrix-mat.ensures ∙ high) in omega (arith, same, ap (λ e. e.prepared) c.self.view_is, c.make.ensures.only);
-      later = later_with_heights _ _ _ c.args.self.now _ _ _ _ c.self.view_is c.make.ensures.keeps (le_refl c.self.inside.products);
-      cost = λ k high. none_more _ _ _ products;
-      fewer = λ k high. none_more _ _ _ products;
-      room = room_of c.from_residual.result _ _ _ c.from_residual.ensures (extended_table_fits _ c.requires.fits (sym (ap height c.into_row_major_matrix-mat.ensures) ∙ sym c.height.ensures.height ∙ c.log2_strict_usize-log_h.ensures.power)) c.in_err-make.ensures.room;
-    }
+pub returns-then-log_h-added_bits-eq0-clause-engine : goal.returns-then-log_h-added_bits-eq0-clause-engine
+returns-then-log_h-added_bits-eq0-clause-engine g c = let log = c.log2_strict_usize-log_h.result in let none = both_none log c.args.added_bits c.if-log_h-added_bits-eq0.true in after_none _ _ (λ _ k high. let same : k ≡ 0 = sym (log_same log k (sym c.log2_strict_usize-log_h.ensures.power ∙ (c.height.ensures.height ∙ ap height c.into_row_major_matrix-mat.ensures) ∙ high)) ∙ none.0 in (omega (arith, same), omega (arith, same, none.1)))
 
-pub returns : goal.returns
-returns g c =
-    let fewer : (k : ℕ) → height (g.N.IntoRowMajorMatrix.stored c.args.mat) ≡ 2 ^ k → c.extend_to_natural.new.products ≤ c.args.self.now.products + (g.N.IntoRowMajorMatrix.stored c.args.mat).width * (k * 2 ^ k / 2 * (1 + 2 ^ c.args.added_bits) + 2 ^ (k + c.args.added_bits)) = λ k high. let log = c.log2_strict_usize-log_h.result in let a = c.args.added_bits in let w = c.into_row_major_matrix-mat.result.width in let x = log * 2 ^ log / 2 in let same : log ≡ k = log_same log k (sym c.log2_strict_usize-log_h.ensures.power ∙ c.height.ensures.height ∙ ap height c.into_row_major_matrix-mat.ensures ∙ high) in let products : c.self.inside.products ≡ c.args.self.now.products = ap (λ e. e.products) c.self.view_is in let second : c.extend_to_natural.new.products ≤ c.interpolate_unscaled_to_reversed.new.products + w * (2 ^ a * x + 2 ^ (log + a)) = subst (λ (v : ℕ). c.extend_to_natural.new.products ≤ c.interpolate_unscaled_to_reversed.new.products + v * (2 ^ a * x + 2 ^ (log + a))) c.interpolate_unscaled_to_reversed.ensures.shape.1 c.extend_to_natural.ensures.cost in let all = extension_made x (2 ^ (log + a)) (2 ^ a) w c.self.inside.products c.interpolate_unscaled_to_reversed.new.products c.extend_to_natural.new.products c.interpolate_unscaled_to_reversed.ensures.cost second in rw (← products, ← c.into_row_major_matrix-mat.ensures, ← same) all in
-    record {
-      values = let field = g.F.Field in let log = c.log2_strict_usize-log_h.result in let m = c.into_row_major_matrix-mat.result in let a = c.args.added_bits in let s = field.value c.args.shift in let inverse = field.value c.div_2exp_u64-scale.result in let high : height m ≡ 2 ^ log = sym c.height.ensures.height ∙ c.log2_strict_usize-log_h.ensures.power in let multiples = bit_reversal log (values_of field c.interpolate_unscaled_to_reversed.new.mat) in let shifted = image (λ x. field.ring.mul x inverse) (coset_shift field.ring s multiples) in let undone : field.ring.mul (count field.ring (2 ^ log)) inverse ≡ field.ring.one = ap (λ x. field.ring.mul x inverse) (count-power_of_two field.ring log) ∙ c.div_2exp_u64-scale.ensures ∙ ap field.value c.ONE.ensures ∙ g.met.F.Field.one_law in let (d, quotient, on_coset) = shifted_quotient field.ring (2 ^ log) inverse s multiples shifted undone (record { high = refl; wide = refl; alike = λ i j p q. refl }) in rw (← c.into_row_major_matrix-mat.ensures) (IfOk-weaker c.extend_to_natural.result _ _ (λ out given. extension_of_coefficients field g.F.TwoAdicField.generator m out d a log s high (c.interpolate_unscaled_to_reversed.ensures.coefficients d quotient) (coset_values field.ring (λ n. field.value (g.F.TwoAdicField.generator n)) d shifted (log + a) s (values_of field out) on_coset given)) c.extend_to_natural.ensures.values);
-      serves = λ k high. let log = c.log2_strict_usize-log_h.result in let same : log ≡ k = log_same log k (sym c.log2_strict_usize-log_h.ensures.power ∙ c.height.ensures.height ∙ ap height c.into_row_major_matrix-mat.ensures ∙ high) in on_ok c.extend_to_natural.result (omega (arith, same, c.in_ok-make.ensures.made), omega (arith, same, c.in_ok-make.ensures.made));
-      one_row = λ one none. absurd (more_points c.height.result c.log2_strict_usize-log_h.result c.args.added_bits c.log2_strict_usize-log_h.ensures.power c.if-log_h-added_bits-eq0.false (c.height.ensures.height ∙ ap height c.into_row_major_matrix-mat.ensures ∙ one) none);
-      only = λ k high. let log = c.log2_strict_usize-log_h.result in let same : log ≡ k = log_same log k (sym c.log2_strict_usize-log_h.ensures.power ∙ c.height.ensures.height ∙ ap height c.into_row_major_matrix-mat.ensures ∙ high) in omega (arith, same, ap (λ e. e.prepared) c.self.view_is, c.make.ensures.only);
-      later = later_with_heights _ _ _ c.args.self.now _ _ _ _ c.self.view_is c.make.ensures.keeps (le_trans c.interpolate_unscaled_to_reversed.ensures.grows c.extend_to_natural.ensures.grows);
-      cost = λ k high. larger_bound _ _ _ _ (fewer k high) (fewer_than_parts k c.args.added_bits _);
-      fewer = fewer;
-      room = let shape = c.interpolate_unscaled_to_reversed.ensures.shape in if_within_more c.extend_to_natural.result _ _ (same_extended c.args.added_bits (shape.0 ∙ ap height c.into_row_major_matrix-mat.ensures) (shape.1 ∙ ap (λ (m : RowMajor g.row.F.Denot). m.width) c.into_row_major_matrix-mat.ensures)) c.extend_to_natural.ensures.room;
-    }
+pub returns-in_err-make-clause-one_row : goal.returns-in_err-make-clause-one_row
+returns-in_err-make-clause-one_row g c = λ one none. absurd (more_points c.height.result c.log2_strict_usize-log_h.result c.args.added_bits c.log2_strict_usize-log_h.ensures.power c.if-log_h-added_bits-eq0.false (c.height.ensures.height ∙ ap height c.into_row_major_matrix-mat.ensures ∙ one) none)
+
+pub returns-in_err-make-clause-only : goal.returns-in_err-make-clause-only
+returns-in_err-make-clause-only g c k high = above_none k _ _ _ _ _ (log_same c.log2_strict_usize-log_h.result k (sym c.log2_strict_usize-log_h.ensures.power ∙ c.height.ensures.height ∙ ap height c.into_row_major_matrix-mat.ensures ∙ high)) (ap (λ e. e.prepared) c.self.view_is) c.make.ensures.only
+
+pub returns-in_err-make-clause-engine : goal.returns-in_err-make-clause-engine
+returns-in_err-make-clause-engine g c = after_error _ _ _ _ c.from_residual.ensures.0 (later_with_heights _ _ _ c.args.self.now _ _ _ _ c.self.view_is c.make.ensures.keeps (le_refl c.self.inside.products)) (ap (λ e. e.products) c.self.view_is)
+    (room_of c.from_residual.result _ _ _ c.from_residual.ensures (omega (arith, extended_table_fits _ c.requires.fits (sym (ap height c.into_row_major_matrix-mat.ensures) ∙ sym c.height.ensures.height ∙ c.log2_strict_usize-log_h.ensures.power))) c.in_err-make.ensures.room)
+
+pub returns-clause-values : goal.returns-clause-values
+returns-clause-values g c = let field = g.F.Field in let log = c.log2_strict_usize-log_h.result in let m = c.into_row_major_matrix-mat.result in let a = c.args.added_bits in let s = field.value c.args.shift in let inverse = field.value c.div_2exp_u64-scale.result in let high : height m ≡ 2 ^ log = sym c.height.ensures.height ∙ c.log2_strict_usize-log_h.ensures.power in let multiples = bit_reversal log (values_of field c.interpolate_unscaled_to_reversed.new.mat) in let shifted = image (λ x. field.ring.mul x inverse) (coset_shift field.ring s multiples) in let undone : field.ring.mul (count field.ring (2 ^ log)) inverse ≡ field.ring.one = ap (λ x. field.ring.mul x inverse) (count-power_of_two field.ring log) ∙ c.div_2exp_u64-scale.ensures ∙ ap field.value c.ONE.ensures ∙ g.met.F.Field.one_law in let (d, quotient, on_coset) = shifted_quotient field.ring (2 ^ log) inverse s multiples shifted undone (record { high = refl; wide = refl; alike = λ i j p q. refl }) in rw (← c.into_row_major_matrix-mat.ensures) (IfOk-weaker c.extend_to_natural.result _ _ (λ out given. extension_of_coefficients field g.F.TwoAdicField.generator m out d a log s high (c.interpolate_unscaled_to_reversed.ensures.coefficients d quotient) (coset_values field.ring (λ n. field.value (g.F.TwoAdicField.generator n)) d shifted (log + a) s (values_of field out) on_coset given)) c.extend_to_natural.ensures.values)
+
+pub returns-clause-one_row : goal.returns-clause-one_row
+returns-clause-one_row g c = λ one none. absurd (more_points c.height.result c.log2_strict_usize-log_h.result c.args.added_bits c.log2_strict_usize-log_h.ensures.power c.if-log_h-added_bits-eq0.false (c.height.ensures.height ∙ ap height c.into_row_major_matrix-mat.ensures ∙ one) none)
+
+pub returns-clause-only : goal.returns-clause-only
+returns-clause-only g c k high = above_none k _ _ _ _ _ (log_same c.log2_strict_usize-log_h.result k (sym c.log2_strict_usize-log_h.ensures.power ∙ c.height.ensures.height ∙ ap height c.into_row_major_matrix-mat.ensures ∙ high)) (ap (λ e. e.prepared) c.self.view_is) c.make.ensures.only
+
+pub returns-clause-fewer : goal.returns-clause-fewer
+returns-clause-fewer g c k high = let log = c.log2_strict_usize-log_h.result in let a = c.args.added_bits in let w = c.into_row_major_matrix-mat.result.width in let x = log * 2 ^ log / 2 in let same : log ≡ k = log_same log k (sym c.log2_strict_usize-log_h.ensures.power ∙ c.height.ensures.height ∙ ap height c.into_row_major_matrix-mat.ensures ∙ high) in let products : c.self.inside.products ≡ c.args.self.now.products = ap (λ e. e.products) c.self.view_is in let second : c.extend_to_natural.new.products ≤ c.interpolate_unscaled_to_reversed.new.products + w * (2 ^ a * x + 2 ^ (log + a)) = subst (λ (v : ℕ). c.extend_to_natural.new.products ≤ c.interpolate_unscaled_to_reversed.new.products + v * (2 ^ a * x + 2 ^ (log + a))) c.interpolate_unscaled_to_reversed.ensures.same.shape.1 c.extend_to_natural.ensures.cost in let all = extension_made x (2 ^ (log + a)) (2 ^ a) w c.self.inside.products c.interpolate_unscaled_to_reversed.new.products c.extend_to_natural.new.products c.interpolate_unscaled_to_reversed.ensures.cost second in rw (← products, ← c.into_row_major_matrix-mat.ensures, ← same) all
+
+pub returns-clause-engine : goal.returns-clause-engine
+returns-clause-engine g c = record {
+  later = later_with_heights _ _ _ c.args.self.now _ _ _ _ c.self.view_is c.make.ensures.keeps (le_trans c.interpolate_unscaled_to_reversed.ensures.grows c.extend_to_natural.ensures.grows);
+  ready = λ done k high. let same = log_same c.log2_strict_usize-log_h.result k (sym c.log2_strict_usize-log_h.ensures.power ∙ c.height.ensures.height ∙ ap height c.into_row_major_matrix-mat.ensures ∙ high) in (omega (arith, same, c.in_ok-make.ensures.made), omega (arith, same, c.in_ok-make.ensures.made));
+  cost = λ k high. larger_bound _ _ _ _ (returns-clause-fewer g c k high) (fewer_than_parts k c.args.added_bits _);
+  refused = let shape = c.interpolate_unscaled_to_reversed.ensures.same.shape in if_within_more c.extend_to_natural.result _ _ (omega (arith, same_extended c.args.added_bits (shape.0 ∙ ap height c.into_row_major_matrix-mat.ensures) (shape.1 ∙ ap (λ (m : RowMajor g.row.F.Denot). m.width) c.into_row_major_matrix-mat.ensures))) c.extend_to_natural.ensures.room;
+}

@@ -1,0 +1,29 @@
+-- Matrices of a power of two of rows, and what work in place leaves of them.
+use Rattle.std.proofs.Common.{◌≡◌, ℕ, ◌^◌, ◌++◌, List, length, take, drop, sym, ap, ◌∙◌}
+use Rattle.p3_matrix.specs.RowMajor.{HasShapeOf, IsRowMajor, RowMajor, height}
+use Rattle.p3_matrix.proofs.RowMajor.{whole_kept, written_shape, written_size}
+use Rattle.p3_dft.specs.Shapes.{FitsDft, FitsLde}
+use Rattle.p3_dft.specs.Stored.{HasEntriesOf, HasTwoPowerRows}
+use Rattle.p3_dft.proofs.Calls.Shapes.{both_logs_fit, log_fits_dft}
+
+module _ {T : Type 0} (m : RowMajor T) (tall log : ℕ) (whole : IsRowMajor m) (is : tall ≡ height m) (power : tall ≡ 2 ^ log) where
+  -- a matrix whose shape fits, with the logarithm that a program found of its height
+  pub rows_found : {most h w : ℕ} → FitsDft most h w → height m ≡ h → HasTwoPowerRows m log
+  rows_found fits same = record { whole = whole; high = sym is ∙ power; small = (log_fits_dft tall log fits power (is ∙ same)).1 }
+
+  pub rows_found_lde : {most h w a : ℕ} → FitsLde most h w a → height m ≡ h → HasTwoPowerRows m log
+  rows_found_lde fits same = record { whole = whole; high = sym is ∙ power; small = (both_logs_fit tall log fits power (is ∙ same)).1 }
+
+-- all entries were written anew
+pub entries_written : {T : Type 0} (m out : RowMajor T) (ys : List T) → out.width ≡ m.width → out.values ≡ take (length m.values) (ys ++ drop (length ys) m.values) → length ys ≡ length m.values → HasEntriesOf out m
+entries_written m out ys wide is size = record { shape = written_shape m out ys wide is size; size = ap length is ∙ written_size m.values ys size }
+
+-- and so they were of a matrix that had as many as another
+pub entries_then : {T U V : Type 0} (a : RowMajor T) (b : RowMajor U) (out : RowMajor V) → HasShapeOf b a → length b.values ≡ length a.values → HasEntriesOf out b → HasEntriesOf out a
+entries_then a b out shape size last = record { shape = (last.shape.0 ∙ shape.0, last.shape.1 ∙ shape.1); size = last.size ∙ size }
+
+pub whole_still : {T U : Type 0} (m : RowMajor T) (out : RowMajor U) → IsRowMajor m → HasEntriesOf out m → IsRowMajor out
+whole_still m out whole same = whole_kept m out whole same.shape same.size
+
+pub rows_still : {T U : Type 0} (m : RowMajor T) (out : RowMajor U) (k : ℕ) → HasTwoPowerRows m k → HasEntriesOf out m → HasTwoPowerRows out k
+rows_still m out k rows same = record { whole = whole_still m out rows.whole same; high = same.shape.0 ∙ rows.high; small = rows.small }
