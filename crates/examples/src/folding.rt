@@ -171,6 +171,13 @@ pub fn fold<F: TwoAdicField>(
     fold_rows(values, layout, half, &factors)
 }
 
+/// Whether the difference of two challenges has an inverse, which `fold_twice` asks.
+pub fn are_apart<F: Field>(beta: F, gamma: F) -> bool
+    ensures { IsTrue result ↔ IsInvertible F.ring (minus F.ring (F.value beta) (F.value gamma)) }
+{
+    (beta - gamma).try_inverse().is_some()
+}
+
 /// The foldings with two challenges, whose difference has an inverse: they determine the values, and where both have
 /// few coefficients, the values have at most twice as many.
 pub fn fold_twice<F: TwoAdicField>(
