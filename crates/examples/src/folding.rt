@@ -193,10 +193,12 @@ pub fn fold_twice<F: TwoAdicField>(
     requires apart { IsInvertible F.ring (minus F.ring (F.value beta) (F.value gamma)) }
     ensures first { IfOk result (λ out. (k : ℕ) → height values.now ≡ 2 ^ suc k
         → AreFoldedRows F.ring (λ n. F.value (F.generator n)) (F.value beta) k (F.value shift)
-        (arrangement layout (suc k) (values_of F.Field.own values.now)) (arrangement layout k (values_of F.Field.own out.0))) }
+        (arrangement layout (suc k) (values_of F.Field.own values.now))
+        (arrangement layout k (values_of F.Field.own out.0))) }
     ensures second { IfOk result (λ out. (k : ℕ) → height values.now ≡ 2 ^ suc k
         → AreFoldedRows F.ring (λ n. F.value (F.generator n)) (F.value gamma) k (F.value shift)
-        (arrangement layout (suc k) (values_of F.Field.own values.now)) (arrangement layout k (values_of F.Field.own out.1))) }
+        (arrangement layout (suc k) (values_of F.Field.own values.now))
+        (arrangement layout k (values_of F.Field.own out.1))) }
     ensures determined { IfOk result (λ out. (k : ℕ) (other : Matrix F.Element) → height values.now ≡ 2 ^ suc k
         → other.height ≡ 2 ^ suc k
         → AreFoldedRows F.ring (λ n. F.value (F.generator n)) (F.value beta) k (F.value shift) other
