@@ -65,8 +65,8 @@ impl<F: TwoAdicField> TwoAdicSubgroupDft<F> for LimitedDft {
 
     // It asks for more memory than there is, which it has to say.
     ghost facts = { record (plain_facts (λ _ _. ⊥) (λ _ _ _. ⊤) (λ _ _. ⊤) (λ k w. 2 ^ k * 2 ^ k * w) (λ e. e.sums)) {
-          more_room = λ e. 2 ^ 64;
-        } };
+      more_room = λ e. 2 ^ 64;
+    } };
 
     ghost laws = { record {
       power_of_two = λ k a. (k + a, Prim.search (rules), refl);
