@@ -41,7 +41,7 @@ returns-clause-one g c =
     c.args.added_bits (g.F.Field.value c.args.shift) _ _ c.in_ok-made.made.rows.physical c.in_ok-again.again.rows.physical c.requires
     c.height-whole.ensures.whole (sym c.height-whole.ensures.height ∙ c.height-whole.ensures.power)
     c.height-whole_too.ensures.whole (sym c.height-whole_too.ensures.height ∙ c.height-whole_too.ensures.power)
-    c.in_ok-made.ensures.extension (rw (sym c.in_ok-copy.ensures) c.in_ok-again.ensures.extension)
+    c.in_ok-made.ensures.extension (rw (sym c.in_ok-copy.ensures.copy) c.in_ok-again.ensures.extension)
     ∙ sym c.in_ok-again.ensures.root
 
 pub returns-clause-root : goal.returns-clause-root

@@ -16,7 +16,7 @@ returns-in-Ok-clause-recorded g c = λ k e.
     let tall = physical_height g.F.Field c.in-Ok.out.bits (k + a) out _ c.height-whole.ensures.whole (sym c.height-whole.ensures.height ∙ c.height-whole.ensures.power) refl (x.extended k e).high in
     let rows : c.extended_height-rows.result ≡ 2 ^ (k + a) = c.extended_height-rows.ensures.height ∙ ap (λ h. h * 2 ^ a) (c.height.ensures.height ∙ e) ∙ sym (pow-add 2 k a) in
     all_recorded _ b out c.in-Ok.recorder _ _
-    (λ r made. let same : r ≡ c.in_ok-recorder.recorder = search of_calls in same ∙ c.in_ok-recorder.ensures)
+    (λ r made. let same : r ≡ c.in_ok-recorder.recorder = search of_calls in same ∙ c.in_ok-recorder.ensures.made)
     (rw rows (omega (arith, tall, div-le_self (height out) b)))
     (rw (rows, c.width-2.ensures.width, tall, wide) (omega arith))
     (c.in-Ok.ensures.published k e)
