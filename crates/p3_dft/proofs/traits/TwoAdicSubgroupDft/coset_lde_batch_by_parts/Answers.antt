@@ -1,4 +1,4 @@
-use Rattle.std.proofs.Common.{◌∙◌, arith, ℕ, ◌≡◌, ◌^◌, refl}
+use Rattle.std.proofs.Common.{◌∙◌, arith, ℕ, ◌≡◌, ◌^◌}
 use Rattle.std.proofs.lemmas.Result.{IfOk-weaker}
 use Rattle.p3_dft.proofs.Calls.ExtendedTransforms.{answered_shape, extension_of_parts}
 use Rattle.p3_matrix.proofs.Rooms.{room_of}
