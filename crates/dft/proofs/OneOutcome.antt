@@ -19,7 +19,7 @@ use Rattle.dft.specs.declared.fault.Fault.{Fault}
 use Rattle.dft.specs.declared.fault.Stopped.{Stopped}
 use Rattle.dft.specs.declared.fault.Stopped.TheVariants.{OutOfMemory}
 use Rattle.dft.specs.declared.names.FieldName.{FieldName}
-use Rattle.dft.specs.declared.names.FieldName.TheVariants.{BabyBear, Goldilocks}
+use Rattle.dft.specs.declared.names.FieldName.TheVariants.{BabyBear, Goldilocks, WideGoldilocks}
 use Rattle.dft.specs.declared.names.Operation.{Operation}
 use Rattle.dft.specs.declared.program.Request.{Request}
 use Rattle.dft.specs.Answers.{IsText, asked_job}
@@ -96,10 +96,12 @@ goldilocks_roots = roots_law goldilocks_ring goldilocks_root 32 (residue-eq _ _ 
 one_in : (name : FieldName) (operation : Operation) (words : List (List ℕ)) (o p : Outcome) → IsOutcomeIn name operation words o → IsOutcomeIn name operation words p → o ≡ p
 one_in BabyBear operation words o p x y = one_over baby_bear baby_bear_roots residue-eq operation words (arguments baby_bear operation words) o p refl x y
 one_in Goldilocks operation words o p x y = one_over goldilocks goldilocks_roots residue-eq operation words (arguments goldilocks operation words) o p refl x y
+one_in WideGoldilocks operation words o p x y = one_over goldilocks goldilocks_roots residue-eq operation words (arguments goldilocks operation words) o p refl x y
 
 some_in : (name : FieldName) (operation : Operation) (words : List (List ℕ)) → (o : Outcome) × IsOutcomeIn name operation words o
 some_in BabyBear operation words = some_over baby_bear baby_bear_roots residue-eq operation words (arguments baby_bear operation words) refl
 some_in Goldilocks operation words = some_over goldilocks goldilocks_roots residue-eq operation words (arguments goldilocks operation words) refl
+some_in WideGoldilocks operation words = some_over goldilocks goldilocks_roots residue-eq operation words (arguments goldilocks operation words) refl
 
 abbrev IsAskedOutcome : Result Request Fault → List (List ℕ) → Outcome → Type 0
 IsAskedOutcome r words o = FaultOr r (λ request. IsOutcomeIn request.field request.operation words) o

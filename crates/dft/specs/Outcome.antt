@@ -8,7 +8,7 @@ use Rattle.dft.specs.declared.fault.Fault.TheVariants.{UnknownField, UnknownEngi
 use Rattle.dft.specs.declared.fault.Stopped.{Stopped}
 use Rattle.dft.specs.declared.fault.Stopped.TheVariants.{ByFault, OutOfMemory}
 use Rattle.dft.specs.declared.names.FieldName.{FieldName}
-use Rattle.dft.specs.declared.names.FieldName.TheVariants.{BabyBear, Goldilocks}
+use Rattle.dft.specs.declared.names.FieldName.TheVariants.{BabyBear, Goldilocks, WideGoldilocks}
 use Rattle.dft.specs.declared.names.Operation.{Operation}
 use Rattle.dft.specs.declared.program.Request.{Request}
 use Rattle.dft.specs.Answers.{IsText, asked_job}
@@ -56,6 +56,7 @@ IsOutcomeOver f operation words o = FaultOr (arguments f operation words) (IsAns
 abbrev pub IsOutcomeIn : FieldName → Operation → List (List ℕ) → Outcome → Type 0
 IsOutcomeIn BabyBear operation words o = IsOutcomeOver baby_bear operation words o
 IsOutcomeIn Goldilocks operation words o = IsOutcomeOver goldilocks operation words o
+IsOutcomeIn WideGoldilocks operation words o = IsOutcomeOver goldilocks operation words o
 
 -- the outcome of the words after the program's name
 abbrev pub IsOutcome : List (List ℕ) → Outcome → Type 0

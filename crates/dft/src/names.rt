@@ -10,6 +10,8 @@ use std::str;
 pub enum FieldName {
     BabyBear,
     Goldilocks,
+    // The same field in the lanes of vectors.
+    WideGoldilocks,
 }
 
 impl FieldName {
@@ -21,6 +23,7 @@ impl FieldName {
         match str::from_utf8(word).ok()? {
             "babybear" => Some(FieldName::BabyBear),
             "goldilocks" => Some(FieldName::Goldilocks),
+            "wide-goldilocks" => Some(FieldName::WideGoldilocks),
             _ => None,
         }
     }

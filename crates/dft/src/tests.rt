@@ -227,7 +227,11 @@ fn every_operation_prints_its_rows(rt: HostRuntime) {
 fn every_operation_answers_over_goldilocks(rt: HostRuntime) {
     let line = "9\n1125899906842629\n1\n18445618169507741702\n";
     let on_seven = "33\n7881299347898373\n18446744069414584298\n18438862770066685958\n";
-    let rows: [(&[&str], &str); 9] = [
+    let rows: [(&[&str], &str); 10] = [
+        (
+            &["wide-goldilocks", "small", "dft", "1", "1", "2", "3", "4"],
+            "10\n18446181119461163007\n18446744069414584319\n562949953421310\n",
+        ),
         (
             &["goldilocks", "parallel", "dft", "1", "1", "2", "3", "4"],
             "10\n18446181119461163007\n18446744069414584319\n562949953421310\n",
