@@ -1,12 +1,13 @@
--- Residues modulo an odd number: sums of ones, halves, and powers by squarings.
-use Rattle.std.proofs.Common.{◌≡◌, ℕ, zero, suc, ◌+◌, ◌/◌, ◌%◌, ◌^◌, ◌-◌, ◌<◌, ◌≤◌, sym, ap, ◌∙◌, arith, subst, ◌*◌}
-use Rattle.std.proofs.Math.Nat.{add-mod_right, mod-eq_of_lt, mod_self, two-pow-succ, mul-le-mul}
+-- Residues modulo an odd number: sums of ones, halves, and lists of generators.
+use Rattle.std.proofs.Common.{◌≡◌, ℕ, ◌+◌, ◌/◌, ◌%◌, ◌-◌, ◌<◌, ◌≤◌, sym, ap, ◌∙◌, arith, subst, ◌*◌, List, map, get_or}
+use Rattle.std.proofs.Math.Nat.{add-mod_right, mod-eq_of_lt, mod_self, mul-le-mul}
+use Rattle.std.specs.List.{range_with_len}
 use Rattle.std.proofs.Math.Bridge.{le_prop}
-use Rattle.p3_field.specs.Ring.{Ring, count, power}
+use Rattle.std.proofs.lemmas.List.FromFn.{get_or-map-range_with_len}
+use Rattle.p3_field.specs.Ring.{count}
 use Rattle.p3_field.specs.Residues.{Residue, residues, residue-eq}
-use Rattle.p3_field.specs.Squarings.{repeated_square}
 use Rattle.p3_field.specs.FieldLaws.{count-number}
-use Rattle.p3_field.proofs.Powers.{power-zero, power-suc, power-add, power-square}
+use Rattle.p3_field.specs.Fields.{FieldNumbers, field_generator}
 
 module _ (m : ℕ) (above : 1 < m) (odd : m % 2 ≡ 1) where
   pub count-residue : (n : ℕ) (x : Residue m) → x.number ≡ n % m → x ≡ count (residues m above odd) n
@@ -22,11 +23,6 @@ pub odd_half : (m n r : ℕ) → m % 2 ≡ 1 → n < m → ¬ (n % 2 ≡ 0) → 
 odd_half m n r modulus below odd is =
     let double : r + r ≡ n + m = omega (arith, is, odd, modulus) in
     ap (λ k. k % m) double ∙ add-mod_right n m ∙ mod-eq_of_lt below
-
-pub power-repeated_square : {A : Type 0} (r : Ring A) (x : A) (n : ℕ) → power r x (2 ^ n) ≡ repeated_square r x n
-power-repeated_square r x zero = power-suc r x 0 ∙ ap (r.mul x) (power-zero r x) ∙ r.mul_one x
-power-repeated_square r x (suc n) =
-    ap (power r x) (two-pow-succ n) ∙ power-add r x (2 ^ n) (2 ^ n) ∙ sym (power-square r x (2 ^ n)) ∙ power-repeated_square r (r.mul x x) n
 
 -- sums, differences and negatives with one correction in place of a division
 pub sum_below : (m a b r : ℕ) → a + b < m → r ≡ a + b → r ≡ (a + b) % m
@@ -70,3 +66,9 @@ product_within_62_bits m n a b small left right same =
     let b_most : b ≤ 2147483647 = omega (arith, right, small) in
     let product : a * b ≤ 2147483647 * 2147483647 = mul-le-mul a_most b_most in
     ap (λ k. (a * b) % 4611686018427387904 % k) same ∙ ap (λ k. k % m) (mod-eq_of_lt (omega (arith, product)))
+
+-- a list of the numbers of all generators has that of each order at its place
+pub listed_generator : (f : FieldNumbers) (xs : List ℕ) → map (λ bits. (field_generator f bits).number) (range_with_len 0 (f.two_adicity + 1)) ≡ xs
+    → (bits : ℕ) → bits ≤ f.two_adicity → get_or xs bits 0 ≡ (field_generator f bits).number
+listed_generator f xs listed bits within =
+    sym (ap (λ it. get_or it bits 0) listed) ∙ get_or-map-range_with_len _ 0 (f.two_adicity + 1) bits bits 0 (omega (arith, within)) (omega arith)

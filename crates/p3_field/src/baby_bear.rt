@@ -16,6 +16,14 @@ pub type BabyBear = Residue31<BabyBearNumbers>;
 /// Eight elements.
 pub type BabyBearX8 = Residue31X8<BabyBearNumbers>;
 
+// The generators of the subgroups of order 1, 2, 4, .., `2^27`: each is the square of the next.
+const GENERATORS: [u32; 28] = [
+    1, 2013265920, 1728404513, 1592366214, 196396260, 760005850, 1721589904, 397765732, 1732600167,
+    1753498361, 341742893, 1340477990, 1282623253, 298008106, 1657000625, 2009781145, 1421947380,
+    1286330022, 1559589183, 1049899240, 195061667, 414040701, 570250684, 1267047229, 1003846038,
+    1149491290, 975630072, 440564289,
+];
+
 impl Numbers for BabyBearNumbers {
     ghost numbers = { baby_bear_numbers };
 
@@ -27,10 +35,6 @@ impl Numbers for BabyBearNumbers {
 
     ghost GENERATOR = { baby_bear_numbers.generator.number };
 
-    const ROOT: u32 = 440564289;
-
-    ghost ROOT = { baby_bear_numbers.root.number };
-
     const TWO_ADICITY: usize = 27;
 
     ghost TWO_ADICITY = { baby_bear_numbers.two_adicity };
@@ -39,11 +43,13 @@ impl Numbers for BabyBearNumbers {
 
     ghost generator_law = { refl };
 
-    ghost root_law = { refl };
-
     ghost two_adicity_law = { refl };
 
     ghost small_law = { lit< tt };
 
     ghost quotient_law = { lit< tt };
+
+    fn generator_number(bits: usize) -> u32 {
+        GENERATORS[bits]
+    }
 }

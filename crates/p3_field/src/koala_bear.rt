@@ -16,6 +16,13 @@ pub type KoalaBear = Residue31<KoalaBearNumbers>;
 /// Eight elements.
 pub type KoalaBearX8 = Residue31X8<KoalaBearNumbers>;
 
+// The generators of the subgroups of order 1, 2, 4, .., `2^24`: each is the square of the next.
+const GENERATORS: [u32; 25] = [
+    1, 2130706432, 2113994754, 1748172362, 148625052, 170455089, 1548376985, 699882112, 392596362,
+    665670555, 860702919, 2000983452, 1989134074, 809067698, 1047035213, 1168510561, 1848593786,
+    373019801, 1816824389, 339671193, 1364057261, 1213133211, 542991299, 1760025929, 1791270792,
+];
+
 impl Numbers for KoalaBearNumbers {
     ghost numbers = { koala_bear_numbers };
 
@@ -27,10 +34,6 @@ impl Numbers for KoalaBearNumbers {
 
     ghost GENERATOR = { koala_bear_numbers.generator.number };
 
-    const ROOT: u32 = 1791270792;
-
-    ghost ROOT = { koala_bear_numbers.root.number };
-
     const TWO_ADICITY: usize = 24;
 
     ghost TWO_ADICITY = { koala_bear_numbers.two_adicity };
@@ -39,11 +42,13 @@ impl Numbers for KoalaBearNumbers {
 
     ghost generator_law = { refl };
 
-    ghost root_law = { refl };
-
     ghost two_adicity_law = { refl };
 
     ghost small_law = { lit< tt };
 
     ghost quotient_law = { lit< tt };
+
+    fn generator_number(bits: usize) -> u32 {
+        GENERATORS[bits]
+    }
 }

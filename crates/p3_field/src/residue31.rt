@@ -15,10 +15,10 @@ use std::marker::PhantomData;
 use std::ops::{Add, AddAssign, Mul, MulAssign, Neg, Sub, SubAssign};
 
 /// The numbers that make a field: an odd modulus below `2^31` and above the sum of `2^30` and the
-/// remainder of `2^62` by it, a number with an inverse, and a root of unity whose order is a power of
+/// remainder of `2^62` by it, a number with an inverse, and generators of subgroups whose orders are powers of
 /// two. A type of this trait has no values of interest: it stands for its constants.
 pub trait Numbers: Copy {
-    ghost use Rattle.p3_field.specs.Fields.{FieldNumbers};
+    ghost use Rattle.p3_field.specs.Fields.{FieldNumbers, field_generator};
 
     // The numbers, with the facts that make them a field.
     ghost numbers: { FieldNumbers };
@@ -33,12 +33,7 @@ pub trait Numbers: Copy {
 
     ghost GENERATOR: { ℕ };
 
-    /// A root of unity of order `2^TWO_ADICITY`.
-    const ROOT: u32;
-
-    ghost ROOT: { ℕ };
-
-    /// The logarithm of the order of the root.
+    /// The logarithm of the order of the largest subgroup that a generator makes.
     const TWO_ADICITY: usize;
 
     ghost TWO_ADICITY: { ℕ };
@@ -47,8 +42,6 @@ pub trait Numbers: Copy {
 
     ghost generator_law: { GENERATOR ≡ numbers.generator.number };
 
-    ghost root_law: { ROOT ≡ numbers.root.number };
-
     ghost two_adicity_law: { TWO_ADICITY ≡ numbers.two_adicity };
 
     ghost small_law: { numbers.modulus < 2147483648 };
@@ -56,6 +49,11 @@ pub trait Numbers: Copy {
     // The quotient of a product by the modulus can be told from the product's upper digits, but for
     // one: 2^30 and the remainder of 2^62.
     ghost quotient_law: { 1073741824 + 4611686018427387904 % numbers.modulus < numbers.modulus };
+
+    /// The number of the generator of the subgroup of order `2^bits`.
+    fn generator_number(bits: usize) -> u32
+        requires { bits ≤ numbers.two_adicity }
+        ensures { result ≡ (field_generator numbers bits).number };
 }
 
 /// An integer modulo `N::MODULUS`, by its number below the modulus.
@@ -492,11 +490,10 @@ impl<N: Numbers> TwoAdicField for Residue31<N> {
     } };
 
     fn two_adic_generator(bits: usize) -> Residue31<N> {
-        let root = Residue31::<N> {
-            number: N::ROOT,
+        Residue31 {
+            number: N::generator_number(bits),
             of: PhantomData,
-        };
-        root.exp_power_of_2(N::TWO_ADICITY - bits)
+        }
     }
 
     ghost two_adicity_law = { N.numbers.some };

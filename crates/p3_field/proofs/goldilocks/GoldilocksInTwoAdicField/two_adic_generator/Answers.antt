@@ -1,11 +1,13 @@
-use Rattle.std.proofs.Common.{◌∙◌, ◌-◌, refl, ap}
-use Rattle.p3_field.specs.Fields.{goldilocks_modulus, goldilocks_ring, goldilocks_root}
-use Rattle.p3_field.specs.Residues.{Residue, residue-eq}
-use Rattle.p3_field.specs.Squarings.{repeated_square}
-use Rattle.p3_field.proofs.Residues.{power-repeated_square}
+use Rattle.std.proofs.Common.{refl, subst, sym, ◌<◌}
+use Rattle.p3_field.specs.Fields.{goldilocks_modulus, goldilocks_numbers, goldilocks_generator}
+use Rattle.p3_field.specs.Residues.{residue-eq}
+use Rattle.p3_field.proofs.Residues.{listed_generator}
 use Rattle.p3_field.proofs.goldilocks.GoldilocksInTwoAdicField.two_adic_generator.Goals as goal
 
+pub invariant_of-result : goal.invariant_of-result
+invariant_of-result g c = record {
+  below = subst (λ n. n < goldilocks_modulus) (sym (listed_generator goldilocks_numbers _ refl c.args.bits c.requires)) (goldilocks_generator c.args.bits).below;
+}
+
 pub returns : goal.returns
-returns g c =
-    c.exp_power_of_2.ensures ∙ power-repeated_square goldilocks_ring _ (32 - c.args.bits)
-    ∙ ap (λ (x : Residue goldilocks_modulus). repeated_square goldilocks_ring x (32 - c.args.bits)) (residue-eq _ goldilocks_root refl)
+returns g c = residue-eq _ _ (listed_generator goldilocks_numbers _ refl c.args.bits c.requires)
