@@ -70,6 +70,11 @@ module _ {E F : Type 0} (facts : EngineFacts E F) where
   AfterLde before after result m a =
       IsAfter before after result (height m) (λ k. facts.IsReady after k × facts.IsReady after (k + a)) (λ k. facts.extension_products k a m.width) (height m * m.width * 2 ^ a)
 
+  -- after an extension by a bits of one of coefficients: a transform of the larger height, and a product for each coefficient
+  abbrev pub AfterLdeOfCoefficients : {A T : Type 0} → E → E → Result A DftError → RowMajor T → ℕ → Type 0
+  AfterLdeOfCoefficients before after result m a =
+      IsAfter before after result (height m) (λ k. facts.IsReady after (k + a)) (λ k. facts.transform_products (k + a) m.width + 2 ^ k * m.width) (height m * m.width * 2 ^ a)
+
   -- and after one by an inverse transform and a transform on the larger coset
   abbrev pub AfterLdeByParts : {A T : Type 0} → E → E → Result A DftError → RowMajor T → ℕ → Type 0
   AfterLdeByParts before after result m a =

@@ -13,7 +13,7 @@ ghost use Rattle.p3_networks.specs.Twiddles.{AreTwiddlesFromStart, backward_root
 ghost use Rattle.p3_dft.specs.Stored.{HasEntriesOf, HasTwoPowerRows};
 
 use crate::traits::{Layout, TwoAdicSubgroupDft};
-use crate::util::{extend_by_zeros, pad_rows};
+use crate::util::{extend_by_zeros, pad_rows, shift_rows};
 use p3_field::{Products, TwoAdicField};
 use p3_matrix::{
     BitReversedMatrixView, DftError, Evaluations, IntoRowMajorMatrix, RowMajorMatrix,
@@ -159,10 +159,11 @@ impl<F: TwoAdicField> TwoAdicSubgroupDft<F> for Radix2DFTSmallBatch<F> {
     ghost use Rattle.std.proofs.Common.{refl, rules};
     ghost use Rattle.p3_matrix.specs.BitOrder.{reversed_rows};
     ghost use Rattle.p3_matrix.specs.RowMajor.{RowMajor, height};
-    ghost use Rattle.p3_dft.specs.Engines.{AfterDft, AfterLde, AtLog, IsPrepared, PreparesNoneAbove, plain_facts};
+    ghost use Rattle.p3_dft.specs.Engines.{AfterDft, AfterLde, AfterLdeOfCoefficients, AtLog, IsPrepared};
+    ghost use Rattle.p3_dft.specs.Engines.{PreparesNoneAbove, plain_facts};
     ghost use Rattle.p3_dft.specs.Extensions.{IsCallable, IsExtension, IsTransformedExtension, KeepsShape};
     ghost use Rattle.p3_dft.specs.Shapes.{FitsDft, FitsLde};
-    ghost use Rattle.p3_dft.specs.Transforms.{IsInterpolation, IsTransform};
+    ghost use Rattle.p3_dft.specs.Transforms.{IsExtendedTransform, IsInterpolation, IsTransform};
     ghost use Rattle.p3_dft.specs.declared.traits.Layout.TheVariants.{Natural};
 
     type Evaluations = RowMajorMatrix<F>;
@@ -244,6 +245,81 @@ impl<F: TwoAdicField> TwoAdicSubgroupDft<F> for Radix2DFTSmallBatch<F> {
         Ok(mat)
     }
 
+    /// As the trait says, by a network that meets no row of zeros, and without added bits by `dft_batch`, in place.
+    /// `Ok` makes the extension's height prepared for good, and no larger one is; after an error its tables may have
+    /// been made already.
+    fn coset_lde_batch_of_coefficients<N: IntoRowMajorMatrix<F>>(
+        &mut self,
+        mat: N,
+        added_bits: usize,
+        shift: F,
+    ) -> Result<RowMajorMatrix<F>, DftError>
+        requires fits { FitsLde F.TWO_ADICITY (height (N.stored mat)) (N.stored mat).width added_bits }
+        ensures values { IfOk result
+            (IsExtendedTransform F.Field.own F.generator (N.stored mat) added_bits (F.value shift)) }
+        ensures only { AtLog (height (N.stored mat)) (λ k. PreparesNoneAbove (k + added_bits) self.old self.new) }
+        ensures engine { AfterLdeOfCoefficients ⟦<Radix2DFTSmallBatch<F> as TwoAdicSubgroupDft<F>>⟧.facts
+            self.old self.new result (N.stored mat) added_bits }
+        ensures fewer { AtLog (height (N.stored mat)) (λ k. self.new.products ≤ self.old.products
+            + (N.stored mat).width * (2 ^ added_bits * (k * 2 ^ k / 2) + 2 ^ (k + added_bits))) }
+    {
+        let mut mat = mat.into_row_major_matrix();
+        if added_bits == 0 {
+            let mut products = Products::new();
+            shift_rows(&mut mat, shift, &mut products);
+            self.add_products(products);
+            return self.dft_batch(mat);
+        }
+        let log_h = log2_strict_usize(mat.height());
+        self.tables.make(*mat.allocator(), log_h + added_bits)?;
+        let tile = self.tile;
+        let forward = self.tables.forward();
+        reverse_rows(&mut mat);
+        extend_to_natural(
+            forward,
+            F::ONE,
+            mat,
+            log_h,
+            added_bits,
+            shift,
+            tile,
+            &mut self.products,
+        )
+    }
+
+    /// As the trait says, slot after slot, by transforms on the cosets that the rows in bit reversed order lie on: no
+    /// row of zeros is met. `Ok` makes the extension's height prepared for good, and no larger one is; after an error
+    /// its tables may have been made already.
+    fn coset_lde_batch_of_coefficients_bit_reversed<N: IntoRowMajorMatrix<F>>(
+        &mut self,
+        mat: N,
+        added_bits: usize,
+        shift: F,
+    ) -> Result<BitReversedMatrixView<RowMajorMatrix<F>>, DftError>
+        requires fits { FitsLde F.TWO_ADICITY (height (N.stored mat)) (N.stored mat).width added_bits }
+        ensures values { IfOk result (λ out. IsExtendedTransform F.Field.own F.generator (N.stored mat) added_bits
+            (F.value shift) (reversed_rows out.bits out.physical)) }
+        ensures only { AtLog (height (N.stored mat)) (λ k. PreparesNoneAbove (k + added_bits) self.old self.new) }
+        ensures engine { AfterLdeOfCoefficients ⟦<Radix2DFTSmallBatch<F> as TwoAdicSubgroupDft<F>>⟧.facts
+            self.old self.new result (N.stored mat) added_bits }
+    {
+        let mat = mat.into_row_major_matrix();
+        let log_h = log2_strict_usize(mat.height());
+        self.tables.make(*mat.allocator(), log_h + added_bits)?;
+        let mut grown = pad_rows(mat, added_bits)?;
+        let twiddles = self.tables.forward();
+        extend_to_reversed(
+            twiddles,
+            &mut grown,
+            log_h,
+            added_bits,
+            shift,
+            self.tile,
+            &mut self.products,
+        );
+        Ok(grown.bit_reverse_rows())
+    }
+
     /// As the trait says, in no more than an inverse and a transform of the larger height, and in less
     /// with two added bits or more: no rows are reversed, and no row of zeros is met. `Ok` makes the heights
     /// of the input and of the extension prepared for good; after an error no larger one than the
@@ -310,10 +386,9 @@ impl<F: TwoAdicField> TwoAdicSubgroupDft<F> for Radix2DFTSmallBatch<F> {
         self.coset_lde_batch(mat, added_bits, F::ONE)
     }
 
-    /// As the trait says, by the inverse and, slot after slot, by transforms on the cosets that the rows in
-    /// bit reversed order lie on: no row of zeros is met, and no rows are reversed after the inverse. On
-    /// `Ok` the heights of the input and of the extension are prepared for good; after an error their tables
-    /// may have been made already. No larger height is prepared.
+    /// As the trait says, by the inverse and `coset_lde_batch_of_coefficients_bit_reversed`: no rows are reversed
+    /// after the inverse. On `Ok` the heights of the input and of the extension are prepared for good; after an error
+    /// their tables may have been made already. No larger height is prepared.
     fn coset_lde_batch_bit_reversed<
         N: IntoRowMajorMatrix<F>,
         T: FnOnce(RowMajorMatrix<F>, Layout) -> RowMajorMatrix<F> + Drop,
@@ -340,18 +415,9 @@ impl<F: TwoAdicField> TwoAdicSubgroupDft<F> for Radix2DFTSmallBatch<F> {
         // Tells the prover that the rows are whole.
         let _width = coefficients.width();
         let changed = transform(coefficients, Layout::Natural);
-        let mut grown = pad_rows(changed, added_bits)?;
-        let twiddles = self.tables.forward();
-        extend_to_reversed(
-            twiddles,
-            &mut grown,
-            log_h,
-            added_bits,
-            shift,
-            self.tile,
-            &mut self.products,
-        );
-        Ok(grown.bit_reverse_rows())
+        // Tells the prover that the rows are whole.
+        let _same_width = changed.width();
+        self.coset_lde_batch_of_coefficients_bit_reversed(changed, added_bits, shift)
     }
 
     /// As the trait says, by `coset_lde_batch_bit_reversed`, whose rows are then reversed in place. It leaves the

@@ -6,14 +6,14 @@ ghost use Rattle.p3_matrix.specs.Blocks.{IsPublished, IsRefused};
 ghost use Rattle.p3_matrix.specs.RowMajor.{height};
 ghost use Rattle.p3_dft.specs.Blocks.{OnOutOfMemory, OnRefused, outcome};
 ghost use Rattle.p3_dft.specs.Coordinates.{flat, flat_col};
-ghost use Rattle.p3_dft.specs.Engines.{AfterDft, AfterLde, AfterLdeByParts, AtLog, EngineFacts, EngineLaws};
-ghost use Rattle.p3_dft.specs.Engines.{HasProductsMore, col};
+ghost use Rattle.p3_dft.specs.Engines.{AfterDft, AfterLde, AfterLdeByParts, AfterLdeOfCoefficients, AtLog};
+ghost use Rattle.p3_dft.specs.Engines.{EngineFacts, EngineLaws, HasProductsMore, col};
 ghost use Rattle.p3_dft.specs.Extensions.{AreExtendedValues, AreTransformedValues, IsCallable, IsExtension};
 ghost use Rattle.p3_dft.specs.Extensions.{IsTransformedExtension, KeepsShape};
 ghost use Rattle.p3_dft.specs.Shapes.{FitsDft, FitsLde};
 ghost use Rattle.p3_matrix.specs.Matrix.{Matrix};
 ghost use Rattle.p3_field.specs.Ring.{IsInvertible};
-ghost use Rattle.p3_dft.specs.Transforms.{IsInterpolation, IsTransform};
+ghost use Rattle.p3_dft.specs.Transforms.{IsExtendedTransform, IsInterpolation, IsTransform};
 ghost use Rattle.p3_matrix.specs.Cosets.{values_of};
 
 use crate::algebra::{flatten, gather};
@@ -140,6 +140,45 @@ pub trait TwoAdicSubgroupDft<F: TwoAdicField>: Clone + Default {
         Ok(coefficients)
     }
 
+    /// The values on `shift * K` of the polynomials whose coefficients are the columns, where K is the
+    /// subgroup of order `height << added_bits`: the answer has `2^added_bits` times as many rows. The shift may be
+    /// zero. The shape is one that `fits_lde` accepts. At most one product for each coefficient comes to those of
+    /// `dft_batch` at the larger height.
+    fn coset_lde_batch_of_coefficients<N: IntoRowMajorMatrix<F>>(
+        &mut self,
+        mat: N,
+        added_bits: usize,
+        shift: F,
+    ) -> Result<Self::Evaluations, DftError>
+        requires fits { FitsLde F.TWO_ADICITY (height (N.stored mat)) (N.stored mat).width added_bits }
+        ensures values { IfOk result (λ out. IsExtendedTransform F.Field.own F.generator (N.stored mat) added_bits
+            (F.value shift) (Self.Evaluations.natural out)) }
+        ensures engine { AfterLdeOfCoefficients facts self.old self.new result (N.stored mat) added_bits }
+    {
+        let mut products = Products::new();
+        let mut coefficients = mat.into_row_major_matrix();
+        shift_rows(&mut coefficients, shift, &mut products);
+        self.add_products(products);
+        let padded = pad_rows(coefficients, added_bits)?;
+        self.dft_batch(padded)
+    }
+
+    /// What `coset_lde_batch_of_coefficients` answers, with its rows in bit reversed order.
+    fn coset_lde_batch_of_coefficients_bit_reversed<N: IntoRowMajorMatrix<F>>(
+        &mut self,
+        mat: N,
+        added_bits: usize,
+        shift: F,
+    ) -> Result<BitReversedMatrixView<RowMajorMatrix<F>>, DftError>
+        requires fits { FitsLde F.TWO_ADICITY (height (N.stored mat)) (N.stored mat).width added_bits }
+        ensures values { IfOk result (λ out. IsExtendedTransform F.Field.own F.generator (N.stored mat) added_bits
+            (F.value shift) (reversed_rows out.bits out.physical)) }
+        ensures engine { AfterLdeOfCoefficients facts self.old self.new result (N.stored mat) added_bits }
+    {
+        let extension = self.coset_lde_batch_of_coefficients(mat, added_bits, shift)?;
+        Ok(extension.into_bit_reversed())
+    }
+
     /// The values on `shift * K` of what `transform` makes of the polynomials whose values on H are
     /// the columns, where K is the subgroup of order `height << added_bits`. The shift may be zero.
     ///
@@ -164,8 +203,8 @@ pub trait TwoAdicSubgroupDft<F: TwoAdicField>: Clone + Default {
             (N.stored mat) added_bits (F.value shift) (Self.Evaluations.natural out)) }
         ensures engine { AfterLde facts self.old self.new result (N.stored mat) added_bits };
 
-    /// What `coset_lde_batch_with_transform` answers, by an inverse transform, rows of zeros and a
-    /// transform on the larger coset. An engine that has nothing better calls it there. The conditions
+    /// What `coset_lde_batch_with_transform` answers, by an inverse transform and
+    /// `coset_lde_batch_of_coefficients`. An engine that has nothing better calls it there. The conditions
     /// are those of that call. The products are at most those of `idft_batch` and of `coset_dft_batch` at
     /// the larger height, whatever the engine's bound on extensions is.
     fn coset_lde_batch_by_parts<
@@ -189,8 +228,7 @@ pub trait TwoAdicSubgroupDft<F: TwoAdicField>: Clone + Default {
         exchange_layouts(&mut coefficients, Self::LAYOUT);
         let mut coefficients = transform(coefficients, Self::LAYOUT);
         exchange_layouts(&mut coefficients, Self::LAYOUT);
-        let coefficients = pad_rows(coefficients, added_bits)?;
-        self.coset_dft_batch(coefficients, shift)
+        self.coset_lde_batch_of_coefficients(coefficients, added_bits, shift)
     }
 
     /// What `coset_lde_batch_with_transform` answers, with its rows in bit reversed order, the order in

@@ -5,19 +5,20 @@ use Rattle.p3_field.specs.Ring.{AreRoots, power}
 use Rattle.p3_field.specs.declared.fields.Field.{Ghosts as FieldMembers}
 use Rattle.p3_field.proofs.Roots.{inverse_root}
 use Rattle.p3_matrix.specs.BitOrder.{rev, bit_reversal}
-use Rattle.p3_matrix.specs.Matrix.{Matrix, Same}
+use Rattle.p3_matrix.specs.Matrix.{Matrix, Same, image, matrix}
 use Rattle.p3_matrix.specs.RowMajor.{RowMajor, IsRowMajor, height}
-use Rattle.p3_matrix.proofs.BitReversal.{reversed_twice}
-use Rattle.p3_matrix.proofs.Matrices.{same_sym}
+use Rattle.p3_matrix.proofs.BitReversal.{reversed_back, reversed_twice}
+use Rattle.p3_matrix.proofs.Matrices.{mapped_same, same_sym}
 use Rattle.p3_matrix.proofs.TwoPowers.{log_same, entries_rise}
-use Rattle.p3_matrix.specs.Cosets.{AreCoefficients, IsQuotient, IsValues, point, values_of}
+use Rattle.p3_matrix.specs.Cosets.{AreCoefficients, IsQuotient, IsValues, coset_shift, point, values_of}
 use Rattle.p3_dft.specs.Extensions.{AreTransformedValues, IsExtension, extension_bound}
 use Rattle.p3_matrix.specs.Polynomials.{poly}
-use Rattle.p3_dft.specs.Transforms.{IsInterpolation}
+use Rattle.p3_dft.specs.Transforms.{IsExtendedTransform, IsInterpolation}
 use Rattle.p3_networks.specs.Layers.{AreValuesOfRows}
 use Rattle.p3_dft.specs.declared.traits.Layout.{Layout}
 use Rattle.p3_dft.specs.declared.traits.Layout.TheVariants.{BitReversed}
-use Rattle.p3_matrix.proofs.Polynomials.Cosets.{is_subgroup_values, is_values}
+use Rattle.p3_matrix.proofs.Polynomials.Cosets.{coefficients_same, coset_values, is_subgroup_values, is_values}
+use Rattle.p3_matrix.proofs.Polynomials.Quotients.{shifted_by_one}
 use Rattle.p3_matrix.proofs.Polynomials.Interpolation.{there_is_no_other}
 use Rattle.p3_matrix.proofs.Polynomials.ByIndex.{poly-one}
 use Rattle.p3_dft.proofs.BitReversed.Rows.{transform_of_row}
@@ -120,6 +121,18 @@ module _ {F : Type 0} (f : FieldMembers F) (generator : ℕ → F) where
     answered_in_layout = λ k e. reversed_row k (values_of f answered) (tall ∙ one);
     extended = λ k e. let same : k ≡ k + a = omega (arith, none) in row_on_coset answered (k + a) s (tall ∙ one) (tall ∙ e ∙ ap (λ n. 2 ^ n) same);
   }
+
+  -- coefficients whose rows were put into bit reversed order, and from there times the powers of the shift and one
+  pub extension_of_reversed : (m r out : RowMajor F) (one : F) (a log : ℕ) (s : f.Element) → f.value one ≡ f.ring.one → height m ≡ 2 ^ log → ((d : F) → Same (matrix d r) (bit_reversal log (matrix d m)))
+      → IsValues f.ring (λ n. f.value (generator n)) (image (λ x. f.ring.mul x (f.value one)) (coset_shift f.ring s (bit_reversal log (values_of f r)))) (log + a) f.ring.one (values_of f out)
+      → IsExtendedTransform f generator m a s out
+  extension_of_reversed m r out one a log s is high rows values k e =
+      let scaled = image (λ x. f.ring.mul x (f.value one)) (coset_shift f.ring s (bit_reversal log (values_of f r))) in
+      let shifted = shifted_by_one f.ring (f.value one) s (bit_reversal log (values_of f r)) scaled is (record { high = refl; wide = refl; alike = λ i j p q. refl }) in
+      let on_coset = coset_values f.ring (λ n. f.value (generator n)) (bit_reversal log (values_of f r)) scaled (log + a) s (values_of f out) shifted values in
+      let back = reversed_back log (values_of f r) (values_of f m) high (mapped_same f.value (matrix f.ZERO r) (bit_reversal log (matrix f.ZERO m)) (rows f.ZERO)) in
+      subst (λ (n : ℕ). IsValues f.ring (λ i. f.value (generator i)) (values_of f m) (n + a) s (values_of f out)) (log_same log k (sym high ∙ e))
+      (coefficients_same f.ring (λ n. f.value (generator n)) (bit_reversal log (values_of f r)) (values_of f m) (log + a) s (values_of f out) (same_sym (values_of f m) (bit_reversal log (values_of f r)) back) on_coset)
 
   -- values of what a transform, told the coefficients in bit reversed order, answered in that order
   pub values_of_answered : (may_answer : RowMajor F → Layout → RowMajor F → Type 0) (m told answered : RowMajor F) (a log : ℕ) (s : f.Element) (out : Matrix f.Element) → height m ≡ 2 ^ log

@@ -8,7 +8,7 @@ use Rattle.p3_matrix.specs.Room.{IsWithin}
 use Rattle.p3_matrix.proofs.Rooms.{if_within_more, room_of}
 use Rattle.p3_matrix.specs.RowMajor.{HasShapeOf, RowMajor, height}
 use Rattle.p3_dft.proofs.Calls.Shapes.{extended_entries}
-use Rattle.p3_dft.specs.Engines.{AfterDft, AtLog, EngineFacts, HasProductsMore, IsAfter, IsLater, plain_facts}
+use Rattle.p3_dft.specs.Engines.{AfterDft, AfterLde, AfterLdeOfCoefficients, AtLog, EngineFacts, HasProductsMore, IsAfter, IsLater, plain_facts}
 
 -- an error is no answer
 pub no_answer : {A X : Type 0} (r : Result A X) → IsErr r → IsOk r → ⊥
@@ -104,23 +104,60 @@ module _ {E F : Type 0} (facts : EngineFacts E F) where
     refused = tt;
   }
 
-  -- an inverse, and a transform of 2 ^ bits times as many rows
-  pub parts_after : {A B T S : Type 0} {v : B} (first last : ℕ) (m : RowMajor T) (grown : RowMajor S) (bits : ℕ) (p : ℕ → ℕ) (a b c : E) (r : Result A DftError) → (log : ℕ) → height m ≡ 2 ^ log
-      → ((k : ℕ) → height m ≡ 2 ^ k → height grown ≡ 2 ^ (k + bits)) → grown.width ≡ m.width
-      → ((k : ℕ) → facts.transform_products k m.width + first * (2 ^ k * m.width) + (facts.transform_products (k + bits) m.width + last * (2 ^ (k + bits) * m.width)) ≤ p k)
-      → AfterDft facts a b (Ok v) m first → AfterDft facts b c r grown last
+  -- products, at most one an entry, and then a transform of 2 ^ bits times as many rows
+  pub extended_after : {A T S : Type 0} (m : RowMajor T) (grown : RowMajor S) (bits : ℕ) (a b c : E) (r : Result A DftError) (products log : ℕ) → height m ≡ 2 ^ log
+      → ((k : ℕ) → height m ≡ 2 ^ k → height grown ≡ 2 ^ (k + bits)) → grown.width ≡ m.width → products ≤ height m * m.width
+      → HasProductsMore facts a b products → AfterDft facts b c r grown 0 → AfterLdeOfCoefficients facts a c r m bits
+  extended_after m grown bits a b c r products log whole tall wide most more call = record {
+    later = later_still a b c (later_by_products a b products more) call.later;
+    ready = λ done k high. call.ready done (k + bits) (tall k high);
+    cost = λ k high.
+        let made = call.cost (k + bits) (tall k high) in
+        let same : facts.transform_products (k + bits) grown.width ≡ facts.transform_products (k + bits) m.width = ap (facts.transform_products (k + bits)) wide in
+        let entries : height m * m.width ≡ 2 ^ k * m.width = ap (λ h. h * m.width) high in
+        omega (arith, more.counter, made, same, entries, most);
+    refused = subst (λ (room : ℕ). IfErr r (IsWithin (facts.more_room c + room))) (extended_entries log bits whole (tall log whole) wide) call.refused;
+  }
+
+  -- those products alone, where memory was refused to what follows
+  pub refused_after_products : {A T : Type 0} {known : ℕ → Type 0} {p : ℕ → ℕ} {entries : ℕ} (m : RowMajor T) (a b : E) (r : Result A DftError) (products : ℕ) → IsErr r → products ≤ height m * m.width
+      → ((k : ℕ) → 2 ^ k * m.width ≤ p k) → IfErr r (IsWithin (facts.more_room b + entries)) → HasProductsMore facts a b products → IsAfter facts a b r (height m) known p entries
+  refused_after_products m a b r products none most fewer room more = record {
+    later = later_by_products a b products more;
+    ready = λ ok. absurd (no_answer r none ok);
+    cost = λ k high. omega (arith, more.counter, most, fewer k, ap (λ h. h * m.width) high);
+    refused = room;
+  }
+
+  -- an inverse, and an extension of the coefficients by so many bits
+  pub parts_after : {A B T S : Type 0} {v : B} (m : RowMajor T) (n : RowMajor S) (bits : ℕ) (p : ℕ → ℕ) (a b c : E) (r : Result A DftError) → HasShapeOf n m
+      → ((k : ℕ) → facts.transform_products k m.width + 2 ^ k * m.width + (facts.transform_products (k + bits) m.width + 2 ^ k * m.width) ≤ p k)
+      → AfterDft facts a b (Ok v) m 1 → AfterLdeOfCoefficients facts b c r n bits
       → IsAfter facts a c r (height m) (λ k. facts.IsReady c k × facts.IsReady c (k + bits)) p (height m * m.width * 2 ^ bits)
-  parts_after first last m grown bits p a b c r log whole tall wide most one other = record {
+  parts_after m n bits p a b c r (tall, wide) most one other = record {
     later = later_still a b c one.later other.later;
-    ready = λ done k high. (other.later.keeps_ready k (one.ready refl k high), other.ready done (k + bits) (tall k high));
+    ready = λ done k high. (other.later.keeps_ready k (one.ready refl k high), other.ready done k (tall ∙ high));
     cost = λ k high.
         let before = one.cost k high in
-        let after = other.cost (k + bits) (tall k high) in
-        let same : facts.transform_products (k + bits) grown.width + last * (2 ^ (k + bits) * grown.width) ≡ facts.transform_products (k + bits) m.width + last * (2 ^ (k + bits) * m.width) =
-        ap (λ w. facts.transform_products (k + bits) w + last * (2 ^ (k + bits) * w)) wide in
+        let after = other.cost k (tall ∙ high) in
+        let same : facts.transform_products (k + bits) n.width + 2 ^ k * n.width ≡ facts.transform_products (k + bits) m.width + 2 ^ k * m.width = ap (λ w. facts.transform_products (k + bits) w + 2 ^ k * w) wide in
         omega (arith, before, after, same, most k);
-    refused = subst (λ (room : ℕ). IfErr r (IsWithin (facts.more_room c + room))) (extended_entries log bits whole (tall log whole) wide) other.refused;
+    refused = subst (λ (room : ℕ). IfErr r (IsWithin (facts.more_room c + room))) (ap₂ (λ (h w : ℕ). h * w * 2 ^ bits) tall wide) other.refused;
   }
+
+  -- what came before a call made no product
+  pub after_later : {A : Type 0} {h entries : ℕ} {known : ℕ → Type 0} {p : ℕ → ℕ} (a b c : E) (r : Result A DftError) → IsLater facts a b → facts.products_made b ≡ facts.products_made a
+      → IsAfter facts b c r h known p entries → IsAfter facts a c r h known p entries
+  after_later a b c r first same call = record {
+    later = later_still a b c first call.later;
+    ready = call.ready;
+    cost = λ k high. let made = call.cost k high in omega (arith, made, same);
+    refused = call.refused;
+  }
+
+  -- an extension of a matrix that equals the one that was handed over
+  pub of_stored : {A T : Type 0} {m n : RowMajor T} {bits : ℕ} (a b : E) (r : Result A DftError) → m ≡ n → AfterLde facts a b r m bits → AfterLde facts a b r n bits
+  of_stored {T = T} {bits = bits} a b r same call = subst (λ (x : RowMajor T). AfterLde facts a b r x bits) same call
 
   -- nothing was done
   pub after_none : {A : Type 0} {v : A} {h entries : ℕ} {known : ℕ → Type 0} {p : ℕ → ℕ} (e : E) (now : IsOk {E = DftError} (Ok v) → AtLog h known) → IsAfter facts e e (Ok v) h known p entries

@@ -1,6 +1,6 @@
 -- The steps of an engine that shows the largest height whose twiddles are there.
 use Rattle.std.specs.Prelude.{⊤, max}
-use Rattle.std.proofs.Common.{◌≡◌, ℕ, zero, suc, ◌+◌, ◌≤◌, ◌^◌, Result, Ok, Err, IsOk, OnErr, OnOk, ap, subst, arith, rules}
+use Rattle.std.proofs.Common.{◌≡◌, ℕ, zero, suc, ◌+◌, ◌≤◌, ◌^◌, Result, Ok, Err, IsOk, OnErr, OnOk, ◌⊎◌, ap, subst, arith, rules}
 use Rattle.p3_dft.specs.Engines.{EngineFacts, HasProductsMore, IsLater, IsPrepared, EngineState}
 
 -- an engine with twiddles of all heights up to one, and so many products
@@ -58,3 +58,7 @@ some_log h (suc k) high more = omega arith
 pub none_above : {X T E : Type 0} (prepared : X → ℕ) (r : Result T E) (a b : X) (k : ℕ) → OnOk r (prepared b ≡ max (prepared a) k) → OnErr r (b ≡ a) → prepared b ≤ max (prepared a) k
 none_above prepared (Ok x) a b k made same = omega (arith, made)
 none_above prepared (Err e) a b k made same = omega (arith, ap prepared same)
+
+-- where a height was made unless it was there, neither is one
+pub made_none_above : (k log a before inside after : ℕ) → log ≡ k → inside ≡ before → (after ≡ inside) ⊎ (after ≡ log + a) → after ≤ max before (k + a)
+made_none_above k log a before inside after same view made = omega arith

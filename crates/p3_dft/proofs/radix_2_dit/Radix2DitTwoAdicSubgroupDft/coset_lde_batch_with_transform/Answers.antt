@@ -1,8 +1,8 @@
-use Rattle.std.proofs.Common.{ℕ, ◌≡◌, ◌+◌, ◌*◌, ◌^◌, ◌∙◌, ap₂, refl, arith}
+use Rattle.std.proofs.Common.{ℕ, ◌≡◌, ◌+◌, ◌*◌, ◌^◌, ◌∙◌, ap₂, refl, sym, arith}
 use Rattle.std.proofs.Math.Nat.{le_refl}
 use Rattle.std.proofs.lemmas.Result.{IfOk-from_err, IfOk-weaker}
 use Rattle.p3_matrix.specs.RowMajor.{height}
-use Rattle.p3_dft.proofs.Calls.EngineSteps.{after_part, part_refused, parts_after, products_after}
+use Rattle.p3_dft.proofs.Calls.EngineSteps.{after_part, extended_after, part_refused, parts_after, products_after}
 use Rattle.p3_dft.proofs.Calls.ExtendedTransforms.{answered_shape, extension_of_shifted}
 use Rattle.p3_matrix.proofs.Rooms.{room_of}
 use Rattle.p3_matrix.proofs.Rows.Padding.{padded_shape}
@@ -74,9 +74,9 @@ returns-clause-engine g c =
     let same = c.shift_rows.ensures.shifted in
     let grown = λ (k : ℕ) (e : height m ≡ 2 ^ k). padded_shape g.F.Field.ZERO m c.shift_rows.new.mat c.in_ok-padded.padded a k c.pad_rows.ensures.whole
     (same.high ∙ shape.0, same.wide ∙ shape.1) e c.in_ok-padded.ensures.padded in
-    parts_after _ 2 0 m c.in_ok-padded.padded a _ _ _ _ _ fits.log fits.high (λ k e. (grown k e).0) (grown fits.log fits.high).1 (λ k. omega arith)
-    (products_after _ 1 m c.transform-changed.result _ _ _ c.transform-changed.result _ shape (omega (arith, c.shift_rows.ensures.cost, c.new-products.ensures)) c.in_ok-coefficients.ensures.engine c.add_products.ensures.engine)
-    c.dft_batch.ensures.engine
+    parts_after _ m c.transform-changed.result a _ _ _ _ _ shape (λ k. omega arith) c.in_ok-coefficients.ensures.engine
+    (extended_after _ c.transform-changed.result c.in_ok-padded.padded a _ _ _ _ _ fits.log (shape.0 ∙ fits.high) (λ k e. (grown k (sym shape.0 ∙ e)).0) ((grown fits.log fits.high).1 ∙ sym shape.1) (omega (arith, c.shift_rows.ensures.cost, c.new-products.ensures)) c.add_products.ensures.engine
+    c.dft_batch.ensures.engine)
 
 pub transform-changed-requires : goal.transform-changed-requires
 transform-changed-requires g c =

@@ -1,4 +1,4 @@
-use Rattle.std.proofs.Common.{◌≡◌, ℕ, ◌+◌, ◌*◌, ◌/◌, ◌<◌, ◌^◌, ◌≤◌, refl, sym, ap, ap₂, ◌∙◌, subst, arith, ◌⊎◌}
+use Rattle.std.proofs.Common.{◌≡◌, ℕ, ◌+◌, ◌*◌, ◌/◌, ◌<◌, ◌^◌, ◌≤◌, refl, sym, ap, ap₂, ◌∙◌, subst, arith}
 use Rattle.std.proofs.lemmas.Result.{IfOk-weaker}
 use Rattle.p3_field.specs.Ring.{count}
 use Rattle.p3_field.proofs.Powers.{count-power_of_two}
@@ -12,17 +12,13 @@ use Rattle.p3_networks.proofs.Layers.Counts.{extension_made, fewer_than_parts}
 use Rattle.p3_matrix.proofs.Polynomials.Cosets.{coset_values}
 use Rattle.p3_dft.proofs.BitReversed.Coefficients.{extension_of_coefficients, extension_of_row}
 use Rattle.p3_matrix.proofs.Polynomials.Quotients.{shifted_quotient}
-use Rattle.p3_dft.proofs.Calls.PreparedHeights.{later_with_heights}
+use Rattle.p3_dft.proofs.Calls.PreparedHeights.{later_with_heights, made_none_above}
 use Rattle.std.proofs.Math.Nat.{le_refl, le_trans, lt_of_lt_of_le}
 use Rattle.p3_dft.proofs.Calls.EngineSteps.{after_error, after_none}
 use Rattle.p3_dft.proofs.Calls.Counts.{larger_bound}
 use Rattle.p3_dft.proofs.Calls.Stored.{rows_found_lde, whole_still}
 use Rattle.p3_matrix.proofs.Rooms.{if_within_more, room_of}
-use Rattle.std.specs.Prelude.{max}
 use Rattle.p3_dft.proofs.radix_2_small_batch.Radix2DFTSmallBatchTwoAdicSubgroupDft.coset_lde_batch.Goals as goal
-
-above_none : (k log a before inside after : ℕ) → log ≡ k → inside ≡ before → (after ≡ inside) ⊎ (after ≡ log + a) → after ≤ max before (k + a)
-above_none k log a before inside after same view made = omega arith
 
 layer_within : (l k a n : ℕ) → l < k → k + a ≤ n → l < n
 layer_within l k a n below made = omega (arith, below, made)
@@ -78,7 +74,7 @@ pub returns-in_err-make-clause-one_row : goal.returns-in_err-make-clause-one_row
 returns-in_err-make-clause-one_row g c = λ one none. absurd (more_points c.height.result c.log2_strict_usize-log_h.result c.args.added_bits c.log2_strict_usize-log_h.ensures.power c.if-log_h-added_bits-eq0.false (c.height.ensures.height ∙ ap height c.into_row_major_matrix-mat.ensures ∙ one) none)
 
 pub returns-in_err-make-clause-only : goal.returns-in_err-make-clause-only
-returns-in_err-make-clause-only g c k high = above_none k _ _ _ _ _ (log_same c.log2_strict_usize-log_h.result k (sym c.log2_strict_usize-log_h.ensures.power ∙ c.height.ensures.height ∙ ap height c.into_row_major_matrix-mat.ensures ∙ high)) (ap (λ e. e.prepared) c.self.view_is) c.make.ensures.only
+returns-in_err-make-clause-only g c k high = made_none_above k _ _ _ _ _ (log_same c.log2_strict_usize-log_h.result k (sym c.log2_strict_usize-log_h.ensures.power ∙ c.height.ensures.height ∙ ap height c.into_row_major_matrix-mat.ensures ∙ high)) (ap (λ e. e.prepared) c.self.view_is) c.make.ensures.only
 
 pub returns-in_err-make-clause-engine : goal.returns-in_err-make-clause-engine
 returns-in_err-make-clause-engine g c = after_error _ _ _ _ c.from_residual.ensures.0 (later_with_heights _ _ _ c.args.self.now _ _ _ _ c.self.view_is c.make.ensures.keeps (le_refl c.self.inside.products)) (ap (λ e. e.products) c.self.view_is)
@@ -91,7 +87,7 @@ pub returns-clause-one_row : goal.returns-clause-one_row
 returns-clause-one_row g c = λ one none. absurd (more_points c.height.result c.log2_strict_usize-log_h.result c.args.added_bits c.log2_strict_usize-log_h.ensures.power c.if-log_h-added_bits-eq0.false (c.height.ensures.height ∙ ap height c.into_row_major_matrix-mat.ensures ∙ one) none)
 
 pub returns-clause-only : goal.returns-clause-only
-returns-clause-only g c k high = above_none k _ _ _ _ _ (log_same c.log2_strict_usize-log_h.result k (sym c.log2_strict_usize-log_h.ensures.power ∙ c.height.ensures.height ∙ ap height c.into_row_major_matrix-mat.ensures ∙ high)) (ap (λ e. e.prepared) c.self.view_is) c.make.ensures.only
+returns-clause-only g c k high = made_none_above k _ _ _ _ _ (log_same c.log2_strict_usize-log_h.result k (sym c.log2_strict_usize-log_h.ensures.power ∙ c.height.ensures.height ∙ ap height c.into_row_major_matrix-mat.ensures ∙ high)) (ap (λ e. e.prepared) c.self.view_is) c.make.ensures.only
 
 pub returns-clause-fewer : goal.returns-clause-fewer
 returns-clause-fewer g c k high = let log = c.log2_strict_usize-log_h.result in let a = c.args.added_bits in let w = c.into_row_major_matrix-mat.result.width in let x = log * 2 ^ log / 2 in let same : log ≡ k = log_same log k (sym c.log2_strict_usize-log_h.ensures.power ∙ c.height.ensures.height ∙ ap height c.into_row_major_matrix-mat.ensures ∙ high) in let products : c.self.inside.products ≡ c.args.self.now.products = ap (λ e. e.products) c.self.view_is in let second : c.extend_to_natural.new.products ≤ c.interpolate_unscaled_to_reversed.new.products + w * (2 ^ a * x + 2 ^ (log + a)) = subst (λ (v : ℕ). c.extend_to_natural.new.products ≤ c.interpolate_unscaled_to_reversed.new.products + v * (2 ^ a * x + 2 ^ (log + a))) c.interpolate_unscaled_to_reversed.ensures.same.shape.1 c.extend_to_natural.ensures.cost in let all = extension_made x (2 ^ (log + a)) (2 ^ a) w c.self.inside.products c.interpolate_unscaled_to_reversed.new.products c.extend_to_natural.new.products c.interpolate_unscaled_to_reversed.ensures.cost second in rw (← products, ← c.into_row_major_matrix-mat.ensures, ← same) all
