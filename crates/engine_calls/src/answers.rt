@@ -4,7 +4,7 @@ ghost use Rattle.std.specs.Prelude.{◌↔◌, IsTrue};
 ghost use Rattle.p3_field.specs.Ring.{IsInvertible};
 
 use crate::algebra::answer_in_space;
-use crate::batch::matrix_answer;
+use crate::batch::{extension_of_coefficients, matrix_answer};
 use crate::blocks::extension_answer;
 use crate::changes::Change;
 use crate::codes::code_answer;
@@ -94,6 +94,9 @@ pub fn answer_to<F: TwoAdicField, D: TwoAdicSubgroupDft<F>>(
         | Call::BitReversed
         | Call::WithBlocks
         | Call::InBlocks => extension_answer(engine, call, input),
+        Call::OfCoefficients | Call::OfCoefficientsBitReversed => {
+            extension_of_coefficients(engine, call, input)
+        }
         Call::Encode | Call::IsCodeword => code_answer(engine, call, input),
         Call::WithRoom => recorder(&input.mat),
         Call::TryClone => copy(&input.mat),

@@ -1,7 +1,7 @@
 //! The calls on a matrix over the field.
 
 use crate::answers::{Answer, Input, has_inverse, rows};
-use crate::names::Operation;
+use crate::names::{Call, Operation};
 use p3_dft::{RowMajorMatrix, TwoAdicField, TwoAdicSubgroupDft, fits_dft, fits_lde};
 
 // A transform or an inverse.
@@ -43,6 +43,29 @@ fn extension<F: TwoAdicField, D: TwoAdicSubgroupDft<F>>(
     match operation {
         Operation::Lde => rows(engine.lde_batch(mat, added_bits)),
         _ => rows(engine.coset_lde_batch(mat, added_bits, shift)),
+    }
+}
+
+/// An extension of coefficients, in either order of rows.
+pub fn extension_of_coefficients<F: TwoAdicField, D: TwoAdicSubgroupDft<F>>(
+    engine: &mut D,
+    call: Call,
+    input: Input<F>,
+) -> Answer<F> {
+    let Input {
+        mat,
+        added_bits,
+        shift,
+        change: _change,
+    } = input;
+    if !fits_lde::<F>(mat.height(), mat.width(), added_bits) {
+        return Answer::Absent;
+    }
+    match call {
+        Call::OfCoefficients => {
+            rows(engine.coset_lde_batch_of_coefficients(mat, added_bits, shift))
+        }
+        _ => rows(engine.coset_lde_batch_of_coefficients_bit_reversed(mat, added_bits, shift)),
     }
 }
 

@@ -83,6 +83,10 @@ pub enum Call {
     WithBlocks,
     /// `coset_lde_batch_in_blocks`.
     InBlocks,
+    /// `coset_lde_batch_of_coefficients`.
+    OfCoefficients,
+    /// `coset_lde_batch_of_coefficients_bit_reversed`.
+    OfCoefficientsBitReversed,
     /// `ReedSolomon::encode`.
     Encode,
     /// `ReedSolomon::is_codeword`.
@@ -102,7 +106,7 @@ pub enum Call {
 }
 
 /// All of them.
-pub const CALLS: [Call; 37] = [
+pub const CALLS: [Call; 39] = [
     Call::Batch(Operation::Dft),
     Call::Batch(Operation::CosetDft),
     Call::Batch(Operation::Idft),
@@ -132,6 +136,8 @@ pub const CALLS: [Call; 37] = [
     Call::BitReversed,
     Call::WithBlocks,
     Call::InBlocks,
+    Call::OfCoefficients,
+    Call::OfCoefficientsBitReversed,
     Call::Encode,
     Call::IsCodeword,
     Call::RunJobs,
@@ -203,6 +209,8 @@ impl Call {
             Call::BitReversed => "bit_reversed",
             Call::WithBlocks => "with_blocks",
             Call::InBlocks => "in_blocks",
+            Call::OfCoefficients => "of_coefficients",
+            Call::OfCoefficientsBitReversed => "of_coefficients_bit_reversed",
             Call::Encode => "encode",
             Call::IsCodeword => "is_codeword",
             Call::RunJobs => "run_jobs",

@@ -45,6 +45,9 @@ impl Case {
             Some(Operation::CosetIdft) => line.values(alloc, self.log_h, self.shift()),
             Some(_) => line.values(alloc, self.log_h, F::ONE),
             None => match self.call {
+                Call::OfCoefficients | Call::OfCoefficientsBitReversed => {
+                    line.coefficients(alloc, self.log_h)
+                }
                 Call::IsCodeword => line.values(alloc, log_points, self.shift()),
                 Call::TryClone => line.values(alloc, self.log_h, self.shift()),
                 _ => line.values(alloc, self.log_h, F::ONE),

@@ -44,6 +44,7 @@ struct Bounds {
     extension: usize,
     // Of `lde_batch` and `coset_lde_batch`.
     coset_extension: usize,
+    extension_of_coefficients: usize,
     // Of an extension whose first block is refused.
     refused: usize,
     // Of telling whether an extension is a codeword.
@@ -121,6 +122,11 @@ impl Method {
             } else {
                 extension
             },
+            extension_of_coefficients: if self == Method::WithoutZeros {
+                total(&[on_cosets, extended])
+            } else {
+                total(&[larger, entries])
+            },
             // The coset that the first block is of is the only one begun.
             refused: if self == Method::Cosets {
                 total(&[transform, entries, transform])
@@ -170,6 +176,7 @@ fn worked_bounds() -> BoundsOfEngines {
         coset_inverse: 28,
         extension: 68,
         coset_extension: 68,
+        extension_of_coefficients: 40,
         refused: 68,
         membership: 64,
     };
@@ -182,6 +189,7 @@ fn worked_bounds() -> BoundsOfEngines {
             coset_inverse: 80,
             extension: 344,
             coset_extension: 344,
+            extension_of_coefficients: 264,
             refused: 344,
             membership: 288,
         }),
@@ -246,6 +254,9 @@ impl Bounds {
             | Call::WithBlocks
             | Call::InBlocks
             | Call::Encode => Some((0, self.extension)),
+            Call::OfCoefficients | Call::OfCoefficientsBitReversed => {
+                Some((0, self.extension_of_coefficients))
+            }
             Call::IsCodeword => Some((0, self.membership)),
             _ => None,
         }
