@@ -107,7 +107,7 @@ abbrev quotient_of : ℕ → ℕ → ℕ
 quotient_of m t = (t * 4294967296) % 18446744073709551616 / m % 4294967296
 
 abbrev estimate : ℕ → ℕ → ℕ
-estimate x q = (x * q) % 18446744073709551616 / 4294967296
+estimate x q = x * q / 4294967296
 
 abbrev rest_of_estimate : ℕ → ℕ → ℕ → ℕ → ℕ
 rest_of_estimate m t q x = wrapped_difference (wrapped_product x t) (wrapped_product (estimate x q) m)
@@ -127,12 +127,8 @@ module _ (m : ℕ) (above : 1 < m) (small : m < 2147483648) (t : ℕ) (factor : 
       let s : ℕ = (t * 4294967296) % m in
       let u : ℕ = (x * q) % 4294967296 in
       let factor_parts : s + q * m ≡ t * 4294967296 = ap (λ k. s + k * m) quotient_is ∙ mod-add-div' (t * 4294967296) m in
-      let quotient_word : q < 4294967296 = mod-lt (t * 4294967296 % 18446744073709551616 / m) (lit< tt) in
       let x_word : x ≤ 4294967295 = omega (arith, below) in
-      let q_word : q ≤ 4294967295 = omega (arith, quotient_word) in
-      let product : x * q ≤ 4294967295 * 4294967295 = mul-le-mul x_word q_word in
-      let product_word : (x * q) % 18446744073709551616 ≡ x * q = mod-eq_of_lt (omega (arith, product)) in
-      let parts : u + e * 4294967296 ≡ x * q = ap (λ k. u + k / 4294967296 * 4294967296) product_word ∙ mod-add-div' (x * q) 4294967296 in
+      let parts : u + e * 4294967296 ≡ x * q = mod-add-div' (x * q) 4294967296 in
       let u_word : u ≤ 4294967295 = omega arith in
       let s_below : s < m = mod-lt (t * 4294967296) (omega (arith, above)) in
       let s_most : s ≤ m = omega (arith, s_below) in
@@ -159,18 +155,11 @@ module _ (m : ℕ) (above : 1 < m) (small : m < 2147483648) (t : ℕ) (factor : 
   lane_multiple x below = sym (add-mul-mod_self_right (rest_of_estimate m t (quotient_of m t) x) (estimate x (quotient_of m t)) m) ∙ ap (λ n. n % m) (lane_rest x below)
 
   -- the quotient's estimate in all lanes, and the rest
-  abbrev estimates : ℕ → List ℕ → List ℕ
-  estimates n xs = zip2 (λ x s. x / 2 ^ s) (zip2 (λ x y. (x * y) % 18446744073709551616) (map (λ x. x) xs) (replicate n (quotient_of m t))) (replicate n 32)
+  abbrev estimates : List ℕ → List ℕ
+  estimates xs = map (λ x. x * quotient_of m t / 4294967296) xs
 
   abbrev rests : ℕ → List ℕ → List ℕ
-  rests n xs = zip2 wrapped_difference (zip2 wrapped_product xs (replicate n t)) (zip2 wrapped_product (map (λ x. x) (estimates n xs)) (replicate n m))
-
-  pub estimates_fit : (xs : List ℕ) (n : ℕ) → length xs ≡ n → Each1 (Fits w32) (estimates n xs)
-  estimates_fit [] n e = tt
-  estimates_fit (x ∷ xs) zero e = absurd (omega (arith, e))
-  estimates_fit (x ∷ xs) (suc n) e =
-      let fits : (x * quotient_of m t) % 18446744073709551616 / 4294967296 < 4294967296 = omega (arith, mod-lt (x * quotient_of m t) {m = 18446744073709551616} (lit< tt)) in
-      (record { fits = fits }, estimates_fit xs n (omega (arith, e)))
+  rests n xs = zip2 wrapped_difference (zip2 wrapped_product xs (replicate n t)) (zip2 wrapped_product (estimates xs) (replicate n m))
 
   pub rests_below : (xs : List ℕ) (n : ℕ) → length xs ≡ n → Each1 (Fits w32) xs → AreBelow (m + m) (rests n xs)
   rests_below [] n e fits = tt

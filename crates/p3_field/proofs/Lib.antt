@@ -12,3 +12,4 @@ pub mod Residues
 pub mod RingSolver
 pub mod Rings
 pub mod Roots
+mod WordLanes

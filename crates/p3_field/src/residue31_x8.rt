@@ -1,6 +1,6 @@
 //! Eight elements of a field whose modulus is below `2^31`, in the lanes of one vector.
 
-ghost use Rattle.std.specs.Prelude.{◌≡◌, ◌+◌, ◌-◌, ◌*◌, ◌%◌, ◌<◌, ℕ, length, map, get_or};
+ghost use Rattle.std.specs.Prelude.{◌≡◌, ◌+◌, ◌-◌, ◌*◌, ◌/◌, ◌%◌, ◌<◌, ℕ, length, map, get_or};
 ghost use Rattle.std.specs.Simd.Lanes.{zip2};
 ghost use Rattle.p3_field.specs.LaneNumbers.{AreBelow};
 ghost use Rattle.p3_field.specs.LaneLaws.{are_below-prop};
@@ -234,6 +234,24 @@ fn loose_differences<N: Numbers>(a: u32x8, b: u32x8) -> u32x8
     (a - b) + u32x8::splat(N::MODULUS)
 }
 
+// The upper half of the product of each lane and a factor, without widening the vector: a lane in an even place is
+// the lower half of a word of 64 bits already, and one in an odd place is copied into the place before it.
+#[inline(always)]
+fn upper_halves(a: u32x8, factor: u64) -> u32x8
+    requires { factor < 4294967296 }
+    ensures { result ≡ map (λ x. x * factor / 4294967296) a }
+{
+    let low = u64x4::splat(4294967295);
+    let factors = u64x4::splat(factor);
+    let odd_lanes = a.swizzle([1, 1, 3, 3, 5, 5, 7, 7]);
+    let even = (u64x4::from_le_bytes(a.to_le_bytes()) & low) * factors;
+    let odd = (u64x4::from_le_bytes(odd_lanes.to_le_bytes()) & low) * factors;
+    u32x8::from_le_bytes(even.to_le_bytes()).shuffle(
+        u32x8::from_le_bytes(odd.to_le_bytes()),
+        [1, 9, 3, 11, 5, 13, 7, 15],
+    )
+}
+
 // The product of each lane, which may be any number, and t, below the modulus. The quotient of a product is
 // estimated by that of t, which is one division for all lanes; the estimate is one too small at most.
 #[inline(always)]
@@ -242,7 +260,7 @@ fn multiples<N: Numbers>(a: u32x8, t: u32) -> u32x8
     ensures { result ≡ map (λ x. (x * t) % N.numbers.modulus) a }
 {
     let quotient = ((t as u64) << 32) / N::MODULUS as u64 % 4294967296;
-    let estimate = ((a.cast::<u64>() * u64x8::splat(quotient)) >> u64x8::splat(32)).cast::<u32>();
+    let estimate = upper_halves(a, quotient);
     remainders::<N>(a * u32x8::splat(t) - estimate * u32x8::splat(N::MODULUS))
 }
 

@@ -1,0 +1,5 @@
+use Rattle.p3_field.proofs.WordLanes.{upper_halves_of_lanes}
+use Rattle.p3_field.proofs.residue31_x8.upper_halves.Goals as goal
+
+pub returns : goal.returns
+returns c = upper_halves_of_lanes c.args.factor c.args.a c.requires c.fits-a.0 c.fits-a.1
