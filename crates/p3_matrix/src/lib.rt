@@ -24,6 +24,6 @@ pub use butterflies::{
 pub use dense::RowMajorMatrix;
 pub use error::DftError;
 pub use evaluations::{Evaluations, IntoRowMajorMatrix};
-pub use scale::scale_slice_in_place;
+pub use scale::{scale_slice_in_place, scale_slice_oop};
 pub use util::{has_degree_below, log2_strict_usize, swap_rows};
 pub use views::{RowMajorMatrixView, RowMajorMatrixViewMut, split_rows_mut};

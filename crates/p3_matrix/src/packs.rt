@@ -281,3 +281,26 @@ fn scale_pack<F: Packable, P: PackedField<Scalar = F>>(
 {
     P::load(part).scaled(t, products).store(part);
 }
+
+// Writes full packs of values, each times t, to their places in another slice.
+pub(crate) fn scale_packs_oop<F: Packable, P: PackedField<Scalar = F>>(
+    from: &[F],
+    to: &mut [F],
+    t: F,
+    products: &mut Products,
+)
+    requires wide { 1 ≤ P.WIDTH }
+    requires whole { (k : ℕ) × length from.now ≡ k * P.WIDTH }
+    requires equal { length from.now ≡ length to.old }
+    ensures values { map F.value to.new ≡ map (λ x. F.ring.mul x (F.value t)) (map F.value from.now) }
+    ensures count { products.new ≡ products.old + length from.now }
+{
+    let width = P::WIDTH;
+    let mut at = 0;
+    while at < from.len() {
+        let part = &from[at..at + width];
+        let multiples = P::load(part).scaled(t, products);
+        multiples.store(&mut to[at..at + width]);
+        at += width;
+    }
+}

@@ -3,7 +3,7 @@
 ghost use Rattle.std.specs.Prelude.{◌≡◌, ◌+◌, length, map};
 
 use crate::dense::RowMajorMatrix;
-use crate::packs::{full_packs, scale_packs};
+use crate::packs::{full_packs, scale_packs, scale_packs_oop};
 use crate::views::RowMajorMatrixViewMut;
 use p3_field::{Packable, PackedField, Products};
 
@@ -22,6 +22,19 @@ pub fn scale_slice_in_place<F: Packable>(values: &mut [F], t: F, products: &mut 
     let (packed, rest) = values.split_at_mut(full);
     scale_packs::<F, F::Packing>(packed, t, products);
     scale_packs::<F, F>(rest, t, products);
+}
+
+/// Writes each value times t to its place in another slice of the same length, with one product each.
+pub fn scale_slice_oop<F: Packable>(from: &[F], to: &mut [F], t: F, products: &mut Products)
+    requires { length from.now ≡ length to.old }
+    ensures values { map F.value to.new ≡ map (λ x. F.ring.mul x (F.value t)) (map F.value from.now) }
+    ensures count { products.new ≡ products.old + length from.now }
+{
+    let full = full_packs(from.len(), F::Packing::WIDTH);
+    let (packed, rest) = from.split_at(full);
+    let (to_packed, to_rest) = to.split_at_mut(full);
+    scale_packs_oop::<F, F::Packing>(packed, to_packed, t, products);
+    scale_packs_oop::<F, F>(rest, to_rest, t, products);
 }
 
 impl<F: Packable> RowMajorMatrix<F> {

@@ -22,7 +22,7 @@ use crate::chunks::{ChunkWork, on_each_chunk};
 use crate::radix_2_small_batch::groups::{Order, layers_in_groups};
 use crate::radix_2_small_batch::pairs::{NetworkDecimation, on_pairs};
 use p3_field::{PackedField, Products, TwoAdicField};
-use p3_matrix::scale_slice_in_place;
+use p3_matrix::{scale_slice_in_place, scale_slice_oop};
 
 // In one column so many layers of the smallest blocks are done together, on a chunk of so many rows, which has
 // so many of the smallest blocks.
@@ -640,8 +640,7 @@ fn multiples_one_by_one<F: TwoAdicField>(
     for t in 0..count {
         let start = t * width;
         let multiple = &mut values[start..start + width];
-        multiple.copy_from_slice(row);
-        scale_slice_in_place(multiple, factor, products);
+        scale_slice_oop(row, multiple, factor, products);
         factor = factor * step;
     }
 }

@@ -1,5 +1,6 @@
-use Rattle.std.proofs.Common.{◌≡◌, ◌+◌, ◌*◌, ◌-◌, ◌≤◌, length, get_or, sym, ap, ap₂, ◌∙◌, arith, rules, add-one}
+use Rattle.std.proofs.Common.{◌≡◌, ◌+◌, ◌*◌, ◌-◌, ◌≤◌, length, get_or, map, sym, ap, ◌∙◌, arith, rules, add-one}
 use borrow.Author.Rules.{scaled_fits≤}
+use Rattle.std.proofs.lemmas.List.{length-map}
 use Rattle.std.proofs.Math.Nat.{suc-mul, mul-le-mul_right}
 use Rattle.p3_field.specs.Ring.{power}
 use Rattle.p3_field.proofs.Powers.{power-zero, power-more}
@@ -39,18 +40,21 @@ loop-t-preserved g c =
     let m : (t * w + w) - t * w ≡ w = omega arith in
     let next : (t + 1) * w ≡ t * w + w = rw add-one (suc-mul t w) in
     let room : t * w + w ≤ length c.loop-t.values = omega (arith, mul-le-mul_right w c.loop-t-test.true, next, c.requires, c.loop-t.auto.values) in
-    let copied : c.copy_from_slice.new.self ≡ c.args.row.now = c.copy_from_slice.ensures.after in
-    let len : length c.scale_slice_in_place.new.values ≡ w = c.scale_slice_in_place.auto.values ∙ ap length copied in
+    let value = field.value in
+    let times = λ (x : field.Element). field.ring.mul x (value c.loop-t.factor) in
+    let row = c.args.row.now in
+    let multiple = c.scale_slice_oop.new.to in
+    let len : length multiple ≡ w = sym (length-map multiple value) ∙ ap length c.scale_slice_oop.ensures.values ∙ length-map (map value row) times ∙ length-map row value in
     record {
       factor = g.met.F.Field.mul_law _ _ _ c.mul-factor.ensures ∙ ap (λ x. field.ring.mul x (field.value c.args.step)) c.loop-t.invariant.factor
           ∙ field.ring.mul_assoc (field.value c.args.first) (power field.ring (field.value c.args.step) t) (field.value c.args.step)
           ∙ ap (field.ring.mul (field.value c.args.first)) (sym (power-more field.ring (field.value c.args.step) t));
-      values = rows-more field.ZERO w _ c.args.values.now c.loop-t.values c.scale_slice_in_place.new.values t _ m room len
+      values = rows-more field.ZERO w _ c.args.values.now c.loop-t.values multiple t _ m room len
           (λ k inside.
-          value_at field.value (λ x. field.ring.mul x (field.value c.loop-t.factor)) c.copy_from_slice.new.self c.scale_slice_in_place.new.values k field.ZERO c.scale_slice_in_place.ensures.values c.scale_slice_in_place.auto.values (omega (arith, inside, ap length copied))
-          ∙ ap₂ field.ring.mul (ap (λ xs. field.value (get_or xs k field.ZERO)) copied) c.loop-t.invariant.factor)
+          value_at value times row multiple k field.ZERO c.scale_slice_oop.ensures.values len inside
+          ∙ ap (field.ring.mul (value (get_or row k field.ZERO))) c.loop-t.invariant.factor)
           c.loop-t.invariant.values;
-      count = omega (arith, next, c.scale_slice_in_place.ensures.count, c.loop-t.invariant.count, ap length copied);
+      count = omega (arith, next, c.scale_slice_oop.ensures.count, c.loop-t.invariant.count);
     }
 
 pub returns-clause-values : goal.returns-clause-values

@@ -1,0 +1,17 @@
+use Rattle.std.proofs.Common.{◌≡◌, ◌+◌, ◌-◌, ◌*◌, ℕ, length, map}
+use Rattle.p3_matrix.proofs.RowsByPacks.{rows_done}
+use Rattle.p3_matrix.proofs.packs.scale_packs_oop.Given as goal
+
+abbrev pub invariant-loop-at : goal.invariant-loop-at
+invariant-loop-at g l =
+    let f = g.F.Field in
+    let xs = map f.value l.from in
+    record {
+      width : l.width ≡ g.P.PackedField.WIDTH;
+      left : (k : ℕ) × (l.at + k * l.width ≡ length l.from);
+      done : map f.value l.to ≡ rows_done (λ x y. f.ring.mul x (f.value l.t)) l.at xs xs (map f.value l.fn.to);
+      count : l.products ≡ l.fn.products + l.at;
+    }
+
+abbrev pub decreases-loop-at : goal.decreases-loop-at
+decreases-loop-at g l = length l.from - l.at
