@@ -32,69 +32,42 @@ if_less x y a b l = chosen_word (ltb x y) a b ∙ cond-true (ltb x y) a b (lt-lt
 if_not_less : (x y a b : ℕ) → y ≤ x → cond (top 63 (word_mask x y)) a b ≡ b
 if_not_less x y a b l = chosen_word (ltb x y) a b ∙ cond-false (ltb x y) a b (le-ltb x y l)
 
--- a number with its highest bit turned, and what is selected where one so turned is greater
-abbrev turned : ℕ → ℕ
-turned x = word_sum x 9223372036854775808
-
-abbrev where_greater : ℕ → ℕ → ℕ → ℕ → ℕ
-where_greater x y a b = cond (top 63 (word_mask (turned y) (turned x))) a b
-
 -- ---- one lane
 lane_sum : (x y : ℕ) → x < goldilocks_modulus → y < goldilocks_modulus
-    → word_difference (word_sum (turned x) (turned y)) (word_difference goldilocks_modulus (where_greater (word_difference goldilocks_modulus (turned y)) (turned x) goldilocks_modulus 0))
-    ≡ (x + y) % goldilocks_modulus
+    → word_sum (word_sum x y) (cond (top 63 (word_mask (word_difference 18446744069414584320 y) x)) 4294967295 0) ≡ (x + y) % goldilocks_modulus
 lane_sum x y a b =
-    let p : ℕ = goldilocks_modulus in
-    let u : ℕ = turned x in
-    let s : ℕ = word_sum u (turned y) in
-    let k : ℕ = word_difference p (turned y) in
-    let s_is : s ≡ (x + y) % 18446744073709551616 = omega arith in
-    let k_is : turned k ≡ p - y = omega (arith, b) in
-    let u_is : turned u ≡ x = omega (arith, a) in
+    let s : ℕ = word_sum x y in
+    let r : ℕ = word_difference 18446744069414584320 y in
+    let r_is : r ≡ 18446744069414584320 - y = omega (arith, b) in
     ⊎_elim
-    (λ less.
-    ap (λ m. word_difference s (word_difference p m)) (if_less (turned u) (turned k) p 0 less)
-    ∙ omega (arith, s_is, k_is, u_is, less, a, b))
-    (λ reaches.
-    ap (λ m. word_difference s (word_difference p m)) (if_not_less (turned u) (turned k) p 0 reaches)
-    ∙ omega (arith, s_is, k_is, u_is, reaches, a, b))
-    (cases_lt (turned u) (turned k))
+    (λ less. ap (word_sum s) (if_less r x 4294967295 0 less) ∙ omega (arith, r_is, less, a, b))
+    (λ fits. ap (word_sum s) (if_not_less r x 4294967295 0 fits) ∙ omega (arith, r_is, fits, a, b))
+    (cases_lt r x)
 
 lane_difference : (x y : ℕ) → x < goldilocks_modulus → y < goldilocks_modulus
-    → word_sum (word_difference (turned x) (turned y)) (where_greater (turned y) (turned x) goldilocks_modulus 0) ≡ (x + (goldilocks_modulus - y)) % goldilocks_modulus
+    → word_difference (word_difference x y) (cond (top 63 (word_mask x y)) 4294967295 0) ≡ (x + (goldilocks_modulus - y)) % goldilocks_modulus
 lane_difference x y a b =
-    let p : ℕ = goldilocks_modulus in
-    let u : ℕ = turned x in
-    let v : ℕ = turned y in
-    let d : ℕ = word_difference u v in
-    let d_is : d ≡ word_difference x y = omega (arith, a, b) in
-    let u_is : turned u ≡ x = omega (arith, a) in
-    let v_is : turned v ≡ y = omega (arith, b) in
+    let d : ℕ = word_difference x y in
     ⊎_elim
-    (λ less. ap (word_sum d) (if_less (turned u) (turned v) p 0 less) ∙ omega (arith, d_is, u_is, v_is, less, a, b))
-    (λ reaches. ap (word_sum d) (if_not_less (turned u) (turned v) p 0 reaches) ∙ omega (arith, d_is, u_is, v_is, reaches, a, b))
-    (cases_lt (turned u) (turned v))
+    (λ less. ap (word_difference d) (if_less x y 4294967295 0 less) ∙ omega (arith, less, a, b))
+    (λ reaches. ap (word_difference d) (if_not_less x y 4294967295 0 reaches) ∙ omega (arith, reaches, a, b))
+    (cases_lt x y)
 
 -- ---- all lanes
-abbrev all_turned : ℕ → List ℕ → List ℕ
-all_turned n xs = zip2 word_sum xs (replicate n 9223372036854775808)
-
--- a where a lane of xs is above that of ys, both with their highest bits turned, and b elsewhere
-abbrev all_where : ℕ → List ℕ → List ℕ → ℕ → ℕ → List ℕ
-all_where n xs ys a b = sel_l (map (top 63) (zip2 word_mask (all_turned n ys) (all_turned n xs))) (replicate n a) (replicate n b)
+-- a where a lane of xs is above that of ys, and b elsewhere
+abbrev all_above : ℕ → List ℕ → List ℕ → ℕ → ℕ → List ℕ
+all_above n xs ys a b = sel_l (map (top 63) (zip2 word_mask ys xs)) (replicate n a) (replicate n b)
 
 pub goldilocks_sums : (xs ys : List ℕ) (n : ℕ) → length xs ≡ n → length ys ≡ n → AreBelow goldilocks_modulus xs → AreBelow goldilocks_modulus ys
-    → zip2 word_difference (zip2 word_sum (all_turned n xs) (all_turned n ys))
-    (zip2 word_difference (replicate n goldilocks_modulus) (all_where n (zip2 word_difference (replicate n goldilocks_modulus) (all_turned n ys)) (all_turned n xs) goldilocks_modulus 0))
+    → zip2 word_sum (zip2 word_sum xs ys) (all_above n xs (zip2 word_difference (replicate n 18446744069414584320) ys) 4294967295 0)
     ≡ zip2 (λ x y. (x + y) % goldilocks_modulus) xs ys
 goldilocks_sums [] ys n e f a b = refl
-goldilocks_sums (x ∷ xs) [] zero e f a b = absurd (omega (arith, e))
-goldilocks_sums (x ∷ xs) [] (suc n) e f a b = absurd (omega (arith, f))
+goldilocks_sums (x ∷ xs) [] n e f a b = absurd (omega (arith, e, f))
 goldilocks_sums (x ∷ xs) (y ∷ ys) zero e f a b = absurd (omega (arith, e))
 goldilocks_sums (x ∷ xs) (y ∷ ys) (suc n) e f a b = ap₂ ◌∷◌ (lane_sum x y a.0 b.0) (goldilocks_sums xs ys n (omega (arith, e)) (omega (arith, f)) a.1 b.1)
 
 pub goldilocks_differences : (xs ys : List ℕ) (n : ℕ) → length xs ≡ n → AreBelow goldilocks_modulus xs → AreBelow goldilocks_modulus ys
-    → zip2 word_sum (zip2 word_difference (all_turned n xs) (all_turned n ys)) (all_where n (all_turned n ys) (all_turned n xs) goldilocks_modulus 0)
+    → zip2 word_difference (zip2 word_difference xs ys) (all_above n ys xs 4294967295 0)
     ≡ zip2 (λ x y. (x + (goldilocks_modulus - y)) % goldilocks_modulus) xs ys
 goldilocks_differences [] ys n e a b = refl
 goldilocks_differences (x ∷ xs) ys zero e a b = absurd (omega (arith, e))
@@ -189,7 +162,14 @@ low_of_product x t a b = let p = product_of_words x t a b in omega (arith, p.0, 
 high_of_product : (x t : ℕ) → x < 18446744073709551616 → t < 18446744073709551616 → high_word x t ≡ x * t / 18446744073709551616
 high_of_product x t a b = let p = product_of_words x t a b in omega (arith, p.0, p.1)
 
--- ---- the remainder of two words
+-- ---- the remainder of two words, whose highest bits are turned on the way
+abbrev turned : ℕ → ℕ
+turned x = word_sum x 9223372036854775808
+
+-- what is selected where one so turned is greater
+abbrev where_greater : ℕ → ℕ → ℕ → ℕ → ℕ
+where_greater x y a b = cond (top 63 (word_mask (turned y) (turned x))) a b
+
 abbrev borrowed : ℕ → ℕ → ℕ
 borrowed l u = word_difference (word_difference (turned l) u) (where_greater (word_difference (turned l) u) (turned l) 4294967295 0)
 
@@ -287,6 +267,13 @@ high_words [] ts n e a b = refl
 high_words (x ∷ xs) ts zero e a b = absurd (omega (arith, e))
 high_words (x ∷ xs) [] (suc n) e a b = refl
 high_words (x ∷ xs) (t ∷ ts) (suc n) e a b = ap₂ ◌∷◌ (high_of_product x t a.0.fits b.0.fits) (high_words xs ts n (omega (arith, e)) a.1 b.1)
+
+abbrev all_turned : ℕ → List ℕ → List ℕ
+all_turned n xs = zip2 word_sum xs (replicate n 9223372036854775808)
+
+-- a where a lane of xs is above that of ys, both with their highest bits turned, and b elsewhere
+abbrev all_where : ℕ → List ℕ → List ℕ → ℕ → ℕ → List ℕ
+all_where n xs ys a b = all_above n (all_turned n xs) (all_turned n ys) a b
 
 abbrev all_borrowed : ℕ → List ℕ → List ℕ → List ℕ
 all_borrowed n ls hs =

@@ -1,8 +1,8 @@
 //! Eight elements of the field of the numbers below `2^64 - 2^32 + 1`, in the lanes of one vector.
 //!
-//! AVX2 compares words of 64 bits only as signed ones. So numbers are compared with their highest bits flipped, which
-//! a sum with `HIGHEST_BIT` does: the unsigned order of two words is the signed order of the flipped ones, and the
-//! compiler sees it.
+//! AVX2 compares words of 64 bits only as signed ones. So the compiler compares numbers with their highest bits flipped:
+//! the unsigned order of two words is the signed order of the flipped ones. Where a number takes part in comparisons
+//! that follow one another, it is kept flipped here, by a sum with `HIGHEST_BIT`, and the compiler sees it.
 
 ghost use Rattle.std.specs.Prelude.{◌≡◌, ◌+◌, ◌-◌, ◌*◌, ◌%◌, ◌/◌, ◌<◌, ℕ, length, map, get_or};
 ghost use Rattle.std.specs.Simd.Lanes.{zip2};
@@ -16,7 +16,11 @@ use std::alloc::AllocError;
 use std::marker::PhantomData;
 use std::simd::prelude::*;
 
-const MODULUS: u64 = 18446744069414584321;
+// The largest number below the modulus.
+const LARGEST: u64 = 18446744069414584320;
+
+// `2^64` is this number to the modulus: to add it and let the word wrap takes the modulus away.
+const WRAP: u64 = 4294967295;
 
 const HIGHEST_BIT: u64 = 9223372036854775808;
 
@@ -187,15 +191,9 @@ fn sums(a: u64x8, b: u64x8) -> u64x8
     requires second { AreBelow goldilocks_modulus b }
     ensures { result ≡ zip2 (λ x y. (x + y) % goldilocks_modulus) a b }
 {
-    let highest = u64x8::splat(HIGHEST_BIT);
-    let modulus = u64x8::splat(MODULUS);
-    let x = a + highest;
-    let y = b + highest;
-    let lacking = modulus - y;
-    let short = (lacking + highest)
-        .simd_gt(x + highest)
-        .select(modulus, u64x8::splat(0));
-    (x + y) - (modulus - short)
+    let room = u64x8::splat(LARGEST) - b;
+    let reaches = a.simd_gt(room);
+    (a + b) + reaches.select(u64x8::splat(WRAP), u64x8::splat(0))
 }
 
 // The difference of each two lanes below the modulus.
@@ -205,13 +203,8 @@ fn differences(a: u64x8, b: u64x8) -> u64x8
     requires second { AreBelow goldilocks_modulus b }
     ensures { result ≡ zip2 (λ x y. (x + (goldilocks_modulus - y)) % goldilocks_modulus) a b }
 {
-    let highest = u64x8::splat(HIGHEST_BIT);
-    let x = a + highest;
-    let y = b + highest;
-    (x - y)
-        + (y + highest)
-            .simd_gt(x + highest)
-            .select(u64x8::splat(MODULUS), u64x8::splat(0))
+    let negative = b.simd_gt(a);
+    (a - b) - negative.select(u64x8::splat(WRAP), u64x8::splat(0))
 }
 
 // The lower and the upper digits of the product of each two lanes.
