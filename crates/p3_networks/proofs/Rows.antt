@@ -1,4 +1,3 @@
 -- Rows of flat lists: blocks of them that are lent, and chunks.
 pub mod Lent
-pub mod Chunks
 pub mod EachChunk

@@ -1,7 +1,13 @@
 -- Layers of butterflies on cells that lie one after another, w of them in each row.
-use Rattle.std.specs.Prelude.{◌≡◌, ℕ, ◌+◌, ◌-◌, ◌*◌, ◌^◌, ◌<◌, List, length, get_or}
+use Rattle.std.specs.Prelude.{◌≡◌, ℕ, ◌+◌, ◌-◌, ◌*◌, ◌^◌, ◌<◌, ◌≤◌, List, length, get_or}
 use Rattle.p3_field.specs.declared.fields.Field.{Ghosts as FieldMembers}
 use Rattle.p3_matrix.specs.Polynomials.{poly}
+
+-- n entries are 2 ^ k rows of w entries
+pub record AreRows (k w n : ℕ) : Type 0 where
+  pub wide : 1 ≤ w
+  pub small : k < 64
+  pub size : n ≡ 2 ^ k * w
 
 -- Layer e of k takes the cells `before e` to `after e`, for each e. The 2 ^ k rows come in blocks of two halves of 2 ^ e rows. In
 -- block b each cell of the first half meets its like in the second: near stands in the first of them, far in the other.

@@ -3,15 +3,14 @@
 ghost use Rattle.std.specs.Prelude.{◌≡◌, ℕ, ◌+◌, ◌*◌, ◌/◌, ◌-◌, ◌^◌, ◌<◌, ◌≤◌, length};
 ghost use Rattle.p3_field.specs.Ring.{AreRoots, power};
 ghost use Rattle.p3_matrix.specs.BitOrder.{rev};
-ghost use Rattle.p3_matrix.specs.RowMajor.{IsRowMajor, height};
 ghost use Rattle.p3_matrix.specs.Cosets.{point, values_of};
 ghost use Rattle.p3_matrix.specs.Polynomials.{poly};
-ghost use Rattle.p3_networks.specs.Twiddles.{AreBlockTwiddles, AreTwiddlesOfLayers, block_end, coset_twiddles, factor};
-ghost use Rattle.p3_networks.specs.Twiddles.{scale_cost};
+ghost use Rattle.p3_networks.specs.Halves.{HasHighLayers};
+ghost use Rattle.p3_networks.specs.Twiddles.{AreBlockTwiddles, AreTwiddlesOfLayers, coset_twiddles, factor, scale_cost};
 ghost use Rattle.p3_dft.specs.Stored.{HasEntriesOf, HasTwoPowerRows};
 
 use p3_field::{Products, TwoAdicField};
-use p3_matrix::{RowMajorMatrix, reverse_rows, scale_slice_in_place};
+use p3_matrix::{RowMajorMatrix, reverse_rows};
 use p3_networks::radix_2_dit_parallel::halves::{BlockTwiddles, first_half, second_half};
 
 // From coefficients in natural order, their values on a coset, in bit reversed order. The first half has
@@ -27,7 +26,7 @@ pub(crate) fn network_to_reversed<F: TwoAdicField>(
 )
     requires rows { HasTwoPowerRows mat.old (mid + left) }
     requires low { 2 ^ mid - 1 ≤ length low.now }
-    requires high { (l : ℕ) → mid ≤ l → l < mid + left → block_end high.by_layer l ≤ length high.twiddles.now }
+    requires high { HasHighLayers mid left high.by_layer high.twiddles.now }
     ensures same { HasEntriesOf mat.new mat.old }
     ensures values { (g : ℕ → F.Element) (s : F.Element) → AreRoots F.ring (mid + left) g
         → AreTwiddlesOfLayers F.Field.own mid (coset_twiddles F.Field.own g (power F.ring s (2 ^ left)) mid) low.now
@@ -70,8 +69,7 @@ fn first_of_matrix<F: TwoAdicField>(
     first_half(twiddles, mat.values_mut(), width, mid + left, mid, products);
 }
 
-// The rows are reversed, then the second half. Where that has no layer, its scale takes a pass of its
-// own.
+// The rows are reversed, then the second half.
 fn second_of_matrix<F: TwoAdicField>(
     table: BlockTwiddles<'_, F>,
     scale: Option<F>,
@@ -81,7 +79,7 @@ fn second_of_matrix<F: TwoAdicField>(
     products: &mut Products,
 )
     requires rows { HasTwoPowerRows mat.old (mid + left) }
-    requires table { (l : ℕ) → mid ≤ l → l < mid + left → block_end table.by_layer l ≤ length table.twiddles.now }
+    requires table { HasHighLayers mid left table.by_layer table.twiddles.now }
     ensures same { HasEntriesOf mat.new mat.old }
     ensures values { (g : ℕ → F.Element) (s : F.Element) → AreRoots F.ring (mid + left) g
         → AreBlockTwiddles F.Field.own g s mid (mid + left) table.entry.by_layer table.entry.twiddles.now
@@ -97,28 +95,5 @@ fn second_of_matrix<F: TwoAdicField>(
 {
     let width = mat.width();
     reverse_rows(mat);
-    if left > 0 {
-        second_half(table, scale, mat.values_mut(), width, mid, left, products);
-    } else {
-        scale_rows(scale, mat, products);
-    }
-}
-
-// Multiplies all rows by the scale, if there is one.
-fn scale_rows<F: TwoAdicField>(
-    scale: Option<F>,
-    mat: &mut RowMajorMatrix<F>,
-    products: &mut Products,
-)
-    requires whole { IsRowMajor mat.old }
-    ensures same { HasEntriesOf mat.new mat.old }
-    ensures values { (i j : ℕ) → i < height mat.old → j < mat.old.width → (values_of F.Field.own mat.new).entry i j
-        ≡ F.ring.mul ((values_of F.Field.own mat.old).entry i j) (factor F.Field.own scale) }
-    ensures grows { products.old ≤ products.new }
-    ensures cost { products.new ≤ products.old + scale_cost scale * length mat.old.values }
-{
-    match scale {
-        Some(scale) => scale_slice_in_place(mat.values_mut(), scale, products),
-        None => {}
-    }
+    second_half(table, scale, mat.values_mut(), width, mid, left, products);
 }

@@ -4,6 +4,7 @@ use Rattle.std.proofs.Math.Nat.{pow-le-pow_right, mul-le-mul_right, mul-le-mul_l
 use Rattle.std.proofs.lemmas.Bool.{cases_lt}
 use Rattle.std.proofs.lemmas.Nat.{one_shl, pow_pos}
 use Rattle.p3_matrix.proofs.TwoPowers.{log_lt}
+use Rattle.p3_networks.specs.Counts.{RisesAtMost}
 use Rattle.p3_networks.specs.Layers.{AreLayers, HoldsCells, IsLayer}
 use Rattle.p3_networks.proofs.Layers.Blocks.{each_row, halves_whole}
 use Rattle.p3_networks.proofs.Layers.Shifts.{one_shifted}
@@ -34,23 +35,22 @@ blocks_within k top e number below room =
     cancelled (number * 2 ^ (top - 1 - e) + 2 ^ (top - 1 - e)) (2 ^ (k - 1 - e)) (2 * 2 ^ e) (let some = pow_pos e in omega (arith, some))
     (rw (spread, part, all) room)
 
-module _ {A T : Type 0} (value : T → A) (d : T) (near far : ℕ → ℕ → A → A → A) where
-  -- as a program does it, where a place in a block makes no difference
-  pub chunk_taken : (k w e top number blocks half : ℕ) (place_of : ℕ → ℕ) (before after : ℕ → ℕ → A) (x y : List T) → e < top → blocks ≡ 2 ^ (top - 1 - e) → half ≡ 2 ^ e
+module _ {A T : Type 0} (value : T → A) (d : T) (near far : ℕ → A → A → A) where
+  -- as a program does it
+  pub chunk_taken : (k w e top number blocks half : ℕ) (before after : ℕ → ℕ → A) (x y : List T) → e < top → blocks ≡ 2 ^ (top - 1 - e) → half ≡ 2 ^ e
       → length x ≡ blocks * (2 * (half * w)) → length y ≡ length x → (number + 1) * 2 ^ top ≤ 2 ^ k
-      → ((b t : ℕ) (p q : A) → near b t p q ≡ near b 0 p q) → ((b t : ℕ) (p q : A) → far b t p q ≡ far b 0 p q)
-      → AreLayers k w (λ b. near b 0) (λ b. far b 0) before after
-      → IsLayer blocks (half * w) (λ b i. near (number * blocks + b) (place_of i)) (λ b i. far (number * blocks + b) (place_of i)) (λ u. value (get_or x u d)) (λ u. value (get_or y u d))
+      → AreLayers k w near far before after
+      → IsLayer blocks (half * w) (λ b i. near (number * blocks + b)) (λ b i. far (number * blocks + b)) (λ u. value (get_or x u d)) (λ u. value (get_or y u d))
       → HoldsCells value d (number * length x) (before e) x → HoldsCells value d (number * length x) (after e) y
-  chunk_taken k w e top number blocks half place_of before after x y below blocks_is half_is size same room near_same far_same layers layer holds n inside =
+  chunk_taken k w e top number blocks half before after x y below blocks_is half_is size same room layers layer holds n inside =
       each_row (λ i. value (get_or y i d) ≡ after e (number * length x + i)) (half * w) blocks
       (λ b i p q. (
-        (layer b p).near_cell i q ∙ near_same _ _ _ _ ∙ ap₂ (near (number * blocks + b) 0) (held b i p (omega (arith, q))) (held b (half * w + i) p (omega (arith, q)))
-            ∙ sym (subst (λ (h : ℕ). after e ((number * blocks + b) * (2 * (h * w)) + i) ≡ near (number * blocks + b) 0 (before e ((number * blocks + b) * (2 * (h * w)) + i)) (before e ((number * blocks + b) * (2 * (h * w)) + (h * w + i)))) (sym half_is)
+        (layer b p).near_cell i q ∙ ap₂ (near (number * blocks + b)) (held b i p (omega (arith, q))) (held b (half * w + i) p (omega (arith, q)))
+            ∙ sym (subst (λ (h : ℕ). after e ((number * blocks + b) * (2 * (h * w)) + i) ≡ near (number * blocks + b) (before e ((number * blocks + b) * (2 * (h * w)) + i)) (before e ((number * blocks + b) * (2 * (h * w)) + (h * w + i)))) (sym half_is)
             (layers.near_cell e (number * blocks + b) i (omega (arith, below, within)) (inside_all b p) (subst (λ (h : ℕ). i < h * w) half_is q)))
             ∙ ap (after e) (place b i),
-        (layer b p).far_cell i q ∙ far_same _ _ _ _ ∙ ap₂ (far (number * blocks + b) 0) (held b i p (omega (arith, q))) (held b (half * w + i) p (omega (arith, q)))
-            ∙ sym (subst (λ (h : ℕ). after e ((number * blocks + b) * (2 * (h * w)) + (h * w + i)) ≡ far (number * blocks + b) 0 (before e ((number * blocks + b) * (2 * (h * w)) + i)) (before e ((number * blocks + b) * (2 * (h * w)) + (h * w + i)))) (sym half_is)
+        (layer b p).far_cell i q ∙ ap₂ (far (number * blocks + b)) (held b i p (omega (arith, q))) (held b (half * w + i) p (omega (arith, q)))
+            ∙ sym (subst (λ (h : ℕ). after e ((number * blocks + b) * (2 * (h * w)) + (h * w + i)) ≡ far (number * blocks + b) (before e ((number * blocks + b) * (2 * (h * w)) + i)) (before e ((number * blocks + b) * (2 * (h * w)) + (h * w + i)))) (sym half_is)
             (layers.far_cell e (number * blocks + b) i (omega (arith, below, within)) (inside_all b p) (subst (λ (h : ℕ). i < h * w) half_is q)))
             ∙ ap (after e) (place b (half * w + i)),
       ))
@@ -106,8 +106,10 @@ chunk_sizes top e number below small =
     }
 
 -- one layer more: each makes at most so many products for each two of the cells
-pub costly_layer_more : (cost done size before now after : ℕ) → 2 * now ≤ 2 * before + cost * (done * size) → 2 * after ≤ 2 * now + cost * size → 2 * after ≤ 2 * before + cost * ((done + 1) * size)
-costly_layer_more cost done size before now after so_far layer = let next : cost * ((done + 1) * size) ≡ cost * (done * size) + cost * size = omega arith in omega (arith, so_far, layer, next)
+pub costly_layer_more : (cost done size before now after : ℕ) → RisesAtMost (cost * (done * size)) (2 * before) (2 * now) → RisesAtMost (cost * size) (2 * now) (2 * after) → RisesAtMost (cost * ((done + 1) * size)) (2 * before) (2 * after)
+costly_layer_more cost done size before now after so_far layer =
+    let next : cost * ((done + 1) * size) ≡ cost * (done * size) + cost * size = omega arith in
+    record { grows = omega (arith, so_far.grows, layer.grows); cost = omega (arith, so_far.cost, layer.cost, next) }
 
 -- what a chunk holds, told by another name of its length
 pub held_as_long : {A T : Type 0} (value : T → A) (d : T) (cells : ℕ → A) (number : ℕ) {a b : ℕ} (xs : List T) → a ≡ b → HoldsCells value d (number * a) cells xs → HoldsCells value d (number * b) cells xs

@@ -5,7 +5,7 @@ use Rattle.std.proofs.lemmas.Bool.{cases_lt}
 use Rattle.std.proofs.lemmas.Nat.{div-add-mod', div_below, mod_below, one_shl, pow-add, pow_pos}
 use Rattle.p3_matrix.proofs.TwoPowers.{log_lt}
 use Rattle.p3_networks.specs.Groups.{AreLayersInOrder, HoldsColumns, TakesColumns, cells_of, layer_of, group_end, group_of}
-use Rattle.p3_networks.specs.Layers.{AreLayers, HoldsCells, IsLayer}
+use Rattle.p3_networks.specs.Layers.{HoldsCells, IsLayer}
 use Rattle.p3_networks.specs.declared.radix_2_small_batch.groups.Order.{Order}
 use Rattle.p3_networks.specs.declared.radix_2_small_batch.groups.Order.TheVariants.{LargestFirst, SmallestFirst}
 use Rattle.p3_networks.proofs.Layers.Blocks.{halves_whole, row_below}
@@ -94,28 +94,6 @@ layer_in_order SmallestFirst k w from to done near far cells layers below within
     let after : e + 1 ≡ from + (done + 1) = omega arith in
     subst (λ (m : ℕ). IsLayer (2 ^ (k - 1 - e)) (2 ^ e * w) (λ b i. near b) (λ b i. far b) (cells e) (cells m)) after
     (λ b p. record { near_cell = λ i q. layers.near_cell e b i (omega (arith, below, within)) p q; far_cell = λ i q. layers.far_cell e b i (omega (arith, below, within)) p q })
-
--- which cells stand before and behind a layer
-abbrev pub before_of : Order → ℕ → ℕ
-before_of LargestFirst e = e + 1
-before_of SmallestFirst e = e
-
-abbrev pub after_of : Order → ℕ → ℕ
-after_of LargestFirst e = e
-after_of SmallestFirst e = e + 1
-
-pub layers_of_order : {A : Type 0} (order : Order) (k w : ℕ) (near far : ℕ → A → A → A) (cells : ℕ → ℕ → A) → AreLayersInOrder order k w near far cells
-    → AreLayers k w near far (λ e. cells (before_of order e)) (λ e. cells (after_of order e))
-layers_of_order LargestFirst k w near far cells layers = layers
-layers_of_order SmallestFirst k w near far cells layers = layers
-
-pub before_is : (order : Order) (from to done : ℕ) → done < to - from → cells_of order from to done ≡ before_of order (layer_of order from to done)
-before_is LargestFirst from to done below = let e : to - done ≡ to - 1 - done + 1 = omega (arith, below) in e
-before_is SmallestFirst from to done below = let e : from + done ≡ from + done = refl in e
-
-pub after_is : (order : Order) (from to done : ℕ) → done < to - from → after_of order (layer_of order from to done) ≡ cells_of order from to (done + 1)
-after_is LargestFirst from to done below = let e : to - 1 - done ≡ to - (done + 1) = omega arith in e
-after_is SmallestFirst from to done below = let e : from + done + 1 ≡ from + (done + 1) = omega arith in e
 
 module _ {A T : Type 0} (value : T → A) (d : T) (at end : ℕ) where
   pub columns_none : (part rows first : ℕ) (cells : ℕ → A) (xs : List T) → HoldsColumns value d part rows first at end cells xs → TakesColumns value d part rows first at end cells xs xs

@@ -9,8 +9,11 @@ use Rattle.p3_matrix.specs.BitOrder.{rev}
 use Rattle.p3_matrix.specs.Cosets.{point}
 use Rattle.p3_matrix.specs.Polynomials.{poly}
 use Rattle.p3_matrix.specs.RowMajor.{RowMajor}
+use Rattle.p3_networks.specs.Counts.{RisesAtMost}
+use Rattle.p3_networks.specs.Halves.{IsHighHalf, IsLowHalf}
+use Rattle.p3_networks.specs.Layers.{AreRows}
 use Rattle.p3_networks.specs.Slots.{HasRowsOnCoset, LentInBlocks}
-use Rattle.p3_networks.specs.Twiddles.{AreBlockTwiddles, AreTwiddlesOfLayers, IsCosetTable, coset_twiddles, forward_root, mid_of}
+use Rattle.p3_networks.specs.Twiddles.{IsCosetTable, forward_root, mid_of}
 use Rattle.p3_networks.proofs.Layers.Counts.{halves_counted}
 use Rattle.p3_networks.proofs.Networks.Chunks.{rows_of_halves}
 use Rattle.p3_networks.proofs.Tables.CosetTables.{coset_room, high_of_coset, low_of_coset}
@@ -20,15 +23,19 @@ use Rattle.p3_networks.proofs.Tables.RootPowers.{fewer_roots}
 pub halves_whole : (k : ℕ) → mid_of k + (k - mid_of k) ≡ k
 halves_whole k = omega arith
 
+-- the rows of both
+pub both_rows : (k w n len : ℕ) → AreRows k w n → len ≡ n → AreRows (mid_of k + (k - mid_of k)) w len
+both_rows k w n len rows same = record { wide = rows.wide; small = omega (arith, rows.small); size = same ∙ rows.size ∙ ap (λ n. 2 ^ n * w) (sym (halves_whole k)) }
+
 -- what both halves count
-pub both_counted : (k w before middle after : ℕ) → middle ≤ before + 2 ^ (k - mid_of k) * (w * (mid_of k * 2 ^ mid_of k / 2))
-    → after ≤ middle + 2 ^ mid_of k * (w * ((k - mid_of k) * 2 ^ (k - mid_of k) / 2)) → after ≤ before + w * (k * 2 ^ k / 2)
+pub both_counted : (k w before middle after : ℕ) → RisesAtMost (2 ^ (k - mid_of k) * (w * (mid_of k * 2 ^ mid_of k / 2))) before middle
+    → RisesAtMost (2 ^ mid_of k * (w * ((k - mid_of k) * 2 ^ (k - mid_of k) / 2))) middle after → RisesAtMost (w * (k * 2 ^ k / 2)) before after
 both_counted k w before middle after first second =
     let mid = mid_of k in
     let left = k - mid in
     let none : 2 ^ mid * (w * (left * 2 ^ left / 2)) ≡ 2 ^ mid * (w * (left * 2 ^ left / 2) + 0 * (2 ^ left * w)) = let e : w * (left * 2 ^ left / 2) ≡ w * (left * 2 ^ left / 2) + 0 * (2 ^ left * w) = omega arith in ap (λ n. 2 ^ mid * n) e in
     let e = halves_counted mid left k w 0 (halves_whole k) in
-    omega (arith, e, none, first, second)
+    record { grows = omega (arith, first.grows, second.grows); cost = omega (arith, e, none, first.cost, second.cost) }
 
 module _ {F : Type 0} (field : FieldMembers F) (generator : ℕ → F) (s : field.Element) (k : ℕ) (twiddles : List F) (table : IsCosetTable field generator s k twiddles) where
   pub low_room : 2 ^ mid_of k - 1 ≤ length twiddles
@@ -37,21 +44,13 @@ module _ {F : Type 0} (field : FieldMembers F) (generator : ℕ → F) (s : fiel
   pub high_room : (l : ℕ) → l < mid_of k + (k - mid_of k) → 2 * 2 ^ l - 1 ≤ length twiddles
   high_room l below = coset_room field generator s k twiddles l (omega (arith, below)) table
 
-  -- what the first half makes of rows, and the first n chunks of the second
-  abbrev FirstHalf : ℕ → List F → List F → Type 0
-  FirstHalf w before middle = (g : ℕ → field.Element) (x : field.Element) → AreRoots field.ring (mid_of k) g → AreTwiddlesOfLayers field (mid_of k) (coset_twiddles field g x (mid_of k)) twiddles
-      → (a t j : ℕ) → a < 2 ^ (k - mid_of k) → t < 2 ^ mid_of k → j < w → field.value (get_or middle ((a * 2 ^ mid_of k + t) * w + j) field.ZERO)
-      ≡ poly field.ring (2 ^ mid_of k) (λ q. field.value (get_or before ((a * 2 ^ mid_of k + rev (mid_of k) q) * w + j) field.ZERO)) (point field.ring g (mid_of k) x t)
-
-  abbrev SecondHalf : ℕ → List F → List F → ℕ → Type 0
-  SecondHalf w middle after n = (g : ℕ → field.Element) (x : field.Element) → AreRoots field.ring (mid_of k + (k - mid_of k)) g → AreBlockTwiddles field g x (mid_of k) (mid_of k + (k - mid_of k)) true twiddles
-      → (a t j : ℕ) → a < n → t < 2 ^ (k - mid_of k) → j < w → field.value (get_or after ((a * 2 ^ (k - mid_of k) + t) * w + j) field.ZERO)
-      ≡ poly field.ring (2 ^ (k - mid_of k)) (λ q. field.value (get_or middle ((rev (k - mid_of k) q * 2 ^ mid_of k + rev (mid_of k) a) * w + j) field.ZERO))
-      (point field.ring g (k - mid_of k) (point field.ring g (mid_of k + (k - mid_of k)) x (rev (mid_of k) a)) (rev (k - mid_of k) t))
+  -- the first n chunks of the second half, from rows that are reversed before it
+  abbrev Second : ℕ → List F → List F → ℕ → Type 0
+  Second w middle after n = IsHighHalf field n (mid_of k) (k - mid_of k) w true twiddles (λ a q j. field.value (get_or middle ((rev (k - mid_of k) q * 2 ^ mid_of k + rev (mid_of k) a) * w + j) field.ZERO)) after
 
   -- the first half leads from before to middle, the second to the first n chunks of after
   pub rows_on_coset : {bits : ℕ} → AreRoots field.ring bits (forward_root field generator) → k ≤ bits → (w n : ℕ) (before middle after : List F)
-      → FirstHalf w before middle → SecondHalf w middle after n → HasRowsOnCoset field generator k w s (n * 2 ^ (k - mid_of k)) before after
+      → IsLowHalf field (2 ^ (k - mid_of k)) (mid_of k) w twiddles before middle → Second w middle after n → HasRowsOnCoset field generator k w s (n * 2 ^ (k - mid_of k)) before after
   rows_on_coset roots_law within w n before middle after first second r j below inside =
       let gen = forward_root field generator in
       let mid = mid_of k in
@@ -67,8 +66,8 @@ module _ {F : Type 0} (field : FieldMembers F) (generator : ℕ → F) (s : fiel
 
   -- and what the second lends are such rows
   pub lent_on_coset : {C R : Type 0} {bits : ℕ} → AreRoots field.ring bits (forward_root field generator) → k ≤ bits → (step : C → ℕ → RowMajor F → Result ⊤ R → C → Type 0) (first_row w : ℕ) (before middle after : List F)
-      (c : C) (result : Result ⊤ R) (e : C) → FirstHalf w before middle
-      → LentInBlocks step first_row (2 ^ (k - mid_of k)) w (2 ^ mid_of k) (SecondHalf w middle after) after c result e
+      (c : C) (result : Result ⊤ R) (e : C) → IsLowHalf field (2 ^ (k - mid_of k)) (mid_of k) w twiddles before middle
+      → LentInBlocks step first_row (2 ^ (k - mid_of k)) w (2 ^ mid_of k) (Second w middle after) after c result e
       → LentInBlocks step first_row (2 ^ (k - mid_of k)) w (2 ^ mid_of k) (λ n. HasRowsOnCoset field generator k w s (n * 2 ^ (k - mid_of k)) before after) after c result e
   lent_on_coset roots_law within step first_row w before middle after c result e first lent =
       MatchResult-weaker result lent

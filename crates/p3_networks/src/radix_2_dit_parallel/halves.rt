@@ -2,22 +2,20 @@
 //! chunk before the next, so that a chunk that fits the cache stays there.
 
 ghost use Rattle.std.specs.Prelude.{◌≡◌, ℕ, ◌+◌, ◌-◌, ◌*◌, ◌/◌, ◌^◌, ◌<◌, ◌≤◌, length, get_or, true};
-ghost use Rattle.p3_field.specs.Ring.{AreRoots};
-ghost use Rattle.p3_matrix.specs.BitOrder.{rev};
 ghost use Rattle.p3_matrix.specs.Butterflies.{dit_near, dit_far};
-ghost use Rattle.p3_matrix.specs.Cosets.{point};
-ghost use Rattle.p3_matrix.specs.Polynomials.{poly};
 ghost use Rattle.p3_networks.specs.Chunks.{chunk_of};
-ghost use Rattle.p3_networks.specs.Layers.{AreValuesOfRows, IsLayer};
-ghost use Rattle.p3_networks.specs.Twiddles.{AreBlockTwiddles, AreTwiddlesOfLayers, coset_twiddles, block_end};
-ghost use Rattle.p3_networks.specs.Twiddles.{block_entries, factor, scale_cost};
+ghost use Rattle.p3_networks.specs.Counts.{RisesAtMost};
+ghost use Rattle.p3_networks.specs.Halves.{HasHighLayers, IsHighChunk, IsHighHalf, IsHighNetwork};
+ghost use Rattle.p3_networks.specs.Halves.{IsLowHalf, IsLowNetwork};
+ghost use Rattle.p3_networks.specs.Layers.{AreRows, IsLayer};
+ghost use Rattle.p3_networks.specs.Twiddles.{block_end, block_entries, factor, scale_cost};
 
 use crate::butterfly_layers::rules::{ByBlock, Dit, DitByPlace, ScaledDit};
 use crate::butterfly_layers::{layer, layer_oop};
 use crate::chunks::{ChunkWork, chunk, on_each_chunk};
 use crate::twiddles::layer_twiddles;
 use p3_field::{Field, Products, TwoAdicField};
-use p3_matrix::{DitButterfly, TwiddleFreeButterfly};
+use p3_matrix::{DitButterfly, TwiddleFreeButterfly, scale_slice_in_place};
 
 /// The twiddles of the second half, whose blocks take them in bit reversed order: one table for all
 /// layers, of which a layer has the first ones, or a table for each layer, one after another.
@@ -55,52 +53,11 @@ pub fn first_half<F: TwoAdicField>(
     mid: usize,
     products: &mut Products,
 )
-    requires wide { 1 ≤ width }
-    requires small { log_h < 64 }
+    requires rows { AreRows log_h width (length values.old) }
     requires parts { mid ≤ log_h }
-    requires size { length values.old ≡ 2 ^ log_h * width }
     requires table { 2 ^ mid - 1 ≤ length twiddles.now }
-    ensures values { (g : ℕ → F.Element) (s : F.Element) → AreRoots F.ring mid g
-        → AreTwiddlesOfLayers F.Field.own mid (coset_twiddles F.Field.own g s mid) twiddles.now
-        → (a t j : ℕ) → a < 2 ^ (log_h - mid) → t < 2 ^ mid → j < width
-        → F.value (get_or values.new ((a * 2 ^ mid + t) * width + j) F.ZERO)
-        ≡ poly F.ring (2 ^ mid) (λ q. F.value (get_or values.old ((a * 2 ^ mid + rev mid q) * width + j) F.ZERO))
-        (point F.ring g mid s t) }
-    ensures grows { products.old ≤ products.new }
-    ensures cost { products.new ≤ products.old + 2 ^ (log_h - mid) * (width * (mid * 2 ^ mid / 2)) }
-{
-    // One column is made apart: where the width is known, no loop along a row is left.
-    if width == 1 {
-        low_chunks(twiddles, values, 1, log_h, mid, products);
-    } else {
-        low_chunks(twiddles, values, width, log_h, mid, products);
-    }
-}
-
-// The chunks of the first half, one after another. Inlined, so that a width that the caller names is known
-// in all layers.
-#[inline(always)]
-fn low_chunks<F: TwoAdicField>(
-    twiddles: &[F],
-    values: &mut [F],
-    width: usize,
-    log_h: usize,
-    mid: usize,
-    products: &mut Products,
-)
-    requires wide { 1 ≤ width }
-    requires small { log_h < 64 }
-    requires parts { mid ≤ log_h }
-    requires size { length values.old ≡ 2 ^ log_h * width }
-    requires table { 2 ^ mid - 1 ≤ length twiddles.now }
-    ensures values { (g : ℕ → F.Element) (s : F.Element) → AreRoots F.ring mid g
-        → AreTwiddlesOfLayers F.Field.own mid (coset_twiddles F.Field.own g s mid) twiddles.now
-        → (a t j : ℕ) → a < 2 ^ (log_h - mid) → t < 2 ^ mid → j < width
-        → F.value (get_or values.new ((a * 2 ^ mid + t) * width + j) F.ZERO)
-        ≡ poly F.ring (2 ^ mid) (λ q. F.value (get_or values.old ((a * 2 ^ mid + rev mid q) * width + j) F.ZERO))
-        (point F.ring g mid s t) }
-    ensures grows { products.old ≤ products.new }
-    ensures cost { products.new ≤ products.old + 2 ^ (log_h - mid) * (width * (mid * 2 ^ mid / 2)) }
+    ensures values { IsLowHalf F.Field.own (2 ^ (log_h - mid)) mid width twiddles.now values.old values.new }
+    ensures cost { RisesAtMost (2 ^ (log_h - mid) * (width * (mid * 2 ^ mid / 2))) products.old products.new }
 {
     let chunks = 1usize << (log_h - mid);
     let size = values.len() / chunks;
@@ -121,18 +78,20 @@ struct LowLayers<'a, F> {
 }
 
 impl<F: TwoAdicField> ChunkWork<F> for LowLayers<'_, F> {
-    ghost accepts = { λ it n size. (1 ≤ it.width) × ((it.mid < 64) × ((size ≡ 2 ^ it.mid * it.width)
-        × (2 ^ it.mid - 1 ≤ length it.twiddles.now))) };
+    ghost accepts = { λ it n size. AreRows it.mid it.width size × (2 ^ it.mid - 1 ≤ length it.twiddles.now) };
 
-    ghost takes = { λ it n before after. (g : ℕ → F.Element) (s : F.Element) → AreRoots F.ring it.mid g
-        → AreTwiddlesOfLayers F.Field.own it.mid (coset_twiddles F.Field.own g s it.mid) it.twiddles.now
-        → AreValuesOfRows F.Field.own it.width (2 ^ it.mid) (rev it.mid) (point F.ring g it.mid s) before after };
+    ghost takes = { λ it n. IsLowNetwork F.Field.own it.mid it.width it.twiddles.now };
 
     ghost cost = { λ it size. 2 * (it.width * (it.mid * 2 ^ it.mid / 2)) };
 
     #[inline(always)]
     fn on_chunk(&self, _number: usize, chunk: &mut [F], products: &mut Products) {
-        low_network(self.twiddles, chunk, self.width, self.mid, products);
+        // One column is made apart: where the width is known, no loop along a row is left.
+        if self.width == 1 {
+            low_network(self.twiddles, chunk, 1, self.mid, products);
+        } else {
+            low_network(self.twiddles, chunk, self.width, self.mid, products);
+        }
     }
 }
 
@@ -146,53 +105,12 @@ pub(crate) fn first_half_oop<F: TwoAdicField>(
     mid: usize,
     products: &mut Products,
 )
-    requires wide { 1 ≤ width }
-    requires small { log_h < 64 }
+    requires rows { AreRows log_h width (length values.old) }
+    requires source { length source.now ≡ length values.old }
     requires parts { mid ≤ log_h }
-    requires source { length source.now ≡ 2 ^ log_h * width }
-    requires size { length values.old ≡ 2 ^ log_h * width }
     requires table { 2 ^ mid - 1 ≤ length twiddles.now }
-    ensures values { (g : ℕ → F.Element) (s : F.Element) → AreRoots F.ring mid g
-        → AreTwiddlesOfLayers F.Field.own mid (coset_twiddles F.Field.own g s mid) twiddles.now
-        → (a t j : ℕ) → a < 2 ^ (log_h - mid) → t < 2 ^ mid → j < width
-        → F.value (get_or values.new ((a * 2 ^ mid + t) * width + j) F.ZERO)
-        ≡ poly F.ring (2 ^ mid) (λ q. F.value (get_or source.now ((a * 2 ^ mid + rev mid q) * width + j) F.ZERO))
-        (point F.ring g mid s t) }
-    ensures grows { products.old ≤ products.new }
-    ensures cost { products.new ≤ products.old + 2 ^ (log_h - mid) * (width * (mid * 2 ^ mid / 2)) }
-{
-    if width == 1 {
-        low_chunks_oop(twiddles, source, values, 1, log_h, mid, products);
-    } else {
-        low_chunks_oop(twiddles, source, values, width, log_h, mid, products);
-    }
-}
-
-// The chunks of the first half from rows in another slice. Inlined as the chunks in place are.
-#[inline(always)]
-fn low_chunks_oop<F: TwoAdicField>(
-    twiddles: &[F],
-    source: &[F],
-    values: &mut [F],
-    width: usize,
-    log_h: usize,
-    mid: usize,
-    products: &mut Products,
-)
-    requires wide { 1 ≤ width }
-    requires small { log_h < 64 }
-    requires parts { mid ≤ log_h }
-    requires source { length source.now ≡ 2 ^ log_h * width }
-    requires size { length values.old ≡ 2 ^ log_h * width }
-    requires table { 2 ^ mid - 1 ≤ length twiddles.now }
-    ensures values { (g : ℕ → F.Element) (s : F.Element) → AreRoots F.ring mid g
-        → AreTwiddlesOfLayers F.Field.own mid (coset_twiddles F.Field.own g s mid) twiddles.now
-        → (a t j : ℕ) → a < 2 ^ (log_h - mid) → t < 2 ^ mid → j < width
-        → F.value (get_or values.new ((a * 2 ^ mid + t) * width + j) F.ZERO)
-        ≡ poly F.ring (2 ^ mid) (λ q. F.value (get_or source.now ((a * 2 ^ mid + rev mid q) * width + j) F.ZERO))
-        (point F.ring g mid s t) }
-    ensures grows { products.old ≤ products.new }
-    ensures cost { products.new ≤ products.old + 2 ^ (log_h - mid) * (width * (mid * 2 ^ mid / 2)) }
+    ensures values { IsLowHalf F.Field.own (2 ^ (log_h - mid)) mid width twiddles.now source.now values.new }
+    ensures cost { RisesAtMost (2 ^ (log_h - mid) * (width * (mid * 2 ^ mid / 2))) products.old products.new }
 {
     let chunks = 1usize << (log_h - mid);
     let size = values.len() / chunks;
@@ -215,34 +133,35 @@ struct LowLayersOop<'a, F> {
 }
 
 impl<F: TwoAdicField> ChunkWork<F> for LowLayersOop<'_, F> {
-    ghost accepts = { λ it n size. (1 ≤ it.width) × ((it.mid < 64) × ((size ≡ 2 ^ it.mid * it.width)
-        × ((2 ^ it.mid - 1 ≤ length it.twiddles.now) × (n * size + size ≤ length it.source.now)))) };
+    ghost accepts = { λ it n size. AreRows it.mid it.width size × (2 ^ it.mid - 1 ≤ length it.twiddles.now)
+        × (n * size + size ≤ length it.source.now) };
 
-    ghost takes = { λ it n before after. (g : ℕ → F.Element) (s : F.Element) → AreRoots F.ring it.mid g
-        → AreTwiddlesOfLayers F.Field.own it.mid (coset_twiddles F.Field.own g s it.mid) it.twiddles.now
-        → AreValuesOfRows F.Field.own it.width (2 ^ it.mid) (rev it.mid) (point F.ring g it.mid s)
-        (chunk_of (length before) n it.source.now) after };
+    ghost takes = { λ it n before. IsLowNetwork F.Field.own it.mid it.width it.twiddles.now
+        (chunk_of (length before) n it.source.now) };
 
     ghost cost = { λ it size. 2 * (it.width * (it.mid * 2 ^ it.mid / 2)) };
 
     #[inline(always)]
     fn on_chunk(&self, number: usize, values: &mut [F], products: &mut Products) {
         let source = chunk(self.source, values.len(), number);
-        low_network_oop(
-            self.twiddles,
-            source,
-            values,
-            self.width,
-            self.mid,
-            products,
-        );
+        if self.width == 1 {
+            low_network_oop(self.twiddles, source, values, 1, self.mid, products);
+        } else {
+            low_network_oop(
+                self.twiddles,
+                source,
+                values,
+                self.width,
+                self.mid,
+                products,
+            );
+        }
     }
 }
 
 /// The second half, on rows in natural order: each chunk of `2^left` rows has the coefficients of
 /// polynomials, and becomes their values on a coset of its own, in bit reversed order. With a scale, the
-/// coefficients are multiplied by it first. There is at least one layer, and the table has the twiddles of
-/// all.
+/// coefficients are multiplied by it first. The table has the twiddles of all layers.
 pub fn second_half<F: TwoAdicField>(
     table: BlockTwiddles<'_, F>,
     scale: Option<F>,
@@ -252,57 +171,13 @@ pub fn second_half<F: TwoAdicField>(
     left: usize,
     products: &mut Products,
 )
-    requires wide { 1 ≤ width }
-    requires some { 1 ≤ left }
-    requires small { mid + left < 64 }
-    requires size { length values.old ≡ 2 ^ (mid + left) * width }
-    requires table { (l : ℕ) → mid ≤ l → l < mid + left → block_end table.by_layer l ≤ length table.twiddles.now }
-    ensures values { (g : ℕ → F.Element) (s : F.Element) → AreRoots F.ring (mid + left) g
-        → AreBlockTwiddles F.Field.own g s mid (mid + left) table.entry.by_layer table.entry.twiddles.now
-        → (a t j : ℕ) → a < 2 ^ mid → t < 2 ^ left → j < width
-        → F.value (get_or values.new ((a * 2 ^ left + t) * width + j) F.ZERO)
-        ≡ poly F.ring (2 ^ left)
-        (λ q. F.ring.mul (F.value (get_or values.old ((a * 2 ^ left + q) * width + j) F.ZERO))
-        (factor F.Field.own scale))
-        (point F.ring g left (point F.ring g (mid + left) s (rev mid a)) (rev left t)) }
-    ensures grows { products.old ≤ products.new }
-    ensures cost { products.new ≤ products.old
-        + 2 ^ mid * (width * (left * 2 ^ left / 2) + scale_cost scale * (2 ^ left * width)) }
-{
-    if width == 1 {
-        high_chunks(table, scale, values, 1, mid, left, products);
-    } else {
-        high_chunks(table, scale, values, width, mid, left, products);
-    }
-}
-
-// The chunks of the second half, one after another. Inlined as those of the first half are.
-#[inline(always)]
-fn high_chunks<F: TwoAdicField>(
-    table: BlockTwiddles<'_, F>,
-    scale: Option<F>,
-    values: &mut [F],
-    width: usize,
-    mid: usize,
-    left: usize,
-    products: &mut Products,
-)
-    requires wide { 1 ≤ width }
-    requires some { 1 ≤ left }
-    requires small { mid + left < 64 }
-    requires size { length values.old ≡ 2 ^ (mid + left) * width }
-    requires table { (l : ℕ) → mid ≤ l → l < mid + left → block_end table.by_layer l ≤ length table.twiddles.now }
-    ensures values { (g : ℕ → F.Element) (s : F.Element) → AreRoots F.ring (mid + left) g
-        → AreBlockTwiddles F.Field.own g s mid (mid + left) table.entry.by_layer table.entry.twiddles.now
-        → (a t j : ℕ) → a < 2 ^ mid → t < 2 ^ left → j < width
-        → F.value (get_or values.new ((a * 2 ^ left + t) * width + j) F.ZERO)
-        ≡ poly F.ring (2 ^ left)
-        (λ q. F.ring.mul (F.value (get_or values.old ((a * 2 ^ left + q) * width + j) F.ZERO))
-        (factor F.Field.own scale))
-        (point F.ring g left (point F.ring g (mid + left) s (rev mid a)) (rev left t)) }
-    ensures grows { products.old ≤ products.new }
-    ensures cost { products.new ≤ products.old
-        + 2 ^ mid * (width * (left * 2 ^ left / 2) + scale_cost scale * (2 ^ left * width)) }
+    requires rows { AreRows (mid + left) width (length values.old) }
+    requires table { HasHighLayers mid left table.by_layer table.twiddles.now }
+    ensures values { IsHighHalf F.Field.own (2 ^ mid) mid left width table.entry.by_layer table.entry.twiddles.now
+        (λ a q j. F.ring.mul (F.value (get_or values.old ((a * 2 ^ left + q) * width + j) F.ZERO))
+        (factor F.Field.own scale)) values.new }
+    ensures cost { RisesAtMost (2 ^ mid * (width * (left * 2 ^ left / 2) + scale_cost scale * (2 ^ left * width)))
+        products.old products.new }
 {
     let chunks = 1usize << mid;
     let size = values.len() / chunks;
@@ -318,34 +193,49 @@ fn high_chunks<F: TwoAdicField>(
 
 // The layers of the second half, and the scale before them.
 #[derive(Drop)]
-struct HighLayers<'a, F> {
-    table: BlockTwiddles<'a, F>,
-    scale: Option<F>,
-    width: usize,
-    mid: usize,
-    left: usize,
+pub(crate) struct HighLayers<'a, F> {
+    pub(crate) table: BlockTwiddles<'a, F>,
+    pub(crate) scale: Option<F>,
+    pub(crate) width: usize,
+    pub(crate) mid: usize,
+    pub(crate) left: usize,
 }
 
 impl<F: TwoAdicField> ChunkWork<F> for HighLayers<'_, F> {
-    ghost accepts = { λ it n size. (1 ≤ it.width) × ((1 ≤ it.left) × ((it.mid + it.left < 64) × ((n < 2 ^ it.mid)
-        × ((size ≡ 2 ^ it.left * it.width) × ((l : ℕ) → it.mid ≤ l → l < it.mid + it.left
-        → block_end it.table.by_layer l ≤ length it.table.twiddles.now))))) };
+    ghost accepts = { λ it n. IsHighChunk it.mid it.left it.width n it.table.by_layer it.table.twiddles.now };
 
-    ghost takes = { λ it n before after. (g : ℕ → F.Element) (s : F.Element) → AreRoots F.ring (it.mid + it.left) g
-        → AreBlockTwiddles F.Field.own g s it.mid (it.mid + it.left) it.table.by_layer it.table.twiddles.now
-        → (t j : ℕ) → t < 2 ^ it.left → j < it.width → F.value (get_or after (t * it.width + j) F.ZERO)
-        ≡ poly F.ring (2 ^ it.left) (λ q. F.ring.mul (F.value (get_or before (q * it.width + j) F.ZERO))
-        (factor F.Field.own it.scale))
-        (point F.ring g it.left (point F.ring g (it.mid + it.left) s (rev it.mid n)) (rev it.left t)) };
+    ghost takes = { λ it n before. IsHighNetwork F.Field.own it.mid it.left it.width n it.table.by_layer
+        it.table.twiddles.now
+        (λ q j. F.ring.mul (F.value (get_or before (q * it.width + j) F.ZERO)) (factor F.Field.own it.scale)) };
 
     ghost cost = { λ it size. 2 * (it.width * (it.left * 2 ^ it.left / 2)
         + scale_cost it.scale * (2 ^ it.left * it.width)) };
 
     #[inline(always)]
     fn on_chunk(&self, number: usize, chunk: &mut [F], products: &mut Products) {
-        high_network(
-            self.table, self.scale, chunk, self.width, self.mid, self.left, number, products,
-        );
+        if self.left == 0 {
+            scale_entries(self.scale, chunk, products);
+        } else if self.width == 1 {
+            high_network(
+                self.table, self.scale, chunk, 1, self.mid, self.left, number, products,
+            );
+        } else {
+            high_network(
+                self.table, self.scale, chunk, self.width, self.mid, self.left, number, products,
+            );
+        }
+    }
+}
+
+// Multiplies all entries by the scale, if there is one.
+fn scale_entries<F: TwoAdicField>(scale: Option<F>, values: &mut [F], products: &mut Products)
+    ensures values { (n : ℕ) → n < length values.old → F.value (get_or values.new n F.ZERO)
+        ≡ F.ring.mul (F.value (get_or values.old n F.ZERO)) (factor F.Field.own scale) }
+    ensures cost { RisesAtMost (scale_cost scale * length values.old) products.old products.new }
+{
+    match scale {
+        Some(scale) => scale_slice_in_place(values, scale, products),
+        None => {}
     }
 }
 
@@ -359,15 +249,10 @@ fn low_network<F: TwoAdicField>(
     log_h: usize,
     products: &mut Products,
 )
-    requires wide { 1 ≤ width }
-    requires small { log_h < 64 }
-    requires size { length values.old ≡ 2 ^ log_h * width }
+    requires rows { AreRows log_h width (length values.old) }
     requires table { 2 ^ log_h - 1 ≤ length twiddles.now }
-    ensures values { (g : ℕ → F.Element) (s : F.Element) → AreRoots F.ring log_h g
-        → AreTwiddlesOfLayers F.Field.own log_h (coset_twiddles F.Field.own g s log_h) twiddles.now
-        → AreValuesOfRows F.Field.own width (2 ^ log_h) (rev log_h) (point F.ring g log_h s) values.old values.new }
-    ensures grows { products.old ≤ products.new }
-    ensures cost { products.new ≤ products.old + width * (log_h * 2 ^ log_h / 2) }
+    ensures values { IsLowNetwork F.Field.own log_h width twiddles.now values.old values.new }
+    ensures cost { RisesAtMost (width * (log_h * 2 ^ log_h / 2)) products.old products.new }
 {
     for l in 0..log_h {
         one_low_layer(twiddles, values, width, log_h, l, products);
@@ -385,16 +270,11 @@ fn low_network_oop<F: TwoAdicField>(
     log_h: usize,
     products: &mut Products,
 )
-    requires wide { 1 ≤ width }
-    requires small { log_h < 64 }
-    requires source { length source.now ≡ 2 ^ log_h * width }
-    requires size { length values.old ≡ 2 ^ log_h * width }
+    requires rows { AreRows log_h width (length values.old) }
+    requires source { length source.now ≡ length values.old }
     requires table { 2 ^ log_h - 1 ≤ length twiddles.now }
-    ensures values { (g : ℕ → F.Element) (s : F.Element) → AreRoots F.ring log_h g
-        → AreTwiddlesOfLayers F.Field.own log_h (coset_twiddles F.Field.own g s log_h) twiddles.now
-        → AreValuesOfRows F.Field.own width (2 ^ log_h) (rev log_h) (point F.ring g log_h s) source.now values.new }
-    ensures grows { products.old ≤ products.new }
-    ensures cost { products.new ≤ products.old + width * (log_h * 2 ^ log_h / 2) }
+    ensures values { IsLowNetwork F.Field.own log_h width twiddles.now source.now values.new }
+    ensures cost { RisesAtMost (width * (log_h * 2 ^ log_h / 2)) products.old products.new }
 {
     if log_h == 0 {
         values.copy_from_slice(source);
@@ -418,17 +298,14 @@ pub(crate) fn one_low_layer<F: TwoAdicField>(
     l: usize,
     products: &mut Products,
 )
-    requires wide { 1 ≤ width }
-    requires small { log_h < 64 }
+    requires rows { AreRows log_h width (length values.old) }
     requires below { l < log_h }
-    requires size { length values.old ≡ 2 ^ log_h * width }
     requires table { 2 ^ log_h - 1 ≤ length twiddles.now }
     ensures cells { IsLayer (2 ^ (log_h - 1 - l)) (2 ^ l * width)
         (λ b i. dit_near F.ring (F.value (get_or (block_entries true l twiddles.now) (i / width) F.ZERO)))
         (λ b i. dit_far F.ring (F.value (get_or (block_entries true l twiddles.now) (i / width) F.ZERO)))
         (λ n. F.value (get_or values.old n F.ZERO)) (λ n. F.value (get_or values.new n F.ZERO)) }
-    ensures grows { products.old ≤ products.new }
-    ensures cost { products.new ≤ products.old + 1 * (2 ^ (log_h - 1 - l) * (2 ^ l * width)) }
+    ensures cost { RisesAtMost (1 * (2 ^ (log_h - 1 - l) * (2 ^ l * width))) products.old products.new }
 {
     let half = 1usize << l;
     let blocks = 1usize << (log_h - 1 - l);
@@ -450,21 +327,12 @@ pub(crate) fn high_network<F: TwoAdicField>(
     chunk: usize,
     products: &mut Products,
 )
-    requires wide { 1 ≤ width }
     requires some { 1 ≤ left }
-    requires small { mid + left < 64 }
-    requires chunk { chunk < 2 ^ mid }
-    requires size { length values.old ≡ 2 ^ left * width }
-    requires table { (l : ℕ) → mid ≤ l → l < mid + left → block_end table.by_layer l ≤ length table.twiddles.now }
-    ensures values { (g : ℕ → F.Element) (s : F.Element) → AreRoots F.ring (mid + left) g
-        → AreBlockTwiddles F.Field.own g s mid (mid + left) table.entry.by_layer table.entry.twiddles.now
-        → (t j : ℕ) → t < 2 ^ left → j < width → F.value (get_or values.new (t * width + j) F.ZERO)
-        ≡ poly F.ring (2 ^ left) (λ q. F.ring.mul (F.value (get_or values.old (q * width + j) F.ZERO))
-        (factor F.Field.own scale))
-        (point F.ring g left (point F.ring g (mid + left) s (rev mid chunk)) (rev left t)) }
-    ensures grows { products.old ≤ products.new }
-    ensures cost { products.new ≤ products.old
-        + (width * (left * 2 ^ left / 2) + scale_cost scale * (2 ^ left * width)) }
+    requires chunk { IsHighChunk mid left width chunk table.by_layer table.twiddles.now (length values.old) }
+    ensures values { IsHighNetwork F.Field.own mid left width chunk table.entry.by_layer table.entry.twiddles.now
+        (λ q j. F.ring.mul (F.value (get_or values.old (q * width + j) F.ZERO)) (factor F.Field.own scale)) values.new }
+    ensures cost { RisesAtMost (width * (left * 2 ^ left / 2) + scale_cost scale * (2 ^ left * width))
+        products.old products.new }
 {
     let half = 1usize << (left - 1);
     let twiddles = table.of_layer(mid);
@@ -505,8 +373,7 @@ fn layer_by_place<F: TwoAdicField>(
         (λ b i. dit_near F.ring (F.value (get_or twiddles.now (i / width) F.ZERO)))
         (λ b i. dit_far F.ring (F.value (get_or twiddles.now (i / width) F.ZERO)))
         (λ n. F.value (get_or values.old n F.ZERO)) (λ n. F.value (get_or values.new n F.ZERO)) }
-    ensures grows { products.old ≤ products.new }
-    ensures cost { products.new ≤ products.old + 1 * (blocks * (half * width)) }
+    ensures cost { RisesAtMost (1 * (blocks * (half * width))) products.old products.new }
 {
     if twiddles[0] == F::ONE {
         layer(
@@ -549,8 +416,7 @@ fn first_layer_oop<F: TwoAdicField>(
         (λ b i. dit_near F.ring (F.value (get_or twiddles.now 0 F.ZERO)))
         (λ b i. dit_far F.ring (F.value (get_or twiddles.now 0 F.ZERO)))
         (λ n. F.value (get_or source.now n F.ZERO)) (λ n. F.value (get_or values.new n F.ZERO)) }
-    ensures grows { products.old ≤ products.new }
-    ensures cost { products.new ≤ products.old + 1 * (pairs * width) }
+    ensures cost { RisesAtMost (1 * (pairs * width)) products.old products.new }
 {
     if twiddles[0] == F::ONE {
         layer_oop(TwiddleFreeButterfly, source, values, width, pairs, products);
@@ -587,8 +453,7 @@ fn layer_by_block<F: TwoAdicField>(
         (λ b i. dit_near F.ring (F.value (get_or twiddles.now (first_block + b) F.ZERO)))
         (λ b i. dit_far F.ring (F.value (get_or twiddles.now (first_block + b) F.ZERO)))
         (λ n. F.value (get_or values.old n F.ZERO)) (λ n. F.value (get_or values.new n F.ZERO)) }
-    ensures grows { products.old ≤ products.new }
-    ensures cost { products.new ≤ products.old + 1 * (blocks * (half * width)) }
+    ensures cost { RisesAtMost (1 * (blocks * (half * width))) products.old products.new }
 {
     if twiddles[0] == F::ONE {
         layer(
@@ -639,8 +504,7 @@ fn scaled_layer<F: TwoAdicField>(
         (λ b i. dit_far F.ring (F.value (get_or twiddles.now (block + b) F.ZERO)))
         (λ n. F.ring.mul (F.value (get_or values.old n F.ZERO)) (factor F.Field.own scale))
         (λ n. F.value (get_or values.new n F.ZERO)) }
-    ensures grows { products.old ≤ products.new }
-    ensures cost { products.new ≤ products.old + (1 + scale_cost scale) * (1 * (half * width)) }
+    ensures cost { RisesAtMost ((1 + scale_cost scale) * (1 * (half * width))) products.old products.new }
 {
     match scale {
         Some(scale) => layer(

@@ -3,21 +3,20 @@
 
 ghost use Rattle.std.specs.Prelude.{◌≡◌, ℕ, ◌+◌, ◌-◌, ◌*◌, ◌/◌, ◌^◌, ◌<◌, ◌≤◌, ◌++◌, ◌∷◌, [], List, IfErr};
 ghost use Rattle.std.specs.Prelude.{IsPermutation, OnOk, get_or, length};
-ghost use Rattle.p3_field.specs.Ring.{AreRoots};
 ghost use Rattle.p3_matrix.specs.BitOrder.{rev};
 ghost use Rattle.p3_matrix.specs.Blocks.{AreBlocksOf, Run, RunToRefusal};
 ghost use Rattle.p3_matrix.specs.Matrix.{image, matrix};
 ghost use Rattle.p3_matrix.specs.RowMajor.{RowMajor};
 ghost use Rattle.p3_matrix.specs.Cosets.{point};
-ghost use Rattle.p3_matrix.specs.Polynomials.{poly};
+ghost use Rattle.p3_networks.specs.Counts.{RisesAtMost};
+ghost use Rattle.p3_networks.specs.Halves.{HasHighLayers, IsHighChunk, IsHighHalf, IsHighNetwork};
+ghost use Rattle.p3_networks.specs.Layers.{AreRows};
 ghost use Rattle.p3_networks.specs.Slots.{HasRowsOnCoset, LentInBlocks, extended_rows, slot_blocks};
-ghost use Rattle.p3_networks.specs.Twiddles.{AreBlockTwiddles, HasCoset, HasCosets, IsCosetAt, block_end, forward_root};
-ghost use Rattle.p3_networks.specs.Twiddles.{mid_of};
+ghost use Rattle.p3_networks.specs.Twiddles.{HasCoset, HasCosets, IsCosetAt, factor, forward_root, mid_of, scale_cost};
 
+use crate::chunks::ChunkWork;
 use crate::radix_2_dit_parallel::coset_tables::{CosetTable, CosetTables, slot_shift};
-use crate::radix_2_dit_parallel::halves::{
-    BlockTwiddles, first_half, first_half_oop, high_network,
-};
+use crate::radix_2_dit_parallel::halves::{BlockTwiddles, HighLayers, first_half, first_half_oop};
 use p3_field::{Field, Products, TwoAdicField};
 use p3_matrix::bitrev::reverse_chunks;
 use p3_matrix::{BlockConsumer, RowMajorMatrixView};
@@ -121,18 +120,15 @@ fn evaluate_reversed_oop<F: TwoAdicField, C: BlockConsumer<F>>(
     consumer: &mut C,
     products: &mut Products,
 ) -> Result<(), C::Refusal>
-    requires wide { 1 ≤ width }
-    requires small { log_h < 64 }
-    requires source { length coefficients.now ≡ 2 ^ log_h * width }
-    requires size { length values.old ≡ 2 ^ log_h * width }
+    requires rows { AreRows log_h width (length values.old) }
+    requires source { length coefficients.now ≡ length values.old }
     requires table { table.now.log_h ≡ log_h }
-    requires rows { first_row + 2 ^ log_h < 2 ^ 64 }
+    requires numbers { first_row + 2 ^ log_h < 2 ^ 64 }
     ensures lent { LentInBlocks C.step first_row (2 ^ (log_h - mid_of log_h)) width (2 ^ mid_of log_h)
         (λ n. HasRowsOnCoset F.Field.own F.generator log_h width (F.value table.now.shift)
         (n * 2 ^ (log_h - mid_of log_h)) coefficients.now values.new)
         values.new consumer.old result consumer.new }
-    ensures grows { products.old ≤ products.new }
-    ensures cost { products.new ≤ products.old + width * (log_h * 2 ^ log_h / 2) }
+    ensures cost { RisesAtMost (width * (log_h * 2 ^ log_h / 2)) products.old products.new }
 {
     let mid = (log_h + 1) / 2;
     let twiddles = table.twiddles();
@@ -163,17 +159,14 @@ fn evaluate_reversed<F: TwoAdicField, C: BlockConsumer<F>>(
     consumer: &mut C,
     products: &mut Products,
 ) -> Result<(), C::Refusal>
-    requires wide { 1 ≤ width }
-    requires small { log_h < 64 }
-    requires size { length values.old ≡ 2 ^ log_h * width }
+    requires rows { AreRows log_h width (length values.old) }
     requires table { table.now.log_h ≡ log_h }
-    requires rows { first_row + 2 ^ log_h < 2 ^ 64 }
+    requires numbers { first_row + 2 ^ log_h < 2 ^ 64 }
     ensures lent { LentInBlocks C.step first_row (2 ^ (log_h - mid_of log_h)) width (2 ^ mid_of log_h)
         (λ n. HasRowsOnCoset F.Field.own F.generator log_h width (F.value table.now.shift)
         (n * 2 ^ (log_h - mid_of log_h)) values.old values.new)
         values.new consumer.old result consumer.new }
-    ensures grows { products.old ≤ products.new }
-    ensures cost { products.new ≤ products.old + width * (log_h * 2 ^ log_h / 2) }
+    ensures cost { RisesAtMost (width * (log_h * 2 ^ log_h / 2)) products.old products.new }
 {
     let mid = (log_h + 1) / 2;
     let twiddles = table.twiddles();
@@ -206,34 +199,31 @@ fn last_half<F: TwoAdicField, C: BlockConsumer<F>>(
     consumer: &mut C,
     products: &mut Products,
 ) -> Result<(), C::Refusal>
-    requires wide { 1 ≤ width }
-    requires small { mid + left < 64 }
-    requires size { length values.old ≡ 2 ^ (mid + left) * width }
-    requires table { (l : ℕ) → mid ≤ l → l < mid + left → block_end table.by_layer l ≤ length table.twiddles.now }
-    requires rows { first_row + 2 ^ (mid + left) < 2 ^ 64 }
-    ensures lent { LentInBlocks C.step first_row (2 ^ left) width (2 ^ mid) (λ n. (g : ℕ → F.Element) (s : F.Element)
-        → AreRoots F.ring (mid + left) g
-        → AreBlockTwiddles F.Field.own g s mid (mid + left) table.entry.by_layer table.entry.twiddles.now
-        → (a t j : ℕ) → a < n → t < 2 ^ left → j < width
-        → F.value (get_or values.new ((a * 2 ^ left + t) * width + j) F.ZERO)
-        ≡ poly F.ring (2 ^ left) (λ q. F.value
-        (get_or values.old ((rev left q * 2 ^ mid + rev mid a) * width + j) F.ZERO))
-        (point F.ring g left (point F.ring g (mid + left) s (rev mid a)) (rev left t)))
+    requires rows { AreRows (mid + left) width (length values.old) }
+    requires table { HasHighLayers mid left table.by_layer table.twiddles.now }
+    requires numbers { first_row + 2 ^ (mid + left) < 2 ^ 64 }
+    ensures lent { LentInBlocks C.step first_row (2 ^ left) width (2 ^ mid)
+        (λ n. IsHighHalf F.Field.own n mid left width table.entry.by_layer table.entry.twiddles.now
+        (λ a q j. F.value (get_or values.old ((rev left q * 2 ^ mid + rev mid a) * width + j) F.ZERO)) values.new)
         values.new consumer.old result consumer.new }
-    ensures grows { products.old ≤ products.new }
-    ensures cost { products.new ≤ products.old + 2 ^ mid * (width * (left * 2 ^ left / 2)) }
+    ensures cost { RisesAtMost (2 ^ mid * (width * (left * 2 ^ left / 2))) products.old products.new }
 {
     reverse_chunks(values, width, mid + left);
     let chunks = 1usize << mid;
     let height = 1usize << left;
     let size = values.len() / chunks;
+    let layers = HighLayers {
+        table,
+        scale: None,
+        width,
+        mid,
+        left,
+    };
     for chunk in 0..chunks {
         let start = chunk * size;
         let rows = &mut values[start..start + size];
         let row = first_row + chunk * height;
-        if let Err(refusal) = finish_chunk(
-            table, rows, width, mid, left, chunk, row, consumer, products,
-        ) {
+        if let Err(refusal) = finish_chunk(&layers, rows, chunk, row, consumer, products) {
             return Err(refusal);
         }
     }
@@ -242,64 +232,25 @@ fn last_half<F: TwoAdicField, C: BlockConsumer<F>>(
 
 // One chunk of the second half, which is lent when it is done. Its first row has the number `row`.
 fn finish_chunk<F: TwoAdicField, C: BlockConsumer<F>>(
-    table: BlockTwiddles<'_, F>,
+    layers: &HighLayers<'_, F>,
     values: &mut [F],
-    width: usize,
-    mid: usize,
-    left: usize,
     chunk: usize,
     row: usize,
     consumer: &mut C,
     products: &mut Products,
 ) -> Result<(), C::Refusal>
-    requires wide { 1 ≤ width }
-    requires small { mid + left < 64 }
-    requires chunk { chunk < 2 ^ mid }
-    requires size { length values.old ≡ 2 ^ left * width }
-    requires table { (l : ℕ) → mid ≤ l → l < mid + left → block_end table.by_layer l ≤ length table.twiddles.now }
-    ensures values { (g : ℕ → F.Element) (s : F.Element) → AreRoots F.ring (mid + left) g
-        → AreBlockTwiddles F.Field.own g s mid (mid + left) table.entry.by_layer table.entry.twiddles.now
-        → (t j : ℕ) → t < 2 ^ left → j < width → F.value (get_or values.new (t * width + j) F.ZERO)
-        ≡ poly F.ring (2 ^ left) (λ q. F.value (get_or values.old (q * width + j) F.ZERO))
-        (point F.ring g left (point F.ring g (mid + left) s (rev mid chunk)) (rev left t)) }
-    ensures lent { C.step consumer.old row (record { width = width; values = values.new }) result consumer.new }
-    ensures grows { products.old ≤ products.new }
-    ensures cost { products.new ≤ products.old + 1 * (width * (left * 2 ^ left / 2)) }
+    requires chunk { let it = layers.now in
+        IsHighChunk it.mid it.left it.width chunk it.table.by_layer it.table.twiddles.now (length values.old) }
+    ensures values { let it = layers.now in
+        IsHighNetwork F.Field.own it.mid it.left it.width chunk it.table.by_layer it.table.twiddles.now
+        (λ q j. F.ring.mul (F.value (get_or values.old (q * it.width + j) F.ZERO)) (factor F.Field.own it.scale))
+        values.new }
+    ensures lent { C.step consumer.old row (record { width = layers.now.width; values = values.new }) result
+        consumer.new }
+    ensures cost { let it = layers.now in RisesAtMost (it.width * (it.left * 2 ^ it.left / 2)
+        + scale_cost it.scale * (2 ^ it.left * it.width)) products.old products.new }
 {
-    last_layers(table, values, width, mid, left, chunk, products);
-    let block = RowMajorMatrixView::new(&values[..], width);
+    layers.on_chunk(chunk, values, products);
+    let block = RowMajorMatrixView::new(&values[..], layers.width);
     consumer.consume(row, block)
-}
-
-// The layers of one chunk of the second half. Where that has none, its rows are done.
-fn last_layers<F: TwoAdicField>(
-    table: BlockTwiddles<'_, F>,
-    values: &mut [F],
-    width: usize,
-    mid: usize,
-    left: usize,
-    chunk: usize,
-    products: &mut Products,
-)
-    requires wide { 1 ≤ width }
-    requires small { mid + left < 64 }
-    requires chunk { chunk < 2 ^ mid }
-    requires size { length values.old ≡ 2 ^ left * width }
-    requires table { (l : ℕ) → mid ≤ l → l < mid + left → block_end table.by_layer l ≤ length table.twiddles.now }
-    ensures values { (g : ℕ → F.Element) (s : F.Element) → AreRoots F.ring (mid + left) g
-        → AreBlockTwiddles F.Field.own g s mid (mid + left) table.entry.by_layer table.entry.twiddles.now
-        → (t j : ℕ) → t < 2 ^ left → j < width → F.value (get_or values.new (t * width + j) F.ZERO)
-        ≡ poly F.ring (2 ^ left) (λ q. F.value (get_or values.old (q * width + j) F.ZERO))
-        (point F.ring g left (point F.ring g (mid + left) s (rev mid chunk)) (rev left t)) }
-    ensures grows { products.old ≤ products.new }
-    ensures cost { products.new ≤ products.old + 1 * (width * (left * 2 ^ left / 2)) }
-{
-    if left > 0 {
-        // One column is made apart: where the width is known, no loop along a row is left.
-        if width == 1 {
-            high_network(table, None, values, 1, mid, left, chunk, products);
-        } else {
-            high_network(table, None, values, width, mid, left, chunk, products);
-        }
-    }
 }

@@ -9,15 +9,15 @@ ghost use Rattle.std.specs.Prelude.{◌≡◌, ℕ, ◌+◌, ◌-◌, ◌*◌, �
 ghost use Rattle.p3_field.specs.Ring.{AreRoots, power};
 ghost use Rattle.p3_matrix.specs.BitOrder.{rev};
 ghost use Rattle.p3_matrix.specs.Butterflies.{dif_far, dif_near};
-ghost use Rattle.p3_networks.specs.Groups.{AreLayersInOrder, TakesCells, cells_of};
-ghost use Rattle.p3_networks.specs.declared.radix_2_small_batch.groups.Order.{Order};
+ghost use Rattle.p3_networks.specs.Counts.{RisesAtMost};
+ghost use Rattle.p3_networks.specs.Groups.{AreLayersInOrder, DoesLayers, IsChunk, TakesCells, cells_of};
 ghost use Rattle.p3_networks.specs.declared.radix_2_small_batch.groups.Order.TheVariants.{SmallestFirst};
-ghost use Rattle.p3_networks.specs.Layers.{AreLayers, HoldsCells, AreValuesOfRows};
+ghost use Rattle.p3_networks.specs.Layers.{AreLayers, AreRows, HoldsCells, AreValuesOfRows};
 ghost use Rattle.p3_matrix.specs.Polynomials.{poly};
 ghost use Rattle.p3_networks.specs.Twiddles.{AreTwiddlesFromStart, backward_root, block_powers, forward_root};
 
+use crate::butterfly_layers::layer;
 use crate::butterfly_layers::rules::{ByBlock, Dif, Dit};
-use crate::butterfly_layers::{Rule, layer};
 use crate::chunks::{ChunkWork, on_each_chunk};
 use crate::radix_2_small_batch::groups::{Order, layers_in_groups};
 use crate::radix_2_small_batch::pairs::{NetworkDecimation, on_pairs};
@@ -32,66 +32,11 @@ const SHORT_ROWS: usize = 1 << SHORT_LAYERS;
 
 const SHORT_BLOCKS: usize = SHORT_ROWS / 2;
 
-/// A rule by blocks alone, with the order of the layers of its networks.
-pub(crate) trait NetworkRule<F: TwoAdicField>: Rule<F> {
-    ghost order: { Order };
-
-    /// Whether the layers of small blocks come first, or those of large ones.
-    fn order(self) -> Order
-        ensures { result ≡ order };
-
-    /// The layer of the smallest blocks, on a short chunk of one column: the blocks are `first` and those after it.
-    fn meet_pairs(self, first: usize, values: &mut [F], products: &mut Products)
-        requires there { (b : ℕ) → b < SHORT_BLOCKS → Self.has self (first + b) 0 }
-        requires size { length values.old ≡ SHORT_ROWS }
-        ensures near { let cell = λ (xs : List F) (n : ℕ). F.value (get_or xs n F.ZERO) in
-            (b : ℕ) → b < SHORT_BLOCKS → cell values.new (2 * b)
-            ≡ Self.near F.Element F.ring F.value self (first + b) 0 (cell values.old (2 * b))
-            (cell values.old (2 * b + 1)) }
-        ensures far { let cell = λ (xs : List F) (n : ℕ). F.value (get_or xs n F.ZERO) in
-            (b : ℕ) → b < SHORT_BLOCKS → cell values.new (2 * b + 1)
-            ≡ Self.far F.Element F.ring F.value self (first + b) 0 (cell values.old (2 * b))
-            (cell values.old (2 * b + 1)) }
-        ensures grows { products.old ≤ products.new }
-        ensures cost { products.new ≤ products.old + Self.cost * SHORT_BLOCKS };
-
-    // The place of a pair in its block makes no difference.
-    ghost near_law: { (r : Self) (b t : ℕ) (p q : F.Element) → Self.near F.Element F.ring F.value r b t p q
-        ≡ Self.near F.Element F.ring F.value r b 0 p q };
-
-    ghost far_law: { (r : Self) (b t : ℕ) (p q : F.Element) → Self.far F.Element F.ring F.value r b t p q
-        ≡ Self.far F.Element F.ring F.value r b 0 p q };
-}
-
-impl<F: TwoAdicField, D: NetworkDecimation<F>> NetworkRule<F> for ByBlock<'_, F, D> {
-    ghost use Rattle.std.specs.Prelude.{refl};
-
-    ghost order = { D.order };
-
-    #[inline(always)]
-    fn order(self) -> Order {
-        self.decimation.order()
-    }
-
-    #[inline(always)]
-    fn meet_pairs(self, first: usize, values: &mut [F], products: &mut Products) {
-        on_pairs(
-            self.decimation,
-            &self.twiddles[first..first + SHORT_BLOCKS],
-            values,
-            products,
-        );
-    }
-
-    ghost near_law = { λ r b t p q. refl };
-
-    ghost far_law = { λ r b t p q. refl };
-}
-
 // Layer `log_half`, on chunk `number`.
 #[inline(always)]
-fn layer_of_chunk<F: TwoAdicField, R: NetworkRule<F>>(
-    rule: R,
+fn layer_of_chunk<F: TwoAdicField, D: NetworkDecimation<F>>(
+    decimation: D,
+    twiddles: &[F],
     values: &mut [F],
     width: usize,
     log_half: usize,
@@ -99,111 +44,103 @@ fn layer_of_chunk<F: TwoAdicField, R: NetworkRule<F>>(
     number: usize,
     products: &mut Products,
 )
-    requires wide { 1 ≤ width }
     requires below { log_half < top }
-    requires small { (number + 1) * 2 ^ top < 2 ^ 64 }
-    requires size { length values.old ≡ 2 ^ top * width }
-    requires there { (b t : ℕ) → 2 * b < (number + 1) * 2 ^ top → R.has rule b t }
-    ensures cells { (k : ℕ) (before after : ℕ → ℕ → F.Element)
-        → AreLayers k width (λ b. R.near F.Element F.ring F.value rule b 0)
-        (λ b. R.far F.Element F.ring F.value rule b 0) before after
-        → (number + 1) * 2 ^ top ≤ 2 ^ k
-        → HoldsCells F.value F.ZERO (number * length values.old) (before log_half) values.old
-        → HoldsCells F.value F.ZERO (number * length values.old) (after log_half) values.new }
-    ensures grows { products.old ≤ products.new }
-    ensures cost { 2 * products.new ≤ 2 * products.old + R.cost * length values.old }
+    requires chunk { IsChunk width top number (length twiddles.now) (length values.old) }
+    requires first { D.asks F.Element F.ring (F.value (get_or twiddles.now 0 F.ZERO)) }
+    ensures cells { DoesLayers F.Field.own D.order (D.near F.Element F.ring F.value decimation)
+        (D.far F.Element F.ring F.value decimation) twiddles.now width top number log_half (log_half + 1)
+        values.old values.new }
+    ensures cost { RisesAtMost (D.cost * length values.old) (2 * products.old) (2 * products.new) }
 {
     // The pairs of a block have one twiddle, so that its half is one column, whatever the width. As a column,
     // because blocks of one column and a few entries have their size named in `layer`.
     let half = (1usize << log_half) * width;
     let blocks = 1usize << (top - 1 - log_half);
+    let rule = ByBlock {
+        twiddles,
+        decimation,
+    };
     layer(rule, values, 1, half, number * blocks, blocks, products);
 }
 
 // The layer of the smallest blocks, on short chunk `number` of one column.
 #[inline(always)]
-fn layer_of_pairs<F: TwoAdicField, R: NetworkRule<F>>(
-    rule: R,
+fn layer_of_pairs<F: TwoAdicField, D: NetworkDecimation<F>>(
+    decimation: D,
+    twiddles: &[F],
     values: &mut [F],
     number: usize,
     products: &mut Products,
 )
-    requires small { (number + 1) * 2 ^ SHORT_LAYERS < 2 ^ 64 }
-    requires size { length values.old ≡ 2 ^ SHORT_LAYERS * 1 }
-    requires there { (b t : ℕ) → 2 * b < (number + 1) * 2 ^ SHORT_LAYERS → R.has rule b t }
-    ensures cells { (k : ℕ) (before after : ℕ → ℕ → F.Element)
-        → AreLayers k 1 (λ b. R.near F.Element F.ring F.value rule b 0)
-        (λ b. R.far F.Element F.ring F.value rule b 0) before after
-        → (number + 1) * 2 ^ SHORT_LAYERS ≤ 2 ^ k
-        → HoldsCells F.value F.ZERO (number * length values.old) (before 0) values.old
-        → HoldsCells F.value F.ZERO (number * length values.old) (after 0) values.new }
-    ensures grows { products.old ≤ products.new }
-    ensures cost { 2 * products.new ≤ 2 * products.old + R.cost * length values.old }
+    requires chunk { IsChunk 1 SHORT_LAYERS number (length twiddles.now) (length values.old) }
+    requires first { D.asks F.Element F.ring (F.value (get_or twiddles.now 0 F.ZERO)) }
+    ensures cells { DoesLayers F.Field.own D.order (D.near F.Element F.ring F.value decimation)
+        (D.far F.Element F.ring F.value decimation) twiddles.now 1 SHORT_LAYERS number 0 1
+        values.old values.new }
+    ensures cost { RisesAtMost (D.cost * length values.old) (2 * products.old) (2 * products.new) }
 {
-    rule.meet_pairs(number * SHORT_BLOCKS, values, products);
+    let first = number * SHORT_BLOCKS;
+    let twiddles = &twiddles[first..first + SHORT_BLOCKS];
+    on_pairs(decimation, twiddles, values, products);
 }
 
-// The layers from `from` up to `to` in the rule's order, on chunk `number`.
-fn layers_of_chunk<F: TwoAdicField, R: NetworkRule<F>>(
-    rule: R,
+// The layers from `from` on in their order, on chunk `number`.
+fn layers_of_chunk<F: TwoAdicField, D: NetworkDecimation<F>>(
+    decimation: D,
+    twiddles: &[F],
     values: &mut [F],
     width: usize,
     from: usize,
-    to: usize,
     top: usize,
     number: usize,
     products: &mut Products,
 )
-    requires wide { 1 ≤ width }
-    requires order { from ≤ to }
-    requires below { to ≤ top }
-    requires small { (number + 1) * 2 ^ top < 2 ^ 64 }
-    requires size { length values.old ≡ 2 ^ top * width }
-    requires there { (b t : ℕ) → 2 * b < (number + 1) * 2 ^ top → R.has rule b t }
-    ensures cells { (k : ℕ) (cells : ℕ → ℕ → F.Element)
-        → AreLayersInOrder R.order k width (λ b. R.near F.Element F.ring F.value rule b 0)
-        (λ b. R.far F.Element F.ring F.value rule b 0) cells
-        → (number + 1) * 2 ^ top ≤ 2 ^ k
-        → HoldsCells F.value F.ZERO (number * length values.old) (cells (cells_of R.order from to 0)) values.old
-        → HoldsCells F.value F.ZERO (number * length values.old) (cells (cells_of R.order from to (to - from)))
-        values.new }
-    ensures grows { products.old ≤ products.new }
-    ensures cost { 2 * products.new ≤ 2 * products.old + R.cost * ((to - from) * length values.old) }
+    requires below { from ≤ top }
+    requires chunk { IsChunk width top number (length twiddles.now) (length values.old) }
+    requires first { D.asks F.Element F.ring (F.value (get_or twiddles.now 0 F.ZERO)) }
+    ensures cells { DoesLayers F.Field.own D.order (D.near F.Element F.ring F.value decimation)
+        (D.far F.Element F.ring F.value decimation) twiddles.now width top number from top
+        values.old values.new }
+    ensures cost { RisesAtMost (D.cost * ((top - from) * length values.old)) (2 * products.old) (2 * products.new) }
 {
-    let order = rule.order();
-    for done in 0..to - from {
-        let log_half = order.layer(from, to, done);
-        layer_of_chunk(rule, values, width, log_half, top, number, products);
+    let order = decimation.order();
+    for done in 0..top - from {
+        let log_half = order.layer(from, top, done);
+        layer_of_chunk(
+            decimation, twiddles, values, width, log_half, top, number, products,
+        );
     }
 }
 
-// The layers below `log_rows` in the rule's order, tile after tile: a tile has `2^log_rows`
+// The layers below `log_rows` in their order, tile after tile: a tile has `2^log_rows`
 // rows, which these layers do not leave.
-fn layers_of_tiles<F: TwoAdicField, R: NetworkRule<F>>(
-    rule: R,
+fn layers_of_tiles<F: TwoAdicField, D: NetworkDecimation<F>>(
+    decimation: D,
+    twiddles: &[F],
     values: &mut [F],
     width: usize,
     log_rows: usize,
     log_h: usize,
     products: &mut Products,
 )
-    requires wide { 1 ≤ width }
+    requires rows { AreRows log_h width (length values.old) }
     requires below { log_rows ≤ log_h }
-    requires small { log_h < 64 }
-    requires size { length values.old ≡ 2 ^ log_h * width }
-    requires there { (b t : ℕ) → 2 * b < 2 ^ log_h → R.has rule b t }
+    requires enough { 2 ^ log_h ≤ 2 * length twiddles.now }
+    requires first { D.asks F.Element F.ring (F.value (get_or twiddles.now 0 F.ZERO)) }
     ensures cells { (cells : ℕ → ℕ → F.Element)
-        → AreLayersInOrder R.order log_h width (λ b. R.near F.Element F.ring F.value rule b 0)
-        (λ b. R.far F.Element F.ring F.value rule b 0) cells
-        → HoldsCells F.value F.ZERO 0 (cells (cells_of R.order 0 log_rows 0)) values.old
-        → HoldsCells F.value F.ZERO 0 (cells (cells_of R.order 0 log_rows log_rows)) values.new }
-    ensures grows { products.old ≤ products.new }
-    ensures cost { 2 * products.new ≤ 2 * products.old + R.cost * (log_rows * length values.old) }
+        → AreLayersInOrder D.order log_h width
+        (λ b. D.near F.Element F.ring F.value decimation (F.value (get_or twiddles.now b F.ZERO)))
+        (λ b. D.far F.Element F.ring F.value decimation (F.value (get_or twiddles.now b F.ZERO)))
+        cells
+        → HoldsCells F.value F.ZERO 0 (cells (cells_of D.order 0 log_rows 0)) values.old
+        → HoldsCells F.value F.ZERO 0 (cells (cells_of D.order 0 log_rows (log_rows - 0))) values.new }
+    ensures cost { RisesAtMost (D.cost * (log_rows * length values.old)) (2 * products.old) (2 * products.new) }
 {
     let tiles = 1usize << (log_h - log_rows);
     let size = values.len() / tiles;
     let layers = TileLayers {
-        rule,
+        decimation,
+        twiddles,
         width,
         log_rows,
     };
@@ -212,27 +149,27 @@ fn layers_of_tiles<F: TwoAdicField, R: NetworkRule<F>>(
 
 // The layers of tiles of `2^log_rows` rows.
 #[derive(Drop)]
-struct TileLayers<R> {
-    rule: R,
+struct TileLayers<'a, F, D> {
+    decimation: D,
+    twiddles: &'a [F],
     width: usize,
     log_rows: usize,
 }
 
-impl<F: TwoAdicField, R: NetworkRule<F>> ChunkWork<F> for TileLayers<R> {
-    ghost accepts = { λ it n size. (1 ≤ it.width) × (((n + 1) * 2 ^ it.log_rows < 2 ^ 64)
-        × ((size ≡ 2 ^ it.log_rows * it.width)
-        × ((b t : ℕ) → 2 * b < (n + 1) * 2 ^ it.log_rows → R.has it.rule b t))) };
+impl<F: TwoAdicField, D: NetworkDecimation<F>> ChunkWork<F> for TileLayers<'_, F, D> {
+    ghost accepts = { λ it n size. IsChunk it.width it.log_rows n (length it.twiddles.now) size
+        × D.asks F.Element F.ring (F.value (get_or it.twiddles.now 0 F.ZERO)) };
 
-    ghost takes = { λ it n. TakesCells F.value F.value F.ZERO R.order it.width it.log_rows n
-        (λ b. R.near F.Element F.ring F.value it.rule b 0) (λ b. R.far F.Element F.ring F.value it.rule b 0)
-        (cells_of R.order 0 it.log_rows 0) (cells_of R.order 0 it.log_rows it.log_rows) };
+    ghost takes = { λ it n. DoesLayers F.Field.own D.order (D.near F.Element F.ring F.value it.decimation)
+        (D.far F.Element F.ring F.value it.decimation) it.twiddles.now it.width it.log_rows n 0 it.log_rows };
 
-    ghost cost = { λ it size. R.cost * (it.log_rows * size) };
+    ghost cost = { λ it size. D.cost * (it.log_rows * size) };
 
     #[inline(always)]
     fn on_chunk(&self, number: usize, chunk: &mut [F], products: &mut Products) {
         layers_of_tile(
-            self.rule,
+            self.decimation,
+            self.twiddles,
             chunk,
             self.width,
             self.log_rows,
@@ -245,67 +182,81 @@ impl<F: TwoAdicField, R: NetworkRule<F>> ChunkWork<F> for TileLayers<R> {
 // The layers of one tile, chunk `number` of `2^top` rows. In one column the layers of the smallest blocks
 // are done together, on one short chunk after another. The width is written as 1 in that call, so that it
 // is known in the loops.
-fn layers_of_tile<F: TwoAdicField, R: NetworkRule<F>>(
-    rule: R,
+fn layers_of_tile<F: TwoAdicField, D: NetworkDecimation<F>>(
+    decimation: D,
+    twiddles: &[F],
     values: &mut [F],
     width: usize,
     top: usize,
     number: usize,
     products: &mut Products,
 )
-    requires wide { 1 ≤ width }
-    requires small { (number + 1) * 2 ^ top < 2 ^ 64 }
-    requires size { length values.old ≡ 2 ^ top * width }
-    requires there { (b t : ℕ) → 2 * b < (number + 1) * 2 ^ top → R.has rule b t }
-    ensures cells { TakesCells F.value F.value F.ZERO R.order width top number
-        (λ b. R.near F.Element F.ring F.value rule b 0) (λ b. R.far F.Element F.ring F.value rule b 0)
-        (cells_of R.order 0 top 0) (cells_of R.order 0 top top) values.old values.new }
-    ensures grows { products.old ≤ products.new }
-    ensures cost { 2 * products.new ≤ 2 * products.old + R.cost * (top * length values.old) }
+    requires chunk { IsChunk width top number (length twiddles.now) (length values.old) }
+    requires first { D.asks F.Element F.ring (F.value (get_or twiddles.now 0 F.ZERO)) }
+    ensures cells { DoesLayers F.Field.own D.order (D.near F.Element F.ring F.value decimation)
+        (D.far F.Element F.ring F.value decimation) twiddles.now width top number 0 top
+        values.old values.new }
+    ensures cost { RisesAtMost (D.cost * (top * length values.old)) (2 * products.old) (2 * products.new) }
 {
     if width == 1 && top >= SHORT_LAYERS {
-        match rule.order() {
+        match decimation.order() {
             Order::LargestFirst => {
-                layers_of_chunk(rule, values, 1, SHORT_LAYERS, top, top, number, products);
-                layers_of_short_chunks(rule, values, top, number, products);
+                layers_of_chunk(
+                    decimation,
+                    twiddles,
+                    values,
+                    1,
+                    SHORT_LAYERS,
+                    top,
+                    number,
+                    products,
+                );
+                layers_of_short_chunks(decimation, twiddles, values, top, number, products);
             }
             Order::SmallestFirst => {
-                layers_of_short_chunks(rule, values, top, number, products);
-                layers_of_chunk(rule, values, 1, SHORT_LAYERS, top, top, number, products);
+                layers_of_short_chunks(decimation, twiddles, values, top, number, products);
+                layers_of_chunk(
+                    decimation,
+                    twiddles,
+                    values,
+                    1,
+                    SHORT_LAYERS,
+                    top,
+                    number,
+                    products,
+                );
             }
         }
     } else {
-        layers_of_chunk(rule, values, width, 0, top, top, number, products);
+        layers_of_chunk(
+            decimation, twiddles, values, width, 0, top, number, products,
+        );
     }
 }
 
 // The layers below `SHORT_LAYERS`, on chunk `number` of `2^top` rows of one column: one short chunk after
 // another, which these layers do not leave.
-fn layers_of_short_chunks<F: TwoAdicField, R: NetworkRule<F>>(
-    rule: R,
+fn layers_of_short_chunks<F: TwoAdicField, D: NetworkDecimation<F>>(
+    decimation: D,
+    twiddles: &[F],
     values: &mut [F],
     top: usize,
     number: usize,
     products: &mut Products,
 )
     requires tall { SHORT_LAYERS ≤ top }
-    requires small { (number + 1) * 2 ^ top < 2 ^ 64 }
-    requires size { length values.old ≡ 2 ^ top * 1 }
-    requires there { (b t : ℕ) → 2 * b < (number + 1) * 2 ^ top → R.has rule b t }
-    ensures cells { (k : ℕ) (cells : ℕ → ℕ → F.Element)
-        → AreLayersInOrder R.order k 1 (λ b. R.near F.Element F.ring F.value rule b 0)
-        (λ b. R.far F.Element F.ring F.value rule b 0) cells
-        → (number + 1) * 2 ^ top ≤ 2 ^ k
-        → HoldsCells F.value F.ZERO (number * length values.old) (cells (cells_of R.order 0 SHORT_LAYERS 0)) values.old
-        → HoldsCells F.value F.ZERO (number * length values.old)
-        (cells (cells_of R.order 0 SHORT_LAYERS SHORT_LAYERS)) values.new }
-    ensures grows { products.old ≤ products.new }
-    ensures cost { 2 * products.new ≤ 2 * products.old + R.cost * (SHORT_LAYERS * length values.old) }
+    requires chunk { IsChunk 1 top number (length twiddles.now) (length values.old) }
+    requires first { D.asks F.Element F.ring (F.value (get_or twiddles.now 0 F.ZERO)) }
+    ensures cells { DoesLayers F.Field.own D.order (D.near F.Element F.ring F.value decimation)
+        (D.far F.Element F.ring F.value decimation) twiddles.now 1 top number 0 SHORT_LAYERS
+        values.old values.new }
+    ensures cost { RisesAtMost (D.cost * (SHORT_LAYERS * length values.old)) (2 * products.old) (2 * products.new) }
 {
     let chunks = 1usize << (top - SHORT_LAYERS);
     let size = values.len() / chunks;
     let layers = ShortLayers {
-        rule,
+        decimation,
+        twiddles,
         first: number * chunks,
     };
     on_each_chunk(layers, values, size, chunks, products);
@@ -313,62 +264,153 @@ fn layers_of_short_chunks<F: TwoAdicField, R: NetworkRule<F>>(
 
 // The layers of short chunks, which count from `first` on.
 #[derive(Drop)]
-struct ShortLayers<R> {
-    rule: R,
+struct ShortLayers<'a, F, D> {
+    decimation: D,
+    twiddles: &'a [F],
     first: usize,
 }
 
-impl<F: TwoAdicField, R: NetworkRule<F>> ChunkWork<F> for ShortLayers<R> {
+impl<F: TwoAdicField, D: NetworkDecimation<F>> ChunkWork<F> for ShortLayers<'_, F, D> {
     ghost use Rattle.p3_networks.specs.declared.radix_2_small_batch.networks.TheConstants.{SHORT_LAYERS};
 
-    ghost accepts = { λ it n size. ((it.first + n + 1) * 2 ^ SHORT_LAYERS < 2 ^ 64) × ((size ≡ 2 ^ SHORT_LAYERS * 1)
-        × ((b t : ℕ) → 2 * b < (it.first + n + 1) * 2 ^ SHORT_LAYERS → R.has it.rule b t)) };
+    ghost accepts = { λ it n size. IsChunk 1 SHORT_LAYERS (it.first + n) (length it.twiddles.now) size
+        × D.asks F.Element F.ring (F.value (get_or it.twiddles.now 0 F.ZERO)) };
 
-    ghost takes = { λ it n. TakesCells F.value F.value F.ZERO R.order 1 SHORT_LAYERS (it.first + n)
-        (λ b. R.near F.Element F.ring F.value it.rule b 0) (λ b. R.far F.Element F.ring F.value it.rule b 0)
-        (cells_of R.order 0 SHORT_LAYERS 0) (cells_of R.order 0 SHORT_LAYERS SHORT_LAYERS) };
+    ghost takes = { λ it n. DoesLayers F.Field.own D.order (D.near F.Element F.ring F.value it.decimation)
+        (D.far F.Element F.ring F.value it.decimation) it.twiddles.now 1 SHORT_LAYERS (it.first + n)
+        0 SHORT_LAYERS };
 
-    ghost cost = { λ it size. R.cost * (SHORT_LAYERS * size) };
+    ghost cost = { λ it size. D.cost * (SHORT_LAYERS * size) };
 
     #[inline(always)]
     fn on_chunk(&self, number: usize, chunk: &mut [F], products: &mut Products) {
-        layers_of_short_chunk(self.rule, chunk, self.first + number, products);
+        let number = self.first + number;
+        layers_of_short_chunk(self.decimation, self.twiddles, chunk, number, products);
     }
 }
 
 // The layers below `SHORT_LAYERS` on short chunk `number`. They are named, so that the loops of each layer are of
 // known size.
-fn layers_of_short_chunk<F: TwoAdicField, R: NetworkRule<F>>(
-    rule: R,
+fn layers_of_short_chunk<F: TwoAdicField, D: NetworkDecimation<F>>(
+    decimation: D,
+    twiddles: &[F],
     values: &mut [F],
     number: usize,
     products: &mut Products,
 )
-    requires small { (number + 1) * 2 ^ SHORT_LAYERS < 2 ^ 64 }
-    requires size { length values.old ≡ 2 ^ SHORT_LAYERS * 1 }
-    requires there { (b t : ℕ) → 2 * b < (number + 1) * 2 ^ SHORT_LAYERS → R.has rule b t }
-    ensures cells { TakesCells F.value F.value F.ZERO R.order 1 SHORT_LAYERS number
-        (λ b. R.near F.Element F.ring F.value rule b 0) (λ b. R.far F.Element F.ring F.value rule b 0)
-        (cells_of R.order 0 SHORT_LAYERS 0) (cells_of R.order 0 SHORT_LAYERS SHORT_LAYERS) values.old values.new }
-    ensures grows { products.old ≤ products.new }
-    ensures cost { 2 * products.new ≤ 2 * products.old + R.cost * (SHORT_LAYERS * length values.old) }
+    requires chunk { IsChunk 1 SHORT_LAYERS number (length twiddles.now) (length values.old) }
+    requires first { D.asks F.Element F.ring (F.value (get_or twiddles.now 0 F.ZERO)) }
+    ensures cells { DoesLayers F.Field.own D.order (D.near F.Element F.ring F.value decimation)
+        (D.far F.Element F.ring F.value decimation) twiddles.now 1 SHORT_LAYERS number 0 SHORT_LAYERS
+        values.old values.new }
+    ensures cost { RisesAtMost (D.cost * (SHORT_LAYERS * length values.old)) (2 * products.old) (2 * products.new) }
 {
-    match rule.order() {
+    match decimation.order() {
         Order::LargestFirst => {
-            layer_of_chunk(rule, values, 1, 5, SHORT_LAYERS, number, products);
-            layer_of_chunk(rule, values, 1, 4, SHORT_LAYERS, number, products);
-            layer_of_chunk(rule, values, 1, 3, SHORT_LAYERS, number, products);
-            layer_of_chunk(rule, values, 1, 2, SHORT_LAYERS, number, products);
-            layer_of_chunk(rule, values, 1, 1, SHORT_LAYERS, number, products);
-            layer_of_pairs(rule, values, number, products);
+            layer_of_chunk(
+                decimation,
+                twiddles,
+                values,
+                1,
+                5,
+                SHORT_LAYERS,
+                number,
+                products,
+            );
+            layer_of_chunk(
+                decimation,
+                twiddles,
+                values,
+                1,
+                4,
+                SHORT_LAYERS,
+                number,
+                products,
+            );
+            layer_of_chunk(
+                decimation,
+                twiddles,
+                values,
+                1,
+                3,
+                SHORT_LAYERS,
+                number,
+                products,
+            );
+            layer_of_chunk(
+                decimation,
+                twiddles,
+                values,
+                1,
+                2,
+                SHORT_LAYERS,
+                number,
+                products,
+            );
+            layer_of_chunk(
+                decimation,
+                twiddles,
+                values,
+                1,
+                1,
+                SHORT_LAYERS,
+                number,
+                products,
+            );
+            layer_of_pairs(decimation, twiddles, values, number, products);
         }
         Order::SmallestFirst => {
-            layer_of_pairs(rule, values, number, products);
-            layer_of_chunk(rule, values, 1, 1, SHORT_LAYERS, number, products);
-            layer_of_chunk(rule, values, 1, 2, SHORT_LAYERS, number, products);
-            layer_of_chunk(rule, values, 1, 3, SHORT_LAYERS, number, products);
-            layer_of_chunk(rule, values, 1, 4, SHORT_LAYERS, number, products);
-            layer_of_chunk(rule, values, 1, 5, SHORT_LAYERS, number, products);
+            layer_of_pairs(decimation, twiddles, values, number, products);
+            layer_of_chunk(
+                decimation,
+                twiddles,
+                values,
+                1,
+                1,
+                SHORT_LAYERS,
+                number,
+                products,
+            );
+            layer_of_chunk(
+                decimation,
+                twiddles,
+                values,
+                1,
+                2,
+                SHORT_LAYERS,
+                number,
+                products,
+            );
+            layer_of_chunk(
+                decimation,
+                twiddles,
+                values,
+                1,
+                3,
+                SHORT_LAYERS,
+                number,
+                products,
+            );
+            layer_of_chunk(
+                decimation,
+                twiddles,
+                values,
+                1,
+                4,
+                SHORT_LAYERS,
+                number,
+                products,
+            );
+            layer_of_chunk(
+                decimation,
+                twiddles,
+                values,
+                1,
+                5,
+                SHORT_LAYERS,
+                number,
+                products,
+            );
         }
     }
 }
@@ -384,10 +426,8 @@ fn scaled_dif_tiles<F: TwoAdicField>(
     log_h: usize,
     products: &mut Products,
 )
-    requires wide { 1 ≤ width }
+    requires rows { AreRows log_h width (length values.old) }
     requires below { log_rows ≤ log_h }
-    requires small { log_h < 64 }
-    requires size { length values.old ≡ 2 ^ log_h * width }
     requires first { F.value (get_or twiddles.now 0 F.ZERO) ≡ F.ring.one }
     requires enough { 2 ^ log_h ≤ 2 * length twiddles.now }
     ensures cells { (cells : ℕ → ℕ → F.Element)
@@ -396,8 +436,7 @@ fn scaled_dif_tiles<F: TwoAdicField>(
         cells (λ e. cells (e + 1))
         → HoldsCells (λ x. F.ring.mul (F.value x) (F.value scale)) F.ZERO 0 (cells 0) values.old
         → HoldsCells F.value F.ZERO 0 (cells log_rows) values.new }
-    ensures grows { products.old ≤ products.new }
-    ensures cost { 2 * products.new ≤ 2 * products.old + (log_rows + 2) * length values.old }
+    ensures cost { RisesAtMost ((log_rows + 2) * length values.old) (2 * products.old) (2 * products.new) }
 {
     let tiles = 1usize << (log_h - log_rows);
     let size = values.len() / tiles;
@@ -420,9 +459,8 @@ struct ScaledTileLayers<'a, F> {
 }
 
 impl<F: TwoAdicField> ChunkWork<F> for ScaledTileLayers<'_, F> {
-    ghost accepts = { λ it n size. (1 ≤ it.width) × (((n + 1) * 2 ^ it.log_rows < 2 ^ 64)
-        × ((size ≡ 2 ^ it.log_rows * it.width) × ((F.value (get_or it.twiddles.now 0 F.ZERO) ≡ F.ring.one)
-        × ((n + 1) * 2 ^ it.log_rows ≤ 2 * length it.twiddles.now)))) };
+    ghost accepts = { λ it n size. IsChunk it.width it.log_rows n (length it.twiddles.now) size
+        × (F.value (get_or it.twiddles.now 0 F.ZERO) ≡ F.ring.one) };
 
     ghost takes = { λ it n. let twiddle = λ (b : ℕ). F.value (get_or it.twiddles.now b F.ZERO) in
         TakesCells (λ x. F.ring.mul (F.value x) (F.value it.scale)) F.value F.ZERO SmallestFirst it.width it.log_rows n
@@ -434,10 +472,8 @@ impl<F: TwoAdicField> ChunkWork<F> for ScaledTileLayers<'_, F> {
     fn on_chunk(&self, number: usize, chunk: &mut [F], products: &mut Products) {
         scale_slice_in_place(chunk, self.scale, products);
         layers_of_tile(
-            ByBlock {
-                twiddles: self.twiddles,
-                decimation: Dif,
-            },
+            Dif,
+            self.twiddles,
             chunk,
             self.width,
             self.log_rows,
@@ -488,10 +524,8 @@ pub fn dit_network_to_reversed<F: TwoAdicField>(
         products,
     );
     layers_of_tiles(
-        ByBlock {
-            twiddles,
-            decimation: Dit::<true>,
-        },
+        Dit::<true>,
+        twiddles,
         values,
         width,
         log_rows,
@@ -525,17 +559,7 @@ pub fn dif_network<F: TwoAdicField>(
     ensures grows { products.old ≤ products.new }
     ensures cost { products.new ≤ products.old + width * (log_h * 2 ^ log_h / 2) }
 {
-    layers_of_tiles(
-        ByBlock {
-            twiddles,
-            decimation: Dif,
-        },
-        values,
-        width,
-        log_rows,
-        log_h,
-        products,
-    );
+    layers_of_tiles(Dif, twiddles, values, width, log_rows, log_h, products);
     layers_in_groups(
         ByBlock {
             twiddles,
@@ -800,10 +824,9 @@ struct SpreadTileLayers<'a, F> {
 
 impl<F: TwoAdicField> ChunkWork<F> for SpreadTileLayers<'_, F> {
     ghost accepts = { λ it n size. let count = 2 ^ (it.log_rows - it.added_bits) in
-        (1 ≤ it.width) × ((it.added_bits ≤ it.log_rows) × (((n + 1) * 2 ^ it.log_rows < 2 ^ 64)
-        × ((size ≡ 2 ^ it.log_rows * it.width) × (((n * count + count) * it.width ≤ length it.rows.now)
-        × ((n * count + count ≤ length it.weights.now) × ((F.value (get_or it.twiddles.now 0 F.ZERO) ≡ F.ring.one)
-        × ((n + 1) * 2 ^ it.log_rows ≤ 2 * length it.twiddles.now))))))) };
+        IsChunk it.width it.log_rows n (length it.twiddles.now) size × ((it.added_bits ≤ it.log_rows)
+        × (((n * count + count) * it.width ≤ length it.rows.now) × ((n * count + count ≤ length it.weights.now)
+        × (F.value (get_or it.twiddles.now 0 F.ZERO) ≡ F.ring.one)))) };
 
     ghost takes = { λ it n before after. let count = 2 ^ (it.log_rows - it.added_bits) in
         let twiddle = λ (b : ℕ). F.value (get_or it.twiddles.now b F.ZERO) in
@@ -836,14 +859,11 @@ impl<F: TwoAdicField> ChunkWork<F> for SpreadTileLayers<'_, F> {
             products,
         );
         layers_of_chunk(
-            ByBlock {
-                twiddles: self.twiddles,
-                decimation: Dif,
-            },
+            Dif,
+            self.twiddles,
             chunk,
             self.width,
             self.added_bits,
-            self.log_rows,
             self.log_rows,
             number,
             products,

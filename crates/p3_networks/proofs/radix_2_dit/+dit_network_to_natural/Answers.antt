@@ -1,4 +1,4 @@
-use Rattle.std.proofs.Common.{ℕ, ◌+◌, ◌*◌, ◌-◌, ◌/◌, ◌^◌, ◌++◌, ◌<◌, length, get_or, false, refl, ap, ◌∙◌, arith}
+use Rattle.std.proofs.Common.{◌≡◌, ℕ, ◌+◌, ◌*◌, ◌-◌, ◌/◌, ◌^◌, ◌++◌, ◌<◌, length, get_or, false, refl, ap, ◌∙◌, arith}
 use Rattle.std.proofs.lemmas.List.{length-append}
 use Rattle.p3_matrix.specs.BitOrder.{rev}
 use Rattle.p3_matrix.specs.Polynomials.{poly}
@@ -26,24 +26,13 @@ dit_network_to_natural-requires-then-values-gt-CACHED g t c κs within =
     let fewer = fewer_layers g.F.Field (root_powers g.F.Field g.F.TwoAdicField.generator false) (k - 1) k c.args.twiddles.now (omega arith) c.requires.twiddles in
     (omega (arith, c.decreases, c.if-log_h-gt0.true), (within.0, (within.1, (c.requires.wide, (omega (arith, c.requires.small), (omega (arith, c.requires.within), (size, fewer)))))))
 
-pub one_low_layer-requires-clause-wide : goal.one_low_layer-requires-clause-wide
-one_low_layer-requires-clause-wide g t c = c.requires.wide
-
-pub one_low_layer-requires-clause-small : goal.one_low_layer-requires-clause-small
-one_low_layer-requires-clause-small g t c = c.requires.small
-
-pub one_low_layer-requires-clause-below : goal.one_low_layer-requires-clause-below
-one_low_layer-requires-clause-below g t c = omega (arith, c.if-log_h-gt0.true)
-
-pub one_low_layer-requires-clause-size : goal.one_low_layer-requires-clause-size
-one_low_layer-requires-clause-size g t c =
+pub one_low_layer-requires : goal.one_low_layer-requires
+one_low_layer-requires g t c =
     let first = c.dit_network_to_natural in
     let second = c.dit_network_to_natural-then-values-gt-CACHED in
     let front = first.auto.values ∙ c.split_at_mut-low.ensures.front_len in
-    omega (arith, length-append first.new.values second.new.values, front, second.auto.values, c.split_at_mut-low.ensures.back_len, c.requires.size)
-
-pub one_low_layer-requires-clause-table : goal.one_low_layer-requires-clause-table
-one_low_layer-requires-clause-table g t c = c.requires.twiddles.size
+    let size : length (first.new.values ++ second.new.values) ≡ 2 ^ c.args.log_h * c.args.width = omega (arith, length-append first.new.values second.new.values, front, second.auto.values, c.split_at_mut-low.ensures.back_len, c.requires.size) in
+    record { rows = record { wide = c.requires.wide; small = c.requires.small; size = size }; below = omega (arith, c.if-log_h-gt0.true); table = c.requires.twiddles.size }
 
 pub returns-then-values-gt-CACHED-clause-values : goal.returns-then-values-gt-CACHED-clause-values
 returns-then-values-gt-CACHED-clause-values g t c r j below inside =
@@ -68,12 +57,12 @@ returns-then-values-gt-CACHED-clause-values g t c r j below inside =
     low_done field root field.ring.one k w (k - 1 + 1) column _ r (omega (arith, some)) done below ∙ ap (poly field.ring (2 ^ k) column) (point_of_one field.ring root k r)
 
 pub returns-then-values-gt-CACHED-clause-grows : goal.returns-then-values-gt-CACHED-clause-grows
-returns-then-values-gt-CACHED-clause-grows g t c = omega (arith, c.dit_network_to_natural.ensures.grows, c.dit_network_to_natural-then-values-gt-CACHED.ensures.grows, c.one_low_layer.ensures.grows)
+returns-then-values-gt-CACHED-clause-grows g t c = omega (arith, c.dit_network_to_natural.ensures.grows, c.dit_network_to_natural-then-values-gt-CACHED.ensures.grows, c.one_low_layer.ensures.cost.grows)
 
 pub returns-then-values-gt-CACHED-clause-cost : goal.returns-then-values-gt-CACHED-clause-cost
 returns-then-values-gt-CACHED-clause-cost g t c =
     joined_count c.args.log_h c.args.width c.args.products.now c.dit_network_to_natural.new.products c.dit_network_to_natural-then-values-gt-CACHED.new.products c.one_low_layer.new.products
-    c.if-log_h-gt0.true c.dit_network_to_natural.ensures.cost c.dit_network_to_natural-then-values-gt-CACHED.ensures.cost c.one_low_layer.ensures.cost
+    c.if-log_h-gt0.true c.dit_network_to_natural.ensures.cost c.dit_network_to_natural-then-values-gt-CACHED.ensures.cost c.one_low_layer.ensures.cost.cost
 
 pub network_in_cache-requires-clause-wide : goal.network_in_cache-requires-clause-wide
 network_in_cache-requires-clause-wide g t c = c.requires.wide

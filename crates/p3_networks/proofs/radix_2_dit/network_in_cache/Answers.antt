@@ -26,4 +26,4 @@ returns-clause-values g c r j below inside =
     ∙ poly_same field.ring (2 ^ k) _ _ _ (λ q p. ap (λ n. field.value (get_or c.args.values.now n field.ZERO)) (plain (rev k q)))
 
 pub returns-clause-cost : goal.returns-clause-cost
-returns-clause-cost g c = one_chunk_counted c.args.log_h _ _ _ c.first_half.ensures.cost
+returns-clause-cost g c = one_chunk_counted c.args.log_h _ _ _ c.first_half.ensures.cost.cost

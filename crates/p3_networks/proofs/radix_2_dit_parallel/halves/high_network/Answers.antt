@@ -38,9 +38,9 @@ counted cost pairs half all before after is few count =
 pub scaled_layer-requires-clause-size : goal.scaled_layer-requires-clause-size
 scaled_layer-requires-clause-size g c =
     let k = c.args.left in
-    let half = first_half k c.requires.some (omega (arith, c.requires.small)) in
+    let half = first_half k c.requires.some (omega (arith, c.requires.chunk.small)) in
     let flat : 1 * (2 * (2 ^ (k - 1) * c.args.width)) ≡ 1 * (2 * 2 ^ (k - 1)) * c.args.width = omega arith in
-    rw half (c.requires.size ∙ ap (λ n. n * c.args.width) (sym (first_whole k c.requires.some)) ∙ sym flat)
+    rw half (c.requires.chunk.size ∙ ap (λ n. n * c.args.width) (sym (first_whole k c.requires.some)) ∙ sym flat)
 
 pub loop-done-init : goal.loop-done-init
 loop-done-init g c =
@@ -51,7 +51,7 @@ loop-done-init g c =
     let w = c.args.width in
     let half = one_shifted (k - 1) in
     let some : 0 < k = omega (arith, c.requires.some) in
-    let small : k < 64 = omega (arith, c.requires.small) in
+    let small : k < 64 = omega (arith, c.requires.chunk.small) in
     let h : half ≡ 2 ^ (k - 1) = first_half k c.requires.some small in
     let whole : 1 * (2 * half) ≡ 2 ^ k = ap (λ n. 1 * (2 * n)) h ∙ first_whole k c.requires.some in
     let cell = λ (n : ℕ). field.value (get_or c.args.values.now n field.ZERO) in
@@ -64,7 +64,7 @@ loop-done-init g c =
           let coset = point field.ring root (mid + k) s (rev mid chunk) in
           let entry_is : (u : ℕ) → u < 1 → entry u ≡ twiddle field.ring root coset 0 (k - 1 - 0) (rev 0 u) =
           λ u p. ap (λ xs. field.value (get_or xs (chunk + u) field.ZERO)) c.of_layer-twiddles.ensures
-          ∙ chunk_entry field root s mid k chunk 0 u mid (chunk + u) c.args.table.by_layer c.args.table.twiddles.now roots table (omega arith) (omega arith) c.requires.chunk some p in
+          ∙ chunk_entry field root s mid k chunk 0 u mid (chunk + u) c.args.table.by_layer c.args.table.twiddles.now roots table (omega arith) (omega arith) c.requires.chunk.chunk some p in
           let keep : k ≡ k - 0 = omega arith in
           let less : k - 1 ≡ k - 1 - 0 = omega arith in
           whole_layer_taken (high_rows field.ring root coset roots (λ u. scaled (u * w + j))) k 0 w half 1
@@ -76,33 +76,33 @@ loop-done-init g c =
           j inside
           (λ u v. sym (high_start field.ring root coset (k - 0) (λ q. scaled (q * w + j)) u (subst (λ (n : ℕ). u < 2 ^ n) keep v)))
           r below;
-      grows = c.scaled_layer.ensures.grows;
-      cost = counted (scale_cost c.args.scale) (half * w) (2 ^ (k - 1) * w) (2 ^ k * w) _ _ (ap (λ n. n * w) h) (mul-le-mul_right w few) c.scaled_layer.ensures.cost;
+      grows = c.scaled_layer.ensures.cost.grows;
+      cost = counted (scale_cost c.args.scale) (half * w) (2 ^ (k - 1) * w) (2 ^ k * w) _ _ (ap (λ n. n * w) h) (mul-le-mul_right w few) c.scaled_layer.ensures.cost.cost;
     }
 
 pub overflow_mul-chunk : goal.overflow_mul-chunk
 overflow_mul-chunk g c =
     let done = c.loop-done.done in
     let mid = c.args.mid in
-    let highest : mid + done ≤ 63 = omega (arith, c.requires.small, c.loop-done-test.true) in
+    let highest : mid + done ≤ 63 = omega (arith, c.requires.chunk.small, c.loop-done-test.true) in
     let fits : 2 ^ (mid + done) ≤ 2 ^ 63 = pow-le-pow_right {n = 2} (lit≤ tt) highest in
-    rw (done_shift c.args.left done c.loop-done-test.true (omega (arith, c.requires.small))) (omega (arith, fits, blocks_within c.args.chunk mid done c.requires.chunk))
+    rw (done_shift c.args.left done c.loop-done-test.true (omega (arith, c.requires.chunk.small))) (omega (arith, fits, blocks_within c.args.chunk mid done c.requires.chunk.chunk))
 
 pub layer_by_block-requires-clause-size : goal.layer_by_block-requires-clause-size
 layer_by_block-requires-clause-size g c =
     let l = c.loop-done.done in
     let k = c.args.left in
-    let small : k < 64 = omega (arith, c.requires.small) in
+    let small : k < 64 = omega (arith, c.requires.chunk.small) in
     rw (left_shift k l c.loop-done-test.true small, done_shift k l c.loop-done-test.true small)
-    (c.loop-done.auto.values ∙ c.scaled_layer.auto.values ∙ c.requires.size ∙ cells_by_blocks k l c.args.width c.loop-done-test.true)
+    (c.loop-done.auto.values ∙ c.scaled_layer.auto.values ∙ c.requires.chunk.size ∙ cells_by_blocks k l c.args.width c.loop-done-test.true)
 
 pub layer_by_block-requires-clause-table : goal.layer_by_block-requires-clause-table
 layer_by_block-requires-clause-table g c =
     let l = c.loop-done.done in
     let mid = c.args.mid in
     let count = ap length c.of_layer-twiddles-in-loop-done.ensures
-    ∙ block_count c.args.table.by_layer (mid + l) c.args.table.twiddles.now (c.requires.table (mid + l) (omega arith) (omega (arith, c.loop-done-test.true))) in
-    rw (done_shift c.args.left l c.loop-done-test.true (omega (arith, c.requires.small)), count) (blocks_within c.args.chunk mid l c.requires.chunk)
+    ∙ block_count c.args.table.by_layer (mid + l) c.args.table.twiddles.now (c.requires.chunk.table (mid + l) (omega arith) (omega (arith, c.loop-done-test.true))) in
+    rw (done_shift c.args.left l c.loop-done-test.true (omega (arith, c.requires.chunk.small)), count) (blocks_within c.args.chunk mid l c.requires.chunk.chunk)
 
 pub loop-done-preserved : goal.loop-done-preserved
 loop-done-preserved g c =
@@ -114,7 +114,7 @@ loop-done-preserved g c =
     let w = c.args.width in
     let half = one_shifted (k - 1 - l) in
     let blocks = one_shifted l in
-    let small : k < 64 = omega (arith, c.requires.small) in
+    let small : k < 64 = omega (arith, c.requires.chunk.small) in
     let h : half ≡ 2 ^ (k - 1 - l) = left_shift k l c.loop-done-test.true small in
     let b : blocks ≡ 2 ^ l = done_shift k l c.loop-done-test.true small in
     let whole : blocks * (2 * half) ≡ 2 ^ k = rw (h, b) (blocks_whole k l c.loop-done-test.true) in
@@ -127,7 +127,7 @@ loop-done-preserved g c =
           let coset = point field.ring root (mid + k) s (rev mid chunk) in
           let entry_is : (u : ℕ) → u < blocks → entry u ≡ twiddle field.ring root coset l (k - 1 - l) (rev l u) =
           λ u p. ap (λ xs. field.value (get_or xs (chunk * blocks + u) field.ZERO)) c.of_layer-twiddles-in-loop-done.ensures
-          ∙ chunk_entry field root s mid k chunk l u (mid + l) (chunk * blocks + u) c.args.table.by_layer c.args.table.twiddles.now roots table refl (ap (λ n. chunk * n + u) b) c.requires.chunk c.loop-done-test.true (omega (arith, p, b)) in
+          ∙ chunk_entry field root s mid k chunk l u (mid + l) (chunk * blocks + u) c.args.table.by_layer c.args.table.twiddles.now roots table refl (ap (λ n. chunk * n + u) b) c.requires.chunk.chunk c.loop-done-test.true (omega (arith, p, b)) in
           whole_layer_taken (high_rows field.ring root coset roots (λ u. scaled (u * w + j))) k l w half blocks
           (λ u t. dit_near field.ring (entry u)) (λ u t. dit_far field.ring (entry u)) before after
           (omega arith) c.loop-done-test.true h whole
@@ -137,8 +137,8 @@ loop-done-preserved g c =
           j inside
           (λ u v. c.loop-done.invariant.rows root s roots table j u inside v)
           r below;
-      grows = omega (arith, c.loop-done.invariant.grows, c.layer_by_block.ensures.grows);
-      cost = layer_counted 1 k l w blocks half _ c.loop-done.products c.layer_by_block.new.products c.loop-done-test.true whole c.loop-done.invariant.cost c.layer_by_block.ensures.cost;
+      cost = layer_counted 1 k l w blocks half _ c.loop-done.products c.layer_by_block.new.products c.loop-done-test.true whole c.loop-done.invariant.cost c.layer_by_block.ensures.cost.cost;
+      grows = omega (arith, c.loop-done.invariant.grows, c.layer_by_block.ensures.cost.grows);
     }
 
 pub returns-clause-values : goal.returns-clause-values
@@ -157,7 +157,7 @@ returns-clause-cost g c =
     let w = c.args.width in
     let e : c.loop-done.done ≡ k = omega (arith, c.requires.some) in
     let all = ap (λ n. 1 * (n * (2 ^ (k - 1) * w))) e ∙ layers_counted k w in
-    omega (arith, all, c.loop-done.invariant.cost)
+    record { grows = c.loop-done.invariant.grows; cost = omega (arith, all, c.loop-done.invariant.cost) }
 
 -- a layer of the second half
 in_second_half : (mid done left : ℕ) → done < left → mid + done < mid + left
@@ -165,13 +165,13 @@ in_second_half mid done left below = omega arith
 
 pub of_layer-twiddles-requires-in-loop-done-clause-inside : goal.of_layer-twiddles-requires-in-loop-done-clause-inside
 of_layer-twiddles-requires-in-loop-done-clause-inside g c =
-    c.requires.table (c.args.mid + c.loop-done.done) (le-add_right c.args.mid c.loop-done.done) (in_second_half c.args.mid c.loop-done.done c.args.left c.loop-done-test.true)
+    c.requires.chunk.table (c.args.mid + c.loop-done.done) (le-add_right c.args.mid c.loop-done.done) (in_second_half c.args.mid c.loop-done.done c.args.left c.loop-done-test.true)
 
 pub scaled_layer-requires-clause-table : goal.scaled_layer-requires-clause-table
-scaled_layer-requires-clause-table g c = first_there c.args.table.by_layer c.args.mid c.args.left c.args.chunk c.args.table.twiddles.now c.of_layer-twiddles.result.now c.requires.some c.requires.chunk c.requires.table c.of_layer-twiddles.ensures
+scaled_layer-requires-clause-table g c = first_there c.args.table.by_layer c.args.mid c.args.left c.args.chunk c.args.table.twiddles.now c.of_layer-twiddles.result.now c.requires.some c.requires.chunk.chunk c.requires.chunk.table c.of_layer-twiddles.ensures
 
 pub layer_by_block-requires-clause-some : goal.layer_by_block-requires-clause-some
-layer_by_block-requires-clause-some g c = some_rows _ (c.args.left - 1 - c.loop-done.done) (left_shift c.args.left c.loop-done.done c.loop-done-test.true (omega (arith, c.requires.small)))
+layer_by_block-requires-clause-some g c = some_rows _ (c.args.left - 1 - c.loop-done.done) (left_shift c.args.left c.loop-done.done c.loop-done-test.true (omega (arith, c.requires.chunk.small)))
 
 pub layer_by_block-requires-clause-blocks : goal.layer_by_block-requires-clause-blocks
-layer_by_block-requires-clause-blocks g c = some_rows _ c.loop-done.done (done_shift c.args.left c.loop-done.done c.loop-done-test.true (omega (arith, c.requires.small)))
+layer_by_block-requires-clause-blocks g c = some_rows _ c.loop-done.done (done_shift c.args.left c.loop-done.done c.loop-done-test.true (omega (arith, c.requires.chunk.small)))

@@ -1,5 +1,6 @@
-use Rattle.std.proofs.Common.{◌≡◌, ℕ, ◌+◌, ◌*◌, ◌-◌, ◌^◌, ◌≤◌, get_or, refl, ap, ◌∙◌, subst, arith}
+use Rattle.std.proofs.Common.{◌≡◌, ℕ, ◌+◌, ◌*◌, ◌-◌, ◌^◌, get_or, refl, ap, ◌∙◌, subst, arith}
 use Rattle.p3_matrix.specs.BitOrder.{rev}
+use Rattle.p3_networks.specs.Counts.{RisesAtMost}
 use Rattle.p3_networks.proofs.Layers.Blocks.{halves_whole}
 use Rattle.p3_networks.proofs.Layers.Counts.{layer_counted, layers_counted}
 use Rattle.p3_networks.proofs.Networks.LowLayers.{low_begun, low_done, low_layer}
@@ -10,8 +11,7 @@ loop-l-init g c =
     let field = g.F.Field in
     record {
       rows = λ root s roots table j r h q. low_begun field root s c.args.log_h c.args.width (λ n. field.value (get_or c.args.values.now n field.ZERO)) j r q;
-      grows = omega arith;
-      cost = omega arith;
+      cost = record { grows = omega arith; cost = omega arith };
     }
 
 pub loop-l-preserved : goal.loop-l-preserved
@@ -27,8 +27,7 @@ loop-l-preserved g c =
           (λ n. field.value (get_or c.loop-l.values n field.ZERO)) (λ n. field.value (get_or c.one_low_layer.new.values n field.ZERO))
           c.loop-l-test.true refl whole (layers.layers l c.loop-l-test.true) c.one_low_layer.ensures.cells j inside
           (λ u v. c.loop-l.invariant.rows root s roots layers j u inside v) r below;
-      grows = omega (arith, c.loop-l.invariant.grows, c.one_low_layer.ensures.grows);
-      cost = layer_counted 1 k l w (2 ^ (k - 1 - l)) (2 ^ l) c.args.products.now c.loop-l.products c.one_low_layer.new.products c.loop-l-test.true whole c.loop-l.invariant.cost c.one_low_layer.ensures.cost;
+      cost = record { grows = omega (arith, c.loop-l.invariant.cost.grows, c.one_low_layer.ensures.cost.grows); cost = layer_counted 1 k l w (2 ^ (k - 1 - l)) (2 ^ l) c.args.products.now c.loop-l.products c.one_low_layer.new.products c.loop-l-test.true whole c.loop-l.invariant.cost.cost c.one_low_layer.ensures.cost.cost };
     }
 
 pub returns-clause-values : goal.returns-clause-values
@@ -41,4 +40,4 @@ returns-clause-cost g c =
     let k = c.args.log_h in
     let w = c.args.width in
     let e : c.loop-l.l ≡ k = omega arith in
-    subst (λ (n : ℕ). c.loop-l.products ≤ c.args.products.now + n) (ap (λ n. 1 * (n * (2 ^ (k - 1) * w))) e ∙ layers_counted k w) c.loop-l.invariant.cost
+    subst (λ (n : ℕ). RisesAtMost n c.args.products.now c.loop-l.products) (ap (λ n. 1 * (n * (2 ^ (k - 1) * w))) e ∙ layers_counted k w) c.loop-l.invariant.cost

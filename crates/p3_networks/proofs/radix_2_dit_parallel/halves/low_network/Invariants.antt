@@ -1,6 +1,7 @@
-use Rattle.std.proofs.Common.{◌≡◌, ℕ, ◌+◌, ◌*◌, ◌-◌, ◌^◌, ◌<◌, ◌≤◌, get_or}
+use Rattle.std.proofs.Common.{◌≡◌, ℕ, ◌+◌, ◌*◌, ◌-◌, ◌^◌, ◌<◌, get_or}
 use Rattle.p3_field.specs.Ring.{AreRoots}
 use Rattle.p3_matrix.specs.BitOrder.{rev}
+use Rattle.p3_networks.specs.Counts.{RisesAtMost}
 use Rattle.p3_networks.specs.Twiddles.{AreTwiddlesOfLayers, coset_twiddles}
 use Rattle.p3_networks.proofs.Networks.LowRows.{low_row}
 use Rattle.p3_networks.proofs.radix_2_dit_parallel.halves.low_network.Given as goal
@@ -14,6 +15,5 @@ invariant-loop-l g l =
       rows : (root : ℕ → field.Element) (s : field.Element) → AreRoots field.ring k root → AreTwiddlesOfLayers field k (coset_twiddles field root s k) l.fn.twiddles
           → (j r : ℕ) → j < w → r < 2 ^ k → field.value (get_or l.values (r * w + j) field.ZERO)
           ≡ low_row field.ring root s l.l (k - l.l) (λ q. field.value (get_or l.fn.values (rev k q * w + j) field.ZERO)) r;
-      grows : l.fn.products ≤ l.products;
-      cost : l.products ≤ l.fn.products + 1 * (l.l * (2 ^ (k - 1) * w));
+      cost : RisesAtMost (1 * (l.l * (2 ^ (k - 1) * w))) l.fn.products l.products;
     }

@@ -1,6 +1,7 @@
-use Rattle.std.proofs.Common.{◌≡◌, ℕ, ◌+◌, ◌*◌, ◌-◌, ◌^◌, ◌<◌, ◌≤◌, get_or, refl, sym, ap, ◌∙◌, subst, arith}
+use Rattle.std.proofs.Common.{◌≡◌, ℕ, ◌+◌, ◌*◌, ◌-◌, ◌^◌, ◌<◌, get_or, refl, sym, ap, ◌∙◌, subst, arith}
 use Rattle.std.proofs.lemmas.Nat.{pow_pos}
 use Rattle.p3_matrix.specs.BitOrder.{rev}
+use Rattle.p3_networks.specs.Counts.{RisesAtMost}
 use Rattle.p3_networks.proofs.Layers.Blocks.{halves_whole}
 use Rattle.p3_networks.proofs.Layers.Counts.{layer_counted, layers_counted, two_halves}
 use Rattle.p3_networks.proofs.Layers.Sizes.{done_shift}
@@ -19,10 +20,10 @@ cells_of_pairs : (k w : ℕ) → 0 < k → k < 64 → 2 ^ k * w ≡ one_shifted 
 cells_of_pairs k w some small = rw (pairs_are k some small) (ap (λ n. n * w) (pairs_whole k some) ∙ omega arith)
 
 pub first_layer_oop-requires-clause-source : goal.first_layer_oop-requires-clause-source
-first_layer_oop-requires-clause-source g c = c.requires.source ∙ cells_of_pairs c.args.log_h c.args.width (omega (arith, c.if-log_h-eq0.false)) c.requires.small
+first_layer_oop-requires-clause-source g c = c.requires.source ∙ c.requires.rows.size ∙ cells_of_pairs c.args.log_h c.args.width (omega (arith, c.if-log_h-eq0.false)) c.requires.rows.small
 
 pub first_layer_oop-requires-clause-size : goal.first_layer_oop-requires-clause-size
-first_layer_oop-requires-clause-size g c = c.requires.size ∙ cells_of_pairs c.args.log_h c.args.width (omega (arith, c.if-log_h-eq0.false)) c.requires.small
+first_layer_oop-requires-clause-size g c = c.requires.rows.size ∙ cells_of_pairs c.args.log_h c.args.width (omega (arith, c.if-log_h-eq0.false)) c.requires.rows.small
 
 pub first_layer_oop-requires-clause-table : goal.first_layer_oop-requires-clause-table
 first_layer_oop-requires-clause-table g c = omega (arith, pairs_whole c.args.log_h (omega (arith, c.if-log_h-eq0.false)), pow_pos (c.args.log_h - 1), c.requires.table)
@@ -34,7 +35,7 @@ loop-l-init g c =
     let w = c.args.width in
     let some : 0 < k = omega (arith, c.if-log_h-eq0.false) in
     let pairs = one_shifted (k - 1) in
-    let are : pairs ≡ 2 ^ (k - 1) = pairs_are k some c.requires.small in
+    let are : pairs ≡ 2 ^ (k - 1) = pairs_are k some c.requires.rows.small in
     let cells : pairs * w ≡ 2 ^ (k - 1) * w = ap (λ n. n * w) are in
     record {
       rows = λ root s roots layers j r inside below.
@@ -42,8 +43,7 @@ loop-l-init g c =
           low_first field root s k w roots pairs c.args.twiddles.now (λ q. cell (rev k q * w + j)) cell (λ n. field.value (get_or c.first_layer_oop.new.values n field.ZERO))
           some (rw are (sym (pairs_whole k some))) layers c.first_layer_oop.ensures.cells j inside
           (λ u v. low_begun field root s k w cell j u v) r below;
-      grows = c.first_layer_oop.ensures.grows;
-      cost = omega (arith, c.first_layer_oop.ensures.cost, cells);
+      cost = record { grows = c.first_layer_oop.ensures.cost.grows; cost = omega (arith, c.first_layer_oop.ensures.cost.cost, cells) };
     }
 
 pub loop-l-preserved : goal.loop-l-preserved
@@ -59,8 +59,7 @@ loop-l-preserved g c =
           (λ n. field.value (get_or c.loop-l.values n field.ZERO)) (λ n. field.value (get_or c.one_low_layer.new.values n field.ZERO))
           c.loop-l-test.true refl whole (layers.layers l c.loop-l-test.true) c.one_low_layer.ensures.cells j inside
           (λ u v. c.loop-l.invariant.rows root s roots layers j u inside v) r below;
-      grows = omega (arith, c.loop-l.invariant.grows, c.one_low_layer.ensures.grows);
-      cost = layer_counted 1 k l w (2 ^ (k - 1 - l)) (2 ^ l) c.args.products.now c.loop-l.products c.one_low_layer.new.products c.loop-l-test.true whole c.loop-l.invariant.cost c.one_low_layer.ensures.cost;
+      cost = record { grows = omega (arith, c.loop-l.invariant.cost.grows, c.one_low_layer.ensures.cost.grows); cost = layer_counted 1 k l w (2 ^ (k - 1 - l)) (2 ^ l) c.args.products.now c.loop-l.products c.one_low_layer.new.products c.loop-l-test.true whole c.loop-l.invariant.cost.cost c.one_low_layer.ensures.cost.cost };
     }
 
 pub returns-then-log_h-eq0-clause-values : goal.returns-then-log_h-eq0-clause-values
@@ -81,4 +80,4 @@ returns-after-loop-l-clause-cost g c =
     let k = c.args.log_h in
     let w = c.args.width in
     let e : c.loop-l.l ≡ k = omega arith in
-    subst (λ (n : ℕ). c.loop-l.products ≤ c.args.products.now + n) (ap (λ n. 1 * (n * (2 ^ (k - 1) * w))) e ∙ layers_counted k w) c.loop-l.invariant.cost
+    subst (λ (n : ℕ). RisesAtMost n c.args.products.now c.loop-l.products) (ap (λ n. 1 * (n * (2 ^ (k - 1) * w))) e ∙ layers_counted k w) c.loop-l.invariant.cost

@@ -1,19 +1,29 @@
+use Rattle.std.proofs.Common.{◌+◌, ◌*◌, ◌/◌, ◌^◌, length, refl, arith}
+use Rattle.p3_matrix.specs.BitOrder.{rev}
+use Rattle.p3_matrix.specs.Cosets.{point}
+use Rattle.p3_networks.specs.Twiddles.{factor, scale_cost}
+use Rattle.p3_networks.proofs.Layers.Counts.{turns_halved}
+use Rattle.p3_networks.proofs.Layers.Sizes.{first_shift}
+use Rattle.p3_networks.proofs.Layers.Tiles.{shifted_sizes}
+use Rattle.p3_networks.proofs.Rows.EachChunk.{row_taken}
 use Rattle.p3_networks.proofs.radix_2_dit_parallel.halves.second_half.Goals as goal
 
-pub returns-then-width-eq1-clause-values : goal.returns-then-width-eq1-clause-values
-returns-then-width-eq1-clause-values g c = rw c.if-width-eq1.true c.high_chunks.ensures.values
+pub on_each_chunk-requires : goal.on_each_chunk-requires
+on_each_chunk-requires g c =
+    let sizes = shifted_sizes c.args.mid (c.args.mid + c.args.left) c.args.left c.args.width (length c.args.values.now) (omega (arith, c.requires.rows.small)) refl c.requires.rows.size in
+    let count = first_shift c.args.mid c.args.left c.requires.rows.small in
+    record { whole = sizes.whole; accepts = λ n below. record { wide = c.requires.rows.wide; small = c.requires.rows.small; chunk = omega (arith, below, count); size = sizes.size_is; table = c.requires.table } }
 
-pub high_chunks-requires-clause-table : goal.high_chunks-requires-clause-table
-high_chunks-requires-clause-table g c = c.requires.table
+pub returns-clause-values : goal.returns-clause-values
+returns-clause-values g c root s roots table a t j below inside column =
+    let field = g.F.Field in
+    let mid = c.args.mid in
+    let left = c.args.left in
+    let sizes = shifted_sizes mid (mid + left) left c.args.width (length c.args.values.now) (omega (arith, c.requires.rows.small)) refl c.requires.rows.size in
+    row_taken field.ZERO _ field.ring (λ x. field.ring.mul (field.value x) (factor field c.args.scale)) field.value (2 ^ left) c.args.width (λ q. q) _ a t j
+    (point field.ring root left (point field.ring root (mid + left) s (rev mid a)) (rev left t)) c.args.values.now c.on_each_chunk.new.values sizes.size_is refl (λ q l. l) inside column
+    (c.on_each_chunk.ensures.chunks a (omega (arith, below, first_shift mid left c.requires.rows.small)) root s roots table t j inside column)
 
-pub high_chunks-requires-else-width-eq1-clause-table : goal.high_chunks-requires-else-width-eq1-clause-table
-high_chunks-requires-else-width-eq1-clause-table g c = c.requires.table
-
-pub returns-else-width-eq1-clause-values : goal.returns-else-width-eq1-clause-values
-returns-else-width-eq1-clause-values g c = c.high_chunks-else-width-eq1.ensures.values
-
-pub returns-then-width-eq1-clause-cost : goal.returns-then-width-eq1-clause-cost
-returns-then-width-eq1-clause-cost g c = rw c.if-width-eq1.true c.high_chunks.ensures.cost
-
-pub high_chunks-requires-clause-size : goal.high_chunks-requires-clause-size
-high_chunks-requires-clause-size g c = rw c.if-width-eq1.true at c.requires.size
+pub returns-clause-cost : goal.returns-clause-cost
+returns-clause-cost g c =
+    record { grows = c.on_each_chunk.ensures.grows; cost = turns_halved _ _ (c.args.width * (c.args.left * 2 ^ c.args.left / 2) + scale_cost c.args.scale * (2 ^ c.args.left * c.args.width)) _ _ (first_shift c.args.mid c.args.left c.requires.rows.small) c.on_each_chunk.ensures.cost }

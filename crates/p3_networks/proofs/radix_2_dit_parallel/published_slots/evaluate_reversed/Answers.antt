@@ -1,6 +1,6 @@
-use Rattle.std.proofs.Common.{ℕ, ◌*◌, ◌^◌, sym, ap, ◌∙◌, subst, arith}
+use Rattle.std.proofs.Common.{ℕ, ◌^◌, sym, ap, subst, arith}
 use Rattle.p3_networks.specs.Twiddles.{IsCosetTable}
-use Rattle.p3_networks.proofs.Networks.CosetHalves.{both_counted, halves_whole, high_room, lent_on_coset, low_room}
+use Rattle.p3_networks.proofs.Networks.CosetHalves.{both_counted, both_rows, halves_whole, high_room, lent_on_coset, low_room}
 use Rattle.p3_networks.proofs.radix_2_dit_parallel.published_slots.evaluate_reversed.Goals as goal
 
 pub first_half-requires-clause-table : goal.first_half-requires-clause-table
@@ -10,11 +10,11 @@ pub last_half-requires-clause-table : goal.last_half-requires-clause-table
 last_half-requires-clause-table g c l from below =
     high_room g.F.Field g.F.TwoAdicField.generator _ c.args.table.now.log_h c.twiddles-twiddles.result.now c.twiddles-twiddles.ensures.table l (rw c.requires.table below)
 
-pub last_half-requires-clause-size : goal.last_half-requires-clause-size
-last_half-requires-clause-size g c = c.first_half.auto.values ∙ c.requires.size ∙ ap (λ n. 2 ^ n * c.args.width) (sym (halves_whole c.args.log_h))
-
 pub last_half-requires-clause-rows : goal.last_half-requires-clause-rows
-last_half-requires-clause-rows g c = let all = ap (λ n. 2 ^ n) (halves_whole c.args.log_h) in omega (arith, all, c.requires.rows)
+last_half-requires-clause-rows g c = both_rows c.args.log_h c.args.width _ _ c.requires.rows c.first_half.auto.values
+
+pub last_half-requires-clause-numbers : goal.last_half-requires-clause-numbers
+last_half-requires-clause-numbers g c = let all = ap (λ n. 2 ^ n) (halves_whole c.args.log_h) in omega (arith, all, c.requires.numbers)
 
 pub returns-clause-lent : goal.returns-clause-lent
 returns-clause-lent g c =

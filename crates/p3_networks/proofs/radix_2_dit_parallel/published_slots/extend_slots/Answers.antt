@@ -46,15 +46,19 @@ evaluate_reversed_oop-requires-clause-table g c = (coset_read g.F.Field c.args.c
 
 pub evaluate_reversed_oop-requires-clause-source : goal.evaluate_reversed_oop-requires-clause-source
 evaluate_reversed_oop-requires-clause-source g c =
-    c.split_at_mut-coefficients.ensures.front_len ∙ slot_size (length c.args.values.now) c.args.log_h c.args.added_bits c.args.width c.requires.small c.requires.size
-
-pub evaluate_reversed_oop-requires-clause-size : goal.evaluate_reversed_oop-requires-clause-size
-evaluate_reversed_oop-requires-clause-size g c =
-    part_length c.loop-place.others _ _ (slot_inside (length c.args.values.now) c.args.log_h c.args.added_bits c.args.width c.loop-place.place c.requires.small c.requires.size c.loop-place-test.true _ _ c.split_at_mut-coefficients.ensures.back_len c.loop-place.auto.others)
-    ∙ slot_size (length c.args.values.now) c.args.log_h c.args.added_bits c.args.width c.requires.small c.requires.size
+    c.split_at_mut-coefficients.ensures.front_len
+    ∙ sym (part_length c.loop-place.others _ _ (slot_inside (length c.args.values.now) c.args.log_h c.args.added_bits c.args.width c.loop-place.place c.requires.small c.requires.size c.loop-place-test.true _ _ c.split_at_mut-coefficients.ensures.back_len c.loop-place.auto.others))
 
 pub evaluate_reversed_oop-requires-clause-rows : goal.evaluate_reversed_oop-requires-clause-rows
-evaluate_reversed_oop-requires-clause-rows g c =
+evaluate_reversed_oop-requires-clause-rows g c = record {
+  wide = c.requires.wide;
+  small = omega (arith, c.requires.small);
+  size = part_length c.loop-place.others _ _ (slot_inside (length c.args.values.now) c.args.log_h c.args.added_bits c.args.width c.loop-place.place c.requires.small c.requires.size c.loop-place-test.true _ _ c.split_at_mut-coefficients.ensures.back_len c.loop-place.auto.others)
+      ∙ slot_size (length c.args.values.now) c.args.log_h c.args.added_bits c.args.width c.requires.small c.requires.size;
+}
+
+pub evaluate_reversed_oop-requires-clause-numbers : goal.evaluate_reversed_oop-requires-clause-numbers
+evaluate_reversed_oop-requires-clause-numbers g c =
     slot_ends c.loop-place.place c.args.log_h c.args.added_bits (more_slots (length c.args.values.now) c.args.log_h c.args.added_bits c.args.width c.loop-place.place c.requires.small c.requires.size c.loop-place-test.true) c.requires.small
 
 pub loop-place-init : goal.loop-place-init
@@ -92,8 +96,8 @@ loop-place-preserved g c =
           (blocks_more place _ _ k w (2 ^ (k - mid_of k)) (2 ^ mid_of k) c.loop-place.others c.evaluate_reversed_oop.new.values (blocks_whole k) is fits size
           (slot_starts place k a (more_slots len k a w place c.requires.small c.requires.size c.loop-place-test.true) c.requires.small))
           (run_joined g.C.BlockConsumer.step _ _ c.args.consumer.now c.loop-place.consumer c.evaluate_reversed_oop.new.consumer c.loop-place.invariant.told c.in_default.ensures.lent.1);
-      grows = omega (arith, c.loop-place.invariant.grows, c.evaluate_reversed_oop.ensures.grows);
-      cost = count_more 1 place (w * (k * 2 ^ k / 2)) _ _ _ c.loop-place.invariant.cost (omega (arith, c.evaluate_reversed_oop.ensures.cost));
+      grows = omega (arith, c.loop-place.invariant.grows, c.evaluate_reversed_oop.ensures.cost.grows);
+      cost = count_more 1 place (w * (k * 2 ^ k / 2)) _ _ _ c.loop-place.invariant.cost (omega (arith, c.evaluate_reversed_oop.ensures.cost.cost));
     }
 
 pub returns-in-Err-clause-cost : goal.returns-in-Err-clause-cost
@@ -103,7 +107,7 @@ returns-in-Err-clause-cost g c =
     let turn = c.args.width * (k * 2 ^ k / 2) in
     let below : c.loop-place.place + 1 < 2 ^ a = omega (arith, second_shift k a c.requires.small, c.loop-place-test.true) in
     let rise : (c.loop-place.place + 1) * turn ≤ 2 ^ a * turn = mul-le-mul_right turn (let l : c.loop-place.place + 1 ≤ 2 ^ a = omega (arith, below) in l) in
-    let once : c.evaluate_reversed_oop.new.products ≤ c.loop-place.products + 1 * turn = omega (arith, c.evaluate_reversed_oop.ensures.cost) in
+    let once : c.evaluate_reversed_oop.new.products ≤ c.loop-place.products + 1 * turn = omega (arith, c.evaluate_reversed_oop.ensures.cost.cost) in
     let so_far = count_more 1 c.loop-place.place turn c.args.products.now c.loop-place.products c.evaluate_reversed_oop.new.products c.loop-place.invariant.cost once in
     omega (arith, rise, so_far)
 
@@ -136,9 +140,12 @@ place_of_slot-found-requires-2-clause-there g c = c.requires.tables (rev c.args.
 pub evaluate_reversed-requires-clause-table : goal.evaluate_reversed-requires-clause-table
 evaluate_reversed-requires-clause-table g c = (coset_read g.F.Field c.args.cosets.now c.args.log_h _ _ _ c.get-table-2.ensures c.place_of_slot-found-2.ensures).0
 
-pub evaluate_reversed-requires-clause-size : goal.evaluate_reversed-requires-clause-size
-evaluate_reversed-requires-clause-size g c =
-    c.split_at_mut-coefficients.ensures.front_len ∙ slot_size (length c.args.values.now) c.args.log_h c.args.added_bits c.args.width c.requires.small c.requires.size
+pub evaluate_reversed-requires-clause-rows : goal.evaluate_reversed-requires-clause-rows
+evaluate_reversed-requires-clause-rows g c = record {
+  wide = c.requires.wide;
+  small = omega (arith, c.requires.small);
+  size = c.split_at_mut-coefficients.ensures.front_len ∙ slot_size (length c.args.values.now) c.args.log_h c.args.added_bits c.args.width c.requires.small c.requires.size;
+}
 
 pub returns-clause-values : goal.returns-clause-values
 returns-clause-values g c =
@@ -218,16 +225,16 @@ returns-clause-cost g c =
     let all : c.loop-place.place + 1 ≡ 2 ^ a = omega (arith, count, pow_pos a, c.loop-place-test.false, c.loop-place.auto.place-end) in
     let e : 1 * ((c.loop-place.place + 1) * turn) ≡ 2 ^ a * turn = ap (λ n. 1 * (n * turn)) all ∙ omega arith in
     subst (λ (n : ℕ). c.evaluate_reversed.new.products ≤ c.args.products.now + n) e
-    (count_more 1 c.loop-place.place turn _ _ _ c.loop-place.invariant.cost (omega (arith, c.evaluate_reversed.ensures.cost)))
+    (count_more 1 c.loop-place.place turn _ _ _ c.loop-place.invariant.cost (omega (arith, c.evaluate_reversed.ensures.cost.cost)))
 
 pub returns-in-Err-clause-grows : goal.returns-in-Err-clause-grows
-returns-in-Err-clause-grows g c = le_trans c.loop-place.invariant.grows c.evaluate_reversed_oop.ensures.grows
+returns-in-Err-clause-grows g c = le_trans c.loop-place.invariant.grows c.evaluate_reversed_oop.ensures.cost.grows
 
 pub returns-clause-grows : goal.returns-clause-grows
-returns-clause-grows g c = le_trans c.loop-place.invariant.grows c.evaluate_reversed.ensures.grows
+returns-clause-grows g c = le_trans c.loop-place.invariant.grows c.evaluate_reversed.ensures.cost.grows
 
-pub evaluate_reversed-requires-clause-rows : goal.evaluate_reversed-requires-clause-rows
-evaluate_reversed-requires-clause-rows g c = first_ends c.args.log_h c.args.added_bits c.requires.small
+pub evaluate_reversed-requires-clause-numbers : goal.evaluate_reversed-requires-clause-numbers
+evaluate_reversed-requires-clause-numbers g c = first_ends c.args.log_h c.args.added_bits c.requires.small
 
 pub returns-in-Err-clause-values : goal.returns-in-Err-clause-values
 returns-in-Err-clause-values g c = tt

@@ -5,14 +5,12 @@ use Rattle.p3_networks.proofs.radix_2_dit_parallel.published_slots.finish_chunk.
 
 pub new-block-requires-clause-full : goal.new-block-requires-clause-full
 new-block-requires-clause-full g c =
-    let size : length c.last_layers.new.values ≡ 2 ^ c.args.left * c.args.width = c.last_layers.auto.values ∙ c.requires.size in
-    rw size (ap (λ n. n * c.args.width) (mul-div_cancel (2 ^ c.args.left) c.requires.wide))
+    let it = c.args.layers.now in
+    let size : length c.on_chunk.new.chunk ≡ 2 ^ it.left * it.width = c.on_chunk.auto.chunk ∙ c.requires.chunk.size in
+    rw size (ap (λ n. n * it.width) (mul-div_cancel (2 ^ it.left) c.requires.chunk.wide))
 
 pub returns-clause-values : goal.returns-clause-values
-returns-clause-values g c = c.last_layers.ensures.values
+returns-clause-values g c = c.on_chunk.ensures.chunk
 
 pub returns-clause-lent : goal.returns-clause-lent
 returns-clause-lent g c = subst (λ (block : RowMajor g.row.F.Denot). g.C.BlockConsumer.step c.args.consumer.now c.args.row block c.consume.result c.consume.new.self) c.new-block.ensures c.consume.ensures
-
-pub last_layers-requires-clause-table : goal.last_layers-requires-clause-table
-last_layers-requires-clause-table g c = c.requires.table

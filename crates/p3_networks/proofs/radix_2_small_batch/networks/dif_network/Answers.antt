@@ -7,9 +7,6 @@ use Rattle.p3_networks.proofs.Layers.Counts.{counted_twice, layers_joined}
 use Rattle.p3_networks.proofs.Networks.Cells.{twisted_cells, twisted_cells_end, twisted_cells_start, twisted_layers}
 use Rattle.p3_networks.proofs.radix_2_small_batch.networks.dif_network.Goals as goal
 
-pub layers_of_tiles-requires-clause-there : goal.layers_of_tiles-requires-clause-there
-layers_of_tiles-requires-clause-there g c b t inside = (omega (arith, inside, c.requires.enough), c.requires.first)
-
 pub layers_in_groups-requires-clause-there : goal.layers_in_groups-requires-clause-there
 layers_in_groups-requires-clause-there g c b inside = (omega (arith, inside, c.requires.enough), c.requires.first)
 
@@ -25,8 +22,8 @@ returns-clause-values g c bits root roots within twiddles r j below inside =
     let start : HoldsCells field.value field.ZERO 0 (cells 0) c.args.values.now = λ i p.
     twisted_cells_start field.ring roots k w column entry c.requires.wide (λ n. field.value (get_or c.args.values.now n field.ZERO))
     (λ q u small. ap (λ n. field.value (get_or c.args.values.now (n * w + u) field.ZERO)) (rev-rev k q small)) i (omega (arith, p, c.requires.size)) in
-    let tiled : HoldsCells field.value field.ZERO 0 (cells (0 + c.args.log_rows)) c.layers_of_tiles.new.values = c.layers_of_tiles.ensures.cells cells layers start in
-    let same : 0 + c.args.log_rows ≡ c.args.log_rows + 0 = omega arith in
+    let tiled : HoldsCells field.value field.ZERO 0 (cells (0 + (c.args.log_rows - 0))) c.layers_of_tiles.new.values = c.layers_of_tiles.ensures.cells cells layers start in
+    let same : 0 + (c.args.log_rows - 0) ≡ c.args.log_rows + 0 = omega arith in
     let all : c.args.log_rows + (k - c.args.log_rows) ≡ k = omega (arith, c.requires.below) in
     let done = subst (λ (e : ℕ). HoldsCells field.value field.ZERO 0 (cells e) c.layers_in_groups.new.values) all
     (c.layers_in_groups.ensures.cells cells layers (subst (λ (e : ℕ). HoldsCells field.value field.ZERO 0 (cells e) c.layers_of_tiles.new.values) same tiled)) in
@@ -39,7 +36,7 @@ returns-clause-cost g c =
     let k = c.args.log_h in
     let r = c.args.log_rows in
     let back : k - (k - r) ≡ r = omega (arith, c.requires.below) in
-    let first : 2 * c.layers_of_tiles.new.products ≤ 2 * c.args.products.now + (k - (k - r)) * len = omega (arith, c.layers_of_tiles.ensures.cost, ap (λ n. n * len) back) in
+    let first : 2 * c.layers_of_tiles.new.products ≤ 2 * c.args.products.now + (k - (k - r)) * len = omega (arith, c.layers_of_tiles.ensures.cost.cost, ap (λ n. n * len) back) in
     let second : 2 * c.layers_in_groups.new.products ≤ 2 * c.layers_of_tiles.new.products + (k - r) * len =
     let each = ap (λ n. (k - r) * n) c.layers_of_tiles.auto.values in
     omega (arith, c.layers_in_groups.ensures.cost, each) in

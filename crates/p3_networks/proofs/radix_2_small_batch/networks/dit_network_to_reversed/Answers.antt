@@ -8,8 +8,8 @@ use Rattle.p3_networks.proofs.radix_2_small_batch.networks.dit_network_to_revers
 pub layers_in_groups-requires-clause-there : goal.layers_in_groups-requires-clause-there
 layers_in_groups-requires-clause-there g c b inside = (omega (arith, inside, c.requires.enough), λ _. c.requires.first)
 
-pub layers_of_tiles-requires-clause-there : goal.layers_of_tiles-requires-clause-there
-layers_of_tiles-requires-clause-there g c b t inside = (omega (arith, inside, c.requires.enough), λ _. c.requires.first)
+pub layers_of_tiles-requires-clause-first : goal.layers_of_tiles-requires-clause-first
+layers_of_tiles-requires-clause-first g c = λ _. c.requires.first
 
 pub returns-clause-values : goal.returns-clause-values
 returns-clause-values g c bits root roots within twiddles r j below inside =
@@ -29,7 +29,7 @@ returns-clause-values g c bits root roots within twiddles r j below inside =
     subst (λ (e : ℕ). HoldsCells field.value field.ZERO 0 (cells e) c.layers_in_groups.new.values) left
     (c.layers_in_groups.ensures.cells cells layers (subst (λ (e : ℕ). HoldsCells field.value field.ZERO 0 (cells e) c.args.values.now) none start)) in
     let none_1 : c.args.log_rows ≡ c.args.log_rows - 0 = omega arith in
-    let none_2 : c.args.log_rows - c.args.log_rows ≡ 0 = omega arith in
+    let none_2 : c.args.log_rows - (c.args.log_rows - 0) ≡ 0 = omega arith in
     let done = subst (λ (e : ℕ). HoldsCells field.value field.ZERO 0 (cells e) c.layers_of_tiles.new.values) none_2
     (c.layers_of_tiles.ensures.cells cells layers (subst (λ (e : ℕ). HoldsCells field.value field.ZERO 0 (cells e) c.layers_in_groups.new.values) none_1 middle)) in
     done (r * w + j) (omega (arith, row_below r j w (2 ^ k) below inside, c.requires.size, c.layers_in_groups.auto.values, c.layers_of_tiles.auto.values))
@@ -41,6 +41,6 @@ returns-clause-cost g c =
     let first : 2 * c.layers_in_groups.new.products ≤ 2 * c.args.products.now + (c.args.log_h - c.args.log_rows) * len = omega (arith, c.layers_in_groups.ensures.cost) in
     let second : 2 * c.layers_of_tiles.new.products ≤ 2 * c.layers_in_groups.new.products + c.args.log_rows * len =
     let each = ap (λ n. c.args.log_rows * n) c.layers_in_groups.auto.values in
-    omega (arith, c.layers_of_tiles.ensures.cost, each) in
+    omega (arith, c.layers_of_tiles.ensures.cost.cost, each) in
     counted_twice c.args.log_h c.args.width len c.args.products.now c.layers_of_tiles.new.products c.requires.size
     (layers_joined c.args.log_rows c.args.log_h len c.args.products.now c.layers_in_groups.new.products c.layers_of_tiles.new.products c.requires.below first second)

@@ -1,20 +1,16 @@
-use Rattle.std.proofs.Common.{ℕ, ◌+◌, ◌*◌, ◌^◌, ◌≤◌, length}
-use Rattle.p3_networks.specs.Groups.{AreLayersInOrder, cells_of}
-use Rattle.p3_networks.specs.Layers.{HoldsCells}
+use Rattle.std.proofs.Common.{ℕ, ◌*◌, get_or, length}
+use Rattle.p3_networks.specs.Counts.{RisesAtMost}
+use Rattle.p3_networks.specs.Groups.{TakesCells, cells_of}
 use Rattle.p3_networks.proofs.radix_2_small_batch.networks.layers_of_chunk.Given as goal
 
 abbrev pub invariant-loop-done : goal.invariant-loop-done
 invariant-loop-done g l =
     let field = g.F.Field in
-    let rule = g.R.Rule in
-    let order = g.R.NetworkRule.order in
-    let near = λ (b : ℕ). rule.near field.Element field.ring field.value l.fn.rule b 0 in
-    let far = λ (b : ℕ). rule.far field.Element field.ring field.value l.fn.rule b 0 in
-    let first = l.fn.number * length l.fn.values in
+    let order = g.D.NetworkDecimation.order in
+    let entry = λ (b : ℕ). field.value (get_or l.fn.twiddles b field.ZERO) in
     record {
-      cells : (k : ℕ) (cells : ℕ → ℕ → field.Element) → AreLayersInOrder order k l.fn.width near far cells → (l.fn.number + 1) * 2 ^ l.fn.top ≤ 2 ^ k
-          → HoldsCells field.value field.ZERO first (cells (cells_of order l.fn.from l.fn.to 0)) l.fn.values
-          → HoldsCells field.value field.ZERO first (cells (cells_of order l.fn.from l.fn.to l.done)) l.values;
-      grows : l.fn.products ≤ l.products;
-      cost : 2 * l.products ≤ 2 * l.fn.products + rule.cost * (l.done * length l.fn.values);
+      cells : TakesCells field.value field.value field.ZERO order l.fn.width l.fn.top l.fn.number
+          (λ b. g.D.Decimation.near field.Element field.ring field.value l.fn.decimation (entry b)) (λ b. g.D.Decimation.far field.Element field.ring field.value l.fn.decimation (entry b))
+          (cells_of order l.fn.from l.fn.top 0) (cells_of order l.fn.from l.fn.top l.done) l.fn.values l.values;
+      cost : RisesAtMost (g.D.Decimation.cost * (l.done * length l.fn.values)) (2 * l.fn.products) (2 * l.products);
     }

@@ -63,7 +63,7 @@ returns-clause-cost g c =
     let first : 2 * c.scaled_dif_tiles.new.products ≤ 2 * (c.args.products.now + len) + (c.args.log_h - (c.args.log_h - r)) * len =
     let back : c.args.log_h - (c.args.log_h - r) ≡ r = omega (arith, c.requires.below) in
     let spread : (r + 2) * len ≡ r * len + 2 * len = omega arith in
-    omega (arith, c.scaled_dif_tiles.ensures.cost, spread, ap (λ n. n * len) back) in
+    omega (arith, c.scaled_dif_tiles.ensures.cost.cost, spread, ap (λ n. n * len) back) in
     let each : (c.args.log_h - r) * length c.scaled_dif_tiles.new.values ≡ (c.args.log_h - r) * len = ap (λ n. (c.args.log_h - r) * n) c.scaled_dif_tiles.auto.values in
     let second : 2 * c.layers_in_groups.new.products ≤ 2 * c.scaled_dif_tiles.new.products + (c.args.log_h - r) * len = omega (arith, c.layers_in_groups.ensures.cost, each) in
     let all = counted_twice c.args.log_h c.args.width len (c.args.products.now + len) c.layers_in_groups.new.products c.requires.size

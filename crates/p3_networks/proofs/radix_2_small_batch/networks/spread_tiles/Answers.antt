@@ -1,5 +1,6 @@
 use Rattle.std.proofs.Common.{◌+◌, ◌-◌, ◌*◌, ◌/◌, length, get_or, ap, arith}
 use Rattle.std.proofs.Math.Nat.{mul-le-mul_right}
+use Rattle.p3_networks.specs.Groups.{IsChunk}
 use Rattle.p3_networks.proofs.Layers.Tiles.{spread_room, tile_rows, tile_sizes, tile_small, tile_some, tiles_cost}
 use Rattle.p3_networks.proofs.Rows.EachChunk.{cells_of_chunks}
 use Rattle.p3_networks.proofs.Layers.Shifts.{one_shifted}
@@ -15,7 +16,8 @@ on_each_chunk-requires g c =
           let room = spread_room _ _ c.args.added_bits _ _ _ _ n c.requires.added c.requires.below sizes below in
           let cells = mul-le-mul_right c.args.width room in
           let rows = tile_rows _ _ _ _ _ _ n sizes below in
-          (c.requires.wide, (c.requires.added, (small, (sizes.size_is, (omega (arith, cells, c.requires.rows), (omega (arith, room, c.requires.weights), (c.requires.first, omega (arith, rows, c.requires.enough))))))));
+          let chunk : IsChunk c.args.width c.args.log_rows n (length c.args.twiddles.now) (length c.args.values.now / one_shifted (c.args.log_h - c.args.log_rows)) = record { wide = c.requires.wide; small = small; enough = omega (arith, rows, c.requires.enough); size = sizes.size_is } in
+          (chunk, (c.requires.added, (omega (arith, cells, c.requires.rows), (omega (arith, room, c.requires.weights), c.requires.first))));
     }
 
 pub returns : goal.returns

@@ -11,10 +11,10 @@ cells_of_tile : (count copies rows w : ℕ) → count * copies ≡ rows → rows
 cells_of_tile count copies rows w is = ap (λ n. n * w) (sym is) ∙ omega arith
 
 pub overflow_shl-copies : goal.overflow_shl-copies
-overflow_shl-copies g c = let (wide, (added, (small, rest))) = c.requires in omega (arith, chunk_digits c.args.self.now.log_rows c.args.number small, added)
+overflow_shl-copies g c = let (chunk, (added, rest)) = c.requires in omega (arith, chunk_digits c.args.self.now.log_rows c.args.number chunk.small, added)
 
 pub overflow_shl-count : goal.overflow_shl-count
-overflow_shl-count g c = let (wide, (added, (small, rest))) = c.requires in omega (arith, chunk_digits c.args.self.now.log_rows c.args.number small)
+overflow_shl-count g c = let (chunk, (added, rest)) = c.requires in omega (arith, chunk_digits c.args.self.now.log_rows c.args.number chunk.small)
 
 pub spread_rows-requires : goal.spread_rows-requires
 spread_rows-requires g c =
@@ -22,25 +22,25 @@ spread_rows-requires g c =
     let tile = c.args.number in
     let r = it.log_rows in
     let a = it.added_bits in
-    let (wide, (added, (small, (size, (rows, (weights, (first, enough))))))) = c.requires in
-    let sizes = spread_sizes r a (chunk_digits r tile small) added in
+    let (chunk, (added, (rows, (weights, first)))) = c.requires in
+    let sizes = spread_sizes r a (chunk_digits r tile chunk.small) added in
     let count = one_shifted (r - a) in
     let copies = one_shifted a in
     let all : (tile * count + count) * copies ≡ (tile + 1) * (count * copies) = omega arith in
     record {
-      wide = wide;
+      wide = chunk.wide;
       copies = sizes.some_copies;
       some = sizes.some;
-      size = size ∙ cells_of_tile count copies (2 ^ r) it.width sizes.rows;
+      size = chunk.size ∙ cells_of_tile count copies (2 ^ r) it.width sizes.rows;
       rows = subst (λ (n : ℕ). (tile * n + n) * it.width ≤ length it.rows.now) (sym sizes.count_is) rows;
       weights = subst (λ (n : ℕ). tile * n + n ≤ length it.weights.now) (sym sizes.count_is) weights;
-      enough = omega (arith, all, ap (λ n. (tile + 1) * n) sizes.rows, enough);
+      enough = omega (arith, all, ap (λ n. (tile + 1) * n) sizes.rows, chunk.enough);
     }
 
 pub layers_of_chunk-requires : goal.layers_of_chunk-requires
 layers_of_chunk-requires g c =
-    let (wide, (added, (small, (size, (rows, (weights, (first, enough))))))) = c.requires in
-    record { wide = wide; order = added; below = le_refl c.args.self.now.log_rows; small = small; size = c.spread_rows.auto.values ∙ size; there = λ b t inside. (omega (arith, inside, enough), first) }
+    let (chunk, (added, (rows, (weights, first)))) = c.requires in
+    record { below = added; chunk = record { wide = chunk.wide; small = chunk.small; enough = chunk.enough; size = c.spread_rows.auto.values ∙ chunk.size }; first = first }
 
 pub returns : goal.returns
 returns g c =
@@ -50,8 +50,8 @@ returns g c =
     let a = it.added_bits in
     let r = it.log_rows in
     let w = it.width in
-    let (wide, (added, (small, (size, (rows, (weights, (first, enough))))))) = c.requires in
-    let sizes = spread_sizes r a (chunk_digits r tile small) added in
+    let (chunk, (added, (rows, (weights, first)))) = c.requires in
+    let sizes = spread_sizes r a (chunk_digits r tile chunk.small) added in
     let count = one_shifted (r - a) in
     let copies = one_shifted a in
     let out = c.spread_rows.new.values in
@@ -66,13 +66,13 @@ returns g c =
       chunk = λ k cells layers room are.
           subst (λ (n : ℕ). HoldsCells field.value field.ZERO (tile * n) (cells r) c.layers_of_chunk.new.values) len
           (subst (λ (e : ℕ). HoldsCells field.value field.ZERO (tile * length out) (cells e) c.layers_of_chunk.new.values) stop
-          (c.layers_of_chunk.ensures.cells k cells layers room
+          (c.layers_of_chunk.ensures.cells.taken k cells layers room
           (subst (λ (e : ℕ). HoldsCells field.value field.ZERO (tile * length out) (cells e) out) begin
-          (spread_held field.value field.ZERO (cells a) (made copies) tile count copies (tile * count + count) w out wide
-          (len ∙ size ∙ cells_of_tile count copies (2 ^ r) w sizes.rows) (le_refl (tile * count + count)) sizes.some_copies
+          (spread_held field.value field.ZERO (cells a) (made copies) tile count copies (tile * count + count) w out chunk.wide
+          (len ∙ chunk.size ∙ cells_of_tile count copies (2 ^ r) w sizes.rows) (le_refl (tile * count + count)) sizes.some_copies
           (subst (λ (n : ℕ). (q t j : ℕ) → q < tile * count + count → t < n → j < w → cells a ((q * n + t) * w + j) ≡ made n q t j) (sym sizes.copies_is)
           (subst (λ (n : ℕ). (q t j : ℕ) → q < tile * n + n → t < 2 ^ a → j < w → cells a ((q * 2 ^ a + t) * w + j) ≡ made (2 ^ a) q t j) (sym sizes.count_is) are))
           c.spread_rows.ensures.values))));
-      grows = omega (arith, c.layers_of_chunk.ensures.grows, c.spread_rows.ensures.count);
-      cost = omega (arith, c.layers_of_chunk.ensures.cost, c.spread_rows.ensures.count, same, more, len);
+      grows = omega (arith, c.layers_of_chunk.ensures.cost.grows, c.spread_rows.ensures.count);
+      cost = omega (arith, c.layers_of_chunk.ensures.cost.cost, c.spread_rows.ensures.count, same, more, len);
     }
