@@ -19,9 +19,9 @@ use p3_matrix::{
     BitReversedMatrixView, DftError, Evaluations, IntoRowMajorMatrix, RowMajorMatrix,
     log2_strict_usize, reverse_rows,
 };
-use p3_networks::radix_2_small_batch::groups::{MAX_TILE, TILE, log_tile_rows, piece_size};
+use p3_networks::radix_2_small_batch::groups::{MAX_TILE, TILE, Tiling, log_tile_rows, piece_size};
 use p3_networks::radix_2_small_batch::networks::{
-    dif_network, dit_network_to_reversed, extending_network, scaled_dif_network,
+    WeightedRows, dif_network, dit_network_to_reversed, extending_network, scaled_dif_network,
 };
 use p3_networks::radix_2_small_batch::slots::slots_network;
 use p3_networks::root_tables::RootTables;
@@ -553,13 +553,16 @@ fn extend_to_natural<F: TwoAdicField>(
     let mut values = Vec::new(alloc);
     extend_by_zeros(&mut values, mat.values().len() << added_bits)?;
     let log_rows = log_tile_rows(tile, width, log_h + added_bits).max(added_bits);
+    let coefficients = WeightedRows {
+        rows: mat.values(),
+        weights: weights.as_slice(),
+        added_bits,
+    };
     extending_network(
         twiddles,
-        weights.as_slice(),
-        mat.values(),
+        coefficients,
         values.as_mut_slice(),
         width,
-        added_bits,
         log_rows,
         log_h + added_bits,
         piece_size(tile),
@@ -593,16 +596,18 @@ fn extend_to_reversed<F: TwoAdicField>(
         + 2 ^ added_bits * (mat.old.width * (log_h * 2 ^ log_h / 2) + 2 ^ log_h * mat.old.width) }
 {
     let width = mat.width();
-    let log_rows = log_tile_rows(tile, width, log_h);
+    let tiling = Tiling {
+        log_rows: log_tile_rows(tile, width, log_h),
+        piece: piece_size(tile),
+    };
     slots_network(
         twiddles,
         mat.values_mut(),
         width,
-        log_rows,
+        tiling,
         log_h,
         added_bits,
         shift,
-        piece_size(tile),
         products,
     );
 }

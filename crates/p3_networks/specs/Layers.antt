@@ -22,6 +22,16 @@ pub record MeetHalves {A : Type 0} (half : ℕ) (near far : ℕ → A → A → 
   pub near_cell : (i : ℕ) → i < half → after i ≡ near i (before i) (before (half + i))
   pub far_cell : (i : ℕ) → i < half → after (half + i) ≡ far i (before i) (before (half + i))
 
+-- of 2 * n cells each two neighbours meet: near stands in the first of them, far in the other
+pub record MeetInPairs {A : Type 0} (n : ℕ) (near far : ℕ → A → A → A) (before after : ℕ → A) : Type 0 where
+  pub near_cell : (i : ℕ) → i < n → after (2 * i) ≡ near i (before (2 * i)) (before (2 * i + 1))
+  pub far_cell : (i : ℕ) → i < n → after (2 * i + 1) ≡ far i (before (2 * i)) (before (2 * i + 1))
+
+-- pair i of a list by twiddle i of another
+abbrev pub MeetByTwiddles : {F : Type 0} (f : FieldMembers F) → (near far : f.Element → f.Element → f.Element → f.Element) → ℕ → List F → List F → List F → Type 0
+MeetByTwiddles f near far n twiddles before after = MeetInPairs n (λ i. near (f.value (get_or twiddles i f.ZERO))) (λ i. far (f.value (get_or twiddles i f.ZERO)))
+    (λ k. f.value (get_or before k f.ZERO)) (λ k. f.value (get_or after k f.ZERO))
+
 -- one layer: each of so many blocks, of two halves of so many cells
 abbrev pub IsLayer : {A : Type 0} → ℕ → ℕ → (ℕ → ℕ → A → A → A) → (ℕ → ℕ → A → A → A) → (ℕ → A) → (ℕ → A) → Type 0
 IsLayer blocks half near far before after = (b : ℕ) → b < blocks → MeetHalves half (near b) (far b) (λ n. before (b * (2 * half) + n)) (λ n. after (b * (2 * half) + n))

@@ -1,80 +1,65 @@
 -- Pairs of entries that lie one after another, of which a pack has some: each is done by itself.
-use Rattle.std.proofs.Common.{◌≡◌, ℕ, ◌+◌, ◌*◌, ◌-◌, ◌/◌, ◌%◌, ◌<◌, ◌≤◌, ◌++◌, List, length, get_or, map, take, drop, refl, sym, ap, ap₂, ◌∙◌, arith, rules, ⊎_elim}
+use Rattle.std.proofs.Common.{◌≡◌, ℕ, ◌+◌, ◌*◌, ◌-◌, ◌/◌, ◌%◌, ◌<◌, ◌≤◌, ◌++◌, List, length, get_or, map, take, drop, sym, ap, ◌∙◌, arith, rules, ⊎_elim}
 use Rattle.std.proofs.lemmas.Bool.{cases_lt}
 use Rattle.std.proofs.lemmas.List.{get_or-map, places}
 use Rattle.std.proofs.lemmas.Nat.{div-add-mod', div_below, mod_below}
-use borrow.Rule.Slice.PartMut.{put_mid}
-use Rattle.p3_networks.proofs.Layers.Halves.{block_room, block_size, in_first, in_second}
-use Rattle.p3_matrix.proofs.Rows.Overwritten.{RowsDone, part_at, part-more}
-
--- a pack lies within its list
-pub pack_room : (pack width w len k : ℕ) → 1 ≤ w → width ≡ w → len ≡ k * w → pack < len / width → pack * width + width ≤ len
-pack_room pack width w len k some is whole inside =
-    let wide : 1 ≤ width = omega (arith, some, is) in
-    let all : len ≡ k * width = whole ∙ ap (λ n. k * n) (sym is) in
-    let packs : len / width ≡ k = block_size len width k wide (all ∙ omega arith) in
-    block_room pack k width len (omega (arith, inside, packs)) all
+use Rattle.p3_networks.specs.Chunks.{chunk_of}
+use Rattle.p3_networks.specs.Layers.{MeetInPairs}
+use Rattle.p3_networks.proofs.Layers.Halves.{in_first, in_second}
+use Rattle.p3_networks.proofs.Rows.EachChunk.{chunk_at}
 
 -- an entry of lists that are the same by their values
 pub same_at : {T A : Type 0} (value : T → A) (d : T) (xs ys : List T) (i : ℕ) → length xs ≡ length ys → i < length xs → map value xs ≡ map value ys → value (get_or xs i d) ≡ value (get_or ys i d)
 same_at value d xs ys i same inside is =
     sym (get_or-map value xs i d (value d) inside) ∙ ap (λ l. get_or l i (value d)) is ∙ get_or-map value ys i d (value d) (omega (arith, inside, same))
 
--- what stands in place k of pack p: the near and the far entry of a pair
-pub record BothEntries {A T : Type 0} (width : ℕ) (near far : ℕ → A → A → A) (x : ℕ → A) (value : T → A) (p k : ℕ) (y : T) : Type 0 where
-  pub first : (i : ℕ) → i < width → k ≡ 2 * i → value y ≡ near (p * width + i) (x (2 * (p * width + i))) (x (2 * (p * width + i) + 1))
-  pub second : (i : ℕ) → i < width → k ≡ 2 * i + 1 → value y ≡ far (p * width + i) (x (2 * (p * width + i))) (x (2 * (p * width + i) + 1))
+module _ {A T : Type 0} (value : T → A) (d : T) where
+  -- an entry of a chunk
+  entry_of_chunk : (size p k m : ℕ) (xs : List T) → k < size → p * size + k ≡ m → value (get_or (chunk_of size p xs) k d) ≡ value (get_or xs m d)
+  entry_of_chunk size p k m xs inside place = ap value (chunk_at d size p k xs inside ∙ ap (λ n. get_or xs n d) place)
 
-module _ {A T : Type 0} (value : T → A) (d : T) (near far : ℕ → A → A → A) (width : ℕ) where
-  -- one pack more
-  pub packs-more : (before now pack : List T) (p size : ℕ) → size ≡ 2 * width → p * size + size ≤ length now → length pack ≡ size
-      → ((i : ℕ) → i < width → value (get_or pack (2 * i) d)
-      ≡ near (p * width + i) (value (get_or (take (p * size + size - p * size) (drop (p * size) now)) (2 * i) d)) (value (get_or (take (p * size + size - p * size) (drop (p * size) now)) (2 * i + 1) d)))
-      → ((i : ℕ) → i < width → value (get_or pack (2 * i + 1) d)
-      ≡ far (p * width + i) (value (get_or (take (p * size + size - p * size) (drop (p * size) now)) (2 * i) d)) (value (get_or (take (p * size + size - p * size) (drop (p * size) now)) (2 * i + 1) d)))
-      → RowsDone d size (BothEntries width near far (λ n. value (get_or before n d)) value) before p now
-      → RowsDone d size (BothEntries width near far (λ n. value (get_or before n d)) value) before (p + 1) (put_mid (p * size) (p * size + size - p * size) now pack)
-  packs-more before now pack p size is room len is_near is_far so_far =
-      part-more d size (BothEntries width near far (λ n. value (get_or before n d)) value) before now pack p size refl room len
-      (λ k inside. record {
-        first = λ i below e. ap (λ n. value (get_or pack n d)) e ∙ is_near i below ∙ ap₂ (near (p * width + i)) (even i below) (odd i below);
-        second = λ i below e. ap (λ n. value (get_or pack n d)) e ∙ is_far i below ∙ ap₂ (far (p * width + i)) (even i below) (odd i below);
-      }) so_far
+  -- where the pairs of each chunk meet by the twiddles of a chunk of another list, so do all
+  pub pairs_of_chunks : (near far : A → A → A → A) (width count size : ℕ) (twiddles before after : List T) → 1 ≤ width → size ≡ 2 * width
+      → ((n : ℕ) → n < count → MeetInPairs width (λ i. near (value (get_or (chunk_of width n twiddles) i d))) (λ i. far (value (get_or (chunk_of width n twiddles) i d)))
+      (λ k. value (get_or (chunk_of size n before) k d)) (λ k. value (get_or (chunk_of size n after) k d)))
+      → (all : ℕ) → all ≡ count * width
+      → MeetInPairs all (λ i. near (value (get_or twiddles i d))) (λ i. far (value (get_or twiddles i d))) (λ k. value (get_or before k d)) (λ k. value (get_or after k d))
+  pairs_of_chunks near far width count size twiddles before after some is each all whole =
+      record {
+        near_cell = λ i inside.
+            sym (entry_of_chunk size (i / width) (2 * (i % width)) (2 * i) after (even_in i) (even_at i)) ∙ (each (i / width) (pack i inside)).near_cell (i % width) (column i)
+            ∙ (λ k. near (twiddle i k) (even i k) (odd i k));
+        far_cell = λ i inside.
+            sym (entry_of_chunk size (i / width) (2 * (i % width) + 1) (2 * i + 1) after (odd_in i) (odd_at i)) ∙ (each (i / width) (pack i inside)).far_cell (i % width) (column i)
+            ∙ (λ k. far (twiddle i k) (even i k) (odd i k));
+      }
     where
-      place : (i : ℕ) → p * size + 2 * i ≡ 2 * (p * width + i)
-      place i = ap (λ n. p * n + 2 * i) is ∙ omega arith
+      column : (i : ℕ) → i % width < width
+      column i = mod_below i width some
 
-      even : (i : ℕ) → i < width → value (get_or (take (p * size + size - p * size) (drop (p * size) now)) (2 * i) d) ≡ value (get_or before (2 * (p * width + i)) d)
-      even i below =
-          ap value (part_at now (p * size) (p * size + size - p * size) (2 * i) d (omega (arith, below, is)) ∙ so_far.rest (p * size + 2 * i) (omega arith) ∙ ap (λ n. get_or before n d) (place i))
+      pack : (i : ℕ) → i < all → i / width < count
+      pack i inside = div_below i width count some (omega (arith, inside, whole))
 
-      odd : (i : ℕ) → i < width → value (get_or (take (p * size + size - p * size) (drop (p * size) now)) (2 * i + 1) d) ≡ value (get_or before (2 * (p * width + i) + 1) d)
-      odd i below =
-          let next : p * size + (2 * i + 1) ≡ 2 * (p * width + i) + 1 = let here = place i in omega (arith, here) in
-          ap value (part_at now (p * size) (p * size + size - p * size) (2 * i + 1) d (omega (arith, below, is)) ∙ so_far.rest (p * size + (2 * i + 1)) (omega arith) ∙ ap (λ n. get_or before n d) next)
+      even_in : (i : ℕ) → 2 * (i % width) < size
+      even_in i = omega (arith, column i, is)
 
-  -- all packs
-  module _ (before after : List T) (packs size n : ℕ) (some : 0 < width) (is : size ≡ 2 * width) (all : n ≡ packs * width)
-      (done : RowsDone d size (BothEntries width near far (λ n. value (get_or before n d)) value) before packs after) where
-    pub near_done : (i : ℕ) → i < n → value (get_or after (2 * i) d) ≡ near i (value (get_or before (2 * i) d)) (value (get_or before (2 * i + 1) d))
-    near_done i inside =
-        let p = i / width in
-        let j = i % width in
-        let whole : p * width + j ≡ i = div-add-mod' i width in
-        let column : j < width = mod_below i width some in
-        let place : p * size + 2 * j ≡ 2 * i = ap (λ s. p * s + 2 * j) is ∙ (let spread : p * (2 * width) + 2 * j ≡ 2 * (p * width + j) = omega arith in spread) ∙ ap (λ k. 2 * k) whole in
-        ap (λ k. value (get_or after k d)) (sym place) ∙ (done.done p (2 * j) (div_below i width packs some (omega (arith, inside, all))) (omega (arith, column, is))).first j column refl
-        ∙ ap (λ k. near k (value (get_or before (2 * k) d)) (value (get_or before (2 * k + 1) d))) whole
+      odd_in : (i : ℕ) → 2 * (i % width) + 1 < size
+      odd_in i = omega (arith, column i, is)
 
-    pub far_done : (i : ℕ) → i < n → value (get_or after (2 * i + 1) d) ≡ far i (value (get_or before (2 * i) d)) (value (get_or before (2 * i + 1) d))
-    far_done i inside =
-        let p = i / width in
-        let j = i % width in
-        let whole : p * width + j ≡ i = div-add-mod' i width in
-        let column : j < width = mod_below i width some in
-        let place : p * size + (2 * j + 1) ≡ 2 * i + 1 = ap (λ s. p * s + (2 * j + 1)) is ∙ (let spread : p * (2 * width) + (2 * j + 1) ≡ 2 * (p * width + j) + 1 = omega arith in spread) ∙ ap (λ k. 2 * k + 1) whole in
-        ap (λ k. value (get_or after k d)) (sym place) ∙ (done.done p (2 * j + 1) (div_below i width packs some (omega (arith, inside, all))) (omega (arith, column, is))).second j column refl
-        ∙ ap (λ k. far k (value (get_or before (2 * k) d)) (value (get_or before (2 * k + 1) d))) whole
+      even_at : (i : ℕ) → i / width * size + 2 * (i % width) ≡ 2 * i
+      even_at i = ap (λ s. i / width * s + 2 * (i % width)) is ∙ (let spread : i / width * (2 * width) + 2 * (i % width) ≡ 2 * (i / width * width + i % width) = omega arith in spread) ∙ ap (λ k. 2 * k) (div-add-mod' i width)
+
+      odd_at : (i : ℕ) → i / width * size + (2 * (i % width) + 1) ≡ 2 * i + 1
+      odd_at i = let here = even_at i in omega (arith, here)
+
+      twiddle : (i : ℕ) → value (get_or (chunk_of width (i / width) twiddles) (i % width) d) ≡ value (get_or twiddles i d)
+      twiddle i = entry_of_chunk width (i / width) (i % width) i twiddles (column i) (div-add-mod' i width)
+
+      even : (i : ℕ) → value (get_or (chunk_of size (i / width) before) (2 * (i % width)) d) ≡ value (get_or before (2 * i) d)
+      even i = entry_of_chunk size (i / width) (2 * (i % width)) (2 * i) before (even_in i) (even_at i)
+
+      odd : (i : ℕ) → value (get_or (chunk_of size (i / width) before) (2 * (i % width) + 1) d) ≡ value (get_or before (2 * i + 1) d)
+      odd i = entry_of_chunk size (i / width) (2 * (i % width) + 1) (2 * i + 1) before (odd_in i) (odd_at i)
 
 -- what is said of an entry of each pair of two parts is said of the pairs of the whole
 module _ {A T : Type 0} (value : T → A) (d : T) (met : A → A → A → A) (full : ℕ) (ts ts_1 ts_2 before part_1 part_2 after_1 after_2 : List T)

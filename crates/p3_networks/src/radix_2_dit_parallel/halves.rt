@@ -376,25 +376,11 @@ fn layer_by_place<F: TwoAdicField>(
     ensures cost { RisesAtMost (1 * (blocks * (half * width))) products.old products.new }
 {
     if twiddles[0] == F::ONE {
-        layer(
-            DitByPlace::<F, true> { twiddles },
-            values,
-            width,
-            half,
-            0,
-            blocks,
-            products,
-        );
+        let rule = DitByPlace::<F, true> { twiddles };
+        layer(rule, values, width, half, 0, blocks, products);
     } else {
-        layer(
-            DitByPlace::<F, false> { twiddles },
-            values,
-            width,
-            half,
-            0,
-            blocks,
-            products,
-        );
+        let rule = DitByPlace::<F, false> { twiddles };
+        layer(rule, values, width, half, 0, blocks, products);
     }
 }
 
@@ -456,31 +442,19 @@ fn layer_by_block<F: TwoAdicField>(
     ensures cost { RisesAtMost (1 * (blocks * (half * width))) products.old products.new }
 {
     if twiddles[0] == F::ONE {
-        layer(
-            ByBlock {
-                twiddles,
-                decimation: Dit::<true>,
-            },
-            values,
-            width,
-            half,
-            first_block,
-            blocks,
-            products,
-        );
+        let decimation = Dit::<true>;
+        let rule = ByBlock {
+            twiddles,
+            decimation,
+        };
+        layer(rule, values, width, half, first_block, blocks, products);
     } else {
-        layer(
-            ByBlock {
-                twiddles,
-                decimation: Dit::<false>,
-            },
-            values,
-            width,
-            half,
-            first_block,
-            blocks,
-            products,
-        );
+        let decimation = Dit::<false>;
+        let rule = ByBlock {
+            twiddles,
+            decimation,
+        };
+        layer(rule, values, width, half, first_block, blocks, products);
     }
 }
 
@@ -507,18 +481,14 @@ fn scaled_layer<F: TwoAdicField>(
     ensures cost { RisesAtMost ((1 + scale_cost scale) * (1 * (half * width))) products.old products.new }
 {
     match scale {
-        Some(scale) => layer(
-            ByBlock {
+        Some(scale) => {
+            let decimation = ScaledDit { scale };
+            let rule = ByBlock {
                 twiddles,
-                decimation: ScaledDit { scale },
-            },
-            values,
-            width,
-            half,
-            block,
-            1,
-            products,
-        ),
+                decimation,
+            };
+            layer(rule, values, width, half, block, 1, products);
+        }
         None => layer_by_block(twiddles, values, width, half, block, 1, products),
     }
 }

@@ -50,6 +50,15 @@ pub fn piece_size(tile: usize) -> usize
     (tile.next_power_of_two() / PARTS).max(1)
 }
 
+/// How rows are cut for the cache: a tile has `2^log_rows` rows, and a piece so many entries of each part of a block.
+#[derive(Clone, Copy)]
+pub struct Tiling {
+    /// The logarithm of the number of rows of a tile.
+    pub log_rows: usize,
+    /// How many entries a piece has of each part.
+    pub piece: usize,
+}
+
 /// Which layers of a network come first: those of large blocks or those of small ones.
 #[derive(Clone, Copy)]
 pub enum Order {

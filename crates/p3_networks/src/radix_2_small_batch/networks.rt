@@ -18,7 +18,7 @@ ghost use Rattle.p3_networks.specs.Twiddles.{AreTwiddlesFromStart, backward_root
 
 use crate::butterfly_layers::layer;
 use crate::butterfly_layers::rules::{ByBlock, Dif, Dit};
-use crate::chunks::{ChunkWork, on_each_chunk};
+use crate::chunks::{ChunkWork, chunk, on_each_chunk};
 use crate::radix_2_small_batch::groups::{Order, layers_in_groups};
 use crate::radix_2_small_batch::pairs::{NetworkDecimation, on_pairs};
 use p3_field::{PackedField, Products, TwoAdicField};
@@ -199,32 +199,15 @@ fn layers_of_tile<F: TwoAdicField, D: NetworkDecimation<F>>(
     ensures cost { RisesAtMost (D.cost * (top * length values.old)) (2 * products.old) (2 * products.new) }
 {
     if width == 1 && top >= SHORT_LAYERS {
+        let from = SHORT_LAYERS;
         match decimation.order() {
             Order::LargestFirst => {
-                layers_of_chunk(
-                    decimation,
-                    twiddles,
-                    values,
-                    1,
-                    SHORT_LAYERS,
-                    top,
-                    number,
-                    products,
-                );
+                layers_of_chunk(decimation, twiddles, values, 1, from, top, number, products);
                 layers_of_short_chunks(decimation, twiddles, values, top, number, products);
             }
             Order::SmallestFirst => {
                 layers_of_short_chunks(decimation, twiddles, values, top, number, products);
-                layers_of_chunk(
-                    decimation,
-                    twiddles,
-                    values,
-                    1,
-                    SHORT_LAYERS,
-                    top,
-                    number,
-                    products,
-                );
+                layers_of_chunk(decimation, twiddles, values, 1, from, top, number, products);
             }
         }
     } else {
@@ -305,112 +288,23 @@ fn layers_of_short_chunk<F: TwoAdicField, D: NetworkDecimation<F>>(
         values.old values.new }
     ensures cost { RisesAtMost (D.cost * (SHORT_LAYERS * length values.old)) (2 * products.old) (2 * products.new) }
 {
+    let top = SHORT_LAYERS;
     match decimation.order() {
         Order::LargestFirst => {
-            layer_of_chunk(
-                decimation,
-                twiddles,
-                values,
-                1,
-                5,
-                SHORT_LAYERS,
-                number,
-                products,
-            );
-            layer_of_chunk(
-                decimation,
-                twiddles,
-                values,
-                1,
-                4,
-                SHORT_LAYERS,
-                number,
-                products,
-            );
-            layer_of_chunk(
-                decimation,
-                twiddles,
-                values,
-                1,
-                3,
-                SHORT_LAYERS,
-                number,
-                products,
-            );
-            layer_of_chunk(
-                decimation,
-                twiddles,
-                values,
-                1,
-                2,
-                SHORT_LAYERS,
-                number,
-                products,
-            );
-            layer_of_chunk(
-                decimation,
-                twiddles,
-                values,
-                1,
-                1,
-                SHORT_LAYERS,
-                number,
-                products,
-            );
+            layer_of_chunk(decimation, twiddles, values, 1, 5, top, number, products);
+            layer_of_chunk(decimation, twiddles, values, 1, 4, top, number, products);
+            layer_of_chunk(decimation, twiddles, values, 1, 3, top, number, products);
+            layer_of_chunk(decimation, twiddles, values, 1, 2, top, number, products);
+            layer_of_chunk(decimation, twiddles, values, 1, 1, top, number, products);
             layer_of_pairs(decimation, twiddles, values, number, products);
         }
         Order::SmallestFirst => {
             layer_of_pairs(decimation, twiddles, values, number, products);
-            layer_of_chunk(
-                decimation,
-                twiddles,
-                values,
-                1,
-                1,
-                SHORT_LAYERS,
-                number,
-                products,
-            );
-            layer_of_chunk(
-                decimation,
-                twiddles,
-                values,
-                1,
-                2,
-                SHORT_LAYERS,
-                number,
-                products,
-            );
-            layer_of_chunk(
-                decimation,
-                twiddles,
-                values,
-                1,
-                3,
-                SHORT_LAYERS,
-                number,
-                products,
-            );
-            layer_of_chunk(
-                decimation,
-                twiddles,
-                values,
-                1,
-                4,
-                SHORT_LAYERS,
-                number,
-                products,
-            );
-            layer_of_chunk(
-                decimation,
-                twiddles,
-                values,
-                1,
-                5,
-                SHORT_LAYERS,
-                number,
-                products,
-            );
+            layer_of_chunk(decimation, twiddles, values, 1, 1, top, number, products);
+            layer_of_chunk(decimation, twiddles, values, 1, 2, top, number, products);
+            layer_of_chunk(decimation, twiddles, values, 1, 3, top, number, products);
+            layer_of_chunk(decimation, twiddles, values, 1, 4, top, number, products);
+            layer_of_chunk(decimation, twiddles, values, 1, 5, top, number, products);
         }
     }
 }
@@ -722,66 +616,77 @@ fn scale_behind<F: TwoAdicField>(
     scale_slice_in_place(part, factor, products);
 }
 
-// `count` rows of coefficients in bit reversed order, from number `first` on, each in `copies` rows:
+// Rows of coefficients in bit reversed order, from number `first` on, each spread over a chunk of `copies` rows:
 // row t of these is it times its weight and the t-th power of its root, so that of coefficient j is
 // the j-th power of the t-th point. That is what the first layers make of rows of zeros.
-fn spread_rows<F: TwoAdicField>(
-    twiddles: &[F],
-    weights: &[F],
-    rows: &[F],
-    values: &mut [F],
+#[derive(Drop)]
+struct SpreadRows<'a, F> {
+    twiddles: &'a [F],
+    weights: &'a [F],
+    rows: &'a [F],
     width: usize,
     copies: usize,
     first: usize,
-    count: usize,
-    products: &mut Products,
-)
-    requires wide { 1 ≤ width }
-    requires copies { 1 ≤ copies }
-    requires some { 1 ≤ count }
-    requires size { length values.old ≡ count * (copies * width) }
-    requires rows { (first + count) * width ≤ length rows.now }
-    requires weights { first + count ≤ length weights.now }
-    requires enough { (first + count) * copies ≤ 2 * length twiddles.now }
-    ensures values { (q t j : ℕ) → q < count → t < copies → j < width
-        → F.value (get_or values.new ((q * copies + t) * width + j) F.ZERO)
-        ≡ F.ring.mul (F.value (get_or rows.now ((first + q) * width + j) F.ZERO))
-        (F.ring.mul (F.value (get_or weights.now (first + q) F.ZERO))
-        (power F.ring (F.value (get_or twiddles.now ((first + q) * (copies / 2)) F.ZERO)) t)) }
-    ensures count { products.new ≡ products.old + length values.old }
-{
-    let size = values.len() / count;
-    for q in 0..count {
-        let start = q * size;
-        let multiples = &mut values[start..start + size];
-        let number = first + q;
-        let place = number * width;
-        let row = &rows[place..place + width];
-        let root = twiddles[number * (copies / 2)];
-        multiples_of_row(weights[number], root, row, multiples, copies, products);
+}
+
+impl<F: TwoAdicField> ChunkWork<F> for SpreadRows<'_, F> {
+    ghost accepts = { λ it n size. (1 ≤ it.copies) × (size ≡ it.copies * it.width)
+        × ((it.first + n) * it.width + it.width ≤ length it.rows.now) × (it.first + n < length it.weights.now)
+        × ((it.first + n) * it.copies + it.copies ≤ 2 * length it.twiddles.now) };
+
+    ghost takes = { λ it n before after. let cell = λ (xs : List F) (i : ℕ). F.value (get_or xs i F.ZERO) in
+        let number = it.first + n in
+        (t j : ℕ) → t < it.copies → j < it.width → cell after (t * it.width + j)
+        ≡ F.ring.mul (cell it.rows.now (number * it.width + j)) (F.ring.mul (cell it.weights.now number)
+        (power F.ring (cell it.twiddles.now (number * (it.copies / 2))) t)) };
+
+    ghost cost = { λ it size. 2 * size };
+
+    #[inline(always)]
+    fn on_chunk(&self, number: usize, values: &mut [F], products: &mut Products) {
+        let number = self.first + number;
+        let row = chunk(self.rows, self.width, number);
+        let root = self.twiddles[number * (self.copies / 2)];
+        multiples_of_row(
+            self.weights[number],
+            root,
+            row,
+            values,
+            self.copies,
+            products,
+        );
     }
+}
+
+/// Rows of coefficients, in bit reversed order, for `2^added_bits` times as many points.
+#[derive(Clone, Copy)]
+pub struct WeightedRows<'a, F> {
+    /// The rows, one after another.
+    pub rows: &'a [F],
+    /// What each row is multiplied by.
+    pub weights: &'a [F],
+    /// The logarithm of how many points there are for a row.
+    pub added_bits: usize,
 }
 
 // Rows of coefficients, spread, and by decimation in frequency the layers from
 // `added_bits` up to `log_rows`, tile after tile.
 fn spread_tiles<F: TwoAdicField>(
     twiddles: &[F],
-    weights: &[F],
-    rows: &[F],
+    coefficients: WeightedRows<'_, F>,
     values: &mut [F],
     width: usize,
-    added_bits: usize,
     log_rows: usize,
     log_h: usize,
     products: &mut Products,
 )
     requires wide { 1 ≤ width }
-    requires added { added_bits ≤ log_rows }
+    requires added { coefficients.added_bits ≤ log_rows }
     requires below { log_rows ≤ log_h }
     requires small { log_h < 64 }
     requires size { length values.old ≡ 2 ^ log_h * width }
-    requires rows { length rows.now ≡ 2 ^ (log_h - added_bits) * width }
-    requires weights { length weights.now ≡ 2 ^ (log_h - added_bits) }
+    requires rows { length coefficients.rows.now ≡ 2 ^ (log_h - coefficients.added_bits) * width }
+    requires weights { length coefficients.weights.now ≡ 2 ^ (log_h - coefficients.added_bits) }
     requires first { F.value (get_or twiddles.now 0 F.ZERO) ≡ F.ring.one }
     requires some { 1 ≤ length twiddles.now }
     requires enough { 2 ^ log_h ≤ 2 * length twiddles.now }
@@ -789,23 +694,21 @@ fn spread_tiles<F: TwoAdicField>(
         → AreLayers log_h width (λ b. dif_near F.ring (F.value (get_or twiddles.now b F.ZERO)))
         (λ b. dif_far F.ring (F.value (get_or twiddles.now b F.ZERO)))
         cells (λ e. cells (e + 1))
-        → ((q t j : ℕ) → q < 2 ^ (log_h - added_bits) → t < 2 ^ added_bits → j < width
-        → cells added_bits ((q * 2 ^ added_bits + t) * width + j)
-        ≡ F.ring.mul (F.value (get_or rows.now (q * width + j) F.ZERO))
-        (F.ring.mul (F.value (get_or weights.now q F.ZERO))
-        (power F.ring (F.value (get_or twiddles.now (q * (2 ^ added_bits / 2)) F.ZERO)) t)))
+        → ((q t j : ℕ) → q < 2 ^ (log_h - coefficients.entry.added_bits) → t < 2 ^ coefficients.entry.added_bits → j < width
+        → cells coefficients.entry.added_bits ((q * 2 ^ coefficients.entry.added_bits + t) * width + j)
+        ≡ F.ring.mul (F.value (get_or coefficients.entry.rows.now (q * width + j) F.ZERO))
+        (F.ring.mul (F.value (get_or coefficients.entry.weights.now q F.ZERO))
+        (power F.ring (F.value (get_or twiddles.now (q * (2 ^ coefficients.entry.added_bits / 2)) F.ZERO)) t)))
         → HoldsCells F.value F.ZERO 0 (cells log_rows) values.new }
     ensures grows { products.old ≤ products.new }
-    ensures cost { 2 * products.new ≤ 2 * products.old + (log_rows - added_bits + 2) * length values.old }
+    ensures cost { 2 * products.new ≤ 2 * products.old + (log_rows - coefficients.entry.added_bits + 2) * length values.old }
 {
     let tiles = 1usize << (log_h - log_rows);
     let size = values.len() / tiles;
     let layers = SpreadTileLayers {
         twiddles,
-        weights,
-        rows,
+        coefficients,
         width,
-        added_bits,
         log_rows,
     };
     on_each_chunk(layers, values, size, tiles, products);
@@ -815,55 +718,52 @@ fn spread_tiles<F: TwoAdicField>(
 #[derive(Drop)]
 struct SpreadTileLayers<'a, F> {
     twiddles: &'a [F],
-    weights: &'a [F],
-    rows: &'a [F],
+    coefficients: WeightedRows<'a, F>,
     width: usize,
-    added_bits: usize,
     log_rows: usize,
 }
 
 impl<F: TwoAdicField> ChunkWork<F> for SpreadTileLayers<'_, F> {
-    ghost accepts = { λ it n size. let count = 2 ^ (it.log_rows - it.added_bits) in
-        IsChunk it.width it.log_rows n (length it.twiddles.now) size × ((it.added_bits ≤ it.log_rows)
-        × (((n * count + count) * it.width ≤ length it.rows.now) × ((n * count + count ≤ length it.weights.now)
+    ghost accepts = { λ it n size. let count = 2 ^ (it.log_rows - it.coefficients.added_bits) in
+        IsChunk it.width it.log_rows n (length it.twiddles.now) size × ((it.coefficients.added_bits ≤ it.log_rows)
+        × (((n * count + count) * it.width ≤ length it.coefficients.rows.now) × ((n * count + count ≤ length it.coefficients.weights.now)
         × (F.value (get_or it.twiddles.now 0 F.ZERO) ≡ F.ring.one)))) };
 
-    ghost takes = { λ it n before after. let count = 2 ^ (it.log_rows - it.added_bits) in
+    ghost takes = { λ it n before after. let count = 2 ^ (it.log_rows - it.coefficients.added_bits) in
         let twiddle = λ (b : ℕ). F.value (get_or it.twiddles.now b F.ZERO) in
         (k : ℕ) (cells : ℕ → ℕ → F.Element)
         → AreLayers k it.width (λ b. dif_near F.ring (twiddle b)) (λ b. dif_far F.ring (twiddle b))
         cells (λ e. cells (e + 1))
         → (n + 1) * 2 ^ it.log_rows ≤ 2 ^ k
-        → ((q t j : ℕ) → q < n * count + count → t < 2 ^ it.added_bits → j < it.width
-        → cells it.added_bits ((q * 2 ^ it.added_bits + t) * it.width + j)
-        ≡ F.ring.mul (F.value (get_or it.rows.now (q * it.width + j) F.ZERO))
-        (F.ring.mul (F.value (get_or it.weights.now q F.ZERO))
-        (power F.ring (twiddle (q * (2 ^ it.added_bits / 2))) t)))
+        → ((q t j : ℕ) → q < n * count + count → t < 2 ^ it.coefficients.added_bits → j < it.width
+        → cells it.coefficients.added_bits ((q * 2 ^ it.coefficients.added_bits + t) * it.width + j)
+        ≡ F.ring.mul (F.value (get_or it.coefficients.rows.now (q * it.width + j) F.ZERO))
+        (F.ring.mul (F.value (get_or it.coefficients.weights.now q F.ZERO))
+        (power F.ring (twiddle (q * (2 ^ it.coefficients.added_bits / 2))) t)))
         → HoldsCells F.value F.ZERO (n * length before) (cells it.log_rows) after };
 
-    ghost cost = { λ it size. (it.log_rows - it.added_bits + 2) * size };
+    ghost cost = { λ it size. (it.log_rows - it.coefficients.added_bits + 2) * size };
 
     #[inline(always)]
     fn on_chunk(&self, number: usize, chunk: &mut [F], products: &mut Products) {
-        let copies = 1usize << self.added_bits;
-        let count = 1usize << (self.log_rows - self.added_bits);
-        spread_rows(
-            self.twiddles,
-            self.weights,
-            self.rows,
-            chunk,
-            self.width,
+        let copies = 1usize << self.coefficients.added_bits;
+        let count = 1usize << (self.log_rows - self.coefficients.added_bits);
+        let size = chunk.len() / count;
+        let spread = SpreadRows {
+            twiddles: self.twiddles,
+            weights: self.coefficients.weights,
+            rows: self.coefficients.rows,
+            width: self.width,
             copies,
-            number * count,
-            count,
-            products,
-        );
+            first: number * count,
+        };
+        on_each_chunk(spread, chunk, size, count, products);
         layers_of_chunk(
             Dif,
             self.twiddles,
             chunk,
             self.width,
-            self.added_bits,
+            self.coefficients.added_bits,
             self.log_rows,
             number,
             products,
@@ -877,38 +777,42 @@ impl<F: TwoAdicField> ChunkWork<F> for SpreadTileLayers<'_, F> {
 /// and pieces are as for `dit_network_to_reversed`, and a tile has at least `2^added_bits` rows.
 pub fn extending_network<F: TwoAdicField>(
     twiddles: &[F],
-    weights: &[F],
-    rows: &[F],
+    coefficients: WeightedRows<'_, F>,
     values: &mut [F],
     width: usize,
-    added_bits: usize,
     log_rows: usize,
     log_h: usize,
     piece: usize,
     products: &mut Products,
 )
     requires wide { 1 ≤ width }
-    requires added { added_bits ≤ log_rows }
+    requires added { coefficients.added_bits ≤ log_rows }
     requires below { log_rows ≤ log_h }
     requires some { 1 ≤ log_h }
     requires small { log_h < 64 }
     requires piece { 1 ≤ piece }
     requires within { log_h ≤ F.TWO_ADICITY }
     requires size { length values.old ≡ 2 ^ log_h * width }
-    requires rows { length rows.now ≡ 2 ^ (log_h - added_bits) * width }
-    requires weights { length weights.now ≡ 2 ^ (log_h - added_bits) }
+    requires rows { length coefficients.rows.now ≡ 2 ^ (log_h - coefficients.added_bits) * width }
+    requires weights { length coefficients.weights.now ≡ 2 ^ (log_h - coefficients.added_bits) }
     requires twiddles { AreTwiddlesFromStart F.Field.own log_h
         (block_powers F.Field.own (forward_root F.Field.own F.generator)) twiddles.now }
     ensures values { (r j : ℕ) → r < 2 ^ log_h → j < width → F.value (get_or values.new (r * width + j) F.ZERO)
-        ≡ poly F.ring (2 ^ (log_h - added_bits)) (λ q. F.ring.mul
-        (F.value (get_or rows.now (rev (log_h - added_bits) q * width + j) F.ZERO))
-        (F.value (get_or weights.now (rev (log_h - added_bits) q) F.ZERO)))
+        ≡ poly F.ring (2 ^ (log_h - coefficients.entry.added_bits)) (λ q. F.ring.mul
+        (F.value (get_or coefficients.entry.rows.now (rev (log_h - coefficients.entry.added_bits) q * width + j) F.ZERO))
+        (F.value (get_or coefficients.entry.weights.now (rev (log_h - coefficients.entry.added_bits) q) F.ZERO)))
         (power F.ring (F.value (F.generator log_h)) r) }
     ensures grows { products.old ≤ products.new }
-    ensures cost { 2 * products.new ≤ 2 * products.old + (log_h - added_bits + 2) * length values.old }
+    ensures cost { 2 * products.new ≤ 2 * products.old + (log_h - coefficients.entry.added_bits + 2) * length values.old }
 {
     spread_tiles(
-        twiddles, weights, rows, values, width, added_bits, log_rows, log_h, products,
+        twiddles,
+        coefficients,
+        values,
+        width,
+        log_rows,
+        log_h,
+        products,
     );
     layers_in_groups(
         ByBlock {

@@ -1,13 +1,18 @@
 //! The layer of blocks of two entries in one column, by lanes: the first entries of some blocks are loaded
 //! into one packed value, the second ones into another.
 
-ghost use Rattle.std.specs.Prelude.{◌≡◌, ℕ, ◌+◌, ◌*◌, ◌<◌, ◌≤◌, List, length, get_or};
+ghost use Rattle.std.specs.Prelude.{◌≡◌, ℕ, ◌+◌, ◌*◌, ◌≤◌, length};
+ghost use Rattle.p3_networks.specs.Chunks.{chunk_of};
+ghost use Rattle.p3_networks.specs.Counts.{RisesAtMost};
+ghost use Rattle.p3_networks.specs.Layers.{MeetByTwiddles};
 ghost use Rattle.p3_networks.specs.declared.radix_2_small_batch.groups.Order.{Order};
 
 use crate::butterfly_layers::rules::{Decimation, Dif, Dit};
+use crate::chunks::{ChunkWork, chunk, on_each_chunk};
 use crate::radix_2_small_batch::groups::Order;
 use p3_field::{PackedField, Products, TwoAdicField};
 use p3_matrix::packs::full_packs;
+use std::marker::PhantomData;
 
 /// A decimation of networks: the order of the layers, and what becomes of pairs of entries that lie one after
 /// another.
@@ -27,14 +32,8 @@ pub(crate) trait NetworkDecimation<F: TwoAdicField>: Decimation<F> {
     )
         requires twiddles { length twiddles.now ≡ P.WIDTH }
         requires size { length values.old ≡ 2 * P.WIDTH }
-        ensures near { let cell = λ (xs : List F) (n : ℕ). F.value (get_or xs n F.ZERO) in
-            (i : ℕ) → i < P.WIDTH → cell values.new (2 * i)
-            ≡ Self.near F.Element F.ring F.value self (cell twiddles.now i) (cell values.old (2 * i))
-            (cell values.old (2 * i + 1)) }
-        ensures far { let cell = λ (xs : List F) (n : ℕ). F.value (get_or xs n F.ZERO) in
-            (i : ℕ) → i < P.WIDTH → cell values.new (2 * i + 1)
-            ≡ Self.far F.Element F.ring F.value self (cell twiddles.now i) (cell values.old (2 * i))
-            (cell values.old (2 * i + 1)) }
+        ensures pairs { MeetByTwiddles F.Field.own (Self.near F.Element F.ring F.value self)
+            (Self.far F.Element F.ring F.value self) P.WIDTH twiddles.now values.old values.new }
         ensures count { products.new ≡ products.old + P.WIDTH };
 
     ghost cost_law: { 1 ≤ Self.cost };
@@ -102,15 +101,9 @@ pub(crate) fn on_pairs<F: TwoAdicField, D: NetworkDecimation<F>>(
     products: &mut Products,
 )
     requires { length values.old ≡ 2 * length twiddles.now }
-    ensures near { let cell = λ (xs : List F) (n : ℕ). F.value (get_or xs n F.ZERO) in
-        (i : ℕ) → i < length twiddles.now → cell values.new (2 * i)
-        ≡ D.near F.Element F.ring F.value decimation (cell twiddles.now i) (cell values.old (2 * i))
-        (cell values.old (2 * i + 1)) }
-    ensures far { let cell = λ (xs : List F) (n : ℕ). F.value (get_or xs n F.ZERO) in
-        (i : ℕ) → i < length twiddles.now → cell values.new (2 * i + 1)
-        ≡ D.far F.Element F.ring F.value decimation (cell twiddles.now i) (cell values.old (2 * i))
-        (cell values.old (2 * i + 1)) }
-    ensures count { products.new ≡ products.old + length twiddles.now }
+    ensures pairs { MeetByTwiddles F.Field.own (D.near F.Element F.ring F.value decimation)
+        (D.far F.Element F.ring F.value decimation) (length twiddles.now) twiddles.now values.old values.new }
+    ensures cost { RisesAtMost (length twiddles.now) products.old products.new }
 {
     let full = full_packs(twiddles.len(), F::Packing::WIDTH);
     let (packed, others) = twiddles.split_at(full);
@@ -129,25 +122,42 @@ fn on_packs<F: TwoAdicField, P: PackedField<Scalar = F>, D: NetworkDecimation<F>
     requires wide { 1 ≤ P.WIDTH }
     requires whole { (k : ℕ) × length twiddles.now ≡ k * P.WIDTH }
     requires size { length values.old ≡ 2 * length twiddles.now }
-    ensures near { let cell = λ (xs : List F) (n : ℕ). F.value (get_or xs n F.ZERO) in
-        (i : ℕ) → i < length twiddles.now → cell values.new (2 * i)
-        ≡ D.near F.Element F.ring F.value decimation (cell twiddles.now i) (cell values.old (2 * i))
-        (cell values.old (2 * i + 1)) }
-    ensures far { let cell = λ (xs : List F) (n : ℕ). F.value (get_or xs n F.ZERO) in
-        (i : ℕ) → i < length twiddles.now → cell values.new (2 * i + 1)
-        ≡ D.far F.Element F.ring F.value decimation (cell twiddles.now i) (cell values.old (2 * i))
-        (cell values.old (2 * i + 1)) }
-    ensures count { products.new ≡ products.old + length twiddles.now }
+    ensures pairs { MeetByTwiddles F.Field.own (D.near F.Element F.ring F.value decimation)
+        (D.far F.Element F.ring F.value decimation) (length twiddles.now) twiddles.now values.old values.new }
+    ensures cost { RisesAtMost (length twiddles.now) products.old products.new }
 {
     let width = P::WIDTH;
-    for pack in 0..twiddles.len() / width {
-        let at = pack * width;
-        let size = 2 * width;
-        let start = pack * size;
-        decimation.on_pack::<P>(
-            &twiddles[at..at + width],
-            &mut values[start..start + size],
-            products,
-        );
+    let count = twiddles.len() / width;
+    if count > 0 {
+        let packs = Packs::<F, P, D> {
+            decimation,
+            twiddles,
+            of: PhantomData,
+        };
+        on_each_chunk(packs, values, 2 * width, count, products);
+    }
+}
+
+// Packs of pairs, with as many twiddles.
+#[derive(Drop)]
+struct Packs<'a, F, P, D> {
+    decimation: D,
+    twiddles: &'a [F],
+    of: PhantomData<P>,
+}
+
+impl<F: TwoAdicField, P: PackedField<Scalar = F>, D: NetworkDecimation<F>> ChunkWork<F>
+    for Packs<'_, F, P, D> {
+    ghost accepts = { λ it n size. (size ≡ 2 * P.WIDTH) × (n * P.WIDTH + P.WIDTH ≤ length it.twiddles.now) };
+
+    ghost takes = { λ it n. MeetByTwiddles F.Field.own (D.near F.Element F.ring F.value it.decimation)
+        (D.far F.Element F.ring F.value it.decimation) P.WIDTH (chunk_of P.WIDTH n it.twiddles.now) };
+
+    ghost cost = { λ it size. size };
+
+    #[inline(always)]
+    fn on_chunk(&self, number: usize, values: &mut [F], products: &mut Products) {
+        let twiddles = chunk(self.twiddles, P::WIDTH, number);
+        self.decimation.on_pack::<P>(twiddles, values, products);
     }
 }

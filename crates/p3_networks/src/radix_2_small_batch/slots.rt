@@ -9,6 +9,7 @@ ghost use Rattle.p3_networks.specs.Layers.{AreValuesOfRows};
 ghost use Rattle.p3_matrix.specs.Polynomials.{poly};
 ghost use Rattle.p3_networks.specs.Twiddles.{AreTwiddlesFromStart, block_powers, forward_root};
 
+use crate::radix_2_small_batch::groups::Tiling;
 use crate::radix_2_small_batch::networks::dit_network_to_reversed;
 use crate::shifts::{copy_shifted, shift_values};
 use p3_field::{Products, TwoAdicField};
@@ -18,24 +19,22 @@ use p3_matrix::reverse_bits_len;
 /// order `2^(log_h + added_bits)`, in bit reversed order. Slot m is the coset of `shift` times the power
 /// `rev m` of the generator of that order, so that no row of zeros is met. The first slot is done last,
 /// since the others are made from the coefficients in it; what stands in the others before does not
-/// matter. `twiddles` serve the height `2^log_h`, a tile has `2^log_rows` rows, at most a slot's, and a piece
-/// `piece` entries of each part of a block, at least one.
+/// matter. `twiddles` serve the height `2^log_h`, a tile has at most a slot's rows, and a piece at least one entry.
 pub fn slots_network<F: TwoAdicField>(
     twiddles: &[F],
     values: &mut [F],
     width: usize,
-    log_rows: usize,
+    tiling: Tiling,
     log_h: usize,
     added_bits: usize,
     shift: F,
-    piece: usize,
     products: &mut Products,
 )
     requires wide { 1 ≤ width }
-    requires below { log_rows ≤ log_h }
+    requires below { tiling.log_rows ≤ log_h }
     requires within { log_h + added_bits ≤ F.TWO_ADICITY }
     requires small { log_h + added_bits < 64 }
-    requires piece { 1 ≤ piece }
+    requires piece { 1 ≤ tiling.piece }
     requires size { length values.old ≡ 2 ^ (log_h + added_bits) * width }
     requires twiddles { AreTwiddlesFromStart F.Field.own log_h
         (block_powers F.Field.own (forward_root F.Field.own F.generator)) twiddles.now }
@@ -61,23 +60,14 @@ pub fn slots_network<F: TwoAdicField>(
             coefficients,
             slot,
             width,
-            log_rows,
+            tiling,
             log_h,
             shift * turn,
-            piece,
             products,
         );
     }
     shift_values(coefficients, width, 1 << log_h, shift, products);
-    evaluate_to_reversed(
-        twiddles,
-        coefficients,
-        width,
-        log_rows,
-        log_h,
-        piece,
-        products,
-    );
+    evaluate_to_reversed(twiddles, coefficients, width, tiling, log_h, products);
 }
 
 // From coefficients in natural order, which lie in another slice, their values on the coset of `shift`
@@ -87,17 +77,16 @@ fn evaluate_to_reversed_oop<F: TwoAdicField>(
     coefficients: &[F],
     values: &mut [F],
     width: usize,
-    log_rows: usize,
+    tiling: Tiling,
     log_h: usize,
     shift: F,
-    piece: usize,
     products: &mut Products,
 )
     requires wide { 1 ≤ width }
-    requires below { log_rows ≤ log_h }
+    requires below { tiling.log_rows ≤ log_h }
     requires within { log_h ≤ F.TWO_ADICITY }
     requires small { log_h < 64 }
-    requires piece { 1 ≤ piece }
+    requires piece { 1 ≤ tiling.piece }
     requires source { length coefficients.now ≡ 2 ^ log_h * width }
     requires size { length values.old ≡ 2 ^ log_h * width }
     requires twiddles { AreTwiddlesFromStart F.Field.own log_h
@@ -109,7 +98,7 @@ fn evaluate_to_reversed_oop<F: TwoAdicField>(
     ensures cost { products.new ≤ products.old + (width * (log_h * 2 ^ log_h / 2) + 2 ^ log_h * width) }
 {
     copy_shifted(coefficients, values, width, 1 << log_h, shift, products);
-    evaluate_to_reversed(twiddles, values, width, log_rows, log_h, piece, products);
+    evaluate_to_reversed(twiddles, values, width, tiling, log_h, products);
 }
 
 // From rows in natural order to their values on the subgroup, in bit reversed order. A single row has no
@@ -118,16 +107,15 @@ fn evaluate_to_reversed<F: TwoAdicField>(
     twiddles: &[F],
     values: &mut [F],
     width: usize,
-    log_rows: usize,
+    tiling: Tiling,
     log_h: usize,
-    piece: usize,
     products: &mut Products,
 )
     requires wide { 1 ≤ width }
-    requires below { log_rows ≤ log_h }
+    requires below { tiling.log_rows ≤ log_h }
     requires within { log_h ≤ F.TWO_ADICITY }
     requires small { log_h < 64 }
-    requires piece { 1 ≤ piece }
+    requires piece { 1 ≤ tiling.piece }
     requires size { length values.old ≡ 2 ^ log_h * width }
     requires twiddles { AreTwiddlesFromStart F.Field.own log_h
         (block_powers F.Field.own (forward_root F.Field.own F.generator)) twiddles.now }
@@ -137,6 +125,7 @@ fn evaluate_to_reversed<F: TwoAdicField>(
     ensures cost { products.new ≤ products.old + width * (log_h * 2 ^ log_h / 2) }
 {
     if log_h > 0 {
+        let Tiling { log_rows, piece } = tiling;
         dit_network_to_reversed(twiddles, values, width, log_rows, log_h, piece, products);
     }
 }

@@ -25,14 +25,14 @@ pub returns-clause-values : goal.returns-clause-values
 returns-clause-values g c r j below inside =
     let field = g.F.Field in
     let k = c.args.log_h in
-    let a = c.args.added_bits in
+    let a = c.args.coefficients.added_bits in
     let m = k - a in
     let w = c.args.width in
     let gen = λ (n : ℕ). field.value (g.F.TwoAdicField.generator n) in
     let roots = g.met.F.TwoAdicField.roots_law in
     let fewer : 2 ^ m ≤ 2 ^ k = let less : m ≤ k = omega arith in pow-le-pow_right {n = 2} (lit≤ tt) less in
     let added : a ≤ k = omega (arith, c.requires.added, c.requires.below) in
-    let row = λ (u q : ℕ). field.ring.mul (field.value (get_or c.args.rows.now (rev m q * w + u) field.ZERO)) (field.value (get_or c.args.weights.now (rev m q) field.ZERO)) in
+    let row = λ (u q : ℕ). field.ring.mul (field.value (get_or c.args.coefficients.rows.now (rev m q * w + u) field.ZERO)) (field.value (get_or c.args.coefficients.weights.now (rev m q) field.ZERO)) in
     let column = λ (u q : ℕ). first_of field.ring (2 ^ m) (row u) q in
     let entry = λ (b : ℕ). field.value (get_or c.args.twiddles.now b field.ZERO) in
     let cells = twisted_cells field.ring roots k w column entry in
@@ -42,9 +42,9 @@ returns-clause-values g c r j below inside =
     let root = power field.ring (power field.ring (gen k) (rev m q)) t in
     twisted_cells_of_zeros field.ring roots k w column entry a added (λ v n after. first_behind field.ring (2 ^ m) (row v) n after) q t u copy column_is
     ∙ ap (λ x. field.ring.mul x root) (first_inside field.ring (2 ^ m) (row u) (rev m q) (rev-lt m q)
-    ∙ ap (λ n. field.ring.mul (field.value (get_or c.args.rows.now (n * w + u) field.ZERO)) (field.value (get_or c.args.weights.now n field.ZERO))) (rev-rev m q among))
-    ∙ field.ring.mul_assoc (field.value (get_or c.args.rows.now (q * w + u) field.ZERO)) (field.value (get_or c.args.weights.now q field.ZERO)) root
-    ∙ ap (λ x. field.ring.mul (field.value (get_or c.args.rows.now (q * w + u) field.ZERO)) (field.ring.mul (field.value (get_or c.args.weights.now q field.ZERO)) x))
+    ∙ ap (λ n. field.ring.mul (field.value (get_or c.args.coefficients.rows.now (n * w + u) field.ZERO)) (field.value (get_or c.args.coefficients.weights.now n field.ZERO))) (rev-rev m q among))
+    ∙ field.ring.mul_assoc (field.value (get_or c.args.coefficients.rows.now (q * w + u) field.ZERO)) (field.value (get_or c.args.coefficients.weights.now q field.ZERO)) root
+    ∙ ap (λ x. field.ring.mul (field.value (get_or c.args.coefficients.rows.now (q * w + u) field.ZERO)) (field.ring.mul (field.value (get_or c.args.coefficients.weights.now q field.ZERO)) x))
     (sym (spread_root field gen k a c.args.twiddles.now added c.requires.some c.requires.twiddles q t among copy))) in
     let none : c.args.log_rows ≡ c.args.log_rows + 0 = omega arith in
     let all : c.args.log_rows + (k - c.args.log_rows) ≡ k = omega (arith, c.requires.below) in
@@ -59,7 +59,7 @@ returns-clause-cost g c =
     let len = length c.args.values.now in
     let r = c.args.log_rows in
     let k = c.args.log_h in
-    let a = c.args.added_bits in
+    let a = c.args.coefficients.added_bits in
     let each : (k - r) * length c.spread_tiles.new.values ≡ (k - r) * len = ap (λ n. (k - r) * n) c.spread_tiles.auto.values in
     let second : 2 * c.layers_in_groups.new.products ≤ 2 * c.spread_tiles.new.products + (k - r) * len = omega (arith, c.layers_in_groups.ensures.cost, each) in
     let all : (r - a + 2) * len + (k - r) * len ≡ (k - a + 2) * len =

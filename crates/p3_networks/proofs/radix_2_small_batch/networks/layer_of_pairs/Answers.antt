@@ -29,11 +29,11 @@ returns-clause-cells g c =
       near_cell = λ i one.
           let first : b * 2 + i ≡ 2 * b = omega (arith, one) in
           let second : 2 * b + 1 ≡ b * 2 + (1 + i) = omega (arith, one) in
-          ap (cell y) first ∙ c.on_pairs.ensures.near b (omega (arith, inside, size)) ∙ ap (λ t. meet_near t (cell x (2 * b)) (cell x (2 * b + 1))) (twiddle b inside) ∙ ap₂ (near (from + b)) (ap (cell x) (sym first)) (ap (cell x) second);
+          ap (cell y) first ∙ c.on_pairs.ensures.pairs.near_cell b (omega (arith, inside, size)) ∙ ap (λ t. meet_near t (cell x (2 * b)) (cell x (2 * b + 1))) (twiddle b inside) ∙ ap₂ (near (from + b)) (ap (cell x) (sym first)) (ap (cell x) second);
       far_cell = λ i one.
           let first : b * 2 + i ≡ 2 * b = omega (arith, one) in
           let second : 2 * b + 1 ≡ b * 2 + (1 + i) = omega (arith, one) in
-          ap (cell y) (sym second) ∙ c.on_pairs.ensures.far b (omega (arith, inside, size)) ∙ ap (λ t. meet_far t (cell x (2 * b)) (cell x (2 * b + 1))) (twiddle b inside) ∙ ap₂ (far (from + b)) (ap (cell x) (sym first)) (ap (cell x) second);
+          ap (cell y) (sym second) ∙ c.on_pairs.ensures.pairs.far_cell b (omega (arith, inside, size)) ∙ ap (λ t. meet_far t (cell x (2 * b)) (cell x (2 * b + 1))) (twiddle b inside) ∙ ap₂ (far (from + b)) (ap (cell x) (sym first)) (ap (cell x) second);
     })
     holds)
 
@@ -43,4 +43,4 @@ returns-clause-cost g c =
     let made : length (take (from + 32 - from) (drop from c.args.twiddles.now)) ≡ from + 32 - from = part_size c.args.twiddles.now from (from + 32 - from) (omega (arith, c.requires.chunk.enough)) in
     let whole = ap (λ n. g.D.Decimation.cost * n) c.requires.chunk.size in
     let least : 1 * 64 ≤ g.D.Decimation.cost * 64 = mul-le-mul_right 64 g.met.D.NetworkDecimation.cost_law in
-    record { grows = omega (arith, c.on_pairs.ensures.count); cost = omega (arith, c.on_pairs.ensures.count, made, whole, least) }
+    record { grows = omega (arith, c.on_pairs.ensures.cost.grows); cost = omega (arith, c.on_pairs.ensures.cost.cost, made, whole, least) }

@@ -13,7 +13,7 @@ on_each_chunk-requires g c =
       whole = sizes.whole;
       accepts = λ n below.
           let small = tile_small _ _ _ _ _ _ n c.requires.small sizes below in
-          let room = spread_room _ _ c.args.added_bits _ _ _ _ n c.requires.added c.requires.below sizes below in
+          let room = spread_room _ _ c.args.coefficients.added_bits _ _ _ _ n c.requires.added c.requires.below sizes below in
           let cells = mul-le-mul_right c.args.width room in
           let rows = tile_rows _ _ _ _ _ _ n sizes below in
           let chunk : IsChunk c.args.width c.args.log_rows n (length c.args.twiddles.now) (length c.args.values.now / one_shifted (c.args.log_h - c.args.log_rows)) = record { wide = c.requires.wide; small = small; enough = omega (arith, rows, c.requires.enough); size = sizes.size_is } in
@@ -24,7 +24,7 @@ pub returns : goal.returns
 returns g c =
     let field = g.F.Field in
     let before = c.args.values.now in
-    let layers_left = c.args.log_rows - c.args.added_bits in
+    let layers_left = c.args.log_rows - c.args.coefficients.added_bits in
     let sizes = tile_sizes c.args.log_h c.args.log_rows c.args.width (length before) c.requires.small c.requires.below c.requires.size in
     let tiles = one_shifted (c.args.log_h - c.args.log_rows) in
     record {
@@ -32,7 +32,7 @@ returns g c =
           cells_of_chunks field.ZERO (length before / tiles) field.value field.value (λ i. field.value (get_or before i field.ZERO)) (cells c.args.log_rows) 0 tiles (λ n s. n * s) before c.on_each_chunk.new.values
           (tile_some _ _ _ _ _ _ sizes c.requires.wide) sizes.whole c.on_each_chunk.auto.values (λ n. omega arith)
           (λ n below held.
-          let room = spread_room _ _ c.args.added_bits _ _ _ _ n c.requires.added c.requires.below sizes below in
+          let room = spread_room _ _ c.args.coefficients.added_bits _ _ _ _ n c.requires.added c.requires.below sizes below in
           c.on_each_chunk.ensures.chunks n below c.args.log_h cells layers (tile_rows _ _ _ _ _ _ n sizes below) (λ q t j inside. are q t j (omega (arith, inside, room))))
           (λ i inside. ap (λ n. field.value (get_or before n field.ZERO)) (omega arith));
       grows = c.on_each_chunk.ensures.grows;

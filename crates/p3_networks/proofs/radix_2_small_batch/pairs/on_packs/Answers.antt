@@ -1,123 +1,54 @@
-use Rattle.std.proofs.Common.{◌≡◌, ℕ, ◌+◌, ◌-◌, ◌*◌, ◌/◌, ◌<◌, ◌≤◌, length, get_or, take, drop, refl, sym, ap, ◌∙◌, subst, arith, rules}
-use borrow.Author.Rules.{scaled_fits≤}
-use Rattle.std.proofs.Math.Nat.{add-sub_cancel_left}
-use Rattle.p3_networks.proofs.Layers.Counts.{turn_counted}
-use Rattle.p3_networks.proofs.Layers.Halves.{block_size, part_length}
-use Rattle.p3_networks.proofs.Layers.Pairs.{far_done, near_done, pack_room, packs-more}
-use Rattle.p3_matrix.proofs.Rows.Overwritten.{part_at, rows-none}
+use Rattle.std.proofs.Common.{◌≡◌, ℕ, ◌+◌, ◌*◌, ◌/◌, ◌≤◌, length, refl, sym, ap, ◌∙◌, subst, arith}
+use Rattle.std.proofs.Math.Nat.{mul-le-mul_right}
+use Rattle.p3_networks.proofs.Layers.Counts.{turns_halved}
+use Rattle.p3_networks.proofs.Layers.Halves.{block_room, block_size}
+use Rattle.p3_networks.proofs.Layers.Pairs.{pairs_of_chunks}
 use Rattle.p3_networks.proofs.radix_2_small_batch.pairs.on_packs.Goals as goal
 
--- the pairs of a pack
-pairs_fit : (pack width len size : ℕ) → pack * width + width ≤ len → size ≡ 2 * len → pack * (2 * width) + 2 * width ≤ size
-pairs_fit pack width len size room full = let spread : pack * (2 * width) ≡ 2 * (pack * width) = omega arith in omega (arith, room, full, spread)
+-- the packs are all of a list
+packs : (len k w width : ℕ) → 1 ≤ w → width ≡ w → len ≡ k * w → len ≡ len / width * width
+packs len k w width some is whole =
+    let wide : 1 ≤ width = omega (arith, some, is) in
+    let all : len ≡ k * width = whole ∙ ap (λ n. k * n) (sym is) in
+    all ∙ ap (λ n. n * width) (sym (block_size len width k wide (all ∙ omega arith)))
 
-pub overflow_mul-at : goal.overflow_mul-at
-overflow_mul-at g c =
-    let room = pack_room c.loop-pack.pack c.WIDTH-width.result _ (length c.args.twiddles.now) c.requires.whole.0 c.requires.wide c.WIDTH-width.ensures c.requires.whole.1 c.loop-pack-test.true in
-    omega (arith, room)
+pub overflow_mul-width : goal.overflow_mul-width
+overflow_mul-width g c =
+    let p = packs (length c.args.twiddles.now) c.requires.whole.0 _ c.WIDTH-width.result c.requires.wide c.WIDTH-width.ensures c.requires.whole.1 in
+    let one : 1 * c.WIDTH-width.result ≤ length c.args.twiddles.now / c.WIDTH-width.result * c.WIDTH-width.result = mul-le-mul_right c.WIDTH-width.result c.if-count-gt0.true in
+    omega (arith, one, p, c.requires.size)
 
-pub overflow_mul-size : goal.overflow_mul-size
-overflow_mul-size g c =
-    let room = pack_room c.loop-pack.pack c.WIDTH-width.result _ (length c.args.twiddles.now) c.requires.whole.0 c.requires.wide c.WIDTH-width.ensures c.requires.whole.1 c.loop-pack-test.true in
-    omega (arith, room, c.requires.size)
-
-pub overflow_mul-start : goal.overflow_mul-start
-overflow_mul-start g c =
-    let room = pack_room c.loop-pack.pack c.WIDTH-width.result _ (length c.args.twiddles.now) c.requires.whole.0 c.requires.wide c.WIDTH-width.ensures c.requires.whole.1 c.loop-pack-test.true in
-    omega (arith, room, c.requires.size)
-
-pub offset_bounds-twiddles-at : goal.offset_bounds-twiddles-at
-offset_bounds-twiddles-at g c =
-    let room = pack_room c.loop-pack.pack c.WIDTH-width.result _ (length c.args.twiddles.now) c.requires.whole.0 c.requires.wide c.WIDTH-width.ensures c.requires.whole.1 c.loop-pack-test.true in
-    omega (arith, room)
-
-pub offset_bounds-values-start : goal.offset_bounds-values-start
-offset_bounds-values-start g c =
-    let room = pack_room c.loop-pack.pack c.WIDTH-width.result _ (length c.args.twiddles.now) c.requires.whole.0 c.requires.wide c.WIDTH-width.ensures c.requires.whole.1 c.loop-pack-test.true in
-    let below : c.loop-pack.pack * (2 * c.WIDTH-width.result) ≤ length c.loop-pack.values = omega (arith, room, c.requires.size, c.loop-pack.auto.values) in
-    scaled_fits≤ _ _ _ below (search rules)
-
-pub overflow_add-at : goal.overflow_add-at
-overflow_add-at g c =
-    let room = pack_room c.loop-pack.pack c.WIDTH-width.result _ (length c.args.twiddles.now) c.requires.whole.0 c.requires.wide c.WIDTH-width.ensures c.requires.whole.1 c.loop-pack-test.true in
-    omega (arith, room)
-
-pub overflow_add-start : goal.overflow_add-start
-overflow_add-start g c =
-    let room = pack_room c.loop-pack.pack c.WIDTH-width.result _ (length c.args.twiddles.now) c.requires.whole.0 c.requires.wide c.WIDTH-width.ensures c.requires.whole.1 c.loop-pack-test.true in
-    omega (arith, room, c.requires.size)
-
-pub slice_bounds-on_pack-end : goal.slice_bounds-on_pack-end
-slice_bounds-on_pack-end g c =
-    let room = pack_room c.loop-pack.pack c.WIDTH-width.result _ (length c.args.twiddles.now) c.requires.whole.0 c.requires.wide c.WIDTH-width.ensures c.requires.whole.1 c.loop-pack-test.true in
-    room
-
-pub slice_bounds-on_pack-end-in-loop-pack : goal.slice_bounds-on_pack-end-in-loop-pack
-slice_bounds-on_pack-end-in-loop-pack g c =
-    let room = pack_room c.loop-pack.pack c.WIDTH-width.result _ (length c.args.twiddles.now) c.requires.whole.0 c.requires.wide c.WIDTH-width.ensures c.requires.whole.1 c.loop-pack-test.true in
-    omega (arith, room, c.requires.size, c.loop-pack.auto.values)
-
-pub loop-pack-init : goal.loop-pack-init
-loop-pack-init g c = record { packs = rows-none g.F.Field.ZERO _ _ c.args.values.now; count = omega arith }
-
-pub loop-pack-preserved : goal.loop-pack-preserved
-loop-pack-preserved g c =
-    let field = g.F.Field in
-    let value = field.value in
-    let zero = field.ZERO in
-    let pack = c.loop-pack.pack in
-    let twiddle = λ (b : ℕ). value (get_or c.args.twiddles.now b zero) in
+pub on_each_chunk-requires : goal.on_each_chunk-requires
+on_each_chunk-requires g c =
     let width = c.WIDTH-width.result in
     let len = length c.args.twiddles.now in
-    let room = pack_room pack width _ len c.requires.whole.0 c.requires.wide c.WIDTH-width.ensures c.requires.whole.1 c.loop-pack-test.true in
-    let all = pairs_fit pack width len (length c.loop-pack.values) room (c.loop-pack.auto.values ∙ c.requires.size) in
-    let part = take (pack * (2 * width) + 2 * width - pack * (2 * width)) (drop (pack * (2 * width)) c.loop-pack.values) in
-    let at = λ (i : ℕ) (below : i < width). ap value (part_at c.args.twiddles.now (pack * width) (pack * width + width - pack * width) i zero (subst (λ n. i < n) (sym (add-sub_cancel_left (pack * width) width)) below)) in
+    let p = packs (length c.args.twiddles.now) c.requires.whole.0 _ c.WIDTH-width.result c.requires.wide c.WIDTH-width.ensures c.requires.whole.1 in
     record {
-      packs = packs-more value zero (λ b. g.D.Decimation.near field.Element field.ring field.value c.args.decimation (twiddle b)) (λ b. g.D.Decimation.far field.Element field.ring field.value c.args.decimation (twiddle b)) width c.args.values.now c.loop-pack.values c.on_pack.new.values pack (2 * width) refl all
-          (c.on_pack.auto.values ∙ part_length c.loop-pack.values (pack * (2 * width)) (2 * width) all)
-          (λ i below. c.on_pack.ensures.near i (subst (λ n. i < n) c.WIDTH-width.ensures below) ∙ ap (λ t. g.D.Decimation.near field.Element field.ring field.value c.args.decimation t (value (get_or part (2 * i) zero)) (value (get_or part (2 * i + 1) zero))) (at i below))
-          (λ i below. c.on_pack.ensures.far i (subst (λ n. i < n) c.WIDTH-width.ensures below) ∙ ap (λ t. g.D.Decimation.far field.Element field.ring field.value c.args.decimation t (value (get_or part (2 * i) zero)) (value (get_or part (2 * i + 1) zero))) (at i below))
-          c.loop-pack.invariant.packs;
-      count = turn_counted pack width _ c.args.products.now c.loop-pack.products c.on_pack.new.products (sym c.WIDTH-width.ensures) c.loop-pack.invariant.count c.on_pack.ensures.count;
+      whole = c.requires.size ∙ ap (λ n. 2 * n) p ∙ omega arith;
+      accepts = λ n below. (ap (λ m. 2 * m) c.WIDTH-width.ensures, subst (λ m. n * m + m ≤ len) c.WIDTH-width.ensures (block_room n (len / width) width len below p));
     }
 
-pub returns-clause-near : goal.returns-clause-near
-returns-clause-near g c =
+pub returns-then-count-gt0-clause-pairs : goal.returns-then-count-gt0-clause-pairs
+returns-then-count-gt0-clause-pairs g c =
     let field = g.F.Field in
-    let twiddle = λ (b : ℕ). field.value (get_or c.args.twiddles.now b field.ZERO) in
-    let width = c.WIDTH-width.result in
     let len = length c.args.twiddles.now in
-    let k = c.requires.whole.0 in
-    let some : 1 ≤ width = omega (arith, c.requires.wide, c.WIDTH-width.ensures) in
-    let whole : len ≡ k * width = c.requires.whole.1 ∙ ap (λ n. k * n) (sym c.WIDTH-width.ensures) in
-    let packs : len / width ≡ k = block_size len width k some (whole ∙ omega arith) in
-    let end : c.loop-pack.pack ≡ k = omega (arith, c.loop-pack-test.false, c.loop-pack.auto.pack-end, packs) in
-    near_done field.value field.ZERO (λ b. g.D.Decimation.near field.Element field.ring field.value c.args.decimation (twiddle b)) (λ b. g.D.Decimation.far field.Element field.ring field.value c.args.decimation (twiddle b)) width c.args.values.now c.loop-pack.values c.loop-pack.pack (2 * width) len
-    some refl (whole ∙ ap (λ n. n * width) (sym end)) c.loop-pack.invariant.packs
+    let count = len / c.WIDTH-width.result in
+    let p = packs (length c.args.twiddles.now) c.requires.whole.0 _ c.WIDTH-width.result c.requires.wide c.WIDTH-width.ensures c.requires.whole.1 in
+    pairs_of_chunks field.value field.ZERO (g.D.Decimation.near field.Element field.ring field.value c.args.decimation) (g.D.Decimation.far field.Element field.ring field.value c.args.decimation)
+    _ count (2 * c.WIDTH-width.result) c.args.twiddles.now c.args.values.now c.on_each_chunk.new.values c.requires.wide (ap (λ m. 2 * m) c.WIDTH-width.ensures)
+    c.on_each_chunk.ensures.chunks len (p ∙ ap (λ m. count * m) c.WIDTH-width.ensures)
 
-pub returns-clause-far : goal.returns-clause-far
-returns-clause-far g c =
-    let field = g.F.Field in
-    let twiddle = λ (b : ℕ). field.value (get_or c.args.twiddles.now b field.ZERO) in
+pub returns-then-count-gt0-clause-cost : goal.returns-then-count-gt0-clause-cost
+returns-then-count-gt0-clause-cost g c =
     let width = c.WIDTH-width.result in
-    let len = length c.args.twiddles.now in
-    let k = c.requires.whole.0 in
-    let some : 1 ≤ width = omega (arith, c.requires.wide, c.WIDTH-width.ensures) in
-    let whole : len ≡ k * width = c.requires.whole.1 ∙ ap (λ n. k * n) (sym c.WIDTH-width.ensures) in
-    let packs : len / width ≡ k = block_size len width k some (whole ∙ omega arith) in
-    let end : c.loop-pack.pack ≡ k = omega (arith, c.loop-pack-test.false, c.loop-pack.auto.pack-end, packs) in
-    far_done field.value field.ZERO (λ b. g.D.Decimation.near field.Element field.ring field.value c.args.decimation (twiddle b)) (λ b. g.D.Decimation.far field.Element field.ring field.value c.args.decimation (twiddle b)) width c.args.values.now c.loop-pack.values c.loop-pack.pack (2 * width) len
-    some refl (whole ∙ ap (λ n. n * width) (sym end)) c.loop-pack.invariant.packs
+    let count = length c.args.twiddles.now / width in
+    let p = packs (length c.args.twiddles.now) c.requires.whole.0 _ c.WIDTH-width.result c.requires.wide c.WIDTH-width.ensures c.requires.whole.1 in
+    let made = turns_halved count count width c.args.products.now c.on_each_chunk.new.products refl c.on_each_chunk.ensures.cost in
+    record { grows = c.on_each_chunk.ensures.grows; cost = omega (arith, made, p) }
 
-pub returns-clause-count : goal.returns-clause-count
-returns-clause-count g c =
-    let width = c.WIDTH-width.result in
-    let len = length c.args.twiddles.now in
-    let k = c.requires.whole.0 in
-    let some : 1 ≤ width = omega (arith, c.requires.wide, c.WIDTH-width.ensures) in
-    let whole : len ≡ k * width = c.requires.whole.1 ∙ ap (λ n. k * n) (sym c.WIDTH-width.ensures) in
-    let packs : len / width ≡ k = block_size len width k some (whole ∙ omega arith) in
-    let end : c.loop-pack.pack ≡ k = omega (arith, c.loop-pack-test.false, c.loop-pack.auto.pack-end, packs) in
-    let all : len ≡ c.loop-pack.pack * width = whole ∙ ap (λ n. n * width) (sym end) in
-    omega (arith, c.loop-pack.invariant.count, all)
+pub returns-else-count-gt0-clause-pairs : goal.returns-else-count-gt0-clause-pairs
+returns-else-count-gt0-clause-pairs g c =
+    let p = packs (length c.args.twiddles.now) c.requires.whole.0 _ c.WIDTH-width.result c.requires.wide c.WIDTH-width.ensures c.requires.whole.1 in
+    let zero : length c.args.twiddles.now / c.WIDTH-width.result ≡ 0 = omega (arith, c.if-count-gt0.false) in
+    let none : length c.args.twiddles.now ≡ 0 = omega (arith, p, ap (λ n. n * c.WIDTH-width.result) zero) in
+    record { near_cell = λ i inside. absurd (omega (arith, inside, none)); far_cell = λ i inside. absurd (omega (arith, inside, none)) }
