@@ -694,14 +694,16 @@ fn spread_tiles<F: TwoAdicField>(
         → AreLayers log_h width (λ b. dif_near F.ring (F.value (get_or twiddles.now b F.ZERO)))
         (λ b. dif_far F.ring (F.value (get_or twiddles.now b F.ZERO)))
         cells (λ e. cells (e + 1))
-        → ((q t j : ℕ) → q < 2 ^ (log_h - coefficients.entry.added_bits) → t < 2 ^ coefficients.entry.added_bits → j < width
+        → ((q t j : ℕ) → q < 2 ^ (log_h - coefficients.entry.added_bits) → t < 2 ^ coefficients.entry.added_bits
+        → j < width
         → cells coefficients.entry.added_bits ((q * 2 ^ coefficients.entry.added_bits + t) * width + j)
         ≡ F.ring.mul (F.value (get_or coefficients.entry.rows.now (q * width + j) F.ZERO))
         (F.ring.mul (F.value (get_or coefficients.entry.weights.now q F.ZERO))
         (power F.ring (F.value (get_or twiddles.now (q * (2 ^ coefficients.entry.added_bits / 2)) F.ZERO)) t)))
         → HoldsCells F.value F.ZERO 0 (cells log_rows) values.new }
     ensures grows { products.old ≤ products.new }
-    ensures cost { 2 * products.new ≤ 2 * products.old + (log_rows - coefficients.entry.added_bits + 2) * length values.old }
+    ensures cost { 2 * products.new
+        ≤ 2 * products.old + (log_rows - coefficients.entry.added_bits + 2) * length values.old }
 {
     let tiles = 1usize << (log_h - log_rows);
     let size = values.len() / tiles;
@@ -726,7 +728,8 @@ struct SpreadTileLayers<'a, F> {
 impl<F: TwoAdicField> ChunkWork<F> for SpreadTileLayers<'_, F> {
     ghost accepts = { λ it n size. let count = 2 ^ (it.log_rows - it.coefficients.added_bits) in
         IsChunk it.width it.log_rows n (length it.twiddles.now) size × ((it.coefficients.added_bits ≤ it.log_rows)
-        × (((n * count + count) * it.width ≤ length it.coefficients.rows.now) × ((n * count + count ≤ length it.coefficients.weights.now)
+        × (((n * count + count) * it.width ≤ length it.coefficients.rows.now)
+        × ((n * count + count ≤ length it.coefficients.weights.now)
         × (F.value (get_or it.twiddles.now 0 F.ZERO) ≡ F.ring.one)))) };
 
     ghost takes = { λ it n before after. let count = 2 ^ (it.log_rows - it.coefficients.added_bits) in
@@ -799,11 +802,13 @@ pub fn extending_network<F: TwoAdicField>(
         (block_powers F.Field.own (forward_root F.Field.own F.generator)) twiddles.now }
     ensures values { (r j : ℕ) → r < 2 ^ log_h → j < width → F.value (get_or values.new (r * width + j) F.ZERO)
         ≡ poly F.ring (2 ^ (log_h - coefficients.entry.added_bits)) (λ q. F.ring.mul
-        (F.value (get_or coefficients.entry.rows.now (rev (log_h - coefficients.entry.added_bits) q * width + j) F.ZERO))
+        (F.value
+        (get_or coefficients.entry.rows.now (rev (log_h - coefficients.entry.added_bits) q * width + j) F.ZERO))
         (F.value (get_or coefficients.entry.weights.now (rev (log_h - coefficients.entry.added_bits) q) F.ZERO)))
         (power F.ring (F.value (F.generator log_h)) r) }
     ensures grows { products.old ≤ products.new }
-    ensures cost { 2 * products.new ≤ 2 * products.old + (log_h - coefficients.entry.added_bits + 2) * length values.old }
+    ensures cost { 2 * products.new
+        ≤ 2 * products.old + (log_h - coefficients.entry.added_bits + 2) * length values.old }
 {
     spread_tiles(
         twiddles,
