@@ -10,6 +10,7 @@ pub mod blocks;
 pub mod jobs;
 pub mod naive;
 pub mod points;
+mod prepared;
 pub mod radix_2_bowers;
 pub mod radix_2_dit;
 pub mod radix_2_dit_parallel;

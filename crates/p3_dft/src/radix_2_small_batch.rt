@@ -12,6 +12,7 @@ ghost use Rattle.p3_dft.specs.Transforms.{IsInterpolation, IsTransform};
 ghost use Rattle.p3_networks.specs.Twiddles.{AreTwiddlesFromStart, backward_root, block_powers, forward_root};
 ghost use Rattle.p3_dft.specs.Stored.{HasEntriesOf, HasTwoPowerRows};
 
+use crate::prepared::{MatrixWork, on_prepared};
 use crate::traits::{Layout, TwoAdicSubgroupDft};
 use crate::util::{extend_by_zeros, pad_rows, shift_rows};
 use p3_field::{Products, TwoAdicField};
@@ -195,16 +196,8 @@ impl<F: TwoAdicField> TwoAdicSubgroupDft<F> for Radix2DFTSmallBatch<F> {
         ensures engine { AfterDft ⟦<Radix2DFTSmallBatch<F> as TwoAdicSubgroupDft<F>>⟧.facts self.old self.new
             result (N.stored mat) 0 }
     {
-        let mut mat = mat.into_row_major_matrix();
-        let height = mat.height();
-        if height == 1 {
-            return Ok(mat);
-        }
-        let log_h = log2_strict_usize(height);
-        self.tables.make(*mat.allocator(), log_h)?;
-        let twiddles = self.tables.forward();
-        evaluate_natural(twiddles, &mut mat, log_h, self.tile, &mut self.products);
-        Ok(mat)
+        let work = Evaluation { tile: self.tile };
+        on_prepared(&mut self.tables, mat, work, &mut self.products)
     }
 
     fn add_products(&mut self, products: Products) {
@@ -233,16 +226,8 @@ impl<F: TwoAdicField> TwoAdicSubgroupDft<F> for Radix2DFTSmallBatch<F> {
         ensures engine { AfterDft ⟦<Radix2DFTSmallBatch<F> as TwoAdicSubgroupDft<F>>⟧.facts self.old self.new
             result (N.stored mat) 1 }
     {
-        let mut mat = mat.into_row_major_matrix();
-        let height = mat.height();
-        if height == 1 {
-            return Ok(mat);
-        }
-        let log_h = log2_strict_usize(height);
-        self.tables.make(*mat.allocator(), log_h)?;
-        let twiddles = self.tables.backward();
-        interpolate_natural(twiddles, &mut mat, log_h, self.tile, &mut self.products);
-        Ok(mat)
+        let work = Interpolation { tile: self.tile };
+        on_prepared(&mut self.tables, mat, work, &mut self.products)
     }
 
     /// As the trait says, by a network that meets no row of zeros, and without added bits by `dft_batch`, in place.
@@ -446,37 +431,40 @@ impl<F: TwoAdicField> TwoAdicSubgroupDft<F> for Radix2DFTSmallBatch<F> {
     }
 }
 
-// From coefficients to values on the subgroup, in place.
-fn evaluate_natural<F: TwoAdicField>(
-    twiddles: &[F],
-    mat: &mut RowMajorMatrix<F>,
-    log_h: usize,
+// From coefficients to values on the subgroup.
+#[derive(Drop)]
+struct Evaluation {
     tile: usize,
-    products: &mut Products,
-)
-    requires rows { HasTwoPowerRows mat.old log_h }
-    requires some { 1 ≤ log_h }
-    requires within { log_h ≤ F.TWO_ADICITY }
-    requires tile { tile ≤ MAX_TILE }
-    requires twiddles { AreTwiddlesFromStart F.Field.own log_h
-        (block_powers F.Field.own (forward_root F.Field.own F.generator)) twiddles.now }
-    ensures values { IsTransform F.Field.own F.generator mat.old F.ring.one mat.new }
-    ensures grows { products.old ≤ products.new }
-    ensures cost { products.new ≤ products.old + mat.old.width * (log_h * 2 ^ log_h / 2) }
-{
-    reverse_rows(mat);
-    let width = mat.width();
-    let log_rows = log_tile_rows(tile, width, log_h);
-    let piece = piece_size(tile);
-    dif_network(
-        twiddles,
-        mat.values_mut(),
-        width,
-        log_rows,
-        log_h,
-        piece,
-        products,
-    );
+
+    ghost small: { tile ≤ 4294967296 },
+}
+
+impl<F: TwoAdicField> MatrixWork<F, RootTables<F>> for Evaluation {
+    ghost takes = { λ work mat out. IsTransform F.Field.own F.generator mat F.ring.one out };
+
+    ghost more = { λ work. 0 };
+
+    fn on_matrix(
+        &self,
+        tables: &RootTables<F>,
+        mat: &mut RowMajorMatrix<F>,
+        log_h: usize,
+        products: &mut Products,
+    ) {
+        let twiddles = tables.forward();
+        let width = mat.width();
+        let log_rows = log_tile_rows(self.tile, width, log_h);
+        reverse_rows(mat);
+        dif_network(
+            twiddles,
+            mat.values_mut(),
+            width,
+            log_rows,
+            log_h,
+            piece_size(self.tile),
+            products,
+        );
+    }
 }
 
 // From values on the subgroup, the coefficients times the height, in place: rows in natural order
@@ -612,36 +600,40 @@ fn extend_to_reversed<F: TwoAdicField>(
     );
 }
 
-// From values on the subgroup to coefficients, in place.
-fn interpolate_natural<F: TwoAdicField>(
-    twiddles: &[F],
-    mat: &mut RowMajorMatrix<F>,
-    log_h: usize,
+// From values on the subgroup to coefficients.
+#[derive(Drop)]
+struct Interpolation {
     tile: usize,
-    products: &mut Products,
-)
-    requires rows { HasTwoPowerRows mat.old log_h }
-    requires some { 1 ≤ log_h }
-    requires within { log_h ≤ F.TWO_ADICITY }
-    requires tile { tile ≤ MAX_TILE }
-    requires twiddles { AreTwiddlesFromStart F.Field.own log_h
-        (block_powers F.Field.own (backward_root F.Field.own F.generator)) twiddles.now }
-    ensures coefficients { IsInterpolation F.Field.own F.generator mat.old F.ring.one mat.new }
-    ensures grows { products.old ≤ products.new }
-    ensures cost { products.new ≤ products.old + mat.old.width * (log_h * 2 ^ log_h / 2) + 2 ^ log_h * mat.old.width }
-{
-    let width = mat.width();
-    let log_rows = log_tile_rows(tile, width, log_h);
-    let inverse = F::ONE.div_2exp_u64(log_h as u64);
-    reverse_rows(mat);
-    scaled_dif_network(
-        twiddles,
-        inverse,
-        mat.values_mut(),
-        width,
-        log_rows,
-        log_h,
-        piece_size(tile),
-        products,
-    );
+
+    ghost small: { tile ≤ 4294967296 },
+}
+
+impl<F: TwoAdicField> MatrixWork<F, RootTables<F>> for Interpolation {
+    ghost takes = { λ work mat out. IsInterpolation F.Field.own F.generator mat F.ring.one out };
+
+    ghost more = { λ work. 1 };
+
+    fn on_matrix(
+        &self,
+        tables: &RootTables<F>,
+        mat: &mut RowMajorMatrix<F>,
+        log_h: usize,
+        products: &mut Products,
+    ) {
+        let twiddles = tables.backward();
+        let width = mat.width();
+        let log_rows = log_tile_rows(self.tile, width, log_h);
+        let inverse = F::ONE.div_2exp_u64(log_h as u64);
+        reverse_rows(mat);
+        scaled_dif_network(
+            twiddles,
+            inverse,
+            mat.values_mut(),
+            width,
+            log_rows,
+            log_h,
+            piece_size(self.tile),
+            products,
+        );
+    }
 }

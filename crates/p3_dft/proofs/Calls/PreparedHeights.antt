@@ -1,7 +1,11 @@
 -- The steps of an engine that shows the largest height whose twiddles are there.
 use Rattle.std.specs.Prelude.{⊤, max}
-use Rattle.std.proofs.Common.{◌≡◌, ℕ, zero, suc, ◌+◌, ◌≤◌, ◌^◌, Result, Ok, Err, IsOk, OnErr, OnOk, ◌⊎◌, ap, subst, arith, rules}
-use Rattle.p3_dft.specs.Engines.{EngineFacts, HasProductsMore, IsLater, IsPrepared, EngineState}
+use Rattle.std.proofs.Common.{◌≡◌, ℕ, zero, suc, ◌+◌, ◌*◌, ◌≤◌, ◌^◌, Result, Ok, Err, IfErr, IsOk, OnErr, OnOk, ◌⊎◌, ap, subst, arith, rules}
+use Rattle.p3_matrix.specs.declared.error.DftError.{DftError}
+use Rattle.p3_matrix.specs.Room.{IsWithin}
+use Rattle.p3_matrix.specs.RowMajor.{RowMajor, height}
+use Rattle.p3_matrix.proofs.Rooms.{if_within_more}
+use Rattle.p3_dft.specs.Engines.{AfterDft, AtLog, EngineFacts, HasProductsMore, IsLater, IsPrepared, EngineState}
 
 -- an engine with twiddles of all heights up to one, and so many products
 abbrev pub up_to : ℕ → ℕ → EngineState
@@ -43,6 +47,25 @@ module _ {F : Type 0} (t : ℕ → ℕ → ℕ) (x : ℕ → ℕ → ℕ → ℕ
         same_cosets = λ k s. (λ none. none, λ none. none);
         same_ready = λ k. (λ there. there, λ there. there);
       })
+
+-- a height that was made prepared is
+held_where : {A E : Type 0} (r : Result A E) (before after k : ℕ) → OnOk r (after ≡ max before k) → IsOk r → k ≤ after
+held_where (Ok x) before after k made ok = omega (arith, made)
+held_where (Err e) before after k made ok = search rules
+
+-- after a call that `on_prepared` made
+pub after_prepared : {F A T : Type 0} {log more_log products more_products : ℕ} (t : ℕ → ℕ → ℕ) (x : ℕ → ℕ → ℕ → ℕ) (b : ℕ → ℕ → ℕ) (m : RowMajor T) (more : ℕ) (r : Result A DftError)
+    → log ≤ more_log → products ≤ more_products → AtLog (height m) (λ k. OnOk r (more_log ≡ max log k))
+    → AtLog (height m) (λ k. more_products ≤ products + (t k m.width + more * (2 ^ k * m.width))) → IfErr r (IsWithin (height m * m.width))
+    → AfterDft (tabled_facts {F = F} t x b) (up_to log products) (up_to more_log more_products) r m more
+after_prepared {log = log} {more_log = more_log} t x b m more r keeps grows made cost room =
+    let still : (k : ℕ) → k ≤ log → k ≤ more_log = λ k there. omega (arith, there, keeps) in
+    record {
+      later = record { keeps = still; keeps_cosets = λ k s none. none; keeps_ready = still; grows = grows };
+      ready = λ done k high. held_where r _ _ k (made k high) done;
+      cost = cost;
+      refused = if_within_more r _ _ (omega arith) room;
+    }
 
 -- a refusal is no answer
 pub not_ok : {A E : Type 0} (r : Result A E) (e : E) → r ≡ Err e → IsOk r → ⊥

@@ -1,7 +1,9 @@
-use Rattle.std.proofs.Common.{ℕ, ◌≡◌, ◌+◌, ◌*◌, ◌^◌, ◌∙◌, ap₂, refl, sym, arith}
+use Rattle.std.proofs.Common.{ℕ, ◌≡◌, ◌+◌, ◌*◌, ◌^◌, ◌∙◌, ap, ap₂, refl, sym, arith}
 use Rattle.std.proofs.Math.Nat.{le_refl}
 use Rattle.std.proofs.lemmas.Result.{IfOk-from_err, IfOk-weaker}
 use Rattle.p3_matrix.specs.RowMajor.{height}
+use Rattle.p3_dft.specs.Engines.{EngineState}
+use Rattle.p3_dft.proofs.Calls.PreparedHeights.{none_above}
 use Rattle.p3_dft.proofs.Calls.EngineSteps.{after_part, extended_after, part_refused, parts_after, products_after}
 use Rattle.p3_dft.proofs.Calls.ExtendedTransforms.{answered_shape, extension_of_shifted}
 use Rattle.p3_matrix.proofs.Rooms.{room_of}
@@ -48,7 +50,7 @@ returns-clause-values g c =
     c.dft_batch.ensures.values
 
 pub returns-in_err-coefficients-clause-only : goal.returns-in_err-coefficients-clause-only
-returns-in_err-coefficients-clause-only g c k e = omega (arith, c.idft_batch.ensures.only k e)
+returns-in_err-coefficients-clause-only g c k e = omega (arith, ap (λ (e : EngineState). e.prepared) c.in_err-coefficients.ensures.refused)
 
 pub returns-in_err-coefficients-clause-engine : goal.returns-in_err-coefficients-clause-engine
 returns-in_err-coefficients-clause-engine g c =
@@ -62,7 +64,7 @@ returns-clause-only g c = λ k e.
     let same = c.shift_rows.ensures.shifted in
     let grown = padded_shape g.F.Field.ZERO (g.N.IntoRowMajorMatrix.stored c.args.mat) c.shift_rows.new.mat c.in_ok-padded.padded a k c.pad_rows.ensures.whole
     (same.high ∙ shape.0, same.wide ∙ shape.1) e c.in_ok-padded.ensures.padded in
-    omega (arith, c.in_ok-coefficients.ensures.only k e, (c.add_products.ensures.engine.same _).1 (le_refl _), c.dft_batch.ensures.only (k + a) grown.0)
+    omega (arith, c.in_ok-coefficients.ensures.made k e, (c.add_products.ensures.engine.same _).1 (le_refl _), none_above (λ (e : EngineState). e.prepared) c.dft_batch.result _ _ _ (c.dft_batch.ensures.made (k + a) grown.0) c.dft_batch.ensures.refused)
 
 pub returns-clause-engine : goal.returns-clause-engine
 returns-clause-engine g c =
@@ -87,6 +89,6 @@ pub returns-in_err-padded : goal.returns-in_err-padded
 returns-in_err-padded g c =
     record {
       values = IfOk-from_err _ _ c.from_residual-in_err-padded.ensures.0;
-      only = λ k e. omega (arith, c.in_ok-coefficients.ensures.only k e, (c.add_products.ensures.engine.same _).1 (le_refl _));
+      only = λ k e. omega (arith, c.in_ok-coefficients.ensures.made k e, (c.add_products.ensures.engine.same _).1 (le_refl _));
       engine = let fits = c.requires.fits in let m = g.N.IntoRowMajorMatrix.stored c.args.mat in let shape = answered_shape g.F.Field g.F.TwoAdicField.generator _ _ _ _ _ fits.log fits.high c.in_ok-coefficients.ensures.coefficients (refl, refl) c.width-width.ensures.whole c.requires.shape c.transform-changed.ensures in let same = c.shift_rows.ensures.shifted in after_part _ _ _ _ _ c.from_residual-in_err-padded.ensures.0 (λ k. omega arith) (room_of c.from_residual-in_err-padded.result _ _ _ c.from_residual-in_err-padded.ensures (omega (arith, ap₂ (λ (h w : ℕ). h * w * 2 ^ c.args.added_bits) (same.high ∙ shape.0) (same.wide ∙ shape.1))) c.in_err-padded.ensures.room) (products_after _ 1 m c.transform-changed.result _ _ _ c.transform-changed.result _ shape (omega (arith, c.shift_rows.ensures.cost, c.new-products.ensures)) c.in_ok-coefficients.ensures.engine c.add_products.ensures.engine);
     }

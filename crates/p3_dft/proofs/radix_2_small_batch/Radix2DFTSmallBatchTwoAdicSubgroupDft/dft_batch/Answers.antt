@@ -1,63 +1,18 @@
-use Rattle.std.proofs.Common.{sym, ap, ◌∙◌, arith}
-use Rattle.p3_matrix.specs.RowMajor.{height}
-use Rattle.p3_dft.proofs.Calls.AtLogs.{at_log, at_found}
-use Rattle.p3_networks.specs.Twiddles.{forward_root, block_powers}
-use Rattle.p3_dft.specs.Engines.{EngineState}
-use Rattle.p3_networks.proofs.Tables.FromStart.{fewer_from_start}
-use Rattle.p3_dft.proofs.Calls.PreparedHeights.{not_ok, some_log, later_with_heights}
+use Rattle.std.proofs.Common.{ap₂}
 use Rattle.p3_dft.proofs.BitReversed.Rows.{transform_of_row}
-use Rattle.p3_dft.proofs.Calls.Shapes.{log_fits_dft, table_fits}
-use Rattle.p3_matrix.proofs.Rooms.{room_of}
-use Rattle.p3_dft.proofs.Calls.Stored.{rows_found}
-use Rattle.p3_dft.proofs.Calls.EngineSteps.{after_error, after_none}
-use Rattle.std.proofs.Math.Nat.{le_refl, le-add_right}
-use Rattle.p3_dft.proofs.Calls.Counts.{larger_bound}
+use Rattle.p3_dft.proofs.Calls.PreparedHeights.{after_prepared, up_to}
+use Rattle.std.proofs.lemmas.Result.{on_err_weaker}
 use Rattle.p3_dft.proofs.radix_2_small_batch.Radix2DFTSmallBatchTwoAdicSubgroupDft.dft_batch.Goals as goal
 
-pub returns-then-height-eq1-clause-values : goal.returns-then-height-eq1-clause-values
-returns-then-height-eq1-clause-values g c = rw (← c.into_row_major_matrix-mat.ensures) (transform_of_row g.F.Field g.F.TwoAdicField.generator c.into_row_major_matrix-mat.result (sym c.height-height.ensures.height ∙ c.if-height-eq1.true))
+pub on_prepared-requires-clause-alone : goal.on_prepared-requires-clause-alone
+on_prepared-requires-clause-alone g c whole = transform_of_row g.F.Field g.F.TwoAdicField.generator _
 
-pub make-requires : goal.make-requires
-make-requires g c =
-    let both = log_fits_dft _ _ c.requires.fits c.log2_strict_usize-log_h.ensures.power (c.height-height.ensures.height ∙ ap height c.into_row_major_matrix-mat.ensures) in
-    record { within = both.0; small = both.1 }
-
-pub evaluate_natural-requires-clause-rows : goal.evaluate_natural-requires-clause-rows
-evaluate_natural-requires-clause-rows g c = rows_found _ _ _ c.height-height.ensures.whole c.height-height.ensures.height c.log2_strict_usize-log_h.ensures.power c.requires.fits (ap height c.into_row_major_matrix-mat.ensures)
-
-pub evaluate_natural-requires-clause-within : goal.evaluate_natural-requires-clause-within
-evaluate_natural-requires-clause-within g c = (log_fits_dft _ _ c.requires.fits c.log2_strict_usize-log_h.ensures.power (c.height-height.ensures.height ∙ ap height c.into_row_major_matrix-mat.ensures)).0
-
-pub evaluate_natural-requires-clause-some : goal.evaluate_natural-requires-clause-some
-evaluate_natural-requires-clause-some g c = some_log c.height-height.result c.log2_strict_usize-log_h.result c.log2_strict_usize-log_h.ensures.power c.if-height-eq1.false
-
-pub evaluate_natural-requires-clause-twiddles : goal.evaluate_natural-requires-clause-twiddles
-evaluate_natural-requires-clause-twiddles g c =
-    fewer_from_start g.F.Field (block_powers g.F.Field (forward_root g.F.Field g.F.TwoAdicField.generator)) c.log2_strict_usize-log_h.result c.make.new.self _ c.in_ok-make.ensures.made c.forward-twiddles.ensures.table
-
-pub returns-clause-values : goal.returns-clause-values
-returns-clause-values g c = rw (← c.into_row_major_matrix-mat.ensures) c.evaluate_natural.ensures.values
-
-pub returns-then-height-eq1-clause-made : goal.returns-then-height-eq1-clause-made
-returns-then-height-eq1-clause-made g c = at_log _ _ 0 (sym (ap height c.into_row_major_matrix-mat.ensures) ∙ sym c.height-height.ensures.height ∙ c.if-height-eq1.true) (omega arith)
-
-pub returns-then-height-eq1-clause-engine : goal.returns-then-height-eq1-clause-engine
-returns-then-height-eq1-clause-engine g c = after_none _ _ (λ _. at_log _ _ 0 (sym (ap height c.into_row_major_matrix-mat.ensures) ∙ sym c.height-height.ensures.height ∙ c.if-height-eq1.true) (omega arith))
-
-pub returns-in_err-make-clause-succeeds : goal.returns-in_err-make-clause-succeeds
-returns-in_err-make-clause-succeeds g c = at_found _ _ c.height-height.ensures.height c.into_row_major_matrix-mat.ensures c.log2_strict_usize-log_h.ensures.power (λ ready. absurd (not_ok c.make.result _ c.in_err-make.was (c.make.ensures.ready (omega (arith, ready, ap (λ (e : EngineState). e.prepared) c.self.view_is)))))
-
-pub returns-in_err-make-clause-engine : goal.returns-in_err-make-clause-engine
-returns-in_err-make-clause-engine g c = after_error _ _ _ _ c.from_residual.ensures.0 (later_with_heights _ _ _ c.args.self.now _ _ _ _ c.self.view_is c.make.ensures.keeps (le_refl c.self.inside.products)) (ap (λ e. e.products) c.self.view_is)
-    (room_of c.from_residual.result _ _ _ c.from_residual.ensures (omega (arith, table_fits _ c.requires.fits (sym (ap height c.into_row_major_matrix-mat.ensures) ∙ sym c.height-height.ensures.height ∙ c.log2_strict_usize-log_h.ensures.power))) c.in_err-make.ensures.room)
-
-pub returns-clause-made : goal.returns-clause-made
-returns-clause-made g c = at_found _ _ c.height-height.ensures.height c.into_row_major_matrix-mat.ensures c.log2_strict_usize-log_h.ensures.power (omega (arith, ap (λ (e : EngineState). e.prepared) c.self.view_is, c.in_ok-make.ensures.made, c.make.ensures.only, c.make.ensures.keeps))
-
-pub returns-clause-engine : goal.returns-clause-engine
-returns-clause-engine g c = record {
-  later = later_with_heights _ _ _ c.args.self.now _ _ _ _ c.self.view_is c.make.ensures.keeps c.evaluate_natural.ensures.grows;
-  ready = λ _. at_found _ _ c.height-height.ensures.height c.into_row_major_matrix-mat.ensures c.log2_strict_usize-log_h.ensures.power c.in_ok-make.ensures.made;
-  cost = at_found _ _ c.height-height.ensures.height c.into_row_major_matrix-mat.ensures c.log2_strict_usize-log_h.ensures.power (larger_bound _ _ _ _ (rw (← ap (λ (e : EngineState). e.products) c.self.view_is, ← c.into_row_major_matrix-mat.ensures) c.evaluate_natural.ensures.cost) (le-add_right _ _));
-  refused = tt;
-}
+pub returns : goal.returns
+returns g c = rw (← c.self.view_is) (record {
+  values = c.on_prepared.ensures.answer;
+  succeeds = c.on_prepared.ensures.succeeds;
+  made = c.on_prepared.ensures.made;
+  one_row = λ one. let (same, kept) = c.on_prepared.ensures.one_row one in (same, ap₂ up_to kept.0 kept.1);
+  refused = on_err_weaker c.on_prepared.result (λ same. ap₂ up_to same.0 same.1) c.on_prepared.ensures.refused;
+  engine = after_prepared _ _ _ _ _ c.on_prepared.result c.on_prepared.ensures.keeps c.on_prepared.ensures.grows c.on_prepared.ensures.made c.on_prepared.ensures.cost c.on_prepared.ensures.room;
+})

@@ -1,11 +1,14 @@
 use Rattle.std.proofs.Common.{◌≡◌, ◌^◌, refl, ap, ◌∙◌, ℕ, ap₂, sym, length, ◌*◌}
 use Rattle.p3_field.specs.Ring.{count}
 use Rattle.p3_field.proofs.Powers.{count-power_of_two}
+use Rattle.p3_networks.specs.Twiddles.{backward_root, block_powers}
+use Rattle.p3_networks.proofs.Tables.FromStart.{fewer_from_start}
 use Rattle.p3_dft.proofs.BitReversed.OneReversal.{interpolation_of_reversed}
-use Rattle.p3_dft.proofs.radix_2_small_batch.interpolate_natural.Goals as goal
+use Rattle.p3_dft.proofs.Calls.Counts.{one_for_each}
+use Rattle.p3_dft.proofs.radix_2_small_batch.InterpolationMatrixWorkRootTables.on_matrix.Goals as goal
 
-pub returns-clause-coefficients : goal.returns-clause-coefficients
-returns-clause-coefficients g c =
+pub returns-clause-takes : goal.returns-clause-takes
+returns-clause-takes g c =
     let field = g.F.Field in
     let k = c.args.log_h in
     let inverse = field.value c.div_2exp_u64-inverse.result in
@@ -19,4 +22,8 @@ pub scaled_dif_network-requires-clause-size : goal.scaled_dif_network-requires-c
 scaled_dif_network-requires-clause-size g c = ap length c.values_mut.ensures.values ∙ c.reverse_rows.ensures.size ∙ sym c.requires.rows.whole.full ∙ ap₂ (λ (h w : ℕ). h * w) c.requires.rows.high (sym c.width-width.ensures.width)
 
 pub scaled_dif_network-requires-clause-twiddles : goal.scaled_dif_network-requires-clause-twiddles
-scaled_dif_network-requires-clause-twiddles g c = c.requires.twiddles
+scaled_dif_network-requires-clause-twiddles g c =
+    fewer_from_start g.F.Field (block_powers g.F.Field (backward_root g.F.Field g.F.TwoAdicField.generator)) c.args.log_h _ _ c.requires.there c.backward-twiddles.ensures.table
+
+pub returns-clause-cost : goal.returns-clause-cost
+returns-clause-cost g c = rw (← c.width-width.ensures.width) (one_for_each _ _ _ _ c.scaled_dif_network.ensures.cost)
