@@ -58,6 +58,7 @@ module _ {F : Type 0} (f : FieldMembers F) (generator : ℕ → F) where
     pub answered : RowMajor F
     pub answered_whole : IsRowMajor answered
     pub called : may_answer told answered
+    pub kept : HasShapeOf answered m
     pub over_zeros : out ≡ with_zeros f.ZERO answered a
 
 -- how many products an extension of 2 ^ k rows of w entries by a bits takes, where bound says it of a transform: an inverse transform and one on the larger coset

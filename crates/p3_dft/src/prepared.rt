@@ -9,6 +9,7 @@ ghost use Rattle.p3_dft.specs.Stored.{HasTwoPowerRows};
 
 use p3_field::{Products, TwoAdicField};
 use p3_matrix::{DftError, IntoRowMajorMatrix, RowMajorMatrix, log2_strict_usize};
+use p3_networks::radix_2_dit_parallel::tables::Tables;
 use p3_networks::root_tables::RootTables;
 use p3_networks::twiddles::Twiddles;
 use std::alloc::Global;
@@ -30,6 +31,14 @@ pub(crate) trait KeptTables<F: TwoAdicField>: Drop {
 }
 
 impl<F: TwoAdicField> KeptTables<F> for Twiddles<F> {
+    ghost log = { λ tables. tables };
+
+    fn make_for(&mut self, alloc: Global, log_h: usize) -> Result<(), DftError> {
+        self.make(alloc, log_h)
+    }
+}
+
+impl<F: TwoAdicField> KeptTables<F> for Tables<F> {
     ghost log = { λ tables. tables };
 
     fn make_for(&mut self, alloc: Global, log_h: usize) -> Result<(), DftError> {

@@ -9,15 +9,16 @@ mod network;
 mod transform;
 
 use crate::blocks::{BlocksStopped, Unpublished};
+use crate::prepared::on_prepared;
 use crate::radix_2_dit_parallel::extension::{Unread, coefficients_with_room, extend_reversed};
 use crate::radix_2_dit_parallel::transform::{
-    evaluate_on_coset_to_reversed, evaluate_to_reversed, interpolate_to_reversed,
+    Evaluation, Interpolation, evaluate_on_coset_to_reversed,
 };
 use crate::traits::{Layout, TwoAdicSubgroupDft};
 use p3_field::{Field, Products, TwoAdicField};
 use p3_matrix::{
     BitReversedMatrixView, BlockConsumer, DftError, IntoRowMajorMatrix, RowMajorMatrix,
-    log2_strict_usize, reverse_rows,
+    log2_strict_usize,
 };
 use p3_networks::radix_2_dit_parallel::coset_tables::CosetTables;
 use p3_networks::radix_2_dit_parallel::tables::Tables;
@@ -124,7 +125,7 @@ impl<F: TwoAdicField> TwoAdicSubgroupDft<F> for Radix2DitParallel<F> {
     ghost use Rattle.std.proofs.Common.{arith, refl};
     ghost use Rattle.p3_matrix.specs.BitOrder.{bit_reversal, reversed_rows};
     ghost use Rattle.p3_matrix.specs.RowMajor.{height};
-    ghost use Rattle.p3_dft.specs.Engines.{AtLog, HasProductsMore, IsLater, IsCosetPrepared, IsPrepared};
+    ghost use Rattle.p3_dft.specs.Engines.{AfterDft, AtLog, HasProductsMore, IsLater, IsCosetPrepared, IsPrepared};
     ghost use Rattle.p3_dft.specs.Engines.{PreparesNoneAbove, plain_facts};
     ghost use Rattle.p3_networks.specs.Twiddles.{HasCoset, HasCosets, mid_of};
     ghost use Rattle.p3_dft.specs.Extensions.{AreTransformedValues, IsCallable, IsTransformedExtension, KeepsShape};
@@ -174,19 +175,10 @@ impl<F: TwoAdicField> TwoAdicSubgroupDft<F> for Radix2DitParallel<F> {
         ensures one_row { height (N.stored mat) ≡ 1
             → (result ≡ Ok (record { physical = N.stored mat; bits = 0 })) × (self.new ≡ self.old) }
         ensures cosets { self.new.cosets ≡ self.old.cosets }
-        ensures later { IsLater ⟦<Radix2DitParallel<F> as TwoAdicSubgroupDft<F>>⟧.facts self.old self.new }
-        ensures cost { AtLog (height (N.stored mat))
-            (λ k. self.new.roots.products ≤ self.old.roots.products + (N.stored mat).width * (k * 2 ^ k / 2)) }
-        ensures room { IfErr result (IsWithin (length self.new.cosets + height (N.stored mat) * (N.stored mat).width)) }
+        ensures engine { AfterDft ⟦<Radix2DitParallel<F> as TwoAdicSubgroupDft<F>>⟧.facts self.old self.new result
+            (N.stored mat) 0 }
     {
-        let mut mat = mat.into_row_major_matrix();
-        let height = mat.height();
-        if height == 1 {
-            return Ok(mat.bit_reverse_rows());
-        }
-        let log_h = log2_strict_usize(height);
-        self.tables.make(*mat.allocator(), log_h)?;
-        evaluate_to_reversed(&self.tables, &mut mat, log_h, &mut self.products);
+        let mat = on_prepared(&mut self.tables, mat, Evaluation, &mut self.products)?;
         Ok(mat.bit_reverse_rows())
     }
 
@@ -232,12 +224,10 @@ impl<F: TwoAdicField> TwoAdicSubgroupDft<F> for Radix2DitParallel<F> {
         ensures refused { OnErr result (self.new ≡ self.old) }
         ensures one_row { height (N.stored mat) ≡ 1
             → (result ≡ Ok (record { physical = N.stored mat; bits = 0 })) × (self.new ≡ self.old) }
-        ensures later { IsLater ⟦<Radix2DitParallel<F> as TwoAdicSubgroupDft<F>>⟧.facts self.old self.new }
-        ensures cost { AtLog (height (N.stored mat)) (λ k. self.new.roots.products
-            ≤ self.old.roots.products + (N.stored mat).width * (k * 2 ^ k / 2) + 2 ^ k * (N.stored mat).width) }
+        ensures engine { AfterDft ⟦<Radix2DitParallel<F> as TwoAdicSubgroupDft<F>>⟧.facts self.old self.new result
+            (N.stored mat) 1 }
         ensures pairs { AtLog (height (N.stored mat)) (λ k. self.new.roots.products
             ≤ self.old.roots.products + (N.stored mat).width * (k * 2 ^ k / 2)) }
-        ensures room { IfErr result (IsWithin (length self.new.cosets + height (N.stored mat) * (N.stored mat).width)) }
     {
         if shift == F::ONE {
             return self.dft_batch(mat);
@@ -270,21 +260,10 @@ impl<F: TwoAdicField> TwoAdicSubgroupDft<F> for Radix2DitParallel<F> {
         ensures refused { OnErr result (self.new ≡ self.old) }
         ensures one_row { height (N.stored mat) ≡ 1 → (result ≡ Ok (N.stored mat)) × (self.new ≡ self.old) }
         ensures cosets { self.new.cosets ≡ self.old.cosets }
-        ensures later { IsLater ⟦<Radix2DitParallel<F> as TwoAdicSubgroupDft<F>>⟧.facts self.old self.new }
-        ensures cost { AtLog (height (N.stored mat)) (λ k. self.new.roots.products
-            ≤ self.old.roots.products + (N.stored mat).width * (k * 2 ^ k / 2) + 2 ^ k * (N.stored mat).width) }
-        ensures room { IfErr result (IsWithin (length self.new.cosets + height (N.stored mat) * (N.stored mat).width)) }
+        ensures engine { AfterDft ⟦<Radix2DitParallel<F> as TwoAdicSubgroupDft<F>>⟧.facts self.old self.new result
+            (N.stored mat) 1 }
     {
-        let mut mat = mat.into_row_major_matrix();
-        let height = mat.height();
-        if height == 1 {
-            return Ok(mat);
-        }
-        let log_h = log2_strict_usize(height);
-        self.tables.make(*mat.allocator(), log_h)?;
-        interpolate_to_reversed(&self.tables, &mut mat, log_h, &mut self.products);
-        reverse_rows(&mut mat);
-        Ok(mat)
+        on_prepared(&mut self.tables, mat, Interpolation, &mut self.products)
     }
 
     /// As the trait says, coset by coset: the coefficients stay in bit reversed order, which the transform is

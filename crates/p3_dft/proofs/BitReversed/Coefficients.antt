@@ -13,6 +13,7 @@ use Rattle.p3_matrix.proofs.TwoPowers.{log_same, entries_rise}
 use Rattle.p3_matrix.specs.Cosets.{AreCoefficients, IsQuotient, IsValues, coset_shift, point, values_of}
 use Rattle.p3_dft.specs.Extensions.{AreTransformedValues, IsExtension, extension_bound}
 use Rattle.p3_matrix.specs.Polynomials.{poly}
+use Rattle.p3_dft.specs.Shapes.{FitsDft}
 use Rattle.p3_dft.specs.Transforms.{IsExtendedTransform, IsInterpolation}
 use Rattle.p3_networks.specs.Layers.{AreValuesOfRows}
 use Rattle.p3_dft.specs.declared.traits.Layout.{Layout}
@@ -86,6 +87,11 @@ module _ {F : Type 0} (f : FieldMembers F) (generator : ℕ → F) where
       coefficients : (k : ℕ) → height m ≡ 2 ^ k → AreCoefficients f.ring (λ n. f.value (generator n)) (values_of f m) k f.ring.one (values_of f c)
       coefficients k e =
           subst (λ (n : ℕ). AreCoefficients f.ring (λ i. f.value (generator i)) (values_of f m) n f.ring.one (values_of f c)) (log_same log k (sym high ∙ e)) are
+
+  -- a single row has its own coefficients
+  pub interpolation_of_row : {bits : ℕ} → AreRoots f.ring bits (λ n. f.value (generator n)) → (m : RowMajor F) → FitsDft bits (height m) m.width → height m ≡ 1 → IsInterpolation f generator m f.ring.one m
+  interpolation_of_row roots m fits one =
+      interpolation_of_coefficients roots m m fits.log fits.within fits.high (record { high = refl; wide = refl; values = transform_of_row f generator m one fits.log fits.high })
 
   -- the extension by what has the coefficients' values on the larger coset
   pub extension_of_coefficients : (m out : RowMajor F) (c : Matrix f.Element) (a log : ℕ) (s : f.Element) → height m ≡ 2 ^ log

@@ -45,6 +45,7 @@ pub(crate) fn coefficients_with_room<
     requires shape { KeepsShape mat (λ m n. T.post transform m BitReversed n) }
     ensures answer { IfOk result (λ out.
         IsAnswerOverZeros F.Field.own F.generator (λ m n. T.post transform m BitReversed n) mat added_bits out) }
+    ensures rows { IfOk result (λ out. AtLog (height mat) (λ k. HasTwoPowerRows out (k + added_bits))) }
     ensures prepared { AtLog (height mat) (λ k. OnOk result (k ≤ tables.new)) }
     ensures keeps { tables.old ≤ tables.new }
     ensures cosets { AtLog (height mat)

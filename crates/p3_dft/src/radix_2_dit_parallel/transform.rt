@@ -2,16 +2,18 @@
 
 ghost use Rattle.std.specs.Prelude.{◌≡◌, ℕ, ◌+◌, ◌*◌, ◌/◌, ◌^◌, ◌<◌, ◌≤◌, length};
 ghost use Rattle.p3_field.specs.Ring.{power};
-ghost use Rattle.p3_matrix.specs.BitOrder.{rev, bit_reversal};
-ghost use Rattle.p3_matrix.specs.RowMajor.{height};
+ghost use Rattle.p3_matrix.specs.BitOrder.{rev, bit_reversal, reversed_rows};
+ghost use Rattle.p3_matrix.specs.RowMajor.{HasShapeOf, height};
 ghost use Rattle.p3_matrix.specs.Cosets.{AreCoefficients, IsValues, values_of};
 ghost use Rattle.p3_matrix.specs.Polynomials.{poly};
 ghost use Rattle.p3_networks.specs.Twiddles.{factor, root_of, scale_cost};
+ghost use Rattle.p3_dft.specs.Transforms.{IsInterpolation, IsTransform};
 ghost use Rattle.p3_dft.specs.Stored.{HasEntriesOf, HasTwoPowerRows};
 
+use crate::prepared::MatrixWork;
 use crate::radix_2_dit_parallel::network::network_to_reversed;
 use p3_field::{Field, Products, TwoAdicField};
-use p3_matrix::RowMajorMatrix;
+use p3_matrix::{RowMajorMatrix, reverse_rows};
 use p3_networks::radix_2_dit_parallel::coset_tables::CosetTable;
 use p3_networks::radix_2_dit_parallel::halves::BlockTwiddles;
 use p3_networks::radix_2_dit_parallel::tables::Tables;
@@ -53,22 +55,46 @@ pub(crate) fn transform_to_reversed<F: TwoAdicField>(
     );
 }
 
-// From coefficients in natural order, their values on the subgroup, in bit reversed order.
-pub(crate) fn evaluate_to_reversed<F: TwoAdicField>(
-    tables: &Tables<F>,
-    mat: &mut RowMajorMatrix<F>,
-    log_h: usize,
-    products: &mut Products,
-)
-    requires rows { HasTwoPowerRows mat.old log_h }
-    requires there { log_h ≤ tables.now }
-    ensures same { HasEntriesOf mat.new mat.old }
-    ensures values { IsValues F.ring (λ n. F.value (F.generator n)) (values_of F.Field.own mat.old) log_h F.ring.one
-        (bit_reversal log_h (values_of F.Field.own mat.new)) }
-    ensures grows { products.old ≤ products.new }
-    ensures cost { products.new ≤ products.old + mat.old.width * (log_h * 2 ^ log_h / 2) }
-{
-    transform_to_reversed(tables, false, None, mat, log_h, products);
+// From coefficients to values on the subgroup, whose rows are left in bit reversed order.
+#[derive(Drop)]
+pub(crate) struct Evaluation;
+
+impl<F: TwoAdicField> MatrixWork<F, Tables<F>> for Evaluation {
+    ghost takes = { λ work mat out. HasShapeOf out mat × ((bits : ℕ) → height out ≡ 2 ^ bits
+        → IsTransform F.Field.own F.generator mat F.ring.one (reversed_rows bits out)) };
+
+    ghost more = { λ work. 0 };
+
+    fn on_matrix(
+        &self,
+        tables: &Tables<F>,
+        mat: &mut RowMajorMatrix<F>,
+        log_h: usize,
+        products: &mut Products,
+    ) {
+        transform_to_reversed(tables, false, None, mat, log_h, products);
+    }
+}
+
+// From values on the subgroup to coefficients.
+#[derive(Drop)]
+pub(crate) struct Interpolation;
+
+impl<F: TwoAdicField> MatrixWork<F, Tables<F>> for Interpolation {
+    ghost takes = { λ work mat out. IsInterpolation F.Field.own F.generator mat F.ring.one out };
+
+    ghost more = { λ work. 1 };
+
+    fn on_matrix(
+        &self,
+        tables: &Tables<F>,
+        mat: &mut RowMajorMatrix<F>,
+        log_h: usize,
+        products: &mut Products,
+    ) {
+        interpolate_to_reversed(tables, mat, log_h, products);
+        reverse_rows(mat);
+    }
 }
 
 // From values on the subgroup in natural order, the coefficients, in bit reversed order.

@@ -1,12 +1,11 @@
-use Rattle.std.proofs.Common.{refl, ap₂}
-use Rattle.p3_dft.proofs.BitReversed.Coefficients.{interpolation_of_coefficients}
-use Rattle.p3_dft.proofs.BitReversed.Rows.{transform_of_row}
+use Rattle.std.proofs.Common.{ap₂}
+use Rattle.p3_dft.proofs.BitReversed.Coefficients.{interpolation_of_row}
 use Rattle.p3_dft.proofs.Calls.PreparedHeights.{after_prepared, up_to}
 use Rattle.std.proofs.lemmas.Result.{on_err_weaker}
 use Rattle.p3_dft.proofs.radix_2_small_batch.Radix2DFTSmallBatchTwoAdicSubgroupDft.idft_batch.Goals as goal
 
 pub on_prepared-requires-clause-alone : goal.on_prepared-requires-clause-alone
-on_prepared-requires-clause-alone g c whole one = interpolation_of_coefficients g.F.Field g.F.TwoAdicField.generator g.met.F.TwoAdicField.roots_law _ _ c.requires.fits.log c.requires.fits.within c.requires.fits.high (record { high = refl; wide = refl; values = transform_of_row g.F.Field g.F.TwoAdicField.generator _ one c.requires.fits.log c.requires.fits.high })
+on_prepared-requires-clause-alone g c whole = interpolation_of_row g.F.Field g.F.TwoAdicField.generator g.met.F.TwoAdicField.roots_law _ c.requires.fits
 
 pub returns : goal.returns
 returns g c = rw (← c.self.view_is) (record {

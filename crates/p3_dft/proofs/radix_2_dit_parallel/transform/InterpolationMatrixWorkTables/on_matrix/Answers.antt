@@ -1,0 +1,25 @@
+use Rattle.std.proofs.Common.{◌∙◌, arith}
+use Rattle.p3_matrix.specs.BitOrder.{bit_reversal}
+use Rattle.p3_matrix.specs.Matrix.{matrix}
+use Rattle.p3_matrix.specs.Cosets.{values_of}
+use Rattle.p3_matrix.proofs.Matrices.{same_sym, mapped_same}
+use Rattle.p3_matrix.proofs.Polynomials.Interpolation.{same_coefficients}
+use Rattle.p3_dft.proofs.BitReversed.Coefficients.{interpolation_of_coefficients}
+use Rattle.p3_dft.proofs.Calls.Counts.{one_for_each}
+use Rattle.p3_dft.proofs.radix_2_dit_parallel.transform.InterpolationMatrixWorkTables.on_matrix.Goals as goal
+
+pub returns-clause-takes : goal.returns-clause-takes
+returns-clause-takes g c =
+    let field = g.F.Field in
+    let log = c.args.log_h in
+    let m = c.args.mat.now in
+    let reversed = bit_reversal log (values_of field c.interpolate_to_reversed.new.mat) in
+    let out = c.reverse_rows.new.mat in
+    let are = c.interpolate_to_reversed.ensures.coefficients in
+    interpolation_of_coefficients field g.F.TwoAdicField.generator g.met.F.TwoAdicField.roots_law m out log c.requires.within c.requires.rows.high
+    (same_coefficients field.ring g.met.F.TwoAdicField.roots_law (values_of field m) log field.ring.one reversed (values_of field out)
+    (same_sym (values_of field out) reversed
+    (mapped_same field.value (matrix field.ZERO out) (bit_reversal log (matrix field.ZERO c.interpolate_to_reversed.new.mat)) (c.reverse_rows.ensures.rows log (are.high ∙ c.requires.rows.high) field.ZERO))) are)
+
+pub returns-clause-cost : goal.returns-clause-cost
+returns-clause-cost g c = one_for_each _ _ _ _ c.interpolate_to_reversed.ensures.cost
