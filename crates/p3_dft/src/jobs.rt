@@ -3,7 +3,7 @@
 ghost use Rattle.std.specs.Prelude.{◌≡◌, ℕ, ◌+◌, ◌≤◌, ◌⊎◌, [], length, get_or, take, IfOk, IfErr, IsOk, OnOk, OnErr};
 ghost use Rattle.std.specs.List.{All, AllZip};
 ghost use Rattle.p3_dft.specs.Engines.{IsLater};
-ghost use Rattle.p3_dft.specs.Jobs.{AreFirstAnswers, CanRun, HasMade, IsAnswer, IsCost, IsPromised, IsReadyFor};
+ghost use Rattle.p3_dft.specs.Jobs.{AreFirstAnswers, CanRun, HasMade, IsAnswer, IsReadyFor, IsRun};
 ghost use Rattle.p3_dft.specs.Jobs.{NextIsNotPromised, answer_entries};
 ghost use Rattle.p3_matrix.specs.Room.{IsWithin};
 
@@ -140,13 +140,7 @@ fn run_job<F: TwoAdicField, D: TwoAdicSubgroupDft<F>>(
     job: Job<F>,
 ) -> Result<RowMajorMatrix<F>, DftError>
     requires runnable { CanRun F.Field.own F.TWO_ADICITY job }
-    ensures answer { IfOk result (IsAnswer F.Field.own F.generator job) }
-    ensures succeeds { IsPromised D.facts engine.old job → IsOk result }
-    ensures serves { OnOk result (IsReadyFor D.facts engine.new job) }
-    ensures cost { (n : ℕ) → IsCost D.facts job n
-        → D.facts.products_made engine.new ≤ D.facts.products_made engine.old + n }
-    ensures later { IsLater D.facts engine.old engine.new }
-    ensures room { IfErr result (IsWithin (D.facts.more_room engine.new + answer_entries job)) }
+    ensures { IsRun D.facts F.Field.own F.generator job (λ out. out) engine.old engine.new result }
 {
     let values = match job {
         Job::Idft(mat) => return engine.idft_batch(mat),
