@@ -11,7 +11,6 @@ pub mod PreparedCosets
 pub mod AtLogs
 pub mod PreparedHeights
 pub mod PublishedExtensions
-pub mod SameInputs
 pub mod Shapes
 pub mod Stored
 pub mod Transforms

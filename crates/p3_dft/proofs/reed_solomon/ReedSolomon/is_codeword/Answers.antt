@@ -1,7 +1,6 @@
 use Rattle.std.proofs.Common.{sym, ap, arith, refl}
 use Rattle.p3_matrix.proofs.Rooms.{room_of}
-use Rattle.p3_dft.proofs.Calls.EngineSteps.{after_error, after_refusal, as_stored, later_same}
-use Rattle.p3_dft.proofs.Calls.SameInputs.{dft_of_same}
+use Rattle.p3_dft.proofs.Calls.EngineSteps.{after_error, after_refusal, as_stored, dft_of_same, later_same}
 use Rattle.p3_dft.proofs.Laws.Codes.{degree_told}
 use Rattle.p3_dft.specs.Codes.{Encoder}
 use Rattle.p3_dft.proofs.reed_solomon.ReedSolomon.is_codeword.Goals as goal

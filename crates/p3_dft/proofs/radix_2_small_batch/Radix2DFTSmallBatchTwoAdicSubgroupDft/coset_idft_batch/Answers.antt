@@ -1,4 +1,0 @@
-use Rattle.p3_dft.proofs.radix_2_small_batch.Radix2DFTSmallBatchTwoAdicSubgroupDft.coset_idft_batch.Goals as goal
-
-pub returns : goal.returns
-returns g c = c.coset_idft_batch.ensures
