@@ -8,18 +8,23 @@ use Rattle.p3_dft.proofs.Calls.Shapes.{log_fits_dft, table_fits}
 use Rattle.p3_dft.proofs.Calls.Stored.{rows_found}
 use Rattle.p3_dft.proofs.prepared.on_prepared.Goals as goal
 
-pub make_for-requires : goal.make_for-requires
-make_for-requires g c =
-    let both = log_fits_dft _ _ c.requires.fits c.log2_strict_usize-log_h.ensures.power (c.height-height.ensures.height ∙ ap height c.into_row_major_matrix-mat.ensures) in
-    record { within = both.0; small = both.1 }
+pub make_for-requires-clause-within : goal.make_for-requires-clause-within
+make_for-requires-clause-within g c = (log_fits_dft _ _ c.requires.fits c.log2_strict_usize-log_h.ensures.power (c.height-height.ensures.height ∙ ap height c.into_row_major_matrix-mat.ensures)).0
 
-pub on_matrix-requires : goal.on_matrix-requires
-on_matrix-requires g c = record {
-  rows = rows_found _ _ _ c.height-height.ensures.whole c.height-height.ensures.height c.log2_strict_usize-log_h.ensures.power c.requires.fits (ap height c.into_row_major_matrix-mat.ensures);
-  some = some_log c.height-height.result c.log2_strict_usize-log_h.result c.log2_strict_usize-log_h.ensures.power c.if-height-eq1.false;
-  within = (log_fits_dft _ _ c.requires.fits c.log2_strict_usize-log_h.ensures.power (c.height-height.ensures.height ∙ ap height c.into_row_major_matrix-mat.ensures)).0;
-  there = omega (arith, c.in_ok-make_for.ensures.made);
-}
+pub make_for-requires-clause-small : goal.make_for-requires-clause-small
+make_for-requires-clause-small g c = (log_fits_dft _ _ c.requires.fits c.log2_strict_usize-log_h.ensures.power (c.height-height.ensures.height ∙ ap height c.into_row_major_matrix-mat.ensures)).1
+
+pub on_matrix-requires-clause-rows : goal.on_matrix-requires-clause-rows
+on_matrix-requires-clause-rows g c = rows_found _ _ _ c.height-height.ensures.whole c.height-height.ensures.height c.log2_strict_usize-log_h.ensures.power c.requires.fits (ap height c.into_row_major_matrix-mat.ensures)
+
+pub on_matrix-requires-clause-some : goal.on_matrix-requires-clause-some
+on_matrix-requires-clause-some g c = some_log c.height-height.result c.log2_strict_usize-log_h.result c.log2_strict_usize-log_h.ensures.power c.if-height-eq1.false
+
+pub on_matrix-requires-clause-within : goal.on_matrix-requires-clause-within
+on_matrix-requires-clause-within g c = (log_fits_dft _ _ c.requires.fits c.log2_strict_usize-log_h.ensures.power (c.height-height.ensures.height ∙ ap height c.into_row_major_matrix-mat.ensures)).0
+
+pub on_matrix-requires-clause-there : goal.on_matrix-requires-clause-there
+on_matrix-requires-clause-there g c = omega (arith, c.in_ok-make_for.ensures.made)
 
 pub returns-then-height-eq1-clause-answer : goal.returns-then-height-eq1-clause-answer
 returns-then-height-eq1-clause-answer g c = rw c.into_row_major_matrix-mat.ensures (c.requires.alone (rw c.into_row_major_matrix-mat.ensures at c.height-height.ensures.whole) (sym (ap height c.into_row_major_matrix-mat.ensures) ∙ sym c.height-height.ensures.height ∙ c.if-height-eq1.true))

@@ -1,11 +1,11 @@
-use Rattle.std.proofs.Common.{◌≡◌, ◌⊎◌, inl, inr, Bool, false, ℕ, ◌^◌, IsTrue, refl, sym, ap, ◌∙◌, subst, arith, rules, IfOk, ◌+◌, ◌*◌, ◌/◌, ◌≤◌, max}
-use Rattle.std.proofs.Math.Nat.{le_refl}
+use Rattle.std.proofs.Common.{◌≡◌, ◌⊎◌, inl, inr, Bool, false, ℕ, ◌^◌, IsTrue, List, refl, sym, ap, ◌∙◌, subst, arith, rules, IfOk, ◌+◌, ◌*◌, ◌/◌, ◌≤◌, max}
+use Rattle.std.proofs.Math.Nat.{le-add_right, le_refl}
 use Rattle.std.proofs.lemmas.Result.{IfOk-from_err, on_ok_weaker}
 use Rattle.p3_matrix.specs.RowMajor.{height}
 use Rattle.p3_matrix.specs.BitOrder.{bit_reversal, reversed_rows}
 use Rattle.p3_matrix.specs.Cosets.{IsValues, values_of}
 use Rattle.p3_matrix.proofs.Rooms.{room_of}
-use Rattle.p3_networks.specs.Twiddles.{Coset}
+use Rattle.p3_networks.specs.Twiddles.{Coset, HasCoset}
 use Rattle.p3_dft.specs.Engines.{CosetEngineState, IsCosetPrepared}
 use Rattle.p3_dft.specs.Transforms.{IsTransform}
 use Rattle.p3_dft.proofs.BitReversed.OneRow.{row_handed_back, row_seen}
@@ -72,10 +72,11 @@ returns-then-height-eq1-clause-one_row g c same = (row_handed_back c.bit_reverse
 pub returns-then-height-eq1-clause-engine : goal.returns-then-height-eq1-clause-engine
 returns-then-height-eq1-clause-engine g c = after_none _ _ (λ done k high. tt)
 
-pub make-requires : goal.make-requires
-make-requires g c =
-    let both = log_fits_dft _ _ c.requires.fits c.log2_strict_usize-log_h.ensures.power (c.height-height.ensures.height ∙ ap height c.into_row_major_matrix-mat.ensures) in
-    record { within = both.0; small = both.1 }
+pub make-requires-clause-within : goal.make-requires-clause-within
+make-requires-clause-within g c = (log_fits_dft _ _ c.requires.fits c.log2_strict_usize-log_h.ensures.power (c.height-height.ensures.height ∙ ap height c.into_row_major_matrix-mat.ensures)).0
+
+pub make-requires-clause-small : goal.make-requires-clause-small
+make-requires-clause-small g c = (log_fits_dft _ _ c.requires.fits c.log2_strict_usize-log_h.ensures.power (c.height-height.ensures.height ∙ ap height c.into_row_major_matrix-mat.ensures)).1
 
 pub evaluate_on_coset_to_reversed-requires-clause-rows : goal.evaluate_on_coset_to_reversed-requires-clause-rows
 evaluate_on_coset_to_reversed-requires-clause-rows g c = rows_found _ _ _ c.height-height.ensures.whole c.height-height.ensures.height c.log2_strict_usize-log_h.ensures.power c.requires.fits (ap height c.into_row_major_matrix-mat.ensures)
@@ -87,65 +88,76 @@ evaluate_on_coset_to_reversed-requires-clause-table g c =
 
 pub returns-in_err-place : goal.returns-in_err-place
 returns-in_err-place g c =
-    let field = g.F.Field in
-    let s = field.value c.args.shift in
-    let high : height c.into_row_major_matrix-mat.result ≡ 2 ^ c.log2_strict_usize-log_h.result = sym c.height-height.ensures.height ∙ c.log2_strict_usize-log_h.ensures.power in
+    let field = g.F.Field in let s = field.value c.args.shift in let log = c.log2_strict_usize-log_h.result in
+    let stored = ap height c.into_row_major_matrix-mat.ensures in
+    let high : height c.into_row_major_matrix-mat.result ≡ 2 ^ log = sym c.height-height.ensures.height ∙ c.log2_strict_usize-log_h.ensures.power in
+    let tall : height (g.N.IntoRowMajorMatrix.stored c.args.mat) ≡ 2 ^ log = sym stored ∙ high in
+    let heights = ap (λ (e : CosetEngineState g.row.F.Denot). e.roots.prepared) c.self.view_is in
+    let products : c.self.inside.products ≡ c.args.self.now.roots.products = ap (λ (e : CosetEngineState g.row.F.Denot). e.roots.products) c.self.view_is in
+    let old_cosets = ap (λ (e : CosetEngineState g.row.F.Denot). e.cosets) c.self.view_is in
     let other = λ (is : s ≡ field.ring.one). not_both c.eq.result c.if-eq.false (search (rules, (g.met.F.Field.eq_law c.args.shift c.ONE.result).1 (is ∙ sym (ap field.value c.ONE.ensures ∙ g.met.F.Field.one_law)))) in
-    let refusal = λ (ready : IsCosetPrepared field (tabled c.self.inside.tables c.self.inside.products c.self.inside.cosets) c.log2_strict_usize-log_h.result s).
-    not_ok c.make.result _ c.in_err-place.was (c.make.ensures.ready (its_table other (λ none. c.if-height-eq1.false (c.log2_strict_usize-log_h.ensures.power ∙ ap (λ n. 2 ^ n) none)) ready)) in
+    let held = λ (ready : IsCosetPrepared field c.args.self.now log s). subst (λ (xs : List (Coset g.row.F.Denot)). HasCoset field xs log s) (sym old_cosets) (its_table other (λ none. c.if-height-eq1.false (c.log2_strict_usize-log_h.ensures.power ∙ ap (λ n. 2 ^ n) none)) ready) in
+    let several = λ (one : height (g.N.IntoRowMajorMatrix.stored c.args.mat) ≡ 1). c.if-height-eq1.false (c.height-height.ensures.height ∙ stored ∙ one) in
+    let refusal = λ (ready : IsCosetPrepared field c.args.self.now log s). not_ok c.make.result _ c.in_err-place.was (c.make.ensures.ready (held ready)) in
     let kept = c.in_err-place.ensures.refused in
     let err = c.from_residual.ensures.0 in
-    rw (← c.into_row_major_matrix-mat.ensures, ← c.self.view_is) (record {
+    record {
       values = IfOk-from_err _ _ err;
-      succeeds = at_log _ _ _ high (λ heights ready. absurd (refusal ready));
-      ready = at_log _ _ _ high (λ ready. absurd (refusal ready));
+      succeeds = at_log _ _ log tall (λ heights ready. absurd (refusal ready));
+      ready = at_log _ _ log tall (λ ready. absurd (refusal ready));
       tables = λ k e. IfOk-from_err _ _ err;
-      only = λ k e. omega arith;
-      roots = λ is_other. refl;
-      once = λ k e ready. kept;
-      one = λ is. kept;
-      cosets = λ k e. inl kept;
-      refused = on_any_error _ (ap (tabled c.self.inside.tables c.self.inside.products) kept);
-      one_row = λ one. absurd (c.if-height-eq1.false (c.height-height.ensures.height ∙ one));
+      only = λ k e. omega (arith, heights);
+      roots = λ is_other. heights;
+      once = λ k e ready. kept ∙ old_cosets;
+      one = λ is. kept ∙ old_cosets;
+      cosets = λ k e. inl (kept ∙ old_cosets);
+      refused = on_any_error _ (ap (tabled c.self.inside.tables c.self.inside.products) kept ∙ c.self.view_is);
+      one_row = λ one. absurd (several one);
       engine = record {
-        later = later_with_tables field _ _ _ _ _ _ _ _ _ _ refl (le_refl _) (coset_stays field _ _ _ c.make.ensures.only) (le_refl _);
+        later = later_with_tables field _ _ _ c.args.self.now _ _ _ _ _ _ c.self.view_is (le_refl _) (coset_stays field _ _ _ c.make.ensures.only) (le_refl _);
         ready = λ done k e. tt;
-        cost = λ k e. none_more _ _ _ refl;
-        refused = room_of c.from_residual.result _ _ _ c.from_residual.ensures (omega (arith, table_fits _ (rw (← c.into_row_major_matrix-mat.ensures) at c.requires.fits) high)) c.in_err-place.ensures.room;
+        cost = λ k e. none_more _ _ _ products;
+        refused = room_of c.from_residual.result _ _ _ c.from_residual.ensures (omega (arith, table_fits _ c.requires.fits tall)) c.in_err-place.ensures.room;
       };
-      pairs = λ k e. none_more _ _ _ refl;
-    })
+      pairs = λ k e. none_more _ _ _ products;
+    }
 
 pub returns : goal.returns
 returns g c =
-    let field = g.F.Field in
-    let s = field.value c.args.shift in
+    let field = g.F.Field in let s = field.value c.args.shift in let log = c.log2_strict_usize-log_h.result in
+    let stored = ap height c.into_row_major_matrix-mat.ensures in
+    let high : height c.into_row_major_matrix-mat.result ≡ 2 ^ log = sym c.height-height.ensures.height ∙ c.log2_strict_usize-log_h.ensures.power in
+    let tall : height (g.N.IntoRowMajorMatrix.stored c.args.mat) ≡ 2 ^ log = sym stored ∙ high in
+    let heights = ap (λ (e : CosetEngineState g.row.F.Denot). e.roots.prepared) c.self.view_is in
+    let products : c.self.inside.products ≡ c.args.self.now.roots.products = ap (λ (e : CosetEngineState g.row.F.Denot). e.roots.products) c.self.view_is in
+    let old_cosets = ap (λ (e : CosetEngineState g.row.F.Denot). e.cosets) c.self.view_is in
+    let other = λ (is : s ≡ field.ring.one). not_both c.eq.result c.if-eq.false (search (rules, (g.met.F.Field.eq_law c.args.shift c.ONE.result).1 (is ∙ sym (ap field.value c.ONE.ensures ∙ g.met.F.Field.one_law)))) in
+    let held = λ (ready : IsCosetPrepared field c.args.self.now log s). subst (λ (xs : List (Coset g.row.F.Denot)). HasCoset field xs log s) (sym old_cosets) (its_table other (λ none. c.if-height-eq1.false (c.log2_strict_usize-log_h.ensures.power ∙ ap (λ n. 2 ^ n) none)) ready) in
+    let several = λ (one : height (g.N.IntoRowMajorMatrix.stored c.args.mat) ≡ 1). c.if-height-eq1.false (c.height-height.ensures.height ∙ stored ∙ one) in
     let m = c.into_row_major_matrix-mat.result in
-    let log = c.log2_strict_usize-log_h.result in
     let out = c.evaluate_on_coset_to_reversed.new.mat in
     let same = c.evaluate_on_coset_to_reversed.ensures.same in
     let table = c.get-table.result.now in
-    let high : height m ≡ 2 ^ log = sym c.height-height.ensures.height ∙ c.log2_strict_usize-log_h.ensures.power in
     let shift_is : field.value table.shift ≡ s = ap (λ (t : Coset g.row.F.Denot). field.value t.shift) (c.get-table.ensures table) ∙ (c.in_ok-place.ensures.made.1 table).1 in
-    let other = λ (is : s ≡ field.ring.one). not_both c.eq.result c.if-eq.false (search (rules, (g.met.F.Field.eq_law c.args.shift c.ONE.result).1 (is ∙ sym (ap field.value c.ONE.ensures ∙ g.met.F.Field.one_law)))) in
-    rw (← c.into_row_major_matrix-mat.ensures, ← c.self.view_is, c.bit_reverse_rows-2.ensures.matrix) (record {
-      values = transform_seen field g.F.TwoAdicField.generator m out s log c.bit_reverse_rows-2.result.bits high c.height-height.ensures.whole same.shape same.size c.bit_reverse_rows-2.ensures.height
-          (subst (λ (x : field.Element). IsValues field.ring (λ n. field.value (g.F.TwoAdicField.generator n)) (values_of field m) log x (bit_reversal log (values_of field out))) shift_is c.evaluate_on_coset_to_reversed.ensures.values);
+    let made : c.evaluate_on_coset_to_reversed.new.products ≤ c.args.self.now.roots.products + (g.N.IntoRowMajorMatrix.stored c.args.mat).width * (log * 2 ^ log / 2) = rw (← products, ← c.into_row_major_matrix-mat.ensures) c.evaluate_on_coset_to_reversed.ensures.cost in
+    record {
+      values = rw (← c.into_row_major_matrix-mat.ensures, c.bit_reverse_rows-2.ensures.matrix) (transform_seen field g.F.TwoAdicField.generator m out s log c.bit_reverse_rows-2.result.bits high c.height-height.ensures.whole same.shape same.size c.bit_reverse_rows-2.ensures.height
+          (subst (λ (x : field.Element). IsValues field.ring (λ n. field.value (g.F.TwoAdicField.generator n)) (values_of field m) log x (bit_reversal log (values_of field out))) shift_is c.evaluate_on_coset_to_reversed.ensures.values));
       succeeds = λ k e heights ready. refl;
       ready = λ k e ready. refl;
-      tables = at_log _ _ log high (inr (inr (other, (c.in_ok-place.place, c.in_ok-place.ensures.made))));
-      only = λ k e. omega arith;
-      roots = λ is_other. refl;
-      once = at_log _ _ log high (λ ready. c.make.ensures.once (its_table other (λ none. c.if-height-eq1.false (c.log2_strict_usize-log_h.ensures.power ∙ ap (λ n. 2 ^ n) none)) ready));
+      tables = at_log _ _ log tall (inr (inr (other, (c.in_ok-place.place, c.in_ok-place.ensures.made))));
+      only = λ k e. omega (arith, heights);
+      roots = λ is_other. heights;
+      once = at_log _ _ log tall (λ ready. c.make.ensures.once (held ready) ∙ old_cosets);
       one = λ is. absurd (other is);
-      cosets = at_log _ _ log high c.make.ensures.only;
+      cosets = at_log _ _ log tall (rw (← old_cosets) c.make.ensures.only);
       refused = tt;
-      one_row = λ one. absurd (c.if-height-eq1.false (c.height-height.ensures.height ∙ one));
+      one_row = λ one. absurd (several one);
       engine = record {
-        later = later_with_tables field _ _ _ _ _ _ _ _ _ _ refl (le_refl _) (coset_stays field _ _ _ c.make.ensures.only) c.evaluate_on_coset_to_reversed.ensures.grows;
+        later = later_with_tables field _ _ _ c.args.self.now _ _ _ _ _ _ c.self.view_is (le_refl _) (coset_stays field _ _ _ c.make.ensures.only) c.evaluate_on_coset_to_reversed.ensures.grows;
         ready = λ done k e. tt;
-        cost = at_log _ _ log high (larger_bound _ _ _ _ c.evaluate_on_coset_to_reversed.ensures.cost (omega arith));
+        cost = at_log _ _ log tall (larger_bound _ _ _ _ made (le-add_right _ _));
         refused = tt;
       };
-      pairs = at_log _ _ log high c.evaluate_on_coset_to_reversed.ensures.cost;
-    })
+      pairs = at_log _ _ log tall made;
+    }

@@ -7,7 +7,11 @@ use Rattle.p3_dft.proofs.BitReversed.Coefficients.{values_of_answered}
 use Rattle.p3_dft.proofs.BitReversed.Rows.{values_seen}
 use Rattle.p3_dft.proofs.Calls.AtLogs.{at_log}
 use Rattle.p3_dft.proofs.Calls.PreparedCosets.{later_with_tables}
-use Rattle.p3_dft.proofs.Calls.Shapes.{both_logs_fit}
+use Rattle.p3_dft.proofs.Calls.Shapes.{both_logs_fit, same_extended}
+use Rattle.p3_dft.specs.Engines.{CosetEngineState}
+use Rattle.p3_dft.specs.Tables.{LeavesTables}
+use Rattle.p3_matrix.proofs.Rooms.{within_more}
+use Rattle.p3_networks.specs.Twiddles.{HasCoset}
 use Rattle.p3_dft.proofs.Calls.Stored.{whole_still}
 use Rattle.p3_dft.proofs.radix_2_dit_parallel.Radix2DitParallelTwoAdicSubgroupDft.coset_lde_batch_with_blocks.Goals as goal
 
@@ -17,25 +21,32 @@ slots_counted x y p w before middle after first second =
     let spread : w * x + y * w + p * (w * x) ≡ w * (x * (1 + p) + y) = omega arith in
     omega (arith, first, second, spread)
 
-pub block_height-block_height-requires : goal.block_height-block_height-requires
-block_height-block_height-requires g c =
-    let (_, _, within, small) = both_logs_fit _ _ c.requires.fits c.log2_strict_usize-log_h.ensures.power (c.height.ensures.height ∙ ap height c.into_row_major_matrix-mat.ensures) in
-    record { within = within; small = omega (arith, small) }
+pub block_height-block_height-requires-clause-within : goal.block_height-block_height-requires-clause-within
+block_height-block_height-requires-clause-within g c = (both_logs_fit _ _ c.requires.fits c.log2_strict_usize-log_h.ensures.power (c.height.ensures.height ∙ ap height c.into_row_major_matrix-mat.ensures)).2
 
-pub coefficients_with_room-room-requires : goal.coefficients_with_room-room-requires
-coefficients_with_room-room-requires g c = rw c.into_row_major_matrix-mat.ensures (record { fits = c.requires.fits; callable = c.requires.callable; shape = c.requires.shape })
+pub block_height-block_height-requires-clause-small : goal.block_height-block_height-requires-clause-small
+block_height-block_height-requires-clause-small g c = let small = (both_logs_fit _ _ c.requires.fits c.log2_strict_usize-log_h.ensures.power (c.height.ensures.height ∙ ap height c.into_row_major_matrix-mat.ensures)).3 in omega (arith, small)
+
+pub coefficients_with_room-room-requires-clause-fits : goal.coefficients_with_room-room-requires-clause-fits
+coefficients_with_room-room-requires-clause-fits g c = rw c.into_row_major_matrix-mat.ensures c.requires.fits
+
+pub coefficients_with_room-room-requires-clause-callable : goal.coefficients_with_room-room-requires-clause-callable
+coefficients_with_room-room-requires-clause-callable g c = rw c.into_row_major_matrix-mat.ensures c.requires.callable
+
+pub coefficients_with_room-room-requires-clause-shape : goal.coefficients_with_room-room-requires-clause-shape
+coefficients_with_room-room-requires-clause-shape g c = rw c.into_row_major_matrix-mat.ensures c.requires.shape
 
 pub make_consumer-consumer-requires : goal.make_consumer-consumer-requires
 make_consumer-consumer-requires g c = subst (λ b. g.M.FnOnce.pre c.args.make_consumer (b, tt)) (sym c.block_height-block_height.ensures) (c.requires.makes c.log2_strict_usize-log_h.result (sym (ap height c.into_row_major_matrix-mat.ensures) ∙ sym c.height.ensures.height ∙ c.log2_strict_usize-log_h.ensures.power))
 
-pub extend_reversed-extended-requires : goal.extend_reversed-extended-requires
-extend_reversed-extended-requires g c =
-    let high = sym c.height.ensures.height ∙ c.log2_strict_usize-log_h.ensures.power in
-    record {
-      rows = c.in-Ok.ensures.rows c.log2_strict_usize-log_h.result high;
-      within = (both_logs_fit _ _ c.requires.fits c.log2_strict_usize-log_h.ensures.power (c.height.ensures.height ∙ ap height c.into_row_major_matrix-mat.ensures)).2;
-      tables = c.in-Ok.ensures.cosets c.log2_strict_usize-log_h.result high;
-    }
+pub extend_reversed-extended-requires-clause-rows : goal.extend_reversed-extended-requires-clause-rows
+extend_reversed-extended-requires-clause-rows g c = c.in-Ok.ensures.rows c.log2_strict_usize-log_h.result (sym c.height.ensures.height ∙ c.log2_strict_usize-log_h.ensures.power)
+
+pub extend_reversed-extended-requires-clause-within : goal.extend_reversed-extended-requires-clause-within
+extend_reversed-extended-requires-clause-within g c = (both_logs_fit _ _ c.requires.fits c.log2_strict_usize-log_h.ensures.power (c.height.ensures.height ∙ ap height c.into_row_major_matrix-mat.ensures)).2
+
+pub extend_reversed-extended-requires-clause-tables : goal.extend_reversed-extended-requires-clause-tables
+extend_reversed-extended-requires-clause-tables g c = c.in-Ok.ensures.cosets c.log2_strict_usize-log_h.result (sym c.height.ensures.height ∙ c.log2_strict_usize-log_h.ensures.power)
 
 pub bit_reverse_rows-requires : goal.bit_reverse_rows-requires
 bit_reverse_rows-requires g c = (
@@ -44,81 +55,81 @@ bit_reverse_rows-requires g c = (
 )
 
 pub returns-in-Err : goal.returns-in-Err
-returns-in-Err g c = rw (← c.into_row_major_matrix-mat.ensures, ← c.self.view_is) (record {
-  values = tt;
-  published = tt;
-  refused = tt;
-  unpublished = refl;
-  prepared = λ k high. tt;
-  tables = λ k high. tt;
-  keeps_tables = c.coefficients_with_room-room.ensures.keeps_cosets;
-  leaves = c.coefficients_with_room-room.ensures.leaves;
-  later = later_with_tables g.F.Field _ _ _ _ _ _ _ _ _ _ refl c.coefficients_with_room-room.ensures.keeps c.coefficients_with_room-room.ensures.keeps_cosets c.coefficients_with_room-room.ensures.grows;
-  cost = λ k high. slots_counted _ _ _ _ _ _ _ (c.coefficients_with_room-room.ensures.cost k high) (omega arith);
-  room = c.in-Err.ensures.room;
-})
+returns-in-Err g c =
+    let stored = ap height c.into_row_major_matrix-mat.ensures in
+    let width = ap (λ (n : RowMajor g.row.F.Denot). n.width) c.into_row_major_matrix-mat.ensures in
+    let products : c.self.inside.products ≡ c.args.self.now.roots.products = ap (λ (e : CosetEngineState g.row.F.Denot). e.roots.products) c.self.view_is in
+    record {
+      values = tt;
+      published = tt;
+      refused = tt;
+      unpublished = refl;
+      prepared = λ k high. tt;
+      tables = λ k high. tt;
+      keeps_tables = λ k s has. c.coefficients_with_room-room.ensures.keeps_cosets k s (subst (λ (x : CosetEngineState g.row.F.Denot). HasCoset g.F.Field x.cosets k s) (sym c.self.view_is) has);
+      leaves = λ k e. subst (λ (x : CosetEngineState g.row.F.Denot). LeavesTables g.F.Field g.F.TwoAdicField.generator k c.args.added_bits (g.F.Field.value c.args.shift) x.roots.prepared c.coefficients_with_room-room.new.tables x.cosets c.coefficients_with_room-room.new.cosets) c.self.view_is (c.coefficients_with_room-room.ensures.leaves k (stored ∙ e));
+      later = later_with_tables g.F.Field _ _ _ c.args.self.now _ _ _ _ _ _ c.self.view_is c.coefficients_with_room-room.ensures.keeps c.coefficients_with_room-room.ensures.keeps_cosets c.coefficients_with_room-room.ensures.grows;
+      cost = λ k e. rw (← products, ← width) (slots_counted _ _ _ _ _ _ _ (c.coefficients_with_room-room.ensures.cost k (stored ∙ e)) (omega arith));
+      room = within_more _ _ (omega (arith, same_extended c.args.added_bits stored width)) _ c.in-Err.ensures.room;
+    }
 
 pub returns-in-Err-extended : goal.returns-in-Err-extended
 returns-in-Err-extended g c =
     let m = c.into_row_major_matrix-mat.result in
+    let stored = ap height c.into_row_major_matrix-mat.ensures in
+    let width = ap (λ (n : RowMajor g.row.F.Denot). n.width) c.into_row_major_matrix-mat.ensures in
+    let products : c.self.inside.products ≡ c.args.self.now.roots.products = ap (λ (e : CosetEngineState g.row.F.Denot). e.roots.products) c.self.view_is in
     let log = c.log2_strict_usize-log_h.result in
     let answer = c.in-Ok.ensures.answer in
     let high : height m ≡ 2 ^ log = sym c.height.ensures.height ∙ c.log2_strict_usize-log_h.ensures.power in
-    rw (← c.into_row_major_matrix-mat.ensures, ← c.self.view_is) (record {
+    let tall : height (g.N.IntoRowMajorMatrix.stored c.args.mat) ≡ 2 ^ log = sym stored ∙ high in
+    record {
       values = tt;
       published = tt;
-      refused = at_log _ _ log high (
+      refused = at_log _ _ log tall (
           let (values, accepted, refused, are_values, blocks, stopped) = c.in-Err-extended.ensures.refused answer.answered answer.answered_whole (answer.kept.0 ∙ high) answer.over_zeros in (
             values,
-            values_of_answered g.F.Field g.F.TwoAdicField.generator _ m answer.told answer.answered _ log _ values high (answer.are_coefficients log high) answer.told_whole answer.answered_whole answer.called answer.kept.0 are_values,
-            record {
-              first = c.make_consumer-consumer.result;
-              made = subst (λ b. g.M.FnOnce.post c.args.make_consumer (b, tt) c.make_consumer-consumer.result) c.block_height-block_height.ensures c.make_consumer-consumer.ensures;
-              accepted = accepted;
-              refused = refused;
-              blocks = blocks;
-              run = stopped;
-            },
+            rw (← c.into_row_major_matrix-mat.ensures) (values_of_answered g.F.Field g.F.TwoAdicField.generator _ m answer.told answer.answered _ log _ values high (answer.are_coefficients log high) answer.told_whole answer.answered_whole answer.called answer.kept.0 are_values),
+            record { first = c.make_consumer-consumer.result; made = subst (λ b. g.M.FnOnce.post c.args.make_consumer (b, tt) c.make_consumer-consumer.result) c.block_height-block_height.ensures c.make_consumer-consumer.ensures; accepted = accepted; refused = refused; blocks = blocks; run = stopped },
           ));
       unpublished = tt;
-      prepared = c.in-Ok.ensures.prepared;
-      tables = c.in-Ok.ensures.cosets;
-      keeps_tables = c.coefficients_with_room-room.ensures.keeps_cosets;
-      leaves = c.coefficients_with_room-room.ensures.leaves;
-      later = later_with_tables g.F.Field _ _ _ _ _ _ _ _ _ _ refl c.coefficients_with_room-room.ensures.keeps c.coefficients_with_room-room.ensures.keeps_cosets (le_trans c.coefficients_with_room-room.ensures.grows c.extend_reversed-extended.ensures.grows);
-      cost = at_log _ _ log high (slots_counted _ _ _ _ _ _ _ (c.coefficients_with_room-room.ensures.cost log high) (rw (← (ap (λ (n : RowMajor g.row.F.Denot). n.width) answer.over_zeros ∙ answer.kept.1)) c.extend_reversed-extended.ensures.cost));
+      prepared = λ k e. c.in-Ok.ensures.prepared k (stored ∙ e);
+      tables = λ k e. c.in-Ok.ensures.cosets k (stored ∙ e);
+      keeps_tables = λ k s has. c.coefficients_with_room-room.ensures.keeps_cosets k s (subst (λ (x : CosetEngineState g.row.F.Denot). HasCoset g.F.Field x.cosets k s) (sym c.self.view_is) has);
+      leaves = λ k e. subst (λ (x : CosetEngineState g.row.F.Denot). LeavesTables g.F.Field g.F.TwoAdicField.generator k c.args.added_bits (g.F.Field.value c.args.shift) x.roots.prepared c.coefficients_with_room-room.new.tables x.cosets c.coefficients_with_room-room.new.cosets) c.self.view_is (c.coefficients_with_room-room.ensures.leaves k (stored ∙ e));
+      later = later_with_tables g.F.Field _ _ _ c.args.self.now _ _ _ _ _ _ c.self.view_is c.coefficients_with_room-room.ensures.keeps c.coefficients_with_room-room.ensures.keeps_cosets (le_trans c.coefficients_with_room-room.ensures.grows c.extend_reversed-extended.ensures.grows);
+      cost = at_log _ _ log tall (rw (← products, ← width) (slots_counted _ _ _ _ _ _ _ (c.coefficients_with_room-room.ensures.cost log high) (rw (← (ap (λ (n : RowMajor g.row.F.Denot). n.width) answer.over_zeros ∙ answer.kept.1)) c.extend_reversed-extended.ensures.cost)));
       room = tt;
-    })
+    }
 
 pub returns : goal.returns
 returns g c =
     let m = c.into_row_major_matrix-mat.result in
+    let stored = ap height c.into_row_major_matrix-mat.ensures in
+    let width = ap (λ (n : RowMajor g.row.F.Denot). n.width) c.into_row_major_matrix-mat.ensures in
+    let products : c.self.inside.products ≡ c.args.self.now.roots.products = ap (λ (e : CosetEngineState g.row.F.Denot). e.roots.products) c.self.view_is in
     let log = c.log2_strict_usize-log_h.result in
     let answer = c.in-Ok.ensures.answer in
     let high : height m ≡ 2 ^ log = sym c.height.ensures.height ∙ c.log2_strict_usize-log_h.ensures.power in
+    let tall : height (g.N.IntoRowMajorMatrix.stored c.args.mat) ≡ 2 ^ log = sym stored ∙ high in
     let rows = c.in-Ok.ensures.rows log high in
     let out = c.extend_reversed-extended.new.mat in
     let same = c.extend_reversed-extended.ensures.same in
-    rw (← c.into_row_major_matrix-mat.ensures, ← c.self.view_is, c.bit_reverse_rows.ensures.matrix) (record {
-      values = values_of_answered g.F.Field g.F.TwoAdicField.generator _ m answer.told answer.answered _ log _ _ high (answer.are_coefficients log high) answer.told_whole answer.answered_whole answer.called answer.kept.0
+    record {
+      values = rw (← c.into_row_major_matrix-mat.ensures, c.bit_reverse_rows.ensures.matrix)
+          (values_of_answered g.F.Field g.F.TwoAdicField.generator _ m answer.told answer.answered _ log _ _ high (answer.are_coefficients log high) answer.told_whole answer.answered_whole answer.called answer.kept.0
           (values_seen g.F.Field g.F.TwoAdicField.generator (bit_reversal log (values_of g.F.Field answer.answered)) out _ _ c.bit_reverse_rows.result.bits (whole_still c.in-Ok.mat out rows.whole same) (same.shape.0 ∙ rows.high) c.bit_reverse_rows.ensures.height
-          (c.in_default.ensures.values answer.answered answer.answered_whole (answer.kept.0 ∙ high) answer.over_zeros));
-      published = at_log _ _ log high (
+          (c.in_default.ensures.values answer.answered answer.answered_whole (answer.kept.0 ∙ high) answer.over_zeros)));
+      published = at_log _ _ log tall (
           let (blocks, parts, run) = c.in_default.ensures.published in
-          record {
-            first = c.make_consumer-consumer.result;
-            made = subst (λ b. g.M.FnOnce.post c.args.make_consumer (b, tt) c.make_consumer-consumer.result) c.block_height-block_height.ensures c.make_consumer-consumer.ensures;
-            blocks = blocks;
-            parts = parts;
-            run = run;
-          });
+          record { first = c.make_consumer-consumer.result; made = subst (λ b. g.M.FnOnce.post c.args.make_consumer (b, tt) c.make_consumer-consumer.result) c.block_height-block_height.ensures c.make_consumer-consumer.ensures; blocks = blocks; parts = rw c.bit_reverse_rows.ensures.matrix parts; run = run });
       refused = tt;
       unpublished = tt;
-      prepared = c.in-Ok.ensures.prepared;
-      tables = c.in-Ok.ensures.cosets;
-      keeps_tables = c.coefficients_with_room-room.ensures.keeps_cosets;
-      leaves = c.coefficients_with_room-room.ensures.leaves;
-      later = later_with_tables g.F.Field _ _ _ _ _ _ _ _ _ _ refl c.coefficients_with_room-room.ensures.keeps c.coefficients_with_room-room.ensures.keeps_cosets (le_trans c.coefficients_with_room-room.ensures.grows c.extend_reversed-extended.ensures.grows);
-      cost = at_log _ _ log high (slots_counted _ _ _ _ _ _ _ (c.coefficients_with_room-room.ensures.cost log high) (rw (← (ap (λ (n : RowMajor g.row.F.Denot). n.width) answer.over_zeros ∙ answer.kept.1)) c.extend_reversed-extended.ensures.cost));
+      prepared = λ k e. c.in-Ok.ensures.prepared k (stored ∙ e);
+      tables = λ k e. c.in-Ok.ensures.cosets k (stored ∙ e);
+      keeps_tables = λ k s has. c.coefficients_with_room-room.ensures.keeps_cosets k s (subst (λ (x : CosetEngineState g.row.F.Denot). HasCoset g.F.Field x.cosets k s) (sym c.self.view_is) has);
+      leaves = λ k e. subst (λ (x : CosetEngineState g.row.F.Denot). LeavesTables g.F.Field g.F.TwoAdicField.generator k c.args.added_bits (g.F.Field.value c.args.shift) x.roots.prepared c.coefficients_with_room-room.new.tables x.cosets c.coefficients_with_room-room.new.cosets) c.self.view_is (c.coefficients_with_room-room.ensures.leaves k (stored ∙ e));
+      later = later_with_tables g.F.Field _ _ _ c.args.self.now _ _ _ _ _ _ c.self.view_is c.coefficients_with_room-room.ensures.keeps c.coefficients_with_room-room.ensures.keeps_cosets (le_trans c.coefficients_with_room-room.ensures.grows c.extend_reversed-extended.ensures.grows);
+      cost = at_log _ _ log tall (rw (← products, ← width) (slots_counted _ _ _ _ _ _ _ (c.coefficients_with_room-room.ensures.cost log high) (rw (← (ap (λ (n : RowMajor g.row.F.Denot). n.width) answer.over_zeros ∙ answer.kept.1)) c.extend_reversed-extended.ensures.cost)));
       room = tt;
-    })
+    }
