@@ -3,3 +3,4 @@ pub mod FoldedValues
 pub mod Limits
 pub mod MerkleTrees
 pub mod OppositeEntries
+pub mod Quadratics

@@ -7,6 +7,7 @@
 pub mod agreement;
 pub mod closures;
 pub mod extended;
+pub mod extension;
 pub mod field_forms;
 pub mod folding;
 pub mod inverses;
@@ -19,6 +20,7 @@ pub mod own_engine;
 pub mod product;
 pub mod published;
 pub mod published_degree;
+pub mod quadratic;
 pub mod sizes;
 pub mod there_and_back;
 pub mod views;
