@@ -8,6 +8,7 @@ pub mod agreement;
 pub mod closures;
 pub mod extended;
 pub mod extension;
+pub mod extension_folding;
 pub mod field_forms;
 pub mod folding;
 pub mod inverses;

@@ -8,6 +8,7 @@ mod answers;
 mod blocks;
 mod callers;
 mod clients;
+mod extensions;
 mod folding;
 mod groups;
 mod helpers;

@@ -76,4 +76,5 @@ def main():
                   f"({shift}, {beta % p}), &{out});")
 
 
-main()
+if __name__ == "__main__":
+    main()

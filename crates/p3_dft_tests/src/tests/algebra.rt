@@ -140,7 +140,7 @@ pub(crate) fn elements_of<F: TwoAdicField, V: BasedVectorSpace<F>>(
 }
 
 // The coordinates of a matrix's elements, row after row.
-fn coordinates_of<F: TwoAdicField, V: BasedVectorSpace<F>>(
+pub(crate) fn coordinates_of<F: TwoAdicField, V: BasedVectorSpace<F>>(
     rt: &impl Abort,
     mat: &RowMajorMatrix<V>,
 ) -> RowMajorMatrix<F> {
