@@ -55,7 +55,7 @@ pub size_held : (bits count width a : ℕ) → (count / width) * width ≡ count
 size_held bits count width a whole fits = mod-eq_of_lt (subst (λ (n : ℕ). n * 2 ^ a < 2 ^ 64) whole (output_size bits (count / width) width a fits))
 
 -- as many times as many rows have as many times as many entries
-pub size_is : {T : Type 0} (m : RowMajor T) (a rows w : ℕ) → IsRowMajor m → rows ≡ height m * 2 ^ a → w ≡ m.width → rows * w ≡ length m.values * 2 ^ a
+size_is : {T : Type 0} (m : RowMajor T) (a rows w : ℕ) → IsRowMajor m → rows ≡ height m * 2 ^ a → w ≡ m.width → rows * w ≡ length m.values * 2 ^ a
 size_is m a rows w whole high wide =
     let by_rows : height m * 2 ^ a * m.width ≡ height m * m.width * 2 ^ a = omega arith in
     ap₂ (λ (h v : ℕ). h * v) high wide ∙ by_rows ∙ ap (λ n. n * 2 ^ a) whole.full

@@ -2,17 +2,16 @@
 
 ghost use Rattle.std.specs.Prelude.{◌≡◌, ℕ, ◌+◌, ◌*◌, ◌^◌, ◌≤◌, ◌↔◌, length, IfOk, IsSome, slice_get, true};
 ghost use Rattle.p3_field.specs.Ring.{IsInvertible};
-ghost use Rattle.p3_matrix.specs.RowMajor.{RowMajor, IsRowMajor, height, with_zeros};
+ghost use Rattle.p3_matrix.specs.RowMajor.{RowMajor, height};
 ghost use Rattle.p3_matrix.specs.BitOrder.{reversed_rows};
-ghost use Rattle.p3_matrix.specs.Cosets.{IsValues, values_of};
 ghost use Rattle.p3_dft.specs.Extensions.{IsExtension};
 ghost use Rattle.p3_dft.specs.Shapes.{FitsLde};
+ghost use Rattle.p3_dft.specs.Transforms.{IsExtendedTransform};
 ghost use Rattle.liktrob.specs.Answers.{IsAnswer, added, undoes};
 
 use p3_dft::{
     DftError, Evaluations, Layout, NaiveDft, Radix2Bowers, Radix2DFTSmallBatch, Radix2Dit,
-    Radix2DitParallel, RowMajorMatrix, TwoAdicField, TwoAdicSubgroupDft, extend_by_zeros,
-    extended_height,
+    Radix2DitParallel, RowMajorMatrix, TwoAdicField, TwoAdicSubgroupDft,
 };
 
 /// An engine of `p3_dft`, or the one of them that is the fastest for what is asked.
@@ -145,7 +144,9 @@ fn answer_to<F: TwoAdicField, D: TwoAdicSubgroupDft<F>>(
         → IsAnswer F.Field.own F.generator operation mat k (F.value shift) out) }
 {
     match operation {
-        Operation::CosetDft(added_bits) => padded_transform(engine, mat, added_bits, shift),
+        Operation::CosetDft(added_bits) => {
+            extension_of_coefficients(engine, mat, added_bits, shift)
+        }
         Operation::CosetIdft => engine.coset_idft_batch(mat, shift),
         Operation::CosetLde(added_bits) => extension(engine, mat, added_bits, shift),
         Operation::CosetLdeBitReversed(added_bits) => {
@@ -155,7 +156,7 @@ fn answer_to<F: TwoAdicField, D: TwoAdicSubgroupDft<F>>(
 }
 
 // The values of the columns' polynomials on the larger coset.
-fn padded_transform<F: TwoAdicField, D: TwoAdicSubgroupDft<F>>(
+fn extension_of_coefficients<F: TwoAdicField, D: TwoAdicSubgroupDft<F>>(
     engine: &mut D,
     mat: RowMajorMatrix<F>,
     added_bits: usize,
@@ -163,30 +164,10 @@ fn padded_transform<F: TwoAdicField, D: TwoAdicSubgroupDft<F>>(
 ) -> Result<RowMajorMatrix<F>, DftError>
     requires { FitsLde F.TWO_ADICITY (height mat) mat.width added_bits }
     ensures size { IfOk result (λ out. length out.values ≡ length mat.values * 2 ^ added_bits) }
-    ensures values { IfOk result (λ out. (k : ℕ) → height mat ≡ 2 ^ k → IsValues F.ring
-        (λ n. F.value (F.generator n)) (values_of F.Field.own mat) (k + added_bits) (F.value shift)
-        (values_of F.Field.own out)) }
+    ensures values { IfOk result (IsExtendedTransform F.Field.own F.generator mat added_bits (F.value shift)) }
 {
-    let padded = pad_rows(mat, added_bits)?;
-    let values = engine.coset_dft_batch(padded, shift)?;
+    let values = engine.coset_lde_batch_of_coefficients(mat, added_bits, shift)?;
     Ok(values.to_row_major_matrix())
-}
-
-// The matrix with rows of zeros below it, up to `2^added_bits` times the height.
-fn pad_rows<F: TwoAdicField>(
-    mat: RowMajorMatrix<F>,
-    added_bits: usize,
-) -> Result<RowMajorMatrix<F>, DftError>
-    requires { FitsLde F.TWO_ADICITY (height mat) mat.width added_bits }
-    ensures whole { IsRowMajor mat }
-    ensures padded { IfOk result (λ out. out ≡ with_zeros F.ZERO mat added_bits) }
-{
-    let width = mat.width();
-    let height = extended_height::<F>(mat.height(), width, added_bits);
-    let mut values = mat.into_values();
-    let missing = height * width - values.len();
-    extend_by_zeros(&mut values, missing)?;
-    Ok(RowMajorMatrix::new(values, width))
 }
 
 // The extension, in natural order.
