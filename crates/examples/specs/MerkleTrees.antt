@@ -1,5 +1,5 @@
 -- Digests of rows at their numbers, and the tree over them.
-use Rattle.std.specs.Prelude.{◌≡◌, ℕ, zero, suc, ◌+◌, ◌^◌, ◌<◌, ◌≤◌, List, get_or, length}
+use Rattle.std.specs.Prelude.{◌≡◌, ℕ, zero, suc, ◌+◌, ◌*◌, ◌/◌, ◌%◌, ◌^◌, ◌<◌, ◌≤◌, ◌==◌, cond, List, [], ◌∷◌, get_or, length}
 use Rattle.p3_matrix.specs.RowMajor.{RowMajor, height, row}
 
 -- the root over the first 2 ^ k leaves: those of the first half and of the second, joined
@@ -18,3 +18,22 @@ pub record AreHashed {D V : Type 0} (worth : D → V) (of : ℕ → V) (start n 
 pub record AreDigests {T D V : Type 0} (worth : D → V) (of_row : List T → V) (m : RowMajor T) (digests : List D) : Type 0 where
   pub long : length digests ≡ height m
   pub each : (i : ℕ) → i < height m → (d : D) → worth (get_or digests i d) ≡ of_row (row m i)
+
+-- the nodes of the tree over so many leaves by their numbers: node 1 is the root, and node n has the children 2 n and 2 n + 1
+pub record AreNodes {D V : Type 0} (worth : D → V) (join : V → V → V) (leaves : ℕ) (leaf : ℕ → V) (nodes : List D) : Type 0 where
+  pub long : length nodes ≡ 2 * leaves
+  pub last : (i : ℕ) (d : D) → i < leaves → worth (get_or nodes (leaves + i) d) ≡ leaf i
+  pub joined : (n : ℕ) (d : D) → 1 ≤ n → n < leaves → worth (get_or nodes n d) ≡ join (worth (get_or nodes (2 * n) d)) (worth (get_or nodes (2 * n + 1) d))
+
+-- what the parent of node n is worth, from what the node and its sibling are
+abbrev pub parent : {V : Type 0} → (V → V → V) → ℕ → V → V → V
+parent join n v sibling = cond (n % 2 == 0) (join v sibling) (join sibling v)
+
+-- what the root is worth, where node n is worth v, and the siblings of it and of those above it are worth so much
+abbrev pub climbed : {V : Type 0} → (V → V → V) → ℕ → V → List V → V
+climbed join n v [] = v
+climbed join n v (sibling ∷ path) = climbed join (n / 2) (parent join n v sibling) path
+
+-- no two pairs are joined to one
+abbrev pub IsCollisionFree : {V : Type 0} → (V → V → V) → Type 0
+IsCollisionFree {V} join = (a b c d : V) → join a b ≡ join c d → (a ≡ c) × (b ≡ d)

@@ -16,6 +16,7 @@ pub mod jobs;
 pub mod known;
 pub mod linearity;
 pub mod low_degree;
+pub mod merkle_paths;
 pub mod merkle_root;
 pub mod own_engine;
 pub mod product;

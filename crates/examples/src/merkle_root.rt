@@ -24,7 +24,7 @@ use std::convert::Infallible;
 /// An impl says in `of_row` and `of_pair` what a digest is worth, and shows that rows of equal values have
 /// digests of one worth: elements of one value may differ in what no contract sees, and so may digests.
 pub trait RowHash<F: Field> {
-    ghost use Rattle.std.specs.Prelude.{◌≡◌, List, map};
+    ghost use Rattle.std.specs.Prelude.{◌≡◌, ◌↔◌, IsTrue, List, map};
 
     /// What it makes of a row.
     type Digest: Copy;
@@ -48,6 +48,10 @@ pub trait RowHash<F: Field> {
     /// The digest of two, in this order.
     fn join(&self, left: Self::Digest, right: Self::Digest) -> Self::Digest
         ensures { worth result ≡ of_pair self.now (worth left) (worth right) };
+
+    /// Whether two digests are worth the same.
+    fn are_equal(&self, left: Self::Digest, right: Self::Digest) -> bool
+        ensures { IsTrue result ↔ (worth left ≡ worth right) };
 
     // Rows of equal values have digests of one worth.
     ghost row_law: { (h : Self) (xs ys : List F) → map F.value xs ≡ map F.value ys → of_row h xs ≡ of_row h ys };
@@ -89,6 +93,10 @@ impl<F: Field> RowHash<F> for HornerHash<F> {
 
     fn join(&self, left: F, right: F) -> F {
         left * self.base + right
+    }
+
+    fn are_equal(&self, left: F, right: F) -> bool {
+        left == right
     }
 
     ghost row_law = { λ h xs ys same. ap (fold (λ sum x. F.ring.add (F.ring.mul sum (F.value h.base)) x) F.ring.zero)
