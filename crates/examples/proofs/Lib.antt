@@ -6,3 +6,4 @@ pub mod MerklePaths
 pub mod MerkleTrees
 pub mod OppositeEntries
 pub mod Quadratics
+pub mod Queries

@@ -51,7 +51,7 @@ joined_halves worth join (suc j) xs front back d some size front_is back_is =
 
 module _ {T : Type 0} (d : T) (m : RowMajor T) (whole : IsRowMajor m) (b : ℕ) where
   -- row r of block q is a row of the matrix
-  block_row : (q r : ℕ) → q < height m / b → r < b → (height (rows_from m (q * b) b) ≡ b) × (row (rows_from m (q * b) b) r ≡ row m (q * b + r))
+  pub block_row : (q r : ℕ) → q < height m / b → r < b → (height (rows_from m (q * b) b) ≡ b) × (row (rows_from m (q * b) b) r ≡ row m (q * b + r))
   block_row q r low inside =
       let w = m.width in
       let p = rows_from m (q * b) b in

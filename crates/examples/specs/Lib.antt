@@ -1,6 +1,7 @@
 pub mod ExtensionFieldLaws
 pub mod ExtensionFields
 pub mod Foldings
+pub mod Fri
 pub mod MerkleTrees
 pub mod QuadraticFields
 pub mod QuadraticLaws

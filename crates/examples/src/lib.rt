@@ -11,6 +11,7 @@ pub mod extension;
 pub mod extension_folding;
 pub mod field_forms;
 pub mod folding;
+pub mod fri;
 pub mod inverses;
 pub mod jobs;
 pub mod known;

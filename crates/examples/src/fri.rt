@@ -1,0 +1,322 @@
+//! The commit phase of FRI, the opening of a query and its check, for every field, hash and way to draw challenges.
+//!
+//! A codeword, whose rows lie in bit reversed order, is committed to by the tree over its pairs of neighbouring rows,
+//! which are the values at a point and at minus it, and folded with the challenge that is drawn from the root; and so
+//! on, down to the last codeword, which is sent whole.
+//!
+//! Proved: `check` says yes exactly where each path leads to its layer's root, and each pair that is opened folds, with
+//! that layer's challenge and at its point, to the row that is opened of the next layer, the last to that of the last
+//! codeword. What `open_layer` opens of a layer that `commit_layer` made has that path, and folds so to the next codeword.
+
+ghost use Rattle.std.specs.Prelude.{◌≡◌, ◌↔◌, ℕ, suc, ◌+◌, ◌-◌, ◌*◌, ◌/◌, ◌%◌, ◌^◌, ◌<◌, ◌≤◌, IfOk, IsTrue};
+ghost use Rattle.std.specs.Prelude.{get_or, length, vec_len};
+ghost use Rattle.p3_field.specs.Ring.{IsInvertible, power};
+ghost use Rattle.p3_matrix.specs.Cosets.{values_of};
+ghost use Rattle.p3_matrix.specs.RowMajor.{height, rows_from};
+ghost use Rattle.p3_matrix.specs.BitOrder.{bit_reversal};
+ghost use Rattle.p3_dft.specs.Codes.{HasDegreeBelow};
+ghost use Rattle.p3_dft.specs.Shapes.{FitsDft};
+ghost use Rattle.examples.specs.Fri.{FoldsDown, FoldsTo, IsLayer, IsOpened};
+
+use crate::folding::{fold, folds_to};
+use crate::merkle_paths::{path_of, root_of_path, tree_of_pairs};
+use crate::merkle_root::RowHash;
+use p3_dft::{DftError, Layout, RowMajorMatrix, TwoAdicField, growth, reverse_bits_len};
+
+/// A codeword that was committed to and folded.
+#[derive(Drop)]
+pub struct Layer<F, D> {
+    /// The codeword, with its rows in bit reversed order.
+    pub codeword: RowMajorMatrix<F>,
+    /// The nodes of the tree over its pairs of rows.
+    pub nodes: Vec<D>,
+    /// The challenge with which it was folded.
+    pub challenge: F,
+}
+
+/// What is opened of a layer.
+#[derive(Drop)]
+pub struct Opening<F, D> {
+    /// Two neighbouring rows of the codeword.
+    pub pair: RowMajorMatrix<F>,
+    /// The path of their leaf.
+    pub path: Vec<D>,
+}
+
+/// Commits to a codeword of two rows or more, in bit reversed order, and folds it with the challenge that `draw` makes
+/// of the root. It answers the layer, to open pairs of, and the next codeword, on the coset of the squared shift.
+pub fn commit_layer<F: TwoAdicField, H: RowHash<F>, C: FnOnce(H::Digest) -> F>(
+    hash: &H,
+    codeword: RowMajorMatrix<F>,
+    shift: F,
+    draw: C,
+) -> Result<(Layer<F, H::Digest>, RowMajorMatrix<F>), DftError>
+    requires fits { FitsDft F.TWO_ADICITY (height codeword) codeword.width }
+    requires pairs { 2 ≤ height codeword }
+    requires invertible { IsInvertible F.ring (F.value shift) }
+    requires callable { C.IsAlwaysCallable draw }
+    ensures codeword { IfOk result (λ p. p.0.codeword ≡ codeword) }
+    ensures shape { IfOk result (λ p. (2 * height p.1 ≡ height codeword) × (p.1.width ≡ codeword.width)) }
+    ensures layer { IfOk result (λ p. (k : ℕ) → height codeword ≡ 2 ^ suc k
+        → IsLayer F.Field.own (λ n. F.value (F.generator n)) H.worth (H.of_pair hash.now) (H.of_row hash.now) k
+        (F.value shift) (F.value p.0.challenge) codeword p.1 p.0.nodes.items) }
+    ensures degree { IfOk result (λ p. (k h : ℕ) → height codeword ≡ 2 ^ suc k
+        → HasDegreeBelow F.Field.own F.generator h (suc k) (F.value shift)
+        (bit_reversal (suc k) (values_of F.Field.own codeword))
+        → HasDegreeBelow F.Field.own F.generator ((h + 1) / 2) k (F.ring.mul (F.value shift) (F.value shift))
+        (bit_reversal k (values_of F.Field.own p.1))) }
+    ensures drawn { IfOk result (λ p. (root : H.Digest) × (root ≡ get_or p.0.nodes.items 1 root)
+        × C.post draw root p.0.challenge) }
+{
+    let leaves = codeword.height() / 2;
+    let nodes = tree_of_pairs(hash, &codeword, leaves)?;
+    let challenge = draw(nodes[1]);
+    let folded = fold(&codeword, Layout::BitReversed, shift, challenge)?;
+    let layer = Layer {
+        codeword,
+        nodes,
+        challenge,
+    };
+    Ok((layer, folded))
+}
+
+/// What is opened of pair `index` of a layer of `2^(log_half + 1)` rows: what `check` accepts of it.
+pub fn open_layer<F: TwoAdicField, H: RowHash<F>>(
+    layer: &Layer<F, H::Digest>,
+    log_half: usize,
+    index: usize,
+) -> Result<Opening<F, H::Digest>, DftError>
+    requires high { height layer.now.codeword ≡ 2 * 2 ^ log_half }
+    requires nodes { length layer.now.nodes.items ≡ 2 * 2 ^ log_half }
+    requires inside { index < 2 ^ log_half }
+    ensures pair { IfOk result (λ o. o.pair ≡ rows_from layer.now.codeword (2 * index) 2) }
+    ensures opened { IfOk result (λ o. (h : H) (s beta : F.Element) (next : _) (d : H.Digest)
+        → IsLayer F.Field.own (λ n. F.value (F.generator n)) H.worth (H.of_pair h) (H.of_row h) log_half s beta
+        layer.now.codeword next layer.now.nodes.items
+        → IsOpened H.worth (H.of_pair h) (H.of_row h) log_half index layer.now.codeword.width
+        (H.worth (get_or layer.now.nodes.items 1 d)) o.pair o.path.items) }
+    ensures folds { IfOk result (λ o. (h : H) (s beta : F.Element) (next : _)
+        → IsLayer F.Field.own (λ n. F.value (F.generator n)) H.worth (H.of_pair h) (H.of_row h) log_half s beta
+        layer.now.codeword next layer.now.nodes.items
+        → FoldsTo F.Field.own (λ n. F.value (F.generator n)) log_half s beta index (values_of F.Field.own o.pair)
+        ((values_of F.Field.own next).entry index)) }
+{
+    let alloc = *layer.codeword.allocator();
+    let rows = layer.codeword.view_rows(2 * index, 2);
+    let pair = RowMajorMatrix::new(growth::from_slice(alloc, rows.values())?, rows.width());
+    let path = path_of::<F, H>(alloc, &layer.nodes, log_half, index)?;
+    Ok(Opening { pair, path })
+}
+
+// Whether two rows of this width were opened, with a path that leads to the root.
+fn is_opened<F: TwoAdicField, H: RowHash<F>>(
+    hash: &H,
+    root: H::Digest,
+    opening: &Opening<F, H::Digest>,
+    width: usize,
+    log_half: usize,
+    index: usize,
+) -> bool
+    requires inside { index < 2 ^ log_half }
+    requires small { log_half < 63 }
+    ensures { IsTrue result ↔ IsOpened H.worth (H.of_pair hash.now) (H.of_row hash.now) log_half index width
+        (H.worth root) opening.now.pair opening.now.path.items }
+{
+    if opening.pair.height() != 2
+        || opening.pair.width() != width
+        || opening.path.len() != log_half
+    {
+        return false;
+    }
+    let leaf = hash.hash_row(opening.pair.values());
+    let reached = root_of_path::<F, H>(hash, (1 << log_half) + index, leaf, &opening.path);
+    hash.are_equal(reached, root)
+}
+
+// Whether a pair that was opened folds to this row of a matrix.
+fn is_folded<F: TwoAdicField>(
+    pair: &RowMajorMatrix<F>,
+    next: &RowMajorMatrix<F>,
+    row: usize,
+    shift: F,
+    challenge: F,
+    log_half: usize,
+    index: usize,
+) -> bool
+    requires high { height pair.now ≡ 2 }
+    requires wide { next.now.width ≡ pair.now.width }
+    requires row { row < height next.now }
+    requires within { log_half < F.TWO_ADICITY }
+    requires small { log_half < 63 }
+    ensures { IsTrue result ↔ FoldsTo F.Field.own (λ n. F.value (F.generator n)) log_half (F.value shift)
+        (F.value challenge) index (values_of F.Field.own pair.now) ((values_of F.Field.own next.now).entry row) }
+{
+    let root = F::two_adic_generator(log_half + 1);
+    let x = shift * root.exp_u64(reverse_bits_len(index, log_half) as u64);
+    // Tells the prover that the rows are whole.
+    let (_whole, _whole_too) = (pair.width(), next.width());
+    folds_to(x, challenge, pair.row(0), pair.row(1), next.row(row))
+}
+
+/// What a verifier knows: the roots and the last codeword, which the prover sent, the challenges, which it drew from
+/// the roots as the prover did, and the coset of the first codeword.
+#[derive(Drop)]
+pub struct Commitment<F, D> {
+    /// The root of each layer.
+    pub roots: Vec<D>,
+    /// The challenge of each layer.
+    pub challenges: Vec<F>,
+    /// The last codeword, with its rows in bit reversed order.
+    pub last: RowMajorMatrix<F>,
+    /// The logarithm of the first codeword's height.
+    pub log_height: usize,
+    /// The shift of the first codeword's coset.
+    pub shift: F,
+}
+
+// Whether the pairs that were opened have the width of the last codeword, and paths to the roots.
+fn are_opened<F: TwoAdicField, H: RowHash<F>>(
+    hash: &H,
+    commitment: &Commitment<F, H::Digest>,
+    index: usize,
+    openings: &[Opening<F, H::Digest>],
+) -> bool
+    requires count { length openings.now ≡ vec_len commitment.now.roots }
+    requires layers { vec_len commitment.now.roots ≤ commitment.now.log_height }
+    requires small { commitment.now.log_height < 64 }
+    requires inside { 2 * index < 2 ^ commitment.now.log_height }
+    ensures { IsTrue result ↔ ((l : ℕ) (o : _) (d : H.Digest) → l < length openings.now
+        → IsOpened H.worth (H.of_pair hash.now) (H.of_row hash.now) (commitment.now.log_height - suc l)
+        (index / 2 ^ l) commitment.now.last.width (H.worth (get_or commitment.now.roots.items l d))
+        (get_or openings.now l o).pair (get_or openings.now l o).path.items) }
+{
+    let width = commitment.last.width();
+    for l in 0..openings.len() {
+        let log_half = commitment.log_height - 1 - l;
+        if !is_opened(
+            hash,
+            commitment.roots[l],
+            &openings[l],
+            width,
+            log_half,
+            index >> l,
+        ) {
+            return false;
+        }
+    }
+    true
+}
+
+// Whether pair l folds to the row that was opened of the next layer, or to that of the last codeword.
+fn layer_folds<F: TwoAdicField, D>(
+    commitment: &Commitment<F, D>,
+    index: usize,
+    openings: &[Opening<F, D>],
+    l: usize,
+) -> bool
+    requires at { l < length openings.now }
+    requires layers { length openings.now ≤ commitment.now.log_height }
+    requires challenges { vec_len commitment.now.challenges ≡ length openings.now }
+    requires small { commitment.now.log_height < 64 }
+    requires within { commitment.now.log_height ≤ F.TWO_ADICITY }
+    requires inside { 2 * index < 2 ^ commitment.now.log_height }
+    requires last { height commitment.now.last ≡ 2 ^ (commitment.now.log_height - length openings.now) }
+    requires pairs { (q : ℕ) (o : _) → q < length openings.now → (height (get_or openings.now q o).pair ≡ 2)
+        × ((get_or openings.now q o).pair.width ≡ commitment.now.last.width) }
+    ensures between { (o : _) → suc l < length openings.now → (IsTrue result
+        ↔ FoldsTo F.Field.own (λ n. F.value (F.generator n)) (commitment.now.log_height - suc l)
+        (power F.ring (F.value commitment.now.shift) (2 ^ l))
+        (F.value (get_or commitment.now.challenges.items l F.ZERO)) (index / 2 ^ l)
+        (values_of F.Field.own (get_or openings.now l o).pair)
+        ((values_of F.Field.own (get_or openings.now (suc l) o).pair).entry ((index / 2 ^ l) % 2))) }
+    ensures to_last { (o : _) → suc l ≡ length openings.now → (IsTrue result
+        ↔ FoldsTo F.Field.own (λ n. F.value (F.generator n)) (commitment.now.log_height - suc l)
+        (power F.ring (F.value commitment.now.shift) (2 ^ l))
+        (F.value (get_or commitment.now.challenges.items l F.ZERO)) (index / 2 ^ l)
+        (values_of F.Field.own (get_or openings.now l o).pair)
+        ((values_of F.Field.own commitment.now.last).entry (index / 2 ^ l))) }
+{
+    let pair = &openings[l].pair;
+    let shift = commitment.shift.exp_u64(1 << l);
+    let challenge = commitment.challenges[l];
+    let log_half = commitment.log_height - 1 - l;
+    let place = index >> l;
+    if l + 1 < openings.len() {
+        let next = &openings[l + 1].pair;
+        is_folded(pair, next, place % 2, shift, challenge, log_half, place)
+    } else {
+        is_folded(
+            pair,
+            &commitment.last,
+            place,
+            shift,
+            challenge,
+            log_half,
+            place,
+        )
+    }
+}
+
+// Whether every pair that was opened folds to the row that was opened of the next layer, the last to that of the last
+// codeword.
+fn are_folded<F: TwoAdicField, D>(
+    commitment: &Commitment<F, D>,
+    index: usize,
+    openings: &[Opening<F, D>],
+) -> bool
+    requires layers { length openings.now ≤ commitment.now.log_height }
+    requires challenges { vec_len commitment.now.challenges ≡ length openings.now }
+    requires small { commitment.now.log_height < 64 }
+    requires within { commitment.now.log_height ≤ F.TWO_ADICITY }
+    requires inside { 2 * index < 2 ^ commitment.now.log_height }
+    requires last { height commitment.now.last ≡ 2 ^ (commitment.now.log_height - length openings.now) }
+    requires pairs { (q : ℕ) (o : _) → q < length openings.now → (height (get_or openings.now q o).pair ≡ 2)
+        × ((get_or openings.now q o).pair.width ≡ commitment.now.last.width) }
+    ensures { IsTrue result ↔ ((o : _) → FoldsDown F.Field.own (λ n. F.value (F.generator n))
+        commitment.now.log_height (length openings.now) (F.value commitment.now.shift)
+        (λ l. F.value (get_or commitment.now.challenges.items l F.ZERO)) index
+        (λ l. values_of F.Field.own (get_or openings.now l o).pair) (values_of F.Field.own commitment.now.last)) }
+{
+    for l in 0..openings.len() {
+        if !layer_folds(commitment, index, openings, l) {
+            return false;
+        }
+    }
+    true
+}
+
+/// Whether a query is accepted: what was opened of pair `index` of the first codeword, and of those after it.
+///
+/// It says yes exactly where there is an opening for each root, whose path leads from the digest of its pair to that
+/// root, and each pair folds, with its layer's challenge and at its point, to the row of the next one or of the last
+/// codeword. What a prover sends need not have any shape; the commitment is the verifier's.
+pub fn check<F: TwoAdicField, H: RowHash<F>>(
+    hash: &H,
+    commitment: &Commitment<F, H::Digest>,
+    index: usize,
+    openings: &[Opening<F, H::Digest>],
+) -> bool
+    requires layers { vec_len commitment.now.roots ≤ commitment.now.log_height }
+    requires challenges { vec_len commitment.now.challenges ≡ vec_len commitment.now.roots }
+    requires small { commitment.now.log_height < 64 }
+    requires within { commitment.now.log_height ≤ F.TWO_ADICITY }
+    requires last { height commitment.now.last ≡ 2 ^ (commitment.now.log_height - vec_len commitment.now.roots) }
+    requires inside { 2 * index < 2 ^ commitment.now.log_height }
+    ensures { IsTrue result ↔ (length openings.now ≡ vec_len commitment.now.roots)
+        × ((l : ℕ) (o : _) (d : H.Digest) → l < length openings.now
+        → IsOpened H.worth (H.of_pair hash.now) (H.of_row hash.now) (commitment.now.log_height - suc l)
+        (index / 2 ^ l) commitment.now.last.width (H.worth (get_or commitment.now.roots.items l d))
+        (get_or openings.now l o).pair (get_or openings.now l o).path.items)
+        × ((o : _) → FoldsDown F.Field.own (λ n. F.value (F.generator n)) commitment.now.log_height
+        (length openings.now) (F.value commitment.now.shift)
+        (λ l. F.value (get_or commitment.now.challenges.items l F.ZERO)) index
+        (λ l. values_of F.Field.own (get_or openings.now l o).pair) (values_of F.Field.own commitment.now.last)) }
+{
+    if openings.len() != commitment.roots.len() {
+        return false;
+    }
+    if !are_opened(hash, commitment, index, openings) {
+        return false;
+    }
+    are_folded(commitment, index, openings)
+}
