@@ -1,8 +1,8 @@
 // What the tests share.
 //
 // What is known of a concrete field is dear to carry, call by call, and a body with many assertions takes
-// long to prove. So tests are generic over the field, but for the call in the test itself, and most hand
-// what they found to `is`.
+// long to prove. So tests are generic over the field, which `over` names, and most hand what they found to `is`. Beside
+// it a field is named where lanes and coordinates are: that there is room for them is known of concrete ones alone.
 
 ghost use Rattle.std.specs.Prelude.{◌≡◌, vec_len};
 
@@ -18,10 +18,73 @@ mod util;
 mod vectors;
 mod views;
 
-use p3_field::CanonicalField;
+use fields::Table;
+use p3_field::{BabyBear, CanonicalField, Goldilocks, KoalaBear, WideGoldilocks};
 use std::alloc::Global;
 use std::fmt::Debug;
 use std::process::Abort;
+
+#[derive(Clone, Copy)]
+enum FieldName {
+    BabyBear,
+    KoalaBear,
+    Goldilocks,
+    WideGoldilocks,
+}
+
+// What is tested over a field.
+#[derive(Clone, Copy)]
+enum Topic<'a> {
+    OneDimension,
+    PairsOfFive,
+    PairAtARoot,
+    ScaledButterfly,
+    TwoButterflies,
+    RowsOfButterflies,
+    TwiddlesByPlace,
+    Wraps,
+    CountedRows,
+    ScaledMatrices,
+    Numbers(&'a Table<'a>),
+    OneLane,
+    PairsInPacks,
+    EightLanes(&'a [(usize, usize, u64, u64, u64)]),
+    Forms(u64, u64, &'a str),
+}
+
+impl<'a> Topic<'a> {
+    fn hold<F: CanonicalField>(self, rt: &impl Abort, alloc: Global) {
+        match self {
+            Topic::OneDimension => algebra::in_dimension_one::<F>(rt, alloc),
+            Topic::PairsOfFive => butterflies::applies_to_pairs::<F>(rt),
+            Topic::PairAtARoot => butterflies::applies_at_a_root::<F>(rt),
+            Topic::ScaledButterfly => butterflies::reads::<F>(rt),
+            Topic::TwoButterflies => butterflies::undo_up_to_factors::<F>(rt),
+            Topic::RowsOfButterflies => butterflies::rows_of_butterflies::<F>(rt, alloc),
+            Topic::TwiddlesByPlace => butterflies::rows_by_place::<F>(rt, alloc),
+            Topic::Wraps => butterflies::wraps::<F>(rt, alloc),
+            Topic::CountedRows => butterflies::counts::<F>(rt, alloc),
+            Topic::ScaledMatrices => butterflies::scales::<F>(rt, alloc),
+            Topic::Numbers(table) => fields::agrees::<F>(rt, table),
+            Topic::OneLane => fields::one_lane::<F>(rt, alloc),
+            Topic::PairsInPacks => fields::pairs_in_packs::<F>(rt, alloc),
+            Topic::EightLanes(table) => fields::eight_lanes::<F>(rt, alloc, table),
+            Topic::Forms(below, above, last) => {
+                field_forms::agrees::<F>(rt, alloc, below, above, last)
+            }
+        }
+    }
+}
+
+// Stops the test where a topic does not hold over a field.
+fn over(rt: &impl Abort, alloc: Global, field: FieldName, topic: Topic) {
+    match field {
+        FieldName::BabyBear => topic.hold::<BabyBear>(rt, alloc),
+        FieldName::KoalaBear => topic.hold::<KoalaBear>(rt, alloc),
+        FieldName::Goldilocks => topic.hold::<Goldilocks>(rt, alloc),
+        FieldName::WideGoldilocks => topic.hold::<WideGoldilocks>(rt, alloc),
+    }
+}
 
 // Stops the test where two values differ, and prints both.
 fn is<T: PartialEq + Debug + Drop>(rt: &impl Abort, found: T, wanted: T) {

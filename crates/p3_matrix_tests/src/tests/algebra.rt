@@ -2,7 +2,9 @@
 
 ghost use Rattle.std.specs.Prelude.{◌≡◌, ◌≤◌, length};
 
-use p3_field::{BabyBear, BasedVectorSpace, Coordinates, Field, Goldilocks, KoalaBear};
+use super::{FieldName, Topic, over, row};
+use p3_field::{BabyBear, BasedVectorSpace, CanonicalField, Coordinates, Field};
+use std::alloc::Global;
 use std::process::Abort;
 
 // The element with these coordinates has them, and is the one that has.
@@ -36,11 +38,20 @@ fn an_element_has_the_coordinates_it_was_made_of(rt: HostRuntime) {
     in_dimension::<8>(&rt, &numbers);
 }
 
+pub(crate) fn in_dimension_one<F: CanonicalField>(rt: &impl Abort, alloc: Global) {
+    let two: Vec<F> = row(rt, alloc, 1, 2, 0);
+    there_and_back::<F, F>(rt, two.as_slice());
+}
+
 #[test]
 fn a_field_is_a_space_of_dimension_one(rt: HostRuntime) {
-    there_and_back::<BabyBear, BabyBear>(&rt, [BabyBear::TWO].as_slice());
-    there_and_back::<KoalaBear, KoalaBear>(&rt, [KoalaBear::TWO].as_slice());
-    there_and_back::<Goldilocks, Goldilocks>(&rt, [Goldilocks::TWO].as_slice());
+    for field in [
+        FieldName::BabyBear,
+        FieldName::KoalaBear,
+        FieldName::Goldilocks,
+    ] {
+        over(&rt, rt.alloc(), field, Topic::OneDimension);
+    }
 }
 
 #[test]

@@ -2,10 +2,8 @@
 
 ghost use Rattle.std.specs.Prelude.{◌≡◌, ◌≤◌, ℕ, ◌+◌, ◌*◌, length, vec_len};
 
-use super::{is, row};
-use p3_field::{
-    BabyBear, CanonicalField, Field, Goldilocks, Lanes, Packable, PackedField, Products,
-};
+use super::{FieldName, Topic, is, over, row};
+use p3_field::{BabyBear, CanonicalField, Field, Lanes, PackedField, Products};
 use p3_matrix::packs::{apply_to_elements, apply_to_packs, full_packs};
 use p3_matrix::{
     Butterfly, DifButterfly, DifButterflyZeros, DitButterfly, RowMajorMatrix, ScaledDitButterfly,
@@ -15,7 +13,7 @@ use std::alloc::Global;
 use std::process::Abort;
 
 // Stops the test where a butterfly makes other numbers of two elements.
-fn makes<F: CanonicalField + Packable, B: Butterfly<F>>(
+fn makes<F: CanonicalField, B: Butterfly<F>>(
     rt: &impl Abort,
     b: B,
     x_1: F,
@@ -28,7 +26,7 @@ fn makes<F: CanonicalField + Packable, B: Butterfly<F>>(
 }
 
 // Each butterfly, of five and two, over BabyBear.
-fn applies_to_pairs<F: CanonicalField + Packable>(rt: &impl Abort) {
+pub(crate) fn applies_to_pairs<F: CanonicalField>(rt: &impl Abort) {
     let (two, three, five) = (F::from_u8(2), F::from_u8(3), F::from_u8(5));
     makes(rt, DitButterfly(three), five, two, (11, 2013265920));
     makes(rt, DifButterfly(three), five, two, (7, 9));
@@ -43,16 +41,22 @@ fn applies_to_pairs<F: CanonicalField + Packable>(rt: &impl Abort) {
     makes(rt, DifButterflyZeros(three), five, F::ZERO, (5, 15));
 }
 
+// Of zero and one, by a root of order four, over Goldilocks.
+pub(crate) fn applies_at_a_root<F: CanonicalField>(rt: &impl Abort) {
+    let root = DitButterfly(F::from_usize(281474976710656));
+    let last = (281474976710656, 18446462594437873665);
+    makes(rt, root, F::ZERO, F::ONE, last);
+}
+
 #[test]
 fn applies_to_elements(rt: HostRuntime) {
-    applies_to_pairs::<BabyBear>(&rt);
-    let root = DitButterfly(Goldilocks::from_usize(281474976710656));
-    let last = (281474976710656, 18446462594437873665);
-    makes(&rt, root, Goldilocks::ZERO, Goldilocks::ONE, last);
+    over(&rt, rt.alloc(), FieldName::BabyBear, Topic::PairsOfFive);
+    over(&rt, rt.alloc(), FieldName::Goldilocks, Topic::PairAtARoot);
 }
 
 // What a butterfly was made of.
-fn reads<F: CanonicalField>(rt: &impl Abort, scaled: ScaledDitButterfly<F>) {
+pub(crate) fn reads<F: CanonicalField>(rt: &impl Abort) {
+    let scaled = ScaledDitButterfly::new(F::from_u8(3), F::TWO);
     is(rt, scaled.twiddle().as_canonical_u64(), 3);
     is(rt, scaled.scale().as_canonical_u64(), 2);
     is(rt, scaled.twiddle_times_scale().as_canonical_u64(), 6);
@@ -60,12 +64,11 @@ fn reads<F: CanonicalField>(rt: &impl Abort, scaled: ScaledDitButterfly<F>) {
 
 #[test]
 fn reads_a_scaled_butterfly(rt: HostRuntime) {
-    let three = BabyBear::from_u8(3);
-    reads(&rt, ScaledDitButterfly::new(three, BabyBear::TWO));
+    over(&rt, rt.alloc(), FieldName::BabyBear, Topic::ScaledButterfly);
 }
 
 // What two butterflies, one after the other, make of five and two.
-fn make_one_after_another<F: CanonicalField + Packable, B: Butterfly<F>, C: Butterfly<F>>(
+fn make_one_after_another<F: CanonicalField, B: Butterfly<F>, C: Butterfly<F>>(
     rt: &impl Abort,
     first: B,
     second: C,
@@ -77,7 +80,7 @@ fn make_one_after_another<F: CanonicalField + Packable, B: Butterfly<F>, C: Butt
     makes(rt, second, x_1, x_2, wanted);
 }
 
-fn undo_up_to_factors<F: CanonicalField + Packable>(rt: &impl Abort) {
+pub(crate) fn undo_up_to_factors<F: CanonicalField>(rt: &impl Abort) {
     let three = F::from_u8(3);
     make_one_after_another(rt, DitButterfly(three), DifButterfly(three), (10, 36));
     let plain = TwiddleFreeButterfly;
@@ -91,7 +94,7 @@ fn undo_up_to_factors<F: CanonicalField + Packable>(rt: &impl Abort) {
 
 #[test]
 fn undoes_up_to_factors(rt: HostRuntime) {
-    undo_up_to_factors::<BabyBear>(&rt);
+    over(&rt, rt.alloc(), FieldName::BabyBear, Topic::TwoButterflies);
 }
 
 // Stops the test where two rows differ.
@@ -101,7 +104,7 @@ fn same_rows<F: CanonicalField>(rt: &impl Abort, found: &Vec<F>, wanted: &Vec<F>
 }
 
 // Stops the test where a butterfly makes another pair of two elements.
-fn place_agrees<F: CanonicalField + Packable, B: Butterfly<F>>(
+fn place_agrees<F: CanonicalField, B: Butterfly<F>>(
     rt: &impl Abort,
     b: B,
     pair: (F, F),
@@ -111,7 +114,7 @@ fn place_agrees<F: CanonicalField + Packable, B: Butterfly<F>>(
 }
 
 // Stops the test where a butterfly makes another pair of an element of each row.
-fn places_agree<F: CanonicalField + Packable, B: Butterfly<F>>(
+fn places_agree<F: CanonicalField, B: Butterfly<F>>(
     rt: &impl Abort,
     b: B,
     rows: (&Vec<F>, &Vec<F>),
@@ -140,7 +143,7 @@ fn rows_of<F: CanonicalField>(
 }
 
 // What a butterfly makes of the rows out of place, which stay.
-fn made_oop<F: CanonicalField + Packable, B: Butterfly<F>>(
+fn made_oop<F: CanonicalField, B: Butterfly<F>>(
     rt: &impl Abort,
     alloc: Global,
     b: B,
@@ -162,7 +165,7 @@ fn made_oop<F: CanonicalField + Packable, B: Butterfly<F>>(
 }
 
 // Rows of this size, out of place and in place.
-fn row_like_elements<F: CanonicalField + Packable, B: Butterfly<F>>(
+fn row_like_elements<F: CanonicalField, B: Butterfly<F>>(
     rt: &impl Abort,
     alloc: Global,
     b: B,
@@ -185,7 +188,7 @@ fn row_like_elements<F: CanonicalField + Packable, B: Butterfly<F>>(
 }
 
 // Two rows by packs of this width.
-fn by_packs<F: CanonicalField + Packable, P: PackedField<Scalar = F>, B: Butterfly<F>>(
+fn by_packs<F: CanonicalField, P: PackedField<Scalar = F>, B: Butterfly<F>>(
     rt: &impl Abort,
     alloc: Global,
     b: B,
@@ -206,7 +209,7 @@ fn by_packs<F: CanonicalField + Packable, P: PackedField<Scalar = F>, B: Butterf
 }
 
 // Two rows element by element.
-fn by_elements<F: CanonicalField + Packable, B: Butterfly<F>>(
+fn by_elements<F: CanonicalField, B: Butterfly<F>>(
     rt: &impl Abort,
     alloc: Global,
     b: B,
@@ -224,7 +227,7 @@ fn by_elements<F: CanonicalField + Packable, B: Butterfly<F>>(
 }
 
 // Rows of packs of this width, by packs and by single elements.
-fn packs_like_elements<F: CanonicalField + Packable, P: PackedField<Scalar = F>, B: Butterfly<F>>(
+fn packs_like_elements<F: CanonicalField, P: PackedField<Scalar = F>, B: Butterfly<F>>(
     rt: &impl Abort,
     alloc: Global,
     b: B,
@@ -240,7 +243,7 @@ fn packs_like_elements<F: CanonicalField + Packable, P: PackedField<Scalar = F>,
     same_rows(rt, &row_2, &one_2);
 }
 
-fn rows_like_elements<F: CanonicalField + Packable, B: Butterfly<F>>(
+fn rows_like_elements<F: CanonicalField, B: Butterfly<F>>(
     rt: &impl Abort,
     alloc: Global,
     b: B,
@@ -252,7 +255,7 @@ fn rows_like_elements<F: CanonicalField + Packable, B: Butterfly<F>>(
 }
 
 // Each butterfly.
-fn rows_of_butterflies<F: CanonicalField + Packable>(rt: &impl Abort, alloc: Global) {
+pub(crate) fn rows_of_butterflies<F: CanonicalField>(rt: &impl Abort, alloc: Global) {
     let t = F::from_usize(1728404513);
     let scaled = ScaledDitButterfly::new(t, F::from_usize(1006632961));
     rows_like_elements::<F, DitButterfly<F>>(rt, alloc, DitButterfly(t), 1000003);
@@ -264,12 +267,13 @@ fn rows_of_butterflies<F: CanonicalField + Packable>(rt: &impl Abort, alloc: Glo
 
 #[test]
 fn applies_to_rows(rt: HostRuntime) {
-    rows_of_butterflies::<BabyBear>(&rt, rt.alloc());
-    rows_of_butterflies::<Goldilocks>(&rt, rt.alloc());
+    for field in [FieldName::BabyBear, FieldName::Goldilocks] {
+        over(&rt, rt.alloc(), field, Topic::RowsOfButterflies);
+    }
 }
 
 // Rows of full packs, by packs and by single elements.
-fn packs_agree<F: CanonicalField + Packable, P: PackedField<Scalar = F>, B: Butterfly<F>>(
+fn packs_agree<F: CanonicalField, P: PackedField<Scalar = F>, B: Butterfly<F>>(
     rt: &impl Abort,
     alloc: Global,
     b: B,
@@ -283,10 +287,7 @@ fn packs_agree<F: CanonicalField + Packable, P: PackedField<Scalar = F>, B: Butt
 }
 
 // Each butterfly, at packs of this width.
-fn packs_of<F: CanonicalField + Packable, P: PackedField<Scalar = F>>(
-    rt: &impl Abort,
-    alloc: Global,
-)
+fn packs_of<F: CanonicalField, P: PackedField<Scalar = F>>(rt: &impl Abort, alloc: Global)
     requires { 1 ≤ P.WIDTH }
 {
     let t = F::from_usize(1728404513);
@@ -298,18 +299,24 @@ fn packs_of<F: CanonicalField + Packable, P: PackedField<Scalar = F>>(
     packs_agree::<F, P, TwiddleFreeButterfly>(rt, alloc, TwiddleFreeButterfly, 1000003);
 }
 
+fn packs_of_width<const N: usize>(rt: &impl Abort, alloc: Global)
+    requires some { 1 ≤ N }
+    requires few { N ≤ 8 }
+{
+    packs_of::<BabyBear, Lanes<BabyBear, N>>(rt, alloc);
+}
+
 // Over a field whose packs go all at once: over `Goldilocks`, whose lanes go one after another, no pack is loaded.
 #[test]
 fn packs_of_each_width_agree(rt: HostRuntime) {
-    let alloc = rt.alloc();
-    packs_of::<BabyBear, Lanes<BabyBear, 1>>(&rt, alloc);
-    packs_of::<BabyBear, Lanes<BabyBear, 3>>(&rt, alloc);
-    packs_of::<BabyBear, Lanes<BabyBear, 4>>(&rt, alloc);
-    packs_of::<BabyBear, Lanes<BabyBear, 8>>(&rt, alloc);
+    packs_of_width::<1>(&rt, rt.alloc());
+    packs_of_width::<3>(&rt, rt.alloc());
+    packs_of_width::<4>(&rt, rt.alloc());
+    packs_of_width::<8>(&rt, rt.alloc());
 }
 
 // Stops the test where decimation in time makes another pair of an element of each row.
-fn turned_by_place<F: CanonicalField + Packable>(
+fn turned_by_place<F: CanonicalField>(
     rt: &impl Abort,
     twiddles: &Vec<F>,
     rows: (&Vec<F>, &Vec<F>),
@@ -326,7 +333,7 @@ fn turned_by_place<F: CanonicalField + Packable>(
 }
 
 // Rows with a twiddle for each place, of so many elements.
-fn row_by_place<F: CanonicalField + Packable>(rt: &impl Abort, alloc: Global, size: usize) {
+fn row_by_place<F: CanonicalField>(rt: &impl Abort, alloc: Global, size: usize) {
     let twiddles: Vec<F> = row(rt, alloc, size, 2013265919, 271828);
     let (first, second) = rows_of(rt, alloc, size, 1000003);
     let (mut row_1, mut row_2) = rows_of(rt, alloc, size, 1000003);
@@ -339,7 +346,7 @@ fn row_by_place<F: CanonicalField + Packable>(rt: &impl Abort, alloc: Global, si
     turned_by_place(rt, &twiddles, (&first, &second), (&row_1, &row_2));
 }
 
-fn rows_by_place<F: CanonicalField + Packable>(rt: &impl Abort, alloc: Global) {
+pub(crate) fn rows_by_place<F: CanonicalField>(rt: &impl Abort, alloc: Global) {
     for size in 0..34usize {
         row_by_place::<F>(rt, alloc, size);
     }
@@ -347,11 +354,11 @@ fn rows_by_place<F: CanonicalField + Packable>(rt: &impl Abort, alloc: Global) {
 
 #[test]
 fn twiddles_by_place_agree_with_single_ones(rt: HostRuntime) {
-    rows_by_place::<BabyBear>(&rt, rt.alloc());
+    over(&rt, rt.alloc(), FieldName::BabyBear, Topic::TwiddlesByPlace);
 }
 
 // A row of a pack and three more entries, whose sums and differences wrap around the modulus.
-fn wraps<F: CanonicalField + Packable>(rt: &impl Abort, alloc: Global) {
+pub(crate) fn wraps<F: CanonicalField>(rt: &impl Abort, alloc: Global) {
     let mut row_1: Vec<F> = row(rt, alloc, 11, 2013265920, 0);
     let mut row_2: Vec<F> = row(rt, alloc, 11, 1, 0);
     TwiddleFreeButterfly.apply_to_rows(
@@ -365,15 +372,11 @@ fn wraps<F: CanonicalField + Packable>(rt: &impl Abort, alloc: Global) {
 
 #[test]
 fn wraps_in_each_lane(rt: HostRuntime) {
-    wraps::<BabyBear>(&rt, rt.alloc());
+    over(&rt, rt.alloc(), FieldName::BabyBear, Topic::Wraps);
 }
 
 // On rows of eleven a butterfly with a twiddle counts eleven products, in place.
-fn counts_eleven<F: CanonicalField + Packable>(
-    row_1: &mut [F],
-    row_2: &mut [F],
-    products: &mut Products,
-)
+fn counts_eleven<F: CanonicalField>(row_1: &mut [F], row_2: &mut [F], products: &mut Products)
     requires first { length row_1.old ≡ 11 }
     requires second { length row_2.old ≡ 11 }
     ensures { products.new ≡ products.old + 11 }
@@ -382,11 +385,7 @@ fn counts_eleven<F: CanonicalField + Packable>(
 }
 
 // With a scale too it counts twice as many.
-fn counts_twenty_two<F: CanonicalField + Packable>(
-    row_1: &mut [F],
-    row_2: &mut [F],
-    products: &mut Products,
-)
+fn counts_twenty_two<F: CanonicalField>(row_1: &mut [F], row_2: &mut [F], products: &mut Products)
     requires first { length row_1.old ≡ 11 }
     requires second { length row_2.old ≡ 11 }
     ensures { products.new ≡ products.old + 22 }
@@ -396,7 +395,7 @@ fn counts_twenty_two<F: CanonicalField + Packable>(
 }
 
 // One after the other, of minus one and one: two and minus four first, then minus twenty and 28.
-fn counts<F: CanonicalField + Packable>(rt: &impl Abort, alloc: Global) {
+pub(crate) fn counts<F: CanonicalField>(rt: &impl Abort, alloc: Global) {
     let mut products = Products::new();
     let mut row_1: Vec<F> = row(rt, alloc, 11, 2013265920, 0);
     let mut row_2: Vec<F> = row(rt, alloc, 11, 1, 0);
@@ -410,11 +409,11 @@ fn counts<F: CanonicalField + Packable>(rt: &impl Abort, alloc: Global) {
 
 #[test]
 fn products_of_rows_are_counted(rt: HostRuntime) {
-    counts::<BabyBear>(&rt, rt.alloc());
+    over(&rt, rt.alloc(), FieldName::BabyBear, Topic::CountedRows);
 }
 
 // One through a matrix and two through views, with factors whose product is five.
-fn scales<F: CanonicalField + Packable>(rt: &impl Abort, alloc: Global) {
+pub(crate) fn scales<F: CanonicalField>(rt: &impl Abort, alloc: Global) {
     let mut products = Products::new();
     let mut matrix: RowMajorMatrix<F> = RowMajorMatrix::new(row(rt, alloc, 6, 1, 2), 3);
     let half = F::from_usize(1006632961);
@@ -426,5 +425,5 @@ fn scales<F: CanonicalField + Packable>(rt: &impl Abort, alloc: Global) {
 
 #[test]
 fn scales_matrices(rt: HostRuntime) {
-    scales::<BabyBear>(&rt, rt.alloc());
+    over(&rt, rt.alloc(), FieldName::BabyBear, Topic::ScaledMatrices);
 }

@@ -1,8 +1,8 @@
 // Operators in place, sums, products, powers, numbers and printed elements: each at every field through its
 // bound, with values worked out by hand.
 
-use super::{is, row};
-use p3_field::{BabyBear, CanonicalField, Field, Goldilocks, KoalaBear};
+use super::{FieldName, Topic, is, over, row};
+use p3_field::{BabyBear, CanonicalField, Field, Goldilocks};
 use std::alloc::Global;
 use std::process::Abort;
 
@@ -63,7 +63,13 @@ fn printed<F: CanonicalField>(rt: &impl Abort, alloc: Global, last: &str) {
     is(rt, text.as_str(), "  5");
 }
 
-fn agrees<F: CanonicalField>(rt: &impl Abort, alloc: Global, below: u64, above: u64, last: &str) {
+pub(crate) fn agrees<F: CanonicalField>(
+    rt: &impl Abort,
+    alloc: Global,
+    below: u64,
+    above: u64,
+    last: &str,
+) {
     changed_in_place::<F>(rt);
     totals::<F>(rt, alloc);
     powers::<F>(rt, alloc);
@@ -73,19 +79,22 @@ fn agrees<F: CanonicalField>(rt: &impl Abort, alloc: Global, below: u64, above: 
 
 #[test]
 fn baby_bear_has_the_forms_of_numbers(rt: HostRuntime) {
-    agrees::<BabyBear>(&rt, rt.alloc(), 268435453, 268435454, "2013265920");
-    has_number(&rt, BabyBear::from(7u8) + BabyBear::from(300u16), 307);
+    let forms = Topic::Forms(268435453, 268435454, "2013265920");
+    over(&rt, rt.alloc(), FieldName::BabyBear, forms);
+    let sum = BabyBear::from(7u8) + BabyBear::from(300u16);
+    is(&rt, sum.as_canonical_u64(), 307);
 }
 
 #[test]
 fn koala_bear_has_the_forms_of_numbers(rt: HostRuntime) {
-    agrees::<KoalaBear>(&rt, rt.alloc(), 33554429, 33554430, "2130706432");
+    let forms = Topic::Forms(33554429, 33554430, "2130706432");
+    over(&rt, rt.alloc(), FieldName::KoalaBear, forms);
 }
 
 #[test]
 fn goldilocks_has_the_forms_of_numbers(rt: HostRuntime) {
-    let last = "18446744069414584320";
-    agrees::<Goldilocks>(&rt, rt.alloc(), 4294967295, 4294967296, last);
+    let forms = Topic::Forms(4294967295, 4294967296, "18446744069414584320");
+    over(&rt, rt.alloc(), FieldName::Goldilocks, forms);
     let sum = Goldilocks::from(7u8) + Goldilocks::from(300u16) + Goldilocks::from(4294967295u32);
-    has_number(&rt, sum, 4294967602);
+    is(&rt, sum.as_canonical_u64(), 4294967602);
 }

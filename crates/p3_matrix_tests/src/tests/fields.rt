@@ -2,10 +2,10 @@
 
 ghost use Rattle.std.specs.Prelude.{◌≡◌, ◌*◌, ◌<◌, length};
 
-use super::{is, row, vectors};
+use super::{FieldName, Topic, is, over, row, vectors};
 use p3_field::{
-    BabyBear, BabyBearX8, CanonicalField, Field, Goldilocks, GoldilocksX8, KoalaBear, KoalaBearX8,
-    Lanes, Packable, Packed, PackedField, Products, TwoAdicField, WideGoldilocks, scaled,
+    BabyBear, CanonicalField, Field, Lanes, Packable, Packed, PackedField, Products, TwoAdicField,
+    scaled,
 };
 use std::alloc::Global;
 use std::mem::size_of;
@@ -13,7 +13,7 @@ use std::process::Abort;
 
 // What a program elsewhere computed of a field.
 #[derive(Drop)]
-struct Table<'a> {
+pub(crate) struct Table<'a> {
     modulus: u64,
     generator: u64,
     two_adicity: usize,
@@ -86,7 +86,7 @@ fn halves_agree<F: CanonicalField>(rt: &impl Abort, (number, half): (u8, u64)) {
     is(rt, (F::ZERO.is_zero(), x.is_zero()), (true, false));
 }
 
-fn agrees<F: CanonicalField>(rt: &impl Abort, table: &Table) {
+pub(crate) fn agrees<F: CanonicalField>(rt: &impl Abort, table: &Table) {
     operations_agree::<F>(rt, table.operations);
     inverses_agree::<F>(rt, table.inverses);
     constants_agree::<F>(rt, table.modulus, table.generator);
@@ -108,7 +108,7 @@ fn baby_bear_computes_the_worked_numbers(rt: HostRuntime) {
         powers: vectors::BABY_BEAR_POWERS,
         half: (5, 1006632963),
     };
-    agrees::<BabyBear>(&rt, &table);
+    over(&rt, rt.alloc(), FieldName::BabyBear, Topic::Numbers(&table));
 }
 
 #[test]
@@ -123,7 +123,12 @@ fn koala_bear_computes_the_worked_numbers(rt: HostRuntime) {
         powers: vectors::KOALA_BEAR_POWERS,
         half: (5, 1065353219),
     };
-    agrees::<KoalaBear>(&rt, &table);
+    over(
+        &rt,
+        rt.alloc(),
+        FieldName::KoalaBear,
+        Topic::Numbers(&table),
+    );
 }
 
 #[test]
@@ -138,8 +143,9 @@ fn goldilocks_computes_the_worked_numbers(rt: HostRuntime) {
         powers: vectors::GOLDILOCKS_POWERS,
         half: (7, 9223372034707292164),
     };
-    agrees::<Goldilocks>(&rt, &table);
-    agrees::<WideGoldilocks>(&rt, &table);
+    for field in [FieldName::Goldilocks, FieldName::WideGoldilocks] {
+        over(&rt, rt.alloc(), field, Topic::Numbers(&table));
+    }
 }
 
 // Twice the sum and once the difference of a lane and two.
@@ -157,7 +163,9 @@ fn by_lanes<F: Packable>(lane: &[F], sum: &mut [F], difference: &mut [F], produc
 }
 
 // At a pack that is one element.
-fn one_lane<F: CanonicalField + Packable>(rt: &impl Abort, alloc: Global, products: &mut Products) {
+pub(crate) fn one_lane<F: CanonicalField>(rt: &impl Abort, alloc: Global) {
+    let mut products = Products::new();
+    let mut more = Products::new();
     let lane: Vec<F> = row(rt, alloc, 1, 5, 0);
     let mut sum: Vec<F> = row(rt, alloc, 1, 0, 0);
     let mut difference: Vec<F> = row(rt, alloc, 1, 0, 0);
@@ -165,20 +173,19 @@ fn one_lane<F: CanonicalField + Packable>(rt: &impl Abort, alloc: Global, produc
         lane.as_slice(),
         sum.as_mut_slice(),
         difference.as_mut_slice(),
-        products,
+        &mut products,
     );
     has_number(rt, sum[0], 14);
     has_number(rt, difference[0], 3);
-    has_number(rt, scaled(F::TWO, F::TWO, products), 4);
+    has_number(rt, scaled(F::TWO, F::TWO, &mut more), 4);
+    products.add(more);
 }
 
 #[test]
 fn a_field_is_a_pack_of_one_lane(rt: HostRuntime) {
-    let mut products = Products::new();
-    let mut more = Products::new();
-    one_lane::<BabyBear>(&rt, rt.alloc(), &mut products);
-    one_lane::<Goldilocks>(&rt, rt.alloc(), &mut more);
-    products.add(more);
+    for field in [FieldName::BabyBear, FieldName::Goldilocks] {
+        over(&rt, rt.alloc(), field, Topic::OneLane);
+    }
     assert!(rt; size_of::<Products>() == 0);
 }
 
@@ -207,12 +214,24 @@ fn exchanges<F: CanonicalField, P: PackedField<Scalar = F>>(
     }
 }
 
+// In packs of the field's own and of one.
+pub(crate) fn pairs_in_packs<F: CanonicalField>(rt: &impl Abort, alloc: Global) {
+    let width = F::Packing::WIDTH;
+    assert!(rt; width <= 8);
+    exchanges::<F, F::Packing>(rt, alloc, 2 * width);
+    exchanges::<F, F>(rt, alloc, 2);
+}
+
 #[test]
 fn pairs_are_loaded_and_stored(rt: HostRuntime) {
-    exchanges::<BabyBear, BabyBearX8>(&rt, rt.alloc(), 16);
-    exchanges::<Goldilocks, Goldilocks>(&rt, rt.alloc(), 2);
-    exchanges::<Goldilocks, Lanes<Goldilocks, 3>>(&rt, rt.alloc(), 6);
-    exchanges::<WideGoldilocks, GoldilocksX8>(&rt, rt.alloc(), 16);
+    for field in [
+        FieldName::BabyBear,
+        FieldName::Goldilocks,
+        FieldName::WideGoldilocks,
+    ] {
+        over(&rt, rt.alloc(), field, Topic::PairsInPacks);
+    }
+    exchanges::<BabyBear, Lanes<BabyBear, 3>>(&rt, rt.alloc(), 6);
 }
 
 // What stands in one lane of eight, and in the lane beside it.
@@ -305,10 +324,23 @@ fn lanes_agree<F: CanonicalField, P: PackedField<Scalar = F>>(
     }
 }
 
+// In the field's own packs, which are of eight.
+pub(crate) fn eight_lanes<F: CanonicalField>(
+    rt: &impl Abort,
+    alloc: Global,
+    table: &[(usize, usize, u64, u64, u64)],
+) {
+    assert!(rt; F::Packing::WIDTH == 8);
+    lanes_agree::<F, F::Packing>(rt, alloc, table);
+}
+
 #[test]
 fn eight_lanes_compute_as_single_elements(rt: HostRuntime) {
     let alloc = rt.alloc();
-    lanes_agree::<BabyBear, BabyBearX8>(&rt, alloc, &vectors::BABY_BEAR);
-    lanes_agree::<KoalaBear, KoalaBearX8>(&rt, alloc, &vectors::KOALA_BEAR);
-    lanes_agree::<WideGoldilocks, GoldilocksX8>(&rt, alloc, &vectors::GOLDILOCKS);
+    let table = Topic::EightLanes(&vectors::BABY_BEAR);
+    over(&rt, alloc, FieldName::BabyBear, table);
+    let table = Topic::EightLanes(&vectors::KOALA_BEAR);
+    over(&rt, alloc, FieldName::KoalaBear, table);
+    let table = Topic::EightLanes(&vectors::GOLDILOCKS);
+    over(&rt, alloc, FieldName::WideGoldilocks, table);
 }
