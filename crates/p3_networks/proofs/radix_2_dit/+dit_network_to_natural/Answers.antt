@@ -64,17 +64,5 @@ returns-then-values-gt-CACHED-clause-cost g t c =
     joined_count c.args.log_h c.args.width c.args.products.now c.dit_network_to_natural.new.products c.dit_network_to_natural-then-values-gt-CACHED.new.products c.one_low_layer.new.products
     c.if-log_h-gt0.true c.dit_network_to_natural.ensures.cost c.dit_network_to_natural-then-values-gt-CACHED.ensures.cost c.one_low_layer.ensures.cost.cost
 
-pub network_in_cache-requires-clause-wide : goal.network_in_cache-requires-clause-wide
-network_in_cache-requires-clause-wide g t c = c.requires.wide
-
-pub network_in_cache-requires-clause-small : goal.network_in_cache-requires-clause-small
-network_in_cache-requires-clause-small g t c = c.requires.small
-
-pub network_in_cache-requires-clause-within : goal.network_in_cache-requires-clause-within
-network_in_cache-requires-clause-within g t c = c.requires.within
-
-pub network_in_cache-requires-clause-size : goal.network_in_cache-requires-clause-size
-network_in_cache-requires-clause-size g t c = c.requires.size
-
-pub network_in_cache-requires-clause-twiddles : goal.network_in_cache-requires-clause-twiddles
-network_in_cache-requires-clause-twiddles g t c = c.requires.twiddles
+pub network_in_cache-requires : goal.network_in_cache-requires
+network_in_cache-requires g t c = record { wide = c.requires.wide; small = c.requires.small; within = c.requires.within; size = c.requires.size; twiddles = c.requires.twiddles }

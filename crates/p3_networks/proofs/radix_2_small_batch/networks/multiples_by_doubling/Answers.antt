@@ -38,15 +38,26 @@ loop-done-init g c =
       count = omega (arith, c.scale_slice_in_place.ensures.count, ap length copied);
     }
 
-pub scale_behind-requires-clause-room : goal.scale_behind-requires-clause-room
-scale_behind-requires-clause-room g c =
+pub overflow_mul-done : goal.overflow_mul-done
+overflow_mul-done g c = omega (arith, mul-le-mul_right (length c.args.row.now) c.loop-done.invariant.within, c.requires)
+
+pub overflow_mul-more : goal.overflow_mul-more
+overflow_mul-more g c =
+    let it = turn c.loop-done.done c.args.count c.min-more.result c.loop-done.invariant.some c.loop-done-test.true c.min-more.ensures in
+    omega (arith, mul-le-mul_right (length c.args.row.now) it.1.0, mul-le-mul_right (length c.args.row.now) c.loop-done.invariant.within, c.requires)
+
+pub scale_behind-requires : goal.scale_behind-requires
+scale_behind-requires g c =
     let w = length c.args.row.now in
     let done = c.loop-done.done in
     let more = c.min-more.result in
     let it = turn done c.args.count more c.loop-done.invariant.some c.loop-done-test.true c.min-more.ensures in
     let all : (done + more) * w ≤ c.args.count * w = mul-le-mul_right w it.1.1.0 in
     let spread : (done + more) * w ≡ done * w + more * w = omega arith in
-    omega (arith, all, spread, c.requires, c.loop-done.auto.values)
+    record { there = mul-le-mul_right w it.1.0; room = omega (arith, all, spread, c.requires, c.loop-done.auto.values) }
+
+pub returns-clause-values : goal.returns-clause-values
+returns-clause-values g c t j below inside = c.loop-done.invariant.values t j (omega (arith, below, c.loop-done-test.false)) inside
 
 pub loop-done-preserved : goal.loop-done-preserved
 loop-done-preserved g c =

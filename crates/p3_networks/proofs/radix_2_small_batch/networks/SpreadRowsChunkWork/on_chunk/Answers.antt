@@ -44,3 +44,9 @@ returns-clause-chunk g c t j copy inside =
     ap (λ v. field.value (get_or c.multiples_of_row.new.values (t * v + j) field.ZERO)) (sym part_len)
     ∙ c.multiples_of_row.ensures.values t j copy (subst (λ v. j < v) (sym part_len) inside)
     ∙ ap₂ field.ring.mul (ap field.value (ap (λ xs. get_or xs j field.ZERO) c.chunk-row.ensures ∙ part_at it.rows.now (n * it.width) it.width j field.ZERO inside)) (ap₂ (λ x y. field.ring.mul x (power field.ring y t)) weight root)
+
+pub returns-clause-cost : goal.returns-clause-cost
+returns-clause-cost g c =
+    let (some, size, row, weight, room) = c.requires in
+    let count : length c.args.values.now ≡ c.args.self.now.copies * length c.chunk-row.result.now = size ∙ ap (λ v. c.args.self.now.copies * v) (sym (ap length c.chunk-row.ensures ∙ part_size c.args.self.now.rows.now _ _ row)) in
+    omega (arith, c.multiples_of_row.ensures.count, count)
