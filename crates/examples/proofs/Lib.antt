@@ -1,4 +1,5 @@
 pub mod BlockSums
+pub mod Codewords
 pub mod ExtensionValues
 pub mod FoldedValues
 pub mod Limits

@@ -33,3 +33,8 @@ module _ {F : Type 0} (f : FieldMembers F) (g : ℕ → f.Element) where
     pub high : height codeword ≡ 2 ^ suc k
     pub tree : AreNodes worth join (2 ^ k) (λ i. of_row (rows_from codeword (2 * i) 2).values) nodes
     pub folds : AreFoldedRows f.ring g beta k s (bit_reversal (suc k) (values_of f codeword)) (bit_reversal k (values_of f next))
+
+  -- n codewords, the first on the coset of s of order 2 ^ log, each folded with its challenge to the next one, which is on the coset of
+  -- the squared shift, down to codeword n
+  abbrev pub AreLayers : {D V : Type 0} (worth : D → V) (join : V → V → V) (of_row : List F → V) (log n : ℕ) (s : f.Element) (betas : ℕ → f.Element) (codewords : ℕ → RowMajor F) (nodes : ℕ → List D) → Type 0
+  AreLayers worth join of_row log n s betas codewords nodes = (l : ℕ) → l < n → IsLayer worth join of_row (log - suc l) (power f.ring s (2 ^ l)) (betas l) (codewords l) (codewords (suc l)) (nodes l)

@@ -6,22 +6,27 @@
 //!
 //! Proved: `check` says yes exactly where each path leads to its layer's root, and each pair that is opened folds, with
 //! that layer's challenge and at its point, to the row that is opened of the next layer, the last to that of the last
-//! codeword. What `open_layer` opens of a layer that `commit_layer` made has that path, and folds so to the next codeword.
+//! codeword. What `open` opens of layers that `commit` made has those paths, and folds so, hence an honest query is
+//! accepted (`honest_query`). `commit` draws the challenge of each layer of its root, after those of the layers before.
 
 ghost use Rattle.std.specs.Prelude.{◌≡◌, ◌↔◌, ℕ, suc, ◌+◌, ◌-◌, ◌*◌, ◌/◌, ◌%◌, ◌^◌, ◌<◌, ◌≤◌, IfOk, IsTrue};
-ghost use Rattle.std.specs.Prelude.{get_or, length, vec_len};
+ghost use Rattle.std.specs.Prelude.{[], get_or, length, map, vec_len};
+ghost use Rattle.std.specs.List.{FoldsTo as Chained};
 ghost use Rattle.p3_field.specs.Ring.{IsInvertible, power};
 ghost use Rattle.p3_matrix.specs.Cosets.{values_of};
 ghost use Rattle.p3_matrix.specs.RowMajor.{height, rows_from};
 ghost use Rattle.p3_matrix.specs.BitOrder.{bit_reversal};
 ghost use Rattle.p3_dft.specs.Codes.{HasDegreeBelow};
 ghost use Rattle.p3_dft.specs.Shapes.{FitsDft};
-ghost use Rattle.examples.specs.Fri.{FoldsDown, FoldsTo, IsLayer, IsOpened};
+ghost use Rattle.examples.specs.Fri.{AreLayers, FoldsDown, FoldsTo, IsLayer, IsOpened};
 
 use crate::folding::{fold, folds_to};
 use crate::merkle_paths::{path_of, root_of_path, tree_of_pairs};
 use crate::merkle_root::RowHash;
-use p3_dft::{DftError, Layout, RowMajorMatrix, TwoAdicField, growth, reverse_bits_len};
+use p3_dft::{
+    DftError, Layout, RowMajorMatrix, TwoAdicField, growth, invertible_square, reverse_bits_len,
+};
+use std::alloc::Global;
 
 /// A codeword that was committed to and folded.
 #[derive(Drop)]
@@ -43,18 +48,27 @@ pub struct Opening<F, D> {
     pub path: Vec<D>,
 }
 
-/// Commits to a codeword of two rows or more, in bit reversed order, and folds it with the challenge that `draw` makes
-/// of the root. It answers the layer, to open pairs of, and the next codeword, on the coset of the squared shift.
-pub fn commit_layer<F: TwoAdicField, H: RowHash<F>, C: FnOnce(H::Digest) -> F>(
+/// What the challenges are drawn from: it takes in the roots, in their order, as a sponge does.
+pub trait Transcript<F, D> {
+    // From one state it draws this challenge of this root, and is then in the other.
+    ghost draws: { Self → D → F → Self → Type 0 };
+
+    /// Takes in a root, and makes a challenge of it and of what it took in before.
+    fn draw(&mut self, root: D) -> F
+        ensures { draws self.old root result self.new };
+}
+
+/// Commits to a codeword of two rows or more, in bit reversed order, and folds it with the challenge that is drawn of
+/// the root. It answers the layer, to open pairs of, and the next codeword, on the coset of the squared shift.
+pub fn commit_layer<F: TwoAdicField, H: RowHash<F>, T: Transcript<F, H::Digest>>(
     hash: &H,
     codeword: RowMajorMatrix<F>,
     shift: F,
-    draw: C,
+    transcript: &mut T,
 ) -> Result<(Layer<F, H::Digest>, RowMajorMatrix<F>), DftError>
     requires fits { FitsDft F.TWO_ADICITY (height codeword) codeword.width }
     requires pairs { 2 ≤ height codeword }
     requires invertible { IsInvertible F.ring (F.value shift) }
-    requires callable { C.IsAlwaysCallable draw }
     ensures codeword { IfOk result (λ p. p.0.codeword ≡ codeword) }
     ensures shape { IfOk result (λ p. (2 * height p.1 ≡ height codeword) × (p.1.width ≡ codeword.width)) }
     ensures layer { IfOk result (λ p. (k : ℕ) → height codeword ≡ 2 ^ suc k
@@ -66,11 +80,11 @@ pub fn commit_layer<F: TwoAdicField, H: RowHash<F>, C: FnOnce(H::Digest) -> F>(
         → HasDegreeBelow F.Field.own F.generator ((h + 1) / 2) k (F.ring.mul (F.value shift) (F.value shift))
         (bit_reversal k (values_of F.Field.own p.1))) }
     ensures drawn { IfOk result (λ p. (root : H.Digest) × (root ≡ get_or p.0.nodes.items 1 root)
-        × C.post draw root p.0.challenge) }
+        × T.draws transcript.old root p.0.challenge transcript.new) }
 {
     let leaves = codeword.height() / 2;
     let nodes = tree_of_pairs(hash, &codeword, leaves)?;
-    let challenge = draw(nodes[1]);
+    let challenge = transcript.draw(nodes[1]);
     let folded = fold(&codeword, Layout::BitReversed, shift, challenge)?;
     let layer = Layer {
         codeword,
@@ -90,6 +104,9 @@ pub fn open_layer<F: TwoAdicField, H: RowHash<F>>(
     requires nodes { length layer.now.nodes.items ≡ 2 * 2 ^ log_half }
     requires inside { index < 2 ^ log_half }
     ensures pair { IfOk result (λ o. o.pair ≡ rows_from layer.now.codeword (2 * index) 2) }
+    ensures entries { IfOk result (λ o. (r j : ℕ) → r < 2 → j < layer.now.codeword.width
+        → (values_of F.Field.own o.pair).entry r j
+        ≡ (values_of F.Field.own layer.now.codeword).entry (2 * index + r) j) }
     ensures opened { IfOk result (λ o. (h : H) (s beta : F.Element) (next : _) (d : H.Digest)
         → IsLayer F.Field.own (λ n. F.value (F.generator n)) H.worth (H.of_pair h) (H.of_row h) log_half s beta
         layer.now.codeword next layer.now.nodes.items
@@ -319,4 +336,121 @@ pub fn check<F: TwoAdicField, H: RowHash<F>>(
         return false;
     }
     are_folded(commitment, index, openings)
+}
+
+/// Commits to a codeword of `2^log_height` rows, in bit reversed order, which it folds so many times. It answers the
+/// layers, to open queries of, and what a verifier knows. An error is want of memory, and the transcript has then taken
+/// in the roots of the layers before.
+pub fn commit<F: TwoAdicField, H: RowHash<F>, T: Transcript<F, H::Digest>>(
+    hash: &H,
+    codeword: RowMajorMatrix<F>,
+    log_height: usize,
+    shift: F,
+    folds: usize,
+    transcript: &mut T,
+) -> Result<(Vec<Layer<F, H::Digest>>, Commitment<F, H::Digest>), DftError>
+    requires fits { FitsDft F.TWO_ADICITY (height codeword) codeword.width }
+    requires high { height codeword ≡ 2 ^ log_height }
+    requires folds { folds ≤ log_height }
+    requires invertible { IsInvertible F.ring (F.value shift) }
+    ensures count { IfOk result (λ p. (vec_len p.0 ≡ folds) × (vec_len p.1.roots ≡ folds)) }
+    ensures first { IfOk result (λ p. get_or (map (λ y. y.codeword) p.0.items) 0 p.1.last ≡ codeword) }
+    ensures layers { IfOk result (λ p. AreLayers F.Field.own (λ n. F.value (F.generator n)) H.worth (H.of_pair hash.now)
+        (H.of_row hash.now) log_height folds (F.value shift) (λ l. F.value (get_or p.1.challenges.items l F.ZERO))
+        (λ l. get_or (map (λ y. y.codeword) p.0.items) l p.1.last)
+        (λ l. get_or (map (λ y. y.nodes.items) p.0.items) l [])) }
+    ensures last { IfOk result (λ p. (height p.1.last ≡ 2 ^ (log_height - folds)) × (p.1.last.width ≡ codeword.width)) }
+    ensures roots { IfOk result (λ p. (l : ℕ) (d : H.Digest) → l < folds
+        → get_or p.1.roots.items l d ≡ get_or (get_or (map (λ y. y.nodes.items) p.0.items) l []) 1 d) }
+    ensures challenges { IfOk result (λ p. p.1.challenges.items ≡ map (λ y. y.challenge) p.0.items) }
+    ensures known { IfOk result (λ p. (p.1.log_height ≡ log_height) × (p.1.shift ≡ shift)) }
+    ensures drawn { IfOk result (λ p. Chained (λ t y u. (root : H.Digest) × (root ≡ get_or y.nodes.items 1 root)
+        × T.draws t root y.challenge u) transcript.old p.0.items transcript.new) }
+{
+    let alloc = *codeword.allocator();
+    let mut layers = growth::with_capacity(alloc, folds)?;
+    let mut roots = growth::with_capacity(alloc, folds)?;
+    let mut challenges = growth::with_capacity(alloc, folds)?;
+    let mut last = codeword;
+    let mut last_shift = shift;
+    for _fold in 0..folds {
+        let (layer, next) = commit_layer(hash, last, last_shift, transcript)?;
+        roots.push_reserved(layer.nodes[1]);
+        challenges.push_reserved(layer.challenge);
+        layers.push_reserved(layer);
+        last = next;
+        last_shift = invertible_square(last_shift);
+    }
+    let commitment = Commitment {
+        roots,
+        challenges,
+        last,
+        log_height,
+        shift,
+    };
+    Ok((layers, commitment))
+}
+
+/// What is opened for a query: pair `index` of the first codeword, of `2^log_height` rows, and in each layer after it
+/// the pair that has the row to which the one before is folded. It is what `check` accepts.
+pub fn open<F: TwoAdicField, H: RowHash<F>>(
+    alloc: Global,
+    layers: &[Layer<F, H::Digest>],
+    log_height: usize,
+    index: usize,
+) -> Result<Vec<Opening<F, H::Digest>>, DftError>
+    requires layers { length layers.now ≤ log_height }
+    requires small { log_height < 64 }
+    requires inside { 2 * index < 2 ^ log_height }
+    requires high { (l : ℕ) (y : _) → l < length layers.now
+        → height (get_or layers.now l y).codeword ≡ 2 * 2 ^ (log_height - suc l) }
+    requires nodes { (l : ℕ) (y : _) → l < length layers.now
+        → length (get_or layers.now l y).nodes.items ≡ 2 * 2 ^ (log_height - suc l) }
+    ensures count { IfOk result (λ v. vec_len v ≡ length layers.now) }
+    ensures opened { IfOk result (λ v. (h : H) (s : F.Element) (betas : ℕ → F.Element) (last : _)
+        → AreLayers F.Field.own (λ n. F.value (F.generator n)) H.worth (H.of_pair h) (H.of_row h) log_height
+        (length layers.now) s betas (λ l. get_or (map (λ y. y.codeword) layers.now) l last)
+        (λ l. get_or (map (λ y. y.nodes.items) layers.now) l [])
+        → (l : ℕ) (o : _) (d : H.Digest) → l < length layers.now
+        → IsOpened H.worth (H.of_pair h) (H.of_row h) (log_height - suc l) (index / 2 ^ l) last.width
+        (H.worth (get_or (get_or (map (λ y. y.nodes.items) layers.now) l []) 1 d))
+        (get_or v.items l o).pair (get_or v.items l o).path.items) }
+    ensures folds { IfOk result (λ v. (h : H) (s : F.Element) (betas : ℕ → F.Element) (last : _)
+        → AreLayers F.Field.own (λ n. F.value (F.generator n)) H.worth (H.of_pair h) (H.of_row h) log_height
+        (length layers.now) s betas (λ l. get_or (map (λ y. y.codeword) layers.now) l last)
+        (λ l. get_or (map (λ y. y.nodes.items) layers.now) l [])
+        → (o : _) → FoldsDown F.Field.own (λ n. F.value (F.generator n)) log_height (length layers.now) s betas index
+        (λ l. values_of F.Field.own (get_or v.items l o).pair) (values_of F.Field.own last)) }
+{
+    let mut openings = growth::with_capacity(alloc, layers.len())?;
+    for l in 0..layers.len() {
+        let opening = open_layer::<F, H>(&layers[l], log_height - 1 - l, index >> l)?;
+        openings.push_reserved(opening);
+    }
+    Ok(openings)
+}
+
+/// Commits to a codeword, opens a query of it and checks that, as a prover and a verifier do who draw the same
+/// challenges: the answer is always yes. An error is want of memory.
+pub fn honest_query<F: TwoAdicField, H: RowHash<F>, T: Transcript<F, H::Digest>>(
+    hash: &H,
+    codeword: RowMajorMatrix<F>,
+    log_height: usize,
+    shift: F,
+    folds: usize,
+    transcript: &mut T,
+    index: usize,
+) -> Result<bool, DftError>
+    requires fits { FitsDft F.TWO_ADICITY (height codeword) codeword.width }
+    requires high { height codeword ≡ 2 ^ log_height }
+    requires folds { folds ≤ log_height }
+    requires small { log_height < 64 }
+    requires invertible { IsInvertible F.ring (F.value shift) }
+    requires inside { 2 * index < 2 ^ log_height }
+    ensures { IfOk result IsTrue }
+{
+    let alloc = *codeword.allocator();
+    let (layers, commitment) = commit(hash, codeword, log_height, shift, folds, transcript)?;
+    let openings = open::<F, H>(alloc, &layers, log_height, index)?;
+    Ok(check(hash, &commitment, index, &openings))
 }

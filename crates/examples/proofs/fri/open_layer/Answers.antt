@@ -1,11 +1,22 @@
-use Rattle.std.proofs.Common.{◌≡◌, ◌+◌, ◌*◌, ◌^◌, get_or, map, rules, ap, subst, sym, ◌∙◌, arith}
+use Rattle.std.proofs.Common.{◌≡◌, suc, ◌+◌, ◌*◌, ◌^◌, get_or, map, rules, ap, subst, sym, ◌∙◌, arith}
+use Rattle.std.proofs.Math.Nat.{two-pow-succ}
 use Rattle.p3_matrix.specs.Cosets.{values_of}
 use Rattle.p3_matrix.specs.RowMajor.{IsRowMajor, rows_from}
 use Rattle.p3_matrix.specs.RowMajor.{height}
 use Rattle.examples.specs.Fri.{FoldsTo}
 use Rattle.examples.specs.MerkleTrees.{AreNodes, climbed}
-use Rattle.examples.proofs.Queries.{height_of_pair, pair_folds}
+use Rattle.examples.proofs.Queries.{entries_of_pair, height_of_pair, pair_folds}
 use Rattle.examples.proofs.fri.open_layer.Goals as goal
+
+pub returns-clause-entries : goal.returns-clause-entries
+returns-clause-entries g c = λ r j inside in_row.
+    let f = g.F.Field in
+    let m = c.args.layer.now.codeword in
+    let i = c.args.index in
+    let pair_is : c.new-pair.result ≡ rows_from m (2 * i) 2 = search rules in
+    let high : height m ≡ 2 ^ suc c.args.log_half = c.requires.high ∙ (let twice : 2 * 2 ^ c.args.log_half ≡ 2 ^ suc c.args.log_half = omega (arith, two-pow-succ c.args.log_half) in twice) in
+    ap (λ p. (values_of f p).entry r j) pair_is
+    ∙ entries_of_pair f m c.allocator-alloc.ensures.whole c.args.log_half i high c.requires.inside (subst IsRowMajor c.view_rows-rows.ensures c.values.ensures.whole) r j inside in_row
 
 pub returns-clause-opened : goal.returns-clause-opened
 returns-clause-opened g c = λ h s beta next d is.

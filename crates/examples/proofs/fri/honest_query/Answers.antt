@@ -1,0 +1,38 @@
+use Rattle.std.proofs.Common.{◌≡◌, ℕ, suc, ◌-◌, ◌<◌, ◌≤◌, [], get_or, length, ap, sym, ◌∙◌, arith}
+use Rattle.std.proofs.lemmas.List.{get_or-map}
+use Rattle.p3_dft.proofs.Laws.Points.{one_logarithm}
+use Rattle.examples.proofs.fri.honest_query.Goals as goal
+
+pub open-requires-clause-nodes : goal.open-requires-clause-nodes
+open-requires-clause-nodes g c = λ l y below.
+    let told = c.in_ok-layers.ensures in
+    let inside : l < length c.in_ok-layers.layers.items = omega (arith, below, ap length c.deref.ensures.value) in
+    let is = told.layers l (omega (arith, inside, told.count.0, c.in_ok-layers.layers.ok.0)) in
+    rw c.deref.ensures.value (ap length (sym (get_or-map (λ y. y.nodes.items) c.in_ok-layers.layers.items l y [] inside)) ∙ is.tree.long)
+
+pub check-requires-clause-within : goal.check-requires-clause-within
+check-requires-clause-within g c =
+    let fits = c.requires.fits in
+    omega (arith, one_logarithm _ _ _ fits.high c.requires.high, fits.within, c.in_ok-layers.ensures.known.0)
+
+pub returns : goal.returns
+returns g c =
+    let f = g.F.Field in
+    let told = c.in_ok-layers.ensures in
+    let opened = c.in_ok-openings.ensures in
+    let known = c.in_ok-layers.commitment in
+    let layers = c.deref.ensures.value in
+    let openings = c.deref-2.ensures.value in
+    let count : length c.deref.result.now ≡ c.args.folds = omega (arith, c.deref.ensures.len, told.count.0) in
+    let count_too : length c.deref-2.result.now ≡ length c.deref.result.now = omega (arith, c.deref-2.ensures.len, opened.count) in
+    let betas = λ (q : ℕ). f.value (get_or known.challenges.items q f.ZERO) in
+    c.check.ensures.1 (
+      omega (arith, count, count_too, told.count.1),
+      λ l o d below.
+          let inside : l < c.args.folds = omega (arith, below, count, count_too) in
+          rw (openings, told.known.0, told.roots l d inside, sym layers)
+          (opened.opened c.args.hash.now (f.value c.args.shift) betas known.last (λ q less. rw layers (told.layers q (omega (arith, less, count)))) l o d (omega (arith, below, count_too))),
+      λ o.
+          rw (count_too, openings, told.known.0, told.known.1)
+          (opened.folds c.args.hash.now (f.value c.args.shift) betas known.last (λ q less. rw layers (told.layers q (omega (arith, less, count)))) o),
+    )
