@@ -32,7 +32,7 @@ impl Fault {
         }
     }
 
-    /// The exit status that tells it, as of the program `dft`: 2 for words, 3 for want of memory, 4 for the
+    /// The exit status that tells it, as of the program `dft`: 2 for words, 3 for out of memory, 4 for the
     /// output; 5 for the clock, and 6 for answers that differ.
     pub fn status(self) -> u8 {
         match self {

@@ -21,7 +21,7 @@ use crate::extension::ExtensionField;
 use crate::folding::fold;
 use p3_dft::{DftError, Layout, RowMajorMatrix, TwoAdicField, TwoAdicSubgroupDft, growth};
 
-/// The matrix of the same entries, as elements of the extension. An error is want of memory.
+/// The matrix of the same entries, as elements of the extension. An error is out of memory.
 pub fn embed<F: TwoAdicField, E: ExtensionField<F>>(
     values: &RowMajorMatrix<F>,
 ) -> Result<RowMajorMatrix<E>, DftError>
@@ -36,7 +36,7 @@ pub fn embed<F: TwoAdicField, E: ExtensionField<F>>(
 }
 
 /// The values of the folded polynomials, in the extension, on the coset of the squared shift; the rows lie in the
-/// layout of those handed over, which are two or more. An error is want of memory.
+/// layout of those handed over, which are two or more. An error is out of memory.
 pub fn fold_into_extension<F: TwoAdicField, E: ExtensionField<F>>(
     values: &RowMajorMatrix<F>,
     layout: Layout,

@@ -139,7 +139,7 @@ fn fold_rows<F: Field>(
 
 /// The values of the folded polynomials, one in each column, on the coset of the squared shift; the rows lie in the
 /// layout of those handed over, which are two or more. Whatever polynomials have the values that are handed over, the
-/// result has those of the folded ones. An error is want of memory.
+/// result has those of the folded ones. An error is out of memory.
 pub fn fold<F: TwoAdicField>(
     values: &RowMajorMatrix<F>,
     layout: Layout,

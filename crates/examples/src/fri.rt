@@ -339,7 +339,7 @@ pub fn check<F: TwoAdicField, H: RowHash<F>>(
 }
 
 /// Commits to a codeword of `2^log_height` rows, in bit reversed order, which it folds so many times. It answers the
-/// layers, to open queries of, and what a verifier knows. An error is want of memory, and the transcript has then taken
+/// layers, to open queries of, and what a verifier knows. An error is out of memory, and the transcript has then taken
 /// in the roots of the layers before.
 pub fn commit<F: TwoAdicField, H: RowHash<F>, T: Transcript<F, H::Digest>>(
     hash: &H,
@@ -431,7 +431,7 @@ pub fn open<F: TwoAdicField, H: RowHash<F>>(
 }
 
 /// Commits to a codeword, opens a query of it and checks that, as a prover and a verifier do who draw the same
-/// challenges: the answer is always yes. An error is want of memory.
+/// challenges: the answer is always yes. An error is out of memory.
 pub fn honest_query<F: TwoAdicField, H: RowHash<F>, T: Transcript<F, H::Digest>>(
     hash: &H,
     codeword: RowMajorMatrix<F>,

@@ -103,7 +103,7 @@ pub enum Fault {
 pub enum Outcome {
     /// With the worked answer.
     Right,
-    /// With want of memory, and all that is promised of it.
+    /// Out of memory, and all that is promised of it.
     Refused,
     Wrong(Fault),
     /// It was not made: its input had no memory, or has no such shape.
