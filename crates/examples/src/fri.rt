@@ -353,7 +353,11 @@ pub fn commit<F: TwoAdicField, H: RowHash<F>, T: Transcript<F, H::Digest>>(
     requires high { height codeword ≡ 2 ^ log_height }
     requires folds { folds ≤ log_height }
     requires invertible { IsInvertible F.ring (F.value shift) }
-    ensures count { IfOk result (λ p. (vec_len p.0 ≡ folds) × (vec_len p.1.roots ≡ folds)) }
+    ensures count { IfOk result (λ p. (vec_len p.0 ≡ folds) × (vec_len p.1.roots ≡ folds)
+        × (vec_len p.1.challenges ≡ folds)) }
+    ensures shapes { IfOk result (λ p. (l : ℕ) (y : _) → l < length p.0.items
+        → (height (get_or p.0.items l y).codeword ≡ 2 * 2 ^ (log_height - suc l))
+        × (length (get_or p.0.items l y).nodes.items ≡ 2 * 2 ^ (log_height - suc l))) }
     ensures first { IfOk result (λ p. get_or (map (λ y. y.codeword) p.0.items) 0 p.1.last ≡ codeword) }
     ensures layers { IfOk result (λ p. AreLayers F.Field.own (λ n. F.value (F.generator n)) H.worth (H.of_pair hash.now)
         (H.of_row hash.now) log_height folds (F.value shift) (λ l. F.value (get_or p.1.challenges.items l F.ZERO))

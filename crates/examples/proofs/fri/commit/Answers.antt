@@ -3,9 +3,10 @@ use Rattle.std.proofs.Math.ListN.{get_or-append}
 use Rattle.std.proofs.Math.Nat.{two-pow-succ}
 use Rattle.std.proofs.lemmas.Bool.{cases_lt}
 use Rattle.std.proofs.lemmas.Fn.{FoldsTo-push}
-use Rattle.std.proofs.lemmas.List.{get_or_push, get_or_read, length-map, map_push}
+use Rattle.std.proofs.lemmas.List.{get_or-map, get_or_push, get_or_read, length-map, map_push}
 use Rattle.std.proofs.lemmas.Nat.{pow_pos}
 use Rattle.p3_field.proofs.Powers.{power-double, power-one}
+use Rattle.p3_matrix.specs.RowMajor.{height}
 use Rattle.examples.specs.Fri.{IsLayer}
 use Rattle.p3_dft.proofs.Laws.Points.{one_logarithm}
 use Rattle.examples.proofs.Codewords.{get_or_pushed, layers_pushed, smaller}
@@ -112,3 +113,11 @@ loop-fold-preserved g c =
           ];
       drawn = rw items (FoldsTo-push (λ t y u. (root : _) × (root ≡ get_or y.nodes.items 1 root) × g.T.Transcript.draws t root y.challenge u) c.args.transcript.now old c.loop-fold.transcript layer c.commit_layer.new.transcript before.drawn told.drawn);
     }
+
+pub returns-clause-shapes : goal.returns-clause-shapes
+returns-clause-shapes g c = λ l y below.
+    let items = c.loop-fold.layers.items in
+    let is = c.loop-fold.invariant.layers l (omega (arith, below, c.loop-fold.invariant.layers_long)) in (
+      ap height (sym (get_or-map (λ y. y.codeword) items l y c.loop-fold.last below)) ∙ is.high ∙ omega (arith, two-pow-succ (c.args.log_height - suc l)),
+      ap length (sym (get_or-map (λ y. y.nodes.items) items l y [] below)) ∙ is.tree.long,
+    )

@@ -1,14 +1,6 @@
 use Rattle.std.proofs.Common.{◌≡◌, ℕ, suc, ◌-◌, ◌<◌, ◌≤◌, [], get_or, length, ap, sym, ◌∙◌, arith}
-use Rattle.std.proofs.lemmas.List.{get_or-map}
 use Rattle.p3_dft.proofs.Laws.Points.{one_logarithm}
 use Rattle.examples.proofs.fri.honest_query.Goals as goal
-
-pub open-requires-clause-nodes : goal.open-requires-clause-nodes
-open-requires-clause-nodes g c = λ l y below.
-    let told = c.in_ok-layers.ensures in
-    let inside : l < length c.in_ok-layers.layers.items = omega (arith, below, ap length c.deref.ensures.value) in
-    let is = told.layers l (omega (arith, inside, told.count.0, c.in_ok-layers.layers.ok.0)) in
-    rw c.deref.ensures.value (ap length (sym (get_or-map (λ y. y.nodes.items) c.in_ok-layers.layers.items l y [] inside)) ∙ is.tree.long)
 
 pub check-requires-clause-within : goal.check-requires-clause-within
 check-requires-clause-within g c =
