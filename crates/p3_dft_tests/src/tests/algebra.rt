@@ -1,7 +1,7 @@
 // Matrices over vector spaces: callers of four laws, worked rows of pairs, and that a form answers for
 // each coordinate what the call over the field answers.
 
-ghost use Rattle.std.specs.Prelude.{ℕ, ◌*◌, ◌<◌, IfOk, IsTrue};
+ghost use Rattle.std.specs.Prelude.{ℕ, ◌*◌, ◌<◌, ◌≤◌, IfOk, IsTrue};
 ghost use Rattle.p3_field.specs.Ring.{IsInvertible};
 ghost use Rattle.p3_matrix.specs.RowMajor.{height};
 ghost use Rattle.p3_dft.specs.Coordinates.{coordinate};
@@ -11,6 +11,7 @@ ghost use Rattle.p3_dft.specs.Transforms.{IsInterpolation, IsTransform};
 
 use super::helpers::engines::{EVERY_ENGINE, Kind, TestEngine, assert_rows_of, input, rows_of};
 use super::helpers::matrices::{assert_same, matrix, matrix_of, sample};
+use super::{FieldName, Topic, over};
 use engine_calls::answers::Answer;
 use engine_calls::engines::Engine;
 use engine_calls::names::{Call, EngineName, OPERATIONS, Operation};
@@ -197,11 +198,42 @@ fn worked_pairs<F: CanonicalField, V: BasedVectorSpace<F> + Copy>(
     }
 }
 
+// What is tested over a vector space.
+#[derive(Clone, Copy)]
+enum SpaceTopic<'a> {
+    WorkedPairs(&'a [Pairs]),
+    Alone,
+    Prepared,
+}
+
+fn in_space<F: CanonicalField, V: BasedVectorSpace<F> + Copy>(
+    rt: &impl Abort,
+    alloc: Global,
+    topic: SpaceTopic,
+) {
+    match topic {
+        SpaceTopic::WorkedPairs(cases) => worked_pairs::<F, V>(rt, alloc, cases),
+        SpaceTopic::Alone => space_over::<F, V>(rt, alloc),
+        SpaceTopic::Prepared => stay_prepared::<F, V>(rt, alloc),
+    }
+}
+
+fn in_space_over_baby_bear<const N: usize>(rt: &impl Abort, alloc: Global, topic: SpaceTopic)
+    requires { N ≤ 8 }
+{
+    in_space::<BabyBear, Coordinates<BabyBear, N>>(rt, alloc, topic);
+}
+
+fn in_pairs_over_goldilocks(rt: &impl Abort, alloc: Global, topic: SpaceTopic) {
+    in_space::<Goldilocks, Coordinates<Goldilocks, 2>>(rt, alloc, topic);
+}
+
 #[test]
 fn columns_of_pairs_have_the_worked_answers(rt: HostRuntime) {
-    let alloc = rt.alloc();
-    worked_pairs::<BabyBear, Coordinates<BabyBear, 2>>(&rt, alloc, &PAIRS_OVER_BABY_BEAR);
-    worked_pairs::<Goldilocks, Coordinates<Goldilocks, 2>>(&rt, alloc, &PAIRS_OVER_GOLDILOCKS);
+    let topic = SpaceTopic::WorkedPairs(&PAIRS_OVER_BABY_BEAR);
+    in_space_over_baby_bear::<2>(&rt, rt.alloc(), topic);
+    let topic = SpaceTopic::WorkedPairs(&PAIRS_OVER_GOLDILOCKS);
+    in_pairs_over_goldilocks(&rt, rt.alloc(), topic);
 }
 
 // At one shape each form of a call answers what the call on the matrix answers, on a coset and at zero.
@@ -227,7 +259,7 @@ fn forms_agree<F: TwoAdicField>(
     }
 }
 
-fn forms_over<F: TwoAdicField>(rt: &impl Abort, alloc: Global) {
+pub(crate) fn forms_over<F: TwoAdicField>(rt: &impl Abort, alloc: Global) {
     for height in [1usize, 2, 4] {
         for width in [1usize, 3] {
             let x = sample(rt, alloc, height, width, 3);
@@ -242,8 +274,18 @@ fn forms_over<F: TwoAdicField>(rt: &impl Abort, alloc: Global) {
 
 #[test]
 fn forms_in_dimension_one_are_the_calls(rt: HostRuntime) {
-    forms_over::<BabyBear>(&rt, rt.alloc());
-    forms_over::<Goldilocks>(&rt, rt.alloc());
+    over(
+        &rt,
+        rt.alloc(),
+        FieldName::BabyBear,
+        Topic::FormsInDimensionOne,
+    );
+    over(
+        &rt,
+        rt.alloc(),
+        FieldName::Goldilocks,
+        Topic::FormsInDimensionOne,
+    );
 }
 
 // Each call over a vector space answers what the call on the matrix of coordinates answers, so that each coordinate is
@@ -285,11 +327,11 @@ fn space_over<F: TwoAdicField, V: BasedVectorSpace<F> + Copy>(rt: &impl Abort, a
 
 #[test]
 fn each_coordinate_is_transformed_alone(rt: HostRuntime) {
-    space_over::<BabyBear, Coordinates<BabyBear, 1>>(&rt, rt.alloc());
-    space_over::<BabyBear, Coordinates<BabyBear, 2>>(&rt, rt.alloc());
-    space_over::<BabyBear, Coordinates<BabyBear, 3>>(&rt, rt.alloc());
-    space_over::<BabyBear, Coordinates<BabyBear, 8>>(&rt, rt.alloc());
-    space_over::<Goldilocks, Coordinates<Goldilocks, 2>>(&rt, rt.alloc());
+    in_space_over_baby_bear::<1>(&rt, rt.alloc(), SpaceTopic::Alone);
+    in_space_over_baby_bear::<2>(&rt, rt.alloc(), SpaceTopic::Alone);
+    in_space_over_baby_bear::<3>(&rt, rt.alloc(), SpaceTopic::Alone);
+    in_space_over_baby_bear::<8>(&rt, rt.alloc(), SpaceTopic::Alone);
+    in_pairs_over_goldilocks(&rt, rt.alloc(), SpaceTopic::Alone);
 }
 
 // After all forms at height two that height is prepared as before.
@@ -316,5 +358,5 @@ pub(crate) fn is_prepared<F: TwoAdicField>(engine: &TestEngine<F>, log_h: usize)
 
 #[test]
 fn forms_keep_prepared_heights(rt: HostRuntime) {
-    stay_prepared::<BabyBear, Coordinates<BabyBear, 2>>(&rt, rt.alloc());
+    in_space_over_baby_bear::<2>(&rt, rt.alloc(), SpaceTopic::Prepared);
 }

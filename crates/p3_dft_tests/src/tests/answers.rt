@@ -3,16 +3,17 @@
 
 use super::helpers::engines::{EVERY_ENGINE, Name, TestEngine, assert_rows_of, input, rows_of};
 use super::helpers::matrices::{assert_rows, column, matrix};
+use super::{FieldName, Topic, over};
 use engine_calls::answers::Input;
 use engine_calls::changes::Change;
 use engine_calls::engines::Engine;
 use engine_calls::names::{Call, EngineName, Operation};
-use p3_dft::{BabyBear, CanonicalField, Goldilocks, Layout, Radix2DFTSmallBatch, TwoAdicField};
+use p3_dft::{CanonicalField, Layout, Radix2DFTSmallBatch, TwoAdicField};
 use std::alloc::Global;
 use std::process::Abort;
 
 // A call on rows with these numbers, and the numbers of its answer.
-struct Worked {
+pub(crate) struct Worked {
     call: Call,
     change: Change,
     width: usize,
@@ -724,7 +725,7 @@ fn answers_of<F: CanonicalField>(
 }
 
 // By every engine, by a clone of it, and by tiles of some elements and of one row.
-fn answers_over<F: CanonicalField>(rt: &impl Abort, alloc: Global, cases: &[Worked]) {
+pub(crate) fn answers_over<F: CanonicalField>(rt: &impl Abort, alloc: Global, cases: &[Worked]) {
     for name in EVERY_ENGINE {
         let mut engine: TestEngine<F> = TestEngine::new(name);
         answers_of(rt, alloc, &mut engine, cases);
@@ -752,12 +753,22 @@ pub(crate) fn by_tiles<F: TwoAdicField>(
 
 #[test]
 fn calls_answer_worked_numbers_over_baby_bear(rt: HostRuntime) {
-    answers_over::<BabyBear>(&rt, rt.alloc(), &OVER_BABY_BEAR);
+    over(
+        &rt,
+        rt.alloc(),
+        FieldName::BabyBear,
+        Topic::WorkedAnswers(&OVER_BABY_BEAR),
+    );
 }
 
 #[test]
 fn calls_answer_worked_numbers_over_goldilocks(rt: HostRuntime) {
-    answers_over::<Goldilocks>(&rt, rt.alloc(), &OVER_GOLDILOCKS);
+    over(
+        &rt,
+        rt.alloc(),
+        FieldName::Goldilocks,
+        Topic::WorkedAnswers(&OVER_GOLDILOCKS),
+    );
 }
 
 // Of 1 + 2 x + 3 x^2 + 4 x^3 the coefficient in row 1 stays: 2 x, or 3 x^2 where the rows are in bit reversed
@@ -792,7 +803,7 @@ fn has_layout(name: Name) -> Layout {
     }
 }
 
-fn layouts_over<F: CanonicalField>(rt: &impl Abort, alloc: Global) {
+pub(crate) fn layouts_over<F: CanonicalField>(rt: &impl Abort, alloc: Global) {
     for name in EVERY_ENGINE {
         let mut engine: TestEngine<F> = TestEngine::new(name);
         assert!(rt;
@@ -806,7 +817,7 @@ fn layouts_over<F: CanonicalField>(rt: &impl Abort, alloc: Global) {
 
 #[test]
 fn each_engine_hands_over_coefficients_in_its_order(rt: HostRuntime) {
-    layouts_over::<BabyBear>(&rt, rt.alloc());
+    over(&rt, rt.alloc(), FieldName::BabyBear, Topic::Layouts);
 }
 
 // A constant has one coefficient, and that of zeros is zero, at one height.
@@ -829,7 +840,7 @@ fn constants_at<F: TwoAdicField>(
     }
 }
 
-fn constants_over<F: TwoAdicField>(rt: &impl Abort, alloc: Global) {
+pub(crate) fn constants_over<F: TwoAdicField>(rt: &impl Abort, alloc: Global) {
     for name in EVERY_ENGINE {
         let mut engine: TestEngine<F> = TestEngine::new(name);
         for height in [1usize, 2, 4, 8, 16, 32, 64] {
@@ -840,6 +851,6 @@ fn constants_over<F: TwoAdicField>(rt: &impl Abort, alloc: Global) {
 
 #[test]
 fn constants_have_one_coefficient(rt: HostRuntime) {
-    constants_over::<BabyBear>(&rt, rt.alloc());
-    constants_over::<Goldilocks>(&rt, rt.alloc());
+    over(&rt, rt.alloc(), FieldName::BabyBear, Topic::Constants);
+    over(&rt, rt.alloc(), FieldName::Goldilocks, Topic::Constants);
 }

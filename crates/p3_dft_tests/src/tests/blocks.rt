@@ -8,13 +8,14 @@ use super::helpers::engines::{
 };
 use super::helpers::matrices::{assert_same, matrix, matrix_of, sample, with_zeros};
 use super::helpers::own_engines::LimitedDft;
+use super::{FieldName, Topic, over};
 use engine_calls::answers::Input;
 use engine_calls::blocks::{Counter, Publication};
 use engine_calls::changes::Change;
 use engine_calls::names::{Call, EngineName, Operation};
 use p3_dft::{
-    BabyBear, BlockConsumer, BlockLimit, BlockRefused, CanonicalField, Field, Goldilocks, Layout,
-    Recorder, RowMajorMatrix, RowMajorMatrixView, TwoAdicField, reverse_bits_len,
+    BlockConsumer, BlockLimit, BlockRefused, CanonicalField, Field, Layout, Recorder,
+    RowMajorMatrix, RowMajorMatrixView, TwoAdicField, reverse_bits_len,
 };
 use std::alloc::Global;
 use std::cell::Cell;
@@ -105,7 +106,7 @@ where
 
 // An extension with blocks: the rows, the added bits and the shift, how many rows a block has of an engine in several
 // blocks, and the numbers of the physical rows.
-struct Worked {
+pub(crate) struct Worked {
     width: usize,
     rows: &'static [u64],
     added_bits: usize,
@@ -294,7 +295,7 @@ fn consumers_made_late<F: CanonicalField>(rt: &impl Abort, alloc: Global) {
     }
 }
 
-fn published<F: CanonicalField>(rt: &impl Abort, alloc: Global, cases: &[Worked]) {
+pub(crate) fn published<F: CanonicalField>(rt: &impl Abort, alloc: Global, cases: &[Worked]) {
     records_worked::<F>(rt, alloc, cases);
     records_what_has_room::<F>(rt, alloc);
     blocks_limited::<F>(rt, alloc);
@@ -303,13 +304,23 @@ fn published<F: CanonicalField>(rt: &impl Abort, alloc: Global, cases: &[Worked]
 
 #[test]
 fn blocks_are_published_once_and_final(rt: HostRuntime) {
-    published::<BabyBear>(&rt, rt.alloc(), &OVER_BABY_BEAR);
-    published::<Goldilocks>(&rt, rt.alloc(), &OVER_GOLDILOCKS);
+    over(
+        &rt,
+        rt.alloc(),
+        FieldName::BabyBear,
+        Topic::Published(&OVER_BABY_BEAR),
+    );
+    over(
+        &rt,
+        rt.alloc(),
+        FieldName::Goldilocks,
+        Topic::Published(&OVER_GOLDILOCKS),
+    );
 }
 
 // The second transform is refused its memory: nothing was lent, and the consumer was not made, so that it comes back
 // and takes a block. With memory the call answers.
-fn nothing_lent<F: CanonicalField>(rt: &impl Abort, alloc: Global) {
+pub(crate) fn nothing_lent<F: CanonicalField>(rt: &impl Abort, alloc: Global) {
     let mat = matrix(rt, alloc, &[9, 1], 1);
     let blocks = Cell::new(0);
     let mut engine: TestEngine<F> = TestEngine {
@@ -328,8 +339,8 @@ fn nothing_lent<F: CanonicalField>(rt: &impl Abort, alloc: Global) {
 
 #[test]
 fn nothing_is_lent_where_memory_is_refused(rt: HostRuntime) {
-    nothing_lent::<BabyBear>(&rt, rt.alloc());
-    nothing_lent::<Goldilocks>(&rt, rt.alloc());
+    over(&rt, rt.alloc(), FieldName::BabyBear, Topic::NothingLent);
+    over(&rt, rt.alloc(), FieldName::Goldilocks, Topic::NothingLent);
 }
 
 // The rows in bit reversed order.
@@ -436,7 +447,7 @@ const SHAPES: [(usize, usize, usize); 20] = [
     (16, 17, 3),
 ];
 
-fn changes_over<F: TwoAdicField>(rt: &impl Abort, alloc: Global) {
+pub(crate) fn changes_over<F: TwoAdicField>(rt: &impl Abort, alloc: Global) {
     for (height, width, added_bits) in SHAPES {
         let mat = sample(rt, alloc, height, width, 7);
         changes_at(rt, &mat, added_bits, F::ZERO, Change::Weighed);
@@ -448,6 +459,6 @@ fn changes_over<F: TwoAdicField>(rt: &impl Abort, alloc: Global) {
 
 #[test]
 fn changed_coefficients_meet_their_rows_in_each_layout(rt: HostRuntime) {
-    changes_over::<BabyBear>(&rt, rt.alloc());
-    changes_over::<Goldilocks>(&rt, rt.alloc());
+    over(&rt, rt.alloc(), FieldName::BabyBear, Topic::Changes);
+    over(&rt, rt.alloc(), FieldName::Goldilocks, Topic::Changes);
 }

@@ -9,8 +9,9 @@ ghost use Rattle.p3_dft.specs.Shapes.{FitsDft, FitsLde};
 
 use super::helpers::fitting::{assert_column, extensible, invertible, pair, transformable};
 use super::helpers::matrices::elements;
+use super::{FieldName, Topic, over};
 use p3_dft::{
-    BabyBear, BitReversedMatrixView, CanonicalField, DftError, Evaluations, Field, NaiveDft,
+    BitReversedMatrixView, CanonicalField, DftError, Evaluations, Field, NaiveDft,
     Radix2DFTSmallBatch, Radix2Dit, Radix2DitParallel, RowMajorMatrix, TwoAdicField,
     TwoAdicSubgroupDft, fits_lde,
 };
@@ -451,7 +452,7 @@ fn new_engine_extends<F: CanonicalField>(rt: &impl Abort, alloc: Global) {
     let _engine: NaiveDft = extend_by_a_new_engine(column, 1).expect(rt, "memory");
 }
 
-fn every_caller<F: CanonicalField>(rt: &impl Abort, alloc: Global) {
+pub(crate) fn every_caller<F: CanonicalField>(rt: &impl Abort, alloc: Global) {
     calls_at_a_prepared_height::<F>(rt, alloc);
     calls_below_a_prepared_height::<F>(rt, alloc);
     transform_as_promised_by_halves::<F>(rt, alloc);
@@ -465,5 +466,5 @@ fn every_caller<F: CanonicalField>(rt: &impl Abort, alloc: Global) {
 
 #[test]
 fn promised_calls_answer(rt: HostRuntime) {
-    every_caller::<BabyBear>(&rt, rt.alloc());
+    over(&rt, rt.alloc(), FieldName::BabyBear, Topic::Callers);
 }

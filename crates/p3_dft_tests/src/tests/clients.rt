@@ -5,6 +5,7 @@
 // `31 * h^i`, where g and h are powers of 440564289, whose order is 2^27. Leaf r is the digest of the row whose
 // number has the digits of r in reverse, and neighbours are joined until one is left.
 
+use super::{FieldName, Topic, over};
 use examples::field_forms::{aligned_text_of, geometric_sum, line_at, text_of, total_of_squares};
 use examples::merkle_root::{HornerHash, merkle_root, roots_of_two};
 use examples::published_degree::published_degree;
@@ -28,40 +29,31 @@ struct Worked {
 }
 
 impl Worked {
-    fn matrix(self, rt: &impl Abort, alloc: Global) -> RowMajorMatrix<BabyBear> {
+    fn matrix<F: CanonicalField>(self, rt: &impl Abort, alloc: Global) -> RowMajorMatrix<F> {
         let mut entries = Vec::new(alloc);
         for n in 0..self.rows.saturating_mul(self.width) {
-            let entry = BabyBear::from_u8(n) + BabyBear::ONE;
-            entries.push(entry).expect(rt, "memory");
+            entries.push(F::from_u8(n) + F::ONE).expect(rt, "memory");
         }
         let width = self.width as usize;
         assert!(rt; width != 0 && entries.len() % width == 0);
-        let mat = RowMajorMatrix::new(entries, width);
-        assert!(rt; fits_lde::<BabyBear>(mat.height(), mat.width(), self.added_bits));
-        mat
+        RowMajorMatrix::new(entries, width)
     }
 
-    fn hash(self) -> HornerHash<BabyBear> {
+    fn hash<F: CanonicalField>(self) -> HornerHash<F> {
         HornerHash {
-            base: BabyBear::from_u64(self.base),
+            base: F::from_u64(self.base),
         }
     }
 
-    fn assert_on<D: TwoAdicSubgroupDft<BabyBear>>(
+    fn assert_on<F: CanonicalField, D: TwoAdicSubgroupDft<F>>(
         self,
         rt: &impl Abort,
         alloc: Global,
         engine: &mut D,
     ) {
-        let mat = self.matrix(rt, alloc);
-        assert!(rt; fits_lde::<BabyBear>(mat.height(), mat.width(), self.added_bits));
-        let made = merkle_root(
-            engine,
-            &self.hash(),
-            mat,
-            self.added_bits,
-            BabyBear::GENERATOR,
-        );
+        let mat: RowMajorMatrix<F> = self.matrix(rt, alloc);
+        assert!(rt; fits_lde::<F>(mat.height(), mat.width(), self.added_bits));
+        let made = merkle_root(engine, &self.hash(), mat, self.added_bits, F::GENERATOR);
         let made = made.expect(rt, "memory");
         let leaves = made.leaves.as_slice();
         assert!(rt; leaves.len() == made.rows.height());
@@ -93,30 +85,41 @@ const WORKED: [Worked; 2] = [
 ];
 
 // By the definition, in one block whose rows were in natural order, and in blocks of two rows.
+pub(crate) fn roots_over<F: CanonicalField>(rt: &impl Abort, alloc: Global) {
+    for worked in WORKED {
+        worked.assert_on::<F, NaiveDft>(rt, alloc, &mut NaiveDft::default());
+        let mut parallel: Radix2DitParallel<F> = Radix2DitParallel::default();
+        worked.assert_on(rt, alloc, &mut parallel);
+    }
+}
+
 #[test]
 fn worked_roots(rt: HostRuntime) {
+    over(&rt, rt.alloc(), FieldName::BabyBear, Topic::Roots);
+}
+
+// Of two engines.
+pub(crate) fn one_root_over<F: CanonicalField>(rt: &impl Abort, alloc: Global) {
     for worked in WORKED {
-        worked.assert_on(&rt, rt.alloc(), &mut NaiveDft::default());
-        worked.assert_on(&rt, rt.alloc(), &mut Radix2DitParallel::default());
+        let mat: RowMajorMatrix<F> = worked.matrix(rt, alloc);
+        assert!(rt; fits_lde::<F>(mat.height(), mat.width(), worked.added_bits));
+        let mut parallel: Radix2DitParallel<F> = Radix2DitParallel::default();
+        let roots = roots_of_two(
+            &mut parallel,
+            &mut NaiveDft::default(),
+            &worked.hash(),
+            mat,
+            worked.added_bits,
+            F::ONE,
+        );
+        let (one, other) = roots.expect(rt, "memory");
+        assert!(rt; one == other);
     }
 }
 
 #[test]
 fn one_root(rt: HostRuntime) {
-    for worked in WORKED {
-        let mat = worked.matrix(&rt, rt.alloc());
-        assert!(rt; fits_lde::<BabyBear>(mat.height(), mat.width(), worked.added_bits));
-        let roots = roots_of_two(
-            &mut Radix2DitParallel::default(),
-            &mut NaiveDft::default(),
-            &worked.hash(),
-            mat,
-            worked.added_bits,
-            BabyBear::ONE,
-        );
-        let (one, other) = roots.expect(&rt, "memory");
-        assert!(rt; one == other);
-    }
+    over(&rt, rt.alloc(), FieldName::BabyBear, Topic::OneRoot);
 }
 
 // The columns are the values of 2 - x and 3 - x at 1 and -1. The points of the extension are 7 times the powers of

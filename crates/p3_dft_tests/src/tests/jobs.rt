@@ -8,7 +8,8 @@ use super::helpers::engines::{EVERY_ENGINE, Kind, TestEngine};
 use super::helpers::fitting::{extensible, invertible, transformable};
 use super::helpers::matrices::matrix;
 use super::helpers::own_engines::LimitedDft;
-use p3_dft::{BabyBear, CanonicalField, DftError, Job, JobsStopped, RowMajorMatrix};
+use super::{FieldName, Topic, over};
+use p3_dft::{CanonicalField, DftError, Job, JobsStopped, RowMajorMatrix};
 use std::alloc::Global;
 use std::process::Abort;
 
@@ -142,7 +143,7 @@ fn answers_in_turn<F: CanonicalField>(
 }
 
 // Lists that begin with each kind, refused after each number of transforms.
-fn refused_within<F: CanonicalField>(rt: &impl Abort, alloc: Global) {
+pub(crate) fn refused_within<F: CanonicalField>(rt: &impl Abort, alloc: Global) {
     for first in 0..KINDS {
         for transforms in 0..28usize {
             let mut engine: TestEngine<F> = TestEngine {
@@ -157,7 +158,7 @@ fn refused_within<F: CanonicalField>(rt: &impl Abort, alloc: Global) {
 
 #[test]
 fn refused_jobs_leave_the_answers_before_them(rt: HostRuntime) {
-    refused_within::<BabyBear>(&rt, rt.alloc());
+    over(&rt, rt.alloc(), FieldName::BabyBear, Topic::RefusedJobs);
 }
 
 // A job on a coset, of one column.
@@ -212,7 +213,7 @@ fn no_jobs<F: CanonicalField>(rt: &impl Abort, alloc: Global, engine: &mut TestE
     assert!(rt; answers.is_empty());
 }
 
-fn lists<F: CanonicalField>(rt: &impl Abort, alloc: Global) {
+pub(crate) fn lists<F: CanonicalField>(rt: &impl Abort, alloc: Global) {
     for name in EVERY_ENGINE {
         let mut engine: TestEngine<F> = TestEngine::new(name);
         no_jobs(rt, alloc, &mut engine);
@@ -223,5 +224,5 @@ fn lists<F: CanonicalField>(rt: &impl Abort, alloc: Global) {
 
 #[test]
 fn jobs_are_answered_in_order(rt: HostRuntime) {
-    lists::<BabyBear>(&rt, rt.alloc());
+    over(&rt, rt.alloc(), FieldName::BabyBear, Topic::Lists);
 }

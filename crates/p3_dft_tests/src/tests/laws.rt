@@ -5,8 +5,9 @@ use super::helpers::engines::{
     EVERY_ENGINE, FAST_ENGINES, Name, TestEngine, assert_rows_of, input, rows_of,
 };
 use super::helpers::matrices::{assert_same, column_of, combined, sample, with_zeros};
+use super::{FieldName, Topic, over};
 use engine_calls::names::{Call, EngineName, OPERATIONS, Operation};
-use p3_dft::{BabyBear, Goldilocks, KoalaBear, RowMajorMatrix, TwoAdicField};
+use p3_dft::{RowMajorMatrix, TwoAdicField};
 use std::alloc::Global;
 use std::process::Abort;
 
@@ -71,13 +72,17 @@ fn transforms_at<F: TwoAdicField>(rt: &impl Abort, alloc: Global, height: usize,
     }
 }
 
-#[test]
-fn transforms_keep_their_laws(rt: HostRuntime) {
+pub(crate) fn transforms_over<F: TwoAdicField>(rt: &impl Abort, alloc: Global) {
     for height in HEIGHTS {
         for width in WIDTHS {
-            transforms_at::<BabyBear>(&rt, rt.alloc(), height, width);
+            transforms_at::<F>(rt, alloc, height, width);
         }
     }
+}
+
+#[test]
+fn transforms_keep_their_laws(rt: HostRuntime) {
+    over(&rt, rt.alloc(), FieldName::BabyBear, Topic::Transforms);
 }
 
 // Each column becomes what it becomes alone, in transforms, inverses and extensions.
@@ -96,7 +101,7 @@ fn columns_alone<F: TwoAdicField>(
     }
 }
 
-fn columns_over<F: TwoAdicField>(rt: &impl Abort, alloc: Global) {
+pub(crate) fn columns_over<F: TwoAdicField>(rt: &impl Abort, alloc: Global) {
     let x = sample(rt, alloc, 8, 3, 1);
     for name in EVERY_ENGINE {
         columns_alone::<F>(rt, &mut TestEngine::new(name), &x);
@@ -105,7 +110,7 @@ fn columns_over<F: TwoAdicField>(rt: &impl Abort, alloc: Global) {
 
 #[test]
 fn each_column_is_worked_alone(rt: HostRuntime) {
-    columns_over::<BabyBear>(&rt, rt.alloc());
+    over(&rt, rt.alloc(), FieldName::BabyBear, Topic::Columns);
 }
 
 // The shifts of the cosets on which engines are compared.
@@ -159,7 +164,7 @@ fn agree_at<F: TwoAdicField>(rt: &impl Abort, alloc: Global, height: usize, widt
     }
 }
 
-fn agree_over<F: TwoAdicField>(rt: &impl Abort, alloc: Global) {
+pub(crate) fn agree_over<F: TwoAdicField>(rt: &impl Abort, alloc: Global) {
     for height in [1usize, 2, 4, 8, 16, 32, 64] {
         for width in MANY_WIDTHS {
             agree_at::<F>(rt, alloc, height, width);
@@ -172,12 +177,12 @@ fn agree_over<F: TwoAdicField>(rt: &impl Abort, alloc: Global) {
 
 #[test]
 fn every_engine_agrees_with_naive_over_baby_bear(rt: HostRuntime) {
-    agree_over::<BabyBear>(&rt, rt.alloc());
+    over(&rt, rt.alloc(), FieldName::BabyBear, Topic::Agreement);
 }
 
 #[test]
 fn every_engine_agrees_with_naive_over_goldilocks(rt: HostRuntime) {
-    agree_over::<Goldilocks>(&rt, rt.alloc());
+    over(&rt, rt.alloc(), FieldName::Goldilocks, Topic::Agreement);
 }
 
 // By tiles of one size, on one engine.
@@ -192,12 +197,16 @@ fn tiles_agree<F: TwoAdicField>(rt: &impl Abort, alloc: Global, tile: usize) {
 }
 
 // Tiles of less than a row, of some rows and of all.
+pub(crate) fn tiles_over<F: TwoAdicField>(rt: &impl Abort, alloc: Global) {
+    for tile in [1usize, 5, 6, 12, 192, 8192, 1 << 32] {
+        tiles_agree::<F>(rt, alloc, tile);
+    }
+}
+
 #[test]
 fn tiles_change_no_answer(rt: HostRuntime) {
-    for tile in [1usize, 5, 6, 12, 192, 8192, 1 << 32] {
-        tiles_agree::<BabyBear>(&rt, rt.alloc(), tile);
-        tiles_agree::<Goldilocks>(&rt, rt.alloc(), tile);
-    }
+    over(&rt, rt.alloc(), FieldName::BabyBear, Topic::Tiles);
+    over(&rt, rt.alloc(), FieldName::Goldilocks, Topic::Tiles);
 }
 
 // An extension on the subgroup has the rows of the input among its own, `2^added_bits` apart, and is the extension on
@@ -263,13 +272,17 @@ fn extensions_at<F: TwoAdicField>(
     }
 }
 
-#[test]
-fn extensions_keep_their_laws(rt: HostRuntime) {
+pub(crate) fn extensions_over<F: TwoAdicField>(rt: &impl Abort, alloc: Global) {
     for height in [1usize, 2, 4, 16] {
         for added_bits in [0usize, 1, 3] {
-            extensions_at::<BabyBear>(&rt, rt.alloc(), height, added_bits);
+            extensions_at::<F>(rt, alloc, height, added_bits);
         }
     }
+}
+
+#[test]
+fn extensions_keep_their_laws(rt: HostRuntime) {
+    over(&rt, rt.alloc(), FieldName::BabyBear, Topic::Extensions);
 }
 
 // Heights whose tables are larger than a tile or a cache, rows wider than four packs, and many bits: the height, the
@@ -284,7 +297,7 @@ const LARGE_SHAPES: [(usize, usize, usize); 6] = [
 ];
 
 // On fast engines an inverse undoes a transform, an extension keeps rows, and two of them agree.
-fn large_shapes_over<F: TwoAdicField>(rt: &impl Abort, alloc: Global) {
+pub(crate) fn large_shapes_over<F: TwoAdicField>(rt: &impl Abort, alloc: Global) {
     for name in &EVERY_ENGINE[..FAST_ENGINES] {
         let mut engine: TestEngine<F> = TestEngine::new(*name);
         let mut dit = TestEngine::new(Name::Library(EngineName::Dit));
@@ -300,7 +313,11 @@ fn large_shapes_over<F: TwoAdicField>(rt: &impl Abort, alloc: Global) {
 
 #[test]
 fn fast_engines_keep_their_laws_at_large_shapes(rt: HostRuntime) {
-    large_shapes_over::<BabyBear>(&rt, rt.alloc());
-    large_shapes_over::<KoalaBear>(&rt, rt.alloc());
-    large_shapes_over::<Goldilocks>(&rt, rt.alloc());
+    for field in [
+        FieldName::BabyBear,
+        FieldName::KoalaBear,
+        FieldName::Goldilocks,
+    ] {
+        over(&rt, rt.alloc(), field, Topic::LargeShapes);
+    }
 }

@@ -1,11 +1,9 @@
 // The product of two polynomials against numbers made elsewhere.
 
 use super::helpers::matrices::elements;
+use super::{FieldName, Topic, over};
 use examples::product::product;
-use p3_dft::{
-    BabyBear, CanonicalField, Goldilocks, NaiveDft, Radix2Bowers, Radix2Dit, TwoAdicSubgroupDft,
-    fits_dft,
-};
+use p3_dft::{CanonicalField, NaiveDft, Radix2Bowers, Radix2Dit, TwoAdicSubgroupDft, fits_dft};
 use std::alloc::Global;
 use std::process::Abort;
 
@@ -49,13 +47,13 @@ fn small_products<F: CanonicalField, D: TwoAdicSubgroupDft<F>>(rt: &impl Abort, 
 }
 
 // By a fast network.
-fn small_products_of<F: CanonicalField>(rt: &impl Abort, alloc: Global) {
+pub(crate) fn small_products_of<F: CanonicalField>(rt: &impl Abort, alloc: Global) {
     small_products::<F, Radix2Dit<F>>(rt, alloc);
 }
 
 #[test]
 fn polynomials_multiply_over_baby_bear(rt: HostRuntime) {
-    small_products_of::<BabyBear>(&rt, rt.alloc());
+    over(&rt, rt.alloc(), FieldName::BabyBear, Topic::SmallProducts);
 }
 
 fn large_product<F: CanonicalField, D: TwoAdicSubgroupDft<F>>(rt: &impl Abort, alloc: Global) {
@@ -75,12 +73,12 @@ fn large_product<F: CanonicalField, D: TwoAdicSubgroupDft<F>>(rt: &impl Abort, a
 }
 
 // By another, and by the definition.
-fn large_products<F: CanonicalField>(rt: &impl Abort, alloc: Global) {
+pub(crate) fn large_products<F: CanonicalField>(rt: &impl Abort, alloc: Global) {
     large_product::<F, Radix2Bowers>(rt, alloc);
     large_product::<F, NaiveDft>(rt, alloc);
 }
 
 #[test]
 fn polynomials_multiply_over_goldilocks(rt: HostRuntime) {
-    large_products::<Goldilocks>(&rt, rt.alloc());
+    over(&rt, rt.alloc(), FieldName::Goldilocks, Topic::LargeProducts);
 }

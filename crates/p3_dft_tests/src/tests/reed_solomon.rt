@@ -12,12 +12,13 @@ use super::helpers::engines::{EVERY_ENGINE, TestEngine, assert_rows_of, input};
 use super::helpers::fitting::{assert_column, extensible, invertible, transformable};
 use super::helpers::matrices::{elements, matrix, matrix_of};
 use super::helpers::own_engines::LimitedDft;
+use super::{FieldName, Topic, over};
 use engine_calls::answers::Answer;
 use engine_calls::names::Call;
 use examples::low_degree::has_low_degree;
 use p3_dft::{
-    BabyBear, CanonicalField, DftError, Field, Goldilocks, NaiveDft, Radix2DitParallel,
-    ReedSolomon, RowMajorMatrix, TwoAdicField, TwoAdicSubgroupDft, fits_code,
+    CanonicalField, DftError, Field, NaiveDft, Radix2DitParallel, ReedSolomon, RowMajorMatrix,
+    TwoAdicField, TwoAdicSubgroupDft, fits_code,
 };
 use std::alloc::Global;
 use std::process::Abort;
@@ -156,7 +157,12 @@ const COLUMNS: [([u64; 4], bool); 4] = [
 ];
 
 // A word of a message on two cosets, and other columns, on every engine.
-fn words<F: CanonicalField>(rt: &impl Abort, alloc: Global, word: [u64; 4], on_two: [u64; 4]) {
+pub(crate) fn words<F: CanonicalField>(
+    rt: &impl Abort,
+    alloc: Global,
+    word: [u64; 4],
+    on_two: [u64; 4],
+) {
     for name in EVERY_ENGINE {
         let mut engine: TestEngine<F> = TestEngine::new(name);
         word_of(rt, alloc, &mut engine, F::ONE, &word);
@@ -215,7 +221,7 @@ fn numbers<F: CanonicalField>(rt: &impl Abort) {
 }
 
 // By the definition and by halves.
-fn laws<F: CanonicalField>(rt: &impl Abort, alloc: Global) {
+pub(crate) fn laws<F: CanonicalField>(rt: &impl Abort, alloc: Global) {
     all_words::<F, NaiveDft>(rt, alloc, NaiveDft::default());
     all_words::<F, Radix2DitParallel<F>>(rt, alloc, Radix2DitParallel::default());
     two_words::<F, NaiveDft>(rt, alloc, NaiveDft::default());
@@ -225,15 +231,20 @@ fn laws<F: CanonicalField>(rt: &impl Abort, alloc: Global) {
 
 #[test]
 fn callers_of_codes_have_their_laws(rt: HostRuntime) {
-    laws::<BabyBear>(&rt, rt.alloc());
-    laws::<Goldilocks>(&rt, rt.alloc());
+    over(&rt, rt.alloc(), FieldName::BabyBear, Topic::CodeLaws);
+    over(&rt, rt.alloc(), FieldName::Goldilocks, Topic::CodeLaws);
 }
 
 #[test]
 fn words_are_told_from_others_over_baby_bear(rt: HostRuntime) {
     let word = [9, 873820294, 1, 1139445637];
     let shifted = [13, 1747640583, 2013265918, 265625348];
-    words::<BabyBear>(&rt, rt.alloc(), word, shifted);
+    over(
+        &rt,
+        rt.alloc(),
+        FieldName::BabyBear,
+        Topic::Words(word, shifted),
+    );
 }
 
 // By sums over big integers.
@@ -246,7 +257,12 @@ fn words_are_told_from_others_over_goldilocks(rt: HostRuntime) {
         18446744069414584318,
         18444492269600899078,
     ];
-    words::<Goldilocks>(&rt, rt.alloc(), word, shifted);
+    over(
+        &rt,
+        rt.alloc(),
+        FieldName::Goldilocks,
+        Topic::Words(word, shifted),
+    );
 }
 
 // An engine that makes so many transforms: a word takes two, and telling one takes one more.
@@ -269,7 +285,7 @@ fn within<F: CanonicalField>(rt: &impl Abort, alloc: Global, transforms: usize) 
     }
 }
 
-fn within_each<F: CanonicalField>(rt: &impl Abort, alloc: Global) {
+pub(crate) fn within_each<F: CanonicalField>(rt: &impl Abort, alloc: Global) {
     for transforms in 0..4usize {
         within::<F>(rt, alloc, transforms);
     }
@@ -277,5 +293,5 @@ fn within_each<F: CanonicalField>(rt: &impl Abort, alloc: Global) {
 
 #[test]
 fn want_of_memory_leaves_the_code(rt: HostRuntime) {
-    within_each::<BabyBear>(&rt, rt.alloc());
+    over(&rt, rt.alloc(), FieldName::BabyBear, Topic::CodesWithin);
 }

@@ -1,7 +1,8 @@
 // Rows times the powers of a shift, of a height that no transform has.
 
 use super::helpers::matrices::{assert_elements, elements};
-use p3_dft::{BabyBear, CanonicalField, Field, Goldilocks, Products};
+use super::{FieldName, Topic, over};
+use p3_dft::{CanonicalField, Field, Products};
 use p3_networks::shifts::{copy_shifted, shift_values};
 use std::alloc::Global;
 use std::process::Abort;
@@ -32,7 +33,7 @@ fn copies_shifted<F: CanonicalField>(rt: &impl Abort, alloc: Global, shift: F, n
     assert_elements(rt, values, numbers);
 }
 
-fn shifts<F: CanonicalField>(rt: &impl Abort, alloc: Global) {
+pub(crate) fn shifts<F: CanonicalField>(rt: &impl Abort, alloc: Global) {
     for (shift, numbers) in [
         (2u8, [1, 2, 6, 8, 20, 24]),
         (1, [1, 2, 3, 4, 5, 6]),
@@ -45,6 +46,6 @@ fn shifts<F: CanonicalField>(rt: &impl Abort, alloc: Global) {
 
 #[test]
 fn rows_are_multiplied_by_powers_of_the_shift(rt: HostRuntime) {
-    shifts::<BabyBear>(&rt, rt.alloc());
-    shifts::<Goldilocks>(&rt, rt.alloc());
+    over(&rt, rt.alloc(), FieldName::BabyBear, Topic::Shifts);
+    over(&rt, rt.alloc(), FieldName::Goldilocks, Topic::Shifts);
 }

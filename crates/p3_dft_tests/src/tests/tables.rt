@@ -8,13 +8,14 @@ use super::callers::transform_promised;
 use super::helpers::engines::{Name, TestEngine, assert_rows_of, input, rows_of};
 use super::helpers::fitting::{assert_column, transformable};
 use super::helpers::matrices::{column, elements, matrix, matrix_of};
+use super::{FieldName, Topic, over};
 use engine_calls::answers::Input;
 use engine_calls::changes::Change;
 use engine_calls::engines::Engine;
 use engine_calls::names::{Call, EngineName, Operation};
 use p3_dft::{
-    BabyBear, CanonicalField, Field, Goldilocks, Radix2DFTSmallBatch, Radix2DitParallel,
-    RowMajorMatrix, TwoAdicField, TwoAdicSubgroupDft,
+    CanonicalField, Field, Radix2DFTSmallBatch, Radix2DitParallel, RowMajorMatrix, TwoAdicField,
+    TwoAdicSubgroupDft,
 };
 use std::alloc::Global;
 use std::process::Abort;
@@ -80,7 +81,7 @@ fn calls_prepare<F: CanonicalField>(rt: &impl Abort, alloc: Global, name: Engine
     assert!(rt; !is_prepared(&engine, 6), "{}", name.word());
 }
 
-fn tables_over<F: CanonicalField>(rt: &impl Abort, alloc: Global) {
+pub(crate) fn tables_over<F: CanonicalField>(rt: &impl Abort, alloc: Global) {
     for name in WITH_TABLES {
         prepares_heights::<F>(rt, alloc, name);
         calls_prepare::<F>(rt, alloc, name);
@@ -89,12 +90,12 @@ fn tables_over<F: CanonicalField>(rt: &impl Abort, alloc: Global) {
 
 #[test]
 fn heights_are_prepared_and_stay(rt: HostRuntime) {
-    tables_over::<BabyBear>(&rt, rt.alloc());
-    tables_over::<Goldilocks>(&rt, rt.alloc());
+    over(&rt, rt.alloc(), FieldName::BabyBear, Topic::Tables);
+    over(&rt, rt.alloc(), FieldName::Goldilocks, Topic::Tables);
 }
 
 // An engine that goes by halves leaves its rows in bit reversed order.
-fn leaves_reversed<F: CanonicalField>(rt: &impl Abort, alloc: Global, physical: &[u64]) {
+pub(crate) fn leaves_reversed<F: CanonicalField>(rt: &impl Abort, alloc: Global, physical: &[u64]) {
     let column: RowMajorMatrix<F> = transformable(rt, alloc, &[5, 4, 0, 0]);
     let values = Radix2DitParallel::default()
         .dft_batch(column)
@@ -104,14 +105,25 @@ fn leaves_reversed<F: CanonicalField>(rt: &impl Abort, alloc: Global, physical: 
 
 #[test]
 fn rows_are_left_in_bit_reversed_order(rt: HostRuntime) {
-    leaves_reversed::<BabyBear>(&rt, rt.alloc(), &[9, 1, 873820294, 1139445637]);
+    let physical = [9, 1, 873820294, 1139445637];
+    over(
+        &rt,
+        rt.alloc(),
+        FieldName::BabyBear,
+        Topic::ReversedRows(&physical),
+    );
     let physical = [9, 1, 1125899906842629, 18445618169507741702];
-    leaves_reversed::<Goldilocks>(&rt, rt.alloc(), &physical);
+    over(
+        &rt,
+        rt.alloc(),
+        FieldName::Goldilocks,
+        Topic::ReversedRows(&physical),
+    );
 }
 
 // Once all is made that they need, calls at a prepared height and on a coset that has its table hand one
 // column on from each to the next, and take no memory.
-fn calls_without_memory<F: CanonicalField>(rt: &impl Abort, alloc: Global) {
+pub(crate) fn calls_without_memory<F: CanonicalField>(rt: &impl Abort, alloc: Global) {
     let mut engine: Engine<F> = Engine::new(EngineName::Parallel);
     prepare(rt, alloc, &mut engine, 1);
     let mut engine = TestEngine::of(EngineName::Parallel, engine);
@@ -136,8 +148,8 @@ fn calls_without_memory<F: CanonicalField>(rt: &impl Abort, alloc: Global) {
 
 #[test]
 fn calls_hand_a_column_on(rt: HostRuntime) {
-    calls_without_memory::<BabyBear>(&rt, rt.alloc());
-    calls_without_memory::<Goldilocks>(&rt, rt.alloc());
+    over(&rt, rt.alloc(), FieldName::BabyBear, Topic::HandedOn);
+    over(&rt, rt.alloc(), FieldName::Goldilocks, Topic::HandedOn);
 }
 
 // Single coefficients of rows 0, 32 and 16, whose values are powers of roots of order 1, 2 and 4.
@@ -233,7 +245,7 @@ fn extension_prepares<F: CanonicalField>(rt: &impl Abort, alloc: Global) {
     assert!(rt; is_prepared(&engine, 4));
 }
 
-fn goes_by_tiles<F: CanonicalField>(rt: &impl Abort, alloc: Global) {
+pub(crate) fn goes_by_tiles<F: CanonicalField>(rt: &impl Abort, alloc: Global) {
     extension_prepares::<F>(rt, alloc);
     for tile in [1usize, 6, 12, 192] {
         powers_in_tiles::<F>(rt, alloc, tile);
@@ -246,5 +258,5 @@ fn goes_by_tiles<F: CanonicalField>(rt: &impl Abort, alloc: Global) {
 
 #[test]
 fn heights_are_prepared_in_tiles_of_each_size(rt: HostRuntime) {
-    goes_by_tiles::<BabyBear>(&rt, rt.alloc());
+    over(&rt, rt.alloc(), FieldName::BabyBear, Topic::TablesByTiles);
 }

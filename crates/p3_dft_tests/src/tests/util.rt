@@ -1,9 +1,9 @@
 // Shapes at their limits, and the division by the height.
 
 use super::helpers::matrices::matrix;
+use super::{FieldName, Topic, over};
 use p3_dft::{
-    BabyBear, CanonicalField, Products, RowMajorMatrix, TwoAdicField, divide_by_height, fits_dft,
-    fits_lde,
+    CanonicalField, Products, RowMajorMatrix, TwoAdicField, divide_by_height, fits_dft, fits_lde,
 };
 use std::alloc::Global;
 use std::process::Abort;
@@ -42,7 +42,7 @@ fn keeps_a_row<F: CanonicalField>(rt: &impl Abort, alloc: Global) {
     assert!(rt; row == matrix(rt, alloc, &[10, 20, 30, 40], 4));
 }
 
-fn shapes_and_heights<F: CanonicalField>(rt: &impl Abort, alloc: Global) {
+pub(crate) fn shapes_and_heights<F: CanonicalField>(rt: &impl Abort, alloc: Global) {
     shapes_that_fit::<F>(rt);
     shapes_that_can_be_extended::<F>(rt);
     halves::<F>(rt, alloc);
@@ -51,5 +51,5 @@ fn shapes_and_heights<F: CanonicalField>(rt: &impl Abort, alloc: Global) {
 
 #[test]
 fn shapes_fit_up_to_their_limits(rt: HostRuntime) {
-    shapes_and_heights::<BabyBear>(&rt, rt.alloc());
+    over(&rt, rt.alloc(), FieldName::BabyBear, Topic::Shapes);
 }

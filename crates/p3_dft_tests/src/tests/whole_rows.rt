@@ -2,10 +2,11 @@
 
 use super::helpers::fitting::{assert_column, extensible, transformable};
 use super::helpers::matrices::matrix;
+use super::{FieldName, Topic, over};
 use examples::whole_rows::{
     counted_transform, extension_in_whole_rows, extension_of_opposite_entries,
 };
-use p3_dft::{BabyBear, CanonicalField, Field, NaiveDft, Radix2Dit, RowMajorMatrix, fits_lde};
+use p3_dft::{CanonicalField, Field, NaiveDft, Radix2Dit, RowMajorMatrix, fits_lde};
 use std::alloc::Global;
 use std::process::Abort;
 
@@ -36,7 +37,7 @@ fn extends_in_opposite_order<F: CanonicalField>(rt: &impl Abort, alloc: Global) 
     assert!(rt; extended.expect(rt, "memory") == matrix(rt, alloc, &numbers, 2));
 }
 
-fn each_client<F: CanonicalField>(rt: &impl Abort, alloc: Global) {
+pub(crate) fn each_client<F: CanonicalField>(rt: &impl Abort, alloc: Global) {
     transforms_two_rows::<F>(rt, alloc);
     extends_two_rows::<F>(rt, alloc);
     extends_in_opposite_order::<F>(rt, alloc);
@@ -44,5 +45,5 @@ fn each_client<F: CanonicalField>(rt: &impl Abort, alloc: Global) {
 
 #[test]
 fn a_transform_is_told_whole_rows(rt: HostRuntime) {
-    each_client::<BabyBear>(&rt, rt.alloc());
+    over(&rt, rt.alloc(), FieldName::BabyBear, Topic::WholeRows);
 }
