@@ -505,45 +505,88 @@ fn work_rows<F: CanonicalField>(rt: &impl Abort, alloc: Global) {
     assert!(rt; !line.has_coefficients(values.as_slice(), 2));
 }
 
+// What is shown over a field.
+#[derive(Clone, Copy)]
+enum Topic<'a> {
+    WorkedRows,
+    AboveAllMemory,
+    TooLittleMemory,
+    AfterARefusal,
+    GivenBack,
+    Answers(&'a [EngineName], &'a [(usize, usize, usize)]),
+}
+
+impl<'a> Topic<'a> {
+    fn hold<F: CanonicalField>(self, rt: &impl Abort, alloc: Global) {
+        match self {
+            Topic::WorkedRows => work_rows::<F>(rt, alloc),
+            Topic::AboveAllMemory => grow::<F>(rt, alloc),
+            Topic::TooLittleMemory => sweep_all::<F>(rt, alloc),
+            Topic::AfterARefusal => keep_rows::<F>(rt, alloc),
+            Topic::GivenBack => give_back::<F>(rt, alloc),
+            Topic::Answers(engines, shapes) => answer_all::<F>(rt, alloc, engines, shapes),
+        }
+    }
+}
+
+// What is known of a concrete field is dear to prove, at each call that names it: so each is named once.
+fn over_baby_bear(rt: &impl Abort, alloc: Global, topic: Topic) {
+    topic.hold::<BabyBear>(rt, alloc);
+}
+
+fn over_koala_bear(rt: &impl Abort, alloc: Global, topic: Topic) {
+    topic.hold::<KoalaBear>(rt, alloc);
+}
+
+fn over_goldilocks(rt: &impl Abort, alloc: Global, topic: Topic) {
+    topic.hold::<Goldilocks>(rt, alloc);
+}
+
 #[test]
 fn calls_answer_their_worked_rows(rt: HostRuntime) {
-    work_rows::<BabyBear>(&rt, rt.alloc());
+    over_baby_bear(&rt, rt.alloc(), Topic::WorkedRows);
 }
 
 #[test]
 fn an_extension_above_all_memory_is_refused(rt: HostRuntime) {
-    grow::<BabyBear>(&rt, rt.alloc());
+    over_baby_bear(&rt, rt.alloc(), Topic::AboveAllMemory);
 }
 
 #[test]
 fn every_call_answers_or_refuses_with_too_little_memory(rt: HostRuntime) {
-    sweep_all::<BabyBear>(&rt, rt.alloc());
+    over_baby_bear(&rt, rt.alloc(), Topic::TooLittleMemory);
 }
 
 #[test]
 fn tables_and_answers_stay_after_a_refusal(rt: HostRuntime) {
-    keep_rows::<BabyBear>(&rt, rt.alloc());
+    over_baby_bear(&rt, rt.alloc(), Topic::AfterARefusal);
 }
 
 #[test]
 fn what_is_passed_is_given_back(rt: HostRuntime) {
-    give_back::<Goldilocks>(&rt, rt.alloc());
+    over_goldilocks(&rt, rt.alloc(), Topic::GivenBack);
 }
 
 #[test]
 fn calls_answer_at_large_shapes_over_baby_bear(rt: HostRuntime) {
-    answer_all::<BabyBear>(&rt, rt.alloc(), &[EngineName::Naive], &SHAPES_OF_SUMS);
-    answer_all::<BabyBear>(&rt, rt.alloc(), &FAST_ENGINES, &LARGE_SHAPES);
+    let sums = Topic::Answers(&[EngineName::Naive], &SHAPES_OF_SUMS);
+    over_baby_bear(&rt, rt.alloc(), sums);
+    let large = Topic::Answers(&FAST_ENGINES, &LARGE_SHAPES);
+    over_baby_bear(&rt, rt.alloc(), large);
 }
 
 #[test]
 fn calls_answer_at_large_shapes_over_koala_bear(rt: HostRuntime) {
-    answer_all::<KoalaBear>(&rt, rt.alloc(), &ENGINES, &SHAPES);
-    answer_all::<KoalaBear>(&rt, rt.alloc(), &FAST_ENGINES, &LARGE_SHAPES);
+    let small = Topic::Answers(&ENGINES, &SHAPES);
+    over_koala_bear(&rt, rt.alloc(), small);
+    let large = Topic::Answers(&FAST_ENGINES, &LARGE_SHAPES);
+    over_koala_bear(&rt, rt.alloc(), large);
 }
 
 #[test]
 fn calls_answer_at_large_shapes_over_goldilocks(rt: HostRuntime) {
-    answer_all::<Goldilocks>(&rt, rt.alloc(), &ENGINES, &SHAPES);
-    answer_all::<Goldilocks>(&rt, rt.alloc(), &FAST_ENGINES, &LARGE_SHAPES);
+    let small = Topic::Answers(&ENGINES, &SHAPES);
+    over_goldilocks(&rt, rt.alloc(), small);
+    let large = Topic::Answers(&FAST_ENGINES, &LARGE_SHAPES);
+    over_goldilocks(&rt, rt.alloc(), large);
 }
