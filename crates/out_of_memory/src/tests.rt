@@ -118,7 +118,7 @@ fn take_for_good(alloc: Global, size: usize, most: usize) -> bool {
 fn kept(rt: &impl Abort, alloc: Global, small: bool) -> Vec<Vec<u8>> {
     let size = if small { 100000 } else { 4000 };
     let mut kept = Vec::new(alloc);
-    for _n in 0..16usize {
+    for _n in 0..64usize {
         let block = Vec::with_capacity(alloc, size).expect(rt, "memory");
         kept.push(block).expect(rt, "memory");
     }
