@@ -10,7 +10,7 @@ use std::str;
 pub enum FieldName {
     BabyBear,
     Goldilocks,
-    // The same field in the lanes of vectors.
+    // Goldilocks in the lanes of vectors.
     WideGoldilocks,
 }
 

@@ -538,7 +538,7 @@ fn multiples_of_row<F: TwoAdicField>(
     }
 }
 
-// The same, row after row: each costs a call and waits for its factor.
+// Writes the multiples of a row one after another: each costs a call and waits for its factor.
 fn multiples_one_by_one<F: TwoAdicField>(
     first: F,
     step: F,
@@ -563,7 +563,7 @@ fn multiples_one_by_one<F: TwoAdicField>(
     }
 }
 
-// The same for short rows: all rows that are done, times one factor, are as many more.
+// Writes the multiples of a short row by doubling: all rows that are done, times one factor, are as many more.
 fn multiples_by_doubling<F: TwoAdicField>(
     first: F,
     step: F,
