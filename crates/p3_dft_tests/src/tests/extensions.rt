@@ -4,8 +4,8 @@
 use super::algebra::coordinates_of;
 use super::helpers::matrices::{assert_rows, elements, sample};
 use examples::extension::{BabyBearFourth, ExtensionField, GoldilocksSquared};
-use examples::extension_folding::{fold_into_extension, last_coefficients};
-use p3_dft::{BabyBear, CanonicalField, Goldilocks, Layout, Radix2Dit, RowMajorMatrix, fits_dft};
+use examples::extension_folding::fold_into_extension;
+use p3_dft::{BabyBear, CanonicalField, Goldilocks, Layout, RowMajorMatrix, fits_dft};
 use std::alloc::Global;
 use std::process::Abort;
 
@@ -575,7 +575,7 @@ fn products_in_extension_fields(rt: HostRuntime) {
     assert!(rt; text.as_str() == "(0 + 1 x) (0 + 1 x)");
 }
 
-// Stops the test where a folding does not have these values, or, in natural order, these coefficients.
+// Stops the test where a folding does not have these values.
 fn assert_foldings<F: CanonicalField, E: ExtensionField<F>>(
     rt: &impl Abort,
     alloc: Global,
@@ -599,19 +599,6 @@ fn assert_foldings<F: CanonicalField, E: ExtensionField<F>>(
             case.values,
             entries,
         );
-        if case.layout == Layout::Natural {
-            let square = shift * shift;
-            assert!(rt; square.try_inverse().is_some());
-            assert!(rt; fits_dft::<F>(folded.height(), entries));
-            let mut engine: Radix2Dit<F> = Radix2Dit::default();
-            let last = last_coefficients(&mut engine, folded, square).expect(rt, "memory");
-            assert_rows(
-                rt,
-                &coordinates_of::<F, E>(rt, &last),
-                case.coefficients,
-                entries,
-            );
-        }
     }
 }
 
