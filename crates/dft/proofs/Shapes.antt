@@ -30,9 +30,9 @@ logarithm-found bits number n h e = found (logarithm bits number) refl (logarith
 -- a shape fits where its test says so
 fits_lde-true : (two_adicity height width added : ℕ) → FitsLde two_adicity height width added → fits_lde two_adicity height width added ≡ true
 fits_lde-true t h w a fits =
-    let found : logarithm t h ≡ Some fits.log = logarithm-found t h fits.log (omega (arith, fits.within)) fits.high in
+    let found : logarithm t h ≡ Some fits.log = logarithm-found t h fits.log (omega (arith, fits.within)) fits.height in
     let within : fits.log + a ≤ t = fits.within in
-    let wide : 1 ≤ w = fits.wide in
+    let wide : 1 ≤ w = fits.width in
     let size : w * 2 ^ (fits.log + a) < 2 ^ 64 = fits.size in
     ap (fits_at t w a) found ∙ grind (arith, nat_tests)
 
@@ -43,7 +43,7 @@ fits_lde-from_true t h w a (Some n) is e =
     let within : n + a ≤ t = grind (arith, nat_tests) in
     let wide : 1 ≤ w = grind (arith, nat_tests) in
     let size : w * 2 ^ (n + a) < 2 ^ 64 = grind (arith, nat_tests) in
-    record { log = n; within = within; high = (logarithm-some t h n is).1; wide = wide; size = size }
+    record { log = n; within = within; height = (logarithm-some t h n is).1; width = wide; size = size }
 
 -- the test of a shape decides that it fits
 pub fits_lde-decides : (two_adicity height width added : ℕ) (r : Bool) → IsTrue r ↔ FitsLde two_adicity height width added → r ≡ fits_lde two_adicity height width added

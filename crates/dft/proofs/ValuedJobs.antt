@@ -49,7 +49,7 @@ each_high f m = ap (λ n. n / m.width) (length-map m.values f)
 
 each_whole : {X Y : Type 0} (f : X → Y) (m : RowMajor X) → IsRowMajor m → IsRowMajor (each f m)
 each_whole f m whole = record {
-  wide = whole.wide;
+  width = whole.width;
   full = ap (λ h. h * m.width) (each_high f m) ∙ whole.full ∙ sym (length-map m.values f);
 }
 
@@ -74,8 +74,8 @@ module _ {F : Type 0} (f : FieldMembers F) (generator : ℕ → F) (two_adicity 
   -- by index they are one
   same : (m : RowMajor F) → Same (values_of f m) (values_of (members field) (valued m))
   same m = record {
-    high = sym (each_high f.value m);
-    wide = refl;
+    height = sym (each_high f.value m);
+    width = refl;
     alike = λ i j p q.
         sym (get_or-map f.value m.values (i * m.width + j) f.ZERO)
         ∙ ap (get_or (map f.value m.values) (i * m.width + j)) zero_is;

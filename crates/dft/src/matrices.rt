@@ -18,9 +18,9 @@ pub fn matrix_of<F: CanonicalField>(
     words: &[Vec<u8>],
 ) -> Result<RowMajorMatrix<F>, Refused>
     requires below { reaches F.ORDER_U64 (numbers_of words.now) ≡ false }
-    requires wide { 1 ≤ width }
+    requires width { 1 ≤ width }
     requires full { (length words.now / width) * width ≡ length words.now }
-    ensures wide { IfOk result (λ m. m.width ≡ width) }
+    ensures width { IfOk result (λ m. m.width ≡ width) }
     ensures numbers { IfOk result (λ m. map (λ x. F.number (F.value x)) m.values ≡ numbers_of words.now) }
 {
     let mut values = growth::with_capacity(alloc, words.len())?;

@@ -159,10 +159,10 @@ module _ {A T : Type 0} (R : Ring A) (f : T → A) (d : T) (b : ℕ) (out : Matr
   block_entries p is =
       let m = p.1 in
       let w = m.width in
-      let wide : w ≡ out.width = is.rows.wide in
-      let tall : height m ≡ b = is.rows.high in
+      let wide : w ≡ out.width = is.rows.width in
+      let tall : height m ≡ b = is.rows.height in
       let size : length m.values ≡ b * out.width = sym is.whole.full ∙ ap₂ (λ (h v : ℕ). h * v) tall wide in
-      let some : 0 < w = omega (arith, is.whole.wide) in
+      let some : 0 < w = omega (arith, is.whole.width) in
       sum_same R (length m.values) (λ i. f (get_or m.values i d)) (λ i. out.entry (p.0 + i / out.width) (i % out.width))
       (λ i below.
       ap (λ q. f (get_or m.values q d)) (sym (div-add-mod' i w))

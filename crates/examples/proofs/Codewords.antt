@@ -64,7 +64,7 @@ module _ {F D V : Type 0} (f : FieldMembers F) (g : ℕ → f.Element) (worth : 
     -- all of one width
     pub width_of_layer : (m l : ℕ) → l + m ≡ n → (codewords l).width ≡ (codewords n).width
     width_of_layer zero l all = let here : l ≡ n = omega (arith, all) in ap (λ q. (codewords q).width) here
-    width_of_layer (suc m) l all = sym (layers l (omega (arith, all))).folds.wide ∙ width_of_layer m (suc l) (omega (arith, all))
+    width_of_layer (suc m) l all = sym (layers l (omega (arith, all))).folds.width ∙ width_of_layer m (suc l) (omega (arith, all))
 
     -- the pairs that are opened fold down to the last one
     pub pairs_fold : (i : ℕ) (pairs : ℕ → RowMajor F)
@@ -80,7 +80,7 @@ module _ {F D V : Type 0} (f : FieldMembers F) (g : ℕ → f.Element) (worth : 
           let half : m / 2 ≡ next = shr-shr i l 1 ∙ ap (λ q. i / 2 ^ q) one in
           let place : 2 * next + m % 2 ≡ m = omega (arith, half) in
           let last : l < n = omega (arith, below) in
-          let in_next : j < (codewords (suc l)).width = omega (arith, in_row, wide l last, (layers l last).folds.wide) in
+          let in_next : j < (codewords (suc l)).width = omega (arith, in_row, wide l last, (layers l last).folds.width) in
           let is = entries (suc l) (m % 2) j below (omega arith) in_next ∙ ap (λ q. (values_of f (codewords (suc l))).entry q j) place in
           subst (IsFoldedPair f.ring (betas l) (point f.ring g (suc (log - suc l)) (power f.ring s (2 ^ l)) (rev (log - suc l) m)) ((values_of f (pairs l)).entry 0 j) ((values_of f (pairs l)).entry 1 j)) (sym is) (folds l last j in_row);
       to_last = λ l last. subst (λ q. FoldsTo f g (log - suc l) (power f.ring s (2 ^ l)) (betas l) (i / 2 ^ l) (values_of f (pairs l)) ((values_of f (codewords q)).entry (i / 2 ^ l))) last (folds l (omega (arith, last)));

@@ -55,7 +55,7 @@ module _ {A B : Type 0} (r : Ring A) (q : Ring B) (embed : A → B) (is : IsEmbe
     -- embedded coefficients have the embedded values at the embedded points
     embedded_values : (c m : Matrix A) (n : ℕ) (s : A) → IsValues r g c n s m → IsValues q h (image embed c) n (embed s) (image embed m)
     embedded_values c m n s v =
-        is_values q h (image embed c) n (embed s) (image embed m) v.high v.wide
+        is_values q h (image embed c) n (embed s) (image embed m) v.height v.width
         (λ i j below inside. ap embed (entry-poly r g c n s m v i j below inside) ∙ embedded-poly c.height (λ u. c.entry u j) (point r g n s i)
         ∙ ap (poly q c.height (λ u. embed (c.entry u j))) (embedded-point n s i))
 
@@ -69,13 +69,13 @@ module _ {F E : Type 0} (f : FieldMembers F) (e : FieldMembers E) (v : SpaceMemb
 
   arranged : (layout : Layout) (k : ℕ) (m : RowMajor F) → Same (image is.embed (arrangement layout k (values_of f m))) (arrangement layout k (values_of e (embedded_matrix embedded m)))
   arranged Natural k m = record {
-    high = sym (height-embedded embedded m);
-    wide = refl;
+    height = sym (height-embedded embedded m);
+    width = refl;
     alike = λ i j _ _. sym (stored m.values (i * m.width + j));
   }
   arranged BitReversed k m = record {
-    high = sym (height-embedded embedded m);
-    wide = refl;
+    height = sym (height-embedded embedded m);
+    width = refl;
     alike = λ i j _ _. sym (stored m.values _);
   }
 
@@ -84,7 +84,7 @@ module _ {F E : Type 0} (f : FieldMembers F) (e : FieldMembers E) (v : SpaceMemb
       → HasDegreeBelow e h d k (e.value (embedded s)) (arrangement layout k (values_of e (embedded_matrix embedded m)))
   embedded_degree layout d k s m has = record {
     coefficients = image is.embed has.coefficients;
-    high = has.high;
+    height = has.height;
     values = subst (λ p. IsValues e.ring (λ n. e.value (h n)) (image is.embed has.coefficients) k p (arrangement layout k (values_of e (embedded_matrix embedded m)))) (sym (is.base s))
         (values_same e.ring (λ n. e.value (h n)) (image is.embed has.coefficients) k (is.embed (f.value s)) (image is.embed (arrangement layout k (values_of f m))) _
         (embedded_values f.ring e.ring is.embed is.embeds (λ n. f.value (g n)) (λ n. e.value (h n)) is.generators has.coefficients _ k (f.value s) has.values) (arranged layout k m));
@@ -137,9 +137,9 @@ module _ {F E : Type 0} (f : FieldMembers F) (e : FieldMembers E) (v : SpaceMemb
           let counts = λ (t : ℕ) (y : RowMajor E). ap (λ n. n / y.width) (length-map y.values (λ z. get_or (v.coordinates z) t f.ZERO)) in
           let each = λ (t : ℕ) (within : t < v.DIMENSION).
           (inverse_of_coordinate v counted t within f g bits roots m out (f.value s) fits invertible given).holds k (counts t m ∙ tall) in
-          let first = each 0 (some_factor m.width v.DIMENSION fits.wide) in
+          let first = each 0 (some_factor m.width v.DIMENSION fits.width) in
           record {
-            high = sym (counts 0 out) ∙ first.high ∙ counts 0 m;
-            wide = first.wide;
-            values = values_by_parts out m k (f.value s) tall (sym first.wide) (λ t within. (each t within).values);
+            height = sym (counts 0 out) ∙ first.height ∙ counts 0 m;
+            width = first.width;
+            values = values_by_parts out m k (f.value s) tall (sym first.width) (λ t within. (each t within).values);
           }

@@ -175,11 +175,11 @@ module _ {A : Type 0} (R : Ring A) {g : ℕ → A} {bits : ℕ} (G : AreRoots R 
   -- rows that are folded pair by pair have the values of the folded polynomials
   pub folded_values : (beta : A) (k : ℕ) (s : A) (m out : Matrix A) → k < bits → IsInvertible R s → AreFoldedRows R g beta k s m out → IsFolding R g beta k s m out
   folded_values beta k s m out within inverse folded c v =
-      is_values R g (folded_coefficients R beta c) k (s ⊗ s) out folded.high (folded.wide ∙ v.wide)
+      is_values R g (folded_coefficients R beta c) k (s ⊗ s) out folded.height (folded.width ∙ v.width)
       (λ i j below inside.
       one_folded_value R beta (point R g (suc k) s i) (m.entry i j) (m.entry (2 ^ k + i) j) (out.entry i j) _
       (point_invertible R G (suc k) s i (point R g (suc k) s i) refl (omega (arith, within)) inverse)
-      (folded.rows i j below (omega (arith, inside, v.wide)))
+      (folded.rows i j below (omega (arith, inside, v.width)))
       (polynomials_fold beta k s c m within v i j below inside))
 
   -- of rows in bit reversed order the pairs lie side by side
@@ -187,8 +187,8 @@ module _ {A : Type 0} (R : Ring A) {g : ℕ → A} {bits : ℕ} (G : AreRoots R 
       → ((i j : ℕ) → i < 2 ^ k → j < m.width → IsFoldedPair R beta (point R g (suc k) s (rev k i)) (m.entry (2 * i) j) (m.entry (2 * i + 1) j) (out.entry i j))
       → AreFoldedRows R g beta k s (bit_reversal (suc k) m) (bit_reversal k out)
   folded_in_bit_order beta k s m out high wide rows = record {
-    high = high;
-    wide = wide;
+    height = high;
+    width = wide;
     rows = λ i j below inside.
         let given = rows (rev k i) j (rev-lt k i) inside in
         subst (λ (x : A). IsFoldedPair R beta x (m.entry (rev (suc k) i) j) (m.entry (rev (suc k) (2 ^ k + i)) j) (out.entry (rev k i) j))
@@ -204,7 +204,7 @@ module _ {A : Type 0} (R : Ring A) {g : ℕ → A} {bits : ℕ} (G : AreRoots R 
       → ((i j : ℕ) → i < 2 ^ k → j < m.width
       → IsFoldedPair R beta (point R g (suc k) s (pair_point layout k i)) (m.entry (near_row layout k i) j) (m.entry (far_row layout k i) j) (out.entry i j))
       → AreFoldedRows R g beta k s (arrangement layout (suc k) m) (arrangement layout k out)
-  folded_in_layout Natural beta k s m out high wide rows = record { high = high; wide = wide; rows = rows }
+  folded_in_layout Natural beta k s m out high wide rows = record { height = high; width = wide; rows = rows }
   folded_in_layout BitReversed beta k s m out high wide rows = folded_in_bit_order beta k s m out high wide rows
 
   -- from a factor for each pair: the challenge over twice its point
@@ -243,8 +243,8 @@ module _ {A : Type 0} (R : Ring A) {g : ℕ → A} {bits : ℕ} (G : AreRoots R 
     pub foldings_determine : (m n y z : Matrix A) → m.height ≡ 2 ^ suc k → n.height ≡ 2 ^ suc k → m.width ≡ n.width
         → AreFoldedRows R g beta k s m y → AreFoldedRows R g gamma k s m z → AreFoldedRows R g beta k s n y → AreFoldedRows R g gamma k s n z → Same m n
     foldings_determine m n y z high tall wide first second third fourth = record {
-      high = high ∙ sym tall;
-      wide = wide;
+      height = high ∙ sym tall;
+      width = wide;
       alike = λ i j below inside. each j inside i (either_half i (omega (arith, below, high)));
     }
       where
@@ -271,7 +271,7 @@ module _ {A : Type 0} (R : Ring A) {g : ℕ → A} {bits : ℕ} (G : AreRoots R 
     pub unfolded_values : (c d m y z : Matrix A) → c.height ≡ d.height → m.height ≡ 2 ^ suc k → IsValues R g c k (s ⊗ s) y → IsValues R g d k (s ⊗ s) z
         → AreFoldedRows R g beta k s m y → AreFoldedRows R g gamma k s m z → IsValues R g (unfolded c d) (suc k) s m
     unfolded_values c d m y z tall high of_y of_z first second =
-        is_values R g (unfolded c d) (suc k) s m high (sym first.wide ∙ of_y.wide) (λ i j below inside. each j inside i (either_half i below))
+        is_values R g (unfolded c d) (suc k) s m high (sym first.width ∙ of_y.width) (λ i j below inside. each j inside i (either_half i below))
       where
         h : ℕ
         h = c.height
@@ -288,9 +288,9 @@ module _ {A : Type 0} (R : Ring A) {g : ℕ → A} {bits : ℕ} (G : AreRoots R 
             let x = at i in
             let p = point R g k (s ⊗ s) i in
             let squared : x ⊗ x ≡ p = point_squared R G k s i within in
-            let in_y : j < y.width = omega (arith, inside, of_y.wide) in
-            let in_m : j < m.width = omega (arith, in_y, first.wide) in
-            let in_d : j < d.width = omega (arith, in_m, second.wide, of_z.wide) in
+            let in_y : j < y.width = omega (arith, inside, of_y.width) in
+            let in_m : j < m.width = omega (arith, in_y, first.width) in
+            let in_d : j < d.width = omega (arith, in_m, second.width, of_z.width) in
             let f = λ (q : ℕ). c.entry q j in
             let e = λ (q : ℕ). d.entry q j in
             let v : y.entry i j ≡ poly R h f (x ⊗ x) = entry-poly R g c k (s ⊗ s) y of_y i j below inside ∙ ap (poly R h f) (sym squared) in

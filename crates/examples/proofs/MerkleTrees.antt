@@ -55,8 +55,8 @@ module _ {T : Type 0} (d : T) (m : RowMajor T) (whole : IsRowMajor m) (b : ℕ) 
   block_row q r low inside =
       let w = m.width in
       let p = rows_from m (q * b) b in
-      let is = is_block (λ x. x) d m whole (matrix d m) (record { high = refl; wide = refl; alike = λ i j x y. refl }) b (divisor b (height m) q low) q low in
-      let tall : height p ≡ b = is.rows.high in
+      let is = is_block (λ x. x) d m whole (matrix d m) (record { height = refl; width = refl; alike = λ i j x y. refl }) b (divisor b (height m) q low) q low in
+      let tall : height p ≡ b = is.rows.height in
       let room : q * b + b ≤ height m = block_within q b (height m) low in (
         tall,
         part_by_index p.values (r * w) w d (row_within r (height p) w (length p.values) (omega (arith, inside, tall)) is.whole.full)
@@ -128,7 +128,7 @@ root_of_digests worth join of m digests xs k bits d are is high log =
 
 -- matrices that are one are so with their rows in bit reversed order
 pub reversed_alike : {E : Type 0} (n : ℕ) (a b : Matrix E) → a.height ≡ 2 ^ n → Same a b → Same (bit_reversal n a) (bit_reversal n b)
-reversed_alike n a b high same = record { high = same.high; wide = same.wide; alike = λ i j p q. same.alike (rev n i) j (omega (arith, rev-lt n i, high)) q }
+reversed_alike n a b high same = record { height = same.height; width = same.width; alike = λ i j p q. same.alike (rev n i) j (omega (arith, rev-lt n i, high)) q }
 
 module _ {F : Type 0} (f : FieldMembers F) where
   row_values : (m : RowMajor F) → IsRowMajor m → (i : ℕ) → i < height m → map f.value (row m i) ≡ row_of (values_of f m) i
@@ -141,8 +141,8 @@ module _ {F : Type 0} (f : FieldMembers F) where
   rows_alike a b whole other same i below =
       row_values a whole i below
       ∙ list_same ((values_of f a).entry i) ((values_of f b).entry i) a.width (λ j l. same.alike i j below l)
-      ∙ ap (λ w. map ((values_of f b).entry i) (range_with_len 0 w)) same.wide
-      ∙ sym (row_values b other i (omega (arith, below, same.high)))
+      ∙ ap (λ w. map ((values_of f b).entry i) (range_with_len 0 w)) same.width
+      ∙ sym (row_values b other i (omega (arith, below, same.height)))
 
   -- two matrices with equal values have one root
   pub one_root : {V : Type 0} (join : V → V → V) (of : List F → V) → ((xs ys : List F) → map f.value xs ≡ map f.value ys → of xs ≡ of ys)

@@ -22,15 +22,15 @@ opposite f m n whole two two_too is c same =
     let shape = same_shape m n (two_too ∙ sym two) is in
     let size : length m.values ≡ height m * 2 = sym whole.full ∙ ap (λ w. height m * w) two in
     record {
-      high = sym same.high ∙ sym shape.0;
-      wide = sym two_too;
+      height = sym same.height ∙ sym shape.0;
+      width = sym two_too;
       alike = λ i j below inside.
-          let low : i < height m = omega (arith, below, same.high) in
+          let low : i < height m = omega (arith, below, same.height) in
           let place : i * 2 + j < length m.values = omega (arith, low, inside, size) in
           let at : get_or (reverse m.values) (i * 2 + j) f.ZERO ≡ get_or m.values ((height m - 1 - i) * 2 + (1 - j)) f.ZERO =
           get_or-reverse m.values (i * 2 + j) f.ZERO place ∙ ap (λ p. get_or m.values p f.ZERO) (from_end (height m) i j (length m.values) low inside size) in
           let here : f.value (get_or n.values (i * n.width + j) f.ZERO) ≡ f.value (get_or m.values ((height m - 1 - i) * m.width + (1 - j)) f.ZERO) =
           ap (λ w. f.value (get_or n.values (i * w + j) f.ZERO)) two_too ∙ ap (λ xs. f.value (get_or xs (i * 2 + j) f.ZERO)) is ∙ ap f.value at
           ∙ ap (λ w. f.value (get_or m.values ((height m - 1 - i) * w + (1 - j)) f.ZERO)) (sym two) in
-          sym (here ∙ same.alike (height m - 1 - i) (1 - j) (omega (arith, low)) (omega (arith, two)) ∙ ap (λ h. c.entry (h - 1 - i) (1 - j)) same.high);
+          sym (here ∙ same.alike (height m - 1 - i) (1 - j) (omega (arith, low)) (omega (arith, two)) ∙ ap (λ h. c.entry (h - 1 - i) (1 - j)) same.height);
     }

@@ -11,9 +11,9 @@ use Rattle.examples.specs.Foldings.{AreFoldedRows, IsFoldedPair}
 use Rattle.examples.specs.MerkleTrees.{AreNodes, climbed}
 
 -- two rows of such a width and a path that leads from their digest, as leaf i of 2 ^ k, to this root
-pub record IsOpened {F D V : Type 0} (worth : D → V) (join : V → V → V) (of_row : List F → V) (k i width : ℕ) (root : V) (pair : RowMajor F) (path : List D) : Type 0 where
-  pub high : height pair ≡ 2
-  pub wide : pair.width ≡ width
+pub record IsOpened {F D V : Type 0} (worth : D → V) (join : V → V → V) (of_row : List F → V) (k i w : ℕ) (root : V) (pair : RowMajor F) (path : List D) : Type 0 where
+  pub height : height pair ≡ 2
+  pub width : pair.width ≡ w
   pub long : length path ≡ k
   pub leads : climbed join (2 ^ k + i) (of_row pair.values) (map worth path) ≡ root
 
@@ -30,7 +30,7 @@ module _ {F : Type 0} (f : FieldMembers F) (g : ℕ → f.Element) where
 
   -- a codeword on the coset of s of order 2 ^ (k + 1) with the nodes of the tree over its pairs, which is folded with beta to the next one
   pub record IsLayer {D V : Type 0} (worth : D → V) (join : V → V → V) (of_row : List F → V) (k : ℕ) (s beta : f.Element) (codeword next : RowMajor F) (nodes : List D) : Type 0 where
-    pub high : height codeword ≡ 2 ^ suc k
+    pub height : height codeword ≡ 2 ^ suc k
     pub tree : AreNodes worth join (2 ^ k) (λ i. of_row (rows_from codeword (2 * i) 2).values) nodes
     pub folds : AreFoldedRows f.ring g beta k s (bit_reversal (suc k) (values_of f codeword)) (bit_reversal k (values_of f next))
 

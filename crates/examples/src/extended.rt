@@ -109,7 +109,7 @@ pub fn coefficients_of_an_extension<F: TwoAdicField, D: TwoAdicSubgroupDft<F>>(
 ) -> Result<RowMajorMatrix<F>, DftError>
     requires fits { FitsLde F.TWO_ADICITY (height mat) mat.width added_bits }
     requires invertible { IsInvertible F.ring (F.value shift) }
-    ensures high { IfOk result (λ back. AtLog (height mat) (λ k. height back ≡ 2 ^ (k + added_bits))) }
+    ensures height { IfOk result (λ back. AtLog (height mat) (λ k. height back ≡ 2 ^ (k + added_bits))) }
     ensures zeros { IfOk result (λ back. (i j : ℕ) → height mat ≤ i → i < height back → j < back.width
         → (values_of F.Field.own back).entry i j ≡ F.ring.zero) }
     ensures later { IsLater D.facts engine.old engine.new }

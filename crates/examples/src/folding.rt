@@ -98,7 +98,7 @@ fn factors_in_layout<F: TwoAdicField>(
 // The rows of pair i, of `half` pairs, as the rows lie.
 fn pair_rows(layout: Layout, half: usize, i: usize) -> (usize, usize)
     requires inside { i < half }
-    requires small { 2 * half < 2 ^ 64 }
+    requires fits_u64 { 2 * half < 2 ^ 64 }
     ensures near { (k : ℕ) → half ≡ 2 ^ k → result.0 ≡ near_row layout k i }
     ensures far { (k : ℕ) → half ≡ 2 ^ k → result.1 ≡ far_row layout k i }
     ensures within { (result.0 < 2 * half) × (result.1 < 2 * half) }

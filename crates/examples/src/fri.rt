@@ -100,7 +100,7 @@ pub fn open_layer<F: TwoAdicField, H: RowHash<F>>(
     log_half: usize,
     index: usize,
 ) -> Result<Opening<F, H::Digest>, DftError>
-    requires high { height layer.now.codeword ≡ 2 * 2 ^ log_half }
+    requires height { height layer.now.codeword ≡ 2 * 2 ^ log_half }
     requires nodes { length layer.now.nodes.items ≡ 2 * 2 ^ log_half }
     requires inside { index < 2 ^ log_half }
     ensures pair { IfOk result (λ o. o.pair ≡ rows_from layer.now.codeword (2 * index) 2) }
@@ -135,7 +135,7 @@ fn is_opened<F: TwoAdicField, H: RowHash<F>>(
     index: usize,
 ) -> bool
     requires inside { index < 2 ^ log_half }
-    requires small { log_half < 63 }
+    requires fits_u64 { log_half < 63 }
     ensures { IsTrue result ↔ IsOpened H.worth (H.of_pair hash.now) (H.of_row hash.now) log_half index width
         (H.worth root) opening.now.pair opening.now.path.items }
 {
@@ -160,11 +160,11 @@ fn is_folded<F: TwoAdicField>(
     log_half: usize,
     index: usize,
 ) -> bool
-    requires high { height pair.now ≡ 2 }
-    requires wide { next.now.width ≡ pair.now.width }
+    requires height { height pair.now ≡ 2 }
+    requires width { next.now.width ≡ pair.now.width }
     requires row { row < height next.now }
     requires within { log_half < F.TWO_ADICITY }
-    requires small { log_half < 63 }
+    requires fits_u64 { log_half < 63 }
     ensures { IsTrue result ↔ FoldsTo F.Field.own (λ n. F.value (F.generator n)) log_half (F.value shift)
         (F.value challenge) index (values_of F.Field.own pair.now) ((values_of F.Field.own next.now).entry row) }
 {
@@ -200,7 +200,7 @@ fn are_opened<F: TwoAdicField, H: RowHash<F>>(
 ) -> bool
     requires count { length openings.now ≡ vec_len commitment.now.roots }
     requires layers { vec_len commitment.now.roots ≤ commitment.now.log_height }
-    requires small { commitment.now.log_height < 64 }
+    requires fits_u64 { commitment.now.log_height < 64 }
     requires inside { 2 * index < 2 ^ commitment.now.log_height }
     ensures { IsTrue result ↔ ((l : ℕ) (o : _) (d : H.Digest) → l < length openings.now
         → IsOpened H.worth (H.of_pair hash.now) (H.of_row hash.now) (commitment.now.log_height - suc l)
@@ -234,7 +234,7 @@ fn layer_folds<F: TwoAdicField, D>(
     requires at { l < length openings.now }
     requires layers { length openings.now ≤ commitment.now.log_height }
     requires challenges { vec_len commitment.now.challenges ≡ length openings.now }
-    requires small { commitment.now.log_height < 64 }
+    requires fits_u64 { commitment.now.log_height < 64 }
     requires within { commitment.now.log_height ≤ F.TWO_ADICITY }
     requires inside { 2 * index < 2 ^ commitment.now.log_height }
     requires last { height commitment.now.last ≡ 2 ^ (commitment.now.log_height - length openings.now) }
@@ -283,7 +283,7 @@ fn are_folded<F: TwoAdicField, D>(
 ) -> bool
     requires layers { length openings.now ≤ commitment.now.log_height }
     requires challenges { vec_len commitment.now.challenges ≡ length openings.now }
-    requires small { commitment.now.log_height < 64 }
+    requires fits_u64 { commitment.now.log_height < 64 }
     requires within { commitment.now.log_height ≤ F.TWO_ADICITY }
     requires inside { 2 * index < 2 ^ commitment.now.log_height }
     requires last { height commitment.now.last ≡ 2 ^ (commitment.now.log_height - length openings.now) }
@@ -315,7 +315,7 @@ pub fn check<F: TwoAdicField, H: RowHash<F>>(
 ) -> bool
     requires layers { vec_len commitment.now.roots ≤ commitment.now.log_height }
     requires challenges { vec_len commitment.now.challenges ≡ vec_len commitment.now.roots }
-    requires small { commitment.now.log_height < 64 }
+    requires fits_u64 { commitment.now.log_height < 64 }
     requires within { commitment.now.log_height ≤ F.TWO_ADICITY }
     requires last { height commitment.now.last ≡ 2 ^ (commitment.now.log_height - vec_len commitment.now.roots) }
     requires inside { 2 * index < 2 ^ commitment.now.log_height }
@@ -350,7 +350,7 @@ pub fn commit<F: TwoAdicField, H: RowHash<F>, T: Transcript<F, H::Digest>>(
     transcript: &mut T,
 ) -> Result<(Vec<Layer<F, H::Digest>>, Commitment<F, H::Digest>), DftError>
     requires fits { FitsDft F.TWO_ADICITY (height codeword) codeword.width }
-    requires high { height codeword ≡ 2 ^ log_height }
+    requires height { height codeword ≡ 2 ^ log_height }
     requires folds { folds ≤ log_height }
     requires invertible { IsInvertible F.ring (F.value shift) }
     ensures count { IfOk result (λ p. (vec_len p.0 ≡ folds) × (vec_len p.1.roots ≡ folds)
@@ -404,9 +404,9 @@ pub fn open<F: TwoAdicField, H: RowHash<F>>(
     index: usize,
 ) -> Result<Vec<Opening<F, H::Digest>>, DftError>
     requires layers { length layers.now ≤ log_height }
-    requires small { log_height < 64 }
+    requires fits_u64 { log_height < 64 }
     requires inside { 2 * index < 2 ^ log_height }
-    requires high { (l : ℕ) (y : _) → l < length layers.now
+    requires height { (l : ℕ) (y : _) → l < length layers.now
         → height (get_or layers.now l y).codeword ≡ 2 * 2 ^ (log_height - suc l) }
     requires nodes { (l : ℕ) (y : _) → l < length layers.now
         → length (get_or layers.now l y).nodes.items ≡ 2 * 2 ^ (log_height - suc l) }
@@ -446,9 +446,9 @@ pub fn honest_query<F: TwoAdicField, H: RowHash<F>, T: Transcript<F, H::Digest>>
     index: usize,
 ) -> Result<bool, DftError>
     requires fits { FitsDft F.TWO_ADICITY (height codeword) codeword.width }
-    requires high { height codeword ≡ 2 ^ log_height }
+    requires height { height codeword ≡ 2 ^ log_height }
     requires folds { folds ≤ log_height }
-    requires small { log_height < 64 }
+    requires fits_u64 { log_height < 64 }
     requires invertible { IsInvertible F.ring (F.value shift) }
     requires inside { 2 * index < 2 ^ log_height }
     ensures { IfOk result IsTrue }

@@ -41,10 +41,10 @@ fn filled<T: Copy>(
     rows: usize,
     columns: usize,
 ) -> Result<RowMajorMatrix<T>, DftError>
-    requires wide { 1 ≤ columns }
+    requires width { 1 ≤ columns }
     requires counted { rows * columns < 2 ^ 64 }
-    ensures high { IfOk result (λ mat. height mat ≡ rows) }
-    ensures wide { IfOk result (λ mat. mat.width ≡ columns) }
+    ensures height { IfOk result (λ mat. height mat ≡ rows) }
+    ensures width { IfOk result (λ mat. mat.width ≡ columns) }
 {
     let mut values = Vec::new(alloc);
     growth::resize(&mut values, rows * columns, element)?;

@@ -14,7 +14,7 @@ use Rattle.liktrob.specs.Words.{Fits}
 
 module _ {bits count width a extended : ℕ} where
   pub rows_are : (fit : Fits bits count width a extended) → fit.rows ≡ count / width
-  rows_are fit = sym (mul-div_cancel fit.rows fit.fits.wide) ∙ ap (λ n. n / width) fit.full
+  rows_are fit = sym (mul-div_cancel fit.rows fit.fits.width) ∙ ap (λ n. n / width) fit.full
 
   pub whole_rows : Fits bits count width a extended → (count / width) * width ≡ count
   whole_rows fit = ap (λ n. n * width) (sym (rows_are fit)) ∙ fit.full
@@ -32,8 +32,8 @@ word_fits {width = width} {a = a} fit =
       fits = record {
         log = fit.fits.log + a;
         within = omega (arith, fit.fits.within);
-        high = ap (λ n. n * 2 ^ a) fit.fits.high ∙ sym (pow-add 2 fit.fits.log a);
-        wide = fit.fits.wide;
+        height = ap (λ n. n * 2 ^ a) fit.fits.height ∙ sym (pow-add 2 fit.fits.log a);
+        width = fit.fits.width;
         size = rw add-zero fit.fits.size;
       };
       room = omega arith;
@@ -45,7 +45,7 @@ module _ {F W : Type 0} (R : W → F → Type 0) {width : ℕ} (words : List W) 
   rows_named = ap₂ (λ (n w : ℕ). n / w) (AllZip-long R words m.values entries) wide
 
   pub named_high : {bits a extended : ℕ} (fit : Fits bits (length words) width a extended) → height m ≡ 2 ^ fit.fits.log
-  named_high fit = rows_named ∙ sym (rows_are fit) ∙ fit.fits.high
+  named_high fit = rows_named ∙ sym (rows_are fit) ∙ fit.fits.height
 
   pub named_fits : {bits a extended : ℕ} → Fits bits (length words) width a extended → FitsLde bits (height m) m.width a
   named_fits {bits = bits} {a = a} fit = fits_lde_as bits (length words / width) width a (height m) m.width (rows_fit fit) rows_named wide
@@ -65,4 +65,4 @@ pub values_size : {F : Type 0} (f : FieldMembers F) (g : ℕ → f.Element) (m o
     → height m ≡ 2 ^ k → c.width ≡ m.width → IsValues f.ring g c (k + a) s (values_of f out) → length out.values ≡ length m.values * 2 ^ a
 values_size f g m out k a s c whole out_whole high wide values =
     sym out_whole.full
-    ∙ size_is m a (height out) out.width whole (values.high ∙ pow-add 2 k a ∙ ap (λ h. h * 2 ^ a) (sym high)) (values.wide ∙ wide)
+    ∙ size_is m a (height out) out.width whole (values.height ∙ pow-add 2 k a ∙ ap (λ h. h * 2 ^ a) (sym high)) (values.width ∙ wide)

@@ -39,8 +39,8 @@ module _ {F W : Type 0} (f : FieldInWords F W) where
   HasInverse shift = (x : F) × Names shift x × IsInvertible f.members.ring (f.members.value x)
 
   -- words, row after row, and a shift name the entries of a matrix of 2 ^ log rows of this width, and an element
-  pub record AreNamed (words : List W) (width log : ℕ) (shift : W) (m : RowMajor F) (s : F) : Type 0 where
-    pub wide : m.width ≡ width
-    pub high : height m ≡ 2 ^ log
+  pub record AreNamed (words : List W) (w log : ℕ) (shift : W) (m : RowMajor F) (s : F) : Type 0 where
+    pub width : m.width ≡ w
+    pub height : height m ≡ 2 ^ log
     pub entries : AllZip Names words m.values
     pub coset : Names shift s

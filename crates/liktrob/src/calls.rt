@@ -216,7 +216,7 @@ fn asked<F: WordField>(
         Tells (refusal_of result) (engine ≤ 5) (AreBelow f shift words.now)
         (Fits F.TWO_ADICITY shape.count shape.width shape.added_bits shape.extended)
         (MatchBool undoes_shift (HasInverse f shift) ⊤) }
-    ensures wide { IfOk result (λ read. read.1.width ≡ shape.width) }
+    ensures width { IfOk result (λ read. read.1.width ≡ shape.width) }
     ensures entries { IfOk result (λ read.
         AllZip (λ word x. F.word_number word ≡ F.number (F.value x)) words.now read.1.values) }
     ensures coset { IfOk result (λ read. F.word_number shift ≡ F.number (F.value read.2)) }

@@ -25,7 +25,7 @@ pub record Encoder (F D : Type 0) : Type 0 where
 -- each column of m has the values, on the coset of s of order 2 ^ k, of a polynomial with h coefficients
 pub record HasDegreeBelow {F : Type 0} (f : FieldMembers F) (generator : ℕ → F) (h k : ℕ) (s : f.Element) (m : Matrix f.Element) : Type 0 where
   pub coefficients : Matrix f.Element
-  pub high : coefficients.height ≡ h
+  pub height : coefficients.height ≡ h
   pub values : IsValues f.ring (λ n. f.value (generator n)) coefficients k s m
 
 -- each column of the word has the values of a polynomial of the code

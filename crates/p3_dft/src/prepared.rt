@@ -23,7 +23,7 @@ pub(crate) trait KeptTables<F: TwoAdicField>: Drop {
     /// what is there stays.
     fn make_for(&mut self, alloc: Global, log_h: usize) -> Result<(), DftError>
         requires within { log_h ≤ F.TWO_ADICITY }
-        requires small { log_h < 64 }
+        requires fits_u64 { log_h < 64 }
         ensures made { OnOk result (log self.new ≡ max (log self.old) log_h) }
         ensures ready { log_h ≤ log self.old → IsOk result }
         ensures refused { OnErr result (self.new ≡ self.old) }
@@ -70,9 +70,9 @@ pub(crate) trait MatrixWork<F: TwoAdicField, K: KeptTables<F>>: Drop {
         products: &mut Products,
     )
         requires rows { HasTwoPowerRows mat.old log_h }
-        requires some { 1 ≤ log_h }
+        requires nonzero { 1 ≤ log_h }
         requires within { log_h ≤ F.TWO_ADICITY }
-        requires there { log_h ≤ K.log tables.now }
+        requires in_table { log_h ≤ K.log tables.now }
         ensures takes { takes self.now mat.old mat.new }
         ensures grows { products.old ≤ products.new }
         ensures cost { products.new

@@ -392,7 +392,7 @@ fn spread_over_zeros<F: TwoAdicField>(
     mat: RowMajorMatrix<F>,
     added_bits: usize,
 ) -> Result<RowMajorMatrix<F>, DftError>
-    requires some { 1 ≤ height mat }
+    requires nonzero { 1 ≤ height mat }
     requires bits { added_bits < 64 }
     requires size { height mat * mat.width * 2 ^ added_bits < 2 ^ 64 }
     ensures shape { IfOk result (λ out. (height out ≡ height mat * 2 ^ added_bits) × (out.width ≡ mat.width)) }

@@ -115,7 +115,7 @@ impl<F: TwoAdicField> Radix2DFTSmallBatch<F> {
     /// tables.
     pub fn with_tile(alloc: Global, n: usize, tile: usize) -> Result<Self, DftError>
         requires height { 2 ≤ n → (k : ℕ) × (n ≡ 2 ^ k) × (k ≤ F.TWO_ADICITY) }
-        requires some { 1 ≤ tile }
+        requires nonzero { 1 ≤ tile }
         requires tile { tile ≤ 2 ^ 32 }
         ensures prepares { IfOk result (λ e. 2 ^ e.prepared ≡ max 1 n) }
         ensures ready { n ≤ 1 → IsOk result }
@@ -518,8 +518,8 @@ fn extend_to_natural<F: TwoAdicField>(
     products: &mut Products,
 ) -> Result<RowMajorMatrix<F>, DftError>
     requires whole { IsRowMajor mat }
-    requires some { 1 ≤ log_h + added_bits }
-    requires small { log_h + added_bits < 64 }
+    requires nonzero { 1 ≤ log_h + added_bits }
+    requires fits_u64 { log_h + added_bits < 64 }
     requires within { log_h + added_bits ≤ F.TWO_ADICITY }
     requires height { height mat ≡ 2 ^ log_h }
     requires room { mat.width * 2 ^ (log_h + added_bits) < 2 ^ 64 }

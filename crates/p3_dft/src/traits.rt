@@ -301,7 +301,7 @@ pub trait TwoAdicSubgroupDft<F: TwoAdicField>: Clone + Default {
     /// `2^(log_h + added_bits)`, is at most `2^TWO_ADICITY` and fits into a `usize`.
     fn block_height(&self, log_h: usize, added_bits: usize) -> usize
         requires within { log_h + added_bits ≤ F.TWO_ADICITY }
-        requires small { log_h + added_bits ≤ 63 }
+        requires fits_u64 { log_h + added_bits ≤ 63 }
         ensures { result ≡ facts.block_rows log_h added_bits };
 
     /// What `coset_lde_batch_with_transform` answers, with its rows in bit reversed order, and each

@@ -77,12 +77,12 @@ rev_of_zero (suc n) = ap (λ x. 0 * 2 ^ n + x) (rev_of_zero n) ∙ omega arith
 
 -- rows reversed twice stand as they stood
 pub reversed_twice : {E : Type 0} (n : ℕ) (m : Matrix E) → m.height ≡ 2 ^ n → Same (bit_reversal n (bit_reversal n m)) m
-reversed_twice n m h = record { high = refl; wide = refl; alike = λ i j p q. ap (λ k. m.entry k j) (rev-rev n i (omega (arith, h))) }
+reversed_twice n m h = record { height = refl; width = refl; alike = λ i j p q. ap (λ k. m.entry k j) (rev-rev n i (omega (arith, h))) }
 
 -- so reversing rows goes over to the other side
 pub reversed_back : {E : Type 0} (n : ℕ) (a b : Matrix E) → b.height ≡ 2 ^ n → Same a (bit_reversal n b) → Same b (bit_reversal n a)
 reversed_back n a b h s = record {
-  high = sym s.high;
-  wide = sym s.wide;
-  alike = λ i j p q. sym (s.alike (rev n i) j (omega (arith, s.high, h, rev-lt n i)) (omega (arith, s.wide)) ∙ ap (λ k. b.entry k j) (rev-rev n i (omega (arith, h))));
+  height = sym s.height;
+  width = sym s.width;
+  alike = λ i j p q. sym (s.alike (rev n i) j (omega (arith, s.height, h, rev-lt n i)) (omega (arith, s.width)) ∙ ap (λ k. b.entry k j) (rev-rev n i (omega (arith, h))));
 }

@@ -46,14 +46,14 @@ module _ {A T : Type 0} (value : T → A) (d : T) (m : RowMajor T) (whole : IsRo
       let fits : (q * b) * w + b * w ≤ length m.values = rows_within (q * b) b (height m) w (length m.values) room whole.full in
       let gap : ((q * b) * w + b * w) - (q * b) * w ≡ b * w = omega arith in
       let size : length (take (((q * b) * w + b * w) - (q * b) * w) (drop ((q * b) * w) m.values)) ≡ b * w = search (rules, places) in
-      let tall : length (take (((q * b) * w + b * w) - (q * b) * w) (drop ((q * b) * w) m.values)) / w ≡ b = ap (λ n. n / w) size ∙ mul-div_cancel b whole.wide in
+      let tall : length (take (((q * b) * w + b * w) - (q * b) * w) (drop ((q * b) * w) m.values)) / w ≡ b = ap (λ n. n / w) size ∙ mul-div_cancel b whole.width in
       record {
         multiple = mul-mod_left q b;
-        within = omega (arith, room, some, same.high);
-        whole = record { wide = whole.wide; full = ap (λ n. n * w) tall ∙ sym size };
+        within = omega (arith, room, some, same.height);
+        whole = record { width = whole.width; full = ap (λ n. n * w) tall ∙ sym size };
         rows = record {
-          high = tall;
-          wide = same.wide;
+          height = tall;
+          width = same.width;
           alike = λ i j in_rows in_row.
               let low : i < b = omega (arith, in_rows, tall) in
               let inside : i * w + j < b * w = omega (arith, mul-add-lt i w j b low in_row) in

@@ -311,13 +311,13 @@ module _ {C T R : Type 0} {step : C → ℕ → RowMajor T → Result ⊤ R → 
       ext_get_or d (entries last) m.values done.0 (λ i inside.
       let r = i / w in
       let q = r / b in
-      let below : r < height m = div_below i w (height m) whole.wide (omega (arith, inside, done.0, whole.full)) in
+      let below : r < height m = div_below i w (height m) whole.width (omega (arith, inside, done.0, whole.full)) in
       let low : q < height m / b = within_blocks b (height m) r x.parts.divides below in
       let row_low : q * b ≤ r = omega (arith, div-add-mod' r b) in
       let row_high : r + 1 ≤ q * b + b = omega (arith, div-add-mod' r b, mod_below r b (divisor b (height m) q low)) in
       let first : (q * b) * w ≤ i = omega (arith, mul-le-mul_right w row_low, div-add-mod' i w) in
       let end : i < (q * b) * w + b * w =
-      omega (arith, mul-le-mul_right w row_high, add-mul (q * b) b w, add-mul r 1 w, div-add-mod' i w, mod_below i w whole.wide) in
+      omega (arith, mul-le-mul_right w row_high, add-mul (q * b) b w, add-mul r 1 w, div-add-mod' i w, mod_below i w whole.width) in
       done.1 q low i first end)
 
   -- a consumer that copies each block to its place, and was made with as many entries as the matrix has, holds those of the matrix

@@ -140,7 +140,7 @@ pub reversed_rows : {T : Type 0} (n : ℕ) (m : RowMajor T) (ys : List T) → le
 reversed_rows n m ys e high at d =
     let is = all_written m.values ys e in
     record {
-      high = ap (λ zs. length zs / m.width) is ∙ ap (λ k. k / m.width) e;
-      wide = refl;
+      height = ap (λ zs. length zs / m.width) is ∙ ap (λ k. k / m.width) e;
+      width = refl;
       alike = λ i c p q. ap (λ zs. get_or zs (i * m.width + c) d) is ∙ at d i c (omega (arith, ap (λ zs. length zs / m.width) is, ap (λ k. k / m.width) e)) q;
     }

@@ -14,25 +14,25 @@ list_same f g (suc n) e =
 
 -- f of the entries of one matrix
 pub mapped_same : {T E : Type 0} (f : T → E) (a b : Matrix T) → Same a b → Same (image f a) (image f b)
-mapped_same f a b e = record { high = e.high; wide = e.wide; alike = λ i j p q. ap f (e.alike i j p q) }
+mapped_same f a b e = record { height = e.height; width = e.width; alike = λ i j p q. ap f (e.alike i j p q) }
 
 module _ {E : Type 0} where
   pub same_sym : (a b : Matrix E) → Same a b → Same b a
   same_sym a b s = record {
-    high = sym s.high;
-    wide = sym s.wide;
-    alike = λ i j p q. sym (s.alike i j (omega (arith, s.high)) (omega (arith, s.wide)));
+    height = sym s.height;
+    width = sym s.width;
+    alike = λ i j p q. sym (s.alike i j (omega (arith, s.height)) (omega (arith, s.width)));
   }
 
   pub same_trans : (a b c : Matrix E) → Same a b → Same b c → Same a c
   same_trans a b c s t = record {
-    high = s.high ∙ t.high;
-    wide = s.wide ∙ t.wide;
-    alike = λ i j p q. s.alike i j p q ∙ t.alike i j (omega (arith, s.high)) (omega (arith, s.wide));
+    height = s.height ∙ t.height;
+    width = s.width ∙ t.width;
+    alike = λ i j p q. s.alike i j p q ∙ t.alike i j (omega (arith, s.height)) (omega (arith, s.width));
   }
 
   -- matrices that are one have one list of rows
   pub list_of_rows_same : (a b : Matrix E) → Same a b → list_of_rows a ≡ list_of_rows b
   list_of_rows_same a b s =
-      list_same (row_of a) (row_of b) a.height (λ i p. list_same (a.entry i) (b.entry i) a.width (λ j q. s.alike i j p q) ∙ ap (λ w. map (b.entry i) (range_with_len 0 w)) s.wide)
-      ∙ ap (λ h. map (row_of b) (range_with_len 0 h)) s.high
+      list_same (row_of a) (row_of b) a.height (λ i p. list_same (a.entry i) (b.entry i) a.width (λ j q. s.alike i j p q) ∙ ap (λ w. map (b.entry i) (range_with_len 0 w)) s.width)
+      ∙ ap (λ h. map (row_of b) (range_with_len 0 h)) s.height

@@ -74,8 +74,8 @@ module _ {T : Type 0} (n : ℕ) (m : RowMajor T) (whole : IsRowMajor m) (high : 
   -- by index
   pub reversed_same : (d : T) → Same (matrix d (reversed_rows n m)) (bit_reversal n (matrix d m))
   reversed_same d = record {
-    high = ap (λ l. l / m.width) reversed_length;
-    wide = refl;
+    height = ap (λ l. l / m.width) reversed_length;
+    width = refl;
     alike = λ i j p q. reversed_entry i j d (omega (arith, p, ap (λ l. l / m.width) reversed_length, high)) q;
   }
 
@@ -90,9 +90,9 @@ module _ {T : Type 0} (n : ℕ) (m : RowMajor T) (whole : IsRowMajor m) (high : 
           let i = k / w in
           let j = k % w in
           let split : i * w + j ≡ k = div-add-mod' k w in
-          let below : i < 2 ^ n = div_below k w (2 ^ n) (omega (arith, whole.wide)) (omega (arith, l, all)) in
-          let inside : j < w = mod_below k w (omega (arith, whole.wide)) in
-          let tall : height r ≡ 2 ^ n = (rows d).high ∙ high in
+          let below : i < 2 ^ n = div_below k w (2 ^ n) (omega (arith, whole.width)) (omega (arith, l, all)) in
+          let inside : j < w = mod_below k w (omega (arith, whole.width)) in
+          let tall : height r ≡ 2 ^ n = (rows d).height ∙ high in
           ap (λ p. get_or r.values p d) (sym split ∙ ap (λ v. i * v + j) (sym shape.1))
           ∙ (rows d).alike i j (omega (arith, below, tall)) (omega (arith, inside, shape.1))
           ∙ sym (reversed_entry i j d below inside) ∙ ap (λ p. get_or (reversed_rows n m).values p d) split
@@ -102,7 +102,7 @@ pub reversed_from : {T : Type 0} (n : ℕ) (m r : RowMajor T) → IsRowMajor m �
     → m ≡ reversed_rows n r
 reversed_from n m r whole high shape size rows =
     let full : height r * r.width ≡ length r.values = ap₂ (λ h w. h * w) shape.0 shape.1 ∙ whole.full ∙ sym size in
-    reversed_is n r (record { wide = omega (arith, whole.wide, shape.1); full = full }) (shape.0 ∙ high) m (sym shape.0, sym shape.1) (sym size)
+    reversed_is n r (record { width = omega (arith, whole.width, shape.1); full = full }) (shape.0 ∙ high) m (sym shape.0, sym shape.1) (sym size)
     (λ d. reversed_back n (matrix d r) (matrix d m) high (rows d))
 
 -- of equal matrices of 2 ^ i and 2 ^ j rows the rows in bit reversed order are equal

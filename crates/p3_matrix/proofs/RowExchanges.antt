@@ -40,8 +40,8 @@ pub exchanged_rows : {T : Type 0} (m : RowMajor T) (ys : List T) (a b : ℕ) →
 exchanged_rows m ys a b e s d =
     let is = all_written m.values ys e in
     record {
-      high = ap (λ zs. length zs / m.width) is ∙ ap (λ n. n / m.width) e;
-      wide = refl;
+      height = ap (λ zs. length zs / m.width) is ∙ ap (λ n. n / m.width) e;
+      width = refl;
       alike = λ r c p q.
           ap (λ zs. get_or zs (r * m.width + c) d) is
           ∙ swapped_at (λ k. get_or m.values (k * m.width + c) d) (λ k. get_or ys (k * m.width + c) d) a b (s c d q) r;

@@ -60,13 +60,13 @@ written_shape m out ys wide is size = (ap₂ (λ n w. n / w) (ap length is ∙ w
 
 -- a matrix that keeps its shape and its size stays whole
 pub whole_kept : {T U : Type 0} (m : RowMajor T) (out : RowMajor U) → IsRowMajor m → HasShapeOf out m → length out.values ≡ length m.values → IsRowMajor out
-whole_kept m out whole (tall, wide) size = record { wide = omega (arith, whole.wide, wide); full = ap₂ (λ (h w : ℕ). h * w) tall wide ∙ whole.full ∙ sym size }
+whole_kept m out whole (tall, wide) size = record { width = omega (arith, whole.width, wide); full = ap₂ (λ (h w : ℕ). h * w) tall wide ∙ whole.full ∙ sym size }
 
 -- a matrix over which any number of entries are written stays whole
 pub taken_whole : {T : Type 0} (n w : ℕ) (xs ys : List T) → length xs ≡ n → IsRowMajor {T = T} (record { width = w; values = xs }) → IsRowMajor {T = T} (record { width = w; values = take n (ys ++ drop (length ys) xs) })
 taken_whole n w xs ys size whole =
     let e = taken_size n xs ys size ∙ sym size in
-    record { wide = whole.wide; full = ap (λ k. k / w * w) e ∙ whole.full ∙ sym e }
+    record { width = whole.width; full = ap (λ k. k / w * w) e ∙ whole.full ∙ sym e }
 
 -- the rows from one on that is at most the last
 pub bound_within : {T : Type 0} (m : RowMajor T) (bound h first w : ℕ) (vs : List T) → IsRowMajor m → h ≡ height m → first ≡ min bound h → w ≡ m.width → vs ≡ m.values → first * w ≤ length vs

@@ -17,14 +17,14 @@ point r g n s i = r.mul s (power r (g n) i)
 
 -- out has 2 ^ n rows, and row i has the values of the columns of c at point i
 pub record IsValues {A : Type 0} (r : Ring A) (g : ℕ → A) (c : Matrix A) (n : ℕ) (s : A) (out : Matrix A) : Type 0 where
-  pub high : out.height ≡ 2 ^ n
-  pub wide : out.width ≡ c.width
+  pub height : out.height ≡ 2 ^ n
+  pub width : out.width ≡ c.width
   pub values : (i j : ℕ) → i < 2 ^ n → j < c.width → out.entry i j ≡ value r (column c j) (point r g n s i)
 
 -- c has the shape of m, which has 2 ^ k rows, and its values on the coset of s are m
 pub record AreCoefficients {A : Type 0} (r : Ring A) (g : ℕ → A) (m : Matrix A) (k : ℕ) (s : A) (c : Matrix A) : Type 0 where
-  pub high : c.height ≡ m.height
-  pub wide : c.width ≡ m.width
+  pub height : c.height ≡ m.height
+  pub width : c.width ≡ m.width
   pub values : IsValues r g c k s m
 
 -- row i of c times the i-th power of s
@@ -37,6 +37,6 @@ opposite_rows m = record { height = m.height; width = m.width; entry = λ i j. m
 
 -- each entry of out is the y with n * y = x, where x is the entry of m in its place
 pub record IsQuotient {A : Type 0} (r : Ring A) (n : ℕ) (m out : Matrix A) : Type 0 where
-  pub high : out.height ≡ m.height
-  pub wide : out.width ≡ m.width
+  pub height : out.height ≡ m.height
+  pub width : out.width ≡ m.width
   pub entries : (i j : ℕ) → i < m.height → j < m.width → r.mul (count r n) (out.entry i j) ≡ m.entry i j

@@ -23,8 +23,8 @@ row_exchange i j m = record { height = m.height; width = m.width; entry = λ r c
 
 -- two matrices are one: equal shapes, and equal entries within them
 pub record Same {E : Type 0} (a b : Matrix E) : Type 0 where
-  pub high : a.height ≡ b.height
-  pub wide : a.width ≡ b.width
+  pub height : a.height ≡ b.height
+  pub width : a.width ≡ b.width
   pub alike : (i j : ℕ) → i < a.height → j < a.width → a.entry i j ≡ b.entry i j
 
 -- row i, from the first entry on

@@ -13,7 +13,7 @@ height m = length m.values / m.width
 
 -- the entries fill whole rows, and rows are not empty
 pub record IsRowMajor {T : Type 0} (m : RowMajor T) : Type 0 where
-  pub wide : 1 ≤ m.width
+  pub width : 1 ≤ m.width
   pub full : height m * m.width ≡ length m.values
 
 -- two stored matrices have one height and one width

@@ -183,7 +183,7 @@ pub fn reverse_rows<T>(mat: &mut RowMajorMatrix<T>)
     ensures size { length mat.new.values ≡ length mat.old.values }
     ensures rows { (k : ℕ) → height mat.old ≡ 2 ^ k
         → (d : T) → Same (matrix d mat.new) (bit_reversal k (matrix d mat.old)) }
-    ensures there { (k : ℕ) → height mat.old ≡ 2 ^ k → mat.new ≡ reversed_rows k mat.old }
+    ensures reversed { (k : ℕ) → height mat.old ≡ 2 ^ k → mat.new ≡ reversed_rows k mat.old }
     ensures back { (k : ℕ) → height mat.old ≡ 2 ^ k → mat.old ≡ reversed_rows k mat.new }
 {
     // Tells the prover that the rows are whole.
@@ -248,7 +248,7 @@ fn chunk_number(first: usize, tile: usize, last: usize, tiles: usize, side: usiz
     requires first { first < side }
     requires tile { tile < tiles }
     requires last { last < side }
-    requires small { side * tiles * side < 2 ^ 64 }
+    requires fits_u64 { side * tiles * side < 2 ^ 64 }
     ensures { result ≡ (first * tiles + tile) * side + last }
 {
     (first * tiles + tile) * side + last

@@ -42,7 +42,7 @@ pub fn publish<T, C: BlockConsumer<T>>(
     block_height: usize,
     consumer: &mut C,
 ) -> Result<(), C::Refusal>
-    requires tall { 1 ≤ block_height }
+    requires block_height { 1 ≤ block_height }
     requires divides { height mat.now % block_height ≡ 0 }
     ensures accepted { OnOk result
         (Run C.step consumer.old (first_blocks block_height mat.now (height mat.now / block_height)) consumer.new) }

@@ -65,7 +65,7 @@ impl<T> RowMajorMatrix<T> {
     /// The matrix of these entries, `width` to a row, which is at least one. The entries fill whole rows;
     /// none at all make a matrix of no rows.
     pub fn new(values: Vec<T>, width: usize) -> Self
-        requires wide { 1 ≤ width }
+        requires width { 1 ≤ width }
         requires full { (length values.items / width) * width ≡ length values.items }
         ensures { result ≡ record { width = width; values = values.items } }
     {

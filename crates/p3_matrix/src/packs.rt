@@ -68,7 +68,7 @@ pub fn apply_to_packs<F: Packable, P: PackedField<Scalar = F>, B: Butterfly<F>>(
     row_2: &mut [F],
     products: &mut Products,
 )
-    requires wide { 1 ≤ P.WIDTH }
+    requires width { 1 ≤ P.WIDTH }
     requires whole { (k : ℕ) × length row_1.old ≡ k * P.WIDTH }
     requires equal { length row_1.old ≡ length row_2.old }
     ensures near { map F.value row_1.new
@@ -146,7 +146,7 @@ pub(crate) fn apply_to_packs_oop<F: Packable, P: PackedField<Scalar = F>, B: But
     dst_2: &mut [F],
     products: &mut Products,
 )
-    requires wide { 1 ≤ P.WIDTH }
+    requires width { 1 ≤ P.WIDTH }
     requires whole { (k : ℕ) × length src_1.now ≡ k * P.WIDTH }
     requires sources { length src_1.now ≡ length src_2.now }
     requires first { length src_1.now ≡ length dst_1.old }
@@ -176,7 +176,7 @@ pub(crate) fn dit_on_packs<F: Packable, P: PackedField<Scalar = F>>(
     row_2: &mut [F],
     products: &mut Products,
 )
-    requires wide { 1 ≤ P.WIDTH }
+    requires width { 1 ≤ P.WIDTH }
     requires whole { (k : ℕ) × length row_1.old ≡ k * P.WIDTH }
     requires equal { length row_1.old ≡ length row_2.old }
     requires twiddles { length row_1.old ≡ length twiddles.now }
@@ -256,7 +256,7 @@ pub(crate) fn scale_packs<F: Packable, P: PackedField<Scalar = F>>(
     t: F,
     products: &mut Products,
 )
-    requires wide { 1 ≤ P.WIDTH }
+    requires width { 1 ≤ P.WIDTH }
     requires whole { (k : ℕ) × length values.old ≡ k * P.WIDTH }
     ensures values { map F.value values.new ≡ map (λ x. F.ring.mul x (F.value t)) (map F.value values.old) }
     ensures count { products.new ≡ products.old + length values.old }
@@ -289,7 +289,7 @@ pub(crate) fn scale_packs_oop<F: Packable, P: PackedField<Scalar = F>>(
     t: F,
     products: &mut Products,
 )
-    requires wide { 1 ≤ P.WIDTH }
+    requires width { 1 ≤ P.WIDTH }
     requires whole { (k : ℕ) × length from.now ≡ k * P.WIDTH }
     requires equal { length from.now ≡ length to.old }
     ensures values { map F.value to.new ≡ map (λ x. F.ring.mul x (F.value t)) (map F.value from.now) }

@@ -14,7 +14,7 @@ use p3_field::Field;
 pub fn log2_strict_usize(n: usize) -> usize
     requires { (k : ℕ) × n ≡ 2 ^ k }
     ensures power { n ≡ 2 ^ result }
-    ensures small { result ≤ 63 }
+    ensures fits_u64 { result ≤ 63 }
 {
     n.ilog2() as usize
 }

@@ -61,7 +61,7 @@ impl<'a, T> RowMajorMatrixView<'a, T> {
     /// The matrix of these entries, `width` to a row, which is at least one. The entries fill whole rows;
     /// none at all make a matrix of no rows.
     pub fn new(values: &'a [T], width: usize) -> Self
-        requires wide { 1 ≤ width }
+        requires width { 1 ≤ width }
         requires full { (length values.now / width) * width ≡ length values.now }
         ensures { result ≡ record { width = width; values = values.now } }
     {

@@ -36,8 +36,8 @@ pub record TakesCells {T A : Type 0} (value_before value : T → A) (d : T) (ord
 
 -- chunk `number` of 2 ^ top rows of w entries has n entries, its rows have numbers of 64 bits, and its blocks have some of so many twiddles
 pub record IsChunk (w top number twiddles n : ℕ) : Type 0 where
-  pub wide : 1 ≤ w
-  pub small : (number + 1) * 2 ^ top < 2 ^ 64
+  pub width : 1 ≤ w
+  pub fits_u64 : (number + 1) * 2 ^ top < 2 ^ 64
   pub enough : (number + 1) * 2 ^ top ≤ 2 * twiddles
   pub size : n ≡ 2 ^ top * w
 

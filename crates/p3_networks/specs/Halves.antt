@@ -38,8 +38,8 @@ HasHighLayers mid left by_layer twiddles = (l : ℕ) → mid ≤ l → l < mid +
 
 -- chunk a of the high half has n entries, and its layers have their twiddles
 pub record IsHighChunk {T : Type 0} (mid left w a : ℕ) (by_layer : Bool) (twiddles : List T) (n : ℕ) : Type 0 where
-  pub wide : 1 ≤ w
-  pub small : mid + left < 64
+  pub width : 1 ≤ w
+  pub fits_u64 : mid + left < 64
   pub chunk : a < 2 ^ mid
   pub size : n ≡ 2 ^ left * w
   pub table : HasHighLayers mid left by_layer twiddles

@@ -5,8 +5,8 @@ use Rattle.p3_matrix.specs.Polynomials.{poly}
 
 -- n entries are 2 ^ k rows of w entries
 pub record AreRows (k w n : ℕ) : Type 0 where
-  pub wide : 1 ≤ w
-  pub small : k < 64
+  pub width : 1 ≤ w
+  pub fits_u64 : k < 64
   pub size : n ≡ 2 ^ k * w
 
 -- Layer e of k takes the cells `before e` to `after e`, for each e. The 2 ^ k rows come in blocks of two halves of 2 ^ e rows. In

@@ -46,7 +46,7 @@ pub trait Rule<F: TwoAdicField>: Copy {
         row_2: &mut [F],
         products: &mut Products,
     )
-        requires there { has self block place }
+        requires in_table { has self block place }
         requires size { length row_1.old ≡ length row_2.old }
         ensures near { (j : ℕ) → j < length row_1.old → F.value (get_or row_1.new j F.ZERO)
             ≡ near F.Element F.ring F.value self block place (F.value (get_or row_1.old j F.ZERO))
@@ -60,9 +60,9 @@ pub trait Rule<F: TwoAdicField>: Copy {
     /// Takes the halves of a block of one column, whose place t is entry t, to the near and the far
     /// half in their places.
     fn meet_column(self, block: usize, low: &mut [F], high: &mut [F], products: &mut Products)
-        requires some { 1 ≤ length low.old }
+        requires nonzero { 1 ≤ length low.old }
         requires size { length low.old ≡ length high.old }
-        requires there { (t : ℕ) → t < length low.old → has self block t }
+        requires in_table { (t : ℕ) → t < length low.old → has self block t }
         ensures near { (t : ℕ) → t < length low.old → F.value (get_or low.new t F.ZERO)
             ≡ near F.Element F.ring F.value self block t (F.value (get_or low.old t F.ZERO))
             (F.value (get_or high.old t F.ZERO)) }
@@ -91,12 +91,12 @@ pub fn layer<F: TwoAdicField, R: Rule<F>>(
     blocks: usize,
     products: &mut Products,
 )
-    requires wide { 1 ≤ width }
-    requires some { 1 ≤ half }
+    requires width { 1 ≤ width }
+    requires nonzero { 1 ≤ half }
     requires blocks { 1 ≤ blocks }
     requires numbers { first_block + blocks < 2 ^ 64 }
     requires size { length values.old ≡ blocks * (2 * (half * width)) }
-    requires there { (b t : ℕ) → b < blocks → t < half → R.has rule (first_block + b) t }
+    requires in_table { (b t : ℕ) → b < blocks → t < half → R.has rule (first_block + b) t }
     ensures cells { IsLayer blocks (half * width)
         (λ b i. R.near F.Element F.ring F.value rule (first_block + b) (i / width))
         (λ b i. R.far F.Element F.ring F.value rule (first_block + b) (i / width))
@@ -127,12 +127,12 @@ fn meet_blocks<F: TwoAdicField, R: Rule<F>>(
     blocks: usize,
     products: &mut Products,
 )
-    requires wide { 1 ≤ width }
-    requires some { 1 ≤ half }
+    requires width { 1 ≤ width }
+    requires nonzero { 1 ≤ half }
     requires blocks { 1 ≤ blocks }
     requires numbers { first_block + blocks < 2 ^ 64 }
     requires size { length values.old ≡ blocks * (2 * (half * width)) }
-    requires there { (b t : ℕ) → b < blocks → t < half → R.has rule (first_block + b) t }
+    requires in_table { (b t : ℕ) → b < blocks → t < half → R.has rule (first_block + b) t }
     ensures cells { IsLayer blocks (half * width)
         (λ b i. R.near F.Element F.ring F.value rule (first_block + b) (i / width))
         (λ b i. R.far F.Element F.ring F.value rule (first_block + b) (i / width))
@@ -194,10 +194,10 @@ fn meet_block<F: TwoAdicField, R: Rule<F>>(
     block: usize,
     products: &mut Products,
 )
-    requires wide { 1 ≤ width }
-    requires some { 1 ≤ half }
+    requires width { 1 ≤ width }
+    requires nonzero { 1 ≤ half }
     requires size { length values.old ≡ 2 * (half * width) }
-    requires there { (t : ℕ) → t < half → R.has rule block t }
+    requires in_table { (t : ℕ) → t < half → R.has rule block t }
     ensures cells { MeetHalves (half * width) (λ i. R.near F.Element F.ring F.value rule block (i / width))
         (λ i. R.far F.Element F.ring F.value rule block (i / width))
         (λ n. F.value (get_or values.old n F.ZERO)) (λ n. F.value (get_or values.new n F.ZERO)) }
@@ -232,10 +232,10 @@ fn meet_halves<F: TwoAdicField, R: Rule<F>>(
     block: usize,
     products: &mut Products,
 )
-    requires some { 1 ≤ half }
+    requires nonzero { 1 ≤ half }
     requires low { length low.old ≡ half * width }
     requires high { length high.old ≡ half * width }
-    requires there { (t : ℕ) → t < half → R.has rule block t }
+    requires in_table { (t : ℕ) → t < half → R.has rule block t }
     ensures near { let cell = λ (xs : List F) (n : ℕ). F.value (get_or xs n F.ZERO) in
         (t j : ℕ) → t < half → j < width → cell low.new (t * width + j)
         ≡ R.near F.Element F.ring F.value rule block t (cell low.old (t * width + j)) (cell high.old (t * width + j)) }
@@ -265,10 +265,10 @@ pub(crate) fn meet_ranges<F: TwoAdicField, R: Rule<F>>(
     place: usize,
     products: &mut Products,
 )
-    requires some { start ≤ end }
+    requires ordered { start ≤ end }
     requires room { end ≤ length low.old }
     requires size { length low.old ≡ length high.old }
-    requires there { R.has rule block place }
+    requires in_table { R.has rule block place }
     ensures near { let cell = λ (xs : List F) (n : ℕ). F.value (get_or xs n F.ZERO) in
         (n : ℕ) → start ≤ n → n < end → cell low.new n
         ≡ R.near F.Element F.ring F.value rule block place (cell low.old n) (cell high.old n) }

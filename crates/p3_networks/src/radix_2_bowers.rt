@@ -22,9 +22,9 @@ pub fn network_g<F: TwoAdicField>(
     log_h: usize,
     products: &mut Products,
 )
-    requires wide { 1 ≤ width }
-    requires some { 1 ≤ log_h }
-    requires small { log_h < 64 }
+    requires width { 1 ≤ width }
+    requires nonzero { 1 ≤ log_h }
+    requires fits_u64 { log_h < 64 }
     requires within { log_h ≤ F.TWO_ADICITY }
     requires size { length values.old ≡ 2 ^ log_h * width }
     requires twiddles { AreTwiddles F.Field.own (2 ^ (log_h - 1))
@@ -50,9 +50,9 @@ pub fn network_g_transposed<F: TwoAdicField>(
     log_h: usize,
     products: &mut Products,
 )
-    requires wide { 1 ≤ width }
-    requires some { 1 ≤ log_h }
-    requires small { log_h < 64 }
+    requires width { 1 ≤ width }
+    requires nonzero { 1 ≤ log_h }
+    requires fits_u64 { log_h < 64 }
     requires within { log_h ≤ F.TWO_ADICITY }
     requires size { length values.old ≡ 2 ^ log_h * width }
     requires twiddles { AreTwiddles F.Field.own (2 ^ (log_h - 1))

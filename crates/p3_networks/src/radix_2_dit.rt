@@ -27,8 +27,8 @@ pub fn dit_network_to_natural<F: TwoAdicField>(
     log_h: usize,
     products: &mut Products,
 )
-    requires wide { 1 ≤ width }
-    requires small { log_h < 64 }
+    requires width { 1 ≤ width }
+    requires fits_u64 { log_h < 64 }
     requires within { log_h ≤ F.TWO_ADICITY }
     requires size { length values.old ≡ 2 ^ log_h * width }
     requires twiddles { AreTwiddlesOfLayers F.Field.own log_h (root_powers F.Field.own F.generator false) twiddles.now }
@@ -57,8 +57,8 @@ fn network_in_cache<F: TwoAdicField>(
     log_h: usize,
     products: &mut Products,
 )
-    requires wide { 1 ≤ width }
-    requires small { log_h < 64 }
+    requires width { 1 ≤ width }
+    requires fits_u64 { log_h < 64 }
     requires within { log_h ≤ F.TWO_ADICITY }
     requires size { length values.old ≡ 2 ^ log_h * width }
     requires twiddles { AreTwiddlesOfLayers F.Field.own log_h (root_powers F.Field.own F.generator false) twiddles.now }

@@ -64,7 +64,7 @@ impl<F: TwoAdicField> RootTables<F> {
     /// logarithm is at most `TWO_ADICITY` and below 64. Where memory is refused, what is there stays.
     pub fn make(&mut self, alloc: Global, log_h: usize) -> Result<(), DftError>
         requires within { log_h ≤ F.TWO_ADICITY }
-        requires small { log_h < 64 }
+        requires fits_u64 { log_h < 64 }
         ensures made { OnOk result (log_h ≤ self.new) }
         ensures ready { log_h ≤ self.old → IsOk result }
         ensures keeps { self.old ≤ self.new }
@@ -111,8 +111,8 @@ fn inverse_powers<F: TwoAdicField>(
     powers: &[F],
     log_h: usize,
 ) -> Result<Vec<F>, DftError>
-    requires some { 1 ≤ log_h }
-    requires small { log_h < 64 }
+    requires nonzero { 1 ≤ log_h }
+    requires fits_u64 { log_h < 64 }
     requires within { log_h ≤ F.TWO_ADICITY }
     requires powers { AreTwiddles F.Field.own (2 ^ (log_h - 1))
         (block_powers F.Field.own (forward_root F.Field.own F.generator) (log_h - 1)) powers.now }

@@ -59,7 +59,7 @@ impl<F: TwoAdicField> Twiddles<F> {
     /// logarithm is at most `TWO_ADICITY` and below 64. Where memory is refused, what is there stays.
     pub fn make(&mut self, alloc: Global, log_h: usize) -> Result<(), DftError>
         requires within { log_h ≤ F.TWO_ADICITY }
-        requires small { log_h < 64 }
+        requires fits_u64 { log_h < 64 }
         ensures made { OnOk result (log_h ≤ self.new) }
         ensures ready { log_h ≤ self.old → IsOk result }
         ensures keeps { self.old ≤ self.new }
@@ -99,7 +99,7 @@ pub(crate) fn held<T>(items: &Option<Vec<T>>) -> &[T]
 /// The `2^l` twiddles of layer l, which is below 63, in a table of layers that follow one another and has
 /// those of this layer.
 pub fn layer_twiddles<F: TwoAdicField>(twiddles: &[F], l: usize) -> &[F]
-    requires small { l < 63 }
+    requires fits_u64 { l < 63 }
     requires inside { 2 * 2 ^ l - 1 ≤ length twiddles.now }
     ensures { result.now ≡ take (2 ^ l) (drop (2 ^ l - 1) twiddles.now) }
 {
@@ -128,7 +128,7 @@ pub fn twiddles_of_layers<F: TwoAdicField>(
     layers: usize,
 ) -> Result<Vec<F>, DftError>
     requires within { layers ≤ F.TWO_ADICITY }
-    requires small { layers < 64 }
+    requires fits_u64 { layers < 64 }
     ensures size { IfOk result (λ v. length v.items ≡ 2 ^ layers - 1) }
     ensures table { IfOk result (λ v. AreTwiddlesOfLayers F.Field.own layers
         (root_powers F.Field.own F.generator inverse) v.items) }

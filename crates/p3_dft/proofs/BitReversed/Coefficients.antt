@@ -49,7 +49,7 @@ module _ {F : Type 0} (f : FieldMembers F) (generator : ℕ → F) where
       let full : length after ≡ 2 ^ log * m.width = len ∙ sym whole.full ∙ ap (λ n. n * m.width) high in
       subst (λ (n : ℕ). IsValues f.ring (λ i. f.value (generator i)) (bit_reversal n (values_of f m)) n f.ring.one (values_of f out)) same
       (is_subgroup_values f.ring (λ n. f.value (generator n)) (bit_reversal log (values_of f m)) log (values_of f out)
-      (height_of_parts out after m.width (2 ^ log) whole.wide full out_width values_is) out_width
+      (height_of_parts out after m.width (2 ^ log) whole.width full out_width values_is) out_width
       (λ i j below inside.
       ap₂ (λ (xs : List F) (v : ℕ). f.value (get_or xs (i * v + j) f.ZERO)) values_is (out_width ∙ sym w_is) ∙ entries i j below (omega (arith, w_is))
       ∙ ap₂ (λ (xs : List F) (v : ℕ). poly f.ring (2 ^ log) (λ q. f.value (get_or xs (rev log q * v + j) f.ZERO)) (power f.ring (f.value (generator log)) i)) before_is w_is
@@ -68,7 +68,7 @@ module _ {F : Type 0} (f : FieldMembers F) (generator : ℕ → F) where
       let x = inverse_root f.ring (λ n. f.value (generator n)) log in
       subst (λ (n : ℕ). AreCoefficients f.ring (λ i. f.value (generator i)) (values_of f m) n f.ring.one c) same
       (coefficients_of_reversed f.ring roots (values_of f m) (values_of f out) c log within high
-      (height_of_parts out after m.width (2 ^ log) whole.wide full out_width values_is ∙ sym high) out_width
+      (height_of_parts out after m.width (2 ^ log) whole.width full out_width values_is ∙ sym high) out_width
       (λ i j below inside.
       ap₂ (λ (xs : List F) (v : ℕ). f.value (get_or xs (i * v + j) f.ZERO)) values_is (out_width ∙ sym w_is) ∙ entries i j below (omega (arith, w_is))
       ∙ ap₂ (λ (xs : List F) (v : ℕ). poly f.ring (2 ^ log) (λ q. f.value (get_or xs (q * v + j) f.ZERO)) (power f.ring x (rev log i))) before_is w_is)
@@ -91,7 +91,7 @@ module _ {F : Type 0} (f : FieldMembers F) (generator : ℕ → F) where
   -- a single row has its own coefficients
   pub interpolation_of_row : {bits : ℕ} → AreRoots f.ring bits (λ n. f.value (generator n)) → (m : RowMajor F) → FitsDft bits (height m) m.width → height m ≡ 1 → IsInterpolation f generator m f.ring.one m
   interpolation_of_row roots m fits one =
-      interpolation_of_coefficients roots m m fits.log fits.within fits.high (record { high = refl; wide = refl; values = transform_of_row f generator m one fits.log fits.high })
+      interpolation_of_coefficients roots m m fits.log fits.within fits.height (record { height = refl; width = refl; values = transform_of_row f generator m one fits.log fits.height })
 
   -- the extension by what has the coefficients' values on the larger coset
   pub extension_of_coefficients : (m out : RowMajor F) (c : Matrix f.Element) (a log : ℕ) (s : f.Element) → height m ≡ 2 ^ log
@@ -108,7 +108,7 @@ module _ {F : Type 0} (f : FieldMembers F) (generator : ℕ → F) where
   extension_of_row m a s one none =
       let single : 0 ≡ 0 + a = omega (arith, none) in
       extension_of_coefficients m m (values_of f m) a 0 s one
-      (record { high = refl; wide = refl; values = transform_of_row f generator m one 0 one })
+      (record { height = refl; width = refl; values = transform_of_row f generator m one 0 one })
       (row_on_coset m (0 + a) s one (one ∙ ap (λ n. 2 ^ n) single))
 
   -- and so is what a transform answers of it
@@ -116,7 +116,7 @@ module _ {F : Type 0} (f : FieldMembers F) (generator : ℕ → F) where
       → IsRowMajor m → IsRowMajor answered → may_answer m BitReversed answered → height answered ≡ height m → AreTransformedValues f generator may_answer BitReversed m a s (values_of f answered)
   extension_of_told_row may_answer m answered a s one none told_is answered_is called tall = record {
     coefficients = values_of f m;
-    are_coefficients = λ k e. record { high = refl; wide = refl; values = transform_of_row f generator m one k e };
+    are_coefficients = λ k e. record { height = refl; width = refl; values = transform_of_row f generator m one k e };
     told = m;
     told_whole = told_is;
     told_in_layout = λ k e. reversed_row k (values_of f m) one;
@@ -134,7 +134,7 @@ module _ {F : Type 0} (f : FieldMembers F) (generator : ℕ → F) where
       → IsExtendedTransform f generator m a s out
   extension_of_reversed m r out one a log s is high rows values k e =
       let scaled = image (λ x. f.ring.mul x (f.value one)) (coset_shift f.ring s (bit_reversal log (values_of f r))) in
-      let shifted = shifted_by_one f.ring (f.value one) s (bit_reversal log (values_of f r)) scaled is (record { high = refl; wide = refl; alike = λ i j p q. refl }) in
+      let shifted = shifted_by_one f.ring (f.value one) s (bit_reversal log (values_of f r)) scaled is (record { height = refl; width = refl; alike = λ i j p q. refl }) in
       let on_coset = coset_values f.ring (λ n. f.value (generator n)) (bit_reversal log (values_of f r)) scaled (log + a) s (values_of f out) shifted values in
       let back = reversed_back log (values_of f r) (values_of f m) high (mapped_same f.value (matrix f.ZERO r) (bit_reversal log (matrix f.ZERO m)) (rows f.ZERO)) in
       subst (λ (n : ℕ). IsValues f.ring (λ i. f.value (generator i)) (values_of f m) (n + a) s (values_of f out)) (log_same log k (sym high ∙ e))
@@ -151,7 +151,7 @@ module _ {F : Type 0} (f : FieldMembers F) (generator : ℕ → F) where
     are_coefficients = λ k e. subst (λ (n : ℕ). AreCoefficients f.ring (λ i. f.value (generator i)) (values_of f m) n f.ring.one (bit_reversal log (values_of f told))) (one_log k e) are;
     told = told;
     told_whole = told_is;
-    told_in_layout = λ k e. back told (are.high ∙ high) k e;
+    told_in_layout = λ k e. back told (are.height ∙ high) k e;
     answered = answered;
     answered_whole = answered_is;
     called = called;

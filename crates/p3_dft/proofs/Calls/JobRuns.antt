@@ -22,38 +22,38 @@ module _ {E F : Type 0} (facts : EngineFacts E F) (f : FieldMembers F) (generato
     pub dft_run : job ≡ Dft m → IfOk r (λ v. IsTransform f generator m f.ring.one (natural v)) → AtLog (height m) (λ k. facts.Succeeds a k → IsOk r) → AfterDft facts a b r m 0 → IsRun facts f generator job natural a b r
     dft_run is values promised call =
         let fits : FitsDft bits (height m) m.width = subst (CanRun f bits) is runs in
-        let made = call.cost fits.log fits.high in
-        subst (λ (j : Job F). IsRun facts f generator j natural a b r) (sym is) (record { answer = values; succeeds = λ p. promised p.0 p.1 p.2; serves = where_ok r call.ready; cost = λ n asked. let same = asked fits.log fits.high in omega (arith, made, same); later = call.later; room = call.refused })
+        let made = call.cost fits.log fits.height in
+        subst (λ (j : Job F). IsRun facts f generator j natural a b r) (sym is) (record { answer = values; succeeds = λ p. promised p.0 p.1 p.2; serves = where_ok r call.ready; cost = λ n asked. let same = asked fits.log fits.height in omega (arith, made, same); later = call.later; room = call.refused })
 
     pub coset_dft_run : (s : F) → job ≡ CosetDft m s → IfOk r (λ v. IsTransform f generator m (f.value s) (natural v)) → AtLog (height m) (λ k. facts.Succeeds a k → facts.SucceedsOnCoset a k s → IsOk r) → AfterDft facts a b r m 1 → IsRun facts f generator job natural a b r
     coset_dft_run s is values promised call =
         let fits : FitsDft bits (height m) m.width = subst (CanRun f bits) is runs in
-        let made = call.cost fits.log fits.high in
-        subst (λ (j : Job F). IsRun facts f generator j natural a b r) (sym is) (record { answer = values; succeeds = λ p. promised p.0 p.1 p.2 p.3; serves = where_ok r call.ready; cost = λ n asked. let same = asked fits.log fits.high in omega (arith, made, same); later = call.later; room = call.refused })
+        let made = call.cost fits.log fits.height in
+        subst (λ (j : Job F). IsRun facts f generator j natural a b r) (sym is) (record { answer = values; succeeds = λ p. promised p.0 p.1 p.2 p.3; serves = where_ok r call.ready; cost = λ n asked. let same = asked fits.log fits.height in omega (arith, made, same); later = call.later; room = call.refused })
 
     pub idft_run : job ≡ Idft m → IfOk r (λ v. IsInterpolation f generator m f.ring.one (natural v)) → AtLog (height m) (λ k. facts.Succeeds a k → IsOk r) → AfterDft facts a b r m 1 → IsRun facts f generator job natural a b r
     idft_run is values promised call =
         let fits : FitsDft bits (height m) m.width = subst (CanRun f bits) is runs in
-        let made = call.cost fits.log fits.high in
-        subst (λ (j : Job F). IsRun facts f generator j natural a b r) (sym is) (record { answer = values; succeeds = λ p. promised p.0 p.1 p.2; serves = where_ok r call.ready; cost = λ n asked. let same = asked fits.log fits.high in omega (arith, made, same); later = call.later; room = call.refused })
+        let made = call.cost fits.log fits.height in
+        subst (λ (j : Job F). IsRun facts f generator j natural a b r) (sym is) (record { answer = values; succeeds = λ p. promised p.0 p.1 p.2; serves = where_ok r call.ready; cost = λ n asked. let same = asked fits.log fits.height in omega (arith, made, same); later = call.later; room = call.refused })
 
     pub coset_idft_run : (s : F) → job ≡ CosetIdft m s → IfOk r (λ v. IsInterpolation f generator m (f.value s) (natural v)) → AtLog (height m) (λ k. facts.Succeeds a k → IsOk r) → AfterDft facts a b r m 2 → IsRun facts f generator job natural a b r
     coset_idft_run s is values promised call =
         let fits : FitsDft bits (height m) m.width = (subst (CanRun f bits) is runs).0 in
-        let made = call.cost fits.log fits.high in
-        subst (λ (j : Job F). IsRun facts f generator j natural a b r) (sym is) (record { answer = values; succeeds = λ p. promised p.0 p.1 p.2; serves = where_ok r call.ready; cost = λ n asked. let same = asked fits.log fits.high in omega (arith, made, same); later = call.later; room = call.refused })
+        let made = call.cost fits.log fits.height in
+        subst (λ (j : Job F). IsRun facts f generator j natural a b r) (sym is) (record { answer = values; succeeds = λ p. promised p.0 p.1 p.2; serves = where_ok r call.ready; cost = λ n asked. let same = asked fits.log fits.height in omega (arith, made, same); later = call.later; room = call.refused })
 
     pub lde_run : (added : ℕ) → job ≡ Lde m added → IfOk r (λ v. IsExtension f generator m added f.ring.one (natural v)) → AfterLde facts a b r m added → IsRun facts f generator job natural a b r
     lde_run added is values call =
         let fits : FitsLde bits (height m) m.width added = subst (CanRun f bits) is runs in
-        let made = call.cost fits.log fits.high in
-        subst (λ (j : Job F). IsRun facts f generator j natural a b r) (sym is) (record { answer = values; succeeds = λ p. absurd p; serves = where_ok r call.ready; cost = λ n asked. let same = asked fits.log fits.high in omega (arith, made, same); later = call.later; room = call.refused })
+        let made = call.cost fits.log fits.height in
+        subst (λ (j : Job F). IsRun facts f generator j natural a b r) (sym is) (record { answer = values; succeeds = λ p. absurd p; serves = where_ok r call.ready; cost = λ n asked. let same = asked fits.log fits.height in omega (arith, made, same); later = call.later; room = call.refused })
 
     pub coset_lde_run : (added : ℕ) (s : F) → job ≡ CosetLde m added s → IfOk r (λ v. IsExtension f generator m added (f.value s) (natural v)) → AfterLde facts a b r m added → IsRun facts f generator job natural a b r
     coset_lde_run added s is values call =
         let fits : FitsLde bits (height m) m.width added = subst (CanRun f bits) is runs in
-        let made = call.cost fits.log fits.high in
-        subst (λ (j : Job F). IsRun facts f generator j natural a b r) (sym is) (record { answer = values; succeeds = λ p. absurd p; serves = where_ok r call.ready; cost = λ n asked. let same = asked fits.log fits.high in omega (arith, made, same); later = call.later; room = call.refused })
+        let made = call.cost fits.log fits.height in
+        subst (λ (j : Job F). IsRun facts f generator j natural a b r) (sym is) (record { answer = values; succeeds = λ p. absurd p; serves = where_ok r call.ready; cost = λ n asked. let same = asked fits.log fits.height in omega (arith, made, same); later = call.later; room = call.refused })
 
   -- where memory was refused, any other error says the same
   pub run_refused : {V W : Type 0} {natural : V → RowMajor F} (job : Job F) (stored : W → RowMajor F) (a b : E) (r : Result V DftError) (e : DftError) (s : Result W DftError) → r ≡ Err e → IsErr s × IsErrAnd s (λ y. y ≡ e)

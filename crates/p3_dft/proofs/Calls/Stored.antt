@@ -9,10 +9,10 @@ use Rattle.p3_dft.proofs.Calls.Shapes.{both_logs_fit, log_fits_dft}
 module _ {T : Type 0} (m : RowMajor T) (tall log : ℕ) (whole : IsRowMajor m) (is : tall ≡ height m) (power : tall ≡ 2 ^ log) where
   -- a matrix whose shape fits, with the logarithm that a program found of its height
   pub rows_found : {most h w : ℕ} → FitsDft most h w → height m ≡ h → HasTwoPowerRows m log
-  rows_found fits same = record { whole = whole; high = sym is ∙ power; small = (log_fits_dft tall log fits power (is ∙ same)).1 }
+  rows_found fits same = record { whole = whole; height = sym is ∙ power; fits_u64 = (log_fits_dft tall log fits power (is ∙ same)).1 }
 
   pub rows_found_lde : {most h w a : ℕ} → FitsLde most h w a → height m ≡ h → HasTwoPowerRows m log
-  rows_found_lde fits same = record { whole = whole; high = sym is ∙ power; small = (both_logs_fit tall log fits power (is ∙ same)).1 }
+  rows_found_lde fits same = record { whole = whole; height = sym is ∙ power; fits_u64 = (both_logs_fit tall log fits power (is ∙ same)).1 }
 
 -- all entries were written anew
 pub entries_written : {T : Type 0} (m out : RowMajor T) (ys : List T) → out.width ≡ m.width → out.values ≡ take (length m.values) (ys ++ drop (length ys) m.values) → length ys ≡ length m.values → HasEntriesOf out m
@@ -26,4 +26,4 @@ pub whole_still : {T U : Type 0} (m : RowMajor T) (out : RowMajor U) → IsRowMa
 whole_still m out whole same = whole_kept m out whole same.shape same.size
 
 pub rows_still : {T U : Type 0} (m : RowMajor T) (out : RowMajor U) (k : ℕ) → HasTwoPowerRows m k → HasEntriesOf out m → HasTwoPowerRows out k
-rows_still m out k rows same = record { whole = whole_still m out rows.whole same; high = same.shape.0 ∙ rows.high; small = rows.small }
+rows_still m out k rows same = record { whole = whole_still m out rows.whole same; height = same.shape.0 ∙ rows.height; fits_u64 = rows.fits_u64 }

@@ -39,12 +39,12 @@ module _ {F : Type 0} (f : FieldMembers F) (generator : ℕ → F) (m c : RowMaj
       let same : Same longer (values_of f c) =
       inverse.only k high longer
       (record {
-        high = refl;
-        wide = sym given.values.wide;
-        values = lengthened_values f.ring roots given.coefficients (values_of f m) (height m) k s (omega (arith, given.high, behind, below, are.high)) given.values;
+        height = refl;
+        width = sym given.values.width;
+        values = lengthened_values f.ring roots given.coefficients (values_of f m) (height m) k s (omega (arith, given.height, behind, below, are.height)) given.values;
       }) in
       (same_sym longer (values_of f c) same).alike i j below inside
-      ∙ ap (λ t. cond t (given.coefficients.entry i j) f.ring.zero) (le-ltb i given.coefficients.height (omega (arith, given.high, behind)))
+      ∙ ap (λ t. cond t (given.coefficients.entry i j) f.ring.zero) (le-ltb i given.coefficients.height (omega (arith, given.height, behind)))
 
   degree_of_zeros : AreZeros → HasDegreeBelow f generator h k s (values_of f m)
   degree_of_zeros zeros =
@@ -54,10 +54,10 @@ module _ {F : Type 0} (f : FieldMembers F) (generator : ℕ → F) (m c : RowMaj
       let first : Matrix f.Element = record { height = h; width = c.width; entry = (values_of f c).entry } in
       record {
         coefficients = first;
-        high = refl;
+        height = refl;
         values = padded_values f.ring roots first (values_of f c) k s (values_of f m) (omega (arith, less)) refl (λ i j below inside. refl) zeros are.values;
       })
-      (λ more. record { coefficients = lengthened f.ring.zero h (values_of f c); high = refl; values = lengthened_values f.ring roots (values_of f c) (values_of f m) h k s more are.values })
+      (λ more. record { coefficients = lengthened f.ring.zero h (values_of f c); height = refl; values = lengthened_values f.ring roots (values_of f c) (values_of f m) h k s more are.values })
       (cases_lt h (height c))
 
   -- m has values of degree below h where `has_degree_below` says so of the coefficients, and only there
@@ -68,7 +68,7 @@ module _ {F : Type 0} (f : FieldMembers F) (generator : ℕ → F) (m c : RowMaj
 pub word_of_extension : {F : Type 0} (f : FieldMembers F) (generator : ℕ → F) (code : Code F) (m out : RowMajor F) → height m ≡ 2 ^ code.log_message
     → IsExtension f generator m code.added_bits (f.value code.shift) out → IsCodeword f generator code (values_of f out)
 word_of_extension f generator code m out high extension =
-    record { coefficients = extension.coefficients; high = (extension.are_coefficients code.log_message high).high ∙ high; values = extension.extended code.log_message high }
+    record { coefficients = extension.coefficients; height = (extension.are_coefficients code.log_message high).height ∙ high; values = extension.extended code.log_message high }
 
 -- the first w entries of row i are equal
 abbrev RowsAgree : {E : Type 0} → Matrix E → Matrix E → ℕ → ℕ → Type 0
@@ -97,7 +97,7 @@ module _ {F : Type 0} (f : FieldMembers F) (generator : ℕ → F) {bits : ℕ} 
       let all : n ≡ n + code.added_bits = omega (arith, none) in
       record {
         coefficients = c;
-        high = are.high ∙ high;
+        height = are.height ∙ high;
         values = subst (λ (k : ℕ). IsValues f.ring (λ i. f.value (generator i)) c k (f.value code.shift) word) all are.values;
       }
 
@@ -105,8 +105,8 @@ module _ {F : Type 0} (f : FieldMembers F) (generator : ℕ → F) {bits : ℕ} 
   pub one_codeword : (x y : Matrix f.Element) → IsCodeword f generator code x → IsCodeword f generator code y → x.width ≡ y.width
       → AgreeInRows (2 ^ code.log_message) x y → Same x y
   one_codeword x y first second wide agree =
-      one_word f.ring are_roots first.coefficients second.coefficients (code.log_message + code.added_bits) (f.value code.shift) x y is.within is.invertible (first.high ∙ sym second.high)
-      first.values second.values wide (subst (λ (n : ℕ). AgreeInRows n x y) (sym first.high) agree)
+      one_word f.ring are_roots first.coefficients second.coefficients (code.log_message + code.added_bits) (f.value code.shift) x y is.within is.invertible (first.height ∙ sym second.height)
+      first.values second.values wide (subst (λ (n : ℕ). AgreeInRows n x y) (sym first.height) agree)
 
   -- of n points and messages of k rows, two codewords that are not equal differ in at least n - k + 1 rows, where it can be told of each entry whether it is equal in both
   pub words_apart : (x y : Matrix f.Element) → ((i j : ℕ) → i < x.height → j < x.width → (x.entry i j ≡ y.entry i j) ⊎ (x.entry i j ≢ y.entry i j)) → IsCodeword f generator code x
@@ -120,7 +120,7 @@ module _ {F : Type 0} (f : FieldMembers F) (generator : ℕ → F) {bits : ℕ} 
           cases : (s.p < 2 ^ code.log_message) ⊎ (2 ^ code.log_message ≤ s.p) → DifferInRows (2 ^ (code.log_message + code.added_bits) - 2 ^ code.log_message + 1) x y
           cases (inl few) =
               fewer (2 ^ (code.log_message + code.added_bits) - 2 ^ code.log_message + 1) s.q x.height (RowsDiffer x y x.width)
-              (omega (arith, few, s.all, first.values.high, message_within code.log_message code.added_bits)) s.second
+              (omega (arith, few, s.all, first.values.height, message_within code.log_message code.added_bits)) s.second
           cases (inr many) = absurd (different (one_codeword x y first second wide (fewer (2 ^ code.log_message) s.p x.height (RowsAgree x y x.width) many s.first)))
 
   -- so do two stored ones, where `==` tells which elements are equal

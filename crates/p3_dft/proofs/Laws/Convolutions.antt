@@ -68,12 +68,12 @@ module _ {F : Type 0} (f : FieldMembers F) (generator : ℕ → F) (zero_law : f
           ∙ sym (product_by_index f.ring size a b (point f.ring roots k s i) fits))
 
       same : Same product (values_of f (one_column out))
-      same = inverse.only k (tall ∙ power) product (record { high = sym tall; wide = refl; values = values })
+      same = inverse.only k (tall ∙ power) product (record { height = sym tall; width = refl; values = values })
 
       entry : (n < size) ⊎ (size ≤ n) → f.value (get_or out n f.ZERO) ≡ convolution f.ring a b n
       entry (inl below) =
           let place : n ≡ n * 1 + 0 = omega arith in
           ap (λ u. f.value (get_or out u f.ZERO)) place ∙ sym (same.alike n 0 below (omega arith))
       entry (inr past) =
-          ap f.value (get_or_past out n f.ZERO (omega (arith, same.high, past))) ∙ zero_law
+          ap f.value (get_or_past out n f.ZERO (omega (arith, same.height, past))) ∙ zero_law
           ∙ sym (convolution_past f.ring a b n (omega (arith, fits, past)))

@@ -76,8 +76,8 @@ module _ {V F : Type 0} (v : SpaceMembers V F) (counted : (x : V) → length (v.
     coordinate_columns m w wide some =
         let count : height (one_of m) ≡ height m = ap (λ n. n / m.width) (length-map m.values (λ x. get_or (v.coordinates x) t f.ZERO)) in
         record {
-          high = count ∙ sym (height-flat v counted m some);
-          wide = wide;
+          height = count ∙ sym (height-flat v counted m some);
+          width = wide;
           alike = λ i j p q.
               let rise : (i + 1) * m.width ≤ height m * m.width = mul-le-mul_right m.width (omega (arith, p, count)) in
               let inside : i * m.width + j < length m.values = omega (arith, rise, q, div-mul-le_self (length m.values) m.width) in
@@ -92,7 +92,7 @@ module _ {V F : Type 0} (v : SpaceMembers V F) (counted : (x : V) → length (v.
         (chosen_values f.ring roots c (values_of f (flat v y)) n s place y.width
         (λ j below.
         let rise : (j + 1) * v.DIMENSION ≤ y.width * v.DIMENSION = mul-le-mul_right v.DIMENSION (omega (arith, below)) in
-        omega (arith, rise, within, given.wide)) given)
+        omega (arith, rise, within, given.width)) given)
         (same_sym (values_of f (one_of y)) (chosen place y.width (values_of f (flat v y))) (coordinate_columns y y.width refl some))
 
     -- rows of elements have one width where their coordinates have
@@ -111,14 +111,14 @@ module _ {V F : Type 0} (v : SpaceMembers V F) (counted : (x : V) → length (v.
         (coordinate_values (values_of f (flat v m)) out k s (omega (arith, some, same)) given)
 
     flat_height : (m : RowMajor V) (k : ℕ) → 1 ≤ m.width * v.DIMENSION → height (one_of m) ≡ 2 ^ k → height (flat v m) ≡ 2 ^ k
-    flat_height m k some e = sym (coordinate_columns m m.width refl some).high ∙ e
+    flat_height m k some e = sym (coordinate_columns m m.width refl some).height ∙ e
 
     -- coordinate t of the answer is the transform of the matrix of coordinates t
     pub transform_of_coordinate : (m out : RowMajor V) (s : f.Element) → 1 ≤ m.width * v.DIMENSION → IsTransform f generator (flat v m) s (flat v out)
         → IsTransform f generator (one_of m) s (one_of out)
     transform_of_coordinate m out s some given k e =
         let values = given k (flat_height m k some e) in
-        coordinate_coefficients m out k s some values.wide values
+        coordinate_coefficients m out k s some values.width values
 
     -- so is the extension
     pub extension_of_coordinate : (m out : RowMajor V) (a : ℕ) (s : f.Element) → 1 ≤ m.width * v.DIMENSION → IsExtension f generator (flat v m) a s (flat v out)
@@ -128,14 +128,14 @@ module _ {V F : Type 0} (v : SpaceMembers V F) (counted : (x : V) → length (v.
       are_coefficients = λ k e.
           let are = given.are_coefficients k (flat_height m k some e) in
           record {
-            high = are.high ∙ sym (coordinate_columns m m.width refl some).high;
-            wide = refl;
+            height = are.height ∙ sym (coordinate_columns m m.width refl some).height;
+            width = refl;
             values = coordinate_values given.coefficients m k f.ring.one some are.values;
           };
       extended = λ k e.
           let are = given.are_coefficients k (flat_height m k some e) in
           let values = given.extended k (flat_height m k some e) in
-          let same : (flat v out).width ≡ (flat v m).width = values.wide ∙ are.wide in
+          let same : (flat v out).width ≡ (flat v m).width = values.width ∙ are.width in
           subst (λ (w : ℕ). IsValues f.ring roots (chosen place w given.coefficients) (k + a) s (values_of f (one_of out))) (element_width m out same)
           (coordinate_values given.coefficients out (k + a) s (omega (arith, some, same)) values);
     }
@@ -146,17 +146,17 @@ module _ {V F : Type 0} (v : SpaceMembers V F) (counted : (x : V) → length (v.
     inverse_of_coordinate bits are_roots m out s fits invertible given = record {
       holds = coefficients;
       only = λ k e d other.
-          let tall : height m ≡ 2 ^ k = sym (height-flat v counted m fits.wide) ∙ flat_height m k fits.wide e in
+          let tall : height m ≡ 2 ^ k = sym (height-flat v counted m fits.width) ∙ flat_height m k fits.width e in
           there_is_no_other f.ring are_roots (values_of f (one_of m)) k s (exponent_within k fits tall) invertible
           d (values_of f (one_of out)) other (coefficients k e);
     }
       where
         coefficients : (k : ℕ) → height (one_of m) ≡ 2 ^ k → AreCoefficients f.ring roots (values_of f (one_of m)) k s (values_of f (one_of out))
         coefficients k e =
-            let are = given.holds k (flat_height m k fits.wide e) in
-            let some : 1 ≤ out.width * v.DIMENSION = omega (arith, fits.wide, are.wide) in
+            let are = given.holds k (flat_height m k fits.width e) in
+            let some : 1 ≤ out.width * v.DIMENSION = omega (arith, fits.width, are.width) in
             record {
-              high = (coordinate_columns out out.width refl some).high ∙ are.high ∙ sym (coordinate_columns m m.width refl fits.wide).high;
-              wide = element_width m out are.wide;
-              values = coordinate_coefficients out m k s some (sym are.wide) are.values;
+              height = (coordinate_columns out out.width refl some).height ∙ are.height ∙ sym (coordinate_columns m m.width refl fits.width).height;
+              width = element_width m out are.width;
+              values = coordinate_coefficients out m k s some (sym are.width) are.values;
             }

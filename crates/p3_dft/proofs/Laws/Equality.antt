@@ -40,20 +40,20 @@ module _ {F : Type 0} (f : FieldMembers F) (E : F → F → Bool) (decides : (a 
   -- equal values give `==` true
   pub equal_of_same : (m n : RowMajor F) → IsRowMajor m → IsRowMajor n → Same (values_of f m) (values_of f n) → IsTrue (equal E m n)
   equal_of_same m n whole other same =
-      ap₂ ◌&&◌ (eq-eqb m.width n.width same.wide) (lists_equal m.values n.values size entry)
+      ap₂ ◌&&◌ (eq-eqb m.width n.width same.width) (lists_equal m.values n.values size entry)
     where
       size : length m.values ≡ length n.values
-      size = sym whole.full ∙ ap₂ (λ (h w : ℕ). h * w) same.high same.wide ∙ other.full
+      size = sym whole.full ∙ ap₂ (λ (h w : ℕ). h * w) same.height same.width ∙ other.full
 
       entry : (i : ℕ) → i < length m.values → f.value (get_or m.values i f.ZERO) ≡ f.value (get_or n.values i f.ZERO)
       entry i below =
           let w = m.width in
           let place : i / w * w + i % w ≡ i = omega (arith, div-add-mod i w, mul_comm w (i / w)) in
-          let some : 0 < w = omega (arith, whole.wide) in
+          let some : 0 < w = omega (arith, whole.width) in
           let row : i / w < height m = (div-lt_iff_lt-mul some).1 (omega (arith, below, whole.full)) in
-          let inside : i % w < w = mod-lt i (omega (arith, whole.wide)) in
+          let inside : i % w < w = mod-lt i (omega (arith, whole.width)) in
           ap (λ p. f.value (get_or m.values p f.ZERO)) (sym place) ∙ same.alike (i / w) (i % w) row inside
-          ∙ ap (λ p. f.value (get_or n.values p f.ZERO)) (ap (λ v. i / w * v + i % w) (sym same.wide) ∙ place)
+          ∙ ap (λ p. f.value (get_or n.values p f.ZERO)) (ap (λ v. i / w * v + i % w) (sym same.width) ∙ place)
 
   -- and the reverse
   pub same_of_equal : (m n : RowMajor F) → IsTrue (equal E m n) → Same (values_of f m) (values_of f n)
@@ -62,7 +62,7 @@ module _ {F : Type 0} (f : FieldMembers F) (E : F → F → Bool) (decides : (a 
       let wide : m.width ≡ n.width = eqb-true m.width n.width parts.0 in
       let entries = equal_lists m.values n.values parts.1 in
       record {
-        high = ap₂ (λ (s w : ℕ). s / w) entries.0 wide;
-        wide = wide;
+        height = ap₂ (λ (s w : ℕ). s / w) entries.0 wide;
+        width = wide;
         alike = λ i j p q. entries.1 (i * m.width + j) ∙ ap (λ w. f.value (get_or n.values (i * w + j) f.ZERO)) wide;
       }

@@ -33,7 +33,7 @@ use Rattle.p3_dft.proofs.Calls.Shapes.{input_fits, output_fits}
 -- ---- shapes
 -- the exponent of a fitting height is within the two-adicity
 pub exponent_within : {bits tall wide : ℕ} (k : ℕ) → FitsDft bits tall wide → tall ≡ 2 ^ k → k ≤ bits
-exponent_within {bits} k fits e = subst (λ (n : ℕ). n ≤ bits) (log_same fits.log k (sym fits.high ∙ e)) fits.within
+exponent_within {bits} k fits e = subst (λ (n : ℕ). n ≤ bits) (log_same fits.log k (sym fits.height ∙ e)) fits.within
 
 module _ {F : Type 0} (f : FieldMembers F) (generator : ℕ → F) where
   abbrev roots : ℕ → f.Element
@@ -45,50 +45,50 @@ module _ {F : Type 0} (f : FieldMembers F) (generator : ℕ → F) where
   -- what a call answers fits again
   pub transform_fits : {bits : ℕ} (m y : RowMajor F) (s : f.Element) → FitsDft bits (height m) m.width → IsTransform f generator m s y → FitsDft bits (height y) y.width
   transform_fits {bits} m y s fits transform =
-      let v = transform fits.log fits.high in
+      let v = transform fits.log fits.height in
       record {
         log = fits.log;
         within = fits.within;
-        high = v.high;
-        wide = omega (arith, v.wide, fits.wide);
-        size = omega (arith, ap₂ (λ (h w : ℕ). h * w) (v.high ∙ sym fits.high) v.wide, fits.size);
+        height = v.height;
+        width = omega (arith, v.width, fits.width);
+        size = omega (arith, ap₂ (λ (h w : ℕ). h * w) (v.height ∙ sym fits.height) v.width, fits.size);
       }
 
   pub interpolation_fits : {bits : ℕ} (m c : RowMajor F) (s : f.Element) → FitsDft bits (height m) m.width → IsInterpolation f generator m s c → FitsDft bits (height c) c.width
   interpolation_fits {bits} m c s fits inverse =
-      let a = inverse.holds fits.log fits.high in
+      let a = inverse.holds fits.log fits.height in
       record {
         log = fits.log;
         within = fits.within;
-        high = a.high ∙ fits.high;
-        wide = omega (arith, a.wide, fits.wide);
-        size = omega (arith, ap₂ (λ (h w : ℕ). h * w) a.high a.wide, fits.size);
+        height = a.height ∙ fits.height;
+        width = omega (arith, a.width, fits.width);
+        size = omega (arith, ap₂ (λ (h w : ℕ). h * w) a.height a.width, fits.size);
       }
 
   pub extension_fits : {bits : ℕ} (m out : RowMajor F) (a : ℕ) (s : f.Element) → FitsLde bits (height m) m.width a → IsExtension f generator m a s out → FitsDft bits (height out) out.width
   extension_fits {bits} m out a s fits extension =
-      output_fits bits (height m) m.width a (height out) out.width fits (extension.extended fits.log fits.high).high
-      ((extension.extended fits.log fits.high).wide ∙ (extension.are_coefficients fits.log fits.high).wide)
+      output_fits bits (height m) m.width a (height out) out.width fits (extension.extended fits.log fits.height).height
+      ((extension.extended fits.log fits.height).width ∙ (extension.are_coefficients fits.log fits.height).width)
 
   -- ---- equal inputs
   pub transform_of_equal : (m n y : RowMajor F) (s : f.Element) → Same (values m) (values n) → IsTransform f generator m s y → IsTransform f generator n s y
-  transform_of_equal m n y s same transform = λ k e. coefficients_same f.ring roots (values m) (values n) k s (values y) same (transform k (same.high ∙ e))
+  transform_of_equal m n y s same transform = λ k e. coefficients_same f.ring roots (values m) (values n) k s (values y) same (transform k (same.height ∙ e))
 
   -- ---- there and back
   -- the inverse of a transform is the matrix
   pub inverse_of_transform : {bits : ℕ} (m y c : RowMajor F) (s : f.Element) → FitsDft bits (height m) m.width → IsTransform f generator m s y → IsInterpolation f generator y s c
       → Same (values c) (values m)
   inverse_of_transform m y c s fits transform inverse =
-      let v = transform fits.log fits.high in
+      let v = transform fits.log fits.height in
       same_sym (values m) (values c)
-      (inverse.only fits.log v.high (values m) (record { high = fits.high ∙ sym v.high; wide = sym v.wide; values = v }))
+      (inverse.only fits.log v.height (values m) (record { height = fits.height ∙ sym v.height; width = sym v.width; values = v }))
 
   -- the transform of an inverse is the matrix
   pub transform_of_inverse : {bits : ℕ} (m c y : RowMajor F) (s : f.Element) → FitsDft bits (height m) m.width → IsInterpolation f generator m s c → IsTransform f generator c s y
       → Same (values y) (values m)
   transform_of_inverse m c y s fits inverse transform =
-      let a = inverse.holds fits.log fits.high in
-      values_unique f.ring roots (values c) fits.log s (values y) (values m) (transform fits.log (a.high ∙ fits.high)) a.values
+      let a = inverse.holds fits.log fits.height in
+      values_unique f.ring roots (values c) fits.log s (values y) (values m) (transform fits.log (a.height ∙ fits.height)) a.values
 
   -- ---- extensions
   -- by no bits on the subgroup it is the input
@@ -97,17 +97,17 @@ module _ {F : Type 0} (f : FieldMembers F) (generator : ℕ → F) where
       let k = fits.log in
       let none : k + 0 ≡ k = omega arith in
       values_unique f.ring roots extension.coefficients k f.ring.one (values out) (values m)
-      (subst (λ (n : ℕ). IsValues f.ring roots extension.coefficients n f.ring.one (values out)) none (extension.extended k fits.high))
-      (extension.are_coefficients k fits.high).values
+      (subst (λ (n : ℕ). IsValues f.ring roots extension.coefficients n f.ring.one (values out)) none (extension.extended k fits.height))
+      (extension.are_coefficients k fits.height).values
 
   back_from_extension : (m : RowMajor F) (c : Matrix f.Element) (out d : RowMajor F) (a k : ℕ) (s : f.Element) → height m ≡ 2 ^ k → c.height ≡ height m → IsValues f.ring roots c (k + a) s (values out)
       → IsInterpolation f generator out s d → Same (values d) (lengthened f.ring.zero (height m * 2 ^ a) c)
   back_from_extension m c out d a k s high as_tall v back =
       let more : c.height ≤ height m * 2 ^ a = omega (arith, as_tall, le-mul_of_pos_right (height m) (pow_pos a)) in
-      let tall : height m * 2 ^ a ≡ height out = ap (λ h. h * 2 ^ a) high ∙ sym (pow-add 2 k a) ∙ sym v.high in
+      let tall : height m * 2 ^ a ≡ height out = ap (λ h. h * 2 ^ a) high ∙ sym (pow-add 2 k a) ∙ sym v.height in
       same_sym (lengthened f.ring.zero (height m * 2 ^ a) c) (values d)
-      (back.only (k + a) v.high (lengthened f.ring.zero (height m * 2 ^ a) c)
-      (record { high = tall; wide = sym v.wide; values = lengthened_values f.ring roots c (values out) (height m * 2 ^ a) (k + a) s more v }))
+      (back.only (k + a) v.height (lengthened f.ring.zero (height m * 2 ^ a) c)
+      (record { height = tall; width = sym v.width; values = lengthened_values f.ring roots c (values out) (height m * 2 ^ a) (k + a) s more v }))
 
   -- low degree: the inverse of an extension has zeros from the input's height on
   pub low_degree : {bits : ℕ} (m out d : RowMajor F) (a : ℕ) (s : f.Element) → FitsLde bits (height m) m.width a → IsExtension f generator m a s out
@@ -115,8 +115,8 @@ module _ {F : Type 0} (f : FieldMembers F) (generator : ℕ → F) where
   low_degree m out d a s fits extension back i j after below inside =
       let k = fits.log in
       let c = extension.coefficients in
-      let as_tall : c.height ≡ height m = (extension.are_coefficients k fits.high).high in
-      (back_from_extension m c out d a k s fits.high as_tall (extension.extended k fits.high) back).alike i j below inside
+      let as_tall : c.height ≡ height m = (extension.are_coefficients k fits.height).height in
+      (back_from_extension m c out d a k s fits.height as_tall (extension.extended k fits.height) back).alike i j below inside
       ∙ ap (λ t. cond t (c.entry i j) f.ring.zero) (le-ltb i c.height (omega (arith, as_tall)))
 
   -- a shift whose value is one is none
@@ -133,15 +133,15 @@ module _ {F : Type 0} (f : FieldMembers F) (generator : ℕ → F) where
     -- equal inputs have one interpolation and one extension
     pub interpolation_of_equal : (m n c : RowMajor F) (s : f.Element) → Same (values m) (values n) → IsInterpolation f generator m s c → IsInterpolation f generator n s c
     interpolation_of_equal m n c s same inverse = record {
-      holds = λ k e. coefficients_of_same f.ring are_roots (values m) (values n) k s (values c) same (inverse.holds k (same.high ∙ e));
-      only = λ k e d are. inverse.only k (same.high ∙ e) d (coefficients_of_same f.ring are_roots (values n) (values m) k s d (same_sym (values m) (values n) same) are);
+      holds = λ k e. coefficients_of_same f.ring are_roots (values m) (values n) k s (values c) same (inverse.holds k (same.height ∙ e));
+      only = λ k e d are. inverse.only k (same.height ∙ e) d (coefficients_of_same f.ring are_roots (values n) (values m) k s d (same_sym (values m) (values n) same) are);
     }
 
     pub extension_of_equal : (m n out : RowMajor F) (a : ℕ) (s : f.Element) → Same (values m) (values n) → IsExtension f generator m a s out → IsExtension f generator n a s out
     extension_of_equal m n out a s same extension = record {
       coefficients = extension.coefficients;
-      are_coefficients = λ k e. coefficients_of_same f.ring are_roots (values m) (values n) k f.ring.one extension.coefficients same (extension.are_coefficients k (same.high ∙ e));
-      extended = λ k e. extension.extended k (same.high ∙ e);
+      are_coefficients = λ k e. coefficients_of_same f.ring are_roots (values m) (values n) k f.ring.one extension.coefficients same (extension.are_coefficients k (same.height ∙ e));
+      extended = λ k e. extension.extended k (same.height ∙ e);
     }
 
     -- the one matrix of coefficients on the subgroup
@@ -163,12 +163,12 @@ module _ {F : Type 0} (f : FieldMembers F) (generator : ℕ → F) where
     extension_keeps_rows m out a fits extension i j below inside =
         let k = fits.log in
         let c = extension.coefficients in
-        let are = extension.are_coefficients k fits.high in
-        let here : i < 2 ^ k = omega (arith, fits.high) in
+        let are = extension.are_coefficients k fits.height in
+        let here : i < 2 ^ k = omega (arith, fits.height) in
         let rise : (i + 1) * 2 ^ a ≤ 2 ^ k * 2 ^ a = mul-le-mul_right (2 ^ a) (omega arith) in
         let there : i * 2 ^ a < 2 ^ (k + a) = omega (arith, rise, pow-add 2 k a, pow_pos a) in
-        let inner : j < c.width = omega (arith, are.wide) in
-        (extension.extended k fits.high).values (i * 2 ^ a) j there inner
+        let inner : j < c.width = omega (arith, are.width) in
+        (extension.extended k fits.height).values (i * 2 ^ a) j there inner
         ∙ ap (value f.ring (column c j)) (point_of_one f.ring roots (k + a) (i * 2 ^ a) ∙ root_strided f.ring are_roots k a i fits.within ∙ sym (point_of_one f.ring roots k i))
         ∙ sym (are.values.values i j here inner)
 
@@ -177,18 +177,18 @@ module _ {F : Type 0} (f : FieldMembers F) (generator : ℕ → F) where
         → IsInterpolation f generator out s d → Same (values d) (lengthened f.ring.zero (height m * 2 ^ a) (values c))
     inverse_of_extension m c out d a s fits inverse extension back =
         let k = fits.log in
-        back_from_extension m (values c) out d a k s fits.high ((inverse.holds k fits.high).high)
-        (extension_values m c out a s fits inverse extension k fits.high) back
+        back_from_extension m (values c) out d a k s fits.height ((inverse.holds k fits.height).height)
+        (extension_values m c out a s fits inverse extension k fits.height) back
 
     -- so its first rows are those coefficients
     pub inverse_keeps_coefficients : (m c out d : RowMajor F) (a : ℕ) (s : f.Element) → FitsLde bits (height m) m.width a → IsInterpolation f generator m f.ring.one c → IsExtension f generator m a s out
         → IsInterpolation f generator out s d → (i j : ℕ) → i < height m → j < m.width → (values d).entry i j ≡ (values c).entry i j
     inverse_keeps_coefficients m c out d a s fits inverse extension back i j below inside =
-        let are = inverse.holds fits.log fits.high in
+        let are = inverse.holds fits.log fits.height in
         let longer = lengthened f.ring.zero (height m * 2 ^ a) (values c) in
         let here : i < height m * 2 ^ a = omega (arith, below, le-mul_of_pos_right (height m) (pow_pos a)) in
-        sym ((same_sym (values d) longer (inverse_of_extension m c out d a s fits inverse extension back)).alike i j here (omega (arith, inside, are.wide)))
-        ∙ ap (λ t. cond t ((values c).entry i j) f.ring.zero) (lt-ltb i (height c) (omega (arith, below, are.high)))
+        sym ((same_sym (values d) longer (inverse_of_extension m c out d a s fits inverse extension back)).alike i j here (omega (arith, inside, are.width)))
+        ∙ ap (λ t. cond t ((values c).entry i j) f.ring.zero) (lt-ltb i (height c) (omega (arith, below, are.height)))
 
     -- nested cosets: the extension, with shift s, of the values on the coset of u is the values on the coset of u s
     pub extension_of_coset : (c y out : RowMajor F) (a : ℕ) (u s : f.Element) → FitsLde bits (height c) c.width a → IsTransform f generator c u y → IsExtension f generator y a s out
@@ -197,10 +197,10 @@ module _ {F : Type 0} (f : FieldMembers F) (generator : ℕ → F) where
         let v = transform k high in
         let within : k ≤ bits = exponent_within k (input_fits bits (height c) c.width a fits) high in
         let moved : AreCoefficients f.ring roots (values y) k f.ring.one (coset_shift f.ring u (values c)) =
-        record { high = high ∙ sym v.high; wide = sym v.wide; values = values_of_shifted f.ring roots (values c) (values y) k u v } in
+        record { height = high ∙ sym v.height; width = sym v.width; values = values_of_shifted f.ring roots (values c) (values y) k u v } in
         shifted_values f.ring roots (values c) extension.coefficients (k + a) u s (values out)
-        (one_coefficients y k extension.coefficients (coset_shift f.ring u (values c)) within (extension.are_coefficients k v.high) moved)
-        (extension.extended k v.high)
+        (one_coefficients y k extension.coefficients (coset_shift f.ring u (values c)) within (extension.are_coefficients k v.height) moved)
+        (extension.extended k v.height)
 
     -- the answers of one list of jobs are the same, place by place
     pub one_list_of_answers : (jobs : List (Job F)) (first second : List (RowMajor F)) → All (CanRun f bits) jobs → AllZip (IsAnswer f generator) jobs first → AllZip (IsAnswer f generator) jobs second
@@ -223,16 +223,16 @@ module _ {F : Type 0} (f : FieldMembers F) (generator : ℕ → F) where
       transform_of_combination y z out first second third =
           let both = combination f.ring a (values m) b (values n) in
           values_unique f.ring roots both fits.log s (values out) (combination f.ring a (values y) b (values z))
-          (coefficients_same f.ring roots (values p) both fits.log s (values out) sum (third fits.log (sum.high ∙ fits.high)))
-          (combination_values f.ring roots (values m) (values n) (values y) (values z) fits.log s a b (sym tall) (sym wide) (first fits.log fits.high) (second fits.log (tall ∙ fits.high)))
+          (coefficients_same f.ring roots (values p) both fits.log s (values out) sum (third fits.log (sum.height ∙ fits.height)))
+          (combination_values f.ring roots (values m) (values n) (values y) (values z) fits.log s a b (sym tall) (sym wide) (first fits.log fits.height) (second fits.log (tall ∙ fits.height)))
 
       combination_coefficients : (t : f.Element) (c d : Matrix f.Element) → AreCoefficients f.ring roots (values m) fits.log t c → AreCoefficients f.ring roots (values n) fits.log t d
           → AreCoefficients f.ring roots (values p) fits.log t (combination f.ring a c b d)
       combination_coefficients t c d are too = record {
-        high = are.high ∙ sym sum.high;
-        wide = are.wide ∙ sym sum.wide;
+        height = are.height ∙ sym sum.height;
+        width = are.width ∙ sym sum.width;
         values = values_same f.ring roots (combination f.ring a c b d) fits.log t (combination f.ring a (values m) b (values n)) (values p)
-            (combination_values f.ring roots c d (values m) (values n) fits.log t a b (are.high ∙ sym tall ∙ sym too.high) (are.wide ∙ sym wide ∙ sym too.wide) are.values too.values)
+            (combination_values f.ring roots c d (values m) (values n) fits.log t a b (are.height ∙ sym tall ∙ sym too.height) (are.width ∙ sym wide ∙ sym too.width) are.values too.values)
             (same_sym (values p) (combination f.ring a (values m) b (values n)) sum);
       }
 
@@ -240,52 +240,52 @@ module _ {F : Type 0} (f : FieldMembers F) (generator : ℕ → F) where
           → Same (values out) (combination f.ring a (values c) b (values d))
       inverse_of_combination c d out first second third =
           same_sym (combination f.ring a (values c) b (values d)) (values out)
-          (third.only fits.log (sum.high ∙ fits.high) (combination f.ring a (values c) b (values d))
-          (combination_coefficients s (values c) (values d) (first.holds fits.log fits.high) (second.holds fits.log (tall ∙ fits.high))))
+          (third.only fits.log (sum.height ∙ fits.height) (combination f.ring a (values c) b (values d))
+          (combination_coefficients s (values c) (values d) (first.holds fits.log fits.height) (second.holds fits.log (tall ∙ fits.height))))
 
       pub extension_of_combination : (added : ℕ) (y z out : RowMajor F) → IsExtension f generator m added s y → IsExtension f generator n added s z → IsExtension f generator p added s out
           → Same (values out) (combination f.ring a (values y) b (values z))
       extension_of_combination added y z out first second third =
           let c = first.coefficients in
           let d = second.coefficients in
-          let are = first.are_coefficients fits.log fits.high in
-          let too = second.are_coefficients fits.log (tall ∙ fits.high) in
+          let are = first.are_coefficients fits.log fits.height in
+          let too = second.are_coefficients fits.log (tall ∙ fits.height) in
           let both = combination f.ring a c b d in
           values_unique f.ring roots both (fits.log + added) s (values out) (combination f.ring a (values y) b (values z))
           (coefficients_same f.ring roots third.coefficients both (fits.log + added) s (values out)
-          (one_coefficients p fits.log third.coefficients both fits.within (third.are_coefficients fits.log (sum.high ∙ fits.high)) (combination_coefficients f.ring.one c d are too))
-          (third.extended fits.log (sum.high ∙ fits.high)))
-          (combination_values f.ring roots c d (values y) (values z) (fits.log + added) s a b (are.high ∙ sym tall ∙ sym too.high) (are.wide ∙ sym wide ∙ sym too.wide)
-          (first.extended fits.log fits.high) (second.extended fits.log (tall ∙ fits.high)))
+          (one_coefficients p fits.log third.coefficients both fits.within (third.are_coefficients fits.log (sum.height ∙ fits.height)) (combination_coefficients f.ring.one c d are too))
+          (third.extended fits.log (sum.height ∙ fits.height)))
+          (combination_values f.ring roots c d (values y) (values z) (fits.log + added) s a b (are.height ∙ sym tall ∙ sym too.height) (are.width ∙ sym wide ∙ sym too.width)
+          (first.extended fits.log fits.height) (second.extended fits.log (tall ∙ fits.height)))
 
     -- ---- one column: v is column j of m
     module _ (m v : RowMajor F) (j : ℕ) (s : f.Element) (fits : FitsDft bits (height m) m.width) (inside : j < m.width) (same : Same (values v) (alone j (values m))) where
       pub transform_of_column : (y z : RowMajor F) → IsTransform f generator m s y → IsTransform f generator v s z → Same (values z) (alone j (values y))
       transform_of_column y z whole one =
           values_unique f.ring roots (alone j (values m)) fits.log s (values z) (alone j (values y))
-          (coefficients_same f.ring roots (values v) (alone j (values m)) fits.log s (values z) same (one fits.log (same.high ∙ fits.high)))
-          (column_values f.ring roots (values m) (values y) fits.log s j inside (whole fits.log fits.high))
+          (coefficients_same f.ring roots (values v) (alone j (values m)) fits.log s (values z) same (one fits.log (same.height ∙ fits.height)))
+          (column_values f.ring roots (values m) (values y) fits.log s j inside (whole fits.log fits.height))
 
       column_coefficients : (t : f.Element) (c : Matrix f.Element) → AreCoefficients f.ring roots (values m) fits.log t c → AreCoefficients f.ring roots (values v) fits.log t (alone j c)
       column_coefficients t c are = record {
-        high = are.high ∙ sym same.high;
-        wide = sym same.wide;
+        height = are.height ∙ sym same.height;
+        width = sym same.width;
         values = values_same f.ring roots (alone j c) fits.log t (alone j (values m)) (values v)
-            (column_values f.ring roots c (values m) fits.log t j (omega (arith, are.wide)) are.values) (same_sym (values v) (alone j (values m)) same);
+            (column_values f.ring roots c (values m) fits.log t j (omega (arith, are.width)) are.values) (same_sym (values v) (alone j (values m)) same);
       }
 
       pub inverse_of_column : (c d : RowMajor F) → IsInterpolation f generator m s c → IsInterpolation f generator v s d → Same (values d) (alone j (values c))
       inverse_of_column c d whole one =
-          same_sym (alone j (values c)) (values d) (one.only fits.log (same.high ∙ fits.high) (alone j (values c)) (column_coefficients s (values c) (whole.holds fits.log fits.high)))
+          same_sym (alone j (values c)) (values d) (one.only fits.log (same.height ∙ fits.height) (alone j (values c)) (column_coefficients s (values c) (whole.holds fits.log fits.height)))
 
       pub extension_of_column : (added : ℕ) (y z : RowMajor F) → IsExtension f generator m added s y → IsExtension f generator v added s z → Same (values z) (alone j (values y))
       extension_of_column added y z whole one =
-          let are = whole.are_coefficients fits.log fits.high in
+          let are = whole.are_coefficients fits.log fits.height in
           let c = whole.coefficients in
           values_unique f.ring roots (alone j c) (fits.log + added) s (values z) (alone j (values y))
           (coefficients_same f.ring roots one.coefficients (alone j c) (fits.log + added) s (values z)
-          (one_coefficients v fits.log one.coefficients (alone j c) fits.within (one.are_coefficients fits.log (same.high ∙ fits.high)) (column_coefficients f.ring.one c are)) (one.extended fits.log (same.high ∙ fits.high)))
-          (column_values f.ring roots c (values y) (fits.log + added) s j (omega (arith, are.wide)) (whole.extended fits.log fits.high))
+          (one_coefficients v fits.log one.coefficients (alone j c) fits.within (one.are_coefficients fits.log (same.height ∙ fits.height)) (column_coefficients f.ring.one c are)) (one.extended fits.log (same.height ∙ fits.height)))
+          (column_values f.ring roots c (values y) (fits.log + added) s j (omega (arith, are.width)) (whole.extended fits.log fits.height))
 
   -- ---- vectors
   -- the entries of a vector as the column of a matrix
@@ -305,7 +305,7 @@ module _ {F : Type 0} (f : FieldMembers F) (generator : ℕ → F) where
       let tall : height (one_column xs) ≡ 2 ^ k = omega (arith, size) in
       let v = transform k tall in
       let same_place : (i : ℕ) → i ≡ i * 1 + 0 = λ i. omega arith in (
-        omega (arith, v.high, size),
+        omega (arith, v.height, size),
         λ i below.
             ap (λ n. f.value (get_or ys n f.ZERO)) (same_place i) ∙ v.values i 0 (omega (arith, size)) (omega arith)
             ∙ ap (λ cs. value f.ring cs (point f.ring roots k s i)) (column_of_vector xs),

@@ -29,7 +29,7 @@ pub(crate) fn transform_to_reversed<F: TwoAdicField>(
     products: &mut Products,
 )
     requires rows { HasTwoPowerRows mat.old log_h }
-    requires there { log_h ≤ tables.now }
+    requires in_table { log_h ≤ tables.now }
     ensures same { HasEntriesOf mat.new mat.old }
     ensures values { (r j : ℕ) → r < 2 ^ log_h → j < mat.old.width → (values_of F.Field.own mat.new).entry r j
         ≡ poly F.ring (2 ^ log_h) (λ q. F.ring.mul ((values_of F.Field.own mat.old).entry q j)
@@ -105,7 +105,7 @@ pub(crate) fn interpolate_to_reversed<F: TwoAdicField>(
     products: &mut Products,
 )
     requires rows { HasTwoPowerRows mat.old log_h }
-    requires there { log_h ≤ tables.now }
+    requires in_table { log_h ≤ tables.now }
     requires within { log_h ≤ F.TWO_ADICITY }
     ensures same { HasEntriesOf mat.new mat.old }
     ensures coefficients { AreCoefficients F.ring

@@ -32,8 +32,8 @@ fn told_by_few_rows<F: TwoAdicField, D: TwoAdicSubgroupDft<F>>(
     requires is_code { IsCode F.Field.own F.TWO_ADICITY code.old.code }
     requires points { height one.now ≡ 2 ^ (code.old.code.log_message + code.old.code.added_bits) }
     requires fits { FitsDft F.TWO_ADICITY (height one.now) one.now.width }
-    requires tall { height other.now ≡ height one.now }
-    requires wide { other.now.width ≡ one.now.width }
+    requires height { height other.now ≡ height one.now }
+    requires width { other.now.width ≡ one.now.width }
     ensures code { code.new.code ≡ code.old.code }
     ensures distance { IfOk result (λ told. IsTrue told
         → AgreeInRows (2 ^ code.old.code.log_message) (values_of F.Field.own one.now) (values_of F.Field.own other.now)
@@ -53,8 +53,8 @@ fn lie_apart<F: TwoAdicField, D: TwoAdicSubgroupDft<F>>(
     requires is_code { IsCode F.Field.own F.TWO_ADICITY code.old.code }
     requires points { height one.now ≡ 2 ^ (code.old.code.log_message + code.old.code.added_bits) }
     requires fits { FitsDft F.TWO_ADICITY (height one.now) one.now.width }
-    requires tall { height other.now ≡ height one.now }
-    requires wide { other.now.width ≡ one.now.width }
+    requires height { height other.now ≡ height one.now }
+    requires width { other.now.width ≡ one.now.width }
     ensures code { code.new.code ≡ code.old.code }
     ensures distance { IfOk result (λ told. IsTrue told
         → DifferInRows (2 ^ (code.old.code.log_message + code.old.code.added_bits) - 2 ^ code.old.code.log_message + 1)

@@ -12,7 +12,7 @@ module _ {A : Type 0} (R : Ring A) (g : ℕ → A) where
   pub combination_values : (c d y z : Matrix A) (n : ℕ) (s a b : A) → c.height ≡ d.height → c.width ≡ d.width
       → IsValues R g c n s y → IsValues R g d n s z → IsValues R g (combination R a c b d) n s (combination R a y b z)
   combination_values c d y z n s a b high wide v w =
-      is_values R g (combination R a c b d) n s (combination R a y b z) v.high v.wide
+      is_values R g (combination R a c b d) n s (combination R a y b z) v.height v.width
       (λ i j p q.
       let x = point R g n s i in
       let f = λ (u : ℕ). c.entry u j in
@@ -25,7 +25,7 @@ module _ {A : Type 0} (R : Ring A) (g : ℕ → A) where
   pub chosen_values : (c y : Matrix A) (n : ℕ) (s : A) (place : ℕ → ℕ) (w : ℕ) → ((j : ℕ) → j < w → place j < c.width) → IsValues R g c n s y
       → IsValues R g (chosen place w c) n s (chosen place w y)
   chosen_values c y n s place w inside v =
-      is_values R g (chosen place w c) n s (chosen place w y) v.high refl (λ i j p below. entry-poly R g c n s y v i (place j) p (inside j below))
+      is_values R g (chosen place w c) n s (chosen place w y) v.height refl (λ i j p below. entry-poly R g c n s y v i (place j) p (inside j below))
 
   pub column_values : (c y : Matrix A) (n : ℕ) (s : A) (j : ℕ) → j < c.width → IsValues R g c n s y → IsValues R g (alone j c) n s (alone j y)
   column_values c y n s j inside v = chosen_values c y n s (λ _. j) 1 (λ _ _. inside) v

@@ -40,8 +40,8 @@ module _ {A : Type 0} (R : Ring A) (g : ℕ → A) where
   pub is_values : (c : Matrix A) (n : ℕ) (s : A) (out : Matrix A) → out.height ≡ 2 ^ n → out.width ≡ c.width
       → ((i j : ℕ) → i < 2 ^ n → j < c.width → out.entry i j ≡ poly R c.height (λ q. c.entry q j) (point R g n s i)) → IsValues R g c n s out
   is_values c n s out h w e = record {
-    high = h;
-    wide = w;
+    height = h;
+    width = w;
     values = λ i j p q. e i j p q ∙ sym (value-column R c j (point R g n s i));
   }
 
@@ -54,16 +54,16 @@ module _ {A : Type 0} (R : Ring A) (g : ℕ → A) where
   -- ---- values as a matrix
   pub same_of_values : (c : Matrix A) (n : ℕ) (s : A) (out : Matrix A) → IsValues R g c n s out → Same out (values_on_coset R g c n s)
   same_of_values c n s out v = record {
-    high = v.high;
-    wide = v.wide;
-    alike = λ i j p q. v.values i j (omega (arith, v.high)) (omega (arith, v.wide));
+    height = v.height;
+    width = v.width;
+    alike = λ i j p q. v.values i j (omega (arith, v.height)) (omega (arith, v.width));
   }
 
   pub values_of_same : (c : Matrix A) (n : ℕ) (s : A) (out : Matrix A) → Same out (values_on_coset R g c n s) → IsValues R g c n s out
   values_of_same c n s out e = record {
-    high = e.high;
-    wide = e.wide;
-    values = λ i j p q. e.alike i j (omega (arith, e.high)) (omega (arith, e.wide));
+    height = e.height;
+    width = e.width;
+    values = λ i j p q. e.alike i j (omega (arith, e.height)) (omega (arith, e.width));
   }
 
   -- ---- one matrix of coefficients has one matrix of values
@@ -81,19 +81,19 @@ module _ {A : Type 0} (R : Ring A) (g : ℕ → A) where
       → ((i j : ℕ) → i < 2 ^ n → j < c.width → poly R d.height (λ q. d.entry q j) (point R g n t i) ≡ poly R c.height (λ q. c.entry q j) (point R g n s i))
       → IsValues R g d n t out → IsValues R g c n s out
   values_from c d n s t out w e v =
-      is_values c n s out v.high (v.wide ∙ w) (λ i j p q. entry-poly d n t out v i j p (omega (arith, w)) ∙ e i j p q)
+      is_values c n s out v.height (v.width ∙ w) (λ i j p q. entry-poly d n t out v i j p (omega (arith, w)) ∙ e i j p q)
 
   -- equal coefficients have equal values
   pub coefficients_same : (c d : Matrix A) (n : ℕ) (s : A) (out : Matrix A) → Same c d → IsValues R g c n s out → IsValues R g d n s out
   coefficients_same c d n s out e v =
-      values_from d c n s s out e.wide (λ i j p q. poly_same R c.height (λ u. c.entry u j) (λ u. d.entry u j) (point R g n s i) (λ u l. e.alike u j l (omega (arith, e.wide)))
-      ∙ ap (λ h. poly R h (λ u. d.entry u j) (point R g n s i)) e.high) v
+      values_from d c n s s out e.width (λ i j p q. poly_same R c.height (λ u. c.entry u j) (λ u. d.entry u j) (point R g n s i) (λ u l. e.alike u j l (omega (arith, e.width)))
+      ∙ ap (λ h. poly R h (λ u. d.entry u j) (point R g n s i)) e.height) v
 
   -- the values of the shifted coefficients on a coset of t are the values on the coset of s t
   pub shifted_values : (c d : Matrix A) (n : ℕ) (s t : A) (out : Matrix A) → Same d (coset_shift R s c) → IsValues R g d n t out → IsValues R g c n (s ⊗ t) out
   shifted_values c d n s t out e v =
-      values_from c d n (s ⊗ t) t out e.wide (λ i j p q. ap (λ h. poly R h (λ u. d.entry u j) (point R g n t i)) e.high
-      ∙ poly_same R c.height (λ u. d.entry u j) (λ u. c.entry u j ⊗ power R s u) (point R g n t i) (λ u l. e.alike u j (omega (arith, e.high)) (omega (arith, e.wide)))
+      values_from c d n (s ⊗ t) t out e.width (λ i j p q. ap (λ h. poly R h (λ u. d.entry u j) (point R g n t i)) e.height
+      ∙ poly_same R c.height (λ u. d.entry u j) (λ u. c.entry u j ⊗ power R s u) (point R g n t i) (λ u l. e.alike u j (omega (arith, e.height)) (omega (arith, e.width)))
       ∙ poly-scaled R c.height (λ u. c.entry u j) s (point R g n t i)
       ∙ ap (poly R c.height (λ u. c.entry u j)) (moved n s t i)) v
     where

@@ -167,7 +167,7 @@ module _ {A : Type 0} (R : Ring A) {g : ℕ → A} {bits : ℕ} (G : AreRoots R 
       values_unique R g d n s v w (coefficients_same R g c d n s v same of_c) of_d
     where
       inside : (i : ℕ) → i < c.height → get_or agree.rows i 0 < 2 ^ n
-      inside i below = omega (arith, agree.within i 0 (omega (arith, agree.enough)), of_c.high)
+      inside i below = omega (arith, agree.within i 0 (omega (arith, agree.enough)), of_c.height)
 
       distinct : AreApart R c.height (λ i. point R g n s (get_or agree.rows i 0))
       distinct = record {
@@ -178,13 +178,13 @@ module _ {A : Type 0} (R : Ring A) {g : ℕ → A} {bits : ℕ} (G : AreRoots R 
       here : (j : ℕ) → j < c.width → (i : ℕ) → i < c.height → poly R c.height (λ q. c.entry q j) (point R g n s (get_or agree.rows i 0)) ≡ poly R c.height (λ q. d.entry q j) (point R g n s (get_or agree.rows i 0))
       here j column i below =
           sym (entry-poly R g c n s v of_c (get_or agree.rows i 0) j (inside i below) column)
-          ∙ agree.holds i 0 (omega (arith, agree.enough)) j (omega (arith, of_c.wide))
-          ∙ entry-poly R g d n s w of_d (get_or agree.rows i 0) j (inside i below) (omega (arith, of_c.wide, of_d.wide, wide))
+          ∙ agree.holds i 0 (omega (arith, agree.enough)) j (omega (arith, of_c.width))
+          ∙ entry-poly R g d n s w of_d (get_or agree.rows i 0) j (inside i below) (omega (arith, of_c.width, of_d.width, wide))
           ∙ ap (λ h. poly R h (λ q. d.entry q j) (point R g n s (get_or agree.rows i 0))) (sym tall)
 
       same : Same c d
       same = record {
-        high = tall;
-        wide = sym of_c.wide ∙ wide ∙ of_d.wide;
+        height = tall;
+        width = sym of_c.width ∙ wide ∙ of_d.width;
         alike = λ i j below column. one_polynomial R c.height (λ q. c.entry q j) (λ q. d.entry q j) (λ q. point R g n s (get_or agree.rows q 0)) distinct (here j column) i below;
       }

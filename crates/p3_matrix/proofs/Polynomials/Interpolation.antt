@@ -185,8 +185,8 @@ module _ {A : Type 0} (R : Ring A) {g : ℕ → A} {bits : ℕ} (G : AreRoots R 
   pub there_is_one : (m : Matrix A) (k : ℕ) (s t : A) → k ≤ bits → m.height ≡ 2 ^ k → IsInverse R s t → AreCoefficients R g m k s (interpolated k t m)
   unfolding interpolated
   there_is_one m k s t b h e = record {
-    high = refl;
-    wide = refl;
+    height = refl;
+    width = refl;
     values = is_values R g _ k s m h refl
         (λ i j p q. sym (ap (λ n. poly R n (coefficients R (inverse_root R g) k t (λ r. m.entry r j)) (point R g k s i)) h
         ∙ sym (values_at_is R g k s _ i)
@@ -196,23 +196,23 @@ module _ {A : Type 0} (R : Ring A) {g : ℕ → A} {bits : ℕ} (G : AreRoots R 
   -- there are no others
   pub there_is_no_other : (m : Matrix A) (k : ℕ) (s : A) → k ≤ bits → IsInvertible R s → (c d : Matrix A) → AreCoefficients R g m k s c → AreCoefficients R g m k s d → Same c d
   there_is_no_other m k s b inverse c d p q = record {
-    high = p.high ∙ sym q.high;
-    wide = p.wide ∙ sym q.wide;
+    height = p.height ∙ sym q.height;
+    width = p.width ∙ sym q.width;
     alike = λ i j u v. only_one R G (inverse_roots R G) (inverse_undoes R G) k s inverse.0 inverse.1 (λ x. c.entry x j) (λ x. d.entry x j) b
-        (λ y w. column_value c p y j w v ∙ sym (column_value d q y j w (omega (arith, p.wide, q.wide)))) i (omega (arith, p.high, p.values.high));
+        (λ y w. column_value c p y j w v ∙ sym (column_value d q y j w (omega (arith, p.width, q.width)))) i (omega (arith, p.height, p.values.height));
   }
     where
       column_value : (c : Matrix A) → AreCoefficients R g m k s c → (y j : ℕ) → y < 2 ^ k → j < c.width → values_at R g k s (λ x. c.entry x j) y ≡ m.entry y j
       column_value c p y j w v =
-          values_at_is R g k s (λ x. c.entry x j) y ∙ ap (λ n. poly R n (λ x. c.entry x j) (point R g k s y)) (sym (p.high ∙ p.values.high)) ∙ sym (entry-poly R g c k s m p.values y j w v)
+          values_at_is R g k s (λ x. c.entry x j) y ∙ ap (λ n. poly R n (λ x. c.entry x j) (point R g k s y)) (sym (p.height ∙ p.values.height)) ∙ sym (entry-poly R g c k s m p.values y j w v)
 
   -- ---- inverse transforms
   -- a transform at the inverse roots gives the coefficients, doubled k times
   pub inverse_transform : (m c : Matrix A) (k : ℕ) → k ≤ bits → m.height ≡ 2 ^ k → c.height ≡ m.height → c.width ≡ m.width
       → ((i j : ℕ) → i < 2 ^ k → j < m.width → power R (two R) k ⊗ c.entry i j ≡ transform R (inverse_root R g) k (λ q. m.entry q j) i) → AreCoefficients R g m k 𝟙 c
   inverse_transform m c k b h high wide e = record {
-    high = high;
-    wide = wide;
+    height = high;
+    width = wide;
     values = is_values R g c k 𝟙 m h (sym wide)
         (λ i j p q. let f = λ (r : ℕ). m.entry r j in
         sym (ap (λ n. poly R n (λ r. c.entry r j) (point R g k 𝟙 i)) (high ∙ h)
@@ -249,20 +249,20 @@ module _ {A : Type 0} (R : Ring A) {g : ℕ → A} {bits : ℕ} (G : AreRoots R 
   -- coefficients on the subgroup, row i times the i-th power of the inverse of s, are coefficients on the coset of s
   pub coset_coefficients : (m c d : Matrix A) (k : ℕ) (s t : A) → IsInverse R s t → AreCoefficients R g m k 𝟙 c → Same d (coset_shift R t c) → AreCoefficients R g m k s d
   coset_coefficients m c d k s t inverse a e = record {
-    high = e.high ∙ a.high;
-    wide = e.wide ∙ a.wide;
-    values = coset_values R g d c k s m (record { high = sym e.high; wide = sym e.wide; alike = λ i j p q. sym (back i j p q) }) a.values;
+    height = e.height ∙ a.height;
+    width = e.width ∙ a.width;
+    values = coset_values R g d c k s m (record { height = sym e.height; width = sym e.width; alike = λ i j p q. sym (back i j p q) }) a.values;
   }
     where
       back : (i j : ℕ) → i < c.height → j < c.width → d.entry i j ⊗ power R s i ≡ c.entry i j
       back i j p q =
-          ap (λ x. x ⊗ power R s i) (e.alike i j (omega (arith, e.high)) (omega (arith, e.wide))) ∙ R.mul_assoc (c.entry i j) (power R t i) (power R s i)
+          ap (λ x. x ⊗ power R s i) (e.alike i j (omega (arith, e.height)) (omega (arith, e.width))) ∙ R.mul_assoc (c.entry i j) (power R t i) (power R s i)
           ∙ ap (λ x. c.entry i j ⊗ x) (R.mul_comm (power R t i) (power R s i) ∙ power-inverse R s t i inverse) ∙ R.mul_one (c.entry i j)
 
   -- coefficients of one matrix are those of each that is the same
   pub coefficients_of_same : (m other : Matrix A) (k : ℕ) (s : A) (c : Matrix A) → Same m other → AreCoefficients R g m k s c → AreCoefficients R g other k s c
-  coefficients_of_same m other k s c e a = record { high = a.high ∙ e.high; wide = a.wide ∙ e.wide; values = values_same R g c k s m other a.values e }
+  coefficients_of_same m other k s c e a = record { height = a.height ∙ e.height; width = a.width ∙ e.width; values = values_same R g c k s m other a.values e }
 
   -- and what is the same as the coefficients are the coefficients
   pub same_coefficients : (m : Matrix A) (k : ℕ) (s : A) (c d : Matrix A) → Same c d → AreCoefficients R g m k s c → AreCoefficients R g m k s d
-  same_coefficients m k s c d e a = record { high = sym e.high ∙ a.high; wide = sym e.wide ∙ a.wide; values = coefficients_same R g c d k s m e a.values }
+  same_coefficients m k s c d e a = record { height = sym e.height ∙ a.height; width = sym e.width ∙ a.width; values = coefficients_same R g c d k s m e a.values }

@@ -15,8 +15,8 @@ use Rattle.p3_matrix.proofs.Polynomials.Interpolation.{inverse_transform, transf
 -- a single row is where it was
 pub reversed_row : {A : Type 0} (k : ℕ) (m : Matrix A) → m.height ≡ 1 → Same m (bit_reversal k m)
 reversed_row k m one = record {
-  high = refl;
-  wide = refl;
+  height = refl;
+  width = refl;
   alike = λ i j below inside. let first : i ≡ 0 = omega (arith, below, one) in ap (λ r. m.entry r j) (first ∙ sym (ap (rev k) first ∙ rev_of_zero k));
 }
 
@@ -26,7 +26,7 @@ module _ {A : Type 0} (R : Ring A) {g : ℕ → A} {bits : ℕ} (G : AreRoots R 
       → ((i j : ℕ) → i < 2 ^ k → j < m.width → out.entry i j ≡ poly R (2 ^ k) (λ q. m.entry q j) (power R (inverse_root R g k) (rev k i)))
       → IsQuotient R (2 ^ k) (bit_reversal k out) c → AreCoefficients R g m k R.one c
   coefficients_of_reversed m out c k within high tall wide entries quotient =
-      inverse_transform R G m c k within high (quotient.high ∙ tall) (quotient.wide ∙ wide)
+      inverse_transform R G m c k within high (quotient.height ∙ tall) (quotient.width ∙ wide)
       (λ i j below inside.
       let f = λ (q : ℕ). m.entry q j in
       ap (λ x. R.mul x (c.entry i j)) (sym (count-power_of_two R k)) ∙ quotient.entries i j (omega (arith, tall, high)) (omega (arith, wide))
@@ -53,8 +53,8 @@ module _ {A : Type 0} (R : Ring A) {g : ℕ → A} {bits : ℕ} (G : AreRoots R 
       let sums : Matrix A = record { height = m.height; width = m.width; entry = λ i j. poly R (2 ^ k) (λ q. m.entry q j) (power R (inverse_root R g k) (rev k i)) } in
       coefficients_of_reversed m sums (bit_reversal k out) k within high refl refl (λ i j below inside. refl)
       (record {
-        high = tall;
-        wide = wide;
+        height = tall;
+        width = wide;
         entries = λ i j below inside.
             let x = power R (inverse_root R g k) (rev k (rev k i)) in
             let f = λ (q : ℕ). m.entry q j in

@@ -59,7 +59,7 @@ module _ {T : Type 0} (z : T) (N h : ℕ) where
   spread_exchanged n x now next j two some inside tall column same done =
       let far_off = room n N two in
       let in_all = rise n h N inside two in
-      let at : (r : ℕ) → r < h * N → next.entry r j ≡ (row_exchange n (n * N) now).entry r j = λ r less. same.alike r j (omega (arith, same.high)) (omega (arith, same.wide)) in
+      let at : (r : ℕ) → r < h * N → next.entry r j ≡ (row_exchange n (n * N) now).entry r j = λ r less. same.alike r j (omega (arith, same.height)) (omega (arith, same.width)) in
       spread_more n x (λ i. now.entry i j) (λ i. next.entry i j) two some inside done
       (at n (omega arith) ∙ rw (eq-eqb n n refl) refl)
       (at (n * N) in_all ∙ rw (ne_eqb (n * N) n (λ e. omega arith), eq-eqb (n * N) (n * N) refl) refl)

@@ -22,7 +22,7 @@ module _ {T : Type 0} (d : T) where
       (λ r a b. others r (λ e. a (e ∙ is)) (λ e. b (e ∙ ap (λ q. n - q) is))))
     where
       at : (r : ℕ) → r < n → (matrix d next).entry r j ≡ (row_exchange row (n - row) (matrix d now)).entry r j
-      at r below = same.alike r j (omega (arith, same.high, tall)) (omega (arith, same.wide, inside))
+      at r below = same.alike r j (omega (arith, same.height, tall)) (omega (arith, same.width, inside))
 
       near : (matrix d next).entry row j ≡ (matrix d now).entry (n - row) j
       near = at row (omega arith) ∙ rw (eq-eqb row row refl) refl
@@ -45,8 +45,8 @@ module _ {T : Type 0} (d : T) where
       → ((j : ℕ) → j < before.width → OppositeUntil n m (λ i. (matrix d before).entry i j) (λ i. (matrix d after).entry i j))
       → Same (matrix d after) (opposite_rows (matrix d before))
   opposed_all before after n m tall shape low high done = record {
-    high = shape.0;
-    wide = shape.1;
+    height = shape.0;
+    width = shape.1;
     alike = λ i j below inside.
         opposite_all n m _ _ low high (done j (omega (arith, shape.1))) i (omega (arith, shape.0, tall))
         ∙ ap (λ k. (matrix d before).entry ((k - i) % k) j) (sym tall);

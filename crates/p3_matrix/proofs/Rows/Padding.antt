@@ -29,12 +29,12 @@ module _ {T : Type 0} (z : T) (m : RowMajor T) (whole : IsRowMajor m) (a : ℕ) 
       ∙ sym (mul_assoc (height m) (2 ^ a) m.width)
 
   pub padded_high : height (with_zeros z m a) ≡ height m * 2 ^ a
-  padded_high = (whole_rows (length (with_zeros z m a).values) (height m * 2 ^ a) m.width whole.wide by_rows).0
+  padded_high = (whole_rows (length (with_zeros z m a).values) (height m * 2 ^ a) m.width whole.width by_rows).0
 
   pub padded_whole : IsRowMajor (with_zeros z m a)
   padded_whole = record {
-    wide = whole.wide;
-    full = (whole_rows (length (with_zeros z m a).values) (height m * 2 ^ a) m.width whole.wide by_rows).1;
+    width = whole.width;
+    full = (whole_rows (length (with_zeros z m a).values) (height m * 2 ^ a) m.width whole.width by_rows).1;
   }
 
   pub padded_above : (i j : ℕ) → i < height m → j < m.width → get_or (with_zeros z m a).values (i * m.width + j) z ≡ get_or m.values (i * m.width + j) z

@@ -35,7 +35,7 @@ module _ {F : Type 0} (f : FieldMembers F) (m : RowMajor F) (start : ℕ) (whole
       let p = start * w + n in
       let here : n < rest = omega (arith, below, long) in
       let there : p < length m.values = omega (arith, here) in
-      let some : 0 < w = omega (arith, whole.wide) in
+      let some : 0 < w = omega (arith, whole.width) in
       ap f.value (part_at m.values (start * w) rest n d here ∙ get_or_default m.values p d f.ZERO there)
       ∙ ap (λ q. f.value (get_or m.values q f.ZERO)) (sym (div-add-mod' p w))
       ∙ zeros (p / w) (p % w) (le-div start p w some (omega arith)) (div_below p w (height m) some (omega (arith, there, whole.full))) (mod_below p w some)

@@ -195,7 +195,7 @@ fn by_packs<F: CanonicalField, P: PackedField<Scalar = F>, B: Butterfly<F>>(
     step_2: usize,
     full: usize,
 ) -> (Vec<F>, Vec<F>)
-    requires wide { 1 ≤ P.WIDTH }
+    requires width { 1 ≤ P.WIDTH }
     requires whole { (k : ℕ) × full ≡ k * P.WIDTH }
 {
     let (mut row_1, mut row_2) = rows_of(rt, alloc, full, step_2);

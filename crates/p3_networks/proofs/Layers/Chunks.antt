@@ -76,7 +76,7 @@ pub record ChunkSizes (top e number half blocks : ℕ) : Type 0 where
   pub digits : top < 64
   pub half_is : half ≡ 2 ^ e
   pub blocks_is : blocks ≡ 2 ^ (top - 1 - e)
-  pub some : 1 ≤ half
+  pub nonzero : 1 ≤ half
   pub some_blocks : 1 ≤ blocks
   pub numbers : number * blocks + blocks ≡ (number + 1) * 2 ^ (top - 1 - e)
   pub room : number * blocks + blocks < 2 ^ 64
@@ -99,7 +99,7 @@ chunk_sizes top e number below small =
       digits = digits;
       half_is = half;
       blocks_is = blocks;
-      some = omega (arith, half, pow_pos e);
+      nonzero = omega (arith, half, pow_pos e);
       some_blocks = omega (arith, blocks, pow_pos (top - 1 - e));
       numbers = ap (λ n. number * n + n) blocks ∙ spread;
       room = let is = ap (λ n. number * n + n) blocks ∙ spread in omega (arith, is, fewer, small);

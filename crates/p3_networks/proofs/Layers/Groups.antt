@@ -52,7 +52,7 @@ piece_sizes from to e number w first last small =
 pub record PartSizes (from to number w part : ℕ) : Type 0 where
   pub digits : from < 64
   pub part_is : part ≡ 2 ^ from * w
-  pub some : 1 ≤ w → 1 ≤ part
+  pub nonzero : 1 ≤ w → 1 ≤ part
   pub within : 2 ^ from * w ≤ 2 ^ to * w
   pub rows : 2 ^ to * w ≡ 2 ^ (to - from) * (2 ^ from * w)
 
@@ -66,7 +66,7 @@ part_sizes from to number w order small =
     record {
       digits = below;
       part_is = ap (λ n. n * w) (one_shl from 64 below);
-      some = λ wide. let one : 1 * 1 ≤ 2 ^ from * w = mul-le-mul (pow_pos from) wide in omega (arith, one, ap (λ n. n * w) (one_shl from 64 below));
+      nonzero = λ wide. let one : 1 * 1 ≤ 2 ^ from * w = mul-le-mul (pow_pos from) wide in omega (arith, one, ap (λ n. n * w) (one_shl from 64 below));
       within = mul-le-mul_right w (pow-le-pow_right {n = 2} (lit≤ tt) order);
       rows = ap (λ n. n * w) (sym joined) ∙ omega arith;
     }

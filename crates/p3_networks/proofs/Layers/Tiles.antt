@@ -13,7 +13,7 @@ use Rattle.p3_networks.proofs.Layers.Shifts.{one_shifted}
 -- the sizes of tiles of 2 ^ r of the 2 ^ k rows, as a program has them
 pub record TileSizes (k r w tiles size len : ℕ) : Type 0 where
   pub tiles_is : tiles ≡ 2 ^ (k - r)
-  pub some : 1 ≤ tiles
+  pub nonzero : 1 ≤ tiles
   pub size_is : size ≡ 2 ^ r * w
   pub whole : len ≡ tiles * size
   pub rows : tiles * 2 ^ r ≡ 2 ^ k
@@ -26,7 +26,7 @@ shifted_sizes n k r w len small all full =
     let rows : tiles * 2 ^ r ≡ 2 ^ k = ap (λ n. n * 2 ^ r) is ∙ sym (pow-add 2 n r) ∙ ap (λ n. 2 ^ n) all in
     let whole : len ≡ tiles * (2 ^ r * w) = full ∙ ap (λ n. n * w) (sym rows) ∙ omega arith in
     let size = block_size len tiles (2 ^ r * w) some whole in
-    record { tiles_is = is ∙ ap (λ n. 2 ^ n) (omega (arith, all)); some = some; size_is = size; whole = whole ∙ ap (λ n. tiles * n) (sym size); rows = rows }
+    record { tiles_is = is ∙ ap (λ n. 2 ^ n) (omega (arith, all)); nonzero = some; size_is = size; whole = whole ∙ ap (λ n. tiles * n) (sym size); rows = rows }
 
 pub tile_sizes : (k r w len : ℕ) → k < 64 → r ≤ k → len ≡ 2 ^ k * w
     → TileSizes k r w (one_shifted (k - r)) (len / (one_shifted (k - r))) len
@@ -64,7 +64,7 @@ pub record SpreadSizes (r a copies count : ℕ) : Type 0 where
   pub copies_is : copies ≡ 2 ^ a
   pub count_is : count ≡ 2 ^ (r - a)
   pub some_copies : 1 ≤ copies
-  pub some : 1 ≤ count
+  pub nonzero : 1 ≤ count
   pub rows : count * copies ≡ 2 ^ r
 
 pub spread_sizes : (r a : ℕ) → r < 64 → a ≤ r → SpreadSizes r a (one_shifted a) (one_shifted (r - a))
@@ -76,7 +76,7 @@ spread_sizes r a small added =
       copies_is = copies;
       count_is = count;
       some_copies = omega (arith, copies, pow_pos a);
-      some = omega (arith, count, pow_pos (r - a));
+      nonzero = omega (arith, count, pow_pos (r - a));
       rows = ap₂ (λ m n. m * n) count copies ∙ sym (pow-add 2 (r - a) a) ∙ ap (λ n. 2 ^ n) part;
     }
 

@@ -25,7 +25,7 @@ halves_whole k = omega arith
 
 -- the rows of both
 pub both_rows : (k w n len : ℕ) → AreRows k w n → len ≡ n → AreRows (mid_of k + (k - mid_of k)) w len
-both_rows k w n len rows same = record { wide = rows.wide; small = omega (arith, rows.small); size = same ∙ rows.size ∙ ap (λ n. 2 ^ n * w) (sym (halves_whole k)) }
+both_rows k w n len rows same = record { width = rows.width; fits_u64 = omega (arith, rows.fits_u64); size = same ∙ rows.size ∙ ap (λ n. 2 ^ n * w) (sym (halves_whole k)) }
 
 -- what both halves count
 pub both_counted : (k w before middle after : ℕ) → RisesAtMost (2 ^ (k - mid_of k) * (w * (mid_of k * 2 ^ mid_of k / 2))) before middle

@@ -113,10 +113,10 @@ module _ {A T : Type 0} (value : T → A) (d : T) (b w : ℕ) (some : 1 ≤ b) (
       record {
         multiple = ap (λ n. n % b) spread ∙ mul-mod_left (f + q) b;
         within = omega (arith, room, some, next);
-        whole = record { wide = wide; full = ap (λ n. n * w) tall ∙ sym size };
+        whole = record { width = wide; full = ap (λ n. n * w) tall ∙ sym size };
         rows = record {
-          high = tall;
-          wide = sym same_width;
+          height = tall;
+          width = sym same_width;
           alike = λ i j in_rows in_row.
               let low : i < b = omega (arith, in_rows, tall) in
               let below : i * w + j < b * w = omega (arith, mul-add-lt i w j b low in_row) in

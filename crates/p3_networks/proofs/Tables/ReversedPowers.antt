@@ -64,12 +64,12 @@ module _ {A : Type 0} (R : Ring A) where
       → ((b : ℕ) → b < 2 ^ k → weights b ≡ scale ⊗ power R shift (rev k b))
       → Same (bit_reversal k out) (image (λ x. x ⊗ scale) (coset_shift R shift (bit_reversal k m)))
   weighed_rows k scale shift m out weights high same are = record {
-    high = same.high;
-    wide = same.wide;
+    height = same.height;
+    width = same.width;
     alike = λ i j below inside.
-        let small : i < 2 ^ k = omega (arith, same.high, high) in
+        let small : i < 2 ^ k = omega (arith, same.height, high) in
         let x = m.entry (rev k i) j in
-        same.alike (rev k i) j (omega (arith, rev-lt k i, same.high, high)) inside
+        same.alike (rev k i) j (omega (arith, rev-lt k i, same.height, high)) inside
         ∙ ap (λ w. x ⊗ w) (are (rev k i) (rev-lt k i) ∙ ap (λ e. scale ⊗ power R shift e) (rev-rev k i small))
         ∙ solve R (x ∷ scale ∷ power R shift i ∷ []) (va ⊠ (vb ⊠ vc)) ((va ⊠ vc) ⊠ vb) refl;
   }

@@ -43,7 +43,7 @@ impl<F: TwoAdicField> CosetTable<F> {
     // That of the coset of `shift` of order `2^log_h`.
     fn new(alloc: Global, log_h: usize, shift: F) -> Result<Self, DftError>
         requires within { log_h ≤ F.TWO_ADICITY }
-        requires small { log_h < 64 }
+        requires fits_u64 { log_h < 64 }
         ensures made { IfOk result (λ t. t ≡ record { log_h = log_h; shift = shift }) }
         ensures room { IfErr result (IsWithin (2 ^ log_h - 1)) }
     {
@@ -75,7 +75,7 @@ impl<F: TwoAdicField> CosetTable<F> {
 // The twiddles of the coset of `shift` of order `2^log_h`, layer after layer.
 fn coset_layers<F: TwoAdicField>(alloc: Global, log_h: usize, shift: F) -> Result<Vec<F>, DftError>
     requires within { log_h ≤ F.TWO_ADICITY }
-    requires small { log_h < 64 }
+    requires fits_u64 { log_h < 64 }
     ensures size { IfOk result (λ v. length v.items ≡ 2 ^ log_h - 1) }
     ensures table { IfOk result (λ v. IsCosetTable F.Field.own F.generator (F.value shift) log_h v.items) }
     ensures room { IfErr result (IsWithin (2 ^ log_h - 1)) }
@@ -99,7 +99,7 @@ pub(crate) fn slot_shift<F: TwoAdicField>(
     slot: usize,
 ) -> F
     requires within { log_h + added_bits ≤ F.TWO_ADICITY }
-    requires small { log_h + added_bits < 64 }
+    requires fits_u64 { log_h + added_bits < 64 }
     ensures { F.value result
         ≡ point F.ring (forward_root F.Field.own F.generator) (log_h + added_bits) (F.value shift)
         (rev added_bits slot) }
@@ -164,7 +164,7 @@ impl<F: TwoAdicField> CosetTables<F> {
     // The place of the table of a coset, if it lies in a place from `start` on that is below `end`.
     fn find_within(&self, log_h: usize, shift: F, start: usize, end: usize) -> Option<usize>
         requires { end ≤ length self.now }
-        ensures some { IfSome result (IsCosetAt F.Field.own self.now log_h (F.value shift)) }
+        ensures found { IfSome result (IsCosetAt F.Field.own self.now log_h (F.value shift)) }
         ensures none { IsNone result → (i : ℕ) → start ≤ i → i < end
             → ¬ (IsCosetAt F.Field.own self.now log_h (F.value shift) i) }
     {
@@ -180,7 +180,7 @@ impl<F: TwoAdicField> CosetTables<F> {
     // goes round: tables that were made together lie one after another, and so they are asked for.
     fn find(&self, log_h: usize, shift: F, start: usize, end: usize) -> Option<usize>
         requires { end ≤ length self.now }
-        ensures some { IfSome result (IsCosetAt F.Field.own self.now log_h (F.value shift)) }
+        ensures found { IfSome result (IsCosetAt F.Field.own self.now log_h (F.value shift)) }
         ensures none { IsNone result → (i : ℕ) → i < end → ¬ (IsCosetAt F.Field.own self.now log_h (F.value shift) i) }
     {
         if let Some(place) = self.find_within(log_h, shift, start, end) {
@@ -193,7 +193,7 @@ impl<F: TwoAdicField> CosetTables<F> {
     /// logarithm is at most `TWO_ADICITY` and below 64. Where memory is refused, what is there stays.
     pub fn make(&mut self, alloc: Global, log_h: usize, shift: F) -> Result<usize, DftError>
         requires within { log_h ≤ F.TWO_ADICITY }
-        requires small { log_h < 64 }
+        requires fits_u64 { log_h < 64 }
         ensures made { IfOk result (IsCosetAt F.Field.own self.new log_h (F.value shift)) }
         ensures ready { HasCoset F.Field.own self.old log_h (F.value shift) → IsOk result }
         ensures once { HasCoset F.Field.own self.old log_h (F.value shift) → self.new ≡ self.old }
@@ -216,7 +216,7 @@ impl<F: TwoAdicField> CosetTables<F> {
         end: usize,
     ) -> Result<usize, DftError>
         requires within { log_h ≤ F.TWO_ADICITY }
-        requires small { log_h < 64 }
+        requires fits_u64 { log_h < 64 }
         requires end { end ≤ length self.old }
         requires others { (i : ℕ) → end ≤ i → ¬ (IsCosetAt F.Field.own self.old log_h (F.value shift) i) }
         ensures made { IfOk result (IsCosetAt F.Field.own self.new log_h (F.value shift)) }
@@ -258,7 +258,7 @@ impl<F: TwoAdicField> CosetTables<F> {
         shift: F,
     ) -> Result<(), DftError>
         requires within { log_h + added_bits ≤ F.TWO_ADICITY }
-        requires small { log_h + added_bits < 64 }
+        requires fits_u64 { log_h + added_bits < 64 }
         ensures made { OnOk result (HasCosets F.Field.own F.generator self.new log_h added_bits (F.value shift)) }
         ensures ready { HasCosets F.Field.own F.generator self.old log_h added_bits (F.value shift) → IsOk result }
         ensures once { HasCosets F.Field.own F.generator self.old log_h added_bits (F.value shift)

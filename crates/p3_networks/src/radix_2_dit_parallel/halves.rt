@@ -30,7 +30,7 @@ pub struct BlockTwiddles<'a, F> {
 impl<'a, F: TwoAdicField> BlockTwiddles<'a, F> {
     // Those of layer l.
     fn of_layer(self, l: usize) -> &'a [F]
-        requires small { l < 63 }
+        requires fits_u64 { l < 63 }
         requires inside { block_end self.by_layer l ≤ length self.twiddles.now }
         ensures { result.now ≡ block_entries self.entry.by_layer l self.entry.twiddles.now }
     {
@@ -327,7 +327,7 @@ pub(crate) fn high_network<F: TwoAdicField>(
     chunk: usize,
     products: &mut Products,
 )
-    requires some { 1 ≤ left }
+    requires nonzero { 1 ≤ left }
     requires chunk { IsHighChunk mid left width chunk table.by_layer table.twiddles.now (length values.old) }
     ensures values { IsHighNetwork F.Field.own mid left width chunk table.entry.by_layer table.entry.twiddles.now
         (λ q j. F.ring.mul (F.value (get_or values.old (q * width + j) F.ZERO)) (factor F.Field.own scale)) values.new }
@@ -364,8 +364,8 @@ fn layer_by_place<F: TwoAdicField>(
     blocks: usize,
     products: &mut Products,
 )
-    requires wide { 1 ≤ width }
-    requires some { 1 ≤ half }
+    requires width { 1 ≤ width }
+    requires nonzero { 1 ≤ half }
     requires blocks { 1 ≤ blocks }
     requires size { length values.old ≡ blocks * (2 * (half * width)) }
     requires table { half ≤ length twiddles.now }
@@ -430,8 +430,8 @@ fn layer_by_block<F: TwoAdicField>(
     blocks: usize,
     products: &mut Products,
 )
-    requires wide { 1 ≤ width }
-    requires some { 1 ≤ half }
+    requires width { 1 ≤ width }
+    requires nonzero { 1 ≤ half }
     requires blocks { 1 ≤ blocks }
     requires size { length values.old ≡ blocks * (2 * (half * width)) }
     requires table { first_block + blocks ≤ length twiddles.now }
@@ -469,8 +469,8 @@ fn scaled_layer<F: TwoAdicField>(
     block: usize,
     products: &mut Products,
 )
-    requires wide { 1 ≤ width }
-    requires some { 1 ≤ half }
+    requires width { 1 ≤ width }
+    requires nonzero { 1 ≤ half }
     requires size { length values.old ≡ 1 * (2 * (half * width)) }
     requires table { block + 1 ≤ length twiddles.now }
     ensures cells { IsLayer 1 (half * width)

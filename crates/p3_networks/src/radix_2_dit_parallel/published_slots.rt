@@ -38,9 +38,9 @@ pub fn extend_slots<F: TwoAdicField, C: BlockConsumer<F>>(
     consumer: &mut C,
     products: &mut Products,
 ) -> Result<(), C::Refusal>
-    requires wide { 1 ≤ width }
+    requires width { 1 ≤ width }
     requires within { log_h + added_bits ≤ F.TWO_ADICITY }
-    requires small { log_h + added_bits < 64 }
+    requires fits_u64 { log_h + added_bits < 64 }
     requires size { length values.old ≡ 2 ^ (log_h + added_bits) * width }
     requires tables { HasCosets F.Field.own F.generator cosets.now log_h added_bits (F.value shift) }
     ensures values { OnOk result ((r j : ℕ) → r < 2 ^ (log_h + added_bits) → j < width
@@ -96,8 +96,8 @@ fn place_of_slot<F: TwoAdicField>(
     start: usize,
 ) -> usize
     requires within { log_h + added_bits ≤ F.TWO_ADICITY }
-    requires small { log_h + added_bits < 64 }
-    requires there { HasCoset F.Field.own cosets.now log_h
+    requires fits_u64 { log_h + added_bits < 64 }
+    requires in_table { HasCoset F.Field.own cosets.now log_h
         (point F.ring (forward_root F.Field.own F.generator) (log_h + added_bits) (F.value shift)
         (rev added_bits slot)) }
     ensures { IsCosetAt F.Field.own cosets.now log_h

@@ -67,7 +67,7 @@ impl<F: TwoAdicField> Tables<F> {
     /// is at most `TWO_ADICITY` and below 64. Where memory is refused, what is there stays.
     pub fn make(&mut self, alloc: Global, log_h: usize) -> Result<(), DftError>
         requires within { log_h ≤ F.TWO_ADICITY }
-        requires small { log_h < 64 }
+        requires fits_u64 { log_h < 64 }
         ensures made { OnOk result (log_h ≤ self.new) }
         ensures ready { log_h ≤ self.old → IsOk result }
         ensures keeps { self.old ≤ self.new }

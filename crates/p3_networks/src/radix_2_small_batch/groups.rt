@@ -29,7 +29,7 @@ const PARTS: usize = 1 << LAYERS_PER_GROUP;
 /// not below the rows that fit into it, or the height if that is less. `tile` is at most `MAX_TILE`, and
 /// `width` at least one.
 pub fn log_tile_rows(tile: usize, width: usize, log_h: usize) -> usize
-    requires wide { 1 ≤ width }
+    requires width { 1 ≤ width }
     requires tile { tile ≤ MAX_TILE }
     ensures inside { result ≤ log_h }
     ensures enough { result < log_h → tile / width ≤ 2 ^ result }
@@ -43,7 +43,7 @@ pub fn log_tile_rows(tile: usize, width: usize, log_h: usize) -> usize
 /// as a tile has: at least one. Quarters and halves have pieces of the same size. `tile` is at most `MAX_TILE`.
 pub fn piece_size(tile: usize) -> usize
     requires tile { tile ≤ MAX_TILE }
-    ensures some { 1 ≤ result }
+    ensures nonzero { 1 ≤ result }
     ensures enough { tile ≤ PARTS * result }
     ensures most { 2 ≤ result → PARTS * result < 2 * tile }
 {
@@ -109,7 +109,7 @@ pub fn groups(layers: usize) -> usize
 /// which is at most `log_h`. `g` is below 64.
 pub fn group_end(log_rows: usize, log_h: usize, g: usize) -> usize
     requires below { log_rows ≤ log_h }
-    requires small { g < 64 }
+    requires fits_u64 { g < 64 }
     ensures { result ≡ group_end log_rows log_h g }
 {
     log_rows + (log_h - log_rows).saturating_sub(LAYERS_PER_GROUP * g)
@@ -127,12 +127,12 @@ pub(crate) fn layers_in_groups<F: TwoAdicField, R: Rule<F>>(
     piece: usize,
     products: &mut Products,
 )
-    requires wide { 1 ≤ width }
+    requires width { 1 ≤ width }
     requires below { log_rows ≤ log_h }
-    requires small { log_h < 64 }
+    requires fits_u64 { log_h < 64 }
     requires piece { 1 ≤ piece }
     requires size { length values.old ≡ 2 ^ log_h * width }
-    requires there { (b : ℕ) → 2 * b < 2 ^ log_h → R.has rule b 0 }
+    requires in_table { (b : ℕ) → 2 * b < 2 ^ log_h → R.has rule b 0 }
     ensures cells { (cells : ℕ → ℕ → F.Element)
         → AreLayersInOrder order log_h width (λ b. R.near F.Element F.ring F.value rule b 0)
         (λ b. R.far F.Element F.ring F.value rule b 0) cells
@@ -176,13 +176,13 @@ fn group_on_chunks<F: TwoAdicField, R: Rule<F>>(
     log_h: usize,
     products: &mut Products,
 )
-    requires wide { 1 ≤ layers.width }
+    requires width { 1 ≤ layers.width }
     requires order { layers.from ≤ layers.to }
     requires below { layers.to ≤ log_h }
-    requires small { log_h < 64 }
+    requires fits_u64 { log_h < 64 }
     requires piece { 1 ≤ layers.piece }
     requires size { length values.old ≡ 2 ^ log_h * layers.width }
-    requires there { (b : ℕ) → 2 * b < 2 ^ log_h → R.has layers.rule b 0 }
+    requires in_table { (b : ℕ) → 2 * b < 2 ^ log_h → R.has layers.rule b 0 }
     ensures cells { let it = layers in
         (cells : ℕ → ℕ → F.Element)
         → AreLayersInOrder it.order log_h it.width (λ b. R.near F.Element F.ring F.value it.rule b 0)
@@ -234,11 +234,11 @@ impl<R> GroupLayers<R> {
     where
         R: Rule<F>,
         requires order { self.now.from ≤ self.now.to }
-        requires small { (number + 1) * 2 ^ self.now.to < 2 ^ 64 }
+        requires fits_u64 { (number + 1) * 2 ^ self.now.to < 2 ^ 64 }
         requires size { length chunk.old ≡ 2 ^ self.now.to * self.now.width }
-        requires some { at ≤ end }
+        requires ordered { at ≤ end }
         requires inside { end ≤ 2 ^ self.now.from * self.now.width }
-        requires there { (b : ℕ) → 2 * b < (number + 1) * 2 ^ self.now.to → R.has self.now.rule b 0 }
+        requires in_table { (b : ℕ) → 2 * b < (number + 1) * 2 ^ self.now.to → R.has self.now.rule b 0 }
         ensures cells { let it = self.now in
             let part = 2 ^ it.from * it.width in
             let rows = 2 ^ (it.to - it.from) in
@@ -292,12 +292,12 @@ fn layer_of_columns<F: TwoAdicField, R: Rule<F>>(
     blocks: usize,
     products: &mut Products,
 )
-    requires some { meet.at ≤ meet.end }
+    requires ordered { meet.at ≤ meet.end }
     requires inside { meet.end ≤ meet.part }
     requires blocks { 1 ≤ blocks }
     requires numbers { meet.first_block + blocks < 2 ^ 64 }
     requires size { length values.old ≡ blocks * (2 * (meet.half * meet.part)) }
-    requires there { (b : ℕ) → b < blocks → R.has meet.rule (meet.first_block + b) 0 }
+    requires in_table { (b : ℕ) → b < blocks → R.has meet.rule (meet.first_block + b) 0 }
     ensures cells { let first = meet.first_block * (2 * (meet.half * meet.part)) in
         (all : ℕ) (before after : ℕ → F.Element)
         → IsLayer all (meet.half * meet.part) (λ b i. R.near F.Element F.ring F.value meet.rule b 0)
@@ -341,11 +341,11 @@ impl<R> Columns<R> {
     )
     where
         R: Rule<F>,
-        requires some { self.now.at ≤ self.now.end }
+        requires ordered { self.now.at ≤ self.now.end }
         requires inside { self.now.end ≤ self.now.part }
         requires low { length low.old ≡ self.now.half * self.now.part }
         requires high { length high.old ≡ self.now.half * self.now.part }
-        requires there { R.has self.now.rule block 0 }
+        requires in_table { R.has self.now.rule block 0 }
         ensures near { let it = self.now in let cell = λ (xs : List F) (n : ℕ). F.value (get_or xs n F.ZERO) in
             (t j : ℕ) → t < it.half → j < it.part → it.at ≤ j → j < it.end → cell low.new (t * it.part + j)
             ≡ R.near F.Element F.ring F.value it.rule block 0 (cell low.old (t * it.part + j))

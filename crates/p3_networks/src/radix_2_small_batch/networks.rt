@@ -227,7 +227,7 @@ fn layers_of_short_chunks<F: TwoAdicField, D: NetworkDecimation<F>>(
     number: usize,
     products: &mut Products,
 )
-    requires tall { SHORT_LAYERS ≤ top }
+    requires height { SHORT_LAYERS ≤ top }
     requires chunk { IsChunk 1 top number (length twiddles.now) (length values.old) }
     requires first { D.asks F.Element F.ring (F.value (get_or twiddles.now 0 F.ZERO)) }
     ensures cells { DoesLayers F.Field.own D.order (D.near F.Element F.ring F.value decimation)
@@ -390,9 +390,9 @@ pub fn dit_network_to_reversed<F: TwoAdicField>(
     piece: usize,
     products: &mut Products,
 )
-    requires wide { 1 ≤ width }
+    requires width { 1 ≤ width }
     requires below { log_rows ≤ log_h }
-    requires small { log_h < 64 }
+    requires fits_u64 { log_h < 64 }
     requires piece { 1 ≤ piece }
     requires size { length values.old ≡ 2 ^ log_h * width }
     requires first { F.value (get_or twiddles.now 0 F.ZERO) ≡ F.ring.one }
@@ -440,9 +440,9 @@ pub fn dif_network<F: TwoAdicField>(
     piece: usize,
     products: &mut Products,
 )
-    requires wide { 1 ≤ width }
+    requires width { 1 ≤ width }
     requires below { log_rows ≤ log_h }
-    requires small { log_h < 64 }
+    requires fits_u64 { log_h < 64 }
     requires piece { 1 ≤ piece }
     requires size { length values.old ≡ 2 ^ log_h * width }
     requires first { F.value (get_or twiddles.now 0 F.ZERO) ≡ F.ring.one }
@@ -483,10 +483,10 @@ pub fn scaled_dif_network<F: TwoAdicField>(
     piece: usize,
     products: &mut Products,
 )
-    requires wide { 1 ≤ width }
+    requires width { 1 ≤ width }
     requires below { log_rows ≤ log_h }
-    requires some { 1 ≤ log_h }
-    requires small { log_h < 64 }
+    requires nonzero { 1 ≤ log_h }
+    requires fits_u64 { log_h < 64 }
     requires piece { 1 ≤ piece }
     requires within { log_h ≤ F.TWO_ADICITY }
     requires size { length values.old ≡ 2 ^ log_h * width }
@@ -603,7 +603,7 @@ fn scale_behind<F: TwoAdicField>(
     factor: F,
     products: &mut Products,
 )
-    requires there { count ≤ size }
+    requires in_table { count ≤ size }
     requires room { size + count ≤ length values.old }
     ensures kept { (n : ℕ) → n < size → get_or values.new n F.ZERO ≡ get_or values.old n F.ZERO }
     ensures scaled { (n : ℕ) → n < count → F.value (get_or values.new (size + n) F.ZERO)
@@ -680,15 +680,15 @@ fn spread_tiles<F: TwoAdicField>(
     log_h: usize,
     products: &mut Products,
 )
-    requires wide { 1 ≤ width }
+    requires width { 1 ≤ width }
     requires added { coefficients.added_bits ≤ log_rows }
     requires below { log_rows ≤ log_h }
-    requires small { log_h < 64 }
+    requires fits_u64 { log_h < 64 }
     requires size { length values.old ≡ 2 ^ log_h * width }
     requires rows { length coefficients.rows.now ≡ 2 ^ (log_h - coefficients.added_bits) * width }
     requires weights { length coefficients.weights.now ≡ 2 ^ (log_h - coefficients.added_bits) }
     requires first { F.value (get_or twiddles.now 0 F.ZERO) ≡ F.ring.one }
-    requires some { 1 ≤ length twiddles.now }
+    requires nonzero { 1 ≤ length twiddles.now }
     requires enough { 2 ^ log_h ≤ 2 * length twiddles.now }
     ensures cells { (cells : ℕ → ℕ → F.Element)
         → AreLayers log_h width (λ b. dif_near F.ring (F.value (get_or twiddles.now b F.ZERO)))
@@ -788,11 +788,11 @@ pub fn extending_network<F: TwoAdicField>(
     piece: usize,
     products: &mut Products,
 )
-    requires wide { 1 ≤ width }
+    requires width { 1 ≤ width }
     requires added { coefficients.added_bits ≤ log_rows }
     requires below { log_rows ≤ log_h }
-    requires some { 1 ≤ log_h }
-    requires small { log_h < 64 }
+    requires nonzero { 1 ≤ log_h }
+    requires fits_u64 { log_h < 64 }
     requires piece { 1 ≤ piece }
     requires within { log_h ≤ F.TWO_ADICITY }
     requires size { length values.old ≡ 2 ^ log_h * width }

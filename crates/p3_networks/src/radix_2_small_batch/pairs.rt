@@ -119,7 +119,7 @@ fn on_packs<F: TwoAdicField, P: PackedField<Scalar = F>, D: NetworkDecimation<F>
     values: &mut [F],
     products: &mut Products,
 )
-    requires wide { 1 ≤ P.WIDTH }
+    requires width { 1 ≤ P.WIDTH }
     requires whole { (k : ℕ) × length twiddles.now ≡ k * P.WIDTH }
     requires size { length values.old ≡ 2 * length twiddles.now }
     ensures pairs { MeetByTwiddles F.Field.own (D.near F.Element F.ring F.value decimation)

@@ -30,10 +30,10 @@ pub fn slots_network<F: TwoAdicField>(
     shift: F,
     products: &mut Products,
 )
-    requires wide { 1 ≤ width }
+    requires width { 1 ≤ width }
     requires below { tiling.log_rows ≤ log_h }
     requires within { log_h + added_bits ≤ F.TWO_ADICITY }
-    requires small { log_h + added_bits < 64 }
+    requires fits_u64 { log_h + added_bits < 64 }
     requires piece { 1 ≤ tiling.piece }
     requires size { length values.old ≡ 2 ^ (log_h + added_bits) * width }
     requires twiddles { AreTwiddlesFromStart F.Field.own log_h
@@ -82,10 +82,10 @@ fn evaluate_to_reversed_oop<F: TwoAdicField>(
     shift: F,
     products: &mut Products,
 )
-    requires wide { 1 ≤ width }
+    requires width { 1 ≤ width }
     requires below { tiling.log_rows ≤ log_h }
     requires within { log_h ≤ F.TWO_ADICITY }
-    requires small { log_h < 64 }
+    requires fits_u64 { log_h < 64 }
     requires piece { 1 ≤ tiling.piece }
     requires source { length coefficients.now ≡ 2 ^ log_h * width }
     requires size { length values.old ≡ 2 ^ log_h * width }
@@ -111,10 +111,10 @@ fn evaluate_to_reversed<F: TwoAdicField>(
     log_h: usize,
     products: &mut Products,
 )
-    requires wide { 1 ≤ width }
+    requires width { 1 ≤ width }
     requires below { tiling.log_rows ≤ log_h }
     requires within { log_h ≤ F.TWO_ADICITY }
-    requires small { log_h < 64 }
+    requires fits_u64 { log_h < 64 }
     requires piece { 1 ≤ tiling.piece }
     requires size { length values.old ≡ 2 ^ log_h * width }
     requires twiddles { AreTwiddlesFromStart F.Field.own log_h

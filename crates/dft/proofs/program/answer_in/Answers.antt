@@ -19,7 +19,7 @@ answer_by-requires g c =
     sym (length-map arguments.values.now (λ word. number_or_zero (vec_items word)))
     ∙ ap length (sym c.in_ok-matrix.ensures.numbers)
     ∙ length-map matrix.values (λ x. g.F.Field.number (g.F.Field.value x)) in
-    let wide : arguments.width ≡ matrix.width = sym c.in_ok-matrix.ensures.wide in
+    let wide : arguments.width ≡ matrix.width = sym c.in_ok-matrix.ensures.width in
     let fits : FitsLde bits (height matrix) matrix.width arguments.added_bits =
     subst (λ (w : ℕ). FitsLde bits (length matrix.values / w) w arguments.added_bits) wide
     (subst (λ (n : ℕ). FitsLde bits (n / arguments.width) arguments.width arguments.added_bits) counted c.in_ok-arguments.ensures.fits) in
@@ -37,6 +37,6 @@ returns g c element named =
       text_of_answer g.F.Field g.F.TwoAdicField.generator g.F.TwoAdicField.TWO_ADICITY g.F.CanonicalField.ORDER_U64 element g.met.F.Field.zero_law g.met.F.TwoAdicField.roots_law
           g.met.F.Field.number_law named g.met.F.CanonicalField.number_below_law c.args.operation
           (record { added_bits = arguments.added_bits; shift = arguments.shift; width = arguments.width; values = numbers_of arguments.values.now })
-          c.in_ok-matrix.matrix c.in_ok-answer.answer c.element_of-shift.result text c.in_ok-matrix.ensures.wide c.in_ok-matrix.ensures.numbers c.element_of-shift.ensures
+          c.in_ok-matrix.matrix c.in_ok-answer.answer c.element_of-shift.result text c.in_ok-matrix.ensures.width c.in_ok-matrix.ensures.numbers c.element_of-shift.ensures
           c.in_ok-text_of.ensures.whole (rw (sym c.job_of-job.ensures) c.in_ok-answer.ensures) c.in_ok-text_of.ensures.text,
     )

@@ -16,9 +16,9 @@ returns-clause-zeros g c =
     (rw c.to_row_major_matrix.ensures c.in_ok-values.ensures.values) given)
     c.coset_idft_batch.ensures.coefficients
 
-pub returns-clause-high : goal.returns-clause-high
-returns-clause-high g c =
+pub returns-clause-height : goal.returns-clause-height
+returns-clause-height g c =
     let extended : IsExtension g.F.Field g.F.TwoAdicField.generator c.args.mat c.args.added_bits (g.F.Field.value c.args.shift) c.to_row_major_matrix.result = rw c.to_row_major_matrix.ensures c.in_ok-values.ensures.values in
     IfOk-weaker c.coset_idft_batch.result _ _
-    (λ back given k high. let tall = (extended.extended k high).high in (given.holds (k + c.args.added_bits) tall).high ∙ tall)
+    (λ back given k high. let tall = (extended.extended k high).height in (given.holds (k + c.args.added_bits) tall).height ∙ tall)
     c.coset_idft_batch.ensures.coefficients

@@ -25,22 +25,22 @@ twice_half log h n is power high some =
 
 pub factors_in_layout-requires-clause-within : goal.factors_in_layout-requires-clause-within
 factors_in_layout-requires-clause-within g c =
-    (half_height _ _ c.requires.fits.log _ c.log2_strict_usize-log_half.ensures.power (c.height-height.ensures.height ∙ c.requires.fits.high) c.requires.fits.within (omega (arith, c.requires.pairs, c.height-height.ensures.height))).0
+    (half_height _ _ c.requires.fits.log _ c.log2_strict_usize-log_half.ensures.power (c.height-height.ensures.height ∙ c.requires.fits.height) c.requires.fits.within (omega (arith, c.requires.pairs, c.height-height.ensures.height))).0
 
 pub factors_in_layout-requires-clause-half : goal.factors_in_layout-requires-clause-half
 factors_in_layout-requires-clause-half g c =
-    (half_height _ _ c.requires.fits.log _ c.log2_strict_usize-log_half.ensures.power (c.height-height.ensures.height ∙ c.requires.fits.high) c.requires.fits.within (omega (arith, c.requires.pairs, c.height-height.ensures.height))).1
+    (half_height _ _ c.requires.fits.log _ c.log2_strict_usize-log_half.ensures.power (c.height-height.ensures.height ∙ c.requires.fits.height) c.requires.fits.within (omega (arith, c.requires.pairs, c.height-height.ensures.height))).1
 
 pub fold_rows-requires-clause-pairs : goal.fold_rows-requires-clause-pairs
 fold_rows-requires-clause-pairs g c =
     let some : 2 ≤ c.height-height.result = omega (arith, c.requires.pairs, c.height-height.ensures.height) in
-    let half = half_height _ _ c.requires.fits.log _ c.log2_strict_usize-log_half.ensures.power (c.height-height.ensures.height ∙ c.requires.fits.high) c.requires.fits.within some in
+    let half = half_height _ _ c.requires.fits.log _ c.log2_strict_usize-log_half.ensures.power (c.height-height.ensures.height ∙ c.requires.fits.height) c.requires.fits.within some in
     sym (twice_half _ _ _ refl half.1 c.log2_strict_usize-log_half.ensures.power some ∙ c.height-height.ensures.height)
 
 pub fold_rows-requires-clause-factors : goal.fold_rows-requires-clause-factors
 fold_rows-requires-clause-factors g c =
     let some : 2 ≤ c.height-height.result = omega (arith, c.requires.pairs, c.height-height.ensures.height) in
-    let half = half_height _ _ c.requires.fits.log _ c.log2_strict_usize-log_half.ensures.power (c.height-height.ensures.height ∙ c.requires.fits.high) c.requires.fits.within some in
+    let half = half_height _ _ c.requires.fits.log _ c.log2_strict_usize-log_half.ensures.power (c.height-height.ensures.height ∙ c.requires.fits.height) c.requires.fits.within some in
     omega (arith, ap length c.deref.ensures.value, c.in_ok-factors.ensures.long, c.in_ok-factors.factors.ok.0, half.1)
 
 pub returns-clause-rows : goal.returns-clause-rows
@@ -71,7 +71,7 @@ returns-clause-degree g c =
     (λ out given k h high has.
     record {
       coefficients = folded_coefficients f.ring (f.value c.args.beta) has.coefficients;
-      high = ap (λ n. (n + 1) / 2) has.high;
+      height = ap (λ n. (n + 1) / 2) has.height;
       values = folded_values f.ring g.met.F.TwoAdicField.roots_law (f.value c.args.beta) k (f.value c.args.shift) _ _ (exponent_within (suc k) c.requires.fits high) c.requires.invertible
           (rows_by_factors f.ring g.met.F.TwoAdicField.roots_law c.args.layout (f.value c.args.beta) k _ _ (f.value c.args.shift) (values_of f c.args.values.now) (values_of f out) _ _
           (log_of _ k _ c.log2_strict_usize-log_half.ensures.power (c.height-height.ensures.height ∙ high)) (half_of _ k (c.height-height.ensures.height ∙ high)) given.0 given.1
@@ -83,5 +83,5 @@ returns-clause-degree g c =
 pub returns-clause-shape : goal.returns-clause-shape
 returns-clause-shape g c =
     let log = c.requires.fits.log in
-    let same = half_height _ _ c.requires.fits.log _ c.log2_strict_usize-log_half.ensures.power (c.height-height.ensures.height ∙ c.requires.fits.high) c.requires.fits.within (omega (arith, c.requires.pairs, c.height-height.ensures.height)) in
+    let same = half_height _ _ c.requires.fits.log _ c.log2_strict_usize-log_half.ensures.power (c.height-height.ensures.height ∙ c.requires.fits.height) c.requires.fits.within (omega (arith, c.requires.pairs, c.height-height.ensures.height)) in
     IfOk-weaker c.fold_rows.result _ _ (λ out given. (twice_half _ _ _ given.0 same.1 c.log2_strict_usize-log_half.ensures.power (omega (arith, c.requires.pairs, c.height-height.ensures.height)) ∙ c.height-height.ensures.height, given.1)) c.fold_rows.ensures

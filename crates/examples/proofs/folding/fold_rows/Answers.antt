@@ -57,7 +57,7 @@ loop-i-preserved g c =
 
 pub new-requires-clause-full : goal.new-requires-clause-full
 new-requires-clause-full g c =
-    (whole_rows _ c.loop-i.i c.width-width.result (omega (arith, c.width-width.ensures.whole.wide, c.width-width.ensures.width)) c.loop-i.invariant.long).1
+    (whole_rows _ c.loop-i.i c.width-width.result (omega (arith, c.width-width.ensures.whole.width, c.width-width.ensures.width)) c.loop-i.invariant.long).1
 
 pub returns : goal.returns
 returns g c =
@@ -65,7 +65,7 @@ returns g c =
     let m = c.args.values.now in
     let all : c.loop-i.i ≡ c.args.half = omega (arith, c.loop-i-test.false, c.loop-i.auto.i-end) in (
       ap (λ o. length o.values / o.width) c.new.ensures
-          ∙ (whole_rows _ c.loop-i.i c.width-width.result (omega (arith, c.width-width.ensures.whole.wide, c.width-width.ensures.width)) c.loop-i.invariant.long).0 ∙ all,
+          ∙ (whole_rows _ c.loop-i.i c.width-width.result (omega (arith, c.width-width.ensures.whole.width, c.width-width.ensures.width)) c.loop-i.invariant.long).0 ∙ all,
       ap (λ o. o.width) c.new.ensures ∙ c.width-width.ensures.width,
       λ k beta power x factors i j below inside.
           subst (λ o. IsFoldedPair f.ring beta (x i) ((values_of f m).entry (near_row c.args.layout k i) j) ((values_of f m).entry (far_row c.args.layout k i) j) (f.value (get_or o.values (i * o.width + j) f.ZERO)))

@@ -10,7 +10,7 @@ returns-clause-determined g c = λ k other high tall first second.
     let whole = c.in_ok-first.ensures.rows k high in
     foldings_determine f.ring g.met.F.TwoAdicField.roots_law (f.value c.args.beta) (f.value c.args.gamma) c.requires.apart k (f.value c.args.shift)
     (exponent_within (suc k) c.requires.fits high) c.requires.invertible _ other _ _
-    ((arranged_shape c.args.layout (suc k) (values_of f c.args.values.now)).0 ∙ high) tall (sym whole.wide ∙ first.wide) whole (c.in_ok-second.ensures.rows k high) first second
+    ((arranged_shape c.args.layout (suc k) (values_of f c.args.values.now)).0 ∙ high) tall (sym whole.width ∙ first.width) whole (c.in_ok-second.ensures.rows k high) first second
 
 pub returns-clause-degree : goal.returns-clause-degree
 returns-clause-degree g c = λ k h high of_first of_second.
@@ -19,9 +19,9 @@ returns-clause-degree g c = λ k h high of_first of_second.
     record {
       coefficients = unfolded f.ring g.met.F.TwoAdicField.roots_law (f.value c.args.beta) (f.value c.args.gamma) c.requires.apart k (f.value c.args.shift) within c.requires.invertible
           of_first.coefficients of_second.coefficients;
-      high = ap (λ n. 2 * n) of_first.high;
+      height = ap (λ n. 2 * n) of_first.height;
       values = unfolded_values f.ring g.met.F.TwoAdicField.roots_law (f.value c.args.beta) (f.value c.args.gamma) c.requires.apart k (f.value c.args.shift) within c.requires.invertible
-          of_first.coefficients of_second.coefficients _ _ _ (of_first.high ∙ sym of_second.high)
+          of_first.coefficients of_second.coefficients _ _ _ (of_first.height ∙ sym of_second.height)
           ((arranged_shape c.args.layout (suc k) (values_of f c.args.values.now)).0 ∙ high) of_first.values of_second.values
           (c.in_ok-first.ensures.rows k high) (c.in_ok-second.ensures.rows k high);
     }

@@ -7,7 +7,7 @@ are_folded-requires-clause-pairs g c = λ q o below.
     let roots = c.args.commitment.now.roots in
     let root : q < length roots.items = omega (arith, below, c.if-openings-len.false, roots.ok.0) in
     let opened = c.are_opened.ensures.0 c.if-not-are_opened.false q o (some_element roots.items q root) below in
-    (opened.high, opened.wide)
+    (opened.height, opened.width)
 
 pub returns : goal.returns
 returns g c = (

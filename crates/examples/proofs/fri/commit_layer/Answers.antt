@@ -7,7 +7,7 @@ use Rattle.examples.proofs.fri.commit_layer.Goals as goal
 
 pub tree_of_pairs-requires : goal.tree_of_pairs-requires
 tree_of_pairs-requires g c =
-    let even = even_height c.requires.fits.log (height c.args.codeword) c.requires.fits.high c.requires.pairs in
+    let even = even_height c.requires.fits.log (height c.args.codeword) c.requires.fits.height c.requires.pairs in
     omega (arith, even, c.height-leaves.ensures.height)
 
 pub returns-clause-layer : goal.returns-clause-layer
@@ -15,7 +15,7 @@ returns-clause-layer g c = λ k high.
     let hash = g.H.RowHash in
     let half : c.height-leaves.result / 2 ≡ 2 ^ k = omega (arith, c.height-leaves.ensures.height, high, two-pow-succ k) in
     record {
-      high = high;
+      height = high;
       tree = subst (λ n. AreNodes hash.worth (hash.of_pair c.args.hash.now) n (λ i. hash.of_row c.args.hash.now (rows_from c.args.codeword (2 * i) 2).values) c.in_ok-nodes.nodes.items) half c.in_ok-nodes.ensures;
       folds = c.in_ok-folded.ensures.rows k high;
     }

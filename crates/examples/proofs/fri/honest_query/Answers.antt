@@ -5,7 +5,7 @@ use Rattle.examples.proofs.fri.honest_query.Goals as goal
 pub check-requires-clause-within : goal.check-requires-clause-within
 check-requires-clause-within g c =
     let fits = c.requires.fits in
-    omega (arith, one_logarithm _ _ _ fits.high c.requires.high, fits.within, c.in_ok-layers.ensures.known.0)
+    omega (arith, one_logarithm _ _ _ fits.height c.requires.height, fits.within, c.in_ok-layers.ensures.known.0)
 
 pub returns : goal.returns
 returns g c =

@@ -14,16 +14,16 @@ returns g c =
     let gen = λ (n : ℕ). f.value (g.F.TwoAdicField.generator n) in
     let m = c.args.pair.now in
     let n = c.args.next.now in
-    let size : length c.row.result.now ≡ m.width = ap length c.row.ensures ∙ row_size m 0 c.width-whole.ensures.whole (omega (arith, c.requires.high)) in
+    let size : length c.row.result.now ≡ m.width = ap length c.row.ensures ∙ row_size m 0 c.width-whole.ensures.whole (omega (arith, c.requires.height)) in
     let one : c.args.log_half + 1 ≡ suc c.args.log_half = omega arith in
     let x_is : f.value c.mul-x.result ≡ point f.ring gen (suc c.args.log_half) (f.value c.args.shift) (rev c.args.log_half c.args.index) =
     g.met.F.Field.mul_law _ _ _ c.mul-x.ensures
     ∙ ap (f.ring.mul (f.value c.args.shift)) (c.exp_u64.ensures ∙ ap₂ (power f.ring) (c.two_adic_generator-root.ensures ∙ ap gen one) c.reverse_bits_len.ensures)
     ∙ sym (point-mul f.ring gen (suc c.args.log_half) (f.value c.args.shift) (rev c.args.log_half c.args.index)) in
-    let near = λ (j : ℕ) (l : j < m.width). ap f.value (ap (λ xs. get_or xs j f.ZERO) c.row.ensures ∙ row_entry m 0 j f.ZERO c.width-whole.ensures.whole (omega (arith, c.requires.high)) l) in
-    let far = λ (j : ℕ) (l : j < m.width). ap f.value (ap (λ xs. get_or xs j f.ZERO) c.row-2.ensures ∙ row_entry m 1 j f.ZERO c.width-whole.ensures.whole (omega (arith, c.requires.high)) l) in
+    let near = λ (j : ℕ) (l : j < m.width). ap f.value (ap (λ xs. get_or xs j f.ZERO) c.row.ensures ∙ row_entry m 0 j f.ZERO c.width-whole.ensures.whole (omega (arith, c.requires.height)) l) in
+    let far = λ (j : ℕ) (l : j < m.width). ap f.value (ap (λ xs. get_or xs j f.ZERO) c.row-2.ensures ∙ row_entry m 1 j f.ZERO c.width-whole.ensures.whole (omega (arith, c.requires.height)) l) in
     let next = λ (j : ℕ) (l : j < m.width). ap f.value (ap (λ xs. get_or xs j f.ZERO) c.row-3.ensures
-    ∙ row_entry n c.args.row j f.ZERO c.width-whole_too.ensures.whole c.requires.row (omega (arith, l, c.requires.wide))) in (
+    ∙ row_entry n c.args.row j f.ZERO c.width-whole_too.ensures.whole c.requires.row (omega (arith, l, c.requires.width))) in (
       λ told j l.
           rw (sym x_is) (rw (sym (near j l), sym (far j l), sym (next j l)) (c.folds_to.ensures.0 told j (omega (arith, l, size)))),
       λ all.

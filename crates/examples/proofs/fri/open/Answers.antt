@@ -85,7 +85,7 @@ returns-clause-folds g c = λ h s betas last are o.
     (λ l below.
     let here = are l below in
     let d = some_element (nodes l) 0 (omega (arith, here.tree.long, pow_pos (c.args.log_height - suc l))) in
-    (inv.opened l (some_element layers l below) o (within l below) h _ _ _ d (rw (codeword l below, tree l below) at here)).wide ∙ ap (λ m. m.width) (sym (codeword l below)))
+    (inv.opened l (some_element layers l below) o (within l below) h _ _ _ d (rw (codeword l below, tree l below) at here)).width ∙ ap (λ m. m.width) (sym (codeword l below)))
     (λ l r j below inside in_row.
     rw (codeword l below) (inv.entries l (some_element layers l below) o r j (within l below) inside (rw (codeword l below) at in_row)))
     (λ l below.

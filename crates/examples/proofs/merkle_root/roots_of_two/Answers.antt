@@ -22,8 +22,8 @@ two_roots : {F V : Type 0} (f : FieldMembers F) (generator : ℕ → F) (bits : 
     → tree join i (λ r. of (row a r)) ≡ tree join j (λ r. of (row b r))
 two_roots f generator bits are_roots join of law m added s i j a b fits whole high other tall x y =
     let n = fits.log + added in
-    let long = (x.extended fits.log fits.high).high in
-    let long_too = (y.extended fits.log fits.high).high in
+    let long = (x.extended fits.log fits.height).height in
+    let long_too = (y.extended fits.log fits.height).height in
     let log : i ≡ j =
     log_same i j (sym high ∙ physical_height f i n a (reversed_rows i a) whole high refl long ∙ sym (physical_height f j n b (reversed_rows j b) other tall refl long_too) ∙ tall) in
     let natural = one_extension f generator bits are_roots m (reversed_rows i a) (reversed_rows j b) added s fits x y in

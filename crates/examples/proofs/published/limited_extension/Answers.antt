@@ -11,7 +11,7 @@ returns-in-Ok-clause-counted g c = λ k e.
 
 pub returns-in-Ok-clause-within : goal.returns-in-Ok-clause-within
 returns-in-Ok-clause-within g c =
-    let told = limit_stays _ _ c.in-Ok.out.physical c.in-Ok.taken c.args.limit (λ r made. search of_calls) (c.in-Ok.ensures.published c.requires.log c.requires.high) in
+    let told = limit_stays _ _ c.in-Ok.out.physical c.in-Ok.taken c.args.limit (λ r made. search of_calls) (c.in-Ok.ensures.published c.requires.log c.requires.height) in
     omega (arith, c.seen.ensures.seen, c.seen.ensures.within, told)
 
 pub returns-in-Refused-clause-refused : goal.returns-in-Refused-clause-refused
@@ -20,7 +20,7 @@ returns-in-Refused-clause-refused g c = λ k e.
     let told = limit_refused _ _ _ _ _ _ x.2 in
     let law = g.met.D.TwoAdicSubgroupDft.laws.power_of_two k c.args.added_bits in
     let whole = power_divides (g.D.TwoAdicSubgroupDft.facts.block_rows k c.args.added_bits) law.0 (k + c.args.added_bits) law.1 law.2 in
-    let high = (x.1.extended k e).high in
+    let high = (x.1.extended k e).height in
     (told.1, rw high at told.2, limit_exceeded _ _ _ _ _ _ c.args.limit x.2 (λ r made. search of_calls) _ high whole.0 whole.1)
 
 pub returns-in-Refused-clause-one_too_many : goal.returns-in-Refused-clause-one_too_many

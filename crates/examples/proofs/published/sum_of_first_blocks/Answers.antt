@@ -12,7 +12,7 @@ returns-in-Refused-clause-first g c = λ k e.
     (λ s start r e told. told.0 refl) (λ s start r e told. told.1 refl) (λ s made.
     let none : s.sum ≡ field.ZERO = search of_calls in
     (ap field.value none ∙ g.met.F.Field.zero_law, (let all : s.left ≡ c.args.limit = search of_calls in all))) x.2 in
-    let high = (x.1.extended k e).high in
+    let high = (x.1.extended k e).height in
     (x.0, x.1, starts, many, distinct, (λ i d inside. let told = within i d inside in (told.0, subst (λ (h : ℕ). get_or starts i d < h) high told.1)), total)
 
 pub returns-in-Ok-clause-none : goal.returns-in-Ok-clause-none
@@ -20,7 +20,7 @@ returns-in-Ok-clause-none g c = λ empty k e.
     let b = g.D.TwoAdicSubgroupDft.facts.block_rows k c.args.added_bits in
     let out = c.in-Ok.out.physical in
     let x = c.in-Ok.ensures.values in
-    let tall = physical_height g.F.Field c.in-Ok.out.bits (k + c.args.added_bits) out _ c.height-whole.ensures.whole (sym c.height-whole.ensures.height ∙ c.height-whole.ensures.power) refl (x.extended k e).high in
+    let tall = physical_height g.F.Field c.in-Ok.out.bits (k + c.args.added_bits) out _ c.height-whole.ensures.whole (sym c.height-whole.ensures.height ∙ c.height-whole.ensures.power) refl (x.extended k e).height in
     subst (λ (h : ℕ). h / b ≤ c.args.limit) tall
     (blocks_within _ (λ s. s.left) (λ s start r after told. (told.0 refl).0) _ c.args.limit b out c.in-Ok.taken
     (λ s made. let all : s.left ≡ c.args.limit = search of_calls in all) (c.in-Ok.ensures.published k e))

@@ -12,5 +12,5 @@ returns-clause-values g c =
 pub returns-clause-long : goal.returns-clause-long
 returns-clause-long g c =
     IfOk-weaker c.coset_dft.result _ _
-    (λ out given. (transform_of_vector g.F.Field g.F.TwoAdicField.generator c.args.coefficients.items out.items (g.F.Field.value c.args.shift) c.requires.log (sym (c.args.coefficients.ok.0) ∙ c.requires.high) given).0)
+    (λ out given. (transform_of_vector g.F.Field g.F.TwoAdicField.generator c.args.coefficients.items out.items (g.F.Field.value c.args.shift) c.requires.log (sym (c.args.coefficients.ok.0) ∙ c.requires.height) given).0)
     c.coset_dft.ensures.values

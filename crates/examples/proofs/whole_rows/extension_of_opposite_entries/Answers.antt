@@ -24,7 +24,7 @@ returns-clause-values g c =
     let values : given.answered.values ≡ reverse given.told.values = search of_calls in
     let are = given.are_coefficients k e in
     let told = given.told_in_layout k e in
-    let same = opposite field given.told given.answered given.told_whole (told.wide ∙ are.wide ∙ c.requires.two) width values given.coefficients told in (
+    let same = opposite field given.told given.answered given.told_whole (told.width ∙ are.width ∙ c.requires.two) width values given.coefficients told in (
       given.coefficients,
       are,
       coefficients_same field.ring generator given.changed _ (k + c.args.added_bits) (field.value c.args.shift) (values_of field out)

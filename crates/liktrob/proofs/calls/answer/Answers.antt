@@ -9,7 +9,7 @@ asked-requires g c = λ fit. whole_rows fit
 pub answer_by-requires-clause-fits : goal.answer_by-requires-clause-fits
 answer_by-requires-clause-fits g c =
     let read = c.in_ok-engine in
-    rw (sym c.added_bits.ensures) (named_fits _ c.args.words.now read.mat read.ensures.wide read.ensures.entries read.ensures.told.2)
+    rw (sym c.added_bits.ensures) (named_fits _ c.args.words.now read.mat read.ensures.width read.ensures.entries read.ensures.told.2)
 
 pub returns-clause-size : goal.returns-clause-size
 returns-clause-size g c =
@@ -21,12 +21,12 @@ pub returns-clause-answer : goal.returns-clause-answer
 returns-clause-answer g c = λ answer told.
     let read = c.in_ok-engine in
     let fit = read.ensures.told.2 in
-    let high = named_high _ c.args.words.now read.mat read.ensures.wide read.ensures.entries fit in
+    let high = named_high _ c.args.words.now read.mat read.ensures.width read.ensures.entries fit in
     record {
       log = fit.fits.log;
       asked = read.mat;
       by = read.shift;
-      named = record { wide = read.ensures.wide; high = high; entries = read.ensures.entries; coset = read.ensures.coset };
+      named = record { width = read.ensures.width; height = high; entries = read.ensures.entries; coset = read.ensures.coset };
       found = c.in_ok-answer_by.field-0;
       answers = c.in_ok-answer_by.ensures.answer fit.fits.log high;
       told = told;

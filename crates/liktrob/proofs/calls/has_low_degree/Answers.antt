@@ -11,7 +11,7 @@ asked-requires g c = λ fit. whole_rows (word_fits fit)
 pub answer_by-requires-clause-fits : goal.answer_by-requires-clause-fits
 answer_by-requires-clause-fits g c =
     let read = c.in_ok-engine in
-    named_fits _ c.args.words.now read.word read.ensures.wide read.ensures.entries (word_fits read.ensures.told.2)
+    named_fits _ c.args.words.now read.word read.ensures.width read.ensures.entries (word_fits read.ensures.told.2)
 
 pub returns-clause-answer : goal.returns-clause-answer
 returns-clause-answer g c = λ answer two_valued exact.
@@ -21,15 +21,15 @@ returns-clause-answer g c = λ answer two_valued exact.
     let fit = read.ensures.told.2 in
     let log = fit.fits.log + c.args.added_bits in
     let s = f.value read.shift in
-    let high = named_high _ c.args.words.now read.word read.ensures.wide read.ensures.entries (word_fits fit) in
+    let high = named_high _ c.args.words.now read.word read.ensures.width read.ensures.entries (word_fits fit) in
     let told =
-    subst (λ (h : ℕ). IsTrue c.has_degree_below.result ↔ HasDegreeBelow f roots h log s (values_of f read.word)) (sym (rows_are fit) ∙ fit.fits.high)
+    subst (λ (h : ℕ). IsTrue c.has_degree_below.result ↔ HasDegreeBelow f roots h log s (values_of f read.word)) (sym (rows_are fit) ∙ fit.fits.height)
     (degree_told f roots read.word c.in_ok-coefficients.coefficients s log high (c.in_ok-coefficients.ensures.answer log high) (c.message_size.result / c.args.width) c.has_degree_below.result c.has_degree_below.ensures) in
     record {
       log_message = fit.fits.log;
       word = read.word;
       by = read.shift;
-      named = record { wide = read.ensures.wide; high = high; entries = read.ensures.entries; coset = read.ensures.coset };
+      named = record { width = read.ensures.width; height = high; entries = read.ensures.entries; coset = read.ensures.coset };
       two_valued = two_valued;
       exact = (λ one. told.0 (exact.0 one), λ codeword. exact.1 (told.1 codeword));
     }

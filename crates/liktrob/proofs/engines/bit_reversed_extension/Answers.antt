@@ -27,7 +27,7 @@ returns-clause-values g c = λ k high.
     let out = c.bit_reverse_rows.result in
     let tall = c.bit_reverse_rows.ensures.height in
     let whole : IsRowMajor out = search rules in
-    let log : bits ≡ k + a = log_same bits (k + a) (sym tall ∙ physical_height f bits (k + a) out (reversed_rows bits out) whole tall refl ((lying g c).extended k high).high) in
+    let log : bits ≡ k + a = log_same bits (k + a) (sym tall ∙ physical_height f bits (k + a) out (reversed_rows bits out) whole tall refl ((lying g c).extended k high).height) in
     subst (λ (n : ℕ). IsExtension f g.F.TwoAdicField.generator c.args.mat a (f.value c.args.shift) (reversed_rows n out)) log (lying g c)
 
 pub returns-clause-size : goal.returns-clause-size

@@ -7,4 +7,4 @@ returns-clause-size g c =
     let fits = c.requires in
     let extension = c.in_ok-values.ensures.values in
     values_size g.F.Field (λ n. g.F.Field.value (g.F.TwoAdicField.generator n)) c.args.mat c.to_row_major_matrix.result fits.log c.args.added_bits (g.F.Field.value c.args.shift) extension.coefficients (search rules) (search rules)
-    fits.high (extension.are_coefficients fits.log fits.high).wide (rw c.to_row_major_matrix.ensures (extension.extended fits.log fits.high))
+    fits.height (extension.are_coefficients fits.log fits.height).width (rw c.to_row_major_matrix.ensures (extension.extended fits.log fits.height))

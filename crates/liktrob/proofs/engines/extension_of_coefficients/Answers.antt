@@ -7,4 +7,4 @@ pub returns-clause-size : goal.returns-clause-size
 returns-clause-size g c =
     let fits = c.requires in
     values_size g.F.Field (λ n. g.F.Field.value (g.F.TwoAdicField.generator n)) c.args.mat c.to_row_major_matrix.result fits.log c.args.added_bits (g.F.Field.value c.args.shift) (values_of g.F.Field c.args.mat) (search rules) (search rules)
-    fits.high refl (rw c.to_row_major_matrix.ensures (c.in_ok-values.ensures.values fits.log fits.high))
+    fits.height refl (rw c.to_row_major_matrix.ensures (c.in_ok-values.ensures.values fits.log fits.height))

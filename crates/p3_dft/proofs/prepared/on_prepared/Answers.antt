@@ -11,20 +11,20 @@ use Rattle.p3_dft.proofs.prepared.on_prepared.Goals as goal
 pub make_for-requires-clause-within : goal.make_for-requires-clause-within
 make_for-requires-clause-within g c = (log_fits_dft _ _ c.requires.fits c.log2_strict_usize-log_h.ensures.power (c.height-height.ensures.height ∙ ap height c.into_row_major_matrix-mat.ensures)).0
 
-pub make_for-requires-clause-small : goal.make_for-requires-clause-small
-make_for-requires-clause-small g c = (log_fits_dft _ _ c.requires.fits c.log2_strict_usize-log_h.ensures.power (c.height-height.ensures.height ∙ ap height c.into_row_major_matrix-mat.ensures)).1
+pub make_for-requires-clause-fits_u64 : goal.make_for-requires-clause-fits_u64
+make_for-requires-clause-fits_u64 g c = (log_fits_dft _ _ c.requires.fits c.log2_strict_usize-log_h.ensures.power (c.height-height.ensures.height ∙ ap height c.into_row_major_matrix-mat.ensures)).1
 
 pub on_matrix-requires-clause-rows : goal.on_matrix-requires-clause-rows
 on_matrix-requires-clause-rows g c = rows_found _ _ _ c.height-height.ensures.whole c.height-height.ensures.height c.log2_strict_usize-log_h.ensures.power c.requires.fits (ap height c.into_row_major_matrix-mat.ensures)
 
-pub on_matrix-requires-clause-some : goal.on_matrix-requires-clause-some
-on_matrix-requires-clause-some g c = some_log c.height-height.result c.log2_strict_usize-log_h.result c.log2_strict_usize-log_h.ensures.power c.if-height-eq1.false
+pub on_matrix-requires-clause-nonzero : goal.on_matrix-requires-clause-nonzero
+on_matrix-requires-clause-nonzero g c = some_log c.height-height.result c.log2_strict_usize-log_h.result c.log2_strict_usize-log_h.ensures.power c.if-height-eq1.false
 
 pub on_matrix-requires-clause-within : goal.on_matrix-requires-clause-within
 on_matrix-requires-clause-within g c = (log_fits_dft _ _ c.requires.fits c.log2_strict_usize-log_h.ensures.power (c.height-height.ensures.height ∙ ap height c.into_row_major_matrix-mat.ensures)).0
 
-pub on_matrix-requires-clause-there : goal.on_matrix-requires-clause-there
-on_matrix-requires-clause-there g c = omega (arith, c.in_ok-make_for.ensures.made)
+pub on_matrix-requires-clause-in_table : goal.on_matrix-requires-clause-in_table
+on_matrix-requires-clause-in_table g c = omega (arith, c.in_ok-make_for.ensures.made)
 
 pub returns-then-height-eq1-clause-answer : goal.returns-then-height-eq1-clause-answer
 returns-then-height-eq1-clause-answer g c = rw c.into_row_major_matrix-mat.ensures (c.requires.alone (rw c.into_row_major_matrix-mat.ensures at c.height-height.ensures.whole) (sym (ap height c.into_row_major_matrix-mat.ensures) ∙ sym c.height-height.ensures.height ∙ c.if-height-eq1.true))

@@ -12,12 +12,12 @@ use Rattle.p3_dft.proofs.radix_2_bowers.evaluate_to_natural.Goals as goal
 
 pub two_adic_generator-generator-requires : goal.two_adic_generator-generator-requires
 two_adic_generator-generator-requires g c =
-    let same : c.log2_strict_usize-log_h.result ≡ c.requires.fits.log = log_same _ _ (sym c.log2_strict_usize-log_h.ensures.power ∙ c.height.ensures.height ∙ c.requires.fits.high) in
+    let same : c.log2_strict_usize-log_h.result ≡ c.requires.fits.log = log_same _ _ (sym c.log2_strict_usize-log_h.ensures.power ∙ c.height.ensures.height ∙ c.requires.fits.height) in
     omega (arith, same, c.requires.fits.within)
 
 pub network_g-requires-clause-within : goal.network_g-requires-clause-within
 network_g-requires-clause-within g c =
-    let same : c.log2_strict_usize-log_h.result ≡ c.requires.fits.log = log_same _ _ (sym c.log2_strict_usize-log_h.ensures.power ∙ c.height.ensures.height ∙ c.requires.fits.high) in
+    let same : c.log2_strict_usize-log_h.result ≡ c.requires.fits.log = log_same _ _ (sym c.log2_strict_usize-log_h.ensures.power ∙ c.height.ensures.height ∙ c.requires.fits.height) in
     omega (arith, same, c.requires.fits.within)
 
 pub network_g-requires-clause-twiddles : goal.network_g-requires-clause-twiddles
@@ -37,8 +37,8 @@ network_g-requires-clause-twiddles g c =
 pub network_g-requires-clause-size : goal.network_g-requires-clause-size
 network_g-requires-clause-size g c = ap length c.values_mut.ensures.values ∙ sym c.width-width.ensures.whole.full ∙ ap₂ (λ (h w : ℕ). h * w) (sym c.height.ensures.height ∙ c.log2_strict_usize-log_h.ensures.power) (sym c.width-width.ensures.width)
 
-pub network_g-requires-clause-some : goal.network_g-requires-clause-some
-network_g-requires-clause-some g c = some_log c.height.result c.log2_strict_usize-log_h.result c.log2_strict_usize-log_h.ensures.power (λ one. c.requires.several (sym c.height.ensures.height ∙ one))
+pub network_g-requires-clause-nonzero : goal.network_g-requires-clause-nonzero
+network_g-requires-clause-nonzero g c = some_log c.height.result c.log2_strict_usize-log_h.result c.log2_strict_usize-log_h.ensures.power (λ one. c.requires.several (sym c.height.ensures.height ∙ one))
 
 pub returns-in_err-twiddles-clause-room : goal.returns-in_err-twiddles-clause-room
 returns-in_err-twiddles-clause-room g c =

@@ -17,10 +17,10 @@ pub evaluate_to_natural-requires : goal.evaluate_to_natural-requires
 evaluate_to_natural-requires g c =
     let fits = c.requires.fits in
     let shape = c.in_ok-mat.ensures.shape in
-    let high = shape.0 ∙ ap (λ h. h * 2 ^ c.args.added_bits) fits.high ∙ sym (pow-add 2 fits.log c.args.added_bits) in
+    let high = shape.0 ∙ ap (λ h. h * 2 ^ c.args.added_bits) fits.height ∙ sym (pow-add 2 fits.log c.args.added_bits) in
     record {
       fits = output_fits _ _ _ c.args.added_bits _ _ fits high shape.1;
-      several = λ one. let sum = log_same (fits.log + c.args.added_bits) 0 (sym high ∙ one) in let none : fits.log ≡ 0 = omega (arith, sum) in c.requires.several (fits.high ∙ ap (λ n. 2 ^ n) none) (omega (arith, sum));
+      several = λ one. let sum = log_same (fits.log + c.args.added_bits) 0 (sym high ∙ one) in let none : fits.log ≡ 0 = omega (arith, sum) in c.requires.several (fits.height ∙ ap (λ n. 2 ^ n) none) (omega (arith, sum));
     }
 
 pub returns-clause-values : goal.returns-clause-values

@@ -55,7 +55,7 @@ exchange_rows-requires-clause-j_in_bounds g c =
     let below : row < h = omega arith in
     let grown : height c.loop-done.mat ≡ height m * 2 ^ a =
     c.loop-done.invariant.shape.0 ∙ ap (λ (n : RowMajor g.row.F.Denot). height n) c.in_ok-mat.ensures.padded ∙ padded_high g.F.Field.ZERO m whole a in
-    let place = place_is row (height m) m.width a (omega (arith, tall)) whole.wide c.requires.size in
+    let place = place_is row (height m) m.width a (omega (arith, tall)) whole.width c.requires.size in
     let rows : (suc row) * 2 ^ a ≤ h * 2 ^ a = mul-le-mul_right (2 ^ a) below in
     let positive = pow_pos a in
     omega (arith, place, grown, rows, positive, ap (λ n. n * 2 ^ a) tall)
@@ -75,7 +75,7 @@ loop-done-preserved g c =
     let grown : height now ≡ h * 2 ^ a =
     shape.0 ∙ ap (λ (n : RowMajor g.row.F.Denot). height n) c.in_ok-mat.ensures.padded ∙ padded_high z m whole a ∙ ap (λ n. n * 2 ^ a) (sym tall) in
     let wide : now.width ≡ m.width = shape.1 ∙ ap (λ (n : RowMajor g.row.F.Denot). n.width) c.in_ok-mat.ensures.padded in
-    let place : row * 2 ^ a % 2 ^ 64 ≡ row * 2 ^ a = place_is row (height m) m.width a (omega (arith, tall)) whole.wide c.requires.size in
+    let place : row * 2 ^ a % 2 ^ 64 ≡ row * 2 ^ a = place_is row (height m) m.width a (omega (arith, tall)) whole.width c.requires.size in
     let next_is : row ≡ h + 1 - (c.loop-done.done + 1) = omega arith in
     let now_is : h + 1 - c.loop-done.done ≡ row + 1 = omega arith in
     record {
@@ -99,7 +99,7 @@ pub returns-clause-rows : goal.returns-clause-rows
 returns-clause-rows g c i j below inside =
     let z = g.F.Field.ZERO in
     let h = c.height-height.result in
-    let all : h + 1 - c.loop-done.done ≡ 1 = omega (arith, c.requires.some, c.height-height.ensures.height) in
+    let all : h + 1 - c.loop-done.done ≡ 1 = omega (arith, c.requires.nonzero, c.height-height.ensures.height) in
     let x = λ (r : ℕ). (matrix z c.args.mat).entry r j in
     let y = λ (r : ℕ). (matrix z c.loop-done.mat).entry r j in
     spread_rows z (2 ^ c.args.added_bits) h x y (subst (λ (n : ℕ). SpreadFrom z (2 ^ c.args.added_bits) h n x y) all (c.loop-done.invariant.rows j inside)) i (omega (arith, c.height-height.ensures.height))
@@ -108,7 +108,7 @@ pub returns-clause-others : goal.returns-clause-others
 returns-clause-others g c i r j below some less inside =
     let z = g.F.Field.ZERO in
     let h = c.height-height.result in
-    let all : h + 1 - c.loop-done.done ≡ 1 = omega (arith, c.requires.some, c.height-height.ensures.height) in
+    let all : h + 1 - c.loop-done.done ≡ 1 = omega (arith, c.requires.nonzero, c.height-height.ensures.height) in
     let x = λ (r : ℕ). (matrix z c.args.mat).entry r j in
     let y = λ (r : ℕ). (matrix z c.loop-done.mat).entry r j in
     spread_others z (2 ^ c.args.added_bits) h x y (subst (λ (n : ℕ). SpreadFrom z (2 ^ c.args.added_bits) h n x y) all (c.loop-done.invariant.rows j inside)) i r (omega (arith, c.height-height.ensures.height)) some less

@@ -30,7 +30,7 @@ returns-clause-rows g c k high =
     weighed_rows field.ring k (field.value c.args.scale) (field.value c.args.shift) (values_of field m) _ weight high
     (entries_of_parts field m _ c.values_mut.result.now after w h (λ i j x. field.ring.mul x (weight i))
     c.values_mut.ensures.values c.width-width.ensures.width (count ∙ sym tall)
-    (omega (arith, whole.wide, c.width-width.ensures.width)) size (sym c.width-width.ensures.width) (written _ after _ len)
+    (omega (arith, whole.width, c.width-width.ensures.width)) size (sym c.width-width.ensures.width) (written _ after _ len)
     c.weigh_rows.ensures.values)
     (λ b below.
     let under : b < 2 ^ log = subst (λ (n : ℕ). b < 2 ^ n) (sym same) below in
@@ -39,4 +39,4 @@ returns-clause-rows g c k high =
 
 pub returns-in_err-weights-clause-room : goal.returns-in_err-weights-clause-room
 returns-in_err-weights-clause-room g c =
-    room_of c.from_residual.result _ _ _ c.from_residual.ensures (powers_fit _ c.width-width.ensures.whole.wide (sym c.height.ensures.height ∙ c.log2_strict_usize-log_h.ensures.power)) c.in_err-weights.ensures.room
+    room_of c.from_residual.result _ _ _ c.from_residual.ensures (powers_fit _ c.width-width.ensures.whole.width (sym c.height.ensures.height ∙ c.log2_strict_usize-log_h.ensures.power)) c.in_err-weights.ensures.room

@@ -43,7 +43,7 @@ new-requires-clause-full g c =
     let len : length c.extending_network.new.values ≡ length items = c.extending_network.auto.values ∙ ap length c.as_mut_slice.ensures.value in
     full_rows _ c.extending_network.new.values w rows
     (written c.extend_by_zeros.new.values.len c.extending_network.new.values (drop (length c.extending_network.new.values) items) (omega (arith, len, c.extend_by_zeros.new.values.ok.0)))
-    (omega (arith, c.requires.whole.wide, c.width-width.ensures.width)) (len ∙ size)
+    (omega (arith, c.requires.whole.width, c.width-width.ensures.width)) (len ∙ size)
 
 pub extending_network-requires-clause-twiddles : goal.extending_network-requires-clause-twiddles
 extending_network-requires-clause-twiddles g c = c.requires.twiddles
@@ -57,18 +57,18 @@ extending_network-requires-clause-rows g c = ap length c.values-2.ensures.values
 pub extending_network-requires-clause-weights : goal.extending_network-requires-clause-weights
 extending_network-requires-clause-weights g c = ap length c.as_slice.ensures.value ∙ c.in_ok-weights.ensures.powers.size ∙ ap (λ n. 2 ^ n) (sym (added-sub c.args.log_h c.args.added_bits))
 
-pub extending_network-requires-clause-some : goal.extending_network-requires-clause-some
-extending_network-requires-clause-some g c = c.requires.some
+pub extending_network-requires-clause-nonzero : goal.extending_network-requires-clause-nonzero
+extending_network-requires-clause-nonzero g c = c.requires.nonzero
 
-pub extending_network-requires-clause-small : goal.extending_network-requires-clause-small
-extending_network-requires-clause-small g c = c.requires.small
+pub extending_network-requires-clause-fits_u64 : goal.extending_network-requires-clause-fits_u64
+extending_network-requires-clause-fits_u64 g c = c.requires.fits_u64
 
 pub extending_network-requires-clause-within : goal.extending_network-requires-clause-within
 extending_network-requires-clause-within g c = c.requires.within
 
 pub returns-in_err-weights-clause-room : goal.returns-in_err-weights-clause-room
 returns-in_err-weights-clause-room g c =
-    let table = powers_fit c.args.log_h c.requires.whole.wide c.requires.height in
+    let table = powers_fit c.args.log_h c.requires.whole.width c.requires.height in
     room_of c.from_residual.result _ _ _ c.from_residual.ensures (omega (arith, table, fewer_entries (height c.args.mat * c.args.mat.width) c.args.added_bits)) c.in_err-weights.ensures.room
 
 pub returns-in_err-extend_by_zeros-clause-room : goal.returns-in_err-extend_by_zeros-clause-room
@@ -92,7 +92,7 @@ returns g c =
     let len : length after ≡ length items = c.extending_network.auto.values ∙ ap length c.as_mut_slice.ensures.value in
     record {
       values =
-          let wide : 1 ≤ w = omega (arith, c.requires.whole.wide, c.width-width.ensures.width) in
+          let wide : 1 ≤ w = omega (arith, c.requires.whole.width, c.width-width.ensures.width) in
           let values_is = written c.extend_by_zeros.new.values.len after (drop (length after) items) (omega (arith, len, c.extend_by_zeros.new.values.ok.0)) in
           values_of_weighed field g.F.TwoAdicField.generator c.args.mat c.new.result after c.as_slice.result.now w k (k + a) (field.value c.args.scale) (field.value c.args.shift) c.requires.height wide c.width-width.ensures.width
           (ap (λ (n : RowMajor g.row.F.Denot). n.width) c.new.ensures) (ap (λ (n : RowMajor g.row.F.Denot). n.values) c.new.ensures ∙ values_is) (len ∙ size)
@@ -104,7 +104,7 @@ returns g c =
       cost =
           let taken : length c.as_mut_slice.result.now ≡ 2 ^ (k + a) * w = ap length c.as_mut_slice.ensures.value ∙ size in
           let same : w * (2 ^ a * (k * 2 ^ k / 2) + 2 ^ (k + a)) ≡ c.args.mat.width * (2 ^ a * (k * 2 ^ k / 2) + 2 ^ (k + a)) = ap (λ n. n * (2 ^ a * (k * 2 ^ k / 2) + 2 ^ (k + a))) c.width-width.ensures.width in
-          let made = extension_counted k a w (length c.as_mut_slice.result.now) c.args.products.now c.extending_network.new.products c.requires.some taken c.extending_network.ensures.cost in
+          let made = extension_counted k a w (length c.as_mut_slice.result.now) c.args.products.now c.extending_network.new.products c.requires.nonzero taken c.extending_network.ensures.cost in
           omega (arith, made, same);
       room = tt;
     }

@@ -14,7 +14,7 @@ use Rattle.p3_dft.proofs.radix_2_small_batch.extend_to_reversed.Goals as goal
 
 pub slots_network-requires-clause-size : goal.slots_network-requires-clause-size
 slots_network-requires-clause-size g c =
-    ap length c.values_mut.ensures.values ∙ sym c.requires.rows.whole.full ∙ ap₂ (λ h w. h * w) c.requires.rows.high (sym c.width-width.ensures.width)
+    ap length c.values_mut.ensures.values ∙ sym c.requires.rows.whole.full ∙ ap₂ (λ h w. h * w) c.requires.rows.height (sym c.width-width.ensures.width)
 
 pub returns-clause-values : goal.returns-clause-values
 returns-clause-values g c upper whole high over_zeros =
@@ -31,7 +31,7 @@ returns-clause-values g c upper whole high over_zeros =
     let wide : m.width ≡ w = sym c.width-width.ensures.width in
     let wide_upper : upper.width ≡ w = sym (ap (λ (x : RowMajor g.row.F.Denot). x.width) over_zeros) ∙ wide in
     let size : length after ≡ length m.values = c.slots_network.auto.values ∙ ap length c.values_mut.ensures.values in
-    let tall = ap (λ xs. length xs / m.width) (written (length m.values) after _ size) ∙ ap (λ k. k / m.width) size ∙ c.requires.rows.high in
+    let tall = ap (λ xs. length xs / m.width) (written (length m.values) after _ size) ∙ ap (λ k. k / m.width) size ∙ c.requires.rows.height in
     is_values field.ring gen coefficients n s _ tall (wide ∙ sym wide_upper)
     (λ i j below inside.
     let l : j < w = omega (arith, inside, wide_upper) in

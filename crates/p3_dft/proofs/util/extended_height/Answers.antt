@@ -8,7 +8,7 @@ entries_small : (most height width added : ℕ) → FitsLde most height width ad
 entries_small most height width added fits = let e : height * 2 ^ added * width ≡ height * width * 2 ^ added = omega arith in omega (arith, e, output_size most height width added fits)
 
 rows_small : (most height width added : ℕ) → FitsLde most height width added → height * 2 ^ added < 2 ^ 64
-rows_small most height width added fits = omega (arith, mul-le-mul_left (height * 2 ^ added) fits.wide, entries_small most height width added fits)
+rows_small most height width added fits = omega (arith, mul-le-mul_left (height * 2 ^ added) fits.width, entries_small most height width added fits)
 
 pub overflow_shl-result : goal.overflow_shl-result
 overflow_shl-result g c = omega (arith, output_log_small _ _ _ _ c.requires)

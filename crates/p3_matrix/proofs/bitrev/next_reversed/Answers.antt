@@ -9,14 +9,14 @@ loop-digit-init c =
     let is = one_shl c.args.bits 64 (omega arith) in
     record {
       carry = λ i l e. carry_starts c.args.bits i c.args.reverse _ l e (ap (λ n. n / 2) is);
-      small = omega arith;
+      fits_u64 = omega arith;
       falls = omega arith;
     }
 
 pub loop-digit-preserved : goal.loop-digit-preserved
 loop-digit-preserved c = record {
   carry = λ i l e. carry_goes_on c.args.bits i c.loop-digit.rest c.loop-digit.digit c.if-rest-digit.true (c.loop-digit.invariant.carry i l e);
-  small = omega arith;
+  fits_u64 = omega arith;
   falls = omega arith;
 }
 

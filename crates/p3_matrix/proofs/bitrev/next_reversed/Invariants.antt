@@ -6,7 +6,7 @@ use Rattle.p3_matrix.proofs.bitrev.next_reversed.Given as goal
 abbrev pub invariant-loop-digit : goal.invariant-loop-digit
 invariant-loop-digit l = record {
   carry : (i : ℕ) → i + 1 < 2 ^ l.fn.bits → l.fn.reverse ≡ rev l.fn.bits i → IsCarry l.fn.bits i l.rest l.digit;
-  small : 2 * l.digit ≤ 2 ^ l.fn.bits;
+  fits_u64 : 2 * l.digit ≤ 2 ^ l.fn.bits;
   falls : l.rest ≤ l.fn.reverse;
 }
 

@@ -28,8 +28,8 @@ loop-last-init g c = record {
       ((c.loop-tile.tile * 2 ^ c.args.outer + c.loop-first.first) * 2 ^ c.args.outer) ((c.loop-tile.tile * 2 ^ c.args.outer + c.loop-first.first) * 2 ^ c.args.outer + 0) c.loop-first.values (omega arith) c.loop-first.invariant.half;
 }
 
-pub chunk_number-near-requires-clause-small : goal.chunk_number-near-requires-clause-small
-chunk_number-near-requires-clause-small g c = usize_size c.args.bits (c.args.bits - 2 * c.args.outer) c.args.outer c.requires.outer refl _ _ (one_shl (c.args.bits - 2 * c.args.outer) 64 (omega arith)) (one_shl c.args.outer 64 (omega arith)) c.requires.bits
+pub chunk_number-near-requires-clause-fits_u64 : goal.chunk_number-near-requires-clause-fits_u64
+chunk_number-near-requires-clause-fits_u64 g c = usize_size c.args.bits (c.args.bits - 2 * c.args.outer) c.args.outer c.requires.outer refl _ _ (one_shl (c.args.bits - 2 * c.args.outer) 64 (omega arith)) (one_shl c.args.outer 64 (omega arith)) c.requires.bits
 
 pub chunk_number-far-requires-clause-first : goal.chunk_number-far-requires-clause-first
 chunk_number-far-requires-clause-first g c = omega (arith, c.reverse_bits_len-far_first.ensures, rev-lt c.args.outer c.loop-last.last, one_shl c.args.outer 64 (omega arith))
@@ -37,8 +37,8 @@ chunk_number-far-requires-clause-first g c = omega (arith, c.reverse_bits_len-fa
 pub chunk_number-far-requires-clause-last : goal.chunk_number-far-requires-clause-last
 chunk_number-far-requires-clause-last g c = omega (arith, c.reverse_bits_len-far_last.ensures, rev-lt c.args.outer c.loop-first.first, one_shl c.args.outer 64 (omega arith))
 
-pub chunk_number-far-requires-clause-small : goal.chunk_number-far-requires-clause-small
-chunk_number-far-requires-clause-small g c = usize_size c.args.bits (c.args.bits - 2 * c.args.outer) c.args.outer c.requires.outer refl _ _ (one_shl (c.args.bits - 2 * c.args.outer) 64 (omega arith)) (one_shl c.args.outer 64 (omega arith)) c.requires.bits
+pub chunk_number-far-requires-clause-fits_u64 : goal.chunk_number-far-requires-clause-fits_u64
+chunk_number-far-requires-clause-fits_u64 g c = usize_size c.args.bits (c.args.bits - 2 * c.args.outer) c.args.outer c.requires.outer refl _ _ (one_shl (c.args.bits - 2 * c.args.outer) 64 (omega arith)) (one_shl c.args.outer 64 (omega arith)) c.requires.bits
 
 pub overflow_mul-near : goal.overflow_mul-near
 overflow_mul-near g c =

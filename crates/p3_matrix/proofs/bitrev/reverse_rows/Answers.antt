@@ -12,8 +12,8 @@ returns-clause-rows g c k high d =
     (subst (λ (m : RowMajor g.row.T.Denot). Same (matrix d c.reverse_matrix_index_bits.new.view.matrix.now) (bit_reversal k (matrix d m))) is
     (c.reverse_matrix_index_bits.ensures.rows k (ap height is ∙ high) d))
 
-pub returns-clause-there : goal.returns-clause-there
-returns-clause-there g c k high =
+pub returns-clause-reversed : goal.returns-clause-reversed
+returns-clause-reversed g c k high =
     let is = c.as_view_mut.ensures.matrix in
     let rows = rw is at c.reverse_matrix_index_bits.ensures.rows in
     let shape = rw is at c.reverse_matrix_index_bits.ensures.shape in

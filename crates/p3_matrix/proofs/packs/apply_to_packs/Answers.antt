@@ -33,7 +33,7 @@ pub loop-at-init : goal.loop-at-init
 loop-at-init g c = record { width = c.WIDTH-width.ensures; left = (c.requires.whole.0, packs_left _ _ _ _ c.WIDTH-width.ensures c.requires.whole.1); near = refl; far = refl; count = none_yet _ _ }
 
 pub loop-at-smaller : goal.loop-at-smaller
-loop-at-smaller g c = packs_smaller _ _ _ _ _ c.loop-at-test.true c.loop-at.auto.row_1 c.WIDTH-width.ensures c.requires.wide
+loop-at-smaller g c = packs_smaller _ _ _ _ _ c.loop-at-test.true c.loop-at.auto.row_1 c.WIDTH-width.ensures c.requires.width
 
 pub offset_bounds-row_1-at : goal.offset_bounds-row_1-at
 offset_bounds-row_1-at g c = scaled_Fits _ _ _ (subst (λ n. c.loop-at.at < n) c.loop-at.auto.row_1 c.loop-at-test.true) c.well_formed.1.0.1

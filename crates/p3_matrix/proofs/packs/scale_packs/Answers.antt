@@ -38,7 +38,7 @@ pub loop-at-init : goal.loop-at-init
 loop-at-init g c = record { width = c.WIDTH-width.ensures; left = (c.requires.whole.0, packs_left _ _ _ _ c.WIDTH-width.ensures c.requires.whole.1); done = refl; count = sym (add-zero _) }
 
 pub loop-at-smaller : goal.loop-at-smaller
-loop-at-smaller g c = packs_smaller _ _ _ _ _ c.loop-at-test.true c.loop-at.auto.values c.WIDTH-width.ensures c.requires.wide
+loop-at-smaller g c = packs_smaller _ _ _ _ _ c.loop-at-test.true c.loop-at.auto.values c.WIDTH-width.ensures c.requires.width
 
 pub offset_bounds-values-at : goal.offset_bounds-values-at
 offset_bounds-values-at g c = scaled_Fits _ _ _ (subst (λ n. c.loop-at.at < n) c.loop-at.auto.values c.loop-at-test.true) c.well_formed.0.1

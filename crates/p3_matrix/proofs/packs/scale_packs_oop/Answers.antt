@@ -41,4 +41,4 @@ pub loop-at-init : goal.loop-at-init
 loop-at-init g c = record { width = c.WIDTH-width.ensures; left = (c.requires.whole.0, packs_left _ _ _ _ c.WIDTH-width.ensures c.requires.whole.1); done = refl; count = sym (add-zero _) }
 
 pub loop-at-smaller : goal.loop-at-smaller
-loop-at-smaller g c = packs_smaller _ _ _ _ _ c.loop-at-test.true refl c.WIDTH-width.ensures c.requires.wide
+loop-at-smaller g c = packs_smaller _ _ _ _ _ c.loop-at-test.true refl c.WIDTH-width.ensures c.requires.width

@@ -20,8 +20,8 @@ layer_at value d near far old new first blocks =
 pub meet_blocks-requires-clause-size : goal.meet_blocks-requires-clause-size
 meet_blocks-requires-clause-size g c = known_sizes (λ w h. length c.args.values.now ≡ c.args.blocks * (2 * (h * w))) c.args.width c.args.half 1 1 c.if-width-eq1.true c.if-half-eq1.true c.requires.size
 
-pub meet_blocks-requires-clause-there : goal.meet_blocks-requires-clause-there
-meet_blocks-requires-clause-there g c = subst (λ h. (b t : ℕ) → b < c.args.blocks → t < h → g.R.Rule.has c.args.rule (c.args.first_block + b) t) c.if-half-eq1.true c.requires.there
+pub meet_blocks-requires-clause-in_table : goal.meet_blocks-requires-clause-in_table
+meet_blocks-requires-clause-in_table g c = subst (λ h. (b t : ℕ) → b < c.args.blocks → t < h → g.R.Rule.has c.args.rule (c.args.first_block + b) t) c.if-half-eq1.true c.requires.in_table
 
 pub returns-then-half-eq1-clause-cells : goal.returns-then-half-eq1-clause-cells
 returns-then-half-eq1-clause-cells g c =
@@ -36,8 +36,8 @@ returns-then-half-eq1-clause-cost g c =
 pub meet_blocks-requires-then-half-eq2-clause-size : goal.meet_blocks-requires-then-half-eq2-clause-size
 meet_blocks-requires-then-half-eq2-clause-size g c = known_sizes (λ w h. length c.args.values.now ≡ c.args.blocks * (2 * (h * w))) c.args.width c.args.half 1 2 c.if-width-eq1-2.true c.if-half-eq2.true c.requires.size
 
-pub meet_blocks-requires-then-half-eq2-clause-there : goal.meet_blocks-requires-then-half-eq2-clause-there
-meet_blocks-requires-then-half-eq2-clause-there g c = subst (λ h. (b t : ℕ) → b < c.args.blocks → t < h → g.R.Rule.has c.args.rule (c.args.first_block + b) t) c.if-half-eq2.true c.requires.there
+pub meet_blocks-requires-then-half-eq2-clause-in_table : goal.meet_blocks-requires-then-half-eq2-clause-in_table
+meet_blocks-requires-then-half-eq2-clause-in_table g c = subst (λ h. (b t : ℕ) → b < c.args.blocks → t < h → g.R.Rule.has c.args.rule (c.args.first_block + b) t) c.if-half-eq2.true c.requires.in_table
 
 pub returns-then-half-eq2-clause-cells : goal.returns-then-half-eq2-clause-cells
 returns-then-half-eq2-clause-cells g c =
@@ -52,8 +52,8 @@ returns-then-half-eq2-clause-cost g c =
 pub meet_blocks-requires-then-half-eq4-clause-size : goal.meet_blocks-requires-then-half-eq4-clause-size
 meet_blocks-requires-then-half-eq4-clause-size g c = known_sizes (λ w h. length c.args.values.now ≡ c.args.blocks * (2 * (h * w))) c.args.width c.args.half 1 4 c.if-width-eq1-3.true c.if-half-eq4.true c.requires.size
 
-pub meet_blocks-requires-then-half-eq4-clause-there : goal.meet_blocks-requires-then-half-eq4-clause-there
-meet_blocks-requires-then-half-eq4-clause-there g c = subst (λ h. (b t : ℕ) → b < c.args.blocks → t < h → g.R.Rule.has c.args.rule (c.args.first_block + b) t) c.if-half-eq4.true c.requires.there
+pub meet_blocks-requires-then-half-eq4-clause-in_table : goal.meet_blocks-requires-then-half-eq4-clause-in_table
+meet_blocks-requires-then-half-eq4-clause-in_table g c = subst (λ h. (b t : ℕ) → b < c.args.blocks → t < h → g.R.Rule.has c.args.rule (c.args.first_block + b) t) c.if-half-eq4.true c.requires.in_table
 
 pub returns-then-half-eq4-clause-cells : goal.returns-then-half-eq4-clause-cells
 returns-then-half-eq4-clause-cells g c =

@@ -27,7 +27,7 @@ returns-then-goes_by_block-clause-cells g c =
     let near = g.R.Rule.near field.Element field.ring field.value c.args.rule c.args.block in
     let far = g.R.Rule.far field.Element field.ring field.value c.args.rule c.args.block in
     let front = c.split_at_mut-low.ensures in
-    halves_met field.value field.ZERO w h near far c.args.values.now c.split_at_mut-low.result.0.now c.split_at_mut-low.result.1.now c.meet.new.row_1 c.meet.new.row_2 c.requires.wide front.front front.back (c.meet.auto.row_1 ∙ front.front_len)
+    halves_met field.value field.ZERO w h near far c.args.values.now c.split_at_mut-low.result.0.now c.split_at_mut-low.result.1.now c.meet.new.row_1 c.meet.new.row_2 c.requires.width front.front front.back (c.meet.auto.row_1 ∙ front.front_len)
     (λ t j p q inside.
     let x = field.value (get_or c.split_at_mut-low.result.0.now (t * w + j) field.ZERO) in
     let y = field.value (get_or c.split_at_mut-low.result.1.now (t * w + j) field.ZERO) in
@@ -45,7 +45,7 @@ returns-then-is_column_of_packs-clause-cells g c =
     let far = g.R.Rule.far field.Element field.ring field.value c.args.rule c.args.block in
     let front = c.split_at_mut-low.ensures in
     let one : w ≡ 1 = (c.is_column_of_packs.ensures.0 c.if-is_column_of_packs.true).0 in
-    halves_met field.value field.ZERO w h near far c.args.values.now c.split_at_mut-low.result.0.now c.split_at_mut-low.result.1.now c.meet_column.new.low c.meet_column.new.high c.requires.wide front.front front.back (c.meet_column.auto.low ∙ front.front_len)
+    halves_met field.value field.ZERO w h near far c.args.values.now c.split_at_mut-low.result.0.now c.split_at_mut-low.result.1.now c.meet_column.new.low c.meet_column.new.high c.requires.width front.front front.back (c.meet_column.auto.low ∙ front.front_len)
     (λ t j p q inside.
     let x = field.value (get_or c.split_at_mut-low.result.0.now (t * w + j) field.ZERO) in
     let y = field.value (get_or c.split_at_mut-low.result.1.now (t * w + j) field.ZERO) in
@@ -62,7 +62,7 @@ returns-else-is_column_of_packs-clause-cells g c =
     let near = g.R.Rule.near field.Element field.ring field.value c.args.rule c.args.block in
     let far = g.R.Rule.far field.Element field.ring field.value c.args.rule c.args.block in
     let front = c.split_at_mut-low.ensures in
-    halves_met field.value field.ZERO w h near far c.args.values.now c.split_at_mut-low.result.0.now c.split_at_mut-low.result.1.now c.meet_halves.new.low c.meet_halves.new.high c.requires.wide front.front front.back (c.meet_halves.auto.low ∙ front.front_len)
+    halves_met field.value field.ZERO w h near far c.args.values.now c.split_at_mut-low.result.0.now c.split_at_mut-low.result.1.now c.meet_halves.new.low c.meet_halves.new.high c.requires.width front.front front.back (c.meet_halves.auto.low ∙ front.front_len)
     (λ t j p q inside. (c.meet_halves.ensures.near t j p q, c.meet_halves.ensures.far t j p q))
 
 pub returns-then-is_column_of_packs-clause-cost : goal.returns-then-is_column_of_packs-clause-cost
@@ -71,8 +71,8 @@ returns-then-is_column_of_packs-clause-cost g c = subst (λ n. c.meet_column.new
 pub returns-then-goes_by_block-clause-cost : goal.returns-then-goes_by_block-clause-cost
 returns-then-goes_by_block-clause-cost g c = subst (λ n. c.meet.new.products ≤ c.args.products.now + g.R.Rule.cost * n) c.split_at_mut-low.ensures.front_len c.meet.ensures.cost
 
-pub meet_column-requires-clause-some : goal.meet_column-requires-clause-some
-meet_column-requires-clause-some g c = subst (λ n. 1 ≤ n) (sym c.split_at_mut-low.ensures.front_len) (mul-le-mul c.requires.some c.requires.wide)
+pub meet_column-requires-clause-nonzero : goal.meet_column-requires-clause-nonzero
+meet_column-requires-clause-nonzero g c = subst (λ n. 1 ≤ n) (sym c.split_at_mut-low.ensures.front_len) (mul-le-mul c.requires.nonzero c.requires.width)
 
 pub meet_column-requires-clause-size : goal.meet_column-requires-clause-size
 meet_column-requires-clause-size g c = halves_same _ _ _ _ c.split_at_mut-low.ensures.front_len c.split_at_mut-low.ensures.back_len c.requires.size

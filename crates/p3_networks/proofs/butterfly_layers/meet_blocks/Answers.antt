@@ -13,7 +13,7 @@ overflow_mul-size-2 g c = omega (arith, block_room 0 c.args.blocks (2 * (c.args.
 pub on_each_chunk-requires : goal.on_each_chunk-requires
 on_each_chunk-requires g c = record {
   whole = c.requires.size;
-  accepts = λ n below. (c.requires.wide, (c.requires.some, (omega (arith, below, c.requires.numbers), (refl, λ t inside. c.requires.there n t below inside))));
+  accepts = λ n below. (c.requires.width, (c.requires.nonzero, (omega (arith, below, c.requires.numbers), (refl, λ t inside. c.requires.in_table n t below inside))));
 }
 
 pub returns-clause-cells : goal.returns-clause-cells

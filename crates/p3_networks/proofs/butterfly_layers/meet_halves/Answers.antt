@@ -5,7 +5,7 @@ use Rattle.p3_matrix.proofs.Rows.Overwritten.{rows-next, rows-none, rows-all}
 use Rattle.p3_networks.proofs.butterfly_layers.meet_halves.Goals as goal
 
 pub meet_ranges-requires-clause-room : goal.meet_ranges-requires-clause-room
-meet_ranges-requires-clause-room g c = omega (arith, block_room 0 c.args.half c.args.width (length c.args.low.now) c.requires.some c.requires.low)
+meet_ranges-requires-clause-room g c = omega (arith, block_room 0 c.args.half c.args.width (length c.args.low.now) c.requires.nonzero c.requires.low)
 
 pub overflow_mul-start : goal.overflow_mul-start
 overflow_mul-start g c = omega (arith, block_room c.loop-t.t c.args.half c.args.width (length c.args.low.now) c.loop-t-test.true c.requires.low)
@@ -69,4 +69,4 @@ pub returns-clause-far : goal.returns-clause-far
 returns-clause-far g c = rows-all g.F.Field.ZERO c.args.width _ c.args.high.now c.loop-t.high c.loop-t.t c.args.half c.loop-t-test.false c.loop-t.invariant.far
 
 pub returns-clause-cost : goal.returns-clause-cost
-returns-clause-cost g c = count_all g.R.Rule.cost c.loop-t.t c.args.half c.args.width c.args.products.now c.loop-t.products (c.loop-t.auto.t-end c.requires.some) c.loop-t.invariant.cost
+returns-clause-cost g c = count_all g.R.Rule.cost c.loop-t.t c.args.half c.args.width c.args.products.now c.loop-t.products (c.loop-t.auto.t-end c.requires.nonzero) c.loop-t.invariant.cost

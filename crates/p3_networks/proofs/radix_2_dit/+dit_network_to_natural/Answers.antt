@@ -17,14 +17,14 @@ dit_network_to_natural-requires g t c κs within =
     let k = c.args.log_h in
     let size = c.split_at_mut-low.ensures.front_len ∙ half_size k c.args.width (length c.args.values.now) c.if-log_h-gt0.true c.requires.size in
     let fewer = fewer_layers g.F.Field (root_powers g.F.Field g.F.TwoAdicField.generator false) (k - 1) k c.args.twiddles.now (omega arith) c.requires.twiddles in
-    (omega (arith, c.decreases, c.if-log_h-gt0.true), (within.0, (within.1, (c.requires.wide, (omega (arith, c.requires.small), (omega (arith, c.requires.within), (size, fewer)))))))
+    (omega (arith, c.decreases, c.if-log_h-gt0.true), (within.0, (within.1, (c.requires.width, (omega (arith, c.requires.fits_u64), (omega (arith, c.requires.within), (size, fewer)))))))
 
 pub dit_network_to_natural-requires-then-values-gt-CACHED : goal.dit_network_to_natural-requires-then-values-gt-CACHED
 dit_network_to_natural-requires-then-values-gt-CACHED g t c κs within =
     let k = c.args.log_h in
     let size = rest_size k c.args.width (length c.args.values.now) (length c.split_at_mut-low.result.1.now) c.if-log_h-gt0.true c.requires.size c.split_at_mut-low.ensures.back_len in
     let fewer = fewer_layers g.F.Field (root_powers g.F.Field g.F.TwoAdicField.generator false) (k - 1) k c.args.twiddles.now (omega arith) c.requires.twiddles in
-    (omega (arith, c.decreases, c.if-log_h-gt0.true), (within.0, (within.1, (c.requires.wide, (omega (arith, c.requires.small), (omega (arith, c.requires.within), (size, fewer)))))))
+    (omega (arith, c.decreases, c.if-log_h-gt0.true), (within.0, (within.1, (c.requires.width, (omega (arith, c.requires.fits_u64), (omega (arith, c.requires.within), (size, fewer)))))))
 
 pub one_low_layer-requires : goal.one_low_layer-requires
 one_low_layer-requires g t c =
@@ -32,7 +32,7 @@ one_low_layer-requires g t c =
     let second = c.dit_network_to_natural-then-values-gt-CACHED in
     let front = first.auto.values ∙ c.split_at_mut-low.ensures.front_len in
     let size : length (first.new.values ++ second.new.values) ≡ 2 ^ c.args.log_h * c.args.width = omega (arith, length-append first.new.values second.new.values, front, second.auto.values, c.split_at_mut-low.ensures.back_len, c.requires.size) in
-    record { rows = record { wide = c.requires.wide; small = c.requires.small; size = size }; below = omega (arith, c.if-log_h-gt0.true); table = c.requires.twiddles.size }
+    record { rows = record { width = c.requires.width; fits_u64 = c.requires.fits_u64; size = size }; below = omega (arith, c.if-log_h-gt0.true); table = c.requires.twiddles.size }
 
 pub returns-then-values-gt-CACHED-clause-values : goal.returns-then-values-gt-CACHED-clause-values
 returns-then-values-gt-CACHED-clause-values g t c r j below inside =
@@ -65,4 +65,4 @@ returns-then-values-gt-CACHED-clause-cost g t c =
     c.if-log_h-gt0.true c.dit_network_to_natural.ensures.cost c.dit_network_to_natural-then-values-gt-CACHED.ensures.cost c.one_low_layer.ensures.cost.cost
 
 pub network_in_cache-requires : goal.network_in_cache-requires
-network_in_cache-requires g t c = record { wide = c.requires.wide; small = c.requires.small; within = c.requires.within; size = c.requires.size; twiddles = c.requires.twiddles }
+network_in_cache-requires g t c = record { width = c.requires.width; fits_u64 = c.requires.fits_u64; within = c.requires.within; size = c.requires.size; twiddles = c.requires.twiddles }

@@ -47,22 +47,22 @@ pub loop-b-init : goal.loop-b-init
 loop-b-init g c =
     let field = g.F.Field in
     let n = c.args.log_h - 1 in
-    let chunk = chunk_of n c.loop-l.l (omega (arith, c.requires.some, c.requires.small)) (omega (arith, c.loop-l-test.true)) in
+    let chunk = chunk_of n c.loop-l.l (omega (arith, c.requires.nonzero, c.requires.fits_u64)) (omega (arith, c.loop-l-test.true)) in
     subst (λ (m : ℕ). AreTwiddles field m (block_powers field (backward_root field g.F.TwoAdicField.generator) n) c.loop-l.inverse.items) (sym chunk.is) c.loop-l.invariant
 
 pub overflow_mul-chunk : goal.overflow_mul-chunk
 overflow_mul-chunk g c =
-    let chunk = chunk_of (c.args.log_h - 1) c.loop-l.l (omega (arith, c.requires.some, c.requires.small)) (omega (arith, c.loop-l-test.true)) in
+    let chunk = chunk_of (c.args.log_h - 1) c.loop-l.l (omega (arith, c.requires.nonzero, c.requires.fits_u64)) (omega (arith, c.loop-l-test.true)) in
     omega (arith, chunk.half)
 
 pub offset_bounds-powers-chunk : goal.offset_bounds-powers-chunk
 offset_bounds-powers-chunk g c =
-    let chunk = chunk_of (c.args.log_h - 1) c.loop-l.l (omega (arith, c.requires.some, c.requires.small)) (omega (arith, c.loop-l-test.true)) in
+    let chunk = chunk_of (c.args.log_h - 1) c.loop-l.l (omega (arith, c.requires.nonzero, c.requires.fits_u64)) (omega (arith, c.loop-l-test.true)) in
     omega (arith, chunk.room, c.requires.powers.size, c.loop-b.auto.b)
 
 pub bounds-powers-chunk : goal.bounds-powers-chunk
 bounds-powers-chunk g c =
-    let chunk = chunk_of (c.args.log_h - 1) c.loop-l.l (omega (arith, c.requires.some, c.requires.small)) (omega (arith, c.loop-l-test.true)) in
+    let chunk = chunk_of (c.args.log_h - 1) c.loop-l.l (omega (arith, c.requires.nonzero, c.requires.fits_u64)) (omega (arith, c.loop-l-test.true)) in
     omega (arith, chunk.room, chunk.is, c.requires.powers.size, c.loop-b.auto.b, pow_pos c.loop-l.l)
 
 pub loop-b-preserved : goal.loop-b-preserved
@@ -72,7 +72,7 @@ loop-b-preserved g c =
     let l = c.loop-l.l in
     let b = c.loop-b.b in
     let before = c.loop-b.inverse.items in
-    let chunk = chunk_of n l (omega (arith, c.requires.some, c.requires.small)) (omega (arith, c.loop-l-test.true)) in
+    let chunk = chunk_of n l (omega (arith, c.requires.nonzero, c.requires.fits_u64)) (omega (arith, c.loop-l-test.true)) in
     let now : c.push-in-loop-b.new.items.items ≡ before ++ c.neg.result ∷ [] = c.in_ok-push-2.ensures.items in
     let from : 2 ^ l ≤ b = omega (arith, chunk.is, c.loop-b.auto.b) in
     let until : b < 2 * 2 ^ l = omega (arith, chunk.is, c.loop-b-test.true) in
@@ -83,7 +83,7 @@ loop-b-preserved g c =
     (omega (arith, chunk.room, chunk.is, c.requires.powers.size, from, pow_pos l)) refl)
     ∙ ap (λ x. field.ring.neg (field.value (get_or c.args.powers.now x field.ZERO))) place
     ∙ ap field.ring.neg (c.requires.powers.entries (3 * 2 ^ l - 1 - b) (omega (arith, chunk.room, chunk.is, from, pow_pos l)))
-    ∙ inverse_entry field.ring g.met.F.TwoAdicField.roots_law n l b (omega (arith, c.requires.some, c.requires.within)) (omega (arith, c.loop-l-test.true)) from until in
+    ∙ inverse_entry field.ring g.met.F.TwoAdicField.roots_law n l b (omega (arith, c.requires.nonzero, c.requires.within)) (omega (arith, c.loop-l-test.true)) from until in
     record {
       size = ap length now ∙ length-append before (c.neg.result ∷ []) ∙ ap (λ k. k + 1) c.loop-b.invariant.size;
       entries = below_more (λ e. field.value (get_or c.push-in-loop-b.new.items.items e field.ZERO) ≡ block_powers field (backward_root field g.F.TwoAdicField.generator) n e) b
@@ -96,7 +96,7 @@ loop-l-preserved g c =
     let field = g.F.Field in
     let n = c.args.log_h - 1 in
     let l = c.loop-l.l in
-    let chunk = chunk_of n l (omega (arith, c.requires.some, c.requires.small)) (omega (arith, c.loop-l-test.true)) in
+    let chunk = chunk_of n l (omega (arith, c.requires.nonzero, c.requires.fits_u64)) (omega (arith, c.loop-l-test.true)) in
     let end : c.loop-b.b ≡ 2 ^ (l + 1) = omega (arith, c.loop-b-test.false, c.loop-b.auto.b-end, chunk.is, ap (λ (m : ℕ). 2 ^ m) (add-one l), two-pow-succ l) in
     subst (λ (m : ℕ). AreTwiddles field m (block_powers field (backward_root field g.F.TwoAdicField.generator) n) c.loop-b.inverse.items) end c.loop-b.invariant
 
@@ -109,6 +109,6 @@ returns-clause-powers g c =
 
 pub returns-in_err-push-2-clause-room : goal.returns-in_err-push-2-clause-room
 returns-in_err-push-2-clause-room g c =
-    let chunk = chunk_of (c.args.log_h - 1) c.loop-l.l (omega (arith, c.requires.some, c.requires.small)) (omega (arith, c.loop-l-test.true)) in
+    let chunk = chunk_of (c.args.log_h - 1) c.loop-l.l (omega (arith, c.requires.nonzero, c.requires.fits_u64)) (omega (arith, c.loop-l-test.true)) in
     room_of c.from_residual-in_err-push-2.result _ _ _ c.from_residual-in_err-push-2.ensures
     (omega (arith, chunk.room, c.requires.powers.size, c.loop-b.invariant.size, c.loop-b-test.true, c.loop-b.inverse.ok.0)) c.in_err-push-2.ensures.room

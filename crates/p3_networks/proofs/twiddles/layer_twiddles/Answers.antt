@@ -6,5 +6,5 @@ use Rattle.p3_networks.proofs.twiddles.layer_twiddles.Goals as goal
 pub overflow_mul-result : goal.overflow_mul-result
 overflow_mul-result g c =
     let l = c.args.l in
-    let rise : 2 ^ suc l ≤ 2 ^ 63 = pow-le-pow_right {n = 2} (lit≤ tt) c.requires.small in
-    rw (one_shl l 64 (omega (arith, c.requires.small))) (omega (arith, rise, two-pow-succ l))
+    let rise : 2 ^ suc l ≤ 2 ^ 63 = pow-le-pow_right {n = 2} (lit≤ tt) c.requires.fits_u64 in
+    rw (one_shl l 64 (omega (arith, c.requires.fits_u64))) (omega (arith, rise, two-pow-succ l))

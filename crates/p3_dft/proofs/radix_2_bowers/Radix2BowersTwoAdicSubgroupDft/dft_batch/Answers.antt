@@ -33,10 +33,10 @@ pub returns-in_err-evaluate_to_natural-clause-succeeds : goal.returns-in_err-eva
 returns-in_err-evaluate_to_natural-clause-succeeds g c k high none = absurd (c.if-height-eq1.false (c.height.ensures.height ∙ ap height c.into_row_major_matrix-mat.ensures ∙ high ∙ ap (λ n. 2 ^ n) none))
 
 pub returns-in_err-evaluate_to_natural-clause-engine : goal.returns-in_err-evaluate_to_natural-clause-engine
-returns-in_err-evaluate_to_natural-clause-engine g c = after_counting _ _ _ c.self.view_is c.evaluate_to_natural.ensures.grows (λ k. tt) (λ k high. let tall : height c.into_row_major_matrix-mat.result ≡ 2 ^ k = ap height c.into_row_major_matrix-mat.ensures ∙ high in let rows = c.reverse_rows.ensures.rows k tall g.F.Field.ZERO in let width : c.reverse_rows.new.mat.width ≡ (g.N.IntoRowMajorMatrix.stored c.args.mat).width = rows.wide ∙ ap (λ (m : RowMajor g.row.F.Denot). m.width) c.into_row_major_matrix-mat.ensures in let made : c.evaluate_to_natural.new.products ≤ c.args.self.now + (g.N.IntoRowMajorMatrix.stored c.args.mat).width * (k * 2 ^ k / 2) = rw (← c.self.view_is, ← width) (c.evaluate_to_natural.ensures.cost k (rows.high ∙ tall)) in larger_bound _ _ _ _ made (le-add_right _ _)) (let shape = c.reverse_rows.ensures.shape in room_of c.from_residual.result _ _ _ c.from_residual.ensures (omega (arith, ap₂ (λ (h w : ℕ). h * w) (shape.0 ∙ ap height c.into_row_major_matrix-mat.ensures) (shape.1 ∙ ap (λ (m : RowMajor g.row.F.Denot). m.width) c.into_row_major_matrix-mat.ensures))) c.in_err-evaluate_to_natural.ensures.room)
+returns-in_err-evaluate_to_natural-clause-engine g c = after_counting _ _ _ c.self.view_is c.evaluate_to_natural.ensures.grows (λ k. tt) (λ k high. let tall : height c.into_row_major_matrix-mat.result ≡ 2 ^ k = ap height c.into_row_major_matrix-mat.ensures ∙ high in let rows = c.reverse_rows.ensures.rows k tall g.F.Field.ZERO in let width : c.reverse_rows.new.mat.width ≡ (g.N.IntoRowMajorMatrix.stored c.args.mat).width = rows.width ∙ ap (λ (m : RowMajor g.row.F.Denot). m.width) c.into_row_major_matrix-mat.ensures in let made : c.evaluate_to_natural.new.products ≤ c.args.self.now + (g.N.IntoRowMajorMatrix.stored c.args.mat).width * (k * 2 ^ k / 2) = rw (← c.self.view_is, ← width) (c.evaluate_to_natural.ensures.cost k (rows.height ∙ tall)) in larger_bound _ _ _ _ made (le-add_right _ _)) (let shape = c.reverse_rows.ensures.shape in room_of c.from_residual.result _ _ _ c.from_residual.ensures (omega (arith, ap₂ (λ (h w : ℕ). h * w) (shape.0 ∙ ap height c.into_row_major_matrix-mat.ensures) (shape.1 ∙ ap (λ (m : RowMajor g.row.F.Denot). m.width) c.into_row_major_matrix-mat.ensures))) c.in_err-evaluate_to_natural.ensures.room)
 
 pub returns-clause-values : goal.returns-clause-values
-returns-clause-values g c k high = let field = g.F.Field in let m = c.into_row_major_matrix-mat.result in let r = c.reverse_rows.new.mat in let tall : height m ≡ 2 ^ k = ap height c.into_row_major_matrix-mat.ensures ∙ high in let back = mapped_same field.value (matrix field.ZERO r) (bit_reversal k (matrix field.ZERO m)) (c.reverse_rows.ensures.rows k tall field.ZERO) in rw (← c.into_row_major_matrix-mat.ensures) (coefficients_same field.ring (λ n. field.value (g.F.TwoAdicField.generator n)) (bit_reversal k (values_of field r)) (values_of field m) k field.ring.one (values_of field c.evaluate_to_natural.new.mat) (same_sym (values_of field m) (bit_reversal k (values_of field r)) (reversed_back k (values_of field r) (values_of field m) tall back)) (c.in_ok-evaluate_to_natural.ensures.values k (back.high ∙ tall)))
+returns-clause-values g c k high = let field = g.F.Field in let m = c.into_row_major_matrix-mat.result in let r = c.reverse_rows.new.mat in let tall : height m ≡ 2 ^ k = ap height c.into_row_major_matrix-mat.ensures ∙ high in let back = mapped_same field.value (matrix field.ZERO r) (bit_reversal k (matrix field.ZERO m)) (c.reverse_rows.ensures.rows k tall field.ZERO) in rw (← c.into_row_major_matrix-mat.ensures) (coefficients_same field.ring (λ n. field.value (g.F.TwoAdicField.generator n)) (bit_reversal k (values_of field r)) (values_of field m) k field.ring.one (values_of field c.evaluate_to_natural.new.mat) (same_sym (values_of field m) (bit_reversal k (values_of field r)) (reversed_back k (values_of field r) (values_of field m) tall back)) (c.in_ok-evaluate_to_natural.ensures.values k (back.height ∙ tall)))
 
 pub returns-clause-engine : goal.returns-clause-engine
-returns-clause-engine g c = after_counting _ _ _ c.self.view_is c.evaluate_to_natural.ensures.grows (λ k. tt) (λ k high. let tall : height c.into_row_major_matrix-mat.result ≡ 2 ^ k = ap height c.into_row_major_matrix-mat.ensures ∙ high in let rows = c.reverse_rows.ensures.rows k tall g.F.Field.ZERO in let width : c.reverse_rows.new.mat.width ≡ (g.N.IntoRowMajorMatrix.stored c.args.mat).width = rows.wide ∙ ap (λ (m : RowMajor g.row.F.Denot). m.width) c.into_row_major_matrix-mat.ensures in let made : c.evaluate_to_natural.new.products ≤ c.args.self.now + (g.N.IntoRowMajorMatrix.stored c.args.mat).width * (k * 2 ^ k / 2) = rw (← c.self.view_is, ← width) (c.evaluate_to_natural.ensures.cost k (rows.high ∙ tall)) in larger_bound _ _ _ _ made (le-add_right _ _)) tt
+returns-clause-engine g c = after_counting _ _ _ c.self.view_is c.evaluate_to_natural.ensures.grows (λ k. tt) (λ k high. let tall : height c.into_row_major_matrix-mat.result ≡ 2 ^ k = ap height c.into_row_major_matrix-mat.ensures ∙ high in let rows = c.reverse_rows.ensures.rows k tall g.F.Field.ZERO in let width : c.reverse_rows.new.mat.width ≡ (g.N.IntoRowMajorMatrix.stored c.args.mat).width = rows.width ∙ ap (λ (m : RowMajor g.row.F.Denot). m.width) c.into_row_major_matrix-mat.ensures in let made : c.evaluate_to_natural.new.products ≤ c.args.self.now + (g.N.IntoRowMajorMatrix.stored c.args.mat).width * (k * 2 ^ k / 2) = rw (← c.self.view_is, ← width) (c.evaluate_to_natural.ensures.cost k (rows.height ∙ tall)) in larger_bound _ _ _ _ made (le-add_right _ _)) tt

@@ -24,8 +24,8 @@ slots_counted x y p w before middle after first second =
 pub block_height-block_height-requires-clause-within : goal.block_height-block_height-requires-clause-within
 block_height-block_height-requires-clause-within g c = (both_logs_fit _ _ c.requires.fits c.log2_strict_usize-log_h.ensures.power (c.height.ensures.height ∙ ap height c.into_row_major_matrix-mat.ensures)).2
 
-pub block_height-block_height-requires-clause-small : goal.block_height-block_height-requires-clause-small
-block_height-block_height-requires-clause-small g c = let small = (both_logs_fit _ _ c.requires.fits c.log2_strict_usize-log_h.ensures.power (c.height.ensures.height ∙ ap height c.into_row_major_matrix-mat.ensures)).3 in omega (arith, small)
+pub block_height-block_height-requires-clause-fits_u64 : goal.block_height-block_height-requires-clause-fits_u64
+block_height-block_height-requires-clause-fits_u64 g c = let small = (both_logs_fit _ _ c.requires.fits c.log2_strict_usize-log_h.ensures.power (c.height.ensures.height ∙ ap height c.into_row_major_matrix-mat.ensures)).3 in omega (arith, small)
 
 pub coefficients_with_room-room-requires-clause-fits : goal.coefficients_with_room-room-requires-clause-fits
 coefficients_with_room-room-requires-clause-fits g c = rw c.into_row_major_matrix-mat.ensures c.requires.fits
@@ -51,7 +51,7 @@ extend_reversed-extended-requires-clause-tables g c = c.in-Ok.ensures.cosets c.l
 pub bit_reverse_rows-requires : goal.bit_reverse_rows-requires
 bit_reverse_rows-requires g c = (
   c.log2_strict_usize-log_h.result + c.args.added_bits,
-  c.extend_reversed-extended.ensures.same.shape.0 ∙ (c.in-Ok.ensures.rows c.log2_strict_usize-log_h.result (sym c.height.ensures.height ∙ c.log2_strict_usize-log_h.ensures.power)).high,
+  c.extend_reversed-extended.ensures.same.shape.0 ∙ (c.in-Ok.ensures.rows c.log2_strict_usize-log_h.result (sym c.height.ensures.height ∙ c.log2_strict_usize-log_h.ensures.power)).height,
 )
 
 pub returns-in-Err : goal.returns-in-Err
@@ -118,7 +118,7 @@ returns g c =
     record {
       values = rw (← c.into_row_major_matrix-mat.ensures, c.bit_reverse_rows.ensures.matrix)
           (values_of_answered g.F.Field g.F.TwoAdicField.generator _ m answer.told answer.answered _ log _ _ high (answer.are_coefficients log high) answer.told_whole answer.answered_whole answer.called answer.kept.0
-          (values_seen g.F.Field g.F.TwoAdicField.generator (bit_reversal log (values_of g.F.Field answer.answered)) out _ _ c.bit_reverse_rows.result.bits (whole_still c.in-Ok.mat out rows.whole same) (same.shape.0 ∙ rows.high) c.bit_reverse_rows.ensures.height
+          (values_seen g.F.Field g.F.TwoAdicField.generator (bit_reversal log (values_of g.F.Field answer.answered)) out _ _ c.bit_reverse_rows.result.bits (whole_still c.in-Ok.mat out rows.whole same) (same.shape.0 ∙ rows.height) c.bit_reverse_rows.ensures.height
           (c.in_default.ensures.values answer.answered answer.answered_whole (answer.kept.0 ∙ high) answer.over_zeros)));
       published = at_log _ _ log tall (
           let (blocks, parts, run) = c.in_default.ensures.published in

@@ -9,7 +9,7 @@ pub on_prepared-requires-clause-alone : goal.on_prepared-requires-clause-alone
 on_prepared-requires-clause-alone g c whole one = ((refl, refl), λ bits high. row_seen g.F.Field g.F.TwoAdicField.generator _ _ _ bits whole one refl high)
 
 pub bit_reverse_rows-requires : goal.bit_reverse_rows-requires
-bit_reverse_rows-requires g c = (c.requires.fits.log, c.in_ok-mat.ensures.answer.0.0 ∙ c.requires.fits.high)
+bit_reverse_rows-requires g c = (c.requires.fits.log, c.in_ok-mat.ensures.answer.0.0 ∙ c.requires.fits.height)
 
 pub returns-in_err-mat-clause-succeeds : goal.returns-in_err-mat-clause-succeeds
 returns-in_err-mat-clause-succeeds g c = rw (← c.self.view_is) (λ k high there. absurd (not_ok c.on_prepared.result _ c.in_err-mat.was (c.on_prepared.ensures.succeeds k high there)))

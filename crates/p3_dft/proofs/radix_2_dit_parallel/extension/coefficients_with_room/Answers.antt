@@ -14,13 +14,13 @@ use Rattle.p3_dft.proofs.radix_2_dit_parallel.extension.coefficients_with_room.G
 pub make-requires : goal.make-requires
 make-requires g c =
     let (within, small, all_within, all_small) = both_logs_fit _ _ c.requires.fits c.log2_strict_usize-log_h.ensures.power c.height.ensures.height in
-    record { within = within; small = small }
+    record { within = within; fits_u64 = small }
 
 pub interpolate_to_reversed-requires-clause-rows : goal.interpolate_to_reversed-requires-clause-rows
 interpolate_to_reversed-requires-clause-rows g c = rows_found_lde _ _ _ c.height.ensures.whole c.height.ensures.height c.log2_strict_usize-log_h.ensures.power c.requires.fits refl
 
-pub interpolate_to_reversed-requires-clause-there : goal.interpolate_to_reversed-requires-clause-there
-interpolate_to_reversed-requires-clause-there g c = c.in_ok-make.ensures.made
+pub interpolate_to_reversed-requires-clause-in_table : goal.interpolate_to_reversed-requires-clause-in_table
+interpolate_to_reversed-requires-clause-in_table g c = c.in_ok-make.ensures.made
 
 pub interpolate_to_reversed-requires-clause-within : goal.interpolate_to_reversed-requires-clause-within
 interpolate_to_reversed-requires-clause-within g c = (both_logs_fit _ _ c.requires.fits c.log2_strict_usize-log_h.ensures.power c.height.ensures.height).0
@@ -41,16 +41,16 @@ pad_rows-requires-clause-size g c =
 pub make_all-requires : goal.make_all-requires
 make_all-requires g c =
     let (within, small, all_within, all_small) = both_logs_fit _ _ c.requires.fits c.log2_strict_usize-log_h.ensures.power c.height.ensures.height in
-    record { within = all_within; small = all_small }
+    record { within = all_within; fits_u64 = all_small }
 
 pub returns-in_err-make : goal.returns-in_err-make
-returns-in_err-make g c = let err = c.from_residual.ensures.0 in record { room = let table = extended_table c.args.added_bits c.log2_strict_usize-log_h.result c.height.ensures.whole.wide (sym c.height.ensures.height ∙ c.log2_strict_usize-log_h.ensures.power) in room_of c.from_residual.result _ _ _ c.from_residual.ensures (omega (arith, table)) c.in_err-make.ensures.room; answer = IfOk-from_err _ _ err; rows = IfOk-from_err _ _ err; prepared = λ k high. IfOk-from_err _ _ err; cosets = λ k high. IfOk-from_err _ _ err; keeps = c.make.ensures.keeps; leaves = λ k high. record { only = omega (arith, c.in_err-make.ensures.refused); adds = ([], sym (append-nil _), All-nil _); once = λ all. refl }; keeps_cosets = λ k s has. has; grows = le_refl _; cost = λ k high. more_allowed _ _ _ (more_allowed _ _ _ (le_refl _)) }
+returns-in_err-make g c = let err = c.from_residual.ensures.0 in record { room = let table = extended_table c.args.added_bits c.log2_strict_usize-log_h.result c.height.ensures.whole.width (sym c.height.ensures.height ∙ c.log2_strict_usize-log_h.ensures.power) in room_of c.from_residual.result _ _ _ c.from_residual.ensures (omega (arith, table)) c.in_err-make.ensures.room; answer = IfOk-from_err _ _ err; rows = IfOk-from_err _ _ err; prepared = λ k high. IfOk-from_err _ _ err; cosets = λ k high. IfOk-from_err _ _ err; keeps = c.make.ensures.keeps; leaves = λ k high. record { only = omega (arith, c.in_err-make.ensures.refused); adds = ([], sym (append-nil _), All-nil _); once = λ all. refl }; keeps_cosets = λ k s has. has; grows = le_refl _; cost = λ k high. more_allowed _ _ _ (more_allowed _ _ _ (le_refl _)) }
 
 pub returns-in_err-grown : goal.returns-in_err-grown
 returns-in_err-grown g c = let err = c.from_residual-in_err-grown.ensures.0 in record { room = let shape = c.requires.shape c.interpolate_to_reversed.new.mat c.transform-changed.result (whole_still c.args.mat c.interpolate_to_reversed.new.mat c.height.ensures.whole c.interpolate_to_reversed.ensures.same) c.interpolate_to_reversed.ensures.same.shape c.transform-changed.ensures in room_of c.from_residual-in_err-grown.result _ _ _ c.from_residual-in_err-grown.ensures (omega (arith, same_extended c.args.added_bits shape.0 shape.1)) c.in_err-grown.ensures.room; answer = IfOk-from_err _ _ err; rows = IfOk-from_err _ _ err; prepared = λ k high. IfOk-from_err _ _ err; cosets = λ k high. IfOk-from_err _ _ err; keeps = c.make.ensures.keeps; leaves = at_log _ _ _ (sym c.height.ensures.height ∙ c.log2_strict_usize-log_h.ensures.power) (record { only = omega (arith, c.make.ensures.only); adds = ([], sym (append-nil _), All-nil _); once = λ all. refl }); keeps_cosets = λ k s has. has; grows = c.interpolate_to_reversed.ensures.grows; cost = at_log _ _ _ (sym c.height.ensures.height ∙ c.log2_strict_usize-log_h.ensures.power) c.interpolate_to_reversed.ensures.cost }
 
 pub returns-in_err-make_all : goal.returns-in_err-make_all
-returns-in_err-make_all g c = let err = c.from_residual-in_err-make_all.ensures.0 in record { room = let table = extended_table c.args.added_bits c.log2_strict_usize-log_h.result c.height.ensures.whole.wide (sym c.height.ensures.height ∙ c.log2_strict_usize-log_h.ensures.power) in room_of c.from_residual-in_err-make_all.result _ _ _ c.from_residual-in_err-make_all.ensures (omega (arith, table)) c.in_err-make_all.ensures.room; answer = IfOk-from_err _ _ err; rows = IfOk-from_err _ _ err; prepared = λ k high. IfOk-from_err _ _ err; cosets = λ k high. IfOk-from_err _ _ err; keeps = c.make.ensures.keeps; leaves = at_log _ _ _ (sym c.height.ensures.height ∙ c.log2_strict_usize-log_h.ensures.power) (record { only = omega (arith, c.make.ensures.only); adds = c.make_all.ensures.only; once = c.make_all.ensures.once }); keeps_cosets = c.make_all.ensures.keeps; grows = c.interpolate_to_reversed.ensures.grows; cost = at_log _ _ _ (sym c.height.ensures.height ∙ c.log2_strict_usize-log_h.ensures.power) c.interpolate_to_reversed.ensures.cost }
+returns-in_err-make_all g c = let err = c.from_residual-in_err-make_all.ensures.0 in record { room = let table = extended_table c.args.added_bits c.log2_strict_usize-log_h.result c.height.ensures.whole.width (sym c.height.ensures.height ∙ c.log2_strict_usize-log_h.ensures.power) in room_of c.from_residual-in_err-make_all.result _ _ _ c.from_residual-in_err-make_all.ensures (omega (arith, table)) c.in_err-make_all.ensures.room; answer = IfOk-from_err _ _ err; rows = IfOk-from_err _ _ err; prepared = λ k high. IfOk-from_err _ _ err; cosets = λ k high. IfOk-from_err _ _ err; keeps = c.make.ensures.keeps; leaves = at_log _ _ _ (sym c.height.ensures.height ∙ c.log2_strict_usize-log_h.ensures.power) (record { only = omega (arith, c.make.ensures.only); adds = c.make_all.ensures.only; once = c.make_all.ensures.once }); keeps_cosets = c.make_all.ensures.keeps; grows = c.interpolate_to_reversed.ensures.grows; cost = at_log _ _ _ (sym c.height.ensures.height ∙ c.log2_strict_usize-log_h.ensures.power) c.interpolate_to_reversed.ensures.cost }
 
 pub returns : goal.returns
 returns g c =
@@ -61,8 +61,8 @@ returns g c =
       answer = record { told = c.interpolate_to_reversed.new.mat; are_coefficients = at_log _ _ _ high c.interpolate_to_reversed.ensures.coefficients; told_whole = whole; answered = c.transform-changed.result; answered_whole = c.pad_rows.ensures.whole; called = c.transform-changed.ensures; kept = shape; over_zeros = c.in_ok-grown.ensures.padded };
       rows = at_log _ _ _ high (record {
         whole = rw c.in_ok-grown.ensures.padded (padded_whole g.F.Field.ZERO c.transform-changed.result c.pad_rows.ensures.whole c.args.added_bits);
-        high = (padded_shape g.F.Field.ZERO c.args.mat c.transform-changed.result c.in_ok-grown.grown c.args.added_bits c.log2_strict_usize-log_h.result c.pad_rows.ensures.whole shape high c.in_ok-grown.ensures.padded).0;
-        small = (both_logs_fit _ _ c.requires.fits c.log2_strict_usize-log_h.ensures.power c.height.ensures.height).3;
+        height = (padded_shape g.F.Field.ZERO c.args.mat c.transform-changed.result c.in_ok-grown.grown c.args.added_bits c.log2_strict_usize-log_h.result c.pad_rows.ensures.whole shape high c.in_ok-grown.ensures.padded).0;
+        fits_u64 = (both_logs_fit _ _ c.requires.fits c.log2_strict_usize-log_h.ensures.power c.height.ensures.height).3;
       });
       prepared = at_log _ _ _ high c.in_ok-make.ensures.made;
       keeps = c.make.ensures.keeps;

@@ -39,7 +39,7 @@ returns-clause-values g c =
     let start = c.values_mut.result.now in
     let wide : m.width ≡ w = sym c.width-width.ensures.width in
     let size : length after ≡ length m.values = c.extend_slots.auto.values ∙ ap length c.values_mut.ensures.values in
-    let tall = ap (λ xs. length xs / m.width) (written (length m.values) after _ size) ∙ ap (λ k. k / m.width) size ∙ c.requires.rows.high in
+    let tall = ap (λ xs. length xs / m.width) (written (length m.values) after _ size) ∙ ap (λ k. k / m.width) size ∙ c.requires.rows.height in
     on_ok_weaker c.extend_slots.result
     (λ given upper whole high over_zeros.
     let wide_upper : upper.width ≡ w = sym (ap (λ (x : RowMajor g.row.F.Denot). x.width) over_zeros) ∙ wide in
@@ -67,7 +67,7 @@ returns-clause-published g c =
     let size : length after ≡ length m.values = c.extend_slots.auto.values ∙ ap length c.values_mut.ensures.values in
     let entries = take (length m.values) (after ++ drop (length after) m.values) in
     let values_is : entries ≡ after = written (length m.values) after (drop (length after) m.values) size in
-    let tall : length entries / m.width ≡ 2 ^ (log + a) = ap (λ xs. length xs / m.width) values_is ∙ ap (λ k. k / m.width) size ∙ c.requires.rows.high in
+    let tall : length entries / m.width ≡ 2 ^ (log + a) = ap (λ xs. length xs / m.width) values_is ∙ ap (λ k. k / m.width) size ∙ c.requires.rows.height in
     let parts : (log + 1) / 2 + (log - (log + 1) / 2) ≡ log = omega arith in
     let blocks : 2 ^ (log + a) ≡ 2 ^ a * 2 ^ ((log + 1) / 2) * b =
     pow-add 2 log a ∙ ap (λ k. 2 ^ k * 2 ^ a) (sym parts) ∙ ap (λ k. k * 2 ^ a) (pow-add 2 ((log + 1) / 2) (log - (log + 1) / 2)) ∙ omega arith in

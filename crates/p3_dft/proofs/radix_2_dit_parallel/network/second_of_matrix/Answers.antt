@@ -24,8 +24,8 @@ returns-clause-values g c root s roots table a t j p q l =
     ∙ c.second_half.ensures.values root s roots table a t j p q inside
     ∙ poly_same field.ring (2 ^ left) _ _ (point field.ring root left (point field.ring root (mid + left) s (rev mid a)) (rev left t))
     (λ u b. ap (λ x. field.ring.mul x (factor field c.args.scale)) (
-    reversed_cell field m r c.values_mut.result.now (mid + left) w (a * 2 ^ left + u) j c.requires.rows.high c.width-width.ensures.width c.reverse_rows.ensures.shape
-    (c.reverse_rows.ensures.rows (mid + left) c.requires.rows.high) c.values_mut.ensures.values (omega (arith, all, row_below a u (2 ^ left) (2 ^ mid) p b)) inside
+    reversed_cell field m r c.values_mut.result.now (mid + left) w (a * 2 ^ left + u) j c.requires.rows.height c.width-width.ensures.width c.reverse_rows.ensures.shape
+    (c.reverse_rows.ensures.rows (mid + left) c.requires.rows.height) c.values_mut.ensures.values (omega (arith, all, row_below a u (2 ^ left) (2 ^ mid) p b)) inside
     ∙ ap (λ n. (values_of field m).entry n j) (row_digits mid left a u b)))
 
 pub returns-clause-same : goal.returns-clause-same

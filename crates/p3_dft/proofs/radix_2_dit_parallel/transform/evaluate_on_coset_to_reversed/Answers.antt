@@ -48,7 +48,7 @@ returns-clause-values g c =
     let low = low_of_coset field g.F.TwoAdicField.generator s k xs mid left (omega arith) k_is table in
     let high = high_of_coset field g.F.TwoAdicField.generator s k xs mid (mid + left) (omega arith) (sym k_is) table in
     let tall : height out ≡ height m = c.network_to_reversed.ensures.same.shape.0 in
-    is_values field.ring gen (values_of field m) k s (bit_reversal k (values_of field out)) (tall ∙ c.requires.rows.high) c.network_to_reversed.ensures.same.shape.1
+    is_values field.ring gen (values_of field m) k s (bit_reversal k (values_of field out)) (tall ∙ c.requires.rows.height) c.network_to_reversed.ensures.same.shape.1
     (λ i j below inside.
     let f = λ (q : ℕ). (values_of field m).entry q j in
     let scaled = λ (q : ℕ). field.ring.mul (f q) field.ring.one in
@@ -57,7 +57,7 @@ returns-clause-values g c =
     ∙ ap (λ n. poly field.ring (2 ^ n) scaled (point field.ring gen n s (rev n (rev k i)))) k_is
     ∙ ap (λ r. poly field.ring (2 ^ k) scaled (point field.ring gen k s r)) (rev-rev k i below)
     ∙ poly_same field.ring (2 ^ k) scaled f x (λ q p. field.ring.mul_one (f q))
-    ∙ ap (λ n. poly field.ring n f x) (sym c.requires.rows.high))
+    ∙ ap (λ n. poly field.ring n f x) (sym c.requires.rows.height))
 
 pub returns-clause-cost : goal.returns-clause-cost
 returns-clause-cost g c =

@@ -16,13 +16,13 @@ halves_below : (k n : ℕ) → k ≤ n → mid_of k ≤ mid_of n
 halves_below k n below = omega (arith, below)
 
 pub network_to_reversed-requires-clause-low : goal.network_to_reversed-requires-clause-low
-network_to_reversed-requires-clause-low g c = (low_table g.F.Field g.F.TwoAdicField.generator c.args.inverse (mid_of c.args.log_h) _ 0 c.low.result.now (halves_below c.args.log_h _ c.requires.there) c.low.ensures.table).size
+network_to_reversed-requires-clause-low g c = (low_table g.F.Field g.F.TwoAdicField.generator c.args.inverse (mid_of c.args.log_h) _ 0 c.low.result.now (halves_below c.args.log_h _ c.requires.in_table) c.low.ensures.table).size
 
 pub network_to_reversed-requires-clause-rows : goal.network_to_reversed-requires-clause-rows
 network_to_reversed-requires-clause-rows g c = subst (HasTwoPowerRows c.args.mat.now) (sym (halves_whole c.args.log_h)) c.requires.rows
 
 pub network_to_reversed-requires-clause-high : goal.network_to_reversed-requires-clause-high
-network_to_reversed-requires-clause-high g c l from below = c.high.ensures.table.size l (omega (arith, below, c.requires.there))
+network_to_reversed-requires-clause-high g c l from below = c.high.ensures.table.size l (omega (arith, below, c.requires.in_table))
 
 pub returns-clause-values : goal.returns-clause-values
 returns-clause-values g c r j p q =
@@ -34,11 +34,11 @@ returns-clause-values g c r j p q =
     let left = k - mid in
     let root = root_of field gen inverse in
     let k_is : mid + left ≡ k = halves_whole k in
-    let roots : AreRoots field.ring (mid + left) root = fewer_roots field.ring (mid + left) _ (omega (arith, c.requires.there, c.high.ensures.within)) (are_roots field gen inverse g.met.F.TwoAdicField.roots_law) in
+    let roots : AreRoots field.ring (mid + left) root = fewer_roots field.ring (mid + left) _ (omega (arith, c.requires.in_table, c.high.ensures.within)) (are_roots field gen inverse g.met.F.TwoAdicField.roots_law) in
     let f = λ (u : ℕ). field.ring.mul ((values_of field c.args.mat.now).entry u j) (factor field c.args.scale) in
     c.network_to_reversed.ensures.values root field.ring.one roots
-    (low_table field gen inverse mid _ (2 ^ left) c.low.result.now (omega (arith, c.requires.there)) c.low.ensures.table)
-    (block_table field root mid (mid + left) c.args.tables.now c.high.result.now (omega (arith, c.requires.there)) c.high.ensures.table)
+    (low_table field gen inverse mid _ (2 ^ left) c.low.result.now (omega (arith, c.requires.in_table)) c.low.ensures.table)
+    (block_table field root mid (mid + left) c.args.tables.now c.high.result.now (omega (arith, c.requires.in_table)) c.high.ensures.table)
     r j (subst (λ (n : ℕ). r < 2 ^ n) (sym k_is) p) q
     ∙ ap (λ n. poly field.ring (2 ^ n) f (point field.ring root n field.ring.one (rev n r))) k_is
     ∙ ap (poly field.ring (2 ^ k) f) (point_of_one field.ring root k (rev k r))

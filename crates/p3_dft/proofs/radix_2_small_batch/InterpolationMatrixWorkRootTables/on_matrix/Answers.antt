@@ -15,15 +15,15 @@ returns-clause-takes g c =
     let undone : field.ring.mul (count field.ring (2 ^ k)) inverse ≡ field.ring.one =
     ap (λ x. field.ring.mul x inverse) (count-power_of_two field.ring k) ∙ c.div_2exp_u64-inverse.ensures ∙ ap field.value c.ONE.ensures ∙ g.met.F.Field.one_law in
     interpolation_of_reversed field g.F.TwoAdicField.generator g.met.F.TwoAdicField.roots_law c.args.mat.now c.reverse_rows.new.mat _ c.values_mut.result.now c.scaled_dif_network.new.values _ k c.width-width.result
-    inverse c.requires.within c.requires.rows.whole c.requires.rows.high c.reverse_rows.ensures.shape c.reverse_rows.ensures.size c.reverse_rows.ensures.rows c.values_mut.ensures.values c.width-width.ensures.width
+    inverse c.requires.within c.requires.rows.whole c.requires.rows.height c.reverse_rows.ensures.shape c.reverse_rows.ensures.size c.reverse_rows.ensures.rows c.values_mut.ensures.values c.width-width.ensures.width
     c.scaled_dif_network.auto.values refl refl undone c.scaled_dif_network.ensures.values
 
 pub scaled_dif_network-requires-clause-size : goal.scaled_dif_network-requires-clause-size
-scaled_dif_network-requires-clause-size g c = ap length c.values_mut.ensures.values ∙ c.reverse_rows.ensures.size ∙ sym c.requires.rows.whole.full ∙ ap₂ (λ (h w : ℕ). h * w) c.requires.rows.high (sym c.width-width.ensures.width)
+scaled_dif_network-requires-clause-size g c = ap length c.values_mut.ensures.values ∙ c.reverse_rows.ensures.size ∙ sym c.requires.rows.whole.full ∙ ap₂ (λ (h w : ℕ). h * w) c.requires.rows.height (sym c.width-width.ensures.width)
 
 pub scaled_dif_network-requires-clause-twiddles : goal.scaled_dif_network-requires-clause-twiddles
 scaled_dif_network-requires-clause-twiddles g c =
-    fewer_from_start g.F.Field (block_powers g.F.Field (backward_root g.F.Field g.F.TwoAdicField.generator)) c.args.log_h _ _ c.requires.there c.backward-twiddles.ensures.table
+    fewer_from_start g.F.Field (block_powers g.F.Field (backward_root g.F.Field g.F.TwoAdicField.generator)) c.args.log_h _ _ c.requires.in_table c.backward-twiddles.ensures.table
 
 pub returns-clause-cost : goal.returns-clause-cost
 returns-clause-cost g c = rw (← c.width-width.ensures.width) (one_for_each _ _ _ _ c.scaled_dif_network.ensures.cost)

@@ -32,7 +32,7 @@ overflow_add-log_h-2 g c = omega (arith, (log_fits _ _ c.requires.fits c.log2_st
 pub make-requires : goal.make-requires
 make-requires g c =
     let (within, small, all_within, all_small) = both_logs_fit _ _ c.requires.fits c.log2_strict_usize-log_h.ensures.power (c.height.ensures.height ∙ ap height c.into_row_major_matrix-mat.ensures) in
-    record { within = all_within; small = all_small }
+    record { within = all_within; fits_u64 = all_small }
 
 pub interpolate_unscaled_to_reversed-requires-clause-within : goal.interpolate_unscaled_to_reversed-requires-clause-within
 interpolate_unscaled_to_reversed-requires-clause-within g c = (both_logs_fit _ _ c.requires.fits c.log2_strict_usize-log_h.ensures.power (c.height.ensures.height ∙ ap height c.into_row_major_matrix-mat.ensures)).0
@@ -43,8 +43,8 @@ interpolate_unscaled_to_reversed-requires-clause-rows g c = rows_found_lde _ _ _
 pub interpolate_unscaled_to_reversed-requires-clause-twiddles : goal.interpolate_unscaled_to_reversed-requires-clause-twiddles
 interpolate_unscaled_to_reversed-requires-clause-twiddles g c = record { size = λ l below. c.backward-backward.ensures.table.size l (layer_within l _ _ _ below c.in_ok-make.ensures.made); entries = λ l b below inside. c.backward-backward.ensures.table.entries l b (layer_within l _ _ _ below c.in_ok-make.ensures.made) inside }
 
-pub extend_to_natural-requires-clause-small : goal.extend_to_natural-requires-clause-small
-extend_to_natural-requires-clause-small g c = (both_logs_fit _ _ c.requires.fits c.log2_strict_usize-log_h.ensures.power (c.height.ensures.height ∙ ap height c.into_row_major_matrix-mat.ensures)).3
+pub extend_to_natural-requires-clause-fits_u64 : goal.extend_to_natural-requires-clause-fits_u64
+extend_to_natural-requires-clause-fits_u64 g c = (both_logs_fit _ _ c.requires.fits c.log2_strict_usize-log_h.ensures.power (c.height.ensures.height ∙ ap height c.into_row_major_matrix-mat.ensures)).3
 
 pub extend_to_natural-requires-clause-within : goal.extend_to_natural-requires-clause-within
 extend_to_natural-requires-clause-within g c = (both_logs_fit _ _ c.requires.fits c.log2_strict_usize-log_h.ensures.power (c.height.ensures.height ∙ ap height c.into_row_major_matrix-mat.ensures)).2
@@ -61,7 +61,7 @@ extend_to_natural-requires-clause-twiddles g c = record { size = λ l below. c.f
 
 pub extend_to_natural-requires-clause-room : goal.extend_to_natural-requires-clause-room
 extend_to_natural-requires-clause-room g c =
-    let same : c.log2_strict_usize-log_h.result ≡ c.requires.fits.log = log_same _ _ (sym c.log2_strict_usize-log_h.ensures.power ∙ c.height.ensures.height ∙ ap height c.into_row_major_matrix-mat.ensures ∙ c.requires.fits.high) in let entries = ap₂ (λ w n. w * 2 ^ (n + c.args.added_bits)) (c.interpolate_unscaled_to_reversed.ensures.same.shape.1 ∙ ap (λ (n : RowMajor g.row.F.Denot). n.width) c.into_row_major_matrix-mat.ensures) same in
+    let same : c.log2_strict_usize-log_h.result ≡ c.requires.fits.log = log_same _ _ (sym c.log2_strict_usize-log_h.ensures.power ∙ c.height.ensures.height ∙ ap height c.into_row_major_matrix-mat.ensures ∙ c.requires.fits.height) in let entries = ap₂ (λ w n. w * 2 ^ (n + c.args.added_bits)) (c.interpolate_unscaled_to_reversed.ensures.same.shape.1 ∙ ap (λ (n : RowMajor g.row.F.Denot). n.width) c.into_row_major_matrix-mat.ensures) same in
     subst (λ (n : ℕ). n < 2 ^ 64) (sym entries) c.requires.fits.size
 
 pub returns-then-log_h-added_bits-eq0-clause-values : goal.returns-then-log_h-added_bits-eq0-clause-values
@@ -81,7 +81,7 @@ returns-in_err-make-clause-engine g c = after_error _ _ _ _ c.from_residual.ensu
     (room_of c.from_residual.result _ _ _ c.from_residual.ensures (omega (arith, extended_table_fits _ c.requires.fits (sym (ap height c.into_row_major_matrix-mat.ensures) ∙ sym c.height.ensures.height ∙ c.log2_strict_usize-log_h.ensures.power))) c.in_err-make.ensures.room)
 
 pub returns-clause-values : goal.returns-clause-values
-returns-clause-values g c = let field = g.F.Field in let log = c.log2_strict_usize-log_h.result in let m = c.into_row_major_matrix-mat.result in let a = c.args.added_bits in let s = field.value c.args.shift in let inverse = field.value c.div_2exp_u64-scale.result in let high : height m ≡ 2 ^ log = sym c.height.ensures.height ∙ c.log2_strict_usize-log_h.ensures.power in let multiples = bit_reversal log (values_of field c.interpolate_unscaled_to_reversed.new.mat) in let shifted = image (λ x. field.ring.mul x inverse) (coset_shift field.ring s multiples) in let undone : field.ring.mul (count field.ring (2 ^ log)) inverse ≡ field.ring.one = ap (λ x. field.ring.mul x inverse) (count-power_of_two field.ring log) ∙ c.div_2exp_u64-scale.ensures ∙ ap field.value c.ONE.ensures ∙ g.met.F.Field.one_law in let (d, quotient, on_coset) = shifted_quotient field.ring (2 ^ log) inverse s multiples shifted undone (record { high = refl; wide = refl; alike = λ i j p q. refl }) in rw (← c.into_row_major_matrix-mat.ensures) (IfOk-weaker c.extend_to_natural.result _ _ (λ out given. extension_of_coefficients field g.F.TwoAdicField.generator m out d a log s high (c.interpolate_unscaled_to_reversed.ensures.coefficients d quotient) (coset_values field.ring (λ n. field.value (g.F.TwoAdicField.generator n)) d shifted (log + a) s (values_of field out) on_coset given)) c.extend_to_natural.ensures.values)
+returns-clause-values g c = let field = g.F.Field in let log = c.log2_strict_usize-log_h.result in let m = c.into_row_major_matrix-mat.result in let a = c.args.added_bits in let s = field.value c.args.shift in let inverse = field.value c.div_2exp_u64-scale.result in let high : height m ≡ 2 ^ log = sym c.height.ensures.height ∙ c.log2_strict_usize-log_h.ensures.power in let multiples = bit_reversal log (values_of field c.interpolate_unscaled_to_reversed.new.mat) in let shifted = image (λ x. field.ring.mul x inverse) (coset_shift field.ring s multiples) in let undone : field.ring.mul (count field.ring (2 ^ log)) inverse ≡ field.ring.one = ap (λ x. field.ring.mul x inverse) (count-power_of_two field.ring log) ∙ c.div_2exp_u64-scale.ensures ∙ ap field.value c.ONE.ensures ∙ g.met.F.Field.one_law in let (d, quotient, on_coset) = shifted_quotient field.ring (2 ^ log) inverse s multiples shifted undone (record { height = refl; width = refl; alike = λ i j p q. refl }) in rw (← c.into_row_major_matrix-mat.ensures) (IfOk-weaker c.extend_to_natural.result _ _ (λ out given. extension_of_coefficients field g.F.TwoAdicField.generator m out d a log s high (c.interpolate_unscaled_to_reversed.ensures.coefficients d quotient) (coset_values field.ring (λ n. field.value (g.F.TwoAdicField.generator n)) d shifted (log + a) s (values_of field out) on_coset given)) c.extend_to_natural.ensures.values)
 
 pub returns-clause-one_row : goal.returns-clause-one_row
 returns-clause-one_row g c = λ one none. absurd (more_points c.height.result c.log2_strict_usize-log_h.result c.args.added_bits c.log2_strict_usize-log_h.ensures.power c.if-log_h-added_bits-eq0.false (c.height.ensures.height ∙ ap height c.into_row_major_matrix-mat.ensures ∙ one) none)

@@ -21,10 +21,10 @@ overflow_add-log_h g c = omega (arith, (log_fits _ _ c.requires.fits c.log2_stri
 pub make-requires : goal.make-requires
 make-requires g c =
     let (within, small, all_within, all_small) = both_logs_fit _ _ c.requires.fits c.log2_strict_usize-log_h.ensures.power (c.height.ensures.height ∙ ap height c.into_row_major_matrix-mat.ensures) in
-    record { within = all_within; small = all_small }
+    record { within = all_within; fits_u64 = all_small }
 
-pub extend_to_natural-requires-clause-small : goal.extend_to_natural-requires-clause-small
-extend_to_natural-requires-clause-small g c = (both_logs_fit _ _ c.requires.fits c.log2_strict_usize-log_h.ensures.power (c.height.ensures.height ∙ ap height c.into_row_major_matrix-mat.ensures)).3
+pub extend_to_natural-requires-clause-fits_u64 : goal.extend_to_natural-requires-clause-fits_u64
+extend_to_natural-requires-clause-fits_u64 g c = (both_logs_fit _ _ c.requires.fits c.log2_strict_usize-log_h.ensures.power (c.height.ensures.height ∙ ap height c.into_row_major_matrix-mat.ensures)).3
 
 pub extend_to_natural-requires-clause-within : goal.extend_to_natural-requires-clause-within
 extend_to_natural-requires-clause-within g c = (both_logs_fit _ _ c.requires.fits c.log2_strict_usize-log_h.ensures.power (c.height.ensures.height ∙ ap height c.into_row_major_matrix-mat.ensures)).2
@@ -41,7 +41,7 @@ extend_to_natural-requires-clause-twiddles g c = record { size = λ l below. c.f
 
 pub extend_to_natural-requires-clause-room : goal.extend_to_natural-requires-clause-room
 extend_to_natural-requires-clause-room g c =
-    let same : c.log2_strict_usize-log_h.result ≡ c.requires.fits.log = log_same _ _ (sym c.log2_strict_usize-log_h.ensures.power ∙ c.height.ensures.height ∙ ap height c.into_row_major_matrix-mat.ensures ∙ c.requires.fits.high) in
+    let same : c.log2_strict_usize-log_h.result ≡ c.requires.fits.log = log_same _ _ (sym c.log2_strict_usize-log_h.ensures.power ∙ c.height.ensures.height ∙ ap height c.into_row_major_matrix-mat.ensures ∙ c.requires.fits.height) in
     let entries = ap₂ (λ w n. w * 2 ^ (n + c.args.added_bits)) (c.reverse_rows.ensures.shape.1 ∙ ap (λ (n : RowMajor g.row.F.Denot). n.width) c.into_row_major_matrix-mat.ensures) same in
     subst (λ (n : ℕ). n < 2 ^ 64) (sym entries) c.requires.fits.size
 
@@ -49,7 +49,7 @@ pub dft_batch-requires : goal.dft_batch-requires
 dft_batch-requires g c =
     let same = c.shift_rows.ensures.shifted in
     let stored = c.into_row_major_matrix-mat.ensures in
-    record { fits = fits_dft_as _ _ _ _ _ (input_fits _ _ _ _ c.requires.fits) (same.high ∙ ap height stored) (same.wide ∙ ap (λ (m : RowMajor g.row.F.Denot). m.width) stored) }
+    record { fits = fits_dft_as _ _ _ _ _ (input_fits _ _ _ _ c.requires.fits) (same.height ∙ ap height stored) (same.width ∙ ap (λ (m : RowMajor g.row.F.Denot). m.width) stored) }
 
 pub returns-then-added_bits-eq0-clause-values : goal.returns-then-added_bits-eq0-clause-values
 returns-then-added_bits-eq0-clause-values g c =
@@ -63,12 +63,12 @@ returns-then-added_bits-eq0-clause-values g c =
     (λ out given k e.
     let all : k ≡ k + c.args.added_bits = omega (arith, c.if-added_bits-eq0.true) in
     subst (λ (n : ℕ). IsValues field.ring gen (values_of field m) n s (values_of field out)) all
-    (coset_values field.ring gen (values_of field m) (values_of field c.shift_rows.new.mat) k s (values_of field out) same (given k (same.high ∙ e))))
+    (coset_values field.ring gen (values_of field m) (values_of field c.shift_rows.new.mat) k s (values_of field out) same (given k (same.height ∙ e))))
     c.dft_batch.ensures.values)
 
 pub returns-then-added_bits-eq0-clause-only : goal.returns-then-added_bits-eq0-clause-only
 returns-then-added_bits-eq0-clause-only g c k e =
-    let high = c.shift_rows.ensures.shifted.high ∙ ap height c.into_row_major_matrix-mat.ensures ∙ e in
+    let high = c.shift_rows.ensures.shifted.height ∙ ap height c.into_row_major_matrix-mat.ensures ∙ e in
     omega (arith, c.if-added_bits-eq0.true, (c.add_products.ensures.engine.same _).1 (le_refl _), none_above (λ (e : EngineState). e.prepared) c.dft_batch.result _ _ k (c.dft_batch.ensures.made k high) c.dft_batch.ensures.refused)
 
 pub returns-then-added_bits-eq0-clause-engine : goal.returns-then-added_bits-eq0-clause-engine
@@ -77,8 +77,8 @@ returns-then-added_bits-eq0-clause-engine g c =
     let same = c.shift_rows.ensures.shifted in
     let stored = c.into_row_major_matrix-mat.ensures in
     let all = λ (k : ℕ). let e : k ≡ k + c.args.added_bits = omega (arith, c.if-added_bits-eq0.true) in e in
-    extended_after _ (g.N.IntoRowMajorMatrix.stored c.args.mat) c.shift_rows.new.mat c.args.added_bits _ _ _ _ _ fits.log fits.high (λ k e. same.high ∙ ap height stored ∙ e ∙ ap (λ n. 2 ^ n) (all k))
-    (same.wide ∙ ap (λ (m : RowMajor g.row.F.Denot). m.width) stored) (rw (← stored) (omega (arith, c.shift_rows.ensures.cost, c.new-products.ensures))) c.add_products.ensures.engine c.dft_batch.ensures.engine
+    extended_after _ (g.N.IntoRowMajorMatrix.stored c.args.mat) c.shift_rows.new.mat c.args.added_bits _ _ _ _ _ fits.log fits.height (λ k e. same.height ∙ ap height stored ∙ e ∙ ap (λ n. 2 ^ n) (all k))
+    (same.width ∙ ap (λ (m : RowMajor g.row.F.Denot). m.width) stored) (rw (← stored) (omega (arith, c.shift_rows.ensures.cost, c.new-products.ensures))) c.add_products.ensures.engine c.dft_batch.ensures.engine
 
 pub returns-in_err-make-clause-only : goal.returns-in_err-make-clause-only
 returns-in_err-make-clause-only g c k high = made_none_above k _ _ _ _ _ (log_same c.log2_strict_usize-log_h.result k (sym c.log2_strict_usize-log_h.ensures.power ∙ c.height.ensures.height ∙ ap height c.into_row_major_matrix-mat.ensures ∙ high)) (ap (λ e. e.prepared) c.self.view_is) c.make.ensures.only

@@ -19,7 +19,7 @@ overflow_add-log_h g c = omega (arith, (log_fits _ _ c.requires.fits c.log2_stri
 pub make-requires : goal.make-requires
 make-requires g c =
     let (within, small, all_within, all_small) = both_logs_fit _ _ c.requires.fits c.log2_strict_usize-log_h.ensures.power (c.height.ensures.height ∙ ap height c.into_row_major_matrix-mat.ensures) in
-    record { within = all_within; small = all_small }
+    record { within = all_within; fits_u64 = all_small }
 
 pub pad_rows-requires-clause-bits : goal.pad_rows-requires-clause-bits
 pad_rows-requires-clause-bits g c = let small = output_log_small _ _ _ _ c.requires.fits in omega (arith, small)
@@ -40,8 +40,8 @@ extend_to_reversed-requires-clause-rows g c =
     let high : height m ≡ 2 ^ log = sym c.height.ensures.height ∙ c.log2_strict_usize-log_h.ensures.power in
     record {
       whole = rw c.in_ok-grown.ensures.padded (padded_whole g.F.Field.ZERO m c.pad_rows.ensures.whole c.args.added_bits);
-      high = (padded_shape g.F.Field.ZERO m m c.in_ok-grown.grown c.args.added_bits log c.pad_rows.ensures.whole (refl, refl) high c.in_ok-grown.ensures.padded).0;
-      small = (both_logs_fit _ _ c.requires.fits c.log2_strict_usize-log_h.ensures.power (c.height.ensures.height ∙ ap height c.into_row_major_matrix-mat.ensures)).3;
+      height = (padded_shape g.F.Field.ZERO m m c.in_ok-grown.grown c.args.added_bits log c.pad_rows.ensures.whole (refl, refl) high c.in_ok-grown.ensures.padded).0;
+      fits_u64 = (both_logs_fit _ _ c.requires.fits c.log2_strict_usize-log_h.ensures.power (c.height.ensures.height ∙ ap height c.into_row_major_matrix-mat.ensures)).3;
     }
 
 pub bit_reverse_rows-requires : goal.bit_reverse_rows-requires

@@ -12,7 +12,7 @@ idft_batch-requires g c = record { fits = input_fits _ _ _ _ c.requires.fits }
 pub coset_lde_batch_of_coefficients-requires : goal.coset_lde_batch_of_coefficients-requires
 coset_lde_batch_of_coefficients-requires g c =
     let fits = c.requires.fits in
-    let shape = answered_shape g.F.Field g.F.TwoAdicField.generator _ _ _ _ _ fits.log fits.high c.in_ok-coefficients.ensures.coefficients c.exchange_layouts.ensures.shape c.exchange_layouts.ensures.whole c.requires.shape
+    let shape = answered_shape g.F.Field g.F.TwoAdicField.generator _ _ _ _ _ fits.log fits.height c.in_ok-coefficients.ensures.coefficients c.exchange_layouts.ensures.shape c.exchange_layouts.ensures.whole c.requires.shape
     (rw c.LAYOUT-2.ensures at c.transform-coefficients.ensures) in
     let back = c.exchange_layouts-2.ensures.shape in
     record { fits = fits_lde_as _ _ _ _ _ _ fits (back.0 ∙ shape.0) (back.1 ∙ shape.1) }
@@ -21,7 +21,7 @@ pub returns-clause-values : goal.returns-clause-values
 returns-clause-values g c =
     let fits = c.requires.fits in
     let called = rw c.LAYOUT-2.ensures at c.transform-coefficients.ensures in
-    let shape = answered_shape g.F.Field g.F.TwoAdicField.generator _ _ _ _ _ fits.log fits.high c.in_ok-coefficients.ensures.coefficients c.exchange_layouts.ensures.shape c.exchange_layouts.ensures.whole c.requires.shape called in
+    let shape = answered_shape g.F.Field g.F.TwoAdicField.generator _ _ _ _ _ fits.log fits.height c.in_ok-coefficients.ensures.coefficients c.exchange_layouts.ensures.shape c.exchange_layouts.ensures.whole c.requires.shape called in
     let back = c.exchange_layouts-2.ensures.shape in
     IfOk-weaker c.coset_lde_batch_of_coefficients.result _ _
     (λ out given.
@@ -38,19 +38,19 @@ returns-clause-values g c =
 pub exchange_layouts-requires : goal.exchange_layouts-requires
 exchange_layouts-requires g c =
     let fits = c.requires.fits in
-    record { power = (fits.log, (c.in_ok-coefficients.ensures.coefficients.holds fits.log fits.high).high ∙ fits.high) }
+    record { power = (fits.log, (c.in_ok-coefficients.ensures.coefficients.holds fits.log fits.height).height ∙ fits.height) }
 
 pub exchange_layouts-requires-2 : goal.exchange_layouts-requires-2
 exchange_layouts-requires-2 g c =
     let fits = c.requires.fits in
-    let shape = answered_shape g.F.Field g.F.TwoAdicField.generator _ _ _ _ _ fits.log fits.high c.in_ok-coefficients.ensures.coefficients c.exchange_layouts.ensures.shape c.exchange_layouts.ensures.whole c.requires.shape
+    let shape = answered_shape g.F.Field g.F.TwoAdicField.generator _ _ _ _ _ fits.log fits.height c.in_ok-coefficients.ensures.coefficients c.exchange_layouts.ensures.shape c.exchange_layouts.ensures.whole c.requires.shape
     (rw c.LAYOUT-2.ensures at c.transform-coefficients.ensures) in
-    record { power = (fits.log, shape.0 ∙ fits.high) }
+    record { power = (fits.log, shape.0 ∙ fits.height) }
 
 pub returns-clause-engine : goal.returns-clause-engine
 returns-clause-engine g c =
     let fits = c.requires.fits in
-    let shape = answered_shape g.F.Field g.F.TwoAdicField.generator _ _ _ _ _ fits.log fits.high c.in_ok-coefficients.ensures.coefficients c.exchange_layouts.ensures.shape c.exchange_layouts.ensures.whole c.requires.shape
+    let shape = answered_shape g.F.Field g.F.TwoAdicField.generator _ _ _ _ _ fits.log fits.height c.in_ok-coefficients.ensures.coefficients c.exchange_layouts.ensures.shape c.exchange_layouts.ensures.whole c.requires.shape
     (rw c.LAYOUT-2.ensures at c.transform-coefficients.ensures) in
     let back = c.exchange_layouts-2.ensures.shape in
     parts_after g.Self.TwoAdicSubgroupDft.facts (g.N.IntoRowMajorMatrix.stored c.args.mat) c.exchange_layouts-2.new.mat c.args.added_bits _ _ _ _ _ (back.0 ∙ shape.0, back.1 ∙ shape.1)
@@ -59,8 +59,8 @@ returns-clause-engine g c =
 
 pub transform-coefficients-requires : goal.transform-coefficients-requires
 transform-coefficients-requires g c =
-    let are = c.in_ok-coefficients.ensures.coefficients.holds c.requires.fits.log c.requires.fits.high in
-    rw c.LAYOUT-2.ensures (c.requires.callable c.exchange_layouts.new.mat c.exchange_layouts.ensures.whole (c.exchange_layouts.ensures.shape.0 ∙ are.high, c.exchange_layouts.ensures.shape.1 ∙ are.wide))
+    let are = c.in_ok-coefficients.ensures.coefficients.holds c.requires.fits.log c.requires.fits.height in
+    rw c.LAYOUT-2.ensures (c.requires.callable c.exchange_layouts.new.mat c.exchange_layouts.ensures.whole (c.exchange_layouts.ensures.shape.0 ∙ are.height, c.exchange_layouts.ensures.shape.1 ∙ are.width))
 
 pub returns-in_err-coefficients-clause-engine : goal.returns-in_err-coefficients-clause-engine
 returns-in_err-coefficients-clause-engine g c =

@@ -14,7 +14,7 @@ pad_rows-requires-clause-bits g c = let small = output_log_small _ _ _ _ c.requi
 pub pad_rows-requires-clause-size : goal.pad_rows-requires-clause-size
 pad_rows-requires-clause-size g c =
     let same = c.shift_rows.ensures.shifted in
-    rw (same.high, same.wide, c.into_row_major_matrix-coefficients.ensures) (output_size _ _ _ _ c.requires.fits)
+    rw (same.height, same.width, c.into_row_major_matrix-coefficients.ensures) (output_size _ _ _ _ c.requires.fits)
 
 pub dft_batch-requires : goal.dft_batch-requires
 dft_batch-requires g c =
@@ -22,7 +22,7 @@ dft_batch-requires g c =
     let same = c.shift_rows.ensures.shifted in
     let stored = c.into_row_major_matrix-coefficients.ensures in
     let grown = padded_shape g.F.Field.ZERO (g.N.IntoRowMajorMatrix.stored c.args.mat) c.shift_rows.new.mat c.in_ok-padded.padded c.args.added_bits fits.log c.pad_rows.ensures.whole
-    (same.high ∙ ap height stored, same.wide ∙ ap (λ (m : RowMajor g.row.F.Denot). m.width) stored) fits.high c.in_ok-padded.ensures.padded in
+    (same.height ∙ ap height stored, same.width ∙ ap (λ (m : RowMajor g.row.F.Denot). m.width) stored) fits.height c.in_ok-padded.ensures.padded in
     record { fits = output_fits _ _ _ c.args.added_bits _ _ fits grown.0 grown.1 }
 
 pub returns-clause-values : goal.returns-clause-values
@@ -39,8 +39,8 @@ returns-clause-engine g c =
     let same = c.shift_rows.ensures.shifted in
     let stored = c.into_row_major_matrix-coefficients.ensures in
     let m = c.into_row_major_matrix-coefficients.result in
-    let grown = λ (k : ℕ) (e : height m ≡ 2 ^ k). padded_shape g.F.Field.ZERO m c.shift_rows.new.mat c.in_ok-padded.padded c.args.added_bits k c.pad_rows.ensures.whole (same.high, same.wide) e c.in_ok-padded.ensures.padded in
-    let high = ap height stored ∙ fits.high in
+    let grown = λ (k : ℕ) (e : height m ≡ 2 ^ k). padded_shape g.F.Field.ZERO m c.shift_rows.new.mat c.in_ok-padded.padded c.args.added_bits k c.pad_rows.ensures.whole (same.height, same.width) e c.in_ok-padded.ensures.padded in
+    let high = ap height stored ∙ fits.height in
     rw stored at
     (extended_after g.Self.TwoAdicSubgroupDft.facts m c.in_ok-padded.padded c.args.added_bits _ _ _ _ _ fits.log high (λ k e. (grown k e).0) (grown fits.log high).1
     (omega (arith, c.shift_rows.ensures.cost, c.new-products.ensures)) c.add_products.ensures.engine c.dft_batch.ensures.engine)
@@ -52,4 +52,4 @@ returns-in_err-padded-clause-engine g c =
     let tall = ap height stored in
     let wide = ap (λ (m : RowMajor g.row.F.Denot). m.width) stored in
     refused_after_products _ (g.N.IntoRowMajorMatrix.stored c.args.mat) _ _ _ _ c.from_residual.ensures.0 (rw (← stored) (omega (arith, c.shift_rows.ensures.cost, c.new-products.ensures))) (λ k. omega arith)
-    (room_of c.from_residual.result _ _ _ c.from_residual.ensures (omega (arith, same_extended c.args.added_bits (same.high ∙ tall) (same.wide ∙ wide))) c.in_err-padded.ensures.room) c.add_products.ensures.engine
+    (room_of c.from_residual.result _ _ _ c.from_residual.ensures (omega (arith, same_extended c.args.added_bits (same.height ∙ tall) (same.width ∙ wide))) c.in_err-padded.ensures.room) c.add_products.ensures.engine

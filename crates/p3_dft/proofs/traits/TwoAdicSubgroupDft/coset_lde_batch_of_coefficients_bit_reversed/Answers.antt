@@ -8,7 +8,7 @@ use Rattle.p3_dft.proofs.traits.TwoAdicSubgroupDft.coset_lde_batch_of_coefficien
 pub into_bit_reversed-requires : goal.into_bit_reversed-requires
 into_bit_reversed-requires g c =
     let fits = c.requires.fits in
-    (fits.log + c.args.added_bits, (c.in_ok-extension.ensures.values fits.log fits.high).high)
+    (fits.log + c.args.added_bits, (c.in_ok-extension.ensures.values fits.log fits.height).height)
 
 pub returns : goal.returns
 returns g c =

@@ -11,7 +11,7 @@ reverse_bits_len-requires g c =
     let m = c.self.inside.inner in
     let whole = c.values-whole.ensures.whole in
     let size : length m.values < 2 ^ 64 = omega (arith, ap length c.values-whole.ensures.values, c.values-whole.type_inv.0) in
-    log_of_height c.self.inside.bits (height m) m.width (length m.values) c.self.invariant whole.wide whole.full size
+    log_of_height c.self.inside.bits (height m) m.width (length m.values) c.self.invariant whole.width whole.full size
 
 pub row-requires : goal.row-requires
 row-requires g c = rw c.reverse_bits_len.ensures (rw c.self.invariant (rev-lt c.self.inside.bits c.args.i))

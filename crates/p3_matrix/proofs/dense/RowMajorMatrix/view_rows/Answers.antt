@@ -11,7 +11,7 @@ pub new-requires-clause-full : goal.new-requires-clause-full
 new-requires-clause-full g c =
     let asks = rw (← c.self.view_is) at c.requires in
     let h = rows_within c.args.start c.args.count _ c.self.inside.width _ asks c.self.invariant.full in
-    whole_part c.deref.result.now _ c.args.count _ c.self.inside.width c.self.invariant.wide (omega arith) (omega (arith, h, c.deref.ensures.len))
+    whole_part c.deref.result.now _ c.args.count _ c.self.inside.width c.self.invariant.width (omega arith) (omega (arith, h, c.deref.ensures.len))
 
 pub overflow_add-first : goal.overflow_add-first
 overflow_add-first g c =

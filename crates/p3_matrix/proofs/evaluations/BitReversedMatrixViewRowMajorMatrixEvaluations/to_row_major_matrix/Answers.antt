@@ -4,4 +4,4 @@ use Rattle.p3_matrix.proofs.evaluations.BitReversedMatrixViewRowMajorMatrixEvalu
 
 pub returns : goal.returns
 returns g c =
-    c.reverse_rows.ensures.there c.args.self.bits c.bit_reverse_rows-mat.ensures.height ∙ ap (reversed_rows c.args.self.bits) c.bit_reverse_rows-mat.ensures.matrix
+    c.reverse_rows.ensures.reversed c.args.self.bits c.bit_reverse_rows-mat.ensures.height ∙ ap (reversed_rows c.args.self.bits) c.bit_reverse_rows-mat.ensures.matrix

@@ -38,9 +38,9 @@ counted cost pairs half all before after is few count =
 pub scaled_layer-requires-clause-size : goal.scaled_layer-requires-clause-size
 scaled_layer-requires-clause-size g c =
     let k = c.args.left in
-    let half = first_half k c.requires.some (omega (arith, c.requires.chunk.small)) in
+    let half = first_half k c.requires.nonzero (omega (arith, c.requires.chunk.fits_u64)) in
     let flat : 1 * (2 * (2 ^ (k - 1) * c.args.width)) ≡ 1 * (2 * 2 ^ (k - 1)) * c.args.width = omega arith in
-    rw half (c.requires.chunk.size ∙ ap (λ n. n * c.args.width) (sym (first_whole k c.requires.some)) ∙ sym flat)
+    rw half (c.requires.chunk.size ∙ ap (λ n. n * c.args.width) (sym (first_whole k c.requires.nonzero)) ∙ sym flat)
 
 pub loop-done-init : goal.loop-done-init
 loop-done-init g c =
@@ -50,10 +50,10 @@ loop-done-init g c =
     let chunk = c.args.chunk in
     let w = c.args.width in
     let half = one_shifted (k - 1) in
-    let some : 0 < k = omega (arith, c.requires.some) in
-    let small : k < 64 = omega (arith, c.requires.chunk.small) in
-    let h : half ≡ 2 ^ (k - 1) = first_half k c.requires.some small in
-    let whole : 1 * (2 * half) ≡ 2 ^ k = ap (λ n. 1 * (2 * n)) h ∙ first_whole k c.requires.some in
+    let some : 0 < k = omega (arith, c.requires.nonzero) in
+    let small : k < 64 = omega (arith, c.requires.chunk.fits_u64) in
+    let h : half ≡ 2 ^ (k - 1) = first_half k c.requires.nonzero small in
+    let whole : 1 * (2 * half) ≡ 2 ^ k = ap (λ n. 1 * (2 * n)) h ∙ first_whole k c.requires.nonzero in
     let cell = λ (n : ℕ). field.value (get_or c.args.values.now n field.ZERO) in
     let scaled = λ (n : ℕ). field.ring.mul (cell n) (factor field c.args.scale) in
     let after = λ (n : ℕ). field.value (get_or c.scaled_layer.new.values n field.ZERO) in
@@ -84,15 +84,15 @@ pub overflow_mul-chunk : goal.overflow_mul-chunk
 overflow_mul-chunk g c =
     let done = c.loop-done.done in
     let mid = c.args.mid in
-    let highest : mid + done ≤ 63 = omega (arith, c.requires.chunk.small, c.loop-done-test.true) in
+    let highest : mid + done ≤ 63 = omega (arith, c.requires.chunk.fits_u64, c.loop-done-test.true) in
     let fits : 2 ^ (mid + done) ≤ 2 ^ 63 = pow-le-pow_right {n = 2} (lit≤ tt) highest in
-    rw (done_shift c.args.left done c.loop-done-test.true (omega (arith, c.requires.chunk.small))) (omega (arith, fits, blocks_within c.args.chunk mid done c.requires.chunk.chunk))
+    rw (done_shift c.args.left done c.loop-done-test.true (omega (arith, c.requires.chunk.fits_u64))) (omega (arith, fits, blocks_within c.args.chunk mid done c.requires.chunk.chunk))
 
 pub layer_by_block-requires-clause-size : goal.layer_by_block-requires-clause-size
 layer_by_block-requires-clause-size g c =
     let l = c.loop-done.done in
     let k = c.args.left in
-    let small : k < 64 = omega (arith, c.requires.chunk.small) in
+    let small : k < 64 = omega (arith, c.requires.chunk.fits_u64) in
     rw (left_shift k l c.loop-done-test.true small, done_shift k l c.loop-done-test.true small)
     (c.loop-done.auto.values ∙ c.scaled_layer.auto.values ∙ c.requires.chunk.size ∙ cells_by_blocks k l c.args.width c.loop-done-test.true)
 
@@ -102,7 +102,7 @@ layer_by_block-requires-clause-table g c =
     let mid = c.args.mid in
     let count = ap length c.of_layer-twiddles-in-loop-done.ensures
     ∙ block_count c.args.table.by_layer (mid + l) c.args.table.twiddles.now (c.requires.chunk.table (mid + l) (omega arith) (omega (arith, c.loop-done-test.true))) in
-    rw (done_shift c.args.left l c.loop-done-test.true (omega (arith, c.requires.chunk.small)), count) (blocks_within c.args.chunk mid l c.requires.chunk.chunk)
+    rw (done_shift c.args.left l c.loop-done-test.true (omega (arith, c.requires.chunk.fits_u64)), count) (blocks_within c.args.chunk mid l c.requires.chunk.chunk)
 
 pub loop-done-preserved : goal.loop-done-preserved
 loop-done-preserved g c =
@@ -114,7 +114,7 @@ loop-done-preserved g c =
     let w = c.args.width in
     let half = one_shifted (k - 1 - l) in
     let blocks = one_shifted l in
-    let small : k < 64 = omega (arith, c.requires.chunk.small) in
+    let small : k < 64 = omega (arith, c.requires.chunk.fits_u64) in
     let h : half ≡ 2 ^ (k - 1 - l) = left_shift k l c.loop-done-test.true small in
     let b : blocks ≡ 2 ^ l = done_shift k l c.loop-done-test.true small in
     let whole : blocks * (2 * half) ≡ 2 ^ k = rw (h, b) (blocks_whole k l c.loop-done-test.true) in
@@ -145,7 +145,7 @@ pub returns-clause-values : goal.returns-clause-values
 returns-clause-values g c root s roots table t j p q =
     let field = g.F.Field in
     let k = c.args.left in
-    let e : c.loop-done.done ≡ k = omega (arith, c.requires.some) in
+    let e : c.loop-done.done ≡ k = omega (arith, c.requires.nonzero) in
     let d : k - c.loop-done.done ≡ 0 = omega arith in
     let coset = point field.ring root (c.args.mid + k) s (rev c.args.mid c.args.chunk) in
     let f = λ (u : ℕ). field.ring.mul (field.value (get_or c.args.values.now (u * c.args.width + j) field.ZERO)) (factor field c.args.scale) in
@@ -155,7 +155,7 @@ pub returns-clause-cost : goal.returns-clause-cost
 returns-clause-cost g c =
     let k = c.args.left in
     let w = c.args.width in
-    let e : c.loop-done.done ≡ k = omega (arith, c.requires.some) in
+    let e : c.loop-done.done ≡ k = omega (arith, c.requires.nonzero) in
     let all = ap (λ n. 1 * (n * (2 ^ (k - 1) * w))) e ∙ layers_counted k w in
     record { grows = c.loop-done.invariant.grows; cost = omega (arith, all, c.loop-done.invariant.cost) }
 
@@ -168,10 +168,10 @@ of_layer-twiddles-requires-in-loop-done-clause-inside g c =
     c.requires.chunk.table (c.args.mid + c.loop-done.done) (le-add_right c.args.mid c.loop-done.done) (in_second_half c.args.mid c.loop-done.done c.args.left c.loop-done-test.true)
 
 pub scaled_layer-requires-clause-table : goal.scaled_layer-requires-clause-table
-scaled_layer-requires-clause-table g c = first_there c.args.table.by_layer c.args.mid c.args.left c.args.chunk c.args.table.twiddles.now c.of_layer-twiddles.result.now c.requires.some c.requires.chunk.chunk c.requires.chunk.table c.of_layer-twiddles.ensures
+scaled_layer-requires-clause-table g c = first_there c.args.table.by_layer c.args.mid c.args.left c.args.chunk c.args.table.twiddles.now c.of_layer-twiddles.result.now c.requires.nonzero c.requires.chunk.chunk c.requires.chunk.table c.of_layer-twiddles.ensures
 
-pub layer_by_block-requires-clause-some : goal.layer_by_block-requires-clause-some
-layer_by_block-requires-clause-some g c = some_rows _ (c.args.left - 1 - c.loop-done.done) (left_shift c.args.left c.loop-done.done c.loop-done-test.true (omega (arith, c.requires.chunk.small)))
+pub layer_by_block-requires-clause-nonzero : goal.layer_by_block-requires-clause-nonzero
+layer_by_block-requires-clause-nonzero g c = some_rows _ (c.args.left - 1 - c.loop-done.done) (left_shift c.args.left c.loop-done.done c.loop-done-test.true (omega (arith, c.requires.chunk.fits_u64)))
 
 pub layer_by_block-requires-clause-blocks : goal.layer_by_block-requires-clause-blocks
-layer_by_block-requires-clause-blocks g c = some_rows _ c.loop-done.done (done_shift c.args.left c.loop-done.done c.loop-done-test.true (omega (arith, c.requires.chunk.small)))
+layer_by_block-requires-clause-blocks g c = some_rows _ c.loop-done.done (done_shift c.args.left c.loop-done.done c.loop-done-test.true (omega (arith, c.requires.chunk.fits_u64)))

@@ -20,10 +20,10 @@ cells_of_pairs : (k w : ℕ) → 0 < k → k < 64 → 2 ^ k * w ≡ one_shifted 
 cells_of_pairs k w some small = rw (pairs_are k some small) (ap (λ n. n * w) (pairs_whole k some) ∙ omega arith)
 
 pub first_layer_oop-requires-clause-source : goal.first_layer_oop-requires-clause-source
-first_layer_oop-requires-clause-source g c = c.requires.source ∙ c.requires.rows.size ∙ cells_of_pairs c.args.log_h c.args.width (omega (arith, c.if-log_h-eq0.false)) c.requires.rows.small
+first_layer_oop-requires-clause-source g c = c.requires.source ∙ c.requires.rows.size ∙ cells_of_pairs c.args.log_h c.args.width (omega (arith, c.if-log_h-eq0.false)) c.requires.rows.fits_u64
 
 pub first_layer_oop-requires-clause-size : goal.first_layer_oop-requires-clause-size
-first_layer_oop-requires-clause-size g c = c.requires.rows.size ∙ cells_of_pairs c.args.log_h c.args.width (omega (arith, c.if-log_h-eq0.false)) c.requires.rows.small
+first_layer_oop-requires-clause-size g c = c.requires.rows.size ∙ cells_of_pairs c.args.log_h c.args.width (omega (arith, c.if-log_h-eq0.false)) c.requires.rows.fits_u64
 
 pub first_layer_oop-requires-clause-table : goal.first_layer_oop-requires-clause-table
 first_layer_oop-requires-clause-table g c = omega (arith, pairs_whole c.args.log_h (omega (arith, c.if-log_h-eq0.false)), pow_pos (c.args.log_h - 1), c.requires.table)
@@ -35,7 +35,7 @@ loop-l-init g c =
     let w = c.args.width in
     let some : 0 < k = omega (arith, c.if-log_h-eq0.false) in
     let pairs = one_shifted (k - 1) in
-    let are : pairs ≡ 2 ^ (k - 1) = pairs_are k some c.requires.rows.small in
+    let are : pairs ≡ 2 ^ (k - 1) = pairs_are k some c.requires.rows.fits_u64 in
     let cells : pairs * w ≡ 2 ^ (k - 1) * w = ap (λ n. n * w) are in
     record {
       rows = λ root s roots layers j r inside below.

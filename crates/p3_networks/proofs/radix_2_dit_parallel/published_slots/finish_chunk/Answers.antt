@@ -7,7 +7,7 @@ pub new-block-requires-clause-full : goal.new-block-requires-clause-full
 new-block-requires-clause-full g c =
     let it = c.args.layers.now in
     let size : length c.on_chunk.new.chunk ≡ 2 ^ it.left * it.width = c.on_chunk.auto.chunk ∙ c.requires.chunk.size in
-    rw size (ap (λ n. n * it.width) (mul-div_cancel (2 ^ it.left) c.requires.chunk.wide))
+    rw size (ap (λ n. n * it.width) (mul-div_cancel (2 ^ it.left) c.requires.chunk.width))
 
 pub returns-clause-values : goal.returns-clause-values
 returns-clause-values g c = c.on_chunk.ensures.chunk

@@ -44,7 +44,7 @@ module _ {T : Type 0} (first b w chunk whole : ℕ) (now part : List T) (is : wh
 
 -- the sizes of the chunks of reversed rows
 chunk_sizes : (mid left w n len : ℕ) → AreRows (mid + left) w n → len ≡ n → TileSizes (mid + left) left w (one_shifted mid) (len / one_shifted mid) len
-chunk_sizes mid left w n len rows same = shifted_sizes mid (mid + left) left w len (omega (arith, rows.small)) refl (same ∙ rows.size)
+chunk_sizes mid left w n len rows same = shifted_sizes mid (mid + left) left w len (omega (arith, rows.fits_u64)) refl (same ∙ rows.size)
 
 -- the first n chunks of reversed rows, told from the rows as they were
 second_done : {F : Type 0} (field : FieldMembers F) (mid left w n size : ℕ) (by_layer : Bool) (twiddles values reversed after : List F) → n ≤ 2 ^ mid → size ≡ 2 ^ left * w
@@ -82,9 +82,9 @@ finish_chunk-requires g c =
     let room = block_room c.loop-chunk.chunk _ _ _ c.loop-chunk-test.true sizes.whole in
     record {
       chunk = record {
-        wide = c.requires.rows.wide;
-        small = c.requires.rows.small;
-        chunk = omega (arith, first_shift c.args.mid c.args.left c.requires.rows.small, c.loop-chunk-test.true);
+        width = c.requires.rows.width;
+        fits_u64 = c.requires.rows.fits_u64;
+        chunk = omega (arith, first_shift c.args.mid c.args.left c.requires.rows.fits_u64, c.loop-chunk-test.true);
         size = part_length c.loop-chunk.values _ _ (omega (arith, room, c.loop-chunk.auto.values)) ∙ sizes.size_is;
         table = c.requires.table;
       };
@@ -92,13 +92,13 @@ finish_chunk-requires g c =
 
 pub overflow_mul-row : goal.overflow_mul-row
 overflow_mul-row g c =
-    let below : c.loop-chunk.chunk < 2 ^ c.args.mid = omega (arith, first_shift c.args.mid c.args.left c.requires.rows.small, c.loop-chunk-test.true) in
-    rw (second_shift c.args.mid c.args.left c.requires.rows.small) (omega (arith, blocks_within c.loop-chunk.chunk c.args.mid c.args.left below, c.requires.numbers))
+    let below : c.loop-chunk.chunk < 2 ^ c.args.mid = omega (arith, first_shift c.args.mid c.args.left c.requires.rows.fits_u64, c.loop-chunk-test.true) in
+    rw (second_shift c.args.mid c.args.left c.requires.rows.fits_u64) (omega (arith, blocks_within c.loop-chunk.chunk c.args.mid c.args.left below, c.requires.numbers))
 
 pub overflow_add-row : goal.overflow_add-row
 overflow_add-row g c =
-    let below : c.loop-chunk.chunk < 2 ^ c.args.mid = omega (arith, first_shift c.args.mid c.args.left c.requires.rows.small, c.loop-chunk-test.true) in
-    rw (second_shift c.args.mid c.args.left c.requires.rows.small) (omega (arith, blocks_within c.loop-chunk.chunk c.args.mid c.args.left below, c.requires.numbers))
+    let below : c.loop-chunk.chunk < 2 ^ c.args.mid = omega (arith, first_shift c.args.mid c.args.left c.requires.rows.fits_u64, c.loop-chunk-test.true) in
+    rw (second_shift c.args.mid c.args.left c.requires.rows.fits_u64) (omega (arith, blocks_within c.loop-chunk.chunk c.args.mid c.args.left below, c.requires.numbers))
 
 pub loop-chunk-init : goal.loop-chunk-init
 loop-chunk-init g c = record { chunks = chunks_none _ _ _ c.reverse_chunks.new.values; told = refl; cost = record { grows = omega arith; cost = omega arith } }
@@ -120,7 +120,7 @@ loop-chunk-preserved g c =
     record {
       chunks = chunks;
       told = run_more g.C.BlockConsumer.step (slot_block c.args.first_row (2 ^ left) w _) chunk c.args.consumer.now c.loop-chunk.consumer c.finish_chunk.new.consumer earlier
-          (rw (second_shift mid left c.requires.rows.small, this_block c.args.first_row (2 ^ left) w chunk _ now part sizes.size_is fits (long ∙ sizes.size_is)) at c.in_default.ensures.lent);
+          (rw (second_shift mid left c.requires.rows.fits_u64, this_block c.args.first_row (2 ^ left) w chunk _ now part sizes.size_is fits (long ∙ sizes.size_is)) at c.in_default.ensures.lent);
       cost = record { grows = omega (arith, c.finish_chunk.ensures.cost.grows, c.loop-chunk.invariant.cost.grows); cost = count_more 1 chunk (w * (left * 2 ^ left / 2)) _ _ _ c.loop-chunk.invariant.cost.cost (omega (arith, c.finish_chunk.ensures.cost.cost)) };
     }
 
@@ -138,21 +138,21 @@ returns-in-Err-clause-lent g c =
     let long = c.finish_chunk.auto.values ∙ part_length now _ _ fits in
     let earlier = subst (λ blocks. Run g.C.BlockConsumer.step c.args.consumer.now blocks c.loop-chunk.consumer) (earlier_blocks c.args.first_row (2 ^ left) w chunk _ now part sizes.size_is fits (long ∙ sizes.size_is)) c.loop-chunk.invariant.told in
     let chunks = chunks_next _ size _ c.reverse_chunks.new.values now part chunk fits long c.finish_chunk.ensures.values c.loop-chunk.invariant.chunks in
-    let below : chunk < 2 ^ mid = omega (arith, first_shift mid left c.requires.rows.small, c.loop-chunk-test.true) in (
+    let below : chunk < 2 ^ mid = omega (arith, first_shift mid left c.requires.rows.fits_u64, c.loop-chunk-test.true) in (
       chunk,
       below,
       second_done g.F.Field mid left w (chunk + 1) size c.args.table.by_layer c.args.table.twiddles.now c.args.values.now c.reverse_chunks.new.values _ (omega (arith, below)) sizes.size_is (c.reverse_chunks.ensures g.F.Field.ZERO) chunks,
       record {
         middle = c.loop-chunk.consumer;
         run = earlier;
-        stop = rw (second_shift mid left c.requires.rows.small, this_block c.args.first_row (2 ^ left) w chunk _ now part sizes.size_is fits (long ∙ sizes.size_is)) at c.in-Err.ensures.lent;
+        stop = rw (second_shift mid left c.requires.rows.fits_u64, this_block c.args.first_row (2 ^ left) w chunk _ now part sizes.size_is fits (long ∙ sizes.size_is)) at c.in-Err.ensures.lent;
       },
     )
 
 pub returns-in-Err-clause-cost : goal.returns-in-Err-clause-cost
 returns-in-Err-clause-cost g c =
     let turn = c.args.width * (c.args.left * 2 ^ c.args.left / 2) in
-    let below : c.loop-chunk.chunk < 2 ^ c.args.mid = omega (arith, first_shift c.args.mid c.args.left c.requires.rows.small, c.loop-chunk-test.true) in
+    let below : c.loop-chunk.chunk < 2 ^ c.args.mid = omega (arith, first_shift c.args.mid c.args.left c.requires.rows.fits_u64, c.loop-chunk-test.true) in
     let rise : suc c.loop-chunk.chunk * turn ≤ 2 ^ c.args.mid * turn = mul-le-mul_right turn below in
     let next : suc c.loop-chunk.chunk * turn ≡ 1 * ((c.loop-chunk.chunk + 1) * turn) = omega arith in
     let once : c.finish_chunk.new.products ≤ c.loop-chunk.products + 1 * turn = omega (arith, c.finish_chunk.ensures.cost.cost) in
@@ -164,7 +164,7 @@ returns-clause-lent g c =
     let mid = c.args.mid in
     let left = c.args.left in
     let sizes = chunk_sizes c.args.mid c.args.left c.args.width (length c.args.values.now) (length c.reverse_chunks.new.values) c.requires.rows c.reverse_chunks.auto.values in
-    let all : c.loop-chunk.chunk ≡ 2 ^ mid = omega (arith, first_shift c.args.mid c.args.left c.requires.rows.small, c.loop-chunk-test.false, c.loop-chunk.auto.chunk-end) in
+    let all : c.loop-chunk.chunk ≡ 2 ^ mid = omega (arith, first_shift c.args.mid c.args.left c.requires.rows.fits_u64, c.loop-chunk-test.false, c.loop-chunk.auto.chunk-end) in
     subst (λ n. IsHighHalf g.F.Field n mid left c.args.width c.args.table.by_layer c.args.table.twiddles.now (λ a q j. g.F.Field.value (get_or c.args.values.now ((rev left q * 2 ^ mid + rev mid a) * c.args.width + j) g.F.Field.ZERO)) c.loop-chunk.values
     × Run g.C.BlockConsumer.step c.args.consumer.now (slot_blocks c.args.first_row (2 ^ left) c.args.width c.loop-chunk.values n) c.loop-chunk.consumer) all (
       second_done g.F.Field mid left c.args.width c.loop-chunk.chunk _ c.args.table.by_layer c.args.table.twiddles.now c.args.values.now c.reverse_chunks.new.values c.loop-chunk.values (omega (arith, all)) sizes.size_is (c.reverse_chunks.ensures g.F.Field.ZERO) c.loop-chunk.invariant.chunks,
@@ -174,6 +174,6 @@ returns-clause-lent g c =
 pub returns-clause-cost : goal.returns-clause-cost
 returns-clause-cost g c =
     let turn = c.args.width * (c.args.left * 2 ^ c.args.left / 2) in
-    let all : c.loop-chunk.chunk ≡ 2 ^ c.args.mid = omega (arith, first_shift c.args.mid c.args.left c.requires.rows.small, c.loop-chunk-test.false, c.loop-chunk.auto.chunk-end) in
+    let all : c.loop-chunk.chunk ≡ 2 ^ c.args.mid = omega (arith, first_shift c.args.mid c.args.left c.requires.rows.fits_u64, c.loop-chunk-test.false, c.loop-chunk.auto.chunk-end) in
     let e : 1 * (c.loop-chunk.chunk * turn) ≡ 2 ^ c.args.mid * turn = ap (λ n. 1 * (n * turn)) all ∙ omega arith in
     subst (λ (n : ℕ). RisesAtMost n c.args.products.now c.loop-chunk.products) e c.loop-chunk.invariant.cost

@@ -7,8 +7,8 @@ use Rattle.p3_networks.proofs.Layers.Counts.{counted_twice, layers_joined}
 use Rattle.p3_networks.proofs.Networks.Cells.{twisted_cells, twisted_cells_end, twisted_cells_start, twisted_layers}
 use Rattle.p3_networks.proofs.radix_2_small_batch.networks.dif_network.Goals as goal
 
-pub layers_in_groups-requires-clause-there : goal.layers_in_groups-requires-clause-there
-layers_in_groups-requires-clause-there g c b inside = (omega (arith, inside, c.requires.enough), c.requires.first)
+pub layers_in_groups-requires-clause-in_table : goal.layers_in_groups-requires-clause-in_table
+layers_in_groups-requires-clause-in_table g c b inside = (omega (arith, inside, c.requires.enough), c.requires.first)
 
 pub returns-clause-values : goal.returns-clause-values
 returns-clause-values g c bits root roots within twiddles r j below inside =
@@ -18,9 +18,9 @@ returns-clause-values g c bits root roots within twiddles r j below inside =
     let column = λ (u q : ℕ). field.value (get_or c.args.values.now (rev k q * w + u) field.ZERO) in
     let entry = λ (b : ℕ). field.value (get_or c.args.twiddles.now b field.ZERO) in
     let cells = twisted_cells field.ring roots k w column entry in
-    let layers = twisted_layers field.ring roots k w column entry c.requires.wide within (λ l b p q. twiddles.entries l b p q) in
+    let layers = twisted_layers field.ring roots k w column entry c.requires.width within (λ l b p q. twiddles.entries l b p q) in
     let start : HoldsCells field.value field.ZERO 0 (cells 0) c.args.values.now = λ i p.
-    twisted_cells_start field.ring roots k w column entry c.requires.wide (λ n. field.value (get_or c.args.values.now n field.ZERO))
+    twisted_cells_start field.ring roots k w column entry c.requires.width (λ n. field.value (get_or c.args.values.now n field.ZERO))
     (λ q u small. ap (λ n. field.value (get_or c.args.values.now (n * w + u) field.ZERO)) (rev-rev k q small)) i (omega (arith, p, c.requires.size)) in
     let tiled : HoldsCells field.value field.ZERO 0 (cells (0 + (c.args.log_rows - 0))) c.layers_of_tiles.new.values = c.layers_of_tiles.ensures.cells cells layers start in
     let same : 0 + (c.args.log_rows - 0) ≡ c.args.log_rows + 0 = omega arith in

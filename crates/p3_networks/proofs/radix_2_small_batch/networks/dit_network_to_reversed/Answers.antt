@@ -5,8 +5,8 @@ use Rattle.p3_networks.proofs.Layers.Counts.{counted_twice, layers_joined}
 use Rattle.p3_networks.proofs.Networks.Cells.{high_cells, high_cells_end, high_cells_start, high_layers}
 use Rattle.p3_networks.proofs.radix_2_small_batch.networks.dit_network_to_reversed.Goals as goal
 
-pub layers_in_groups-requires-clause-there : goal.layers_in_groups-requires-clause-there
-layers_in_groups-requires-clause-there g c b inside = (omega (arith, inside, c.requires.enough), λ _. c.requires.first)
+pub layers_in_groups-requires-clause-in_table : goal.layers_in_groups-requires-clause-in_table
+layers_in_groups-requires-clause-in_table g c b inside = (omega (arith, inside, c.requires.enough), λ _. c.requires.first)
 
 pub layers_of_tiles-requires-clause-first : goal.layers_of_tiles-requires-clause-first
 layers_of_tiles-requires-clause-first g c = λ _. c.requires.first
@@ -20,9 +20,9 @@ returns-clause-values g c bits root roots within twiddles r j below inside =
     let column = λ (u q : ℕ). field.value (get_or c.args.values.now (q * w + u) field.ZERO) in
     let entry = λ (b : ℕ). field.value (get_or c.args.twiddles.now b field.ZERO) in
     let cells = high_cells field.ring roots k w column entry in
-    let layers = high_layers field.ring roots k w column entry c.requires.wide within (λ l b p q. twiddles.entries l b p q) in
+    let layers = high_layers field.ring roots k w column entry c.requires.width within (λ l b p q. twiddles.entries l b p q) in
     let start : HoldsCells field.value field.ZERO 0 (cells k) c.args.values.now = λ i p.
-    high_cells_start field.ring roots k w column entry c.requires.wide (λ n. field.value (get_or c.args.values.now n field.ZERO)) (λ n v. refl) i (omega (arith, p, c.requires.size)) in
+    high_cells_start field.ring roots k w column entry c.requires.width (λ n. field.value (get_or c.args.values.now n field.ZERO)) (λ n v. refl) i (omega (arith, p, c.requires.size)) in
     let none : k ≡ k - 0 = omega arith in
     let left : k - (k - c.args.log_rows) ≡ c.args.log_rows = omega (arith, c.requires.below) in
     let middle : HoldsCells field.value field.ZERO 0 (cells c.args.log_rows) c.layers_in_groups.new.values =

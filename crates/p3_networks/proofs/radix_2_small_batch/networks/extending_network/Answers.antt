@@ -11,15 +11,15 @@ use Rattle.p3_networks.proofs.Tables.FromStart.{enough_from_start, first_is_one,
 use Rattle.p3_networks.proofs.radix_2_small_batch.networks.extending_network.Goals as goal
 
 pub spread_tiles-requires-clause-first : goal.spread_tiles-requires-clause-first
-spread_tiles-requires-clause-first g c = first_is_one g.F.Field (λ (n : ℕ). g.F.Field.value (g.F.TwoAdicField.generator n)) c.args.log_h c.args.twiddles.now c.requires.some c.requires.twiddles
+spread_tiles-requires-clause-first g c = first_is_one g.F.Field (λ (n : ℕ). g.F.Field.value (g.F.TwoAdicField.generator n)) c.args.log_h c.args.twiddles.now c.requires.nonzero c.requires.twiddles
 
 pub spread_tiles-requires-clause-enough : goal.spread_tiles-requires-clause-enough
-spread_tiles-requires-clause-enough g c = enough_from_start g.F.Field (λ (n : ℕ). g.F.Field.value (g.F.TwoAdicField.generator n)) c.args.log_h c.args.twiddles.now c.requires.some c.requires.twiddles
+spread_tiles-requires-clause-enough g c = enough_from_start g.F.Field (λ (n : ℕ). g.F.Field.value (g.F.TwoAdicField.generator n)) c.args.log_h c.args.twiddles.now c.requires.nonzero c.requires.twiddles
 
-pub layers_in_groups-requires-clause-there : goal.layers_in_groups-requires-clause-there
-layers_in_groups-requires-clause-there g c b inside =
-    let enough = enough_from_start g.F.Field (λ (n : ℕ). g.F.Field.value (g.F.TwoAdicField.generator n)) c.args.log_h c.args.twiddles.now c.requires.some c.requires.twiddles in
-    (omega (arith, inside, enough), first_is_one g.F.Field (λ (n : ℕ). g.F.Field.value (g.F.TwoAdicField.generator n)) c.args.log_h c.args.twiddles.now c.requires.some c.requires.twiddles)
+pub layers_in_groups-requires-clause-in_table : goal.layers_in_groups-requires-clause-in_table
+layers_in_groups-requires-clause-in_table g c b inside =
+    let enough = enough_from_start g.F.Field (λ (n : ℕ). g.F.Field.value (g.F.TwoAdicField.generator n)) c.args.log_h c.args.twiddles.now c.requires.nonzero c.requires.twiddles in
+    (omega (arith, inside, enough), first_is_one g.F.Field (λ (n : ℕ). g.F.Field.value (g.F.TwoAdicField.generator n)) c.args.log_h c.args.twiddles.now c.requires.nonzero c.requires.twiddles)
 
 pub returns-clause-values : goal.returns-clause-values
 returns-clause-values g c r j below inside =
@@ -36,7 +36,7 @@ returns-clause-values g c r j below inside =
     let column = λ (u q : ℕ). first_of field.ring (2 ^ m) (row u) q in
     let entry = λ (b : ℕ). field.value (get_or c.args.twiddles.now b field.ZERO) in
     let cells = twisted_cells field.ring roots k w column entry in
-    let layers = twisted_layers field.ring roots k w column entry c.requires.wide c.requires.within (λ l b p q. c.requires.twiddles.entries l b p q) in
+    let layers = twisted_layers field.ring roots k w column entry c.requires.width c.requires.within (λ l b p q. c.requires.twiddles.entries l b p q) in
     let middle : HoldsCells field.value field.ZERO 0 (cells c.args.log_rows) c.spread_tiles.new.values = c.spread_tiles.ensures.cells cells layers
     (λ q t u among copy column_is.
     let root = power field.ring (power field.ring (gen k) (rev m q)) t in
@@ -45,7 +45,7 @@ returns-clause-values g c r j below inside =
     ∙ ap (λ n. field.ring.mul (field.value (get_or c.args.coefficients.rows.now (n * w + u) field.ZERO)) (field.value (get_or c.args.coefficients.weights.now n field.ZERO))) (rev-rev m q among))
     ∙ field.ring.mul_assoc (field.value (get_or c.args.coefficients.rows.now (q * w + u) field.ZERO)) (field.value (get_or c.args.coefficients.weights.now q field.ZERO)) root
     ∙ ap (λ x. field.ring.mul (field.value (get_or c.args.coefficients.rows.now (q * w + u) field.ZERO)) (field.ring.mul (field.value (get_or c.args.coefficients.weights.now q field.ZERO)) x))
-    (sym (spread_root field gen k a c.args.twiddles.now added c.requires.some c.requires.twiddles q t among copy))) in
+    (sym (spread_root field gen k a c.args.twiddles.now added c.requires.nonzero c.requires.twiddles q t among copy))) in
     let none : c.args.log_rows ≡ c.args.log_rows + 0 = omega arith in
     let all : c.args.log_rows + (k - c.args.log_rows) ≡ k = omega (arith, c.requires.below) in
     let done = subst (λ (e : ℕ). HoldsCells field.value field.ZERO 0 (cells e) c.layers_in_groups.new.values) all
@@ -68,5 +68,5 @@ returns-clause-cost g c =
     d ∙ ap (λ n. n * len) e in
     omega (arith, c.spread_tiles.ensures.cost, second, all)
 
-pub spread_tiles-requires-clause-some : goal.spread_tiles-requires-clause-some
-spread_tiles-requires-clause-some g c = c.requires.twiddles.size 0 c.requires.some
+pub spread_tiles-requires-clause-nonzero : goal.spread_tiles-requires-clause-nonzero
+spread_tiles-requires-clause-nonzero g c = c.requires.twiddles.size 0 c.requires.nonzero

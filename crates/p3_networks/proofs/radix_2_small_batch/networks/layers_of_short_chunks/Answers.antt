@@ -7,29 +7,29 @@ use Rattle.p3_networks.proofs.Layers.Shifts.{one_shifted}
 use Rattle.p3_networks.proofs.radix_2_small_batch.networks.layers_of_short_chunks.Goals as goal
 
 pub overflow_shl-chunks : goal.overflow_shl-chunks
-overflow_shl-chunks g c = let digits = chunk_digits c.args.top c.args.number c.requires.chunk.small in omega (arith, digits)
+overflow_shl-chunks g c = let digits = chunk_digits c.args.top c.args.number c.requires.chunk.fits_u64 in omega (arith, digits)
 
 pub nonzero_div-size : goal.nonzero_div-size
 nonzero_div-size g c =
-    let digits = chunk_digits c.args.top c.args.number c.requires.chunk.small in
-    let sizes = tile_sizes c.args.top 6 1 (length c.args.values.now) digits c.requires.tall c.requires.chunk.size in
-    omega (arith, sizes.some)
+    let digits = chunk_digits c.args.top c.args.number c.requires.chunk.fits_u64 in
+    let sizes = tile_sizes c.args.top 6 1 (length c.args.values.now) digits c.requires.height c.requires.chunk.size in
+    omega (arith, sizes.nonzero)
 
 pub overflow_mul-layers : goal.overflow_mul-layers
 overflow_mul-layers g c =
-    let digits = chunk_digits c.args.top c.args.number c.requires.chunk.small in
-    let sizes = tile_sizes c.args.top 6 1 (length c.args.values.now) digits c.requires.tall c.requires.chunk.size in
-    omega (arith, tile_rows_of_chunk _ _ _ _ _ _ c.args.number 0 sizes (omega (arith, sizes.some)), c.requires.chunk.small)
+    let digits = chunk_digits c.args.top c.args.number c.requires.chunk.fits_u64 in
+    let sizes = tile_sizes c.args.top 6 1 (length c.args.values.now) digits c.requires.height c.requires.chunk.size in
+    omega (arith, tile_rows_of_chunk _ _ _ _ _ _ c.args.number 0 sizes (omega (arith, sizes.nonzero)), c.requires.chunk.fits_u64)
 
 pub on_each_chunk-requires : goal.on_each_chunk-requires
 on_each_chunk-requires g c =
-    let digits = chunk_digits c.args.top c.args.number c.requires.chunk.small in
-    let sizes = tile_sizes c.args.top 6 1 (length c.args.values.now) digits c.requires.tall c.requires.chunk.size in
+    let digits = chunk_digits c.args.top c.args.number c.requires.chunk.fits_u64 in
+    let sizes = tile_sizes c.args.top 6 1 (length c.args.values.now) digits c.requires.height c.requires.chunk.size in
     record {
       whole = sizes.whole;
       accepts = λ n below.
           let rows = tile_rows_of_chunk _ _ _ _ _ _ c.args.number n sizes below in
-          (record { wide = omega arith; small = omega (arith, rows, c.requires.chunk.small); enough = omega (arith, rows, c.requires.chunk.enough); size = sizes.size_is }, c.requires.first);
+          (record { width = omega arith; fits_u64 = omega (arith, rows, c.requires.chunk.fits_u64); enough = omega (arith, rows, c.requires.chunk.enough); size = sizes.size_is }, c.requires.first);
     }
 
 pub returns : goal.returns
@@ -38,8 +38,8 @@ returns g c =
     let number = c.args.number in
     let len = length c.args.values.now in
     let order = g.D.NetworkDecimation.order in
-    let digits = chunk_digits c.args.top number c.requires.chunk.small in
-    let sizes = tile_sizes c.args.top 6 1 len digits c.requires.tall c.requires.chunk.size in
+    let digits = chunk_digits c.args.top number c.requires.chunk.fits_u64 in
+    let sizes = tile_sizes c.args.top 6 1 len digits c.requires.height c.requires.chunk.size in
     let chunks = one_shifted (c.args.top - 6) in
     let size = len / chunks in
     record {

@@ -24,7 +24,7 @@ loop-done-init g c =
     let head = c.scale_slice_in_place.new.values in
     let rest = post_of 0 (length row - 0) c.args.values.now in
     record {
-      some = omega arith;
+      nonzero = omega arith;
       within = omega (arith, c.if-count-eq0.false);
       factor = λ more. sym (power-one field.ring (field.value c.args.step));
       values = λ t j below inside.
@@ -43,7 +43,7 @@ overflow_mul-done g c = omega (arith, mul-le-mul_right (length c.args.row.now) c
 
 pub overflow_mul-more : goal.overflow_mul-more
 overflow_mul-more g c =
-    let it = turn c.loop-done.done c.args.count c.min-more.result c.loop-done.invariant.some c.loop-done-test.true c.min-more.ensures in
+    let it = turn c.loop-done.done c.args.count c.min-more.result c.loop-done.invariant.nonzero c.loop-done-test.true c.min-more.ensures in
     omega (arith, mul-le-mul_right (length c.args.row.now) it.1.0, mul-le-mul_right (length c.args.row.now) c.loop-done.invariant.within, c.requires)
 
 pub scale_behind-requires : goal.scale_behind-requires
@@ -51,10 +51,10 @@ scale_behind-requires g c =
     let w = length c.args.row.now in
     let done = c.loop-done.done in
     let more = c.min-more.result in
-    let it = turn done c.args.count more c.loop-done.invariant.some c.loop-done-test.true c.min-more.ensures in
+    let it = turn done c.args.count more c.loop-done.invariant.nonzero c.loop-done-test.true c.min-more.ensures in
     let all : (done + more) * w ≤ c.args.count * w = mul-le-mul_right w it.1.1.0 in
     let spread : (done + more) * w ≡ done * w + more * w = omega arith in
-    record { there = mul-le-mul_right w it.1.0; room = omega (arith, all, spread, c.requires, c.loop-done.auto.values) }
+    record { in_table = mul-le-mul_right w it.1.0; room = omega (arith, all, spread, c.requires, c.loop-done.auto.values) }
 
 pub returns-clause-values : goal.returns-clause-values
 returns-clause-values g c t j below inside = c.loop-done.invariant.values t j (omega (arith, below, c.loop-done-test.false)) inside
@@ -68,11 +68,11 @@ loop-done-preserved g c =
     let more = c.min-more.result in
     let step = field.value c.args.step in
     let first = field.value c.args.first in
-    let it = turn done c.args.count more c.loop-done.invariant.some c.loop-done-test.true c.min-more.ensures in
+    let it = turn done c.args.count more c.loop-done.invariant.nonzero c.loop-done-test.true c.min-more.ensures in
     let spread : (done + more) * w ≡ done * w + more * w = omega arith in
     let entry = λ (j : ℕ). field.value (get_or c.args.row.now j field.ZERO) in
     record {
-      some = omega (arith, c.loop-done.invariant.some);
+      nonzero = omega (arith, c.loop-done.invariant.nonzero);
       within = it.1.1.0;
       factor = λ left.
           g.met.F.Field.mul_law _ _ _ c.mul-factor.ensures

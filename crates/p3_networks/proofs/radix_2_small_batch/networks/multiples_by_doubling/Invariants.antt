@@ -6,7 +6,7 @@ abbrev pub invariant-loop-done : goal.invariant-loop-done
 invariant-loop-done g l =
     let field = g.F.Field in
     record {
-      some : 1 ≤ l.done;
+      nonzero : 1 ≤ l.done;
       within : l.done ≤ l.fn.count;
       factor : l.done < l.fn.count → field.value l.factor ≡ power field.ring (field.value l.fn.step) l.done;
       values : (t j : ℕ) → t < l.done → j < l.width

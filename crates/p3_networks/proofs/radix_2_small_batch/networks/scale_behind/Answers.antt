@@ -20,4 +20,4 @@ returns-clause-scaled g c n below =
     ∙ ap (λ xs. times (field.value (get_or xs n field.ZERO))) c.copy_from_slice.ensures.after
     ∙ ap (λ y. times (field.value y)) (part_at first 0 (c.args.count - 0) n field.ZERO (omega (arith, below))
     ∙ ap (λ i. get_or first i field.ZERO) (zero-add n)
-    ∙ sym (ap (λ xs. get_or xs n field.ZERO) split.value ∙ in_first first behind n field.ZERO (omega (arith, below, c.requires.there, size))))
+    ∙ sym (ap (λ xs. get_or xs n field.ZERO) split.value ∙ in_first first behind n field.ZERO (omega (arith, below, c.requires.in_table, size))))

@@ -15,23 +15,23 @@ pub scaled_dif_tiles-requires-clause-first : goal.scaled_dif_tiles-requires-clau
 scaled_dif_tiles-requires-clause-first g c =
     let field = g.F.Field in
     let root = inverse_root field.ring (λ (n : ℕ). field.value (g.F.TwoAdicField.generator n)) 1 in
-    c.requires.twiddles.entries 0 0 (omega (arith, c.requires.some)) (pow_pos 0) ∙ ap (power field.ring root) (rev_of_zero 0) ∙ power-zero field.ring root
+    c.requires.twiddles.entries 0 0 (omega (arith, c.requires.nonzero)) (pow_pos 0) ∙ ap (power field.ring root) (rev_of_zero 0) ∙ power-zero field.ring root
 
 pub scaled_dif_tiles-requires-clause-enough : goal.scaled_dif_tiles-requires-clause-enough
 scaled_dif_tiles-requires-clause-enough g c =
     let k = c.args.log_h in
-    let size = c.requires.twiddles.size (k - 1) (omega (arith, c.requires.some)) in
-    let d = two_halves k (λ e. absurd (omega (arith, e, c.requires.some))) in
+    let size = c.requires.twiddles.size (k - 1) (omega (arith, c.requires.nonzero)) in
+    let d = two_halves k (λ e. absurd (omega (arith, e, c.requires.nonzero))) in
     omega (arith, size, d)
 
-pub layers_in_groups-requires-clause-there : goal.layers_in_groups-requires-clause-there
-layers_in_groups-requires-clause-there g c b inside =
+pub layers_in_groups-requires-clause-in_table : goal.layers_in_groups-requires-clause-in_table
+layers_in_groups-requires-clause-in_table g c b inside =
     let field = g.F.Field in
     let k = c.args.log_h in
     let root = inverse_root field.ring (λ (n : ℕ). field.value (g.F.TwoAdicField.generator n)) 1 in
-    let size = c.requires.twiddles.size (k - 1) (omega (arith, c.requires.some)) in
-    let d = two_halves k (λ e. absurd (omega (arith, e, c.requires.some))) in
-    (omega (arith, inside, size, d), c.requires.twiddles.entries 0 0 (omega (arith, c.requires.some)) (pow_pos 0) ∙ ap (power field.ring root) (rev_of_zero 0) ∙ power-zero field.ring root)
+    let size = c.requires.twiddles.size (k - 1) (omega (arith, c.requires.nonzero)) in
+    let d = two_halves k (λ e. absurd (omega (arith, e, c.requires.nonzero))) in
+    (omega (arith, inside, size, d), c.requires.twiddles.entries 0 0 (omega (arith, c.requires.nonzero)) (pow_pos 0) ∙ ap (power field.ring root) (rev_of_zero 0) ∙ power-zero field.ring root)
 
 pub returns-clause-values : goal.returns-clause-values
 returns-clause-values g c r j below inside =
@@ -44,9 +44,9 @@ returns-clause-values g c r j below inside =
     let column = λ (u q : ℕ). scaled (get_or c.args.values.now (rev k q * w + u) field.ZERO) in
     let entry = λ (b : ℕ). field.value (get_or c.args.twiddles.now b field.ZERO) in
     let cells = twisted_cells field.ring roots k w column entry in
-    let layers = twisted_layers field.ring roots k w column entry c.requires.wide c.requires.within (λ l b p q. c.requires.twiddles.entries l b p q) in
+    let layers = twisted_layers field.ring roots k w column entry c.requires.width c.requires.within (λ l b p q. c.requires.twiddles.entries l b p q) in
     let start : HoldsCells scaled field.ZERO 0 (cells 0) c.args.values.now = λ i p.
-    twisted_cells_start field.ring roots k w column entry c.requires.wide (λ n. scaled (get_or c.args.values.now n field.ZERO))
+    twisted_cells_start field.ring roots k w column entry c.requires.width (λ n. scaled (get_or c.args.values.now n field.ZERO))
     (λ q u small. ap (λ n. scaled (get_or c.args.values.now (n * w + u) field.ZERO)) (rev-rev k q small)) i (omega (arith, p, c.requires.size)) in
     let middle : HoldsCells field.value field.ZERO 0 (cells c.args.log_rows) c.scaled_dif_tiles.new.values = c.scaled_dif_tiles.ensures.cells cells layers start in
     let none : c.args.log_rows ≡ c.args.log_rows + 0 = omega arith in

@@ -22,28 +22,28 @@ use Rattle.p3_networks.proofs.Layers.Shifts.{one_shifted}
 use Rattle.p3_networks.proofs.radix_2_small_batch.slots.slots_network.Goals as goal
 
 pub overflow_mul-start : goal.overflow_mul-start
-overflow_mul-start g c = omega (arith, slot_within (length c.args.values.now) c.args.log_h c.args.added_bits c.args.width c.loop-place.place c.requires.small c.requires.size c.loop-place-test.true)
+overflow_mul-start g c = omega (arith, slot_within (length c.args.values.now) c.args.log_h c.args.added_bits c.args.width c.loop-place.place c.requires.fits_u64 c.requires.size c.loop-place-test.true)
 
 pub overflow_add-slot : goal.overflow_add-slot
-overflow_add-slot g c = omega (arith, slot_within (length c.args.values.now) c.args.log_h c.args.added_bits c.args.width c.loop-place.place c.requires.small c.requires.size c.loop-place-test.true)
+overflow_add-slot g c = omega (arith, slot_within (length c.args.values.now) c.args.log_h c.args.added_bits c.args.width c.loop-place.place c.requires.fits_u64 c.requires.size c.loop-place-test.true)
 
 pub offset_bounds-others-start : goal.offset_bounds-others-start
 offset_bounds-others-start g c =
     let below : c.loop-place.place * (length c.args.values.now / (one_shifted c.args.added_bits)) ≤ length c.args.values.now =
-    omega (arith, slot_within (length c.args.values.now) c.args.log_h c.args.added_bits c.args.width c.loop-place.place c.requires.small c.requires.size c.loop-place-test.true) in
+    omega (arith, slot_within (length c.args.values.now) c.args.log_h c.args.added_bits c.args.width c.loop-place.place c.requires.fits_u64 c.requires.size c.loop-place-test.true) in
     scaled_fits≤ _ _ _ below (search rules)
 
 pub slice_bounds-slot-end : goal.slice_bounds-slot-end
-slice_bounds-slot-end g c = slot_inside (length c.args.values.now) c.args.log_h c.args.added_bits c.args.width c.loop-place.place c.requires.small c.requires.size c.loop-place-test.true _ _ c.split_at_mut-coefficients.ensures.back_len c.loop-place.auto.others
+slice_bounds-slot-end g c = slot_inside (length c.args.values.now) c.args.log_h c.args.added_bits c.args.width c.loop-place.place c.requires.fits_u64 c.requires.size c.loop-place-test.true _ _ c.split_at_mut-coefficients.ensures.back_len c.loop-place.auto.others
 
 pub evaluate_to_reversed_oop-requires-clause-source : goal.evaluate_to_reversed_oop-requires-clause-source
 evaluate_to_reversed_oop-requires-clause-source g c =
-    c.split_at_mut-coefficients.ensures.front_len ∙ slot_size (length c.args.values.now) c.args.log_h c.args.added_bits c.args.width c.requires.small c.requires.size
+    c.split_at_mut-coefficients.ensures.front_len ∙ slot_size (length c.args.values.now) c.args.log_h c.args.added_bits c.args.width c.requires.fits_u64 c.requires.size
 
 pub evaluate_to_reversed_oop-requires-clause-size : goal.evaluate_to_reversed_oop-requires-clause-size
 evaluate_to_reversed_oop-requires-clause-size g c =
-    part_length c.loop-place.others _ _ (slot_inside (length c.args.values.now) c.args.log_h c.args.added_bits c.args.width c.loop-place.place c.requires.small c.requires.size c.loop-place-test.true _ _ c.split_at_mut-coefficients.ensures.back_len c.loop-place.auto.others)
-    ∙ slot_size (length c.args.values.now) c.args.log_h c.args.added_bits c.args.width c.requires.small c.requires.size
+    part_length c.loop-place.others _ _ (slot_inside (length c.args.values.now) c.args.log_h c.args.added_bits c.args.width c.loop-place.place c.requires.fits_u64 c.requires.size c.loop-place-test.true _ _ c.split_at_mut-coefficients.ensures.back_len c.loop-place.auto.others)
+    ∙ slot_size (length c.args.values.now) c.args.log_h c.args.added_bits c.args.width c.requires.fits_u64 c.requires.size
 
 pub loop-place-init : goal.loop-place-init
 loop-place-init g c =
@@ -63,8 +63,8 @@ loop-place-preserved g c =
     let s = field.value c.args.shift in
     let place = c.loop-place.place in
     let len = length c.args.values.now in
-    let is = slot_size len k a w c.requires.small c.requires.size in
-    let fits = slot_inside len k a w place c.requires.small c.requires.size c.loop-place-test.true _ _ c.split_at_mut-coefficients.ensures.back_len c.loop-place.auto.others in
+    let is = slot_size len k a w c.requires.fits_u64 c.requires.size in
+    let fits = slot_inside len k a w place c.requires.fits_u64 c.requires.size c.loop-place-test.true _ _ c.split_at_mut-coefficients.ensures.back_len c.loop-place.auto.others in
     let roots : AreRoots field.ring (k + a) gen = fewer_roots field.ring (k + a) _ c.requires.within g.met.F.TwoAdicField.roots_law in
     let turned : field.value c.mul.result ≡ point field.ring gen (k + a) s (rev a (place + 1)) =
     g.met.F.Field.mul_law _ _ _ c.mul.ensures
@@ -85,12 +85,12 @@ loop-place-preserved g c =
 
 pub shift_values-requires : goal.shift_values-requires
 shift_values-requires g c =
-    let rows : one_shifted c.args.log_h ≡ 2 ^ c.args.log_h = one_shl c.args.log_h 64 (omega (arith, c.requires.small)) in
-    c.split_at_mut-coefficients.ensures.front_len ∙ slot_size (length c.args.values.now) c.args.log_h c.args.added_bits c.args.width c.requires.small c.requires.size ∙ ap (λ n. n * c.args.width) (sym rows)
+    let rows : one_shifted c.args.log_h ≡ 2 ^ c.args.log_h = one_shl c.args.log_h 64 (omega (arith, c.requires.fits_u64)) in
+    c.split_at_mut-coefficients.ensures.front_len ∙ slot_size (length c.args.values.now) c.args.log_h c.args.added_bits c.args.width c.requires.fits_u64 c.requires.size ∙ ap (λ n. n * c.args.width) (sym rows)
 
 pub evaluate_to_reversed-requires-clause-size : goal.evaluate_to_reversed-requires-clause-size
 evaluate_to_reversed-requires-clause-size g c =
-    c.shift_values.auto.values ∙ c.split_at_mut-coefficients.ensures.front_len ∙ slot_size (length c.args.values.now) c.args.log_h c.args.added_bits c.args.width c.requires.small c.requires.size
+    c.shift_values.auto.values ∙ c.split_at_mut-coefficients.ensures.front_len ∙ slot_size (length c.args.values.now) c.args.log_h c.args.added_bits c.args.width c.requires.fits_u64 c.requires.size
 
 pub returns-clause-values : goal.returns-clause-values
 returns-clause-values g c =
@@ -104,7 +104,7 @@ returns-clause-values g c =
     let others = c.loop-place.others in
     let coefficients = c.split_at_mut-coefficients.result.0.now in
     let roots : AreRoots field.ring (k + a) gen = fewer_roots field.ring (k + a) _ c.requires.within g.met.F.TwoAdicField.roots_law in
-    let size : length coefficients ≡ 2 ^ k * w = c.split_at_mut-coefficients.ensures.front_len ∙ slot_size (length c.args.values.now) k a w c.requires.small c.requires.size in
+    let size : length coefficients ≡ 2 ^ k * w = c.split_at_mut-coefficients.ensures.front_len ∙ slot_size (length c.args.values.now) k a w c.requires.fits_u64 c.requires.size in
     let first : s ≡ point field.ring gen (k + a) s (rev a 0) =
     sym (point-mul field.ring gen (k + a) s (rev a 0) ∙ ap (λ n. field.ring.mul s (power field.ring (gen (k + a)) n)) (rev_of_zero a)
     ∙ ap (field.ring.mul s) (power-zero field.ring (gen (k + a))) ∙ field.ring.mul_one s) in
@@ -113,19 +113,19 @@ returns-clause-values g c =
     (c.evaluate_to_reversed.auto.values ∙ c.shift_values.auto.values ∙ size)
     (λ t j p inside.
     let whole : 0 * 2 ^ k + t ≡ t = omega arith in
-    values_of_shifted field g.F.TwoAdicField.generator k w s _ coefficients c.shift_values.new.values front (one_shl k 64 (omega (arith, c.requires.small))) c.shift_values.ensures.values c.evaluate_to_reversed.ensures.values t j p inside
+    values_of_shifted field g.F.TwoAdicField.generator k w s _ coefficients c.shift_values.new.values front (one_shl k 64 (omega (arith, c.requires.fits_u64))) c.shift_values.ensures.values c.evaluate_to_reversed.ensures.values t j p inside
     ∙ slot_entry field g.F.TwoAdicField.generator k a w (λ q. q) s c.args.values.now coefficients c.split_at_mut-coefficients.result.1.now c.split_at_mut-coefficients.ensures.value size (λ u l. l) roots _ 0 t j first p inside
     ∙ ap (λ n. poly field.ring (2 ^ k) (λ u. field.value (get_or c.args.values.now (u * w + j) field.ZERO)) (point field.ring gen (k + a) s (rev (k + a) n))) whole)
     (λ p t j below q inside.
-    c.loop-place.invariant.slots.done p (t * w + j) (omega (arith, below, second_shift k a c.requires.small, c.loop-place-test.false)) (row_below t j w (2 ^ k) q inside) t j q inside refl)
+    c.loop-place.invariant.slots.done p (t * w + j) (omega (arith, below, second_shift k a c.requires.fits_u64, c.loop-place-test.false)) (row_below t j w (2 ^ k) q inside) t j q inside refl)
 
 pub returns-clause-cost : goal.returns-clause-cost
 returns-clause-cost g c =
     let k = c.args.log_h in
     let a = c.args.added_bits in
     let turn = c.args.width * (k * 2 ^ k / 2) + 2 ^ k * c.args.width in
-    let rows : one_shifted k ≡ 2 ^ k = one_shl k 64 (omega (arith, c.requires.small)) in
-    let count = second_shift k a c.requires.small in
+    let rows : one_shifted k ≡ 2 ^ k = one_shl k 64 (omega (arith, c.requires.fits_u64)) in
+    let count = second_shift k a c.requires.fits_u64 in
     let all : c.loop-place.place + 1 ≡ 2 ^ a = omega (arith, count, pow_pos a, c.loop-place-test.false, c.loop-place.auto.place-end) in
     let e : 1 * ((c.loop-place.place + 1) * turn) ≡ 2 ^ a * turn = ap (λ n. 1 * (n * turn)) all ∙ omega arith in
     let last : c.evaluate_to_reversed.new.products ≤ c.loop-place.products + 1 * turn = omega (arith, c.shift_values.ensures.cost, ap (λ n. n * c.args.width) rows, c.evaluate_to_reversed.ensures.cost) in
@@ -142,4 +142,4 @@ pub returns-clause-grows : goal.returns-clause-grows
 returns-clause-grows g c = le_trans (le_trans c.loop-place.invariant.grows c.shift_values.ensures.grows) c.evaluate_to_reversed.ensures.grows
 
 pub overflow_sub-place-end : goal.overflow_sub-place-end
-overflow_sub-place-end g c = some_rows _ c.args.added_bits (second_shift c.args.log_h c.args.added_bits c.requires.small)
+overflow_sub-place-end g c = some_rows _ c.args.added_bits (second_shift c.args.log_h c.args.added_bits c.requires.fits_u64)

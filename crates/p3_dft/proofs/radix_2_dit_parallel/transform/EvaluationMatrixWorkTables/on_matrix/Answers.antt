@@ -20,14 +20,14 @@ returns-clause-takes g c =
     let same = c.transform_to_reversed.ensures.same in (
       same.shape,
       λ bits high.
-          transform_seen field gen m out _ k bits c.requires.rows.high c.requires.rows.whole same.shape same.size high
-          (is_subgroup_values field.ring (λ n. field.value (gen n)) (values_of field m) k (bit_reversal k (values_of field out)) (same.shape.0 ∙ c.requires.rows.high) same.shape.1
+          transform_seen field gen m out _ k bits c.requires.rows.height c.requires.rows.whole same.shape same.size high
+          (is_subgroup_values field.ring (λ n. field.value (gen n)) (values_of field m) k (bit_reversal k (values_of field out)) (same.shape.0 ∙ c.requires.rows.height) same.shape.1
           (λ i j below inside.
           let f = λ (q : ℕ). (values_of field m).entry q j in
           c.transform_to_reversed.ensures.values (rev k i) j (rev-lt k i) inside
           ∙ ap (λ r. poly field.ring (2 ^ k) (λ q. field.ring.mul (f q) field.ring.one) (power field.ring (field.value (gen k)) r)) (rev-rev k i below)
           ∙ poly_same field.ring (2 ^ k) _ f (power field.ring (field.value (gen k)) i) (λ q p. field.ring.mul_one (f q))
-          ∙ ap (λ n. poly field.ring n f (power field.ring (field.value (gen k)) i)) (sym c.requires.rows.high))),
+          ∙ ap (λ n. poly field.ring n f (power field.ring (field.value (gen k)) i)) (sym c.requires.rows.height))),
     )
 
 pub returns-clause-cost : goal.returns-clause-cost

@@ -16,10 +16,10 @@ returns-clause-takes g c =
     let reversed = bit_reversal log (values_of field c.interpolate_to_reversed.new.mat) in
     let out = c.reverse_rows.new.mat in
     let are = c.interpolate_to_reversed.ensures.coefficients in
-    interpolation_of_coefficients field g.F.TwoAdicField.generator g.met.F.TwoAdicField.roots_law m out log c.requires.within c.requires.rows.high
+    interpolation_of_coefficients field g.F.TwoAdicField.generator g.met.F.TwoAdicField.roots_law m out log c.requires.within c.requires.rows.height
     (same_coefficients field.ring g.met.F.TwoAdicField.roots_law (values_of field m) log field.ring.one reversed (values_of field out)
     (same_sym (values_of field out) reversed
-    (mapped_same field.value (matrix field.ZERO out) (bit_reversal log (matrix field.ZERO c.interpolate_to_reversed.new.mat)) (c.reverse_rows.ensures.rows log (are.high ∙ c.requires.rows.high) field.ZERO))) are)
+    (mapped_same field.value (matrix field.ZERO out) (bit_reversal log (matrix field.ZERO c.interpolate_to_reversed.new.mat)) (c.reverse_rows.ensures.rows log (are.height ∙ c.requires.rows.height) field.ZERO))) are)
 
 pub returns-clause-cost : goal.returns-clause-cost
 returns-clause-cost g c = one_for_each _ _ _ _ c.interpolate_to_reversed.ensures.cost

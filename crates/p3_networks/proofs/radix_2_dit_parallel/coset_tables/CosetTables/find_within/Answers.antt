@@ -22,6 +22,6 @@ loop-place-preserved g c i from below at =
 pub returns-clause-none : goal.returns-clause-none
 returns-clause-none g c none i from below = c.loop-place.invariant i from (omega (arith, below, from, c.loop-place-test.false, c.loop-place.auto.place-end))
 
-pub returns-then-is_of-clause-some : goal.returns-then-is_of-clause-some
-returns-then-is_of-clause-some g c =
+pub returns-then-is_of-clause-found : goal.returns-then-is_of-clause-found
+returns-then-is_of-clause-found g c =
     coset_found g.F.Field c.args.self.now c.args.log_h c.loop-place.place (g.F.Field.value c.args.shift) c.get.result.now (omega (arith, c.requires, c.loop-place-test.true)) c.get.ensures (c.if-is_of.ensures.0 refl)

@@ -9,7 +9,7 @@ pub overflow_mul-start : goal.overflow_mul-start
 overflow_mul-start g c = omega (arith, block_room c.loop-t.t c.args.self.now.half c.args.self.now.part (length c.args.low.now) c.loop-t-test.true c.requires.low)
 
 pub overflow_add-start : goal.overflow_add-start
-overflow_add-start g c = omega (arith, block_room c.loop-t.t c.args.self.now.half c.args.self.now.part (length c.args.low.now) c.loop-t-test.true c.requires.low, c.requires.some, c.requires.inside)
+overflow_add-start g c = omega (arith, block_room c.loop-t.t c.args.self.now.half c.args.self.now.part (length c.args.low.now) c.loop-t-test.true c.requires.low, c.requires.ordered, c.requires.inside)
 
 pub overflow_add-start-in-loop-t : goal.overflow_add-start-in-loop-t
 overflow_add-start-in-loop-t g c = omega (arith, block_room c.loop-t.t c.args.self.now.half c.args.self.now.part (length c.args.low.now) c.loop-t-test.true c.requires.low, c.requires.inside)

@@ -8,11 +8,11 @@ use Rattle.p3_networks.proofs.Layers.Shifts.{one_shifted}
 use Rattle.p3_networks.proofs.radix_2_small_batch.groups.GroupLayers.on_piece.Goals as goal
 
 pub overflow_shl-part : goal.overflow_shl-part
-overflow_shl-part g c = (part_sizes c.args.self.now.from c.args.self.now.to c.args.number c.args.self.now.width c.requires.order c.requires.small).digits
+overflow_shl-part g c = (part_sizes c.args.self.now.from c.args.self.now.to c.args.number c.args.self.now.width c.requires.order c.requires.fits_u64).digits
 
 pub overflow_mul-part : goal.overflow_mul-part
 overflow_mul-part g c =
-    let sizes = part_sizes c.args.self.now.from c.args.self.now.to c.args.number c.args.self.now.width c.requires.order c.requires.small in
+    let sizes = part_sizes c.args.self.now.from c.args.self.now.to c.args.number c.args.self.now.width c.requires.order c.requires.fits_u64 in
     omega (arith, sizes.part_is, sizes.within, c.requires.size)
 
 pub loop-done-init : goal.loop-done-init
@@ -23,31 +23,31 @@ loop-done-init g c = record {
 }
 
 pub overflow_shl-half : goal.overflow_shl-half
-overflow_shl-half g c = let sizes = piece_sizes c.args.self.now.from c.args.self.now.to c.layer-log_half.result c.args.number c.args.self.now.width c.layer-log_half.ensures.first c.layer-log_half.ensures.last c.requires.small in omega (arith, sizes.digits, c.layer-log_half.ensures.last)
+overflow_shl-half g c = let sizes = piece_sizes c.args.self.now.from c.args.self.now.to c.layer-log_half.result c.args.number c.args.self.now.width c.layer-log_half.ensures.first c.layer-log_half.ensures.last c.requires.fits_u64 in omega (arith, sizes.digits, c.layer-log_half.ensures.last)
 
 pub overflow_shl-blocks : goal.overflow_shl-blocks
-overflow_shl-blocks g c = let sizes = piece_sizes c.args.self.now.from c.args.self.now.to c.layer-log_half.result c.args.number c.args.self.now.width c.layer-log_half.ensures.first c.layer-log_half.ensures.last c.requires.small in omega (arith, sizes.digits)
+overflow_shl-blocks g c = let sizes = piece_sizes c.args.self.now.from c.args.self.now.to c.layer-log_half.result c.args.number c.args.self.now.width c.layer-log_half.ensures.first c.layer-log_half.ensures.last c.requires.fits_u64 in omega (arith, sizes.digits)
 
 pub overflow_mul-first_block : goal.overflow_mul-first_block
-overflow_mul-first_block g c = let sizes = piece_sizes c.args.self.now.from c.args.self.now.to c.layer-log_half.result c.args.number c.args.self.now.width c.layer-log_half.ensures.first c.layer-log_half.ensures.last c.requires.small in omega (arith, sizes.room)
+overflow_mul-first_block g c = let sizes = piece_sizes c.args.self.now.from c.args.self.now.to c.layer-log_half.result c.args.number c.args.self.now.width c.layer-log_half.ensures.first c.layer-log_half.ensures.last c.requires.fits_u64 in omega (arith, sizes.room)
 
 pub layer_of_columns-requires-clause-inside : goal.layer_of_columns-requires-clause-inside
-layer_of_columns-requires-clause-inside g c = let sizes = piece_sizes c.args.self.now.from c.args.self.now.to c.layer-log_half.result c.args.number c.args.self.now.width c.layer-log_half.ensures.first c.layer-log_half.ensures.last c.requires.small in omega (arith, sizes.part_is, c.requires.inside)
+layer_of_columns-requires-clause-inside g c = let sizes = piece_sizes c.args.self.now.from c.args.self.now.to c.layer-log_half.result c.args.number c.args.self.now.width c.layer-log_half.ensures.first c.layer-log_half.ensures.last c.requires.fits_u64 in omega (arith, sizes.part_is, c.requires.inside)
 
 pub layer_of_columns-requires-clause-blocks : goal.layer_of_columns-requires-clause-blocks
-layer_of_columns-requires-clause-blocks g c = (piece_sizes c.args.self.now.from c.args.self.now.to c.layer-log_half.result c.args.number c.args.self.now.width c.layer-log_half.ensures.first c.layer-log_half.ensures.last c.requires.small).some_blocks
+layer_of_columns-requires-clause-blocks g c = (piece_sizes c.args.self.now.from c.args.self.now.to c.layer-log_half.result c.args.number c.args.self.now.width c.layer-log_half.ensures.first c.layer-log_half.ensures.last c.requires.fits_u64).some_blocks
 
 pub layer_of_columns-requires-clause-numbers : goal.layer_of_columns-requires-clause-numbers
-layer_of_columns-requires-clause-numbers g c = (piece_sizes c.args.self.now.from c.args.self.now.to c.layer-log_half.result c.args.number c.args.self.now.width c.layer-log_half.ensures.first c.layer-log_half.ensures.last c.requires.small).room
+layer_of_columns-requires-clause-numbers g c = (piece_sizes c.args.self.now.from c.args.self.now.to c.layer-log_half.result c.args.number c.args.self.now.width c.layer-log_half.ensures.first c.layer-log_half.ensures.last c.requires.fits_u64).room
 
 pub layer_of_columns-requires-clause-size : goal.layer_of_columns-requires-clause-size
 layer_of_columns-requires-clause-size g c =
-    c.loop-done.auto.chunk ∙ c.requires.size ∙ (piece_sizes c.args.self.now.from c.args.self.now.to c.layer-log_half.result c.args.number c.args.self.now.width c.layer-log_half.ensures.first c.layer-log_half.ensures.last c.requires.small).cells
+    c.loop-done.auto.chunk ∙ c.requires.size ∙ (piece_sizes c.args.self.now.from c.args.self.now.to c.layer-log_half.result c.args.number c.args.self.now.width c.layer-log_half.ensures.first c.layer-log_half.ensures.last c.requires.fits_u64).cells
 
-pub layer_of_columns-requires-clause-there : goal.layer_of_columns-requires-clause-there
-layer_of_columns-requires-clause-there g c b inside =
-    let sizes = piece_sizes c.args.self.now.from c.args.self.now.to c.layer-log_half.result c.args.number c.args.self.now.width c.layer-log_half.ensures.first c.layer-log_half.ensures.last c.requires.small in
-    c.requires.there _ (block_there c.args.self.now.to c.layer-log_half.result c.args.number _ c.layer-log_half.ensures.last (omega (arith, inside, sizes.numbers)))
+pub layer_of_columns-requires-clause-in_table : goal.layer_of_columns-requires-clause-in_table
+layer_of_columns-requires-clause-in_table g c b inside =
+    let sizes = piece_sizes c.args.self.now.from c.args.self.now.to c.layer-log_half.result c.args.number c.args.self.now.width c.layer-log_half.ensures.first c.layer-log_half.ensures.last c.requires.fits_u64 in
+    c.requires.in_table _ (block_there c.args.self.now.to c.layer-log_half.result c.args.number _ c.layer-log_half.ensures.last (omega (arith, inside, sizes.numbers)))
 
 pub loop-done-preserved : goal.loop-done-preserved
 loop-done-preserved g c =
@@ -66,7 +66,7 @@ loop-done-preserved g c =
     let near = λ (b : ℕ). rule.near field.Element field.ring field.value c.args.self.now.rule b 0 in
     let far = λ (b : ℕ). rule.far field.Element field.ring field.value c.args.self.now.rule b 0 in
     let len = length c.args.chunk.now in
-    let sizes = piece_sizes from to e number w c.layer-log_half.ensures.first c.layer-log_half.ensures.last c.requires.small in
+    let sizes = piece_sizes from to e number w c.layer-log_half.ensures.first c.layer-log_half.ensures.last c.requires.fits_u64 in
     record {
       cells = λ k cells layers room holds.
           let within = chunk_within k to number room in

@@ -15,7 +15,7 @@ overflow_mul-part g c =
     omega (arith, sizes.part_is, sizes.within, whole)
 
 pub overflow_sub-pieces : goal.overflow_sub-pieces
-overflow_sub-pieces g c = let (wide, (ordered, (small, _))) = c.requires in (part_sizes c.args.self.now.from c.args.self.now.to c.args.number c.args.self.now.width ordered small).some wide
+overflow_sub-pieces g c = let (wide, (ordered, (small, _))) = c.requires in (part_sizes c.args.self.now.from c.args.self.now.to c.args.number c.args.self.now.width ordered small).nonzero wide
 
 pub overflow_add-pieces : goal.overflow_add-pieces
 overflow_add-pieces g c =
@@ -23,20 +23,20 @@ overflow_add-pieces g c =
     let sizes = part_sizes c.args.self.now.from c.args.self.now.to c.args.number c.args.self.now.width ordered small in
     let part = one_shifted c.args.self.now.from * c.args.self.now.width in
     let fewer : (part - 1) / c.args.self.now.piece ≤ part - 1 = div-le_self (part - 1) c.args.self.now.piece in
-    omega (arith, fewer, sizes.some wide, sizes.part_is, sizes.within, whole)
+    omega (arith, fewer, sizes.nonzero wide, sizes.part_is, sizes.within, whole)
 
 pub overflow_mul-at : goal.overflow_mul-at
 overflow_mul-at g c =
     let (wide, (ordered, (small, (some_piece, (whole, _))))) = c.requires in
     let sizes = part_sizes c.args.self.now.from c.args.self.now.to c.args.number c.args.self.now.width ordered small in
-    let start = piece_start c.loop-p.p c.args.self.now.piece _ some_piece (sizes.some wide) c.loop-p-test.true in
+    let start = piece_start c.loop-p.p c.args.self.now.piece _ some_piece (sizes.nonzero wide) c.loop-p-test.true in
     omega (arith, start, sizes.part_is, sizes.within, whole)
 
 pub overflow_add-end : goal.overflow_add-end
 overflow_add-end g c =
     let (wide, (ordered, (small, (some_piece, (whole, _))))) = c.requires in
     let sizes = part_sizes c.args.self.now.from c.args.self.now.to c.args.number c.args.self.now.width ordered small in
-    let start = piece_start c.loop-p.p c.args.self.now.piece _ some_piece (sizes.some wide) c.loop-p-test.true in
+    let start = piece_start c.loop-p.p c.args.self.now.piece _ some_piece (sizes.nonzero wide) c.loop-p-test.true in
     omega (arith, start, sizes.part_is, sizes.within, whole, c.min.ensures)
 
 pub loop-p-preserved : goal.loop-p-preserved
@@ -57,7 +57,7 @@ loop-p-preserved g c =
     let next : all ≡ at + piece = omega arith in
     let sizes = part_sizes from to c.args.number c.args.self.now.width ordered small in
     let size : length c.args.chunk.now ≡ rows * part = whole ∙ sizes.rows in
-    let start = piece_start p piece _ some_piece (sizes.some wide) c.loop-p-test.true in
+    let start = piece_start p piece _ some_piece (sizes.nonzero wide) c.loop-p-test.true in
     let below : at < part = omega (arith, start, sizes.part_is) in
     let is_last : (j : ℕ) → j < part → j < all → j < end = λ j column among. omega (arith, column, among, next, c.min.ensures, sizes.part_is) in
     let here : at - (at - part) ≡ at = omega (arith, below) in
@@ -95,7 +95,7 @@ returns-clause-chunk g c = let (wide, (ordered, (small, (some_piece, (whole, _))
       let all = pieces_cover c.args.self.now.piece (one_shifted from * c.args.self.now.width) some_piece in
       omega (arith, all, sizes.part_is, ap (λ n. n * c.args.self.now.piece) end) in
       pieces_all field.value field.ZERO part rows (c.args.number * length c.args.chunk.now) (c.loop-p.p * c.args.self.now.piece) (cells (cells_of c.args.self.now.order from to (to - from))) c.args.chunk.now c.loop-p.chunk
-      (omega (arith, sizes.some wide, sizes.part_is)) cover (c.loop-p.auto.chunk ∙ whole ∙ sizes.rows) (c.loop-p.invariant.cells k cells layers room holds);
+      (omega (arith, sizes.nonzero wide, sizes.part_is)) cover (c.loop-p.auto.chunk ∙ whole ∙ sizes.rows) (c.loop-p.invariant.cells k cells layers room holds);
 }
 
 pub returns-clause-cost : goal.returns-clause-cost
@@ -118,12 +118,12 @@ pub overflow_sub-part : goal.overflow_sub-part
 overflow_sub-part g c =
     let (wide, (ordered, (small, (some_piece, _)))) = c.requires in
     let sizes = part_sizes c.args.self.now.from c.args.self.now.to c.args.number c.args.self.now.width ordered small in
-    let start = piece_start c.loop-p.p c.args.self.now.piece _ some_piece (sizes.some wide) c.loop-p-test.true in
+    let start = piece_start c.loop-p.p c.args.self.now.piece _ some_piece (sizes.nonzero wide) c.loop-p-test.true in
     le_of_lt start
 
 pub on_piece-requires-clause-inside : goal.on_piece-requires-clause-inside
 on_piece-requires-clause-inside g c =
     let (wide, (ordered, (small, (some_piece, _)))) = c.requires in
     let sizes = part_sizes c.args.self.now.from c.args.self.now.to c.args.number c.args.self.now.width ordered small in
-    let start = piece_start c.loop-p.p c.args.self.now.piece _ some_piece (sizes.some wide) c.loop-p-test.true in
+    let start = piece_start c.loop-p.p c.args.self.now.piece _ some_piece (sizes.nonzero wide) c.loop-p-test.true in
     omega (arith, start, c.min.ensures, sizes.part_is)

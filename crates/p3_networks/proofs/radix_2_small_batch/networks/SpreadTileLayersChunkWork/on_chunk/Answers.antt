@@ -21,10 +21,10 @@ cells_of_tile : (count copies rows w : ℕ) → count * copies ≡ rows → rows
 cells_of_tile count copies rows w is = ap (λ n. n * w) (sym is) ∙ omega arith
 
 pub overflow_shl-copies : goal.overflow_shl-copies
-overflow_shl-copies g c = let (chunk, (added, rest)) = c.requires in omega (arith, chunk_digits c.args.self.now.log_rows c.args.number chunk.small, added)
+overflow_shl-copies g c = let (chunk, (added, rest)) = c.requires in omega (arith, chunk_digits c.args.self.now.log_rows c.args.number chunk.fits_u64, added)
 
 pub overflow_shl-count : goal.overflow_shl-count
-overflow_shl-count g c = let (chunk, (added, rest)) = c.requires in omega (arith, chunk_digits c.args.self.now.log_rows c.args.number chunk.small)
+overflow_shl-count g c = let (chunk, (added, rest)) = c.requires in omega (arith, chunk_digits c.args.self.now.log_rows c.args.number chunk.fits_u64)
 
 pub on_each_chunk-requires : goal.on_each_chunk-requires
 on_each_chunk-requires g c =
@@ -33,11 +33,11 @@ on_each_chunk-requires g c =
     let r = it.log_rows in
     let a = it.coefficients.added_bits in
     let (chunk, (added, (rows, (weights, first)))) = c.requires in
-    let sizes = spread_sizes r a (chunk_digits r tile chunk.small) added in
+    let sizes = spread_sizes r a (chunk_digits r tile chunk.fits_u64) added in
     let count = one_shifted (r - a) in
     let copies = one_shifted a in
     let whole = chunk.size ∙ cells_of_tile count copies (2 ^ r) it.width sizes.rows in
-    let size_is = block_size (length c.args.chunk.now) count (copies * it.width) sizes.some whole in
+    let size_is = block_size (length c.args.chunk.now) count (copies * it.width) sizes.nonzero whole in
     let all : (tile * count + count) * copies ≡ (tile + 1) * (count * copies) = omega arith in
     let twice : (tile * count + count) * copies ≤ 2 * length it.twiddles.now = omega (arith, all, ap (λ n. (tile + 1) * n) sizes.rows, chunk.enough) in
     let within : (tile * count + count) * it.width ≤ length it.coefficients.rows.now = subst (λ (n : ℕ). (tile * n + n) * it.width ≤ length it.coefficients.rows.now) (sym sizes.count_is) rows in
@@ -50,7 +50,7 @@ on_each_chunk-requires g c =
 pub layers_of_chunk-requires : goal.layers_of_chunk-requires
 layers_of_chunk-requires g c =
     let (chunk, (added, (rows, (weights, first)))) = c.requires in
-    record { below = added; chunk = record { wide = chunk.wide; small = chunk.small; enough = chunk.enough; size = c.on_each_chunk.auto.values ∙ chunk.size }; first = first }
+    record { below = added; chunk = record { width = chunk.width; fits_u64 = chunk.fits_u64; enough = chunk.enough; size = c.on_each_chunk.auto.values ∙ chunk.size }; first = first }
 
 pub returns : goal.returns
 returns g c =
@@ -61,13 +61,13 @@ returns g c =
     let r = it.log_rows in
     let w = it.width in
     let (chunk, (added, (rows, (weights, first)))) = c.requires in
-    let sizes = spread_sizes r a (chunk_digits r tile chunk.small) added in
+    let sizes = spread_sizes r a (chunk_digits r tile chunk.fits_u64) added in
     let count = one_shifted (r - a) in
     let copies = one_shifted a in
     let out = c.on_each_chunk.new.values in
     let size = length c.args.chunk.now / count in
     let whole = chunk.size ∙ cells_of_tile count copies (2 ^ r) w sizes.rows in
-    let size_is = block_size (length c.args.chunk.now) count (copies * w) sizes.some whole in
+    let size_is = block_size (length c.args.chunk.now) count (copies * w) sizes.nonzero whole in
     let made_all = turns_halved count count size c.args.products.now c.on_each_chunk.new.products refl c.on_each_chunk.ensures.cost in
     let cells_all = whole ∙ ap (λ n. count * n) (sym size_is) in
     let len : length out ≡ length c.args.chunk.now = c.on_each_chunk.auto.values in
@@ -83,7 +83,7 @@ returns g c =
           (subst (λ (e : ℕ). HoldsCells field.value field.ZERO (tile * length out) (cells e) c.layers_of_chunk.new.values) stop
           (c.layers_of_chunk.ensures.cells.taken k cells layers room
           (subst (λ (e : ℕ). HoldsCells field.value field.ZERO (tile * length out) (cells e) out) begin
-          (spread_held field.value field.ZERO (cells a) (made copies) tile count copies (tile * count + count) w out chunk.wide
+          (spread_held field.value field.ZERO (cells a) (made copies) tile count copies (tile * count + count) w out chunk.width
           (len ∙ chunk.size ∙ cells_of_tile count copies (2 ^ r) w sizes.rows) (le_refl (tile * count + count)) sizes.some_copies
           (subst (λ (n : ℕ). (q t j : ℕ) → q < tile * count + count → t < n → j < w → cells a ((q * n + t) * w + j) ≡ made n q t j) (sym sizes.copies_is)
           (subst (λ (n : ℕ). (q t j : ℕ) → q < tile * n + n → t < 2 ^ a → j < w → cells a ((q * 2 ^ a + t) * w + j) ≡ made (2 ^ a) q t j) (sym sizes.count_is) are))
