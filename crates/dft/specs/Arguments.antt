@@ -80,7 +80,7 @@ cannot_undo f CosetIdft shift = not (has_inverse f (f.element shift))
 cannot_undo f Lde shift = false
 cannot_undo f CosetLde shift = false
 
--- the faults in the order in which they are told, each behind whether it is there
+-- the faults in the order in which they are reported, each behind whether it is there
 abbrev pub faults : {A : Type 0} → NumberedField A → Operation → List (List ℕ) → List (Bool × Fault)
 faults f operation words =
     let a = arguments_of operation (map number_or_zero words) in

@@ -72,7 +72,7 @@ Gives (Ok text) IsOne = IsOne (record { status = 0; text = vec_items text })
 Gives (Err (ByFault fault)) IsOne = IsOne (told fault)
 Gives (Err (OutOfMemory refused)) IsOne = (o : Outcome) → IsOne o → o.status ≡ 0
 
--- memory ran out while words were told, or once all were, and these have an answer
+-- memory ran out while words were read, or once all were, and these have an answer
 abbrev pub RanOut : List Told → List Told → Type 0
 RanOut old new = ((words : List (List ℕ)) × ToldFirst old new words)
     ⊎ ((words : List (List ℕ)) × ToldAll old new words × IsAnswerable words)

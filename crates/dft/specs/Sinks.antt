@@ -2,13 +2,13 @@
 use Rattle.std.specs.Prelude.{◌≡◌, ◌++◌, ℕ, zero, suc, List, [], ◌∷◌, take, Option, Result, Ok, Err}
 use Rattle.std.specs.Io.KnownBytes.{Appends}
 
--- what is known of a sink: the bytes that its answers told that it took, those that it holds, if they are known, and how many calls failed
+-- what is known of a sink: the bytes that its answers reported that it took, those that it holds, if they are known, and how many calls failed
 pub record Calls : Type 0 where
   pub bytes : List ℕ
   pub contents : Option (List ℕ)
   pub failures : ℕ
 
--- the sink took these bytes: it told so, and what it holds, if that is known, grew by them
+-- the sink took these bytes: it reported so, and what it holds, if that is known, grew by them
 abbrev pub Took : Calls → Calls → List ℕ → Type 0
 Took old new taken = (new.bytes ≡ old.bytes ++ taken) × Appends old.contents new.contents taken
 

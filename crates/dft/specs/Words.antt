@@ -1,10 +1,10 @@
--- The words of a command line: what its answers told of them.
+-- The words of a command line: what its answers reported of them.
 use Rattle.std.specs.Prelude.{◌≡◌, ℕ, ◌+◌, List, [], ◌∷◌, ◌++◌, Option, Some, None, Result, Ok, Err, length, take, ◌==◌, if◌then◌else◌}
 use Rattle.dft.specs.Accounts.{Call}
 use Rattle.std.specs.declared.env.FillError.{FillError}
 use Rattle.std.specs.declared.env.FillError.TheVariants.{NotPresent, TooLong}
 
--- what an answer told of a place: the word that stands there, or that none does
+-- what an answer reported of a place: the word that stands there, or that none does
 pub record Told : Type 0 where
   pub place : ℕ
   pub word : Option (List ℕ)
@@ -17,7 +17,7 @@ told_of call = record { place = call.place; word = if call.failures == 0 then So
 abbrev pub told_at : ℕ → Option (List ℕ) → List Told
 told_at place word = record { place = place; word = word } ∷ []
 
--- what the answer to `word(place, buf)` told
+-- what the answer to `word(place, buf)` reported
 abbrev pub told_by : ℕ → Result ℕ FillError → List ℕ → List Told
 told_by place (Ok n) buf = told_at place (Some (take n buf))
 told_by place (Err NotPresent) buf = told_at place None
@@ -32,10 +32,10 @@ words_from place (word ∷ words) = record { place = place; word = Some word } �
 abbrev pub all_from : ℕ → List (List ℕ) → List Told
 all_from place words = words_from place words ++ told_at (place + length words) None
 
--- since then all words behind the program's name were told, and none is left
+-- since then all words behind the program's name were read, and none is left
 abbrev pub ToldAll : List Told → List Told → List (List ℕ) → Type 0
 ToldAll old new words = new ≡ old ++ all_from 1 words
 
--- since then these were told, the first of them
+-- since then these were read, the first of them
 abbrev pub ToldFirst : List Told → List Told → List (List ℕ) → Type 0
 ToldFirst old new words = new ≡ old ++ words_from 1 words

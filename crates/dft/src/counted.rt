@@ -10,7 +10,7 @@ use std::marker::Model;
 
 /// One of std's writers, as a sink.
 ///
-/// Its bytes are those that the writer's answers told that it took, since it was put in here. Of a
+/// Its bytes are those that the writer's answers reported that it took, since it was put in here. Of a
 /// file or a terminal no contract says what it holds; of a writer that says it, as a `Vec`, they are
 /// what it holds more than before.
 #[derive(Drop)]

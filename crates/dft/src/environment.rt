@@ -11,7 +11,7 @@ use std::rt::Env;
 /// One of std's environments, as a command line.
 ///
 /// No contract says what an environment holds, so here ends what is proved: that its account has what
-/// the environment told is seen by reading `word`, which passes on the place and the buffer.
+/// the environment reported is seen by reading `word`, which passes on the place and the buffer.
 #[derive(Drop)]
 pub struct Environment<E: Env> {
     env: E,

@@ -32,7 +32,7 @@ const OUT_OF_MEMORY: &str = "error 9: out of memory\n";
 /// The whole text is made before its first byte is written.
 pub fn run<L: CommandLine, W: Sink>(alloc: Global, line: &mut L, out: &mut W) -> u8
     ensures status { (result ≡ 0) ⊎ (result ≡ 2) ⊎ (result ≡ 3) ⊎ (result ≡ 4) }
-    // All words were told, and their outcome was written.
+    // All words were read, and their outcome was written.
     ensures ended { (result ≡ 0) ⊎ (result ≡ 2) → (words : List (List ℕ)) × (text : List ℕ)
         × ToldAll (L.told line.old) (L.told line.new) words
         × IsOutcome words (record { status = result; text = text })

@@ -11,7 +11,7 @@ use std::env::FillError;
 
 /// A command line: the program's own name at place 0, and words behind it.
 ///
-/// Contracts see what its answers told.
+/// Contracts see what its answers reported.
 pub trait CommandLine {
     // Of each place that was asked for: the word there, or that there is none.
     ghost told: { Self → List Told };

@@ -13,9 +13,9 @@ pub enum Change {
     /// The entry with number 1 stays, and the others are zero.
     EntryOneAlone,
     /// Each coefficient times its number plus two, as the layout tells which it is.
-    Weighed,
-    /// The entries come in opposite order.
-    TurnedAround,
+    Weighted,
+    /// The entries come in reverse order.
+    Reversed,
 }
 
 // The number whose binary digits are those of a row's number in reverse, of a power of two of rows.
@@ -37,10 +37,10 @@ impl Change {
     // What becomes of the entry with number i, of a row of so many.
     fn entry<F: Field>(self, entry: F, i: usize, row: usize, height: usize, layout: Layout) -> F {
         match self {
-            Change::Nothing | Change::TurnedAround => entry,
+            Change::Nothing | Change::Reversed => entry,
             Change::Doubled => entry.double(),
             Change::EntryOneAlone => { if i == 1 { entry } else { F::ZERO } }
-            Change::Weighed => entry * weight(layout, row, height),
+            Change::Weighted => entry * weight(layout, row, height),
         }
     }
 
@@ -63,14 +63,14 @@ impl Change {
     {
         match self {
             Change::Nothing => mat,
-            Change::TurnedAround => turned_around(mat),
+            Change::Reversed => reversed_entries(mat),
             _ => self.in_place(mat, layout),
         }
     }
 }
 
-// The entries in opposite order.
-fn turned_around<F: Field>(mat: RowMajorMatrix<F>) -> RowMajorMatrix<F>
+// The entries in reverse order.
+fn reversed_entries<F: Field>(mat: RowMajorMatrix<F>) -> RowMajorMatrix<F>
     ensures { HasShapeOf result mat }
 {
     let width = mat.width();

@@ -30,7 +30,7 @@ pub fn values_on_a_coset<F: TwoAdicField, D: TwoAdicSubgroupDft<F>>(
     engine.coset_dft_batch(coefficients, shift)
 }
 
-/// The inverse of a transform is the matrix, where both are told one shift.
+/// The inverse of a transform is the matrix, where both are given one shift.
 pub fn there_and_back<F: TwoAdicField, D: TwoAdicSubgroupDft<F>>(
     engine: &mut D,
     mat: RowMajorMatrix<F>,
@@ -45,7 +45,7 @@ pub fn there_and_back<F: TwoAdicField, D: TwoAdicSubgroupDft<F>>(
     engine.coset_idft_batch(values.to_row_major_matrix(), shift)
 }
 
-/// The transform of an inverse is the matrix, where both are told one shift.
+/// The transform of an inverse is the matrix, where both are given one shift.
 pub fn back_and_there<F: TwoAdicField, D: TwoAdicSubgroupDft<F>>(
     engine: &mut D,
     mat: RowMajorMatrix<F>,

@@ -21,7 +21,7 @@ pub enum Refusal {
 }
 
 impl Refusal {
-    /// The status by which a caller is told.
+    /// The status that a caller is given.
     pub fn status(&self) -> u32
         ensures status { result ≡ status (Some self.now) }
         ensures positive { 1 ≤ result }

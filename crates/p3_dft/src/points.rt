@@ -1,4 +1,4 @@
-//! Points that have an inverse, which the prover is told: `inverse()` asks for it.
+//! Points that have an inverse, and clauses that say so: `inverse()` asks for it.
 
 ghost use Rattle.std.specs.Prelude.{◌≡◌, ◌≤◌};
 ghost use Rattle.p3_field.specs.Ring.{IsInvertible};

@@ -27,7 +27,7 @@ use std::marker::Model;
 /// natural order, and G transposed, with the inverse twiddles, takes rows in natural order to rows in
 /// bit reversed order. At height `2^k` and width w each takes at most `w * k * 2^k / 2` products. An
 /// extension, which goes by G transposed and then by G, reverses no rows: coefficients lie in bit
-/// reversed order in it, which is the layout that a transform is told.
+/// reversed order in it, which is the layout that a transform is given.
 ///
 /// In every layer all pairs of a block have one twiddle, and blocks take the twiddles one after another (Bowers,
 /// Lippert, Dror and Shaw, "Improved Twiddle Access for Fast Fourier Transforms", 2010). These are made in every call.
@@ -146,9 +146,9 @@ impl<F: TwoAdicField> TwoAdicSubgroupDft<F> for Radix2Bowers {
         Ok(mat)
     }
 
-    /// As the trait says: the transform is told coefficients whose rows lie in bit reversed order, and
-    /// what it answers is multiplied by powers of the shift in that order. A matrix of height one is told
-    /// as it is, and without added bits its transform is the answer, with no product and no memory taken.
+    /// As the trait says: the transform is given coefficients whose rows lie in bit reversed order, and
+    /// what it answers is multiplied by powers of the shift in that order. A matrix of height one is
+    /// passed as it is, and without added bits its transform is the answer, with no product and no memory taken.
     fn coset_lde_batch_with_transform<
         N: IntoRowMajorMatrix<F>,
         T: FnOnce(RowMajorMatrix<F>, Layout) -> RowMajorMatrix<F> + Drop,

@@ -267,7 +267,7 @@ impl<F: TwoAdicField> TwoAdicSubgroupDft<F> for Radix2DitParallel<F> {
     }
 
     /// As the trait says, coset by coset: the coefficients stay in bit reversed order, which the transform is
-    /// told, and each chunk of as many rows as the input has gets the values on a coset of its own. The rows
+    /// given, and each chunk of as many rows as the input has gets the values on a coset of its own. The rows
     /// of zeros are not looked at. `Ok` makes the height of the input prepared for good, and leaves the
     /// tables of all cosets. Where all of these were there, they stay as they were. After an error the height
     /// and some of these cosets may have their tables already; none is lost.

@@ -99,7 +99,7 @@ impl<F: TwoAdicField> Radix2DFTSmallBatch<F> {
 
     /// An engine that is prepared for height `n` and smaller ones. `n` is at most one, which takes no
     /// memory, or a power of two of at most `2^TWO_ADICITY`. Its tiles have about 8192 elements. An
-    /// error is want of memory for the tables.
+    /// error says that memory for the tables was refused.
     pub fn new(alloc: Global, n: usize) -> Result<Self, DftError>
         requires { 2 ≤ n → (k : ℕ) × (n ≡ 2 ^ k) × (k ≤ F.TWO_ADICITY) }
         ensures prepares { IfOk result (λ e. 2 ^ e.prepared ≡ max 1 n) }
@@ -111,8 +111,8 @@ impl<F: TwoAdicField> Radix2DFTSmallBatch<F> {
     }
 
     /// An engine as `new` makes it, with tiles of about `tile` elements: as many rows as have that many, up to
-    /// the next power of two, and at least one. `tile` is from one to `2^32`. An error is want of memory for the
-    /// tables.
+    /// the next power of two, and at least one. `tile` is from one to `2^32`. An error says that
+    /// memory for the tables was refused.
     pub fn with_tile(alloc: Global, n: usize, tile: usize) -> Result<Self, DftError>
         requires height { 2 ≤ n → (k : ℕ) × (n ≡ 2 ^ k) × (k ≤ F.TWO_ADICITY) }
         requires nonzero { 1 ≤ tile }

@@ -184,7 +184,7 @@ pub trait TwoAdicSubgroupDft<F: TwoAdicField>: Clone + Default {
     ///
     /// The caller shows that the transform may be called on every matrix of whole rows that has the input's shape,
     /// and that it keeps that shape. Where the answer is `Ok` it was called once, with the coefficients in the layout
-    /// that it is told, which is `LAYOUT`, and what it answered was taken as coefficients in that layout. Where memory
+    /// that it is given, which is `LAYOUT`, and what it answered was taken as coefficients in that layout. Where memory
     /// is refused it may have been called or not. The shape is one that `fits_lde` accepts.
     fn coset_lde_batch_with_transform<
         N: IntoRowMajorMatrix<F>,
@@ -310,7 +310,7 @@ pub trait TwoAdicSubgroupDft<F: TwoAdicField>: Clone + Default {
     ///
     /// `make_consumer` is called once, with the height of a block, unless memory is refused: then it is
     /// not called, so that nothing was published, and comes back. A block is a chunk of so many rows of
-    /// the output's physical matrix; the consumer is told the number of the first. When it refuses a
+    /// the output's physical matrix; the consumer is given the number of its first row. When it refuses a
     /// block no further one is lent, and it comes back with the refusal. The order of the blocks is not
     /// promised. The engines of this crate call `make_consumer` after `transform`, which a test shows, and
     /// after the last request for memory that can stop them, which follows from `unpublished`.

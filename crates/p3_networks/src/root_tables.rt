@@ -105,7 +105,7 @@ impl<F: TwoAdicField> RootTables<F> {
 
 // From half the powers of a generator, in bit reversed order, those of its inverse, in that order. The
 // first stays. The j-th power of the inverse is the negative of power `2^(log_h - 1) - j`, so each
-// chunk of `2^l` entries from place `2^l` on is negated and turned around: no product is made.
+// chunk of `2^l` entries from place `2^l` on is negated and reversed: no product is made.
 fn inverse_powers<F: TwoAdicField>(
     alloc: Global,
     powers: &[F],

@@ -275,7 +275,7 @@ const OVER_BABY_BEAR: [Worked; 37] = [
     },
     Worked {
         call: Call::WithTransform,
-        change: Change::TurnedAround,
+        change: Change::Reversed,
         width: 1,
         rows: &[9, 1],
         added_bits: 1,
@@ -284,7 +284,7 @@ const OVER_BABY_BEAR: [Worked; 37] = [
     },
     Worked {
         call: Call::BitReversed,
-        change: Change::TurnedAround,
+        change: Change::Reversed,
         width: 1,
         rows: &[9, 1],
         added_bits: 1,

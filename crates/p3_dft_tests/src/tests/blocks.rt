@@ -450,9 +450,9 @@ const SHAPES: [(usize, usize, usize); 20] = [
 pub(crate) fn changes_over<F: TwoAdicField>(rt: &impl Abort, alloc: Global) {
     for (height, width, added_bits) in SHAPES {
         let mat = sample(rt, alloc, height, width, 7);
-        changes_at(rt, &mat, added_bits, F::ZERO, Change::Weighed);
-        changes_at(rt, &mat, added_bits, F::ONE, Change::Weighed);
-        changes_at(rt, &mat, added_bits, F::GENERATOR, Change::Weighed);
+        changes_at(rt, &mat, added_bits, F::ZERO, Change::Weighted);
+        changes_at(rt, &mat, added_bits, F::ONE, Change::Weighted);
+        changes_at(rt, &mat, added_bits, F::GENERATOR, Change::Weighted);
         changes_at(rt, &mat, added_bits, F::GENERATOR, Change::Doubled);
     }
 }

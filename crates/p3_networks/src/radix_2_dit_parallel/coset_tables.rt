@@ -291,7 +291,7 @@ impl<F: TwoAdicField> CosetTables<F> {
             None => growth::with_capacity(alloc, 1)?,
         };
         let pushed = growth::push(&mut tables, table);
-        // The tables go back before an error is told.
+        // The tables go back before an error is returned.
         self.tables = Some(tables);
         pushed?;
         Ok(())
