@@ -1,11 +1,13 @@
 // Extension fields of degree four over BabyBear and of degree two over Goldilocks, and foldings with challenges
 // of them, as `vectors/extensions.py` worked them out.
 
+ghost use Rattle.std.specs.Prelude.{◌≡◌, ◌*◌};
+
 use super::algebra::coordinates_of;
 use super::helpers::matrices::{assert_rows, elements, sample};
 use examples::extension::{BabyBearFourth, ExtensionField, GoldilocksSquared};
-use examples::extension_folding::fold_into_extension;
-use p3_dft::{BabyBear, CanonicalField, Goldilocks, Layout, RowMajorMatrix, fits_dft};
+use examples::extension_folding::{fold_into_extension, last_coefficients};
+use p3_dft::{BabyBear, CanonicalField, Goldilocks, Layout, Radix2Dit, RowMajorMatrix, fits_dft};
 use std::alloc::Global;
 use std::process::Abort;
 
@@ -575,7 +577,29 @@ fn products_in_extension_fields(rt: HostRuntime) {
     assert!(rt; text.as_str() == "(0 + 1 x) (0 + 1 x)");
 }
 
-// Stops the test where a folding does not have these values.
+// Stops the test where the polynomials with these values on the coset of the shift have other coefficients.
+fn assert_last_coefficients<F: CanonicalField, E: ExtensionField<F>>(
+    rt: &impl Abort,
+    values: RowMajorMatrix<E>,
+    shift: F,
+    coefficients: &[u64],
+    entries: usize,
+)
+    requires { entries ≡ values.width * E.DIMENSION }
+{
+    assert!(rt; shift.try_inverse().is_some());
+    assert!(rt; fits_dft::<F>(values.height(), entries));
+    let mut engine: Radix2Dit<F> = Radix2Dit::default();
+    let last = last_coefficients(&mut engine, values, shift).expect(rt, "memory");
+    assert_rows(
+        rt,
+        &coordinates_of::<F, E>(rt, &last),
+        coefficients,
+        entries,
+    );
+}
+
+// Stops the test where a folding does not have these values, or, in natural order, these coefficients.
 fn assert_foldings<F: CanonicalField, E: ExtensionField<F>>(
     rt: &impl Abort,
     alloc: Global,
@@ -590,7 +614,8 @@ fn assert_foldings<F: CanonicalField, E: ExtensionField<F>>(
         assert!(rt; shift.try_inverse().is_some());
         let beta = element::<F, E>(rt, alloc, case.beta);
         let folded = fold_into_extension(&values, case.layout, shift, beta).expect(rt, "memory");
-        let entries = width
+        let entries = folded
+            .width()
             .checked_mul(E::DIMENSION)
             .expect(rt, "so many coordinates");
         assert_rows(
@@ -599,6 +624,9 @@ fn assert_foldings<F: CanonicalField, E: ExtensionField<F>>(
             case.values,
             entries,
         );
+        if case.layout == Layout::Natural {
+            assert_last_coefficients(rt, folded, shift * shift, case.coefficients, entries);
+        }
     }
 }
 
