@@ -1,22 +1,19 @@
 use Rattle.std.specs.Prelude.{IsPermutation}
-use Rattle.std.proofs.Common.{◌≡◌, ℕ, ◌+◌, ◌-◌, ◌*◌, ◌/◌, ◌%◌, ◌^◌, ◌<◌, ◌++◌, List, length, get_or, take, drop, refl, sym, ap, ap₂, ◌∙◌, subst, arith}
+use Rattle.std.proofs.Common.{◌≡◌, ℕ, ◌+◌, ◌-◌, ◌*◌, ◌/◌, ◌%◌, ◌^◌, ◌++◌, List, length, get_or, take, drop, refl, sym, ap, ap₂, ◌∙◌, subst, arith}
 use Rattle.std.proofs.Math.Nat.{mul-div_cancel, mul-mod_left}
 use Rattle.std.proofs.lemmas.Nat.{pow-add, pow_pos}
 use Rattle.std.proofs.lemmas.Result.{IfErr-weaker, on_ok_weaker}
-use Rattle.p3_matrix.specs.BitOrder.{rev, bit_reversal}
+use Rattle.p3_matrix.specs.BitOrder.{rev}
 use Rattle.p3_matrix.specs.Blocks.{block, first_blocks}
 use Rattle.p3_matrix.specs.Matrix.{Matrix}
-use Rattle.p3_matrix.specs.RowMajor.{RowMajor, rows_from}
-use Rattle.p3_matrix.proofs.BitReversal.{rev-lt, rev-rev}
+use Rattle.p3_matrix.specs.RowMajor.{rows_from}
+use Rattle.p3_matrix.proofs.BitReversal.{rev-lt}
 use Rattle.p3_matrix.proofs.Matrices.{list_same}
-use Rattle.p3_matrix.specs.Cosets.{point, values_of}
+use Rattle.p3_matrix.specs.Cosets.{point}
 use Rattle.p3_matrix.specs.Polynomials.{poly}
-use Rattle.p3_matrix.proofs.Polynomials.ByIndex.{poly_same}
-use Rattle.p3_matrix.proofs.Polynomials.Cosets.{is_values}
 use Rattle.p3_networks.specs.Slots.{slot_block, slot_blocks}
 use Rattle.p3_matrix.proofs.Rows.Overwritten.{written}
-use Rattle.p3_dft.proofs.BitReversed.Rows.{written_cell}
-use Rattle.p3_matrix.proofs.Rows.Padding.{cell_above}
+use Rattle.p3_dft.proofs.BitReversed.Rows.{values_of_network, values_of_upper}
 use Rattle.p3_dft.proofs.Calls.Stored.{entries_written}
 use Rattle.p3_dft.proofs.radix_2_dit_parallel.extension.extend_reversed.Goals as goal
 
@@ -28,31 +25,11 @@ first_are {T} b w rows n =
 
 pub returns-clause-values : goal.returns-clause-values
 returns-clause-values g c =
-    let field = g.F.Field in
-    let gen = λ (n : ℕ). field.value (g.F.TwoAdicField.generator n) in
     let log = c.args.log_h in
-    let n = log + c.args.added_bits in
-    let s = field.value c.args.shift in
-    let m = c.args.mat.now in
-    let w = c.width-width.result in
-    let after = c.extend_slots.new.values in
-    let start = c.values_mut.result.now in
-    let wide : m.width ≡ w = sym c.width-width.ensures.width in
-    let size : length after ≡ length m.values = c.extend_slots.auto.values ∙ ap length c.values_mut.ensures.values in
-    let tall = ap (λ xs. length xs / m.width) (written (length m.values) after _ size) ∙ ap (λ k. k / m.width) size ∙ c.requires.rows.height in
     on_ok_weaker c.extend_slots.result
-    (λ given upper whole high over_zeros.
-    let wide_upper : upper.width ≡ w = sym (ap (λ (x : RowMajor g.row.F.Denot). x.width) over_zeros) ∙ wide in
-    let coefficients = bit_reversal log (values_of field upper) in
-    is_values field.ring gen coefficients n s _ tall (wide ∙ sym wide_upper)
-    (λ i j below inside.
-    let l : j < w = omega (arith, inside, wide_upper) in
-    let column = λ (q : ℕ). coefficients.entry q j in
-    written_cell field m after _ w (rev n i) j size wide ∙ given (rev n i) j (rev-lt n i) l
-    ∙ ap (λ r. poly field.ring (2 ^ log) (λ q. field.value (get_or start (rev log q * w + j) field.ZERO)) (point field.ring gen n s r)) (rev-rev n i below)
-    ∙ poly_same field.ring (2 ^ log) _ column (point field.ring gen n s i)
-    (λ q p. cell_above field upper m start c.args.added_bits w (rev log q) j whole over_zeros c.values_mut.ensures.values wide_upper (omega (arith, rev-lt log q, high)) inside)
-    ∙ ap (λ h. poly field.ring h column (point field.ring gen n s i)) (sym high)))
+    (λ given upper whole high over_zeros. values_of_network g.F.Field g.F.TwoAdicField.generator upper c.args.mat.now c.values_mut.result.now log c.args.added_bits c.width-width.result
+    (g.F.Field.value c.args.shift) (rev log) (λ q _. rev-lt log q) (sym c.width-width.ensures.width) c.values_mut.ensures.values whole high over_zeros
+    c.extend_slots.new.values _ (c.extend_slots.auto.values ∙ ap length c.values_mut.ensures.values) c.requires.rows.height given)
     c.extend_slots.ensures.values
 
 pub returns-clause-published : goal.returns-clause-published
@@ -95,24 +72,17 @@ returns-clause-refused g c =
     let log = c.args.log_h in
     let n = log + c.args.added_bits in
     let s = field.value c.args.shift in
-    let m = c.args.mat.now in
     let w = c.width-width.result in
     let start = c.values_mut.result.now in
-    let wide : m.width ≡ w = sym c.width-width.ensures.width in
     let out : Matrix field.Element = record { height = 2 ^ n; width = w; entry = λ i j. poly field.ring (2 ^ log) (λ q. field.value (get_or start (rev log q * w + j) field.ZERO)) (point field.ring gen n s i) } in
     IfErr-weaker c.extend_slots.result _ _
     (λ refusal given upper whole high over_zeros.
-    let (accepted, refused, blocks, stopped) = given in
-    let wide_upper : upper.width ≡ w = sym (ap (λ (x : RowMajor g.row.F.Denot). x.width) over_zeros) ∙ wide in
-    let coefficients = bit_reversal log (values_of field upper) in (
+    let (accepted, refused, blocks, stopped) = given in (
       out,
       accepted,
       refused,
-      is_values field.ring gen coefficients n s out refl (sym wide_upper)
-          (λ i j below inside.
-          poly_same field.ring (2 ^ log) _ (λ q. coefficients.entry q j) (point field.ring gen n s i)
-          (λ q p. cell_above field upper m start c.args.added_bits w (rev log q) j whole over_zeros c.values_mut.ensures.values wide_upper (omega (arith, rev-lt log q, high)) inside)
-          ∙ ap (λ h. poly field.ring h (λ q. coefficients.entry q j) (point field.ring gen n s i)) (sym high)),
+      values_of_upper field g.F.TwoAdicField.generator upper c.args.mat.now start log c.args.added_bits w s (rev log) (λ q _. rev-lt log q) (sym c.width-width.ensures.width) c.values_mut.ensures.values
+          whole high over_zeros out refl refl (λ i j below inside. refl),
       blocks,
       stopped,
     ))
