@@ -1,18 +1,13 @@
-use Rattle.std.proofs.Common.{◌≤◌, sym, ap, ◌∙◌, subst, arith}
+use Rattle.std.proofs.Common.{sym, ap, ◌∙◌, arith}
 use Rattle.p3_matrix.specs.RowMajor.{height}
-use Rattle.p3_matrix.proofs.Rooms.{room_of}
-use Rattle.std.proofs.Math.Nat.{le_refl}
 use Rattle.p3_dft.proofs.Calls.AtLogs.{at_log, at_found}
 use Rattle.p3_dft.proofs.Calls.PreparedHeights.{not_ok, some_log}
-use Rattle.p3_dft.proofs.Calls.Shapes.{log_fits_dft, table_fits}
+use Rattle.p3_dft.proofs.Calls.Shapes.{log_fits_dft}
 use Rattle.p3_dft.proofs.Calls.Stored.{rows_found}
 use Rattle.p3_dft.proofs.prepared.on_prepared.Goals as goal
 
 pub make_for-requires-clause-within : goal.make_for-requires-clause-within
 make_for-requires-clause-within g c = (log_fits_dft _ _ c.requires.fits c.log2_strict_usize-log_h.ensures.power (c.height-height.ensures.height ∙ ap height c.into_row_major_matrix-mat.ensures)).0
-
-pub make_for-requires-clause-fits_u64 : goal.make_for-requires-clause-fits_u64
-make_for-requires-clause-fits_u64 g c = (log_fits_dft _ _ c.requires.fits c.log2_strict_usize-log_h.ensures.power (c.height-height.ensures.height ∙ ap height c.into_row_major_matrix-mat.ensures)).1
 
 pub on_matrix-requires-clause-rows : goal.on_matrix-requires-clause-rows
 on_matrix-requires-clause-rows g c = rows_found _ _ _ c.height-height.ensures.whole c.height-height.ensures.height c.log2_strict_usize-log_h.ensures.power c.requires.fits (ap height c.into_row_major_matrix-mat.ensures)
@@ -23,32 +18,14 @@ on_matrix-requires-clause-nonzero g c = some_log c.height-height.result c.log2_s
 pub on_matrix-requires-clause-within : goal.on_matrix-requires-clause-within
 on_matrix-requires-clause-within g c = (log_fits_dft _ _ c.requires.fits c.log2_strict_usize-log_h.ensures.power (c.height-height.ensures.height ∙ ap height c.into_row_major_matrix-mat.ensures)).0
 
-pub on_matrix-requires-clause-in_table : goal.on_matrix-requires-clause-in_table
-on_matrix-requires-clause-in_table g c = omega (arith, c.in_ok-make_for.ensures.made)
-
-pub returns-then-height-eq1-clause-answer : goal.returns-then-height-eq1-clause-answer
-returns-then-height-eq1-clause-answer g c = rw c.into_row_major_matrix-mat.ensures (c.requires.alone (rw c.into_row_major_matrix-mat.ensures at c.height-height.ensures.whole) (sym (ap height c.into_row_major_matrix-mat.ensures) ∙ sym c.height-height.ensures.height ∙ c.if-height-eq1.true))
-
 pub returns-then-height-eq1-clause-made : goal.returns-then-height-eq1-clause-made
 returns-then-height-eq1-clause-made g c = at_log _ _ 0 (sym (ap height c.into_row_major_matrix-mat.ensures) ∙ sym c.height-height.ensures.height ∙ c.if-height-eq1.true) (omega arith)
 
 pub returns-in_err-make_for-clause-succeeds : goal.returns-in_err-make_for-clause-succeeds
 returns-in_err-make_for-clause-succeeds g c = at_found _ _ c.height-height.ensures.height c.into_row_major_matrix-mat.ensures c.log2_strict_usize-log_h.ensures.power (λ there. absurd (not_ok c.make_for.result _ c.in_err-make_for.was (c.make_for.ensures.ready there)))
 
-pub returns-in_err-make_for-clause-room : goal.returns-in_err-make_for-clause-room
-returns-in_err-make_for-clause-room g c = room_of c.from_residual.result _ _ _ c.from_residual.ensures (omega (arith, table_fits _ c.requires.fits (sym (ap height c.into_row_major_matrix-mat.ensures) ∙ sym c.height-height.ensures.height ∙ c.log2_strict_usize-log_h.ensures.power))) c.in_err-make_for.ensures.room
-
-pub returns-in_err-make_for-clause-keeps : goal.returns-in_err-make_for-clause-keeps
-returns-in_err-make_for-clause-keeps g c = subst (λ tables. g.K.KeptTables.log c.args.tables.now ≤ g.K.KeptTables.log tables) (sym c.in_err-make_for.ensures.refused) (le_refl _)
-
-pub returns-clause-answer : goal.returns-clause-answer
-returns-clause-answer g c = rw (← c.into_row_major_matrix-mat.ensures) c.on_matrix.ensures.takes
-
 pub returns-clause-made : goal.returns-clause-made
 returns-clause-made g c = at_found _ _ c.height-height.ensures.height c.into_row_major_matrix-mat.ensures c.log2_strict_usize-log_h.ensures.power c.in_ok-make_for.ensures.made
-
-pub returns-clause-keeps : goal.returns-clause-keeps
-returns-clause-keeps g c = omega (arith, c.in_ok-make_for.ensures.made)
 
 pub returns-clause-cost : goal.returns-clause-cost
 returns-clause-cost g c = at_found _ _ c.height-height.ensures.height c.into_row_major_matrix-mat.ensures c.log2_strict_usize-log_h.ensures.power (rw (← c.into_row_major_matrix-mat.ensures) c.on_matrix.ensures.cost)

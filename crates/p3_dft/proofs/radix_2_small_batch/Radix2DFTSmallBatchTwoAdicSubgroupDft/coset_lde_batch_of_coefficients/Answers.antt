@@ -1,4 +1,4 @@
-use Rattle.std.proofs.Common.{◌≡◌, ℕ, ◌+◌, ◌*◌, ◌/◌, ◌<◌, ◌^◌, ◌≤◌, sym, ap, ap₂, ◌∙◌, subst, arith}
+use Rattle.std.proofs.Common.{◌≡◌, ℕ, ◌+◌, ◌*◌, ◌/◌, ◌<◌, ◌^◌, sym, ap, ap₂, ◌∙◌, subst, arith}
 use Rattle.std.proofs.Math.Nat.{le_refl, lt_of_lt_of_le}
 use Rattle.std.proofs.lemmas.Result.{IfOk-weaker}
 use Rattle.p3_matrix.specs.Cosets.{IsValues, values_of}
@@ -11,7 +11,7 @@ use Rattle.p3_dft.proofs.BitReversed.Coefficients.{extension_of_reversed}
 use Rattle.p3_dft.proofs.Calls.Counts.{larger_bound, points_within}
 use Rattle.p3_dft.proofs.Calls.EngineSteps.{after_error, extended_after}
 use Rattle.p3_dft.proofs.Calls.PreparedHeights.{later_with_heights, made_none_above, none_above}
-use Rattle.p3_dft.proofs.Calls.Shapes.{both_logs_fit, extended_table_fits, fits_dft_as, input_fits, log_fits, same_extended}
+use Rattle.p3_dft.proofs.Calls.Shapes.{both_logs_fit, extended_table_fits, log_fits, same_extended}
 use Rattle.p3_dft.proofs.Calls.Stored.{whole_still}
 use Rattle.p3_dft.proofs.radix_2_small_batch.Radix2DFTSmallBatchTwoAdicSubgroupDft.coset_lde_batch_of_coefficients.Goals as goal
 
@@ -29,9 +29,6 @@ extend_to_natural-requires-clause-fits_u64 g c = (both_logs_fit _ _ c.requires.f
 pub extend_to_natural-requires-clause-within : goal.extend_to_natural-requires-clause-within
 extend_to_natural-requires-clause-within g c = (both_logs_fit _ _ c.requires.fits c.log2_strict_usize-log_h.ensures.power (c.height.ensures.height ∙ ap height c.into_row_major_matrix-mat.ensures)).2
 
-pub extend_to_natural-requires-clause-height : goal.extend_to_natural-requires-clause-height
-extend_to_natural-requires-clause-height g c = c.reverse_rows.ensures.shape.0 ∙ sym c.height.ensures.height ∙ c.log2_strict_usize-log_h.ensures.power
-
 pub extend_to_natural-requires-clause-whole : goal.extend_to_natural-requires-clause-whole
 extend_to_natural-requires-clause-whole g c =
     whole_still c.into_row_major_matrix-mat.result c.reverse_rows.new.mat c.height.ensures.whole (record { shape = c.reverse_rows.ensures.shape; size = c.reverse_rows.ensures.size })
@@ -44,12 +41,6 @@ extend_to_natural-requires-clause-room g c =
     let same : c.log2_strict_usize-log_h.result ≡ c.requires.fits.log = log_same _ _ (sym c.log2_strict_usize-log_h.ensures.power ∙ c.height.ensures.height ∙ ap height c.into_row_major_matrix-mat.ensures ∙ c.requires.fits.height) in
     let entries = ap₂ (λ w n. w * 2 ^ (n + c.args.added_bits)) (c.reverse_rows.ensures.shape.1 ∙ ap (λ (n : RowMajor g.row.F.Denot). n.width) c.into_row_major_matrix-mat.ensures) same in
     subst (λ (n : ℕ). n < 2 ^ 64) (sym entries) c.requires.fits.size
-
-pub dft_batch-requires : goal.dft_batch-requires
-dft_batch-requires g c =
-    let same = c.shift_rows.ensures.shifted in
-    let stored = c.into_row_major_matrix-mat.ensures in
-    record { fits = fits_dft_as _ _ _ _ _ (input_fits _ _ _ _ c.requires.fits) (same.height ∙ ap height stored) (same.width ∙ ap (λ (m : RowMajor g.row.F.Denot). m.width) stored) }
 
 pub returns-then-added_bits-eq0-clause-values : goal.returns-then-added_bits-eq0-clause-values
 returns-then-added_bits-eq0-clause-values g c =
@@ -79,9 +70,6 @@ returns-then-added_bits-eq0-clause-engine g c =
     let all = λ (k : ℕ). let e : k ≡ k + c.args.added_bits = omega (arith, c.if-added_bits-eq0.true) in e in
     extended_after _ (g.N.IntoRowMajorMatrix.stored c.args.mat) c.shift_rows.new.mat c.args.added_bits _ _ _ _ _ fits.log fits.height (λ k e. same.height ∙ ap height stored ∙ e ∙ ap (λ n. 2 ^ n) (all k))
     (same.width ∙ ap (λ (m : RowMajor g.row.F.Denot). m.width) stored) (rw (← stored) (omega (arith, c.shift_rows.ensures.cost, c.new-products.ensures))) c.add_products.ensures.engine c.dft_batch.ensures.engine
-
-pub returns-in_err-make-clause-only : goal.returns-in_err-make-clause-only
-returns-in_err-make-clause-only g c k high = made_none_above k _ _ _ _ _ (log_same c.log2_strict_usize-log_h.result k (sym c.log2_strict_usize-log_h.ensures.power ∙ c.height.ensures.height ∙ ap height c.into_row_major_matrix-mat.ensures ∙ high)) (ap (λ e. e.prepared) c.self.view_is) c.make.ensures.only
 
 pub returns-in_err-make-clause-engine : goal.returns-in_err-make-clause-engine
 returns-in_err-make-clause-engine g c = after_error _ _ _ _ c.from_residual.ensures.0 (later_with_heights _ _ _ c.args.self.now _ _ _ _ c.self.view_is c.make.ensures.keeps (le_refl c.self.inside.products)) (ap (λ e. e.products) c.self.view_is)

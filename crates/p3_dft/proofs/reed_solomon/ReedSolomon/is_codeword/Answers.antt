@@ -1,6 +1,4 @@
-use Rattle.std.proofs.Common.{sym, ap, arith, refl}
-use Rattle.p3_matrix.proofs.Rooms.{room_of}
-use Rattle.p3_dft.proofs.Calls.EngineSteps.{after_error, after_refusal, as_stored, dft_of_same, later_same}
+use Rattle.std.proofs.Common.{sym, ap}
 use Rattle.p3_dft.proofs.Laws.Codes.{degree_told}
 use Rattle.p3_dft.specs.Codes.{Encoder}
 use Rattle.p3_dft.proofs.reed_solomon.ReedSolomon.is_codeword.Goals as goal
@@ -16,15 +14,3 @@ returns-clause-code g c = ap (λ (e : Encoder g.row.F.Denot g.row.D.Denot). e.co
 
 pub coset_idft_batch-requires-clause-fits : goal.coset_idft_batch-requires-clause-fits
 coset_idft_batch-requires-clause-fits g c = rw c.in_ok-try_clone.ensures.copy c.requires.fits
-
-pub returns-in_err-try_clone-clause-engine : goal.returns-in_err-try_clone-clause-engine
-returns-in_err-try_clone-clause-engine g c =
-    rw (sym c.self.view_is) (after_error _ _ _ _ c.from_residual.ensures.0 (later_same _ _) refl (room_of c.from_residual.result _ _ _ c.from_residual.ensures (omega (arith, c.width-width.ensures.whole.full)) c.in_err-try_clone.ensures.room))
-
-pub returns-in_err-coefficients-clause-engine : goal.returns-in_err-coefficients-clause-engine
-returns-in_err-coefficients-clause-engine g c =
-    rw (sym c.self.view_is) (dft_of_same g.D.TwoAdicSubgroupDft.facts _ _ _ _ _ 2 c.in_ok-try_clone.ensures.copy (after_refusal _ _ _ _ _ c.from_residual-in_err-coefficients.ensures c.in_err-coefficients.ensures.engine))
-
-pub returns-clause-engine : goal.returns-clause-engine
-returns-clause-engine g c =
-    rw (sym c.self.view_is) (dft_of_same g.D.TwoAdicSubgroupDft.facts _ _ _ _ _ 2 c.in_ok-try_clone.ensures.copy (as_stored _ _ _ c.in_ok-coefficients.ensures.engine))

@@ -1,11 +1,10 @@
-use Rattle.std.proofs.Common.{ℕ, ◌≡◌, ◌+◌, ◌*◌, ◌^◌, ◌∙◌, ap, arith}
-use Rattle.std.proofs.lemmas.Result.{IfOk-from_err, IfOk-weaker}
-use Rattle.p3_matrix.specs.RowMajor.{HasShapeOf, RowMajor, height}
-use Rattle.p3_matrix.proofs.Rooms.{room_of}
+use Rattle.std.proofs.Common.{ℕ, ◌≡◌, ◌^◌, ◌∙◌, ap, arith}
+use Rattle.std.proofs.lemmas.Result.{IfOk-weaker}
+use Rattle.p3_matrix.specs.RowMajor.{RowMajor, height}
 use Rattle.p3_matrix.proofs.Rows.Padding.{padded_shape}
-use Rattle.p3_dft.proofs.Calls.EngineSteps.{extended_after, refused_after_products}
+use Rattle.p3_dft.proofs.Calls.EngineSteps.{extended_after}
 use Rattle.p3_dft.proofs.Calls.ExtendedTransforms.{transform_of_shifted}
-use Rattle.p3_dft.proofs.Calls.Shapes.{output_fits, output_log_small, output_size, same_extended}
+use Rattle.p3_dft.proofs.Calls.Shapes.{output_fits, output_log_small, output_size}
 use Rattle.p3_dft.proofs.traits.TwoAdicSubgroupDft.coset_lde_batch_of_coefficients.Goals as goal
 
 pub pad_rows-requires-clause-bits : goal.pad_rows-requires-clause-bits
@@ -44,12 +43,3 @@ returns-clause-engine g c =
     rw stored at
     (extended_after g.Self.TwoAdicSubgroupDft.facts m c.in_ok-padded.padded c.args.added_bits _ _ _ _ _ fits.log high (λ k e. (grown k e).0) (grown fits.log high).1
     (omega (arith, c.shift_rows.ensures.cost, c.new-products.ensures)) c.add_products.ensures.engine c.dft_batch.ensures.engine)
-
-pub returns-in_err-padded-clause-engine : goal.returns-in_err-padded-clause-engine
-returns-in_err-padded-clause-engine g c =
-    let same = c.shift_rows.ensures.shifted in
-    let stored = c.into_row_major_matrix-coefficients.ensures in
-    let tall = ap height stored in
-    let wide = ap (λ (m : RowMajor g.row.F.Denot). m.width) stored in
-    refused_after_products _ (g.N.IntoRowMajorMatrix.stored c.args.mat) _ _ _ _ c.from_residual.ensures.0 (rw (← stored) (omega (arith, c.shift_rows.ensures.cost, c.new-products.ensures))) (λ k. omega arith)
-    (room_of c.from_residual.result _ _ _ c.from_residual.ensures (omega (arith, same_extended c.args.added_bits (same.height ∙ tall) (same.width ∙ wide))) c.in_err-padded.ensures.room) c.add_products.ensures.engine

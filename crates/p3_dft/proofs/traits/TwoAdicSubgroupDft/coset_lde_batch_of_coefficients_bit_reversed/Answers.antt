@@ -1,8 +1,7 @@
 use Rattle.std.proofs.Common.{◌+◌, sym, subst}
-use Rattle.std.proofs.lemmas.Result.{IfOk-from_err}
 use Rattle.p3_matrix.specs.RowMajor.{RowMajor}
 use Rattle.p3_dft.specs.Transforms.{IsExtendedTransform}
-use Rattle.p3_dft.proofs.Calls.EngineSteps.{after_refusal, as_stored}
+use Rattle.p3_dft.proofs.Calls.EngineSteps.{as_stored}
 use Rattle.p3_dft.proofs.traits.TwoAdicSubgroupDft.coset_lde_batch_of_coefficients_bit_reversed.Goals as goal
 
 pub into_bit_reversed-requires : goal.into_bit_reversed-requires
@@ -17,7 +16,3 @@ returns g c =
       values = subst (λ (out : RowMajor g.row.F.Denot). IsExtendedTransform g.F.Field g.F.TwoAdicField.generator mat c.args.added_bits (g.F.Field.value c.args.shift) out) (sym c.into_bit_reversed.ensures) c.in_ok-extension.ensures.values;
       engine = as_stored g.Self.TwoAdicSubgroupDft.facts _ _ c.in_ok-extension.ensures.engine;
     }
-
-pub returns-in_err-extension : goal.returns-in_err-extension
-returns-in_err-extension g c =
-    record { values = IfOk-from_err _ _ c.from_residual.ensures.0; engine = after_refusal _ _ _ _ _ c.from_residual.ensures c.in_err-extension.ensures.engine }
