@@ -1,11 +1,10 @@
-use Rattle.std.proofs.Common.{◌≡◌, ◌-◌, ◌^◌, length, get_or, refl, sym, ap, ap₂, ◌∙◌, arith, ℕ, ◌*◌}
+use Rattle.std.proofs.Common.{◌≡◌, ◌-◌, ◌^◌, length, get_or, refl, sym, ap, ap₂, ◌∙◌, arith}
 use Rattle.p3_field.specs.Ring.{power}
 use Rattle.p3_field.proofs.Rings
 use Rattle.p3_matrix.specs.BitOrder.{rev}
 use Rattle.p3_matrix.specs.RowMajor.{height}
 use Rattle.p3_matrix.proofs.TwoPowers.{log_same}
 use Rattle.p3_dft.proofs.BitReversed.Coefficients.{values_of_parts}
-use Rattle.p3_dft.proofs.Calls.PreparedHeights.{some_log}
 use Rattle.p3_matrix.proofs.Rooms.{room_of}
 use Rattle.p3_dft.proofs.Calls.Shapes.{half_table_fits}
 use Rattle.p3_dft.proofs.radix_2_bowers.evaluate_to_natural.Goals as goal
@@ -33,12 +32,6 @@ network_g-requires-clause-twiddles g c =
           ∙ ap₂ (λ x y. field.ring.mul x (power field.ring y (rev (log - 1) b))) one c.two_adic_generator-generator.ensures
           ∙ Rings.one-mul field.ring (power field.ring (field.value (g.F.TwoAdicField.generator log)) (rev (log - 1) b));
     }
-
-pub network_g-requires-clause-size : goal.network_g-requires-clause-size
-network_g-requires-clause-size g c = ap length c.values_mut.ensures.values ∙ sym c.width-width.ensures.whole.full ∙ ap₂ (λ (h w : ℕ). h * w) (sym c.height.ensures.height ∙ c.log2_strict_usize-log_h.ensures.power) (sym c.width-width.ensures.width)
-
-pub network_g-requires-clause-nonzero : goal.network_g-requires-clause-nonzero
-network_g-requires-clause-nonzero g c = some_log c.height.result c.log2_strict_usize-log_h.result c.log2_strict_usize-log_h.ensures.power (λ one. c.requires.several (sym c.height.ensures.height ∙ one))
 
 pub returns-in_err-twiddles-clause-room : goal.returns-in_err-twiddles-clause-room
 returns-in_err-twiddles-clause-room g c =

@@ -1,10 +1,9 @@
-use Rattle.std.proofs.Common.{◌≡◌, ◌+◌, ◌*◌, ◌/◌, ◌^◌, sym, ap, ◌∙◌, arith, ap₂, ℕ}
+use Rattle.std.proofs.Common.{◌≡◌, ◌+◌, ◌*◌, ◌/◌, ◌^◌, sym, ap, ◌∙◌, arith}
 use Rattle.std.proofs.lemmas.Nat.{pow-add}
 use Rattle.p3_matrix.specs.Cosets.{values_of}
 use Rattle.p3_matrix.proofs.TwoPowers.{log_same}
 use Rattle.p3_dft.proofs.Calls.Shapes.{output_fits, output_log_small, output_size}
 use Rattle.p3_matrix.proofs.Polynomials.SpreadRows.{values_of_spread}
-use Rattle.p3_matrix.proofs.Rooms.{room_of}
 use Rattle.p3_dft.proofs.radix_2_bowers.extend_to_natural.Goals as goal
 
 pub spread_over_zeros-requires-clause-bits : goal.spread_over_zeros-requires-clause-bits
@@ -41,16 +40,3 @@ returns-clause-cost g c k high =
     let cost = c.evaluate_to_natural.ensures.cost (k + a) (shape.0 ∙ ap (λ h. h * 2 ^ a) high ∙ sym (pow-add 2 k a)) in
     let same : c.in_ok-mat.mat.width * ((k + a) * 2 ^ (k + a) / 2) ≡ c.args.mat.width * ((k + a) * 2 ^ (k + a) / 2) = ap (λ w. w * ((k + a) * 2 ^ (k + a) / 2)) shape.1 in
     omega (arith, cost, same)
-
-pub returns-in_err-evaluate_to_natural-clause-cost : goal.returns-in_err-evaluate_to_natural-clause-cost
-returns-in_err-evaluate_to_natural-clause-cost g c k high =
-    let a = c.args.added_bits in
-    let shape = c.in_ok-mat.ensures.shape in
-    let cost = c.evaluate_to_natural.ensures.cost (k + a) (shape.0 ∙ ap (λ h. h * 2 ^ a) high ∙ sym (pow-add 2 k a)) in
-    let same : c.in_ok-mat.mat.width * ((k + a) * 2 ^ (k + a) / 2) ≡ c.args.mat.width * ((k + a) * 2 ^ (k + a) / 2) = ap (λ w. w * ((k + a) * 2 ^ (k + a) / 2)) shape.1 in
-    omega (arith, cost, same)
-
-pub returns-in_err-evaluate_to_natural-clause-room : goal.returns-in_err-evaluate_to_natural-clause-room
-returns-in_err-evaluate_to_natural-clause-room g c =
-    let shape = c.in_ok-mat.ensures.shape in
-    room_of c.from_residual-in_err-evaluate_to_natural.result _ _ _ c.from_residual-in_err-evaluate_to_natural.ensures (omega (arith, ap₂ (λ (h w : ℕ). h * w) shape.0 shape.1)) c.in_err-evaluate_to_natural.ensures.room

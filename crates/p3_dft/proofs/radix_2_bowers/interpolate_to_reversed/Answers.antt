@@ -1,9 +1,8 @@
-use Rattle.std.proofs.Common.{◌≡◌, ℕ, ◌*◌, ◌^◌, length, sym, ap, ◌∙◌, subst, arith}
+use Rattle.std.proofs.Common.{◌≡◌, ℕ, ◌^◌, ◌∙◌, subst}
 use Rattle.p3_matrix.specs.BitOrder.{bit_reversal}
 use Rattle.p3_matrix.specs.RowMajor.{height}
 use Rattle.p3_matrix.specs.Cosets.{IsQuotient, values_of}
 use Rattle.p3_matrix.proofs.Polynomials.Quotients.{reversed_quotient}
-use Rattle.p3_matrix.proofs.RowMajor.{whole_kept}
 use Rattle.p3_dft.proofs.radix_2_bowers.interpolate_to_reversed.Goals as goal
 
 pub returns-clause-coefficients : goal.returns-clause-coefficients
@@ -15,15 +14,3 @@ returns-clause-coefficients g c k high =
     c.in_ok-interpolate_unscaled_to_reversed.ensures.coefficients k high (bit_reversal k (values_of field c.divide_rows.new.mat))
     (reversed_quotient field.ring k (2 ^ k) (values_of field multiples) (values_of field c.divide_rows.new.mat) tall
     (subst (λ (n : ℕ). IsQuotient field.ring n (values_of field multiples) (values_of field c.divide_rows.new.mat)) tall c.divide_rows.ensures.divided))
-
-pub returns-clause-cost : goal.returns-clause-cost
-returns-clause-cost g c k high =
-    let m = c.args.mat.now in
-    let entries : length c.interpolate_unscaled_to_reversed.new.mat.values ≡ 2 ^ k * m.width =
-    c.in_ok-interpolate_unscaled_to_reversed.ensures.same.size ∙ sym c.interpolate_unscaled_to_reversed.ensures.whole.full ∙ ap (λ n. n * m.width) high in
-    omega (arith, c.interpolate_unscaled_to_reversed.ensures.cost k high, c.divide_rows.ensures.count, entries)
-
-pub returns-clause-whole : goal.returns-clause-whole
-returns-clause-whole g c =
-    whole_kept c.interpolate_unscaled_to_reversed.new.mat c.divide_rows.new.mat (whole_kept c.args.mat.now c.interpolate_unscaled_to_reversed.new.mat c.interpolate_unscaled_to_reversed.ensures.whole c.in_ok-interpolate_unscaled_to_reversed.ensures.same.shape c.in_ok-interpolate_unscaled_to_reversed.ensures.same.size)
-    c.divide_rows.ensures.shape c.divide_rows.ensures.size

@@ -1,4 +1,4 @@
-use Rattle.std.proofs.Common.{◌≡◌, ℕ, ◌-◌, ◌^◌, length, get_or, refl, sym, ap, ap₂, ◌∙◌, arith, ◌*◌}
+use Rattle.std.proofs.Common.{◌≡◌, ℕ, ◌-◌, ◌^◌, length, get_or, refl, sym, ap, ap₂, ◌∙◌, arith}
 use Rattle.p3_field.specs.Ring.{power}
 use Rattle.p3_field.proofs.Rings
 use Rattle.p3_field.proofs.Roots.{inverse_root, inverse_undoes}
@@ -8,7 +8,6 @@ use Rattle.p3_matrix.proofs.TwoPowers.{log_same}
 use Rattle.p3_matrix.specs.Cosets.{values_of}
 use Rattle.p3_dft.proofs.BitReversed.Coefficients.{coefficients_of_parts}
 use Rattle.p3_matrix.proofs.Polynomials.ReversedCoefficients.{coefficients_of_row}
-use Rattle.p3_dft.proofs.Calls.PreparedHeights.{some_log}
 use Rattle.p3_dft.proofs.Calls.Stored.{entries_written}
 use Rattle.p3_matrix.proofs.Rooms.{room_of}
 use Rattle.p3_dft.proofs.Calls.Shapes.{half_table_fits}
@@ -55,12 +54,6 @@ network_g_transposed-requires-clause-twiddles g c =
           ∙ ap₂ (λ x y. field.ring.mul x (power field.ring y (rev (log - 1) b))) one root
           ∙ Rings.one-mul field.ring (power field.ring (inverse_root field.ring gen log) (rev (log - 1) b));
     }
-
-pub network_g_transposed-requires-clause-size : goal.network_g_transposed-requires-clause-size
-network_g_transposed-requires-clause-size g c = ap length c.values_mut.ensures.values ∙ sym c.width-width.ensures.whole.full ∙ ap₂ (λ (h w : ℕ). h * w) (sym c.height-height.ensures.height ∙ c.log2_strict_usize-log_h.ensures.power) (sym c.width-width.ensures.width)
-
-pub network_g_transposed-requires-clause-nonzero : goal.network_g_transposed-requires-clause-nonzero
-network_g_transposed-requires-clause-nonzero g c = some_log c.height-height.result c.log2_strict_usize-log_h.result c.log2_strict_usize-log_h.ensures.power c.if-height-eq1.false
 
 pub returns-in_err-twiddles-clause-room : goal.returns-in_err-twiddles-clause-room
 returns-in_err-twiddles-clause-room g c =

@@ -7,8 +7,6 @@ use Rattle.p3_matrix.specs.Cosets.{values_of}
 use Rattle.p3_networks.proofs.Tables.ReversedPowers.{weighed_rows}
 use Rattle.p3_matrix.proofs.Rows.Overwritten.{written}
 use Rattle.p3_dft.proofs.Calls.Transforms.{entries_of_parts}
-use Rattle.p3_matrix.proofs.Rooms.{room_of}
-use Rattle.p3_dft.proofs.Calls.Shapes.{powers_fit}
 use Rattle.p3_dft.proofs.radix_2_bowers.weigh_reversed_rows.Goals as goal
 
 pub returns-clause-rows : goal.returns-clause-rows
@@ -36,7 +34,3 @@ returns-clause-rows g c k high =
     let under : b < 2 ^ log = subst (λ (n : ℕ). b < 2 ^ n) (sym same) below in
     ap (λ xs. field.value (get_or xs b field.ZERO)) c.as_slice.ensures.value ∙ weights.entries b under
     ∙ ap (λ n. field.ring.mul (field.value c.args.scale) (power field.ring (field.value c.args.shift) (rev n b))) same)
-
-pub returns-in_err-weights-clause-room : goal.returns-in_err-weights-clause-room
-returns-in_err-weights-clause-room g c =
-    room_of c.from_residual.result _ _ _ c.from_residual.ensures (powers_fit _ c.width-width.ensures.whole.width (sym c.height.ensures.height ∙ c.log2_strict_usize-log_h.ensures.power)) c.in_err-weights.ensures.room

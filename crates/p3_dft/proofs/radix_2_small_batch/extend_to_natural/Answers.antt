@@ -1,5 +1,5 @@
 use Rattle.std.proofs.Common.{ℕ, List, [], ◌≡◌, ◌*◌, ◌/◌, ◌%◌, ◌+◌, ◌-◌, ◌^◌, ◌<◌, ◌≤◌, ◌++◌, length, get_or, replicate, drop, refl, sym, ◌∙◌, ap, ap₂, arith}
-use Rattle.std.proofs.Math.Nat.{mod-eq_of_lt, mod-le, mul-div_cancel}
+use Rattle.std.proofs.Math.Nat.{mod-eq_of_lt, mul-div_cancel}
 use Rattle.std.proofs.lemmas.List.{length-replicate}
 use Rattle.std.proofs.lemmas.Nat.{pow-add}
 use Rattle.p3_field.specs.Ring.{power}
@@ -57,27 +57,10 @@ extending_network-requires-clause-rows g c = ap length c.values-2.ensures.values
 pub extending_network-requires-clause-weights : goal.extending_network-requires-clause-weights
 extending_network-requires-clause-weights g c = ap length c.as_slice.ensures.value ∙ c.in_ok-weights.ensures.powers.size ∙ ap (λ n. 2 ^ n) (sym (added-sub c.args.log_h c.args.added_bits))
 
-pub extending_network-requires-clause-nonzero : goal.extending_network-requires-clause-nonzero
-extending_network-requires-clause-nonzero g c = c.requires.nonzero
-
-pub extending_network-requires-clause-fits_u64 : goal.extending_network-requires-clause-fits_u64
-extending_network-requires-clause-fits_u64 g c = c.requires.fits_u64
-
-pub extending_network-requires-clause-within : goal.extending_network-requires-clause-within
-extending_network-requires-clause-within g c = c.requires.within
-
 pub returns-in_err-weights-clause-room : goal.returns-in_err-weights-clause-room
 returns-in_err-weights-clause-room g c =
     let table = powers_fit c.args.log_h c.requires.whole.width c.requires.height in
     room_of c.from_residual.result _ _ _ c.from_residual.ensures (omega (arith, table, fewer_entries (height c.args.mat * c.args.mat.width) c.args.added_bits)) c.in_err-weights.ensures.room
-
-pub returns-in_err-extend_by_zeros-clause-room : goal.returns-in_err-extend_by_zeros-clause-room
-returns-in_err-extend_by_zeros-clause-room g c =
-    let empty : c.new-values.result.len ≡ 0 = omega (arith, c.new-values.result.ok.0, ap length c.new-values.ensures.items) in
-    let entries : length c.values.result.now * 2 ^ c.args.added_bits ≡ height c.args.mat * c.args.mat.width * 2 ^ c.args.added_bits =
-    ap (λ n. n * 2 ^ c.args.added_bits) (ap length c.values.ensures.values ∙ sym c.requires.whole.full) in
-    let shifted = mod-le (length c.values.result.now * 2 ^ c.args.added_bits) (2 ^ 64) in
-    room_of c.from_residual-in_err-extend_by_zeros.result _ _ _ c.from_residual-in_err-extend_by_zeros.ensures (omega (arith, empty, entries, shifted)) c.in_err-extend_by_zeros.ensures.room
 
 pub returns : goal.returns
 returns g c =

@@ -1,4 +1,4 @@
-use Rattle.std.proofs.Common.{◌≡◌, ◌^◌, ap, ◌∙◌, sym, ap₂, ℕ, ◌≤◌, ◌+◌, ◌*◌, ◌/◌, arith}
+use Rattle.std.proofs.Common.{◌≡◌, ◌^◌, ap, ◌∙◌, sym, ◌≤◌, ◌+◌, ◌*◌, ◌/◌}
 use Rattle.p3_matrix.specs.BitOrder.{bit_reversal}
 use Rattle.p3_matrix.specs.Matrix.{matrix}
 use Rattle.p3_matrix.specs.RowMajor.{RowMajor, height}
@@ -7,33 +7,13 @@ use Rattle.p3_matrix.proofs.Matrices.{same_sym, mapped_same}
 use Rattle.p3_matrix.specs.Cosets.{values_of}
 use Rattle.p3_matrix.proofs.Polynomials.Cosets.{coefficients_same}
 use Rattle.p3_dft.proofs.BitReversed.Rows.{transform_of_row}
-use Rattle.p3_dft.proofs.Calls.Shapes.{fits_dft_as}
-use Rattle.p3_dft.proofs.Calls.EngineSteps.{after_counting, after_none}
+use Rattle.p3_dft.proofs.Calls.EngineSteps.{after_counting}
 use Rattle.p3_dft.proofs.Calls.Counts.{larger_bound}
 use Rattle.std.proofs.Math.Nat.{le-add_right}
-use Rattle.p3_matrix.proofs.Rooms.{room_of}
 use Rattle.p3_dft.proofs.radix_2_bowers.Radix2BowersTwoAdicSubgroupDft.dft_batch.Goals as goal
-
-pub evaluate_to_natural-requires : goal.evaluate_to_natural-requires
-evaluate_to_natural-requires g c =
-    let shape = c.reverse_rows.ensures.shape in
-    record {
-      fits = fits_dft_as _ _ _ _ _ c.requires.fits (shape.0 ∙ ap height c.into_row_major_matrix-mat.ensures)
-          (shape.1 ∙ ap (λ (m : RowMajor g.row.F.Denot). m.width) c.into_row_major_matrix-mat.ensures);
-      several = λ one. c.if-height-eq1.false (c.height.ensures.height ∙ sym shape.0 ∙ one);
-    }
 
 pub returns-then-height-eq1-clause-values : goal.returns-then-height-eq1-clause-values
 returns-then-height-eq1-clause-values g c = rw (← c.into_row_major_matrix-mat.ensures) (transform_of_row g.F.Field g.F.TwoAdicField.generator c.into_row_major_matrix-mat.result (sym c.height.ensures.height ∙ c.if-height-eq1.true))
-
-pub returns-then-height-eq1-clause-engine : goal.returns-then-height-eq1-clause-engine
-returns-then-height-eq1-clause-engine g c = after_none _ _ (λ _ k high. tt)
-
-pub returns-in_err-evaluate_to_natural-clause-succeeds : goal.returns-in_err-evaluate_to_natural-clause-succeeds
-returns-in_err-evaluate_to_natural-clause-succeeds g c k high none = absurd (c.if-height-eq1.false (c.height.ensures.height ∙ ap height c.into_row_major_matrix-mat.ensures ∙ high ∙ ap (λ n. 2 ^ n) none))
-
-pub returns-in_err-evaluate_to_natural-clause-engine : goal.returns-in_err-evaluate_to_natural-clause-engine
-returns-in_err-evaluate_to_natural-clause-engine g c = after_counting _ _ _ c.self.view_is c.evaluate_to_natural.ensures.grows (λ k. tt) (λ k high. let tall : height c.into_row_major_matrix-mat.result ≡ 2 ^ k = ap height c.into_row_major_matrix-mat.ensures ∙ high in let rows = c.reverse_rows.ensures.rows k tall g.F.Field.ZERO in let width : c.reverse_rows.new.mat.width ≡ (g.N.IntoRowMajorMatrix.stored c.args.mat).width = rows.width ∙ ap (λ (m : RowMajor g.row.F.Denot). m.width) c.into_row_major_matrix-mat.ensures in let made : c.evaluate_to_natural.new.products ≤ c.args.self.now + (g.N.IntoRowMajorMatrix.stored c.args.mat).width * (k * 2 ^ k / 2) = rw (← c.self.view_is, ← width) (c.evaluate_to_natural.ensures.cost k (rows.height ∙ tall)) in larger_bound _ _ _ _ made (le-add_right _ _)) (let shape = c.reverse_rows.ensures.shape in room_of c.from_residual.result _ _ _ c.from_residual.ensures (omega (arith, ap₂ (λ (h w : ℕ). h * w) (shape.0 ∙ ap height c.into_row_major_matrix-mat.ensures) (shape.1 ∙ ap (λ (m : RowMajor g.row.F.Denot). m.width) c.into_row_major_matrix-mat.ensures))) c.in_err-evaluate_to_natural.ensures.room)
 
 pub returns-clause-values : goal.returns-clause-values
 returns-clause-values g c k high = let field = g.F.Field in let m = c.into_row_major_matrix-mat.result in let r = c.reverse_rows.new.mat in let tall : height m ≡ 2 ^ k = ap height c.into_row_major_matrix-mat.ensures ∙ high in let back = mapped_same field.value (matrix field.ZERO r) (bit_reversal k (matrix field.ZERO m)) (c.reverse_rows.ensures.rows k tall field.ZERO) in rw (← c.into_row_major_matrix-mat.ensures) (coefficients_same field.ring (λ n. field.value (g.F.TwoAdicField.generator n)) (bit_reversal k (values_of field r)) (values_of field m) k field.ring.one (values_of field c.evaluate_to_natural.new.mat) (same_sym (values_of field m) (bit_reversal k (values_of field r)) (reversed_back k (values_of field r) (values_of field m) tall back)) (c.in_ok-evaluate_to_natural.ensures.values k (back.height ∙ tall)))

@@ -1,4 +1,4 @@
-use Rattle.std.proofs.Common.{◌≡◌, ◌^◌, refl, ap, ◌∙◌, sym, ap₂, ℕ, ◌≤◌, ◌+◌, ◌*◌, ◌/◌, arith}
+use Rattle.std.proofs.Common.{◌≡◌, ◌^◌, refl, ap, ◌∙◌, sym, ◌≤◌, ◌+◌, ◌*◌, ◌/◌}
 use Rattle.p3_matrix.specs.BitOrder.{bit_reversal}
 use Rattle.p3_matrix.specs.Matrix.{matrix}
 use Rattle.p3_matrix.specs.RowMajor.{RowMajor, height}
@@ -7,9 +7,8 @@ use Rattle.p3_matrix.specs.Cosets.{values_of}
 use Rattle.p3_matrix.proofs.Polynomials.Interpolation.{same_coefficients}
 use Rattle.p3_dft.proofs.BitReversed.Coefficients.{interpolation_of_coefficients}
 use Rattle.p3_dft.proofs.BitReversed.Rows.{transform_of_row}
-use Rattle.p3_dft.proofs.Calls.EngineSteps.{after_counting, after_none}
+use Rattle.p3_dft.proofs.Calls.EngineSteps.{after_counting}
 use Rattle.p3_dft.proofs.Calls.Counts.{one_for_each}
-use Rattle.p3_matrix.proofs.Rooms.{room_of}
 use Rattle.p3_dft.proofs.radix_2_bowers.Radix2BowersTwoAdicSubgroupDft.idft_batch.Goals as goal
 
 pub interpolate_to_reversed-requires : goal.interpolate_to_reversed-requires
@@ -22,15 +21,6 @@ reverse_rows-requires g c =
 
 pub returns-then-height-eq1-clause-coefficients : goal.returns-then-height-eq1-clause-coefficients
 returns-then-height-eq1-clause-coefficients g c = let m = c.into_row_major_matrix-mat.result in let high : height m ≡ 2 ^ c.requires.fits.log = ap height c.into_row_major_matrix-mat.ensures ∙ c.requires.fits.height in rw (← c.into_row_major_matrix-mat.ensures) (interpolation_of_coefficients g.F.Field g.F.TwoAdicField.generator g.met.F.TwoAdicField.roots_law m m c.requires.fits.log c.requires.fits.within high (record { height = refl; width = refl; values = transform_of_row g.F.Field g.F.TwoAdicField.generator m (sym c.height.ensures.height ∙ c.if-height-eq1.true) c.requires.fits.log high }))
-
-pub returns-then-height-eq1-clause-engine : goal.returns-then-height-eq1-clause-engine
-returns-then-height-eq1-clause-engine g c = after_none _ _ (λ _ k high. tt)
-
-pub returns-in_err-interpolate_to_reversed-clause-succeeds : goal.returns-in_err-interpolate_to_reversed-clause-succeeds
-returns-in_err-interpolate_to_reversed-clause-succeeds g c k high none = absurd (c.if-height-eq1.false (c.height.ensures.height ∙ ap height c.into_row_major_matrix-mat.ensures ∙ high ∙ ap (λ n. 2 ^ n) none))
-
-pub returns-in_err-interpolate_to_reversed-clause-engine : goal.returns-in_err-interpolate_to_reversed-clause-engine
-returns-in_err-interpolate_to_reversed-clause-engine g c = after_counting _ _ _ c.self.view_is c.interpolate_to_reversed.ensures.grows (λ k. tt) (λ k high. let width : c.into_row_major_matrix-mat.result.width ≡ (g.N.IntoRowMajorMatrix.stored c.args.mat).width = ap (λ (m : RowMajor g.row.F.Denot). m.width) c.into_row_major_matrix-mat.ensures in let made : c.interpolate_to_reversed.new.products ≤ c.args.self.now + (g.N.IntoRowMajorMatrix.stored c.args.mat).width * (k * 2 ^ k / 2) + 2 ^ k * (g.N.IntoRowMajorMatrix.stored c.args.mat).width = rw (← c.self.view_is, ← width) (c.interpolate_to_reversed.ensures.cost k (ap height c.into_row_major_matrix-mat.ensures ∙ high)) in one_for_each _ _ _ _ made) (room_of c.from_residual.result _ _ _ c.from_residual.ensures (omega (arith, ap₂ (λ (h w : ℕ). h * w) (ap height c.into_row_major_matrix-mat.ensures) (ap (λ (m : RowMajor g.row.F.Denot). m.width) c.into_row_major_matrix-mat.ensures))) c.in_err-interpolate_to_reversed.ensures.room)
 
 pub returns-clause-coefficients : goal.returns-clause-coefficients
 returns-clause-coefficients g c = let field = g.F.Field in let log = c.requires.fits.log in let m = c.into_row_major_matrix-mat.result in let reversed_coefficients = c.interpolate_to_reversed.new.mat in let out = c.reverse_rows.new.mat in let high : height m ≡ 2 ^ log = ap height c.into_row_major_matrix-mat.ensures ∙ c.requires.fits.height in let are = c.in_ok-interpolate_to_reversed.ensures.coefficients log high in rw (← c.into_row_major_matrix-mat.ensures) (interpolation_of_coefficients field g.F.TwoAdicField.generator g.met.F.TwoAdicField.roots_law m out log c.requires.fits.within high (same_coefficients field.ring g.met.F.TwoAdicField.roots_law (values_of field m) log field.ring.one (bit_reversal log (values_of field reversed_coefficients)) (values_of field out) (same_sym (values_of field out) (bit_reversal log (values_of field reversed_coefficients)) (mapped_same field.value (matrix field.ZERO out) (bit_reversal log (matrix field.ZERO reversed_coefficients)) (c.reverse_rows.ensures.rows log (are.height ∙ high) field.ZERO))) are))

@@ -8,7 +8,7 @@ use Rattle.p3_dft.proofs.BitReversed.Coefficients.{extension_of_coefficients, ex
 use Rattle.p3_dft.proofs.Calls.Counts.{scaled_counted, weighed_counted}
 use Rattle.p3_dft.proofs.Calls.Shapes.{fewer_of_same, fits_lde_as, input_fits, log_fits, same_extended}
 use Rattle.p3_matrix.proofs.TwoPowers.{more_points}
-use Rattle.p3_dft.proofs.Calls.EngineSteps.{after_counting, after_none}
+use Rattle.p3_dft.proofs.Calls.EngineSteps.{after_counting}
 use Rattle.p3_matrix.proofs.Rooms.{if_within_more, room_of}
 use Rattle.p3_dft.proofs.radix_2_bowers.Radix2BowersTwoAdicSubgroupDft.lde_batch.Goals as goal
 
@@ -27,9 +27,6 @@ overflow_add-log_h g c = omega (arith, (log_fits _ _ c.requires.fits c.log2_stri
 
 pub returns-then-log_h-added_bits-eq0-clause-values : goal.returns-then-log_h-added_bits-eq0-clause-values
 returns-then-log_h-added_bits-eq0-clause-values g c = let none : c.log2_strict_usize-log_h.result ≡ 0 = omega (arith, c.if-log_h-added_bits-eq0.true) in let one : height c.into_row_major_matrix-mat.result ≡ 1 = sym c.height.ensures.height ∙ c.log2_strict_usize-log_h.ensures.power ∙ ap (λ n. 2 ^ n) none in rw (← c.into_row_major_matrix-mat.ensures) (extension_of_row g.F.Field g.F.TwoAdicField.generator c.into_row_major_matrix-mat.result c.args.added_bits g.F.Field.ring.one one (omega (arith, c.if-log_h-added_bits-eq0.true)))
-
-pub returns-then-log_h-added_bits-eq0-clause-engine : goal.returns-then-log_h-added_bits-eq0-clause-engine
-returns-then-log_h-added_bits-eq0-clause-engine g c = after_none _ _ (λ _ k high. (tt, tt))
 
 pub returns-in_err-interpolate_to_reversed : goal.returns-in_err-interpolate_to_reversed
 returns-in_err-interpolate_to_reversed g c =

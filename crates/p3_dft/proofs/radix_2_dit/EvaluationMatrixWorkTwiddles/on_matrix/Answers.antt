@@ -1,4 +1,4 @@
-use Rattle.std.proofs.Common.{false, ◌≤◌, refl, ℕ, ap, ap₂, sym, length, ◌∙◌, ◌*◌}
+use Rattle.std.proofs.Common.{false, refl, ℕ, ap, ap₂, sym, length, ◌∙◌, ◌*◌}
 use Rattle.std.proofs.Math.Nat.{le-add_right}
 use Rattle.p3_networks.specs.Twiddles.{root_powers}
 use Rattle.p3_networks.proofs.Tables.MoreTwiddles.{fewer_layers}

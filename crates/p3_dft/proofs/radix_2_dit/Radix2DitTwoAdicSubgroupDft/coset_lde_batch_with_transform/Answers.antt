@@ -1,4 +1,4 @@
-use Rattle.std.proofs.Common.{ℕ, ◌≡◌, ◌+◌, ◌*◌, ◌^◌, ◌∙◌, ap, ap₂, refl, sym, arith}
+use Rattle.std.proofs.Common.{ℕ, ◌≡◌, ◌+◌, ◌*◌, ◌^◌, ◌∙◌, ap₂, refl, sym, arith}
 use Rattle.std.proofs.Math.Nat.{le_refl}
 use Rattle.std.proofs.lemmas.Result.{IfOk-from_err, IfOk-weaker}
 use Rattle.p3_matrix.specs.RowMajor.{height}
@@ -48,9 +48,6 @@ returns-clause-values g c =
     c.in_ok-coefficients.ensures.coefficients c.width-width.ensures.whole c.shift_rows.ensures.whole called shape.0 c.shift_rows.ensures.shifted c.pad_rows.ensures.whole
     (rw c.in_ok-padded.ensures.padded at given))
     c.dft_batch.ensures.values
-
-pub returns-in_err-coefficients-clause-only : goal.returns-in_err-coefficients-clause-only
-returns-in_err-coefficients-clause-only g c k e = omega (arith, ap (λ (e : EngineState). e.prepared) c.in_err-coefficients.ensures.refused)
 
 pub returns-in_err-coefficients-clause-engine : goal.returns-in_err-coefficients-clause-engine
 returns-in_err-coefficients-clause-engine g c =

@@ -75,9 +75,6 @@ returns-then-height-eq1-clause-engine g c = after_none _ _ (λ done k high. tt)
 pub make-requires-clause-within : goal.make-requires-clause-within
 make-requires-clause-within g c = (log_fits_dft _ _ c.requires.fits c.log2_strict_usize-log_h.ensures.power (c.height-height.ensures.height ∙ ap height c.into_row_major_matrix-mat.ensures)).0
 
-pub make-requires-clause-fits_u64 : goal.make-requires-clause-fits_u64
-make-requires-clause-fits_u64 g c = (log_fits_dft _ _ c.requires.fits c.log2_strict_usize-log_h.ensures.power (c.height-height.ensures.height ∙ ap height c.into_row_major_matrix-mat.ensures)).1
-
 pub evaluate_on_coset_to_reversed-requires-clause-rows : goal.evaluate_on_coset_to_reversed-requires-clause-rows
 evaluate_on_coset_to_reversed-requires-clause-rows g c = rows_found _ _ _ c.height-height.ensures.whole c.height-height.ensures.height c.log2_strict_usize-log_h.ensures.power c.requires.fits (ap height c.into_row_major_matrix-mat.ensures)
 

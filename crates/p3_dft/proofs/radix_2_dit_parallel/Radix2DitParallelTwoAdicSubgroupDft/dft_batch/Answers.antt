@@ -2,17 +2,10 @@ use Rattle.std.proofs.Common.{◌≡◌, ap₂, refl, ◌∙◌, arith}
 use Rattle.p3_matrix.proofs.Rooms.{room_of}
 use Rattle.p3_dft.proofs.BitReversed.OneRow.{row_handed_back, row_seen}
 use Rattle.p3_dft.proofs.Calls.PreparedCosets.{later_with_tables, tabled}
-use Rattle.p3_dft.proofs.Calls.PreparedHeights.{not_ok}
 use Rattle.p3_dft.proofs.radix_2_dit_parallel.Radix2DitParallelTwoAdicSubgroupDft.dft_batch.Goals as goal
 
 pub on_prepared-requires-clause-alone : goal.on_prepared-requires-clause-alone
 on_prepared-requires-clause-alone g c whole one = ((refl, refl), λ bits high. row_seen g.F.Field g.F.TwoAdicField.generator _ _ _ bits whole one refl high)
-
-pub bit_reverse_rows-requires : goal.bit_reverse_rows-requires
-bit_reverse_rows-requires g c = (c.requires.fits.log, c.in_ok-mat.ensures.answer.0.0 ∙ c.requires.fits.height)
-
-pub returns-in_err-mat-clause-succeeds : goal.returns-in_err-mat-clause-succeeds
-returns-in_err-mat-clause-succeeds g c = rw (← c.self.view_is) (λ k high there. absurd (not_ok c.on_prepared.result _ c.in_err-mat.was (c.on_prepared.ensures.succeeds k high there)))
 
 pub returns-in_err-mat-clause-engine : goal.returns-in_err-mat-clause-engine
 returns-in_err-mat-clause-engine g c = record {

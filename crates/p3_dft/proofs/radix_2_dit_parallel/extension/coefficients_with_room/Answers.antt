@@ -7,7 +7,7 @@ use Rattle.p3_dft.proofs.Calls.Counts.{more_allowed}
 use Rattle.std.proofs.Math.Nat.{le_refl}
 use Rattle.p3_matrix.proofs.Rooms.{room_of}
 use Rattle.p3_matrix.proofs.Rows.Padding.{padded_shape, padded_whole}
-use Rattle.p3_dft.proofs.Calls.Stored.{rows_found_lde, whole_still}
+use Rattle.p3_dft.proofs.Calls.Stored.{whole_still}
 use Rattle.p3_dft.proofs.Calls.AtLogs.{at_log}
 use Rattle.p3_dft.proofs.radix_2_dit_parallel.extension.coefficients_with_room.Goals as goal
 
@@ -15,12 +15,6 @@ pub make-requires : goal.make-requires
 make-requires g c =
     let (within, small, all_within, all_small) = both_logs_fit _ _ c.requires.fits c.log2_strict_usize-log_h.ensures.power c.height.ensures.height in
     record { within = within; fits_u64 = small }
-
-pub interpolate_to_reversed-requires-clause-rows : goal.interpolate_to_reversed-requires-clause-rows
-interpolate_to_reversed-requires-clause-rows g c = rows_found_lde _ _ _ c.height.ensures.whole c.height.ensures.height c.log2_strict_usize-log_h.ensures.power c.requires.fits refl
-
-pub interpolate_to_reversed-requires-clause-in_table : goal.interpolate_to_reversed-requires-clause-in_table
-interpolate_to_reversed-requires-clause-in_table g c = c.in_ok-make.ensures.made
 
 pub interpolate_to_reversed-requires-clause-within : goal.interpolate_to_reversed-requires-clause-within
 interpolate_to_reversed-requires-clause-within g c = (both_logs_fit _ _ c.requires.fits c.log2_strict_usize-log_h.ensures.power c.height.ensures.height).0

@@ -1,9 +1,7 @@
-use Rattle.std.proofs.Common.{◌≤◌, ℕ, refl, ◌∙◌, ap, ap₂, sym, length, ◌*◌}
-use Rattle.std.proofs.Math.Nat.{le-add_right}
+use Rattle.std.proofs.Common.{ℕ, refl}
 use Rattle.p3_networks.specs.Twiddles.{forward_root, block_powers}
 use Rattle.p3_networks.proofs.Tables.FromStart.{enough_from_start, fewer_from_start, first_is_one}
 use Rattle.p3_dft.proofs.BitReversed.Rows.{transform_of_reversed}
-use Rattle.p3_dft.proofs.Calls.Counts.{larger_bound}
 use Rattle.p3_dft.proofs.radix_2_small_batch.EvaluationMatrixWorkRootTables.on_matrix.Goals as goal
 
 pub dif_network-requires-clause-first : goal.dif_network-requires-clause-first
@@ -14,9 +12,6 @@ pub dif_network-requires-clause-enough : goal.dif_network-requires-clause-enough
 dif_network-requires-clause-enough g c = enough_from_start g.F.Field (λ (n : ℕ). g.F.Field.value (g.F.TwoAdicField.generator n)) c.args.log_h _ c.requires.nonzero
     (fewer_from_start g.F.Field (block_powers g.F.Field (forward_root g.F.Field g.F.TwoAdicField.generator)) c.args.log_h _ _ c.requires.in_table c.forward-twiddles.ensures.table)
 
-pub dif_network-requires-clause-size : goal.dif_network-requires-clause-size
-dif_network-requires-clause-size g c = ap length c.values_mut.ensures.values ∙ c.reverse_rows.ensures.size ∙ sym c.requires.rows.whole.full ∙ ap₂ (λ (h w : ℕ). h * w) c.requires.rows.height (sym c.width-width.ensures.width)
-
 pub returns-clause-takes : goal.returns-clause-takes
 returns-clause-takes g c =
     transform_of_reversed g.F.Field g.F.TwoAdicField.generator c.args.mat.now c.reverse_rows.new.mat _ c.values_mut.result.now c.dif_network.new.values _ c.args.log_h c.width-width.result
@@ -24,6 +19,3 @@ returns-clause-takes g c =
     c.values_mut.ensures.values c.dif_network.auto.values refl refl
     (c.dif_network.ensures.values _ (λ (n : ℕ). g.F.Field.value (g.F.TwoAdicField.generator n)) g.met.F.TwoAdicField.roots_law c.requires.within
     (fewer_from_start g.F.Field (block_powers g.F.Field (forward_root g.F.Field g.F.TwoAdicField.generator)) c.args.log_h _ _ c.requires.in_table c.forward-twiddles.ensures.table))
-
-pub returns-clause-cost : goal.returns-clause-cost
-returns-clause-cost g c = rw (← c.width-width.ensures.width) (larger_bound _ _ _ _ c.dif_network.ensures.cost (le-add_right _ _))

@@ -1,10 +1,9 @@
-use Rattle.std.proofs.Common.{◌≡◌, ◌^◌, refl, ap, ◌∙◌, ℕ, ap₂, sym, length, ◌*◌}
+use Rattle.std.proofs.Common.{◌≡◌, ◌^◌, refl, ap, ◌∙◌}
 use Rattle.p3_field.specs.Ring.{count}
 use Rattle.p3_field.proofs.Powers.{count-power_of_two}
 use Rattle.p3_networks.specs.Twiddles.{backward_root, block_powers}
 use Rattle.p3_networks.proofs.Tables.FromStart.{fewer_from_start}
 use Rattle.p3_dft.proofs.BitReversed.OneReversal.{interpolation_of_reversed}
-use Rattle.p3_dft.proofs.Calls.Counts.{one_for_each}
 use Rattle.p3_dft.proofs.radix_2_small_batch.InterpolationMatrixWorkRootTables.on_matrix.Goals as goal
 
 pub returns-clause-takes : goal.returns-clause-takes
@@ -18,12 +17,6 @@ returns-clause-takes g c =
     inverse c.requires.within c.requires.rows.whole c.requires.rows.height c.reverse_rows.ensures.shape c.reverse_rows.ensures.size c.reverse_rows.ensures.rows c.values_mut.ensures.values c.width-width.ensures.width
     c.scaled_dif_network.auto.values refl refl undone c.scaled_dif_network.ensures.values
 
-pub scaled_dif_network-requires-clause-size : goal.scaled_dif_network-requires-clause-size
-scaled_dif_network-requires-clause-size g c = ap length c.values_mut.ensures.values ∙ c.reverse_rows.ensures.size ∙ sym c.requires.rows.whole.full ∙ ap₂ (λ (h w : ℕ). h * w) c.requires.rows.height (sym c.width-width.ensures.width)
-
 pub scaled_dif_network-requires-clause-twiddles : goal.scaled_dif_network-requires-clause-twiddles
 scaled_dif_network-requires-clause-twiddles g c =
     fewer_from_start g.F.Field (block_powers g.F.Field (backward_root g.F.Field g.F.TwoAdicField.generator)) c.args.log_h _ _ c.requires.in_table c.backward-twiddles.ensures.table
-
-pub returns-clause-cost : goal.returns-clause-cost
-returns-clause-cost g c = rw (← c.width-width.ensures.width) (one_for_each _ _ _ _ c.scaled_dif_network.ensures.cost)

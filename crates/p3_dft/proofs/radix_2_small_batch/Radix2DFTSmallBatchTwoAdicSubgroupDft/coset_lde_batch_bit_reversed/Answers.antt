@@ -1,4 +1,4 @@
-use Rattle.std.proofs.Common.{◌≡◌, ℕ, ◌+◌, ◌*◌, ◌/◌, ◌^◌, ◌<◌, ◌≤◌, refl, sym, ap, ◌∙◌, arith}
+use Rattle.std.proofs.Common.{◌≡◌, ℕ, ◌+◌, ◌^◌, ◌<◌, ◌≤◌, refl, sym, ap, ◌∙◌, arith}
 use Rattle.std.proofs.Math.Nat.{le_of_eq}
 use Rattle.std.proofs.Math.Pow.{pow-lt}
 use Rattle.std.proofs.lemmas.Result.{IfOk-from_err, IfOk-weaker}
@@ -8,10 +8,10 @@ use Rattle.p3_matrix.specs.RowMajor.{RowMajor, height}
 use Rattle.p3_matrix.proofs.Rooms.{room_of}
 use Rattle.p3_matrix.proofs.TwoPowers.{entries_rise, log_same}
 use Rattle.p3_dft.specs.Engines.{EngineState, IsLater}
-use Rattle.p3_dft.proofs.Calls.EngineSteps.{after_error, after_later, of_stored, part_refused, parts_after}
+use Rattle.p3_dft.proofs.Calls.EngineSteps.{after_error, after_later, of_stored, parts_after}
 use Rattle.p3_dft.proofs.Calls.ExtendedTransforms.{answered_shape, extension_of_natural}
 use Rattle.p3_dft.proofs.Calls.PreparedHeights.{none_above, tabled_facts}
-use Rattle.p3_dft.proofs.Calls.Shapes.{extended_table_fits, fewer_entries, fits_lde_as, input_fits, log_fits}
+use Rattle.p3_dft.proofs.Calls.Shapes.{extended_table_fits, fits_lde_as, input_fits, log_fits}
 use Rattle.p3_dft.proofs.radix_2_small_batch.Radix2DFTSmallBatchTwoAdicSubgroupDft.coset_lde_batch_bit_reversed.Goals as goal
 
 -- heights were prepared, without a product
@@ -93,16 +93,3 @@ returns-in_err-prepare g c =
       only = λ k e. omega (arith, log_same c.log2_strict_usize-log_h.result k (sym c.log2_strict_usize-log_h.ensures.power ∙ c.height.ensures.height ∙ ap height c.into_row_major_matrix-mat.ensures ∙ e), ap (λ (e : EngineState). e.prepared) c.in_err-prepare.ensures.refused);
       engine = after_error _ _ _ _ c.from_residual.ensures.0 (only_preparing _ _ _ (le_of_eq (ap (λ (e : EngineState). e.prepared) (sym c.in_err-prepare.ensures.refused))) c.prepare.ensures.products) c.prepare.ensures.products (room_of c.from_residual.result _ _ _ c.from_residual.ensures (omega (arith, extended_table_fits _ c.requires.fits (sym (ap height c.into_row_major_matrix-mat.ensures) ∙ sym c.height.ensures.height ∙ c.log2_strict_usize-log_h.ensures.power))) c.in_err-prepare.ensures.room);
     }
-
-pub returns-in_err-coefficients-clause-only : goal.returns-in_err-coefficients-clause-only
-returns-in_err-coefficients-clause-only g c k e =
-    let inside = none_above (λ (e : EngineState). e.prepared) c.idft_batch.result _ _ _ (c.idft_batch.ensures.made _ (sym c.height.ensures.height ∙ c.log2_strict_usize-log_h.ensures.power)) c.idft_batch.ensures.refused in
-    none_above_both k c.log2_strict_usize-log_h.result c.args.added_bits _ _ c.idft_batch.new.self.prepared _ (log_same _ k (sym c.log2_strict_usize-log_h.ensures.power ∙ c.height.ensures.height ∙ ap height c.into_row_major_matrix-mat.ensures ∙ e))
-    c.in_ok-prepare.ensures.made inside (omega arith)
-
-pub returns-in_err-coefficients-clause-engine : goal.returns-in_err-coefficients-clause-engine
-returns-in_err-coefficients-clause-engine g c =
-    let kept : c.args.self.now.prepared ≤ c.prepare.new.self.prepared = omega (arith, c.in_ok-prepare.ensures.made) in
-    after_later _ _ _ _ _ (only_preparing _ _ _ kept c.prepare.ensures.products) c.prepare.ensures.products
-    (of_stored _ _ _ _ c.into_row_major_matrix-mat.ensures
-    (part_refused _ _ _ _ _ c.from_residual-in_err-coefficients.ensures (λ k. omega arith) (fewer_entries _ _) c.in_err-coefficients.ensures.engine))

@@ -9,7 +9,7 @@ use Rattle.p3_dft.proofs.BitReversed.Rows.{values_seen}
 use Rattle.p3_dft.proofs.Calls.Counts.{larger_bound, slots_within}
 use Rattle.p3_dft.proofs.Calls.EngineSteps.{after_error}
 use Rattle.p3_dft.proofs.Calls.PreparedHeights.{later_with_heights, made_none_above}
-use Rattle.p3_dft.proofs.Calls.Shapes.{both_logs_fit, extended_table_fits, log_fits, output_log_small, output_size, same_extended}
+use Rattle.p3_dft.proofs.Calls.Shapes.{both_logs_fit, extended_table_fits, log_fits, output_log_small, output_size}
 use Rattle.p3_dft.proofs.Calls.Stored.{whole_still}
 use Rattle.p3_dft.proofs.radix_2_small_batch.Radix2DFTSmallBatchTwoAdicSubgroupDft.coset_lde_batch_of_coefficients_bit_reversed.Goals as goal
 
@@ -92,16 +92,9 @@ returns-clause-engine g c =
       refused = tt;
     }
 
-pub returns-in_err-make-clause-only : goal.returns-in_err-make-clause-only
-returns-in_err-make-clause-only g c k high = made_none_above k _ _ _ _ _ (log_same c.log2_strict_usize-log_h.result k (sym c.log2_strict_usize-log_h.ensures.power ∙ c.height.ensures.height ∙ ap height c.into_row_major_matrix-mat.ensures ∙ high)) (ap (λ e. e.prepared) c.self.view_is) c.make.ensures.only
-
 pub returns-in_err-make-clause-engine : goal.returns-in_err-make-clause-engine
 returns-in_err-make-clause-engine g c = after_error _ _ _ _ c.from_residual.ensures.0 (later_with_heights _ _ _ c.args.self.now _ _ _ _ c.self.view_is c.make.ensures.keeps (le_refl c.self.inside.products)) (ap (λ e. e.products) c.self.view_is)
     (room_of c.from_residual.result _ _ _ c.from_residual.ensures (omega (arith, extended_table_fits _ c.requires.fits (sym (ap height c.into_row_major_matrix-mat.ensures) ∙ sym c.height.ensures.height ∙ c.log2_strict_usize-log_h.ensures.power))) c.in_err-make.ensures.room)
 
 pub returns-in_err-grown-clause-only : goal.returns-in_err-grown-clause-only
 returns-in_err-grown-clause-only g c k high = made_none_above k _ _ _ _ _ (log_same c.log2_strict_usize-log_h.result k (sym c.log2_strict_usize-log_h.ensures.power ∙ c.height.ensures.height ∙ ap height c.into_row_major_matrix-mat.ensures ∙ high)) (ap (λ e. e.prepared) c.self.view_is) c.make.ensures.only
-
-pub returns-in_err-grown-clause-engine : goal.returns-in_err-grown-clause-engine
-returns-in_err-grown-clause-engine g c = after_error _ _ _ _ c.from_residual-in_err-grown.ensures.0 (later_with_heights _ _ _ c.args.self.now _ _ _ _ c.self.view_is c.make.ensures.keeps (le_refl c.self.inside.products)) (ap (λ e. e.products) c.self.view_is)
-    (room_of c.from_residual-in_err-grown.result _ _ _ c.from_residual-in_err-grown.ensures (omega (arith, same_extended c.args.added_bits (ap height c.into_row_major_matrix-mat.ensures) (ap (λ (m : RowMajor g.row.F.Denot). m.width) c.into_row_major_matrix-mat.ensures))) c.in_err-grown.ensures.room)

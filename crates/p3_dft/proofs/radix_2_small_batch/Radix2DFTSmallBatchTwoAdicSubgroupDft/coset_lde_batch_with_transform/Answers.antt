@@ -5,15 +5,6 @@ use Rattle.p3_dft.proofs.Calls.PublishedExtensions.{extension_of_equal}
 use Rattle.p3_dft.proofs.Calls.EngineSteps.{after_refusal, as_stored}
 use Rattle.p3_dft.proofs.radix_2_small_batch.Radix2DFTSmallBatchTwoAdicSubgroupDft.coset_lde_batch_with_transform.Goals as goal
 
-pub coset_lde_batch_bit_reversed-requires-clause-fits : goal.coset_lde_batch_bit_reversed-requires-clause-fits
-coset_lde_batch_bit_reversed-requires-clause-fits g c = c.requires.fits
-
-pub coset_lde_batch_bit_reversed-requires-clause-callable : goal.coset_lde_batch_bit_reversed-requires-clause-callable
-coset_lde_batch_bit_reversed-requires-clause-callable g c = c.requires.callable
-
-pub coset_lde_batch_bit_reversed-requires-clause-shape : goal.coset_lde_batch_bit_reversed-requires-clause-shape
-coset_lde_batch_bit_reversed-requires-clause-shape g c = c.requires.shape
-
 pub returns : goal.returns
 returns g c = record { values = extension_of_equal g.F.Field g.F.TwoAdicField.generator _ Natural _ _ c.args.added_bits (g.F.Field.value c.args.shift) _ _ refl c.to_row_major_matrix.ensures c.in_ok-values.ensures.values; only = c.in_ok-values.ensures.only; engine = as_stored _ _ _ c.in_ok-values.ensures.engine }
 
