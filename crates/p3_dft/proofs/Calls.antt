@@ -8,7 +8,6 @@ pub mod Inverses
 pub mod JobLists
 pub mod JobRuns
 pub mod PreparedCosets
-pub mod AtLogs
 pub mod PreparedHeights
 pub mod PublishedExtensions
 pub mod Shapes

@@ -155,10 +155,6 @@ module _ {E F : Type 0} (facts : EngineFacts E F) where
     refused = call.refused;
   }
 
-  -- an extension of a matrix that equals the one that was handed over
-  pub of_stored : {A T : Type 0} {m n : RowMajor T} {bits : ℕ} (a b : E) (r : Result A DftError) → m ≡ n → AfterLde facts a b r m bits → AfterLde facts a b r n bits
-  of_stored {T = T} {bits = bits} a b r same call = subst (λ (x : RowMajor T). AfterLde facts a b r x bits) same call
-
   -- nothing was done
   pub after_none : {A : Type 0} {v : A} {h entries : ℕ} {known : ℕ → Type 0} {p : ℕ → ℕ} (e : E) (now : IsOk {E = DftError} (Ok v) → AtLog h known) → IsAfter facts e e (Ok v) h known p entries
   after_none e now = record { later = later_same e; ready = now; cost = λ k high. le-add_right _ _; refused = tt }

@@ -1,6 +1,6 @@
 -- The steps of an engine that shows the largest height whose twiddles are there.
 use Rattle.std.specs.Prelude.{⊤, max}
-use Rattle.std.proofs.Common.{◌≡◌, ℕ, zero, suc, ◌+◌, ◌*◌, ◌≤◌, ◌^◌, Result, Ok, Err, IfErr, IsOk, OnErr, OnOk, ◌⊎◌, ap, subst, arith, rules}
+use Rattle.std.proofs.Common.{◌≡◌, ℕ, zero, suc, ◌+◌, ◌*◌, ◌≤◌, ◌^◌, Result, Ok, Err, IfErr, IsOk, OnErr, OnOk, ◌⊎◌, refl, ap, subst, arith, rules}
 use Rattle.p3_matrix.specs.declared.error.DftError.{DftError}
 use Rattle.p3_matrix.specs.Room.{IsWithin}
 use Rattle.p3_matrix.specs.RowMajor.{RowMajor, height}
@@ -59,9 +59,8 @@ pub after_prepared : {F A T : Type 0} {log more_log products more_products : ℕ
     → AtLog (height m) (λ k. more_products ≤ products + (t k m.width + more * (2 ^ k * m.width))) → IfErr r (IsWithin (height m * m.width))
     → AfterDft (tabled_facts {F = F} t x b) (up_to log products) (up_to more_log more_products) r m more
 after_prepared {log = log} {more_log = more_log} t x b m more r keeps grows made cost room =
-    let still : (k : ℕ) → k ≤ log → k ≤ more_log = λ k there. omega (arith, there, keeps) in
     record {
-      later = record { keeps = still; keeps_cosets = λ k s none. none; keeps_ready = still; grows = grows };
+      later = later_with_heights t x b _ _ _ _ _ refl keeps grows;
       ready = λ done k high. held_where r _ _ k (made k high) done;
       cost = cost;
       refused = if_within_more r _ _ (omega arith) room;

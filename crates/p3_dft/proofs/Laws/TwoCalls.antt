@@ -1,7 +1,7 @@
 -- What two calls have to do with each other: laws that a user cites, in the words of the clauses.
 -- `m` is what a call is given; `y` and `z` are values, `c` and `d` coefficients, `out` an extension. A law that takes the roots'
 -- law names it `are_roots`; it is `roots_law` of the field.
-use Rattle.std.proofs.Common.{◌≡◌, ℕ, suc, ◌+◌, ◌*◌, ◌/◌, ◌^◌, ◌<◌, ◌≤◌, cond, le-ltb, lt-ltb, List, [], ◌∷◌, length, get_or, map, sym, ap, ap₂, ◌∙◌, subst, arith}
+use Rattle.std.proofs.Common.{◌≡◌, ℕ, suc, ◌+◌, ◌*◌, ◌/◌, ◌^◌, ◌<◌, ◌≤◌, cond, le-ltb, lt-ltb, List, [], ◌∷◌, length, get_or, map, sym, ap, ◌∙◌, subst, arith}
 use Rattle.std.specs.List.{All, AllZip, range_with_len}
 use Rattle.std.proofs.Math.ListN.{get_or-map}
 use Rattle.std.proofs.lemmas.List.{ext_get_or, length-map}
@@ -28,7 +28,7 @@ use Rattle.p3_matrix.proofs.Polynomials.Combinations.{column_values, combination
 use Rattle.p3_matrix.proofs.Polynomials.Cosets.{coefficients_same, point_of_one, shifted_values, values_same, values_unique}
 use Rattle.p3_matrix.proofs.Polynomials.Interpolation.{coefficients_of_same, there_is_no_other}
 use Rattle.p3_dft.proofs.Laws.OneAnswer.{one_answer}
-use Rattle.p3_dft.proofs.Calls.Shapes.{input_fits, output_fits}
+use Rattle.p3_dft.proofs.Calls.Shapes.{fits_dft_as, input_fits, output_fits}
 
 -- ---- shapes
 -- the exponent of a fitting height is within the two-adicity
@@ -46,24 +46,12 @@ module _ {F : Type 0} (f : FieldMembers F) (generator : ℕ → F) where
   pub transform_fits : {bits : ℕ} (m y : RowMajor F) (s : f.Element) → FitsDft bits (height m) m.width → IsTransform f generator m s y → FitsDft bits (height y) y.width
   transform_fits {bits} m y s fits transform =
       let v = transform fits.log fits.height in
-      record {
-        log = fits.log;
-        within = fits.within;
-        height = v.height;
-        width = omega (arith, v.width, fits.width);
-        size = omega (arith, ap₂ (λ (h w : ℕ). h * w) (v.height ∙ sym fits.height) v.width, fits.size);
-      }
+      fits_dft_as _ _ _ _ _ fits (v.height ∙ sym fits.height) v.width
 
   pub interpolation_fits : {bits : ℕ} (m c : RowMajor F) (s : f.Element) → FitsDft bits (height m) m.width → IsInterpolation f generator m s c → FitsDft bits (height c) c.width
   interpolation_fits {bits} m c s fits inverse =
       let a = inverse.holds fits.log fits.height in
-      record {
-        log = fits.log;
-        within = fits.within;
-        height = a.height ∙ fits.height;
-        width = omega (arith, a.width, fits.width);
-        size = omega (arith, ap₂ (λ (h w : ℕ). h * w) a.height a.width, fits.size);
-      }
+      fits_dft_as _ _ _ _ _ fits a.height a.width
 
   pub extension_fits : {bits : ℕ} (m out : RowMajor F) (a : ℕ) (s : f.Element) → FitsLde bits (height m) m.width a → IsExtension f generator m a s out → FitsDft bits (height out) out.width
   extension_fits {bits} m out a s fits extension =

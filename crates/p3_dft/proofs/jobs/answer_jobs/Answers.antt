@@ -7,10 +7,11 @@ use Rattle.std.specs.List.{All, AllZip}
 use Rattle.std.specs.Vec.Iter.{into_iter_items}
 use Rattle.p3_matrix.specs.RowMajor.{RowMajor}
 use Rattle.p3_dft.specs.declared.jobs.Job.{Job}
-use Rattle.p3_dft.specs.Jobs.{CanRun, HasMade, IsAnswer, IsReadyFor, answer_entries}
+use Rattle.p3_dft.specs.Jobs.{AreFirstAnswers, CanRun, HasMade, IsAnswer, IsReadyFor, answer_entries}
 use Rattle.p3_dft.proofs.Calls.JobRuns.{room_each}
 use Rattle.p3_dft.proofs.Calls.EngineSteps.{later_same, later_still}
 use Rattle.p3_dft.proofs.Calls.JobLists.{costs_more, costs_none, costs_rest, first_answers, next_is, next_not_promised, next_of_all, of_all, on_any_error, ready_later, split_more, taken, taken_and_next}
+use Rattle.p3_dft.proofs.Calls.PreparedHeights.{not_ok}
 use Rattle.p3_dft.proofs.jobs.answer_jobs.Goals as goal
 
 pub run_job-requires : goal.run_job-requires
@@ -55,18 +56,20 @@ loop-job-preserved g c =
 pub returns-in_err-reserve_exact : goal.returns-in_err-reserve_exact
 returns-in_err-reserve_exact g c =
     let err = c.from_residual.ensures.0 in
+    let none = c.in_err-reserve_exact.ensures.items ∙ c.requires.empty in
+    let empty : c.args.answers.now.len ≡ 0 = omega (arith, c.args.answers.now.ok.0, ap length c.requires.empty) in
     record {
       all = IfOk-from_err _ _ err;
       serves = IfOk-from_err _ _ err;
       cost = costs_rest g.D.TwoAdicSubgroupDft.facts g.F.Field g.F.TwoAdicField.TWO_ADICITY c.args.jobs.items [] c.args.jobs.items _ _ refl c.requires.runnable (costs_none g.D.TwoAdicSubgroupDft.facts [] _ refl);
-      first = search rules;
+      first = on_any_error _ (subst (AreFirstAnswers g.F.Field g.F.TwoAdicField.generator c.args.jobs.items) (sym none)
+          (record { fewer = omega (arith, c.in_err-reserve_exact.ensures.full, empty, c.len.ensures, c.args.jobs.ok.0); answered = tt }));
       serves_first = on_any_error _ (subst (λ (ys : List (RowMajor g.row.F.Denot)). All (IsReadyFor g.D.TwoAdicSubgroupDft.facts c.args.engine.now) (take (length ys) c.args.jobs.items))
-          (sym (c.in_err-reserve_exact.ensures.items ∙ c.requires.empty)) (All-nil (IsReadyFor g.D.TwoAdicSubgroupDft.facts c.args.engine.now)));
+          (sym none) (All-nil (IsReadyFor g.D.TwoAdicSubgroupDft.facts c.args.engine.now)));
       cost_of_first = on_any_error _ (costs_rest g.D.TwoAdicSubgroupDft.facts g.F.Field g.F.TwoAdicField.TWO_ADICITY _ [] _ _ _ refl (All-take (CanRun g.F.Field g.F.TwoAdicField.TWO_ADICITY) _ c.args.jobs.items c.requires.runnable) (costs_none g.D.TwoAdicSubgroupDft.facts [] _ refl));
-      refused = on_any_error _ (inl (refl, c.in_err-reserve_exact.ensures.items ∙ c.requires.empty));
+      refused = on_any_error _ (inl (refl, none));
       later = later_same _ _;
-      room = let empty : c.args.answers.now.len ≡ 0 = omega (arith, c.args.answers.now.ok.0, ap length c.requires.empty) in
-          room_each c.from_residual.result _ _ _ c.from_residual.ensures (λ d. omega (arith, empty, c.len.ensures, c.args.jobs.ok.0)) c.in_err-reserve_exact.ensures.room;
+      room = room_each c.from_residual.result _ _ _ c.from_residual.ensures (λ d. omega (arith, empty, c.len.ensures, c.args.jobs.ok.0)) c.in_err-reserve_exact.ensures.room;
     }
 
 pub returns-in_err-answer : goal.returns-in_err-answer
@@ -87,7 +90,7 @@ returns-in_err-answer g c =
       serves_first = on_any_error result (subst (All (IsReadyFor facts c.run_job.new.engine)) (sym (taken answers c.args.jobs.items c.loop-job.yielded _ c.loop-job.answers.items so_far.split so_far.answered))
           (All-weaker (IsReadyFor facts c.loop-job.engine) (IsReadyFor facts c.run_job.new.engine) (ready_later facts _ _ c.run_job.ensures.later) c.loop-job.yielded so_far.served));
       cost_of_first = on_any_error result (subst (HasMade facts c.args.engine.now c.run_job.new.engine) (sym (taken_and_next answers c.args.jobs.items c.loop-job.yielded _ _ c.in-Some.job c.loop-job.answers.items so_far.split next so_far.answered)) made);
-      refused = on_any_error result (inr (next_not_promised g.F.Field g.F.TwoAdicField.generator facts c.args.jobs.items c.loop-job.yielded _ _ c.in-Some.job c.loop-job.answers.items c.args.engine.now c.loop-job.engine so_far.split next so_far.answered so_far.later (λ promised. let answered = c.in_err-answer.ensures.succeeds promised in absurd (search rules))));
+      refused = on_any_error result (inr (next_not_promised g.F.Field g.F.TwoAdicField.generator facts c.args.jobs.items c.loop-job.yielded _ _ c.in-Some.job c.loop-job.answers.items c.args.engine.now c.loop-job.engine so_far.split next so_far.answered so_far.later (λ promised. not_ok c.run_job.result _ c.in_err-answer.was (c.run_job.ensures.succeeds promised))));
       later = later_still _ _ _ _ so_far.later c.run_job.ensures.later;
       room = room_each result _ _ _ c.from_residual-in_err-answer.ensures
           (λ d. let same = ap (λ (j : Job g.row.F.Denot). answer_entries j) (next_is g.F.Field g.F.TwoAdicField.generator c.args.jobs.items c.loop-job.yielded _ _ c.in-Some.job c.loop-job.answers.items d so_far.split next so_far.answered) in omega (arith, same))

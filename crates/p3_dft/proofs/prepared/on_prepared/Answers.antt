@@ -1,9 +1,8 @@
 use Rattle.std.proofs.Common.{sym, ap, ◌∙◌, arith}
 use Rattle.p3_matrix.specs.RowMajor.{height}
-use Rattle.p3_dft.proofs.Calls.AtLogs.{at_log, at_found}
 use Rattle.p3_dft.proofs.Calls.PreparedHeights.{not_ok, some_log}
 use Rattle.p3_dft.proofs.Calls.Shapes.{log_fits_dft}
-use Rattle.p3_dft.proofs.Calls.Stored.{rows_found}
+use Rattle.p3_dft.proofs.Calls.Stored.{at_found, at_log, rows_found}
 use Rattle.p3_dft.proofs.prepared.on_prepared.Goals as goal
 
 pub make_for-requires-clause-within : goal.make_for-requires-clause-within

@@ -8,7 +8,7 @@ use Rattle.p3_matrix.proofs.Polynomials.Cosets.{coset_values}
 use Rattle.p3_dft.proofs.BitReversed.Coefficients.{extension_of_told_row, first_within_extension, within_extension, values_of_answered}
 use Rattle.p3_matrix.proofs.Polynomials.Quotients.{shifted_by_one}
 use Rattle.p3_dft.proofs.Calls.Counts.{scaled_counted, weighed_counted}
-use Rattle.p3_dft.proofs.Calls.Shapes.{fewer_of_same, fits_lde_as, input_fits, log_fits, same_extended}
+use Rattle.p3_dft.proofs.Calls.Shapes.{both_logs_fit, fewer_of_same, fits_lde_as, input_fits, same_extended}
 use Rattle.p3_matrix.proofs.TwoPowers.{more_points}
 use Rattle.p3_dft.proofs.Calls.EngineSteps.{after_counting}
 use Rattle.p3_matrix.proofs.Rooms.{if_within_more, room_of}
@@ -47,7 +47,7 @@ weigh_reversed_rows-requires g c =
     record { power = (c.requires.fits.log, shape.0 ∙ c.requires.fits.height) }
 
 pub overflow_add-log_h : goal.overflow_add-log_h
-overflow_add-log_h g c = omega (arith, (log_fits _ _ c.requires.fits c.log2_strict_usize-log_h.ensures.power (c.height.ensures.height ∙ ap height c.into_row_major_matrix-mat.ensures)).1)
+overflow_add-log_h g c = omega (arith, (both_logs_fit _ _ c.requires.fits c.log2_strict_usize-log_h.ensures.power (c.height.ensures.height ∙ ap height c.into_row_major_matrix-mat.ensures)).3)
 
 pub returns-then-log_h-added_bits-eq0-clause-values : goal.returns-then-log_h-added_bits-eq0-clause-values
 returns-then-log_h-added_bits-eq0-clause-values g c = let none : c.log2_strict_usize-log_h.result ≡ 0 = omega (arith, c.if-log_h-added_bits-eq0.true) in let m = g.N.IntoRowMajorMatrix.stored c.args.mat in let one : height m ≡ 1 = sym (ap height c.into_row_major_matrix-mat.ensures) ∙ sym c.height.ensures.height ∙ c.log2_strict_usize-log_h.ensures.power ∙ ap (λ n. 2 ^ n) none in let called = rw c.into_row_major_matrix-mat.ensures at c.transform-row.ensures in let whole = rw c.into_row_major_matrix-mat.ensures at c.height.ensures.whole in extension_of_told_row g.F.Field g.F.TwoAdicField.generator _ m c.transform-row.result c.args.added_bits (g.F.Field.value c.args.shift) one (omega (arith, c.if-log_h-added_bits-eq0.true)) whole c.width-width.ensures.whole called (c.requires.shape m c.transform-row.result whole (refl, refl) called).0

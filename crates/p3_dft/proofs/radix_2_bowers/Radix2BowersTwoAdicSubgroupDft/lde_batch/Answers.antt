@@ -6,7 +6,7 @@ use Rattle.p3_matrix.specs.RowMajor.{RowMajor, height}
 use Rattle.p3_matrix.specs.Cosets.{values_of}
 use Rattle.p3_dft.proofs.BitReversed.Coefficients.{extension_of_coefficients, extension_of_row, first_within_extension, within_extension}
 use Rattle.p3_dft.proofs.Calls.Counts.{scaled_counted, weighed_counted}
-use Rattle.p3_dft.proofs.Calls.Shapes.{fewer_of_same, fits_lde_as, input_fits, log_fits, same_extended}
+use Rattle.p3_dft.proofs.Calls.Shapes.{both_logs_fit, fewer_of_same, fits_lde_as, input_fits, same_extended}
 use Rattle.p3_matrix.proofs.TwoPowers.{more_points}
 use Rattle.p3_dft.proofs.Calls.EngineSteps.{after_counting}
 use Rattle.p3_matrix.proofs.Rooms.{if_within_more, room_of}
@@ -23,7 +23,7 @@ extend_to_natural-requires g c =
     record { fits = fits_lde_as _ _ _ c.args.added_bits _ _ fits (are.height ∙ stored) (are.width ∙ ap (λ (n : RowMajor g.row.F.Denot). n.width) c.into_row_major_matrix-mat.ensures); several = λ one. more_points _ _ _ c.log2_strict_usize-log_h.ensures.power c.if-log_h-added_bits-eq0.false (c.height.ensures.height ∙ sym are.height ∙ one) }
 
 pub overflow_add-log_h : goal.overflow_add-log_h
-overflow_add-log_h g c = omega (arith, (log_fits _ _ c.requires.fits c.log2_strict_usize-log_h.ensures.power (c.height.ensures.height ∙ ap height c.into_row_major_matrix-mat.ensures)).1)
+overflow_add-log_h g c = omega (arith, (both_logs_fit _ _ c.requires.fits c.log2_strict_usize-log_h.ensures.power (c.height.ensures.height ∙ ap height c.into_row_major_matrix-mat.ensures)).3)
 
 pub returns-then-log_h-added_bits-eq0-clause-values : goal.returns-then-log_h-added_bits-eq0-clause-values
 returns-then-log_h-added_bits-eq0-clause-values g c = let none : c.log2_strict_usize-log_h.result ≡ 0 = omega (arith, c.if-log_h-added_bits-eq0.true) in let one : height c.into_row_major_matrix-mat.result ≡ 1 = sym c.height.ensures.height ∙ c.log2_strict_usize-log_h.ensures.power ∙ ap (λ n. 2 ^ n) none in rw (← c.into_row_major_matrix-mat.ensures) (extension_of_row g.F.Field g.F.TwoAdicField.generator c.into_row_major_matrix-mat.result c.args.added_bits g.F.Field.ring.one one (omega (arith, c.if-log_h-added_bits-eq0.true)))

@@ -10,14 +10,13 @@ use Rattle.p3_dft.specs.Engines.{CosetEngineState, IsCosetPrepared}
 use Rattle.p3_dft.specs.Transforms.{IsTransform}
 use Rattle.p3_dft.proofs.BitReversed.OneRow.{row_handed_back, row_seen}
 use Rattle.p3_dft.proofs.BitReversed.Rows.{transform_seen}
-use Rattle.p3_dft.proofs.Calls.AtLogs.{at_log}
 use Rattle.p3_dft.proofs.Calls.Counts.{larger_bound, none_more}
 use Rattle.p3_dft.proofs.Calls.EngineSteps.{after_none}
 use Rattle.p3_dft.proofs.Calls.JobLists.{on_any_error}
 use Rattle.p3_dft.proofs.Calls.PreparedCosets.{coset_stays, later_with_tables, tabled}
 use Rattle.p3_dft.proofs.Calls.PreparedHeights.{none_above, not_ok}
 use Rattle.p3_dft.proofs.Calls.Shapes.{log_fits_dft, table_fits}
-use Rattle.p3_dft.proofs.Calls.Stored.{rows_found}
+use Rattle.p3_dft.proofs.Calls.Stored.{at_log, rows_found}
 use Rattle.p3_dft.proofs.radix_2_dit_parallel.Radix2DitParallelTwoAdicSubgroupDft.coset_dft_batch.Goals as goal
 
 not_both : (b : Bool) → b ≡ false → IsTrue b → ⊥

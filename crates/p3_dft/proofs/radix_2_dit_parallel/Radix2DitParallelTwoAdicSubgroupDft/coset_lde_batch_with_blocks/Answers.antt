@@ -5,14 +5,13 @@ use Rattle.p3_matrix.specs.RowMajor.{RowMajor, height}
 use Rattle.p3_matrix.specs.Cosets.{values_of}
 use Rattle.p3_dft.proofs.BitReversed.Coefficients.{values_of_answered}
 use Rattle.p3_dft.proofs.BitReversed.Rows.{values_seen}
-use Rattle.p3_dft.proofs.Calls.AtLogs.{at_log}
 use Rattle.p3_dft.proofs.Calls.PreparedCosets.{later_with_tables}
 use Rattle.p3_dft.proofs.Calls.Shapes.{both_logs_fit, same_extended}
 use Rattle.p3_dft.specs.Engines.{CosetEngineState}
 use Rattle.p3_dft.specs.Tables.{LeavesTables}
 use Rattle.p3_matrix.proofs.Rooms.{within_more}
 use Rattle.p3_networks.specs.Twiddles.{HasCoset}
-use Rattle.p3_dft.proofs.Calls.Stored.{whole_still}
+use Rattle.p3_dft.proofs.Calls.Stored.{at_log, whole_still}
 use Rattle.p3_dft.proofs.radix_2_dit_parallel.Radix2DitParallelTwoAdicSubgroupDft.coset_lde_batch_with_blocks.Goals as goal
 
 -- an inverse with a product for each entry, and a transform for each slot

@@ -7,8 +7,7 @@ use Rattle.p3_dft.proofs.Calls.Counts.{more_allowed}
 use Rattle.std.proofs.Math.Nat.{le_refl}
 use Rattle.p3_matrix.proofs.Rooms.{room_of}
 use Rattle.p3_matrix.proofs.Rows.Padding.{padded_shape, padded_whole}
-use Rattle.p3_dft.proofs.Calls.Stored.{whole_still}
-use Rattle.p3_dft.proofs.Calls.AtLogs.{at_log}
+use Rattle.p3_dft.proofs.Calls.Stored.{at_log, whole_still}
 use Rattle.p3_dft.proofs.radix_2_dit_parallel.extension.coefficients_with_room.Goals as goal
 
 pub make-requires : goal.make-requires

@@ -7,7 +7,7 @@ use Rattle.p3_matrix.specs.Matrix.{image}
 use Rattle.p3_matrix.specs.RowMajor.{RowMajor, height}
 use Rattle.p3_matrix.proofs.TwoPowers.{log_same, more_points}
 use Rattle.p3_matrix.specs.Cosets.{coset_shift, values_of}
-use Rattle.p3_dft.proofs.Calls.Shapes.{log_fits, both_none, both_logs_fit, extended_table_fits, same_extended}
+use Rattle.p3_dft.proofs.Calls.Shapes.{both_logs_fit, both_none, extended_table_fits, same_extended}
 use Rattle.p3_networks.proofs.Layers.Counts.{extension_made, fewer_than_parts}
 use Rattle.p3_matrix.proofs.Polynomials.Cosets.{coset_values}
 use Rattle.p3_dft.proofs.BitReversed.Coefficients.{extension_of_coefficients, extension_of_row}
@@ -24,10 +24,10 @@ layer_within : (l k a n : ℕ) → l < k → k + a ≤ n → l < n
 layer_within l k a n below made = omega (arith, below, made)
 
 pub overflow_add-log_h : goal.overflow_add-log_h
-overflow_add-log_h g c = omega (arith, (log_fits _ _ c.requires.fits c.log2_strict_usize-log_h.ensures.power (c.height.ensures.height ∙ ap height c.into_row_major_matrix-mat.ensures)).1)
+overflow_add-log_h g c = omega (arith, (both_logs_fit _ _ c.requires.fits c.log2_strict_usize-log_h.ensures.power (c.height.ensures.height ∙ ap height c.into_row_major_matrix-mat.ensures)).3)
 
 pub overflow_add-log_h-2 : goal.overflow_add-log_h-2
-overflow_add-log_h-2 g c = omega (arith, (log_fits _ _ c.requires.fits c.log2_strict_usize-log_h.ensures.power (c.height.ensures.height ∙ ap height c.into_row_major_matrix-mat.ensures)).1)
+overflow_add-log_h-2 g c = omega (arith, (both_logs_fit _ _ c.requires.fits c.log2_strict_usize-log_h.ensures.power (c.height.ensures.height ∙ ap height c.into_row_major_matrix-mat.ensures)).3)
 
 pub make-requires : goal.make-requires
 make-requires g c =

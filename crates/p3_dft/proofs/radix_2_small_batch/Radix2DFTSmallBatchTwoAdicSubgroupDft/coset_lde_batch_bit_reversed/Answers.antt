@@ -8,10 +8,10 @@ use Rattle.p3_matrix.specs.RowMajor.{RowMajor, height}
 use Rattle.p3_matrix.proofs.Rooms.{room_of}
 use Rattle.p3_matrix.proofs.TwoPowers.{entries_rise, log_same}
 use Rattle.p3_dft.specs.Engines.{EngineState, IsLater}
-use Rattle.p3_dft.proofs.Calls.EngineSteps.{after_error, after_later, of_stored, parts_after}
+use Rattle.p3_dft.proofs.Calls.EngineSteps.{after_error, after_later, lde_of_same, parts_after}
 use Rattle.p3_dft.proofs.Calls.ExtendedTransforms.{answered_shape, extension_of_natural}
 use Rattle.p3_dft.proofs.Calls.PreparedHeights.{none_above, tabled_facts}
-use Rattle.p3_dft.proofs.Calls.Shapes.{extended_table_fits, fits_lde_as, input_fits, log_fits}
+use Rattle.p3_dft.proofs.Calls.Shapes.{both_logs_fit, extended_table_fits, fits_lde_as, input_fits}
 use Rattle.p3_dft.proofs.radix_2_small_batch.Radix2DFTSmallBatchTwoAdicSubgroupDft.coset_lde_batch_bit_reversed.Goals as goal
 
 -- heights were prepared, without a product
@@ -24,14 +24,14 @@ none_above_both : (k log a before prepared inside after : ℕ) → log ≡ k →
 none_above_both k log a before prepared inside after same made more most = omega arith
 
 pub overflow_add-log_h : goal.overflow_add-log_h
-overflow_add-log_h g c = omega (arith, (log_fits _ _ c.requires.fits c.log2_strict_usize-log_h.ensures.power (c.height.ensures.height ∙ ap height c.into_row_major_matrix-mat.ensures)).1)
+overflow_add-log_h g c = omega (arith, (both_logs_fit _ _ c.requires.fits c.log2_strict_usize-log_h.ensures.power (c.height.ensures.height ∙ ap height c.into_row_major_matrix-mat.ensures)).3)
 
 pub prepare-requires-clause-within : goal.prepare-requires-clause-within
-prepare-requires-clause-within g c = (log_fits _ _ c.requires.fits c.log2_strict_usize-log_h.ensures.power (c.height.ensures.height ∙ ap height c.into_row_major_matrix-mat.ensures)).0
+prepare-requires-clause-within g c = (both_logs_fit _ _ c.requires.fits c.log2_strict_usize-log_h.ensures.power (c.height.ensures.height ∙ ap height c.into_row_major_matrix-mat.ensures)).2
 
 pub prepare-requires-clause-size : goal.prepare-requires-clause-size
 prepare-requires-clause-size g c =
-    let digits : c.log2_strict_usize-log_h.result + c.args.added_bits < 64 = omega (arith, (log_fits _ _ c.requires.fits c.log2_strict_usize-log_h.ensures.power (c.height.ensures.height ∙ ap height c.into_row_major_matrix-mat.ensures)).1) in
+    let digits : c.log2_strict_usize-log_h.result + c.args.added_bits < 64 = omega (arith, (both_logs_fit _ _ c.requires.fits c.log2_strict_usize-log_h.ensures.power (c.height.ensures.height ∙ ap height c.into_row_major_matrix-mat.ensures)).3) in
     pow-lt digits
 
 pub coset_lde_batch_of_coefficients_bit_reversed-requires : goal.coset_lde_batch_of_coefficients_bit_reversed-requires
@@ -61,7 +61,7 @@ returns-clause-engine g c =
     c.width-width.ensures.whole c.requires.shape c.transform-changed.ensures in
     let kept : c.args.self.now.prepared ≤ c.prepare.new.self.prepared = omega (arith, c.in_ok-prepare.ensures.made) in
     after_later _ _ _ _ _ (only_preparing _ _ _ kept c.prepare.ensures.products) c.prepare.ensures.products
-    (of_stored _ _ _ _ stored
+    (lde_of_same _ _ _ _ _ _ _ stored
     (parts_after _ c.into_row_major_matrix-mat.result c.transform-changed.result c.args.added_bits _ _ _ _ _ (shape.0 ∙ ap height (sym stored), shape.1 ∙ ap (λ (m : RowMajor g.row.F.Denot). m.width) (sym stored))
     (λ k. omega (arith, entries_rise k c.args.added_bits c.into_row_major_matrix-mat.result.width))
     c.in_ok-coefficients.ensures.engine c.coset_lde_batch_of_coefficients_bit_reversed.ensures.engine))

@@ -11,12 +11,12 @@ use Rattle.p3_dft.proofs.BitReversed.Coefficients.{extension_of_reversed}
 use Rattle.p3_dft.proofs.Calls.Counts.{larger_bound, points_within}
 use Rattle.p3_dft.proofs.Calls.EngineSteps.{after_error, extended_after}
 use Rattle.p3_dft.proofs.Calls.PreparedHeights.{later_with_heights, made_none_above, none_above}
-use Rattle.p3_dft.proofs.Calls.Shapes.{both_logs_fit, extended_table_fits, log_fits, same_extended}
+use Rattle.p3_dft.proofs.Calls.Shapes.{both_logs_fit, extended_table_fits, same_extended}
 use Rattle.p3_dft.proofs.Calls.Stored.{whole_still}
 use Rattle.p3_dft.proofs.radix_2_small_batch.Radix2DFTSmallBatchTwoAdicSubgroupDft.coset_lde_batch_of_coefficients.Goals as goal
 
 pub overflow_add-log_h : goal.overflow_add-log_h
-overflow_add-log_h g c = omega (arith, (log_fits _ _ c.requires.fits c.log2_strict_usize-log_h.ensures.power (c.height.ensures.height ∙ ap height c.into_row_major_matrix-mat.ensures)).1)
+overflow_add-log_h g c = omega (arith, (both_logs_fit _ _ c.requires.fits c.log2_strict_usize-log_h.ensures.power (c.height.ensures.height ∙ ap height c.into_row_major_matrix-mat.ensures)).3)
 
 pub make-requires : goal.make-requires
 make-requires g c =
