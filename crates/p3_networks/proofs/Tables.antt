@@ -2,7 +2,6 @@
 pub mod BlockTables
 pub mod CosetTables
 pub mod CosetsApart
-pub mod FoundOne
 pub mod FromStart
 pub mod InversePowers
 pub mod MoreTwiddles

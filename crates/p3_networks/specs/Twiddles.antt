@@ -1,5 +1,5 @@
 -- The twiddles that an engine keeps, and what its tables show of themselves.
-use Rattle.std.specs.Prelude.{◌≡◌, ℕ, ◌+◌, ◌-◌, ◌*◌, ◌^◌, ◌/◌, ◌<◌, ◌≤◌, leb, List, [], ◌++◌, length, get_or, take, drop, Bool, if◌then◌else◌, Option, Some, None, Vec}
+use Rattle.std.specs.Prelude.{◌≡◌, ℕ, ◌+◌, ◌-◌, ◌^◌, ◌/◌, ◌<◌, ◌≤◌, leb, List, [], ◌++◌, length, get_or, Bool, if◌then◌else◌, Option, Some, None, Vec}
 use Rattle.std.specs.List.{All}
 use Rattle.p3_field.specs.Ring.{power}
 use Rattle.p3_field.specs.declared.fields.Field.{Ghosts as FieldMembers}
@@ -15,7 +15,7 @@ module _ {F : Type 0} (f : FieldMembers F) where
   -- tables one after another, one for each layer l below log: it begins at place 2 ^ l - 1 and has the 2 ^ l values p l 0, p l 1, ..
   pub record AreTwiddlesOfLayers (log : ℕ) (p : ℕ → ℕ → f.Element) (twiddles : List F) : Type 0 where
     pub size : 2 ^ log - 1 ≤ length twiddles
-    pub layers : (l : ℕ) → l < log → AreTwiddles (2 ^ l) (p l) (take (2 ^ l) (drop (2 ^ l - 1) twiddles))
+    pub entries : (l t : ℕ) → l < log → t < 2 ^ l → f.value (get_or twiddles (2 ^ l - 1 + t) f.ZERO) ≡ p l t
 
   -- in layer l of log, on the coset of s: the powers of the root of order 2 ^ (l + 1), each times s ^ (2 ^ (log - 1 - l))
   abbrev pub coset_twiddles : (ℕ → f.Element) → f.Element → ℕ → ℕ → ℕ → f.Element
@@ -37,18 +37,12 @@ module _ {F : Type 0} (f : FieldMembers F) where
   abbrev pub backward_root : (ℕ → F) → ℕ → f.Element
   backward_root generator n = power f.ring (f.value (generator n)) (2 ^ n - 1)
 
--- the entries of layer l for its blocks: those of a table of its own where such tables lie one after another, else the first 2 ^ l
-abbrev pub block_entries : {T : Type 0} → Bool → ℕ → List T → List T
-block_entries by_layer l xs = if by_layer then take (2 ^ l) (drop (2 ^ l - 1) xs) else take (2 ^ l) xs
+-- twiddle t of layer l, where the layers follow one another, and where each has the first entries of one table
+abbrev pub by_layer : {T : Type 0} → T → List T → ℕ → ℕ → T
+by_layer d xs l t = get_or xs (2 ^ l - 1 + t) d
 
--- where they end
-abbrev pub block_end : Bool → ℕ → ℕ
-block_end by_layer l = if by_layer then 2 * 2 ^ l - 1 else 2 ^ l
-
--- in each layer of log from first on: block b has the entry of the coset of s with the l digits of b in reverse
-abbrev pub AreBlockTwiddles : {F : Type 0} (f : FieldMembers F) → (ℕ → f.Element) → f.Element → ℕ → ℕ → Bool → List F → Type 0
-AreBlockTwiddles f g s first log by_layer twiddles = (l : ℕ) → first ≤ l → l < log
-    → AreTwiddles f (2 ^ l) (λ b. coset_twiddles f g s log l (rev l b)) (block_entries by_layer l twiddles)
+abbrev pub from_start : {T : Type 0} → T → List T → ℕ → ℕ → T
+from_start d xs l t = get_or xs t d
 
 -- what is held, if anything is
 abbrev pub items_if_any : {T Z : Type 0} → Option (Vec T Z) → List T

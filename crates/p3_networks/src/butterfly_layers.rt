@@ -1,13 +1,15 @@
 //! Layers of the networks, on rows that lie one after the other in a slice.
 
 ghost use Rattle.std.specs.Prelude.{◌≡◌, ◌↔◌, ◌⊎◌, ℕ, ◌+◌, ◌-◌, ◌*◌, ◌/◌, ◌^◌, ◌<◌, ◌≤◌};
-ghost use Rattle.std.specs.Prelude.{Bool, IsTrue, List, length, get_or};
+ghost use Rattle.std.specs.Prelude.{Bool, IfSome, IsTrue, List, length, get_or};
 ghost use Rattle.p3_field.specs.Ring.{Ring};
+ghost use Rattle.p3_matrix.specs.Butterflies.{dit_near, dit_far};
 ghost use Rattle.p3_networks.specs.Chunks.{chunk_of};
 ghost use Rattle.p3_networks.specs.Layers.{IsLayer, MeetHalves};
 
 pub mod rules;
 
+use crate::butterfly_layers::rules::meet_by_place;
 use crate::chunks::{ChunkWork, chunk, on_each_chunk};
 use p3_field::{PackedField, Products, TwoAdicField};
 use p3_matrix::Butterfly;
@@ -57,20 +59,18 @@ pub trait Rule<F: TwoAdicField>: Copy {
         ensures grows { products.old ≤ products.new }
         ensures cost { products.new ≤ products.old + cost * length row_1.old };
 
-    /// Takes the halves of a block of one column, whose place t is entry t, to the near and the far
-    /// half in their places.
-    fn meet_column(self, block: usize, low: &mut [F], high: &mut [F], products: &mut Products)
-        requires nonzero { 1 ≤ length low.old }
-        requires size { length low.old ≡ length high.old }
-        requires in_table { (t : ℕ) → t < length low.old → has self block t }
-        ensures near { (t : ℕ) → t < length low.old → F.value (get_or low.new t F.ZERO)
-            ≡ near F.Element F.ring F.value self block t (F.value (get_or low.old t F.ZERO))
-            (F.value (get_or high.old t F.ZERO)) }
-        ensures far { (t : ℕ) → t < length low.old → F.value (get_or high.new t F.ZERO)
-            ≡ far F.Element F.ring F.value self block t (F.value (get_or low.old t F.ZERO))
-            (F.value (get_or high.old t F.ZERO)) }
-        ensures grows { products.old ≤ products.new }
-        ensures cost { products.new ≤ products.old + cost * length low.old };
+    /// The twiddles of a block by the places in it, where its pairs meet by decimation in time and these lie in
+    /// one slice: a column meets by them lane by lane.
+    #[inline(always)]
+    fn by_place(&self, block: usize) -> Option<&[F]>
+        requires in_table { has self.now block 0 }
+        ensures { let value = F.value in IfSome result (λ ts. (1 ≤ cost) × ((t : ℕ) → has self.now block t
+            → (t < length ts.now)
+            × (near F.Element F.ring value self.now block t ≡ dit_near F.ring (value (get_or ts.now t F.ZERO)))
+            × (far F.Element F.ring value self.now block t ≡ dit_far F.ring (value (get_or ts.now t F.ZERO))))) }
+    {
+        None
+    }
 }
 
 /// Blocks of a layer. The rows come in blocks of two halves, of `half` rows each, and row t of the
@@ -207,11 +207,15 @@ fn meet_block<F: TwoAdicField, R: Rule<F>>(
     let (low, high) = values.split_at_mut(half * width);
     if rule.goes_by_block() {
         rule.meet(block, 0, low, high, products);
-    } else if is_column_of_packs::<F>(width, half) {
-        rule.meet_column(block, low, high, products);
-    } else {
-        meet_halves(rule, low, high, width, half, block, products);
+        return;
     }
+    if is_column_of_packs::<F>(width, half) {
+        if let Some(twiddles) = rule.by_place(block) {
+            meet_by_place(twiddles, low, high, products);
+            return;
+        }
+    }
+    meet_halves(rule, low, high, width, half, block, products);
 }
 
 // Whether the halves of a block are one column each that fills a pack.

@@ -7,6 +7,7 @@
 
 mod butterfly_layers;
 mod chunks;
+pub mod layouts;
 pub mod radix_2_bowers;
 pub mod radix_2_dit;
 pub mod radix_2_dit_parallel;

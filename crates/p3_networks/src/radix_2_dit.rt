@@ -1,11 +1,12 @@
 //! The layers of the network by decimation in time.
 
-ghost use Rattle.std.specs.Prelude.{◌≡◌, ◌+◌, ◌*◌, ◌/◌, ◌^◌, ◌<◌, ◌≤◌, length, false};
+ghost use Rattle.std.specs.Prelude.{◌≡◌, ℕ, ◌+◌, ◌*◌, ◌/◌, ◌^◌, ◌<◌, ◌≤◌, length, false};
 ghost use Rattle.p3_field.specs.Ring.{power};
 ghost use Rattle.p3_matrix.specs.BitOrder.{rev};
 ghost use Rattle.p3_networks.specs.Layers.{AreValuesOfRows};
-ghost use Rattle.p3_networks.specs.Twiddles.{AreTwiddlesOfLayers, root_powers};
+ghost use Rattle.p3_networks.specs.Twiddles.{root_powers};
 
+use crate::layouts::LayerTwiddles;
 use crate::radix_2_dit_parallel::halves::{first_half, one_low_layer};
 use p3_field::{Products, TwoAdicField};
 
@@ -15,13 +16,13 @@ use p3_field::{Products, TwoAdicField};
 const CACHED: usize = 65_536;
 
 /// All layers, from rows in bit reversed order to their values at the powers of the generator, in natural
-/// order. Layer l has `2^(log_h - 1 - l)` blocks of two halves of `2^l` rows. The twiddles are those of all
-/// layers, as `Twiddles` has them.
+/// order. Layer l has `2^(log_h - 1 - l)` blocks of two halves of `2^l` rows. The table has the twiddles of all
+/// layers.
 ///
 /// Where the rows do not fit into the cache, each half of them, which is a network of its own, goes through
 /// all of its layers before the one that joins the two.
-pub fn dit_network_to_natural<F: TwoAdicField>(
-    twiddles: &[F],
+pub fn dit_network_to_natural<F: TwoAdicField, T: LayerTwiddles<F>>(
+    table: T,
     values: &mut [F],
     width: usize,
     log_h: usize,
@@ -31,7 +32,9 @@ pub fn dit_network_to_natural<F: TwoAdicField>(
     requires fits_u64 { log_h < 64 }
     requires within { log_h ≤ F.TWO_ADICITY }
     requires size { length values.old ≡ 2 ^ log_h * width }
-    requires twiddles { AreTwiddlesOfLayers F.Field.own log_h (root_powers F.Field.own F.generator false) twiddles.now }
+    requires table { (l : ℕ) → l < log_h → T.has table l }
+    requires twiddles { (l t : ℕ) → l < log_h → t < 2 ^ l
+        → F.value (T.at table l t) ≡ root_powers F.Field.own F.generator false l t }
     ensures values { AreValuesOfRows F.Field.own width (2 ^ log_h) (rev log_h)
         (λ r. power F.ring (F.value (F.generator log_h)) r) values.old values.new }
     ensures grows { products.old ≤ products.new }
@@ -40,18 +43,18 @@ pub fn dit_network_to_natural<F: TwoAdicField>(
     if log_h > 0 && values.len() > CACHED {
         let log_half = log_h - 1;
         let (low, high) = values.split_at_mut(values.len() / 2);
-        dit_network_to_natural(twiddles, low, width, log_half, products);
-        dit_network_to_natural(twiddles, high, width, log_half, products);
-        one_low_layer(twiddles, values, width, log_h, log_half, products);
+        dit_network_to_natural(table, low, width, log_half, products);
+        dit_network_to_natural(table, high, width, log_half, products);
+        one_low_layer(table, values, width, log_h, log_half, products);
     } else {
-        network_in_cache(twiddles, values, width, log_h, products);
+        network_in_cache(table, values, width, log_h, products);
     }
 }
 
 // One layer after another on all rows, where these fit into the cache or are one. It is a function of its own
 // since a goal of the recursion above reads both calls of itself.
-fn network_in_cache<F: TwoAdicField>(
-    twiddles: &[F],
+fn network_in_cache<F: TwoAdicField, T: LayerTwiddles<F>>(
+    table: T,
     values: &mut [F],
     width: usize,
     log_h: usize,
@@ -61,11 +64,13 @@ fn network_in_cache<F: TwoAdicField>(
     requires fits_u64 { log_h < 64 }
     requires within { log_h ≤ F.TWO_ADICITY }
     requires size { length values.old ≡ 2 ^ log_h * width }
-    requires twiddles { AreTwiddlesOfLayers F.Field.own log_h (root_powers F.Field.own F.generator false) twiddles.now }
+    requires table { (l : ℕ) → l < log_h → T.has table l }
+    requires twiddles { (l t : ℕ) → l < log_h → t < 2 ^ l
+        → F.value (T.at table l t) ≡ root_powers F.Field.own F.generator false l t }
     ensures values { AreValuesOfRows F.Field.own width (2 ^ log_h) (rev log_h)
         (λ r. power F.ring (F.value (F.generator log_h)) r) values.old values.new }
     ensures grows { products.old ≤ products.new }
     ensures cost { products.new ≤ products.old + width * (log_h * 2 ^ log_h / 2) }
 {
-    first_half(twiddles, values, width, log_h, log_h, products);
+    first_half(table, None, values, width, log_h, log_h, products);
 }

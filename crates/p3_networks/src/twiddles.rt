@@ -96,17 +96,6 @@ pub(crate) fn held<T>(items: &Option<Vec<T>>) -> &[T]
     }
 }
 
-/// The `2^l` twiddles of layer l, which is below 63, in a table of layers that follow one another and has
-/// those of this layer.
-pub fn layer_twiddles<F: TwoAdicField>(twiddles: &[F], l: usize) -> &[F]
-    requires fits_u64 { l < 63 }
-    requires inside { 2 * 2 ^ l - 1 ≤ length twiddles.now }
-    ensures { result.now ≡ take (2 ^ l) (drop (2 ^ l - 1) twiddles.now) }
-{
-    let count = 1usize << l;
-    &twiddles[count - 1..2 * count - 1]
-}
-
 // The generator of order `2^bits`, or its inverse.
 fn root<F: TwoAdicField>(inverse: bool, bits: usize) -> F
     requires { bits ≤ F.TWO_ADICITY }

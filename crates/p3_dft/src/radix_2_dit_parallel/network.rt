@@ -1,23 +1,24 @@
 // The network of both halves, on a matrix.
 
-ghost use Rattle.std.specs.Prelude.{◌≡◌, ℕ, ◌+◌, ◌*◌, ◌/◌, ◌-◌, ◌^◌, ◌<◌, ◌≤◌, length};
+ghost use Rattle.std.specs.Prelude.{◌≡◌, ℕ, ◌+◌, ◌*◌, ◌/◌, ◌^◌, ◌<◌, ◌≤◌};
 ghost use Rattle.p3_field.specs.Ring.{AreRoots, power};
 ghost use Rattle.p3_matrix.specs.BitOrder.{rev};
 ghost use Rattle.p3_matrix.specs.Cosets.{point, values_of};
 ghost use Rattle.p3_matrix.specs.Polynomials.{poly};
-ghost use Rattle.p3_networks.specs.Halves.{HasHighLayers};
-ghost use Rattle.p3_networks.specs.Twiddles.{AreBlockTwiddles, AreTwiddlesOfLayers, coset_twiddles, factor, scale_cost};
+ghost use Rattle.p3_networks.specs.Halves.{AreHighTwiddles, AreLowTwiddles};
+ghost use Rattle.p3_networks.specs.Twiddles.{factor, scale_cost};
 ghost use Rattle.p3_dft.specs.Stored.{HasEntriesOf, HasTwoPowerRows};
 
 use p3_field::{Products, TwoAdicField};
 use p3_matrix::{RowMajorMatrix, reverse_rows};
-use p3_networks::radix_2_dit_parallel::halves::{BlockTwiddles, first_half, second_half};
+use p3_networks::layouts::LayerTwiddles;
+use p3_networks::radix_2_dit_parallel::halves::{first_half, second_half};
 
 // From coefficients in natural order, their values on a coset, in bit reversed order. The first half has
 // `mid` layers and the second `left`. With a scale, the values are multiplied by it.
-pub(crate) fn network_to_reversed<F: TwoAdicField>(
-    low: &[F],
-    high: BlockTwiddles<'_, F>,
+pub(crate) fn network_to_reversed<F: TwoAdicField, L: LayerTwiddles<F>, H: LayerTwiddles<F>>(
+    low: L,
+    high: H,
     scale: Option<F>,
     mat: &mut RowMajorMatrix<F>,
     mid: usize,
@@ -25,12 +26,12 @@ pub(crate) fn network_to_reversed<F: TwoAdicField>(
     products: &mut Products,
 )
     requires rows { HasTwoPowerRows mat.old (mid + left) }
-    requires low { 2 ^ mid - 1 ≤ length low.now }
-    requires high { HasHighLayers mid left high.by_layer high.twiddles.now }
+    requires low { (l : ℕ) → l < mid → L.has low l }
+    requires high { (l : ℕ) → mid ≤ l → l < mid + left → H.has high l }
     ensures same { HasEntriesOf mat.new mat.old }
     ensures values { (g : ℕ → F.Element) (s : F.Element) → AreRoots F.ring (mid + left) g
-        → AreTwiddlesOfLayers F.Field.own mid (coset_twiddles F.Field.own g (power F.ring s (2 ^ left)) mid) low.now
-        → AreBlockTwiddles F.Field.own g s mid (mid + left) high.entry.by_layer high.entry.twiddles.now
+        → AreLowTwiddles F.Field.own g (power F.ring s (2 ^ left)) mid (L.at low)
+        → AreHighTwiddles F.Field.own g s mid (mid + left) (H.at high)
         → (r j : ℕ) → r < 2 ^ (mid + left) → j < mat.old.width → (values_of F.Field.own mat.new).entry r j
         ≡ poly F.ring (2 ^ (mid + left))
         (λ q. F.ring.mul ((values_of F.Field.own mat.old).entry q j) (factor F.Field.own scale))
@@ -45,18 +46,18 @@ pub(crate) fn network_to_reversed<F: TwoAdicField>(
 }
 
 // The rows are reversed, then the first half.
-fn first_of_matrix<F: TwoAdicField>(
-    twiddles: &[F],
+fn first_of_matrix<F: TwoAdicField, T: LayerTwiddles<F>>(
+    table: T,
     mat: &mut RowMajorMatrix<F>,
     mid: usize,
     left: usize,
     products: &mut Products,
 )
     requires rows { HasTwoPowerRows mat.old (mid + left) }
-    requires table { 2 ^ mid - 1 ≤ length twiddles.now }
+    requires table { (l : ℕ) → l < mid → T.has table l }
     ensures same { HasEntriesOf mat.new mat.old }
     ensures values { (g : ℕ → F.Element) (s : F.Element) → AreRoots F.ring mid g
-        → AreTwiddlesOfLayers F.Field.own mid (coset_twiddles F.Field.own g s mid) twiddles.now
+        → AreLowTwiddles F.Field.own g s mid (T.at table)
         → (a t j : ℕ) → a < 2 ^ left → t < 2 ^ mid → j < mat.old.width
         → (values_of F.Field.own mat.new).entry (a * 2 ^ mid + t) j
         ≡ poly F.ring (2 ^ mid) (λ q. (values_of F.Field.own mat.old).entry (q * 2 ^ left + rev left a) j)
@@ -66,12 +67,20 @@ fn first_of_matrix<F: TwoAdicField>(
 {
     let width = mat.width();
     reverse_rows(mat);
-    first_half(twiddles, mat.values_mut(), width, mid + left, mid, products);
+    first_half(
+        table,
+        None,
+        mat.values_mut(),
+        width,
+        mid + left,
+        mid,
+        products,
+    );
 }
 
 // The rows are reversed, then the second half.
-fn second_of_matrix<F: TwoAdicField>(
-    table: BlockTwiddles<'_, F>,
+fn second_of_matrix<F: TwoAdicField, T: LayerTwiddles<F>>(
+    table: T,
     scale: Option<F>,
     mat: &mut RowMajorMatrix<F>,
     mid: usize,
@@ -79,10 +88,10 @@ fn second_of_matrix<F: TwoAdicField>(
     products: &mut Products,
 )
     requires rows { HasTwoPowerRows mat.old (mid + left) }
-    requires table { HasHighLayers mid left table.by_layer table.twiddles.now }
+    requires table { (l : ℕ) → mid ≤ l → l < mid + left → T.has table l }
     ensures same { HasEntriesOf mat.new mat.old }
     ensures values { (g : ℕ → F.Element) (s : F.Element) → AreRoots F.ring (mid + left) g
-        → AreBlockTwiddles F.Field.own g s mid (mid + left) table.entry.by_layer table.entry.twiddles.now
+        → AreHighTwiddles F.Field.own g s mid (mid + left) (T.at table)
         → (a t j : ℕ) → a < 2 ^ mid → t < 2 ^ left → j < mat.old.width
         → (values_of F.Field.own mat.new).entry (a * 2 ^ left + t) j
         ≡ poly F.ring (2 ^ left)

@@ -14,8 +14,8 @@ use crate::prepared::MatrixWork;
 use crate::radix_2_dit_parallel::network::network_to_reversed;
 use p3_field::{Field, Products, TwoAdicField};
 use p3_matrix::{RowMajorMatrix, reverse_rows};
+use p3_networks::layouts::{ByLayer, FromStart};
 use p3_networks::radix_2_dit_parallel::coset_tables::CosetTable;
-use p3_networks::radix_2_dit_parallel::halves::BlockTwiddles;
 use p3_networks::radix_2_dit_parallel::tables::Tables;
 
 // From coefficients in natural order, their values at the powers of the generator, or of its inverse, in
@@ -40,19 +40,13 @@ pub(crate) fn transform_to_reversed<F: TwoAdicField>(
         + scale_cost scale * (2 ^ log_h * mat.old.width) }
 {
     let mid = (log_h + 1) / 2;
-    let high = BlockTwiddles {
-        twiddles: tables.high(inverse),
-        by_layer: false,
+    let low = ByLayer {
+        twiddles: tables.low(inverse),
     };
-    network_to_reversed(
-        tables.low(inverse),
-        high,
-        scale,
-        mat,
-        mid,
-        log_h - mid,
-        products,
-    );
+    let high = FromStart {
+        twiddles: tables.high(inverse),
+    };
+    network_to_reversed(low, high, scale, mat, mid, log_h - mid, products);
 }
 
 // From coefficients to values on the subgroup, whose rows are left in bit reversed order.
@@ -136,10 +130,8 @@ pub(crate) fn evaluate_on_coset_to_reversed<F: TwoAdicField>(
     ensures cost { products.new ≤ products.old + mat.old.width * (log_h * 2 ^ log_h / 2) }
 {
     let mid = (log_h + 1) / 2;
-    let twiddles = table.twiddles();
-    let high = BlockTwiddles {
-        twiddles,
-        by_layer: true,
+    let twiddles = ByLayer {
+        twiddles: table.twiddles(),
     };
-    network_to_reversed(twiddles, high, None, mat, mid, log_h - mid, products);
+    network_to_reversed(twiddles, twiddles, None, mat, mid, log_h - mid, products);
 }

@@ -1,8 +1,7 @@
 -- The sizes of a layer, as a program has them by shifts: l of k layers are done.
-use Rattle.std.proofs.Common.{◌≡◌, ℕ, ◌+◌, ◌*◌, ◌-◌, ◌%◌, ◌^◌, ◌<◌, ◌≤◌, List, length, take, drop, sym, ap, ◌∙◌, arith}
+use Rattle.std.proofs.Common.{◌≡◌, ℕ, ◌+◌, ◌*◌, ◌-◌, ◌%◌, ◌^◌, ◌<◌, ◌≤◌, sym, ap, ◌∙◌, arith}
 use Rattle.std.proofs.lemmas.Nat.{one_shl, pow_pos}
 use Rattle.p3_networks.proofs.Layers.Blocks.{halves_whole, blocks_whole}
-use Rattle.p3_matrix.proofs.Rows.Overwritten.{part_size}
 use Rattle.p3_networks.proofs.Layers.Shifts.{one_shifted}
 
 -- a shift by the number of layers that are done, or that are left but one
@@ -29,9 +28,3 @@ cells_by_halves k l w below = ap (λ n. n * w) (sym (halves_whole k l below)) �
 
 pub cells_by_blocks : (k l w : ℕ) → l < k → 2 ^ k * w ≡ 2 ^ l * (2 * (2 ^ (k - 1 - l) * w))
 cells_by_blocks k l w below = ap (λ n. n * w) (sym (blocks_whole k l below)) ∙ omega arith
-
--- in tables one after another, that of layer l has its 2 ^ l entries
-pub layer_size : {T : Type 0} (xs : List T) (l : ℕ) → 2 * 2 ^ l - 1 ≤ length xs → length (take (2 ^ l) (drop (2 ^ l - 1) xs)) ≡ 2 ^ l
-layer_size xs l room =
-    let some = pow_pos l in
-    part_size xs (2 ^ l - 1) (2 ^ l) (omega (arith, some, room))

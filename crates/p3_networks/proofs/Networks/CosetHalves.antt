@@ -1,7 +1,7 @@
 -- Both halves of a network on a coset, by the table of the coset: it reaches for both, and where the rows lead from one half to the other they
 -- are values in the end. The first half takes the larger half of the layers.
 use Rattle.std.specs.Prelude.{⊤}
-use Rattle.std.proofs.Common.{◌≡◌, ℕ, ◌+◌, ◌*◌, ◌-◌, ◌/◌, ◌^◌, ◌<◌, ◌≤◌, List, get_or, length, Result, true, sym, ap, ◌∙◌, arith}
+use Rattle.std.proofs.Common.{◌≡◌, ℕ, ◌+◌, ◌*◌, ◌-◌, ◌/◌, ◌^◌, ◌≤◌, List, get_or, Result, sym, ap, ◌∙◌, arith}
 use Rattle.std.proofs.lemmas.Result.{MatchResult-weaker}
 use Rattle.p3_field.specs.Ring.{AreRoots}
 use Rattle.p3_field.specs.declared.fields.Field.{Ghosts as FieldMembers}
@@ -13,10 +13,10 @@ use Rattle.p3_networks.specs.Counts.{RisesAtMost}
 use Rattle.p3_networks.specs.Halves.{IsHighHalf, IsLowHalf}
 use Rattle.p3_networks.specs.Layers.{AreRows}
 use Rattle.p3_networks.specs.Slots.{HasRowsOnCoset, LentInBlocks}
-use Rattle.p3_networks.specs.Twiddles.{IsCosetTable, forward_root, mid_of}
+use Rattle.p3_networks.specs.Twiddles.{by_layer, IsCosetTable, forward_root, mid_of}
 use Rattle.p3_networks.proofs.Layers.Counts.{halves_counted}
 use Rattle.p3_networks.proofs.Networks.Chunks.{rows_of_halves}
-use Rattle.p3_networks.proofs.Tables.CosetTables.{coset_room, high_of_coset, low_of_coset}
+use Rattle.p3_networks.proofs.Tables.CosetTables.{high_of_coset, low_of_coset}
 use Rattle.p3_networks.proofs.Tables.RootPowers.{fewer_roots}
 
 -- the layers of both halves, and the chunks of the second
@@ -38,19 +38,13 @@ both_counted k w before middle after first second =
     record { grows = omega (arith, first.grows, second.grows); cost = omega (arith, e, none, first.cost, second.cost) }
 
 module _ {F : Type 0} (field : FieldMembers F) (generator : ℕ → F) (s : field.Element) (k : ℕ) (twiddles : List F) (table : IsCosetTable field generator s k twiddles) where
-  pub low_room : 2 ^ mid_of k - 1 ≤ length twiddles
-  low_room = (low_of_coset field generator s k twiddles (mid_of k) (k - mid_of k) (omega arith) (halves_whole k) table).size
-
-  pub high_room : (l : ℕ) → l < mid_of k + (k - mid_of k) → 2 * 2 ^ l - 1 ≤ length twiddles
-  high_room l below = coset_room field generator s k twiddles l (omega (arith, below)) table
-
   -- the first n chunks of the second half, from rows that are reversed before it
   abbrev Second : ℕ → List F → List F → ℕ → Type 0
-  Second w middle after n = IsHighHalf field n (mid_of k) (k - mid_of k) w true twiddles (λ a q j. field.value (get_or middle ((rev (k - mid_of k) q * 2 ^ mid_of k + rev (mid_of k) a) * w + j) field.ZERO)) after
+  Second w middle after n = IsHighHalf field n (mid_of k) (k - mid_of k) w (by_layer field.ZERO twiddles) (λ a q j. field.value (get_or middle ((rev (k - mid_of k) q * 2 ^ mid_of k + rev (mid_of k) a) * w + j) field.ZERO)) after
 
   -- the first half leads from before to middle, the second to the first n chunks of after
   pub rows_on_coset : {bits : ℕ} → AreRoots field.ring bits (forward_root field generator) → k ≤ bits → (w n : ℕ) (before middle after : List F)
-      → IsLowHalf field (2 ^ (k - mid_of k)) (mid_of k) w twiddles before middle → Second w middle after n → HasRowsOnCoset field generator k w s (n * 2 ^ (k - mid_of k)) before after
+      → IsLowHalf field (2 ^ (k - mid_of k)) (mid_of k) w (by_layer field.ZERO twiddles) before middle → Second w middle after n → HasRowsOnCoset field generator k w s (n * 2 ^ (k - mid_of k)) before after
   rows_on_coset roots_law within w n before middle after first second r j below inside =
       let gen = forward_root field generator in
       let mid = mid_of k in
@@ -66,7 +60,7 @@ module _ {F : Type 0} (field : FieldMembers F) (generator : ℕ → F) (s : fiel
 
   -- and what the second lends are such rows
   pub lent_on_coset : {C R : Type 0} {bits : ℕ} → AreRoots field.ring bits (forward_root field generator) → k ≤ bits → (step : C → ℕ → RowMajor F → Result ⊤ R → C → Type 0) (first_row w : ℕ) (before middle after : List F)
-      (c : C) (result : Result ⊤ R) (e : C) → IsLowHalf field (2 ^ (k - mid_of k)) (mid_of k) w twiddles before middle
+      (c : C) (result : Result ⊤ R) (e : C) → IsLowHalf field (2 ^ (k - mid_of k)) (mid_of k) w (by_layer field.ZERO twiddles) before middle
       → LentInBlocks step first_row (2 ^ (k - mid_of k)) w (2 ^ mid_of k) (Second w middle after) after c result e
       → LentInBlocks step first_row (2 ^ (k - mid_of k)) w (2 ^ mid_of k) (λ n. HasRowsOnCoset field generator k w s (n * 2 ^ (k - mid_of k)) before after) after c result e
   lent_on_coset roots_law within step first_row w before middle after c result e first lent =

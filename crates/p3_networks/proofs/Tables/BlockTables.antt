@@ -1,21 +1,14 @@
 -- The twiddles of the second half of a network, by layer and block.
-use Rattle.std.proofs.Common.{◌≡◌, ℕ, ◌+◌, ◌*◌, ◌-◌, ◌<◌, ◌≤◌, ◌^◌, List, length, get_or, Bool, true, false, ap₂, ◌∙◌, arith, rules}
-use Rattle.std.proofs.lemmas.List.{places}
+use Rattle.std.proofs.Common.{◌≡◌, ℕ, ◌+◌, ◌*◌, ◌-◌, ◌<◌, ◌≤◌, ◌^◌, ap₂, ◌∙◌, arith}
 use Rattle.std.proofs.lemmas.Nat.{pow-add}
 use Rattle.std.proofs.Math.Nat.{mul-le-mul_right}
 use Rattle.p3_field.specs.Ring.{AreRoots}
 use Rattle.p3_field.specs.declared.fields.Field.{Ghosts as FieldMembers}
 use Rattle.p3_matrix.specs.BitOrder.{rev}
 use Rattle.p3_matrix.specs.Cosets.{point}
-use Rattle.p3_networks.specs.Twiddles.{AreBlockTwiddles, block_end, block_entries}
-use Rattle.p3_networks.proofs.Layers.Sizes.{layer_size}
+use Rattle.p3_networks.specs.Halves.{AreHighTwiddles}
 use Rattle.p3_networks.proofs.Networks.Chunks.{chunk_twiddle}
 use Rattle.p3_networks.proofs.Networks.Stages.{twiddle}
-
--- a layer has so many entries
-pub block_count : {T : Type 0} (by_layer : Bool) (l : ℕ) (xs : List T) → block_end by_layer l ≤ length xs → length (block_entries by_layer l xs) ≡ 2 ^ l
-block_count true l xs room = layer_size xs l room
-block_count false l xs room = search (rules, places)
 
 -- the blocks of chunk b are among those of the layer
 pub blocks_within : (b mid done : ℕ) → b < 2 ^ mid → b * 2 ^ done + 2 ^ done ≤ 2 ^ (mid + done)
@@ -24,10 +17,10 @@ blocks_within b mid done below =
     omega (arith, pow-add 2 mid done, mul-le-mul_right (2 ^ done) below, next)
 
 -- in chunk b, with `done` of its layers done, block u has the twiddle of a network of its own
-pub chunk_entry : {F : Type 0} (f : FieldMembers F) (root : ℕ → f.Element) (s : f.Element) (mid left b done u l n : ℕ) (by_layer : Bool) (xs : List F)
-    → AreRoots f.ring (mid + left) root → AreBlockTwiddles f root s mid (mid + left) by_layer xs → l ≡ mid + done → n ≡ b * 2 ^ done + u → b < 2 ^ mid → done < left → u < 2 ^ done
-    → f.value (get_or (block_entries by_layer l xs) n f.ZERO) ≡ twiddle f.ring root (point f.ring root (mid + left) s (rev mid b)) done (left - 1 - done) (rev done u)
-chunk_entry f root s mid left b done u l n by_layer xs roots table layer number below some inside =
-    ap₂ (λ l n. f.value (get_or (block_entries by_layer l xs) n f.ZERO)) layer number
-    ∙ (table (mid + done) (omega arith) (omega arith)).entries (b * 2 ^ done + u) (omega (arith, blocks_within b mid done below))
+pub chunk_entry : {F : Type 0} (f : FieldMembers F) (root : ℕ → f.Element) (s : f.Element) (mid left b done u l n : ℕ) (at : ℕ → ℕ → F)
+    → AreRoots f.ring (mid + left) root → AreHighTwiddles f root s mid (mid + left) at → l ≡ mid + done → n ≡ b * 2 ^ done + u → b < 2 ^ mid → done < left → u < 2 ^ done
+    → f.value (at l n) ≡ twiddle f.ring root (point f.ring root (mid + left) s (rev mid b)) done (left - 1 - done) (rev done u)
+chunk_entry f root s mid left b done u l n at roots table layer number below some inside =
+    ap₂ (λ l n. f.value (at l n)) layer number
+    ∙ table (mid + done) (b * 2 ^ done + u) (omega arith) (omega arith) (omega (arith, blocks_within b mid done below))
     ∙ chunk_twiddle f.ring roots s mid left done b u (omega arith) some inside

@@ -1,7 +1,6 @@
 -- One table for all layers: where its entries are those of the last layer, its first entries are those of each layer.
-use Rattle.std.proofs.Common.{◌≡◌, ℕ, zero, suc, ◌+◌, ◌*◌, ◌-◌, ◌/◌, ◌<◌, ◌≤◌, ◌^◌, List, length, get_or, take, false, sym, ap, ap₂, ◌∙◌, subst, arith, rules, lit≤}
+use Rattle.std.proofs.Common.{◌≡◌, ℕ, zero, suc, ◌+◌, ◌*◌, ◌-◌, ◌/◌, ◌<◌, ◌≤◌, ◌^◌, List, length, get_or, sym, ap, ap₂, ◌∙◌, subst, arith, lit≤}
 use Rattle.std.proofs.Math.Nat.{mul-le-mul_right, pow-le-pow_right}
-use Rattle.std.proofs.lemmas.List.{places}
 use Rattle.std.proofs.lemmas.Nat.{pow-add, pow_pos}
 use Rattle.p3_field.specs.Ring.{power, AreRoots}
 use Rattle.p3_field.specs.declared.fields.Field.{Ghosts as FieldMembers}
@@ -11,7 +10,8 @@ use Rattle.p3_field.proofs.Roots.{root_strided}
 use Rattle.p3_matrix.specs.BitOrder.{rev}
 use Rattle.p3_matrix.proofs.BitReversal.{rev-block, rev_of_zero}
 use Rattle.p3_networks.proofs.Layers.Counts.{two_halves}
-use Rattle.p3_networks.specs.Twiddles.{AreBlockTwiddles, AreTwiddles, AreTwiddlesFromStart, block_powers}
+use Rattle.p3_networks.specs.Halves.{AreHighTwiddles}
+use Rattle.p3_networks.specs.Twiddles.{AreTwiddles, AreTwiddlesFromStart, block_powers, from_start}
 
 module _ {F : Type 0} (f : FieldMembers F) (root : ℕ → f.Element) where
   -- a power of a root is one of the root of a layer
@@ -21,9 +21,9 @@ module _ {F : Type 0} (f : FieldMembers F) (root : ℕ → f.Element) where
       let digits : rev l b * 2 ^ m + rev m 0 ≡ rev l b * 2 ^ m = ap (λ x. rev l b * 2 ^ m + x) (rev_of_zero m) ∙ omega arith in
       ap (power f.ring (root (suc l + m))) (ap (rev (l + m)) first ∙ rev-block l m 0 b inside ∙ digits) ∙ root_strided f.ring G (suc l) m (rev l b) within
 
-  pub from_start : {bits : ℕ} → AreRoots f.ring bits root → (log : ℕ) (table : List F) → log ≤ bits → AreTwiddles f (2 ^ (log - 1)) (block_powers f root (log - 1)) table
+  pub first_entries : {bits : ℕ} → AreRoots f.ring bits root → (log : ℕ) (table : List F) → log ≤ bits → AreTwiddles f (2 ^ (log - 1)) (block_powers f root (log - 1)) table
       → AreTwiddlesFromStart f log (block_powers f root) table
-  from_start G log table within are = record {
+  first_entries G log table within are = record {
     size = λ l below. let rise : 2 ^ l ≤ 2 ^ (log - 1) = fewer l below in omega (arith, are.size, rise);
     entries = λ l b below inside.
         let rise : 2 ^ l ≤ 2 ^ (log - 1) = fewer l below in
@@ -42,7 +42,7 @@ module _ {F : Type 0} (f : FieldMembers F) (root : ℕ → f.Element) where
   pub from_powers : {bits : ℕ} → AreRoots f.ring bits root → (log : ℕ) (table : List F) → 1 ≤ log → log ≤ bits → AreTwiddles f (2 ^ (log - 1)) (λ b. power f.ring (root log) (rev (log - 1) b)) table
       → AreTwiddlesFromStart f log (block_powers f root) table
   from_powers G log table some within are =
-      from_start G log table within
+      first_entries G log table within
       (subst (λ (n : ℕ). AreTwiddles f (2 ^ (log - 1)) (λ b. power f.ring (root n) (rev (log - 1) b)) table) (let whole : log ≡ log - 1 + 1 = omega (arith, some) in whole) are)
 
   -- powers that were made from a first one that is one
@@ -65,16 +65,10 @@ module _ {F : Type 0} (f : FieldMembers F) (root : ℕ → f.Element) where
       omega (arith, size, d)
 
   -- for blocks they are the twiddles of the subgroup
-  pub block_table : (mid k log : ℕ) (table : List F) → k ≤ log → AreTwiddlesFromStart f log (block_powers f root) table → AreBlockTwiddles f root f.ring.one mid k false table
-  block_table mid k log table less are l from below =
-      let room = are.size l (omega (arith, less, below)) in record {
-        size = search (rules, places);
-        entries = λ b inside.
-            let at : get_or (take (2 ^ l) table) b f.ZERO ≡ get_or table b f.ZERO = search (rules, places) in
-            let power_is = block_powers f root l b in
-            ap f.value at ∙ are.entries l b (omega (arith, less, below)) inside
-            ∙ sym (ap (λ x. f.ring.mul x power_is) (power_of_one f.ring (2 ^ (k - 1 - l))) ∙ Rings.one-mul f.ring power_is);
-      }
+  pub block_table : (mid k log : ℕ) (table : List F) → k ≤ log → AreTwiddlesFromStart f log (block_powers f root) table → AreHighTwiddles f root f.ring.one mid k (from_start f.ZERO table)
+  block_table mid k log table less are l b from below inside =
+      let power_is = block_powers f root l b in
+      are.entries l b (omega (arith, less, below)) inside ∙ sym (ap (λ x. f.ring.mul x power_is) (power_of_one f.ring (2 ^ (k - 1 - l))) ∙ Rings.one-mul f.ring power_is)
 
   -- the power for row q of 2 ^ (log - a) that are spread by 2 ^ a
   pub spread_root : (log a : ℕ) (table : List F) → a ≤ log → 1 ≤ log → AreTwiddlesFromStart f log (block_powers f root) table → (q t : ℕ) → q < 2 ^ (log - a) → t < 2 ^ a

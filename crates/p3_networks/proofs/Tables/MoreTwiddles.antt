@@ -5,17 +5,16 @@ use Rattle.std.proofs.lemmas.Bool.{cases_lt}
 use Rattle.std.proofs.lemmas.Nat.{pow_pos}
 use Rattle.p3_field.specs.declared.fields.Field.{Ghosts as FieldMembers}
 use Rattle.p3_networks.specs.Twiddles.{AreTwiddlesOfLayers}
-use Rattle.p3_matrix.proofs.Rows.Overwritten.{part_at, part_size}
 
 -- the twiddles of a layer lie within those of all layers
-pub layer_end : (l k n : ℕ) → l < k → 2 ^ k - 1 ≤ n → 2 * 2 ^ l - 1 ≤ n
-layer_end l k n h room = let rise : 2 ^ suc l ≤ 2 ^ k = pow-le-pow_right {n = 2} (lit≤ tt) h in omega (arith, rise, two-pow-succ l, room)
+pub layer_there : (k n : ℕ) → k < 64 → 2 ^ k - 1 ≤ n → (l : ℕ) → l < k → (l < 63) × (2 * 2 ^ l - 1 ≤ n)
+layer_there k n small room l h = let rise : 2 ^ suc l ≤ 2 ^ k = pow-le-pow_right {n = 2} (lit≤ tt) h in (omega (arith, h, small), omega (arith, rise, two-pow-succ l, room))
 
 module _ {F : Type 0} (f : FieldMembers F) (p : ℕ → ℕ → f.Element) where
   pub fewer_layers : (k log : ℕ) (twiddles : List F) → k ≤ log → AreTwiddlesOfLayers f log p twiddles → AreTwiddlesOfLayers f k p twiddles
   fewer_layers k log twiddles fewer are = record {
     size = let rise : 2 ^ k ≤ 2 ^ log = pow-le-pow_right {n = 2} (lit≤ tt) fewer in omega (arith, are.size, rise);
-    layers = λ l below. are.layers l (omega arith);
+    entries = λ l t below inside. are.entries l t (omega arith) inside;
   }
 
   pub one_more_layer : (l : ℕ) (before after : List F) → length before ≡ 2 ^ l - 1 → AreTwiddlesOfLayers f l p before → length after ≡ length before + 2 ^ l
@@ -24,25 +23,15 @@ module _ {F : Type 0} (f : FieldMembers F) (p : ℕ → ℕ → f.Element) where
       → AreTwiddlesOfLayers f (l + 1) p after
   one_more_layer l before after full are longer stays added = record {
     size = let twice : 2 ^ (l + 1) ≡ 2 * 2 ^ l = ap (λ n. 2 ^ n) (add-one l) ∙ omega arith in let some = pow_pos l in omega (arith, longer, full, twice, some);
-    layers = λ m below. record {
-      size = let some = pow_pos m in part_size after (2 ^ m - 1) (2 ^ m) (room m below some);
-      entries = λ t inside. ap f.value (part_at after (2 ^ m - 1) (2 ^ m) t f.ZERO inside) ∙ entry m t below inside;
-    };
+    entries = λ m t below inside.
+        ⊎_elim
+        (λ less.
+        let rise : 2 ^ suc m ≤ 2 ^ l = pow-le-pow_right {n = 2} (lit≤ tt) less in
+        let some = pow_pos m in
+        ap f.value (stays (2 ^ m - 1 + t) (omega (arith, full, rise, two-pow-succ m, inside, some))) ∙ are.entries m t less inside)
+        (λ not_less.
+        let same : l ≡ m = omega arith in
+        subst (λ (k : ℕ). f.value (get_or after (2 ^ k - 1 + t) f.ZERO) ≡ p k t) same
+        (ap (λ n. f.value (get_or after (n + t) f.ZERO)) (sym full) ∙ added t (subst (λ (k : ℕ). t < 2 ^ k) (sym same) inside)))
+        (cases_lt m l);
   }
-    where
-      room : (m : ℕ) → m < l + 1 → 0 < 2 ^ m → 2 ^ m - 1 + 2 ^ m ≤ length after
-      room m below some = let rise : 2 ^ m ≤ 2 ^ l = pow-le-pow_right {n = 2} (lit≤ tt) (omega arith) in omega (arith, rise, longer, full, some)
-
-      entry : (m t : ℕ) → m < l + 1 → t < 2 ^ m → f.value (get_or after (2 ^ m - 1 + t) f.ZERO) ≡ p m t
-      entry m t below inside =
-          ⊎_elim
-          (λ less.
-          let rise : 2 ^ suc m ≤ 2 ^ l = pow-le-pow_right {n = 2} (lit≤ tt) less in
-          let some = pow_pos m in
-          ap f.value (stays (2 ^ m - 1 + t) (omega (arith, full, rise, two-pow-succ m, inside, some)))
-          ∙ ap f.value (sym (part_at before (2 ^ m - 1) (2 ^ m) t f.ZERO inside)) ∙ (are.layers m less).entries t inside)
-          (λ not_less.
-          let same : l ≡ m = omega arith in
-          subst (λ (k : ℕ). f.value (get_or after (2 ^ k - 1 + t) f.ZERO) ≡ p k t) same
-          (ap (λ n. f.value (get_or after (n + t) f.ZERO)) (sym full) ∙ added t (subst (λ (k : ℕ). t < 2 ^ k) (sym same) inside)))
-          (cases_lt m l)

@@ -7,6 +7,7 @@ ghost use Rattle.p3_field.specs.Ring.{Ring};
 ghost use Rattle.p3_matrix.specs.Butterflies.{dit_near, dit_far};
 
 use crate::butterfly_layers::Rule;
+use crate::layouts::LayerTwiddles;
 use p3_field::{Products, TwoAdicField};
 use p3_matrix::{
     Butterfly, DifButterfly, DitButterfly, ScaledDitButterfly, TwiddleFreeButterfly,
@@ -148,28 +149,32 @@ impl<F: TwoAdicField> Decimation<F> for Dif {
     }
 }
 
-/// Decimation in time: pair t of every block has twiddle t. If `FREE`, twiddle 0 is one, and its pairs are not
-/// multiplied, row by row.
+/// Pair t of every block has twiddle t of a layer of a table, by decimation in time.
 #[derive(Clone, Copy)]
-pub struct DitByPlace<'a, F, const FREE: bool> {
-    /// Twiddle t stands in place t.
-    pub twiddles: &'a [F],
+pub struct ByPlaceOfLayer<T, D> {
+    /// It has the twiddles of the layer.
+    pub table: T,
+    /// The number of the layer.
+    pub layer: usize,
+    /// Which butterflies meet row by row.
+    pub decimation: D,
 }
 
-impl<F: TwoAdicField, const FREE: bool> Rule<F> for DitByPlace<'_, F, FREE> {
-    ghost use Rattle.std.specs.Prelude.{◌≡◌, ◌<◌, length, get_or, false, IsTrue};
+impl<F: TwoAdicField, T: LayerTwiddles<F>, const FREE: bool> Rule<F>
+    for ByPlaceOfLayer<T, Dit<FREE>> {
+    ghost use Rattle.std.specs.Prelude.{◌≡◌, ◌^◌, ◌<◌, false, IsTrue};
     ghost use Rattle.p3_matrix.specs.Butterflies.{dit_near, dit_far};
 
-    ghost near = { λ A ring v r b t. dit_near ring (v (get_or r.twiddles.now t F.ZERO)) };
+    ghost near = { λ A ring v r b t. dit_near ring (v (T.at r.table r.layer t)) };
 
-    ghost far = { λ A ring v r b t. dit_far ring (v (get_or r.twiddles.now t F.ZERO)) };
+    ghost far = { λ A ring v r b t. dit_far ring (v (T.at r.table r.layer t)) };
 
     ghost by_block = { false };
 
     ghost cost = { 1 };
 
-    ghost has = { λ r b t. (t < length r.twiddles.now)
-        × (IsTrue FREE → F.value (get_or r.twiddles.now 0 F.ZERO) ≡ F.ring.one) };
+    ghost has = { λ r b t. T.has r.table r.layer × (t < 2 ^ r.layer)
+        × (IsTrue FREE → F.value (T.at r.table r.layer 0) ≡ F.ring.one) };
 
     #[inline(always)]
     fn goes_by_block(self) -> bool {
@@ -185,12 +190,57 @@ impl<F: TwoAdicField, const FREE: bool> Rule<F> for DitByPlace<'_, F, FREE> {
         row_2: &mut [F],
         products: &mut Products,
     ) {
-        Dit::<FREE>.meet(place, self.twiddles[place], row_1, row_2, products);
+        let twiddle = self.table.get(self.layer, place);
+        self.decimation.meet(place, twiddle, row_1, row_2, products);
     }
 
     #[inline(always)]
-    fn meet_column(self, _block: usize, low: &mut [F], high: &mut [F], products: &mut Products) {
-        meet_by_place(self.twiddles, low, high, products);
+    fn by_place(&self, _block: usize) -> Option<&[F]> {
+        self.table.in_order(self.layer)
+    }
+}
+
+/// Every pair of block b has twiddle b of a layer of a table.
+#[derive(Clone, Copy)]
+pub struct ByBlockOfLayer<T, D> {
+    /// It has the twiddles of the layer.
+    pub table: T,
+    /// The number of the layer.
+    pub layer: usize,
+    /// Which butterflies meet.
+    pub decimation: D,
+}
+
+impl<F: TwoAdicField, T: LayerTwiddles<F>, D: Decimation<F>> Rule<F> for ByBlockOfLayer<T, D> {
+    ghost use Rattle.std.specs.Prelude.{◌^◌, ◌<◌, true};
+
+    ghost near = { λ A ring v r b t. D.near A ring v r.decimation (v (T.at r.table r.layer b)) };
+
+    ghost far = { λ A ring v r b t. D.far A ring v r.decimation (v (T.at r.table r.layer b)) };
+
+    ghost by_block = { true };
+
+    ghost cost = { D.cost };
+
+    ghost has = { λ r b t. T.has r.table r.layer × (b < 2 ^ r.layer)
+        × D.asks F.Element F.ring (F.value (T.at r.table r.layer 0)) };
+
+    #[inline(always)]
+    fn goes_by_block(self) -> bool {
+        true
+    }
+
+    #[inline(always)]
+    fn meet(
+        self,
+        block: usize,
+        _place: usize,
+        row_1: &mut [F],
+        row_2: &mut [F],
+        products: &mut Products,
+    ) {
+        let twiddle = self.table.get(self.layer, block);
+        self.decimation.meet(block, twiddle, row_1, row_2, products);
     }
 }
 
@@ -234,11 +284,6 @@ impl<F: TwoAdicField, D: Decimation<F>> Rule<F> for ByBlock<'_, F, D> {
         self.decimation
             .meet(block, self.twiddles[block], row_1, row_2, products);
     }
-
-    #[inline(always)]
-    fn meet_column(self, block: usize, low: &mut [F], high: &mut [F], products: &mut Products) {
-        self.meet(block, 0, low, high, products);
-    }
 }
 
 // A butterfly on two rows, with a contract that speaks of entries.
@@ -262,7 +307,7 @@ fn meet_rows<F: TwoAdicField, B: Butterfly<F>>(
 }
 
 // Decimation in time on two halves of a column: the entries at place t meet with twiddle t.
-fn meet_by_place<F: TwoAdicField>(
+pub(crate) fn meet_by_place<F: TwoAdicField>(
     twiddles: &[F],
     low: &mut [F],
     high: &mut [F],

@@ -1,22 +1,24 @@
 //! An extension coset by coset. Of its `2^(log_h + added_bits)` rows each chunk of `2^log_h` is a slot, which
 //! gets the values on a coset of its own. The coefficients are the first slot, in bit reversed order.
 
-ghost use Rattle.std.specs.Prelude.{◌≡◌, ℕ, ◌+◌, ◌-◌, ◌*◌, ◌/◌, ◌^◌, ◌<◌, ◌≤◌, ◌++◌, ◌∷◌, [], List, IfErr};
+ghost use Rattle.std.specs.Prelude.{◌≡◌, ℕ, ◌+◌, ◌-◌, ◌*◌, ◌/◌, ◌^◌, ◌<◌, ◌≤◌, ◌++◌, ◌∷◌, [], List, IfErr, IfSome};
 ghost use Rattle.std.specs.Prelude.{IsPermutation, OnOk, get_or, length};
 ghost use Rattle.p3_matrix.specs.BitOrder.{rev};
 ghost use Rattle.p3_matrix.specs.Blocks.{AreBlocksOf, Run, RunToRefusal};
 ghost use Rattle.p3_matrix.specs.Matrix.{image, matrix};
 ghost use Rattle.p3_matrix.specs.RowMajor.{RowMajor};
 ghost use Rattle.p3_matrix.specs.Cosets.{point};
+ghost use Rattle.p3_networks.specs.Chunks.{source_of};
 ghost use Rattle.p3_networks.specs.Counts.{RisesAtMost};
-ghost use Rattle.p3_networks.specs.Halves.{HasHighLayers, IsHighChunk, IsHighHalf, IsHighNetwork};
+ghost use Rattle.p3_networks.specs.Halves.{IsHighChunk, IsHighHalf, IsHighNetwork};
 ghost use Rattle.p3_networks.specs.Layers.{AreRows};
 ghost use Rattle.p3_networks.specs.Slots.{HasRowsOnCoset, LentInBlocks, extended_rows, slot_blocks};
 ghost use Rattle.p3_networks.specs.Twiddles.{HasCoset, HasCosets, IsCosetAt, factor, forward_root, mid_of, scale_cost};
 
 use crate::chunks::ChunkWork;
+use crate::layouts::{ByLayer, LayerTwiddles};
 use crate::radix_2_dit_parallel::coset_tables::{CosetTable, CosetTables, slot_shift};
-use crate::radix_2_dit_parallel::halves::{BlockTwiddles, HighLayers, first_half, first_half_oop};
+use crate::radix_2_dit_parallel::halves::{HighLayers, first_half};
 use p3_field::{Field, Products, TwoAdicField};
 use p3_matrix::bitrev::reverse_chunks;
 use p3_matrix::{BlockConsumer, RowMajorMatrixView};
@@ -68,9 +70,9 @@ pub fn extend_slots<F: TwoAdicField, C: BlockConsumer<F>>(
         let start = place * size;
         let slot = &mut others[start..start + size];
         let first_row = (place + 1) << log_h;
-        if let Err(refusal) = evaluate_reversed_oop(
+        if let Err(refusal) = evaluate_reversed(
             table,
-            coefficients,
+            Some(&*coefficients),
             slot,
             width,
             log_h,
@@ -83,7 +85,16 @@ pub fn extend_slots<F: TwoAdicField, C: BlockConsumer<F>>(
     }
     let found = place_of_slot(cosets, log_h, added_bits, shift, 0, found);
     let table = cosets.get(found);
-    evaluate_reversed(table, coefficients, width, log_h, 0, consumer, products)
+    evaluate_reversed(
+        table,
+        None,
+        coefficients,
+        width,
+        log_h,
+        0,
+        consumer,
+        products,
+    )
 }
 
 // The place of the table of a slot's coset. The search begins at `start`.
@@ -108,11 +119,11 @@ fn place_of_slot<F: TwoAdicField>(
     cosets.place_of(log_h, coset, start)
 }
 
-// From coefficients in bit reversed order, which lie in another slice, their values on the coset that a
-// table is of, in bit reversed order. The rows are those from number `first_row` on.
-fn evaluate_reversed_oop<F: TwoAdicField, C: BlockConsumer<F>>(
-    table: &CosetTable<F>,
-    coefficients: &[F],
+// From coefficients in bit reversed order, which lie in the source if there is one, their values on the coset
+// that a table is of, in bit reversed order. The rows are those from number `first_row` on.
+fn evaluate_reversed<'a, F: TwoAdicField, C: BlockConsumer<F>>(
+    table: &'a CosetTable<F>,
+    source: Option<&'a [F]>,
     values: &mut [F],
     width: usize,
     log_h: usize,
@@ -121,62 +132,28 @@ fn evaluate_reversed_oop<F: TwoAdicField, C: BlockConsumer<F>>(
     products: &mut Products,
 ) -> Result<(), C::Refusal>
     requires rows { AreRows log_h width (length values.old) }
-    requires source { length coefficients.now ≡ length values.old }
+    requires source { IfSome source (λ rows. length rows.now ≡ length values.old) }
     requires table { table.now.log_h ≡ log_h }
     requires numbers { first_row + 2 ^ log_h < 2 ^ 64 }
     ensures lent { LentInBlocks C.step first_row (2 ^ (log_h - mid_of log_h)) width (2 ^ mid_of log_h)
         (λ n. HasRowsOnCoset F.Field.own F.generator log_h width (F.value table.now.shift)
-        (n * 2 ^ (log_h - mid_of log_h)) coefficients.now values.new)
+        (n * 2 ^ (log_h - mid_of log_h)) (source_of source.entry values.old) values.new)
         values.new consumer.old result consumer.new }
     ensures cost { RisesAtMost (width * (log_h * 2 ^ log_h / 2)) products.old products.new }
 {
     let mid = (log_h + 1) / 2;
-    let twiddles = table.twiddles();
-    first_half_oop(twiddles, coefficients, values, width, log_h, mid, products);
-    let high = BlockTwiddles {
-        twiddles,
-        by_layer: true,
+    let twiddles = ByLayer {
+        twiddles: table.twiddles(),
     };
+    match source {
+        Some(rows) => {
+            let source = Some(&rows[..]);
+            first_half(twiddles, source, values, width, log_h, mid, products);
+        }
+        None => first_half(twiddles, None, values, width, log_h, mid, products),
+    }
     last_half(
-        high,
-        values,
-        width,
-        mid,
-        log_h - mid,
-        first_row,
-        consumer,
-        products,
-    )
-}
-
-// From coefficients in bit reversed order to their values on such a coset, in their place.
-fn evaluate_reversed<F: TwoAdicField, C: BlockConsumer<F>>(
-    table: &CosetTable<F>,
-    values: &mut [F],
-    width: usize,
-    log_h: usize,
-    first_row: usize,
-    consumer: &mut C,
-    products: &mut Products,
-) -> Result<(), C::Refusal>
-    requires rows { AreRows log_h width (length values.old) }
-    requires table { table.now.log_h ≡ log_h }
-    requires numbers { first_row + 2 ^ log_h < 2 ^ 64 }
-    ensures lent { LentInBlocks C.step first_row (2 ^ (log_h - mid_of log_h)) width (2 ^ mid_of log_h)
-        (λ n. HasRowsOnCoset F.Field.own F.generator log_h width (F.value table.now.shift)
-        (n * 2 ^ (log_h - mid_of log_h)) values.old values.new)
-        values.new consumer.old result consumer.new }
-    ensures cost { RisesAtMost (width * (log_h * 2 ^ log_h / 2)) products.old products.new }
-{
-    let mid = (log_h + 1) / 2;
-    let twiddles = table.twiddles();
-    first_half(twiddles, values, width, log_h, mid, products);
-    let high = BlockTwiddles {
         twiddles,
-        by_layer: true,
-    };
-    last_half(
-        high,
         values,
         width,
         mid,
@@ -189,8 +166,8 @@ fn evaluate_reversed<F: TwoAdicField, C: BlockConsumer<F>>(
 
 // The rows, which are as the first half leaves them, are reversed, and go through the second half. Each chunk
 // is lent when it is done.
-fn last_half<F: TwoAdicField, C: BlockConsumer<F>>(
-    table: BlockTwiddles<'_, F>,
+fn last_half<F: TwoAdicField, T: LayerTwiddles<F>, C: BlockConsumer<F>>(
+    table: T,
     values: &mut [F],
     width: usize,
     mid: usize,
@@ -200,10 +177,10 @@ fn last_half<F: TwoAdicField, C: BlockConsumer<F>>(
     products: &mut Products,
 ) -> Result<(), C::Refusal>
     requires rows { AreRows (mid + left) width (length values.old) }
-    requires table { HasHighLayers mid left table.by_layer table.twiddles.now }
+    requires table { (l : ℕ) → mid ≤ l → l < mid + left → T.has table l }
     requires numbers { first_row + 2 ^ (mid + left) < 2 ^ 64 }
     ensures lent { LentInBlocks C.step first_row (2 ^ left) width (2 ^ mid)
-        (λ n. IsHighHalf F.Field.own n mid left width table.entry.by_layer table.entry.twiddles.now
+        (λ n. IsHighHalf F.Field.own n mid left width (T.at table)
         (λ a q j. F.value (get_or values.old ((rev left q * 2 ^ mid + rev mid a) * width + j) F.ZERO)) values.new)
         values.new consumer.old result consumer.new }
     ensures cost { RisesAtMost (2 ^ mid * (width * (left * 2 ^ left / 2))) products.old products.new }
@@ -231,18 +208,16 @@ fn last_half<F: TwoAdicField, C: BlockConsumer<F>>(
 }
 
 // One chunk of the second half, which is lent when it is done. Its first row has the number `row`.
-fn finish_chunk<F: TwoAdicField, C: BlockConsumer<F>>(
-    layers: &HighLayers<'_, F>,
+fn finish_chunk<F: TwoAdicField, T: LayerTwiddles<F>, C: BlockConsumer<F>>(
+    layers: &HighLayers<F, T>,
     values: &mut [F],
     chunk: usize,
     row: usize,
     consumer: &mut C,
     products: &mut Products,
 ) -> Result<(), C::Refusal>
-    requires chunk { let it = layers.now in
-        IsHighChunk it.mid it.left it.width chunk it.table.by_layer it.table.twiddles.now (length values.old) }
-    ensures values { let it = layers.now in
-        IsHighNetwork F.Field.own it.mid it.left it.width chunk it.table.by_layer it.table.twiddles.now
+    requires chunk { let it = layers.now in IsHighChunk it.mid it.left it.width chunk (T.has it.table) (length values.old) }
+    ensures values { let it = layers.now in IsHighNetwork F.Field.own it.mid it.left it.width chunk (T.at it.table)
         (λ q j. F.ring.mul (F.value (get_or values.old (q * it.width + j) F.ZERO)) (factor F.Field.own it.scale))
         values.new }
     ensures lent { C.step consumer.old row (record { width = layers.now.width; values = values.new }) result

@@ -1,8 +1,9 @@
 use Rattle.std.proofs.Common.{◌≡◌, ℕ, ◌+◌, ◌*◌, ◌/◌, ◌++◌, ◌<◌, List, length, get_or, take, drop, ap, ◌∙◌, arith, ◌≤◌, sym, subst}
 use Rattle.p3_networks.specs.Layers.{MeetHalves}
 use Rattle.p3_networks.proofs.Layers.Blocks.{row_below}
-use Rattle.p3_networks.proofs.Layers.Halves.{in_first, in_second, of_halves, each_cell, halves_same}
-use Rattle.std.proofs.Math.Nat.{mul-le-mul}
+use Rattle.p3_networks.proofs.Layers.Halves.{in_first, in_second, of_halves, each_cell, half_within, halves_same}
+use Rattle.std.proofs.Math.Nat.{mul-le-mul_right}
+use Rattle.p3_matrix.specs.Butterflies.{dit_near, dit_far}
 use Rattle.p3_networks.proofs.butterfly_layers.meet_block.Goals as goal
 
 -- halves that meet by the rows and columns of their cells
@@ -36,8 +37,8 @@ returns-then-goes_by_block-clause-cells g c =
       c.meet.ensures.far (t * w + j) (omega (arith, inside, front.front_len)) ∙ ap (λ (f : field.Element → field.Element → field.Element). f x y) same.1,
     ))
 
-pub returns-then-is_column_of_packs-clause-cells : goal.returns-then-is_column_of_packs-clause-cells
-returns-then-is_column_of_packs-clause-cells g c =
+pub returns-in-Some-clause-cells : goal.returns-in-Some-clause-cells
+returns-in-Some-clause-cells g c =
     let field = g.F.Field in
     let w = c.args.width in
     let h = c.args.half in
@@ -45,17 +46,19 @@ returns-then-is_column_of_packs-clause-cells g c =
     let far = g.R.Rule.far field.Element field.ring field.value c.args.rule c.args.block in
     let front = c.split_at_mut-low.ensures in
     let one : w ≡ 1 = (c.is_column_of_packs.ensures.0 c.if-is_column_of_packs.true).0 in
-    halves_met field.value field.ZERO w h near far c.args.values.now c.split_at_mut-low.result.0.now c.split_at_mut-low.result.1.now c.meet_column.new.low c.meet_column.new.high c.requires.width front.front front.back (c.meet_column.auto.low ∙ front.front_len)
+    halves_met field.value field.ZERO w h near far c.args.values.now c.split_at_mut-low.result.0.now c.split_at_mut-low.result.1.now c.meet_by_place.new.low c.meet_by_place.new.high c.requires.width front.front front.back (c.meet_by_place.auto.low ∙ front.front_len)
     (λ t j p q inside.
     let x = field.value (get_or c.split_at_mut-low.result.0.now (t * w + j) field.ZERO) in
     let y = field.value (get_or c.split_at_mut-low.result.1.now (t * w + j) field.ZERO) in
-    let place : t * w + j ≡ t = ap (λ k. t * k + j) one ∙ omega (arith, q, one) in (
-      c.meet_column.ensures.near (t * w + j) (omega (arith, inside, front.front_len)) ∙ ap (λ (k : ℕ). near k x y) place,
-      c.meet_column.ensures.far (t * w + j) (omega (arith, inside, front.front_len)) ∙ ap (λ (k : ℕ). far k x y) place,
+    let place : t * w + j ≡ t = ap (λ k. t * k + j) one ∙ omega (arith, q, one) in
+    let met = c.in-Some.ensures.1 t (c.requires.in_table t p) in
+    let twiddle = ap (λ k. field.value (get_or c.in-Some.twiddles.now k field.ZERO)) place in (
+      c.meet_by_place.ensures.near (t * w + j) (omega (arith, inside, front.front_len)) ∙ ap (λ k. dit_near field.ring k x y) twiddle ∙ sym (ap (λ (f : field.Element → field.Element → field.Element). f x y) met.1),
+      c.meet_by_place.ensures.far (t * w + j) (omega (arith, inside, front.front_len)) ∙ ap (λ k. dit_far field.ring k x y) twiddle ∙ sym (ap (λ (f : field.Element → field.Element → field.Element). f x y) met.2),
     ))
 
-pub returns-else-is_column_of_packs-clause-cells : goal.returns-else-is_column_of_packs-clause-cells
-returns-else-is_column_of_packs-clause-cells g c =
+pub returns-clause-cells : goal.returns-clause-cells
+returns-clause-cells g c =
     let field = g.F.Field in
     let w = c.args.width in
     let h = c.args.half in
@@ -65,17 +68,22 @@ returns-else-is_column_of_packs-clause-cells g c =
     halves_met field.value field.ZERO w h near far c.args.values.now c.split_at_mut-low.result.0.now c.split_at_mut-low.result.1.now c.meet_halves.new.low c.meet_halves.new.high c.requires.width front.front front.back (c.meet_halves.auto.low ∙ front.front_len)
     (λ t j p q inside. (c.meet_halves.ensures.near t j p q, c.meet_halves.ensures.far t j p q))
 
-pub returns-then-is_column_of_packs-clause-cost : goal.returns-then-is_column_of_packs-clause-cost
-returns-then-is_column_of_packs-clause-cost g c = subst (λ n. c.meet_column.new.products ≤ c.args.products.now + g.R.Rule.cost * n) c.split_at_mut-low.ensures.front_len c.meet_column.ensures.cost
+pub returns-in-Some-clause-cost : goal.returns-in-Some-clause-cost
+returns-in-Some-clause-cost g c =
+    let once : 1 * length c.split_at_mut-low.result.0.now ≤ g.R.Rule.cost * length c.split_at_mut-low.result.0.now = mul-le-mul_right _ c.in-Some.ensures.0 in
+    subst (λ n. c.meet_by_place.new.products ≤ c.args.products.now + g.R.Rule.cost * n) c.split_at_mut-low.ensures.front_len (omega (arith, once, c.meet_by_place.ensures.count))
 
 pub returns-then-goes_by_block-clause-cost : goal.returns-then-goes_by_block-clause-cost
 returns-then-goes_by_block-clause-cost g c = subst (λ n. c.meet.new.products ≤ c.args.products.now + g.R.Rule.cost * n) c.split_at_mut-low.ensures.front_len c.meet.ensures.cost
 
-pub meet_column-requires-clause-nonzero : goal.meet_column-requires-clause-nonzero
-meet_column-requires-clause-nonzero g c = subst (λ n. 1 ≤ n) (sym c.split_at_mut-low.ensures.front_len) (mul-le-mul c.requires.nonzero c.requires.width)
+pub meet_by_place-requires-clause-size : goal.meet_by_place-requires-clause-size
+meet_by_place-requires-clause-size g c = halves_same _ _ _ _ c.split_at_mut-low.ensures.front_len c.split_at_mut-low.ensures.back_len c.requires.size
 
-pub meet_column-requires-clause-size : goal.meet_column-requires-clause-size
-meet_column-requires-clause-size g c = halves_same _ _ _ _ c.split_at_mut-low.ensures.front_len c.split_at_mut-low.ensures.back_len c.requires.size
+pub meet_by_place-requires-clause-enough : goal.meet_by_place-requires-clause-enough
+meet_by_place-requires-clause-enough g c =
+    let one : c.args.width ≡ 1 = (c.is_column_of_packs.ensures.0 c.if-is_column_of_packs.true).0 in
+    let size = c.split_at_mut-low.ensures.front_len ∙ ap (λ n. c.args.half * n) one in
+    omega (arith, size, half_within c.args.half _ c.requires.nonzero (λ t inside. (c.in-Some.ensures.1 t (c.requires.in_table t inside)).0))
 
 pub meet-requires-clause-size : goal.meet-requires-clause-size
 meet-requires-clause-size g c = halves_same _ _ _ _ c.split_at_mut-low.ensures.front_len c.split_at_mut-low.ensures.back_len c.requires.size

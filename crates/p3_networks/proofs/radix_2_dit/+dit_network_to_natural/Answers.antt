@@ -1,14 +1,12 @@
-use Rattle.std.proofs.Common.{◌≡◌, ℕ, ◌+◌, ◌*◌, ◌-◌, ◌/◌, ◌^◌, ◌++◌, ◌<◌, length, get_or, false, refl, ap, ◌∙◌, arith}
+use Rattle.std.proofs.Common.{◌≡◌, ℕ, ◌+◌, ◌*◌, ◌-◌, ◌/◌, ◌^◌, ◌++◌, ◌<◌, length, get_or, refl, ap, ◌∙◌, arith}
 use Rattle.std.proofs.lemmas.List.{length-append}
 use Rattle.p3_matrix.specs.BitOrder.{rev}
 use Rattle.p3_matrix.specs.Polynomials.{poly}
 use Rattle.p3_matrix.proofs.Polynomials.Cosets.{point_of_one}
-use Rattle.p3_networks.specs.Twiddles.{root_powers}
 use Rattle.p3_networks.proofs.Layers.Counts.{joined_count}
 use Rattle.p3_networks.proofs.Layers.Blocks.{halves_whole}
 use Rattle.p3_networks.proofs.Networks.LowHalves.{half_size, low_halves, rest_size}
 use Rattle.p3_networks.proofs.Networks.LowLayers.{low_done, low_layer}
-use Rattle.p3_networks.proofs.Tables.MoreTwiddles.{fewer_layers}
 use Rattle.p3_networks.proofs.Tables.RootPowers.{fewer_roots, subgroup_table}
 use Rattle.p3_networks.proofs.radix_2_dit.+dit_network_to_natural.Goals as goal
 
@@ -16,15 +14,13 @@ pub dit_network_to_natural-requires : goal.dit_network_to_natural-requires
 dit_network_to_natural-requires g t c κs within =
     let k = c.args.log_h in
     let size = c.split_at_mut-low.ensures.front_len ∙ half_size k c.args.width (length c.args.values.now) c.if-log_h-gt0.true c.requires.size in
-    let fewer = fewer_layers g.F.Field (root_powers g.F.Field g.F.TwoAdicField.generator false) (k - 1) k c.args.twiddles.now (omega arith) c.requires.twiddles in
-    (omega (arith, c.decreases, c.if-log_h-gt0.true), (within.0, (within.1, (c.requires.width, (omega (arith, c.requires.fits_u64), (omega (arith, c.requires.within), (size, fewer)))))))
+    (omega (arith, c.decreases, c.if-log_h-gt0.true), (within.0, (within.1.0, (within.1.1, (c.requires.width, (omega (arith, c.requires.fits_u64), (omega (arith, c.requires.within), (size, ((λ l below. c.requires.table l (omega arith)), (λ l t below inside. c.requires.twiddles l t (omega arith) inside))))))))))
 
 pub dit_network_to_natural-requires-then-values-gt-CACHED : goal.dit_network_to_natural-requires-then-values-gt-CACHED
 dit_network_to_natural-requires-then-values-gt-CACHED g t c κs within =
     let k = c.args.log_h in
     let size = rest_size k c.args.width (length c.args.values.now) (length c.split_at_mut-low.result.1.now) c.if-log_h-gt0.true c.requires.size c.split_at_mut-low.ensures.back_len in
-    let fewer = fewer_layers g.F.Field (root_powers g.F.Field g.F.TwoAdicField.generator false) (k - 1) k c.args.twiddles.now (omega arith) c.requires.twiddles in
-    (omega (arith, c.decreases, c.if-log_h-gt0.true), (within.0, (within.1, (c.requires.width, (omega (arith, c.requires.fits_u64), (omega (arith, c.requires.within), (size, fewer)))))))
+    (omega (arith, c.decreases, c.if-log_h-gt0.true), (within.0, (within.1.0, (within.1.1, (c.requires.width, (omega (arith, c.requires.fits_u64), (omega (arith, c.requires.within), (size, ((λ l below. c.requires.table l (omega arith)), (λ l t below inside. c.requires.twiddles l t (omega arith) inside))))))))))
 
 pub one_low_layer-requires : goal.one_low_layer-requires
 one_low_layer-requires g t c =
@@ -32,7 +28,7 @@ one_low_layer-requires g t c =
     let second = c.dit_network_to_natural-then-values-gt-CACHED in
     let front = first.auto.values ∙ c.split_at_mut-low.ensures.front_len in
     let size : length (first.new.values ++ second.new.values) ≡ 2 ^ c.args.log_h * c.args.width = omega (arith, length-append first.new.values second.new.values, front, second.auto.values, c.split_at_mut-low.ensures.back_len, c.requires.size) in
-    record { rows = record { width = c.requires.width; fits_u64 = c.requires.fits_u64; size = size }; below = omega (arith, c.if-log_h-gt0.true); table = c.requires.twiddles.size }
+    record { rows = record { width = c.requires.width; fits_u64 = c.requires.fits_u64; size = size }; below = omega (arith, c.if-log_h-gt0.true); table = c.requires.table (c.args.log_h - 1) (omega (arith, c.if-log_h-gt0.true)) }
 
 pub returns-then-values-gt-CACHED-clause-values : goal.returns-then-values-gt-CACHED-clause-values
 returns-then-values-gt-CACHED-clause-values g t c r j below inside =
@@ -49,11 +45,11 @@ returns-then-values-gt-CACHED-clause-values g t c r j below inside =
     let begun = low_halves field root k w c.args.values.now first second c.split_at_mut-low.result.0.now c.split_at_mut-low.result.1.now (length c.args.values.now / 2) some part
     c.split_at_mut-low.ensures.front c.split_at_mut-low.ensures.back (c.dit_network_to_natural.auto.values ∙ c.split_at_mut-low.ensures.front_len)
     c.dit_network_to_natural.ensures.values c.dit_network_to_natural-then-values-gt-CACHED.ensures.values j inside in
-    let table = subgroup_table field g.F.TwoAdicField.generator k c.args.twiddles.now c.requires.twiddles in
+    let table = subgroup_table field g.F.TwoAdicField.generator k (g.T.LayerTwiddles.at c.args.table) c.requires.twiddles in
     let roots = fewer_roots field.ring k g.F.TwoAdicField.TWO_ADICITY c.requires.within g.met.F.TwoAdicField.roots_law in
-    let done = low_layer field root field.ring.one k w roots (k - 1) (2 ^ (k - 1)) (2 ^ (k - 1 - (k - 1))) _ column
+    let done = low_layer field root field.ring.one k w roots (k - 1) (2 ^ (k - 1)) (2 ^ (k - 1 - (k - 1))) (g.T.LayerTwiddles.at c.args.table) column
     (λ n. field.value (get_or (first ++ second) n field.ZERO)) (λ n. field.value (get_or c.one_low_layer.new.values n field.ZERO))
-    last refl (halves_whole k (k - 1) last) (table.layers (k - 1) last) c.one_low_layer.ensures.cells j inside begun r below in
+    last refl (halves_whole k (k - 1) last) table c.one_low_layer.ensures.cells j inside begun r below in
     low_done field root field.ring.one k w (k - 1 + 1) column _ r (omega (arith, some)) done below ∙ ap (poly field.ring (2 ^ k) column) (point_of_one field.ring root k r)
 
 pub returns-then-values-gt-CACHED-clause-grows : goal.returns-then-values-gt-CACHED-clause-grows
@@ -65,4 +61,4 @@ returns-then-values-gt-CACHED-clause-cost g t c =
     c.if-log_h-gt0.true c.dit_network_to_natural.ensures.cost c.dit_network_to_natural-then-values-gt-CACHED.ensures.cost c.one_low_layer.ensures.cost.cost
 
 pub network_in_cache-requires : goal.network_in_cache-requires
-network_in_cache-requires g t c = record { width = c.requires.width; fits_u64 = c.requires.fits_u64; within = c.requires.within; size = c.requires.size; twiddles = c.requires.twiddles }
+network_in_cache-requires g t c = record { width = c.requires.width; fits_u64 = c.requires.fits_u64; within = c.requires.within; size = c.requires.size; table = c.requires.table; twiddles = c.requires.twiddles }

@@ -8,9 +8,6 @@ use Rattle.p3_networks.proofs.Layers.Counts.{one_chunk_counted}
 use Rattle.p3_networks.proofs.Tables.RootPowers.{fewer_roots, subgroup_table}
 use Rattle.p3_networks.proofs.radix_2_dit.network_in_cache.Goals as goal
 
-pub first_half-requires-clause-table : goal.first_half-requires-clause-table
-first_half-requires-clause-table g c = c.requires.twiddles.size
-
 pub returns-clause-values : goal.returns-clause-values
 returns-clause-values g c r j below inside =
     let field = g.F.Field in
@@ -18,7 +15,7 @@ returns-clause-values g c r j below inside =
     let k = c.args.log_h in
     let w = c.args.width in
     let plain : (u : ℕ) → (0 * 2 ^ k + u) * w + j ≡ u * w + j = λ u. omega arith in
-    let table = subgroup_table field g.F.TwoAdicField.generator k c.args.twiddles.now c.requires.twiddles in
+    let table = subgroup_table field g.F.TwoAdicField.generator k (g.T.LayerTwiddles.at c.args.table) c.requires.twiddles in
     let roots = fewer_roots field.ring k g.F.TwoAdicField.TWO_ADICITY c.requires.within g.met.F.TwoAdicField.roots_law in
     ap (λ n. field.value (get_or c.first_half.new.values n field.ZERO)) (sym (plain r))
     ∙ c.first_half.ensures.values root field.ring.one roots table 0 r j (pow_pos (k - k)) below inside

@@ -1,7 +1,6 @@
-use Rattle.std.proofs.Common.{false, refl, ℕ, ap, ap₂, sym, length, ◌∙◌, ◌*◌}
+use Rattle.std.proofs.Common.{false, ◌≤◌, refl, ℕ, ap, ap₂, sym, length, ◌∙◌, ◌*◌, arith}
 use Rattle.std.proofs.Math.Nat.{le-add_right}
-use Rattle.p3_networks.specs.Twiddles.{root_powers}
-use Rattle.p3_networks.proofs.Tables.MoreTwiddles.{fewer_layers}
+use Rattle.p3_networks.proofs.Tables.MoreTwiddles.{fewer_layers, layer_there}
 use Rattle.p3_dft.proofs.BitReversed.Rows.{transform_of_reversed}
 use Rattle.p3_dft.proofs.Calls.Counts.{larger_bound}
 use Rattle.p3_dft.proofs.radix_2_dit.EvaluationMatrixWorkTwiddles.on_matrix.Goals as goal
@@ -9,9 +8,12 @@ use Rattle.p3_dft.proofs.radix_2_dit.EvaluationMatrixWorkTwiddles.on_matrix.Goal
 pub dit_network_to_natural-requires-clause-size : goal.dit_network_to_natural-requires-clause-size
 dit_network_to_natural-requires-clause-size g c = ap length c.values_mut.ensures.values ∙ c.reverse_rows.ensures.size ∙ sym c.requires.rows.whole.full ∙ ap₂ (λ (h w : ℕ). h * w) c.requires.rows.height (sym c.width-width.ensures.width)
 
+pub dit_network_to_natural-requires-clause-table : goal.dit_network_to_natural-requires-clause-table
+dit_network_to_natural-requires-clause-table g c =
+    layer_there c.args.log_h _ c.requires.rows.fits_u64 (fewer_layers g.F.Field _ c.args.log_h _ _ c.requires.in_table c.as_slice.ensures.table).size
+
 pub dit_network_to_natural-requires-clause-twiddles : goal.dit_network_to_natural-requires-clause-twiddles
-dit_network_to_natural-requires-clause-twiddles g c =
-    fewer_layers g.F.Field (root_powers g.F.Field g.F.TwoAdicField.generator false) c.args.log_h _ _ c.requires.in_table c.as_slice-twiddles.ensures.table
+dit_network_to_natural-requires-clause-twiddles g c l t below inside = c.as_slice.ensures.table.entries l t (omega (arith, below, c.requires.in_table)) inside
 
 pub returns-clause-takes : goal.returns-clause-takes
 returns-clause-takes g c =

@@ -10,7 +10,8 @@ use Rattle.p3_networks.proofs.Layers.Counts.{halves_counted}
 use Rattle.p3_networks.proofs.Networks.CosetHalves.{halves_whole}
 use Rattle.p3_matrix.proofs.Polynomials.ByIndex.{poly_same}
 use Rattle.p3_matrix.proofs.Polynomials.Cosets.{is_values}
-use Rattle.p3_networks.proofs.Tables.CosetTables.{coset_room, high_of_coset, low_of_coset}
+use Rattle.p3_networks.proofs.Tables.CosetTables.{high_of_coset, low_of_coset}
+use Rattle.p3_networks.proofs.Tables.MoreTwiddles.{layer_there}
 use Rattle.p3_networks.proofs.Tables.RootPowers.{fewer_roots}
 use Rattle.p3_dft.specs.Stored.{HasTwoPowerRows}
 use Rattle.p3_dft.proofs.radix_2_dit_parallel.transform.evaluate_on_coset_to_reversed.Goals as goal
@@ -19,17 +20,10 @@ pub network_to_reversed-requires-clause-rows : goal.network_to_reversed-requires
 network_to_reversed-requires-clause-rows g c = subst (HasTwoPowerRows c.args.mat.now) (sym (halves_whole c.args.log_h)) c.requires.rows
 
 pub network_to_reversed-requires-clause-low : goal.network_to_reversed-requires-clause-low
-network_to_reversed-requires-clause-low g c =
-    let k = c.args.log_h in
-    let table : IsCosetTable g.F.Field g.F.TwoAdicField.generator (g.F.Field.value c.args.table.now.shift) k c.twiddles-twiddles.result.now =
-    subst (λ (n : ℕ). IsCosetTable g.F.Field g.F.TwoAdicField.generator (g.F.Field.value c.args.table.now.shift) n c.twiddles-twiddles.result.now) c.requires.table c.twiddles-twiddles.ensures.table in
-    (low_of_coset g.F.Field g.F.TwoAdicField.generator (g.F.Field.value c.args.table.now.shift) k c.twiddles-twiddles.result.now ((k + 1) / 2) (k - (k + 1) / 2) (omega arith) (halves_whole k) table).size
+network_to_reversed-requires-clause-low g c l below = layer_there c.args.table.now.log_h _ (omega (arith, c.requires.table, c.requires.rows.fits_u64)) c.twiddles.ensures.table.size l (omega (arith, c.requires.table, below))
 
 pub network_to_reversed-requires-clause-high : goal.network_to_reversed-requires-clause-high
-network_to_reversed-requires-clause-high g c l from below =
-    let k = c.args.log_h in
-    coset_room g.F.Field g.F.TwoAdicField.generator (g.F.Field.value c.args.table.now.shift) k c.twiddles-twiddles.result.now l (omega (arith, below))
-    (subst (λ (n : ℕ). IsCosetTable g.F.Field g.F.TwoAdicField.generator (g.F.Field.value c.args.table.now.shift) n c.twiddles-twiddles.result.now) c.requires.table c.twiddles-twiddles.ensures.table)
+network_to_reversed-requires-clause-high g c l from below = layer_there c.args.table.now.log_h _ (omega (arith, c.requires.table, c.requires.rows.fits_u64)) c.twiddles.ensures.table.size l (omega (arith, c.requires.table, below))
 
 pub returns-clause-values : goal.returns-clause-values
 returns-clause-values g c =
@@ -41,10 +35,10 @@ returns-clause-values g c =
     let s = field.value c.args.table.now.shift in
     let m = c.args.mat.now in
     let out = c.network_to_reversed.new.mat in
-    let xs = c.twiddles-twiddles.result.now in
+    let xs = c.twiddles.result.now in
     let k_is : mid + left ≡ k = halves_whole k in
-    let table : IsCosetTable field g.F.TwoAdicField.generator s k xs = subst (λ (n : ℕ). IsCosetTable field g.F.TwoAdicField.generator s n xs) c.requires.table c.twiddles-twiddles.ensures.table in
-    let roots : AreRoots field.ring (mid + left) gen = fewer_roots field.ring (mid + left) _ (omega (arith, c.requires.table, c.twiddles-twiddles.ensures.within)) g.met.F.TwoAdicField.roots_law in
+    let table : IsCosetTable field g.F.TwoAdicField.generator s k xs = subst (λ (n : ℕ). IsCosetTable field g.F.TwoAdicField.generator s n xs) c.requires.table c.twiddles.ensures.table in
+    let roots : AreRoots field.ring (mid + left) gen = fewer_roots field.ring (mid + left) _ (omega (arith, c.requires.table, c.twiddles.ensures.within)) g.met.F.TwoAdicField.roots_law in
     let low = low_of_coset field g.F.TwoAdicField.generator s k xs mid left (omega arith) k_is table in
     let high = high_of_coset field g.F.TwoAdicField.generator s k xs mid (mid + left) (omega arith) (sym k_is) table in
     let tall : height out ≡ height m = c.network_to_reversed.ensures.same.shape.0 in

@@ -8,6 +8,7 @@ use Rattle.p3_networks.proofs.Layers.Counts.{halves_counted}
 use Rattle.p3_networks.proofs.Networks.CosetHalves.{halves_whole}
 use Rattle.p3_matrix.proofs.Polynomials.Cosets.{point_of_one}
 use Rattle.p3_networks.proofs.Tables.FromStart.{block_table}
+use Rattle.p3_networks.proofs.Tables.MoreTwiddles.{fewer_layers, layer_there}
 use Rattle.p3_networks.proofs.Tables.RootPowers.{are_roots, fewer_roots, low_table}
 use Rattle.p3_dft.specs.Stored.{HasTwoPowerRows}
 use Rattle.p3_dft.proofs.radix_2_dit_parallel.transform.transform_to_reversed.Goals as goal
@@ -16,7 +17,9 @@ halves_below : (k n : ℕ) → k ≤ n → mid_of k ≤ mid_of n
 halves_below k n below = omega (arith, below)
 
 pub network_to_reversed-requires-clause-low : goal.network_to_reversed-requires-clause-low
-network_to_reversed-requires-clause-low g c = (low_table g.F.Field g.F.TwoAdicField.generator c.args.inverse (mid_of c.args.log_h) _ 0 c.low.result.now (halves_below c.args.log_h _ c.requires.in_table) c.low.ensures.table).size
+network_to_reversed-requires-clause-low g c =
+    let k = c.args.log_h in
+    layer_there (mid_of k) _ (omega (arith, c.requires.rows.fits_u64)) (fewer_layers g.F.Field _ (mid_of k) _ _ (halves_below k _ c.requires.in_table) c.low.ensures.table).size
 
 pub network_to_reversed-requires-clause-rows : goal.network_to_reversed-requires-clause-rows
 network_to_reversed-requires-clause-rows g c = subst (HasTwoPowerRows c.args.mat.now) (sym (halves_whole c.args.log_h)) c.requires.rows
@@ -37,7 +40,7 @@ returns-clause-values g c r j p q =
     let roots : AreRoots field.ring (mid + left) root = fewer_roots field.ring (mid + left) _ (omega (arith, c.requires.in_table, c.high.ensures.within)) (are_roots field gen inverse g.met.F.TwoAdicField.roots_law) in
     let f = λ (u : ℕ). field.ring.mul ((values_of field c.args.mat.now).entry u j) (factor field c.args.scale) in
     c.network_to_reversed.ensures.values root field.ring.one roots
-    (low_table field gen inverse mid _ (2 ^ left) c.low.result.now (omega (arith, c.requires.in_table)) c.low.ensures.table)
+    (low_table field gen inverse mid (2 ^ left) _ (λ l t below inside. c.low.ensures.table.entries l t (omega (arith, below, halves_below k _ c.requires.in_table)) inside))
     (block_table field root mid (mid + left) c.args.tables.now c.high.result.now (omega (arith, c.requires.in_table)) c.high.ensures.table)
     r j (subst (λ (n : ℕ). r < 2 ^ n) (sym k_is) p) q
     ∙ ap (λ n. poly field.ring (2 ^ n) f (point field.ring root n field.ring.one (rev n r))) k_is

@@ -1,25 +1,18 @@
-use Rattle.std.proofs.Common.{◌≡◌, ℕ, ◌+◌, ◌*◌, ◌-◌, ◌^◌, ◌<◌, ◌≤◌, length, get_or, sym, ap, ap₂, ◌∙◌, subst, arith, lit≤, refl, List, Bool}
+use Rattle.std.proofs.Common.{◌≡◌, ℕ, ◌+◌, ◌*◌, ◌-◌, ◌^◌, ◌<◌, ◌≤◌, get_or, sym, ap, ap₂, ◌∙◌, subst, arith, lit≤, refl}
 use Rattle.std.proofs.Math.Nat.{pow-le-pow_right, mul-le-mul_right, le-add_right}
 use Rattle.p3_matrix.specs.BitOrder.{rev}
 use Rattle.p3_matrix.specs.Butterflies.{dit_near, dit_far}
 use Rattle.p3_matrix.specs.Cosets.{point}
-use Rattle.p3_networks.specs.Twiddles.{factor, scale_cost, block_end, block_entries}
+use Rattle.p3_networks.specs.Twiddles.{factor, scale_cost}
 use Rattle.p3_networks.proofs.Layers.Blocks.{blocks_whole}
 use Rattle.p3_networks.proofs.Layers.Counts.{layer_counted, layers_counted}
 use Rattle.p3_networks.proofs.Layers.Sizes.{cells_by_blocks, done_shift, left_shift, some_rows}
 use Rattle.p3_networks.proofs.Networks.Formulas.{whole_layer_taken}
 use Rattle.p3_networks.proofs.Networks.HighRows.{high_row, high_rows, high_start, high_end}
 use Rattle.p3_networks.proofs.Networks.Stages.{twiddle}
-use Rattle.p3_networks.proofs.Tables.BlockTables.{block_count, blocks_within, chunk_entry}
+use Rattle.p3_networks.proofs.Tables.BlockTables.{blocks_within, chunk_entry}
 use Rattle.p3_networks.proofs.Layers.Shifts.{one_shifted}
 use Rattle.p3_networks.proofs.radix_2_dit_parallel.halves.high_network.Goals as goal
-
--- a chunk has a twiddle in the first of its layers
-first_there : {T : Type 0} (by_layer : Bool) (mid left chunk : ℕ) (xs ys : List T) → 1 ≤ left → chunk < 2 ^ mid → ((l : ℕ) → mid ≤ l → l < mid + left → block_end by_layer l ≤ length xs)
-    → ys ≡ block_entries by_layer mid xs → chunk + 1 ≤ length ys
-first_there by_layer mid left chunk xs ys some below reaches is =
-    let count : length ys ≡ 2 ^ mid = ap length is ∙ block_count by_layer mid xs (reaches mid (omega arith) (omega (arith, some))) in
-    omega (arith, count, below)
 
 -- the half block of the first layer, of which there is one block
 first_half : (k : ℕ) → 1 ≤ k → k < 64 → one_shifted (k - 1) ≡ 2 ^ (k - 1)
@@ -34,6 +27,10 @@ counted cost pairs half all before after is few count =
     let spread : (1 + cost) * (1 * pairs) ≡ half * cost + half = ap (λ n. (1 + cost) * (1 * n)) is ∙ omega arith in
     let turned : cost * all ≡ all * cost = omega arith in
     omega (arith, count, spread, turned, mul-le-mul_right cost few)
+
+-- a layer of the second half
+in_second_half : (mid done left : ℕ) → done < left → mid + done < mid + left
+in_second_half mid done left below = omega arith
 
 pub scaled_layer-requires-clause-size : goal.scaled_layer-requires-clause-size
 scaled_layer-requires-clause-size g c =
@@ -57,14 +54,13 @@ loop-done-init g c =
     let cell = λ (n : ℕ). field.value (get_or c.args.values.now n field.ZERO) in
     let scaled = λ (n : ℕ). field.ring.mul (cell n) (factor field c.args.scale) in
     let after = λ (n : ℕ). field.value (get_or c.scaled_layer.new.values n field.ZERO) in
-    let entry = λ (t : ℕ). field.value (get_or c.of_layer-twiddles.result.now (chunk + t) field.ZERO) in
+    let entry = λ (t : ℕ). field.value (g.T.LayerTwiddles.at c.args.table mid (chunk + t)) in
     let few : 2 ^ (k - 1) ≤ 2 ^ k = omega (arith, h, whole) in
     record {
       rows = λ root s roots table j r inside below.
           let coset = point field.ring root (mid + k) s (rev mid chunk) in
           let entry_is : (u : ℕ) → u < 1 → entry u ≡ twiddle field.ring root coset 0 (k - 1 - 0) (rev 0 u) =
-          λ u p. ap (λ xs. field.value (get_or xs (chunk + u) field.ZERO)) c.of_layer-twiddles.ensures
-          ∙ chunk_entry field root s mid k chunk 0 u mid (chunk + u) c.args.table.by_layer c.args.table.twiddles.now roots table (omega arith) (omega arith) c.requires.chunk.chunk some p in
+          λ u p. chunk_entry field root s mid k chunk 0 u mid (chunk + u) (g.T.LayerTwiddles.at c.args.table) roots table (omega arith) (omega arith) c.requires.chunk.chunk some p in
           let keep : k ≡ k - 0 = omega arith in
           let less : k - 1 ≡ k - 1 - 0 = omega arith in
           whole_layer_taken (high_rows field.ring root coset roots (λ u. scaled (u * w + j))) k 0 w half 1
@@ -99,10 +95,11 @@ layer_by_block-requires-clause-size g c =
 pub layer_by_block-requires-clause-table : goal.layer_by_block-requires-clause-table
 layer_by_block-requires-clause-table g c =
     let l = c.loop-done.done in
-    let mid = c.args.mid in
-    let count = ap length c.of_layer-twiddles-in-loop-done.ensures
-    ∙ block_count c.args.table.by_layer (mid + l) c.args.table.twiddles.now (c.requires.chunk.table (mid + l) (omega arith) (omega (arith, c.loop-done-test.true))) in
-    rw (done_shift c.args.left l c.loop-done-test.true (omega (arith, c.requires.chunk.fits_u64)), count) (blocks_within c.args.chunk mid l c.requires.chunk.chunk)
+    rw (done_shift c.args.left l c.loop-done-test.true (omega (arith, c.requires.chunk.fits_u64))) (blocks_within c.args.chunk c.args.mid l c.requires.chunk.chunk)
+
+pub layer_by_block-requires-clause-in_table : goal.layer_by_block-requires-clause-in_table
+layer_by_block-requires-clause-in_table g c =
+    c.requires.chunk.table (c.args.mid + c.loop-done.done) (le-add_right c.args.mid c.loop-done.done) (in_second_half c.args.mid c.loop-done.done c.args.left c.loop-done-test.true)
 
 pub loop-done-preserved : goal.loop-done-preserved
 loop-done-preserved g c =
@@ -121,13 +118,12 @@ loop-done-preserved g c =
     let before = λ (n : ℕ). field.value (get_or c.loop-done.values n field.ZERO) in
     let after = λ (n : ℕ). field.value (get_or c.layer_by_block.new.values n field.ZERO) in
     let scaled = λ (n : ℕ). field.ring.mul (field.value (get_or c.args.values.now n field.ZERO)) (factor field c.args.scale) in
-    let entry = λ (t : ℕ). field.value (get_or c.of_layer-twiddles-in-loop-done.result.now (chunk * blocks + t) field.ZERO) in
+    let entry = λ (t : ℕ). field.value (g.T.LayerTwiddles.at c.args.table (mid + l) (chunk * blocks + t)) in
     record {
       rows = λ root s roots table j r inside below.
           let coset = point field.ring root (mid + k) s (rev mid chunk) in
           let entry_is : (u : ℕ) → u < blocks → entry u ≡ twiddle field.ring root coset l (k - 1 - l) (rev l u) =
-          λ u p. ap (λ xs. field.value (get_or xs (chunk * blocks + u) field.ZERO)) c.of_layer-twiddles-in-loop-done.ensures
-          ∙ chunk_entry field root s mid k chunk l u (mid + l) (chunk * blocks + u) c.args.table.by_layer c.args.table.twiddles.now roots table refl (ap (λ n. chunk * n + u) b) c.requires.chunk.chunk c.loop-done-test.true (omega (arith, p, b)) in
+          λ u p. chunk_entry field root s mid k chunk l u (mid + l) (chunk * blocks + u) (g.T.LayerTwiddles.at c.args.table) roots table refl (ap (λ n. chunk * n + u) b) c.requires.chunk.chunk c.loop-done-test.true (omega (arith, p, b)) in
           whole_layer_taken (high_rows field.ring root coset roots (λ u. scaled (u * w + j))) k l w half blocks
           (λ u t. dit_near field.ring (entry u)) (λ u t. dit_far field.ring (entry u)) before after
           (omega arith) c.loop-done-test.true h whole
@@ -159,16 +155,11 @@ returns-clause-cost g c =
     let all = ap (λ n. 1 * (n * (2 ^ (k - 1) * w))) e ∙ layers_counted k w in
     record { grows = c.loop-done.invariant.grows; cost = omega (arith, all, c.loop-done.invariant.cost) }
 
--- a layer of the second half
-in_second_half : (mid done left : ℕ) → done < left → mid + done < mid + left
-in_second_half mid done left below = omega arith
-
-pub of_layer-twiddles-requires-in-loop-done-clause-inside : goal.of_layer-twiddles-requires-in-loop-done-clause-inside
-of_layer-twiddles-requires-in-loop-done-clause-inside g c =
-    c.requires.chunk.table (c.args.mid + c.loop-done.done) (le-add_right c.args.mid c.loop-done.done) (in_second_half c.args.mid c.loop-done.done c.args.left c.loop-done-test.true)
+pub scaled_layer-requires-clause-in_table : goal.scaled_layer-requires-clause-in_table
+scaled_layer-requires-clause-in_table g c = c.requires.chunk.table c.args.mid (omega arith) (omega (arith, c.requires.nonzero))
 
 pub scaled_layer-requires-clause-table : goal.scaled_layer-requires-clause-table
-scaled_layer-requires-clause-table g c = first_there c.args.table.by_layer c.args.mid c.args.left c.args.chunk c.args.table.twiddles.now c.of_layer-twiddles.result.now c.requires.nonzero c.requires.chunk.chunk c.requires.chunk.table c.of_layer-twiddles.ensures
+scaled_layer-requires-clause-table g c = omega (arith, c.requires.chunk.chunk)
 
 pub layer_by_block-requires-clause-nonzero : goal.layer_by_block-requires-clause-nonzero
 layer_by_block-requires-clause-nonzero g c = some_rows _ (c.args.left - 1 - c.loop-done.done) (left_shift c.args.left c.loop-done.done c.loop-done-test.true (omega (arith, c.requires.chunk.fits_u64)))

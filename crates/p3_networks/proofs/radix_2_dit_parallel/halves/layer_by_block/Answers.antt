@@ -1,13 +1,12 @@
 use Rattle.std.proofs.Common.{sym, ap, ◌∙◌, arith}
-use Rattle.p3_networks.proofs.Tables.FoundOne.{found_one}
 use Rattle.p3_networks.proofs.radix_2_dit_parallel.halves.layer_by_block.Goals as goal
 
 pub layer-requires-clause-in_table : goal.layer-requires-clause-in_table
 layer-requires-clause-in_table g c b t p q =
     let field = g.F.Field in (
+      c.requires.in_table,
       omega (arith, p, c.requires.table),
-      λ _. found_one field.value g.F.PartialEq.eq g.met.F.Field.eq_law c.args.twiddles.now 0 c.index-twiddles-0.result c.ONE.result field.ZERO (omega (arith, c.requires.blocks, c.requires.table)) c.index-twiddles-0.is (sym c.eq.ensures ∙ c.if-eq.true)
-          ∙ ap field.value c.ONE.ensures ∙ g.met.F.Field.one_law,
+      λ _. ap field.value (sym c.get.ensures) ∙ (g.met.F.Field.eq_law _ _).0 (sym c.eq.ensures ∙ c.if-eq.true) ∙ ap field.value c.ONE.ensures ∙ g.met.F.Field.one_law,
     )
 
 pub returns-then-eq-clause-cells : goal.returns-then-eq-clause-cells

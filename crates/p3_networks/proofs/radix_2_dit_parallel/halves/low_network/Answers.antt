@@ -23,9 +23,9 @@ loop-l-preserved g c =
     let whole = halves_whole k l c.loop-l-test.true in
     record {
       rows = λ root s roots layers j r inside below.
-          low_layer field root s k w roots l (2 ^ l) (2 ^ (k - 1 - l)) _ (λ u. field.value (get_or c.args.values.now (rev k u * w + j) field.ZERO))
+          low_layer field root s k w roots l (2 ^ l) (2 ^ (k - 1 - l)) (g.T.LayerTwiddles.at c.args.table) (λ u. field.value (get_or c.args.values.now (rev k u * w + j) field.ZERO))
           (λ n. field.value (get_or c.loop-l.values n field.ZERO)) (λ n. field.value (get_or c.one_low_layer.new.values n field.ZERO))
-          c.loop-l-test.true refl whole (layers.layers l c.loop-l-test.true) c.one_low_layer.ensures.cells j inside
+          c.loop-l-test.true refl whole layers c.one_low_layer.ensures.cells j inside
           (λ u v. c.loop-l.invariant.rows root s roots layers j u inside v) r below;
       cost = record { grows = omega (arith, c.loop-l.invariant.cost.grows, c.one_low_layer.ensures.cost.grows); cost = layer_counted 1 k l w (2 ^ (k - 1 - l)) (2 ^ l) c.args.products.now c.loop-l.products c.one_low_layer.new.products c.loop-l-test.true whole c.loop-l.invariant.cost.cost c.one_low_layer.ensures.cost.cost };
     }

@@ -1,5 +1,4 @@
 use Rattle.std.proofs.Common.{◌≡◌, ℕ, ◌+◌, ◌*◌, ◌-◌, ◌^◌, ◌<◌, get_or, refl, sym, ap, ◌∙◌, subst, arith}
-use Rattle.std.proofs.lemmas.Nat.{pow_pos}
 use Rattle.p3_matrix.specs.BitOrder.{rev}
 use Rattle.p3_networks.specs.Counts.{RisesAtMost}
 use Rattle.p3_networks.proofs.Layers.Blocks.{halves_whole}
@@ -26,7 +25,7 @@ pub first_layer_oop-requires-clause-size : goal.first_layer_oop-requires-clause-
 first_layer_oop-requires-clause-size g c = c.requires.rows.size ∙ cells_of_pairs c.args.log_h c.args.width (omega (arith, c.if-log_h-eq0.false)) c.requires.rows.fits_u64
 
 pub first_layer_oop-requires-clause-table : goal.first_layer_oop-requires-clause-table
-first_layer_oop-requires-clause-table g c = omega (arith, pairs_whole c.args.log_h (omega (arith, c.if-log_h-eq0.false)), pow_pos (c.args.log_h - 1), c.requires.table)
+first_layer_oop-requires-clause-table g c = c.requires.table 0 (omega (arith, c.if-log_h-eq0.false))
 
 pub loop-l-init : goal.loop-l-init
 loop-l-init g c =
@@ -40,7 +39,7 @@ loop-l-init g c =
     record {
       rows = λ root s roots layers j r inside below.
           let cell = λ (n : ℕ). field.value (get_or c.args.source.now n field.ZERO) in
-          low_first field root s k w roots pairs c.args.twiddles.now (λ q. cell (rev k q * w + j)) cell (λ n. field.value (get_or c.first_layer_oop.new.values n field.ZERO))
+          low_first field root s k w roots pairs (g.T.LayerTwiddles.at c.args.table) (λ q. cell (rev k q * w + j)) cell (λ n. field.value (get_or c.first_layer_oop.new.values n field.ZERO))
           some (rw are (sym (pairs_whole k some))) layers c.first_layer_oop.ensures.cells j inside
           (λ u v. low_begun field root s k w cell j u v) r below;
       cost = record { grows = c.first_layer_oop.ensures.cost.grows; cost = omega (arith, c.first_layer_oop.ensures.cost.cost, cells) };
@@ -55,9 +54,9 @@ loop-l-preserved g c =
     let whole = halves_whole k l c.loop-l-test.true in
     record {
       rows = λ root s roots layers j r inside below.
-          low_layer field root s k w roots l (2 ^ l) (2 ^ (k - 1 - l)) _ (λ u. field.value (get_or c.args.source.now (rev k u * w + j) field.ZERO))
+          low_layer field root s k w roots l (2 ^ l) (2 ^ (k - 1 - l)) (g.T.LayerTwiddles.at c.args.table) (λ u. field.value (get_or c.args.source.now (rev k u * w + j) field.ZERO))
           (λ n. field.value (get_or c.loop-l.values n field.ZERO)) (λ n. field.value (get_or c.one_low_layer.new.values n field.ZERO))
-          c.loop-l-test.true refl whole (layers.layers l c.loop-l-test.true) c.one_low_layer.ensures.cells j inside
+          c.loop-l-test.true refl whole layers c.one_low_layer.ensures.cells j inside
           (λ u v. c.loop-l.invariant.rows root s roots layers j u inside v) r below;
       cost = record { grows = omega (arith, c.loop-l.invariant.cost.grows, c.one_low_layer.ensures.cost.grows); cost = layer_counted 1 k l w (2 ^ (k - 1 - l)) (2 ^ l) c.args.products.now c.loop-l.products c.one_low_layer.new.products c.loop-l-test.true whole c.loop-l.invariant.cost.cost c.one_low_layer.ensures.cost.cost };
     }

@@ -1,39 +1,59 @@
-use Rattle.std.proofs.Common.{ap, ◌-◌, ◌∙◌, arith, length}
-use Rattle.p3_networks.proofs.Layers.Sizes.{cells_by_halves, done_shift, layer_size, left_shift, some_rows}
-use Rattle.p3_networks.proofs.Tables.MoreTwiddles.{layer_end}
+use Rattle.std.proofs.Common.{◌≡◌, ℕ, ◌-◌, ◌*◌, ◌<◌, sym, ap, ◌∙◌, arith, rules}
+use Rattle.p3_networks.specs.Layers.{AreRows}
+use Rattle.p3_networks.proofs.Layers.Shifts.{one_shifted}
+use Rattle.p3_networks.proofs.Layers.Sizes.{cells_by_halves, done_shift, left_shift, some_rows}
 use Rattle.p3_networks.proofs.radix_2_dit_parallel.halves.one_low_layer.Goals as goal
 
-pub layer_twiddles-twiddles-requires-clause-inside : goal.layer_twiddles-twiddles-requires-clause-inside
-layer_twiddles-twiddles-requires-clause-inside g c = layer_end c.args.l c.args.log_h (length c.args.twiddles.now) c.requires.below c.requires.table
+-- the blocks of a layer fill the rows
+filled : (k l w n : ℕ) → l < k → AreRows k w n → n ≡ one_shifted (k - 1 - l) * (2 * (one_shifted l * w))
+filled k l w n below rows = rw (done_shift k l below rows.fits_u64, left_shift k l below rows.fits_u64) (rows.size ∙ cells_by_halves k l w below)
 
-pub layer_by_place-requires-clause-nonzero : goal.layer_by_place-requires-clause-nonzero
-layer_by_place-requires-clause-nonzero g c = some_rows _ c.args.l (done_shift c.args.log_h c.args.l c.requires.below c.requires.rows.fits_u64)
+pub layer-requires-clause-nonzero : goal.layer-requires-clause-nonzero
+layer-requires-clause-nonzero g c = some_rows _ c.args.l (done_shift c.args.log_h c.args.l c.requires.below c.requires.rows.fits_u64)
 
-pub layer_by_place-requires-clause-blocks : goal.layer_by_place-requires-clause-blocks
-layer_by_place-requires-clause-blocks g c = some_rows _ (c.args.log_h - 1 - c.args.l) (left_shift c.args.log_h c.args.l c.requires.below c.requires.rows.fits_u64)
+pub layer-requires-else-eq-clause-nonzero : goal.layer-requires-else-eq-clause-nonzero
+layer-requires-else-eq-clause-nonzero g c = some_rows _ c.args.l (done_shift c.args.log_h c.args.l c.requires.below c.requires.rows.fits_u64)
 
-pub layer_by_place-requires-clause-size : goal.layer_by_place-requires-clause-size
-layer_by_place-requires-clause-size g c =
-    let l = c.args.l in
-    let k = c.args.log_h in
-    rw (done_shift k l c.requires.below c.requires.rows.fits_u64, left_shift k l c.requires.below c.requires.rows.fits_u64) (c.requires.rows.size ∙ cells_by_halves k l c.args.width c.requires.below)
+pub layer-requires-clause-blocks : goal.layer-requires-clause-blocks
+layer-requires-clause-blocks g c = some_rows _ (c.args.log_h - 1 - c.args.l) (left_shift c.args.log_h c.args.l c.requires.below c.requires.rows.fits_u64)
 
-pub layer_by_place-requires-clause-table : goal.layer_by_place-requires-clause-table
-layer_by_place-requires-clause-table g c =
-    let l = c.args.l in
-    let k = c.args.log_h in
-    let half = done_shift k l c.requires.below c.requires.rows.fits_u64 in
-    let size = ap length c.layer_twiddles-twiddles.ensures ∙ layer_size c.args.twiddles.now l (layer_end l k (length c.args.twiddles.now) c.requires.below c.requires.table) in
-    omega (arith, half, size)
+pub layer-requires-else-eq-clause-blocks : goal.layer-requires-else-eq-clause-blocks
+layer-requires-else-eq-clause-blocks g c = some_rows _ (c.args.log_h - 1 - c.args.l) (left_shift c.args.log_h c.args.l c.requires.below c.requires.rows.fits_u64)
 
-pub returns-clause-cells : goal.returns-clause-cells
-returns-clause-cells g c =
-    let l = c.args.l in
-    let k = c.args.log_h in
-    rw (done_shift k l c.requires.below c.requires.rows.fits_u64, left_shift k l c.requires.below c.requires.rows.fits_u64, c.layer_twiddles-twiddles.ensures) at c.layer_by_place.ensures.cells
+pub layer-requires-clause-size : goal.layer-requires-clause-size
+layer-requires-clause-size g c = filled c.args.log_h c.args.l c.args.width _ c.requires.below c.requires.rows
 
-pub returns-clause-cost : goal.returns-clause-cost
-returns-clause-cost g c =
-    let l = c.args.l in
-    let k = c.args.log_h in
-    rw (done_shift k l c.requires.below c.requires.rows.fits_u64, left_shift k l c.requires.below c.requires.rows.fits_u64) at c.layer_by_place.ensures.cost
+pub layer-requires-else-eq-clause-size : goal.layer-requires-else-eq-clause-size
+layer-requires-else-eq-clause-size g c = filled c.args.log_h c.args.l c.args.width _ c.requires.below c.requires.rows
+
+pub layer-requires-clause-in_table : goal.layer-requires-clause-in_table
+layer-requires-clause-in_table g c b t p q =
+    let field = g.F.Field in (
+      c.requires.table,
+      omega (arith, q, done_shift c.args.log_h c.args.l c.requires.below c.requires.rows.fits_u64),
+      λ _. ap field.value (sym c.get.ensures) ∙ (g.met.F.Field.eq_law _ _).0 (sym c.eq.ensures ∙ c.if-eq.true) ∙ ap field.value c.ONE.ensures ∙ g.met.F.Field.one_law,
+    )
+
+pub layer-requires-else-eq-clause-in_table : goal.layer-requires-else-eq-clause-in_table
+layer-requires-else-eq-clause-in_table g c b t p q =
+    (c.requires.table, omega (arith, q, done_shift c.args.log_h c.args.l c.requires.below c.requires.rows.fits_u64), search rules)
+
+pub returns-then-eq-clause-cells : goal.returns-then-eq-clause-cells
+returns-then-eq-clause-cells g c =
+    rw (done_shift c.args.log_h c.args.l c.requires.below c.requires.rows.fits_u64, left_shift c.args.log_h c.args.l c.requires.below c.requires.rows.fits_u64) at c.layer.ensures.cells
+
+pub returns-else-eq-clause-cells : goal.returns-else-eq-clause-cells
+returns-else-eq-clause-cells g c =
+    rw (done_shift c.args.log_h c.args.l c.requires.below c.requires.rows.fits_u64, left_shift c.args.log_h c.args.l c.requires.below c.requires.rows.fits_u64) at c.layer-else-eq.ensures.cells
+
+pub returns-then-eq-clause-cost : goal.returns-then-eq-clause-cost
+returns-then-eq-clause-cost g c = record {
+  grows = c.layer.ensures.grows;
+  cost = rw (done_shift c.args.log_h c.args.l c.requires.below c.requires.rows.fits_u64, left_shift c.args.log_h c.args.l c.requires.below c.requires.rows.fits_u64) at c.layer.ensures.cost;
+}
+
+pub returns-else-eq-clause-cost : goal.returns-else-eq-clause-cost
+returns-else-eq-clause-cost g c = record {
+  grows = c.layer-else-eq.ensures.grows;
+  cost = rw (done_shift c.args.log_h c.args.l c.requires.below c.requires.rows.fits_u64, left_shift c.args.log_h c.args.l c.requires.below c.requires.rows.fits_u64) at c.layer-else-eq.ensures.cost;
+}

@@ -1,4 +1,4 @@
-use Rattle.std.proofs.Common.{ℕ, ◌+◌, get_or, sym, ◌∙◌, ap₂}
+use Rattle.std.proofs.Common.{ℕ, ◌+◌, sym, ◌∙◌, ap₂}
 use Rattle.p3_matrix.specs.Butterflies.{dit_near, dit_far}
 use Rattle.p3_networks.proofs.Networks.Scaled.{scaled_near, scaled_far}
 use Rattle.p3_networks.proofs.radix_2_dit_parallel.halves.scaled_layer.Goals as goal
@@ -6,7 +6,7 @@ use Rattle.p3_networks.proofs.radix_2_dit_parallel.halves.scaled_layer.Goals as 
 pub returns-in-Some-clause-cells : goal.returns-in-Some-clause-cells
 returns-in-Some-clause-cells g c =
     let field = g.F.Field in
-    let t = λ (b : ℕ). field.value (get_or c.args.twiddles.now (c.args.block + b) field.ZERO) in
+    let t = λ (b : ℕ). field.value (g.T.LayerTwiddles.at c.args.table c.args.l (c.args.block + b)) in
     rw c.in-Some.is
     (λ b p. record {
       near_cell = λ i q. (c.layer.ensures.cells b p).near_cell i q ∙ scaled_near field.ring (t b) (field.value c.in-Some.scale) _ _;
@@ -16,7 +16,7 @@ returns-in-Some-clause-cells g c =
 pub returns-in-None-clause-cells : goal.returns-in-None-clause-cells
 returns-in-None-clause-cells g c =
     let field = g.F.Field in
-    let t = λ (b : ℕ). field.value (get_or c.args.twiddles.now (c.args.block + b) field.ZERO) in
+    let t = λ (b : ℕ). field.value (g.T.LayerTwiddles.at c.args.table c.args.l (c.args.block + b)) in
     rw c.in-None.is
     (λ b p. record {
       near_cell = λ i q. (c.layer_by_block.ensures.cells b p).near_cell i q ∙ ap₂ (dit_near field.ring (t b)) (sym (field.ring.mul_one _)) (sym (field.ring.mul_one _));

@@ -1,17 +1,27 @@
-use Rattle.std.proofs.Common.{ℕ, ◌^◌, sym, ap, subst, arith}
-use Rattle.p3_networks.specs.Twiddles.{IsCosetTable}
-use Rattle.p3_networks.proofs.Networks.CosetHalves.{both_counted, both_rows, halves_whole, high_room, lent_on_coset, low_room}
+use Rattle.std.proofs.Common.{◌≡◌, ℕ, ◌-◌, ◌*◌, ◌/◌, ◌^◌, length, ap, ◌∙◌, subst, arith}
+use Rattle.p3_networks.specs.Chunks.{source_of}
+use Rattle.p3_networks.specs.Counts.{RisesAtMost}
+use Rattle.p3_networks.specs.Halves.{IsLowHalf}
+use Rattle.p3_networks.specs.Twiddles.{by_layer, IsCosetTable, mid_of}
+use Rattle.p3_networks.proofs.Networks.CosetHalves.{both_counted, both_rows, halves_whole, lent_on_coset}
+use Rattle.p3_networks.proofs.Tables.MoreTwiddles.{layer_there}
 use Rattle.p3_networks.proofs.radix_2_dit_parallel.published_slots.evaluate_reversed.Goals as goal
+use Rattle.p3_networks.proofs.radix_2_dit_parallel.published_slots.evaluate_reversed.Goals.{in-Some, in-None}
 
 pub first_half-requires-clause-table : goal.first_half-requires-clause-table
-first_half-requires-clause-table g c = rw (sym c.requires.table) (low_room g.F.Field g.F.TwoAdicField.generator _ c.args.table.now.log_h c.twiddles-twiddles.result.now c.twiddles-twiddles.ensures.table)
+first_half-requires-clause-table g c l below = layer_there c.args.table.now.log_h _ (omega (arith, c.requires.table, c.requires.rows.fits_u64)) c.twiddles.ensures.table.size l (omega (arith, c.requires.table, below))
+
+pub first_half-requires-in-None-clause-table : goal.first_half-requires-in-None-clause-table
+first_half-requires-in-None-clause-table g c l below = layer_there c.args.table.now.log_h _ (omega (arith, c.requires.table, c.requires.rows.fits_u64)) c.twiddles.ensures.table.size l (omega (arith, c.requires.table, below))
 
 pub last_half-requires-clause-table : goal.last_half-requires-clause-table
-last_half-requires-clause-table g c l from below =
-    high_room g.F.Field g.F.TwoAdicField.generator _ c.args.table.now.log_h c.twiddles-twiddles.result.now c.twiddles-twiddles.ensures.table l (rw c.requires.table below)
+last_half-requires-clause-table g c l from below = layer_there c.args.table.now.log_h _ (omega (arith, c.requires.table, c.requires.rows.fits_u64)) c.twiddles.ensures.table.size l (omega (arith, c.requires.table, below))
 
 pub last_half-requires-clause-rows : goal.last_half-requires-clause-rows
-last_half-requires-clause-rows g c = both_rows c.args.log_h c.args.width _ _ c.requires.rows c.first_half.auto.values
+last_half-requires-clause-rows g c =
+    let same : length c.match-source.values ≡ length c.args.values.now =
+    elim c.match-source.branch [ in-Some w ↦ ap length w.values-is ∙ w.first_half.auto.values | in-None w ↦ ap length w.values-is ∙ w.first_half-in-None.auto.values ] in
+    both_rows c.args.log_h c.args.width _ _ c.requires.rows same
 
 pub last_half-requires-clause-numbers : goal.last_half-requires-clause-numbers
 last_half-requires-clause-numbers g c = let all = ap (λ n. 2 ^ n) (halves_whole c.args.log_h) in omega (arith, all, c.requires.numbers)
@@ -21,9 +31,20 @@ returns-clause-lent g c =
     let field = g.F.Field in
     let k = c.args.log_h in
     let s = field.value c.args.table.now.shift in
-    let table = subst (λ (n : ℕ). IsCosetTable field g.F.TwoAdicField.generator s n c.twiddles-twiddles.result.now) c.requires.table c.twiddles-twiddles.ensures.table in
-    lent_on_coset field g.F.TwoAdicField.generator s k c.twiddles-twiddles.result.now table g.met.F.TwoAdicField.roots_law (omega (arith, c.requires.table, c.twiddles-twiddles.ensures.within))
-    g.C.BlockConsumer.step c.args.first_row c.args.width c.args.values.now c.first_half.new.values c.last_half.new.values c.args.consumer.now c.last_half.result c.last_half.new.consumer c.first_half.ensures.values c.last_half.ensures.lent
+    let table = subst (λ (n : ℕ). IsCosetTable field g.F.TwoAdicField.generator s n c.twiddles.result.now) c.requires.table c.twiddles.ensures.table in
+    let mid = mid_of k in
+    let first : IsLowHalf field (2 ^ (k - mid)) mid c.args.width (by_layer field.ZERO c.twiddles.result.now) (source_of c.args.source c.args.values.now) c.match-source.values =
+    elim c.match-source.branch [
+      | in-Some w ↦ rw (w.values-is, w.in-Some.is) w.first_half.ensures.values
+      | in-None w ↦ rw (w.values-is, w.in-None.is) w.first_half-in-None.ensures.values
+    ] in
+    lent_on_coset field g.F.TwoAdicField.generator s k c.twiddles.result.now table g.met.F.TwoAdicField.roots_law (omega (arith, c.requires.table, c.twiddles.ensures.within))
+    g.C.BlockConsumer.step c.args.first_row c.args.width (source_of c.args.source c.args.values.now) c.match-source.values c.last_half.new.values c.args.consumer.now c.last_half.result c.last_half.new.consumer first c.last_half.ensures.lent
 
 pub returns-clause-cost : goal.returns-clause-cost
-returns-clause-cost g c = both_counted c.args.log_h c.args.width _ _ _ c.first_half.ensures.cost c.last_half.ensures.cost
+returns-clause-cost g c =
+    let k = c.args.log_h in
+    let mid = mid_of k in
+    let first : RisesAtMost (2 ^ (k - mid) * (c.args.width * (mid * 2 ^ mid / 2))) c.args.products.now c.match-source.products =
+    elim c.match-source.branch [ in-Some w ↦ rw w.products-is w.first_half.ensures.cost | in-None w ↦ rw w.products-is w.first_half-in-None.ensures.cost ] in
+    both_counted k c.args.width _ _ _ first c.last_half.ensures.cost

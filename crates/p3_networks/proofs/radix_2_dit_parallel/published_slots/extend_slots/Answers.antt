@@ -41,24 +41,24 @@ offset_bounds-others-start g c =
 pub slice_bounds-slot-end : goal.slice_bounds-slot-end
 slice_bounds-slot-end g c = slot_inside (length c.args.values.now) c.args.log_h c.args.added_bits c.args.width c.loop-place.place c.requires.fits_u64 c.requires.size c.loop-place-test.true _ _ c.split_at_mut-coefficients.ensures.back_len c.loop-place.auto.others
 
-pub evaluate_reversed_oop-requires-clause-table : goal.evaluate_reversed_oop-requires-clause-table
-evaluate_reversed_oop-requires-clause-table g c = (coset_read g.F.Field c.args.cosets.now c.args.log_h _ _ _ c.get-table.ensures c.place_of_slot-found.ensures).0
+pub evaluate_reversed-requires-clause-table : goal.evaluate_reversed-requires-clause-table
+evaluate_reversed-requires-clause-table g c = (coset_read g.F.Field c.args.cosets.now c.args.log_h _ _ _ c.get-table.ensures c.place_of_slot-found.ensures).0
 
-pub evaluate_reversed_oop-requires-clause-source : goal.evaluate_reversed_oop-requires-clause-source
-evaluate_reversed_oop-requires-clause-source g c =
+pub evaluate_reversed-requires-clause-source : goal.evaluate_reversed-requires-clause-source
+evaluate_reversed-requires-clause-source g c =
     c.split_at_mut-coefficients.ensures.front_len
     ∙ sym (part_length c.loop-place.others _ _ (slot_inside (length c.args.values.now) c.args.log_h c.args.added_bits c.args.width c.loop-place.place c.requires.fits_u64 c.requires.size c.loop-place-test.true _ _ c.split_at_mut-coefficients.ensures.back_len c.loop-place.auto.others))
 
-pub evaluate_reversed_oop-requires-clause-rows : goal.evaluate_reversed_oop-requires-clause-rows
-evaluate_reversed_oop-requires-clause-rows g c = record {
+pub evaluate_reversed-requires-clause-rows : goal.evaluate_reversed-requires-clause-rows
+evaluate_reversed-requires-clause-rows g c = record {
   width = c.requires.width;
   fits_u64 = omega (arith, c.requires.fits_u64);
   size = part_length c.loop-place.others _ _ (slot_inside (length c.args.values.now) c.args.log_h c.args.added_bits c.args.width c.loop-place.place c.requires.fits_u64 c.requires.size c.loop-place-test.true _ _ c.split_at_mut-coefficients.ensures.back_len c.loop-place.auto.others)
       ∙ slot_size (length c.args.values.now) c.args.log_h c.args.added_bits c.args.width c.requires.fits_u64 c.requires.size;
 }
 
-pub evaluate_reversed_oop-requires-clause-numbers : goal.evaluate_reversed_oop-requires-clause-numbers
-evaluate_reversed_oop-requires-clause-numbers g c =
+pub evaluate_reversed-requires-clause-numbers : goal.evaluate_reversed-requires-clause-numbers
+evaluate_reversed-requires-clause-numbers g c =
     slot_ends c.loop-place.place c.args.log_h c.args.added_bits (more_slots (length c.args.values.now) c.args.log_h c.args.added_bits c.args.width c.loop-place.place c.requires.fits_u64 c.requires.size c.loop-place-test.true) c.requires.fits_u64
 
 pub loop-place-init : goal.loop-place-init
@@ -81,23 +81,23 @@ loop-place-preserved g c =
     let len = length c.args.values.now in
     let is = slot_size len k a w c.requires.fits_u64 c.requires.size in
     let fits = slot_inside len k a w place c.requires.fits_u64 c.requires.size c.loop-place-test.true _ _ c.split_at_mut-coefficients.ensures.back_len c.loop-place.auto.others in
-    let size = c.evaluate_reversed_oop.auto.values ∙ part_length c.loop-place.others _ _ fits in
+    let size = c.evaluate_reversed.auto.values ∙ part_length c.loop-place.others _ _ fits in
     let roots = fewer_roots field.ring (k + a) _ c.requires.within g.met.F.TwoAdicField.roots_law in
     record {
       slots =
-          part-more field.ZERO (2 ^ k * w) _ _ c.loop-place.others c.evaluate_reversed_oop.new.values place _ is fits (size ∙ is)
+          part-more field.ZERO (2 ^ k * w) _ _ c.loop-place.others c.evaluate_reversed.new.values place _ is fits (size ∙ is)
           (λ u inside t j p q at.
-          ap (λ n. field.value (get_or c.evaluate_reversed_oop.new.values n field.ZERO)) at ∙ c.in_default.ensures.lent.0 t j (omega (arith, p, blocks_whole k)) q
+          ap (λ n. field.value (get_or c.evaluate_reversed.new.values n field.ZERO)) at ∙ c.in_default.ensures.lent.0 t j (omega (arith, p, blocks_whole k)) q
           ∙ slot_entry field g.F.TwoAdicField.generator k a w (rev k) (field.value c.args.shift) c.args.values.now c.split_at_mut-coefficients.result.0.now c.split_at_mut-coefficients.result.1.now c.split_at_mut-coefficients.ensures.value
           (c.split_at_mut-coefficients.ensures.front_len ∙ is) (λ u l. rev-lt k u) roots _ (place + 1) t j (coset_read field c.args.cosets.now k _ _ _ c.get-table.ensures c.place_of_slot-found.ensures).1 p q)
           c.loop-place.invariant.slots;
       told =
-          subst (λ blocks. Run g.C.BlockConsumer.step c.args.consumer.now blocks c.evaluate_reversed_oop.new.consumer)
-          (blocks_more place _ _ k w (2 ^ (k - mid_of k)) (2 ^ mid_of k) c.loop-place.others c.evaluate_reversed_oop.new.values (blocks_whole k) is fits size
+          subst (λ blocks. Run g.C.BlockConsumer.step c.args.consumer.now blocks c.evaluate_reversed.new.consumer)
+          (blocks_more place _ _ k w (2 ^ (k - mid_of k)) (2 ^ mid_of k) c.loop-place.others c.evaluate_reversed.new.values (blocks_whole k) is fits size
           (slot_starts place k a (more_slots len k a w place c.requires.fits_u64 c.requires.size c.loop-place-test.true) c.requires.fits_u64))
-          (run_joined g.C.BlockConsumer.step _ _ c.args.consumer.now c.loop-place.consumer c.evaluate_reversed_oop.new.consumer c.loop-place.invariant.told c.in_default.ensures.lent.1);
-      grows = omega (arith, c.loop-place.invariant.grows, c.evaluate_reversed_oop.ensures.cost.grows);
-      cost = count_more 1 place (w * (k * 2 ^ k / 2)) _ _ _ c.loop-place.invariant.cost (omega (arith, c.evaluate_reversed_oop.ensures.cost.cost));
+          (run_joined g.C.BlockConsumer.step _ _ c.args.consumer.now c.loop-place.consumer c.evaluate_reversed.new.consumer c.loop-place.invariant.told c.in_default.ensures.lent.1);
+      grows = omega (arith, c.loop-place.invariant.grows, c.evaluate_reversed.ensures.cost.grows);
+      cost = count_more 1 place (w * (k * 2 ^ k / 2)) _ _ _ c.loop-place.invariant.cost (omega (arith, c.evaluate_reversed.ensures.cost.cost));
     }
 
 pub returns-in-Err-clause-cost : goal.returns-in-Err-clause-cost
@@ -107,8 +107,8 @@ returns-in-Err-clause-cost g c =
     let turn = c.args.width * (k * 2 ^ k / 2) in
     let below : c.loop-place.place + 1 < 2 ^ a = omega (arith, second_shift k a c.requires.fits_u64, c.loop-place-test.true) in
     let rise : (c.loop-place.place + 1) * turn ≤ 2 ^ a * turn = mul-le-mul_right turn (let l : c.loop-place.place + 1 ≤ 2 ^ a = omega (arith, below) in l) in
-    let once : c.evaluate_reversed_oop.new.products ≤ c.loop-place.products + 1 * turn = omega (arith, c.evaluate_reversed_oop.ensures.cost.cost) in
-    let so_far = count_more 1 c.loop-place.place turn c.args.products.now c.loop-place.products c.evaluate_reversed_oop.new.products c.loop-place.invariant.cost once in
+    let once : c.evaluate_reversed.new.products ≤ c.loop-place.products + 1 * turn = omega (arith, c.evaluate_reversed.ensures.cost.cost) in
+    let so_far = count_more 1 c.loop-place.place turn c.args.products.now c.loop-place.products c.evaluate_reversed.new.products c.loop-place.invariant.cost once in
     omega (arith, rise, so_far)
 
 pub returns-in-Err-clause-refused : goal.returns-in-Err-clause-refused
@@ -125,9 +125,9 @@ returns-in-Err-clause-refused g c =
     let roots = fewer_roots field.ring (k + a) _ c.requires.within g.met.F.TwoAdicField.roots_law in
     let (m, within, done, stopped) = c.in-Err.ensures.lent in
     refused_in_slot field.value field.ZERO k a w (2 ^ (k - mid_of k)) (2 ^ mid_of k) c.requires.width (pow_pos (k - mid_of k)) (blocks_whole k) (extended_rows field g.F.TwoAdicField.generator k a w (field.value c.args.shift) c.args.values.now) refl refl
-    g.C.BlockConsumer.step place (place + 1) _ m c.loop-place.others c.evaluate_reversed_oop.new.values c.in-Err.refusal c.args.consumer.now c.loop-place.consumer c.evaluate_reversed_oop.new.consumer
+    g.C.BlockConsumer.step place (place + 1) _ m c.loop-place.others c.evaluate_reversed.new.values c.in-Err.refusal c.args.consumer.now c.loop-place.consumer c.evaluate_reversed.new.consumer
     (slot_starts place k a below c.requires.fits_u64) (omega (arith, below)) below (inr refl) (rw (sym is) (omega (arith, fits)))
-    (c.evaluate_reversed_oop.auto.values ∙ part_length c.loop-place.others _ _ fits ∙ is) within
+    (c.evaluate_reversed.auto.values ∙ part_length c.loop-place.others _ _ fits ∙ is) within
     (λ p t j less small inside. c.loop-place.invariant.slots.done p (t * w + j) less (row_below t j w (2 ^ k) small inside) t j small inside refl)
     (λ t j less small inside. done t j less inside
     ∙ slot_entry field g.F.TwoAdicField.generator k a w (rev k) (field.value c.args.shift) c.args.values.now c.split_at_mut-coefficients.result.0.now c.split_at_mut-coefficients.result.1.now c.split_at_mut-coefficients.ensures.value
@@ -137,11 +137,11 @@ returns-in-Err-clause-refused g c =
 pub place_of_slot-found-requires-2-clause-in_table : goal.place_of_slot-found-requires-2-clause-in_table
 place_of_slot-found-requires-2-clause-in_table g c = c.requires.tables (rev c.args.added_bits 0) (rev-lt c.args.added_bits 0)
 
-pub evaluate_reversed-requires-clause-table : goal.evaluate_reversed-requires-clause-table
-evaluate_reversed-requires-clause-table g c = (coset_read g.F.Field c.args.cosets.now c.args.log_h _ _ _ c.get-table-2.ensures c.place_of_slot-found-2.ensures).0
+pub evaluate_reversed-requires-2-clause-table : goal.evaluate_reversed-requires-2-clause-table
+evaluate_reversed-requires-2-clause-table g c = (coset_read g.F.Field c.args.cosets.now c.args.log_h _ _ _ c.get-table-2.ensures c.place_of_slot-found-2.ensures).0
 
-pub evaluate_reversed-requires-clause-rows : goal.evaluate_reversed-requires-clause-rows
-evaluate_reversed-requires-clause-rows g c = record {
+pub evaluate_reversed-requires-2-clause-rows : goal.evaluate_reversed-requires-2-clause-rows
+evaluate_reversed-requires-2-clause-rows g c = record {
   width = c.requires.width;
   fits_u64 = omega (arith, c.requires.fits_u64);
   size = c.split_at_mut-coefficients.ensures.front_len ∙ slot_size (length c.args.values.now) c.args.log_h c.args.added_bits c.args.width c.requires.fits_u64 c.requires.size;
@@ -156,9 +156,9 @@ returns-clause-values g c =
     let extended = extended_rows field g.F.TwoAdicField.generator k a w (field.value c.args.shift) c.args.values.now in
     let size = c.split_at_mut-coefficients.ensures.front_len ∙ slot_size (length c.args.values.now) k a w c.requires.fits_u64 c.requires.size in
     let roots = fewer_roots field.ring (k + a) _ c.requires.within g.met.F.TwoAdicField.roots_law in
-    MatchResult-weaker c.evaluate_reversed.result c.evaluate_reversed.ensures.lent
+    MatchResult-weaker c.evaluate_reversed-2.result c.evaluate_reversed-2.ensures.lent
     (λ _ given.
-    rows_of_slots field.value field.ZERO k a w c.evaluate_reversed.new.values c.loop-place.others extended.entry (c.evaluate_reversed.auto.values ∙ size)
+    rows_of_slots field.value field.ZERO k a w c.evaluate_reversed-2.new.values c.loop-place.others extended.entry (c.evaluate_reversed-2.auto.values ∙ size)
     (λ t j p inside.
     let whole : 0 * 2 ^ k + t ≡ t = omega arith in
     given.0 t j (omega (arith, p, blocks_whole k)) inside
@@ -177,17 +177,17 @@ returns-clause-published g c =
     let b = 2 ^ (k - mid_of k) in
     let n = 2 ^ mid_of k in
     let place = c.loop-place.place in
-    let front = c.evaluate_reversed.new.values in
+    let front = c.evaluate_reversed-2.new.values in
     let others = c.loop-place.others in
     let is = slot_size (length c.args.values.now) k a w c.requires.fits_u64 c.requires.size in
     let all = last_slot place a _ (second_shift k a c.requires.fits_u64) c.loop-place-test.false c.loop-place.auto.place-end in
     let room = others_room place a (2 ^ k * w) (length c.args.values.now) _ _ (length others) all (c.requires.size ∙ slots_whole k a w) is c.split_at_mut-coefficients.ensures.back_len c.loop-place.auto.others in
-    let whole = blocks_all place k a w b n front others (blocks_whole k) all (c.evaluate_reversed.auto.values ∙ c.split_at_mut-coefficients.ensures.front_len ∙ is) room in
-    MatchResult-weaker c.evaluate_reversed.result c.evaluate_reversed.ensures.lent
+    let whole = blocks_all place k a w b n front others (blocks_whole k) all (c.evaluate_reversed-2.auto.values ∙ c.split_at_mut-coefficients.ensures.front_len ∙ is) room in
+    MatchResult-weaker c.evaluate_reversed-2.result c.evaluate_reversed-2.ensures.lent
     (λ _ given. (
       slot_blocks (2 ^ k) b w others (place * n) ++ slot_blocks 0 b w front n,
       subst (λ xs. IsPermutation xs (slot_blocks (2 ^ k) b w others (place * n) ++ slot_blocks 0 b w front n)) whole (IsPermutation-append_comm (slot_blocks 0 b w front n) (slot_blocks (2 ^ k) b w others (place * n))),
-      run_joined g.C.BlockConsumer.step _ _ c.args.consumer.now c.loop-place.consumer c.evaluate_reversed.new.consumer c.loop-place.invariant.told given.1,
+      run_joined g.C.BlockConsumer.step _ _ c.args.consumer.now c.loop-place.consumer c.evaluate_reversed-2.new.consumer c.loop-place.invariant.told given.1,
     ))
     (λ _ _. tt)
 
@@ -203,13 +203,13 @@ returns-clause-refused g c =
     let all = last_slot place a _ (second_shift k a c.requires.fits_u64) c.loop-place-test.false c.loop-place.auto.place-end in
     let room = others_room place a (2 ^ k * w) len _ _ (length c.loop-place.others) all (c.requires.size ∙ slots_whole k a w) is c.split_at_mut-coefficients.ensures.back_len c.loop-place.auto.others in
     let roots = fewer_roots field.ring (k + a) _ c.requires.within g.met.F.TwoAdicField.roots_law in
-    MatchResult-weaker c.evaluate_reversed.result c.evaluate_reversed.ensures.lent
+    MatchResult-weaker c.evaluate_reversed-2.result c.evaluate_reversed-2.ensures.lent
     (λ _ _. tt)
     (λ refusal given.
     let (m, within, done, stopped) = given in
     refused_in_slot field.value field.ZERO k a w (2 ^ (k - mid_of k)) (2 ^ mid_of k) c.requires.width (pow_pos (k - mid_of k)) (blocks_whole k) (extended_rows field g.F.TwoAdicField.generator k a w (field.value c.args.shift) c.args.values.now) refl refl
-    g.C.BlockConsumer.step place 0 0 m c.loop-place.others c.evaluate_reversed.new.values refusal c.args.consumer.now c.loop-place.consumer c.evaluate_reversed.new.consumer
-    (omega arith) (omega (arith, all)) (pow_pos a) (inl refl) room (c.evaluate_reversed.auto.values ∙ c.split_at_mut-coefficients.ensures.front_len ∙ is) within
+    g.C.BlockConsumer.step place 0 0 m c.loop-place.others c.evaluate_reversed-2.new.values refusal c.args.consumer.now c.loop-place.consumer c.evaluate_reversed-2.new.consumer
+    (omega arith) (omega (arith, all)) (pow_pos a) (inl refl) room (c.evaluate_reversed-2.auto.values ∙ c.split_at_mut-coefficients.ensures.front_len ∙ is) within
     (λ p t j less small inside. c.loop-place.invariant.slots.done p (t * w + j) less (row_below t j w (2 ^ k) small inside) t j small inside refl)
     (λ t j less small inside. done t j less inside
     ∙ slot_entry field g.F.TwoAdicField.generator k a w (rev k) (field.value c.args.shift) c.args.values.now c.split_at_mut-coefficients.result.0.now c.split_at_mut-coefficients.result.1.now c.split_at_mut-coefficients.ensures.value
@@ -224,17 +224,17 @@ returns-clause-cost g c =
     let count = second_shift k a c.requires.fits_u64 in
     let all : c.loop-place.place + 1 ≡ 2 ^ a = omega (arith, count, pow_pos a, c.loop-place-test.false, c.loop-place.auto.place-end) in
     let e : 1 * ((c.loop-place.place + 1) * turn) ≡ 2 ^ a * turn = ap (λ n. 1 * (n * turn)) all ∙ omega arith in
-    subst (λ (n : ℕ). c.evaluate_reversed.new.products ≤ c.args.products.now + n) e
-    (count_more 1 c.loop-place.place turn _ _ _ c.loop-place.invariant.cost (omega (arith, c.evaluate_reversed.ensures.cost.cost)))
+    subst (λ (n : ℕ). c.evaluate_reversed-2.new.products ≤ c.args.products.now + n) e
+    (count_more 1 c.loop-place.place turn _ _ _ c.loop-place.invariant.cost (omega (arith, c.evaluate_reversed-2.ensures.cost.cost)))
 
 pub returns-in-Err-clause-grows : goal.returns-in-Err-clause-grows
-returns-in-Err-clause-grows g c = le_trans c.loop-place.invariant.grows c.evaluate_reversed_oop.ensures.cost.grows
+returns-in-Err-clause-grows g c = le_trans c.loop-place.invariant.grows c.evaluate_reversed.ensures.cost.grows
 
 pub returns-clause-grows : goal.returns-clause-grows
-returns-clause-grows g c = le_trans c.loop-place.invariant.grows c.evaluate_reversed.ensures.cost.grows
+returns-clause-grows g c = le_trans c.loop-place.invariant.grows c.evaluate_reversed-2.ensures.cost.grows
 
-pub evaluate_reversed-requires-clause-numbers : goal.evaluate_reversed-requires-clause-numbers
-evaluate_reversed-requires-clause-numbers g c = first_ends c.args.log_h c.args.added_bits c.requires.fits_u64
+pub evaluate_reversed-requires-2-clause-numbers : goal.evaluate_reversed-requires-2-clause-numbers
+evaluate_reversed-requires-2-clause-numbers g c = first_ends c.args.log_h c.args.added_bits c.requires.fits_u64
 
 pub returns-in-Err-clause-values : goal.returns-in-Err-clause-values
 returns-in-Err-clause-values g c = tt

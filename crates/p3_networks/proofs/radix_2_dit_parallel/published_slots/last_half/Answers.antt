@@ -1,4 +1,4 @@
-use Rattle.std.proofs.Common.{◌≡◌, ℕ, suc, ◌+◌, ◌*◌, ◌-◌, ◌/◌, ◌^◌, ◌<◌, ◌≤◌, Bool, List, length, get_or, refl, sym, ap, ap₂, ◌∙◌, subst, arith, rules}
+use Rattle.std.proofs.Common.{◌≡◌, ℕ, suc, ◌+◌, ◌*◌, ◌-◌, ◌/◌, ◌^◌, ◌<◌, ◌≤◌, List, length, get_or, refl, sym, ap, ap₂, ◌∙◌, subst, arith, rules}
 use borrow.Author.Rules.{scaled_fits≤}
 use borrow.Rule.Slice.PartMut.{put_mid}
 use Rattle.std.specs.List.{between}
@@ -47,11 +47,11 @@ chunk_sizes : (mid left w n len : ℕ) → AreRows (mid + left) w n → len ≡ 
 chunk_sizes mid left w n len rows same = shifted_sizes mid (mid + left) left w len (omega (arith, rows.fits_u64)) refl (same ∙ rows.size)
 
 -- the first n chunks of reversed rows, told from the rows as they were
-second_done : {F : Type 0} (field : FieldMembers F) (mid left w n size : ℕ) (by_layer : Bool) (twiddles values reversed after : List F) → n ≤ 2 ^ mid → size ≡ 2 ^ left * w
+second_done : {F : Type 0} (field : FieldMembers F) (mid left w n size : ℕ) (at : ℕ → ℕ → F) (values reversed after : List F) → n ≤ 2 ^ mid → size ≡ 2 ^ left * w
     → ((r j : ℕ) → r < 2 ^ (mid + left) → j < w → get_or reversed (r * w + j) field.ZERO ≡ get_or values (rev (mid + left) r * w + j) field.ZERO)
-    → ChunksDone field.ZERO size (λ a before. IsHighNetwork field mid left w a by_layer twiddles (λ q j. field.ring.mul (field.value (get_or before (q * w + j) field.ZERO)) field.ring.one)) reversed n after
-    → IsHighHalf field n mid left w by_layer twiddles (λ a q j. field.value (get_or values ((rev left q * 2 ^ mid + rev mid a) * w + j) field.ZERO)) after
-second_done field mid left w n size by_layer twiddles values reversed after few size_is turned done root s roots table a t j p q l =
+    → ChunksDone field.ZERO size (λ a before. IsHighNetwork field mid left w a at (λ q j. field.ring.mul (field.value (get_or before (q * w + j) field.ZERO)) field.ring.one)) reversed n after
+    → IsHighHalf field n mid left w at (λ a q j. field.value (get_or values ((rev left q * 2 ^ mid + rev mid a) * w + j) field.ZERO)) after
+second_done field mid left w n size at values reversed after few size_is turned done root s roots table a t j p q l =
     let all : 2 ^ (mid + left) ≡ 2 ^ mid * 2 ^ left = pow-add 2 mid left in
     let outer : a < 2 ^ mid = omega (arith, p, few) in
     let x = point field.ring root left (point field.ring root (mid + left) s (rev mid a)) (rev left t) in
@@ -141,7 +141,7 @@ returns-in-Err-clause-lent g c =
     let below : chunk < 2 ^ mid = omega (arith, first_shift mid left c.requires.rows.fits_u64, c.loop-chunk-test.true) in (
       chunk,
       below,
-      second_done g.F.Field mid left w (chunk + 1) size c.args.table.by_layer c.args.table.twiddles.now c.args.values.now c.reverse_chunks.new.values _ (omega (arith, below)) sizes.size_is (c.reverse_chunks.ensures g.F.Field.ZERO) chunks,
+      second_done g.F.Field mid left w (chunk + 1) size (g.T.LayerTwiddles.at c.args.table) c.args.values.now c.reverse_chunks.new.values _ (omega (arith, below)) sizes.size_is (c.reverse_chunks.ensures g.F.Field.ZERO) chunks,
       record {
         middle = c.loop-chunk.consumer;
         run = earlier;
@@ -165,9 +165,9 @@ returns-clause-lent g c =
     let left = c.args.left in
     let sizes = chunk_sizes c.args.mid c.args.left c.args.width (length c.args.values.now) (length c.reverse_chunks.new.values) c.requires.rows c.reverse_chunks.auto.values in
     let all : c.loop-chunk.chunk ≡ 2 ^ mid = omega (arith, first_shift c.args.mid c.args.left c.requires.rows.fits_u64, c.loop-chunk-test.false, c.loop-chunk.auto.chunk-end) in
-    subst (λ n. IsHighHalf g.F.Field n mid left c.args.width c.args.table.by_layer c.args.table.twiddles.now (λ a q j. g.F.Field.value (get_or c.args.values.now ((rev left q * 2 ^ mid + rev mid a) * c.args.width + j) g.F.Field.ZERO)) c.loop-chunk.values
+    subst (λ n. IsHighHalf g.F.Field n mid left c.args.width (g.T.LayerTwiddles.at c.args.table) (λ a q j. g.F.Field.value (get_or c.args.values.now ((rev left q * 2 ^ mid + rev mid a) * c.args.width + j) g.F.Field.ZERO)) c.loop-chunk.values
     × Run g.C.BlockConsumer.step c.args.consumer.now (slot_blocks c.args.first_row (2 ^ left) c.args.width c.loop-chunk.values n) c.loop-chunk.consumer) all (
-      second_done g.F.Field mid left c.args.width c.loop-chunk.chunk _ c.args.table.by_layer c.args.table.twiddles.now c.args.values.now c.reverse_chunks.new.values c.loop-chunk.values (omega (arith, all)) sizes.size_is (c.reverse_chunks.ensures g.F.Field.ZERO) c.loop-chunk.invariant.chunks,
+      second_done g.F.Field mid left c.args.width c.loop-chunk.chunk _ (g.T.LayerTwiddles.at c.args.table) c.args.values.now c.reverse_chunks.new.values c.loop-chunk.values (omega (arith, all)) sizes.size_is (c.reverse_chunks.ensures g.F.Field.ZERO) c.loop-chunk.invariant.chunks,
       c.loop-chunk.invariant.told,
     )
 

@@ -2,7 +2,7 @@ use Rattle.std.proofs.Common.{◌≡◌, ◌+◌, ◌-◌, ◌^◌, ap, ◌∙�
 use Rattle.p3_field.proofs.Roots.{inverse_roots}
 use Rattle.p3_networks.specs.Twiddles.{AreTwiddles, backward_root, block_powers, forward_root}
 use Rattle.p3_networks.proofs.Layers.Counts.{half_power}
-use Rattle.p3_networks.proofs.Tables.FromStart.{from_start, powers_from_one}
+use Rattle.p3_networks.proofs.Tables.FromStart.{first_entries, powers_from_one}
 use Rattle.p3_networks.proofs.root_tables.RootTables.make.Goals as goal
 
 pub inverse_powers-requires-clause-powers : goal.inverse_powers-requires-clause-powers
@@ -22,10 +22,10 @@ invariant_of-self g c =
     let half = half_power c.args.log_h (λ e. absurd (omega (arith, e, whole))) in (
       c.in_ok-forward.ensures.powers.size ∙ sym half,
       c.in_ok-backward.ensures.powers.size ∙ sym half,
-      from_start field (forward_root field g.F.TwoAdicField.generator) g.met.F.TwoAdicField.roots_law c.args.log_h c.in_ok-forward.forward.items c.requires.within
+      first_entries field (forward_root field g.F.TwoAdicField.generator) g.met.F.TwoAdicField.roots_law c.args.log_h c.in_ok-forward.forward.items c.requires.within
           (powers_from_one field (forward_root field g.F.TwoAdicField.generator) n (field.value c.ONE.result) (field.value c.two_adic_generator-generator.result) c.in_ok-forward.forward.items
           (ap field.value c.ONE.ensures ∙ g.met.F.Field.one_law) (c.two_adic_generator-generator.ensures ∙ ap (λ k. field.value (g.F.TwoAdicField.generator k)) whole) c.in_ok-forward.ensures.powers),
-      from_start field (backward_root field g.F.TwoAdicField.generator) (inverse_roots field.ring g.met.F.TwoAdicField.roots_law) c.args.log_h c.in_ok-backward.backward.items c.requires.within
+      first_entries field (backward_root field g.F.TwoAdicField.generator) (inverse_roots field.ring g.met.F.TwoAdicField.roots_law) c.args.log_h c.in_ok-backward.backward.items c.requires.within
           c.in_ok-backward.ensures.powers,
     )
 
