@@ -20,12 +20,12 @@ use p3_matrix::{
     BitReversedMatrixView, DftError, Evaluations, IntoRowMajorMatrix, RowMajorMatrix,
     log2_strict_usize, reverse_rows,
 };
-use p3_networks::radix_2_small_batch::groups::{MAX_TILE, TILE, Tiling, log_tile_rows, piece_size};
-use p3_networks::radix_2_small_batch::networks::{
-    WeightedRows, dif_network, dit_network_to_reversed, extending_network, scaled_dif_network,
-};
+use p3_networks::groups::{MAX_TILE, TILE, Tiling, log_tile_rows, piece_size};
 use p3_networks::radix_2_small_batch::slots::slots_network;
 use p3_networks::root_tables::RootTables;
+use p3_networks::tiles::{
+    WeightedRows, dif_network, dit_network_to_reversed, extending_network, scaled_dif_network,
+};
 use p3_networks::twiddles::reversed_powers;
 use std::alloc::{AllocError, Global};
 use std::marker::Model;

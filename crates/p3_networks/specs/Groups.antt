@@ -2,8 +2,8 @@
 use Rattle.std.specs.Prelude.{◌≡◌, ◌⊎◌, ℕ, ◌+◌, ◌-◌, ◌*◌, ◌^◌, ◌<◌, ◌≤◌, List, length, get_or}
 use Rattle.p3_field.specs.declared.fields.Field.{Ghosts as FieldMembers}
 use Rattle.p3_networks.specs.Layers.{AreLayers, HoldsCells}
-use Rattle.p3_networks.specs.declared.radix_2_small_batch.groups.Order.{Order}
-use Rattle.p3_networks.specs.declared.radix_2_small_batch.groups.Order.TheVariants.{LargestFirst, SmallestFirst}
+use Rattle.p3_networks.specs.declared.groups.Order.{Order}
+use Rattle.p3_networks.specs.declared.groups.Order.TheVariants.{LargestFirst, SmallestFirst}
 
 -- groups of three of the layers from r up to k, counted from the largest blocks: group g ends at k - 3 * g, and at r where less than that is left
 abbrev pub group_end : ℕ → ℕ → ℕ → ℕ

@@ -7,11 +7,15 @@
 
 mod butterfly_layers;
 mod chunks;
+pub mod groups;
+pub mod halves;
 pub mod layouts;
+mod pairs;
 pub mod radix_2_bowers;
 pub mod radix_2_dit;
 pub mod radix_2_dit_parallel;
 pub mod radix_2_small_batch;
 pub mod root_tables;
 pub mod shifts;
+pub mod tiles;
 pub mod twiddles;

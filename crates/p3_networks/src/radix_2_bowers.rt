@@ -7,8 +7,8 @@ ghost use Rattle.p3_matrix.specs.BitOrder.{rev};
 ghost use Rattle.p3_networks.specs.Layers.{AreValuesOfRows};
 ghost use Rattle.p3_networks.specs.Twiddles.{AreTwiddles};
 
-use crate::radix_2_small_batch::groups::{TILE, log_tile_rows, piece_size};
-use crate::radix_2_small_batch::networks::{dif_network, dit_network_to_reversed};
+use crate::groups::{TILE, log_tile_rows, piece_size};
+use crate::tiles::{dif_network, dit_network_to_reversed};
 use p3_field::{Products, TwoAdicField};
 
 /// Network G, from rows in bit reversed order to their values at the powers of the generator, in natural

@@ -6,8 +6,8 @@ ghost use Rattle.p3_matrix.specs.BitOrder.{rev};
 ghost use Rattle.p3_networks.specs.Layers.{AreValuesOfRows};
 ghost use Rattle.p3_networks.specs.Twiddles.{root_powers};
 
+use crate::halves::{first_half, one_low_layer};
 use crate::layouts::LayerTwiddles;
-use crate::radix_2_dit_parallel::halves::{first_half, one_low_layer};
 use p3_field::{Products, TwoAdicField};
 
 // Rows of at most so many elements are taken to stay in the second cache of a core, and go layer after

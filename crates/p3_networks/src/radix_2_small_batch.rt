@@ -1,6 +1,3 @@
-//! The networks that go tile by tile.
+//! The slots of the engine's extensions.
 
-pub mod groups;
-pub mod networks;
-mod pairs;
 pub mod slots;

@@ -11,8 +11,8 @@ ghost use Rattle.p3_dft.specs.Stored.{HasEntriesOf, HasTwoPowerRows};
 
 use p3_field::{Products, TwoAdicField};
 use p3_matrix::{RowMajorMatrix, reverse_rows};
+use p3_networks::halves::{first_half, second_half};
 use p3_networks::layouts::LayerTwiddles;
-use p3_networks::radix_2_dit_parallel::halves::{first_half, second_half};
 
 // From coefficients in natural order, their values on a coset, in bit reversed order. The first half has
 // `mid` layers and the second `left`. With a scale, the values are multiplied by it.

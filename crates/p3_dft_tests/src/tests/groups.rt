@@ -2,7 +2,7 @@
 
 ghost use Rattle.std.specs.Prelude.{◌≤◌};
 
-use p3_networks::radix_2_small_batch::groups::{group_end, groups, log_tile_rows, piece_size};
+use p3_networks::groups::{group_end, groups, log_tile_rows, piece_size};
 use std::process::Abort;
 
 // How many layers each group has, from the largest blocks on, at height 64 and width 3.

@@ -6,8 +6,8 @@ use Rattle.std.proofs.lemmas.Nat.{div-add-mod', div_below, mod_below, one_shl, p
 use Rattle.p3_matrix.proofs.TwoPowers.{log_lt}
 use Rattle.p3_networks.specs.Groups.{AreLayersInOrder, HoldsColumns, TakesColumns, cells_of, layer_of, group_end, group_of}
 use Rattle.p3_networks.specs.Layers.{HoldsCells, IsLayer}
-use Rattle.p3_networks.specs.declared.radix_2_small_batch.groups.Order.{Order}
-use Rattle.p3_networks.specs.declared.radix_2_small_batch.groups.Order.TheVariants.{LargestFirst, SmallestFirst}
+use Rattle.p3_networks.specs.declared.groups.Order.{Order}
+use Rattle.p3_networks.specs.declared.groups.Order.TheVariants.{LargestFirst, SmallestFirst}
 use Rattle.p3_networks.proofs.Layers.Blocks.{halves_whole, row_below}
 use Rattle.p3_networks.proofs.Layers.Chunks.{chunk_sizes}
 use Rattle.p3_networks.proofs.Layers.Shifts.{one_shifted}

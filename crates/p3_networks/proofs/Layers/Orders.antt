@@ -2,8 +2,8 @@
 use Rattle.std.proofs.Common.{◌≡◌, ℕ, ◌+◌, ◌*◌, ◌-◌, ◌<◌, ◌≤◌, ◌^◌, List, length, sym, subst, arith}
 use Rattle.p3_networks.specs.Groups.{TakesCells, cells_of, layer_of}
 use Rattle.p3_networks.specs.Layers.{AreLayers, HoldsCells}
-use Rattle.p3_networks.specs.declared.radix_2_small_batch.groups.Order.{Order}
-use Rattle.p3_networks.specs.declared.radix_2_small_batch.groups.Order.TheVariants.{LargestFirst, SmallestFirst}
+use Rattle.p3_networks.specs.declared.groups.Order.{Order}
+use Rattle.p3_networks.specs.declared.groups.Order.TheVariants.{LargestFirst, SmallestFirst}
 use Rattle.p3_networks.proofs.Layers.Chunks.{held_as_long}
 
 module _ {T A : Type 0} (value : T → A) (d : T) (w top number : ℕ) (near far : ℕ → A → A → A) where

@@ -5,7 +5,7 @@ use Rattle.std.proofs.lemmas.Nat.{one_shl, pow-add, pow_pos, div-add-mod', div_b
 use Rattle.p3_networks.specs.Chunks.{chunk_of}
 use Rattle.p3_networks.specs.Groups.{AreLayersInOrder, TakesCells}
 use Rattle.p3_networks.specs.Layers.{HoldsCells}
-use Rattle.p3_networks.specs.declared.radix_2_small_batch.groups.Order.{Order}
+use Rattle.p3_networks.specs.declared.groups.Order.{Order}
 use Rattle.p3_networks.proofs.Layers.Halves.{block_room, block_size}
 use Rattle.p3_networks.proofs.Rows.EachChunk.{cells_of_chunks}
 use Rattle.p3_networks.proofs.Layers.Shifts.{one_shifted}

@@ -16,9 +16,9 @@ ghost use Rattle.p3_networks.specs.Slots.{HasRowsOnCoset, LentInBlocks, extended
 ghost use Rattle.p3_networks.specs.Twiddles.{HasCoset, HasCosets, IsCosetAt, factor, forward_root, mid_of, scale_cost};
 
 use crate::chunks::ChunkWork;
+use crate::halves::{HighLayers, first_half};
 use crate::layouts::{ByLayer, LayerTwiddles};
 use crate::radix_2_dit_parallel::coset_tables::{CosetTable, CosetTables, slot_shift};
-use crate::radix_2_dit_parallel::halves::{HighLayers, first_half};
 use p3_field::{Field, Products, TwoAdicField};
 use p3_matrix::bitrev::reverse_chunks;
 use p3_matrix::{BlockConsumer, RowMajorMatrixView};

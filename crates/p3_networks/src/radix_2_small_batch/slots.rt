@@ -9,9 +9,9 @@ ghost use Rattle.p3_networks.specs.Layers.{AreValuesOfRows};
 ghost use Rattle.p3_matrix.specs.Polynomials.{poly};
 ghost use Rattle.p3_networks.specs.Twiddles.{AreTwiddlesFromStart, block_powers, forward_root};
 
-use crate::radix_2_small_batch::groups::Tiling;
-use crate::radix_2_small_batch::networks::dit_network_to_reversed;
+use crate::groups::Tiling;
 use crate::shifts::{copy_shifted, shift_values};
+use crate::tiles::dit_network_to_reversed;
 use p3_field::{Products, TwoAdicField};
 use p3_matrix::reverse_bits_len;
 

@@ -1,0 +1,81 @@
+use Rattle.std.proofs.Common.{◌≡◌, ℕ, ◌+◌, ◌*◌, ◌-◌, ◌<◌, ◌≤◌, ◌⊎◌, length, get_or, ap, ap₂, ◌∙◌, arith, inl, inr, ⊎_elim}
+use Rattle.std.proofs.Math.Nat.{le_refl}
+use Rattle.p3_networks.proofs.Layers.Counts.{count_more, count_none, at_end}
+use Rattle.p3_networks.proofs.Layers.Halves.{block_room}
+use Rattle.p3_matrix.proofs.Rows.Overwritten.{rows-next, rows-all, rows-none}
+use Rattle.p3_networks.proofs.groups.Columns.on_halves.Goals as goal
+
+pub overflow_mul-start : goal.overflow_mul-start
+overflow_mul-start g c = omega (arith, block_room c.loop-t.t c.args.self.now.half c.args.self.now.part (length c.args.low.now) c.loop-t-test.true c.requires.low)
+
+pub overflow_add-start : goal.overflow_add-start
+overflow_add-start g c = omega (arith, block_room c.loop-t.t c.args.self.now.half c.args.self.now.part (length c.args.low.now) c.loop-t-test.true c.requires.low, c.requires.ordered, c.requires.inside)
+
+pub overflow_add-start-in-loop-t : goal.overflow_add-start-in-loop-t
+overflow_add-start-in-loop-t g c = omega (arith, block_room c.loop-t.t c.args.self.now.half c.args.self.now.part (length c.args.low.now) c.loop-t-test.true c.requires.low, c.requires.inside)
+
+pub meet_ranges-requires-clause-room : goal.meet_ranges-requires-clause-room
+meet_ranges-requires-clause-room g c = omega (arith, block_room c.loop-t.t c.args.self.now.half c.args.self.now.part (length c.args.low.now) c.loop-t-test.true c.requires.low, c.requires.inside, c.loop-t.auto.low)
+
+pub meet_ranges-requires-clause-size : goal.meet_ranges-requires-clause-size
+meet_ranges-requires-clause-size g c = omega (arith, c.loop-t.auto.low, c.loop-t.auto.high, c.requires.low, c.requires.high)
+
+-- columns outside of those that meet, in their row
+outside_of : (t part at end j : ℕ) → (j < at) ⊎ (end ≤ j) → (t * part + j < t * part + at) ⊎ (t * part + end ≤ t * part + j)
+outside_of t part at end j outside = ⊎_elim (λ before. inl (omega (arith, before))) (λ after. inr (omega (arith, after))) outside
+
+pub loop-t-preserved : goal.loop-t-preserved
+loop-t-preserved g c =
+    let field = g.F.Field in
+    let rule = g.R.Rule in
+    let zero = field.ZERO in
+    let t = c.loop-t.t in
+    let part = c.args.self.now.part in
+    let at = c.args.self.now.at in
+    let end = c.args.self.now.end in
+    let met = c.meet_ranges in
+    let low : (j : ℕ) → get_or c.loop-t.low (t * part + j) zero ≡ get_or c.args.low.now (t * part + j) zero = λ j. c.loop-t.invariant.near.rest (t * part + j) (omega arith) in
+    let high : (j : ℕ) → get_or c.loop-t.high (t * part + j) zero ≡ get_or c.args.high.now (t * part + j) zero = λ j. c.loop-t.invariant.far.rest (t * part + j) (omega arith) in
+    let other_rows : (n : ℕ) → (n < t * part) ⊎ (t * part + part ≤ n) → (n < t * part + at) ⊎ (t * part + end ≤ n) =
+    λ n. ⊎_elim (λ before. inl (omega (arith, before))) (λ after. inr (omega (arith, after, c.requires.inside))) in
+    record {
+      near = rows-next zero part _ c.args.low.now c.loop-t.low met.new.low t met.auto.low (λ n o. met.ensures.low_stays n (other_rows n o))
+          (λ j inside. record {
+            inside = λ first last.
+                met.ensures.near (t * part + j) (omega (arith, first)) (omega (arith, last))
+                ∙ ap₂ (rule.near field.Element field.ring field.value c.args.self.now.rule c.args.block 0) (ap field.value (low j)) (ap field.value (high j));
+            outside = λ o. met.ensures.low_stays (t * part + j) (outside_of t part at end j o) ∙ low j;
+          }) c.loop-t.invariant.near;
+      far = rows-next zero part _ c.args.high.now c.loop-t.high met.new.high t met.auto.high (λ n o. met.ensures.high_stays n (other_rows n o))
+          (λ j inside. record {
+            inside = λ first last.
+                met.ensures.far (t * part + j) (omega (arith, first)) (omega (arith, last))
+                ∙ ap₂ (rule.far field.Element field.ring field.value c.args.self.now.rule c.args.block 0) (ap field.value (low j)) (ap field.value (high j));
+            outside = λ o. met.ensures.high_stays (t * part + j) (outside_of t part at end j o) ∙ high j;
+          }) c.loop-t.invariant.far;
+      grows = omega (arith, met.ensures.grows, c.loop-t.invariant.grows);
+      cost = let size : t * part + end - (t * part + at) ≡ end - at = omega arith in count_more rule.cost t (end - at) _ _ _ c.loop-t.invariant.cost (rw size at met.ensures.cost);
+    }
+
+pub loop-t-init : goal.loop-t-init
+loop-t-init g c = record {
+  near = rows-none g.F.Field.ZERO c.args.self.now.part _ c.args.low.now;
+  far = rows-none g.F.Field.ZERO c.args.self.now.part _ c.args.high.now;
+  grows = le_refl c.args.products.now;
+  cost = count_none g.R.Rule.cost (c.args.self.now.end - c.args.self.now.at) c.args.products.now;
+}
+
+pub returns-clause-near : goal.returns-clause-near
+returns-clause-near g c t j p q = (rows-all g.F.Field.ZERO c.args.self.now.part _ c.args.low.now c.loop-t.low c.loop-t.t c.args.self.now.half c.loop-t-test.false c.loop-t.invariant.near t j p q).inside
+
+pub returns-clause-far : goal.returns-clause-far
+returns-clause-far g c t j p q = (rows-all g.F.Field.ZERO c.args.self.now.part _ c.args.high.now c.loop-t.high c.loop-t.t c.args.self.now.half c.loop-t-test.false c.loop-t.invariant.far t j p q).inside
+
+pub returns-clause-kept : goal.returns-clause-kept
+returns-clause-kept g c t j p q other = (
+  (rows-all g.F.Field.ZERO c.args.self.now.part _ c.args.low.now c.loop-t.low c.loop-t.t c.args.self.now.half c.loop-t-test.false c.loop-t.invariant.near t j p q).outside other,
+  (rows-all g.F.Field.ZERO c.args.self.now.part _ c.args.high.now c.loop-t.high c.loop-t.t c.args.self.now.half c.loop-t-test.false c.loop-t.invariant.far t j p q).outside other,
+)
+
+pub returns-clause-cost : goal.returns-clause-cost
+returns-clause-cost g c = at_end (λ n. c.loop-t.products ≤ c.args.products.now + g.R.Rule.cost * (n * (c.args.self.now.end - c.args.self.now.at))) c.loop-t.t c.args.self.now.half c.loop-t.auto.t-end c.loop-t-test.false c.loop-t.invariant.cost

@@ -1,0 +1,28 @@
+use Rattle.std.proofs.Common.{◌≡◌, ℕ, ◌+◌, ◌*◌, ◌-◌, ◌≤◌, length, refl, subst, arith}
+use Rattle.p3_networks.proofs.Layers.Columns.{blocks_of_columns}
+use Rattle.p3_networks.proofs.Layers.Counts.{turns_halved}
+use Rattle.p3_networks.proofs.Layers.Halves.{block_room}
+use Rattle.p3_networks.proofs.groups.layer_of_columns.Goals as goal
+
+pub overflow_mul-size : goal.overflow_mul-size
+overflow_mul-size g c = omega (arith, block_room 0 c.args.blocks (2 * (c.args.meet.half * c.args.meet.part)) (length c.args.values.now) c.requires.blocks c.requires.size)
+
+pub overflow_mul-size-2 : goal.overflow_mul-size-2
+overflow_mul-size-2 g c = omega (arith, block_room 0 c.args.blocks (2 * (c.args.meet.half * c.args.meet.part)) (length c.args.values.now) c.requires.blocks c.requires.size)
+
+pub on_each_chunk-requires : goal.on_each_chunk-requires
+on_each_chunk-requires g c = record { whole = c.requires.size; accepts = λ n below. (c.requires.ordered, (c.requires.inside, (omega (arith, below, c.requires.numbers), (refl, c.requires.in_table n below)))) }
+
+pub returns-clause-cells : goal.returns-clause-cells
+returns-clause-cells g c all before after layer within holds =
+    let field = g.F.Field in
+    let rule = g.R.Rule in
+    blocks_of_columns field.value field.ZERO c.args.meet.part c.args.meet.half c.args.meet.at c.args.meet.end (λ (n : ℕ). rule.near field.Element field.ring field.value c.args.meet.rule n 0) (λ (n : ℕ). rule.far field.Element field.ring field.value c.args.meet.rule n 0)
+    all c.args.meet.first_block c.args.blocks before after c.args.values.now c.on_each_chunk.new.values layer within holds c.on_each_chunk.ensures.chunks
+
+pub returns-clause-cost : goal.returns-clause-cost
+returns-clause-cost g c =
+    let cost = g.R.Rule.cost in
+    let size = c.args.meet.half * (c.args.meet.end - c.args.meet.at) in
+    let swap : c.args.blocks * (cost * size) ≡ cost * (c.args.blocks * size) = omega arith in
+    subst (λ n. c.on_each_chunk.new.products ≤ c.args.products.now + n) swap (turns_halved _ c.args.blocks (cost * size) _ _ refl c.on_each_chunk.ensures.cost)

@@ -1,0 +1,48 @@
+use Rattle.std.specs.Borrow.{Bor}
+use Rattle.std.proofs.Common.{◌≡◌, ℕ, ◌<◌, ◌+◌, ◌*◌, ◌-◌, ◌/◌, ◌^◌, List, length, get_or, Option, Some, None, refl, ap, ◌∙◌, arith}
+use Rattle.std.proofs.lemmas.Option.{IfSome_then}
+use Rattle.p3_matrix.specs.BitOrder.{rev}
+use Rattle.p3_matrix.specs.Cosets.{point}
+use Rattle.p3_matrix.specs.Polynomials.{poly}
+use Rattle.p3_matrix.proofs.BitReversal.{rev-lt}
+use Rattle.p3_matrix.proofs.Rows.Overwritten.{part_size}
+use Rattle.p3_networks.specs.Chunks.{chunk_of, chunk_of_source, source_of}
+use Rattle.p3_networks.specs.Layers.{AreRows}
+use Rattle.p3_networks.proofs.Layers.Counts.{turns_halved}
+use Rattle.p3_networks.proofs.Layers.Halves.{block_room}
+use Rattle.p3_networks.proofs.Layers.Shifts.{one_shifted}
+use Rattle.p3_networks.proofs.Layers.Tiles.{tile_sizes}
+use Rattle.p3_networks.proofs.Rows.EachChunk.{row_taken}
+use Rattle.p3_networks.proofs.halves.first_half.Goals as goal
+
+-- a chunk of the source is one of what work begins with
+source_chunk : {T : Type 0} (source : Option (Bor (List T))) (values : List T) (size n : ℕ) → length (chunk_of size n values) ≡ size → chunk_of_source source n (chunk_of size n values) ≡ chunk_of size n (source_of source values)
+source_chunk None values size n long = refl
+source_chunk (Some source) values size n long = ap (λ k. chunk_of k n source.now) long
+
+pub on_each_chunk-requires : goal.on_each_chunk-requires
+on_each_chunk-requires g c =
+    let sizes = tile_sizes c.args.log_h c.args.mid c.args.width (length c.args.values.now) c.requires.rows.fits_u64 c.requires.parts c.requires.rows.size in
+    record {
+      whole = sizes.whole;
+      accepts = λ n below.
+          let rows : AreRows c.args.mid c.args.width (length c.args.values.now / one_shifted (c.args.log_h - c.args.mid)) = record { width = c.requires.rows.width; fits_u64 = omega (arith, c.requires.rows.fits_u64, c.requires.parts); size = sizes.size_is } in
+          (rows, c.requires.table, IfSome_then c.args.source c.requires.source (λ source is. block_room n _ _ (length source.now) below (is ∙ sizes.whole)));
+    }
+
+pub returns-clause-values : goal.returns-clause-values
+returns-clause-values g c root s roots table a t j below inside column =
+    let field = g.F.Field in
+    let mid = c.args.mid in
+    let sizes = tile_sizes c.args.log_h mid c.args.width (length c.args.values.now) c.requires.rows.fits_u64 c.requires.parts c.requires.rows.size in
+    let chunk : a < one_shifted (c.args.log_h - mid) = omega (arith, below, sizes.tiles_is) in
+    let x = point field.ring root mid s t in
+    row_taken field.ZERO _ field.ring field.value field.value (2 ^ mid) c.args.width (rev mid) _ a t j x (source_of c.args.source c.args.values.now) c.on_each_chunk.new.values sizes.size_is refl (λ q l. rev-lt mid q) inside column
+    (c.on_each_chunk.ensures.chunks a chunk root s roots table t j inside column
+    ∙ ap (λ xs. poly field.ring (2 ^ mid) (λ q. field.value (get_or xs (rev mid q * c.args.width + j) field.ZERO)) x)
+    (source_chunk c.args.source c.args.values.now _ a (part_size c.args.values.now _ _ (block_room a _ _ _ chunk sizes.whole))))
+
+pub returns-clause-cost : goal.returns-clause-cost
+returns-clause-cost g c =
+    let sizes = tile_sizes c.args.log_h c.args.mid c.args.width (length c.args.values.now) c.requires.rows.fits_u64 c.requires.parts c.requires.rows.size in
+    record { grows = c.on_each_chunk.ensures.grows; cost = turns_halved _ _ (c.args.width * (c.args.mid * 2 ^ c.args.mid / 2)) _ _ sizes.tiles_is c.on_each_chunk.ensures.cost }

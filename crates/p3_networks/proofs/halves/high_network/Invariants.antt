@@ -1,0 +1,23 @@
+use Rattle.std.proofs.Common.{◌≡◌, ℕ, ◌+◌, ◌*◌, ◌-◌, ◌^◌, ◌<◌, ◌≤◌, get_or}
+use Rattle.p3_field.specs.Ring.{AreRoots}
+use Rattle.p3_matrix.specs.BitOrder.{rev}
+use Rattle.p3_matrix.specs.Cosets.{point}
+use Rattle.p3_networks.specs.Halves.{AreHighTwiddles}
+use Rattle.p3_networks.specs.Twiddles.{factor, scale_cost}
+use Rattle.p3_networks.proofs.Networks.HighRows.{high_row}
+use Rattle.p3_networks.proofs.halves.high_network.Given as goal
+
+abbrev pub invariant-loop-done : goal.invariant-loop-done
+invariant-loop-done g l =
+    let field = g.F.Field in
+    let k = l.fn.left in
+    let w = l.fn.width in
+    record {
+      rows : (root : ℕ → field.Element) (s : field.Element) → AreRoots field.ring (l.fn.mid + k) root
+          → AreHighTwiddles field root s l.fn.mid (l.fn.mid + k) (g.T.LayerTwiddles.at l.fn.table)
+          → (j r : ℕ) → j < w → r < 2 ^ k → field.value (get_or l.values (r * w + j) field.ZERO)
+          ≡ high_row field.ring root (point field.ring root (l.fn.mid + k) s (rev l.fn.mid l.fn.chunk)) l.done (k - l.done)
+          (λ q. field.ring.mul (field.value (get_or l.fn.values (q * w + j) field.ZERO)) (factor field l.fn.scale)) r;
+      grows : l.fn.products ≤ l.products;
+      cost : l.products ≤ l.fn.products + scale_cost l.fn.scale * (2 ^ k * w) + 1 * (l.done * (2 ^ (k - 1) * w));
+    }

@@ -1,0 +1,61 @@
+use Rattle.std.proofs.Common.{◌≡◌, ◌+◌, ◌*◌, ◌-◌, ◌≤◌, length, get_or, map, sym, ap, ◌∙◌, arith, rules, add-one}
+use borrow.Author.Rules.{scaled_fits≤}
+use Rattle.std.proofs.lemmas.List.{length-map}
+use Rattle.std.proofs.Math.Nat.{suc-mul, mul-le-mul_right}
+use Rattle.p3_field.specs.Ring.{power}
+use Rattle.p3_field.proofs.Powers.{power-zero, power-more}
+use Rattle.p3_networks.proofs.Layers.Halves.{block_room}
+use Rattle.p3_matrix.proofs.Rows.Overwritten.{rows-none, rows-more, value_at}
+use Rattle.p3_networks.proofs.tiles.multiples_one_by_one.Goals as goal
+
+pub overflow_mul-start : goal.overflow_mul-start
+overflow_mul-start g c = omega (arith, block_room c.loop-t.t c.args.count (length c.args.row.now) (length c.args.values.now) c.loop-t-test.true c.requires)
+
+pub overflow_add-multiple : goal.overflow_add-multiple
+overflow_add-multiple g c = omega (arith, block_room c.loop-t.t c.args.count (length c.args.row.now) (length c.args.values.now) c.loop-t-test.true c.requires)
+
+pub offset_bounds-values-start : goal.offset_bounds-values-start
+offset_bounds-values-start g c =
+    let room = block_room c.loop-t.t c.args.count (length c.args.row.now) (length c.args.values.now) c.loop-t-test.true c.requires in
+    let below : c.loop-t.t * length c.args.row.now ≤ length c.args.values.now = omega (arith, room) in
+    scaled_fits≤ _ _ _ below (search rules)
+
+pub slice_bounds-multiple-end : goal.slice_bounds-multiple-end
+slice_bounds-multiple-end g c = omega (arith, block_room c.loop-t.t c.args.count (length c.args.row.now) (length c.args.values.now) c.loop-t-test.true c.requires, c.loop-t.auto.values)
+
+pub loop-t-init : goal.loop-t-init
+loop-t-init g c =
+    let field = g.F.Field in
+    record {
+      factor = sym (ap (field.ring.mul (field.value c.args.first)) (power-zero field.ring (field.value c.args.step)) ∙ field.ring.mul_one (field.value c.args.first));
+      values = rows-none field.ZERO _ _ _;
+      count = omega arith;
+    }
+
+pub loop-t-preserved : goal.loop-t-preserved
+loop-t-preserved g c =
+    let field = g.F.Field in
+    let t = c.loop-t.t in
+    let w = length c.args.row.now in
+    let m : (t * w + w) - t * w ≡ w = omega arith in
+    let next : (t + 1) * w ≡ t * w + w = rw add-one (suc-mul t w) in
+    let room : t * w + w ≤ length c.loop-t.values = omega (arith, mul-le-mul_right w c.loop-t-test.true, next, c.requires, c.loop-t.auto.values) in
+    let value = field.value in
+    let times = λ (x : field.Element). field.ring.mul x (value c.loop-t.factor) in
+    let row = c.args.row.now in
+    let multiple = c.scale_slice_oop.new.to in
+    let len : length multiple ≡ w = sym (length-map multiple value) ∙ ap length c.scale_slice_oop.ensures.values ∙ length-map (map value row) times ∙ length-map row value in
+    record {
+      factor = g.met.F.Field.mul_law _ _ _ c.mul-factor.ensures ∙ ap (λ x. field.ring.mul x (field.value c.args.step)) c.loop-t.invariant.factor
+          ∙ field.ring.mul_assoc (field.value c.args.first) (power field.ring (field.value c.args.step) t) (field.value c.args.step)
+          ∙ ap (field.ring.mul (field.value c.args.first)) (sym (power-more field.ring (field.value c.args.step) t));
+      values = rows-more field.ZERO w _ c.args.values.now c.loop-t.values multiple t _ m room len
+          (λ k inside.
+          value_at value times row multiple k field.ZERO c.scale_slice_oop.ensures.values len inside
+          ∙ ap (field.ring.mul (value (get_or row k field.ZERO))) c.loop-t.invariant.factor)
+          c.loop-t.invariant.values;
+      count = omega (arith, next, c.scale_slice_oop.ensures.count, c.loop-t.invariant.count);
+    }
+
+pub returns-clause-values : goal.returns-clause-values
+returns-clause-values g c t j below inside = c.loop-t.invariant.values.done t j (omega arith) inside
