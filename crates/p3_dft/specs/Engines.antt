@@ -19,7 +19,7 @@ pub record EngineFacts (E F : Type 0) : Type 1 where
   -- and where they are, so is a transform on the coset of this shift
   pub SucceedsOnCoset : E → ℕ → F → Type 0
   -- what is known, from then on, at the logarithm of a height that was transformed
-  pub IsReady : E → ℕ → Type 0
+  pub IsLeftPrepared : E → ℕ → Type 0
   -- how many products a transform of 2 ^ k rows of w entries makes at most
   pub transform_products : ℕ → ℕ → ℕ
   -- and an extension of them by a bits, as k a w
@@ -33,10 +33,10 @@ pub record EngineFacts (E F : Type 0) : Type 1 where
 
 -- the facts of an engine whose extensions are an inverse transform and a transform on the larger coset, and published as one block, and which asks for no more room than an answer takes
 abbrev pub plain_facts : {E F : Type 0} → (E → ℕ → Type 0) → (E → ℕ → F → Type 0) → (E → ℕ → Type 0) → (ℕ → ℕ → ℕ) → (E → ℕ) → EngineFacts E F
-plain_facts Succeeds SucceedsOnCoset IsReady transform_products products_made = record {
+plain_facts Succeeds SucceedsOnCoset IsLeftPrepared transform_products products_made = record {
   Succeeds = Succeeds;
   SucceedsOnCoset = SucceedsOnCoset;
-  IsReady = IsReady;
+  IsLeftPrepared = IsLeftPrepared;
   transform_products = transform_products;
   extension_products = extension_bound transform_products;
   block_rows = λ k a. 2 ^ (k + a);
@@ -49,43 +49,43 @@ module _ {E F : Type 0} (facts : EngineFacts E F) where
   pub record IsLater (before after : E) : Type 0 where
     pub keeps : (k : ℕ) → facts.Succeeds before k → facts.Succeeds after k
     pub keeps_cosets : (k : ℕ) (s : F) → facts.SucceedsOnCoset before k s → facts.SucceedsOnCoset after k s
-    pub keeps_ready : (k : ℕ) → facts.IsReady before k → facts.IsReady after k
+    pub keeps_prepared : (k : ℕ) → facts.IsLeftPrepared before k → facts.IsLeftPrepared after k
     pub grows : facts.products_made before ≤ facts.products_made after
 
   -- an engine after a call of 2 ^ k rows: whatever it answered, at most so many products were made; where it answered the values, what is said of k is known;
   -- and where it answered an error, the vector that was refused was to have room for no more elements than the answer has entries, and those that the engine may ask for besides
   pub record IsAfter {A : Type 0} (before after : E) (result : Result A DftError) (height : ℕ) (known : ℕ → Type 0) (products : ℕ → ℕ) (entries : ℕ) : Type 0 where
     pub later : IsLater before after
-    pub ready : IsOk result → AtLog height known
+    pub prepared : IsOk result → AtLog height known
     pub cost : AtLog height (λ k. facts.products_made after ≤ facts.products_made before + products k)
     pub refused : IfErr result (IsWithin (facts.more_room after + entries))
 
   -- after a transform of a matrix of m's shape or its inverse, with so many more products an entry
   abbrev pub AfterDft : {A T : Type 0} → E → E → Result A DftError → RowMajor T → ℕ → Type 0
   AfterDft before after result m more =
-      IsAfter before after result (height m) (facts.IsReady after) (λ k. facts.transform_products k m.width + more * (2 ^ k * m.width)) (height m * m.width)
+      IsAfter before after result (height m) (facts.IsLeftPrepared after) (λ k. facts.transform_products k m.width + more * (2 ^ k * m.width)) (height m * m.width)
 
   -- after an extension of one by a bits
   abbrev pub AfterLde : {A T : Type 0} → E → E → Result A DftError → RowMajor T → ℕ → Type 0
   AfterLde before after result m a =
-      IsAfter before after result (height m) (λ k. facts.IsReady after k × facts.IsReady after (k + a)) (λ k. facts.extension_products k a m.width) (height m * m.width * 2 ^ a)
+      IsAfter before after result (height m) (λ k. facts.IsLeftPrepared after k × facts.IsLeftPrepared after (k + a)) (λ k. facts.extension_products k a m.width) (height m * m.width * 2 ^ a)
 
   -- after an extension by a bits of one of coefficients: a transform of the larger height, and a product for each coefficient
   abbrev pub AfterLdeOfCoefficients : {A T : Type 0} → E → E → Result A DftError → RowMajor T → ℕ → Type 0
   AfterLdeOfCoefficients before after result m a =
-      IsAfter before after result (height m) (λ k. facts.IsReady after (k + a)) (λ k. facts.transform_products (k + a) m.width + 2 ^ k * m.width) (height m * m.width * 2 ^ a)
+      IsAfter before after result (height m) (λ k. facts.IsLeftPrepared after (k + a)) (λ k. facts.transform_products (k + a) m.width + 2 ^ k * m.width) (height m * m.width * 2 ^ a)
 
   -- and after one by an inverse transform and a transform on the larger coset
   abbrev pub AfterLdeByParts : {A T : Type 0} → E → E → Result A DftError → RowMajor T → ℕ → Type 0
   AfterLdeByParts before after result m a =
-      IsAfter before after result (height m) (λ k. facts.IsReady after k × facts.IsReady after (k + a)) (λ k. extension_bound facts.transform_products k a m.width) (height m * m.width * 2 ^ a)
+      IsAfter before after result (height m) (λ k. facts.IsLeftPrepared after k × facts.IsLeftPrepared after (k + a)) (λ k. extension_bound facts.transform_products k a m.width) (height m * m.width * 2 ^ a)
 
   -- products that were counted elsewhere came to an engine, and what is promised and known of heights and cosets is the same
   pub record HasProductsMore (before after : E) (products : ℕ) : Type 0 where
     pub counter : facts.products_made after ≡ facts.products_made before + products
     pub same : (k : ℕ) → facts.Succeeds before k ↔ facts.Succeeds after k
     pub same_cosets : (k : ℕ) (s : F) → facts.SucceedsOnCoset before k s ↔ facts.SucceedsOnCoset after k s
-    pub same_ready : (k : ℕ) → facts.IsReady before k ↔ facts.IsReady after k
+    pub same_prepared : (k : ℕ) → facts.IsLeftPrepared before k ↔ facts.IsLeftPrepared after k
 
   -- what every engine's facts meet
   pub record EngineLaws (IsNew : E → Type 0) (IsClone : E → E → Type 0) (IsInfallible : E → Type 0) : Type 0 where

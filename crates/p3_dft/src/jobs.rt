@@ -3,7 +3,7 @@
 ghost use Rattle.std.specs.Prelude.{◌≡◌, ℕ, ◌+◌, ◌≤◌, ◌⊎◌, [], length, get_or, take, IfOk, IfErr, IsOk, OnOk, OnErr};
 ghost use Rattle.std.specs.List.{All, AllZip};
 ghost use Rattle.p3_dft.specs.Engines.{IsLater};
-ghost use Rattle.p3_dft.specs.Jobs.{AreFirstAnswers, CanRun, HasMade, IsAnswer, IsReadyFor, IsRun};
+ghost use Rattle.p3_dft.specs.Jobs.{AreFirstAnswers, CanRun, HasMade, IsAnswer, IsPreparedFor, IsRun};
 ghost use Rattle.p3_dft.specs.Jobs.{NextIsNotPromised, answer_entries};
 ghost use Rattle.p3_matrix.specs.Room.{IsWithin};
 
@@ -84,10 +84,10 @@ pub fn run_jobs<F: TwoAdicField, D: TwoAdicSubgroupDft<F>>(
 ) -> Result<Vec<RowMajorMatrix<F>>, JobsStopped<F>>
     requires runnable { All (CanRun F.Field.own F.TWO_ADICITY) jobs.items }
     ensures all { IfOk result (λ answers. AllZip (IsAnswer F.Field.own F.generator) jobs.items answers.items) }
-    ensures serves { OnOk result (All (IsReadyFor D.facts engine.new) jobs.items) }
+    ensures prepares { OnOk result (All (IsPreparedFor D.facts engine.new) jobs.items) }
     ensures cost { HasMade D.facts engine.old engine.new jobs.items }
     ensures first { IfErr result (λ stopped. AreFirstAnswers F.Field.own F.generator jobs.items stopped.answers.items) }
-    ensures serves_first { IfErr result (λ stopped. All (IsReadyFor D.facts engine.new)
+    ensures prepares_first { IfErr result (λ stopped. All (IsPreparedFor D.facts engine.new)
         (take (length stopped.answers.items) jobs.items)) }
     ensures cost_of_first { IfErr result (λ stopped. HasMade D.facts engine.old engine.new
         (take (length stopped.answers.items + 1) jobs.items)) }
@@ -113,10 +113,10 @@ fn answer_jobs<F: TwoAdicField, D: TwoAdicSubgroupDft<F>>(
     requires runnable { All (CanRun F.Field.own F.TWO_ADICITY) jobs.items }
     requires empty { answers.old.items ≡ [] }
     ensures all { OnOk result (AllZip (IsAnswer F.Field.own F.generator) jobs.items answers.new.items) }
-    ensures serves { OnOk result (All (IsReadyFor D.facts engine.new) jobs.items) }
+    ensures prepares { OnOk result (All (IsPreparedFor D.facts engine.new) jobs.items) }
     ensures cost { HasMade D.facts engine.old engine.new jobs.items }
     ensures first { OnErr result (AreFirstAnswers F.Field.own F.generator jobs.items answers.new.items) }
-    ensures serves_first { OnErr result (All (IsReadyFor D.facts engine.new)
+    ensures prepares_first { OnErr result (All (IsPreparedFor D.facts engine.new)
         (take (length answers.new.items) jobs.items)) }
     ensures cost_of_first { OnErr result (HasMade D.facts engine.old engine.new
         (take (length answers.new.items + 1) jobs.items)) }

@@ -25,7 +25,7 @@ pub(crate) trait KeptTables<F: TwoAdicField>: Drop {
         requires within { log_h ≤ F.TWO_ADICITY }
         requires fits_u64 { log_h < 64 }
         ensures made { OnOk result (log self.new ≡ max (log self.old) log_h) }
-        ensures ready { log_h ≤ log self.old → IsOk result }
+        ensures succeeds { log_h ≤ log self.old → IsOk result }
         ensures refused { OnErr result (self.new ≡ self.old) }
         ensures room { IfErr result (IsWithin (2 ^ log_h)) };
 }

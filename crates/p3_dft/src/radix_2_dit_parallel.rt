@@ -100,7 +100,7 @@ impl<F: TwoAdicField> Radix2DitParallel<F> {
         requires within { log_h ≤ F.TWO_ADICITY }
         requires size { 2 ^ log_h < 2 ^ 64 }
         ensures made { OnOk result (self.new.roots.prepared ≡ max self.old.roots.prepared log_h) }
-        ensures ready { IsPrepared self.old.roots log_h → IsOk result }
+        ensures succeeds { IsPrepared self.old.roots log_h → IsOk result }
         ensures refused { OnErr result (self.new ≡ self.old) }
         ensures cosets { self.new.cosets ≡ self.old.cosets }
         ensures products { self.new.roots.products ≡ self.old.roots.products }
@@ -210,7 +210,7 @@ impl<F: TwoAdicField> TwoAdicSubgroupDft<F> for Radix2DitParallel<F> {
             IsTransform F.Field.own F.generator (N.stored mat) (F.value shift) (reversed_rows out.bits out.physical)) }
         ensures succeeds { AtLog (height (N.stored mat)) (λ k. IsPrepared self.old.roots k
             → IsCosetPrepared F.Field.own self.old k (F.value shift) → IsOk result) }
-        ensures ready { AtLog (height (N.stored mat))
+        ensures on_prepared { AtLog (height (N.stored mat))
             (λ k. IsCosetPrepared F.Field.own self.old k (F.value shift) → IsOk result) }
         ensures tables { AtLog (height (N.stored mat))
             (λ k. OnOk result (IsCosetPrepared F.Field.own self.new k (F.value shift))) }

@@ -103,7 +103,7 @@ impl<F: TwoAdicField> Radix2DFTSmallBatch<F> {
     pub fn new(alloc: Global, n: usize) -> Result<Self, DftError>
         requires { 2 ≤ n → (k : ℕ) × (n ≡ 2 ^ k) × (k ≤ F.TWO_ADICITY) }
         ensures prepares { IfOk result (λ e. 2 ^ e.prepared ≡ max 1 n) }
-        ensures ready { n ≤ 1 → IsOk result }
+        ensures succeeds { n ≤ 1 → IsOk result }
         ensures products { IfOk result (λ e. e.products ≡ 0) }
         ensures room { IfErr result (IsWithin n) }
     {
@@ -118,7 +118,7 @@ impl<F: TwoAdicField> Radix2DFTSmallBatch<F> {
         requires nonzero { 1 ≤ tile }
         requires tile { tile ≤ 2 ^ 32 }
         ensures prepares { IfOk result (λ e. 2 ^ e.prepared ≡ max 1 n) }
-        ensures ready { n ≤ 1 → IsOk result }
+        ensures succeeds { n ≤ 1 → IsOk result }
         ensures products { IfOk result (λ e. e.products ≡ 0) }
         ensures room { IfErr result (IsWithin n) }
     {
@@ -138,7 +138,7 @@ impl<F: TwoAdicField> Radix2DFTSmallBatch<F> {
         requires within { log_h ≤ F.TWO_ADICITY }
         requires size { 2 ^ log_h < 2 ^ 64 }
         ensures made { OnOk result (self.new.prepared ≡ max self.old.prepared log_h) }
-        ensures ready { IsPrepared self.old log_h → IsOk result }
+        ensures succeeds { IsPrepared self.old log_h → IsOk result }
         ensures refused { OnErr result (self.new ≡ self.old) }
         ensures products { self.new.products ≡ self.old.products }
         ensures room { IfErr result (IsWithin (2 ^ log_h)) }

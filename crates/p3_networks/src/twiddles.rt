@@ -61,7 +61,7 @@ impl<F: TwoAdicField> Twiddles<F> {
         requires within { log_h ≤ F.TWO_ADICITY }
         requires fits_u64 { log_h < 64 }
         ensures made { OnOk result (log_h ≤ self.new) }
-        ensures ready { log_h ≤ self.old → IsOk result }
+        ensures succeeds { log_h ≤ self.old → IsOk result }
         ensures keeps { self.old ≤ self.new }
         ensures only { (self.new ≡ self.old) ⊎ (self.new ≡ log_h) }
         ensures refused { OnErr result (self.new ≡ self.old) }

@@ -22,13 +22,13 @@ where_ok (Err x) given = tt
 
 module _ {E F : Type 0} (facts : EngineFacts E F) where
   pub later_same : (e : E) → IsLater facts e e
-  later_same e = record { keeps = λ k was. was; keeps_cosets = λ k s was. was; keeps_ready = λ k was. was; grows = le_refl _ }
+  later_same e = record { keeps = λ k was. was; keeps_cosets = λ k s was. was; keeps_prepared = λ k was. was; grows = le_refl _ }
 
   pub later_still : (a b c : E) → IsLater facts a b → IsLater facts b c → IsLater facts a c
   later_still a b c first second = record {
     keeps = λ k was. second.keeps k (first.keeps k was);
     keeps_cosets = λ k s was. second.keeps_cosets k s (first.keeps_cosets k s was);
-    keeps_ready = λ k was. second.keeps_ready k (first.keeps_ready k was);
+    keeps_prepared = λ k was. second.keeps_prepared k (first.keeps_prepared k was);
     grows = omega (arith, first.grows, second.grows);
   }
 
@@ -37,21 +37,21 @@ module _ {E F : Type 0} (facts : EngineFacts E F) where
   later_by_products a b n more = record {
     keeps = λ k. (more.same k).0;
     keeps_cosets = λ k s. (more.same_cosets k s).0;
-    keeps_ready = λ k. (more.same_ready k).0;
+    keeps_prepared = λ k. (more.same_prepared k).0;
     grows = omega (arith, more.counter);
   }
 
   -- memory was refused before a product was made
   pub after_error : {A : Type 0} {h entries : ℕ} {known : ℕ → Type 0} {p : ℕ → ℕ} (a b : E) (r : Result A DftError) → IsErr r → IsLater facts a b → facts.products_made b ≡ facts.products_made a
       → IfErr r (IsWithin (facts.more_room b + entries)) → IsAfter facts a b r h known p entries
-  after_error a b r none later same room = record { later = later; ready = λ ok. absurd (no_answer r none ok); cost = λ k high. omega (arith, same); refused = room }
+  after_error a b r none later same room = record { later = later; prepared = λ ok. absurd (no_answer r none ok); cost = λ k high. omega (arith, same); refused = room }
 
   -- memory was refused to what follows a part of a call, which made no more products than all of it may
   pub after_part : {A B : Type 0} {h few entries : ℕ} {known more_known : ℕ → Type 0} {p q : ℕ → ℕ} (a b : E) (s : Result B DftError) (r : Result A DftError) → IsErr r → ((k : ℕ) → p k ≤ q k)
       → IfErr r (IsWithin (facts.more_room b + entries)) → IsAfter facts a b s h known p few → IsAfter facts a b r h more_known q entries
   after_part a b s r none fewer room call = record {
     later = call.later;
-    ready = λ ok. absurd (no_answer r none ok);
+    prepared = λ ok. absurd (no_answer r none ok);
     cost = λ k high. let made = call.cost k high in omega (arith, made, fewer k);
     refused = room;
   }
@@ -69,19 +69,19 @@ module _ {E F : Type 0} (facts : EngineFacts E F) where
 
   -- the answer, as it is stored
   pub as_stored : {A B : Type 0} {v : A} {w : B} {h entries : ℕ} {known : ℕ → Type 0} {p : ℕ → ℕ} (a b : E) → IsAfter facts a b (Ok v) h known p entries → IsAfter facts a b (Ok w) h known p entries
-  as_stored a b call = record { later = call.later; ready = λ yes. call.ready refl; cost = call.cost; refused = tt }
+  as_stored a b call = record { later = call.later; prepared = λ yes. call.prepared refl; cost = call.cost; refused = tt }
 
   -- where less is answered
   pub where_answered : {A B : Type 0} {h entries : ℕ} {known : ℕ → Type 0} {p : ℕ → ℕ} (a b : E) (s : Result B DftError) (r : Result A DftError) → (IsOk r → IsOk s) → IfErr r (IsWithin (facts.more_room b + entries))
       → IsAfter facts a b s h known p entries → IsAfter facts a b r h known p entries
-  where_answered a b s r there room call = record { later = call.later; ready = λ yes. call.ready (there yes); cost = call.cost; refused = room }
+  where_answered a b s r there room call = record { later = call.later; prepared = λ yes. call.prepared (there yes); cost = call.cost; refused = room }
 
   -- products, at most one an entry, and then a transform of a matrix of the same shape
   pub transform_after : {A T S : Type 0} (m : RowMajor T) (n : RowMajor S) (a b c : E) (r : Result A DftError) (products : ℕ) → HasShapeOf n m → products ≤ height m * m.width
       → HasProductsMore facts a b products → AfterDft facts b c r n 0 → AfterDft facts a c r m 1
   transform_after m n a b c r products (tall, wide) most more call = record {
     later = later_still a b c (later_by_products a b products more) call.later;
-    ready = λ yes k high. call.ready yes k (tall ∙ high);
+    prepared = λ yes k high. call.prepared yes k (tall ∙ high);
     cost = λ k high.
         let made = call.cost k (tall ∙ high) in
         let same : facts.transform_products k n.width ≡ facts.transform_products k m.width = ap (facts.transform_products k) wide in
@@ -95,7 +95,7 @@ module _ {E F : Type 0} (facts : EngineFacts E F) where
       → AfterDft facts a b (Ok v) m first → HasProductsMore facts b c products → AfterDft facts a c (Ok w) m (first + 1)
   products_after first m n a b c w products (tall, wide) most call more = record {
     later = later_still a b c call.later (later_by_products b c products more);
-    ready = λ yes k high. (more.same_ready k).0 (call.ready refl k high);
+    prepared = λ yes k high. (more.same_prepared k).0 (call.prepared refl k high);
     cost = λ k high.
         let made = call.cost k high in
         let entries : height n * n.width ≡ 2 ^ k * m.width = ap₂ (λ (h w : ℕ). h * w) (tall ∙ high) wide in
@@ -110,7 +110,7 @@ module _ {E F : Type 0} (facts : EngineFacts E F) where
       → HasProductsMore facts a b products → AfterDft facts b c r grown 0 → AfterLdeOfCoefficients facts a c r m bits
   extended_after m grown bits a b c r products log whole tall wide most more call = record {
     later = later_still a b c (later_by_products a b products more) call.later;
-    ready = λ done k high. call.ready done (k + bits) (tall k high);
+    prepared = λ done k high. call.prepared done (k + bits) (tall k high);
     cost = λ k high.
         let made = call.cost (k + bits) (tall k high) in
         let same : facts.transform_products (k + bits) grown.width ≡ facts.transform_products (k + bits) m.width = ap (facts.transform_products (k + bits)) wide in
@@ -124,7 +124,7 @@ module _ {E F : Type 0} (facts : EngineFacts E F) where
       → ((k : ℕ) → 2 ^ k * m.width ≤ p k) → IfErr r (IsWithin (facts.more_room b + entries)) → HasProductsMore facts a b products → IsAfter facts a b r (height m) known p entries
   refused_after_products m a b r products none most fewer room more = record {
     later = later_by_products a b products more;
-    ready = λ ok. absurd (no_answer r none ok);
+    prepared = λ ok. absurd (no_answer r none ok);
     cost = λ k high. omega (arith, more.counter, most, fewer k, ap (λ h. h * m.width) high);
     refused = room;
   }
@@ -133,10 +133,10 @@ module _ {E F : Type 0} (facts : EngineFacts E F) where
   pub parts_after : {A B T S : Type 0} {v : B} (m : RowMajor T) (n : RowMajor S) (bits : ℕ) (p : ℕ → ℕ) (a b c : E) (r : Result A DftError) → HasShapeOf n m
       → ((k : ℕ) → facts.transform_products k m.width + 2 ^ k * m.width + (facts.transform_products (k + bits) m.width + 2 ^ k * m.width) ≤ p k)
       → AfterDft facts a b (Ok v) m 1 → AfterLdeOfCoefficients facts b c r n bits
-      → IsAfter facts a c r (height m) (λ k. facts.IsReady c k × facts.IsReady c (k + bits)) p (height m * m.width * 2 ^ bits)
+      → IsAfter facts a c r (height m) (λ k. facts.IsLeftPrepared c k × facts.IsLeftPrepared c (k + bits)) p (height m * m.width * 2 ^ bits)
   parts_after m n bits p a b c r (tall, wide) most one other = record {
     later = later_still a b c one.later other.later;
-    ready = λ done k high. (other.later.keeps_ready k (one.ready refl k high), other.ready done k (tall ∙ high));
+    prepared = λ done k high. (other.later.keeps_prepared k (one.prepared refl k high), other.prepared done k (tall ∙ high));
     cost = λ k high.
         let before = one.cost k high in
         let after = other.cost k (tall ∙ high) in
@@ -150,21 +150,21 @@ module _ {E F : Type 0} (facts : EngineFacts E F) where
       → IsAfter facts b c r h known p entries → IsAfter facts a c r h known p entries
   after_later a b c r first same call = record {
     later = later_still a b c first call.later;
-    ready = call.ready;
+    prepared = call.prepared;
     cost = λ k high. let made = call.cost k high in omega (arith, made, same);
     refused = call.refused;
   }
 
   -- nothing was done
   pub after_none : {A : Type 0} {v : A} {h entries : ℕ} {known : ℕ → Type 0} {p : ℕ → ℕ} (e : E) (now : IsOk {E = DftError} (Ok v) → AtLog h known) → IsAfter facts e e (Ok v) h known p entries
-  after_none e now = record { later = later_same e; ready = now; cost = λ k high. le-add_right _ _; refused = tt }
+  after_none e now = record { later = later_same e; prepared = now; cost = λ k high. le-add_right _ _; refused = tt }
 
 -- products were made by an engine that shows nothing but their number, and knows of every height what it always did
 pub after_counting : {A F : Type 0} {t : ℕ → ℕ → ℕ} {r : Result A DftError} {h entries : ℕ} {known : ℕ → Type 0} {p : ℕ → ℕ} (before inside after : ℕ) → inside ≡ before → inside ≤ after → ((k : ℕ) → known k)
     → AtLog h (λ k. after ≤ before + p k) → IfErr r (IsWithin entries) → IsAfter (plain_facts {F = F} (λ _ k. k ≡ 0) (λ _ _ _. ⊤) (λ _ _. ⊤) t (λ e. e)) before after r h known p entries
 after_counting {r = r} {entries = entries} before inside after is grows known cost room = record {
-  later = record { keeps = λ k was. was; keeps_cosets = λ k s was. was; keeps_ready = λ k was. was; grows = omega (arith, is, grows) };
-  ready = λ done k high. known k;
+  later = record { keeps = λ k was. was; keeps_cosets = λ k s was. was; keeps_prepared = λ k was. was; grows = omega (arith, is, grows) };
+  prepared = λ done k high. known k;
   cost = cost;
   refused = if_within_more r entries (0 + entries) (omega arith) room;
 }

@@ -10,7 +10,7 @@ use Rattle.p3_field.specs.declared.fields.Field.{Ghosts as FieldMembers}
 use Rattle.p3_matrix.specs.RowMajor.{RowMajor}
 use Rattle.p3_matrix.proofs.TwoPowers.{log_same}
 use Rattle.p3_dft.specs.Engines.{EngineFacts, IsLater}
-use Rattle.p3_dft.specs.Jobs.{AreFirstAnswers, CanRun, IsAnswer, IsCost, IsPromised, IsReadyFor, NextIsNotPromised}
+use Rattle.p3_dft.specs.Jobs.{AreFirstAnswers, CanRun, IsAnswer, IsCost, IsPromised, IsPreparedFor, NextIsNotPromised}
 use Rattle.p3_dft.specs.declared.jobs.Job.{Job}
 use Rattle.p3_dft.specs.declared.jobs.Job.TheVariants.{Dft, CosetDft, Idft, CosetIdft, Lde, CosetLde}
 
@@ -47,13 +47,13 @@ module _ {E F : Type 0} (facts : EngineFacts E F) where
   promised_later a b later (CosetLde m x s) none = none
 
   -- what stays known of heights stays known of those of a job
-  pub ready_later : (a b : E) → IsLater facts a b → (job : Job F) → IsReadyFor facts a job → IsReadyFor facts b job
-  ready_later a b later (Dft m) ready = λ k high. later.keeps_ready k (ready k high)
-  ready_later a b later (CosetDft m s) ready = λ k high. later.keeps_ready k (ready k high)
-  ready_later a b later (Idft m) ready = λ k high. later.keeps_ready k (ready k high)
-  ready_later a b later (CosetIdft m s) ready = λ k high. later.keeps_ready k (ready k high)
-  ready_later a b later (Lde m x) ready = λ k high. let both = ready k high in (later.keeps_ready k both.0, later.keeps_ready (k + x) both.1)
-  ready_later a b later (CosetLde m x s) ready = λ k high. let both = ready k high in (later.keeps_ready k both.0, later.keeps_ready (k + x) both.1)
+  pub ready_later : (a b : E) → IsLater facts a b → (job : Job F) → IsPreparedFor facts a job → IsPreparedFor facts b job
+  ready_later a b later (Dft m) ready = λ k high. later.keeps_prepared k (ready k high)
+  ready_later a b later (CosetDft m s) ready = λ k high. later.keeps_prepared k (ready k high)
+  ready_later a b later (Idft m) ready = λ k high. later.keeps_prepared k (ready k high)
+  ready_later a b later (CosetIdft m s) ready = λ k high. later.keeps_prepared k (ready k high)
+  ready_later a b later (Lde m x) ready = λ k high. let both = ready k high in (later.keeps_prepared k both.0, later.keeps_prepared (k + x) both.1)
+  ready_later a b later (CosetLde m x s) ready = λ k high. let both = ready k high in (later.keeps_prepared k both.0, later.keeps_prepared (k + x) both.1)
 
   -- a job that can be run has a cost
   cost_of : (f : FieldMembers F) (bits : ℕ) (job : Job F) → CanRun f bits job → (n : ℕ) × IsCost facts job n

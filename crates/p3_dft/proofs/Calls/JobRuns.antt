@@ -9,7 +9,7 @@ use Rattle.p3_dft.specs.Extensions.{IsExtension}
 use Rattle.std.proofs.Math.Nat.{le_refl}
 use Rattle.p3_matrix.specs.Room.{IsWithin}
 use Rattle.p3_matrix.proofs.Rooms.{room_of}
-use Rattle.p3_dft.specs.Jobs.{CanRun, IsAnswer, IsReadyFor, IsRun}
+use Rattle.p3_dft.specs.Jobs.{CanRun, IsAnswer, IsPreparedFor, IsRun}
 use Rattle.p3_dft.specs.Shapes.{FitsDft, FitsLde}
 use Rattle.p3_dft.specs.Transforms.{IsInterpolation, IsTransform}
 use Rattle.p3_dft.specs.declared.jobs.Job.{Job}
@@ -23,42 +23,42 @@ module _ {E F : Type 0} (facts : EngineFacts E F) (f : FieldMembers F) (generato
     dft_run is values promised call =
         let fits : FitsDft bits (height m) m.width = subst (CanRun f bits) is runs in
         let made = call.cost fits.log fits.height in
-        subst (λ (j : Job F). IsRun facts f generator j natural a b r) (sym is) (record { answer = values; succeeds = λ p. promised p.0 p.1 p.2; serves = where_ok r call.ready; cost = λ n asked. let same = asked fits.log fits.height in omega (arith, made, same); later = call.later; room = call.refused })
+        subst (λ (j : Job F). IsRun facts f generator j natural a b r) (sym is) (record { answer = values; succeeds = λ p. promised p.0 p.1 p.2; prepares = where_ok r call.prepared; cost = λ n asked. let same = asked fits.log fits.height in omega (arith, made, same); later = call.later; room = call.refused })
 
     pub coset_dft_run : (s : F) → job ≡ CosetDft m s → IfOk r (λ v. IsTransform f generator m (f.value s) (natural v)) → AtLog (height m) (λ k. facts.Succeeds a k → facts.SucceedsOnCoset a k s → IsOk r) → AfterDft facts a b r m 1 → IsRun facts f generator job natural a b r
     coset_dft_run s is values promised call =
         let fits : FitsDft bits (height m) m.width = subst (CanRun f bits) is runs in
         let made = call.cost fits.log fits.height in
-        subst (λ (j : Job F). IsRun facts f generator j natural a b r) (sym is) (record { answer = values; succeeds = λ p. promised p.0 p.1 p.2 p.3; serves = where_ok r call.ready; cost = λ n asked. let same = asked fits.log fits.height in omega (arith, made, same); later = call.later; room = call.refused })
+        subst (λ (j : Job F). IsRun facts f generator j natural a b r) (sym is) (record { answer = values; succeeds = λ p. promised p.0 p.1 p.2 p.3; prepares = where_ok r call.prepared; cost = λ n asked. let same = asked fits.log fits.height in omega (arith, made, same); later = call.later; room = call.refused })
 
     pub idft_run : job ≡ Idft m → IfOk r (λ v. IsInterpolation f generator m f.ring.one (natural v)) → AtLog (height m) (λ k. facts.Succeeds a k → IsOk r) → AfterDft facts a b r m 1 → IsRun facts f generator job natural a b r
     idft_run is values promised call =
         let fits : FitsDft bits (height m) m.width = subst (CanRun f bits) is runs in
         let made = call.cost fits.log fits.height in
-        subst (λ (j : Job F). IsRun facts f generator j natural a b r) (sym is) (record { answer = values; succeeds = λ p. promised p.0 p.1 p.2; serves = where_ok r call.ready; cost = λ n asked. let same = asked fits.log fits.height in omega (arith, made, same); later = call.later; room = call.refused })
+        subst (λ (j : Job F). IsRun facts f generator j natural a b r) (sym is) (record { answer = values; succeeds = λ p. promised p.0 p.1 p.2; prepares = where_ok r call.prepared; cost = λ n asked. let same = asked fits.log fits.height in omega (arith, made, same); later = call.later; room = call.refused })
 
     pub coset_idft_run : (s : F) → job ≡ CosetIdft m s → IfOk r (λ v. IsInterpolation f generator m (f.value s) (natural v)) → AtLog (height m) (λ k. facts.Succeeds a k → IsOk r) → AfterDft facts a b r m 2 → IsRun facts f generator job natural a b r
     coset_idft_run s is values promised call =
         let fits : FitsDft bits (height m) m.width = (subst (CanRun f bits) is runs).0 in
         let made = call.cost fits.log fits.height in
-        subst (λ (j : Job F). IsRun facts f generator j natural a b r) (sym is) (record { answer = values; succeeds = λ p. promised p.0 p.1 p.2; serves = where_ok r call.ready; cost = λ n asked. let same = asked fits.log fits.height in omega (arith, made, same); later = call.later; room = call.refused })
+        subst (λ (j : Job F). IsRun facts f generator j natural a b r) (sym is) (record { answer = values; succeeds = λ p. promised p.0 p.1 p.2; prepares = where_ok r call.prepared; cost = λ n asked. let same = asked fits.log fits.height in omega (arith, made, same); later = call.later; room = call.refused })
 
     pub lde_run : (added : ℕ) → job ≡ Lde m added → IfOk r (λ v. IsExtension f generator m added f.ring.one (natural v)) → AfterLde facts a b r m added → IsRun facts f generator job natural a b r
     lde_run added is values call =
         let fits : FitsLde bits (height m) m.width added = subst (CanRun f bits) is runs in
         let made = call.cost fits.log fits.height in
-        subst (λ (j : Job F). IsRun facts f generator j natural a b r) (sym is) (record { answer = values; succeeds = λ p. absurd p; serves = where_ok r call.ready; cost = λ n asked. let same = asked fits.log fits.height in omega (arith, made, same); later = call.later; room = call.refused })
+        subst (λ (j : Job F). IsRun facts f generator j natural a b r) (sym is) (record { answer = values; succeeds = λ p. absurd p; prepares = where_ok r call.prepared; cost = λ n asked. let same = asked fits.log fits.height in omega (arith, made, same); later = call.later; room = call.refused })
 
     pub coset_lde_run : (added : ℕ) (s : F) → job ≡ CosetLde m added s → IfOk r (λ v. IsExtension f generator m added (f.value s) (natural v)) → AfterLde facts a b r m added → IsRun facts f generator job natural a b r
     coset_lde_run added s is values call =
         let fits : FitsLde bits (height m) m.width added = subst (CanRun f bits) is runs in
         let made = call.cost fits.log fits.height in
-        subst (λ (j : Job F). IsRun facts f generator j natural a b r) (sym is) (record { answer = values; succeeds = λ p. absurd p; serves = where_ok r call.ready; cost = λ n asked. let same = asked fits.log fits.height in omega (arith, made, same); later = call.later; room = call.refused })
+        subst (λ (j : Job F). IsRun facts f generator j natural a b r) (sym is) (record { answer = values; succeeds = λ p. absurd p; prepares = where_ok r call.prepared; cost = λ n asked. let same = asked fits.log fits.height in omega (arith, made, same); later = call.later; room = call.refused })
 
   -- where memory was refused, any other error says the same
   pub run_refused : {V W : Type 0} {natural : V → RowMajor F} (job : Job F) (stored : W → RowMajor F) (a b : E) (r : Result V DftError) (e : DftError) (s : Result W DftError) → r ≡ Err e → IsErr s × IsErrAnd s (λ y. y ≡ e)
       → IsRun facts f generator job natural a b r → IsRun facts f generator job stored a b s
-  run_refused job stored a b r e s was (err, same) run = record { room = room_of s e _ _ (err, same) (le_refl _) (IfErr-at_err _ was run.room); answer = IfOk-from_err s _ err; succeeds = λ p. absurd (not_ok r e was (run.succeeds p)); serves = IfOk-from_err s _ err; cost = run.cost; later = run.later }
+  run_refused job stored a b r e s was (err, same) run = record { room = room_of s e _ _ (err, same) (le_refl _) (IfErr-at_err _ was run.room); answer = IfOk-from_err s _ err; succeeds = λ p. absurd (not_ok r e was (run.succeeds p)); prepares = IfOk-from_err s _ err; cost = run.cost; later = run.later }
 
   -- an answer, as it is stored
   pub run_stored : {V : Type 0} {natural : V → RowMajor F} (job : Job F) (a b c : E) (r : Result V DftError) (v w : V) (out : RowMajor F) → r ≡ Ok v → c ≡ b → w ≡ v → out ≡ natural w
@@ -67,7 +67,7 @@ module _ {E F : Type 0} (facts : EngineFacts E F) (f : FieldMembers F) (generato
       subst (λ (e : E). IsRun facts f generator job (λ o. o) a e (Ok out)) (sym engine) (record {
         answer = subst (λ (o : RowMajor F). IsAnswer f generator job o) (sym (stored ∙ ap natural same)) (IfOk-at_ok (λ x. IsAnswer f generator job (natural x)) was run.answer);
         succeeds = λ p. refl;
-        serves = IfOk-at_ok (λ x. IsReadyFor facts b job) was run.serves;
+        prepares = IfOk-at_ok (λ x. IsPreparedFor facts b job) was run.prepares;
         cost = run.cost;
         later = run.later;
         room = tt;

@@ -48,6 +48,6 @@ module _ {F : Type 0} (f : FieldMembers F) where
       subst (λ (e : CosetEngineState F). IsLater (coset_tabled_facts f t x b) e (tabled more_log more_products more_cosets)) is (record {
         keeps = still;
         keeps_cosets = prepared_coset_stays (tabled log products cosets) (tabled more_log more_products more_cosets) still stays;
-        keeps_ready = λ k none. tt;
+        keeps_prepared = λ k none. tt;
         grows = grows;
       })

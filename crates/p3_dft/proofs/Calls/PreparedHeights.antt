@@ -16,7 +16,7 @@ abbrev pub tabled_facts : {F : Type 0} → (ℕ → ℕ → ℕ) → (ℕ → �
 tabled_facts transform_products extension_products block_rows = record {
   Succeeds = IsPrepared;
   SucceedsOnCoset = λ e k s. ⊤;
-  IsReady = IsPrepared;
+  IsLeftPrepared = IsPrepared;
   transform_products = transform_products;
   extension_products = extension_products;
   block_rows = block_rows;
@@ -33,7 +33,7 @@ module _ {F : Type 0} (t : ℕ → ℕ → ℕ) (x : ℕ → ℕ → ℕ → ℕ
       subst (λ (e : EngineState). IsLater (tabled_facts {F = F} t x b) e (up_to more_log more_products)) is (record {
         keeps = still;
         keeps_cosets = λ k s none. tt;
-        keeps_ready = still;
+        keeps_prepared = still;
         grows = grows;
       })
 
@@ -45,7 +45,7 @@ module _ {F : Type 0} (t : ℕ → ℕ → ℕ) (x : ℕ → ℕ → ℕ → ℕ
         counter = counted;
         same = λ k. (λ there. there, λ there. there);
         same_cosets = λ k s. (λ none. none, λ none. none);
-        same_ready = λ k. (λ there. there, λ there. there);
+        same_prepared = λ k. (λ there. there, λ there. there);
       })
 
 -- a height that was made prepared is
@@ -61,7 +61,7 @@ pub after_prepared : {F A T : Type 0} {log more_log products more_products : ℕ
 after_prepared {log = log} {more_log = more_log} t x b m more r keeps grows made cost room =
     record {
       later = later_with_heights t x b _ _ _ _ _ refl keeps grows;
-      ready = λ done k high. held_where r _ _ k (made k high) done;
+      prepared = λ done k high. held_where r _ _ k (made k high) done;
       cost = cost;
       refused = if_within_more r _ _ (omega arith) room;
     }

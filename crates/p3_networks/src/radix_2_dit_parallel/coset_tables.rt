@@ -195,7 +195,7 @@ impl<F: TwoAdicField> CosetTables<F> {
         requires within { log_h ≤ F.TWO_ADICITY }
         requires fits_u64 { log_h < 64 }
         ensures made { IfOk result (IsCosetAt F.Field.own self.new log_h (F.value shift)) }
-        ensures ready { HasCoset F.Field.own self.old log_h (F.value shift) → IsOk result }
+        ensures succeeds { HasCoset F.Field.own self.old log_h (F.value shift) → IsOk result }
         ensures once { HasCoset F.Field.own self.old log_h (F.value shift) → self.new ≡ self.old }
         ensures only { (self.new ≡ self.old) ⊎ (self.new ≡ self.old ++ record { log_h = log_h; shift = shift } ∷ []) }
         ensures refused { OnErr result (self.new ≡ self.old) }
@@ -220,7 +220,7 @@ impl<F: TwoAdicField> CosetTables<F> {
         requires end { end ≤ length self.old }
         requires others { (i : ℕ) → end ≤ i → ¬ (IsCosetAt F.Field.own self.old log_h (F.value shift) i) }
         ensures made { IfOk result (IsCosetAt F.Field.own self.new log_h (F.value shift)) }
-        ensures ready { HasCoset F.Field.own self.old log_h (F.value shift) → IsOk result }
+        ensures succeeds { HasCoset F.Field.own self.old log_h (F.value shift) → IsOk result }
         ensures once { HasCoset F.Field.own self.old log_h (F.value shift) → self.new ≡ self.old }
         ensures only { (self.new ≡ self.old) ⊎ (self.new ≡ self.old ++ record { log_h = log_h; shift = shift } ∷ []) }
         ensures refused { OnErr result (self.new ≡ self.old) }
@@ -260,7 +260,7 @@ impl<F: TwoAdicField> CosetTables<F> {
         requires within { log_h + added_bits ≤ F.TWO_ADICITY }
         requires fits_u64 { log_h + added_bits < 64 }
         ensures made { OnOk result (HasCosets F.Field.own F.generator self.new log_h added_bits (F.value shift)) }
-        ensures ready { HasCosets F.Field.own F.generator self.old log_h added_bits (F.value shift) → IsOk result }
+        ensures succeeds { HasCosets F.Field.own F.generator self.old log_h added_bits (F.value shift) → IsOk result }
         ensures once { HasCosets F.Field.own F.generator self.old log_h added_bits (F.value shift)
             → self.new ≡ self.old }
         ensures keeps { (k : ℕ) (s : F.Element) → HasCoset F.Field.own self.old k s

@@ -7,7 +7,7 @@ use Rattle.std.specs.List.{All, AllZip}
 use Rattle.std.specs.Vec.Iter.{into_iter_items}
 use Rattle.p3_matrix.specs.RowMajor.{RowMajor}
 use Rattle.p3_dft.specs.declared.jobs.Job.{Job}
-use Rattle.p3_dft.specs.Jobs.{AreFirstAnswers, CanRun, HasMade, IsAnswer, IsReadyFor, answer_entries}
+use Rattle.p3_dft.specs.Jobs.{AreFirstAnswers, CanRun, HasMade, IsAnswer, IsPreparedFor, answer_entries}
 use Rattle.p3_dft.proofs.Calls.JobRuns.{room_each}
 use Rattle.p3_dft.proofs.Calls.EngineSteps.{later_same, later_still}
 use Rattle.p3_dft.proofs.Calls.JobLists.{costs_more, costs_none, costs_rest, first_answers, next_is, next_not_promised, next_of_all, of_all, on_any_error, ready_later, split_more, taken, taken_and_next}
@@ -27,7 +27,7 @@ loop-job-init g c =
       answered = subst (λ (ys : List (RowMajor g.row.F.Denot)). AllZip (IsAnswer g.F.Field g.F.TwoAdicField.generator) [] ys) (sym none) (search rules);
       runnable = subst (λ xs. All (CanRun g.F.Field g.F.TwoAdicField.TWO_ADICITY) xs) (sym given) c.requires.runnable;
       room = grind (arith, c.in_ok-reserve_exact.ensures.capacity, c.len.ensures);
-      served = All-nil (IsReadyFor g.D.TwoAdicSubgroupDft.facts c.args.engine.now);
+      served = All-nil (IsPreparedFor g.D.TwoAdicSubgroupDft.facts c.args.engine.now);
       cost = costs_none g.D.TwoAdicSubgroupDft.facts [] _ refl;
       later = later_same g.D.TwoAdicSubgroupDft.facts _;
     }
@@ -44,10 +44,10 @@ loop-job-preserved g c =
           (all_zipped_more answers c.loop-job.yielded c.loop-job.answers.items c.in-Some.job c.in_ok-answer.answer so_far.answered c.in_ok-answer.ensures.answer);
       runnable = All-rest (CanRun g.F.Field g.F.TwoAdicField.TWO_ADICITY) c.in-Some.job _ _ next so_far.runnable;
       room = omega (arith, so_far.room, c.in_ok-push.ensures.capacity);
-      served = All-push (IsReadyFor facts c.run_job.new.engine) c.loop-job.yielded c.in-Some.job
-          (All-weaker (IsReadyFor facts c.loop-job.engine) (IsReadyFor facts c.run_job.new.engine) (ready_later facts _ _ c.in_ok-answer.ensures.later)
+      served = All-push (IsPreparedFor facts c.run_job.new.engine) c.loop-job.yielded c.in-Some.job
+          (All-weaker (IsPreparedFor facts c.loop-job.engine) (IsPreparedFor facts c.run_job.new.engine) (ready_later facts _ _ c.in_ok-answer.ensures.later)
           c.loop-job.yielded so_far.served)
-          c.in_ok-answer.ensures.serves;
+          c.in_ok-answer.ensures.prepares;
       cost = costs_more facts g.F.Field g.F.TwoAdicField.TWO_ADICITY c.loop-job.yielded c.in-Some.job _ _ _
           (next_of_all (CanRun g.F.Field g.F.TwoAdicField.TWO_ADICITY) c.in-Some.job _ _ next so_far.runnable) so_far.cost c.in_ok-answer.ensures.cost;
       later = later_still facts _ _ _ so_far.later c.in_ok-answer.ensures.later;
@@ -60,12 +60,12 @@ returns-in_err-reserve_exact g c =
     let empty : c.args.answers.now.len ≡ 0 = omega (arith, c.args.answers.now.ok.0, ap length c.requires.empty) in
     record {
       all = IfOk-from_err _ _ err;
-      serves = IfOk-from_err _ _ err;
+      prepares = IfOk-from_err _ _ err;
       cost = costs_rest g.D.TwoAdicSubgroupDft.facts g.F.Field g.F.TwoAdicField.TWO_ADICITY c.args.jobs.items [] c.args.jobs.items _ _ refl c.requires.runnable (costs_none g.D.TwoAdicSubgroupDft.facts [] _ refl);
       first = on_any_error _ (subst (AreFirstAnswers g.F.Field g.F.TwoAdicField.generator c.args.jobs.items) (sym none)
           (record { fewer = omega (arith, c.in_err-reserve_exact.ensures.full, empty, c.len.ensures, c.args.jobs.ok.0); answered = tt }));
-      serves_first = on_any_error _ (subst (λ (ys : List (RowMajor g.row.F.Denot)). All (IsReadyFor g.D.TwoAdicSubgroupDft.facts c.args.engine.now) (take (length ys) c.args.jobs.items))
-          (sym none) (All-nil (IsReadyFor g.D.TwoAdicSubgroupDft.facts c.args.engine.now)));
+      prepares_first = on_any_error _ (subst (λ (ys : List (RowMajor g.row.F.Denot)). All (IsPreparedFor g.D.TwoAdicSubgroupDft.facts c.args.engine.now) (take (length ys) c.args.jobs.items))
+          (sym none) (All-nil (IsPreparedFor g.D.TwoAdicSubgroupDft.facts c.args.engine.now)));
       cost_of_first = on_any_error _ (costs_rest g.D.TwoAdicSubgroupDft.facts g.F.Field g.F.TwoAdicField.TWO_ADICITY _ [] _ _ _ refl (All-take (CanRun g.F.Field g.F.TwoAdicField.TWO_ADICITY) _ c.args.jobs.items c.requires.runnable) (costs_none g.D.TwoAdicSubgroupDft.facts [] _ refl));
       refused = on_any_error _ (inl (refl, none));
       later = later_same _ _;
@@ -84,11 +84,11 @@ returns-in_err-answer g c =
     let made = costs_more facts g.F.Field g.F.TwoAdicField.TWO_ADICITY c.loop-job.yielded c.in-Some.job _ _ _ (next_of_all runs c.in-Some.job _ _ next so_far.runnable) so_far.cost c.run_job.ensures.cost in
     record {
       all = IfOk-from_err _ _ err;
-      serves = IfOk-from_err _ _ err;
+      prepares = IfOk-from_err _ _ err;
       cost = costs_rest facts g.F.Field g.F.TwoAdicField.TWO_ADICITY _ _ _ _ _ (split_more _ c.loop-job.yielded _ _ c.in-Some.job so_far.split next) (All-rest runs c.in-Some.job _ _ next so_far.runnable) made;
       first = on_any_error result (first_answers g.F.Field g.F.TwoAdicField.generator c.args.jobs.items c.loop-job.yielded _ _ c.in-Some.job c.loop-job.answers.items so_far.split next so_far.answered);
-      serves_first = on_any_error result (subst (All (IsReadyFor facts c.run_job.new.engine)) (sym (taken answers c.args.jobs.items c.loop-job.yielded _ c.loop-job.answers.items so_far.split so_far.answered))
-          (All-weaker (IsReadyFor facts c.loop-job.engine) (IsReadyFor facts c.run_job.new.engine) (ready_later facts _ _ c.run_job.ensures.later) c.loop-job.yielded so_far.served));
+      prepares_first = on_any_error result (subst (All (IsPreparedFor facts c.run_job.new.engine)) (sym (taken answers c.args.jobs.items c.loop-job.yielded _ c.loop-job.answers.items so_far.split so_far.answered))
+          (All-weaker (IsPreparedFor facts c.loop-job.engine) (IsPreparedFor facts c.run_job.new.engine) (ready_later facts _ _ c.run_job.ensures.later) c.loop-job.yielded so_far.served));
       cost_of_first = on_any_error result (subst (HasMade facts c.args.engine.now c.run_job.new.engine) (sym (taken_and_next answers c.args.jobs.items c.loop-job.yielded _ _ c.in-Some.job c.loop-job.answers.items so_far.split next so_far.answered)) made);
       refused = on_any_error result (inr (next_not_promised g.F.Field g.F.TwoAdicField.generator facts c.args.jobs.items c.loop-job.yielded _ _ c.in-Some.job c.loop-job.answers.items c.args.engine.now c.loop-job.engine so_far.split next so_far.answered so_far.later (λ promised. not_ok c.run_job.result _ c.in_err-answer.was (c.run_job.ensures.succeeds promised))));
       later = later_still _ _ _ _ so_far.later c.run_job.ensures.later;
@@ -107,10 +107,10 @@ pub returns : goal.returns
 returns g c =
     record {
       all = let left = into_iter_items c.loop-job.job-iterator in let none : left ≡ [] = nil_from_length left (sym c.loop-job.job-iterator.rest.ok.0 ∙ c.in-None.ensures.steps.0) in of_all (λ xs. AllZip (IsAnswer g.F.Field g.F.TwoAdicField.generator) xs c.loop-job.answers.items) _ c.loop-job.yielded left c.loop-job.invariant.split none c.loop-job.invariant.answered;
-      serves = let left = into_iter_items c.loop-job.job-iterator in let none : left ≡ [] = nil_from_length left (sym c.loop-job.job-iterator.rest.ok.0 ∙ c.in-None.ensures.steps.0) in of_all (λ xs. All (IsReadyFor g.D.TwoAdicSubgroupDft.facts c.loop-job.engine) xs) _ c.loop-job.yielded left c.loop-job.invariant.split none c.loop-job.invariant.served;
+      prepares = let left = into_iter_items c.loop-job.job-iterator in let none : left ≡ [] = nil_from_length left (sym c.loop-job.job-iterator.rest.ok.0 ∙ c.in-None.ensures.steps.0) in of_all (λ xs. All (IsPreparedFor g.D.TwoAdicSubgroupDft.facts c.loop-job.engine) xs) _ c.loop-job.yielded left c.loop-job.invariant.split none c.loop-job.invariant.served;
       cost = costs_rest g.D.TwoAdicSubgroupDft.facts g.F.Field g.F.TwoAdicField.TWO_ADICITY _ c.loop-job.yielded _ _ _ c.loop-job.invariant.split c.loop-job.invariant.runnable c.loop-job.invariant.cost;
       first = tt;
-      serves_first = tt;
+      prepares_first = tt;
       cost_of_first = tt;
       refused = tt;
       later = c.loop-job.invariant.later;

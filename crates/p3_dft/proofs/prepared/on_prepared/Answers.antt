@@ -21,7 +21,7 @@ pub returns-then-height-eq1-clause-made : goal.returns-then-height-eq1-clause-ma
 returns-then-height-eq1-clause-made g c = at_log _ _ 0 (sym (ap height c.into_row_major_matrix-mat.ensures) ∙ sym c.height-height.ensures.height ∙ c.if-height-eq1.true) (omega arith)
 
 pub returns-in_err-make_for-clause-succeeds : goal.returns-in_err-make_for-clause-succeeds
-returns-in_err-make_for-clause-succeeds g c = at_found _ _ c.height-height.ensures.height c.into_row_major_matrix-mat.ensures c.log2_strict_usize-log_h.ensures.power (λ there. absurd (not_ok c.make_for.result _ c.in_err-make_for.was (c.make_for.ensures.ready there)))
+returns-in_err-make_for-clause-succeeds g c = at_found _ _ c.height-height.ensures.height c.into_row_major_matrix-mat.ensures c.log2_strict_usize-log_h.ensures.power (λ there. absurd (not_ok c.make_for.result _ c.in_err-make_for.was (c.make_for.ensures.succeeds there)))
 
 pub returns-clause-made : goal.returns-clause-made
 returns-clause-made g c = at_found _ _ c.height-height.ensures.height c.into_row_major_matrix-mat.ensures c.log2_strict_usize-log_h.ensures.power c.in_ok-make_for.ensures.made

@@ -46,7 +46,7 @@ returns-then-eq g c =
     record {
       values = subst (λ (s : field.Element). IfOk c.dft_batch.result (λ out. IsTransform field g.F.TwoAdicField.generator (g.N.IntoRowMajorMatrix.stored c.args.mat) s (reversed_rows out.bits out.physical))) (sym is) call.values;
       succeeds = λ k high heights ready. call.succeeds k high heights;
-      ready = λ k high ready. call.succeeds k high (its_heights is ready);
+      on_prepared = λ k high ready. call.succeeds k high (its_heights is ready);
       tables = λ k high. on_ok_weaker c.dft_batch.result (prepared_alone k _ _ is) (call.made k high);
       only = λ k high. none_above (λ (e : CosetEngineState g.row.F.Denot). e.roots.prepared) c.dft_batch.result _ _ k (call.made k high) call.refused;
       roots = λ other. absurd (other is);
@@ -55,7 +55,7 @@ returns-then-eq g c =
       cosets = λ k high. inl call.cosets;
       refused = call.refused;
       one_row = call.one_row;
-      engine = record { later = call.engine.later; ready = call.engine.ready; cost = λ k high. larger_bound _ _ _ _ (call.engine.cost k high) (omega arith); refused = call.engine.refused };
+      engine = record { later = call.engine.later; prepared = call.engine.prepared; cost = λ k high. larger_bound _ _ _ _ (call.engine.cost k high) (omega arith); refused = call.engine.refused };
       pairs = λ k high. omega (arith, call.engine.cost k high);
     }
 
@@ -94,13 +94,13 @@ returns-in_err-place g c =
     let other = λ (is : s ≡ field.ring.one). not_both c.eq.result c.if-eq.false (search (rules, (g.met.F.Field.eq_law c.args.shift c.ONE.result).1 (is ∙ sym (ap field.value c.ONE.ensures ∙ g.met.F.Field.one_law)))) in
     let held = λ (ready : IsCosetPrepared field c.args.self.now log s). subst (λ (xs : List (Coset g.row.F.Denot)). HasCoset field xs log s) (sym old_cosets) (its_table other (λ none. c.if-height-eq1.false (c.log2_strict_usize-log_h.ensures.power ∙ ap (λ n. 2 ^ n) none)) ready) in
     let several = λ (one : height (g.N.IntoRowMajorMatrix.stored c.args.mat) ≡ 1). c.if-height-eq1.false (c.height-height.ensures.height ∙ stored ∙ one) in
-    let refusal = λ (ready : IsCosetPrepared field c.args.self.now log s). not_ok c.make.result _ c.in_err-place.was (c.make.ensures.ready (held ready)) in
+    let refusal = λ (ready : IsCosetPrepared field c.args.self.now log s). not_ok c.make.result _ c.in_err-place.was (c.make.ensures.succeeds (held ready)) in
     let kept = c.in_err-place.ensures.refused in
     let err = c.from_residual.ensures.0 in
     record {
       values = IfOk-from_err _ _ err;
       succeeds = at_log _ _ log tall (λ heights ready. absurd (refusal ready));
-      ready = at_log _ _ log tall (λ ready. absurd (refusal ready));
+      on_prepared = at_log _ _ log tall (λ ready. absurd (refusal ready));
       tables = λ k e. IfOk-from_err _ _ err;
       only = λ k e. omega (arith, heights);
       roots = λ is_other. heights;
@@ -111,7 +111,7 @@ returns-in_err-place g c =
       one_row = λ one. absurd (several one);
       engine = record {
         later = later_with_tables field _ _ _ c.args.self.now _ _ _ _ _ _ c.self.view_is (le_refl _) (coset_stays field _ _ _ c.make.ensures.only) (le_refl _);
-        ready = λ done k e. tt;
+        prepared = λ done k e. tt;
         cost = λ k e. none_more _ _ _ products;
         refused = room_of c.from_residual.result _ _ _ c.from_residual.ensures (omega (arith, table_fits _ c.requires.fits tall)) c.in_err-place.ensures.room;
       };
@@ -140,7 +140,7 @@ returns g c =
       values = rw (← c.into_row_major_matrix-mat.ensures, c.bit_reverse_rows-2.ensures.matrix) (transform_seen field g.F.TwoAdicField.generator m out s log c.bit_reverse_rows-2.result.bits high c.height-height.ensures.whole same.shape same.size c.bit_reverse_rows-2.ensures.height
           (subst (λ (x : field.Element). IsValues field.ring (λ n. field.value (g.F.TwoAdicField.generator n)) (values_of field m) log x (bit_reversal log (values_of field out))) shift_is c.evaluate_on_coset_to_reversed.ensures.values));
       succeeds = λ k e heights ready. refl;
-      ready = λ k e ready. refl;
+      on_prepared = λ k e ready. refl;
       tables = at_log _ _ log tall (inr (inr (other, (c.in_ok-place.place, c.in_ok-place.ensures.made))));
       only = λ k e. omega (arith, heights);
       roots = λ is_other. heights;
@@ -151,7 +151,7 @@ returns g c =
       one_row = λ one. absurd (several one);
       engine = record {
         later = later_with_tables field _ _ _ c.args.self.now _ _ _ _ _ _ c.self.view_is (le_refl _) (coset_stays field _ _ _ c.make.ensures.only) c.evaluate_on_coset_to_reversed.ensures.grows;
-        ready = λ done k e. tt;
+        prepared = λ done k e. tt;
         cost = at_log _ _ log tall (larger_bound _ _ _ _ made (le-add_right _ _));
         refused = tt;
       };

@@ -10,7 +10,7 @@ on_prepared-requires-clause-alone g c whole one = ((refl, refl), λ bits high. r
 pub returns-in_err-mat-clause-engine : goal.returns-in_err-mat-clause-engine
 returns-in_err-mat-clause-engine g c = record {
   later = later_with_tables g.F.Field _ _ _ c.args.self.now _ _ _ _ _ _ c.self.view_is c.on_prepared.ensures.keeps (λ k s has. has) c.on_prepared.ensures.grows;
-  ready = λ done k high. tt;
+  prepared = λ done k high. tt;
   cost = rw (← c.self.view_is) c.on_prepared.ensures.cost;
   refused = room_of c.from_residual.result _ _ _ c.from_residual.ensures (omega arith) c.in_err-mat.ensures.room;
 }
@@ -30,7 +30,7 @@ returns-clause-one_row g c = rw (← c.self.view_is) (λ one.
 pub returns-clause-engine : goal.returns-clause-engine
 returns-clause-engine g c = record {
   later = later_with_tables g.F.Field _ _ _ c.args.self.now _ _ _ _ _ _ c.self.view_is c.on_prepared.ensures.keeps (λ k s has. has) c.on_prepared.ensures.grows;
-  ready = λ done k high. tt;
+  prepared = λ done k high. tt;
   cost = rw (← c.self.view_is) c.on_prepared.ensures.cost;
   refused = tt;
 }

@@ -18,7 +18,7 @@ returns g c = rw (← c.self.view_is) (record {
   cosets = refl;
   engine = record {
     later = later_with_tables g.F.Field _ _ _ _ _ _ _ _ _ _ refl c.on_prepared.ensures.keeps (λ k s has. has) c.on_prepared.ensures.grows;
-    ready = λ done k high. tt;
+    prepared = λ done k high. tt;
     cost = c.on_prepared.ensures.cost;
     refused = if_within_more c.on_prepared.result _ _ (omega arith) c.on_prepared.ensures.room;
   };

@@ -95,7 +95,7 @@ returns-clause-fewer g c k high = let log = c.log2_strict_usize-log_h.result in 
 pub returns-clause-engine : goal.returns-clause-engine
 returns-clause-engine g c = record {
   later = later_with_heights _ _ _ c.args.self.now _ _ _ _ c.self.view_is c.make.ensures.keeps (le_trans c.interpolate_unscaled_to_reversed.ensures.grows c.extend_to_natural.ensures.grows);
-  ready = λ done k high. let same = log_same c.log2_strict_usize-log_h.result k (sym c.log2_strict_usize-log_h.ensures.power ∙ c.height.ensures.height ∙ ap height c.into_row_major_matrix-mat.ensures ∙ high) in (omega (arith, same, c.in_ok-make.ensures.made), omega (arith, same, c.in_ok-make.ensures.made));
+  prepared = λ done k high. let same = log_same c.log2_strict_usize-log_h.result k (sym c.log2_strict_usize-log_h.ensures.power ∙ c.height.ensures.height ∙ ap height c.into_row_major_matrix-mat.ensures ∙ high) in (omega (arith, same, c.in_ok-make.ensures.made), omega (arith, same, c.in_ok-make.ensures.made));
   cost = λ k high. larger_bound _ _ _ _ (returns-clause-fewer g c k high) (fewer_than_parts k c.args.added_bits _);
   refused = let shape = c.interpolate_unscaled_to_reversed.ensures.same.shape in if_within_more c.extend_to_natural.result _ _ (omega (arith, same_extended c.args.added_bits (shape.0 ∙ ap height c.into_row_major_matrix-mat.ensures) (shape.1 ∙ ap (λ (m : RowMajor g.row.F.Denot). m.width) c.into_row_major_matrix-mat.ensures))) c.extend_to_natural.ensures.room;
 }

@@ -17,7 +17,7 @@ use Rattle.p3_dft.proofs.radix_2_small_batch.Radix2DFTSmallBatchTwoAdicSubgroupD
 -- heights were prepared, without a product
 only_preparing : {F : Type 0} (t : ℕ → ℕ → ℕ) (x : ℕ → ℕ → ℕ → ℕ) (b : ℕ → ℕ → ℕ) {before after : EngineState} → before.prepared ≤ after.prepared → after.products ≡ before.products
     → IsLater (tabled_facts {F = F} t x b) before after
-only_preparing t x b keeps none = record { keeps = λ k there. omega (arith, there, keeps); keeps_cosets = λ k s promised. tt; keeps_ready = λ k there. omega (arith, there, keeps); grows = omega (arith, none) }
+only_preparing t x b keeps none = record { keeps = λ k there. omega (arith, there, keeps); keeps_cosets = λ k s promised. tt; keeps_prepared = λ k there. omega (arith, there, keeps); grows = omega (arith, none) }
 
 -- an engine that was prepared for a bits more than log, and made a call of log
 none_above_both : (k log a before prepared inside after : ℕ) → log ≡ k → prepared ≡ max before (log + a) → inside ≤ max prepared log → after ≤ max inside (log + a) → after ≤ max before (k + a)

@@ -83,7 +83,7 @@ returns-clause-engine g c =
     let grown = padded_shape g.F.Field.ZERO m m c.in_ok-grown.grown a log c.pad_rows.ensures.whole (refl, refl) high c.in_ok-grown.ensures.padded in
     record {
       later = later_with_heights _ _ _ c.args.self.now _ _ _ _ c.self.view_is c.make.ensures.keeps c.extend_to_reversed.ensures.grows;
-      ready = λ done k e. let same = log_same log k (sym high ∙ ap height c.into_row_major_matrix-mat.ensures ∙ e) in omega (arith, same, c.in_ok-make.ensures.made);
+      prepared = λ done k e. let same = log_same log k (sym high ∙ ap height c.into_row_major_matrix-mat.ensures ∙ e) in omega (arith, same, c.in_ok-make.ensures.made);
       cost = λ k e.
           let same = log_same log k (sym high ∙ ap height c.into_row_major_matrix-mat.ensures ∙ e) in
           let wide = grown.1 ∙ ap (λ (n : RowMajor g.row.F.Denot). n.width) c.into_row_major_matrix-mat.ensures in

@@ -58,12 +58,12 @@ pub returns-in_err-place-clause-only : goal.returns-in_err-place-clause-only
 returns-in_err-place-clause-only g c =
     rw c.in_err-place.ensures.refused c.loop-slot.invariant.only
 
-pub returns-in_err-place-clause-ready : goal.returns-in_err-place-clause-ready
-returns-in_err-place-clause-ready g c all =
+pub returns-in_err-place-clause-succeeds : goal.returns-in_err-place-clause-succeeds
+returns-in_err-place-clause-succeeds g c all =
     let field = g.F.Field in
     let k = c.args.log_h in
     let a = c.args.added_bits in
-    absurd (false≢true (c.in_err-place.ensures.ready
+    absurd (false≢true (c.in_err-place.ensures.succeeds
     (coset_there field _ _ k _ _ (c.loop-slot.invariant.once all) c.slot_shift-coset.ensures (all (rev a c.loop-slot.slot) (rev-lt a c.loop-slot.slot)))))
 
 pub loop-slot-preserved : goal.loop-slot-preserved

@@ -35,14 +35,14 @@ returns-clause-once g c has =
 pub returns-clause-only : goal.returns-clause-only
 returns-clause-only g c = inr (c.in_ok-push.ensures.added ∙ ap (λ t. c.args.self.now ++ t ∷ []) c.in_ok-table.ensures.made)
 
-pub returns-in_err-push-clause-ready : goal.returns-in_err-push-clause-ready
-returns-in_err-push-clause-ready g c has =
+pub returns-in_err-push-clause-succeeds : goal.returns-in_err-push-clause-succeeds
+returns-in_err-push-clause-succeeds g c has =
     absurd (nowhere g.F.Field c.args.self.now c.args.log_h c.args.end (g.F.Field.value c.args.shift) (c.find.ensures.none (search rules)) c.requires.others has)
 
 pub returns-in_err-push-clause-once : goal.returns-in_err-push-clause-once
 returns-in_err-push-clause-once g c has =
     absurd (nowhere g.F.Field c.args.self.now c.args.log_h c.args.end (g.F.Field.value c.args.shift) (c.find.ensures.none (search rules)) c.requires.others has)
 
-pub returns-in_err-table-clause-ready : goal.returns-in_err-table-clause-ready
-returns-in_err-table-clause-ready g c has =
+pub returns-in_err-table-clause-succeeds : goal.returns-in_err-table-clause-succeeds
+returns-in_err-table-clause-succeeds g c has =
     absurd (nowhere g.F.Field c.args.self.now c.args.log_h c.args.end (g.F.Field.value c.args.shift) (c.find.ensures.none (search rules)) c.requires.others has)
