@@ -23,8 +23,8 @@ loop-fold-init g c =
       layers_room = omega (arith, c.in_ok-layers.ensures.capacity);
       roots_room = omega (arith, c.in_ok-roots.ensures.capacity);
       challenges_room = omega (arith, c.in_ok-challenges.ensures.capacity);
-      height = c.requires.height ∙ ap (λ n. 2 ^ n) all;
-      width = refl;
+      last_height = c.requires.height ∙ ap (λ n. 2 ^ n) all;
+      last_width = refl;
       size = omega arith;
       shift = sym (power-one g.F.Field.ring (g.F.Field.value c.args.shift));
       invertible = c.requires.invertible;
@@ -41,22 +41,22 @@ commit_layer-requires-clause-fits g c =
     record {
       log = c.args.log_height - c.loop-fold._fold;
       within = omega (arith, one_logarithm _ _ _ fits.height c.requires.height, fits.within);
-      height = before.height;
-      width = omega (arith, before.width, fits.width);
-      size = smaller _ _ _ _ before.size before.width fits.size;
+      height = before.last_height;
+      width = omega (arith, before.last_width, fits.width);
+      size = smaller _ _ _ _ before.size before.last_width fits.size;
     }
 
 pub commit_layer-requires-clause-pairs : goal.commit_layer-requires-clause-pairs
 commit_layer-requires-clause-pairs g c =
     let k = c.args.log_height - suc c.loop-fold._fold in
     let log : c.args.log_height - c.loop-fold._fold ≡ suc k = omega (arith, c.loop-fold-test.true, c.requires.folds) in
-    omega (arith, c.loop-fold.invariant.height, ap (λ n. 2 ^ n) log, two-pow-succ k, pow_pos k)
+    omega (arith, c.loop-fold.invariant.last_height, ap (λ n. 2 ^ n) log, two-pow-succ k, pow_pos k)
 
 pub index-requires : goal.index-requires
 index-requires g c =
     let k = c.args.log_height - suc c.loop-fold._fold in
     let log : c.args.log_height - c.loop-fold._fold ≡ suc k = omega (arith, c.loop-fold-test.true, c.requires.folds) in
-    omega (arith, (c.in_ok-layer.ensures.layer k (c.loop-fold.invariant.height ∙ ap (λ n. 2 ^ n) log)).tree.long, pow_pos k, c.in_ok-layer.layer.nodes.ok.0)
+    omega (arith, (c.in_ok-layer.ensures.layer k (c.loop-fold.invariant.last_height ∙ ap (λ n. 2 ^ n) log)).tree.long, pow_pos k, c.in_ok-layer.layer.nodes.ok.0)
 
 pub loop-fold-preserved : goal.loop-fold-preserved
 loop-fold-preserved g c =
@@ -72,7 +72,7 @@ loop-fold-preserved g c =
     let k = c.args.log_height - suc fold in
     let log : c.args.log_height - fold ≡ suc k = omega (arith, c.loop-fold-test.true, c.requires.folds) in
     let less : c.args.log_height - (fold + 1) ≡ k = omega arith in
-    let high = before.height ∙ ap (λ n. 2 ^ n) log in
+    let high = before.last_height ∙ ap (λ n. 2 ^ n) log in
     let is = told.layer k high in
     let items = c.push_reserved-in-loop-fold-2.ensures.items in
     let challenges_are = c.push_reserved-in-loop-fold.ensures.items in
@@ -93,8 +93,8 @@ loop-fold-preserved g c =
       layers_room = omega (arith, before.layers_room, c.push_reserved-in-loop-fold-2.ensures.capacity);
       roots_room = omega (arith, before.roots_room, c.push_reserved.ensures.capacity);
       challenges_room = omega (arith, before.challenges_room, c.push_reserved-in-loop-fold.ensures.capacity);
-      height = rw less (omega (arith, told.shape.0, high, two-pow-succ k));
-      width = told.shape.1 ∙ before.width;
+      last_height = rw less (omega (arith, told.shape.0, high, two-pow-succ k));
+      last_width = told.shape.1 ∙ before.last_width;
       size = omega (arith, told.shape.0, before.size);
       shift = c.invertible_square-last_shift.ensures.square ∙ power-double f.ring (f.value c.args.shift) (f.value c.loop-fold.last_shift) fold before.shift;
       invertible = c.invertible_square-last_shift.ensures.invertible;

@@ -20,8 +20,8 @@ invariant-loop-fold g l =
       layers_room : l.folds ≤ vec_capacity l.layers;
       roots_room : l.folds ≤ vec_capacity l.roots;
       challenges_room : l.folds ≤ vec_capacity l.challenges;
-      height : height l.last ≡ 2 ^ (l.log_height - l._fold);
-      width : l.last.width ≡ l.fn.codeword.width;
+      last_height : height l.last ≡ 2 ^ (l.log_height - l._fold);
+      last_width : l.last.width ≡ l.fn.codeword.width;
       size : height l.last ≤ height l.fn.codeword;
       shift : f.value l.last_shift ≡ power f.ring (f.value l.shift) (2 ^ l._fold);
       invertible : IsInvertible f.ring (f.value l.last_shift);
