@@ -47,29 +47,8 @@ fn push_folded_row<F: Field>(folded: &mut Vec<F>, near: &[F], far: &[F], factor:
     }
 }
 
-// The challenge over twice each of the first half of the points of a coset of order `2^(log_half + 1)`.
+// The challenge over twice the point of each pair of rows, as the rows lie, on a coset of order `2^(log_half + 1)`.
 fn factors<F: TwoAdicField>(
-    alloc: Global,
-    shift: F,
-    beta: F,
-    log_half: usize,
-    half: usize,
-) -> Result<Vec<F>, DftError>
-    requires within { log_half < F.TWO_ADICITY }
-    requires half { half ≡ 2 ^ log_half }
-    requires invertible { IsInvertible F.ring (F.value shift) }
-    ensures long { IfOk result (λ v. vec_len v ≡ 2 ^ log_half) }
-    ensures factors { IfOk result (λ v. (i : ℕ) → i < 2 ^ log_half → F.ring.mul (two F.ring)
-        (F.ring.mul (point F.ring (λ n. F.value (F.generator n)) (suc log_half) (F.value shift) i)
-        (F.value (get_or v.items i F.ZERO))) ≡ F.value beta) }
-{
-    let root = invertible_root::<F>(log_half + 1).inverse();
-    let first = beta.halve() * shift.inverse();
-    Ok(root.shifted_powers(first).collect_n(alloc, half)?)
-}
-
-// The factor of each pair of rows, as the rows lie.
-fn factors_in_layout<F: TwoAdicField>(
     alloc: Global,
     shift: F,
     beta: F,
@@ -85,7 +64,9 @@ fn factors_in_layout<F: TwoAdicField>(
         (F.ring.mul (point F.ring (λ n. F.value (F.generator n)) (suc log_half) (F.value shift)
         (pair_point layout log_half i)) (F.value (get_or v.items i F.ZERO))) ≡ F.value beta) }
 {
-    let mut factors = factors(alloc, shift, beta, log_half, half)?;
+    let root = invertible_root::<F>(log_half + 1).inverse();
+    let first = beta.halve() * shift.inverse();
+    let mut factors = root.shifted_powers(first).collect_n(alloc, half)?;
     match layout {
         Layout::Natural => Ok(factors),
         Layout::BitReversed => {
@@ -167,7 +148,7 @@ pub fn fold<F: TwoAdicField>(
     let height = values.height();
     let log_half = log2_strict_usize(height) - 1;
     let half = height / 2;
-    let factors = factors_in_layout(*values.allocator(), shift, beta, log_half, half, layout)?;
+    let factors = factors(*values.allocator(), shift, beta, log_half, half, layout)?;
     fold_rows(values, layout, half, &factors)
 }
 

@@ -95,7 +95,7 @@ impl<R: Copy, W: Copy> Clone for Quadratic<R, W> {
 
 impl<R, W> Quadratic<R, W> {
     /// The element with these coordinates.
-    pub fn new(constant: R, linear: R) -> Quadratic<R, W>
+    pub const fn new(constant: R, linear: R) -> Quadratic<R, W>
         ensures constant { result.constant ≡ constant }
         ensures linear { result.linear ≡ linear }
     {
@@ -252,43 +252,23 @@ impl<R: Field, W: Square<R>> Field for Quadratic<R, W> {
 
     ghost value = { λ x. (R.value x.constant, R.value x.linear) };
 
-    const ZERO: Quadratic<R, W> = Quadratic {
-        constant: R::ZERO,
-        linear: R::ZERO,
-        of: PhantomData,
-    };
+    const ZERO: Quadratic<R, W> = Quadratic::new(R::ZERO, R::ZERO);
 
     ghost ZERO = { record { constant = R.ZERO; linear = R.ZERO; of = _ } };
 
-    const ONE: Quadratic<R, W> = Quadratic {
-        constant: R::ONE,
-        linear: R::ZERO,
-        of: PhantomData,
-    };
+    const ONE: Quadratic<R, W> = Quadratic::new(R::ONE, R::ZERO);
 
     ghost ONE = { record { constant = R.ONE; linear = R.ZERO; of = _ } };
 
-    const TWO: Quadratic<R, W> = Quadratic {
-        constant: R::TWO,
-        linear: R::ZERO,
-        of: PhantomData,
-    };
+    const TWO: Quadratic<R, W> = Quadratic::new(R::TWO, R::ZERO);
 
     ghost TWO = { record { constant = R.TWO; linear = R.ZERO; of = _ } };
 
-    const NEG_ONE: Quadratic<R, W> = Quadratic {
-        constant: R::NEG_ONE,
-        linear: R::ZERO,
-        of: PhantomData,
-    };
+    const NEG_ONE: Quadratic<R, W> = Quadratic::new(R::NEG_ONE, R::ZERO);
 
     ghost NEG_ONE = { record { constant = R.NEG_ONE; linear = R.ZERO; of = _ } };
 
-    const GENERATOR: Quadratic<R, W> = Quadratic {
-        constant: R::GENERATOR,
-        linear: R::ZERO,
-        of: PhantomData,
-    };
+    const GENERATOR: Quadratic<R, W> = Quadratic::new(R::GENERATOR, R::ZERO);
 
     ghost GENERATOR = { record { constant = R.GENERATOR; linear = R.ZERO; of = _ } };
 

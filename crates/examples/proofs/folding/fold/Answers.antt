@@ -23,12 +23,12 @@ twice_half log h n is power high some =
     let next : log ≡ suc (log - 1) = omega (arith, more) in
     omega (arith, is, power, high ∙ ap (λ k. 2 ^ k) next ∙ two-pow-succ (log - 1))
 
-pub factors_in_layout-requires-clause-within : goal.factors_in_layout-requires-clause-within
-factors_in_layout-requires-clause-within g c =
+pub factors-requires-clause-within : goal.factors-requires-clause-within
+factors-requires-clause-within g c =
     (half_height _ _ c.requires.fits.log _ c.log2_strict_usize-log_half.ensures.power (c.height-height.ensures.height ∙ c.requires.fits.height) c.requires.fits.within (omega (arith, c.requires.pairs, c.height-height.ensures.height))).0
 
-pub factors_in_layout-requires-clause-half : goal.factors_in_layout-requires-clause-half
-factors_in_layout-requires-clause-half g c =
+pub factors-requires-clause-half : goal.factors-requires-clause-half
+factors-requires-clause-half g c =
     (half_height _ _ c.requires.fits.log _ c.log2_strict_usize-log_half.ensures.power (c.height-height.ensures.height ∙ c.requires.fits.height) c.requires.fits.within (omega (arith, c.requires.pairs, c.height-height.ensures.height))).1
 
 pub fold_rows-requires-clause-pairs : goal.fold_rows-requires-clause-pairs
@@ -55,30 +55,22 @@ returns-clause-rows g c =
 
 pub returns-clause-folded : goal.returns-clause-folded
 returns-clause-folded g c =
-    let f = g.F.Field in
     IfOk-weaker c.fold_rows.result _ _
-    (λ out given k high.
-    folded_values f.ring g.met.F.TwoAdicField.roots_law (f.value c.args.beta) k (f.value c.args.shift) _ _ (exponent_within (suc k) c.requires.fits high) c.requires.invertible
-    (rows_by_factors f.ring g.met.F.TwoAdicField.roots_law c.args.layout (f.value c.args.beta) k _ _ (f.value c.args.shift) (values_of f c.args.values.now) (values_of f out) _ _
-    (log_of _ k _ c.log2_strict_usize-log_half.ensures.power (c.height-height.ensures.height ∙ high)) (half_of _ k (c.height-height.ensures.height ∙ high)) given.0 given.1
-    c.in_ok-factors.ensures.factors (λ i. ap (λ xs. f.value (get_or xs i f.ZERO)) c.deref.ensures.value) (given.2 k (f.value c.args.beta) (half_of _ k (c.height-height.ensures.height ∙ high)))))
-    c.fold_rows.ensures
+    (λ out rows k high.
+    folded_values g.F.Field.ring g.met.F.TwoAdicField.roots_law (g.F.Field.value c.args.beta) k (g.F.Field.value c.args.shift) _ _ (exponent_within (suc k) c.requires.fits high)
+    c.requires.invertible (rows k high))
+    (returns-clause-rows g c)
 
 pub returns-clause-degree : goal.returns-clause-degree
 returns-clause-degree g c =
-    let f = g.F.Field in
     IfOk-weaker c.fold_rows.result _ _
-    (λ out given k h high has.
+    (λ out folded k h high has.
     record {
-      coefficients = folded_coefficients f.ring (f.value c.args.beta) has.coefficients;
+      coefficients = folded_coefficients g.F.Field.ring (g.F.Field.value c.args.beta) has.coefficients;
       height = ap (λ n. (n + 1) / 2) has.height;
-      values = folded_values f.ring g.met.F.TwoAdicField.roots_law (f.value c.args.beta) k (f.value c.args.shift) _ _ (exponent_within (suc k) c.requires.fits high) c.requires.invertible
-          (rows_by_factors f.ring g.met.F.TwoAdicField.roots_law c.args.layout (f.value c.args.beta) k _ _ (f.value c.args.shift) (values_of f c.args.values.now) (values_of f out) _ _
-          (log_of _ k _ c.log2_strict_usize-log_half.ensures.power (c.height-height.ensures.height ∙ high)) (half_of _ k (c.height-height.ensures.height ∙ high)) given.0 given.1
-          c.in_ok-factors.ensures.factors (λ i. ap (λ xs. f.value (get_or xs i f.ZERO)) c.deref.ensures.value) (given.2 k (f.value c.args.beta) (half_of _ k (c.height-height.ensures.height ∙ high))))
-          has.coefficients has.values;
+      values = folded k high has.coefficients has.values;
     })
-    c.fold_rows.ensures
+    (returns-clause-folded g c)
 
 pub returns-clause-shape : goal.returns-clause-shape
 returns-clause-shape g c =
