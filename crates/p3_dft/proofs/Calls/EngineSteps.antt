@@ -1,8 +1,6 @@
 -- An engine after one call and then another.
 use Rattle.std.specs.Prelude.{⊤}
-use Rattle.std.proofs.Common.{ℕ, ◌≡◌, ◌+◌, ◌*◌, ◌^◌, ◌≤◌, Result, Ok, Err, IsOk, IsErr, IfErr, IsErrAnd, refl, ap, ap₂, ◌∙◌, add-one, arith, rules, subst}
-use Rattle.std.proofs.Math.Nat.{le-add_right, le_refl, suc-mul}
-use Rattle.std.specs.Result.{OnOk}
+use Rattle.std.proofs.Common.{ℕ, ◌≡◌, ◌+◌, ◌*◌, ◌^◌, ◌≤◌, Result, Ok, Err, IsOk, IsErr, IfErr, IsErrAnd, refl, ap, ap₂, ◌∙◌, add-one, arith, rules, subst, le-add_right, le_refl, suc-mul, OnOk}
 use Rattle.p3_matrix.specs.declared.error.DftError.{DftError}
 use Rattle.p3_matrix.specs.Room.{IsWithin}
 use Rattle.p3_matrix.proofs.Rooms.{if_within_more, room_of}

@@ -1,12 +1,11 @@
 -- What the call for a job answers, and what it leaves of the engine.
-use Rattle.std.proofs.Common.{◌≡◌, ℕ, ◌≤◌, Result, Ok, Err, IfErr, IfOk, IsOk, IsErr, IsErrAnd, refl, sym, ap, ◌∙◌, subst, arith}
+use Rattle.std.proofs.Common.{◌≡◌, ℕ, ◌≤◌, Result, Ok, Err, IfErr, IfOk, IsOk, IsErr, IsErrAnd, refl, sym, ap, ◌∙◌, subst, arith, le_refl}
 use Rattle.std.proofs.lemmas.Result.{IfErr-at_err, IfOk-at_ok, IfOk-from_err}
 use Rattle.p3_field.specs.declared.fields.Field.{Ghosts as FieldMembers}
 use Rattle.p3_matrix.specs.declared.error.DftError.{DftError}
 use Rattle.p3_matrix.specs.RowMajor.{RowMajor, height}
 use Rattle.p3_dft.specs.Engines.{AfterDft, AfterLde, AtLog, EngineFacts}
 use Rattle.p3_dft.specs.Extensions.{IsExtension}
-use Rattle.std.proofs.Math.Nat.{le_refl}
 use Rattle.p3_matrix.specs.Room.{IsWithin}
 use Rattle.p3_matrix.proofs.Rooms.{room_of}
 use Rattle.p3_dft.specs.Jobs.{CanRun, IsAnswer, IsPreparedFor, IsRun}

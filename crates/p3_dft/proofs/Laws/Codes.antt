@@ -1,7 +1,6 @@
 -- Laws of Reed-Solomon codes that a user cites: which values have low degree, which matrices are codewords, and how far two codewords lie apart.
-use Rattle.std.proofs.Common.{◌≡◌, ◌≢◌, ◌↔◌, ℕ, zero, suc, ◌+◌, ◌-◌, ◌^◌, ◌<◌, ◌≤◌, ◌⊎◌, inl, inr, ⊎_elim, Bool, true, false, IsTrue, cond, le-ltb, refl, sym, ap, ◌∙◌, subst, arith}
+use Rattle.std.proofs.Common.{◌≡◌, ◌≢◌, ◌↔◌, ℕ, zero, suc, ◌+◌, ◌-◌, ◌^◌, ◌<◌, ◌≤◌, ◌⊎◌, inl, inr, ⊎_elim, Bool, true, false, IsTrue, cond, le-ltb, refl, sym, ap, ◌∙◌, subst, arith, below_more}
 use Rattle.std.proofs.Math.Nat.{pow-le-pow_right}
-use borrow.Author.Count.{below_more}
 use Rattle.std.proofs.lemmas.Bool.{cases_lt, true≢false}
 use Rattle.p3_field.specs.Ring.{AreRoots}
 use Rattle.p3_field.specs.declared.fields.Field.{Ghosts as FieldMembers}

@@ -1,13 +1,11 @@
 -- What two calls have to do with each other: laws that a user cites, in the words of the clauses.
 -- `m` is what a call is given; `y` and `z` are values, `c` and `d` coefficients, `out` an extension. A law that takes the roots'
 -- law names it `are_roots`; it is `roots_law` of the field.
-use Rattle.std.proofs.Common.{◌≡◌, ℕ, suc, ◌+◌, ◌*◌, ◌/◌, ◌^◌, ◌<◌, ◌≤◌, cond, le-ltb, lt-ltb, List, [], ◌∷◌, length, get_or, map, sym, ap, ◌∙◌, subst, arith}
+use Rattle.std.proofs.Common.{◌≡◌, ℕ, suc, ◌+◌, ◌*◌, ◌/◌, ◌^◌, ◌<◌, ◌≤◌, cond, le-ltb, lt-ltb, List, [], ◌∷◌, length, get_or, map, sym, ap, ◌∙◌, subst, arith, pow-add, pow_pos, le-mul_of_pos_right, mul-le-mul_right}
 use Rattle.std.specs.List.{All, AllZip, range_with_len}
 use Rattle.std.proofs.Math.ListN.{get_or-map}
 use Rattle.std.proofs.lemmas.List.{ext_get_or, length-map}
 use Rattle.std.proofs.lemmas.List.FromFn.{length-map-range_with_len, get_or-map-range_with_len}
-use Rattle.std.proofs.lemmas.Nat.{pow-add, pow_pos}
-use Rattle.std.proofs.Math.Nat.{le-mul_of_pos_right, mul-le-mul_right}
 use Rattle.p3_field.specs.Ring.{AreRoots}
 use Rattle.p3_field.specs.declared.fields.Field.{Ghosts as FieldMembers}
 use Rattle.p3_field.proofs.Roots.{root_strided}

@@ -1,5 +1,4 @@
-use Rattle.std.proofs.Common.{◌≡◌, ◌+◌, ◌*◌, ◌-◌, ◌≤◌, take, drop, length, get_or, refl, ap, ap₂, ◌∙◌, arith, rules, add-one, ℕ, subst, sym}
-use Rattle.std.proofs.Math.Nat.{suc-mul, mul-le-mul_right}
+use Rattle.std.proofs.Common.{◌≡◌, ◌+◌, ◌*◌, ◌-◌, ◌≤◌, take, drop, length, get_or, refl, ap, ap₂, ◌∙◌, arith, rules, add-one, ℕ, subst, sym, suc-mul, mul-le-mul_right}
 use borrow.Author.Rules.{scaled_fits≤}
 use Rattle.std.proofs.lemmas.List.{get_or_read_under}
 use Rattle.p3_networks.proofs.Layers.Halves.{block_room}

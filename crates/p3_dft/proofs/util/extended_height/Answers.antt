@@ -1,5 +1,4 @@
-use Rattle.std.proofs.Common.{◌≡◌, ℕ, ◌*◌, ◌%◌, ◌^◌, ◌<◌, ap, arith}
-use Rattle.std.proofs.Math.Nat.{mod-eq_of_lt, mul-le-mul_left}
+use Rattle.std.proofs.Common.{◌≡◌, ℕ, ◌*◌, ◌%◌, ◌^◌, ◌<◌, ap, arith, mod-eq_of_lt, mul-le-mul_left}
 use Rattle.p3_dft.specs.Shapes.{FitsLde}
 use Rattle.p3_dft.proofs.Calls.Shapes.{output_log_small, output_size}
 use Rattle.p3_dft.proofs.util.extended_height.Goals as goal

@@ -1,4 +1,4 @@
-use Rattle.std.proofs.Common.{◌≡◌, ◌^◌, ap, ◌∙◌, sym, ◌≤◌, ◌+◌, ◌*◌, ◌/◌}
+use Rattle.std.proofs.Common.{◌≡◌, ◌^◌, ap, ◌∙◌, sym, ◌≤◌, ◌+◌, ◌*◌, ◌/◌, le-add_right}
 use Rattle.p3_matrix.specs.BitOrder.{bit_reversal}
 use Rattle.p3_matrix.specs.Matrix.{matrix}
 use Rattle.p3_matrix.specs.RowMajor.{RowMajor, height}
@@ -9,7 +9,6 @@ use Rattle.p3_matrix.proofs.Polynomials.Cosets.{coefficients_same}
 use Rattle.p3_dft.proofs.BitReversed.Rows.{transform_of_row}
 use Rattle.p3_dft.proofs.Calls.EngineSteps.{after_counting}
 use Rattle.p3_dft.proofs.Calls.Counts.{larger_bound}
-use Rattle.std.proofs.Math.Nat.{le-add_right}
 use Rattle.p3_dft.proofs.radix_2_bowers.Radix2BowersTwoAdicSubgroupDft.dft_batch.Goals as goal
 
 pub returns-then-height-eq1-clause-values : goal.returns-then-height-eq1-clause-values

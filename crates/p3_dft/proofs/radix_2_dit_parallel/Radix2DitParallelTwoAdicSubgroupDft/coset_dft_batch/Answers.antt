@@ -1,5 +1,4 @@
-use Rattle.std.proofs.Common.{◌≡◌, ◌⊎◌, inl, inr, Bool, false, ℕ, ◌^◌, IsTrue, List, refl, sym, ap, ◌∙◌, subst, arith, rules, IfOk, ◌+◌, ◌*◌, ◌/◌, ◌≤◌, max}
-use Rattle.std.proofs.Math.Nat.{le-add_right, le_refl}
+use Rattle.std.proofs.Common.{◌≡◌, ◌⊎◌, inl, inr, Bool, false, ℕ, ◌^◌, IsTrue, List, refl, sym, ap, ◌∙◌, subst, arith, rules, IfOk, ◌+◌, ◌*◌, ◌/◌, ◌≤◌, max, le-add_right, le_refl}
 use Rattle.std.proofs.lemmas.Result.{IfOk-from_err, on_ok_weaker}
 use Rattle.p3_matrix.specs.RowMajor.{height}
 use Rattle.p3_matrix.specs.BitOrder.{bit_reversal, reversed_rows}

@@ -1,10 +1,8 @@
-use Rattle.std.proofs.Common.{[], sym, ◌∙◌, arith, refl}
-use Rattle.std.proofs.lemmas.List.{append-nil}
+use Rattle.std.proofs.Common.{[], sym, ◌∙◌, arith, refl, append-nil, le_refl}
 use Rattle.std.proofs.lemmas.List.Elements.{All-nil}
 use Rattle.std.proofs.lemmas.Result.{IfOk-from_err}
 use Rattle.p3_dft.proofs.Calls.Shapes.{extended_table, same_extended, output_log_small, output_size, both_logs_fit}
 use Rattle.p3_dft.proofs.Calls.Counts.{more_allowed}
-use Rattle.std.proofs.Math.Nat.{le_refl}
 use Rattle.p3_matrix.proofs.Rooms.{room_of}
 use Rattle.p3_matrix.proofs.Rows.Padding.{padded_shape, padded_whole}
 use Rattle.p3_dft.proofs.Calls.Stored.{at_log, whole_still}

@@ -1,5 +1,4 @@
-use Rattle.std.proofs.Common.{◌≡◌, ℕ, ◌+◌, ◌*◌, ◌^◌, ◌<◌, length, sym, ap, ◌∙◌, arith, refl, ◌≤◌, subst, ◌/◌}
-use Rattle.std.proofs.lemmas.Nat.{pow-add}
+use Rattle.std.proofs.Common.{◌≡◌, ℕ, ◌+◌, ◌*◌, ◌^◌, ◌<◌, length, sym, ap, ◌∙◌, arith, refl, ◌≤◌, subst, ◌/◌, pow-add}
 use Rattle.p3_matrix.specs.BitOrder.{rev}
 use Rattle.p3_matrix.specs.Cosets.{point, values_of}
 use Rattle.p3_networks.specs.Twiddles.{factor, scale_cost}

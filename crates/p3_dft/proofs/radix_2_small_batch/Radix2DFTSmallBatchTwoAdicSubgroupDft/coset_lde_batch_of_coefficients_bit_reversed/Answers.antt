@@ -1,5 +1,4 @@
-use Rattle.std.proofs.Common.{◌≡◌, ℕ, ◌+◌, ◌*◌, ◌/◌, ◌^◌, refl, sym, ap, ap₂, ◌∙◌, arith}
-use Rattle.std.proofs.Math.Nat.{le_refl}
+use Rattle.std.proofs.Common.{◌≡◌, ℕ, ◌+◌, ◌*◌, ◌/◌, ◌^◌, refl, sym, ap, ap₂, ◌∙◌, arith, le_refl}
 use Rattle.p3_matrix.specs.RowMajor.{RowMajor, IsRowMajor, height}
 use Rattle.p3_matrix.specs.Cosets.{values_of}
 use Rattle.p3_matrix.proofs.Rooms.{room_of}
