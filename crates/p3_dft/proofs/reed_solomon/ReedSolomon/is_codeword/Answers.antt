@@ -1,4 +1,5 @@
 use Rattle.std.proofs.Common.{sym, ap}
+use Rattle.p3_dft.proofs.Calls.EngineSteps.{as_stored, dft_of_same}
 use Rattle.p3_dft.proofs.Laws.Codes.{degree_told}
 use Rattle.p3_dft.specs.Codes.{Encoder}
 use Rattle.p3_dft.proofs.reed_solomon.ReedSolomon.is_codeword.Goals as goal
@@ -14,3 +15,7 @@ returns-clause-code g c = ap (λ (e : Encoder g.row.F.Denot g.row.D.Denot). e.co
 
 pub coset_idft_batch-requires-clause-fits : goal.coset_idft_batch-requires-clause-fits
 coset_idft_batch-requires-clause-fits g c = rw c.in_ok-try_clone.ensures.copy c.requires.fits
+
+pub returns-clause-engine : goal.returns-clause-engine
+returns-clause-engine g c =
+    rw (sym c.self.view_is) (dft_of_same g.D.TwoAdicSubgroupDft.facts _ _ _ _ _ 2 c.in_ok-try_clone.ensures.copy (as_stored _ _ _ c.in_ok-coefficients.ensures.engine))
