@@ -1,7 +1,6 @@
 use Rattle.std.proofs.Common.{ℕ, ◌^◌, sym, ap, ◌∙◌, arith}
 use Rattle.p3_field.specs.Ring.{power}
 use Rattle.p3_matrix.specs.BitOrder.{rev, bit_reversal}
-use Rattle.p3_matrix.specs.RowMajor.{height}
 use Rattle.p3_matrix.proofs.BitReversal.{rev-lt, rev-rev}
 use Rattle.p3_matrix.specs.Polynomials.{poly}
 use Rattle.p3_matrix.specs.Cosets.{values_of}
