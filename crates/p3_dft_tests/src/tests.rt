@@ -14,6 +14,7 @@ mod callers;
 mod clients;
 mod extensions;
 mod folding;
+mod fri;
 mod groups;
 mod helpers;
 mod jobs;

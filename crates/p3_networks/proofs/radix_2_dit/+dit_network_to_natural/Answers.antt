@@ -22,13 +22,22 @@ dit_network_to_natural-requires-then-values-gt-CACHED g t c κs within =
     let size = rest_size k c.args.width (length c.args.values.now) (length c.split_at_mut-low.result.1.now) c.if-log_h-gt0.true c.requires.size c.split_at_mut-low.ensures.back_len in
     (omega (arith, c.decreases, c.if-log_h-gt0.true), (within.0, (within.1.0, (within.1.1, (c.requires.width, (omega (arith, c.requires.fits_u64), (omega (arith, c.requires.within), (size, ((λ l below. c.requires.table l (omega arith)), (λ l t below inside. c.requires.twiddles l t (omega arith) inside))))))))))
 
-pub one_low_layer-requires : goal.one_low_layer-requires
-one_low_layer-requires g t c =
+pub one_low_layer-requires-clause-rows : goal.one_low_layer-requires-clause-rows
+one_low_layer-requires-clause-rows g t c =
     let first = c.dit_network_to_natural in
     let second = c.dit_network_to_natural-then-values-gt-CACHED in
     let front = first.auto.values ∙ c.split_at_mut-low.ensures.front_len in
-    let size : length (first.new.values ++ second.new.values) ≡ 2 ^ c.args.log_h * c.args.width = omega (arith, length-append first.new.values second.new.values, front, second.auto.values, c.split_at_mut-low.ensures.back_len, c.requires.size) in
-    record { rows = record { width = c.requires.width; fits_u64 = c.requires.fits_u64; size = size }; below = omega (arith, c.if-log_h-gt0.true); table = c.requires.table (c.args.log_h - 1) (omega (arith, c.if-log_h-gt0.true)) }
+    record {
+      width = c.requires.width;
+      fits_u64 = c.requires.fits_u64;
+      size = omega (arith, length-append first.new.values second.new.values, front, second.auto.values, c.split_at_mut-low.ensures.back_len, c.requires.size);
+    }
+
+pub one_low_layer-requires-clause-below : goal.one_low_layer-requires-clause-below
+one_low_layer-requires-clause-below g t c = omega (arith, c.if-log_h-gt0.true)
+
+pub one_low_layer-requires-clause-table : goal.one_low_layer-requires-clause-table
+one_low_layer-requires-clause-table g t c = c.requires.table (c.args.log_h - 1) (omega (arith, c.if-log_h-gt0.true))
 
 pub returns-then-values-gt-CACHED-clause-values : goal.returns-then-values-gt-CACHED-clause-values
 returns-then-values-gt-CACHED-clause-values g t c r j below inside =
@@ -59,6 +68,3 @@ pub returns-then-values-gt-CACHED-clause-cost : goal.returns-then-values-gt-CACH
 returns-then-values-gt-CACHED-clause-cost g t c =
     joined_count c.args.log_h c.args.width c.args.products.now c.dit_network_to_natural.new.products c.dit_network_to_natural-then-values-gt-CACHED.new.products c.one_low_layer.new.products
     c.if-log_h-gt0.true c.dit_network_to_natural.ensures.cost c.dit_network_to_natural-then-values-gt-CACHED.ensures.cost c.one_low_layer.ensures.cost.cost
-
-pub network_in_cache-requires : goal.network_in_cache-requires
-network_in_cache-requires g t c = record { width = c.requires.width; fits_u64 = c.requires.fits_u64; within = c.requires.within; size = c.requires.size; table = c.requires.table; twiddles = c.requires.twiddles }
