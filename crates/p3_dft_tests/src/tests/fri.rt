@@ -308,7 +308,7 @@ const CHANGES: [Change; 8] = [
 ];
 
 // Adds one to an element.
-fn change<F: Field>(rt: &impl Abort, elements: &mut [F], i: usize) {
+fn add_one<F: Field>(rt: &impl Abort, elements: &mut [F], i: usize) {
     assert!(rt; i < elements.len());
     elements[i] += F::ONE;
 }
@@ -319,12 +319,12 @@ fn changed_queries<F: CanonicalField>(rt: &impl Abort, alloc: Global, case: &Cas
         assert!(rt; layer < openings.len());
         let mut index = 0;
         match what {
-            Change::Near => change(rt, openings[layer].pair.values_mut(), 0),
-            Change::Far => change(rt, openings[layer].pair.values_mut(), case.width),
-            Change::Path => change(rt, &mut openings[layer].path, 0),
-            Change::Root => change(rt, &mut commitment.roots, layer),
-            Change::Challenge => change(rt, &mut commitment.challenges, layer),
-            Change::Last => change(rt, commitment.last.values_mut(), 0),
+            Change::Near => add_one(rt, openings[layer].pair.values_mut(), 0),
+            Change::Far => add_one(rt, openings[layer].pair.values_mut(), case.width),
+            Change::Path => add_one(rt, &mut openings[layer].path, 0),
+            Change::Root => add_one(rt, &mut commitment.roots, layer),
+            Change::Challenge => add_one(rt, &mut commitment.challenges, layer),
+            Change::Last => add_one(rt, commitment.last.values_mut(), 0),
             Change::Index => index = 1,
             Change::Count => {
                 openings.pop();
