@@ -45,4 +45,6 @@ pub use radix_2_dit_parallel::Radix2DitParallel;
 pub use radix_2_small_batch::Radix2DFTSmallBatch;
 pub use reed_solomon::{ReedSolomon, fits_code};
 pub use traits::{Layout, TwoAdicSubgroupDft};
-pub use util::{divide_by_height, extend_by_zeros, extended_height, fits_dft, fits_lde, log_height};
+pub use util::{
+    divide_by_height, extend_by_zeros, extended_height, fits_dft, fits_lde, log_height,
+};
