@@ -3,8 +3,7 @@ use Rattle.std.proofs.Common.{◌≡◌, ℕ, ◌/◌, Bool, true, false, not, L
 use Rattle.std.specs.Global.{Global}
 use Rattle.std.specs.Prelude.{⊤, Vec}
 use Rattle.std.proofs.lemmas.List.{length-map}
-use Rattle.p3_field.specs.FieldLaws.{roots_law}
-use Rattle.p3_field.specs.Fields.{baby_bear_ring, baby_bear_root, goldilocks_ring, goldilocks_root}
+use Rattle.p3_field.specs.Fields.{FieldNumbers, are_field_generators, baby_bear_numbers, goldilocks_numbers}
 use Rattle.p3_field.specs.Residues.{residue-eq}
 use Rattle.p3_field.specs.Ring.{AreRoots}
 use Rattle.p3_matrix.specs.Matrix.{Same, matrix}
@@ -25,8 +24,8 @@ use Rattle.dft.specs.declared.program.Request.{Request}
 use Rattle.dft.specs.Answers.{IsText, asked_job}
 use Rattle.dft.specs.Arguments.{Arguments, arguments, arguments_of, cannot_undo, faults, is_unfit, number_or_zero}
 use Rattle.dft.specs.Faults.{first_fault, unless_fault}
-use Rattle.dft.specs.NumberedFields.{NumberedField, baby_bear, goldilocks, has_inverse, members}
-use Rattle.dft.specs.Outcome.{FaultOr, Gives, IsAnswerable, IsAnswered, IsOutcome, IsOutcomeIn, Outcome, asked, told}
+use Rattle.dft.specs.NumberedFields.{NumberedField, has_inverse, members, residue_field}
+use Rattle.dft.specs.Outcome.{FaultOr, Gives, IsAnswerable, IsAnswered, IsOutcome, IsOutcomeIn, IsOutcomeOver, Outcome, asked, told}
 use Rattle.dft.specs.Text.{text_of_rows}
 use Rattle.dft.proofs.Inverses.{has_inverse-from_true}
 use Rattle.dft.proofs.Shapes.{unfit-false}
@@ -87,21 +86,22 @@ module _ {A : Type 0} (f : NumberedField A) (are_roots : AreRoots f.ring f.two_a
       )
   some_over operation words (Err fault) e = (told fault, refl)
 
-baby_bear_roots : AreRoots baby_bear.ring 27 baby_bear.generator
-baby_bear_roots = roots_law baby_bear_ring baby_bear_root 27 (residue-eq _ _ refl) (residue-eq _ _ refl)
+module _ (f : FieldNumbers) (operation : Operation) (words : List (List ℕ)) where
+  one_of_field : (o p : Outcome) → IsOutcomeOver (residue_field f) operation words o → IsOutcomeOver (residue_field f) operation words p → o ≡ p
+  one_of_field o p x y = one_over (residue_field f) (are_field_generators f) residue-eq operation words (arguments (residue_field f) operation words) o p refl x y
 
-goldilocks_roots : AreRoots goldilocks.ring 32 goldilocks.generator
-goldilocks_roots = roots_law goldilocks_ring goldilocks_root 32 (residue-eq _ _ refl) (residue-eq _ _ refl)
+  some_of_field : (o : Outcome) × IsOutcomeOver (residue_field f) operation words o
+  some_of_field = some_over (residue_field f) (are_field_generators f) residue-eq operation words (arguments (residue_field f) operation words) refl
 
 one_in : (name : FieldName) (operation : Operation) (words : List (List ℕ)) (o p : Outcome) → IsOutcomeIn name operation words o → IsOutcomeIn name operation words p → o ≡ p
-one_in BabyBear operation words o p x y = one_over baby_bear baby_bear_roots residue-eq operation words (arguments baby_bear operation words) o p refl x y
-one_in Goldilocks operation words o p x y = one_over goldilocks goldilocks_roots residue-eq operation words (arguments goldilocks operation words) o p refl x y
-one_in WideGoldilocks operation words o p x y = one_over goldilocks goldilocks_roots residue-eq operation words (arguments goldilocks operation words) o p refl x y
+one_in BabyBear operation words o p x y = one_of_field baby_bear_numbers operation words o p x y
+one_in Goldilocks operation words o p x y = one_of_field goldilocks_numbers operation words o p x y
+one_in WideGoldilocks operation words o p x y = one_of_field goldilocks_numbers operation words o p x y
 
 some_in : (name : FieldName) (operation : Operation) (words : List (List ℕ)) → (o : Outcome) × IsOutcomeIn name operation words o
-some_in BabyBear operation words = some_over baby_bear baby_bear_roots residue-eq operation words (arguments baby_bear operation words) refl
-some_in Goldilocks operation words = some_over goldilocks goldilocks_roots residue-eq operation words (arguments goldilocks operation words) refl
-some_in WideGoldilocks operation words = some_over goldilocks goldilocks_roots residue-eq operation words (arguments goldilocks operation words) refl
+some_in BabyBear operation words = some_of_field baby_bear_numbers operation words
+some_in Goldilocks operation words = some_of_field goldilocks_numbers operation words
+some_in WideGoldilocks operation words = some_of_field goldilocks_numbers operation words
 
 abbrev IsAskedOutcome : Result Request Fault → List (List ℕ) → Outcome → Type 0
 IsAskedOutcome r words o = FaultOr r (λ request. IsOutcomeIn request.field request.operation words) o

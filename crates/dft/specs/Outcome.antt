@@ -3,6 +3,7 @@ use Rattle.std.specs.Prelude.{◌≡◌, ◌⊎◌, ℕ, List, drop, slice_get, 
 use Rattle.std.specs.Global.{Global}
 use Rattle.std.specs.Option.{ok_or}
 use Rattle.std.specs.Vec.{vec_items}
+use Rattle.p3_field.specs.Fields.{baby_bear_numbers, goldilocks_numbers}
 use Rattle.dft.specs.declared.fault.Fault.{Fault}
 use Rattle.dft.specs.declared.fault.Fault.TheVariants.{UnknownField, UnknownEngine, UnknownOperation, TooFewWords}
 use Rattle.dft.specs.declared.fault.Stopped.{Stopped}
@@ -15,7 +16,7 @@ use Rattle.dft.specs.Answers.{IsText, asked_job}
 use Rattle.dft.specs.Arguments.{Arguments, arguments}
 use Rattle.dft.specs.Faults.{◌>>=◌, line_of}
 use Rattle.dft.specs.Names.{field_named, engine_named, operation_named}
-use Rattle.dft.specs.NumberedFields.{NumberedField, baby_bear, goldilocks}
+use Rattle.dft.specs.NumberedFields.{NumberedField, residue_field}
 use Rattle.dft.specs.Words.{Told, ToldAll, ToldFirst}
 
 -- what the word names, if it is there
@@ -54,9 +55,9 @@ IsOutcomeOver f operation words o = FaultOr (arguments f operation words) (IsAns
 
 -- the same in the field of this name, whichever engine finds it
 abbrev pub IsOutcomeIn : FieldName → Operation → List (List ℕ) → Outcome → Type 0
-IsOutcomeIn BabyBear operation words o = IsOutcomeOver baby_bear operation words o
-IsOutcomeIn Goldilocks operation words o = IsOutcomeOver goldilocks operation words o
-IsOutcomeIn WideGoldilocks operation words o = IsOutcomeOver goldilocks operation words o
+IsOutcomeIn BabyBear operation words o = IsOutcomeOver (residue_field baby_bear_numbers) operation words o
+IsOutcomeIn Goldilocks operation words o = IsOutcomeOver (residue_field goldilocks_numbers) operation words o
+IsOutcomeIn WideGoldilocks operation words o = IsOutcomeOver (residue_field goldilocks_numbers) operation words o
 
 -- the outcome of the words after the program's name
 abbrev pub IsOutcome : List (List ℕ) → Outcome → Type 0
