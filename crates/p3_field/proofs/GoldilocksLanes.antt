@@ -34,15 +34,14 @@ if_not_less x y a b l = chosen_word (ltb x y) a b ∙ cond-false (ltb x y) a b (
 
 -- ---- one lane
 lane_sum : (x y : ℕ) → x < goldilocks_modulus → y < goldilocks_modulus
-    → word_sum (word_sum x y) (cond (top 63 (word_mask (word_difference 18446744069414584320 y) x)) 4294967295 0) ≡ (x + y) % goldilocks_modulus
+    → word_difference (word_sum x (word_sum y 4294967295)) (cond (top 63 (word_mask x (word_sum x (word_sum y 4294967295)))) 4294967295 0) ≡ (x + y) % goldilocks_modulus
 lane_sum x y a b =
-    let s : ℕ = word_sum x y in
-    let r : ℕ = word_difference 18446744069414584320 y in
-    let r_is : r ≡ 18446744069414584320 - y = omega (arith, b) in
+    let s : ℕ = word_sum x (word_sum y 4294967295) in
+    let s_is : s ≡ (x + y + 4294967295) % 18446744073709551616 = omega (arith, b) in
     ⊎_elim
-    (λ less. ap (word_sum s) (if_less r x 4294967295 0 less) ∙ omega (arith, r_is, less, a, b))
-    (λ fits. ap (word_sum s) (if_not_less r x 4294967295 0 fits) ∙ omega (arith, r_is, fits, a, b))
-    (cases_lt r x)
+    (λ above. ap (word_difference s) (if_less x s 4294967295 0 above) ∙ omega (arith, s_is, above, a, b))
+    (λ wraps. ap (word_difference s) (if_not_less x s 4294967295 0 wraps) ∙ omega (arith, s_is, wraps, a, b))
+    (cases_lt x s)
 
 lane_difference : (x y : ℕ) → x < goldilocks_modulus → y < goldilocks_modulus
     → word_difference (word_difference x y) (cond (top 63 (word_mask x y)) 4294967295 0) ≡ (x + (goldilocks_modulus - y)) % goldilocks_modulus
@@ -58,8 +57,11 @@ lane_difference x y a b =
 abbrev all_above : ℕ → List ℕ → List ℕ → ℕ → ℕ → List ℕ
 all_above n xs ys a b = sel_l (map (top 63) (zip2 word_mask ys xs)) (replicate n a) (replicate n b)
 
+abbrev less_sums : ℕ → List ℕ → List ℕ → List ℕ
+less_sums n xs ys = zip2 word_sum xs (zip2 word_sum ys (replicate n 4294967295))
+
 pub goldilocks_sums : (xs ys : List ℕ) (n : ℕ) → length xs ≡ n → length ys ≡ n → AreBelow goldilocks_modulus xs → AreBelow goldilocks_modulus ys
-    → zip2 word_sum (zip2 word_sum xs ys) (all_above n xs (zip2 word_difference (replicate n 18446744069414584320) ys) 4294967295 0)
+    → zip2 word_difference (less_sums n xs ys) (all_above n (less_sums n xs ys) xs 4294967295 0)
     ≡ zip2 (λ x y. (x + y) % goldilocks_modulus) xs ys
 goldilocks_sums [] ys n e f a b = refl
 goldilocks_sums (x ∷ xs) [] n e f a b = absurd (omega (arith, e, f))
@@ -170,74 +172,73 @@ turned x = word_sum x 9223372036854775808
 abbrev where_greater : ℕ → ℕ → ℕ → ℕ → ℕ
 where_greater x y a b = cond (top 63 (word_mask (turned y) (turned x))) a b
 
-abbrev borrowed : ℕ → ℕ → ℕ
-borrowed l u = word_difference (word_difference (turned l) u) (where_greater (word_difference (turned l) u) (turned l) 4294967295 0)
+-- what is added to the lower word for the upper one, and the highest bit turned
+abbrev multiple : ℕ → ℕ
+multiple h = word_difference (turned (word_sum (half_left h 32) (word_difference 4294967295 (bit_and h 4294967295)))) (half_right h 32)
 
-abbrev carried : ℕ → ℕ → ℕ
-carried b m = word_sum (word_sum b m) (where_greater b (word_sum b m) 4294967295 0)
+-- the sum with it, in which the word may have wrapped, and its remainder
+abbrev lessened : ℕ → ℕ → ℕ
+lessened l e = word_difference (word_sum l e) (where_greater e (word_sum l e) 0 4294967295)
 
 abbrev corrected : ℕ → ℕ
-corrected c = turned (word_sum c (word_difference 4294967295 (where_greater 9223372032559808513 c 4294967295 0)))
+corrected c = turned (word_difference c (cond (top 63 (word_mask 18446744069414584320 (turned c))) 4294967295 0))
 
--- the modulus is added at most once, or taken away
-borrowed_is : (l u : ℕ) → l < 18446744073709551616 → u < 4294967296
-    → (e : ℕ) × ((turned (borrowed l u) + u ≡ l + e * goldilocks_modulus) × (borrowed l u < 18446744073709551616))
-borrowed_is l u a b =
-    let t : ℕ = turned l in
-    let d : ℕ = word_difference t u in
-    let t_is : turned t ≡ l = omega (arith, a) in
-    let d_is : turned d ≡ word_difference l u = omega (arith, a, b) in
-    ⊎_elim
-    (λ less.
-    let is : borrowed l u ≡ word_difference d 4294967295 = ap (word_difference d) (if_less (turned t) (turned d) 4294967295 0 less) in
-    (1, (omega (arith, is, t_is, d_is, less, a, b), omega (arith, is))))
-    (λ reaches.
-    let is : borrowed l u ≡ word_difference d 0 = ap (word_difference d) (if_not_less (turned t) (turned d) 4294967295 0 reaches) in
-    (0, (omega (arith, is, t_is, d_is, reaches, a, b), omega (arith, is))))
-    (cases_lt (turned t) (turned d))
-
-carried_is : (b m : ℕ) → b < 18446744073709551616 → m ≤ 18446744065119617025
-    → (e : ℕ) × ((turned (carried b m) + e * goldilocks_modulus ≡ turned b + m) × (carried b m < 18446744073709551616))
-carried_is b m below most =
-    let s : ℕ = word_sum b m in
-    let s_is : turned s ≡ word_sum (turned b) m = omega arith in
-    ⊎_elim
-    (λ less.
-    let is : carried b m ≡ word_sum s 4294967295 = ap (word_sum s) (if_less (turned s) (turned b) 4294967295 0 less) in
-    (1, (omega (arith, is, s_is, less, below, most), omega (arith, is))))
-    (λ reaches.
-    let is : carried b m ≡ word_sum s 0 = ap (word_sum s) (if_not_less (turned s) (turned b) 4294967295 0 reaches) in
-    (0, (omega (arith, is, s_is, reaches, below, most), omega (arith, is))))
-    (cases_lt (turned s) (turned b))
-
-corrected_is : (c : ℕ) → c < 18446744073709551616 → corrected c ≡ turned c % goldilocks_modulus
-corrected_is c below =
-    let correct : ℕ → ℕ = λ m. turned (word_sum c (word_difference 4294967295 m)) in
-    ⊎_elim
-    (λ less. ap correct (if_less (turned c) goldilocks_modulus 4294967295 0 less) ∙ omega (arith, less, below))
-    (λ reaches. ap correct (if_not_less (turned c) goldilocks_modulus 4294967295 0 reaches) ∙ omega (arith, reaches, below))
-    (cases_lt (turned c) goldilocks_modulus)
+multiple_is : (h : ℕ) → h < 18446744073709551616
+    → (turned (multiple h) + h / 4294967296 ≡ h % 4294967296 * 4294967295 + 4294967295) × (multiple h < 18446744073709551616)
+multiple_is h b =
+    let h0 : ℕ = h % 4294967296 in
+    let u : ℕ = h / 4294967296 in
+    let u_below : u < 4294967296 = omega (arith, b) in
+    let shifted : (h * 4294967296) % 18446744073709551616 ≡ h0 * 4294967296 = omega arith in
+    let rest : word_difference 4294967295 h0 ≡ 4294967295 - h0 = omega arith in
+    let whole : word_sum (half_left h 32) (word_difference 4294967295 h0) ≡ h0 * 4294967295 + 4294967295 = omega (arith, shifted, rest) in
+    let is : multiple h ≡ word_difference (turned (h0 * 4294967295 + 4294967295)) u
+    = ap (λ k. word_difference (turned (word_sum (half_left h 32) (word_difference 4294967295 k))) u) (low_half h) ∙ ap (λ k. word_difference (turned k) u) whole in
+    (omega (arith, is, u_below), omega (arith, is))
 
 abbrev reduced_word : ℕ → ℕ → ℕ
-reduced_word l h = corrected (carried (borrowed l (half_right h 32)) (word_product (bit_and h 4294967295) 4294967295))
+reduced_word l h = corrected (lessened l (multiple h))
+
+-- the modulus is added or taken away so often that the word is below it
+quotients : (l h : ℕ) → l < 18446744073709551616 → h < 18446744073709551616
+    → (f : ℕ) × ((g : ℕ) × ((l + h * 18446744073709551616 + g * goldilocks_modulus ≡ reduced_word l h + f * goldilocks_modulus) × (reduced_word l h < goldilocks_modulus)))
+quotients l h a b =
+    let h0 : ℕ = h % 4294967296 in
+    let u : ℕ = h / 4294967296 in
+    let u_below : u < 4294967296 = omega (arith, b) in
+    let m : ℕ = multiple h in
+    let m_is = multiple_is h b in
+    let s : ℕ = word_sum l m in
+    let s_is : turned s ≡ word_sum l (turned m) = omega arith in
+    ⊎_elim
+    (λ wraps.
+    let less : lessened l m ≡ s = ap (word_difference s) (if_less (turned s) (turned m) 0 4294967295 wraps) ∙ omega arith in
+    let most : turned s ≤ 18446744069414584320 = omega (arith, s_is, wraps, m_is.0, a) in
+    let is : reduced_word l h ≡ turned (word_difference s 0) = ap corrected less ∙ ap (λ k. turned (word_difference s k)) (if_not_less 18446744069414584320 (turned s) 4294967295 0 most) in
+    (1 + h0 + u * 4294967297, (0, (omega (arith, is, s_is, wraps, m_is.0, a), omega (arith, is, most)))))
+    (λ fits.
+    let c : ℕ = word_difference s 4294967295 in
+    let less : lessened l m ≡ c = ap (word_difference s) (if_not_less (turned s) (turned m) 0 4294967295 fits) in
+    let c_is : turned c ≡ word_difference (turned s) 4294967295 = omega arith in
+    ⊎_elim
+    (λ negative.
+    let is : reduced_word l h ≡ turned (word_difference c 4294967295) = ap corrected less ∙ ap (λ k. turned (word_difference c k)) (if_less 18446744069414584320 (turned c) 4294967295 0 negative) in
+    (h0 + u * 4294967297, (1, (omega (arith, is, c_is, s_is, fits, negative, m_is.0, a, u_below), omega (arith, is, c_is, s_is, fits, negative, m_is.0, a, u_below)))))
+    (λ most.
+    let is : reduced_word l h ≡ turned (word_difference c 0) = ap corrected less ∙ ap (λ k. turned (word_difference c k)) (if_not_less 18446744069414584320 (turned c) 4294967295 0 most) in
+    (h0 + u * 4294967297, (0, (omega (arith, is, c_is, s_is, fits, most, m_is.0, a, u_below), omega (arith, is, most)))))
+    (cases_lt 18446744069414584320 (turned c)))
+    (cases_lt (turned s) (turned m))
 
 reduced_word_is : (l h : ℕ) → l < 18446744073709551616 → h < 18446744073709551616
     → reduced_word l h ≡ (l + h * 18446744073709551616) % goldilocks_modulus
 reduced_word_is l h a b =
     let p : ℕ = goldilocks_modulus in
-    let u : ℕ = h / 4294967296 in
-    let h0 : ℕ = h % 4294967296 in
-    let u_below : u < 4294967296 = omega (arith, b) in
-    let m : ℕ = word_product (bit_and h 4294967295) 4294967295 in
-    let m_is : m ≡ h0 * 4294967295 = ap (λ k. word_product k 4294967295) (low_half h) ∙ omega arith in
-    let m_most : m ≤ 18446744065119617025 = omega (arith, m_is) in
-    let (e, first) = borrowed_is l u a u_below in
-    let (f, second) = carried_is (borrowed l u) m first.1 m_most in
-    let whole : l + h * 18446744073709551616 + e * p ≡ turned (carried (borrowed l u) m) + (f + h0 + u * 4294967297) * p = omega (arith, first.0, second.0, m_is) in
-    corrected_is (carried (borrowed l u) m) second.1
-    ∙ sym (add-mul-mod_self_right (turned (carried (borrowed l u) m)) (f + h0 + u * 4294967297) p)
+    let (f, (g, (whole, below))) = quotients l h a b in
+    sym (mod-eq_of_lt below)
+    ∙ sym (add-mul-mod_self_right (reduced_word l h) f p)
     ∙ ap (λ k. k % p) (sym whole)
-    ∙ add-mul-mod_self_right (l + h * 18446744073709551616) e p
+    ∙ add-mul-mod_self_right (l + h * 18446744073709551616) g p
 
 -- ---- all lanes
 abbrev masked : ℕ → List ℕ → List ℕ
@@ -275,22 +276,18 @@ all_turned n xs = zip2 word_sum xs (replicate n 9223372036854775808)
 abbrev all_where : ℕ → List ℕ → List ℕ → ℕ → ℕ → List ℕ
 all_where n xs ys a b = all_above n (all_turned n xs) (all_turned n ys) a b
 
-abbrev all_borrowed : ℕ → List ℕ → List ℕ → List ℕ
-all_borrowed n ls hs =
-    let less = zip2 word_difference (all_turned n ls) (upper n hs) in
-    zip2 word_difference less (all_where n less (all_turned n ls) 4294967295 0)
+abbrev multiples : ℕ → List ℕ → List ℕ
+multiples n hs =
+    let whole = zip2 word_sum (zip2 half_left hs (replicate n 32)) (zip2 word_difference (replicate n 4294967295) (masked n hs)) in
+    zip2 word_difference (all_turned n whole) (upper n hs)
 
-abbrev middles : ℕ → List ℕ → List ℕ
-middles n hs = zip2 word_product (masked n hs) (replicate n 4294967295)
-
-abbrev all_carried : ℕ → List ℕ → List ℕ → List ℕ
-all_carried n ls hs =
-    let sums = zip2 word_sum (all_borrowed n ls hs) (middles n hs) in
-    zip2 word_sum sums (all_where n (all_borrowed n ls hs) sums 4294967295 0)
+abbrev all_lessened : ℕ → List ℕ → List ℕ → List ℕ
+all_lessened n ls hs =
+    let sums = zip2 word_sum ls (multiples n hs) in
+    zip2 word_difference sums (all_where n (multiples n hs) sums 0 4294967295)
 
 pub reduced_words : (ls hs : List ℕ) (n : ℕ) → length ls ≡ n → Each1 (Fits w64) ls → Each1 (Fits w64) hs
-    → all_turned n (zip2 word_sum (all_carried n ls hs)
-    (zip2 word_difference (replicate n 4294967295) (all_where n (replicate n 9223372032559808513) (all_carried n ls hs) 4294967295 0)))
+    → all_turned n (zip2 word_difference (all_lessened n ls hs) (all_above n (all_turned n (all_lessened n ls hs)) (replicate n 18446744069414584320) 4294967295 0))
     ≡ zip2 (λ l h. (l + h * 18446744073709551616) % goldilocks_modulus) ls hs
 reduced_words [] hs n e a b = refl
 reduced_words (l ∷ ls) hs zero e a b = absurd (omega (arith, e))

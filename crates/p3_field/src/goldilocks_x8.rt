@@ -1,8 +1,8 @@
 //! Eight elements of the field of the numbers below `2^64 - 2^32 + 1`, in the lanes of one vector.
 //!
-//! AVX2 compares words of 64 bits only as signed ones. So the compiler compares numbers with their highest bits flipped:
-//! the unsigned order of two words is the signed order of the flipped ones. Where a number takes part in comparisons
-//! that follow one another, it is kept flipped here, by a sum with `HIGHEST_BIT`, and the compiler sees it.
+//! AVX2 compares words of 64 bits only as signed ones. So the compiler compares numbers with their highest bits
+//! flipped: the unsigned order of two words is the signed order of the flipped ones. Where a number takes part in
+//! comparisons that follow one another, it is kept flipped here, by a sum with `HIGHEST_BIT`, and the compiler sees it.
 
 ghost use Rattle.std.specs.Prelude.{◌≡◌, ◌+◌, ◌-◌, ◌*◌, ◌%◌, ◌/◌, ◌<◌, ℕ, length, map, get_or};
 ghost use Rattle.std.specs.Simd.Lanes.{zip2};
@@ -19,13 +19,11 @@ use std::simd::prelude::*;
 // The largest number below the modulus.
 const LARGEST: u64 = 18446744069414584320;
 
-// `2^64` is this number to the modulus: to add it and let the word wrap takes the modulus away.
+// `2^64` is this number to the modulus: to add it and let the word wrap takes the modulus away, and to subtract it
+// adds the modulus.
 const WRAP: u64 = 4294967295;
 
 const HIGHEST_BIT: u64 = 9223372036854775808;
-
-// The modulus with its highest bit flipped.
-const FLIPPED_MODULUS: u64 = 9223372032559808513;
 
 /// Eight elements, by their numbers.
 #[derive(Copy)]
@@ -184,16 +182,17 @@ impl PackedField for GoldilocksX8 {
     ghost width_law = { λ x. length-elements_of _ x.lanes x.below ∙ x.eight };
 }
 
-// The sum of each two lanes below the modulus.
+// The sum of each two lanes below the modulus. The modulus is taken away; where that leaves a negative number, it is
+// a word above `a`, and the modulus is added again.
 #[inline(always)]
 fn sums(a: u64x8, b: u64x8) -> u64x8
     requires first { AreBelow goldilocks_modulus a }
     requires second { AreBelow goldilocks_modulus b }
     ensures { result ≡ zip2 (λ x y. (x + y) % goldilocks_modulus) a b }
 {
-    let room = u64x8::splat(LARGEST) - b;
-    let reaches = a.simd_gt(room);
-    (a + b) + reaches.select(u64x8::splat(WRAP), u64x8::splat(0))
+    let less = a + (b + u64x8::splat(WRAP));
+    let negative = less.simd_gt(a);
+    less - negative.select(u64x8::splat(WRAP), u64x8::splat(0))
 }
 
 // The difference of each two lanes below the modulus.
@@ -228,7 +227,11 @@ fn wide_products(x: u64x8, t: u64x8) -> (u64x8, u64x8)
     )
 }
 
-// The remainder of each number of two words: `2^64` is `2^32 - 1` to the modulus, and `2^96` is minus one.
+// The remainder of each number of two words: `2^64` is `2^32 - 1` to the modulus, and `2^96` is minus one. So it is
+// that of `low + lower * (2^32 - 1) - upper`, for the halves of `high`. This is below twice the modulus. So `WRAP` is
+// added to it, and taken away again where the word does not wrap: one correction does for both, a carry and a number
+// above the modulus. With `WRAP`, the last two terms together are not negative. The whole still may be: without `WRAP`
+// it is then a word above `LARGEST`.
 #[inline(always)]
 fn reduced(low: u64x8, high: u64x8) -> u64x8
     ensures { result ≡ zip2 (λ l h. (l + h * 18446744073709551616) % goldilocks_modulus) low high }
@@ -236,22 +239,14 @@ fn reduced(low: u64x8, high: u64x8) -> u64x8
     let highest = u64x8::splat(HIGHEST_BIT);
     let mask = u64x8::splat(4294967295);
     let zero = u64x8::splat(0);
-    let flipped = low + highest;
-    let less = flipped - (high >> u64x8::splat(32));
-    let borrowed = less
-        - (less + highest)
-            .simd_gt(flipped + highest)
-            .select(mask, zero);
-    let middle = (high & mask) * mask;
-    let sum = borrowed + middle;
-    let carried = sum
-        + (borrowed + highest)
-            .simd_gt(sum + highest)
-            .select(mask, zero);
-    let short = (u64x8::splat(FLIPPED_MODULUS) + highest)
-        .simd_gt(carried + highest)
-        .select(mask, zero);
-    (carried + (mask - short)) + highest
+    let half = u64x8::splat(32);
+    let multiple = (high << half) + (mask - (high & mask));
+    let flipped = (multiple + highest) - (high >> half);
+    let sum = low + flipped;
+    let wrapped = (flipped + highest).simd_gt(sum + highest);
+    let less = sum - wrapped.select(zero, mask);
+    let negative = (less + highest).simd_gt(u64x8::splat(LARGEST));
+    (less - negative.select(mask, zero)) + highest
 }
 
 // The product of each two lanes.
