@@ -1,5 +1,5 @@
 -- Lists of one element, lists that grow by one, and places in a list.
-use Rattle.std.proofs.Common.{◌≡◌, ℕ, ◌+◌, ◌++◌, ◌<◌, List, [], ◌∷◌, length, get_or, take, slice_set, refl, sym, ap, ◌∙◌, arith, ◌≤◌, subst}
+use Rattle.std.proofs.Common.{◌≡◌, ℕ, zero, suc, ◌+◌, ◌++◌, ◌<◌, List, [], ◌∷◌, length, get_or, take, drop, slice_set, refl, sym, ap, ◌∙◌, arith, ◌≤◌, subst}
 use Rattle.std.proofs.lemmas.List.{append_assoc, take_more, take_all}
 
 pub slice_set-single : {A : Type 0} (xs : List A) (x : A) → length xs ≡ 1 → slice_set xs 0 x ≡ x ∷ []
@@ -27,3 +27,14 @@ place_inside xs i n long below = subst (λ k. i < k) (sym long) below
 -- room for d more
 pub room_made : (len d d' cap : ℕ) → d ≡ d' → len + d ≤ cap → len + d' ≤ cap + 0
 room_made len d d' cap same room = omega arith
+
+-- a list, entry by entry
+abbrev pub entries : {A : Type 0} → ℕ → List A → A → List A
+entries zero xs d = []
+entries (suc n) xs d = get_or xs 0 d ∷ entries n (drop 1 xs) d
+
+pub all_entries : {A : Type 0} (n : ℕ) (xs : List A) (d : A) → length xs ≡ n → xs ≡ entries n xs d
+all_entries zero [] d long = refl
+all_entries zero (x ∷ xs) d long = absurd (omega (arith, long))
+all_entries (suc n) [] d long = absurd (omega (arith, long))
+all_entries (suc n) (x ∷ xs) d long = ap (λ ys. x ∷ ys) (all_entries n xs d (omega (arith, long)))

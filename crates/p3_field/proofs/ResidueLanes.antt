@@ -1,9 +1,13 @@
 -- Residues in the lanes of a packed value: what is known of their numbers is known of them.
-use Rattle.std.proofs.Common.{◌≡◌, ℕ, zero, suc, ◌+◌, ◌*◌, ◌<◌, List, [], ◌∷◌, length, map, get_or, set, drop, refl, sym, ap, ap₂, ◌∙◌, subst, arith}
-use Rattle.std.proofs.lemmas.List.{map-id}
-use Rattle.std.specs.Simd.Lanes.{zip2}
+use Rattle.std.proofs.Common.{◌≡◌, ℕ, zero, suc, ◌+◌, ◌-◌, ◌*◌, ◌<◌, ◌≤◌, List, [], ◌∷◌, ◌++◌, length, map, get_or, set, drop, refl, sym, ap, ap₂, ◌∙◌, subst, ⊎_elim, arith}
+use Rattle.std.proofs.lemmas.List.{get_or-append-add, get_or_append_left, length-map, map-append, map-id}
+use Rattle.std.proofs.lemmas.Simd.{length-zip2}
+use Rattle.std.proofs.lemmas.Bool.{cases_lt}
+use Rattle.std.specs.Simd.Lanes.{Each1, zip2}
 use Rattle.p3_field.specs.Lanes.{by_lanes}
 use Rattle.p3_field.specs.LaneNumbers.{AreBelow, elements_of}
+use Rattle.p3_field.specs.LaneLaws.{length-elements_of}
+use Rattle.p3_field.proofs.Lists.{all_entries}
 use Rattle.p3_field.specs.Residues.{Residue, residue-eq}
 
 -- lists of eight
@@ -72,17 +76,6 @@ seconds_by_place P a0 a1 a2 a3 a4 a5 a6 a7 b0 b1 b2 b3 b4 b5 b6 b7 d p0 p1 p2 p3
 seconds_by_place P a0 a1 a2 a3 a4 a5 a6 a7 b0 b1 b2 b3 b4 b5 b6 b7 d p0 p1 p2 p3 p4 p5 p6 p7 (suc (suc (suc (suc (suc (suc (suc zero))))))) below = p7
 seconds_by_place P a0 a1 a2 a3 a4 a5 a6 a7 b0 b1 b2 b3 b4 b5 b6 b7 d p0 p1 p2 p3 p4 p5 p6 p7 (suc (suc (suc (suc (suc (suc (suc (suc i)))))))) below = absurd (omega (arith, below))
 
--- a list, entry by entry
-abbrev entries : {A : Type 0} → ℕ → List A → A → List A
-entries zero xs d = []
-entries (suc n) xs d = get_or xs 0 d ∷ entries n (drop 1 xs) d
-
-all_entries : {A : Type 0} (n : ℕ) (xs : List A) (d : A) → length xs ≡ n → xs ≡ entries n xs d
-all_entries zero [] d long = refl
-all_entries zero (x ∷ xs) d long = absurd (omega (arith, long))
-all_entries (suc n) [] d long = absurd (omega (arith, long))
-all_entries (suc n) (x ∷ xs) d long = ap (λ ys. x ∷ ys) (all_entries n xs d (omega (arith, long)))
-
 pairs_written : {A : Type 0} (ys : List A) (a0 a1 a2 a3 a4 a5 a6 a7 b0 b1 b2 b3 b4 b5 b6 b7 : A) → length ys ≡ 16
     → set (set (set (set (set (set (set (set (set (set (set (set (set (set (set (set ys 0 a0) 1 b0) 2 a1) 3 b1) 4 a2) 5 b2) 6 a3) 7 b3) 8 a4) 9 b4) 10 a5) 11 b5) 12 a6) 13 b6) 14 a7) 15 b7 ≡ a0 ∷ b0 ∷ a1 ∷ b1 ∷ a2 ∷ b2 ∷ a3 ∷ b3 ∷ a4 ∷ b4 ∷ a5 ∷ b5 ∷ a6 ∷ b6 ∷ a7 ∷ b7 ∷ []
 pairs_written ys a0 a1 a2 a3 a4 a5 a6 a7 b0 b1 b2 b3 b4 b5 b6 b7 long = ap (λ l. set (set (set (set (set (set (set (set (set (set (set (set (set (set (set (set l 0 a0) 1 b0) 2 a1) 3 b1) 4 a2) 5 b2) 6 a3) 7 b3) 8 a4) 9 b4) 10 a5) 11 b5) 12 a6) 13 b6) 14 a7) 15 b7) (all_entries 16 ys a0 long)
@@ -96,6 +89,41 @@ pub second_written : {A : Type 0} (ys : List A) (P : ℕ → A → Type 0) (a0 a
     → (i : ℕ) → i < 8 → P i (get_or (set (set (set (set (set (set (set (set (set (set (set (set (set (set (set (set ys 0 a0) 1 b0) 2 a1) 3 b1) 4 a2) 5 b2) 6 a3) 7 b3) 8 a4) 9 b4) 10 a5) 11 b5) 12 a6) 13 b6) 14 a7) 15 b7) (2 * i + 1) d)
 second_written ys P a0 a1 a2 a3 a4 a5 a6 a7 b0 b1 b2 b3 b4 b5 b6 b7 d long p0 p1 p2 p3 p4 p5 p6 p7 i below =
     subst (λ xs. P i (get_or xs (2 * i + 1) d)) (sym (pairs_written ys a0 a1 a2 a3 a4 a5 a6 a7 b0 b1 b2 b3 b4 b5 b6 b7 long)) (seconds_by_place P a0 a1 a2 a3 a4 a5 a6 a7 b0 b1 b2 b3 b4 b5 b6 b7 d p0 p1 p2 p3 p4 p5 p6 p7 i below)
+
+-- what holds of each entry of two lists, one after another
+pub each_joined : {A : Type 0} (P : A → Type 0) (xs ys : List A) → Each1 P xs → Each1 P ys → Each1 P (xs ++ ys)
+each_joined P [] ys first second = second
+each_joined P (x ∷ xs) ys first second = (first.0, each_joined P xs ys first.1 second)
+
+-- the first n lanes of ls are xs, and ys the others: place k of each half is that of a part of a slice, of 2 * n entries
+module _ {R V : Type 0} (value : R → V) (z : R) where
+  value_at : (xs ys : List R) → map value xs ≡ map value ys → (i : ℕ) → value (get_or xs i z) ≡ value (get_or ys i z)
+  value_at xs ys same i = sym (of_map xs i) ∙ ap (λ vs. get_or vs i (value z)) same ∙ of_map ys i
+    where
+      of_map : (xs : List R) (i : ℕ) → get_or (map value xs) i (value z) ≡ value (get_or xs i z)
+      of_map [] i = refl
+      of_map (x ∷ xs) zero = refl
+      of_map (x ∷ xs) (suc i) = of_map xs i
+
+  halves_by_place : (n : ℕ) (k : ℕ → ℕ) → ((i : ℕ) → i < n → k i < 2 * n) → ((i : ℕ) → k (n + i) ≡ 2 * n + k i)
+      → (ls xs ys all front back : List R) → length xs ≡ n → map value ls ≡ map value (xs ++ ys) → length front ≡ 2 * n → all ≡ front ++ back
+      → ((i : ℕ) → i < n → value (get_or xs i z) ≡ value (get_or front (k i) z)) → ((i : ℕ) → i < n → value (get_or ys i z) ≡ value (get_or back (k i) z))
+      → (i : ℕ) → i < n + n → value (get_or ls i z) ≡ value (get_or all (k i) z)
+  halves_by_place n k inside next ls xs ys all front back long lanes wide parts low high i below =
+      value_at ls (xs ++ ys) lanes i ∙ ⊎_elim first second (cases_lt i n) ∙ ap (λ l. value (get_or l (k i) z)) (sym parts)
+    where
+      first : i < n → value (get_or (xs ++ ys) i z) ≡ value (get_or (front ++ back) (k i) z)
+      first less =
+          ap value (get_or_append_left xs ys z i (omega (arith, less, long))) ∙ low i less
+          ∙ ap value (sym (get_or_append_left front back z (k i) (omega (arith, inside i less, wide))))
+
+      second : n ≤ i → value (get_or (xs ++ ys) i z) ≡ value (get_or (front ++ back) (k i) z)
+      second reaches =
+          let j = i - n in
+          let place : i ≡ length xs + j = omega (arith, reaches, long) in
+          let there : k i ≡ length front + k j = ap k (omega (arith, reaches)) ∙ next j ∙ ap (λ l. l + k j) (sym wide) in
+          ap (λ l. value (get_or (xs ++ ys) l z)) place ∙ ap value (get_or-append-add xs ys j z) ∙ high j (omega (arith, below, reaches))
+          ∙ ap value (sym (get_or-append-add front back (k j) z)) ∙ ap (λ l. value (get_or (front ++ back) l z)) (sym there)
 
 -- the number of one lane
 pub number_of_lane : {m : ℕ} {R : Type 0} (of : List R) (number : R → ℕ) (make : (n : ℕ) → n < m → R) → ((n : ℕ) (h : n < m) → number (make n h) ≡ n)
@@ -123,6 +151,14 @@ module _ {m : ℕ} where
   pub each_below : (f : ℕ → ℕ) → ((x : ℕ) → f x < m) → (xs : List ℕ) → AreBelow m (map f xs)
   each_below f all [] = tt
   each_below f all (x ∷ xs) = (all x, each_below f all xs)
+
+  -- so n of them are the lanes of a packed value
+  pub pairs_packed : (f : ℕ → ℕ → ℕ) → ((x y : ℕ) → f x y < m) → (n : ℕ) (xs ys zs : List ℕ) → length xs ≡ n → length ys ≡ n → zs ≡ zip2 f xs ys → AreBelow m zs × (length zs ≡ n)
+  pairs_packed f all n xs ys zs first second is =
+      (subst (AreBelow m) (sym is) (pairs_below f all xs ys), ap length is ∙ length-zip2 f xs ys (first ∙ sym second) ∙ first)
+
+  pub each_packed : (f : ℕ → ℕ) → ((x : ℕ) → f x < m) → (n : ℕ) (xs zs : List ℕ) → length xs ≡ n → zs ≡ map f xs → AreBelow m zs × (length zs ≡ n)
+  each_packed f all n xs zs long is = (subst (AreBelow m) (sym is) (each_below f all xs), ap length is ∙ length-map xs f ∙ long)
 
   numbers_by_lanes : (op : Residue m → Residue m → Residue m) (f : ℕ → ℕ → ℕ) → ((x y : Residue m) → (op x y).number ≡ f x.number y.number)
       → (xs ys : List (Residue m)) → numbers (by_lanes op xs ys) ≡ zip2 f (numbers xs) (numbers ys)
@@ -153,6 +189,34 @@ module _ {m : ℕ} where
         → map value (elements_of make zs c) ≡ map op (map value (elements_of make xs a))
     lanes_of_each op f law xs zs a c is =
         same_numbers _ _ (numbers_of_elements zs c ∙ is ∙ sym (numbers_of_each op f law (map value (elements_of make xs a)) ∙ ap (map f) (numbers_of_elements xs a)))
+
+    -- lanes in two halves, as two parts of a slice have them
+    pub joined_lanes : (xs ys zs : List ℕ) (a : AreBelow m xs) (b : AreBelow m ys) (c : AreBelow m zs) → zs ≡ xs ++ ys
+        → map value (elements_of make zs c) ≡ map value (elements_of make xs a ++ elements_of make ys b)
+    joined_lanes xs ys zs a b c is =
+        let first = elements_of make xs a in
+        let second = elements_of make ys b in
+        same_numbers _ _ (numbers_of_elements zs c ∙ is
+        ∙ sym (ap numbers (map-append value first second) ∙ map-append (λ (x : Residue m). x.number) (map value first) (map value second)
+        ∙ ap₂ ◌++◌ (numbers_of_elements xs a) (numbers_of_elements ys b)))
+
+    pub joined_parts : (xs ys zs : List ℕ) (a : AreBelow m xs) (b : AreBelow m ys) (c : AreBelow m zs) → zs ≡ xs ++ ys
+        → (all front back : List R) → all ≡ front ++ back → map value (elements_of make xs a) ≡ map value front → map value (elements_of make ys b) ≡ map value back
+        → map value (elements_of make zs c) ≡ map value all
+    joined_parts xs ys zs a b c is all front back parts low high =
+        joined_lanes xs ys zs a b c is ∙ map-append value (elements_of make xs a) (elements_of make ys b) ∙ ap₂ ◌++◌ low high
+        ∙ sym (map-append value front back) ∙ ap (map value) (sym parts)
+
+    -- and of pairs of which place k has one
+    pub joined_places : (n : ℕ) (k : ℕ → ℕ) → ((i : ℕ) → i < n → k i < 2 * n) → ((i : ℕ) → k (n + i) ≡ 2 * n + k i)
+        → (xs ys zs : List ℕ) (a : AreBelow m xs) (b : AreBelow m ys) (c : AreBelow m zs) → zs ≡ xs ++ ys → length xs ≡ n
+        → (z : R) (all front back : List R) → all ≡ front ++ back → length front ≡ 2 * n
+        → ((i : ℕ) → i < n → value (get_or (elements_of make xs a) i z) ≡ value (get_or front (k i) z))
+        → ((i : ℕ) → i < n → value (get_or (elements_of make ys b) i z) ≡ value (get_or back (k i) z))
+        → (i : ℕ) → i < n + n → value (get_or (elements_of make zs c) i z) ≡ value (get_or all (k i) z)
+    joined_places n k inside next xs ys zs a b c is long z all front back parts wide low high =
+        halves_by_place value z n k inside next (elements_of make zs c) (elements_of make xs a) (elements_of make ys b) all front back
+        (length-elements_of make xs a ∙ long) (joined_lanes xs ys zs a b c is) wide parts low high
 
     -- eight lanes that are written one after another
     pub eight_lanes : (ys : List R) (x0 x1 x2 x3 x4 x5 x6 x7 : R) (xs : List ℕ) (below : AreBelow m xs) → length ys ≡ 8 → length xs ≡ 8

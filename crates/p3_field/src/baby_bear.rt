@@ -3,8 +3,9 @@
 ghost use Rattle.std.proofs.Common.{lit<, refl};
 ghost use Rattle.p3_field.specs.Fields.{baby_bear_numbers};
 
-use crate::residue31::{Numbers, Residue31};
+use crate::residue31::{Numbers, Residue31, ResiduePacking};
 use crate::residue31_x8::Residue31X8;
+use crate::sixteen_lanes::SixteenLanes;
 
 /// The numbers of `BabyBear`.
 #[derive(Clone, Copy, Debug)]
@@ -12,6 +13,10 @@ pub struct BabyBearNumbers;
 
 /// An integer modulo `2^31 - 2^27 + 1`, by its number below the modulus.
 pub type BabyBear = Residue31<BabyBearNumbers>;
+
+/// The same field in sixteen lanes, for rows of sixteen entries or more in programs that are built for x86-64-v4.
+/// Elsewhere it answers the same, and is slower than `BabyBear` or as fast.
+pub type WideBabyBear = Residue31<SixteenLanes<BabyBearNumbers>>;
 
 /// Eight elements.
 pub type BabyBearX8 = Residue31X8<BabyBearNumbers>;
@@ -52,4 +57,12 @@ impl Numbers for BabyBearNumbers {
     fn generator_number(bits: usize) -> u32 {
         GENERATORS[bits]
     }
+}
+
+impl ResiduePacking for BabyBearNumbers {
+    ghost use Rattle.std.proofs.Common.{lit≤};
+
+    type Packing = Residue31X8<BabyBearNumbers>;
+
+    ghost some_law = { lit≤ tt };
 }

@@ -3,8 +3,9 @@
 ghost use Rattle.std.proofs.Common.{lit<, refl};
 ghost use Rattle.p3_field.specs.Fields.{koala_bear_numbers};
 
-use crate::residue31::{Numbers, Residue31};
+use crate::residue31::{Numbers, Residue31, ResiduePacking};
 use crate::residue31_x8::Residue31X8;
+use crate::sixteen_lanes::SixteenLanes;
 
 /// The numbers of `KoalaBear`.
 #[derive(Clone, Copy, Debug)]
@@ -12,6 +13,10 @@ pub struct KoalaBearNumbers;
 
 /// An integer modulo `2^31 - 2^24 + 1`, by its number below the modulus.
 pub type KoalaBear = Residue31<KoalaBearNumbers>;
+
+/// The same field in sixteen lanes, for rows of sixteen entries or more in programs that are built for x86-64-v4.
+/// Elsewhere it answers the same, and is slower than `KoalaBear` or as fast.
+pub type WideKoalaBear = Residue31<SixteenLanes<KoalaBearNumbers>>;
 
 /// Eight elements.
 pub type KoalaBearX8 = Residue31X8<KoalaBearNumbers>;
@@ -51,4 +56,12 @@ impl Numbers for KoalaBearNumbers {
     fn generator_number(bits: usize) -> u32 {
         GENERATORS[bits]
     }
+}
+
+impl ResiduePacking for KoalaBearNumbers {
+    ghost use Rattle.std.proofs.Common.{lit≤};
+
+    type Packing = Residue31X8<KoalaBearNumbers>;
+
+    ghost some_law = { lit≤ tt };
 }

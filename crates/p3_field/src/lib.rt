@@ -3,10 +3,11 @@
 //! `Field` has the operations of a commutative ring with one in which halving is exact, and their
 //! laws; `TwoAdicField` adds the roots of unity, `CanonicalField` the numbers below a modulus.
 //! `Residue31` is such a field for each record of `Numbers` with a modulus below `2^31`: `BabyBear`
-//! and `KoalaBear` are made of it. `Goldilocks` has a modulus below `2^64`, and `WideGoldilocks` is the
-//! same field for processors with wider vectors. `PackedField` handles several scalars by one operation,
-//! as `Residue31X8` eight of a `Residue31` and `GoldilocksX8` eight of a `WideGoldilocks`, and `Products`
-//! counts the products that were made, for contracts alone. `BasedVectorSpace` is what elements with
+//! and `KoalaBear` are made of it. `Goldilocks` has a modulus below `2^64`. `WideBabyBear`, `WideKoalaBear`
+//! and `WideGoldilocks` are the same fields for processors with wider vectors. `PackedField` handles several
+//! scalars by one operation, as `Residue31X8` eight and `Residue31X16` sixteen of a `Residue31`, and
+//! `GoldilocksX8` eight of a `WideGoldilocks`, and `Products` counts the products that were made, for contracts
+//! alone. `BasedVectorSpace` is what elements with
 //! coordinates are, as `Coordinates`. `power_iterator` has the powers of an element, and `totals` what the
 //! sums and products of a new field can be made of.
 #![tactic(auto)]
@@ -22,20 +23,24 @@ pub mod lanes;
 pub mod packed;
 pub mod power_iterator;
 pub mod residue31;
+pub mod residue31_x16;
 pub mod residue31_x8;
+pub mod sixteen_lanes;
 pub mod totals;
 pub mod two_adic;
 
 pub use algebra::{BasedVectorSpace, Coordinates};
-pub use baby_bear::{BabyBear, BabyBearX8};
+pub use baby_bear::{BabyBear, BabyBearX8, WideBabyBear};
 pub use fields::Field;
 pub use goldilocks::{
     Goldilocks, GoldilocksIn, GoldilocksPacking, ScalarLanes, VectorLanes, WideGoldilocks,
 };
 pub use goldilocks_x8::GoldilocksX8;
-pub use koala_bear::{KoalaBear, KoalaBearX8};
+pub use koala_bear::{KoalaBear, KoalaBearX8, WideKoalaBear};
 pub use lanes::Lanes;
 pub use packed::{Packable, Packed, PackedField, Products, scaled};
-pub use residue31::{Numbers, Residue31};
+pub use residue31::{Numbers, Residue31, ResiduePacking};
 pub use residue31_x8::Residue31X8;
+pub use residue31_x16::Residue31X16;
+pub use sixteen_lanes::SixteenLanes;
 pub use two_adic::{CanonicalField, TwoAdicField};

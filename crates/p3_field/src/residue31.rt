@@ -5,7 +5,6 @@ ghost use Rattle.std.specs.Prelude.{◌≡◌, ◌<◌, ◌≤◌, ◌%◌, ◌-
 use crate::euclid::inverse_modulo;
 use crate::fields::Field;
 use crate::packed::{Packable, Packed, PackedField, Products};
-use crate::residue31_x8::Residue31X8;
 use crate::totals::{add_all, multiply_all};
 use crate::two_adic::{CanonicalField, TwoAdicField};
 use std::alloc::AllocError;
@@ -54,6 +53,15 @@ pub trait Numbers: Copy {
     fn generator_number(bits: usize) -> u32
         requires { bits ≤ numbers.two_adicity }
         ensures { result ≡ (field_generator numbers bits).number };
+}
+
+/// The lanes of packed values of the field that these numbers make. Elements and what they compute do not depend on
+/// it.
+pub trait ResiduePacking: Numbers {
+    /// Several elements, handled by one operation.
+    type Packing: PackedField<Scalar = Residue31<Self>>;
+
+    ghost some_law: { 1 ≤ Self.Packing.WIDTH };
 }
 
 /// An integer modulo `N::MODULUS`, by its number below the modulus.
@@ -464,19 +472,19 @@ impl<N: Numbers> PackedField for Residue31<N> {
     ghost width_law = { λ _. refl };
 }
 
-impl<N: Numbers> Packable for Residue31<N> {
-    ghost use Rattle.std.proofs.Common.{refl, lit≤};
+impl<N: ResiduePacking> Packable for Residue31<N> {
+    ghost use Rattle.std.proofs.Common.{refl};
 
-    type Packing = Residue31X8<N>;
+    type Packing = N::Packing;
 
     ghost lane_law = { λ _. refl };
 
     ghost one_lane_law = { refl };
 
-    ghost packing_law = { lit≤ tt };
+    ghost packing_law = { N.some_law };
 }
 
-impl<N: Numbers> TwoAdicField for Residue31<N> {
+impl<N: ResiduePacking> TwoAdicField for Residue31<N> {
     ghost use Rattle.p3_field.specs.Fields.{field_generator, are_field_generators};
 
     const TWO_ADICITY: usize = N::TWO_ADICITY;
@@ -501,7 +509,7 @@ impl<N: Numbers> TwoAdicField for Residue31<N> {
     ghost roots_law = { are_field_generators N.numbers };
 }
 
-impl<N: Numbers> CanonicalField for Residue31<N> {
+impl<N: ResiduePacking> CanonicalField for Residue31<N> {
     ghost use Rattle.p3_field.specs.FieldLaws.{count_law};
 
     const ORDER_U64: u64 = N::MODULUS as u64;

@@ -14,8 +14,8 @@ use std::simd::prelude::*;
 /// Eight elements of a field whose modulus is below `2^31`, by their numbers.
 #[derive_where(Copy;)]
 pub struct Residue31X8<N: Numbers> {
-    lanes: u32x8,
-    of: PhantomData<N>,
+    pub(crate) lanes: u32x8,
+    pub(crate) of: PhantomData<N>,
     ghost below: { AreBelow N.numbers.modulus lanes } by { are_below-prop N.numbers.modulus lanes },
     ghost eight: { length lanes ≡ 8 },
 }

@@ -19,7 +19,9 @@ mod vectors;
 mod views;
 
 use fields::Table;
-use p3_field::{BabyBear, CanonicalField, Goldilocks, KoalaBear, WideGoldilocks};
+use p3_field::{
+    BabyBear, CanonicalField, Goldilocks, KoalaBear, WideBabyBear, WideGoldilocks, WideKoalaBear,
+};
 use std::alloc::Global;
 use std::fmt::Debug;
 use std::process::Abort;
@@ -29,6 +31,8 @@ enum FieldName {
     BabyBear,
     KoalaBear,
     Goldilocks,
+    WideBabyBear,
+    WideKoalaBear,
     WideGoldilocks,
 }
 
@@ -48,7 +52,7 @@ enum Topic<'a> {
     Numbers(&'a Table<'a>),
     OneLane,
     PairsInPacks,
-    EightLanes(&'a [(usize, usize, u64, u64, u64)]),
+    Lanes(&'a [(usize, usize, u64, u64, u64)]),
     Forms(u64, u64, &'a str),
 }
 
@@ -68,7 +72,7 @@ impl<'a> Topic<'a> {
             Topic::Numbers(table) => fields::agrees::<F>(rt, table),
             Topic::OneLane => fields::one_lane::<F>(rt, alloc),
             Topic::PairsInPacks => fields::pairs_in_packs::<F>(rt, alloc),
-            Topic::EightLanes(table) => fields::eight_lanes::<F>(rt, alloc, table),
+            Topic::Lanes(table) => fields::lanes::<F>(rt, alloc, table),
             Topic::Forms(below, above, last) => {
                 field_forms::agrees::<F>(rt, alloc, below, above, last)
             }
@@ -82,6 +86,8 @@ fn over(rt: &impl Abort, alloc: Global, field: FieldName, topic: Topic) {
         FieldName::BabyBear => topic.hold::<BabyBear>(rt, alloc),
         FieldName::KoalaBear => topic.hold::<KoalaBear>(rt, alloc),
         FieldName::Goldilocks => topic.hold::<Goldilocks>(rt, alloc),
+        FieldName::WideBabyBear => topic.hold::<WideBabyBear>(rt, alloc),
+        FieldName::WideKoalaBear => topic.hold::<WideKoalaBear>(rt, alloc),
         FieldName::WideGoldilocks => topic.hold::<WideGoldilocks>(rt, alloc),
     }
 }

@@ -1,6 +1,6 @@
 // Numbers that were computed elsewhere, and each public function once, generic ones at each field through their bounds.
 
-ghost use Rattle.std.specs.Prelude.{◌≡◌, ◌*◌, ◌<◌, length};
+ghost use Rattle.std.specs.Prelude.{◌≡◌, ◌*◌, ◌<◌, ◌≤◌, length};
 
 use super::{FieldName, Topic, is, over, row, vectors};
 use p3_field::{
@@ -217,7 +217,7 @@ fn exchanges<F: CanonicalField, P: PackedField<Scalar = F>>(
 // In packs of the field's own and of one.
 pub(crate) fn pairs_in_packs<F: CanonicalField>(rt: &impl Abort, alloc: Global) {
     let width = F::Packing::WIDTH;
-    assert!(rt; width <= 8);
+    assert!(rt; width <= 16);
     exchanges::<F, F::Packing>(rt, alloc, 2 * width);
     exchanges::<F, F>(rt, alloc, 2);
 }
@@ -227,6 +227,7 @@ fn pairs_are_loaded_and_stored(rt: HostRuntime) {
     for field in [
         FieldName::BabyBear,
         FieldName::Goldilocks,
+        FieldName::WideBabyBear,
         FieldName::WideGoldilocks,
     ] {
         over(&rt, rt.alloc(), field, Topic::PairsInPacks);
@@ -234,22 +235,22 @@ fn pairs_are_loaded_and_stored(rt: HostRuntime) {
     exchanges::<BabyBear, Lanes<BabyBear, 3>>(&rt, rt.alloc(), 6);
 }
 
-// What stands in one lane of eight, and in the lane beside it.
+// What stands in one lane, and in the lane beside it.
 fn at_lanes<F: CanonicalField, P: PackedField<Scalar = F>>(
     rt: &impl Abort,
     alloc: Global,
     x: P,
     lane: usize,
 ) -> (F, F)
-    requires width { P.WIDTH ≡ 8 }
-    requires lane { lane < 8 }
+    requires width { P.WIDTH ≤ 16 }
+    requires lane { lane < P.WIDTH }
 {
-    let mut lanes: Vec<F> = row(rt, alloc, 8, 0, 0);
+    let mut lanes: Vec<F> = row(rt, alloc, P::WIDTH, 0, 0);
     x.store(lanes.as_mut_slice());
-    (lanes[lane], lanes[(lane + 1) % 8])
+    (lanes[lane], lanes[(lane + 1) % P::WIDTH])
 }
 
-// Eight lanes of one element, but for one lane.
+// Lanes of one element, but for one lane.
 fn lanes_of<F: CanonicalField, P: PackedField<Scalar = F>>(
     rt: &impl Abort,
     alloc: Global,
@@ -257,10 +258,10 @@ fn lanes_of<F: CanonicalField, P: PackedField<Scalar = F>>(
     lane: usize,
     other: F,
 ) -> P
-    requires width { P.WIDTH ≡ 8 }
-    requires lane { lane < 8 }
+    requires width { P.WIDTH ≤ 16 }
+    requires lane { lane < P.WIDTH }
 {
-    let mut lanes = vec![in alloc; other; 8].expect(rt, "memory");
+    let mut lanes = vec![in alloc; other; P::WIDTH].expect(rt, "memory");
     lanes[lane] = x;
     P::load(lanes.as_slice())
 }
@@ -274,15 +275,15 @@ fn lane_is<F: CanonicalField, P: PackedField<Scalar = F>>(
     number: u64,
     beside: F,
 )
-    requires width { P.WIDTH ≡ 8 }
-    requires lane { lane < 8 }
+    requires width { P.WIDTH ≤ 16 }
+    requires lane { lane < P.WIDTH }
 {
     let (found, other) = at_lanes::<F, P>(rt, alloc, x, lane);
     has_number(rt, found, number);
     has_number(rt, other, beside.as_canonical_u64());
 }
 
-// Each operation in one lane of eight, beside others that have answers of their own.
+// Each operation in one lane, beside others that have answers of their own.
 fn lane_agrees<F: CanonicalField, P: PackedField<Scalar = F>>(
     rt: &impl Abort,
     alloc: Global,
@@ -290,8 +291,8 @@ fn lane_agrees<F: CanonicalField, P: PackedField<Scalar = F>>(
     row: &(usize, usize, u64, u64, u64),
     products: &mut Products,
 )
-    requires width { P.WIDTH ≡ 8 }
-    requires lane { lane < 8 }
+    requires width { P.WIDTH ≤ 16 }
+    requires lane { lane < P.WIDTH }
 {
     let (a, b, sum, difference, product) = *row;
     let t = F::from_usize(b);
@@ -314,33 +315,36 @@ fn lanes_agree<F: CanonicalField, P: PackedField<Scalar = F>>(
     alloc: Global,
     table: &[(usize, usize, u64, u64, u64)],
 )
-    requires { P.WIDTH ≡ 8 }
+    requires { P.WIDTH ≤ 16 }
 {
     let mut products = Products::new();
     for row in table {
-        for lane in 0..8usize {
+        for lane in 0..P::WIDTH {
             lane_agrees::<F, P>(rt, alloc, lane, row, &mut products);
         }
     }
 }
 
-// In the field's own packs, which are of eight.
-pub(crate) fn eight_lanes<F: CanonicalField>(
+// In the field's own packs.
+pub(crate) fn lanes<F: CanonicalField>(
     rt: &impl Abort,
     alloc: Global,
     table: &[(usize, usize, u64, u64, u64)],
 ) {
-    assert!(rt; F::Packing::WIDTH == 8);
+    assert!(rt; F::Packing::WIDTH <= 16);
     lanes_agree::<F, F::Packing>(rt, alloc, table);
 }
 
 #[test]
-fn eight_lanes_compute_as_single_elements(rt: HostRuntime) {
+fn lanes_compute_as_single_elements(rt: HostRuntime) {
     let alloc = rt.alloc();
-    let table = Topic::EightLanes(&vectors::BABY_BEAR);
-    over(&rt, alloc, FieldName::BabyBear, table);
-    let table = Topic::EightLanes(&vectors::KOALA_BEAR);
-    over(&rt, alloc, FieldName::KoalaBear, table);
-    let table = Topic::EightLanes(&vectors::GOLDILOCKS);
-    over(&rt, alloc, FieldName::WideGoldilocks, table);
+    for field in [FieldName::BabyBear, FieldName::WideBabyBear] {
+        over(&rt, alloc, field, Topic::Lanes(&vectors::BABY_BEAR));
+    }
+    for field in [FieldName::KoalaBear, FieldName::WideKoalaBear] {
+        over(&rt, alloc, field, Topic::Lanes(&vectors::KOALA_BEAR));
+    }
+    for field in [FieldName::Goldilocks, FieldName::WideGoldilocks] {
+        over(&rt, alloc, field, Topic::Lanes(&vectors::GOLDILOCKS));
+    }
 }

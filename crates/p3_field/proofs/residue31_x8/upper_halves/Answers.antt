@@ -1,5 +1,6 @@
+use Rattle.std.proofs.Common.{refl}
 use Rattle.p3_field.proofs.WordLanes.{upper_halves_of_lanes}
 use Rattle.p3_field.proofs.residue31_x8.upper_halves.Goals as goal
 
 pub returns : goal.returns
-returns c = upper_halves_of_lanes c.args.factor c.args.a c.requires c.fits-a.0 c.fits-a.1
+returns c = upper_halves_of_lanes 4 c.args.factor c.args.a c.requires c.fits-a.0 c.fits-a.1 refl refl
