@@ -9,10 +9,10 @@ use crate::program::{run, write_outcome};
 use crate::words::words_after_name;
 use std::alloc::Global;
 use std::env::FillError;
-use std::io;
 use std::io::{ErrorKind, Write};
 use std::process::Abort;
 use std::rt::Env;
+use std::{io, str};
 
 // What a full writer does.
 #[derive(Clone, Copy)]
@@ -119,8 +119,12 @@ fn ends(
 ) {
     let line = line_of(rt, alloc, words);
     let found = status_of(alloc, line.as_slice(), &mut out);
-    assert_eq!(rt; found, status);
-    assert_eq!(rt; out.held.as_slice(), text);
+    let held = out.held.as_slice();
+    let told = str::from_utf8(held).ok().unwrap_or("invalid UTF-8");
+    assert!(rt;
+        found == status && held == text,
+        "{words:?}: status {found}, wanted {status}, with {told:?}"
+    );
 }
 
 // Runs the program on a `Vec`, of which contracts say what it holds.
@@ -452,7 +456,7 @@ fn seven(rt: &impl Abort, alloc: Global, zeros: usize) -> String {
 
 #[test]
 fn leading_zeros_are_read(rt: HostRuntime) {
-    let seven = seven(&rt, rt.alloc(), 300);
+    let seven = seven(&rt, rt.alloc(), 1000);
     let words = ["babybear", "naive", "dft", "00001", seven.as_str()];
     let out = Stubborn::with_room(rt.alloc(), 1000);
     ends(&rt, rt.alloc(), &words, out, 0, b"7\n".as_slice());
