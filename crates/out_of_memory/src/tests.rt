@@ -161,18 +161,23 @@ fn left_free(n: usize) -> usize {
 // More tries than a call makes requests.
 const MOST_TRIES: usize = 200;
 
-// Makes a call with nothing left free, and with more and more until it answers. Counts how often memory was refused.
+// Makes a call with nothing left free, and with more and more until it answers; then once more with enough, where an
+// engine that met a refusal on its way, and kept it, would give it out. Counts how often memory was refused.
 fn sweep<F: TwoAdicField>(
     alloc: Global,
     scarce: &mut Scarce,
-    engine: EngineName,
+    name: EngineName,
     case: Case,
 ) -> (Verdict, usize) {
     let mut refused = 0usize;
     for n in 0..MOST_TRIES {
         scarce.left = left_free(n);
-        match verdict_on(alloc, scarce, &mut Engine::<F>::new(engine), case) {
+        let mut engine: Engine<F> = Engine::new(name);
+        match verdict_on(alloc, scarce, &mut engine, case) {
             Verdict::RefusedFirst => refused = refused.saturating_add(1),
+            Verdict::Answered => {
+                return (verdict_on(alloc, &mut Plenty, &mut engine, case), refused);
+            }
             verdict => return (verdict, refused),
         }
     }
