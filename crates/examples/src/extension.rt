@@ -6,8 +6,14 @@
 //! So a product is that of polynomials with x to the degree replaced. A prover takes `GoldilocksSquared` or
 //! `BabyBearFourth` as its field of challenges, or another step by its own `Square`.
 
-ghost use Rattle.std.specs.Prelude.{◌≡◌};
+ghost use Rattle.std.specs.Prelude.{◌≡◌, [], ◌∷◌, get_or};
+ghost use Rattle.std.proofs.Common.{ap, ap₂, refl};
 ghost use Rattle.examples.specs.ExtensionFields.{IsExtensionField};
+ghost use Rattle.examples.specs.ExtensionFieldLaws.{below_two, one_step_embeds, one_step_polynomial, one_step_top};
+ghost use Rattle.examples.specs.ExtensionFieldLaws.{below_four, two_steps_embed, two_steps_polynomial, two_steps_top};
+ghost use Rattle.examples.specs.ExtensionFieldLaws.{parts_of_four, parts_of_two};
+ghost use Rattle.examples.specs.QuadraticFields.{both};
+ghost use Rattle.examples.specs.Quadratics.{quadratic};
 
 use crate::quadratic::{Eleven, Quadratic, Root, Seven, Square};
 use p3_dft::{BabyBear, BasedVectorSpace, Field, Goldilocks, TwoAdicField};
@@ -45,10 +51,6 @@ pub trait ExtensionField<F: TwoAdicField>: TwoAdicField + BasedVectorSpace<F> {
 }
 
 impl<R: Field, W: Square<R>> BasedVectorSpace<R> for Quadratic<R, W> {
-    ghost use Rattle.std.specs.Prelude.{[], ◌∷◌};
-    ghost use Rattle.std.proofs.Common.{ap₂, refl};
-    ghost use Rattle.examples.specs.ExtensionFieldLaws.{parts_of_two};
-
     const DIMENSION: usize = 2;
 
     ghost DIMENSION = { 2 };
@@ -70,11 +72,7 @@ impl<R: Field, W: Square<R>> BasedVectorSpace<R> for Quadratic<R, W> {
 }
 
 impl<R: TwoAdicField, W: Square<R>> ExtensionField<R> for Quadratic<R, W> {
-    ghost use Rattle.std.specs.Prelude.{◌≡◌, [], ◌∷◌, get_or};
-    ghost use Rattle.std.proofs.Common.{ap, refl};
     ghost use Rattle.examples.specs.Quadratics.{embedded};
-    ghost use Rattle.examples.specs.QuadraticFields.{both};
-    ghost use Rattle.examples.specs.ExtensionFieldLaws.{below_two, one_step_embeds, one_step_polynomial, one_step_top};
 
     ghost embedded = { λ a. record { constant = a; linear = R.ZERO; of = _ } };
 
@@ -106,10 +104,6 @@ impl<R: TwoAdicField, W: Square<R>> ExtensionField<R> for Quadratic<R, W> {
 }
 
 impl<R: Field, W: Square<R>> BasedVectorSpace<R> for Quadratic<Quadratic<R, W>, Root> {
-    ghost use Rattle.std.specs.Prelude.{[], ◌∷◌};
-    ghost use Rattle.std.proofs.Common.{ap₂, refl};
-    ghost use Rattle.examples.specs.ExtensionFieldLaws.{parts_of_four};
-
     const DIMENSION: usize = 4;
 
     ghost DIMENSION = { 4 };
@@ -141,12 +135,7 @@ impl<R: Field, W: Square<R>> BasedVectorSpace<R> for Quadratic<Quadratic<R, W>, 
 }
 
 impl<R: TwoAdicField, W: Square<R>> ExtensionField<R> for Quadratic<Quadratic<R, W>, Root> {
-    ghost use Rattle.std.specs.Prelude.{◌≡◌, [], ◌∷◌, get_or};
-    ghost use Rattle.std.proofs.Common.{ap, refl};
-    ghost use Rattle.examples.specs.Quadratics.{embedded, quadratic};
-    ghost use Rattle.examples.specs.QuadraticFields.{both};
-    ghost use Rattle.examples.specs.ExtensionFieldLaws.{below_four, two_steps_embed, two_steps_polynomial};
-    ghost use Rattle.examples.specs.ExtensionFieldLaws.{two_steps_top};
+    ghost use Rattle.examples.specs.Quadratics.{embedded};
 
     ghost embedded = { λ a. record {
       constant = record { constant = a; linear = R.ZERO; of = _ };

@@ -5,14 +5,17 @@
 //! every law of `Field`, and those of `TwoAdicField` with the generators of the ring below: every engine runs over
 //! them. A step over a step makes degree four.
 
-ghost use Rattle.std.specs.Prelude.{◌≡◌, ◌↔◌};
-ghost use Rattle.p3_field.specs.Ring.{IsInvertible};
+ghost use Rattle.std.specs.Prelude.{◌≡◌, ◌↔◌, [], ◌∷◌, map};
+ghost use Rattle.std.specs.Ordering.{ordering_then};
+ghost use Rattle.std.proofs.Common.{◌∙◌, ap, ap₂, lit<, lit≤, refl, sym};
+ghost use Rattle.p3_field.specs.Ring.{IsInvertible, product_of, sum_of};
+ghost use Rattle.examples.specs.QuadraticFields.{both, both_equal, embedded_inverse, embedded_roots, embedded-add};
+ghost use Rattle.examples.specs.QuadraticFields.{embedded-neg, paired, paired_law};
 ghost use Rattle.examples.specs.Quadratics.{embedded, norm, quadratic};
 
 use p3_dft::{Field, Packable, Packed, PackedField, Products, TwoAdicField, scaled};
 use p3_field::totals::{add_all, multiply_all};
 use p3_field::{BabyBear, GoldilocksIn};
-use std::alloc::AllocError;
 use std::fmt;
 use std::iter::{Product, Sum};
 use std::marker::PhantomData;
@@ -33,8 +36,6 @@ pub trait Square<R: Field>: Copy {
 pub struct Seven;
 
 impl<P: Copy> Square<GoldilocksIn<P>> for Seven {
-    ghost use Rattle.std.proofs.Common.{lit<};
-
     ghost w = { record { number = 7; of = _; below = lit< tt } };
 
     fn times(x: GoldilocksIn<P>) -> GoldilocksIn<P> {
@@ -47,8 +48,6 @@ impl<P: Copy> Square<GoldilocksIn<P>> for Seven {
 pub struct Eleven;
 
 impl Square<BabyBear> for Eleven {
-    ghost use Rattle.std.proofs.Common.{lit<};
-
     ghost w = { record { number = 11; of = _; below = lit< tt } };
 
     fn times(x: BabyBear) -> BabyBear {
@@ -69,6 +68,7 @@ impl<R: Field, W: Square<R>> Square<Quadratic<R, W>> for Root {
 }
 
 /// `constant + linear * x`, where x * x is the element that W stands for.
+#[derive(Clone, Copy)]
 #[derive_where(PartialEq, Eq, PartialOrd, Ord; R)]
 pub struct Quadratic<R, W> {
     /// The coordinate of one.
@@ -77,20 +77,6 @@ pub struct Quadratic<R, W> {
     pub linear: R,
     #[derive_where(skip(EqHashOrd))]
     of: PhantomData<W>,
-}
-
-impl<R: Copy, W: Copy> Copy for Quadratic<R, W> {}
-
-impl<R: Copy, W: Copy> Clone for Quadratic<R, W> {
-    ghost use Rattle.std.specs.Prelude.{◌≡◌, ⊤};
-
-    ghost is_clone = { λ x y. y ≡ x };
-
-    ghost is_infallible = { λ _. ⊤ };
-
-    fn clone(&self) -> Result<Quadratic<R, W>, AllocError> {
-        Ok(*self)
-    }
 }
 
 impl<R, W> Quadratic<R, W> {
@@ -141,9 +127,6 @@ impl<R: Field, W: Square<R>> Sub for Quadratic<R, W> {
 }
 
 impl<R: Field, W: Square<R>> Mul for Quadratic<R, W> {
-    ghost use Rattle.std.specs.Prelude.{◌≡◌};
-    ghost use Rattle.examples.specs.Quadratics.{quadratic};
-
     type Output = Quadratic<R, W>;
 
     ghost mul_gives = { λ a b r. (R.value r.constant, R.value r.linear)
@@ -187,9 +170,6 @@ impl<R: Field, W: Square<R>> SubAssign for Quadratic<R, W> {
 }
 
 impl<R: Field, W: Square<R>> MulAssign for Quadratic<R, W> {
-    ghost use Rattle.std.specs.Prelude.{◌≡◌};
-    ghost use Rattle.examples.specs.Quadratics.{quadratic};
-
     ghost mul_assign_gives = { λ a b r. (R.value r.constant, R.value r.linear)
         ≡ (quadratic R.ring (R.value W.w)).mul (R.value a.constant, R.value a.linear)
         (R.value b.constant, R.value b.linear) };
@@ -200,10 +180,6 @@ impl<R: Field, W: Square<R>> MulAssign for Quadratic<R, W> {
 }
 
 impl<R: Field, W: Square<R>> Sum<Quadratic<R, W>> for Quadratic<R, W> {
-    ghost use Rattle.std.specs.Prelude.{◌≡◌, map};
-    ghost use Rattle.p3_field.specs.Ring.{sum_of};
-    ghost use Rattle.examples.specs.Quadratics.{quadratic};
-
     ghost sum_gives = { λ xs r. (R.value r.constant, R.value r.linear)
         ≡ sum_of (quadratic R.ring (R.value W.w)) (map (λ x. (R.value x.constant, R.value x.linear)) xs) };
 
@@ -213,10 +189,6 @@ impl<R: Field, W: Square<R>> Sum<Quadratic<R, W>> for Quadratic<R, W> {
 }
 
 impl<R: Field, W: Square<R>> Product<Quadratic<R, W>> for Quadratic<R, W> {
-    ghost use Rattle.std.specs.Prelude.{◌≡◌, map};
-    ghost use Rattle.p3_field.specs.Ring.{product_of};
-    ghost use Rattle.examples.specs.Quadratics.{quadratic};
-
     ghost product_gives = { λ xs r. (R.value r.constant, R.value r.linear)
         ≡ product_of (quadratic R.ring (R.value W.w)) (map (λ x. (R.value x.constant, R.value x.linear)) xs) };
 
@@ -238,12 +210,6 @@ impl<R: Field, W> fmt::Debug for Quadratic<R, W> {
 }
 
 impl<R: Field, W: Square<R>> Field for Quadratic<R, W> {
-    ghost use Rattle.std.proofs.Common.{◌∙◌, ap, ap₂, sym};
-    ghost use Rattle.std.specs.Ordering.{ordering_then};
-    ghost use Rattle.examples.specs.Quadratics.{embedded, quadratic};
-    ghost use Rattle.examples.specs.QuadraticFields.{both, both_equal, embedded_inverse, embedded-add};
-    ghost use Rattle.examples.specs.QuadraticFields.{embedded-neg, paired, paired_law};
-
     ghost Element = { R.Element × R.Element };
 
     ghost ring = { quadratic R.ring (R.value W.w) };
@@ -350,9 +316,6 @@ impl<R: Field, W: Square<R>> Packed for Quadratic<R, W> {
 }
 
 impl<R: Packable, W: Square<R>> PackedField for Quadratic<R, W> {
-    ghost use Rattle.std.specs.Prelude.{[], ◌∷◌};
-    ghost use Rattle.std.proofs.Common.{refl};
-
     const WIDTH: usize = 1;
 
     ghost WIDTH = { 1 };
@@ -404,8 +367,6 @@ impl<R: Packable, W: Square<R>> PackedField for Quadratic<R, W> {
 }
 
 impl<R: Packable, W: Square<R>> Packable for Quadratic<R, W> {
-    ghost use Rattle.std.proofs.Common.{refl, lit≤};
-
     type Packing = Quadratic<R, W>;
 
     const ONE_BY_ONE: bool = false;
@@ -418,8 +379,6 @@ impl<R: Packable, W: Square<R>> Packable for Quadratic<R, W> {
 }
 
 impl<R: TwoAdicField, W: Square<R>> TwoAdicField for Quadratic<R, W> {
-    ghost use Rattle.examples.specs.QuadraticFields.{embedded_roots};
-
     const TWO_ADICITY: usize = R::TWO_ADICITY;
 
     ghost TWO_ADICITY = { R.TWO_ADICITY };
