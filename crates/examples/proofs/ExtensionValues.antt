@@ -1,5 +1,6 @@
 -- Values of polynomials in an extension field: those of embedded ones, and those of polynomials by their coordinates.
 use Rattle.std.proofs.Common.{◌≡◌, ℕ, zero, suc, ◌+◌, ◌*◌, ◌/◌, ◌^◌, ◌<◌, ◌≤◌, List, [], ◌∷◌, get_or, length, map, refl, subst, sym, ap, ◌∙◌, arith}
+use Rattle.std.proofs.Math.Nat.{lt_of_mul-lt-mul_left}
 use Rattle.std.proofs.lemmas.List.{length-map}
 use Rattle.p3_field.specs.Ring.{Ring, AreRoots, IsInvertible, power}
 use Rattle.p3_field.specs.declared.algebra.BasedVectorSpace.{Ghosts as SpaceMembers}
@@ -68,16 +69,8 @@ module _ {F E : Type 0} (f : FieldMembers F) (e : FieldMembers E) (v : SpaceMemb
   stored (a ∷ xs) (suc n) = stored xs n
 
   arranged : (layout : Layout) (k : ℕ) (m : RowMajor F) → Same (image is.embed (arrangement layout k (values_of f m))) (arrangement layout k (values_of e (embedded_matrix embedded m)))
-  arranged Natural k m = record {
-    height = sym (height-embedded embedded m);
-    width = refl;
-    alike = λ i j _ _. sym (stored m.values (i * m.width + j));
-  }
-  arranged BitReversed k m = record {
-    height = sym (height-embedded embedded m);
-    width = refl;
-    alike = λ i j _ _. sym (stored m.values _);
-  }
+  arranged Natural k m = record { height = sym (height-embedded embedded m); width = refl; alike = λ i j _ _. sym (stored m.values _) }
+  arranged BitReversed k m = record { height = sym (height-embedded embedded m); width = refl; alike = λ i j _ _. sym (stored m.values _) }
 
   -- values of low degree have low degree in the extension
   pub embedded_degree : (layout : Layout) (d k : ℕ) (s : F) (m : RowMajor F) → HasDegreeBelow f g d k (f.value s) (arrangement layout k (values_of f m))
@@ -117,10 +110,6 @@ module _ {F E : Type 0} (f : FieldMembers F) (e : FieldMembers E) (v : SpaceMemb
       ∙ poly_same e.ring (height c) _ _ (is.embed p) (λ u _. sym (by_coordinates c.values (u * c.width + j)))
       ∙ ap (poly e.ring (height c) (λ u. (values_of e c).entry u j)) (embedded-point f.ring e.ring is.embed is.embeds (λ n. f.value (g n)) (λ n. e.value (h n)) is.generators k s i))
 
-  some_factor : (a b : ℕ) → 1 ≤ a * b → 0 < b
-  some_factor a zero some = omega (arith, some)
-  some_factor a (suc b) some = omega arith
-
   -- what interpolates all coordinates interpolates the elements
   pub interpolated_by_parts : (counted : (y : E) → length (v.coordinates y) ≡ v.DIMENSION) (bits over : ℕ) → AreRoots f.ring bits (λ n. f.value (g n)) → AreRoots e.ring over (λ n. e.value (h n)) → bits ≡ over
       → (m out : RowMajor E) (s : F) → FitsDft bits (height m) (m.width * v.DIMENSION) → IsInvertible f.ring (f.value s)
@@ -137,7 +126,7 @@ module _ {F E : Type 0} (f : FieldMembers F) (e : FieldMembers E) (v : SpaceMemb
           let counts = λ (t : ℕ) (y : RowMajor E). ap (λ n. n / y.width) (length-map y.values (λ z. get_or (v.coordinates z) t f.ZERO)) in
           let each = λ (t : ℕ) (within : t < v.DIMENSION).
           (inverse_of_coordinate v counted t within f g bits roots m out (f.value s) fits invertible given).holds k (counts t m ∙ tall) in
-          let first = each 0 (some_factor m.width v.DIMENSION fits.width) in
+          let first = each 0 (lt_of_mul-lt-mul_left m.width (let some : m.width * 0 < m.width * v.DIMENSION = omega (arith, fits.width) in some)) in
           record {
             height = sym (counts 0 out) ∙ first.height ∙ counts 0 m;
             width = first.width;

@@ -1,21 +1,21 @@
 -- Folding: the values of folded polynomials from pairs of rows, in natural order and from rows in bit reversed order, and back from
 -- two foldings with challenges whose difference has an inverse.
-use Rattle.std.proofs.Common.{◌≡◌, ℕ, suc, ◌+◌, ◌-◌, ◌*◌, ◌/◌, ◌%◌, ◌^◌, ◌<◌, ◌≤◌, ◌⊎◌, inl, inr, cond, eqb, List, [], ◌∷◌, ◌++◌, length, get_or, take, drop, rules, refl, sym, ap, ap₂, ◌∙◌, subst, arith}
+use Rattle.std.proofs.Common.{◌≡◌, ℕ, zero, suc, ◌+◌, ◌-◌, ◌*◌, ◌/◌, ◌%◌, ◌^◌, ◌<◌, ◌≤◌, ◌⊎◌, inl, inr, cond, eqb, List, [], ◌∷◌, ◌++◌, length, get_or, take, drop, rules, refl, sym, ap, ap₂, ◌∙◌, subst, arith}
 use Rattle.std.proofs.Math.Nat.{two-pow-succ}
 use Rattle.std.proofs.lemmas.Bool.{cases_lt}
 use Rattle.std.proofs.lemmas.List.{places}
 use Rattle.std.proofs.lemmas.Nat.{mul-add-lt}
 use Rattle.p3_matrix.specs.RowMajor.{IsRowMajor, RowMajor, height, row}
 use Rattle.p3_matrix.proofs.RowMajor.{row_within}
-use Rattle.p3_matrix.proofs.TwoPowers.{log_lt, log_same}
-use Rattle.examples.proofs.MerkleTrees.{halves}
+use Rattle.p3_matrix.proofs.TwoPowers.{log_same}
+use Rattle.p3_field.specs.declared.fields.Field.{Ghosts as FieldMembers}
 use Rattle.p3_field.specs.Ring.{Ring, minus, power, two, AreRoots, IsInvertible}
 use Rattle.p3_field.proofs.Rings
 use Rattle.p3_field.proofs.Powers.{power-inverse}
 use Rattle.p3_field.proofs.RingSolver.{solve, va, vb, vc, vd, ve, oneₑ, ◌⊞◌, ◌⊠◌, ◌⊟◌, ⊝}
 use Rattle.p3_matrix.specs.BitOrder.{bit_reversal, rev}
 use Rattle.p3_matrix.specs.Combinations.{lengthened}
-use Rattle.p3_matrix.specs.Cosets.{IsValues, point}
+use Rattle.p3_matrix.specs.Cosets.{IsValues, point, values_of}
 use Rattle.p3_matrix.specs.Matrix.{Matrix, Same}
 use Rattle.p3_matrix.specs.Polynomials.{poly}
 use Rattle.p3_matrix.proofs.BitReversal.{rev-high, rev-low, rev-lt, rev-rev}
@@ -30,17 +30,26 @@ use Rattle.examples.specs.Foldings.{AreFoldedRows, IsFoldedPair, IsFolding, far_
 
 -- ---- shapes and lists
 -- of a height of two or more, half of it, by logarithms
-pub half_height : (log most fit h : ℕ) → h ≡ 2 ^ log → h ≡ 2 ^ fit → fit ≤ most → 2 ≤ h → (log - 1 < most) × (h / 2 ≡ 2 ^ (log - 1))
-half_height log most fit h is high within some =
-    let same : log ≡ fit = log_same log fit (sym is ∙ high) in
-    let more : 1 ≤ log = log_lt 0 log (omega (arith, is, some)) in
-    (omega (arith, same, within, more), (halves log h more is).0)
+pub half_height : (log h : ℕ) → h ≡ 2 ^ log → 2 ≤ h → (suc (log - 1) ≡ log) × (h / 2 ≡ 2 ^ (log - 1)) × (2 * (h / 2) ≡ h)
+half_height zero h is some = absurd (omega (arith, is, some))
+half_height (suc k) h is some =
+    let e : suc k - 1 ≡ k = omega arith in
+    rw e (refl, omega (arith, is, two-pow-succ k), omega (arith, is, two-pow-succ k))
+
+-- of a height of which another logarithm is known
+pub half_of : (log k h : ℕ) → h ≡ 2 ^ log → h ≡ 2 ^ suc k → (log - 1 ≡ k) × (h / 2 ≡ 2 ^ k)
+half_of log k h is high = let same : log ≡ suc k = log_same log (suc k) (sym is ∙ high) in (omega (arith, same), omega (arith, high, two-pow-succ k))
 
 pub row_size : {T : Type 0} (m : RowMajor T) (i : ℕ) → IsRowMajor m → i < height m → length (row m i) ≡ m.width
 row_size m i whole below = let inside = row_within i (height m) m.width (length m.values) below whole.full in search (rules, places)
 
 pub row_entry : {T : Type 0} (m : RowMajor T) (i j : ℕ) (d : T) → IsRowMajor m → i < height m → j < m.width → get_or (row m i) j d ≡ get_or m.values (i * m.width + j) d
 row_entry m i j d whole below inside = let within = row_within i (height m) m.width (length m.values) below whole.full in search (rules, places)
+
+-- entry j of a row, as a value
+pub row_value : {F : Type 0} (f : FieldMembers F) (m : RowMajor F) (i j : ℕ) (xs : List F) → IsRowMajor m → xs ≡ row m i → i < height m → j < m.width
+    → f.value (get_or xs j f.ZERO) ≡ (values_of f m).entry i j
+row_value f m i j xs whole is below inside = ap f.value (ap (λ ys. get_or ys j f.ZERO) is ∙ row_entry m i j f.ZERO whole below inside)
 
 -- one more row of w entries at the end of a list
 pub one_more_row : {T : Type 0} (P : ℕ → ℕ → T → Type 0) (old new : List T) (d : T) (n w : ℕ) → length old ≡ n * w → ((i j : ℕ) → i < n → j < w → P i j (get_or old (i * w + j) d))
@@ -59,11 +68,6 @@ one_more_row P old new d n w long before kept last i j below inside = cases (cas
 pub written_over : {T : Type 0} (n i : ℕ) (xs ys : List T) (d : T) → length xs ≡ n → length ys ≡ n → i < n → get_or (take n (ys ++ drop (length ys) xs)) i d ≡ get_or ys i d
 written_over n i xs ys d long size below = search (rules, places)
 
--- rows in a layout are as many, and as wide
-pub arranged_shape : {E : Type 0} (layout : Layout) (k : ℕ) (m : Matrix E) → ((arrangement layout k m).height ≡ m.height) × ((arrangement layout k m).width ≡ m.width)
-arranged_shape Natural k m = (refl, refl)
-arranged_shape BitReversed k m = (refl, refl)
-
 module _ {A : Type 0} (R : Ring A) where
   open R use {add as ◌⊕◌, mul as ◌⊗◌, neg, one as 𝟙}
 
@@ -75,6 +79,9 @@ module _ {A : Type 0} (R : Ring A) where
   pair_of_parts beta x e o =
       solve R (x ∷ beta ∷ e ∷ o ∷ []) ((oneₑ ⊞ oneₑ) ⊠ (va ⊠ (vc ⊞ vb ⊠ vd)))
       (va ⊠ ((vc ⊞ va ⊠ vd) ⊞ (vc ⊞ ⊝ va ⊠ vd)) ⊞ vb ⊠ ((vc ⊞ va ⊠ vd) ⊟ (vc ⊞ ⊝ va ⊠ vd))) refl
+
+  pub pair_same : (beta : A) {x y a b c d v w : A} → x ≡ y → a ≡ c → b ≡ d → v ≡ w → IsFoldedPair R beta x a b v → IsFoldedPair R beta y c d w
+  pair_same beta e f g h pair = rw (sym e, sym f, sym g, sym h) pair
 
   -- a pair has one folded value
   pub one_folded_value : (beta x a b v w : A) → IsInvertible R x → IsFoldedPair R beta x a b v → IsFoldedPair R beta x a b w → v ≡ w
@@ -130,10 +137,7 @@ module _ {A : Type 0} (R : Ring A) where
       ∙ solve R (s ∷ p ∷ h ∷ t ∷ q ∷ []) ((oneₑ ⊞ oneₑ) ⊠ ((va ⊠ vb) ⊠ ((vc ⊠ vd) ⊠ ve))) (((va ⊠ vd) ⊠ (vb ⊠ ve)) ⊠ (vc ⊞ vc)) refl
       ∙ ap₂ (λ a b. (a ⊗ b) ⊗ (h ⊕ h)) shift (power-inverse R (g (suc k)) u i root) ∙ ap₂ ◌⊗◌ (R.mul_one 𝟙) twice ∙ Rings.one-mul R beta
 
-  -- a polynomial's value at x and at -x by its even and odd coefficients
-  parts : (n : ℕ) (f : ℕ → A) (x : A) → poly R (2 * n) f x ≡ poly R n (λ j. f (2 * j)) (x ⊗ x) ⊕ x ⊗ poly R n (λ j. f (2 * j + 1)) (x ⊗ x)
-  parts = poly-split R
-
+  -- a polynomial's value at -x by its even and odd coefficients
   parts_of_opposite : (n : ℕ) (f : ℕ → A) (x : A) → poly R (2 * n) f (neg x) ≡ poly R n (λ j. f (2 * j)) (x ⊗ x) ⊕ neg x ⊗ poly R n (λ j. f (2 * j + 1)) (x ⊗ x)
   parts_of_opposite n f x =
       poly-split R n f (neg x)
@@ -148,7 +152,7 @@ module _ {A : Type 0} (R : Ring A) where
       let value : poly R n (λ j. f (2 * j) ⊕ beta ⊗ f (2 * j + 1)) (x ⊗ x) ≡ e ⊕ beta ⊗ o =
       poly-add R n (λ j. f (2 * j)) (λ j. beta ⊗ f (2 * j + 1)) (x ⊗ x) ∙ ap (λ y. e ⊕ y) (poly-times R n beta (λ j. f (2 * j + 1)) (x ⊗ x)) in
       ap (λ v. two R ⊗ (x ⊗ v)) value ∙ pair_of_parts beta x e o
-      ∙ ap₂ (λ a b. x ⊗ (a ⊕ b) ⊕ beta ⊗ minus R a b) (sym (parts n f x)) (sym (parts_of_opposite n f x))
+      ∙ ap₂ (λ a b. x ⊗ (a ⊕ b) ⊕ beta ⊗ minus R a b) (sym (poly-split R n f x)) (sym (parts_of_opposite n f x))
 
 module _ {A : Type 0} (R : Ring A) {g : ℕ → A} {bits : ℕ} (G : AreRoots R bits g) where
   open R use {add as ◌⊕◌, mul as ◌⊗◌, neg, one as 𝟙}
@@ -182,43 +186,32 @@ module _ {A : Type 0} (R : Ring A) {g : ℕ → A} {bits : ℕ} (G : AreRoots R 
       (folded.rows i j below (omega (arith, inside, v.width)))
       (polynomials_fold beta k s c m within v i j below inside))
 
-  -- of rows in bit reversed order the pairs lie side by side
-  pub folded_in_bit_order : (beta : A) (k : ℕ) (s : A) (m out : Matrix A) → out.height ≡ 2 ^ k → out.width ≡ m.width
-      → ((i j : ℕ) → i < 2 ^ k → j < m.width → IsFoldedPair R beta (point R g (suc k) s (rev k i)) (m.entry (2 * i) j) (m.entry (2 * i + 1) j) (out.entry i j))
-      → AreFoldedRows R g beta k s (bit_reversal (suc k) m) (bit_reversal k out)
-  folded_in_bit_order beta k s m out high wide rows = record {
-    height = high;
-    width = wide;
-    rows = λ i j below inside.
-        let given = rows (rev k i) j (rev-lt k i) inside in
-        subst (λ (x : A). IsFoldedPair R beta x (m.entry (rev (suc k) i) j) (m.entry (rev (suc k) (2 ^ k + i)) j) (out.entry (rev k i) j))
-        (ap (point R g (suc k) s) (rev-rev k i below))
-        (subst (λ n. IsFoldedPair R beta (point R g (suc k) s (rev k (rev k i))) (m.entry n j) (m.entry (rev (suc k) (2 ^ k + i)) j) (out.entry (rev k i) j))
-        (sym (rev-low k i below))
-        (subst (λ n. IsFoldedPair R beta (point R g (suc k) s (rev k (rev k i))) (m.entry (2 * rev k i) j) (m.entry n j) (out.entry (rev k i) j))
-        (sym (rev-high k i below)) given));
-  }
-
-  -- so in either layout
-  pub folded_in_layout : (layout : Layout) (beta : A) (k : ℕ) (s : A) (m out : Matrix A) → out.height ≡ 2 ^ k → out.width ≡ m.width
+  -- in either layout
+  folded_in_layout : (layout : Layout) (beta : A) (k : ℕ) (s : A) (m out : Matrix A) → m.height ≡ 2 ^ suc k → out.height ≡ 2 ^ k → out.width ≡ m.width
       → ((i j : ℕ) → i < 2 ^ k → j < m.width
       → IsFoldedPair R beta (point R g (suc k) s (pair_point layout k i)) (m.entry (near_row layout k i) j) (m.entry (far_row layout k i) j) (out.entry i j))
       → AreFoldedRows R g beta k s (arrangement layout (suc k) m) (arrangement layout k out)
-  folded_in_layout Natural beta k s m out high wide rows = record { height = high; width = wide; rows = rows }
-  folded_in_layout BitReversed beta k s m out high wide rows = folded_in_bit_order beta k s m out high wide rows
+  folded_in_layout Natural beta k s m out tall high wide rows = record { tall = tall; height = high; width = wide; rows = rows }
+  folded_in_layout BitReversed beta k s m out tall high wide rows = record {
+    tall = tall;
+    height = high;
+    width = wide;
+    rows = λ i j below inside.
+        pair_same R beta (ap (point R g (suc k) s) (rev-rev k i below)) (ap (λ n. m.entry n j) (sym (rev-low k i below))) (ap (λ n. m.entry n j) (sym (rev-high k i below)))
+        refl (rows (rev k i) j (rev-lt k i) inside);
+  }
 
   -- from a factor for each pair: the challenge over twice its point
-  pub rows_by_factors : (layout : Layout) (beta : A) (k log half : ℕ) (s : A) (m out : Matrix A) (factor read : ℕ → A) → suc log ≡ suc k → half ≡ 2 ^ k → out.height ≡ half → out.width ≡ m.width
+  pub rows_by_factors : (layout : Layout) (beta : A) (k log half : ℕ) (s : A) (m out : Matrix A) (factor read : ℕ → A) → log ≡ k → half ≡ 2 ^ k → m.height ≡ 2 ^ suc k → out.height ≡ half → out.width ≡ m.width
       → ((i : ℕ) → i < 2 ^ log → two R ⊗ (point R g (suc log) s (pair_point layout log i) ⊗ factor i) ≡ beta)
       → ((i : ℕ) → read i ≡ factor i)
       → ((x : ℕ → A) → ((i : ℕ) → i < half → two R ⊗ (x i ⊗ read i) ≡ beta) → (i j : ℕ) → i < half → j < m.width
       → IsFoldedPair R beta (x i) (m.entry (near_row layout k i) j) (m.entry (far_row layout k i) j) (out.entry i j))
       → AreFoldedRows R g beta k s (arrangement layout (suc k) m) (arrangement layout k out)
-  rows_by_factors layout beta k log half s m out factor read same_log power high wide factors reads rows =
-      let same : log ≡ k = omega (arith, same_log) in
+  rows_by_factors layout beta k log half s m out factor read same power tall high wide factors reads rows =
       let here : (i : ℕ) → i < 2 ^ k → two R ⊗ (point R g (suc k) s (pair_point layout k i) ⊗ factor i) ≡ beta =
       subst (λ n. (i : ℕ) → i < 2 ^ n → two R ⊗ (point R g (suc n) s (pair_point layout n i) ⊗ factor i) ≡ beta) same factors in
-      folded_in_layout layout beta k s m out (high ∙ power) wide
+      folded_in_layout layout beta k s m out tall (high ∙ power) wide
       (λ i j below inside.
       rows (λ q. point R g (suc k) s (pair_point layout k q)) (λ q l. ap (λ y. two R ⊗ (point R g (suc k) s (pair_point layout k q) ⊗ y)) (reads q) ∙ here q (omega (arith, l, power)))
       i j (omega (arith, below, power)) inside)
@@ -231,31 +224,30 @@ module _ {A : Type 0} (R : Ring A) {g : ℕ → A} {bits : ℕ} (G : AreRoots R 
     at_invertible : (i : ℕ) → IsInvertible R (at i)
     at_invertible i = point_invertible R G (suc k) s i (point R g (suc k) s i) refl (omega (arith, within)) inverse
 
-    -- an index is one of the first half, or one of the second
-    either_half : (i : ℕ) → i < 2 ^ suc k → (i < 2 ^ k) ⊎ ((t : ℕ) × (t < 2 ^ k) × (i ≡ 2 ^ k + t))
-    either_half i below = cases (cases_lt i (2 ^ k))
+    -- what holds of both rows of each pair holds of each row
+    by_pairs : (P : ℕ → Type 0) → ((i : ℕ) → i < 2 ^ k → P i × P (2 ^ k + i)) → (i : ℕ) → i < 2 ^ suc k → P i
+    by_pairs P both i below = cases (cases_lt i (2 ^ k))
       where
-        cases : (i < 2 ^ k) ⊎ (2 ^ k ≤ i) → (i < 2 ^ k) ⊎ ((t : ℕ) × (t < 2 ^ k) × (i ≡ 2 ^ k + t))
-        cases (inl first) = inl first
-        cases (inr second) = inr (i - 2 ^ k, omega (arith, below, second, two-pow-succ k), omega (arith, second))
+        cases : (i < 2 ^ k) ⊎ (2 ^ k ≤ i) → P i
+        cases (inl first) = (both i first).0
+        cases (inr second) =
+            let place : 2 ^ k + (i - 2 ^ k) ≡ i = omega (arith, second) in
+            subst P place (both (i - 2 ^ k) (omega (arith, below, second, two-pow-succ k))).1
 
     -- matrices with the same two foldings are one
-    pub foldings_determine : (m n y z : Matrix A) → m.height ≡ 2 ^ suc k → n.height ≡ 2 ^ suc k → m.width ≡ n.width
+    pub foldings_determine : (m n y z : Matrix A)
         → AreFoldedRows R g beta k s m y → AreFoldedRows R g gamma k s m z → AreFoldedRows R g beta k s n y → AreFoldedRows R g gamma k s n z → Same m n
-    foldings_determine m n y z high tall wide first second third fourth = record {
-      height = high ∙ sym tall;
-      width = wide;
-      alike = λ i j below inside. each j inside i (either_half i (omega (arith, below, high)));
+    foldings_determine m n y z first second third fourth = record {
+      height = first.tall ∙ sym third.tall;
+      width = sym first.width ∙ third.width;
+      alike = λ i j below inside. by_pairs (λ q. m.entry q j ≡ n.entry q j) (λ q l. both q j l inside) i (omega (arith, below, first.tall));
     }
       where
         both : (i j : ℕ) → i < 2 ^ k → j < m.width → (m.entry i j ≡ n.entry i j) × (m.entry (2 ^ k + i) j ≡ n.entry (2 ^ k + i) j)
         both i j below inside =
+            let other : j < n.width = omega (arith, inside, first.width, third.width) in
             one_pair R beta gamma (at i) (m.entry i j) (m.entry (2 ^ k + i) j) (n.entry i j) (n.entry (2 ^ k + i) j) (y.entry i j) (z.entry i j) (at_invertible i) apart
-            (first.rows i j below inside) (second.rows i j below inside) (third.rows i j below (omega (arith, inside, wide))) (fourth.rows i j below (omega (arith, inside, wide)))
-
-        each : (j : ℕ) → j < m.width → (i : ℕ) → (i < 2 ^ k) ⊎ ((t : ℕ) × (t < 2 ^ k) × (i ≡ 2 ^ k + t)) → m.entry i j ≡ n.entry i j
-        each j inside i (inl below) = (both i j below inside).0
-        each j inside i (inr (t, below, is)) = subst (λ q. m.entry q j ≡ n.entry q j) (sym is) (both t j below inside).1
+            (first.rows i j below inside) (second.rows i j below inside) (third.rows i j below other) (fourth.rows i j below other)
 
     -- the coefficients whose foldings are c with beta and d with gamma
     abbrev pub unfolded : Matrix A → Matrix A → Matrix A
@@ -268,10 +260,11 @@ module _ {A : Type 0} (R : Ring A) {g : ℕ → A} {bits : ℕ} (G : AreRoots R 
         }
 
     -- where both foldings have the values of polynomials with so many coefficients, the rows have those of polynomials with twice as many
-    pub unfolded_values : (c d m y z : Matrix A) → c.height ≡ d.height → m.height ≡ 2 ^ suc k → IsValues R g c k (s ⊗ s) y → IsValues R g d k (s ⊗ s) z
+    pub unfolded_values : (c d m y z : Matrix A) → c.height ≡ d.height → IsValues R g c k (s ⊗ s) y → IsValues R g d k (s ⊗ s) z
         → AreFoldedRows R g beta k s m y → AreFoldedRows R g gamma k s m z → IsValues R g (unfolded c d) (suc k) s m
-    unfolded_values c d m y z tall high of_y of_z first second =
-        is_values R g (unfolded c d) (suc k) s m high (sym first.width ∙ of_y.width) (λ i j below inside. each j inside i (either_half i below))
+    unfolded_values c d m y z tall of_y of_z first second =
+        is_values R g (unfolded c d) (suc k) s m first.tall (sym first.width ∙ of_y.width)
+        (λ i j below inside. by_pairs (λ q. m.entry q j ≡ poly R (2 * h) (u j) (at q)) (λ q l. both q j l inside) i below)
       where
         h : ℕ
         h = c.height
@@ -283,7 +276,7 @@ module _ {A : Type 0} (R : Ring A) {g : ℕ → A} {bits : ℕ} (G : AreRoots R 
         u j q = (unfolded c d).entry q j
 
         both : (i j : ℕ) → i < 2 ^ k → j < c.width
-            → (m.entry i j ≡ poly R (2 * h) (u j) (at i)) × (m.entry (2 ^ k + i) j ≡ poly R (2 * h) (u j) (neg (at i)))
+            → (m.entry i j ≡ poly R (2 * h) (u j) (at i)) × (m.entry (2 ^ k + i) j ≡ poly R (2 * h) (u j) (at (2 ^ k + i)))
         both i j below inside =
             let x = at i in
             let p = point R g k (s ⊗ s) i in
@@ -312,12 +305,8 @@ module _ {A : Type 0} (R : Ring A) {g : ℕ → A} {bits : ℕ} (G : AreRoots R 
             ∙ solve R (f q ∷ beta ∷ t ∷ minus R (f q) (e q) ∷ gamma ∷ []) ((va ⊟ vb ⊠ (vc ⊠ vd)) ⊞ ve ⊠ (vc ⊠ vd)) (va ⊟ ((vb ⊟ ve) ⊠ vc) ⊠ vd) refl
             ∙ ap (λ r. minus R (f q) (r ⊗ minus R (f q) (e q))) apart.1
             ∙ solve R (f q ∷ e q ∷ []) (va ⊟ oneₑ ⊠ (va ⊟ vb)) vb refl) ∙ sym w in
-            one_pair R beta gamma x (m.entry i j) (m.entry (2 ^ k + i) j) (poly R (2 * h) (u j) x) (poly R (2 * h) (u j) (neg x)) (y.entry i j) (z.entry i j) (at_invertible i) apart
+            let pair = one_pair R beta gamma x (m.entry i j) (m.entry (2 ^ k + i) j) (poly R (2 * h) (u j) x) (poly R (2 * h) (u j) (neg x)) (y.entry i j) (z.entry i j) (at_invertible i) apart
             (first.rows i j below in_m) (second.rows i j below in_m)
             (ap (λ r. two R ⊗ (x ⊗ r)) (sym with_beta) ∙ folded_poly R h (u j) beta x)
-            (ap (λ r. two R ⊗ (x ⊗ r)) (sym with_gamma) ∙ folded_poly R h (u j) gamma x)
-
-        each : (j : ℕ) → j < c.width → (i : ℕ) → (i < 2 ^ k) ⊎ ((t : ℕ) × (t < 2 ^ k) × (i ≡ 2 ^ k + t)) → m.entry i j ≡ poly R (2 * h) (u j) (at i)
-        each j inside i (inl below) = (both i j below inside).0
-        each j inside i (inr (r, below, is)) =
-            ap (λ q. m.entry q j) is ∙ (both r j below inside).1 ∙ ap (poly R (2 * h) (u j)) (sym (ap at is ∙ point_opposite R G k s r within))
+            (ap (λ r. two R ⊗ (x ⊗ r)) (sym with_gamma) ∙ folded_poly R h (u j) gamma x) in
+            (pair.0, pair.1 ∙ ap (poly R (2 * h) (u j)) (sym (point_opposite R G k s i within)))

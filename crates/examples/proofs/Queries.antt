@@ -1,15 +1,15 @@
 -- The places of a query in its layers, and what is opened there.
-use Rattle.std.proofs.Common.{◌≡◌, ℕ, zero, suc, ◌+◌, ◌-◌, ◌*◌, ◌/◌, ◌^◌, ◌<◌, ◌≤◌, List, [], ◌∷◌, get_or, length, ap, subst, sym, ◌∙◌, arith}
+use Rattle.std.proofs.Common.{◌≡◌, ℕ, zero, suc, ◌+◌, ◌-◌, ◌*◌, ◌/◌, ◌^◌, ◌<◌, ◌≤◌, List, [], ◌∷◌, get_or, length, refl, ap, subst, sym, ◌∙◌, arith}
 use Rattle.std.proofs.Math.Nat.{two-pow-succ}
 use Rattle.std.proofs.lemmas.Nat.{shr_below}
 use Rattle.p3_field.specs.declared.fields.Field.{Ghosts as FieldMembers}
 use Rattle.p3_matrix.specs.BitOrder.{bit_reversal, rev}
-use Rattle.p3_matrix.specs.Cosets.{point, values_of}
+use Rattle.p3_matrix.specs.Cosets.{values_of}
 use Rattle.p3_matrix.specs.RowMajor.{IsRowMajor, RowMajor, height, row, rows_from}
 use Rattle.p3_matrix.proofs.BitReversal.{rev-high, rev-low, rev-lt, rev-rev}
-use Rattle.examples.specs.Foldings.{AreFoldedRows, IsFoldedPair}
+use Rattle.examples.specs.Foldings.{AreFoldedRows}
 use Rattle.examples.specs.Fri.{FoldsTo}
-use Rattle.examples.proofs.FoldedValues.{row_entry}
+use Rattle.examples.proofs.FoldedValues.{pair_same, row_value}
 use Rattle.examples.proofs.MerkleTrees.{block_row}
 
 -- a pair of the first layer is, in layer l, one of half as many for each layer before
@@ -24,11 +24,6 @@ place_inside log l index below inside =
 pub some_element : {X : Type 0} (xs : List X) (i : ℕ) → i < length xs → X
 some_element [] i below = absurd (omega (arith, below))
 some_element (x ∷ xs) i below = x
-
--- a height of two rows or more is even
-pub even_height : (log h : ℕ) → h ≡ 2 ^ log → 2 ≤ h → h ≡ 2 * (h / 2)
-even_height zero h is some = absurd (omega (arith, is, some))
-even_height (suc k) h is some = omega (arith, is, two-pow-succ k)
 
 -- pair i of a codeword
 module _ {F : Type 0} (f : FieldMembers F) (m : RowMajor F) (whole : IsRowMajor m) (k i : ℕ) (high : height m ≡ 2 ^ suc k) (below : i < 2 ^ k) where
@@ -49,23 +44,16 @@ module _ {F : Type 0} (f : FieldMembers F) (m : RowMajor F) (whole : IsRowMajor 
   pub entries_of_pair : IsRowMajor pair → (r j : ℕ) → r < 2 → j < m.width → (values_of f pair).entry r j ≡ (values_of f m).entry (2 * i + r) j
   entries_of_pair full r j inside in_row =
       let twice = two-pow-succ k in
-      ap f.value
-      (sym (row_entry pair r j f.ZERO full (omega (arith, inside, height_of_pair)) in_row)
-      ∙ ap (λ xs. get_or xs j f.ZERO) (rows_of_pair r inside).1
-      ∙ row_entry m (2 * i + r) j f.ZERO whole (omega (arith, inside, high, twice, below)) in_row)
+      sym (row_value f pair r j _ full refl (omega (arith, inside, height_of_pair)) in_row)
+      ∙ row_value f m (2 * i + r) j _ whole (rows_of_pair r inside).1 (omega (arith, inside, high, twice, below)) in_row
 
   -- and fold to row i of the next codeword
   pub pair_folds : (g : ℕ → f.Element) (beta s : f.Element) (next : RowMajor F) → IsRowMajor pair
       → AreFoldedRows f.ring g beta k s (bit_reversal (suc k) (values_of f m)) (bit_reversal k (values_of f next)) → FoldsTo f g k s beta i (values_of f pair) ((values_of f next).entry i)
   pair_folds g beta s next full folded j in_row =
       let back = rev-rev k i below in
-      let here = folded.rows (rev k i) j (rev-lt k i) in_row in
       let near : rev (suc k) (rev k i) ≡ 2 * i + 0 = rev-low k (rev k i) (rev-lt k i) ∙ ap (λ n. 2 * n) back ∙ (let e : 2 * i ≡ 2 * i + 0 = omega arith in e) in
       let far : rev (suc k) (2 ^ k + rev k i) ≡ 2 * i + 1 = rev-high k (rev k i) (rev-lt k i) ∙ ap (λ n. 2 * n + 1) back in
-      let x = point f.ring g (suc k) s (rev k i) in
-      let at_near = ap (λ n. (values_of f m).entry n j) near ∙ sym (entries_of_pair full 0 j (omega arith) in_row) in
-      let at_far = ap (λ n. (values_of f m).entry n j) far ∙ sym (entries_of_pair full 1 j (omega arith) in_row) in
-      let at_next = ap (λ n. (values_of f next).entry n j) back in
-      subst (λ v. IsFoldedPair f.ring beta x ((values_of f pair).entry 0 j) ((values_of f pair).entry 1 j) v) at_next
-      (subst (λ b. IsFoldedPair f.ring beta x ((values_of f pair).entry 0 j) b ((values_of f next).entry (rev k (rev k i)) j)) at_far
-      (subst (λ a. IsFoldedPair f.ring beta x a ((values_of f m).entry (rev (suc k) (2 ^ k + rev k i)) j) ((values_of f next).entry (rev k (rev k i)) j)) at_near here))
+      pair_same f.ring beta refl (ap (λ n. (values_of f m).entry n j) near ∙ sym (entries_of_pair full 0 j (omega arith) in_row))
+      (ap (λ n. (values_of f m).entry n j) far ∙ sym (entries_of_pair full 1 j (omega arith) in_row)) (ap (λ n. (values_of f next).entry n j) back)
+      (folded.rows (rev k i) j (rev-lt k i) in_row)

@@ -50,9 +50,8 @@ pub fn fold_into_extension<F: TwoAdicField, E: ExtensionField<F>>(
     ensures folded { IfOk result (λ out. (k : ℕ) → height values.now ≡ 2 ^ suc k
         → IsFolding E.ring (λ n. E.value (E.generator n)) (E.value beta) k (E.value (E.embedded shift))
         (arrangement layout (suc k) (values_of E.Field.own (embedded_matrix E.embedded values.now)))
-        (arrangement layout k (values_of E.Field.own out))) }
-    ensures rows { IfOk result (λ out. (k : ℕ) → height values.now ≡ 2 ^ suc k
-        → AreFoldedRows E.ring (λ n. E.value (E.generator n)) (E.value beta) k (E.value (E.embedded shift))
+        (arrangement layout k (values_of E.Field.own out))
+        × AreFoldedRows E.ring (λ n. E.value (E.generator n)) (E.value beta) k (E.value (E.embedded shift))
         (arrangement layout (suc k) (values_of E.Field.own (embedded_matrix E.embedded values.now)))
         (arrangement layout k (values_of E.Field.own out))) }
     ensures degree { IfOk result (λ out. (k h : ℕ) → height values.now ≡ 2 ^ suc k

@@ -17,8 +17,8 @@ ghost use Rattle.p3_dft.specs.Shapes.{FitsDft};
 ghost use Rattle.examples.specs.Foldings.{AreFoldedRows, IsFoldedPair, IsFolding, far_row, near_row, pair_point};
 
 use p3_dft::{
-    DftError, Field, Layout, RowMajorMatrix, TwoAdicField, growth, invertible_root,
-    log2_strict_usize, reverse_slice_index_bits,
+    DftError, Field, Layout, RowMajorMatrix, TwoAdicField, growth, invertible_root, log_height,
+    reverse_slice_index_bits,
 };
 use std::alloc::Global;
 
@@ -68,12 +68,10 @@ fn factors<F: TwoAdicField>(
     let first = beta.halve() * shift.inverse();
     let mut factors = root.shifted_powers(first).collect_n(alloc, half)?;
     match layout {
-        Layout::Natural => Ok(factors),
-        Layout::BitReversed => {
-            reverse_slice_index_bits(&mut factors);
-            Ok(factors)
-        }
+        Layout::Natural => {}
+        Layout::BitReversed => reverse_slice_index_bits(&mut factors),
     }
+    Ok(factors)
 }
 
 // The rows of pair i, of `half` pairs, as the rows lie.
@@ -134,9 +132,8 @@ pub fn fold<F: TwoAdicField>(
     ensures folded { IfOk result (λ out. (k : ℕ) → height values.now ≡ 2 ^ suc k
         → IsFolding F.ring (λ n. F.value (F.generator n)) (F.value beta) k (F.value shift)
         (arrangement layout (suc k) (values_of F.Field.own values.now))
-        (arrangement layout k (values_of F.Field.own out))) }
-    ensures rows { IfOk result (λ out. (k : ℕ) → height values.now ≡ 2 ^ suc k
-        → AreFoldedRows F.ring (λ n. F.value (F.generator n)) (F.value beta) k (F.value shift)
+        (arrangement layout k (values_of F.Field.own out))
+        × AreFoldedRows F.ring (λ n. F.value (F.generator n)) (F.value beta) k (F.value shift)
         (arrangement layout (suc k) (values_of F.Field.own values.now))
         (arrangement layout k (values_of F.Field.own out))) }
     ensures degree { IfOk result (λ out. (k h : ℕ) → height values.now ≡ 2 ^ suc k
@@ -145,9 +142,8 @@ pub fn fold<F: TwoAdicField>(
         → HasDegreeBelow F.Field.own F.generator ((h + 1) / 2) k (F.ring.mul (F.value shift) (F.value shift))
         (arrangement layout k (values_of F.Field.own out))) }
 {
-    let height = values.height();
-    let log_half = log2_strict_usize(height) - 1;
-    let half = height / 2;
+    let log_half = log_height(values) - 1;
+    let half = values.height() / 2;
     let factors = factors(*values.allocator(), shift, beta, log_half, half, layout)?;
     fold_rows(values, layout, half, &factors)
 }
@@ -172,16 +168,14 @@ pub fn fold_twice<F: TwoAdicField>(
     requires pairs { 2 ≤ height values.now }
     requires invertible { IsInvertible F.ring (F.value shift) }
     requires apart { IsInvertible F.ring (minus F.ring (F.value beta) (F.value gamma)) }
-    ensures first { IfOk result (λ out. (k : ℕ) → height values.now ≡ 2 ^ suc k
+    ensures rows { IfOk result (λ out. (k : ℕ) → height values.now ≡ 2 ^ suc k
         → AreFoldedRows F.ring (λ n. F.value (F.generator n)) (F.value beta) k (F.value shift)
         (arrangement layout (suc k) (values_of F.Field.own values.now))
-        (arrangement layout k (values_of F.Field.own out.0))) }
-    ensures second { IfOk result (λ out. (k : ℕ) → height values.now ≡ 2 ^ suc k
-        → AreFoldedRows F.ring (λ n. F.value (F.generator n)) (F.value gamma) k (F.value shift)
+        (arrangement layout k (values_of F.Field.own out.0))
+        × AreFoldedRows F.ring (λ n. F.value (F.generator n)) (F.value gamma) k (F.value shift)
         (arrangement layout (suc k) (values_of F.Field.own values.now))
         (arrangement layout k (values_of F.Field.own out.1))) }
     ensures determined { IfOk result (λ out. (k : ℕ) (other : Matrix F.Element) → height values.now ≡ 2 ^ suc k
-        → other.height ≡ 2 ^ suc k
         → AreFoldedRows F.ring (λ n. F.value (F.generator n)) (F.value beta) k (F.value shift) other
         (arrangement layout k (values_of F.Field.own out.0))
         → AreFoldedRows F.ring (λ n. F.value (F.generator n)) (F.value gamma) k (F.value shift) other

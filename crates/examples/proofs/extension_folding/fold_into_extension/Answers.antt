@@ -8,11 +8,6 @@ returns-clause-folded g c =
     IfOk-weaker c.fold.result _ _ (λ out given k tall. given k (height-embedded g.E.ExtensionField.embedded c.args.values.now ∙ tall))
     (rw (c.in_ok-lifted.ensures, c.from_base.ensures) at c.fold.ensures.folded)
 
-pub returns-clause-rows : goal.returns-clause-rows
-returns-clause-rows g c =
-    IfOk-weaker c.fold.result _ _ (λ out given k tall. given k (height-embedded g.E.ExtensionField.embedded c.args.values.now ∙ tall))
-    (rw (c.in_ok-lifted.ensures, c.from_base.ensures) at c.fold.ensures.rows)
-
 pub returns-clause-degree : goal.returns-clause-degree
 returns-clause-degree g c =
     IfOk-weaker c.fold.result _ _

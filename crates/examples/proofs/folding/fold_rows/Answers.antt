@@ -1,11 +1,11 @@
-use Rattle.std.proofs.Common.{◌≡◌, ◌+◌, ◌*◌, ◌/◌, ◌<◌, get_or, length, ap, sym, subst, ◌∙◌, arith}
+use Rattle.std.proofs.Common.{◌≡◌, ◌+◌, ◌*◌, ◌/◌, ◌<◌, get_or, length, refl, ap, sym, subst, ◌∙◌, arith}
 use Rattle.std.proofs.lemmas.List.{get_or_read}
 use Rattle.p3_field.specs.Ring.{two}
 use Rattle.p3_matrix.specs.Cosets.{values_of}
 use Rattle.p3_matrix.specs.RowMajor.{height}
 use Rattle.p3_matrix.proofs.RowMajor.{whole_rows}
 use Rattle.examples.specs.Foldings.{IsFoldedPair, far_row, near_row}
-use Rattle.examples.proofs.FoldedValues.{one_more_row, row_entry, row_size}
+use Rattle.examples.proofs.FoldedValues.{one_more_row, pair_same, row_size, row_value}
 use Rattle.examples.proofs.folding.fold_rows.Goals as goal
 
 pub overflow_mul-half : goal.overflow_mul-half
@@ -43,16 +43,12 @@ loop-i-preserved g c =
           let in_row : j < m.width = omega (arith, inside, c.width-width.ensures.width) in
           let read : f.value c.index-factors-i.result ≡ f.value (get_or c.args.factors.now c.loop-i.i f.ZERO) =
           ap f.value (get_or_read c.args.factors.now _ _ (omega (arith, c.loop-i-test.true, c.requires.factors)) c.index-factors-i.is f.ZERO) in
-          let near : get_or c.row.result.now j f.ZERO ≡ get_or m.values (near_row c.args.layout k c.loop-i.i * m.width + j) f.ZERO =
-          ap (λ xs. get_or xs j f.ZERO) c.row.ensures ∙ row_entry m _ j f.ZERO whole near_in in_row ∙ ap (λ r. get_or m.values (r * m.width + j) f.ZERO) (c.pair_rows-near.ensures.near k power) in
-          let far : get_or c.row-in-loop-i.result.now j f.ZERO ≡ get_or m.values (far_row c.args.layout k c.loop-i.i * m.width + j) f.ZERO =
-          ap (λ xs. get_or xs j f.ZERO) c.row-in-loop-i.ensures ∙ row_entry m _ j f.ZERO whole far_in in_row ∙ ap (λ r. get_or m.values (r * m.width + j) f.ZERO) (c.pair_rows-near.ensures.far k power) in
-          let folded = c.push_folded_row.ensures.row beta (x c.loop-i.i)
-          (ap (λ y. f.ring.mul (two f.ring) (f.ring.mul (x c.loop-i.i) y)) read ∙ factors c.loop-i.i c.loop-i-test.true) j (omega (arith, inside, size)) in
-          subst (λ a. IsFoldedPair f.ring beta (x c.loop-i.i) (f.value a) (f.value (get_or m.values (far_row c.args.layout k c.loop-i.i * m.width + j) f.ZERO)) (f.value (get_or c.push_folded_row.new.folded.items (length old + j) f.ZERO))) near
-          (subst (λ b. IsFoldedPair f.ring beta (x c.loop-i.i) (f.value (get_or c.row.result.now j f.ZERO)) (f.value b) (f.value (get_or c.push_folded_row.new.folded.items (length old + j) f.ZERO))) far
-          (subst (λ n. IsFoldedPair f.ring beta (x c.loop-i.i) (f.value (get_or c.row.result.now j f.ZERO)) (f.value (get_or c.row-in-loop-i.result.now j f.ZERO)) (f.value (get_or c.push_folded_row.new.folded.items (n + j) f.ZERO)))
-          (let e : c.loop-i.folded.len ≡ length old = omega (arith, had) in e) folded)));
+          pair_same f.ring beta refl
+          (row_value f m _ j _ whole c.row.ensures near_in in_row ∙ ap (λ r. (values_of f m).entry r j) (c.pair_rows-near.ensures.near k power))
+          (row_value f m _ j _ whole c.row-in-loop-i.ensures far_in in_row ∙ ap (λ r. (values_of f m).entry r j) (c.pair_rows-near.ensures.far k power))
+          (ap (λ n. f.value (get_or c.push_folded_row.new.folded.items (n + j) f.ZERO)) (let e : c.loop-i.folded.len ≡ length old = omega (arith, had) in e))
+          (c.push_folded_row.ensures.row beta (x c.loop-i.i)
+          (ap (λ y. f.ring.mul (two f.ring) (f.ring.mul (x c.loop-i.i) y)) read ∙ factors c.loop-i.i c.loop-i-test.true) j (omega (arith, inside, size))));
     }
 
 pub new-requires-clause-full : goal.new-requires-clause-full

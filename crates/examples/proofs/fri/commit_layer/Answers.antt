@@ -2,13 +2,11 @@ use Rattle.std.proofs.Common.{◌≡◌, suc, ◌*◌, ◌/◌, ◌^◌, subst, 
 use Rattle.std.proofs.Math.Nat.{two-pow-succ}
 use Rattle.p3_matrix.specs.RowMajor.{height, rows_from}
 use Rattle.examples.specs.MerkleTrees.{AreNodes}
-use Rattle.examples.proofs.Queries.{even_height}
+use Rattle.examples.proofs.FoldedValues.{half_height}
 use Rattle.examples.proofs.fri.commit_layer.Goals as goal
 
 pub tree_of_pairs-requires : goal.tree_of_pairs-requires
-tree_of_pairs-requires g c =
-    let even = even_height c.requires.fits.log (height c.args.codeword) c.requires.fits.height c.requires.pairs in
-    omega (arith, even, c.height-leaves.ensures.height)
+tree_of_pairs-requires g c = omega (arith, (half_height _ _ c.requires.fits.height c.requires.pairs).2, c.height-leaves.ensures.height)
 
 pub returns-clause-layer : goal.returns-clause-layer
 returns-clause-layer g c = λ k high.
@@ -17,5 +15,5 @@ returns-clause-layer g c = λ k high.
     record {
       height = high;
       tree = subst (λ n. AreNodes hash.worth (hash.of_pair c.args.hash.now) n (λ i. hash.of_row c.args.hash.now (rows_from c.args.codeword (2 * i) 2).values) c.in_ok-nodes.nodes.items) half c.in_ok-nodes.ensures;
-      folds = c.in_ok-folded.ensures.rows k high;
+      folds = (c.in_ok-folded.ensures.folded k high).1;
     }

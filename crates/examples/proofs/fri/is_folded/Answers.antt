@@ -5,7 +5,7 @@ use Rattle.p3_matrix.specs.Cosets.{point, values_of}
 use Rattle.p3_matrix.specs.RowMajor.{height}
 use Rattle.p3_matrix.proofs.Polynomials.Cosets.{point-mul}
 use Rattle.examples.specs.Foldings.{IsFoldedPair}
-use Rattle.examples.proofs.FoldedValues.{row_entry, row_size}
+use Rattle.examples.proofs.FoldedValues.{row_size, row_value}
 use Rattle.examples.proofs.fri.is_folded.Goals as goal
 
 pub returns : goal.returns
@@ -20,10 +20,10 @@ returns g c =
     g.met.F.Field.mul_law _ _ _ c.mul-x.ensures
     ∙ ap (f.ring.mul (f.value c.args.shift)) (c.exp_u64.ensures ∙ ap₂ (power f.ring) (c.two_adic_generator-root.ensures ∙ ap gen one) c.reverse_bits_len.ensures)
     ∙ sym (point-mul f.ring gen (suc c.args.log_half) (f.value c.args.shift) (rev c.args.log_half c.args.index)) in
-    let near = λ (j : ℕ) (l : j < m.width). ap f.value (ap (λ xs. get_or xs j f.ZERO) c.row.ensures ∙ row_entry m 0 j f.ZERO c.width-whole.ensures.whole (omega (arith, c.requires.height)) l) in
-    let far = λ (j : ℕ) (l : j < m.width). ap f.value (ap (λ xs. get_or xs j f.ZERO) c.row-2.ensures ∙ row_entry m 1 j f.ZERO c.width-whole.ensures.whole (omega (arith, c.requires.height)) l) in
-    let next = λ (j : ℕ) (l : j < m.width). ap f.value (ap (λ xs. get_or xs j f.ZERO) c.row-3.ensures
-    ∙ row_entry n c.args.row j f.ZERO c.width-whole_too.ensures.whole c.requires.row (omega (arith, l, c.requires.width))) in (
+    let whole = c.width-whole.ensures.whole in
+    let near = λ (j : ℕ) (l : j < m.width). row_value f m 0 j _ whole c.row.ensures (omega (arith, c.requires.height)) l in
+    let far = λ (j : ℕ) (l : j < m.width). row_value f m 1 j _ whole c.row-2.ensures (omega (arith, c.requires.height)) l in
+    let next = λ (j : ℕ) (l : j < m.width). row_value f n c.args.row j _ c.width-whole_too.ensures.whole c.row-3.ensures c.requires.row (omega (arith, l, c.requires.width)) in (
       λ told j l.
           rw (sym x_is) (rw (sym (near j l), sym (far j l), sym (next j l)) (c.folds_to.ensures.0 told j (omega (arith, l, size)))),
       λ all.
