@@ -13,7 +13,7 @@ use Rattle.p3_field.specs.Ring.{Ring, minus, power, two, AreRoots, IsInvertible}
 use Rattle.p3_field.proofs.Rings
 use Rattle.p3_field.proofs.Powers.{power-inverse}
 use Rattle.p3_field.proofs.RingSolver.{solve, va, vb, vc, vd, ve, oneₑ, ◌⊞◌, ◌⊠◌, ◌⊟◌, ⊝}
-use Rattle.p3_matrix.specs.BitOrder.{bit_reversal, rev}
+use Rattle.p3_matrix.specs.BitOrder.{rev}
 use Rattle.p3_matrix.specs.Combinations.{lengthened}
 use Rattle.p3_matrix.specs.Cosets.{IsValues, point, values_of}
 use Rattle.p3_matrix.specs.Matrix.{Matrix, Same}

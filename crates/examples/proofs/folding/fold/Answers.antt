@@ -1,4 +1,4 @@
-use Rattle.std.proofs.Common.{◌≡◌, suc, ◌+◌, ◌*◌, ◌/◌, get_or, length, ap, ◌∙◌, arith}
+use Rattle.std.proofs.Common.{suc, ◌+◌, ◌/◌, get_or, length, ap, ◌∙◌, arith}
 use Rattle.std.proofs.lemmas.Result.{IfOk-weaker}
 use Rattle.p3_matrix.specs.Cosets.{values_of}
 use Rattle.p3_dft.proofs.Laws.TwoCalls.{exponent_within}

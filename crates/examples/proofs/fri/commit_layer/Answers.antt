@@ -1,4 +1,4 @@
-use Rattle.std.proofs.Common.{◌≡◌, suc, ◌*◌, ◌/◌, ◌^◌, subst, sym, ◌∙◌, arith}
+use Rattle.std.proofs.Common.{◌≡◌, ◌*◌, ◌/◌, ◌^◌, subst, arith}
 use Rattle.std.proofs.Math.Nat.{two-pow-succ}
 use Rattle.p3_matrix.specs.RowMajor.{height, rows_from}
 use Rattle.examples.specs.MerkleTrees.{AreNodes}

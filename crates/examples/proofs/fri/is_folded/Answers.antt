@@ -1,10 +1,9 @@
-use Rattle.std.proofs.Common.{◌≡◌, ℕ, suc, ◌+◌, ◌<◌, get_or, length, sym, ap, ap₂, ◌∙◌, arith, subst}
+use Rattle.std.proofs.Common.{◌≡◌, ℕ, suc, ◌+◌, ◌<◌, length, sym, ap, ap₂, ◌∙◌, arith}
 use Rattle.p3_field.specs.Ring.{power}
 use Rattle.p3_matrix.specs.BitOrder.{rev}
-use Rattle.p3_matrix.specs.Cosets.{point, values_of}
+use Rattle.p3_matrix.specs.Cosets.{point}
 use Rattle.p3_matrix.specs.RowMajor.{height}
 use Rattle.p3_matrix.proofs.Polynomials.Cosets.{point-mul}
-use Rattle.examples.specs.Foldings.{IsFoldedPair}
 use Rattle.examples.proofs.FoldedValues.{row_size, row_value}
 use Rattle.examples.proofs.fri.is_folded.Goals as goal
 
