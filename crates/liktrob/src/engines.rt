@@ -118,16 +118,31 @@ pub fn answer_by<F: TwoAdicField>(
 // The engine by which one call is fastest, as measured. No table is kept for a second call, and `Radix2Bowers` makes
 // fewer of them; its inverses begin with the inverse of a generator, which is dear in a short column.
 fn fastest(operation: Operation, height: usize, width: usize) -> Engine {
-    match operation {
-        Operation::CosetDft(_) => Engine::Bowers,
-        Operation::CosetIdft => Engine::SmallBatch,
-        Operation::CosetLde(_) | Operation::CosetLdeBitReversed(_) => {
-            if width == 1 && height >= 64 {
-                Engine::Bowers
-            } else {
-                Engine::SmallBatch
-            }
+    let by_bowers = match operation {
+        Operation::CosetDft(added_bits) => added_bits < bits_of_many_zeros(width),
+        Operation::CosetIdft => false,
+        Operation::CosetLde(added_bits) => {
+            width == 1 && height >= 64 && added_bits < bits_of_many_zeros(width)
         }
+        Operation::CosetLdeBitReversed(added_bits) => {
+            width == 1 && (height >= 64 || added_bits >= 4)
+        }
+    };
+    if by_bowers {
+        Engine::Bowers
+    } else {
+        Engine::SmallBatch
+    }
+}
+
+// From how many added bits on it pays, in natural order, to meet no row of zeros: `Radix2DFTSmallBatch` meets none.
+fn bits_of_many_zeros(width: usize) -> usize {
+    if width == 1 {
+        5
+    } else if width <= 8 {
+        3
+    } else {
+        2
     }
 }
 
