@@ -97,23 +97,19 @@ fn of_two<F: TwoAdicField, D: TwoAdicSubgroupDft<F>>(
     ReedSolomon::new(engine, 1, 1, invertible(rt, shift))
 }
 
-// Stops the test unless an engine tells whether four numbers are a word with so many added bits.
+// Stops the test unless an engine tells whether four numbers are a word of a message of two.
 fn tells<F: TwoAdicField>(
     rt: &impl Abort,
     engine: &mut TestEngine<F>,
     word: &RowMajorMatrix<F>,
-    (added_bits, shift): (usize, F),
+    shift: F,
     is_word: bool,
 ) {
-    let holds = match engine.answer(Call::IsCodeword, input(rt, word, added_bits, shift)) {
+    let holds = match engine.answer(Call::IsCodeword, input(rt, word, 1, shift)) {
         Answer::Holds(holds) => holds,
         _ => panic!(rt; "is_codeword on {}: no answer", engine.name),
     };
-    assert!(rt;
-        holds == is_word,
-        "is_codeword on {}: {holds}, {added_bits} added bits",
-        engine.name
-    );
+    assert!(rt; holds == is_word, "is_codeword on {}: {holds}", engine.name);
 }
 
 // The word with one added to one of its entries.
@@ -140,20 +136,24 @@ fn word_of<F: CanonicalField>(
     let message = input(rt, &matrix(rt, alloc, &[9, 1], 1), 1, shift);
     let word = matrix(rt, alloc, numbers, 1);
     assert_rows_of(rt, engine, Call::Encode, message, &word);
-    tells(rt, engine, &word, (1, shift), true);
+    tells(rt, engine, &word, shift, true);
     for place in 0..numbers.len() {
-        let word = changed(rt, alloc, numbers, place);
-        tells(rt, engine, &word, (1, shift), false);
+        tells(
+            rt,
+            engine,
+            &changed(rt, alloc, numbers, place),
+            shift,
+            false,
+        );
     }
 }
 
-// Constants are words, and two columns of four numbers are none; with no added bits each column is a word.
-const COLUMNS: [([u64; 4], usize, bool); 5] = [
-    ([0, 0, 0, 0], 1, true),
-    ([7, 7, 7, 7], 1, true),
-    ([9, 873820294, 1, 0], 1, false),
-    ([1, 2013265920, 1, 2013265920], 1, false),
-    ([9, 873820294, 1, 0], 0, true),
+// Constants are words, and two columns of four numbers are none.
+const COLUMNS: [([u64; 4], bool); 4] = [
+    ([0, 0, 0, 0], true),
+    ([7, 7, 7, 7], true),
+    ([9, 873820294, 1, 0], false),
+    ([1, 2013265920, 1, 2013265920], false),
 ];
 
 // A word of a message on two cosets, and other columns, on every engine.
@@ -167,9 +167,9 @@ pub(crate) fn words<F: CanonicalField>(
         let mut engine: TestEngine<F> = TestEngine::new(name);
         word_of(rt, alloc, &mut engine, F::ONE, &word);
         word_of(rt, alloc, &mut engine, F::TWO, &on_two);
-        for (column, added_bits, is_word) in COLUMNS {
+        for (column, is_word) in COLUMNS {
             let column = matrix(rt, alloc, &column, 1);
-            tells(rt, &mut engine, &column, (added_bits, F::ONE), is_word);
+            tells(rt, &mut engine, &column, F::ONE, is_word);
         }
     }
 }

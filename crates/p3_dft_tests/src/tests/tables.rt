@@ -20,12 +20,7 @@ use p3_dft::{
 use std::alloc::Global;
 use std::process::Abort;
 
-// The engines that have tables.
-pub(crate) const WITH_TABLES: [EngineName; 3] = [
-    EngineName::Dit,
-    EngineName::Parallel,
-    EngineName::Small,
-];
+const WITH_TABLES: [EngineName; 3] = [EngineName::Dit, EngineName::Parallel, EngineName::Small];
 
 // Stops the test where these tables cannot be made.
 fn prepare<F: TwoAdicField>(rt: &impl Abort, alloc: Global, engine: &mut Engine<F>, log_h: usize) {
