@@ -5,7 +5,7 @@ use Rattle.p3_field.specs.declared.fields.Field.{Ghosts as FieldMembers}
 use Rattle.p3_matrix.specs.declared.error.DftError.{DftError}
 use Rattle.p3_matrix.specs.Room.{IsWithin}
 use Rattle.p3_matrix.specs.RowMajor.{RowMajor, height}
-use Rattle.p3_networks.specs.Twiddles.{Coset, HasCoset}
+use Rattle.p3_matrix.specs.Cosets.{Coset, HasCoset}
 use Rattle.p3_dft.specs.Extensions.{extension_bound}
 
 -- at the k with height 2 ^ k

@@ -123,11 +123,11 @@ impl<F: TwoAdicField> TwoAdicSubgroupDft<F> for Radix2DitParallel<F> {
     ghost use Rattle.std.specs.Prelude.{IfErr, IfOk, IsOk, OnOk, OnErr, Ok, length, max};
     ghost use Rattle.p3_matrix.specs.Room.{IsWithin};
     ghost use Rattle.std.proofs.Common.{arith, refl};
-    ghost use Rattle.p3_matrix.specs.BitOrder.{bit_reversal, reversed_rows};
+    ghost use Rattle.p3_matrix.specs.BitOrder.{bit_reversal, reversed_rows, mid_of};
     ghost use Rattle.p3_matrix.specs.RowMajor.{height};
     ghost use Rattle.p3_dft.specs.Engines.{AfterDft, AtLog, HasProductsMore, IsLater, IsCosetPrepared, IsPrepared};
     ghost use Rattle.p3_dft.specs.Engines.{PreparesNoneAbove, plain_facts};
-    ghost use Rattle.p3_networks.specs.Twiddles.{HasCoset, HasCosets, mid_of};
+    ghost use Rattle.p3_matrix.specs.Cosets.{HasCoset, HasCosets, values_of};
     ghost use Rattle.p3_dft.specs.Extensions.{AreTransformedValues, IsCallable, IsTransformedExtension, KeepsShape};
     ghost use Rattle.p3_dft.specs.Blocks.{OnOutOfMemory, OnRefused, UnlessOutOfMemory, outcome};
     ghost use Rattle.p3_matrix.specs.Blocks.{IsPublished, IsRefused};
@@ -135,7 +135,6 @@ impl<F: TwoAdicField> TwoAdicSubgroupDft<F> for Radix2DitParallel<F> {
     ghost use Rattle.p3_dft.specs.Shapes.{FitsDft, FitsLde};
     ghost use Rattle.p3_dft.specs.Tables.{LeavesTables};
     ghost use Rattle.p3_dft.specs.Transforms.{IsInterpolation, IsTransform};
-    ghost use Rattle.p3_matrix.specs.Cosets.{values_of};
     ghost use Rattle.p3_dft.specs.declared.traits.Layout.TheVariants.{BitReversed};
 
     type Evaluations = BitReversedMatrixView<RowMajorMatrix<F>>;

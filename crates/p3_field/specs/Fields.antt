@@ -88,21 +88,8 @@ goldilocks_numbers = record {
   ends_at_minus_one = residue-eq _ _ refl;
 }
 
-abbrev pub baby_bear_ring : Ring (Residue baby_bear_modulus)
-baby_bear_ring = field_ring baby_bear_numbers
-
-abbrev pub baby_bear_root : Residue baby_bear_modulus
-baby_bear_root = baby_bear_numbers.root
-
--- of order 2^bits
-abbrev pub baby_bear_generator : ℕ → Residue baby_bear_modulus
-baby_bear_generator = field_generator baby_bear_numbers
-
 abbrev pub goldilocks_ring : Ring (Residue goldilocks_modulus)
 goldilocks_ring = field_ring goldilocks_numbers
-
-abbrev pub goldilocks_root : Residue goldilocks_modulus
-goldilocks_root = goldilocks_numbers.root
 
 -- of order 2^bits
 abbrev pub goldilocks_generator : ℕ → Residue goldilocks_modulus

@@ -11,11 +11,12 @@ use crate::sixteen_lanes::SixteenLanes;
 #[derive(Clone, Copy, Debug)]
 pub struct KoalaBearNumbers;
 
-/// An integer modulo `2^31 - 2^24 + 1`, by its number below the modulus.
+/// An integer modulo `2^31 - 2^24 + 1`, by its number below the modulus. Packed values have eight lanes;
+/// `WideKoalaBear` is the same field in sixteen.
 pub type KoalaBear = Residue31<KoalaBearNumbers>;
 
-/// The same field in sixteen lanes, for rows of sixteen entries or more in programs that are built for x86-64-v4.
-/// Elsewhere it answers the same, and is slower than `KoalaBear` or as fast.
+/// The same field in sixteen lanes: it answers the same, and is meant for rows of sixteen entries or more in programs
+/// that are built for x86-64-v4.
 pub type WideKoalaBear = Residue31<SixteenLanes<KoalaBearNumbers>>;
 
 /// Eight elements.

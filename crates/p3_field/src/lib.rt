@@ -2,14 +2,14 @@
 //!
 //! `Field` has the operations of a commutative ring with one in which halving is exact, and their
 //! laws; `TwoAdicField` adds the roots of unity, `CanonicalField` the numbers below a modulus.
-//! `Residue31` is such a field for each record of `Numbers` with a modulus below `2^31`: `BabyBear`
-//! and `KoalaBear` are made of it. `Goldilocks` has a modulus below `2^64`. `WideBabyBear`, `WideKoalaBear`
-//! and `WideGoldilocks` are the same fields for processors with wider vectors. `PackedField` handles several
-//! scalars by one operation, as `Residue31X8` eight and `Residue31X16` sixteen of a `Residue31`, and
-//! `GoldilocksX8` eight of a `WideGoldilocks`, and `Products` counts the products that were made, for contracts
-//! alone. `BasedVectorSpace` is what elements with
-//! coordinates are, as `Coordinates`. `power_iterator` has the powers of an element, and `totals` what the
-//! sums and products of a new field can be made of.
+//! `Residue31` is such a field for each type that has `Numbers`, with a modulus below `2^31`, and a
+//! `ResiduePacking`: `BabyBear` and `KoalaBear` are made of it. `Goldilocks` has a modulus below `2^64`.
+//! `WideBabyBear`, `WideKoalaBear` and `WideGoldilocks` are the same fields for processors with wider vectors.
+//! `PackedField` handles several scalars by one operation: `Residue31X8` eight and `Residue31X16` sixteen of a
+//! `Residue31`, `GoldilocksX8` eight of a `WideGoldilocks`, and `Lanes` any number of any field. `Products` counts the
+//! products that were made, for contracts alone. `BasedVectorSpace` is what elements with coordinates are, as
+//! `Coordinates`. `power_iterator` has the powers of an element, and `totals` what the sums and products of a new field
+//! can be made of.
 #![tactic(auto)]
 
 pub mod algebra;

@@ -15,7 +15,8 @@ use std::ops::{Add, AddAssign, Mul, MulAssign, Neg, Sub, SubAssign};
 
 /// The numbers that make a field: an odd modulus below `2^31` and above the sum of `2^30` and the
 /// remainder of `2^62` by it, a number with an inverse, and generators of subgroups whose orders are powers of
-/// two. A type of this trait has no values of interest: it stands for its constants.
+/// two. A type of this trait has no values of interest: it stands for its constants. `Residue31` is a field over it
+/// where the type has `ResiduePacking` too, which names the lanes.
 pub trait Numbers: Copy {
     ghost use Rattle.p3_field.specs.Fields.{FieldNumbers, field_generator};
 

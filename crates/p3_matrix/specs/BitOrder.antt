@@ -21,3 +21,7 @@ reversed_rows n m = record { width = m.width; values = flat_map (λ i. row m (re
 pub record BitReversed (M : Type 0) : Type 0 where
   pub bits : ℕ
   pub physical : M
+
+-- how many of k digits, or layers, the first half has: the middle one of an odd number is among them
+abbrev pub mid_of : ℕ → ℕ
+mid_of k = (k + 1) / 2

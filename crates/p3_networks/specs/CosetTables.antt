@@ -1,7 +1,7 @@
 -- That a coset has one table at most.
 use Rattle.std.specs.Prelude.{◌≡◌, ℕ, List}
 use Rattle.p3_field.specs.declared.fields.Field.{Ghosts as FieldMembers}
-use Rattle.p3_networks.specs.Twiddles.{Coset, IsCosetAt}
+use Rattle.p3_matrix.specs.Cosets.{Coset, IsCosetAt}
 
 -- no two places of a list have the same coset: a coset is given by its order and the value of its shift
 abbrev pub HasEachOnce : {F : Type 0} (f : FieldMembers F) → List (Coset F) → Type 0

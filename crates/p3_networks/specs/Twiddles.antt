@@ -1,10 +1,8 @@
 -- The twiddles that an engine keeps, and what its tables show of themselves.
-use Rattle.std.specs.Prelude.{◌≡◌, ℕ, ◌+◌, ◌-◌, ◌^◌, ◌/◌, ◌<◌, ◌≤◌, leb, List, [], ◌++◌, length, get_or, Bool, if◌then◌else◌, Option, Some, None, Vec}
-use Rattle.std.specs.List.{All}
+use Rattle.std.specs.Prelude.{◌≡◌, ℕ, ◌+◌, ◌-◌, ◌^◌, ◌<◌, ◌≤◌, leb, List, [], length, get_or, Bool, if◌then◌else◌, Option, Some, None, Vec}
 use Rattle.p3_field.specs.Ring.{power}
 use Rattle.p3_field.specs.declared.fields.Field.{Ghosts as FieldMembers}
-use Rattle.p3_matrix.specs.BitOrder.{rev}
-use Rattle.p3_matrix.specs.Cosets.{point}
+use Rattle.p3_matrix.specs.BitOrder.{mid_of, rev}
 
 module _ {F : Type 0} (f : FieldMembers F) where
   -- a table of the n values p 0, p 1, ..
@@ -61,42 +59,9 @@ root_powers f generator inverse l t = power f.ring (root_of f generator inverse 
 abbrev pub layer_place : Bool → ℕ → ℕ → ℕ
 layer_place reversed l t = if reversed then rev l t else t
 
--- how many of k layers the first half has: the middle one of an odd number is among them
-abbrev pub mid_of : ℕ → ℕ
-mid_of k = (k + 1) / 2
-
 -- the table of the coset of s of order 2 ^ log: layer after layer, in natural order in the first half of the layers, and in bit reversed order in the second
 abbrev pub IsCosetTable : {F : Type 0} (f : FieldMembers F) → (ℕ → F) → f.Element → ℕ → List F → Type 0
 IsCosetTable f generator s log twiddles = AreTwiddlesOfLayers f log (λ l t. coset_twiddles f (forward_root f generator) s log l (layer_place (leb (mid_of log) l) l t)) twiddles
-
--- a coset: the logarithm of its order, and its shift
-pub record Coset (F : Type 0) : Type 0 where
-  pub log_h : ℕ
-  pub shift : F
-
--- it is the coset of s of order 2 ^ k
-abbrev pub IsCosetOf : {F : Type 0} (f : FieldMembers F) → ℕ → f.Element → Coset F → Type 0
-IsCosetOf f k s coset = (coset.log_h ≡ k) × (f.value coset.shift ≡ s)
-
--- that coset is in a place of a list
-abbrev pub IsCosetAt : {F : Type 0} (f : FieldMembers F) → List (Coset F) → ℕ → f.Element → ℕ → Type 0
-IsCosetAt {F} f cosets k s i = (i < length cosets) × ((d : Coset F) → IsCosetOf f k s (get_or cosets i d))
-
--- or in any
-abbrev pub HasCoset : {F : Type 0} (f : FieldMembers F) → List (Coset F) → ℕ → f.Element → Type 0
-HasCoset f cosets k s = (i : ℕ) × IsCosetAt f cosets k s i
-
--- all 2 ^ a cosets of order 2 ^ k of which that of s of order 2 ^ (k + a) is made
-abbrev pub HasCosets : {F : Type 0} (f : FieldMembers F) → (ℕ → F) → List (Coset F) → ℕ → ℕ → f.Element → Type 0
-HasCosets f generator cosets k a s = (c : ℕ) → c < 2 ^ a → HasCoset f cosets k (point f.ring (forward_root f generator) (k + a) s c)
-
--- it is one of them
-abbrev pub IsOneOf : {F : Type 0} (f : FieldMembers F) → (ℕ → F) → ℕ → ℕ → f.Element → Coset F → Type 0
-IsOneOf f generator k a s coset = (c : ℕ) × (c < 2 ^ a) × IsCosetOf f k (point f.ring (forward_root f generator) (k + a) s c) coset
-
--- only some of them were added, at the end
-abbrev pub AddsCosets : {F : Type 0} (f : FieldMembers F) → (ℕ → F) → ℕ → ℕ → f.Element → List (Coset F) → List (Coset F) → Type 0
-AddsCosets {F} f generator k a s before after = (added : List (Coset F)) × (after ≡ before ++ added) × All (IsOneOf f generator k a s) added
 
 -- the number by which rows are multiplied, if there is one
 abbrev pub factor : {F : Type 0} (f : FieldMembers F) → Option F → f.Element

@@ -528,7 +528,8 @@ fn multiples_of_row<F: TwoAdicField>(
     ensures values { (t j : ℕ) → t < count → j < length row.now
         → F.value (get_or values.new (t * length row.now + j) F.ZERO)
         ≡ F.ring.mul (F.value (get_or row.now j F.ZERO)) (F.ring.mul (F.value first) (power F.ring (F.value step) t)) }
-    ensures count { products.new ≡ products.old + count * length row.now }
+    ensures grows { products.old ≤ products.new }
+    ensures cost { products.new ≤ products.old + count * length row.now }
 {
     // Shorter than two packs, and so many that doubling saves calls.
     if row.len() / 2 < F::Packing::WIDTH && count > 2 {
@@ -576,7 +577,8 @@ fn multiples_by_doubling<F: TwoAdicField>(
     ensures values { (t j : ℕ) → t < count → j < length row.now
         → F.value (get_or values.new (t * length row.now + j) F.ZERO)
         ≡ F.ring.mul (F.value (get_or row.now j F.ZERO)) (F.ring.mul (F.value first) (power F.ring (F.value step) t)) }
-    ensures count { products.new ≡ products.old + count * length row.now }
+    ensures grows { products.old ≤ products.new }
+    ensures cost { products.new ≤ products.old + count * length row.now }
 {
     if count == 0 {
         return;
@@ -595,7 +597,8 @@ fn multiples_by_doubling<F: TwoAdicField>(
     }
 }
 
-// Entries behind the first `size`, so many, become the first ones times the factor.
+// Entries behind the first `size`, so many, become the first ones times the factor. They are copies where the factor is
+// one, as every factor of the first row is, whose root is one.
 fn scale_behind<F: TwoAdicField>(
     values: &mut [F],
     size: usize,
@@ -608,12 +611,17 @@ fn scale_behind<F: TwoAdicField>(
     ensures kept { (n : ℕ) → n < size → get_or values.new n F.ZERO ≡ get_or values.old n F.ZERO }
     ensures scaled { (n : ℕ) → n < count → F.value (get_or values.new (size + n) F.ZERO)
         ≡ F.ring.mul (F.value (get_or values.old n F.ZERO)) (F.value factor) }
-    ensures count { products.new ≡ products.old + count }
+    ensures grows { products.old ≤ products.new }
+    ensures cost { products.new ≤ products.old + count }
 {
     let (first, behind) = values.split_at_mut(size);
+    let from = &first[0..count];
     let part = &mut behind[0..count];
-    part.copy_from_slice(&first[0..count]);
-    scale_slice_in_place(part, factor, products);
+    if factor == F::ONE {
+        part.copy_from_slice(from);
+    } else {
+        scale_slice_oop(from, part, factor, products);
+    }
 }
 
 // Rows of coefficients in bit reversed order, from number `first` on, each spread over a chunk of `copies` rows:

@@ -84,3 +84,11 @@ none_above prepared (Err e) a b k made same = omega (arith, ap prepared same)
 -- where a height was made unless it was there, neither is one
 pub made_none_above : (k log a before inside after : ℕ) → log ≡ k → inside ≡ before → (after ≡ inside) ⊎ (after ≡ log + a) → after ≤ max before (k + a)
 made_none_above k log a before inside after same view made = omega arith
+
+-- a height that is one of two is no larger than both
+pub no_larger : (n m k : ℕ) → (n ≡ m) ⊎ (n ≡ k) → n ≤ max m k
+no_larger n m k is = omega (arith, is)
+
+-- what was made for the larger height is there for both
+pub made_both : (log k a n : ℕ) → log ≡ k → log + a ≤ n → (k ≤ n) × (k + a ≤ n)
+made_both log k a n same made = (omega (arith, same, made), omega (arith, same, made))

@@ -2,13 +2,12 @@
 
 ghost use Rattle.std.specs.Prelude.{◌≡◌, ℕ, ◌+◌, ◌-◌, ◌*◌, ◌/◌, ◌^◌, ◌<◌, ◌≤◌, ◌++◌, ◌∷◌, [], List, IfErr, IfOk};
 ghost use Rattle.std.specs.Prelude.{OnOk, length};
-ghost use Rattle.p3_matrix.specs.BitOrder.{bit_reversal};
+ghost use Rattle.p3_matrix.specs.BitOrder.{bit_reversal, mid_of};
 ghost use Rattle.p3_matrix.specs.Blocks.{AreBlocksOf, IsPartition, Run, RunToRefusal};
 ghost use Rattle.p3_matrix.specs.Matrix.{Matrix};
 ghost use Rattle.p3_matrix.specs.Room.{IsWithin};
 ghost use Rattle.p3_matrix.specs.RowMajor.{IsRowMajor, RowMajor, height, with_zeros};
-ghost use Rattle.p3_matrix.specs.Cosets.{IsValues, values_of};
-ghost use Rattle.p3_networks.specs.Twiddles.{HasCoset, HasCosets, mid_of};
+ghost use Rattle.p3_matrix.specs.Cosets.{IsValues, values_of, HasCoset, HasCosets};
 ghost use Rattle.p3_dft.specs.Engines.{AtLog};
 ghost use Rattle.p3_dft.specs.Extensions.{IsAnswerOverZeros, IsCallable, KeepsShape};
 ghost use Rattle.p3_dft.specs.Shapes.{FitsLde};

@@ -11,6 +11,13 @@ count_more cost n size before now after so_far turn =
     let all : cost * ((n + 1) * size) ≡ cost * (n * size) + cost * size = ap (λ m. cost * m) next ∙ spread in
     omega (arith, all, so_far, turn)
 
+-- the same where each turn makes one product for each cell, and where no more turns than that are done
+pub one_more : (n size before now after : ℕ) → now ≤ before + 1 * (n * size) → after ≤ now + size → after ≤ before + 1 * ((n + 1) * size)
+one_more n size before now after so_far turn = count_more 1 n size before now after so_far (omega (arith, turn))
+
+pub ones_all : (n turns size before after : ℕ) → n ≤ turns → after ≤ before + 1 * (n * size) → after ≤ before + turns * size
+ones_all n turns size before after done so_far = omega (arith, so_far, mul-le-mul_right size done)
+
 -- no turn, and so many turns when no more than that are done
 pub count_none : (cost size before : ℕ) → before ≤ before + cost * (0 * size)
 count_none cost size before = omega arith

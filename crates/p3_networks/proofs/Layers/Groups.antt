@@ -1,6 +1,6 @@
 -- Layers in groups: the sizes of a piece, and how a group goes from layer to layer and from piece to piece.
-use Rattle.std.proofs.Common.{◌≡◌, ℕ, ◌+◌, ◌*◌, ◌-◌, ◌/◌, ◌%◌, ◌<◌, ◌≤◌, ◌^◌, List, length, get_or, refl, sym, ap, ap₂, ◌∙◌, subst, arith, lit≤, ⊎_elim, inl, inr}
-use Rattle.std.proofs.Math.Nat.{mul-le-mul, mul-le-mul_left, mul-le-mul_right, pow-le-pow_right}
+use Rattle.std.proofs.Common.{◌≡◌, ℕ, ◌+◌, ◌*◌, ◌-◌, ◌/◌, ◌%◌, ◌<◌, ◌≤◌, ◌^◌, List, length, get_or, refl, sym, ap, ap₂, ◌∙◌, subst, arith, lit≤, min, ⊎_elim, inl, inr}
+use Rattle.std.proofs.Math.Nat.{div-le_self, mul-le-mul, mul-le-mul_left, mul-le-mul_right, pow-le-pow_right}
 use Rattle.std.proofs.lemmas.Bool.{cases_lt}
 use Rattle.std.proofs.lemmas.Nat.{div-add-mod', div_below, mod_below, one_shl, pow-add, pow_pos}
 use Rattle.p3_matrix.proofs.TwoPowers.{log_lt}
@@ -53,7 +53,7 @@ pub record PartSizes (from to number w part : ℕ) : Type 0 where
   pub digits : from < 64
   pub part_is : part ≡ 2 ^ from * w
   pub nonzero : 1 ≤ w → 1 ≤ part
-  pub within : 2 ^ from * w ≤ 2 ^ to * w
+  pub within : (len : ℕ) → len ≡ 2 ^ to * w → (2 ^ from * w ≤ len) × (part ≤ len)
   pub rows : 2 ^ to * w ≡ 2 ^ (to - from) * (2 ^ from * w)
 
 pub part_sizes : (from to number w : ℕ) → from ≤ to → (number + 1) * 2 ^ to < 2 ^ 64 → PartSizes from to number w (one_shifted from * w)
@@ -67,7 +67,9 @@ part_sizes from to number w order small =
       digits = below;
       part_is = ap (λ n. n * w) (one_shl from 64 below);
       nonzero = λ wide. let one : 1 * 1 ≤ 2 ^ from * w = mul-le-mul (pow_pos from) wide in omega (arith, one, ap (λ n. n * w) (one_shl from 64 below));
-      within = mul-le-mul_right w (pow-le-pow_right {n = 2} (lit≤ tt) order);
+      within = λ len whole.
+          let room : 2 ^ from * w ≤ 2 ^ to * w = mul-le-mul_right w (pow-le-pow_right {n = 2} (lit≤ tt) order) in
+          (omega (arith, room, whole), omega (arith, room, whole, ap (λ n. n * w) (one_shl from 64 below)));
       rows = ap (λ n. n * w) (sym joined) ∙ omega arith;
     }
 
@@ -118,19 +120,47 @@ piece_layer_counted cost done rows blocks half n before now after is so_far laye
     let next : cost * ((done + 1) * (rows * n)) ≡ cost * (done * (rows * n)) + cost * (rows * n) = omega arith in
     omega (arith, so_far, layer, each, next)
 
--- piece p of a part begins within it, and all pieces cover it
+-- piece p of a part, of which the program has the size in a variable of its own: it begins and ends within it, and behind it comes the next
+pub record Piece (p piece part rest : ℕ) : Type 0 where
+  pub below : p * piece < part
+  pub inside : p * piece + rest ≤ part
+  pub within : p * piece + rest ≤ (p + 1) * piece
+  pub last : (j : ℕ) → j < part → j < (p + 1) * piece → j < p * piece + rest
+  pub here : p * piece - (p * piece - part) ≡ p * piece
+  pub there : (p + 1) * piece - ((p + 1) * piece - part) ≡ p * piece + rest
+
 pub piece_start : (p piece part : ℕ) → 1 ≤ piece → 1 ≤ part → p < (part - 1) / piece + 1 → p * piece < part
 piece_start p piece part some full below =
     let less : p * piece ≤ (part - 1) / piece * piece = mul-le-mul_right piece (let l : p ≤ (part - 1) / piece = omega (arith, below) in l) in
     let all = div-add-mod' (part - 1) piece in
     omega (arith, less, all, full)
 
-pub pieces_cover : (piece part : ℕ) → 1 ≤ piece → part ≤ ((part - 1) / piece + 1) * piece
-pieces_cover piece part some =
-    let all = div-add-mod' (part - 1) piece in
-    let rest = mod_below (part - 1) piece some in
-    let next : ((part - 1) / piece + 1) * piece ≡ (part - 1) / piece * piece + piece = omega arith in
-    omega (arith, all, rest, next)
+pub piece_of : (p piece part_1 part rest : ℕ) → part_1 ≡ part → 1 ≤ piece → 1 ≤ part_1 → p < (part_1 - 1) / piece + 1 → rest ≡ min piece (part_1 - p * piece) → Piece p piece part rest
+piece_of p piece part_1 part rest is some full turn least =
+    let start = piece_start p piece part_1 some full turn in
+    let next : (p + 1) * piece ≡ p * piece + piece = omega arith in
+    record {
+      below = omega (arith, start, is);
+      inside = omega (arith, start, is, least);
+      within = omega (arith, next, least);
+      last = λ j column among. omega (arith, column, among, next, least, is);
+      here = omega (arith, start, is);
+      there = omega (arith, next, start, least, is);
+    }
+
+-- there are no more pieces than cells, and all pieces cover the part
+pub pieces_few : (piece part : ℕ) → 1 ≤ part → (part - 1) / piece + 1 ≤ part
+pieces_few piece part full = omega (arith, div-le_self (part - 1) piece, full)
+
+pub pieces_cover : (p piece part_1 part : ℕ) → part_1 ≡ part → 1 ≤ piece → (part_1 - 1) / piece + 1 ≤ p → part ≤ p * piece
+pieces_cover p piece part_1 part is some end =
+    let all = div-add-mod' (part_1 - 1) piece in
+    let rest = mod_below (part_1 - 1) piece some in
+    let next : ((part_1 - 1) / piece + 1) * piece ≡ (part_1 - 1) / piece * piece + piece = omega arith in
+    omega (arith, all, rest, next, is, mul-le-mul_right piece end)
+
+pub cover_counted : (part all : ℕ) → part ≤ all → all - (all - part) ≡ part
+cover_counted part all cover = omega (arith, cover)
 
 module _ {A T : Type 0} (value : T → A) (d : T) (part rows first : ℕ) where
   -- the columns of a piece are as they were at first

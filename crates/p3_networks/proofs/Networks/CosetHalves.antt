@@ -5,7 +5,7 @@ use Rattle.std.proofs.Common.{◌≡◌, ℕ, ◌+◌, ◌*◌, ◌-◌, ◌/◌
 use Rattle.std.proofs.lemmas.Result.{MatchResult-weaker}
 use Rattle.p3_field.specs.Ring.{AreRoots}
 use Rattle.p3_field.specs.declared.fields.Field.{Ghosts as FieldMembers}
-use Rattle.p3_matrix.specs.BitOrder.{rev}
+use Rattle.p3_matrix.specs.BitOrder.{rev, mid_of}
 use Rattle.p3_matrix.specs.Cosets.{point}
 use Rattle.p3_matrix.specs.Polynomials.{poly}
 use Rattle.p3_matrix.specs.RowMajor.{RowMajor}
@@ -13,7 +13,7 @@ use Rattle.p3_networks.specs.Counts.{RisesAtMost}
 use Rattle.p3_networks.specs.Halves.{IsHighHalf, IsLowHalf}
 use Rattle.p3_networks.specs.Layers.{AreRows}
 use Rattle.p3_networks.specs.Slots.{HasRowsOnCoset, LentInBlocks}
-use Rattle.p3_networks.specs.Twiddles.{by_layer, IsCosetTable, forward_root, mid_of}
+use Rattle.p3_networks.specs.Twiddles.{by_layer, IsCosetTable, forward_root}
 use Rattle.p3_networks.proofs.Layers.Counts.{halves_counted}
 use Rattle.p3_networks.proofs.Networks.Chunks.{rows_of_halves}
 use Rattle.p3_networks.proofs.Tables.CosetTables.{high_of_coset, low_of_coset}

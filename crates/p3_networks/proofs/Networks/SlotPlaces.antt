@@ -10,18 +10,19 @@ use Rattle.std.proofs.lemmas.Slice.{take-put_mid_below}
 use Rattle.std.proofs.lemmas.Nat.{pow-add, pow_pos}
 use Rattle.p3_field.specs.Ring.{AreRoots}
 use Rattle.p3_field.specs.declared.fields.Field.{Ghosts as FieldMembers}
-use Rattle.p3_matrix.specs.BitOrder.{rev}
+use Rattle.p3_matrix.specs.BitOrder.{rev, mid_of}
 use Rattle.p3_matrix.specs.Blocks.{AreBlocksOf, Run, RunToRefusal}
 use Rattle.p3_matrix.specs.Matrix.{Matrix, image, matrix}
 use Rattle.p3_matrix.specs.RowMajor.{RowMajor}
 use Rattle.p3_matrix.specs.Cosets.{point}
 use Rattle.p3_matrix.specs.Polynomials.{poly}
 use Rattle.p3_networks.specs.Slots.{slot_block, slot_blocks}
-use Rattle.p3_networks.specs.Twiddles.{forward_root, mid_of}
+use Rattle.p3_networks.specs.Twiddles.{forward_root}
 use Rattle.p3_networks.proofs.Layers.Blocks.{row_below}
 use Rattle.p3_networks.proofs.Layers.Halves.{in_first}
 use Rattle.p3_networks.proofs.Networks.Chunks.{slot_point}
 use Rattle.p3_networks.proofs.Networks.Slots.{by_slots}
+use Rattle.p3_matrix.proofs.Rows.Overwritten.{RowsDone}
 use Rattle.p3_matrix.proofs.Polynomials.ByIndex.{poly_same}
 use Rattle.p3_networks.proofs.Rows.Lent.{are_blocks, blocks_joined, blocks_kept, blocks_of_part, refusal_joined, written_part}
 
@@ -41,7 +42,7 @@ back_is : {T : Type 0} (xs ys : List T) → ys ≡ take (length ys) (drop (lengt
 back_is xs ys = sym (ap (take (length ys)) (drop_at xs ys (length xs) refl) ∙ ap (take (length ys)) (sym (append-nil ys)) ∙ take_at ys [] (length ys) refl)
 
 -- a row of slot m, as a row of all: the coefficients, of which number u lies in row `place u`, are the front of the rows
-pub slot_entry : {F : Type 0} (f : FieldMembers F) (generator : ℕ → F) (k a w : ℕ) (place : ℕ → ℕ) (s : f.Element) (values coefficients others : List F) → values ≡ coefficients ++ others → length coefficients ≡ 2 ^ k * w
+slot_entry : {F : Type 0} (f : FieldMembers F) (generator : ℕ → F) (k a w : ℕ) (place : ℕ → ℕ) (s : f.Element) (values coefficients others : List F) → values ≡ coefficients ++ others → length coefficients ≡ 2 ^ k * w
     → ((u : ℕ) → u < 2 ^ k → place u < 2 ^ k) → AreRoots f.ring (k + a) (forward_root f generator) → (shift : f.Element) (m t j : ℕ) → shift ≡ point f.ring (forward_root f generator) (k + a) s (rev a m) → t < 2 ^ k → j < w
     → poly f.ring (2 ^ k) (λ u. f.value (get_or coefficients (place u * w + j) f.ZERO)) (point f.ring (forward_root f generator) k shift (rev k t))
     ≡ poly f.ring (2 ^ k) (λ u. f.value (get_or values (place u * w + j) f.ZERO)) (point f.ring (forward_root f generator) (k + a) s (rev (k + a) (m * 2 ^ k + t)))
@@ -52,9 +53,34 @@ slot_entry f generator k a w place s values coefficients others split size withi
     ∙ ap (poly f.ring (2 ^ k) (λ u. f.value (get_or values (place u * w + j) f.ZERO)))
     (ap (λ x. point f.ring (forward_root f generator) k x (rev k t)) is ∙ slot_point f.ring roots s k a m t (omega arith) small)
 
+-- the first n rows of slot m, which have the values on its coset, as rows of all
+pub slot_rows : {F : Type 0} (f : FieldMembers F) (generator : ℕ → F) (k a w : ℕ) (place : ℕ → ℕ) (s : f.Element) (values coefficients others part : List F) → values ≡ coefficients ++ others → length coefficients ≡ 2 ^ k * w
+    → ((u : ℕ) → u < 2 ^ k → place u < 2 ^ k) → AreRoots f.ring (k + a) (forward_root f generator) → (shift : f.Element) (m n : ℕ) → shift ≡ point f.ring (forward_root f generator) (k + a) s (rev a m)
+    → ((t j : ℕ) → t < n → j < w → f.value (get_or part (t * w + j) f.ZERO) ≡ poly f.ring (2 ^ k) (λ u. f.value (get_or coefficients (place u * w + j) f.ZERO)) (point f.ring (forward_root f generator) k shift (rev k t)))
+    → (r t j : ℕ) → m * 2 ^ k + t ≡ r → t < n → t < 2 ^ k → j < w
+    → f.value (get_or part (t * w + j) f.ZERO) ≡ poly f.ring (2 ^ k) (λ u. f.value (get_or values (place u * w + j) f.ZERO)) (point f.ring (forward_root f generator) (k + a) s (rev (k + a) r))
+slot_rows f generator k a w place s values coefficients others part split size within roots shift m n is done r t j number few small inside =
+    done t j few inside ∙ slot_entry f generator k a w place s values coefficients others split size within roots shift m t j is small inside
+    ∙ ap (λ n. poly f.ring (2 ^ k) (λ u. f.value (get_or values (place u * w + j) f.ZERO)) (point f.ring (forward_root f generator) (k + a) s (rev (k + a) n))) number
+
+pub zero_slot : (k t : ℕ) → 0 * 2 ^ k + t ≡ t
+zero_slot k t = omega arith
+
+-- the rows of the other slots that are done
+pub earlier_rows : {T A : Type 0} (value : T → A) (d : T) (k w place : ℕ) (entry : ℕ → ℕ → A) (before others : List T)
+    → RowsDone d (2 ^ k * w) (λ p u y. (t j : ℕ) → t < 2 ^ k → j < w → u ≡ t * w + j → value y ≡ entry ((p + 1) * 2 ^ k + t) j) before place others
+    → (p t j : ℕ) → p < place → t < 2 ^ k → j < w → value (get_or others (p * (2 ^ k * w) + (t * w + j)) d) ≡ entry ((p + 1) * 2 ^ k + t) j
+earlier_rows value d k w place entry before others so_far p t j less small inside = so_far.done p (t * w + j) less (row_below t j w (2 ^ k) small inside) t j small inside refl
+
 -- when the loop is over, all slots but the first are done, and the others have room for them
 pub last_slot : (place a slots : ℕ) → slots ≡ 2 ^ a → slots - 1 ≤ place → place ≤ slots - 1 → place + 1 ≡ 2 ^ a
 last_slot place a slots are end most = omega (arith, are, pow_pos a, end, most)
+
+pub is_last : (place n : ℕ) → place + 1 ≡ n → place < n
+is_last place n all = omega (arith, all)
+
+pub before_last : (p place n : ℕ) → place + 1 ≡ n → p + 1 < n → p < place
+before_last p place n all below = omega (arith, all, below)
 
 pub others_room : (place a size len whole back room : ℕ) → place + 1 ≡ 2 ^ a → len ≡ 2 ^ a * size → whole ≡ size → back + whole ≡ len → room ≡ back → place * size ≤ room
 others_room place a size len whole back room all full is split rest =

@@ -1,6 +1,6 @@
 -- Slots: chunks of 2 ^ k rows, one after another, 2 ^ a of them, which get the values on a coset each.
 use Rattle.std.proofs.Common.{◌≡◌, ℕ, suc, List, ◌++◌, ◌+◌, ◌*◌, ◌-◌, ◌/◌, ◌%◌, ◌<◌, ◌≤◌, ◌^◌, length, get_or, sym, ap, ◌∙◌, subst, arith, ⊎_elim}
-use Rattle.std.proofs.Math.Nat.{mul-le-mul_right}
+use Rattle.std.proofs.Math.Nat.{le-add_right, le_trans, mul-le-mul_right, sub-le}
 use Rattle.std.proofs.lemmas.Bool.{cases_lt}
 use Rattle.std.proofs.lemmas.Nat.{pow-add, pow_pos, div-add-mod', div_below, mod_below}
 use Rattle.p3_field.specs.Ring.{power}
@@ -36,12 +36,18 @@ module _ (len k a w place : ℕ) (small : k + a < 64) (full : len ≡ 2 ^ (k + a
   pub more_slots : place + 1 < 2 ^ a
   more_slots = omega (arith, second_shift k a small, below)
 
-  pub slot_within : place * (len / one_shifted a) + len / one_shifted a ≤ len - len / one_shifted a
-  slot_within = rw (slot_size len k a w small full) (slot_room place a (2 ^ k * w) len more_slots (full ∙ slots_whole k a w))
+  slot_before : place * (len / one_shifted a) + len / one_shifted a ≤ len - len / one_shifted a
+  slot_before = rw (slot_size len k a w small full) (slot_room place a (2 ^ k * w) len more_slots (full ∙ slots_whole k a w))
 
   pub slot_inside : (back others : ℕ) → back + len / one_shifted a ≡ len → others ≡ back
       → place * (len / one_shifted a) + len / one_shifted a ≤ others
-  slot_inside back others split rest = omega (arith, slot_within, split, rest)
+  slot_inside back others split rest = omega (arith, slot_before, split, rest)
+
+  pub slot_within : place * (len / one_shifted a) + len / one_shifted a ≤ len
+  slot_within = le_trans slot_before (sub-le len (len / one_shifted a))
+
+  pub slot_begins : place * (len / one_shifted a) ≤ len
+  slot_begins = le_trans (le-add_right _ _) slot_within
 
 -- the rows of n slots, slot by slot
 pub by_slots : (P : ℕ → Type 0) (k n : ℕ) → ((p t : ℕ) → p < n → t < 2 ^ k → P (p * 2 ^ k + t)) → (r : ℕ) → r < n * 2 ^ k → P r

@@ -7,7 +7,9 @@ use Rattle.p3_field.specs.Ring.{power}
 use Rattle.p3_field.specs.declared.fields.Field.{Ghosts as FieldMembers}
 use Rattle.p3_field.proofs.Powers.{power-mul}
 use Rattle.p3_networks.specs.Halves.{AreHighTwiddles, AreLowTwiddles}
-use Rattle.p3_networks.specs.Twiddles.{by_layer, Coset, HasCoset, IsCosetAt, IsCosetOf, IsCosetTable, coset_twiddles, forward_root, layer_place, mid_of}
+use Rattle.p3_matrix.specs.Cosets.{Coset, HasCoset, IsCosetAt, IsCosetOf}
+use Rattle.p3_matrix.specs.BitOrder.{mid_of}
+use Rattle.p3_networks.specs.Twiddles.{by_layer, IsCosetTable, coset_twiddles, forward_root, layer_place}
 
 module _ {F : Type 0} (f : FieldMembers F) (generator : ℕ → F) (s : f.Element) (log : ℕ) (xs : List F) where
   -- the first half is on the coset of the power of the shift

@@ -2,11 +2,10 @@
 
 ghost use Rattle.std.specs.Prelude.{◌≡◌, ◌⊎◌, ◌↔◌, ℕ, ◌+◌, ◌-◌, ◌^◌, ◌<◌, ◌≤◌, [], ◌∷◌, ◌++◌, length, get_or};
 ghost use Rattle.std.specs.Prelude.{IsTrue, IsOk, IfErr, IfOk, OnOk, OnErr, IfSome, IsNone};
-ghost use Rattle.p3_networks.specs.Twiddles.{Coset, HasCoset, HasCosets, IsCosetAt, IsCosetOf, IsCosetTable};
-ghost use Rattle.p3_networks.specs.Twiddles.{AddsCosets, forward_root};
+ghost use Rattle.p3_matrix.specs.Cosets.{Coset, HasCoset, HasCosets, IsCosetAt, IsCosetOf, AddsCosets, point};
+ghost use Rattle.p3_networks.specs.Twiddles.{IsCosetTable, forward_root};
 ghost use Rattle.p3_matrix.specs.BitOrder.{rev};
 ghost use Rattle.p3_matrix.specs.Room.{IsWithin};
-ghost use Rattle.p3_matrix.specs.Cosets.{point};
 
 use crate::twiddles::{held, push_layer};
 use p3_field::{Field, TwoAdicField};
@@ -27,7 +26,8 @@ pub struct CosetTable<F: TwoAdicField> {
 
 impl<F: TwoAdicField> Model for CosetTable<F> {
     ghost use Rattle.std.specs.Prelude.{◌≡◌, ◌-◌, ◌^◌, ◌≤◌, length};
-    ghost use Rattle.p3_networks.specs.Twiddles.{Coset, IsCosetTable};
+    ghost use Rattle.p3_matrix.specs.Cosets.{Coset};
+    ghost use Rattle.p3_networks.specs.Twiddles.{IsCosetTable};
 
     ghost Value = { Coset F };
 
@@ -128,7 +128,8 @@ pub struct CosetTables<F: TwoAdicField> {
 
 impl<F: TwoAdicField> Model for CosetTables<F> {
     ghost use Rattle.std.specs.Prelude.{List};
-    ghost use Rattle.p3_networks.specs.Twiddles.{Coset, items_if_any};
+    ghost use Rattle.p3_matrix.specs.Cosets.{Coset};
+    ghost use Rattle.p3_networks.specs.Twiddles.{items_if_any};
     ghost use Rattle.p3_networks.specs.CosetTables.{HasEachOnce};
 
     ghost Value = { List (Coset F) };

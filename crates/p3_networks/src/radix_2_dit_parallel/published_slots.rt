@@ -3,17 +3,17 @@
 
 ghost use Rattle.std.specs.Prelude.{◌≡◌, ℕ, ◌+◌, ◌-◌, ◌*◌, ◌/◌, ◌^◌, ◌<◌, ◌≤◌, ◌++◌, ◌∷◌, [], List, IfErr, IfSome};
 ghost use Rattle.std.specs.Prelude.{IsPermutation, OnOk, get_or, length};
-ghost use Rattle.p3_matrix.specs.BitOrder.{rev};
+ghost use Rattle.p3_matrix.specs.BitOrder.{rev, mid_of};
 ghost use Rattle.p3_matrix.specs.Blocks.{AreBlocksOf, Run, RunToRefusal};
 ghost use Rattle.p3_matrix.specs.Matrix.{image, matrix};
 ghost use Rattle.p3_matrix.specs.RowMajor.{RowMajor};
-ghost use Rattle.p3_matrix.specs.Cosets.{point};
+ghost use Rattle.p3_matrix.specs.Cosets.{point, HasCoset, HasCosets, IsCosetAt};
 ghost use Rattle.p3_networks.specs.Chunks.{source_of};
 ghost use Rattle.p3_networks.specs.Counts.{RisesAtMost};
 ghost use Rattle.p3_networks.specs.Halves.{IsHighChunk, IsHighHalf, IsHighNetwork};
 ghost use Rattle.p3_networks.specs.Layers.{AreRows};
 ghost use Rattle.p3_networks.specs.Slots.{HasRowsOnCoset, LentInBlocks, extended_rows, slot_blocks};
-ghost use Rattle.p3_networks.specs.Twiddles.{HasCoset, HasCosets, IsCosetAt, factor, forward_root, mid_of, scale_cost};
+ghost use Rattle.p3_networks.specs.Twiddles.{factor, forward_root, scale_cost};
 
 use crate::chunks::ChunkWork;
 use crate::halves::{HighLayers, first_half};

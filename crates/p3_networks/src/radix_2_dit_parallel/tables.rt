@@ -3,7 +3,8 @@
 ghost use Rattle.std.specs.Prelude.{◌≡◌, ◌⊎◌, ◌+◌, ◌-◌, ◌^◌, ◌/◌, ◌≤◌, ◌<◌, IfErr, IsOk, OnOk, OnErr, length};
 ghost use Rattle.p3_matrix.specs.Room.{IsWithin};
 ghost use Rattle.p3_networks.specs.Twiddles.{AreTwiddlesFromStart, AreTwiddlesOfLayers, block_powers, root_of};
-ghost use Rattle.p3_networks.specs.Twiddles.{mid_of, root_powers};
+ghost use Rattle.p3_matrix.specs.BitOrder.{mid_of};
+ghost use Rattle.p3_networks.specs.Twiddles.{root_powers};
 
 use crate::root_tables::RootTables;
 use crate::twiddles::{held, twiddles_of_layers};
@@ -28,7 +29,8 @@ pub struct Tables<F: TwoAdicField> {
 
 impl<F: TwoAdicField> Model for Tables<F> {
     ghost use Rattle.std.specs.Prelude.{◌≡◌, ℕ, ◌+◌, ◌-◌, ◌^◌, ◌/◌, ◌≤◌, length, true, false};
-    ghost use Rattle.p3_networks.specs.Twiddles.{AreTwiddlesOfLayers, items_if_any, mid_of, root_powers};
+    ghost use Rattle.p3_matrix.specs.BitOrder.{mid_of};
+    ghost use Rattle.p3_networks.specs.Twiddles.{AreTwiddlesOfLayers, items_if_any, root_powers};
 
     ghost Value = { ℕ };
 

@@ -1,4 +1,4 @@
-use Rattle.std.proofs.Common.{refl, ap, ◌≡◌, ◌++◌, List, [], ◌∷◌, length, take, subst, sym, ◌∙◌, arith, rules, inr, inl}
+use Rattle.std.proofs.Common.{ℕ, vec_capacity, refl, ap, ◌≡◌, ◌+◌, ◌<◌, ◌≤◌, le_trans, ◌++◌, List, [], ◌∷◌, length, take, subst, sym, ◌∙◌, arith, inr, inl, le-add_left}
 use Rattle.std.proofs.lemmas.List.{nil_from_length}
 use Rattle.std.proofs.lemmas.List.Elements.{All-nil, All-push, All-rest, All-take, All-weaker}
 use Rattle.std.proofs.lemmas.Slice.Zip.{all_zipped_more}
@@ -14,6 +14,20 @@ use Rattle.p3_dft.proofs.Calls.JobLists.{costs_more, costs_none, costs_rest, fir
 use Rattle.p3_dft.proofs.Calls.PreparedHeights.{not_ok}
 use Rattle.p3_dft.proofs.jobs.answer_jobs.Goals as goal
 
+-- where there was no room for answers, there are jobs, and no answer
+module _ (answers additional jobs all : ℕ) (none : answers ≡ 0) (as_many : additional ≡ jobs) (are : jobs ≡ all) where
+  some_jobs : (capacity : ℕ) → capacity < answers + additional → 0 < all
+  some_jobs capacity full = omega (arith, full, none, as_many, are)
+
+  room_for_all : (more entries : ℕ) → answers + additional ≤ more + all + entries
+  room_for_all more entries = omega (arith, none, as_many, are)
+
+room_for_next : (more jobs here there : ℕ) → there ≡ here → more + here ≤ more + jobs + there
+room_for_next more jobs here there same = omega (arith, same)
+
+no_room_left : (answers answered jobs all capacity : ℕ) → answers ≡ answered → jobs ≡ all → answered < all → jobs ≤ capacity → capacity ≤ answers → ⊥
+no_room_left answers answered jobs all capacity here are some room full = absurd (omega (arith, here, are, some, room, full))
+
 pub run_job-requires : goal.run_job-requires
 run_job-requires g c =
     record { runnable = next_of_all (CanRun g.F.Field g.F.TwoAdicField.TWO_ADICITY) c.in-Some.job _ _ c.in-Some.ensures.steps.0 c.loop-job.invariant.runnable }
@@ -24,9 +38,9 @@ loop-job-init g c =
     let none : c.reserve_exact.new.items.items ≡ [] = c.in_ok-reserve_exact.ensures.items ∙ c.requires.empty in
     record {
       split = sym given;
-      answered = subst (λ (ys : List (RowMajor g.row.F.Denot)). AllZip (IsAnswer g.F.Field g.F.TwoAdicField.generator) [] ys) (sym none) (search rules);
+      answered = subst (λ (ys : List (RowMajor g.row.F.Denot)). AllZip (IsAnswer g.F.Field g.F.TwoAdicField.generator) [] ys) (sym none) tt;
       runnable = subst (λ xs. All (CanRun g.F.Field g.F.TwoAdicField.TWO_ADICITY) xs) (sym given) c.requires.runnable;
-      room = grind (arith, c.in_ok-reserve_exact.ensures.capacity, c.len.ensures);
+      room = subst (λ (n : ℕ). n ≤ vec_capacity c.reserve_exact.new.items) c.len.ensures (le_trans (le-add_left _ _) c.in_ok-reserve_exact.ensures.ok);
       served = All-nil (IsPreparedFor g.D.TwoAdicSubgroupDft.facts c.args.engine.now);
       cost = costs_none g.D.TwoAdicSubgroupDft.facts [] _ refl;
       later = later_same g.D.TwoAdicSubgroupDft.facts _;
@@ -43,7 +57,7 @@ loop-job-preserved g c =
       answered = subst (λ (ys : List (RowMajor g.row.F.Denot)). AllZip answers (c.loop-job.yielded ++ c.in-Some.job ∷ []) ys) (sym c.in_ok-push.ensures.items)
           (all_zipped_more answers c.loop-job.yielded c.loop-job.answers.items c.in-Some.job c.in_ok-answer.answer so_far.answered c.in_ok-answer.ensures.answer);
       runnable = All-rest (CanRun g.F.Field g.F.TwoAdicField.TWO_ADICITY) c.in-Some.job _ _ next so_far.runnable;
-      room = omega (arith, so_far.room, c.in_ok-push.ensures.capacity);
+      room = le_trans so_far.room c.in_ok-push.ensures.capacity;
       served = All-push (IsPreparedFor facts c.run_job.new.engine) c.loop-job.yielded c.in-Some.job
           (All-weaker (IsPreparedFor facts c.loop-job.engine) (IsPreparedFor facts c.run_job.new.engine) (ready_later facts _ _ c.in_ok-answer.ensures.later)
           c.loop-job.yielded so_far.served)
@@ -57,19 +71,19 @@ pub returns-in_err-reserve_exact : goal.returns-in_err-reserve_exact
 returns-in_err-reserve_exact g c =
     let err = c.from_residual.ensures.0 in
     let none = c.in_err-reserve_exact.ensures.items ∙ c.requires.empty in
-    let empty : c.args.answers.now.len ≡ 0 = omega (arith, c.args.answers.now.ok.0, ap length c.requires.empty) in
+    let empty : c.args.answers.now.len ≡ 0 = c.args.answers.now.ok.0 ∙ ap length c.requires.empty in
     record {
       all = IfOk-from_err _ _ err;
       prepares = IfOk-from_err _ _ err;
       cost = costs_rest g.D.TwoAdicSubgroupDft.facts g.F.Field g.F.TwoAdicField.TWO_ADICITY c.args.jobs.items [] c.args.jobs.items _ _ refl c.requires.runnable (costs_none g.D.TwoAdicSubgroupDft.facts [] _ refl);
       first = on_any_error _ (subst (AreFirstAnswers g.F.Field g.F.TwoAdicField.generator c.args.jobs.items) (sym none)
-          (record { fewer = omega (arith, c.in_err-reserve_exact.ensures.full, empty, c.len.ensures, c.args.jobs.ok.0); answered = tt }));
+          (record { fewer = some_jobs _ _ _ _ empty c.len.ensures c.args.jobs.ok.0 _ c.in_err-reserve_exact.ensures.full; answered = tt }));
       prepares_first = on_any_error _ (subst (λ (ys : List (RowMajor g.row.F.Denot)). All (IsPreparedFor g.D.TwoAdicSubgroupDft.facts c.args.engine.now) (take (length ys) c.args.jobs.items))
           (sym none) (All-nil (IsPreparedFor g.D.TwoAdicSubgroupDft.facts c.args.engine.now)));
       cost_of_first = on_any_error _ (costs_rest g.D.TwoAdicSubgroupDft.facts g.F.Field g.F.TwoAdicField.TWO_ADICITY _ [] _ _ _ refl (All-take (CanRun g.F.Field g.F.TwoAdicField.TWO_ADICITY) _ c.args.jobs.items c.requires.runnable) (costs_none g.D.TwoAdicSubgroupDft.facts [] _ refl));
       refused = on_any_error _ (inl (refl, none));
       later = later_same _ _;
-      room = room_each c.from_residual.result _ _ _ c.from_residual.ensures (λ d. omega (arith, empty, c.len.ensures, c.args.jobs.ok.0)) c.in_err-reserve_exact.ensures.room;
+      room = room_each c.from_residual.result _ _ _ c.from_residual.ensures (λ d. room_for_all _ _ _ _ empty c.len.ensures c.args.jobs.ok.0 _ _) c.in_err-reserve_exact.ensures.room;
     }
 
 pub returns-in_err-answer : goal.returns-in_err-answer
@@ -93,7 +107,7 @@ returns-in_err-answer g c =
       refused = on_any_error result (inr (next_not_promised g.F.Field g.F.TwoAdicField.generator facts c.args.jobs.items c.loop-job.yielded _ _ c.in-Some.job c.loop-job.answers.items c.args.engine.now c.loop-job.engine so_far.split next so_far.answered so_far.later (λ promised. not_ok c.run_job.result _ c.in_err-answer.was (c.run_job.ensures.succeeds promised))));
       later = later_still _ _ _ _ so_far.later c.run_job.ensures.later;
       room = room_each result _ _ _ c.from_residual-in_err-answer.ensures
-          (λ d. let same = ap (λ (j : Job g.row.F.Denot). answer_entries j) (next_is g.F.Field g.F.TwoAdicField.generator c.args.jobs.items c.loop-job.yielded _ _ c.in-Some.job c.loop-job.answers.items d so_far.split next so_far.answered) in omega (arith, same))
+          (λ d. let same = ap (λ (j : Job g.row.F.Denot). answer_entries j) (next_is g.F.Field g.F.TwoAdicField.generator c.args.jobs.items c.loop-job.yielded _ _ c.in-Some.job c.loop-job.answers.items d so_far.split next so_far.answered) in room_for_next _ _ _ _ same)
           c.in_err-answer.ensures.room;
     }
 
@@ -101,7 +115,7 @@ returns-in_err-answer g c =
 pub returns-in_err-push : goal.returns-in_err-push
 returns-in_err-push g c =
     let first = first_answers g.F.Field g.F.TwoAdicField.generator c.args.jobs.items c.loop-job.yielded _ _ c.in-Some.job c.loop-job.answers.items c.loop-job.invariant.split c.in-Some.ensures.steps.0 c.loop-job.invariant.answered in
-    absurd (omega (arith, first.fewer, c.loop-job.invariant.room, c.in_err-push.ensures.full, c.loop-job.answers.ok.0, c.args.jobs.ok.0))
+    absurd (no_room_left _ _ _ _ _ c.loop-job.answers.ok.0 c.args.jobs.ok.0 first.fewer c.loop-job.invariant.room c.in_err-push.ensures.full)
 
 pub returns : goal.returns
 returns g c =

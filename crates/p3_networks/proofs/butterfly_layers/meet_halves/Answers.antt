@@ -1,4 +1,5 @@
-use Rattle.std.proofs.Common.{◌≡◌, ◌⊎◌, ℕ, ◌+◌, ◌-◌, ◌*◌, ◌<◌, ◌≤◌, length, get_or, ap, ap₂, ◌∙◌, subst, arith}
+use Rattle.std.proofs.Common.{◌≡◌, ◌⊎◌, ℕ, ◌+◌, ◌-◌, ◌*◌, ◌<◌, ◌≤◌, length, get_or, ap, ap₂, ◌∙◌, subst, arith, le-add_right, le_trans}
+use Rattle.std.proofs.Math.Nat.{add-sub_cancel_left}
 use Rattle.p3_networks.proofs.Layers.Counts.{count_more, count_all}
 use Rattle.p3_networks.proofs.Layers.Halves.{block_room}
 use Rattle.p3_matrix.proofs.Rows.Overwritten.{rows-next, rows-none, rows-all}
@@ -50,16 +51,16 @@ loop-t-preserved g c =
     let w = c.args.width in
     let met = c.meet_ranges-in-loop-t in
     let a : (j : ℕ) → field.value (get_or c.loop-t.low (t * w + j) zero) ≡ field.value (get_or c.args.low.now (t * w + j) zero) =
-    λ j. ap field.value (c.loop-t.invariant.near.rest (t * w + j) (omega arith)) in
+    λ j. ap field.value (c.loop-t.invariant.near.rest (t * w + j) (le-add_right _ j)) in
     let b : (j : ℕ) → field.value (get_or c.loop-t.high (t * w + j) zero) ≡ field.value (get_or c.args.high.now (t * w + j) zero) =
-    λ j. ap field.value (c.loop-t.invariant.far.rest (t * w + j) (omega arith)) in
+    λ j. ap field.value (c.loop-t.invariant.far.rest (t * w + j) (le-add_right _ j)) in
     record {
       near = rows-next zero w _ c.args.low.now c.loop-t.low met.new.low t met.auto.low met.ensures.low_stays
-          (λ j inside. met.ensures.near (t * w + j) (omega arith) (omega (arith, inside)) ∙ ap₂ (rule.near field.Element field.ring field.value c.args.rule c.args.block t) (a j) (b j)) c.loop-t.invariant.near;
+          (λ j inside. met.ensures.near (t * w + j) (le-add_right _ j) (omega (arith, inside)) ∙ ap₂ (rule.near field.Element field.ring field.value c.args.rule c.args.block t) (a j) (b j)) c.loop-t.invariant.near;
       far = rows-next zero w _ c.args.high.now c.loop-t.high met.new.high t met.auto.high met.ensures.high_stays
-          (λ j inside. met.ensures.far (t * w + j) (omega arith) (omega (arith, inside)) ∙ ap₂ (rule.far field.Element field.ring field.value c.args.rule c.args.block t) (a j) (b j)) c.loop-t.invariant.far;
-      grows = omega (arith, met.ensures.grows, c.loop-t.invariant.grows);
-      cost = let one : t * w + w - t * w ≡ w = omega arith in count_more rule.cost t w _ _ _ c.loop-t.invariant.cost (rw one at met.ensures.cost);
+          (λ j inside. met.ensures.far (t * w + j) (le-add_right _ j) (omega (arith, inside)) ∙ ap₂ (rule.far field.Element field.ring field.value c.args.rule c.args.block t) (a j) (b j)) c.loop-t.invariant.far;
+      grows = le_trans c.loop-t.invariant.grows met.ensures.grows;
+      cost = count_more rule.cost t w _ _ _ c.loop-t.invariant.cost (subst (λ (n : ℕ). met.new.products ≤ c.loop-t.products + rule.cost * n) (add-sub_cancel_left (t * w) w) met.ensures.cost);
     }
 
 pub returns-clause-near : goal.returns-clause-near

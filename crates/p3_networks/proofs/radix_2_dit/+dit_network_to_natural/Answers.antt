@@ -1,4 +1,4 @@
-use Rattle.std.proofs.Common.{◌≡◌, ℕ, ◌+◌, ◌*◌, ◌-◌, ◌/◌, ◌^◌, ◌++◌, ◌<◌, length, get_or, refl, ap, ◌∙◌, arith}
+use Rattle.std.proofs.Common.{ℕ, ◌+◌, ◌*◌, ◌-◌, ◌/◌, ◌^◌, ◌++◌, ◌<◌, length, get_or, refl, ap, ◌∙◌, arith, ap₂, add_comm}
 use Rattle.std.proofs.lemmas.List.{length-append}
 use Rattle.p3_matrix.specs.BitOrder.{rev}
 use Rattle.p3_matrix.specs.Polynomials.{poly}
@@ -30,7 +30,7 @@ one_low_layer-requires-clause-rows g t c =
     record {
       width = c.requires.width;
       fits_u64 = c.requires.fits_u64;
-      size = omega (arith, length-append first.new.values second.new.values, front, second.auto.values, c.split_at_mut-low.ensures.back_len, c.requires.size);
+      size = length-append first.new.values second.new.values ∙ ap₂ (λ x y. x + y) front second.auto.values ∙ add_comm _ _ ∙ c.split_at_mut-low.ensures.back_len ∙ c.requires.size;
     }
 
 pub one_low_layer-requires-clause-below : goal.one_low_layer-requires-clause-below

@@ -12,7 +12,8 @@ invariant-loop-done g l =
       values : (t j : ℕ) → t < l.done → j < l.width
           → field.value (get_or l.values (t * l.width + j) field.ZERO)
           ≡ field.ring.mul (field.value (get_or l.fn.row j field.ZERO)) (field.ring.mul (field.value l.fn.first) (power field.ring (field.value l.fn.step) t));
-      count : l.products ≡ l.fn.products + l.done * l.width;
+      grows : l.fn.products ≤ l.products;
+      cost : l.products ≤ l.fn.products + l.done * l.width;
     }
 
 abbrev pub decreases-loop-done : goal.decreases-loop-done

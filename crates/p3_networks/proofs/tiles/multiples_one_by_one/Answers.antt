@@ -1,27 +1,25 @@
-use Rattle.std.proofs.Common.{◌≡◌, ◌+◌, ◌*◌, ◌-◌, ◌≤◌, length, get_or, map, sym, ap, ◌∙◌, arith, rules, add-one}
+use Rattle.std.proofs.Common.{◌≡◌, ◌*◌, length, get_or, map, refl, sym, ap, ◌∙◌, arith, Fits-le, le-add_right, le_of_eq, le_trans}
+use Rattle.std.proofs.Math.Nat.{add-sub_cancel_left}
 use borrow.Author.Rules.{scaled_fits≤}
 use Rattle.std.proofs.lemmas.List.{length-map}
-use Rattle.std.proofs.Math.Nat.{suc-mul, mul-le-mul_right}
 use Rattle.p3_field.specs.Ring.{power}
 use Rattle.p3_field.proofs.Powers.{power-zero, power-more}
+use Rattle.p3_networks.proofs.Layers.Counts.{turn_counted}
 use Rattle.p3_networks.proofs.Layers.Halves.{block_room}
 use Rattle.p3_matrix.proofs.Rows.Overwritten.{rows-none, rows-more, value_at}
 use Rattle.p3_networks.proofs.tiles.multiples_one_by_one.Goals as goal
 
 pub overflow_mul-start : goal.overflow_mul-start
-overflow_mul-start g c = omega (arith, block_room c.loop-t.t c.args.count (length c.args.row.now) (length c.args.values.now) c.loop-t-test.true c.requires)
+overflow_mul-start g c = Fits-le (le_trans (le-add_right _ _) (block_room c.loop-t.t c.args.count (length c.args.row.now) (length c.args.values.now) c.loop-t-test.true c.requires)) search
 
 pub overflow_add-multiple : goal.overflow_add-multiple
-overflow_add-multiple g c = omega (arith, block_room c.loop-t.t c.args.count (length c.args.row.now) (length c.args.values.now) c.loop-t-test.true c.requires)
+overflow_add-multiple g c = Fits-le (block_room c.loop-t.t c.args.count (length c.args.row.now) (length c.args.values.now) c.loop-t-test.true c.requires) search
 
 pub offset_bounds-values-start : goal.offset_bounds-values-start
-offset_bounds-values-start g c =
-    let room = block_room c.loop-t.t c.args.count (length c.args.row.now) (length c.args.values.now) c.loop-t-test.true c.requires in
-    let below : c.loop-t.t * length c.args.row.now ≤ length c.args.values.now = omega (arith, room) in
-    scaled_fits≤ _ _ _ below (search rules)
+offset_bounds-values-start g c = scaled_fits≤ _ _ _ (le_trans (le-add_right _ _) (block_room c.loop-t.t c.args.count (length c.args.row.now) (length c.args.values.now) c.loop-t-test.true c.requires)) search
 
 pub slice_bounds-multiple-end : goal.slice_bounds-multiple-end
-slice_bounds-multiple-end g c = omega (arith, block_room c.loop-t.t c.args.count (length c.args.row.now) (length c.args.values.now) c.loop-t-test.true c.requires, c.loop-t.auto.values)
+slice_bounds-multiple-end g c = le_trans (block_room c.loop-t.t c.args.count (length c.args.row.now) (length c.args.values.now) c.loop-t-test.true c.requires) (le_of_eq (sym c.loop-t.auto.values))
 
 pub loop-t-init : goal.loop-t-init
 loop-t-init g c =
@@ -37,9 +35,8 @@ loop-t-preserved g c =
     let field = g.F.Field in
     let t = c.loop-t.t in
     let w = length c.args.row.now in
-    let m : (t * w + w) - t * w ≡ w = omega arith in
-    let next : (t + 1) * w ≡ t * w + w = rw add-one (suc-mul t w) in
-    let room : t * w + w ≤ length c.loop-t.values = omega (arith, mul-le-mul_right w c.loop-t-test.true, next, c.requires, c.loop-t.auto.values) in
+    let m = add-sub_cancel_left (t * w) w in
+    let room = block_room t c.args.count w (length c.loop-t.values) c.loop-t-test.true (c.loop-t.auto.values ∙ c.requires) in
     let value = field.value in
     let times = λ (x : field.Element). field.ring.mul x (value c.loop-t.factor) in
     let row = c.args.row.now in
@@ -54,7 +51,7 @@ loop-t-preserved g c =
           value_at value times row multiple k field.ZERO c.scale_slice_oop.ensures.values len inside
           ∙ ap (field.ring.mul (value (get_or row k field.ZERO))) c.loop-t.invariant.factor)
           c.loop-t.invariant.values;
-      count = omega (arith, next, c.scale_slice_oop.ensures.count, c.loop-t.invariant.count);
+      count = turn_counted t w _ c.args.products.now c.loop-t.products _ refl c.loop-t.invariant.count c.scale_slice_oop.ensures.count;
     }
 
 pub returns-clause-values : goal.returns-clause-values

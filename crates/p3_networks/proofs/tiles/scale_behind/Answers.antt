@@ -1,23 +1,38 @@
 use Rattle.std.proofs.Common.{◌≡◌, ◌-◌, length, get_or, ap, sym, ◌∙◌, arith, zero-add}
-use Rattle.p3_matrix.proofs.Rows.Overwritten.{part_at, value_at}
+use Rattle.p3_matrix.proofs.Rows.Overwritten.{part_at, part_size, value_at}
 use Rattle.p3_networks.proofs.Layers.Halves.{in_first, in_second}
 use Rattle.p3_networks.proofs.tiles.scale_behind.Goals as goal
 
-pub returns-clause-scaled : goal.returns-clause-scaled
-returns-clause-scaled g c n below =
+pub returns-then-eq-clause-scaled : goal.returns-then-eq-clause-scaled
+returns-then-eq-clause-scaled g c n below =
+    let field = g.F.Field in
+    let split = c.split_at_mut-first.ensures in
+    let first = c.split_at_mut-first.result.0.now in
+    let behind = c.split_at_mut-first.result.1.now in
+    let from = c.copy_from_slice.new.self in
+    let size : length first ≡ c.args.size = split.front_len in
+    let long : length from ≡ c.args.count = omega (arith, c.copy_from_slice.ensures.len, split.back_len, c.requires.room, c.copy_from_slice.auto.self) in
+    let one : field.value c.args.factor ≡ field.ring.one = (g.met.F.Field.eq_law _ _).0 (sym c.eq.ensures ∙ c.if-eq.true) ∙ ap field.value c.ONE.ensures ∙ g.met.F.Field.one_law in
+    ap field.value (in_second first _ c.args.size n field.ZERO size ∙ in_first from _ n field.ZERO (omega (arith, below, long)))
+    ∙ ap (λ xs. field.value (get_or xs n field.ZERO)) c.copy_from_slice.ensures.after
+    ∙ ap field.value (part_at first 0 (c.args.count - 0) n field.ZERO (omega (arith, below))
+    ∙ ap (λ i. get_or first i field.ZERO) (zero-add n)
+    ∙ sym (ap (λ xs. get_or xs n field.ZERO) split.value ∙ in_first first behind n field.ZERO (omega (arith, below, c.requires.in_table, size))))
+    ∙ sym (ap (field.ring.mul (field.value (get_or c.args.values.now n field.ZERO))) one ∙ field.ring.mul_one _)
+
+pub returns-else-eq-clause-scaled : goal.returns-else-eq-clause-scaled
+returns-else-eq-clause-scaled g c n below =
     let field = g.F.Field in
     let times = λ (x : field.Element). field.ring.mul x (field.value c.args.factor) in
     let split = c.split_at_mut-first.ensures in
     let first = c.split_at_mut-first.result.0.now in
     let behind = c.split_at_mut-first.result.1.now in
-    let copied = c.copy_from_slice.new.self in
-    let out = c.scale_slice_in_place.new.values in
+    let out = c.scale_slice_oop.new.to in
     let size : length first ≡ c.args.size = split.front_len in
-    let copied_size : length copied ≡ c.args.count = omega (arith, c.copy_from_slice.ensures.len, split.back_len, c.requires.room, c.copy_from_slice.auto.self) in
-    let out_size : length out ≡ c.args.count = c.scale_slice_in_place.auto.values ∙ copied_size in
-    ap field.value (in_second first _ c.args.size n field.ZERO size ∙ in_first out _ n field.ZERO (omega (arith, below, out_size)))
-    ∙ value_at field.value times copied out n field.ZERO c.scale_slice_in_place.ensures.values c.scale_slice_in_place.auto.values (omega (arith, below, copied_size))
-    ∙ ap (λ xs. times (field.value (get_or xs n field.ZERO))) c.copy_from_slice.ensures.after
+    let long : length out ≡ c.args.count = omega (arith, c.scale_slice_oop.auto.to, split.back_len, c.requires.room) in
+    let from_long = part_size first 0 (c.args.count - 0) (omega (arith, c.requires.in_table, size)) in
+    ap field.value (in_second first _ c.args.size n field.ZERO size ∙ in_first out _ n field.ZERO (omega (arith, below, long)))
+    ∙ value_at field.value times _ out n field.ZERO c.scale_slice_oop.ensures.values (omega (arith, long, from_long)) (omega (arith, below, from_long))
     ∙ ap (λ y. times (field.value y)) (part_at first 0 (c.args.count - 0) n field.ZERO (omega (arith, below))
     ∙ ap (λ i. get_or first i field.ZERO) (zero-add n)
     ∙ sym (ap (λ xs. get_or xs n field.ZERO) split.value ∙ in_first first behind n field.ZERO (omega (arith, below, c.requires.in_table, size))))

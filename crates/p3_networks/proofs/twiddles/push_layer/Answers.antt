@@ -1,4 +1,4 @@
-use Rattle.std.proofs.Common.{◌≡◌, ℕ, ◌+◌, ◌*◌, ◌^◌, [], ◌∷◌, ◌++◌, length, get_or, sym, ap, ◌∙◌, arith, add-one, length-append, ◌<◌, ◌≤◌, lit≤}
+use Rattle.std.proofs.Common.{◌≡◌, ℕ, ◌+◌, ◌*◌, ◌^◌, [], ◌∷◌, ◌++◌, length, get_or, sym, ap, ◌∙◌, arith, add-one, length-append, ◌<◌, ◌≤◌, lit≤, subst}
 use Rattle.std.proofs.Math.Nat.{pow-le-pow_right}
 use Rattle.p3_matrix.proofs.Rooms.{room_of}
 use Rattle.std.proofs.lemmas.List.{get_or_push}
@@ -10,6 +10,20 @@ use Rattle.p3_networks.proofs.Layers.Halves.{in_first}
 use Rattle.p3_networks.proofs.Layers.Counts.{at_end}
 use Rattle.p3_networks.proofs.twiddles.push_layer.Goals as goal
 use Rattle.p3_networks.proofs.twiddles.push_layer.Goals.{then-reversed, else-reversed}
+
+-- the places of a layer of which 2 ^ l entries are there, behind the old ones
+module _ (old before l : ℕ) (size : before ≡ old + 2 ^ l) where
+  doubled : (start now : ℕ) → start ≡ old → now + start ≡ 2 * before → now ≡ old + 2 ^ (l + 1)
+  doubled start now is longer = let twice : 2 ^ (l + 1) ≡ 2 * 2 ^ l = ap (λ k. 2 ^ k) (add-one l) ∙ omega arith in omega (arith, longer, size, is, twice)
+
+  still_there : (i : ℕ) → i < old → i < before
+  still_there i below = omega (arith, below, size)
+
+  among_them : (b : ℕ) → b < 2 ^ l → old + b < before
+  among_them b below = omega (arith, below, size)
+
+  behind_them : (b : ℕ) → old + (2 ^ l + b) ≡ before + b
+  behind_them b = omega (arith, size)
 
 pub loop-l-init : goal.loop-l-init
 loop-l-init g c =
@@ -36,25 +50,23 @@ loop-l-preserved g c =
     let old = c.args.twiddles.now.items in
     let before = c.loop-l.twiddles.items in
     let now = c.push_multiples.new.elements.items in
-    let start : c.len-start.result ≡ length old = omega (arith, c.len-start.ensures, c.args.twiddles.now.ok) in
+    let start : c.len-start.result ≡ length old = c.len-start.ensures ∙ c.args.twiddles.now.ok.0 in
     let size = c.loop-l.invariant.size in
     let entry = λ (b : ℕ). field.value (get_or now (length old + b) field.ZERO) in
-    let twice : 2 ^ (l + 1) ≡ 2 * 2 ^ l = ap (λ k. 2 ^ k) (add-one l) ∙ omega arith in
     let step : c.if-reversed.exp_power_of_2 ≡ layer_step c.args.reversed n l =
     elim c.if-reversed.branch [ then-reversed w ↦ w.exp_power_of_2-is ∙ ap (λ b. layer_step b n l) (sym w.if-reversed.true) | else-reversed w ↦ w.exp_power_of_2-is ∙ ap (λ b. layer_step b n l) (sym w.if-reversed.false) ] in
     record {
-      size = let longer = c.in_ok-push_multiples.ensures.size in omega (arith, longer, size, start, twice);
-      before = λ i below. c.in_ok-push_multiples.ensures.before i (omega (arith, below, size)) ∙ c.loop-l.invariant.before i below;
+      size = doubled (length old) (length before) l size _ _ start c.in_ok-push_multiples.ensures.size;
+      before = λ i below. c.in_ok-push_multiples.ensures.before i (still_there (length old) (length before) l size i below) ∙ c.loop-l.invariant.before i below;
       entries = powers_doubled field.ring (field.value c.args.first) (field.value c.args.base) (field.value c.exp_power_of_2-factor.result) (layer_place c.args.reversed n) l (layer_step c.args.reversed n l)
           (λ b. field.value (get_or before (length old + b) field.ZERO)) entry
           (c.exp_power_of_2-factor.ensures ∙ ap (λ e. power field.ring (field.value c.args.base) (2 ^ e)) step)
           (λ b below. place_above c.args.reversed n l b c.loop-l-test.true below) c.loop-l.invariant.entries
-          (λ b below. ap field.value (c.in_ok-push_multiples.ensures.before (length old + b) (omega (arith, below, size))))
+          (λ b below. ap field.value (c.in_ok-push_multiples.ensures.before (length old + b) (among_them (length old) (length before) l size b below)))
           (λ b below.
-          let place : length old + (2 ^ l + b) ≡ length before + b = omega (arith, size) in
-          let from : c.len-start.result + b ≡ length old + b = omega (arith, start) in
-          ap (λ k. field.value (get_or now k field.ZERO)) place ∙ c.in_ok-push_multiples.ensures.after b (omega (arith, below, size, start))
-          ∙ ap (λ k. field.ring.mul (field.value (get_or before k field.ZERO)) (field.value c.exp_power_of_2-factor.result)) from);
+          ap (λ k. field.value (get_or now k field.ZERO)) (behind_them (length old) (length before) l size b)
+          ∙ c.in_ok-push_multiples.ensures.after b (subst (λ (n : ℕ). n + b < length before) (sym start) (among_them (length old) (length before) l size b below))
+          ∙ ap (λ k. field.ring.mul (field.value (get_or before k field.ZERO)) (field.value c.exp_power_of_2-factor.result)) (ap (λ n. n + b) start));
     }
 
 pub returns-clause-size : goal.returns-clause-size

@@ -1,4 +1,4 @@
-use Rattle.std.proofs.Common.{◌≡◌, ◌+◌, ◌*◌, ◌-◌, ◌^◌, length, ap, ap₂, ◌∙◌, ◌≤◌, lit≤, arith, add-one}
+use Rattle.std.proofs.Common.{◌≡◌, ◌+◌, ◌*◌, ◌-◌, ◌^◌, length, ap, ap₂, ◌∙◌, ◌≤◌, lit≤, arith, add-one, ℕ}
 use Rattle.std.proofs.Math.Nat.{pow-le-pow_right}
 use Rattle.p3_matrix.proofs.Rooms.{room_of}
 use Rattle.std.proofs.lemmas.Nat.{pow_pos}
@@ -9,15 +9,16 @@ use Rattle.p3_networks.proofs.Tables.MoreTwiddles.{one_more_layer}
 use Rattle.p3_networks.proofs.Layers.Counts.{at_end}
 use Rattle.p3_networks.proofs.twiddles.twiddles_of_layers.Goals as goal
 
+full_more : (l before now : ℕ) → before ≡ 2 ^ l - 1 → now ≡ before + 2 ^ l → now ≡ 2 ^ (l + 1) - 1
+full_more l before now full longer = let twice : 2 ^ (l + 1) ≡ 2 * 2 ^ l = ap (λ n. 2 ^ n) (add-one l) ∙ omega arith in omega (arith, longer, full, twice, pow_pos l)
+
 pub loop-l-preserved : goal.loop-l-preserved
 loop-l-preserved g c =
     let field = g.F.Field in
     let l = c.loop-l.l in
     let longer = c.in_ok-push_layer.ensures.size in
-    let twice : 2 ^ (l + 1) ≡ 2 * 2 ^ l = ap (λ n. 2 ^ n) (add-one l) ∙ omega arith in
-    let some = pow_pos l in
     record {
-      full = omega (arith, longer, c.loop-l.invariant.full, twice, some);
+      full = full_more l _ _ c.loop-l.invariant.full longer;
       layers = one_more_layer field (root_powers field g.F.TwoAdicField.generator c.args.inverse) l c.loop-l.powers.items c.push_layer.new.twiddles.items c.loop-l.invariant.full c.loop-l.invariant.layers longer
           c.in_ok-push_layer.ensures.before
           (λ t below.

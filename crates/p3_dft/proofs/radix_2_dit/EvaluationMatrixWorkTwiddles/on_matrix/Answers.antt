@@ -1,4 +1,4 @@
-use Rattle.std.proofs.Common.{false, ◌≤◌, refl, ℕ, ap, ap₂, sym, length, ◌∙◌, ◌*◌, arith}
+use Rattle.std.proofs.Common.{refl, ℕ, ap, ap₂, sym, length, ◌∙◌, ◌*◌, arith}
 use Rattle.std.proofs.Math.Nat.{le-add_right}
 use Rattle.p3_networks.proofs.Tables.MoreTwiddles.{fewer_layers, layer_there}
 use Rattle.p3_dft.proofs.BitReversed.Rows.{transform_of_reversed}

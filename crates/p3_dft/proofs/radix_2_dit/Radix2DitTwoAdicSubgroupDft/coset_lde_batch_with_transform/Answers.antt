@@ -1,4 +1,4 @@
-use Rattle.std.proofs.Common.{ℕ, ◌≡◌, ◌+◌, ◌*◌, ◌^◌, ◌∙◌, ap₂, refl, sym, arith, le_refl}
+use Rattle.std.proofs.Common.{ℕ, ◌≡◌, ◌≤◌, ◌+◌, ◌*◌, ◌^◌, ◌∙◌, refl, subst, sym, arith, le-add_left, le_of_eq, le_refl, le_trans, zero-add}
 use Rattle.std.proofs.lemmas.Result.{IfOk-from_err, IfOk-weaker}
 use Rattle.p3_matrix.specs.RowMajor.{height}
 use Rattle.p3_dft.specs.Engines.{EngineState}
@@ -7,7 +7,7 @@ use Rattle.p3_dft.proofs.Calls.EngineSteps.{after_part, extended_after, part_ref
 use Rattle.p3_dft.proofs.Calls.ExtendedTransforms.{answered_shape, extension_of_shifted}
 use Rattle.p3_matrix.proofs.Rooms.{room_of}
 use Rattle.p3_matrix.proofs.Rows.Padding.{padded_shape}
-use Rattle.p3_dft.proofs.Calls.Shapes.{fewer_entries, input_fits, output_fits, output_log_small, output_size}
+use Rattle.p3_dft.proofs.Calls.Shapes.{fewer_entries, input_fits, output_fits, output_log_small, output_size, same_extended}
 use Rattle.p3_dft.proofs.radix_2_dit.Radix2DitTwoAdicSubgroupDft.coset_lde_batch_with_transform.Goals as goal
 
 pub idft_batch-requires : goal.idft_batch-requires
@@ -73,7 +73,7 @@ returns-clause-engine g c =
     let grown = λ (k : ℕ) (e : height m ≡ 2 ^ k). padded_shape g.F.Field.ZERO m c.shift_rows.new.mat c.in_ok-padded.padded a k c.pad_rows.ensures.whole
     (same.height ∙ shape.0, same.width ∙ shape.1) e c.in_ok-padded.ensures.padded in
     parts_after _ m c.transform-changed.result a _ _ _ _ _ shape (λ k. omega arith) c.in_ok-coefficients.ensures.engine
-    (extended_after _ c.transform-changed.result c.in_ok-padded.padded a _ _ _ _ _ fits.log (shape.0 ∙ fits.height) (λ k e. (grown k (sym shape.0 ∙ e)).0) ((grown fits.log fits.height).1 ∙ sym shape.1) (omega (arith, c.shift_rows.ensures.cost, c.new-products.ensures)) c.add_products.ensures.engine
+    (extended_after _ c.transform-changed.result c.in_ok-padded.padded a _ _ _ _ _ fits.log (shape.0 ∙ fits.height) (λ k e. (grown k (sym shape.0 ∙ e)).0) ((grown fits.log fits.height).1 ∙ sym shape.1) (le_trans (subst (λ (n : ℕ). c.shift_rows.new.products ≤ n + height c.transform-changed.result * c.transform-changed.result.width) c.new-products.ensures c.shift_rows.ensures.cost) (le_of_eq (zero-add _))) c.add_products.ensures.engine
     c.dft_batch.ensures.engine)
 
 pub transform-changed-requires : goal.transform-changed-requires
@@ -86,5 +86,5 @@ returns-in_err-padded g c =
     record {
       values = IfOk-from_err _ _ c.from_residual-in_err-padded.ensures.0;
       only = λ k e. omega (arith, c.in_ok-coefficients.ensures.made k e, (c.add_products.ensures.engine.same _).1 (le_refl _));
-      engine = let fits = c.requires.fits in let m = g.N.IntoRowMajorMatrix.stored c.args.mat in let shape = answered_shape g.F.Field g.F.TwoAdicField.generator _ _ _ _ _ fits.log fits.height c.in_ok-coefficients.ensures.coefficients (refl, refl) c.width-width.ensures.whole c.requires.shape c.transform-changed.ensures in let same = c.shift_rows.ensures.shifted in after_part _ _ _ _ _ c.from_residual-in_err-padded.ensures.0 (λ k. omega arith) (room_of c.from_residual-in_err-padded.result _ _ _ c.from_residual-in_err-padded.ensures (omega (arith, ap₂ (λ (h w : ℕ). h * w * 2 ^ c.args.added_bits) (same.height ∙ shape.0) (same.width ∙ shape.1))) c.in_err-padded.ensures.room) (products_after _ 1 m c.transform-changed.result _ _ _ c.transform-changed.result _ shape (omega (arith, c.shift_rows.ensures.cost, c.new-products.ensures)) c.in_ok-coefficients.ensures.engine c.add_products.ensures.engine);
+      engine = let fits = c.requires.fits in let m = g.N.IntoRowMajorMatrix.stored c.args.mat in let shape = answered_shape g.F.Field g.F.TwoAdicField.generator _ _ _ _ _ fits.log fits.height c.in_ok-coefficients.ensures.coefficients (refl, refl) c.width-width.ensures.whole c.requires.shape c.transform-changed.ensures in let same = c.shift_rows.ensures.shifted in after_part _ _ _ _ _ c.from_residual-in_err-padded.ensures.0 (λ k. omega arith) (room_of c.from_residual-in_err-padded.result _ _ _ c.from_residual-in_err-padded.ensures (le_trans (same_extended c.args.added_bits (same.height ∙ shape.0) (same.width ∙ shape.1)) (le-add_left _ _)) c.in_err-padded.ensures.room) (products_after _ 1 m c.transform-changed.result _ _ _ c.transform-changed.result _ shape (le_trans (subst (λ (n : ℕ). c.shift_rows.new.products ≤ n + height c.transform-changed.result * c.transform-changed.result.width) c.new-products.ensures c.shift_rows.ensures.cost) (le_of_eq (zero-add _))) c.in_ok-coefficients.ensures.engine c.add_products.ensures.engine);
     }

@@ -2,9 +2,8 @@ use Rattle.std.proofs.Common.{◌≡◌, ◌⊎◌, inl, inr, Bool, false, ℕ, 
 use Rattle.std.proofs.lemmas.Result.{IfOk-from_err, on_ok_weaker}
 use Rattle.p3_matrix.specs.RowMajor.{height}
 use Rattle.p3_matrix.specs.BitOrder.{bit_reversal, reversed_rows}
-use Rattle.p3_matrix.specs.Cosets.{IsValues, values_of}
+use Rattle.p3_matrix.specs.Cosets.{IsValues, values_of, Coset, HasCoset}
 use Rattle.p3_matrix.proofs.Rooms.{room_of}
-use Rattle.p3_networks.specs.Twiddles.{Coset, HasCoset}
 use Rattle.p3_dft.specs.Engines.{CosetEngineState, IsCosetPrepared}
 use Rattle.p3_dft.specs.Transforms.{IsTransform}
 use Rattle.p3_dft.proofs.BitReversed.OneRow.{row_handed_back, row_seen}
@@ -13,8 +12,8 @@ use Rattle.p3_dft.proofs.Calls.Counts.{larger_bound, none_more}
 use Rattle.p3_dft.proofs.Calls.EngineSteps.{after_none}
 use Rattle.p3_dft.proofs.Calls.JobLists.{on_any_error}
 use Rattle.p3_dft.proofs.Calls.PreparedCosets.{coset_stays, later_with_tables, tabled}
-use Rattle.p3_dft.proofs.Calls.PreparedHeights.{none_above, not_ok}
-use Rattle.p3_dft.proofs.Calls.Shapes.{log_fits_dft, table_fits}
+use Rattle.p3_dft.proofs.Calls.PreparedHeights.{no_larger, none_above, not_ok}
+use Rattle.p3_dft.proofs.Calls.Shapes.{beside_held, log_fits_dft, table_fits}
 use Rattle.p3_dft.proofs.Calls.Stored.{at_log, rows_found}
 use Rattle.p3_dft.proofs.radix_2_dit_parallel.Radix2DitParallelTwoAdicSubgroupDft.coset_dft_batch.Goals as goal
 
@@ -101,7 +100,7 @@ returns-in_err-place g c =
       succeeds = at_log _ _ log tall (λ heights ready. absurd (refusal ready));
       on_prepared = at_log _ _ log tall (λ ready. absurd (refusal ready));
       tables = λ k e. IfOk-from_err _ _ err;
-      only = λ k e. omega (arith, heights);
+      only = λ k e. no_larger _ _ _ (inl heights);
       roots = λ is_other. heights;
       once = λ k e ready. kept ∙ old_cosets;
       one = λ is. kept ∙ old_cosets;
@@ -112,7 +111,7 @@ returns-in_err-place g c =
         later = later_with_tables field _ _ _ c.args.self.now _ _ _ _ _ _ c.self.view_is (le_refl _) (coset_stays field _ _ _ c.make.ensures.only) (le_refl _);
         prepared = λ done k e. tt;
         cost = λ k e. none_more _ _ _ products;
-        refused = room_of c.from_residual.result _ _ _ c.from_residual.ensures (omega (arith, table_fits _ c.requires.fits tall)) c.in_err-place.ensures.room;
+        refused = room_of c.from_residual.result _ _ _ c.from_residual.ensures (beside_held _ _ _ (table_fits _ c.requires.fits tall)) c.in_err-place.ensures.room;
       };
       pairs = λ k e. none_more _ _ _ products;
     }
@@ -141,7 +140,7 @@ returns g c =
       succeeds = λ k e heights ready. refl;
       on_prepared = λ k e ready. refl;
       tables = at_log _ _ log tall (inr (inr (other, (c.in_ok-place.place, c.in_ok-place.ensures.made))));
-      only = λ k e. omega (arith, heights);
+      only = λ k e. no_larger _ _ _ (inl heights);
       roots = λ is_other. heights;
       once = at_log _ _ log tall (λ ready. c.make.ensures.once (held ready) ∙ old_cosets);
       one = λ is. absurd (other is);

@@ -1,7 +1,7 @@
-use Rattle.std.proofs.Common.{◌≡◌, ℕ, ◌+◌, ◌*◌, ◌^◌, ◌≤◌, sym, ap, ◌∙◌, subst, arith, refl, le_trans}
+use Rattle.std.proofs.Common.{◌≡◌, ℕ, ◌+◌, ◌*◌, ◌^◌, ◌≤◌, sym, ap, ◌∙◌, subst, arith, refl, le-add_right, le_refl, le_trans, add-le-add}
 use Rattle.p3_matrix.specs.BitOrder.{bit_reversal}
 use Rattle.p3_matrix.specs.RowMajor.{RowMajor, height}
-use Rattle.p3_matrix.specs.Cosets.{values_of}
+use Rattle.p3_matrix.specs.Cosets.{values_of, HasCoset}
 use Rattle.p3_dft.proofs.BitReversed.Coefficients.{values_of_answered}
 use Rattle.p3_dft.proofs.BitReversed.Rows.{values_seen}
 use Rattle.p3_dft.proofs.Calls.PreparedCosets.{later_with_tables}
@@ -9,15 +9,14 @@ use Rattle.p3_dft.proofs.Calls.Shapes.{both_logs_fit, same_extended}
 use Rattle.p3_dft.specs.Engines.{CosetEngineState}
 use Rattle.p3_dft.specs.Tables.{LeavesTables}
 use Rattle.p3_matrix.proofs.Rooms.{within_more}
-use Rattle.p3_networks.specs.Twiddles.{HasCoset}
 use Rattle.p3_dft.proofs.Calls.Stored.{at_log, whole_still}
 use Rattle.p3_dft.proofs.radix_2_dit_parallel.Radix2DitParallelTwoAdicSubgroupDft.coset_lde_batch_with_blocks.Goals as goal
 
 -- an inverse with a product for each entry, and a transform for each slot
-slots_counted : (x y p w before middle after : ℕ) → middle ≤ before + w * x + y * w → after ≤ middle + p * (w * x) → after ≤ before + w * (x * (1 + p) + y)
-slots_counted x y p w before middle after first second =
+slots_counted : (x y p w w_1 w_2 before before_1 middle after : ℕ) → before_1 ≡ before → w_1 ≡ w → w_2 ≡ w_1 → middle ≤ before_1 + w_1 * x + y * w_1 → after ≤ middle + p * (w_2 * x) → after ≤ before + w * (x * (1 + p) + y)
+slots_counted x y p w w_1 w_2 before before_1 middle after same wide grown first second =
     let spread : w * x + y * w + p * (w * x) ≡ w * (x * (1 + p) + y) = omega arith in
-    omega (arith, first, second, spread)
+    omega (arith, same, ap (λ n. n * x) wide, ap (λ n. y * n) wide, ap (λ n. p * (n * x)) (grown ∙ wide), first, second, spread)
 
 pub block_height-block_height-requires-clause-within : goal.block_height-block_height-requires-clause-within
 block_height-block_height-requires-clause-within g c = (both_logs_fit _ _ c.requires.fits c.log2_strict_usize-log_h.ensures.power (c.height.ensures.height ∙ ap height c.into_row_major_matrix-mat.ensures)).2
@@ -67,8 +66,8 @@ returns-in-Err g c =
       keeps_tables = λ k s has. c.coefficients_with_room-room.ensures.keeps_cosets k s (subst (λ (x : CosetEngineState g.row.F.Denot). HasCoset g.F.Field x.cosets k s) (sym c.self.view_is) has);
       leaves = λ k e. subst (λ (x : CosetEngineState g.row.F.Denot). LeavesTables g.F.Field g.F.TwoAdicField.generator k c.args.added_bits (g.F.Field.value c.args.shift) x.roots.prepared c.coefficients_with_room-room.new.tables x.cosets c.coefficients_with_room-room.new.cosets) c.self.view_is (c.coefficients_with_room-room.ensures.leaves k (stored ∙ e));
       later = later_with_tables g.F.Field _ _ _ c.args.self.now _ _ _ _ _ _ c.self.view_is c.coefficients_with_room-room.ensures.keeps c.coefficients_with_room-room.ensures.keeps_cosets c.coefficients_with_room-room.ensures.grows;
-      cost = λ k e. rw (← products, ← width) (slots_counted _ _ _ _ _ _ _ (c.coefficients_with_room-room.ensures.cost k (stored ∙ e)) (omega arith));
-      room = within_more _ _ (omega (arith, same_extended c.args.added_bits stored width)) _ c.in-Err.ensures.room;
+      cost = λ k e. slots_counted _ _ _ _ _ _ _ _ _ _ products width refl (c.coefficients_with_room-room.ensures.cost k (stored ∙ e)) (le-add_right _ _);
+      room = within_more _ _ (add-le-add (le_refl _) (same_extended c.args.added_bits stored width)) _ c.in-Err.ensures.room;
     }
 
 pub returns-in-Err-extended : goal.returns-in-Err-extended
@@ -85,10 +84,10 @@ returns-in-Err-extended g c =
       values = tt;
       published = tt;
       refused = at_log _ _ log tall (
-          let (values, accepted, refused, are_values, blocks, stopped) = c.in-Err-extended.ensures.refused answer.answered answer.answered_whole (answer.kept.0 ∙ high) answer.over_zeros in (
-            values,
-            rw (← c.into_row_major_matrix-mat.ensures) (values_of_answered g.F.Field g.F.TwoAdicField.generator _ m answer.told answer.answered _ log _ values high (answer.are_coefficients log high) answer.told_whole answer.answered_whole answer.called answer.kept.0 are_values),
-            record { first = c.make_consumer-consumer.result; made = subst (λ b. g.M.FnOnce.post c.args.make_consumer (b, tt) c.make_consumer-consumer.result) c.block_height-block_height.ensures c.make_consumer-consumer.ensures; accepted = accepted; refused = refused; blocks = blocks; run = stopped },
+          let told = c.in-Err-extended.ensures.refused answer.answered answer.answered_whole (answer.kept.0 ∙ high) answer.over_zeros in (
+            told.0,
+            rw (← c.into_row_major_matrix-mat.ensures) (values_of_answered g.F.Field g.F.TwoAdicField.generator _ m answer.told answer.answered _ log _ told.0 high (answer.are_coefficients log high) answer.told_whole answer.answered_whole answer.called answer.kept.0 told.3),
+            record { first = c.make_consumer-consumer.result; made = subst (λ b. g.M.FnOnce.post c.args.make_consumer (b, tt) c.make_consumer-consumer.result) c.block_height-block_height.ensures c.make_consumer-consumer.ensures; accepted = told.1; refused = told.2; blocks = told.4; run = told.5 },
           ));
       unpublished = tt;
       prepared = λ k e. c.in-Ok.ensures.prepared k (stored ∙ e);
@@ -96,7 +95,7 @@ returns-in-Err-extended g c =
       keeps_tables = λ k s has. c.coefficients_with_room-room.ensures.keeps_cosets k s (subst (λ (x : CosetEngineState g.row.F.Denot). HasCoset g.F.Field x.cosets k s) (sym c.self.view_is) has);
       leaves = λ k e. subst (λ (x : CosetEngineState g.row.F.Denot). LeavesTables g.F.Field g.F.TwoAdicField.generator k c.args.added_bits (g.F.Field.value c.args.shift) x.roots.prepared c.coefficients_with_room-room.new.tables x.cosets c.coefficients_with_room-room.new.cosets) c.self.view_is (c.coefficients_with_room-room.ensures.leaves k (stored ∙ e));
       later = later_with_tables g.F.Field _ _ _ c.args.self.now _ _ _ _ _ _ c.self.view_is c.coefficients_with_room-room.ensures.keeps c.coefficients_with_room-room.ensures.keeps_cosets (le_trans c.coefficients_with_room-room.ensures.grows c.extend_reversed-extended.ensures.grows);
-      cost = at_log _ _ log tall (rw (← products, ← width) (slots_counted _ _ _ _ _ _ _ (c.coefficients_with_room-room.ensures.cost log high) (rw (← (ap (λ (n : RowMajor g.row.F.Denot). n.width) answer.over_zeros ∙ answer.kept.1)) c.extend_reversed-extended.ensures.cost)));
+      cost = at_log _ _ log tall (slots_counted _ _ _ _ _ _ _ _ _ _ products width (ap (λ (n : RowMajor g.row.F.Denot). n.width) answer.over_zeros ∙ answer.kept.1) (c.coefficients_with_room-room.ensures.cost log high) c.extend_reversed-extended.ensures.cost);
       room = tt;
     }
 
@@ -119,7 +118,7 @@ returns g c =
           (values_seen g.F.Field g.F.TwoAdicField.generator (bit_reversal log (values_of g.F.Field answer.answered)) out _ _ c.bit_reverse_rows.result.bits (whole_still c.in-Ok.mat out rows.whole same) (same.shape.0 ∙ rows.height) c.bit_reverse_rows.ensures.height
           (c.in_default.ensures.values answer.answered answer.answered_whole (answer.kept.0 ∙ high) answer.over_zeros)));
       published = at_log _ _ log tall (
-          let (blocks, parts, run) = c.in_default.ensures.published in
+          let blocks = c.in_default.ensures.published.0 in let parts = c.in_default.ensures.published.1 in let run = c.in_default.ensures.published.2 in
           record { first = c.make_consumer-consumer.result; made = subst (λ b. g.M.FnOnce.post c.args.make_consumer (b, tt) c.make_consumer-consumer.result) c.block_height-block_height.ensures c.make_consumer-consumer.ensures; blocks = blocks; parts = rw c.bit_reverse_rows.ensures.matrix parts; run = run });
       refused = tt;
       unpublished = tt;
@@ -128,6 +127,6 @@ returns g c =
       keeps_tables = λ k s has. c.coefficients_with_room-room.ensures.keeps_cosets k s (subst (λ (x : CosetEngineState g.row.F.Denot). HasCoset g.F.Field x.cosets k s) (sym c.self.view_is) has);
       leaves = λ k e. subst (λ (x : CosetEngineState g.row.F.Denot). LeavesTables g.F.Field g.F.TwoAdicField.generator k c.args.added_bits (g.F.Field.value c.args.shift) x.roots.prepared c.coefficients_with_room-room.new.tables x.cosets c.coefficients_with_room-room.new.cosets) c.self.view_is (c.coefficients_with_room-room.ensures.leaves k (stored ∙ e));
       later = later_with_tables g.F.Field _ _ _ c.args.self.now _ _ _ _ _ _ c.self.view_is c.coefficients_with_room-room.ensures.keeps c.coefficients_with_room-room.ensures.keeps_cosets (le_trans c.coefficients_with_room-room.ensures.grows c.extend_reversed-extended.ensures.grows);
-      cost = at_log _ _ log tall (rw (← products, ← width) (slots_counted _ _ _ _ _ _ _ (c.coefficients_with_room-room.ensures.cost log high) (rw (← (ap (λ (n : RowMajor g.row.F.Denot). n.width) answer.over_zeros ∙ answer.kept.1)) c.extend_reversed-extended.ensures.cost)));
+      cost = at_log _ _ log tall (slots_counted _ _ _ _ _ _ _ _ _ _ products width (ap (λ (n : RowMajor g.row.F.Denot). n.width) answer.over_zeros ∙ answer.kept.1) (c.coefficients_with_room-room.ensures.cost log high) c.extend_reversed-extended.ensures.cost);
       room = tt;
     }

@@ -1,17 +1,16 @@
-use Rattle.std.proofs.Common.{[], sym, ◌∙◌, arith, refl, append-nil, le_refl}
+use Rattle.std.proofs.Common.{[], sym, ◌∙◌, arith, refl, append-nil, inl, le_refl, le_trans, le-add_left}
 use Rattle.std.proofs.lemmas.List.Elements.{All-nil}
 use Rattle.std.proofs.lemmas.Result.{IfOk-from_err}
-use Rattle.p3_dft.proofs.Calls.Shapes.{extended_table, same_extended, output_log_small, output_size, both_logs_fit}
+use Rattle.p3_dft.proofs.Calls.Shapes.{beside_held, extended_table, same_extended, output_log_small, output_size, both_logs_fit}
 use Rattle.p3_dft.proofs.Calls.Counts.{more_allowed}
+use Rattle.p3_dft.proofs.Calls.PreparedHeights.{no_larger}
 use Rattle.p3_matrix.proofs.Rooms.{room_of}
 use Rattle.p3_matrix.proofs.Rows.Padding.{padded_shape, padded_whole}
 use Rattle.p3_dft.proofs.Calls.Stored.{at_log, whole_still}
 use Rattle.p3_dft.proofs.radix_2_dit_parallel.extension.coefficients_with_room.Goals as goal
 
 pub make-requires : goal.make-requires
-make-requires g c =
-    let (within, small, all_within, all_small) = both_logs_fit _ _ c.requires.fits c.log2_strict_usize-log_h.ensures.power c.height.ensures.height in
-    record { within = within; fits_u64 = small }
+make-requires g c = let fit = both_logs_fit _ _ c.requires.fits c.log2_strict_usize-log_h.ensures.power c.height.ensures.height in record { within = fit.0; fits_u64 = fit.1 }
 
 pub interpolate_to_reversed-requires-clause-within : goal.interpolate_to_reversed-requires-clause-within
 interpolate_to_reversed-requires-clause-within g c = (both_logs_fit _ _ c.requires.fits c.log2_strict_usize-log_h.ensures.power c.height.ensures.height).0
@@ -30,18 +29,16 @@ pad_rows-requires-clause-size g c =
     rw (shape.0, shape.1) (output_size _ _ _ _ c.requires.fits)
 
 pub make_all-requires : goal.make_all-requires
-make_all-requires g c =
-    let (within, small, all_within, all_small) = both_logs_fit _ _ c.requires.fits c.log2_strict_usize-log_h.ensures.power c.height.ensures.height in
-    record { within = all_within; fits_u64 = all_small }
+make_all-requires g c = let fit = both_logs_fit _ _ c.requires.fits c.log2_strict_usize-log_h.ensures.power c.height.ensures.height in record { within = fit.2; fits_u64 = fit.3 }
 
 pub returns-in_err-make : goal.returns-in_err-make
-returns-in_err-make g c = let err = c.from_residual.ensures.0 in record { room = let table = extended_table c.args.added_bits c.log2_strict_usize-log_h.result c.height.ensures.whole.width (sym c.height.ensures.height ∙ c.log2_strict_usize-log_h.ensures.power) in room_of c.from_residual.result _ _ _ c.from_residual.ensures (omega (arith, table)) c.in_err-make.ensures.room; answer = IfOk-from_err _ _ err; rows = IfOk-from_err _ _ err; prepared = λ k high. IfOk-from_err _ _ err; cosets = λ k high. IfOk-from_err _ _ err; keeps = c.make.ensures.keeps; leaves = λ k high. record { only = omega (arith, c.in_err-make.ensures.refused); adds = ([], sym (append-nil _), All-nil _); once = λ all. refl }; keeps_cosets = λ k s has. has; grows = le_refl _; cost = λ k high. more_allowed _ _ _ (more_allowed _ _ _ (le_refl _)) }
+returns-in_err-make g c = let err = c.from_residual.ensures.0 in record { room = let table = extended_table c.args.added_bits c.log2_strict_usize-log_h.result c.height.ensures.whole.width (sym c.height.ensures.height ∙ c.log2_strict_usize-log_h.ensures.power) in room_of c.from_residual.result _ _ _ c.from_residual.ensures (le_trans table (le-add_left _ _)) c.in_err-make.ensures.room; answer = IfOk-from_err _ _ err; rows = IfOk-from_err _ _ err; prepared = λ k high. IfOk-from_err _ _ err; cosets = λ k high. IfOk-from_err _ _ err; keeps = c.make.ensures.keeps; leaves = λ k high. record { only = no_larger _ _ _ (inl c.in_err-make.ensures.refused); adds = ([], sym (append-nil _), All-nil _); once = λ all. refl }; keeps_cosets = λ k s has. has; grows = le_refl _; cost = λ k high. more_allowed _ _ _ (more_allowed _ _ _ (le_refl _)) }
 
 pub returns-in_err-grown : goal.returns-in_err-grown
-returns-in_err-grown g c = let err = c.from_residual-in_err-grown.ensures.0 in record { room = let shape = c.requires.shape c.interpolate_to_reversed.new.mat c.transform-changed.result (whole_still c.args.mat c.interpolate_to_reversed.new.mat c.height.ensures.whole c.interpolate_to_reversed.ensures.same) c.interpolate_to_reversed.ensures.same.shape c.transform-changed.ensures in room_of c.from_residual-in_err-grown.result _ _ _ c.from_residual-in_err-grown.ensures (omega (arith, same_extended c.args.added_bits shape.0 shape.1)) c.in_err-grown.ensures.room; answer = IfOk-from_err _ _ err; rows = IfOk-from_err _ _ err; prepared = λ k high. IfOk-from_err _ _ err; cosets = λ k high. IfOk-from_err _ _ err; keeps = c.make.ensures.keeps; leaves = at_log _ _ _ (sym c.height.ensures.height ∙ c.log2_strict_usize-log_h.ensures.power) (record { only = omega (arith, c.make.ensures.only); adds = ([], sym (append-nil _), All-nil _); once = λ all. refl }); keeps_cosets = λ k s has. has; grows = c.interpolate_to_reversed.ensures.grows; cost = at_log _ _ _ (sym c.height.ensures.height ∙ c.log2_strict_usize-log_h.ensures.power) c.interpolate_to_reversed.ensures.cost }
+returns-in_err-grown g c = let err = c.from_residual-in_err-grown.ensures.0 in record { room = let shape = c.requires.shape c.interpolate_to_reversed.new.mat c.transform-changed.result (whole_still c.args.mat c.interpolate_to_reversed.new.mat c.height.ensures.whole c.interpolate_to_reversed.ensures.same) c.interpolate_to_reversed.ensures.same.shape c.transform-changed.ensures in room_of c.from_residual-in_err-grown.result _ _ _ c.from_residual-in_err-grown.ensures (le_trans (same_extended c.args.added_bits shape.0 shape.1) (le-add_left _ _)) c.in_err-grown.ensures.room; answer = IfOk-from_err _ _ err; rows = IfOk-from_err _ _ err; prepared = λ k high. IfOk-from_err _ _ err; cosets = λ k high. IfOk-from_err _ _ err; keeps = c.make.ensures.keeps; leaves = at_log _ _ _ (sym c.height.ensures.height ∙ c.log2_strict_usize-log_h.ensures.power) (record { only = no_larger _ _ _ c.make.ensures.only; adds = ([], sym (append-nil _), All-nil _); once = λ all. refl }); keeps_cosets = λ k s has. has; grows = c.interpolate_to_reversed.ensures.grows; cost = at_log _ _ _ (sym c.height.ensures.height ∙ c.log2_strict_usize-log_h.ensures.power) c.interpolate_to_reversed.ensures.cost }
 
 pub returns-in_err-make_all : goal.returns-in_err-make_all
-returns-in_err-make_all g c = let err = c.from_residual-in_err-make_all.ensures.0 in record { room = let table = extended_table c.args.added_bits c.log2_strict_usize-log_h.result c.height.ensures.whole.width (sym c.height.ensures.height ∙ c.log2_strict_usize-log_h.ensures.power) in room_of c.from_residual-in_err-make_all.result _ _ _ c.from_residual-in_err-make_all.ensures (omega (arith, table)) c.in_err-make_all.ensures.room; answer = IfOk-from_err _ _ err; rows = IfOk-from_err _ _ err; prepared = λ k high. IfOk-from_err _ _ err; cosets = λ k high. IfOk-from_err _ _ err; keeps = c.make.ensures.keeps; leaves = at_log _ _ _ (sym c.height.ensures.height ∙ c.log2_strict_usize-log_h.ensures.power) (record { only = omega (arith, c.make.ensures.only); adds = c.make_all.ensures.only; once = c.make_all.ensures.once }); keeps_cosets = c.make_all.ensures.keeps; grows = c.interpolate_to_reversed.ensures.grows; cost = at_log _ _ _ (sym c.height.ensures.height ∙ c.log2_strict_usize-log_h.ensures.power) c.interpolate_to_reversed.ensures.cost }
+returns-in_err-make_all g c = let err = c.from_residual-in_err-make_all.ensures.0 in record { room = let table = extended_table c.args.added_bits c.log2_strict_usize-log_h.result c.height.ensures.whole.width (sym c.height.ensures.height ∙ c.log2_strict_usize-log_h.ensures.power) in room_of c.from_residual-in_err-make_all.result _ _ _ c.from_residual-in_err-make_all.ensures (beside_held _ _ _ table) c.in_err-make_all.ensures.room; answer = IfOk-from_err _ _ err; rows = IfOk-from_err _ _ err; prepared = λ k high. IfOk-from_err _ _ err; cosets = λ k high. IfOk-from_err _ _ err; keeps = c.make.ensures.keeps; leaves = at_log _ _ _ (sym c.height.ensures.height ∙ c.log2_strict_usize-log_h.ensures.power) (record { only = no_larger _ _ _ c.make.ensures.only; adds = c.make_all.ensures.only; once = c.make_all.ensures.once }); keeps_cosets = c.make_all.ensures.keeps; grows = c.interpolate_to_reversed.ensures.grows; cost = at_log _ _ _ (sym c.height.ensures.height ∙ c.log2_strict_usize-log_h.ensures.power) c.interpolate_to_reversed.ensures.cost }
 
 pub returns : goal.returns
 returns g c =
@@ -57,7 +54,7 @@ returns g c =
       });
       prepared = at_log _ _ _ high c.in_ok-make.ensures.made;
       keeps = c.make.ensures.keeps;
-      leaves = at_log _ _ _ high (record { only = omega (arith, c.make.ensures.only); adds = c.make_all.ensures.only; once = c.make_all.ensures.once });
+      leaves = at_log _ _ _ high (record { only = no_larger _ _ _ c.make.ensures.only; adds = c.make_all.ensures.only; once = c.make_all.ensures.once });
       cosets = at_log _ _ _ high c.in_ok-make_all.ensures.made;
       keeps_cosets = c.make_all.ensures.keeps;
       grows = c.interpolate_to_reversed.ensures.grows;

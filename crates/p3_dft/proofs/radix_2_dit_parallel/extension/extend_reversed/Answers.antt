@@ -53,7 +53,7 @@ returns-clause-published g c =
     ∙ ap₂ (λ (v : ℕ) (xs : List g.row.F.Denot). first_blocks b (record { width = v; values = xs }) (length entries / m.width / b)) (sym wide) (sym values_is) in
     on_ok_weaker c.extend_slots.result
     (λ given.
-    let (list, each, run) = given in (
+    let list = given.0 in let each = given.1 in let run = given.2 in (
       list,
       record {
         divides = ap (λ h. h % b) tall ∙ ap (λ k. k % b) blocks ∙ mul-mod_left total b;
@@ -75,7 +75,7 @@ returns-clause-refused g c =
     let out : Matrix field.Element = record { height = 2 ^ n; width = w; entry = λ i j. poly field.ring (2 ^ log) (λ q. field.value (get_or start (rev log q * w + j) field.ZERO)) (point field.ring gen n s i) } in
     IfErr-weaker c.extend_slots.result _ _
     (λ refusal given upper whole high over_zeros.
-    let (accepted, refused, blocks, stopped) = given in (
+    let accepted = given.0 in let refused = given.1 in let blocks = given.2 in let stopped = given.3 in (
       out,
       accepted,
       refused,

@@ -1,11 +1,11 @@
-use Rattle.std.proofs.Common.{◌≡◌, ℕ, ◌+◌, ◌-◌, ◌/◌, ◌^◌, ◌<◌, sym, ap, ◌∙◌, subst, arith}
+use Rattle.std.proofs.Common.{◌≡◌, ℕ, ◌+◌, ◌-◌, ◌^◌, ◌<◌, sym, ap, ◌∙◌, subst, arith}
 use Rattle.p3_field.specs.Ring.{AreRoots}
-use Rattle.p3_matrix.specs.BitOrder.{rev, bit_reversal}
+use Rattle.p3_matrix.specs.BitOrder.{rev, bit_reversal, mid_of}
 use Rattle.p3_matrix.specs.RowMajor.{height}
 use Rattle.p3_matrix.proofs.BitReversal.{rev-lt, rev-rev}
 use Rattle.p3_matrix.specs.Cosets.{point, values_of}
 use Rattle.p3_matrix.specs.Polynomials.{poly}
-use Rattle.p3_networks.specs.Twiddles.{IsCosetTable, mid_of}
+use Rattle.p3_networks.specs.Twiddles.{IsCosetTable}
 use Rattle.p3_networks.proofs.Layers.Counts.{halves_counted}
 use Rattle.p3_networks.proofs.Networks.CosetHalves.{halves_whole}
 use Rattle.p3_matrix.proofs.Polynomials.ByIndex.{poly_same}

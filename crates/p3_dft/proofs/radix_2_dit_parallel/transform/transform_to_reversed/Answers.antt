@@ -1,9 +1,9 @@
 use Rattle.std.proofs.Common.{◌≡◌, ℕ, ◌+◌, ◌-◌, ◌^◌, ◌<◌, sym, ap, ◌∙◌, subst, arith, ◌≤◌}
 use Rattle.p3_field.specs.Ring.{AreRoots}
-use Rattle.p3_matrix.specs.BitOrder.{rev}
+use Rattle.p3_matrix.specs.BitOrder.{rev, mid_of}
 use Rattle.p3_matrix.specs.Cosets.{point, values_of}
 use Rattle.p3_matrix.specs.Polynomials.{poly}
-use Rattle.p3_networks.specs.Twiddles.{factor, mid_of, root_of, scale_cost}
+use Rattle.p3_networks.specs.Twiddles.{factor, root_of, scale_cost}
 use Rattle.p3_networks.proofs.Layers.Counts.{halves_counted}
 use Rattle.p3_networks.proofs.Networks.CosetHalves.{halves_whole}
 use Rattle.p3_matrix.proofs.Polynomials.Cosets.{point_of_one}

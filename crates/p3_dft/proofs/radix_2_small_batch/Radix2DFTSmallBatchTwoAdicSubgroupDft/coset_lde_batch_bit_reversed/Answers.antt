@@ -1,4 +1,4 @@
-use Rattle.std.proofs.Common.{◌≡◌, ℕ, ◌+◌, ◌^◌, ◌<◌, ◌≤◌, refl, sym, ap, ◌∙◌, arith, le_of_eq, max}
+use Rattle.std.proofs.Common.{◌≡◌, ℕ, ◌+◌, ◌^◌, ◌<◌, ◌≤◌, refl, sym, ap, ◌∙◌, arith, le_of_eq, le_trans, max, le-add_left}
 use Rattle.std.proofs.Math.Pow.{pow-lt}
 use Rattle.std.proofs.lemmas.Result.{IfOk-from_err, IfOk-weaker}
 use Rattle.p3_matrix.specs.BitOrder.{reversed_rows}
@@ -89,5 +89,5 @@ returns-in_err-prepare g c =
     record {
       values = IfOk-from_err _ _ c.from_residual.ensures.0;
       only = λ k e. omega (arith, log_same c.log2_strict_usize-log_h.result k (sym c.log2_strict_usize-log_h.ensures.power ∙ c.height.ensures.height ∙ ap height c.into_row_major_matrix-mat.ensures ∙ e), ap (λ (e : EngineState). e.prepared) c.in_err-prepare.ensures.refused);
-      engine = after_error _ _ _ _ c.from_residual.ensures.0 (only_preparing _ _ _ (le_of_eq (ap (λ (e : EngineState). e.prepared) (sym c.in_err-prepare.ensures.refused))) c.prepare.ensures.products) c.prepare.ensures.products (room_of c.from_residual.result _ _ _ c.from_residual.ensures (omega (arith, extended_table_fits _ c.requires.fits (sym (ap height c.into_row_major_matrix-mat.ensures) ∙ sym c.height.ensures.height ∙ c.log2_strict_usize-log_h.ensures.power))) c.in_err-prepare.ensures.room);
+      engine = after_error _ _ _ _ c.from_residual.ensures.0 (only_preparing _ _ _ (le_of_eq (ap (λ (e : EngineState). e.prepared) (sym c.in_err-prepare.ensures.refused))) c.prepare.ensures.products) c.prepare.ensures.products (room_of c.from_residual.result _ _ _ c.from_residual.ensures (le_trans (extended_table_fits _ c.requires.fits (sym (ap height c.into_row_major_matrix-mat.ensures) ∙ sym c.height.ensures.height ∙ c.log2_strict_usize-log_h.ensures.power)) (le-add_left _ _)) c.in_err-prepare.ensures.room);
     }

@@ -1,4 +1,4 @@
-use Rattle.std.proofs.Common.{◌≡◌, ℕ, ◌+◌, ◌*◌, ◌/◌, ◌<◌, ◌^◌, sym, ap, ap₂, ◌∙◌, subst, arith, le_refl, lt_of_lt_of_le}
+use Rattle.std.proofs.Common.{◌≡◌, ℕ, ◌+◌, ◌*◌, ◌/◌, ◌<◌, ◌^◌, sym, ap, ap₂, ◌∙◌, subst, arith, le_refl, le_trans, lt_of_lt_of_le, le-add_left}
 use Rattle.std.proofs.lemmas.Result.{IfOk-weaker}
 use Rattle.p3_matrix.specs.Cosets.{IsValues, values_of}
 use Rattle.p3_matrix.specs.RowMajor.{RowMajor, height}
@@ -7,9 +7,9 @@ use Rattle.p3_matrix.proofs.Rooms.{if_within_more, room_of}
 use Rattle.p3_matrix.proofs.TwoPowers.{log_same}
 use Rattle.p3_dft.specs.Engines.{EngineState}
 use Rattle.p3_dft.proofs.BitReversed.Coefficients.{extension_of_reversed}
-use Rattle.p3_dft.proofs.Calls.Counts.{larger_bound, points_within}
+use Rattle.p3_dft.proofs.Calls.Counts.{bound_as, larger_bound, points_within}
 use Rattle.p3_dft.proofs.Calls.EngineSteps.{after_error, extended_after}
-use Rattle.p3_dft.proofs.Calls.PreparedHeights.{later_with_heights, made_none_above, none_above}
+use Rattle.p3_dft.proofs.Calls.PreparedHeights.{later_with_heights, made_both, made_none_above, none_above}
 use Rattle.p3_dft.proofs.Calls.Shapes.{both_logs_fit, extended_table_fits, same_extended}
 use Rattle.p3_dft.proofs.Calls.Stored.{whole_still}
 use Rattle.p3_dft.proofs.radix_2_small_batch.Radix2DFTSmallBatchTwoAdicSubgroupDft.coset_lde_batch_of_coefficients.Goals as goal
@@ -18,9 +18,7 @@ pub overflow_add-log_h : goal.overflow_add-log_h
 overflow_add-log_h g c = omega (arith, (both_logs_fit _ _ c.requires.fits c.log2_strict_usize-log_h.ensures.power (c.height.ensures.height ∙ ap height c.into_row_major_matrix-mat.ensures)).3)
 
 pub make-requires : goal.make-requires
-make-requires g c =
-    let (within, small, all_within, all_small) = both_logs_fit _ _ c.requires.fits c.log2_strict_usize-log_h.ensures.power (c.height.ensures.height ∙ ap height c.into_row_major_matrix-mat.ensures) in
-    record { within = all_within; fits_u64 = all_small }
+make-requires g c = let fit = both_logs_fit _ _ c.requires.fits c.log2_strict_usize-log_h.ensures.power (c.height.ensures.height ∙ ap height c.into_row_major_matrix-mat.ensures) in record { within = fit.2; fits_u64 = fit.3 }
 
 pub extend_to_natural-requires-clause-fits_u64 : goal.extend_to_natural-requires-clause-fits_u64
 extend_to_natural-requires-clause-fits_u64 g c = (both_logs_fit _ _ c.requires.fits c.log2_strict_usize-log_h.ensures.power (c.height.ensures.height ∙ ap height c.into_row_major_matrix-mat.ensures)).3
@@ -72,7 +70,7 @@ returns-then-added_bits-eq0-clause-engine g c =
 
 pub returns-in_err-make-clause-engine : goal.returns-in_err-make-clause-engine
 returns-in_err-make-clause-engine g c = after_error _ _ _ _ c.from_residual.ensures.0 (later_with_heights _ _ _ c.args.self.now _ _ _ _ c.self.view_is c.make.ensures.keeps (le_refl c.self.inside.products)) (ap (λ e. e.products) c.self.view_is)
-    (room_of c.from_residual.result _ _ _ c.from_residual.ensures (omega (arith, extended_table_fits _ c.requires.fits (sym (ap height c.into_row_major_matrix-mat.ensures) ∙ sym c.height.ensures.height ∙ c.log2_strict_usize-log_h.ensures.power))) c.in_err-make.ensures.room)
+    (room_of c.from_residual.result _ _ _ c.from_residual.ensures (le_trans (extended_table_fits _ c.requires.fits (sym (ap height c.into_row_major_matrix-mat.ensures) ∙ sym c.height.ensures.height ∙ c.log2_strict_usize-log_h.ensures.power)) (le-add_left _ _)) c.in_err-make.ensures.room)
 
 pub returns-clause-values : goal.returns-clause-values
 returns-clause-values g c =
@@ -96,12 +94,12 @@ returns-clause-fewer g c k high =
     let same : log ≡ k = log_same log k (sym c.log2_strict_usize-log_h.ensures.power ∙ c.height.ensures.height ∙ ap height c.into_row_major_matrix-mat.ensures ∙ high) in
     let wide = c.reverse_rows.ensures.shape.1 ∙ ap (λ (n : RowMajor g.row.F.Denot). n.width) c.into_row_major_matrix-mat.ensures in
     let bound = ap₂ (λ (w n : ℕ). w * (2 ^ a * (n * 2 ^ n / 2) + 2 ^ (n + a))) wide same in
-    omega (arith, c.extend_to_natural.ensures.cost, bound, ap (λ e. e.products) c.self.view_is)
+    bound_as _ _ _ _ _ (ap (λ e. e.products) c.self.view_is) bound c.extend_to_natural.ensures.cost
 
 pub returns-clause-engine : goal.returns-clause-engine
 returns-clause-engine g c = record {
   later = later_with_heights _ _ _ c.args.self.now _ _ _ _ c.self.view_is c.make.ensures.keeps c.extend_to_natural.ensures.grows;
-  prepared = λ done k high. let same = log_same c.log2_strict_usize-log_h.result k (sym c.log2_strict_usize-log_h.ensures.power ∙ c.height.ensures.height ∙ ap height c.into_row_major_matrix-mat.ensures ∙ high) in omega (arith, same, c.in_ok-make.ensures.made);
+  prepared = λ done k high. let same = log_same c.log2_strict_usize-log_h.result k (sym c.log2_strict_usize-log_h.ensures.power ∙ c.height.ensures.height ∙ ap height c.into_row_major_matrix-mat.ensures ∙ high) in (made_both _ _ _ _ same c.in_ok-make.ensures.made).1;
   cost = λ k high. larger_bound _ _ _ _ (returns-clause-fewer g c k high) (points_within k c.args.added_bits _);
-  refused = let shape = c.reverse_rows.ensures.shape in if_within_more c.extend_to_natural.result _ _ (omega (arith, same_extended c.args.added_bits (shape.0 ∙ ap height c.into_row_major_matrix-mat.ensures) (shape.1 ∙ ap (λ (m : RowMajor g.row.F.Denot). m.width) c.into_row_major_matrix-mat.ensures))) c.extend_to_natural.ensures.room;
+  refused = let shape = c.reverse_rows.ensures.shape in if_within_more c.extend_to_natural.result _ _ (le_trans (same_extended c.args.added_bits (shape.0 ∙ ap height c.into_row_major_matrix-mat.ensures) (shape.1 ∙ ap (λ (m : RowMajor g.row.F.Denot). m.width) c.into_row_major_matrix-mat.ensures)) (le-add_left _ _)) c.extend_to_natural.ensures.room;
 }

@@ -1,13 +1,13 @@
-use Rattle.std.proofs.Common.{◌≡◌, ℕ, ◌+◌, ◌*◌, ◌/◌, ◌^◌, refl, sym, ap, ap₂, ◌∙◌, arith, le_refl}
+use Rattle.std.proofs.Common.{◌≡◌, ℕ, ◌+◌, ◌*◌, ◌/◌, ◌^◌, refl, sym, ap, ap₂, ◌∙◌, arith, le_refl, le_trans, le-add_left}
 use Rattle.p3_matrix.specs.RowMajor.{RowMajor, IsRowMajor, height}
 use Rattle.p3_matrix.specs.Cosets.{values_of}
 use Rattle.p3_matrix.proofs.Rooms.{room_of}
 use Rattle.p3_matrix.proofs.Rows.Padding.{padded_shape, padded_whole}
 use Rattle.p3_matrix.proofs.TwoPowers.{log_same}
 use Rattle.p3_dft.proofs.BitReversed.Rows.{values_seen}
-use Rattle.p3_dft.proofs.Calls.Counts.{larger_bound, slots_within}
+use Rattle.p3_dft.proofs.Calls.Counts.{bound_as, larger_bound, slots_within}
 use Rattle.p3_dft.proofs.Calls.EngineSteps.{after_error}
-use Rattle.p3_dft.proofs.Calls.PreparedHeights.{later_with_heights, made_none_above}
+use Rattle.p3_dft.proofs.Calls.PreparedHeights.{later_with_heights, made_both, made_none_above}
 use Rattle.p3_dft.proofs.Calls.Shapes.{both_logs_fit, extended_table_fits, output_log_small, output_size}
 use Rattle.p3_dft.proofs.Calls.Stored.{whole_still}
 use Rattle.p3_dft.proofs.radix_2_small_batch.Radix2DFTSmallBatchTwoAdicSubgroupDft.coset_lde_batch_of_coefficients_bit_reversed.Goals as goal
@@ -16,9 +16,7 @@ pub overflow_add-log_h : goal.overflow_add-log_h
 overflow_add-log_h g c = omega (arith, (both_logs_fit _ _ c.requires.fits c.log2_strict_usize-log_h.ensures.power (c.height.ensures.height ∙ ap height c.into_row_major_matrix-mat.ensures)).3)
 
 pub make-requires : goal.make-requires
-make-requires g c =
-    let (within, small, all_within, all_small) = both_logs_fit _ _ c.requires.fits c.log2_strict_usize-log_h.ensures.power (c.height.ensures.height ∙ ap height c.into_row_major_matrix-mat.ensures) in
-    record { within = all_within; fits_u64 = all_small }
+make-requires g c = let fit = both_logs_fit _ _ c.requires.fits c.log2_strict_usize-log_h.ensures.power (c.height.ensures.height ∙ ap height c.into_row_major_matrix-mat.ensures) in record { within = fit.2; fits_u64 = fit.3 }
 
 pub pad_rows-requires-clause-bits : goal.pad_rows-requires-clause-bits
 pad_rows-requires-clause-bits g c = let small = output_log_small _ _ _ _ c.requires.fits in omega (arith, small)
@@ -82,18 +80,18 @@ returns-clause-engine g c =
     let grown = padded_shape g.F.Field.ZERO m m c.in_ok-grown.grown a log c.pad_rows.ensures.whole (refl, refl) high c.in_ok-grown.ensures.padded in
     record {
       later = later_with_heights _ _ _ c.args.self.now _ _ _ _ c.self.view_is c.make.ensures.keeps c.extend_to_reversed.ensures.grows;
-      prepared = λ done k e. let same = log_same log k (sym high ∙ ap height c.into_row_major_matrix-mat.ensures ∙ e) in omega (arith, same, c.in_ok-make.ensures.made);
+      prepared = λ done k e. let same = log_same log k (sym high ∙ ap height c.into_row_major_matrix-mat.ensures ∙ e) in (made_both _ _ _ _ same c.in_ok-make.ensures.made).1;
       cost = λ k e.
           let same = log_same log k (sym high ∙ ap height c.into_row_major_matrix-mat.ensures ∙ e) in
           let wide = grown.1 ∙ ap (λ (n : RowMajor g.row.F.Denot). n.width) c.into_row_major_matrix-mat.ensures in
           let bound = ap₂ (λ (w n : ℕ). 2 ^ a * (w * (n * 2 ^ n / 2) + 2 ^ n * w)) wide same in
-          larger_bound _ _ _ _ (omega (arith, c.extend_to_reversed.ensures.cost, bound, ap (λ e. e.products) c.self.view_is)) (slots_within k a _);
+          larger_bound _ _ _ _ (bound_as _ _ _ _ _ (ap (λ e. e.products) c.self.view_is) bound c.extend_to_reversed.ensures.cost) (slots_within k a _);
       refused = tt;
     }
 
 pub returns-in_err-make-clause-engine : goal.returns-in_err-make-clause-engine
 returns-in_err-make-clause-engine g c = after_error _ _ _ _ c.from_residual.ensures.0 (later_with_heights _ _ _ c.args.self.now _ _ _ _ c.self.view_is c.make.ensures.keeps (le_refl c.self.inside.products)) (ap (λ e. e.products) c.self.view_is)
-    (room_of c.from_residual.result _ _ _ c.from_residual.ensures (omega (arith, extended_table_fits _ c.requires.fits (sym (ap height c.into_row_major_matrix-mat.ensures) ∙ sym c.height.ensures.height ∙ c.log2_strict_usize-log_h.ensures.power))) c.in_err-make.ensures.room)
+    (room_of c.from_residual.result _ _ _ c.from_residual.ensures (le_trans (extended_table_fits _ c.requires.fits (sym (ap height c.into_row_major_matrix-mat.ensures) ∙ sym c.height.ensures.height ∙ c.log2_strict_usize-log_h.ensures.power)) (le-add_left _ _)) c.in_err-make.ensures.room)
 
 pub returns-in_err-grown-clause-only : goal.returns-in_err-grown-clause-only
 returns-in_err-grown-clause-only g c k high = made_none_above k _ _ _ _ _ (log_same c.log2_strict_usize-log_h.result k (sym c.log2_strict_usize-log_h.ensures.power ∙ c.height.ensures.height ∙ ap height c.into_row_major_matrix-mat.ensures ∙ high)) (ap (λ e. e.prepared) c.self.view_is) c.make.ensures.only

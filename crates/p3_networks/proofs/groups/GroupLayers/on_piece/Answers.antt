@@ -1,4 +1,4 @@
-use Rattle.std.proofs.Common.{◌≡◌, ℕ, ◌+◌, ◌*◌, ◌-◌, ◌^◌, ◌≤◌, length, sym, ap, ◌∙◌, subst, arith}
+use Rattle.std.proofs.Common.{◌≡◌, ℕ, ◌+◌, ◌*◌, ◌-◌, ◌^◌, ◌≤◌, length, sym, ap, ◌∙◌, subst, arith, Fits-le, le_trans, le_refl, le-add_right}
 use Rattle.p3_networks.specs.Groups.{TakesColumns, cells_of}
 use Rattle.p3_networks.specs.Layers.{IsLayer}
 use Rattle.p3_networks.proofs.Layers.Groups.{block_there, columns_next, columns_none, layer_in_order, part_sizes, piece_layer_counted, piece_sizes}
@@ -12,14 +12,13 @@ overflow_shl-part g c = (part_sizes c.args.self.now.from c.args.self.now.to c.ar
 
 pub overflow_mul-part : goal.overflow_mul-part
 overflow_mul-part g c =
-    let sizes = part_sizes c.args.self.now.from c.args.self.now.to c.args.number c.args.self.now.width c.requires.order c.requires.fits_u64 in
-    omega (arith, sizes.part_is, sizes.within, c.requires.size)
+    Fits-le ((part_sizes c.args.self.now.from c.args.self.now.to c.args.number c.args.self.now.width c.requires.order c.requires.fits_u64).within _ c.requires.size).1 search
 
 pub loop-done-init : goal.loop-done-init
 loop-done-init g c = record {
   cells = λ k cells layers room holds. columns_none _ _ _ _ _ _ _ _ _ holds;
-  grows = omega arith;
-  cost = omega arith;
+  grows = le_refl c.args.products.now;
+  cost = le-add_right _ _;
 }
 
 pub overflow_shl-half : goal.overflow_shl-half
@@ -83,7 +82,7 @@ loop-done-preserved g c =
           c.args.chunk.now c.loop-done.chunk c.layer_of_columns.new.values sizes.part_is sizes.rows first
           (c.layer_of_columns.ensures.cells (2 ^ (k - 1 - e)) before after layer all)
           (c.loop-done.invariant.cells k cells layers room holds);
-      grows = omega (arith, c.layer_of_columns.ensures.grows, c.loop-done.invariant.grows);
+      grows = le_trans c.loop-done.invariant.grows c.layer_of_columns.ensures.grows;
       cost = piece_layer_counted rule.cost done rows blocks half (c.args.end - c.args.at) c.args.products.now c.loop-done.products c.layer_of_columns.new.products sizes.rows c.loop-done.invariant.cost c.layer_of_columns.ensures.cost;
     }
 

@@ -1,42 +1,35 @@
 use Rattle.std.specs.Prelude.{IsPermutation}
-use Rattle.std.proofs.Common.{◌≡◌, ℕ, ◌+◌, ◌*◌, ◌-◌, ◌/◌, ◌++◌, ◌<◌, ◌≤◌, ◌^◌, length, get_or, refl, sym, ap, ◌∙◌, subst, arith, rules, inl, inr}
+use Rattle.std.proofs.Common.{ℕ, ◌+◌, ◌*◌, ◌-◌, ◌/◌, ◌++◌, ◌<◌, ◌≤◌, ◌^◌, length, get_or, refl, sym, ap, ◌∙◌, subst, arith, inl, inr, Fits-le, le-add_right, le_of_eq, le_of_lt, le_refl, le_trans, lt_of_le_of_lt, zero-mul}
 use borrow.Author.Rules.{scaled_fits≤}
-use Rattle.std.proofs.Math.Nat.{mul-le-mul_right, le_trans}
 use Rattle.std.proofs.lemmas.List.Sorted.{IsPermutation-append_comm}
 use Rattle.std.proofs.lemmas.Result.{MatchResult-weaker}
 use Rattle.std.proofs.lemmas.Nat.{pow_pos}
-use Rattle.p3_matrix.specs.BitOrder.{rev}
+use Rattle.p3_matrix.specs.BitOrder.{rev, mid_of}
 use Rattle.p3_matrix.specs.Blocks.{Run}
 use Rattle.p3_matrix.proofs.BitReversal.{rev-lt}
 use Rattle.p3_networks.specs.Slots.{extended_rows, slot_blocks}
-use Rattle.p3_networks.proofs.Layers.Blocks.{row_below}
-use Rattle.p3_networks.proofs.Layers.Counts.{count_more}
+use Rattle.p3_networks.proofs.Layers.Counts.{count_none, one_more, ones_all}
 use Rattle.p3_networks.proofs.Layers.Halves.{part_length}
 use Rattle.p3_networks.proofs.Layers.Sizes.{second_shift}
-use Rattle.p3_networks.proofs.Networks.Slots.{more_slots, rows_of_slots, slot_inside, slot_size, slot_within, slots_whole}
+use Rattle.p3_networks.proofs.Networks.Slots.{more_slots, rows_of_slots, slot_begins, slot_inside, slot_size, slot_within, slots_whole}
 use Rattle.p3_networks.proofs.Rows.Lent.{run_joined}
 use Rattle.p3_matrix.proofs.Rows.Overwritten.{part-more, rows-none}
 use Rattle.p3_networks.proofs.Tables.CosetTables.{coset_read}
 use Rattle.p3_networks.proofs.Tables.RootPowers.{fewer_roots}
-use Rattle.p3_networks.proofs.Networks.SlotPlaces.{first_ends, blocks_whole, slot_starts, slot_entry, last_slot, others_room, slot_ends, blocks_more, blocks_all, refused_in_slot}
-use Rattle.p3_networks.proofs.Layers.Shifts.{one_shifted}
-use Rattle.p3_networks.specs.Twiddles.{mid_of}
+use Rattle.p3_networks.proofs.Networks.SlotPlaces.{first_ends, blocks_whole, slot_starts, slot_rows, zero_slot, earlier_rows, last_slot, is_last, before_last, others_room, slot_ends, blocks_more, blocks_all, refused_in_slot}
 use Rattle.p3_networks.proofs.radix_2_dit_parallel.published_slots.extend_slots.Goals as goal
 
 pub place_of_slot-found-requires-clause-in_table : goal.place_of_slot-found-requires-clause-in_table
 place_of_slot-found-requires-clause-in_table g c = c.requires.tables (rev c.args.added_bits (c.loop-place.place + 1)) (rev-lt c.args.added_bits (c.loop-place.place + 1))
 
 pub overflow_mul-start : goal.overflow_mul-start
-overflow_mul-start g c = omega (arith, slot_within (length c.args.values.now) c.args.log_h c.args.added_bits c.args.width c.loop-place.place c.requires.fits_u64 c.requires.size c.loop-place-test.true)
+overflow_mul-start g c = Fits-le (slot_begins (length c.args.values.now) c.args.log_h c.args.added_bits c.args.width c.loop-place.place c.requires.fits_u64 c.requires.size c.loop-place-test.true) search
 
 pub overflow_add-slot : goal.overflow_add-slot
-overflow_add-slot g c = omega (arith, slot_within (length c.args.values.now) c.args.log_h c.args.added_bits c.args.width c.loop-place.place c.requires.fits_u64 c.requires.size c.loop-place-test.true)
+overflow_add-slot g c = Fits-le (slot_within (length c.args.values.now) c.args.log_h c.args.added_bits c.args.width c.loop-place.place c.requires.fits_u64 c.requires.size c.loop-place-test.true) search
 
 pub offset_bounds-others-start : goal.offset_bounds-others-start
-offset_bounds-others-start g c =
-    let below : c.loop-place.place * (length c.args.values.now / (one_shifted c.args.added_bits)) ≤ length c.args.values.now =
-    omega (arith, slot_within (length c.args.values.now) c.args.log_h c.args.added_bits c.args.width c.loop-place.place c.requires.fits_u64 c.requires.size c.loop-place-test.true) in
-    scaled_fits≤ _ _ _ below (search rules)
+offset_bounds-others-start g c = scaled_fits≤ _ _ _ (slot_begins (length c.args.values.now) c.args.log_h c.args.added_bits c.args.width c.loop-place.place c.requires.fits_u64 c.requires.size c.loop-place-test.true) search
 
 pub slice_bounds-slot-end : goal.slice_bounds-slot-end
 slice_bounds-slot-end g c = slot_inside (length c.args.values.now) c.args.log_h c.args.added_bits c.args.width c.loop-place.place c.requires.fits_u64 c.requires.size c.loop-place-test.true _ _ c.split_at_mut-coefficients.ensures.back_len c.loop-place.auto.others
@@ -65,10 +58,9 @@ pub loop-place-init : goal.loop-place-init
 loop-place-init g c =
     record {
       slots = rows-none g.F.Field.ZERO _ _ _;
-      told = let none : 0 ≡ 0 * 2 ^ mid_of c.args.log_h = omega arith in
-          subst (λ (n : ℕ). Run g.C.BlockConsumer.step c.args.consumer.now (slot_blocks (2 ^ c.args.log_h) (2 ^ (c.args.log_h - mid_of c.args.log_h)) c.args.width c.split_at_mut-coefficients.result.1.now n) c.args.consumer.now) none refl;
-      grows = omega arith;
-      cost = omega arith;
+      told = subst (λ (n : ℕ). Run g.C.BlockConsumer.step c.args.consumer.now (slot_blocks (2 ^ c.args.log_h) (2 ^ (c.args.log_h - mid_of c.args.log_h)) c.args.width c.split_at_mut-coefficients.result.1.now n) c.args.consumer.now) (sym (zero-mul (2 ^ mid_of c.args.log_h))) refl;
+      grows = le_refl c.args.products.now;
+      cost = count_none 1 (c.args.width * (c.args.log_h * 2 ^ c.args.log_h / 2)) c.args.products.now;
     }
 
 pub loop-place-preserved : goal.loop-place-preserved
@@ -87,29 +79,24 @@ loop-place-preserved g c =
       slots =
           part-more field.ZERO (2 ^ k * w) _ _ c.loop-place.others c.evaluate_reversed.new.values place _ is fits (size ∙ is)
           (λ u inside t j p q at.
-          ap (λ n. field.value (get_or c.evaluate_reversed.new.values n field.ZERO)) at ∙ c.in_default.ensures.lent.0 t j (omega (arith, p, blocks_whole k)) q
-          ∙ slot_entry field g.F.TwoAdicField.generator k a w (rev k) (field.value c.args.shift) c.args.values.now c.split_at_mut-coefficients.result.0.now c.split_at_mut-coefficients.result.1.now c.split_at_mut-coefficients.ensures.value
-          (c.split_at_mut-coefficients.ensures.front_len ∙ is) (λ u l. rev-lt k u) roots _ (place + 1) t j (coset_read field c.args.cosets.now k _ _ _ c.get-table.ensures c.place_of_slot-found.ensures).1 p q)
+          ap (λ n. field.value (get_or c.evaluate_reversed.new.values n field.ZERO)) at
+          ∙ slot_rows field g.F.TwoAdicField.generator k a w (rev k) (field.value c.args.shift) c.args.values.now c.split_at_mut-coefficients.result.0.now c.split_at_mut-coefficients.result.1.now c.evaluate_reversed.new.values c.split_at_mut-coefficients.ensures.value
+          (c.split_at_mut-coefficients.ensures.front_len ∙ is) (λ u l. rev-lt k u) roots _ (place + 1) _ (coset_read field c.args.cosets.now k _ _ _ c.get-table.ensures c.place_of_slot-found.ensures).1 c.in_default.ensures.lent.0 _ t j refl (subst (λ n. t < n) (sym (blocks_whole k)) p) p q)
           c.loop-place.invariant.slots;
       told =
           subst (λ blocks. Run g.C.BlockConsumer.step c.args.consumer.now blocks c.evaluate_reversed.new.consumer)
           (blocks_more place _ _ k w (2 ^ (k - mid_of k)) (2 ^ mid_of k) c.loop-place.others c.evaluate_reversed.new.values (blocks_whole k) is fits size
           (slot_starts place k a (more_slots len k a w place c.requires.fits_u64 c.requires.size c.loop-place-test.true) c.requires.fits_u64))
           (run_joined g.C.BlockConsumer.step _ _ c.args.consumer.now c.loop-place.consumer c.evaluate_reversed.new.consumer c.loop-place.invariant.told c.in_default.ensures.lent.1);
-      grows = omega (arith, c.loop-place.invariant.grows, c.evaluate_reversed.ensures.cost.grows);
-      cost = count_more 1 place (w * (k * 2 ^ k / 2)) _ _ _ c.loop-place.invariant.cost (omega (arith, c.evaluate_reversed.ensures.cost.cost));
+      grows = le_trans c.loop-place.invariant.grows c.evaluate_reversed.ensures.cost.grows;
+      cost = one_more place (w * (k * 2 ^ k / 2)) _ _ _ c.loop-place.invariant.cost c.evaluate_reversed.ensures.cost.cost;
     }
 
 pub returns-in-Err-clause-cost : goal.returns-in-Err-clause-cost
 returns-in-Err-clause-cost g c =
-    let k = c.args.log_h in
-    let a = c.args.added_bits in
-    let turn = c.args.width * (k * 2 ^ k / 2) in
-    let below : c.loop-place.place + 1 < 2 ^ a = omega (arith, second_shift k a c.requires.fits_u64, c.loop-place-test.true) in
-    let rise : (c.loop-place.place + 1) * turn ≤ 2 ^ a * turn = mul-le-mul_right turn (let l : c.loop-place.place + 1 ≤ 2 ^ a = omega (arith, below) in l) in
-    let once : c.evaluate_reversed.new.products ≤ c.loop-place.products + 1 * turn = omega (arith, c.evaluate_reversed.ensures.cost.cost) in
-    let so_far = count_more 1 c.loop-place.place turn c.args.products.now c.loop-place.products c.evaluate_reversed.new.products c.loop-place.invariant.cost once in
-    omega (arith, rise, so_far)
+    let turn = c.args.width * (c.args.log_h * 2 ^ c.args.log_h / 2) in
+    ones_all (c.loop-place.place + 1) _ turn _ _ (le_of_lt (more_slots (length c.args.values.now) c.args.log_h c.args.added_bits c.args.width c.loop-place.place c.requires.fits_u64 c.requires.size c.loop-place-test.true))
+    (one_more c.loop-place.place turn _ _ _ c.loop-place.invariant.cost c.evaluate_reversed.ensures.cost.cost)
 
 pub returns-in-Err-clause-refused : goal.returns-in-Err-clause-refused
 returns-in-Err-clause-refused g c =
@@ -122,16 +109,16 @@ returns-in-Err-clause-refused g c =
     let is = slot_size len k a w c.requires.fits_u64 c.requires.size in
     let below = more_slots len k a w place c.requires.fits_u64 c.requires.size c.loop-place-test.true in
     let fits = slot_inside len k a w place c.requires.fits_u64 c.requires.size c.loop-place-test.true _ _ c.split_at_mut-coefficients.ensures.back_len c.loop-place.auto.others in
+    let extended = extended_rows field g.F.TwoAdicField.generator k a w (field.value c.args.shift) c.args.values.now in
     let roots = fewer_roots field.ring (k + a) _ c.requires.within g.met.F.TwoAdicField.roots_law in
-    let (m, within, done, stopped) = c.in-Err.ensures.lent in
-    refused_in_slot field.value field.ZERO k a w (2 ^ (k - mid_of k)) (2 ^ mid_of k) c.requires.width (pow_pos (k - mid_of k)) (blocks_whole k) (extended_rows field g.F.TwoAdicField.generator k a w (field.value c.args.shift) c.args.values.now) refl refl
+    let m = c.in-Err.ensures.lent.0 in let within = c.in-Err.ensures.lent.1 in let done = c.in-Err.ensures.lent.2 in let stopped = c.in-Err.ensures.lent.3 in
+    refused_in_slot field.value field.ZERO k a w (2 ^ (k - mid_of k)) (2 ^ mid_of k) c.requires.width (pow_pos (k - mid_of k)) (blocks_whole k) extended refl refl
     g.C.BlockConsumer.step place (place + 1) _ m c.loop-place.others c.evaluate_reversed.new.values c.in-Err.refusal c.args.consumer.now c.loop-place.consumer c.evaluate_reversed.new.consumer
-    (slot_starts place k a below c.requires.fits_u64) (omega (arith, below)) below (inr refl) (rw (sym is) (omega (arith, fits)))
+    (slot_starts place k a below c.requires.fits_u64) (lt_of_le_of_lt (le-add_right place 1) below) below (inr refl) (subst (λ n. place * n ≤ length c.loop-place.others) is (le_trans (le-add_right _ _) fits))
     (c.evaluate_reversed.auto.values ∙ part_length c.loop-place.others _ _ fits ∙ is) within
-    (λ p t j less small inside. c.loop-place.invariant.slots.done p (t * w + j) less (row_below t j w (2 ^ k) small inside) t j small inside refl)
-    (λ t j less small inside. done t j less inside
-    ∙ slot_entry field g.F.TwoAdicField.generator k a w (rev k) (field.value c.args.shift) c.args.values.now c.split_at_mut-coefficients.result.0.now c.split_at_mut-coefficients.result.1.now c.split_at_mut-coefficients.ensures.value
-    (c.split_at_mut-coefficients.ensures.front_len ∙ is) (λ u l. rev-lt k u) roots _ (place + 1) t j (coset_read field c.args.cosets.now k _ _ _ c.get-table.ensures c.place_of_slot-found.ensures).1 small inside)
+    (earlier_rows field.value field.ZERO k w place extended.entry _ c.loop-place.others c.loop-place.invariant.slots)
+    (λ t j. slot_rows field g.F.TwoAdicField.generator k a w (rev k) (field.value c.args.shift) c.args.values.now c.split_at_mut-coefficients.result.0.now c.split_at_mut-coefficients.result.1.now c.evaluate_reversed.new.values c.split_at_mut-coefficients.ensures.value
+    (c.split_at_mut-coefficients.ensures.front_len ∙ is) (λ u l. rev-lt k u) roots _ (place + 1) _ (coset_read field c.args.cosets.now k _ _ _ c.get-table.ensures c.place_of_slot-found.ensures).1 done _ t j refl)
     c.loop-place.invariant.told stopped
 
 pub place_of_slot-found-requires-2-clause-in_table : goal.place_of_slot-found-requires-2-clause-in_table
@@ -155,18 +142,14 @@ returns-clause-values g c =
     let w = c.args.width in
     let extended = extended_rows field g.F.TwoAdicField.generator k a w (field.value c.args.shift) c.args.values.now in
     let size = c.split_at_mut-coefficients.ensures.front_len ∙ slot_size (length c.args.values.now) k a w c.requires.fits_u64 c.requires.size in
+    let all = last_slot c.loop-place.place a _ (second_shift k a c.requires.fits_u64) c.loop-place-test.false c.loop-place.auto.place-end in
     let roots = fewer_roots field.ring (k + a) _ c.requires.within g.met.F.TwoAdicField.roots_law in
     MatchResult-weaker c.evaluate_reversed-2.result c.evaluate_reversed-2.ensures.lent
     (λ _ given.
     rows_of_slots field.value field.ZERO k a w c.evaluate_reversed-2.new.values c.loop-place.others extended.entry (c.evaluate_reversed-2.auto.values ∙ size)
-    (λ t j p inside.
-    let whole : 0 * 2 ^ k + t ≡ t = omega arith in
-    given.0 t j (omega (arith, p, blocks_whole k)) inside
-    ∙ slot_entry field g.F.TwoAdicField.generator k a w (rev k) (field.value c.args.shift) c.args.values.now c.split_at_mut-coefficients.result.0.now c.split_at_mut-coefficients.result.1.now c.split_at_mut-coefficients.ensures.value
-    size (λ u l. rev-lt k u) roots _ 0 t j (coset_read field c.args.cosets.now k _ _ _ c.get-table-2.ensures c.place_of_slot-found-2.ensures).1 p inside
-    ∙ ap (λ n. extended.entry n j) whole)
-    (λ p t j below q inside.
-    c.loop-place.invariant.slots.done p (t * w + j) (omega (arith, below, second_shift k a c.requires.fits_u64, c.loop-place-test.false)) (row_below t j w (2 ^ k) q inside) t j q inside refl))
+    (λ t j p. slot_rows field g.F.TwoAdicField.generator k a w (rev k) (field.value c.args.shift) c.args.values.now c.split_at_mut-coefficients.result.0.now c.split_at_mut-coefficients.result.1.now c.evaluate_reversed-2.new.values c.split_at_mut-coefficients.ensures.value
+    size (λ u l. rev-lt k u) roots _ 0 _ (coset_read field c.args.cosets.now k _ _ _ c.get-table-2.ensures c.place_of_slot-found-2.ensures).1 given.0 t t j (zero_slot k t) (subst (λ n. t < n) (sym (blocks_whole k)) p) p)
+    (λ p t j below. earlier_rows field.value field.ZERO k w c.loop-place.place extended.entry _ c.loop-place.others c.loop-place.invariant.slots p t j (before_last p c.loop-place.place _ all below)))
     (λ _ _. tt)
 
 pub returns-clause-published : goal.returns-clause-published
@@ -202,30 +185,26 @@ returns-clause-refused g c =
     let is = slot_size len k a w c.requires.fits_u64 c.requires.size in
     let all = last_slot place a _ (second_shift k a c.requires.fits_u64) c.loop-place-test.false c.loop-place.auto.place-end in
     let room = others_room place a (2 ^ k * w) len _ _ (length c.loop-place.others) all (c.requires.size ∙ slots_whole k a w) is c.split_at_mut-coefficients.ensures.back_len c.loop-place.auto.others in
+    let extended = extended_rows field g.F.TwoAdicField.generator k a w (field.value c.args.shift) c.args.values.now in
     let roots = fewer_roots field.ring (k + a) _ c.requires.within g.met.F.TwoAdicField.roots_law in
     MatchResult-weaker c.evaluate_reversed-2.result c.evaluate_reversed-2.ensures.lent
     (λ _ _. tt)
     (λ refusal given.
-    let (m, within, done, stopped) = given in
-    refused_in_slot field.value field.ZERO k a w (2 ^ (k - mid_of k)) (2 ^ mid_of k) c.requires.width (pow_pos (k - mid_of k)) (blocks_whole k) (extended_rows field g.F.TwoAdicField.generator k a w (field.value c.args.shift) c.args.values.now) refl refl
+    let m = given.0 in let within = given.1 in let done = given.2 in let stopped = given.3 in
+    refused_in_slot field.value field.ZERO k a w (2 ^ (k - mid_of k)) (2 ^ mid_of k) c.requires.width (pow_pos (k - mid_of k)) (blocks_whole k) extended refl refl
     g.C.BlockConsumer.step place 0 0 m c.loop-place.others c.evaluate_reversed-2.new.values refusal c.args.consumer.now c.loop-place.consumer c.evaluate_reversed-2.new.consumer
-    (omega arith) (omega (arith, all)) (pow_pos a) (inl refl) room (c.evaluate_reversed-2.auto.values ∙ c.split_at_mut-coefficients.ensures.front_len ∙ is) within
-    (λ p t j less small inside. c.loop-place.invariant.slots.done p (t * w + j) less (row_below t j w (2 ^ k) small inside) t j small inside refl)
-    (λ t j less small inside. done t j less inside
-    ∙ slot_entry field g.F.TwoAdicField.generator k a w (rev k) (field.value c.args.shift) c.args.values.now c.split_at_mut-coefficients.result.0.now c.split_at_mut-coefficients.result.1.now c.split_at_mut-coefficients.ensures.value
-    (c.split_at_mut-coefficients.ensures.front_len ∙ is) (λ u l. rev-lt k u) roots _ 0 t j (coset_read field c.args.cosets.now k _ _ _ c.get-table-2.ensures c.place_of_slot-found-2.ensures).1 small inside)
+    (sym (zero-mul (2 ^ k))) (is_last place _ all) (pow_pos a) (inl refl) room (c.evaluate_reversed-2.auto.values ∙ c.split_at_mut-coefficients.ensures.front_len ∙ is) within
+    (earlier_rows field.value field.ZERO k w place extended.entry _ c.loop-place.others c.loop-place.invariant.slots)
+    (λ t j. slot_rows field g.F.TwoAdicField.generator k a w (rev k) (field.value c.args.shift) c.args.values.now c.split_at_mut-coefficients.result.0.now c.split_at_mut-coefficients.result.1.now c.evaluate_reversed-2.new.values c.split_at_mut-coefficients.ensures.value
+    (c.split_at_mut-coefficients.ensures.front_len ∙ is) (λ u l. rev-lt k u) roots _ 0 _ (coset_read field c.args.cosets.now k _ _ _ c.get-table-2.ensures c.place_of_slot-found-2.ensures).1 done _ t j refl)
     c.loop-place.invariant.told stopped)
 
 pub returns-clause-cost : goal.returns-clause-cost
 returns-clause-cost g c =
-    let k = c.args.log_h in
     let a = c.args.added_bits in
-    let turn = c.args.width * (k * 2 ^ k / 2) in
-    let count = second_shift k a c.requires.fits_u64 in
-    let all : c.loop-place.place + 1 ≡ 2 ^ a = omega (arith, count, pow_pos a, c.loop-place-test.false, c.loop-place.auto.place-end) in
-    let e : 1 * ((c.loop-place.place + 1) * turn) ≡ 2 ^ a * turn = ap (λ n. 1 * (n * turn)) all ∙ omega arith in
-    subst (λ (n : ℕ). c.evaluate_reversed-2.new.products ≤ c.args.products.now + n) e
-    (count_more 1 c.loop-place.place turn _ _ _ c.loop-place.invariant.cost (omega (arith, c.evaluate_reversed-2.ensures.cost.cost)))
+    let turn = c.args.width * (c.args.log_h * 2 ^ c.args.log_h / 2) in
+    ones_all (c.loop-place.place + 1) _ turn _ _ (le_of_eq (last_slot c.loop-place.place a _ (second_shift c.args.log_h a c.requires.fits_u64) c.loop-place-test.false c.loop-place.auto.place-end))
+    (one_more c.loop-place.place turn _ _ _ c.loop-place.invariant.cost c.evaluate_reversed-2.ensures.cost.cost)
 
 pub returns-in-Err-clause-grows : goal.returns-in-Err-clause-grows
 returns-in-Err-clause-grows g c = le_trans c.loop-place.invariant.grows c.evaluate_reversed.ensures.cost.grows

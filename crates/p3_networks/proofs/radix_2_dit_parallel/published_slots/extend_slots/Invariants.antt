@@ -2,7 +2,7 @@ use Rattle.std.proofs.Common.{◌≡◌, ℕ, ◌+◌, ◌-◌, ◌*◌, ◌/◌
 use Rattle.p3_matrix.specs.Blocks.{Run}
 use Rattle.p3_networks.specs.Slots.{extended_rows, slot_blocks}
 use Rattle.p3_matrix.proofs.Rows.Overwritten.{RowsDone}
-use Rattle.p3_networks.specs.Twiddles.{mid_of}
+use Rattle.p3_matrix.specs.BitOrder.{mid_of}
 use Rattle.p3_networks.proofs.radix_2_dit_parallel.published_slots.extend_slots.Given as goal
 
 -- the first of the other slots have their values, and were lent

@@ -1,8 +1,7 @@
-use Rattle.std.proofs.Common.{◌≡◌, ℕ, suc, ◌+◌, ◌*◌, ◌-◌, ◌/◌, ◌^◌, ◌<◌, ◌≤◌, List, length, get_or, refl, sym, ap, ap₂, ◌∙◌, subst, arith, rules}
+use Rattle.std.proofs.Common.{◌≡◌, ℕ, ◌+◌, ◌*◌, ◌-◌, ◌/◌, ◌^◌, ◌<◌, ◌≤◌, List, length, get_or, refl, sym, ap, ap₂, ◌∙◌, subst, arith, Fits, Fits-le, w64, le_trans, le-add_left, le-add_right, le_antisymm, le_of_eq, le_refl, add-one-le}
 use borrow.Author.Rules.{scaled_fits≤}
 use borrow.Rule.Slice.PartMut.{put_mid}
 use Rattle.std.specs.List.{between}
-use Rattle.std.proofs.Math.Nat.{mul-le-mul_right}
 use Rattle.std.proofs.lemmas.Nat.{pow-add}
 use Rattle.std.proofs.lemmas.Slice.{between-put_mid, take-put_mid_below}
 use Rattle.p3_field.specs.declared.fields.Field.{Ghosts as FieldMembers}
@@ -11,12 +10,11 @@ use Rattle.p3_matrix.specs.Blocks.{Run}
 use Rattle.p3_matrix.specs.Cosets.{point}
 use Rattle.p3_matrix.specs.RowMajor.{RowMajor}
 use Rattle.p3_matrix.proofs.Polynomials.ByIndex.{poly_same}
-use Rattle.p3_networks.specs.Counts.{RisesAtMost}
 use Rattle.p3_networks.specs.Halves.{IsHighHalf, IsHighNetwork}
 use Rattle.p3_networks.specs.Layers.{AreRows}
 use Rattle.p3_networks.specs.Slots.{slot_block, slot_blocks}
 use Rattle.p3_networks.proofs.Layers.Blocks.{row_below}
-use Rattle.p3_networks.proofs.Layers.Counts.{count_more}
+use Rattle.p3_networks.proofs.Layers.Counts.{count_none, one_more, ones_all}
 use Rattle.p3_networks.proofs.Layers.Halves.{block_room, part_length}
 use Rattle.p3_networks.proofs.Layers.Shifts.{one_shifted}
 use Rattle.p3_networks.proofs.Layers.Sizes.{first_shift, second_shift}
@@ -61,47 +59,47 @@ second_done field mid left w n size at values reversed after few size_is turned 
     field.ring.mul_one _
     ∙ ap field.value (turned (a * 2 ^ left + u) j (omega (arith, all, row_below a u (2 ^ left) (2 ^ mid) outer b)) l) ∙ ap (λ n. field.value (get_or values (n * w + j) field.ZERO)) (row_digits mid left a u b))
 
+-- what a chunk costs without a scale
+unscaled : (n cells before after : ℕ) → after ≤ before + (n + 0 * cells) → after ≤ before + n
+unscaled n cells before after most = omega (arith, most)
+
+-- the rows of a chunk have numbers
+rows_fit : (first mid left chunk : ℕ) → mid + left < 64 → first + 2 ^ (mid + left) < 2 ^ 64 → chunk < one_shifted mid → Fits w64 (first + chunk * one_shifted left)
+rows_fit first mid left chunk small numbers below =
+    let inside = blocks_within chunk mid left (subst (λ n. chunk < n) (first_shift mid left small) below) in
+    rw (second_shift mid left small) (record { fits = omega (arith, numbers, inside) })
+
 pub overflow_mul-start : goal.overflow_mul-start
-overflow_mul-start g c = omega (arith, block_room c.loop-chunk.chunk _ _ _ c.loop-chunk-test.true (chunk_sizes c.args.mid c.args.left c.args.width (length c.args.values.now) (length c.reverse_chunks.new.values) c.requires.rows c.reverse_chunks.auto.values).whole)
+overflow_mul-start g c = Fits-le (le_trans (le-add_right _ _) (le_trans (block_room c.loop-chunk.chunk _ _ _ c.loop-chunk-test.true (chunk_sizes c.args.mid c.args.left c.args.width (length c.args.values.now) (length c.reverse_chunks.new.values) c.requires.rows c.reverse_chunks.auto.values).whole) (le_of_eq c.reverse_chunks.auto.values))) search
 
 pub overflow_add-rows : goal.overflow_add-rows
-overflow_add-rows g c = omega (arith, block_room c.loop-chunk.chunk _ _ _ c.loop-chunk-test.true (chunk_sizes c.args.mid c.args.left c.args.width (length c.args.values.now) (length c.reverse_chunks.new.values) c.requires.rows c.reverse_chunks.auto.values).whole)
+overflow_add-rows g c = Fits-le (le_trans (block_room c.loop-chunk.chunk _ _ _ c.loop-chunk-test.true (chunk_sizes c.args.mid c.args.left c.args.width (length c.args.values.now) (length c.reverse_chunks.new.values) c.requires.rows c.reverse_chunks.auto.values).whole) (le_of_eq c.reverse_chunks.auto.values)) search
 
 pub offset_bounds-values-start : goal.offset_bounds-values-start
-offset_bounds-values-start g c =
-    let room = block_room c.loop-chunk.chunk _ _ _ c.loop-chunk-test.true (chunk_sizes c.args.mid c.args.left c.args.width (length c.args.values.now) (length c.reverse_chunks.new.values) c.requires.rows c.reverse_chunks.auto.values).whole in
-    let below : c.loop-chunk.chunk * (length c.reverse_chunks.new.values / (one_shifted c.args.mid)) ≤ length c.args.values.now = omega (arith, room, c.reverse_chunks.auto.values) in
-    scaled_fits≤ _ _ _ below (search rules)
+offset_bounds-values-start g c = scaled_fits≤ _ _ _ (le_trans (le-add_right _ _) (le_trans (block_room c.loop-chunk.chunk _ _ _ c.loop-chunk-test.true (chunk_sizes c.args.mid c.args.left c.args.width (length c.args.values.now) (length c.reverse_chunks.new.values) c.requires.rows c.reverse_chunks.auto.values).whole) (le_of_eq c.reverse_chunks.auto.values))) search
 
 pub slice_bounds-rows-end : goal.slice_bounds-rows-end
-slice_bounds-rows-end g c = omega (arith, block_room c.loop-chunk.chunk _ _ _ c.loop-chunk-test.true (chunk_sizes c.args.mid c.args.left c.args.width (length c.args.values.now) (length c.reverse_chunks.new.values) c.requires.rows c.reverse_chunks.auto.values).whole, c.loop-chunk.auto.values)
+slice_bounds-rows-end g c = le_trans (block_room c.loop-chunk.chunk _ _ _ c.loop-chunk-test.true (chunk_sizes c.args.mid c.args.left c.args.width (length c.args.values.now) (length c.reverse_chunks.new.values) c.requires.rows c.reverse_chunks.auto.values).whole) (le_of_eq (sym c.loop-chunk.auto.values))
 
 pub finish_chunk-requires : goal.finish_chunk-requires
-finish_chunk-requires g c =
-    let sizes = chunk_sizes c.args.mid c.args.left c.args.width (length c.args.values.now) (length c.reverse_chunks.new.values) c.requires.rows c.reverse_chunks.auto.values in
-    let room = block_room c.loop-chunk.chunk _ _ _ c.loop-chunk-test.true sizes.whole in
-    record {
-      chunk = record {
-        width = c.requires.rows.width;
-        fits_u64 = c.requires.rows.fits_u64;
-        chunk = omega (arith, first_shift c.args.mid c.args.left c.requires.rows.fits_u64, c.loop-chunk-test.true);
-        size = part_length c.loop-chunk.values _ _ (omega (arith, room, c.loop-chunk.auto.values)) ∙ sizes.size_is;
-        table = c.requires.table;
-      };
-    }
+finish_chunk-requires g c = record {
+  chunk = record {
+    width = c.requires.rows.width;
+    fits_u64 = c.requires.rows.fits_u64;
+    chunk = subst (λ (n : ℕ). c.loop-chunk.chunk < n) (first_shift c.args.mid c.args.left c.requires.rows.fits_u64) c.loop-chunk-test.true;
+    size = part_length c.loop-chunk.values _ _ (le_trans (block_room c.loop-chunk.chunk _ _ _ c.loop-chunk-test.true (chunk_sizes c.args.mid c.args.left c.args.width (length c.args.values.now) (length c.reverse_chunks.new.values) c.requires.rows c.reverse_chunks.auto.values).whole) (le_of_eq (sym c.loop-chunk.auto.values))) ∙ (chunk_sizes c.args.mid c.args.left c.args.width (length c.args.values.now) (length c.reverse_chunks.new.values) c.requires.rows c.reverse_chunks.auto.values).size_is;
+    table = c.requires.table;
+  };
+}
 
 pub overflow_mul-row : goal.overflow_mul-row
-overflow_mul-row g c =
-    let below : c.loop-chunk.chunk < 2 ^ c.args.mid = omega (arith, first_shift c.args.mid c.args.left c.requires.rows.fits_u64, c.loop-chunk-test.true) in
-    rw (second_shift c.args.mid c.args.left c.requires.rows.fits_u64) (omega (arith, blocks_within c.loop-chunk.chunk c.args.mid c.args.left below, c.requires.numbers))
+overflow_mul-row g c = Fits-le (le-add_left _ c.args.first_row) (rows_fit c.args.first_row c.args.mid c.args.left c.loop-chunk.chunk c.requires.rows.fits_u64 c.requires.numbers c.loop-chunk-test.true)
 
 pub overflow_add-row : goal.overflow_add-row
-overflow_add-row g c =
-    let below : c.loop-chunk.chunk < 2 ^ c.args.mid = omega (arith, first_shift c.args.mid c.args.left c.requires.rows.fits_u64, c.loop-chunk-test.true) in
-    rw (second_shift c.args.mid c.args.left c.requires.rows.fits_u64) (omega (arith, blocks_within c.loop-chunk.chunk c.args.mid c.args.left below, c.requires.numbers))
+overflow_add-row g c = rows_fit c.args.first_row c.args.mid c.args.left c.loop-chunk.chunk c.requires.rows.fits_u64 c.requires.numbers c.loop-chunk-test.true
 
 pub loop-chunk-init : goal.loop-chunk-init
-loop-chunk-init g c = record { chunks = chunks_none _ _ _ c.reverse_chunks.new.values; told = refl; cost = record { grows = omega arith; cost = omega arith } }
+loop-chunk-init g c = record { chunks = chunks_none _ _ _ c.reverse_chunks.new.values; told = refl; cost = record { grows = le_refl c.args.products.now; cost = count_none 1 (c.args.width * (c.args.left * 2 ^ c.args.left / 2)) c.args.products.now } }
 
 pub loop-chunk-preserved : goal.loop-chunk-preserved
 loop-chunk-preserved g c =
@@ -113,7 +111,7 @@ loop-chunk-preserved g c =
     let part = c.finish_chunk.new.values in
     let sizes = chunk_sizes c.args.mid c.args.left c.args.width (length c.args.values.now) (length c.reverse_chunks.new.values) c.requires.rows c.reverse_chunks.auto.values in
     let size = length c.reverse_chunks.new.values / one_shifted mid in
-    let fits : chunk * size + size ≤ length now = omega (arith, block_room chunk _ _ _ c.loop-chunk-test.true sizes.whole, c.loop-chunk.auto.values) in
+    let fits : chunk * size + size ≤ length now = le_trans (block_room chunk _ _ _ c.loop-chunk-test.true sizes.whole) (le_of_eq (sym c.loop-chunk.auto.values)) in
     let long = c.finish_chunk.auto.values ∙ part_length now _ _ fits in
     let earlier = subst (λ blocks. Run g.C.BlockConsumer.step c.args.consumer.now blocks c.loop-chunk.consumer) (earlier_blocks c.args.first_row (2 ^ left) w chunk _ now part sizes.size_is fits (long ∙ sizes.size_is)) c.loop-chunk.invariant.told in
     let chunks = chunks_next _ size _ c.reverse_chunks.new.values now part chunk fits long c.finish_chunk.ensures.values c.loop-chunk.invariant.chunks in
@@ -121,7 +119,7 @@ loop-chunk-preserved g c =
       chunks = chunks;
       told = run_more g.C.BlockConsumer.step (slot_block c.args.first_row (2 ^ left) w _) chunk c.args.consumer.now c.loop-chunk.consumer c.finish_chunk.new.consumer earlier
           (rw (second_shift mid left c.requires.rows.fits_u64, this_block c.args.first_row (2 ^ left) w chunk _ now part sizes.size_is fits (long ∙ sizes.size_is)) at c.in_default.ensures.lent);
-      cost = record { grows = omega (arith, c.finish_chunk.ensures.cost.grows, c.loop-chunk.invariant.cost.grows); cost = count_more 1 chunk (w * (left * 2 ^ left / 2)) _ _ _ c.loop-chunk.invariant.cost.cost (omega (arith, c.finish_chunk.ensures.cost.cost)) };
+      cost = record { grows = le_trans c.loop-chunk.invariant.cost.grows c.finish_chunk.ensures.cost.grows; cost = one_more chunk (w * (left * 2 ^ left / 2)) _ _ _ c.loop-chunk.invariant.cost.cost (unscaled _ _ _ _ c.finish_chunk.ensures.cost.cost) };
     }
 
 pub returns-in-Err-clause-lent : goal.returns-in-Err-clause-lent
@@ -134,14 +132,14 @@ returns-in-Err-clause-lent g c =
     let part = c.finish_chunk.new.values in
     let sizes = chunk_sizes c.args.mid c.args.left c.args.width (length c.args.values.now) (length c.reverse_chunks.new.values) c.requires.rows c.reverse_chunks.auto.values in
     let size = length c.reverse_chunks.new.values / one_shifted mid in
-    let fits : chunk * size + size ≤ length now = omega (arith, block_room chunk _ _ _ c.loop-chunk-test.true sizes.whole, c.loop-chunk.auto.values) in
+    let fits : chunk * size + size ≤ length now = le_trans (block_room chunk _ _ _ c.loop-chunk-test.true sizes.whole) (le_of_eq (sym c.loop-chunk.auto.values)) in
     let long = c.finish_chunk.auto.values ∙ part_length now _ _ fits in
     let earlier = subst (λ blocks. Run g.C.BlockConsumer.step c.args.consumer.now blocks c.loop-chunk.consumer) (earlier_blocks c.args.first_row (2 ^ left) w chunk _ now part sizes.size_is fits (long ∙ sizes.size_is)) c.loop-chunk.invariant.told in
     let chunks = chunks_next _ size _ c.reverse_chunks.new.values now part chunk fits long c.finish_chunk.ensures.values c.loop-chunk.invariant.chunks in
-    let below : chunk < 2 ^ mid = omega (arith, first_shift mid left c.requires.rows.fits_u64, c.loop-chunk-test.true) in (
+    let below : chunk < 2 ^ mid = subst (λ (n : ℕ). c.loop-chunk.chunk < n) (first_shift c.args.mid c.args.left c.requires.rows.fits_u64) c.loop-chunk-test.true in (
       chunk,
       below,
-      second_done g.F.Field mid left w (chunk + 1) size (g.T.LayerTwiddles.at c.args.table) c.args.values.now c.reverse_chunks.new.values _ (omega (arith, below)) sizes.size_is (c.reverse_chunks.ensures g.F.Field.ZERO) chunks,
+      second_done g.F.Field mid left w (chunk + 1) size (g.T.LayerTwiddles.at c.args.table) c.args.values.now c.reverse_chunks.new.values _ (add-one-le below) sizes.size_is (c.reverse_chunks.ensures g.F.Field.ZERO) chunks,
       record {
         middle = c.loop-chunk.consumer;
         run = earlier;
@@ -152,28 +150,25 @@ returns-in-Err-clause-lent g c =
 pub returns-in-Err-clause-cost : goal.returns-in-Err-clause-cost
 returns-in-Err-clause-cost g c =
     let turn = c.args.width * (c.args.left * 2 ^ c.args.left / 2) in
-    let below : c.loop-chunk.chunk < 2 ^ c.args.mid = omega (arith, first_shift c.args.mid c.args.left c.requires.rows.fits_u64, c.loop-chunk-test.true) in
-    let rise : suc c.loop-chunk.chunk * turn ≤ 2 ^ c.args.mid * turn = mul-le-mul_right turn below in
-    let next : suc c.loop-chunk.chunk * turn ≡ 1 * ((c.loop-chunk.chunk + 1) * turn) = omega arith in
-    let once : c.finish_chunk.new.products ≤ c.loop-chunk.products + 1 * turn = omega (arith, c.finish_chunk.ensures.cost.cost) in
-    let so_far = count_more 1 c.loop-chunk.chunk turn c.args.products.now c.loop-chunk.products c.finish_chunk.new.products c.loop-chunk.invariant.cost.cost once in
-    record { grows = omega (arith, c.loop-chunk.invariant.cost.grows, c.finish_chunk.ensures.cost.grows); cost = omega (arith, rise, next, so_far) }
+    record {
+      grows = le_trans c.loop-chunk.invariant.cost.grows c.finish_chunk.ensures.cost.grows;
+      cost = ones_all (c.loop-chunk.chunk + 1) _ turn _ _ (add-one-le (subst (λ (n : ℕ). c.loop-chunk.chunk < n) (first_shift c.args.mid c.args.left c.requires.rows.fits_u64) c.loop-chunk-test.true)) (one_more c.loop-chunk.chunk turn _ _ _ c.loop-chunk.invariant.cost.cost (unscaled _ _ _ _ c.finish_chunk.ensures.cost.cost));
+    }
 
 pub returns-clause-lent : goal.returns-clause-lent
 returns-clause-lent g c =
     let mid = c.args.mid in
     let left = c.args.left in
     let sizes = chunk_sizes c.args.mid c.args.left c.args.width (length c.args.values.now) (length c.reverse_chunks.new.values) c.requires.rows c.reverse_chunks.auto.values in
-    let all : c.loop-chunk.chunk ≡ 2 ^ mid = omega (arith, first_shift c.args.mid c.args.left c.requires.rows.fits_u64, c.loop-chunk-test.false, c.loop-chunk.auto.chunk-end) in
+    let all : c.loop-chunk.chunk ≡ 2 ^ mid = le_antisymm c.loop-chunk.auto.chunk-end c.loop-chunk-test.false ∙ first_shift c.args.mid c.args.left c.requires.rows.fits_u64 in
     subst (λ n. IsHighHalf g.F.Field n mid left c.args.width (g.T.LayerTwiddles.at c.args.table) (λ a q j. g.F.Field.value (get_or c.args.values.now ((rev left q * 2 ^ mid + rev mid a) * c.args.width + j) g.F.Field.ZERO)) c.loop-chunk.values
     × Run g.C.BlockConsumer.step c.args.consumer.now (slot_blocks c.args.first_row (2 ^ left) c.args.width c.loop-chunk.values n) c.loop-chunk.consumer) all (
-      second_done g.F.Field mid left c.args.width c.loop-chunk.chunk _ (g.T.LayerTwiddles.at c.args.table) c.args.values.now c.reverse_chunks.new.values c.loop-chunk.values (omega (arith, all)) sizes.size_is (c.reverse_chunks.ensures g.F.Field.ZERO) c.loop-chunk.invariant.chunks,
+      second_done g.F.Field mid left c.args.width c.loop-chunk.chunk _ (g.T.LayerTwiddles.at c.args.table) c.args.values.now c.reverse_chunks.new.values c.loop-chunk.values (le_of_eq all) sizes.size_is (c.reverse_chunks.ensures g.F.Field.ZERO) c.loop-chunk.invariant.chunks,
       c.loop-chunk.invariant.told,
     )
 
 pub returns-clause-cost : goal.returns-clause-cost
-returns-clause-cost g c =
-    let turn = c.args.width * (c.args.left * 2 ^ c.args.left / 2) in
-    let all : c.loop-chunk.chunk ≡ 2 ^ c.args.mid = omega (arith, first_shift c.args.mid c.args.left c.requires.rows.fits_u64, c.loop-chunk-test.false, c.loop-chunk.auto.chunk-end) in
-    let e : 1 * (c.loop-chunk.chunk * turn) ≡ 2 ^ c.args.mid * turn = ap (λ n. 1 * (n * turn)) all ∙ omega arith in
-    subst (λ (n : ℕ). RisesAtMost n c.args.products.now c.loop-chunk.products) e c.loop-chunk.invariant.cost
+returns-clause-cost g c = record {
+  grows = c.loop-chunk.invariant.cost.grows;
+  cost = ones_all c.loop-chunk.chunk _ (c.args.width * (c.args.left * 2 ^ c.args.left / 2)) _ _ (le_of_eq (le_antisymm c.loop-chunk.auto.chunk-end c.loop-chunk-test.false ∙ first_shift c.args.mid c.args.left c.requires.rows.fits_u64)) c.loop-chunk.invariant.cost.cost;
+}

@@ -1,5 +1,5 @@
-use Rattle.std.proofs.Common.{◌≡◌, ℕ, ◌+◌, ◌*◌, ◌/◌, ◌<◌, ◌≤◌, length, get_or, sym, ap, ap₂, ◌∙◌, subst, arith, rules}
-use Rattle.std.proofs.Math.Nat.{mul-le-mul_left}
+use Rattle.std.proofs.Common.{◌≡◌, ℕ, ◌+◌, ◌*◌, ◌/◌, ◌<◌, ◌≤◌, length, get_or, sym, ap, ap₂, ◌∙◌, subst, arith, Fits-le, le_of_lt, mul-le-mul_left}
+use borrow.Author.Rules.{scaled_Fits}
 use Rattle.std.proofs.lemmas.List.{get_or_default}
 use Rattle.p3_field.specs.Ring.{power}
 use Rattle.p3_matrix.proofs.Rows.Overwritten.{part_at, part_size}
@@ -13,40 +13,38 @@ root_place number copies len some room =
     let spread : number * (2 * (copies / 2)) ≡ 2 * (number * (copies / 2)) = omega arith in
     omega (arith, twice, spread, room, some)
 
+-- a product for each cell at most, counted twice
+twice_counted : (n len before after : ℕ) → after ≤ before + n → len ≡ n → 2 * after ≤ 2 * before + 2 * len
+twice_counted n len before after made full = omega (arith, made, full)
+
 pub overflow_mul-root : goal.overflow_mul-root
-overflow_mul-root g c = let (some, size, row, weight, room) = c.requires in omega (arith, root_place (c.args.self.now.first + c.args.number) c.args.self.now.copies (length c.args.self.now.twiddles.now) some room)
+overflow_mul-root g c = Fits-le (le_of_lt (root_place (c.args.self.now.first + c.args.number) c.args.self.now.copies (length c.args.self.now.twiddles.now) c.requires.0 c.requires.4)) search
 
 pub offset_bounds-self-number : goal.offset_bounds-self-number
 offset_bounds-self-number g c =
-    let (some, size, row, weight, room) = c.requires in
     let it = c.args.self.now in
-    let below : (it.first + c.args.number) * (it.copies / 2) < length it.twiddles.now = root_place (it.first + c.args.number) it.copies (length it.twiddles.now) some room in
-    search rules
+    scaled_Fits _ _ _ (root_place (it.first + c.args.number) it.copies (length it.twiddles.now) c.requires.0 c.requires.4) search
 
 pub bounds-self-number : goal.bounds-self-number
-bounds-self-number g c = let (some, size, row, weight, room) = c.requires in root_place (c.args.self.now.first + c.args.number) c.args.self.now.copies (length c.args.self.now.twiddles.now) some room
+bounds-self-number g c = root_place (c.args.self.now.first + c.args.number) c.args.self.now.copies (length c.args.self.now.twiddles.now) c.requires.0 c.requires.4
 
 pub multiples_of_row-requires : goal.multiples_of_row-requires
 multiples_of_row-requires g c =
     let it = c.args.self.now in
-    let (some, size, row, weight, room) = c.requires in
-    size ∙ ap (λ v. it.copies * v) (sym (ap length c.chunk-row.ensures ∙ part_size it.rows.now _ _ row))
+    c.requires.1 ∙ ap (λ v. it.copies * v) (sym (ap length c.chunk-row.ensures ∙ part_size it.rows.now _ _ c.requires.2))
 
 pub returns-clause-chunk : goal.returns-clause-chunk
 returns-clause-chunk g c t j copy inside =
     let field = g.F.Field in
     let it = c.args.self.now in
-    let (some, size, row, weight_room, room) = c.requires in
     let n = it.first + c.args.number in
-    let part_len : length c.chunk-row.result.now ≡ it.width = ap length c.chunk-row.ensures ∙ part_size it.rows.now _ _ row in
-    let weight = ap field.value (get_or_default it.weights.now n c.index-self-number-2.result field.ZERO weight_room) in
-    let root = ap field.value (get_or_default it.twiddles.now (n * (it.copies / 2)) c.index-self-number.result field.ZERO (root_place n it.copies _ some room)) in
+    let part_len : length c.chunk-row.result.now ≡ it.width = ap length c.chunk-row.ensures ∙ part_size it.rows.now _ _ c.requires.2 in
+    let weight = ap field.value (get_or_default it.weights.now n c.index-self-number-2.result field.ZERO c.requires.3) in
+    let root = ap field.value (get_or_default it.twiddles.now (n * (it.copies / 2)) c.index-self-number.result field.ZERO (root_place n it.copies _ c.requires.0 c.requires.4)) in
     ap (λ v. field.value (get_or c.multiples_of_row.new.values (t * v + j) field.ZERO)) (sym part_len)
     ∙ c.multiples_of_row.ensures.values t j copy (subst (λ v. j < v) (sym part_len) inside)
     ∙ ap₂ field.ring.mul (ap field.value (ap (λ xs. get_or xs j field.ZERO) c.chunk-row.ensures ∙ part_at it.rows.now (n * it.width) it.width j field.ZERO inside)) (ap₂ (λ x y. field.ring.mul x (power field.ring y t)) weight root)
 
 pub returns-clause-cost : goal.returns-clause-cost
 returns-clause-cost g c =
-    let (some, size, row, weight, room) = c.requires in
-    let count : length c.args.values.now ≡ c.args.self.now.copies * length c.chunk-row.result.now = size ∙ ap (λ v. c.args.self.now.copies * v) (sym (ap length c.chunk-row.ensures ∙ part_size c.args.self.now.rows.now _ _ row)) in
-    omega (arith, c.multiples_of_row.ensures.count, count)
+    twice_counted _ _ _ _ c.multiples_of_row.ensures.cost (c.requires.1 ∙ ap (λ v. c.args.self.now.copies * v) (sym (ap length c.chunk-row.ensures ∙ part_size c.args.self.now.rows.now _ _ c.requires.2)))

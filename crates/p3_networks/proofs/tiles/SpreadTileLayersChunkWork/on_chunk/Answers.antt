@@ -1,5 +1,4 @@
-use Rattle.std.proofs.Common.{◌≡◌, ℕ, suc, refl, ◌+◌, ◌-◌, ◌*◌, ◌/◌, ◌^◌, ◌<◌, ◌≤◌, length, get_or, sym, ap, ◌∙◌, subst, arith}
-use Rattle.std.proofs.Math.Nat.{le_refl, mul-le-mul_right}
+use Rattle.std.proofs.Common.{◌≡◌, ℕ, suc, refl, ◌+◌, ◌-◌, ◌*◌, ◌/◌, ◌^◌, ◌<◌, ◌≤◌, length, get_or, sym, ap, ◌∙◌, subst, arith, add-sub_of_le, add-zero, le_refl, le_trans, lt_of_le_of_lt, mul-le-mul_right, sub-le}
 use Rattle.p3_field.specs.Ring.{power}
 use Rattle.p3_networks.specs.Layers.{HoldsCells}
 use Rattle.p3_networks.proofs.Layers.Chunks.{chunk_digits}
@@ -17,14 +16,31 @@ row_room first count q w len below room =
     let next : suc (first + q) * w ≡ (first + q) * w + w = omega arith in
     omega (arith, more, next, room)
 
+place_below : (first count q len : ℕ) → q < count → first + count ≤ len → first + q < len
+place_below first count q len below room = omega (arith, below, room)
+
+copies_within : (tile count copies rows len : ℕ) → count * copies ≡ rows → (tile + 1) * rows ≤ len → (tile * count + count) * copies ≤ len
+copies_within tile count copies rows len is room =
+    let all : (tile * count + count) * copies ≡ (tile + 1) * (count * copies) = omega arith in
+    omega (arith, all, ap (λ n. (tile + 1) * n) is, room)
+
+halved : (n m : ℕ) → 2 * n ≤ 2 * m → n ≤ m
+halved n m twice = omega (arith, twice)
+
+-- the products of the copies and of the layers
+copies_counted : (layers n len out before middle after : ℕ) → out ≡ len → len ≡ n → middle ≤ before + n → 2 * after ≤ 2 * middle + 1 * (layers * out) → 2 * after ≤ 2 * before + (layers + 2) * len
+copies_counted layers n len out before middle after same full made done =
+    let more : (layers + 2) * len ≡ layers * len + 2 * len = omega arith in
+    omega (arith, ap (λ n. layers * n) same, full, made, done, more)
+
 cells_of_tile : (count copies rows w : ℕ) → count * copies ≡ rows → rows * w ≡ count * (copies * w)
 cells_of_tile count copies rows w is = ap (λ n. n * w) (sym is) ∙ omega arith
 
 pub overflow_shl-copies : goal.overflow_shl-copies
-overflow_shl-copies g c = let (chunk, (added, rest)) = c.requires in omega (arith, chunk_digits c.args.self.now.log_rows c.args.number chunk.fits_u64, added)
+overflow_shl-copies g c = lt_of_le_of_lt c.requires.1.0 (chunk_digits c.args.self.now.log_rows c.args.number c.requires.0.fits_u64)
 
 pub overflow_shl-count : goal.overflow_shl-count
-overflow_shl-count g c = let (chunk, (added, rest)) = c.requires in omega (arith, chunk_digits c.args.self.now.log_rows c.args.number chunk.fits_u64)
+overflow_shl-count g c = lt_of_le_of_lt (sub-le c.args.self.now.log_rows c.args.self.now.coefficients.added_bits) (chunk_digits c.args.self.now.log_rows c.args.number c.requires.0.fits_u64)
 
 pub on_each_chunk-requires : goal.on_each_chunk-requires
 on_each_chunk-requires g c =
@@ -32,24 +48,23 @@ on_each_chunk-requires g c =
     let tile = c.args.number in
     let r = it.log_rows in
     let a = it.coefficients.added_bits in
-    let (chunk, (added, (rows, (weights, first)))) = c.requires in
+    let chunk = c.requires.0 in let added = c.requires.1.0 in let rows = c.requires.1.1.0 in let weights = c.requires.1.1.1.0 in
     let sizes = spread_sizes r a (chunk_digits r tile chunk.fits_u64) added in
     let count = one_shifted (r - a) in
     let copies = one_shifted a in
     let whole = chunk.size ∙ cells_of_tile count copies (2 ^ r) it.width sizes.rows in
     let size_is = block_size (length c.args.chunk.now) count (copies * it.width) sizes.nonzero whole in
-    let all : (tile * count + count) * copies ≡ (tile + 1) * (count * copies) = omega arith in
-    let twice : (tile * count + count) * copies ≤ 2 * length it.twiddles.now = omega (arith, all, ap (λ n. (tile + 1) * n) sizes.rows, chunk.enough) in
+    let twice = copies_within tile count copies (2 ^ r) _ sizes.rows chunk.enough in
     let within : (tile * count + count) * it.width ≤ length it.coefficients.rows.now = subst (λ (n : ℕ). (tile * n + n) * it.width ≤ length it.coefficients.rows.now) (sym sizes.count_is) rows in
     let few : tile * count + count ≤ length it.coefficients.weights.now = subst (λ (n : ℕ). tile * n + n ≤ length it.coefficients.weights.now) (sym sizes.count_is) weights in
     record {
       whole = whole ∙ ap (λ n. count * n) (sym size_is);
-      accepts = λ n below. (sizes.some_copies, size_is, row_room (tile * count) count n it.width _ below within, omega (arith, below, few), row_room (tile * count) count n copies _ below twice);
+      accepts = λ n below. (sizes.some_copies, size_is, row_room (tile * count) count n it.width _ below within, place_below (tile * count) count n _ below few, row_room (tile * count) count n copies _ below twice);
     }
 
 pub layers_of_chunk-requires : goal.layers_of_chunk-requires
 layers_of_chunk-requires g c =
-    let (chunk, (added, (rows, (weights, first)))) = c.requires in
+    let chunk = c.requires.0 in let added = c.requires.1.0 in let first = c.requires.1.1.1.1 in
     record { below = added; chunk = record { width = chunk.width; fits_u64 = chunk.fits_u64; enough = chunk.enough; size = c.on_each_chunk.auto.values ∙ chunk.size }; first = first }
 
 pub returns : goal.returns
@@ -60,7 +75,7 @@ returns g c =
     let a = it.coefficients.added_bits in
     let r = it.log_rows in
     let w = it.width in
-    let (chunk, (added, (rows, (weights, first)))) = c.requires in
+    let chunk = c.requires.0 in let added = c.requires.1.0 in
     let sizes = spread_sizes r a (chunk_digits r tile chunk.fits_u64) added in
     let count = one_shifted (r - a) in
     let copies = one_shifted a in
@@ -73,21 +88,17 @@ returns g c =
     let len : length out ≡ length c.args.chunk.now = c.on_each_chunk.auto.values in
     let made = λ (n q t j : ℕ). field.ring.mul (field.value (get_or it.coefficients.rows.now (q * w + j) field.ZERO))
     (field.ring.mul (field.value (get_or it.coefficients.weights.now q field.ZERO)) (power field.ring (field.value (get_or it.twiddles.now (q * (n / 2)) field.ZERO)) t)) in
-    let begin : a ≡ a + 0 = omega arith in
-    let stop : a + (r - a) ≡ r = omega (arith, added) in
-    let same : (r - a) * length out ≡ (r - a) * length c.args.chunk.now = ap (λ n. (r - a) * n) len in
-    let more : (r - a + 2) * length c.args.chunk.now ≡ (r - a) * length c.args.chunk.now + 2 * length c.args.chunk.now = omega arith in
     record {
       chunk = λ k cells layers room are.
           subst (λ (n : ℕ). HoldsCells field.value field.ZERO (tile * n) (cells r) c.layers_of_chunk.new.values) len
-          (subst (λ (e : ℕ). HoldsCells field.value field.ZERO (tile * length out) (cells e) c.layers_of_chunk.new.values) stop
+          (subst (λ (e : ℕ). HoldsCells field.value field.ZERO (tile * length out) (cells e) c.layers_of_chunk.new.values) (add-sub_of_le added)
           (c.layers_of_chunk.ensures.cells.taken k cells layers room
-          (subst (λ (e : ℕ). HoldsCells field.value field.ZERO (tile * length out) (cells e) out) begin
+          (subst (λ (e : ℕ). HoldsCells field.value field.ZERO (tile * length out) (cells e) out) (sym (add-zero a))
           (spread_held field.value field.ZERO (cells a) (made copies) tile count copies (tile * count + count) w out chunk.width
           (len ∙ chunk.size ∙ cells_of_tile count copies (2 ^ r) w sizes.rows) (le_refl (tile * count + count)) sizes.some_copies
           (subst (λ (n : ℕ). (q t j : ℕ) → q < tile * count + count → t < n → j < w → cells a ((q * n + t) * w + j) ≡ made n q t j) (sym sizes.copies_is)
           (subst (λ (n : ℕ). (q t j : ℕ) → q < tile * n + n → t < 2 ^ a → j < w → cells a ((q * 2 ^ a + t) * w + j) ≡ made (2 ^ a) q t j) (sym sizes.count_is) are))
           (λ q t j below copy column. ap field.value (sym (row_at field.ZERO size copies w q t j out size_is copy column)) ∙ c.on_each_chunk.ensures.chunks q below t j copy column)))));
-      grows = omega (arith, c.layers_of_chunk.ensures.cost.grows, c.on_each_chunk.ensures.grows);
-      cost = omega (arith, c.layers_of_chunk.ensures.cost.cost, made_all, cells_all, same, more, len);
+      grows = le_trans c.on_each_chunk.ensures.grows (halved _ _ c.layers_of_chunk.ensures.cost.grows);
+      cost = copies_counted (r - a) (count * size) _ _ _ _ _ len cells_all made_all c.layers_of_chunk.ensures.cost.cost;
     }

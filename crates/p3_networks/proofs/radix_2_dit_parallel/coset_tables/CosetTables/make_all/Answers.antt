@@ -1,13 +1,13 @@
-use Rattle.std.proofs.Common.{◌≡◌, ◌⊎◌, inl, inr, ℕ, ◌+◌, ◌^◌, ◌<◌, ◌≤◌, ◌++◌, List, [], ◌∷◌, length, length-append, refl, sym, ap, ◌∙◌, subst, arith}
+use Rattle.std.proofs.Common.{◌≡◌, ◌⊎◌, inl, inr, ℕ, ◌+◌, ◌^◌, ◌<◌, ◌≤◌, ◌++◌, List, [], ◌∷◌, length, length-append, refl, sym, ap, ◌∙◌, subst, arith, le_of_eq, lt_of_lt_of_le, le_trans, lt_irrefl}
 use Rattle.std.proofs.lemmas.Bool.{false≢true}
 use Rattle.std.proofs.lemmas.List.{append-nil, append_assoc}
 use Rattle.std.proofs.lemmas.List.Elements.{All-append, All-cons, All-nil}
-use borrow.Author.Count.{below_more}
+use borrow.Author.Count.{below_more, below_none}
 use Rattle.p3_field.specs.declared.fields.Field.{Ghosts as FieldMembers}
 use Rattle.p3_matrix.specs.BitOrder.{rev}
-use Rattle.p3_matrix.specs.Cosets.{point}
+use Rattle.p3_matrix.specs.Cosets.{point, AddsCosets, Coset, HasCoset, IsCosetAt, IsOneOf}
 use Rattle.p3_matrix.proofs.BitReversal.{rev-lt}
-use Rattle.p3_networks.specs.Twiddles.{AddsCosets, Coset, HasCoset, IsCosetAt, IsOneOf, forward_root}
+use Rattle.p3_networks.specs.Twiddles.{forward_root}
 use Rattle.p3_networks.proofs.Tables.CosetTables.{coset_kept, none_behind_kept}
 use Rattle.p3_networks.proofs.Tables.CosetsApart.{slot_of_coset, slots_differ}
 use Rattle.p3_networks.proofs.radix_2_dit_parallel.coset_tables.CosetTables.make_all.Goals as goal
@@ -36,9 +36,9 @@ longer_list n before after x (inr longer) inside = omega (arith, ap length longe
 pub loop-slot-init : goal.loop-slot-init
 loop-slot-init g c =
     record {
-      inside = omega (arith, ap length c.as_slice-there.ensures);
-      made = λ m none. absurd (omega (arith, none));
-      others = λ m from below i behind at. omega (arith, behind, at.0, ap length c.as_slice-there.ensures);
+      inside = le_of_eq (ap length c.as_slice-there.ensures);
+      made = below_none _;
+      others = λ m from below i behind at. lt_irrefl i (lt_of_lt_of_le at.0 (le_trans (le_of_eq (ap length (sym c.as_slice-there.ensures))) behind));
       once = λ all. refl;
       only = ([], sym (append-nil _), All-nil _);
       keeps = λ k x has. has;
