@@ -179,7 +179,7 @@ module _ {A : Type 0} (R : Ring A) {g : ℕ → A} {bits : ℕ} (G : AreRoots R 
   -- rows that are folded pair by pair have the values of the folded polynomials
   pub folded_values : (beta : A) (k : ℕ) (s : A) (m out : Matrix A) → k < bits → IsInvertible R s → AreFoldedRows R g beta k s m out → IsFolding R g beta k s m out
   folded_values beta k s m out within inverse folded c v =
-      is_values R g (folded_coefficients R beta c) k (s ⊗ s) out folded.height (folded.width ∙ v.width)
+      is_values R g (folded_coefficients R beta c) k (s ⊗ s) out folded.half (folded.width ∙ v.width)
       (λ i j below inside.
       one_folded_value R beta (point R g (suc k) s i) (m.entry i j) (m.entry (2 ^ k + i) j) (out.entry i j) _
       (point_invertible R G (suc k) s i (point R g (suc k) s i) refl (omega (arith, within)) inverse)
@@ -191,10 +191,10 @@ module _ {A : Type 0} (R : Ring A) {g : ℕ → A} {bits : ℕ} (G : AreRoots R 
       → ((i j : ℕ) → i < 2 ^ k → j < m.width
       → IsFoldedPair R beta (point R g (suc k) s (pair_point layout k i)) (m.entry (near_row layout k i) j) (m.entry (far_row layout k i) j) (out.entry i j))
       → AreFoldedRows R g beta k s (arrangement layout (suc k) m) (arrangement layout k out)
-  folded_in_layout Natural beta k s m out tall high wide rows = record { tall = tall; height = high; width = wide; rows = rows }
+  folded_in_layout Natural beta k s m out tall high wide rows = record { height = tall; half = high; width = wide; rows = rows }
   folded_in_layout BitReversed beta k s m out tall high wide rows = record {
-    tall = tall;
-    height = high;
+    height = tall;
+    half = high;
     width = wide;
     rows = λ i j below inside.
         pair_same R beta (ap (point R g (suc k) s) (rev-rev k i below)) (ap (λ n. m.entry n j) (sym (rev-low k i below))) (ap (λ n. m.entry n j) (sym (rev-high k i below)))
@@ -238,9 +238,9 @@ module _ {A : Type 0} (R : Ring A) {g : ℕ → A} {bits : ℕ} (G : AreRoots R 
     pub foldings_determine : (m n y z : Matrix A)
         → AreFoldedRows R g beta k s m y → AreFoldedRows R g gamma k s m z → AreFoldedRows R g beta k s n y → AreFoldedRows R g gamma k s n z → Same m n
     foldings_determine m n y z first second third fourth = record {
-      height = first.tall ∙ sym third.tall;
+      height = first.height ∙ sym third.height;
       width = sym first.width ∙ third.width;
-      alike = λ i j below inside. by_pairs (λ q. m.entry q j ≡ n.entry q j) (λ q l. both q j l inside) i (omega (arith, below, first.tall));
+      alike = λ i j below inside. by_pairs (λ q. m.entry q j ≡ n.entry q j) (λ q l. both q j l inside) i (omega (arith, below, first.height));
     }
       where
         both : (i j : ℕ) → i < 2 ^ k → j < m.width → (m.entry i j ≡ n.entry i j) × (m.entry (2 ^ k + i) j ≡ n.entry (2 ^ k + i) j)
@@ -263,7 +263,7 @@ module _ {A : Type 0} (R : Ring A) {g : ℕ → A} {bits : ℕ} (G : AreRoots R 
     pub unfolded_values : (c d m y z : Matrix A) → c.height ≡ d.height → IsValues R g c k (s ⊗ s) y → IsValues R g d k (s ⊗ s) z
         → AreFoldedRows R g beta k s m y → AreFoldedRows R g gamma k s m z → IsValues R g (unfolded c d) (suc k) s m
     unfolded_values c d m y z tall of_y of_z first second =
-        is_values R g (unfolded c d) (suc k) s m first.tall (sym first.width ∙ of_y.width)
+        is_values R g (unfolded c d) (suc k) s m first.height (sym first.width ∙ of_y.width)
         (λ i j below inside. by_pairs (λ q. m.entry q j ≡ poly R (2 * h) (u j) (at q)) (λ q l. both q j l inside) i below)
       where
         h : ℕ

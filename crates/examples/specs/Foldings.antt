@@ -38,7 +38,7 @@ module _ {A : Type 0} (r : Ring A) where
 
   -- the same row by row: row i of out from the rows of m at point i of the coset of s and at minus it
   pub record AreFoldedRows (g : ℕ → A) (beta : A) (k : ℕ) (s : A) (m out : Matrix A) : Type 0 where
-    pub tall : m.height ≡ 2 ^ suc k
-    pub height : out.height ≡ 2 ^ k
+    pub height : m.height ≡ 2 ^ suc k
+    pub half : out.height ≡ 2 ^ k
     pub width : out.width ≡ m.width
     pub rows : (i j : ℕ) → i < 2 ^ k → j < m.width → IsFoldedPair beta (point r g (suc k) s i) (m.entry i j) (m.entry (2 ^ k + i) j) (out.entry i j)

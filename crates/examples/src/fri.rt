@@ -340,7 +340,7 @@ pub fn check<F: TwoAdicField, H: RowHash<F>>(
 
 /// Commits to a codeword of `2^log_height` rows, in bit reversed order, which it folds so many times. It answers the
 /// layers, to open queries of, and what a verifier knows. An error is out of memory, and the transcript has then taken
-/// in the roots of the layers before.
+/// in the roots of the layers before, and that of a layer whose folding failed.
 pub fn commit<F: TwoAdicField, H: RowHash<F>, T: Transcript<F, H::Digest>>(
     hash: &H,
     codeword: RowMajorMatrix<F>,
@@ -411,6 +411,8 @@ pub fn open<F: TwoAdicField, H: RowHash<F>>(
     requires nodes { (l : ℕ) (y : _) → l < length layers.now
         → length (get_or layers.now l y).nodes.items ≡ 2 * 2 ^ (log_height - suc l) }
     ensures count { IfOk result (λ v. vec_len v ≡ length layers.now) }
+    ensures pairs { IfOk result (λ v. (l : ℕ) (y : _) (o : _) → l < length layers.now → (get_or v.items l o).pair
+        ≡ rows_from (get_or layers.now l y).codeword (2 * (index / 2 ^ l)) 2) }
     ensures opened { IfOk result (λ v. (h : H) (s : F.Element) (betas : ℕ → F.Element) (last : _)
         → AreLayers F.Field.own (λ n. F.value (F.generator n)) H.worth (H.of_pair h) (H.of_row h) log_height
         (length layers.now) s betas (λ l. get_or (map (λ y. y.codeword) layers.now) l last)

@@ -64,22 +64,6 @@ pub fn from_koala_bear_generator<D: TwoAdicSubgroupDft<KoalaBear>>(
     Some(engine.coset_idft_batch(values, KoalaBear::invertible_generator()))
 }
 
-/// Coefficients of values on the coset of the generator of `Goldilocks`.
-pub fn from_goldilocks_generator<D: TwoAdicSubgroupDft<Goldilocks>>(
-    engine: &mut D,
-    values: RowMajorMatrix<Goldilocks>,
-) -> Option<Result<RowMajorMatrix<Goldilocks>, DftError>>
-    ensures coefficients { IfSome result (λ answer. IfOk answer (IsInterpolation goldilocks
-        ⟦<Goldilocks as TwoAdicField>⟧.generator values (goldilocks.value goldilocks.GENERATOR))) }
-    ensures none { IsNone result → ¬ (FitsDft ⟦<Goldilocks as TwoAdicField>⟧.TWO_ADICITY (height values) values.width) }
-    ensures later { IsLater D.facts engine.old engine.new }
-{
-    if !fits_dft::<Goldilocks>(values.height(), values.width()) {
-        return None;
-    }
-    Some(engine.coset_idft_batch(values, Goldilocks::invertible_generator()))
-}
-
 /// The coefficients of a matrix of values on a coset: `None` where the shift has no inverse.
 pub fn from_shift<F: TwoAdicField, D: TwoAdicSubgroupDft<F>>(
     engine: &mut D,

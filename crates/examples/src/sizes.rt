@@ -13,7 +13,7 @@ ghost use Rattle.p3_dft.specs.Extensions.{IsExtension};
 ghost use Rattle.p3_dft.specs.Shapes.{FitsDft, FitsLde};
 
 use p3_dft::{
-    BitReversedMatrixView, BlockLimit, DftError, Field, Goldilocks, RowMajorMatrix, TwoAdicField,
+    BabyBear, BitReversedMatrixView, BlockLimit, DftError, Field, RowMajorMatrix, TwoAdicField,
     TwoAdicSubgroupDft, extended_height, fits_dft, fits_lde, growth,
 };
 use std::alloc::Global;
@@ -49,24 +49,6 @@ fn filled<T: Copy>(
     let mut values = Vec::new(alloc);
     growth::resize(&mut values, rows * columns, element)?;
     Ok(RowMajorMatrix::new(values, columns))
-}
-
-/// A matrix of zeros over `Goldilocks`.
-pub fn zeros_of_goldilocks(
-    alloc: Global,
-    rows: usize,
-    columns: usize,
-) -> Result<Option<RowMajorMatrix<Goldilocks>>, DftError>
-    ensures shape { IfOk result (λ made. IfSome made (λ mat. (height mat ≡ rows) × (mat.width ≡ columns))) }
-    ensures none { IfOk result (λ made. IsNone made
-        → ¬ (FitsDft ⟦<Goldilocks as TwoAdicField>⟧.TWO_ADICITY rows columns)) }
-{
-    if !fits_dft::<Goldilocks>(rows, columns) {
-        return Ok(None);
-    }
-    let mut values = Vec::new(alloc);
-    growth::resize(&mut values, rows * columns, Goldilocks::ZERO)?;
-    Ok(Some(RowMajorMatrix::new(values, columns)))
 }
 
 /// Room for all entries of an extension: `None` where it does not fit.
@@ -107,19 +89,19 @@ pub fn extension_within<F: TwoAdicField, D: TwoAdicSubgroupDft<F>>(
     }
 }
 
-/// An extension over `Goldilocks` of a matrix of any shape: `None` where it does not fit, too.
-pub fn extension_of_goldilocks_within<D: TwoAdicSubgroupDft<Goldilocks>>(
+/// An extension over `BabyBear` of a matrix of any shape: `None` where it does not fit, too.
+pub fn baby_bear_extension_within<D: TwoAdicSubgroupDft<BabyBear>>(
     engine: &mut D,
-    mat: RowMajorMatrix<Goldilocks>,
+    mat: RowMajorMatrix<BabyBear>,
     added_bits: usize,
     limit: usize,
-) -> Option<BitReversedMatrixView<RowMajorMatrix<Goldilocks>>>
+) -> Option<BitReversedMatrixView<RowMajorMatrix<BabyBear>>>
     ensures later { IsLater D.facts engine.old engine.new }
 {
-    if !fits_lde::<Goldilocks>(mat.height(), mat.width(), added_bits) {
+    if !fits_lde::<BabyBear>(mat.height(), mat.width(), added_bits) {
         return None;
     }
-    let shift = Goldilocks::GENERATOR;
+    let shift = BabyBear::GENERATOR;
     match engine.coset_lde_batch_in_blocks(mat, added_bits, shift, |_rows| BlockLimit::new(limit)) {
         Ok((out, _taken)) => Some(out),
         Err(_) => None,

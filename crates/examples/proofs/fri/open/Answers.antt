@@ -24,6 +24,14 @@ loop-l-preserved g c =
     record {
       long = omega (arith, before.long, c.push_reserved.ensures.len, c.loop-l.openings.ok.0, c.push_reserved.new.self.ok.0);
       room = omega (arith, before.room, c.push_reserved.ensures.capacity);
+      pairs = λ q y o below.
+          let cases = cases_lt q c.loop-l.l in
+          elim cases [
+            | inl less ↦ rw (kept q o less) (before.pairs q y o less)
+            | inr more ↦
+                let here : q ≡ c.loop-l.l = omega (arith, below, more) in
+                rw (here, new o, read y) told.pair
+          ];
       entries = λ q y o r j below inside in_row.
           let cases = cases_lt q c.loop-l.l in
           elim cases [
@@ -49,6 +57,9 @@ loop-l-preserved g c =
                 rw (here, new o, log) (told.folds h s beta next (rw (here, read y, log) at is))
           ];
     }
+
+pub returns-clause-pairs : goal.returns-clause-pairs
+returns-clause-pairs g c = λ l y o below. c.loop-l.invariant.pairs l y o (omega (arith, below, c.loop-l-test.false))
 
 pub returns-clause-opened : goal.returns-clause-opened
 returns-clause-opened g c = λ h s betas last are l o d below.

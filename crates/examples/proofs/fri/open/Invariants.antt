@@ -1,6 +1,7 @@
 use Rattle.std.proofs.Common.{◌≡◌, ℕ, suc, ◌+◌, ◌-◌, ◌*◌, ◌/◌, ◌^◌, ◌<◌, ◌≤◌, get_or, length}
 use Rattle.std.specs.Prelude.{vec_capacity}
 use Rattle.p3_matrix.specs.Cosets.{values_of}
+use Rattle.p3_matrix.specs.RowMajor.{rows_from}
 use Rattle.examples.specs.Fri.{FoldsTo, IsLayer, IsOpened}
 use Rattle.examples.proofs.fri.open.Given as goal
 
@@ -12,6 +13,7 @@ invariant-loop-l g l =
     record {
       long : length l.openings.items ≡ l.l;
       room : length l.layers ≤ vec_capacity l.openings;
+      pairs : (q : ℕ) (y : _) (o : _) → q < l.l → (get_or l.openings.items q o).pair ≡ rows_from (get_or l.layers q y).codeword (2 * (l.index / 2 ^ q)) 2;
       entries : (q : ℕ) (y : _) (o : _) (r j : ℕ) → q < l.l → r < 2 → j < (get_or l.layers q y).codeword.width
           → (values_of f (get_or l.openings.items q o).pair).entry r j ≡ (values_of f (get_or l.layers q y).codeword).entry (2 * (l.index / 2 ^ q) + r) j;
       opened : (q : ℕ) (y : _) (o : _) → q < l.l → (h : _) (s beta : f.Element) (next : _) (d : _)
