@@ -18,9 +18,9 @@ A fault raises LiktrobError, whose status says which, or MemoryError. No buffer 
 kind is a TypeError.
 
 The library is libliktrob.so in the folder that the variable LIKTROB_LIB names. Without the variable it is looked for in
-the folder ../lib beside this module's, and in this module's. The interpreter's lock is kept during a call, so no other
-Python thread runs meanwhile. What does not hold the lock, as another process on shared memory, must not write a buffer
-of a running call.
+the folder ../lib beside this module's, first in its x86-64-v3 where the processor is of that family, and in this
+module's. The interpreter's lock is kept during a call, so no other Python thread runs meanwhile. What does not hold the
+lock, as another process on shared memory, must not write a buffer of a running call.
 """
 
 import array
@@ -72,11 +72,23 @@ class LiktrobError(ValueError):
         self.status = status
 
 
+def _is_newer():
+    """Whether this processor is of the family x86-64-v3."""
+    try:
+        flags = pathlib.Path("/proc/cpuinfo").read_text(encoding="utf-8", errors="replace").split()
+    except OSError:
+        return False
+    return all(flag in flags for flag in ("abm", "avx", "avx2", "bmi1", "bmi2", "f16c", "fma", "movbe"))
+
+
 def _library():
     """The shared library."""
     here = pathlib.Path(__file__).resolve().parent
     named = os.environ.get("LIKTROB_LIB")
-    for folder in [pathlib.Path(named)] if named else [here.parent / "lib", here]:
+    folders = [pathlib.Path(named)] if named else [here.parent / "lib", here]
+    if not named and _is_newer():
+        folders.insert(0, here.parent / "lib" / "x86-64-v3")
+    for folder in folders:
         path = folder / "libliktrob.so"
         if path.is_file():
             # PyDLL keeps the interpreter's lock.

@@ -5,11 +5,24 @@ use std::path::{Path, PathBuf};
 
 const ARCHIVE: &str = "libliktrob.a";
 
-/// The folder that `LIKTROB_LIB` names, or else `../lib`, where the archive lies beside this crate in `dist/`.
+/// What code for x86-64-v3 may use beside what x86-64-v2 has.
+const NEWER: [&str; 8] = ["avx", "avx2", "bmi1", "bmi2", "f16c", "fma", "lzcnt", "movbe"];
+
+/// Whether cargo compiles for processors of the family x86-64-v3, as by `-C target-cpu=native` on one of them.
+fn is_for_newer() -> bool {
+    let features = env::var("CARGO_CFG_TARGET_FEATURE").unwrap_or_default();
+    NEWER.iter().all(|newer| features.split(',').any(|feature| feature == *newer))
+}
+
+/// The folder that `LIKTROB_LIB` names, or else `../lib`, where the archives lie beside this crate in `dist/`.
 fn folder_of_archive() -> Option<PathBuf> {
-    let beside = || Path::new(env!("CARGO_MANIFEST_DIR")).join("../lib");
-    let folder = env::var_os("LIKTROB_LIB").map_or_else(beside, PathBuf::from);
-    folder.join(ARCHIVE).is_file().then_some(folder)
+    let beside = Path::new(env!("CARGO_MANIFEST_DIR")).join("../lib");
+    let folders = match env::var_os("LIKTROB_LIB").filter(|named| !named.is_empty()) {
+        Some(named) => vec![PathBuf::from(named)],
+        None if is_for_newer() => vec![beside.join("x86-64-v3"), beside],
+        None => vec![beside],
+    };
+    folders.into_iter().find(|folder| folder.join(ARCHIVE).is_file())
 }
 
 fn main() {

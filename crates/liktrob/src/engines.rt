@@ -116,7 +116,8 @@ pub fn answer_by<F: TwoAdicField>(
 }
 
 // The engine by which one call is fastest, as measured. No table is kept for a second call, and `Radix2Bowers` makes
-// fewer of them; its inverses begin with the inverse of a generator, which is dear in a short column.
+// fewer of them; its inverses begin with the inverse of a generator, which is dear in a short column. In bit reversed
+// order `Radix2DFTSmallBatch` goes coset by coset, and by four bits or more these are many short columns.
 fn fastest(operation: Operation, height: usize, width: usize) -> Engine {
     let by_bowers = match operation {
         Operation::CosetDft(added_bits) => added_bits < bits_of_many_zeros(width),

@@ -3,7 +3,8 @@
 ghost use Rattle.std.specs.Prelude.{◌≡◌, ◌<◌, ◌≤◌, ◌↔◌, ℕ, length, IfOk, IfSome, IsSome, IsTrue};
 ghost use Rattle.std.specs.List.{All, AllZip};
 
-use p3_dft::{BabyBear, CanonicalField, DftError, Field, Goldilocks, KoalaBear, growth};
+use p3_dft::{BabyBear, CanonicalField, DftError, Field, KoalaBear, growth};
+use p3_field::{GoldilocksIn, GoldilocksPacking};
 use std::alloc::Global;
 
 /// A field whose elements callers name by words of one size.
@@ -18,7 +19,7 @@ pub trait WordField: CanonicalField {
     fn is_below(word: Self::Word) -> bool
         ensures { IsTrue result ↔ (word_number word < Self.ORDER_U64) };
 
-    /// The element that the word names, or zero where it names none: a choice that many words take at once.
+    /// The element that the word names, or any where it names none: a choice that many words take at once.
     fn from_word(word: Self::Word) -> Self
         ensures { word_number word < Self.ORDER_U64 → word_number word ≡ Self.number (Self.value result) };
 
@@ -63,17 +64,17 @@ impl WordField for KoalaBear {
     }
 }
 
-impl WordField for Goldilocks {
+impl<P: GoldilocksPacking> WordField for GoldilocksIn<P> {
     type Word = u64;
 
     ghost word_number = { λ n. n };
 
     fn is_below(word: u64) -> bool {
-        word < Goldilocks::ORDER_U64
+        word < GoldilocksIn::<P>::ORDER_U64
     }
 
-    fn from_word(word: u64) -> Goldilocks {
-        Goldilocks::new(word).unwrap_or(Goldilocks::ZERO)
+    fn from_word(word: u64) -> GoldilocksIn<P> {
+        GoldilocksIn::new(word).unwrap_or(<GoldilocksIn<P> as Field>::ZERO)
     }
 
     fn to_word(&self) -> u64 {
