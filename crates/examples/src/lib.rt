@@ -21,6 +21,7 @@ pub mod merkle_paths;
 pub mod merkle_root;
 pub mod own_engine;
 pub mod product;
+pub mod promises;
 pub mod published;
 pub mod published_degree;
 pub mod quadratic;

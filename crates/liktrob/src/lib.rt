@@ -8,6 +8,4 @@ mod calls;
 mod engines;
 mod exports;
 mod refusal;
-#[cfg(test)]
-mod tests;
 mod words;

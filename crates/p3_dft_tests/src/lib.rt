@@ -1,5 +1,5 @@
-//! Tests of `p3_dft` and of the clients in `examples` through their public names, as a crate of a user's sees
-//! them, and of the groups of layers in `p3_networks`.
+//! Tests of `p3_dft` through its public names, as a crate of a user's sees it, and of the groups of layers in
+//! `p3_networks`.
 //!
 //! They stand in a crate of their own since a crate with tests is proved once more with them.
 #![tactic(auto)]

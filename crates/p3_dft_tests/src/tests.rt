@@ -10,16 +10,10 @@
 mod algebra;
 mod answers;
 mod blocks;
-mod callers;
-mod clients;
-mod extensions;
-mod folding;
-mod fri;
 mod groups;
 mod helpers;
 mod jobs;
 mod laws;
-mod product;
 mod products;
 mod reed_solomon;
 mod shifts;
@@ -27,7 +21,6 @@ mod surface;
 mod tables;
 mod tiles;
 mod util;
-mod whole_rows;
 
 use p3_dft::{BabyBear, CanonicalField, Goldilocks, KoalaBear};
 use std::alloc::Global;
@@ -50,11 +43,6 @@ enum Topic<'a> {
     Published(&'a [blocks::Worked]),
     NothingLent,
     Changes,
-    Callers,
-    Roots,
-    OneRoot,
-    Foldings(&'a [folding::Case]),
-    TwoFoldings,
     RefusedJobs,
     Lists,
     Transforms,
@@ -63,8 +51,6 @@ enum Topic<'a> {
     Tiles,
     Extensions,
     LargeShapes,
-    SmallProducts,
-    LargeProducts,
     CodeLaws,
     Words([u64; 4], [u64; 4]),
     CodesWithin,
@@ -74,7 +60,6 @@ enum Topic<'a> {
     HandedOn,
     TablesByTiles,
     Shapes,
-    WholeRows,
 }
 
 impl<'a> Topic<'a> {
@@ -87,11 +72,6 @@ impl<'a> Topic<'a> {
             Topic::Published(cases) => blocks::published::<F>(rt, alloc, cases),
             Topic::NothingLent => blocks::nothing_lent::<F>(rt, alloc),
             Topic::Changes => blocks::changes_over::<F>(rt, alloc),
-            Topic::Callers => callers::every_caller::<F>(rt, alloc),
-            Topic::Roots => clients::roots_over::<F>(rt, alloc),
-            Topic::OneRoot => clients::one_root_over::<F>(rt, alloc),
-            Topic::Foldings(cases) => folding::foldings::<F>(rt, alloc, cases),
-            Topic::TwoFoldings => folding::two_foldings_over::<F>(rt, alloc),
             Topic::RefusedJobs => jobs::refused_within::<F>(rt, alloc),
             Topic::Lists => jobs::lists::<F>(rt, alloc),
             Topic::Transforms => laws::transforms_over::<F>(rt, alloc),
@@ -100,8 +80,6 @@ impl<'a> Topic<'a> {
             Topic::Tiles => laws::tiles_over::<F>(rt, alloc),
             Topic::Extensions => laws::extensions_over::<F>(rt, alloc),
             Topic::LargeShapes => laws::large_shapes_over::<F>(rt, alloc),
-            Topic::SmallProducts => product::small_products_of::<F>(rt, alloc),
-            Topic::LargeProducts => product::large_products::<F>(rt, alloc),
             Topic::CodeLaws => reed_solomon::laws::<F>(rt, alloc),
             Topic::Words(word, on_two) => reed_solomon::words::<F>(rt, alloc, word, on_two),
             Topic::CodesWithin => reed_solomon::within_each::<F>(rt, alloc),
@@ -111,7 +89,6 @@ impl<'a> Topic<'a> {
             Topic::HandedOn => tables::calls_without_memory::<F>(rt, alloc),
             Topic::TablesByTiles => tables::goes_by_tiles::<F>(rt, alloc),
             Topic::Shapes => util::shapes_and_heights::<F>(rt, alloc),
-            Topic::WholeRows => whole_rows::each_client::<F>(rt, alloc),
         }
     }
 }

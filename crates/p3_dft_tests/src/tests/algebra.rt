@@ -10,11 +10,12 @@ ghost use Rattle.p3_dft.specs.Shapes.{FitsDft, FitsLde};
 ghost use Rattle.p3_dft.specs.Transforms.{IsInterpolation, IsTransform};
 
 use super::helpers::engines::{EVERY_ENGINE, Kind, TestEngine, assert_rows_of, input, rows_of};
-use super::helpers::matrices::{assert_same, matrix, matrix_of, sample};
+use super::helpers::matrices::{matrix, matrix_of, sample};
+use super::tables::WITH_TABLES;
 use super::{FieldName, Topic, over};
 use engine_calls::answers::Answer;
 use engine_calls::engines::Engine;
-use engine_calls::names::{Call, EngineName, OPERATIONS, Operation};
+use engine_calls::names::{Call, OPERATIONS, Operation};
 use p3_dft::{
     BabyBear, BasedVectorSpace, CanonicalField, Coordinates, DftError, Field, Goldilocks,
     RowMajorMatrix, TwoAdicField, TwoAdicSubgroupDft,
@@ -180,6 +181,26 @@ fn rows_in_space<F: TwoAdicField, V: BasedVectorSpace<F> + Copy>(
     }
 }
 
+// Stops the test unless the answer's coordinates are these.
+fn assert_rows_in_space<F: TwoAdicField, V: BasedVectorSpace<F> + Copy>(
+    rt: &impl Abort,
+    engine: &mut TestEngine<F>,
+    call: Call,
+    (coordinates, width): (&RowMajorMatrix<F>, usize),
+    (added_bits, shift): (usize, F),
+    expected: &RowMajorMatrix<F>,
+) {
+    let found = rows_in_space::<F, V>(rt, engine, call, coordinates, width, added_bits, shift);
+    assert!(rt;
+        found == *expected,
+        "{} {} on {}: wrong at rows of {width} elements of {} coordinates, {added_bits} added bits",
+        call.form(),
+        call.word(),
+        engine.name,
+        V::DIMENSION
+    );
+}
+
 // The worked columns of pairs, by every engine.
 fn worked_pairs<F: CanonicalField, V: BasedVectorSpace<F> + Copy>(
     rt: &impl Abort,
@@ -191,9 +212,9 @@ fn worked_pairs<F: CanonicalField, V: BasedVectorSpace<F> + Copy>(
         for case in cases {
             let call = Call::AlgebraVector(case.operation);
             let pairs = matrix(rt, alloc, case.rows, 2);
-            let (bits, shift) = (case.added_bits, F::from_usize(case.shift));
-            let found = rows_in_space::<F, V>(rt, &mut engine, call, &pairs, 1, bits, shift);
-            assert_same(rt, &found, &matrix(rt, alloc, case.answer, 2));
+            let on = (case.added_bits, F::from_usize(case.shift));
+            let answer = matrix(rt, alloc, case.answer, 2);
+            assert_rows_in_space::<F, V>(rt, &mut engine, call, (&pairs, 1), on, &answer);
         }
     }
 }
@@ -308,9 +329,8 @@ fn coordinates_agree<F: TwoAdicField, V: BasedVectorSpace<F> + Copy>(
                 Call::AlgebraVector(operation),
             ] {
                 if width == 1 || !call.is_of_column() {
-                    let shift = F::GENERATOR;
-                    let found = rows_in_space::<F, V>(rt, engine, call, &x, width, 1, shift);
-                    assert_same(rt, &found, &rows);
+                    let on = (1, F::GENERATOR);
+                    assert_rows_in_space::<F, V>(rt, engine, call, (&x, width), on, &rows);
                 }
             }
         }
@@ -337,7 +357,7 @@ fn each_coordinate_is_transformed_alone(rt: HostRuntime) {
 // After all forms at height two that height is prepared as before.
 fn stay_prepared<F: TwoAdicField, V: BasedVectorSpace<F> + Copy>(rt: &impl Abort, alloc: Global) {
     let x = sample(rt, alloc, 2, 1, 3);
-    for name in [EngineName::Dit, EngineName::Parallel, EngineName::Small] {
+    for name in WITH_TABLES {
         let mut engine: Engine<F> = Engine::new(name);
         let made = engine.prepare(alloc, 1);
         assert!(rt; matches!(&made, Some(Ok(()))));

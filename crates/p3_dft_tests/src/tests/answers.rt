@@ -797,8 +797,7 @@ fn has_layout(name: Name) -> Layout {
     match name {
         Name::Library(EngineName::Naive)
         | Name::Library(EngineName::Dit)
-        | Name::Library(EngineName::Small)
-        | Name::NaturalToReversed => Layout::Natural,
+        | Name::Library(EngineName::Small) => Layout::Natural,
         _ => Layout::BitReversed,
     }
 }

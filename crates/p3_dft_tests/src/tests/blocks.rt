@@ -6,7 +6,7 @@ ghost use Rattle.std.specs.Prelude.{◌≡◌, ◌<◌, Ok, length};
 use super::helpers::engines::{
     EVERY_ENGINE, Kind, Name, TestEngine, assert_rows_of, input, rows_of,
 };
-use super::helpers::matrices::{assert_same, matrix, matrix_of, sample, with_zeros};
+use super::helpers::matrices::{matrix, matrix_of, sample, with_zeros};
 use super::helpers::own_engines::LimitedDft;
 use super::{FieldName, Topic, over};
 use engine_calls::answers::Input;
@@ -14,8 +14,9 @@ use engine_calls::blocks::{Counter, Publication};
 use engine_calls::changes::Change;
 use engine_calls::names::{Call, EngineName, Operation};
 use p3_dft::{
-    BlockConsumer, BlockLimit, BlockRefused, CanonicalField, Field, Layout, Recorder,
-    RowMajorMatrix, RowMajorMatrixView, TwoAdicField, reverse_bits_len,
+    BlockConsumer, BlockLimit, BlockRefused, BlocksStopped, CanonicalField, Field, Layout,
+    NaiveDft, Radix2DitParallel, Recorder, RowMajorMatrix, RowMajorMatrixView, TwoAdicField,
+    TwoAdicSubgroupDft, fits_lde,
 };
 use std::alloc::Global;
 use std::cell::Cell;
@@ -200,7 +201,12 @@ fn records_worked<F: CanonicalField>(rt: &impl Abort, alloc: Global, cases: &[Wo
             assert!(rt; block > 0);
             let kept = expected.height() / block;
             let found = assert_recorded(rt, &mut engine, rows, (4, 8), (kept, block));
-            assert_same(rt, &found, &expected);
+            assert!(rt;
+                found == expected,
+                "with_blocks on {}: wrong at {kept} blocks of {block} rows of {}",
+                engine.name,
+                case.width
+            );
         }
     }
 }
@@ -295,11 +301,84 @@ fn consumers_made_late<F: CanonicalField>(rt: &impl Abort, alloc: Global) {
     }
 }
 
+// Without a transform: a worked extension is lent row by row as it is answered.
+fn in_blocks_lent<F: CanonicalField, D: TwoAdicSubgroupDft<F>>(
+    rt: &impl Abort,
+    alloc: Global,
+    name: &str,
+    engine: &mut D,
+    case: &Worked,
+) {
+    let mat: RowMajorMatrix<F> = matrix(rt, alloc, case.rows, case.width);
+    assert!(rt; fits_lde::<F>(mat.height(), mat.width(), case.added_bits));
+    let expected = matrix(rt, alloc, case.physical, case.width);
+    let comparer = Comparer {
+        expected: matrix(rt, alloc, case.physical, case.width),
+        equal: true,
+        rows: 0,
+    };
+    let shift = F::from_usize(case.shift);
+    match engine.coset_lde_batch_in_blocks(mat, case.added_bits, shift, |_rows| comparer) {
+        Ok((out, comparer)) => {
+            let lent = comparer.equal && comparer.rows == expected.height();
+            assert!(rt;
+                lent && out.bit_reverse_rows() == expected,
+                "in_blocks on {name}: other rows were answered or lent, width {}, {} added bits, shift {}",
+                case.width,
+                case.added_bits,
+                case.shift
+            );
+        }
+        Err(_) => panic!(rt; "in_blocks on {name}: not all blocks were taken"),
+    }
+}
+
+// How many blocks were taken, and the one that was too many.
+fn in_blocks_within<F: TwoAdicField, D: TwoAdicSubgroupDft<F>>(
+    rt: &impl Abort,
+    engine: &mut D,
+    mat: RowMajorMatrix<F>,
+    limit: usize,
+) -> (usize, Option<BlockRefused>) {
+    assert!(rt; fits_lde::<F>(mat.height(), mat.width(), 1));
+    let answer = engine.coset_lde_batch_in_blocks(mat, 1, F::ONE, |_rows| BlockLimit::new(limit));
+    match answer {
+        Ok((_out, consumer)) => (consumer.seen(), None),
+        Err(stopped) => match stopped {
+            BlocksStopped::Refused { consumer, refusal } => (consumer.seen(), Some(refusal)),
+            BlocksStopped::OutOfMemory(_unpublished) => panic!(rt; "in_blocks: memory"),
+        },
+    }
+}
+
+// The worked extensions and limits, on an engine that has so many blocks.
+fn in_blocks_on<F: CanonicalField, D: TwoAdicSubgroupDft<F>>(
+    rt: &impl Abort,
+    alloc: Global,
+    (name, all): (&str, usize),
+    cases: &[Worked],
+) {
+    let mut engine = D::default();
+    for case in cases {
+        in_blocks_lent(rt, alloc, name, &mut engine, case);
+    }
+    for limit in 0..5usize {
+        let mat = matrix(rt, alloc, &[9, 1], 1);
+        let (seen, refused) = in_blocks_within(rt, &mut engine, mat, limit);
+        assert!(rt;
+            seen == limit.min(all) && refused.is_some() == (limit < all),
+            "in_blocks on {name}: {seen} blocks within {limit}, 2 rows of 1, 1 added bit"
+        );
+    }
+}
+
 pub(crate) fn published<F: CanonicalField>(rt: &impl Abort, alloc: Global, cases: &[Worked]) {
     records_worked::<F>(rt, alloc, cases);
     records_what_has_room::<F>(rt, alloc);
     blocks_limited::<F>(rt, alloc);
     consumers_made_late::<F>(rt, alloc);
+    in_blocks_on::<F, NaiveDft>(rt, alloc, ("naive", 1), cases);
+    in_blocks_on::<F, Radix2DitParallel<F>>(rt, alloc, ("parallel", 4), cases);
 }
 
 #[test]
@@ -414,11 +493,12 @@ fn changes_at<F: TwoAdicField>(
             rows: 0,
         };
         let (out, comparer) = publish_all(rt, &mut engine, rows, comparer);
-        assert_same(rt, &out, &physical);
         assert!(rt;
-            comparer.equal && comparer.rows == out.height(),
-            "with_blocks on {}: other rows were lent",
-            engine.name
+            out == physical && comparer.equal && comparer.rows == out.height(),
+            "with_blocks on {}: other rows were answered or lent at {} rows of {}, {added_bits} added bits",
+            engine.name,
+            mat.height(),
+            mat.width()
         );
     }
 }

@@ -241,6 +241,15 @@ impl<'a> Count<'a> {
     }
 }
 
+// Stops the test unless a call ended as it should.
+fn assert_ended(rt: &impl Abort, (word, engine): (&str, &str), shape: Shape, as_wanted: bool) {
+    assert!(rt;
+        as_wanted,
+        "{word} on {engine}: ended otherwise, log_h {}, width {}, added bits {}",
+        shape.log_h, shape.width, shape.added_bits
+    );
+}
+
 impl Bounds {
     // The least and the most products of a call, if it makes any.
     fn of(self, call: Call) -> Option<(usize, usize)> {
@@ -310,7 +319,8 @@ fn codeword_within<F: CanonicalField>(
         Call::IsCodeword,
         input(rt, &word, shape.added_bits, F::GENERATOR),
     );
-    assert!(rt; matches!(&answer, Answer::Holds(true)));
+    let holds = matches!(&answer, Answer::Holds(true));
+    assert_ended(rt, ("is_codeword", engine.name), shape, holds);
     let names = ("alone", "is_codeword", engine.name);
     count.assert_within(rt, names, shape, (0, bounds.membership));
 }
@@ -325,7 +335,8 @@ fn refusal_within<F: CanonicalField>(
 ) {
     let rows = input(rt, mat, shape.added_bits, F::ONE);
     let publication = engine.publish(rows, BlockLimit::new(0));
-    assert!(rt; matches!(&publication, Publication::Refused { .. }));
+    let refused = matches!(&publication, Publication::Refused { .. });
+    assert_ended(rt, ("with_blocks, refused", engine.name), shape, refused);
     let names = ("alone", "with_blocks, refused", engine.name);
     count.assert_within(rt, names, shape, (0, bounds.refused));
 }
@@ -381,7 +392,7 @@ fn jobs_within<F: CanonicalField>(
     (shape, bounds): (Shape, Bounds),
 ) {
     let answers = engine.run_jobs(jobs_of(rt, mat, shape.added_bits));
-    assert!(rt; answers.is_ok());
+    assert_ended(rt, ("run_jobs", engine.name), shape, answers.is_ok());
     let most = total(&[
         bounds.transform,
         bounds.coset_transform,
@@ -410,7 +421,8 @@ fn space_within<F: CanonicalField, V: BasedVectorSpace<F> + Copy>(
                 let elements = mat.try_clone().expect(rt, "memory");
                 let bits = shape.added_bits;
                 let answer = engine.answer_in_space::<V>(call, elements, bits, F::GENERATOR);
-                assert!(rt; matches!(&answer, Answer::Rows(_)));
+                let answered = matches!(&answer, Answer::Rows(_));
+                assert_ended(rt, (call.word(), engine.name), shape, answered);
                 let limits = bounds.of_operation(operation, bounds.extension);
                 count.assert_within(rt, (call.form(), call.word(), engine.name), shape, limits);
             }

@@ -15,7 +15,6 @@ use super::helpers::own_engines::LimitedDft;
 use super::{FieldName, Topic, over};
 use engine_calls::answers::Answer;
 use engine_calls::names::Call;
-use examples::low_degree::has_low_degree;
 use p3_dft::{
     CanonicalField, DftError, Field, NaiveDft, Radix2DitParallel, ReedSolomon, RowMajorMatrix,
     TwoAdicField, TwoAdicSubgroupDft, fits_code,
@@ -97,19 +96,23 @@ fn of_two<F: TwoAdicField, D: TwoAdicSubgroupDft<F>>(
     ReedSolomon::new(engine, 1, 1, invertible(rt, shift))
 }
 
-// Stops the test unless an engine tells whether four numbers are a word of a message of two.
+// Stops the test unless an engine tells whether four numbers are a word with so many added bits.
 fn tells<F: TwoAdicField>(
     rt: &impl Abort,
     engine: &mut TestEngine<F>,
     word: &RowMajorMatrix<F>,
-    shift: F,
+    (added_bits, shift): (usize, F),
     is_word: bool,
 ) {
-    let holds = match engine.answer(Call::IsCodeword, input(rt, word, 1, shift)) {
+    let holds = match engine.answer(Call::IsCodeword, input(rt, word, added_bits, shift)) {
         Answer::Holds(holds) => holds,
         _ => panic!(rt; "is_codeword on {}: no answer", engine.name),
     };
-    assert!(rt; holds == is_word, "is_codeword on {}: {holds}", engine.name);
+    assert!(rt;
+        holds == is_word,
+        "is_codeword on {}: {holds}, {added_bits} added bits",
+        engine.name
+    );
 }
 
 // The word with one added to one of its entries.
@@ -136,24 +139,20 @@ fn word_of<F: CanonicalField>(
     let message = input(rt, &matrix(rt, alloc, &[9, 1], 1), 1, shift);
     let word = matrix(rt, alloc, numbers, 1);
     assert_rows_of(rt, engine, Call::Encode, message, &word);
-    tells(rt, engine, &word, shift, true);
+    tells(rt, engine, &word, (1, shift), true);
     for place in 0..numbers.len() {
-        tells(
-            rt,
-            engine,
-            &changed(rt, alloc, numbers, place),
-            shift,
-            false,
-        );
+        let word = changed(rt, alloc, numbers, place);
+        tells(rt, engine, &word, (1, shift), false);
     }
 }
 
-// Constants are words, and two columns of four numbers are none.
-const COLUMNS: [([u64; 4], bool); 4] = [
-    ([0, 0, 0, 0], true),
-    ([7, 7, 7, 7], true),
-    ([9, 873820294, 1, 0], false),
-    ([1, 2013265920, 1, 2013265920], false),
+// Constants are words, and two columns of four numbers are none; with no added bits each column is a word.
+const COLUMNS: [([u64; 4], usize, bool); 5] = [
+    ([0, 0, 0, 0], 1, true),
+    ([7, 7, 7, 7], 1, true),
+    ([9, 873820294, 1, 0], 1, false),
+    ([1, 2013265920, 1, 2013265920], 1, false),
+    ([9, 873820294, 1, 0], 0, true),
 ];
 
 // A word of a message on two cosets, and other columns, on every engine.
@@ -167,14 +166,14 @@ pub(crate) fn words<F: CanonicalField>(
         let mut engine: TestEngine<F> = TestEngine::new(name);
         word_of(rt, alloc, &mut engine, F::ONE, &word);
         word_of(rt, alloc, &mut engine, F::TWO, &on_two);
-        for (column, is_word) in COLUMNS {
+        for (column, added_bits, is_word) in COLUMNS {
             let column = matrix(rt, alloc, &column, 1);
-            tells(rt, &mut engine, &column, F::ONE, is_word);
+            tells(rt, &mut engine, &column, (added_bits, F::ONE), is_word);
         }
     }
 }
 
-// With as many points as coefficients each column is a word, and of degree below four, but not two.
+// With as many points as coefficients each column is a word.
 fn all_words<F: CanonicalField, D: TwoAdicSubgroupDft<F>>(
     rt: &impl Abort,
     alloc: Global,
@@ -187,10 +186,6 @@ fn all_words<F: CanonicalField, D: TwoAdicSubgroupDft<F>>(
     assert!(rt; word.height() == 4);
     let told = told_with_no_added_bits(&mut code, &word);
     assert!(rt; told.expect(rt, "memory"));
-    let (told, engine) = has_low_degree(code.into_engine(), &word, 2, shift);
-    assert!(rt; told.expect(rt, "memory"));
-    let (told, _engine) = has_low_degree(engine, &word, 1, shift);
-    assert!(rt; !told.expect(rt, "memory"));
 }
 
 // Two words of polynomials that differ in one coefficient.

@@ -1,10 +1,7 @@
 // What is prepared when, of the engines that have tables, and what has no memory to take from then on.
 
-ghost use Rattle.p3_dft.specs.Engines.{IsPrepared};
-
 use super::algebra::is_prepared;
 use super::answers::by_tiles;
-use super::callers::transform_promised;
 use super::helpers::engines::{Name, TestEngine, assert_rows_of, input, rows_of};
 use super::helpers::fitting::{assert_column, transformable};
 use super::helpers::matrices::{column, elements, matrix, matrix_of};
@@ -20,7 +17,12 @@ use p3_dft::{
 use std::alloc::Global;
 use std::process::Abort;
 
-const WITH_TABLES: [EngineName; 3] = [EngineName::Dit, EngineName::Parallel, EngineName::Small];
+// The engines that have tables.
+pub(crate) const WITH_TABLES: [EngineName; 3] = [
+    EngineName::Dit,
+    EngineName::Parallel,
+    EngineName::Small,
+];
 
 // Stops the test where these tables cannot be made.
 fn prepare<F: TwoAdicField>(rt: &impl Abort, alloc: Global, engine: &mut Engine<F>, log_h: usize) {
@@ -200,18 +202,15 @@ fn made_for_no_height<F: CanonicalField>(rt: &impl Abort, alloc: Global, n: usiz
     }
 }
 
-// Eight rows where their height is prepared: the transform answers, whatever memory there is.
+// Eight rows where their height is prepared.
 fn transform_of_eight_rows<F: CanonicalField>(
     rt: &impl Abort,
     alloc: Global,
     engine: &mut Radix2DFTSmallBatch<F>,
-)
-    requires { IsPrepared engine.old 3 }
-{
+) {
     let mat: RowMajorMatrix<F> = transformable(rt, alloc, &[0, 0, 0, 0, 1, 0, 0, 0]);
-    assert!(rt; mat.height() == 8);
     let last = 2013265920;
-    let values = transform_promised(engine, mat, 3).expect(rt, "memory");
+    let values = engine.dft_batch(mat).expect(rt, "memory");
     assert_column(rt, &values, &[1, last, 1, last, 1, last, 1, last]);
 }
 

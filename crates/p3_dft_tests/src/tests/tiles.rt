@@ -36,7 +36,13 @@ fn products_by_tile<F: TwoAdicField>(
     let mut engine = by_tiles(rt, *column.allocator(), tile);
     let mut copy = engine.copied(rt);
     let products = products_of(rt, &mut engine, column, count);
-    assert_eq!(rt; products_of(rt, &mut copy, column, count), products);
+    let of_copy = products_of(rt, &mut copy, column, count);
+    assert!(rt;
+        of_copy == products,
+        "batch dft on a clone of {}: {of_copy} products, not {products}, tile {tile}, {} rows of one",
+        engine.name,
+        column.height()
+    );
     products
 }
 

@@ -4,6 +4,7 @@ use super::helpers::matrices::matrix;
 use super::{FieldName, Topic, over};
 use p3_dft::{
     CanonicalField, Products, RowMajorMatrix, TwoAdicField, divide_by_height, fits_dft, fits_lde,
+    log_height,
 };
 use std::alloc::Global;
 use std::process::Abort;
@@ -26,27 +27,25 @@ fn shapes_that_can_be_extended<F: TwoAdicField>(rt: &impl Abort) {
     assert!(rt; !fits_lde::<F>(2, 1, 64));
 }
 
-// Two rows are divided by two.
-fn halves<F: CanonicalField>(rt: &impl Abort, alloc: Global) {
-    let mut mat: RowMajorMatrix<F> = matrix(rt, alloc, &[2, 4, 6, 8], 2);
-    assert_eq!(rt; mat.height(), 2);
-    divide_by_height(&mut mat.as_view_mut(), &mut Products::new());
-    assert!(rt; mat == matrix(rt, alloc, &[1, 2, 3, 4], 2));
-}
-
-// One row stays.
-fn keeps_a_row<F: CanonicalField>(rt: &impl Abort, alloc: Global) {
-    let mut row: RowMajorMatrix<F> = matrix(rt, alloc, &[10, 20, 30, 40], 4);
-    assert_eq!(rt; row.height(), 1);
-    divide_by_height(&mut row.as_view_mut(), &mut Products::new());
-    assert!(rt; row == matrix(rt, alloc, &[10, 20, 30, 40], 4));
+// What is divided by the height: the rows of four entries in one, two and four rows, with the logarithm of the height.
+fn divides_by_heights<F: CanonicalField>(rt: &impl Abort, alloc: Global) {
+    for (width, log_h, numbers, divided) in [
+        (4usize, 0usize, [10, 20, 30, 40], [10, 20, 30, 40]),
+        (2, 1, [2, 4, 6, 8], [1, 2, 3, 4]),
+        (1, 2, [4, 8, 12, 16], [1, 2, 3, 4]),
+    ] {
+        let mut mat: RowMajorMatrix<F> = matrix(rt, alloc, &numbers, width);
+        assert!(rt; fits_dft::<F>(mat.height(), mat.width()));
+        assert_eq!(rt; log_height(&mat), log_h);
+        divide_by_height(&mut mat.as_view_mut(), &mut Products::new());
+        assert!(rt; mat == matrix(rt, alloc, &divided, width));
+    }
 }
 
 pub(crate) fn shapes_and_heights<F: CanonicalField>(rt: &impl Abort, alloc: Global) {
     shapes_that_fit::<F>(rt);
     shapes_that_can_be_extended::<F>(rt);
-    halves::<F>(rt, alloc);
-    keeps_a_row::<F>(rt, alloc);
+    divides_by_heights::<F>(rt, alloc);
 }
 
 #[test]

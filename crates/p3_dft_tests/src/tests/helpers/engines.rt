@@ -11,7 +11,6 @@ use engine_calls::blocks::{Publication, makes_consumer_late, publish};
 use engine_calls::changes::Change;
 use engine_calls::engines::Engine;
 use engine_calls::names::{Call, EngineName};
-use examples::own_engine::NaturalToReversed;
 use p3_dft::{
     BasedVectorSpace, BlockConsumer, Job, JobsStopped, Layout, RowMajorMatrix, TwoAdicField,
     TwoAdicSubgroupDft, run_jobs,
@@ -22,18 +21,16 @@ use std::process::Abort;
 pub(crate) enum Name {
     Library(EngineName),
     Limited,
-    NaturalToReversed,
     ReversedToReversed,
 }
 
-pub(crate) const EVERY_ENGINE: [Name; 8] = [
+pub(crate) const EVERY_ENGINE: [Name; 7] = [
     Name::Library(EngineName::Parallel),
     Name::Library(EngineName::Dit),
     Name::Library(EngineName::Bowers),
     Name::Library(EngineName::Small),
     Name::Library(EngineName::Naive),
     Name::Limited,
-    Name::NaturalToReversed,
     Name::ReversedToReversed,
 ];
 
@@ -45,7 +42,6 @@ impl Name {
         match self {
             Name::Library(name) => name.word(),
             Name::Limited => "limited",
-            Name::NaturalToReversed => "natural to reversed",
             Name::ReversedToReversed => "reversed to reversed",
         }
     }
@@ -56,7 +52,6 @@ impl Name {
 pub(crate) enum Kind<F: TwoAdicField> {
     Library(Engine<F>),
     Limited(LimitedDft),
-    NaturalToReversed(NaturalToReversed),
     ReversedToReversed(ReversedToReversed),
 }
 
@@ -73,7 +68,6 @@ impl<F: TwoAdicField> TestEngine<F> {
         let kind = match name {
             Name::Library(name) => Kind::Library(Engine::new(name)),
             Name::Limited => Kind::Limited(LimitedDft::default()),
-            Name::NaturalToReversed => Kind::NaturalToReversed(NaturalToReversed::default()),
             Name::ReversedToReversed => Kind::ReversedToReversed(ReversedToReversed::default()),
         };
         let name = name.word();
@@ -93,7 +87,6 @@ impl<F: TwoAdicField> TestEngine<F> {
         match &mut self.kind {
             Kind::Library(engine) => engine.answer(call, input),
             Kind::Limited(engine) => answer_to(engine, call, input),
-            Kind::NaturalToReversed(engine) => answer_to(engine, call, input),
             Kind::ReversedToReversed(engine) => answer_to(engine, call, input),
         }
     }
@@ -109,9 +102,6 @@ impl<F: TwoAdicField> TestEngine<F> {
         match &mut self.kind {
             Kind::Library(engine) => engine.answer_in_space(call, mat, added_bits, shift),
             Kind::Limited(engine) => answer_in_space(engine, call, mat, added_bits, shift),
-            Kind::NaturalToReversed(engine) => {
-                answer_in_space(engine, call, mat, added_bits, shift)
-            }
             Kind::ReversedToReversed(engine) => {
                 answer_in_space(engine, call, mat, added_bits, shift)
             }
@@ -128,7 +118,6 @@ impl<F: TwoAdicField> TestEngine<F> {
         match &mut self.kind {
             Kind::Library(engine) => engine.run_jobs(jobs),
             Kind::Limited(engine) => run_jobs(engine, jobs),
-            Kind::NaturalToReversed(engine) => run_jobs(engine, jobs),
             Kind::ReversedToReversed(engine) => run_jobs(engine, jobs),
         }
     }
@@ -145,7 +134,6 @@ impl<F: TwoAdicField> TestEngine<F> {
         match &mut self.kind {
             Kind::Library(engine) => engine.publish(input, consumer),
             Kind::Limited(engine) => publish(engine, input, consumer),
-            Kind::NaturalToReversed(engine) => publish(engine, input, consumer),
             Kind::ReversedToReversed(engine) => publish(engine, input, consumer),
         }
     }
@@ -155,7 +143,6 @@ impl<F: TwoAdicField> TestEngine<F> {
         match &mut self.kind {
             Kind::Library(engine) => engine.makes_consumer_late(input),
             Kind::Limited(engine) => makes_consumer_late(engine, input),
-            Kind::NaturalToReversed(engine) => makes_consumer_late(engine, input),
             Kind::ReversedToReversed(engine) => makes_consumer_late(engine, input),
         }
     }
@@ -165,7 +152,6 @@ impl<F: TwoAdicField> TestEngine<F> {
         match &self.kind {
             Kind::Library(engine) => engine.layout(),
             Kind::Limited(_) => <LimitedDft as TwoAdicSubgroupDft<F>>::LAYOUT,
-            Kind::NaturalToReversed(_) => <NaturalToReversed as TwoAdicSubgroupDft<F>>::LAYOUT,
             Kind::ReversedToReversed(_) => <ReversedToReversed as TwoAdicSubgroupDft<F>>::LAYOUT,
         }
     }
@@ -175,9 +161,6 @@ impl<F: TwoAdicField> TestEngine<F> {
         let kind = match &self.kind {
             Kind::Library(engine) => Kind::Library(engine.copied().expect(rt, "memory")),
             Kind::Limited(engine) => Kind::Limited(engine.clone().expect(rt, "memory")),
-            Kind::NaturalToReversed(engine) => {
-                Kind::NaturalToReversed(engine.clone().expect(rt, "memory"))
-            }
             Kind::ReversedToReversed(engine) => {
                 Kind::ReversedToReversed(engine.clone().expect(rt, "memory"))
             }

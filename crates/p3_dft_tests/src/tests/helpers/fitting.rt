@@ -1,12 +1,12 @@
 // Columns of numbers, of shapes that fit, and shifts that have an inverse: what the calls of an engine
 // ask for is tested here once, and then told by a clause.
 
-ghost use Rattle.std.specs.Prelude.{◌≡◌, vec_len};
+ghost use Rattle.std.specs.Prelude.{◌≡◌};
 ghost use Rattle.p3_field.specs.Ring.{IsInvertible};
 ghost use Rattle.p3_matrix.specs.RowMajor.{height};
 ghost use Rattle.p3_dft.specs.Shapes.{FitsDft, FitsLde};
 
-use super::matrices::{elements, matrix};
+use super::matrices::matrix;
 use engine_calls::answers::has_inverse;
 use p3_dft::{CanonicalField, Field, RowMajorMatrix, fits_dft, fits_lde};
 use std::alloc::Global;
@@ -37,17 +37,6 @@ pub(crate) fn extensible<F: CanonicalField>(
     let mat: RowMajorMatrix<F> = matrix(rt, alloc, numbers, 1);
     assert!(rt; fits_lde::<F>(mat.height(), mat.width(), added_bits));
     mat
-}
-
-// A column of two numbers that can be transformed.
-pub(crate) fn pair<F: CanonicalField>(rt: &impl Abort, alloc: Global, numbers: [u64; 2]) -> Vec<F>
-    ensures fits { FitsDft F.TWO_ADICITY (vec_len result) 1 }
-    ensures two { vec_len result ≡ 2 }
-{
-    let column: Vec<F> = elements(rt, alloc, &numbers);
-    assert!(rt; fits_dft::<F>(column.len(), 1));
-    assert!(rt; column.len() == 2);
-    column
 }
 
 // A shift that has an inverse.

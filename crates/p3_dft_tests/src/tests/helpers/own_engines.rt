@@ -1,6 +1,5 @@
 // Engines that own only what an engine must: all else of them is a default body of the trait. Both have the
-// layout that `NaiveDft` does not have, and one leaves its values in bit reversed order, as the client
-// `own_engine` does with the other layout.
+// layout that `NaiveDft` does not have, and one leaves its values in bit reversed order.
 
 ghost use Rattle.std.specs.Prelude.{◌≡◌, ℕ, ◌*◌, ◌^◌};
 

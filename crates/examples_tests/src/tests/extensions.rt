@@ -3,8 +3,7 @@
 
 ghost use Rattle.std.specs.Prelude.{◌≡◌, ◌*◌};
 
-use super::algebra::coordinates_of;
-use super::helpers::matrices::{assert_rows, elements, sample};
+use super::helpers::matrices::{assert_rows, elements, matrix_of, sample};
 use examples::extension::{BabyBearFourth, ExtensionField, GoldilocksSquared};
 use examples::extension_folding::{fold_into_extension, last_coefficients};
 use p3_dft::{BabyBear, CanonicalField, Goldilocks, Layout, Radix2Dit, RowMajorMatrix, fits_dft};
@@ -575,6 +574,24 @@ fn products_in_extension_fields(rt: HostRuntime) {
     let root: GoldilocksSquared = ExtensionField::<Goldilocks>::root();
     let text = format!(in alloc; "{root} {root:?}").expect(rt, "memory");
     assert!(rt; text.as_str() == "(0 + 1 x) (0 + 1 x)");
+}
+
+// The coordinates of a matrix's elements, row after row.
+fn coordinates_of<F: CanonicalField, E: ExtensionField<F>>(
+    rt: &impl Abort,
+    mat: &RowMajorMatrix<E>,
+) -> RowMajorMatrix<F> {
+    let mut entries = Vec::new(*mat.allocator());
+    for element in mat.values() {
+        for t in 0..E::DIMENSION {
+            entries.push(element.coordinate(t)).expect(rt, "memory");
+        }
+    }
+    let width = mat
+        .width()
+        .checked_mul(E::DIMENSION)
+        .expect(rt, "so many coordinates");
+    matrix_of(rt, entries, width)
 }
 
 // Stops the test where the polynomials with these values on the coset of the shift have other coefficients.

@@ -3,7 +3,8 @@
 
 use super::helpers::matrices::{assert_elements, assert_rows, sample};
 use examples::fri::{Commitment, Layer, Opening, Transcript, check, commit, open};
-use examples::merkle_root::HornerHash;
+use examples::merkle_paths::root_of_path;
+use examples::merkle_root::{HornerHash, RowHash};
 use p3_dft::{BabyBear, CanonicalField, Field, Goldilocks, RowMajorMatrix, fits_dft};
 use std::alloc::Global;
 use std::process::Abort;
@@ -290,17 +291,19 @@ enum Change {
     Far,
     Path,
     Root,
+    RootOfAnother,
     Challenge,
     Last,
     Index,
     Count,
 }
 
-const CHANGES: [Change; 8] = [
+const CHANGES: [Change; 9] = [
     Change::Near,
     Change::Far,
     Change::Path,
     Change::Root,
+    Change::RootOfAnother,
     Change::Challenge,
     Change::Last,
     Change::Index,
@@ -323,6 +326,11 @@ fn changed_queries<F: CanonicalField>(rt: &impl Abort, alloc: Global, case: &Cas
             Change::Far => add_one(rt, openings[layer].pair.values_mut(), case.width),
             Change::Path => add_one(rt, &mut openings[layer].path, 0),
             Change::Root => add_one(rt, &mut commitment.roots, layer),
+            Change::RootOfAnother => {
+                let another = (layer + 1) % openings.len();
+                assert!(rt; commitment.roots.len() == openings.len());
+                commitment.roots.swap(layer, another);
+            }
             Change::Challenge => add_one(rt, &mut commitment.challenges, layer),
             Change::Last => add_one(rt, commitment.last.values_mut(), 0),
             Change::Index => index = 1,
@@ -334,11 +342,31 @@ fn changed_queries<F: CanonicalField>(rt: &impl Abort, alloc: Global, case: &Cas
     }
 }
 
+// The rows of the second pair exchanged, with the root to which it then leads, and with the opposite challenge, so that
+// it folds as before: what the first pair folds to is then in its other row.
+fn exchanged_rows<F: CanonicalField>(rt: &impl Abort, alloc: Global, case: &Case) {
+    let (mut commitment, mut openings) = opened::<F>(rt, alloc, case, 0);
+    assert!(rt; case.log_height >= 2 && case.log_height < 64);
+    let (roots, challenges) = (&mut commitment.roots, &mut commitment.challenges);
+    assert!(rt; openings.len() >= 2 && roots.len() >= 2 && challenges.len() >= 2);
+    let entries = openings[1].pair.values_mut();
+    assert!(rt; entries.len() / 2 == case.width);
+    for j in 0..case.width {
+        entries.swap(j, case.width + j);
+    }
+    let leaf = hash().hash_row(entries);
+    let node = 1 << (case.log_height - 2);
+    roots[1] = root_of_path::<F, HornerHash<F>>(&hash(), node, leaf, &openings[1].path);
+    challenges[1] = -challenges[1];
+    assert!(rt; !is_accepted(rt, &commitment, 0, &openings));
+}
+
 #[test]
 fn changed_queries_are_refused(rt: HostRuntime) {
     for case in &OVER_BABY_BEAR {
         for layer in 0..2 {
             changed_queries::<BabyBear>(&rt, rt.alloc(), case, layer);
         }
+        exchanged_rows::<BabyBear>(&rt, rt.alloc(), case);
     }
 }

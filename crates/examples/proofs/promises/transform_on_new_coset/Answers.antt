@@ -1,4 +1,4 @@
-use Rattle.p3_dft_tests.proofs.tests.callers.transform_on_new_coset.Goals as goal
+use Rattle.examples.proofs.promises.transform_on_new_coset.Goals as goal
 
 pub returns : goal.returns
 returns g c = c.in_ok-coset_dft_batch.ensures.tables c.args.log_h c.requires.height

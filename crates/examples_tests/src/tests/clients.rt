@@ -5,13 +5,15 @@
 // `31 * h^i`, where g and h are powers of 440564289, whose order is 2^27. Leaf r is the digest of the row whose
 // number has the digits of r in reverse, and neighbours are joined until one is left.
 
+use super::helpers::matrices::matrix;
 use super::{FieldName, Topic, over};
 use examples::field_forms::{aligned_text_of, geometric_sum, line_at, text_of, total_of_squares};
+use examples::low_degree::has_low_degree;
 use examples::merkle_root::{HornerHash, merkle_root, roots_of_two};
 use examples::published_degree::published_degree;
 use p3_dft::{
     BabyBear, CanonicalField, Field, Goldilocks, NaiveDft, Radix2DitParallel, RowMajorMatrix,
-    TwoAdicSubgroupDft, fits_lde, has_degree_below,
+    TwoAdicSubgroupDft, fits_dft, fits_lde, has_degree_below,
 };
 use std::alloc::Global;
 use std::process::Abort;
@@ -120,6 +122,28 @@ pub(crate) fn one_root_over<F: CanonicalField>(rt: &impl Abort, alloc: Global) {
 #[test]
 fn one_root(rt: HostRuntime) {
     over(&rt, rt.alloc(), FieldName::BabyBear, Topic::OneRoot);
+}
+
+// Four values on a coset are those of a polynomial of degree below four, and these of none below two.
+fn low_degrees<F: CanonicalField, D: TwoAdicSubgroupDft<F>>(rt: &impl Abort, alloc: Global) {
+    let values: RowMajorMatrix<F> = matrix(rt, alloc, &[9, 873820294, 1, 0], 1);
+    assert!(rt; fits_dft::<F>(values.height(), values.width()));
+    assert!(rt; values.height() == 4);
+    let shift = F::invertible_generator();
+    let (told, engine) = has_low_degree(D::default(), &values, 2, shift);
+    assert!(rt; told.expect(rt, "memory"));
+    let (told, _engine) = has_low_degree(engine, &values, 1, shift);
+    assert!(rt; !told.expect(rt, "memory"));
+}
+
+pub(crate) fn low_degrees_over<F: CanonicalField>(rt: &impl Abort, alloc: Global) {
+    low_degrees::<F, NaiveDft>(rt, alloc);
+    low_degrees::<F, Radix2DitParallel<F>>(rt, alloc);
+}
+
+#[test]
+fn low_degrees_are_told(rt: HostRuntime) {
+    over(&rt, rt.alloc(), FieldName::BabyBear, Topic::LowDegree);
 }
 
 // The columns are the values of 2 - x and 3 - x at 1 and -1. The points of the extension are 7 times the powers of

@@ -1,4 +1,4 @@
-use Rattle.p3_dft_tests.proofs.tests.callers.extend_beside_a_coset.Goals as goal
+use Rattle.examples.proofs.promises.extend_beside_a_coset.Goals as goal
 
 pub returns : goal.returns
 returns g c = c.lde_batch.ensures.engine.later.keeps_cosets c.args.log_h c.args.shift c.requires.prepared

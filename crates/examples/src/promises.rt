@@ -1,0 +1,275 @@
+//! Callers that go by what an engine promises: success at a prepared height and on a coset whose table is there, and
+//! bounds on the products of an engine that was just made.
+//!
+//! Proved: each call succeeds where the engine promised it, and leaves the promise; a new engine has made as many
+//! products as its own bound says, at most.
+
+ghost use Rattle.std.specs.Prelude.{◌≡◌, ℕ, ◌^◌, ◌≤◌, ◌+◌, IfOk, IsOk, vec_len};
+ghost use Rattle.p3_field.specs.Ring.{IsInvertible};
+ghost use Rattle.p3_matrix.specs.RowMajor.{height};
+ghost use Rattle.p3_dft.specs.Engines.{AtLog, IsCosetPrepared, IsPrepared};
+ghost use Rattle.p3_dft.specs.Shapes.{FitsDft, FitsLde};
+
+use p3_dft::{
+    BitReversedMatrixView, DftError, Radix2Dit, Radix2DitParallel, RowMajorMatrix, TwoAdicField,
+    TwoAdicSubgroupDft,
+};
+
+/// A transform of a prepared height.
+pub fn transform_prepared<F: TwoAdicField>(
+    engine: &mut Radix2Dit<F>,
+    mat: RowMajorMatrix<F>,
+    log_h: usize,
+) -> Result<RowMajorMatrix<F>, DftError>
+    requires fits { FitsDft F.TWO_ADICITY (height mat) mat.width }
+    requires height { height mat ≡ 2 ^ log_h }
+    requires prepared { IsPrepared engine.old log_h }
+    ensures ok { IsOk result }
+    ensures still { IsPrepared engine.new log_h }
+{
+    engine.dft_batch(mat)
+}
+
+/// Of a height that is prepared with a larger one.
+pub fn transform_prepared_with_larger<F: TwoAdicField>(
+    engine: &mut Radix2Dit<F>,
+    mat: RowMajorMatrix<F>,
+    log_h: usize,
+    larger: usize,
+) -> Result<RowMajorMatrix<F>, DftError>
+    requires fits { FitsDft F.TWO_ADICITY (height mat) mat.width }
+    requires height { height mat ≡ 2 ^ log_h }
+    requires below { log_h ≤ larger }
+    requires prepared { IsPrepared engine.old larger }
+    ensures { IsOk result }
+{
+    engine.dft_batch(mat)
+}
+
+/// A transform on a coset.
+pub fn transform_prepared_on_coset<F: TwoAdicField>(
+    engine: &mut Radix2Dit<F>,
+    mat: RowMajorMatrix<F>,
+    log_h: usize,
+    shift: F,
+) -> Result<RowMajorMatrix<F>, DftError>
+    requires fits { FitsDft F.TWO_ADICITY (height mat) mat.width }
+    requires height { height mat ≡ 2 ^ log_h }
+    requires prepared { IsPrepared engine.old log_h }
+    ensures ok { IsOk result }
+    ensures still { IsPrepared engine.new log_h }
+{
+    engine.coset_dft_batch(mat, shift)
+}
+
+/// An inverse.
+pub fn invert_prepared<F: TwoAdicField>(
+    engine: &mut Radix2Dit<F>,
+    mat: RowMajorMatrix<F>,
+    log_h: usize,
+) -> Result<RowMajorMatrix<F>, DftError>
+    requires fits { FitsDft F.TWO_ADICITY (height mat) mat.width }
+    requires height { height mat ≡ 2 ^ log_h }
+    requires prepared { IsPrepared engine.old log_h }
+    ensures ok { IsOk result }
+    ensures still { IsPrepared engine.new log_h }
+{
+    engine.idft_batch(mat)
+}
+
+/// An inverse on a coset.
+pub fn invert_prepared_on_coset<F: TwoAdicField>(
+    engine: &mut Radix2Dit<F>,
+    mat: RowMajorMatrix<F>,
+    log_h: usize,
+    shift: F,
+) -> Result<RowMajorMatrix<F>, DftError>
+    requires fits { FitsDft F.TWO_ADICITY (height mat) mat.width }
+    requires invertible { IsInvertible F.ring (F.value shift) }
+    requires height { height mat ≡ 2 ^ log_h }
+    requires prepared { IsPrepared engine.old log_h }
+    ensures ok { IsOk result }
+    ensures still { IsPrepared engine.new log_h }
+{
+    engine.coset_idft_batch(mat, shift)
+}
+
+/// The transform of one column.
+pub fn column_there<F: TwoAdicField>(
+    engine: &mut Radix2Dit<F>,
+    column: Vec<F>,
+    log_h: usize,
+) -> Result<Vec<F>, DftError>
+    requires fits { FitsDft F.TWO_ADICITY (vec_len column) 1 }
+    requires height { vec_len column ≡ 2 ^ log_h }
+    requires prepared { IsPrepared engine.old log_h }
+    ensures { IsOk result }
+{
+    engine.dft(column)
+}
+
+/// On a coset.
+pub fn column_on_coset<F: TwoAdicField>(
+    engine: &mut Radix2Dit<F>,
+    column: Vec<F>,
+    log_h: usize,
+    shift: F,
+) -> Result<Vec<F>, DftError>
+    requires fits { FitsDft F.TWO_ADICITY (vec_len column) 1 }
+    requires height { vec_len column ≡ 2 ^ log_h }
+    requires prepared { IsPrepared engine.old log_h }
+    ensures { IsOk result }
+{
+    engine.coset_dft(column, shift)
+}
+
+/// The inverse of one column.
+pub fn column_back<F: TwoAdicField>(
+    engine: &mut Radix2Dit<F>,
+    column: Vec<F>,
+    log_h: usize,
+) -> Result<Vec<F>, DftError>
+    requires fits { FitsDft F.TWO_ADICITY (vec_len column) 1 }
+    requires height { vec_len column ≡ 2 ^ log_h }
+    requires prepared { IsPrepared engine.old log_h }
+    ensures { IsOk result }
+{
+    engine.idft(column)
+}
+
+/// On a coset.
+pub fn column_back_from_coset<F: TwoAdicField>(
+    engine: &mut Radix2Dit<F>,
+    column: Vec<F>,
+    log_h: usize,
+    shift: F,
+) -> Result<Vec<F>, DftError>
+    requires fits { FitsDft F.TWO_ADICITY (vec_len column) 1 }
+    requires invertible { IsInvertible F.ring (F.value shift) }
+    requires height { vec_len column ≡ 2 ^ log_h }
+    requires prepared { IsPrepared engine.old log_h }
+    ensures { IsOk result }
+{
+    engine.coset_idft(column, shift)
+}
+
+/// Every call of `Radix2Dit` that answers prepares its height: here one that inverts on a coset.
+pub fn prepared_by_an_inverse<F: TwoAdicField>(
+    engine: &mut Radix2Dit<F>,
+    mat: RowMajorMatrix<F>,
+    log_h: usize,
+    shift: F,
+) -> Result<(), DftError>
+    requires fits { FitsDft F.TWO_ADICITY (height mat) mat.width }
+    requires invertible { IsInvertible F.ring (F.value shift) }
+    requires height { height mat ≡ 2 ^ log_h }
+    ensures { IfOk result (λ _. IsPrepared engine.new log_h) }
+{
+    engine.coset_idft_batch(mat, shift)?;
+    Ok(())
+}
+
+/// A transform of any engine, at a height that it promises.
+pub fn transform_promised<F: TwoAdicField, D: TwoAdicSubgroupDft<F>>(
+    engine: &mut D,
+    mat: RowMajorMatrix<F>,
+    log_h: usize,
+) -> Result<D::Evaluations, DftError>
+    requires fits { FitsDft F.TWO_ADICITY (height mat) mat.width }
+    requires height { height mat ≡ 2 ^ log_h }
+    requires promised { D.facts.Succeeds engine.old log_h }
+    ensures ok { IsOk result }
+    ensures still { D.facts.Succeeds engine.new log_h }
+{
+    engine.dft_batch(mat)
+}
+
+/// One on a coset that it promises at that height.
+pub fn transform_on_promised_coset<F: TwoAdicField, D: TwoAdicSubgroupDft<F>>(
+    engine: &mut D,
+    mat: RowMajorMatrix<F>,
+    log_h: usize,
+    shift: F,
+) -> Result<D::Evaluations, DftError>
+    requires fits { FitsDft F.TWO_ADICITY (height mat) mat.width }
+    requires height { height mat ≡ 2 ^ log_h }
+    requires promised { D.facts.Succeeds engine.old log_h }
+    requires coset { D.facts.SucceedsOnCoset engine.old log_h shift }
+    ensures ok { IsOk result }
+    ensures still { D.facts.SucceedsOnCoset engine.new log_h shift }
+{
+    engine.coset_dft_batch(mat, shift)
+}
+
+/// An extension beside a coset whose table is there, which stays.
+pub fn extend_beside_a_coset<F: TwoAdicField>(
+    engine: &mut Radix2DitParallel<F>,
+    mat: RowMajorMatrix<F>,
+    added_bits: usize,
+    log_h: usize,
+    shift: F,
+) -> Result<BitReversedMatrixView<RowMajorMatrix<F>>, DftError>
+    requires fits { FitsLde F.TWO_ADICITY (height mat) mat.width added_bits }
+    requires prepared { IsCosetPrepared F.Field.own engine.old log_h (F.value shift) }
+    ensures { IsCosetPrepared F.Field.own engine.new log_h (F.value shift) }
+{
+    engine.lde_batch(mat, added_bits)
+}
+
+/// A transform on a coset whose table is there.
+pub fn transform_on_known_coset<F: TwoAdicField>(
+    engine: &mut Radix2DitParallel<F>,
+    mat: RowMajorMatrix<F>,
+    log_h: usize,
+    shift: F,
+) -> Result<BitReversedMatrixView<RowMajorMatrix<F>>, DftError>
+    requires fits { FitsDft F.TWO_ADICITY (height mat) mat.width }
+    requires height { height mat ≡ 2 ^ log_h }
+    requires prepared { IsCosetPrepared F.Field.own engine.old log_h (F.value shift) }
+    ensures ok { IsOk result }
+    ensures still { IsCosetPrepared F.Field.own engine.new log_h (F.value shift) }
+{
+    engine.coset_dft_batch(mat, shift)
+}
+
+/// The first transform on a coset makes its table.
+pub fn transform_on_new_coset<F: TwoAdicField>(
+    engine: &mut Radix2DitParallel<F>,
+    mat: RowMajorMatrix<F>,
+    log_h: usize,
+    shift: F,
+) -> Result<(), DftError>
+    requires fits { FitsDft F.TWO_ADICITY (height mat) mat.width }
+    requires height { height mat ≡ 2 ^ log_h }
+    ensures { IfOk result (λ _. IsCosetPrepared F.Field.own engine.new log_h (F.value shift)) }
+{
+    engine.coset_dft_batch(mat, shift)?;
+    Ok(())
+}
+
+/// An engine that was just made, after one transform: its bound is the bound on its products.
+pub fn transform_by_a_new_engine<F: TwoAdicField, D: TwoAdicSubgroupDft<F> + Drop>(
+    mat: RowMajorMatrix<F>,
+) -> Result<D, DftError>
+    requires { FitsDft F.TWO_ADICITY (height mat) mat.width }
+    ensures { IfOk result (λ engine. AtLog (height mat)
+        (λ k. D.facts.products_made engine ≤ D.facts.transform_products k mat.width)) }
+{
+    let mut engine = D::default();
+    engine.dft_batch(mat)?;
+    Ok(engine)
+}
+
+/// An engine that was just made, after one extension of a column: its products are within its own bound.
+pub fn extend_by_a_new_engine<F: TwoAdicField, D: TwoAdicSubgroupDft<F> + Drop>(
+    column: Vec<F>,
+    added_bits: usize,
+) -> Result<D, DftError>
+    requires { FitsLde F.TWO_ADICITY (vec_len column) 1 added_bits }
+    ensures { IfOk result (λ engine. AtLog (vec_len column)
+        (λ k. D.facts.products_made engine ≤ D.facts.extension_products k added_bits 1)) }
+{
+    let mut engine = D::default();
+    engine.lde(column, added_bits)?;
+    Ok(engine)
+}

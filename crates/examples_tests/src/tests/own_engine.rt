@@ -1,0 +1,76 @@
+// The engine of one's own answers each call as `NaiveDft` does.
+
+use super::helpers::matrices::sample;
+use super::{FieldName, Topic, over};
+use engine_calls::answers::{Answer, Input, answer_to};
+use engine_calls::changes::Change;
+use engine_calls::names::{CALLS, Call};
+use examples::own_engine::NaturalToReversed;
+use p3_dft::{CanonicalField, Layout, NaiveDft, RowMajorMatrix, TwoAdicField, TwoAdicSubgroupDft};
+use std::alloc::Global;
+use std::process::Abort;
+
+// Heights, widths and added bits.
+const SHAPES: [(usize, usize, usize); 3] = [(1, 1, 1), (4, 3, 0), (8, 1, 2)];
+
+fn input<F: TwoAdicField>(
+    rt: &impl Abort,
+    mat: &RowMajorMatrix<F>,
+    added_bits: usize,
+    change: Change,
+) -> Input<F> {
+    Input {
+        mat: mat.try_clone().expect(rt, "memory"),
+        added_bits,
+        shift: F::GENERATOR,
+        change,
+    }
+}
+
+// Whether both are rows, and the same, or both tell the same.
+fn are_same<F: TwoAdicField>(one: &Answer<F>, other: &Answer<F>) -> bool {
+    match (one, other) {
+        (Answer::Rows(one), Answer::Rows(other)) => *one == *other,
+        (Answer::Holds(one), Answer::Holds(other)) => *one == *other,
+        (Answer::Absent, Answer::Absent) => true,
+        _ => false,
+    }
+}
+
+fn assert_agreed<F: TwoAdicField>(
+    rt: &impl Abort,
+    call: Call,
+    mat: &RowMajorMatrix<F>,
+    added_bits: usize,
+    change: Change,
+) {
+    let mut own = NaturalToReversed::default();
+    let answer = answer_to(&mut own, call, input(rt, mat, added_bits, change));
+    let mut naive = NaiveDft::default();
+    let expected = answer_to(&mut naive, call, input(rt, mat, added_bits, change));
+    assert!(rt;
+        are_same(&answer, &expected),
+        "{} {}: wrong at {} rows of {}, {added_bits} added bits",
+        call.form(),
+        call.word(),
+        mat.height(),
+        mat.width()
+    );
+}
+
+pub(crate) fn answers_agree<F: CanonicalField>(rt: &impl Abort, alloc: Global) {
+    assert!(rt; <NaturalToReversed as TwoAdicSubgroupDft<F>>::LAYOUT == Layout::Natural);
+    for (height, width, added_bits) in SHAPES {
+        let mat: RowMajorMatrix<F> = sample(rt, alloc, height, width, 9);
+        for call in CALLS {
+            for change in [Change::Nothing, Change::Weighted, Change::Reversed] {
+                assert_agreed(rt, call, &mat, added_bits, change);
+            }
+        }
+    }
+}
+
+#[test]
+fn an_engine_of_ones_own_answers_as_the_definition(rt: HostRuntime) {
+    over(&rt, rt.alloc(), FieldName::BabyBear, Topic::OwnEngine);
+}
