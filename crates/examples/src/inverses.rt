@@ -1,4 +1,4 @@
-//! Inverses on cosets, over named fields and over any: which shifts a client hands over, and what it
+//! Inverses on cosets, over a named field and over any: which shifts a client hands over, and what it
 //! tests of one that comes from outside.
 //!
 //! Proved: each call has a shape that fits and a shift with an inverse, and so may be made; what is answered are the
@@ -6,7 +6,7 @@
 //! file.
 
 ghost use Rattle.std.specs.Prelude.{IfOk, IfSome, IsNone};
-ghost use Rattle.p3_field.specs.NamedFields.{baby_bear, goldilocks, koala_bear};
+ghost use Rattle.p3_field.specs.NamedFields.{baby_bear};
 ghost use Rattle.p3_field.specs.Ring.{IsInvertible};
 ghost use Rattle.p3_matrix.specs.RowMajor.{height};
 ghost use Rattle.p3_dft.specs.Engines.{IsLater};
@@ -14,8 +14,7 @@ ghost use Rattle.p3_dft.specs.Shapes.{FitsDft};
 ghost use Rattle.p3_dft.specs.Transforms.{IsInterpolation};
 
 use p3_dft::{
-    BabyBear, DftError, Field, Goldilocks, KoalaBear, RowMajorMatrix, TwoAdicField,
-    TwoAdicSubgroupDft, fits_dft,
+    BabyBear, DftError, Field, RowMajorMatrix, TwoAdicField, TwoAdicSubgroupDft, fits_dft,
 };
 
 /// The coefficients of a matrix of values on the coset of the field's generator.
@@ -46,22 +45,6 @@ pub fn from_baby_bear_generator<D: TwoAdicSubgroupDft<BabyBear>>(
         return None;
     }
     Some(engine.coset_idft_batch(values, BabyBear::invertible_generator()))
-}
-
-/// Coefficients of values on the coset of the generator of `KoalaBear`.
-pub fn from_koala_bear_generator<D: TwoAdicSubgroupDft<KoalaBear>>(
-    engine: &mut D,
-    values: RowMajorMatrix<KoalaBear>,
-) -> Option<Result<RowMajorMatrix<KoalaBear>, DftError>>
-    ensures coefficients { IfSome result (λ answer. IfOk answer (IsInterpolation koala_bear
-        ⟦<KoalaBear as TwoAdicField>⟧.generator values (koala_bear.value koala_bear.GENERATOR))) }
-    ensures none { IsNone result → ¬ (FitsDft ⟦<KoalaBear as TwoAdicField>⟧.TWO_ADICITY (height values) values.width) }
-    ensures later { IsLater D.facts engine.old engine.new }
-{
-    if !fits_dft::<KoalaBear>(values.height(), values.width()) {
-        return None;
-    }
-    Some(engine.coset_idft_batch(values, KoalaBear::invertible_generator()))
 }
 
 /// The coefficients of a matrix of values on a coset: `None` where the shift has no inverse.
@@ -98,25 +81,4 @@ pub fn from_baby_bear_shift<D: TwoAdicSubgroupDft<BabyBear>>(
         return None;
     }
     Some(engine.coset_idft_batch(values, shift))
-}
-
-/// Over `Goldilocks`, with the inverse matched.
-pub fn from_goldilocks_shift<D: TwoAdicSubgroupDft<Goldilocks>>(
-    engine: &mut D,
-    values: RowMajorMatrix<Goldilocks>,
-    shift: Goldilocks,
-) -> Option<Result<RowMajorMatrix<Goldilocks>, DftError>>
-    ensures coefficients { IfSome result (λ answer. IfOk answer (IsInterpolation goldilocks
-        ⟦<Goldilocks as TwoAdicField>⟧.generator values (goldilocks.value shift))) }
-    ensures none { IsNone result → ¬ (FitsDft ⟦<Goldilocks as TwoAdicField>⟧.TWO_ADICITY (height values) values.width
-        × IsInvertible goldilocks.ring (goldilocks.value shift)) }
-    ensures later { IsLater D.facts engine.old engine.new }
-{
-    if !fits_dft::<Goldilocks>(values.height(), values.width()) {
-        return None;
-    }
-    match shift.try_inverse() {
-        Some(_) => Some(engine.coset_idft_batch(values, shift)),
-        None => None,
-    }
 }

@@ -46,22 +46,6 @@ pub fn transform_prepared_with_larger<F: TwoAdicField>(
     engine.dft_batch(mat)
 }
 
-/// A transform on a coset.
-pub fn transform_prepared_on_coset<F: TwoAdicField>(
-    engine: &mut Radix2Dit<F>,
-    mat: RowMajorMatrix<F>,
-    log_h: usize,
-    shift: F,
-) -> Result<RowMajorMatrix<F>, DftError>
-    requires fits { FitsDft F.TWO_ADICITY (height mat) mat.width }
-    requires height { height mat ≡ 2 ^ log_h }
-    requires prepared { IsPrepared engine.old log_h }
-    ensures ok { IsOk result }
-    ensures still { IsPrepared engine.new log_h }
-{
-    engine.coset_dft_batch(mat, shift)
-}
-
 /// An inverse.
 pub fn invert_prepared<F: TwoAdicField>(
     engine: &mut Radix2Dit<F>,
@@ -77,23 +61,6 @@ pub fn invert_prepared<F: TwoAdicField>(
     engine.idft_batch(mat)
 }
 
-/// An inverse on a coset.
-pub fn invert_prepared_on_coset<F: TwoAdicField>(
-    engine: &mut Radix2Dit<F>,
-    mat: RowMajorMatrix<F>,
-    log_h: usize,
-    shift: F,
-) -> Result<RowMajorMatrix<F>, DftError>
-    requires fits { FitsDft F.TWO_ADICITY (height mat) mat.width }
-    requires invertible { IsInvertible F.ring (F.value shift) }
-    requires height { height mat ≡ 2 ^ log_h }
-    requires prepared { IsPrepared engine.old log_h }
-    ensures ok { IsOk result }
-    ensures still { IsPrepared engine.new log_h }
-{
-    engine.coset_idft_batch(mat, shift)
-}
-
 /// The transform of one column.
 pub fn column_there<F: TwoAdicField>(
     engine: &mut Radix2Dit<F>,
@@ -106,51 +73,6 @@ pub fn column_there<F: TwoAdicField>(
     ensures { IsOk result }
 {
     engine.dft(column)
-}
-
-/// On a coset.
-pub fn column_on_coset<F: TwoAdicField>(
-    engine: &mut Radix2Dit<F>,
-    column: Vec<F>,
-    log_h: usize,
-    shift: F,
-) -> Result<Vec<F>, DftError>
-    requires fits { FitsDft F.TWO_ADICITY (vec_len column) 1 }
-    requires height { vec_len column ≡ 2 ^ log_h }
-    requires prepared { IsPrepared engine.old log_h }
-    ensures { IsOk result }
-{
-    engine.coset_dft(column, shift)
-}
-
-/// The inverse of one column.
-pub fn column_back<F: TwoAdicField>(
-    engine: &mut Radix2Dit<F>,
-    column: Vec<F>,
-    log_h: usize,
-) -> Result<Vec<F>, DftError>
-    requires fits { FitsDft F.TWO_ADICITY (vec_len column) 1 }
-    requires height { vec_len column ≡ 2 ^ log_h }
-    requires prepared { IsPrepared engine.old log_h }
-    ensures { IsOk result }
-{
-    engine.idft(column)
-}
-
-/// On a coset.
-pub fn column_back_from_coset<F: TwoAdicField>(
-    engine: &mut Radix2Dit<F>,
-    column: Vec<F>,
-    log_h: usize,
-    shift: F,
-) -> Result<Vec<F>, DftError>
-    requires fits { FitsDft F.TWO_ADICITY (vec_len column) 1 }
-    requires invertible { IsInvertible F.ring (F.value shift) }
-    requires height { vec_len column ≡ 2 ^ log_h }
-    requires prepared { IsPrepared engine.old log_h }
-    ensures { IsOk result }
-{
-    engine.coset_idft(column, shift)
 }
 
 /// Every call of `Radix2Dit` that answers prepares its height: here one that inverts on a coset.

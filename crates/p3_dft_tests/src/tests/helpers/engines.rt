@@ -1,10 +1,10 @@
-// The engines that tests are run on: those of the library, and some that own only what an engine must. A test stops
+// The engines that tests are run on: those of the library, and one that owns only what an engine must. A test stops
 // where one of them does not answer, and tells the call, the engine and the shape.
 
 ghost use Rattle.std.specs.List.{All};
 ghost use Rattle.p3_dft.specs.Jobs.{CanRun};
 
-use super::own_engines::{LimitedDft, ReversedToReversed};
+use super::own_engines::LimitedDft;
 use engine_calls::algebra::answer_in_space;
 use engine_calls::answers::{Answer, Input, answer_to};
 use engine_calls::blocks::{Publication, makes_consumer_late, publish};
@@ -21,17 +21,15 @@ use std::process::Abort;
 pub(crate) enum Name {
     Library(EngineName),
     Limited,
-    ReversedToReversed,
 }
 
-pub(crate) const EVERY_ENGINE: [Name; 7] = [
+pub(crate) const EVERY_ENGINE: [Name; 6] = [
     Name::Library(EngineName::Parallel),
     Name::Library(EngineName::Dit),
     Name::Library(EngineName::Bowers),
     Name::Library(EngineName::Small),
     Name::Library(EngineName::Naive),
     Name::Limited,
-    Name::ReversedToReversed,
 ];
 
 // The engine whose extensions are in several blocks is the first.
@@ -42,7 +40,6 @@ impl Name {
         match self {
             Name::Library(name) => name.word(),
             Name::Limited => "limited",
-            Name::ReversedToReversed => "reversed to reversed",
         }
     }
 }
@@ -52,7 +49,6 @@ impl Name {
 pub(crate) enum Kind<F: TwoAdicField> {
     Library(Engine<F>),
     Limited(LimitedDft),
-    ReversedToReversed(ReversedToReversed),
 }
 
 // One under test.
@@ -68,7 +64,6 @@ impl<F: TwoAdicField> TestEngine<F> {
         let kind = match name {
             Name::Library(name) => Kind::Library(Engine::new(name)),
             Name::Limited => Kind::Limited(LimitedDft::default()),
-            Name::ReversedToReversed => Kind::ReversedToReversed(ReversedToReversed::default()),
         };
         let name = name.word();
         TestEngine { name, kind }
@@ -87,7 +82,6 @@ impl<F: TwoAdicField> TestEngine<F> {
         match &mut self.kind {
             Kind::Library(engine) => engine.answer(call, input),
             Kind::Limited(engine) => answer_to(engine, call, input),
-            Kind::ReversedToReversed(engine) => answer_to(engine, call, input),
         }
     }
 
@@ -102,9 +96,6 @@ impl<F: TwoAdicField> TestEngine<F> {
         match &mut self.kind {
             Kind::Library(engine) => engine.answer_in_space(call, mat, added_bits, shift),
             Kind::Limited(engine) => answer_in_space(engine, call, mat, added_bits, shift),
-            Kind::ReversedToReversed(engine) => {
-                answer_in_space(engine, call, mat, added_bits, shift)
-            }
         }
     }
 
@@ -118,7 +109,6 @@ impl<F: TwoAdicField> TestEngine<F> {
         match &mut self.kind {
             Kind::Library(engine) => engine.run_jobs(jobs),
             Kind::Limited(engine) => run_jobs(engine, jobs),
-            Kind::ReversedToReversed(engine) => run_jobs(engine, jobs),
         }
     }
 
@@ -134,7 +124,6 @@ impl<F: TwoAdicField> TestEngine<F> {
         match &mut self.kind {
             Kind::Library(engine) => engine.publish(input, consumer),
             Kind::Limited(engine) => publish(engine, input, consumer),
-            Kind::ReversedToReversed(engine) => publish(engine, input, consumer),
         }
     }
 
@@ -143,7 +132,6 @@ impl<F: TwoAdicField> TestEngine<F> {
         match &mut self.kind {
             Kind::Library(engine) => engine.makes_consumer_late(input),
             Kind::Limited(engine) => makes_consumer_late(engine, input),
-            Kind::ReversedToReversed(engine) => makes_consumer_late(engine, input),
         }
     }
 
@@ -152,7 +140,6 @@ impl<F: TwoAdicField> TestEngine<F> {
         match &self.kind {
             Kind::Library(engine) => engine.layout(),
             Kind::Limited(_) => <LimitedDft as TwoAdicSubgroupDft<F>>::LAYOUT,
-            Kind::ReversedToReversed(_) => <ReversedToReversed as TwoAdicSubgroupDft<F>>::LAYOUT,
         }
     }
 
@@ -161,9 +148,6 @@ impl<F: TwoAdicField> TestEngine<F> {
         let kind = match &self.kind {
             Kind::Library(engine) => Kind::Library(engine.copied().expect(rt, "memory")),
             Kind::Limited(engine) => Kind::Limited(engine.clone().expect(rt, "memory")),
-            Kind::ReversedToReversed(engine) => {
-                Kind::ReversedToReversed(engine.clone().expect(rt, "memory"))
-            }
         };
         let name = self.name;
         TestEngine { name, kind }

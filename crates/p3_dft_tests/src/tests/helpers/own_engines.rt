@@ -1,5 +1,5 @@
-// Engines that own only what an engine must: all else of them is a default body of the trait. Both have the
-// layout that `NaiveDft` does not have, and one leaves its values in bit reversed order.
+// An engine that owns only what an engine must: all else of it is a default body of the trait. It has coefficients and
+// values in the orders that `NaiveDft` does not have.
 
 ghost use Rattle.std.specs.Prelude.{◌≡◌, ℕ, ◌*◌, ◌^◌};
 
@@ -9,8 +9,7 @@ use p3_dft::{
 };
 use std::alloc::AllocError;
 
-// Has coefficients in bit reversed order, and makes so many transforms: memory for a later one is
-// refused.
+// Has both in bit reversed order, and makes so many transforms: memory for a later one is refused.
 #[derive(Drop)]
 pub(crate) struct LimitedDft {
     left: usize,
@@ -56,7 +55,7 @@ impl<F: TwoAdicField> TwoAdicSubgroupDft<F> for LimitedDft {
     ghost use Rattle.p3_dft.specs.Engines.{plain_facts};
     ghost use Rattle.p3_dft.specs.declared.traits.Layout.TheVariants.{BitReversed};
 
-    type Evaluations = RowMajorMatrix<F>;
+    type Evaluations = BitReversedMatrixView<RowMajorMatrix<F>>;
 
     const LAYOUT: Layout = Layout::BitReversed;
 
@@ -77,93 +76,13 @@ impl<F: TwoAdicField> TwoAdicSubgroupDft<F> for LimitedDft {
     fn dft_batch<N: IntoRowMajorMatrix<F>>(
         &mut self,
         mat: N,
-    ) -> Result<RowMajorMatrix<F>, DftError> {
+    ) -> Result<BitReversedMatrixView<RowMajorMatrix<F>>, DftError> {
         let mat = mat.into_row_major_matrix();
         if self.left == 0 {
             // No process has room for so many elements.
             let _none: Vec<F> = growth::with_capacity(*mat.allocator(), usize::MAX)?;
         }
         self.left = self.left.saturating_sub(1);
-        self.sums.dft_batch(mat)
-    }
-
-    fn add_products(&mut self, products: Products) {
-        TwoAdicSubgroupDft::<F>::add_products(&mut self.sums, products);
-    }
-
-    fn block_height(&self, log_h: usize, added_bits: usize) -> usize {
-        1 << (log_h + added_bits)
-    }
-
-    fn coset_lde_batch_with_transform<
-        N: IntoRowMajorMatrix<F>,
-        T: FnOnce(RowMajorMatrix<F>, Layout) -> RowMajorMatrix<F> + Drop,
-    >(
-        &mut self,
-        mat: N,
-        added_bits: usize,
-        shift: F,
-        transform: T,
-    ) -> Result<RowMajorMatrix<F>, DftError> {
-        self.coset_lde_batch_by_parts(mat, added_bits, shift, transform)
-    }
-}
-
-// Has both in bit reversed order.
-#[derive(Drop)]
-pub(crate) struct ReversedToReversed {
-    sums: NaiveDft,
-}
-
-impl Default for ReversedToReversed {
-    ghost use Rattle.std.specs.Prelude.{◌≡◌};
-
-    ghost is_default = { λ e. e.sums ≡ 0 };
-
-    fn default() -> Self {
-        ReversedToReversed {
-            sums: NaiveDft::default(),
-        }
-    }
-}
-
-impl Clone for ReversedToReversed {
-    ghost use Rattle.std.specs.Prelude.{◌≡◌, ⊤};
-
-    ghost is_clone = { λ _ e. e.sums ≡ 0 };
-
-    ghost is_infallible = { λ _. ⊤ };
-
-    fn clone(&self) -> Result<Self, AllocError> {
-        Ok(Self::default())
-    }
-}
-
-impl<F: TwoAdicField> TwoAdicSubgroupDft<F> for ReversedToReversed {
-    ghost use Rattle.std.specs.Prelude.{⊤, ℕ, ◌+◌, ◌*◌, ◌^◌};
-    ghost use Rattle.std.proofs.Common.{refl, rules};
-    ghost use Rattle.p3_dft.specs.Engines.{plain_facts};
-    ghost use Rattle.p3_dft.specs.declared.traits.Layout.TheVariants.{BitReversed};
-
-    type Evaluations = BitReversedMatrixView<RowMajorMatrix<F>>;
-
-    const LAYOUT: Layout = Layout::BitReversed;
-
-    ghost LAYOUT = { BitReversed };
-
-    ghost facts = { plain_facts (λ _ _. ⊥) (λ _ _ _. ⊤) (λ _ _. ⊤) (λ k w. 2 ^ k * 2 ^ k * w) (λ e. e.sums) };
-
-    ghost laws = { record {
-      power_of_two = λ k a. (k + a, Prim.search (rules), refl);
-      new_made_none = λ e none. none;
-      clone_made_none = λ e copy none. none;
-      clones = λ e. tt;
-    } };
-
-    fn dft_batch<N: IntoRowMajorMatrix<F>>(
-        &mut self,
-        mat: N,
-    ) -> Result<BitReversedMatrixView<RowMajorMatrix<F>>, DftError> {
         let values: RowMajorMatrix<F> = self.sums.dft_batch(mat)?;
         Ok(values.into_bit_reversed())
     }
