@@ -2,11 +2,11 @@
 
 use p3_dft::{
     BabyBear, BabyBearX8, BitReversedMatrixView, Butterfly, DifButterfly, DifButterflyZeros,
-    DitButterfly, Evaluations, Field, Goldilocks, IntoRowMajorMatrix, Lanes, Packable, Packed,
-    PackedField, Products, RowMajorMatrix, RowMajorMatrixView, RowMajorMatrixViewMut,
-    ScaledDitButterfly, TwiddleFreeButterfly, TwoAdicField, apply_dit_by_place, divide_by_height,
-    log2_strict_usize, reverse_bits_len, reverse_matrix_index_bits, reverse_slice_index_bits,
-    scale_slice_in_place, scaled, split_rows_mut, swap_rows,
+    DitButterfly, Evaluations, Field, IntoRowMajorMatrix, Lanes, Packable, Packed, PackedField,
+    Products, RowMajorMatrix, RowMajorMatrixView, RowMajorMatrixViewMut, ScaledDitButterfly,
+    TwiddleFreeButterfly, TwoAdicField, apply_dit_by_place, divide_by_height, log2_strict_usize,
+    reverse_bits_len, reverse_matrix_index_bits, reverse_slice_index_bits, scale_slice_in_place,
+    scaled, split_rows_mut, swap_rows,
 };
 use std::alloc::Global;
 use std::process::Abort;
@@ -27,10 +27,10 @@ fn one_is_one<F: Packable>(rt: &impl Abort) {
 
 #[test]
 fn fields_are_named_by_p3_dft(rt: HostRuntime) {
-    one_is_one::<Goldilocks>(&rt);
-    let mut lanes = [Goldilocks::ZERO; 4];
-    broadcast(Goldilocks::ONE).store(&mut lanes);
-    assert!(rt; lanes == [Goldilocks::ONE; 4]);
+    one_is_one::<BabyBear>(&rt);
+    let mut lanes = [BabyBear::ZERO; 8];
+    broadcast(BabyBear::ONE).store(&mut lanes);
+    assert!(rt; lanes == [BabyBear::ONE; 8]);
 }
 
 // What a butterfly makes of two and one.
