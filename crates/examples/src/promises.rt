@@ -1,8 +1,8 @@
 //! Callers that go by what an engine promises: success at a prepared height and on a coset whose table is there, and
 //! bounds on the products of an engine that was just made.
 //!
-//! Proved: each call succeeds where the engine promised it, and leaves the promise; a new engine has made as many
-//! products as its own bound says, at most.
+//! Proved: a call succeeds where the engine promised it, what a call prepared is promised from then on, and a new engine
+//! has made as many products as its own bound says, at most.
 
 ghost use Rattle.std.specs.Prelude.{◌≡◌, ℕ, ◌^◌, ◌≤◌, ◌+◌, IfOk, IsOk, vec_len};
 ghost use Rattle.p3_field.specs.Ring.{IsInvertible};
@@ -61,6 +61,23 @@ pub fn invert_prepared<F: TwoAdicField>(
     engine.idft_batch(mat)
 }
 
+/// An inverse on a coset.
+pub fn invert_prepared_on_coset<F: TwoAdicField>(
+    engine: &mut Radix2Dit<F>,
+    mat: RowMajorMatrix<F>,
+    log_h: usize,
+    shift: F,
+) -> Result<RowMajorMatrix<F>, DftError>
+    requires fits { FitsDft F.TWO_ADICITY (height mat) mat.width }
+    requires invertible { IsInvertible F.ring (F.value shift) }
+    requires height { height mat ≡ 2 ^ log_h }
+    requires prepared { IsPrepared engine.old log_h }
+    ensures ok { IsOk result }
+    ensures still { IsPrepared engine.new log_h }
+{
+    engine.coset_idft_batch(mat, shift)
+}
+
 /// The transform of one column.
 pub fn column_there<F: TwoAdicField>(
     engine: &mut Radix2Dit<F>,
@@ -73,6 +90,22 @@ pub fn column_there<F: TwoAdicField>(
     ensures { IsOk result }
 {
     engine.dft(column)
+}
+
+/// The inverse of one column on a coset.
+pub fn column_back_from_coset<F: TwoAdicField>(
+    engine: &mut Radix2Dit<F>,
+    column: Vec<F>,
+    log_h: usize,
+    shift: F,
+) -> Result<Vec<F>, DftError>
+    requires fits { FitsDft F.TWO_ADICITY (vec_len column) 1 }
+    requires invertible { IsInvertible F.ring (F.value shift) }
+    requires height { vec_len column ≡ 2 ^ log_h }
+    requires prepared { IsPrepared engine.old log_h }
+    ensures { IsOk result }
+{
+    engine.coset_idft(column, shift)
 }
 
 /// Every call of `Radix2Dit` that answers prepares its height: here one that inverts on a coset.

@@ -1,7 +1,7 @@
 // Tests by the client that they are of.
 //
 // The numbers were worked out by another program. What is known of a concrete field is dear to prove, at each call that
-// names it, so tests are generic over the field, and `over` names fields; beside it those of extension fields do.
+// names it, so most tests are generic over the field, and `over` names fields.
 
 mod clients;
 mod extensions;

@@ -1,12 +1,14 @@
-// The engine of one's own answers each call as `NaiveDft` does.
+// The engine of one's own answers each call as `Radix2Bowers` does, which has bodies of its own.
 
-use super::helpers::matrices::sample;
+use super::helpers::matrices::{matrix_of, sample};
 use super::{FieldName, Topic, over};
 use engine_calls::answers::{Answer, Input, answer_to};
 use engine_calls::changes::Change;
 use engine_calls::names::{CALLS, Call};
 use examples::own_engine::NaturalToReversed;
-use p3_dft::{CanonicalField, Layout, NaiveDft, RowMajorMatrix, TwoAdicField, TwoAdicSubgroupDft};
+use p3_dft::{
+    CanonicalField, Layout, Radix2Bowers, RowMajorMatrix, TwoAdicField, TwoAdicSubgroupDft,
+};
 use std::alloc::Global;
 use std::process::Abort;
 
@@ -46,8 +48,8 @@ fn assert_agreed<F: TwoAdicField>(
 ) {
     let mut own = NaturalToReversed::default();
     let answer = answer_to(&mut own, call, input(rt, mat, added_bits, change));
-    let mut naive = NaiveDft::default();
-    let expected = answer_to(&mut naive, call, input(rt, mat, added_bits, change));
+    let mut bowers = Radix2Bowers::default();
+    let expected = answer_to(&mut bowers, call, input(rt, mat, added_bits, change));
     assert!(rt;
         are_same(&answer, &expected),
         "{} {}: wrong at {} rows of {}, {added_bits} added bits",
@@ -58,19 +60,31 @@ fn assert_agreed<F: TwoAdicField>(
     );
 }
 
+// A matrix of zeros of the same shape.
+fn zeros_like<F: TwoAdicField>(rt: &impl Abort, mat: &RowMajorMatrix<F>) -> RowMajorMatrix<F> {
+    let mut entries = Vec::new(*mat.allocator());
+    for _entry in mat.values() {
+        entries.push(F::ZERO).expect(rt, "memory");
+    }
+    matrix_of(rt, entries, mat.width())
+}
+
 pub(crate) fn answers_agree<F: CanonicalField>(rt: &impl Abort, alloc: Global) {
     assert!(rt; <NaturalToReversed as TwoAdicSubgroupDft<F>>::LAYOUT == Layout::Natural);
     for (height, width, added_bits) in SHAPES {
         let mat: RowMajorMatrix<F> = sample(rt, alloc, height, width, 9);
+        // A codeword.
+        let zeros = zeros_like(rt, &mat);
         for call in CALLS {
             for change in [Change::Nothing, Change::Weighted, Change::Reversed] {
                 assert_agreed(rt, call, &mat, added_bits, change);
             }
+            assert_agreed(rt, call, &zeros, added_bits, Change::Nothing);
         }
     }
 }
 
 #[test]
-fn an_engine_of_ones_own_answers_as_the_definition(rt: HostRuntime) {
+fn an_engine_of_ones_own_answers_as_another(rt: HostRuntime) {
     over(&rt, rt.alloc(), FieldName::BabyBear, Topic::OwnEngine);
 }
