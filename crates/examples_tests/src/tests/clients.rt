@@ -5,7 +5,7 @@
 // `31 * h^i`, where g and h are powers of 440564289, whose order is 2^27. Leaf r is the digest of the row whose
 // number has the digits of r in reverse, and neighbours are joined until one is left.
 
-use super::helpers::matrices::{assert_rows, matrix};
+use super::helpers::matrices::matrix;
 use super::{FieldName, Topic, over};
 use examples::field_forms::{aligned_text_of, geometric_sum, line_at, text_of, total_of_squares};
 use examples::low_degree::has_low_degree;
@@ -146,22 +146,41 @@ fn low_degrees_are_told(rt: HostRuntime) {
     over(&rt, rt.alloc(), FieldName::BabyBear, Topic::LowDegree);
 }
 
-// The columns are the values of 2 - x and 3 - x at 1 and -1. The points of the extension are 31 times the powers of
-// 1728404513, whose square is -1. Read as coefficients, its rows have degree below 4 and not below 3.
+// The columns are the values of 2 - x and 3 - x at 1 and -1. The points of the extension are 7 times the powers of
+// `2^48`, whose square is -1 modulo `2^64 - 2^32 + 1`. Read as coefficients, its rows have degree below 4 and not
+// below 3.
 #[test]
 fn what_was_published_has_low_degree(rt: HostRuntime) {
-    let mat: RowMajorMatrix<BabyBear> = matrix(&rt, rt.alloc(), &[1, 2, 3, 4], 2);
-    assert!(rt; fits_lde::<BabyBear>(mat.height(), mat.width(), 1));
-    let shift = BabyBear::invertible_generator();
+    let mut entries = Vec::new(rt.alloc());
+    for n in [1u8, 2, 3, 4] {
+        entries.push(Goldilocks::from_u8(n)).expect(&rt, "memory");
+    }
+    assert!(rt; entries.len() % 2 == 0);
+    let mat = RowMajorMatrix::new(entries, 2);
+    assert!(rt; fits_lde::<Goldilocks>(mat.height(), mat.width(), 1));
+    let shift = Goldilocks::invertible_generator();
     let answer = published_degree(&mut Radix2DitParallel::default(), mat, 1, shift);
     let (kept, low) = answer.expect(&rt, "memory");
     assert!(rt; low && has_degree_below(&kept, 4) && !has_degree_below(&kept, 3));
-    assert_rows(&rt, &kept, &PUBLISHED, 2);
+    assert!(rt; kept.width() == 2 && kept.values().len() == PUBLISHED.len());
+    for (x, number) in kept.values().iter().zip(PUBLISHED) {
+        assert!(rt; x.as_canonical_u64() == number);
+    }
 }
 
-// At 31, 31 * 1728404513, and at these with the other sign.
 const PUBLISHED: [u64; 8] = [
-    2013265892, 2013265893, 777639966, 777639967, 33, 34, 1235625959, 1235625960,
+    // at 7
+    18446744069414584316,
+    18446744069414584317,
+    // at 7 * 2^48
+    18444773744577609731,
+    18444773744577609732,
+    // at -7
+    9,
+    10,
+    // at -7 * 2^48
+    1970324836974594,
+    1970324836974595,
 ];
 
 // 3 * 5 + 2, 1 + 4 + 9, and 1 + 2 + 4 + 8 + 16.
