@@ -1,14 +1,17 @@
 //! Callers that go by what an engine promises: success at a prepared height and on a coset whose table is there, and
 //! bounds on the products of an engine that was just made.
 //!
-//! Proved: a call succeeds where the engine promised it, what a call prepared is promised from then on, and a new engine
-//! has made as many products as its own bound says, at most.
+//! Proved: what each answers; that a call succeeds where the engine promised it, that what it prepared is promised from
+//! then on, and that a new engine has made as many products as its own bound says, at most.
 
 ghost use Rattle.std.specs.Prelude.{◌≡◌, ℕ, ◌^◌, ◌≤◌, ◌+◌, IfOk, IsOk, vec_len};
 ghost use Rattle.p3_field.specs.Ring.{IsInvertible};
+ghost use Rattle.p3_matrix.specs.BitOrder.{reversed_rows};
 ghost use Rattle.p3_matrix.specs.RowMajor.{height};
-ghost use Rattle.p3_dft.specs.Engines.{AtLog, IsCosetPrepared, IsPrepared};
+ghost use Rattle.p3_dft.specs.Engines.{AtLog, IsCosetPrepared, IsPrepared, col};
+ghost use Rattle.p3_dft.specs.Extensions.{IsExtension};
 ghost use Rattle.p3_dft.specs.Shapes.{FitsDft, FitsLde};
+ghost use Rattle.p3_dft.specs.Transforms.{IsInterpolation, IsTransform};
 
 use p3_dft::{
     BitReversedMatrixView, DftError, Radix2Dit, Radix2DitParallel, RowMajorMatrix, TwoAdicField,
@@ -24,6 +27,7 @@ pub fn transform_prepared<F: TwoAdicField>(
     requires fits { FitsDft F.TWO_ADICITY (height mat) mat.width }
     requires height { height mat ≡ 2 ^ log_h }
     requires prepared { IsPrepared engine.old log_h }
+    ensures values { IfOk result (λ out. IsTransform F.Field.own F.generator mat F.ring.one out) }
     ensures ok { IsOk result }
     ensures still { IsPrepared engine.new log_h }
 {
@@ -41,7 +45,8 @@ pub fn transform_prepared_with_larger<F: TwoAdicField>(
     requires height { height mat ≡ 2 ^ log_h }
     requires below { log_h ≤ larger }
     requires prepared { IsPrepared engine.old larger }
-    ensures { IsOk result }
+    ensures values { IfOk result (λ out. IsTransform F.Field.own F.generator mat F.ring.one out) }
+    ensures ok { IsOk result }
 {
     engine.dft_batch(mat)
 }
@@ -55,6 +60,7 @@ pub fn invert_prepared<F: TwoAdicField>(
     requires fits { FitsDft F.TWO_ADICITY (height mat) mat.width }
     requires height { height mat ≡ 2 ^ log_h }
     requires prepared { IsPrepared engine.old log_h }
+    ensures coefficients { IfOk result (λ out. IsInterpolation F.Field.own F.generator mat F.ring.one out) }
     ensures ok { IsOk result }
     ensures still { IsPrepared engine.new log_h }
 {
@@ -72,6 +78,7 @@ pub fn invert_prepared_on_coset<F: TwoAdicField>(
     requires invertible { IsInvertible F.ring (F.value shift) }
     requires height { height mat ≡ 2 ^ log_h }
     requires prepared { IsPrepared engine.old log_h }
+    ensures coefficients { IfOk result (λ out. IsInterpolation F.Field.own F.generator mat (F.value shift) out) }
     ensures ok { IsOk result }
     ensures still { IsPrepared engine.new log_h }
 {
@@ -87,7 +94,8 @@ pub fn column_there<F: TwoAdicField>(
     requires fits { FitsDft F.TWO_ADICITY (vec_len column) 1 }
     requires height { vec_len column ≡ 2 ^ log_h }
     requires prepared { IsPrepared engine.old log_h }
-    ensures { IsOk result }
+    ensures values { IfOk result (λ out. IsTransform F.Field.own F.generator (col column) F.ring.one (col out)) }
+    ensures ok { IsOk result }
 {
     engine.dft(column)
 }
@@ -103,7 +111,9 @@ pub fn column_back_from_coset<F: TwoAdicField>(
     requires invertible { IsInvertible F.ring (F.value shift) }
     requires height { vec_len column ≡ 2 ^ log_h }
     requires prepared { IsPrepared engine.old log_h }
-    ensures { IsOk result }
+    ensures coefficients { IfOk result (λ out. IsInterpolation F.Field.own F.generator (col column)
+        (F.value shift) (col out)) }
+    ensures ok { IsOk result }
 {
     engine.coset_idft(column, shift)
 }
@@ -133,6 +143,7 @@ pub fn transform_promised<F: TwoAdicField, D: TwoAdicSubgroupDft<F>>(
     requires fits { FitsDft F.TWO_ADICITY (height mat) mat.width }
     requires height { height mat ≡ 2 ^ log_h }
     requires promised { D.facts.Succeeds engine.old log_h }
+    ensures values { IfOk result (λ out. IsTransform F.Field.own F.generator mat F.ring.one (D.Evaluations.natural out)) }
     ensures ok { IsOk result }
     ensures still { D.facts.Succeeds engine.new log_h }
 {
@@ -150,6 +161,7 @@ pub fn transform_on_promised_coset<F: TwoAdicField, D: TwoAdicSubgroupDft<F>>(
     requires height { height mat ≡ 2 ^ log_h }
     requires promised { D.facts.Succeeds engine.old log_h }
     requires coset { D.facts.SucceedsOnCoset engine.old log_h shift }
+    ensures values { IfOk result (λ out. IsTransform F.Field.own F.generator mat (F.value shift) (D.Evaluations.natural out)) }
     ensures ok { IsOk result }
     ensures still { D.facts.SucceedsOnCoset engine.new log_h shift }
 {
@@ -166,7 +178,9 @@ pub fn extend_beside_a_coset<F: TwoAdicField>(
 ) -> Result<BitReversedMatrixView<RowMajorMatrix<F>>, DftError>
     requires fits { FitsLde F.TWO_ADICITY (height mat) mat.width added_bits }
     requires prepared { IsCosetPrepared F.Field.own engine.old log_h (F.value shift) }
-    ensures { IsCosetPrepared F.Field.own engine.new log_h (F.value shift) }
+    ensures values { IfOk result (λ out. IsExtension F.Field.own F.generator mat added_bits F.ring.one
+        (reversed_rows out.bits out.physical)) }
+    ensures still { IsCosetPrepared F.Field.own engine.new log_h (F.value shift) }
 {
     engine.lde_batch(mat, added_bits)
 }
@@ -181,6 +195,8 @@ pub fn transform_on_known_coset<F: TwoAdicField>(
     requires fits { FitsDft F.TWO_ADICITY (height mat) mat.width }
     requires height { height mat ≡ 2 ^ log_h }
     requires prepared { IsCosetPrepared F.Field.own engine.old log_h (F.value shift) }
+    ensures values { IfOk result (λ out. IsTransform F.Field.own F.generator mat (F.value shift)
+        (reversed_rows out.bits out.physical)) }
     ensures ok { IsOk result }
     ensures still { IsCosetPrepared F.Field.own engine.new log_h (F.value shift) }
 {
