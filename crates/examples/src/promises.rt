@@ -221,26 +221,30 @@ pub fn transform_on_new_coset<F: TwoAdicField>(
 /// An engine that was just made, after one transform: its bound is the bound on its products.
 pub fn transform_by_a_new_engine<F: TwoAdicField, D: TwoAdicSubgroupDft<F> + Drop>(
     mat: RowMajorMatrix<F>,
-) -> Result<D, DftError>
+) -> Result<(D::Evaluations, D), DftError>
     requires { FitsDft F.TWO_ADICITY (height mat) mat.width }
-    ensures { IfOk result (λ engine. AtLog (height mat)
-        (λ k. D.facts.products_made engine ≤ D.facts.transform_products k mat.width)) }
+    ensures values { IfOk result (λ made. IsTransform F.Field.own F.generator mat F.ring.one
+        (D.Evaluations.natural made.0)) }
+    ensures bound { IfOk result (λ made. AtLog (height mat)
+        (λ k. D.facts.products_made made.1 ≤ D.facts.transform_products k mat.width)) }
 {
     let mut engine = D::default();
-    engine.dft_batch(mat)?;
-    Ok(engine)
+    let values = engine.dft_batch(mat)?;
+    Ok((values, engine))
 }
 
 /// An engine that was just made, after one extension of a column: its products are within its own bound.
 pub fn extend_by_a_new_engine<F: TwoAdicField, D: TwoAdicSubgroupDft<F> + Drop>(
     column: Vec<F>,
     added_bits: usize,
-) -> Result<D, DftError>
+) -> Result<(Vec<F>, D), DftError>
     requires { FitsLde F.TWO_ADICITY (vec_len column) 1 added_bits }
-    ensures { IfOk result (λ engine. AtLog (vec_len column)
-        (λ k. D.facts.products_made engine ≤ D.facts.extension_products k added_bits 1)) }
+    ensures values { IfOk result (λ made. IsExtension F.Field.own F.generator (col column) added_bits F.ring.one
+        (col made.0)) }
+    ensures bound { IfOk result (λ made. AtLog (vec_len column)
+        (λ k. D.facts.products_made made.1 ≤ D.facts.extension_products k added_bits 1)) }
 {
     let mut engine = D::default();
-    engine.lde(column, added_bits)?;
-    Ok(engine)
+    let values = engine.lde(column, added_bits)?;
+    Ok((values, engine))
 }
