@@ -143,7 +143,8 @@ pub fn transform_promised<F: TwoAdicField, D: TwoAdicSubgroupDft<F>>(
     requires fits { FitsDft F.TWO_ADICITY (height mat) mat.width }
     requires height { height mat ≡ 2 ^ log_h }
     requires promised { D.facts.Succeeds engine.old log_h }
-    ensures values { IfOk result (λ out. IsTransform F.Field.own F.generator mat F.ring.one (D.Evaluations.natural out)) }
+    ensures values { IfOk result (λ out. IsTransform F.Field.own F.generator mat F.ring.one
+        (D.Evaluations.natural out)) }
     ensures ok { IsOk result }
     ensures still { D.facts.Succeeds engine.new log_h }
 {
@@ -161,7 +162,8 @@ pub fn transform_on_promised_coset<F: TwoAdicField, D: TwoAdicSubgroupDft<F>>(
     requires height { height mat ≡ 2 ^ log_h }
     requires promised { D.facts.Succeeds engine.old log_h }
     requires coset { D.facts.SucceedsOnCoset engine.old log_h shift }
-    ensures values { IfOk result (λ out. IsTransform F.Field.own F.generator mat (F.value shift) (D.Evaluations.natural out)) }
+    ensures values { IfOk result (λ out. IsTransform F.Field.own F.generator mat (F.value shift)
+        (D.Evaluations.natural out)) }
     ensures ok { IsOk result }
     ensures still { D.facts.SucceedsOnCoset engine.new log_h shift }
 {
