@@ -8,8 +8,8 @@ use Rattle.p3_networks.proofs.butterfly_layers.layer_oop.Goals as goal
 pub overflow_mul-whole : goal.overflow_mul-whole
 overflow_mul-whole g c = omega (arith, block_room 0 c.args.blocks (2 * c.args.size) (length c.args.values.now) c.requires.blocks c.requires.size)
 
-pub on_each_chunk-requires : goal.on_each_chunk-requires
-on_each_chunk-requires g c = record { whole = c.requires.size; accepts = λ n below. (refl, block_room n c.args.blocks _ _ below c.requires.source) }
+pub on_each_chunk-requires-clause-accepts : goal.on_each_chunk-requires-clause-accepts
+on_each_chunk-requires-clause-accepts g c n below = (refl, block_room n c.args.blocks _ _ below c.requires.source)
 
 pub returns-clause-cells : goal.returns-clause-cells
 returns-clause-cells g c b below =

@@ -10,11 +10,8 @@ overflow_mul-size g c = omega (arith, block_room 0 c.args.blocks (2 * (c.args.ha
 pub overflow_mul-size-2 : goal.overflow_mul-size-2
 overflow_mul-size-2 g c = omega (arith, block_room 0 c.args.blocks (2 * (c.args.half * c.args.width)) (length c.args.values.now) c.requires.blocks c.requires.size)
 
-pub on_each_chunk-requires : goal.on_each_chunk-requires
-on_each_chunk-requires g c = record {
-  whole = c.requires.size;
-  accepts = λ n below. (c.requires.width, (c.requires.nonzero, (omega (arith, below, c.requires.numbers), (refl, λ t inside. c.requires.in_table n t below inside))));
-}
+pub on_each_chunk-requires-clause-accepts : goal.on_each_chunk-requires-clause-accepts
+on_each_chunk-requires-clause-accepts g c n below = (c.requires.width, (c.requires.nonzero, (omega (arith, below, c.requires.numbers), (refl, λ t inside. c.requires.in_table n t below inside))))
 
 pub returns-clause-cells : goal.returns-clause-cells
 returns-clause-cells g c b below =

@@ -2,16 +2,15 @@ use Rattle.std.proofs.Common.{◌-◌, ◌*◌, length, arith}
 use Rattle.p3_networks.proofs.Layers.Tiles.{tile_rows, tile_sizes, tile_small, tiles_cost, tiles_taken}
 use Rattle.p3_networks.proofs.groups.group_on_chunks.Goals as goal
 
-pub on_each_chunk-requires : goal.on_each_chunk-requires
-on_each_chunk-requires g c =
+pub on_each_chunk-requires-clause-whole : goal.on_each_chunk-requires-clause-whole
+on_each_chunk-requires-clause-whole g c = (tile_sizes c.args.log_h c.args.layers.to c.args.layers.width (length c.args.values.now) c.requires.fits_u64 c.requires.below c.requires.size).whole
+
+pub on_each_chunk-requires-clause-accepts : goal.on_each_chunk-requires-clause-accepts
+on_each_chunk-requires-clause-accepts g c n below =
     let sizes = tile_sizes c.args.log_h c.args.layers.to c.args.layers.width (length c.args.values.now) c.requires.fits_u64 c.requires.below c.requires.size in
-    record {
-      whole = sizes.whole;
-      accepts = λ n below.
-          let rows = tile_rows _ _ _ _ _ _ n sizes below in
-          let small = tile_small _ _ _ _ _ _ n c.requires.fits_u64 sizes below in
-          (c.requires.width, (c.requires.order, (small, (c.requires.piece, (sizes.size_is, λ b inside. c.requires.in_table b (omega (arith, rows, inside)))))));
-    }
+    let rows = tile_rows _ _ _ _ _ _ n sizes below in
+    let small = tile_small _ _ _ _ _ _ n c.requires.fits_u64 sizes below in
+    (c.requires.width, (c.requires.order, (small, (c.requires.piece, (sizes.size_is, λ b inside. c.requires.in_table b (omega (arith, rows, inside)))))))
 
 pub returns-clause-cells : goal.returns-clause-cells
 returns-clause-cells g c = let field = g.F.Field in let sizes = tile_sizes c.args.log_h c.args.layers.to c.args.layers.width (length c.args.values.now) c.requires.fits_u64 c.requires.below c.requires.size in λ cells layers. tiles_taken field.value field.value field.ZERO _ _ _ _ _ _ _ _ _ _ cells c.args.values.now c.on_each_chunk.new.values sizes c.requires.width c.on_each_chunk.auto.values c.on_each_chunk.ensures.chunks layers

@@ -10,8 +10,8 @@ overflow_mul-size g c = omega (arith, block_room 0 c.args.blocks (2 * (c.args.me
 pub overflow_mul-size-2 : goal.overflow_mul-size-2
 overflow_mul-size-2 g c = omega (arith, block_room 0 c.args.blocks (2 * (c.args.meet.half * c.args.meet.part)) (length c.args.values.now) c.requires.blocks c.requires.size)
 
-pub on_each_chunk-requires : goal.on_each_chunk-requires
-on_each_chunk-requires g c = record { whole = c.requires.size; accepts = λ n below. (c.requires.ordered, (c.requires.inside, (omega (arith, below, c.requires.numbers), (refl, c.requires.in_table n below)))) }
+pub on_each_chunk-requires-clause-accepts : goal.on_each_chunk-requires-clause-accepts
+on_each_chunk-requires-clause-accepts g c n below = (c.requires.ordered, (c.requires.inside, (omega (arith, below, c.requires.numbers), (refl, c.requires.in_table n below))))
 
 pub returns-clause-cells : goal.returns-clause-cells
 returns-clause-cells g c all before after layer within holds =

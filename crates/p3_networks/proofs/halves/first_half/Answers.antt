@@ -20,15 +20,14 @@ source_chunk : {T : Type 0} (source : Option (Bor (List T))) (values : List T) (
 source_chunk None values size n long = refl
 source_chunk (Some source) values size n long = ap (λ k. chunk_of k n source.now) long
 
-pub on_each_chunk-requires : goal.on_each_chunk-requires
-on_each_chunk-requires g c =
+pub on_each_chunk-requires-clause-whole : goal.on_each_chunk-requires-clause-whole
+on_each_chunk-requires-clause-whole g c = (tile_sizes c.args.log_h c.args.mid c.args.width (length c.args.values.now) c.requires.rows.fits_u64 c.requires.parts c.requires.rows.size).whole
+
+pub on_each_chunk-requires-clause-accepts : goal.on_each_chunk-requires-clause-accepts
+on_each_chunk-requires-clause-accepts g c n below =
     let sizes = tile_sizes c.args.log_h c.args.mid c.args.width (length c.args.values.now) c.requires.rows.fits_u64 c.requires.parts c.requires.rows.size in
-    record {
-      whole = sizes.whole;
-      accepts = λ n below.
-          let rows : AreRows c.args.mid c.args.width (length c.args.values.now / one_shifted (c.args.log_h - c.args.mid)) = record { width = c.requires.rows.width; fits_u64 = omega (arith, c.requires.rows.fits_u64, c.requires.parts); size = sizes.size_is } in
-          (rows, c.requires.table, IfSome_then c.args.source c.requires.source (λ source is. block_room n _ _ (length source.now) below (is ∙ sizes.whole)));
-    }
+    let rows : AreRows c.args.mid c.args.width (length c.args.values.now / one_shifted (c.args.log_h - c.args.mid)) = record { width = c.requires.rows.width; fits_u64 = omega (arith, c.requires.rows.fits_u64, c.requires.parts); size = sizes.size_is } in
+    (rows, c.requires.table, IfSome_then c.args.source c.requires.source (λ source is. block_room n _ _ (length source.now) below (is ∙ sizes.whole)))
 
 pub returns-clause-values : goal.returns-clause-values
 returns-clause-values g c root s roots table a t j below inside column =

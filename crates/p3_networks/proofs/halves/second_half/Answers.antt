@@ -8,11 +8,14 @@ use Rattle.p3_networks.proofs.Layers.Tiles.{shifted_sizes}
 use Rattle.p3_networks.proofs.Rows.EachChunk.{row_taken}
 use Rattle.p3_networks.proofs.halves.second_half.Goals as goal
 
-pub on_each_chunk-requires : goal.on_each_chunk-requires
-on_each_chunk-requires g c =
+pub on_each_chunk-requires-clause-whole : goal.on_each_chunk-requires-clause-whole
+on_each_chunk-requires-clause-whole g c = (shifted_sizes c.args.mid (c.args.mid + c.args.left) c.args.left c.args.width (length c.args.values.now) (omega (arith, c.requires.rows.fits_u64)) refl c.requires.rows.size).whole
+
+pub on_each_chunk-requires-clause-accepts : goal.on_each_chunk-requires-clause-accepts
+on_each_chunk-requires-clause-accepts g c n below =
     let sizes = shifted_sizes c.args.mid (c.args.mid + c.args.left) c.args.left c.args.width (length c.args.values.now) (omega (arith, c.requires.rows.fits_u64)) refl c.requires.rows.size in
     let count = first_shift c.args.mid c.args.left c.requires.rows.fits_u64 in
-    record { whole = sizes.whole; accepts = λ n below. record { width = c.requires.rows.width; fits_u64 = c.requires.rows.fits_u64; chunk = omega (arith, below, count); size = sizes.size_is; table = c.requires.table } }
+    record { width = c.requires.rows.width; fits_u64 = c.requires.rows.fits_u64; chunk = omega (arith, below, count); size = sizes.size_is; table = c.requires.table }
 
 pub returns-clause-values : goal.returns-clause-values
 returns-clause-values g c root s roots table a t j below inside column =

@@ -18,15 +18,17 @@ overflow_mul-width g c =
     let one : 1 * c.WIDTH-width.result ≤ length c.args.twiddles.now / c.WIDTH-width.result * c.WIDTH-width.result = mul-le-mul_right c.WIDTH-width.result c.if-count-gt0.true in
     omega (arith, one, p, c.requires.size)
 
-pub on_each_chunk-requires : goal.on_each_chunk-requires
-on_each_chunk-requires g c =
+pub on_each_chunk-requires-clause-whole : goal.on_each_chunk-requires-clause-whole
+on_each_chunk-requires-clause-whole g c =
+    let p = packs (length c.args.twiddles.now) c.requires.whole.0 _ c.WIDTH-width.result c.requires.width c.WIDTH-width.ensures c.requires.whole.1 in
+    c.requires.size ∙ ap (λ n. 2 * n) p ∙ omega arith
+
+pub on_each_chunk-requires-clause-accepts : goal.on_each_chunk-requires-clause-accepts
+on_each_chunk-requires-clause-accepts g c n below =
     let width = c.WIDTH-width.result in
     let len = length c.args.twiddles.now in
     let p = packs (length c.args.twiddles.now) c.requires.whole.0 _ c.WIDTH-width.result c.requires.width c.WIDTH-width.ensures c.requires.whole.1 in
-    record {
-      whole = c.requires.size ∙ ap (λ n. 2 * n) p ∙ omega arith;
-      accepts = λ n below. (ap (λ m. 2 * m) c.WIDTH-width.ensures, subst (λ m. n * m + m ≤ len) c.WIDTH-width.ensures (block_room n (len / width) width len below p));
-    }
+    (ap (λ m. 2 * m) c.WIDTH-width.ensures, subst (λ m. n * m + m ≤ len) c.WIDTH-width.ensures (block_room n (len / width) width len below p))
 
 pub returns-then-count-gt0-clause-pairs : goal.returns-then-count-gt0-clause-pairs
 returns-then-count-gt0-clause-pairs g c =

@@ -21,16 +21,18 @@ overflow_mul-layers g c =
     let sizes = tile_sizes c.args.top 6 1 (length c.args.values.now) digits c.requires.height c.requires.chunk.size in
     omega (arith, tile_rows_of_chunk _ _ _ _ _ _ c.args.number 0 sizes (omega (arith, sizes.nonzero)), c.requires.chunk.fits_u64)
 
-pub on_each_chunk-requires : goal.on_each_chunk-requires
-on_each_chunk-requires g c =
+pub on_each_chunk-requires-clause-whole : goal.on_each_chunk-requires-clause-whole
+on_each_chunk-requires-clause-whole g c =
     let digits = chunk_digits c.args.top c.args.number c.requires.chunk.fits_u64 in
     let sizes = tile_sizes c.args.top 6 1 (length c.args.values.now) digits c.requires.height c.requires.chunk.size in
-    record {
-      whole = sizes.whole;
-      accepts = λ n below.
-          let rows = tile_rows_of_chunk _ _ _ _ _ _ c.args.number n sizes below in
-          (record { width = omega arith; fits_u64 = omega (arith, rows, c.requires.chunk.fits_u64); enough = omega (arith, rows, c.requires.chunk.enough); size = sizes.size_is }, c.requires.first);
-    }
+    sizes.whole
+
+pub on_each_chunk-requires-clause-accepts : goal.on_each_chunk-requires-clause-accepts
+on_each_chunk-requires-clause-accepts g c n below =
+    let digits = chunk_digits c.args.top c.args.number c.requires.chunk.fits_u64 in
+    let sizes = tile_sizes c.args.top 6 1 (length c.args.values.now) digits c.requires.height c.requires.chunk.size in
+    let rows = tile_rows_of_chunk _ _ _ _ _ _ c.args.number n sizes below in
+    (record { width = omega arith; fits_u64 = omega (arith, rows, c.requires.chunk.fits_u64); enough = omega (arith, rows, c.requires.chunk.enough); size = sizes.size_is }, c.requires.first)
 
 pub returns : goal.returns
 returns g c =

@@ -76,13 +76,21 @@ overflow_mul-more g c =
     let it = turn c.loop-done.done c.args.count c.min-more.result c.loop-done.invariant.nonzero c.loop-done-test.true c.min-more.ensures in
     Fits-le (within_all _ c.args.count _ (length c.args.values.now) (le_trans it.1.0 c.loop-done.invariant.within) c.requires) search
 
-pub scale_behind-requires : goal.scale_behind-requires
-scale_behind-requires g c =
+pub scale_behind-requires-clause-in_table : goal.scale_behind-requires-clause-in_table
+scale_behind-requires-clause-in_table g c =
     let w = length c.args.row.now in
     let done = c.loop-done.done in
     let more = c.min-more.result in
     let it = turn done c.args.count more c.loop-done.invariant.nonzero c.loop-done-test.true c.min-more.ensures in
-    record { in_table = mul-le-mul_right w it.1.0; room = rw (← add-mul done more w) (within_all (done + more) c.args.count w _ it.1.1.0 (omega (arith, c.requires, c.loop-done.auto.values))) }
+    mul-le-mul_right w it.1.0
+
+pub scale_behind-requires-clause-room : goal.scale_behind-requires-clause-room
+scale_behind-requires-clause-room g c =
+    let w = length c.args.row.now in
+    let done = c.loop-done.done in
+    let more = c.min-more.result in
+    let it = turn done c.args.count more c.loop-done.invariant.nonzero c.loop-done-test.true c.min-more.ensures in
+    rw (← add-mul done more w) (within_all (done + more) c.args.count w _ it.1.1.0 (omega (arith, c.requires, c.loop-done.auto.values)))
 
 pub returns-clause-values : goal.returns-clause-values
 returns-clause-values g c t j below inside = c.loop-done.invariant.values t j (omega (arith, below, c.loop-done-test.false)) inside

@@ -6,19 +6,18 @@ use Rattle.p3_networks.proofs.Rows.EachChunk.{cells_of_chunks}
 use Rattle.p3_networks.proofs.Layers.Shifts.{one_shifted}
 use Rattle.p3_networks.proofs.tiles.spread_tiles.Goals as goal
 
-pub on_each_chunk-requires : goal.on_each_chunk-requires
-on_each_chunk-requires g c =
+pub on_each_chunk-requires-clause-whole : goal.on_each_chunk-requires-clause-whole
+on_each_chunk-requires-clause-whole g c = (tile_sizes c.args.log_h c.args.log_rows c.args.width (length c.args.values.now) c.requires.fits_u64 c.requires.below c.requires.size).whole
+
+pub on_each_chunk-requires-clause-accepts : goal.on_each_chunk-requires-clause-accepts
+on_each_chunk-requires-clause-accepts g c n below =
     let sizes = tile_sizes c.args.log_h c.args.log_rows c.args.width (length c.args.values.now) c.requires.fits_u64 c.requires.below c.requires.size in
-    record {
-      whole = sizes.whole;
-      accepts = λ n below.
-          let small = tile_small _ _ _ _ _ _ n c.requires.fits_u64 sizes below in
-          let room = spread_room _ _ c.args.coefficients.added_bits _ _ _ _ n c.requires.added c.requires.below sizes below in
-          let cells = mul-le-mul_right c.args.width room in
-          let rows = tile_rows _ _ _ _ _ _ n sizes below in
-          let chunk : IsChunk c.args.width c.args.log_rows n (length c.args.twiddles.now) (length c.args.values.now / one_shifted (c.args.log_h - c.args.log_rows)) = record { width = c.requires.width; fits_u64 = small; enough = omega (arith, rows, c.requires.enough); size = sizes.size_is } in
-          (chunk, (c.requires.added, (omega (arith, cells, c.requires.rows), (omega (arith, room, c.requires.weights), c.requires.first))));
-    }
+    let small = tile_small _ _ _ _ _ _ n c.requires.fits_u64 sizes below in
+    let room = spread_room _ _ c.args.coefficients.added_bits _ _ _ _ n c.requires.added c.requires.below sizes below in
+    let cells = mul-le-mul_right c.args.width room in
+    let rows = tile_rows _ _ _ _ _ _ n sizes below in
+    let chunk : IsChunk c.args.width c.args.log_rows n (length c.args.twiddles.now) (length c.args.values.now / one_shifted (c.args.log_h - c.args.log_rows)) = record { width = c.requires.width; fits_u64 = small; enough = omega (arith, rows, c.requires.enough); size = sizes.size_is } in
+    (chunk, (c.requires.added, (omega (arith, cells, c.requires.rows), (omega (arith, room, c.requires.weights), c.requires.first))))
 
 pub returns : goal.returns
 returns g c =

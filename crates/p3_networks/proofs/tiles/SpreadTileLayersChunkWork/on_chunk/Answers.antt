@@ -42,13 +42,31 @@ overflow_shl-copies g c = lt_of_le_of_lt c.requires.1.0 (chunk_digits c.args.sel
 pub overflow_shl-count : goal.overflow_shl-count
 overflow_shl-count g c = lt_of_le_of_lt (sub-le c.args.self.now.log_rows c.args.self.now.coefficients.added_bits) (chunk_digits c.args.self.now.log_rows c.args.number c.requires.0.fits_u64)
 
-pub on_each_chunk-requires : goal.on_each_chunk-requires
-on_each_chunk-requires g c =
+pub on_each_chunk-requires-clause-whole : goal.on_each_chunk-requires-clause-whole
+on_each_chunk-requires-clause-whole g c =
     let it = c.args.self.now in
     let tile = c.args.number in
     let r = it.log_rows in
     let a = it.coefficients.added_bits in
-    let chunk = c.requires.0 in let added = c.requires.1.0 in let rows = c.requires.1.1.0 in let weights = c.requires.1.1.1.0 in
+    let chunk = c.requires.0 in
+    let added = c.requires.1.0 in
+    let sizes = spread_sizes r a (chunk_digits r tile chunk.fits_u64) added in
+    let count = one_shifted (r - a) in
+    let copies = one_shifted a in
+    let whole = chunk.size ∙ cells_of_tile count copies (2 ^ r) it.width sizes.rows in
+    let size_is = block_size (length c.args.chunk.now) count (copies * it.width) sizes.nonzero whole in
+    whole ∙ ap (λ n. count * n) (sym size_is)
+
+pub on_each_chunk-requires-clause-accepts : goal.on_each_chunk-requires-clause-accepts
+on_each_chunk-requires-clause-accepts g c n below =
+    let it = c.args.self.now in
+    let tile = c.args.number in
+    let r = it.log_rows in
+    let a = it.coefficients.added_bits in
+    let chunk = c.requires.0 in
+    let added = c.requires.1.0 in
+    let rows = c.requires.1.1.0 in
+    let weights = c.requires.1.1.1.0 in
     let sizes = spread_sizes r a (chunk_digits r tile chunk.fits_u64) added in
     let count = one_shifted (r - a) in
     let copies = one_shifted a in
@@ -57,15 +75,18 @@ on_each_chunk-requires g c =
     let twice = copies_within tile count copies (2 ^ r) _ sizes.rows chunk.enough in
     let within : (tile * count + count) * it.width ≤ length it.coefficients.rows.now = subst (λ (n : ℕ). (tile * n + n) * it.width ≤ length it.coefficients.rows.now) (sym sizes.count_is) rows in
     let few : tile * count + count ≤ length it.coefficients.weights.now = subst (λ (n : ℕ). tile * n + n ≤ length it.coefficients.weights.now) (sym sizes.count_is) weights in
-    record {
-      whole = whole ∙ ap (λ n. count * n) (sym size_is);
-      accepts = λ n below. (sizes.some_copies, size_is, row_room (tile * count) count n it.width _ below within, place_below (tile * count) count n _ below few, row_room (tile * count) count n copies _ below twice);
-    }
+    (sizes.some_copies, size_is, row_room (tile * count) count n it.width _ below within, place_below (tile * count) count n _ below few, row_room (tile * count) count n copies _ below twice)
 
-pub layers_of_chunk-requires : goal.layers_of_chunk-requires
-layers_of_chunk-requires g c =
-    let chunk = c.requires.0 in let added = c.requires.1.0 in let first = c.requires.1.1.1.1 in
-    record { below = added; chunk = record { width = chunk.width; fits_u64 = chunk.fits_u64; enough = chunk.enough; size = c.on_each_chunk.auto.values ∙ chunk.size }; first = first }
+pub layers_of_chunk-requires-clause-below : goal.layers_of_chunk-requires-clause-below
+layers_of_chunk-requires-clause-below g c = c.requires.1.0
+
+pub layers_of_chunk-requires-clause-chunk : goal.layers_of_chunk-requires-clause-chunk
+layers_of_chunk-requires-clause-chunk g c =
+    let chunk = c.requires.0 in
+    record { width = chunk.width; fits_u64 = chunk.fits_u64; enough = chunk.enough; size = c.on_each_chunk.auto.values ∙ chunk.size }
+
+pub layers_of_chunk-requires-clause-first : goal.layers_of_chunk-requires-clause-first
+layers_of_chunk-requires-clause-first g c = c.requires.1.1.1.1
 
 pub returns : goal.returns
 returns g c =
