@@ -4,23 +4,9 @@
 //! for each row.
 #![tactic(auto)]
 
-mod account;
-mod arguments;
-mod counted;
-mod environment;
-mod fault;
-mod matrices;
-mod names;
-mod number;
-mod program;
-mod sink;
-#[cfg(test)]
-mod tests;
-mod words;
-
-use counted::Counted;
-use environment::Environment;
-use program::run;
+use dft_program::counted::Counted;
+use dft_program::environment::Environment;
+use dft_program::program::run;
 use std::io;
 use std::process::ExitCode;
 

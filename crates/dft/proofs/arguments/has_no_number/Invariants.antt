@@ -1,7 +1,0 @@
-use Rattle.std.proofs.Common.{◌≡◌, false, map, take}
-use Rattle.std.specs.Vec.{vec_items}
-use Rattle.dft.specs.Arguments.{has_no_number}
-use Rattle.dft.proofs.arguments.has_no_number.Given as goal
-
-abbrev pub invariant-loop-word : goal.invariant-loop-word
-invariant-loop-word l = has_no_number (map vec_items (take l.word-index l.words)) ≡ false

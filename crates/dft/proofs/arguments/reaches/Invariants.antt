@@ -1,6 +1,0 @@
-use Rattle.std.proofs.Common.{◌≡◌, false, take}
-use Rattle.dft.specs.Arguments.{numbers_of, reaches}
-use Rattle.dft.proofs.arguments.reaches.Given as goal
-
-abbrev pub invariant-loop-word : goal.invariant-loop-word
-invariant-loop-word l = reaches l.modulus (numbers_of (take l.word-index l.words)) ≡ false

@@ -1,0 +1,17 @@
+use Rattle.std.proofs.Common.{ℕ, ◌++◌, ap, sym, ◌∙◌}
+use Rattle.std.proofs.lemmas.Simd.{map-map}
+use Rattle.std.specs.Fmt.{decimal}
+use Rattle.std.specs.List.{join_with_byte}
+use Rattle.std.specs.Vec.{vec_items}
+use Rattle.dft_program.proofs.Lines.{joined}
+use Rattle.dft_program.proofs.matrices.push_numbers.Goals as goal
+
+pub returns : goal.returns
+returns g c =
+    let number : g.row.F.Denot → ℕ = λ x. g.F.Field.number (g.F.Field.value x) in
+    joined 32 (λ x. decimal (number x)) (vec_items c.args.text.now) (vec_items c.push_number.new.text) (vec_items c.loop-element.text)
+    c.args.row.now c.in-Some.first.now c.in-Some.others.now c.loop-element.element-index
+    c.in-Some.ensures.cases.0 c.loop-element-test.false
+    (c.in_ok-push_number.ensures ∙ ap (λ n. vec_items c.args.text.now ++ decimal n) c.as_canonical_u64.ensures)
+    c.loop-element.invariant
+    ∙ ap (λ pieces. vec_items c.args.text.now ++ join_with_byte 32 pieces) (sym (map-map decimal number c.args.row.now))

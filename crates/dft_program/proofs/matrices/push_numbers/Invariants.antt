@@ -1,0 +1,10 @@
+use Rattle.std.proofs.Common.{◌≡◌, ◌++◌, ◌∷◌, take}
+use Rattle.std.specs.Fmt.{decimal}
+use Rattle.std.specs.List.{flat_map}
+use Rattle.std.specs.Vec.{vec_items}
+use Rattle.dft_program.proofs.matrices.push_numbers.Given as goal
+
+-- each further number stands behind a space
+abbrev pub invariant-loop-element : goal.invariant-loop-element
+invariant-loop-element g l =
+    vec_items l.text ≡ vec_items l.initial.text ++ flat_map (λ x. 32 ∷ decimal (g.F.Field.number (g.F.Field.value x))) (take l.element-index l.others)

@@ -1,0 +1,25 @@
+use Rattle.std.proofs.Common.{◌<◌, ◌≤◌, ◌++◌, [], ℕ, length, map, take, ap, sym, ◌∙◌, arith}
+use Rattle.std.proofs.lemmas.List.{take_all}
+use Rattle.std.proofs.lemmas.List.FromFn.{length-map-range_with_len, get_or-map-range_with_len}
+use Rattle.p3_matrix.specs.RowMajor.{height, row, rows}
+use Rattle.dft_program.specs.Text.{line_of_numbers, text_of_rows}
+use Rattle.dft_program.proofs.Lines.{text-more}
+use Rattle.dft_program.proofs.matrices.text_of.Goals as goal
+
+pub loop-i-preserved : goal.loop-i-preserved
+loop-i-preserved g c =
+    let number : g.row.F.Denot → ℕ = λ x. g.F.Field.number (g.F.Field.value x) in
+    let m = c.args.matrix.now in
+    let below : c.loop-i.i < height m = omega (arith, c.height-i-end.ensures.height) in
+    let within : c.loop-i.i < length (rows m) = omega (arith, below, length-map-range_with_len (row m) 0 (height m)) in
+    c.in_ok-push_line.ensures
+    ∙ ap (λ text. text ++ line_of_numbers (map number c.row.result.now)) c.loop-i.invariant
+    ∙ ap (λ xs. text_of_rows (map (map number) (take c.loop-i.i (rows m))) ++ line_of_numbers (map number xs))
+    (c.row.ensures ∙ sym (get_or-map-range_with_len (row m) 0 (height m) c.loop-i.i c.loop-i.i [] below (omega arith)))
+    ∙ sym (text-more (map number) (rows m) c.loop-i.i [] within)
+
+pub returns-clause-text : goal.returns-clause-text
+returns-clause-text g c =
+    let m = c.args.matrix.now in
+    let end : length (rows m) ≤ c.loop-i.i = omega (arith, length-map-range_with_len (row m) 0 (height m), c.height-i-end.ensures.height) in
+    c.loop-i.invariant ∙ ap (λ xs. text_of_rows (map (map (λ x. g.F.Field.number (g.F.Field.value x))) xs)) (take_all c.loop-i.i (rows m) end)

@@ -1,0 +1,17 @@
+use Rattle.std.proofs.Common.{map, inr}
+use Rattle.std.specs.Vec.{vec_items}
+use Rattle.dft_program.proofs.OneOutcome.{answerable_without_memory}
+use Rattle.dft_program.proofs.program.write_outcome.Goals as goal
+
+pub returns-in-Err-OutOfMemory-clause-memory : goal.returns-in-Err-OutOfMemory-clause-memory
+returns-in-Err-OutOfMemory-clause-memory g c is =
+    let words = map vec_items c.args.words.now in
+    (answerable_without_memory words c.in-Err-OutOfMemory.field-0 c.answer.result c.in-Err-OutOfMemory.is c.in-Err-OutOfMemory.field-0-is c.answer.ensures, c.tell_out_of_memory.ensures.memory is)
+
+pub returns-in-Err-OutOfMemory-clause-stopped : goal.returns-in-Err-OutOfMemory-clause-stopped
+returns-in-Err-OutOfMemory-clause-stopped g c is =
+    let words = map vec_items c.args.words.now in
+    inr (
+      answerable_without_memory words c.in-Err-OutOfMemory.field-0 c.answer.result c.in-Err-OutOfMemory.is c.in-Err-OutOfMemory.field-0-is c.answer.ensures,
+      c.tell_out_of_memory.ensures.stopped is,
+    )

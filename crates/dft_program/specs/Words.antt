@@ -1,0 +1,41 @@
+-- The words of a command line: what its answers reported of them.
+use Rattle.std.specs.Prelude.{◌≡◌, ℕ, ◌+◌, List, [], ◌∷◌, ◌++◌, Option, Some, None, Result, Ok, Err, length, take, ◌==◌, if◌then◌else◌}
+use Rattle.dft_program.specs.Accounts.{Call}
+use Rattle.std.specs.declared.env.FillError.{FillError}
+use Rattle.std.specs.declared.env.FillError.TheVariants.{NotPresent, TooLong}
+
+-- what an answer reported of a place: the word that stands there, or that none does
+pub record Told : Type 0 where
+  pub place : ℕ
+  pub word : Option (List ℕ)
+
+-- the same of a call of an account: a word where it did not fail
+abbrev pub told_of : Call → Told
+told_of call = record { place = call.place; word = if call.failures == 0 then Some call.bytes else None }
+
+-- a word, or that there is none, at a place
+abbrev pub told_at : ℕ → Option (List ℕ) → List Told
+told_at place word = record { place = place; word = word } ∷ []
+
+-- what the answer to `word(place, buf)` reported
+abbrev pub told_by : ℕ → Result ℕ FillError → List ℕ → List Told
+told_by place (Ok n) buf = told_at place (Some (take n buf))
+told_by place (Err NotPresent) buf = told_at place None
+told_by place (Err TooLong) buf = []
+
+-- these words, one after another from the place on
+abbrev pub words_from : ℕ → List (List ℕ) → List Told
+words_from place [] = []
+words_from place (word ∷ words) = record { place = place; word = Some word } ∷ words_from (place + 1) words
+
+-- and none behind them
+abbrev pub all_from : ℕ → List (List ℕ) → List Told
+all_from place words = words_from place words ++ told_at (place + length words) None
+
+-- since then all words behind the program's name were read, and none is left
+abbrev pub ToldAll : List Told → List Told → List (List ℕ) → Type 0
+ToldAll old new words = new ≡ old ++ all_from 1 words
+
+-- since then these were read, the first of them
+abbrev pub ToldFirst : List Told → List Told → List (List ℕ) → Type 0
+ToldFirst old new words = new ≡ old ++ words_from 1 words

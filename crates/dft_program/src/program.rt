@@ -1,0 +1,229 @@
+//! The whole program but for the process around it: words in, text and a status out.
+
+ghost use Rattle.std.specs.Prelude.{◌≡◌, ◌≢◌, ◌<◌, ◌≤◌, ◌↔◌, ◌⊎◌, ℕ, List, map, length, Result, IfOk, OnOk};
+ghost use Rattle.std.specs.Option.{ok_or};
+ghost use Rattle.std.specs.List.{slice_get};
+ghost use Rattle.std.specs.Vec.{vec_items};
+ghost use Rattle.p3_dft.specs.Jobs.{CanRun, IsAnswer};
+ghost use Rattle.dft_program.specs.Answers.{job_of};
+ghost use Rattle.dft_program.specs.Faults.{memory_line, seen};
+ghost use Rattle.dft_program.specs.NumberedFields.{numbered};
+ghost use Rattle.dft_program.specs.Outcome.{Gives, IsAnswerable, IsOutcome, IsOutcomeIn, IsOutcomeOver, Outcome, RanOut, asked};
+ghost use Rattle.dft_program.specs.Sinks.{Took, TookStartOf};
+ghost use Rattle.dft_program.specs.Words.{ToldAll};
+
+use crate::arguments::{element_of, parse_arguments};
+use crate::fault::{Fault, Stopped};
+use crate::matrices::{matrix_of, text_of};
+use crate::names::{EngineName, FieldName, Operation};
+use crate::sink::{Sink, write_text};
+use crate::words::{CommandLine, words_after_name};
+use p3_dft::{
+    BabyBear, CanonicalField, DftError, Goldilocks, Job, NaiveDft, Radix2Bowers,
+    Radix2DFTSmallBatch, Radix2Dit, Radix2DitParallel, Refused, RowMajorMatrix, TwoAdicSubgroupDft,
+    WideGoldilocks, growth, run_jobs,
+};
+use std::alloc::Global;
+
+const OUT_OF_MEMORY: &str = "error 9: out of memory\n";
+
+/// Writes what the words of a command line ask for, and answers the status.
+///
+/// The whole text is made before its first byte is written.
+pub fn run<L: CommandLine, W: Sink>(alloc: Global, line: &mut L, out: &mut W) -> u8
+    ensures status { (result ≡ 0) ⊎ (result ≡ 2) ⊎ (result ≡ 3) ⊎ (result ≡ 4) }
+    // All words were read, and their outcome was written.
+    ensures ended { (result ≡ 0) ⊎ (result ≡ 2) → (words : List (List ℕ)) × (text : List ℕ)
+        × ToldAll (L.told line.old) (L.told line.new) words
+        × IsOutcome words (record { status = result; text = text })
+        × Took (W.calls out.old) (W.calls out.new) text }
+    ensures memory { result ≡ 3 → RanOut (L.told line.old) (L.told line.new)
+        × Took (W.calls out.old) (W.calls out.new) memory_line }
+    // Writing stopped in the midst of one of these.
+    ensures stopped { result ≡ 4 → ((words : List (List ℕ)) × (o : Outcome)
+        × ToldAll (L.told line.old) (L.told line.new) words × IsOutcome words o
+        × TookStartOf (W.calls out.old) (W.calls out.new) o.text)
+        ⊎ (RanOut (L.told line.old) (L.told line.new)
+        × TookStartOf (W.calls out.old) (W.calls out.new) memory_line) }
+    ensures failed { (result ≡ 4) ↔ ((W.calls out.old).failures < (W.calls out.new).failures) }
+{
+    match words_after_name(alloc, line) {
+        Ok(words) => write_outcome(alloc, words.as_slice(), out),
+        Err(refused) => tell_out_of_memory(refused, out),
+    }
+}
+
+/// Writes what the words after the program's name ask for, and answers the status.
+pub fn write_outcome<W: Sink>(alloc: Global, words: &[Vec<u8>], out: &mut W) -> u8
+    ensures status { (result ≡ 0) ⊎ (result ≡ 2) ⊎ (result ≡ 3) ⊎ (result ≡ 4) }
+    // The outcome of the words was written.
+    ensures ended { (result ≡ 0) ⊎ (result ≡ 2) → (text : List ℕ)
+        × IsOutcome (map vec_items words.now) (record { status = result; text = text })
+        × Took (W.calls out.old) (W.calls out.new) text }
+    // There is an answer, and no memory for it.
+    ensures memory { result ≡ 3 → IsAnswerable (map vec_items words.now)
+        × Took (W.calls out.old) (W.calls out.new) memory_line }
+    // Writing stopped in the midst of one of these.
+    ensures stopped { result ≡ 4
+        → ((o : Outcome) × IsOutcome (map vec_items words.now) o
+        × TookStartOf (W.calls out.old) (W.calls out.new) o.text)
+        ⊎ (IsAnswerable (map vec_items words.now) × TookStartOf (W.calls out.old) (W.calls out.new) memory_line) }
+    ensures failed { (result ≡ 4) ↔ ((W.calls out.old).failures < (W.calls out.new).failures) }
+{
+    match answer(alloc, words) {
+        Ok(text) => finish(out, text.as_slice(), 0),
+        Err(Stopped::ByFault(fault)) => finish(out, fault.line().as_bytes(), 2),
+        Err(Stopped::OutOfMemory(refused)) => tell_out_of_memory(refused, out),
+    }
+}
+
+// Writes the line that tells that memory was refused, and answers the status.
+fn tell_out_of_memory<W: Sink>(_refused: Refused, out: &mut W) -> u8
+    ensures status { (result ≡ 3) ⊎ (result ≡ 4) }
+    ensures memory { result ≡ 3 → Took (W.calls out.old) (W.calls out.new) memory_line }
+    ensures stopped { result ≡ 4 → TookStartOf (W.calls out.old) (W.calls out.new) memory_line }
+    ensures failed { (result ≡ 4) ↔ ((W.calls out.old).failures < (W.calls out.new).failures) }
+{
+    finish(out, OUT_OF_MEMORY.as_bytes(), 3)
+}
+
+// Writes the text, and answers the status: this one, or 4 where a call of the sink failed.
+fn finish<W: Sink>(out: &mut W, text: &[u8], status: u8) -> u8
+    requires { status < 4 }
+    ensures status { (result ≡ status) ⊎ (result ≡ 4) }
+    ensures all { result ≢ 4 → Took (W.calls out.old) (W.calls out.new) text.now }
+    ensures start { result ≡ 4 → TookStartOf (W.calls out.old) (W.calls out.new) text.now }
+    ensures failed { (result ≡ 4) ↔ ((W.calls out.old).failures < (W.calls out.new).failures) }
+{
+    match write_text(out, text) {
+        Ok(()) => status,
+        Err(_) => 4,
+    }
+}
+
+/// What the first three words name.
+#[derive(Clone, Copy)]
+pub struct Request {
+    pub field: FieldName,
+    pub engine: EngineName,
+    pub operation: Operation,
+}
+
+// The text of the answer.
+fn answer(alloc: Global, words: &[Vec<u8>]) -> Result<Vec<u8>, Stopped>
+    ensures { Gives result (IsOutcome (map vec_items words.now)) }
+{
+    let request = asked(words)?;
+    answer_in_field(alloc, request, &words[3..])
+}
+
+fn asked(words: &[Vec<u8>]) -> Result<Request, Fault>
+    ensures exact { result ≡ asked (map vec_items words.now) }
+    ensures behind { OnOk result (3 ≤ length words.now) }
+{
+    let field = FieldName::of(word_at(words, 0)?).ok_or(Fault::UnknownField)?;
+    let engine = EngineName::of(word_at(words, 1)?).ok_or(Fault::UnknownEngine)?;
+    let operation = Operation::of(word_at(words, 2)?).ok_or(Fault::UnknownOperation)?;
+    Ok(Request {
+        field,
+        engine,
+        operation,
+    })
+}
+
+fn word_at(words: &[Vec<u8>], i: usize) -> Result<&[u8], Fault>
+    ensures word { seen (λ word. word.now) result ≡ ok_or (slice_get (map vec_items words.now) i) Fault.TooFewWords }
+    ensures within { OnOk result (i < length words.now) }
+{
+    match words.get(i) {
+        Some(word) => Ok(word.as_slice()),
+        None => Err(Fault::TooFewWords),
+    }
+}
+
+fn answer_in_field(alloc: Global, request: Request, words: &[Vec<u8>]) -> Result<Vec<u8>, Stopped>
+    ensures { Gives result (IsOutcomeIn request.field request.operation (map vec_items words.now)) }
+{
+    match request.field {
+        FieldName::BabyBear => {
+            answer_in::<BabyBear>(alloc, request.engine, request.operation, words)
+        }
+        FieldName::Goldilocks => {
+            answer_in::<Goldilocks>(alloc, request.engine, request.operation, words)
+        }
+        FieldName::WideGoldilocks => {
+            answer_in::<WideGoldilocks>(alloc, request.engine, request.operation, words)
+        }
+    }
+}
+
+fn answer_in<F: CanonicalField>(
+    alloc: Global,
+    engine: EngineName,
+    operation: Operation,
+    words: &[Vec<u8>],
+) -> Result<Vec<u8>, Stopped>
+    ensures { (element : ℕ → F.Element) → ((n : ℕ) → n < F.ORDER_U64 → F.number (element n) ≡ n)
+        → Gives result (IsOutcomeOver (numbered F.Field.own F.generator F.TWO_ADICITY F.ORDER_U64 element)
+        operation (map vec_items words.now)) }
+{
+    let arguments = parse_arguments::<F>(operation, words)?;
+    let matrix = matrix_of::<F>(alloc, arguments.width, arguments.values)?;
+    let shift = element_of(arguments.shift);
+    let job = job_of(operation, matrix, arguments.added_bits, shift);
+    let answer = answer_by(alloc, engine, job)?;
+    Ok(text_of(alloc, &answer)?)
+}
+
+// The job of an operation on a matrix, with the added bits and the shift that some take.
+fn job_of<F: CanonicalField>(
+    operation: Operation,
+    matrix: RowMajorMatrix<F>,
+    added_bits: usize,
+    shift: F,
+) -> Job<F>
+    ensures { result ≡ job_of operation matrix added_bits shift }
+{
+    match operation {
+        Operation::Dft => Job::Dft(matrix),
+        Operation::CosetDft => Job::CosetDft(matrix, shift),
+        Operation::Idft => Job::Idft(matrix),
+        Operation::CosetIdft => Job::CosetIdft(matrix, shift),
+        Operation::Lde => Job::Lde(matrix, added_bits),
+        Operation::CosetLde => Job::CosetLde(matrix, added_bits, shift),
+    }
+}
+
+fn answer_by<F: CanonicalField>(
+    alloc: Global,
+    engine: EngineName,
+    job: Job<F>,
+) -> Result<RowMajorMatrix<F>, DftError>
+    requires { CanRun F.Field.own F.TWO_ADICITY job }
+    ensures { IfOk result (IsAnswer F.Field.own F.generator job) }
+{
+    match engine {
+        EngineName::Naive => answer_to(alloc, &mut NaiveDft::default(), job),
+        EngineName::Dit => answer_to(alloc, &mut Radix2Dit::default(), job),
+        EngineName::Bowers => answer_to(alloc, &mut Radix2Bowers::default(), job),
+        EngineName::Parallel => answer_to(alloc, &mut Radix2DitParallel::default(), job),
+        EngineName::Small => answer_to(alloc, &mut Radix2DFTSmallBatch::default(), job),
+    }
+}
+
+// The answer to one job.
+fn answer_to<F: CanonicalField, D: TwoAdicSubgroupDft<F>>(
+    alloc: Global,
+    engine: &mut D,
+    job: Job<F>,
+) -> Result<RowMajorMatrix<F>, DftError>
+    requires { CanRun F.Field.own F.TWO_ADICITY job }
+    ensures { IfOk result (IsAnswer F.Field.own F.generator job) }
+{
+    let mut jobs = growth::with_capacity(alloc, 1)?;
+    growth::push(&mut jobs, job)?;
+    match run_jobs(engine, jobs) {
+        Ok(mut answers) => Ok(answers.pop().unwrap()),
+        Err(stopped) => Err(stopped.error),
+    }
+}

@@ -1,0 +1,7 @@
+//! Tests of `dft_program` through its public names.
+//!
+//! They stand in a crate of their own since a crate with tests is proved once more with them.
+#![tactic(auto)]
+
+#[cfg(test)]
+mod tests;
