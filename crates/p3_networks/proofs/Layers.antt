@@ -4,6 +4,7 @@ pub mod Columns
 pub mod Counts
 pub mod Groups
 pub mod Halves
+pub mod Joined
 pub mod Orders
 pub mod Pairs
 pub mod Chunks

@@ -10,19 +10,18 @@ ghost use Rattle.p3_field.specs.Ring.{AreRoots, power};
 ghost use Rattle.p3_matrix.specs.BitOrder.{rev};
 ghost use Rattle.p3_matrix.specs.Butterflies.{dif_far, dif_near};
 ghost use Rattle.p3_networks.specs.Counts.{RisesAtMost};
-ghost use Rattle.p3_networks.specs.Groups.{AreLayersInOrder, DoesLayers, IsChunk, TakesCells, cells_of};
-ghost use Rattle.p3_networks.specs.declared.groups.Order.TheVariants.{SmallestFirst};
+ghost use Rattle.p3_networks.specs.Groups.{AreLayersInOrder, DoesLayers, IsChunk, cells_of};
 ghost use Rattle.p3_networks.specs.Layers.{AreLayers, AreRows, HoldsCells, AreValuesOfRows};
 ghost use Rattle.p3_matrix.specs.Polynomials.{poly};
 ghost use Rattle.p3_networks.specs.Twiddles.{AreTwiddlesFromStart, backward_root, block_powers, forward_root};
 
 use crate::butterfly_layers::layer;
-use crate::butterfly_layers::rules::{ByBlock, Dif, Dit};
+use crate::butterfly_layers::rules::{ByBlock, Dif, Dit, meet_rows};
 use crate::chunks::{ChunkWork, chunk, on_each_chunk};
 use crate::groups::{Order, layers_in_groups};
 use crate::pairs::{NetworkDecimation, on_pairs};
 use p3_field::{PackedField, Products, TwoAdicField};
-use p3_matrix::{scale_slice_in_place, scale_slice_oop};
+use p3_matrix::{DifButterfly, scale_slice_in_place, scale_slice_oop};
 
 // In one column so many layers of the smallest blocks are done together, on a chunk of so many rows, which has
 // so many of the smallest blocks.
@@ -309,8 +308,7 @@ fn layers_of_short_chunk<F: TwoAdicField, D: NetworkDecimation<F>>(
     }
 }
 
-// By decimation in frequency, the layers below `log_rows`, tile after tile, on the
-// values times `scale`.
+// By decimation in frequency, the layers below `log_rows`, tile after tile, and all values times `scale`.
 fn scaled_dif_tiles<F: TwoAdicField>(
     twiddles: &[F],
     scale: F,
@@ -328,8 +326,8 @@ fn scaled_dif_tiles<F: TwoAdicField>(
         → AreLayers log_h width (λ b. dif_near F.ring (F.value (get_or twiddles.now b F.ZERO)))
         (λ b. dif_far F.ring (F.value (get_or twiddles.now b F.ZERO)))
         cells (λ e. cells (e + 1))
-        → HoldsCells (λ x. F.ring.mul (F.value x) (F.value scale)) F.ZERO 0 (cells 0) values.old
-        → HoldsCells F.value F.ZERO 0 (cells log_rows) values.new }
+        → HoldsCells F.value F.ZERO 0 (cells 0) values.old
+        → HoldsCells F.value F.ZERO 0 (λ i. F.ring.mul (cells log_rows i) (F.value scale)) values.new }
     ensures cost { RisesAtMost ((log_rows + 2) * length values.old) (2 * products.old) (2 * products.new) }
 {
     let tiles = 1usize << (log_h - log_rows);
@@ -343,7 +341,7 @@ fn scaled_dif_tiles<F: TwoAdicField>(
     on_each_chunk(layers, values, size, tiles, products);
 }
 
-// The layers of tiles of `2^log_rows` rows, on the values times `scale`.
+// The layers of tiles of `2^log_rows` rows, and all values times `scale`.
 #[derive(Drop)]
 struct ScaledTileLayers<'a, F> {
     twiddles: &'a [F],
@@ -356,25 +354,106 @@ impl<F: TwoAdicField> ChunkWork<F> for ScaledTileLayers<'_, F> {
     ghost accepts = { λ it n size. IsChunk it.width it.log_rows n (length it.twiddles.now) size
         × (F.value (get_or it.twiddles.now 0 F.ZERO) ≡ F.ring.one) };
 
-    ghost takes = { λ it n. let twiddle = λ (b : ℕ). F.value (get_or it.twiddles.now b F.ZERO) in
-        TakesCells (λ x. F.ring.mul (F.value x) (F.value it.scale)) F.value F.ZERO SmallestFirst it.width it.log_rows n
-        (λ b. dif_near F.ring (twiddle b)) (λ b. dif_far F.ring (twiddle b)) 0 it.log_rows };
+    ghost takes = { λ it n before after. let twiddle = λ (b : ℕ). F.value (get_or it.twiddles.now b F.ZERO) in
+        (k : ℕ) (cells : ℕ → ℕ → F.Element)
+        → AreLayers k it.width (λ b. dif_near F.ring (twiddle b)) (λ b. dif_far F.ring (twiddle b))
+        cells (λ e. cells (e + 1))
+        → (n + 1) * 2 ^ it.log_rows ≤ 2 ^ k
+        → HoldsCells F.value F.ZERO (n * length before) (cells 0) before
+        → HoldsCells F.value F.ZERO (n * length before) (λ i. F.ring.mul (cells it.log_rows i) (F.value it.scale))
+        after };
 
     ghost cost = { λ it size. (it.log_rows + 2) * size };
 
+    // Each half by itself, then the layer that joins them. That of the first tile has the twiddle one, and would
+    // save nothing.
     #[inline(always)]
     fn on_chunk(&self, number: usize, chunk: &mut [F], products: &mut Products) {
-        scale_slice_in_place(chunk, self.scale, products);
+        if self.log_rows == 0 || number == 0 {
+            layers_then_scale(
+                self.twiddles,
+                self.scale,
+                chunk,
+                self.width,
+                self.log_rows,
+                number,
+                products,
+            );
+            return;
+        }
+        let half = chunk.len() / 2;
+        let (low, high) = chunk.split_at_mut(half);
+        let below = self.log_rows - 1;
         layers_of_tile(
             Dif,
             self.twiddles,
-            chunk,
+            low,
             self.width,
-            self.log_rows,
-            number,
+            below,
+            2 * number,
             products,
         );
+        layers_of_tile(
+            Dif,
+            self.twiddles,
+            high,
+            self.width,
+            below,
+            2 * number + 1,
+            products,
+        );
+        join_scaled(self.twiddles[number], self.scale, low, high, products);
     }
+}
+
+// The layers of one tile, chunk `number` of `2^top` rows, by decimation in frequency, and all values times `scale`.
+#[inline(always)]
+fn layers_then_scale<F: TwoAdicField>(
+    twiddles: &[F],
+    scale: F,
+    values: &mut [F],
+    width: usize,
+    top: usize,
+    number: usize,
+    products: &mut Products,
+)
+    requires chunk { IsChunk width top number (length twiddles.now) (length values.old) }
+    requires first { F.value (get_or twiddles.now 0 F.ZERO) ≡ F.ring.one }
+    ensures cells { let twiddle = λ (b : ℕ). F.value (get_or twiddles.now b F.ZERO) in
+        (k : ℕ) (cells : ℕ → ℕ → F.Element)
+        → AreLayers k width (λ b. dif_near F.ring (twiddle b)) (λ b. dif_far F.ring (twiddle b))
+        cells (λ e. cells (e + 1))
+        → (number + 1) * 2 ^ top ≤ 2 ^ k
+        → HoldsCells F.value F.ZERO (number * length values.old) (cells 0) values.old
+        → HoldsCells F.value F.ZERO (number * length values.old) (λ i. F.ring.mul (cells top i) (F.value scale))
+        values.new }
+    ensures cost { RisesAtMost ((top + 2) * length values.old) (2 * products.old) (2 * products.new) }
+{
+    layers_of_tile(Dif, twiddles, values, width, top, number, products);
+    scale_slice_in_place(values, scale, products);
+}
+
+// A layer of one block, by decimation in frequency, and all values times `scale`: differences by the twiddle times the
+// scale, at once, and sums afterwards.
+#[inline(always)]
+fn join_scaled<F: TwoAdicField>(
+    twiddle: F,
+    scale: F,
+    low: &mut [F],
+    high: &mut [F],
+    products: &mut Products,
+)
+    requires { length low.old ≡ length high.old }
+    ensures near { let cell = λ (xs : List F) (n : ℕ). F.value (get_or xs n F.ZERO) in
+        (j : ℕ) → j < length low.old → cell low.new j
+        ≡ F.ring.mul (dif_near F.ring (F.value twiddle) (cell low.old j) (cell high.old j)) (F.value scale) }
+    ensures far { let cell = λ (xs : List F) (n : ℕ). F.value (get_or xs n F.ZERO) in
+        (j : ℕ) → j < length low.old → cell high.new j
+        ≡ F.ring.mul (dif_far F.ring (F.value twiddle) (cell low.old j) (cell high.old j)) (F.value scale) }
+    ensures count { products.new ≡ products.old + 2 * length low.old }
+{
+    meet_rows(DifButterfly(twiddle * scale), low, high, products);
+    scale_slice_in_place(low, scale, products);
 }
 
 /// From rows in natural order to their values at the powers of the root that `twiddles` are made of, in

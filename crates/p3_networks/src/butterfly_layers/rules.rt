@@ -288,7 +288,7 @@ impl<F: TwoAdicField, D: Decimation<F>> Rule<F> for ByBlock<'_, F, D> {
 
 // A butterfly on two rows, with a contract that speaks of entries.
 #[inline(always)]
-fn meet_rows<F: TwoAdicField, B: Butterfly<F>>(
+pub(crate) fn meet_rows<F: TwoAdicField, B: Butterfly<F>>(
     butterfly: B,
     row_1: &mut [F],
     row_2: &mut [F],

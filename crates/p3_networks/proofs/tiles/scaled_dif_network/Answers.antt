@@ -1,13 +1,16 @@
-use Rattle.std.proofs.Common.{◌≡◌, ℕ, ◌+◌, ◌-◌, ◌*◌, ◌^◌, ◌≤◌, length, get_or, ap, ◌∙◌, subst, arith}
+use Rattle.std.proofs.Common.{◌≡◌, ℕ, ◌+◌, ◌-◌, ◌*◌, ◌^◌, ◌≤◌, length, get_or, sym, ap, ◌∙◌, subst, arith}
 use Rattle.std.proofs.lemmas.Nat.{pow_pos}
 use Rattle.p3_field.specs.Ring.{power}
 use Rattle.p3_field.proofs.Powers.{power-zero}
 use Rattle.p3_field.proofs.Roots.{inverse_root, inverse_roots}
 use Rattle.p3_matrix.specs.BitOrder.{rev}
 use Rattle.p3_matrix.proofs.BitReversal.{rev_of_zero, rev-rev}
+use Rattle.p3_matrix.proofs.Polynomials.ByIndex.{poly_same, poly-times}
 use Rattle.p3_networks.specs.Layers.{HoldsCells}
+use Rattle.p3_networks.specs.Twiddles.{backward_root}
 use Rattle.p3_networks.proofs.Layers.Blocks.{row_below}
 use Rattle.p3_networks.proofs.Layers.Counts.{counted_twice, layers_joined, two_halves}
+use Rattle.p3_networks.proofs.Layers.Joined.{scaled_layers}
 use Rattle.p3_networks.proofs.Networks.Cells.{twisted_cells, twisted_cells_end, twisted_cells_start, twisted_layers}
 use Rattle.p3_networks.proofs.tiles.scaled_dif_network.Goals as goal
 
@@ -40,21 +43,24 @@ returns-clause-values g c r j below inside =
     let w = c.args.width in
     let len = length c.args.values.now in
     let roots = inverse_roots field.ring g.met.F.TwoAdicField.roots_law in
-    let scaled = λ (x : g.row.F.Denot). field.ring.mul (field.value x) (field.value c.args.scale) in
-    let column = λ (u q : ℕ). scaled (get_or c.args.values.now (rev k q * w + u) field.ZERO) in
+    let scale = field.value c.args.scale in
+    let column = λ (u q : ℕ). field.value (get_or c.args.values.now (rev k q * w + u) field.ZERO) in
     let entry = λ (b : ℕ). field.value (get_or c.args.twiddles.now b field.ZERO) in
     let cells = twisted_cells field.ring roots k w column entry in
+    let scaled = λ (e i : ℕ). field.ring.mul (cells e i) scale in
     let layers = twisted_layers field.ring roots k w column entry c.requires.width c.requires.within (λ l b p q. c.requires.twiddles.entries l b p q) in
-    let start : HoldsCells scaled field.ZERO 0 (cells 0) c.args.values.now = λ i p.
-    twisted_cells_start field.ring roots k w column entry c.requires.width (λ n. scaled (get_or c.args.values.now n field.ZERO))
-    (λ q u small. ap (λ n. scaled (get_or c.args.values.now (n * w + u) field.ZERO)) (rev-rev k q small)) i (omega (arith, p, c.requires.size)) in
-    let middle : HoldsCells field.value field.ZERO 0 (cells c.args.log_rows) c.scaled_dif_tiles.new.values = c.scaled_dif_tiles.ensures.cells cells layers start in
+    let start : HoldsCells field.value field.ZERO 0 (cells 0) c.args.values.now = λ i p.
+    twisted_cells_start field.ring roots k w column entry c.requires.width (λ n. field.value (get_or c.args.values.now n field.ZERO))
+    (λ q u small. ap (λ n. field.value (get_or c.args.values.now (n * w + u) field.ZERO)) (rev-rev k q small)) i (omega (arith, p, c.requires.size)) in
+    let middle : HoldsCells field.value field.ZERO 0 (scaled c.args.log_rows) c.scaled_dif_tiles.new.values = c.scaled_dif_tiles.ensures.cells cells layers start in
     let none : c.args.log_rows ≡ c.args.log_rows + 0 = omega arith in
     let all : c.args.log_rows + (k - c.args.log_rows) ≡ k = omega (arith, c.requires.below) in
-    let done = subst (λ (e : ℕ). HoldsCells field.value field.ZERO 0 (cells e) c.layers_in_groups.new.values) all
-    (c.layers_in_groups.ensures.cells cells layers (subst (λ (e : ℕ). HoldsCells field.value field.ZERO 0 (cells e) c.scaled_dif_tiles.new.values) none middle)) in
+    let done = subst (λ (e : ℕ). HoldsCells field.value field.ZERO 0 (scaled e) c.layers_in_groups.new.values) all
+    (c.layers_in_groups.ensures.cells scaled (scaled_layers field.ring entry scale k w cells layers) (subst (λ (e : ℕ). HoldsCells field.value field.ZERO 0 (scaled e) c.scaled_dif_tiles.new.values) none middle)) in
+    let root = power field.ring (backward_root field g.F.TwoAdicField.generator k) r in
     done (r * w + j) (omega (arith, row_below r j w (2 ^ k) below inside, c.requires.size, c.layers_in_groups.auto.values, c.scaled_dif_tiles.auto.values))
-    ∙ twisted_cells_end field.ring roots k w column entry r j below inside
+    ∙ ap (λ y. field.ring.mul y scale) (twisted_cells_end field.ring roots k w column entry r j below inside)
+    ∙ field.ring.mul_comm _ _ ∙ sym (poly-times field.ring (2 ^ k) scale (column j) root) ∙ poly_same field.ring (2 ^ k) _ _ root (λ q small. field.ring.mul_comm scale (column j q))
 
 pub returns-clause-cost : goal.returns-clause-cost
 returns-clause-cost g c =
