@@ -1,7 +1,7 @@
 // Tests by the client that they are of.
 //
 // The numbers were worked out by another program. What is known of a concrete field is dear to prove, at each call that
-// names it, so tests are generic over the field and the one that extends it, and `over` alone names fields.
+// names it, so most tests are generic over the field, and `over` names fields.
 
 mod clients;
 mod extensions;
@@ -12,7 +12,6 @@ mod own_engine;
 mod product;
 mod whole_rows;
 
-use examples::extension::{BabyBearFourth, ExtensionField, GoldilocksSquared};
 use p3_dft::{BabyBear, CanonicalField, Goldilocks};
 use std::alloc::Global;
 use std::process::Abort;
@@ -23,20 +22,14 @@ enum FieldName {
     Goldilocks,
 }
 
-// What is tested over a field, or in one that extends it.
+// What is tested over a field.
 #[derive(Clone, Copy)]
 enum Topic<'a> {
     Roots,
     OneRoot,
     LowDegree,
-    PublishedDegree(&'a [u64]),
-    Texts,
-    Products(&'a [extensions::Product], &'a str),
-    FoldingsInto(&'a [extensions::Folding]),
     Foldings(&'a [folding::Case]),
     TwoFoldings,
-    HonestQueries(&'a [fri::Case]),
-    ChangedQueries(&'a [fri::Case]),
     OwnEngine,
     SmallProducts,
     LargeProducts,
@@ -44,19 +37,13 @@ enum Topic<'a> {
 }
 
 impl<'a> Topic<'a> {
-    fn hold<F: CanonicalField, E: ExtensionField<F>>(self, rt: &impl Abort, alloc: Global) {
+    fn hold<F: CanonicalField>(self, rt: &impl Abort, alloc: Global) {
         match self {
             Topic::Roots => clients::roots_over::<F>(rt, alloc),
             Topic::OneRoot => clients::one_root_over::<F>(rt, alloc),
             Topic::LowDegree => clients::low_degrees_over::<F>(rt, alloc),
-            Topic::PublishedDegree(numbers) => clients::published::<F>(rt, alloc, numbers),
-            Topic::Texts => clients::texts_over::<F>(rt, alloc),
-            Topic::Products(cases, root) => extensions::products::<F, E>(rt, alloc, cases, root),
-            Topic::FoldingsInto(cases) => extensions::foldings::<F, E>(rt, alloc, cases),
             Topic::Foldings(cases) => folding::foldings::<F>(rt, alloc, cases),
             Topic::TwoFoldings => folding::two_foldings_over::<F>(rt, alloc),
-            Topic::HonestQueries(cases) => fri::honest_queries::<F>(rt, alloc, cases),
-            Topic::ChangedQueries(cases) => fri::refused_queries::<F>(rt, alloc, cases),
             Topic::OwnEngine => own_engine::answers_agree::<F>(rt, alloc),
             Topic::SmallProducts => product::small_products_of::<F>(rt, alloc),
             Topic::LargeProducts => product::large_products::<F>(rt, alloc),
@@ -68,7 +55,7 @@ impl<'a> Topic<'a> {
 // Stops the test where a topic does not hold over a field.
 fn over(rt: &impl Abort, alloc: Global, field: FieldName, topic: Topic) {
     match field {
-        FieldName::BabyBear => topic.hold::<BabyBear, BabyBearFourth>(rt, alloc),
-        FieldName::Goldilocks => topic.hold::<Goldilocks, GoldilocksSquared>(rt, alloc),
+        FieldName::BabyBear => topic.hold::<BabyBear>(rt, alloc),
+        FieldName::Goldilocks => topic.hold::<Goldilocks>(rt, alloc),
     }
 }

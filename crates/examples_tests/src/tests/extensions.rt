@@ -4,15 +4,14 @@
 ghost use Rattle.std.specs.Prelude.{◌≡◌, ◌*◌};
 
 use super::helpers::matrices::{assert_rows, elements, matrix_of, sample};
-use super::{FieldName, Topic, over};
-use examples::extension::ExtensionField;
+use examples::extension::{BabyBearFourth, ExtensionField, GoldilocksSquared};
 use examples::extension_folding::{fold_into_extension, last_coefficients};
-use p3_dft::{CanonicalField, Layout, Radix2Dit, RowMajorMatrix, fits_dft};
+use p3_dft::{BabyBear, CanonicalField, Goldilocks, Layout, Radix2Dit, RowMajorMatrix, fits_dft};
 use std::alloc::Global;
 use std::process::Abort;
 
 // Two elements by their coordinates, their product, and the inverse of the first.
-pub(crate) struct Product {
+struct Product {
     left: &'static [u64],
     right: &'static [u64],
     product: &'static [u64],
@@ -20,7 +19,7 @@ pub(crate) struct Product {
 }
 
 // The folding of the matrix that `sample` makes, and its coefficients: coordinates of elements, row after row.
-pub(crate) struct Folding {
+struct Folding {
     shape: (usize, usize),
     seed: u8,
     layout: Layout,
@@ -551,12 +550,10 @@ fn element<F: CanonicalField, E: ExtensionField<F>>(
     E::from_coordinates(&coordinates)
 }
 
-// The products, and the text of the root.
-pub(crate) fn products<F: CanonicalField, E: ExtensionField<F>>(
+fn assert_products<F: CanonicalField, E: ExtensionField<F>>(
     rt: &impl Abort,
     alloc: Global,
     cases: &[Product],
-    root: &str,
 ) {
     for case in cases {
         let left: E = element::<F, E>(rt, alloc, case.left);
@@ -566,19 +563,17 @@ pub(crate) fn products<F: CanonicalField, E: ExtensionField<F>>(
         assert!(rt; inverse == element::<F, E>(rt, alloc, case.inverse));
     }
     assert!(rt; E::ZERO.try_inverse().is_none());
-    let x: E = ExtensionField::<F>::root();
-    let text = format!(in alloc; "{x} {x:?}").expect(rt, "memory");
-    assert!(rt; text.as_str() == root);
 }
 
 #[test]
 fn products_in_extension_fields(rt: HostRuntime) {
     let alloc = rt.alloc();
-    let root = "((0 + 0 x) + (1 + 0 x) x) ((0 + 0 x) + (1 + 0 x) x)";
-    let topic = Topic::Products(&PRODUCTS_OVER_BABY_BEAR, root);
-    over(&rt, alloc, FieldName::BabyBear, topic);
-    let topic = Topic::Products(&PRODUCTS_OVER_GOLDILOCKS, "(0 + 1 x) (0 + 1 x)");
-    over(&rt, alloc, FieldName::Goldilocks, topic);
+    let rt = &rt;
+    assert_products::<BabyBear, BabyBearFourth>(rt, alloc, &PRODUCTS_OVER_BABY_BEAR);
+    assert_products::<Goldilocks, GoldilocksSquared>(rt, alloc, &PRODUCTS_OVER_GOLDILOCKS);
+    let root: GoldilocksSquared = ExtensionField::<Goldilocks>::root();
+    let text = format!(in alloc; "{root} {root:?}").expect(rt, "memory");
+    assert!(rt; text.as_str() == "(0 + 1 x) (0 + 1 x)");
 }
 
 // The coordinates of a matrix's elements, row after row.
@@ -622,7 +617,7 @@ fn assert_last_coefficients<F: CanonicalField, E: ExtensionField<F>>(
 }
 
 // Stops the test where a folding does not have these values, or, in natural order, these coefficients.
-pub(crate) fn foldings<F: CanonicalField, E: ExtensionField<F>>(
+fn assert_foldings<F: CanonicalField, E: ExtensionField<F>>(
     rt: &impl Abort,
     alloc: Global,
     cases: &[Folding],
@@ -654,8 +649,7 @@ pub(crate) fn foldings<F: CanonicalField, E: ExtensionField<F>>(
 
 #[test]
 fn foldings_into_extension_fields(rt: HostRuntime) {
-    let topic = Topic::FoldingsInto(&FOLDINGS_OVER_BABY_BEAR);
-    over(&rt, rt.alloc(), FieldName::BabyBear, topic);
-    let topic = Topic::FoldingsInto(&FOLDINGS_OVER_GOLDILOCKS);
-    over(&rt, rt.alloc(), FieldName::Goldilocks, topic);
+    let alloc = rt.alloc();
+    assert_foldings::<BabyBear, BabyBearFourth>(&rt, alloc, &FOLDINGS_OVER_BABY_BEAR);
+    assert_foldings::<Goldilocks, GoldilocksSquared>(&rt, alloc, &FOLDINGS_OVER_GOLDILOCKS);
 }
