@@ -83,6 +83,6 @@ pub fn text_of<F: Field>(alloc: Global, elements: &[F]) -> Result<String, AllocE
 }
 
 /// The number of an element, in eight places.
-pub fn aligned_text_of(alloc: Global, element: Goldilocks) -> Result<String, AllocError> {
+pub fn aligned_text_of<F: Field>(alloc: Global, element: F) -> Result<String, AllocError> {
     format!(in alloc; "{element:>8}")
 }

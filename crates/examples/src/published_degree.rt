@@ -1,11 +1,10 @@
-//! A low degree test of the published blocks of an extension, over `Goldilocks`: a consumer keeps each block,
-//! and the test is of the rows that were kept.
+//! A low degree test of the published blocks of an extension, for every field and engine: a consumer keeps each
+//! block, and the test is of the rows that were kept.
 //!
 //! Proved: the rows that were kept are the extension. The test says yes where each of its columns has the values
 //! of a polynomial with no more coefficients than the input has rows, and nowhere else; and it says yes.
 
 ghost use Rattle.std.specs.Prelude.{◌≡◌, ◌↔◌, ◌*◌, ◌^◌, IfOk, IsTrue, length};
-ghost use Rattle.p3_field.specs.NamedFields.{goldilocks};
 ghost use Rattle.p3_field.specs.Ring.{IsInvertible};
 ghost use Rattle.p3_matrix.specs.BitOrder.{reversed_rows};
 ghost use Rattle.p3_matrix.specs.Cosets.{values_of};
@@ -16,7 +15,7 @@ ghost use Rattle.p3_dft.specs.Extensions.{IsExtension};
 ghost use Rattle.p3_dft.specs.Shapes.{FitsLde};
 
 use p3_dft::{
-    BitReversedMatrixView, BlockConsumer, DftError, Evaluations, Goldilocks, RowMajorMatrix,
+    BitReversedMatrixView, BlockConsumer, DftError, Evaluations, Field, RowMajorMatrix,
     RowMajorMatrixView, TwoAdicField, TwoAdicSubgroupDft, extended_height, growth,
     has_degree_below,
 };
@@ -25,11 +24,11 @@ use std::convert::Infallible;
 /// A consumer that keeps the entries of each block at their place among those of all rows, and never refuses
 /// one.
 #[derive(Drop)]
-pub struct Kept {
-    entries: Vec<Goldilocks>,
+pub struct Kept<F> {
+    entries: Vec<F>,
 }
 
-impl BlockConsumer<Goldilocks> for Kept {
+impl<F: Field> BlockConsumer<F> for Kept<F> {
     ghost use Rattle.std.specs.Prelude.{◌≡◌, Ok};
     ghost use Rattle.p3_matrix.specs.Consumers.{IsCopied};
 
@@ -38,12 +37,8 @@ impl BlockConsumer<Goldilocks> for Kept {
     ghost step = { λ c start block answer e. (answer ≡ Ok tt)
         × IsCopied c.entries.items start block e.entries.items };
 
-    fn consume(
-        &mut self,
-        start: usize,
-        block: RowMajorMatrixView<'_, Goldilocks>,
-    ) -> Result<(), Infallible>
-        ensures { ⟦<Kept as BlockConsumer<Goldilocks>>⟧.step self.old start block.entry result self.new }
+    fn consume(&mut self, start: usize, block: RowMajorMatrixView<'_, F>) -> Result<(), Infallible>
+        ensures { ⟦<Kept<F> as BlockConsumer<F>>⟧.step self.old start block.entry result self.new }
     {
         let entries = block.values();
         let first = start.saturating_mul(block.width());
@@ -56,25 +51,25 @@ impl BlockConsumer<Goldilocks> for Kept {
 }
 
 // As many zeros as the extension of the matrix has entries.
-fn zeros_for(
-    mat: &RowMajorMatrix<Goldilocks>,
+fn zeros_for<F: TwoAdicField>(
+    mat: &RowMajorMatrix<F>,
     added_bits: usize,
-) -> Result<Vec<Goldilocks>, DftError>
-    requires { FitsLde ⟦<Goldilocks as TwoAdicField>⟧.TWO_ADICITY (height mat.now) mat.now.width added_bits }
+) -> Result<Vec<F>, DftError>
+    requires { FitsLde F.TWO_ADICITY (height mat.now) mat.now.width added_bits }
     ensures { IfOk result (λ zeros. length zeros.items ≡ (height mat.now * 2 ^ added_bits) * mat.now.width) }
 {
-    let rows = extended_height::<Goldilocks>(mat.height(), mat.width(), added_bits);
+    let rows = extended_height::<F>(mat.height(), mat.width(), added_bits);
     let mut zeros = Vec::new(*mat.allocator());
-    growth::resize(&mut zeros, rows * mat.width(), Goldilocks::ZERO)?;
+    growth::resize(&mut zeros, rows * mat.width(), F::ZERO)?;
     Ok(zeros)
 }
 
 // The matrix in natural order whose rows, as they lie in memory, have the same entries as those of `out`.
 #[tactic(auto, using(p3_matrix::proofs::ReversedRows::reversed_alike))]
-fn in_natural_order(
-    entries: Vec<Goldilocks>,
-    out: &BitReversedMatrixView<RowMajorMatrix<Goldilocks>>,
-) -> RowMajorMatrix<Goldilocks>
+fn in_natural_order<F: Field>(
+    entries: Vec<F>,
+    out: &BitReversedMatrixView<RowMajorMatrix<F>>,
+) -> RowMajorMatrix<F>
     requires { entries.items ≡ out.now.physical.values }
     ensures { result ≡ reversed_rows out.now.bits out.now.physical }
 {
@@ -84,15 +79,14 @@ fn in_natural_order(
 }
 
 /// The extension of a matrix, as its published blocks make it.
-pub fn kept_extension<D: TwoAdicSubgroupDft<Goldilocks>>(
+pub fn kept_extension<F: TwoAdicField, D: TwoAdicSubgroupDft<F>>(
     engine: &mut D,
-    mat: RowMajorMatrix<Goldilocks>,
+    mat: RowMajorMatrix<F>,
     added_bits: usize,
-    shift: Goldilocks,
-) -> Result<RowMajorMatrix<Goldilocks>, DftError>
-    requires { FitsLde ⟦<Goldilocks as TwoAdicField>⟧.TWO_ADICITY (height mat) mat.width added_bits }
-    ensures extension { IfOk result (λ out. IsExtension goldilocks ⟦<Goldilocks as TwoAdicField>⟧.generator mat
-        added_bits (goldilocks.value shift) out) }
+    shift: F,
+) -> Result<RowMajorMatrix<F>, DftError>
+    requires { FitsLde F.TWO_ADICITY (height mat) mat.width added_bits }
+    ensures extension { IfOk result (λ out. IsExtension F.Field.own F.generator mat added_bits (F.value shift) out) }
     ensures later { IsLater D.facts engine.old engine.new }
 {
     let entries = zeros_for(&mat, added_bits)?;
@@ -109,18 +103,17 @@ pub fn kept_extension<D: TwoAdicSubgroupDft<Goldilocks>>(
 
 /// The extension of a matrix, as its published blocks make it, and whether its columns have the values of
 /// polynomials with no more coefficients than the matrix has rows.
-pub fn published_degree<D: TwoAdicSubgroupDft<Goldilocks>>(
+pub fn published_degree<F: TwoAdicField, D: TwoAdicSubgroupDft<F>>(
     engine: &mut D,
-    mat: RowMajorMatrix<Goldilocks>,
+    mat: RowMajorMatrix<F>,
     added_bits: usize,
-    shift: Goldilocks,
-) -> Result<(RowMajorMatrix<Goldilocks>, bool), DftError>
-    requires fits { FitsLde ⟦<Goldilocks as TwoAdicField>⟧.TWO_ADICITY (height mat) mat.width added_bits }
-    requires invertible { IsInvertible goldilocks.ring (goldilocks.value shift) }
-    ensures extension { IfOk result (λ p. IsExtension goldilocks ⟦<Goldilocks as TwoAdicField>⟧.generator mat
-        added_bits (goldilocks.value shift) p.0) }
-    ensures exact { IfOk result (λ p. AtLog (height p.0) (λ k. IsTrue p.1 ↔ HasDegreeBelow goldilocks
-        ⟦<Goldilocks as TwoAdicField>⟧.generator (height mat) k (goldilocks.value shift) (values_of goldilocks p.0))) }
+    shift: F,
+) -> Result<(RowMajorMatrix<F>, bool), DftError>
+    requires fits { FitsLde F.TWO_ADICITY (height mat) mat.width added_bits }
+    requires invertible { IsInvertible F.ring (F.value shift) }
+    ensures extension { IfOk result (λ p. IsExtension F.Field.own F.generator mat added_bits (F.value shift) p.0) }
+    ensures exact { IfOk result (λ p. AtLog (height p.0) (λ k. IsTrue p.1 ↔ HasDegreeBelow F.Field.own F.generator
+        (height mat) k (F.value shift) (values_of F.Field.own p.0))) }
     ensures low { IfOk result (λ p. IsTrue p.1) }
     ensures later { IsLater D.facts engine.old engine.new }
 {
