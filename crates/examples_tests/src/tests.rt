@@ -1,7 +1,7 @@
 // Tests by the client that they are of.
 //
 // The numbers were worked out by another program. What is known of a concrete field is dear to prove, at each call that
-// names it, so most tests are generic over the field, and `over` names fields.
+// names it, so tests are generic over the field, and `over` names fields. Extension fields have one of their own.
 
 mod clients;
 mod extensions;
@@ -28,8 +28,12 @@ enum Topic<'a> {
     Roots,
     OneRoot,
     LowDegree,
+    PublishedDegree(&'a [u64]),
+    Texts,
     Foldings(&'a [folding::Case]),
     TwoFoldings,
+    HonestQueries(&'a [fri::Case]),
+    ChangedQueries(&'a [fri::Case]),
     OwnEngine,
     SmallProducts,
     LargeProducts,
@@ -42,8 +46,12 @@ impl<'a> Topic<'a> {
             Topic::Roots => clients::roots_over::<F>(rt, alloc),
             Topic::OneRoot => clients::one_root_over::<F>(rt, alloc),
             Topic::LowDegree => clients::low_degrees_over::<F>(rt, alloc),
+            Topic::PublishedDegree(numbers) => clients::published::<F>(rt, alloc, numbers),
+            Topic::Texts => clients::texts_over::<F>(rt, alloc),
             Topic::Foldings(cases) => folding::foldings::<F>(rt, alloc, cases),
             Topic::TwoFoldings => folding::two_foldings_over::<F>(rt, alloc),
+            Topic::HonestQueries(cases) => fri::honest_queries::<F>(rt, alloc, cases),
+            Topic::ChangedQueries(cases) => fri::refused_queries::<F>(rt, alloc, cases),
             Topic::OwnEngine => own_engine::answers_agree::<F>(rt, alloc),
             Topic::SmallProducts => product::small_products_of::<F>(rt, alloc),
             Topic::LargeProducts => product::large_products::<F>(rt, alloc),

@@ -5,7 +5,7 @@
 // `31 * h^i`, where g and h are powers of 440564289, whose order is 2^27. Leaf r is the digest of the row whose
 // number has the digits of r in reverse, and neighbours are joined until one is left.
 
-use super::helpers::matrices::matrix;
+use super::helpers::matrices::{assert_rows, elements, matrix};
 use super::{FieldName, Topic, over};
 use examples::field_forms::{aligned_text_of, geometric_sum, line_at, text_of, total_of_squares};
 use examples::low_degree::has_low_degree;
@@ -146,42 +146,49 @@ fn low_degrees_are_told(rt: HostRuntime) {
     over(&rt, rt.alloc(), FieldName::BabyBear, Topic::LowDegree);
 }
 
-// The columns are the values of 2 - x and 3 - x at 1 and -1. The points of the extension are 7 times the powers of
-// `2^48`, whose square is -1 modulo `2^64 - 2^32 + 1`. Read as coefficients, its rows have degree below 4 and not
-// below 3.
-#[test]
-fn what_was_published_has_low_degree(rt: HostRuntime) {
-    let mut entries = Vec::new(rt.alloc());
-    for n in [1u8, 2, 3, 4] {
-        entries.push(Goldilocks::from_u8(n)).expect(&rt, "memory");
-    }
-    assert!(rt; entries.len() % 2 == 0);
-    let mat = RowMajorMatrix::new(entries, 2);
-    assert!(rt; fits_lde::<Goldilocks>(mat.height(), mat.width(), 1));
-    let shift = Goldilocks::invertible_generator();
+// The columns are the values of 2 - x and 3 - x at 1 and -1, extended by one bit on the coset of the generator. Read as
+// coefficients, the rows of the extension have degree below 4 and not below 3.
+pub(crate) fn published<F: CanonicalField>(rt: &impl Abort, alloc: Global, numbers: &[u64]) {
+    let mat: RowMajorMatrix<F> = matrix(rt, alloc, &[1, 2, 3, 4], 2);
+    assert!(rt; fits_lde::<F>(mat.height(), mat.width(), 1));
+    let shift = F::invertible_generator();
     let answer = published_degree(&mut Radix2DitParallel::default(), mat, 1, shift);
-    let (kept, low) = answer.expect(&rt, "memory");
+    let (kept, low) = answer.expect(rt, "memory");
     assert!(rt; low && has_degree_below(&kept, 4) && !has_degree_below(&kept, 3));
-    assert!(rt; kept.width() == 2 && kept.values().len() == PUBLISHED.len());
-    for (x, number) in kept.values().iter().zip(PUBLISHED) {
-        assert!(rt; x.as_canonical_u64() == number);
-    }
+    assert_rows(rt, &kept, numbers, 2);
 }
 
-const PUBLISHED: [u64; 8] = [
-    // at 7
+// At 31, 31 i, -31 and -31 i, where i = 1728404513 has the square -1 modulo `2^31 - 2^27 + 1`.
+const PUBLISHED_OVER_BABY_BEAR: [u64; 8] = [
+    2013265892, 2013265893, 777639966, 777639967, 33, 34, 1235625959, 1235625960,
+];
+
+// At 7, 7 i, -7 and -7 i, where i = `2^48` has the square -1 modulo `2^64 - 2^32 + 1`.
+const PUBLISHED_OVER_GOLDILOCKS: [u64; 8] = [
     18446744069414584316,
     18446744069414584317,
-    // at 7 * 2^48
     18444773744577609731,
     18444773744577609732,
-    // at -7
     9,
     10,
-    // at -7 * 2^48
     1970324836974594,
     1970324836974595,
 ];
+
+#[test]
+fn what_was_published_has_low_degree(rt: HostRuntime) {
+    let topic = Topic::PublishedDegree(&PUBLISHED_OVER_BABY_BEAR);
+    over(&rt, rt.alloc(), FieldName::BabyBear, topic);
+    let topic = Topic::PublishedDegree(&PUBLISHED_OVER_GOLDILOCKS);
+    over(&rt, rt.alloc(), FieldName::Goldilocks, topic);
+}
+
+pub(crate) fn texts_over<F: CanonicalField>(rt: &impl Abort, alloc: Global) {
+    let pair: Vec<F> = elements(rt, alloc, &[9, 5]);
+    assert!(rt; text_of(alloc, &pair).expect(rt, "memory").as_str() == "[9, 5]");
+    let text = aligned_text_of(alloc, F::from_u8(7)).expect(rt, "memory");
+    assert!(rt; text.as_str() == "       7");
+}
 
 // 3 * 5 + 2, 1 + 4 + 9, and 1 + 2 + 4 + 8 + 16.
 #[test]
@@ -191,8 +198,6 @@ fn elements_have_the_worked_numbers_and_texts(rt: HostRuntime) {
     let numbers = [1u8, 2, 3].map(|n: u8| -> BabyBear { BabyBear::from_u8(n) });
     assert!(rt; total_of_squares(&numbers) == BabyBear::from_u8(14));
     assert!(rt; geometric_sum(BabyBear::TWO, 5) == BabyBear::from_u8(31));
-    let pair = [BabyBear::from_u8(9), BabyBear::from_u8(5)];
-    assert!(rt; text_of(alloc, &pair).expect(&rt, "memory").as_str() == "[9, 5]");
-    let text = aligned_text_of(alloc, Goldilocks::from_u8(7)).expect(&rt, "memory");
-    assert!(rt; text.as_str() == "       7");
+    over(&rt, alloc, FieldName::BabyBear, Topic::Texts);
+    over(&rt, alloc, FieldName::Goldilocks, Topic::Texts);
 }

@@ -3,9 +3,11 @@
 
 ghost use Rattle.std.specs.Prelude.{◌≡◌, ◌*◌};
 
+use super::FieldName;
 use super::helpers::matrices::{assert_rows, elements, matrix_of, sample};
-use examples::extension::{BabyBearFourth, ExtensionField, GoldilocksSquared};
+use examples::extension::ExtensionField;
 use examples::extension_folding::{fold_into_extension, last_coefficients};
+use examples::quadratic::{Eleven, Quadratic, Root, Seven, Square};
 use p3_dft::{BabyBear, CanonicalField, Goldilocks, Layout, Radix2Dit, RowMajorMatrix, fits_dft};
 use std::alloc::Global;
 use std::process::Abort;
@@ -550,10 +552,12 @@ fn element<F: CanonicalField, E: ExtensionField<F>>(
     E::from_coordinates(&coordinates)
 }
 
-fn assert_products<F: CanonicalField, E: ExtensionField<F>>(
+// The products, and the text of the root.
+fn products<F: CanonicalField, E: ExtensionField<F>>(
     rt: &impl Abort,
     alloc: Global,
     cases: &[Product],
+    root: &str,
 ) {
     for case in cases {
         let left: E = element::<F, E>(rt, alloc, case.left);
@@ -563,17 +567,9 @@ fn assert_products<F: CanonicalField, E: ExtensionField<F>>(
         assert!(rt; inverse == element::<F, E>(rt, alloc, case.inverse));
     }
     assert!(rt; E::ZERO.try_inverse().is_none());
-}
-
-#[test]
-fn products_in_extension_fields(rt: HostRuntime) {
-    let alloc = rt.alloc();
-    let rt = &rt;
-    assert_products::<BabyBear, BabyBearFourth>(rt, alloc, &PRODUCTS_OVER_BABY_BEAR);
-    assert_products::<Goldilocks, GoldilocksSquared>(rt, alloc, &PRODUCTS_OVER_GOLDILOCKS);
-    let root: GoldilocksSquared = ExtensionField::<Goldilocks>::root();
-    let text = format!(in alloc; "{root} {root:?}").expect(rt, "memory");
-    assert!(rt; text.as_str() == "(0 + 1 x) (0 + 1 x)");
+    let x: E = ExtensionField::<F>::root();
+    let text = format!(in alloc; "{x} {x:?}").expect(rt, "memory");
+    assert!(rt; text.as_str() == root);
 }
 
 // The coordinates of a matrix's elements, row after row.
@@ -617,7 +613,7 @@ fn assert_last_coefficients<F: CanonicalField, E: ExtensionField<F>>(
 }
 
 // Stops the test where a folding does not have these values, or, in natural order, these coefficients.
-fn assert_foldings<F: CanonicalField, E: ExtensionField<F>>(
+fn foldings<F: CanonicalField, E: ExtensionField<F>>(
     rt: &impl Abort,
     alloc: Global,
     cases: &[Folding],
@@ -647,9 +643,50 @@ fn assert_foldings<F: CanonicalField, E: ExtensionField<F>>(
     }
 }
 
+// What is tested in a field that extends another.
+#[derive(Clone, Copy)]
+enum Topic<'a> {
+    Products(&'a [Product], &'a str),
+    Foldings(&'a [Folding]),
+}
+
+fn hold<F: CanonicalField, E: ExtensionField<F>>(rt: &impl Abort, alloc: Global, topic: Topic) {
+    match topic {
+        Topic::Products(cases, root) => products::<F, E>(rt, alloc, cases, root),
+        Topic::Foldings(cases) => foldings::<F, E>(rt, alloc, cases),
+    }
+}
+
+fn in_degree_two<F: CanonicalField, W: Square<F>>(rt: &impl Abort, alloc: Global, topic: Topic) {
+    hold::<F, Quadratic<F, W>>(rt, alloc, topic);
+}
+
+fn in_degree_four<F: CanonicalField, W: Square<F>>(rt: &impl Abort, alloc: Global, topic: Topic) {
+    hold::<F, Quadratic<Quadratic<F, W>, Root>>(rt, alloc, topic);
+}
+
+// Stops the test where a topic does not hold in the field that extends one.
+fn over(rt: &impl Abort, alloc: Global, field: FieldName, topic: Topic) {
+    match field {
+        FieldName::BabyBear => in_degree_four::<BabyBear, Eleven>(rt, alloc, topic),
+        FieldName::Goldilocks => in_degree_two::<Goldilocks, Seven>(rt, alloc, topic),
+    }
+}
+
+#[test]
+fn products_in_extension_fields(rt: HostRuntime) {
+    let alloc = rt.alloc();
+    let root = "((0 + 0 x) + (1 + 0 x) x) ((0 + 0 x) + (1 + 0 x) x)";
+    let topic = Topic::Products(&PRODUCTS_OVER_BABY_BEAR, root);
+    over(&rt, alloc, FieldName::BabyBear, topic);
+    let topic = Topic::Products(&PRODUCTS_OVER_GOLDILOCKS, "(0 + 1 x) (0 + 1 x)");
+    over(&rt, alloc, FieldName::Goldilocks, topic);
+}
+
 #[test]
 fn foldings_into_extension_fields(rt: HostRuntime) {
-    let alloc = rt.alloc();
-    assert_foldings::<BabyBear, BabyBearFourth>(&rt, alloc, &FOLDINGS_OVER_BABY_BEAR);
-    assert_foldings::<Goldilocks, GoldilocksSquared>(&rt, alloc, &FOLDINGS_OVER_GOLDILOCKS);
+    let topic = Topic::Foldings(&FOLDINGS_OVER_BABY_BEAR);
+    over(&rt, rt.alloc(), FieldName::BabyBear, topic);
+    let topic = Topic::Foldings(&FOLDINGS_OVER_GOLDILOCKS);
+    over(&rt, rt.alloc(), FieldName::Goldilocks, topic);
 }

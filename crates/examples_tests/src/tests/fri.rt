@@ -2,15 +2,16 @@
 // refuses.
 
 use super::helpers::matrices::{assert_elements, assert_rows, sample};
+use super::{FieldName, Topic, over};
 use examples::fri::{Commitment, Layer, Opening, Transcript, check, commit, open};
 use examples::merkle_paths::root_of_path;
 use examples::merkle_root::{HornerHash, RowHash};
-use p3_dft::{BabyBear, CanonicalField, Field, Goldilocks, RowMajorMatrix, fits_dft};
+use p3_dft::{CanonicalField, Field, RowMajorMatrix, fits_dft};
 use std::alloc::Global;
 use std::process::Abort;
 
 // A commitment to the matrix that `sample` makes, with the values of each codeword after it.
-struct Case {
+pub(crate) struct Case {
     log_height: usize,
     width: usize,
     seed: u8,
@@ -263,7 +264,7 @@ fn is_accepted<F: CanonicalField>(
     check(&hash(), commitment, index, openings)
 }
 
-fn honest_queries<F: CanonicalField>(rt: &impl Abort, alloc: Global, cases: &[Case]) {
+pub(crate) fn honest_queries<F: CanonicalField>(rt: &impl Abort, alloc: Global, cases: &[Case]) {
     for case in cases {
         assert!(rt; 1 <= case.log_height && case.log_height < 32);
         for index in 0..1 << (case.log_height - 1) {
@@ -280,8 +281,10 @@ fn honest_queries<F: CanonicalField>(rt: &impl Abort, alloc: Global, cases: &[Ca
 
 #[test]
 fn honest_queries_are_accepted(rt: HostRuntime) {
-    honest_queries::<BabyBear>(&rt, rt.alloc(), &OVER_BABY_BEAR);
-    honest_queries::<Goldilocks>(&rt, rt.alloc(), &OVER_GOLDILOCKS);
+    let topic = Topic::HonestQueries(&OVER_BABY_BEAR);
+    over(&rt, rt.alloc(), FieldName::BabyBear, topic);
+    let topic = Topic::HonestQueries(&OVER_GOLDILOCKS);
+    over(&rt, rt.alloc(), FieldName::Goldilocks, topic);
 }
 
 // One thing that differs from an honest query.
@@ -361,12 +364,17 @@ fn exchanged_rows<F: CanonicalField>(rt: &impl Abort, alloc: Global, case: &Case
     assert!(rt; !is_accepted(rt, &commitment, 0, &openings));
 }
 
+pub(crate) fn refused_queries<F: CanonicalField>(rt: &impl Abort, alloc: Global, cases: &[Case]) {
+    for case in cases {
+        for layer in 0..2 {
+            changed_queries::<F>(rt, alloc, case, layer);
+        }
+        exchanged_rows::<F>(rt, alloc, case);
+    }
+}
+
 #[test]
 fn changed_queries_are_refused(rt: HostRuntime) {
-    for case in &OVER_BABY_BEAR {
-        for layer in 0..2 {
-            changed_queries::<BabyBear>(&rt, rt.alloc(), case, layer);
-        }
-        exchanged_rows::<BabyBear>(&rt, rt.alloc(), case);
-    }
+    let topic = Topic::ChangedQueries(&OVER_BABY_BEAR);
+    over(&rt, rt.alloc(), FieldName::BabyBear, topic);
 }
