@@ -22,7 +22,7 @@ mod tables;
 mod tiles;
 mod util;
 
-use p3_dft::{BabyBear, BasedVectorSpace, CanonicalField, Coordinates, Goldilocks, KoalaBear};
+use p3_dft::{BabyBear, CanonicalField, Goldilocks, KoalaBear};
 use std::alloc::Global;
 use std::process::Abort;
 
@@ -33,13 +33,10 @@ enum FieldName {
     Goldilocks,
 }
 
-// What is tested over a field, or over a vector space.
+// What is tested over a field.
 #[derive(Clone, Copy)]
 enum Topic<'a> {
     FormsInDimensionOne,
-    WorkedPairs(&'a [algebra::Pairs]),
-    CoordinatesAlone,
-    FormsKeepHeights,
     WorkedAnswers(&'a [answers::Worked]),
     Layouts,
     Constants,
@@ -61,23 +58,14 @@ enum Topic<'a> {
     Tables,
     ReversedRows(&'a [u64]),
     HandedOn,
-    Fields(usize),
-    Butterflies,
     TablesByTiles,
     Shapes,
 }
 
 impl<'a> Topic<'a> {
-    fn hold<F: CanonicalField, V: BasedVectorSpace<F> + Copy>(
-        self,
-        rt: &impl Abort,
-        alloc: Global,
-    ) {
+    fn hold<F: CanonicalField>(self, rt: &impl Abort, alloc: Global) {
         match self {
             Topic::FormsInDimensionOne => algebra::forms_over::<F>(rt, alloc),
-            Topic::WorkedPairs(cases) => algebra::worked_pairs::<F, V>(rt, alloc, cases),
-            Topic::CoordinatesAlone => algebra::space_over::<F, V>(rt, alloc),
-            Topic::FormsKeepHeights => algebra::stay_prepared::<F, V>(rt, alloc),
             Topic::WorkedAnswers(cases) => answers::answers_over::<F>(rt, alloc, cases),
             Topic::Layouts => answers::layouts_over::<F>(rt, alloc),
             Topic::Constants => answers::constants_over::<F>(rt, alloc),
@@ -99,19 +87,17 @@ impl<'a> Topic<'a> {
             Topic::Tables => tables::tables_over::<F>(rt, alloc),
             Topic::ReversedRows(physical) => tables::leaves_reversed::<F>(rt, alloc, physical),
             Topic::HandedOn => tables::calls_without_memory::<F>(rt, alloc),
-            Topic::Fields(lanes) => surface::fields_over::<F>(rt, alloc, lanes),
-            Topic::Butterflies => surface::butterflies_and_scales::<F>(rt, alloc),
             Topic::TablesByTiles => tables::goes_by_tiles::<F>(rt, alloc),
             Topic::Shapes => util::shapes_and_heights::<F>(rt, alloc),
         }
     }
 }
 
-// Stops the test where a topic does not hold over a field, or over its pairs.
+// Stops the test where a topic does not hold over a field.
 fn over(rt: &impl Abort, alloc: Global, field: FieldName, topic: Topic) {
     match field {
-        FieldName::BabyBear => topic.hold::<BabyBear, Coordinates<BabyBear, 2>>(rt, alloc),
-        FieldName::KoalaBear => topic.hold::<KoalaBear, Coordinates<KoalaBear, 2>>(rt, alloc),
-        FieldName::Goldilocks => topic.hold::<Goldilocks, Coordinates<Goldilocks, 2>>(rt, alloc),
+        FieldName::BabyBear => topic.hold::<BabyBear>(rt, alloc),
+        FieldName::KoalaBear => topic.hold::<KoalaBear>(rt, alloc),
+        FieldName::Goldilocks => topic.hold::<Goldilocks>(rt, alloc),
     }
 }

@@ -17,8 +17,8 @@ use engine_calls::answers::Answer;
 use engine_calls::engines::Engine;
 use engine_calls::names::{Call, OPERATIONS, Operation};
 use p3_dft::{
-    BabyBear, BasedVectorSpace, CanonicalField, Coordinates, DftError, Field, RowMajorMatrix,
-    TwoAdicField, TwoAdicSubgroupDft,
+    BabyBear, BasedVectorSpace, CanonicalField, Coordinates, DftError, Field, Goldilocks,
+    RowMajorMatrix, TwoAdicField, TwoAdicSubgroupDft,
 };
 use std::alloc::Global;
 use std::process::Abort;
@@ -79,7 +79,7 @@ fn coordinates_extended<F: TwoAdicField, V: BasedVectorSpace<F>, D: TwoAdicSubgr
 }
 
 // A column of pairs that was worked: what is done, the coordinates, the added bits, the shift, and the answer's.
-pub(crate) struct Pairs {
+struct Pairs {
     operation: Operation,
     rows: &'static [u64],
     added_bits: usize,
@@ -202,7 +202,7 @@ fn assert_rows_in_space<F: TwoAdicField, V: BasedVectorSpace<F> + Copy>(
 }
 
 // The worked columns of pairs, by every engine.
-pub(crate) fn worked_pairs<F: CanonicalField, V: BasedVectorSpace<F> + Copy>(
+fn worked_pairs<F: CanonicalField, V: BasedVectorSpace<F> + Copy>(
     rt: &impl Abort,
     alloc: Global,
     cases: &[Pairs],
@@ -219,12 +219,42 @@ pub(crate) fn worked_pairs<F: CanonicalField, V: BasedVectorSpace<F> + Copy>(
     }
 }
 
+// What is tested over a vector space.
+#[derive(Clone, Copy)]
+enum SpaceTopic<'a> {
+    WorkedPairs(&'a [Pairs]),
+    Alone,
+    Prepared,
+}
+
+fn in_space<F: CanonicalField, V: BasedVectorSpace<F> + Copy>(
+    rt: &impl Abort,
+    alloc: Global,
+    topic: SpaceTopic,
+) {
+    match topic {
+        SpaceTopic::WorkedPairs(cases) => worked_pairs::<F, V>(rt, alloc, cases),
+        SpaceTopic::Alone => space_over::<F, V>(rt, alloc),
+        SpaceTopic::Prepared => stay_prepared::<F, V>(rt, alloc),
+    }
+}
+
+fn in_space_over_baby_bear<const N: usize>(rt: &impl Abort, alloc: Global, topic: SpaceTopic)
+    requires { N ≤ 8 }
+{
+    in_space::<BabyBear, Coordinates<BabyBear, N>>(rt, alloc, topic);
+}
+
+fn in_pairs_over_goldilocks(rt: &impl Abort, alloc: Global, topic: SpaceTopic) {
+    in_space::<Goldilocks, Coordinates<Goldilocks, 2>>(rt, alloc, topic);
+}
+
 #[test]
 fn columns_of_pairs_have_the_worked_answers(rt: HostRuntime) {
-    let topic = Topic::WorkedPairs(&PAIRS_OVER_BABY_BEAR);
-    over(&rt, rt.alloc(), FieldName::BabyBear, topic);
-    let topic = Topic::WorkedPairs(&PAIRS_OVER_GOLDILOCKS);
-    over(&rt, rt.alloc(), FieldName::Goldilocks, topic);
+    let topic = SpaceTopic::WorkedPairs(&PAIRS_OVER_BABY_BEAR);
+    in_space_over_baby_bear::<2>(&rt, rt.alloc(), topic);
+    let topic = SpaceTopic::WorkedPairs(&PAIRS_OVER_GOLDILOCKS);
+    in_pairs_over_goldilocks(&rt, rt.alloc(), topic);
 }
 
 // At one shape each form of a call answers what the call on the matrix answers, on a coset and at zero.
@@ -308,37 +338,24 @@ fn coordinates_agree<F: TwoAdicField, V: BasedVectorSpace<F> + Copy>(
 }
 
 // In one space.
-pub(crate) fn space_over<F: TwoAdicField, V: BasedVectorSpace<F> + Copy>(
-    rt: &impl Abort,
-    alloc: Global,
-) {
+fn space_over<F: TwoAdicField, V: BasedVectorSpace<F> + Copy>(rt: &impl Abort, alloc: Global) {
     for name in EVERY_ENGINE {
         let mut engine: TestEngine<F> = TestEngine::new(name);
         coordinates_agree::<F, V>(rt, alloc, &mut engine);
     }
 }
 
-fn in_dimension<const N: usize>(rt: &impl Abort, alloc: Global)
-    requires { N ≤ 8 }
-{
-    space_over::<BabyBear, Coordinates<BabyBear, N>>(rt, alloc);
-}
-
 #[test]
 fn each_coordinate_is_transformed_alone(rt: HostRuntime) {
-    in_dimension::<1>(&rt, rt.alloc());
-    in_dimension::<3>(&rt, rt.alloc());
-    in_dimension::<8>(&rt, rt.alloc());
-    let topic = Topic::CoordinatesAlone;
-    over(&rt, rt.alloc(), FieldName::BabyBear, topic);
-    over(&rt, rt.alloc(), FieldName::Goldilocks, topic);
+    in_space_over_baby_bear::<1>(&rt, rt.alloc(), SpaceTopic::Alone);
+    in_space_over_baby_bear::<2>(&rt, rt.alloc(), SpaceTopic::Alone);
+    in_space_over_baby_bear::<3>(&rt, rt.alloc(), SpaceTopic::Alone);
+    in_space_over_baby_bear::<8>(&rt, rt.alloc(), SpaceTopic::Alone);
+    in_pairs_over_goldilocks(&rt, rt.alloc(), SpaceTopic::Alone);
 }
 
 // After all forms at height two that height is prepared as before.
-pub(crate) fn stay_prepared<F: TwoAdicField, V: BasedVectorSpace<F> + Copy>(
-    rt: &impl Abort,
-    alloc: Global,
-) {
+fn stay_prepared<F: TwoAdicField, V: BasedVectorSpace<F> + Copy>(rt: &impl Abort, alloc: Global) {
     let x = sample(rt, alloc, 2, 1, 3);
     for name in WITH_TABLES {
         let mut engine: Engine<F> = Engine::new(name);
@@ -361,6 +378,5 @@ pub(crate) fn is_prepared<F: TwoAdicField>(engine: &TestEngine<F>, log_h: usize)
 
 #[test]
 fn forms_keep_prepared_heights(rt: HostRuntime) {
-    let topic = Topic::FormsKeepHeights;
-    over(&rt, rt.alloc(), FieldName::BabyBear, topic);
+    in_space_over_baby_bear::<2>(&rt, rt.alloc(), SpaceTopic::Prepared);
 }

@@ -18,8 +18,8 @@ use engine_calls::answers::Answer;
 use engine_calls::blocks::Publication;
 use engine_calls::names::{CALLS, Call, ENGINES, EngineName, OPERATIONS, Operation};
 use p3_dft::{
-    BabyBear, BasedVectorSpace, BlockLimit, CanonicalField, Field, Job, PackedField, Products,
-    RowMajorMatrix, TwoAdicField, fits_dft, fits_lde, scaled,
+    BabyBear, BasedVectorSpace, BlockLimit, CanonicalField, Coordinates, Field, Goldilocks, Job,
+    PackedField, Products, RowMajorMatrix, TwoAdicField, fits_dft, fits_lde, scaled,
 };
 use std::alloc::Global;
 use std::cell::Cell;
@@ -475,40 +475,6 @@ pub(crate) fn marked<F: CanonicalField, M: Meter>(
     matrix_of(rt, entries, width)
 }
 
-// Every call on a matrix.
-fn each_call_within<F: CanonicalField>(
-    rt: &impl Abort,
-    count: &Count<'_>,
-    mat: &RowMajorMatrix<F>,
-    (shape, all): (Shape, BoundsOfEngines),
-) {
-    for (engine, bounds) in engines_and_bounds(rt, *mat.allocator(), all) {
-        let mut engine = engine;
-        calls_within(rt, count, &mut engine, mat, (shape, bounds));
-        codeword_within(rt, count, &mut engine, mat, (shape, bounds));
-        refusal_within(rt, count, &mut engine, mat, (shape, bounds));
-        jobs_within(rt, count, &mut engine, mat, (shape, bounds));
-    }
-}
-
-// Every call over a vector space, on elements of these coordinates.
-fn each_call_in_space_within<F: CanonicalField, V: BasedVectorSpace<F> + Copy>(
-    rt: &impl Abort,
-    count: &Count<'_>,
-    coordinates: &RowMajorMatrix<F>,
-    shape: Shape,
-) {
-    let mat = elements_of::<F, V>(rt, coordinates, shape.width);
-    let all = bounds_at(Shape {
-        width: shape.width.saturating_mul(V::DIMENSION),
-        ..shape
-    });
-    for (engine, bounds) in engines_and_bounds(rt, *coordinates.allocator(), all) {
-        let mut engine = engine;
-        space_within::<F, V>(rt, count, &mut engine, &mat, (shape, bounds));
-    }
-}
-
 // Every call over the field, at one shape.
 fn over_field<F: CanonicalField, M: Packs<Tally<F, M>>>(
     rt: &impl Abort,
@@ -518,7 +484,13 @@ fn over_field<F: CanonicalField, M: Packs<Tally<F, M>>>(
     all: BoundsOfEngines,
 ) {
     let mat = marked::<F, M>(rt, alloc, rows(shape.log_h), shape.width, mark);
-    each_call_within::<Tally<F, M>>(rt, count, &mat, (shape, all));
+    for (engine, bounds) in engines_and_bounds(rt, alloc, all) {
+        let mut engine = engine;
+        calls_within(rt, count, &mut engine, &mat, (shape, bounds));
+        codeword_within(rt, count, &mut engine, &mat, (shape, bounds));
+        refusal_within(rt, count, &mut engine, &mat, (shape, bounds));
+        jobs_within(rt, count, &mut engine, &mat, (shape, bounds));
+    }
 }
 
 // Every call over a vector space.
@@ -529,11 +501,19 @@ fn over_coordinates<
 >(rt: &impl Abort, alloc: Global, (count, mark): (&Count<'_>, M), shape: Shape) {
     let elements = rows(shape.log_h).saturating_mul(shape.width);
     let coordinates = marked::<F, M>(rt, alloc, elements, V::DIMENSION, mark);
-    each_call_in_space_within::<Tally<F, M>, V>(rt, count, &coordinates, shape);
+    let mat = elements_of::<Tally<F, M>, V>(rt, &coordinates, shape.width);
+    let all = bounds_at(Shape {
+        width: shape.width.saturating_mul(V::DIMENSION),
+        ..shape
+    });
+    for (engine, bounds) in engines_and_bounds(rt, alloc, all) {
+        let mut engine = engine;
+        space_within::<Tally<F, M>, V>(rt, count, &mut engine, &mat, (shape, bounds));
+    }
 }
 
 // Every call at one shape, over the field and over both vector spaces.
-fn at_shape<F, M>(
+fn at_shape<F, M, V, W>(
     rt: &impl Abort,
     alloc: Global,
     (count, mark): (&Count<'_>, M),
@@ -542,6 +522,8 @@ fn at_shape<F, M>(
 where
     F: CanonicalField,
     M: Packs<Tally<F, M>>,
+    V: BasedVectorSpace<Tally<F, M>> + Copy,
+    W: BasedVectorSpace<Tally<F, M>> + Copy,
 {
     let shape = Shape {
         log_h,
@@ -549,8 +531,8 @@ where
         added_bits,
     };
     over_field::<F, M>(rt, alloc, (count, mark), shape, bounds_at(shape));
-    over_coordinates::<F, M, M::Single>(rt, alloc, (count, mark), shape);
-    over_coordinates::<F, M, M::Pair>(rt, alloc, (count, mark), shape);
+    over_coordinates::<F, M, V>(rt, alloc, (count, mark), shape);
+    over_coordinates::<F, M, W>(rt, alloc, (count, mark), shape);
 }
 
 // Wider rows and larger heights: the height's logarithm, the width and the bits that are added.
@@ -563,20 +545,22 @@ const LARGER_SHAPES: [(usize, usize, usize); 5] = [
 ];
 
 // Every call at every shape.
-fn at_every_shape<F, M>(rt: &impl Abort, alloc: Global, (count, mark): (&Count<'_>, M))
+fn at_every_shape<F, M, V, W>(rt: &impl Abort, alloc: Global, (count, mark): (&Count<'_>, M))
 where
     F: CanonicalField,
     M: Packs<Tally<F, M>>,
+    V: BasedVectorSpace<Tally<F, M>> + Copy,
+    W: BasedVectorSpace<Tally<F, M>> + Copy,
 {
     for log_h in 0..7usize {
         for width in [1usize, 3] {
             for added_bits in 0..6usize {
-                at_shape::<F, M>(rt, alloc, (count, mark), (log_h, width, added_bits));
+                at_shape::<F, M, V, W>(rt, alloc, (count, mark), (log_h, width, added_bits));
             }
         }
     }
     for shape in LARGER_SHAPES {
-        at_shape::<F, M>(rt, alloc, (count, mark), shape);
+        at_shape::<F, M, V, W>(rt, alloc, (count, mark), shape);
     }
 }
 
@@ -608,10 +592,12 @@ fn sees_products<F: CanonicalField, M: Packs<Tally<F, M>>>(
 }
 
 // The rows that were worked, and every shape.
-fn counts<F, M>(rt: &impl Abort, alloc: Global, cell: &Cell<usize>, mark: M)
+fn counts<F, M, V, W>(rt: &impl Abort, alloc: Global, cell: &Cell<usize>, mark: M)
 where
     F: CanonicalField,
     M: Packs<Tally<F, M>>,
+    V: BasedVectorSpace<Tally<F, M>> + Copy,
+    W: BasedVectorSpace<Tally<F, M>> + Copy,
 {
     let count = &Count { cell };
     sees_products::<F, M>(rt, (count, mark));
@@ -621,26 +607,44 @@ where
         added_bits: 1,
     };
     over_field::<F, M>(rt, alloc, (count, mark), shape, worked_bounds());
-    at_every_shape::<F, M>(rt, alloc, (count, mark));
+    at_every_shape::<F, M, V, W>(rt, alloc, (count, mark));
 }
+
+// An element that counts, and packs of so many of it.
+type Counting<'a, F, const LANES: usize> = Tally<F, InPacks<'a, LANES>>;
 
 #[test]
 fn products_stay_within_bounds_by_one_lane(rt: HostRuntime) {
     let count = Cell::new(0);
     let mark = InPacks::of(&count);
-    counts::<BabyBear, InPacks<'_, 1>>(&rt, rt.alloc(), &count, mark);
+    counts::<
+        BabyBear,
+        InPacks<'_, 1>,
+        Coordinates<Counting<'_, BabyBear, 1>, 1>,
+        Coordinates<Counting<'_, BabyBear, 1>, 2>,
+    >(&rt, rt.alloc(), &count, mark);
 }
 
 #[test]
 fn products_stay_within_bounds_by_four_lanes_one_by_one(rt: HostRuntime) {
     let count = Cell::new(0);
     let mark = InPacks::of(&count);
-    counts::<BabyBear, InPacks<'_, 4>>(&rt, rt.alloc(), &count, mark);
+    counts::<
+        Goldilocks,
+        InPacks<'_, 4>,
+        Coordinates<Counting<'_, Goldilocks, 4>, 1>,
+        Coordinates<Counting<'_, Goldilocks, 4>, 2>,
+    >(&rt, rt.alloc(), &count, mark);
 }
 
 #[test]
 fn products_stay_within_bounds_by_eight_lanes(rt: HostRuntime) {
     let count = Cell::new(0);
     let mark = InPacks::of(&count);
-    counts::<BabyBear, InPacks<'_, 8>>(&rt, rt.alloc(), &count, mark);
+    counts::<
+        BabyBear,
+        InPacks<'_, 8>,
+        Coordinates<Counting<'_, BabyBear, 8>, 1>,
+        Coordinates<Counting<'_, BabyBear, 8>, 2>,
+    >(&rt, rt.alloc(), &count, mark);
 }

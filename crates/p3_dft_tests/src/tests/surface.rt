@@ -1,13 +1,12 @@
 // The public names of the crates below, each as a user of this crate alone writes it.
 
-use super::{FieldName, Topic, over};
 use p3_dft::{
-    BabyBear, BabyBearX8, BitReversedMatrixView, Butterfly, CanonicalField, DifButterfly,
-    DifButterflyZeros, DitButterfly, Evaluations, Field, IntoRowMajorMatrix, Lanes, Packable,
-    Packed, PackedField, Products, RowMajorMatrix, RowMajorMatrixView, RowMajorMatrixViewMut,
-    ScaledDitButterfly, TwiddleFreeButterfly, TwoAdicField, apply_dit_by_place, divide_by_height,
-    log2_strict_usize, reverse_bits_len, reverse_matrix_index_bits, reverse_slice_index_bits,
-    scale_slice_in_place, scaled, split_rows_mut, swap_rows,
+    BabyBear, BabyBearX8, BitReversedMatrixView, Butterfly, DifButterfly, DifButterflyZeros,
+    DitButterfly, Evaluations, Field, IntoRowMajorMatrix, Lanes, Packable, Packed, PackedField,
+    Products, RowMajorMatrix, RowMajorMatrixView, RowMajorMatrixViewMut, ScaledDitButterfly,
+    TwiddleFreeButterfly, TwoAdicField, apply_dit_by_place, divide_by_height, log2_strict_usize,
+    reverse_bits_len, reverse_matrix_index_bits, reverse_slice_index_bits, scale_slice_in_place,
+    scaled, split_rows_mut, swap_rows,
 };
 use std::alloc::Global;
 use std::process::Abort;
@@ -22,33 +21,16 @@ fn is_one<F: Field, P: Packed<Scalar = F>>(x: P::Scalar) -> bool {
     x == F::ONE
 }
 
-// Stops the test unless packed values have so many lanes, and this element in each.
-fn assert_stored<F: Field, P: PackedField<Scalar = F>>(
-    rt: &impl Abort,
-    alloc: Global,
-    (packed, element): (P, F),
-    lanes: usize,
-) {
-    assert!(rt; P::WIDTH == lanes);
-    let mut stored = Vec::new(alloc);
-    for _lane in 0..lanes {
-        stored.push(F::ZERO).expect(rt, "memory");
-    }
-    assert!(rt; stored.len() == P::WIDTH);
-    packed.store(&mut stored);
-    for x in &stored {
-        assert!(rt; *x == element);
-    }
-}
-
-pub(crate) fn fields_over<F: CanonicalField>(rt: &impl Abort, alloc: Global, lanes: usize) {
+fn one_is_one<F: Packable>(rt: &impl Abort) {
     assert!(rt; is_one::<F, F>(scaled(F::ONE, F::ONE, &mut Products::new())));
-    assert_stored(rt, alloc, (broadcast(F::ONE), F::ONE), lanes);
 }
 
 #[test]
 fn fields_are_named_by_p3_dft(rt: HostRuntime) {
-    over(&rt, rt.alloc(), FieldName::BabyBear, Topic::Fields(8));
+    one_is_one::<BabyBear>(&rt);
+    let mut lanes = [BabyBear::ZERO; 8];
+    broadcast(BabyBear::ONE).store(&mut lanes);
+    assert!(rt; lanes == [BabyBear::ONE; 8]);
 }
 
 // What a butterfly makes of two and one.
@@ -65,13 +47,6 @@ fn butterflies<F: Packable>(rt: &impl Abort) {
     assert!(rt; met(ScaledDitButterfly::new(F::ONE, F::ONE)) == (three, F::ONE));
 }
 
-fn one_and_two<F: Field>(rt: &impl Abort, alloc: Global) -> Vec<F> {
-    let mut entries = Vec::new(alloc);
-    entries.push(F::ONE).expect(rt, "memory");
-    entries.push(F::TWO).expect(rt, "memory");
-    entries
-}
-
 // One and two, multiplied by one and divided by their number.
 fn scales<F: TwoAdicField + Packable>(rt: &impl Abort, alloc: Global) {
     let mut products = Products::new();
@@ -85,25 +60,14 @@ fn scales<F: TwoAdicField + Packable>(rt: &impl Abort, alloc: Global) {
     assert!(rt; mat.values().first() == Some(&F::ONE.halve()));
 }
 
-// As two rows, with themselves as twiddles: 1 + 1 * 1 and 1 - 1 * 1.
-fn meets_by_place<F: Packable>(rt: &impl Abort, alloc: Global) {
-    let twiddles: Vec<F> = one_and_two(rt, alloc);
-    let mut near: Vec<F> = one_and_two(rt, alloc);
-    let mut far: Vec<F> = one_and_two(rt, alloc);
-    assert!(rt; near.len() == far.len() && near.len() == twiddles.len());
-    apply_dit_by_place(&twiddles, &mut near, &mut far, &mut Products::new());
-    assert!(rt; near.first() == Some(&F::TWO) && far.first() == Some(&F::ZERO));
-}
-
-pub(crate) fn butterflies_and_scales<F: TwoAdicField + Packable>(rt: &impl Abort, alloc: Global) {
+fn butterflies_and_scales<F: TwoAdicField + Packable>(rt: &impl Abort, alloc: Global) {
     butterflies::<F>(rt);
     scales::<F>(rt, alloc);
-    meets_by_place::<F>(rt, alloc);
 }
 
 #[test]
 fn butterflies_are_named_by_p3_dft(rt: HostRuntime) {
-    over(&rt, rt.alloc(), FieldName::BabyBear, Topic::Butterflies);
+    butterflies_and_scales::<BabyBear>(&rt, rt.alloc());
 }
 
 // The first entry of what can be handed over, of evaluations, and of what is lent.
@@ -160,19 +124,20 @@ fn orders_of_rows_are_named_by_p3_dft(rt: HostRuntime) {
     assert!(rt; entries.as_slice() == [1, 3, 2, 4].as_slice());
 }
 
-// Packed values of three.
-fn threes<F: CanonicalField, P: PackedField<Scalar = F>>(
-    rt: &impl Abort,
-    alloc: Global,
-    lanes: usize,
-) {
-    let three = F::from_u8(3);
-    assert_stored(rt, alloc, (P::broadcast(three), three), lanes);
-}
-
 // Packed values by their names.
 #[test]
 fn packed_values_are_named_by_p3_dft(rt: HostRuntime) {
-    threes::<BabyBear, Lanes<BabyBear, 3>>(&rt, rt.alloc(), 3);
-    threes::<BabyBear, BabyBearX8>(&rt, rt.alloc(), 8);
+    let three = BabyBear::from_u8(3);
+    let mut lanes = [BabyBear::ZERO; 3];
+    Lanes::<BabyBear, 3>::broadcast(three).store(&mut lanes);
+    assert!(rt; lanes == [three; 3]);
+    let mut eight = [BabyBear::ZERO; 8];
+    BabyBearX8::broadcast(three).store(&mut eight);
+    assert!(rt; eight == [three; 8]);
+    apply_dit_by_place(
+        &lanes,
+        &mut [three; 3],
+        &mut [BabyBear::ZERO; 3],
+        &mut Products::new(),
+    );
 }

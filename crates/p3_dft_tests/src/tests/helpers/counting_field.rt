@@ -4,8 +4,7 @@
 ghost use Rattle.std.specs.Prelude.{◌≡◌, ◌≤◌};
 
 use p3_dft::{
-    BasedVectorSpace, CanonicalField, Coordinates, Field, Lanes, Packable, Packed, PackedField,
-    Products, TwoAdicField, scaled,
+    CanonicalField, Field, Lanes, Packable, Packed, PackedField, Products, TwoAdicField, scaled,
 };
 use p3_field::totals::{add_all, multiply_all};
 use std::alloc::AllocError;
@@ -21,13 +20,9 @@ pub(crate) trait Meter: Copy {
 }
 
 // How many elements of a field whose products a meter counts go in a pack, and whether its lanes go one after
-// another; and its vector spaces of dimension one and two.
+// another.
 pub(crate) trait Packs<T: Field>: Meter {
     type Packing: PackedField<Scalar = T>;
-
-    type Single: BasedVectorSpace<T> + Copy;
-
-    type Pair: BasedVectorSpace<T> + Copy;
 
     const ONE_BY_ONE: bool;
 
@@ -57,10 +52,6 @@ impl<'a, T: Field> Packs<T> for InPacks<'a, 1> {
 
     type Packing = Lanes<T, 1>;
 
-    type Single = Coordinates<T, 1>;
-
-    type Pair = Coordinates<T, 2>;
-
     const ONE_BY_ONE: bool = false;
 
     ghost some = { lit≤ tt };
@@ -72,10 +63,6 @@ impl<'a, T: Field> Packs<T> for InPacks<'a, 4> {
 
     type Packing = Lanes<T, 4>;
 
-    type Single = Coordinates<T, 1>;
-
-    type Pair = Coordinates<T, 2>;
-
     const ONE_BY_ONE: bool = true;
 
     ghost some = { lit≤ tt };
@@ -85,10 +72,6 @@ impl<'a, T: Field> Packs<T> for InPacks<'a, 8> {
     ghost use Rattle.std.proofs.Common.{lit≤};
 
     type Packing = Lanes<T, 8>;
-
-    type Single = Coordinates<T, 1>;
-
-    type Pair = Coordinates<T, 2>;
 
     const ONE_BY_ONE: bool = false;
 
