@@ -4,7 +4,8 @@
 //! Proved: each element is the value at x of the polynomial of its coordinates, which stand in the order 1, x, x^2,
 //! x^3; x to the degree is that element of the field below; what is embedded is a ring of its own in the larger one.
 //! So a product is that of polynomials with x to the degree replaced. A prover takes `GoldilocksSquared` or
-//! `BabyBearFourth` as its field of challenges, or another step by its own `Square`.
+//! `BabyBearFourth` as its field of challenges, or another step by its own `Square`. An inverse is found exactly where
+//! there is one; that each element but zero has one is not proved.
 
 ghost use Rattle.std.specs.Prelude.{◌≡◌, [], ◌∷◌, get_or};
 ghost use Rattle.std.proofs.Common.{ap, ap₂, refl};

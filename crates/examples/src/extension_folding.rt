@@ -1,10 +1,11 @@
 //! Folding with a challenge of an extension field, and the coefficients of the last layer.
 //!
-//! Proved for every field and extension, in every column, with rows in natural or in bit reversed order: values over
-//! the field below are folded as `fold` folds them in the extension, and a bound on the number of their coefficients
-//! becomes half of it; the last layer's coefficients are those in the extension, though the engine works over the
-//! field below, coordinate by coordinate. A prover folds its first layer by `fold_into_extension`, each later one by
-//! `fold` over the extension with `E::from_base(shift)`, and sends what `last_coefficients` answers.
+//! Proved for every field and extension, in every column: values over the field below, with rows in natural or in bit
+//! reversed order, are folded as `fold` folds them in the extension, and a bound on the number of their coefficients
+//! becomes half of it, rounded up; the last layer's coefficients, of rows in natural order, are those in the extension,
+//! though the engine works over the field below, coordinate by coordinate. A prover folds its first layer by
+//! `fold_into_extension`, each later one by `fold` over the extension with the shift squared once for each layer before
+//! and embedded by `E::from_base`, and sends what `last_coefficients` answers.
 
 ghost use Rattle.std.specs.Prelude.{◌≡◌, ℕ, suc, ◌+◌, ◌*◌, ◌/◌, ◌^◌, ◌≤◌, IfOk};
 ghost use Rattle.p3_field.specs.Ring.{IsInvertible};

@@ -2,8 +2,9 @@
 //! polynomials of half as many coefficients on the coset of the squared shift, for every field.
 //!
 //! Proved: coefficient j of a folded polynomial is `c_(2j) + beta * c_(2j+1)`, in every column, with rows in natural
-//! or in bit reversed order; a bound on the number of coefficients becomes half of it; and back, two foldings with
-//! challenges whose difference has an inverse determine the values, and have low degree only where these have.
+//! or in bit reversed order; a bound on the number of coefficients becomes half of it, rounded up; and back, two
+//! foldings with challenges whose difference has an inverse determine the values, and have low degree only where these
+//! have.
 
 ghost use Rattle.std.specs.Prelude.{◌≡◌, ◌↔◌, ℕ, suc, ◌+◌, ◌*◌, ◌/◌, ◌^◌, ◌<◌, ◌≤◌, IfOk, IsTrue};
 ghost use Rattle.std.specs.Prelude.{get_or, length, vec_len, vec_capacity};
@@ -203,7 +204,7 @@ fn is_folded_pair<F: Field>(x: F, beta: F, near: F, far: F, folded: F) -> bool
 }
 
 /// Whether the rows that a prover opens at x and at minus x fold to the one that it opens at the square of x, as a
-/// verifier tests a query. It divides by nothing, so x may be any element.
+/// verifier tests a query. It divides by nothing, so x may be any element; at zero equal rows fold to every row.
 pub fn folds_to<F: Field>(x: F, beta: F, near: &[F], far: &[F], folded: &[F]) -> bool
     requires far { length far.now ≡ length near.now }
     requires folded { length folded.now ≡ length near.now }

@@ -175,8 +175,9 @@ fn is_folded<F: TwoAdicField>(
     folds_to(x, challenge, pair.row(0), pair.row(1), next.row(row))
 }
 
-/// What a verifier knows: the roots and the last codeword, which the prover sent, the challenges, which it drew from
-/// the roots as the prover did, and the coset of the first codeword.
+/// What a verifier knows: the roots and the last codeword, which the prover sent, the challenges, which it draws from
+/// the roots itself, and the coset of the first codeword. Before `check` it tests how many roots there are and the
+/// shape of the last codeword, which are conditions there, and that the last codeword has the degree that it wants.
 #[derive(Drop)]
 pub struct Commitment<F, D> {
     /// The root of each layer.
@@ -306,7 +307,8 @@ fn are_folded<F: TwoAdicField, D>(
 ///
 /// It says yes exactly where there is an opening for each root, whose path leads from the digest of its pair to that
 /// root, and each pair folds, with its layer's challenge and at its point, to the row of the next one or of the last
-/// codeword. What a prover sends need not have any shape; the commitment is the verifier's.
+/// codeword. What is opened need not have any shape. The shift should have an inverse: at zero each pair of equal rows
+/// folds to every row.
 pub fn check<F: TwoAdicField, H: RowHash<F>>(
     hash: &H,
     commitment: &Commitment<F, H::Digest>,
@@ -339,8 +341,8 @@ pub fn check<F: TwoAdicField, H: RowHash<F>>(
 }
 
 /// Commits to a codeword of `2^log_height` rows, in bit reversed order, which it folds so many times. It answers the
-/// layers, to open queries of, and what a verifier knows. An error is out of memory, and the transcript has then taken
-/// in the roots of the layers before, and that of a layer whose folding failed.
+/// layers, to open queries of, and what a verifier knows. An error is out of memory, and no clause then speaks of the
+/// transcript, which has taken in some of the roots.
 pub fn commit<F: TwoAdicField, H: RowHash<F>, T: Transcript<F, H::Digest>>(
     hash: &H,
     codeword: RowMajorMatrix<F>,

@@ -1,8 +1,9 @@
 //! A Merkle tree over pairs of rows, kept whole to open any of them: the path of a leaf, and what it leads to.
 //!
-//! Proved: the nodes are those of the tree over the digests of the pairs, and the path of a leaf leads from its digest to
-//! the root. Where no two pairs of digests are joined to one, a path of a tree's height that leads to its root starts
-//! from the digest of the tree's own leaf.
+//! Proved: the nodes are those of the tree over the digests of the pairs, and the path of a leaf leads from its digest
+//! to the root. Where no two pairs of digests are joined to one, a path of a tree's height that leads to its root
+//! starts from the digest of the tree's own leaf. (A hash whose digests have one size joins some two pairs to one. That
+//! a path from another leaf shows two such pairs is not proved.)
 
 ghost use Rattle.std.specs.Prelude.{◌≡◌, ℕ, ◌+◌, ◌-◌, ◌*◌, ◌%◌, ◌^◌, ◌<◌, ◌≤◌, IfOk, get_or, length, map, vec_len};
 ghost use Rattle.p3_matrix.specs.RowMajor.{height, rows_from};

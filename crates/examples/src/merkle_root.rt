@@ -1,5 +1,6 @@
-//! A Merkle root over the rows of a low degree extension, whose digests are made block by block while the
-//! rows are in the cache: what a commitment layer writes, for every field, engine and hash.
+//! A Merkle root over the rows of a low degree extension, whose digests are made block by block as these become
+//! final (in `Radix2DitParallel` while the rows are in the cache): what a commitment layer writes, for every field,
+//! engine and hash.
 //!
 //! Proved: leaf i is the digest of row i of the extension as it lies in memory, in bit reversed order, and the
 //! root is the tree over these leaves, whatever the order in which the engine lends its blocks. So it depends
