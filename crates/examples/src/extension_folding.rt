@@ -12,6 +12,8 @@ ghost use Rattle.p3_field.specs.Ring.{IsInvertible};
 ghost use Rattle.p3_matrix.specs.Cosets.{values_of};
 ghost use Rattle.p3_matrix.specs.RowMajor.{height};
 ghost use Rattle.p3_dft.specs.Codes.{HasDegreeBelow};
+ghost use Rattle.p3_dft.specs.Coordinates.{flat};
+ghost use Rattle.p3_dft.specs.Engines.{AfterDft};
 ghost use Rattle.p3_dft.specs.Extensions.{arrangement};
 ghost use Rattle.p3_dft.specs.Shapes.{FitsDft};
 ghost use Rattle.p3_dft.specs.Transforms.{IsInterpolation};
@@ -77,6 +79,7 @@ pub fn last_coefficients<F: TwoAdicField, E: ExtensionField<F>, D: TwoAdicSubgro
     requires invertible { IsInvertible F.ring (F.value shift) }
     ensures coefficients { IfOk result (λ out. IsInterpolation E.Field.own E.generator values
         (E.value (E.embedded shift)) out) }
+    ensures engine { AfterDft D.facts engine.old engine.new result (flat E.BasedVectorSpace.own values) 2 }
 {
     engine.coset_idft_algebra_batch(values, shift)
 }
