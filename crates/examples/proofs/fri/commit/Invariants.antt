@@ -1,9 +1,8 @@
-use Rattle.std.proofs.Common.{◌≡◌, ℕ, suc, ◌-◌, ◌^◌, ◌<◌, ◌≤◌, List, [], get_or, length, map}
+use Rattle.std.proofs.Common.{◌≡◌, ℕ, ◌-◌, ◌^◌, ◌<◌, ◌≤◌, [], get_or, length, map}
 use Rattle.std.specs.List.{FoldsTo}
 use Rattle.std.specs.Prelude.{vec_capacity}
 use Rattle.p3_field.specs.Ring.{IsInvertible, power}
 use Rattle.p3_matrix.specs.RowMajor.{height}
-use Rattle.p3_dft.specs.Shapes.{FitsDft}
 use Rattle.examples.specs.Fri.{AreLayers}
 use Rattle.examples.proofs.fri.commit.Given as goal
 

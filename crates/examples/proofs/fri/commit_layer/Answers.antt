@@ -1,6 +1,6 @@
 use Rattle.std.proofs.Common.{◌≡◌, ◌*◌, ◌/◌, ◌^◌, subst, arith}
 use Rattle.std.proofs.Math.Nat.{two-pow-succ}
-use Rattle.p3_matrix.specs.RowMajor.{height, rows_from}
+use Rattle.p3_matrix.specs.RowMajor.{rows_from}
 use Rattle.examples.specs.MerkleTrees.{AreNodes}
 use Rattle.examples.proofs.FoldedValues.{half_height}
 use Rattle.examples.proofs.fri.commit_layer.Goals as goal

@@ -1,4 +1,4 @@
-use Rattle.std.proofs.Common.{◌≡◌, ℕ, suc, ◌-◌, ◌<◌, ◌≤◌, [], get_or, length, ap, sym, ◌∙◌, arith}
+use Rattle.std.proofs.Common.{◌≡◌, ℕ, ◌<◌, get_or, length, sym, arith}
 use Rattle.p3_dft.proofs.Laws.Points.{one_logarithm}
 use Rattle.examples.proofs.fri.honest_query.Goals as goal
 
