@@ -6,8 +6,7 @@
 //! them. A step over a step makes degree four.
 
 ghost use Rattle.std.specs.Prelude.{◌≡◌, ◌↔◌, [], ◌∷◌, map};
-ghost use Rattle.std.specs.Ordering.{ordering_then};
-ghost use Rattle.std.proofs.Common.{◌∙◌, ap, ap₂, lit<, lit≤, refl, sym};
+ghost use Rattle.std.proofs.Common.{◌∙◌, lit<, lit≤, refl, sym};
 ghost use Rattle.p3_field.specs.Ring.{IsInvertible, product_of, sum_of};
 ghost use Rattle.examples.specs.QuadraticFields.{both, both_equal, embedded_inverse, embedded_roots, embedded-add};
 ghost use Rattle.examples.specs.QuadraticFields.{embedded-neg, paired, paired_law};
@@ -69,7 +68,7 @@ impl<R: Field, W: Square<R>> Square<Quadratic<R, W>> for Root {
 
 /// `constant + linear * x`, where x * x is the element that W stands for.
 #[derive(Clone, Copy)]
-#[derive_where(PartialEq, Eq, PartialOrd, Ord; R)]
+#[derive_where(PartialEq, Eq; R)]
 pub struct Quadratic<R, W> {
     /// The coordinate of one.
     pub constant: R,
@@ -305,10 +304,6 @@ impl<R: Field, W: Square<R>> Field for Quadratic<R, W> {
     ghost product_law = { λ xs r h. h };
 
     ghost eq_law = { λ a b. both_equal _ _ _ _ _ _ (R.eq_law a.constant b.constant) (R.eq_law a.linear b.linear) };
-
-    ghost order_law = { λ a b c d same same_other. ap₂ ordering_then
-        (R.order_law a.constant b.constant c.constant d.constant (ap (λ x. x.0) same) (ap (λ x. x.0) same_other))
-        (R.order_law a.linear b.linear c.linear d.linear (ap (λ x. x.1) same) (ap (λ x. x.1) same_other)) };
 }
 
 impl<R: Field, W: Square<R>> Packed for Quadratic<R, W> {

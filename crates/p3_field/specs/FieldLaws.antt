@@ -1,5 +1,5 @@
 -- Proofs, and no definitions: what an implementation of a field by residues owes beside `residue-eq`.
-use Rattle.std.proofs.Common.{◌≡◌, ◌↔◌, ℕ, zero, suc, ◌+◌, ◌-◌, ◌%◌, ◌<◌, IsTrue, nat_cmp, refl, sym, ap, ◌∙◌, arith, one-add}
+use Rattle.std.proofs.Common.{◌≡◌, ◌↔◌, ℕ, zero, suc, ◌+◌, ◌-◌, ◌%◌, ◌<◌, IsTrue, refl, sym, ap, ◌∙◌, arith, one-add}
 use Rattle.std.proofs.lemmas.Bool.{eqb-true, eq-eqb}
 use Rattle.std.proofs.Math.Dec.{eqb}
 use Rattle.std.proofs.Math.Nat.{add-mod-mod, mod-eq_of_lt}
@@ -12,15 +12,9 @@ pub difference_law : (m a b r : ℕ) → IsDifference m a b r → r ≡ (a + (m 
 difference_law m a b r is = is ∙ sym (add-mod-mod a (m - b) m)
 
 module _ {m : ℕ} where
-  -- equality and order of the numbers
+  -- equality of the numbers
   pub eq_law : (x y : Residue m) → IsTrue (eqb x.number y.number) ↔ (x ≡ y)
   eq_law x y = (λ t. residue-eq x y (eqb-true x.number y.number t), λ e. eq-eqb x.number y.number (ap (λ (z : Residue m). z.number) e))
-
-  pub order_law : (a b c d : Residue m) → a ≡ c → b ≡ d → nat_cmp a.number b.number ≡ nat_cmp c.number d.number
-  order_law a b c d e f =
-      let left : a.number ≡ c.number = ap (λ (x : Residue m). x.number) e in
-      let right : b.number ≡ d.number = ap (λ (x : Residue m). x.number) f in
-      cc
 
 module _ (m : ℕ) (above : 1 < m) (odd : m % 2 ≡ 1) where
   -- n ones add up to the remainder of n

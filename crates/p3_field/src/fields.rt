@@ -10,11 +10,11 @@ use std::ops::{Add, AddAssign, Mul, MulAssign, Neg, Sub, SubAssign};
 
 /// An element of a commutative ring with one in which halving is exact.
 ///
-/// Contracts speak of the value of an element. Two elements may have one value; `==` and the order
-/// depend on values alone. Nothing here says that every element but zero has an inverse: the
-/// transforms need no more than the laws at the end.
+/// Contracts speak of the value of an element. Two elements may have one value; `==` depends on
+/// values alone. Nothing here says that every element but zero has an inverse: the transforms need no
+/// more than the laws at the end.
 pub trait Field: Copy
-    + Ord
+    + Eq
     + Add<Self, Output = Self>
     + Sub<Self, Output = Self>
     + Mul<Self, Output = Self>
@@ -265,8 +265,4 @@ pub trait Field: Copy
 
     // `==` is equality of values.
     ghost eq_law: { (a b : Self) → IsTrue (Self.eq a b) ↔ (value a ≡ value b) };
-
-    // The order depends on values alone.
-    ghost order_law: { (a b c d : Self) → value a ≡ value c → value b ≡ value d
-        → Self.cmp a b ≡ Self.cmp c d };
 }

@@ -378,7 +378,7 @@ fn subtract_modulus(x: u64) -> u64
 impl<P: Copy> Field for GoldilocksIn<P> {
     ghost use Rattle.std.proofs.Common.{lit<, refl};
     ghost use Rattle.p3_field.specs.Residues.{Residue, residue-eq};
-    ghost use Rattle.p3_field.specs.FieldLaws.{difference_law, eq_law, order_law};
+    ghost use Rattle.p3_field.specs.FieldLaws.{difference_law, eq_law};
     ghost use Rattle.p3_field.specs.Fields.{goldilocks_ring, goldilocks_numbers};
 
     ghost Element = { Residue goldilocks_modulus };
@@ -505,8 +505,6 @@ impl<P: Copy> Field for GoldilocksIn<P> {
     ghost product_law = { λ xs r h. h };
 
     ghost eq_law = { λ a b. eq_law _ _ };
-
-    ghost order_law = { λ a b c d e f. order_law _ _ _ _ e f };
 }
 
 impl<P: Copy> Packed for GoldilocksIn<P> {
@@ -688,6 +686,7 @@ impl<P: GoldilocksPacking> TwoAdicField for GoldilocksIn<P> {
 }
 
 impl<P: GoldilocksPacking> CanonicalField for GoldilocksIn<P> {
+    ghost use Rattle.std.proofs.Common.{refl};
     ghost use Rattle.p3_field.specs.FieldLaws.{count_law};
     ghost use Rattle.p3_field.specs.Fields.{goldilocks_numbers};
 
@@ -709,6 +708,8 @@ impl<P: GoldilocksPacking> CanonicalField for GoldilocksIn<P> {
     fn as_canonical_u64(&self) -> u64 {
         self.number
     }
+
+    ghost order_law = { λ a b. refl };
 
     ghost number_below_law = { λ x. x.below };
 

@@ -286,7 +286,7 @@ impl<N: Numbers> Field for Residue31<N> {
     ghost use Rattle.std.proofs.Common.{refl, arith};
     ghost use Rattle.p3_field.specs.Fields.{field_ring};
     ghost use Rattle.p3_field.specs.Residues.{Residue, residue-eq};
-    ghost use Rattle.p3_field.specs.FieldLaws.{difference_law, eq_law, order_law};
+    ghost use Rattle.p3_field.specs.FieldLaws.{difference_law, eq_law};
     ghost use Rattle.p3_field.specs.Residues31.{below_two, below_minus_one, two_number, minus_one_number};
 
     ghost Element = { Residue N.numbers.modulus };
@@ -413,8 +413,6 @@ impl<N: Numbers> Field for Residue31<N> {
     ghost product_law = { λ xs r h. h };
 
     ghost eq_law = { λ a b. eq_law _ _ };
-
-    ghost order_law = { λ a b c d e f. order_law _ _ _ _ e f };
 }
 
 impl<N: Numbers> Packed for Residue31<N> {
@@ -511,6 +509,7 @@ impl<N: ResiduePacking> TwoAdicField for Residue31<N> {
 }
 
 impl<N: ResiduePacking> CanonicalField for Residue31<N> {
+    ghost use Rattle.std.proofs.Common.{refl};
     ghost use Rattle.p3_field.specs.FieldLaws.{count_law};
 
     const ORDER_U64: u64 = N::MODULUS as u64;
@@ -531,6 +530,8 @@ impl<N: ResiduePacking> CanonicalField for Residue31<N> {
     fn as_canonical_u64(&self) -> u64 {
         self.number as u64
     }
+
+    ghost order_law = { λ a b. refl };
 
     ghost number_below_law = { λ x. x.below };
 

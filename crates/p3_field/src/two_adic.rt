@@ -1,6 +1,7 @@
 //! Fields with roots of unity of two-power order, and fields with canonical numbers.
 
 ghost use Rattle.std.specs.Prelude.{◌≡◌, ◌≤◌, ◌<◌, ◌↔◌, ℕ, IfSome, IsNone};
+ghost use Rattle.std.specs.Ordering.{nat_cmp};
 ghost use Rattle.p3_field.specs.Ring.{AreRoots, count};
 
 use crate::packed::Packable;
@@ -26,8 +27,8 @@ pub trait TwoAdicField: Packable {
     ghost roots_law: { AreRoots Self.ring TWO_ADICITY (λ i. Self.value (generator i)) };
 }
 
-/// A field whose values are named by the numbers below a modulus.
-pub trait CanonicalField: TwoAdicField {
+/// A field whose values are named by the numbers below a modulus, and ordered as these are.
+pub trait CanonicalField: TwoAdicField + Ord {
     /// The modulus.
     const ORDER_U64: u64;
 
@@ -42,6 +43,10 @@ pub trait CanonicalField: TwoAdicField {
     /// The number of the element, below the modulus.
     fn as_canonical_u64(&self) -> u64
         ensures { result ≡ Self.number (Self.value self.now) };
+
+    // The order is that of the numbers.
+    ghost order_law: { (a b : Self) → Self.cmp a b
+        ≡ nat_cmp (Self.number (Self.value a)) (Self.number (Self.value b)) };
 
     ghost number_below_law: { (x : Self) → Self.number (Self.value x) < ORDER_U64 };
 

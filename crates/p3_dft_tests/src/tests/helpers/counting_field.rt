@@ -361,8 +361,6 @@ impl<F: Field, M: Meter> Field for Tally<F, M> {
     ghost product_law = { λ xs r h. h };
 
     ghost eq_law = { λ a b. F.eq_law a.element b.element };
-
-    ghost order_law = { λ a b c d. F.order_law a.element b.element c.element d.element };
 }
 
 impl<F: Field, M: Meter> Packed for Tally<F, M> {
@@ -480,6 +478,8 @@ impl<F: CanonicalField, M: Packs<Tally<F, M>>> CanonicalField for Tally<F, M> {
     fn as_canonical_u64(&self) -> u64 {
         self.element.as_canonical_u64()
     }
+
+    ghost order_law = { λ a b. F.order_law a.element b.element };
 
     ghost number_below_law = { λ x. F.number_below_law x.element };
 
