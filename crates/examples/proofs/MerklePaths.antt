@@ -1,9 +1,9 @@
 -- The nodes of a tree by their numbers, and the paths that lead through them.
-use Rattle.std.proofs.Common.{◌≡◌, ℕ, zero, suc, ◌+◌, ◌-◌, ◌*◌, ◌/◌, ◌%◌, ◌^◌, ◌<◌, ◌≤◌, ◌≢◌, ◌⊎◌, inl, inr, List, [], ◌∷◌, ◌++◌, get_or, length, map, refl, sym, ap, ap₂, ◌∙◌, subst, arith}
+use Rattle.std.proofs.Common.{◌≡◌, ℕ, zero, suc, ◌+◌, ◌-◌, ◌*◌, ◌/◌, ◌%◌, ◌^◌, ◌<◌, ◌≤◌, ◌==◌, cond, ◌⊎◌, inl, inr, List, [], ◌∷◌, ◌++◌, get_or, length, map, refl, sym, ap, ap₂, ◌∙◌, arith}
 use Rattle.std.proofs.Math.Nat.{mul-le-mul_left, two-pow-succ}
 use Rattle.std.proofs.lemmas.Bool.{cases_lt}
 use Rattle.std.proofs.lemmas.Nat.{pow_pos}
-use Rattle.examples.specs.MerkleTrees.{AreNodes, IsCollisionFree, climbed, parent, tree}
+use Rattle.examples.specs.MerkleTrees.{AreNodes, AreTold, AreToldOnPath, climbed, parent, tree}
 use Rattle.examples.proofs.MerkleTrees.{tree_same}
 
 -- the sibling of a node below the root is a node
@@ -82,28 +82,30 @@ module _ {V : Type 0} (join : V → V → V) where
       let second : 2 ^ suc k + (2 * i + 1) ≡ 2 * (2 ^ k + i) + 1 = omega (arith, twice) in
       ap₂ (λ p q. join (leaf p) (leaf q)) first second))
 
-  -- where no two pairs are joined to one, what leads from a leaf's place to the root is the leaf
-  pub bound_leaf : IsCollisionFree join → (path : List V) (k i : ℕ) (leaf : ℕ → V) (v : V) → length path ≡ k → i < 2 ^ k
+  -- what leads from a leaf's place to the root is the leaf, or there is a collision on the way
+  pub bound_leaf : (path : List V) (k i : ℕ) (leaf : ℕ → V) (v : V) → length path ≡ k → i < 2 ^ k → AreToldOnPath join i v path leaf
       → climbed join (2 ^ k + i) v path ≡ tree join k leaf → v ≡ leaf i
-  bound_leaf free [] zero i leaf v long inside leads = let first : i ≡ 0 = omega (arith, inside) in leads ∙ ap leaf (sym first)
-  bound_leaf free [] (suc k) i leaf v long inside leads = absurd (omega (arith, long))
-  bound_leaf free (s ∷ path) zero i leaf v long inside leads = absurd (omega (arith, long))
-  bound_leaf free (s ∷ path) (suc k) i leaf v long inside leads =
+  bound_leaf [] zero i leaf v long inside told leads = let first : i ≡ 0 = omega (arith, inside) in leads ∙ ap leaf (sym first)
+  bound_leaf [] (suc k) i leaf v long inside told leads = absurd (omega (arith, long))
+  bound_leaf (s ∷ path) zero i leaf v long inside told leads = absurd (omega (arith, long))
+  bound_leaf (s ∷ path) (suc k) i leaf v long inside told leads =
       let node = 2 ^ suc k + i in
-      let halved : node / 2 ≡ 2 ^ k + i / 2 = omega (arith, two-pow-succ k) in
-      of_pair k i s leaf v
-      (bound_leaf free path k (i / 2) (λ q. join (leaf (2 * q)) (leaf (2 * q + 1))) (parent join node v s) (omega (arith, long)) (omega (arith, inside, two-pow-succ k))
-      (ap (λ n. climbed join n (parent join node v s) path) (sym halved) ∙ leads ∙ tree_of_joined k leaf))
+      let halved : 2 ^ k + i / 2 ≡ node / 2 = omega (arith, two-pow-succ k) in
+      let parity : i % 2 ≡ node % 2 = omega (arith, two-pow-succ k) in
+      of_pair i s leaf v told.0
+      (bound_leaf path k (i / 2) (λ q. join (leaf (2 * q)) (leaf (2 * q + 1))) (parent join i v s) (omega (arith, long)) (omega (arith, inside, two-pow-succ k)) told.1
+      (ap₂ (λ n p. climbed join n (cond (p == 0) (join v s) (join s v)) path) halved parity ∙ leads ∙ tree_of_joined k leaf))
     where
-      of_pair : (k i : ℕ) (s : V) (leaf : ℕ → V) (v : V) → parent join (2 ^ suc k + i) v s ≡ join (leaf (2 * (i / 2))) (leaf (2 * (i / 2) + 1)) → v ≡ leaf i
-      of_pair k i s leaf v pair = cases (cases_lt (i % 2) 1)
+      of_pair : (i : ℕ) (s : V) (leaf : ℕ → V) (v : V) → AreTold join (cond (i % 2 == 0) v s) (cond (i % 2 == 0) s v) (leaf (2 * (i / 2))) (leaf (2 * (i / 2) + 1))
+          → parent join i v s ≡ join (leaf (2 * (i / 2))) (leaf (2 * (i / 2) + 1)) → v ≡ leaf i
+      of_pair i s leaf v told pair = cases (cases_lt (i % 2) 1)
         where
           cases : (i % 2 < 1) ⊎ (1 ≤ i % 2) → v ≡ leaf i
           cases (inl low) =
-              let even : (2 ^ suc k + i) % 2 ≡ 0 = omega (arith, low, two-pow-succ k) in
+              let even : i % 2 ≡ 0 = omega (arith, low) in
               let place : 2 * (i / 2) ≡ i = omega (arith, low) in
-              (free v s _ _ (rw even at pair)).0 ∙ ap leaf place
+              ((rw even at told) (rw even at pair)).0 ∙ ap leaf place
           cases (inr high) =
-              let odd : (2 ^ suc k + i) % 2 ≡ 1 = omega (arith, high, two-pow-succ k) in
+              let odd : i % 2 ≡ 1 = omega (arith, high) in
               let place : 2 * (i / 2) + 1 ≡ i = omega (arith, high) in
-              (free s v _ _ (rw odd at pair)).1 ∙ ap leaf place
+              ((rw odd at told) (rw odd at pair)).1 ∙ ap leaf place

@@ -1,5 +1,5 @@
 -- Digests of rows at their numbers, and the tree over them.
-use Rattle.std.specs.Prelude.{◌≡◌, ℕ, zero, suc, ◌+◌, ◌*◌, ◌/◌, ◌%◌, ◌^◌, ◌<◌, ◌≤◌, ◌==◌, cond, List, [], ◌∷◌, get_or, length}
+use Rattle.std.specs.Prelude.{◌≡◌, ℕ, zero, suc, ◌+◌, ◌*◌, ◌/◌, ◌%◌, ◌^◌, ◌<◌, ◌≤◌, ◌==◌, cond, ⊤, List, [], ◌∷◌, get_or, length}
 use Rattle.p3_matrix.specs.RowMajor.{RowMajor, height, row}
 
 -- the root over the first 2 ^ k leaves: those of the first half and of the second, joined
@@ -34,6 +34,13 @@ abbrev pub climbed : {V : Type 0} → (V → V → V) → ℕ → V → List V �
 climbed join n v [] = v
 climbed join n v (sibling ∷ path) = climbed join (n / 2) (parent join n v sibling) path
 
--- no two pairs are joined to one
-abbrev pub IsCollisionFree : {V : Type 0} → (V → V → V) → Type 0
-IsCollisionFree {V} join = (a b c d : V) → join a b ≡ join c d → (a ≡ c) × (b ≡ d)
+-- two pairs that are joined to one are one pair, and so no collision
+abbrev pub AreTold : {V : Type 0} → (V → V → V) → V → V → V → V → Type 0
+AreTold join a b c d = join a b ≡ join c d → (a ≡ c) × (b ≡ d)
+
+-- on the way up from leaf i, worth v there, each pair is so with the tree's pair in its place
+abbrev pub AreToldOnPath : {V : Type 0} → (V → V → V) → ℕ → V → List V → (ℕ → V) → Type 0
+AreToldOnPath join i v [] leaf = ⊤
+AreToldOnPath join i v (sibling ∷ path) leaf =
+    AreTold join (cond (i % 2 == 0) v sibling) (cond (i % 2 == 0) sibling v) (leaf (2 * (i / 2))) (leaf (2 * (i / 2) + 1))
+    × AreToldOnPath join (i / 2) (parent join i v sibling) path (λ q. join (leaf (2 * q)) (leaf (2 * q + 1)))

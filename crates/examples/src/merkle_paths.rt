@@ -1,13 +1,12 @@
 //! A Merkle tree over pairs of rows, kept whole to open any of them: the path of a leaf, and what it leads to.
 //!
 //! Proved: the nodes are those of the tree over the digests of the pairs, and the path of a leaf leads from its digest
-//! to the root. Where no two pairs of digests are joined to one, a path of a tree's height that leads to its root
-//! starts from the digest of the tree's own leaf. (A hash whose digests have one size joins some two pairs to one. That
-//! a path from another leaf shows two such pairs is not proved.)
+//! to the root. A path of a tree's height that leads to its root starts from the digest of the tree's own leaf, or it
+//! meets a collision: a pair that differs from the tree's pair in its place, and is joined to the same.
 
 ghost use Rattle.std.specs.Prelude.{◌≡◌, ℕ, ◌+◌, ◌-◌, ◌*◌, ◌%◌, ◌^◌, ◌<◌, ◌≤◌, IfOk, get_or, length, map, vec_len};
 ghost use Rattle.p3_matrix.specs.RowMajor.{height, rows_from};
-ghost use Rattle.examples.specs.MerkleTrees.{AreNodes, IsCollisionFree, climbed, tree};
+ghost use Rattle.examples.specs.MerkleTrees.{AreNodes, AreToldOnPath, climbed, tree};
 
 use crate::merkle_root::RowHash;
 use p3_dft::{DftError, Field, RowMajorMatrix, growth};
@@ -101,8 +100,8 @@ fn climb<F: Field, H: RowHash<F>>(
 
 /// What the root has to be where a node has this digest and this path.
 ///
-/// The root of a tree comes out where its leaf was put in, and, where no two pairs of digests are joined to one, in
-/// no other case.
+/// The root of a tree comes out where its leaf was put in. Where it comes out of another digest, a pair on the way up
+/// and the tree's pair in its place are a collision (`bound`): they differ, and are joined to one.
 pub fn root_of_path<F: Field, H: RowHash<F>>(
     hash: &H,
     node: usize,
@@ -110,9 +109,9 @@ pub fn root_of_path<F: Field, H: RowHash<F>>(
     path: &[H::Digest],
 ) -> H::Digest
     ensures leads { H.worth result ≡ climbed (H.of_pair hash.now) node (H.worth digest) (map H.worth path.now) }
-    ensures bound { (leaf : ℕ → H.Worth) (i : ℕ) → IsCollisionFree (H.of_pair hash.now) → i < 2 ^ length path.now
-        → node ≡ 2 ^ length path.now + i → H.worth result ≡ tree (H.of_pair hash.now) (length path.now) leaf
-        → H.worth digest ≡ leaf i }
+    ensures bound { (leaf : ℕ → H.Worth) (i : ℕ) → i < 2 ^ length path.now → node ≡ 2 ^ length path.now + i
+        → AreToldOnPath (H.of_pair hash.now) i (H.worth digest) (map H.worth path.now) leaf
+        → H.worth result ≡ tree (H.of_pair hash.now) (length path.now) leaf → H.worth digest ≡ leaf i }
 {
     climb::<F, H>(hash, node, digest, path)
 }
