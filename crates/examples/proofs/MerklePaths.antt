@@ -3,7 +3,7 @@ use Rattle.std.proofs.Common.{◌≡◌, ℕ, zero, suc, ◌+◌, ◌-◌, ◌*�
 use Rattle.std.proofs.Math.Nat.{mul-le-mul_left, two-pow-succ}
 use Rattle.std.proofs.lemmas.Bool.{cases_lt}
 use Rattle.std.proofs.lemmas.Nat.{pow_pos}
-use Rattle.examples.specs.MerkleTrees.{AreNodes, AreTold, AreToldOnPath, climbed, parent, tree}
+use Rattle.examples.specs.MerkleTrees.{AreNodes, AreToldApart, AreToldApartOnPath, climbed, parent, tree}
 use Rattle.examples.proofs.MerkleTrees.{tree_same}
 
 -- the sibling of a node below the root is a node
@@ -83,7 +83,7 @@ module _ {V : Type 0} (join : V → V → V) where
       ap₂ (λ p q. join (leaf p) (leaf q)) first second))
 
   -- what leads from a leaf's place to the root is the leaf, or there is a collision on the way
-  pub bound_leaf : (path : List V) (k i : ℕ) (leaf : ℕ → V) (v : V) → length path ≡ k → i < 2 ^ k → AreToldOnPath join i v path leaf
+  pub bound_leaf : (path : List V) (k i : ℕ) (leaf : ℕ → V) (v : V) → length path ≡ k → i < 2 ^ k → AreToldApartOnPath join i v path leaf
       → climbed join (2 ^ k + i) v path ≡ tree join k leaf → v ≡ leaf i
   bound_leaf [] zero i leaf v long inside told leads = let first : i ≡ 0 = omega (arith, inside) in leads ∙ ap leaf (sym first)
   bound_leaf [] (suc k) i leaf v long inside told leads = absurd (omega (arith, long))
@@ -96,7 +96,7 @@ module _ {V : Type 0} (join : V → V → V) where
       (bound_leaf path k (i / 2) (λ q. join (leaf (2 * q)) (leaf (2 * q + 1))) (parent join i v s) (omega (arith, long)) (omega (arith, inside, two-pow-succ k)) told.1
       (ap₂ (λ n p. climbed join n (cond (p == 0) (join v s) (join s v)) path) halved parity ∙ leads ∙ tree_of_joined k leaf))
     where
-      of_pair : (i : ℕ) (s : V) (leaf : ℕ → V) (v : V) → AreTold join (cond (i % 2 == 0) v s) (cond (i % 2 == 0) s v) (leaf (2 * (i / 2))) (leaf (2 * (i / 2) + 1))
+      of_pair : (i : ℕ) (s : V) (leaf : ℕ → V) (v : V) → AreToldApart join (cond (i % 2 == 0) v s) (cond (i % 2 == 0) s v) (leaf (2 * (i / 2))) (leaf (2 * (i / 2) + 1))
           → parent join i v s ≡ join (leaf (2 * (i / 2))) (leaf (2 * (i / 2) + 1)) → v ≡ leaf i
       of_pair i s leaf v told pair = cases (cases_lt (i % 2) 1)
         where

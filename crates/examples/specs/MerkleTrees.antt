@@ -34,13 +34,13 @@ abbrev pub climbed : {V : Type 0} → (V → V → V) → ℕ → V → List V �
 climbed join n v [] = v
 climbed join n v (sibling ∷ path) = climbed join (n / 2) (parent join n v sibling) path
 
--- two pairs that are joined to one are one pair, and so no collision
-abbrev pub AreTold : {V : Type 0} → (V → V → V) → V → V → V → V → Type 0
-AreTold join a b c d = join a b ≡ join c d → (a ≡ c) × (b ≡ d)
+-- two pairs that are joined to one are one pair: join tells others apart
+abbrev pub AreToldApart : {V : Type 0} → (V → V → V) → V → V → V → V → Type 0
+AreToldApart join a b c d = join a b ≡ join c d → (a ≡ c) × (b ≡ d)
 
--- on the way up from leaf i, worth v there, each pair is so with the tree's pair in its place
-abbrev pub AreToldOnPath : {V : Type 0} → (V → V → V) → ℕ → V → List V → (ℕ → V) → Type 0
-AreToldOnPath join i v [] leaf = ⊤
-AreToldOnPath join i v (sibling ∷ path) leaf =
-    AreTold join (cond (i % 2 == 0) v sibling) (cond (i % 2 == 0) sibling v) (leaf (2 * (i / 2))) (leaf (2 * (i / 2) + 1))
-    × AreToldOnPath join (i / 2) (parent join i v sibling) path (λ q. join (leaf (2 * q)) (leaf (2 * q + 1)))
+-- on the way up from leaf i, worth v there, each pair is told apart from the tree's pair in its place
+abbrev pub AreToldApartOnPath : {V : Type 0} → (V → V → V) → ℕ → V → List V → (ℕ → V) → Type 0
+AreToldApartOnPath join i v [] leaf = ⊤
+AreToldApartOnPath join i v (sibling ∷ path) leaf =
+    AreToldApart join (cond (i % 2 == 0) v sibling) (cond (i % 2 == 0) sibling v) (leaf (2 * (i / 2))) (leaf (2 * (i / 2) + 1))
+    × AreToldApartOnPath join (i / 2) (parent join i v sibling) path (λ q. join (leaf (2 * q)) (leaf (2 * q + 1)))

@@ -6,7 +6,7 @@
 
 ghost use Rattle.std.specs.Prelude.{◌≡◌, ℕ, ◌+◌, ◌-◌, ◌*◌, ◌%◌, ◌^◌, ◌<◌, ◌≤◌, IfOk, get_or, length, map, vec_len};
 ghost use Rattle.p3_matrix.specs.RowMajor.{height, rows_from};
-ghost use Rattle.examples.specs.MerkleTrees.{AreNodes, AreToldOnPath, climbed, tree};
+ghost use Rattle.examples.specs.MerkleTrees.{AreNodes, AreToldApartOnPath, climbed, tree};
 
 use crate::merkle_root::RowHash;
 use p3_dft::{DftError, Field, RowMajorMatrix, growth};
@@ -110,7 +110,7 @@ pub fn root_of_path<F: Field, H: RowHash<F>>(
 ) -> H::Digest
     ensures leads { H.worth result ≡ climbed (H.of_pair hash.now) node (H.worth digest) (map H.worth path.now) }
     ensures bound { (leaf : ℕ → H.Worth) (i : ℕ) → i < 2 ^ length path.now → node ≡ 2 ^ length path.now + i
-        → AreToldOnPath (H.of_pair hash.now) i (H.worth digest) (map H.worth path.now) leaf
+        → AreToldApartOnPath (H.of_pair hash.now) i (H.worth digest) (map H.worth path.now) leaf
         → H.worth result ≡ tree (H.of_pair hash.now) (length path.now) leaf → H.worth digest ≡ leaf i }
 {
     climb::<F, H>(hash, node, digest, path)
