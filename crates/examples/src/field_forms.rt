@@ -8,11 +8,11 @@
 ghost use Rattle.std.specs.Prelude.{◌≡◌, ◌↔◌, ◌<◌, ◌≤◌, ℕ, IfOk, IfSome, IsNone, Ok, map, get_or, vec_len};
 ghost use Rattle.p3_field.specs.Ring.{count, minus, power, product_of, sum_of};
 
-use p3_dft::{BabyBear, CanonicalField, Field, Goldilocks, Refused};
+use p3_dft::{BabyBear, CanonicalField, Field, FieldOps, Goldilocks, Refused};
 use std::alloc::{AllocError, Global};
 
 /// The square of a difference.
-pub fn squared_distance<F: Field>(a: F, b: F) -> F
+pub fn squared_distance<F: FieldOps>(a: F, b: F) -> F
     ensures { F.value result ≡ F.ring.mul (minus F.ring (F.value a) (F.value b))
         (minus F.ring (F.value a) (F.value b)) }
 {
@@ -45,14 +45,14 @@ pub fn cloned(x: BabyBear) -> Result<BabyBear, AllocError>
 }
 
 /// The sum of a slice.
-pub fn total<F: Field>(elements: &[F]) -> F
+pub fn total<F: FieldOps>(elements: &[F]) -> F
     ensures { F.value result ≡ sum_of F.ring (map F.value elements.now) }
 {
     elements.iter().copied().sum()
 }
 
 /// The product of a slice.
-pub fn all_multiplied<F: Field>(elements: &[F]) -> F
+pub fn all_multiplied<F: FieldOps>(elements: &[F]) -> F
     ensures { F.value result ≡ product_of F.ring (map F.value elements.now) }
 {
     elements.iter().copied().product()
@@ -78,11 +78,11 @@ pub fn geometric_sum(base: BabyBear, n: usize) -> BabyBear {
 }
 
 /// The numbers of a slice, as a failed comparison prints them.
-pub fn text_of<F: Field>(alloc: Global, elements: &[F]) -> Result<String, AllocError> {
+pub fn text_of<F: FieldOps>(alloc: Global, elements: &[F]) -> Result<String, AllocError> {
     format!(in alloc; "{elements:?}")
 }
 
 /// The number of an element, in eight places.
-pub fn aligned_text_of<F: Field>(alloc: Global, element: F) -> Result<String, AllocError> {
+pub fn aligned_text_of<F: FieldOps>(alloc: Global, element: F) -> Result<String, AllocError> {
     format!(in alloc; "{element:>8}")
 }

@@ -12,7 +12,7 @@ ghost use Rattle.examples.specs.QuadraticFields.{both, both_equal, embedded_inve
 ghost use Rattle.examples.specs.QuadraticFields.{embedded-neg, paired, paired_law};
 ghost use Rattle.examples.specs.Quadratics.{embedded, norm, quadratic};
 
-use p3_dft::{Field, Packable, Packed, PackedField, Products, TwoAdicField, scaled};
+use p3_dft::{Field, FieldOps, Packable, PackedField, Products, TwoAdicField, scaled};
 use p3_field::totals::{add_all, multiply_all};
 use p3_field::{BabyBear, GoldilocksIn};
 use std::fmt;
@@ -196,16 +196,42 @@ impl<R: Field, W: Square<R>> Product<Quadratic<R, W>> for Quadratic<R, W> {
     }
 }
 
-impl<R: Field, W> fmt::Display for Quadratic<R, W> {
+impl<R: Field + fmt::Display, W> fmt::Display for Quadratic<R, W> {
     fn fmt<O: fmt::Write>(&self, f: &mut fmt::Formatter<O>) -> fmt::Result {
         write!(f, "({} + {} x)", self.constant, self.linear)
     }
 }
 
-impl<R: Field, W> fmt::Debug for Quadratic<R, W> {
+impl<R: Field + fmt::Debug, W> fmt::Debug for Quadratic<R, W> {
     fn fmt<O: fmt::Write>(&self, f: &mut fmt::Formatter<O>) -> fmt::Result {
         write!(f, "({:?} + {:?} x)", self.constant, self.linear)
     }
+}
+
+impl<R: FieldOps, W: Square<R>> FieldOps for Quadratic<R, W> {
+    ghost can_add_assign_law = { λ _ _. tt };
+
+    ghost add_assign_law = { λ a b r h. both (R.add_law _ _ _ h.0) (R.add_law _ _ _ h.1) };
+
+    ghost can_sub_assign_law = { λ _ _. tt };
+
+    ghost sub_assign_law = { λ a b r h. both (R.sub_law _ _ _ h.0) (R.sub_law _ _ _ h.1) };
+
+    ghost can_mul_assign_law = { λ _ _. tt };
+
+    ghost mul_assign_law = { λ a b r h. h };
+
+    ghost can_sum_law = { λ _. tt };
+
+    ghost all_summed_law = { λ _. tt };
+
+    ghost sum_law = { λ xs r h. h };
+
+    ghost can_product_law = { λ _. tt };
+
+    ghost all_multiplied_law = { λ _. tt };
+
+    ghost product_law = { λ xs r h. h };
 }
 
 impl<R: Field, W: Square<R>> Field for Quadratic<R, W> {
@@ -279,38 +305,10 @@ impl<R: Field, W: Square<R>> Field for Quadratic<R, W> {
 
     ghost neg_law = { λ a r h. both (R.neg_law _ _ h.0) (R.neg_law _ _ h.1) };
 
-    ghost can_add_assign_law = { λ _ _. tt };
-
-    ghost add_assign_law = { λ a b r h. both (R.add_law _ _ _ h.0) (R.add_law _ _ _ h.1) };
-
-    ghost can_sub_assign_law = { λ _ _. tt };
-
-    ghost sub_assign_law = { λ a b r h. both (R.sub_law _ _ _ h.0) (R.sub_law _ _ _ h.1) };
-
-    ghost can_mul_assign_law = { λ _ _. tt };
-
-    ghost mul_assign_law = { λ a b r h. h };
-
-    ghost can_sum_law = { λ _. tt };
-
-    ghost all_summed_law = { λ _. tt };
-
-    ghost sum_law = { λ xs r h. h };
-
-    ghost can_product_law = { λ _. tt };
-
-    ghost all_multiplied_law = { λ _. tt };
-
-    ghost product_law = { λ xs r h. h };
-
     ghost eq_law = { λ a b. both_equal _ _ _ _ _ _ (R.eq_law a.constant b.constant) (R.eq_law a.linear b.linear) };
 }
 
-impl<R: Field, W: Square<R>> Packed for Quadratic<R, W> {
-    type Scalar = Quadratic<R, W>;
-}
-
-impl<R: Packable, W: Square<R>> PackedField for Quadratic<R, W> {
+impl<R: Packable, W: Square<R>> PackedField<Quadratic<R, W>> for Quadratic<R, W> {
     const WIDTH: usize = 1;
 
     ghost WIDTH = { 1 };

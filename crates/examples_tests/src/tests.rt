@@ -12,7 +12,7 @@ mod own_engine;
 mod product;
 mod whole_rows;
 
-use p3_dft::{BabyBear, CanonicalField, Goldilocks};
+use p3_dft::{BabyBear, CanonicalField, FieldOps, Goldilocks};
 use std::alloc::Global;
 use std::process::Abort;
 
@@ -41,7 +41,7 @@ enum Topic<'a> {
 }
 
 impl<'a> Topic<'a> {
-    fn hold<F: CanonicalField>(self, rt: &impl Abort, alloc: Global) {
+    fn hold<F: CanonicalField + FieldOps>(self, rt: &impl Abort, alloc: Global) {
         match self {
             Topic::Roots => clients::roots_over::<F>(rt, alloc),
             Topic::OneRoot => clients::one_root_over::<F>(rt, alloc),

@@ -26,8 +26,8 @@ pub use jobs::{Job, JobsStopped, run_jobs};
 pub use naive::NaiveDft;
 pub use p3_field::power_iterator::Powers;
 pub use p3_field::{
-    BabyBear, BabyBearX8, BasedVectorSpace, CanonicalField, Coordinates, Field, Goldilocks,
-    GoldilocksX4, GoldilocksX8, KoalaBear, KoalaBearX8, Lanes, Packable, Packed, PackedField,
+    BabyBear, BabyBearX8, BasedVectorSpace, CanonicalField, Coordinates, Field, FieldOps,
+    Goldilocks, GoldilocksX4, GoldilocksX8, KoalaBear, KoalaBearX8, Lanes, Packable, PackedField,
     Products, TwoAdicField, WideBabyBear, WideGoldilocks, WideKoalaBear, scaled,
 };
 pub use p3_matrix::{

@@ -18,14 +18,7 @@ pub trait Field: Copy
     + Add<Self, Output = Self>
     + Sub<Self, Output = Self>
     + Mul<Self, Output = Self>
-    + Neg<Output = Self>
-    + AddAssign<Self>
-    + SubAssign<Self>
-    + MulAssign<Self>
-    + Sum<Self>
-    + Product<Self>
-    + Debug
-    + Display {
+    + Neg<Output = Self> {
     // The values of elements.
     ghost Element: { Type 0 };
 
@@ -232,21 +225,36 @@ pub trait Field: Copy
 
     ghost neg_law: { (a r : Self) → Self.neg_gives a r → value r ≡ ring.neg (value a) };
 
-    // So are those that change an element in its place.
+    // `==` is equality of values.
+    ghost eq_law: { (a b : Self) → IsTrue (Self.eq a b) ↔ (value a ≡ value b) };
+}
+
+/// A field with the rest of what generic code may write: the operators that change an element in its place, sums and
+/// products of iterators, and texts. Each field of this crate has them. The transforms need none, and the proof of every
+/// function over a field pays for each bound of `Field`, so they stand apart.
+pub trait FieldOps: Field
+    + AddAssign<Self>
+    + SubAssign<Self>
+    + MulAssign<Self>
+    + Sum<Self>
+    + Product<Self>
+    + Debug
+    + Display {
+    // The operators may always be used, and are those of the ring.
     ghost can_add_assign_law: { (a b : Self) → Self.can_add_assign a b };
 
     ghost add_assign_law: { (a b r : Self) → Self.add_assign_gives a b r
-        → value r ≡ ring.add (value a) (value b) };
+        → Self.value r ≡ Self.ring.add (Self.value a) (Self.value b) };
 
     ghost can_sub_assign_law: { (a b : Self) → Self.can_sub_assign a b };
 
     ghost sub_assign_law: { (a b r : Self) → Self.sub_assign_gives a b r
-        → value r ≡ minus ring (value a) (value b) };
+        → Self.value r ≡ minus Self.ring (Self.value a) (Self.value b) };
 
     ghost can_mul_assign_law: { (a b : Self) → Self.can_mul_assign a b };
 
     ghost mul_assign_law: { (a b r : Self) → Self.mul_assign_gives a b r
-        → value r ≡ ring.mul (value a) (value b) };
+        → Self.value r ≡ Self.ring.mul (Self.value a) (Self.value b) };
 
     // Any elements of an iterator that ends have a sum and a product.
     ghost can_sum_law: { (xs : List Self) → Self.can_sum xs };
@@ -254,15 +262,12 @@ pub trait Field: Copy
     ghost all_summed_law: { (r : Self) → Self.Sum.is_complete r };
 
     ghost sum_law: { (xs : List Self) (r : Self) → Self.sum_gives xs r
-        → value r ≡ sum_of ring (map value xs) };
+        → Self.value r ≡ sum_of Self.ring (map Self.value xs) };
 
     ghost can_product_law: { (xs : List Self) → Self.can_product xs };
 
     ghost all_multiplied_law: { (r : Self) → Self.Product.is_complete r };
 
     ghost product_law: { (xs : List Self) (r : Self) → Self.product_gives xs r
-        → value r ≡ product_of ring (map value xs) };
-
-    // `==` is equality of values.
-    ghost eq_law: { (a b : Self) → IsTrue (Self.eq a b) ↔ (value a ≡ value b) };
+        → Self.value r ≡ product_of Self.ring (map Self.value xs) };
 }

@@ -8,10 +8,10 @@ ghost use Rattle.std.specs.Prelude.{◌≡◌, ◌<◌, ◌≤◌, ◌+◌, ◌%
 ghost use Rattle.p3_field.specs.Fields.{goldilocks_modulus};
 
 use crate::euclid::inverse_modulo;
-use crate::fields::Field;
+use crate::fields::{Field, FieldOps};
 use crate::goldilocks_x4::GoldilocksX4;
 use crate::goldilocks_x8::GoldilocksX8;
-use crate::packed::{Packable, Packed, PackedField, Products};
+use crate::packed::{Packable, PackedField, Products};
 use crate::totals::{add_all, multiply_all};
 use crate::two_adic::{CanonicalField, TwoAdicField};
 use std::alloc::AllocError;
@@ -31,7 +31,7 @@ const EPSILON: u64 = 4294967295;
 /// The lanes of packed values of the field. Elements and what they compute do not depend on it.
 pub trait GoldilocksPacking: Copy {
     /// Several elements, handled by one operation.
-    type Packing: PackedField<Scalar = GoldilocksIn<Self>>;
+    type Packing: PackedField<GoldilocksIn<Self>>;
 
     /// Whether lanes are better taken one after another than all at once, where rows change in place.
     const ONE_BY_ONE: bool;
@@ -375,6 +375,35 @@ fn subtract_modulus(x: u64) -> u64
     x - MODULUS
 }
 
+impl<P: Copy> FieldOps for GoldilocksIn<P> {
+    ghost use Rattle.p3_field.specs.Residues.{residue-eq};
+    ghost use Rattle.p3_field.specs.FieldLaws.{difference_law};
+
+    ghost can_add_assign_law = { λ _ _. tt };
+
+    ghost add_assign_law = { λ a b r h. residue-eq _ _ h };
+
+    ghost can_sub_assign_law = { λ _ _. tt };
+
+    ghost sub_assign_law = { λ a b r h. residue-eq _ _ (difference_law _ _ _ _ h) };
+
+    ghost can_mul_assign_law = { λ _ _. tt };
+
+    ghost mul_assign_law = { λ a b r h. residue-eq _ _ h };
+
+    ghost can_sum_law = { λ _. tt };
+
+    ghost all_summed_law = { λ _. tt };
+
+    ghost sum_law = { λ xs r h. h };
+
+    ghost can_product_law = { λ _. tt };
+
+    ghost all_multiplied_law = { λ _. tt };
+
+    ghost product_law = { λ xs r h. h };
+}
+
 impl<P: Copy> Field for GoldilocksIn<P> {
     ghost use Rattle.std.proofs.Common.{lit<, refl};
     ghost use Rattle.p3_field.specs.Residues.{Residue, residue-eq};
@@ -480,38 +509,10 @@ impl<P: Copy> Field for GoldilocksIn<P> {
 
     ghost neg_law = { λ a r h. residue-eq _ _ h };
 
-    ghost can_add_assign_law = { λ _ _. tt };
-
-    ghost add_assign_law = { λ a b r h. residue-eq _ _ h };
-
-    ghost can_sub_assign_law = { λ _ _. tt };
-
-    ghost sub_assign_law = { λ a b r h. residue-eq _ _ (difference_law _ _ _ _ h) };
-
-    ghost can_mul_assign_law = { λ _ _. tt };
-
-    ghost mul_assign_law = { λ a b r h. residue-eq _ _ h };
-
-    ghost can_sum_law = { λ _. tt };
-
-    ghost all_summed_law = { λ _. tt };
-
-    ghost sum_law = { λ xs r h. h };
-
-    ghost can_product_law = { λ _. tt };
-
-    ghost all_multiplied_law = { λ _. tt };
-
-    ghost product_law = { λ xs r h. h };
-
     ghost eq_law = { λ a b. eq_law _ _ };
 }
 
-impl<P: Copy> Packed for GoldilocksIn<P> {
-    type Scalar = GoldilocksIn<P>;
-}
-
-impl<P: Copy> PackedField for GoldilocksIn<P> {
+impl<P: Copy> PackedField<GoldilocksIn<P>> for GoldilocksIn<P> {
     ghost use Rattle.std.specs.Prelude.{[], ◌∷◌};
     ghost use Rattle.std.proofs.Common.{refl};
 

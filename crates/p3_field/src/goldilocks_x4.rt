@@ -5,7 +5,7 @@
 
 use crate::goldilocks::Goldilocks;
 use crate::lanes::Lanes;
-use crate::packed::{Packed, PackedField, Products};
+use crate::packed::{PackedField, Products};
 use std::alloc::AllocError;
 
 /// Four elements, which each operation handles one after another by the field's own operation.
@@ -26,11 +26,7 @@ impl Clone for GoldilocksX4 {
     }
 }
 
-impl Packed for GoldilocksX4 {
-    type Scalar = Goldilocks;
-}
-
-impl PackedField for GoldilocksX4 {
+impl PackedField<Goldilocks> for GoldilocksX4 {
     const WIDTH: usize = 4;
 
     ghost WIDTH = { 4 };

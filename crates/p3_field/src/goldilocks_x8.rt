@@ -11,7 +11,7 @@ ghost use Rattle.p3_field.specs.LaneLaws.{are_below-prop};
 ghost use Rattle.p3_field.specs.Fields.{goldilocks_modulus};
 
 use crate::goldilocks::WideGoldilocks;
-use crate::packed::{Packed, PackedField, Products};
+use crate::packed::{PackedField, Products};
 use std::alloc::AllocError;
 use std::marker::PhantomData;
 use std::simd::prelude::*;
@@ -58,11 +58,7 @@ impl GoldilocksX8 {
     }
 }
 
-impl Packed for GoldilocksX8 {
-    type Scalar = WideGoldilocks;
-}
-
-impl PackedField for GoldilocksX8 {
+impl PackedField<WideGoldilocks> for GoldilocksX8 {
     ghost use Rattle.p3_field.specs.LaneNumbers.{elements_of};
     ghost use Rattle.p3_field.specs.LaneLaws.{length-elements_of};
     ghost use Rattle.std.proofs.Common.{◌∙◌};

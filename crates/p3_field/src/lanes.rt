@@ -3,7 +3,7 @@
 ghost use Rattle.std.specs.Prelude.{◌≡◌, length};
 
 use crate::fields::Field;
-use crate::packed::{Packed, PackedField, Products};
+use crate::packed::{PackedField, Products};
 use std::alloc::AllocError;
 
 /// `N` scalars of a field, which each operation handles one after another by the field's own
@@ -27,11 +27,7 @@ impl<F: Copy, const N: usize> Clone for Lanes<F, N> {
     }
 }
 
-impl<F: Field, const N: usize> Packed for Lanes<F, N> {
-    type Scalar = F;
-}
-
-impl<F: Field, const N: usize> PackedField for Lanes<F, N> {
+impl<F: Field, const N: usize> PackedField<F> for Lanes<F, N> {
     const WIDTH: usize = N;
 
     ghost WIDTH = { N };

@@ -1,7 +1,8 @@
 //! Finite fields with roots of unity of two-power order, as the transforms use them.
 //!
 //! `Field` has the operations of a commutative ring with one in which halving is exact, and their
-//! laws; `TwoAdicField` adds the roots of unity, `CanonicalField` the numbers below a modulus.
+//! laws; `FieldOps` adds operators in place, sums, products and texts, `TwoAdicField` the roots of unity, and
+//! `CanonicalField` the numbers below a modulus.
 //! `Residue31` is such a field for each type that has `Numbers`, with a modulus below `2^31`, and a
 //! `ResiduePacking`: `BabyBear` and `KoalaBear` are made of it. `Goldilocks` has a modulus below `2^64`.
 //! `WideBabyBear`, `WideKoalaBear` and `WideGoldilocks` are the same fields for processors with wider vectors.
@@ -32,7 +33,7 @@ pub mod two_adic;
 
 pub use algebra::{BasedVectorSpace, Coordinates};
 pub use baby_bear::{BabyBear, BabyBearX8, WideBabyBear};
-pub use fields::Field;
+pub use fields::{Field, FieldOps};
 pub use goldilocks::{
     Goldilocks, GoldilocksIn, GoldilocksPacking, ScalarLanes, VectorLanes, WideGoldilocks,
 };
@@ -40,7 +41,7 @@ pub use goldilocks_x4::GoldilocksX4;
 pub use goldilocks_x8::GoldilocksX8;
 pub use koala_bear::{KoalaBear, KoalaBearX8, WideKoalaBear};
 pub use lanes::Lanes;
-pub use packed::{Packable, Packed, PackedField, Products, scaled};
+pub use packed::{Packable, PackedField, Products, scaled};
 pub use residue31::{Numbers, Residue31, ResiduePacking};
 pub use residue31_x8::Residue31X8;
 pub use residue31_x16::Residue31X16;

@@ -37,7 +37,7 @@ impl<F: Field> Powers<F> {
         let mut current = self.current;
         for i in 0..to.len() {
             to[i] = current;
-            current *= base;
+            current = current * base;
         }
     }
 
@@ -53,7 +53,7 @@ impl<F: Field> Powers<F> {
         let mut current = self.current;
         for _i in 0..n {
             powers.push_reserved(current);
-            current *= base;
+            current = current * base;
         }
         Ok(powers)
     }
@@ -67,7 +67,7 @@ impl<F: Field> Iterator for Powers<F> {
 
     fn next(&mut self) -> Option<F> {
         let power = self.current;
-        self.current *= self.base;
+        self.current = self.current * self.base;
         Some(power)
     }
 }

@@ -3,8 +3,8 @@
 ghost use Rattle.std.specs.Prelude.{◌≡◌, ◌<◌, ◌≤◌, ◌%◌, ◌-◌, ℕ, ◌+◌};
 
 use crate::euclid::inverse_modulo;
-use crate::fields::Field;
-use crate::packed::{Packable, Packed, PackedField, Products};
+use crate::fields::{Field, FieldOps};
+use crate::packed::{Packable, PackedField, Products};
 use crate::totals::{add_all, multiply_all};
 use crate::two_adic::{CanonicalField, TwoAdicField};
 use std::alloc::AllocError;
@@ -60,7 +60,7 @@ pub trait Numbers: Copy {
 /// it.
 pub trait ResiduePacking: Numbers {
     /// Several elements, handled by one operation.
-    type Packing: PackedField<Scalar = Residue31<Self>>;
+    type Packing: PackedField<Residue31<Self>>;
 
     ghost some_law: { 1 ≤ Self.Packing.WIDTH };
 }
@@ -282,6 +282,35 @@ impl<N: Numbers> fmt::Debug for Residue31<N> {
     }
 }
 
+impl<N: Numbers> FieldOps for Residue31<N> {
+    ghost use Rattle.p3_field.specs.Residues.{residue-eq};
+    ghost use Rattle.p3_field.specs.FieldLaws.{difference_law};
+
+    ghost can_add_assign_law = { λ _ _. tt };
+
+    ghost add_assign_law = { λ a b r h. residue-eq _ _ h };
+
+    ghost can_sub_assign_law = { λ _ _. tt };
+
+    ghost sub_assign_law = { λ a b r h. residue-eq _ _ (difference_law _ _ _ _ h) };
+
+    ghost can_mul_assign_law = { λ _ _. tt };
+
+    ghost mul_assign_law = { λ a b r h. residue-eq _ _ h };
+
+    ghost can_sum_law = { λ _. tt };
+
+    ghost all_summed_law = { λ _. tt };
+
+    ghost sum_law = { λ xs r h. h };
+
+    ghost can_product_law = { λ _. tt };
+
+    ghost all_multiplied_law = { λ _. tt };
+
+    ghost product_law = { λ xs r h. h };
+}
+
 impl<N: Numbers> Field for Residue31<N> {
     ghost use Rattle.std.proofs.Common.{refl, arith};
     ghost use Rattle.p3_field.specs.Fields.{field_ring};
@@ -388,38 +417,10 @@ impl<N: Numbers> Field for Residue31<N> {
 
     ghost neg_law = { λ a r h. residue-eq _ _ h };
 
-    ghost can_add_assign_law = { λ _ _. tt };
-
-    ghost add_assign_law = { λ a b r h. residue-eq _ _ h };
-
-    ghost can_sub_assign_law = { λ _ _. tt };
-
-    ghost sub_assign_law = { λ a b r h. residue-eq _ _ (difference_law _ _ _ _ h) };
-
-    ghost can_mul_assign_law = { λ _ _. tt };
-
-    ghost mul_assign_law = { λ a b r h. residue-eq _ _ h };
-
-    ghost can_sum_law = { λ _. tt };
-
-    ghost all_summed_law = { λ _. tt };
-
-    ghost sum_law = { λ xs r h. h };
-
-    ghost can_product_law = { λ _. tt };
-
-    ghost all_multiplied_law = { λ _. tt };
-
-    ghost product_law = { λ xs r h. h };
-
     ghost eq_law = { λ a b. eq_law _ _ };
 }
 
-impl<N: Numbers> Packed for Residue31<N> {
-    type Scalar = Residue31<N>;
-}
-
-impl<N: Numbers> PackedField for Residue31<N> {
+impl<N: Numbers> PackedField<Residue31<N>> for Residue31<N> {
     ghost use Rattle.std.specs.Prelude.{[], ◌∷◌};
     ghost use Rattle.std.proofs.Common.{refl};
 

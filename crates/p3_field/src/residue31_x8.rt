@@ -5,7 +5,7 @@ ghost use Rattle.std.specs.Simd.Lanes.{zip2};
 ghost use Rattle.p3_field.specs.LaneNumbers.{AreBelow};
 ghost use Rattle.p3_field.specs.LaneLaws.{are_below-prop};
 
-use crate::packed::{Packed, PackedField, Products};
+use crate::packed::{PackedField, Products};
 use crate::residue31::{Numbers, Residue31};
 use std::alloc::AllocError;
 use std::marker::PhantomData;
@@ -45,11 +45,7 @@ impl<N: Numbers> Residue31X8<N> {
     }
 }
 
-impl<N: Numbers> Packed for Residue31X8<N> {
-    type Scalar = Residue31<N>;
-}
-
-impl<N: Numbers> PackedField for Residue31X8<N> {
+impl<N: Numbers> PackedField<Residue31<N>> for Residue31X8<N> {
     ghost use Rattle.p3_field.specs.LaneNumbers.{elements_of};
     ghost use Rattle.p3_field.specs.LaneLaws.{length-elements_of};
     ghost use Rattle.std.proofs.Common.{◌∙◌};

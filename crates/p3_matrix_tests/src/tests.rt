@@ -20,7 +20,8 @@ mod views;
 
 use fields::Table;
 use p3_field::{
-    BabyBear, CanonicalField, Goldilocks, KoalaBear, WideBabyBear, WideGoldilocks, WideKoalaBear,
+    BabyBear, CanonicalField, FieldOps, Goldilocks, KoalaBear, WideBabyBear, WideGoldilocks,
+    WideKoalaBear,
 };
 use std::alloc::Global;
 use std::fmt::Debug;
@@ -57,7 +58,7 @@ enum Topic<'a> {
 }
 
 impl<'a> Topic<'a> {
-    fn hold<F: CanonicalField>(self, rt: &impl Abort, alloc: Global) {
+    fn hold<F: CanonicalField + FieldOps>(self, rt: &impl Abort, alloc: Global) {
         match self {
             Topic::OneDimension => algebra::in_dimension_one::<F>(rt, alloc),
             Topic::PairsOfFive => butterflies::applies_to_pairs::<F>(rt),

@@ -24,12 +24,7 @@ pub(crate) trait NetworkDecimation<F: TwoAdicField>: Decimation<F> {
         ensures { result ≡ order };
 
     /// One pack of pairs, each with a twiddle of its own.
-    fn on_pack<P: PackedField<Scalar = F>>(
-        self,
-        twiddles: &[F],
-        values: &mut [F],
-        products: &mut Products,
-    )
+    fn on_pack<P: PackedField<F>>(self, twiddles: &[F], values: &mut [F], products: &mut Products)
         requires twiddles { length twiddles.now ≡ P.WIDTH }
         requires size { length values.old ≡ 2 * P.WIDTH }
         ensures pairs { MeetByTwiddles F.Field.own (Self.near F.Element F.ring F.value self)
@@ -51,12 +46,7 @@ impl<F: TwoAdicField, const FREE: bool> NetworkDecimation<F> for Dit<FREE> {
     }
 
     #[inline(always)]
-    fn on_pack<P: PackedField<Scalar = F>>(
-        self,
-        twiddles: &[F],
-        values: &mut [F],
-        products: &mut Products,
-    ) {
+    fn on_pack<P: PackedField<F>>(self, twiddles: &[F], values: &mut [F], products: &mut Products) {
         let (first, second) = P::load_pairs(values);
         let multiples = second.multiplied(P::load(twiddles), products);
         first
@@ -79,12 +69,7 @@ impl<F: TwoAdicField> NetworkDecimation<F> for Dif {
     }
 
     #[inline(always)]
-    fn on_pack<P: PackedField<Scalar = F>>(
-        self,
-        twiddles: &[F],
-        values: &mut [F],
-        products: &mut Products,
-    ) {
+    fn on_pack<P: PackedField<F>>(self, twiddles: &[F], values: &mut [F], products: &mut Products) {
         let (first, second) = P::load_pairs(values);
         let multiples = first.sub(second).multiplied(P::load(twiddles), products);
         first.add(second).store_pairs(multiples, values);
@@ -113,7 +98,7 @@ pub(crate) fn on_pairs<F: TwoAdicField, D: NetworkDecimation<F>>(
 }
 
 // On pairs that fill packs.
-fn on_packs<F: TwoAdicField, P: PackedField<Scalar = F>, D: NetworkDecimation<F>>(
+fn on_packs<F: TwoAdicField, P: PackedField<F>, D: NetworkDecimation<F>>(
     decimation: D,
     twiddles: &[F],
     values: &mut [F],
@@ -146,7 +131,7 @@ struct Packs<'a, F, P, D> {
     of: PhantomData<P>,
 }
 
-impl<F: TwoAdicField, P: PackedField<Scalar = F>, D: NetworkDecimation<F>> ChunkWork<F>
+impl<F: TwoAdicField, P: PackedField<F>, D: NetworkDecimation<F>> ChunkWork<F>
     for Packs<'_, F, P, D> {
     ghost accepts = { λ it n size. (size ≡ 2 * P.WIDTH) × (n * P.WIDTH + P.WIDTH ≤ length it.twiddles.now) };
 

@@ -12,8 +12,8 @@ use examples::low_degree::has_low_degree;
 use examples::merkle_root::{HornerHash, merkle_root, roots_of_two};
 use examples::published_degree::published_degree;
 use p3_dft::{
-    BabyBear, CanonicalField, Field, Goldilocks, NaiveDft, Radix2DitParallel, RowMajorMatrix,
-    TwoAdicSubgroupDft, fits_dft, fits_lde, has_degree_below,
+    BabyBear, CanonicalField, Field, FieldOps, Goldilocks, NaiveDft, Radix2DitParallel,
+    RowMajorMatrix, TwoAdicSubgroupDft, fits_dft, fits_lde, has_degree_below,
 };
 use std::alloc::Global;
 use std::process::Abort;
@@ -144,6 +144,7 @@ pub(crate) fn low_degrees_over<F: CanonicalField>(rt: &impl Abort, alloc: Global
 #[test]
 fn low_degrees_are_told(rt: HostRuntime) {
     over(&rt, rt.alloc(), FieldName::BabyBear, Topic::LowDegree);
+    over(&rt, rt.alloc(), FieldName::Goldilocks, Topic::LowDegree);
 }
 
 // The columns are the values of 2 - x and 3 - x at 1 and -1, extended by one bit on the coset of the generator. Read as
@@ -183,7 +184,7 @@ fn what_was_published_has_low_degree(rt: HostRuntime) {
     over(&rt, rt.alloc(), FieldName::Goldilocks, topic);
 }
 
-pub(crate) fn texts_over<F: CanonicalField>(rt: &impl Abort, alloc: Global) {
+pub(crate) fn texts_over<F: CanonicalField + FieldOps>(rt: &impl Abort, alloc: Global) {
     let pair: Vec<F> = elements(rt, alloc, &[9, 5]);
     assert!(rt; text_of(alloc, &pair).expect(rt, "memory").as_str() == "[9, 5]");
     let text = aligned_text_of(alloc, F::from_u8(7)).expect(rt, "memory");

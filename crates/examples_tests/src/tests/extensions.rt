@@ -8,8 +8,11 @@ use super::helpers::matrices::{assert_rows, elements, matrix_of, sample};
 use examples::extension::ExtensionField;
 use examples::extension_folding::{fold_into_extension, last_coefficients};
 use examples::quadratic::{Eleven, Quadratic, Root, Seven, Square};
-use p3_dft::{BabyBear, CanonicalField, Goldilocks, Layout, Radix2Dit, RowMajorMatrix, fits_dft};
+use p3_dft::{
+    BabyBear, CanonicalField, FieldOps, Goldilocks, Layout, Radix2Dit, RowMajorMatrix, fits_dft,
+};
 use std::alloc::Global;
+use std::fmt::{Debug, Display};
 use std::process::Abort;
 
 // Two elements by their coordinates, their product, and the inverse of the first.
@@ -553,7 +556,7 @@ fn element<F: CanonicalField, E: ExtensionField<F>>(
 }
 
 // The products, and the text of the root.
-fn products<F: CanonicalField, E: ExtensionField<F>>(
+fn products<F: CanonicalField, E: ExtensionField<F> + Debug + Display>(
     rt: &impl Abort,
     alloc: Global,
     cases: &[Product],
@@ -650,18 +653,30 @@ enum Topic<'a> {
     Foldings(&'a [Folding]),
 }
 
-fn hold<F: CanonicalField, E: ExtensionField<F>>(rt: &impl Abort, alloc: Global, topic: Topic) {
+fn hold<F: CanonicalField, E: ExtensionField<F> + Debug + Display>(
+    rt: &impl Abort,
+    alloc: Global,
+    topic: Topic,
+) {
     match topic {
         Topic::Products(cases, root) => products::<F, E>(rt, alloc, cases, root),
         Topic::Foldings(cases) => foldings::<F, E>(rt, alloc, cases),
     }
 }
 
-fn in_degree_two<F: CanonicalField, W: Square<F>>(rt: &impl Abort, alloc: Global, topic: Topic) {
+fn in_degree_two<F: CanonicalField + FieldOps, W: Square<F>>(
+    rt: &impl Abort,
+    alloc: Global,
+    topic: Topic,
+) {
     hold::<F, Quadratic<F, W>>(rt, alloc, topic);
 }
 
-fn in_degree_four<F: CanonicalField, W: Square<F>>(rt: &impl Abort, alloc: Global, topic: Topic) {
+fn in_degree_four<F: CanonicalField + FieldOps, W: Square<F>>(
+    rt: &impl Abort,
+    alloc: Global,
+    topic: Topic,
+) {
     hold::<F, Quadratic<Quadratic<F, W>, Root>>(rt, alloc, topic);
 }
 

@@ -316,7 +316,7 @@ const CHANGES: [Change; 9] = [
 // Adds one to an element.
 fn add_one<F: Field>(rt: &impl Abort, elements: &mut [F], i: usize) {
     assert!(rt; i < elements.len());
-    elements[i] += F::ONE;
+    elements[i] = elements[i] + F::ONE;
 }
 
 fn changed_queries<F: CanonicalField>(rt: &impl Abort, alloc: Global, case: &Case, layer: usize) {

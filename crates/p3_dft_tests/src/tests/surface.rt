@@ -2,8 +2,8 @@
 
 use p3_dft::{
     BabyBear, BabyBearX8, BitReversedMatrixView, Butterfly, DifButterfly, DifButterflyZeros,
-    DitButterfly, Evaluations, Field, IntoRowMajorMatrix, Lanes, Packable, Packed, PackedField,
-    Products, RowMajorMatrix, RowMajorMatrixView, RowMajorMatrixViewMut, ScaledDitButterfly,
+    DitButterfly, Evaluations, Field, IntoRowMajorMatrix, Lanes, Packable, PackedField, Products,
+    RowMajorMatrix, RowMajorMatrixView, RowMajorMatrixViewMut, ScaledDitButterfly,
     TwiddleFreeButterfly, TwoAdicField, apply_dit_by_place, divide_by_height, log2_strict_usize,
     reverse_bits_len, reverse_matrix_index_bits, reverse_slice_index_bits, scale_slice_in_place,
     scaled, split_rows_mut, swap_rows,
@@ -16,13 +16,8 @@ fn broadcast<F: TwoAdicField + Packable>(x: F) -> F::Packing {
     F::Packing::broadcast(x)
 }
 
-// The scalars of packed values.
-fn is_one<F: Field, P: Packed<Scalar = F>>(x: P::Scalar) -> bool {
-    x == F::ONE
-}
-
 fn one_is_one<F: Packable>(rt: &impl Abort) {
-    assert!(rt; is_one::<F, F>(scaled(F::ONE, F::ONE, &mut Products::new())));
+    assert!(rt; scaled(F::ONE, F::ONE, &mut Products::new()) == F::ONE);
 }
 
 #[test]

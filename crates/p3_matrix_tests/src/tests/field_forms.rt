@@ -2,7 +2,7 @@
 // bound, with values worked out by hand.
 
 use super::{FieldName, Topic, is, over, row};
-use p3_field::{BabyBear, CanonicalField, Field, Goldilocks};
+use p3_field::{BabyBear, CanonicalField, Field, FieldOps, Goldilocks};
 use std::alloc::Global;
 use std::process::Abort;
 
@@ -11,7 +11,7 @@ fn has_number<F: CanonicalField>(rt: &impl Abort, x: F, number: u64) {
     is(rt, x.as_canonical_u64(), number);
 }
 
-fn changed_in_place<F: CanonicalField>(rt: &impl Abort) {
+fn changed_in_place<F: CanonicalField + FieldOps>(rt: &impl Abort) {
     let mut x = F::from_u8(7);
     x += F::from_u8(5);
     x *= F::from_u8(3);
@@ -20,7 +20,7 @@ fn changed_in_place<F: CanonicalField>(rt: &impl Abort) {
     has_number(rt, x.square(), 900);
 }
 
-fn totals<F: CanonicalField>(rt: &impl Abort, alloc: Global) {
+fn totals<F: CanonicalField + FieldOps>(rt: &impl Abort, alloc: Global) {
     let elements: Vec<F> = row(rt, alloc, 3, 2, 1);
     has_number(rt, elements.iter().copied().sum::<F>(), 9);
     has_number(rt, elements.iter().copied().product::<F>(), 24);
@@ -30,7 +30,7 @@ fn totals<F: CanonicalField>(rt: &impl Abort, alloc: Global) {
 }
 
 // The first powers of three, and five times them.
-fn powers<F: CanonicalField>(rt: &impl Abort, alloc: Global) {
+fn powers<F: CanonicalField + FieldOps>(rt: &impl Abort, alloc: Global) {
     let three = F::from_u8(3);
     let powers = three.powers().collect_n(alloc, 5).expect(rt, "memory");
     let wanted = [1u8, 3, 9, 27, 81].map(|n| F::from_u8(n));
@@ -42,7 +42,7 @@ fn powers<F: CanonicalField>(rt: &impl Abort, alloc: Global) {
 }
 
 // `2^16 - 1`, `2^32 - 1` and `2^32`.
-fn numbers<F: CanonicalField>(rt: &impl Abort, below: u64, above: u64) {
+fn numbers<F: CanonicalField + FieldOps>(rt: &impl Abort, below: u64, above: u64) {
     has_number(rt, F::from_u16(65535), 65535);
     has_number(rt, F::from_u32(4294967295), below);
     has_number(rt, F::from_u64(4294967296), above);
@@ -50,7 +50,7 @@ fn numbers<F: CanonicalField>(rt: &impl Abort, below: u64, above: u64) {
 }
 
 // In a list, alone, and in three places.
-fn printed<F: CanonicalField>(rt: &impl Abort, alloc: Global, last: &str) {
+fn printed<F: CanonicalField + FieldOps>(rt: &impl Abort, alloc: Global, last: &str) {
     let elements: Vec<F> = row(rt, alloc, 2, 9, 5);
     let listed = elements.as_slice();
     let text = format!(in alloc; "{listed:?}").expect(rt, "memory");
@@ -63,7 +63,7 @@ fn printed<F: CanonicalField>(rt: &impl Abort, alloc: Global, last: &str) {
     is(rt, text.as_str(), "  5");
 }
 
-pub(crate) fn agrees<F: CanonicalField>(
+pub(crate) fn agrees<F: CanonicalField + FieldOps>(
     rt: &impl Abort,
     alloc: Global,
     below: u64,

@@ -4,8 +4,8 @@ ghost use Rattle.std.specs.Prelude.{◌≡◌, ◌*◌, ◌<◌, ◌≤◌, leng
 
 use super::{FieldName, Topic, is, over, row, vectors};
 use p3_field::{
-    BabyBear, CanonicalField, Field, Lanes, Packable, Packed, PackedField, Products, TwoAdicField,
-    scaled,
+    BabyBear, CanonicalField, Field, Goldilocks, Lanes, Packable, PackedField, Products,
+    TwoAdicField, scaled,
 };
 use std::alloc::Global;
 use std::mem::size_of;
@@ -190,7 +190,7 @@ fn a_field_is_a_pack_of_one_lane(rt: HostRuntime) {
 }
 
 // The two elements of each pair change places.
-fn exchange<F: Field, P: PackedField<Scalar = F>>(pairs: &mut [F])
+fn exchange<F: Field, P: PackedField<F>>(pairs: &mut [F])
     requires { length pairs.old ≡ 2 * P.WIDTH }
     ensures { length pairs.new ≡ length pairs.old }
 {
@@ -199,11 +199,7 @@ fn exchange<F: Field, P: PackedField<Scalar = F>>(pairs: &mut [F])
 }
 
 // Of the pairs of 1 and 2, of 3 and 4, and so on.
-fn exchanges<F: CanonicalField, P: PackedField<Scalar = F>>(
-    rt: &impl Abort,
-    alloc: Global,
-    size: usize,
-)
+fn exchanges<F: CanonicalField, P: PackedField<F>>(rt: &impl Abort, alloc: Global, size: usize)
     requires { size ≡ 2 * P.WIDTH }
 {
     let mut pairs: Vec<F> = row(rt, alloc, size, 1, 1);
@@ -233,10 +229,11 @@ fn pairs_are_loaded_and_stored(rt: HostRuntime) {
         over(&rt, rt.alloc(), field, Topic::PairsInPacks);
     }
     exchanges::<BabyBear, Lanes<BabyBear, 3>>(&rt, rt.alloc(), 6);
+    exchanges::<Goldilocks, Lanes<Goldilocks, 3>>(&rt, rt.alloc(), 6);
 }
 
 // What stands in one lane, and in the lane beside it.
-fn at_lanes<F: CanonicalField, P: PackedField<Scalar = F>>(
+fn at_lanes<F: CanonicalField, P: PackedField<F>>(
     rt: &impl Abort,
     alloc: Global,
     x: P,
@@ -251,7 +248,7 @@ fn at_lanes<F: CanonicalField, P: PackedField<Scalar = F>>(
 }
 
 // Lanes of one element, but for one lane.
-fn lanes_of<F: CanonicalField, P: PackedField<Scalar = F>>(
+fn lanes_of<F: CanonicalField, P: PackedField<F>>(
     rt: &impl Abort,
     alloc: Global,
     x: F,
@@ -267,7 +264,7 @@ fn lanes_of<F: CanonicalField, P: PackedField<Scalar = F>>(
 }
 
 // Stops the test where one lane has another number, or the lane beside it is another element.
-fn lane_is<F: CanonicalField, P: PackedField<Scalar = F>>(
+fn lane_is<F: CanonicalField, P: PackedField<F>>(
     rt: &impl Abort,
     alloc: Global,
     x: P,
@@ -284,7 +281,7 @@ fn lane_is<F: CanonicalField, P: PackedField<Scalar = F>>(
 }
 
 // Each operation in one lane, beside others that have answers of their own.
-fn lane_agrees<F: CanonicalField, P: PackedField<Scalar = F>>(
+fn lane_agrees<F: CanonicalField, P: PackedField<F>>(
     rt: &impl Abort,
     alloc: Global,
     lane: usize,
@@ -310,7 +307,7 @@ fn lane_agrees<F: CanonicalField, P: PackedField<Scalar = F>>(
     lane_is(rt, alloc, all, lane, t.as_canonical_u64(), t);
 }
 
-fn lanes_agree<F: CanonicalField, P: PackedField<Scalar = F>>(
+fn lanes_agree<F: CanonicalField, P: PackedField<F>>(
     rt: &impl Abort,
     alloc: Global,
     table: &[(usize, usize, u64, u64, u64)],

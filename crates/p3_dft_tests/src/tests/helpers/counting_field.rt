@@ -3,15 +3,10 @@
 
 ghost use Rattle.std.specs.Prelude.{◌≡◌, ◌≤◌};
 
-use p3_dft::{
-    CanonicalField, Field, Lanes, Packable, Packed, PackedField, Products, TwoAdicField, scaled,
-};
-use p3_field::totals::{add_all, multiply_all};
+use p3_dft::{CanonicalField, Field, Lanes, Packable, PackedField, Products, TwoAdicField, scaled};
 use std::alloc::AllocError;
 use std::cell::Cell;
-use std::fmt;
-use std::iter::{Product, Sum};
-use std::ops::{Add, AddAssign, Mul, MulAssign, Neg, Sub, SubAssign};
+use std::ops::{Add, Mul, Neg, Sub};
 
 // What counts products.
 pub(crate) trait Meter: Copy {
@@ -22,7 +17,7 @@ pub(crate) trait Meter: Copy {
 // How many elements of a field whose products a meter counts go in a pack, and whether its lanes go one after
 // another.
 pub(crate) trait Packs<T: Field>: Meter {
-    type Packing: PackedField<Scalar = T>;
+    type Packing: PackedField<T>;
 
     const ONE_BY_ONE: bool;
 
@@ -174,72 +169,6 @@ impl<F: Field, M: Meter> Neg for Tally<F, M> {
     }
 }
 
-impl<F: Field, M: Meter> AddAssign for Tally<F, M> {
-    ghost add_assign_gives = { λ a b r. F.add_gives a.element b.element r.element };
-
-    fn add_assign(&mut self, other: Tally<F, M>) {
-        *self = *self + other;
-    }
-}
-
-impl<F: Field, M: Meter> SubAssign for Tally<F, M> {
-    ghost sub_assign_gives = { λ a b r. F.sub_gives a.element b.element r.element };
-
-    fn sub_assign(&mut self, other: Tally<F, M>) {
-        *self = *self - other;
-    }
-}
-
-impl<F: Field, M: Meter> MulAssign for Tally<F, M> {
-    ghost mul_assign_gives = { λ a b r. F.mul_gives a.element b.element r.element };
-
-    fn mul_assign(&mut self, other: Tally<F, M>) {
-        *self = *self * other;
-    }
-}
-
-impl<F: Field, M: Meter> Sum<Tally<F, M>> for Tally<F, M> {
-    ghost use Rattle.std.specs.Prelude.{map};
-    ghost use Rattle.p3_field.specs.Ring.{sum_of};
-
-    ghost sum_gives = { λ xs r. F.value r.element ≡ sum_of F.ring (map (λ x. F.value x.element) xs) };
-
-    fn sum<I: Iterator<Item = Tally<F, M>>>(iter: I) -> Tally<F, M> {
-        let zero = Tally {
-            element: F::ZERO,
-            mark: None,
-        };
-        add_all(zero, iter)
-    }
-}
-
-impl<F: Field, M: Meter> Product<Tally<F, M>> for Tally<F, M> {
-    ghost use Rattle.std.specs.Prelude.{map};
-    ghost use Rattle.p3_field.specs.Ring.{product_of};
-
-    ghost product_gives = { λ xs r. F.value r.element ≡ product_of F.ring (map (λ x. F.value x.element) xs) };
-
-    fn product<I: Iterator<Item = Tally<F, M>>>(iter: I) -> Tally<F, M> {
-        let one = Tally {
-            element: F::ONE,
-            mark: None,
-        };
-        multiply_all(one, iter)
-    }
-}
-
-impl<F: Field, M> fmt::Display for Tally<F, M> {
-    fn fmt<W: fmt::Write>(&self, f: &mut fmt::Formatter<W>) -> fmt::Result {
-        fmt::Display::fmt(&self.element, f)
-    }
-}
-
-impl<F: Field, M> fmt::Debug for Tally<F, M> {
-    fn fmt<W: fmt::Write>(&self, f: &mut fmt::Formatter<W>) -> fmt::Result {
-        fmt::Debug::fmt(&self.element, f)
-    }
-}
-
 impl<F: Field, M: Meter> Field for Tally<F, M> {
     ghost use Rattle.std.specs.Prelude.{None};
 
@@ -336,38 +265,10 @@ impl<F: Field, M: Meter> Field for Tally<F, M> {
 
     ghost neg_law = { λ a r. F.neg_law a.element r.element };
 
-    ghost can_add_assign_law = { λ _ _. tt };
-
-    ghost add_assign_law = { λ a b r. F.add_law a.element b.element r.element };
-
-    ghost can_sub_assign_law = { λ _ _. tt };
-
-    ghost sub_assign_law = { λ a b r. F.sub_law a.element b.element r.element };
-
-    ghost can_mul_assign_law = { λ _ _. tt };
-
-    ghost mul_assign_law = { λ a b r. F.mul_law a.element b.element r.element };
-
-    ghost can_sum_law = { λ _. tt };
-
-    ghost all_summed_law = { λ _. tt };
-
-    ghost sum_law = { λ xs r h. h };
-
-    ghost can_product_law = { λ _. tt };
-
-    ghost all_multiplied_law = { λ _. tt };
-
-    ghost product_law = { λ xs r h. h };
-
     ghost eq_law = { λ a b. F.eq_law a.element b.element };
 }
 
-impl<F: Field, M: Meter> Packed for Tally<F, M> {
-    type Scalar = Tally<F, M>;
-}
-
-impl<F: Packable, M: Meter> PackedField for Tally<F, M> {
+impl<F: Packable, M: Meter> PackedField<Tally<F, M>> for Tally<F, M> {
     ghost use Rattle.std.specs.Prelude.{[], ◌∷◌};
     ghost use Rattle.std.proofs.Common.{refl};
 

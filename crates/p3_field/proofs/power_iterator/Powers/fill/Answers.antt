@@ -12,7 +12,7 @@ loop-i-init g c = record {
 
 pub loop-i-preserved : goal.loop-i-preserved
 loop-i-preserved g c = record {
-  next = next_power g.F.Field.ring _ _ _ _ c.loop-i.i c.loop-i.invariant.next (g.met.F.Field.mul_assign_law _ _ _ c.mul_assign.ensures.after);
+  next = next_power g.F.Field.ring _ _ _ _ c.loop-i.i c.loop-i.invariant.next (g.met.F.Field.mul_law _ _ _ c.mul-current.ensures);
   filled = next_written g.F.Field.value g.F.Field.ZERO _ c.loop-i.to c.loop-i.i c.loop-i.current (search rules) c.loop-i.invariant.filled c.loop-i.invariant.next;
 }
 
