@@ -7,7 +7,6 @@ use Rattle.std.proofs.Math.Nat.{add-mul, mul-le-mul_right, mul-div_cancel}
 use Rattle.p3_matrix.specs.RowMajor.{RowMajor, HasShapeOf, IsRowMajor, height, row, rows}
 use Rattle.p3_matrix.specs.Matrix.{matrix, row_of, list_of_rows}
 use Rattle.p3_matrix.proofs.Matrices.{list_same}
-use Rattle.std.proofs.lemmas.Nat.{div-add-mod'}
 
 -- h rows of w entries are h whole rows
 pub whole_rows : (size h w : ℕ) → 1 ≤ w → size ≡ h * w → (size / w ≡ h) × ((size / w) * w ≡ size)
@@ -74,7 +73,3 @@ bound_within m bound h first w vs whole tall least wide is =
     let below : first ≤ height m = omega (arith, tall, least) in
     let e : first * w ≡ first * m.width = ap (λ n. first * n) wide in
     omega (arith, e, mul-le-mul_right m.width below, whole.full, ap length is)
-
--- a block of b rows begins within the rows
-pub block_starts : (q h b : ℕ) → q < h / b → q * b ≤ h
-block_starts q h b less = omega (arith, mul-le-mul_right b less, add-mul q 1 b, div-add-mod' h b)

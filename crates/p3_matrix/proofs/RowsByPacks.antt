@@ -76,6 +76,12 @@ three_in_parts v op op' xs ys ts us us' vs vs' ws ws' ps qs e f h l m p q =
     (sym (by_lanes-append op' (map v vs) (map v ws) (map v vs') (map v ws') inner)
     ∙ ap₂ (by_lanes op') (sym (ap (map v) f ∙ map-append v vs vs')) (sym (ap (map v) h ∙ map-append v ws ws')))
 
+-- products by lanes of two rows are as long as a third of their length
+pub products_long : {F E : Type 0} (v : F → E) (op : E → E → E) (xs ys ts : List F) → length xs ≡ length ys → length xs ≡ length ts → length (by_lanes op (map v ys) (map v ts)) ≡ length (map v xs)
+products_long v op xs ys ts e f =
+    let tall : length (map v ys) ≡ length xs = length-map ys v ∙ sym e in
+    length-by_lanes op (map v ys) (map v ts) (tall ∙ f ∙ sym (length-map ts v)) ∙ tall ∙ sym (length-map xs v)
+
 -- what packed values of one lane hold
 pub of_one_lane : {F E : Type 0} (v : F → E) (op : E → E → E) (lanes : F → List F) → ((x : F) → lanes x ≡ x ∷ []) → (x y r : F)
     → map v (lanes r) ≡ by_lanes op (map v (lanes x)) (map v (lanes y)) → v r ≡ op (v x) (v y)
@@ -98,27 +104,13 @@ module _ {F E : Type 0} (v : F → E) (op : E → E → E) (xs ys : List E) (sam
   pub elements_done : (now : List F) (i : ℕ) → i ≡ length xs → map v now ≡ until i (by_lanes op xs ys) (map v zs) → map v now ≡ by_lanes op xs ys
   elements_done now i end is = all_written v zs (by_lanes op xs ys) all_long now i (end ∙ sym wide) is
 
--- a loop over the packs of n places: at its start all packs are left
-pub packs_left : (k w v n : ℕ) → v ≡ w → n ≡ k * w → 0 + k * v ≡ n
-packs_left k w v n same whole =
-    let e : k * v ≡ k * w = ap (λ m. k * m) same in
-    omega (arith, e, whole)
-
 -- where a place is left, a whole pack is
 pub pack_within : (i k w m n : ℕ) → i < m → m ≡ n → i + k * w ≡ n → i + w ≤ n
 pack_within i k w m n less same left = omega (arith, (pack_fits i k w n (omega (arith, less, same)) left).1)
 
--- with each pack fewer places are left
-pub packs_smaller : (i w v m n : ℕ) → i < m → m ≡ n → w ≡ v → 1 ≤ v → n - (i + w) < n - i
-packs_smaller i w v m n less same width wide = omega (arith, less, same, width, wide)
-
 -- the loop ends behind the last of the places
 pub loop_ends : (i r m n : ℕ) → m ≤ i → m ≡ n → i + r ≡ n → i ≡ n
 loop_ends i r m n end same left = omega (arith, end, same, left)
-
--- before the first part no product was made
-pub none_yet : (p cost : ℕ) → p ≡ p + cost * 0
-none_yet p cost = omega arith
 
 -- all packs are done
 pub packs_done : {F E : Type 0} (v : F → E) (op : E → E → E) (i : ℕ) (xs ys zs : List F) → i ≡ length xs → length xs ≡ length ys → length xs ≡ length zs

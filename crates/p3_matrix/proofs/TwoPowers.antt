@@ -33,10 +33,6 @@ log_same j k e = log_unique j k (omega arith) (omega (arith, pow_pos j))
 pub digit_below : (t r d : ℕ) → r < 2 ^ t → d < 2 → 2 * r + d < 2 ^ (t + 1)
 digit_below t r d l b = let e : 2 ^ (t + 1) ≡ 2 ^ suc t = ap (λ m. 2 ^ m) (add-one t) in omega arith
 
--- fewer digits than a usize has
-pub usize_holds : (t n : ℕ) → t ≤ 63 → n < 2 ^ t → n < 2 ^ 63
-usize_holds t n l b = omega (arith, pow-le-pow_right {n = 2} (lit≤ tt) l)
-
 -- an extension has no fewer entries
 pub entries_rise : (k a w : ℕ) → 2 ^ k * w ≤ 2 ^ (k + a) * w
 entries_rise k a w = mul-le-mul_right w (pow-le-pow_right (omega arith) (omega arith))

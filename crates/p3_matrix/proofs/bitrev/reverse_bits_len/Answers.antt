@@ -1,6 +1,6 @@
-use Rattle.std.proofs.Common.{◌≡◌, ◌+◌, ◌-◌, ◌*◌, ◌/◌, ◌%◌, ◌^◌, ◌<◌, ℕ, zero, suc, ap, ◌∙◌, lit<, arith}
+use Rattle.std.proofs.Common.{◌≡◌, ◌+◌, ◌-◌, ◌*◌, ◌/◌, ◌%◌, ◌^◌, ◌<◌, ℕ, zero, suc, ap, ◌∙◌, arith}
 use Rattle.p3_matrix.specs.BitOrder.{rev}
-use Rattle.p3_matrix.proofs.TwoPowers.{digit_below, usize_holds}
+use Rattle.p3_matrix.proofs.TwoPowers.{digit_below}
 use Rattle.p3_matrix.proofs.bitrev.reverse_bits_len.Goals as goal
 
 -- the last digit of what is left becomes the next of the reverse
@@ -19,16 +19,6 @@ no_digit : (m r x : ℕ) → m ≡ 0 → r * 2 ^ m + rev m x ≡ r
 unfolding rev
 no_digit zero r x e = omega arith
 no_digit (suc m) r x e = absurd (omega arith)
-
-pub overflow_mul-reverse : goal.overflow_mul-reverse
-overflow_mul-reverse c =
-    let l = c.loop-digit in
-    omega (arith, usize_holds (l._digit + 1) (2 * l.reverse + 0) (omega arith) (digit_below l._digit l.reverse 0 l.invariant.below (lit< tt)))
-
-pub overflow_add-reverse : goal.overflow_add-reverse
-overflow_add-reverse c =
-    let l = c.loop-digit in
-    omega (arith, usize_holds (l._digit + 1) (2 * l.reverse + l.left % 2) (omega arith) (digit_below l._digit l.reverse (l.left % 2) l.invariant.below (omega arith)))
 
 pub loop-digit-preserved : goal.loop-digit-preserved
 loop-digit-preserved c =

@@ -1,7 +1,6 @@
-use Rattle.std.proofs.Common.{◌≡◌, ◌<◌, length, map, sym, ap, ap₂, ◌∙◌, arith, subst, refl}
+use Rattle.std.proofs.Common.{◌≡◌, ◌<◌, length, map, sym, ap, ap₂, ◌∙◌, arith, subst}
 use Rattle.std.proofs.lemmas.List.{length-map}
-use Rattle.p3_matrix.proofs.RowsByPacks.{of_one_lane, element_stays, element_done, elements_done, none_yet, more_products}
-use borrow.Author.Rules.{scaled_Fits}
+use Rattle.p3_matrix.proofs.RowsByPacks.{of_one_lane, element_stays, element_done, elements_done, more_products}
 use Rattle.p3_matrix.proofs.packs.apply_to_elements.Goals as goal
 
 pub loop-i-preserved : goal.loop-i-preserved
@@ -32,36 +31,17 @@ loop-i-preserved g c =
 pub returns-clause-near : goal.returns-clause-near
 returns-clause-near g c =
     let f = g.F.Field in
-    let v = f.value in
-    let xs = map v c.args.row_1.now in
-    let ys = map v c.args.row_2.now in
-    let wide : length xs ≡ length c.args.row_1.now = length-map c.args.row_1.now v in
-    let same : length ys ≡ length xs = length-map c.args.row_2.now v ∙ sym c.requires ∙ sym wide in
-    elements_done v (g.B.Butterfly.near f.Element f.ring v c.args.butterfly.now) xs ys same c.args.row_1.now (sym wide) c.loop-i.row_1 c.loop-i.i
+    let xs = c.args.row_1.now in
+    let ys = c.args.row_2.now in
+    let wide : length (map f.value xs) ≡ length xs = length-map xs f.value in
+    elements_done f.value (g.B.Butterfly.near f.Element f.ring f.value c.args.butterfly.now) (map f.value xs) (map f.value ys) (length-map ys f.value ∙ sym c.requires ∙ sym wide) xs (sym wide) c.loop-i.row_1 c.loop-i.i
     (omega (arith, c.loop-i-test.false, c.loop-i.auto.i-end, wide)) c.loop-i.invariant.near
 
 pub returns-clause-far : goal.returns-clause-far
 returns-clause-far g c =
     let f = g.F.Field in
-    let v = f.value in
-    let xs = map v c.args.row_1.now in
-    let ys = map v c.args.row_2.now in
-    let wide : length xs ≡ length c.args.row_1.now = length-map c.args.row_1.now v in
-    let same : length ys ≡ length xs = length-map c.args.row_2.now v ∙ sym c.requires ∙ sym wide in
-    elements_done v (g.B.Butterfly.far f.Element f.ring v c.args.butterfly.now) xs ys same c.args.row_2.now (sym c.requires ∙ sym wide) c.loop-i.row_2 c.loop-i.i
+    let xs = c.args.row_1.now in
+    let ys = c.args.row_2.now in
+    let wide : length (map f.value xs) ≡ length xs = length-map xs f.value in
+    elements_done f.value (g.B.Butterfly.far f.Element f.ring f.value c.args.butterfly.now) (map f.value xs) (map f.value ys) (length-map ys f.value ∙ sym c.requires ∙ sym wide) ys (sym c.requires ∙ sym wide) c.loop-i.row_2 c.loop-i.i
     (omega (arith, c.loop-i-test.false, c.loop-i.auto.i-end, wide)) c.loop-i.invariant.far
-
-pub loop-i-init : goal.loop-i-init
-loop-i-init g c = record { near = refl; far = refl; count = none_yet _ _ }
-
-pub offset_bounds-row_1-i : goal.offset_bounds-row_1-i
-offset_bounds-row_1-i g c = scaled_Fits _ _ _ c.loop-i-test.true c.well_formed.1.0.1
-
-pub offset_bounds-row_1-i-in-loop-i : goal.offset_bounds-row_1-i-in-loop-i
-offset_bounds-row_1-i-in-loop-i g c = scaled_Fits _ _ _ c.loop-i-test.true c.well_formed.1.0.1
-
-pub offset_bounds-row_2-i : goal.offset_bounds-row_2-i
-offset_bounds-row_2-i g c = scaled_Fits _ _ _ (subst (λ n. c.loop-i.i < n) c.requires c.loop-i-test.true) c.well_formed.1.1.0.1
-
-pub offset_bounds-row_2-i-in-loop-i : goal.offset_bounds-row_2-i-in-loop-i
-offset_bounds-row_2-i-in-loop-i g c = scaled_Fits _ _ _ (subst (λ n. c.loop-i.i < n) c.requires c.loop-i-test.true) c.well_formed.1.1.0.1

@@ -1,8 +1,7 @@
 use Rattle.std.proofs.Common.{◌≡◌, ◌+◌, ◌-◌, ◌*◌, ◌≤◌, length, map, sym, ap, ap₂, ◌∙◌, ◌<◌, subst, refl, lt_of_le_of_lt}
 use Rattle.std.proofs.lemmas.List.{length-map}
 use Rattle.p3_field.specs.Lanes.{by_lanes}
-use Rattle.p3_matrix.proofs.RowsByPacks.{next_pack, pack_done, pack_fits, packs_left, pack_within, packs_smaller, loop_ends, none_yet, packs_done, pack_sizes, more_products}
-use borrow.Author.Rules.{scaled_Fits}
+use Rattle.p3_matrix.proofs.RowsByPacks.{next_pack, pack_done, pack_fits, pack_within, loop_ends, packs_done, pack_sizes, more_products}
 use Rattle.p3_matrix.proofs.packs.apply_to_packs.Goals as goal
 
 pub loop-at-preserved : goal.loop-at-preserved
@@ -16,30 +15,17 @@ loop-at-preserved g c =
     let k = l.at + w - l.at in
     let xs = map v c.args.row_1.now in
     let ys = map v c.args.row_2.now in
-    let fits = pack_fits l.at l.invariant.left.0 w (length c.args.row_1.now) (subst (λ n. l.at < n) l.auto.row_1 c.loop-at-test.true) l.invariant.left.1 in
     let sizes = pack_sizes l.at w (length c.args.row_1.now) (length xs) (pack_within l.at l.invariant.left.0 w _ (length c.args.row_1.now) c.loop-at-test.true l.auto.row_1 l.invariant.left.1) (length-map c.args.row_1.now v) in
     let equal : length xs ≡ length ys = length-map c.args.row_1.now v ∙ c.requires.equal ∙ sym (length-map c.args.row_2.now v) in
     let part_1 = next_pack near v l.at xs ys xs l.row_1 k sizes.0 equal l.invariant.near in
     let part_2 = next_pack far v l.at xs ys ys l.row_2 k sizes.0 equal l.invariant.far in
     record {
       width = l.invariant.width;
-      left = fits;
+      left = pack_fits l.at l.invariant.left.0 w (length c.args.row_1.now) (subst (λ n. l.at < n) l.auto.row_1 c.loop-at-test.true) l.invariant.left.1;
       near = pack_done near v l.at xs ys xs l.row_1 k (l.at + w) c.apply_to_pack.new.part_1 sizes.1.0 equal sizes.1.1 l.invariant.near (c.apply_to_pack.ensures.near ∙ ap₂ (by_lanes near) part_1 part_2);
       far = pack_done far v l.at xs ys ys l.row_2 k (l.at + w) c.apply_to_pack.new.part_2 sizes.1.0 equal sizes.1.1 l.invariant.far (c.apply_to_pack.ensures.far ∙ ap₂ (by_lanes far) part_1 part_2);
       count = more_products _ _ _ _ _ _ _ l.invariant.count c.apply_to_pack.ensures.count c.WIDTH-width.ensures;
     }
-
-pub loop-at-init : goal.loop-at-init
-loop-at-init g c = record { width = c.WIDTH-width.ensures; left = (c.requires.whole.0, packs_left _ _ _ _ c.WIDTH-width.ensures c.requires.whole.1); near = refl; far = refl; count = none_yet _ _ }
-
-pub loop-at-smaller : goal.loop-at-smaller
-loop-at-smaller g c = packs_smaller _ _ _ _ _ c.loop-at-test.true c.loop-at.auto.row_1 c.WIDTH-width.ensures c.requires.width
-
-pub offset_bounds-row_1-at : goal.offset_bounds-row_1-at
-offset_bounds-row_1-at g c = scaled_Fits _ _ _ (subst (λ n. c.loop-at.at < n) c.loop-at.auto.row_1 c.loop-at-test.true) c.well_formed.1.0.1
-
-pub offset_bounds-row_2-at : goal.offset_bounds-row_2-at
-offset_bounds-row_2-at g c = scaled_Fits _ _ _ (subst (λ n. c.loop-at.at < n) (c.loop-at.auto.row_1 ∙ c.requires.equal) c.loop-at-test.true) c.well_formed.1.1.0.1
 
 pub overflow_add-at : goal.overflow_add-at
 overflow_add-at g c = record { fits = lt_of_le_of_lt (pack_within c.loop-at.at c.loop-at.invariant.left.0 c.WIDTH-width.result _ (length c.args.row_1.now) c.loop-at-test.true c.loop-at.auto.row_1 c.loop-at.invariant.left.1) c.well_formed.1.0.0 }

@@ -1,7 +1,7 @@
 use Rattle.std.proofs.Common.{◌≡◌, ◌+◌, ◌-◌, ◌*◌, ◌≤◌, length, map, drop, take, sym, ap, ap₂, ◌∙◌, ◌<◌, subst, refl, lt_of_le_of_lt}
 use Rattle.std.proofs.lemmas.List.{length-map, take-map, drop-map}
 use Rattle.p3_field.specs.Lanes.{by_lanes}
-use Rattle.p3_matrix.proofs.RowsByPacks.{pack_done, pack_fits, packs_left, pack_within, packs_smaller, loop_ends, none_yet, packs_done, pack_sizes, more_products}
+use Rattle.p3_matrix.proofs.RowsByPacks.{pack_done, pack_fits, pack_within, loop_ends, packs_done, pack_sizes, more_products}
 use borrow.Author.Rules.{scaled_Fits}
 use Rattle.p3_matrix.proofs.packs.apply_to_packs_oop.Goals as goal
 
@@ -16,7 +16,6 @@ loop-at-preserved g c =
     let k = l.at + w - l.at in
     let xs = map v c.args.src_1.now in
     let ys = map v c.args.src_2.now in
-    let fits = pack_fits l.at l.invariant.left.0 w (length c.args.src_1.now) c.loop-at-test.true l.invariant.left.1 in
     let sizes = pack_sizes l.at w (length c.args.src_1.now) (length xs) (pack_within l.at l.invariant.left.0 w _ (length c.args.src_1.now) c.loop-at-test.true refl l.invariant.left.1) (length-map c.args.src_1.now v) in
     let equal : length xs ≡ length ys = length-map c.args.src_1.now v ∙ c.requires.sources ∙ sym (length-map c.args.src_2.now v) in
     let part_1 : map v (take k (drop l.at c.args.src_1.now)) ≡ take k (drop l.at xs) = sym (take-map v k (drop l.at c.args.src_1.now)) ∙ ap (take k) (sym (drop-map v l.at c.args.src_1.now)) in
@@ -25,19 +24,13 @@ loop-at-preserved g c =
     let loaded_2 = c.load-in-loop-at.ensures ∙ part_2 in
     record {
       width = l.invariant.width;
-      left = fits;
+      left = pack_fits l.at l.invariant.left.0 w (length c.args.src_1.now) c.loop-at-test.true l.invariant.left.1;
       near = pack_done near v l.at xs ys (map v c.args.dst_1.now) l.dst_1 k (l.at + w) c.store.new.to sizes.1.0 equal sizes.1.1 l.invariant.near
           (c.store.ensures ∙ c.apply-near.ensures.near ∙ ap₂ (by_lanes near) loaded_1 loaded_2);
       far = pack_done far v l.at xs ys (map v c.args.dst_2.now) l.dst_2 k (l.at + w) c.store-in-loop-at.new.to sizes.1.0 equal sizes.1.1 l.invariant.far
           (c.store-in-loop-at.ensures ∙ c.apply-near.ensures.far ∙ ap₂ (by_lanes far) loaded_1 loaded_2);
       count = more_products _ _ _ _ _ _ _ l.invariant.count c.apply-near.ensures.count c.WIDTH-width.ensures;
     }
-
-pub loop-at-init : goal.loop-at-init
-loop-at-init g c = record { width = c.WIDTH-width.ensures; left = (c.requires.whole.0, packs_left _ _ _ _ c.WIDTH-width.ensures c.requires.whole.1); near = refl; far = refl; count = none_yet _ _ }
-
-pub loop-at-smaller : goal.loop-at-smaller
-loop-at-smaller g c = packs_smaller _ _ _ _ _ c.loop-at-test.true refl c.WIDTH-width.ensures c.requires.width
 
 pub offset_bounds-dst_1-at : goal.offset_bounds-dst_1-at
 offset_bounds-dst_1-at g c = scaled_Fits _ _ _ (subst (λ n. c.loop-at.at < n) c.requires.first c.loop-at-test.true) c.well_formed.1.1.0.1

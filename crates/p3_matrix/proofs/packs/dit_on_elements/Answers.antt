@@ -1,11 +1,10 @@
-use Rattle.std.proofs.Common.{◌≡◌, ◌<◌, length, map, get_or, sym, ap, ap₂, ◌∙◌, arith, subst, refl, add-zero}
+use Rattle.std.proofs.Common.{◌≡◌, ◌<◌, length, map, get_or, sym, ap, ap₂, ◌∙◌, arith, subst}
 use Rattle.std.proofs.lemmas.List.{length-map, get_or-map}
 use Rattle.p3_field.specs.Lanes.{by_lanes}
 use Rattle.p3_field.specs.Ring.{minus}
 use Rattle.p3_field.proofs.LaneLoops.{get_or-by_lanes}
 use Rattle.p3_matrix.proofs.Lanes.{length-by_lanes}
-use Rattle.p3_matrix.proofs.RowsByPacks.{element_stays, element_done, elements_done}
-use borrow.Author.Rules.{scaled_Fits}
+use Rattle.p3_matrix.proofs.RowsByPacks.{element_stays, element_done, elements_done, products_long}
 use Rattle.p3_matrix.proofs.packs.dit_on_elements.Goals as goal
 
 pub loop-i-preserved : goal.loop-i-preserved
@@ -37,48 +36,17 @@ loop-i-preserved g c =
 pub returns-clause-near : goal.returns-clause-near
 returns-clause-near g c =
     let f = g.F.Field in
-    let r = f.ring in
-    let v = f.value in
-    let xs = map v c.args.row_1.now in
-    let ys = map v c.args.row_2.now in
-    let ts = map v c.args.twiddles.now in
-    let wide : length xs ≡ length c.args.row_1.now = length-map c.args.row_1.now v in
-    let tall : length ys ≡ length xs = length-map c.args.row_2.now v ∙ sym c.requires.rows ∙ sym wide in
-    let turned : length ts ≡ length ys = length-map c.args.twiddles.now v ∙ sym c.requires.twiddles ∙ sym wide ∙ sym tall in
-    elements_done v r.add xs (by_lanes r.mul ys ts) (length-by_lanes r.mul ys ts (sym turned) ∙ tall) c.args.row_1.now (sym wide) c.loop-i.row_1 c.loop-i.i
+    let xs = c.args.row_1.now in
+    let wide : length (map f.value xs) ≡ length xs = length-map xs f.value in
+    let same = products_long f.value f.ring.mul xs c.args.row_2.now c.args.twiddles.now c.requires.rows c.requires.twiddles in
+    elements_done f.value f.ring.add (map f.value xs) _ same c.args.row_1.now (sym wide) c.loop-i.row_1 c.loop-i.i
     (omega (arith, c.loop-i-test.false, c.loop-i.auto.i-end, wide)) c.loop-i.invariant.near
 
 pub returns-clause-far : goal.returns-clause-far
 returns-clause-far g c =
     let f = g.F.Field in
-    let r = f.ring in
-    let v = f.value in
-    let xs = map v c.args.row_1.now in
-    let ys = map v c.args.row_2.now in
-    let ts = map v c.args.twiddles.now in
-    let wide : length xs ≡ length c.args.row_1.now = length-map c.args.row_1.now v in
-    let tall : length ys ≡ length xs = length-map c.args.row_2.now v ∙ sym c.requires.rows ∙ sym wide in
-    let turned : length ts ≡ length ys = length-map c.args.twiddles.now v ∙ sym c.requires.twiddles ∙ sym wide ∙ sym tall in
-    elements_done v (minus r) xs (by_lanes r.mul ys ts) (length-by_lanes r.mul ys ts (sym turned) ∙ tall) c.args.row_2.now (sym c.requires.rows ∙ sym wide) c.loop-i.row_2 c.loop-i.i
+    let xs = c.args.row_1.now in
+    let wide : length (map f.value xs) ≡ length xs = length-map xs f.value in
+    let same = products_long f.value f.ring.mul xs c.args.row_2.now c.args.twiddles.now c.requires.rows c.requires.twiddles in
+    elements_done f.value (minus f.ring) (map f.value xs) _ same c.args.row_2.now (sym c.requires.rows ∙ sym wide) c.loop-i.row_2 c.loop-i.i
     (omega (arith, c.loop-i-test.false, c.loop-i.auto.i-end, wide)) c.loop-i.invariant.far
-
-pub loop-i-init : goal.loop-i-init
-loop-i-init g c = record { near = refl; far = refl; count = sym (add-zero _) }
-
-pub offset_bounds-row_1-i : goal.offset_bounds-row_1-i
-offset_bounds-row_1-i g c = scaled_Fits _ _ _ c.loop-i-test.true c.well_formed.1.0.1
-
-pub offset_bounds-row_1-i-in-loop-i : goal.offset_bounds-row_1-i-in-loop-i
-offset_bounds-row_1-i-in-loop-i g c = scaled_Fits _ _ _ c.loop-i-test.true c.well_formed.1.0.1
-
-pub offset_bounds-row_2-i : goal.offset_bounds-row_2-i
-offset_bounds-row_2-i g c = scaled_Fits _ _ _ (subst (λ n. c.loop-i.i < n) c.requires.rows c.loop-i-test.true) c.well_formed.1.1.0.1
-
-pub offset_bounds-row_2-i-in-loop-i : goal.offset_bounds-row_2-i-in-loop-i
-offset_bounds-row_2-i-in-loop-i g c = scaled_Fits _ _ _ (subst (λ n. c.loop-i.i < n) c.requires.rows c.loop-i-test.true) c.well_formed.1.1.0.1
-
-pub bounds-row_1-i-in-loop-i : goal.bounds-row_1-i-in-loop-i
-bounds-row_1-i-in-loop-i g c = subst (λ n. c.loop-i.i < n) (sym c.loop-i.auto.row_1) c.loop-i-test.true
-
-pub bounds-row_2-i-in-loop-i : goal.bounds-row_2-i-in-loop-i
-bounds-row_2-i-in-loop-i g c = subst (λ n. c.loop-i.i < n) (c.requires.rows ∙ sym c.loop-i.auto.row_2) c.loop-i-test.true

@@ -1,10 +1,9 @@
-use Rattle.std.proofs.Common.{◌≡◌, ◌+◌, ◌-◌, ◌≤◌, length, map, take, drop, refl, sym, ap, ap₂, ◌∙◌, arith, ◌<◌, subst, add-zero, lt_of_le_of_lt}
+use Rattle.std.proofs.Common.{◌≡◌, ◌+◌, ◌-◌, ◌≤◌, length, map, take, drop, refl, sym, ap, ap₂, ◌∙◌, arith, ◌<◌, subst, lt_of_le_of_lt}
 use Rattle.std.proofs.lemmas.List.{length-map, take-map, drop-map}
 use Rattle.p3_field.specs.Lanes.{by_lanes}
 use Rattle.p3_field.specs.Ring.{minus}
-use Rattle.p3_matrix.proofs.Lanes.{length-by_lanes, take-by_lanes, drop-by_lanes}
-use Rattle.p3_matrix.proofs.RowsByPacks.{next_pack, pack_done, pack_fits, rows_done_all, packs_left, pack_within, packs_smaller, pack_sizes}
-use borrow.Author.Rules.{scaled_Fits}
+use Rattle.p3_matrix.proofs.Lanes.{take-by_lanes, drop-by_lanes}
+use Rattle.p3_matrix.proofs.RowsByPacks.{next_pack, pack_done, pack_fits, products_long, rows_done_all, pack_within, pack_sizes}
 use Rattle.p3_matrix.proofs.packs.dit_on_packs.Goals as goal
 
 pub loop-at-preserved : goal.loop-at-preserved
@@ -18,11 +17,9 @@ loop-at-preserved g c =
     let ys = map v c.args.row_2.now in
     let ts = map v c.args.twiddles.now in
     let ms = by_lanes f.ring.mul ys ts in
-    let fits = pack_fits l.at l.invariant.left.0 w (length c.args.row_1.now) (subst (λ n. l.at < n) l.auto.row_1 c.loop-at-test.true) l.invariant.left.1 in
     let sizes = pack_sizes l.at w (length c.args.row_1.now) (length xs) (pack_within l.at l.invariant.left.0 w _ (length c.args.row_1.now) c.loop-at-test.true l.auto.row_1 l.invariant.left.1) (length-map c.args.row_1.now v) in
-    let equal : length xs ≡ length ys = length-map c.args.row_1.now v ∙ c.requires.equal ∙ sym (length-map c.args.row_2.now v) in
-    let turned : length ys ≡ length ts = sym equal ∙ length-map c.args.row_1.now v ∙ c.requires.twiddles ∙ sym (length-map c.args.twiddles.now v) in
-    let long : length xs ≡ length ms = equal ∙ sym (length-by_lanes f.ring.mul ys ts turned) in
+    let turned : length ys ≡ length ts = length-map c.args.row_2.now v ∙ sym c.requires.equal ∙ c.requires.twiddles ∙ sym (length-map c.args.twiddles.now v) in
+    let long : length xs ≡ length ms = sym (products_long v f.ring.mul c.args.row_1.now c.args.row_2.now c.args.twiddles.now c.requires.equal c.requires.twiddles) in
     let part_1 = next_pack f.ring.add v l.at xs ms xs l.row_1 k sizes.0 long l.invariant.near in
     let part_2 = next_pack (minus f.ring) v l.at xs ms ys l.row_2 k sizes.0 long l.invariant.far in
     let part_t : map v (take k (drop l.at c.args.twiddles.now)) ≡ take k (drop l.at ts) = sym (take-map v k (drop l.at c.args.twiddles.now)) ∙ ap (take k) (sym (drop-map v l.at c.args.twiddles.now)) in
@@ -31,7 +28,7 @@ loop-at-preserved g c =
     let multiples = ap₂ (by_lanes f.ring.mul) part_2 part_t ∙ part_m in
     record {
       width = l.invariant.width;
-      left = fits;
+      left = pack_fits l.at l.invariant.left.0 w (length c.args.row_1.now) (subst (λ n. l.at < n) l.auto.row_1 c.loop-at-test.true) l.invariant.left.1;
       near = pack_done f.ring.add v l.at xs ms xs l.row_1 k (l.at + w) c.dit_on_pack.new.part_1 sizes.1.0 long sizes.1.1 l.invariant.near (c.dit_on_pack.ensures.near ∙ ap₂ (by_lanes f.ring.add) part_1 multiples);
       far = pack_done (minus f.ring) v l.at xs ms ys l.row_2 k (l.at + w) c.dit_on_pack.new.part_2 sizes.1.0 long sizes.1.1 l.invariant.far (c.dit_on_pack.ensures.far ∙ ap₂ (by_lanes (minus f.ring)) part_1 multiples);
       count = omega (arith, l.invariant.count, c.dit_on_pack.ensures.count, c.WIDTH-width.ensures);
@@ -40,44 +37,21 @@ loop-at-preserved g c =
 pub returns-clause-near : goal.returns-clause-near
 returns-clause-near g c =
     let f = g.F.Field in
-    let v = f.value in
     let l = c.loop-at in
-    let xs = map v c.args.row_1.now in
-    let ys = map v c.args.row_2.now in
-    let ts = map v c.args.twiddles.now in
-    let wide : length xs ≡ length c.args.row_1.now = length-map c.args.row_1.now v in
-    let equal : length xs ≡ length ys = wide ∙ c.requires.equal ∙ sym (length-map c.args.row_2.now v) in
-    let turned : length ys ≡ length ts = sym equal ∙ wide ∙ c.requires.twiddles ∙ sym (length-map c.args.twiddles.now v) in
-    l.invariant.near
-    ∙ rows_done_all f.ring.add l.at xs (by_lanes f.ring.mul ys ts) xs (omega (arith, c.loop-at-test.false, l.auto.row_1, l.invariant.left.1, wide))
-    (equal ∙ sym (length-by_lanes f.ring.mul ys ts turned)) refl
+    let xs = c.args.row_1.now in
+    let wide : length (map f.value xs) ≡ length xs = length-map xs f.value in
+    let long = sym (products_long f.value f.ring.mul xs c.args.row_2.now c.args.twiddles.now c.requires.equal c.requires.twiddles) in
+    l.invariant.near ∙ rows_done_all f.ring.add l.at (map f.value xs) _ (map f.value xs) (omega (arith, c.loop-at-test.false, l.auto.row_1, l.invariant.left.1, wide)) long refl
 
 pub returns-clause-far : goal.returns-clause-far
 returns-clause-far g c =
     let f = g.F.Field in
-    let v = f.value in
     let l = c.loop-at in
-    let xs = map v c.args.row_1.now in
-    let ys = map v c.args.row_2.now in
-    let ts = map v c.args.twiddles.now in
-    let wide : length xs ≡ length c.args.row_1.now = length-map c.args.row_1.now v in
-    let equal : length xs ≡ length ys = wide ∙ c.requires.equal ∙ sym (length-map c.args.row_2.now v) in
-    let turned : length ys ≡ length ts = sym equal ∙ wide ∙ c.requires.twiddles ∙ sym (length-map c.args.twiddles.now v) in
-    l.invariant.far
-    ∙ rows_done_all (minus f.ring) l.at xs (by_lanes f.ring.mul ys ts) ys (omega (arith, c.loop-at-test.false, l.auto.row_1, l.invariant.left.1, wide))
-    (equal ∙ sym (length-by_lanes f.ring.mul ys ts turned)) equal
-
-pub loop-at-init : goal.loop-at-init
-loop-at-init g c = record { width = c.WIDTH-width.ensures; left = (c.requires.whole.0, packs_left _ _ _ _ c.WIDTH-width.ensures c.requires.whole.1); near = refl; far = refl; count = sym (add-zero _) }
-
-pub loop-at-smaller : goal.loop-at-smaller
-loop-at-smaller g c = packs_smaller _ _ _ _ _ c.loop-at-test.true c.loop-at.auto.row_1 c.WIDTH-width.ensures c.requires.width
-
-pub offset_bounds-row_1-at : goal.offset_bounds-row_1-at
-offset_bounds-row_1-at g c = scaled_Fits _ _ _ (subst (λ n. c.loop-at.at < n) c.loop-at.auto.row_1 c.loop-at-test.true) c.well_formed.1.0.1
-
-pub offset_bounds-row_2-at : goal.offset_bounds-row_2-at
-offset_bounds-row_2-at g c = scaled_Fits _ _ _ (subst (λ n. c.loop-at.at < n) (c.loop-at.auto.row_1 ∙ c.requires.equal) c.loop-at-test.true) c.well_formed.1.1.0.1
+    let xs = c.args.row_1.now in
+    let ys = c.args.row_2.now in
+    let wide : length (map f.value xs) ≡ length xs = length-map xs f.value in
+    let long = sym (products_long f.value f.ring.mul xs ys c.args.twiddles.now c.requires.equal c.requires.twiddles) in
+    l.invariant.far ∙ rows_done_all (minus f.ring) l.at (map f.value xs) _ (map f.value ys) (omega (arith, c.loop-at-test.false, l.auto.row_1, l.invariant.left.1, wide)) long (wide ∙ c.requires.equal ∙ sym (length-map ys f.value))
 
 pub overflow_add-at : goal.overflow_add-at
 overflow_add-at g c = record { fits = lt_of_le_of_lt (pack_within c.loop-at.at c.loop-at.invariant.left.0 c.WIDTH-width.result _ (length c.args.row_1.now) c.loop-at-test.true c.loop-at.auto.row_1 c.loop-at.invariant.left.1) c.well_formed.1.0.0 }

@@ -1,7 +1,7 @@
-use Rattle.std.proofs.Common.{◌≡◌, ◌+◌, ◌-◌, length, map, drop, take, refl, sym, ap, ◌∙◌, arith, add-zero}
+use Rattle.std.proofs.Common.{◌≡◌, ◌+◌, ◌-◌, length, map, drop, take, refl, sym, ap, ◌∙◌, arith}
 use Rattle.std.proofs.lemmas.List.{length-map, take-map, drop-map}
 use Rattle.p3_matrix.proofs.Lanes.{by_lanes_of_left}
-use Rattle.p3_matrix.proofs.RowsByPacks.{pack_done, pack_fits, packs_left, pack_within, packs_smaller, loop_ends, packs_done, pack_sizes}
+use Rattle.p3_matrix.proofs.RowsByPacks.{pack_done, pack_fits, pack_within, loop_ends, packs_done, pack_sizes}
 use Rattle.p3_matrix.proofs.packs.scale_packs_oop.Goals as goal
 
 pub loop-at-preserved : goal.loop-at-preserved
@@ -15,30 +15,20 @@ loop-at-preserved g c =
     let k = l.at + w - l.at in
     let from = c.args.from.now in
     let xs = map v from in
-    let fits = pack_fits l.at l.invariant.left.0 w (length from) c.loop-at-test.true l.invariant.left.1 in
     let sizes = pack_sizes l.at w (length from) (length xs) (pack_within l.at l.invariant.left.0 w _ (length from) c.loop-at-test.true refl l.invariant.left.1) (length-map from v) in
     let part : map v (take k (drop l.at from)) ≡ take k (drop l.at xs) = sym (take-map v k (drop l.at from)) ∙ ap (take k) (sym (drop-map v l.at from)) in
     record {
       width = l.invariant.width;
-      left = fits;
+      left = pack_fits l.at l.invariant.left.0 w (length from) c.loop-at-test.true l.invariant.left.1;
       done = pack_done op v l.at xs xs (map v c.args.to.now) l.to k (l.at + w) c.store.new.to sizes.1.0 refl sizes.1.1 l.invariant.done
           (c.store.ensures ∙ c.scaled-multiples.ensures.lanes ∙ ap (map times) (c.load.ensures ∙ part) ∙ sym (by_lanes_of_left times (take k (drop l.at xs)) (take k (drop l.at xs)) refl));
       count = omega (arith, l.invariant.count, c.scaled-multiples.ensures.count, c.WIDTH-width.ensures);
     }
 
-pub returns : goal.returns
-returns g c =
+pub returns-clause-values : goal.returns-clause-values
+returns-clause-values g c =
     let f = g.F.Field in
     let times = λ (x : f.Element). f.ring.mul x (f.value c.args.t) in
     let from = c.args.from.now in
     let end = loop_ends _ _ _ _ c.loop-at-test.false refl c.loop-at.invariant.left.1 in
-    record {
-      values = c.loop-at.invariant.done ∙ packs_done f.value (λ x y. times x) c.loop-at.at from from c.args.to.now end refl c.requires.equal ∙ by_lanes_of_left times (map f.value from) (map f.value from) refl;
-      count = c.loop-at.invariant.count ∙ ap (λ n. c.args.products.now + n) end;
-    }
-
-pub loop-at-init : goal.loop-at-init
-loop-at-init g c = record { width = c.WIDTH-width.ensures; left = (c.requires.whole.0, packs_left _ _ _ _ c.WIDTH-width.ensures c.requires.whole.1); done = refl; count = sym (add-zero _) }
-
-pub loop-at-smaller : goal.loop-at-smaller
-loop-at-smaller g c = packs_smaller _ _ _ _ _ c.loop-at-test.true refl c.WIDTH-width.ensures c.requires.width
+    c.loop-at.invariant.done ∙ packs_done f.value (λ x y. times x) c.loop-at.at from from c.args.to.now end refl c.requires.equal ∙ by_lanes_of_left times (map f.value from) (map f.value from) refl

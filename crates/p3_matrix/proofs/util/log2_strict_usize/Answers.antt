@@ -1,10 +1,6 @@
 use Rattle.std.proofs.Common.{◌≡◌, ◌^◌, sym, ap, ◌∙◌, arith}
-use Rattle.std.proofs.lemmas.Nat.{pow_pos}
 use Rattle.p3_matrix.proofs.TwoPowers.{log_unique}
 use Rattle.p3_matrix.proofs.util.log2_strict_usize.Goals as goal
-
-pub ilog2-requires : goal.ilog2-requires
-ilog2-requires c = let (k, is) = c.requires in omega (arith, is, pow_pos k)
 
 pub returns-clause-power : goal.returns-clause-power
 returns-clause-power c =

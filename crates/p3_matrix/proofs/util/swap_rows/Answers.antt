@@ -1,7 +1,7 @@
-use Rattle.std.proofs.Common.{length, ap, ◌∙◌, ◌/◌, refl, rules, Fits-le, le-add_right, le_trans}
+use Rattle.std.proofs.Common.{length, ap, ◌∙◌, ◌/◌, refl}
 use Rattle.p3_matrix.proofs.RowExchanges.{swapped_column, exchanged_rows}
 use Rattle.p3_matrix.proofs.Tiles.{chunks_apart}
-use Rattle.p3_matrix.proofs.RowMajor.{written_size, row_within}
+use Rattle.p3_matrix.proofs.RowMajor.{written_size}
 use Rattle.p3_matrix.proofs.util.swap_rows.Goals as goal
 
 pub exchange-requires-clause-apart : goal.exchange-requires-clause-apart
@@ -20,13 +20,3 @@ returns-then-i-j-clause-shape g c = (ap (λ n. n / c.args.view.now.matrix.now.wi
 
 pub returns-then-i-j-clause-size : goal.returns-then-i-j-clause-size
 returns-then-i-j-clause-size g c = written_size c.args.view.now.matrix.now.values c.exchange.new.values (c.exchange.auto.values ∙ ap length c.values_mut.ensures.values)
-
-pub overflow_mul-i : goal.overflow_mul-i
-overflow_mul-i g c =
-    let m = c.args.view.now.matrix.now in
-    rw c.width-width.ensures.width (Fits-le (le_trans (le-add_right _ _) (row_within c.args.i _ m.width (length m.values) c.requires.i_in_bounds c.width-width.ensures.whole.full)) (search rules))
-
-pub overflow_mul-j : goal.overflow_mul-j
-overflow_mul-j g c =
-    let m = c.args.view.now.matrix.now in
-    rw c.width-width.ensures.width (Fits-le (le_trans (le-add_right _ _) (row_within c.args.j _ m.width (length m.values) c.requires.j_in_bounds c.width-width.ensures.whole.full)) (search rules))

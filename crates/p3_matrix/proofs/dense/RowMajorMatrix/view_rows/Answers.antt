@@ -1,4 +1,4 @@
-use Rattle.std.proofs.Common.{arith, rules, length, Fits-le, le-add_left, le-add_right, le_trans}
+use Rattle.std.proofs.Common.{arith, rules, length, Fits-le}
 use Rattle.p3_matrix.proofs.RowMajor.{rows_within, whole_part}
 use Rattle.p3_matrix.proofs.dense.RowMajorMatrix.view_rows.Goals as goal
 
@@ -17,13 +17,3 @@ pub overflow_add-first : goal.overflow_add-first
 overflow_add-first g c =
     let asks = rw (← c.self.view_is) at c.requires in
     Fits-le (rows_within c.args.start c.args.count _ c.self.inside.width (length c.self.inside.values.items) asks c.self.invariant.full) (search rules)
-
-pub overflow_mul-first : goal.overflow_mul-first
-overflow_mul-first g c =
-    let asks = rw (← c.self.view_is) at c.requires in
-    Fits-le (le_trans (le-add_right _ _) (rows_within c.args.start c.args.count _ c.self.inside.width (length c.self.inside.values.items) asks c.self.invariant.full)) (search rules)
-
-pub overflow_mul-count : goal.overflow_mul-count
-overflow_mul-count g c =
-    let asks = rw (← c.self.view_is) at c.requires in
-    Fits-le (le_trans (le-add_left _ _) (rows_within c.args.start c.args.count _ c.self.inside.width (length c.self.inside.values.items) asks c.self.invariant.full)) (search rules)
