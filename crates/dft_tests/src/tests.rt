@@ -504,10 +504,14 @@ fn leaves(rt: &impl Abort, alloc: Global, words: &[&[u8]], text: &[u8]) {
 // The program's own name is not read, and what is no UTF-8 is told the fault of its place.
 #[test]
 fn invalid_utf8_is_a_fault_of_its_place(rt: HostRuntime) {
-    let rows: [(&[&[u8]], &str); 5] = [
+    let rows: [(&[&[u8]], &str); 6] = [
         (&[b"\xff", b"babybear", b"naive", b"dft", b"1", b"7"], "7\n"),
         (&[b"dft", b"baby\xffbear"], "error 1: unknown field\n"),
         (&[b"dft", b"babybear", b"\xff"], "error 2: unknown engine\n"),
+        (
+            &[b"dft", b"babybear", b"\xe2\x82"],
+            "error 2: unknown engine\n",
+        ),
         (
             &[b"dft", b"babybear", b"naive", b"dft\xff"],
             "error 3: unknown operation\n",

@@ -4,7 +4,7 @@
 //! Proved: what each answers; that a call succeeds where the engine promised it, that what it prepared is promised from
 //! then on, and that a new engine has made as many products as its own bound says, at most.
 
-ghost use Rattle.std.specs.Prelude.{◌≡◌, ℕ, ◌^◌, ◌≤◌, ◌+◌, IfOk, IsOk, vec_len};
+ghost use Rattle.std.specs.Prelude.{◌≡◌, ◌<◌, ℕ, ◌^◌, ◌≤◌, ◌+◌, IfOk, IfSome, IsOk, vec_len};
 ghost use Rattle.p3_field.specs.Ring.{IsInvertible};
 ghost use Rattle.p3_matrix.specs.BitOrder.{reversed_rows};
 ghost use Rattle.p3_matrix.specs.RowMajor.{height};
@@ -14,8 +14,8 @@ ghost use Rattle.p3_dft.specs.Shapes.{FitsDft, FitsLde};
 ghost use Rattle.p3_dft.specs.Transforms.{IsInterpolation, IsTransform};
 
 use p3_dft::{
-    BitReversedMatrixView, DftError, Radix2Dit, Radix2DitParallel, RowMajorMatrix, TwoAdicField,
-    TwoAdicSubgroupDft,
+    BitReversedMatrixView, DftError, Radix2DFTSmallBatch, Radix2Dit, Radix2DitParallel,
+    RowMajorMatrix, TwoAdicField, TwoAdicSubgroupDft,
 };
 
 /// A transform of a prepared height.
@@ -85,6 +85,87 @@ pub fn invert_prepared_on_coset<F: TwoAdicField>(
     engine.coset_idft_batch(mat, shift)
 }
 
+/// A transform on a coset.
+pub fn transform_prepared_on_coset<F: TwoAdicField>(
+    engine: &mut Radix2Dit<F>,
+    mat: RowMajorMatrix<F>,
+    log_h: usize,
+    shift: F,
+) -> Result<RowMajorMatrix<F>, DftError>
+    requires fits { FitsDft F.TWO_ADICITY (height mat) mat.width }
+    requires height { height mat ≡ 2 ^ log_h }
+    requires prepared { IsPrepared engine.old log_h }
+    ensures values { IfOk result (λ out. IsTransform F.Field.own F.generator mat (F.value shift) out) }
+    ensures ok { IsOk result }
+    ensures still { IsPrepared engine.new log_h }
+{
+    engine.coset_dft_batch(mat, shift)
+}
+
+/// A transform, if its height is prepared.
+pub fn transform_if_prepared<F: TwoAdicField>(
+    engine: &mut Radix2Dit<F>,
+    mat: RowMajorMatrix<F>,
+    log_h: usize,
+) -> Option<Result<RowMajorMatrix<F>, DftError>>
+    requires fits { FitsDft F.TWO_ADICITY (height mat) mat.width }
+    requires height { height mat ≡ 2 ^ log_h }
+    ensures ok { IfSome result IsOk }
+{
+    if !engine.is_prepared(log_h) {
+        return None;
+    }
+    Some(transform_prepared(engine, mat, log_h))
+}
+
+/// `prepare`, and then a transform: `prepare` alone may be out of memory.
+pub fn prepare_and_transform<F: TwoAdicField>(
+    engine: &mut Radix2Dit<F>,
+    mat: RowMajorMatrix<F>,
+    log_h: usize,
+) -> Result<Result<RowMajorMatrix<F>, DftError>, DftError>
+    requires fits { FitsDft F.TWO_ADICITY (height mat) mat.width }
+    requires height { height mat ≡ 2 ^ log_h }
+    requires within { log_h ≤ F.TWO_ADICITY }
+    requires size { 2 ^ log_h < 2 ^ 64 }
+    ensures ok { IfOk result IsOk }
+{
+    engine.prepare(*mat.allocator(), log_h)?;
+    Ok(transform_promised(engine, mat, log_h))
+}
+
+/// `prepare`, and then a transform by halves: `prepare` alone may be out of memory.
+pub fn prepare_and_transform_by_halves<F: TwoAdicField>(
+    engine: &mut Radix2DitParallel<F>,
+    mat: RowMajorMatrix<F>,
+    log_h: usize,
+) -> Result<Result<BitReversedMatrixView<RowMajorMatrix<F>>, DftError>, DftError>
+    requires fits { FitsDft F.TWO_ADICITY (height mat) mat.width }
+    requires height { height mat ≡ 2 ^ log_h }
+    requires within { log_h ≤ F.TWO_ADICITY }
+    requires size { 2 ^ log_h < 2 ^ 64 }
+    ensures ok { IfOk result IsOk }
+{
+    engine.prepare(*mat.allocator(), log_h)?;
+    Ok(transform_promised(engine, mat, log_h))
+}
+
+/// `prepare`, and then a transform by tiles: `prepare` alone may be out of memory.
+pub fn prepare_and_transform_by_tiles<F: TwoAdicField>(
+    engine: &mut Radix2DFTSmallBatch<F>,
+    mat: RowMajorMatrix<F>,
+    log_h: usize,
+) -> Result<Result<RowMajorMatrix<F>, DftError>, DftError>
+    requires fits { FitsDft F.TWO_ADICITY (height mat) mat.width }
+    requires height { height mat ≡ 2 ^ log_h }
+    requires within { log_h ≤ F.TWO_ADICITY }
+    requires size { 2 ^ log_h < 2 ^ 64 }
+    ensures ok { IfOk result IsOk }
+{
+    engine.prepare(*mat.allocator(), log_h)?;
+    Ok(transform_promised(engine, mat, log_h))
+}
+
 /// The transform of one column.
 pub fn column_there<F: TwoAdicField>(
     engine: &mut Radix2Dit<F>,
@@ -98,6 +179,38 @@ pub fn column_there<F: TwoAdicField>(
     ensures ok { IsOk result }
 {
     engine.dft(column)
+}
+
+/// The transform of one column on a coset.
+pub fn column_on_coset<F: TwoAdicField>(
+    engine: &mut Radix2Dit<F>,
+    column: Vec<F>,
+    log_h: usize,
+    shift: F,
+) -> Result<Vec<F>, DftError>
+    requires fits { FitsDft F.TWO_ADICITY (vec_len column) 1 }
+    requires height { vec_len column ≡ 2 ^ log_h }
+    requires prepared { IsPrepared engine.old log_h }
+    ensures values { IfOk result (λ out. IsTransform F.Field.own F.generator (col column) (F.value shift) (col out)) }
+    ensures ok { IsOk result }
+{
+    engine.coset_dft(column, shift)
+}
+
+/// The inverse of one column.
+pub fn column_back<F: TwoAdicField>(
+    engine: &mut Radix2Dit<F>,
+    column: Vec<F>,
+    log_h: usize,
+) -> Result<Vec<F>, DftError>
+    requires fits { FitsDft F.TWO_ADICITY (vec_len column) 1 }
+    requires height { vec_len column ≡ 2 ^ log_h }
+    requires prepared { IsPrepared engine.old log_h }
+    ensures coefficients { IfOk result (λ out. IsInterpolation F.Field.own F.generator (col column)
+        F.ring.one (col out)) }
+    ensures ok { IsOk result }
+{
+    engine.idft(column)
 }
 
 /// The inverse of one column on a coset.

@@ -38,7 +38,7 @@ enum FieldName {
 enum Topic<'a> {
     FormsInDimensionOne,
     WorkedAnswers(&'a [answers::Worked]),
-    Layouts,
+    Layouts(&'a answers::ValuesOfACubic),
     Constants,
     Published(&'a [blocks::Worked]),
     NothingLent,
@@ -67,7 +67,7 @@ impl<'a> Topic<'a> {
         match self {
             Topic::FormsInDimensionOne => algebra::forms_over::<F>(rt, alloc),
             Topic::WorkedAnswers(cases) => answers::answers_over::<F>(rt, alloc, cases),
-            Topic::Layouts => answers::layouts_over::<F>(rt, alloc),
+            Topic::Layouts(values) => answers::layouts_over::<F>(rt, alloc, values),
             Topic::Constants => answers::constants_over::<F>(rt, alloc),
             Topic::Published(cases) => blocks::published::<F>(rt, alloc, cases),
             Topic::NothingLent => blocks::nothing_lent::<F>(rt, alloc),

@@ -13,18 +13,19 @@ use std::alloc::Global;
 use std::process::Abort;
 
 // Heights, widths and added bits.
-const SHAPES: [(usize, usize, usize); 3] = [(1, 1, 1), (4, 3, 0), (8, 1, 2)];
+const SHAPES: [(usize, usize, usize); 4] = [(1, 1, 1), (4, 3, 0), (8, 1, 2), (16, 5, 3)];
 
 fn input<F: TwoAdicField>(
     rt: &impl Abort,
     mat: &RowMajorMatrix<F>,
     added_bits: usize,
+    shift: F,
     change: Change,
 ) -> Input<F> {
     Input {
         mat: mat.try_clone().expect(rt, "memory"),
         added_bits,
-        shift: F::GENERATOR,
+        shift,
         change,
     }
 }
@@ -44,12 +45,13 @@ fn assert_agreed<F: TwoAdicField>(
     call: Call,
     mat: &RowMajorMatrix<F>,
     added_bits: usize,
+    shift: F,
     change: Change,
 ) {
     let mut own = NaturalToReversed::default();
-    let answer = answer_to(&mut own, call, input(rt, mat, added_bits, change));
+    let answer = answer_to(&mut own, call, input(rt, mat, added_bits, shift, change));
     let mut bowers = Radix2Bowers::default();
-    let expected = answer_to(&mut bowers, call, input(rt, mat, added_bits, change));
+    let expected = answer_to(&mut bowers, call, input(rt, mat, added_bits, shift, change));
     assert!(rt;
         are_same(&answer, &expected),
         "{} {}: wrong at {} rows of {}, {added_bits} added bits",
@@ -76,10 +78,12 @@ pub(crate) fn answers_agree<F: CanonicalField>(rt: &impl Abort, alloc: Global) {
         // A codeword.
         let zeros = zeros_like(rt, &mat);
         for call in CALLS {
-            for change in [Change::Nothing, Change::Weighted, Change::Reversed] {
-                assert_agreed(rt, call, &mat, added_bits, change);
+            for shift in [F::ZERO, F::ONE, F::GENERATOR] {
+                for change in [Change::Nothing, Change::Weighted, Change::Reversed] {
+                    assert_agreed(rt, call, &mat, added_bits, shift, change);
+                }
+                assert_agreed(rt, call, &zeros, added_bits, shift, Change::Nothing);
             }
-            assert_agreed(rt, call, &zeros, added_bits, Change::Nothing);
         }
     }
 }
@@ -87,4 +91,5 @@ pub(crate) fn answers_agree<F: CanonicalField>(rt: &impl Abort, alloc: Global) {
 #[test]
 fn an_engine_of_ones_own_answers_as_another(rt: HostRuntime) {
     over(&rt, rt.alloc(), FieldName::BabyBear, Topic::OwnEngine);
+    over(&rt, rt.alloc(), FieldName::Goldilocks, Topic::OwnEngine);
 }

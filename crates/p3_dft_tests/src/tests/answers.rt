@@ -24,7 +24,34 @@ pub(crate) struct Worked {
 }
 
 // The polynomials are 1 + 2 x + 3 x^2 + 4 x^3 and 5 + 4 x, and others.
-const OVER_BABY_BEAR: [Worked; 37] = [
+const OVER_BABY_BEAR: [Worked; 40] = [
+    Worked {
+        call: Call::Batch(Operation::Dft),
+        change: Change::Nothing,
+        width: 1,
+        rows: &[9, 1],
+        added_bits: 0,
+        shift: 1,
+        answer: &[10, 8],
+    },
+    Worked {
+        call: Call::Batch(Operation::CosetDft),
+        change: Change::Nothing,
+        width: 1,
+        rows: &[9, 1],
+        added_bits: 0,
+        shift: 2,
+        answer: &[11, 7],
+    },
+    Worked {
+        call: Call::Batch(Operation::Lde),
+        change: Change::Nothing,
+        width: 1,
+        rows: &[5, 4],
+        added_bits: 1,
+        shift: 1,
+        answer: &[5, 864202261, 4, 1149063669],
+    },
     Worked {
         call: Call::Vector(Operation::Dft),
         change: Change::Nothing,
@@ -771,25 +798,33 @@ fn calls_answer_worked_numbers_over_goldilocks(rt: HostRuntime) {
     );
 }
 
-// Of 1 + 2 x + 3 x^2 + 4 x^3 the coefficient in row 1 stays: 2 x, or 3 x^2 where the rows are in bit reversed
-// order.
+// The values of 1 + 2 x + 3 x^2 + 4 x^3, of 2 x and of 3 x^2.
+#[derive(Drop)]
+pub(crate) struct ValuesOfACubic {
+    whole: [u64; 4],
+    linear: [u64; 4],
+    square: [u64; 4],
+}
+
+// Of the cubic the coefficient in row 1 stays: 2 x, or 3 x^2 where the rows are in bit reversed order.
 fn coefficient_alone<F: CanonicalField>(
     rt: &impl Abort,
     alloc: Global,
     engine: &mut TestEngine<F>,
+    values: &ValuesOfACubic,
 ) {
     let rows = Input {
-        mat: matrix(rt, alloc, &[10, 569722814, 2013265919, 1443543103], 1),
+        mat: matrix(rt, alloc, &values.whole, 1),
         added_bits: 0,
         shift: F::ONE,
         change: Change::EntryOneAlone,
     };
     let answer = match engine.layout() {
-        Layout::Natural => [2, 1443543105, 2013265919, 569722816],
-        Layout::BitReversed => [3, 2013265918, 3, 2013265918],
+        Layout::Natural => &values.linear,
+        Layout::BitReversed => &values.square,
     };
     let found = rows_of(rt, engine, Call::WithTransform, rows);
-    assert_rows(rt, &found, &answer, 1);
+    assert_rows(rt, &found, answer, 1);
 }
 
 // Which engines hand over coefficients in natural order.
@@ -802,7 +837,11 @@ fn has_layout(name: Name) -> Layout {
     }
 }
 
-pub(crate) fn layouts_over<F: CanonicalField>(rt: &impl Abort, alloc: Global) {
+pub(crate) fn layouts_over<F: CanonicalField>(
+    rt: &impl Abort,
+    alloc: Global,
+    values: &ValuesOfACubic,
+) {
     for name in EVERY_ENGINE {
         let mut engine: TestEngine<F> = TestEngine::new(name);
         assert!(rt;
@@ -810,13 +849,44 @@ pub(crate) fn layouts_over<F: CanonicalField>(rt: &impl Abort, alloc: Global) {
             "layout of {}",
             name.word()
         );
-        coefficient_alone(rt, alloc, &mut engine);
+        coefficient_alone(rt, alloc, &mut engine, values);
     }
 }
 
 #[test]
 fn each_engine_hands_over_coefficients_in_its_order(rt: HostRuntime) {
-    over(&rt, rt.alloc(), FieldName::BabyBear, Topic::Layouts);
+    let values = ValuesOfACubic {
+        whole: [10, 569722814, 2013265919, 1443543103],
+        linear: [2, 1443543105, 2013265919, 569722816],
+        square: [3, 2013265918, 3, 2013265918],
+    };
+    over(
+        &rt,
+        rt.alloc(),
+        FieldName::BabyBear,
+        Topic::Layouts(&values),
+    );
+    let values = ValuesOfACubic {
+        whole: [
+            10,
+            18446181119461163007,
+            18446744069414584319,
+            562949953421310,
+        ],
+        linear: [
+            2,
+            562949953421312,
+            18446744069414584319,
+            18446181119461163009,
+        ],
+        square: [3, 18446744069414584318, 3, 18446744069414584318],
+    };
+    over(
+        &rt,
+        rt.alloc(),
+        FieldName::Goldilocks,
+        Topic::Layouts(&values),
+    );
 }
 
 // A constant has one coefficient, and that of zeros is zero, at one height.

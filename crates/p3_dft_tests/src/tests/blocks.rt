@@ -144,14 +144,32 @@ const OVER_BABY_BEAR: [Worked; 3] = [
     },
 ];
 
-const OVER_GOLDILOCKS: [Worked; 1] = [Worked {
-    width: 1,
-    rows: &[9, 1],
-    added_bits: 1,
-    shift: 1,
-    block: 1,
-    physical: &[9, 1, 1125899906842629, 18445618169507741702],
-}];
+const OVER_GOLDILOCKS: [Worked; 3] = [
+    Worked {
+        width: 1,
+        rows: &[9, 1],
+        added_bits: 1,
+        shift: 1,
+        block: 1,
+        physical: &[9, 1, 1125899906842629, 18445618169507741702],
+    },
+    Worked {
+        width: 1,
+        rows: &[9, 1],
+        added_bits: 1,
+        shift: 0,
+        block: 1,
+        physical: &[5, 5, 5, 5],
+    },
+    Worked {
+        width: 2,
+        rows: &[42, 7],
+        added_bits: 2,
+        shift: 31,
+        block: 1,
+        physical: &[42, 7, 42, 7, 42, 7, 42, 7],
+    },
+];
 
 // How many rows a block has: one engine has blocks of some rows, the others one block.
 fn block_height(name: Name, block: usize, height: usize) -> usize {

@@ -111,6 +111,7 @@ pub(crate) fn columns_over<F: TwoAdicField>(rt: &impl Abort, alloc: Global) {
 #[test]
 fn each_column_is_worked_alone(rt: HostRuntime) {
     over(&rt, rt.alloc(), FieldName::BabyBear, Topic::Columns);
+    over(&rt, rt.alloc(), FieldName::Goldilocks, Topic::Columns);
 }
 
 // The shifts of the cosets on which engines are compared.

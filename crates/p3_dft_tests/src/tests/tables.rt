@@ -68,8 +68,9 @@ fn calls_prepare<F: CanonicalField>(rt: &impl Abort, alloc: Global, name: Engine
     let mut engine = TestEngine::of(name, engine);
     for (operation, log_h, height) in [
         (Operation::Dft, 2usize, 4usize),
-        (Operation::Idft, 4, 16),
-        (Operation::CosetIdft, 5, 32),
+        (Operation::Dft, 4, 16),
+        (Operation::Idft, 5, 32),
+        (Operation::CosetIdft, 6, 64),
     ] {
         let zeros = column(rt, alloc, height, 0, 0);
         let rows = input(rt, &zeros, 0, F::GENERATOR);
@@ -80,7 +81,7 @@ fn calls_prepare<F: CanonicalField>(rt: &impl Abort, alloc: Global, name: Engine
             name.word()
         );
     }
-    assert!(rt; !is_prepared(&engine, 6), "{}", name.word());
+    assert!(rt; !is_prepared(&engine, 7), "{}", name.word());
 }
 
 pub(crate) fn tables_over<F: CanonicalField>(rt: &impl Abort, alloc: Global) {
