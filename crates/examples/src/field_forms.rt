@@ -1,6 +1,5 @@
-//! What stands in a prover's code beside the transforms, over any field and over named ones: operators
-//! that change an element in its place, squares, sums and products of iterators, powers, and printed
-//! elements.
+//! What stands in a prover's code beside the transforms, over any field that has it (`FieldOps`) and over named ones:
+//! operators that change an element in its place, squares, sums and products of iterators, powers, and printed elements.
 //!
 //! Proved, with no proof file: that each can be called, and of those with a clause what they answer. Tests show
 //! the numbers and texts of the others.
@@ -8,7 +7,7 @@
 ghost use Rattle.std.specs.Prelude.{◌≡◌, ◌↔◌, ◌<◌, ◌≤◌, ℕ, IfOk, IfSome, IsNone, Ok, map, get_or, vec_len};
 ghost use Rattle.p3_field.specs.Ring.{count, minus, power, product_of, sum_of};
 
-use p3_dft::{BabyBear, CanonicalField, Field, FieldOps, Goldilocks, Refused};
+use p3_dft::{BabyBear, CanonicalField, Field, FieldOps, Goldilocks, Refused, TwoAdicField};
 use std::alloc::{AllocError, Global};
 
 /// The square of a difference.
@@ -45,7 +44,7 @@ pub fn cloned(x: BabyBear) -> Result<BabyBear, AllocError>
 }
 
 /// The sum of a slice.
-pub fn total<F: FieldOps>(elements: &[F]) -> F
+pub fn total<F: TwoAdicField + FieldOps>(elements: &[F]) -> F
     ensures { F.value result ≡ sum_of F.ring (map F.value elements.now) }
 {
     elements.iter().copied().sum()

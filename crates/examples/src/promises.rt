@@ -4,7 +4,7 @@
 //! Proved: what each answers; that a call succeeds where the engine promised it, that what it prepared is promised from
 //! then on, and that a new engine has made as many products as its own bound says, at most.
 
-ghost use Rattle.std.specs.Prelude.{◌≡◌, ◌<◌, ℕ, ◌^◌, ◌≤◌, ◌+◌, IfOk, IfSome, IsOk, vec_len};
+ghost use Rattle.std.specs.Prelude.{◌≡◌, ◌<◌, ℕ, ◌^◌, ◌≤◌, ◌+◌, IfOk, IfSome, IsNone, IsOk, vec_len};
 ghost use Rattle.p3_field.specs.Ring.{IsInvertible};
 ghost use Rattle.p3_matrix.specs.BitOrder.{reversed_rows};
 ghost use Rattle.p3_matrix.specs.RowMajor.{height};
@@ -110,7 +110,10 @@ pub fn transform_if_prepared<F: TwoAdicField>(
 ) -> Option<Result<RowMajorMatrix<F>, DftError>>
     requires fits { FitsDft F.TWO_ADICITY (height mat) mat.width }
     requires height { height mat ≡ 2 ^ log_h }
+    ensures values { IfSome result (λ answer. IfOk answer
+        (λ out. IsTransform F.Field.own F.generator mat F.ring.one out)) }
     ensures ok { IfSome result IsOk }
+    ensures none { IsNone result → ¬ (IsPrepared engine.old log_h) }
 {
     if !engine.is_prepared(log_h) {
         return None;
@@ -128,6 +131,8 @@ pub fn prepare_and_transform<F: TwoAdicField>(
     requires height { height mat ≡ 2 ^ log_h }
     requires within { log_h ≤ F.TWO_ADICITY }
     requires size { 2 ^ log_h < 2 ^ 64 }
+    ensures values { IfOk result (λ answer. IfOk answer
+        (λ out. IsTransform F.Field.own F.generator mat F.ring.one out)) }
     ensures ok { IfOk result IsOk }
 {
     engine.prepare(*mat.allocator(), log_h)?;
@@ -144,6 +149,8 @@ pub fn prepare_and_transform_by_halves<F: TwoAdicField>(
     requires height { height mat ≡ 2 ^ log_h }
     requires within { log_h ≤ F.TWO_ADICITY }
     requires size { 2 ^ log_h < 2 ^ 64 }
+    ensures values { IfOk result (λ answer. IfOk answer
+        (λ out. IsTransform F.Field.own F.generator mat F.ring.one (reversed_rows out.bits out.physical))) }
     ensures ok { IfOk result IsOk }
 {
     engine.prepare(*mat.allocator(), log_h)?;
@@ -160,6 +167,8 @@ pub fn prepare_and_transform_by_tiles<F: TwoAdicField>(
     requires height { height mat ≡ 2 ^ log_h }
     requires within { log_h ≤ F.TWO_ADICITY }
     requires size { 2 ^ log_h < 2 ^ 64 }
+    ensures values { IfOk result (λ answer. IfOk answer
+        (λ out. IsTransform F.Field.own F.generator mat F.ring.one out)) }
     ensures ok { IfOk result IsOk }
 {
     engine.prepare(*mat.allocator(), log_h)?;

@@ -2,8 +2,8 @@
 //!
 //! Proved: they are a commutative ring with one in which halving is exact, and an element has an inverse exactly where
 //! its norm `a * a - w * b * b` has one, and then that inverse is found. So whatever the ring and w are they meet
-//! every law of `Field`, and those of `TwoAdicField` with the generators of the ring below: every engine runs over
-//! them. A step over a step makes degree four.
+//! every law of `Field`, those of `FieldOps` where the ring has it, and those of `TwoAdicField` with the generators of
+//! the ring below: every engine runs over them. A step over a step makes degree four.
 
 ghost use Rattle.std.specs.Prelude.{◌≡◌, ◌↔◌, [], ◌∷◌, map};
 ghost use Rattle.std.proofs.Common.{◌∙◌, lit<, lit≤, refl, sym};
@@ -196,13 +196,13 @@ impl<R: Field, W: Square<R>> Product<Quadratic<R, W>> for Quadratic<R, W> {
     }
 }
 
-impl<R: Field + fmt::Display, W> fmt::Display for Quadratic<R, W> {
+impl<R: fmt::Display, W> fmt::Display for Quadratic<R, W> {
     fn fmt<O: fmt::Write>(&self, f: &mut fmt::Formatter<O>) -> fmt::Result {
         write!(f, "({} + {} x)", self.constant, self.linear)
     }
 }
 
-impl<R: Field + fmt::Debug, W> fmt::Debug for Quadratic<R, W> {
+impl<R: fmt::Debug, W> fmt::Debug for Quadratic<R, W> {
     fn fmt<O: fmt::Write>(&self, f: &mut fmt::Formatter<O>) -> fmt::Result {
         write!(f, "({:?} + {:?} x)", self.constant, self.linear)
     }

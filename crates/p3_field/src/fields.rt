@@ -12,7 +12,7 @@ use std::ops::{Add, AddAssign, Mul, MulAssign, Neg, Sub, SubAssign};
 ///
 /// Contracts speak of the value of an element. Two elements may have one value; `==` depends on
 /// values alone. Nothing here says that every element but zero has an inverse: the transforms need no
-/// more than the laws at the end.
+/// more than the laws at the end. `FieldOps` adds `+=`, `-=`, `*=`, sums and products of iterators, and texts.
 pub trait Field: Copy
     + Eq
     + Add<Self, Output = Self>
@@ -230,8 +230,8 @@ pub trait Field: Copy
 }
 
 /// A field with the rest of what generic code may write: the operators that change an element in its place, sums and
-/// products of iterators, and texts. Each field of this crate has them. The transforms need none, and the proof of every
-/// function over a field pays for each bound of `Field`, so they stand apart.
+/// products of iterators, and texts. Each field of this crate has them. The transforms need none, and the proof of
+/// every function over a field pays for each bound of `Field`, so they stand apart.
 pub trait FieldOps: Field
     + AddAssign<Self>
     + SubAssign<Self>

@@ -76,7 +76,7 @@ three_in_parts v op op' xs ys ts us us' vs vs' ws ws' ps qs e f h l m p q =
     (sym (by_lanes-append op' (map v vs) (map v ws) (map v vs') (map v ws') inner)
     ∙ ap₂ (by_lanes op') (sym (ap (map v) f ∙ map-append v vs vs')) (sym (ap (map v) h ∙ map-append v ws ws')))
 
--- products by lanes of two rows are as long as a third of their length
+-- products by lanes of two rows are as long as any row of their length
 pub products_long : {F E : Type 0} (v : F → E) (op : E → E → E) (xs ys ts : List F) → length xs ≡ length ys → length xs ≡ length ts → length (by_lanes op (map v ys) (map v ts)) ≡ length (map v xs)
 products_long v op xs ys ts e f =
     let tall : length (map v ys) ≡ length xs = length-map ys v ∙ sym e in

@@ -356,14 +356,16 @@ fn each_coordinate_is_transformed_alone(rt: HostRuntime) {
 
 // After all forms at height two that height is prepared as before.
 fn stay_prepared<F: TwoAdicField, V: BasedVectorSpace<F> + Copy>(rt: &impl Abort, alloc: Global) {
-    let x = sample(rt, alloc, 2, 3, 3);
+    let column = sample(rt, alloc, 2, 1, 3);
+    let rows = sample(rt, alloc, 2, 3, 3);
     for name in WITH_TABLES {
         let mut engine: Engine<F> = Engine::new(name);
         let made = engine.prepare(alloc, 1);
         assert!(rt; matches!(&made, Some(Ok(()))));
         let mut engine = TestEngine::of(name, engine);
-        forms_agree(rt, &mut engine, &x, F::GENERATOR);
-        forms_agree(rt, &mut engine, &x, F::ZERO);
+        forms_agree(rt, &mut engine, &column, F::GENERATOR);
+        forms_agree(rt, &mut engine, &rows, F::GENERATOR);
+        forms_agree(rt, &mut engine, &rows, F::ZERO);
         coordinates_agree::<F, V>(rt, alloc, &mut engine);
         assert!(rt; is_prepared(&engine, 1), "{}", name.word());
     }

@@ -1,7 +1,7 @@
 // A field whose products are counted in a shared cell: that is how a test counts the products of an
 // engine without asking the engine.
 
-ghost use Rattle.std.specs.Prelude.{◌≡◌, ◌≤◌};
+ghost use Rattle.std.specs.Prelude.{◌≤◌};
 
 use p3_dft::{CanonicalField, Field, Lanes, Packable, PackedField, Products, TwoAdicField, scaled};
 use std::alloc::AllocError;
