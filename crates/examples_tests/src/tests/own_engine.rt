@@ -71,6 +71,15 @@ fn zeros_like<F: TwoAdicField>(rt: &impl Abort, mat: &RowMajorMatrix<F>) -> RowM
     matrix_of(rt, entries, mat.width())
 }
 
+// The shifts of the cosets on which both are compared.
+fn shift<F: TwoAdicField>(n: u8) -> F {
+    match n {
+        0 => F::ZERO,
+        1 => F::ONE,
+        _ => F::GENERATOR,
+    }
+}
+
 pub(crate) fn answers_agree<F: CanonicalField>(rt: &impl Abort, alloc: Global) {
     assert!(rt; <NaturalToReversed as TwoAdicSubgroupDft<F>>::LAYOUT == Layout::Natural);
     for (height, width, added_bits) in SHAPES {
@@ -78,7 +87,8 @@ pub(crate) fn answers_agree<F: CanonicalField>(rt: &impl Abort, alloc: Global) {
         // A codeword.
         let zeros = zeros_like(rt, &mat);
         for call in CALLS {
-            for shift in [F::ZERO, F::ONE, F::GENERATOR] {
+            for n in 0..3u8 {
+                let shift = shift::<F>(n);
                 for change in [Change::Nothing, Change::Weighted, Change::Reversed] {
                     assert_agreed(rt, call, &mat, added_bits, shift, change);
                 }
