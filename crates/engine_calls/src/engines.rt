@@ -3,14 +3,15 @@
 ghost use Rattle.std.specs.List.{All};
 ghost use Rattle.p3_dft.specs.Jobs.{CanRun};
 
-use crate::algebra::answer_in_space;
-use crate::answers::{Answer, Input, answer_to};
-use crate::blocks::{Publication, makes_consumer_late, publish};
+use crate::answers::{Answer, Input};
+use crate::blocks::Publication;
 use crate::names::{Call, EngineName};
+use crate::work::{
+    AnswerInSpace, AnswerTo, EngineWork, LayoutOf, MakesConsumerLate, Publish, RunJobs,
+};
 use p3_dft::{
     BasedVectorSpace, BlockConsumer, DftError, Job, JobsStopped, Layout, NaiveDft, Radix2Bowers,
     Radix2DFTSmallBatch, Radix2Dit, Radix2DitParallel, RowMajorMatrix, TwoAdicField,
-    TwoAdicSubgroupDft, run_jobs,
 };
 use std::alloc::{AllocError, Global};
 
@@ -64,21 +65,50 @@ impl<F: TwoAdicField> Engine<F> {
         }
     }
 
-    /// The answer to a call.
-    pub fn answer(&mut self, call: Call, input: Input<F>) -> Answer<F> {
-        match call {
-            Call::Prepare | Call::New | Call::WithTile => {
-                let alloc = *input.mat.allocator();
-                let log_h = input.mat.height().trailing_zeros() as usize;
-                self.tables_answer(call, alloc, log_h)
-            }
-            _ => match self {
-                Engine::Naive(engine) => answer_to(engine, call, input),
-                Engine::Dit(engine) => answer_to(engine, call, input),
-                Engine::Bowers(engine) => answer_to(engine, call, input),
-                Engine::Parallel(engine) => answer_to(engine, call, input),
-                Engine::Small(engine) => answer_to(engine, call, input),
-            },
+    /// What comes of a work that any engine can do.
+    pub fn with<W: EngineWork<F>>(&mut self, work: W) -> W::Answer
+        requires { W.fits work }
+    {
+        match self {
+            Engine::Naive(engine) => work.on(engine),
+            Engine::Dit(engine) => work.on(engine),
+            Engine::Bowers(engine) => work.on(engine),
+            Engine::Parallel(engine) => work.on(engine),
+            Engine::Small(engine) => work.on(engine),
+        }
+    }
+
+    /// A clone.
+    pub fn copied(&self) -> Result<Engine<F>, AllocError> {
+        Ok(match self {
+            Engine::Naive(engine) => Engine::Naive(engine.clone()?),
+            Engine::Dit(engine) => Engine::Dit(engine.clone()?),
+            Engine::Bowers(engine) => Engine::Bowers(engine.clone()?),
+            Engine::Parallel(engine) => Engine::Parallel(engine.clone()?),
+            Engine::Small(engine) => Engine::Small(engine.clone()?),
+        })
+    }
+
+    /// Whether the tables of height `2^log_h` are there, of an engine that has tables.
+    pub fn is_prepared(&self, log_h: usize) -> bool {
+        match self {
+            Engine::Dit(engine) => engine.is_prepared(log_h),
+            Engine::Parallel(engine) => engine.is_prepared(log_h),
+            Engine::Small(engine) => engine.is_prepared(log_h),
+            _ => false,
+        }
+    }
+
+    /// `prepare`, of an engine that has it.
+    pub fn prepare(&mut self, alloc: Global, log_h: usize) -> Option<Result<(), DftError>> {
+        if log_h > F::TWO_ADICITY || log_h > 63 {
+            return None;
+        }
+        match self {
+            Engine::Dit(engine) => Some(engine.prepare(alloc, log_h)),
+            Engine::Parallel(engine) => Some(engine.prepare(alloc, log_h)),
+            Engine::Small(engine) => Some(engine.prepare(alloc, log_h)),
+            _ => None,
         }
     }
 
@@ -97,26 +127,15 @@ impl<F: TwoAdicField> Engine<F> {
         }
     }
 
-    /// Whether the tables of height `2^log_h` are there, of an engine that has tables.
-    pub fn is_prepared(&self, log_h: usize) -> bool {
-        match self {
-            Engine::Naive(_) | Engine::Bowers(_) => false,
-            Engine::Dit(engine) => engine.is_prepared(log_h),
-            Engine::Parallel(engine) => engine.is_prepared(log_h),
-            Engine::Small(engine) => engine.is_prepared(log_h),
-        }
-    }
-
-    /// `prepare`, of an engine that has it.
-    pub fn prepare(&mut self, alloc: Global, log_h: usize) -> Option<Result<(), DftError>> {
-        if log_h > F::TWO_ADICITY || log_h > 63 {
-            return None;
-        }
-        match self {
-            Engine::Naive(_) | Engine::Bowers(_) => None,
-            Engine::Dit(engine) => Some(engine.prepare(alloc, log_h)),
-            Engine::Parallel(engine) => Some(engine.prepare(alloc, log_h)),
-            Engine::Small(engine) => Some(engine.prepare(alloc, log_h)),
+    /// The answer to a call.
+    pub fn answer(&mut self, call: Call, input: Input<F>) -> Answer<F> {
+        match call {
+            Call::Prepare | Call::New | Call::WithTile => {
+                let alloc = *input.mat.allocator();
+                let log_h = input.mat.height().trailing_zeros() as usize;
+                self.tables_answer(call, alloc, log_h)
+            }
+            _ => self.with(AnswerTo { call, input }),
         }
     }
 
@@ -128,48 +147,24 @@ impl<F: TwoAdicField> Engine<F> {
         added_bits: usize,
         shift: F,
     ) -> Answer<V> {
-        match self {
-            Engine::Naive(engine) => answer_in_space(engine, call, mat, added_bits, shift),
-            Engine::Dit(engine) => answer_in_space(engine, call, mat, added_bits, shift),
-            Engine::Bowers(engine) => answer_in_space(engine, call, mat, added_bits, shift),
-            Engine::Parallel(engine) => answer_in_space(engine, call, mat, added_bits, shift),
-            Engine::Small(engine) => answer_in_space(engine, call, mat, added_bits, shift),
-        }
+        self.with(AnswerInSpace {
+            call,
+            mat,
+            added_bits,
+            shift,
+        })
     }
 
     /// Those to a list of jobs.
     pub fn run_jobs(&mut self, jobs: Vec<Job<F>>) -> Result<Vec<RowMajorMatrix<F>>, JobsStopped<F>>
         requires { All (CanRun F.Field.own F.TWO_ADICITY) jobs.items }
     {
-        match self {
-            Engine::Naive(engine) => run_jobs(engine, jobs),
-            Engine::Dit(engine) => run_jobs(engine, jobs),
-            Engine::Bowers(engine) => run_jobs(engine, jobs),
-            Engine::Parallel(engine) => run_jobs(engine, jobs),
-            Engine::Small(engine) => run_jobs(engine, jobs),
-        }
-    }
-
-    /// A clone.
-    pub fn copied(&self) -> Result<Engine<F>, AllocError> {
-        Ok(match self {
-            Engine::Naive(engine) => Engine::Naive(engine.clone()?),
-            Engine::Dit(engine) => Engine::Dit(engine.clone()?),
-            Engine::Bowers(engine) => Engine::Bowers(engine.clone()?),
-            Engine::Parallel(engine) => Engine::Parallel(engine.clone()?),
-            Engine::Small(engine) => Engine::Small(engine.clone()?),
-        })
+        self.with(RunJobs { jobs })
     }
 
     /// In which order the engine hands over coefficients.
-    pub fn layout(&self) -> Layout {
-        match self {
-            Engine::Naive(_) => <NaiveDft as TwoAdicSubgroupDft<F>>::LAYOUT,
-            Engine::Dit(_) => <Radix2Dit<F> as TwoAdicSubgroupDft<F>>::LAYOUT,
-            Engine::Bowers(_) => <Radix2Bowers as TwoAdicSubgroupDft<F>>::LAYOUT,
-            Engine::Parallel(_) => <Radix2DitParallel<F> as TwoAdicSubgroupDft<F>>::LAYOUT,
-            Engine::Small(_) => <Radix2DFTSmallBatch<F> as TwoAdicSubgroupDft<F>>::LAYOUT,
-        }
+    pub fn layout(&mut self) -> Layout {
+        self.with(LayoutOf)
     }
 
     /// `coset_lde_batch_with_blocks`, with a consumer.
@@ -181,23 +176,11 @@ impl<F: TwoAdicField> Engine<F> {
     where
         C::Refusal: Drop,
     {
-        match self {
-            Engine::Naive(engine) => publish(engine, input, consumer),
-            Engine::Dit(engine) => publish(engine, input, consumer),
-            Engine::Bowers(engine) => publish(engine, input, consumer),
-            Engine::Parallel(engine) => publish(engine, input, consumer),
-            Engine::Small(engine) => publish(engine, input, consumer),
-        }
+        self.with(Publish { input, consumer })
     }
 
     /// Whether that call makes its consumer once the coefficients were transformed.
     pub fn makes_consumer_late(&mut self, input: Input<F>) -> bool {
-        match self {
-            Engine::Naive(engine) => makes_consumer_late(engine, input),
-            Engine::Dit(engine) => makes_consumer_late(engine, input),
-            Engine::Bowers(engine) => makes_consumer_late(engine, input),
-            Engine::Parallel(engine) => makes_consumer_late(engine, input),
-            Engine::Small(engine) => makes_consumer_late(engine, input),
-        }
+        self.with(MakesConsumerLate { input })
     }
 }

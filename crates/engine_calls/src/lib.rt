@@ -11,3 +11,4 @@ pub mod codes;
 pub mod engines;
 pub mod names;
 pub mod vector;
+pub mod work;

@@ -1,4 +1,6 @@
-//! The names of engines and of calls.
+//! The names of engines and of calls, and what is expected of each engine.
+
+use p3_dft::Layout;
 
 /// The engines of `p3_dft`.
 #[derive(Clone, Copy, PartialEq, Eq)]
@@ -19,15 +21,88 @@ pub const ENGINES: [EngineName; 5] = [
     EngineName::Small,
 ];
 
+/// The tables that an engine keeps.
+#[derive(Clone, Copy, PartialEq, Eq)]
+pub enum Tables {
+    /// One of each height: there a transform or an inverse takes no memory.
+    OfHeights,
+    /// One of each coset besides, which a transform on it goes by.
+    OfHeightsAndCosets,
+}
+
+/// How an engine goes about a transform and an extension.
+#[derive(Clone, Copy, PartialEq, Eq)]
+pub enum Method {
+    /// By sums.
+    Sums,
+    /// By butterflies, and extensions by an inverse and a transform of the larger height.
+    Parts,
+    /// By parts, where a shift multiplies the rows of coefficients alone.
+    ShortShifts,
+    /// Extensions by an inverse and transforms on cosets, whose shifts stand in the twiddles: in several blocks.
+    Cosets,
+    /// `lde_batch` and `coset_lde_batch` without rows of zeros.
+    WithoutZeros,
+}
+
+/// What is expected of an engine.
+#[derive(Clone, Copy)]
+pub struct Facts {
+    pub word: &'static str,
+    /// The order in which it hands over coefficients.
+    pub layout: Layout,
+    pub tables: Option<Tables>,
+    pub method: Method,
+}
+
 impl EngineName {
-    pub fn word(self) -> &'static str {
+    pub fn facts(self) -> Facts {
         match self {
-            EngineName::Naive => "naive",
-            EngineName::Dit => "dit",
-            EngineName::Bowers => "bowers",
-            EngineName::Parallel => "parallel",
-            EngineName::Small => "small",
+            EngineName::Naive => Facts {
+                word: "naive",
+                layout: Layout::Natural,
+                tables: None,
+                method: Method::Sums,
+            },
+            EngineName::Dit => Facts {
+                word: "dit",
+                layout: Layout::Natural,
+                tables: Some(Tables::OfHeights),
+                method: Method::ShortShifts,
+            },
+            EngineName::Bowers => Facts {
+                word: "bowers",
+                layout: Layout::BitReversed,
+                tables: None,
+                method: Method::Parts,
+            },
+            EngineName::Parallel => Facts {
+                word: "parallel",
+                layout: Layout::BitReversed,
+                tables: Some(Tables::OfHeightsAndCosets),
+                method: Method::Cosets,
+            },
+            EngineName::Small => Facts {
+                word: "small",
+                layout: Layout::Natural,
+                tables: Some(Tables::OfHeights),
+                method: Method::WithoutZeros,
+            },
         }
+    }
+
+    pub fn word(self) -> &'static str {
+        self.facts().word
+    }
+
+    /// Whether its transforms are by butterflies.
+    pub fn is_fast(self) -> bool {
+        self.facts().method != Method::Sums
+    }
+
+    /// Whether it keeps tables.
+    pub fn has_tables(self) -> bool {
+        self.facts().tables.is_some()
     }
 
     /// The engine of this word.

@@ -16,7 +16,7 @@ mod words;
 
 use cases::{Verdict, verdict_on};
 use engine_calls::engines::Engine;
-use engine_calls::names::{CALLS, ENGINES};
+use engine_calls::names::{CALLS, ENGINES, EngineName, Tables};
 use p3_dft::{BabyBear, Goldilocks, TwoAdicField};
 use std::alloc::Global;
 use std::io;
@@ -48,10 +48,19 @@ fn main(rt: HostRuntime) -> ExitCode {
     }
 }
 
-// A line for each engine, and one for each call.
+// What an engine keeps tables of.
+fn tables_of(engine: EngineName) -> &'static str {
+    match engine.facts().tables {
+        None => "",
+        Some(Tables::OfHeights) => " heights",
+        Some(Tables::OfHeightsAndCosets) => " heights cosets",
+    }
+}
+
+// A line for each engine, with what it keeps tables of, and one for each call.
 fn write_names(rt: &HostRuntime) -> io::Result<()> {
     for engine in ENGINES {
-        println!(rt; "engine {}", engine.word())?;
+        println!(rt; "engine {}{}", engine.word(), tables_of(engine))?;
     }
     for call in CALLS {
         println!(rt; "call {} {}", call.form(), call.word())?;

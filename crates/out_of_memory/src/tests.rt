@@ -10,7 +10,7 @@ use crate::memory::{Memory, Plenty};
 use engine_calls::answers::{Answer, Input};
 use engine_calls::changes::Change;
 use engine_calls::engines::Engine;
-use engine_calls::names::{CALLS, Call, ENGINES, EngineName, Operation};
+use engine_calls::names::{CALLS, Call, ENGINES, EngineName, Operation, Tables};
 use p3_dft::{
     BabyBear, CanonicalField, DftError, Field, Goldilocks, JobsStopped, KoalaBear,
     Radix2DFTSmallBatch, RowMajorMatrix, TwoAdicField,
@@ -18,13 +18,23 @@ use p3_dft::{
 use std::alloc::Global;
 use std::process::Abort;
 
-// Those whose transforms are not by sums.
-const FAST_ENGINES: [EngineName; 4] = [
-    EngineName::Dit,
-    EngineName::Bowers,
-    EngineName::Parallel,
-    EngineName::Small,
-];
+// Some of the engines.
+#[derive(Clone, Copy)]
+enum Engines {
+    All,
+    Fast,
+    BySums,
+}
+
+impl Engines {
+    fn has(self, engine: EngineName) -> bool {
+        match self {
+            Engines::All => true,
+            Engines::Fast => engine.is_fast(),
+            Engines::BySums => !engine.is_fast(),
+        }
+    }
+}
 
 // Shapes of a column: the logarithm of its height, the bits that are added, and the shift.
 const SHAPES: [(usize, usize, usize); 3] = [(1, 1, 2), (3, 2, 0), (4, 1, 3)];
@@ -222,13 +232,14 @@ fn always_takes_memory(call: Call) -> bool {
     }
 }
 
-// Whether an engine that has the tables of a height transforms there without memory: one has a table of each coset
-// besides.
+// Whether an engine that has the tables of a height transforms there without memory.
 fn goes_by_tables(engine: EngineName, operation: Operation) -> bool {
-    match engine {
-        EngineName::Naive | EngineName::Bowers => false,
-        EngineName::Dit | EngineName::Small => !operation.extends(),
-        EngineName::Parallel => !operation.extends() && operation != Operation::CosetDft,
+    match engine.facts().tables {
+        None => false,
+        Some(Tables::OfHeights) => !operation.extends(),
+        Some(Tables::OfHeightsAndCosets) => {
+            !operation.extends() && operation != Operation::CosetDft
+        }
     }
 }
 
@@ -289,14 +300,16 @@ fn assert_answered(
 fn answer_all<F: TwoAdicField>(
     rt: &impl Abort,
     alloc: Global,
-    engines: &[EngineName],
+    engines: Engines,
     shapes: &[(usize, usize, usize)],
 ) {
     for case in cases(rt, alloc, shapes) {
-        for name in engines {
-            let mut engine: Engine<F> = Engine::new(*name);
-            let verdict = verdict_on(alloc, &mut Plenty, &mut engine, case);
-            assert_answered(rt, *name, case, verdict, true);
+        for name in ENGINES {
+            if engines.has(name) {
+                let mut engine: Engine<F> = Engine::new(name);
+                let verdict = verdict_on(alloc, &mut Plenty, &mut engine, case);
+                assert_answered(rt, name, case, verdict, true);
+            }
         }
     }
 }
@@ -353,7 +366,7 @@ fn grow<F: TwoAdicField>(rt: &impl Abort, alloc: Global) {
 
 // Every call on every engine with every amount of memory up to one that is enough.
 fn sweep_all<F: TwoAdicField>(rt: &impl Abort, alloc: Global) {
-    answer_all::<F>(rt, alloc, &ENGINES, &SHAPES);
+    answer_all::<F>(rt, alloc, Engines::All, &SHAPES);
     let cases = cases(rt, alloc, &SHAPES);
     if let Some(mut scarce) = scarce_memory(rt, alloc, true) {
         let refused = are_refused::<F>(rt, alloc, cases.as_slice(), &mut scarce);
@@ -366,14 +379,16 @@ fn repeat_all<F: TwoAdicField>(
     rt: &impl Abort,
     alloc: Global,
     scarce: &mut Scarce,
-    engines: &[EngineName],
+    engines: Engines,
     cases: &[Case],
 ) {
-    for engine in engines {
-        for case in cases {
-            let (verdict, times) = repeat::<F>(alloc, scarce, *engine, *case);
-            let free = verdict == Verdict::Absent || !always_takes_memory(case.call);
-            assert_answered(rt, *engine, *case, verdict, times > 0 || free);
+    for engine in ENGINES {
+        if engines.has(engine) {
+            for case in cases {
+                let (verdict, times) = repeat::<F>(alloc, scarce, engine, *case);
+                let free = verdict == Verdict::Absent || !always_takes_memory(case.call);
+                assert_answered(rt, engine, *case, verdict, times > 0 || free);
+            }
         }
     }
 }
@@ -383,14 +398,8 @@ fn give_back<F: TwoAdicField>(rt: &impl Abort, alloc: Global) {
     let of_sums = cases(rt, alloc, &[(8, 1, 3)]);
     let larger = cases(rt, alloc, &[(9, 1, 3)]);
     if let Some(mut scarce) = scarce_memory(rt, alloc, false) {
-        repeat_all::<F>(rt, alloc, &mut scarce, &FAST_ENGINES, larger.as_slice());
-        repeat_all::<F>(
-            rt,
-            alloc,
-            &mut scarce,
-            &[EngineName::Naive],
-            of_sums.as_slice(),
-        );
+        repeat_all::<F>(rt, alloc, &mut scarce, Engines::Fast, larger.as_slice());
+        repeat_all::<F>(rt, alloc, &mut scarce, Engines::BySums, of_sums.as_slice());
     }
 }
 
@@ -518,7 +527,7 @@ enum Topic<'a> {
     TooLittleMemory,
     AfterARefusal,
     GivenBack,
-    Answers(&'a [EngineName], &'a [(usize, usize, usize)]),
+    Answers(Engines, &'a [(usize, usize, usize)]),
 }
 
 impl<'a> Topic<'a> {
@@ -574,24 +583,24 @@ fn what_is_passed_is_given_back(rt: HostRuntime) {
 
 #[test]
 fn calls_answer_at_large_shapes_over_baby_bear(rt: HostRuntime) {
-    let sums = Topic::Answers(&[EngineName::Naive], &SHAPES_OF_SUMS);
+    let sums = Topic::Answers(Engines::BySums, &SHAPES_OF_SUMS);
     over_baby_bear(&rt, rt.alloc(), sums);
-    let large = Topic::Answers(&FAST_ENGINES, &LARGE_SHAPES);
+    let large = Topic::Answers(Engines::Fast, &LARGE_SHAPES);
     over_baby_bear(&rt, rt.alloc(), large);
 }
 
 #[test]
 fn calls_answer_at_large_shapes_over_koala_bear(rt: HostRuntime) {
-    let small = Topic::Answers(&ENGINES, &SHAPES);
+    let small = Topic::Answers(Engines::All, &SHAPES);
     over_koala_bear(&rt, rt.alloc(), small);
-    let large = Topic::Answers(&FAST_ENGINES, &LARGE_SHAPES);
+    let large = Topic::Answers(Engines::Fast, &LARGE_SHAPES);
     over_koala_bear(&rt, rt.alloc(), large);
 }
 
 #[test]
 fn calls_answer_at_large_shapes_over_goldilocks(rt: HostRuntime) {
-    let small = Topic::Answers(&ENGINES, &SHAPES);
+    let small = Topic::Answers(Engines::All, &SHAPES);
     over_goldilocks(&rt, rt.alloc(), small);
-    let large = Topic::Answers(&FAST_ENGINES, &LARGE_SHAPES);
+    let large = Topic::Answers(Engines::Fast, &LARGE_SHAPES);
     over_goldilocks(&rt, rt.alloc(), large);
 }

@@ -1,7 +1,7 @@
 // Calls whose answers were worked out by hand or by another program, on every engine, one after another on the same
 // engine and again on a clone: so that a call that left something behind for a later one would show.
 
-use super::helpers::engines::{EVERY_ENGINE, Name, TestEngine, assert_rows_of, input, rows_of};
+use super::helpers::engines::{EVERY_ENGINE, TestEngine, assert_rows_of, input, rows_of};
 use super::helpers::matrices::{assert_rows, column, matrix};
 use super::{FieldName, Topic, over};
 use engine_calls::answers::Input;
@@ -827,16 +827,6 @@ fn coefficient_alone<F: CanonicalField>(
     assert_rows(rt, &found, answer, 1);
 }
 
-// Which engines hand over coefficients in natural order.
-fn has_layout(name: Name) -> Layout {
-    match name {
-        Name::Library(EngineName::Naive)
-        | Name::Library(EngineName::Dit)
-        | Name::Library(EngineName::Small) => Layout::Natural,
-        _ => Layout::BitReversed,
-    }
-}
-
 pub(crate) fn layouts_over<F: CanonicalField>(
     rt: &impl Abort,
     alloc: Global,
@@ -845,7 +835,7 @@ pub(crate) fn layouts_over<F: CanonicalField>(
     for name in EVERY_ENGINE {
         let mut engine: TestEngine<F> = TestEngine::new(name);
         assert!(rt;
-            engine.layout() == has_layout(name),
+            engine.layout() == name.layout(),
             "layout of {}",
             name.word()
         );

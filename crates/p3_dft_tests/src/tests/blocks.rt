@@ -1,7 +1,7 @@
 // Extensions whose blocks are published: what is lent to whom, and what is left where a consumer or
 // memory stops the call.
 
-ghost use Rattle.std.specs.Prelude.{◌≡◌, ◌<◌, Ok, length};
+ghost use Rattle.std.specs.Prelude.{◌≡◌, ◌<◌, Ok, length, ⊤};
 
 use super::helpers::engines::{
     EVERY_ENGINE, Kind, Name, TestEngine, assert_rows_of, input, rows_of,
@@ -13,10 +13,10 @@ use engine_calls::answers::Input;
 use engine_calls::blocks::{Counter, Publication};
 use engine_calls::changes::Change;
 use engine_calls::names::{Call, EngineName, Operation};
+use engine_calls::work::EngineWork;
 use p3_dft::{
     BlockConsumer, BlockLimit, BlockRefused, BlocksStopped, CanonicalField, Field, Layout,
-    NaiveDft, Radix2DitParallel, Recorder, RowMajorMatrix, RowMajorMatrixView, TwoAdicField,
-    TwoAdicSubgroupDft, fits_lde,
+    Recorder, RowMajorMatrix, RowMajorMatrixView, TwoAdicField, TwoAdicSubgroupDft, fits_lde,
 };
 use std::alloc::Global;
 use std::cell::Cell;
@@ -171,14 +171,6 @@ const OVER_GOLDILOCKS: [Worked; 3] = [
     },
 ];
 
-// How many rows a block has: one engine has blocks of some rows, the others one block.
-fn block_height(name: Name, block: usize, height: usize) -> usize {
-    match name {
-        Name::Library(EngineName::Parallel) => block,
-        _ => height,
-    }
-}
-
 // Stops the test unless as many blocks of so many rows are kept as there is room for, with their rows, and the rest are
 // missed.
 fn assert_recorded<F: TwoAdicField>(
@@ -215,7 +207,7 @@ fn records_worked<F: CanonicalField>(rt: &impl Abort, alloc: Global, cases: &[Wo
                 change: Change::Nothing,
             };
             let expected = matrix(rt, alloc, case.physical, case.width);
-            let block = block_height(name, case.block, expected.height());
+            let block = name.block_height(case.block, expected.height());
             assert!(rt; block > 0);
             let kept = expected.height() / block;
             let found = assert_recorded(rt, &mut engine, rows, (4, 8), (kept, block));
@@ -249,7 +241,7 @@ fn records_what_has_room<F: TwoAdicField>(rt: &impl Abort, alloc: Global) {
     let mat = counting(rt, alloc, 16, 17);
     for name in EVERY_ENGINE {
         let mut engine: TestEngine<F> = TestEngine::new(name);
-        let block = block_height(name, 4, 128);
+        let block = name.block_height(4, 128);
         assert!(rt; block > 0);
         let all = 128 / block;
         for (blocks, elements, kept) in [
@@ -286,7 +278,7 @@ fn blocks_limited<F: CanonicalField>(rt: &impl Abort, alloc: Global) {
     let mat = matrix(rt, alloc, &[9, 1], 1);
     for name in EVERY_ENGINE {
         let mut engine: TestEngine<F> = TestEngine::new(name);
-        let block = block_height(name, 1, 4);
+        let block = name.block_height(1, 4);
         assert!(rt; block > 0);
         let all = 4 / block;
         for limit in 0..5usize {
@@ -369,24 +361,50 @@ fn in_blocks_within<F: TwoAdicField, D: TwoAdicSubgroupDft<F>>(
     }
 }
 
-// The worked extensions and limits, on an engine that has so many blocks.
+// The worked extensions and limits, on any engine.
 fn in_blocks_on<F: CanonicalField, D: TwoAdicSubgroupDft<F>>(
     rt: &impl Abort,
     alloc: Global,
-    (name, all): (&str, usize),
+    name: Name,
+    engine: &mut D,
     cases: &[Worked],
 ) {
-    let mut engine = D::default();
+    let all = 4 / name.block_height(1, 4).max(1);
+    let name = name.word();
     for case in cases {
-        in_blocks_lent(rt, alloc, name, &mut engine, case);
+        in_blocks_lent(rt, alloc, name, engine, case);
     }
     for limit in 0..5usize {
         let mat = matrix(rt, alloc, &[9, 1], 1);
-        let (seen, refused) = in_blocks_within(rt, &mut engine, mat, limit);
+        let (seen, refused) = in_blocks_within(rt, engine, mat, limit);
         assert!(rt;
             seen == limit.min(all) && refused.is_some() == (limit < all),
             "in_blocks on {name}: {seen} blocks within {limit}, 2 rows of 1, 1 added bit"
         );
+    }
+}
+
+// The same as a work.
+struct InBlocks<'a, R> {
+    rt: &'a R,
+    alloc: Global,
+    name: Name,
+    cases: &'a [Worked],
+}
+
+impl<'a, F: CanonicalField, R: Abort> EngineWork<F> for InBlocks<'a, R> {
+    type Answer = ();
+
+    ghost fits = { λ work. ⊤ };
+
+    fn on<D: TwoAdicSubgroupDft<F>>(self, engine: &mut D) {
+        let InBlocks {
+            rt,
+            alloc,
+            name,
+            cases,
+        } = self;
+        in_blocks_on::<F, D>(rt, alloc, name, engine, cases);
     }
 }
 
@@ -395,8 +413,15 @@ pub(crate) fn published<F: CanonicalField>(rt: &impl Abort, alloc: Global, cases
     records_what_has_room::<F>(rt, alloc);
     blocks_limited::<F>(rt, alloc);
     consumers_made_late::<F>(rt, alloc);
-    in_blocks_on::<F, NaiveDft>(rt, alloc, ("naive", 1), cases);
-    in_blocks_on::<F, Radix2DitParallel<F>>(rt, alloc, ("parallel", 4), cases);
+    for name in EVERY_ENGINE {
+        let mut engine: TestEngine<F> = TestEngine::new(name);
+        engine.with(InBlocks {
+            rt,
+            alloc,
+            name,
+            cases,
+        });
+    }
 }
 
 #[test]

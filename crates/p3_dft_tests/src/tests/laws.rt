@@ -1,12 +1,10 @@
 // Laws of calls on matrices of many shapes, on every engine, and that the engines agree.
 
 use super::answers::by_tiles;
-use super::helpers::engines::{
-    EVERY_ENGINE, FAST_ENGINES, Name, TestEngine, assert_rows_of, input, rows_of,
-};
+use super::helpers::engines::{EVERY_ENGINE, Name, TestEngine, assert_rows_of, input, rows_of};
 use super::helpers::matrices::{assert_same, column_of, combined, sample, with_zeros};
 use super::{FieldName, Topic, over};
-use engine_calls::names::{Call, EngineName, OPERATIONS, Operation};
+use engine_calls::names::{Call, ENGINES, EngineName, OPERATIONS, Operation};
 use p3_dft::{RowMajorMatrix, TwoAdicField};
 use std::alloc::Global;
 use std::process::Abort;
@@ -297,17 +295,22 @@ const LARGE_SHAPES: [(usize, usize, usize); 6] = [
     (16, 3, 8),
 ];
 
-// On fast engines an inverse undoes a transform, an extension keeps rows, and two of them agree.
+// An inverse undoes a transform, an extension keeps rows, and two engines agree.
+fn at_large_shapes<F: TwoAdicField>(rt: &impl Abort, alloc: Global, engine: &mut TestEngine<F>) {
+    let mut dit = TestEngine::new(Name::Library(EngineName::Dit));
+    for (height, width, added_bits) in LARGE_SHAPES {
+        let x = sample(rt, alloc, height, width, 3);
+        inverses(rt, engine, &x);
+        rows_kept(rt, engine, &x, added_bits);
+        same_answers(rt, &mut dit, engine, &x, &[0]);
+        same_answers(rt, &mut dit, engine, &x, &[added_bits]);
+    }
+}
+
 pub(crate) fn large_shapes_over<F: TwoAdicField>(rt: &impl Abort, alloc: Global) {
-    for name in &EVERY_ENGINE[..FAST_ENGINES] {
-        let mut engine: TestEngine<F> = TestEngine::new(*name);
-        let mut dit = TestEngine::new(Name::Library(EngineName::Dit));
-        for (height, width, added_bits) in LARGE_SHAPES {
-            let x = sample(rt, alloc, height, width, 3);
-            inverses(rt, &mut engine, &x);
-            rows_kept(rt, &mut engine, &x, added_bits);
-            same_answers(rt, &mut dit, &mut engine, &x, &[0]);
-            same_answers(rt, &mut dit, &mut engine, &x, &[added_bits]);
+    for name in ENGINES {
+        if name.is_fast() {
+            at_large_shapes::<F>(rt, alloc, &mut TestEngine::new(Name::Library(name)));
         }
     }
 }

@@ -16,7 +16,7 @@ use super::helpers::matrices::matrix_of;
 use super::jobs::and_then;
 use engine_calls::answers::Answer;
 use engine_calls::blocks::Publication;
-use engine_calls::names::{CALLS, Call, ENGINES, EngineName, OPERATIONS, Operation};
+use engine_calls::names::{CALLS, Call, ENGINES, Method, OPERATIONS, Operation};
 use p3_dft::{
     BabyBear, BasedVectorSpace, BlockLimit, CanonicalField, Coordinates, Field, Goldilocks, Job,
     PackedField, Products, RowMajorMatrix, TwoAdicField, fits_dft, fits_lde, scaled,
@@ -51,21 +51,6 @@ struct Bounds {
     membership: usize,
 }
 
-// How an engine goes about it.
-#[derive(Clone, Copy, PartialEq, Eq)]
-enum Method {
-    // By sums.
-    Sums,
-    // By butterflies, and extensions by an inverse and a transform of the larger height.
-    Parts,
-    // By parts, where a shift multiplies the rows of coefficients alone.
-    ShortShifts,
-    // Extensions by an inverse and transforms on cosets, whose shifts stand in the twiddles.
-    Cosets,
-    // `lde_batch` and `coset_lde_batch` without rows of zeros.
-    WithoutZeros,
-}
-
 // How many there are in all.
 fn total(counts: &[usize]) -> usize {
     counts
@@ -78,96 +63,67 @@ fn rows(log: usize) -> usize {
     1 << log.min(63)
 }
 
-impl Method {
-    // The most products of a transform of `2^log` rows.
-    fn transform(self, log: usize, width: usize) -> usize {
-        let column = match self {
-            Method::Sums => rows(log).saturating_mul(rows(log)),
-            _ => rows(log).saturating_mul(log) / 2,
-        };
-        column.saturating_mul(width)
-    }
-
-    // The most products of each call.
-    fn bounds(self, shape: Shape) -> Bounds {
-        let Shape {
-            log_h,
-            width,
-            added_bits,
-        } = shape;
-        let log = log_h.saturating_add(added_bits);
-        let entries = rows(log_h).saturating_mul(width);
-        let extended = rows(log).saturating_mul(width);
-        let transform = self.transform(log_h, width);
-        let larger = self.transform(log, width);
-        let on_cosets = transform.saturating_mul(rows(added_bits));
-        let extension = match self {
-            Method::Cosets => total(&[transform, entries, on_cosets]),
-            Method::ShortShifts => total(&[transform, entries, entries, larger]),
-            _ => total(&[transform, entries, larger, extended]),
-        };
-        Bounds {
-            least: if self == Method::Sums { transform } else { 0 },
-            transform,
-            coset_transform: if self == Method::Cosets {
-                transform
-            } else {
-                total(&[transform, entries])
-            },
-            inverse: total(&[transform, entries]),
-            coset_inverse: total(&[transform, entries, entries]),
-            extension,
-            coset_extension: if self == Method::WithoutZeros {
-                total(&[transform, on_cosets, extended])
-            } else {
-                extension
-            },
-            extension_of_coefficients: if self == Method::WithoutZeros {
-                total(&[on_cosets, extended])
-            } else {
-                total(&[larger, entries])
-            },
-            // The coset that the first block is of is the only one begun.
-            refused: if self == Method::Cosets {
-                total(&[transform, entries, transform])
-            } else {
-                extension
-            },
-            membership: total(&[larger, extended, extended]),
-        }
-    }
+// The most products of a transform of `2^log` rows.
+fn most_of_transform(method: Method, log: usize, width: usize) -> usize {
+    let column = match method {
+        Method::Sums => rows(log).saturating_mul(rows(log)),
+        _ => rows(log).saturating_mul(log) / 2,
+    };
+    column.saturating_mul(width)
 }
 
-// Those of each engine.
-#[derive(Clone, Copy)]
-struct BoundsOfEngines {
-    // None where its products are too many to wait for.
-    naive: Option<Bounds>,
-    dit: Bounds,
-    bowers: Bounds,
-    parallel: Bounds,
-    small_batch: Bounds,
-}
-
-// By formulas.
-fn bounds_at(shape: Shape) -> BoundsOfEngines {
-    let few = shape.log_h.saturating_add(shape.added_bits) < 7;
-    BoundsOfEngines {
-        naive: if few {
-            Some(Method::Sums.bounds(shape))
+// The most products of each call, by formulas.
+fn bounds_at(method: Method, shape: Shape) -> Bounds {
+    let Shape {
+        log_h,
+        width,
+        added_bits,
+    } = shape;
+    let log = log_h.saturating_add(added_bits);
+    let entries = rows(log_h).saturating_mul(width);
+    let extended = rows(log).saturating_mul(width);
+    let transform = most_of_transform(method, log_h, width);
+    let larger = most_of_transform(method, log, width);
+    let on_cosets = transform.saturating_mul(rows(added_bits));
+    let extension = match method {
+        Method::Cosets => total(&[transform, entries, on_cosets]),
+        Method::ShortShifts => total(&[transform, entries, entries, larger]),
+        _ => total(&[transform, entries, larger, extended]),
+    };
+    Bounds {
+        least: if method == Method::Sums { transform } else { 0 },
+        transform,
+        coset_transform: if method == Method::Cosets {
+            transform
         } else {
-            None
+            total(&[transform, entries])
         },
-        dit: Method::ShortShifts.bounds(shape),
-        bowers: Method::Parts.bounds(shape),
-        parallel: Method::Cosets.bounds(shape),
-        small_batch: Method::WithoutZeros.bounds(shape),
+        inverse: total(&[transform, entries]),
+        coset_inverse: total(&[transform, entries, entries]),
+        extension,
+        coset_extension: if method == Method::WithoutZeros {
+            total(&[transform, on_cosets, extended])
+        } else {
+            extension
+        },
+        extension_of_coefficients: if method == Method::WithoutZeros {
+            total(&[on_cosets, extended])
+        } else {
+            total(&[larger, entries])
+        },
+        // The coset that the first block is of is the only one begun.
+        refused: if method == Method::Cosets {
+            total(&[transform, entries, transform])
+        } else {
+            extension
+        },
+        membership: total(&[larger, extended, extended]),
     }
 }
 
-// Of eight rows of one entry, extended by one bit, worked by hand: the butterflies of eight rows are twelve,
+// Those of eight rows of one entry, extended by one bit, worked by hand: the butterflies of eight rows are twelve,
 // and those of sixteen are 32.
-fn worked_bounds() -> BoundsOfEngines {
+fn worked_bounds(method: Method) -> Bounds {
     let parts = Bounds {
         least: 1,
         transform: 12,
@@ -180,8 +136,8 @@ fn worked_bounds() -> BoundsOfEngines {
         refused: 68,
         membership: 64,
     };
-    BoundsOfEngines {
-        naive: Some(Bounds {
+    match method {
+        Method::Sums => Bounds {
             least: 64,
             transform: 64,
             coset_transform: 72,
@@ -192,25 +148,41 @@ fn worked_bounds() -> BoundsOfEngines {
             extension_of_coefficients: 264,
             refused: 344,
             membership: 288,
-        }),
-        dit: Bounds {
+        },
+        Method::Parts => parts,
+        Method::ShortShifts => Bounds {
             extension: 60,
             coset_extension: 60,
             refused: 60,
             ..parts
         },
-        bowers: parts,
-        parallel: Bounds {
+        Method::Cosets => Bounds {
             coset_transform: 12,
             extension: 44,
             coset_extension: 44,
             refused: 32,
             ..parts
         },
-        small_batch: Bounds {
+        Method::WithoutZeros => Bounds {
             coset_extension: 52,
             ..parts
         },
+    }
+}
+
+// Where bounds are from.
+#[derive(Clone, Copy)]
+enum BoundsFrom {
+    Formulas,
+    WorkedRows,
+}
+
+impl BoundsFrom {
+    fn of(self, method: Method, shape: Shape) -> Bounds {
+        match self {
+            BoundsFrom::Formulas => bounds_at(method, shape),
+            BoundsFrom::WorkedRows => worked_bounds(method),
+        }
     }
 }
 
@@ -430,29 +402,26 @@ fn space_within<F: CanonicalField, V: BasedVectorSpace<F> + Copy>(
     }
 }
 
-// The engines, each with its bounds: none for the definition where its products are too many to wait for.
+// The engines, each with its bounds: not the one by sums where its products are too many to wait for.
 fn engines_and_bounds<F: TwoAdicField>(
     rt: &impl Abort,
     alloc: Global,
-    all: BoundsOfEngines,
+    from: BoundsFrom,
+    shape: Shape,
 ) -> Vec<(TestEngine<F>, Bounds)> {
+    let few = shape.log_h.saturating_add(shape.added_bits) < 7;
     let mut engines = Vec::new(alloc);
     for name in ENGINES {
-        let bounds = match name {
-            EngineName::Naive => all.naive,
-            EngineName::Dit => Some(all.dit),
-            EngineName::Bowers => Some(all.bowers),
-            EngineName::Parallel => Some(all.parallel),
-            EngineName::Small => Some(all.small_batch),
-        };
-        if let Some(bounds) = bounds {
+        if few || name.is_fast() {
             let engine = TestEngine::new(Name::Library(name));
+            let bounds = from.of(name.facts().method, shape);
             engines.push((engine, bounds)).expect(rt, "memory");
         }
     }
     for tile in [1usize, 8192] {
+        let bounds = from.of(Method::WithoutZeros, shape);
         engines
-            .push((by_tiles(rt, alloc, tile), all.small_batch))
+            .push((by_tiles(rt, alloc, tile), bounds))
             .expect(rt, "memory");
     }
     engines
@@ -481,10 +450,10 @@ fn over_field<F: CanonicalField, M: Packs<Tally<F, M>>>(
     alloc: Global,
     (count, mark): (&Count<'_>, M),
     shape: Shape,
-    all: BoundsOfEngines,
+    from: BoundsFrom,
 ) {
     let mat = marked::<F, M>(rt, alloc, rows(shape.log_h), shape.width, mark);
-    for (engine, bounds) in engines_and_bounds(rt, alloc, all) {
+    for (engine, bounds) in engines_and_bounds(rt, alloc, from, shape) {
         let mut engine = engine;
         calls_within(rt, count, &mut engine, &mat, (shape, bounds));
         codeword_within(rt, count, &mut engine, &mat, (shape, bounds));
@@ -502,11 +471,11 @@ fn over_coordinates<
     let elements = rows(shape.log_h).saturating_mul(shape.width);
     let coordinates = marked::<F, M>(rt, alloc, elements, V::DIMENSION, mark);
     let mat = elements_of::<Tally<F, M>, V>(rt, &coordinates, shape.width);
-    let all = bounds_at(Shape {
+    let of_coordinates = Shape {
         width: shape.width.saturating_mul(V::DIMENSION),
         ..shape
-    });
-    for (engine, bounds) in engines_and_bounds(rt, alloc, all) {
+    };
+    for (engine, bounds) in engines_and_bounds(rt, alloc, BoundsFrom::Formulas, of_coordinates) {
         let mut engine = engine;
         space_within::<Tally<F, M>, V>(rt, count, &mut engine, &mat, (shape, bounds));
     }
@@ -530,7 +499,7 @@ where
         width,
         added_bits,
     };
-    over_field::<F, M>(rt, alloc, (count, mark), shape, bounds_at(shape));
+    over_field::<F, M>(rt, alloc, (count, mark), shape, BoundsFrom::Formulas);
     over_coordinates::<F, M, V>(rt, alloc, (count, mark), shape);
     over_coordinates::<F, M, W>(rt, alloc, (count, mark), shape);
 }
@@ -606,7 +575,7 @@ where
         width: 1,
         added_bits: 1,
     };
-    over_field::<F, M>(rt, alloc, (count, mark), shape, worked_bounds());
+    over_field::<F, M>(rt, alloc, (count, mark), shape, BoundsFrom::WorkedRows);
     at_every_shape::<F, M, V, W>(rt, alloc, (count, mark));
 }
 

@@ -1,6 +1,6 @@
 // Reed-Solomon codes on every engine: worked words, what is none, and callers of the laws.
 
-ghost use Rattle.std.specs.Prelude.{◌≡◌, ◌+◌, ◌-◌, ◌^◌, IfOk, IsTrue};
+ghost use Rattle.std.specs.Prelude.{◌≡◌, ◌+◌, ◌-◌, ◌^◌, IfOk, IsTrue, ⊤};
 ghost use Rattle.p3_matrix.specs.Matrix.{Same};
 ghost use Rattle.p3_matrix.specs.RowMajor.{height};
 ghost use Rattle.p3_dft.specs.Codes.{IsCode};
@@ -15,9 +15,10 @@ use super::helpers::own_engines::LimitedDft;
 use super::{FieldName, Topic, over};
 use engine_calls::answers::Answer;
 use engine_calls::names::Call;
+use engine_calls::work::EngineWork;
 use p3_dft::{
-    CanonicalField, DftError, Field, NaiveDft, Radix2DitParallel, ReedSolomon, RowMajorMatrix,
-    TwoAdicField, TwoAdicSubgroupDft, fits_code,
+    CanonicalField, DftError, Field, NaiveDft, ReedSolomon, RowMajorMatrix, TwoAdicField,
+    TwoAdicSubgroupDft, fits_code,
 };
 use std::alloc::Global;
 use std::process::Abort;
@@ -177,6 +178,7 @@ pub(crate) fn words<F: CanonicalField>(
 fn all_words<F: CanonicalField, D: TwoAdicSubgroupDft<F>>(
     rt: &impl Abort,
     alloc: Global,
+    name: &str,
     engine: D,
 ) {
     let shift = invertible(rt, F::GENERATOR);
@@ -185,13 +187,17 @@ fn all_words<F: CanonicalField, D: TwoAdicSubgroupDft<F>>(
     let word = transformable(rt, alloc, &[9, 873820294, 1, 0]);
     assert!(rt; word.height() == 4);
     let told = told_with_no_added_bits(&mut code, &word);
-    assert!(rt; told.expect(rt, "memory"));
+    assert!(rt;
+        told.expect(rt, "memory"),
+        "is_codeword on {name}: 4 rows, no added bits"
+    );
 }
 
 // Two words of polynomials that differ in one coefficient.
 fn two_words<F: CanonicalField, D: TwoAdicSubgroupDft<F>>(
     rt: &impl Abort,
     alloc: Global,
+    name: &str,
     engine: D,
 ) {
     let mut code = of_two(rt, engine, F::ONE);
@@ -200,9 +206,13 @@ fn two_words<F: CanonicalField, D: TwoAdicSubgroupDft<F>>(
     assert!(rt; one.height() == code.word_height());
     assert!(rt; other.height() == one.height());
     assert!(rt; other.width() == one.width());
-    assert!(rt; told_by_few_rows(&mut code, &one, &other).expect(rt, "memory"));
-    assert!(rt; lie_apart(&mut code, &one, &other).expect(rt, "memory"));
-    assert!(rt; !lie_apart(&mut code, &one, &one).expect(rt, "memory"));
+    let told = told_by_few_rows(&mut code, &one, &other).expect(rt, "memory");
+    let apart = lie_apart(&mut code, &one, &other).expect(rt, "memory");
+    let same = !lie_apart(&mut code, &one, &one).expect(rt, "memory");
+    assert!(rt;
+        told && apart && same,
+        "is_codeword on {name}: 2 rows, 1 added bit"
+    );
 }
 
 // The numbers of a code are those that it was made of.
@@ -215,12 +225,31 @@ fn numbers<F: CanonicalField>(rt: &impl Abort) {
     let _ = code.engine();
 }
 
-// By the definition and by halves.
+// The callers of a code's laws, on any engine: the code takes a new one.
+struct CallersOfCodes<'a, R> {
+    rt: &'a R,
+    alloc: Global,
+    name: &'static str,
+}
+
+impl<'a, F: CanonicalField, R: Abort> EngineWork<F> for CallersOfCodes<'a, R> {
+    type Answer = ();
+
+    ghost fits = { λ work. ⊤ };
+
+    fn on<D: TwoAdicSubgroupDft<F>>(self, _engine: &mut D) {
+        let CallersOfCodes { rt, alloc, name } = self;
+        all_words::<F, D>(rt, alloc, name, D::default());
+        two_words::<F, D>(rt, alloc, name, D::default());
+    }
+}
+
 pub(crate) fn laws<F: CanonicalField>(rt: &impl Abort, alloc: Global) {
-    all_words::<F, NaiveDft>(rt, alloc, NaiveDft::default());
-    all_words::<F, Radix2DitParallel<F>>(rt, alloc, Radix2DitParallel::default());
-    two_words::<F, NaiveDft>(rt, alloc, NaiveDft::default());
-    two_words::<F, Radix2DitParallel<F>>(rt, alloc, Radix2DitParallel::default());
+    for name in EVERY_ENGINE {
+        let mut engine: TestEngine<F> = TestEngine::new(name);
+        let name = engine.name;
+        engine.with(CallersOfCodes { rt, alloc, name });
+    }
     numbers::<F>(rt);
 }
 

@@ -9,20 +9,13 @@ use super::{FieldName, Topic, over};
 use engine_calls::answers::Input;
 use engine_calls::changes::Change;
 use engine_calls::engines::Engine;
-use engine_calls::names::{Call, EngineName, Operation};
+use engine_calls::names::{Call, ENGINES, EngineName, Operation};
 use p3_dft::{
     CanonicalField, Field, Radix2DFTSmallBatch, Radix2DitParallel, RowMajorMatrix, TwoAdicField,
     TwoAdicSubgroupDft,
 };
 use std::alloc::Global;
 use std::process::Abort;
-
-// The engines that have tables.
-pub(crate) const WITH_TABLES: [EngineName; 3] = [
-    EngineName::Dit,
-    EngineName::Parallel,
-    EngineName::Small,
-];
 
 // Stops the test where these tables cannot be made.
 fn prepare<F: TwoAdicField>(rt: &impl Abort, alloc: Global, engine: &mut Engine<F>, log_h: usize) {
@@ -85,9 +78,11 @@ fn calls_prepare<F: CanonicalField>(rt: &impl Abort, alloc: Global, name: Engine
 }
 
 pub(crate) fn tables_over<F: CanonicalField>(rt: &impl Abort, alloc: Global) {
-    for name in WITH_TABLES {
-        prepares_heights::<F>(rt, alloc, name);
-        calls_prepare::<F>(rt, alloc, name);
+    for name in ENGINES {
+        if name.has_tables() {
+            prepares_heights::<F>(rt, alloc, name);
+            calls_prepare::<F>(rt, alloc, name);
+        }
     }
 }
 

@@ -5,15 +5,16 @@ ghost use Rattle.std.specs.List.{All};
 ghost use Rattle.p3_dft.specs.Jobs.{CanRun};
 
 use super::own_engines::LimitedDft;
-use engine_calls::algebra::answer_in_space;
-use engine_calls::answers::{Answer, Input, answer_to};
-use engine_calls::blocks::{Publication, makes_consumer_late, publish};
+use engine_calls::answers::{Answer, Input};
+use engine_calls::blocks::Publication;
 use engine_calls::changes::Change;
 use engine_calls::engines::Engine;
-use engine_calls::names::{Call, EngineName};
+use engine_calls::names::{Call, EngineName, Method};
+use engine_calls::work::{
+    AnswerInSpace, AnswerTo, EngineWork, LayoutOf, MakesConsumerLate, Publish, RunJobs,
+};
 use p3_dft::{
     BasedVectorSpace, BlockConsumer, Job, JobsStopped, Layout, RowMajorMatrix, TwoAdicField,
-    TwoAdicSubgroupDft, run_jobs,
 };
 use std::process::Abort;
 
@@ -24,22 +25,35 @@ pub(crate) enum Name {
 }
 
 pub(crate) const EVERY_ENGINE: [Name; 6] = [
-    Name::Library(EngineName::Parallel),
+    Name::Library(EngineName::Naive),
     Name::Library(EngineName::Dit),
     Name::Library(EngineName::Bowers),
+    Name::Library(EngineName::Parallel),
     Name::Library(EngineName::Small),
-    Name::Library(EngineName::Naive),
     Name::Limited,
 ];
-
-// The engine whose extensions are in several blocks is the first.
-pub(crate) const FAST_ENGINES: usize = 4;
 
 impl Name {
     pub(crate) fn word(self) -> &'static str {
         match self {
             Name::Library(name) => name.word(),
             Name::Limited => "limited",
+        }
+    }
+
+    // The order in which the engine is to hand over coefficients.
+    pub(crate) fn layout(self) -> Layout {
+        match self {
+            Name::Library(name) => name.facts().layout,
+            Name::Limited => Layout::BitReversed,
+        }
+    }
+
+    // How many rows a block of an extension is to have: these in an engine that goes coset by coset, and all in others.
+    pub(crate) fn block_height(self, block: usize, height: usize) -> usize {
+        match self {
+            Name::Library(name) if name.facts().method == Method::Cosets => block,
+            _ => height,
         }
     }
 }
@@ -77,12 +91,19 @@ impl<F: TwoAdicField> TestEngine<F> {
         }
     }
 
+    // What comes of a work that any engine can do.
+    pub(crate) fn with<W: EngineWork<F>>(&mut self, work: W) -> W::Answer
+        requires { W.fits work }
+    {
+        match &mut self.kind {
+            Kind::Library(engine) => engine.with(work),
+            Kind::Limited(engine) => work.on(engine),
+        }
+    }
+
     // The answer to a call.
     pub(crate) fn answer(&mut self, call: Call, input: Input<F>) -> Answer<F> {
-        match &mut self.kind {
-            Kind::Library(engine) => engine.answer(call, input),
-            Kind::Limited(engine) => answer_to(engine, call, input),
-        }
+        self.with(AnswerTo { call, input })
     }
 
     // The answer to a call over a vector space.
@@ -93,10 +114,12 @@ impl<F: TwoAdicField> TestEngine<F> {
         added_bits: usize,
         shift: F,
     ) -> Answer<V> {
-        match &mut self.kind {
-            Kind::Library(engine) => engine.answer_in_space(call, mat, added_bits, shift),
-            Kind::Limited(engine) => answer_in_space(engine, call, mat, added_bits, shift),
-        }
+        self.with(AnswerInSpace {
+            call,
+            mat,
+            added_bits,
+            shift,
+        })
     }
 
     // The answers to jobs.
@@ -106,10 +129,7 @@ impl<F: TwoAdicField> TestEngine<F> {
     ) -> Result<Vec<RowMajorMatrix<F>>, JobsStopped<F>>
         requires { All (CanRun F.Field.own F.TWO_ADICITY) jobs.items }
     {
-        match &mut self.kind {
-            Kind::Library(engine) => engine.run_jobs(jobs),
-            Kind::Limited(engine) => run_jobs(engine, jobs),
-        }
+        self.with(RunJobs { jobs })
     }
 
     // An extension with blocks.
@@ -121,26 +141,17 @@ impl<F: TwoAdicField> TestEngine<F> {
     where
         C::Refusal: Drop,
     {
-        match &mut self.kind {
-            Kind::Library(engine) => engine.publish(input, consumer),
-            Kind::Limited(engine) => publish(engine, input, consumer),
-        }
+        self.with(Publish { input, consumer })
     }
 
     // Whether the consumer of one is made once the coefficients were transformed.
     pub(crate) fn makes_consumer_late(&mut self, input: Input<F>) -> bool {
-        match &mut self.kind {
-            Kind::Library(engine) => engine.makes_consumer_late(input),
-            Kind::Limited(engine) => makes_consumer_late(engine, input),
-        }
+        self.with(MakesConsumerLate { input })
     }
 
     // In which order the engine hands over coefficients.
-    pub(crate) fn layout(&self) -> Layout {
-        match &self.kind {
-            Kind::Library(engine) => engine.layout(),
-            Kind::Limited(_) => <LimitedDft as TwoAdicSubgroupDft<F>>::LAYOUT,
-        }
+    pub(crate) fn layout(&mut self) -> Layout {
+        self.with(LayoutOf)
     }
 
     // A clone.
