@@ -72,6 +72,15 @@ fn most_of_transform(method: Method, log: usize, width: usize) -> usize {
     column.saturating_mul(width)
 }
 
+// The most products before the first block of a coset is lent: the first half of its transform, of `log_h / 2` layers
+// rounded up, and the others of one chunk alone, which has as many layers as its height has bits.
+fn most_before_refusal(log_h: usize, width: usize) -> usize {
+    let layers = log_h / 2;
+    let first_half = rows(log_h).saturating_mul(log_h.saturating_sub(layers)) / 2;
+    let chunk = rows(layers).saturating_mul(layers) / 2;
+    width.saturating_mul(total(&[first_half, chunk]))
+}
+
 // The most products of each call, by formulas.
 fn bounds_at(method: Method, shape: Shape) -> Bounds {
     let Shape {
@@ -111,9 +120,8 @@ fn bounds_at(method: Method, shape: Shape) -> Bounds {
         } else {
             total(&[larger, entries])
         },
-        // The coset that the first block is of is the only one begun.
         refused: if method == Method::Cosets {
-            total(&[transform, entries, transform])
+            total(&[transform, entries, most_before_refusal(log_h, width)])
         } else {
             extension
         },
@@ -121,8 +129,8 @@ fn bounds_at(method: Method, shape: Shape) -> Bounds {
     }
 }
 
-// Those of eight rows of one entry, extended by one bit, worked by hand: the butterflies of eight rows are twelve,
-// and those of sixteen are 32.
+// Those of eight rows of one entry, extended by one bit, worked by hand: the butterflies of eight rows are twelve, those
+// of sixteen are 32, and before the first block is lent eight are done of two layers, and one of two rows.
 fn worked_bounds(method: Method) -> Bounds {
     let parts = Bounds {
         least: 1,
@@ -160,7 +168,7 @@ fn worked_bounds(method: Method) -> Bounds {
             coset_transform: 12,
             extension: 44,
             coset_extension: 44,
-            refused: 32,
+            refused: 29,
             ..parts
         },
         Method::WithoutZeros => Bounds {
@@ -297,7 +305,8 @@ fn codeword_within<F: CanonicalField>(
     count.assert_within(rt, names, shape, (0, bounds.membership));
 }
 
-// An extension whose first block is refused: no other coset is begun.
+// An extension whose blocks are all taken, and one whose first block is refused: of its coset nothing more is done, and
+// no other coset is begun. A later block of more than one row takes products.
 fn refusal_within<F: CanonicalField>(
     rt: &impl Abort,
     count: &Count<'_>,
@@ -306,11 +315,32 @@ fn refusal_within<F: CanonicalField>(
     (shape, bounds): (Shape, Bounds),
 ) {
     let rows = input(rt, mat, shape.added_bits, F::ONE);
+    let blocks = match engine.publish(rows, BlockLimit::new(usize::MAX)) {
+        Publication::Whole {
+            rows: _rows,
+            consumer,
+        } => consumer.seen(),
+        _ => 0,
+    };
+    assert_ended(rt, ("with_blocks", engine.name), shape, blocks > 0);
+    let whole = count.cell.get();
+    count.assert_within(
+        rt,
+        ("alone", "with_blocks", engine.name),
+        shape,
+        (0, bounds.extension),
+    );
+    let rows = input(rt, mat, shape.added_bits, F::ONE);
     let publication = engine.publish(rows, BlockLimit::new(0));
     let refused = matches!(&publication, Publication::Refused { .. });
     assert_ended(rt, ("with_blocks, refused", engine.name), shape, refused);
+    let most = if blocks > 1 && shape.log_h > 1 {
+        bounds.refused.min(whole.saturating_sub(1))
+    } else {
+        bounds.refused
+    };
     let names = ("alone", "with_blocks, refused", engine.name);
-    count.assert_within(rt, names, shape, (0, bounds.refused));
+    count.assert_within(rt, names, shape, (0, most));
 }
 
 // A matrix that can be transformed, with entries in memory of its own.
