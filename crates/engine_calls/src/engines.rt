@@ -155,7 +155,7 @@ impl<F: TwoAdicField> Engine<F> {
         })
     }
 
-    /// Those to a list of jobs.
+    /// The answers to a list of jobs.
     pub fn run_jobs(&mut self, jobs: Vec<Job<F>>) -> Result<Vec<RowMajorMatrix<F>>, JobsStopped<F>>
         requires { All (CanRun F.Field.own F.TWO_ADICITY) jobs.items }
     {
@@ -179,7 +179,7 @@ impl<F: TwoAdicField> Engine<F> {
         self.with(Publish { input, consumer })
     }
 
-    /// Whether that call makes its consumer once the coefficients were transformed.
+    /// Whether `coset_lde_batch_with_blocks` makes its consumer once the coefficients were transformed.
     pub fn makes_consumer_late(&mut self, input: Input<F>) -> bool {
         self.with(MakesConsumerLate { input })
     }

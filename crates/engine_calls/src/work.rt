@@ -21,6 +21,7 @@ pub trait EngineWork<F: TwoAdicField> {
     // What has to hold of it.
     ghost fits: { Self → Type 0 };
 
+    /// Has an engine do it.
     fn on<D: TwoAdicSubgroupDft<F>>(self, engine: &mut D) -> Self::Answer
         requires { fits self };
 }
@@ -43,7 +44,7 @@ impl<F: TwoAdicField> EngineWork<F> for AnswerTo<F> {
     }
 }
 
-/// That to a call over a vector space.
+/// The answer to a call over a vector space.
 #[derive(Drop)]
 pub struct AnswerInSpace<F, V> {
     pub call: Call,
@@ -68,7 +69,7 @@ impl<F: TwoAdicField, V: BasedVectorSpace<F> + Copy> EngineWork<F> for AnswerInS
     }
 }
 
-/// Those to a list of jobs.
+/// The answers to a list of jobs.
 #[derive(Drop)]
 pub struct RunJobs<F> {
     pub jobs: Vec<Job<F>>,
@@ -109,7 +110,7 @@ where
     }
 }
 
-/// Whether that call makes its consumer once the coefficients were transformed.
+/// Whether `coset_lde_batch_with_blocks` makes its consumer once the coefficients were transformed.
 #[derive(Drop)]
 pub struct MakesConsumerLate<F> {
     pub input: Input<F>,

@@ -384,7 +384,7 @@ fn in_blocks_on<F: CanonicalField, D: TwoAdicSubgroupDft<F>>(
     }
 }
 
-// The same as a work.
+// What `in_blocks_on` tests, as a work that `TestEngine::with` takes.
 struct InBlocks<'a, R> {
     rt: &'a R,
     alloc: Global,
