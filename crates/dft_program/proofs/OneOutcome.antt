@@ -25,6 +25,7 @@ use Rattle.dft_program.specs.Answers.{IsText, asked_job}
 use Rattle.dft_program.specs.Arguments.{Arguments, arguments, arguments_of, cannot_undo, faults, is_unfit, number_or_zero}
 use Rattle.dft_program.specs.Faults.{first_fault, unless_fault}
 use Rattle.dft_program.specs.NumberedFields.{NumberedField, has_inverse, members, residue_field}
+use Rattle.dft_program.specs.Refusals.{SomeRefused}
 use Rattle.dft_program.specs.Outcome.{FaultOr, Gives, IsAnswerable, IsAnswered, IsOutcome, IsOutcomeIn, IsOutcomeOver, Outcome, asked, told}
 use Rattle.dft_program.specs.Text.{text_of_rows}
 use Rattle.dft_program.proofs.Inverses.{has_inverse-from_true}
@@ -125,6 +126,7 @@ answerable : (words : List (List ℕ)) → ((o : Outcome) → IsOutcome words o 
 answerable words all = let one = one_outcome words in (one.0, one.1, one.2, all one.0 one.1)
 
 -- and where memory ran out
-pub answerable_without_memory : (words : List (List ℕ)) (s : Stopped) {refused : ℕ} (r : Result (Vec ℕ Global) Stopped) → r ≡ Err s → s ≡ OutOfMemory refused → Gives r (IsOutcome words) → IsAnswerable words
+pub answerable_without_memory : (words : List (List ℕ)) (s : Stopped) (r : Result (Vec ℕ Global) Stopped) → r ≡ Err s → s ≡ OutOfMemory → Gives r (IsOutcome words) → SomeRefused × IsAnswerable words
 answerable_without_memory words s r stopped is gives =
-    answerable words (subst (λ (given : Result (Vec ℕ Global) Stopped). Gives given (IsOutcome words)) (stopped ∙ ap Err is) gives)
+    let told = subst (λ (given : Result (Vec ℕ Global) Stopped). Gives given (IsOutcome words)) (stopped ∙ ap Err is) gives in
+    (told.1, answerable words told.0)

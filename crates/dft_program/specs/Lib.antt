@@ -6,6 +6,7 @@ pub mod Names
 pub mod NumberedFields
 pub mod Numbers
 pub mod Outcome
+pub mod Refusals
 pub mod Sinks
 pub mod Text
 pub mod Words

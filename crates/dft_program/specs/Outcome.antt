@@ -8,6 +8,7 @@ use Rattle.dft_program.specs.declared.fault.Fault.{Fault}
 use Rattle.dft_program.specs.declared.fault.Fault.TheVariants.{UnknownField, UnknownEngine, UnknownOperation, TooFewWords}
 use Rattle.dft_program.specs.declared.fault.Stopped.{Stopped}
 use Rattle.dft_program.specs.declared.fault.Stopped.TheVariants.{ByFault, OutOfMemory}
+use Rattle.dft_program.specs.Refusals.{SomeRefused}
 use Rattle.dft_program.specs.declared.names.FieldName.{FieldName}
 use Rattle.dft_program.specs.declared.names.FieldName.TheVariants.{BabyBear, Goldilocks, WideGoldilocks}
 use Rattle.dft_program.specs.declared.names.Operation.{Operation}
@@ -71,9 +72,9 @@ IsAnswerable words = (o : Outcome) × IsOutcome words o × ((p : Outcome) → Is
 abbrev pub Gives : Result (Vec ℕ Global) Stopped → (Outcome → Type 0) → Type 0
 Gives (Ok text) IsOne = IsOne (record { status = 0; text = vec_items text })
 Gives (Err (ByFault fault)) IsOne = IsOne (told fault)
-Gives (Err (OutOfMemory refused)) IsOne = (o : Outcome) → IsOne o → o.status ≡ 0
+Gives (Err OutOfMemory) IsOne = ((o : Outcome) → IsOne o → o.status ≡ 0) × SomeRefused
 
--- memory ran out while words were read, or once all were, and these have an answer
+-- memory was refused while words were read, or once all were, and these have an answer
 abbrev pub RanOut : List Told → List Told → Type 0
-RanOut old new = ((words : List (List ℕ)) × ToldFirst old new words)
-    ⊎ ((words : List (List ℕ)) × ToldAll old new words × IsAnswerable words)
+RanOut old new = SomeRefused × (((words : List (List ℕ)) × ToldFirst old new words)
+    ⊎ ((words : List (List ℕ)) × ToldAll old new words × IsAnswerable words))

@@ -1,6 +1,6 @@
 //! Why the program has no answer.
 
-ghost use Rattle.std.specs.Prelude.{◌≡◌, ℕ};
+ghost use Rattle.std.specs.Prelude.{◌≡◌};
 ghost use Rattle.dft_program.specs.Faults.{line_of};
 ghost use Rattle.dft_program.specs.declared.fault.Stopped.TheVariants.{ByFault, OutOfMemory};
 
@@ -41,7 +41,7 @@ impl Fault {
 #[derive(Drop)]
 pub enum Stopped {
     ByFault(Fault),
-    OutOfMemory(Refused),
+    OutOfMemory,
 }
 
 impl From<Fault> for Stopped {
@@ -53,19 +53,19 @@ impl From<Fault> for Stopped {
 }
 
 impl From<Refused> for Stopped {
-    ghost from_gives = { λ refused e. e ≡ OutOfMemory refused };
+    ghost from_gives = { λ _ e. e ≡ OutOfMemory };
 
-    fn from(refused: Refused) -> Stopped {
-        Stopped::OutOfMemory(refused)
+    fn from(_refused: Refused) -> Stopped {
+        Stopped::OutOfMemory
     }
 }
 
 impl From<DftError> for Stopped {
-    ghost from_gives = { λ _ e. (refused : ℕ) × (e ≡ OutOfMemory refused) };
+    ghost from_gives = { λ _ e. e ≡ OutOfMemory };
 
     fn from(error: DftError) -> Stopped {
         match error {
-            DftError::OutOfMemory(refused) => Stopped::OutOfMemory(refused),
+            DftError::OutOfMemory => Stopped::OutOfMemory,
         }
     }
 }

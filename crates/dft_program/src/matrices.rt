@@ -1,9 +1,10 @@
 //! Matrices from words, and the text of a matrix.
 
-ghost use Rattle.std.specs.Prelude.{◌≡◌, ◌++◌, ◌*◌, ◌/◌, ◌<◌, ◌≤◌, map, length, IfOk, OnOk, false};
+ghost use Rattle.std.specs.Prelude.{◌≡◌, ◌++◌, ◌*◌, ◌/◌, ◌<◌, ◌≤◌, map, length, IfOk, OnErr, OnOk, false};
 ghost use Rattle.std.specs.Fmt.{decimal};
 ghost use Rattle.p3_matrix.specs.RowMajor.{IsRowMajor, rows};
 ghost use Rattle.dft_program.specs.Arguments.{numbers_of, reaches};
+ghost use Rattle.dft_program.specs.Refusals.{SomeRefused};
 ghost use Rattle.dft_program.specs.Text.{line_of_numbers, text_of_rows, spaced};
 
 use crate::arguments::{element_of, number_or_zero};
@@ -21,6 +22,7 @@ pub fn matrix_of<F: CanonicalField>(
     requires width { 1 ≤ width }
     requires full { (length words.now / width) * width ≡ length words.now }
     ensures width { IfOk result (λ m. m.width ≡ width) }
+    ensures refused { OnErr result SomeRefused }
     ensures numbers { IfOk result (λ m. map (λ x. F.number (F.value x)) m.values ≡ numbers_of words.now) }
 {
     let mut values = growth::with_capacity(alloc, words.len())?;
@@ -36,6 +38,7 @@ pub fn text_of<F: CanonicalField>(
     alloc: Global,
     matrix: &RowMajorMatrix<F>,
 ) -> Result<Vec<u8>, Refused>
+    ensures refused { OnErr result SomeRefused }
     ensures whole { IfOk result (λ _. IsRowMajor matrix.now) }
     ensures text { IfOk result (λ text. text.items
         ≡ text_of_rows (map (map (λ x. F.number (F.value x))) (rows matrix.now))) }
@@ -49,7 +52,8 @@ pub fn text_of<F: CanonicalField>(
 
 // Adds a line: the numbers in decimal, with one space between them.
 fn push_line<F: CanonicalField>(text: &mut Vec<u8>, row: &[F]) -> Result<(), Refused>
-    ensures { OnOk result (text.new.items
+    ensures refused { OnErr result SomeRefused }
+    ensures line { OnOk result (text.new.items
         ≡ text.old.items ++ line_of_numbers (map (λ x. F.number (F.value x)) row.now)) }
 {
     push_numbers(text, row)?;
@@ -57,7 +61,8 @@ fn push_line<F: CanonicalField>(text: &mut Vec<u8>, row: &[F]) -> Result<(), Ref
 }
 
 fn push_numbers<F: CanonicalField>(text: &mut Vec<u8>, row: &[F]) -> Result<(), Refused>
-    ensures { OnOk result (text.new.items
+    ensures refused { OnErr result SomeRefused }
+    ensures numbers { OnOk result (text.new.items
         ≡ text.old.items ++ spaced (map (λ x. F.number (F.value x)) row.now)) }
 {
     let Some((first, others)) = row.split_first() else {
@@ -72,7 +77,8 @@ fn push_numbers<F: CanonicalField>(text: &mut Vec<u8>, row: &[F]) -> Result<(), 
 }
 
 fn push_number(text: &mut Vec<u8>, number: u64) -> Result<(), Refused>
-    ensures { OnOk result (text.new.items ≡ text.old.items ++ decimal number) }
+    ensures refused { OnErr result SomeRefused }
+    ensures number { OnOk result (text.new.items ≡ text.old.items ++ decimal number) }
 {
     growth::extend_from_slice(text, Buffer::new().format(number).as_bytes())
 }

@@ -1,6 +1,6 @@
 //! The whole program but for the process around it: words in, text and a status out.
 
-ghost use Rattle.std.specs.Prelude.{◌≡◌, ◌≢◌, ◌<◌, ◌≤◌, ◌↔◌, ◌⊎◌, ℕ, List, map, length, Result, IfOk, OnOk};
+ghost use Rattle.std.specs.Prelude.{◌≡◌, ◌≢◌, ◌<◌, ◌≤◌, ◌↔◌, ◌⊎◌, ℕ, List, map, length, Result, IfOk, OnErr, OnOk};
 ghost use Rattle.std.specs.Option.{ok_or};
 ghost use Rattle.std.specs.List.{slice_get};
 ghost use Rattle.std.specs.Vec.{vec_items};
@@ -9,6 +9,7 @@ ghost use Rattle.dft_program.specs.Answers.{job_of};
 ghost use Rattle.dft_program.specs.Faults.{memory_line, seen};
 ghost use Rattle.dft_program.specs.NumberedFields.{numbered};
 ghost use Rattle.dft_program.specs.Outcome.{Gives, IsAnswerable, IsOutcome, IsOutcomeIn, IsOutcomeOver, Outcome, RanOut, asked};
+ghost use Rattle.dft_program.specs.Refusals.{SomeRefused};
 ghost use Rattle.dft_program.specs.Sinks.{Took, TookStartOf};
 ghost use Rattle.dft_program.specs.Words.{ToldAll};
 
@@ -20,7 +21,7 @@ use crate::sink::{Sink, write_text};
 use crate::words::{CommandLine, words_after_name};
 use p3_dft::{
     BabyBear, CanonicalField, DftError, Goldilocks, Job, NaiveDft, Radix2Bowers,
-    Radix2DFTSmallBatch, Radix2Dit, Radix2DitParallel, Refused, RowMajorMatrix, TwoAdicSubgroupDft,
+    Radix2DFTSmallBatch, Radix2Dit, Radix2DitParallel, RowMajorMatrix, TwoAdicSubgroupDft,
     WideGoldilocks, growth, run_jobs,
 };
 use std::alloc::Global;
@@ -49,7 +50,7 @@ pub fn run<L: CommandLine, W: Sink>(alloc: Global, line: &mut L, out: &mut W) ->
 {
     match words_after_name(alloc, line) {
         Ok(words) => write_outcome(alloc, words.as_slice(), out),
-        Err(refused) => tell_out_of_memory(refused, out),
+        Err(_) => tell_out_of_memory(out),
     }
 }
 
@@ -60,25 +61,25 @@ pub fn write_outcome<W: Sink>(alloc: Global, words: &[Vec<u8>], out: &mut W) -> 
     ensures ended { (result ≡ 0) ⊎ (result ≡ 2) → (text : List ℕ)
         × IsOutcome (map vec_items words.now) (record { status = result; text = text })
         × Took (W.calls out.old) (W.calls out.new) text }
-    // There is an answer, and no memory for it.
-    ensures memory { result ≡ 3 → IsAnswerable (map vec_items words.now)
+    // There is an answer, and memory for it was refused.
+    ensures memory { result ≡ 3 → SomeRefused × IsAnswerable (map vec_items words.now)
         × Took (W.calls out.old) (W.calls out.new) memory_line }
     // Writing stopped in the midst of one of these.
     ensures stopped { result ≡ 4
         → ((o : Outcome) × IsOutcome (map vec_items words.now) o
         × TookStartOf (W.calls out.old) (W.calls out.new) o.text)
-        ⊎ (IsAnswerable (map vec_items words.now) × TookStartOf (W.calls out.old) (W.calls out.new) memory_line) }
+        ⊎ (SomeRefused × IsAnswerable (map vec_items words.now) × TookStartOf (W.calls out.old) (W.calls out.new) memory_line) }
     ensures failed { (result ≡ 4) ↔ ((W.calls out.old).failures < (W.calls out.new).failures) }
 {
     match answer(alloc, words) {
         Ok(text) => finish(out, text.as_slice(), 0),
         Err(Stopped::ByFault(fault)) => finish(out, fault.line().as_bytes(), 2),
-        Err(Stopped::OutOfMemory(refused)) => tell_out_of_memory(refused, out),
+        Err(Stopped::OutOfMemory) => tell_out_of_memory(out),
     }
 }
 
 // Writes the line that tells that memory was refused, and answers the status.
-fn tell_out_of_memory<W: Sink>(_refused: Refused, out: &mut W) -> u8
+fn tell_out_of_memory<W: Sink>(out: &mut W) -> u8
     ensures status { (result ≡ 3) ⊎ (result ≡ 4) }
     ensures memory { result ≡ 3 → Took (W.calls out.old) (W.calls out.new) memory_line }
     ensures stopped { result ≡ 4 → TookStartOf (W.calls out.old) (W.calls out.new) memory_line }
@@ -200,7 +201,8 @@ fn answer_by<F: CanonicalField>(
     job: Job<F>,
 ) -> Result<RowMajorMatrix<F>, DftError>
     requires { CanRun F.Field.own F.TWO_ADICITY job }
-    ensures { IfOk result (IsAnswer F.Field.own F.generator job) }
+    ensures answer { IfOk result (IsAnswer F.Field.own F.generator job) }
+    ensures refused { OnErr result SomeRefused }
 {
     match engine {
         EngineName::Naive => answer_to(alloc, &mut NaiveDft::default(), job),
@@ -218,7 +220,8 @@ fn answer_to<F: CanonicalField, D: TwoAdicSubgroupDft<F>>(
     job: Job<F>,
 ) -> Result<RowMajorMatrix<F>, DftError>
     requires { CanRun F.Field.own F.TWO_ADICITY job }
-    ensures { IfOk result (IsAnswer F.Field.own F.generator job) }
+    ensures answer { IfOk result (IsAnswer F.Field.own F.generator job) }
+    ensures refused { OnErr result SomeRefused }
 {
     let mut jobs = growth::with_capacity(alloc, 1)?;
     growth::push(&mut jobs, job)?;

@@ -3,6 +3,7 @@
 ghost use Rattle.std.specs.Prelude.{◌≡◌, ◌++◌, ◌<◌, ◌⊎◌, ℕ, List, map, option_map, vec_len, IfOk, OnErr};
 ghost use Rattle.std.specs.Vec.{vec_items};
 ghost use Rattle.std.specs.Io.{WritesAtMost};
+ghost use Rattle.dft_program.specs.Refusals.{SomeRefused};
 ghost use Rattle.dft_program.specs.Words.{Told, ToldAll, ToldFirst, told_at, told_by};
 
 use p3_dft::{Refused, growth};
@@ -28,6 +29,7 @@ pub fn words_after_name<L: CommandLine>(
     line: &mut L,
 ) -> Result<Vec<Vec<u8>>, Refused>
     ensures all { IfOk result (λ words. ToldAll (L.told line.old) (L.told line.new) (map vec_items words.items)) }
+    ensures memory { OnErr result SomeRefused }
     ensures first { OnErr result ((words : List (List ℕ)) × ToldFirst (L.told line.old) (L.told line.new) words) }
 {
     let mut words = Vec::new(alloc);
@@ -49,6 +51,7 @@ fn word_at<L: CommandLine>(
     requires { 0 < vec_len buffer.old }
     ensures room { 0 < vec_len buffer.new }
     ensures word { IfOk result (λ word. L.told line.new ≡ L.told line.old ++ told_at place (option_map vec_items word)) }
+    ensures memory { OnErr result SomeRefused }
     ensures refused { OnErr result ((L.told line.new ≡ L.told line.old)
         ⊎ ((word : List ℕ) × (L.told line.new ≡ L.told line.old ++ told_at place (Some word)))) }
 {

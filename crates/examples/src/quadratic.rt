@@ -68,7 +68,7 @@ impl<R: Field, W: Square<R>> Square<Quadratic<R, W>> for Root {
 
 /// `constant + linear * x`, where x * x is the element that W stands for.
 #[derive(Clone, Copy)]
-#[derive_where(PartialEq, Eq; R)]
+#[derive_where(PartialEq, Eq, PartialOrd, Ord; R)]
 pub struct Quadratic<R, W> {
     /// The coordinate of one.
     pub constant: R,

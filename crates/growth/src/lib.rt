@@ -3,55 +3,37 @@
 //! Each function is the one of `Vec` with its name, and has the clauses of that one, but for those that say the
 //! elements or the length once more (`by_index`, `lower_bound`, `upper_bound`). Three things differ. The vectors
 //! are those in the process's own memory, since an allocator of a caller's could refuse at will. A value for which
-//! there is no room is dropped by `push`, where std's gives it back with its error. And the error is a `Refused`,
-//! which is made here alone, each where the allocator, or a length beyond every memory, refused just that growth.
-//! So an error that holds a `Refused` says that a growth was refused before, in the same call or in an earlier one:
-//! a `Refused` can be kept.
+//! there is no room is dropped by `push`, where std's gives it back with its error. And the clause `room` of each
+//! says, of an error, the fact `WasRefused`, which can be shown here alone, each where the allocator, or a length
+//! beyond every memory, refused just that growth. So a function whose error has that fact in a clause was refused
+//! a growth before, in the same call or in an earlier one, from which the fact was kept.
 #![tactic(auto)]
 
-ghost use Rattle.std.specs.Prelude.{◌≡◌, ◌+◌, ◌-◌, ◌<◌, ◌≤◌, ◌++◌, ◌∷◌, [], ℕ, IfErr, IfOk, IsOk, OnOk, OnErr, is_ok};
+ghost use Rattle.std.specs.Prelude.{◌≡◌, ◌+◌, ◌-◌, ◌<◌, ◌≤◌, ◌++◌, ◌∷◌, [], ℕ, IfOk, IsOk, OnOk, OnErr, is_ok};
 ghost use Rattle.std.specs.Prelude.{if◌then◌else◌, length, max, take, replicate, vec_len, vec_capacity};
+ghost use Rattle.growth.specs.Evidence.{IsEvidence};
+ghost use Rattle.growth.specs.Refusals.{WasRefused};
 
 mod count;
 
 pub use count::Count;
 use std::alloc::{AllocError, AllocFailed, Global};
-use std::fmt;
-use std::marker::Model;
 use thiserror::Error;
 
-/// A vector asked for memory and was refused.
-///
-/// It can be passed on, kept and dropped, and not copied. It takes no bytes. No clause says that std refused: what
-/// says so is that nothing else makes one, and the functions of this module are read for that.
-///
-/// Contracts see for how many elements in all the vector was to have room.
-#[derive(Drop, Error)]
+/// A vector asked for memory and was refused. It is a plain value that takes no bytes, and nothing else makes one.
+#[derive(Clone, Copy, Debug, Drop, PartialEq, Eq, Error)]
 #[error("out of memory")]
 pub struct Refused {
     // Nothing outside this module can make one.
-    room: Count,
+    made: (),
 }
 
-impl Model for Refused {
-    ghost Value = { ℕ };
-
-    ghost view = { λ r. r.room.number };
-}
-
-impl fmt::Debug for Refused {
-    fn fmt<W: fmt::Write>(&self, f: &mut fmt::Formatter<W>) -> fmt::Result {
-        write!(f, "Refused")
-    }
-}
-
-// The one place where a `Refused` is made: of an error of std's.
-fn evidence(_error: AllocError, room: usize) -> Refused
-    ensures { result ≡ room }
+// The one place where a refusal is told: of an error of std's. Its contract alone can name `IsEvidence`, and no
+// other crate can name its contract. No clause says that std refused: the calls of this function are read for that.
+fn refusal(_error: AllocError, _room: usize) -> Refused
+    ensures { IsEvidence _room }
 {
-    Refused {
-        room: Count::of(&room),
-    }
+    Refused { made: () }
 }
 
 /// An empty vector with room for `capacity` elements.
@@ -61,11 +43,11 @@ pub fn with_capacity<T>(alloc: Global, capacity: usize) -> Result<Vec<T>, Refuse
     ensures capacity { IfOk result (λ v. capacity ≤ vec_capacity v) }
     ensures exact { IfOk result (λ v. vec_capacity v ≡ capacity) }
     ensures succeeds { capacity ≡ 0 → IsOk result }
-    ensures room { IfErr result (λ r. r ≤ capacity) }
+    ensures room { OnErr result (WasRefused capacity) }
 {
     match Vec::with_capacity(alloc, capacity) {
         Ok(items) => Ok(items),
-        Err(error) => Err(evidence(error, capacity)),
+        Err(error) => Err(refusal(error, capacity)),
     }
 }
 
@@ -73,11 +55,11 @@ pub fn with_capacity<T>(alloc: Global, capacity: usize) -> Result<Vec<T>, Refuse
 pub fn from_slice<T: Copy>(alloc: Global, from: &[T]) -> Result<Vec<T>, Refused>
     ensures items { IfOk result (λ v. v.items ≡ from.now) }
     ensures len { IfOk result (λ v. vec_len v ≡ length from.now) }
-    ensures room { IfErr result (λ r. r ≤ length from.now) }
+    ensures room { OnErr result (WasRefused (length from.now)) }
 {
     match Vec::from_slice(alloc, from) {
         Ok(items) => Ok(items),
-        Err(error) => Err(evidence(error, from.len())),
+        Err(error) => Err(refusal(error, from.len())),
     }
 }
 
@@ -90,11 +72,11 @@ pub fn reserve<T>(items: &mut Vec<T>, additional: usize) -> Result<(), Refused>
     ensures succeeds { vec_len items.old + additional ≤ vec_capacity items.old → IsOk result }
     ensures full { OnErr result (vec_capacity items.old < vec_len items.old + additional) }
     ensures err { OnErr result (vec_capacity items.new ≡ vec_capacity items.old) }
-    ensures room { IfErr result (λ r. r ≤ vec_len items.old + additional) }
+    ensures room { OnErr result (WasRefused (vec_len items.old + additional)) }
 {
     match items.reserve(additional) {
         Ok(()) => Ok(()),
-        Err(error) => Err(evidence(error, items.len().saturating_add(additional))),
+        Err(error) => Err(refusal(error, items.len().saturating_add(additional))),
     }
 }
 
@@ -109,11 +91,11 @@ pub fn reserve_exact<T>(items: &mut Vec<T>, additional: usize) -> Result<(), Ref
     ensures succeeds { vec_len items.old + additional ≤ vec_capacity items.old → IsOk result }
     ensures full { OnErr result (vec_capacity items.old < vec_len items.old + additional) }
     ensures err { OnErr result (vec_capacity items.new ≡ vec_capacity items.old) }
-    ensures room { IfErr result (λ r. r ≤ vec_len items.old + additional) }
+    ensures room { OnErr result (WasRefused (vec_len items.old + additional)) }
 {
     match items.reserve_exact(additional) {
         Ok(()) => Ok(()),
-        Err(error) => Err(evidence(error, items.len().saturating_add(additional))),
+        Err(error) => Err(refusal(error, items.len().saturating_add(additional))),
     }
 }
 
@@ -125,11 +107,11 @@ pub fn push<T: Drop>(items: &mut Vec<T>, value: T) -> Result<(), Refused>
     ensures capacity { vec_capacity items.old ≤ vec_capacity items.new }
     ensures succeeds { vec_len items.old < vec_capacity items.old → IsOk result }
     ensures full { OnErr result (vec_capacity items.old ≤ vec_len items.old) }
-    ensures room { IfErr result (λ r. r ≤ vec_len items.old + 1) }
+    ensures room { OnErr result (WasRefused (vec_len items.old + 1)) }
 {
     match items.push(value) {
         Ok(()) => Ok(()),
-        Err(AllocFailed { value: _value }) => Err(evidence(
+        Err(AllocFailed { value: _value }) => Err(refusal(
             AllocError,
             items.len().saturating_add(1),
         )),
@@ -145,11 +127,11 @@ pub fn resize<T: Copy>(items: &mut Vec<T>, n: usize, value: T) -> Result<(), Ref
     ensures capacity { vec_capacity items.old ≤ vec_capacity items.new }
     ensures succeeds { n ≤ vec_capacity items.old → IsOk result }
     ensures full { OnErr result (vec_capacity items.old < n) }
-    ensures room { IfErr result (λ r. r ≤ n) }
+    ensures room { OnErr result (WasRefused n) }
 {
     match items.resize(n, value) {
         Ok(()) => Ok(()),
-        Err(error) => Err(evidence(error, n)),
+        Err(error) => Err(refusal(error, n)),
     }
 }
 
@@ -162,10 +144,10 @@ pub fn extend_from_slice<T: Copy>(items: &mut Vec<T>, from: &[T]) -> Result<(), 
     ensures capacity { vec_capacity items.old ≤ vec_capacity items.new }
     ensures succeeds { vec_len items.old + length from.now ≤ vec_capacity items.old → IsOk result }
     ensures full { OnErr result (vec_capacity items.old < vec_len items.old + length from.now) }
-    ensures room { IfErr result (λ r. r ≤ vec_len items.old + length from.now) }
+    ensures room { OnErr result (WasRefused (vec_len items.old + length from.now)) }
 {
     match items.extend_from_slice(from) {
         Ok(()) => Ok(()),
-        Err(error) => Err(evidence(error, items.len().saturating_add(from.len()))),
+        Err(error) => Err(refusal(error, items.len().saturating_add(from.len()))),
     }
 }

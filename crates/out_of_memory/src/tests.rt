@@ -427,7 +427,7 @@ fn keep_tables<F: TwoAdicField>(rt: &impl Abort, alloc: Global, scarce: &mut Sca
     let larger = engine.prepare(alloc, 5);
     let answer = engine.answer(Call::Batch(Operation::Dft), input);
     scarce.relieve();
-    assert!(rt; matches!(&larger, Some(Err(DftError::OutOfMemory(_)))));
+    assert!(rt; matches!(&larger, Some(Err(DftError::OutOfMemory))));
     let Answer::Rows(values) = answer else {
         panic!(rt; "memory was taken");
     };
@@ -462,7 +462,7 @@ fn answers_within<F: TwoAdicField>(
         Err(
             JobsStopped {
                 answers,
-                error: DftError::OutOfMemory(_),
+                error: DftError::OutOfMemory,
             },
         ) => {
             assert!(rt; answers.len() < 3);

@@ -4,7 +4,7 @@ ghost use Rattle.std.specs.Prelude.{◌≡◌, ℕ, ◌+◌, ◌≤◌, ◌⊎�
 ghost use Rattle.std.specs.List.{All, AllZip};
 ghost use Rattle.p3_dft.specs.Engines.{IsLater};
 ghost use Rattle.p3_dft.specs.Jobs.{AreFirstAnswers, CanRun, HasMade, IsAnswer, IsPreparedFor, IsRun};
-ghost use Rattle.p3_dft.specs.Jobs.{NextIsNotPromised, answer_entries};
+ghost use Rattle.p3_dft.specs.Jobs.{NextIsNotPromised, answer_entries, entries_of};
 ghost use Rattle.p3_matrix.specs.Room.{IsWithin};
 
 use crate::traits::TwoAdicSubgroupDft;
@@ -32,7 +32,8 @@ impl<F: Copy> Job<F> {
     /// A copy of the job, with entries in memory of its own. Where memory is refused, there is nothing but
     /// the error.
     pub fn try_clone(&self) -> Result<Self, DftError>
-        ensures { IfOk result (λ job. job ≡ self.now) }
+        ensures copy { IfOk result (λ job. job ≡ self.now) }
+        ensures room { IfErr result (IsWithin (entries_of self.now)) }
     {
         Ok(match self {
             Job::Dft(mat) => Job::Dft(mat.try_clone()?),

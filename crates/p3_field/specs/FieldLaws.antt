@@ -3,6 +3,11 @@ use Rattle.std.proofs.Common.{◌≡◌, ◌↔◌, ℕ, zero, suc, ◌+◌, ◌
 use Rattle.std.proofs.lemmas.Bool.{eqb-true, eq-eqb}
 use Rattle.std.proofs.Math.Dec.{eqb}
 use Rattle.std.proofs.Math.Nat.{add-mod-mod, mod-eq_of_lt}
+use Rattle.std.specs.Cmp.{Equal-is, IsTotalOrder, alike_right}
+use Rattle.std.specs.Ordering.{is_eq}
+use Rattle.std.specs.Prelude.{Bool}
+use Rattle.std.specs.declared.cmp.Ordering.{Ordering}
+use Rattle.std.specs.declared.cmp.Ordering.TheVariants.{Equal}
 use Rattle.p3_field.specs.Residues.{Residue, residue-eq, residues, IsDifference}
 use Rattle.p3_field.specs.Ring.{Ring, AreRoots, count}
 use Rattle.p3_field.specs.Squarings.{repeated_square}
@@ -40,3 +45,11 @@ module _ {A : Type 0} (r : Ring A) where
         let e : bits - i ≡ suc (bits - suc i) = omega (arith, below) in
         sym (repeated_square-suc root (bits - suc i)) ∙ ap (repeated_square r root) (sym e);
   }
+
+-- the order of a field depends on values alone, by the laws of Ord and by eq_law of Field
+module _ {X E : Type 0} (value : X → E) (eq : X → X → Bool) (cmp : X → X → Ordering) (total : IsTotalOrder cmp) (matches_eq : (x y : X) → eq x y ≡ is_eq (cmp x y)) (same : (x y : X) → IsTrue (eq x y) ↔ (value x ≡ value y)) where
+  tied : (x y : X) → value x ≡ value y → cmp x y ≡ Equal
+  tied x y e = (Equal-is (cmp x y)).0 (sym (matches_eq x y) ∙ (same x y).1 e)
+
+  pub order_of_values : (a b c d : X) → value a ≡ value c → value b ≡ value d → cmp a b ≡ cmp c d
+  order_of_values a b c d e f = total.congr a c b (tied a c e) ∙ alike_right total b d c (tied b d f)

@@ -1,7 +1,8 @@
 //! Vector spaces over a field, whose elements are given by coordinates.
 
-ghost use Rattle.std.specs.Prelude.{◌≡◌, ◌+◌, ◌++◌, ◌<◌, ◌≤◌, ℕ, List, IfErr, OnOk, OnErr, IsOk, length, get_or, vec_len};
+ghost use Rattle.std.specs.Prelude.{◌≡◌, ◌+◌, ◌++◌, ◌<◌, ◌≤◌, ℕ, List, OnOk, OnErr, IsOk, length, get_or, vec_len};
 ghost use Rattle.std.specs.Prelude.{vec_capacity};
+ghost use Rattle.growth.specs.Refusals.{WasRefused};
 
 use crate::fields::Field;
 use growth::Refused;
@@ -34,7 +35,7 @@ pub trait BasedVectorSpace<F: Field>: Drop {
         ensures items { OnOk result (to.new.items ≡ to.old.items ++ coordinates self.now) }
         ensures room { vec_len to.old + DIMENSION ≤ vec_capacity to.old → IsOk result }
         ensures refused { OnErr result (to.new.items ≡ to.old.items) }
-        ensures asked { IfErr result (λ r. r ≤ vec_len to.old + DIMENSION) }
+        ensures asked { OnErr result (WasRefused (vec_len to.old + DIMENSION)) }
     {
         growth::reserve(to, Self::DIMENSION)?;
         for i in 0..Self::DIMENSION {

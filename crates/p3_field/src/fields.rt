@@ -10,11 +10,11 @@ use std::ops::{Add, AddAssign, Mul, MulAssign, Neg, Sub, SubAssign};
 
 /// An element of a commutative ring with one in which halving is exact.
 ///
-/// Contracts speak of the value of an element. Two elements may have one value; `==` depends on
+/// Contracts speak of the value of an element. Two elements may have one value; `==` and the order depend on
 /// values alone. Nothing here says that every element but zero has an inverse: the transforms need no
 /// more than the laws at the end. `FieldOps` adds `+=`, `-=`, `*=`, sums and products of iterators, and texts.
 pub trait Field: Copy
-    + Eq
+    + Ord
     + Add<Self, Output = Self>
     + Sub<Self, Output = Self>
     + Mul<Self, Output = Self>
@@ -225,7 +225,7 @@ pub trait Field: Copy
 
     ghost neg_law: { (a r : Self) → Self.neg_gives a r → value r ≡ ring.neg (value a) };
 
-    // `==` is equality of values.
+    // `==` is equality of values. So the order depends on values alone: `order_of_values` of specs/FieldLaws.
     ghost eq_law: { (a b : Self) → IsTrue (Self.eq a b) ↔ (value a ≡ value b) };
 }
 

@@ -28,7 +28,7 @@ pub trait TwoAdicField: Packable {
 }
 
 /// A field whose values are named by the numbers below a modulus, and ordered as these are.
-pub trait CanonicalField: TwoAdicField + Ord {
+pub trait CanonicalField: TwoAdicField {
     /// The modulus.
     const ORDER_U64: u64;
 

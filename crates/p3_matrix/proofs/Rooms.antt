@@ -6,7 +6,7 @@ use Rattle.p3_matrix.specs.Room.{IsWithin}
 
 -- a larger bound holds too
 pub within_more : (n m : ℕ) → n ≤ m → (e : DftError) → IsWithin n e → IsWithin m e
-within_more n m less (OutOfMemory room) within = omega arith
+within_more n m less OutOfMemory within = λ k more. within k (omega (arith, less, more))
 
 -- the error that `?` hands on is of the growth that the one before told of
 pub room_of : {A : Type 0} (r : Result A DftError) (e : DftError) (n m : ℕ) → IsErr r × IsErrAnd r (λ y. y ≡ e) → n ≤ m → IsWithin n e → IfErr r (IsWithin m)

@@ -1,8 +1,9 @@
 -- What an error tells of the growth that was refused.
-use Rattle.std.specs.Prelude.{ℕ, ◌≤◌}
+use Rattle.std.specs.Prelude.{ℕ}
+use Rattle.growth.specs.Refusals.{WasRefused}
 use Rattle.p3_matrix.specs.declared.error.DftError.{DftError}
 use Rattle.p3_matrix.specs.declared.error.DftError.TheVariants.{OutOfMemory}
 
--- the vector that was refused was to have room for at most n elements
+-- memory was refused to a vector that was to have room for at most n elements
 abbrev pub IsWithin : ℕ → DftError → Type 0
-IsWithin n (OutOfMemory room) = room ≤ n
+IsWithin n OutOfMemory = WasRefused n

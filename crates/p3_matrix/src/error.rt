@@ -4,23 +4,21 @@ use growth::Refused;
 use thiserror::Error;
 
 /// Why a transform gave no answer.
-#[derive(Debug, Drop, Error)]
+#[derive(Clone, Copy, Debug, Drop, PartialEq, Eq, Error)]
 pub enum DftError {
-    /// Memory was asked for and refused, in the call that answers this or before it. What it holds is made by the
-    /// functions of `growth` alone, each where one growth of a vector was refused. Contracts see for how many
-    /// elements that vector was to have room.
+    /// Memory was asked for and refused. It is a plain value that anyone can make: what says that a growth was refused
+    /// is the clause of the call that answers it, by `IsWithin`, and it says for at most how many elements.
     #[error("out of memory")]
-    OutOfMemory(Refused),
+    OutOfMemory,
 }
 
 impl From<Refused> for DftError {
     ghost use Rattle.std.specs.Prelude.{◌≡◌};
-    ghost use Rattle.p3_matrix.specs.declared.error.DftError.{DftError};
     ghost use Rattle.p3_matrix.specs.declared.error.DftError.TheVariants.{OutOfMemory};
 
-    ghost from_gives = { λ refused e. e ≡ OutOfMemory refused };
+    ghost from_gives = { λ _ e. e ≡ OutOfMemory };
 
-    fn from(refused: Refused) -> DftError {
-        DftError::OutOfMemory(refused)
+    fn from(_refused: Refused) -> DftError {
+        DftError::OutOfMemory
     }
 }

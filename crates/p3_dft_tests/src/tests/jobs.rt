@@ -125,7 +125,7 @@ fn answers_in_turn<F: CanonicalField>(
         Err(
             JobsStopped {
                 answers,
-                error: DftError::OutOfMemory(_),
+                error: DftError::OutOfMemory,
             },
         ) => (answers, false),
     };

@@ -17,6 +17,19 @@ fn says_what_was_refused(rt: HostRuntime) {
 }
 
 #[test]
+fn is_a_plain_value(rt: HostRuntime) {
+    let answer: Result<u8, DftError> = Err(DftError::OutOfMemory);
+    assert!(rt; answer == Err(DftError::OutOfMemory));
+    assert_eq!(rt; answer, Err(DftError::OutOfMemory));
+    let Err(DftError::OutOfMemory) = answer else {
+        panic!(rt; "no error");
+    };
+    let error = DftError::OutOfMemory;
+    let (first, second) = (error, error);
+    assert_eq!(rt; first, second);
+}
+
+#[test]
 fn says_which_block_was_one_too_many(rt: HostRuntime) {
     let text = BlockRefused { start: 12 }
         .to_string(rt.alloc())

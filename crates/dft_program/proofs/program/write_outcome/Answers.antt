@@ -6,12 +6,11 @@ use Rattle.dft_program.proofs.program.write_outcome.Goals as goal
 pub returns-in-Err-OutOfMemory-clause-memory : goal.returns-in-Err-OutOfMemory-clause-memory
 returns-in-Err-OutOfMemory-clause-memory g c is =
     let words = map vec_items c.args.words.now in
-    (answerable_without_memory words c.in-Err-OutOfMemory.field-0 c.answer.result c.in-Err-OutOfMemory.is c.in-Err-OutOfMemory.field-0-is c.answer.ensures, c.tell_out_of_memory.ensures.memory is)
+    let told = answerable_without_memory words c.in-Err-OutOfMemory.field-0 c.answer.result c.in-Err-OutOfMemory.is c.in-Err-OutOfMemory.field-0-is c.answer.ensures in
+    (told.0, told.1, c.tell_out_of_memory.ensures.memory is)
 
 pub returns-in-Err-OutOfMemory-clause-stopped : goal.returns-in-Err-OutOfMemory-clause-stopped
 returns-in-Err-OutOfMemory-clause-stopped g c is =
     let words = map vec_items c.args.words.now in
-    inr (
-      answerable_without_memory words c.in-Err-OutOfMemory.field-0 c.answer.result c.in-Err-OutOfMemory.is c.in-Err-OutOfMemory.field-0-is c.answer.ensures,
-      c.tell_out_of_memory.ensures.stopped is,
-    )
+    let told = answerable_without_memory words c.in-Err-OutOfMemory.field-0 c.answer.result c.in-Err-OutOfMemory.is c.in-Err-OutOfMemory.field-0-is c.answer.ensures in
+    inr (told.0, told.1, c.tell_out_of_memory.ensures.stopped is)

@@ -1,0 +1,5 @@
+use Rattle.std.proofs.Common.{refl}
+use Rattle.growth.proofs.refusal.Goals as goal
+
+pub returns : goal.returns
+returns c = (_, refl)

@@ -1,0 +1,2 @@
+mod Evidence
+pub mod Refusals
