@@ -5,7 +5,7 @@ use Rattle.std.proofs.lemmas.List.{length-map, take-map, drop-map}
 use Rattle.std.proofs.lemmas.Simd.{map-map}
 use Rattle.std.proofs.Math.ListN.{get_or-map}
 use Rattle.p3_field.specs.Ring.{AreRoots, IsInvertible}
-use Rattle.p3_field.specs.declared.fields.Field.{Ghosts as FieldMembers}
+use Rattle.p3_field.specs.declared.fields.Valued.{Ghosts as FieldMembers}
 use Rattle.p3_matrix.specs.Matrix.{Matrix, Same}
 use Rattle.p3_matrix.specs.RowMajor.{RowMajor, IsRowMajor, height, row, rows}
 use Rattle.p3_matrix.proofs.Matrices.{same_sym, same_trans}
@@ -61,7 +61,7 @@ rows_of_each f m =
     ∙ sym (map-map (map f) (row m) (range_with_len 0 (height m)))
 
 module _ {F : Type 0} (f : FieldMembers F) (generator : ℕ → F) (two_adicity modulus : ℕ) (element : ℕ → f.Element)
-    (zero_is : f.value f.ZERO ≡ f.ring.zero) (are_roots : AreRoots f.ring two_adicity (λ n. f.value (generator n))) where
+    (zero_is : f.value f.zero ≡ f.ring.zero) (are_roots : AreRoots f.ring two_adicity (λ n. f.value (generator n))) where
   abbrev field : NumberedField f.Element
   field = numbered f generator two_adicity modulus element
 
@@ -77,7 +77,7 @@ module _ {F : Type 0} (f : FieldMembers F) (generator : ℕ → F) (two_adicity 
     height = sym (each_high f.value m);
     width = refl;
     alike = λ i j p q.
-        sym (get_or-map f.value m.values (i * m.width + j) f.ZERO)
+        sym (get_or-map f.value m.values (i * m.width + j) f.zero)
         ∙ ap (get_or (map f.value m.values) (i * m.width + j)) zero_is;
   }
 

@@ -1,7 +1,7 @@
 -- Fields whose elements have numbers.
 use Rattle.std.specs.Prelude.{ℕ, ◌==◌, Bool}
 use Rattle.std.specs.List.{list_any, range_with_len}
-use Rattle.p3_field.specs.declared.fields.Field.{Ghosts as FieldMembers}
+use Rattle.p3_field.specs.declared.fields.Valued.{Ghosts as FieldMembers}
 use Rattle.p3_field.specs.Fields.{FieldNumbers, field_generator, field_ring}
 use Rattle.p3_field.specs.Residues.{Residue, residue_of}
 use Rattle.p3_field.specs.Ring.{Ring, two}

@@ -37,7 +37,7 @@ pub fn parse_arguments<F: CanonicalField>(
           width = a.width;
           values = numbers_of a.values.now;
         }) result
-        ≡ arguments (numbered F.Field.own F.generator F.TWO_ADICITY F.ORDER_U64 element) operation
+        ≡ arguments (numbered F.Valued.own F.generator F.TWO_ADICITY F.ORDER_U64 element) operation
         (map vec_items words.now) }
     ensures below { IfOk result (λ a. reaches F.ORDER_U64 (numbers_of a.values.now) ≡ false) }
     ensures shift_below { IfOk result (λ a. a.shift < F.ORDER_U64) }
@@ -156,7 +156,7 @@ fn is_unfit<F: CanonicalField>(count: usize, width: usize, added_bits: usize) ->
 fn cannot_undo<F: CanonicalField>(operation: Operation, shift: u64) -> bool
     requires { shift < F.ORDER_U64 }
     ensures test { (element : ℕ → F.Element) → ((n : ℕ) → n < F.ORDER_U64 → F.number (element n) ≡ n)
-        → result ≡ cannot_undo (numbered F.Field.own F.generator F.TWO_ADICITY F.ORDER_U64 element) operation shift }
+        → result ≡ cannot_undo (numbered F.Valued.own F.generator F.TWO_ADICITY F.ORDER_U64 element) operation shift }
     ensures invertible { result ≡ false → operation ≡ CosetIdft
         → (x : F) → F.number (F.value x) ≡ shift → IsInvertible F.ring (F.value x) }
 {
@@ -174,7 +174,7 @@ fn cannot_undo<F: CanonicalField>(operation: Operation, shift: u64) -> bool
 fn has_inverse<F: CanonicalField>(number: u64) -> bool
     requires { number < F.ORDER_U64 }
     ensures test { (element : ℕ → F.Element) → ((n : ℕ) → n < F.ORDER_U64 → F.number (element n) ≡ n)
-        → result ≡ has_inverse (numbered F.Field.own F.generator F.TWO_ADICITY F.ORDER_U64 element) (element number) }
+        → result ≡ has_inverse (numbered F.Valued.own F.generator F.TWO_ADICITY F.ORDER_U64 element) (element number) }
     ensures invertible { result ≡ true → (x : F) → F.number (F.value x) ≡ number → IsInvertible F.ring (F.value x) }
 {
     element_of::<F>(number).try_inverse().is_some()

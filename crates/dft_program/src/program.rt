@@ -165,7 +165,7 @@ fn answer_in<F: CanonicalField>(
     words: &[Vec<u8>],
 ) -> Result<Vec<u8>, Stopped>
     ensures { (element : ℕ → F.Element) → ((n : ℕ) → n < F.ORDER_U64 → F.number (element n) ≡ n)
-        → Gives result (IsOutcomeOver (numbered F.Field.own F.generator F.TWO_ADICITY F.ORDER_U64 element)
+        → Gives result (IsOutcomeOver (numbered F.Valued.own F.generator F.TWO_ADICITY F.ORDER_U64 element)
         operation (map vec_items words.now)) }
 {
     let arguments = parse_arguments::<F>(operation, words)?;
@@ -200,8 +200,8 @@ fn answer_by<F: CanonicalField>(
     engine: EngineName,
     job: Job<F>,
 ) -> Result<RowMajorMatrix<F>, DftError>
-    requires { CanRun F.Field.own F.TWO_ADICITY job }
-    ensures answer { IfOk result (IsAnswer F.Field.own F.generator job) }
+    requires { CanRun F.Valued.own F.TWO_ADICITY job }
+    ensures answer { IfOk result (IsAnswer F.Valued.own F.generator job) }
     ensures refused { OnErr result SomeRefused }
 {
     match engine {
@@ -219,8 +219,8 @@ fn answer_to<F: CanonicalField, D: TwoAdicSubgroupDft<F>>(
     engine: &mut D,
     job: Job<F>,
 ) -> Result<RowMajorMatrix<F>, DftError>
-    requires { CanRun F.Field.own F.TWO_ADICITY job }
-    ensures answer { IfOk result (IsAnswer F.Field.own F.generator job) }
+    requires { CanRun F.Valued.own F.TWO_ADICITY job }
+    ensures answer { IfOk result (IsAnswer F.Valued.own F.generator job) }
     ensures refused { OnErr result SomeRefused }
 {
     let mut jobs = growth::with_capacity(alloc, 1)?;

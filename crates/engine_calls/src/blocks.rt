@@ -128,7 +128,7 @@ where
             BlocksStopped::Refused { consumer, refusal } => {
                 Publication::Refused { consumer, refusal }
             }
-            BlocksStopped::OutOfMemory(Unpublished { make_consumer, .. }) => {
+            BlocksStopped::OutOfMemory(Unpublished { make_consumer }) => {
                 Publication::OutOfMemory(make_consumer(1))
             }
         },

@@ -78,7 +78,7 @@ pub struct RunJobs<F> {
 impl<F: TwoAdicField> EngineWork<F> for RunJobs<F> {
     type Answer = Result<Vec<RowMajorMatrix<F>>, JobsStopped<F>>;
 
-    ghost fits = { λ work. All (CanRun F.Field.own F.TWO_ADICITY) work.jobs.items };
+    ghost fits = { λ work. All (CanRun F.Valued.own F.TWO_ADICITY) work.jobs.items };
 
     fn on<D: TwoAdicSubgroupDft<F>>(
         self,

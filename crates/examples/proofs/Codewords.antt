@@ -6,7 +6,7 @@ use Rattle.std.proofs.Math.ListN.{get_or-append}
 use Rattle.std.proofs.Math.Nat.{mul-le-mul_right}
 use Rattle.std.proofs.lemmas.Nat.{shr-shr}
 use Rattle.p3_field.specs.Ring.{power}
-use Rattle.p3_field.specs.declared.fields.Field.{Ghosts as FieldMembers}
+use Rattle.p3_field.specs.declared.fields.Valued.{Ghosts as FieldMembers}
 use Rattle.p3_matrix.specs.BitOrder.{rev}
 use Rattle.p3_matrix.specs.Cosets.{point, values_of}
 use Rattle.p3_matrix.specs.RowMajor.{RowMajor}
@@ -34,7 +34,7 @@ smaller h height w width fewer same size = let less = mul-le-mul_right width few
 
 module _ {F D V : Type 0} (f : FieldMembers F) (g : ℕ → f.Element) (worth : D → V) (join : V → V → V) (of_row : List F → V) (log : ℕ) (s : f.Element) where
   abbrev are : ℕ → List F → List (RowMajor F) → List (List D) → RowMajor F → Type 0
-  are n bs cs ns last = AreLayers f g worth join of_row log n s (λ l. f.value (get_or bs l f.ZERO)) (λ l. get_or cs l last) (λ l. get_or ns l [])
+  are n bs cs ns last = AreLayers f g worth join of_row log n s (λ l. f.value (get_or bs l f.zero)) (λ l. get_or cs l last) (λ l. get_or ns l [])
 
   -- one more layer
   pub layers_pushed : (n : ℕ) (bs : List F) (cs : List (RowMajor F)) (ns : List (List D)) (b : F) (c next : RowMajor F) (nodes : List D)
@@ -49,14 +49,14 @@ module _ {F D V : Type 0} (f : FieldMembers F) (g : ℕ → f.Element) (worth : 
       same : (beta gamma : F) (here at there to : RowMajor F) (tree wood : List D) → beta ≡ gamma → here ≡ at → there ≡ to → tree ≡ wood → layer gamma at to wood → layer beta here there tree
       same beta gamma here at there to tree wood a b c d is = subst (λ x. layer x here there tree) (sym a) (subst (λ x. layer gamma x there tree) (sym b) (subst (λ x. layer gamma at x tree) (sym c) (subst (layer gamma at to) (sym d) is)))
 
-      cases : (l < n) ⊎ (n ≤ l) → layer (get_or (bs ++ b ∷ []) l f.ZERO) (get_or (cs ++ c ∷ []) l next) (get_or (cs ++ c ∷ []) (suc l) next) (get_or (ns ++ nodes ∷ []) l [])
+      cases : (l < n) ⊎ (n ≤ l) → layer (get_or (bs ++ b ∷ []) l f.zero) (get_or (cs ++ c ∷ []) l next) (get_or (cs ++ c ∷ []) (suc l) next) (get_or (ns ++ nodes ∷ []) l [])
       cases (inl less) =
-          same _ _ _ _ _ _ _ _ (get_or-append bs (b ∷ []) f.ZERO l (omega (arith, less, bl))) (get_or_pushed cs c next l (omega (arith, less, cl)))
+          same _ _ _ _ _ _ _ _ (get_or-append bs (b ∷ []) f.zero l (omega (arith, less, bl))) (get_or_pushed cs c next l (omega (arith, less, cl)))
           (get_or_pushed cs c next (suc l) (omega (arith, less, cl))) (get_or-append ns (nodes ∷ []) [] l (omega (arith, less, nl))) (before l less)
       cases (inr more) =
           let here : n ≡ l = omega (arith, below, more) in
           let behind : length cs ≡ l = cl ∙ here in
-          same _ _ _ _ _ _ _ _ (get_or_push bs b f.ZERO l (bl ∙ here)) (get_or_push cs c next l behind)
+          same _ _ _ _ _ _ _ _ (get_or_push bs b f.zero l (bl ∙ here)) (get_or_push cs c next l behind)
           (ap (λ q. get_or (cs ++ c ∷ []) (suc q) next) (sym behind) ∙ get_or_behind cs c next) (get_or_push ns nodes [] l (nl ∙ here))
           (subst (λ q. IsLayer f g worth join of_row (log - suc q) (power f.ring s (2 ^ q)) (f.value b) c next nodes) here new)
 

@@ -4,7 +4,7 @@ use Rattle.std.proofs.Math.Nat.{lt_of_mul-lt-mul_left}
 use Rattle.std.proofs.lemmas.List.{length-map}
 use Rattle.p3_field.specs.Ring.{Ring, AreRoots, IsInvertible, power}
 use Rattle.p3_field.specs.declared.algebra.BasedVectorSpace.{Ghosts as SpaceMembers}
-use Rattle.p3_field.specs.declared.fields.Field.{Ghosts as FieldMembers}
+use Rattle.p3_field.specs.declared.fields.Valued.{Ghosts as FieldMembers}
 use Rattle.p3_matrix.specs.Cosets.{AreCoefficients, IsValues, point, values_of}
 use Rattle.p3_matrix.specs.Matrix.{Matrix, Same, image}
 use Rattle.p3_matrix.specs.Polynomials.{poly}
@@ -61,9 +61,9 @@ module _ {A B : Type 0} (r : Ring A) (q : Ring B) (embed : A → B) (is : IsEmbe
         ∙ ap (poly q c.height (λ u. embed (c.entry u j))) (embedded-point n s i))
 
 module _ {F E : Type 0} (f : FieldMembers F) (e : FieldMembers E) (v : SpaceMembers E F) (g : ℕ → F) (h : ℕ → E) (embedded : F → E) (x : E) (w : F)
-    (is : IsExtensionField f e v g h embedded x w) (none : f.value f.ZERO ≡ f.ring.zero) (nothing : e.value e.ZERO ≡ e.ring.zero) where
+    (is : IsExtensionField f e v g h embedded x w) (none : f.value f.zero ≡ f.ring.zero) (nothing : e.value e.zero ≡ e.ring.zero) where
   -- ---- embedded matrices
-  stored : (xs : List F) (n : ℕ) → e.value (get_or (map embedded xs) n e.ZERO) ≡ is.embed (f.value (get_or xs n f.ZERO))
+  stored : (xs : List F) (n : ℕ) → e.value (get_or (map embedded xs) n e.zero) ≡ is.embed (f.value (get_or xs n f.zero))
   stored [] n = nothing ∙ sym (ap is.embed none ∙ is.embeds.zero)
   stored (a ∷ xs) zero = is.base a
   stored (a ∷ xs) (suc n) = stored xs n
@@ -86,9 +86,9 @@ module _ {F E : Type 0} (f : FieldMembers F) (e : FieldMembers E) (v : SpaceMemb
   -- ---- coordinates
   -- coordinate t of each entry, and the entry by its coordinates
   abbrev part : ℕ → RowMajor E → Matrix f.Element
-  part t m = values_of f (coordinate v f.ZERO t m)
+  part t m = values_of f (coordinate v f.zero t m)
 
-  by_coordinates : (ys : List E) (n : ℕ) → e.value (get_or ys n e.ZERO) ≡ poly e.ring v.DIMENSION (λ t. is.embed (f.value (get_or (map (λ y. get_or (v.coordinates y) t f.ZERO) ys) n f.ZERO))) (e.value x)
+  by_coordinates : (ys : List E) (n : ℕ) → e.value (get_or ys n e.zero) ≡ poly e.ring v.DIMENSION (λ t. is.embed (f.value (get_or (map (λ y. get_or (v.coordinates y) t f.zero) ys) n f.zero))) (e.value x)
   by_coordinates [] n = nothing ∙ sym (poly_zeros e.ring v.DIMENSION _ (e.value x) (λ t below. ap is.embed none ∙ is.embeds.zero))
   by_coordinates (y ∷ ys) zero = is.polynomial y
   by_coordinates (y ∷ ys) (suc n) = by_coordinates ys n
@@ -104,7 +104,7 @@ module _ {F E : Type 0} (f : FieldMembers F) (e : FieldMembers E) (v : SpaceMemb
       by_coordinates m.values (i * m.width + j)
       ∙ poly_same e.ring v.DIMENSION _ _ (e.value x) (λ t within.
       ap is.embed (entry-poly f.ring (λ n. f.value (g n)) (part t c) k s (part t m) (parts t within) i j below inside
-      ∙ ap (λ n. poly f.ring (n / c.width) (λ u. (part t c).entry u j) p) (length-map c.values (λ y. get_or (v.coordinates y) t f.ZERO)))
+      ∙ ap (λ n. poly f.ring (n / c.width) (λ u. (part t c).entry u j) p) (length-map c.values (λ y. get_or (v.coordinates y) t f.zero)))
       ∙ embedded-poly f.ring e.ring is.embed is.embeds (height c) (λ u. (part t c).entry u j) p)
       ∙ poly_swapped e.ring v.DIMENSION (height c) (λ u t. is.embed ((part t c).entry u j)) (e.value x) (is.embed p)
       ∙ poly_same e.ring (height c) _ _ (is.embed p) (λ u _. sym (by_coordinates c.values (u * c.width + j)))
@@ -123,7 +123,7 @@ module _ {F E : Type 0} (f : FieldMembers F) (e : FieldMembers E) (v : SpaceMemb
     where
       holds : (k : ℕ) → height m ≡ 2 ^ k → AreCoefficients e.ring (λ n. e.value (h n)) (values_of e m) k (is.embed (f.value s)) (values_of e out)
       holds k tall =
-          let counts = λ (t : ℕ) (y : RowMajor E). ap (λ n. n / y.width) (length-map y.values (λ z. get_or (v.coordinates z) t f.ZERO)) in
+          let counts = λ (t : ℕ) (y : RowMajor E). ap (λ n. n / y.width) (length-map y.values (λ z. get_or (v.coordinates z) t f.zero)) in
           let each = λ (t : ℕ) (within : t < v.DIMENSION).
           (inverse_of_coordinate v counted t within f g bits roots m out (f.value s) fits invertible given).holds k (counts t m ∙ tall) in
           let first = each 0 (lt_of_mul-lt-mul_left m.width (let some : m.width * 0 < m.width * v.DIMENSION = omega (arith, fits.width) in some)) in

@@ -8,7 +8,7 @@ use Rattle.std.proofs.lemmas.Nat.{mul-add-lt}
 use Rattle.p3_matrix.specs.RowMajor.{IsRowMajor, RowMajor, height, row}
 use Rattle.p3_matrix.proofs.RowMajor.{row_within}
 use Rattle.p3_matrix.proofs.TwoPowers.{log_same}
-use Rattle.p3_field.specs.declared.fields.Field.{Ghosts as FieldMembers}
+use Rattle.p3_field.specs.declared.fields.Valued.{Ghosts as FieldMembers}
 use Rattle.p3_field.specs.Ring.{Ring, minus, power, two, AreRoots, IsInvertible}
 use Rattle.p3_field.proofs.Rings
 use Rattle.p3_field.proofs.Powers.{power-inverse}
@@ -48,8 +48,8 @@ row_entry m i j d whole below inside = let within = row_within i (height m) m.wi
 
 -- entry j of a row, as a value
 pub row_value : {F : Type 0} (f : FieldMembers F) (m : RowMajor F) (i j : ℕ) (xs : List F) → IsRowMajor m → xs ≡ row m i → i < height m → j < m.width
-    → f.value (get_or xs j f.ZERO) ≡ (values_of f m).entry i j
-row_value f m i j xs whole is below inside = ap f.value (ap (λ ys. get_or ys j f.ZERO) is ∙ row_entry m i j f.ZERO whole below inside)
+    → f.value (get_or xs j f.zero) ≡ (values_of f m).entry i j
+row_value f m i j xs whole is below inside = ap f.value (ap (λ ys. get_or ys j f.zero) is ∙ row_entry m i j f.zero whole below inside)
 
 -- one more row of w entries at the end of a list
 pub one_more_row : {T : Type 0} (P : ℕ → ℕ → T → Type 0) (old new : List T) (d : T) (n w : ℕ) → length old ≡ n * w → ((i j : ℕ) → i < n → j < w → P i j (get_or old (i * w + j) d))

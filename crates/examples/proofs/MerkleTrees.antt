@@ -8,7 +8,7 @@ use Rattle.std.proofs.lemmas.List.{get_or-drop, get_or-take}
 use Rattle.std.proofs.lemmas.Simd.{map-map}
 use Rattle.std.proofs.lemmas.Nat.{div-add-mod', mod_below}
 use Rattle.p3_matrix.specs.Blocks.{IsPublished}
-use Rattle.p3_field.specs.declared.fields.Field.{Ghosts as FieldMembers}
+use Rattle.p3_field.specs.declared.fields.Valued.{Ghosts as FieldMembers}
 use Rattle.p3_matrix.specs.BitOrder.{bit_reversal, rev}
 use Rattle.p3_matrix.specs.Cosets.{values_of}
 use Rattle.p3_matrix.specs.Matrix.{Matrix, Same, matrix, row_of}
@@ -133,8 +133,8 @@ reversed_alike n a b high same = record { height = same.height; width = same.wid
 module _ {F : Type 0} (f : FieldMembers F) where
   row_values : (m : RowMajor F) → IsRowMajor m → (i : ℕ) → i < height m → map f.value (row m i) ≡ row_of (values_of f m) i
   row_values m whole i below =
-      ap (map f.value) (part_by_index m.values (i * m.width) m.width f.ZERO (row_within i (height m) m.width (length m.values) below whole.full))
-      ∙ map-map f.value (λ j. get_or m.values (i * m.width + j) f.ZERO) (range_with_len 0 m.width)
+      ap (map f.value) (part_by_index m.values (i * m.width) m.width f.zero (row_within i (height m) m.width (length m.values) below whole.full))
+      ∙ map-map f.value (λ j. get_or m.values (i * m.width + j) f.zero) (range_with_len 0 m.width)
 
   -- rows of equal values
   rows_alike : (a b : RowMajor F) → IsRowMajor a → IsRowMajor b → Same (values_of f a) (values_of f b) → (i : ℕ) → i < height a → map f.value (row a i) ≡ map f.value (row b i)

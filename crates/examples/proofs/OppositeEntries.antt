@@ -2,7 +2,7 @@
 use Rattle.std.proofs.Common.{◌≡◌, ℕ, ◌+◌, ◌-◌, ◌*◌, ◌/◌, ◌<◌, length, get_or, reverse, sym, ap, ap₂, ◌∙◌, arith}
 use Rattle.std.proofs.Math.ListN.{length-reverse}
 use Rattle.std.proofs.lemmas.List.{get_or-reverse}
-use Rattle.p3_field.specs.declared.fields.Field.{Ghosts as FieldMembers}
+use Rattle.p3_field.specs.declared.fields.Valued.{Ghosts as FieldMembers}
 use Rattle.p3_matrix.specs.Matrix.{Matrix, Same}
 use Rattle.p3_matrix.specs.RowMajor.{HasShapeOf, IsRowMajor, RowMajor, height}
 use Rattle.p3_matrix.specs.Cosets.{values_of}
@@ -27,10 +27,10 @@ opposite f m n whole two two_too is c same =
       alike = λ i j below inside.
           let low : i < height m = omega (arith, below, same.height) in
           let place : i * 2 + j < length m.values = omega (arith, low, inside, size) in
-          let at : get_or (reverse m.values) (i * 2 + j) f.ZERO ≡ get_or m.values ((height m - 1 - i) * 2 + (1 - j)) f.ZERO =
-          get_or-reverse m.values (i * 2 + j) f.ZERO place ∙ ap (λ p. get_or m.values p f.ZERO) (from_end (height m) i j (length m.values) low inside size) in
-          let here : f.value (get_or n.values (i * n.width + j) f.ZERO) ≡ f.value (get_or m.values ((height m - 1 - i) * m.width + (1 - j)) f.ZERO) =
-          ap (λ w. f.value (get_or n.values (i * w + j) f.ZERO)) two_too ∙ ap (λ xs. f.value (get_or xs (i * 2 + j) f.ZERO)) is ∙ ap f.value at
-          ∙ ap (λ w. f.value (get_or m.values ((height m - 1 - i) * w + (1 - j)) f.ZERO)) (sym two) in
+          let at : get_or (reverse m.values) (i * 2 + j) f.zero ≡ get_or m.values ((height m - 1 - i) * 2 + (1 - j)) f.zero =
+          get_or-reverse m.values (i * 2 + j) f.zero place ∙ ap (λ p. get_or m.values p f.zero) (from_end (height m) i j (length m.values) low inside size) in
+          let here : f.value (get_or n.values (i * n.width + j) f.zero) ≡ f.value (get_or m.values ((height m - 1 - i) * m.width + (1 - j)) f.zero) =
+          ap (λ w. f.value (get_or n.values (i * w + j) f.zero)) two_too ∙ ap (λ xs. f.value (get_or xs (i * 2 + j) f.zero)) is ∙ ap f.value at
+          ∙ ap (λ w. f.value (get_or m.values ((height m - 1 - i) * w + (1 - j)) f.zero)) (sym two) in
           sym (here ∙ same.alike (height m - 1 - i) (1 - j) (omega (arith, low)) (omega (arith, two)) ∙ ap (λ h. c.entry (h - 1 - i) (1 - j)) same.height);
     }

@@ -2,7 +2,7 @@
 use Rattle.std.proofs.Common.{◌≡◌, ℕ, suc, ◌+◌, ◌-◌, ◌*◌, ◌/◌, ◌^◌, ◌<◌, List, [], ◌∷◌, length, refl, ap, subst, sym, ◌∙◌, arith}
 use Rattle.std.proofs.Math.Nat.{two-pow-succ}
 use Rattle.std.proofs.lemmas.Nat.{shr_below}
-use Rattle.p3_field.specs.declared.fields.Field.{Ghosts as FieldMembers}
+use Rattle.p3_field.specs.declared.fields.Valued.{Ghosts as FieldMembers}
 use Rattle.p3_matrix.specs.BitOrder.{bit_reversal, rev}
 use Rattle.p3_matrix.specs.Cosets.{values_of}
 use Rattle.p3_matrix.specs.RowMajor.{IsRowMajor, RowMajor, height, row, rows_from}
@@ -35,7 +35,7 @@ module _ {F : Type 0} (f : FieldMembers F) (m : RowMajor F) (whole : IsRowMajor 
       let twice = two-pow-succ k in
       let place : i * 2 ≡ 2 * i = omega arith in
       let low : i < height m / 2 = omega (arith, high, twice, below) in
-      subst (λ n. (height (rows_from m n 2) ≡ 2) × (row (rows_from m n 2) r ≡ row m (n + r))) place (block_row f.ZERO m whole 2 i r low inside)
+      subst (λ n. (height (rows_from m n 2) ≡ 2) × (row (rows_from m n 2) r ≡ row m (n + r))) place (block_row f.zero m whole 2 i r low inside)
 
   pub height_of_pair : height pair ≡ 2
   height_of_pair = (rows_of_pair 0 (omega arith)).0

@@ -2,7 +2,7 @@
 use Rattle.std.specs.Prelude.{◌≡◌, ℕ, ◌<◌, get_or, map}
 use Rattle.p3_field.specs.Ring.{Ring, power}
 use Rattle.p3_field.specs.declared.algebra.BasedVectorSpace.{Ghosts as SpaceMembers}
-use Rattle.p3_field.specs.declared.fields.Field.{Ghosts as FieldMembers}
+use Rattle.p3_field.specs.declared.fields.Valued.{Ghosts as FieldMembers}
 use Rattle.p3_matrix.specs.Polynomials.{poly}
 use Rattle.p3_matrix.specs.RowMajor.{RowMajor}
 
@@ -20,8 +20,8 @@ pub record IsExtensionField {F E : Type 0} (f : FieldMembers F) (e : FieldMember
   pub embeds : IsEmbedding f.ring e.ring embed
   pub base : (a : F) → e.value (embedded a) ≡ embed (f.value a)
   pub generators : (n : ℕ) → e.value (h n) ≡ embed (f.value (g n))
-  pub polynomial : (y : E) → e.value y ≡ poly e.ring v.DIMENSION (λ t. embed (f.value (get_or (v.coordinates y) t f.ZERO))) (e.value x)
-  pub independent : (y z : E) → e.value y ≡ e.value z → (t : ℕ) → t < v.DIMENSION → f.value (get_or (v.coordinates y) t f.ZERO) ≡ f.value (get_or (v.coordinates z) t f.ZERO)
+  pub polynomial : (y : E) → e.value y ≡ poly e.ring v.DIMENSION (λ t. embed (f.value (get_or (v.coordinates y) t f.zero))) (e.value x)
+  pub independent : (y z : E) → e.value y ≡ e.value z → (t : ℕ) → t < v.DIMENSION → f.value (get_or (v.coordinates y) t f.zero) ≡ f.value (get_or (v.coordinates z) t f.zero)
   pub top : power e.ring (e.value x) v.DIMENSION ≡ embed (f.value w)
 
 -- the stored matrix of the embedded entries

@@ -27,8 +27,8 @@ pub fn two_transforms<F: TwoAdicField, D: TwoAdicSubgroupDft<F>, E: TwoAdicSubgr
     shift: F,
 ) -> Result<(RowMajorMatrix<F>, RowMajorMatrix<F>), DftError>
     requires { FitsDft F.TWO_ADICITY (height mat) mat.width }
-    ensures values { IfOk result (λ out. IsTransform F.Field.own F.generator mat (F.value shift) out.0) }
-    ensures same { IfOk result (λ out. Same (values_of F.Field.own out.0) (values_of F.Field.own out.1)) }
+    ensures values { IfOk result (λ out. IsTransform F.Valued.own F.generator mat (F.value shift) out.0) }
+    ensures same { IfOk result (λ out. Same (values_of F.Valued.own out.0) (values_of F.Valued.own out.1)) }
     ensures later { IsLater D.facts one.old one.new }
     ensures other_later { IsLater E.facts other.old other.new }
 {
@@ -48,8 +48,8 @@ pub fn two_inverses<F: TwoAdicField, D: TwoAdicSubgroupDft<F>, E: TwoAdicSubgrou
 ) -> Result<(RowMajorMatrix<F>, RowMajorMatrix<F>), DftError>
     requires fits { FitsDft F.TWO_ADICITY (height mat) mat.width }
     requires invertible { IsInvertible F.ring (F.value shift) }
-    ensures coefficients { IfOk result (λ out. IsInterpolation F.Field.own F.generator mat (F.value shift) out.0) }
-    ensures same { IfOk result (λ out. Same (values_of F.Field.own out.0) (values_of F.Field.own out.1)) }
+    ensures coefficients { IfOk result (λ out. IsInterpolation F.Valued.own F.generator mat (F.value shift) out.0) }
+    ensures same { IfOk result (λ out. Same (values_of F.Valued.own out.0) (values_of F.Valued.own out.1)) }
     ensures later { IsLater D.facts one.old one.new }
     ensures other_later { IsLater E.facts other.old other.new }
 {
@@ -67,11 +67,11 @@ pub fn two_extensions<F: TwoAdicField, D: TwoAdicSubgroupDft<F>, E: TwoAdicSubgr
     shift: F,
 ) -> Result<(D::Evaluations, E::Evaluations), DftError>
     requires { FitsLde F.TWO_ADICITY (height mat) mat.width added_bits }
-    ensures values { IfOk result (λ out. IsExtension F.Field.own F.generator mat added_bits (F.value shift)
+    ensures values { IfOk result (λ out. IsExtension F.Valued.own F.generator mat added_bits (F.value shift)
         (D.Evaluations.natural out.0)) }
     ensures same { IfOk result (λ out.
-        Same (values_of F.Field.own (D.Evaluations.natural out.0))
-        (values_of F.Field.own (E.Evaluations.natural out.1))) }
+        Same (values_of F.Valued.own (D.Evaluations.natural out.0))
+        (values_of F.Valued.own (E.Evaluations.natural out.1))) }
     ensures later { IsLater D.facts one.old one.new }
     ensures other_later { IsLater E.facts other.old other.new }
 {
@@ -87,11 +87,11 @@ pub fn two_lists_of_answers<F: TwoAdicField, D: TwoAdicSubgroupDft<F>, E: TwoAdi
     jobs: Vec<Job<F>>,
     again: Vec<Job<F>>,
 ) -> Result<(Vec<RowMajorMatrix<F>>, Vec<RowMajorMatrix<F>>), JobsStopped<F>>
-    requires runnable { All (CanRun F.Field.own F.TWO_ADICITY) jobs.items }
+    requires runnable { All (CanRun F.Valued.own F.TWO_ADICITY) jobs.items }
     requires again { again.items ≡ jobs.items }
-    ensures answers { IfOk result (λ out. AllZip (IsAnswer F.Field.own F.generator) jobs.items out.0.items) }
+    ensures answers { IfOk result (λ out. AllZip (IsAnswer F.Valued.own F.generator) jobs.items out.0.items) }
     ensures same { IfOk result (λ out. AllZip
-        (λ a b. Same (values_of F.Field.own a) (values_of F.Field.own b)) out.0.items out.1.items) }
+        (λ a b. Same (values_of F.Valued.own a) (values_of F.Valued.own b)) out.0.items out.1.items) }
     ensures later { IsLater D.facts one.old one.new }
     ensures other_later { IsLater E.facts other.old other.new }
 {
@@ -106,9 +106,9 @@ pub fn answers_are_equal<F: TwoAdicField>(
     one: RowMajorMatrix<F>,
     other: RowMajorMatrix<F>,
 ) -> bool
-    requires runnable { CanRun F.Field.own F.TWO_ADICITY _job.now }
-    requires one { IsAnswer F.Field.own F.generator _job.now one }
-    requires other { IsAnswer F.Field.own F.generator _job.now other }
+    requires runnable { CanRun F.Valued.own F.TWO_ADICITY _job.now }
+    requires one { IsAnswer F.Valued.own F.generator _job.now one }
+    requires other { IsAnswer F.Valued.own F.generator _job.now other }
     ensures { IsTrue result }
 {
     one == other
@@ -116,7 +116,7 @@ pub fn answers_are_equal<F: TwoAdicField>(
 
 /// Whether two matrices have equal values, which `==` tells.
 pub fn told_equal<F: TwoAdicField>(one: &RowMajorMatrix<F>, other: &RowMajorMatrix<F>) -> bool
-    ensures { IsTrue result ↔ Same (values_of F.Field.own one.now) (values_of F.Field.own other.now) }
+    ensures { IsTrue result ↔ Same (values_of F.Valued.own one.now) (values_of F.Valued.own other.now) }
 {
     // Tells the prover that the rows are whole.
     let _whole = one.width();
@@ -132,8 +132,8 @@ pub fn transform_for<F: TwoAdicField, D: TwoAdicSubgroupDft<F>>(
     shift: F,
 ) -> Result<D::Evaluations, DftError>
     requires fits { FitsDft F.TWO_ADICITY (height mat) mat.width }
-    requires equal { Same (values_of F.Field.own mat) (values_of F.Field.own like.now) }
-    ensures values { IfOk result (λ out. IsTransform F.Field.own F.generator like.now (F.value shift)
+    requires equal { Same (values_of F.Valued.own mat) (values_of F.Valued.own like.now) }
+    ensures values { IfOk result (λ out. IsTransform F.Valued.own F.generator like.now (F.value shift)
         (D.Evaluations.natural out)) }
     ensures later { IsLater D.facts engine.old engine.new }
 {

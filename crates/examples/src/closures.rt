@@ -37,7 +37,7 @@ pub fn extension_of_unchanged<F: TwoAdicField, D: TwoAdicSubgroupDft<F>>(
 ) -> Result<D::Evaluations, DftError>
     requires { FitsLde F.TWO_ADICITY (height mat) mat.width added_bits }
     ensures extension { IfOk result (λ out.
-        IsExtension F.Field.own F.generator mat added_bits (F.value shift) (D.Evaluations.natural out)) }
+        IsExtension F.Valued.own F.generator mat added_bits (F.value shift) (D.Evaluations.natural out)) }
     ensures later { IsLater D.facts engine.old engine.new }
 {
     engine.coset_lde_batch_with_transform(

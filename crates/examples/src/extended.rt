@@ -23,8 +23,8 @@ pub fn extension_by_no_bits<F: TwoAdicField, D: TwoAdicSubgroupDft<F>>(
     mat: RowMajorMatrix<F>,
 ) -> Result<D::Evaluations, DftError>
     requires { FitsLde F.TWO_ADICITY (height mat) mat.width 0 }
-    ensures same { IfOk result (λ out. Same (values_of F.Field.own (D.Evaluations.natural out))
-        (values_of F.Field.own mat)) }
+    ensures same { IfOk result (λ out. Same (values_of F.Valued.own (D.Evaluations.natural out))
+        (values_of F.Valued.own mat)) }
     ensures later { IsLater D.facts engine.old engine.new }
 {
     engine.lde_batch(mat, 0)
@@ -37,7 +37,7 @@ pub fn extension_on_the_subgroup<F: TwoAdicField, D: TwoAdicSubgroupDft<F>>(
     added_bits: usize,
 ) -> Result<D::Evaluations, DftError>
     requires { FitsLde F.TWO_ADICITY (height mat) mat.width added_bits }
-    ensures values { IfOk result (λ out. IsExtension F.Field.own F.generator mat added_bits F.ring.one
+    ensures values { IfOk result (λ out. IsExtension F.Valued.own F.generator mat added_bits F.ring.one
         (D.Evaluations.natural out)) }
     ensures later { IsLater D.facts engine.old engine.new }
 {
@@ -52,8 +52,8 @@ pub fn extension_with_the_rows<F: TwoAdicField, D: TwoAdicSubgroupDft<F>>(
 ) -> Result<D::Evaluations, DftError>
     requires { FitsLde F.TWO_ADICITY (height mat) mat.width added_bits }
     ensures rows { IfOk result (λ out. (i j : ℕ) → i < height mat → j < mat.width
-        → (values_of F.Field.own (D.Evaluations.natural out)).entry (i * 2 ^ added_bits) j
-        ≡ (values_of F.Field.own mat).entry i j) }
+        → (values_of F.Valued.own (D.Evaluations.natural out)).entry (i * 2 ^ added_bits) j
+        ≡ (values_of F.Valued.own mat).entry i j) }
     ensures later { IsLater D.facts engine.old engine.new }
 {
     engine.lde_batch(mat, added_bits)
@@ -67,10 +67,10 @@ pub fn coefficients_and_extension<F: TwoAdicField, D: TwoAdicSubgroupDft<F>>(
     shift: F,
 ) -> Result<(RowMajorMatrix<F>, D::Evaluations), DftError>
     requires { FitsLde F.TWO_ADICITY (height mat) mat.width added_bits }
-    ensures coefficients { IfOk result (λ out. IsInterpolation F.Field.own F.generator mat F.ring.one out.0) }
+    ensures coefficients { IfOk result (λ out. IsInterpolation F.Valued.own F.generator mat F.ring.one out.0) }
     ensures values { IfOk result (λ out. AtLog (height mat) (λ k. IsValues F.ring (λ n. F.value (F.generator n))
-        (values_of F.Field.own out.0) (k + added_bits) (F.value shift)
-        (values_of F.Field.own (D.Evaluations.natural out.1)))) }
+        (values_of F.Valued.own out.0) (k + added_bits) (F.value shift)
+        (values_of F.Valued.own (D.Evaluations.natural out.1)))) }
     ensures later { IsLater D.facts engine.old engine.new }
 {
     let coefficients = engine.idft_batch(mat.try_clone()?)?;
@@ -87,11 +87,11 @@ pub fn coefficients_of_both<F: TwoAdicField, D: TwoAdicSubgroupDft<F>>(
 ) -> Result<(RowMajorMatrix<F>, RowMajorMatrix<F>), DftError>
     requires fits { FitsLde F.TWO_ADICITY (height mat) mat.width added_bits }
     requires invertible { IsInvertible F.ring (F.value shift) }
-    ensures coefficients { IfOk result (λ out. IsInterpolation F.Field.own F.generator mat F.ring.one out.0) }
-    ensures zeros { IfOk result (λ out. Same (values_of F.Field.own out.1)
-        (lengthened F.ring.zero (height mat * 2 ^ added_bits) (values_of F.Field.own out.0))) }
+    ensures coefficients { IfOk result (λ out. IsInterpolation F.Valued.own F.generator mat F.ring.one out.0) }
+    ensures zeros { IfOk result (λ out. Same (values_of F.Valued.own out.1)
+        (lengthened F.ring.zero (height mat * 2 ^ added_bits) (values_of F.Valued.own out.0))) }
     ensures rows { IfOk result (λ out. (i j : ℕ) → i < height mat → j < mat.width
-        → (values_of F.Field.own out.1).entry i j ≡ (values_of F.Field.own out.0).entry i j) }
+        → (values_of F.Valued.own out.1).entry i j ≡ (values_of F.Valued.own out.0).entry i j) }
     ensures later { IsLater D.facts engine.old engine.new }
 {
     let coefficients = engine.idft_batch(mat.try_clone()?)?;
@@ -111,7 +111,7 @@ pub fn coefficients_of_an_extension<F: TwoAdicField, D: TwoAdicSubgroupDft<F>>(
     requires invertible { IsInvertible F.ring (F.value shift) }
     ensures height { IfOk result (λ back. AtLog (height mat) (λ k. height back ≡ 2 ^ (k + added_bits))) }
     ensures zeros { IfOk result (λ back. (i j : ℕ) → height mat ≤ i → i < height back → j < back.width
-        → (values_of F.Field.own back).entry i j ≡ F.ring.zero) }
+        → (values_of F.Valued.own back).entry i j ≡ F.ring.zero) }
     ensures later { IsLater D.facts engine.old engine.new }
 {
     let values = engine.coset_lde_batch(mat, added_bits, shift)?;
@@ -129,8 +129,8 @@ pub fn extension_from_a_coset<F: TwoAdicField, D: TwoAdicSubgroupDft<F>>(
     requires { FitsLde F.TWO_ADICITY (height coefficients) coefficients.width added_bits }
     ensures values { IfOk result (λ out.
         AtLog (height coefficients) (λ k. IsValues F.ring (λ n. F.value (F.generator n))
-        (values_of F.Field.own coefficients) (k + added_bits) (F.ring.mul (F.value first) (F.value second))
-        (values_of F.Field.own (D.Evaluations.natural out)))) }
+        (values_of F.Valued.own coefficients) (k + added_bits) (F.ring.mul (F.value first) (F.value second))
+        (values_of F.Valued.own (D.Evaluations.natural out)))) }
     ensures later { IsLater D.facts engine.old engine.new }
 {
     let values = engine.coset_dft_batch(coefficients, first)?;

@@ -45,7 +45,7 @@ pub trait ExtensionField<F: TwoAdicField>: TwoAdicField + BasedVectorSpace<F> {
     fn root() -> Self
         ensures { result ≡ root };
 
-    ghost extension_law: { IsExtensionField F.Field.own Self.Field.own Self.BasedVectorSpace.own F.generator
+    ghost extension_law: { IsExtensionField F.Valued.own Self.Valued.own Self.BasedVectorSpace.own F.generator
         Self.generator embedded root w };
 
     ghost subgroups_law: { F.TWO_ADICITY ≡ Self.TWO_ADICITY };
@@ -95,9 +95,9 @@ impl<R: TwoAdicField, W: Square<R>> ExtensionField<R> for Quadratic<R, W> {
       base = λ a. both refl R.zero_law;
       generators = λ n. both refl R.zero_law;
       polynomial = λ y. one_step_polynomial R.ring (R.value W.w) (R.value R.ZERO) (R.value R.ONE) R.zero_law R.one_law
-          (λ t. R.value (get_or (y.constant ∷ y.linear ∷ []) t R.ZERO));
-      independent = λ y z same. below_two (λ t. R.value (get_or (y.constant ∷ y.linear ∷ []) t R.ZERO)
-          ≡ R.value (get_or (z.constant ∷ z.linear ∷ []) t R.ZERO)) (ap (λ x. x.0) same) (ap (λ x. x.1) same);
+          (λ t. R.value (get_or (y.constant ∷ y.linear ∷ []) t R.zero));
+      independent = λ y z same. below_two (λ t. R.value (get_or (y.constant ∷ y.linear ∷ []) t R.zero)
+          ≡ R.value (get_or (z.constant ∷ z.linear ∷ []) t R.zero)) (ap (λ x. x.0) same) (ap (λ x. x.1) same);
       top = one_step_top R.ring (R.value W.w) (R.value R.ZERO) (R.value R.ONE) R.zero_law R.one_law;
     } };
 
@@ -172,12 +172,12 @@ impl<R: TwoAdicField, W: Square<R>> ExtensionField<R> for Quadratic<Quadratic<R,
       polynomial = λ y. two_steps_polynomial R.ring (R.value W.w) (R.value R.ZERO) (R.value R.ONE) R.zero_law
           R.one_law
           (λ t. R.value (get_or (y.constant.constant ∷ y.linear.constant ∷ y.constant.linear ∷ y.linear.linear ∷ [])
-          t R.ZERO));
+          t R.zero));
       independent = λ y z same. below_four
           (λ t. R.value (get_or (y.constant.constant ∷ y.linear.constant ∷ y.constant.linear ∷ y.linear.linear ∷ [])
-          t R.ZERO)
+          t R.zero)
           ≡ R.value (get_or (z.constant.constant ∷ z.linear.constant ∷ z.constant.linear ∷ z.linear.linear ∷ [])
-          t R.ZERO))
+          t R.zero))
           (ap (λ x. x.0.0) same) (ap (λ x. x.1.0) same) (ap (λ x. x.0.1) same) (ap (λ x. x.1.1) same);
       top = two_steps_top R.ring (R.value W.w) (R.value R.ZERO) (R.value R.ONE) R.zero_law R.one_law;
     } };

@@ -52,17 +52,17 @@ pub fn fold_into_extension<F: TwoAdicField, E: ExtensionField<F>>(
     ensures shape { IfOk result (λ out. (2 * height out ≡ height values.now) × (out.width ≡ values.now.width)) }
     ensures folded { IfOk result (λ out. (k : ℕ) → height values.now ≡ 2 ^ suc k
         → IsFolding E.ring (λ n. E.value (E.generator n)) (E.value beta) k (E.value (E.embedded shift))
-        (arrangement layout (suc k) (values_of E.Field.own (embedded_matrix E.embedded values.now)))
-        (arrangement layout k (values_of E.Field.own out))
+        (arrangement layout (suc k) (values_of E.Valued.own (embedded_matrix E.embedded values.now)))
+        (arrangement layout k (values_of E.Valued.own out))
         × AreFoldedRows E.ring (λ n. E.value (E.generator n)) (E.value beta) k (E.value (E.embedded shift))
-        (arrangement layout (suc k) (values_of E.Field.own (embedded_matrix E.embedded values.now)))
-        (arrangement layout k (values_of E.Field.own out))) }
+        (arrangement layout (suc k) (values_of E.Valued.own (embedded_matrix E.embedded values.now)))
+        (arrangement layout k (values_of E.Valued.own out))) }
     ensures degree { IfOk result (λ out. (k h : ℕ) → height values.now ≡ 2 ^ suc k
-        → HasDegreeBelow F.Field.own F.generator h (suc k) (F.value shift)
-        (arrangement layout (suc k) (values_of F.Field.own values.now))
-        → HasDegreeBelow E.Field.own E.generator ((h + 1) / 2) k
+        → HasDegreeBelow F.Valued.own F.generator h (suc k) (F.value shift)
+        (arrangement layout (suc k) (values_of F.Valued.own values.now))
+        → HasDegreeBelow E.Valued.own E.generator ((h + 1) / 2) k
         (E.ring.mul (E.value (E.embedded shift)) (E.value (E.embedded shift)))
-        (arrangement layout k (values_of E.Field.own out))) }
+        (arrangement layout k (values_of E.Valued.own out))) }
 {
     let lifted = embed::<F, E>(values)?;
     fold(&lifted, layout, E::from_base(shift), beta)
@@ -77,7 +77,7 @@ pub fn last_coefficients<F: TwoAdicField, E: ExtensionField<F>, D: TwoAdicSubgro
 ) -> Result<RowMajorMatrix<E>, DftError>
     requires fits { FitsDft F.TWO_ADICITY (height values) (values.width * E.DIMENSION) }
     requires invertible { IsInvertible F.ring (F.value shift) }
-    ensures coefficients { IfOk result (λ out. IsInterpolation E.Field.own E.generator values
+    ensures coefficients { IfOk result (λ out. IsInterpolation E.Valued.own E.generator values
         (E.value (E.embedded shift)) out) }
     ensures engine { AfterDft D.facts engine.old engine.new result (flat E.BasedVectorSpace.own values) 2 }
 {

@@ -65,7 +65,7 @@ pub fn total_of_squares(elements: &[BabyBear]) -> BabyBear {
 /// The first n powers of an element, from `start` on.
 pub fn first_powers<F: Field>(alloc: Global, base: F, start: F, n: usize) -> Result<Vec<F>, Refused>
     ensures long { IfOk result (λ v. vec_len v ≡ n) }
-    ensures powers { IfOk result (λ v. (i : ℕ) → i < n → F.value (get_or v.items i F.ZERO)
+    ensures powers { IfOk result (λ v. (i : ℕ) → i < n → F.value (get_or v.items i F.zero)
         ≡ F.ring.mul (F.value start) (power F.ring (F.value base) i)) }
 {
     base.shifted_powers(start).collect_n(alloc, n)

@@ -38,10 +38,10 @@ fn push_folded_row<F: Field>(folded: &mut Vec<F>, near: &[F], far: &[F], factor:
     ensures room { vec_capacity folded.new ≡ vec_capacity folded.old }
     ensures long { vec_len folded.new ≡ vec_len folded.old + length near.now }
     ensures before { (i : ℕ) → i < vec_len folded.old
-        → get_or folded.new.items i F.ZERO ≡ get_or folded.old.items i F.ZERO }
+        → get_or folded.new.items i F.zero ≡ get_or folded.old.items i F.zero }
     ensures row { (beta x : F.Element) → F.ring.mul (two F.ring) (F.ring.mul x (F.value factor)) ≡ beta
-        → (j : ℕ) → j < length near.now → IsFoldedPair F.ring beta x (F.value (get_or near.now j F.ZERO))
-        (F.value (get_or far.now j F.ZERO)) (F.value (get_or folded.new.items (vec_len folded.old + j) F.ZERO)) }
+        → (j : ℕ) → j < length near.now → IsFoldedPair F.ring beta x (F.value (get_or near.now j F.zero))
+        (F.value (get_or far.now j F.zero)) (F.value (get_or folded.new.items (vec_len folded.old + j) F.zero)) }
 {
     for j in 0..near.len() {
         folded.push_reserved(folded_pair(near[j], far[j], factor));
@@ -63,7 +63,7 @@ fn factors<F: TwoAdicField>(
     ensures long { IfOk result (λ v. vec_len v ≡ 2 ^ log_half) }
     ensures factors { IfOk result (λ v. (i : ℕ) → i < 2 ^ log_half → F.ring.mul (two F.ring)
         (F.ring.mul (point F.ring (λ n. F.value (F.generator n)) (suc log_half) (F.value shift)
-        (pair_point layout log_half i)) (F.value (get_or v.items i F.ZERO))) ≡ F.value beta) }
+        (pair_point layout log_half i)) (F.value (get_or v.items i F.zero))) ≡ F.value beta) }
 {
     let root = invertible_root::<F>(log_half + 1).inverse();
     let first = beta.halve() * shift.inverse();
@@ -102,11 +102,11 @@ fn fold_rows<F: Field>(
     ensures { IfOk result (λ out. (height out ≡ half) × (out.width ≡ values.now.width)
         × ((k : ℕ) (beta : F.Element) → half ≡ 2 ^ k → (x : ℕ → F.Element)
         → ((i : ℕ) → i < half
-        → F.ring.mul (two F.ring) (F.ring.mul (x i) (F.value (get_or factors.now i F.ZERO))) ≡ beta)
+        → F.ring.mul (two F.ring) (F.ring.mul (x i) (F.value (get_or factors.now i F.zero))) ≡ beta)
         → (i j : ℕ) → i < half → j < values.now.width → IsFoldedPair F.ring beta (x i)
-        ((values_of F.Field.own values.now).entry (near_row layout k i) j)
-        ((values_of F.Field.own values.now).entry (far_row layout k i) j)
-        ((values_of F.Field.own out).entry i j))) }
+        ((values_of F.Valued.own values.now).entry (near_row layout k i) j)
+        ((values_of F.Valued.own values.now).entry (far_row layout k i) j)
+        ((values_of F.Valued.own out).entry i j))) }
 {
     let width = values.width();
     let mut folded = growth::with_capacity(*values.allocator(), half * width)?;
@@ -132,16 +132,16 @@ pub fn fold<F: TwoAdicField>(
     ensures shape { IfOk result (λ out. (2 * height out ≡ height values.now) × (out.width ≡ values.now.width)) }
     ensures folded { IfOk result (λ out. (k : ℕ) → height values.now ≡ 2 ^ suc k
         → IsFolding F.ring (λ n. F.value (F.generator n)) (F.value beta) k (F.value shift)
-        (arrangement layout (suc k) (values_of F.Field.own values.now))
-        (arrangement layout k (values_of F.Field.own out))
+        (arrangement layout (suc k) (values_of F.Valued.own values.now))
+        (arrangement layout k (values_of F.Valued.own out))
         × AreFoldedRows F.ring (λ n. F.value (F.generator n)) (F.value beta) k (F.value shift)
-        (arrangement layout (suc k) (values_of F.Field.own values.now))
-        (arrangement layout k (values_of F.Field.own out))) }
+        (arrangement layout (suc k) (values_of F.Valued.own values.now))
+        (arrangement layout k (values_of F.Valued.own out))) }
     ensures degree { IfOk result (λ out. (k h : ℕ) → height values.now ≡ 2 ^ suc k
-        → HasDegreeBelow F.Field.own F.generator h (suc k) (F.value shift)
-        (arrangement layout (suc k) (values_of F.Field.own values.now))
-        → HasDegreeBelow F.Field.own F.generator ((h + 1) / 2) k (F.ring.mul (F.value shift) (F.value shift))
-        (arrangement layout k (values_of F.Field.own out))) }
+        → HasDegreeBelow F.Valued.own F.generator h (suc k) (F.value shift)
+        (arrangement layout (suc k) (values_of F.Valued.own values.now))
+        → HasDegreeBelow F.Valued.own F.generator ((h + 1) / 2) k (F.ring.mul (F.value shift) (F.value shift))
+        (arrangement layout k (values_of F.Valued.own out))) }
 {
     let log_half = log_height(values) - 1;
     let half = values.height() / 2;
@@ -171,24 +171,24 @@ pub fn fold_twice<F: TwoAdicField>(
     requires apart { IsInvertible F.ring (minus F.ring (F.value beta) (F.value gamma)) }
     ensures rows { IfOk result (λ out. (k : ℕ) → height values.now ≡ 2 ^ suc k
         → AreFoldedRows F.ring (λ n. F.value (F.generator n)) (F.value beta) k (F.value shift)
-        (arrangement layout (suc k) (values_of F.Field.own values.now))
-        (arrangement layout k (values_of F.Field.own out.0))
+        (arrangement layout (suc k) (values_of F.Valued.own values.now))
+        (arrangement layout k (values_of F.Valued.own out.0))
         × AreFoldedRows F.ring (λ n. F.value (F.generator n)) (F.value gamma) k (F.value shift)
-        (arrangement layout (suc k) (values_of F.Field.own values.now))
-        (arrangement layout k (values_of F.Field.own out.1))) }
+        (arrangement layout (suc k) (values_of F.Valued.own values.now))
+        (arrangement layout k (values_of F.Valued.own out.1))) }
     ensures determined { IfOk result (λ out. (k : ℕ) (other : Matrix F.Element) → height values.now ≡ 2 ^ suc k
         → AreFoldedRows F.ring (λ n. F.value (F.generator n)) (F.value beta) k (F.value shift) other
-        (arrangement layout k (values_of F.Field.own out.0))
+        (arrangement layout k (values_of F.Valued.own out.0))
         → AreFoldedRows F.ring (λ n. F.value (F.generator n)) (F.value gamma) k (F.value shift) other
-        (arrangement layout k (values_of F.Field.own out.1))
-        → Same (arrangement layout (suc k) (values_of F.Field.own values.now)) other) }
+        (arrangement layout k (values_of F.Valued.own out.1))
+        → Same (arrangement layout (suc k) (values_of F.Valued.own values.now)) other) }
     ensures degree { IfOk result (λ out. (k h : ℕ) → height values.now ≡ 2 ^ suc k
-        → HasDegreeBelow F.Field.own F.generator h k (F.ring.mul (F.value shift) (F.value shift))
-        (arrangement layout k (values_of F.Field.own out.0))
-        → HasDegreeBelow F.Field.own F.generator h k (F.ring.mul (F.value shift) (F.value shift))
-        (arrangement layout k (values_of F.Field.own out.1))
-        → HasDegreeBelow F.Field.own F.generator (2 * h) (suc k) (F.value shift)
-        (arrangement layout (suc k) (values_of F.Field.own values.now))) }
+        → HasDegreeBelow F.Valued.own F.generator h k (F.ring.mul (F.value shift) (F.value shift))
+        (arrangement layout k (values_of F.Valued.own out.0))
+        → HasDegreeBelow F.Valued.own F.generator h k (F.ring.mul (F.value shift) (F.value shift))
+        (arrangement layout k (values_of F.Valued.own out.1))
+        → HasDegreeBelow F.Valued.own F.generator (2 * h) (suc k) (F.value shift)
+        (arrangement layout (suc k) (values_of F.Valued.own values.now))) }
 {
     let first = fold(values, layout, shift, beta)?;
     let second = fold(values, layout, shift, gamma)?;
@@ -209,8 +209,8 @@ pub fn folds_to<F: Field>(x: F, beta: F, near: &[F], far: &[F], folded: &[F]) ->
     requires far { length far.now ≡ length near.now }
     requires folded { length folded.now ≡ length near.now }
     ensures { IsTrue result ↔ ((j : ℕ) → j < length near.now → IsFoldedPair F.ring (F.value beta) (F.value x)
-        (F.value (get_or near.now j F.ZERO)) (F.value (get_or far.now j F.ZERO))
-        (F.value (get_or folded.now j F.ZERO))) }
+        (F.value (get_or near.now j F.zero)) (F.value (get_or far.now j F.zero))
+        (F.value (get_or folded.now j F.zero))) }
 {
     for j in 0..near.len() {
         if !is_folded_pair(x, beta, near[j], far[j], folded[j]) {

@@ -72,13 +72,13 @@ pub fn commit_layer<F: TwoAdicField, H: RowHash<F>, T: Transcript<F, H::Digest>>
     ensures codeword { IfOk result (λ p. p.0.codeword ≡ codeword) }
     ensures shape { IfOk result (λ p. (2 * height p.1 ≡ height codeword) × (p.1.width ≡ codeword.width)) }
     ensures layer { IfOk result (λ p. (k : ℕ) → height codeword ≡ 2 ^ suc k
-        → IsLayer F.Field.own (λ n. F.value (F.generator n)) H.worth (H.of_pair hash.now) (H.of_row hash.now) k
+        → IsLayer F.Valued.own (λ n. F.value (F.generator n)) H.worth (H.of_pair hash.now) (H.of_row hash.now) k
         (F.value shift) (F.value p.0.challenge) codeword p.1 p.0.nodes.items) }
     ensures degree { IfOk result (λ p. (k h : ℕ) → height codeword ≡ 2 ^ suc k
-        → HasDegreeBelow F.Field.own F.generator h (suc k) (F.value shift)
-        (bit_reversal (suc k) (values_of F.Field.own codeword))
-        → HasDegreeBelow F.Field.own F.generator ((h + 1) / 2) k (F.ring.mul (F.value shift) (F.value shift))
-        (bit_reversal k (values_of F.Field.own p.1))) }
+        → HasDegreeBelow F.Valued.own F.generator h (suc k) (F.value shift)
+        (bit_reversal (suc k) (values_of F.Valued.own codeword))
+        → HasDegreeBelow F.Valued.own F.generator ((h + 1) / 2) k (F.ring.mul (F.value shift) (F.value shift))
+        (bit_reversal k (values_of F.Valued.own p.1))) }
     ensures drawn { IfOk result (λ p. (root : H.Digest) × (root ≡ get_or p.0.nodes.items 1 root)
         × T.draws transcript.old root p.0.challenge transcript.new) }
 {
@@ -105,18 +105,18 @@ pub fn open_layer<F: TwoAdicField, H: RowHash<F>>(
     requires inside { index < 2 ^ log_half }
     ensures pair { IfOk result (λ o. o.pair ≡ rows_from layer.now.codeword (2 * index) 2) }
     ensures entries { IfOk result (λ o. (r j : ℕ) → r < 2 → j < layer.now.codeword.width
-        → (values_of F.Field.own o.pair).entry r j
-        ≡ (values_of F.Field.own layer.now.codeword).entry (2 * index + r) j) }
+        → (values_of F.Valued.own o.pair).entry r j
+        ≡ (values_of F.Valued.own layer.now.codeword).entry (2 * index + r) j) }
     ensures opened { IfOk result (λ o. (h : H) (s beta : F.Element) (next : _) (d : H.Digest)
-        → IsLayer F.Field.own (λ n. F.value (F.generator n)) H.worth (H.of_pair h) (H.of_row h) log_half s beta
+        → IsLayer F.Valued.own (λ n. F.value (F.generator n)) H.worth (H.of_pair h) (H.of_row h) log_half s beta
         layer.now.codeword next layer.now.nodes.items
         → IsOpened H.worth (H.of_pair h) (H.of_row h) log_half index layer.now.codeword.width
         (H.worth (get_or layer.now.nodes.items 1 d)) o.pair o.path.items) }
     ensures folds { IfOk result (λ o. (h : H) (s beta : F.Element) (next : _)
-        → IsLayer F.Field.own (λ n. F.value (F.generator n)) H.worth (H.of_pair h) (H.of_row h) log_half s beta
+        → IsLayer F.Valued.own (λ n. F.value (F.generator n)) H.worth (H.of_pair h) (H.of_row h) log_half s beta
         layer.now.codeword next layer.now.nodes.items
-        → FoldsTo F.Field.own (λ n. F.value (F.generator n)) log_half s beta index (values_of F.Field.own o.pair)
-        ((values_of F.Field.own next).entry index)) }
+        → FoldsTo F.Valued.own (λ n. F.value (F.generator n)) log_half s beta index (values_of F.Valued.own o.pair)
+        ((values_of F.Valued.own next).entry index)) }
 {
     let alloc = *layer.codeword.allocator();
     let rows = layer.codeword.view_rows(2 * index, 2);
@@ -165,8 +165,8 @@ fn is_folded<F: TwoAdicField>(
     requires row { row < height next.now }
     requires within { log_half < F.TWO_ADICITY }
     requires fits_u64 { log_half < 63 }
-    ensures { IsTrue result ↔ FoldsTo F.Field.own (λ n. F.value (F.generator n)) log_half (F.value shift)
-        (F.value challenge) index (values_of F.Field.own pair.now) ((values_of F.Field.own next.now).entry row) }
+    ensures { IsTrue result ↔ FoldsTo F.Valued.own (λ n. F.value (F.generator n)) log_half (F.value shift)
+        (F.value challenge) index (values_of F.Valued.own pair.now) ((values_of F.Valued.own next.now).entry row) }
 {
     let root = F::two_adic_generator(log_half + 1);
     let x = shift * root.exp_u64(reverse_bits_len(index, log_half) as u64);
@@ -242,17 +242,17 @@ fn layer_folds<F: TwoAdicField, D>(
     requires pairs { (q : ℕ) (o : _) → q < length openings.now → (height (get_or openings.now q o).pair ≡ 2)
         × ((get_or openings.now q o).pair.width ≡ commitment.now.last.width) }
     ensures between { (o : _) → suc l < length openings.now → (IsTrue result
-        ↔ FoldsTo F.Field.own (λ n. F.value (F.generator n)) (commitment.now.log_height - suc l)
+        ↔ FoldsTo F.Valued.own (λ n. F.value (F.generator n)) (commitment.now.log_height - suc l)
         (power F.ring (F.value commitment.now.shift) (2 ^ l))
-        (F.value (get_or commitment.now.challenges.items l F.ZERO)) (index / 2 ^ l)
-        (values_of F.Field.own (get_or openings.now l o).pair)
-        ((values_of F.Field.own (get_or openings.now (suc l) o).pair).entry ((index / 2 ^ l) % 2))) }
+        (F.value (get_or commitment.now.challenges.items l F.zero)) (index / 2 ^ l)
+        (values_of F.Valued.own (get_or openings.now l o).pair)
+        ((values_of F.Valued.own (get_or openings.now (suc l) o).pair).entry ((index / 2 ^ l) % 2))) }
     ensures to_last { (o : _) → suc l ≡ length openings.now → (IsTrue result
-        ↔ FoldsTo F.Field.own (λ n. F.value (F.generator n)) (commitment.now.log_height - suc l)
+        ↔ FoldsTo F.Valued.own (λ n. F.value (F.generator n)) (commitment.now.log_height - suc l)
         (power F.ring (F.value commitment.now.shift) (2 ^ l))
-        (F.value (get_or commitment.now.challenges.items l F.ZERO)) (index / 2 ^ l)
-        (values_of F.Field.own (get_or openings.now l o).pair)
-        ((values_of F.Field.own commitment.now.last).entry (index / 2 ^ l))) }
+        (F.value (get_or commitment.now.challenges.items l F.zero)) (index / 2 ^ l)
+        (values_of F.Valued.own (get_or openings.now l o).pair)
+        ((values_of F.Valued.own commitment.now.last).entry (index / 2 ^ l))) }
 {
     let pair = &openings[l].pair;
     let shift = commitment.shift.exp_u64(1 << l);
@@ -290,10 +290,10 @@ fn are_folded<F: TwoAdicField, D>(
     requires last { height commitment.now.last ≡ 2 ^ (commitment.now.log_height - length openings.now) }
     requires pairs { (q : ℕ) (o : _) → q < length openings.now → (height (get_or openings.now q o).pair ≡ 2)
         × ((get_or openings.now q o).pair.width ≡ commitment.now.last.width) }
-    ensures { IsTrue result ↔ ((o : _) → FoldsDown F.Field.own (λ n. F.value (F.generator n))
+    ensures { IsTrue result ↔ ((o : _) → FoldsDown F.Valued.own (λ n. F.value (F.generator n))
         commitment.now.log_height (length openings.now) (F.value commitment.now.shift)
-        (λ l. F.value (get_or commitment.now.challenges.items l F.ZERO)) index
-        (λ l. values_of F.Field.own (get_or openings.now l o).pair) (values_of F.Field.own commitment.now.last)) }
+        (λ l. F.value (get_or commitment.now.challenges.items l F.zero)) index
+        (λ l. values_of F.Valued.own (get_or openings.now l o).pair) (values_of F.Valued.own commitment.now.last)) }
 {
     for l in 0..openings.len() {
         if !layer_folds(commitment, index, openings, l) {
@@ -326,10 +326,10 @@ pub fn check<F: TwoAdicField, H: RowHash<F>>(
         → IsOpened H.worth (H.of_pair hash.now) (H.of_row hash.now) (commitment.now.log_height - suc l)
         (index / 2 ^ l) commitment.now.last.width (H.worth (get_or commitment.now.roots.items l d))
         (get_or openings.now l o).pair (get_or openings.now l o).path.items)
-        × ((o : _) → FoldsDown F.Field.own (λ n. F.value (F.generator n)) commitment.now.log_height
+        × ((o : _) → FoldsDown F.Valued.own (λ n. F.value (F.generator n)) commitment.now.log_height
         (length openings.now) (F.value commitment.now.shift)
-        (λ l. F.value (get_or commitment.now.challenges.items l F.ZERO)) index
-        (λ l. values_of F.Field.own (get_or openings.now l o).pair) (values_of F.Field.own commitment.now.last)) }
+        (λ l. F.value (get_or commitment.now.challenges.items l F.zero)) index
+        (λ l. values_of F.Valued.own (get_or openings.now l o).pair) (values_of F.Valued.own commitment.now.last)) }
 {
     if openings.len() != commitment.roots.len() {
         return false;
@@ -361,8 +361,8 @@ pub fn commit<F: TwoAdicField, H: RowHash<F>, T: Transcript<F, H::Digest>>(
         → (height (get_or p.0.items l y).codeword ≡ 2 * 2 ^ (log_height - suc l))
         × (length (get_or p.0.items l y).nodes.items ≡ 2 * 2 ^ (log_height - suc l))) }
     ensures first { IfOk result (λ p. get_or (map (λ y. y.codeword) p.0.items) 0 p.1.last ≡ codeword) }
-    ensures layers { IfOk result (λ p. AreLayers F.Field.own (λ n. F.value (F.generator n)) H.worth (H.of_pair hash.now)
-        (H.of_row hash.now) log_height folds (F.value shift) (λ l. F.value (get_or p.1.challenges.items l F.ZERO))
+    ensures layers { IfOk result (λ p. AreLayers F.Valued.own (λ n. F.value (F.generator n)) H.worth (H.of_pair hash.now)
+        (H.of_row hash.now) log_height folds (F.value shift) (λ l. F.value (get_or p.1.challenges.items l F.zero))
         (λ l. get_or (map (λ y. y.codeword) p.0.items) l p.1.last)
         (λ l. get_or (map (λ y. y.nodes.items) p.0.items) l [])) }
     ensures last { IfOk result (λ p. (height p.1.last ≡ 2 ^ (log_height - folds)) × (p.1.last.width ≡ codeword.width)) }
@@ -416,7 +416,7 @@ pub fn open<F: TwoAdicField, H: RowHash<F>>(
     ensures pairs { IfOk result (λ v. (l : ℕ) (y : _) (o : _) → l < length layers.now → (get_or v.items l o).pair
         ≡ rows_from (get_or layers.now l y).codeword (2 * (index / 2 ^ l)) 2) }
     ensures opened { IfOk result (λ v. (h : H) (s : F.Element) (betas : ℕ → F.Element) (last : _)
-        → AreLayers F.Field.own (λ n. F.value (F.generator n)) H.worth (H.of_pair h) (H.of_row h) log_height
+        → AreLayers F.Valued.own (λ n. F.value (F.generator n)) H.worth (H.of_pair h) (H.of_row h) log_height
         (length layers.now) s betas (λ l. get_or (map (λ y. y.codeword) layers.now) l last)
         (λ l. get_or (map (λ y. y.nodes.items) layers.now) l [])
         → (l : ℕ) (o : _) (d : H.Digest) → l < length layers.now
@@ -424,11 +424,11 @@ pub fn open<F: TwoAdicField, H: RowHash<F>>(
         (H.worth (get_or (get_or (map (λ y. y.nodes.items) layers.now) l []) 1 d))
         (get_or v.items l o).pair (get_or v.items l o).path.items) }
     ensures folds { IfOk result (λ v. (h : H) (s : F.Element) (betas : ℕ → F.Element) (last : _)
-        → AreLayers F.Field.own (λ n. F.value (F.generator n)) H.worth (H.of_pair h) (H.of_row h) log_height
+        → AreLayers F.Valued.own (λ n. F.value (F.generator n)) H.worth (H.of_pair h) (H.of_row h) log_height
         (length layers.now) s betas (λ l. get_or (map (λ y. y.codeword) layers.now) l last)
         (λ l. get_or (map (λ y. y.nodes.items) layers.now) l [])
-        → (o : _) → FoldsDown F.Field.own (λ n. F.value (F.generator n)) log_height (length layers.now) s betas index
-        (λ l. values_of F.Field.own (get_or v.items l o).pair) (values_of F.Field.own last)) }
+        → (o : _) → FoldsDown F.Valued.own (λ n. F.value (F.generator n)) log_height (length layers.now) s betas index
+        (λ l. values_of F.Valued.own (get_or v.items l o).pair) (values_of F.Valued.own last)) }
 {
     let mut openings = growth::with_capacity(alloc, layers.len())?;
     for l in 0..layers.len() {

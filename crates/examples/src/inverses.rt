@@ -24,7 +24,7 @@ pub fn from_generator<F: TwoAdicField, D: TwoAdicSubgroupDft<F>>(
 ) -> Result<RowMajorMatrix<F>, DftError>
     requires { FitsDft F.TWO_ADICITY (height values) values.width }
     ensures coefficients { IfOk result
-        (IsInterpolation F.Field.own F.generator values (F.value F.GENERATOR)) }
+        (IsInterpolation F.Valued.own F.generator values (F.value F.GENERATOR)) }
     ensures later { IsLater D.facts engine.old engine.new }
 {
     engine.coset_idft_batch(values, F::GENERATOR)
@@ -55,7 +55,7 @@ pub fn from_shift<F: TwoAdicField, D: TwoAdicSubgroupDft<F>>(
 ) -> Option<Result<RowMajorMatrix<F>, DftError>>
     requires { FitsDft F.TWO_ADICITY (height values) values.width }
     ensures coefficients { IfSome result (λ answer. IfOk answer (λ out.
-        IsInterpolation F.Field.own F.generator values (F.value shift) out)) }
+        IsInterpolation F.Valued.own F.generator values (F.value shift) out)) }
     ensures none { IsNone result → ¬ (IsInvertible F.ring (F.value shift)) }
     ensures later { IsLater D.facts engine.old engine.new }
 {

@@ -14,8 +14,8 @@ pub fn all_answers<F: TwoAdicField, D: TwoAdicSubgroupDft<F>>(
     engine: &mut D,
     jobs: Vec<Job<F>>,
 ) -> Result<Vec<RowMajorMatrix<F>>, DftError>
-    requires { All (CanRun F.Field.own F.TWO_ADICITY) jobs.items }
-    ensures answers { IfOk result (λ answers. AllZip (IsAnswer F.Field.own F.generator) jobs.items answers.items) }
+    requires { All (CanRun F.Valued.own F.TWO_ADICITY) jobs.items }
+    ensures answers { IfOk result (λ answers. AllZip (IsAnswer F.Valued.own F.generator) jobs.items answers.items) }
     ensures later { IsLater D.facts engine.old engine.new }
 {
     let answers = run_jobs(engine, jobs)?;

@@ -21,8 +21,8 @@ pub fn inverse_or_known<F: TwoAdicField, D: TwoAdicSubgroupDft<F>>(
     coefficients: &RowMajorMatrix<F>,
 ) -> Result<RowMajorMatrix<F>, DftError>
     requires fits { FitsDft F.TWO_ADICITY (height values) values.width }
-    requires known { IsInterpolation F.Field.own F.generator known.now F.ring.one coefficients.now }
-    ensures coefficients { IfOk result (IsInterpolation F.Field.own F.generator values F.ring.one) }
+    requires known { IsInterpolation F.Valued.own F.generator known.now F.ring.one coefficients.now }
+    ensures coefficients { IfOk result (IsInterpolation F.Valued.own F.generator values F.ring.one) }
     ensures later { IsLater D.facts engine.old engine.new }
 {
     if *known == values {
@@ -41,8 +41,8 @@ pub fn extension_or_known<F: TwoAdicField, D: TwoAdicSubgroupDft<F>>(
     extension: &RowMajorMatrix<F>,
 ) -> Result<RowMajorMatrix<F>, DftError>
     requires fits { FitsLde F.TWO_ADICITY (height values) values.width added_bits }
-    requires known { IsExtension F.Field.own F.generator known.now added_bits (F.value shift) extension.now }
-    ensures extension { IfOk result (IsExtension F.Field.own F.generator values added_bits (F.value shift)) }
+    requires known { IsExtension F.Valued.own F.generator known.now added_bits (F.value shift) extension.now }
+    ensures extension { IfOk result (IsExtension F.Valued.own F.generator values added_bits (F.value shift)) }
     ensures later { IsLater D.facts engine.old engine.new }
 {
     if *known == values {

@@ -37,14 +37,14 @@ pub fn transforms_of_a_sum<F: TwoAdicField, D: TwoAdicSubgroupDft<F>>(
 ) -> Result<SumOfMultiples<F>, DftError>
     requires fits { FitsDft F.TWO_ADICITY (height given.first) given.first.width }
     requires shape { HasShapeOf given.second given.first }
-    requires sum { Same (values_of F.Field.own given.sum)
-        (combination F.ring (F.value a) (values_of F.Field.own given.first) (F.value b)
-        (values_of F.Field.own given.second)) }
-    ensures first { IfOk result (λ out. IsTransform F.Field.own F.generator given.first (F.value shift) out.first) }
-    ensures second { IfOk result (λ out. IsTransform F.Field.own F.generator given.second (F.value shift) out.second) }
-    ensures sum { IfOk result (λ out. Same (values_of F.Field.own out.sum)
-        (combination F.ring (F.value a) (values_of F.Field.own out.first) (F.value b)
-        (values_of F.Field.own out.second))) }
+    requires sum { Same (values_of F.Valued.own given.sum)
+        (combination F.ring (F.value a) (values_of F.Valued.own given.first) (F.value b)
+        (values_of F.Valued.own given.second)) }
+    ensures first { IfOk result (λ out. IsTransform F.Valued.own F.generator given.first (F.value shift) out.first) }
+    ensures second { IfOk result (λ out. IsTransform F.Valued.own F.generator given.second (F.value shift) out.second) }
+    ensures sum { IfOk result (λ out. Same (values_of F.Valued.own out.sum)
+        (combination F.ring (F.value a) (values_of F.Valued.own out.first) (F.value b)
+        (values_of F.Valued.own out.second))) }
     ensures later { IsLater D.facts engine.old engine.new }
 {
     let first = engine
@@ -68,14 +68,14 @@ pub fn inverses_of_a_sum<F: TwoAdicField, D: TwoAdicSubgroupDft<F>>(
 ) -> Result<SumOfMultiples<F>, DftError>
     requires fits { FitsDft F.TWO_ADICITY (height given.first) given.first.width }
     requires shape { HasShapeOf given.second given.first }
-    requires sum { Same (values_of F.Field.own given.sum)
-        (combination F.ring (F.value a) (values_of F.Field.own given.first) (F.value b)
-        (values_of F.Field.own given.second)) }
-    ensures first { IfOk result (λ out. IsInterpolation F.Field.own F.generator given.first F.ring.one out.first) }
-    ensures second { IfOk result (λ out. IsInterpolation F.Field.own F.generator given.second F.ring.one out.second) }
-    ensures sum { IfOk result (λ out. Same (values_of F.Field.own out.sum)
-        (combination F.ring (F.value a) (values_of F.Field.own out.first) (F.value b)
-        (values_of F.Field.own out.second))) }
+    requires sum { Same (values_of F.Valued.own given.sum)
+        (combination F.ring (F.value a) (values_of F.Valued.own given.first) (F.value b)
+        (values_of F.Valued.own given.second)) }
+    ensures first { IfOk result (λ out. IsInterpolation F.Valued.own F.generator given.first F.ring.one out.first) }
+    ensures second { IfOk result (λ out. IsInterpolation F.Valued.own F.generator given.second F.ring.one out.second) }
+    ensures sum { IfOk result (λ out. Same (values_of F.Valued.own out.sum)
+        (combination F.ring (F.value a) (values_of F.Valued.own out.first) (F.value b)
+        (values_of F.Valued.own out.second))) }
     ensures later { IsLater D.facts engine.old engine.new }
 {
     let first = engine.idft_batch(given.first)?;
@@ -95,16 +95,16 @@ pub fn extensions_of_a_sum<F: TwoAdicField, D: TwoAdicSubgroupDft<F>>(
 ) -> Result<SumOfMultiples<F>, DftError>
     requires fits { FitsLde F.TWO_ADICITY (height given.first) given.first.width added_bits }
     requires shape { HasShapeOf given.second given.first }
-    requires sum { Same (values_of F.Field.own given.sum)
-        (combination F.ring (F.value a) (values_of F.Field.own given.first) (F.value b)
-        (values_of F.Field.own given.second)) }
+    requires sum { Same (values_of F.Valued.own given.sum)
+        (combination F.ring (F.value a) (values_of F.Valued.own given.first) (F.value b)
+        (values_of F.Valued.own given.second)) }
     ensures first { IfOk result (λ out.
-        IsExtension F.Field.own F.generator given.first added_bits (F.value shift) out.first) }
+        IsExtension F.Valued.own F.generator given.first added_bits (F.value shift) out.first) }
     ensures second { IfOk result (λ out.
-        IsExtension F.Field.own F.generator given.second added_bits (F.value shift) out.second) }
-    ensures sum { IfOk result (λ out. Same (values_of F.Field.own out.sum)
-        (combination F.ring (F.value a) (values_of F.Field.own out.first) (F.value b)
-        (values_of F.Field.own out.second))) }
+        IsExtension F.Valued.own F.generator given.second added_bits (F.value shift) out.second) }
+    ensures sum { IfOk result (λ out. Same (values_of F.Valued.own out.sum)
+        (combination F.ring (F.value a) (values_of F.Valued.own out.first) (F.value b)
+        (values_of F.Valued.own out.second))) }
     ensures later { IsLater D.facts engine.old engine.new }
 {
     let first = engine
@@ -129,9 +129,9 @@ pub fn transforms_of_a_column<F: TwoAdicField, D: TwoAdicSubgroupDft<F>>(
 ) -> Result<(RowMajorMatrix<F>, RowMajorMatrix<F>), DftError>
     requires fits { FitsDft F.TWO_ADICITY (height mat) mat.width }
     requires inside { j < mat.width }
-    requires column { Same (values_of F.Field.own column) (alone j (values_of F.Field.own mat)) }
-    ensures whole { IfOk result (λ out. IsTransform F.Field.own F.generator mat (F.value shift) out.0) }
-    ensures column { IfOk result (λ out. Same (values_of F.Field.own out.1) (alone j (values_of F.Field.own out.0))) }
+    requires column { Same (values_of F.Valued.own column) (alone j (values_of F.Valued.own mat)) }
+    ensures whole { IfOk result (λ out. IsTransform F.Valued.own F.generator mat (F.value shift) out.0) }
+    ensures column { IfOk result (λ out. Same (values_of F.Valued.own out.1) (alone j (values_of F.Valued.own out.0))) }
     ensures later { IsLater D.facts engine.old engine.new }
 {
     let whole = engine.coset_dft_batch(mat, shift)?.to_row_major_matrix();
@@ -150,9 +150,9 @@ pub fn inverses_of_a_column<F: TwoAdicField, D: TwoAdicSubgroupDft<F>>(
     requires fits { FitsDft F.TWO_ADICITY (height mat) mat.width }
     requires invertible { IsInvertible F.ring (F.value shift) }
     requires inside { j < mat.width }
-    requires column { Same (values_of F.Field.own column) (alone j (values_of F.Field.own mat)) }
-    ensures whole { IfOk result (λ out. IsInterpolation F.Field.own F.generator mat (F.value shift) out.0) }
-    ensures column { IfOk result (λ out. Same (values_of F.Field.own out.1) (alone j (values_of F.Field.own out.0))) }
+    requires column { Same (values_of F.Valued.own column) (alone j (values_of F.Valued.own mat)) }
+    ensures whole { IfOk result (λ out. IsInterpolation F.Valued.own F.generator mat (F.value shift) out.0) }
+    ensures column { IfOk result (λ out. Same (values_of F.Valued.own out.1) (alone j (values_of F.Valued.own out.0))) }
     ensures later { IsLater D.facts engine.old engine.new }
 {
     let whole = engine.coset_idft_batch(mat, shift)?;
@@ -170,9 +170,9 @@ pub fn extensions_of_a_column<F: TwoAdicField, D: TwoAdicSubgroupDft<F>>(
 ) -> Result<(RowMajorMatrix<F>, RowMajorMatrix<F>), DftError>
     requires fits { FitsLde F.TWO_ADICITY (height mat) mat.width added_bits }
     requires inside { j < mat.width }
-    requires column { Same (values_of F.Field.own column) (alone j (values_of F.Field.own mat)) }
-    ensures whole { IfOk result (λ out. IsExtension F.Field.own F.generator mat added_bits F.ring.one out.0) }
-    ensures column { IfOk result (λ out. Same (values_of F.Field.own out.1) (alone j (values_of F.Field.own out.0))) }
+    requires column { Same (values_of F.Valued.own column) (alone j (values_of F.Valued.own mat)) }
+    ensures whole { IfOk result (λ out. IsExtension F.Valued.own F.generator mat added_bits F.ring.one out.0) }
+    ensures column { IfOk result (λ out. Same (values_of F.Valued.own out.1) (alone j (values_of F.Valued.own out.0))) }
     ensures later { IsLater D.facts engine.old engine.new }
 {
     let whole = engine.lde_batch(mat, added_bits)?.to_row_major_matrix();

@@ -27,8 +27,8 @@ pub fn has_low_degree<F: TwoAdicField, D: TwoAdicSubgroupDft<F>>(
     requires degree { 2 ^ log_degree ≤ height values.now }
     requires invertible { IsInvertible F.ring (F.value shift) }
     ensures exact { AtLog (height values.now) (λ n. IfOk result.0 (λ told. IsTrue told
-        ↔ HasDegreeBelow F.Field.own F.generator (2 ^ log_degree) n (F.value shift)
-        (values_of F.Field.own values.now))) }
+        ↔ HasDegreeBelow F.Valued.own F.generator (2 ^ log_degree) n (F.value shift)
+        (values_of F.Valued.own values.now))) }
     ensures later { IsLater D.facts engine result.1 }
 {
     let log_points = log2_strict_usize(values.height());

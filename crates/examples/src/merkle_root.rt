@@ -144,7 +144,7 @@ fn hashed_extension<F: TwoAdicField, D: TwoAdicSubgroupDft<F>, H: RowHash<F>>(
 ) -> Result<(BitReversedMatrixView<RowMajorMatrix<F>>, Vec<H::Digest>), DftError>
     requires { FitsLde F.TWO_ADICITY (height mat) mat.width added_bits }
     ensures extension { IfOk result (λ p.
-        IsExtension F.Field.own F.generator mat added_bits (F.value shift) (reversed_rows p.0.bits p.0.physical)) }
+        IsExtension F.Valued.own F.generator mat added_bits (F.value shift) (reversed_rows p.0.bits p.0.physical)) }
     ensures leaves { IfOk result (λ p. AreDigests H.worth (H.of_row hash.now) p.0.physical p.1.items) }
     ensures later { IsLater D.facts engine.old engine.new }
 {
@@ -203,7 +203,7 @@ pub fn merkle_root<F: TwoAdicField, D: TwoAdicSubgroupDft<F>, H: RowHash<F>>(
 ) -> Result<Commitment<F, H::Digest>, DftError>
     requires { FitsLde F.TWO_ADICITY (height mat) mat.width added_bits }
     ensures extension { IfOk result (λ c.
-        IsExtension F.Field.own F.generator mat added_bits (F.value shift)
+        IsExtension F.Valued.own F.generator mat added_bits (F.value shift)
         (reversed_rows c.rows.bits c.rows.physical)) }
     ensures leaves { IfOk result (λ c. AreDigests H.worth (H.of_row hash.now) c.rows.physical c.leaves.items) }
     ensures root { IfOk result (λ c. H.worth c.root
@@ -231,7 +231,7 @@ pub fn roots_of_two<
 ) -> Result<(H::Digest, H::Digest), DftError>
     requires { FitsLde F.TWO_ADICITY (height mat) mat.width added_bits }
     ensures root { IfOk result (λ p. (k : ℕ) × (rows : RowMajor F)
-        × IsExtension F.Field.own F.generator mat added_bits (F.value shift) (reversed_rows k rows)
+        × IsExtension F.Valued.own F.generator mat added_bits (F.value shift) (reversed_rows k rows)
         × (H.worth p.0 ≡ tree (H.of_pair hash.now) k (λ i. H.of_row hash.now (row rows i)))) }
     ensures one { IfOk result (λ p. H.worth p.0 ≡ H.worth p.1) }
     ensures later { IsLater D.facts one.old one.new }

@@ -20,7 +20,7 @@ fn values<F: TwoAdicField, D: TwoAdicSubgroupDft<F>>(
     requires fits { FitsDft F.TWO_ADICITY size 1 }
     requires room { vec_len coefficients ≤ size }
     ensures long { IfOk result (λ out. length out.items ≡ size) }
-    ensures values { IfOk result (λ out. AtLog size (λ k. (i : ℕ) → i < size → F.value (get_or out.items i F.ZERO)
+    ensures values { IfOk result (λ out. AtLog size (λ k. (i : ℕ) → i < size → F.value (get_or out.items i F.zero)
         ≡ value F.ring (map F.value coefficients.items) (point F.ring (λ n. F.value (F.generator n)) k F.ring.one i))) }
     ensures later { IsLater D.facts engine.old engine.new }
 {
@@ -33,8 +33,8 @@ fn values<F: TwoAdicField, D: TwoAdicSubgroupDft<F>>(
 fn entry_products<F: TwoAdicField>(mut entries: Vec<F>, others: &[F]) -> Vec<F>
     requires { length others.now ≡ length entries.items }
     ensures long { length result.items ≡ length entries.items }
-    ensures products { (i : ℕ) → i < length entries.items → F.value (get_or result.items i F.ZERO)
-        ≡ F.ring.mul (F.value (get_or entries.items i F.ZERO)) (F.value (get_or others.now i F.ZERO)) }
+    ensures products { (i : ℕ) → i < length entries.items → F.value (get_or result.items i F.zero)
+        ≡ F.ring.mul (F.value (get_or entries.items i F.zero)) (F.value (get_or others.now i F.zero)) }
 {
     for i in 0..entries.len() {
         entries[i] = entries[i] * others[i];
@@ -55,7 +55,7 @@ pub fn product<F: TwoAdicField, D: TwoAdicSubgroupDft<F>>(
     requires second { vec_len b ≤ size }
     requires room { vec_len a + vec_len b ≤ size + 1 }
     ensures long { IfOk result (λ out. length out.items ≡ size) }
-    ensures coefficients { IfOk result (λ out. (n : ℕ) → F.value (get_or out.items n F.ZERO)
+    ensures coefficients { IfOk result (λ out. (n : ℕ) → F.value (get_or out.items n F.zero)
         ≡ convolution F.ring (map F.value a.items) (map F.value b.items) n) }
     ensures later { IsLater D.facts engine.old engine.new }
 {

@@ -27,7 +27,7 @@ pub fn transform_prepared<F: TwoAdicField>(
     requires fits { FitsDft F.TWO_ADICITY (height mat) mat.width }
     requires height { height mat ≡ 2 ^ log_h }
     requires prepared { IsPrepared engine.old log_h }
-    ensures values { IfOk result (λ out. IsTransform F.Field.own F.generator mat F.ring.one out) }
+    ensures values { IfOk result (λ out. IsTransform F.Valued.own F.generator mat F.ring.one out) }
     ensures ok { IsOk result }
     ensures still { IsPrepared engine.new log_h }
 {
@@ -45,7 +45,7 @@ pub fn transform_prepared_with_larger<F: TwoAdicField>(
     requires height { height mat ≡ 2 ^ log_h }
     requires below { log_h ≤ larger }
     requires prepared { IsPrepared engine.old larger }
-    ensures values { IfOk result (λ out. IsTransform F.Field.own F.generator mat F.ring.one out) }
+    ensures values { IfOk result (λ out. IsTransform F.Valued.own F.generator mat F.ring.one out) }
     ensures ok { IsOk result }
 {
     engine.dft_batch(mat)
@@ -60,7 +60,7 @@ pub fn invert_prepared<F: TwoAdicField>(
     requires fits { FitsDft F.TWO_ADICITY (height mat) mat.width }
     requires height { height mat ≡ 2 ^ log_h }
     requires prepared { IsPrepared engine.old log_h }
-    ensures coefficients { IfOk result (λ out. IsInterpolation F.Field.own F.generator mat F.ring.one out) }
+    ensures coefficients { IfOk result (λ out. IsInterpolation F.Valued.own F.generator mat F.ring.one out) }
     ensures ok { IsOk result }
     ensures still { IsPrepared engine.new log_h }
 {
@@ -78,7 +78,7 @@ pub fn invert_prepared_on_coset<F: TwoAdicField>(
     requires invertible { IsInvertible F.ring (F.value shift) }
     requires height { height mat ≡ 2 ^ log_h }
     requires prepared { IsPrepared engine.old log_h }
-    ensures coefficients { IfOk result (λ out. IsInterpolation F.Field.own F.generator mat (F.value shift) out) }
+    ensures coefficients { IfOk result (λ out. IsInterpolation F.Valued.own F.generator mat (F.value shift) out) }
     ensures ok { IsOk result }
     ensures still { IsPrepared engine.new log_h }
 {
@@ -95,7 +95,7 @@ pub fn transform_prepared_on_coset<F: TwoAdicField>(
     requires fits { FitsDft F.TWO_ADICITY (height mat) mat.width }
     requires height { height mat ≡ 2 ^ log_h }
     requires prepared { IsPrepared engine.old log_h }
-    ensures values { IfOk result (λ out. IsTransform F.Field.own F.generator mat (F.value shift) out) }
+    ensures values { IfOk result (λ out. IsTransform F.Valued.own F.generator mat (F.value shift) out) }
     ensures ok { IsOk result }
     ensures still { IsPrepared engine.new log_h }
 {
@@ -111,7 +111,7 @@ pub fn transform_if_prepared<F: TwoAdicField>(
     requires fits { FitsDft F.TWO_ADICITY (height mat) mat.width }
     requires height { height mat ≡ 2 ^ log_h }
     ensures values { IfSome result (λ answer. IfOk answer
-        (λ out. IsTransform F.Field.own F.generator mat F.ring.one out)) }
+        (λ out. IsTransform F.Valued.own F.generator mat F.ring.one out)) }
     ensures ok { IfSome result IsOk }
     ensures none { IsNone result → ¬ (IsPrepared engine.old log_h) }
 {
@@ -132,7 +132,7 @@ pub fn prepare_and_transform<F: TwoAdicField>(
     requires within { log_h ≤ F.TWO_ADICITY }
     requires size { 2 ^ log_h < 2 ^ 64 }
     ensures values { IfOk result (λ answer. IfOk answer
-        (λ out. IsTransform F.Field.own F.generator mat F.ring.one out)) }
+        (λ out. IsTransform F.Valued.own F.generator mat F.ring.one out)) }
     ensures ok { IfOk result IsOk }
 {
     engine.prepare(*mat.allocator(), log_h)?;
@@ -150,7 +150,7 @@ pub fn prepare_and_transform_by_halves<F: TwoAdicField>(
     requires within { log_h ≤ F.TWO_ADICITY }
     requires size { 2 ^ log_h < 2 ^ 64 }
     ensures values { IfOk result (λ answer. IfOk answer
-        (λ out. IsTransform F.Field.own F.generator mat F.ring.one (reversed_rows out.bits out.physical))) }
+        (λ out. IsTransform F.Valued.own F.generator mat F.ring.one (reversed_rows out.bits out.physical))) }
     ensures ok { IfOk result IsOk }
 {
     engine.prepare(*mat.allocator(), log_h)?;
@@ -168,7 +168,7 @@ pub fn prepare_and_transform_by_tiles<F: TwoAdicField>(
     requires within { log_h ≤ F.TWO_ADICITY }
     requires size { 2 ^ log_h < 2 ^ 64 }
     ensures values { IfOk result (λ answer. IfOk answer
-        (λ out. IsTransform F.Field.own F.generator mat F.ring.one out)) }
+        (λ out. IsTransform F.Valued.own F.generator mat F.ring.one out)) }
     ensures ok { IfOk result IsOk }
 {
     engine.prepare(*mat.allocator(), log_h)?;
@@ -184,7 +184,7 @@ pub fn column_there<F: TwoAdicField>(
     requires fits { FitsDft F.TWO_ADICITY (vec_len column) 1 }
     requires height { vec_len column ≡ 2 ^ log_h }
     requires prepared { IsPrepared engine.old log_h }
-    ensures values { IfOk result (λ out. IsTransform F.Field.own F.generator (col column) F.ring.one (col out)) }
+    ensures values { IfOk result (λ out. IsTransform F.Valued.own F.generator (col column) F.ring.one (col out)) }
     ensures ok { IsOk result }
 {
     engine.dft(column)
@@ -200,7 +200,7 @@ pub fn column_on_coset<F: TwoAdicField>(
     requires fits { FitsDft F.TWO_ADICITY (vec_len column) 1 }
     requires height { vec_len column ≡ 2 ^ log_h }
     requires prepared { IsPrepared engine.old log_h }
-    ensures values { IfOk result (λ out. IsTransform F.Field.own F.generator (col column) (F.value shift) (col out)) }
+    ensures values { IfOk result (λ out. IsTransform F.Valued.own F.generator (col column) (F.value shift) (col out)) }
     ensures ok { IsOk result }
 {
     engine.coset_dft(column, shift)
@@ -215,7 +215,7 @@ pub fn column_back<F: TwoAdicField>(
     requires fits { FitsDft F.TWO_ADICITY (vec_len column) 1 }
     requires height { vec_len column ≡ 2 ^ log_h }
     requires prepared { IsPrepared engine.old log_h }
-    ensures coefficients { IfOk result (λ out. IsInterpolation F.Field.own F.generator (col column)
+    ensures coefficients { IfOk result (λ out. IsInterpolation F.Valued.own F.generator (col column)
         F.ring.one (col out)) }
     ensures ok { IsOk result }
 {
@@ -233,7 +233,7 @@ pub fn column_back_from_coset<F: TwoAdicField>(
     requires invertible { IsInvertible F.ring (F.value shift) }
     requires height { vec_len column ≡ 2 ^ log_h }
     requires prepared { IsPrepared engine.old log_h }
-    ensures coefficients { IfOk result (λ out. IsInterpolation F.Field.own F.generator (col column)
+    ensures coefficients { IfOk result (λ out. IsInterpolation F.Valued.own F.generator (col column)
         (F.value shift) (col out)) }
     ensures ok { IsOk result }
 {
@@ -265,7 +265,7 @@ pub fn transform_promised<F: TwoAdicField, D: TwoAdicSubgroupDft<F>>(
     requires fits { FitsDft F.TWO_ADICITY (height mat) mat.width }
     requires height { height mat ≡ 2 ^ log_h }
     requires promised { D.facts.Succeeds engine.old log_h }
-    ensures values { IfOk result (λ out. IsTransform F.Field.own F.generator mat F.ring.one
+    ensures values { IfOk result (λ out. IsTransform F.Valued.own F.generator mat F.ring.one
         (D.Evaluations.natural out)) }
     ensures ok { IsOk result }
     ensures still { D.facts.Succeeds engine.new log_h }
@@ -284,7 +284,7 @@ pub fn transform_on_promised_coset<F: TwoAdicField, D: TwoAdicSubgroupDft<F>>(
     requires height { height mat ≡ 2 ^ log_h }
     requires promised { D.facts.Succeeds engine.old log_h }
     requires coset { D.facts.SucceedsOnCoset engine.old log_h shift }
-    ensures values { IfOk result (λ out. IsTransform F.Field.own F.generator mat (F.value shift)
+    ensures values { IfOk result (λ out. IsTransform F.Valued.own F.generator mat (F.value shift)
         (D.Evaluations.natural out)) }
     ensures ok { IsOk result }
     ensures still { D.facts.SucceedsOnCoset engine.new log_h shift }
@@ -301,10 +301,10 @@ pub fn extend_beside_a_coset<F: TwoAdicField>(
     shift: F,
 ) -> Result<BitReversedMatrixView<RowMajorMatrix<F>>, DftError>
     requires fits { FitsLde F.TWO_ADICITY (height mat) mat.width added_bits }
-    requires prepared { IsCosetPrepared F.Field.own engine.old log_h (F.value shift) }
-    ensures values { IfOk result (λ out. IsExtension F.Field.own F.generator mat added_bits F.ring.one
+    requires prepared { IsCosetPrepared F.Valued.own engine.old log_h (F.value shift) }
+    ensures values { IfOk result (λ out. IsExtension F.Valued.own F.generator mat added_bits F.ring.one
         (reversed_rows out.bits out.physical)) }
-    ensures still { IsCosetPrepared F.Field.own engine.new log_h (F.value shift) }
+    ensures still { IsCosetPrepared F.Valued.own engine.new log_h (F.value shift) }
 {
     engine.lde_batch(mat, added_bits)
 }
@@ -318,11 +318,11 @@ pub fn transform_on_known_coset<F: TwoAdicField>(
 ) -> Result<BitReversedMatrixView<RowMajorMatrix<F>>, DftError>
     requires fits { FitsDft F.TWO_ADICITY (height mat) mat.width }
     requires height { height mat ≡ 2 ^ log_h }
-    requires prepared { IsCosetPrepared F.Field.own engine.old log_h (F.value shift) }
-    ensures values { IfOk result (λ out. IsTransform F.Field.own F.generator mat (F.value shift)
+    requires prepared { IsCosetPrepared F.Valued.own engine.old log_h (F.value shift) }
+    ensures values { IfOk result (λ out. IsTransform F.Valued.own F.generator mat (F.value shift)
         (reversed_rows out.bits out.physical)) }
     ensures ok { IsOk result }
-    ensures still { IsCosetPrepared F.Field.own engine.new log_h (F.value shift) }
+    ensures still { IsCosetPrepared F.Valued.own engine.new log_h (F.value shift) }
 {
     engine.coset_dft_batch(mat, shift)
 }
@@ -336,7 +336,7 @@ pub fn transform_on_new_coset<F: TwoAdicField>(
 ) -> Result<(), DftError>
     requires fits { FitsDft F.TWO_ADICITY (height mat) mat.width }
     requires height { height mat ≡ 2 ^ log_h }
-    ensures { IfOk result (λ _. IsCosetPrepared F.Field.own engine.new log_h (F.value shift)) }
+    ensures { IfOk result (λ _. IsCosetPrepared F.Valued.own engine.new log_h (F.value shift)) }
 {
     engine.coset_dft_batch(mat, shift)?;
     Ok(())
@@ -347,7 +347,7 @@ pub fn transform_by_a_new_engine<F: TwoAdicField, D: TwoAdicSubgroupDft<F> + Dro
     mat: RowMajorMatrix<F>,
 ) -> Result<(D::Evaluations, D), DftError>
     requires { FitsDft F.TWO_ADICITY (height mat) mat.width }
-    ensures values { IfOk result (λ made. IsTransform F.Field.own F.generator mat F.ring.one
+    ensures values { IfOk result (λ made. IsTransform F.Valued.own F.generator mat F.ring.one
         (D.Evaluations.natural made.0)) }
     ensures bound { IfOk result (λ made. AtLog (height mat)
         (λ k. D.facts.products_made made.1 ≤ D.facts.transform_products k mat.width)) }
@@ -363,7 +363,7 @@ pub fn extend_by_a_new_engine<F: TwoAdicField, D: TwoAdicSubgroupDft<F> + Drop>(
     added_bits: usize,
 ) -> Result<(Vec<F>, D), DftError>
     requires { FitsLde F.TWO_ADICITY (vec_len column) 1 added_bits }
-    ensures values { IfOk result (λ made. IsExtension F.Field.own F.generator (col column) added_bits F.ring.one
+    ensures values { IfOk result (λ made. IsExtension F.Valued.own F.generator (col column) added_bits F.ring.one
         (col made.0)) }
     ensures bound { IfOk result (λ made. AtLog (vec_len column)
         (λ k. D.facts.products_made made.1 ≤ D.facts.extension_products k added_bits 1)) }

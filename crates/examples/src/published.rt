@@ -34,7 +34,7 @@ pub fn recorded_extension<F: TwoAdicField, D: TwoAdicSubgroupDft<F>>(
 ) -> Result<(BitReversedMatrixView<RowMajorMatrix<F>>, Recorder<F>), DftError>
     requires { FitsLde F.TWO_ADICITY (height mat) mat.width added_bits }
     ensures extension { IfOk result (λ p.
-        IsExtension F.Field.own F.generator mat added_bits (F.value shift) (reversed_rows p.0.bits p.0.physical)) }
+        IsExtension F.Valued.own F.generator mat added_bits (F.value shift) (reversed_rows p.0.bits p.0.physical)) }
     ensures recorded { IfOk result (λ p. AtLog (height mat) (λ k.
         IsPartition (D.facts.block_rows k added_bits) p.0.physical p.1.blocks × (p.1.missed ≡ false))) }
     ensures later { IsLater D.facts engine.old engine.new }
@@ -54,7 +54,7 @@ pub fn recorded_extension<F: TwoAdicField, D: TwoAdicSubgroupDft<F>>(
                 consumer: _consumer,
                 refusal: (),
             } => unreachable!(),
-            BlocksStopped::OutOfMemory(unpublished) => Err(unpublished.error),
+            BlocksStopped::OutOfMemory(_) => Err(DftError::OutOfMemory),
         },
     }
 }
@@ -72,7 +72,7 @@ pub fn limited_extension<F: TwoAdicField, D: TwoAdicSubgroupDft<F>>(
 ) -> Result<(BitReversedMatrixView<RowMajorMatrix<F>>, usize), Option<BlockRefused>>
     requires { FitsLde F.TWO_ADICITY (height mat) mat.width added_bits }
     ensures extension { IfOk result (λ p.
-        IsExtension F.Field.own F.generator mat added_bits (F.value shift) (reversed_rows p.0.bits p.0.physical)) }
+        IsExtension F.Valued.own F.generator mat added_bits (F.value shift) (reversed_rows p.0.bits p.0.physical)) }
     ensures counted { IfOk result (λ p. AtLog (height mat)
         (λ k. p.1 ≡ height p.0.physical / D.facts.block_rows k added_bits)) }
     ensures within { IfOk result (λ p. p.1 ≤ limit) }
@@ -80,9 +80,9 @@ pub fn limited_extension<F: TwoAdicField, D: TwoAdicSubgroupDft<F>>(
         (refusal.start % D.facts.block_rows k added_bits ≡ 0) × (refusal.start < 2 ^ (k + added_bits))
         × (limit < 2 ^ (k + added_bits) / D.facts.block_rows k added_bits)))) }
     ensures one_too_many { IfErr result (λ e. IfSome e (λ refusal. AtLog (height mat) (λ k. (out : Matrix F.Element)
-        × AreExtendedValues F.Field.own F.generator mat added_bits (F.value shift) out
+        × AreExtendedValues F.Valued.own F.generator mat added_bits (F.value shift) out
         × (taken : List (ℕ × RowMajor F)) × (refused : ℕ × RowMajor F)
-        × AreBlocksOf (values_of F.Field.own) (D.facts.block_rows k added_bits) (bit_reversal (k + added_bits) out)
+        × AreBlocksOf (values_of F.Valued.own) (D.facts.block_rows k added_bits) (bit_reversal (k + added_bits) out)
         (taken ++ refused ∷ [])
         × (length taken ≡ limit) × (refusal.start ≡ refused.0)))) }
     ensures later { IsLater D.facts engine.old engine.new }
@@ -120,7 +120,7 @@ impl<F: Field> BlockConsumer<F> for BlockSum<F> {
 
     ghost step = { λ c start block answer e. (answer ≡ Ok tt) × (F.value e.sum
         ≡ F.ring.add (F.value c.sum) (sum F.ring (length block.values)
-        (λ i. F.value (get_or block.values i F.ZERO)))) };
+        (λ i. F.value (get_or block.values i F.zero)))) };
 
     fn consume(&mut self, start: usize, block: RowMajorMatrixView<'_, F>) -> Result<(), Infallible>
         ensures { ⟦<BlockSum<F> as BlockConsumer<F>>⟧.step self.old start block.entry result self.new }
@@ -133,7 +133,7 @@ impl<F: Field> BlockConsumer<F> for BlockSum<F> {
 
 // The sum of the elements.
 fn sum_of<F: Field>(elements: &[F]) -> F
-    ensures { F.value result ≡ sum F.ring (length elements.now) (λ i. F.value (get_or elements.now i F.ZERO)) }
+    ensures { F.value result ≡ sum F.ring (length elements.now) (λ i. F.value (get_or elements.now i F.zero)) }
 {
     let mut sum = F::ZERO;
     for i in 0..elements.len() {
@@ -151,9 +151,9 @@ pub fn summed_extension<F: TwoAdicField, D: TwoAdicSubgroupDft<F>>(
 ) -> Result<(BitReversedMatrixView<RowMajorMatrix<F>>, F), DftError>
     requires { FitsLde F.TWO_ADICITY (height mat) mat.width added_bits }
     ensures extension { IfOk result (λ p.
-        IsExtension F.Field.own F.generator mat added_bits (F.value shift) (reversed_rows p.0.bits p.0.physical)) }
+        IsExtension F.Valued.own F.generator mat added_bits (F.value shift) (reversed_rows p.0.bits p.0.physical)) }
     ensures summed { IfOk result (λ p.
-        F.value p.1 ≡ sum F.ring (length p.0.physical.values) (λ i. F.value (get_or p.0.physical.values i F.ZERO))) }
+        F.value p.1 ≡ sum F.ring (length p.0.physical.values) (λ i. F.value (get_or p.0.physical.values i F.zero))) }
     ensures later { IsLater D.facts engine.old engine.new }
 {
     let (out, total) = engine.coset_lde_batch_in_blocks(
@@ -184,7 +184,7 @@ impl<F: Field> BlockConsumer<F> for LimitedSum<F> {
 
     ghost step = { λ c start block answer e.
         (answer ≡ Ok tt → (c.left ≡ e.left + 1) × (F.value e.sum
-        ≡ F.ring.add (F.value c.sum) (sum F.ring (length block.values) (λ i. F.value (get_or block.values i F.ZERO)))))
+        ≡ F.ring.add (F.value c.sum) (sum F.ring (length block.values) (λ i. F.value (get_or block.values i F.zero)))))
         × (answer ≡ Err tt → (c.left ≡ 0) × (e ≡ c)) };
 
     fn consume(&mut self, start: usize, block: RowMajorMatrixView<'_, F>) -> Result<(), ()>
@@ -211,7 +211,7 @@ pub fn sum_of_first_blocks<F: TwoAdicField, D: TwoAdicSubgroupDft<F>>(
 ) -> Result<Option<F>, DftError>
     requires { FitsLde F.TWO_ADICITY (height mat) mat.width added_bits }
     ensures first { IfOk result (λ found. IfSome found (λ total. AtLog (height mat) (λ k. (out : Matrix F.Element)
-        × AreExtendedValues F.Field.own F.generator mat added_bits (F.value shift) out
+        × AreExtendedValues F.Valued.own F.generator mat added_bits (F.value shift) out
         × (starts : List ℕ) × (length starts ≡ limit) × AllPairs (λ i j. i ≢ j) starts
         × All (λ start. (start % D.facts.block_rows k added_bits ≡ 0) × (start < 2 ^ (k + added_bits))) starts
         × (F.value total ≡ sum_of_blocks F.ring (D.facts.block_rows k added_bits) (bit_reversal (k + added_bits) out)
@@ -237,7 +237,7 @@ pub fn sum_of_first_blocks<F: TwoAdicField, D: TwoAdicSubgroupDft<F>>(
                 consumer,
                 refusal: (),
             } => Ok(Some(consumer.sum)),
-            BlocksStopped::OutOfMemory(unpublished) => Err(unpublished.error),
+            BlocksStopped::OutOfMemory(_) => Err(DftError::OutOfMemory),
         },
     }
 }

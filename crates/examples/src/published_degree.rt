@@ -86,7 +86,7 @@ pub fn kept_extension<F: TwoAdicField, D: TwoAdicSubgroupDft<F>>(
     shift: F,
 ) -> Result<RowMajorMatrix<F>, DftError>
     requires { FitsLde F.TWO_ADICITY (height mat) mat.width added_bits }
-    ensures extension { IfOk result (λ out. IsExtension F.Field.own F.generator mat added_bits (F.value shift) out) }
+    ensures extension { IfOk result (λ out. IsExtension F.Valued.own F.generator mat added_bits (F.value shift) out) }
     ensures later { IsLater D.facts engine.old engine.new }
 {
     let entries = zeros_for(&mat, added_bits)?;
@@ -111,9 +111,9 @@ pub fn published_degree<F: TwoAdicField, D: TwoAdicSubgroupDft<F>>(
 ) -> Result<(RowMajorMatrix<F>, bool), DftError>
     requires fits { FitsLde F.TWO_ADICITY (height mat) mat.width added_bits }
     requires invertible { IsInvertible F.ring (F.value shift) }
-    ensures extension { IfOk result (λ p. IsExtension F.Field.own F.generator mat added_bits (F.value shift) p.0) }
-    ensures exact { IfOk result (λ p. AtLog (height p.0) (λ k. IsTrue p.1 ↔ HasDegreeBelow F.Field.own F.generator
-        (height mat) k (F.value shift) (values_of F.Field.own p.0))) }
+    ensures extension { IfOk result (λ p. IsExtension F.Valued.own F.generator mat added_bits (F.value shift) p.0) }
+    ensures exact { IfOk result (λ p. AtLog (height p.0) (λ k. IsTrue p.1 ↔ HasDegreeBelow F.Valued.own F.generator
+        (height mat) k (F.value shift) (values_of F.Valued.own p.0))) }
     ensures low { IfOk result (λ p. IsTrue p.1) }
     ensures later { IsLater D.facts engine.old engine.new }
 {

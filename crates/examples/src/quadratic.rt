@@ -12,7 +12,7 @@ ghost use Rattle.examples.specs.QuadraticFields.{both, both_equal, embedded_inve
 ghost use Rattle.examples.specs.QuadraticFields.{embedded-neg, paired, paired_law};
 ghost use Rattle.examples.specs.Quadratics.{embedded, norm, quadratic};
 
-use p3_dft::{Field, FieldOps, Packable, PackedField, Products, TwoAdicField, scaled};
+use p3_dft::{Field, FieldOps, Packable, PackedField, Products, TwoAdicField, Valued, scaled};
 use p3_field::totals::{add_all, multiply_all};
 use p3_field::{BabyBear, GoldilocksIn};
 use std::fmt;
@@ -234,7 +234,7 @@ impl<R: FieldOps, W: Square<R>> FieldOps for Quadratic<R, W> {
     ghost product_law = { λ xs r h. h };
 }
 
-impl<R: Field, W: Square<R>> Field for Quadratic<R, W> {
+impl<R: Field, W: Square<R>> Valued for Quadratic<R, W> {
     ghost Element = { R.Element × R.Element };
 
     ghost ring = { quadratic R.ring (R.value W.w) };
@@ -243,6 +243,10 @@ impl<R: Field, W: Square<R>> Field for Quadratic<R, W> {
 
     ghost value = { λ x. (R.value x.constant, R.value x.linear) };
 
+    ghost zero = { record { constant = R.ZERO; linear = R.ZERO; of = _ } };
+}
+
+impl<R: Field, W: Square<R>> Field for Quadratic<R, W> {
     const ZERO: Quadratic<R, W> = Quadratic::new(R::ZERO, R::ZERO);
 
     ghost ZERO = { record { constant = R.ZERO; linear = R.ZERO; of = _ } };
@@ -278,6 +282,8 @@ impl<R: Field, W: Square<R>> Field for Quadratic<R, W> {
 
     ghost number_law = { paired_law R.number R.number_law };
 
+    ghost same_zero = { refl };
+
     ghost zero_law = { both R.zero_law R.zero_law };
 
     ghost one_law = { both R.one_law R.zero_law };
@@ -308,7 +314,9 @@ impl<R: Field, W: Square<R>> Field for Quadratic<R, W> {
     ghost eq_law = { λ a b. both_equal _ _ _ _ _ _ (R.eq_law a.constant b.constant) (R.eq_law a.linear b.linear) };
 }
 
-impl<R: Packable, W: Square<R>> PackedField<Quadratic<R, W>> for Quadratic<R, W> {
+impl<R: Packable, W: Square<R>> PackedField for Quadratic<R, W> {
+    type Scalar = Quadratic<R, W>;
+
     const WIDTH: usize = 1;
 
     ghost WIDTH = { 1 };

@@ -80,7 +80,7 @@ pub fn extension_within<F: TwoAdicField, D: TwoAdicSubgroupDft<F>>(
 ) -> Option<BitReversedMatrixView<RowMajorMatrix<F>>>
     requires { FitsLde F.TWO_ADICITY (height mat) mat.width added_bits }
     ensures extension { IfSome result (λ out.
-        IsExtension F.Field.own F.generator mat added_bits (F.value shift) (reversed_rows out.bits out.physical)) }
+        IsExtension F.Valued.own F.generator mat added_bits (F.value shift) (reversed_rows out.bits out.physical)) }
     ensures later { IsLater D.facts engine.old engine.new }
 {
     match engine.coset_lde_batch_in_blocks(mat, added_bits, shift, |_rows| BlockLimit::new(limit)) {

@@ -24,7 +24,7 @@ pub fn values_on_a_coset<F: TwoAdicField, D: TwoAdicSubgroupDft<F>>(
 ) -> Result<D::Evaluations, DftError>
     requires { FitsDft F.TWO_ADICITY (height coefficients) coefficients.width }
     ensures values { IfOk result (λ out.
-        IsTransform F.Field.own F.generator coefficients (F.value shift) (D.Evaluations.natural out)) }
+        IsTransform F.Valued.own F.generator coefficients (F.value shift) (D.Evaluations.natural out)) }
     ensures later { IsLater D.facts engine.old engine.new }
 {
     engine.coset_dft_batch(coefficients, shift)
@@ -38,7 +38,7 @@ pub fn there_and_back<F: TwoAdicField, D: TwoAdicSubgroupDft<F>>(
 ) -> Result<RowMajorMatrix<F>, DftError>
     requires fits { FitsDft F.TWO_ADICITY (height mat) mat.width }
     requires invertible { IsInvertible F.ring (F.value shift) }
-    ensures same { IfOk result (λ back. Same (values_of F.Field.own back) (values_of F.Field.own mat)) }
+    ensures same { IfOk result (λ back. Same (values_of F.Valued.own back) (values_of F.Valued.own mat)) }
     ensures later { IsLater D.facts engine.old engine.new }
 {
     let values = engine.coset_dft_batch(mat, shift)?;
@@ -53,8 +53,8 @@ pub fn back_and_there<F: TwoAdicField, D: TwoAdicSubgroupDft<F>>(
 ) -> Result<D::Evaluations, DftError>
     requires fits { FitsDft F.TWO_ADICITY (height mat) mat.width }
     requires invertible { IsInvertible F.ring (F.value shift) }
-    ensures same { IfOk result (λ there. Same (values_of F.Field.own (D.Evaluations.natural there))
-        (values_of F.Field.own mat)) }
+    ensures same { IfOk result (λ there. Same (values_of F.Valued.own (D.Evaluations.natural there))
+        (values_of F.Valued.own mat)) }
     ensures later { IsLater D.facts engine.old engine.new }
 {
     let coefficients = engine.coset_idft_batch(mat, shift)?;
@@ -71,7 +71,7 @@ pub fn values_at_points<F: TwoAdicField, D: TwoAdicSubgroupDft<F>>(
     ensures long { IfOk result (λ out. length out.items ≡ length coefficients.items) }
     ensures values { IfOk result (λ out. AtLog (length coefficients.items) (λ k.
         (i : ℕ) → i < length coefficients.items
-        → F.value (get_or out.items i F.ZERO)
+        → F.value (get_or out.items i F.zero)
         ≡ value F.ring (map F.value coefficients.items)
         (point F.ring (λ n. F.value (F.generator n)) k (F.value shift) i))) }
     ensures later { IsLater D.facts engine.old engine.new }
@@ -86,7 +86,7 @@ pub fn values_on_the_coset_of_one<F: TwoAdicField, D: TwoAdicSubgroupDft<F>>(
 ) -> Result<D::Evaluations, DftError>
     requires { FitsDft F.TWO_ADICITY (height mat) mat.width }
     ensures values { IfOk result (λ out.
-        IsTransform F.Field.own F.generator mat F.ring.one (D.Evaluations.natural out)) }
+        IsTransform F.Valued.own F.generator mat F.ring.one (D.Evaluations.natural out)) }
     ensures later { IsLater D.facts engine.old engine.new }
 {
     engine.coset_dft_batch(mat, F::ONE)
@@ -98,7 +98,7 @@ pub fn coefficients_on_the_coset_of_one<F: TwoAdicField, D: TwoAdicSubgroupDft<F
     mat: RowMajorMatrix<F>,
 ) -> Result<RowMajorMatrix<F>, DftError>
     requires { FitsDft F.TWO_ADICITY (height mat) mat.width }
-    ensures coefficients { IfOk result (λ back. IsInterpolation F.Field.own F.generator mat F.ring.one back) }
+    ensures coefficients { IfOk result (λ back. IsInterpolation F.Valued.own F.generator mat F.ring.one back) }
     ensures later { IsLater D.facts engine.old engine.new }
 {
     engine.coset_idft_batch(mat, F::ONE)

@@ -48,7 +48,7 @@ pub fn opened_extension<F: TwoAdicField>(
 ) -> Result<(BitReversedMatrixView<RowMajorMatrix<F>>, Option<Vec<F>>), DftError>
     requires { FitsLde F.TWO_ADICITY (height mat) mat.width added_bits }
     ensures extension { IfOk result (λ p.
-        IsExtension F.Field.own F.generator mat added_bits (F.value shift) (reversed_rows p.0.bits p.0.physical)) }
+        IsExtension F.Valued.own F.generator mat added_bits (F.value shift) (reversed_rows p.0.bits p.0.physical)) }
     ensures opened { IfOk result (λ p.
         IfSome p.1 (λ opened. opened.items ≡ row (reversed_rows p.0.bits p.0.physical) i)) }
     ensures none { IfOk result (λ p. IsNone p.1 → height p.0.physical ≤ i) }

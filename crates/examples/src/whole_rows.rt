@@ -24,7 +24,7 @@ pub fn extension_in_whole_rows<F: TwoAdicField, D: TwoAdicSubgroupDft<F>>(
 ) -> Result<D::Evaluations, DftError>
     requires { FitsLde F.TWO_ADICITY (height mat) mat.width added_bits }
     ensures extension { IfOk result (λ out.
-        IsExtension F.Field.own F.generator mat added_bits (F.value shift) (D.Evaluations.natural out)) }
+        IsExtension F.Valued.own F.generator mat added_bits (F.value shift) (D.Evaluations.natural out)) }
     ensures later { IsLater D.facts engine.old engine.new }
 {
     engine.coset_lde_batch_with_transform(
@@ -61,10 +61,10 @@ pub fn extension_of_opposite_entries<F: TwoAdicField>(
     requires fits { FitsLde F.TWO_ADICITY (height mat) mat.width added_bits }
     requires two { mat.width ≡ 2 }
     ensures values { IfOk result (λ out. AtLog (height mat) (λ k. (c : Matrix F.Element)
-        × AreCoefficients F.ring (λ n. F.value (F.generator n)) (values_of F.Field.own mat) k F.ring.one c
+        × AreCoefficients F.ring (λ n. F.value (F.generator n)) (values_of F.Valued.own mat) k F.ring.one c
         × IsValues F.ring (λ n. F.value (F.generator n))
         (record { height = c.height; width = 2; entry = λ i j. c.entry (c.height - 1 - i) (1 - j) })
-        (k + added_bits) (F.value shift) (values_of F.Field.own out))) }
+        (k + added_bits) (F.value shift) (values_of F.Valued.own out))) }
     ensures later { IsLater ⟦<Radix2Dit<F> as TwoAdicSubgroupDft<F>>⟧.facts engine.old engine.new }
 {
     engine.coset_lde_batch_with_transform(
@@ -86,7 +86,7 @@ pub fn counted_transform<F: TwoAdicField, D: TwoAdicSubgroupDft<F>>(
 ) -> Result<D::Evaluations, DftError>
     requires { FitsDft F.TWO_ADICITY (height mat) mat.width }
     ensures values { IfOk result (λ out.
-        IsTransform F.Field.own F.generator mat F.ring.one (D.Evaluations.natural out)) }
+        IsTransform F.Valued.own F.generator mat F.ring.one (D.Evaluations.natural out)) }
     ensures cost { AtLog (height mat) (λ k. D.facts.products_made engine.new
         ≤ D.facts.products_made engine.old + D.facts.transform_products k mat.width) }
     ensures later { IsLater D.facts engine.old engine.new }

@@ -23,10 +23,10 @@ pub fn answer_in_place<F: WordField>(
     width: usize,
     shift: F::Word,
 ) -> u32
-    ensures answer { let f = in_words F.Field.own F.generator F.TWO_ADICITY F.ORDER_U64 F.word_number in
+    ensures answer { let f = in_words F.Valued.own F.generator F.TWO_ADICITY F.ORDER_U64 F.word_number in
         result ≡ 0 → IsAnswered f operation words.old width shift words.new }
     ensures kept { result ≢ 0 → words.new ≡ words.old }
-    ensures status { let f = in_words F.Field.own F.generator F.TWO_ADICITY F.ORDER_U64 F.word_number in
+    ensures status { let f = in_words F.Valued.own F.generator F.TWO_ADICITY F.ORDER_U64 F.word_number in
         IsStatus result (engine ≤ 5) (AreBelow f shift words.old)
         (Fits F.TWO_ADICITY (length words.old) width (added operation) (length words.old))
         (MatchBool (undoes operation) (HasInverse f shift) ⊤) }
@@ -51,10 +51,10 @@ pub fn answer_into<F: WordField>(
     shift: F::Word,
     out: &mut [F::Word],
 ) -> u32
-    ensures answer { let f = in_words F.Field.own F.generator F.TWO_ADICITY F.ORDER_U64 F.word_number in
+    ensures answer { let f = in_words F.Valued.own F.generator F.TWO_ADICITY F.ORDER_U64 F.word_number in
         result ≡ 0 → IsAnswered f operation words.now width shift out.new }
     ensures kept { result ≢ 0 → out.new ≡ out.old }
-    ensures status { let f = in_words F.Field.own F.generator F.TWO_ADICITY F.ORDER_U64 F.word_number in
+    ensures status { let f = in_words F.Valued.own F.generator F.TWO_ADICITY F.ORDER_U64 F.word_number in
         IsStatus result (engine ≤ 5) (AreBelow f shift words.now)
         (Fits F.TWO_ADICITY (length words.now) width (added operation) (length out.old))
         (MatchBool (undoes operation) (HasInverse f shift) ⊤) }
@@ -79,10 +79,10 @@ pub fn is_codeword<F: WordField>(
     shift: F::Word,
     answer: &mut u32,
 ) -> u32
-    ensures answer { let f = in_words F.Field.own F.generator F.TWO_ADICITY F.ORDER_U64 F.word_number in
+    ensures answer { let f = in_words F.Valued.own F.generator F.TWO_ADICITY F.ORDER_U64 F.word_number in
         result ≡ 0 → IsToldCodeword f words.now width added_bits shift answer.new }
     ensures kept { result ≢ 0 → answer.new ≡ answer.old }
-    ensures status { let f = in_words F.Field.own F.generator F.TWO_ADICITY F.ORDER_U64 F.word_number in
+    ensures status { let f = in_words F.Valued.own F.generator F.TWO_ADICITY F.ORDER_U64 F.word_number in
         IsStatus result (engine ≤ 5) (AreBelow f shift words.now)
         (Fits F.TWO_ADICITY (length words.now / 2 ^ added_bits) width added_bits (length words.now))
         (HasInverse f shift) }
@@ -106,12 +106,12 @@ fn answer<F: WordField>(
     shift: F::Word,
     room: usize,
 ) -> Result<RowMajorMatrix<F>, Refusal>
-    ensures told { let f = in_words F.Field.own F.generator F.TWO_ADICITY F.ORDER_U64 F.word_number in
+    ensures told { let f = in_words F.Valued.own F.generator F.TWO_ADICITY F.ORDER_U64 F.word_number in
         Tells (refusal_of result) (engine ≤ 5) (AreBelow f shift words.now)
         (Fits F.TWO_ADICITY (length words.now) width (added operation) room)
         (MatchBool (undoes operation) (HasInverse f shift) ⊤) }
     ensures size { IfOk result (λ out. length out.values ≡ room) }
-    ensures answer { let f = in_words F.Field.own F.generator F.TWO_ADICITY F.ORDER_U64 F.word_number in
+    ensures answer { let f = in_words F.Valued.own F.generator F.TWO_ADICITY F.ORDER_U64 F.word_number in
         IfOk result (λ out. (answer : List F.Word) → AllZip (Names f) answer out.values
         → IsAnswered f operation words.now width shift answer) }
 {
@@ -141,11 +141,11 @@ fn has_low_degree<F: WordField>(
     added_bits: usize,
     shift: F::Word,
 ) -> Result<bool, Refusal>
-    ensures told { let f = in_words F.Field.own F.generator F.TWO_ADICITY F.ORDER_U64 F.word_number in
+    ensures told { let f = in_words F.Valued.own F.generator F.TWO_ADICITY F.ORDER_U64 F.word_number in
         Tells (refusal_of result) (engine ≤ 5) (AreBelow f shift words.now)
         (Fits F.TWO_ADICITY (length words.now / 2 ^ added_bits) width added_bits (length words.now))
         (HasInverse f shift) }
-    ensures answer { let f = in_words F.Field.own F.generator F.TWO_ADICITY F.ORDER_U64 F.word_number in
+    ensures answer { let f = in_words F.Valued.own F.generator F.TWO_ADICITY F.ORDER_U64 F.word_number in
         IfOk result (λ low. (answer : ℕ) → answer ≤ 1 → (answer ≡ 1 ↔ IsTrue low)
         → IsToldCodeword f words.now width added_bits shift answer) }
 {
@@ -212,7 +212,7 @@ fn asked<F: WordField>(
 ) -> Result<(Engine, RowMajorMatrix<F>, F), Refusal>
     requires { Fits F.TWO_ADICITY shape.count shape.width shape.added_bits shape.extended
         → (length words.now / shape.width) * shape.width ≡ length words.now }
-    ensures told { let f = in_words F.Field.own F.generator F.TWO_ADICITY F.ORDER_U64 F.word_number in
+    ensures told { let f = in_words F.Valued.own F.generator F.TWO_ADICITY F.ORDER_U64 F.word_number in
         Tells (refusal_of result) (engine ≤ 5) (AreBelow f shift words.now)
         (Fits F.TWO_ADICITY shape.count shape.width shape.added_bits shape.extended)
         (MatchBool undoes_shift (HasInverse f shift) ⊤) }

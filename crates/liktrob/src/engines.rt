@@ -95,7 +95,7 @@ pub fn answer_by<F: TwoAdicField>(
     requires invertible { undoes operation ≡ true → IsInvertible F.ring (F.value shift) }
     ensures size { IfOk result (λ out. length out.values ≡ length mat.values * 2 ^ added operation) }
     ensures answer { IfOk result (λ out. (k : ℕ) → height mat ≡ 2 ^ k
-        → IsAnswer F.Field.own F.generator operation mat k (F.value shift) out) }
+        → IsAnswer F.Valued.own F.generator operation mat k (F.value shift) out) }
 {
     let engine = match engine {
         Engine::Fastest => fastest(operation, mat.height(), mat.width()),
@@ -157,7 +157,7 @@ fn answer_to<F: TwoAdicField, D: TwoAdicSubgroupDft<F>>(
     requires invertible { undoes operation ≡ true → IsInvertible F.ring (F.value shift) }
     ensures size { IfOk result (λ out. length out.values ≡ length mat.values * 2 ^ added operation) }
     ensures answer { IfOk result (λ out. (k : ℕ) → height mat ≡ 2 ^ k
-        → IsAnswer F.Field.own F.generator operation mat k (F.value shift) out) }
+        → IsAnswer F.Valued.own F.generator operation mat k (F.value shift) out) }
 {
     match operation {
         Operation::CosetDft(added_bits) => {
@@ -180,7 +180,7 @@ fn extension_of_coefficients<F: TwoAdicField, D: TwoAdicSubgroupDft<F>>(
 ) -> Result<RowMajorMatrix<F>, DftError>
     requires { FitsLde F.TWO_ADICITY (height mat) mat.width added_bits }
     ensures size { IfOk result (λ out. length out.values ≡ length mat.values * 2 ^ added_bits) }
-    ensures values { IfOk result (IsExtendedTransform F.Field.own F.generator mat added_bits (F.value shift)) }
+    ensures values { IfOk result (IsExtendedTransform F.Valued.own F.generator mat added_bits (F.value shift)) }
 {
     let values = engine.coset_lde_batch_of_coefficients(mat, added_bits, shift)?;
     Ok(values.to_row_major_matrix())
@@ -195,7 +195,7 @@ fn extension<F: TwoAdicField, D: TwoAdicSubgroupDft<F>>(
 ) -> Result<RowMajorMatrix<F>, DftError>
     requires { FitsLde F.TWO_ADICITY (height mat) mat.width added_bits }
     ensures size { IfOk result (λ out. length out.values ≡ length mat.values * 2 ^ added_bits) }
-    ensures values { IfOk result (IsExtension F.Field.own F.generator mat added_bits (F.value shift)) }
+    ensures values { IfOk result (IsExtension F.Valued.own F.generator mat added_bits (F.value shift)) }
 {
     let values = engine.coset_lde_batch(mat, added_bits, shift)?;
     Ok(values.to_row_major_matrix())
@@ -210,7 +210,7 @@ fn bit_reversed_extension<F: TwoAdicField, D: TwoAdicSubgroupDft<F>>(
 ) -> Result<RowMajorMatrix<F>, DftError>
     requires { FitsLde F.TWO_ADICITY (height mat) mat.width added_bits }
     ensures size { IfOk result (λ out. length out.values ≡ length mat.values * 2 ^ added_bits) }
-    ensures values { IfOk result (λ out. (k : ℕ) → height mat ≡ 2 ^ k → IsExtension F.Field.own F.generator mat
+    ensures values { IfOk result (λ out. (k : ℕ) → height mat ≡ 2 ^ k → IsExtension F.Valued.own F.generator mat
         added_bits (F.value shift) (reversed_rows (k + added_bits) out)) }
 {
     let values = engine.coset_lde_batch_bit_reversed(

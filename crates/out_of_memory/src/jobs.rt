@@ -14,7 +14,7 @@ use std::alloc::Global;
 
 // An inverse of a column that has room for so many entries more.
 fn inverse<F: TwoAdicField>(alloc: Global, case: Case, room: usize) -> Option<Job<F>>
-    ensures { IfSome result (CanRun F.Field.own F.TWO_ADICITY) }
+    ensures { IfSome result (CanRun F.Valued.own F.TWO_ADICITY) }
 {
     let mut values = case.line::<F>().values(alloc, case.log_h, F::ONE).ok()?;
     values.reserve(room).ok()?;
@@ -23,7 +23,7 @@ fn inverse<F: TwoAdicField>(alloc: Global, case: Case, room: usize) -> Option<Jo
 
 // A transform on the coset.
 fn transform<F: TwoAdicField>(alloc: Global, case: Case) -> Option<Job<F>>
-    ensures { IfSome result (CanRun F.Field.own F.TWO_ADICITY) }
+    ensures { IfSome result (CanRun F.Valued.own F.TWO_ADICITY) }
 {
     let coefficients = case.line::<F>().coefficients(alloc, case.log_h).ok()?;
     Some(Job::CosetDft(transformable(coefficients)?, case.shift()))
@@ -31,7 +31,7 @@ fn transform<F: TwoAdicField>(alloc: Global, case: Case) -> Option<Job<F>>
 
 // An extension.
 fn extension<F: TwoAdicField>(alloc: Global, case: Case) -> Option<Job<F>>
-    ensures { IfSome result (CanRun F.Field.own F.TWO_ADICITY) }
+    ensures { IfSome result (CanRun F.Valued.own F.TWO_ADICITY) }
 {
     let values = case.line::<F>().values(alloc, case.log_h, F::ONE).ok()?;
     let added_bits = case.added_bits;
@@ -40,7 +40,7 @@ fn extension<F: TwoAdicField>(alloc: Global, case: Case) -> Option<Job<F>>
 
 /// These three. The first column has room for so many entries more.
 pub fn three_jobs<F: TwoAdicField>(alloc: Global, case: Case, room: usize) -> Option<Vec<Job<F>>>
-    ensures { IfSome result (λ jobs. All (CanRun F.Field.own F.TWO_ADICITY) jobs.items) }
+    ensures { IfSome result (λ jobs. All (CanRun F.Valued.own F.TWO_ADICITY) jobs.items) }
 {
     let jobs = and_then(Some(Vec::new(alloc)), inverse(alloc, case, room));
     let jobs = and_then(jobs, transform(alloc, case));
@@ -49,9 +49,9 @@ pub fn three_jobs<F: TwoAdicField>(alloc: Global, case: Case, room: usize) -> Op
 
 // The list with one more job, where there are both and memory for it.
 fn and_then<F: TwoAdicField>(jobs: Option<Vec<Job<F>>>, job: Option<Job<F>>) -> Option<Vec<Job<F>>>
-    requires jobs { IfSome jobs (λ jobs. All (CanRun F.Field.own F.TWO_ADICITY) jobs.items) }
-    requires job { IfSome job (CanRun F.Field.own F.TWO_ADICITY) }
-    ensures { IfSome result (λ jobs. All (CanRun F.Field.own F.TWO_ADICITY) jobs.items) }
+    requires jobs { IfSome jobs (λ jobs. All (CanRun F.Valued.own F.TWO_ADICITY) jobs.items) }
+    requires job { IfSome job (CanRun F.Valued.own F.TWO_ADICITY) }
+    ensures { IfSome result (λ jobs. All (CanRun F.Valued.own F.TWO_ADICITY) jobs.items) }
 {
     let mut jobs = jobs?;
     match jobs.push(job?) {

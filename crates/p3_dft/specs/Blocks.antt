@@ -1,6 +1,7 @@
 -- What is said of an extension with blocks, for each of its outcomes.
 use Rattle.std.specs.Prelude.{◌≡◌, Result, Ok, Err, ⊤}
 use Rattle.p3_matrix.specs.declared.error.DftError.{DftError}
+use Rattle.p3_matrix.specs.declared.error.DftError.TheVariants.{OutOfMemory as MemoryRefused}
 use Rattle.p3_dft.specs.declared.blocks.BlocksStopped.{BlocksStopped}
 use Rattle.p3_dft.specs.declared.blocks.BlocksStopped.TheVariants.{Refused, OutOfMemory}
 
@@ -14,16 +15,11 @@ abbrev pub OnOutOfMemory : {M C R : Type 0} → BlocksStopped M C R → (M → T
 OnOutOfMemory (Refused consumer refusal) P = ⊤
 OnOutOfMemory (OutOfMemory unpublished) P = P unpublished.make_consumer
 
--- the error that stopped an extension is this one, if it was no refused block
-abbrev pub HasError : {M C R : Type 0} → BlocksStopped M C R → DftError → Type 0
-HasError (Refused consumer refusal) error = ⊤
-HasError (OutOfMemory unpublished) error = error ≡ unpublished.error
-
--- an extension with blocks was made, whether all of it was accepted or not, or this error stopped it
+-- an extension with blocks was made, whether all of it was accepted or not, or memory was refused before
 abbrev pub outcome : {T M C R : Type 0} → Result T (BlocksStopped M C R) → Result ⊤ DftError
 outcome (Ok out) = Ok tt
 outcome (Err (Refused consumer refusal)) = Ok tt
-outcome (Err (OutOfMemory unpublished)) = Err unpublished.error
+outcome (Err (OutOfMemory unpublished)) = Err MemoryRefused
 
 -- P, but where memory was refused
 abbrev pub UnlessOutOfMemory : {T M C R : Type 0} → Result T (BlocksStopped M C R) → Type 0 → Type 0

@@ -1,6 +1,6 @@
 -- Low degree extensions: from the values of polynomials on a subgroup their values on a coset of a larger one.
 use Rattle.std.specs.Prelude.{◌≡◌, ℕ, ◌+◌, ◌*◌, ◌^◌}
-use Rattle.p3_field.specs.declared.fields.Field.{Ghosts as FieldMembers}
+use Rattle.p3_field.specs.declared.fields.Valued.{Ghosts as FieldMembers}
 use Rattle.p3_matrix.specs.BitOrder.{bit_reversal}
 use Rattle.p3_matrix.specs.Matrix.{Matrix, Same}
 use Rattle.p3_matrix.specs.RowMajor.{HasShapeOf, RowMajor, IsRowMajor, height, with_zeros}
@@ -59,7 +59,7 @@ module _ {F : Type 0} (f : FieldMembers F) (generator : ℕ → F) where
     pub answered_whole : IsRowMajor answered
     pub called : may_answer told answered
     pub kept : HasShapeOf answered m
-    pub over_zeros : out ≡ with_zeros f.ZERO answered a
+    pub over_zeros : out ≡ with_zeros f.zero answered a
 
 -- how many products an extension of 2 ^ k rows of w entries by a bits takes, where bound says it of a transform: an inverse transform and one on the larger coset
 abbrev pub extension_bound : (ℕ → ℕ → ℕ) → ℕ → ℕ → ℕ → ℕ

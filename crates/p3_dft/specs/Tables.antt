@@ -1,6 +1,6 @@
 -- What an extension coset by coset leaves of an engine's tables.
 use Rattle.std.specs.Prelude.{◌≡◌, ℕ, ◌≤◌, max, List}
-use Rattle.p3_field.specs.declared.fields.Field.{Ghosts as FieldMembers}
+use Rattle.p3_field.specs.declared.fields.Valued.{Ghosts as FieldMembers}
 use Rattle.p3_matrix.specs.Cosets.{AddsCosets, Coset, HasCosets}
 
 -- after an extension of 2 ^ k rows by a bits on the coset of s: no height above the input's was made prepared, tables were added of the cosets of its slots alone, and none where all were there

@@ -83,11 +83,11 @@ pub fn run_jobs<F: TwoAdicField, D: TwoAdicSubgroupDft<F>>(
     engine: &mut D,
     jobs: Vec<Job<F>>,
 ) -> Result<Vec<RowMajorMatrix<F>>, JobsStopped<F>>
-    requires runnable { All (CanRun F.Field.own F.TWO_ADICITY) jobs.items }
-    ensures all { IfOk result (λ answers. AllZip (IsAnswer F.Field.own F.generator) jobs.items answers.items) }
+    requires runnable { All (CanRun F.Valued.own F.TWO_ADICITY) jobs.items }
+    ensures all { IfOk result (λ answers. AllZip (IsAnswer F.Valued.own F.generator) jobs.items answers.items) }
     ensures prepares { OnOk result (All (IsPreparedFor D.facts engine.new) jobs.items) }
     ensures cost { HasMade D.facts engine.old engine.new jobs.items }
-    ensures first { IfErr result (λ stopped. AreFirstAnswers F.Field.own F.generator jobs.items stopped.answers.items) }
+    ensures first { IfErr result (λ stopped. AreFirstAnswers F.Valued.own F.generator jobs.items stopped.answers.items) }
     ensures prepares_first { IfErr result (λ stopped. All (IsPreparedFor D.facts engine.new)
         (take (length stopped.answers.items) jobs.items)) }
     ensures cost_of_first { IfErr result (λ stopped. HasMade D.facts engine.old engine.new
@@ -111,12 +111,12 @@ fn answer_jobs<F: TwoAdicField, D: TwoAdicSubgroupDft<F>>(
     jobs: Vec<Job<F>>,
     answers: &mut Vec<RowMajorMatrix<F>>,
 ) -> Result<(), DftError>
-    requires runnable { All (CanRun F.Field.own F.TWO_ADICITY) jobs.items }
+    requires runnable { All (CanRun F.Valued.own F.TWO_ADICITY) jobs.items }
     requires empty { answers.old.items ≡ [] }
-    ensures all { OnOk result (AllZip (IsAnswer F.Field.own F.generator) jobs.items answers.new.items) }
+    ensures all { OnOk result (AllZip (IsAnswer F.Valued.own F.generator) jobs.items answers.new.items) }
     ensures prepares { OnOk result (All (IsPreparedFor D.facts engine.new) jobs.items) }
     ensures cost { HasMade D.facts engine.old engine.new jobs.items }
-    ensures first { OnErr result (AreFirstAnswers F.Field.own F.generator jobs.items answers.new.items) }
+    ensures first { OnErr result (AreFirstAnswers F.Valued.own F.generator jobs.items answers.new.items) }
     ensures prepares_first { OnErr result (All (IsPreparedFor D.facts engine.new)
         (take (length answers.new.items) jobs.items)) }
     ensures cost_of_first { OnErr result (HasMade D.facts engine.old engine.new
@@ -140,8 +140,8 @@ fn run_job<F: TwoAdicField, D: TwoAdicSubgroupDft<F>>(
     engine: &mut D,
     job: Job<F>,
 ) -> Result<RowMajorMatrix<F>, DftError>
-    requires runnable { CanRun F.Field.own F.TWO_ADICITY job }
-    ensures { IsRun D.facts F.Field.own F.generator job (λ out. out) engine.old engine.new result }
+    requires runnable { CanRun F.Valued.own F.TWO_ADICITY job }
+    ensures { IsRun D.facts F.Valued.own F.generator job (λ out. out) engine.old engine.new result }
 {
     let values = match job {
         Job::Idft(mat) => return engine.idft_batch(mat),

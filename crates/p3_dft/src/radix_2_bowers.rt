@@ -97,7 +97,7 @@ impl<F: TwoAdicField> TwoAdicSubgroupDft<F> for Radix2Bowers {
     /// transform: it is handed back, with no product and no memory taken. After an error no product was made.
     fn dft_batch<N: IntoRowMajorMatrix<F>>(&mut self, mat: N) -> Result<RowMajorMatrix<F>, DftError>
         requires fits { FitsDft F.TWO_ADICITY (height (N.stored mat)) (N.stored mat).width }
-        ensures values { IfOk result (λ out. IsTransform F.Field.own F.generator (N.stored mat) F.ring.one out) }
+        ensures values { IfOk result (λ out. IsTransform F.Valued.own F.generator (N.stored mat) F.ring.one out) }
         ensures succeeds { AtLog (height (N.stored mat)) (λ k. k ≡ 0 → IsOk result) }
         ensures one_row { height (N.stored mat) ≡ 1 → (result ≡ Ok (N.stored mat)) × (self.new ≡ self.old) }
         ensures refused { OnErr result (self.new ≡ self.old) }
@@ -130,7 +130,7 @@ impl<F: TwoAdicField> TwoAdicSubgroupDft<F> for Radix2Bowers {
     ) -> Result<RowMajorMatrix<F>, DftError>
         requires fits { FitsDft F.TWO_ADICITY (height (N.stored mat)) (N.stored mat).width }
         ensures coefficients { IfOk result
-            (λ out. IsInterpolation F.Field.own F.generator (N.stored mat) F.ring.one out) }
+            (λ out. IsInterpolation F.Valued.own F.generator (N.stored mat) F.ring.one out) }
         ensures succeeds { AtLog (height (N.stored mat)) (λ k. k ≡ 0 → IsOk result) }
         ensures one_row { height (N.stored mat) ≡ 1 → (result ≡ Ok (N.stored mat)) × (self.new ≡ self.old) }
         ensures refused { OnErr result (self.new ≡ self.old) }
@@ -162,7 +162,7 @@ impl<F: TwoAdicField> TwoAdicSubgroupDft<F> for Radix2Bowers {
         requires fits { FitsLde F.TWO_ADICITY (height (N.stored mat)) (N.stored mat).width added_bits }
         requires callable { IsCallable (N.stored mat) (λ m. T.pre transform m BitReversed) }
         requires shape { KeepsShape (N.stored mat) (λ m n. T.post transform m BitReversed n) }
-        ensures values { IfOk result (IsTransformedExtension F.Field.own F.generator (T.post transform) BitReversed
+        ensures values { IfOk result (IsTransformedExtension F.Valued.own F.generator (T.post transform) BitReversed
             (N.stored mat) added_bits (F.value shift)) }
         ensures one_row { height (N.stored mat) ≡ 1 → added_bits ≡ 0 → IsOk result × (self.new ≡ self.old) }
         ensures engine { AfterLde ⟦<Radix2Bowers as TwoAdicSubgroupDft<F>>⟧.facts self.old self.new result
@@ -193,7 +193,7 @@ impl<F: TwoAdicField> TwoAdicSubgroupDft<F> for Radix2Bowers {
     ) -> Result<RowMajorMatrix<F>, DftError>
         requires fits { FitsLde F.TWO_ADICITY (height (N.stored mat)) (N.stored mat).width added_bits }
         ensures values { IfOk result (λ out.
-            IsExtension F.Field.own F.generator (N.stored mat) added_bits (F.value shift) out) }
+            IsExtension F.Valued.own F.generator (N.stored mat) added_bits (F.value shift) out) }
         ensures one_row { height (N.stored mat) ≡ 1 → added_bits ≡ 0
             → (result ≡ Ok (N.stored mat)) × (self.new ≡ self.old) }
         ensures engine { AfterLde ⟦<Radix2Bowers as TwoAdicSubgroupDft<F>>⟧.facts self.old self.new result
@@ -219,7 +219,7 @@ impl<F: TwoAdicField> TwoAdicSubgroupDft<F> for Radix2Bowers {
     ) -> Result<RowMajorMatrix<F>, DftError>
         requires fits { FitsLde F.TWO_ADICITY (height (N.stored mat)) (N.stored mat).width added_bits }
         ensures values { IfOk result (λ out.
-            IsExtension F.Field.own F.generator (N.stored mat) added_bits F.ring.one out) }
+            IsExtension F.Valued.own F.generator (N.stored mat) added_bits F.ring.one out) }
         ensures one_row { height (N.stored mat) ≡ 1 → added_bits ≡ 0
             → (result ≡ Ok (N.stored mat)) × (self.new ≡ self.old) }
         ensures engine { AfterLde ⟦<Radix2Bowers as TwoAdicSubgroupDft<F>>⟧.facts self.old self.new result
@@ -244,7 +244,7 @@ fn evaluate_to_natural<F: TwoAdicField>(
     requires fits { FitsDft F.TWO_ADICITY (height mat.old) mat.old.width }
     requires several { ¬ (height mat.old ≡ 1) }
     ensures values { AtLog (height mat.old) (λ k. OnOk result (IsValues F.ring (λ n. F.value (F.generator n))
-        (bit_reversal k (values_of F.Field.own mat.old)) k F.ring.one (values_of F.Field.own mat.new))) }
+        (bit_reversal k (values_of F.Valued.own mat.old)) k F.ring.one (values_of F.Valued.own mat.new))) }
     ensures refused { OnErr result (products.new ≡ products.old) }
     ensures grows { products.old ≤ products.new }
     ensures cost { AtLog (height mat.old) (λ k. products.new ≤ products.old + mat.old.width * (k * 2 ^ k / 2)) }
@@ -275,8 +275,8 @@ fn interpolate_unscaled_to_reversed<F: TwoAdicField>(
     ensures whole { IsRowMajor mat.old }
     ensures same { OnOk result (HasEntriesOf mat.new mat.old) }
     ensures coefficients { AtLog (height mat.old) (λ k. OnOk result ((c : Matrix F.Element)
-        → IsQuotient F.ring (2 ^ k) (bit_reversal k (values_of F.Field.own mat.new)) c
-        → AreCoefficients F.ring (λ n. F.value (F.generator n)) (values_of F.Field.own mat.old) k F.ring.one c)) }
+        → IsQuotient F.ring (2 ^ k) (bit_reversal k (values_of F.Valued.own mat.new)) c
+        → AreCoefficients F.ring (λ n. F.value (F.generator n)) (values_of F.Valued.own mat.old) k F.ring.one c)) }
     ensures refused { OnErr result (products.new ≡ products.old) }
     ensures grows { products.old ≤ products.new }
     ensures cost { AtLog (height mat.old) (λ k. products.new ≤ products.old + mat.old.width * (k * 2 ^ k / 2)) }
@@ -310,7 +310,7 @@ fn interpolate_to_reversed<F: TwoAdicField>(
     requires fits { FitsDft F.TWO_ADICITY (height mat.old) mat.old.width }
     ensures coefficients { AtLog (height mat.old)
         (λ k. OnOk result (AreCoefficients F.ring (λ n. F.value (F.generator n))
-        (values_of F.Field.own mat.old) k F.ring.one (bit_reversal k (values_of F.Field.own mat.new)))) }
+        (values_of F.Valued.own mat.old) k F.ring.one (bit_reversal k (values_of F.Valued.own mat.new)))) }
     ensures whole { OnOk result (IsRowMajor mat.new) }
     ensures refused { OnErr result (products.new ≡ products.old) }
     ensures grows { products.old ≤ products.new }
@@ -333,7 +333,7 @@ fn extend_to_natural<F: TwoAdicField>(
     requires fits { FitsLde F.TWO_ADICITY (height mat) mat.width added_bits }
     requires several { height mat ≡ 1 → ¬ (added_bits ≡ 0) }
     ensures values { AtLog (height mat) (λ k. IfOk result (λ out. IsValues F.ring (λ n. F.value (F.generator n))
-        (bit_reversal k (values_of F.Field.own mat)) (k + added_bits) F.ring.one (values_of F.Field.own out))) }
+        (bit_reversal k (values_of F.Valued.own mat)) (k + added_bits) F.ring.one (values_of F.Valued.own out))) }
     ensures grows { products.old ≤ products.new }
     ensures cost { AtLog (height mat)
         (λ k. products.new ≤ products.old + mat.width * ((k + added_bits) * 2 ^ (k + added_bits) / 2)) }
@@ -352,8 +352,8 @@ fn weigh_rows<F: TwoAdicField>(
     products: &mut Products,
 )
     requires full { length values.old ≡ length weights.now * width }
-    ensures values { (i j : ℕ) → i < length weights.now → j < width → F.value (get_or values.new (i * width + j) F.ZERO)
-        ≡ F.ring.mul (F.value (get_or values.old (i * width + j) F.ZERO)) (F.value (get_or weights.now i F.ZERO)) }
+    ensures values { (i j : ℕ) → i < length weights.now → j < width → F.value (get_or values.new (i * width + j) F.zero)
+        ≡ F.ring.mul (F.value (get_or values.old (i * width + j) F.zero)) (F.value (get_or weights.now i F.zero)) }
     ensures count { products.new ≡ products.old + length weights.now * width }
 {
     for i in 0..weights.len() {
@@ -372,9 +372,9 @@ fn weigh_reversed_rows<F: TwoAdicField>(
 ) -> Result<(), DftError>
     requires power { (k : ℕ) × (height mat.old ≡ 2 ^ k) }
     ensures whole { IsRowMajor mat.old }
-    ensures rows { AtLog (height mat.old) (λ k. OnOk result (Same (bit_reversal k (values_of F.Field.own mat.new))
+    ensures rows { AtLog (height mat.old) (λ k. OnOk result (Same (bit_reversal k (values_of F.Valued.own mat.new))
         (image (λ x. F.ring.mul x (F.value scale))
-        (coset_shift F.ring (F.value shift) (bit_reversal k (values_of F.Field.own mat.old)))))) }
+        (coset_shift F.ring (F.value shift) (bit_reversal k (values_of F.Valued.own mat.old)))))) }
     ensures grows { products.old ≤ products.new }
     ensures cost { products.new ≤ products.old + height mat.old * mat.old.width }
     ensures room { IfErr result (IsWithin (height mat.old * mat.old.width)) }
@@ -397,9 +397,9 @@ fn spread_over_zeros<F: TwoAdicField>(
     requires size { height mat * mat.width * 2 ^ added_bits < 2 ^ 64 }
     ensures shape { IfOk result (λ out. (height out ≡ height mat * 2 ^ added_bits) × (out.width ≡ mat.width)) }
     ensures rows { IfOk result (λ out. (i j : ℕ) → i < height mat → j < mat.width
-        → (matrix F.ZERO out).entry (i * 2 ^ added_bits) j ≡ (matrix F.ZERO mat).entry i j) }
+        → (matrix F.zero out).entry (i * 2 ^ added_bits) j ≡ (matrix F.zero mat).entry i j) }
     ensures others { IfOk result (λ out. (i r j : ℕ) → i < height mat → 0 < r → r < 2 ^ added_bits → j < mat.width
-        → (matrix F.ZERO out).entry (i * 2 ^ added_bits + r) j ≡ F.ZERO) }
+        → (matrix F.zero out).entry (i * 2 ^ added_bits + r) j ≡ F.zero) }
     ensures room { IfErr result (IsWithin (height mat * mat.width * 2 ^ added_bits)) }
 {
     if added_bits == 0 {

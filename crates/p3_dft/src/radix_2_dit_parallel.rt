@@ -143,7 +143,7 @@ impl<F: TwoAdicField> TwoAdicSubgroupDft<F> for Radix2DitParallel<F> {
 
     ghost LAYOUT = { BitReversed };
 
-    ghost facts = { record (plain_facts (λ e. IsPrepared e.roots) (λ e k s. IsCosetPrepared F.Field.own e k (F.value s))
+    ghost facts = { record (plain_facts (λ e. IsPrepared e.roots) (λ e k s. IsCosetPrepared F.Valued.own e k (F.value s))
         (λ _ _. ⊤) (λ k w. w * (k * 2 ^ k / 2)) (λ e. e.roots.products)) {
           extension_products = λ k a w. w * (k * 2 ^ k / 2 * (1 + 2 ^ a) + 2 ^ k);
           block_rows = λ k a. 2 ^ (k - mid_of k);
@@ -166,7 +166,7 @@ impl<F: TwoAdicField> TwoAdicSubgroupDft<F> for Radix2DitParallel<F> {
     ) -> Result<BitReversedMatrixView<RowMajorMatrix<F>>, DftError>
         requires fits { FitsDft F.TWO_ADICITY (height (N.stored mat)) (N.stored mat).width }
         ensures values { IfOk result (λ out.
-            IsTransform F.Field.own F.generator (N.stored mat) F.ring.one (reversed_rows out.bits out.physical)) }
+            IsTransform F.Valued.own F.generator (N.stored mat) F.ring.one (reversed_rows out.bits out.physical)) }
         ensures succeeds { AtLog (height (N.stored mat)) (λ k. IsPrepared self.old.roots k → IsOk result) }
         ensures made { AtLog (height (N.stored mat))
             (λ k. OnOk result (self.new.roots.prepared ≡ max self.old.roots.prepared k)) }
@@ -206,17 +206,17 @@ impl<F: TwoAdicField> TwoAdicSubgroupDft<F> for Radix2DitParallel<F> {
     ) -> Result<BitReversedMatrixView<RowMajorMatrix<F>>, DftError>
         requires fits { FitsDft F.TWO_ADICITY (height (N.stored mat)) (N.stored mat).width }
         ensures values { IfOk result (λ out.
-            IsTransform F.Field.own F.generator (N.stored mat) (F.value shift) (reversed_rows out.bits out.physical)) }
+            IsTransform F.Valued.own F.generator (N.stored mat) (F.value shift) (reversed_rows out.bits out.physical)) }
         ensures succeeds { AtLog (height (N.stored mat)) (λ k. IsPrepared self.old.roots k
-            → IsCosetPrepared F.Field.own self.old k (F.value shift) → IsOk result) }
+            → IsCosetPrepared F.Valued.own self.old k (F.value shift) → IsOk result) }
         ensures on_prepared { AtLog (height (N.stored mat))
-            (λ k. IsCosetPrepared F.Field.own self.old k (F.value shift) → IsOk result) }
+            (λ k. IsCosetPrepared F.Valued.own self.old k (F.value shift) → IsOk result) }
         ensures tables { AtLog (height (N.stored mat))
-            (λ k. OnOk result (IsCosetPrepared F.Field.own self.new k (F.value shift))) }
+            (λ k. OnOk result (IsCosetPrepared F.Valued.own self.new k (F.value shift))) }
         ensures only { AtLog (height (N.stored mat)) (λ k. PreparesNoneAbove k self.old.roots self.new.roots) }
         ensures roots { F.value shift ≢ F.ring.one → self.new.roots.prepared ≡ self.old.roots.prepared }
         ensures once { AtLog (height (N.stored mat))
-            (λ k. IsCosetPrepared F.Field.own self.old k (F.value shift) → self.new.cosets ≡ self.old.cosets) }
+            (λ k. IsCosetPrepared F.Valued.own self.old k (F.value shift) → self.new.cosets ≡ self.old.cosets) }
         ensures one { F.value shift ≡ F.ring.one → self.new.cosets ≡ self.old.cosets }
         ensures cosets { AtLog (height (N.stored mat)) (λ k. (self.new.cosets ≡ self.old.cosets)
             ⊎ (self.new.cosets ≡ self.old.cosets ++ record { log_h = k; shift = shift } ∷ [])) }
@@ -252,7 +252,7 @@ impl<F: TwoAdicField> TwoAdicSubgroupDft<F> for Radix2DitParallel<F> {
     ) -> Result<RowMajorMatrix<F>, DftError>
         requires fits { FitsDft F.TWO_ADICITY (height (N.stored mat)) (N.stored mat).width }
         ensures coefficients { IfOk result
-            (λ out. IsInterpolation F.Field.own F.generator (N.stored mat) F.ring.one out) }
+            (λ out. IsInterpolation F.Valued.own F.generator (N.stored mat) F.ring.one out) }
         ensures succeeds { AtLog (height (N.stored mat)) (λ k. IsPrepared self.old.roots k → IsOk result) }
         ensures made { AtLog (height (N.stored mat))
             (λ k. OnOk result (self.new.roots.prepared ≡ max self.old.roots.prepared k)) }
@@ -283,15 +283,15 @@ impl<F: TwoAdicField> TwoAdicSubgroupDft<F> for Radix2DitParallel<F> {
         requires fits { FitsLde F.TWO_ADICITY (height (N.stored mat)) (N.stored mat).width added_bits }
         requires callable { IsCallable (N.stored mat) (λ m. T.pre transform m BitReversed) }
         requires shape { KeepsShape (N.stored mat) (λ m n. T.post transform m BitReversed n) }
-        ensures values { IfOk result (λ out. IsTransformedExtension F.Field.own F.generator (T.post transform)
+        ensures values { IfOk result (λ out. IsTransformedExtension F.Valued.own F.generator (T.post transform)
             BitReversed (N.stored mat) added_bits (F.value shift) (reversed_rows out.bits out.physical)) }
         ensures prepared { AtLog (height (N.stored mat)) (λ k. OnOk result (IsPrepared self.new.roots k)) }
         ensures tables { AtLog (height (N.stored mat)) (λ k. OnOk result
-            (HasCosets F.Field.own F.generator self.new.cosets k added_bits (F.value shift))) }
-        ensures keeps_tables { (k : ℕ) (s : F.Element) → HasCoset F.Field.own self.old.cosets k s
-            → HasCoset F.Field.own self.new.cosets k s }
+            (HasCosets F.Valued.own F.generator self.new.cosets k added_bits (F.value shift))) }
+        ensures keeps_tables { (k : ℕ) (s : F.Element) → HasCoset F.Valued.own self.old.cosets k s
+            → HasCoset F.Valued.own self.new.cosets k s }
         ensures leaves { AtLog (height (N.stored mat))
-            (λ k. LeavesTables F.Field.own F.generator k added_bits (F.value shift)
+            (λ k. LeavesTables F.Valued.own F.generator k added_bits (F.value shift)
             self.old.roots.prepared self.new.roots.prepared self.old.cosets self.new.cosets) }
         ensures later { IsLater ⟦<Radix2DitParallel<F> as TwoAdicSubgroupDft<F>>⟧.facts self.old self.new }
         ensures cost { AtLog (height (N.stored mat)) (λ k. self.new.roots.products
@@ -330,25 +330,25 @@ impl<F: TwoAdicField> TwoAdicSubgroupDft<F> for Radix2DitParallel<F> {
         requires callable { IsCallable (N.stored mat) (λ m. T.pre transform m BitReversed) }
         requires shape { KeepsShape (N.stored mat) (λ m n. T.post transform m BitReversed n) }
         requires makes { AtLog (height (N.stored mat)) (λ k. M.pre make_consumer (2 ^ (k - mid_of k))) }
-        ensures values { IfOk result (λ p. IsTransformedExtension F.Field.own F.generator (T.post transform)
+        ensures values { IfOk result (λ p. IsTransformedExtension F.Valued.own F.generator (T.post transform)
             BitReversed (N.stored mat) added_bits (F.value shift) (reversed_rows p.0.bits p.0.physical)) }
         ensures published { IfOk result (λ p. AtLog (height (N.stored mat)) (λ k.
             IsPublished C.step (M.post make_consumer (2 ^ (k - mid_of k))) (2 ^ (k - mid_of k))
             p.0.physical p.1)) }
         ensures refused { IfErr result (λ e. OnRefused e
             (λ c r. AtLog (height (N.stored mat)) (λ k. (out : Matrix F.Element)
-            × AreTransformedValues F.Field.own F.generator (T.post transform) BitReversed (N.stored mat) added_bits
+            × AreTransformedValues F.Valued.own F.generator (T.post transform) BitReversed (N.stored mat) added_bits
             (F.value shift) out
-            × IsRefused C.step (M.post make_consumer (2 ^ (k - mid_of k))) (values_of F.Field.own)
+            × IsRefused C.step (M.post make_consumer (2 ^ (k - mid_of k))) (values_of F.Valued.own)
             (2 ^ (k - mid_of k)) (bit_reversal (k + added_bits) out) c r))) }
         ensures unpublished { IfErr result (λ e. OnOutOfMemory e (λ m. m ≡ make_consumer)) }
         ensures prepared { AtLog (height (N.stored mat)) (λ k. UnlessOutOfMemory result (IsPrepared self.new.roots k)) }
         ensures tables { AtLog (height (N.stored mat)) (λ k. UnlessOutOfMemory result
-            (HasCosets F.Field.own F.generator self.new.cosets k added_bits (F.value shift))) }
-        ensures keeps_tables { (k : ℕ) (s : F.Element) → HasCoset F.Field.own self.old.cosets k s
-            → HasCoset F.Field.own self.new.cosets k s }
+            (HasCosets F.Valued.own F.generator self.new.cosets k added_bits (F.value shift))) }
+        ensures keeps_tables { (k : ℕ) (s : F.Element) → HasCoset F.Valued.own self.old.cosets k s
+            → HasCoset F.Valued.own self.new.cosets k s }
         ensures leaves { AtLog (height (N.stored mat))
-            (λ k. LeavesTables F.Field.own F.generator k added_bits (F.value shift)
+            (λ k. LeavesTables F.Valued.own F.generator k added_bits (F.value shift)
             self.old.roots.prepared self.new.roots.prepared self.old.cosets self.new.cosets) }
         ensures later { IsLater ⟦<Radix2DitParallel<F> as TwoAdicSubgroupDft<F>>⟧.facts self.old self.new }
         ensures cost { AtLog (height (N.stored mat)) (λ k. self.new.roots.products
@@ -370,11 +370,8 @@ impl<F: TwoAdicField> TwoAdicSubgroupDft<F> for Radix2DitParallel<F> {
         );
         let mut mat = match room {
             Ok(mat) => mat,
-            Err(error) => {
-                return Err(BlocksStopped::OutOfMemory(Unpublished {
-                    make_consumer,
-                    error,
-                }));
+            Err(DftError::OutOfMemory) => {
+                return Err(BlocksStopped::OutOfMemory(Unpublished { make_consumer }));
             }
         };
         let mut consumer = make_consumer(block_height);

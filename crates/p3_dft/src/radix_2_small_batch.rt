@@ -187,7 +187,7 @@ impl<F: TwoAdicField> TwoAdicSubgroupDft<F> for Radix2DFTSmallBatch<F> {
     /// and no memory taken.
     fn dft_batch<N: IntoRowMajorMatrix<F>>(&mut self, mat: N) -> Result<RowMajorMatrix<F>, DftError>
         requires fits { FitsDft F.TWO_ADICITY (height (N.stored mat)) (N.stored mat).width }
-        ensures values { IfOk result (λ out. IsTransform F.Field.own F.generator (N.stored mat) F.ring.one out) }
+        ensures values { IfOk result (λ out. IsTransform F.Valued.own F.generator (N.stored mat) F.ring.one out) }
         ensures succeeds { AtLog (height (N.stored mat)) (λ k. IsPrepared self.old k → IsOk result) }
         ensures made { AtLog (height (N.stored mat))
             (λ k. OnOk result (self.new.prepared ≡ max self.old.prepared k)) }
@@ -217,7 +217,7 @@ impl<F: TwoAdicField> TwoAdicSubgroupDft<F> for Radix2DFTSmallBatch<F> {
     ) -> Result<RowMajorMatrix<F>, DftError>
         requires fits { FitsDft F.TWO_ADICITY (height (N.stored mat)) (N.stored mat).width }
         ensures coefficients { IfOk result
-            (λ out. IsInterpolation F.Field.own F.generator (N.stored mat) F.ring.one out) }
+            (λ out. IsInterpolation F.Valued.own F.generator (N.stored mat) F.ring.one out) }
         ensures succeeds { AtLog (height (N.stored mat)) (λ k. IsPrepared self.old k → IsOk result) }
         ensures made { AtLog (height (N.stored mat))
             (λ k. OnOk result (self.new.prepared ≡ max self.old.prepared k)) }
@@ -241,7 +241,7 @@ impl<F: TwoAdicField> TwoAdicSubgroupDft<F> for Radix2DFTSmallBatch<F> {
     ) -> Result<RowMajorMatrix<F>, DftError>
         requires fits { FitsLde F.TWO_ADICITY (height (N.stored mat)) (N.stored mat).width added_bits }
         ensures values { IfOk result
-            (IsExtendedTransform F.Field.own F.generator (N.stored mat) added_bits (F.value shift)) }
+            (IsExtendedTransform F.Valued.own F.generator (N.stored mat) added_bits (F.value shift)) }
         ensures only { AtLog (height (N.stored mat)) (λ k. PreparesNoneAbove (k + added_bits) self.old self.new) }
         ensures engine { AfterLdeOfCoefficients ⟦<Radix2DFTSmallBatch<F> as TwoAdicSubgroupDft<F>>⟧.facts
             self.old self.new result (N.stored mat) added_bits }
@@ -282,7 +282,7 @@ impl<F: TwoAdicField> TwoAdicSubgroupDft<F> for Radix2DFTSmallBatch<F> {
         shift: F,
     ) -> Result<BitReversedMatrixView<RowMajorMatrix<F>>, DftError>
         requires fits { FitsLde F.TWO_ADICITY (height (N.stored mat)) (N.stored mat).width added_bits }
-        ensures values { IfOk result (λ out. IsExtendedTransform F.Field.own F.generator (N.stored mat) added_bits
+        ensures values { IfOk result (λ out. IsExtendedTransform F.Valued.own F.generator (N.stored mat) added_bits
             (F.value shift) (reversed_rows out.bits out.physical)) }
         ensures only { AtLog (height (N.stored mat)) (λ k. PreparesNoneAbove (k + added_bits) self.old self.new) }
         ensures engine { AfterLdeOfCoefficients ⟦<Radix2DFTSmallBatch<F> as TwoAdicSubgroupDft<F>>⟧.facts
@@ -318,7 +318,7 @@ impl<F: TwoAdicField> TwoAdicSubgroupDft<F> for Radix2DFTSmallBatch<F> {
     ) -> Result<RowMajorMatrix<F>, DftError>
         requires fits { FitsLde F.TWO_ADICITY (height (N.stored mat)) (N.stored mat).width added_bits }
         ensures values { IfOk result (λ out.
-            IsExtension F.Field.own F.generator (N.stored mat) added_bits (F.value shift) out) }
+            IsExtension F.Valued.own F.generator (N.stored mat) added_bits (F.value shift) out) }
         ensures one_row { height (N.stored mat) ≡ 1 → added_bits ≡ 0
             → (result ≡ Ok (N.stored mat)) × (self.new ≡ self.old) }
         ensures only { AtLog (height (N.stored mat)) (λ k. PreparesNoneAbove (k + added_bits) self.old self.new) }
@@ -358,7 +358,7 @@ impl<F: TwoAdicField> TwoAdicSubgroupDft<F> for Radix2DFTSmallBatch<F> {
         added_bits: usize,
     ) -> Result<RowMajorMatrix<F>, DftError>
         requires fits { FitsLde F.TWO_ADICITY (height (N.stored mat)) (N.stored mat).width added_bits }
-        ensures values { IfOk result (IsExtension F.Field.own F.generator (N.stored mat) added_bits F.ring.one) }
+        ensures values { IfOk result (IsExtension F.Valued.own F.generator (N.stored mat) added_bits F.ring.one) }
         ensures one_row { height (N.stored mat) ≡ 1 → added_bits ≡ 0
             → (result ≡ Ok (N.stored mat)) × (self.new ≡ self.old) }
         ensures only { AtLog (height (N.stored mat)) (λ k. PreparesNoneAbove (k + added_bits) self.old self.new) }
@@ -387,7 +387,7 @@ impl<F: TwoAdicField> TwoAdicSubgroupDft<F> for Radix2DFTSmallBatch<F> {
         requires fits { FitsLde F.TWO_ADICITY (height (N.stored mat)) (N.stored mat).width added_bits }
         requires callable { IsCallable (N.stored mat) (λ m. T.pre transform m Natural) }
         requires shape { KeepsShape (N.stored mat) (λ m n. T.post transform m Natural n) }
-        ensures values { IfOk result (λ out. IsTransformedExtension F.Field.own F.generator (T.post transform) Natural
+        ensures values { IfOk result (λ out. IsTransformedExtension F.Valued.own F.generator (T.post transform) Natural
             (N.stored mat) added_bits (F.value shift) (reversed_rows out.bits out.physical)) }
         ensures only { AtLog (height (N.stored mat)) (λ k. PreparesNoneAbove (k + added_bits) self.old self.new) }
         ensures engine { AfterLde ⟦<Radix2DFTSmallBatch<F> as TwoAdicSubgroupDft<F>>⟧.facts self.old self.new
@@ -420,7 +420,7 @@ impl<F: TwoAdicField> TwoAdicSubgroupDft<F> for Radix2DFTSmallBatch<F> {
         requires fits { FitsLde F.TWO_ADICITY (height (N.stored mat)) (N.stored mat).width added_bits }
         requires callable { IsCallable (N.stored mat) (λ m. T.pre transform m Natural) }
         requires shape { KeepsShape (N.stored mat) (λ m n. T.post transform m Natural n) }
-        ensures values { IfOk result (IsTransformedExtension F.Field.own F.generator (T.post transform) Natural
+        ensures values { IfOk result (IsTransformedExtension F.Valued.own F.generator (T.post transform) Natural
             (N.stored mat) added_bits (F.value shift)) }
         ensures only { AtLog (height (N.stored mat)) (λ k. PreparesNoneAbove (k + added_bits) self.old self.new) }
         ensures engine { AfterLde ⟦<Radix2DFTSmallBatch<F> as TwoAdicSubgroupDft<F>>⟧.facts self.old self.new
@@ -440,7 +440,7 @@ struct Evaluation {
 }
 
 impl<F: TwoAdicField> MatrixWork<F, RootTables<F>> for Evaluation {
-    ghost takes = { λ work mat out. IsTransform F.Field.own F.generator mat F.ring.one out };
+    ghost takes = { λ work mat out. IsTransform F.Valued.own F.generator mat F.ring.one out };
 
     ghost more = { λ work. 0 };
 
@@ -479,12 +479,12 @@ fn interpolate_unscaled_to_reversed<F: TwoAdicField>(
     requires rows { HasTwoPowerRows mat.old log_h }
     requires within { log_h ≤ F.TWO_ADICITY }
     requires tile { tile ≤ MAX_TILE }
-    requires twiddles { AreTwiddlesFromStart F.Field.own log_h
-        (block_powers F.Field.own (backward_root F.Field.own F.generator)) twiddles.now }
+    requires twiddles { AreTwiddlesFromStart F.Valued.own log_h
+        (block_powers F.Valued.own (backward_root F.Valued.own F.generator)) twiddles.now }
     ensures same { HasEntriesOf mat.new mat.old }
     ensures coefficients { (c : Matrix F.Element)
-        → IsQuotient F.ring (2 ^ log_h) (bit_reversal log_h (values_of F.Field.own mat.new)) c
-        → AreCoefficients F.ring (λ n. F.value (F.generator n)) (values_of F.Field.own mat.old) log_h F.ring.one c }
+        → IsQuotient F.ring (2 ^ log_h) (bit_reversal log_h (values_of F.Valued.own mat.new)) c
+        → AreCoefficients F.ring (λ n. F.value (F.generator n)) (values_of F.Valued.own mat.old) log_h F.ring.one c }
     ensures grows { products.old ≤ products.new }
     ensures cost { products.new ≤ products.old + mat.old.width * (log_h * 2 ^ log_h / 2) }
 {
@@ -524,12 +524,12 @@ fn extend_to_natural<F: TwoAdicField>(
     requires height { height mat ≡ 2 ^ log_h }
     requires room { mat.width * 2 ^ (log_h + added_bits) < 2 ^ 64 }
     requires tile { tile ≤ MAX_TILE }
-    requires twiddles { AreTwiddlesFromStart F.Field.own (log_h + added_bits)
-        (block_powers F.Field.own (forward_root F.Field.own F.generator)) twiddles.now }
+    requires twiddles { AreTwiddlesFromStart F.Valued.own (log_h + added_bits)
+        (block_powers F.Valued.own (forward_root F.Valued.own F.generator)) twiddles.now }
     ensures values { IfOk result (λ out. IsValues F.ring (λ n. F.value (F.generator n))
         (image (λ x. F.ring.mul x (F.value scale))
-        (coset_shift F.ring (F.value shift) (bit_reversal log_h (values_of F.Field.own mat))))
-        (log_h + added_bits) F.ring.one (values_of F.Field.own out)) }
+        (coset_shift F.ring (F.value shift) (bit_reversal log_h (values_of F.Valued.own mat))))
+        (log_h + added_bits) F.ring.one (values_of F.Valued.own out)) }
     ensures grows { products.old ≤ products.new }
     ensures cost { products.new ≤ products.old
         + mat.width * (2 ^ added_bits * (log_h * 2 ^ log_h / 2) + 2 ^ (log_h + added_bits)) }
@@ -573,12 +573,12 @@ fn extend_to_reversed<F: TwoAdicField>(
     requires rows { HasTwoPowerRows mat.old (log_h + added_bits) }
     requires within { log_h + added_bits ≤ F.TWO_ADICITY }
     requires tile { tile ≤ MAX_TILE }
-    requires twiddles { AreTwiddlesFromStart F.Field.own log_h
-        (block_powers F.Field.own (forward_root F.Field.own F.generator)) twiddles.now }
+    requires twiddles { AreTwiddlesFromStart F.Valued.own log_h
+        (block_powers F.Valued.own (forward_root F.Valued.own F.generator)) twiddles.now }
     ensures same { HasEntriesOf mat.new mat.old }
-    ensures values { (c : RowMajor F) → IsRowMajor c → height c ≡ 2 ^ log_h → mat.old ≡ with_zeros F.ZERO c added_bits
-        → IsValues F.ring (λ n. F.value (F.generator n)) (values_of F.Field.own c) (log_h + added_bits) (F.value shift)
-        (bit_reversal (log_h + added_bits) (values_of F.Field.own mat.new)) }
+    ensures values { (c : RowMajor F) → IsRowMajor c → height c ≡ 2 ^ log_h → mat.old ≡ with_zeros F.zero c added_bits
+        → IsValues F.ring (λ n. F.value (F.generator n)) (values_of F.Valued.own c) (log_h + added_bits) (F.value shift)
+        (bit_reversal (log_h + added_bits) (values_of F.Valued.own mat.new)) }
     ensures grows { products.old ≤ products.new }
     ensures cost { products.new ≤ products.old
         + 2 ^ added_bits * (mat.old.width * (log_h * 2 ^ log_h / 2) + 2 ^ log_h * mat.old.width) }
@@ -609,7 +609,7 @@ struct Interpolation {
 }
 
 impl<F: TwoAdicField> MatrixWork<F, RootTables<F>> for Interpolation {
-    ghost takes = { λ work mat out. IsInterpolation F.Field.own F.generator mat F.ring.one out };
+    ghost takes = { λ work mat out. IsInterpolation F.Valued.own F.generator mat F.ring.one out };
 
     ghost more = { λ work. 1 };
 

@@ -13,7 +13,7 @@ ghost use Rattle.p3_matrix.specs.Cosets.{values_of};
 
 use crate::traits::TwoAdicSubgroupDft;
 use p3_field::TwoAdicField;
-use p3_matrix::{DftError, Evaluations, IntoRowMajorMatrix, RowMajorMatrix, has_degree_below};
+use p3_matrix::{DftError, Evaluations, RowMajorMatrix, has_degree_below};
 use std::marker::Model;
 
 /// A Reed-Solomon code ("Polynomial Codes over Certain Finite Fields", 1960), and the engine that makes and tests its
@@ -46,7 +46,7 @@ impl<F: TwoAdicField, D> Model for ReedSolomon<F, D> {
       code = record { log_message = e.log_message; added_bits = e.added_bits; shift = e.shift };
     } };
 
-    ghost invariant = { λ e. IsCode F.Field F.TWO_ADICITY
+    ghost invariant = { λ e. IsCode F.Valued F.TWO_ADICITY
         (record { log_message = e.log_message; added_bits = e.added_bits; shift = e.shift }) };
 }
 
@@ -99,7 +99,7 @@ impl<F: TwoAdicField, D> ReedSolomon<F, D> {
     /// The shift of the coset on which the words are values.
     pub fn shift(&self) -> F
         ensures shift { result ≡ self.now.code.shift }
-        ensures code { IsCode F.Field.own F.TWO_ADICITY self.now.code }
+        ensures code { IsCode F.Valued.own F.TWO_ADICITY self.now.code }
     {
         self.shift
     }
@@ -114,7 +114,7 @@ impl<F: TwoAdicField, D> ReedSolomon<F, D> {
     /// How many points the code has, and a word rows: `2^(log_message + added_bits)`.
     pub fn word_height(&self) -> usize
         ensures height { result ≡ 2 ^ (self.now.code.log_message + self.now.code.added_bits) }
-        ensures code { IsCode F.Field.own F.TWO_ADICITY self.now.code }
+        ensures code { IsCode F.Valued.own F.TWO_ADICITY self.now.code }
     {
         1 << (self.log_message + self.added_bits)
     }
@@ -142,23 +142,20 @@ impl<F: TwoAdicField, D: TwoAdicSubgroupDft<F>> ReedSolomon<F, D> {
     /// Every codeword of this width that agrees with it in `2^log_message` rows equals it.
     ///
     /// Where memory is refused, the message is dropped, and the encoder serves later calls as before.
-    pub fn encode<N: IntoRowMajorMatrix<F>>(
-        &mut self,
-        mat: N,
-    ) -> Result<RowMajorMatrix<F>, DftError>
-        requires message { height (N.stored mat) ≡ 2 ^ self.old.code.log_message }
-        requires fits { FitsLde F.TWO_ADICITY (height (N.stored mat)) (N.stored mat).width self.old.code.added_bits }
+    pub fn encode(&mut self, mat: RowMajorMatrix<F>) -> Result<RowMajorMatrix<F>, DftError>
+        requires message { height mat ≡ 2 ^ self.old.code.log_message }
+        requires fits { FitsLde F.TWO_ADICITY (height mat) mat.width self.old.code.added_bits }
         ensures extension { IfOk result (λ out.
-            IsExtension F.Field.own F.generator (N.stored mat) self.old.code.added_bits (F.value self.old.code.shift)
+            IsExtension F.Valued.own F.generator mat self.old.code.added_bits (F.value self.old.code.shift)
             out) }
-        ensures codeword { IfOk result (λ out. IsCodeword F.Field.own F.generator self.old.code
-            (values_of F.Field.own out)) }
+        ensures codeword { IfOk result (λ out. IsCodeword F.Valued.own F.generator self.old.code
+            (values_of F.Valued.own out)) }
         ensures distance { IfOk result (λ out. (other : Matrix F.Element)
-            → IsCodeword F.Field.own F.generator self.old.code other → other.width ≡ out.width
-            → AgreeInRows (2 ^ self.old.code.log_message) other (values_of F.Field.own out)
-            → Same other (values_of F.Field.own out)) }
+            → IsCodeword F.Valued.own F.generator self.old.code other → other.width ≡ out.width
+            → AgreeInRows (2 ^ self.old.code.log_message) other (values_of F.Valued.own out)
+            → Same other (values_of F.Valued.own out)) }
         ensures code { self.new.code ≡ self.old.code }
-        ensures engine { AfterLde D.facts self.old.engine self.new.engine result (N.stored mat)
+        ensures engine { AfterLde D.facts self.old.engine self.new.engine result mat
             self.old.code.added_bits }
     {
         let values = self
@@ -176,7 +173,7 @@ impl<F: TwoAdicField, D: TwoAdicSubgroupDft<F>> ReedSolomon<F, D> {
         requires points { height word.now ≡ 2 ^ (self.old.code.log_message + self.old.code.added_bits) }
         requires fits { FitsDft F.TWO_ADICITY (height word.now) word.now.width }
         ensures exact { IfOk result (λ told.
-            IsTrue told ↔ IsCodeword F.Field.own F.generator self.old.code (values_of F.Field.own word.now)) }
+            IsTrue told ↔ IsCodeword F.Valued.own F.generator self.old.code (values_of F.Valued.own word.now)) }
         ensures code { self.new.code ≡ self.old.code }
         ensures engine { AfterDft D.facts self.old.engine self.new.engine result word.now 2 }
     {

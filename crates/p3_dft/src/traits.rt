@@ -70,7 +70,7 @@ pub trait TwoAdicSubgroupDft<F: TwoAdicField>: Clone + Default {
     /// The values on H of the polynomials whose coefficients are the columns.
     fn dft_batch<N: IntoRowMajorMatrix<F>>(&mut self, mat: N) -> Result<Self::Evaluations, DftError>
         requires fits { FitsDft F.TWO_ADICITY (height (N.stored mat)) (N.stored mat).width }
-        ensures values { IfOk result (λ out. IsTransform F.Field.own F.generator (N.stored mat) F.ring.one
+        ensures values { IfOk result (λ out. IsTransform F.Valued.own F.generator (N.stored mat) F.ring.one
             (Self.Evaluations.natural out)) }
         ensures succeeds { AtLog (height (N.stored mat)) (λ k. facts.Succeeds self.old k → IsOk result) }
         ensures engine { AfterDft facts self.old self.new result (N.stored mat) 0 };
@@ -88,7 +88,7 @@ pub trait TwoAdicSubgroupDft<F: TwoAdicField>: Clone + Default {
         shift: F,
     ) -> Result<Self::Evaluations, DftError>
         requires fits { FitsDft F.TWO_ADICITY (height (N.stored mat)) (N.stored mat).width }
-        ensures values { IfOk result (λ out. IsTransform F.Field.own F.generator (N.stored mat) (F.value shift)
+        ensures values { IfOk result (λ out. IsTransform F.Valued.own F.generator (N.stored mat) (F.value shift)
             (Self.Evaluations.natural out)) }
         ensures succeeds { AtLog (height (N.stored mat))
             (λ k. facts.Succeeds self.old k → facts.SucceedsOnCoset self.old k shift → IsOk result) }
@@ -108,7 +108,7 @@ pub trait TwoAdicSubgroupDft<F: TwoAdicField>: Clone + Default {
         mat: N,
     ) -> Result<RowMajorMatrix<F>, DftError>
         requires fits { FitsDft F.TWO_ADICITY (height (N.stored mat)) (N.stored mat).width }
-        ensures coefficients { IfOk result (IsInterpolation F.Field.own F.generator (N.stored mat) F.ring.one) }
+        ensures coefficients { IfOk result (IsInterpolation F.Valued.own F.generator (N.stored mat) F.ring.one) }
         ensures succeeds { AtLog (height (N.stored mat)) (λ k. facts.Succeeds self.old k → IsOk result) }
         ensures engine { AfterDft facts self.old self.new result (N.stored mat) 1 }
     {
@@ -129,7 +129,7 @@ pub trait TwoAdicSubgroupDft<F: TwoAdicField>: Clone + Default {
     ) -> Result<RowMajorMatrix<F>, DftError>
         requires fits { FitsDft F.TWO_ADICITY (height (N.stored mat)) (N.stored mat).width }
         requires invertible { IsInvertible F.ring (F.value shift) }
-        ensures coefficients { IfOk result (IsInterpolation F.Field.own F.generator (N.stored mat) (F.value shift)) }
+        ensures coefficients { IfOk result (IsInterpolation F.Valued.own F.generator (N.stored mat) (F.value shift)) }
         ensures succeeds { AtLog (height (N.stored mat)) (λ k. facts.Succeeds self.old k → IsOk result) }
         ensures engine { AfterDft facts self.old self.new result (N.stored mat) 2 }
     {
@@ -151,7 +151,7 @@ pub trait TwoAdicSubgroupDft<F: TwoAdicField>: Clone + Default {
         shift: F,
     ) -> Result<Self::Evaluations, DftError>
         requires fits { FitsLde F.TWO_ADICITY (height (N.stored mat)) (N.stored mat).width added_bits }
-        ensures values { IfOk result (λ out. IsExtendedTransform F.Field.own F.generator (N.stored mat) added_bits
+        ensures values { IfOk result (λ out. IsExtendedTransform F.Valued.own F.generator (N.stored mat) added_bits
             (F.value shift) (Self.Evaluations.natural out)) }
         ensures engine { AfterLdeOfCoefficients facts self.old self.new result (N.stored mat) added_bits }
     {
@@ -171,7 +171,7 @@ pub trait TwoAdicSubgroupDft<F: TwoAdicField>: Clone + Default {
         shift: F,
     ) -> Result<BitReversedMatrixView<RowMajorMatrix<F>>, DftError>
         requires fits { FitsLde F.TWO_ADICITY (height (N.stored mat)) (N.stored mat).width added_bits }
-        ensures values { IfOk result (λ out. IsExtendedTransform F.Field.own F.generator (N.stored mat) added_bits
+        ensures values { IfOk result (λ out. IsExtendedTransform F.Valued.own F.generator (N.stored mat) added_bits
             (F.value shift) (reversed_rows out.bits out.physical)) }
         ensures engine { AfterLdeOfCoefficients facts self.old self.new result (N.stored mat) added_bits }
     {
@@ -199,7 +199,7 @@ pub trait TwoAdicSubgroupDft<F: TwoAdicField>: Clone + Default {
         requires fits { FitsLde F.TWO_ADICITY (height (N.stored mat)) (N.stored mat).width added_bits }
         requires callable { IsCallable (N.stored mat) (λ m. T.pre transform m LAYOUT) }
         requires shape { KeepsShape (N.stored mat) (λ m n. T.post transform m LAYOUT n) }
-        ensures values { IfOk result (λ out. IsTransformedExtension F.Field.own F.generator (T.post transform) LAYOUT
+        ensures values { IfOk result (λ out. IsTransformedExtension F.Valued.own F.generator (T.post transform) LAYOUT
             (N.stored mat) added_bits (F.value shift) (Self.Evaluations.natural out)) }
         ensures engine { AfterLde facts self.old self.new result (N.stored mat) added_bits };
 
@@ -220,7 +220,7 @@ pub trait TwoAdicSubgroupDft<F: TwoAdicField>: Clone + Default {
         requires fits { FitsLde F.TWO_ADICITY (height (N.stored mat)) (N.stored mat).width added_bits }
         requires callable { IsCallable (N.stored mat) (λ m. T.pre transform m LAYOUT) }
         requires shape { KeepsShape (N.stored mat) (λ m n. T.post transform m LAYOUT n) }
-        ensures values { IfOk result (λ out. IsTransformedExtension F.Field.own F.generator (T.post transform) LAYOUT
+        ensures values { IfOk result (λ out. IsTransformedExtension F.Valued.own F.generator (T.post transform) LAYOUT
             (N.stored mat) added_bits (F.value shift) (Self.Evaluations.natural out)) }
         ensures engine { AfterLdeByParts facts self.old self.new result (N.stored mat) added_bits }
     {
@@ -246,7 +246,7 @@ pub trait TwoAdicSubgroupDft<F: TwoAdicField>: Clone + Default {
         requires fits { FitsLde F.TWO_ADICITY (height (N.stored mat)) (N.stored mat).width added_bits }
         requires callable { IsCallable (N.stored mat) (λ m. T.pre transform m LAYOUT) }
         requires shape { KeepsShape (N.stored mat) (λ m n. T.post transform m LAYOUT n) }
-        ensures values { IfOk result (λ out. IsTransformedExtension F.Field.own F.generator (T.post transform) LAYOUT
+        ensures values { IfOk result (λ out. IsTransformedExtension F.Valued.own F.generator (T.post transform) LAYOUT
             (N.stored mat) added_bits (F.value shift) (reversed_rows out.bits out.physical)) }
         ensures engine { AfterLde facts self.old self.new result (N.stored mat) added_bits }
     {
@@ -267,7 +267,7 @@ pub trait TwoAdicSubgroupDft<F: TwoAdicField>: Clone + Default {
         shift: F,
     ) -> Result<Self::Evaluations, DftError>
         requires fits { FitsLde F.TWO_ADICITY (height (N.stored mat)) (N.stored mat).width added_bits }
-        ensures values { IfOk result (λ out. IsExtension F.Field.own F.generator (N.stored mat) added_bits
+        ensures values { IfOk result (λ out. IsExtension F.Valued.own F.generator (N.stored mat) added_bits
             (F.value shift) (Self.Evaluations.natural out)) }
         ensures engine { AfterLde facts self.old self.new result (N.stored mat) added_bits }
     {
@@ -289,7 +289,7 @@ pub trait TwoAdicSubgroupDft<F: TwoAdicField>: Clone + Default {
         added_bits: usize,
     ) -> Result<Self::Evaluations, DftError>
         requires fits { FitsLde F.TWO_ADICITY (height (N.stored mat)) (N.stored mat).width added_bits }
-        ensures values { IfOk result (λ out. IsExtension F.Field.own F.generator (N.stored mat) added_bits
+        ensures values { IfOk result (λ out. IsExtension F.Valued.own F.generator (N.stored mat) added_bits
             F.ring.one (Self.Evaluations.natural out)) }
         ensures engine { AfterLde facts self.old self.new result (N.stored mat) added_bits }
     {
@@ -331,14 +331,14 @@ pub trait TwoAdicSubgroupDft<F: TwoAdicField>: Clone + Default {
         requires callable { IsCallable (N.stored mat) (λ m. T.pre transform m LAYOUT) }
         requires shape { KeepsShape (N.stored mat) (λ m n. T.post transform m LAYOUT n) }
         requires makes { AtLog (height (N.stored mat)) (λ k. M.pre make_consumer (facts.block_rows k added_bits)) }
-        ensures values { IfOk result (λ p. IsTransformedExtension F.Field.own F.generator (T.post transform) LAYOUT
+        ensures values { IfOk result (λ p. IsTransformedExtension F.Valued.own F.generator (T.post transform) LAYOUT
             (N.stored mat) added_bits (F.value shift) (reversed_rows p.0.bits p.0.physical)) }
         ensures published { IfOk result (λ p. AtLog (height (N.stored mat)) (λ k. IsPublished C.step
             (M.post make_consumer (facts.block_rows k added_bits)) (facts.block_rows k added_bits) p.0.physical p.1)) }
         ensures refused { IfErr result (λ e. OnRefused e (λ c r. AtLog (height (N.stored mat)) (λ k.
-            (out : Matrix F.Element) × AreTransformedValues F.Field.own F.generator (T.post transform) LAYOUT
+            (out : Matrix F.Element) × AreTransformedValues F.Valued.own F.generator (T.post transform) LAYOUT
             (N.stored mat) added_bits (F.value shift) out
-            × IsRefused C.step (M.post make_consumer (facts.block_rows k added_bits)) (values_of F.Field.own)
+            × IsRefused C.step (M.post make_consumer (facts.block_rows k added_bits)) (values_of F.Valued.own)
             (facts.block_rows k added_bits) (bit_reversal (k + added_bits) out) c r))) }
         ensures unpublished { IfErr result (λ e. OnOutOfMemory e (λ m. m ≡ make_consumer)) }
         ensures engine { AfterLde facts self.old self.new (outcome result) (N.stored mat) added_bits }
@@ -346,9 +346,8 @@ pub trait TwoAdicSubgroupDft<F: TwoAdicField>: Clone + Default {
         let mat = mat.into_row_major_matrix();
         let block_height = self.block_height(log2_strict_usize(mat.height()), added_bits);
         match self.coset_lde_batch_bit_reversed(mat, added_bits, shift, transform) {
-            Err(error) => Err(BlocksStopped::OutOfMemory(Unpublished {
+            Err(DftError::OutOfMemory) => Err(BlocksStopped::OutOfMemory(Unpublished {
                 make_consumer,
-                error,
             })),
             Ok(out) => {
                 let mut consumer = make_consumer(block_height);
@@ -376,14 +375,14 @@ pub trait TwoAdicSubgroupDft<F: TwoAdicField>: Clone + Default {
     ) -> Result<(BitReversedMatrixView<RowMajorMatrix<F>>, C), BlocksStopped<M, C, C::Refusal>>
         requires fits { FitsLde F.TWO_ADICITY (height (N.stored mat)) (N.stored mat).width added_bits }
         requires makes { AtLog (height (N.stored mat)) (λ k. M.pre make_consumer (facts.block_rows k added_bits)) }
-        ensures values { IfOk result (λ p. IsExtension F.Field.own F.generator (N.stored mat) added_bits
+        ensures values { IfOk result (λ p. IsExtension F.Valued.own F.generator (N.stored mat) added_bits
             (F.value shift) (reversed_rows p.0.bits p.0.physical)) }
         ensures published { IfOk result (λ p. AtLog (height (N.stored mat)) (λ k. IsPublished C.step
             (M.post make_consumer (facts.block_rows k added_bits)) (facts.block_rows k added_bits) p.0.physical p.1)) }
         ensures refused { IfErr result (λ e. OnRefused e (λ c r. AtLog (height (N.stored mat)) (λ k.
             (out : Matrix F.Element)
-            × AreExtendedValues F.Field.own F.generator (N.stored mat) added_bits (F.value shift) out
-            × IsRefused C.step (M.post make_consumer (facts.block_rows k added_bits)) (values_of F.Field.own)
+            × AreExtendedValues F.Valued.own F.generator (N.stored mat) added_bits (F.value shift) out
+            × IsRefused C.step (M.post make_consumer (facts.block_rows k added_bits)) (values_of F.Valued.own)
             (facts.block_rows k added_bits) (bit_reversal (k + added_bits) out) c r))) }
         ensures unpublished { IfErr result (λ e. OnOutOfMemory e (λ m. m ≡ make_consumer)) }
         ensures engine { AfterLde facts self.old self.new (outcome result) (N.stored mat) added_bits }
@@ -406,7 +405,7 @@ pub trait TwoAdicSubgroupDft<F: TwoAdicField>: Clone + Default {
     /// The values on H of the polynomial with these coefficients.
     final fn dft(&mut self, vec: Vec<F>) -> Result<Vec<F>, DftError>
         requires fits { FitsDft F.TWO_ADICITY (vec_len vec) 1 }
-        ensures values { IfOk result (λ out. IsTransform F.Field.own F.generator (col vec) F.ring.one (col out)) }
+        ensures values { IfOk result (λ out. IsTransform F.Valued.own F.generator (col vec) F.ring.one (col out)) }
         ensures succeeds { AtLog (vec_len vec) (λ k. facts.Succeeds self.old k → IsOk result) }
         ensures engine { AfterDft facts self.old self.new result (col vec) 0 }
     {
@@ -417,7 +416,7 @@ pub trait TwoAdicSubgroupDft<F: TwoAdicField>: Clone + Default {
     /// The values on `shift * H` of the polynomial with these coefficients. The shift may be zero.
     final fn coset_dft(&mut self, vec: Vec<F>, shift: F) -> Result<Vec<F>, DftError>
         requires fits { FitsDft F.TWO_ADICITY (vec_len vec) 1 }
-        ensures values { IfOk result (λ out. IsTransform F.Field.own F.generator (col vec) (F.value shift) (col out)) }
+        ensures values { IfOk result (λ out. IsTransform F.Valued.own F.generator (col vec) (F.value shift) (col out)) }
         ensures succeeds { AtLog (vec_len vec)
             (λ k. facts.Succeeds self.old k → facts.SucceedsOnCoset self.old k shift → IsOk result) }
         ensures engine { AfterDft facts self.old self.new result (col vec) 1 }
@@ -429,7 +428,7 @@ pub trait TwoAdicSubgroupDft<F: TwoAdicField>: Clone + Default {
     /// The coefficients of the polynomial whose values on H these are.
     final fn idft(&mut self, vec: Vec<F>) -> Result<Vec<F>, DftError>
         requires fits { FitsDft F.TWO_ADICITY (vec_len vec) 1 }
-        ensures coefficients { IfOk result (λ out. IsInterpolation F.Field.own F.generator (col vec)
+        ensures coefficients { IfOk result (λ out. IsInterpolation F.Valued.own F.generator (col vec)
             F.ring.one (col out)) }
         ensures succeeds { AtLog (vec_len vec) (λ k. facts.Succeeds self.old k → IsOk result) }
         ensures engine { AfterDft facts self.old self.new result (col vec) 1 }
@@ -442,7 +441,7 @@ pub trait TwoAdicSubgroupDft<F: TwoAdicField>: Clone + Default {
     final fn coset_idft(&mut self, vec: Vec<F>, shift: F) -> Result<Vec<F>, DftError>
         requires fits { FitsDft F.TWO_ADICITY (vec_len vec) 1 }
         requires invertible { IsInvertible F.ring (F.value shift) }
-        ensures coefficients { IfOk result (λ out. IsInterpolation F.Field.own F.generator (col vec)
+        ensures coefficients { IfOk result (λ out. IsInterpolation F.Valued.own F.generator (col vec)
             (F.value shift) (col out)) }
         ensures succeeds { AtLog (vec_len vec) (λ k. facts.Succeeds self.old k → IsOk result) }
         ensures engine { AfterDft facts self.old self.new result (col vec) 2 }
@@ -457,7 +456,7 @@ pub trait TwoAdicSubgroupDft<F: TwoAdicField>: Clone + Default {
     /// `len << added_bits`.
     final fn lde(&mut self, vec: Vec<F>, added_bits: usize) -> Result<Vec<F>, DftError>
         requires fits { FitsLde F.TWO_ADICITY (vec_len vec) 1 added_bits }
-        ensures values { IfOk result (λ out. IsExtension F.Field.own F.generator (col vec) added_bits
+        ensures values { IfOk result (λ out. IsExtension F.Valued.own F.generator (col vec) added_bits
             F.ring.one (col out)) }
         ensures engine { AfterLde facts self.old self.new result (col vec) added_bits }
     {
@@ -474,7 +473,7 @@ pub trait TwoAdicSubgroupDft<F: TwoAdicField>: Clone + Default {
         shift: F,
     ) -> Result<Vec<F>, DftError>
         requires fits { FitsLde F.TWO_ADICITY (vec_len vec) 1 added_bits }
-        ensures values { IfOk result (λ out. IsExtension F.Field.own F.generator (col vec) added_bits
+        ensures values { IfOk result (λ out. IsExtension F.Valued.own F.generator (col vec) added_bits
             (F.value shift) (col out)) }
         ensures engine { AfterLde facts self.old self.new result (col vec) added_bits }
     {
@@ -492,7 +491,7 @@ pub trait TwoAdicSubgroupDft<F: TwoAdicField>: Clone + Default {
         mat: RowMajorMatrix<V>,
     ) -> Result<RowMajorMatrix<V>, DftError>
         requires fits { FitsDft F.TWO_ADICITY (height mat) (mat.width * V.DIMENSION) }
-        ensures values { IfOk result (λ out. IsTransform F.Field.own F.generator (flat V.BasedVectorSpace.own mat)
+        ensures values { IfOk result (λ out. IsTransform F.Valued.own F.generator (flat V.BasedVectorSpace.own mat)
             F.ring.one (flat V.BasedVectorSpace.own out)) }
         ensures engine { AfterDft facts self.old self.new result (flat V.BasedVectorSpace.own mat) 0 }
     {
@@ -508,7 +507,7 @@ pub trait TwoAdicSubgroupDft<F: TwoAdicField>: Clone + Default {
         shift: F,
     ) -> Result<RowMajorMatrix<V>, DftError>
         requires fits { FitsDft F.TWO_ADICITY (height mat) (mat.width * V.DIMENSION) }
-        ensures values { IfOk result (λ out. IsTransform F.Field.own F.generator (flat V.BasedVectorSpace.own mat)
+        ensures values { IfOk result (λ out. IsTransform F.Valued.own F.generator (flat V.BasedVectorSpace.own mat)
             (F.value shift) (flat V.BasedVectorSpace.own out)) }
         ensures engine { AfterDft facts self.old self.new result (flat V.BasedVectorSpace.own mat) 1 }
     {
@@ -523,7 +522,7 @@ pub trait TwoAdicSubgroupDft<F: TwoAdicField>: Clone + Default {
         mat: RowMajorMatrix<V>,
     ) -> Result<RowMajorMatrix<V>, DftError>
         requires fits { FitsDft F.TWO_ADICITY (height mat) (mat.width * V.DIMENSION) }
-        ensures coefficients { IfOk result (λ out. IsInterpolation F.Field.own F.generator
+        ensures coefficients { IfOk result (λ out. IsInterpolation F.Valued.own F.generator
             (flat V.BasedVectorSpace.own mat) F.ring.one (flat V.BasedVectorSpace.own out)) }
         ensures engine { AfterDft facts self.old self.new result (flat V.BasedVectorSpace.own mat) 1 }
     {
@@ -540,7 +539,7 @@ pub trait TwoAdicSubgroupDft<F: TwoAdicField>: Clone + Default {
     ) -> Result<RowMajorMatrix<V>, DftError>
         requires fits { FitsDft F.TWO_ADICITY (height mat) (mat.width * V.DIMENSION) }
         requires invertible { IsInvertible F.ring (F.value shift) }
-        ensures coefficients { IfOk result (λ out. IsInterpolation F.Field.own F.generator
+        ensures coefficients { IfOk result (λ out. IsInterpolation F.Valued.own F.generator
             (flat V.BasedVectorSpace.own mat) (F.value shift) (flat V.BasedVectorSpace.own out)) }
         ensures engine { AfterDft facts self.old self.new result (flat V.BasedVectorSpace.own mat) 2 }
     {
@@ -556,7 +555,7 @@ pub trait TwoAdicSubgroupDft<F: TwoAdicField>: Clone + Default {
         added_bits: usize,
     ) -> Result<RowMajorMatrix<V>, DftError>
         requires fits { FitsLde F.TWO_ADICITY (height mat) (mat.width * V.DIMENSION) added_bits }
-        ensures values { IfOk result (λ out. IsExtension F.Field.own F.generator
+        ensures values { IfOk result (λ out. IsExtension F.Valued.own F.generator
             (flat V.BasedVectorSpace.own mat) added_bits F.ring.one (flat V.BasedVectorSpace.own out)) }
         ensures engine { AfterLde facts self.old self.new result (flat V.BasedVectorSpace.own mat) added_bits }
     {
@@ -573,7 +572,7 @@ pub trait TwoAdicSubgroupDft<F: TwoAdicField>: Clone + Default {
         shift: F,
     ) -> Result<RowMajorMatrix<V>, DftError>
         requires fits { FitsLde F.TWO_ADICITY (height mat) (mat.width * V.DIMENSION) added_bits }
-        ensures values { IfOk result (λ out. IsExtension F.Field.own F.generator
+        ensures values { IfOk result (λ out. IsExtension F.Valued.own F.generator
             (flat V.BasedVectorSpace.own mat) added_bits (F.value shift) (flat V.BasedVectorSpace.own out)) }
         ensures engine { AfterLde facts self.old self.new result (flat V.BasedVectorSpace.own mat) added_bits }
     {
@@ -585,7 +584,7 @@ pub trait TwoAdicSubgroupDft<F: TwoAdicField>: Clone + Default {
     /// `dft` over a vector space.
     final fn dft_algebra<V: BasedVectorSpace<F>>(&mut self, vec: Vec<V>) -> Result<Vec<V>, DftError>
         requires fits { FitsDft F.TWO_ADICITY (vec_len vec) V.DIMENSION }
-        ensures values { IfOk result (λ out. IsTransform F.Field.own F.generator
+        ensures values { IfOk result (λ out. IsTransform F.Valued.own F.generator
             (flat_col V.BasedVectorSpace.own vec) F.ring.one (flat_col V.BasedVectorSpace.own out)) }
         ensures engine { AfterDft facts self.old self.new result (flat_col V.BasedVectorSpace.own vec) 0 }
     {
@@ -602,7 +601,7 @@ pub trait TwoAdicSubgroupDft<F: TwoAdicField>: Clone + Default {
         shift: F,
     ) -> Result<Vec<V>, DftError>
         requires fits { FitsDft F.TWO_ADICITY (vec_len vec) V.DIMENSION }
-        ensures values { IfOk result (λ out. IsTransform F.Field.own F.generator
+        ensures values { IfOk result (λ out. IsTransform F.Valued.own F.generator
             (flat_col V.BasedVectorSpace.own vec) (F.value shift) (flat_col V.BasedVectorSpace.own out)) }
         ensures engine { AfterDft facts self.old self.new result (flat_col V.BasedVectorSpace.own vec) 1 }
     {
@@ -618,7 +617,7 @@ pub trait TwoAdicSubgroupDft<F: TwoAdicField>: Clone + Default {
         vec: Vec<V>,
     ) -> Result<Vec<V>, DftError>
         requires fits { FitsDft F.TWO_ADICITY (vec_len vec) V.DIMENSION }
-        ensures coefficients { IfOk result (λ out. IsInterpolation F.Field.own F.generator
+        ensures coefficients { IfOk result (λ out. IsInterpolation F.Valued.own F.generator
             (flat_col V.BasedVectorSpace.own vec) F.ring.one (flat_col V.BasedVectorSpace.own out)) }
         ensures engine { AfterDft facts self.old self.new result (flat_col V.BasedVectorSpace.own vec) 1 }
     {
@@ -636,7 +635,7 @@ pub trait TwoAdicSubgroupDft<F: TwoAdicField>: Clone + Default {
     ) -> Result<Vec<V>, DftError>
         requires fits { FitsDft F.TWO_ADICITY (vec_len vec) V.DIMENSION }
         requires invertible { IsInvertible F.ring (F.value shift) }
-        ensures coefficients { IfOk result (λ out. IsInterpolation F.Field.own F.generator
+        ensures coefficients { IfOk result (λ out. IsInterpolation F.Valued.own F.generator
             (flat_col V.BasedVectorSpace.own vec) (F.value shift) (flat_col V.BasedVectorSpace.own out)) }
         ensures engine { AfterDft facts self.old self.new result (flat_col V.BasedVectorSpace.own vec) 2 }
     {
@@ -653,7 +652,7 @@ pub trait TwoAdicSubgroupDft<F: TwoAdicField>: Clone + Default {
         added_bits: usize,
     ) -> Result<Vec<V>, DftError>
         requires fits { FitsLde F.TWO_ADICITY (vec_len vec) V.DIMENSION added_bits }
-        ensures values { IfOk result (λ out. IsExtension F.Field.own F.generator
+        ensures values { IfOk result (λ out. IsExtension F.Valued.own F.generator
             (flat_col V.BasedVectorSpace.own vec) added_bits F.ring.one (flat_col V.BasedVectorSpace.own out)) }
         ensures engine { AfterLde facts self.old self.new result
             (flat_col V.BasedVectorSpace.own vec) added_bits }
@@ -672,7 +671,7 @@ pub trait TwoAdicSubgroupDft<F: TwoAdicField>: Clone + Default {
         shift: F,
     ) -> Result<Vec<V>, DftError>
         requires fits { FitsLde F.TWO_ADICITY (vec_len vec) V.DIMENSION added_bits }
-        ensures values { IfOk result (λ out. IsExtension F.Field.own F.generator
+        ensures values { IfOk result (λ out. IsExtension F.Valued.own F.generator
             (flat_col V.BasedVectorSpace.own vec) added_bits (F.value shift) (flat_col V.BasedVectorSpace.own out)) }
         ensures engine { AfterLde facts self.old self.new result
             (flat_col V.BasedVectorSpace.own vec) added_bits }

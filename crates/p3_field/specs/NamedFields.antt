@@ -1,5 +1,5 @@
--- The members of each named field, as clauses over it name them: `F.Field.own` of a clause that is generic over the field.
-use Rattle.p3_field.specs.declared.fields.Field.{Ghosts as FieldMembers}
+-- The members of each named field, as clauses over it name them: `F.Valued.own` of a clause that is generic over the field.
+use Rattle.p3_field.specs.declared.fields.Valued.{Ghosts as FieldMembers}
 use Rattle.p3_field.specs.declared.residue31.Residue31.{Residue31}
 use Rattle.p3_field.specs.declared.baby_bear.BabyBearNumbers.{BabyBearNumbers}
 use Rattle.p3_field.specs.declared.goldilocks.GoldilocksIn.{GoldilocksIn}
@@ -10,14 +10,14 @@ use Rattle.p3_field.specs.contracts.baby_bear.BabyBearNumbers.{the_row as baby_b
 use Rattle.p3_field.specs.contracts.baby_bear.BabyBearNumbersNumbers.TheImpl.{ghosts as baby_bear_members, dict as baby_bear_dict}
 use Rattle.p3_field.specs.contracts.goldilocks.ScalarLanes.{the_row as scalar_row}
 use Rattle.p3_field.specs.contracts.goldilocks.VectorLanes.{the_row as vector_row}
-use Rattle.p3_field.specs.contracts.goldilocks.GoldilocksInField.TheImpl.{ghosts as goldilocks_members}
+use Rattle.p3_field.specs.contracts.goldilocks.GoldilocksInValued.TheImpl.{ghosts as goldilocks_members}
 use Rattle.p3_field.specs.contracts.koala_bear.KoalaBearNumbers.{the_row as koala_bear_row}
 use Rattle.p3_field.specs.contracts.koala_bear.KoalaBearNumbersNumbers.TheImpl.{ghosts as koala_bear_members, dict as koala_bear_dict}
 use Rattle.p3_field.specs.declared.sixteen_lanes.SixteenLanes.{SixteenLanes}
 use Rattle.p3_field.specs.contracts.sixteen_lanes.SixteenLanes.{the_row as sixteen_row}
 use Rattle.p3_field.specs.contracts.sixteen_lanes.SixteenLanesNumbers.TheImpl.{ghosts as sixteen_members, dict as sixteen_dict}
 use Rattle.p3_field.specs.contracts.sixteen_lanes.SixteenLanesClone.TheImpl.{ghosts as sixteen_clone, dict as sixteen_clone_dict}
-use Rattle.p3_field.specs.contracts.residue31.Residue31Field.TheImpl.{ghosts as residue31_members}
+use Rattle.p3_field.specs.contracts.residue31.Residue31Valued.TheImpl.{ghosts as residue31_members}
 use Rattle.std.below.core.specs.contracts.clone.Clone+copy.TheImpl.{ghosts as copied, dict as copied_dict}
 
 abbrev pub baby_bear : FieldMembers (Residue31 BabyBearNumbers baby_bear_members)

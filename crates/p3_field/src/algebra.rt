@@ -10,7 +10,7 @@ use std::alloc::AllocError;
 
 /// A vector space over F with a basis. Its elements are the lists of `DIMENSION` elements of F,
 /// their coordinates.
-pub trait BasedVectorSpace<F: Field>: Drop {
+pub trait BasedVectorSpace<F>: Drop {
     /// How many coordinates an element has.
     const DIMENSION: usize;
 

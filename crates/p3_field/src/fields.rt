@@ -8,17 +8,10 @@ use std::fmt::{Debug, Display};
 use std::iter::{Product, Sum};
 use std::ops::{Add, AddAssign, Mul, MulAssign, Neg, Sub, SubAssign};
 
-/// An element of a commutative ring with one in which halving is exact.
+/// What contracts know of an element, whatever can be done with it: its value, in a ring.
 ///
-/// Contracts speak of the value of an element. Two elements may have one value; `==` and the order depend on
-/// values alone. Nothing here says that every element but zero has an inverse: the transforms need no
-/// more than the laws at the end. `FieldOps` adds `+=`, `-=`, `*=`, sums and products of iterators, and texts.
-pub trait Field: Copy
-    + Ord
-    + Add<Self, Output = Self>
-    + Sub<Self, Output = Self>
-    + Mul<Self, Output = Self>
-    + Neg<Output = Self> {
+/// It has no operators, so that a packed type can name the values of its scalar.
+pub trait Valued: Copy {
     // The values of elements.
     ghost Element: { Type 0 };
 
@@ -31,6 +24,21 @@ pub trait Field: Copy
     // The value of an element.
     ghost value: { Self → Element };
 
+    // Zero, which a list is read to have past its end.
+    ghost zero: { Self };
+}
+
+/// An element of a commutative ring with one in which halving is exact.
+///
+/// Contracts speak of the value of an element. Two elements may have one value; `==` and the order depend on
+/// values alone. Nothing here says that every element but zero has an inverse: the transforms need no
+/// more than the laws at the end. `FieldOps` adds `+=`, `-=`, `*=`, sums and products of iterators, and texts.
+pub trait Field: Valued
+    + Ord
+    + Add<Self, Output = Self>
+    + Sub<Self, Output = Self>
+    + Mul<Self, Output = Self>
+    + Neg<Output = Self> {
     /// Zero.
     const ZERO: Self;
 
@@ -61,46 +69,46 @@ pub trait Field: Copy
     /// `GENERATOR`, of which the caller then knows that it has an inverse, over a named field too.
     final fn invertible_generator() -> Self
         ensures same { result ≡ GENERATOR }
-        ensures invertible { IsInvertible ring (value result) }
+        ensures invertible { IsInvertible Self.ring (Self.value result) }
     {
         Self::GENERATOR
     }
 
     /// Twice the element.
     fn double(self) -> Self
-        ensures { value result ≡ ring.add (value self) (value self) }
+        ensures { Self.value result ≡ Self.ring.add (Self.value self) (Self.value self) }
     {
         self + self
     }
 
     /// The element whose double is this one.
     fn halve(self) -> Self
-        ensures { ring.add (value result) (value result) ≡ value self };
+        ensures { Self.ring.add (Self.value result) (Self.value result) ≡ Self.value self };
 
     /// The product of the element and itself.
     final fn square(self) -> Self
-        ensures { value result ≡ ring.mul (value self) (value self) }
+        ensures { Self.value result ≡ Self.ring.mul (Self.value self) (Self.value self) }
     {
         self * self
     }
 
     /// Whether the element is zero.
     fn is_zero(&self) -> bool
-        ensures { IsTrue result ↔ (value self.now ≡ ring.zero) }
+        ensures { IsTrue result ↔ (Self.value self.now ≡ Self.ring.zero) }
     {
         *self == Self::ZERO
     }
 
     /// The y with `2^n * y = self`.
     fn div_2exp_u64(self, n: u64) -> Self
-        ensures { ring.mul (power ring (two ring) n) (value result) ≡ value self }
+        ensures { Self.ring.mul (power Self.ring (two Self.ring) n) (Self.value result) ≡ Self.value self }
     {
         self * Self::ONE.halve().exp_u64(n)
     }
 
     /// The n-th power, one for n = 0.
     fn exp_u64(self, n: u64) -> Self
-        ensures { value result ≡ power ring (value self) n }
+        ensures { Self.value result ≡ power Self.ring (Self.value self) n }
     {
         let mut product = Self::ONE;
         let mut square = self;
@@ -118,7 +126,7 @@ pub trait Field: Copy
     /// Its powers, without end: item i is the i-th power.
     final fn powers(self) -> Powers<Self>
         ensures base { result.base ≡ self }
-        ensures start { value result.current ≡ ring.one }
+        ensures start { Self.value result.current ≡ Self.ring.one }
     {
         Powers::new(self, Self::ONE)
     }
@@ -133,7 +141,7 @@ pub trait Field: Copy
 
     /// The `2^n`-th power, by n squarings.
     fn exp_power_of_2(self, n: usize) -> Self
-        ensures { value result ≡ power ring (value self) (2 ^ n) }
+        ensures { Self.value result ≡ power Self.ring (Self.value self) (2 ^ n) }
     {
         let mut power_so_far = self;
         for _i in 0..n {
@@ -144,47 +152,47 @@ pub trait Field: Copy
 
     /// The element that is this many ones added up.
     fn from_usize(n: usize) -> Self
-        ensures { value result ≡ count ring n };
+        ensures { Self.value result ≡ count Self.ring n };
 
     /// The element that is this many ones added up.
     fn from_u8(n: u8) -> Self
-        ensures { value result ≡ count ring n }
+        ensures { Self.value result ≡ count Self.ring n }
     {
         Self::from_usize(n as usize)
     }
 
     /// The element that is this many ones added up.
     final fn from_u16(n: u16) -> Self
-        ensures { value result ≡ count ring n }
+        ensures { Self.value result ≡ count Self.ring n }
     {
         Self::from_usize(n as usize)
     }
 
     /// The element that is this many ones added up.
     final fn from_u32(n: u32) -> Self
-        ensures { value result ≡ count ring n }
+        ensures { Self.value result ≡ count Self.ring n }
     {
         Self::from_usize(n as usize)
     }
 
     /// The element that is this many ones added up.
     final fn from_u64(n: u64) -> Self
-        ensures { value result ≡ count ring n }
+        ensures { Self.value result ≡ count Self.ring n }
     {
         Self::from_usize(n as usize)
     }
 
     /// The inverse, `Some` exactly where there is one.
     fn try_inverse(&self) -> Option<Self>
-        ensures some { IfSome result (λ y. IsInverse ring (value self.now) (value y)) }
-        ensures found { MatchBool (is_some result) (IsInvertible ring (value self.now))
-            (¬ (IsInvertible ring (value self.now))) }
-        ensures none { IsNone result → ¬ (IsInvertible ring (value self.now)) };
+        ensures some { IfSome result (λ y. IsInverse Self.ring (Self.value self.now) (Self.value y)) }
+        ensures found { MatchBool (is_some result) (IsInvertible Self.ring (Self.value self.now))
+            (¬ (IsInvertible Self.ring (Self.value self.now))) }
+        ensures none { IsNone result → ¬ (IsInvertible Self.ring (Self.value self.now)) };
 
     /// The inverse, of an element that has one (`try_inverse` tells).
     fn inverse(&self) -> Self
-        requires { IsInvertible ring (value self.now) }
-        ensures { IsInverse ring (value self.now) (value result) }
+        requires { IsInvertible Self.ring (Self.value self.now) }
+        ensures { IsInverse Self.ring (Self.value self.now) (Self.value result) }
     {
         match self.try_inverse() {
             Some(inverse) => inverse,
@@ -193,40 +201,42 @@ pub trait Field: Copy
     }
 
     // A number names one value.
-    ghost number_law: { (x y : Element) → number x ≡ number y → x ≡ y };
+    ghost number_law: { (x y : Self.Element) → Self.number x ≡ Self.number y → x ≡ y };
 
-    ghost zero_law: { value ZERO ≡ ring.zero };
+    ghost same_zero: { ZERO ≡ Self.zero };
 
-    ghost one_law: { value ONE ≡ ring.one };
+    ghost zero_law: { Self.value ZERO ≡ Self.ring.zero };
 
-    ghost two_law: { value TWO ≡ two ring };
+    ghost one_law: { Self.value ONE ≡ Self.ring.one };
 
-    ghost neg_one_law: { value NEG_ONE ≡ ring.neg ring.one };
+    ghost two_law: { Self.value TWO ≡ two Self.ring };
 
-    ghost generator_law: { IsInvertible ring (value GENERATOR) };
+    ghost neg_one_law: { Self.value NEG_ONE ≡ Self.ring.neg Self.ring.one };
+
+    ghost generator_law: { IsInvertible Self.ring (Self.value GENERATOR) };
 
     // The operators may always be used, and are those of the ring.
     ghost can_add_law: { (a b : Self) → Self.can_add a b };
 
     ghost add_law: { (a b r : Self) → Self.add_gives a b r
-        → value r ≡ ring.add (value a) (value b) };
+        → Self.value r ≡ Self.ring.add (Self.value a) (Self.value b) };
 
     ghost can_sub_law: { (a b : Self) → Self.can_sub a b };
 
     ghost sub_law: { (a b r : Self) → Self.sub_gives a b r
-        → value r ≡ minus ring (value a) (value b) };
+        → Self.value r ≡ minus Self.ring (Self.value a) (Self.value b) };
 
     ghost can_mul_law: { (a b : Self) → Self.can_mul a b };
 
     ghost mul_law: { (a b r : Self) → Self.mul_gives a b r
-        → value r ≡ ring.mul (value a) (value b) };
+        → Self.value r ≡ Self.ring.mul (Self.value a) (Self.value b) };
 
     ghost can_neg_law: { (a : Self) → Self.can_neg a };
 
-    ghost neg_law: { (a r : Self) → Self.neg_gives a r → value r ≡ ring.neg (value a) };
+    ghost neg_law: { (a r : Self) → Self.neg_gives a r → Self.value r ≡ Self.ring.neg (Self.value a) };
 
     // `==` is equality of values. So the order depends on values alone: `order_of_values` of specs/FieldLaws.
-    ghost eq_law: { (a b : Self) → IsTrue (Self.eq a b) ↔ (value a ≡ value b) };
+    ghost eq_law: { (a b : Self) → IsTrue (Self.eq a b) ↔ (Self.value a ≡ Self.value b) };
 }
 
 /// A field with the rest of what generic code may write: the operators that change an element in its place, sums and

@@ -8,7 +8,7 @@ ghost use Rattle.std.specs.Prelude.{◌≡◌, ◌<◌, ◌≤◌, ◌+◌, ◌%
 ghost use Rattle.p3_field.specs.Fields.{goldilocks_modulus};
 
 use crate::euclid::inverse_modulo;
-use crate::fields::{Field, FieldOps};
+use crate::fields::{Field, FieldOps, Valued};
 use crate::goldilocks_x4::GoldilocksX4;
 use crate::goldilocks_x8::GoldilocksX8;
 use crate::packed::{Packable, PackedField, Products};
@@ -31,7 +31,7 @@ const EPSILON: u64 = 4294967295;
 /// The lanes of packed values of the field. Elements and what they compute do not depend on it.
 pub trait GoldilocksPacking: Copy {
     /// Several elements, handled by one operation.
-    type Packing: PackedField<GoldilocksIn<Self>>;
+    type Packing: PackedField<Scalar = GoldilocksIn<Self>>;
 
     /// Whether lanes are better taken one after another than all at once, where rows change in place.
     const ONE_BY_ONE: bool;
@@ -404,11 +404,10 @@ impl<P: Copy> FieldOps for GoldilocksIn<P> {
     ghost product_law = { λ xs r h. h };
 }
 
-impl<P: Copy> Field for GoldilocksIn<P> {
-    ghost use Rattle.std.proofs.Common.{lit<, refl};
-    ghost use Rattle.p3_field.specs.Residues.{Residue, residue-eq};
-    ghost use Rattle.p3_field.specs.FieldLaws.{difference_law, eq_law};
-    ghost use Rattle.p3_field.specs.Fields.{goldilocks_ring, goldilocks_numbers};
+impl<P: Copy> Valued for GoldilocksIn<P> {
+    ghost use Rattle.std.proofs.Common.{lit<};
+    ghost use Rattle.p3_field.specs.Residues.{Residue};
+    ghost use Rattle.p3_field.specs.Fields.{goldilocks_ring};
 
     ghost Element = { Residue goldilocks_modulus };
 
@@ -417,6 +416,15 @@ impl<P: Copy> Field for GoldilocksIn<P> {
     ghost number = { λ x. x.number };
 
     ghost value = { λ x. record { number = x.number; below = x.below } };
+
+    ghost zero = { record { number = 0; of = _; below = lit< tt } };
+}
+
+impl<P: Copy> Field for GoldilocksIn<P> {
+    ghost use Rattle.std.proofs.Common.{lit<, refl};
+    ghost use Rattle.p3_field.specs.Residues.{residue-eq};
+    ghost use Rattle.p3_field.specs.FieldLaws.{difference_law, eq_law};
+    ghost use Rattle.p3_field.specs.Fields.{goldilocks_ring, goldilocks_numbers};
 
     const ZERO: GoldilocksIn<P> = GoldilocksIn {
         number: 0,
@@ -483,6 +491,8 @@ impl<P: Copy> Field for GoldilocksIn<P> {
 
     ghost number_law = { residue-eq };
 
+    ghost same_zero = { refl };
+
     ghost zero_law = { residue-eq _ _ refl };
 
     ghost one_law = { residue-eq _ _ refl };
@@ -512,7 +522,9 @@ impl<P: Copy> Field for GoldilocksIn<P> {
     ghost eq_law = { λ a b. eq_law _ _ };
 }
 
-impl<P: Copy> PackedField<GoldilocksIn<P>> for GoldilocksIn<P> {
+impl<P: Copy> PackedField for GoldilocksIn<P> {
+    type Scalar = GoldilocksIn<P>;
+
     ghost use Rattle.std.specs.Prelude.{[], ◌∷◌};
     ghost use Rattle.std.proofs.Common.{refl};
 

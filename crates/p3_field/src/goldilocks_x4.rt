@@ -26,7 +26,9 @@ impl Clone for GoldilocksX4 {
     }
 }
 
-impl PackedField<Goldilocks> for GoldilocksX4 {
+impl PackedField for GoldilocksX4 {
+    type Scalar = Goldilocks;
+
     const WIDTH: usize = 4;
 
     ghost WIDTH = { 4 };

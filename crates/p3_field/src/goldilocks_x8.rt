@@ -58,7 +58,9 @@ impl GoldilocksX8 {
     }
 }
 
-impl PackedField<WideGoldilocks> for GoldilocksX8 {
+impl PackedField for GoldilocksX8 {
+    type Scalar = WideGoldilocks;
+
     ghost use Rattle.p3_field.specs.LaneNumbers.{elements_of};
     ghost use Rattle.p3_field.specs.LaneLaws.{length-elements_of};
     ghost use Rattle.std.proofs.Common.{◌∙◌};

@@ -27,7 +27,9 @@ impl<F: Copy, const N: usize> Clone for Lanes<F, N> {
     }
 }
 
-impl<F: Field, const N: usize> PackedField<F> for Lanes<F, N> {
+impl<F: Field, const N: usize> PackedField for Lanes<F, N> {
+    type Scalar = F;
+
     const WIDTH: usize = N;
 
     ghost WIDTH = { N };

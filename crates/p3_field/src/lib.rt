@@ -1,8 +1,8 @@
 //! Finite fields with roots of unity of two-power order, as the transforms use them.
 //!
 //! `Field` has the operations of a commutative ring with one in which halving is exact, and their
-//! laws; `FieldOps` adds operators in place, sums, products and texts, `TwoAdicField` the roots of unity, and
-//! `CanonicalField` the numbers below a modulus.
+//! laws, on the values that `Valued` gives elements; `FieldOps` adds operators in place, sums, products and texts,
+//! `TwoAdicField` the roots of unity, and `CanonicalField` the numbers below a modulus.
 //! `Residue31` is such a field for each type that has `Numbers`, with a modulus below `2^31`, and a
 //! `ResiduePacking`: `BabyBear` and `KoalaBear` are made of it. `Goldilocks` has a modulus below `2^64`.
 //! `WideBabyBear`, `WideKoalaBear` and `WideGoldilocks` are the same fields for processors with wider vectors.
@@ -33,7 +33,7 @@ pub mod two_adic;
 
 pub use algebra::{BasedVectorSpace, Coordinates};
 pub use baby_bear::{BabyBear, BabyBearX8, WideBabyBear};
-pub use fields::{Field, FieldOps};
+pub use fields::{Field, FieldOps, Valued};
 pub use goldilocks::{
     Goldilocks, GoldilocksIn, GoldilocksPacking, ScalarLanes, VectorLanes, WideGoldilocks,
 };

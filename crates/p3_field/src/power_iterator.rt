@@ -31,7 +31,7 @@ impl<F: Field> Powers<F> {
     /// Writes the first items over a slice, as many as it has places. Takes no memory.
     pub fn fill(self, to: &mut [F])
         ensures long { length to.new ≡ length to.old }
-        ensures powers { (i : ℕ) → i < length to.old → F.value (get_or to.new i F.ZERO)
+        ensures powers { (i : ℕ) → i < length to.old → F.value (get_or to.new i F.zero)
             ≡ F.ring.mul (F.value self.current) (power F.ring (F.value self.base) i) }
     {
         let base = self.base;
@@ -45,7 +45,7 @@ impl<F: Field> Powers<F> {
     /// The first n items, in memory for n of them.
     pub fn collect_n(self, alloc: Global, n: usize) -> Result<Vec<F>, Refused>
         ensures long { IfOk result (λ v. vec_len v ≡ n) }
-        ensures powers { IfOk result (λ v. (i : ℕ) → i < n → F.value (get_or v.items i F.ZERO)
+        ensures powers { IfOk result (λ v. (i : ℕ) → i < n → F.value (get_or v.items i F.zero)
             ≡ F.ring.mul (F.value self.current) (power F.ring (F.value self.base) i)) }
         ensures room { OnErr result (WasRefused n) }
     {

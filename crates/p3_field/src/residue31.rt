@@ -3,7 +3,7 @@
 ghost use Rattle.std.specs.Prelude.{◌≡◌, ◌<◌, ◌≤◌, ◌%◌, ◌-◌, ℕ, ◌+◌};
 
 use crate::euclid::inverse_modulo;
-use crate::fields::{Field, FieldOps};
+use crate::fields::{Field, FieldOps, Valued};
 use crate::packed::{Packable, PackedField, Products};
 use crate::totals::{add_all, multiply_all};
 use crate::two_adic::{CanonicalField, TwoAdicField};
@@ -60,7 +60,7 @@ pub trait Numbers: Copy {
 /// it.
 pub trait ResiduePacking: Numbers {
     /// Several elements, handled by one operation.
-    type Packing: PackedField<Residue31<Self>>;
+    type Packing: PackedField<Scalar = Residue31<Self>>;
 
     ghost some_law: { 1 ≤ Self.Packing.WIDTH };
 }
@@ -311,12 +311,10 @@ impl<N: Numbers> FieldOps for Residue31<N> {
     ghost product_law = { λ xs r h. h };
 }
 
-impl<N: Numbers> Field for Residue31<N> {
-    ghost use Rattle.std.proofs.Common.{refl, arith};
+impl<N: Numbers> Valued for Residue31<N> {
+    ghost use Rattle.std.proofs.Common.{arith};
     ghost use Rattle.p3_field.specs.Fields.{field_ring};
-    ghost use Rattle.p3_field.specs.Residues.{Residue, residue-eq};
-    ghost use Rattle.p3_field.specs.FieldLaws.{difference_law, eq_law};
-    ghost use Rattle.p3_field.specs.Residues31.{below_two, below_minus_one, two_number, minus_one_number};
+    ghost use Rattle.p3_field.specs.Residues.{Residue};
 
     ghost Element = { Residue N.numbers.modulus };
 
@@ -325,6 +323,16 @@ impl<N: Numbers> Field for Residue31<N> {
     ghost number = { λ x. x.number };
 
     ghost value = { λ x. record { number = x.number; below = x.below } };
+
+    ghost zero = { record { number = 0; of = _; below = Prim.omega (arith, N.numbers.above) } };
+}
+
+impl<N: Numbers> Field for Residue31<N> {
+    ghost use Rattle.std.proofs.Common.{refl, arith};
+    ghost use Rattle.p3_field.specs.Fields.{field_ring};
+    ghost use Rattle.p3_field.specs.Residues.{residue-eq};
+    ghost use Rattle.p3_field.specs.FieldLaws.{difference_law, eq_law};
+    ghost use Rattle.p3_field.specs.Residues31.{below_two, below_minus_one, two_number, minus_one_number};
 
     const ZERO: Residue31<N> = Residue31 {
         number: 0,
@@ -391,6 +399,8 @@ impl<N: Numbers> Field for Residue31<N> {
 
     ghost number_law = { residue-eq };
 
+    ghost same_zero = { refl };
+
     ghost zero_law = { residue-eq _ _ refl };
 
     ghost one_law = { residue-eq _ _ refl };
@@ -420,7 +430,9 @@ impl<N: Numbers> Field for Residue31<N> {
     ghost eq_law = { λ a b. eq_law _ _ };
 }
 
-impl<N: Numbers> PackedField<Residue31<N>> for Residue31<N> {
+impl<N: Numbers> PackedField for Residue31<N> {
+    type Scalar = Residue31<N>;
+
     ghost use Rattle.std.specs.Prelude.{[], ◌∷◌};
     ghost use Rattle.std.proofs.Common.{refl};
 

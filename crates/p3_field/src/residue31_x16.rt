@@ -66,7 +66,9 @@ impl<N: Numbers> Residue31X16<N> {
     }
 }
 
-impl<N: Numbers> PackedField<Residue31<N>> for Residue31X16<N> {
+impl<N: Numbers> PackedField for Residue31X16<N> {
+    type Scalar = Residue31<N>;
+
     ghost use Rattle.p3_field.specs.LaneNumbers.{elements_of};
     ghost use Rattle.p3_field.specs.LaneLaws.{length-elements_of};
     ghost use Rattle.std.proofs.Common.{◌∙◌};

@@ -45,7 +45,9 @@ impl<N: Numbers> Residue31X8<N> {
     }
 }
 
-impl<N: Numbers> PackedField<Residue31<N>> for Residue31X8<N> {
+impl<N: Numbers> PackedField for Residue31X8<N> {
+    type Scalar = Residue31<N>;
+
     ghost use Rattle.p3_field.specs.LaneNumbers.{elements_of};
     ghost use Rattle.p3_field.specs.LaneLaws.{length-elements_of};
     ghost use Rattle.std.proofs.Common.{◌∙◌};

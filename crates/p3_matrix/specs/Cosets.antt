@@ -3,14 +3,14 @@
 use Rattle.std.specs.Prelude.{◌≡◌, ℕ, ◌+◌, ◌-◌, ◌%◌, ◌^◌, ◌<◌, List, ◌++◌, length, get_or}
 use Rattle.std.specs.List.{All}
 use Rattle.p3_field.specs.Ring.{Ring, count, power}
-use Rattle.p3_field.specs.declared.fields.Field.{Ghosts as FieldMembers}
+use Rattle.p3_field.specs.declared.fields.Valued.{Ghosts as FieldMembers}
 use Rattle.p3_matrix.specs.Matrix.{Matrix, column, image, matrix}
 use Rattle.p3_matrix.specs.Polynomials.{value}
 use Rattle.p3_matrix.specs.RowMajor.{RowMajor}
 
 -- the values of the elements of a stored matrix
 abbrev pub values_of : {F : Type 0} (f : FieldMembers F) → RowMajor F → Matrix f.Element
-values_of f m = image f.value (matrix f.ZERO m)
+values_of f m = image f.value (matrix f.zero m)
 
 -- point i of the coset of s
 unfoldable pub point : {A : Type 0} → Ring A → (ℕ → A) → ℕ → A → ℕ → A

@@ -27,7 +27,7 @@ pub trait Butterfly<F: Packable>: Copy {
     ghost cost: { ℕ };
 
     /// The near and the far value, lane by lane.
-    fn apply<P: PackedField<F>>(&self, x_1: P, x_2: P, products: &mut Products) -> (P, P)
+    fn apply<P: PackedField<Scalar = F>>(&self, x_1: P, x_2: P, products: &mut Products) -> (P, P)
         ensures near { map F.value (P.lanes result.0)
             ≡ by_lanes (near F.Element F.ring F.value self.now) (map F.value (P.lanes x_1))
             (map F.value (P.lanes x_2)) }
@@ -36,7 +36,7 @@ pub trait Butterfly<F: Packable>: Copy {
         ensures count { products.new ≡ products.old + cost * P.WIDTH };
 
     /// As `apply`, and the near value takes the place of x_1, the far one that of x_2.
-    final fn apply_in_place<P: PackedField<F>>(
+    final fn apply_in_place<P: PackedField<Scalar = F>>(
         &self,
         x_1: &mut P,
         x_2: &mut P,
@@ -117,7 +117,7 @@ impl<F: Packable> Butterfly<F> for DitButterfly<F> {
     ghost cost = { 1 };
 
     #[inline(always)]
-    fn apply<P: PackedField<F>>(&self, x_1: P, x_2: P, products: &mut Products) -> (P, P) {
+    fn apply<P: PackedField<Scalar = F>>(&self, x_1: P, x_2: P, products: &mut Products) -> (P, P) {
         let turned = x_2.scaled(self.0, products);
         (x_1.add(turned), x_1.sub(turned))
     }
@@ -137,7 +137,7 @@ impl<F: Packable> Butterfly<F> for DifButterfly<F> {
     ghost cost = { 1 };
 
     #[inline(always)]
-    fn apply<P: PackedField<F>>(&self, x_1: P, x_2: P, products: &mut Products) -> (P, P) {
+    fn apply<P: PackedField<Scalar = F>>(&self, x_1: P, x_2: P, products: &mut Products) -> (P, P) {
         (x_1.add(x_2), x_1.sub_scaled(x_2, self.0, products))
     }
 }
@@ -157,7 +157,12 @@ impl<F: Packable> Butterfly<F> for DifButterflyZeros<F> {
     ghost cost = { 1 };
 
     #[inline(always)]
-    fn apply<P: PackedField<F>>(&self, x_1: P, _x_2: P, products: &mut Products) -> (P, P) {
+    fn apply<P: PackedField<Scalar = F>>(
+        &self,
+        x_1: P,
+        _x_2: P,
+        products: &mut Products,
+    ) -> (P, P) {
         (x_1, x_1.scaled(self.0, products))
     }
 }
@@ -231,7 +236,7 @@ impl<F: Packable> Butterfly<F> for ScaledDitButterfly<F> {
     ghost cost = { 2 };
 
     #[inline(always)]
-    fn apply<P: PackedField<F>>(&self, x_1: P, x_2: P, products: &mut Products) -> (P, P) {
+    fn apply<P: PackedField<Scalar = F>>(&self, x_1: P, x_2: P, products: &mut Products) -> (P, P) {
         let scaled = x_1.scaled(self.scale, products);
         let turned = x_2.scaled(self.twiddle_times_scale, products);
         (scaled.add(turned), scaled.sub(turned))
@@ -252,7 +257,12 @@ impl<F: Packable> Butterfly<F> for TwiddleFreeButterfly {
     ghost cost = { 0 };
 
     #[inline(always)]
-    fn apply<P: PackedField<F>>(&self, x_1: P, x_2: P, _products: &mut Products) -> (P, P) {
+    fn apply<P: PackedField<Scalar = F>>(
+        &self,
+        x_1: P,
+        x_2: P,
+        _products: &mut Products,
+    ) -> (P, P) {
         (x_1.add(x_2), x_1.sub(x_2))
     }
 }

@@ -62,7 +62,7 @@ pub(crate) fn apply_by_packs_apart<F: Packable, B: Butterfly<F>>(
 /// Takes two rows of full packs to the near and the far row. The rows have one length, a multiple of the
 /// packs' width, which is at least one.
 #[inline(always)]
-pub fn apply_to_packs<F: Packable, P: PackedField<F>, B: Butterfly<F>>(
+pub fn apply_to_packs<F: Packable, P: PackedField<Scalar = F>, B: Butterfly<F>>(
     butterfly: &B,
     row_1: &mut [F],
     row_2: &mut [F],
@@ -92,7 +92,7 @@ pub fn apply_to_packs<F: Packable, P: PackedField<F>, B: Butterfly<F>>(
 
 // Takes one pack of each row.
 #[inline(always)]
-fn apply_to_pack<F: Packable, P: PackedField<F>, B: Butterfly<F>>(
+fn apply_to_pack<F: Packable, P: PackedField<Scalar = F>, B: Butterfly<F>>(
     butterfly: &B,
     part_1: &mut [F],
     part_2: &mut [F],
@@ -138,7 +138,7 @@ pub fn apply_to_elements<F: Packable, B: Butterfly<F>>(
 }
 
 // Takes two rows of full packs to the near and the far row in two others.
-pub(crate) fn apply_to_packs_oop<F: Packable, P: PackedField<F>, B: Butterfly<F>>(
+pub(crate) fn apply_to_packs_oop<F: Packable, P: PackedField<Scalar = F>, B: Butterfly<F>>(
     butterfly: &B,
     src_1: &[F],
     dst_1: &mut [F],
@@ -170,7 +170,7 @@ pub(crate) fn apply_to_packs_oop<F: Packable, P: PackedField<F>, B: Butterfly<F>
 }
 
 // Decimation in time on two rows of full packs, where each pair has a twiddle of its own.
-pub(crate) fn dit_on_packs<F: Packable, P: PackedField<F>>(
+pub(crate) fn dit_on_packs<F: Packable, P: PackedField<Scalar = F>>(
     twiddles: &[F],
     row_1: &mut [F],
     row_2: &mut [F],
@@ -201,7 +201,7 @@ pub(crate) fn dit_on_packs<F: Packable, P: PackedField<F>>(
 
 // One pack of each row.
 #[inline(always)]
-fn dit_on_pack<F: Packable, P: PackedField<F>>(
+fn dit_on_pack<F: Packable, P: PackedField<Scalar = F>>(
     twiddles: &[F],
     part_1: &mut [F],
     part_2: &mut [F],
@@ -251,7 +251,7 @@ pub(crate) fn dit_on_elements<F: Packable>(
 }
 
 // Multiplies each of full packs of values by t.
-pub(crate) fn scale_packs<F: Packable, P: PackedField<F>>(
+pub(crate) fn scale_packs<F: Packable, P: PackedField<Scalar = F>>(
     values: &mut [F],
     t: F,
     products: &mut Products,
@@ -270,7 +270,11 @@ pub(crate) fn scale_packs<F: Packable, P: PackedField<F>>(
 }
 
 // Multiplies one pack of values by t.
-fn scale_pack<F: Packable, P: PackedField<F>>(part: &mut [F], t: F, products: &mut Products)
+fn scale_pack<F: Packable, P: PackedField<Scalar = F>>(
+    part: &mut [F],
+    t: F,
+    products: &mut Products,
+)
     requires { length part.old ≡ P.WIDTH }
     ensures values { map F.value part.new ≡ map (λ x. F.ring.mul x (F.value t)) (map F.value part.old) }
     ensures count { products.new ≡ products.old + P.WIDTH }
@@ -279,7 +283,7 @@ fn scale_pack<F: Packable, P: PackedField<F>>(part: &mut [F], t: F, products: &m
 }
 
 // Writes full packs of values, each times t, to their places in another slice.
-pub(crate) fn scale_packs_oop<F: Packable, P: PackedField<F>>(
+pub(crate) fn scale_packs_oop<F: Packable, P: PackedField<Scalar = F>>(
     from: &[F],
     to: &mut [F],
     t: F,

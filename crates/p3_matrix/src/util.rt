@@ -23,7 +23,7 @@ pub fn log2_strict_usize(n: usize) -> usize
 /// rows from row `bound` on are zero.
 pub fn has_degree_below<F: Field>(coefficients: &RowMajorMatrix<F>, bound: usize) -> bool
     ensures { IsTrue result ↔ ((i j : ℕ) → bound ≤ i → i < height coefficients.now → j < coefficients.now.width
-        → (values_of F.Field.own coefficients.now).entry i j ≡ F.ring.zero) }
+        → (values_of F.Valued.own coefficients.now).entry i j ≡ F.ring.zero) }
 {
     let first = bound.min(coefficients.height());
     let values = coefficients.values();

@@ -1,6 +1,6 @@
 -- That a coset has one table at most.
 use Rattle.std.specs.Prelude.{◌≡◌, ℕ, List}
-use Rattle.p3_field.specs.declared.fields.Field.{Ghosts as FieldMembers}
+use Rattle.p3_field.specs.declared.fields.Valued.{Ghosts as FieldMembers}
 use Rattle.p3_matrix.specs.Cosets.{Coset, IsCosetAt}
 
 -- no two places of a list have the same coset: a coset is given by its order and the value of its shift

@@ -1,6 +1,6 @@
 -- The order of layers, and layers in groups, each on one piece of the cells after another.
 use Rattle.std.specs.Prelude.{◌≡◌, ◌⊎◌, ℕ, ◌+◌, ◌-◌, ◌*◌, ◌^◌, ◌<◌, ◌≤◌, List, length, get_or}
-use Rattle.p3_field.specs.declared.fields.Field.{Ghosts as FieldMembers}
+use Rattle.p3_field.specs.declared.fields.Valued.{Ghosts as FieldMembers}
 use Rattle.p3_networks.specs.Layers.{AreLayers, HoldsCells}
 use Rattle.p3_networks.specs.declared.groups.Order.{Order}
 use Rattle.p3_networks.specs.declared.groups.Order.TheVariants.{LargestFirst, SmallestFirst}
@@ -43,8 +43,8 @@ pub record IsChunk (w top number twiddles n : ℕ) : Type 0 where
 
 -- in their order, the layers from `from` up to `to` of such a chunk: near and far stand behind a butterfly of a twiddle, and block b has twiddle b
 abbrev pub DoesLayers : {F : Type 0} (f : FieldMembers F) → Order → (near far : f.Element → f.Element → f.Element → f.Element) → List F → (w top number from to : ℕ) → List F → List F → Type 0
-DoesLayers f order near far twiddles w top number from to = TakesCells f.value f.value f.ZERO order w top number
-    (λ b. near (f.value (get_or twiddles b f.ZERO))) (λ b. far (f.value (get_or twiddles b f.ZERO))) (cells_of order from to 0) (cells_of order from to (to - from))
+DoesLayers f order near far twiddles w top number from to = TakesCells f.value f.value f.zero order w top number
+    (λ b. near (f.value (get_or twiddles b f.zero))) (λ b. far (f.value (get_or twiddles b f.zero))) (cells_of order from to 0) (cells_of order from to (to - from))
 
 -- rows of `part` cells, of which the list's first cell is number `first`, hold those of the columns from `at` up to `end`
 abbrev pub HoldsColumns : {T A : Type 0} → (T → A) → T → ℕ → ℕ → ℕ → ℕ → ℕ → (ℕ → A) → List T → Type 0

@@ -1,6 +1,6 @@
 -- Layers of butterflies on cells that lie one after another, w of them in each row.
 use Rattle.std.specs.Prelude.{◌≡◌, ℕ, ◌+◌, ◌-◌, ◌*◌, ◌^◌, ◌<◌, ◌≤◌, List, length, get_or}
-use Rattle.p3_field.specs.declared.fields.Field.{Ghosts as FieldMembers}
+use Rattle.p3_field.specs.declared.fields.Valued.{Ghosts as FieldMembers}
 use Rattle.p3_matrix.specs.Polynomials.{poly}
 
 -- n entries are 2 ^ k rows of w entries
@@ -29,8 +29,8 @@ pub record MeetInPairs {A : Type 0} (n : ℕ) (near far : ℕ → A → A → A)
 
 -- pair i of a list by twiddle i of another
 abbrev pub MeetByTwiddles : {F : Type 0} (f : FieldMembers F) → (near far : f.Element → f.Element → f.Element → f.Element) → ℕ → List F → List F → List F → Type 0
-MeetByTwiddles f near far n twiddles before after = MeetInPairs n (λ i. near (f.value (get_or twiddles i f.ZERO))) (λ i. far (f.value (get_or twiddles i f.ZERO)))
-    (λ k. f.value (get_or before k f.ZERO)) (λ k. f.value (get_or after k f.ZERO))
+MeetByTwiddles f near far n twiddles before after = MeetInPairs n (λ i. near (f.value (get_or twiddles i f.zero))) (λ i. far (f.value (get_or twiddles i f.zero)))
+    (λ k. f.value (get_or before k f.zero)) (λ k. f.value (get_or after k f.zero))
 
 -- one layer: each of so many blocks, of two halves of so many cells
 abbrev pub IsLayer : {A : Type 0} → ℕ → ℕ → (ℕ → ℕ → A → A → A) → (ℕ → ℕ → A → A → A) → (ℕ → A) → (ℕ → A) → Type 0
@@ -42,5 +42,5 @@ HoldsCells value d first cells xs = (i : ℕ) → i < length xs → value (get_o
 
 -- on rows of w entries, one after another: row r of after has the values at point r of the columns of before, whose coefficient q lies in row place q
 abbrev pub AreValuesOfRows : {F : Type 0} (f : FieldMembers F) → ℕ → ℕ → (ℕ → ℕ) → (ℕ → f.Element) → List F → List F → Type 0
-AreValuesOfRows f w n place point before after = (r j : ℕ) → r < n → j < w → f.value (get_or after (r * w + j) f.ZERO)
-    ≡ poly f.ring n (λ q. f.value (get_or before (place q * w + j) f.ZERO)) (point r)
+AreValuesOfRows f w n place point before after = (r j : ℕ) → r < n → j < w → f.value (get_or after (r * w + j) f.zero)
+    ≡ poly f.ring n (λ q. f.value (get_or before (place q * w + j) f.zero)) (point r)

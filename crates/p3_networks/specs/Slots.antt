@@ -1,7 +1,7 @@
 -- Slots of an extension: each holds the values on a coset of its own.
 use Rattle.std.specs.Prelude.{◌≡◌, ℕ, ◌+◌, ◌*◌, ◌^◌, ◌<◌, List, get_or, map, Result, MatchResult, ⊤}
 use Rattle.std.specs.List.{range_with_len}
-use Rattle.p3_field.specs.declared.fields.Field.{Ghosts as FieldMembers}
+use Rattle.p3_field.specs.declared.fields.Valued.{Ghosts as FieldMembers}
 use Rattle.p3_matrix.specs.BitOrder.{rev}
 use Rattle.p3_matrix.specs.Blocks.{Run, RunToRefusal}
 use Rattle.p3_matrix.specs.Matrix.{Matrix}
@@ -25,13 +25,13 @@ LentInBlocks step first b w n done rows before result after = MatchResult result
 
 -- the first n rows of after have the values on the coset of s of order 2 ^ k, in bit reversed order, of the polynomials whose 2 ^ k coefficients are the rows of before in bit reversed order
 abbrev pub HasRowsOnCoset : {F : Type 0} (f : FieldMembers F) → (ℕ → F) → ℕ → ℕ → f.Element → ℕ → List F → List F → Type 0
-HasRowsOnCoset f generator k w s n before after = (r j : ℕ) → r < n → j < w → f.value (get_or after (r * w + j) f.ZERO)
-    ≡ poly f.ring (2 ^ k) (λ q. f.value (get_or before (rev k q * w + j) f.ZERO)) (point f.ring (forward_root f generator) k s (rev k r))
+HasRowsOnCoset f generator k w s n before after = (r j : ℕ) → r < n → j < w → f.value (get_or after (r * w + j) f.zero)
+    ≡ poly f.ring (2 ^ k) (λ q. f.value (get_or before (rev k q * w + j) f.zero)) (point f.ring (forward_root f generator) k s (rev k r))
 
 -- the values on the coset of s of order 2 ^ (k + a), in bit reversed order, of the polynomials whose 2 ^ k coefficients are rows of w entries in bit reversed order
 abbrev pub extended_rows : {F : Type 0} (f : FieldMembers F) → (ℕ → F) → ℕ → ℕ → ℕ → f.Element → List F → Matrix f.Element
 extended_rows f generator k a w s rows = record {
   height = 2 ^ (k + a);
   width = w;
-  entry = λ r j. poly f.ring (2 ^ k) (λ q. f.value (get_or rows (rev k q * w + j) f.ZERO)) (point f.ring (forward_root f generator) (k + a) s (rev (k + a) r));
+  entry = λ r j. poly f.ring (2 ^ k) (λ q. f.value (get_or rows (rev k q * w + j) f.zero)) (point f.ring (forward_root f generator) (k + a) s (rev (k + a) r));
 }

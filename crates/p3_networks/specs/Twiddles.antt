@@ -1,19 +1,19 @@
 -- The twiddles that an engine keeps, and what its tables show of themselves.
 use Rattle.std.specs.Prelude.{◌≡◌, ℕ, ◌+◌, ◌-◌, ◌^◌, ◌<◌, ◌≤◌, leb, List, [], length, get_or, Bool, if◌then◌else◌, Option, Some, None, Vec}
 use Rattle.p3_field.specs.Ring.{power}
-use Rattle.p3_field.specs.declared.fields.Field.{Ghosts as FieldMembers}
+use Rattle.p3_field.specs.declared.fields.Valued.{Ghosts as FieldMembers}
 use Rattle.p3_matrix.specs.BitOrder.{mid_of, rev}
 
 module _ {F : Type 0} (f : FieldMembers F) where
   -- a table of the n values p 0, p 1, ..
   pub record AreTwiddles (n : ℕ) (p : ℕ → f.Element) (twiddles : List F) : Type 0 where
     pub size : length twiddles ≡ n
-    pub entries : (e : ℕ) → e < n → f.value (get_or twiddles e f.ZERO) ≡ p e
+    pub entries : (e : ℕ) → e < n → f.value (get_or twiddles e f.zero) ≡ p e
 
   -- tables one after another, one for each layer l below log: it begins at place 2 ^ l - 1 and has the 2 ^ l values p l 0, p l 1, ..
   pub record AreTwiddlesOfLayers (log : ℕ) (p : ℕ → ℕ → f.Element) (twiddles : List F) : Type 0 where
     pub size : 2 ^ log - 1 ≤ length twiddles
-    pub entries : (l t : ℕ) → l < log → t < 2 ^ l → f.value (get_or twiddles (2 ^ l - 1 + t) f.ZERO) ≡ p l t
+    pub entries : (l t : ℕ) → l < log → t < 2 ^ l → f.value (get_or twiddles (2 ^ l - 1 + t) f.zero) ≡ p l t
 
   -- in layer l of log, on the coset of s: the powers of the root of order 2 ^ (l + 1), each times s ^ (2 ^ (log - 1 - l))
   abbrev pub coset_twiddles : (ℕ → f.Element) → f.Element → ℕ → ℕ → ℕ → f.Element
@@ -22,7 +22,7 @@ module _ {F : Type 0} (f : FieldMembers F) where
   -- one table for all layers l below log: those of layer l are its first 2 ^ l entries, p l 0, p l 1, ..
   pub record AreTwiddlesFromStart (log : ℕ) (p : ℕ → ℕ → f.Element) (twiddles : List F) : Type 0 where
     pub size : (l : ℕ) → l < log → 2 ^ l ≤ length twiddles
-    pub entries : (l b : ℕ) → l < log → b < 2 ^ l → f.value (get_or twiddles b f.ZERO) ≡ p l b
+    pub entries : (l b : ℕ) → l < log → b < 2 ^ l → f.value (get_or twiddles b f.zero) ≡ p l b
 
   -- in a layer of 2 ^ l blocks: the powers of the root of order 2 ^ (l + 1), in bit reversed order
   abbrev pub block_powers : (ℕ → f.Element) → ℕ → ℕ → f.Element

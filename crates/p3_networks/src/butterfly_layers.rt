@@ -50,12 +50,12 @@ pub trait Rule<F: TwoAdicField>: Copy {
     )
         requires in_table { has self block place }
         requires size { length row_1.old ≡ length row_2.old }
-        ensures near { (j : ℕ) → j < length row_1.old → F.value (get_or row_1.new j F.ZERO)
-            ≡ near F.Element F.ring F.value self block place (F.value (get_or row_1.old j F.ZERO))
-            (F.value (get_or row_2.old j F.ZERO)) }
-        ensures far { (j : ℕ) → j < length row_1.old → F.value (get_or row_2.new j F.ZERO)
-            ≡ far F.Element F.ring F.value self block place (F.value (get_or row_1.old j F.ZERO))
-            (F.value (get_or row_2.old j F.ZERO)) }
+        ensures near { (j : ℕ) → j < length row_1.old → F.value (get_or row_1.new j F.zero)
+            ≡ near F.Element F.ring F.value self block place (F.value (get_or row_1.old j F.zero))
+            (F.value (get_or row_2.old j F.zero)) }
+        ensures far { (j : ℕ) → j < length row_1.old → F.value (get_or row_2.new j F.zero)
+            ≡ far F.Element F.ring F.value self block place (F.value (get_or row_1.old j F.zero))
+            (F.value (get_or row_2.old j F.zero)) }
         ensures grows { products.old ≤ products.new }
         ensures cost { products.new ≤ products.old + cost * length row_1.old };
 
@@ -66,8 +66,8 @@ pub trait Rule<F: TwoAdicField>: Copy {
         requires in_table { has self.now block 0 }
         ensures { let value = F.value in IfSome result (λ ts. (1 ≤ cost) × ((t : ℕ) → has self.now block t
             → (t < length ts.now)
-            × (near F.Element F.ring value self.now block t ≡ dit_near F.ring (value (get_or ts.now t F.ZERO)))
-            × (far F.Element F.ring value self.now block t ≡ dit_far F.ring (value (get_or ts.now t F.ZERO))))) }
+            × (near F.Element F.ring value self.now block t ≡ dit_near F.ring (value (get_or ts.now t F.zero)))
+            × (far F.Element F.ring value self.now block t ≡ dit_far F.ring (value (get_or ts.now t F.zero))))) }
     {
         None
     }
@@ -100,7 +100,7 @@ pub fn layer<F: TwoAdicField, R: Rule<F>>(
     ensures cells { IsLayer blocks (half * width)
         (λ b i. R.near F.Element F.ring F.value rule (first_block + b) (i / width))
         (λ b i. R.far F.Element F.ring F.value rule (first_block + b) (i / width))
-        (λ n. F.value (get_or values.old n F.ZERO)) (λ n. F.value (get_or values.new n F.ZERO)) }
+        (λ n. F.value (get_or values.old n F.zero)) (λ n. F.value (get_or values.new n F.zero)) }
     ensures grows { products.old ≤ products.new }
     ensures cost { products.new ≤ products.old + R.cost * (blocks * (half * width)) }
 {
@@ -136,7 +136,7 @@ fn meet_blocks<F: TwoAdicField, R: Rule<F>>(
     ensures cells { IsLayer blocks (half * width)
         (λ b i. R.near F.Element F.ring F.value rule (first_block + b) (i / width))
         (λ b i. R.far F.Element F.ring F.value rule (first_block + b) (i / width))
-        (λ n. F.value (get_or values.old n F.ZERO)) (λ n. F.value (get_or values.new n F.ZERO)) }
+        (λ n. F.value (get_or values.old n F.zero)) (λ n. F.value (get_or values.new n F.zero)) }
     ensures grows { products.old ≤ products.new }
     ensures cost { products.new ≤ products.old + R.cost * (blocks * (half * width)) }
 {
@@ -167,7 +167,7 @@ impl<F: TwoAdicField, R: Rule<F>> ChunkWork<F> for Blocks<R> {
     ghost takes = { λ it n before after. MeetHalves (it.half * it.width)
         (λ i. R.near F.Element F.ring F.value it.rule (it.first_block + n) (i / it.width))
         (λ i. R.far F.Element F.ring F.value it.rule (it.first_block + n) (i / it.width))
-        (λ i. F.value (get_or before i F.ZERO)) (λ i. F.value (get_or after i F.ZERO)) };
+        (λ i. F.value (get_or before i F.zero)) (λ i. F.value (get_or after i F.zero)) };
 
     ghost cost = { λ it size. 2 * (R.cost * (it.half * it.width)) };
 
@@ -200,7 +200,7 @@ fn meet_block<F: TwoAdicField, R: Rule<F>>(
     requires in_table { (t : ℕ) → t < half → R.has rule block t }
     ensures cells { MeetHalves (half * width) (λ i. R.near F.Element F.ring F.value rule block (i / width))
         (λ i. R.far F.Element F.ring F.value rule block (i / width))
-        (λ n. F.value (get_or values.old n F.ZERO)) (λ n. F.value (get_or values.new n F.ZERO)) }
+        (λ n. F.value (get_or values.old n F.zero)) (λ n. F.value (get_or values.new n F.zero)) }
     ensures grows { products.old ≤ products.new }
     ensures cost { products.new ≤ products.old + R.cost * (half * width) }
 {
@@ -240,10 +240,10 @@ fn meet_halves<F: TwoAdicField, R: Rule<F>>(
     requires low { length low.old ≡ half * width }
     requires high { length high.old ≡ half * width }
     requires in_table { (t : ℕ) → t < half → R.has rule block t }
-    ensures near { let cell = λ (xs : List F) (n : ℕ). F.value (get_or xs n F.ZERO) in
+    ensures near { let cell = λ (xs : List F) (n : ℕ). F.value (get_or xs n F.zero) in
         (t j : ℕ) → t < half → j < width → cell low.new (t * width + j)
         ≡ R.near F.Element F.ring F.value rule block t (cell low.old (t * width + j)) (cell high.old (t * width + j)) }
-    ensures far { let cell = λ (xs : List F) (n : ℕ). F.value (get_or xs n F.ZERO) in
+    ensures far { let cell = λ (xs : List F) (n : ℕ). F.value (get_or xs n F.zero) in
         (t j : ℕ) → t < half → j < width → cell high.new (t * width + j)
         ≡ R.far F.Element F.ring F.value rule block t (cell low.old (t * width + j)) (cell high.old (t * width + j)) }
     ensures grows { products.old ≤ products.new }
@@ -273,14 +273,14 @@ pub(crate) fn meet_ranges<F: TwoAdicField, R: Rule<F>>(
     requires room { end ≤ length low.old }
     requires size { length low.old ≡ length high.old }
     requires in_table { R.has rule block place }
-    ensures near { let cell = λ (xs : List F) (n : ℕ). F.value (get_or xs n F.ZERO) in
+    ensures near { let cell = λ (xs : List F) (n : ℕ). F.value (get_or xs n F.zero) in
         (n : ℕ) → start ≤ n → n < end → cell low.new n
         ≡ R.near F.Element F.ring F.value rule block place (cell low.old n) (cell high.old n) }
-    ensures far { let cell = λ (xs : List F) (n : ℕ). F.value (get_or xs n F.ZERO) in
+    ensures far { let cell = λ (xs : List F) (n : ℕ). F.value (get_or xs n F.zero) in
         (n : ℕ) → start ≤ n → n < end → cell high.new n
         ≡ R.far F.Element F.ring F.value rule block place (cell low.old n) (cell high.old n) }
-    ensures low_stays { (n : ℕ) → (n < start) ⊎ (end ≤ n) → get_or low.new n F.ZERO ≡ get_or low.old n F.ZERO }
-    ensures high_stays { (n : ℕ) → (n < start) ⊎ (end ≤ n) → get_or high.new n F.ZERO ≡ get_or high.old n F.ZERO }
+    ensures low_stays { (n : ℕ) → (n < start) ⊎ (end ≤ n) → get_or low.new n F.zero ≡ get_or low.old n F.zero }
+    ensures high_stays { (n : ℕ) → (n < start) ⊎ (end ≤ n) → get_or high.new n F.zero ≡ get_or high.old n F.zero }
     ensures grows { products.old ≤ products.new }
     ensures cost { products.new ≤ products.old + R.cost * (end - start) }
 {
@@ -312,7 +312,7 @@ pub(crate) fn layer_oop<F: TwoAdicField, B: Butterfly<F>>(
     requires size { length values.old ≡ blocks * (2 * size) }
     ensures cells { IsLayer blocks size (λ b i. B.near F.Element F.ring F.value butterfly)
         (λ b i. B.far F.Element F.ring F.value butterfly)
-        (λ n. F.value (get_or source.now n F.ZERO)) (λ n. F.value (get_or values.new n F.ZERO)) }
+        (λ n. F.value (get_or source.now n F.zero)) (λ n. F.value (get_or values.new n F.zero)) }
     ensures grows { products.old ≤ products.new }
     ensures cost { products.new ≤ products.old + B.cost * (blocks * size) }
 {
@@ -338,8 +338,8 @@ impl<F: TwoAdicField, B: Butterfly<F>> ChunkWork<F> for BlocksOop<'_, F, B> {
 
     ghost takes = { λ it n before after. MeetHalves it.size (λ i. B.near F.Element F.ring F.value it.butterfly)
         (λ i. B.far F.Element F.ring F.value it.butterfly)
-        (λ i. F.value (get_or (chunk_of (length before) n it.source.now) i F.ZERO))
-        (λ i. F.value (get_or after i F.ZERO)) };
+        (λ i. F.value (get_or (chunk_of (length before) n it.source.now) i F.zero))
+        (λ i. F.value (get_or after i F.zero)) };
 
     ghost cost = { λ it size. 2 * (B.cost * it.size) };
 
@@ -363,7 +363,7 @@ fn meet_block_oop<F: TwoAdicField, B: Butterfly<F>>(
     requires size { length values.old ≡ 2 * size }
     ensures cells { MeetHalves size (λ i. B.near F.Element F.ring F.value butterfly)
         (λ i. B.far F.Element F.ring F.value butterfly)
-        (λ n. F.value (get_or source.now n F.ZERO)) (λ n. F.value (get_or values.new n F.ZERO)) }
+        (λ n. F.value (get_or source.now n F.zero)) (λ n. F.value (get_or values.new n F.zero)) }
     ensures count { products.new ≡ products.old + B.cost * size }
 {
     let (from_1, from_2) = source.split_at(size);

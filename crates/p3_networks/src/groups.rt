@@ -146,8 +146,8 @@ pub(crate) fn layers_in_groups<F: TwoAdicField, R: Rule<F>>(
     ensures cells { (cells : ℕ → ℕ → F.Element)
         → AreLayersInOrder order log_h width (λ b. R.near F.Element F.ring F.value rule b 0)
         (λ b. R.far F.Element F.ring F.value rule b 0) cells
-        → HoldsCells F.value F.ZERO 0 (cells (cells_of order log_rows log_h 0)) values.old
-        → HoldsCells F.value F.ZERO 0 (cells (cells_of order log_rows log_h (log_h - log_rows))) values.new }
+        → HoldsCells F.value F.zero 0 (cells (cells_of order log_rows log_h 0)) values.old
+        → HoldsCells F.value F.zero 0 (cells (cells_of order log_rows log_h (log_h - log_rows))) values.new }
     ensures grows { products.old ≤ products.new }
     ensures cost { 2 * products.new ≤ 2 * products.old + R.cost * ((log_h - log_rows) * length values.old) }
 {
@@ -197,8 +197,8 @@ fn group_on_chunks<F: TwoAdicField, R: Rule<F>>(
         (cells : ℕ → ℕ → F.Element)
         → AreLayersInOrder it.order log_h it.width (λ b. R.near F.Element F.ring F.value it.rule b 0)
         (λ b. R.far F.Element F.ring F.value it.rule b 0) cells
-        → HoldsCells F.value F.ZERO 0 (cells (cells_of it.order it.from it.to 0)) values.old
-        → HoldsCells F.value F.ZERO 0 (cells (cells_of it.order it.from it.to (it.to - it.from))) values.new }
+        → HoldsCells F.value F.zero 0 (cells (cells_of it.order it.from it.to 0)) values.old
+        → HoldsCells F.value F.zero 0 (cells (cells_of it.order it.from it.to (it.to - it.from))) values.new }
     ensures grows { products.old ≤ products.new }
     ensures cost { 2 * products.new
         ≤ 2 * products.old + R.cost * ((layers.to - layers.from) * length values.old) }
@@ -213,7 +213,7 @@ impl<F: TwoAdicField, R: Rule<F>> ChunkWork<F> for GroupLayers<R> {
         × ((1 ≤ it.piece) × ((size ≡ 2 ^ it.to * it.width)
         × ((b : ℕ) → 2 * b < (n + 1) * 2 ^ it.to → R.has it.rule b 0))))) };
 
-    ghost takes = { λ it n. TakesCells F.value F.value F.ZERO it.order it.width it.to n
+    ghost takes = { λ it n. TakesCells F.value F.value F.zero it.order it.width it.to n
         (λ b. R.near F.Element F.ring F.value it.rule b 0) (λ b. R.far F.Element F.ring F.value it.rule b 0)
         (cells_of it.order it.from it.to 0) (cells_of it.order it.from it.to (it.to - it.from)) };
 
@@ -256,9 +256,9 @@ impl<R> GroupLayers<R> {
             → AreLayersInOrder it.order k it.width (λ b. R.near F.Element F.ring F.value it.rule b 0)
             (λ b. R.far F.Element F.ring F.value it.rule b 0) cells
             → (number + 1) * 2 ^ it.to ≤ 2 ^ k
-            → HoldsColumns F.value F.ZERO part rows (number * length chunk.old) at end
+            → HoldsColumns F.value F.zero part rows (number * length chunk.old) at end
             (cells (cells_of it.order it.from it.to 0)) chunk.old
-            → TakesColumns F.value F.ZERO part rows (number * length chunk.old) at end
+            → TakesColumns F.value F.zero part rows (number * length chunk.old) at end
             (cells (cells_of it.order it.from it.to (it.to - it.from))) chunk.old chunk.new }
         ensures grows { products.old ≤ products.new }
         ensures cost { let it = self.now in 2 * products.new
@@ -313,8 +313,8 @@ fn layer_of_columns<F: TwoAdicField, R: Rule<F>>(
         → IsLayer all (meet.half * meet.part) (λ b i. R.near F.Element F.ring F.value meet.rule b 0)
         (λ b i. R.far F.Element F.ring F.value meet.rule b 0) before after
         → meet.first_block + blocks ≤ all
-        → HoldsColumns F.value F.ZERO meet.part (blocks * (2 * meet.half)) first meet.at meet.end before values.old
-        → TakesColumns F.value F.ZERO meet.part (blocks * (2 * meet.half)) first meet.at meet.end after
+        → HoldsColumns F.value F.zero meet.part (blocks * (2 * meet.half)) first meet.at meet.end before values.old
+        → TakesColumns F.value F.zero meet.part (blocks * (2 * meet.half)) first meet.at meet.end after
         values.old values.new }
     ensures grows { products.old ≤ products.new }
     ensures cost { products.new ≤ products.old + R.cost * (blocks * (meet.half * (meet.end - meet.at))) }
@@ -327,7 +327,7 @@ impl<F: TwoAdicField, R: Rule<F>> ChunkWork<F> for Columns<R> {
     ghost accepts = { λ it n size. (it.at ≤ it.end) × ((it.end ≤ it.part) × ((it.first_block + n < 2 ^ 64)
         × ((size ≡ 2 * (it.half * it.part)) × R.has it.rule (it.first_block + n) 0))) };
 
-    ghost takes = { λ it n. MeetInColumns F.value F.ZERO it.part it.half it.at it.end
+    ghost takes = { λ it n. MeetInColumns F.value F.zero it.part it.half it.at it.end
         (R.near F.Element F.ring F.value it.rule (it.first_block + n) 0)
         (R.far F.Element F.ring F.value it.rule (it.first_block + n) 0) };
 
@@ -356,17 +356,17 @@ impl<R> Columns<R> {
         requires low { length low.old ≡ self.now.half * self.now.part }
         requires high { length high.old ≡ self.now.half * self.now.part }
         requires in_table { R.has self.now.rule block 0 }
-        ensures near { let it = self.now in let cell = λ (xs : List F) (n : ℕ). F.value (get_or xs n F.ZERO) in
+        ensures near { let it = self.now in let cell = λ (xs : List F) (n : ℕ). F.value (get_or xs n F.zero) in
             (t j : ℕ) → t < it.half → j < it.part → it.at ≤ j → j < it.end → cell low.new (t * it.part + j)
             ≡ R.near F.Element F.ring F.value it.rule block 0 (cell low.old (t * it.part + j))
             (cell high.old (t * it.part + j)) }
-        ensures far { let it = self.now in let cell = λ (xs : List F) (n : ℕ). F.value (get_or xs n F.ZERO) in
+        ensures far { let it = self.now in let cell = λ (xs : List F) (n : ℕ). F.value (get_or xs n F.zero) in
             (t j : ℕ) → t < it.half → j < it.part → it.at ≤ j → j < it.end → cell high.new (t * it.part + j)
             ≡ R.far F.Element F.ring F.value it.rule block 0 (cell low.old (t * it.part + j))
             (cell high.old (t * it.part + j)) }
         ensures kept { let it = self.now in (t j : ℕ) → t < it.half → j < it.part → (j < it.at) ⊎ (it.end ≤ j)
-            → (get_or low.new (t * it.part + j) F.ZERO ≡ get_or low.old (t * it.part + j) F.ZERO)
-            × (get_or high.new (t * it.part + j) F.ZERO ≡ get_or high.old (t * it.part + j) F.ZERO) }
+            → (get_or low.new (t * it.part + j) F.zero ≡ get_or low.old (t * it.part + j) F.zero)
+            × (get_or high.new (t * it.part + j) F.zero ≡ get_or high.old (t * it.part + j) F.zero) }
         ensures grows { products.old ≤ products.new }
         ensures cost { products.new ≤ products.old + R.cost * (self.now.half * (self.now.end - self.now.at)) }
     {

@@ -33,7 +33,7 @@ pub fn first_half<'a, F: TwoAdicField, T: LayerTwiddles<F>>(
     requires source { IfSome source (λ rows. length rows.now ≡ length values.old) }
     requires parts { mid ≤ log_h }
     requires table { (l : ℕ) → l < mid → T.has table l }
-    ensures values { IsLowHalf F.Field.own (2 ^ (log_h - mid)) mid width (T.at table)
+    ensures values { IsLowHalf F.Valued.own (2 ^ (log_h - mid)) mid width (T.at table)
         (source_of source.entry values.old) values.new }
     ensures cost { RisesAtMost (2 ^ (log_h - mid) * (width * (mid * 2 ^ mid / 2))) products.old products.new }
 {
@@ -61,7 +61,7 @@ impl<F: TwoAdicField, T: LayerTwiddles<F>> ChunkWork<F> for LowLayers<'_, F, T> 
     ghost accepts = { λ it n size. AreRows it.mid it.width size × ((l : ℕ) → l < it.mid → T.has it.table l)
         × IfSome it.source (λ rows. n * size + size ≤ length rows.now) };
 
-    ghost takes = { λ it n before. IsLowNetwork F.Field.own it.mid it.width (T.at it.table)
+    ghost takes = { λ it n before. IsLowNetwork F.Valued.own it.mid it.width (T.at it.table)
         (chunk_of_source it.source n before) };
 
     ghost cost = { λ it size. 2 * (it.width * (it.mid * 2 ^ it.mid / 2)) };
@@ -99,9 +99,9 @@ pub fn second_half<F: TwoAdicField, T: LayerTwiddles<F>>(
 )
     requires rows { AreRows (mid + left) width (length values.old) }
     requires table { (l : ℕ) → mid ≤ l → l < mid + left → T.has table l }
-    ensures values { IsHighHalf F.Field.own (2 ^ mid) mid left width (T.at table)
-        (λ a q j. F.ring.mul (F.value (get_or values.old ((a * 2 ^ left + q) * width + j) F.ZERO))
-        (factor F.Field.own scale)) values.new }
+    ensures values { IsHighHalf F.Valued.own (2 ^ mid) mid left width (T.at table)
+        (λ a q j. F.ring.mul (F.value (get_or values.old ((a * 2 ^ left + q) * width + j) F.zero))
+        (factor F.Valued.own scale)) values.new }
     ensures cost { RisesAtMost (2 ^ mid * (width * (left * 2 ^ left / 2) + scale_cost scale * (2 ^ left * width)))
         products.old products.new }
 {
@@ -130,8 +130,8 @@ pub(crate) struct HighLayers<F, T> {
 impl<F: TwoAdicField, T: LayerTwiddles<F>> ChunkWork<F> for HighLayers<F, T> {
     ghost accepts = { λ it n. IsHighChunk it.mid it.left it.width n (T.has it.table) };
 
-    ghost takes = { λ it n before. IsHighNetwork F.Field.own it.mid it.left it.width n (T.at it.table)
-        (λ q j. F.ring.mul (F.value (get_or before (q * it.width + j) F.ZERO)) (factor F.Field.own it.scale)) };
+    ghost takes = { λ it n before. IsHighNetwork F.Valued.own it.mid it.left it.width n (T.at it.table)
+        (λ q j. F.ring.mul (F.value (get_or before (q * it.width + j) F.zero)) (factor F.Valued.own it.scale)) };
 
     ghost cost = { λ it size. 2 * (it.width * (it.left * 2 ^ it.left / 2)
         + scale_cost it.scale * (2 ^ it.left * it.width)) };
@@ -154,8 +154,8 @@ impl<F: TwoAdicField, T: LayerTwiddles<F>> ChunkWork<F> for HighLayers<F, T> {
 
 // Multiplies all entries by the scale, if there is one.
 fn scale_entries<F: TwoAdicField>(scale: Option<F>, values: &mut [F], products: &mut Products)
-    ensures values { (n : ℕ) → n < length values.old → F.value (get_or values.new n F.ZERO)
-        ≡ F.ring.mul (F.value (get_or values.old n F.ZERO)) (factor F.Field.own scale) }
+    ensures values { (n : ℕ) → n < length values.old → F.value (get_or values.new n F.zero)
+        ≡ F.ring.mul (F.value (get_or values.old n F.zero)) (factor F.Valued.own scale) }
     ensures cost { RisesAtMost (scale_cost scale * length values.old) products.old products.new }
 {
     match scale {
@@ -176,7 +176,7 @@ fn low_network<F: TwoAdicField, T: LayerTwiddles<F>>(
 )
     requires rows { AreRows log_h width (length values.old) }
     requires table { (l : ℕ) → l < log_h → T.has table l }
-    ensures values { IsLowNetwork F.Field.own log_h width (T.at table) values.old values.new }
+    ensures values { IsLowNetwork F.Valued.own log_h width (T.at table) values.old values.new }
     ensures cost { RisesAtMost (width * (log_h * 2 ^ log_h / 2)) products.old products.new }
 {
     for l in 0..log_h {
@@ -198,7 +198,7 @@ fn low_network_oop<F: TwoAdicField, T: LayerTwiddles<F>>(
     requires rows { AreRows log_h width (length values.old) }
     requires source { length source.now ≡ length values.old }
     requires table { (l : ℕ) → l < log_h → T.has table l }
-    ensures values { IsLowNetwork F.Field.own log_h width (T.at table) source.now values.new }
+    ensures values { IsLowNetwork F.Valued.own log_h width (T.at table) source.now values.new }
     ensures cost { RisesAtMost (width * (log_h * 2 ^ log_h / 2)) products.old products.new }
 {
     if log_h == 0 {
@@ -229,7 +229,7 @@ pub(crate) fn one_low_layer<F: TwoAdicField, T: LayerTwiddles<F>>(
     ensures cells { IsLayer (2 ^ (log_h - 1 - l)) (2 ^ l * width)
         (λ b i. dit_near F.ring (F.value (T.at table l (i / width))))
         (λ b i. dit_far F.ring (F.value (T.at table l (i / width))))
-        (λ n. F.value (get_or values.old n F.ZERO)) (λ n. F.value (get_or values.new n F.ZERO)) }
+        (λ n. F.value (get_or values.old n F.zero)) (λ n. F.value (get_or values.new n F.zero)) }
     ensures cost { RisesAtMost (1 * (2 ^ (log_h - 1 - l) * (2 ^ l * width))) products.old products.new }
 {
     let half = 1usize << l;
@@ -267,8 +267,8 @@ pub(crate) fn high_network<F: TwoAdicField, T: LayerTwiddles<F>>(
 )
     requires nonzero { 1 ≤ left }
     requires chunk { IsHighChunk mid left width chunk (T.has table) (length values.old) }
-    ensures values { IsHighNetwork F.Field.own mid left width chunk (T.at table)
-        (λ q j. F.ring.mul (F.value (get_or values.old (q * width + j) F.ZERO)) (factor F.Field.own scale)) values.new }
+    ensures values { IsHighNetwork F.Valued.own mid left width chunk (T.at table)
+        (λ q j. F.ring.mul (F.value (get_or values.old (q * width + j) F.zero)) (factor F.Valued.own scale)) values.new }
     ensures cost { RisesAtMost (width * (left * 2 ^ left / 2) + scale_cost scale * (2 ^ left * width))
         products.old products.new }
 {
@@ -306,7 +306,7 @@ fn first_layer_oop<F: TwoAdicField, T: LayerTwiddles<F>>(
     requires table { T.has table 0 }
     ensures cells { IsLayer pairs width
         (λ b i. dit_near F.ring (F.value (T.at table 0 0))) (λ b i. dit_far F.ring (F.value (T.at table 0 0)))
-        (λ n. F.value (get_or source.now n F.ZERO)) (λ n. F.value (get_or values.new n F.ZERO)) }
+        (λ n. F.value (get_or source.now n F.zero)) (λ n. F.value (get_or values.new n F.zero)) }
     ensures cost { RisesAtMost (1 * (pairs * width)) products.old products.new }
 {
     let first = table.get(0, 0);
@@ -339,7 +339,7 @@ fn layer_by_block<F: TwoAdicField, T: LayerTwiddles<F>>(
     requires table { first_block + blocks ≤ 2 ^ l }
     ensures cells { IsLayer blocks (half * width) (λ b i. dit_near F.ring (F.value (T.at table l (first_block + b))))
         (λ b i. dit_far F.ring (F.value (T.at table l (first_block + b))))
-        (λ n. F.value (get_or values.old n F.ZERO)) (λ n. F.value (get_or values.new n F.ZERO)) }
+        (λ n. F.value (get_or values.old n F.zero)) (λ n. F.value (get_or values.new n F.zero)) }
     ensures cost { RisesAtMost (1 * (blocks * (half * width))) products.old products.new }
 {
     if table.get(l, 0) == F::ONE {
@@ -379,8 +379,8 @@ fn scaled_layer<F: TwoAdicField, T: LayerTwiddles<F>>(
     requires table { block + 1 ≤ 2 ^ l }
     ensures cells { IsLayer 1 (half * width) (λ b i. dit_near F.ring (F.value (T.at table l (block + b))))
         (λ b i. dit_far F.ring (F.value (T.at table l (block + b))))
-        (λ n. F.ring.mul (F.value (get_or values.old n F.ZERO)) (factor F.Field.own scale))
-        (λ n. F.value (get_or values.new n F.ZERO)) }
+        (λ n. F.ring.mul (F.value (get_or values.old n F.zero)) (factor F.Valued.own scale))
+        (λ n. F.value (get_or values.new n F.zero)) }
     ensures cost { RisesAtMost ((1 + scale_cost scale) * (1 * (half * width))) products.old products.new }
 {
     match scale {

@@ -25,7 +25,7 @@ pub trait LayerTwiddles<F: TwoAdicField>: Copy {
     fn in_order(&self, l: usize) -> Option<&[F]>
         requires in_table { has self.now l }
         ensures { IfSome result (λ ts. (2 ^ l ≤ length ts.now)
-            × ((t : ℕ) → t < 2 ^ l → get_or ts.now t F.ZERO ≡ at self.now l t)) }
+            × ((t : ℕ) → t < 2 ^ l → get_or ts.now t F.zero ≡ at self.now l t)) }
     {
         None
     }
@@ -44,7 +44,7 @@ impl<F: TwoAdicField> LayerTwiddles<F> for ByLayer<'_, F> {
 
     ghost has = { λ it l. (l < 63) × (2 * 2 ^ l - 1 ≤ length it.twiddles.now) };
 
-    ghost at = { λ it. by_layer F.ZERO it.twiddles.now };
+    ghost at = { λ it. by_layer F.zero it.twiddles.now };
 
     #[inline(always)]
     fn get(self, l: usize, t: usize) -> F {
@@ -71,7 +71,7 @@ impl<F: TwoAdicField> LayerTwiddles<F> for FromStart<'_, F> {
 
     ghost has = { λ it l. 2 ^ l ≤ length it.twiddles.now };
 
-    ghost at = { λ it. from_start F.ZERO it.twiddles.now };
+    ghost at = { λ it. from_start F.zero it.twiddles.now };
 
     #[inline(always)]
     fn get(self, _l: usize, t: usize) -> F {

@@ -24,10 +24,15 @@ pub(crate) trait NetworkDecimation<F: TwoAdicField>: Decimation<F> {
         ensures { result ≡ order };
 
     /// One pack of pairs, each with a twiddle of its own.
-    fn on_pack<P: PackedField<F>>(self, twiddles: &[F], values: &mut [F], products: &mut Products)
+    fn on_pack<P: PackedField<Scalar = F>>(
+        self,
+        twiddles: &[F],
+        values: &mut [F],
+        products: &mut Products,
+    )
         requires twiddles { length twiddles.now ≡ P.WIDTH }
         requires size { length values.old ≡ 2 * P.WIDTH }
-        ensures pairs { MeetByTwiddles F.Field.own (Self.near F.Element F.ring F.value self)
+        ensures pairs { MeetByTwiddles F.Valued.own (Self.near F.Element F.ring F.value self)
             (Self.far F.Element F.ring F.value self) P.WIDTH twiddles.now values.old values.new }
         ensures count { products.new ≡ products.old + P.WIDTH };
 
@@ -46,7 +51,12 @@ impl<F: TwoAdicField, const FREE: bool> NetworkDecimation<F> for Dit<FREE> {
     }
 
     #[inline(always)]
-    fn on_pack<P: PackedField<F>>(self, twiddles: &[F], values: &mut [F], products: &mut Products) {
+    fn on_pack<P: PackedField<Scalar = F>>(
+        self,
+        twiddles: &[F],
+        values: &mut [F],
+        products: &mut Products,
+    ) {
         let (first, second) = P::load_pairs(values);
         let multiples = second.multiplied(P::load(twiddles), products);
         first
@@ -69,7 +79,12 @@ impl<F: TwoAdicField> NetworkDecimation<F> for Dif {
     }
 
     #[inline(always)]
-    fn on_pack<P: PackedField<F>>(self, twiddles: &[F], values: &mut [F], products: &mut Products) {
+    fn on_pack<P: PackedField<Scalar = F>>(
+        self,
+        twiddles: &[F],
+        values: &mut [F],
+        products: &mut Products,
+    ) {
         let (first, second) = P::load_pairs(values);
         let multiples = first.sub(second).multiplied(P::load(twiddles), products);
         first.add(second).store_pairs(multiples, values);
@@ -86,7 +101,7 @@ pub(crate) fn on_pairs<F: TwoAdicField, D: NetworkDecimation<F>>(
     products: &mut Products,
 )
     requires { length values.old ≡ 2 * length twiddles.now }
-    ensures pairs { MeetByTwiddles F.Field.own (D.near F.Element F.ring F.value decimation)
+    ensures pairs { MeetByTwiddles F.Valued.own (D.near F.Element F.ring F.value decimation)
         (D.far F.Element F.ring F.value decimation) (length twiddles.now) twiddles.now values.old values.new }
     ensures cost { RisesAtMost (length twiddles.now) products.old products.new }
 {
@@ -98,7 +113,7 @@ pub(crate) fn on_pairs<F: TwoAdicField, D: NetworkDecimation<F>>(
 }
 
 // On pairs that fill packs.
-fn on_packs<F: TwoAdicField, P: PackedField<F>, D: NetworkDecimation<F>>(
+fn on_packs<F: TwoAdicField, P: PackedField<Scalar = F>, D: NetworkDecimation<F>>(
     decimation: D,
     twiddles: &[F],
     values: &mut [F],
@@ -107,7 +122,7 @@ fn on_packs<F: TwoAdicField, P: PackedField<F>, D: NetworkDecimation<F>>(
     requires width { 1 ≤ P.WIDTH }
     requires whole { (k : ℕ) × length twiddles.now ≡ k * P.WIDTH }
     requires size { length values.old ≡ 2 * length twiddles.now }
-    ensures pairs { MeetByTwiddles F.Field.own (D.near F.Element F.ring F.value decimation)
+    ensures pairs { MeetByTwiddles F.Valued.own (D.near F.Element F.ring F.value decimation)
         (D.far F.Element F.ring F.value decimation) (length twiddles.now) twiddles.now values.old values.new }
     ensures cost { RisesAtMost (length twiddles.now) products.old products.new }
 {
@@ -131,11 +146,11 @@ struct Packs<'a, F, P, D> {
     of: PhantomData<P>,
 }
 
-impl<F: TwoAdicField, P: PackedField<F>, D: NetworkDecimation<F>> ChunkWork<F>
+impl<F: TwoAdicField, P: PackedField<Scalar = F>, D: NetworkDecimation<F>> ChunkWork<F>
     for Packs<'_, F, P, D> {
     ghost accepts = { λ it n size. (size ≡ 2 * P.WIDTH) × (n * P.WIDTH + P.WIDTH ≤ length it.twiddles.now) };
 
-    ghost takes = { λ it n. MeetByTwiddles F.Field.own (D.near F.Element F.ring F.value it.decimation)
+    ghost takes = { λ it n. MeetByTwiddles F.Valued.own (D.near F.Element F.ring F.value it.decimation)
         (D.far F.Element F.ring F.value it.decimation) P.WIDTH (chunk_of P.WIDTH n it.twiddles.now) };
 
     ghost cost = { λ it size. size };

@@ -27,9 +27,9 @@ pub fn network_g<F: TwoAdicField>(
     requires fits_u64 { log_h < 64 }
     requires within { log_h ≤ F.TWO_ADICITY }
     requires size { length values.old ≡ 2 ^ log_h * width }
-    requires twiddles { AreTwiddles F.Field.own (2 ^ (log_h - 1))
+    requires twiddles { AreTwiddles F.Valued.own (2 ^ (log_h - 1))
         (λ b. power F.ring (F.value (F.generator log_h)) (rev (log_h - 1) b)) twiddles.now }
-    ensures values { AreValuesOfRows F.Field.own width (2 ^ log_h) (rev log_h)
+    ensures values { AreValuesOfRows F.Valued.own width (2 ^ log_h) (rev log_h)
         (λ r. power F.ring (F.value (F.generator log_h)) r) values.old values.new }
     ensures grows { products.old ≤ products.new }
     ensures cost { products.new ≤ products.old + width * (log_h * 2 ^ log_h / 2) }
@@ -56,10 +56,10 @@ pub fn network_g_transposed<F: TwoAdicField>(
     requires fits_u64 { log_h < 64 }
     requires within { log_h ≤ F.TWO_ADICITY }
     requires size { length values.old ≡ 2 ^ log_h * width }
-    requires twiddles { AreTwiddles F.Field.own (2 ^ (log_h - 1))
+    requires twiddles { AreTwiddles F.Valued.own (2 ^ (log_h - 1))
         (λ b. power F.ring (power F.ring (F.value (F.generator log_h)) (2 ^ log_h - 1)) (rev (log_h - 1) b))
         twiddles.now }
-    ensures values { AreValuesOfRows F.Field.own width (2 ^ log_h) (λ q. q)
+    ensures values { AreValuesOfRows F.Valued.own width (2 ^ log_h) (λ q. q)
         (λ r. power F.ring (power F.ring (F.value (F.generator log_h)) (2 ^ log_h - 1)) (rev log_h r)) values.old
         values.new }
     ensures grows { products.old ≤ products.new }

@@ -34,8 +34,8 @@ pub fn dit_network_to_natural<F: TwoAdicField, T: LayerTwiddles<F>>(
     requires size { length values.old ≡ 2 ^ log_h * width }
     requires table { (l : ℕ) → l < log_h → T.has table l }
     requires twiddles { (l t : ℕ) → l < log_h → t < 2 ^ l
-        → F.value (T.at table l t) ≡ root_powers F.Field.own F.generator false l t }
-    ensures values { AreValuesOfRows F.Field.own width (2 ^ log_h) (rev log_h)
+        → F.value (T.at table l t) ≡ root_powers F.Valued.own F.generator false l t }
+    ensures values { AreValuesOfRows F.Valued.own width (2 ^ log_h) (rev log_h)
         (λ r. power F.ring (F.value (F.generator log_h)) r) values.old values.new }
     ensures grows { products.old ≤ products.new }
     ensures cost { products.new ≤ products.old + width * (log_h * 2 ^ log_h / 2) }
@@ -66,8 +66,8 @@ fn network_in_cache<F: TwoAdicField, T: LayerTwiddles<F>>(
     requires size { length values.old ≡ 2 ^ log_h * width }
     requires table { (l : ℕ) → l < log_h → T.has table l }
     requires twiddles { (l t : ℕ) → l < log_h → t < 2 ^ l
-        → F.value (T.at table l t) ≡ root_powers F.Field.own F.generator false l t }
-    ensures values { AreValuesOfRows F.Field.own width (2 ^ log_h) (rev log_h)
+        → F.value (T.at table l t) ≡ root_powers F.Valued.own F.generator false l t }
+    ensures values { AreValuesOfRows F.Valued.own width (2 ^ log_h) (rev log_h)
         (λ r. power F.ring (F.value (F.generator log_h)) r) values.old values.new }
     ensures grows { products.old ≤ products.new }
     ensures cost { products.new ≤ products.old + width * (log_h * 2 ^ log_h / 2) }

@@ -35,9 +35,9 @@ impl<F: TwoAdicField> Model for RootTables<F> {
     ghost invariant = { λ t.
         (length (items_if_any t.forward) ≡ 2 ^ t.log_h / 2)
         × (length (items_if_any t.backward) ≡ 2 ^ t.log_h / 2)
-        × AreTwiddlesFromStart F.Field t.log_h (block_powers F.Field (forward_root F.Field F.generator))
+        × AreTwiddlesFromStart F.Valued t.log_h (block_powers F.Valued (forward_root F.Valued F.generator))
         (items_if_any t.forward)
-        × AreTwiddlesFromStart F.Field t.log_h (block_powers F.Field (backward_root F.Field F.generator))
+        × AreTwiddlesFromStart F.Valued t.log_h (block_powers F.Valued (backward_root F.Valued F.generator))
         (items_if_any t.backward) };
 }
 
@@ -87,8 +87,8 @@ impl<F: TwoAdicField> RootTables<F> {
     /// The powers of the generators: half as many as the height, and none for height one.
     pub fn forward(&self) -> &[F]
         ensures size { length result.now ≡ 2 ^ self.now / 2 }
-        ensures table { AreTwiddlesFromStart F.Field.own self.now
-            (block_powers F.Field.own (forward_root F.Field.own F.generator)) result.now }
+        ensures table { AreTwiddlesFromStart F.Valued.own self.now
+            (block_powers F.Valued.own (forward_root F.Valued.own F.generator)) result.now }
     {
         held(&self.forward)
     }
@@ -96,8 +96,8 @@ impl<F: TwoAdicField> RootTables<F> {
     /// The powers of their inverses, as many.
     pub fn backward(&self) -> &[F]
         ensures size { length result.now ≡ 2 ^ self.now / 2 }
-        ensures table { AreTwiddlesFromStart F.Field.own self.now
-            (block_powers F.Field.own (backward_root F.Field.own F.generator)) result.now }
+        ensures table { AreTwiddlesFromStart F.Valued.own self.now
+            (block_powers F.Valued.own (backward_root F.Valued.own F.generator)) result.now }
     {
         held(&self.backward)
     }
@@ -114,10 +114,10 @@ fn inverse_powers<F: TwoAdicField>(
     requires nonzero { 1 ≤ log_h }
     requires fits_u64 { log_h < 64 }
     requires within { log_h ≤ F.TWO_ADICITY }
-    requires powers { AreTwiddles F.Field.own (2 ^ (log_h - 1))
-        (block_powers F.Field.own (forward_root F.Field.own F.generator) (log_h - 1)) powers.now }
-    ensures powers { IfOk result (λ v. AreTwiddles F.Field.own (2 ^ (log_h - 1))
-        (block_powers F.Field.own (backward_root F.Field.own F.generator) (log_h - 1)) v.items) }
+    requires powers { AreTwiddles F.Valued.own (2 ^ (log_h - 1))
+        (block_powers F.Valued.own (forward_root F.Valued.own F.generator) (log_h - 1)) powers.now }
+    ensures powers { IfOk result (λ v. AreTwiddles F.Valued.own (2 ^ (log_h - 1))
+        (block_powers F.Valued.own (backward_root F.Valued.own F.generator) (log_h - 1)) v.items) }
     ensures room { IfErr result (IsWithin (length powers.now)) }
 {
     let mut inverse = growth::with_capacity(alloc, powers.len())?;

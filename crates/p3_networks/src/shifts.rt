@@ -16,8 +16,8 @@ pub fn shift_values<F: TwoAdicField>(
     products: &mut Products,
 )
     requires { length values.old ≡ height * width }
-    ensures values { (i j : ℕ) → i < height → j < width → F.value (get_or values.new (i * width + j) F.ZERO)
-        ≡ F.ring.mul (F.value (get_or values.old (i * width + j) F.ZERO)) (power F.ring (F.value shift) i) }
+    ensures values { (i j : ℕ) → i < height → j < width → F.value (get_or values.new (i * width + j) F.zero)
+        ≡ F.ring.mul (F.value (get_or values.old (i * width + j) F.zero)) (power F.ring (F.value shift) i) }
     ensures grows { products.old ≤ products.new }
     ensures cost { products.new ≤ products.old + height * width }
 {
@@ -44,8 +44,8 @@ pub fn copy_shifted<F: TwoAdicField>(
 )
     requires source { length rows.now ≡ height * width }
     requires size { length values.old ≡ height * width }
-    ensures values { (i j : ℕ) → i < height → j < width → F.value (get_or values.new (i * width + j) F.ZERO)
-        ≡ F.ring.mul (F.value (get_or rows.now (i * width + j) F.ZERO)) (power F.ring (F.value shift) i) }
+    ensures values { (i j : ℕ) → i < height → j < width → F.value (get_or values.new (i * width + j) F.zero)
+        ≡ F.ring.mul (F.value (get_or rows.now (i * width + j) F.zero)) (power F.ring (F.value shift) i) }
     ensures count { products.new ≡ products.old + height * width }
 {
     let mut factor = F::ONE;

@@ -45,8 +45,8 @@ fn layer_of_chunk<F: TwoAdicField, D: NetworkDecimation<F>>(
 )
     requires below { log_half < top }
     requires chunk { IsChunk width top number (length twiddles.now) (length values.old) }
-    requires first { D.asks F.Element F.ring (F.value (get_or twiddles.now 0 F.ZERO)) }
-    ensures cells { DoesLayers F.Field.own D.order (D.near F.Element F.ring F.value decimation)
+    requires first { D.asks F.Element F.ring (F.value (get_or twiddles.now 0 F.zero)) }
+    ensures cells { DoesLayers F.Valued.own D.order (D.near F.Element F.ring F.value decimation)
         (D.far F.Element F.ring F.value decimation) twiddles.now width top number log_half (log_half + 1)
         values.old values.new }
     ensures cost { RisesAtMost (D.cost * length values.old) (2 * products.old) (2 * products.new) }
@@ -72,8 +72,8 @@ fn layer_of_pairs<F: TwoAdicField, D: NetworkDecimation<F>>(
     products: &mut Products,
 )
     requires chunk { IsChunk 1 SHORT_LAYERS number (length twiddles.now) (length values.old) }
-    requires first { D.asks F.Element F.ring (F.value (get_or twiddles.now 0 F.ZERO)) }
-    ensures cells { DoesLayers F.Field.own D.order (D.near F.Element F.ring F.value decimation)
+    requires first { D.asks F.Element F.ring (F.value (get_or twiddles.now 0 F.zero)) }
+    ensures cells { DoesLayers F.Valued.own D.order (D.near F.Element F.ring F.value decimation)
         (D.far F.Element F.ring F.value decimation) twiddles.now 1 SHORT_LAYERS number 0 1
         values.old values.new }
     ensures cost { RisesAtMost (D.cost * length values.old) (2 * products.old) (2 * products.new) }
@@ -96,8 +96,8 @@ fn layers_of_chunk<F: TwoAdicField, D: NetworkDecimation<F>>(
 )
     requires below { from ≤ top }
     requires chunk { IsChunk width top number (length twiddles.now) (length values.old) }
-    requires first { D.asks F.Element F.ring (F.value (get_or twiddles.now 0 F.ZERO)) }
-    ensures cells { DoesLayers F.Field.own D.order (D.near F.Element F.ring F.value decimation)
+    requires first { D.asks F.Element F.ring (F.value (get_or twiddles.now 0 F.zero)) }
+    ensures cells { DoesLayers F.Valued.own D.order (D.near F.Element F.ring F.value decimation)
         (D.far F.Element F.ring F.value decimation) twiddles.now width top number from top
         values.old values.new }
     ensures cost { RisesAtMost (D.cost * ((top - from) * length values.old)) (2 * products.old) (2 * products.new) }
@@ -125,14 +125,14 @@ fn layers_of_tiles<F: TwoAdicField, D: NetworkDecimation<F>>(
     requires rows { AreRows log_h width (length values.old) }
     requires below { log_rows ≤ log_h }
     requires enough { 2 ^ log_h ≤ 2 * length twiddles.now }
-    requires first { D.asks F.Element F.ring (F.value (get_or twiddles.now 0 F.ZERO)) }
+    requires first { D.asks F.Element F.ring (F.value (get_or twiddles.now 0 F.zero)) }
     ensures cells { (cells : ℕ → ℕ → F.Element)
         → AreLayersInOrder D.order log_h width
-        (λ b. D.near F.Element F.ring F.value decimation (F.value (get_or twiddles.now b F.ZERO)))
-        (λ b. D.far F.Element F.ring F.value decimation (F.value (get_or twiddles.now b F.ZERO)))
+        (λ b. D.near F.Element F.ring F.value decimation (F.value (get_or twiddles.now b F.zero)))
+        (λ b. D.far F.Element F.ring F.value decimation (F.value (get_or twiddles.now b F.zero)))
         cells
-        → HoldsCells F.value F.ZERO 0 (cells (cells_of D.order 0 log_rows 0)) values.old
-        → HoldsCells F.value F.ZERO 0 (cells (cells_of D.order 0 log_rows (log_rows - 0))) values.new }
+        → HoldsCells F.value F.zero 0 (cells (cells_of D.order 0 log_rows 0)) values.old
+        → HoldsCells F.value F.zero 0 (cells (cells_of D.order 0 log_rows (log_rows - 0))) values.new }
     ensures cost { RisesAtMost (D.cost * (log_rows * length values.old)) (2 * products.old) (2 * products.new) }
 {
     let tiles = 1usize << (log_h - log_rows);
@@ -157,9 +157,9 @@ struct TileLayers<'a, F, D> {
 
 impl<F: TwoAdicField, D: NetworkDecimation<F>> ChunkWork<F> for TileLayers<'_, F, D> {
     ghost accepts = { λ it n size. IsChunk it.width it.log_rows n (length it.twiddles.now) size
-        × D.asks F.Element F.ring (F.value (get_or it.twiddles.now 0 F.ZERO)) };
+        × D.asks F.Element F.ring (F.value (get_or it.twiddles.now 0 F.zero)) };
 
-    ghost takes = { λ it n. DoesLayers F.Field.own D.order (D.near F.Element F.ring F.value it.decimation)
+    ghost takes = { λ it n. DoesLayers F.Valued.own D.order (D.near F.Element F.ring F.value it.decimation)
         (D.far F.Element F.ring F.value it.decimation) it.twiddles.now it.width it.log_rows n 0 it.log_rows };
 
     ghost cost = { λ it size. D.cost * (it.log_rows * size) };
@@ -191,8 +191,8 @@ fn layers_of_tile<F: TwoAdicField, D: NetworkDecimation<F>>(
     products: &mut Products,
 )
     requires chunk { IsChunk width top number (length twiddles.now) (length values.old) }
-    requires first { D.asks F.Element F.ring (F.value (get_or twiddles.now 0 F.ZERO)) }
-    ensures cells { DoesLayers F.Field.own D.order (D.near F.Element F.ring F.value decimation)
+    requires first { D.asks F.Element F.ring (F.value (get_or twiddles.now 0 F.zero)) }
+    ensures cells { DoesLayers F.Valued.own D.order (D.near F.Element F.ring F.value decimation)
         (D.far F.Element F.ring F.value decimation) twiddles.now width top number 0 top
         values.old values.new }
     ensures cost { RisesAtMost (D.cost * (top * length values.old)) (2 * products.old) (2 * products.new) }
@@ -228,8 +228,8 @@ fn layers_of_short_chunks<F: TwoAdicField, D: NetworkDecimation<F>>(
 )
     requires height { SHORT_LAYERS ≤ top }
     requires chunk { IsChunk 1 top number (length twiddles.now) (length values.old) }
-    requires first { D.asks F.Element F.ring (F.value (get_or twiddles.now 0 F.ZERO)) }
-    ensures cells { DoesLayers F.Field.own D.order (D.near F.Element F.ring F.value decimation)
+    requires first { D.asks F.Element F.ring (F.value (get_or twiddles.now 0 F.zero)) }
+    ensures cells { DoesLayers F.Valued.own D.order (D.near F.Element F.ring F.value decimation)
         (D.far F.Element F.ring F.value decimation) twiddles.now 1 top number 0 SHORT_LAYERS
         values.old values.new }
     ensures cost { RisesAtMost (D.cost * (SHORT_LAYERS * length values.old)) (2 * products.old) (2 * products.new) }
@@ -256,9 +256,9 @@ impl<F: TwoAdicField, D: NetworkDecimation<F>> ChunkWork<F> for ShortLayers<'_, 
     ghost use Rattle.p3_networks.specs.declared.tiles.TheConstants.{SHORT_LAYERS};
 
     ghost accepts = { λ it n size. IsChunk 1 SHORT_LAYERS (it.first + n) (length it.twiddles.now) size
-        × D.asks F.Element F.ring (F.value (get_or it.twiddles.now 0 F.ZERO)) };
+        × D.asks F.Element F.ring (F.value (get_or it.twiddles.now 0 F.zero)) };
 
-    ghost takes = { λ it n. DoesLayers F.Field.own D.order (D.near F.Element F.ring F.value it.decimation)
+    ghost takes = { λ it n. DoesLayers F.Valued.own D.order (D.near F.Element F.ring F.value it.decimation)
         (D.far F.Element F.ring F.value it.decimation) it.twiddles.now 1 SHORT_LAYERS (it.first + n)
         0 SHORT_LAYERS };
 
@@ -281,8 +281,8 @@ fn layers_of_short_chunk<F: TwoAdicField, D: NetworkDecimation<F>>(
     products: &mut Products,
 )
     requires chunk { IsChunk 1 SHORT_LAYERS number (length twiddles.now) (length values.old) }
-    requires first { D.asks F.Element F.ring (F.value (get_or twiddles.now 0 F.ZERO)) }
-    ensures cells { DoesLayers F.Field.own D.order (D.near F.Element F.ring F.value decimation)
+    requires first { D.asks F.Element F.ring (F.value (get_or twiddles.now 0 F.zero)) }
+    ensures cells { DoesLayers F.Valued.own D.order (D.near F.Element F.ring F.value decimation)
         (D.far F.Element F.ring F.value decimation) twiddles.now 1 SHORT_LAYERS number 0 SHORT_LAYERS
         values.old values.new }
     ensures cost { RisesAtMost (D.cost * (SHORT_LAYERS * length values.old)) (2 * products.old) (2 * products.new) }
@@ -320,14 +320,14 @@ fn scaled_dif_tiles<F: TwoAdicField>(
 )
     requires rows { AreRows log_h width (length values.old) }
     requires below { log_rows ≤ log_h }
-    requires first { F.value (get_or twiddles.now 0 F.ZERO) ≡ F.ring.one }
+    requires first { F.value (get_or twiddles.now 0 F.zero) ≡ F.ring.one }
     requires enough { 2 ^ log_h ≤ 2 * length twiddles.now }
     ensures cells { (cells : ℕ → ℕ → F.Element)
-        → AreLayers log_h width (λ b. dif_near F.ring (F.value (get_or twiddles.now b F.ZERO)))
-        (λ b. dif_far F.ring (F.value (get_or twiddles.now b F.ZERO)))
+        → AreLayers log_h width (λ b. dif_near F.ring (F.value (get_or twiddles.now b F.zero)))
+        (λ b. dif_far F.ring (F.value (get_or twiddles.now b F.zero)))
         cells (λ e. cells (e + 1))
-        → HoldsCells F.value F.ZERO 0 (cells 0) values.old
-        → HoldsCells F.value F.ZERO 0 (λ i. F.ring.mul (cells log_rows i) (F.value scale)) values.new }
+        → HoldsCells F.value F.zero 0 (cells 0) values.old
+        → HoldsCells F.value F.zero 0 (λ i. F.ring.mul (cells log_rows i) (F.value scale)) values.new }
     ensures cost { RisesAtMost ((log_rows + 2) * length values.old) (2 * products.old) (2 * products.new) }
 {
     let tiles = 1usize << (log_h - log_rows);
@@ -352,15 +352,15 @@ struct ScaledTileLayers<'a, F> {
 
 impl<F: TwoAdicField> ChunkWork<F> for ScaledTileLayers<'_, F> {
     ghost accepts = { λ it n size. IsChunk it.width it.log_rows n (length it.twiddles.now) size
-        × (F.value (get_or it.twiddles.now 0 F.ZERO) ≡ F.ring.one) };
+        × (F.value (get_or it.twiddles.now 0 F.zero) ≡ F.ring.one) };
 
-    ghost takes = { λ it n before after. let twiddle = λ (b : ℕ). F.value (get_or it.twiddles.now b F.ZERO) in
+    ghost takes = { λ it n before after. let twiddle = λ (b : ℕ). F.value (get_or it.twiddles.now b F.zero) in
         (k : ℕ) (cells : ℕ → ℕ → F.Element)
         → AreLayers k it.width (λ b. dif_near F.ring (twiddle b)) (λ b. dif_far F.ring (twiddle b))
         cells (λ e. cells (e + 1))
         → (n + 1) * 2 ^ it.log_rows ≤ 2 ^ k
-        → HoldsCells F.value F.ZERO (n * length before) (cells 0) before
-        → HoldsCells F.value F.ZERO (n * length before) (λ i. F.ring.mul (cells it.log_rows i) (F.value it.scale))
+        → HoldsCells F.value F.zero (n * length before) (cells 0) before
+        → HoldsCells F.value F.zero (n * length before) (λ i. F.ring.mul (cells it.log_rows i) (F.value it.scale))
         after };
 
     ghost cost = { λ it size. (it.log_rows + 2) * size };
@@ -418,14 +418,14 @@ fn layers_then_scale<F: TwoAdicField>(
     products: &mut Products,
 )
     requires chunk { IsChunk width top number (length twiddles.now) (length values.old) }
-    requires first { F.value (get_or twiddles.now 0 F.ZERO) ≡ F.ring.one }
-    ensures cells { let twiddle = λ (b : ℕ). F.value (get_or twiddles.now b F.ZERO) in
+    requires first { F.value (get_or twiddles.now 0 F.zero) ≡ F.ring.one }
+    ensures cells { let twiddle = λ (b : ℕ). F.value (get_or twiddles.now b F.zero) in
         (k : ℕ) (cells : ℕ → ℕ → F.Element)
         → AreLayers k width (λ b. dif_near F.ring (twiddle b)) (λ b. dif_far F.ring (twiddle b))
         cells (λ e. cells (e + 1))
         → (number + 1) * 2 ^ top ≤ 2 ^ k
-        → HoldsCells F.value F.ZERO (number * length values.old) (cells 0) values.old
-        → HoldsCells F.value F.ZERO (number * length values.old) (λ i. F.ring.mul (cells top i) (F.value scale))
+        → HoldsCells F.value F.zero (number * length values.old) (cells 0) values.old
+        → HoldsCells F.value F.zero (number * length values.old) (λ i. F.ring.mul (cells top i) (F.value scale))
         values.new }
     ensures cost { RisesAtMost ((top + 2) * length values.old) (2 * products.old) (2 * products.new) }
 {
@@ -444,10 +444,10 @@ fn join_scaled<F: TwoAdicField>(
     products: &mut Products,
 )
     requires { length low.old ≡ length high.old }
-    ensures near { let cell = λ (xs : List F) (n : ℕ). F.value (get_or xs n F.ZERO) in
+    ensures near { let cell = λ (xs : List F) (n : ℕ). F.value (get_or xs n F.zero) in
         (j : ℕ) → j < length low.old → cell low.new j
         ≡ F.ring.mul (dif_near F.ring (F.value twiddle) (cell low.old j) (cell high.old j)) (F.value scale) }
-    ensures far { let cell = λ (xs : List F) (n : ℕ). F.value (get_or xs n F.ZERO) in
+    ensures far { let cell = λ (xs : List F) (n : ℕ). F.value (get_or xs n F.zero) in
         (j : ℕ) → j < length low.old → cell high.new j
         ≡ F.ring.mul (dif_far F.ring (F.value twiddle) (cell low.old j) (cell high.old j)) (F.value scale) }
     ensures count { products.new ≡ products.old + 2 * length low.old }
@@ -474,11 +474,11 @@ pub fn dit_network_to_reversed<F: TwoAdicField>(
     requires fits_u64 { log_h < 64 }
     requires piece { 1 ≤ piece }
     requires size { length values.old ≡ 2 ^ log_h * width }
-    requires first { F.value (get_or twiddles.now 0 F.ZERO) ≡ F.ring.one }
+    requires first { F.value (get_or twiddles.now 0 F.zero) ≡ F.ring.one }
     requires enough { 2 ^ log_h ≤ 2 * length twiddles.now }
     ensures values { (bits : ℕ) (root : ℕ → F.Element) → AreRoots F.ring bits root → log_h ≤ bits
-        → AreTwiddlesFromStart F.Field.own log_h (block_powers F.Field.own root) twiddles.now
-        → AreValuesOfRows F.Field.own width (2 ^ log_h) (λ q. q)
+        → AreTwiddlesFromStart F.Valued.own log_h (block_powers F.Valued.own root) twiddles.now
+        → AreValuesOfRows F.Valued.own width (2 ^ log_h) (λ q. q)
         (λ r. power F.ring (root log_h) (rev log_h r)) values.old values.new }
     ensures grows { products.old ≤ products.new }
     ensures cost { products.new ≤ products.old + width * (log_h * 2 ^ log_h / 2) }
@@ -524,11 +524,11 @@ pub fn dif_network<F: TwoAdicField>(
     requires fits_u64 { log_h < 64 }
     requires piece { 1 ≤ piece }
     requires size { length values.old ≡ 2 ^ log_h * width }
-    requires first { F.value (get_or twiddles.now 0 F.ZERO) ≡ F.ring.one }
+    requires first { F.value (get_or twiddles.now 0 F.zero) ≡ F.ring.one }
     requires enough { 2 ^ log_h ≤ 2 * length twiddles.now }
     ensures values { (bits : ℕ) (root : ℕ → F.Element) → AreRoots F.ring bits root → log_h ≤ bits
-        → AreTwiddlesFromStart F.Field.own log_h (block_powers F.Field.own root) twiddles.now
-        → AreValuesOfRows F.Field.own width (2 ^ log_h) (rev log_h) (power F.ring (root log_h)) values.old values.new }
+        → AreTwiddlesFromStart F.Valued.own log_h (block_powers F.Valued.own root) twiddles.now
+        → AreValuesOfRows F.Valued.own width (2 ^ log_h) (rev log_h) (power F.ring (root log_h)) values.old values.new }
     ensures grows { products.old ≤ products.new }
     ensures cost { products.new ≤ products.old + width * (log_h * 2 ^ log_h / 2) }
 {
@@ -569,12 +569,12 @@ pub fn scaled_dif_network<F: TwoAdicField>(
     requires piece { 1 ≤ piece }
     requires within { log_h ≤ F.TWO_ADICITY }
     requires size { length values.old ≡ 2 ^ log_h * width }
-    requires twiddles { AreTwiddlesFromStart F.Field.own log_h
-        (block_powers F.Field.own (backward_root F.Field.own F.generator)) twiddles.now }
-    ensures values { (r j : ℕ) → r < 2 ^ log_h → j < width → F.value (get_or values.new (r * width + j) F.ZERO)
-        ≡ poly F.ring (2 ^ log_h) (λ q. F.ring.mul (F.value (get_or values.old (rev log_h q * width + j) F.ZERO))
+    requires twiddles { AreTwiddlesFromStart F.Valued.own log_h
+        (block_powers F.Valued.own (backward_root F.Valued.own F.generator)) twiddles.now }
+    ensures values { (r j : ℕ) → r < 2 ^ log_h → j < width → F.value (get_or values.new (r * width + j) F.zero)
+        ≡ poly F.ring (2 ^ log_h) (λ q. F.ring.mul (F.value (get_or values.old (rev log_h q * width + j) F.zero))
         (F.value scale))
-        (power F.ring (backward_root F.Field.own F.generator log_h) r) }
+        (power F.ring (backward_root F.Valued.own F.generator log_h) r) }
     ensures grows { products.old ≤ products.new }
     ensures cost { products.new ≤ products.old + width * (log_h * 2 ^ log_h / 2) + 2 ^ log_h * width }
 {
@@ -605,8 +605,8 @@ fn multiples_of_row<F: TwoAdicField>(
 )
     requires { length values.old ≡ count * length row.now }
     ensures values { (t j : ℕ) → t < count → j < length row.now
-        → F.value (get_or values.new (t * length row.now + j) F.ZERO)
-        ≡ F.ring.mul (F.value (get_or row.now j F.ZERO)) (F.ring.mul (F.value first) (power F.ring (F.value step) t)) }
+        → F.value (get_or values.new (t * length row.now + j) F.zero)
+        ≡ F.ring.mul (F.value (get_or row.now j F.zero)) (F.ring.mul (F.value first) (power F.ring (F.value step) t)) }
     ensures grows { products.old ≤ products.new }
     ensures cost { products.new ≤ products.old + count * length row.now }
 {
@@ -629,8 +629,8 @@ fn multiples_one_by_one<F: TwoAdicField>(
 )
     requires { length values.old ≡ count * length row.now }
     ensures values { (t j : ℕ) → t < count → j < length row.now
-        → F.value (get_or values.new (t * length row.now + j) F.ZERO)
-        ≡ F.ring.mul (F.value (get_or row.now j F.ZERO)) (F.ring.mul (F.value first) (power F.ring (F.value step) t)) }
+        → F.value (get_or values.new (t * length row.now + j) F.zero)
+        ≡ F.ring.mul (F.value (get_or row.now j F.zero)) (F.ring.mul (F.value first) (power F.ring (F.value step) t)) }
     ensures count { products.new ≡ products.old + count * length row.now }
 {
     let width = row.len();
@@ -654,8 +654,8 @@ fn multiples_by_doubling<F: TwoAdicField>(
 )
     requires { length values.old ≡ count * length row.now }
     ensures values { (t j : ℕ) → t < count → j < length row.now
-        → F.value (get_or values.new (t * length row.now + j) F.ZERO)
-        ≡ F.ring.mul (F.value (get_or row.now j F.ZERO)) (F.ring.mul (F.value first) (power F.ring (F.value step) t)) }
+        → F.value (get_or values.new (t * length row.now + j) F.zero)
+        ≡ F.ring.mul (F.value (get_or row.now j F.zero)) (F.ring.mul (F.value first) (power F.ring (F.value step) t)) }
     ensures grows { products.old ≤ products.new }
     ensures cost { products.new ≤ products.old + count * length row.now }
 {
@@ -687,9 +687,9 @@ fn scale_behind<F: TwoAdicField>(
 )
     requires in_table { count ≤ size }
     requires room { size + count ≤ length values.old }
-    ensures kept { (n : ℕ) → n < size → get_or values.new n F.ZERO ≡ get_or values.old n F.ZERO }
-    ensures scaled { (n : ℕ) → n < count → F.value (get_or values.new (size + n) F.ZERO)
-        ≡ F.ring.mul (F.value (get_or values.old n F.ZERO)) (F.value factor) }
+    ensures kept { (n : ℕ) → n < size → get_or values.new n F.zero ≡ get_or values.old n F.zero }
+    ensures scaled { (n : ℕ) → n < count → F.value (get_or values.new (size + n) F.zero)
+        ≡ F.ring.mul (F.value (get_or values.old n F.zero)) (F.value factor) }
     ensures grows { products.old ≤ products.new }
     ensures cost { products.new ≤ products.old + count }
 {
@@ -721,7 +721,7 @@ impl<F: TwoAdicField> ChunkWork<F> for SpreadRows<'_, F> {
         × ((it.first + n) * it.width + it.width ≤ length it.rows.now) × (it.first + n < length it.weights.now)
         × ((it.first + n) * it.copies + it.copies ≤ 2 * length it.twiddles.now) };
 
-    ghost takes = { λ it n before after. let cell = λ (xs : List F) (i : ℕ). F.value (get_or xs i F.ZERO) in
+    ghost takes = { λ it n before after. let cell = λ (xs : List F) (i : ℕ). F.value (get_or xs i F.zero) in
         let number = it.first + n in
         (t j : ℕ) → t < it.copies → j < it.width → cell after (t * it.width + j)
         ≡ F.ring.mul (cell it.rows.now (number * it.width + j)) (F.ring.mul (cell it.weights.now number)
@@ -774,20 +774,20 @@ fn spread_tiles<F: TwoAdicField>(
     requires size { length values.old ≡ 2 ^ log_h * width }
     requires rows { length coefficients.rows.now ≡ 2 ^ (log_h - coefficients.added_bits) * width }
     requires weights { length coefficients.weights.now ≡ 2 ^ (log_h - coefficients.added_bits) }
-    requires first { F.value (get_or twiddles.now 0 F.ZERO) ≡ F.ring.one }
+    requires first { F.value (get_or twiddles.now 0 F.zero) ≡ F.ring.one }
     requires nonzero { 1 ≤ length twiddles.now }
     requires enough { 2 ^ log_h ≤ 2 * length twiddles.now }
     ensures cells { (cells : ℕ → ℕ → F.Element)
-        → AreLayers log_h width (λ b. dif_near F.ring (F.value (get_or twiddles.now b F.ZERO)))
-        (λ b. dif_far F.ring (F.value (get_or twiddles.now b F.ZERO)))
+        → AreLayers log_h width (λ b. dif_near F.ring (F.value (get_or twiddles.now b F.zero)))
+        (λ b. dif_far F.ring (F.value (get_or twiddles.now b F.zero)))
         cells (λ e. cells (e + 1))
         → ((q t j : ℕ) → q < 2 ^ (log_h - coefficients.entry.added_bits) → t < 2 ^ coefficients.entry.added_bits
         → j < width
         → cells coefficients.entry.added_bits ((q * 2 ^ coefficients.entry.added_bits + t) * width + j)
-        ≡ F.ring.mul (F.value (get_or coefficients.entry.rows.now (q * width + j) F.ZERO))
-        (F.ring.mul (F.value (get_or coefficients.entry.weights.now q F.ZERO))
-        (power F.ring (F.value (get_or twiddles.now (q * (2 ^ coefficients.entry.added_bits / 2)) F.ZERO)) t)))
-        → HoldsCells F.value F.ZERO 0 (cells log_rows) values.new }
+        ≡ F.ring.mul (F.value (get_or coefficients.entry.rows.now (q * width + j) F.zero))
+        (F.ring.mul (F.value (get_or coefficients.entry.weights.now q F.zero))
+        (power F.ring (F.value (get_or twiddles.now (q * (2 ^ coefficients.entry.added_bits / 2)) F.zero)) t)))
+        → HoldsCells F.value F.zero 0 (cells log_rows) values.new }
     ensures grows { products.old ≤ products.new }
     ensures cost { 2 * products.new
         ≤ 2 * products.old + (log_rows - coefficients.entry.added_bits + 2) * length values.old }
@@ -817,20 +817,20 @@ impl<F: TwoAdicField> ChunkWork<F> for SpreadTileLayers<'_, F> {
         IsChunk it.width it.log_rows n (length it.twiddles.now) size × ((it.coefficients.added_bits ≤ it.log_rows)
         × (((n * count + count) * it.width ≤ length it.coefficients.rows.now)
         × ((n * count + count ≤ length it.coefficients.weights.now)
-        × (F.value (get_or it.twiddles.now 0 F.ZERO) ≡ F.ring.one)))) };
+        × (F.value (get_or it.twiddles.now 0 F.zero) ≡ F.ring.one)))) };
 
     ghost takes = { λ it n before after. let count = 2 ^ (it.log_rows - it.coefficients.added_bits) in
-        let twiddle = λ (b : ℕ). F.value (get_or it.twiddles.now b F.ZERO) in
+        let twiddle = λ (b : ℕ). F.value (get_or it.twiddles.now b F.zero) in
         (k : ℕ) (cells : ℕ → ℕ → F.Element)
         → AreLayers k it.width (λ b. dif_near F.ring (twiddle b)) (λ b. dif_far F.ring (twiddle b))
         cells (λ e. cells (e + 1))
         → (n + 1) * 2 ^ it.log_rows ≤ 2 ^ k
         → ((q t j : ℕ) → q < n * count + count → t < 2 ^ it.coefficients.added_bits → j < it.width
         → cells it.coefficients.added_bits ((q * 2 ^ it.coefficients.added_bits + t) * it.width + j)
-        ≡ F.ring.mul (F.value (get_or it.coefficients.rows.now (q * it.width + j) F.ZERO))
-        (F.ring.mul (F.value (get_or it.coefficients.weights.now q F.ZERO))
+        ≡ F.ring.mul (F.value (get_or it.coefficients.rows.now (q * it.width + j) F.zero))
+        (F.ring.mul (F.value (get_or it.coefficients.weights.now q F.zero))
         (power F.ring (twiddle (q * (2 ^ it.coefficients.added_bits / 2))) t)))
-        → HoldsCells F.value F.ZERO (n * length before) (cells it.log_rows) after };
+        → HoldsCells F.value F.zero (n * length before) (cells it.log_rows) after };
 
     ghost cost = { λ it size. (it.log_rows - it.coefficients.added_bits + 2) * size };
 
@@ -885,13 +885,13 @@ pub fn extending_network<F: TwoAdicField>(
     requires size { length values.old ≡ 2 ^ log_h * width }
     requires rows { length coefficients.rows.now ≡ 2 ^ (log_h - coefficients.added_bits) * width }
     requires weights { length coefficients.weights.now ≡ 2 ^ (log_h - coefficients.added_bits) }
-    requires twiddles { AreTwiddlesFromStart F.Field.own log_h
-        (block_powers F.Field.own (forward_root F.Field.own F.generator)) twiddles.now }
-    ensures values { (r j : ℕ) → r < 2 ^ log_h → j < width → F.value (get_or values.new (r * width + j) F.ZERO)
+    requires twiddles { AreTwiddlesFromStart F.Valued.own log_h
+        (block_powers F.Valued.own (forward_root F.Valued.own F.generator)) twiddles.now }
+    ensures values { (r j : ℕ) → r < 2 ^ log_h → j < width → F.value (get_or values.new (r * width + j) F.zero)
         ≡ poly F.ring (2 ^ (log_h - coefficients.entry.added_bits)) (λ q. F.ring.mul
         (F.value
-        (get_or coefficients.entry.rows.now (rev (log_h - coefficients.entry.added_bits) q * width + j) F.ZERO))
-        (F.value (get_or coefficients.entry.weights.now (rev (log_h - coefficients.entry.added_bits) q) F.ZERO)))
+        (get_or coefficients.entry.rows.now (rev (log_h - coefficients.entry.added_bits) q * width + j) F.zero))
+        (F.value (get_or coefficients.entry.weights.now (rev (log_h - coefficients.entry.added_bits) q) F.zero)))
         (power F.ring (F.value (F.generator log_h)) r) }
     ensures grows { products.old ≤ products.new }
     ensures cost { 2 * products.new

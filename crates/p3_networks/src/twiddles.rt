@@ -34,7 +34,7 @@ impl<F: TwoAdicField> Model for Twiddles<F> {
 
     ghost invariant = { λ t.
         (length (items_if_any t.powers) ≡ 2 ^ t.log_h - 1)
-        × AreTwiddlesOfLayers F.Field t.log_h (root_powers F.Field F.generator false) (items_if_any t.powers) };
+        × AreTwiddlesOfLayers F.Valued t.log_h (root_powers F.Valued F.generator false) (items_if_any t.powers) };
 }
 
 impl<F: TwoAdicField> Twiddles<F> {
@@ -79,7 +79,7 @@ impl<F: TwoAdicField> Twiddles<F> {
     /// The twiddles of all layers that are there, and no more.
     pub fn as_slice(&self) -> &[F]
         ensures size { length result.now ≡ 2 ^ self.now - 1 }
-        ensures table { AreTwiddlesOfLayers F.Field.own self.now (root_powers F.Field.own F.generator false)
+        ensures table { AreTwiddlesOfLayers F.Valued.own self.now (root_powers F.Valued.own F.generator false)
             result.now }
     {
         held(&self.powers)
@@ -99,7 +99,7 @@ pub(crate) fn held<T>(items: &Option<Vec<T>>) -> &[T]
 // The generator of order `2^bits`, or its inverse.
 fn root<F: TwoAdicField>(inverse: bool, bits: usize) -> F
     requires { bits ≤ F.TWO_ADICITY }
-    ensures { F.value result ≡ root_of F.Field.own F.generator inverse bits }
+    ensures { F.value result ≡ root_of F.Valued.own F.generator inverse bits }
 {
     let generator = F::two_adic_generator(bits);
     if inverse {
@@ -119,8 +119,8 @@ pub fn twiddles_of_layers<F: TwoAdicField>(
     requires within { layers ≤ F.TWO_ADICITY }
     requires fits_u64 { layers < 64 }
     ensures size { IfOk result (λ v. length v.items ≡ 2 ^ layers - 1) }
-    ensures table { IfOk result (λ v. AreTwiddlesOfLayers F.Field.own layers
-        (root_powers F.Field.own F.generator inverse) v.items) }
+    ensures table { IfOk result (λ v. AreTwiddlesOfLayers F.Valued.own layers
+        (root_powers F.Valued.own F.generator inverse) v.items) }
     ensures room { IfErr result (IsWithin (2 ^ layers - 1)) }
 {
     let mut powers = growth::with_capacity(alloc, (1 << layers) - 1)?;
@@ -138,7 +138,7 @@ pub fn reversed_powers<F: TwoAdicField>(
     bits: usize,
 ) -> Result<Vec<F>, DftError>
     requires { bits < 64 }
-    ensures powers { IfOk result (λ v. AreTwiddles F.Field.own (2 ^ bits)
+    ensures powers { IfOk result (λ v. AreTwiddles F.Valued.own (2 ^ bits)
         (λ b. F.ring.mul (F.value first) (power F.ring (F.value base) (rev bits b))) v.items) }
     ensures room { IfErr result (IsWithin (2 ^ bits)) }
 {
@@ -160,9 +160,9 @@ pub fn push_layer<F: TwoAdicField>(
     requires { bits < 64 }
     ensures size { OnOk result (length twiddles.new.items ≡ length twiddles.old.items + 2 ^ bits) }
     ensures before { OnOk result ((n : ℕ) → n < length twiddles.old.items
-        → get_or twiddles.new.items n F.ZERO ≡ get_or twiddles.old.items n F.ZERO) }
+        → get_or twiddles.new.items n F.zero ≡ get_or twiddles.old.items n F.zero) }
     ensures entries { OnOk result ((e : ℕ) → e < 2 ^ bits
-        → F.value (get_or twiddles.new.items (length twiddles.old.items + e) F.ZERO)
+        → F.value (get_or twiddles.new.items (length twiddles.old.items + e) F.zero)
         ≡ F.ring.mul (F.value first) (power F.ring (F.value base) (layer_place reversed bits e))) }
     ensures room { IfErr result (IsWithin (length twiddles.old.items + 2 ^ bits)) }
 {
@@ -180,10 +180,10 @@ fn push_multiples<F: Field>(elements: &mut Vec<F>, from: usize, factor: F) -> Re
     requires { from ≤ length elements.old.items }
     ensures size { OnOk result (length elements.new.items + from ≡ 2 * length elements.old.items) }
     ensures before { OnOk result ((n : ℕ) → n < length elements.old.items
-        → get_or elements.new.items n F.ZERO ≡ get_or elements.old.items n F.ZERO) }
+        → get_or elements.new.items n F.zero ≡ get_or elements.old.items n F.zero) }
     ensures after { OnOk result ((n : ℕ) → from + n < length elements.old.items
-        → F.value (get_or elements.new.items (length elements.old.items + n) F.ZERO)
-        ≡ F.ring.mul (F.value (get_or elements.old.items (from + n) F.ZERO)) (F.value factor)) }
+        → F.value (get_or elements.new.items (length elements.old.items + n) F.zero)
+        ≡ F.ring.mul (F.value (get_or elements.old.items (from + n) F.zero)) (F.value factor)) }
     ensures room { IfErr result (IsWithin (2 * length elements.old.items - from)) }
 {
     for i in from..elements.len() {

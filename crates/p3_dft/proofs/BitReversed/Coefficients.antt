@@ -2,7 +2,7 @@
 -- into natural order.
 use Rattle.std.proofs.Common.{◌≡◌, ℕ, ◌+◌, ◌*◌, ◌≤◌, ◌^◌, ◌++◌, List, length, get_or, take, refl, sym, ap, ap₂, ◌∙◌, subst, arith}
 use Rattle.p3_field.specs.Ring.{AreRoots, power}
-use Rattle.p3_field.specs.declared.fields.Field.{Ghosts as FieldMembers}
+use Rattle.p3_field.specs.declared.fields.Valued.{Ghosts as FieldMembers}
 use Rattle.p3_field.proofs.Roots.{inverse_root}
 use Rattle.p3_matrix.specs.BitOrder.{rev, bit_reversal}
 use Rattle.p3_matrix.specs.Matrix.{Matrix, Same, image, matrix}
@@ -51,9 +51,9 @@ module _ {F : Type 0} (f : FieldMembers F) (generator : ℕ → F) where
       (is_subgroup_values f.ring (λ n. f.value (generator n)) (bit_reversal log (values_of f m)) log (values_of f out)
       (height_of_parts out after m.width (2 ^ log) whole.width full out_width values_is) out_width
       (λ i j below inside.
-      ap₂ (λ (xs : List F) (v : ℕ). f.value (get_or xs (i * v + j) f.ZERO)) values_is (out_width ∙ sym w_is) ∙ entries i j below (omega (arith, w_is))
-      ∙ ap₂ (λ (xs : List F) (v : ℕ). poly f.ring (2 ^ log) (λ q. f.value (get_or xs (rev log q * v + j) f.ZERO)) (power f.ring (f.value (generator log)) i)) before_is w_is
-      ∙ ap (λ n. poly f.ring n (λ q. f.value (get_or m.values (rev log q * m.width + j) f.ZERO)) (power f.ring (f.value (generator log)) i)) (sym high)))
+      ap₂ (λ (xs : List F) (v : ℕ). f.value (get_or xs (i * v + j) f.zero)) values_is (out_width ∙ sym w_is) ∙ entries i j below (omega (arith, w_is))
+      ∙ ap₂ (λ (xs : List F) (v : ℕ). poly f.ring (2 ^ log) (λ q. f.value (get_or xs (rev log q * v + j) f.zero)) (power f.ring (f.value (generator log)) i)) before_is w_is
+      ∙ ap (λ n. poly f.ring n (λ q. f.value (get_or m.values (rev log q * m.width + j) f.zero)) (power f.ring (f.value (generator log)) i)) (sym high)))
 
   -- the same of the values at the powers of the inverse root, in reversed order, of rows that lie in natural order
   pub coefficients_of_parts : {bits : ℕ} → AreRoots f.ring bits (λ n. f.value (generator n)) → (m out : RowMajor F) (before after rest : List F) (w log k : ℕ) → log ≤ bits → log ≡ k
@@ -70,8 +70,8 @@ module _ {F : Type 0} (f : FieldMembers F) (generator : ℕ → F) where
       (coefficients_of_reversed f.ring roots (values_of f m) (values_of f out) c log within high
       (height_of_parts out after m.width (2 ^ log) whole.width full out_width values_is ∙ sym high) out_width
       (λ i j below inside.
-      ap₂ (λ (xs : List F) (v : ℕ). f.value (get_or xs (i * v + j) f.ZERO)) values_is (out_width ∙ sym w_is) ∙ entries i j below (omega (arith, w_is))
-      ∙ ap₂ (λ (xs : List F) (v : ℕ). poly f.ring (2 ^ log) (λ q. f.value (get_or xs (q * v + j) f.ZERO)) (power f.ring x (rev log i))) before_is w_is)
+      ap₂ (λ (xs : List F) (v : ℕ). f.value (get_or xs (i * v + j) f.zero)) values_is (out_width ∙ sym w_is) ∙ entries i j below (omega (arith, w_is))
+      ∙ ap₂ (λ (xs : List F) (v : ℕ). poly f.ring (2 ^ log) (λ q. f.value (get_or xs (q * v + j) f.zero)) (power f.ring x (rev log i))) before_is w_is)
       (subst (λ (n : ℕ). IsQuotient f.ring (2 ^ n) (bit_reversal n (values_of f out)) c) (sym same) quotient))
 
   -- coefficients are the interpolation
@@ -136,7 +136,7 @@ module _ {F : Type 0} (f : FieldMembers F) (generator : ℕ → F) where
       let scaled = image (λ x. f.ring.mul x (f.value one)) (coset_shift f.ring s (bit_reversal log (values_of f r))) in
       let shifted = shifted_by_one f.ring (f.value one) s (bit_reversal log (values_of f r)) scaled is (record { height = refl; width = refl; alike = λ i j p q. refl }) in
       let on_coset = coset_values f.ring (λ n. f.value (generator n)) (bit_reversal log (values_of f r)) scaled (log + a) s (values_of f out) shifted values in
-      let back = reversed_back log (values_of f r) (values_of f m) high (mapped_same f.value (matrix f.ZERO r) (bit_reversal log (matrix f.ZERO m)) (rows f.ZERO)) in
+      let back = reversed_back log (values_of f r) (values_of f m) high (mapped_same f.value (matrix f.zero r) (bit_reversal log (matrix f.zero m)) (rows f.zero)) in
       subst (λ (n : ℕ). IsValues f.ring (λ i. f.value (generator i)) (values_of f m) (n + a) s (values_of f out)) (log_same log k (sym high ∙ e))
       (coefficients_same f.ring (λ n. f.value (generator n)) (bit_reversal log (values_of f r)) (values_of f m) (log + a) s (values_of f out) (same_sym (values_of f m) (bit_reversal log (values_of f r)) back) on_coset)
 

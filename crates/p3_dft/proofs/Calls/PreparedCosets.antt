@@ -2,7 +2,7 @@
 use Rattle.std.specs.Prelude.{⊤}
 use Rattle.std.proofs.Common.{◌≡◌, ◌⊎◌, inl, inr, ℕ, ◌≤◌, List, [], ◌∷◌, ◌++◌, sym, subst, length, length-append, arith}
 use Rattle.std.proofs.Math.ListN.{get_or-append}
-use Rattle.p3_field.specs.declared.fields.Field.{Ghosts as FieldMembers}
+use Rattle.p3_field.specs.declared.fields.Valued.{Ghosts as FieldMembers}
 use Rattle.p3_matrix.specs.Cosets.{Coset, HasCoset, IsCosetOf}
 use Rattle.p3_dft.specs.Engines.{CosetEngineState, EngineFacts, IsCosetPrepared, IsLater, IsPrepared, plain_facts}
 

@@ -1,7 +1,7 @@
 -- What an extension with blocks says of the way in which it stopped, and what a consumer holds that copied all blocks.
 use Rattle.std.proofs.Common.{◌≡◌, ℕ, ◌*◌, ◌^◌, List, length, Result, Ok, sym, ◌∙◌}
 use Rattle.std.specs.Prelude.{⊤}
-use Rattle.p3_field.specs.declared.fields.Field.{Ghosts as FieldMembers}
+use Rattle.p3_field.specs.declared.fields.Valued.{Ghosts as FieldMembers}
 use Rattle.p3_matrix.specs.BitOrder.{reversed_rows}
 use Rattle.p3_matrix.specs.Blocks.{IsPublished}
 use Rattle.p3_matrix.specs.Consumers.{IsCopied}

@@ -3,7 +3,7 @@ use Rattle.std.proofs.Common.{◌≡◌, ℕ, zero, suc, ◌+◌, ◌*◌, ◌/�
 use Rattle.std.proofs.lemmas.Bool.{cases_lt}
 use Rattle.std.proofs.lemmas.List.{get_or_past, length-append, length-map, length-replicate}
 use Rattle.p3_field.specs.Ring.{Ring}
-use Rattle.p3_field.specs.declared.fields.Field.{Ghosts as FieldMembers}
+use Rattle.p3_field.specs.declared.fields.Valued.{Ghosts as FieldMembers}
 use Rattle.p3_field.proofs.Rings
 use Rattle.p3_matrix.specs.Matrix.{Matrix, Same}
 use Rattle.p3_matrix.specs.Cosets.{point, IsValues, values_of}
@@ -22,25 +22,25 @@ value_with_zeros R v z none [] (suc m) x =
     ap₂ (λ y u. R.add y (R.mul x u)) none (value_with_zeros R v z none [] m x) ∙ Rings.zero-add R _ ∙ Rings.mul-zero R x
 value_with_zeros R v z none (y ∷ xs) m x = ap (λ u. R.add (v y) (R.mul x u)) (value_with_zeros R v z none xs m x)
 
-module _ {F : Type 0} (f : FieldMembers F) (generator : ℕ → F) (zero_law : f.value f.ZERO ≡ f.ring.zero) where
+module _ {F : Type 0} (f : FieldMembers F) (generator : ℕ → F) (zero_law : f.value f.zero ≡ f.ring.zero) where
   abbrev roots : ℕ → f.Element
   roots n = f.value (generator n)
 
   -- the transform of a vector with zeros behind it has the values of the polynomial itself
-  pub transform_with_zeros : (xs ys zs : List F) (m size : ℕ) (s : f.Element) (k : ℕ) → zs ≡ xs ++ replicate m f.ZERO → length xs + m ≡ size → size ≡ 2 ^ k
-      → IsTransform f generator (one_column zs) s (one_column ys) → (i : ℕ) → i < size → f.value (get_or ys i f.ZERO) ≡ value f.ring (map f.value xs) (point f.ring roots k s i)
+  pub transform_with_zeros : (xs ys zs : List F) (m size : ℕ) (s : f.Element) (k : ℕ) → zs ≡ xs ++ replicate m f.zero → length xs + m ≡ size → size ≡ 2 ^ k
+      → IsTransform f generator (one_column zs) s (one_column ys) → (i : ℕ) → i < size → f.value (get_or ys i f.zero) ≡ value f.ring (map f.value xs) (point f.ring roots k s i)
   transform_with_zeros xs ys zs m size s k padded sum power transform i below =
-      let long : length zs ≡ size = omega (arith, ap length padded, length-append xs (replicate m f.ZERO), length-replicate m f.ZERO, sum) in
+      let long : length zs ≡ size = omega (arith, ap length padded, length-append xs (replicate m f.zero), length-replicate m f.zero, sum) in
       (transform_of_vector f generator zs ys s k (long ∙ power) transform).1 i (omega (arith, long, below))
       ∙ ap (λ cs. value f.ring (map f.value cs) (point f.ring roots k s i)) padded
-      ∙ value_with_zeros f.ring f.value f.ZERO zero_law xs m (point f.ring roots k s i)
+      ∙ value_with_zeros f.ring f.value f.zero zero_law xs m (point f.ring roots k s i)
 
   -- coefficients whose values are the products of two polynomials' values are those of the product, where there is room for them
   pub inverse_of_products : (vs ws ys zs ps out : List F) (size : ℕ) (s : f.Element) (k : ℕ) → size ≡ 2 ^ k → length ps ≡ size → length vs + length ws ≤ size + 1
-      → ((i : ℕ) → i < size → f.value (get_or ys i f.ZERO) ≡ value f.ring (map f.value vs) (point f.ring roots k s i))
-      → ((i : ℕ) → i < size → f.value (get_or zs i f.ZERO) ≡ value f.ring (map f.value ws) (point f.ring roots k s i))
-      → ((i : ℕ) → i < size → f.value (get_or ps i f.ZERO) ≡ f.ring.mul (f.value (get_or ys i f.ZERO)) (f.value (get_or zs i f.ZERO)))
-      → IsInterpolation f generator (one_column ps) s (one_column out) → (n : ℕ) → f.value (get_or out n f.ZERO) ≡ convolution f.ring (map f.value vs) (map f.value ws) n
+      → ((i : ℕ) → i < size → f.value (get_or ys i f.zero) ≡ value f.ring (map f.value vs) (point f.ring roots k s i))
+      → ((i : ℕ) → i < size → f.value (get_or zs i f.zero) ≡ value f.ring (map f.value ws) (point f.ring roots k s i))
+      → ((i : ℕ) → i < size → f.value (get_or ps i f.zero) ≡ f.ring.mul (f.value (get_or ys i f.zero)) (f.value (get_or zs i f.zero)))
+      → IsInterpolation f generator (one_column ps) s (one_column out) → (n : ℕ) → f.value (get_or out n f.zero) ≡ convolution f.ring (map f.value vs) (map f.value ws) n
   inverse_of_products vs ws ys zs ps out size s k power long room first second products inverse n = entry (cases_lt n size)
     where
       a : List f.Element
@@ -64,16 +64,16 @@ module _ {F : Type 0} (f : FieldMembers F) (generator : ℕ → F) (zero_law : f
           (λ i j below inside.
           let here : i < size = omega (arith, below, power) in
           let place : i * 1 + j ≡ i = omega (arith, inside) in
-          ap (λ u. f.value (get_or ps u f.ZERO)) place ∙ products i here ∙ ap₂ f.ring.mul (first i here) (second i here)
+          ap (λ u. f.value (get_or ps u f.zero)) place ∙ products i here ∙ ap₂ f.ring.mul (first i here) (second i here)
           ∙ sym (product_by_index f.ring size a b (point f.ring roots k s i) fits))
 
       same : Same product (values_of f (one_column out))
       same = inverse.only k (tall ∙ power) product (record { height = sym tall; width = refl; values = values })
 
-      entry : (n < size) ⊎ (size ≤ n) → f.value (get_or out n f.ZERO) ≡ convolution f.ring a b n
+      entry : (n < size) ⊎ (size ≤ n) → f.value (get_or out n f.zero) ≡ convolution f.ring a b n
       entry (inl below) =
           let place : n ≡ n * 1 + 0 = omega arith in
-          ap (λ u. f.value (get_or out u f.ZERO)) place ∙ sym (same.alike n 0 below (omega arith))
+          ap (λ u. f.value (get_or out u f.zero)) place ∙ sym (same.alike n 0 below (omega arith))
       entry (inr past) =
-          ap f.value (get_or_past out n f.ZERO (omega (arith, same.height, past))) ∙ zero_law
+          ap f.value (get_or_past out n f.zero (omega (arith, same.height, past))) ∙ zero_law
           ∙ sym (convolution_past f.ring a b n (omega (arith, fits, past)))

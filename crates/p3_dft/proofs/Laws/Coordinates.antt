@@ -5,7 +5,7 @@ use Rattle.std.proofs.lemmas.List.{get_or-append-add, length-map}
 use Rattle.std.proofs.lemmas.List.Concat.{flat_map-cons}
 use Rattle.p3_field.specs.Ring.{AreRoots, IsInvertible}
 use Rattle.p3_field.specs.declared.algebra.BasedVectorSpace.{Ghosts as SpaceMembers}
-use Rattle.p3_field.specs.declared.fields.Field.{Ghosts as FieldMembers}
+use Rattle.p3_field.specs.declared.fields.Valued.{Ghosts as FieldMembers}
 use Rattle.p3_matrix.specs.Matrix.{Matrix, Same}
 use Rattle.p3_matrix.specs.RowMajor.{RowMajor, height}
 use Rattle.p3_matrix.proofs.Matrices.{same_sym}
@@ -63,7 +63,7 @@ module _ {V F : Type 0} (v : SpaceMembers V F) (counted : (x : V) → length (v.
 
   module _ (f : FieldMembers F) (generator : ℕ → F) where
     abbrev one_of : RowMajor V → RowMajor F
-    one_of m = coordinate v f.ZERO t m
+    one_of m = coordinate v f.zero t m
 
     abbrev roots : ℕ → f.Element
     roots n = f.value (generator n)
@@ -72,15 +72,15 @@ module _ {V F : Type 0} (v : SpaceMembers V F) (counted : (x : V) → length (v.
     coordinate_columns : (m : RowMajor V) (w : ℕ) → m.width ≡ w → 1 ≤ m.width * v.DIMENSION
         → Same (values_of f (one_of m)) (chosen place w (values_of f (flat v m)))
     coordinate_columns m w wide some =
-        let count : height (one_of m) ≡ height m = ap (λ n. n / m.width) (length-map m.values (λ x. get_or (v.coordinates x) t f.ZERO)) in
+        let count : height (one_of m) ≡ height m = ap (λ n. n / m.width) (length-map m.values (λ x. get_or (v.coordinates x) t f.zero)) in
         record {
           height = count ∙ sym (height-flat v counted m some);
           width = wide;
           alike = λ i j p q.
               let rise : (i + 1) * m.width ≤ height m * m.width = mul-le-mul_right m.width (omega (arith, p, count)) in
               let inside : i * m.width + j < length m.values = omega (arith, rise, q, div-mul-le_self (length m.values) m.width) in
-              ap f.value (coordinate-place f.ZERO m.values (i * m.width + j) inside
-              ∙ ap (λ n. get_or (flat_map v.coordinates m.values) n f.ZERO) (same_place i j m.width v.DIMENSION t));
+              ap f.value (coordinate-place f.zero m.values (i * m.width + j) inside
+              ∙ ap (λ n. get_or (flat_map v.coordinates m.values) n f.zero) (same_place i j m.width v.DIMENSION t));
         }
 
     coordinate_values : (c : Matrix f.Element) (y : RowMajor V) (n : ℕ) (s : f.Element) → 1 ≤ y.width * v.DIMENSION → IsValues f.ring roots c n s (values_of f (flat v y))

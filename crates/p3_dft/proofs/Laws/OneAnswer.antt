@@ -1,7 +1,7 @@
 -- A job that can be run has one answer.
 use Rattle.std.proofs.Common.{ℕ, ◌+◌, arith}
 use Rattle.p3_field.specs.Ring.{AreRoots}
-use Rattle.p3_field.specs.declared.fields.Field.{Ghosts as FieldMembers}
+use Rattle.p3_field.specs.declared.fields.Valued.{Ghosts as FieldMembers}
 use Rattle.p3_matrix.specs.Matrix.{Same}
 use Rattle.p3_matrix.specs.RowMajor.{RowMajor, height}
 use Rattle.p3_dft.specs.Extensions.{IsExtension}

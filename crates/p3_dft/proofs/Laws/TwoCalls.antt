@@ -7,7 +7,7 @@ use Rattle.std.proofs.Math.ListN.{get_or-map}
 use Rattle.std.proofs.lemmas.List.{ext_get_or, length-map}
 use Rattle.std.proofs.lemmas.List.FromFn.{length-map-range_with_len, get_or-map-range_with_len}
 use Rattle.p3_field.specs.Ring.{AreRoots}
-use Rattle.p3_field.specs.declared.fields.Field.{Ghosts as FieldMembers}
+use Rattle.p3_field.specs.declared.fields.Valued.{Ghosts as FieldMembers}
 use Rattle.p3_field.proofs.Roots.{root_strided}
 use Rattle.p3_matrix.specs.RowMajor.{RowMajor, height}
 use Rattle.p3_matrix.specs.Matrix.{Matrix, Same, column}
@@ -277,22 +277,22 @@ module _ {F : Type 0} (f : FieldMembers F) (generator : ℕ → F) where
   -- the entries of a vector as the column of a matrix
   column_of_vector : (xs : List F) → column (values (one_column xs)) 0 ≡ map f.value xs
   column_of_vector xs =
-      let entry = λ (i : ℕ). f.value (get_or xs (i * 1 + 0) f.ZERO) in
+      let entry = λ (i : ℕ). f.value (get_or xs (i * 1 + 0) f.zero) in
       let count : length (map entry (range_with_len 0 (length xs / 1))) ≡ length xs = length-map-range_with_len entry 0 (length xs / 1) ∙ omega arith in
-      ext_get_or (f.value f.ZERO) (map entry (range_with_len 0 (length xs / 1))) (map f.value xs) (count ∙ sym (length-map xs f.value))
+      ext_get_or (f.value f.zero) (map entry (range_with_len 0 (length xs / 1))) (map f.value xs) (count ∙ sym (length-map xs f.value))
       (λ i below.
-      get_or-map-range_with_len entry 0 (length xs / 1) i i (f.value f.ZERO) (omega (arith, count)) (omega arith)
-      ∙ ap (λ n. f.value (get_or xs n f.ZERO)) (omega arith) ∙ sym (get_or-map f.value xs i f.ZERO))
+      get_or-map-range_with_len entry 0 (length xs / 1) i i (f.value f.zero) (omega (arith, count)) (omega arith)
+      ∙ ap (λ n. f.value (get_or xs n f.zero)) (omega arith) ∙ sym (get_or-map f.value xs i f.zero))
 
   -- entry i of what a vector's transform answers is the polynomial's value at point i
   pub transform_of_vector : (xs ys : List F) (s : f.Element) (k : ℕ) → length xs ≡ 2 ^ k → IsTransform f generator (one_column xs) s (one_column ys)
-      → (length ys ≡ length xs) × ((i : ℕ) → i < length xs → f.value (get_or ys i f.ZERO) ≡ value f.ring (map f.value xs) (point f.ring roots k s i))
+      → (length ys ≡ length xs) × ((i : ℕ) → i < length xs → f.value (get_or ys i f.zero) ≡ value f.ring (map f.value xs) (point f.ring roots k s i))
   transform_of_vector xs ys s k size transform =
       let tall : height (one_column xs) ≡ 2 ^ k = omega (arith, size) in
       let v = transform k tall in
       let same_place : (i : ℕ) → i ≡ i * 1 + 0 = λ i. omega arith in (
         omega (arith, v.height, size),
         λ i below.
-            ap (λ n. f.value (get_or ys n f.ZERO)) (same_place i) ∙ v.values i 0 (omega (arith, size)) (omega arith)
+            ap (λ n. f.value (get_or ys n f.zero)) (same_place i) ∙ v.values i 0 (omega (arith, size)) (omega arith)
             ∙ ap (λ cs. value f.ring cs (point f.ring roots k s i)) (column_of_vector xs),
       )

@@ -43,15 +43,15 @@ pub(crate) fn coefficients_with_room<
     requires callable { IsCallable mat (λ m. T.pre transform m BitReversed) }
     requires shape { KeepsShape mat (λ m n. T.post transform m BitReversed n) }
     ensures answer { IfOk result (λ out.
-        IsAnswerOverZeros F.Field.own F.generator (λ m n. T.post transform m BitReversed n) mat added_bits out) }
+        IsAnswerOverZeros F.Valued.own F.generator (λ m n. T.post transform m BitReversed n) mat added_bits out) }
     ensures rows { IfOk result (λ out. AtLog (height mat) (λ k. HasTwoPowerRows out (k + added_bits))) }
     ensures prepared { AtLog (height mat) (λ k. OnOk result (k ≤ tables.new)) }
     ensures keeps { tables.old ≤ tables.new }
     ensures cosets { AtLog (height mat)
-        (λ k. OnOk result (HasCosets F.Field.own F.generator cosets.new k added_bits (F.value shift))) }
-    ensures keeps_cosets { (k : ℕ) (s : F.Element) → HasCoset F.Field.own cosets.old k s
-        → HasCoset F.Field.own cosets.new k s }
-    ensures leaves { AtLog (height mat) (λ k. LeavesTables F.Field.own F.generator k added_bits (F.value shift)
+        (λ k. OnOk result (HasCosets F.Valued.own F.generator cosets.new k added_bits (F.value shift))) }
+    ensures keeps_cosets { (k : ℕ) (s : F.Element) → HasCoset F.Valued.own cosets.old k s
+        → HasCoset F.Valued.own cosets.new k s }
+    ensures leaves { AtLog (height mat) (λ k. LeavesTables F.Valued.own F.generator k added_bits (F.value shift)
         tables.old tables.new cosets.old cosets.new) }
     ensures grows { products.old ≤ products.new }
     ensures cost { AtLog (height mat)
@@ -84,22 +84,22 @@ pub(crate) fn extend_reversed<F: TwoAdicField, C: BlockConsumer<F>>(
 ) -> Result<(), C::Refusal>
     requires rows { HasTwoPowerRows mat.old (log_h + added_bits) }
     requires within { log_h + added_bits ≤ F.TWO_ADICITY }
-    requires tables { HasCosets F.Field.own F.generator cosets.now log_h added_bits (F.value shift) }
+    requires tables { HasCosets F.Valued.own F.generator cosets.now log_h added_bits (F.value shift) }
     ensures same { HasEntriesOf mat.new mat.old }
     ensures values { OnOk result ((c : RowMajor F) → IsRowMajor c → height c ≡ 2 ^ log_h
-        → mat.old ≡ with_zeros F.ZERO c added_bits
-        → IsValues F.ring (λ n. F.value (F.generator n)) (bit_reversal log_h (values_of F.Field.own c))
+        → mat.old ≡ with_zeros F.zero c added_bits
+        → IsValues F.ring (λ n. F.value (F.generator n)) (bit_reversal log_h (values_of F.Valued.own c))
         (log_h + added_bits) (F.value shift)
-        (bit_reversal (log_h + added_bits) (values_of F.Field.own mat.new))) }
+        (bit_reversal (log_h + added_bits) (values_of F.Valued.own mat.new))) }
     ensures published { OnOk result ((blocks : List (ℕ × RowMajor F))
         × IsPartition (2 ^ (log_h - mid_of log_h)) mat.new blocks × Run C.step consumer.old blocks consumer.new) }
     ensures refused { IfErr result (λ refusal. (c : RowMajor F) → IsRowMajor c → height c ≡ 2 ^ log_h
-        → mat.old ≡ with_zeros F.ZERO c added_bits
+        → mat.old ≡ with_zeros F.zero c added_bits
         → (out : Matrix F.Element) × (accepted : List (ℕ × RowMajor F)) × (refused : ℕ × RowMajor F)
-        × IsValues F.ring (λ n. F.value (F.generator n)) (bit_reversal log_h (values_of F.Field.own c))
+        × IsValues F.ring (λ n. F.value (F.generator n)) (bit_reversal log_h (values_of F.Valued.own c))
         (log_h + added_bits)
         (F.value shift) out
-        × AreBlocksOf (values_of F.Field.own) (2 ^ (log_h - mid_of log_h)) (bit_reversal (log_h + added_bits) out)
+        × AreBlocksOf (values_of F.Valued.own) (2 ^ (log_h - mid_of log_h)) (bit_reversal (log_h + added_bits) out)
         (accepted ++ refused ∷ []) × RunToRefusal C.step consumer.old accepted refused refusal consumer.new) }
     ensures grows { products.old ≤ products.new }
     ensures cost { products.new ≤ products.old + 2 ^ added_bits * (mat.old.width * (log_h * 2 ^ log_h / 2)) }

@@ -30,11 +30,11 @@ pub(crate) fn network_to_reversed<F: TwoAdicField, L: LayerTwiddles<F>, H: Layer
     requires high { (l : ℕ) → mid ≤ l → l < mid + left → H.has high l }
     ensures same { HasEntriesOf mat.new mat.old }
     ensures values { (g : ℕ → F.Element) (s : F.Element) → AreRoots F.ring (mid + left) g
-        → AreLowTwiddles F.Field.own g (power F.ring s (2 ^ left)) mid (L.at low)
-        → AreHighTwiddles F.Field.own g s mid (mid + left) (H.at high)
-        → (r j : ℕ) → r < 2 ^ (mid + left) → j < mat.old.width → (values_of F.Field.own mat.new).entry r j
+        → AreLowTwiddles F.Valued.own g (power F.ring s (2 ^ left)) mid (L.at low)
+        → AreHighTwiddles F.Valued.own g s mid (mid + left) (H.at high)
+        → (r j : ℕ) → r < 2 ^ (mid + left) → j < mat.old.width → (values_of F.Valued.own mat.new).entry r j
         ≡ poly F.ring (2 ^ (mid + left))
-        (λ q. F.ring.mul ((values_of F.Field.own mat.old).entry q j) (factor F.Field.own scale))
+        (λ q. F.ring.mul ((values_of F.Valued.own mat.old).entry q j) (factor F.Valued.own scale))
         (point F.ring g (mid + left) s (rev (mid + left) r)) }
     ensures grows { products.old ≤ products.new }
     ensures cost { products.new ≤ products.old
@@ -57,10 +57,10 @@ fn first_of_matrix<F: TwoAdicField, T: LayerTwiddles<F>>(
     requires table { (l : ℕ) → l < mid → T.has table l }
     ensures same { HasEntriesOf mat.new mat.old }
     ensures values { (g : ℕ → F.Element) (s : F.Element) → AreRoots F.ring mid g
-        → AreLowTwiddles F.Field.own g s mid (T.at table)
+        → AreLowTwiddles F.Valued.own g s mid (T.at table)
         → (a t j : ℕ) → a < 2 ^ left → t < 2 ^ mid → j < mat.old.width
-        → (values_of F.Field.own mat.new).entry (a * 2 ^ mid + t) j
-        ≡ poly F.ring (2 ^ mid) (λ q. (values_of F.Field.own mat.old).entry (q * 2 ^ left + rev left a) j)
+        → (values_of F.Valued.own mat.new).entry (a * 2 ^ mid + t) j
+        ≡ poly F.ring (2 ^ mid) (λ q. (values_of F.Valued.own mat.old).entry (q * 2 ^ left + rev left a) j)
         (point F.ring g mid s t) }
     ensures grows { products.old ≤ products.new }
     ensures cost { products.new ≤ products.old + 2 ^ left * (mat.old.width * (mid * 2 ^ mid / 2)) }
@@ -91,12 +91,12 @@ fn second_of_matrix<F: TwoAdicField, T: LayerTwiddles<F>>(
     requires table { (l : ℕ) → mid ≤ l → l < mid + left → T.has table l }
     ensures same { HasEntriesOf mat.new mat.old }
     ensures values { (g : ℕ → F.Element) (s : F.Element) → AreRoots F.ring (mid + left) g
-        → AreHighTwiddles F.Field.own g s mid (mid + left) (T.at table)
+        → AreHighTwiddles F.Valued.own g s mid (mid + left) (T.at table)
         → (a t j : ℕ) → a < 2 ^ mid → t < 2 ^ left → j < mat.old.width
-        → (values_of F.Field.own mat.new).entry (a * 2 ^ left + t) j
+        → (values_of F.Valued.own mat.new).entry (a * 2 ^ left + t) j
         ≡ poly F.ring (2 ^ left)
-        (λ q. F.ring.mul ((values_of F.Field.own mat.old).entry (rev left q * 2 ^ mid + rev mid a) j)
-        (factor F.Field.own scale))
+        (λ q. F.ring.mul ((values_of F.Valued.own mat.old).entry (rev left q * 2 ^ mid + rev mid a) j)
+        (factor F.Valued.own scale))
         (point F.ring g left (point F.ring g (mid + left) s (rev mid a)) (rev left t)) }
     ensures grows { products.old ≤ products.new }
     ensures cost { products.new ≤ products.old

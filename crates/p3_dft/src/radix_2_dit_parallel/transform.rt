@@ -31,10 +31,10 @@ pub(crate) fn transform_to_reversed<F: TwoAdicField>(
     requires rows { HasTwoPowerRows mat.old log_h }
     requires in_table { log_h ≤ tables.now }
     ensures same { HasEntriesOf mat.new mat.old }
-    ensures values { (r j : ℕ) → r < 2 ^ log_h → j < mat.old.width → (values_of F.Field.own mat.new).entry r j
-        ≡ poly F.ring (2 ^ log_h) (λ q. F.ring.mul ((values_of F.Field.own mat.old).entry q j)
-        (factor F.Field.own scale))
-        (power F.ring (root_of F.Field.own F.generator inverse log_h) (rev log_h r)) }
+    ensures values { (r j : ℕ) → r < 2 ^ log_h → j < mat.old.width → (values_of F.Valued.own mat.new).entry r j
+        ≡ poly F.ring (2 ^ log_h) (λ q. F.ring.mul ((values_of F.Valued.own mat.old).entry q j)
+        (factor F.Valued.own scale))
+        (power F.ring (root_of F.Valued.own F.generator inverse log_h) (rev log_h r)) }
     ensures grows { products.old ≤ products.new }
     ensures cost { products.new ≤ products.old + mat.old.width * (log_h * 2 ^ log_h / 2)
         + scale_cost scale * (2 ^ log_h * mat.old.width) }
@@ -55,7 +55,7 @@ pub(crate) struct Evaluation;
 
 impl<F: TwoAdicField> MatrixWork<F, Tables<F>> for Evaluation {
     ghost takes = { λ work mat out. HasShapeOf out mat × ((bits : ℕ) → height out ≡ 2 ^ bits
-        → IsTransform F.Field.own F.generator mat F.ring.one (reversed_rows bits out)) };
+        → IsTransform F.Valued.own F.generator mat F.ring.one (reversed_rows bits out)) };
 
     ghost more = { λ work. 0 };
 
@@ -75,7 +75,7 @@ impl<F: TwoAdicField> MatrixWork<F, Tables<F>> for Evaluation {
 pub(crate) struct Interpolation;
 
 impl<F: TwoAdicField> MatrixWork<F, Tables<F>> for Interpolation {
-    ghost takes = { λ work mat out. IsInterpolation F.Field.own F.generator mat F.ring.one out };
+    ghost takes = { λ work mat out. IsInterpolation F.Valued.own F.generator mat F.ring.one out };
 
     ghost more = { λ work. 1 };
 
@@ -103,8 +103,8 @@ pub(crate) fn interpolate_to_reversed<F: TwoAdicField>(
     requires within { log_h ≤ F.TWO_ADICITY }
     ensures same { HasEntriesOf mat.new mat.old }
     ensures coefficients { AreCoefficients F.ring
-        (λ n. F.value (F.generator n)) (values_of F.Field.own mat.old) log_h F.ring.one
-        (bit_reversal log_h (values_of F.Field.own mat.new)) }
+        (λ n. F.value (F.generator n)) (values_of F.Valued.own mat.old) log_h F.ring.one
+        (bit_reversal log_h (values_of F.Valued.own mat.new)) }
     ensures grows { products.old ≤ products.new }
     ensures cost { products.new ≤ products.old + mat.old.width * (log_h * 2 ^ log_h / 2) + 2 ^ log_h * mat.old.width }
 {
@@ -124,8 +124,8 @@ pub(crate) fn evaluate_on_coset_to_reversed<F: TwoAdicField>(
     requires table { table.now.log_h ≡ log_h }
     ensures same { HasEntriesOf mat.new mat.old }
     ensures values { IsValues F.ring
-        (λ n. F.value (F.generator n)) (values_of F.Field.own mat.old) log_h (F.value table.now.shift)
-        (bit_reversal log_h (values_of F.Field.own mat.new)) }
+        (λ n. F.value (F.generator n)) (values_of F.Valued.own mat.old) log_h (F.value table.now.shift)
+        (bit_reversal log_h (values_of F.Valued.own mat.new)) }
     ensures grows { products.old ≤ products.new }
     ensures cost { products.new ≤ products.old + mat.old.width * (log_h * 2 ^ log_h / 2) }
 {

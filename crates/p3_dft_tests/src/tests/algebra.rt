@@ -28,7 +28,7 @@ fn transformed_in_dimension_one<F: TwoAdicField, D: TwoAdicSubgroupDft<F>>(
     mat: RowMajorMatrix<F>,
 ) -> Result<RowMajorMatrix<F>, DftError>
     requires { FitsDft F.TWO_ADICITY (height mat) mat.width }
-    ensures { IfOk result (λ out. IsTransform F.Field.own F.generator mat F.ring.one out) }
+    ensures { IfOk result (λ out. IsTransform F.Valued.own F.generator mat F.ring.one out) }
 {
     engine.dft_algebra_batch(mat)
 }
@@ -40,9 +40,9 @@ fn coordinates_transformed<F: TwoAdicField, V: BasedVectorSpace<F>, D: TwoAdicSu
     shift: F,
 ) -> Result<RowMajorMatrix<V>, DftError>
     requires { FitsDft F.TWO_ADICITY (height mat) (mat.width * V.DIMENSION) }
-    ensures { IfOk result (λ out. (t : ℕ) → t < V.DIMENSION → IsTransform F.Field.own F.generator
-        (coordinate V.BasedVectorSpace.own F.ZERO t mat) (F.value shift)
-        (coordinate V.BasedVectorSpace.own F.ZERO t out)) }
+    ensures { IfOk result (λ out. (t : ℕ) → t < V.DIMENSION → IsTransform F.Valued.own F.generator
+        (coordinate V.BasedVectorSpace.own F.zero t mat) (F.value shift)
+        (coordinate V.BasedVectorSpace.own F.zero t out)) }
 {
     engine.coset_dft_algebra_batch(mat, shift)
 }
@@ -55,9 +55,9 @@ fn coordinates_undone<F: TwoAdicField, V: BasedVectorSpace<F>, D: TwoAdicSubgrou
 ) -> Result<RowMajorMatrix<V>, DftError>
     requires fits { FitsDft F.TWO_ADICITY (height mat) (mat.width * V.DIMENSION) }
     requires invertible { IsInvertible F.ring (F.value shift) }
-    ensures { IfOk result (λ out. (t : ℕ) → t < V.DIMENSION → IsInterpolation F.Field.own F.generator
-        (coordinate V.BasedVectorSpace.own F.ZERO t mat) (F.value shift)
-        (coordinate V.BasedVectorSpace.own F.ZERO t out)) }
+    ensures { IfOk result (λ out. (t : ℕ) → t < V.DIMENSION → IsInterpolation F.Valued.own F.generator
+        (coordinate V.BasedVectorSpace.own F.zero t mat) (F.value shift)
+        (coordinate V.BasedVectorSpace.own F.zero t out)) }
 {
     engine.coset_idft_algebra_batch(mat, shift)
 }
@@ -70,9 +70,9 @@ fn coordinates_extended<F: TwoAdicField, V: BasedVectorSpace<F>, D: TwoAdicSubgr
     shift: F,
 ) -> Result<RowMajorMatrix<V>, DftError>
     requires { FitsLde F.TWO_ADICITY (height mat) (mat.width * V.DIMENSION) added_bits }
-    ensures { IfOk result (λ out. (t : ℕ) → t < V.DIMENSION → IsExtension F.Field.own F.generator
-        (coordinate V.BasedVectorSpace.own F.ZERO t mat) added_bits (F.value shift)
-        (coordinate V.BasedVectorSpace.own F.ZERO t out)) }
+    ensures { IfOk result (λ out. (t : ℕ) → t < V.DIMENSION → IsExtension F.Valued.own F.generator
+        (coordinate V.BasedVectorSpace.own F.zero t mat) added_bits (F.value shift)
+        (coordinate V.BasedVectorSpace.own F.zero t out)) }
 {
     engine.coset_lde_algebra_batch(mat, added_bits, shift)
 }

@@ -20,7 +20,7 @@ const JOBS: usize = 20;
 
 // A job of each kind.
 fn job<F: CanonicalField>(rt: &impl Abort, alloc: Global, kind: usize) -> Job<F>
-    ensures { CanRun F.Field.own F.TWO_ADICITY result }
+    ensures { CanRun F.Valued.own F.TWO_ADICITY result }
 {
     match kind % KINDS {
         0 => Job::Dft(transformable(rt, alloc, &[1, 2, 3, 4])),
@@ -48,9 +48,9 @@ pub(crate) fn and_then<F: CanonicalField>(
     mut jobs: Vec<Job<F>>,
     job: Job<F>,
 ) -> Vec<Job<F>>
-    requires jobs { All (CanRun F.Field.own F.TWO_ADICITY) jobs.items }
-    requires job { CanRun F.Field.own F.TWO_ADICITY job }
-    ensures { All (CanRun F.Field.own F.TWO_ADICITY) result.items }
+    requires jobs { All (CanRun F.Valued.own F.TWO_ADICITY) jobs.items }
+    requires job { CanRun F.Valued.own F.TWO_ADICITY job }
+    ensures { All (CanRun F.Valued.own F.TWO_ADICITY) result.items }
 {
     jobs.push(job).expect(rt, "memory");
     jobs
@@ -58,7 +58,7 @@ pub(crate) fn and_then<F: CanonicalField>(
 
 // Copies of jobs of each kind in turn, beginning with one of them.
 fn list_from<F: CanonicalField>(rt: &impl Abort, alloc: Global, first: usize) -> Vec<Job<F>>
-    ensures { All (CanRun F.Field.own F.TWO_ADICITY) result.items }
+    ensures { All (CanRun F.Valued.own F.TWO_ADICITY) result.items }
 {
     let mut jobs = Vec::new(alloc);
     for n in 0..JOBS {
@@ -163,14 +163,14 @@ fn refused_jobs_leave_the_answers_before_them(rt: HostRuntime) {
 
 // A job on a coset, of one column.
 fn coset_job<F: CanonicalField>(rt: &impl Abort, alloc: Global, numbers: &[u64], shift: F) -> Job<F>
-    ensures { CanRun F.Field.own F.TWO_ADICITY result }
+    ensures { CanRun F.Valued.own F.TWO_ADICITY result }
 {
     Job::CosetDft(transformable(rt, alloc, numbers), shift)
 }
 
 // Cosets of two heights and three shifts, one of them twice, and the subgroup in between.
 fn coset_jobs<F: CanonicalField>(rt: &impl Abort, alloc: Global) -> Vec<Job<F>>
-    ensures { All (CanRun F.Field.own F.TWO_ADICITY) result.items }
+    ensures { All (CanRun F.Valued.own F.TWO_ADICITY) result.items }
 {
     let jobs = and_then(rt, Vec::new(alloc), coset_job(rt, alloc, &[5, 4], F::TWO));
     let jobs = and_then(rt, jobs, coset_job(rt, alloc, &[1, 2, 3, 4], F::ZERO));

@@ -371,7 +371,7 @@ fn jobs_of<F: CanonicalField>(
     mat: &RowMajorMatrix<F>,
     added_bits: usize,
 ) -> Vec<Job<F>>
-    ensures { All (CanRun F.Field.own F.TWO_ADICITY) result.items }
+    ensures { All (CanRun F.Valued.own F.TWO_ADICITY) result.items }
 {
     let shift = invertible(rt, F::GENERATOR);
     let jobs = Vec::new(*mat.allocator());

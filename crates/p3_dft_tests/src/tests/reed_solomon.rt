@@ -29,15 +29,15 @@ fn told_by_few_rows<F: TwoAdicField, D: TwoAdicSubgroupDft<F>>(
     one: &RowMajorMatrix<F>,
     other: &RowMajorMatrix<F>,
 ) -> Result<bool, DftError>
-    requires is_code { IsCode F.Field.own F.TWO_ADICITY code.old.code }
+    requires is_code { IsCode F.Valued.own F.TWO_ADICITY code.old.code }
     requires points { height one.now ≡ 2 ^ (code.old.code.log_message + code.old.code.added_bits) }
     requires fits { FitsDft F.TWO_ADICITY (height one.now) one.now.width }
     requires height { height other.now ≡ height one.now }
     requires width { other.now.width ≡ one.now.width }
     ensures code { code.new.code ≡ code.old.code }
     ensures distance { IfOk result (λ told. IsTrue told
-        → AgreeInRows (2 ^ code.old.code.log_message) (values_of F.Field.own one.now) (values_of F.Field.own other.now)
-        → Same (values_of F.Field.own one.now) (values_of F.Field.own other.now)) }
+        → AgreeInRows (2 ^ code.old.code.log_message) (values_of F.Valued.own one.now) (values_of F.Valued.own other.now)
+        → Same (values_of F.Valued.own one.now) (values_of F.Valued.own other.now)) }
 {
     let first = code.is_codeword(one)?;
     let second = code.is_codeword(other)?;
@@ -50,7 +50,7 @@ fn lie_apart<F: TwoAdicField, D: TwoAdicSubgroupDft<F>>(
     one: &RowMajorMatrix<F>,
     other: &RowMajorMatrix<F>,
 ) -> Result<bool, DftError>
-    requires is_code { IsCode F.Field.own F.TWO_ADICITY code.old.code }
+    requires is_code { IsCode F.Valued.own F.TWO_ADICITY code.old.code }
     requires points { height one.now ≡ 2 ^ (code.old.code.log_message + code.old.code.added_bits) }
     requires fits { FitsDft F.TWO_ADICITY (height one.now) one.now.width }
     requires height { height other.now ≡ height one.now }
@@ -58,7 +58,7 @@ fn lie_apart<F: TwoAdicField, D: TwoAdicSubgroupDft<F>>(
     ensures code { code.new.code ≡ code.old.code }
     ensures distance { IfOk result (λ told. IsTrue told
         → DifferInRows (2 ^ (code.old.code.log_message + code.old.code.added_bits) - 2 ^ code.old.code.log_message + 1)
-        (values_of F.Field.own one.now) (values_of F.Field.own other.now)) }
+        (values_of F.Valued.own one.now) (values_of F.Valued.own other.now)) }
 {
     let _whole = one.height() == other.height();
     if one == other {
@@ -74,7 +74,7 @@ fn told_with_no_added_bits<F: TwoAdicField, D: TwoAdicSubgroupDft<F>>(
     code: &mut ReedSolomon<F, D>,
     word: &RowMajorMatrix<F>,
 ) -> Result<bool, DftError>
-    requires is_code { IsCode F.Field.own F.TWO_ADICITY code.old.code }
+    requires is_code { IsCode F.Valued.own F.TWO_ADICITY code.old.code }
     requires points { height word.now ≡ 2 ^ code.old.code.log_message }
     requires fits { FitsDft F.TWO_ADICITY (height word.now) word.now.width }
     requires none { code.old.code.added_bits ≡ 0 }
@@ -91,7 +91,7 @@ fn of_two<F: TwoAdicField, D: TwoAdicSubgroupDft<F>>(
 ) -> ReedSolomon<F, D>
     ensures message { result.code.log_message ≡ 1 }
     ensures added { result.code.added_bits ≡ 1 }
-    ensures is_code { IsCode F.Field.own F.TWO_ADICITY result.code }
+    ensures is_code { IsCode F.Valued.own F.TWO_ADICITY result.code }
 {
     assert!(rt; fits_code::<F>(1, 1));
     ReedSolomon::new(engine, 1, 1, invertible(rt, shift))

@@ -5,7 +5,7 @@ use Rattle.std.proofs.Math.Seq.{get_or-append_right}
 use Rattle.std.proofs.lemmas.List.{length-append, length-replicate}
 use Rattle.std.proofs.lemmas.Nat.{pow-add, pow_pos, mul-add-lt}
 use Rattle.std.proofs.Math.Nat.{mul_assoc, mul_comm, mul-le-mul_right}
-use Rattle.p3_field.specs.declared.fields.Field.{Ghosts as FieldMembers}
+use Rattle.p3_field.specs.declared.fields.Valued.{Ghosts as FieldMembers}
 use Rattle.p3_matrix.specs.RowMajor.{RowMajor, IsRowMajor, height, HasShapeOf, with_zeros}
 use Rattle.p3_matrix.proofs.RowMajor.{whole_rows}
 use Rattle.p3_matrix.specs.Cosets.{IsValues, values_of}
@@ -53,19 +53,19 @@ padded_shape {T} z m back p a k whole shape high is = (
 )
 
 -- rows of zeros below the coefficients change no value
-pub values_of_padded : {F : Type 0} (f : FieldMembers F) → f.value f.ZERO ≡ f.ring.zero → (generator : ℕ → F) (m : RowMajor F) → IsRowMajor m → (a n : ℕ) (s : f.Element) (out : RowMajor F)
-    → IsValues f.ring (λ i. f.value (generator i)) (values_of f (with_zeros f.ZERO m a)) n s (values_of f out)
+pub values_of_padded : {F : Type 0} (f : FieldMembers F) → f.value f.zero ≡ f.ring.zero → (generator : ℕ → F) (m : RowMajor F) → IsRowMajor m → (a n : ℕ) (s : f.Element) (out : RowMajor F)
+    → IsValues f.ring (λ i. f.value (generator i)) (values_of f (with_zeros f.zero m a)) n s (values_of f out)
     → IsValues f.ring (λ i. f.value (generator i)) (values_of f m) n s (values_of f out)
 values_of_padded f zero_is generator m whole a n s out values =
-    let more : height m ≤ height (with_zeros f.ZERO m a) = omega (arith, padded_high f.ZERO m whole a, le-mul_of_pos_right (height m) (pow_pos a)) in
-    padded_values f.ring (λ i. f.value (generator i)) (values_of f m) (values_of f (with_zeros f.ZERO m a)) n s (values_of f out) more refl
-    (λ i j below inside. ap f.value (padded_above f.ZERO m whole a i j below inside))
-    (λ i j after below inside. ap f.value (padded_below f.ZERO m whole a i j after) ∙ zero_is) values
+    let more : height m ≤ height (with_zeros f.zero m a) = omega (arith, padded_high f.zero m whole a, le-mul_of_pos_right (height m) (pow_pos a)) in
+    padded_values f.ring (λ i. f.value (generator i)) (values_of f m) (values_of f (with_zeros f.zero m a)) n s (values_of f out) more refl
+    (λ i j below inside. ap f.value (padded_above f.zero m whole a i j below inside))
+    (λ i j after below inside. ap f.value (padded_below f.zero m whole a i j after) ∙ zero_is) values
 
 -- an entry above rows of zeros, where a program has the entries and the width in variables of its own
-pub cell_above : {F : Type 0} (f : FieldMembers F) (upper m : RowMajor F) (start : List F) (a w i j : ℕ) → IsRowMajor upper → m ≡ with_zeros f.ZERO upper a → start ≡ m.values
-    → upper.width ≡ w → i < height upper → j < upper.width → f.value (get_or start (i * w + j) f.ZERO) ≡ (values_of f upper).entry i j
+pub cell_above : {F : Type 0} (f : FieldMembers F) (upper m : RowMajor F) (start : List F) (a w i j : ℕ) → IsRowMajor upper → m ≡ with_zeros f.zero upper a → start ≡ m.values
+    → upper.width ≡ w → i < height upper → j < upper.width → f.value (get_or start (i * w + j) f.zero) ≡ (values_of f upper).entry i j
 cell_above {F} f upper m start a w i j whole over_zeros start_is wide below inside =
-    ap (λ xs. f.value (get_or xs (i * w + j) f.ZERO)) (start_is ∙ ap (λ (x : RowMajor F). x.values) over_zeros)
-    ∙ ap (λ v. f.value (get_or (with_zeros f.ZERO upper a).values (i * v + j) f.ZERO)) (sym wide)
-    ∙ ap f.value (padded_above f.ZERO upper whole a i j below inside)
+    ap (λ xs. f.value (get_or xs (i * w + j) f.zero)) (start_is ∙ ap (λ (x : RowMajor F). x.values) over_zeros)
+    ∙ ap (λ v. f.value (get_or (with_zeros f.zero upper a).values (i * v + j) f.zero)) (sym wide)
+    ∙ ap f.value (padded_above f.zero upper whole a i j below inside)

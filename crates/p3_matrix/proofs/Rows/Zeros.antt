@@ -4,7 +4,7 @@ use Rattle.std.specs.List.{All}
 use Rattle.std.proofs.Math.Nat.{mul-le-mul_right}
 use Rattle.std.proofs.lemmas.List.{get_or_default}
 use Rattle.std.proofs.lemmas.Nat.{div-add-mod', div_below, le-div, mod_below}
-use Rattle.p3_field.specs.declared.fields.Field.{Ghosts as FieldMembers}
+use Rattle.p3_field.specs.declared.fields.Valued.{Ghosts as FieldMembers}
 use Rattle.p3_matrix.specs.RowMajor.{RowMajor, IsRowMajor, height}
 use Rattle.p3_matrix.proofs.Rows.Overwritten.{part_at, part_size}
 use Rattle.p3_matrix.specs.Cosets.{values_of}
@@ -25,8 +25,8 @@ module _ {F : Type 0} (f : FieldMembers F) (m : RowMajor F) (start : ℕ) (whole
       let n = i * m.width + j - start * m.width in
       let place : i * m.width + j ≡ start * m.width + n = omega (arith, from) in
       let here : n < rest = omega (arith, from, to, whole.full) in
-      ap (λ p. f.value (get_or m.values p f.ZERO)) place ∙ ap f.value (sym (part_at m.values (start * m.width) rest n f.ZERO here))
-      ∙ zeros n f.ZERO (omega (arith, here, long))
+      ap (λ p. f.value (get_or m.values p f.zero)) place ∙ ap f.value (sym (part_at m.values (start * m.width) rest n f.zero here))
+      ∙ zeros n f.zero (omega (arith, here, long))
 
   entries_of_rows : ((i j : ℕ) → start ≤ i → i < height m → j < m.width → (values_of f m).entry i j ≡ f.ring.zero)
       → All (λ x. f.value x ≡ f.ring.zero) (take rest (drop (start * m.width) m.values))
@@ -36,8 +36,8 @@ module _ {F : Type 0} (f : FieldMembers F) (m : RowMajor F) (start : ℕ) (whole
       let here : n < rest = omega (arith, below, long) in
       let there : p < length m.values = omega (arith, here) in
       let some : 0 < w = omega (arith, whole.width) in
-      ap f.value (part_at m.values (start * w) rest n d here ∙ get_or_default m.values p d f.ZERO there)
-      ∙ ap (λ q. f.value (get_or m.values q f.ZERO)) (sym (div-add-mod' p w))
+      ap f.value (part_at m.values (start * w) rest n d here ∙ get_or_default m.values p d f.zero there)
+      ∙ ap (λ q. f.value (get_or m.values q f.zero)) (sym (div-add-mod' p w))
       ∙ zeros (p / w) (p % w) (le-div start p w some (omega arith)) (div_below p w (height m) some (omega (arith, there, whole.full))) (mod_below p w some)
 
   zeros_by_rows : (told : Bool) → (IsTrue told ↔ All (λ x. f.value x ≡ f.ring.zero) (take rest (drop (start * m.width) m.values)))

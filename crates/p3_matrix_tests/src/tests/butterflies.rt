@@ -188,7 +188,7 @@ fn row_like_elements<F: CanonicalField, B: Butterfly<F>>(
 }
 
 // Two rows by packs of this width.
-fn by_packs<F: CanonicalField, P: PackedField<F>, B: Butterfly<F>>(
+fn by_packs<F: CanonicalField, P: PackedField<Scalar = F>, B: Butterfly<F>>(
     rt: &impl Abort,
     alloc: Global,
     b: B,
@@ -227,7 +227,7 @@ fn by_elements<F: CanonicalField, B: Butterfly<F>>(
 }
 
 // Rows of packs of this width, by packs and by single elements.
-fn packs_like_elements<F: CanonicalField, P: PackedField<F>, B: Butterfly<F>>(
+fn packs_like_elements<F: CanonicalField, P: PackedField<Scalar = F>, B: Butterfly<F>>(
     rt: &impl Abort,
     alloc: Global,
     b: B,
@@ -273,7 +273,7 @@ fn applies_to_rows(rt: HostRuntime) {
 }
 
 // Rows of full packs, by packs and by single elements.
-fn packs_agree<F: CanonicalField, P: PackedField<F>, B: Butterfly<F>>(
+fn packs_agree<F: CanonicalField, P: PackedField<Scalar = F>, B: Butterfly<F>>(
     rt: &impl Abort,
     alloc: Global,
     b: B,
@@ -287,7 +287,7 @@ fn packs_agree<F: CanonicalField, P: PackedField<F>, B: Butterfly<F>>(
 }
 
 // Each butterfly, at packs of this width.
-fn packs_of<F: CanonicalField, P: PackedField<F>>(rt: &impl Abort, alloc: Global)
+fn packs_of<F: CanonicalField, P: PackedField<Scalar = F>>(rt: &impl Abort, alloc: Global)
     requires { 1 ≤ P.WIDTH }
 {
     let t = F::from_usize(1728404513);

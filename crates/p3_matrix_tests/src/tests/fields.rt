@@ -190,7 +190,7 @@ fn a_field_is_a_pack_of_one_lane(rt: HostRuntime) {
 }
 
 // The two elements of each pair change places.
-fn exchange<F: Field, P: PackedField<F>>(pairs: &mut [F])
+fn exchange<F: Field, P: PackedField<Scalar = F>>(pairs: &mut [F])
     requires { length pairs.old ≡ 2 * P.WIDTH }
     ensures { length pairs.new ≡ length pairs.old }
 {
@@ -199,7 +199,7 @@ fn exchange<F: Field, P: PackedField<F>>(pairs: &mut [F])
 }
 
 // Of the pairs of 1 and 2, of 3 and 4, and so on.
-fn exchanges<F: CanonicalField, P: PackedField<F>>(rt: &impl Abort, alloc: Global, size: usize)
+fn exchanges<F: CanonicalField, P: PackedField<Scalar = F>>(rt: &impl Abort, alloc: Global, size: usize)
     requires { size ≡ 2 * P.WIDTH }
 {
     let mut pairs: Vec<F> = row(rt, alloc, size, 1, 1);
@@ -233,7 +233,7 @@ fn pairs_are_loaded_and_stored(rt: HostRuntime) {
 }
 
 // What stands in one lane, and in the lane beside it.
-fn at_lanes<F: CanonicalField, P: PackedField<F>>(
+fn at_lanes<F: CanonicalField, P: PackedField<Scalar = F>>(
     rt: &impl Abort,
     alloc: Global,
     x: P,
@@ -248,7 +248,7 @@ fn at_lanes<F: CanonicalField, P: PackedField<F>>(
 }
 
 // Lanes of one element, but for one lane.
-fn lanes_of<F: CanonicalField, P: PackedField<F>>(
+fn lanes_of<F: CanonicalField, P: PackedField<Scalar = F>>(
     rt: &impl Abort,
     alloc: Global,
     x: F,
@@ -264,7 +264,7 @@ fn lanes_of<F: CanonicalField, P: PackedField<F>>(
 }
 
 // Stops the test where one lane has another number, or the lane beside it is another element.
-fn lane_is<F: CanonicalField, P: PackedField<F>>(
+fn lane_is<F: CanonicalField, P: PackedField<Scalar = F>>(
     rt: &impl Abort,
     alloc: Global,
     x: P,
@@ -281,7 +281,7 @@ fn lane_is<F: CanonicalField, P: PackedField<F>>(
 }
 
 // Each operation in one lane, beside others that have answers of their own.
-fn lane_agrees<F: CanonicalField, P: PackedField<F>>(
+fn lane_agrees<F: CanonicalField, P: PackedField<Scalar = F>>(
     rt: &impl Abort,
     alloc: Global,
     lane: usize,
@@ -307,7 +307,7 @@ fn lane_agrees<F: CanonicalField, P: PackedField<F>>(
     lane_is(rt, alloc, all, lane, t.as_canonical_u64(), t);
 }
 
-fn lanes_agree<F: CanonicalField, P: PackedField<F>>(
+fn lanes_agree<F: CanonicalField, P: PackedField<Scalar = F>>(
     rt: &impl Abort,
     alloc: Global,
     table: &[(usize, usize, u64, u64, u64)],

@@ -4,7 +4,7 @@ use Rattle.std.specs.Prelude.{⊤}
 use Rattle.std.proofs.Common.{◌≡◌, ℕ, ◌+◌, ◌*◌, ◌-◌, ◌/◌, ◌^◌, ◌≤◌, List, get_or, Result, sym, ap, ◌∙◌, arith}
 use Rattle.std.proofs.lemmas.Result.{MatchResult-weaker}
 use Rattle.p3_field.specs.Ring.{AreRoots}
-use Rattle.p3_field.specs.declared.fields.Field.{Ghosts as FieldMembers}
+use Rattle.p3_field.specs.declared.fields.Valued.{Ghosts as FieldMembers}
 use Rattle.p3_matrix.specs.BitOrder.{rev, mid_of}
 use Rattle.p3_matrix.specs.Cosets.{point}
 use Rattle.p3_matrix.specs.Polynomials.{poly}
@@ -40,11 +40,11 @@ both_counted k w before middle after first second =
 module _ {F : Type 0} (field : FieldMembers F) (generator : ℕ → F) (s : field.Element) (k : ℕ) (twiddles : List F) (table : IsCosetTable field generator s k twiddles) where
   -- the first n chunks of the second half, from rows that are reversed before it
   abbrev Second : ℕ → List F → List F → ℕ → Type 0
-  Second w middle after n = IsHighHalf field n (mid_of k) (k - mid_of k) w (by_layer field.ZERO twiddles) (λ a q j. field.value (get_or middle ((rev (k - mid_of k) q * 2 ^ mid_of k + rev (mid_of k) a) * w + j) field.ZERO)) after
+  Second w middle after n = IsHighHalf field n (mid_of k) (k - mid_of k) w (by_layer field.zero twiddles) (λ a q j. field.value (get_or middle ((rev (k - mid_of k) q * 2 ^ mid_of k + rev (mid_of k) a) * w + j) field.zero)) after
 
   -- the first half leads from before to middle, the second to the first n chunks of after
   pub rows_on_coset : {bits : ℕ} → AreRoots field.ring bits (forward_root field generator) → k ≤ bits → (w n : ℕ) (before middle after : List F)
-      → IsLowHalf field (2 ^ (k - mid_of k)) (mid_of k) w (by_layer field.ZERO twiddles) before middle → Second w middle after n → HasRowsOnCoset field generator k w s (n * 2 ^ (k - mid_of k)) before after
+      → IsLowHalf field (2 ^ (k - mid_of k)) (mid_of k) w (by_layer field.zero twiddles) before middle → Second w middle after n → HasRowsOnCoset field generator k w s (n * 2 ^ (k - mid_of k)) before after
   rows_on_coset roots_law within w n before middle after first second r j below inside =
       let gen = forward_root field generator in
       let mid = mid_of k in
@@ -52,15 +52,15 @@ module _ {F : Type 0} (field : FieldMembers F) (generator : ℕ → F) (s : fiel
       let k_is = halves_whole k in
       let roots = fewer_roots field.ring (mid + left) _ (omega (arith, within)) roots_law in
       let fewer = fewer_roots field.ring mid (mid + left) (omega arith) roots in
-      rows_of_halves field.ring roots s field.value field.ZERO mid left w n before middle after (omega arith)
+      rows_of_halves field.ring roots s field.value field.zero mid left w n before middle after (omega arith)
       (λ a t v p q l. first gen _ fewer (low_of_coset field generator s k twiddles mid left (omega arith) k_is table) a t v p q l)
       (λ a t v p q l. second gen s roots (high_of_coset field generator s k twiddles mid (mid + left) (omega arith) (sym k_is) table) a t v p q l)
       r j below inside
-      ∙ ap (λ m. poly field.ring (2 ^ m) (λ q. field.value (get_or before (rev m q * w + j) field.ZERO)) (point field.ring gen m s (rev m r))) k_is
+      ∙ ap (λ m. poly field.ring (2 ^ m) (λ q. field.value (get_or before (rev m q * w + j) field.zero)) (point field.ring gen m s (rev m r))) k_is
 
   -- and what the second lends are such rows
   pub lent_on_coset : {C R : Type 0} {bits : ℕ} → AreRoots field.ring bits (forward_root field generator) → k ≤ bits → (step : C → ℕ → RowMajor F → Result ⊤ R → C → Type 0) (first_row w : ℕ) (before middle after : List F)
-      (c : C) (result : Result ⊤ R) (e : C) → IsLowHalf field (2 ^ (k - mid_of k)) (mid_of k) w (by_layer field.ZERO twiddles) before middle
+      (c : C) (result : Result ⊤ R) (e : C) → IsLowHalf field (2 ^ (k - mid_of k)) (mid_of k) w (by_layer field.zero twiddles) before middle
       → LentInBlocks step first_row (2 ^ (k - mid_of k)) w (2 ^ mid_of k) (Second w middle after) after c result e
       → LentInBlocks step first_row (2 ^ (k - mid_of k)) w (2 ^ mid_of k) (λ n. HasRowsOnCoset field generator k w s (n * 2 ^ (k - mid_of k)) before after) after c result e
   lent_on_coset roots_law within step first_row w before middle after c result e first lent =

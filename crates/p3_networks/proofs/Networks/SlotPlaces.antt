@@ -9,7 +9,7 @@ use Rattle.std.proofs.lemmas.List.FromFn.{get_or-map-range_with_len, length-map-
 use Rattle.std.proofs.lemmas.Slice.{take-put_mid_below}
 use Rattle.std.proofs.lemmas.Nat.{pow-add, pow_pos}
 use Rattle.p3_field.specs.Ring.{AreRoots}
-use Rattle.p3_field.specs.declared.fields.Field.{Ghosts as FieldMembers}
+use Rattle.p3_field.specs.declared.fields.Valued.{Ghosts as FieldMembers}
 use Rattle.p3_matrix.specs.BitOrder.{rev, mid_of}
 use Rattle.p3_matrix.specs.Blocks.{AreBlocksOf, Run, RunToRefusal}
 use Rattle.p3_matrix.specs.Matrix.{Matrix, image, matrix}
@@ -44,24 +44,24 @@ back_is xs ys = sym (ap (take (length ys)) (drop_at xs ys (length xs) refl) ∙ 
 -- a row of slot m, as a row of all: the coefficients, of which number u lies in row `place u`, are the front of the rows
 slot_entry : {F : Type 0} (f : FieldMembers F) (generator : ℕ → F) (k a w : ℕ) (place : ℕ → ℕ) (s : f.Element) (values coefficients others : List F) → values ≡ coefficients ++ others → length coefficients ≡ 2 ^ k * w
     → ((u : ℕ) → u < 2 ^ k → place u < 2 ^ k) → AreRoots f.ring (k + a) (forward_root f generator) → (shift : f.Element) (m t j : ℕ) → shift ≡ point f.ring (forward_root f generator) (k + a) s (rev a m) → t < 2 ^ k → j < w
-    → poly f.ring (2 ^ k) (λ u. f.value (get_or coefficients (place u * w + j) f.ZERO)) (point f.ring (forward_root f generator) k shift (rev k t))
-    ≡ poly f.ring (2 ^ k) (λ u. f.value (get_or values (place u * w + j) f.ZERO)) (point f.ring (forward_root f generator) (k + a) s (rev (k + a) (m * 2 ^ k + t)))
+    → poly f.ring (2 ^ k) (λ u. f.value (get_or coefficients (place u * w + j) f.zero)) (point f.ring (forward_root f generator) k shift (rev k t))
+    ≡ poly f.ring (2 ^ k) (λ u. f.value (get_or values (place u * w + j) f.zero)) (point f.ring (forward_root f generator) (k + a) s (rev (k + a) (m * 2 ^ k + t)))
 slot_entry f generator k a w place s values coefficients others split size within roots shift m t j is small inside =
     poly_same f.ring (2 ^ k) _ _ _ (λ u l.
-    sym (ap (λ xs. f.value (get_or xs (place u * w + j) f.ZERO)) split
-    ∙ ap f.value (in_first coefficients others (place u * w + j) f.ZERO (omega (arith, size, row_below (place u) j w (2 ^ k) (within u l) inside)))))
-    ∙ ap (poly f.ring (2 ^ k) (λ u. f.value (get_or values (place u * w + j) f.ZERO)))
+    sym (ap (λ xs. f.value (get_or xs (place u * w + j) f.zero)) split
+    ∙ ap f.value (in_first coefficients others (place u * w + j) f.zero (omega (arith, size, row_below (place u) j w (2 ^ k) (within u l) inside)))))
+    ∙ ap (poly f.ring (2 ^ k) (λ u. f.value (get_or values (place u * w + j) f.zero)))
     (ap (λ x. point f.ring (forward_root f generator) k x (rev k t)) is ∙ slot_point f.ring roots s k a m t (omega arith) small)
 
 -- the first n rows of slot m, which have the values on its coset, as rows of all
 pub slot_rows : {F : Type 0} (f : FieldMembers F) (generator : ℕ → F) (k a w : ℕ) (place : ℕ → ℕ) (s : f.Element) (values coefficients others part : List F) → values ≡ coefficients ++ others → length coefficients ≡ 2 ^ k * w
     → ((u : ℕ) → u < 2 ^ k → place u < 2 ^ k) → AreRoots f.ring (k + a) (forward_root f generator) → (shift : f.Element) (m n : ℕ) → shift ≡ point f.ring (forward_root f generator) (k + a) s (rev a m)
-    → ((t j : ℕ) → t < n → j < w → f.value (get_or part (t * w + j) f.ZERO) ≡ poly f.ring (2 ^ k) (λ u. f.value (get_or coefficients (place u * w + j) f.ZERO)) (point f.ring (forward_root f generator) k shift (rev k t)))
+    → ((t j : ℕ) → t < n → j < w → f.value (get_or part (t * w + j) f.zero) ≡ poly f.ring (2 ^ k) (λ u. f.value (get_or coefficients (place u * w + j) f.zero)) (point f.ring (forward_root f generator) k shift (rev k t)))
     → (r t j : ℕ) → m * 2 ^ k + t ≡ r → t < n → t < 2 ^ k → j < w
-    → f.value (get_or part (t * w + j) f.ZERO) ≡ poly f.ring (2 ^ k) (λ u. f.value (get_or values (place u * w + j) f.ZERO)) (point f.ring (forward_root f generator) (k + a) s (rev (k + a) r))
+    → f.value (get_or part (t * w + j) f.zero) ≡ poly f.ring (2 ^ k) (λ u. f.value (get_or values (place u * w + j) f.zero)) (point f.ring (forward_root f generator) (k + a) s (rev (k + a) r))
 slot_rows f generator k a w place s values coefficients others part split size within roots shift m n is done r t j number few small inside =
     done t j few inside ∙ slot_entry f generator k a w place s values coefficients others split size within roots shift m t j is small inside
-    ∙ ap (λ n. poly f.ring (2 ^ k) (λ u. f.value (get_or values (place u * w + j) f.ZERO)) (point f.ring (forward_root f generator) (k + a) s (rev (k + a) n))) number
+    ∙ ap (λ n. poly f.ring (2 ^ k) (λ u. f.value (get_or values (place u * w + j) f.zero)) (point f.ring (forward_root f generator) (k + a) s (rev (k + a) n))) number
 
 pub zero_slot : (k t : ℕ) → 0 * 2 ^ k + t ≡ t
 zero_slot k t = omega arith

@@ -4,7 +4,7 @@ use Rattle.std.proofs.Math.Nat.{le-add_right, le_trans, mul-le-mul_right, sub-le
 use Rattle.std.proofs.lemmas.Bool.{cases_lt}
 use Rattle.std.proofs.lemmas.Nat.{pow-add, pow_pos, div-add-mod', div_below, mod_below}
 use Rattle.p3_field.specs.Ring.{power}
-use Rattle.p3_field.specs.declared.fields.Field.{Ghosts as FieldMembers}
+use Rattle.p3_field.specs.declared.fields.Valued.{Ghosts as FieldMembers}
 use Rattle.p3_matrix.specs.BitOrder.{rev}
 use Rattle.p3_matrix.specs.Cosets.{point}
 use Rattle.p3_networks.specs.Layers.{AreValuesOfRows}
@@ -83,13 +83,13 @@ rows_of_slots value d k a w front others entry size first other r j below inside
 
 -- values on the subgroup of rows times the powers of s are those of the rows on the coset of s
 pub values_of_shifted : {F : Type 0} (f : FieldMembers F) (generator : ℕ → F) (k w : ℕ) (s : f.Element) (height : ℕ) (rows shifted out : List F) → height ≡ 2 ^ k
-    → ((i j : ℕ) → i < height → j < w → f.value (get_or shifted (i * w + j) f.ZERO) ≡ f.ring.mul (f.value (get_or rows (i * w + j) f.ZERO)) (power f.ring s i))
+    → ((i j : ℕ) → i < height → j < w → f.value (get_or shifted (i * w + j) f.zero) ≡ f.ring.mul (f.value (get_or rows (i * w + j) f.zero)) (power f.ring s i))
     → AreValuesOfRows f w (2 ^ k) (λ q. q) (λ r. power f.ring (forward_root f generator k) (rev k r)) shifted out
-    → (r j : ℕ) → r < 2 ^ k → j < w → f.value (get_or out (r * w + j) f.ZERO)
-    ≡ poly f.ring (2 ^ k) (λ q. f.value (get_or rows (q * w + j) f.ZERO)) (point f.ring (forward_root f generator) k s (rev k r))
+    → (r j : ℕ) → r < 2 ^ k → j < w → f.value (get_or out (r * w + j) f.zero)
+    ≡ poly f.ring (2 ^ k) (λ q. f.value (get_or rows (q * w + j) f.zero)) (point f.ring (forward_root f generator) k s (rev k r))
 values_of_shifted f generator k w s height rows shifted out high times values r j below inside =
     let x = power f.ring (forward_root f generator k) (rev k r) in
     values r j below inside
-    ∙ poly_same f.ring (2 ^ k) _ (λ q. f.ring.mul (f.value (get_or rows (q * w + j) f.ZERO)) (power f.ring s q)) x (λ q l. times q j (omega (arith, l, high)) inside)
-    ∙ poly-scaled f.ring (2 ^ k) (λ q. f.value (get_or rows (q * w + j) f.ZERO)) s x
-    ∙ ap (poly f.ring (2 ^ k) (λ q. f.value (get_or rows (q * w + j) f.ZERO))) (sym (point-mul f.ring (forward_root f generator) k s (rev k r)))
+    ∙ poly_same f.ring (2 ^ k) _ (λ q. f.ring.mul (f.value (get_or rows (q * w + j) f.zero)) (power f.ring s q)) x (λ q l. times q j (omega (arith, l, high)) inside)
+    ∙ poly-scaled f.ring (2 ^ k) (λ q. f.value (get_or rows (q * w + j) f.zero)) s x
+    ∙ ap (poly f.ring (2 ^ k) (λ q. f.value (get_or rows (q * w + j) f.zero))) (sym (point-mul f.ring (forward_root f generator) k s (rev k r)))

@@ -4,7 +4,7 @@ use Rattle.std.proofs.lemmas.Bool.{cases_lt, le-leb, lt-leb}
 use Rattle.std.proofs.lemmas.List.{get_or_append_left, get_or-append_right}
 use Rattle.std.proofs.lemmas.Nat.{pow-add}
 use Rattle.p3_field.specs.Ring.{power}
-use Rattle.p3_field.specs.declared.fields.Field.{Ghosts as FieldMembers}
+use Rattle.p3_field.specs.declared.fields.Valued.{Ghosts as FieldMembers}
 use Rattle.p3_field.proofs.Powers.{power-mul}
 use Rattle.p3_networks.specs.Halves.{AreHighTwiddles, AreLowTwiddles}
 use Rattle.p3_matrix.specs.Cosets.{Coset, HasCoset, IsCosetAt, IsCosetOf}
@@ -14,7 +14,7 @@ use Rattle.p3_networks.specs.Twiddles.{by_layer, IsCosetTable, coset_twiddles, f
 module _ {F : Type 0} (f : FieldMembers F) (generator : ℕ → F) (s : f.Element) (log : ℕ) (xs : List F) where
   -- the first half is on the coset of the power of the shift
   pub low_of_coset : (mid left : ℕ) → mid ≡ mid_of log → mid + left ≡ log → IsCosetTable f generator s log xs
-      → AreLowTwiddles f (forward_root f generator) (power f.ring s (2 ^ left)) mid (by_layer f.ZERO xs)
+      → AreLowTwiddles f (forward_root f generator) (power f.ring s (2 ^ left)) mid (by_layer f.zero xs)
   low_of_coset mid left half whole table l t below p =
       let root = forward_root f generator in
       let natural = lt-leb (mid_of log) l (omega (arith, below, half)) in
@@ -22,10 +22,10 @@ module _ {F : Type 0} (f : FieldMembers F) (generator : ℕ → F) (s : f.Elemen
       table.entries l t (omega (arith, whole, below)) p ∙ ap (λ r. coset_twiddles f root s log l (layer_place r l t)) natural
       ∙ ap (λ x. f.ring.mul x (power f.ring (root (l + 1)) t)) (ap (λ n. power f.ring s (2 ^ n)) split ∙ ap (power f.ring s) (pow-add 2 left (mid - 1 - l)) ∙ power-mul f.ring s (2 ^ left) (2 ^ (mid - 1 - l)))
 
-  pub high_of_coset : (mid k : ℕ) → mid ≡ mid_of log → log ≡ k → IsCosetTable f generator s log xs → AreHighTwiddles f (forward_root f generator) s mid k (by_layer f.ZERO xs)
+  pub high_of_coset : (mid k : ℕ) → mid ≡ mid_of log → log ≡ k → IsCosetTable f generator s log xs → AreHighTwiddles f (forward_root f generator) s mid k (by_layer f.zero xs)
   high_of_coset mid k half same table =
       let root = forward_root f generator in
-      subst (λ (n : ℕ). AreHighTwiddles f root s mid n (by_layer f.ZERO xs)) same
+      subst (λ (n : ℕ). AreHighTwiddles f root s mid n (by_layer f.zero xs)) same
       (λ l b from below p. table.entries l b below p ∙ ap (λ r. coset_twiddles f root s log l (layer_place r l b)) (le-leb (mid_of log) l (omega (arith, from, half))))
 
 -- a coset keeps its table where one is added at the end

@@ -3,7 +3,7 @@ use Rattle.std.proofs.Common.{◌≡◌, ℕ, zero, suc, ◌+◌, ◌*◌, ◌-�
 use Rattle.std.proofs.Math.Nat.{mul-le-mul_right, pow-le-pow_right}
 use Rattle.std.proofs.lemmas.Nat.{pow-add, pow_pos}
 use Rattle.p3_field.specs.Ring.{power, AreRoots}
-use Rattle.p3_field.specs.declared.fields.Field.{Ghosts as FieldMembers}
+use Rattle.p3_field.specs.declared.fields.Valued.{Ghosts as FieldMembers}
 use Rattle.p3_field.proofs.Powers.{power-zero, power_of_one}
 use Rattle.p3_field.proofs.Rings
 use Rattle.p3_field.proofs.Roots.{root_strided}
@@ -55,7 +55,7 @@ module _ {F : Type 0} (f : FieldMembers F) (root : ℕ → f.Element) where
   }
 
   -- the first is one, and there is one for each block of the largest layer
-  pub first_is_one : (log : ℕ) (table : List F) → 1 ≤ log → AreTwiddlesFromStart f log (block_powers f root) table → f.value (get_or table 0 f.ZERO) ≡ f.ring.one
+  pub first_is_one : (log : ℕ) (table : List F) → 1 ≤ log → AreTwiddlesFromStart f log (block_powers f root) table → f.value (get_or table 0 f.zero) ≡ f.ring.one
   first_is_one log table some are = are.entries 0 0 some (pow_pos 0) ∙ ap (power f.ring (root 1)) (rev_of_zero 0) ∙ power-zero f.ring (root 1)
 
   pub enough_from_start : (log : ℕ) (table : List F) → 1 ≤ log → AreTwiddlesFromStart f log (block_powers f root) table → 2 ^ log ≤ 2 * length table
@@ -65,17 +65,17 @@ module _ {F : Type 0} (f : FieldMembers F) (root : ℕ → f.Element) where
       omega (arith, size, d)
 
   -- for blocks they are the twiddles of the subgroup
-  pub block_table : (mid k log : ℕ) (table : List F) → k ≤ log → AreTwiddlesFromStart f log (block_powers f root) table → AreHighTwiddles f root f.ring.one mid k (from_start f.ZERO table)
+  pub block_table : (mid k log : ℕ) (table : List F) → k ≤ log → AreTwiddlesFromStart f log (block_powers f root) table → AreHighTwiddles f root f.ring.one mid k (from_start f.zero table)
   block_table mid k log table less are l b from below inside =
       let power_is = block_powers f root l b in
       are.entries l b (omega (arith, less, below)) inside ∙ sym (ap (λ x. f.ring.mul x power_is) (power_of_one f.ring (2 ^ (k - 1 - l))) ∙ Rings.one-mul f.ring power_is)
 
   -- the power for row q of 2 ^ (log - a) that are spread by 2 ^ a
   pub spread_root : (log a : ℕ) (table : List F) → a ≤ log → 1 ≤ log → AreTwiddlesFromStart f log (block_powers f root) table → (q t : ℕ) → q < 2 ^ (log - a) → t < 2 ^ a
-      → power f.ring (f.value (get_or table (q * (2 ^ a / 2)) f.ZERO)) t ≡ power f.ring (power f.ring (root log) (rev (log - a) q)) t
+      → power f.ring (f.value (get_or table (q * (2 ^ a / 2)) f.zero)) t ≡ power f.ring (power f.ring (root log) (rev (log - a) q)) t
   spread_root log zero table within some are q t inside below =
       let none : t ≡ 0 = omega arith in
-      ap (power f.ring (f.value (get_or table (q * (2 ^ 0 / 2)) f.ZERO))) none ∙ power-zero f.ring _
+      ap (power f.ring (f.value (get_or table (q * (2 ^ 0 / 2)) f.zero))) none ∙ power-zero f.ring _
       ∙ sym (ap (power f.ring (power f.ring (root log) (rev (log - 0) q))) none ∙ power-zero f.ring _)
   spread_root log (suc a) table within some are q t inside below =
       let double : 2 ^ suc a ≡ 2 * 2 ^ a = let d : 2 ^ suc a ≡ 2 * 2 ^ a = omega arith in d in
@@ -90,7 +90,7 @@ module _ {F : Type 0} (f : FieldMembers F) (root : ℕ → f.Element) where
       let place : rev (log - 1) (q * 2 ^ a) ≡ rev m q =
       ap₂ rev digits plain ∙ rev-block a m q 0 (pow_pos a) ∙ ap (λ n. n * 2 ^ m + rev m q) (rev_of_zero a) ∙ omega arith in
       ap (λ x. power f.ring x t)
-      (ap (λ n. f.value (get_or table n f.ZERO)) half ∙ are.entries (log - 1) (q * 2 ^ a) (omega (arith, some)) (omega (arith, room, next, all, pow_pos a))
+      (ap (λ n. f.value (get_or table n f.zero)) half ∙ are.entries (log - 1) (q * 2 ^ a) (omega (arith, some)) (omega (arith, room, next, all, pow_pos a))
       ∙ ap₂ (λ n e. power f.ring (root n) e) whole place)
 
 -- what serves a height serves a smaller one

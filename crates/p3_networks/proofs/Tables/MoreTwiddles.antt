@@ -3,7 +3,7 @@ use Rattle.std.proofs.Common.{◌≡◌, ℕ, suc, ◌+◌, ◌*◌, ◌-◌, �
 use Rattle.std.proofs.Math.Nat.{pow-le-pow_right, two-pow-succ}
 use Rattle.std.proofs.lemmas.Bool.{cases_lt}
 use Rattle.std.proofs.lemmas.Nat.{pow_pos}
-use Rattle.p3_field.specs.declared.fields.Field.{Ghosts as FieldMembers}
+use Rattle.p3_field.specs.declared.fields.Valued.{Ghosts as FieldMembers}
 use Rattle.p3_networks.specs.Twiddles.{AreTwiddlesOfLayers}
 
 -- the twiddles of a layer lie within those of all layers
@@ -18,8 +18,8 @@ module _ {F : Type 0} (f : FieldMembers F) (p : ℕ → ℕ → f.Element) where
   }
 
   pub one_more_layer : (l : ℕ) (before after : List F) → length before ≡ 2 ^ l - 1 → AreTwiddlesOfLayers f l p before → length after ≡ length before + 2 ^ l
-      → ((n : ℕ) → n < length before → get_or after n f.ZERO ≡ get_or before n f.ZERO)
-      → ((t : ℕ) → t < 2 ^ l → f.value (get_or after (length before + t) f.ZERO) ≡ p l t)
+      → ((n : ℕ) → n < length before → get_or after n f.zero ≡ get_or before n f.zero)
+      → ((t : ℕ) → t < 2 ^ l → f.value (get_or after (length before + t) f.zero) ≡ p l t)
       → AreTwiddlesOfLayers f (l + 1) p after
   one_more_layer l before after full are longer stays added = record {
     size = let twice : 2 ^ (l + 1) ≡ 2 * 2 ^ l = ap (λ n. 2 ^ n) (add-one l) ∙ omega arith in let some = pow_pos l in omega (arith, longer, full, twice, some);
@@ -31,7 +31,7 @@ module _ {F : Type 0} (f : FieldMembers F) (p : ℕ → ℕ → f.Element) where
         ap f.value (stays (2 ^ m - 1 + t) (omega (arith, full, rise, two-pow-succ m, inside, some))) ∙ are.entries m t less inside)
         (λ not_less.
         let same : l ≡ m = omega arith in
-        subst (λ (k : ℕ). f.value (get_or after (2 ^ k - 1 + t) f.ZERO) ≡ p k t) same
-        (ap (λ n. f.value (get_or after (n + t) f.ZERO)) (sym full) ∙ added t (subst (λ (k : ℕ). t < 2 ^ k) (sym same) inside)))
+        subst (λ (k : ℕ). f.value (get_or after (2 ^ k - 1 + t) f.zero) ≡ p k t) same
+        (ap (λ n. f.value (get_or after (n + t) f.zero)) (sym full) ∙ added t (subst (λ (k : ℕ). t < 2 ^ k) (sym same) inside)))
         (cases_lt m l);
   }

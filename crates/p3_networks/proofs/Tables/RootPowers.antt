@@ -1,7 +1,7 @@
 -- Powers of the generators, or of their inverses, as the halves of a network on the subgroup take them.
 use Rattle.std.proofs.Common.{◌≡◌, ℕ, ◌-◌, ◌<◌, ◌≤◌, ◌^◌, Bool, true, false, sym, ap, ◌∙◌, subst, arith}
 use Rattle.p3_field.specs.Ring.{Ring, AreRoots, power}
-use Rattle.p3_field.specs.declared.fields.Field.{Ghosts as FieldMembers}
+use Rattle.p3_field.specs.declared.fields.Valued.{Ghosts as FieldMembers}
 use Rattle.p3_field.proofs.Rings
 use Rattle.p3_field.proofs.Powers.{power_of_one}
 use Rattle.p3_field.proofs.Roots.{inverse_roots}

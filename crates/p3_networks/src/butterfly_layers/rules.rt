@@ -40,12 +40,12 @@ pub trait Decimation<F: TwoAdicField>: Copy {
     )
         requires first { number ≡ 0 → asks F.Element F.ring (F.value twiddle) }
         requires size { length row_1.old ≡ length row_2.old }
-        ensures near { (j : ℕ) → j < length row_1.old → F.value (get_or row_1.new j F.ZERO)
-            ≡ near F.Element F.ring F.value self (F.value twiddle) (F.value (get_or row_1.old j F.ZERO))
-            (F.value (get_or row_2.old j F.ZERO)) }
-        ensures far { (j : ℕ) → j < length row_1.old → F.value (get_or row_2.new j F.ZERO)
-            ≡ far F.Element F.ring F.value self (F.value twiddle) (F.value (get_or row_1.old j F.ZERO))
-            (F.value (get_or row_2.old j F.ZERO)) }
+        ensures near { (j : ℕ) → j < length row_1.old → F.value (get_or row_1.new j F.zero)
+            ≡ near F.Element F.ring F.value self (F.value twiddle) (F.value (get_or row_1.old j F.zero))
+            (F.value (get_or row_2.old j F.zero)) }
+        ensures far { (j : ℕ) → j < length row_1.old → F.value (get_or row_2.new j F.zero)
+            ≡ far F.Element F.ring F.value self (F.value twiddle) (F.value (get_or row_1.old j F.zero))
+            (F.value (get_or row_2.old j F.zero)) }
         ensures grows { products.old ≤ products.new }
         ensures cost { products.new ≤ products.old + cost * length row_1.old };
 }
@@ -256,16 +256,16 @@ pub struct ByBlock<'a, F, D> {
 impl<F: TwoAdicField, D: Decimation<F>> Rule<F> for ByBlock<'_, F, D> {
     ghost use Rattle.std.specs.Prelude.{◌<◌, length, get_or, true};
 
-    ghost near = { λ A ring v r b t. D.near A ring v r.decimation (v (get_or r.twiddles.now b F.ZERO)) };
+    ghost near = { λ A ring v r b t. D.near A ring v r.decimation (v (get_or r.twiddles.now b F.zero)) };
 
-    ghost far = { λ A ring v r b t. D.far A ring v r.decimation (v (get_or r.twiddles.now b F.ZERO)) };
+    ghost far = { λ A ring v r b t. D.far A ring v r.decimation (v (get_or r.twiddles.now b F.zero)) };
 
     ghost by_block = { true };
 
     ghost cost = { D.cost };
 
     ghost has = { λ r b t. (b < length r.twiddles.now)
-        × D.asks F.Element F.ring (F.value (get_or r.twiddles.now 0 F.ZERO)) };
+        × D.asks F.Element F.ring (F.value (get_or r.twiddles.now 0 F.zero)) };
 
     #[inline(always)]
     fn goes_by_block(self) -> bool {
@@ -295,12 +295,12 @@ pub(crate) fn meet_rows<F: TwoAdicField, B: Butterfly<F>>(
     products: &mut Products,
 )
     requires { length row_1.old ≡ length row_2.old }
-    ensures near { (j : ℕ) → j < length row_1.old → F.value (get_or row_1.new j F.ZERO)
-        ≡ B.near F.Element F.ring F.value butterfly (F.value (get_or row_1.old j F.ZERO))
-        (F.value (get_or row_2.old j F.ZERO)) }
-    ensures far { (j : ℕ) → j < length row_1.old → F.value (get_or row_2.new j F.ZERO)
-        ≡ B.far F.Element F.ring F.value butterfly (F.value (get_or row_1.old j F.ZERO))
-        (F.value (get_or row_2.old j F.ZERO)) }
+    ensures near { (j : ℕ) → j < length row_1.old → F.value (get_or row_1.new j F.zero)
+        ≡ B.near F.Element F.ring F.value butterfly (F.value (get_or row_1.old j F.zero))
+        (F.value (get_or row_2.old j F.zero)) }
+    ensures far { (j : ℕ) → j < length row_1.old → F.value (get_or row_2.new j F.zero)
+        ≡ B.far F.Element F.ring F.value butterfly (F.value (get_or row_1.old j F.zero))
+        (F.value (get_or row_2.old j F.zero)) }
     ensures count { products.new ≡ products.old + B.cost * length row_1.old }
 {
     butterfly.apply_to_rows(row_1, row_2, products);
@@ -315,10 +315,10 @@ pub(crate) fn meet_by_place<F: TwoAdicField>(
 )
     requires size { length low.old ≡ length high.old }
     requires enough { length low.old ≤ length twiddles.now }
-    ensures near { let cell = λ (xs : List F) (n : ℕ). F.value (get_or xs n F.ZERO) in
+    ensures near { let cell = λ (xs : List F) (n : ℕ). F.value (get_or xs n F.zero) in
         (t : ℕ) → t < length low.old → cell low.new t
         ≡ dit_near F.ring (cell twiddles.now t) (cell low.old t) (cell high.old t) }
-    ensures far { let cell = λ (xs : List F) (n : ℕ). F.value (get_or xs n F.ZERO) in
+    ensures far { let cell = λ (xs : List F) (n : ℕ). F.value (get_or xs n F.zero) in
         (t : ℕ) → t < length low.old → cell high.new t
         ≡ dit_far F.ring (cell twiddles.now t) (cell low.old t) (cell high.old t) }
     ensures count { products.new ≡ products.old + length low.old }

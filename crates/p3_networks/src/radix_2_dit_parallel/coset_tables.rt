@@ -35,7 +35,7 @@ impl<F: TwoAdicField> Model for CosetTable<F> {
 
     ghost invariant = { λ t.
         (length t.twiddles.items ≡ 2 ^ t.log_h - 1)
-        × IsCosetTable F.Field F.generator (F.Field.value t.shift) t.log_h t.twiddles.items
+        × IsCosetTable F.Valued F.generator (F.Valued.value t.shift) t.log_h t.twiddles.items
         × (t.log_h ≤ F.TWO_ADICITY) };
 }
 
@@ -57,7 +57,7 @@ impl<F: TwoAdicField> CosetTable<F> {
 
     // Whether it is that of a coset.
     fn is_of(&self, log_h: usize, shift: F) -> bool
-        ensures { IsTrue result ↔ IsCosetOf F.Field.own log_h (F.value shift) self.now }
+        ensures { IsTrue result ↔ IsCosetOf F.Valued.own log_h (F.value shift) self.now }
     {
         self.log_h == log_h && self.shift == shift
     }
@@ -66,7 +66,7 @@ impl<F: TwoAdicField> CosetTable<F> {
     pub fn twiddles(&self) -> &[F]
         ensures within { self.now.log_h ≤ F.TWO_ADICITY }
         ensures size { length result.now ≡ 2 ^ self.now.log_h - 1 }
-        ensures table { IsCosetTable F.Field.own F.generator (F.value self.now.shift) self.now.log_h result.now }
+        ensures table { IsCosetTable F.Valued.own F.generator (F.value self.now.shift) self.now.log_h result.now }
     {
         self.twiddles.as_slice()
     }
@@ -77,7 +77,7 @@ fn coset_layers<F: TwoAdicField>(alloc: Global, log_h: usize, shift: F) -> Resul
     requires within { log_h ≤ F.TWO_ADICITY }
     requires fits_u64 { log_h < 64 }
     ensures size { IfOk result (λ v. length v.items ≡ 2 ^ log_h - 1) }
-    ensures table { IfOk result (λ v. IsCosetTable F.Field.own F.generator (F.value shift) log_h v.items) }
+    ensures table { IfOk result (λ v. IsCosetTable F.Valued.own F.generator (F.value shift) log_h v.items) }
     ensures room { IfErr result (IsWithin (2 ^ log_h - 1)) }
 {
     let mid = (log_h + 1) / 2;
@@ -101,7 +101,7 @@ pub(crate) fn slot_shift<F: TwoAdicField>(
     requires within { log_h + added_bits ≤ F.TWO_ADICITY }
     requires fits_u64 { log_h + added_bits < 64 }
     ensures { F.value result
-        ≡ point F.ring (forward_root F.Field.own F.generator) (log_h + added_bits) (F.value shift)
+        ≡ point F.ring (forward_root F.Valued.own F.generator) (log_h + added_bits) (F.value shift)
         (rev added_bits slot) }
 {
     let root = F::two_adic_generator(log_h + added_bits);
@@ -136,7 +136,7 @@ impl<F: TwoAdicField> Model for CosetTables<F> {
 
     ghost view = { λ t. items_if_any t.tables };
 
-    ghost invariant = { λ t. HasEachOnce F.Field (items_if_any t.tables) };
+    ghost invariant = { λ t. HasEachOnce F.Valued (items_if_any t.tables) };
 }
 
 impl<F: TwoAdicField> CosetTables<F> {
@@ -165,9 +165,9 @@ impl<F: TwoAdicField> CosetTables<F> {
     // The place of the table of a coset, if it lies in a place from `start` on that is below `end`.
     fn find_within(&self, log_h: usize, shift: F, start: usize, end: usize) -> Option<usize>
         requires { end ≤ length self.now }
-        ensures found { IfSome result (IsCosetAt F.Field.own self.now log_h (F.value shift)) }
+        ensures found { IfSome result (IsCosetAt F.Valued.own self.now log_h (F.value shift)) }
         ensures none { IsNone result → (i : ℕ) → start ≤ i → i < end
-            → ¬ (IsCosetAt F.Field.own self.now log_h (F.value shift) i) }
+            → ¬ (IsCosetAt F.Valued.own self.now log_h (F.value shift) i) }
     {
         for place in start..end {
             if self.get(place).is_of(log_h, shift) {
@@ -181,8 +181,8 @@ impl<F: TwoAdicField> CosetTables<F> {
     // goes round: tables that were made together lie one after another, and so they are asked for.
     fn find(&self, log_h: usize, shift: F, start: usize, end: usize) -> Option<usize>
         requires { end ≤ length self.now }
-        ensures found { IfSome result (IsCosetAt F.Field.own self.now log_h (F.value shift)) }
-        ensures none { IsNone result → (i : ℕ) → i < end → ¬ (IsCosetAt F.Field.own self.now log_h (F.value shift) i) }
+        ensures found { IfSome result (IsCosetAt F.Valued.own self.now log_h (F.value shift)) }
+        ensures none { IsNone result → (i : ℕ) → i < end → ¬ (IsCosetAt F.Valued.own self.now log_h (F.value shift) i) }
     {
         if let Some(place) = self.find_within(log_h, shift, start, end) {
             return Some(place);
@@ -195,9 +195,9 @@ impl<F: TwoAdicField> CosetTables<F> {
     pub fn make(&mut self, alloc: Global, log_h: usize, shift: F) -> Result<usize, DftError>
         requires within { log_h ≤ F.TWO_ADICITY }
         requires fits_u64 { log_h < 64 }
-        ensures made { IfOk result (IsCosetAt F.Field.own self.new log_h (F.value shift)) }
-        ensures succeeds { HasCoset F.Field.own self.old log_h (F.value shift) → IsOk result }
-        ensures once { HasCoset F.Field.own self.old log_h (F.value shift) → self.new ≡ self.old }
+        ensures made { IfOk result (IsCosetAt F.Valued.own self.new log_h (F.value shift)) }
+        ensures succeeds { HasCoset F.Valued.own self.old log_h (F.value shift) → IsOk result }
+        ensures once { HasCoset F.Valued.own self.old log_h (F.value shift) → self.new ≡ self.old }
         ensures only { (self.new ≡ self.old) ⊎ (self.new ≡ self.old ++ record { log_h = log_h; shift = shift } ∷ []) }
         ensures refused { OnErr result (self.new ≡ self.old) }
         ensures room { IfErr result (IsWithin (2 ^ log_h + length self.new)) }
@@ -219,10 +219,10 @@ impl<F: TwoAdicField> CosetTables<F> {
         requires within { log_h ≤ F.TWO_ADICITY }
         requires fits_u64 { log_h < 64 }
         requires end { end ≤ length self.old }
-        requires others { (i : ℕ) → end ≤ i → ¬ (IsCosetAt F.Field.own self.old log_h (F.value shift) i) }
-        ensures made { IfOk result (IsCosetAt F.Field.own self.new log_h (F.value shift)) }
-        ensures succeeds { HasCoset F.Field.own self.old log_h (F.value shift) → IsOk result }
-        ensures once { HasCoset F.Field.own self.old log_h (F.value shift) → self.new ≡ self.old }
+        requires others { (i : ℕ) → end ≤ i → ¬ (IsCosetAt F.Valued.own self.old log_h (F.value shift) i) }
+        ensures made { IfOk result (IsCosetAt F.Valued.own self.new log_h (F.value shift)) }
+        ensures succeeds { HasCoset F.Valued.own self.old log_h (F.value shift) → IsOk result }
+        ensures once { HasCoset F.Valued.own self.old log_h (F.value shift) → self.new ≡ self.old }
         ensures only { (self.new ≡ self.old) ⊎ (self.new ≡ self.old ++ record { log_h = log_h; shift = shift } ∷ []) }
         ensures refused { OnErr result (self.new ≡ self.old) }
         ensures room { IfErr result (IsWithin (2 ^ log_h + length self.new)) }
@@ -238,8 +238,8 @@ impl<F: TwoAdicField> CosetTables<F> {
 
     /// The place of the table of a coset that has one. The search begins at `start` and goes round.
     pub(crate) fn place_of(&self, log_h: usize, shift: F, start: usize) -> usize
-        requires { HasCoset F.Field.own self.now log_h (F.value shift) }
-        ensures { IsCosetAt F.Field.own self.now log_h (F.value shift) result }
+        requires { HasCoset F.Valued.own self.now log_h (F.value shift) }
+        ensures { IsCosetAt F.Valued.own self.now log_h (F.value shift) result }
     {
         match self.find(log_h, shift, start, self.as_slice().len()) {
             Some(place) => place,
@@ -260,13 +260,13 @@ impl<F: TwoAdicField> CosetTables<F> {
     ) -> Result<(), DftError>
         requires within { log_h + added_bits ≤ F.TWO_ADICITY }
         requires fits_u64 { log_h + added_bits < 64 }
-        ensures made { OnOk result (HasCosets F.Field.own F.generator self.new log_h added_bits (F.value shift)) }
-        ensures succeeds { HasCosets F.Field.own F.generator self.old log_h added_bits (F.value shift) → IsOk result }
-        ensures once { HasCosets F.Field.own F.generator self.old log_h added_bits (F.value shift)
+        ensures made { OnOk result (HasCosets F.Valued.own F.generator self.new log_h added_bits (F.value shift)) }
+        ensures succeeds { HasCosets F.Valued.own F.generator self.old log_h added_bits (F.value shift) → IsOk result }
+        ensures once { HasCosets F.Valued.own F.generator self.old log_h added_bits (F.value shift)
             → self.new ≡ self.old }
-        ensures keeps { (k : ℕ) (s : F.Element) → HasCoset F.Field.own self.old k s
-            → HasCoset F.Field.own self.new k s }
-        ensures only { AddsCosets F.Field.own F.generator log_h added_bits (F.value shift) self.old self.new }
+        ensures keeps { (k : ℕ) (s : F.Element) → HasCoset F.Valued.own self.old k s
+            → HasCoset F.Valued.own self.new k s }
+        ensures only { AddsCosets F.Valued.own F.generator log_h added_bits (F.value shift) self.old self.new }
         ensures room { IfErr result (IsWithin (2 ^ log_h + length self.new)) }
     {
         // The tables that are made here are of other cosets, and are not searched.
@@ -282,7 +282,7 @@ impl<F: TwoAdicField> CosetTables<F> {
 
     // Adds one at the end, of a coset that has none.
     fn push(&mut self, alloc: Global, table: CosetTable<F>) -> Result<(), DftError>
-        requires { ¬ (HasCoset F.Field.own self.old table.log_h (F.value table.shift)) }
+        requires { ¬ (HasCoset F.Valued.own self.old table.log_h (F.value table.shift)) }
         ensures added { IfOk result (λ _. self.new ≡ self.old ++ table ∷ []) }
         ensures refused { OnErr result (self.new ≡ self.old) }
         ensures room { IfErr result (IsWithin (length self.new + 1)) }

@@ -44,17 +44,17 @@ pub fn extend_slots<F: TwoAdicField, C: BlockConsumer<F>>(
     requires within { log_h + added_bits ≤ F.TWO_ADICITY }
     requires fits_u64 { log_h + added_bits < 64 }
     requires size { length values.old ≡ 2 ^ (log_h + added_bits) * width }
-    requires tables { HasCosets F.Field.own F.generator cosets.now log_h added_bits (F.value shift) }
+    requires tables { HasCosets F.Valued.own F.generator cosets.now log_h added_bits (F.value shift) }
     ensures values { OnOk result ((r j : ℕ) → r < 2 ^ (log_h + added_bits) → j < width
-        → F.value (get_or values.new (r * width + j) F.ZERO)
-        ≡ (extended_rows F.Field.own F.generator log_h added_bits width (F.value shift) values.old).entry r j) }
+        → F.value (get_or values.new (r * width + j) F.zero)
+        ≡ (extended_rows F.Valued.own F.generator log_h added_bits width (F.value shift) values.old).entry r j) }
     ensures published { OnOk result ((blocks : List (ℕ × RowMajor F))
         × IsPermutation (slot_blocks 0 (2 ^ (log_h - mid_of log_h)) width values.new
         (2 ^ added_bits * 2 ^ mid_of log_h)) blocks
         × Run C.step consumer.old blocks consumer.new) }
     ensures refused { IfErr result (λ refusal. (accepted : List (ℕ × RowMajor F)) × (refused : ℕ × RowMajor F)
-        × AreBlocksOf (λ m. image F.value (matrix F.ZERO m)) (2 ^ (log_h - mid_of log_h))
-        (extended_rows F.Field.own F.generator log_h added_bits width (F.value shift) values.old)
+        × AreBlocksOf (λ m. image F.value (matrix F.zero m)) (2 ^ (log_h - mid_of log_h))
+        (extended_rows F.Valued.own F.generator log_h added_bits width (F.value shift) values.old)
         (accepted ++ refused ∷ [])
         × RunToRefusal C.step consumer.old accepted refused refusal consumer.new) }
     ensures grows { products.old ≤ products.new }
@@ -108,11 +108,11 @@ fn place_of_slot<F: TwoAdicField>(
 ) -> usize
     requires within { log_h + added_bits ≤ F.TWO_ADICITY }
     requires fits_u64 { log_h + added_bits < 64 }
-    requires in_table { HasCoset F.Field.own cosets.now log_h
-        (point F.ring (forward_root F.Field.own F.generator) (log_h + added_bits) (F.value shift)
+    requires in_table { HasCoset F.Valued.own cosets.now log_h
+        (point F.ring (forward_root F.Valued.own F.generator) (log_h + added_bits) (F.value shift)
         (rev added_bits slot)) }
-    ensures { IsCosetAt F.Field.own cosets.now log_h
-        (point F.ring (forward_root F.Field.own F.generator) (log_h + added_bits) (F.value shift) (rev added_bits slot))
+    ensures { IsCosetAt F.Valued.own cosets.now log_h
+        (point F.ring (forward_root F.Valued.own F.generator) (log_h + added_bits) (F.value shift) (rev added_bits slot))
         result }
 {
     let coset = slot_shift(log_h, added_bits, shift, slot);
@@ -136,7 +136,7 @@ fn evaluate_reversed<'a, F: TwoAdicField, C: BlockConsumer<F>>(
     requires table { table.now.log_h ≡ log_h }
     requires numbers { first_row + 2 ^ log_h < 2 ^ 64 }
     ensures lent { LentInBlocks C.step first_row (2 ^ (log_h - mid_of log_h)) width (2 ^ mid_of log_h)
-        (λ n. HasRowsOnCoset F.Field.own F.generator log_h width (F.value table.now.shift)
+        (λ n. HasRowsOnCoset F.Valued.own F.generator log_h width (F.value table.now.shift)
         (n * 2 ^ (log_h - mid_of log_h)) (source_of source.entry values.old) values.new)
         values.new consumer.old result consumer.new }
     ensures cost { RisesAtMost (width * (log_h * 2 ^ log_h / 2)) products.old products.new }
@@ -180,8 +180,8 @@ fn last_half<F: TwoAdicField, T: LayerTwiddles<F>, C: BlockConsumer<F>>(
     requires table { (l : ℕ) → mid ≤ l → l < mid + left → T.has table l }
     requires numbers { first_row + 2 ^ (mid + left) < 2 ^ 64 }
     ensures lent { LentInBlocks C.step first_row (2 ^ left) width (2 ^ mid)
-        (λ n. IsHighHalf F.Field.own n mid left width (T.at table)
-        (λ a q j. F.value (get_or values.old ((rev left q * 2 ^ mid + rev mid a) * width + j) F.ZERO)) values.new)
+        (λ n. IsHighHalf F.Valued.own n mid left width (T.at table)
+        (λ a q j. F.value (get_or values.old ((rev left q * 2 ^ mid + rev mid a) * width + j) F.zero)) values.new)
         values.new consumer.old result consumer.new }
     ensures cost { RisesAtMost (2 ^ mid * (width * (left * 2 ^ left / 2))) products.old products.new }
 {
@@ -217,8 +217,8 @@ fn finish_chunk<F: TwoAdicField, T: LayerTwiddles<F>, C: BlockConsumer<F>>(
     products: &mut Products,
 ) -> Result<(), C::Refusal>
     requires chunk { let it = layers.now in IsHighChunk it.mid it.left it.width chunk (T.has it.table) (length values.old) }
-    ensures values { let it = layers.now in IsHighNetwork F.Field.own it.mid it.left it.width chunk (T.at it.table)
-        (λ q j. F.ring.mul (F.value (get_or values.old (q * it.width + j) F.ZERO)) (factor F.Field.own it.scale))
+    ensures values { let it = layers.now in IsHighNetwork F.Valued.own it.mid it.left it.width chunk (T.at it.table)
+        (λ q j. F.ring.mul (F.value (get_or values.old (q * it.width + j) F.zero)) (factor F.Valued.own it.scale))
         values.new }
     ensures lent { C.step consumer.old row (record { width = layers.now.width; values = values.new }) result
         consumer.new }

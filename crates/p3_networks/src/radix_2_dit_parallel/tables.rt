@@ -39,9 +39,9 @@ impl<F: TwoAdicField> Model for Tables<F> {
     ghost invariant = { λ t.
         (length (items_if_any t.forward) ≡ 2 ^ mid_of t.high - 1)
         × (length (items_if_any t.backward) ≡ 2 ^ mid_of t.high - 1)
-        × AreTwiddlesOfLayers F.Field (mid_of t.high) (root_powers F.Field F.generator false)
+        × AreTwiddlesOfLayers F.Valued (mid_of t.high) (root_powers F.Valued F.generator false)
         (items_if_any t.forward)
-        × AreTwiddlesOfLayers F.Field (mid_of t.high) (root_powers F.Field F.generator true)
+        × AreTwiddlesOfLayers F.Valued (mid_of t.high) (root_powers F.Valued F.generator true)
         (items_if_any t.backward)
         × (t.high ≤ F.TWO_ADICITY) };
 }
@@ -92,8 +92,8 @@ impl<F: TwoAdicField> Tables<F> {
     /// The powers of the generators, or of their inverses, for the first half.
     pub fn low(&self, inverse: bool) -> &[F]
         ensures size { length result.now ≡ 2 ^ mid_of self.now - 1 }
-        ensures table { AreTwiddlesOfLayers F.Field.own (mid_of self.now)
-            (root_powers F.Field.own F.generator inverse) result.now }
+        ensures table { AreTwiddlesOfLayers F.Valued.own (mid_of self.now)
+            (root_powers F.Valued.own F.generator inverse) result.now }
     {
         if inverse {
             held(&self.backward)
@@ -106,8 +106,8 @@ impl<F: TwoAdicField> Tables<F> {
     pub fn high(&self, inverse: bool) -> &[F]
         ensures within { self.now ≤ F.TWO_ADICITY }
         ensures size { length result.now ≡ 2 ^ self.now / 2 }
-        ensures table { AreTwiddlesFromStart F.Field.own self.now
-            (block_powers F.Field.own (root_of F.Field.own F.generator inverse)) result.now }
+        ensures table { AreTwiddlesFromStart F.Valued.own self.now
+            (block_powers F.Valued.own (root_of F.Valued.own F.generator inverse)) result.now }
     {
         if inverse {
             self.high.backward()

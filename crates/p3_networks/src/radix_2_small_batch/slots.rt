@@ -36,12 +36,12 @@ pub fn slots_network<F: TwoAdicField>(
     requires fits_u64 { log_h + added_bits < 64 }
     requires piece { 1 ≤ tiling.piece }
     requires size { length values.old ≡ 2 ^ (log_h + added_bits) * width }
-    requires twiddles { AreTwiddlesFromStart F.Field.own log_h
-        (block_powers F.Field.own (forward_root F.Field.own F.generator)) twiddles.now }
+    requires twiddles { AreTwiddlesFromStart F.Valued.own log_h
+        (block_powers F.Valued.own (forward_root F.Valued.own F.generator)) twiddles.now }
     ensures values { (r j : ℕ) → r < 2 ^ (log_h + added_bits) → j < width
-        → F.value (get_or values.new (r * width + j) F.ZERO)
-        ≡ poly F.ring (2 ^ log_h) (λ q. F.value (get_or values.old (q * width + j) F.ZERO))
-        (point F.ring (forward_root F.Field.own F.generator) (log_h + added_bits) (F.value shift)
+        → F.value (get_or values.new (r * width + j) F.zero)
+        ≡ poly F.ring (2 ^ log_h) (λ q. F.value (get_or values.old (q * width + j) F.zero))
+        (point F.ring (forward_root F.Valued.own F.generator) (log_h + added_bits) (F.value shift)
         (rev (log_h + added_bits) r)) }
     ensures grows { products.old ≤ products.new }
     ensures cost { products.new ≤ products.old
@@ -89,11 +89,11 @@ fn evaluate_to_reversed_oop<F: TwoAdicField>(
     requires piece { 1 ≤ tiling.piece }
     requires source { length coefficients.now ≡ 2 ^ log_h * width }
     requires size { length values.old ≡ 2 ^ log_h * width }
-    requires twiddles { AreTwiddlesFromStart F.Field.own log_h
-        (block_powers F.Field.own (forward_root F.Field.own F.generator)) twiddles.now }
-    ensures values { (r j : ℕ) → r < 2 ^ log_h → j < width → F.value (get_or values.new (r * width + j) F.ZERO)
-        ≡ poly F.ring (2 ^ log_h) (λ q. F.value (get_or coefficients.now (q * width + j) F.ZERO))
-        (point F.ring (forward_root F.Field.own F.generator) log_h (F.value shift) (rev log_h r)) }
+    requires twiddles { AreTwiddlesFromStart F.Valued.own log_h
+        (block_powers F.Valued.own (forward_root F.Valued.own F.generator)) twiddles.now }
+    ensures values { (r j : ℕ) → r < 2 ^ log_h → j < width → F.value (get_or values.new (r * width + j) F.zero)
+        ≡ poly F.ring (2 ^ log_h) (λ q. F.value (get_or coefficients.now (q * width + j) F.zero))
+        (point F.ring (forward_root F.Valued.own F.generator) log_h (F.value shift) (rev log_h r)) }
     ensures grows { products.old ≤ products.new }
     ensures cost { products.new ≤ products.old + (width * (log_h * 2 ^ log_h / 2) + 2 ^ log_h * width) }
 {
@@ -117,10 +117,10 @@ fn evaluate_to_reversed<F: TwoAdicField>(
     requires fits_u64 { log_h < 64 }
     requires piece { 1 ≤ tiling.piece }
     requires size { length values.old ≡ 2 ^ log_h * width }
-    requires twiddles { AreTwiddlesFromStart F.Field.own log_h
-        (block_powers F.Field.own (forward_root F.Field.own F.generator)) twiddles.now }
-    ensures values { AreValuesOfRows F.Field.own width (2 ^ log_h) (λ q. q)
-        (λ r. power F.ring (forward_root F.Field.own F.generator log_h) (rev log_h r)) values.old values.new }
+    requires twiddles { AreTwiddlesFromStart F.Valued.own log_h
+        (block_powers F.Valued.own (forward_root F.Valued.own F.generator)) twiddles.now }
+    ensures values { AreValuesOfRows F.Valued.own width (2 ^ log_h) (λ q. q)
+        (λ r. power F.ring (forward_root F.Valued.own F.generator log_h) (rev log_h r)) values.old values.new }
     ensures grows { products.old ≤ products.new }
     ensures cost { products.new ≤ products.old + width * (log_h * 2 ^ log_h / 2) }
 {

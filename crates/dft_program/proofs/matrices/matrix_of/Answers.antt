@@ -13,7 +13,7 @@ element_of-requires g c =
 pub new-requires-clause-full : goal.new-requires-clause-full
 new-requires-clause-full g c =
     let same : length c.loop-word.values.items ≡ length c.args.words.now =
-    sym (length-map c.loop-word.values.items (λ x. g.F.Field.number (g.F.Field.value x)))
+    sym (length-map c.loop-word.values.items (λ x. g.F.Valued.number (g.F.Valued.value x)))
     ∙ ap length c.loop-word.invariant
     ∙ length-map _ (λ word. number_or_zero (vec_items word))
     ∙ ap length (take_all c.loop-word.word-index c.args.words.now c.loop-word-test.false) in

@@ -8,7 +8,7 @@ use Rattle.dft_program.proofs.matrices.push_numbers.Goals as goal
 
 pub returns : goal.returns
 returns g c =
-    let number : g.row.F.Denot → ℕ = λ x. g.F.Field.number (g.F.Field.value x) in
+    let number : g.row.F.Denot → ℕ = λ x. g.F.Valued.number (g.F.Valued.value x) in
     joined 32 (λ x. decimal (number x)) (vec_items c.args.text.now) (vec_items c.push_number.new.text) (vec_items c.loop-element.text)
     c.args.row.now c.in-Some.first.now c.in-Some.others.now c.loop-element.element-index
     c.in-Some.ensures.cases.0 c.loop-element-test.false

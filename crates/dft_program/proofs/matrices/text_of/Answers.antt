@@ -8,7 +8,7 @@ use Rattle.dft_program.proofs.matrices.text_of.Goals as goal
 
 pub loop-i-preserved : goal.loop-i-preserved
 loop-i-preserved g c =
-    let number : g.row.F.Denot → ℕ = λ x. g.F.Field.number (g.F.Field.value x) in
+    let number : g.row.F.Denot → ℕ = λ x. g.F.Valued.number (g.F.Valued.value x) in
     let m = c.args.matrix.now in
     let below : c.loop-i.i < height m = omega (arith, c.height-i-end.ensures.height) in
     let within : c.loop-i.i < length (rows m) = omega (arith, below, length-map-range_with_len (row m) 0 (height m)) in
@@ -22,4 +22,4 @@ pub returns-clause-text : goal.returns-clause-text
 returns-clause-text g c =
     let m = c.args.matrix.now in
     let end : length (rows m) ≤ c.loop-i.i = omega (arith, length-map-range_with_len (row m) 0 (height m), c.height-i-end.ensures.height) in
-    c.loop-i.invariant ∙ ap (λ xs. text_of_rows (map (map (λ x. g.F.Field.number (g.F.Field.value x))) xs)) (take_all c.loop-i.i (rows m) end)
+    c.loop-i.invariant ∙ ap (λ xs. text_of_rows (map (map (λ x. g.F.Valued.number (g.F.Valued.value x))) xs)) (take_all c.loop-i.i (rows m) end)

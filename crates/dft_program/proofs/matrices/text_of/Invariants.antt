@@ -7,4 +7,4 @@ use Rattle.dft_program.proofs.matrices.text_of.Given as goal
 -- the text of the first rows
 abbrev pub invariant-loop-i : goal.invariant-loop-i
 invariant-loop-i g l =
-    vec_items l.text ≡ text_of_rows (map (map (λ x. g.F.Field.number (g.F.Field.value x))) (take l.i (rows l.matrix)))
+    vec_items l.text ≡ text_of_rows (map (map (λ x. g.F.Valued.number (g.F.Valued.value x))) (take l.i (rows l.matrix)))

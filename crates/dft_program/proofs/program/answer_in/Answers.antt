@@ -18,23 +18,23 @@ answer_by-requires g c =
     let counted : length arguments.values.now ≡ length matrix.values =
     sym (length-map arguments.values.now (λ word. number_or_zero (vec_items word)))
     ∙ ap length (sym c.in_ok-matrix.ensures.numbers)
-    ∙ length-map matrix.values (λ x. g.F.Field.number (g.F.Field.value x)) in
+    ∙ length-map matrix.values (λ x. g.F.Valued.number (g.F.Valued.value x)) in
     let wide : arguments.width ≡ matrix.width = sym c.in_ok-matrix.ensures.width in
     let fits : FitsLde bits (height matrix) matrix.width arguments.added_bits =
     subst (λ (w : ℕ). FitsLde bits (length matrix.values / w) w arguments.added_bits) wide
     (subst (λ (n : ℕ). FitsLde bits (n / arguments.width) arguments.width arguments.added_bits) counted c.in_ok-arguments.ensures.fits) in
     rw c.job_of-job.ensures
-    (can_run g.F.Field bits c.args.operation matrix arguments.added_bits c.element_of-shift.result fits
+    (can_run g.F.Valued bits c.args.operation matrix arguments.added_bits c.element_of-shift.result fits
     (λ undoes. c.in_ok-arguments.ensures.invertible undoes c.element_of-shift.result c.element_of-shift.ensures))
 
 pub returns : goal.returns
 returns g c element named =
-    let field = numbered g.F.Field g.F.TwoAdicField.generator g.F.TwoAdicField.TWO_ADICITY g.F.CanonicalField.ORDER_U64 element in
+    let field = numbered g.F.Valued g.F.TwoAdicField.generator g.F.TwoAdicField.TWO_ADICITY g.F.CanonicalField.ORDER_U64 element in
     let arguments = c.in_ok-arguments.arguments in
     let text = vec_items c.in_ok-text_of.field-0 in
     subst (λ (read : Result Arguments Fault). FaultOr read (IsAnswered field c.args.operation) (record { status = 0; text = text })) (c.in_ok-arguments.ensures.exact element named) (
       refl,
-      text_of_answer g.F.Field g.F.TwoAdicField.generator g.F.TwoAdicField.TWO_ADICITY g.F.CanonicalField.ORDER_U64 element g.met.F.Field.zero_law g.met.F.TwoAdicField.roots_law
+      text_of_answer g.F.Valued g.F.TwoAdicField.generator g.F.TwoAdicField.TWO_ADICITY g.F.CanonicalField.ORDER_U64 element (ap g.F.Valued.value (sym g.met.F.Field.same_zero) ∙ g.met.F.Field.zero_law) g.met.F.TwoAdicField.roots_law
           g.met.F.Field.number_law named g.met.F.CanonicalField.number_below_law c.args.operation
           (record { added_bits = arguments.added_bits; shift = arguments.shift; width = arguments.width; values = numbers_of arguments.values.now })
           c.in_ok-matrix.matrix c.in_ok-answer.answer c.element_of-shift.result text c.in_ok-matrix.ensures.width c.in_ok-matrix.ensures.numbers c.element_of-shift.ensures

@@ -27,14 +27,14 @@ returns-clause-shape g c =
 
 pub returns-clause-folded : goal.returns-clause-folded
 returns-clause-folded g c =
-    let f = g.F.Field in
+    let f = g.F.Valued in
     let roots = g.met.F.TwoAdicField.roots_law in
     IfOk-weaker c.fold_rows.result _ _
     (λ out given k high.
     let half = half_of _ k _ c.log_height-log_half.ensures.power high in
     let power = ap (λ n. n / 2) c.height-half.ensures.height ∙ half.1 in
     let rows = rows_by_factors f.ring roots c.args.layout (f.value c.args.beta) k _ _ (f.value c.args.shift) (values_of f c.args.values.now) (values_of f out) _ _
-    half.0 power high given.0 given.1 c.in_ok-factors.ensures.factors (λ i. ap (λ xs. f.value (get_or xs i f.ZERO)) c.deref.ensures.value) (given.2 k (f.value c.args.beta) power) in
+    half.0 power high given.0 given.1 c.in_ok-factors.ensures.factors (λ i. ap (λ xs. f.value (get_or xs i f.zero)) c.deref.ensures.value) (given.2 k (f.value c.args.beta) power) in
     (folded_values f.ring roots (f.value c.args.beta) k (f.value c.args.shift) _ _ (exponent_within (suc k) c.requires.fits high) c.requires.invertible rows, rows))
     c.fold_rows.ensures
 
@@ -43,7 +43,7 @@ returns-clause-degree g c =
     IfOk-weaker c.fold_rows.result _ _
     (λ out folded k h high has.
     record {
-      coefficients = folded_coefficients g.F.Field.ring (g.F.Field.value c.args.beta) has.coefficients;
+      coefficients = folded_coefficients g.F.Valued.ring (g.F.Valued.value c.args.beta) has.coefficients;
       height = ap (λ n. (n + 1) / 2) has.height;
       values = (folded k high).0 has.coefficients has.values;
     })

@@ -21,7 +21,7 @@ push_folded_row-requires-clause-rows g c =
 
 pub loop-i-preserved : goal.loop-i-preserved
 loop-i-preserved g c =
-    let f = g.F.Field in
+    let f = g.F.Valued in
     let m = c.args.values.now in
     let whole = c.width-width.ensures.whole in
     let before = c.loop-i.invariant in
@@ -37,16 +37,16 @@ loop-i-preserved g c =
           one_more_row
           (λ i j v.
           IsFoldedPair f.ring beta (x i) ((values_of f m).entry (near_row c.args.layout k i) j) ((values_of f m).entry (far_row c.args.layout k i) j) (f.value v))
-          old c.push_folded_row.new.folded.items f.ZERO c.loop-i.i c.width-width.result before.long (before.done k beta power x factors)
+          old c.push_folded_row.new.folded.items f.zero c.loop-i.i c.width-width.result before.long (before.done k beta power x factors)
           (λ q below. c.push_folded_row.ensures.before q (omega (arith, below, had)))
           (λ j inside.
           let in_row : j < m.width = omega (arith, inside, c.width-width.ensures.width) in
-          let read : f.value c.index-factors-i.result ≡ f.value (get_or c.args.factors.now c.loop-i.i f.ZERO) =
-          ap f.value (get_or_read c.args.factors.now _ _ (omega (arith, c.loop-i-test.true, c.requires.factors)) c.index-factors-i.is f.ZERO) in
+          let read : f.value c.index-factors-i.result ≡ f.value (get_or c.args.factors.now c.loop-i.i f.zero) =
+          ap f.value (get_or_read c.args.factors.now _ _ (omega (arith, c.loop-i-test.true, c.requires.factors)) c.index-factors-i.is f.zero) in
           pair_same f.ring beta refl
           (row_value f m _ j _ whole c.row.ensures near_in in_row ∙ ap (λ r. (values_of f m).entry r j) (c.pair_rows-near.ensures.near k power))
           (row_value f m _ j _ whole c.row-in-loop-i.ensures far_in in_row ∙ ap (λ r. (values_of f m).entry r j) (c.pair_rows-near.ensures.far k power))
-          (ap (λ n. f.value (get_or c.push_folded_row.new.folded.items (n + j) f.ZERO)) (let e : c.loop-i.folded.len ≡ length old = omega (arith, had) in e))
+          (ap (λ n. f.value (get_or c.push_folded_row.new.folded.items (n + j) f.zero)) (let e : c.loop-i.folded.len ≡ length old = omega (arith, had) in e))
           (c.push_folded_row.ensures.row beta (x c.loop-i.i)
           (ap (λ y. f.ring.mul (two f.ring) (f.ring.mul (x c.loop-i.i) y)) read ∙ factors c.loop-i.i c.loop-i-test.true) j (omega (arith, inside, size))));
     }
@@ -57,14 +57,14 @@ new-requires-clause-full g c =
 
 pub returns : goal.returns
 returns g c =
-    let f = g.F.Field in
+    let f = g.F.Valued in
     let m = c.args.values.now in
     let all : c.loop-i.i ≡ c.args.half = omega (arith, c.loop-i-test.false, c.loop-i.auto.i-end) in (
       ap (λ o. length o.values / o.width) c.new.ensures
           ∙ (whole_rows _ c.loop-i.i c.width-width.result (omega (arith, c.width-width.ensures.whole.width, c.width-width.ensures.width)) c.loop-i.invariant.long).0 ∙ all,
       ap (λ o. o.width) c.new.ensures ∙ c.width-width.ensures.width,
       λ k beta power x factors i j below inside.
-          subst (λ o. IsFoldedPair f.ring beta (x i) ((values_of f m).entry (near_row c.args.layout k i) j) ((values_of f m).entry (far_row c.args.layout k i) j) (f.value (get_or o.values (i * o.width + j) f.ZERO)))
+          subst (λ o. IsFoldedPair f.ring beta (x i) ((values_of f m).entry (near_row c.args.layout k i) j) ((values_of f m).entry (far_row c.args.layout k i) j) (f.value (get_or o.values (i * o.width + j) f.zero)))
           (sym c.new.ensures)
           (c.loop-i.invariant.done k beta power x factors i j (omega (arith, below, all)) (omega (arith, inside, c.width-width.ensures.width))),
     )

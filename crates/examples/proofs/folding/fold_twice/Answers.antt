@@ -5,13 +5,13 @@ use Rattle.examples.proofs.folding.fold_twice.Goals as goal
 
 pub returns-clause-determined : goal.returns-clause-determined
 returns-clause-determined g c = λ k other high first second.
-    let f = g.F.Field in
+    let f = g.F.Valued in
     foldings_determine f.ring g.met.F.TwoAdicField.roots_law (f.value c.args.beta) (f.value c.args.gamma) c.requires.apart k (f.value c.args.shift)
     (exponent_within (suc k) c.requires.fits high) c.requires.invertible _ other _ _ (c.in_ok-first.ensures.folded k high).1 (c.in_ok-second.ensures.folded k high).1 first second
 
 pub returns-clause-degree : goal.returns-clause-degree
 returns-clause-degree g c = λ k h high of_first of_second.
-    let f = g.F.Field in
+    let f = g.F.Valued in
     let within = exponent_within (suc k) c.requires.fits high in
     record {
       coefficients = unfolded f.ring g.met.F.TwoAdicField.roots_law (f.value c.args.beta) (f.value c.args.gamma) c.requires.apart k (f.value c.args.shift) within c.requires.invertible

@@ -4,7 +4,7 @@ use Rattle.examples.proofs.folding.folded_pair.Goals as goal
 
 pub returns : goal.returns
 returns g c = λ beta x challenge.
-    let f = g.F.Field in
+    let f = g.F.Valued in
     let law = g.met.F.Field in
     pair_by_factor f.ring beta x (f.value c.args.near) (f.value c.args.far) (f.value c.args.factor) (f.value c.halve.result) (f.value c.add-2.result)
     (c.halve.ensures ∙ law.add_law _ _ _ c.add.ensures)

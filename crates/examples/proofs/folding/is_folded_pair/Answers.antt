@@ -5,7 +5,7 @@ use Rattle.examples.proofs.folding.is_folded_pair.Goals as goal
 
 pub returns : goal.returns
 returns g c =
-    let f = g.F.Field in
+    let f = g.F.Valued in
     let law = g.met.F.Field in
     let left : f.value c.double.result ≡ f.ring.mul (two f.ring) (f.ring.mul (f.value c.args.x) (f.value c.args.folded)) =
     c.double.ensures ∙ sym (Rings.two-mul f.ring (f.value c.mul.result)) ∙ ap (f.ring.mul (two f.ring)) (law.mul_law _ _ _ c.mul.ensures) in

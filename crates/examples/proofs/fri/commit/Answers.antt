@@ -26,7 +26,7 @@ loop-fold-init g c =
       last_height = c.requires.height ∙ ap (λ n. 2 ^ n) all;
       last_width = refl;
       size = omega arith;
-      shift = sym (power-one g.F.Field.ring (g.F.Field.value c.args.shift));
+      shift = sym (power-one g.F.Valued.ring (g.F.Valued.value c.args.shift));
       invertible = c.requires.invertible;
       first = ap (λ xs. get_or (map (λ y. y.codeword) xs) 0 c.args.codeword) none;
       layers = λ l below. absurd (omega (arith, below));
@@ -60,7 +60,7 @@ index-requires g c =
 
 pub loop-fold-preserved : goal.loop-fold-preserved
 loop-fold-preserved g c =
-    let f = g.F.Field in
+    let f = g.F.Valued in
     let hash = g.H.RowHash in
     let gen = λ (n : ℕ). f.value (g.F.TwoAdicField.generator n) in
     let before = c.loop-fold.invariant in

@@ -8,7 +8,7 @@ use Rattle.examples.proofs.fri.commit.Given as goal
 
 abbrev pub invariant-loop-fold : goal.invariant-loop-fold
 invariant-loop-fold g l =
-    let f = g.F.Field in
+    let f = g.F.Valued in
     let hash = g.H.RowHash in
     let codewords = map (λ y. y.codeword) l.layers.items in
     let nodes = map (λ y. y.nodes.items) l.layers.items in
@@ -26,7 +26,7 @@ invariant-loop-fold g l =
       invertible : IsInvertible f.ring (f.value l.last_shift);
       first : get_or codewords 0 l.last ≡ l.fn.codeword;
       layers : AreLayers f (λ n. f.value (g.F.TwoAdicField.generator n)) hash.worth (hash.of_pair l.hash) (hash.of_row l.hash) l.log_height l._fold (f.value l.shift)
-          (λ q. f.value (get_or l.challenges.items q f.ZERO)) (λ q. get_or codewords q l.last) (λ q. get_or nodes q []);
+          (λ q. f.value (get_or l.challenges.items q f.zero)) (λ q. get_or codewords q l.last) (λ q. get_or nodes q []);
       roots : (q : ℕ) (d : _) → q < l._fold → get_or l.roots.items q d ≡ get_or (get_or nodes q []) 1 d;
       drawn : FoldsTo (λ t y u. (root : _) × (root ≡ get_or y.nodes.items 1 root) × g.T.Transcript.draws t root y.challenge u) l.fn.transcript l.layers.items l.transcript;
     }

@@ -9,7 +9,7 @@ check-requires-clause-within g c =
 
 pub returns : goal.returns
 returns g c =
-    let f = g.F.Field in
+    let f = g.F.Valued in
     let told = c.in_ok-layers.ensures in
     let opened = c.in_ok-openings.ensures in
     let known = c.in_ok-layers.commitment in
@@ -17,7 +17,7 @@ returns g c =
     let openings = c.deref-2.ensures.value in
     let count : length c.deref.result.now ≡ c.args.folds = omega (arith, c.deref.ensures.len, told.count.0) in
     let count_too : length c.deref-2.result.now ≡ length c.deref.result.now = omega (arith, c.deref-2.ensures.len, opened.count) in
-    let betas = λ (q : ℕ). f.value (get_or known.challenges.items q f.ZERO) in
+    let betas = λ (q : ℕ). f.value (get_or known.challenges.items q f.zero) in
     c.check.ensures.1 (
       omega (arith, count, count_too, told.count.1),
       λ l o d below.

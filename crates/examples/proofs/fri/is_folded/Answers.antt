@@ -8,7 +8,7 @@ use Rattle.examples.proofs.fri.is_folded.Goals as goal
 
 pub returns : goal.returns
 returns g c =
-    let f = g.F.Field in
+    let f = g.F.Valued in
     let gen = λ (n : ℕ). f.value (g.F.TwoAdicField.generator n) in
     let m = c.args.pair.now in
     let n = c.args.next.now in

@@ -63,7 +63,7 @@ returns-clause-pairs g c = λ l y o below. c.loop-l.invariant.pairs l y o (omega
 
 pub returns-clause-opened : goal.returns-clause-opened
 returns-clause-opened g c = λ h s betas last are l o d below.
-    let f = g.F.Field in
+    let f = g.F.Valued in
     let hash = g.H.RowHash in
     let gen = λ (n : ℕ). f.value (g.F.TwoAdicField.generator n) in
     let layers = c.args.layers.now in
@@ -79,7 +79,7 @@ returns-clause-opened g c = λ h s betas last are l o d below.
 
 pub returns-clause-folds : goal.returns-clause-folds
 returns-clause-folds g c = λ h s betas last are o.
-    let f = g.F.Field in
+    let f = g.F.Valued in
     let hash = g.H.RowHash in
     let gen = λ (n : ℕ). f.value (g.F.TwoAdicField.generator n) in
     let layers = c.args.layers.now in

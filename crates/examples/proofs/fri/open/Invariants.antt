@@ -7,7 +7,7 @@ use Rattle.examples.proofs.fri.open.Given as goal
 
 abbrev pub invariant-loop-l : goal.invariant-loop-l
 invariant-loop-l g l =
-    let f = g.F.Field in
+    let f = g.F.Valued in
     let hash = g.H.RowHash in
     let gen = λ (n : ℕ). f.value (g.F.TwoAdicField.generator n) in
     record {

@@ -10,7 +10,7 @@ use Rattle.examples.proofs.fri.open_layer.Goals as goal
 
 pub returns-clause-entries : goal.returns-clause-entries
 returns-clause-entries g c = λ r j inside in_row.
-    let f = g.F.Field in
+    let f = g.F.Valued in
     let m = c.args.layer.now.codeword in
     let i = c.args.index in
     let pair_is : c.new-pair.result ≡ rows_from m (2 * i) 2 = search rules in
@@ -27,7 +27,7 @@ returns-clause-opened g c = λ h s beta next d is.
     let leaf = λ (q : _). hash.of_row h (rows_from m (2 * q) 2).values in
     let tree = subst (AreNodes hash.worth (hash.of_pair h) (2 ^ c.args.log_half) leaf) (sym c.deref.ensures.value) is.tree in
     record {
-      height = ap height pair_is ∙ height_of_pair g.F.Field m c.allocator-alloc.ensures.whole c.args.log_half i is.height c.requires.inside;
+      height = ap height pair_is ∙ height_of_pair g.F.Valued m c.allocator-alloc.ensures.whole c.args.log_half i is.height c.requires.inside;
       width = ap (λ p. p.width) pair_is;
       long = omega (arith, c.in_ok-path.ensures.long, c.in_ok-path.path.ok.0);
       leads = ap (λ p. climbed (hash.of_pair h) (2 ^ c.args.log_half + i) (hash.of_row h p.values) (map hash.worth c.in_ok-path.path.items)) pair_is
@@ -36,7 +36,7 @@ returns-clause-opened g c = λ h s beta next d is.
 
 pub returns-clause-folds : goal.returns-clause-folds
 returns-clause-folds g c = λ h s beta next is.
-    let f = g.F.Field in
+    let f = g.F.Valued in
     let gen = λ (n : _). f.value (g.F.TwoAdicField.generator n) in
     let m = c.args.layer.now.codeword in
     let i = c.args.index in

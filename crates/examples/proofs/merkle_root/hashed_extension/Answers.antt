@@ -12,7 +12,7 @@ counted count high k a rows is log tall = is ∙ ap (λ h. h * 2 ^ a) log ∙ sy
 
 pub returns-clause-leaves : goal.returns-clause-leaves
 returns-clause-leaves g c =
-    let field = g.F.Field in
+    let field = g.F.Valued in
     let hash = c.args.hash.now in
     let k = c.requires.log in
     let a = c.args.added_bits in
@@ -24,5 +24,5 @@ returns-clause-leaves g c =
     all_hashed _ g.H.RowHash.worth (g.H.RowHash.of_row hash) (λ s. s.digests.items) (λ s. s.hash.now ≡ hash)
     (λ s start rows n right told.
     (told.1 ∙ right, subst (λ h. AreHashed g.H.RowHash.worth (λ r. g.H.RowHash.of_row h (row rows r)) start (height rows) s.digests.items n.digests.items) right told.2))
-    field.ZERO out c.height-whole.ensures.whole _ _ c.in_ok-rows.leaves (λ s made. (search of_calls, ap length (let is : s.digests.items ≡ c.resize.new.items.items = search of_calls in is) ∙ made_long ∙ count))
+    field.zero out c.height-whole.ensures.whole _ _ c.in_ok-rows.leaves (λ s made. (search of_calls, ap length (let is : s.digests.items ≡ c.resize.new.items.items = search of_calls in is) ∙ made_long ∙ count))
     (c.in_ok-rows.ensures.published k c.requires.height)

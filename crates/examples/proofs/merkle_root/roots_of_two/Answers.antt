@@ -1,6 +1,6 @@
 use Rattle.std.proofs.Common.{◌≡◌, ℕ, ◌+◌, ◌^◌, List, map, ap, refl, sym, ◌∙◌}
 use Rattle.p3_field.specs.Ring.{AreRoots}
-use Rattle.p3_field.specs.declared.fields.Field.{Ghosts as FieldMembers}
+use Rattle.p3_field.specs.declared.fields.Valued.{Ghosts as FieldMembers}
 use Rattle.p3_matrix.specs.BitOrder.{reversed_rows}
 use Rattle.p3_matrix.specs.Cosets.{values_of}
 use Rattle.p3_matrix.specs.Matrix.{Same}
@@ -37,8 +37,8 @@ pub returns-clause-one : goal.returns-clause-one
 returns-clause-one g c =
     let hash = c.args.hash.now in
     c.in_ok-made.ensures.root
-    ∙ two_roots g.F.Field g.F.TwoAdicField.generator _ g.met.F.TwoAdicField.roots_law (g.H.RowHash.of_pair hash) (g.H.RowHash.of_row hash) (g.met.H.RowHash.row_law hash) c.args.mat
-    c.args.added_bits (g.F.Field.value c.args.shift) _ _ c.in_ok-made.made.rows.physical c.in_ok-again.again.rows.physical c.requires
+    ∙ two_roots g.F.Valued g.F.TwoAdicField.generator _ g.met.F.TwoAdicField.roots_law (g.H.RowHash.of_pair hash) (g.H.RowHash.of_row hash) (g.met.H.RowHash.row_law hash) c.args.mat
+    c.args.added_bits (g.F.Valued.value c.args.shift) _ _ c.in_ok-made.made.rows.physical c.in_ok-again.again.rows.physical c.requires
     c.height-whole.ensures.whole (sym c.height-whole.ensures.height ∙ c.height-whole.ensures.power)
     c.height-whole_too.ensures.whole (sym c.height-whole_too.ensures.height ∙ c.height-whole_too.ensures.power)
     c.in_ok-made.ensures.extension (rw (sym c.in_ok-copy.ensures.copy) c.in_ok-again.ensures.extension)

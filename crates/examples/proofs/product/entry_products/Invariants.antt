@@ -3,9 +3,9 @@ use Rattle.examples.proofs.product.entry_products.Given as goal
 
 abbrev pub invariant-loop-i : goal.invariant-loop-i
 invariant-loop-i g l =
-    let ring = g.F.Field.ring in
-    let value = g.F.Field.value in
-    let zero = g.F.Field.ZERO in
+    let ring = g.F.Valued.ring in
+    let value = g.F.Valued.value in
+    let zero = g.F.Valued.zero in
     record {
       long : length l.entries.items ≡ length l.fn.entries.items;
       done : (k : ℕ) → k < l.i → value (get_or l.entries.items k zero) ≡ ring.mul (value (get_or l.fn.entries.items k zero)) (value (get_or l.fn.others k zero));

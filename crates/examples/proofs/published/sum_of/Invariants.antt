@@ -3,4 +3,4 @@ use Rattle.p3_matrix.specs.Polynomials.{sum}
 use Rattle.examples.proofs.published.sum_of.Given as goal
 
 abbrev pub invariant-loop-i : goal.invariant-loop-i
-invariant-loop-i g l = g.F.Field.value l.sum ≡ sum g.F.Field.ring l.i (λ j. g.F.Field.value (get_or l.fn.elements j g.F.Field.ZERO))
+invariant-loop-i g l = g.F.Valued.value l.sum ≡ sum g.F.Valued.ring l.i (λ j. g.F.Valued.value (get_or l.fn.elements j g.F.Valued.zero))

@@ -15,7 +15,7 @@ coset_lde_batch_with_transform-requires-clause-shape g c m n whole shape called 
 
 pub returns-clause-values : goal.returns-clause-values
 returns-clause-values g c =
-    let field = g.F.Field in
+    let field = g.F.Valued in
     let generator = λ (n : ℕ). field.value (g.F.TwoAdicField.generator n) in
     IfOk-weaker c.coset_lde_batch_with_transform.result _ _
     (λ out given k e.

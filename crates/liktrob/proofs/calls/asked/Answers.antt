@@ -6,7 +6,7 @@ use Rattle.liktrob.proofs.calls.asked.Goals as goal
 
 pub returns-then-is_none-clause-told : goal.returns-then-is_none-clause-told
 returns-then-is_none-clause-told g c =
-    let f = in_words g.F.Field g.F.TwoAdicField.generator g.F.TwoAdicField.TWO_ADICITY g.F.CanonicalField.ORDER_U64 g.F.WordField.word_number in
+    let f = in_words g.F.Valued g.F.TwoAdicField.generator g.F.TwoAdicField.TWO_ADICITY g.F.CanonicalField.ORDER_U64 g.F.WordField.word_number in
     let below = c.is_below.ensures.0 c.if-not-is_below.false in (
       search rules,
       (below, c.in-Some-elements.ensures.named.0 refl),

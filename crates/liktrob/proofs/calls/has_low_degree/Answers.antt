@@ -15,7 +15,7 @@ answer_by-requires-clause-fits g c =
 
 pub returns-clause-answer : goal.returns-clause-answer
 returns-clause-answer g c = λ answer two_valued exact.
-    let f = g.F.Field in
+    let f = g.F.Valued in
     let roots = g.F.TwoAdicField.generator in
     let read = c.in_ok-engine in
     let fit = read.ensures.told.2 in

@@ -23,13 +23,13 @@ evaluate_to_natural-requires g c =
 
 pub returns-clause-values : goal.returns-clause-values
 returns-clause-values g c k high =
-    let field = g.F.Field in
+    let field = g.F.Valued in
     let a = c.args.added_bits in
     let given = c.in_ok-mat.ensures in
     values_of_spread field.ring (λ n. field.value (g.F.TwoAdicField.generator n)) k a field.ring.one (values_of field c.args.mat) (values_of field c.in_ok-mat.mat) (values_of field c.evaluate_to_natural.new.mat)
     high given.shape.0 given.shape.1
     (λ i j below inside. ap field.value (given.rows i j below inside))
-    (λ i r j below some less inside. ap field.value (given.others i r j below some less inside) ∙ g.met.F.Field.zero_law)
+    (λ i r j below some less inside. ap field.value (given.others i r j below some less inside) ∙ ap field.value (sym g.met.F.Field.same_zero) ∙ g.met.F.Field.zero_law)
     (c.in_ok-evaluate_to_natural.ensures.values (k + a) (given.shape.0 ∙ ap (λ h. h * 2 ^ a) high ∙ sym (pow-add 2 k a)))
 
 pub returns-clause-cost : goal.returns-clause-cost

@@ -7,7 +7,7 @@ use Rattle.p3_dft.proofs.radix_2_bowers.interpolate_to_reversed.Goals as goal
 
 pub returns-clause-coefficients : goal.returns-clause-coefficients
 returns-clause-coefficients g c k high =
-    let field = g.F.Field in
+    let field = g.F.Valued in
     let multiples = c.interpolate_unscaled_to_reversed.new.mat in
     let shape = c.in_ok-interpolate_unscaled_to_reversed.ensures.same.shape in
     let tall : height multiples ≡ 2 ^ k = shape.0 ∙ high in

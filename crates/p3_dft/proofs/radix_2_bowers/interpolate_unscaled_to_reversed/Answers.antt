@@ -25,7 +25,7 @@ network_g_transposed-requires-clause-within g c =
 
 pub inverse-inverse-requires : goal.inverse-inverse-requires
 inverse-inverse-requires g c =
-    let field = g.F.Field in
+    let field = g.F.Valued in
     let log = c.log2_strict_usize-log_h.result in
     let gen = λ (n : ℕ). field.value (g.F.TwoAdicField.generator n) in
     let same : log ≡ c.requires.fits.log = log_same _ _ (sym c.log2_strict_usize-log_h.ensures.power ∙ c.height-height.ensures.height ∙ c.requires.fits.height) in (
@@ -36,7 +36,7 @@ inverse-inverse-requires g c =
 
 pub network_g_transposed-requires-clause-twiddles : goal.network_g_transposed-requires-clause-twiddles
 network_g_transposed-requires-clause-twiddles g c =
-    let field = g.F.Field in
+    let field = g.F.Valued in
     let log = c.log2_strict_usize-log_h.result in
     let gen = λ (n : ℕ). field.value (g.F.TwoAdicField.generator n) in
     let same : log ≡ c.requires.fits.log = log_same _ _ (sym c.log2_strict_usize-log_h.ensures.power ∙ c.height-height.ensures.height ∙ c.requires.fits.height) in
@@ -50,7 +50,7 @@ network_g_transposed-requires-clause-twiddles g c =
     record {
       size = ap length c.as_slice.ensures.value ∙ table.size;
       entries = λ b below.
-          ap (λ xs. field.value (get_or xs b field.ZERO)) c.as_slice.ensures.value ∙ table.entries b below
+          ap (λ xs. field.value (get_or xs b field.zero)) c.as_slice.ensures.value ∙ table.entries b below
           ∙ ap₂ (λ x y. field.ring.mul x (power field.ring y (rev (log - 1) b))) one root
           ∙ Rings.one-mul field.ring (power field.ring (inverse_root field.ring gen log) (rev (log - 1) b));
     }
@@ -63,7 +63,7 @@ pub returns-clause-same : goal.returns-clause-same
 returns-clause-same g c = entries_written c.args.mat.now _ c.network_g_transposed.new.values refl refl (c.network_g_transposed.auto.values ∙ ap length c.values_mut.ensures.values)
 
 pub returns-clause-coefficients : goal.returns-clause-coefficients
-returns-clause-coefficients g c k high = let log = c.log2_strict_usize-log_h.result in let tall : height c.args.mat.now ≡ 2 ^ log = sym c.height-height.ensures.height ∙ c.log2_strict_usize-log_h.ensures.power in let fits : log ≡ c.requires.fits.log = log_same _ _ (sym tall ∙ c.requires.fits.height) in coefficients_of_parts g.F.Field g.F.TwoAdicField.generator g.met.F.TwoAdicField.roots_law c.args.mat.now _ c.values_mut.result.now c.network_g_transposed.new.values _ c.width-width.result log k (omega (arith, fits, c.requires.fits.within)) (log_same log k (sym tall ∙ high)) c.width-width.ensures.whole tall c.values_mut.ensures.values c.width-width.ensures.width c.network_g_transposed.auto.values refl refl c.network_g_transposed.ensures.values
+returns-clause-coefficients g c k high = let log = c.log2_strict_usize-log_h.result in let tall : height c.args.mat.now ≡ 2 ^ log = sym c.height-height.ensures.height ∙ c.log2_strict_usize-log_h.ensures.power in let fits : log ≡ c.requires.fits.log = log_same _ _ (sym tall ∙ c.requires.fits.height) in coefficients_of_parts g.F.Valued g.F.TwoAdicField.generator g.met.F.TwoAdicField.roots_law c.args.mat.now _ c.values_mut.result.now c.network_g_transposed.new.values _ c.width-width.result log k (omega (arith, fits, c.requires.fits.within)) (log_same log k (sym tall ∙ high)) c.width-width.ensures.whole tall c.values_mut.ensures.values c.width-width.ensures.width c.network_g_transposed.auto.values refl refl c.network_g_transposed.ensures.values
 
 pub returns-clause-cost : goal.returns-clause-cost
 returns-clause-cost g c k high = let log = c.log2_strict_usize-log_h.result in let same : log ≡ k = log_same log k (sym c.log2_strict_usize-log_h.ensures.power ∙ c.height-height.ensures.height ∙ high) in rw (← same, ← c.width-width.ensures.width) c.network_g_transposed.ensures.cost
@@ -71,5 +71,5 @@ returns-clause-cost g c k high = let log = c.log2_strict_usize-log_h.result in l
 pub returns-then-height-eq1-clause-coefficients : goal.returns-then-height-eq1-clause-coefficients
 returns-then-height-eq1-clause-coefficients g c k high d quotient =
     let same : c.requires.fits.log ≡ k = log_same _ _ (sym c.requires.fits.height ∙ high) in
-    coefficients_of_row g.F.Field.ring g.met.F.TwoAdicField.roots_law (values_of g.F.Field c.args.mat.now) d k (omega (arith, same, c.requires.fits.within))
+    coefficients_of_row g.F.Valued.ring g.met.F.TwoAdicField.roots_law (values_of g.F.Valued c.args.mat.now) d k (omega (arith, same, c.requires.fits.within))
     (sym c.height-height.ensures.height ∙ c.if-height-eq1.true) high quotient

@@ -26,7 +26,7 @@ two_places (suc a) some = omega (arith, two-pow-succ a, pow_pos a)
 
 pub loop-done-init : goal.loop-done-init
 loop-done-init g c =
-    let z = g.F.Field.ZERO in
+    let z = g.F.Valued.zero in
     let m = c.args.mat in
     let a = c.args.added_bits in
     let h = c.height-height.result in
@@ -53,7 +53,7 @@ exchange_rows-requires-clause-j_in_bounds g c =
     let row = h - c.loop-done.done in
     let below : row < h = omega arith in
     let grown : height c.loop-done.mat ≡ height m * 2 ^ a =
-    c.loop-done.invariant.shape.0 ∙ ap (λ (n : RowMajor g.row.F.Denot). height n) c.in_ok-mat.ensures.padded ∙ padded_high g.F.Field.ZERO m whole a in
+    c.loop-done.invariant.shape.0 ∙ ap (λ (n : RowMajor g.row.F.Denot). height n) c.in_ok-mat.ensures.padded ∙ padded_high g.F.Valued.zero m whole a in
     let place = place_is row (height m) m.width a (omega (arith, tall)) whole.width c.requires.size in
     let rows : (suc row) * 2 ^ a ≤ h * 2 ^ a = mul-le-mul_right (2 ^ a) below in
     let positive = pow_pos a in
@@ -61,7 +61,7 @@ exchange_rows-requires-clause-j_in_bounds g c =
 
 pub loop-done-preserved : goal.loop-done-preserved
 loop-done-preserved g c =
-    let z = g.F.Field.ZERO in
+    let z = g.F.Valued.zero in
     let m = c.args.mat in
     let a = c.args.added_bits in
     let h = c.height-height.result in
@@ -90,13 +90,13 @@ pub returns-clause-shape : goal.returns-clause-shape
 returns-clause-shape g c =
     let m = c.args.mat in
     let shape = c.loop-done.invariant.shape in (
-      shape.0 ∙ ap (λ (n : RowMajor g.row.F.Denot). height n) c.in_ok-mat.ensures.padded ∙ padded_high g.F.Field.ZERO m c.height-height.ensures.whole c.args.added_bits,
+      shape.0 ∙ ap (λ (n : RowMajor g.row.F.Denot). height n) c.in_ok-mat.ensures.padded ∙ padded_high g.F.Valued.zero m c.height-height.ensures.whole c.args.added_bits,
       shape.1 ∙ ap (λ (n : RowMajor g.row.F.Denot). n.width) c.in_ok-mat.ensures.padded,
     )
 
 pub returns-clause-rows : goal.returns-clause-rows
 returns-clause-rows g c i j below inside =
-    let z = g.F.Field.ZERO in
+    let z = g.F.Valued.zero in
     let h = c.height-height.result in
     let all : h + 1 - c.loop-done.done ≡ 1 = omega (arith, c.requires.nonzero, c.height-height.ensures.height) in
     let x = λ (r : ℕ). (matrix z c.args.mat).entry r j in
@@ -105,7 +105,7 @@ returns-clause-rows g c i j below inside =
 
 pub returns-clause-others : goal.returns-clause-others
 returns-clause-others g c i r j below some less inside =
-    let z = g.F.Field.ZERO in
+    let z = g.F.Valued.zero in
     let h = c.height-height.result in
     let all : h + 1 - c.loop-done.done ≡ 1 = omega (arith, c.requires.nonzero, c.height-height.ensures.height) in
     let x = λ (r : ℕ). (matrix z c.args.mat).entry r j in
@@ -116,5 +116,5 @@ pub exchange_rows-requires-clause-i_in_bounds : goal.exchange_rows-requires-clau
 exchange_rows-requires-clause-i_in_bounds g c =
     let h = c.height-height.result in
     let grown : height c.loop-done.mat ≡ height c.args.mat * 2 ^ c.args.added_bits =
-    c.loop-done.invariant.shape.0 ∙ ap (λ (n : RowMajor g.row.F.Denot). height n) c.in_ok-mat.ensures.padded ∙ padded_high g.F.Field.ZERO c.args.mat c.height-height.ensures.whole c.args.added_bits in
+    c.loop-done.invariant.shape.0 ∙ ap (λ (n : RowMajor g.row.F.Denot). height n) c.in_ok-mat.ensures.padded ∙ padded_high g.F.Valued.zero c.args.mat c.height-height.ensures.whole c.args.added_bits in
     row_there (h - c.loop-done.done) h _ c.args.added_bits (omega arith) (grown ∙ ap (λ n. n * 2 ^ c.args.added_bits) (sym c.height-height.ensures.height))

@@ -11,11 +11,11 @@ use Rattle.p3_dft.proofs.radix_2_bowers.weigh_reversed_rows.Goals as goal
 
 pub returns-clause-rows : goal.returns-clause-rows
 returns-clause-rows g c k high =
-    let field = g.F.Field in
+    let field = g.F.Valued in
     let m = c.args.mat.now in
     let w = c.width-width.result in
     let h = length c.as_slice.result.now in
-    let weight = λ (i : ℕ). field.value (get_or c.as_slice.result.now i field.ZERO) in
+    let weight = λ (i : ℕ). field.value (get_or c.as_slice.result.now i field.zero) in
     let log = c.log2_strict_usize-log_h.result in
     let tall : height m ≡ 2 ^ log = sym c.height.ensures.height ∙ c.log2_strict_usize-log_h.ensures.power in
     let same : log ≡ k = log_same log k (sym tall ∙ high) in
@@ -32,5 +32,5 @@ returns-clause-rows g c k high =
     c.weigh_rows.ensures.values)
     (λ b below.
     let under : b < 2 ^ log = subst (λ (n : ℕ). b < 2 ^ n) (sym same) below in
-    ap (λ xs. field.value (get_or xs b field.ZERO)) c.as_slice.ensures.value ∙ weights.entries b under
+    ap (λ xs. field.value (get_or xs b field.zero)) c.as_slice.ensures.value ∙ weights.entries b under
     ∙ ap (λ n. field.ring.mul (field.value c.args.scale) (power field.ring (field.value c.args.shift) (rev n b))) same)

@@ -20,24 +20,24 @@ pub slice_bounds-scale_slice_in_place-end : goal.slice_bounds-scale_slice_in_pla
 slice_bounds-scale_slice_in_place-end g c = le_trans (block_room c.loop-i.i (length c.args.weights.now) c.args.width (length c.args.values.now) c.loop-i-test.true c.requires.full) (le_of_eq (sym c.loop-i.auto.values))
 
 pub loop-i-init : goal.loop-i-init
-loop-i-init g c = record { values = rows-none g.F.Field.ZERO _ _ _; count = omega arith }
+loop-i-init g c = record { values = rows-none g.F.Valued.zero _ _ _; count = omega arith }
 
 pub loop-i-preserved : goal.loop-i-preserved
 loop-i-preserved g c =
-    let field = g.F.Field in
+    let field = g.F.Valued in
     let i = c.loop-i.i in
     let w = c.args.width in
     let m = add-sub_cancel_left (i * w) w in
     let room = block_room i (length c.args.weights.now) w (length c.loop-i.values) c.loop-i-test.true (c.loop-i.auto.values ∙ c.requires.full) in
     let old_len = part_length c.loop-i.values (i * w) w room in
     let len : length c.scale_slice_in_place.new.values ≡ w = c.scale_slice_in_place.auto.values ∙ old_len in
-    let weight : field.value c.index-weights-i.result ≡ field.value (get_or c.args.weights.now i field.ZERO) =
-    ap field.value (get_or_read_under c.args.weights.now i _ _ field.ZERO c.index-weights-i.is c.loop-i-test.true refl) in
+    let weight : field.value c.index-weights-i.result ≡ field.value (get_or c.args.weights.now i field.zero) =
+    ap field.value (get_or_read_under c.args.weights.now i _ _ field.zero c.index-weights-i.is c.loop-i-test.true refl) in
     record {
-      values = rows-more field.ZERO w _ _ c.loop-i.values c.scale_slice_in_place.new.values i _ m room len
+      values = rows-more field.zero w _ _ c.loop-i.values c.scale_slice_in_place.new.values i _ m room len
           (λ k inside.
-          let entry = ap field.value (part_at c.loop-i.values (i * w) ((i * w + w) - i * w) k field.ZERO (subst (λ n. k < n) (sym m) inside) ∙ c.loop-i.invariant.values.rest (i * w + k) (le-add_right (i * w) k)) in
-          value_at field.value (λ x. field.ring.mul x (field.value c.index-weights-i.result)) (take ((i * w + w) - i * w) (drop (i * w) c.loop-i.values)) c.scale_slice_in_place.new.values k field.ZERO c.scale_slice_in_place.ensures.values c.scale_slice_in_place.auto.values (subst (λ n. k < n) (sym old_len) inside) ∙ ap₂ field.ring.mul entry weight)
+          let entry = ap field.value (part_at c.loop-i.values (i * w) ((i * w + w) - i * w) k field.zero (subst (λ n. k < n) (sym m) inside) ∙ c.loop-i.invariant.values.rest (i * w + k) (le-add_right (i * w) k)) in
+          value_at field.value (λ x. field.ring.mul x (field.value c.index-weights-i.result)) (take ((i * w + w) - i * w) (drop (i * w) c.loop-i.values)) c.scale_slice_in_place.new.values k field.zero c.scale_slice_in_place.ensures.values c.scale_slice_in_place.auto.values (subst (λ n. k < n) (sym old_len) inside) ∙ ap₂ field.ring.mul entry weight)
           c.loop-i.invariant.values;
       count = turn_counted i w _ c.args.products.now c.loop-i.products c.scale_slice_in_place.new.products old_len c.loop-i.invariant.count c.scale_slice_in_place.ensures.count;
     }

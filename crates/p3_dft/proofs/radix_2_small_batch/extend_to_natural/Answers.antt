@@ -28,7 +28,7 @@ full_rows xs ys w h same wide full =
 pub extending_network-requires-clause-size : goal.extending_network-requires-clause-size
 extending_network-requires-clause-size g c =
     ap length c.as_mut_slice.ensures.value
-    ∙ zeros_length g.F.Field.ZERO c.new-values.result.items c.extend_by_zeros.new.values.items c.values.result.now c.args.mat.values _ _ c.args.mat.width c.width-width.result c.args.log_h c.args.added_bits
+    ∙ zeros_length g.F.Valued.zero c.new-values.result.items c.extend_by_zeros.new.values.items c.values.result.now c.args.mat.values _ _ c.args.mat.width c.width-width.result c.args.log_h c.args.added_bits
     c.new-values.ensures.items c.in_ok-extend_by_zeros.ensures.ok refl c.values.ensures.values c.requires.whole.full c.requires.height c.width-width.ensures.width c.requires.room
 
 pub new-requires-clause-full : goal.new-requires-clause-full
@@ -36,7 +36,7 @@ new-requires-clause-full g c =
     let w = c.width-width.result in
     let rows = 2 ^ (c.args.log_h + c.args.added_bits) in
     let items = c.extend_by_zeros.new.values.items in
-    let size : length items ≡ rows * w = zeros_length g.F.Field.ZERO c.new-values.result.items c.extend_by_zeros.new.values.items c.values.result.now c.args.mat.values _ _ c.args.mat.width c.width-width.result c.args.log_h c.args.added_bits
+    let size : length items ≡ rows * w = zeros_length g.F.Valued.zero c.new-values.result.items c.extend_by_zeros.new.values.items c.values.result.now c.args.mat.values _ _ c.args.mat.width c.width-width.result c.args.log_h c.args.added_bits
     c.new-values.ensures.items c.in_ok-extend_by_zeros.ensures.ok refl c.values.ensures.values c.requires.whole.full c.requires.height c.width-width.ensures.width c.requires.room in
     let len : length c.extending_network.new.values ≡ length items = c.extending_network.auto.values ∙ ap length c.as_mut_slice.ensures.value in
     full_rows _ c.extending_network.new.values w rows
@@ -62,13 +62,13 @@ returns-in_err-weights-clause-room g c =
 
 pub returns : goal.returns
 returns g c =
-    let field = g.F.Field in
+    let field = g.F.Valued in
     let w = c.width-width.result in
     let k = c.args.log_h in
     let a = c.args.added_bits in
     let items = c.extend_by_zeros.new.values.items in
     let after = c.extending_network.new.values in
-    let size : length items ≡ 2 ^ (k + a) * w = zeros_length field.ZERO c.new-values.result.items items c.values.result.now c.args.mat.values _ _ c.args.mat.width w k a
+    let size : length items ≡ 2 ^ (k + a) * w = zeros_length field.zero c.new-values.result.items items c.values.result.now c.args.mat.values _ _ c.args.mat.width w k a
     c.new-values.ensures.items c.in_ok-extend_by_zeros.ensures.ok refl c.values.ensures.values c.requires.whole.full c.requires.height c.width-width.ensures.width c.requires.room in
     let len : length after ≡ length items = c.extending_network.auto.values ∙ ap length c.as_mut_slice.ensures.value in
     record {
@@ -77,9 +77,9 @@ returns g c =
           let values_is = written c.extend_by_zeros.new.values.len after (drop (length after) items) (omega (arith, len, c.extend_by_zeros.new.values.ok.0)) in
           values_of_weighed field g.F.TwoAdicField.generator c.args.mat c.new.result after c.as_slice.result.now w k (k + a) (field.value c.args.scale) (field.value c.args.shift) c.requires.height wide c.width-width.ensures.width
           (ap (λ (n : RowMajor g.row.F.Denot). n.width) c.new.ensures) (ap (λ (n : RowMajor g.row.F.Denot). n.values) c.new.ensures ∙ values_is) (len ∙ size)
-          (λ b below. ap (λ xs. field.value (get_or xs b field.ZERO)) c.as_slice.ensures.value ∙ c.in_ok-weights.ensures.powers.entries b below)
+          (λ b below. ap (λ xs. field.value (get_or xs b field.zero)) c.as_slice.ensures.value ∙ c.in_ok-weights.ensures.powers.entries b below)
           (λ i j below inside. c.extending_network.ensures.values i j below inside
-          ∙ ap₂ (λ n xs. poly field.ring (2 ^ n) (λ q. field.ring.mul (field.value (get_or xs (rev n q * w + j) field.ZERO)) (field.value (get_or c.as_slice.result.now (rev n q) field.ZERO))) (power field.ring (field.value (g.F.TwoAdicField.generator (k + a))) i))
+          ∙ ap₂ (λ n xs. poly field.ring (2 ^ n) (λ q. field.ring.mul (field.value (get_or xs (rev n q * w + j) field.zero)) (field.value (get_or c.as_slice.result.now (rev n q) field.zero))) (power field.ring (field.value (g.F.TwoAdicField.generator (k + a))) i))
           (added-sub k a) c.values-2.ensures.values);
       grows = c.extending_network.ensures.grows;
       cost =

@@ -3,7 +3,7 @@
 
 ghost use Rattle.std.specs.Prelude.{◌≤◌};
 
-use p3_dft::{CanonicalField, Field, Lanes, Packable, PackedField, Products, TwoAdicField, scaled};
+use p3_dft::{CanonicalField, Field, Lanes, Packable, PackedField, Products, TwoAdicField, Valued, scaled};
 use std::alloc::AllocError;
 use std::cell::Cell;
 use std::ops::{Add, Mul, Neg, Sub};
@@ -17,7 +17,7 @@ pub(crate) trait Meter: Copy {
 // How many elements of a field whose products a meter counts go in a pack, and whether its lanes go one after
 // another.
 pub(crate) trait Packs<T: Field>: Meter {
-    type Packing: PackedField<T>;
+    type Packing: PackedField<Scalar = T>;
 
     const ONE_BY_ONE: bool;
 
@@ -169,7 +169,7 @@ impl<F: Field, M: Meter> Neg for Tally<F, M> {
     }
 }
 
-impl<F: Field, M: Meter> Field for Tally<F, M> {
+impl<F: Field, M: Meter> Valued for Tally<F, M> {
     ghost use Rattle.std.specs.Prelude.{None};
 
     ghost Element = { F.Element };
@@ -179,6 +179,12 @@ impl<F: Field, M: Meter> Field for Tally<F, M> {
     ghost number = { F.number };
 
     ghost value = { λ x. F.value x.element };
+
+    ghost zero = { record { element = F.ZERO; mark = None } };
+}
+
+impl<F: Field, M: Meter> Field for Tally<F, M> {
+    ghost use Rattle.std.specs.Prelude.{None};
 
     const ZERO: Tally<F, M> = Tally {
         element: F::ZERO,
@@ -239,6 +245,8 @@ impl<F: Field, M: Meter> Field for Tally<F, M> {
 
     ghost number_law = { F.number_law };
 
+    ghost same_zero = { refl };
+
     ghost zero_law = { F.zero_law };
 
     ghost one_law = { F.one_law };
@@ -268,7 +276,9 @@ impl<F: Field, M: Meter> Field for Tally<F, M> {
     ghost eq_law = { λ a b. F.eq_law a.element b.element };
 }
 
-impl<F: Packable, M: Meter> PackedField<Tally<F, M>> for Tally<F, M> {
+impl<F: Packable, M: Meter> PackedField for Tally<F, M> {
+    type Scalar = Tally<F, M>;
+
     ghost use Rattle.std.specs.Prelude.{[], ◌∷◌};
     ghost use Rattle.std.proofs.Common.{refl};
 

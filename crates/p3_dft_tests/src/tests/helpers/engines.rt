@@ -127,7 +127,7 @@ impl<F: TwoAdicField> TestEngine<F> {
         &mut self,
         jobs: Vec<Job<F>>,
     ) -> Result<Vec<RowMajorMatrix<F>>, JobsStopped<F>>
-        requires { All (CanRun F.Field.own F.TWO_ADICITY) jobs.items }
+        requires { All (CanRun F.Valued.own F.TWO_ADICITY) jobs.items }
     {
         self.with(RunJobs { jobs })
     }

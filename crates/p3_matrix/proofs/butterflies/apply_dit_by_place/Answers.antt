@@ -5,7 +5,7 @@ use Rattle.p3_matrix.proofs.butterflies.apply_dit_by_place.Goals as goal
 
 pub returns-clause-near : goal.returns-clause-near
 returns-clause-near g c =
-    let f = g.F.Field in
+    let f = g.F.Valued in
     let three = c.split_at in
     let one = c.split_at_mut-packed_1 in
     let two = c.split_at_mut-packed_2 in
@@ -15,7 +15,7 @@ returns-clause-near g c =
 
 pub returns-clause-far : goal.returns-clause-far
 returns-clause-far g c =
-    let f = g.F.Field in
+    let f = g.F.Valued in
     let three = c.split_at in
     let one = c.split_at_mut-packed_1 in
     let two = c.split_at_mut-packed_2 in

@@ -4,7 +4,7 @@ use Rattle.p3_matrix.proofs.packs.apply_by_packs.Goals as goal
 
 pub returns-clause-near : goal.returns-clause-near
 returns-clause-near g c =
-    let f = g.F.Field in
+    let f = g.F.Valued in
     let one = c.split_at_mut-packed_1 in
     let two = c.split_at_mut-packed_2 in
     rows_in_parts f.value (g.B.Butterfly.near f.Element f.ring f.value c.args.butterfly.now) c.args.row_1.now c.args.row_2.now one.result.0.now one.result.1.now two.result.0.now two.result.1.now
@@ -13,7 +13,7 @@ returns-clause-near g c =
 
 pub returns-clause-far : goal.returns-clause-far
 returns-clause-far g c =
-    let f = g.F.Field in
+    let f = g.F.Valued in
     let one = c.split_at_mut-packed_1 in
     let two = c.split_at_mut-packed_2 in
     rows_in_parts f.value (g.B.Butterfly.far f.Element f.ring f.value c.args.butterfly.now) c.args.row_1.now c.args.row_2.now one.result.0.now one.result.1.now two.result.0.now two.result.1.now

@@ -5,7 +5,7 @@ use Rattle.p3_matrix.proofs.packs.apply_to_elements.Goals as goal
 
 pub loop-i-preserved : goal.loop-i-preserved
 loop-i-preserved g c =
-    let f = g.F.Field in
+    let f = g.F.Valued in
     let v = f.value in
     let near = g.B.Butterfly.near f.Element f.ring v c.args.butterfly.now in
     let far = g.B.Butterfly.far f.Element f.ring v c.args.butterfly.now in
@@ -30,7 +30,7 @@ loop-i-preserved g c =
 
 pub returns-clause-near : goal.returns-clause-near
 returns-clause-near g c =
-    let f = g.F.Field in
+    let f = g.F.Valued in
     let xs = c.args.row_1.now in
     let ys = c.args.row_2.now in
     let wide : length (map f.value xs) ≡ length xs = length-map xs f.value in
@@ -39,7 +39,7 @@ returns-clause-near g c =
 
 pub returns-clause-far : goal.returns-clause-far
 returns-clause-far g c =
-    let f = g.F.Field in
+    let f = g.F.Valued in
     let xs = c.args.row_1.now in
     let ys = c.args.row_2.now in
     let wide : length (map f.value xs) ≡ length xs = length-map xs f.value in

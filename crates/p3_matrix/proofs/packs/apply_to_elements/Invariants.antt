@@ -5,7 +5,7 @@ use Rattle.p3_matrix.proofs.packs.apply_to_elements.Given as goal
 
 abbrev pub invariant-loop-i : goal.invariant-loop-i
 invariant-loop-i g l =
-    let f = g.F.Field in
+    let f = g.F.Valued in
     let b = g.B.Butterfly in
     let xs = map f.value l.fn.row_1 in
     let ys = map f.value l.fn.row_2 in

@@ -7,7 +7,7 @@ use Rattle.p3_matrix.proofs.packs.apply_to_packs_oop.Goals as goal
 
 pub loop-at-preserved : goal.loop-at-preserved
 loop-at-preserved g c =
-    let f = g.F.Field in
+    let f = g.F.Valued in
     let v = f.value in
     let near = g.B.Butterfly.near f.Element f.ring v c.args.butterfly.now in
     let far = g.B.Butterfly.far f.Element f.ring v c.args.butterfly.now in
@@ -57,8 +57,8 @@ pub returns : goal.returns
 returns g c =
     let end = loop_ends _ _ _ _ c.loop-at-test.false refl c.loop-at.invariant.left.1 in
     record {
-      near = c.loop-at.invariant.near ∙ packs_done g.F.Field.value (g.B.Butterfly.near g.F.Field.Element g.F.Field.ring g.F.Field.value c.args.butterfly.now) c.loop-at.at c.args.src_1.now c.args.src_2.now c.args.dst_1.now end c.requires.sources c.requires.first;
-      far = c.loop-at.invariant.far ∙ packs_done g.F.Field.value (g.B.Butterfly.far g.F.Field.Element g.F.Field.ring g.F.Field.value c.args.butterfly.now) c.loop-at.at c.args.src_1.now c.args.src_2.now c.args.dst_2.now end c.requires.sources c.requires.second;
+      near = c.loop-at.invariant.near ∙ packs_done g.F.Valued.value (g.B.Butterfly.near g.F.Valued.Element g.F.Valued.ring g.F.Valued.value c.args.butterfly.now) c.loop-at.at c.args.src_1.now c.args.src_2.now c.args.dst_1.now end c.requires.sources c.requires.first;
+      far = c.loop-at.invariant.far ∙ packs_done g.F.Valued.value (g.B.Butterfly.far g.F.Valued.Element g.F.Valued.ring g.F.Valued.value c.args.butterfly.now) c.loop-at.at c.args.src_1.now c.args.src_2.now c.args.dst_2.now end c.requires.sources c.requires.second;
       count = c.loop-at.invariant.count ∙ ap (λ n. c.args.products.now + g.B.Butterfly.cost * n) end;
     }
 

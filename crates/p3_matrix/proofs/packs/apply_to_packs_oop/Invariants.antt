@@ -4,7 +4,7 @@ use Rattle.p3_matrix.proofs.packs.apply_to_packs_oop.Given as goal
 
 abbrev pub invariant-loop-at : goal.invariant-loop-at
 invariant-loop-at g l =
-    let f = g.F.Field in
+    let f = g.F.Valued in
     let xs = map f.value l.src_1 in
     let ys = map f.value l.src_2 in
     record {

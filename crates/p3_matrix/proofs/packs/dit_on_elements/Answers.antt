@@ -9,7 +9,7 @@ use Rattle.p3_matrix.proofs.packs.dit_on_elements.Goals as goal
 
 pub loop-i-preserved : goal.loop-i-preserved
 loop-i-preserved g c =
-    let f = g.F.Field in
+    let f = g.F.Valued in
     let r = f.ring in
     let v = f.value in
     let l = c.loop-i in
@@ -35,7 +35,7 @@ loop-i-preserved g c =
 
 pub returns-clause-near : goal.returns-clause-near
 returns-clause-near g c =
-    let f = g.F.Field in
+    let f = g.F.Valued in
     let xs = c.args.row_1.now in
     let wide : length (map f.value xs) ≡ length xs = length-map xs f.value in
     let same = products_long f.value f.ring.mul xs c.args.row_2.now c.args.twiddles.now c.requires.rows c.requires.twiddles in
@@ -44,7 +44,7 @@ returns-clause-near g c =
 
 pub returns-clause-far : goal.returns-clause-far
 returns-clause-far g c =
-    let f = g.F.Field in
+    let f = g.F.Valued in
     let xs = c.args.row_1.now in
     let wide : length (map f.value xs) ≡ length xs = length-map xs f.value in
     let same = products_long f.value f.ring.mul xs c.args.row_2.now c.args.twiddles.now c.requires.rows c.requires.twiddles in

@@ -6,7 +6,7 @@ use Rattle.p3_matrix.proofs.packs.dit_on_elements.Given as goal
 
 abbrev pub invariant-loop-i : goal.invariant-loop-i
 invariant-loop-i g l =
-    let f = g.F.Field in
+    let f = g.F.Valued in
     let xs = map f.value l.fn.row_1 in
     let ys = map f.value l.fn.row_2 in
     let multiples = by_lanes f.ring.mul ys (map f.value l.fn.twiddles) in

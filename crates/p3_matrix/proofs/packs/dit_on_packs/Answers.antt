@@ -8,7 +8,7 @@ use Rattle.p3_matrix.proofs.packs.dit_on_packs.Goals as goal
 
 pub loop-at-preserved : goal.loop-at-preserved
 loop-at-preserved g c =
-    let f = g.F.Field in
+    let f = g.F.Valued in
     let v = f.value in
     let l = c.loop-at in
     let w = c.WIDTH-width.result in
@@ -36,7 +36,7 @@ loop-at-preserved g c =
 
 pub returns-clause-near : goal.returns-clause-near
 returns-clause-near g c =
-    let f = g.F.Field in
+    let f = g.F.Valued in
     let l = c.loop-at in
     let xs = c.args.row_1.now in
     let wide : length (map f.value xs) ≡ length xs = length-map xs f.value in
@@ -45,7 +45,7 @@ returns-clause-near g c =
 
 pub returns-clause-far : goal.returns-clause-far
 returns-clause-far g c =
-    let f = g.F.Field in
+    let f = g.F.Valued in
     let l = c.loop-at in
     let xs = c.args.row_1.now in
     let ys = c.args.row_2.now in

@@ -6,7 +6,7 @@ use Rattle.p3_matrix.proofs.packs.dit_on_packs.Given as goal
 
 abbrev pub invariant-loop-at : goal.invariant-loop-at
 invariant-loop-at g l =
-    let f = g.F.Field in
+    let f = g.F.Valued in
     let xs = map f.value l.fn.row_1 in
     let ys = map f.value l.fn.row_2 in
     let multiples = by_lanes f.ring.mul ys (map f.value l.fn.twiddles) in

@@ -6,7 +6,7 @@ use Rattle.p3_matrix.proofs.packs.scale_packs.Goals as goal
 
 pub loop-at-preserved : goal.loop-at-preserved
 loop-at-preserved g c =
-    let f = g.F.Field in
+    let f = g.F.Valued in
     let times = λ (x : f.Element). f.ring.mul x (f.value c.args.t) in
     let op = λ (x y : f.Element). times x in
     let l = c.loop-at in
@@ -25,7 +25,7 @@ loop-at-preserved g c =
 
 pub returns-clause-values : goal.returns-clause-values
 returns-clause-values g c =
-    let f = g.F.Field in
+    let f = g.F.Valued in
     let times = λ (x : f.Element). f.ring.mul x (f.value c.args.t) in
     let l = c.loop-at in
     let xs = map f.value c.args.values.now in

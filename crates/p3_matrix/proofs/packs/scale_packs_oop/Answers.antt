@@ -6,7 +6,7 @@ use Rattle.p3_matrix.proofs.packs.scale_packs_oop.Goals as goal
 
 pub loop-at-preserved : goal.loop-at-preserved
 loop-at-preserved g c =
-    let f = g.F.Field in
+    let f = g.F.Valued in
     let v = f.value in
     let times = λ (x : f.Element). f.ring.mul x (v c.args.t) in
     let op = λ (x y : f.Element). times x in
@@ -27,7 +27,7 @@ loop-at-preserved g c =
 
 pub returns-clause-values : goal.returns-clause-values
 returns-clause-values g c =
-    let f = g.F.Field in
+    let f = g.F.Valued in
     let times = λ (x : f.Element). f.ring.mul x (f.value c.args.t) in
     let from = c.args.from.now in
     let end = loop_ends _ _ _ _ c.loop-at-test.false refl c.loop-at.invariant.left.1 in

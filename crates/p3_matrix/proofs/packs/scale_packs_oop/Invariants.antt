@@ -4,7 +4,7 @@ use Rattle.p3_matrix.proofs.packs.scale_packs_oop.Given as goal
 
 abbrev pub invariant-loop-at : goal.invariant-loop-at
 invariant-loop-at g l =
-    let f = g.F.Field in
+    let f = g.F.Valued in
     let xs = map f.value l.from in
     record {
       width : l.width ≡ g.P.PackedField.WIDTH;

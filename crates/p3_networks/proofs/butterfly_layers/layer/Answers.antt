@@ -25,8 +25,8 @@ meet_blocks-requires-clause-in_table g c = subst (λ h. (b t : ℕ) → b < c.ar
 
 pub returns-then-half-eq1-clause-cells : goal.returns-then-half-eq1-clause-cells
 returns-then-half-eq1-clause-cells g c =
-    let field = g.F.Field in
-    layer_at field.value field.ZERO (g.R.Rule.near field.Element field.ring field.value c.args.rule) (g.R.Rule.far field.Element field.ring field.value c.args.rule)
+    let field = g.F.Valued in
+    layer_at field.value field.zero (g.R.Rule.near field.Element field.ring field.value c.args.rule) (g.R.Rule.far field.Element field.ring field.value c.args.rule)
     c.args.values.now c.meet_blocks.new.values c.args.first_block c.args.blocks c.args.width c.args.half 1 1 c.if-width-eq1.true c.if-half-eq1.true c.meet_blocks.ensures.cells
 
 pub returns-then-half-eq1-clause-cost : goal.returns-then-half-eq1-clause-cost
@@ -41,8 +41,8 @@ meet_blocks-requires-then-half-eq2-clause-in_table g c = subst (λ h. (b t : ℕ
 
 pub returns-then-half-eq2-clause-cells : goal.returns-then-half-eq2-clause-cells
 returns-then-half-eq2-clause-cells g c =
-    let field = g.F.Field in
-    layer_at field.value field.ZERO (g.R.Rule.near field.Element field.ring field.value c.args.rule) (g.R.Rule.far field.Element field.ring field.value c.args.rule)
+    let field = g.F.Valued in
+    layer_at field.value field.zero (g.R.Rule.near field.Element field.ring field.value c.args.rule) (g.R.Rule.far field.Element field.ring field.value c.args.rule)
     c.args.values.now c.meet_blocks-then-half-eq2.new.values c.args.first_block c.args.blocks c.args.width c.args.half 1 2 c.if-width-eq1-2.true c.if-half-eq2.true c.meet_blocks-then-half-eq2.ensures.cells
 
 pub returns-then-half-eq2-clause-cost : goal.returns-then-half-eq2-clause-cost
@@ -57,8 +57,8 @@ meet_blocks-requires-then-half-eq4-clause-in_table g c = subst (λ h. (b t : ℕ
 
 pub returns-then-half-eq4-clause-cells : goal.returns-then-half-eq4-clause-cells
 returns-then-half-eq4-clause-cells g c =
-    let field = g.F.Field in
-    layer_at field.value field.ZERO (g.R.Rule.near field.Element field.ring field.value c.args.rule) (g.R.Rule.far field.Element field.ring field.value c.args.rule)
+    let field = g.F.Valued in
+    layer_at field.value field.zero (g.R.Rule.near field.Element field.ring field.value c.args.rule) (g.R.Rule.far field.Element field.ring field.value c.args.rule)
     c.args.values.now c.meet_blocks-then-half-eq4.new.values c.args.first_block c.args.blocks c.args.width c.args.half 1 4 c.if-width-eq1-3.true c.if-half-eq4.true c.meet_blocks-then-half-eq4.ensures.cells
 
 pub returns-then-half-eq4-clause-cost : goal.returns-then-half-eq4-clause-cost

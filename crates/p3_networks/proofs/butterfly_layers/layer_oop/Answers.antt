@@ -13,7 +13,7 @@ on_each_chunk-requires-clause-accepts g c n below = (refl, block_room n c.args.b
 
 pub returns-clause-cells : goal.returns-clause-cells
 returns-clause-cells g c b below =
-    halves_taken g.F.Field.ZERO _ g.F.Field.value _ _ c.args.size _ b c.args.source.now c.on_each_chunk.new.values
+    halves_taken g.F.Valued.zero _ g.F.Valued.value _ _ c.args.size _ b c.args.source.now c.on_each_chunk.new.values
     (part_size c.args.values.now _ _ (block_room b _ _ _ below c.requires.size)) refl (c.on_each_chunk.ensures.chunks b below)
 
 pub returns-clause-cost : goal.returns-clause-cost

@@ -22,16 +22,16 @@ halves_met value d w h near far whole low high first second wide low_is high_is 
 
 pub returns-then-goes_by_block-clause-cells : goal.returns-then-goes_by_block-clause-cells
 returns-then-goes_by_block-clause-cells g c =
-    let field = g.F.Field in
+    let field = g.F.Valued in
     let w = c.args.width in
     let h = c.args.half in
     let near = g.R.Rule.near field.Element field.ring field.value c.args.rule c.args.block in
     let far = g.R.Rule.far field.Element field.ring field.value c.args.rule c.args.block in
     let front = c.split_at_mut-low.ensures in
-    halves_met field.value field.ZERO w h near far c.args.values.now c.split_at_mut-low.result.0.now c.split_at_mut-low.result.1.now c.meet.new.row_1 c.meet.new.row_2 c.requires.width front.front front.back (c.meet.auto.row_1 ∙ front.front_len)
+    halves_met field.value field.zero w h near far c.args.values.now c.split_at_mut-low.result.0.now c.split_at_mut-low.result.1.now c.meet.new.row_1 c.meet.new.row_2 c.requires.width front.front front.back (c.meet.auto.row_1 ∙ front.front_len)
     (λ t j p q inside.
-    let x = field.value (get_or c.split_at_mut-low.result.0.now (t * w + j) field.ZERO) in
-    let y = field.value (get_or c.split_at_mut-low.result.1.now (t * w + j) field.ZERO) in
+    let x = field.value (get_or c.split_at_mut-low.result.0.now (t * w + j) field.zero) in
+    let y = field.value (get_or c.split_at_mut-low.result.1.now (t * w + j) field.zero) in
     let same = c.goes_by_block.ensures.same c.if-goes_by_block.true c.args.block 0 t in (
       c.meet.ensures.near (t * w + j) (omega (arith, inside, front.front_len)) ∙ ap (λ (f : field.Element → field.Element → field.Element). f x y) same.0,
       c.meet.ensures.far (t * w + j) (omega (arith, inside, front.front_len)) ∙ ap (λ (f : field.Element → field.Element → field.Element). f x y) same.1,
@@ -39,33 +39,33 @@ returns-then-goes_by_block-clause-cells g c =
 
 pub returns-in-Some-clause-cells : goal.returns-in-Some-clause-cells
 returns-in-Some-clause-cells g c =
-    let field = g.F.Field in
+    let field = g.F.Valued in
     let w = c.args.width in
     let h = c.args.half in
     let near = g.R.Rule.near field.Element field.ring field.value c.args.rule c.args.block in
     let far = g.R.Rule.far field.Element field.ring field.value c.args.rule c.args.block in
     let front = c.split_at_mut-low.ensures in
     let one : w ≡ 1 = (c.is_column_of_packs.ensures.0 c.if-is_column_of_packs.true).0 in
-    halves_met field.value field.ZERO w h near far c.args.values.now c.split_at_mut-low.result.0.now c.split_at_mut-low.result.1.now c.meet_by_place.new.low c.meet_by_place.new.high c.requires.width front.front front.back (c.meet_by_place.auto.low ∙ front.front_len)
+    halves_met field.value field.zero w h near far c.args.values.now c.split_at_mut-low.result.0.now c.split_at_mut-low.result.1.now c.meet_by_place.new.low c.meet_by_place.new.high c.requires.width front.front front.back (c.meet_by_place.auto.low ∙ front.front_len)
     (λ t j p q inside.
-    let x = field.value (get_or c.split_at_mut-low.result.0.now (t * w + j) field.ZERO) in
-    let y = field.value (get_or c.split_at_mut-low.result.1.now (t * w + j) field.ZERO) in
+    let x = field.value (get_or c.split_at_mut-low.result.0.now (t * w + j) field.zero) in
+    let y = field.value (get_or c.split_at_mut-low.result.1.now (t * w + j) field.zero) in
     let place : t * w + j ≡ t = ap (λ k. t * k + j) one ∙ omega (arith, q, one) in
     let met = c.in-Some.ensures.1 t (c.requires.in_table t p) in
-    let twiddle = ap (λ k. field.value (get_or c.in-Some.twiddles.now k field.ZERO)) place in (
+    let twiddle = ap (λ k. field.value (get_or c.in-Some.twiddles.now k field.zero)) place in (
       c.meet_by_place.ensures.near (t * w + j) (omega (arith, inside, front.front_len)) ∙ ap (λ k. dit_near field.ring k x y) twiddle ∙ sym (ap (λ (f : field.Element → field.Element → field.Element). f x y) met.1),
       c.meet_by_place.ensures.far (t * w + j) (omega (arith, inside, front.front_len)) ∙ ap (λ k. dit_far field.ring k x y) twiddle ∙ sym (ap (λ (f : field.Element → field.Element → field.Element). f x y) met.2),
     ))
 
 pub returns-clause-cells : goal.returns-clause-cells
 returns-clause-cells g c =
-    let field = g.F.Field in
+    let field = g.F.Valued in
     let w = c.args.width in
     let h = c.args.half in
     let near = g.R.Rule.near field.Element field.ring field.value c.args.rule c.args.block in
     let far = g.R.Rule.far field.Element field.ring field.value c.args.rule c.args.block in
     let front = c.split_at_mut-low.ensures in
-    halves_met field.value field.ZERO w h near far c.args.values.now c.split_at_mut-low.result.0.now c.split_at_mut-low.result.1.now c.meet_halves.new.low c.meet_halves.new.high c.requires.width front.front front.back (c.meet_halves.auto.low ∙ front.front_len)
+    halves_met field.value field.zero w h near far c.args.values.now c.split_at_mut-low.result.0.now c.split_at_mut-low.result.1.now c.meet_halves.new.low c.meet_halves.new.high c.requires.width front.front front.back (c.meet_halves.auto.low ∙ front.front_len)
     (λ t j p q inside. (c.meet_halves.ensures.near t j p q, c.meet_halves.ensures.far t j p q))
 
 pub returns-in-Some-clause-cost : goal.returns-in-Some-clause-cost

@@ -15,7 +15,7 @@ on_each_chunk-requires-clause-accepts g c n below = (c.requires.width, (c.requir
 
 pub returns-clause-cells : goal.returns-clause-cells
 returns-clause-cells g c b below =
-    halves_taken g.F.Field.ZERO _ g.F.Field.value _ _ (c.args.half * c.args.width) _ b c.args.values.now c.on_each_chunk.new.values refl refl (c.on_each_chunk.ensures.chunks b below)
+    halves_taken g.F.Valued.zero _ g.F.Valued.value _ _ (c.args.half * c.args.width) _ b c.args.values.now c.on_each_chunk.new.values refl refl (c.on_each_chunk.ensures.chunks b below)
 
 pub returns-clause-cost : goal.returns-clause-cost
 returns-clause-cost g c =

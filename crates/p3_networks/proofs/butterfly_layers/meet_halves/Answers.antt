@@ -27,26 +27,26 @@ at_zero P w given = let none : 0 ≡ 0 * w = omega arith in let end : w ≡ 0 * 
 
 pub loop-t-init : goal.loop-t-init
 loop-t-init g c =
-    let field = g.F.Field in
+    let field = g.F.Valued in
     let w = c.args.width in
     let met = c.meet_ranges in
     let place : (j : ℕ) → 0 * w + j ≡ j = λ j. omega arith in
     record {
-      near = rows-next field.ZERO w _ c.args.low.now c.args.low.now met.new.low 0 met.auto.low
-          (at_zero (λ a b. (n : ℕ) → (n < a) ⊎ (b ≤ n) → get_or met.new.low n field.ZERO ≡ get_or c.args.low.now n field.ZERO) w met.ensures.low_stays)
-          (λ j inside. met.ensures.near (0 * w + j) (omega arith) (omega (arith, inside, place j))) (rows-none field.ZERO w _ c.args.low.now);
-      far = rows-next field.ZERO w _ c.args.high.now c.args.high.now met.new.high 0 met.auto.high
-          (at_zero (λ a b. (n : ℕ) → (n < a) ⊎ (b ≤ n) → get_or met.new.high n field.ZERO ≡ get_or c.args.high.now n field.ZERO) w met.ensures.high_stays)
-          (λ j inside. met.ensures.far (0 * w + j) (omega arith) (omega (arith, inside, place j))) (rows-none field.ZERO w _ c.args.high.now);
+      near = rows-next field.zero w _ c.args.low.now c.args.low.now met.new.low 0 met.auto.low
+          (at_zero (λ a b. (n : ℕ) → (n < a) ⊎ (b ≤ n) → get_or met.new.low n field.zero ≡ get_or c.args.low.now n field.zero) w met.ensures.low_stays)
+          (λ j inside. met.ensures.near (0 * w + j) (omega arith) (omega (arith, inside, place j))) (rows-none field.zero w _ c.args.low.now);
+      far = rows-next field.zero w _ c.args.high.now c.args.high.now met.new.high 0 met.auto.high
+          (at_zero (λ a b. (n : ℕ) → (n < a) ⊎ (b ≤ n) → get_or met.new.high n field.zero ≡ get_or c.args.high.now n field.zero) w met.ensures.high_stays)
+          (λ j inside. met.ensures.far (0 * w + j) (omega arith) (omega (arith, inside, place j))) (rows-none field.zero w _ c.args.high.now);
       grows = met.ensures.grows;
       cost = let all : w - 0 ≡ 1 * w = omega arith in rw all at met.ensures.cost;
     }
 
 pub loop-t-preserved : goal.loop-t-preserved
 loop-t-preserved g c =
-    let field = g.F.Field in
+    let field = g.F.Valued in
     let rule = g.R.Rule in
-    let zero = field.ZERO in
+    let zero = field.zero in
     let t = c.loop-t.t in
     let w = c.args.width in
     let met = c.meet_ranges-in-loop-t in
@@ -64,10 +64,10 @@ loop-t-preserved g c =
     }
 
 pub returns-clause-near : goal.returns-clause-near
-returns-clause-near g c = rows-all g.F.Field.ZERO c.args.width _ c.args.low.now c.loop-t.low c.loop-t.t c.args.half c.loop-t-test.false c.loop-t.invariant.near
+returns-clause-near g c = rows-all g.F.Valued.zero c.args.width _ c.args.low.now c.loop-t.low c.loop-t.t c.args.half c.loop-t-test.false c.loop-t.invariant.near
 
 pub returns-clause-far : goal.returns-clause-far
-returns-clause-far g c = rows-all g.F.Field.ZERO c.args.width _ c.args.high.now c.loop-t.high c.loop-t.t c.args.half c.loop-t-test.false c.loop-t.invariant.far
+returns-clause-far g c = rows-all g.F.Valued.zero c.args.width _ c.args.high.now c.loop-t.high c.loop-t.t c.args.half c.loop-t-test.false c.loop-t.invariant.far
 
 pub returns-clause-cost : goal.returns-clause-cost
 returns-clause-cost g c = count_all g.R.Rule.cost c.loop-t.t c.args.half c.args.width c.args.products.now c.loop-t.products (c.loop-t.auto.t-end c.requires.nonzero) c.loop-t.invariant.cost

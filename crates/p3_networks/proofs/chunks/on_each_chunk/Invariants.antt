@@ -6,7 +6,7 @@ abbrev pub invariant-loop-n : goal.invariant-loop-n
 invariant-loop-n g l =
     let work = g.W.ChunkWork in
     record {
-      chunks : ChunksDone g.F.Field.ZERO l.fn.size (work.takes l.fn.work) l.fn.values l.n l.values;
+      chunks : ChunksDone g.F.Valued.zero l.fn.size (work.takes l.fn.work) l.fn.values l.n l.values;
       grows : l.fn.products ≤ l.products;
       cost : 2 * l.products ≤ 2 * l.fn.products + l.n * work.cost l.fn.work l.fn.size;
     }

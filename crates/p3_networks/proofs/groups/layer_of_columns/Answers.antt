@@ -15,9 +15,9 @@ on_each_chunk-requires-clause-accepts g c n below = (c.requires.ordered, (c.requ
 
 pub returns-clause-cells : goal.returns-clause-cells
 returns-clause-cells g c all before after layer within holds =
-    let field = g.F.Field in
+    let field = g.F.Valued in
     let rule = g.R.Rule in
-    blocks_of_columns field.value field.ZERO c.args.meet.part c.args.meet.half c.args.meet.at c.args.meet.end (λ (n : ℕ). rule.near field.Element field.ring field.value c.args.meet.rule n 0) (λ (n : ℕ). rule.far field.Element field.ring field.value c.args.meet.rule n 0)
+    blocks_of_columns field.value field.zero c.args.meet.part c.args.meet.half c.args.meet.at c.args.meet.end (λ (n : ℕ). rule.near field.Element field.ring field.value c.args.meet.rule n 0) (λ (n : ℕ). rule.far field.Element field.ring field.value c.args.meet.rule n 0)
     all c.args.meet.first_block c.args.blocks before after c.args.values.now c.on_each_chunk.new.values layer within holds c.on_each_chunk.ensures.chunks
 
 pub returns-clause-cost : goal.returns-clause-cost

@@ -6,18 +6,18 @@ use Rattle.p3_networks.proofs.groups.layers_in_groups.Goals as goal
 
 pub loop-done-init : goal.loop-done-init
 loop-done-init g c =
-    let field = g.F.Field in
+    let field = g.F.Valued in
     let enough : c.args.log_h - c.args.log_rows ≤ 3 * c.groups-count.result = omega (arith, c.groups-count.ensures) in
     let none = covered_first c.args.order c.args.log_rows c.args.log_h c.groups-count.result c.requires.below enough in
     record {
-      cells = λ cells layers holds. subst (λ (e : ℕ). HoldsCells field.value field.ZERO 0 (cells e) c.args.values.now) (stand_first c.args.order c.args.log_rows c.args.log_h c.groups-count.result c.requires.below enough) holds;
+      cells = λ cells layers holds. subst (λ (e : ℕ). HoldsCells field.value field.zero 0 (cells e) c.args.values.now) (stand_first c.args.order c.args.log_rows c.args.log_h c.groups-count.result c.requires.below enough) holds;
       grows = omega arith;
       cost = omega arith;
     }
 
 pub loop-done-preserved : goal.loop-done-preserved
 loop-done-preserved g c =
-    let field = g.F.Field in
+    let field = g.F.Valued in
     let order = c.args.order in
     let r = c.args.log_rows in
     let k = c.args.log_h in
@@ -34,9 +34,9 @@ loop-done-preserved g c =
     covered_next order r k n done c.requires.below c.loop-done-test.true ∙ sym (ap₂ (λ a b. covered order r k n done + (b - a)) from_is to_is) in
     record {
       cells = λ cells layers holds.
-          subst (λ (e : ℕ). HoldsCells field.value field.ZERO 0 (cells e) c.group_on_chunks.new.values) last
+          subst (λ (e : ℕ). HoldsCells field.value field.zero 0 (cells e) c.group_on_chunks.new.values) last
           (c.group_on_chunks.ensures.cells cells layers
-          (subst (λ (e : ℕ). HoldsCells field.value field.ZERO 0 (cells e) c.loop-done.values) first (c.loop-done.invariant.cells cells layers holds)));
+          (subst (λ (e : ℕ). HoldsCells field.value field.zero 0 (cells e) c.loop-done.values) first (c.loop-done.invariant.cells cells layers holds)));
       grows = omega (arith, c.loop-done.invariant.grows, c.group_on_chunks.ensures.grows);
       cost = layers_more g.R.Rule.cost (covered order r k n done) (to - from) (covered order r k n (done + 1)) (length c.args.values.now) c.args.products.now c.loop-done.products c.group_on_chunks.new.products more
           c.loop-done.invariant.cost
@@ -45,11 +45,11 @@ loop-done-preserved g c =
 
 pub returns-clause-cells : goal.returns-clause-cells
 returns-clause-cells g c cells layers holds =
-    let field = g.F.Field in
+    let field = g.F.Valued in
     let n = c.groups-count.result in
     let enough : c.args.log_h - c.args.log_rows ≤ 3 * n = omega (arith, c.groups-count.ensures) in
     let end : c.loop-done.done ≡ n = omega arith in
-    subst (λ (e : ℕ). HoldsCells field.value field.ZERO 0 (cells e) c.loop-done.values)
+    subst (λ (e : ℕ). HoldsCells field.value field.zero 0 (cells e) c.loop-done.values)
     (ap (λ m. stand c.args.order c.args.log_rows c.args.log_h n m) end ∙ stand_last c.args.order c.args.log_rows c.args.log_h n c.requires.below enough)
     (c.loop-done.invariant.cells cells layers holds)
 

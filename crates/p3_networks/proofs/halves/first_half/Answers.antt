@@ -31,14 +31,14 @@ on_each_chunk-requires-clause-accepts g c n below =
 
 pub returns-clause-values : goal.returns-clause-values
 returns-clause-values g c root s roots table a t j below inside column =
-    let field = g.F.Field in
+    let field = g.F.Valued in
     let mid = c.args.mid in
     let sizes = tile_sizes c.args.log_h mid c.args.width (length c.args.values.now) c.requires.rows.fits_u64 c.requires.parts c.requires.rows.size in
     let chunk : a < one_shifted (c.args.log_h - mid) = omega (arith, below, sizes.tiles_is) in
     let x = point field.ring root mid s t in
-    row_taken field.ZERO _ field.ring field.value field.value (2 ^ mid) c.args.width (rev mid) _ a t j x (source_of c.args.source c.args.values.now) c.on_each_chunk.new.values sizes.size_is refl (λ q l. rev-lt mid q) inside column
+    row_taken field.zero _ field.ring field.value field.value (2 ^ mid) c.args.width (rev mid) _ a t j x (source_of c.args.source c.args.values.now) c.on_each_chunk.new.values sizes.size_is refl (λ q l. rev-lt mid q) inside column
     (c.on_each_chunk.ensures.chunks a chunk root s roots table t j inside column
-    ∙ ap (λ xs. poly field.ring (2 ^ mid) (λ q. field.value (get_or xs (rev mid q * c.args.width + j) field.ZERO)) x)
+    ∙ ap (λ xs. poly field.ring (2 ^ mid) (λ q. field.value (get_or xs (rev mid q * c.args.width + j) field.zero)) x)
     (source_chunk c.args.source c.args.values.now _ a (part_size c.args.values.now _ _ (block_room a _ _ _ chunk sizes.whole))))
 
 pub returns-clause-cost : goal.returns-clause-cost

@@ -4,7 +4,7 @@ use Rattle.p3_networks.proofs.halves.first_layer_oop.Goals as goal
 
 pub returns-then-eq-clause-cells : goal.returns-then-eq-clause-cells
 returns-then-eq-clause-cells g c b p =
-    let field = g.F.Field in
+    let field = g.F.Valued in
     let one : field.value (g.T.LayerTwiddles.at c.args.table 0 0) ≡ field.ring.one =
     ap field.value (sym c.get-first.ensures) ∙ (g.met.F.Field.eq_law _ _).0 (sym c.eq.ensures ∙ c.if-eq.true) ∙ ap field.value c.ONE.ensures ∙ g.met.F.Field.one_law in
     record {

@@ -41,7 +41,7 @@ scaled_layer-requires-clause-size g c =
 
 pub loop-done-init : goal.loop-done-init
 loop-done-init g c =
-    let field = g.F.Field in
+    let field = g.F.Valued in
     let k = c.args.left in
     let mid = c.args.mid in
     let chunk = c.args.chunk in
@@ -51,9 +51,9 @@ loop-done-init g c =
     let small : k < 64 = omega (arith, c.requires.chunk.fits_u64) in
     let h : half ≡ 2 ^ (k - 1) = first_half k c.requires.nonzero small in
     let whole : 1 * (2 * half) ≡ 2 ^ k = ap (λ n. 1 * (2 * n)) h ∙ first_whole k c.requires.nonzero in
-    let cell = λ (n : ℕ). field.value (get_or c.args.values.now n field.ZERO) in
+    let cell = λ (n : ℕ). field.value (get_or c.args.values.now n field.zero) in
     let scaled = λ (n : ℕ). field.ring.mul (cell n) (factor field c.args.scale) in
-    let after = λ (n : ℕ). field.value (get_or c.scaled_layer.new.values n field.ZERO) in
+    let after = λ (n : ℕ). field.value (get_or c.scaled_layer.new.values n field.zero) in
     let entry = λ (t : ℕ). field.value (g.T.LayerTwiddles.at c.args.table mid (chunk + t)) in
     let few : 2 ^ (k - 1) ≤ 2 ^ k = omega (arith, h, whole) in
     record {
@@ -103,7 +103,7 @@ layer_by_block-requires-clause-in_table g c =
 
 pub loop-done-preserved : goal.loop-done-preserved
 loop-done-preserved g c =
-    let field = g.F.Field in
+    let field = g.F.Valued in
     let l = c.loop-done.done in
     let k = c.args.left in
     let mid = c.args.mid in
@@ -115,9 +115,9 @@ loop-done-preserved g c =
     let h : half ≡ 2 ^ (k - 1 - l) = left_shift k l c.loop-done-test.true small in
     let b : blocks ≡ 2 ^ l = done_shift k l c.loop-done-test.true small in
     let whole : blocks * (2 * half) ≡ 2 ^ k = rw (h, b) (blocks_whole k l c.loop-done-test.true) in
-    let before = λ (n : ℕ). field.value (get_or c.loop-done.values n field.ZERO) in
-    let after = λ (n : ℕ). field.value (get_or c.layer_by_block.new.values n field.ZERO) in
-    let scaled = λ (n : ℕ). field.ring.mul (field.value (get_or c.args.values.now n field.ZERO)) (factor field c.args.scale) in
+    let before = λ (n : ℕ). field.value (get_or c.loop-done.values n field.zero) in
+    let after = λ (n : ℕ). field.value (get_or c.layer_by_block.new.values n field.zero) in
+    let scaled = λ (n : ℕ). field.ring.mul (field.value (get_or c.args.values.now n field.zero)) (factor field c.args.scale) in
     let entry = λ (t : ℕ). field.value (g.T.LayerTwiddles.at c.args.table (mid + l) (chunk * blocks + t)) in
     record {
       rows = λ root s roots table j r inside below.
@@ -139,12 +139,12 @@ loop-done-preserved g c =
 
 pub returns-clause-values : goal.returns-clause-values
 returns-clause-values g c root s roots table t j p q =
-    let field = g.F.Field in
+    let field = g.F.Valued in
     let k = c.args.left in
     let e : c.loop-done.done ≡ k = omega (arith, c.requires.nonzero) in
     let d : k - c.loop-done.done ≡ 0 = omega arith in
     let coset = point field.ring root (c.args.mid + k) s (rev c.args.mid c.args.chunk) in
-    let f = λ (u : ℕ). field.ring.mul (field.value (get_or c.args.values.now (u * c.args.width + j) field.ZERO)) (factor field c.args.scale) in
+    let f = λ (u : ℕ). field.ring.mul (field.value (get_or c.args.values.now (u * c.args.width + j) field.zero)) (factor field c.args.scale) in
     c.loop-done.invariant.rows root s roots table j t q p ∙ ap₂ (λ x y. high_row field.ring root coset x y f t) e d ∙ high_end field.ring root coset k f t
 
 pub returns-clause-cost : goal.returns-clause-cost

@@ -3,7 +3,7 @@ use Rattle.p3_networks.proofs.halves.layer_by_block.Goals as goal
 
 pub layer-requires-clause-in_table : goal.layer-requires-clause-in_table
 layer-requires-clause-in_table g c b t p q =
-    let field = g.F.Field in (
+    let field = g.F.Valued in (
       c.requires.in_table,
       omega (arith, p, c.requires.table),
       λ _. ap field.value (sym c.get.ensures) ∙ (g.met.F.Field.eq_law _ _).0 (sym c.eq.ensures ∙ c.if-eq.true) ∙ ap field.value c.ONE.ensures ∙ g.met.F.Field.one_law,

@@ -28,7 +28,7 @@ layer-requires-else-eq-clause-size g c = filled c.args.log_h c.args.l c.args.wid
 
 pub layer-requires-clause-in_table : goal.layer-requires-clause-in_table
 layer-requires-clause-in_table g c b t p q =
-    let field = g.F.Field in (
+    let field = g.F.Valued in (
       c.requires.table,
       omega (arith, q, done_shift c.args.log_h c.args.l c.requires.below c.requires.rows.fits_u64),
       λ _. ap field.value (sym c.get.ensures) ∙ (g.met.F.Field.eq_law _ _).0 (sym c.eq.ensures ∙ c.if-eq.true) ∙ ap field.value c.ONE.ensures ∙ g.met.F.Field.one_law,

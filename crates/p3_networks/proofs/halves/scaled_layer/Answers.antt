@@ -5,7 +5,7 @@ use Rattle.p3_networks.proofs.halves.scaled_layer.Goals as goal
 
 pub returns-in-Some-clause-cells : goal.returns-in-Some-clause-cells
 returns-in-Some-clause-cells g c =
-    let field = g.F.Field in
+    let field = g.F.Valued in
     let t = λ (b : ℕ). field.value (g.T.LayerTwiddles.at c.args.table c.args.l (c.args.block + b)) in
     rw c.in-Some.is
     (λ b p. record {
@@ -15,7 +15,7 @@ returns-in-Some-clause-cells g c =
 
 pub returns-in-None-clause-cells : goal.returns-in-None-clause-cells
 returns-in-None-clause-cells g c =
-    let field = g.F.Field in
+    let field = g.F.Valued in
     let t = λ (b : ℕ). field.value (g.T.LayerTwiddles.at c.args.table c.args.l (c.args.block + b)) in
     rw c.in-None.is
     (λ b p. record {

@@ -19,11 +19,11 @@ on_each_chunk-requires-clause-accepts g c n below =
 
 pub returns-clause-values : goal.returns-clause-values
 returns-clause-values g c root s roots table a t j below inside column =
-    let field = g.F.Field in
+    let field = g.F.Valued in
     let mid = c.args.mid in
     let left = c.args.left in
     let sizes = shifted_sizes mid (mid + left) left c.args.width (length c.args.values.now) (omega (arith, c.requires.rows.fits_u64)) refl c.requires.rows.size in
-    row_taken field.ZERO _ field.ring (λ x. field.ring.mul (field.value x) (factor field c.args.scale)) field.value (2 ^ left) c.args.width (λ q. q) _ a t j
+    row_taken field.zero _ field.ring (λ x. field.ring.mul (field.value x) (factor field c.args.scale)) field.value (2 ^ left) c.args.width (λ q. q) _ a t j
     (point field.ring root left (point field.ring root (mid + left) s (rev mid a)) (rev left t)) c.args.values.now c.on_each_chunk.new.values sizes.size_is refl (λ q l. l) inside column
     (c.on_each_chunk.ensures.chunks a (omega (arith, below, first_shift mid left c.requires.rows.fits_u64)) root s roots table t j inside column)
 

@@ -32,11 +32,11 @@ on_each_chunk-requires-clause-accepts g c n below =
 
 pub returns-then-count-gt0-clause-pairs : goal.returns-then-count-gt0-clause-pairs
 returns-then-count-gt0-clause-pairs g c =
-    let field = g.F.Field in
+    let field = g.F.Valued in
     let len = length c.args.twiddles.now in
     let count = len / c.WIDTH-width.result in
     let p = packs (length c.args.twiddles.now) c.requires.whole.0 _ c.WIDTH-width.result c.requires.width c.WIDTH-width.ensures c.requires.whole.1 in
-    pairs_of_chunks field.value field.ZERO (g.D.Decimation.near field.Element field.ring field.value c.args.decimation) (g.D.Decimation.far field.Element field.ring field.value c.args.decimation)
+    pairs_of_chunks field.value field.zero (g.D.Decimation.near field.Element field.ring field.value c.args.decimation) (g.D.Decimation.far field.Element field.ring field.value c.args.decimation)
     _ count (2 * c.WIDTH-width.result) c.args.twiddles.now c.args.values.now c.on_each_chunk.new.values c.requires.width (ap (λ m. 2 * m) c.WIDTH-width.ensures)
     c.on_each_chunk.ensures.chunks len (p ∙ ap (λ m. count * m) c.WIDTH-width.ensures)
 

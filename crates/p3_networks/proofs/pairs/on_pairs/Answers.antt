@@ -10,12 +10,12 @@ on_packs-requires-2-clause-whole g c =
 
 pub returns-clause-pairs : goal.returns-clause-pairs
 returns-clause-pairs g c =
-    let field = g.F.Field in
+    let field = g.F.Valued in
     let full = c.full_packs-full.result in
     let parts = c.split_at.ensures in
     let pairs = c.split_at_mut-packed_pairs.ensures in
     let size = c.on_packs.auto.values ∙ pairs.front_len in
-    let both = λ (met : field.Element → field.Element → field.Element → field.Element). joined field.value field.ZERO met full c.args.twiddles.now c.split_at.result.0.now c.split_at.result.1.now c.args.values.now
+    let both = λ (met : field.Element → field.Element → field.Element → field.Element). joined field.value field.zero met full c.args.twiddles.now c.split_at.result.0.now c.split_at.result.1.now c.args.values.now
     c.split_at_mut-packed_pairs.result.0.now c.split_at_mut-packed_pairs.result.1.now c.on_packs.new.values c.on_packs-2.new.values parts.front parts.back pairs.front pairs.back size in
     record {
       near_cell = both (g.D.Decimation.near field.Element field.ring field.value c.args.decimation) (λ i. 2 * i) (λ i below. omega (arith, below)) (λ i. omega arith)

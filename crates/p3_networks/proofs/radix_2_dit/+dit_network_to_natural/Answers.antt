@@ -41,13 +41,13 @@ one_low_layer-requires-clause-table g t c = c.requires.table (c.args.log_h - 1) 
 
 pub returns-then-values-gt-CACHED-clause-values : goal.returns-then-values-gt-CACHED-clause-values
 returns-then-values-gt-CACHED-clause-values g t c r j below inside =
-    let field = g.F.Field in
+    let field = g.F.Valued in
     let root = λ (n : ℕ). field.value (g.F.TwoAdicField.generator n) in
     let k = c.args.log_h in
     let w = c.args.width in
     let some = c.if-log_h-gt0.true in
     let last : k - 1 < k = omega (arith, some) in
-    let column = λ (q : ℕ). field.value (get_or c.args.values.now (rev k q * w + j) field.ZERO) in
+    let column = λ (q : ℕ). field.value (get_or c.args.values.now (rev k q * w + j) field.zero) in
     let first = c.dit_network_to_natural.new.values in
     let second = c.dit_network_to_natural-then-values-gt-CACHED.new.values in
     let part = half_size k w (length c.args.values.now) some c.requires.size in
@@ -57,7 +57,7 @@ returns-then-values-gt-CACHED-clause-values g t c r j below inside =
     let table = subgroup_table field g.F.TwoAdicField.generator k (g.T.LayerTwiddles.at c.args.table) c.requires.twiddles in
     let roots = fewer_roots field.ring k g.F.TwoAdicField.TWO_ADICITY c.requires.within g.met.F.TwoAdicField.roots_law in
     let done = low_layer field root field.ring.one k w roots (k - 1) (2 ^ (k - 1)) (2 ^ (k - 1 - (k - 1))) (g.T.LayerTwiddles.at c.args.table) column
-    (λ n. field.value (get_or (first ++ second) n field.ZERO)) (λ n. field.value (get_or c.one_low_layer.new.values n field.ZERO))
+    (λ n. field.value (get_or (first ++ second) n field.zero)) (λ n. field.value (get_or c.one_low_layer.new.values n field.zero))
     last refl (halves_whole k (k - 1) last) table c.one_low_layer.ensures.cells j inside begun r below in
     low_done field root field.ring.one k w (k - 1 + 1) column _ r (omega (arith, some)) done below ∙ ap (poly field.ring (2 ^ k) column) (point_of_one field.ring root k r)
 

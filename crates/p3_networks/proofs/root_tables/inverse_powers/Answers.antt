@@ -31,7 +31,7 @@ chunk_of n l small within =
 
 pub loop-l-init : goal.loop-l-init
 loop-l-init g c =
-    let field = g.F.Field in
+    let field = g.F.Valued in
     let n = c.args.log_h - 1 in
     let root = inverse_root field.ring (λ k. field.value (g.F.TwoAdicField.generator k)) (n + 1) in
     let now : c.push.new.items.items ≡ c.ONE.result ∷ [] = c.in_ok-push.ensures.items ∙ ap (λ xs. xs ++ c.ONE.result ∷ []) c.in_ok-inverse.ensures.items in
@@ -39,13 +39,13 @@ loop-l-init g c =
       size = ap length now;
       entries = λ b below.
           let none : b ≡ 0 = omega arith in
-          ap₂ (λ xs k. field.value (get_or xs k field.ZERO)) now none ∙ ap field.value c.ONE.ensures ∙ g.met.F.Field.one_law
+          ap₂ (λ xs k. field.value (get_or xs k field.zero)) now none ∙ ap field.value c.ONE.ensures ∙ g.met.F.Field.one_law
           ∙ sym (ap (power field.ring root) (ap (rev n) none ∙ rev_of_zero n) ∙ power-zero field.ring root);
     }
 
 pub loop-b-init : goal.loop-b-init
 loop-b-init g c =
-    let field = g.F.Field in
+    let field = g.F.Valued in
     let n = c.args.log_h - 1 in
     let chunk = chunk_of n c.loop-l.l (omega (arith, c.requires.nonzero, c.requires.fits_u64)) (omega (arith, c.loop-l-test.true)) in
     subst (λ (m : ℕ). AreTwiddles field m (block_powers field (backward_root field g.F.TwoAdicField.generator) n) c.loop-l.inverse.items) (sym chunk.is) c.loop-l.invariant
@@ -67,7 +67,7 @@ bounds-powers-chunk g c =
 
 pub loop-b-preserved : goal.loop-b-preserved
 loop-b-preserved g c =
-    let field = g.F.Field in
+    let field = g.F.Valued in
     let n = c.args.log_h - 1 in
     let l = c.loop-l.l in
     let b = c.loop-b.b in
@@ -79,21 +79,21 @@ loop-b-preserved g c =
     let place : 3 * (one_shifted l) - 1 - b ≡ 3 * 2 ^ l - 1 - b = ap (λ x. 3 * x - 1 - b) chunk.is in
     let entry : field.value c.neg.result ≡ block_powers field (backward_root field g.F.TwoAdicField.generator) n b =
     g.met.F.Field.neg_law _ _ c.neg.ensures
-    ∙ ap (λ x. field.ring.neg (field.value x)) (get_or_read_under c.args.powers.now (3 * (one_shifted l) - 1 - b) _ _ field.ZERO c.index-powers-chunk.is
+    ∙ ap (λ x. field.ring.neg (field.value x)) (get_or_read_under c.args.powers.now (3 * (one_shifted l) - 1 - b) _ _ field.zero c.index-powers-chunk.is
     (omega (arith, chunk.room, chunk.is, c.requires.powers.size, from, pow_pos l)) refl)
-    ∙ ap (λ x. field.ring.neg (field.value (get_or c.args.powers.now x field.ZERO))) place
+    ∙ ap (λ x. field.ring.neg (field.value (get_or c.args.powers.now x field.zero))) place
     ∙ ap field.ring.neg (c.requires.powers.entries (3 * 2 ^ l - 1 - b) (omega (arith, chunk.room, chunk.is, from, pow_pos l)))
     ∙ inverse_entry field.ring g.met.F.TwoAdicField.roots_law n l b (omega (arith, c.requires.nonzero, c.requires.within)) (omega (arith, c.loop-l-test.true)) from until in
     record {
       size = ap length now ∙ length-append before (c.neg.result ∷ []) ∙ ap (λ k. k + 1) c.loop-b.invariant.size;
-      entries = below_more (λ e. field.value (get_or c.push-in-loop-b.new.items.items e field.ZERO) ≡ block_powers field (backward_root field g.F.TwoAdicField.generator) n e) b
-          (λ e below. ap (λ xs. field.value (get_or xs e field.ZERO)) now ∙ ap field.value (in_first before (c.neg.result ∷ []) e field.ZERO (omega (arith, below, c.loop-b.invariant.size))) ∙ c.loop-b.invariant.entries e below)
-          (ap (λ xs. field.value (get_or xs b field.ZERO)) now ∙ ap field.value (get_or_push before c.neg.result field.ZERO b c.loop-b.invariant.size) ∙ entry);
+      entries = below_more (λ e. field.value (get_or c.push-in-loop-b.new.items.items e field.zero) ≡ block_powers field (backward_root field g.F.TwoAdicField.generator) n e) b
+          (λ e below. ap (λ xs. field.value (get_or xs e field.zero)) now ∙ ap field.value (in_first before (c.neg.result ∷ []) e field.zero (omega (arith, below, c.loop-b.invariant.size))) ∙ c.loop-b.invariant.entries e below)
+          (ap (λ xs. field.value (get_or xs b field.zero)) now ∙ ap field.value (get_or_push before c.neg.result field.zero b c.loop-b.invariant.size) ∙ entry);
     }
 
 pub loop-l-preserved : goal.loop-l-preserved
 loop-l-preserved g c =
-    let field = g.F.Field in
+    let field = g.F.Valued in
     let n = c.args.log_h - 1 in
     let l = c.loop-l.l in
     let chunk = chunk_of n l (omega (arith, c.requires.nonzero, c.requires.fits_u64)) (omega (arith, c.loop-l-test.true)) in
@@ -102,7 +102,7 @@ loop-l-preserved g c =
 
 pub returns-clause-powers : goal.returns-clause-powers
 returns-clause-powers g c =
-    let field = g.F.Field in
+    let field = g.F.Valued in
     let n = c.args.log_h - 1 in
     let end : c.loop-l.l ≡ n = omega (arith, c.loop-l-test.false, c.loop-l.auto.l-end) in
     subst (λ (m : ℕ). AreTwiddles field (2 ^ m) (block_powers field (backward_root field g.F.TwoAdicField.generator) n) c.loop-l.inverse.items) end c.loop-l.invariant

@@ -36,16 +36,16 @@ slice_bounds-copy_from_slice-end g c = block_room c.loop-i.i c.args.height c.arg
 
 pub loop-i-init : goal.loop-i-init
 loop-i-init g c =
-    let field = g.F.Field in
+    let field = g.F.Valued in
     record {
       factor = ap field.value c.ONE-factor.ensures ∙ g.met.F.Field.one_law ∙ sym (power-zero field.ring (field.value c.args.shift));
-      values = rows-none field.ZERO _ _ _;
+      values = rows-none field.zero _ _ _;
       count = omega arith;
     }
 
 pub loop-i-preserved : goal.loop-i-preserved
 loop-i-preserved g c =
-    let field = g.F.Field in
+    let field = g.F.Valued in
     let i = c.loop-i.i in
     let w = c.args.width in
     let m = add-sub_cancel_left (i * w) w in
@@ -58,10 +58,10 @@ loop-i-preserved g c =
     record {
       factor = g.met.F.Field.mul_law _ _ _ c.mul-factor.ensures ∙ ap (λ x. field.ring.mul x (field.value c.args.shift)) c.loop-i.invariant.factor
           ∙ sym (power-more field.ring (field.value c.args.shift) i);
-      values = rows-more field.ZERO w _ _ c.loop-i.values c.scale_slice_in_place.new.values i _ m room len
+      values = rows-more field.zero w _ _ c.loop-i.values c.scale_slice_in_place.new.values i _ m room len
           (λ k inside.
-          value_at field.value (λ x. field.ring.mul x (field.value c.loop-i.factor)) c.copy_from_slice.new.self c.scale_slice_in_place.new.values k field.ZERO c.scale_slice_in_place.ensures.values c.scale_slice_in_place.auto.values (subst (λ n. k < n) (sym (ap length copied ∙ part_len)) inside)
-          ∙ ap₂ field.ring.mul (ap (λ xs. field.value (get_or xs k field.ZERO)) copied ∙ ap field.value (part_at c.args.rows.now (i * w) ((i * w + w) - i * w) k field.ZERO (subst (λ n. k < n) (sym m) inside))) c.loop-i.invariant.factor)
+          value_at field.value (λ x. field.ring.mul x (field.value c.loop-i.factor)) c.copy_from_slice.new.self c.scale_slice_in_place.new.values k field.zero c.scale_slice_in_place.ensures.values c.scale_slice_in_place.auto.values (subst (λ n. k < n) (sym (ap length copied ∙ part_len)) inside)
+          ∙ ap₂ field.ring.mul (ap (λ xs. field.value (get_or xs k field.zero)) copied ∙ ap field.value (part_at c.args.rows.now (i * w) ((i * w + w) - i * w) k field.zero (subst (λ n. k < n) (sym m) inside))) c.loop-i.invariant.factor)
           c.loop-i.invariant.values;
       count = turn_counted i w (length c.copy_from_slice.new.self) c.args.products.now c.loop-i.products c.scale_slice_in_place.new.products (ap length copied ∙ part_len) c.loop-i.invariant.count c.scale_slice_in_place.ensures.count;
     }

@@ -12,21 +12,21 @@ layers_in_groups-requires-clause-in_table g c b inside = (omega (arith, inside, 
 
 pub returns-clause-values : goal.returns-clause-values
 returns-clause-values g c bits root roots within twiddles r j below inside =
-    let field = g.F.Field in
+    let field = g.F.Valued in
     let k = c.args.log_h in
     let w = c.args.width in
-    let column = λ (u q : ℕ). field.value (get_or c.args.values.now (rev k q * w + u) field.ZERO) in
-    let entry = λ (b : ℕ). field.value (get_or c.args.twiddles.now b field.ZERO) in
+    let column = λ (u q : ℕ). field.value (get_or c.args.values.now (rev k q * w + u) field.zero) in
+    let entry = λ (b : ℕ). field.value (get_or c.args.twiddles.now b field.zero) in
     let cells = twisted_cells field.ring roots k w column entry in
     let layers = twisted_layers field.ring roots k w column entry c.requires.width within (λ l b p q. twiddles.entries l b p q) in
-    let start : HoldsCells field.value field.ZERO 0 (cells 0) c.args.values.now = λ i p.
-    twisted_cells_start field.ring roots k w column entry c.requires.width (λ n. field.value (get_or c.args.values.now n field.ZERO))
-    (λ q u small. ap (λ n. field.value (get_or c.args.values.now (n * w + u) field.ZERO)) (rev-rev k q small)) i (omega (arith, p, c.requires.size)) in
-    let tiled : HoldsCells field.value field.ZERO 0 (cells (0 + (c.args.log_rows - 0))) c.layers_of_tiles.new.values = c.layers_of_tiles.ensures.cells cells layers start in
+    let start : HoldsCells field.value field.zero 0 (cells 0) c.args.values.now = λ i p.
+    twisted_cells_start field.ring roots k w column entry c.requires.width (λ n. field.value (get_or c.args.values.now n field.zero))
+    (λ q u small. ap (λ n. field.value (get_or c.args.values.now (n * w + u) field.zero)) (rev-rev k q small)) i (omega (arith, p, c.requires.size)) in
+    let tiled : HoldsCells field.value field.zero 0 (cells (0 + (c.args.log_rows - 0))) c.layers_of_tiles.new.values = c.layers_of_tiles.ensures.cells cells layers start in
     let same : 0 + (c.args.log_rows - 0) ≡ c.args.log_rows + 0 = omega arith in
     let all : c.args.log_rows + (k - c.args.log_rows) ≡ k = omega (arith, c.requires.below) in
-    let done = subst (λ (e : ℕ). HoldsCells field.value field.ZERO 0 (cells e) c.layers_in_groups.new.values) all
-    (c.layers_in_groups.ensures.cells cells layers (subst (λ (e : ℕ). HoldsCells field.value field.ZERO 0 (cells e) c.layers_of_tiles.new.values) same tiled)) in
+    let done = subst (λ (e : ℕ). HoldsCells field.value field.zero 0 (cells e) c.layers_in_groups.new.values) all
+    (c.layers_in_groups.ensures.cells cells layers (subst (λ (e : ℕ). HoldsCells field.value field.zero 0 (cells e) c.layers_of_tiles.new.values) same tiled)) in
     done (r * w + j) (omega (arith, row_below r j w (2 ^ k) below inside, c.requires.size, c.layers_in_groups.auto.values, c.layers_of_tiles.auto.values))
     ∙ twisted_cells_end field.ring roots k w column entry r j below inside
 

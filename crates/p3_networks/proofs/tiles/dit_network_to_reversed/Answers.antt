@@ -13,25 +13,25 @@ layers_of_tiles-requires-clause-first g c = λ _. c.requires.first
 
 pub returns-clause-values : goal.returns-clause-values
 returns-clause-values g c bits root roots within twiddles r j below inside =
-    let field = g.F.Field in
+    let field = g.F.Valued in
     let k = c.args.log_h in
     let w = c.args.width in
     let len = length c.args.values.now in
-    let column = λ (u q : ℕ). field.value (get_or c.args.values.now (q * w + u) field.ZERO) in
-    let entry = λ (b : ℕ). field.value (get_or c.args.twiddles.now b field.ZERO) in
+    let column = λ (u q : ℕ). field.value (get_or c.args.values.now (q * w + u) field.zero) in
+    let entry = λ (b : ℕ). field.value (get_or c.args.twiddles.now b field.zero) in
     let cells = high_cells field.ring roots k w column entry in
     let layers = high_layers field.ring roots k w column entry c.requires.width within (λ l b p q. twiddles.entries l b p q) in
-    let start : HoldsCells field.value field.ZERO 0 (cells k) c.args.values.now = λ i p.
-    high_cells_start field.ring roots k w column entry c.requires.width (λ n. field.value (get_or c.args.values.now n field.ZERO)) (λ n v. refl) i (omega (arith, p, c.requires.size)) in
+    let start : HoldsCells field.value field.zero 0 (cells k) c.args.values.now = λ i p.
+    high_cells_start field.ring roots k w column entry c.requires.width (λ n. field.value (get_or c.args.values.now n field.zero)) (λ n v. refl) i (omega (arith, p, c.requires.size)) in
     let none : k ≡ k - 0 = omega arith in
     let left : k - (k - c.args.log_rows) ≡ c.args.log_rows = omega (arith, c.requires.below) in
-    let middle : HoldsCells field.value field.ZERO 0 (cells c.args.log_rows) c.layers_in_groups.new.values =
-    subst (λ (e : ℕ). HoldsCells field.value field.ZERO 0 (cells e) c.layers_in_groups.new.values) left
-    (c.layers_in_groups.ensures.cells cells layers (subst (λ (e : ℕ). HoldsCells field.value field.ZERO 0 (cells e) c.args.values.now) none start)) in
+    let middle : HoldsCells field.value field.zero 0 (cells c.args.log_rows) c.layers_in_groups.new.values =
+    subst (λ (e : ℕ). HoldsCells field.value field.zero 0 (cells e) c.layers_in_groups.new.values) left
+    (c.layers_in_groups.ensures.cells cells layers (subst (λ (e : ℕ). HoldsCells field.value field.zero 0 (cells e) c.args.values.now) none start)) in
     let none_1 : c.args.log_rows ≡ c.args.log_rows - 0 = omega arith in
     let none_2 : c.args.log_rows - (c.args.log_rows - 0) ≡ 0 = omega arith in
-    let done = subst (λ (e : ℕ). HoldsCells field.value field.ZERO 0 (cells e) c.layers_of_tiles.new.values) none_2
-    (c.layers_of_tiles.ensures.cells cells layers (subst (λ (e : ℕ). HoldsCells field.value field.ZERO 0 (cells e) c.layers_in_groups.new.values) none_1 middle)) in
+    let done = subst (λ (e : ℕ). HoldsCells field.value field.zero 0 (cells e) c.layers_of_tiles.new.values) none_2
+    (c.layers_of_tiles.ensures.cells cells layers (subst (λ (e : ℕ). HoldsCells field.value field.zero 0 (cells e) c.layers_in_groups.new.values) none_1 middle)) in
     done (r * w + j) (omega (arith, row_below r j w (2 ^ k) below inside, c.requires.size, c.layers_in_groups.auto.values, c.layers_of_tiles.auto.values))
     ∙ high_cells_end field.ring roots k w column entry r j inside
 

@@ -49,23 +49,23 @@ layer-requires-clause-in_table g c b t inside below =
 
 pub returns-clause-cells : goal.returns-clause-cells
 returns-clause-cells g c =
-    let field = g.F.Field in
+    let field = g.F.Valued in
     let sizes = chunk_sizes c.args.top c.args.log_half c.args.number c.requires.below c.requires.chunk.fits_u64 in
     let size = one_shifted c.args.log_half * c.args.width in
     let blocks = one_shifted (c.args.top - 1 - c.args.log_half) in
     let one : size * 1 ≡ size = omega arith in
-    let entry = λ (b : ℕ). field.value (get_or c.args.twiddles.now b field.ZERO) in
+    let entry = λ (b : ℕ). field.value (get_or c.args.twiddles.now b field.zero) in
     let near = λ (b : ℕ). g.D.Decimation.near field.Element field.ring field.value c.args.decimation (entry b) in
     let far = λ (b : ℕ). g.D.Decimation.far field.Element field.ring field.value c.args.decimation (entry b) in
     let x = c.args.values.now in
     let y = c.layer.new.values in
-    layer_does field.value field.ZERO c.args.width c.args.top c.args.number near far g.D.NetworkDecimation.order c.args.log_half x y
+    layer_does field.value field.zero c.args.width c.args.top c.args.number near far g.D.NetworkDecimation.order c.args.log_half x y
     (λ k before after layers room holds.
-    chunk_taken field.value field.ZERO near far
+    chunk_taken field.value field.zero near far
     k c.args.width c.args.log_half c.args.top c.args.number blocks (one_shifted c.args.log_half) before after x y c.requires.below sizes.blocks_is sizes.half_is
     (c.requires.chunk.size ∙ cells_by_halves c.args.top c.args.log_half c.args.width c.requires.below ∙ sym (ap₂ (λ (n h : ℕ). n * (2 * (h * c.args.width))) sizes.blocks_is sizes.half_is))
     c.layer.auto.values room layers
-    (subst (λ (n : ℕ). IsLayer blocks n (λ b i. near (c.args.number * blocks + b)) (λ b i. far (c.args.number * blocks + b)) (λ u. field.value (get_or x u field.ZERO)) (λ u. field.value (get_or y u field.ZERO))) one c.layer.ensures.cells)
+    (subst (λ (n : ℕ). IsLayer blocks n (λ b i. near (c.args.number * blocks + b)) (λ b i. far (c.args.number * blocks + b)) (λ u. field.value (get_or x u field.zero)) (λ u. field.value (get_or y u field.zero))) one c.layer.ensures.cells)
     holds)
 
 pub returns-clause-cost : goal.returns-clause-cost

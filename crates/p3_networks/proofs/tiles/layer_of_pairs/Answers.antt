@@ -7,23 +7,23 @@ use Rattle.p3_networks.proofs.tiles.layer_of_pairs.Goals as goal
 
 pub returns-clause-cells : goal.returns-clause-cells
 returns-clause-cells g c =
-    let field = g.F.Field in
+    let field = g.F.Valued in
     let number = c.args.number in
     let x = c.args.values.now in
     let y = c.on_pairs.new.values in
     let all = c.args.twiddles.now in
     let from = number * 32 in
-    let entry = λ (b : ℕ). field.value (get_or all b field.ZERO) in
+    let entry = λ (b : ℕ). field.value (get_or all b field.zero) in
     let meet_near = g.D.Decimation.near field.Element field.ring field.value c.args.decimation in
     let meet_far = g.D.Decimation.far field.Element field.ring field.value c.args.decimation in
     let near = λ (b : ℕ). meet_near (entry b) in
     let far = λ (b : ℕ). meet_far (entry b) in
-    let cell = λ (xs : List g.row.F.Denot) (n : ℕ). field.value (get_or xs n field.ZERO) in
+    let cell = λ (xs : List g.row.F.Denot) (n : ℕ). field.value (get_or xs n field.zero) in
     let size : length (take (from + 32 - from) (drop from all)) ≡ from + 32 - from = part_size all from (from + 32 - from) (omega (arith, c.requires.chunk.enough)) in
-    let twiddle : (b : ℕ) → b < 32 → cell (take (from + 32 - from) (drop from all)) b ≡ entry (from + b) = λ b inside. ap field.value (part_at all from (from + 32 - from) b field.ZERO (omega (arith, inside))) in
-    layer_does field.value field.ZERO 1 6 number near far g.D.NetworkDecimation.order 0 x y
+    let twiddle : (b : ℕ) → b < 32 → cell (take (from + 32 - from) (drop from all)) b ≡ entry (from + b) = λ b inside. ap field.value (part_at all from (from + 32 - from) b field.zero (omega (arith, inside))) in
+    layer_does field.value field.zero 1 6 number near far g.D.NetworkDecimation.order 0 x y
     (λ k before after layers room holds.
-    chunk_taken field.value field.ZERO near far
+    chunk_taken field.value field.zero near far
     k 1 0 6 number 32 1 before after x y (omega arith) refl refl c.requires.chunk.size c.on_pairs.auto.values room layers
     (λ b inside. record {
       near_cell = λ i one.

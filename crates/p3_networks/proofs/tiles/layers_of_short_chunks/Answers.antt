@@ -36,7 +36,7 @@ on_each_chunk-requires-clause-accepts g c n below =
 
 pub returns : goal.returns
 returns g c =
-    let field = g.F.Field in
+    let field = g.F.Valued in
     let number = c.args.number in
     let len = length c.args.values.now in
     let order = g.D.NetworkDecimation.order in
@@ -47,7 +47,7 @@ returns g c =
     record {
       cells = record {
         taken = λ k cells layers room holds.
-            cells_of_chunks field.ZERO size field.value field.value (cells (cells_of order 0 6 0)) (cells (cells_of order 0 6 6)) (number * len) chunks (λ n s. (number * chunks + n) * s)
+            cells_of_chunks field.zero size field.value field.value (cells (cells_of order 0 6 0)) (cells (cells_of order 0 6 6)) (number * len) chunks (λ n s. (number * chunks + n) * s)
             c.args.values.now c.on_each_chunk.new.values (tile_some _ _ _ _ _ _ sizes (omega arith)) sizes.whole c.on_each_chunk.auto.values
             (λ n. (let spread : (number * chunks + n) * size ≡ number * (chunks * size) + n * size = omega arith in spread) ∙ ap (λ m. number * m + n * size) (sym sizes.whole))
             (λ n below held. (c.on_each_chunk.ensures.chunks n below).taken k cells layers (let rows = tile_rows_of_chunk _ _ _ _ _ _ number n sizes below in omega (arith, rows, room)) held) holds;

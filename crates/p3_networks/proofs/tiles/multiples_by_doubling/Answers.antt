@@ -2,7 +2,7 @@ use Rattle.std.proofs.Common.{◌≡◌, ℕ, ◌+◌, ◌-◌, ◌*◌, ◌<◌
 use borrow.Rule.Slice.PartMut.{post_of}
 use Rattle.std.proofs.lemmas.Bool.{cases_lt}
 use Rattle.p3_field.specs.Ring.{power}
-use Rattle.p3_field.specs.declared.fields.Field.{Ghosts as FieldMembers}
+use Rattle.p3_field.specs.declared.fields.Valued.{Ghosts as FieldMembers}
 use Rattle.p3_field.proofs.Powers.{power-add, power-one, power-zero}
 use Rattle.p3_matrix.proofs.Rows.Overwritten.{value_at}
 use Rattle.p3_networks.proofs.Layers.Blocks.{row_below}
@@ -24,10 +24,10 @@ risen a b after done more w before turn = let spread : (done + more) * w ≡ don
 
 -- rows of multiples behind the first ones, which are those times a power
 multiples_more : {F : Type 0} (field : FieldMembers F) (w done more : ℕ) (entry : ℕ → field.Element) (first step factor : field.Element) (old new : List F) → more ≤ done → factor ≡ power field.ring step done
-    → ((n : ℕ) → n < done * w → get_or new n field.ZERO ≡ get_or old n field.ZERO)
-    → ((n : ℕ) → n < more * w → field.value (get_or new (done * w + n) field.ZERO) ≡ field.ring.mul (field.value (get_or old n field.ZERO)) factor)
-    → ((t j : ℕ) → t < done → j < w → field.value (get_or old (t * w + j) field.ZERO) ≡ field.ring.mul (entry j) (field.ring.mul first (power field.ring step t)))
-    → (t j : ℕ) → t < done + more → j < w → field.value (get_or new (t * w + j) field.ZERO) ≡ field.ring.mul (entry j) (field.ring.mul first (power field.ring step t))
+    → ((n : ℕ) → n < done * w → get_or new n field.zero ≡ get_or old n field.zero)
+    → ((n : ℕ) → n < more * w → field.value (get_or new (done * w + n) field.zero) ≡ field.ring.mul (field.value (get_or old n field.zero)) factor)
+    → ((t j : ℕ) → t < done → j < w → field.value (get_or old (t * w + j) field.zero) ≡ field.ring.mul (entry j) (field.ring.mul first (power field.ring step t)))
+    → (t j : ℕ) → t < done + more → j < w → field.value (get_or new (t * w + j) field.zero) ≡ field.ring.mul (entry j) (field.ring.mul first (power field.ring step t))
 multiples_more field w done more entry first step factor old new few factor_is kept scaled so_far t j below inside =
     ⊎_elim
     (λ earlier. ap field.value (kept (t * w + j) (row_below t j w done earlier inside)) ∙ so_far t j earlier inside)
@@ -36,7 +36,7 @@ multiples_more field w done more entry first step factor old new few factor_is k
     let u : ℕ = t - done in
     let is : u + done ≡ t = omega (arith, later) in
     let place : t * w + j ≡ done * w + (u * w + j) = ap (λ n. n * w + j) (sym is) ∙ (let spread : (u + done) * w + j ≡ done * w + (u * w + j) = omega arith in spread) in
-    ap (λ i. field.value (get_or new i field.ZERO)) place
+    ap (λ i. field.value (get_or new i field.zero)) place
     ∙ scaled (u * w + j) (row_below u j w more (omega (arith, below, later)) inside)
     ∙ ap₂ ring.mul (so_far u j (omega (arith, below, later, few)) inside) factor_is
     ∙ ring.mul_assoc (entry j) (ring.mul first (power ring step u)) (power ring step done)
@@ -45,7 +45,7 @@ multiples_more field w done more entry first step factor old new few factor_is k
 
 pub loop-done-init : goal.loop-done-init
 loop-done-init g c =
-    let field = g.F.Field in
+    let field = g.F.Valued in
     let row = c.args.row.now in
     let copied : c.copy_from_slice.new.self ≡ row = c.copy_from_slice.ensures.after in
     let size : length c.scale_slice_in_place.new.values ≡ length row = c.scale_slice_in_place.auto.values ∙ ap length copied in
@@ -59,10 +59,10 @@ loop-done-init g c =
       values = λ t j below inside.
           let first : t ≡ 0 = omega (arith, below) in
           let place : t * length row + j ≡ j = omega (arith, ap (λ n. n * length row) first) in
-          ap (λ i. field.value (get_or (head ++ rest) i field.ZERO)) place
-          ∙ ap field.value (in_first head rest j field.ZERO (omega (arith, inside, size)))
-          ∙ value_at field.value times c.copy_from_slice.new.self head j field.ZERO c.scale_slice_in_place.ensures.values c.scale_slice_in_place.auto.values (omega (arith, inside, ap length copied))
-          ∙ ap₂ field.ring.mul (ap (λ xs. field.value (get_or xs j field.ZERO)) copied)
+          ap (λ i. field.value (get_or (head ++ rest) i field.zero)) place
+          ∙ ap field.value (in_first head rest j field.zero (omega (arith, inside, size)))
+          ∙ value_at field.value times c.copy_from_slice.new.self head j field.zero c.scale_slice_in_place.ensures.values c.scale_slice_in_place.auto.values (omega (arith, inside, ap length copied))
+          ∙ ap₂ field.ring.mul (ap (λ xs. field.value (get_or xs j field.zero)) copied)
           (sym (ap (field.ring.mul (field.value c.args.first)) (ap (power field.ring (field.value c.args.step)) first ∙ power-zero field.ring (field.value c.args.step)) ∙ field.ring.mul_one (field.value c.args.first)));
       grows = omega (arith, c.scale_slice_in_place.ensures.count);
       cost = omega (arith, c.scale_slice_in_place.ensures.count, ap length copied);
@@ -97,7 +97,7 @@ returns-clause-values g c t j below inside = c.loop-done.invariant.values t j (o
 
 pub loop-done-preserved : goal.loop-done-preserved
 loop-done-preserved g c =
-    let field = g.F.Field in
+    let field = g.F.Valued in
     let w = length c.args.row.now in
     let done = c.loop-done.done in
     let more = c.min-more.result in
@@ -110,7 +110,7 @@ loop-done-preserved g c =
       factor = λ left.
           g.met.F.Field.mul_law _ _ _ c.mul-factor.ensures ∙ ap₂ field.ring.mul power_is power_is
           ∙ sym (power-add field.ring step done done) ∙ ap (λ n. power field.ring step (done + n)) (sym (it.1.1.1 left));
-      values = multiples_more field w done more (λ j. field.value (get_or c.args.row.now j field.ZERO)) (field.value c.args.first) step _ c.loop-done.values c.scale_behind.new.values
+      values = multiples_more field w done more (λ j. field.value (get_or c.args.row.now j field.zero)) (field.value c.args.first) step _ c.loop-done.values c.scale_behind.new.values
           it.1.0 power_is c.scale_behind.ensures.kept c.scale_behind.ensures.scaled c.loop-done.invariant.values;
       grows = le_trans c.loop-done.invariant.grows c.scale_behind.ensures.grows;
       cost = risen _ _ _ done more w c.loop-done.invariant.cost c.scale_behind.ensures.cost;

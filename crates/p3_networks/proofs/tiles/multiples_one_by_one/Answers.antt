@@ -23,16 +23,16 @@ slice_bounds-multiple-end g c = le_trans (block_room c.loop-t.t c.args.count (le
 
 pub loop-t-init : goal.loop-t-init
 loop-t-init g c =
-    let field = g.F.Field in
+    let field = g.F.Valued in
     record {
       factor = sym (ap (field.ring.mul (field.value c.args.first)) (power-zero field.ring (field.value c.args.step)) ∙ field.ring.mul_one (field.value c.args.first));
-      values = rows-none field.ZERO _ _ _;
+      values = rows-none field.zero _ _ _;
       count = omega arith;
     }
 
 pub loop-t-preserved : goal.loop-t-preserved
 loop-t-preserved g c =
-    let field = g.F.Field in
+    let field = g.F.Valued in
     let t = c.loop-t.t in
     let w = length c.args.row.now in
     let m = add-sub_cancel_left (t * w) w in
@@ -46,10 +46,10 @@ loop-t-preserved g c =
       factor = g.met.F.Field.mul_law _ _ _ c.mul-factor.ensures ∙ ap (λ x. field.ring.mul x (field.value c.args.step)) c.loop-t.invariant.factor
           ∙ field.ring.mul_assoc (field.value c.args.first) (power field.ring (field.value c.args.step) t) (field.value c.args.step)
           ∙ ap (field.ring.mul (field.value c.args.first)) (sym (power-more field.ring (field.value c.args.step) t));
-      values = rows-more field.ZERO w _ c.args.values.now c.loop-t.values multiple t _ m room len
+      values = rows-more field.zero w _ c.args.values.now c.loop-t.values multiple t _ m room len
           (λ k inside.
-          value_at value times row multiple k field.ZERO c.scale_slice_oop.ensures.values len inside
-          ∙ ap (field.ring.mul (value (get_or row k field.ZERO))) c.loop-t.invariant.factor)
+          value_at value times row multiple k field.zero c.scale_slice_oop.ensures.values len inside
+          ∙ ap (field.ring.mul (value (get_or row k field.zero))) c.loop-t.invariant.factor)
           c.loop-t.invariant.values;
       count = turn_counted t w _ c.args.products.now c.loop-t.products _ refl c.loop-t.invariant.count c.scale_slice_oop.ensures.count;
     }

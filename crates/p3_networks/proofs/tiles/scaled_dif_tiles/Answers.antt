@@ -15,10 +15,10 @@ on_each_chunk-requires-clause-accepts g c n below =
 
 pub returns-clause-cells : goal.returns-clause-cells
 returns-clause-cells g c cells layers =
-    let field = g.F.Field in
+    let field = g.F.Valued in
     let sizes = tile_sizes c.args.log_h c.args.log_rows c.args.width (length c.args.values.now) c.requires.rows.fits_u64 c.requires.below c.requires.rows.size in
     let tiles = one_shifted (c.args.log_h - c.args.log_rows) in
-    cells_of_chunks field.ZERO (length c.args.values.now / tiles) field.value field.value (cells 0) (λ i. field.ring.mul (cells c.args.log_rows i) (field.value c.args.scale)) 0 tiles (λ n s. n * s)
+    cells_of_chunks field.zero (length c.args.values.now / tiles) field.value field.value (cells 0) (λ i. field.ring.mul (cells c.args.log_rows i) (field.value c.args.scale)) 0 tiles (λ n s. n * s)
     c.args.values.now c.on_each_chunk.new.values (tile_some _ _ _ _ _ _ sizes c.requires.rows.width) sizes.whole c.on_each_chunk.auto.values (λ n. omega arith)
     (λ n below. c.on_each_chunk.ensures.chunks n below c.args.log_h cells layers (tile_rows _ _ _ _ _ _ n sizes below))
 

@@ -21,19 +21,19 @@ on_each_chunk-requires-clause-accepts g c n below =
 
 pub returns : goal.returns
 returns g c =
-    let field = g.F.Field in
+    let field = g.F.Valued in
     let before = c.args.values.now in
     let layers_left = c.args.log_rows - c.args.coefficients.added_bits in
     let sizes = tile_sizes c.args.log_h c.args.log_rows c.args.width (length before) c.requires.fits_u64 c.requires.below c.requires.size in
     let tiles = one_shifted (c.args.log_h - c.args.log_rows) in
     record {
       cells = λ cells layers are.
-          cells_of_chunks field.ZERO (length before / tiles) field.value field.value (λ i. field.value (get_or before i field.ZERO)) (cells c.args.log_rows) 0 tiles (λ n s. n * s) before c.on_each_chunk.new.values
+          cells_of_chunks field.zero (length before / tiles) field.value field.value (λ i. field.value (get_or before i field.zero)) (cells c.args.log_rows) 0 tiles (λ n s. n * s) before c.on_each_chunk.new.values
           (tile_some _ _ _ _ _ _ sizes c.requires.width) sizes.whole c.on_each_chunk.auto.values (λ n. omega arith)
           (λ n below held.
           let room = spread_room _ _ c.args.coefficients.added_bits _ _ _ _ n c.requires.added c.requires.below sizes below in
           c.on_each_chunk.ensures.chunks n below c.args.log_h cells layers (tile_rows _ _ _ _ _ _ n sizes below) (λ q t j inside. are q t j (omega (arith, inside, room))))
-          (λ i inside. ap (λ n. field.value (get_or before n field.ZERO)) (omega arith));
+          (λ i inside. ap (λ n. field.value (get_or before n field.zero)) (omega arith));
       grows = c.on_each_chunk.ensures.grows;
       cost = omega (arith, c.on_each_chunk.ensures.cost, tiles_cost _ _ _ _ _ _ (layers_left + 2) sizes);
     }

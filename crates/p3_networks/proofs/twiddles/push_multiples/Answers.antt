@@ -28,16 +28,16 @@ module _ {T A : Type 0} (value : T → A) (d : T) (times : A → A) (old now new
 
 pub loop-i-preserved : goal.loop-i-preserved
 loop-i-preserved g c =
-    let field = g.F.Field in
+    let field = g.F.Valued in
     let times = λ (a : field.Element). field.ring.mul a (field.value c.args.factor) in
     let old = c.args.elements.now.items in
     let now = c.loop-i.elements.items in
     let new = c.push.new.items.items in
     let among : c.loop-i.i < length old = omega (arith, c.len-i-end.ensures, c.loop-i-test.true) in
     record {
-      size = more_size field.value field.ZERO times old now new c.args.from c.loop-i.i c.index.result.now c.mul-multiple.result c.loop-i.invariant.size c.loop-i.auto.i c.in_ok-push.ensures.items;
-      before = more_before field.value field.ZERO times old now new c.args.from c.loop-i.i c.index.result.now c.mul-multiple.result c.loop-i.invariant.size c.loop-i.auto.i c.in_ok-push.ensures.items c.loop-i.invariant.before;
-      after = more_after field.value field.ZERO times old now new c.args.from c.loop-i.i c.index.result.now c.mul-multiple.result c.loop-i.invariant.size c.loop-i.auto.i c.in_ok-push.ensures.items c.loop-i.invariant.before among
+      size = more_size field.value field.zero times old now new c.args.from c.loop-i.i c.index.result.now c.mul-multiple.result c.loop-i.invariant.size c.loop-i.auto.i c.in_ok-push.ensures.items;
+      before = more_before field.value field.zero times old now new c.args.from c.loop-i.i c.index.result.now c.mul-multiple.result c.loop-i.invariant.size c.loop-i.auto.i c.in_ok-push.ensures.items c.loop-i.invariant.before;
+      after = more_after field.value field.zero times old now new c.args.from c.loop-i.i c.index.result.now c.mul-multiple.result c.loop-i.invariant.size c.loop-i.auto.i c.in_ok-push.ensures.items c.loop-i.invariant.before among
           c.index.ensures (g.met.F.Field.mul_law _ _ _ c.mul-multiple.ensures) c.loop-i.invariant.after;
     }
 

@@ -6,7 +6,7 @@ use Rattle.p3_networks.proofs.twiddles.root.Goals as goal
 
 pub inverse-requires : goal.inverse-requires
 inverse-requires g c =
-    let field = g.F.Field in
+    let field = g.F.Valued in
     let gen = λ (n : ℕ). field.value (g.F.TwoAdicField.generator n) in (
       inverse_root field.ring gen c.args.bits,
       ap (λ x. field.ring.mul x (inverse_root field.ring gen c.args.bits)) c.two_adic_generator-generator.ensures
@@ -15,7 +15,7 @@ inverse-requires g c =
 
 pub returns-then-inverse : goal.returns-then-inverse
 returns-then-inverse g c =
-    let field = g.F.Field in
+    let field = g.F.Valued in
     let gen = λ (n : ℕ). field.value (g.F.TwoAdicField.generator n) in
     let undone : field.ring.mul (gen c.args.bits) (field.value c.inverse.result) ≡ field.ring.one =
     ap (λ x. field.ring.mul x (field.value c.inverse.result)) (sym c.two_adic_generator-generator.ensures) ∙ c.inverse.ensures in

@@ -14,7 +14,7 @@ full_more l before now full longer = let twice : 2 ^ (l + 1) ≡ 2 * 2 ^ l = ap 
 
 pub loop-l-preserved : goal.loop-l-preserved
 loop-l-preserved g c =
-    let field = g.F.Field in
+    let field = g.F.Valued in
     let l = c.loop-l.l in
     let longer = c.in_ok-push_layer.ensures.size in
     record {
@@ -31,7 +31,7 @@ pub returns-clause-size : goal.returns-clause-size
 returns-clause-size g c = at_end (λ l. length c.loop-l.powers.items ≡ 2 ^ l - 1) c.loop-l.l c.args.layers c.loop-l.auto.l-end c.loop-l-test.false c.loop-l.invariant.full
 
 pub returns-clause-table : goal.returns-clause-table
-returns-clause-table g c = at_end (λ l. AreTwiddlesOfLayers g.F.Field l (root_powers g.F.Field g.F.TwoAdicField.generator c.args.inverse) c.loop-l.powers.items) c.loop-l.l c.args.layers c.loop-l.auto.l-end c.loop-l-test.false c.loop-l.invariant.layers
+returns-clause-table g c = at_end (λ l. AreTwiddlesOfLayers g.F.Valued l (root_powers g.F.Valued g.F.TwoAdicField.generator c.args.inverse) c.loop-l.powers.items) c.loop-l.l c.args.layers c.loop-l.auto.l-end c.loop-l-test.false c.loop-l.invariant.layers
 
 pub returns-in_err-push_layer-clause-room : goal.returns-in_err-push_layer-clause-room
 returns-in_err-push_layer-clause-room g c =

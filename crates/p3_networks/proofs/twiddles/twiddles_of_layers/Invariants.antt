@@ -7,5 +7,5 @@ abbrev pub invariant-loop-l : goal.invariant-loop-l
 invariant-loop-l g l =
     record {
       full : length l.powers.items ≡ 2 ^ l.l - 1;
-      layers : AreTwiddlesOfLayers g.F.Field l.l (root_powers g.F.Field g.F.TwoAdicField.generator l.fn.inverse) l.powers.items;
+      layers : AreTwiddlesOfLayers g.F.Valued l.l (root_powers g.F.Valued g.F.TwoAdicField.generator l.fn.inverse) l.powers.items;
     }

@@ -6,7 +6,7 @@ use Rattle.examples.proofs.quadratic.Quadratic.norm.Goals as goal
 
 pub returns-clause-unit : goal.returns-clause-unit
 returns-clause-unit g c =
-    let f = g.R.Field in
+    let f = g.R.Valued in
     let law = g.met.R.Field in
     let w = f.value g.W.Square.w in
     let x : f.Element × f.Element = (f.value c.args.self.now.constant, f.value c.args.self.now.linear) in

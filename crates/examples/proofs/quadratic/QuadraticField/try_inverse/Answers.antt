@@ -6,7 +6,7 @@ use Rattle.examples.proofs.quadratic.QuadraticField.try_inverse.Goals as goal
 
 pub returns-clause-some : goal.returns-clause-some
 returns-clause-some g c =
-    let f = g.R.Field in
+    let f = g.R.Valued in
     let law = g.met.R.Field in
     let w = f.value g.W.Square.w in
     let a = f.value c.args.self.now.constant in
@@ -17,4 +17,4 @@ returns-clause-some g c =
     ∙ inverse_by_norm f.ring w a b n (ap (λ x. f.ring.mul x n) (sym c.norm.ensures.norm) ∙ c.in_ok-inverse.ensures.some)
 
 pub returns-clause-found : goal.returns-clause-found
-returns-clause-found g c = ((g.R.Field.value c.new.result.constant, g.R.Field.value c.new.result.linear), returns-clause-some g c)
+returns-clause-found g c = ((g.R.Valued.value c.new.result.constant, g.R.Valued.value c.new.result.linear), returns-clause-some g c)

@@ -38,8 +38,8 @@ prepared_alone k n m one made = let there : k ≤ n = omega (arith, made) in inr
 
 pub returns-then-eq : goal.returns-then-eq
 returns-then-eq g c =
-    let is : g.F.Field.value c.args.shift ≡ g.F.Field.ring.one = (g.met.F.Field.eq_law c.args.shift c.ONE.result).0 (search rules) ∙ ap g.F.Field.value c.ONE.ensures ∙ g.met.F.Field.one_law in
-    let field = g.F.Field in
+    let is : g.F.Valued.value c.args.shift ≡ g.F.Valued.ring.one = (g.met.F.Field.eq_law c.args.shift c.ONE.result).0 (search rules) ∙ ap g.F.Valued.value c.ONE.ensures ∙ g.met.F.Field.one_law in
+    let field = g.F.Valued in
     let call = c.dft_batch.ensures in
     record {
       values = subst (λ (s : field.Element). IfOk c.dft_batch.result (λ out. IsTransform field g.F.TwoAdicField.generator (g.N.IntoRowMajorMatrix.stored c.args.mat) s (reversed_rows out.bits out.physical))) (sym is) call.values;
@@ -58,7 +58,7 @@ returns-then-eq g c =
     }
 
 pub returns-then-height-eq1-clause-values : goal.returns-then-height-eq1-clause-values
-returns-then-height-eq1-clause-values g c = rw (← c.into_row_major_matrix-mat.ensures) (row_seen g.F.Field g.F.TwoAdicField.generator _ _ _ _ c.height-height.ensures.whole (sym c.height-height.ensures.height ∙ c.if-height-eq1.true) c.bit_reverse_rows.ensures.matrix c.bit_reverse_rows.ensures.height)
+returns-then-height-eq1-clause-values g c = rw (← c.into_row_major_matrix-mat.ensures) (row_seen g.F.Valued g.F.TwoAdicField.generator _ _ _ _ c.height-height.ensures.whole (sym c.height-height.ensures.height ∙ c.if-height-eq1.true) c.bit_reverse_rows.ensures.matrix c.bit_reverse_rows.ensures.height)
 
 pub returns-then-height-eq1-clause-tables : goal.returns-then-height-eq1-clause-tables
 returns-then-height-eq1-clause-tables g c = rw (← c.into_row_major_matrix-mat.ensures) (at_log _ _ 0 (sym c.height-height.ensures.height ∙ c.if-height-eq1.true) (inl refl))
@@ -82,7 +82,7 @@ evaluate_on_coset_to_reversed-requires-clause-table g c =
 
 pub returns-in_err-place : goal.returns-in_err-place
 returns-in_err-place g c =
-    let field = g.F.Field in let s = field.value c.args.shift in let log = c.log2_strict_usize-log_h.result in
+    let field = g.F.Valued in let s = field.value c.args.shift in let log = c.log2_strict_usize-log_h.result in
     let stored = ap height c.into_row_major_matrix-mat.ensures in
     let high : height c.into_row_major_matrix-mat.result ≡ 2 ^ log = sym c.height-height.ensures.height ∙ c.log2_strict_usize-log_h.ensures.power in
     let tall : height (g.N.IntoRowMajorMatrix.stored c.args.mat) ≡ 2 ^ log = sym stored ∙ high in
@@ -118,7 +118,7 @@ returns-in_err-place g c =
 
 pub returns : goal.returns
 returns g c =
-    let field = g.F.Field in let s = field.value c.args.shift in let log = c.log2_strict_usize-log_h.result in
+    let field = g.F.Valued in let s = field.value c.args.shift in let log = c.log2_strict_usize-log_h.result in
     let stored = ap height c.into_row_major_matrix-mat.ensures in
     let high : height c.into_row_major_matrix-mat.result ≡ 2 ^ log = sym c.height-height.ensures.height ∙ c.log2_strict_usize-log_h.ensures.power in
     let tall : height (g.N.IntoRowMajorMatrix.stored c.args.mat) ≡ 2 ^ log = sym stored ∙ high in

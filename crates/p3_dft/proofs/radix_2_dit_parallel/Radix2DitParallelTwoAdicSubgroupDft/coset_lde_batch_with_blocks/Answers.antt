@@ -63,9 +63,9 @@ returns-in-Err g c =
       unpublished = refl;
       prepared = λ k high. tt;
       tables = λ k high. tt;
-      keeps_tables = λ k s has. c.coefficients_with_room-room.ensures.keeps_cosets k s (subst (λ (x : CosetEngineState g.row.F.Denot). HasCoset g.F.Field x.cosets k s) (sym c.self.view_is) has);
-      leaves = λ k e. subst (λ (x : CosetEngineState g.row.F.Denot). LeavesTables g.F.Field g.F.TwoAdicField.generator k c.args.added_bits (g.F.Field.value c.args.shift) x.roots.prepared c.coefficients_with_room-room.new.tables x.cosets c.coefficients_with_room-room.new.cosets) c.self.view_is (c.coefficients_with_room-room.ensures.leaves k (stored ∙ e));
-      later = later_with_tables g.F.Field _ _ _ c.args.self.now _ _ _ _ _ _ c.self.view_is c.coefficients_with_room-room.ensures.keeps c.coefficients_with_room-room.ensures.keeps_cosets c.coefficients_with_room-room.ensures.grows;
+      keeps_tables = λ k s has. c.coefficients_with_room-room.ensures.keeps_cosets k s (subst (λ (x : CosetEngineState g.row.F.Denot). HasCoset g.F.Valued x.cosets k s) (sym c.self.view_is) has);
+      leaves = λ k e. subst (λ (x : CosetEngineState g.row.F.Denot). LeavesTables g.F.Valued g.F.TwoAdicField.generator k c.args.added_bits (g.F.Valued.value c.args.shift) x.roots.prepared c.coefficients_with_room-room.new.tables x.cosets c.coefficients_with_room-room.new.cosets) c.self.view_is (c.coefficients_with_room-room.ensures.leaves k (stored ∙ e));
+      later = later_with_tables g.F.Valued _ _ _ c.args.self.now _ _ _ _ _ _ c.self.view_is c.coefficients_with_room-room.ensures.keeps c.coefficients_with_room-room.ensures.keeps_cosets c.coefficients_with_room-room.ensures.grows;
       cost = λ k e. slots_counted _ _ _ _ _ _ _ _ _ _ products width refl (c.coefficients_with_room-room.ensures.cost k (stored ∙ e)) (le-add_right _ _);
       room = within_more _ _ (add-le-add (le_refl _) (same_extended c.args.added_bits stored width)) _ c.in-Err.ensures.room;
     }
@@ -86,15 +86,15 @@ returns-in-Err-extended g c =
       refused = at_log _ _ log tall (
           let told = c.in-Err-extended.ensures.refused answer.answered answer.answered_whole (answer.kept.0 ∙ high) answer.over_zeros in (
             told.0,
-            rw (← c.into_row_major_matrix-mat.ensures) (values_of_answered g.F.Field g.F.TwoAdicField.generator _ m answer.told answer.answered _ log _ told.0 high (answer.are_coefficients log high) answer.told_whole answer.answered_whole answer.called answer.kept.0 told.3),
+            rw (← c.into_row_major_matrix-mat.ensures) (values_of_answered g.F.Valued g.F.TwoAdicField.generator _ m answer.told answer.answered _ log _ told.0 high (answer.are_coefficients log high) answer.told_whole answer.answered_whole answer.called answer.kept.0 told.3),
             record { first = c.make_consumer-consumer.result; made = subst (λ b. g.M.FnOnce.post c.args.make_consumer (b, tt) c.make_consumer-consumer.result) c.block_height-block_height.ensures c.make_consumer-consumer.ensures; accepted = told.1; refused = told.2; blocks = told.4; run = told.5 },
           ));
       unpublished = tt;
       prepared = λ k e. c.in-Ok.ensures.prepared k (stored ∙ e);
       tables = λ k e. c.in-Ok.ensures.cosets k (stored ∙ e);
-      keeps_tables = λ k s has. c.coefficients_with_room-room.ensures.keeps_cosets k s (subst (λ (x : CosetEngineState g.row.F.Denot). HasCoset g.F.Field x.cosets k s) (sym c.self.view_is) has);
-      leaves = λ k e. subst (λ (x : CosetEngineState g.row.F.Denot). LeavesTables g.F.Field g.F.TwoAdicField.generator k c.args.added_bits (g.F.Field.value c.args.shift) x.roots.prepared c.coefficients_with_room-room.new.tables x.cosets c.coefficients_with_room-room.new.cosets) c.self.view_is (c.coefficients_with_room-room.ensures.leaves k (stored ∙ e));
-      later = later_with_tables g.F.Field _ _ _ c.args.self.now _ _ _ _ _ _ c.self.view_is c.coefficients_with_room-room.ensures.keeps c.coefficients_with_room-room.ensures.keeps_cosets (le_trans c.coefficients_with_room-room.ensures.grows c.extend_reversed-extended.ensures.grows);
+      keeps_tables = λ k s has. c.coefficients_with_room-room.ensures.keeps_cosets k s (subst (λ (x : CosetEngineState g.row.F.Denot). HasCoset g.F.Valued x.cosets k s) (sym c.self.view_is) has);
+      leaves = λ k e. subst (λ (x : CosetEngineState g.row.F.Denot). LeavesTables g.F.Valued g.F.TwoAdicField.generator k c.args.added_bits (g.F.Valued.value c.args.shift) x.roots.prepared c.coefficients_with_room-room.new.tables x.cosets c.coefficients_with_room-room.new.cosets) c.self.view_is (c.coefficients_with_room-room.ensures.leaves k (stored ∙ e));
+      later = later_with_tables g.F.Valued _ _ _ c.args.self.now _ _ _ _ _ _ c.self.view_is c.coefficients_with_room-room.ensures.keeps c.coefficients_with_room-room.ensures.keeps_cosets (le_trans c.coefficients_with_room-room.ensures.grows c.extend_reversed-extended.ensures.grows);
       cost = at_log _ _ log tall (slots_counted _ _ _ _ _ _ _ _ _ _ products width (ap (λ (n : RowMajor g.row.F.Denot). n.width) answer.over_zeros ∙ answer.kept.1) (c.coefficients_with_room-room.ensures.cost log high) c.extend_reversed-extended.ensures.cost);
       room = tt;
     }
@@ -114,8 +114,8 @@ returns g c =
     let same = c.extend_reversed-extended.ensures.same in
     record {
       values = rw (← c.into_row_major_matrix-mat.ensures, c.bit_reverse_rows.ensures.matrix)
-          (values_of_answered g.F.Field g.F.TwoAdicField.generator _ m answer.told answer.answered _ log _ _ high (answer.are_coefficients log high) answer.told_whole answer.answered_whole answer.called answer.kept.0
-          (values_seen g.F.Field g.F.TwoAdicField.generator (bit_reversal log (values_of g.F.Field answer.answered)) out _ _ c.bit_reverse_rows.result.bits (whole_still c.in-Ok.mat out rows.whole same) (same.shape.0 ∙ rows.height) c.bit_reverse_rows.ensures.height
+          (values_of_answered g.F.Valued g.F.TwoAdicField.generator _ m answer.told answer.answered _ log _ _ high (answer.are_coefficients log high) answer.told_whole answer.answered_whole answer.called answer.kept.0
+          (values_seen g.F.Valued g.F.TwoAdicField.generator (bit_reversal log (values_of g.F.Valued answer.answered)) out _ _ c.bit_reverse_rows.result.bits (whole_still c.in-Ok.mat out rows.whole same) (same.shape.0 ∙ rows.height) c.bit_reverse_rows.ensures.height
           (c.in_default.ensures.values answer.answered answer.answered_whole (answer.kept.0 ∙ high) answer.over_zeros)));
       published = at_log _ _ log tall (
           let blocks = c.in_default.ensures.published.0 in let parts = c.in_default.ensures.published.1 in let run = c.in_default.ensures.published.2 in
@@ -124,9 +124,9 @@ returns g c =
       unpublished = tt;
       prepared = λ k e. c.in-Ok.ensures.prepared k (stored ∙ e);
       tables = λ k e. c.in-Ok.ensures.cosets k (stored ∙ e);
-      keeps_tables = λ k s has. c.coefficients_with_room-room.ensures.keeps_cosets k s (subst (λ (x : CosetEngineState g.row.F.Denot). HasCoset g.F.Field x.cosets k s) (sym c.self.view_is) has);
-      leaves = λ k e. subst (λ (x : CosetEngineState g.row.F.Denot). LeavesTables g.F.Field g.F.TwoAdicField.generator k c.args.added_bits (g.F.Field.value c.args.shift) x.roots.prepared c.coefficients_with_room-room.new.tables x.cosets c.coefficients_with_room-room.new.cosets) c.self.view_is (c.coefficients_with_room-room.ensures.leaves k (stored ∙ e));
-      later = later_with_tables g.F.Field _ _ _ c.args.self.now _ _ _ _ _ _ c.self.view_is c.coefficients_with_room-room.ensures.keeps c.coefficients_with_room-room.ensures.keeps_cosets (le_trans c.coefficients_with_room-room.ensures.grows c.extend_reversed-extended.ensures.grows);
+      keeps_tables = λ k s has. c.coefficients_with_room-room.ensures.keeps_cosets k s (subst (λ (x : CosetEngineState g.row.F.Denot). HasCoset g.F.Valued x.cosets k s) (sym c.self.view_is) has);
+      leaves = λ k e. subst (λ (x : CosetEngineState g.row.F.Denot). LeavesTables g.F.Valued g.F.TwoAdicField.generator k c.args.added_bits (g.F.Valued.value c.args.shift) x.roots.prepared c.coefficients_with_room-room.new.tables x.cosets c.coefficients_with_room-room.new.cosets) c.self.view_is (c.coefficients_with_room-room.ensures.leaves k (stored ∙ e));
+      later = later_with_tables g.F.Valued _ _ _ c.args.self.now _ _ _ _ _ _ c.self.view_is c.coefficients_with_room-room.ensures.keeps c.coefficients_with_room-room.ensures.keeps_cosets (le_trans c.coefficients_with_room-room.ensures.grows c.extend_reversed-extended.ensures.grows);
       cost = at_log _ _ log tall (slots_counted _ _ _ _ _ _ _ _ _ _ products width (ap (λ (n : RowMajor g.row.F.Denot). n.width) answer.over_zeros ∙ answer.kept.1) (c.coefficients_with_room-room.ensures.cost log high) c.extend_reversed-extended.ensures.cost);
       room = tt;
     }

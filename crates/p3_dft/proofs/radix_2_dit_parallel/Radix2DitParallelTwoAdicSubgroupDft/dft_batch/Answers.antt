@@ -5,11 +5,11 @@ use Rattle.p3_dft.proofs.Calls.PreparedCosets.{later_with_tables, tabled}
 use Rattle.p3_dft.proofs.radix_2_dit_parallel.Radix2DitParallelTwoAdicSubgroupDft.dft_batch.Goals as goal
 
 pub on_prepared-requires-clause-alone : goal.on_prepared-requires-clause-alone
-on_prepared-requires-clause-alone g c whole one = ((refl, refl), λ bits high. row_seen g.F.Field g.F.TwoAdicField.generator _ _ _ bits whole one refl high)
+on_prepared-requires-clause-alone g c whole one = ((refl, refl), λ bits high. row_seen g.F.Valued g.F.TwoAdicField.generator _ _ _ bits whole one refl high)
 
 pub returns-in_err-mat-clause-engine : goal.returns-in_err-mat-clause-engine
 returns-in_err-mat-clause-engine g c = record {
-  later = later_with_tables g.F.Field _ _ _ c.args.self.now _ _ _ _ _ _ c.self.view_is c.on_prepared.ensures.keeps (λ k s has. has) c.on_prepared.ensures.grows;
+  later = later_with_tables g.F.Valued _ _ _ c.args.self.now _ _ _ _ _ _ c.self.view_is c.on_prepared.ensures.keeps (λ k s has. has) c.on_prepared.ensures.grows;
   prepared = λ done k high. tt;
   cost = rw (← c.self.view_is) c.on_prepared.ensures.cost;
   refused = room_of c.from_residual.result _ _ _ c.from_residual.ensures (omega arith) c.in_err-mat.ensures.room;
@@ -29,7 +29,7 @@ returns-clause-one_row g c = rw (← c.self.view_is) (λ one.
 
 pub returns-clause-engine : goal.returns-clause-engine
 returns-clause-engine g c = record {
-  later = later_with_tables g.F.Field _ _ _ c.args.self.now _ _ _ _ _ _ c.self.view_is c.on_prepared.ensures.keeps (λ k s has. has) c.on_prepared.ensures.grows;
+  later = later_with_tables g.F.Valued _ _ _ c.args.self.now _ _ _ _ _ _ c.self.view_is c.on_prepared.ensures.keeps (λ k s has. has) c.on_prepared.ensures.grows;
   prepared = λ done k high. tt;
   cost = rw (← c.self.view_is) c.on_prepared.ensures.cost;
   refused = tt;

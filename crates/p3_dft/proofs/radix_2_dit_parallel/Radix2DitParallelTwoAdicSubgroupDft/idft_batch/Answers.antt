@@ -6,7 +6,7 @@ use Rattle.p3_dft.proofs.Calls.PreparedCosets.{later_with_tables, tabled}
 use Rattle.p3_dft.proofs.radix_2_dit_parallel.Radix2DitParallelTwoAdicSubgroupDft.idft_batch.Goals as goal
 
 pub on_prepared-requires-clause-alone : goal.on_prepared-requires-clause-alone
-on_prepared-requires-clause-alone g c whole = interpolation_of_row g.F.Field g.F.TwoAdicField.generator g.met.F.TwoAdicField.roots_law _ c.requires.fits
+on_prepared-requires-clause-alone g c whole = interpolation_of_row g.F.Valued g.F.TwoAdicField.generator g.met.F.TwoAdicField.roots_law _ c.requires.fits
 
 pub returns : goal.returns
 returns g c = rw (← c.self.view_is) (record {
@@ -17,7 +17,7 @@ returns g c = rw (← c.self.view_is) (record {
   one_row = λ one. let (same, kept) = c.on_prepared.ensures.one_row one in (same, ap₂ (λ log products. tabled log products c.self.inside.cosets) kept.0 kept.1);
   cosets = refl;
   engine = record {
-    later = later_with_tables g.F.Field _ _ _ _ _ _ _ _ _ _ refl c.on_prepared.ensures.keeps (λ k s has. has) c.on_prepared.ensures.grows;
+    later = later_with_tables g.F.Valued _ _ _ _ _ _ _ _ _ _ refl c.on_prepared.ensures.keeps (λ k s has. has) c.on_prepared.ensures.grows;
     prepared = λ done k high. tt;
     cost = c.on_prepared.ensures.cost;
     refused = if_within_more c.on_prepared.result _ _ (omega arith) c.on_prepared.ensures.room;

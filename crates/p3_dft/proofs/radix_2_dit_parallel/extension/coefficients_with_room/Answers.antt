@@ -48,8 +48,8 @@ returns g c =
     record {
       answer = record { told = c.interpolate_to_reversed.new.mat; are_coefficients = at_log _ _ _ high c.interpolate_to_reversed.ensures.coefficients; told_whole = whole; answered = c.transform-changed.result; answered_whole = c.pad_rows.ensures.whole; called = c.transform-changed.ensures; kept = shape; over_zeros = c.in_ok-grown.ensures.padded };
       rows = at_log _ _ _ high (record {
-        whole = rw c.in_ok-grown.ensures.padded (padded_whole g.F.Field.ZERO c.transform-changed.result c.pad_rows.ensures.whole c.args.added_bits);
-        height = (padded_shape g.F.Field.ZERO c.args.mat c.transform-changed.result c.in_ok-grown.grown c.args.added_bits c.log2_strict_usize-log_h.result c.pad_rows.ensures.whole shape high c.in_ok-grown.ensures.padded).0;
+        whole = rw c.in_ok-grown.ensures.padded (padded_whole g.F.Valued.zero c.transform-changed.result c.pad_rows.ensures.whole c.args.added_bits);
+        height = (padded_shape g.F.Valued.zero c.args.mat c.transform-changed.result c.in_ok-grown.grown c.args.added_bits c.log2_strict_usize-log_h.result c.pad_rows.ensures.whole shape high c.in_ok-grown.ensures.padded).0;
         fits_u64 = (both_logs_fit _ _ c.requires.fits c.log2_strict_usize-log_h.ensures.power c.height.ensures.height).3;
       });
       prepared = at_log _ _ _ high c.in_ok-make.ensures.made;

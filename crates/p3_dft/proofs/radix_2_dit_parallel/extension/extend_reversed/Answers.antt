@@ -25,8 +25,8 @@ pub returns-clause-values : goal.returns-clause-values
 returns-clause-values g c =
     let log = c.args.log_h in
     on_ok_weaker c.extend_slots.result
-    (λ given upper whole high over_zeros. values_of_network g.F.Field g.F.TwoAdicField.generator upper c.args.mat.now c.values_mut.result.now log c.args.added_bits c.width-width.result
-    (g.F.Field.value c.args.shift) (rev log) (λ q _. rev-lt log q) (sym c.width-width.ensures.width) c.values_mut.ensures.values whole high over_zeros
+    (λ given upper whole high over_zeros. values_of_network g.F.Valued g.F.TwoAdicField.generator upper c.args.mat.now c.values_mut.result.now log c.args.added_bits c.width-width.result
+    (g.F.Valued.value c.args.shift) (rev log) (λ q _. rev-lt log q) (sym c.width-width.ensures.width) c.values_mut.ensures.values whole high over_zeros
     c.extend_slots.new.values _ (c.extend_slots.auto.values ∙ ap length c.values_mut.ensures.values) c.requires.rows.height given)
     c.extend_slots.ensures.values
 
@@ -65,14 +65,14 @@ returns-clause-published g c =
 
 pub returns-clause-refused : goal.returns-clause-refused
 returns-clause-refused g c =
-    let field = g.F.Field in
+    let field = g.F.Valued in
     let gen = λ (n : ℕ). field.value (g.F.TwoAdicField.generator n) in
     let log = c.args.log_h in
     let n = log + c.args.added_bits in
     let s = field.value c.args.shift in
     let w = c.width-width.result in
     let start = c.values_mut.result.now in
-    let out : Matrix field.Element = record { height = 2 ^ n; width = w; entry = λ i j. poly field.ring (2 ^ log) (λ q. field.value (get_or start (rev log q * w + j) field.ZERO)) (point field.ring gen n s i) } in
+    let out : Matrix field.Element = record { height = 2 ^ n; width = w; entry = λ i j. poly field.ring (2 ^ log) (λ q. field.value (get_or start (rev log q * w + j) field.zero)) (point field.ring gen n s i) } in
     IfErr-weaker c.extend_slots.result _ _
     (λ refusal given upper whole high over_zeros.
     let accepted = given.0 in let refused = given.1 in let blocks = given.2 in let stopped = given.3 in (

@@ -10,7 +10,7 @@ use Rattle.p3_dft.proofs.radix_2_dit_parallel.network.first_of_matrix.Goals as g
 
 pub returns-clause-values : goal.returns-clause-values
 returns-clause-values g c root s roots table a t j p q l =
-    let field = g.F.Field in
+    let field = g.F.Valued in
     let mid = c.args.mid in
     let left = c.args.left in
     let m = c.args.mat.now in

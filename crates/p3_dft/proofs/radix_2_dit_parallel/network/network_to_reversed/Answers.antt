@@ -17,7 +17,7 @@ fewer_roots R mid left roots = record { first = roots.first; second = roots.seco
 
 pub returns-clause-values : goal.returns-clause-values
 returns-clause-values g c root s roots low high r j p q =
-    let field = g.F.Field in
+    let field = g.F.Valued in
     let mid = c.args.mid in
     let left = c.args.left in
     let m = c.args.mat.now in

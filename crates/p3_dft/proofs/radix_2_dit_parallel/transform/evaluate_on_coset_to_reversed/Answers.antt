@@ -27,7 +27,7 @@ network_to_reversed-requires-clause-high g c l from below = layer_there c.args.t
 
 pub returns-clause-values : goal.returns-clause-values
 returns-clause-values g c =
-    let field = g.F.Field in
+    let field = g.F.Valued in
     let gen = λ (n : ℕ). field.value (g.F.TwoAdicField.generator n) in
     let k = c.args.log_h in
     let mid = mid_of k in

@@ -8,7 +8,7 @@ use Rattle.p3_dft.proofs.radix_2_dit_parallel.transform.interpolate_to_reversed.
 
 pub returns-clause-coefficients : goal.returns-clause-coefficients
 returns-clause-coefficients g c =
-    let field = g.F.Field in
+    let field = g.F.Valued in
     let gen = g.F.TwoAdicField.generator in
     let k = c.args.log_h in
     let m = c.args.mat.now in

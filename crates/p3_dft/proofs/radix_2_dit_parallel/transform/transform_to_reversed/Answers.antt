@@ -19,7 +19,7 @@ halves_below k n below = omega (arith, below)
 pub network_to_reversed-requires-clause-low : goal.network_to_reversed-requires-clause-low
 network_to_reversed-requires-clause-low g c =
     let k = c.args.log_h in
-    layer_there (mid_of k) _ (omega (arith, c.requires.rows.fits_u64)) (fewer_layers g.F.Field _ (mid_of k) _ _ (halves_below k _ c.requires.in_table) c.low.ensures.table).size
+    layer_there (mid_of k) _ (omega (arith, c.requires.rows.fits_u64)) (fewer_layers g.F.Valued _ (mid_of k) _ _ (halves_below k _ c.requires.in_table) c.low.ensures.table).size
 
 pub network_to_reversed-requires-clause-rows : goal.network_to_reversed-requires-clause-rows
 network_to_reversed-requires-clause-rows g c = subst (HasTwoPowerRows c.args.mat.now) (sym (halves_whole c.args.log_h)) c.requires.rows
@@ -29,7 +29,7 @@ network_to_reversed-requires-clause-high g c l from below = c.high.ensures.table
 
 pub returns-clause-values : goal.returns-clause-values
 returns-clause-values g c r j p q =
-    let field = g.F.Field in
+    let field = g.F.Valued in
     let gen = g.F.TwoAdicField.generator in
     let inverse = c.args.inverse in
     let k = c.args.log_h in

@@ -8,7 +8,7 @@ use Rattle.p3_dft.proofs.radix_2_small_batch.InterpolationMatrixWorkRootTables.o
 
 pub returns-clause-takes : goal.returns-clause-takes
 returns-clause-takes g c =
-    let field = g.F.Field in
+    let field = g.F.Valued in
     let k = c.args.log_h in
     let inverse = field.value c.div_2exp_u64-inverse.result in
     let undone : field.ring.mul (count field.ring (2 ^ k)) inverse ≡ field.ring.one =
@@ -19,4 +19,4 @@ returns-clause-takes g c =
 
 pub scaled_dif_network-requires-clause-twiddles : goal.scaled_dif_network-requires-clause-twiddles
 scaled_dif_network-requires-clause-twiddles g c =
-    fewer_from_start g.F.Field (block_powers g.F.Field (backward_root g.F.Field g.F.TwoAdicField.generator)) c.args.log_h _ _ c.requires.in_table c.backward-twiddles.ensures.table
+    fewer_from_start g.F.Valued (block_powers g.F.Valued (backward_root g.F.Valued g.F.TwoAdicField.generator)) c.args.log_h _ _ c.requires.in_table c.backward-twiddles.ensures.table

@@ -62,7 +62,7 @@ extend_to_natural-requires-clause-room g c =
     subst (λ (n : ℕ). n < 2 ^ 64) (sym entries) c.requires.fits.size
 
 pub returns-then-log_h-added_bits-eq0-clause-values : goal.returns-then-log_h-added_bits-eq0-clause-values
-returns-then-log_h-added_bits-eq0-clause-values g c = let log = c.log2_strict_usize-log_h.result in let none = both_none log c.args.added_bits c.if-log_h-added_bits-eq0.true in rw (← c.into_row_major_matrix-mat.ensures) (extension_of_row g.F.Field g.F.TwoAdicField.generator c.into_row_major_matrix-mat.result c.args.added_bits (g.F.Field.value c.args.shift) (sym c.height.ensures.height ∙ c.log2_strict_usize-log_h.ensures.power ∙ ap (λ n. 2 ^ n) none.0) none.1)
+returns-then-log_h-added_bits-eq0-clause-values g c = let log = c.log2_strict_usize-log_h.result in let none = both_none log c.args.added_bits c.if-log_h-added_bits-eq0.true in rw (← c.into_row_major_matrix-mat.ensures) (extension_of_row g.F.Valued g.F.TwoAdicField.generator c.into_row_major_matrix-mat.result c.args.added_bits (g.F.Valued.value c.args.shift) (sym c.height.ensures.height ∙ c.log2_strict_usize-log_h.ensures.power ∙ ap (λ n. 2 ^ n) none.0) none.1)
 
 pub returns-then-log_h-added_bits-eq0-clause-engine : goal.returns-then-log_h-added_bits-eq0-clause-engine
 returns-then-log_h-added_bits-eq0-clause-engine g c = let log = c.log2_strict_usize-log_h.result in let none = both_none log c.args.added_bits c.if-log_h-added_bits-eq0.true in after_none _ _ (λ _ k high. let same : k ≡ 0 = sym (log_same log k (sym c.log2_strict_usize-log_h.ensures.power ∙ (c.height.ensures.height ∙ ap height c.into_row_major_matrix-mat.ensures) ∙ high)) ∙ none.0 in (omega (arith, same), omega (arith, same, none.1)))
@@ -78,7 +78,7 @@ returns-in_err-make-clause-engine g c = after_error _ _ _ _ c.from_residual.ensu
     (room_of c.from_residual.result _ _ _ c.from_residual.ensures (le_trans (extended_table_fits _ c.requires.fits (sym (ap height c.into_row_major_matrix-mat.ensures) ∙ sym c.height.ensures.height ∙ c.log2_strict_usize-log_h.ensures.power)) (le-add_left _ _)) c.in_err-make.ensures.room)
 
 pub returns-clause-values : goal.returns-clause-values
-returns-clause-values g c = let field = g.F.Field in let log = c.log2_strict_usize-log_h.result in let m = c.into_row_major_matrix-mat.result in let a = c.args.added_bits in let s = field.value c.args.shift in let inverse = field.value c.div_2exp_u64-scale.result in let high : height m ≡ 2 ^ log = sym c.height.ensures.height ∙ c.log2_strict_usize-log_h.ensures.power in let multiples = bit_reversal log (values_of field c.interpolate_unscaled_to_reversed.new.mat) in let shifted = image (λ x. field.ring.mul x inverse) (coset_shift field.ring s multiples) in let undone : field.ring.mul (count field.ring (2 ^ log)) inverse ≡ field.ring.one = ap (λ x. field.ring.mul x inverse) (count-power_of_two field.ring log) ∙ c.div_2exp_u64-scale.ensures ∙ ap field.value c.ONE.ensures ∙ g.met.F.Field.one_law in let (d, quotient, on_coset) = shifted_quotient field.ring (2 ^ log) inverse s multiples shifted undone (record { height = refl; width = refl; alike = λ i j p q. refl }) in rw (← c.into_row_major_matrix-mat.ensures) (IfOk-weaker c.extend_to_natural.result _ _ (λ out given. extension_of_coefficients field g.F.TwoAdicField.generator m out d a log s high (c.interpolate_unscaled_to_reversed.ensures.coefficients d quotient) (coset_values field.ring (λ n. field.value (g.F.TwoAdicField.generator n)) d shifted (log + a) s (values_of field out) on_coset given)) c.extend_to_natural.ensures.values)
+returns-clause-values g c = let field = g.F.Valued in let log = c.log2_strict_usize-log_h.result in let m = c.into_row_major_matrix-mat.result in let a = c.args.added_bits in let s = field.value c.args.shift in let inverse = field.value c.div_2exp_u64-scale.result in let high : height m ≡ 2 ^ log = sym c.height.ensures.height ∙ c.log2_strict_usize-log_h.ensures.power in let multiples = bit_reversal log (values_of field c.interpolate_unscaled_to_reversed.new.mat) in let shifted = image (λ x. field.ring.mul x inverse) (coset_shift field.ring s multiples) in let undone : field.ring.mul (count field.ring (2 ^ log)) inverse ≡ field.ring.one = ap (λ x. field.ring.mul x inverse) (count-power_of_two field.ring log) ∙ c.div_2exp_u64-scale.ensures ∙ ap field.value c.ONE.ensures ∙ g.met.F.Field.one_law in let (d, quotient, on_coset) = shifted_quotient field.ring (2 ^ log) inverse s multiples shifted undone (record { height = refl; width = refl; alike = λ i j p q. refl }) in rw (← c.into_row_major_matrix-mat.ensures) (IfOk-weaker c.extend_to_natural.result _ _ (λ out given. extension_of_coefficients field g.F.TwoAdicField.generator m out d a log s high (c.interpolate_unscaled_to_reversed.ensures.coefficients d quotient) (coset_values field.ring (λ n. field.value (g.F.TwoAdicField.generator n)) d shifted (log + a) s (values_of field out) on_coset given)) c.extend_to_natural.ensures.values)
 
 pub returns-clause-one_row : goal.returns-clause-one_row
 returns-clause-one_row g c = λ one none. absurd (more_points c.height.result c.log2_strict_usize-log_h.result c.args.added_bits c.log2_strict_usize-log_h.ensures.power c.if-log_h-added_bits-eq0.false (c.height.ensures.height ∙ ap height c.into_row_major_matrix-mat.ensures ∙ one) none)

@@ -36,7 +36,7 @@ pub coset_lde_batch_of_coefficients_bit_reversed-requires : goal.coset_lde_batch
 coset_lde_batch_of_coefficients_bit_reversed-requires g c =
     let fits = c.requires.fits in
     let stored = c.into_row_major_matrix-mat.ensures in
-    let shape = answered_shape g.F.Field g.F.TwoAdicField.generator _ (g.N.IntoRowMajorMatrix.stored c.args.mat) c.in_ok-coefficients.coefficients _ _ fits.log fits.height (rw (← stored) c.in_ok-coefficients.ensures.coefficients) (refl, refl)
+    let shape = answered_shape g.F.Valued g.F.TwoAdicField.generator _ (g.N.IntoRowMajorMatrix.stored c.args.mat) c.in_ok-coefficients.coefficients _ _ fits.log fits.height (rw (← stored) c.in_ok-coefficients.ensures.coefficients) (refl, refl)
     c.width-width.ensures.whole c.requires.shape c.transform-changed.ensures in
     record { fits = fits_lde_as _ _ _ _ _ _ fits shape.0 shape.1 }
 
@@ -44,18 +44,18 @@ pub returns-clause-values : goal.returns-clause-values
 returns-clause-values g c =
     let fits = c.requires.fits in
     let stored = c.into_row_major_matrix-mat.ensures in
-    let shape = answered_shape g.F.Field g.F.TwoAdicField.generator _ (g.N.IntoRowMajorMatrix.stored c.args.mat) c.in_ok-coefficients.coefficients _ _ fits.log fits.height (rw (← stored) c.in_ok-coefficients.ensures.coefficients) (refl, refl)
+    let shape = answered_shape g.F.Valued g.F.TwoAdicField.generator _ (g.N.IntoRowMajorMatrix.stored c.args.mat) c.in_ok-coefficients.coefficients _ _ fits.log fits.height (rw (← stored) c.in_ok-coefficients.ensures.coefficients) (refl, refl)
     c.width-width.ensures.whole c.requires.shape c.transform-changed.ensures in
     IfOk-weaker c.coset_lde_batch_of_coefficients_bit_reversed.result _ _
-    (λ out given. extension_of_natural g.F.Field g.F.TwoAdicField.generator _ (g.N.IntoRowMajorMatrix.stored c.args.mat) c.in_ok-coefficients.coefficients c.transform-changed.result (reversed_rows out.bits out.physical)
-    c.args.added_bits (g.F.Field.value c.args.shift) (rw (← stored) c.in_ok-coefficients.ensures.coefficients) c.width-width.ensures.whole c.width-same_width.ensures.whole c.transform-changed.ensures (λ k e. given k (shape.0 ∙ e)))
+    (λ out given. extension_of_natural g.F.Valued g.F.TwoAdicField.generator _ (g.N.IntoRowMajorMatrix.stored c.args.mat) c.in_ok-coefficients.coefficients c.transform-changed.result (reversed_rows out.bits out.physical)
+    c.args.added_bits (g.F.Valued.value c.args.shift) (rw (← stored) c.in_ok-coefficients.ensures.coefficients) c.width-width.ensures.whole c.width-same_width.ensures.whole c.transform-changed.ensures (λ k e. given k (shape.0 ∙ e)))
     c.coset_lde_batch_of_coefficients_bit_reversed.ensures.values
 
 pub returns-clause-engine : goal.returns-clause-engine
 returns-clause-engine g c =
     let fits = c.requires.fits in
     let stored = c.into_row_major_matrix-mat.ensures in
-    let shape = answered_shape g.F.Field g.F.TwoAdicField.generator _ (g.N.IntoRowMajorMatrix.stored c.args.mat) c.in_ok-coefficients.coefficients _ _ fits.log fits.height (rw (← stored) c.in_ok-coefficients.ensures.coefficients) (refl, refl)
+    let shape = answered_shape g.F.Valued g.F.TwoAdicField.generator _ (g.N.IntoRowMajorMatrix.stored c.args.mat) c.in_ok-coefficients.coefficients _ _ fits.log fits.height (rw (← stored) c.in_ok-coefficients.ensures.coefficients) (refl, refl)
     c.width-width.ensures.whole c.requires.shape c.transform-changed.ensures in
     let kept : c.args.self.now.prepared ≤ c.prepare.new.self.prepared = omega (arith, c.in_ok-prepare.ensures.made) in
     after_later _ _ _ _ _ (only_preparing _ _ _ kept c.prepare.ensures.products) c.prepare.ensures.products
@@ -68,7 +68,7 @@ pub returns-clause-only : goal.returns-clause-only
 returns-clause-only g c k e =
     let fits = c.requires.fits in
     let stored = c.into_row_major_matrix-mat.ensures in
-    let shape = answered_shape g.F.Field g.F.TwoAdicField.generator _ (g.N.IntoRowMajorMatrix.stored c.args.mat) c.in_ok-coefficients.coefficients _ _ fits.log fits.height (rw (← stored) c.in_ok-coefficients.ensures.coefficients) (refl, refl)
+    let shape = answered_shape g.F.Valued g.F.TwoAdicField.generator _ (g.N.IntoRowMajorMatrix.stored c.args.mat) c.in_ok-coefficients.coefficients _ _ fits.log fits.height (rw (← stored) c.in_ok-coefficients.ensures.coefficients) (refl, refl)
     c.width-width.ensures.whole c.requires.shape c.transform-changed.ensures in
     let log = c.log2_strict_usize-log_h.result in
     let same = log_same log k (sym c.log2_strict_usize-log_h.ensures.power ∙ c.height.ensures.height ∙ ap height stored ∙ e) in

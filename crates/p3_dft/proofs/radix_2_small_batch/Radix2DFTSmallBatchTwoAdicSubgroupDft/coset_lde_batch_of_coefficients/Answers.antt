@@ -41,7 +41,7 @@ extend_to_natural-requires-clause-room g c =
 
 pub returns-then-added_bits-eq0-clause-values : goal.returns-then-added_bits-eq0-clause-values
 returns-then-added_bits-eq0-clause-values g c =
-    let field = g.F.Field in
+    let field = g.F.Valued in
     let gen = λ (n : ℕ). field.value (g.F.TwoAdicField.generator n) in
     let m = c.into_row_major_matrix-mat.result in
     let s = field.value c.args.shift in
@@ -74,7 +74,7 @@ returns-in_err-make-clause-engine g c = after_error _ _ _ _ c.from_residual.ensu
 
 pub returns-clause-values : goal.returns-clause-values
 returns-clause-values g c =
-    let field = g.F.Field in
+    let field = g.F.Valued in
     let log = c.log2_strict_usize-log_h.result in
     let m = c.into_row_major_matrix-mat.result in
     let high : height m ≡ 2 ^ log = sym c.height.ensures.height ∙ c.log2_strict_usize-log_h.ensures.power in

@@ -36,8 +36,8 @@ extend_to_reversed-requires-clause-rows g c =
     let log = c.log2_strict_usize-log_h.result in
     let high : height m ≡ 2 ^ log = sym c.height.ensures.height ∙ c.log2_strict_usize-log_h.ensures.power in
     record {
-      whole = rw c.in_ok-grown.ensures.padded (padded_whole g.F.Field.ZERO m c.pad_rows.ensures.whole c.args.added_bits);
-      height = (padded_shape g.F.Field.ZERO m m c.in_ok-grown.grown c.args.added_bits log c.pad_rows.ensures.whole (refl, refl) high c.in_ok-grown.ensures.padded).0;
+      whole = rw c.in_ok-grown.ensures.padded (padded_whole g.F.Valued.zero m c.pad_rows.ensures.whole c.args.added_bits);
+      height = (padded_shape g.F.Valued.zero m m c.in_ok-grown.grown c.args.added_bits log c.pad_rows.ensures.whole (refl, refl) high c.in_ok-grown.ensures.padded).0;
       fits_u64 = (both_logs_fit _ _ c.requires.fits c.log2_strict_usize-log_h.ensures.power (c.height.ensures.height ∙ ap height c.into_row_major_matrix-mat.ensures)).3;
     }
 
@@ -46,20 +46,20 @@ bit_reverse_rows-requires g c =
     let m = c.into_row_major_matrix-mat.result in
     let log = c.log2_strict_usize-log_h.result in
     let high : height m ≡ 2 ^ log = sym c.height.ensures.height ∙ c.log2_strict_usize-log_h.ensures.power in
-    let grown = padded_shape g.F.Field.ZERO m m c.in_ok-grown.grown c.args.added_bits log c.pad_rows.ensures.whole (refl, refl) high c.in_ok-grown.ensures.padded in
+    let grown = padded_shape g.F.Valued.zero m m c.in_ok-grown.grown c.args.added_bits log c.pad_rows.ensures.whole (refl, refl) high c.in_ok-grown.ensures.padded in
     (log + c.args.added_bits, c.extend_to_reversed.ensures.same.shape.0 ∙ grown.0)
 
 pub returns-clause-values : goal.returns-clause-values
 returns-clause-values g c =
-    let field = g.F.Field in
+    let field = g.F.Valued in
     let a = c.args.added_bits in
     let m = c.into_row_major_matrix-mat.result in
     let padded = c.in_ok-grown.grown in
     let out = c.extend_to_reversed.new.mat in
     let log = c.log2_strict_usize-log_h.result in
     let high : height m ≡ 2 ^ log = sym c.height.ensures.height ∙ c.log2_strict_usize-log_h.ensures.power in
-    let grown = padded_shape field.ZERO m m padded a log c.pad_rows.ensures.whole (refl, refl) high c.in_ok-grown.ensures.padded in
-    let whole : IsRowMajor padded = rw c.in_ok-grown.ensures.padded (padded_whole field.ZERO m c.pad_rows.ensures.whole a) in
+    let grown = padded_shape field.zero m m padded a log c.pad_rows.ensures.whole (refl, refl) high c.in_ok-grown.ensures.padded in
+    let whole : IsRowMajor padded = rw c.in_ok-grown.ensures.padded (padded_whole field.zero m c.pad_rows.ensures.whole a) in
     let is_whole : IsRowMajor out = whole_still padded out whole c.extend_to_reversed.ensures.same in
     let tall : height out ≡ 2 ^ (log + a) = c.extend_to_reversed.ensures.same.shape.0 ∙ grown.0 in
     rw (← c.into_row_major_matrix-mat.ensures, c.bit_reverse_rows.ensures.matrix)
@@ -77,7 +77,7 @@ returns-clause-engine g c =
     let m = c.into_row_major_matrix-mat.result in
     let log = c.log2_strict_usize-log_h.result in
     let high : height m ≡ 2 ^ log = sym c.height.ensures.height ∙ c.log2_strict_usize-log_h.ensures.power in
-    let grown = padded_shape g.F.Field.ZERO m m c.in_ok-grown.grown a log c.pad_rows.ensures.whole (refl, refl) high c.in_ok-grown.ensures.padded in
+    let grown = padded_shape g.F.Valued.zero m m c.in_ok-grown.grown a log c.pad_rows.ensures.whole (refl, refl) high c.in_ok-grown.ensures.padded in
     record {
       later = later_with_heights _ _ _ c.args.self.now _ _ _ _ c.self.view_is c.make.ensures.keeps c.extend_to_reversed.ensures.grows;
       prepared = λ done k e. let same = log_same log k (sym high ∙ ap height c.into_row_major_matrix-mat.ensures ∙ e) in (made_both _ _ _ _ same c.in_ok-make.ensures.made).1;

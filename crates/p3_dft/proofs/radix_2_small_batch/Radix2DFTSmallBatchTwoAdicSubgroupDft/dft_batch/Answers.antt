@@ -5,7 +5,7 @@ use Rattle.std.proofs.lemmas.Result.{on_err_weaker}
 use Rattle.p3_dft.proofs.radix_2_small_batch.Radix2DFTSmallBatchTwoAdicSubgroupDft.dft_batch.Goals as goal
 
 pub on_prepared-requires-clause-alone : goal.on_prepared-requires-clause-alone
-on_prepared-requires-clause-alone g c whole = transform_of_row g.F.Field g.F.TwoAdicField.generator _
+on_prepared-requires-clause-alone g c whole = transform_of_row g.F.Valued g.F.TwoAdicField.generator _
 
 pub returns : goal.returns
 returns g c = rw (← c.self.view_is) (record {

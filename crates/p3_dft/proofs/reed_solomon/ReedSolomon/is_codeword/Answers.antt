@@ -6,7 +6,7 @@ use Rattle.p3_dft.proofs.reed_solomon.ReedSolomon.is_codeword.Goals as goal
 
 pub returns-clause-exact : goal.returns-clause-exact
 returns-clause-exact g c =
-    degree_told g.F.Field g.F.TwoAdicField.generator c.args.word.now c.in_ok-coefficients.coefficients _ _ c.requires.points
+    degree_told g.F.Valued g.F.TwoAdicField.generator c.args.word.now c.in_ok-coefficients.coefficients _ _ c.requires.points
     (rw (sym c.self.view_is) (rw c.in_ok-try_clone.ensures.copy at c.in_ok-coefficients.ensures.coefficients)) _ c.has_degree_below.result
     (rw c.message_height-message_height.ensures at c.has_degree_below.ensures)
 

@@ -6,5 +6,5 @@ use Rattle.p3_dft_tests.proofs.tests.algebra.transformed_in_dimension_one.Goals 
 pub returns : goal.returns
 returns g c =
     IfOk-weaker c.dft_algebra_batch.result _ _
-    (λ out given. in_dimension_one (λ m n. IsTransform g.F.Field g.F.TwoAdicField.generator m g.F.Field.ring.one n) c.args.mat out given)
+    (λ out given. in_dimension_one (λ m n. IsTransform g.F.Valued g.F.TwoAdicField.generator m g.F.Valued.ring.one n) c.args.mat out given)
     c.dft_algebra_batch.ensures.values

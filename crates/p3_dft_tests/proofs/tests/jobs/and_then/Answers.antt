@@ -5,6 +5,6 @@ use Rattle.p3_dft_tests.proofs.tests.jobs.and_then.Goals as goal
 
 pub returns : goal.returns
 returns g c =
-    let runs = CanRun g.F.Field g.F.TwoAdicField.TWO_ADICITY in
+    let runs = CanRun g.F.Valued g.F.TwoAdicField.TWO_ADICITY in
     let items = rw c.expect.ensures at c.push.ensures.items in
     rw items (All-append runs c.args.jobs.items (c.args.job ∷ []) c.requires.jobs (All-from_recursion runs (c.args.job ∷ []) (c.requires.job, tt)))

@@ -7,7 +7,7 @@ use Rattle.p3_field.proofs.lanes.LanesPackedField.load.Goals as goal
 
 pub loop-i-preserved : goal.loop-i-preserved
 loop-i-preserved g c =
-    let value = g.F.Field.value in
+    let value = g.F.Valued.value in
     let start = replicate g.row.N c.ZERO-lanes.result in
     let wide = length-replicate g.row.N c.ZERO-lanes.result in
     record {
@@ -20,7 +20,7 @@ loop-i-preserved g c =
 
 pub returns : goal.returns
 returns g c =
-    let value = g.F.Field.value in
+    let value = g.F.Valued.value in
     let wide = length-replicate g.row.N c.ZERO-lanes.result in
     all_written value (replicate g.row.N c.ZERO-lanes.result) (map value c.args.from.now) (length-map c.args.from.now value ∙ c.requires ∙ sym wide) c.loop-i.lanes c.loop-i.i
     (le_antisymm c.loop-i.auto.i-end c.loop-i-test.false ∙ sym wide) c.loop-i.invariant.lanes

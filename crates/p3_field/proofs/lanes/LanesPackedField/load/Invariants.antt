@@ -4,7 +4,7 @@ use Rattle.p3_field.proofs.lanes.LanesPackedField.load.Given as goal
 
 abbrev pub invariant-loop-i : goal.invariant-loop-i
 invariant-loop-i g l =
-    let value = g.F.Field.value in
+    let value = g.F.Valued.value in
     record {
       long : length l.lanes ≡ g.row.N;
       lanes : map value l.lanes ≡ until l.i (map value l.fn.from) (map value l.initial.lanes);

@@ -8,8 +8,8 @@ use Rattle.p3_field.proofs.lanes.LanesPackedField.load_pairs.Goals as goal
 
 pub loop-i-preserved : goal.loop-i-preserved
 loop-i-preserved g c =
-    let value = g.F.Field.value in
-    let zero = g.F.Field.ZERO in
+    let value = g.F.Valued.value in
+    let zero = g.F.Valued.zero in
     record {
       long = length-set c.loop-i.first c.loop-i.i _ ∙ c.loop-i.invariant.long;
       long_second = length-set c.loop-i.second c.loop-i.i _ ∙ c.loop-i.invariant.long_second;

@@ -3,8 +3,8 @@ use Rattle.p3_field.proofs.lanes.LanesPackedField.load_pairs.Given as goal
 
 abbrev pub invariant-loop-i : goal.invariant-loop-i
 invariant-loop-i g l =
-    let value = g.F.Field.value in
-    let zero = g.F.Field.ZERO in
+    let value = g.F.Valued.value in
+    let zero = g.F.Valued.zero in
     record {
       long : length l.first ≡ g.row.N;
       long_second : length l.second ≡ g.row.N;

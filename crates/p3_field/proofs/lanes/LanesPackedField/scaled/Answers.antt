@@ -8,15 +8,15 @@ pub loop-i-preserved : goal.loop-i-preserved
 loop-i-preserved g c = record {
   long = length-set c.loop-i.lanes c.loop-i.i _ ∙ c.loop-i.invariant.long;
   lanes =
-      more_images g.F.Field.value (λ x. g.F.Field.ring.mul x (g.F.Field.value c.args.t)) c.args.self.lanes c.loop-i.lanes c.loop-i.i c.mul.result _ g.row.N
+      more_images g.F.Valued.value (λ x. g.F.Valued.ring.mul x (g.F.Valued.value c.args.t)) c.args.self.lanes c.loop-i.lanes c.loop-i.i c.mul.result _ g.row.N
       (sym c.args.self.long) c.loop-i-test.true c.loop-i.invariant.long c.loop-i.invariant.lanes (g.met.F.Field.mul_law _ _ _ c.mul.ensures);
 }
 
 pub returns-clause-lanes : goal.returns-clause-lanes
 returns-clause-lanes g c =
-    let op : g.F.Field.Element → g.F.Field.Element = λ x. g.F.Field.ring.mul x (g.F.Field.value c.args.t) in
-    let values = map g.F.Field.value c.args.self.lanes in
-    all_written g.F.Field.value c.args.self.lanes (map op values) (length-map values op ∙ length-map c.args.self.lanes g.F.Field.value) c.loop-i.lanes c.loop-i.i
+    let op : g.F.Valued.Element → g.F.Valued.Element = λ x. g.F.Valued.ring.mul x (g.F.Valued.value c.args.t) in
+    let values = map g.F.Valued.value c.args.self.lanes in
+    all_written g.F.Valued.value c.args.self.lanes (map op values) (length-map values op ∙ length-map c.args.self.lanes g.F.Valued.value) c.loop-i.lanes c.loop-i.i
     (le_antisymm c.loop-i.auto.i-end c.loop-i-test.false ∙ sym c.args.self.long) c.loop-i.invariant.lanes
 
 pub loop-i-init : goal.loop-i-init

@@ -7,7 +7,7 @@ use Rattle.p3_field.proofs.lanes.LanesPackedField.store.Goals as goal
 
 pub loop-i-preserved : goal.loop-i-preserved
 loop-i-preserved g c =
-    let value = g.F.Field.value in
+    let value = g.F.Valued.value in
     let lanes = c.args.self.lanes in
     record {
       long = length-set c.loop-i.to c.loop-i.i _ ∙ c.loop-i.invariant.long;
@@ -19,7 +19,7 @@ loop-i-preserved g c =
 
 pub returns : goal.returns
 returns g c =
-    let value = g.F.Field.value in
+    let value = g.F.Valued.value in
     let lanes = c.args.self.lanes in
     all_written value c.args.to.now (map value lanes) (length-map lanes value ∙ c.args.self.long ∙ sym c.requires) c.loop-i.to c.loop-i.i
     (le_antisymm c.loop-i.auto.i-end c.loop-i-test.false ∙ sym c.requires) c.loop-i.invariant.lanes

@@ -7,8 +7,8 @@ use Rattle.p3_field.proofs.lanes.LanesPackedField.store_pairs.Goals as goal
 
 pub loop-i-preserved : goal.loop-i-preserved
 loop-i-preserved g c =
-    let value = g.F.Field.value in
-    let zero = g.F.Field.ZERO in
+    let value = g.F.Valued.value in
+    let zero = g.F.Valued.zero in
     let inside : 2 * c.loop-i.i + 1 < length c.loop-i.to = second_inside c.loop-i.to c.loop-i.i g.row.N c.loop-i.invariant.long c.loop-i-test.true in
     record {
       long = length-set (set c.loop-i.to (2 * c.loop-i.i) _) (2 * c.loop-i.i + 1) _ ∙ length-set c.loop-i.to (2 * c.loop-i.i) _ ∙ c.loop-i.invariant.long;

@@ -8,6 +8,6 @@ invariant-loop-i g l =
     record {
       long : vec_len l.powers ≡ l._i;
       room : l.n ≤ vec_capacity l.powers;
-      next : g.F.Field.value l.current ≡ g.F.Field.ring.mul (g.F.Field.value l.initial.current) (power g.F.Field.ring (g.F.Field.value l.base) l._i);
-      filled : (j : ℕ) → j < l._i → g.F.Field.value (get_or l.powers.items j g.F.Field.ZERO) ≡ g.F.Field.ring.mul (g.F.Field.value l.initial.current) (power g.F.Field.ring (g.F.Field.value l.base) j);
+      next : g.F.Valued.value l.current ≡ g.F.Valued.ring.mul (g.F.Valued.value l.initial.current) (power g.F.Valued.ring (g.F.Valued.value l.base) l._i);
+      filled : (j : ℕ) → j < l._i → g.F.Valued.value (get_or l.powers.items j g.F.Valued.zero) ≡ g.F.Valued.ring.mul (g.F.Valued.value l.initial.current) (power g.F.Valued.ring (g.F.Valued.value l.base) j);
     }

@@ -6,6 +6,6 @@ use Rattle.p3_field.proofs.power_iterator.Powers.fill.Given as goal
 abbrev pub invariant-loop-i : goal.invariant-loop-i
 invariant-loop-i g l =
     record {
-      next : g.F.Field.value l.current ≡ g.F.Field.ring.mul (g.F.Field.value l.initial.current) (power g.F.Field.ring (g.F.Field.value l.base) l.i);
-      filled : (j : ℕ) → j < l.i → g.F.Field.value (get_or l.to j g.F.Field.ZERO) ≡ g.F.Field.ring.mul (g.F.Field.value l.initial.current) (power g.F.Field.ring (g.F.Field.value l.base) j);
+      next : g.F.Valued.value l.current ≡ g.F.Valued.ring.mul (g.F.Valued.value l.initial.current) (power g.F.Valued.ring (g.F.Valued.value l.base) l.i);
+      filled : (j : ℕ) → j < l.i → g.F.Valued.value (get_or l.to j g.F.Valued.zero) ≡ g.F.Valued.ring.mul (g.F.Valued.value l.initial.current) (power g.F.Valued.ring (g.F.Valued.value l.base) j);
     }

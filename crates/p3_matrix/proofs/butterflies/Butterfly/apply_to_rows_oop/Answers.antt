@@ -9,7 +9,7 @@ apply_to_packs_oop-requires-2-clause-whole g c =
 
 pub returns-clause-near : goal.returns-clause-near
 returns-clause-near g c =
-    let f = g.F.Field in
+    let f = g.F.Valued in
     let one = c.split_at in
     let two = c.split_at-2 in
     rows_in_parts f.value (g.Self.Butterfly.near f.Element f.ring f.value c.args.self.now) c.args.src_1.now c.args.src_2.now one.result.0.now one.result.1.now two.result.0.now two.result.1.now
@@ -18,7 +18,7 @@ returns-clause-near g c =
 
 pub returns-clause-far : goal.returns-clause-far
 returns-clause-far g c =
-    let f = g.F.Field in
+    let f = g.F.Valued in
     let one = c.split_at in
     let two = c.split_at-2 in
     rows_in_parts f.value (g.Self.Butterfly.far f.Element f.ring f.value c.args.self.now) c.args.src_1.now c.args.src_2.now one.result.0.now one.result.1.now two.result.0.now two.result.1.now

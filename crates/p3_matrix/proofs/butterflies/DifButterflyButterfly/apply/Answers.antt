@@ -5,7 +5,7 @@ use Rattle.p3_matrix.proofs.butterflies.DifButterflyButterfly.apply.Goals as goa
 
 pub returns-clause-far : goal.returns-clause-far
 returns-clause-far g c =
-    let f = g.F.Field in
+    let f = g.F.Valued in
     let xs = map f.value (g.P.PackedField.lanes c.args.x_1) in
     let ys = map f.value (g.P.PackedField.lanes c.args.x_2) in
     let times = λ (y : f.Element). f.ring.mul y (f.value c.args.self.now.0) in

@@ -4,7 +4,7 @@ use Rattle.p3_matrix.proofs.butterflies.DifButterflyZerosButterfly.apply.Goals a
 
 pub returns-clause-near : goal.returns-clause-near
 returns-clause-near g c =
-    let value = g.F.Field.value in
+    let value = g.F.Valued.value in
     let p = g.P.PackedField in
     let wide = g.met.P.PackedField.width_law in
     sym (by_lanes_is_left (map value (p.lanes c.args.x_1)) (map value (p.lanes c.args._x_2))
@@ -12,7 +12,7 @@ returns-clause-near g c =
 
 pub returns-clause-far : goal.returns-clause-far
 returns-clause-far g c =
-    let f = g.F.Field in
+    let f = g.F.Valued in
     let p = g.P.PackedField in
     let wide = g.met.P.PackedField.width_law in
     c.scaled.ensures.lanes

@@ -8,7 +8,7 @@ use Rattle.p3_matrix.proofs.butterflies.ScaledDitButterflyButterfly.apply.Goals 
 
 pub returns-clause-near : goal.returns-clause-near
 returns-clause-near g c =
-    let f = g.F.Field in
+    let f = g.F.Valued in
     let r = f.ring in
     let b = c.args.self.now in
     c.add.ensures ∙ ap₂ (by_lanes r.add) c.scaled-scaled.ensures.lanes c.scaled-turned.ensures.lanes
@@ -18,7 +18,7 @@ returns-clause-near g c =
 
 pub returns-clause-far : goal.returns-clause-far
 returns-clause-far g c =
-    let f = g.F.Field in
+    let f = g.F.Valued in
     let r = f.ring in
     let b = c.args.self.now in
     c.sub.ensures ∙ ap₂ (by_lanes (minus r)) c.scaled-scaled.ensures.lanes c.scaled-turned.ensures.lanes

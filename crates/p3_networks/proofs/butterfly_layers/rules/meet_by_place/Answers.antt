@@ -17,20 +17,20 @@ lane_of_three op op' value d (z ∷ new) (x ∷ xs) (y ∷ ys) (t ∷ ts) (suc j
 
 pub returns-clause-near : goal.returns-clause-near
 returns-clause-near g c t inside =
-    let field = g.F.Field in
+    let field = g.F.Valued in
     let part = take (length c.args.low.now - 0) (drop 0 c.args.twiddles.now) in
     let full : length c.args.low.now ≡ length part = search rules in
     let here : 0 + t ≡ t = omega arith in
-    lane_of_three field.ring.add field.ring.mul field.value field.ZERO c.apply_dit_by_place.new.row_1 c.args.low.now c.args.high.now part t c.requires.size full inside c.apply_dit_by_place.ensures.near
-    ∙ ap (λ x. field.ring.add (field.value (get_or c.args.low.now t field.ZERO)) (field.ring.mul (field.value (get_or c.args.high.now t field.ZERO)) (field.value x)))
-    (part_at c.args.twiddles.now 0 _ t field.ZERO (omega (arith, inside)) ∙ ap (λ n. get_or c.args.twiddles.now n field.ZERO) here)
+    lane_of_three field.ring.add field.ring.mul field.value field.zero c.apply_dit_by_place.new.row_1 c.args.low.now c.args.high.now part t c.requires.size full inside c.apply_dit_by_place.ensures.near
+    ∙ ap (λ x. field.ring.add (field.value (get_or c.args.low.now t field.zero)) (field.ring.mul (field.value (get_or c.args.high.now t field.zero)) (field.value x)))
+    (part_at c.args.twiddles.now 0 _ t field.zero (omega (arith, inside)) ∙ ap (λ n. get_or c.args.twiddles.now n field.zero) here)
 
 pub returns-clause-far : goal.returns-clause-far
 returns-clause-far g c t inside =
-    let field = g.F.Field in
+    let field = g.F.Valued in
     let part = take (length c.args.low.now - 0) (drop 0 c.args.twiddles.now) in
     let full : length c.args.low.now ≡ length part = search rules in
     let here : 0 + t ≡ t = omega arith in
-    lane_of_three (minus field.ring) field.ring.mul field.value field.ZERO c.apply_dit_by_place.new.row_2 c.args.low.now c.args.high.now part t c.requires.size full inside c.apply_dit_by_place.ensures.far
-    ∙ ap (λ x. minus field.ring (field.value (get_or c.args.low.now t field.ZERO)) (field.ring.mul (field.value (get_or c.args.high.now t field.ZERO)) (field.value x)))
-    (part_at c.args.twiddles.now 0 _ t field.ZERO (omega (arith, inside)) ∙ ap (λ n. get_or c.args.twiddles.now n field.ZERO) here)
+    lane_of_three (minus field.ring) field.ring.mul field.value field.zero c.apply_dit_by_place.new.row_2 c.args.low.now c.args.high.now part t c.requires.size full inside c.apply_dit_by_place.ensures.far
+    ∙ ap (λ x. minus field.ring (field.value (get_or c.args.low.now t field.zero)) (field.ring.mul (field.value (get_or c.args.high.now t field.zero)) (field.value x)))
+    (part_at c.args.twiddles.now 0 _ t field.zero (omega (arith, inside)) ∙ ap (λ n. get_or c.args.twiddles.now n field.zero) here)

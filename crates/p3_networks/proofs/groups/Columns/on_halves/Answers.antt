@@ -34,9 +34,9 @@ columns_of t part at end = omega arith
 
 pub loop-t-preserved : goal.loop-t-preserved
 loop-t-preserved g c =
-    let field = g.F.Field in
+    let field = g.F.Valued in
     let rule = g.R.Rule in
-    let zero = field.ZERO in
+    let zero = field.zero in
     let t = c.loop-t.t in
     let part = c.args.self.now.part in
     let at = c.args.self.now.at in
@@ -65,22 +65,22 @@ loop-t-preserved g c =
 
 pub loop-t-init : goal.loop-t-init
 loop-t-init g c = record {
-  near = rows-none g.F.Field.ZERO c.args.self.now.part _ c.args.low.now;
-  far = rows-none g.F.Field.ZERO c.args.self.now.part _ c.args.high.now;
+  near = rows-none g.F.Valued.zero c.args.self.now.part _ c.args.low.now;
+  far = rows-none g.F.Valued.zero c.args.self.now.part _ c.args.high.now;
   grows = le_refl c.args.products.now;
   cost = count_none g.R.Rule.cost (c.args.self.now.end - c.args.self.now.at) c.args.products.now;
 }
 
 pub returns-clause-near : goal.returns-clause-near
-returns-clause-near g c t j p q = (rows-all g.F.Field.ZERO c.args.self.now.part _ c.args.low.now c.loop-t.low c.loop-t.t c.args.self.now.half c.loop-t-test.false c.loop-t.invariant.near t j p q).inside
+returns-clause-near g c t j p q = (rows-all g.F.Valued.zero c.args.self.now.part _ c.args.low.now c.loop-t.low c.loop-t.t c.args.self.now.half c.loop-t-test.false c.loop-t.invariant.near t j p q).inside
 
 pub returns-clause-far : goal.returns-clause-far
-returns-clause-far g c t j p q = (rows-all g.F.Field.ZERO c.args.self.now.part _ c.args.high.now c.loop-t.high c.loop-t.t c.args.self.now.half c.loop-t-test.false c.loop-t.invariant.far t j p q).inside
+returns-clause-far g c t j p q = (rows-all g.F.Valued.zero c.args.self.now.part _ c.args.high.now c.loop-t.high c.loop-t.t c.args.self.now.half c.loop-t-test.false c.loop-t.invariant.far t j p q).inside
 
 pub returns-clause-kept : goal.returns-clause-kept
 returns-clause-kept g c t j p q other = (
-  (rows-all g.F.Field.ZERO c.args.self.now.part _ c.args.low.now c.loop-t.low c.loop-t.t c.args.self.now.half c.loop-t-test.false c.loop-t.invariant.near t j p q).outside other,
-  (rows-all g.F.Field.ZERO c.args.self.now.part _ c.args.high.now c.loop-t.high c.loop-t.t c.args.self.now.half c.loop-t-test.false c.loop-t.invariant.far t j p q).outside other,
+  (rows-all g.F.Valued.zero c.args.self.now.part _ c.args.low.now c.loop-t.low c.loop-t.t c.args.self.now.half c.loop-t-test.false c.loop-t.invariant.near t j p q).outside other,
+  (rows-all g.F.Valued.zero c.args.self.now.part _ c.args.high.now c.loop-t.high c.loop-t.t c.args.self.now.half c.loop-t-test.false c.loop-t.invariant.far t j p q).outside other,
 )
 
 pub returns-clause-cost : goal.returns-clause-cost

@@ -50,7 +50,7 @@ layer_of_columns-requires-clause-in_table g c b inside =
 
 pub loop-done-preserved : goal.loop-done-preserved
 loop-done-preserved g c =
-    let field = g.F.Field in
+    let field = g.F.Valued in
     let rule = g.R.Rule in
     let from = c.args.self.now.from in
     let to = c.args.self.now.to in
@@ -78,7 +78,7 @@ loop-done-preserved g c =
           (layer_in_order c.args.self.now.order k w from to done near far cells layers (omega (arith, c.loop-done-test.true)) within)) in
           let first : number * blocks * (2 * (half * part)) ≡ number * len =
           (let assoc : number * blocks * (2 * (half * part)) ≡ number * (blocks * (2 * (half * part))) = omega arith in assoc) ∙ ap (λ n. number * n) (sym sizes.cells ∙ sym c.requires.size) in
-          columns_next field.value field.ZERO c.args.at c.args.end (2 ^ from * w) part rows (blocks * (2 * half)) (number * len) (number * blocks * (2 * (half * part))) before after
+          columns_next field.value field.zero c.args.at c.args.end (2 ^ from * w) part rows (blocks * (2 * half)) (number * len) (number * blocks * (2 * (half * part))) before after
           c.args.chunk.now c.loop-done.chunk c.layer_of_columns.new.values sizes.part_is sizes.rows first
           (c.layer_of_columns.ensures.cells (2 ^ (k - 1 - e)) before after layer all)
           (c.loop-done.invariant.cells k cells layers room holds);
@@ -88,9 +88,9 @@ loop-done-preserved g c =
 
 pub returns-clause-cells : goal.returns-clause-cells
 returns-clause-cells g c k cells layers room holds =
-    let field = g.F.Field in
+    let field = g.F.Valued in
     let end : c.loop-done.done ≡ c.args.self.now.to - c.args.self.now.from = omega arith in
-    subst (λ (n : ℕ). TakesColumns field.value field.ZERO (2 ^ c.args.self.now.from * c.args.self.now.width) (2 ^ (c.args.self.now.to - c.args.self.now.from)) (c.args.number * length c.args.chunk.now) c.args.at c.args.end (cells (cells_of c.args.self.now.order c.args.self.now.from c.args.self.now.to n)) c.args.chunk.now c.loop-done.chunk) end
+    subst (λ (n : ℕ). TakesColumns field.value field.zero (2 ^ c.args.self.now.from * c.args.self.now.width) (2 ^ (c.args.self.now.to - c.args.self.now.from)) (c.args.number * length c.args.chunk.now) c.args.at c.args.end (cells (cells_of c.args.self.now.order c.args.self.now.from c.args.self.now.to n)) c.args.chunk.now c.loop-done.chunk) end
     (c.loop-done.invariant.cells k cells layers room holds)
 
 pub returns-clause-cost : goal.returns-clause-cost

@@ -34,7 +34,7 @@ overflow_add-end g c =
 pub loop-p-preserved : goal.loop-p-preserved
 loop-p-preserved g c =
     let wide = c.requires.0 in let ordered = c.requires.1.0 in let small = c.requires.1.1.0 in let some_piece = c.requires.1.1.1.0 in let whole = c.requires.1.1.1.1.0 in
-    let field = g.F.Field in
+    let field = g.F.Valued in
     let from = c.args.self.now.from in
     let to = c.args.self.now.to in
     let order = c.args.self.now.order in
@@ -53,11 +53,11 @@ loop-p-preserved g c =
           let so_far = c.loop-p.invariant.cells k cells layers room holds in
           let before = cells (cells_of order from to 0) in
           let after = cells (cells_of order from to (to - from)) in
-          pieces_next field.value field.ZERO part rows first at end ((p + 1) * piece) after c.args.chunk.now c.loop-p.chunk c.on_piece.new.chunk ordered here.within here.last so_far
-          (subst (λ (n : ℕ). TakesColumns field.value field.ZERO part rows (c.args.number * n) at end after c.loop-p.chunk c.on_piece.new.chunk) c.loop-p.auto.chunk
+          pieces_next field.value field.zero part rows first at end ((p + 1) * piece) after c.args.chunk.now c.loop-p.chunk c.on_piece.new.chunk ordered here.within here.last so_far
+          (subst (λ (n : ℕ). TakesColumns field.value field.zero part rows (c.args.number * n) at end after c.loop-p.chunk c.on_piece.new.chunk) c.loop-p.auto.chunk
           (c.on_piece.ensures.cells k cells layers room
-          (subst (λ (n : ℕ). HoldsColumns field.value field.ZERO part rows (c.args.number * n) at end before c.loop-p.chunk) (sym c.loop-p.auto.chunk)
-          (piece_held field.value field.ZERO part rows first at end before after c.args.chunk.now c.loop-p.chunk (whole ∙ sizes.rows) holds so_far))));
+          (subst (λ (n : ℕ). HoldsColumns field.value field.zero part rows (c.args.number * n) at end before c.loop-p.chunk) (sym c.loop-p.auto.chunk)
+          (piece_held field.value field.zero part rows first at end before after c.args.chunk.now c.loop-p.chunk (whole ∙ sizes.rows) holds so_far))));
       grows = le_trans c.loop-p.invariant.grows c.on_piece.ensures.grows;
       cost =
           subst (λ (n : ℕ). 2 * c.on_piece.new.products ≤ 2 * c.args.products.now + g.R.Rule.cost * ((to - from) * (rows * n))) (sym here.there)
@@ -69,11 +69,11 @@ loop-p-preserved g c =
 pub returns-clause-chunk : goal.returns-clause-chunk
 returns-clause-chunk g c = let wide = c.requires.0 in let ordered = c.requires.1.0 in let small = c.requires.1.1.0 in let some_piece = c.requires.1.1.1.0 in let whole = c.requires.1.1.1.1.0 in record {
   taken = λ k cells layers room holds.
-      let field = g.F.Field in
+      let field = g.F.Valued in
       let from = c.args.self.now.from in
       let to = c.args.self.now.to in
       let sizes = part_sizes c.args.self.now.from c.args.self.now.to c.args.number c.args.self.now.width ordered small in
-      pieces_all field.value field.ZERO (2 ^ from * c.args.self.now.width) (2 ^ (to - from)) (c.args.number * length c.args.chunk.now) (c.loop-p.p * c.args.self.now.piece) (cells (cells_of c.args.self.now.order from to (to - from))) c.args.chunk.now c.loop-p.chunk
+      pieces_all field.value field.zero (2 ^ from * c.args.self.now.width) (2 ^ (to - from)) (c.args.number * length c.args.chunk.now) (c.loop-p.p * c.args.self.now.piece) (cells (cells_of c.args.self.now.order from to (to - from))) c.args.chunk.now c.loop-p.chunk
       (subst (λ (n : ℕ). 1 ≤ n) sizes.part_is (sizes.nonzero wide)) (pieces_cover c.loop-p.p c.args.self.now.piece _ _ sizes.part_is some_piece c.loop-p-test.false)
       (c.loop-p.auto.chunk ∙ whole ∙ sizes.rows) (c.loop-p.invariant.cells k cells layers room holds);
 }

@@ -6,9 +6,9 @@ use Rattle.p3_networks.proofs.pairs.DifNetworkDecimation.on_pack.Goals as goal
 
 pub returns-clause-pairs : goal.returns-clause-pairs
 returns-clause-pairs g c =
-    let field = g.F.Field in
+    let field = g.F.Valued in
     let value = field.value in
-    let zero = field.ZERO in
+    let zero = field.zero in
     let lanes = g.P.PackedField.lanes in
     let wide = g.met.P.PackedField.width_law in
     let first = c.load_pairs-first.result.0 in

@@ -11,7 +11,7 @@ use Rattle.p3_networks.proofs.radix_2_dit_parallel.coset_tables.coset_layers.Goa
 
 pub loop-l-preserved : goal.loop-l-preserved
 loop-l-preserved g c =
-    let field = g.F.Field in
+    let field = g.F.Valued in
     let l = c.loop-l.l in
     let log = c.args.log_h in
     let reversed = leb (mid_of log) l in
@@ -32,7 +32,7 @@ returns-clause-size g c = at_end (λ l. length c.loop-l.twiddles.items ≡ 2 ^ l
 
 pub returns-clause-table : goal.returns-clause-table
 returns-clause-table g c =
-    let field = g.F.Field in
+    let field = g.F.Valued in
     let log = c.args.log_h in
     at_end (λ n. AreTwiddlesOfLayers field n (λ i t. coset_twiddles field (forward_root field g.F.TwoAdicField.generator) (field.value c.args.shift) log i (layer_place (leb (mid_of log) i) i t)) c.loop-l.twiddles.items)
     c.loop-l.l log c.loop-l.auto.l-end c.loop-l-test.false c.loop-l.invariant.layers

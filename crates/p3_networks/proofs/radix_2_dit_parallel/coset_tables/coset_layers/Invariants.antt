@@ -6,7 +6,7 @@ use Rattle.p3_networks.proofs.radix_2_dit_parallel.coset_tables.coset_layers.Giv
 -- the first layers are there
 abbrev pub invariant-loop-l : goal.invariant-loop-l
 invariant-loop-l g l =
-    let field = g.F.Field in
+    let field = g.F.Valued in
     let log = l.fn.log_h in
     record {
       full : length l.twiddles.items ≡ 2 ^ l.l - 1;

@@ -29,12 +29,12 @@ last_half-requires-clause-numbers g c = let all = ap (λ n. 2 ^ n) (halves_whole
 
 pub returns-clause-lent : goal.returns-clause-lent
 returns-clause-lent g c =
-    let field = g.F.Field in
+    let field = g.F.Valued in
     let k = c.args.log_h in
     let s = field.value c.args.table.now.shift in
     let table = subst (λ (n : ℕ). IsCosetTable field g.F.TwoAdicField.generator s n c.twiddles.result.now) c.requires.table c.twiddles.ensures.table in
     let mid = mid_of k in
-    let first : IsLowHalf field (2 ^ (k - mid)) mid c.args.width (by_layer field.ZERO c.twiddles.result.now) (source_of c.args.source c.args.values.now) c.match-source.values =
+    let first : IsLowHalf field (2 ^ (k - mid)) mid c.args.width (by_layer field.zero c.twiddles.result.now) (source_of c.args.source c.args.values.now) c.match-source.values =
     elim c.match-source.branch [
       | in-Some w ↦ rw (w.values-is, w.in-Some.is) w.first_half.ensures.values
       | in-None w ↦ rw (w.values-is, w.in-None.is) w.first_half-in-None.ensures.values

@@ -35,7 +35,7 @@ pub slice_bounds-slot-end : goal.slice_bounds-slot-end
 slice_bounds-slot-end g c = slot_inside (length c.args.values.now) c.args.log_h c.args.added_bits c.args.width c.loop-place.place c.requires.fits_u64 c.requires.size c.loop-place-test.true _ _ c.split_at_mut-coefficients.ensures.back_len c.loop-place.auto.others
 
 pub evaluate_reversed-requires-clause-table : goal.evaluate_reversed-requires-clause-table
-evaluate_reversed-requires-clause-table g c = (coset_read g.F.Field c.args.cosets.now c.args.log_h _ _ _ c.get-table.ensures c.place_of_slot-found.ensures).0
+evaluate_reversed-requires-clause-table g c = (coset_read g.F.Valued c.args.cosets.now c.args.log_h _ _ _ c.get-table.ensures c.place_of_slot-found.ensures).0
 
 pub evaluate_reversed-requires-clause-source : goal.evaluate_reversed-requires-clause-source
 evaluate_reversed-requires-clause-source g c =
@@ -57,7 +57,7 @@ evaluate_reversed-requires-clause-numbers g c =
 pub loop-place-init : goal.loop-place-init
 loop-place-init g c =
     record {
-      slots = rows-none g.F.Field.ZERO _ _ _;
+      slots = rows-none g.F.Valued.zero _ _ _;
       told = subst (λ (n : ℕ). Run g.C.BlockConsumer.step c.args.consumer.now (slot_blocks (2 ^ c.args.log_h) (2 ^ (c.args.log_h - mid_of c.args.log_h)) c.args.width c.split_at_mut-coefficients.result.1.now n) c.args.consumer.now) (sym (zero-mul (2 ^ mid_of c.args.log_h))) refl;
       grows = le_refl c.args.products.now;
       cost = count_none 1 (c.args.width * (c.args.log_h * 2 ^ c.args.log_h / 2)) c.args.products.now;
@@ -65,7 +65,7 @@ loop-place-init g c =
 
 pub loop-place-preserved : goal.loop-place-preserved
 loop-place-preserved g c =
-    let field = g.F.Field in
+    let field = g.F.Valued in
     let k = c.args.log_h in
     let a = c.args.added_bits in
     let w = c.args.width in
@@ -77,9 +77,9 @@ loop-place-preserved g c =
     let roots = fewer_roots field.ring (k + a) _ c.requires.within g.met.F.TwoAdicField.roots_law in
     record {
       slots =
-          part-more field.ZERO (2 ^ k * w) _ _ c.loop-place.others c.evaluate_reversed.new.values place _ is fits (size ∙ is)
+          part-more field.zero (2 ^ k * w) _ _ c.loop-place.others c.evaluate_reversed.new.values place _ is fits (size ∙ is)
           (λ u inside t j p q at.
-          ap (λ n. field.value (get_or c.evaluate_reversed.new.values n field.ZERO)) at
+          ap (λ n. field.value (get_or c.evaluate_reversed.new.values n field.zero)) at
           ∙ slot_rows field g.F.TwoAdicField.generator k a w (rev k) (field.value c.args.shift) c.args.values.now c.split_at_mut-coefficients.result.0.now c.split_at_mut-coefficients.result.1.now c.evaluate_reversed.new.values c.split_at_mut-coefficients.ensures.value
           (c.split_at_mut-coefficients.ensures.front_len ∙ is) (λ u l. rev-lt k u) roots _ (place + 1) _ (coset_read field c.args.cosets.now k _ _ _ c.get-table.ensures c.place_of_slot-found.ensures).1 c.in_default.ensures.lent.0 _ t j refl (subst (λ n. t < n) (sym (blocks_whole k)) p) p q)
           c.loop-place.invariant.slots;
@@ -100,7 +100,7 @@ returns-in-Err-clause-cost g c =
 
 pub returns-in-Err-clause-refused : goal.returns-in-Err-clause-refused
 returns-in-Err-clause-refused g c =
-    let field = g.F.Field in
+    let field = g.F.Valued in
     let k = c.args.log_h in
     let a = c.args.added_bits in
     let w = c.args.width in
@@ -112,11 +112,11 @@ returns-in-Err-clause-refused g c =
     let extended = extended_rows field g.F.TwoAdicField.generator k a w (field.value c.args.shift) c.args.values.now in
     let roots = fewer_roots field.ring (k + a) _ c.requires.within g.met.F.TwoAdicField.roots_law in
     let m = c.in-Err.ensures.lent.0 in let within = c.in-Err.ensures.lent.1 in let done = c.in-Err.ensures.lent.2 in let stopped = c.in-Err.ensures.lent.3 in
-    refused_in_slot field.value field.ZERO k a w (2 ^ (k - mid_of k)) (2 ^ mid_of k) c.requires.width (pow_pos (k - mid_of k)) (blocks_whole k) extended refl refl
+    refused_in_slot field.value field.zero k a w (2 ^ (k - mid_of k)) (2 ^ mid_of k) c.requires.width (pow_pos (k - mid_of k)) (blocks_whole k) extended refl refl
     g.C.BlockConsumer.step place (place + 1) _ m c.loop-place.others c.evaluate_reversed.new.values c.in-Err.refusal c.args.consumer.now c.loop-place.consumer c.evaluate_reversed.new.consumer
     (slot_starts place k a below c.requires.fits_u64) (lt_of_le_of_lt (le-add_right place 1) below) below (inr refl) (subst (λ n. place * n ≤ length c.loop-place.others) is (le_trans (le-add_right _ _) fits))
     (c.evaluate_reversed.auto.values ∙ part_length c.loop-place.others _ _ fits ∙ is) within
-    (earlier_rows field.value field.ZERO k w place extended.entry _ c.loop-place.others c.loop-place.invariant.slots)
+    (earlier_rows field.value field.zero k w place extended.entry _ c.loop-place.others c.loop-place.invariant.slots)
     (λ t j. slot_rows field g.F.TwoAdicField.generator k a w (rev k) (field.value c.args.shift) c.args.values.now c.split_at_mut-coefficients.result.0.now c.split_at_mut-coefficients.result.1.now c.evaluate_reversed.new.values c.split_at_mut-coefficients.ensures.value
     (c.split_at_mut-coefficients.ensures.front_len ∙ is) (λ u l. rev-lt k u) roots _ (place + 1) _ (coset_read field c.args.cosets.now k _ _ _ c.get-table.ensures c.place_of_slot-found.ensures).1 done _ t j refl)
     c.loop-place.invariant.told stopped
@@ -125,7 +125,7 @@ pub place_of_slot-found-requires-2-clause-in_table : goal.place_of_slot-found-re
 place_of_slot-found-requires-2-clause-in_table g c = c.requires.tables (rev c.args.added_bits 0) (rev-lt c.args.added_bits 0)
 
 pub evaluate_reversed-requires-2-clause-table : goal.evaluate_reversed-requires-2-clause-table
-evaluate_reversed-requires-2-clause-table g c = (coset_read g.F.Field c.args.cosets.now c.args.log_h _ _ _ c.get-table-2.ensures c.place_of_slot-found-2.ensures).0
+evaluate_reversed-requires-2-clause-table g c = (coset_read g.F.Valued c.args.cosets.now c.args.log_h _ _ _ c.get-table-2.ensures c.place_of_slot-found-2.ensures).0
 
 pub evaluate_reversed-requires-2-clause-rows : goal.evaluate_reversed-requires-2-clause-rows
 evaluate_reversed-requires-2-clause-rows g c = record {
@@ -136,7 +136,7 @@ evaluate_reversed-requires-2-clause-rows g c = record {
 
 pub returns-clause-values : goal.returns-clause-values
 returns-clause-values g c =
-    let field = g.F.Field in
+    let field = g.F.Valued in
     let k = c.args.log_h in
     let a = c.args.added_bits in
     let w = c.args.width in
@@ -146,10 +146,10 @@ returns-clause-values g c =
     let roots = fewer_roots field.ring (k + a) _ c.requires.within g.met.F.TwoAdicField.roots_law in
     MatchResult-weaker c.evaluate_reversed-2.result c.evaluate_reversed-2.ensures.lent
     (λ _ given.
-    rows_of_slots field.value field.ZERO k a w c.evaluate_reversed-2.new.values c.loop-place.others extended.entry (c.evaluate_reversed-2.auto.values ∙ size)
+    rows_of_slots field.value field.zero k a w c.evaluate_reversed-2.new.values c.loop-place.others extended.entry (c.evaluate_reversed-2.auto.values ∙ size)
     (λ t j p. slot_rows field g.F.TwoAdicField.generator k a w (rev k) (field.value c.args.shift) c.args.values.now c.split_at_mut-coefficients.result.0.now c.split_at_mut-coefficients.result.1.now c.evaluate_reversed-2.new.values c.split_at_mut-coefficients.ensures.value
     size (λ u l. rev-lt k u) roots _ 0 _ (coset_read field c.args.cosets.now k _ _ _ c.get-table-2.ensures c.place_of_slot-found-2.ensures).1 given.0 t t j (zero_slot k t) (subst (λ n. t < n) (sym (blocks_whole k)) p) p)
-    (λ p t j below. earlier_rows field.value field.ZERO k w c.loop-place.place extended.entry _ c.loop-place.others c.loop-place.invariant.slots p t j (before_last p c.loop-place.place _ all below)))
+    (λ p t j below. earlier_rows field.value field.zero k w c.loop-place.place extended.entry _ c.loop-place.others c.loop-place.invariant.slots p t j (before_last p c.loop-place.place _ all below)))
     (λ _ _. tt)
 
 pub returns-clause-published : goal.returns-clause-published
@@ -176,7 +176,7 @@ returns-clause-published g c =
 
 pub returns-clause-refused : goal.returns-clause-refused
 returns-clause-refused g c =
-    let field = g.F.Field in
+    let field = g.F.Valued in
     let k = c.args.log_h in
     let a = c.args.added_bits in
     let w = c.args.width in
@@ -191,10 +191,10 @@ returns-clause-refused g c =
     (λ _ _. tt)
     (λ refusal given.
     let m = given.0 in let within = given.1 in let done = given.2 in let stopped = given.3 in
-    refused_in_slot field.value field.ZERO k a w (2 ^ (k - mid_of k)) (2 ^ mid_of k) c.requires.width (pow_pos (k - mid_of k)) (blocks_whole k) extended refl refl
+    refused_in_slot field.value field.zero k a w (2 ^ (k - mid_of k)) (2 ^ mid_of k) c.requires.width (pow_pos (k - mid_of k)) (blocks_whole k) extended refl refl
     g.C.BlockConsumer.step place 0 0 m c.loop-place.others c.evaluate_reversed-2.new.values refusal c.args.consumer.now c.loop-place.consumer c.evaluate_reversed-2.new.consumer
     (sym (zero-mul (2 ^ k))) (is_last place _ all) (pow_pos a) (inl refl) room (c.evaluate_reversed-2.auto.values ∙ c.split_at_mut-coefficients.ensures.front_len ∙ is) within
-    (earlier_rows field.value field.ZERO k w place extended.entry _ c.loop-place.others c.loop-place.invariant.slots)
+    (earlier_rows field.value field.zero k w place extended.entry _ c.loop-place.others c.loop-place.invariant.slots)
     (λ t j. slot_rows field g.F.TwoAdicField.generator k a w (rev k) (field.value c.args.shift) c.args.values.now c.split_at_mut-coefficients.result.0.now c.split_at_mut-coefficients.result.1.now c.evaluate_reversed-2.new.values c.split_at_mut-coefficients.ensures.value
     (c.split_at_mut-coefficients.ensures.front_len ∙ is) (λ u l. rev-lt k u) roots _ 0 _ (coset_read field c.args.cosets.now k _ _ _ c.get-table-2.ensures c.place_of_slot-found-2.ensures).1 done _ t j refl)
     c.loop-place.invariant.told stopped)

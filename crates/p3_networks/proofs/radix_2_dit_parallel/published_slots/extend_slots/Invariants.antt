@@ -8,11 +8,11 @@ use Rattle.p3_networks.proofs.radix_2_dit_parallel.published_slots.extend_slots.
 -- the first of the other slots have their values, and were lent
 abbrev pub invariant-loop-place : goal.invariant-loop-place
 invariant-loop-place g l =
-    let field = g.F.Field in
+    let field = g.F.Valued in
     let k = l.fn.log_h in
     let w = l.fn.width in
     record {
-      slots : RowsDone field.ZERO (2 ^ k * w)
+      slots : RowsDone field.zero (2 ^ k * w)
           (λ p u y. (t j : ℕ) → t < 2 ^ k → j < w → u ≡ t * w + j → field.value y
           ≡ (extended_rows field g.F.TwoAdicField.generator k l.fn.added_bits w (field.value l.fn.shift) l.fn.values).entry ((p + 1) * 2 ^ k + t) j)
           l.initial.others l.place l.others;

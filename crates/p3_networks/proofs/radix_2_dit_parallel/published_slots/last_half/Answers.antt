@@ -4,7 +4,7 @@ use borrow.Rule.Slice.PartMut.{put_mid}
 use Rattle.std.specs.List.{between}
 use Rattle.std.proofs.lemmas.Nat.{pow-add}
 use Rattle.std.proofs.lemmas.Slice.{between-put_mid, take-put_mid_below}
-use Rattle.p3_field.specs.declared.fields.Field.{Ghosts as FieldMembers}
+use Rattle.p3_field.specs.declared.fields.Valued.{Ghosts as FieldMembers}
 use Rattle.p3_matrix.specs.BitOrder.{rev}
 use Rattle.p3_matrix.specs.Blocks.{Run}
 use Rattle.p3_matrix.specs.Cosets.{point}
@@ -46,18 +46,18 @@ chunk_sizes mid left w n len rows same = shifted_sizes mid (mid + left) left w l
 
 -- the first n chunks of reversed rows, told from the rows as they were
 second_done : {F : Type 0} (field : FieldMembers F) (mid left w n size : ℕ) (at : ℕ → ℕ → F) (values reversed after : List F) → n ≤ 2 ^ mid → size ≡ 2 ^ left * w
-    → ((r j : ℕ) → r < 2 ^ (mid + left) → j < w → get_or reversed (r * w + j) field.ZERO ≡ get_or values (rev (mid + left) r * w + j) field.ZERO)
-    → ChunksDone field.ZERO size (λ a before. IsHighNetwork field mid left w a at (λ q j. field.ring.mul (field.value (get_or before (q * w + j) field.ZERO)) field.ring.one)) reversed n after
-    → IsHighHalf field n mid left w at (λ a q j. field.value (get_or values ((rev left q * 2 ^ mid + rev mid a) * w + j) field.ZERO)) after
+    → ((r j : ℕ) → r < 2 ^ (mid + left) → j < w → get_or reversed (r * w + j) field.zero ≡ get_or values (rev (mid + left) r * w + j) field.zero)
+    → ChunksDone field.zero size (λ a before. IsHighNetwork field mid left w a at (λ q j. field.ring.mul (field.value (get_or before (q * w + j) field.zero)) field.ring.one)) reversed n after
+    → IsHighHalf field n mid left w at (λ a q j. field.value (get_or values ((rev left q * 2 ^ mid + rev mid a) * w + j) field.zero)) after
 second_done field mid left w n size at values reversed after few size_is turned done root s roots table a t j p q l =
     let all : 2 ^ (mid + left) ≡ 2 ^ mid * 2 ^ left = pow-add 2 mid left in
     let outer : a < 2 ^ mid = omega (arith, p, few) in
     let x = point field.ring root left (point field.ring root (mid + left) s (rev mid a)) (rev left t) in
-    row_taken field.ZERO size field.ring (λ y. field.ring.mul (field.value y) field.ring.one) field.value (2 ^ left) w (λ u. u) size a t j x reversed after size_is refl (λ u b. b) q l (done.done a p root s roots table t j q l)
+    row_taken field.zero size field.ring (λ y. field.ring.mul (field.value y) field.ring.one) field.value (2 ^ left) w (λ u. u) size a t j x reversed after size_is refl (λ u b. b) q l (done.done a p root s roots table t j q l)
     ∙ poly_same field.ring (2 ^ left) _ _ x
     (λ u b.
     field.ring.mul_one _
-    ∙ ap field.value (turned (a * 2 ^ left + u) j (omega (arith, all, row_below a u (2 ^ left) (2 ^ mid) outer b)) l) ∙ ap (λ n. field.value (get_or values (n * w + j) field.ZERO)) (row_digits mid left a u b))
+    ∙ ap field.value (turned (a * 2 ^ left + u) j (omega (arith, all, row_below a u (2 ^ left) (2 ^ mid) outer b)) l) ∙ ap (λ n. field.value (get_or values (n * w + j) field.zero)) (row_digits mid left a u b))
 
 -- what a chunk costs without a scale
 unscaled : (n cells before after : ℕ) → after ≤ before + (n + 0 * cells) → after ≤ before + n
@@ -139,7 +139,7 @@ returns-in-Err-clause-lent g c =
     let below : chunk < 2 ^ mid = subst (λ (n : ℕ). c.loop-chunk.chunk < n) (first_shift c.args.mid c.args.left c.requires.rows.fits_u64) c.loop-chunk-test.true in (
       chunk,
       below,
-      second_done g.F.Field mid left w (chunk + 1) size (g.T.LayerTwiddles.at c.args.table) c.args.values.now c.reverse_chunks.new.values _ (add-one-le below) sizes.size_is (c.reverse_chunks.ensures g.F.Field.ZERO) chunks,
+      second_done g.F.Valued mid left w (chunk + 1) size (g.T.LayerTwiddles.at c.args.table) c.args.values.now c.reverse_chunks.new.values _ (add-one-le below) sizes.size_is (c.reverse_chunks.ensures g.F.Valued.zero) chunks,
       record {
         middle = c.loop-chunk.consumer;
         run = earlier;
@@ -161,9 +161,9 @@ returns-clause-lent g c =
     let left = c.args.left in
     let sizes = chunk_sizes c.args.mid c.args.left c.args.width (length c.args.values.now) (length c.reverse_chunks.new.values) c.requires.rows c.reverse_chunks.auto.values in
     let all : c.loop-chunk.chunk ≡ 2 ^ mid = le_antisymm c.loop-chunk.auto.chunk-end c.loop-chunk-test.false ∙ first_shift c.args.mid c.args.left c.requires.rows.fits_u64 in
-    subst (λ n. IsHighHalf g.F.Field n mid left c.args.width (g.T.LayerTwiddles.at c.args.table) (λ a q j. g.F.Field.value (get_or c.args.values.now ((rev left q * 2 ^ mid + rev mid a) * c.args.width + j) g.F.Field.ZERO)) c.loop-chunk.values
+    subst (λ n. IsHighHalf g.F.Valued n mid left c.args.width (g.T.LayerTwiddles.at c.args.table) (λ a q j. g.F.Valued.value (get_or c.args.values.now ((rev left q * 2 ^ mid + rev mid a) * c.args.width + j) g.F.Valued.zero)) c.loop-chunk.values
     × Run g.C.BlockConsumer.step c.args.consumer.now (slot_blocks c.args.first_row (2 ^ left) c.args.width c.loop-chunk.values n) c.loop-chunk.consumer) all (
-      second_done g.F.Field mid left c.args.width c.loop-chunk.chunk _ (g.T.LayerTwiddles.at c.args.table) c.args.values.now c.reverse_chunks.new.values c.loop-chunk.values (le_of_eq all) sizes.size_is (c.reverse_chunks.ensures g.F.Field.ZERO) c.loop-chunk.invariant.chunks,
+      second_done g.F.Valued mid left c.args.width c.loop-chunk.chunk _ (g.T.LayerTwiddles.at c.args.table) c.args.values.now c.reverse_chunks.new.values c.loop-chunk.values (le_of_eq all) sizes.size_is (c.reverse_chunks.ensures g.F.Valued.zero) c.loop-chunk.invariant.chunks,
       c.loop-chunk.invariant.told,
     )
 

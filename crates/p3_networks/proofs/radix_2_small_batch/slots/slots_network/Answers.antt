@@ -42,14 +42,14 @@ evaluate_to_reversed_oop-requires-clause-size g c =
 
 pub loop-place-init : goal.loop-place-init
 loop-place-init g c = record {
-  slots = rows-none g.F.Field.ZERO _ _ _;
+  slots = rows-none g.F.Valued.zero _ _ _;
   grows = le_refl c.args.products.now;
   cost = count_none 1 (c.args.width * (c.args.log_h * 2 ^ c.args.log_h / 2) + 2 ^ c.args.log_h * c.args.width) c.args.products.now;
 }
 
 pub loop-place-preserved : goal.loop-place-preserved
 loop-place-preserved g c =
-    let field = g.F.Field in
+    let field = g.F.Valued in
     let gen = forward_root field g.F.TwoAdicField.generator in
     let k = c.args.log_h in
     let a = c.args.added_bits in
@@ -66,10 +66,10 @@ loop-place-preserved g c =
     ∙ sym (point-mul field.ring gen (k + a) s (rev a (place + 1))) in
     record {
       slots =
-          part-more field.ZERO (2 ^ k * w) _ _ c.loop-place.others c.evaluate_to_reversed_oop.new.values place _ is fits
+          part-more field.zero (2 ^ k * w) _ _ c.loop-place.others c.evaluate_to_reversed_oop.new.values place _ is fits
           (c.evaluate_to_reversed_oop.auto.values ∙ part_length c.loop-place.others _ _ fits ∙ is)
           (λ u inside t j p q at.
-          ap (λ n. field.value (get_or c.evaluate_to_reversed_oop.new.values n field.ZERO)) at
+          ap (λ n. field.value (get_or c.evaluate_to_reversed_oop.new.values n field.zero)) at
           ∙ slot_rows field g.F.TwoAdicField.generator k a w (λ q. q) s c.args.values.now c.split_at_mut-coefficients.result.0.now c.split_at_mut-coefficients.result.1.now c.evaluate_to_reversed_oop.new.values c.split_at_mut-coefficients.ensures.value
           (c.split_at_mut-coefficients.ensures.front_len ∙ is) (λ u l. l) roots _ (place + 1) (2 ^ k) turned c.evaluate_to_reversed_oop.ensures.values _ t j refl p p q)
           c.loop-place.invariant.slots;
@@ -88,7 +88,7 @@ evaluate_to_reversed-requires-clause-size g c =
 
 pub returns-clause-values : goal.returns-clause-values
 returns-clause-values g c =
-    let field = g.F.Field in
+    let field = g.F.Valued in
     let gen = forward_root field g.F.TwoAdicField.generator in
     let k = c.args.log_h in
     let a = c.args.added_bits in
@@ -103,12 +103,12 @@ returns-clause-values g c =
     let first : s ≡ point field.ring gen (k + a) s (rev a 0) =
     sym (point-mul field.ring gen (k + a) s (rev a 0) ∙ ap (λ n. field.ring.mul s (power field.ring (gen (k + a)) n)) (rev_of_zero a)
     ∙ ap (field.ring.mul s) (power-zero field.ring (gen (k + a))) ∙ field.ring.mul_one s) in
-    rows_of_slots field.value field.ZERO k a w front others
-    (λ r j. poly field.ring (2 ^ k) (λ u. field.value (get_or c.args.values.now (u * w + j) field.ZERO)) (point field.ring gen (k + a) s (rev (k + a) r)))
+    rows_of_slots field.value field.zero k a w front others
+    (λ r j. poly field.ring (2 ^ k) (λ u. field.value (get_or c.args.values.now (u * w + j) field.zero)) (point field.ring gen (k + a) s (rev (k + a) r)))
     (c.evaluate_to_reversed.auto.values ∙ c.shift_values.auto.values ∙ size)
     (λ t j p. slot_rows field g.F.TwoAdicField.generator k a w (λ q. q) s c.args.values.now coefficients c.split_at_mut-coefficients.result.1.now front c.split_at_mut-coefficients.ensures.value size (λ u l. l) roots _ 0 (2 ^ k) first
     (values_of_shifted field g.F.TwoAdicField.generator k w s _ coefficients c.shift_values.new.values front (first_shift k a c.requires.fits_u64) c.shift_values.ensures.values c.evaluate_to_reversed.ensures.values) t t j (zero_slot k t) p p)
-    (λ p t j below. earlier_rows field.value field.ZERO k w c.loop-place.place (λ r j. poly field.ring (2 ^ k) (λ u. field.value (get_or c.args.values.now (u * w + j) field.ZERO)) (point field.ring gen (k + a) s (rev (k + a) r)))
+    (λ p t j below. earlier_rows field.value field.zero k w c.loop-place.place (λ r j. poly field.ring (2 ^ k) (λ u. field.value (get_or c.args.values.now (u * w + j) field.zero)) (point field.ring gen (k + a) s (rev (k + a) r)))
     _ others c.loop-place.invariant.slots p t j (before_last p c.loop-place.place _ all below))
 
 pub returns-clause-cost : goal.returns-clause-cost

@@ -7,7 +7,7 @@ use Rattle.p3_networks.proofs.root_tables.RootTables.make.Goals as goal
 
 pub inverse_powers-requires-clause-powers : goal.inverse_powers-requires-clause-powers
 inverse_powers-requires-clause-powers g c =
-    let field = g.F.Field in
+    let field = g.F.Valued in
     let n = c.args.log_h - 1 in
     let whole : c.args.log_h ≡ n + 1 = omega (arith, c.if-log_h-self.false) in
     subst (λ xs. AreTwiddles field (2 ^ n) (block_powers field (forward_root field g.F.TwoAdicField.generator) n) xs) (sym c.as_slice.ensures.value)
@@ -16,7 +16,7 @@ inverse_powers-requires-clause-powers g c =
 
 pub invariant_of-self : goal.invariant_of-self
 invariant_of-self g c =
-    let field = g.F.Field in
+    let field = g.F.Valued in
     let n = c.args.log_h - 1 in
     let whole : c.args.log_h ≡ n + 1 = omega (arith, c.if-log_h-self.false) in
     let half = half_power c.args.log_h (λ e. absurd (omega (arith, e, whole))) in (

@@ -63,17 +63,17 @@ join_scaled-requires g c =
 
 pub returns-clause-chunk : goal.returns-clause-chunk
 returns-clause-chunk g c k cells layers room holds =
-    let field = g.F.Field in
+    let field = g.F.Valued in
     let it = c.args.self.now in
     let n = c.args.number in
     let r = it.log_rows in
     let h = 2 ^ (r - 1) * it.width in
     let p = 2 ^ (r - 1) in
     let before = c.args.chunk.now in
-    let entry = λ (b : ℕ). field.value (get_or it.twiddles.now b field.ZERO) in
+    let entry = λ (b : ℕ). field.value (get_or it.twiddles.now b field.zero) in
     let some = some_layer r c.if-self-eq0.false in
     let sizes = half_sizes r it.width n (length before) some c.requires.0.size in
-    let twiddle = ap field.value (get_or_default it.twiddles.now n c.index-self-number.result field.ZERO (twiddle_place n _ _ sizes.more c.requires.0.enough)) in
+    let twiddle = ap field.value (get_or_default it.twiddles.now n c.index-self-number.result field.zero (twiddle_place n _ _ sizes.more c.requires.0.enough)) in
     let front = c.split_at_mut-low.ensures in
     let low = c.layers_of_tile.new.values in
     let high = c.layers_of_tile-2.new.values in
@@ -84,21 +84,21 @@ returns-clause-chunk g c k cells layers room holds =
     let first_room : (2 * n + 1) * p ≤ 2 ^ k = let next : (2 * n + 1) * p ≡ 2 * n * p + p = omega arith in omega (arith, next, sizes.rows, room) in
     let second_room : (2 * n + 1 + 1) * p ≤ 2 ^ k = let next : (2 * n + 1 + 1) * p ≡ 2 * n * p + 2 * p = omega arith in omega (arith, next, sizes.rows, room) in
     let plain : 0 + (r - 1 - 0) ≡ r - 1 = omega arith in
-    let low_holds : HoldsCells field.value field.ZERO (2 * n * length low) (cells (r - 1)) low =
-    subst (λ (m : ℕ). HoldsCells field.value field.ZERO (2 * n * m) (cells (r - 1)) low) (sym c.layers_of_tile.auto.values)
-    (subst (λ (e : ℕ). HoldsCells field.value field.ZERO (2 * n * length c.split_at_mut-low.result.0.now) (cells e) low) plain
+    let low_holds : HoldsCells field.value field.zero (2 * n * length low) (cells (r - 1)) low =
+    subst (λ (m : ℕ). HoldsCells field.value field.zero (2 * n * m) (cells (r - 1)) low) (sym c.layers_of_tile.auto.values)
+    (subst (λ (e : ℕ). HoldsCells field.value field.zero (2 * n * length c.split_at_mut-low.result.0.now) (cells e) low) plain
     (c.layers_of_tile.ensures.cells.taken k cells layers first_room
-    (low_held field.value field.ZERO (cells 0) before c.split_at_mut-low.result.0.now n h (subst (λ (m : ℕ). c.split_at_mut-low.result.0.now ≡ take m before) sizes.half_is front.front) was_low sizes.whole holds))) in
-    let high_holds : HoldsCells field.value field.ZERO ((2 * n + 1) * length high) (cells (r - 1)) high =
-    subst (λ (m : ℕ). HoldsCells field.value field.ZERO ((2 * n + 1) * m) (cells (r - 1)) high) (sym c.layers_of_tile-2.auto.values)
-    (subst (λ (e : ℕ). HoldsCells field.value field.ZERO ((2 * n + 1) * length c.split_at_mut-low.result.1.now) (cells e) high) plain
+    (low_held field.value field.zero (cells 0) before c.split_at_mut-low.result.0.now n h (subst (λ (m : ℕ). c.split_at_mut-low.result.0.now ≡ take m before) sizes.half_is front.front) was_low sizes.whole holds))) in
+    let high_holds : HoldsCells field.value field.zero ((2 * n + 1) * length high) (cells (r - 1)) high =
+    subst (λ (m : ℕ). HoldsCells field.value field.zero ((2 * n + 1) * m) (cells (r - 1)) high) (sym c.layers_of_tile-2.auto.values)
+    (subst (λ (e : ℕ). HoldsCells field.value field.zero ((2 * n + 1) * length c.split_at_mut-low.result.1.now) (cells e) high) plain
     (c.layers_of_tile-2.ensures.cells.taken k cells layers second_room
-    (high_held field.value field.ZERO (cells 0) before c.split_at_mut-low.result.1.now n h (subst (λ (m : ℕ). c.split_at_mut-low.result.1.now ≡ drop m before) sizes.half_is front.back) was_high sizes.whole holds))) in
-    subst (λ (m : ℕ). HoldsCells field.value field.ZERO (n * m) (λ i. field.ring.mul (cells r i) (field.value it.scale)) (c.join_scaled.new.low ++ c.join_scaled.new.high)) (sym sizes.whole)
-    (joined_held field.ring field.value field.ZERO entry (field.value it.scale) k it.width r n cells low high c.join_scaled.new.low c.join_scaled.new.high some layers room
+    (high_held field.value field.zero (cells 0) before c.split_at_mut-low.result.1.now n h (subst (λ (m : ℕ). c.split_at_mut-low.result.1.now ≡ drop m before) sizes.half_is front.back) was_high sizes.whole holds))) in
+    subst (λ (m : ℕ). HoldsCells field.value field.zero (n * m) (λ i. field.ring.mul (cells r i) (field.value it.scale)) (c.join_scaled.new.low ++ c.join_scaled.new.high)) (sym sizes.whole)
+    (joined_held field.ring field.value field.zero entry (field.value it.scale) k it.width r n cells low high c.join_scaled.new.low c.join_scaled.new.high some layers room
     long also (c.join_scaled.auto.low ∙ long) (c.join_scaled.auto.high ∙ also) low_holds high_holds c.join_scaled.ensures.near
     (λ j inside. c.join_scaled.ensures.far j inside
-    ∙ ap (λ t. field.ring.mul (dif_far field.ring t (field.value (get_or low j field.ZERO)) (field.value (get_or high j field.ZERO))) (field.value it.scale)) twiddle))
+    ∙ ap (λ t. field.ring.mul (dif_far field.ring t (field.value (get_or low j field.zero)) (field.value (get_or high j field.zero))) (field.value it.scale)) twiddle))
 
 pub returns-clause-cost : goal.returns-clause-cost
 returns-clause-cost g c =

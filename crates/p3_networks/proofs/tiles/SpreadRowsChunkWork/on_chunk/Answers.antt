@@ -35,15 +35,15 @@ multiples_of_row-requires g c =
 
 pub returns-clause-chunk : goal.returns-clause-chunk
 returns-clause-chunk g c t j copy inside =
-    let field = g.F.Field in
+    let field = g.F.Valued in
     let it = c.args.self.now in
     let n = it.first + c.args.number in
     let part_len : length c.chunk-row.result.now ≡ it.width = ap length c.chunk-row.ensures ∙ part_size it.rows.now _ _ c.requires.2 in
-    let weight = ap field.value (get_or_default it.weights.now n c.index-self-number-2.result field.ZERO c.requires.3) in
-    let root = ap field.value (get_or_default it.twiddles.now (n * (it.copies / 2)) c.index-self-number.result field.ZERO (root_place n it.copies _ c.requires.0 c.requires.4)) in
-    ap (λ v. field.value (get_or c.multiples_of_row.new.values (t * v + j) field.ZERO)) (sym part_len)
+    let weight = ap field.value (get_or_default it.weights.now n c.index-self-number-2.result field.zero c.requires.3) in
+    let root = ap field.value (get_or_default it.twiddles.now (n * (it.copies / 2)) c.index-self-number.result field.zero (root_place n it.copies _ c.requires.0 c.requires.4)) in
+    ap (λ v. field.value (get_or c.multiples_of_row.new.values (t * v + j) field.zero)) (sym part_len)
     ∙ c.multiples_of_row.ensures.values t j copy (subst (λ v. j < v) (sym part_len) inside)
-    ∙ ap₂ field.ring.mul (ap field.value (ap (λ xs. get_or xs j field.ZERO) c.chunk-row.ensures ∙ part_at it.rows.now (n * it.width) it.width j field.ZERO inside)) (ap₂ (λ x y. field.ring.mul x (power field.ring y t)) weight root)
+    ∙ ap₂ field.ring.mul (ap field.value (ap (λ xs. get_or xs j field.zero) c.chunk-row.ensures ∙ part_at it.rows.now (n * it.width) it.width j field.zero inside)) (ap₂ (λ x y. field.ring.mul x (power field.ring y t)) weight root)
 
 pub returns-clause-cost : goal.returns-clause-cost
 returns-clause-cost g c =

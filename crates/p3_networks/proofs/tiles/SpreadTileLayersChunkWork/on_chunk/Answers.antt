@@ -90,7 +90,7 @@ layers_of_chunk-requires-clause-first g c = c.requires.1.1.1.1
 
 pub returns : goal.returns
 returns g c =
-    let field = g.F.Field in
+    let field = g.F.Valued in
     let it = c.args.self.now in
     let tile = c.args.number in
     let a = it.coefficients.added_bits in
@@ -107,19 +107,19 @@ returns g c =
     let made_all = turns_halved count count size c.args.products.now c.on_each_chunk.new.products refl c.on_each_chunk.ensures.cost in
     let cells_all = whole ∙ ap (λ n. count * n) (sym size_is) in
     let len : length out ≡ length c.args.chunk.now = c.on_each_chunk.auto.values in
-    let made = λ (n q t j : ℕ). field.ring.mul (field.value (get_or it.coefficients.rows.now (q * w + j) field.ZERO))
-    (field.ring.mul (field.value (get_or it.coefficients.weights.now q field.ZERO)) (power field.ring (field.value (get_or it.twiddles.now (q * (n / 2)) field.ZERO)) t)) in
+    let made = λ (n q t j : ℕ). field.ring.mul (field.value (get_or it.coefficients.rows.now (q * w + j) field.zero))
+    (field.ring.mul (field.value (get_or it.coefficients.weights.now q field.zero)) (power field.ring (field.value (get_or it.twiddles.now (q * (n / 2)) field.zero)) t)) in
     record {
       chunk = λ k cells layers room are.
-          subst (λ (n : ℕ). HoldsCells field.value field.ZERO (tile * n) (cells r) c.layers_of_chunk.new.values) len
-          (subst (λ (e : ℕ). HoldsCells field.value field.ZERO (tile * length out) (cells e) c.layers_of_chunk.new.values) (add-sub_of_le added)
+          subst (λ (n : ℕ). HoldsCells field.value field.zero (tile * n) (cells r) c.layers_of_chunk.new.values) len
+          (subst (λ (e : ℕ). HoldsCells field.value field.zero (tile * length out) (cells e) c.layers_of_chunk.new.values) (add-sub_of_le added)
           (c.layers_of_chunk.ensures.cells.taken k cells layers room
-          (subst (λ (e : ℕ). HoldsCells field.value field.ZERO (tile * length out) (cells e) out) (sym (add-zero a))
-          (spread_held field.value field.ZERO (cells a) (made copies) tile count copies (tile * count + count) w out chunk.width
+          (subst (λ (e : ℕ). HoldsCells field.value field.zero (tile * length out) (cells e) out) (sym (add-zero a))
+          (spread_held field.value field.zero (cells a) (made copies) tile count copies (tile * count + count) w out chunk.width
           (len ∙ chunk.size ∙ cells_of_tile count copies (2 ^ r) w sizes.rows) (le_refl (tile * count + count)) sizes.some_copies
           (subst (λ (n : ℕ). (q t j : ℕ) → q < tile * count + count → t < n → j < w → cells a ((q * n + t) * w + j) ≡ made n q t j) (sym sizes.copies_is)
           (subst (λ (n : ℕ). (q t j : ℕ) → q < tile * n + n → t < 2 ^ a → j < w → cells a ((q * 2 ^ a + t) * w + j) ≡ made (2 ^ a) q t j) (sym sizes.count_is) are))
-          (λ q t j below copy column. ap field.value (sym (row_at field.ZERO size copies w q t j out size_is copy column)) ∙ c.on_each_chunk.ensures.chunks q below t j copy column)))));
+          (λ q t j below copy column. ap field.value (sym (row_at field.zero size copies w q t j out size_is copy column)) ∙ c.on_each_chunk.ensures.chunks q below t j copy column)))));
       grows = le_trans c.on_each_chunk.ensures.grows (halved _ _ c.layers_of_chunk.ensures.cost.grows);
       cost = copies_counted (r - a) (count * size) _ _ _ _ _ len cells_all made_all c.layers_of_chunk.ensures.cost.cost;
     }

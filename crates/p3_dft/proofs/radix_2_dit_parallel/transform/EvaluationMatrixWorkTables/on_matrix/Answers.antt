@@ -11,7 +11,7 @@ use Rattle.p3_dft.proofs.radix_2_dit_parallel.transform.EvaluationMatrixWorkTabl
 
 pub returns-clause-takes : goal.returns-clause-takes
 returns-clause-takes g c =
-    let field = g.F.Field in
+    let field = g.F.Valued in
     let gen = g.F.TwoAdicField.generator in
     let k = c.args.log_h in
     let m = c.args.mat.now in

@@ -4,7 +4,7 @@ use Rattle.p3_networks.proofs.radix_2_dit_parallel.coset_tables.CosetTable.is_of
 
 pub returns-then-self-log_h : goal.returns-then-self-log_h
 returns-then-self-log_h g c =
-    let field = g.F.Field in
+    let field = g.F.Valued in
     let s = field.value c.args.shift in
     let law = g.met.F.Field.eq_law c.self.inside.shift c.args.shift in
     subst (λ (t : Coset g.row.F.Denot). (IsTrue c.eq.result → IsCosetOf field c.args.log_h s t) × (IsCosetOf field c.args.log_h s t → IsTrue c.eq.result)) c.self.view_is (

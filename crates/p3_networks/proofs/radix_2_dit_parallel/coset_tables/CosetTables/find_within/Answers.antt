@@ -9,7 +9,7 @@ not_both b fails holds = cc
 
 pub loop-place-preserved : goal.loop-place-preserved
 loop-place-preserved g c i from below at =
-    let field = g.F.Field in
+    let field = g.F.Valued in
     let s = field.value c.args.shift in
     let place = c.loop-place.place in
     ⊎_elim
@@ -24,4 +24,4 @@ returns-clause-none g c none i from below = c.loop-place.invariant i from (omega
 
 pub returns-then-is_of-clause-found : goal.returns-then-is_of-clause-found
 returns-then-is_of-clause-found g c =
-    coset_found g.F.Field c.args.self.now c.args.log_h c.loop-place.place (g.F.Field.value c.args.shift) c.get.result.now (omega (arith, c.requires, c.loop-place-test.true)) c.get.ensures (c.if-is_of.ensures.0 refl)
+    coset_found g.F.Valued c.args.self.now c.args.log_h c.loop-place.place (g.F.Valued.value c.args.shift) c.get.result.now (omega (arith, c.requires, c.loop-place-test.true)) c.get.ensures (c.if-is_of.ensures.0 refl)

@@ -3,7 +3,7 @@ use Rattle.std.proofs.lemmas.Bool.{false≢true}
 use Rattle.std.proofs.lemmas.List.{append-nil, append_assoc}
 use Rattle.std.proofs.lemmas.List.Elements.{All-append, All-cons, All-nil}
 use borrow.Author.Count.{below_more, below_none}
-use Rattle.p3_field.specs.declared.fields.Field.{Ghosts as FieldMembers}
+use Rattle.p3_field.specs.declared.fields.Valued.{Ghosts as FieldMembers}
 use Rattle.p3_matrix.specs.BitOrder.{rev}
 use Rattle.p3_matrix.specs.Cosets.{point, AddsCosets, Coset, HasCoset, IsCosetAt, IsOneOf}
 use Rattle.p3_matrix.proofs.BitReversal.{rev-lt}
@@ -46,13 +46,13 @@ loop-slot-init g c =
 
 pub make_among-requires-clause-others : goal.make_among-requires-clause-others
 make_among-requires-clause-others g c i from at =
-    let field = g.F.Field in
+    let field = g.F.Valued in
     c.loop-slot.invariant.others c.loop-slot.slot (omega arith) (omega (arith, c.loop-slot-test.true)) i from
     (subst (λ (x : field.Element). IsCosetAt field c.loop-slot.self c.args.log_h x i) c.slot_shift-coset.ensures at)
 
 pub returns-in_err-place-clause-keeps : goal.returns-in_err-place-clause-keeps
 returns-in_err-place-clause-keeps g c k x has =
-    coset_kept g.F.Field c.loop-slot.self c.make_among.new.self _ k x c.make_among.ensures.only (c.loop-slot.invariant.keeps k x has)
+    coset_kept g.F.Valued c.loop-slot.self c.make_among.new.self _ k x c.make_among.ensures.only (c.loop-slot.invariant.keeps k x has)
 
 pub returns-in_err-place-clause-only : goal.returns-in_err-place-clause-only
 returns-in_err-place-clause-only g c =
@@ -60,7 +60,7 @@ returns-in_err-place-clause-only g c =
 
 pub returns-in_err-place-clause-succeeds : goal.returns-in_err-place-clause-succeeds
 returns-in_err-place-clause-succeeds g c all =
-    let field = g.F.Field in
+    let field = g.F.Valued in
     let k = c.args.log_h in
     let a = c.args.added_bits in
     absurd (false≢true (c.in_err-place.ensures.succeeds
@@ -68,7 +68,7 @@ returns-in_err-place-clause-succeeds g c all =
 
 pub loop-slot-preserved : goal.loop-slot-preserved
 loop-slot-preserved g c =
-    let field = g.F.Field in
+    let field = g.F.Valued in
     let gen = forward_root field g.F.TwoAdicField.generator in
     let k = c.args.log_h in
     let a = c.args.added_bits in
@@ -97,6 +97,6 @@ loop-slot-preserved g c =
 
 pub returns-clause-made : goal.returns-clause-made
 returns-clause-made g c i below =
-    let field = g.F.Field in
+    let field = g.F.Valued in
     let (m, inside, is) = slot_of_coset field.ring (forward_root field g.F.TwoAdicField.generator) c.args.log_h c.args.added_bits (field.value c.args.shift) c.slots_apart-slots.result i c.slots_apart-slots.ensures below in
     subst (λ (x : field.Element). HasCoset field c.loop-slot.self c.args.log_h x) is (c.loop-slot.invariant.made m (omega (arith, inside, c.loop-slot-test.false)))

@@ -7,7 +7,7 @@ use Rattle.p3_networks.proofs.radix_2_dit_parallel.coset_tables.CosetTables.make
 -- the cosets of the first slots have their tables, and none of those that were made is of another slot's
 abbrev pub invariant-loop-slot : goal.invariant-loop-slot
 invariant-loop-slot g l =
-    let field = g.F.Field in
+    let field = g.F.Valued in
     let k = l.fn.log_h in
     let a = l.fn.added_bits in
     let s = field.value l.fn.shift in

@@ -1,7 +1,7 @@
 use Rattle.std.proofs.Common.{◌≡◌, ℕ, ◌+◌, ◌++◌, List, [], ◌∷◌, length, get_or, length-append, refl, sym, ap, ◌∙◌, subst, arith, rules, inr, ◌<◌, ◌≤◌, ⊎_elim}
 use Rattle.std.proofs.lemmas.Bool.{cases_lt}
 use Rattle.p3_matrix.specs.Cosets.{Coset, HasCoset, IsCosetAt, IsCosetOf}
-use Rattle.p3_field.specs.declared.fields.Field.{Ghosts as FieldMembers}
+use Rattle.p3_field.specs.declared.fields.Valued.{Ghosts as FieldMembers}
 use Rattle.p3_networks.proofs.Layers.Halves.{in_second}
 use Rattle.p3_networks.proofs.radix_2_dit_parallel.coset_tables.CosetTables.make_among.Goals as goal
 
@@ -21,28 +21,28 @@ nowhere f all k n s below behind (i, at) = ⊎_elim (λ less. below i less at) (
 
 pub push-requires : goal.push-requires
 push-requires g c there =
-    nowhere g.F.Field c.args.self.now c.args.log_h c.args.end (g.F.Field.value c.args.shift) (c.find.ensures.none (search rules)) c.requires.others
-    (subst (λ t. HasCoset g.F.Field c.args.self.now t.log_h (g.F.Field.value t.shift)) c.in_ok-table.ensures.made there)
+    nowhere g.F.Valued c.args.self.now c.args.log_h c.args.end (g.F.Valued.value c.args.shift) (c.find.ensures.none (search rules)) c.requires.others
+    (subst (λ t. HasCoset g.F.Valued c.args.self.now t.log_h (g.F.Valued.value t.shift)) c.in_ok-table.ensures.made there)
 
 pub returns-clause-made : goal.returns-clause-made
 returns-clause-made g c =
-    added_last g.F.Field c.args.self.now c.as_slice-place.result.now c.push.new.self c.args.log_h c.args.shift c.in_ok-table.table c.as_slice-place.ensures c.in_ok-push.ensures.added c.in_ok-table.ensures.made
+    added_last g.F.Valued c.args.self.now c.as_slice-place.result.now c.push.new.self c.args.log_h c.args.shift c.in_ok-table.table c.as_slice-place.ensures c.in_ok-push.ensures.added c.in_ok-table.ensures.made
 
 pub returns-clause-once : goal.returns-clause-once
 returns-clause-once g c has =
-    absurd (nowhere g.F.Field c.args.self.now c.args.log_h c.args.end (g.F.Field.value c.args.shift) (c.find.ensures.none (search rules)) c.requires.others has)
+    absurd (nowhere g.F.Valued c.args.self.now c.args.log_h c.args.end (g.F.Valued.value c.args.shift) (c.find.ensures.none (search rules)) c.requires.others has)
 
 pub returns-clause-only : goal.returns-clause-only
 returns-clause-only g c = inr (c.in_ok-push.ensures.added ∙ ap (λ t. c.args.self.now ++ t ∷ []) c.in_ok-table.ensures.made)
 
 pub returns-in_err-push-clause-succeeds : goal.returns-in_err-push-clause-succeeds
 returns-in_err-push-clause-succeeds g c has =
-    absurd (nowhere g.F.Field c.args.self.now c.args.log_h c.args.end (g.F.Field.value c.args.shift) (c.find.ensures.none (search rules)) c.requires.others has)
+    absurd (nowhere g.F.Valued c.args.self.now c.args.log_h c.args.end (g.F.Valued.value c.args.shift) (c.find.ensures.none (search rules)) c.requires.others has)
 
 pub returns-in_err-push-clause-once : goal.returns-in_err-push-clause-once
 returns-in_err-push-clause-once g c has =
-    absurd (nowhere g.F.Field c.args.self.now c.args.log_h c.args.end (g.F.Field.value c.args.shift) (c.find.ensures.none (search rules)) c.requires.others has)
+    absurd (nowhere g.F.Valued c.args.self.now c.args.log_h c.args.end (g.F.Valued.value c.args.shift) (c.find.ensures.none (search rules)) c.requires.others has)
 
 pub returns-in_err-table-clause-succeeds : goal.returns-in_err-table-clause-succeeds
 returns-in_err-table-clause-succeeds g c has =
-    absurd (nowhere g.F.Field c.args.self.now c.args.log_h c.args.end (g.F.Field.value c.args.shift) (c.find.ensures.none (search rules)) c.requires.others has)
+    absurd (nowhere g.F.Valued c.args.self.now c.args.log_h c.args.end (g.F.Valued.value c.args.shift) (c.find.ensures.none (search rules)) c.requires.others has)

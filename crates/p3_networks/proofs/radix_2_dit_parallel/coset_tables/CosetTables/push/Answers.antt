@@ -1,6 +1,6 @@
 use Rattle.std.proofs.Common.{◌≡◌, ◌<◌, ◌≤◌, ℕ, List, [], ◌∷◌, ◌++◌, length, sym, ap, ◌∙◌, subst, ⊎_elim}
 use Rattle.std.proofs.lemmas.Bool.{cases_lt}
-use Rattle.p3_field.specs.declared.fields.Field.{Ghosts as FieldMembers}
+use Rattle.p3_field.specs.declared.fields.Valued.{Ghosts as FieldMembers}
 use Rattle.p3_networks.specs.CosetTables.{HasEachOnce}
 use Rattle.p3_matrix.specs.Cosets.{Coset, HasCoset, IsCosetAt}
 use Rattle.p3_networks.specs.Twiddles.{items_if_any}
@@ -35,11 +35,11 @@ pub invariant_of-self-in_err-pushed : goal.invariant_of-self-in_err-pushed
 invariant_of-self-in_err-pushed g c =
     let held : items_if_any c.self.inside.tables ≡ c.match-take.tables.items =
     elim c.match-take.branch [ in-Some w ↦ rw w.tables-is (ap items_if_any (sym c.take.ensures.value ∙ w.in-Some.is)) | in-None+in_ok-tables-in-None w ↦ rw w.tables-is (ap items_if_any (sym c.take.ensures.value ∙ w.in-None.is) ∙ sym w.in_ok-tables-in-None.ensures.items) ] in
-    subst (HasEachOnce g.F.Field) (held ∙ sym c.in_err-pushed.ensures.items) c.self.invariant
+    subst (HasEachOnce g.F.Valued) (held ∙ sym c.in_err-pushed.ensures.items) c.self.invariant
 
 pub invariant_of-self-2 : goal.invariant_of-self-2
 invariant_of-self-2 g c =
-    let field = g.F.Field in
+    let field = g.F.Valued in
     let s = field.value c.args.table.shift in
     let held : items_if_any c.self.inside.tables ≡ c.match-take.tables.items =
     elim c.match-take.branch [ in-Some w ↦ rw w.tables-is (ap items_if_any (sym c.take.ensures.value ∙ w.in-Some.is)) | in-None+in_ok-tables-in-None w ↦ rw w.tables-is (ap items_if_any (sym c.take.ensures.value ∙ w.in-None.is) ∙ sym w.in_ok-tables-in-None.ensures.items) ] in

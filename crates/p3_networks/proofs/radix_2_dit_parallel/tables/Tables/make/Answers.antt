@@ -15,7 +15,7 @@ invariant_of-self g c = rw c.in_err-make.ensures.refused c.self.invariant
 
 pub invariant_of-self-2 : goal.invariant_of-self-2
 invariant_of-self-2 g c =
-    let field = g.F.Field in
+    let field = g.F.Valued in
     let gen = g.F.TwoAdicField.generator in
     subst (λ (n : ℕ). (length c.in_ok-forward.forward.items ≡ 2 ^ mid_of n - 1) × (length c.in_ok-backward.backward.items ≡ 2 ^ mid_of n - 1)
     × AreTwiddlesOfLayers field (mid_of n) (root_powers field gen false) c.in_ok-forward.forward.items × AreTwiddlesOfLayers field (mid_of n) (root_powers field gen true) c.in_ok-backward.backward.items

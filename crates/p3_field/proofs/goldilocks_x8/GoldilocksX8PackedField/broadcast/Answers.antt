@@ -1,0 +1,6 @@
+use Rattle.std.proofs.Common.{refl}
+use Rattle.p3_field.proofs.ResidueLanes.{same_numbers}
+use Rattle.p3_field.proofs.goldilocks_x8.GoldilocksX8PackedField.broadcast.Goals as goal
+
+pub returns : goal.returns
+returns c = same_numbers _ _ refl

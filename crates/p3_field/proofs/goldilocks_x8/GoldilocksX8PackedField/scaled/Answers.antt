@@ -1,0 +1,27 @@
+use Rattle.std.proofs.Common.{ℕ, List, [], ◌∷◌, zero, suc, ◌≡◌, ◌∙◌, ap, length, map, replicate, arith, ◌*◌, ◌%◌, refl, sym, subst, lit<}
+use Rattle.std.proofs.Math.Nat.{mod-lt}
+use Rattle.std.proofs.lemmas.List.{length-map}
+use Rattle.std.specs.Simd.Lanes.{zip2}
+use Rattle.p3_field.specs.Fields.{goldilocks_modulus}
+use Rattle.p3_field.specs.LaneNumbers.{AreBelow}
+use Rattle.p3_field.proofs.ResidueLanes.{lanes_of_each, each_below}
+use Rattle.p3_field.proofs.goldilocks_x8.GoldilocksX8PackedField.scaled.Goals as goal
+
+with_splat : (t : ℕ) (xs : List ℕ) (n : ℕ) → length xs ≡ n → zip2 (λ x y. (x * y) % goldilocks_modulus) xs (replicate n t) ≡ map (λ x. (x * t) % goldilocks_modulus) xs
+with_splat t [] n e = refl
+with_splat t (x ∷ xs) zero e = absurd (omega (arith, e))
+with_splat t (x ∷ xs) (suc n) e = ap (λ ys. (x * t) % goldilocks_modulus ∷ ys) (with_splat t xs n (omega (arith, e)))
+
+pub invariant_of-result : goal.invariant_of-result
+invariant_of-result c =
+    let f : ℕ → ℕ = λ x. (x * c.args.t.number) % goldilocks_modulus in
+    let is = c.lane_products.ensures ∙ with_splat c.args.t.number c.args.self.lanes 8 c.args.self.eight in
+    record {
+      below = subst (AreBelow goldilocks_modulus) (sym is) (each_below f (λ x. mod-lt (x * c.args.t.number) (lit< tt)) c.args.self.lanes);
+      eight = ap length is ∙ length-map c.args.self.lanes f ∙ c.args.self.eight;
+    }
+
+pub returns-clause-lanes : goal.returns-clause-lanes
+returns-clause-lanes c =
+    lanes_of_each _ _ (λ n h. refl) _ (λ x. (x * c.args.t.number) % goldilocks_modulus) (λ x. refl) c.args.self.lanes c.lane_products.result c.args.self.below _
+    (c.lane_products.ensures ∙ with_splat c.args.t.number c.args.self.lanes 8 c.args.self.eight)

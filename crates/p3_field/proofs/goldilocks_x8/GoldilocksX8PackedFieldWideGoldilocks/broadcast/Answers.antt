@@ -1,6 +1,0 @@
-use Rattle.std.proofs.Common.{refl}
-use Rattle.p3_field.proofs.ResidueLanes.{same_numbers}
-use Rattle.p3_field.proofs.goldilocks_x8.GoldilocksX8PackedFieldWideGoldilocks.broadcast.Goals as goal
-
-pub returns : goal.returns
-returns c = same_numbers _ _ refl

@@ -1,8 +1,0 @@
-use Rattle.std.proofs.Common.{◌∙◌, sym}
-use Rattle.std.proofs.lemmas.Simd.{map-map}
-use Rattle.p3_field.proofs.ResidueLanes.{eight_elements}
-use Rattle.p3_field.proofs.ResidueLanes.{same_numbers}
-use Rattle.p3_field.proofs.goldilocks_x8.GoldilocksX8PackedFieldWideGoldilocks.load.Goals as goal
-
-pub returns : goal.returns
-returns c = same_numbers _ _ (eight_elements _ c.args.from.now _ _ _ _ _ _ _ _ c.requires ∙ sym (map-map _ _ c.args.from.now))

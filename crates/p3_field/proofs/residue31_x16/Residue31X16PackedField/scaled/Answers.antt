@@ -1,0 +1,16 @@
+use Rattle.std.proofs.Common.{◌<◌, arith, ◌*◌, ◌%◌, refl}
+use Rattle.std.proofs.Math.Nat.{mod-lt}
+use Rattle.p3_field.proofs.ResidueLanes.{lanes_of_each, each_packed}
+use Rattle.p3_field.proofs.residue31_x16.Residue31X16PackedField.scaled.Goals as goal
+
+pub invariant_of-result : goal.invariant_of-result
+invariant_of-result g c =
+    let m = g.N.Numbers.numbers.modulus in
+    let positive : 0 < m = omega (arith, g.N.Numbers.numbers.above) in
+    let packed = each_packed (λ x. (x * c.args.t.number) % m) (λ x. mod-lt (x * c.args.t.number) positive) 16 c.args.self.lanes _ c.args.self.sixteen c.multiples.ensures in
+    record { below = packed.0; sixteen = packed.1 }
+
+pub returns-clause-lanes : goal.returns-clause-lanes
+returns-clause-lanes g c =
+    let m = g.N.Numbers.numbers.modulus in
+    lanes_of_each _ _ (λ n h. refl) _ (λ x. (x * c.args.t.number) % m) (λ x. refl) c.args.self.lanes c.multiples.result c.args.self.below _ c.multiples.ensures

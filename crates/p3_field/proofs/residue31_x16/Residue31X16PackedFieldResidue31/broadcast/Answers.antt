@@ -1,6 +1,0 @@
-use Rattle.std.proofs.Common.{refl}
-use Rattle.p3_field.proofs.ResidueLanes.{same_numbers}
-use Rattle.p3_field.proofs.residue31_x16.Residue31X16PackedFieldResidue31.broadcast.Goals as goal
-
-pub returns : goal.returns
-returns g c = same_numbers _ _ refl

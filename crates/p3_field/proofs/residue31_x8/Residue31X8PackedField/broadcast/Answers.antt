@@ -1,0 +1,6 @@
+use Rattle.std.proofs.Common.{refl}
+use Rattle.p3_field.proofs.ResidueLanes.{same_numbers}
+use Rattle.p3_field.proofs.residue31_x8.Residue31X8PackedField.broadcast.Goals as goal
+
+pub returns : goal.returns
+returns g c = same_numbers _ _ refl
