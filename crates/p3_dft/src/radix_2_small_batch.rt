@@ -20,7 +20,7 @@ use p3_matrix::{
     BitReversedMatrixView, DftError, Evaluations, IntoRowMajorMatrix, RowMajorMatrix,
     log2_strict_usize, reverse_rows,
 };
-use p3_networks::groups::{MAX_TILE, Tiling, default_tile, log_tile_rows, piece_size};
+use p3_networks::groups::{DEFAULT_TILE, MAX_TILE, Tiling, log_tile_rows, piece_size};
 use p3_networks::radix_2_small_batch::slots::slots_network;
 use p3_networks::root_tables::RootTables;
 use p3_networks::tiles::{
@@ -67,7 +67,7 @@ impl<F: TwoAdicField> Default for Radix2DFTSmallBatch<F> {
     ghost is_default = { λ e. (e.prepared ≡ 0) × (e.products ≡ 0) };
 
     fn default() -> Self {
-        Self::empty(default_tile::<F>())
+        Self::empty(DEFAULT_TILE)
     }
 }
 
@@ -98,8 +98,8 @@ impl<F: TwoAdicField> Radix2DFTSmallBatch<F> {
     }
 
     /// An engine that is prepared for height `n` and smaller ones. `n` is at most one, which takes no
-    /// memory, or a power of two of at most `2^TWO_ADICITY`. Its tiles have about 32 KiB, 8192
-    /// elements of four bytes or 4096 of eight. An error says that memory for the tables was refused.
+    /// memory, or a power of two of at most `2^TWO_ADICITY`. Its tiles have about 8192 elements, as those of a
+    /// `default` engine have. An error says that memory for the tables was refused.
     pub fn new(alloc: Global, n: usize) -> Result<Self, DftError>
         requires { 2 ≤ n → (k : ℕ) × (n ≡ 2 ^ k) × (k ≤ F.TWO_ADICITY) }
         ensures prepares { IfOk result (λ e. 2 ^ e.prepared ≡ max 1 n) }
@@ -107,7 +107,7 @@ impl<F: TwoAdicField> Radix2DFTSmallBatch<F> {
         ensures products { IfOk result (λ e. e.products ≡ 0) }
         ensures room { IfErr result (IsWithin n) }
     {
-        Self::with_tile(alloc, n, default_tile::<F>())
+        Self::with_tile(alloc, n, DEFAULT_TILE)
     }
 
     /// An engine as `new` makes it, with tiles of about `tile` elements: as many rows as have that many, up to

@@ -13,10 +13,9 @@ use crate::butterfly_layers::{Rule, meet_ranges};
 use crate::chunks::{ChunkWork, on_each_chunk};
 use p3_field::{Products, TwoAdicField};
 use p3_matrix::log2_strict_usize;
-use std::mem::size_of_val;
 
-// How many bytes a tile has where a caller does not say it: those of a small cache.
-const TILE_BYTES: usize = 32768;
+/// About how many elements a tile has where a caller does not say it, over every field.
+pub const DEFAULT_TILE: usize = 8192;
 
 /// The largest number of elements that a tile may have to be about.
 pub const MAX_TILE: usize = 4294967296;
@@ -25,15 +24,6 @@ pub const MAX_TILE: usize = 4294967296;
 const LAYERS_PER_GROUP: usize = 3;
 
 const PARTS: usize = 1 << LAYERS_PER_GROUP;
-
-/// How many elements a tile has where a caller does not say it: as many as a small cache holds.
-pub fn default_tile<F: TwoAdicField>() -> usize
-    ensures nonzero { 1 ≤ result }
-    ensures within { result ≤ MAX_TILE }
-{
-    let element = size_of_val(&F::ZERO).max(1);
-    (TILE_BYTES / element).max(1)
-}
 
 /// The logarithm of the number of rows of a tile of about `tile` elements: the least power of two that is
 /// not below the rows that fit into it, or the height if that is less. `tile` is at most `MAX_TILE`, and

@@ -7,7 +7,7 @@ ghost use Rattle.p3_matrix.specs.BitOrder.{rev};
 ghost use Rattle.p3_networks.specs.Layers.{AreValuesOfRows};
 ghost use Rattle.p3_networks.specs.Twiddles.{AreTwiddles};
 
-use crate::groups::{default_tile, log_tile_rows, piece_size};
+use crate::groups::{DEFAULT_TILE, log_tile_rows, piece_size};
 use crate::tiles::{dif_network, dit_network_to_reversed};
 use p3_field::{Products, TwoAdicField};
 
@@ -34,9 +34,8 @@ pub fn network_g<F: TwoAdicField>(
     ensures grows { products.old ≤ products.new }
     ensures cost { products.new ≤ products.old + width * (log_h * 2 ^ log_h / 2) }
 {
-    let tile = default_tile::<F>();
-    let log_rows = log_tile_rows(tile, width, log_h);
-    let piece = piece_size(tile);
+    let log_rows = log_tile_rows(DEFAULT_TILE, width, log_h);
+    let piece = piece_size(DEFAULT_TILE);
     dif_network(twiddles, values, width, log_rows, log_h, piece, products);
 }
 
@@ -65,8 +64,7 @@ pub fn network_g_transposed<F: TwoAdicField>(
     ensures grows { products.old ≤ products.new }
     ensures cost { products.new ≤ products.old + width * (log_h * 2 ^ log_h / 2) }
 {
-    let tile = default_tile::<F>();
-    let log_rows = log_tile_rows(tile, width, log_h);
-    let piece = piece_size(tile);
+    let log_rows = log_tile_rows(DEFAULT_TILE, width, log_h);
+    let piece = piece_size(DEFAULT_TILE);
     dit_network_to_reversed(twiddles, values, width, log_rows, log_h, piece, products);
 }
