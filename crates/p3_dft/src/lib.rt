@@ -27,8 +27,8 @@ pub use naive::NaiveDft;
 pub use p3_field::power_iterator::Powers;
 pub use p3_field::{
     BabyBear, BabyBearX8, BasedVectorSpace, CanonicalField, Coordinates, Field, FieldOps,
-    Goldilocks, GoldilocksX4, GoldilocksX8, KoalaBear, KoalaBearX8, Lanes, Packable, PackedField,
-    Products, TwoAdicField, Valued, WideBabyBear, WideGoldilocks, WideKoalaBear, scaled,
+    Goldilocks, GoldilocksX8, KoalaBear, KoalaBearX8, Lanes, Packable, PackedField, Products,
+    TwoAdicField, Valued, WideBabyBear, WideGoldilocks, WideKoalaBear, scaled,
 };
 pub use p3_matrix::{
     BitReversedMatrixView, BlockConsumer, BlockLimit, BlockRefused, Butterfly, DftError,

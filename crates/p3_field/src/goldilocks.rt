@@ -9,8 +9,8 @@ ghost use Rattle.p3_field.specs.Fields.{goldilocks_modulus};
 
 use crate::euclid::inverse_modulo;
 use crate::fields::{Field, FieldOps, Valued};
-use crate::goldilocks_x4::GoldilocksX4;
 use crate::goldilocks_x8::GoldilocksX8;
+use crate::lanes::Lanes;
 use crate::packed::{Packable, PackedField, Products};
 use crate::totals::{add_all, multiply_all};
 use crate::two_adic::{CanonicalField, TwoAdicField};
@@ -39,7 +39,7 @@ pub trait GoldilocksPacking: Copy {
     ghost some_law: { 1 ≤ Self.Packing.WIDTH };
 }
 
-/// Four lanes, one after another.
+/// Four lanes, one after another: `Lanes`.
 #[derive(Clone, Copy, Debug)]
 pub struct ScalarLanes;
 
@@ -593,7 +593,7 @@ impl<P: GoldilocksPacking> Packable for GoldilocksIn<P> {
 impl GoldilocksPacking for ScalarLanes {
     ghost use Rattle.std.proofs.Common.{lit≤};
 
-    type Packing = GoldilocksX4;
+    type Packing = Lanes<Goldilocks, 4>;
 
     // So no more than one lane has to lie in registers.
     const ONE_BY_ONE: bool = true;

@@ -7,10 +7,10 @@
 //! `ResiduePacking`: `BabyBear` and `KoalaBear` are made of it. `Goldilocks` has a modulus below `2^64`.
 //! `WideBabyBear`, `WideKoalaBear` and `WideGoldilocks` are the same fields for processors with wider vectors.
 //! `PackedField` handles several scalars by one operation: `Residue31X8` eight and `Residue31X16` sixteen of a
-//! `Residue31`, `GoldilocksX4` four of a `Goldilocks`, `GoldilocksX8` eight of a `WideGoldilocks`, and `Lanes` any number
-//! of any field. `Products` counts the products that were made, for contracts alone. `BasedVectorSpace` is what elements
-//! with coordinates are, as `Coordinates`. `power_iterator` has the powers of an element, and `totals` what the sums and
-//! products of a new field can be made of.
+//! `Residue31`, `GoldilocksX8` eight of a `WideGoldilocks`, and `Lanes` any number of any field, as four of a
+//! `Goldilocks`. `Products` counts the products that were made, for contracts alone. `BasedVectorSpace` is what
+//! elements with coordinates are, as `Coordinates`. `power_iterator` has the powers of an element, and `totals` what
+//! the sums and products of a new field can be made of.
 #![tactic(auto)]
 
 pub mod algebra;
@@ -18,7 +18,6 @@ pub mod baby_bear;
 mod euclid;
 pub mod fields;
 pub mod goldilocks;
-pub mod goldilocks_x4;
 pub mod goldilocks_x8;
 pub mod koala_bear;
 pub mod lanes;
@@ -37,7 +36,6 @@ pub use fields::{Field, FieldOps, Valued};
 pub use goldilocks::{
     Goldilocks, GoldilocksIn, GoldilocksPacking, ScalarLanes, VectorLanes, WideGoldilocks,
 };
-pub use goldilocks_x4::GoldilocksX4;
 pub use goldilocks_x8::GoldilocksX8;
 pub use koala_bear::{KoalaBear, KoalaBearX8, WideKoalaBear};
 pub use lanes::Lanes;
