@@ -1,7 +1,7 @@
 -- Which growths were refused. Private to the contracts of this crate: neither proofs nor other crates can name this file.
 use Rattle.std.specs.Prelude.{◌≡◌, ℕ, ◌≤◌, ⊤}
 
--- memory was refused to a vector that was to have room for at most n elements; no other file can unfold this
+-- memory was refused to a vector that needed room for at most n elements; no other file can unfold this
 pub IsRefused : ℕ → Type 0
 IsRefused n = ⊤
 

@@ -7,6 +7,11 @@
 //! says, of an error, the fact `WasRefused`, which can be shown here alone, each where the allocator, or a length
 //! beyond every memory, refused just that growth. So a function whose error has that fact in a clause was refused
 //! a growth before, in the same call or in an earlier one, from which the fact was kept.
+//!
+//! The number in it is of the elements for which room was needed. `with_capacity`, `from_slice` and `reserve_exact`
+//! ask the allocator for just these. The others ask as std's vectors do, so that many pushes copy little: where the room
+//! at hand is too small, for twice that room if this is more, and for no fewer than 4 elements (8 of one byte, one of
+//! more than 1,024 bytes). Who makes the room first, by one of the three, asks for no more than the number says.
 #![tactic(auto)]
 
 ghost use Rattle.std.specs.Prelude.{◌≡◌, ◌+◌, ◌-◌, ◌<◌, ◌≤◌, ◌++◌, ◌∷◌, [], ℕ, IfOk, IsOk, OnOk, OnErr, is_ok};
@@ -63,7 +68,7 @@ pub fn from_slice<T: Copy>(alloc: Global, from: &[T]) -> Result<Vec<T>, Refused>
     }
 }
 
-/// Makes room for `additional` more elements.
+/// Makes room for `additional` more elements, and for others as `push` does.
 pub fn reserve<T>(items: &mut Vec<T>, additional: usize) -> Result<(), Refused>
     ensures items { items.new.items ≡ items.old.items }
     ensures len { vec_len items.new ≡ vec_len items.old }
@@ -99,7 +104,8 @@ pub fn reserve_exact<T>(items: &mut Vec<T>, additional: usize) -> Result<(), Ref
     }
 }
 
-/// Appends an element. Where memory is refused it is dropped.
+/// Appends an element. A full vector asks for twice the room that it has. Where memory is refused, the element is
+/// dropped.
 pub fn push<T: Drop>(items: &mut Vec<T>, value: T) -> Result<(), Refused>
     ensures items { items.new.items
         ≡ (if is_ok result then items.old.items ++ value ∷ [] else items.old.items) }

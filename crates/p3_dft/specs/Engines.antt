@@ -28,10 +28,10 @@ pub record EngineFacts (E F : Type 0) : Type 1 where
   pub block_rows : ℕ → ℕ → ℕ
   -- how many products an engine has made
   pub products_made : E → ℕ
-  -- for how many more elements than an answer has entries it may ask in one growth: the tables that a list of tables keeps
+  -- for how many more elements than an answer has entries a vector of it may need room: the tables that a list of tables keeps
   pub more_room : E → ℕ
 
--- the facts of an engine whose extensions are an inverse transform and a transform on the larger coset, and published as one block, and which asks for no more room than an answer takes
+-- the facts of an engine whose extensions are an inverse transform and a transform on the larger coset, and published as one block, and which needs no more room than an answer takes
 abbrev pub plain_facts : {E F : Type 0} → (E → ℕ → Type 0) → (E → ℕ → F → Type 0) → (E → ℕ → Type 0) → (ℕ → ℕ → ℕ) → (E → ℕ) → EngineFacts E F
 plain_facts Succeeds SucceedsOnCoset IsLeftPrepared transform_products products_made = record {
   Succeeds = Succeeds;
@@ -53,7 +53,7 @@ module _ {E F : Type 0} (facts : EngineFacts E F) where
     pub grows : facts.products_made before ≤ facts.products_made after
 
   -- an engine after a call of 2 ^ k rows: whatever it answered, at most so many products were made; where it answered the values, what is said of k is known;
-  -- and where it answered an error, the vector that was refused was to have room for no more elements than the answer has entries, and those that the engine may ask for besides
+  -- and where it answered an error, the vector that was refused needed room for no more elements than the answer has entries, and those that the engine may need besides
   pub record IsAfter {A : Type 0} (before after : E) (result : Result A DftError) (height : ℕ) (known : ℕ → Type 0) (products : ℕ → ℕ) (entries : ℕ) : Type 0 where
     pub later : IsLater before after
     pub prepared : IsOk result → AtLog height known

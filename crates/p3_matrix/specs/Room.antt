@@ -4,6 +4,6 @@ use Rattle.growth.specs.Refusals.{WasRefused}
 use Rattle.p3_matrix.specs.declared.error.DftError.{DftError}
 use Rattle.p3_matrix.specs.declared.error.DftError.TheVariants.{OutOfMemory}
 
--- memory was refused to a vector that was to have room for at most n elements
+-- memory was refused to a vector that needed room for at most n elements
 abbrev pub IsWithin : ℕ → DftError → Type 0
 IsWithin n OutOfMemory = WasRefused n
