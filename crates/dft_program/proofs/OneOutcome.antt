@@ -18,7 +18,7 @@ use Rattle.dft_program.specs.declared.fault.Fault.{Fault}
 use Rattle.dft_program.specs.declared.fault.Stopped.{Stopped}
 use Rattle.dft_program.specs.declared.fault.Stopped.TheVariants.{OutOfMemory}
 use Rattle.dft_program.specs.declared.names.FieldName.{FieldName}
-use Rattle.dft_program.specs.declared.names.FieldName.TheVariants.{BabyBear, Goldilocks, WideGoldilocks}
+use Rattle.dft_program.specs.declared.names.FieldName.TheVariants.{BabyBear, Goldilocks}
 use Rattle.dft_program.specs.declared.names.Operation.{Operation}
 use Rattle.dft_program.specs.declared.program.Request.{Request}
 use Rattle.dft_program.specs.Answers.{IsText, asked_job}
@@ -97,12 +97,10 @@ module _ (f : FieldNumbers) (operation : Operation) (words : List (List ℕ)) wh
 one_in : (name : FieldName) (operation : Operation) (words : List (List ℕ)) (o p : Outcome) → IsOutcomeIn name operation words o → IsOutcomeIn name operation words p → o ≡ p
 one_in BabyBear operation words o p x y = one_of_field baby_bear_numbers operation words o p x y
 one_in Goldilocks operation words o p x y = one_of_field goldilocks_numbers operation words o p x y
-one_in WideGoldilocks operation words o p x y = one_of_field goldilocks_numbers operation words o p x y
 
 some_in : (name : FieldName) (operation : Operation) (words : List (List ℕ)) → (o : Outcome) × IsOutcomeIn name operation words o
 some_in BabyBear operation words = some_of_field baby_bear_numbers operation words
 some_in Goldilocks operation words = some_of_field goldilocks_numbers operation words
-some_in WideGoldilocks operation words = some_of_field goldilocks_numbers operation words
 
 abbrev IsAskedOutcome : Result Request Fault → List (List ℕ) → Outcome → Type 0
 IsAskedOutcome r words o = FaultOr r (λ request. IsOutcomeIn request.field request.operation words) o

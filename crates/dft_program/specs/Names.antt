@@ -17,7 +17,6 @@ abbrev pub fields : List (List ℕ × FieldName)
 fields =
     (codes "babybear", field.BabyBear)
     ∷ (codes "goldilocks", field.Goldilocks)
-    ∷ (codes "wide-goldilocks", field.WideGoldilocks)
     ∷ []
 
 abbrev pub engines : List (List ℕ × EngineName)

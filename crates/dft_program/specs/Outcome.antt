@@ -10,7 +10,7 @@ use Rattle.dft_program.specs.declared.fault.Stopped.{Stopped}
 use Rattle.dft_program.specs.declared.fault.Stopped.TheVariants.{ByFault, OutOfMemory}
 use Rattle.dft_program.specs.Refusals.{SomeRefused}
 use Rattle.dft_program.specs.declared.names.FieldName.{FieldName}
-use Rattle.dft_program.specs.declared.names.FieldName.TheVariants.{BabyBear, Goldilocks, WideGoldilocks}
+use Rattle.dft_program.specs.declared.names.FieldName.TheVariants.{BabyBear, Goldilocks}
 use Rattle.dft_program.specs.declared.names.Operation.{Operation}
 use Rattle.dft_program.specs.declared.program.Request.{Request}
 use Rattle.dft_program.specs.Answers.{IsText, asked_job}
@@ -58,7 +58,6 @@ IsOutcomeOver f operation words o = FaultOr (arguments f operation words) (IsAns
 abbrev pub IsOutcomeIn : FieldName → Operation → List (List ℕ) → Outcome → Type 0
 IsOutcomeIn BabyBear operation words o = IsOutcomeOver (residue_field baby_bear_numbers) operation words o
 IsOutcomeIn Goldilocks operation words o = IsOutcomeOver (residue_field goldilocks_numbers) operation words o
-IsOutcomeIn WideGoldilocks operation words o = IsOutcomeOver (residue_field goldilocks_numbers) operation words o
 
 -- the outcome of the words after the program's name
 abbrev pub IsOutcome : List (List ℕ) → Outcome → Type 0

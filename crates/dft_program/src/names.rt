@@ -10,8 +10,6 @@ use std::str;
 pub enum FieldName {
     BabyBear,
     Goldilocks,
-    // Goldilocks in the lanes of vectors.
-    WideGoldilocks,
 }
 
 impl FieldName {
@@ -23,7 +21,6 @@ impl FieldName {
         match str::from_utf8(word).ok()? {
             "babybear" => Some(FieldName::BabyBear),
             "goldilocks" => Some(FieldName::Goldilocks),
-            "wide-goldilocks" => Some(FieldName::WideGoldilocks),
             _ => None,
         }
     }

@@ -21,8 +21,8 @@ use crate::sink::{Sink, write_text};
 use crate::words::{CommandLine, words_after_name};
 use p3_dft::{
     BabyBear, CanonicalField, DftError, Goldilocks, Job, NaiveDft, Radix2Bowers,
-    Radix2DFTSmallBatch, Radix2Dit, Radix2DitParallel, RowMajorMatrix, TwoAdicSubgroupDft,
-    WideGoldilocks, growth, run_jobs,
+    Radix2DFTSmallBatch, Radix2Dit, Radix2DitParallel, RowMajorMatrix, TwoAdicSubgroupDft, growth,
+    run_jobs,
 };
 use std::alloc::Global;
 
@@ -151,9 +151,6 @@ fn answer_in_field(alloc: Global, request: Request, words: &[Vec<u8>]) -> Result
         }
         FieldName::Goldilocks => {
             answer_in::<Goldilocks>(alloc, request.engine, request.operation, words)
-        }
-        FieldName::WideGoldilocks => {
-            answer_in::<WideGoldilocks>(alloc, request.engine, request.operation, words)
         }
     }
 }

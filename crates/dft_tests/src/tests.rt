@@ -233,7 +233,7 @@ fn every_operation_answers_over_goldilocks(rt: HostRuntime) {
     let on_seven = "33\n7881299347898373\n18446744069414584298\n18438862770066685958\n";
     let rows: [(&[&str], &str); 10] = [
         (
-            &["wide-goldilocks", "small", "dft", "1", "1", "2", "3", "4"],
+            &["goldilocks", "small", "dft", "1", "1", "2", "3", "4"],
             "10\n18446181119461163007\n18446744069414584319\n562949953421310\n",
         ),
         (
@@ -312,13 +312,17 @@ fn the_first_fault_is_printed(rt: HostRuntime) {
     let not_below = "error 6: number not below the modulus\n";
     let unfit_shape = "error 7: shape does not fit\n";
     let no_inverse = "error 8: shift has no inverse\n";
-    let rows: [(&[&str], &str); 37] = [
+    let rows: [(&[&str], &str); 38] = [
         (&[], too_few_words),
         (&["babybear"], too_few_words),
         (&["babybear", "naive", "dft", "1"], too_few_words),
         (&["babybear", "naive", "dft", "0"], too_few_words),
         (&["x"], unknown_field),
         (&["x", "y", "z"], unknown_field),
+        (
+            &["wide-goldilocks", "naive", "dft", "1", "7"],
+            unknown_field,
+        ),
         (&["babybear", "x"], unknown_engine),
         (&["babybear", "naive", "x"], unknown_operation),
         (&["babybear", "naive", "dft", "1", "-1", "2"], not_a_number),

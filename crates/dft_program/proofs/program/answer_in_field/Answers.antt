@@ -15,8 +15,3 @@ pub returns-in-Goldilocks : goal.returns-in-Goldilocks
 returns-in-Goldilocks c =
     subst (λ (field : FieldName). Gives c.answer_in-in-Goldilocks.result (IsOutcomeIn field c.args.request.operation (map vec_items c.args.words.now))) (sym c.in-Goldilocks.is)
     (c.answer_in-in-Goldilocks.ensures (residue_of goldilocks_modulus (lit< tt) refl) (λ n below. omega arith))
-
-pub returns-in-WideGoldilocks : goal.returns-in-WideGoldilocks
-returns-in-WideGoldilocks c =
-    subst (λ (field : FieldName). Gives c.answer_in-in-WideGoldilocks.result (IsOutcomeIn field c.args.request.operation (map vec_items c.args.words.now))) (sym c.in-WideGoldilocks.is)
-    (c.answer_in-in-WideGoldilocks.ensures (residue_of goldilocks_modulus (lit< tt) refl) (λ n below. omega arith))
