@@ -3,6 +3,7 @@ pub mod Shapes
 pub mod Told
 pub mod Took
 pub mod Unnamed
+pub mod Refused
 pub mod Elements
 pub mod Inverses
 pub mod OneOutcome

@@ -8,7 +8,6 @@ ghost use Rattle.dft_program.specs.Refusals.{SomeRefused};
 ghost use Rattle.dft_program.specs.Text.{line_of_numbers, text_of_rows, spaced};
 
 use crate::arguments::{element_of, number_or_zero};
-use itoa::Buffer;
 use p3_dft::{CanonicalField, Refused, RowMajorMatrix, growth};
 use std::alloc::Global;
 
@@ -51,6 +50,7 @@ pub fn text_of<F: CanonicalField>(
 }
 
 // Adds a line: the numbers in decimal, with one space between them.
+#[tactic(auto, using(crate::proofs::Refused::some_refused))]
 fn push_line<F: CanonicalField>(text: &mut Vec<u8>, row: &[F]) -> Result<(), Refused>
     ensures refused { OnErr result SomeRefused }
     ensures line { OnOk result (text.new.items
@@ -76,9 +76,14 @@ fn push_numbers<F: CanonicalField>(text: &mut Vec<u8>, row: &[F]) -> Result<(), 
     Ok(())
 }
 
+// Adds the digits of a number. Texts of std's own take memory without evidence where it is refused.
+#[tactic(auto, using(crate::proofs::Refused::some_refused))]
 fn push_number(text: &mut Vec<u8>, number: u64) -> Result<(), Refused>
     ensures refused { OnErr result SomeRefused }
     ensures number { OnOk result (text.new.items ≡ text.old.items ++ decimal number) }
 {
-    growth::extend_from_slice(text, Buffer::new().format(number).as_bytes())
+    if 10 <= number {
+        push_number(text, number / 10)?;
+    }
+    growth::push(text, b'0' + (number % 10) as u8)
 }

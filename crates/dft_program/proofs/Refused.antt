@@ -1,0 +1,8 @@
+-- Evidence of a refused growth, whatever it was for.
+use Rattle.std.proofs.Common.{ℕ, Result, Ok, Err, OnErr}
+use Rattle.growth.specs.Refusals.{WasRefused}
+use Rattle.dft_program.specs.Refusals.{SomeRefused}
+
+pub some_refused : {T E : Type 0} (r : Result T E) (n : ℕ) → OnErr r (WasRefused n) → OnErr r SomeRefused
+some_refused (Ok value) n h = tt
+some_refused (Err error) n h = (n, h)
