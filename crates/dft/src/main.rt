@@ -6,12 +6,12 @@
 
 use dft_program::counted::Counted;
 use dft_program::environment::Environment;
-use dft_program::program::run;
+use dft_program::program::run_command_line;
 use std::io;
 use std::process::ExitCode;
 
 fn main(rt: HostRuntime) -> ExitCode {
     let mut line = Environment::new(&rt);
     let mut out = Counted::new(io::writer(&rt));
-    ExitCode::from(run(rt.alloc(), &mut line, &mut out))
+    ExitCode::from(run_command_line(rt.alloc(), &mut line, &mut out))
 }

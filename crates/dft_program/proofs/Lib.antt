@@ -2,7 +2,7 @@ pub mod Lines
 pub mod Shapes
 pub mod Told
 pub mod Took
-pub mod Unnamed
+pub mod Texts
 pub mod Refused
 pub mod Elements
 pub mod Inverses

@@ -1,7 +1,12 @@
--- Words that were told one after another.
-use Rattle.std.proofs.Common.{◌≡◌, ℕ, ◌+◌, List, [], ◌∷◌, ◌++◌, length, map, Option, Some, option_map, Result, Ok, Err, OnErr, ◌⊎◌, inl, inr, ap, sym, ◌∙◌, add-zero, append_assoc, arith}
+-- Words that were told one after another, and their texts.
+use Rattle.std.proofs.Common.{◌≡◌, ℕ, ◌+◌, Bool, true, false, String, Vec, IfOk, IsOk, refl, subst, if◌then◌else◌, List, [], ◌∷◌, ◌++◌, length, map, Option, Some, option_map, Result, Ok, Err, OnErr, ◌⊎◌, inl, inr, ap, sym, ◌∙◌, add-zero, append_assoc, arith}
 use Rattle.std.proofs.lemmas.List.{length-map, map-append}
-use Rattle.dft_program.specs.Words.{Told, ToldFirst, told_at, words_from}
+use Rattle.std.proofs.lemmas.Str.{IsUtf8-from_is_utf8, IsUtf8-string_bytes, is_utf8-from_IsUtf8}
+use Rattle.std.specs.Result.{result_unwrap_or}
+use Rattle.std.specs.Str.{IsUtf8, is_utf8}
+use Rattle.std.specs.String.{string_bytes, string_vec}
+use Rattle.std.specs.Vec.{vec_items}
+use Rattle.dft_program.specs.Words.{Told, ToldFirst, text_of_word, told_at, words_from}
 
 -- one more word
 words_from-append : (place : ℕ) (words : List (List ℕ)) (word : List ℕ)
@@ -14,24 +19,51 @@ words_from-append place (first ∷ words) word =
 
 -- after the words so far, a word behind them
 module _ (old mid new : List Told) (words : List (List ℕ)) (n : ℕ) (so_far : ToldFirst old mid words) (many : n ≡ length words) where
-  pub one_more : (word : List ℕ) → new ≡ mid ++ told_at (1 + n) (Some word) → ToldFirst old new (words ++ word ∷ [])
+  one_more : (word : List ℕ) → new ≡ mid ++ told_at (1 + n) (Some word) → ToldFirst old new (words ++ word ∷ [])
   one_more word is =
       is ∙ ap (λ told. told ++ told_at (1 + n) (Some word)) so_far
       ∙ append_assoc old (words_from 1 words) (told_at (1 + n) (Some word))
       ∙ ap (λ k. old ++ (words_from 1 words ++ told_at (1 + k) (Some word))) many
       ∙ ap (λ told. old ++ told) (sym (words_from-append 1 words word))
 
--- the same of words that were kept, and one that may have been there
-module _ {X : Type 0} (bytes : X → List ℕ) (old mid new : List Told) (kept : List X) (n : ℕ) (so_far : ToldFirst old mid (map bytes kept)) (many : n ≡ length kept) where
-  pub maybe_one_more : (new ≡ mid) ⊎ ((word : List ℕ) × (new ≡ mid ++ told_at (1 + n) (Some word))) → (words : List (List ℕ)) × ToldFirst old new words
-  maybe_one_more (inl same) = (map bytes kept, same ∙ so_far)
-  maybe_one_more (inr one) = (map bytes kept ++ one.0 ∷ [], one_more old mid new (map bytes kept) n so_far (many ∙ sym (length-map kept bytes)) one.0 one.1)
+-- since then words were told whose texts were kept
+abbrev pub KeptFirst : {X : Type 0} → (X → List ℕ) → List Told → List Told → List X → Type 0
+KeptFirst bytes old new kept = (words : List (List ℕ)) × ToldFirst old new words × (map bytes kept ≡ map text_of_word words)
 
-  pub one_kept : (found : Option X) (word : X) → new ≡ mid ++ told_at (1 + n) (option_map bytes found) → found ≡ Some word → ToldFirst old new (map bytes (kept ++ word ∷ []))
-  one_kept found word is there =
-      one_more old mid new (map bytes kept) n so_far (many ∙ sym (length-map kept bytes)) (bytes word)
-      (is ∙ ap (λ (found : Option X). mid ++ told_at (1 + n) (option_map bytes found)) there)
-      ∙ ap (λ words. old ++ words_from 1 words) (sym (map-append bytes kept (word ∷ [])))
+-- the same of texts that were kept, and of a word that may have been there
+module _ {X : Type 0} (bytes : X → List ℕ) (old mid new : List Told) (kept : List X) (n : ℕ) (so_far : KeptFirst bytes old mid kept) (many : n ≡ length kept) where
+  as_many : n ≡ length so_far.0
+  as_many = many ∙ sym (length-map kept bytes) ∙ ap length so_far.2 ∙ length-map so_far.0 text_of_word
+
+  pub maybe_one_more : (new ≡ mid) ⊎ ((word : List ℕ) × (new ≡ mid ++ told_at (1 + n) (Some word))) → (words : List (List ℕ)) × ToldFirst old new words
+  maybe_one_more (inl same) = (so_far.0, same ∙ so_far.1)
+  maybe_one_more (inr one) = (so_far.0 ++ one.0 ∷ [], one_more old mid new so_far.0 n so_far.1 as_many one.0 one.1)
+
+  module _ {W : Type 0} (view : W → List ℕ) (found : Option W) (word : W) (is : new ≡ mid ++ told_at (1 + n) (option_map view found)) (there : found ≡ Some word) where
+    pub one_told : ToldFirst old new (so_far.0 ++ view word ∷ [])
+    one_told = one_more old mid new so_far.0 n so_far.1 as_many (view word) (is ∙ ap (λ (found : Option W). mid ++ told_at (1 + n) (option_map view found)) there)
+
+    pub one_kept : (text : X) → bytes text ≡ text_of_word (view word) → KeptFirst bytes old new (kept ++ text ∷ [])
+    one_kept text same = (
+      so_far.0 ++ view word ∷ [],
+      one_told,
+      map-append bytes kept (text ∷ [])
+      ∙ ap (λ texts. texts ++ bytes text ∷ []) so_far.2
+      ∙ ap (λ t. map text_of_word so_far.0 ++ t ∷ []) same
+      ∙ sym (map-append text_of_word so_far.0 (view word ∷ [])),
+    )
+
+-- the text of a word is what was read of it, where that is UTF-8
+pub text_of : {Z E : Type 0} (word : Vec ℕ Z) (read : Result (String Z) E) (empty : String Z) → IfOk read (λ text. string_vec text ≡ word) → (IsUtf8 (vec_items word) → IsOk read)
+    → string_bytes empty ≡ [] → string_bytes (result_unwrap_or read empty) ≡ text_of_word (vec_items word)
+text_of word (Ok text) empty same reads none =
+    let bytes : string_bytes text ≡ vec_items word = ap vec_items same in
+    rw (is_utf8-from_IsUtf8 (vec_items word) (subst IsUtf8 bytes (IsUtf8-string_bytes text))) bytes
+text_of word (Err error) empty same reads none = by_cases (is_utf8 (vec_items word)) refl
+  where
+    by_cases : (b : Bool) → is_utf8 (vec_items word) ≡ b → string_bytes empty ≡ (if b then vec_items word else [])
+    by_cases true e = absurd (cc (reads (IsUtf8-from_is_utf8 (vec_items word) e)))
+    by_cases false e = none
 
 -- what holds at all holds of an error
 pub on_err : {T E P : Type 0} (r : Result T E) → P → OnErr r P

@@ -1,7 +1,7 @@
 -- Words as numbers: digits, what `parse` of std gives for them, and the numbers of a list of words.
-use Rattle.std.proofs.Common.{◌≡◌, ◌≢◌, ℕ, ◌<◌, ◌^◌, List, length, true, Result, Ok, Err, Some, None, get_or, rules, arith, ap, sym, ◌∙◌, ◌-◌, Vec, map, take, drop, length-drop}
+use Rattle.std.proofs.Common.{◌≡◌, ◌≢◌, ℕ, ◌<◌, ◌^◌, List, length, true, Result, Ok, Err, Some, None, get_or, rules, arith, ap, sym, ◌∙◌, ◌-◌, String, map, take, drop, length-drop}
 use Rattle.std.specs.Global.{Global}
-use Rattle.std.specs.Vec.{vec_items}
+use Rattle.std.specs.String.{string_bytes}
 use Rattle.std.specs.Str.{all_ascii_digits, IsUtf8}
 use Rattle.std.proofs.lemmas.Fmt.{IsAscii-from_digits}
 use Rattle.std.proofs.lemmas.Str.{IsUtf8-from_ascii}
@@ -43,7 +43,7 @@ pub no_text : (bs : List ℕ) → (IsUtf8 bs → ⊥) → number_of bs ≡ None
 no_text bs h = number-none bs (λ p. h (IsUtf8-from_ascii bs (IsAscii-from_digits bs (digits.to bs p.0))))
 
 -- the numbers of the words behind the first k
-pub numbers_behind : (k : ℕ) (words : List (Vec ℕ Global)) → numbers_of (take (length words - k) (drop k words)) ≡ drop k (map number_or_zero (map vec_items words))
+pub numbers_behind : (k : ℕ) (words : List (String Global)) → numbers_of (take (length words - k) (drop k words)) ≡ drop k (map number_or_zero (map string_bytes words))
 numbers_behind k words =
     ap numbers_of (take_all (length words - k) (drop k words) (omega (arith, length-drop k words)))
-    ∙ sym (ap (drop k) (map-map number_or_zero vec_items words) ∙ drop-map (λ word. number_or_zero (vec_items word)) k words)
+    ∙ sym (ap (drop k) (map-map number_or_zero string_bytes words) ∙ drop-map (λ word. number_or_zero (string_bytes word)) k words)

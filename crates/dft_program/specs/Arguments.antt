@@ -1,8 +1,8 @@
 -- The words behind the operation's name: what they ask for, and what can be wrong with them.
-use Rattle.std.specs.Prelude.{ℕ, zero, suc, ◌+◌, ◌*◌, ◌/◌, ◌%◌, ◌^◌, ◌==◌, Bool, false, not, ◌||◌, ◌&&◌, List, [], ◌∷◌, length, map, drop, slice_index, Option, Some, None, is_some, unwrap_or, Result, Vec, nat_le, nat_lt, if◌then◌else◌}
+use Rattle.std.specs.Prelude.{ℕ, zero, suc, ◌+◌, ◌*◌, ◌/◌, ◌%◌, ◌^◌, ◌==◌, Bool, false, not, ◌||◌, ◌&&◌, List, [], ◌∷◌, length, map, drop, slice_index, Option, Some, None, is_some, unwrap_or, Result, String, nat_le, nat_lt, if◌then◌else◌}
 use Rattle.std.specs.Global.{Global}
 use Rattle.std.specs.List.{list_any}
-use Rattle.std.specs.Vec.{vec_items}
+use Rattle.std.specs.String.{string_bytes}
 use Rattle.dft_program.specs.declared.fault.Fault.{Fault}
 use Rattle.dft_program.specs.declared.fault.Fault.TheVariants.{TooFewWords, NotANumber, NotBelowModulus, UnfitShape, NoInverse}
 use Rattle.dft_program.specs.declared.names.Operation.{Operation}
@@ -16,8 +16,8 @@ abbrev pub number_or_zero : List ℕ → ℕ
 number_or_zero word = unwrap_or (number_of word) 0
 
 -- those of a list of words
-abbrev pub numbers_of : List (Vec ℕ Global) → List ℕ
-numbers_of words = map (λ word. number_or_zero (vec_items word)) words
+abbrev pub numbers_of : List (String Global) → List ℕ
+numbers_of words = map (λ word. number_or_zero (string_bytes word)) words
 
 -- one of the words is no number
 abbrev pub has_no_number : List (List ℕ) → Bool

@@ -1,5 +1,6 @@
 -- The words of a command line: what its answers reported of them.
 use Rattle.std.specs.Prelude.{◌≡◌, ℕ, ◌+◌, List, [], ◌∷◌, ◌++◌, Option, Some, None, Result, Ok, Err, length, take, ◌==◌, if◌then◌else◌}
+use Rattle.std.specs.Str.{is_utf8}
 use Rattle.dft_program.specs.Accounts.{Call}
 use Rattle.std.specs.declared.env.FillError.{FillError}
 use Rattle.std.specs.declared.env.FillError.TheVariants.{NotPresent, TooLong}
@@ -12,6 +13,10 @@ pub record Told : Type 0 where
 -- the same of a call of an account: a word where it did not fail
 abbrev pub told_of : Call → Told
 told_of call = record { place = call.place; word = if call.failures == 0 then Some call.bytes else None }
+
+-- the text of a word: empty where the word is no UTF-8
+abbrev pub text_of_word : List ℕ → List ℕ
+text_of_word word = if is_utf8 word then word else []
 
 -- a word, or that there is none, at a place
 abbrev pub told_at : ℕ → Option (List ℕ) → List Told

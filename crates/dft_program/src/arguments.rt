@@ -1,7 +1,7 @@
 //! What the words behind the operation's name ask for.
 
 ghost use Rattle.std.specs.Prelude.{◌≡◌, ◌*◌, ◌/◌, ◌<◌, ℕ, List, map, length, IfOk, false, true};
-ghost use Rattle.std.specs.Vec.{vec_items};
+ghost use Rattle.std.specs.String.{string_bytes};
 ghost use Rattle.p3_field.specs.Ring.{IsInvertible};
 ghost use Rattle.p3_dft.specs.Shapes.{FitsLde};
 ghost use Rattle.dft_program.specs.declared.names.Operation.TheVariants.{CosetIdft};
@@ -22,13 +22,13 @@ pub struct Arguments<'a> {
     pub added_bits: usize,
     pub shift: u64,
     pub width: usize,
-    pub values: &'a [Vec<u8>],
+    pub values: &'a [String],
 }
 
 /// What the words behind the operation's name ask for, or their first fault.
 pub fn parse_arguments<F: CanonicalField>(
     operation: Operation,
-    words: &[Vec<u8>],
+    words: &[String],
 ) -> Result<Arguments<'_>, Fault>
     ensures exact { (element : ℕ → F.Element) → ((n : ℕ) → n < F.ORDER_U64 → F.number (element n) ≡ n)
         → seen (λ a. record {
@@ -38,7 +38,7 @@ pub fn parse_arguments<F: CanonicalField>(
           values = numbers_of a.values.now;
         }) result
         ≡ arguments (numbered F.Valued.own F.generator F.TWO_ADICITY F.ORDER_U64 element) operation
-        (map vec_items words.now) }
+        (map string_bytes words.now) }
     ensures below { IfOk result (λ a. reaches F.ORDER_U64 (numbers_of a.values.now) ≡ false) }
     ensures shift_below { IfOk result (λ a. a.shift < F.ORDER_U64) }
     ensures full { IfOk result (λ a. (length a.values.now / a.width) * a.width ≡ length a.values.now) }
@@ -80,44 +80,44 @@ fn settings(operation: Operation) -> usize
     }
 }
 
-fn arguments_of(operation: Operation, words: &[Vec<u8>]) -> Arguments<'_>
+fn arguments_of(operation: Operation, words: &[String]) -> Arguments<'_>
     requires { settings operation < length words.now }
     ensures added_bits { result.added_bits
-        ≡ (arguments_of operation (map number_or_zero (map vec_items words.now))).added_bits }
-    ensures shift { result.shift ≡ (arguments_of operation (map number_or_zero (map vec_items words.now))).shift }
-    ensures width { result.width ≡ (arguments_of operation (map number_or_zero (map vec_items words.now))).width }
+        ≡ (arguments_of operation (map number_or_zero (map string_bytes words.now))).added_bits }
+    ensures shift { result.shift ≡ (arguments_of operation (map number_or_zero (map string_bytes words.now))).shift }
+    ensures width { result.width ≡ (arguments_of operation (map number_or_zero (map string_bytes words.now))).width }
     ensures values { numbers_of result.values.now
-        ≡ (arguments_of operation (map number_or_zero (map vec_items words.now))).values }
+        ≡ (arguments_of operation (map number_or_zero (map string_bytes words.now))).values }
 {
     let behind = settings(operation);
-    let first = number_or_zero(words[0].as_slice());
+    let first = number_or_zero(words[0].as_str());
     let (added_bits, shift) = match operation {
         Operation::Dft | Operation::Idft => (0, 0),
         Operation::CosetDft | Operation::CosetIdft => (0, first),
         Operation::Lde => (first as usize, 0),
-        Operation::CosetLde => (first as usize, number_or_zero(words[1].as_slice())),
+        Operation::CosetLde => (first as usize, number_or_zero(words[1].as_str())),
     };
     Arguments {
         added_bits,
         shift,
-        width: number_or_zero(words[behind - 1].as_slice()) as usize,
+        width: number_or_zero(words[behind - 1].as_str()) as usize,
         values: &words[behind..],
     }
 }
 
 /// The number that a word is, where it is one.
-pub fn number_or_zero(word: &[u8]) -> u64
+pub fn number_or_zero(word: &str) -> u64
     ensures { result ≡ number_or_zero word.now }
 {
     number(word).unwrap_or(0)
 }
 
 // Whether one of the words is no number.
-fn has_no_number(words: &[Vec<u8>]) -> bool
-    ensures { result ≡ has_no_number (map vec_items words.now) }
+fn has_no_number(words: &[String]) -> bool
+    ensures { result ≡ has_no_number (map string_bytes words.now) }
 {
     for word in words {
-        if number(word.as_slice()).is_none() {
+        if number(word.as_str()).is_none() {
             return true;
         }
     }
@@ -125,11 +125,11 @@ fn has_no_number(words: &[Vec<u8>]) -> bool
 }
 
 // Whether one of the words' numbers is the modulus or more.
-fn reaches(modulus: u64, words: &[Vec<u8>]) -> bool
+fn reaches(modulus: u64, words: &[String]) -> bool
     ensures { result ≡ reaches modulus (numbers_of words.now) }
 {
     for word in words {
-        if modulus <= number_or_zero(word.as_slice()) {
+        if modulus <= number_or_zero(word.as_str()) {
             return true;
         }
     }

@@ -15,7 +15,7 @@ use std::alloc::Global;
 pub fn matrix_of<F: CanonicalField>(
     alloc: Global,
     width: usize,
-    words: &[Vec<u8>],
+    words: &[String],
 ) -> Result<RowMajorMatrix<F>, Refused>
     requires below { reaches F.ORDER_U64 (numbers_of words.now) ≡ false }
     requires width { 1 ≤ width }
@@ -26,7 +26,7 @@ pub fn matrix_of<F: CanonicalField>(
 {
     let mut values = growth::with_capacity(alloc, words.len())?;
     for word in words {
-        let number = number_or_zero(word.as_slice());
+        let number = number_or_zero(word.as_str());
         growth::push(&mut values, element_of(number))?;
     }
     Ok(RowMajorMatrix::new(values, width))

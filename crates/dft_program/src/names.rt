@@ -3,8 +3,6 @@
 ghost use Rattle.std.specs.Prelude.{◌≡◌};
 ghost use Rattle.dft_program.specs.Names.{field_named, engine_named, operation_named};
 
-use std::str;
-
 /// A field that has a name on the command line.
 #[derive(Clone, Copy)]
 pub enum FieldName {
@@ -14,11 +12,10 @@ pub enum FieldName {
 
 impl FieldName {
     /// The field of this name.
-    #[tactic(auto, using(crate::proofs::Unnamed::no_field))]
-    pub fn of(word: &[u8]) -> Option<FieldName>
+    pub fn of(word: &str) -> Option<FieldName>
         ensures { result ≡ field_named word.now }
     {
-        match str::from_utf8(word).ok()? {
+        match word {
             "babybear" => Some(FieldName::BabyBear),
             "goldilocks" => Some(FieldName::Goldilocks),
             _ => None,
@@ -38,11 +35,10 @@ pub enum EngineName {
 
 impl EngineName {
     /// The engine of this name.
-    #[tactic(auto, using(crate::proofs::Unnamed::no_engine))]
-    pub fn of(word: &[u8]) -> Option<EngineName>
+    pub fn of(word: &str) -> Option<EngineName>
         ensures { result ≡ engine_named word.now }
     {
-        match str::from_utf8(word).ok()? {
+        match word {
             "naive" => Some(EngineName::Naive),
             "dit" => Some(EngineName::Dit),
             "bowers" => Some(EngineName::Bowers),
@@ -66,11 +62,10 @@ pub enum Operation {
 
 impl Operation {
     /// The operation of this name.
-    #[tactic(auto, using(crate::proofs::Unnamed::no_operation))]
-    pub fn of(word: &[u8]) -> Option<Operation>
+    pub fn of(word: &str) -> Option<Operation>
         ensures { result ≡ operation_named word.now }
     {
-        match str::from_utf8(word).ok()? {
+        match word {
             "dft" => Some(Operation::Dft),
             "coset-dft" => Some(Operation::CosetDft),
             "idft" => Some(Operation::Idft),

@@ -3,7 +3,7 @@
 ghost use Rattle.std.specs.Prelude.{◌≡◌, ◌≢◌, ◌<◌, ◌≤◌, ◌↔◌, ◌⊎◌, ℕ, List, map, length, Result, IfOk, OnErr, OnOk};
 ghost use Rattle.std.specs.Option.{ok_or};
 ghost use Rattle.std.specs.List.{slice_get};
-ghost use Rattle.std.specs.Vec.{vec_items};
+ghost use Rattle.std.specs.String.{string_bytes};
 ghost use Rattle.p3_dft.specs.Jobs.{CanRun, IsAnswer};
 ghost use Rattle.dft_program.specs.Answers.{job_of};
 ghost use Rattle.dft_program.specs.Faults.{memory_line, seen};
@@ -28,10 +28,35 @@ use std::alloc::Global;
 
 const OUT_OF_MEMORY: &str = "error 9: out of memory\n";
 
-/// Writes what the words of a command line ask for, and answers the status.
+/// Writes what the words after the program's name ask for, and answers the status.
 ///
 /// The whole text is made before its first byte is written.
-pub fn run<L: CommandLine, W: Sink>(alloc: Global, line: &mut L, out: &mut W) -> u8
+pub fn run<W: Sink>(alloc: Global, words: &[String], out: &mut W) -> u8
+    ensures status { (result ≡ 0) ⊎ (result ≡ 2) ⊎ (result ≡ 3) ⊎ (result ≡ 4) }
+    // The outcome of the words was written.
+    ensures ended { (result ≡ 0) ⊎ (result ≡ 2) → (text : List ℕ)
+        × IsOutcome (map string_bytes words.now) (record { status = result; text = text })
+        × Took (W.calls out.old) (W.calls out.new) text }
+    // There is an answer, and memory for it was refused.
+    ensures memory { result ≡ 3 → SomeRefused × IsAnswerable (map string_bytes words.now)
+        × Took (W.calls out.old) (W.calls out.new) memory_line }
+    // Writing stopped in the midst of one of these.
+    ensures stopped { result ≡ 4
+        → ((o : Outcome) × IsOutcome (map string_bytes words.now) o
+        × TookStartOf (W.calls out.old) (W.calls out.new) o.text)
+        ⊎ (SomeRefused × IsAnswerable (map string_bytes words.now)
+        × TookStartOf (W.calls out.old) (W.calls out.new) memory_line) }
+    ensures failed { (result ≡ 4) ↔ ((W.calls out.old).failures < (W.calls out.new).failures) }
+{
+    match answer(alloc, words) {
+        Ok(text) => finish(out, text.as_slice(), 0),
+        Err(Stopped::ByFault(fault)) => finish(out, fault.line().as_bytes(), 2),
+        Err(Stopped::OutOfMemory) => tell_out_of_memory(out),
+    }
+}
+
+/// Reads the words of a command line, writes what they ask for, and answers the status.
+pub fn run_command_line<L: CommandLine, W: Sink>(alloc: Global, line: &mut L, out: &mut W) -> u8
     ensures status { (result ≡ 0) ⊎ (result ≡ 2) ⊎ (result ≡ 3) ⊎ (result ≡ 4) }
     // All words were read, and their outcome was written.
     ensures ended { (result ≡ 0) ⊎ (result ≡ 2) → (words : List (List ℕ)) × (text : List ℕ)
@@ -49,32 +74,8 @@ pub fn run<L: CommandLine, W: Sink>(alloc: Global, line: &mut L, out: &mut W) ->
     ensures failed { (result ≡ 4) ↔ ((W.calls out.old).failures < (W.calls out.new).failures) }
 {
     match words_after_name(alloc, line) {
-        Ok(words) => write_outcome(alloc, words.as_slice(), out),
+        Ok(words) => run(alloc, words.as_slice(), out),
         Err(_) => tell_out_of_memory(out),
-    }
-}
-
-/// Writes what the words after the program's name ask for, and answers the status.
-pub fn write_outcome<W: Sink>(alloc: Global, words: &[Vec<u8>], out: &mut W) -> u8
-    ensures status { (result ≡ 0) ⊎ (result ≡ 2) ⊎ (result ≡ 3) ⊎ (result ≡ 4) }
-    // The outcome of the words was written.
-    ensures ended { (result ≡ 0) ⊎ (result ≡ 2) → (text : List ℕ)
-        × IsOutcome (map vec_items words.now) (record { status = result; text = text })
-        × Took (W.calls out.old) (W.calls out.new) text }
-    // There is an answer, and memory for it was refused.
-    ensures memory { result ≡ 3 → SomeRefused × IsAnswerable (map vec_items words.now)
-        × Took (W.calls out.old) (W.calls out.new) memory_line }
-    // Writing stopped in the midst of one of these.
-    ensures stopped { result ≡ 4
-        → ((o : Outcome) × IsOutcome (map vec_items words.now) o
-        × TookStartOf (W.calls out.old) (W.calls out.new) o.text)
-        ⊎ (SomeRefused × IsAnswerable (map vec_items words.now) × TookStartOf (W.calls out.old) (W.calls out.new) memory_line) }
-    ensures failed { (result ≡ 4) ↔ ((W.calls out.old).failures < (W.calls out.new).failures) }
-{
-    match answer(alloc, words) {
-        Ok(text) => finish(out, text.as_slice(), 0),
-        Err(Stopped::ByFault(fault)) => finish(out, fault.line().as_bytes(), 2),
-        Err(Stopped::OutOfMemory) => tell_out_of_memory(out),
     }
 }
 
@@ -111,15 +112,15 @@ pub struct Request {
 }
 
 // The text of the answer.
-fn answer(alloc: Global, words: &[Vec<u8>]) -> Result<Vec<u8>, Stopped>
-    ensures { Gives result (IsOutcome (map vec_items words.now)) }
+fn answer(alloc: Global, words: &[String]) -> Result<Vec<u8>, Stopped>
+    ensures { Gives result (IsOutcome (map string_bytes words.now)) }
 {
     let request = asked(words)?;
     answer_in_field(alloc, request, &words[3..])
 }
 
-fn asked(words: &[Vec<u8>]) -> Result<Request, Fault>
-    ensures exact { result ≡ asked (map vec_items words.now) }
+fn asked(words: &[String]) -> Result<Request, Fault>
+    ensures exact { result ≡ asked (map string_bytes words.now) }
     ensures behind { OnOk result (3 ≤ length words.now) }
 {
     let field = FieldName::of(word_at(words, 0)?).ok_or(Fault::UnknownField)?;
@@ -132,18 +133,18 @@ fn asked(words: &[Vec<u8>]) -> Result<Request, Fault>
     })
 }
 
-fn word_at(words: &[Vec<u8>], i: usize) -> Result<&[u8], Fault>
-    ensures word { seen (λ word. word.now) result ≡ ok_or (slice_get (map vec_items words.now) i) Fault.TooFewWords }
+fn word_at(words: &[String], i: usize) -> Result<&str, Fault>
+    ensures word { seen (λ word. word.now) result ≡ ok_or (slice_get (map string_bytes words.now) i) Fault.TooFewWords }
     ensures within { OnOk result (i < length words.now) }
 {
     match words.get(i) {
-        Some(word) => Ok(word.as_slice()),
+        Some(word) => Ok(word.as_str()),
         None => Err(Fault::TooFewWords),
     }
 }
 
-fn answer_in_field(alloc: Global, request: Request, words: &[Vec<u8>]) -> Result<Vec<u8>, Stopped>
-    ensures { Gives result (IsOutcomeIn request.field request.operation (map vec_items words.now)) }
+fn answer_in_field(alloc: Global, request: Request, words: &[String]) -> Result<Vec<u8>, Stopped>
+    ensures { Gives result (IsOutcomeIn request.field request.operation (map string_bytes words.now)) }
 {
     match request.field {
         FieldName::BabyBear => {
@@ -159,11 +160,11 @@ fn answer_in<F: CanonicalField>(
     alloc: Global,
     engine: EngineName,
     operation: Operation,
-    words: &[Vec<u8>],
+    words: &[String],
 ) -> Result<Vec<u8>, Stopped>
     ensures { (element : ℕ → F.Element) → ((n : ℕ) → n < F.ORDER_U64 → F.number (element n) ≡ n)
         → Gives result (IsOutcomeOver (numbered F.Valued.own F.generator F.TWO_ADICITY F.ORDER_U64 element)
-        operation (map vec_items words.now)) }
+        operation (map string_bytes words.now)) }
 {
     let arguments = parse_arguments::<F>(operation, words)?;
     let matrix = matrix_of::<F>(alloc, arguments.width, arguments.values)?;

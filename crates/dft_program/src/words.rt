@@ -1,10 +1,11 @@
 //! The words of the command line.
 
 ghost use Rattle.std.specs.Prelude.{◌≡◌, ◌++◌, ◌<◌, ◌⊎◌, ℕ, List, map, option_map, vec_len, IfOk, OnErr};
+ghost use Rattle.std.specs.String.{string_bytes};
 ghost use Rattle.std.specs.Vec.{vec_items};
 ghost use Rattle.std.specs.Io.{WritesAtMost};
 ghost use Rattle.dft_program.specs.Refusals.{SomeRefused};
-ghost use Rattle.dft_program.specs.Words.{Told, ToldAll, ToldFirst, told_at, told_by};
+ghost use Rattle.dft_program.specs.Words.{Told, ToldAll, ToldFirst, text_of_word, told_at, told_by};
 
 use p3_dft::{Refused, growth};
 use std::alloc::Global;
@@ -23,22 +24,29 @@ pub trait CommandLine {
         ensures told { told self.new ≡ told self.old ++ told_by place result buf.new };
 }
 
-/// All words after the program's name, which is never read.
-pub fn words_after_name<L: CommandLine>(
-    alloc: Global,
-    line: &mut L,
-) -> Result<Vec<Vec<u8>>, Refused>
-    ensures all { IfOk result (λ words. ToldAll (L.told line.old) (L.told line.new) (map vec_items words.items)) }
+/// The texts of all words after the program's name, which is never read.
+///
+/// A word that is no UTF-8 has the empty text, which is no name and no number either.
+pub fn words_after_name<L: CommandLine>(alloc: Global, line: &mut L) -> Result<Vec<String>, Refused>
+    ensures all { IfOk result (λ texts. (words : List (List ℕ)) × ToldAll (L.told line.old) (L.told line.new) words
+        × (map string_bytes texts.items ≡ map text_of_word words)) }
     ensures memory { OnErr result SomeRefused }
     ensures first { OnErr result ((words : List (List ℕ)) × ToldFirst (L.told line.old) (L.told line.new) words) }
 {
-    let mut words = Vec::new(alloc);
+    let mut texts = Vec::new(alloc);
     let mut buffer = Vec::new(alloc);
     growth::resize(&mut buffer, 256, 0)?;
-    while let Some(word) = word_at(alloc, line, 1 + words.as_slice().len(), &mut buffer)? {
-        growth::push(&mut words, word)?;
+    while let Some(word) = word_at(alloc, line, 1 + texts.as_slice().len(), &mut buffer)? {
+        growth::push(&mut texts, text_of_word(alloc, word))?;
     }
-    Ok(words)
+    Ok(texts)
+}
+
+// The text of a word, for which no memory is asked for.
+fn text_of_word(alloc: Global, word: Vec<u8>) -> String
+    ensures { string_bytes result ≡ text_of_word word.items }
+{
+    String::from_utf8(word).unwrap_or(String::new(alloc))
 }
 
 // The word at this place, if there is one. The buffer grows until the word has room in it.

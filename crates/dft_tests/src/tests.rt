@@ -1,11 +1,11 @@
 ghost use Rattle.std.specs.Prelude.{◌≡◌, ◌++◌, ◌⊎◌, ℕ, List, map};
-ghost use Rattle.std.specs.Vec.{vec_items};
+ghost use Rattle.std.specs.String.{string_bytes};
 ghost use Rattle.dft_program.specs.Faults.{memory_line};
 ghost use Rattle.dft_program.specs.Outcome.{IsOutcome};
 
 use dft_program::counted::Counted;
 use dft_program::environment::Environment;
-use dft_program::program::{run, write_outcome};
+use dft_program::program::{run, run_command_line};
 use dft_program::words::words_after_name;
 use std::alloc::Global;
 use std::env::FillError;
@@ -105,7 +105,17 @@ fn line_of<'a>(rt: &impl Abort, alloc: Global, words: &[&'a str]) -> Vec<&'a [u8
 // What the program answers for a command line.
 fn status_of(alloc: Global, words: &[&[u8]], out: &mut Stubborn) -> u8 {
     let mut line = Environment::new(FakeEnvironment { words });
-    run(alloc, &mut line, &mut Counted::new(out))
+    run_command_line(alloc, &mut line, &mut Counted::new(out))
+}
+
+// Stops the test unless the program left this text, and ended with this status.
+fn is_left(rt: &impl Abort, words: &[&str], out: &Stubborn, found: u8, status: u8, text: &[u8]) {
+    let held = out.held.as_slice();
+    let told = str::from_utf8(held).ok().unwrap_or("invalid UTF-8");
+    assert!(rt;
+        found == status && held == text,
+        "{words:?}: status {found}, wanted {status}, with {told:?}"
+    );
 }
 
 // Stops the test unless the program, on this writer, ends with this status and leaves this text.
@@ -117,25 +127,32 @@ fn ends(
     status: u8,
     text: &[u8],
 ) {
+    let mut owned = Vec::new(alloc);
+    for word in words {
+        let word = String::from_str(alloc, word).expect(rt, "memory");
+        owned.push(word).expect(rt, "memory");
+    }
+    let found = run(alloc, owned.as_slice(), &mut Counted::new(&mut out));
+    is_left(rt, words, &out, found, status, text);
+}
+
+// The same where these are the words of a command line, behind the program's name.
+fn line_ends(rt: &impl Abort, alloc: Global, words: &[&str], status: u8, text: &[u8]) {
     let line = line_of(rt, alloc, words);
+    let mut out = Stubborn::with_room(alloc, 2000);
     let found = status_of(alloc, line.as_slice(), &mut out);
-    let held = out.held.as_slice();
-    let told = str::from_utf8(held).ok().unwrap_or("invalid UTF-8");
-    assert!(rt;
-        found == status && held == text,
-        "{words:?}: status {found}, wanted {status}, with {told:?}"
-    );
+    is_left(rt, words, &out, found, status, text);
 }
 
 // Runs the program on a `Vec`, of which contracts say what it holds.
-fn run_into(alloc: Global, words: &[Vec<u8>], held: Vec<u8>) -> (u8, Vec<u8>)
+fn run_into(alloc: Global, words: &[String], held: Vec<u8>) -> (u8, Vec<u8>)
     ensures ended { (result.0 ≡ 0) ⊎ (result.0 ≡ 2) → (text : List ℕ)
-        × IsOutcome (map vec_items words.now) (record { status = result.0; text = text })
+        × IsOutcome (map string_bytes words.now) (record { status = result.0; text = text })
         × (result.1.items ≡ held.items ++ text) }
     ensures memory { result.0 ≡ 3 → result.1.items ≡ held.items ++ memory_line }
 {
     let mut out = Counted::new(held);
-    let status = write_outcome(alloc, words, &mut out);
+    let status = run(alloc, words, &mut out);
     (status, out.into_writer())
 }
 
@@ -448,24 +465,6 @@ fn the_first_fault_is_printed(rt: HostRuntime) {
     }
 }
 
-// So many zeros, and a seven.
-fn seven(rt: &impl Abort, alloc: Global, zeros: usize) -> String {
-    let mut seven = String::new(alloc);
-    for _ in 0..zeros {
-        seven.push('0').expect(rt, "memory");
-    }
-    seven.push('7').expect(rt, "memory");
-    seven
-}
-
-#[test]
-fn leading_zeros_are_read(rt: HostRuntime) {
-    let seven = seven(&rt, rt.alloc(), 1000);
-    let words = ["babybear", "naive", "dft", "00001", seven.as_str()];
-    let out = Stubborn::with_room(rt.alloc(), 1000);
-    ends(&rt, rt.alloc(), &words, out, 0, b"7\n".as_slice());
-}
-
 // A writer that has less room than the text is long is filled, and told of.
 fn fills(rt: &impl Abort, alloc: Global, room: usize) {
     let Some(text) = FIRST_TEXT.as_bytes().get(..room) else {
@@ -530,26 +529,51 @@ fn invalid_utf8_is_a_fault_of_its_place(rt: HostRuntime) {
     }
 }
 
-// The numbers from 1 to 300, four rows of 75: an extension by no bits keeps its values.
+// So many zeros, and a seven: longer than what a word is first read into.
+fn seven(rt: &impl Abort, alloc: Global, zeros: usize) -> String {
+    let mut seven = String::new(alloc);
+    for _ in 0..zeros {
+        seven.push('0').expect(rt, "memory");
+    }
+    seven.push('7').expect(rt, "memory");
+    seven
+}
+
 #[test]
-fn three_hundred_values_are_read_in_order(rt: HostRuntime) {
+fn leading_zeros_are_read(rt: HostRuntime) {
+    let seven = seven(&rt, rt.alloc(), 1000);
+    let words = ["babybear", "naive", "dft", "00001", seven.as_str()];
+    line_ends(&rt, rt.alloc(), &words, 0, b"7\n".as_slice());
+}
+
+// The numbers from 1 to 299 and a long seven, four rows of 75: an extension by no bits keeps its values. A fault of the
+// last word alone is told too.
+#[test]
+fn every_word_of_a_command_line_is_read_in_order(rt: HostRuntime) {
     let alloc = rt.alloc();
     let mut typed = String::new(alloc);
     let mut text = String::new(alloc);
-    for n in 1..301u64 {
+    for n in 1..300u64 {
         let end = if n % 75 == 0 { '\n' } else { ' ' };
         write!(typed, " {n}").expect(&rt, "memory");
         write!(text, "{n}{end}").expect(&rt, "memory");
     }
+    text.push_str("7\n").expect(&rt, "memory");
+    let seven = seven(&rt, alloc, 300);
     let mut words = Vec::new(alloc);
-    for word in ["goldilocks", "dit", "lde", "0", "75"] {
+    for word in ["babybear", "dit", "lde", "0", "75"] {
         words.push(word).expect(&rt, "memory");
     }
     for word in typed.as_str().split_whitespace() {
         words.push(word).expect(&rt, "memory");
     }
-    let out = Stubborn::with_room(alloc, 2000);
-    ends(&rt, alloc, words.as_slice(), out, 0, text.as_bytes());
+    words.push(seven.as_str()).expect(&rt, "memory");
+    line_ends(&rt, alloc, words.as_slice(), 0, text.as_bytes());
+
+    words.pop();
+    words.push("2013265921").expect(&rt, "memory");
+    let line = b"error 6: number not below the modulus\n".as_slice();
+    line_ends(&rt, alloc, words.as_slice(), 2, line);
 }
 
 // Takes all blocks of this size that there are, as long as `held` has room for more.

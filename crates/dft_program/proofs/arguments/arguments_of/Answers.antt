@@ -1,5 +1,5 @@
 use Rattle.std.proofs.Common.{◌≡◌, ◌-◌, ℕ, List, drop, length, map, take, refl, ap, ◌∙◌}
-use Rattle.std.specs.Vec.{vec_items}
+use Rattle.std.specs.String.{string_bytes}
 use Rattle.dft_program.specs.declared.names.Operation.{Operation}
 use Rattle.dft_program.specs.declared.names.Operation.TheVariants.{Dft, CosetDft, Idft, CosetIdft, Lde, CosetLde}
 use Rattle.dft_program.specs.Arguments.{arguments_of, number_or_zero, numbers_of, settings}
@@ -20,4 +20,4 @@ returns-clause-values c =
     let words = c.args.words.now in
     ap (λ n. numbers_of (take (length words - n) (drop n words))) c.settings-behind.ensures
     ∙ numbers_behind (settings c.args.operation) words
-    ∙ behind c.args.operation (map number_or_zero (map vec_items words))
+    ∙ behind c.args.operation (map number_or_zero (map string_bytes words))

@@ -1,20 +1,20 @@
 use Rattle.std.proofs.Common.{◌≡◌, length, ap, sym, ◌∙◌}
 use Rattle.std.proofs.lemmas.List.{length-map, take_all}
-use Rattle.std.specs.Vec.{vec_items}
+use Rattle.std.specs.String.{string_bytes}
 use Rattle.dft_program.specs.Arguments.{number_or_zero}
 use Rattle.dft_program.proofs.Elements.{all_below}
 use Rattle.dft_program.proofs.matrices.matrix_of.Goals as goal
 
 pub element_of-requires : goal.element_of-requires
 element_of-requires g c =
-    rw (c.number_or_zero-number.ensures, c.as_slice.ensures.value, c.word-item.is)
-    (all_below g.F.CanonicalField.ORDER_U64 (λ word. number_or_zero (vec_items word)) c.args.words.now c.loop-word.word-index c.word-item.result c.loop-word-test.true c.requires.below)
+    rw (c.number_or_zero-number.ensures, c.as_str.ensures.value, c.word-item.is)
+    (all_below g.F.CanonicalField.ORDER_U64 (λ word. number_or_zero (string_bytes word)) c.args.words.now c.loop-word.word-index c.word-item.result c.loop-word-test.true c.requires.below)
 
 pub new-requires-clause-full : goal.new-requires-clause-full
 new-requires-clause-full g c =
     let same : length c.loop-word.values.items ≡ length c.args.words.now =
     sym (length-map c.loop-word.values.items (λ x. g.F.Valued.number (g.F.Valued.value x)))
     ∙ ap length c.loop-word.invariant
-    ∙ length-map _ (λ word. number_or_zero (vec_items word))
+    ∙ length-map _ (λ word. number_or_zero (string_bytes word))
     ∙ ap length (take_all c.loop-word.word-index c.args.words.now c.loop-word-test.false) in
     rw same c.requires.full

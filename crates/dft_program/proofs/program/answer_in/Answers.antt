@@ -1,5 +1,6 @@
 use Rattle.std.proofs.Common.{◌≡◌, ◌/◌, ℕ, length, Result, refl, sym, ap, ◌∙◌, subst}
 use Rattle.std.proofs.lemmas.List.{length-map}
+use Rattle.std.specs.String.{string_bytes}
 use Rattle.std.specs.Vec.{vec_items}
 use Rattle.p3_matrix.specs.RowMajor.{height}
 use Rattle.p3_dft.specs.Shapes.{FitsLde}
@@ -16,7 +17,7 @@ answer_by-requires g c =
     let matrix = c.in_ok-matrix.matrix in
     let bits = g.F.TwoAdicField.TWO_ADICITY in
     let counted : length arguments.values.now ≡ length matrix.values =
-    sym (length-map arguments.values.now (λ word. number_or_zero (vec_items word)))
+    sym (length-map arguments.values.now (λ word. number_or_zero (string_bytes word)))
     ∙ ap length (sym c.in_ok-matrix.ensures.numbers)
     ∙ length-map matrix.values (λ x. g.F.Valued.number (g.F.Valued.value x)) in
     let wide : arguments.width ≡ matrix.width = sym c.in_ok-matrix.ensures.width in

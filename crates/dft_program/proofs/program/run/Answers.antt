@@ -1,8 +1,16 @@
-use Rattle.std.proofs.Common.{map}
-use Rattle.std.specs.Vec.{vec_items}
+use Rattle.std.proofs.Common.{map, inr}
+use Rattle.std.specs.String.{string_bytes}
+use Rattle.dft_program.proofs.OneOutcome.{answerable_without_memory}
 use Rattle.dft_program.proofs.program.run.Goals as goal
 
-pub returns-in-Ok-clause-ended : goal.returns-in-Ok-clause-ended
-returns-in-Ok-clause-ended g c is =
-    let written = c.write_outcome.ensures.ended is in
-    (map vec_items c.in-Ok.words.items, written.0, c.in-Ok.ensures.all, rw (← c.as_slice.ensures.value) written.1, written.2)
+pub returns-in-Err-OutOfMemory-clause-memory : goal.returns-in-Err-OutOfMemory-clause-memory
+returns-in-Err-OutOfMemory-clause-memory g c is =
+    let words = map string_bytes c.args.words.now in
+    let told = answerable_without_memory words c.in-Err-OutOfMemory.field-0 c.answer.result c.in-Err-OutOfMemory.is c.in-Err-OutOfMemory.field-0-is c.answer.ensures in
+    (told.0, told.1, c.tell_out_of_memory.ensures.memory is)
+
+pub returns-in-Err-OutOfMemory-clause-stopped : goal.returns-in-Err-OutOfMemory-clause-stopped
+returns-in-Err-OutOfMemory-clause-stopped g c is =
+    let words = map string_bytes c.args.words.now in
+    let told = answerable_without_memory words c.in-Err-OutOfMemory.field-0 c.answer.result c.in-Err-OutOfMemory.is c.in-Err-OutOfMemory.field-0-is c.answer.ensures in
+    inr (told.0, told.1, c.tell_out_of_memory.ensures.stopped is)
