@@ -1,0 +1,127 @@
+// Butterflies: the four calls, and worked pairs.
+
+ghost use Rattle.std.specs.Prelude.{◌≡◌, length};
+
+use p3_dft::{
+    BabyBear, Butterfly, CanonicalField, DifButterfly, DifButterflyZeros, DitButterfly, Goldilocks,
+    Packable, PackedField, Products, ScaledDitButterfly, TwiddleFreeButterfly,
+};
+use std::process::Abort;
+
+fn apply<F: Packable, B: Butterfly<F>, PF: PackedField<F>>(
+    butterfly: &B,
+    x_1: PF,
+    x_2: PF,
+    products: &mut Products,
+) -> (PF, PF) {
+    butterfly.apply(x_1, x_2, products)
+}
+
+fn apply_in_place<F: Packable, B: Butterfly<F>, PF: PackedField<F>>(
+    butterfly: &B,
+    x_1: &mut PF,
+    x_2: &mut PF,
+    products: &mut Products,
+) {
+    butterfly.apply_in_place(x_1, x_2, products);
+}
+
+fn apply_to_rows<F: Packable, B: Butterfly<F>>(
+    butterfly: &B,
+    row_1: &mut [F],
+    row_2: &mut [F],
+    products: &mut Products,
+)
+    requires { length row_1.old ≡ length row_2.old }
+{
+    butterfly.apply_to_rows(row_1, row_2, products);
+}
+
+fn apply_to_rows_oop<F: Packable, B: Butterfly<F>>(
+    butterfly: &B,
+    src_1: &[F],
+    dst_1: &mut [F],
+    src_2: &[F],
+    dst_2: &mut [F],
+    products: &mut Products,
+)
+    requires sources { length src_1.now ≡ length src_2.now }
+    requires first { length src_1.now ≡ length dst_1.old }
+    requires second { length src_1.now ≡ length dst_2.old }
+{
+    butterfly.apply_to_rows_oop(src_1, dst_1, src_2, dst_2, products);
+}
+
+// The twiddles are public, and read of the scaled one.
+
+fn twiddles<F>(
+    dit: DitButterfly<F>,
+    dif: DifButterfly<F>,
+    zeros: DifButterflyZeros<F>,
+) -> (F, F, F) {
+    (dit.0, dif.0, zeros.0)
+}
+
+fn scaled<F: Packable>(twiddle: F, scale: F) -> (F, F, F) {
+    let butterfly: ScaledDitButterfly<F> = ScaledDitButterfly::new(twiddle, scale);
+    (
+        butterfly.twiddle(),
+        butterfly.scale(),
+        butterfly.twiddle_times_scale(),
+    )
+}
+
+// Stops the test where a butterfly makes other numbers of two elements.
+fn makes<F: CanonicalField, B: Butterfly<F>>(
+    rt: &impl Abort,
+    butterfly: B,
+    x_1: F,
+    x_2: F,
+    wanted: (u64, u64),
+) {
+    let (near, far) = apply(&butterfly, x_1, x_2, &mut Products::new());
+    assert!(rt; (near.as_canonical_u64(), far.as_canonical_u64()) == wanted);
+}
+
+fn pairs<F: CanonicalField>(rt: &impl Abort) {
+    let (two, three, five) = (F::from_u8(2), F::from_u8(3), F::from_u8(5));
+    makes(rt, DitButterfly(three), five, two, (11, F::ORDER_U64 - 1));
+    makes(rt, DifButterfly(three), five, two, (7, 9));
+    makes(rt, DifButterflyZeros(three), five, F::ZERO, (5, 15));
+    let scaled = ScaledDitButterfly::new(three, two);
+    makes(rt, scaled, five, two, (22, F::ORDER_U64 - 2));
+    makes(rt, TwiddleFreeButterfly, five, two, (7, 3));
+}
+
+#[test]
+fn butterflies_make_the_pairs(rt: HostRuntime) {
+    pairs::<BabyBear>(&rt);
+    pairs::<Goldilocks>(&rt);
+}
+
+// A butterfly of a user's own: the two change places.
+#[derive(Clone, Copy)]
+struct Crossed;
+
+impl<F: Packable> Butterfly<F> for Crossed {
+    ghost near = { λ A r v b x y. y };
+
+    ghost far = { λ A r v b x y. x };
+
+    ghost cost = { 0 };
+
+    fn apply<PF: PackedField<F>>(&self, x_1: PF, x_2: PF, _products: &mut Products) -> (PF, PF) {
+        (x_2, x_1)
+    }
+}
+
+fn crosses<F: CanonicalField>(rt: &impl Abort) {
+    let (mut row_1, mut row_2) = ([F::ONE; 11], [F::TWO; 11]);
+    apply_to_rows::<F, Crossed>(&Crossed, &mut row_1, &mut row_2, &mut Products::new());
+    assert!(rt; row_1 == [F::TWO; 11] && row_2 == [F::ONE; 11]);
+}
+
+#[test]
+fn butterflies_of_ones_own(rt: HostRuntime) {
+    crosses::<BabyBear>(&rt);
+}
