@@ -9,6 +9,7 @@ ghost use Rattle.p3_field.specs.Ring.{count, minus, power, product_of, sum_of};
 
 use p3_dft::{BabyBear, CanonicalField, Field, FieldOps, Goldilocks, Refused, TwoAdicField};
 use std::alloc::{AllocError, Global};
+use std::cmp::Ordering;
 
 /// The square of a difference.
 pub fn squared_distance<F: FieldOps>(a: F, b: F) -> F
@@ -18,6 +19,13 @@ pub fn squared_distance<F: FieldOps>(a: F, b: F) -> F
     let mut difference = a;
     difference -= b;
     difference.square()
+}
+
+/// Which of two elements comes first. Their values alone decide it.
+pub fn compared<F: Field>(a: F, b: F) -> Ordering
+    ensures { (c d : F) → F.value c ≡ F.value a → F.value d ≡ F.value b → F.cmp c d ≡ result }
+{
+    a.cmp(&b)
 }
 
 /// The value of `3 x + 2` at a point.

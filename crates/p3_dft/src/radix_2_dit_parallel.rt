@@ -370,7 +370,7 @@ impl<F: TwoAdicField> TwoAdicSubgroupDft<F> for Radix2DitParallel<F> {
         );
         let mut mat = match room {
             Ok(mat) => mat,
-            Err(DftError::OutOfMemory) => {
+            Err(_) => {
                 return Err(BlocksStopped::OutOfMemory(Unpublished { make_consumer }));
             }
         };

@@ -346,9 +346,7 @@ pub trait TwoAdicSubgroupDft<F: TwoAdicField>: Clone + Default {
         let mat = mat.into_row_major_matrix();
         let block_height = self.block_height(log2_strict_usize(mat.height()), added_bits);
         match self.coset_lde_batch_bit_reversed(mat, added_bits, shift, transform) {
-            Err(DftError::OutOfMemory) => Err(BlocksStopped::OutOfMemory(Unpublished {
-                make_consumer,
-            })),
+            Err(_) => Err(BlocksStopped::OutOfMemory(Unpublished { make_consumer })),
             Ok(out) => {
                 let mut consumer = make_consumer(block_height);
                 match publish(out.inner(), block_height, &mut consumer) {

@@ -5,10 +5,12 @@ use Rattle.p3_matrix.specs.Cosets.{values_of, HasCoset}
 use Rattle.p3_dft.proofs.BitReversed.Coefficients.{values_of_answered}
 use Rattle.p3_dft.proofs.BitReversed.Rows.{values_seen}
 use Rattle.p3_dft.proofs.Calls.PreparedCosets.{later_with_tables}
+use Rattle.p3_dft.proofs.Calls.PublishedExtensions.{one_error}
 use Rattle.p3_dft.proofs.Calls.Shapes.{both_logs_fit, same_extended}
 use Rattle.p3_dft.specs.Engines.{CosetEngineState}
 use Rattle.p3_dft.specs.Tables.{LeavesTables}
 use Rattle.p3_matrix.proofs.Rooms.{within_more}
+use Rattle.p3_matrix.specs.Room.{IsWithin}
 use Rattle.p3_dft.proofs.Calls.Stored.{at_log, whole_still}
 use Rattle.p3_dft.proofs.radix_2_dit_parallel.Radix2DitParallelTwoAdicSubgroupDft.coset_lde_batch_with_blocks.Goals as goal
 
@@ -67,7 +69,7 @@ returns-in-Err g c =
       leaves = λ k e. subst (λ (x : CosetEngineState g.row.F.Denot). LeavesTables g.F.Valued g.F.TwoAdicField.generator k c.args.added_bits (g.F.Valued.value c.args.shift) x.roots.prepared c.coefficients_with_room-room.new.tables x.cosets c.coefficients_with_room-room.new.cosets) c.self.view_is (c.coefficients_with_room-room.ensures.leaves k (stored ∙ e));
       later = later_with_tables g.F.Valued _ _ _ c.args.self.now _ _ _ _ _ _ c.self.view_is c.coefficients_with_room-room.ensures.keeps c.coefficients_with_room-room.ensures.keeps_cosets c.coefficients_with_room-room.ensures.grows;
       cost = λ k e. slots_counted _ _ _ _ _ _ _ _ _ _ products width refl (c.coefficients_with_room-room.ensures.cost k (stored ∙ e)) (le-add_right _ _);
-      room = within_more _ _ (add-le-add (le_refl _) (same_extended c.args.added_bits stored width)) _ c.in-Err.ensures.room;
+      room = subst (IsWithin _) (sym (one_error _)) (within_more _ _ (add-le-add (le_refl _) (same_extended c.args.added_bits stored width)) _ c.in-Err.ensures.room);
     }
 
 pub returns-in-Err-extended : goal.returns-in-Err-extended
