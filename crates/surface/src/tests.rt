@@ -12,6 +12,7 @@ mod fields;
 mod jobs;
 mod matrices;
 mod packed;
+mod program;
 mod transforms;
 mod util;
 

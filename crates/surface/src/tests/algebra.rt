@@ -14,17 +14,17 @@ use p3_dft::{
 use std::alloc::Global;
 use std::process::Abort;
 
-fn dimension<F: Field, V: BasedVectorSpace<F>>() -> usize {
+fn dimension<F, V: BasedVectorSpace<F>>() -> usize {
     V::DIMENSION
 }
 
-fn coordinate<F: Field, V: BasedVectorSpace<F>>(element: &V, i: usize) -> F
+fn coordinate<F, V: BasedVectorSpace<F>>(element: &V, i: usize) -> F
     requires { i < V.DIMENSION }
 {
     element.coordinate(i)
 }
 
-fn from_coordinates<F: Field, V: BasedVectorSpace<F>>(from: &[F]) -> V
+fn from_coordinates<F, V: BasedVectorSpace<F>>(from: &[F]) -> V
     requires { length from.now ≡ V.DIMENSION }
 {
     V::from_coordinates(from)

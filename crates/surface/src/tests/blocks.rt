@@ -95,7 +95,7 @@ fn limited<F: TwoAdicField, D: TwoAdicSubgroupDft<F>>(
         Ok((_values, consumer)) => Some((consumer.seen(), None)),
         Err(stopped) => match stopped {
             BlocksStopped::Refused { consumer, refusal } => Some((consumer.seen(), Some(refusal))),
-            BlocksStopped::OutOfMemory(Unpublished { make_consumer, .. }) => {
+            BlocksStopped::OutOfMemory(Unpublished { make_consumer }) => {
                 let _maker = make_consumer;
                 None
             }
@@ -110,7 +110,7 @@ fn parts<M, C: Drop, R: Drop>(stopped: BlocksStopped<M, C, R>) -> Option<M> {
             consumer: _consumer,
             refusal: _refusal,
         } => None,
-        BlocksStopped::OutOfMemory(Unpublished { make_consumer, .. }) => Some(make_consumer),
+        BlocksStopped::OutOfMemory(Unpublished { make_consumer }) => Some(make_consumer),
     }
 }
 

@@ -37,7 +37,7 @@ fn field<F: Field>() {
     has_operators::<F>();
 }
 
-fn packed<F: Field, PF: PackedField<F>>() {
+fn packed<F: Field, PF: PackedField<Scalar = F>>() {
     is_copy::<PF>();
 }
 

@@ -8,7 +8,7 @@ use p3_dft::{
 };
 use std::process::Abort;
 
-fn apply<F: Packable, B: Butterfly<F>, PF: PackedField<F>>(
+fn apply<F: Packable, B: Butterfly<F>, PF: PackedField<Scalar = F>>(
     butterfly: &B,
     x_1: PF,
     x_2: PF,
@@ -17,7 +17,7 @@ fn apply<F: Packable, B: Butterfly<F>, PF: PackedField<F>>(
     butterfly.apply(x_1, x_2, products)
 }
 
-fn apply_in_place<F: Packable, B: Butterfly<F>, PF: PackedField<F>>(
+fn apply_in_place<F: Packable, B: Butterfly<F>, PF: PackedField<Scalar = F>>(
     butterfly: &B,
     x_1: &mut PF,
     x_2: &mut PF,
@@ -110,7 +110,12 @@ impl<F: Packable> Butterfly<F> for Crossed {
 
     ghost cost = { 0 };
 
-    fn apply<PF: PackedField<F>>(&self, x_1: PF, x_2: PF, _products: &mut Products) -> (PF, PF) {
+    fn apply<PF: PackedField<Scalar = F>>(
+        &self,
+        x_1: PF,
+        x_2: PF,
+        _products: &mut Products,
+    ) -> (PF, PF) {
         (x_2, x_1)
     }
 }

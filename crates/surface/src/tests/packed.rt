@@ -10,31 +10,31 @@ use std::alloc::Global;
 use std::mem::size_of;
 use std::process::Abort;
 
-fn width<F: Field, PF: PackedField<F>>() -> usize {
+fn width<F: Field, PF: PackedField<Scalar = F>>() -> usize {
     PF::WIDTH
 }
 
-fn load<F: Field, PF: PackedField<F>>(from: &[F]) -> PF
+fn load<F: Field, PF: PackedField<Scalar = F>>(from: &[F]) -> PF
     requires { length from.now ≡ PF.WIDTH }
 {
     PF::load(from)
 }
 
-fn store<F: Field, PF: PackedField<F>>(x: PF, to: &mut [F])
+fn store<F: Field, PF: PackedField<Scalar = F>>(x: PF, to: &mut [F])
     requires { length to.old ≡ PF.WIDTH }
 {
     x.store(to);
 }
 
-fn broadcast<F: Field, PF: PackedField<F>>(x: F) -> PF {
+fn broadcast<F: Field, PF: PackedField<Scalar = F>>(x: F) -> PF {
     PF::broadcast(x)
 }
 
-fn sums<F: Field, PF: PackedField<F>>(x: PF, y: PF) -> (PF, PF) {
+fn sums<F: Field, PF: PackedField<Scalar = F>>(x: PF, y: PF) -> (PF, PF) {
     (x.add(y), x.sub(y))
 }
 
-fn scaled<F: Field, PF: PackedField<F>>(x: PF, t: F, products: &mut Products) -> PF {
+fn scaled<F: Field, PF: PackedField<Scalar = F>>(x: PF, t: F, products: &mut Products) -> PF {
     x.scaled(t, products)
 }
 
@@ -52,12 +52,24 @@ fn packing_of_baby_bear(x: <BabyBear as Packable>::Packing) -> BabyBearX8 {
     x
 }
 
+fn packing_of_goldilocks(x: <Goldilocks as Packable>::Packing) -> Lanes<Goldilocks, 4> {
+    x
+}
+
+// The scalar may be named by the packed value alone.
+fn doubled<PF: PackedField>(x: PF, products: &mut Products) -> PF
+where
+    PF::Scalar: Field,
+{
+    x.scaled(PF::Scalar::TWO, products)
+}
+
 fn added(products: &mut Products, more: Products) {
     products.add(more);
 }
 
 // Each lane and two, less one, times three.
-fn computes<F: CanonicalField, PF: PackedField<F>>(
+fn computes<F: CanonicalField, PF: PackedField<Scalar = F>>(
     rt: &impl Abort,
     alloc: Global,
     numbers: &[u64],
@@ -75,7 +87,7 @@ fn computes<F: CanonicalField, PF: PackedField<F>>(
     }
 }
 
-fn in_its_packings<F: CanonicalField, PF: PackedField<F>>(
+fn in_its_packings<F: CanonicalField, PF: PackedField<Scalar = F>>(
     rt: &impl Abort,
     alloc: Global,
     numbers: &[u64],
@@ -91,10 +103,17 @@ fn lanes_compute(rt: HostRuntime) {
     in_its_packings::<BabyBear, BabyBearX8>(&rt, alloc, &[1, 2, 3, 4, 5, 6, 7, 2013265920]);
     in_its_packings::<BabyBear, Lanes<BabyBear, 3>>(&rt, alloc, &[1, 2, 2013265920]);
     in_its_packings::<Goldilocks, Lanes<Goldilocks, 4>>(&rt, alloc, &[1, 2, 3, 4]);
+}
+
+#[test]
+fn packings_are_named(rt: HostRuntime) {
+    let mut eight = [BabyBear::ZERO; 8];
     let x = packing_of_baby_bear(packing(BabyBear::ONE));
-    let mut to = [BabyBear::ZERO; 8];
-    x.store(&mut to);
-    assert!(rt; to == [BabyBear::ONE; 8]);
+    doubled(x, &mut Products::new()).store(&mut eight);
+    assert!(rt; eight == [BabyBear::TWO; 8]);
+    let mut four = [Goldilocks::ZERO; 4];
+    packing_of_goldilocks(packing(Goldilocks::TWO)).store(&mut four);
+    assert!(rt; four == [Goldilocks::TWO; 4]);
 }
 
 #[test]

@@ -5,13 +5,13 @@ ghost use Rattle.p3_matrix.specs.RowMajor.{height};
 
 use super::{are, matrix};
 use p3_dft::{
-    BabyBear, CanonicalField, Goldilocks, Products, RowMajorMatrix, RowMajorMatrixViewMut,
+    BabyBear, CanonicalField, Goldilocks, Packable, Products, RowMajorMatrix, RowMajorMatrixViewMut,
     TwoAdicField, divide_by_height, fits_dft, fits_lde,
 };
 use std::alloc::Global;
 use std::process::Abort;
 
-fn divided<F: TwoAdicField>(view: &mut RowMajorMatrixViewMut<'_, F>, products: &mut Products)
+fn divided<F: Packable>(view: &mut RowMajorMatrixViewMut<'_, F>, products: &mut Products)
     requires { (k : ℕ) × (height view.old.matrix.now ≡ 2 ^ k) }
 {
     divide_by_height(view, products);
