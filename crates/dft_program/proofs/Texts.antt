@@ -1,6 +1,6 @@
 -- Words, and their texts, ask for the same.
-use Rattle.std.proofs.Common.{◌≡◌, ℕ, Bool, true, false, List, [], ◌∷◌, length, map, drop, Option, Some, None, Result, Ok, Err, option_map, is_some, not, ◌&&◌, ◌||◌, nat_lt, arith, refl, sym, ap, ◌∙◌, subst, if◌then◌else◌}
-use Rattle.std.specs.List.{drop-map, list_all, list_any, slice_get}
+use Rattle.std.proofs.Common.{◌≡◌, ℕ, Bool, true, false, List, [], ◌∷◌, map, drop, Option, Some, None, Result, Ok, Err, option_map, ◌&&◌, nat_lt, arith, refl, sym, ap, ◌∙◌, subst, if◌then◌else◌}
+use Rattle.std.specs.List.{drop-map, list_all, slice_get}
 use Rattle.std.specs.Str.{IsUtf8, bytes_eq, is_utf8}
 use Rattle.std.proofs.lemmas.Slice.Eq.{bytes_eq-Decides}
 use Rattle.std.proofs.lemmas.Str.{IsUtf8-from_ascii, is_utf8-from_IsUtf8}
@@ -16,12 +16,11 @@ use Rattle.dft_program.specs.declared.names.FieldName.{FieldName}
 use Rattle.dft_program.specs.declared.names.FieldName.TheVariants.{BabyBear, Goldilocks}
 use Rattle.dft_program.specs.declared.names.Operation.{Operation}
 use Rattle.dft_program.specs.declared.program.Request.{Request}
-use Rattle.dft_program.specs.Arguments.{Arguments, arguments, has_no_number, number_or_zero}
-use Rattle.dft_program.specs.Faults.{◌>>=◌}
+use Rattle.dft_program.specs.Arguments.{arguments, has_no_number, number_or_zero}
 use Rattle.dft_program.specs.Names.{behind, engine_named, engines, field_named, fields, operation_named, operations}
 use Rattle.dft_program.specs.NumberedFields.{NumberedField, residue_field}
 use Rattle.dft_program.specs.Numbers.{number_of}
-use Rattle.dft_program.specs.Outcome.{FaultOr, IsAnswerable, IsAnswered, IsOutcome, IsOutcomeIn, Outcome, asked, named}
+use Rattle.dft_program.specs.Outcome.{FaultOr, IsAnswerable, IsOutcome, IsOutcomeIn, Outcome, asked, named}
 use Rattle.dft_program.specs.Words.{text_of_word}
 use Rattle.dft_program.proofs.OneOutcome.{one_outcome}
 use Rattle.dft_program.proofs.WordNumbers.{no_text}

@@ -3,6 +3,7 @@ use Rattle.std.proofs.lemmas.List.{length-map, take_all}
 use Rattle.std.specs.String.{string_bytes}
 use Rattle.dft_program.specs.Arguments.{number_or_zero}
 use Rattle.dft_program.proofs.Elements.{all_below}
+use Rattle.dft_program.proofs.Refused.{refused_by}
 use Rattle.dft_program.proofs.matrices.matrix_of.Goals as goal
 
 pub element_of-requires : goal.element_of-requires
@@ -18,3 +19,9 @@ new-requires-clause-full g c =
     ∙ length-map _ (λ word. number_or_zero (string_bytes word))
     ∙ ap length (take_all c.loop-word.word-index c.args.words.now c.loop-word-test.false) in
     rw same c.requires.full
+
+pub returns-in_err-values-clause-refused : goal.returns-in_err-values-clause-refused
+returns-in_err-values-clause-refused g c = refused_by c.from_residual.result _ c.in_err-values.ensures.room
+
+pub returns-in_err-push-clause-refused : goal.returns-in_err-push-clause-refused
+returns-in_err-push-clause-refused g c = refused_by c.from_residual-in_err-push.result _ c.in_err-push.ensures.room

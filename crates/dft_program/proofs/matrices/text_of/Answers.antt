@@ -12,7 +12,7 @@ loop-i-preserved g c =
     let m = c.args.matrix.now in
     let below : c.loop-i.i < height m = omega (arith, c.height-i-end.ensures.height) in
     let within : c.loop-i.i < length (rows m) = omega (arith, below, length-map-range_with_len (row m) 0 (height m)) in
-    c.in_ok-push_line.ensures
+    c.in_ok-push_line.ensures.line
     ∙ ap (λ text. text ++ line_of_numbers (map number c.row.result.now)) c.loop-i.invariant
     ∙ ap (λ xs. text_of_rows (map (map number) (take c.loop-i.i (rows m))) ++ line_of_numbers (map number xs))
     (c.row.ensures ∙ sym (get_or-map-range_with_len (row m) 0 (height m) c.loop-i.i c.loop-i.i [] below (omega arith)))

@@ -39,5 +39,5 @@ returns g c element named =
           g.met.F.Field.number_law named g.met.F.CanonicalField.number_below_law c.args.operation
           (record { added_bits = arguments.added_bits; shift = arguments.shift; width = arguments.width; values = numbers_of arguments.values.now })
           c.in_ok-matrix.matrix c.in_ok-answer.answer c.element_of-shift.result text c.in_ok-matrix.ensures.width c.in_ok-matrix.ensures.numbers c.element_of-shift.ensures
-          c.in_ok-text_of.ensures.whole (rw (sym c.job_of-job.ensures) c.in_ok-answer.ensures) c.in_ok-text_of.ensures.text,
+          c.in_ok-text_of.ensures.whole (rw (sym c.job_of-job.ensures) c.in_ok-answer.ensures.answer) c.in_ok-text_of.ensures.text,
     )
