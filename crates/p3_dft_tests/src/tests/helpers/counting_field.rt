@@ -185,6 +185,7 @@ impl<F: Field, M: Meter> Valued for Tally<F, M> {
 
 impl<F: Field, M: Meter> Field for Tally<F, M> {
     ghost use Rattle.std.specs.Prelude.{None};
+    ghost use Rattle.std.proofs.Common.{refl};
 
     const ZERO: Tally<F, M> = Tally {
         element: F::ZERO,
