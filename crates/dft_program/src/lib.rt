@@ -14,3 +14,7 @@ pub mod number;
 pub mod program;
 pub mod sink;
 pub mod words;
+
+pub use counted::Counted;
+pub use program::run;
+pub use sink::Sink;

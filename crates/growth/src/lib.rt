@@ -33,8 +33,8 @@ pub struct Refused {
     made: (),
 }
 
-// The one place where a refusal is told: of an error of std's. Its contract alone can name `IsEvidence`, and no
-// other crate can name its contract. No clause says that std refused: the calls of this function are read for that.
+// The one place where a refusal is told: of an error of std's. Contracts of this crate alone can name
+// `IsEvidence`, and no other crate can name this function's. No clause says that std refused: the calls of this function are read for that.
 fn refusal(_error: AllocError, _room: usize) -> Refused
     ensures { IsEvidence _room }
 {
