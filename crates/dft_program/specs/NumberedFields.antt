@@ -4,7 +4,7 @@ use Rattle.std.specs.List.{list_any, range_with_len}
 use Rattle.p3_field.specs.declared.fields.Valued.{Ghosts as FieldMembers}
 use Rattle.p3_field.specs.Fields.{FieldNumbers, field_generator, field_ring}
 use Rattle.p3_field.specs.Residues.{Residue, residue_of}
-use Rattle.p3_field.specs.Ring.{Ring, two}
+use Rattle.p3_field.specs.Ring.{Ring}
 
 -- a field as the program reads and prints it
 pub record NumberedField (A : Type 0) : Type 0 where
@@ -41,18 +41,14 @@ residue_field f = record {
   element = residue_of f.modulus f.above f.odd;
 }
 
--- the same as the members of a field whose elements are their own values; no answer speaks of its GENERATOR
+-- the same as the members of a field whose elements are their own values
 abbrev pub members : {A : Type 0} → NumberedField A → FieldMembers A
 members {A} f = record {
   Element = A;
   ring = f.ring;
   number = f.number;
   value = λ x. x;
-  ZERO = f.ring.zero;
-  ONE = f.ring.one;
-  TWO = two f.ring;
-  NEG_ONE = f.ring.neg f.ring.one;
-  GENERATOR = f.ring.one;
+  zero = f.ring.zero;
 }
 
 -- some number below the modulus names an inverse of x
