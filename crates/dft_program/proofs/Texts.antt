@@ -82,8 +82,11 @@ named_of_text names unknown same words i = ap (named names unknown) (slice_get-m
 
 asked_of_texts : (words : List (List ℕ)) → asked (map text_of_word words) ≡ asked words
 asked_of_texts words =
-    rw (named_of_text field_named UnknownField field_of_text words 0, named_of_text engine_named UnknownEngine engine_of_text words 1,
-    named_of_text operation_named UnknownOperation operation_of_text words 2) refl
+    rw (
+      named_of_text field_named UnknownField field_of_text words 0,
+      named_of_text engine_named UnknownEngine engine_of_text words 1,
+      named_of_text operation_named UnknownOperation operation_of_text words 2,
+    ) refl
 
 -- what the others ask for
 numbers_of_texts : (words : List (List ℕ)) → map number_or_zero (map text_of_word words) ≡ map number_or_zero words

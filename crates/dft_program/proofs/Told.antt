@@ -48,9 +48,9 @@ module _ {X : Type 0} (bytes : X → List ℕ) (old mid new : List Told) (kept :
       so_far.0 ++ view word ∷ [],
       one_told,
       map-append bytes kept (text ∷ [])
-      ∙ ap (λ texts. texts ++ bytes text ∷ []) so_far.2
-      ∙ ap (λ t. map text_of_word so_far.0 ++ t ∷ []) same
-      ∙ sym (map-append text_of_word so_far.0 (view word ∷ [])),
+          ∙ ap (λ texts. texts ++ bytes text ∷ []) so_far.2
+          ∙ ap (λ t. map text_of_word so_far.0 ++ t ∷ []) same
+          ∙ sym (map-append text_of_word so_far.0 (view word ∷ [])),
     )
 
 -- the text of a word is what was read of it, where that is UTF-8

@@ -2,11 +2,12 @@
 //!
 //! Proved: they answer the same, whatever either was asked before.
 
-ghost use Rattle.std.specs.Prelude.{◌≡◌, ◌↔◌, IfOk, IsTrue};
+ghost use Rattle.std.specs.Prelude.{◌≡◌, ◌↔◌, IfErr, IfOk, IsTrue};
 ghost use Rattle.std.specs.List.{All, AllZip};
 ghost use Rattle.p3_field.specs.Ring.{IsInvertible};
 ghost use Rattle.p3_matrix.specs.Cosets.{values_of};
 ghost use Rattle.p3_matrix.specs.Matrix.{Same};
+ghost use Rattle.p3_matrix.specs.Room.{WasOutOfMemory};
 ghost use Rattle.p3_matrix.specs.RowMajor.{height};
 ghost use Rattle.p3_dft.specs.Engines.{IsLater};
 ghost use Rattle.p3_dft.specs.Extensions.{IsExtension};
@@ -31,6 +32,7 @@ pub fn two_transforms<F: TwoAdicField, D: TwoAdicSubgroupDft<F>, E: TwoAdicSubgr
     ensures same { IfOk result (λ out. Same (values_of F.Valued.own out.0) (values_of F.Valued.own out.1)) }
     ensures later { IsLater D.facts one.old one.new }
     ensures other_later { IsLater E.facts other.old other.new }
+    ensures refused { IfErr result WasOutOfMemory }
 {
     let first = one
         .coset_dft_batch(mat.try_clone()?, shift)?
@@ -52,6 +54,7 @@ pub fn two_inverses<F: TwoAdicField, D: TwoAdicSubgroupDft<F>, E: TwoAdicSubgrou
     ensures same { IfOk result (λ out. Same (values_of F.Valued.own out.0) (values_of F.Valued.own out.1)) }
     ensures later { IsLater D.facts one.old one.new }
     ensures other_later { IsLater E.facts other.old other.new }
+    ensures refused { IfErr result WasOutOfMemory }
 {
     let first = one.coset_idft_batch(mat.try_clone()?, shift)?;
     let second = other.coset_idft_batch(mat, shift)?;
@@ -74,6 +77,7 @@ pub fn two_extensions<F: TwoAdicField, D: TwoAdicSubgroupDft<F>, E: TwoAdicSubgr
         (values_of F.Valued.own (E.Evaluations.natural out.1))) }
     ensures later { IsLater D.facts one.old one.new }
     ensures other_later { IsLater E.facts other.old other.new }
+    ensures refused { IfErr result WasOutOfMemory }
 {
     let first = one.coset_lde_batch(mat.try_clone()?, added_bits, shift)?;
     let second = other.coset_lde_batch(mat, added_bits, shift)?;
@@ -94,6 +98,7 @@ pub fn two_lists_of_answers<F: TwoAdicField, D: TwoAdicSubgroupDft<F>, E: TwoAdi
         (λ a b. Same (values_of F.Valued.own a) (values_of F.Valued.own b)) out.0.items out.1.items) }
     ensures later { IsLater D.facts one.old one.new }
     ensures other_later { IsLater E.facts other.old other.new }
+    ensures refused { IfErr result (λ stopped. WasOutOfMemory stopped.error) }
 {
     let first = run_jobs(one, jobs)?;
     let second = run_jobs(other, again)?;
@@ -136,6 +141,7 @@ pub fn transform_for<F: TwoAdicField, D: TwoAdicSubgroupDft<F>>(
     ensures values { IfOk result (λ out. IsTransform F.Valued.own F.generator like.now (F.value shift)
         (D.Evaluations.natural out)) }
     ensures later { IsLater D.facts engine.old engine.new }
+    ensures refused { IfErr result WasOutOfMemory }
 {
     engine.coset_dft_batch(mat, shift)
 }

@@ -3,7 +3,8 @@
 //! Proved: the calls may be made, since the checker sees that each closure keeps the shape; and the second answers
 //! the extension.
 
-ghost use Rattle.std.specs.Prelude.{IfOk};
+ghost use Rattle.std.specs.Prelude.{IfErr, IfOk};
+ghost use Rattle.p3_matrix.specs.Room.{WasOutOfMemory};
 ghost use Rattle.p3_matrix.specs.RowMajor.{height};
 ghost use Rattle.p3_dft.specs.Engines.{IsLater};
 ghost use Rattle.p3_dft.specs.Extensions.{IsExtension};
@@ -21,6 +22,7 @@ pub fn extension_of_doubled<F: TwoAdicField, D: TwoAdicSubgroupDft<F>>(
 ) -> Result<D::Evaluations, DftError>
     requires { FitsLde F.TWO_ADICITY (height mat) mat.width added_bits }
     ensures later { IsLater D.facts engine.old engine.new }
+    ensures refused { IfErr result WasOutOfMemory }
 {
     engine.coset_lde_batch_with_transform(mat, added_bits, shift, |mut coefficients, _layout| {
         coefficients.scale(F::TWO, &mut Products::new());
@@ -39,6 +41,7 @@ pub fn extension_of_unchanged<F: TwoAdicField, D: TwoAdicSubgroupDft<F>>(
     ensures extension { IfOk result (λ out.
         IsExtension F.Valued.own F.generator mat added_bits (F.value shift) (D.Evaluations.natural out)) }
     ensures later { IsLater D.facts engine.old engine.new }
+    ensures refused { IfErr result WasOutOfMemory }
 {
     engine.coset_lde_batch_with_transform(
         mat,

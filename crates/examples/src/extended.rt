@@ -4,11 +4,12 @@
 //! input, with rows of zeros below; and the extension of values on the coset of one shift by another has the values on
 //! the coset of their product.
 
-ghost use Rattle.std.specs.Prelude.{◌≡◌, ℕ, ◌+◌, ◌*◌, ◌^◌, ◌<◌, ◌≤◌, IfOk};
+ghost use Rattle.std.specs.Prelude.{◌≡◌, ℕ, ◌+◌, ◌*◌, ◌^◌, ◌<◌, ◌≤◌, IfErr, IfOk};
 ghost use Rattle.p3_field.specs.Ring.{IsInvertible};
 ghost use Rattle.p3_matrix.specs.Combinations.{lengthened};
 ghost use Rattle.p3_matrix.specs.Cosets.{IsValues, values_of};
 ghost use Rattle.p3_matrix.specs.Matrix.{Same};
+ghost use Rattle.p3_matrix.specs.Room.{WasOutOfMemory};
 ghost use Rattle.p3_matrix.specs.RowMajor.{height};
 ghost use Rattle.p3_dft.specs.Engines.{AtLog, IsLater};
 ghost use Rattle.p3_dft.specs.Extensions.{IsExtension};
@@ -26,6 +27,7 @@ pub fn extension_by_no_bits<F: TwoAdicField, D: TwoAdicSubgroupDft<F>>(
     ensures same { IfOk result (λ out. Same (values_of F.Valued.own (D.Evaluations.natural out))
         (values_of F.Valued.own mat)) }
     ensures later { IsLater D.facts engine.old engine.new }
+    ensures refused { IfErr result WasOutOfMemory }
 {
     engine.lde_batch(mat, 0)
 }
@@ -40,6 +42,7 @@ pub fn extension_on_the_subgroup<F: TwoAdicField, D: TwoAdicSubgroupDft<F>>(
     ensures values { IfOk result (λ out. IsExtension F.Valued.own F.generator mat added_bits F.ring.one
         (D.Evaluations.natural out)) }
     ensures later { IsLater D.facts engine.old engine.new }
+    ensures refused { IfErr result WasOutOfMemory }
 {
     engine.coset_lde_batch(mat, added_bits, F::ONE)
 }
@@ -55,6 +58,7 @@ pub fn extension_with_the_rows<F: TwoAdicField, D: TwoAdicSubgroupDft<F>>(
         → (values_of F.Valued.own (D.Evaluations.natural out)).entry (i * 2 ^ added_bits) j
         ≡ (values_of F.Valued.own mat).entry i j) }
     ensures later { IsLater D.facts engine.old engine.new }
+    ensures refused { IfErr result WasOutOfMemory }
 {
     engine.lde_batch(mat, added_bits)
 }
@@ -72,6 +76,7 @@ pub fn coefficients_and_extension<F: TwoAdicField, D: TwoAdicSubgroupDft<F>>(
         (values_of F.Valued.own out.0) (k + added_bits) (F.value shift)
         (values_of F.Valued.own (D.Evaluations.natural out.1)))) }
     ensures later { IsLater D.facts engine.old engine.new }
+    ensures refused { IfErr result WasOutOfMemory }
 {
     let coefficients = engine.idft_batch(mat.try_clone()?)?;
     let values = engine.coset_lde_batch(mat, added_bits, shift)?;
@@ -93,6 +98,7 @@ pub fn coefficients_of_both<F: TwoAdicField, D: TwoAdicSubgroupDft<F>>(
     ensures rows { IfOk result (λ out. (i j : ℕ) → i < height mat → j < mat.width
         → (values_of F.Valued.own out.1).entry i j ≡ (values_of F.Valued.own out.0).entry i j) }
     ensures later { IsLater D.facts engine.old engine.new }
+    ensures refused { IfErr result WasOutOfMemory }
 {
     let coefficients = engine.idft_batch(mat.try_clone()?)?;
     let values = engine.coset_lde_batch(mat, added_bits, shift)?;
@@ -113,6 +119,7 @@ pub fn coefficients_of_an_extension<F: TwoAdicField, D: TwoAdicSubgroupDft<F>>(
     ensures zeros { IfOk result (λ back. (i j : ℕ) → height mat ≤ i → i < height back → j < back.width
         → (values_of F.Valued.own back).entry i j ≡ F.ring.zero) }
     ensures later { IsLater D.facts engine.old engine.new }
+    ensures refused { IfErr result WasOutOfMemory }
 {
     let values = engine.coset_lde_batch(mat, added_bits, shift)?;
     engine.coset_idft_batch(values.to_row_major_matrix(), shift)
@@ -132,6 +139,7 @@ pub fn extension_from_a_coset<F: TwoAdicField, D: TwoAdicSubgroupDft<F>>(
         (values_of F.Valued.own coefficients) (k + added_bits) (F.ring.mul (F.value first) (F.value second))
         (values_of F.Valued.own (D.Evaluations.natural out)))) }
     ensures later { IsLater D.facts engine.old engine.new }
+    ensures refused { IfErr result WasOutOfMemory }
 {
     let values = engine.coset_dft_batch(coefficients, first)?;
     engine.coset_lde_batch(values.to_row_major_matrix(), added_bits, second)

@@ -7,9 +7,10 @@
 //! `fold_into_extension`, each later one by `fold` over the extension with the shift squared once for each layer before
 //! and embedded by `E::from_base`, and sends what `last_coefficients` answers.
 
-ghost use Rattle.std.specs.Prelude.{◌≡◌, ℕ, suc, ◌+◌, ◌*◌, ◌/◌, ◌^◌, ◌≤◌, IfOk};
+ghost use Rattle.std.specs.Prelude.{◌≡◌, ℕ, suc, ◌+◌, ◌*◌, ◌/◌, ◌^◌, ◌≤◌, IfErr, IfOk};
 ghost use Rattle.p3_field.specs.Ring.{IsInvertible};
 ghost use Rattle.p3_matrix.specs.Cosets.{values_of};
+ghost use Rattle.p3_matrix.specs.Room.{WasOutOfMemory};
 ghost use Rattle.p3_matrix.specs.RowMajor.{height};
 ghost use Rattle.p3_dft.specs.Codes.{HasDegreeBelow};
 ghost use Rattle.p3_dft.specs.Coordinates.{flat};
@@ -28,7 +29,8 @@ use p3_dft::{DftError, Layout, RowMajorMatrix, TwoAdicField, TwoAdicSubgroupDft,
 pub fn embed<F: TwoAdicField, E: ExtensionField<F>>(
     values: &RowMajorMatrix<F>,
 ) -> Result<RowMajorMatrix<E>, DftError>
-    ensures { IfOk result (λ out. out ≡ embedded_matrix E.embedded values.now) }
+    ensures embedded { IfOk result (λ out. out ≡ embedded_matrix E.embedded values.now) }
+    ensures refused { IfErr result WasOutOfMemory }
 {
     let width = values.width();
     let mut embedded = growth::with_capacity(*values.allocator(), values.values().len())?;
@@ -63,6 +65,7 @@ pub fn fold_into_extension<F: TwoAdicField, E: ExtensionField<F>>(
         → HasDegreeBelow E.Valued.own E.generator ((h + 1) / 2) k
         (E.ring.mul (E.value (E.embedded shift)) (E.value (E.embedded shift)))
         (arrangement layout k (values_of E.Valued.own out))) }
+    ensures refused { IfErr result WasOutOfMemory }
 {
     let lifted = embed::<F, E>(values)?;
     fold(&lifted, layout, E::from_base(shift), beta)

@@ -6,11 +6,12 @@
 //! foldings with challenges whose difference has an inverse determine the values, and have low degree only where these
 //! have.
 
-ghost use Rattle.std.specs.Prelude.{◌≡◌, ◌↔◌, ℕ, suc, ◌+◌, ◌*◌, ◌/◌, ◌^◌, ◌<◌, ◌≤◌, IfOk, IsTrue};
+ghost use Rattle.std.specs.Prelude.{◌≡◌, ◌↔◌, ℕ, suc, ◌+◌, ◌*◌, ◌/◌, ◌^◌, ◌<◌, ◌≤◌, IfErr, IfOk, IsTrue};
 ghost use Rattle.std.specs.Prelude.{get_or, length, vec_len, vec_capacity};
 ghost use Rattle.p3_field.specs.Ring.{IsInvertible, minus, two};
 ghost use Rattle.p3_matrix.specs.Cosets.{point, values_of};
 ghost use Rattle.p3_matrix.specs.Matrix.{Matrix, Same};
+ghost use Rattle.p3_matrix.specs.Room.{WasOutOfMemory};
 ghost use Rattle.p3_matrix.specs.RowMajor.{height};
 ghost use Rattle.p3_dft.specs.Codes.{HasDegreeBelow};
 ghost use Rattle.p3_dft.specs.Extensions.{arrangement};
@@ -64,6 +65,7 @@ fn factors<F: TwoAdicField>(
     ensures factors { IfOk result (λ v. (i : ℕ) → i < 2 ^ log_half → F.ring.mul (two F.ring)
         (F.ring.mul (point F.ring (λ n. F.value (F.generator n)) (suc log_half) (F.value shift)
         (pair_point layout log_half i)) (F.value (get_or v.items i F.zero))) ≡ F.value beta) }
+    ensures refused { IfErr result WasOutOfMemory }
 {
     let root = invertible_root::<F>(log_half + 1).inverse();
     let first = beta.halve() * shift.inverse();
@@ -99,7 +101,7 @@ fn fold_rows<F: Field>(
     requires pairs { height values.now ≡ 2 * half }
     requires size { height values.now * values.now.width < 2 ^ 64 }
     requires factors { length factors.now ≡ half }
-    ensures { IfOk result (λ out. (height out ≡ half) × (out.width ≡ values.now.width)
+    ensures folded { IfOk result (λ out. (height out ≡ half) × (out.width ≡ values.now.width)
         × ((k : ℕ) (beta : F.Element) → half ≡ 2 ^ k → (x : ℕ → F.Element)
         → ((i : ℕ) → i < half
         → F.ring.mul (two F.ring) (F.ring.mul (x i) (F.value (get_or factors.now i F.zero))) ≡ beta)
@@ -107,6 +109,7 @@ fn fold_rows<F: Field>(
         ((values_of F.Valued.own values.now).entry (near_row layout k i) j)
         ((values_of F.Valued.own values.now).entry (far_row layout k i) j)
         ((values_of F.Valued.own out).entry i j))) }
+    ensures refused { IfErr result WasOutOfMemory }
 {
     let width = values.width();
     let mut folded = growth::with_capacity(*values.allocator(), half * width)?;
@@ -142,6 +145,7 @@ pub fn fold<F: TwoAdicField>(
         (arrangement layout (suc k) (values_of F.Valued.own values.now))
         → HasDegreeBelow F.Valued.own F.generator ((h + 1) / 2) k (F.ring.mul (F.value shift) (F.value shift))
         (arrangement layout k (values_of F.Valued.own out))) }
+    ensures refused { IfErr result WasOutOfMemory }
 {
     let log_half = log_height(values) - 1;
     let half = values.height() / 2;
@@ -189,6 +193,7 @@ pub fn fold_twice<F: TwoAdicField>(
         (arrangement layout k (values_of F.Valued.own out.1))
         → HasDegreeBelow F.Valued.own F.generator (2 * h) (suc k) (F.value shift)
         (arrangement layout (suc k) (values_of F.Valued.own values.now))) }
+    ensures refused { IfErr result WasOutOfMemory }
 {
     let first = fold(values, layout, shift, beta)?;
     let second = fold(values, layout, shift, gamma)?;

@@ -9,11 +9,12 @@
 //! codeword. What `open` opens of layers that `commit` made has those paths, and folds so, hence an honest query is
 //! accepted (`honest_query`). `commit` draws the challenge of each layer of its root, after those of the layers before.
 
-ghost use Rattle.std.specs.Prelude.{◌≡◌, ◌↔◌, ℕ, suc, ◌+◌, ◌-◌, ◌*◌, ◌/◌, ◌%◌, ◌^◌, ◌<◌, ◌≤◌, IfOk, IsTrue};
+ghost use Rattle.std.specs.Prelude.{◌≡◌, ◌↔◌, ℕ, suc, ◌+◌, ◌-◌, ◌*◌, ◌/◌, ◌%◌, ◌^◌, ◌<◌, ◌≤◌, IfErr, IfOk, IsTrue};
 ghost use Rattle.std.specs.Prelude.{[], get_or, length, map, vec_len};
 ghost use Rattle.std.specs.List.{FoldsTo as Chained};
 ghost use Rattle.p3_field.specs.Ring.{IsInvertible, power};
 ghost use Rattle.p3_matrix.specs.Cosets.{values_of};
+ghost use Rattle.p3_matrix.specs.Room.{WasOutOfMemory};
 ghost use Rattle.p3_matrix.specs.RowMajor.{height, rows_from};
 ghost use Rattle.p3_matrix.specs.BitOrder.{bit_reversal};
 ghost use Rattle.p3_dft.specs.Codes.{HasDegreeBelow};
@@ -81,6 +82,7 @@ pub fn commit_layer<F: TwoAdicField, H: RowHash<F>, T: Transcript<F, H::Digest>>
         (bit_reversal k (values_of F.Valued.own p.1))) }
     ensures drawn { IfOk result (λ p. (root : H.Digest) × (root ≡ get_or p.0.nodes.items 1 root)
         × T.draws transcript.old root p.0.challenge transcript.new) }
+    ensures refused { IfErr result WasOutOfMemory }
 {
     let leaves = codeword.height() / 2;
     let nodes = tree_of_pairs(hash, &codeword, leaves)?;
@@ -117,6 +119,7 @@ pub fn open_layer<F: TwoAdicField, H: RowHash<F>>(
         layer.now.codeword next layer.now.nodes.items
         → FoldsTo F.Valued.own (λ n. F.value (F.generator n)) log_half s beta index (values_of F.Valued.own o.pair)
         ((values_of F.Valued.own next).entry index)) }
+    ensures refused { IfErr result WasOutOfMemory }
 {
     let alloc = *layer.codeword.allocator();
     let rows = layer.codeword.view_rows(2 * index, 2);
@@ -372,6 +375,7 @@ pub fn commit<F: TwoAdicField, H: RowHash<F>, T: Transcript<F, H::Digest>>(
     ensures known { IfOk result (λ p. (p.1.log_height ≡ log_height) × (p.1.shift ≡ shift)) }
     ensures drawn { IfOk result (λ p. Chained (λ t y u. (root : H.Digest) × (root ≡ get_or y.nodes.items 1 root)
         × T.draws t root y.challenge u) transcript.old p.0.items transcript.new) }
+    ensures refused { IfErr result WasOutOfMemory }
 {
     let alloc = *codeword.allocator();
     let mut layers = growth::with_capacity(alloc, folds)?;
@@ -429,6 +433,7 @@ pub fn open<F: TwoAdicField, H: RowHash<F>>(
         (λ l. get_or (map (λ y. y.nodes.items) layers.now) l [])
         → (o : _) → FoldsDown F.Valued.own (λ n. F.value (F.generator n)) log_height (length layers.now) s betas index
         (λ l. values_of F.Valued.own (get_or v.items l o).pair) (values_of F.Valued.own last)) }
+    ensures refused { IfErr result WasOutOfMemory }
 {
     let mut openings = growth::with_capacity(alloc, layers.len())?;
     for l in 0..layers.len() {
@@ -455,7 +460,8 @@ pub fn honest_query<F: TwoAdicField, H: RowHash<F>, T: Transcript<F, H::Digest>>
     requires fits_u64 { log_height < 64 }
     requires invertible { IsInvertible F.ring (F.value shift) }
     requires inside { 2 * index < 2 ^ log_height }
-    ensures { IfOk result IsTrue }
+    ensures accepted { IfOk result IsTrue }
+    ensures refused { IfErr result WasOutOfMemory }
 {
     let alloc = *codeword.allocator();
     let (layers, commitment) = commit(hash, codeword, log_height, shift, folds, transcript)?;

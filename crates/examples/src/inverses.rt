@@ -5,9 +5,10 @@
 //! coefficients; and there is none only where the shape does not fit or the shift has no inverse. There is no proof
 //! file.
 
-ghost use Rattle.std.specs.Prelude.{IfOk, IfSome, IsNone};
+ghost use Rattle.std.specs.Prelude.{IfErr, IfOk, IfSome, IsNone};
 ghost use Rattle.p3_field.specs.NamedFields.{baby_bear};
 ghost use Rattle.p3_field.specs.Ring.{IsInvertible};
+ghost use Rattle.p3_matrix.specs.Room.{WasOutOfMemory};
 ghost use Rattle.p3_matrix.specs.RowMajor.{height};
 ghost use Rattle.p3_dft.specs.Engines.{IsLater};
 ghost use Rattle.p3_dft.specs.Shapes.{FitsDft};
@@ -26,6 +27,7 @@ pub fn from_generator<F: TwoAdicField, D: TwoAdicSubgroupDft<F>>(
     ensures coefficients { IfOk result
         (IsInterpolation F.Valued.own F.generator values (F.value F.GENERATOR)) }
     ensures later { IsLater D.facts engine.old engine.new }
+    ensures refused { IfErr result WasOutOfMemory }
 {
     engine.coset_idft_batch(values, F::GENERATOR)
 }
@@ -40,6 +42,7 @@ pub fn from_baby_bear_generator<D: TwoAdicSubgroupDft<BabyBear>>(
         ⟦<BabyBear as TwoAdicField>⟧.generator values (baby_bear.value baby_bear.GENERATOR))) }
     ensures none { IsNone result → ¬ (FitsDft ⟦<BabyBear as TwoAdicField>⟧.TWO_ADICITY (height values) values.width) }
     ensures later { IsLater D.facts engine.old engine.new }
+    ensures refused { IfSome result (λ answer. IfErr answer WasOutOfMemory) }
 {
     if !fits_dft::<BabyBear>(values.height(), values.width()) {
         return None;
@@ -58,6 +61,7 @@ pub fn from_shift<F: TwoAdicField, D: TwoAdicSubgroupDft<F>>(
         IsInterpolation F.Valued.own F.generator values (F.value shift) out)) }
     ensures none { IsNone result → ¬ (IsInvertible F.ring (F.value shift)) }
     ensures later { IsLater D.facts engine.old engine.new }
+    ensures refused { IfSome result (λ answer. IfErr answer WasOutOfMemory) }
 {
     if shift.try_inverse().is_none() {
         return None;
@@ -76,6 +80,7 @@ pub fn from_baby_bear_shift<D: TwoAdicSubgroupDft<BabyBear>>(
     ensures none { IsNone result → ¬ (FitsDft ⟦<BabyBear as TwoAdicField>⟧.TWO_ADICITY (height values) values.width
         × IsInvertible baby_bear.ring (baby_bear.value shift)) }
     ensures later { IsLater D.facts engine.old engine.new }
+    ensures refused { IfSome result (λ answer. IfErr answer WasOutOfMemory) }
 {
     if shift.try_inverse().is_none() || !fits_dft::<BabyBear>(values.height(), values.width()) {
         return None;

@@ -2,8 +2,9 @@
 //!
 //! Proved: the answers are those of the jobs, in their order, with no proof file.
 
-ghost use Rattle.std.specs.Prelude.{IfOk};
+ghost use Rattle.std.specs.Prelude.{IfErr, IfOk};
 ghost use Rattle.std.specs.List.{All, AllZip};
+ghost use Rattle.p3_matrix.specs.Room.{WasOutOfMemory};
 ghost use Rattle.p3_dft.specs.Engines.{IsLater};
 ghost use Rattle.p3_dft.specs.Jobs.{CanRun, IsAnswer};
 
@@ -17,6 +18,7 @@ pub fn all_answers<F: TwoAdicField, D: TwoAdicSubgroupDft<F>>(
     requires { All (CanRun F.Valued.own F.TWO_ADICITY) jobs.items }
     ensures answers { IfOk result (λ answers. AllZip (IsAnswer F.Valued.own F.generator) jobs.items answers.items) }
     ensures later { IsLater D.facts engine.old engine.new }
+    ensures refused { IfErr result WasOutOfMemory }
 {
     let answers = run_jobs(engine, jobs)?;
     Ok(answers)

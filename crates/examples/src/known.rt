@@ -4,7 +4,8 @@
 //! Proved: what is answered are the coefficients, or the extension, of the input, though it was found for another
 //! matrix. No clause says that no transform is made then.
 
-ghost use Rattle.std.specs.Prelude.{IfOk};
+ghost use Rattle.std.specs.Prelude.{IfErr, IfOk};
+ghost use Rattle.p3_matrix.specs.Room.{WasOutOfMemory};
 ghost use Rattle.p3_matrix.specs.RowMajor.{height};
 ghost use Rattle.p3_dft.specs.Engines.{IsLater};
 ghost use Rattle.p3_dft.specs.Extensions.{IsExtension};
@@ -24,6 +25,7 @@ pub fn inverse_or_known<F: TwoAdicField, D: TwoAdicSubgroupDft<F>>(
     requires known { IsInterpolation F.Valued.own F.generator known.now F.ring.one coefficients.now }
     ensures coefficients { IfOk result (IsInterpolation F.Valued.own F.generator values F.ring.one) }
     ensures later { IsLater D.facts engine.old engine.new }
+    ensures refused { IfErr result WasOutOfMemory }
 {
     if *known == values {
         return Ok(coefficients.try_clone()?);
@@ -44,6 +46,7 @@ pub fn extension_or_known<F: TwoAdicField, D: TwoAdicSubgroupDft<F>>(
     requires known { IsExtension F.Valued.own F.generator known.now added_bits (F.value shift) extension.now }
     ensures extension { IfOk result (IsExtension F.Valued.own F.generator values added_bits (F.value shift)) }
     ensures later { IsLater D.facts engine.old engine.new }
+    ensures refused { IfErr result WasOutOfMemory }
 {
     if *known == values {
         return Ok(extension.try_clone()?);

@@ -3,11 +3,12 @@
 //! Proved: a transform, an inverse and an extension of a sum of multiples are that sum of the transforms, inverses and
 //! extensions; and a column alone becomes that column of what the whole matrix becomes.
 
-ghost use Rattle.std.specs.Prelude.{◌<◌, IfOk};
+ghost use Rattle.std.specs.Prelude.{◌<◌, IfErr, IfOk};
 ghost use Rattle.p3_field.specs.Ring.{IsInvertible};
 ghost use Rattle.p3_matrix.specs.Combinations.{alone, combination};
 ghost use Rattle.p3_matrix.specs.Cosets.{values_of};
 ghost use Rattle.p3_matrix.specs.Matrix.{Same};
+ghost use Rattle.p3_matrix.specs.Room.{WasOutOfMemory};
 ghost use Rattle.p3_matrix.specs.RowMajor.{HasShapeOf, height};
 ghost use Rattle.p3_dft.specs.Engines.{IsLater};
 ghost use Rattle.p3_dft.specs.Extensions.{IsExtension};
@@ -46,6 +47,7 @@ pub fn transforms_of_a_sum<F: TwoAdicField, D: TwoAdicSubgroupDft<F>>(
         (combination F.ring (F.value a) (values_of F.Valued.own out.first) (F.value b)
         (values_of F.Valued.own out.second))) }
     ensures later { IsLater D.facts engine.old engine.new }
+    ensures refused { IfErr result WasOutOfMemory }
 {
     let first = engine
         .coset_dft_batch(given.first, shift)?
@@ -77,6 +79,7 @@ pub fn inverses_of_a_sum<F: TwoAdicField, D: TwoAdicSubgroupDft<F>>(
         (combination F.ring (F.value a) (values_of F.Valued.own out.first) (F.value b)
         (values_of F.Valued.own out.second))) }
     ensures later { IsLater D.facts engine.old engine.new }
+    ensures refused { IfErr result WasOutOfMemory }
 {
     let first = engine.idft_batch(given.first)?;
     let second = engine.idft_batch(given.second)?;
@@ -106,6 +109,7 @@ pub fn extensions_of_a_sum<F: TwoAdicField, D: TwoAdicSubgroupDft<F>>(
         (combination F.ring (F.value a) (values_of F.Valued.own out.first) (F.value b)
         (values_of F.Valued.own out.second))) }
     ensures later { IsLater D.facts engine.old engine.new }
+    ensures refused { IfErr result WasOutOfMemory }
 {
     let first = engine
         .coset_lde_batch(given.first, added_bits, shift)?
@@ -133,6 +137,7 @@ pub fn transforms_of_a_column<F: TwoAdicField, D: TwoAdicSubgroupDft<F>>(
     ensures whole { IfOk result (λ out. IsTransform F.Valued.own F.generator mat (F.value shift) out.0) }
     ensures column { IfOk result (λ out. Same (values_of F.Valued.own out.1) (alone j (values_of F.Valued.own out.0))) }
     ensures later { IsLater D.facts engine.old engine.new }
+    ensures refused { IfErr result WasOutOfMemory }
 {
     let whole = engine.coset_dft_batch(mat, shift)?.to_row_major_matrix();
     let one = engine.coset_dft_batch(column, shift)?.to_row_major_matrix();
@@ -154,6 +159,7 @@ pub fn inverses_of_a_column<F: TwoAdicField, D: TwoAdicSubgroupDft<F>>(
     ensures whole { IfOk result (λ out. IsInterpolation F.Valued.own F.generator mat (F.value shift) out.0) }
     ensures column { IfOk result (λ out. Same (values_of F.Valued.own out.1) (alone j (values_of F.Valued.own out.0))) }
     ensures later { IsLater D.facts engine.old engine.new }
+    ensures refused { IfErr result WasOutOfMemory }
 {
     let whole = engine.coset_idft_batch(mat, shift)?;
     let one = engine.coset_idft_batch(column, shift)?;
@@ -174,6 +180,7 @@ pub fn extensions_of_a_column<F: TwoAdicField, D: TwoAdicSubgroupDft<F>>(
     ensures whole { IfOk result (λ out. IsExtension F.Valued.own F.generator mat added_bits F.ring.one out.0) }
     ensures column { IfOk result (λ out. Same (values_of F.Valued.own out.1) (alone j (values_of F.Valued.own out.0))) }
     ensures later { IsLater D.facts engine.old engine.new }
+    ensures refused { IfErr result WasOutOfMemory }
 {
     let whole = engine.lde_batch(mat, added_bits)?.to_row_major_matrix();
     let one = engine.lde_batch(column, added_bits)?.to_row_major_matrix();

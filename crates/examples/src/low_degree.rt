@@ -2,8 +2,9 @@
 //!
 //! Proved: it says yes where each column has the values of a polynomial of the degree, and nowhere else.
 
-ghost use Rattle.std.specs.Prelude.{◌↔◌, ◌^◌, ◌≤◌, IfOk, IsTrue};
+ghost use Rattle.std.specs.Prelude.{◌↔◌, ◌^◌, ◌≤◌, IfErr, IfOk, IsTrue};
 ghost use Rattle.p3_field.specs.Ring.{IsInvertible};
+ghost use Rattle.p3_matrix.specs.Room.{WasOutOfMemory};
 ghost use Rattle.p3_matrix.specs.RowMajor.{height};
 ghost use Rattle.p3_matrix.specs.Cosets.{values_of};
 ghost use Rattle.p3_dft.specs.Codes.{HasDegreeBelow};
@@ -30,6 +31,7 @@ pub fn has_low_degree<F: TwoAdicField, D: TwoAdicSubgroupDft<F>>(
         ↔ HasDegreeBelow F.Valued.own F.generator (2 ^ log_degree) n (F.value shift)
         (values_of F.Valued.own values.now))) }
     ensures later { IsLater D.facts engine result.1 }
+    ensures refused { IfErr result.0 WasOutOfMemory }
 {
     let log_points = log2_strict_usize(values.height());
     let mut code = ReedSolomon::new(engine, log_degree, log_points - log_degree, shift);

@@ -4,7 +4,9 @@
 //! to the root. A path of a tree's height that leads to its root starts from the digest of the tree's own leaf, or it
 //! meets a collision: a pair that differs from the tree's pair in its place, and is joined to the same.
 
-ghost use Rattle.std.specs.Prelude.{◌≡◌, ℕ, ◌+◌, ◌-◌, ◌*◌, ◌%◌, ◌^◌, ◌<◌, ◌≤◌, IfOk, get_or, length, map, vec_len};
+ghost use Rattle.std.specs.Prelude.{◌≡◌, ℕ, ◌+◌, ◌-◌, ◌*◌, ◌%◌, ◌^◌, ◌<◌, ◌≤◌, IfErr, IfOk, get_or, length, map};
+ghost use Rattle.std.specs.Prelude.{vec_len};
+ghost use Rattle.p3_matrix.specs.Room.{WasOutOfMemory};
 ghost use Rattle.p3_matrix.specs.RowMajor.{height, rows_from};
 ghost use Rattle.examples.specs.MerkleTrees.{AreNodes, AreToldApartOnPath, climbed, tree};
 
@@ -32,8 +34,9 @@ pub fn tree_of_pairs<F: Field, H: RowHash<F>>(
     leaves: usize,
 ) -> Result<Vec<H::Digest>, DftError>
     requires { height values.now ≡ 2 * leaves }
-    ensures { IfOk result (λ nodes. AreNodes H.worth (H.of_pair hash.now) leaves
+    ensures nodes { IfOk result (λ nodes. AreNodes H.worth (H.of_pair hash.now) leaves
         (λ i. H.of_row hash.now (rows_from values.now (2 * i) 2).values) nodes.items) }
+    ensures refused { IfErr result WasOutOfMemory }
 {
     let mut nodes = Vec::new(*values.allocator());
     // Each place but the first is written below, so any digest will do.
@@ -68,6 +71,7 @@ pub fn path_of<F: Field, H: RowHash<F>>(
         → AreNodes H.worth (H.of_pair h) (2 ^ log_leaves) digest nodes.now
         → climbed (H.of_pair h) (2 ^ log_leaves + leaf) (digest leaf) (map H.worth path.items)
         ≡ H.worth (get_or nodes.now 1 d)) }
+    ensures refused { IfErr result WasOutOfMemory }
 {
     let mut path = growth::with_capacity(alloc, log_leaves)?;
     let mut node = nodes.len() / 2 + leaf;

@@ -6,8 +6,9 @@
 //! root is the tree over these leaves, whatever the order in which the engine lends its blocks. So it depends
 //! on the rows alone: two engines have one root.
 
-ghost use Rattle.std.specs.Prelude.{◌≡◌, ℕ, ◌^◌, IfOk, get_or, length};
+ghost use Rattle.std.specs.Prelude.{◌≡◌, ℕ, ◌^◌, IfErr, IfOk, get_or, length};
 ghost use Rattle.p3_matrix.specs.BitOrder.{reversed_rows};
+ghost use Rattle.p3_matrix.specs.Room.{WasOutOfMemory};
 ghost use Rattle.p3_matrix.specs.RowMajor.{RowMajor, height, row};
 ghost use Rattle.p3_dft.specs.Engines.{IsLater};
 ghost use Rattle.p3_dft.specs.Extensions.{IsExtension};
@@ -147,6 +148,7 @@ fn hashed_extension<F: TwoAdicField, D: TwoAdicSubgroupDft<F>, H: RowHash<F>>(
         IsExtension F.Valued.own F.generator mat added_bits (F.value shift) (reversed_rows p.0.bits p.0.physical)) }
     ensures leaves { IfOk result (λ p. AreDigests H.worth (H.of_row hash.now) p.0.physical p.1.items) }
     ensures later { IsLater D.facts engine.old engine.new }
+    ensures refused { IfErr result WasOutOfMemory }
 {
     let count = extended_height::<F>(mat.height(), mat.width(), added_bits);
     // Each place is written once, so any digest will do.
@@ -209,6 +211,7 @@ pub fn merkle_root<F: TwoAdicField, D: TwoAdicSubgroupDft<F>, H: RowHash<F>>(
     ensures root { IfOk result (λ c. H.worth c.root
         ≡ tree (H.of_pair hash.now) c.rows.bits (λ i. H.of_row hash.now (row c.rows.physical i))) }
     ensures later { IsLater D.facts engine.old engine.new }
+    ensures refused { IfErr result WasOutOfMemory }
 {
     let (rows, leaves) = hashed_extension(engine, hash, mat, added_bits, shift)?;
     let root = root_over::<F, H>(hash, &leaves, log2_strict_usize(rows.height()));
@@ -236,6 +239,7 @@ pub fn roots_of_two<
     ensures one { IfOk result (λ p. H.worth p.0 ≡ H.worth p.1) }
     ensures later { IsLater D.facts one.old one.new }
     ensures later_too { IsLater E.facts other.old other.new }
+    ensures refused { IfErr result WasOutOfMemory }
 {
     let copy = mat.try_clone()?;
     let made = merkle_root(one, hash, mat, added_bits, shift)?;

@@ -2,8 +2,9 @@
 //!
 //! Proved: the coefficients are those of the product, and what the engine promised it promises still.
 
-ghost use Rattle.std.specs.Prelude.{◌≡◌, ℕ, ◌+◌, ◌<◌, ◌≤◌, IfOk, get_or, length, map, vec_len};
+ghost use Rattle.std.specs.Prelude.{◌≡◌, ℕ, ◌+◌, ◌<◌, ◌≤◌, IfErr, IfOk, get_or, length, map, vec_len};
 ghost use Rattle.p3_matrix.specs.Cosets.{point};
+ghost use Rattle.p3_matrix.specs.Room.{WasOutOfMemory};
 ghost use Rattle.p3_dft.specs.Engines.{AtLog, IsLater};
 ghost use Rattle.p3_matrix.specs.Polynomials.{convolution, value};
 ghost use Rattle.p3_dft.specs.Shapes.{FitsDft};
@@ -23,6 +24,7 @@ fn values<F: TwoAdicField, D: TwoAdicSubgroupDft<F>>(
     ensures values { IfOk result (λ out. AtLog size (λ k. (i : ℕ) → i < size → F.value (get_or out.items i F.zero)
         ≡ value F.ring (map F.value coefficients.items) (point F.ring (λ n. F.value (F.generator n)) k F.ring.one i))) }
     ensures later { IsLater D.facts engine.old engine.new }
+    ensures refused { IfErr result WasOutOfMemory }
 {
     let missing = size - coefficients.len();
     extend_by_zeros(&mut coefficients, missing)?;
@@ -58,6 +60,7 @@ pub fn product<F: TwoAdicField, D: TwoAdicSubgroupDft<F>>(
     ensures coefficients { IfOk result (λ out. (n : ℕ) → F.value (get_or out.items n F.zero)
         ≡ convolution F.ring (map F.value a.items) (map F.value b.items) n) }
     ensures later { IsLater D.facts engine.old engine.new }
+    ensures refused { IfErr result WasOutOfMemory }
 {
     let entries = values(engine, a, size)?;
     let others = values(engine, b, size)?;

@@ -4,9 +4,10 @@
 //! Proved: what each answers; that a call succeeds where the engine promised it, that what it prepared is promised from
 //! then on, and that a new engine has made as many products as its own bound says, at most.
 
-ghost use Rattle.std.specs.Prelude.{◌≡◌, ◌<◌, ℕ, ◌^◌, ◌≤◌, ◌+◌, IfOk, IfSome, IsNone, IsOk, vec_len};
+ghost use Rattle.std.specs.Prelude.{◌≡◌, ◌<◌, ℕ, ◌^◌, ◌≤◌, ◌+◌, IfErr, IfOk, IfSome, IsNone, IsOk, vec_len};
 ghost use Rattle.p3_field.specs.Ring.{IsInvertible};
 ghost use Rattle.p3_matrix.specs.BitOrder.{reversed_rows};
+ghost use Rattle.p3_matrix.specs.Room.{WasOutOfMemory};
 ghost use Rattle.p3_matrix.specs.RowMajor.{height};
 ghost use Rattle.p3_dft.specs.Engines.{AtLog, IsCosetPrepared, IsPrepared, col};
 ghost use Rattle.p3_dft.specs.Extensions.{IsExtension};
@@ -134,6 +135,7 @@ pub fn prepare_and_transform<F: TwoAdicField>(
     ensures values { IfOk result (λ answer. IfOk answer
         (λ out. IsTransform F.Valued.own F.generator mat F.ring.one out)) }
     ensures ok { IfOk result IsOk }
+    ensures refused { IfErr result WasOutOfMemory }
 {
     engine.prepare(*mat.allocator(), log_h)?;
     Ok(transform_promised(engine, mat, log_h))
@@ -152,6 +154,7 @@ pub fn prepare_and_transform_by_halves<F: TwoAdicField>(
     ensures values { IfOk result (λ answer. IfOk answer
         (λ out. IsTransform F.Valued.own F.generator mat F.ring.one (reversed_rows out.bits out.physical))) }
     ensures ok { IfOk result IsOk }
+    ensures refused { IfErr result WasOutOfMemory }
 {
     engine.prepare(*mat.allocator(), log_h)?;
     Ok(transform_promised(engine, mat, log_h))
@@ -170,6 +173,7 @@ pub fn prepare_and_transform_by_tiles<F: TwoAdicField>(
     ensures values { IfOk result (λ answer. IfOk answer
         (λ out. IsTransform F.Valued.own F.generator mat F.ring.one out)) }
     ensures ok { IfOk result IsOk }
+    ensures refused { IfErr result WasOutOfMemory }
 {
     engine.prepare(*mat.allocator(), log_h)?;
     Ok(transform_promised(engine, mat, log_h))
@@ -250,7 +254,8 @@ pub fn prepared_by_an_inverse<F: TwoAdicField>(
     requires fits { FitsDft F.TWO_ADICITY (height mat) mat.width }
     requires invertible { IsInvertible F.ring (F.value shift) }
     requires height { height mat ≡ 2 ^ log_h }
-    ensures { IfOk result (λ _. IsPrepared engine.new log_h) }
+    ensures prepared { IfOk result (λ _. IsPrepared engine.new log_h) }
+    ensures refused { IfErr result WasOutOfMemory }
 {
     engine.coset_idft_batch(mat, shift)?;
     Ok(())
@@ -305,6 +310,7 @@ pub fn extend_beside_a_coset<F: TwoAdicField>(
     ensures values { IfOk result (λ out. IsExtension F.Valued.own F.generator mat added_bits F.ring.one
         (reversed_rows out.bits out.physical)) }
     ensures still { IsCosetPrepared F.Valued.own engine.new log_h (F.value shift) }
+    ensures refused { IfErr result WasOutOfMemory }
 {
     engine.lde_batch(mat, added_bits)
 }
@@ -336,7 +342,8 @@ pub fn transform_on_new_coset<F: TwoAdicField>(
 ) -> Result<(), DftError>
     requires fits { FitsDft F.TWO_ADICITY (height mat) mat.width }
     requires height { height mat ≡ 2 ^ log_h }
-    ensures { IfOk result (λ _. IsCosetPrepared F.Valued.own engine.new log_h (F.value shift)) }
+    ensures prepared { IfOk result (λ _. IsCosetPrepared F.Valued.own engine.new log_h (F.value shift)) }
+    ensures refused { IfErr result WasOutOfMemory }
 {
     engine.coset_dft_batch(mat, shift)?;
     Ok(())
@@ -351,6 +358,7 @@ pub fn transform_by_a_new_engine<F: TwoAdicField, D: TwoAdicSubgroupDft<F> + Dro
         (D.Evaluations.natural made.0)) }
     ensures bound { IfOk result (λ made. AtLog (height mat)
         (λ k. D.facts.products_made made.1 ≤ D.facts.transform_products k mat.width)) }
+    ensures refused { IfErr result WasOutOfMemory }
 {
     let mut engine = D::default();
     let values = engine.dft_batch(mat)?;
@@ -367,6 +375,7 @@ pub fn extend_by_a_new_engine<F: TwoAdicField, D: TwoAdicSubgroupDft<F> + Drop>(
         (col made.0)) }
     ensures bound { IfOk result (λ made. AtLog (vec_len column)
         (λ k. D.facts.products_made made.1 ≤ D.facts.extension_products k added_bits 1)) }
+    ensures refused { IfErr result WasOutOfMemory }
 {
     let mut engine = D::default();
     let values = engine.lde(column, added_bits)?;

@@ -9,6 +9,7 @@ ghost use Rattle.std.specs.Prelude.{IfSome, IsNone, Ok, false, get_or, length};
 ghost use Rattle.p3_matrix.specs.BitOrder.{bit_reversal, reversed_rows};
 ghost use Rattle.p3_matrix.specs.Blocks.{AreBlocksOf, IsPartition};
 ghost use Rattle.p3_matrix.specs.Matrix.{Matrix};
+ghost use Rattle.p3_matrix.specs.Room.{WasOutOfMemory};
 ghost use Rattle.p3_matrix.specs.RowMajor.{RowMajor, height};
 ghost use Rattle.p3_matrix.specs.Polynomials.{sum};
 ghost use Rattle.p3_dft.specs.Engines.{AtLog, IsLater};
@@ -38,6 +39,7 @@ pub fn recorded_extension<F: TwoAdicField, D: TwoAdicSubgroupDft<F>>(
     ensures recorded { IfOk result (λ p. AtLog (height mat) (λ k.
         IsPartition (D.facts.block_rows k added_bits) p.0.physical p.1.blocks × (p.1.missed ≡ false))) }
     ensures later { IsLater D.facts engine.old engine.new }
+    ensures refused { IfErr result WasOutOfMemory }
 {
     // There are no more blocks than rows.
     let rows = extended_height::<F>(mat.height(), mat.width(), added_bits);
@@ -155,6 +157,7 @@ pub fn summed_extension<F: TwoAdicField, D: TwoAdicSubgroupDft<F>>(
     ensures summed { IfOk result (λ p.
         F.value p.1 ≡ sum F.ring (length p.0.physical.values) (λ i. F.value (get_or p.0.physical.values i F.zero))) }
     ensures later { IsLater D.facts engine.old engine.new }
+    ensures refused { IfErr result WasOutOfMemory }
 {
     let (out, total) = engine.coset_lde_batch_in_blocks(
         mat,
@@ -219,6 +222,7 @@ pub fn sum_of_first_blocks<F: TwoAdicField, D: TwoAdicSubgroupDft<F>>(
     ensures none { IfOk result (λ found. IsNone found
         → AtLog (height mat) (λ k. 2 ^ (k + added_bits) / D.facts.block_rows k added_bits ≤ limit)) }
     ensures later { IsLater D.facts engine.old engine.new }
+    ensures refused { IfErr result WasOutOfMemory }
 {
     let none_yet = LimitedSum {
         sum: F::ZERO,

@@ -4,10 +4,11 @@
 //! Proved: the rows that were kept are the extension. The test says yes where each of its columns has the values
 //! of a polynomial with no more coefficients than the input has rows, and nowhere else; and it says yes.
 
-ghost use Rattle.std.specs.Prelude.{◌≡◌, ◌↔◌, ◌*◌, ◌^◌, IfOk, IsTrue, length};
+ghost use Rattle.std.specs.Prelude.{◌≡◌, ◌↔◌, ◌*◌, ◌^◌, IfErr, IfOk, IsTrue, length};
 ghost use Rattle.p3_field.specs.Ring.{IsInvertible};
 ghost use Rattle.p3_matrix.specs.BitOrder.{reversed_rows};
 ghost use Rattle.p3_matrix.specs.Cosets.{values_of};
+ghost use Rattle.p3_matrix.specs.Room.{WasOutOfMemory};
 ghost use Rattle.p3_matrix.specs.RowMajor.{height};
 ghost use Rattle.p3_dft.specs.Codes.{HasDegreeBelow};
 ghost use Rattle.p3_dft.specs.Engines.{AtLog, IsLater};
@@ -56,7 +57,8 @@ fn zeros_for<F: TwoAdicField>(
     added_bits: usize,
 ) -> Result<Vec<F>, DftError>
     requires { FitsLde F.TWO_ADICITY (height mat.now) mat.now.width added_bits }
-    ensures { IfOk result (λ zeros. length zeros.items ≡ (height mat.now * 2 ^ added_bits) * mat.now.width) }
+    ensures size { IfOk result (λ zeros. length zeros.items ≡ (height mat.now * 2 ^ added_bits) * mat.now.width) }
+    ensures refused { IfErr result WasOutOfMemory }
 {
     let rows = extended_height::<F>(mat.height(), mat.width(), added_bits);
     let mut zeros = Vec::new(*mat.allocator());
@@ -88,6 +90,7 @@ pub fn kept_extension<F: TwoAdicField, D: TwoAdicSubgroupDft<F>>(
     requires { FitsLde F.TWO_ADICITY (height mat) mat.width added_bits }
     ensures extension { IfOk result (λ out. IsExtension F.Valued.own F.generator mat added_bits (F.value shift) out) }
     ensures later { IsLater D.facts engine.old engine.new }
+    ensures refused { IfErr result WasOutOfMemory }
 {
     let entries = zeros_for(&mat, added_bits)?;
     let (out, kept) = engine.coset_lde_batch_in_blocks(
@@ -116,6 +119,7 @@ pub fn published_degree<F: TwoAdicField, D: TwoAdicSubgroupDft<F>>(
         (height mat) k (F.value shift) (values_of F.Valued.own p.0))) }
     ensures low { IfOk result (λ p. IsTrue p.1) }
     ensures later { IsLater D.facts engine.old engine.new }
+    ensures refused { IfErr result WasOutOfMemory }
 {
     let degree = mat.height();
     let kept = kept_extension(engine, mat, added_bits, shift)?;

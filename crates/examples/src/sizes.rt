@@ -5,8 +5,9 @@
 //! that can be transformed, there is none only where the shape does not fit, what is published is the extension, and
 //! the height's logarithm has a generator. That alone has a proof file.
 
-ghost use Rattle.std.specs.Prelude.{◌≡◌, ◌*◌, ◌^◌, ◌<◌, ◌≤◌, IfOk, IfSome, IsNone, vec_capacity};
+ghost use Rattle.std.specs.Prelude.{◌≡◌, ◌*◌, ◌^◌, ◌<◌, ◌≤◌, IfErr, IfOk, IfSome, IsNone, vec_capacity};
 ghost use Rattle.p3_matrix.specs.BitOrder.{reversed_rows};
+ghost use Rattle.p3_matrix.specs.Room.{WasOutOfMemory};
 ghost use Rattle.p3_matrix.specs.RowMajor.{height};
 ghost use Rattle.p3_dft.specs.Engines.{IsLater};
 ghost use Rattle.p3_dft.specs.Extensions.{IsExtension};
@@ -27,6 +28,7 @@ pub fn zeros<F: TwoAdicField>(
     ensures fits { IfOk result (λ made. IfSome made (λ mat. FitsDft F.TWO_ADICITY (height mat) mat.width)) }
     ensures shape { IfOk result (λ made. IfSome made (λ mat. (height mat ≡ rows) × (mat.width ≡ columns))) }
     ensures none { IfOk result (λ made. IsNone made → ¬ (FitsDft F.TWO_ADICITY rows columns)) }
+    ensures refused { IfErr result WasOutOfMemory }
 {
     if !fits_dft::<F>(rows, columns) {
         return Ok(None);
@@ -45,6 +47,7 @@ fn filled<T: Copy>(
     requires counted { rows * columns < 2 ^ 64 }
     ensures height { IfOk result (λ mat. height mat ≡ rows) }
     ensures width { IfOk result (λ mat. mat.width ≡ columns) }
+    ensures refused { IfErr result WasOutOfMemory }
 {
     let mut values = Vec::new(alloc);
     growth::resize(&mut values, rows * columns, element)?;
@@ -60,6 +63,7 @@ pub fn room_for_extension<F: TwoAdicField>(
         (height mat.now * 2 ^ added_bits) * mat.now.width ≤ vec_capacity v)) }
     ensures none { IfOk result (λ found. IsNone found
         → ¬ (FitsLde F.TWO_ADICITY (height mat.now) mat.now.width added_bits)) }
+    ensures refused { IfErr result WasOutOfMemory }
 {
     if !fits_lde::<F>(mat.height(), mat.width(), added_bits) {
         return Ok(None);

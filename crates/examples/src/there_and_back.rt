@@ -4,10 +4,11 @@
 //! Proved: the values are the polynomials', which needs no proof file, and entry by entry those at the points of the
 //! coset; what comes back is the matrix, whichever way was first; and the coset of one is the subgroup.
 
-ghost use Rattle.std.specs.Prelude.{◌≡◌, ℕ, ◌<◌, IfOk, get_or, length, map, vec_len};
+ghost use Rattle.std.specs.Prelude.{◌≡◌, ℕ, ◌<◌, IfErr, IfOk, get_or, length, map, vec_len};
 ghost use Rattle.p3_field.specs.Ring.{IsInvertible};
 ghost use Rattle.p3_matrix.specs.Matrix.{Same};
 ghost use Rattle.p3_matrix.specs.Polynomials.{value};
+ghost use Rattle.p3_matrix.specs.Room.{WasOutOfMemory};
 ghost use Rattle.p3_matrix.specs.RowMajor.{height};
 ghost use Rattle.p3_dft.specs.Engines.{AtLog, IsLater};
 ghost use Rattle.p3_dft.specs.Shapes.{FitsDft};
@@ -26,6 +27,7 @@ pub fn values_on_a_coset<F: TwoAdicField, D: TwoAdicSubgroupDft<F>>(
     ensures values { IfOk result (λ out.
         IsTransform F.Valued.own F.generator coefficients (F.value shift) (D.Evaluations.natural out)) }
     ensures later { IsLater D.facts engine.old engine.new }
+    ensures refused { IfErr result WasOutOfMemory }
 {
     engine.coset_dft_batch(coefficients, shift)
 }
@@ -40,6 +42,7 @@ pub fn there_and_back<F: TwoAdicField, D: TwoAdicSubgroupDft<F>>(
     requires invertible { IsInvertible F.ring (F.value shift) }
     ensures same { IfOk result (λ back. Same (values_of F.Valued.own back) (values_of F.Valued.own mat)) }
     ensures later { IsLater D.facts engine.old engine.new }
+    ensures refused { IfErr result WasOutOfMemory }
 {
     let values = engine.coset_dft_batch(mat, shift)?;
     engine.coset_idft_batch(values.to_row_major_matrix(), shift)
@@ -56,6 +59,7 @@ pub fn back_and_there<F: TwoAdicField, D: TwoAdicSubgroupDft<F>>(
     ensures same { IfOk result (λ there. Same (values_of F.Valued.own (D.Evaluations.natural there))
         (values_of F.Valued.own mat)) }
     ensures later { IsLater D.facts engine.old engine.new }
+    ensures refused { IfErr result WasOutOfMemory }
 {
     let coefficients = engine.coset_idft_batch(mat, shift)?;
     engine.coset_dft_batch(coefficients, shift)
@@ -75,6 +79,7 @@ pub fn values_at_points<F: TwoAdicField, D: TwoAdicSubgroupDft<F>>(
         ≡ value F.ring (map F.value coefficients.items)
         (point F.ring (λ n. F.value (F.generator n)) k (F.value shift) i))) }
     ensures later { IsLater D.facts engine.old engine.new }
+    ensures refused { IfErr result WasOutOfMemory }
 {
     engine.coset_dft(coefficients, shift)
 }
@@ -88,6 +93,7 @@ pub fn values_on_the_coset_of_one<F: TwoAdicField, D: TwoAdicSubgroupDft<F>>(
     ensures values { IfOk result (λ out.
         IsTransform F.Valued.own F.generator mat F.ring.one (D.Evaluations.natural out)) }
     ensures later { IsLater D.facts engine.old engine.new }
+    ensures refused { IfErr result WasOutOfMemory }
 {
     engine.coset_dft_batch(mat, F::ONE)
 }
@@ -100,6 +106,7 @@ pub fn coefficients_on_the_coset_of_one<F: TwoAdicField, D: TwoAdicSubgroupDft<F
     requires { FitsDft F.TWO_ADICITY (height mat) mat.width }
     ensures coefficients { IfOk result (λ back. IsInterpolation F.Valued.own F.generator mat F.ring.one back) }
     ensures later { IsLater D.facts engine.old engine.new }
+    ensures refused { IfErr result WasOutOfMemory }
 {
     engine.coset_idft_batch(mat, F::ONE)
 }

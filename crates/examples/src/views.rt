@@ -2,8 +2,9 @@
 //!
 //! Proved, with no proof file: each is the row of the extension that it is asked for.
 
-ghost use Rattle.std.specs.Prelude.{◌≡◌, ◌<◌, ◌≤◌, IfOk, IfSome, IsNone};
+ghost use Rattle.std.specs.Prelude.{◌≡◌, ◌<◌, ◌≤◌, IfErr, IfOk, IfSome, IsNone};
 ghost use Rattle.p3_matrix.specs.BitOrder.{reversed_rows};
+ghost use Rattle.p3_matrix.specs.Room.{WasOutOfMemory};
 ghost use Rattle.p3_matrix.specs.RowMajor.{height, row};
 ghost use Rattle.p3_dft.specs.Engines.{IsLater};
 ghost use Rattle.p3_dft.specs.Extensions.{IsExtension};
@@ -21,7 +22,8 @@ pub fn opened_row<F: Field>(
     i: usize,
 ) -> Result<Vec<F>, DftError>
     requires { i < height rows.now.physical }
-    ensures { IfOk result (λ opened. opened.items ≡ row (reversed_rows rows.now.bits rows.now.physical) i) }
+    ensures opened { IfOk result (λ opened. opened.items ≡ row (reversed_rows rows.now.bits rows.now.physical) i) }
+    ensures refused { IfErr result WasOutOfMemory }
 {
     Ok(growth::from_slice(*rows.inner().allocator(), rows.row(i))?)
 }
@@ -32,7 +34,8 @@ pub fn opened_row_of_baby_bears(
     i: usize,
 ) -> Result<Vec<BabyBear>, DftError>
     requires { i < height rows.now.physical }
-    ensures { IfOk result (λ opened. opened.items ≡ row (reversed_rows rows.now.bits rows.now.physical) i) }
+    ensures opened { IfOk result (λ opened. opened.items ≡ row (reversed_rows rows.now.bits rows.now.physical) i) }
+    ensures refused { IfErr result WasOutOfMemory }
 {
     Ok(growth::from_slice(*rows.inner().allocator(), rows.row(i))?)
 }
@@ -53,6 +56,7 @@ pub fn opened_extension<F: TwoAdicField>(
         IfSome p.1 (λ opened. opened.items ≡ row (reversed_rows p.0.bits p.0.physical) i)) }
     ensures none { IfOk result (λ p. IsNone p.1 → height p.0.physical ≤ i) }
     ensures later { IsLater ⟦<Radix2DitParallel<F> as TwoAdicSubgroupDft<F>>⟧.facts engine.old engine.new }
+    ensures refused { IfErr result WasOutOfMemory }
 {
     let extension = engine.coset_lde_batch(mat, added_bits, shift)?;
     if i >= extension.height() {

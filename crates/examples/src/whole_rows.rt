@@ -4,8 +4,9 @@
 //! Proved: which extension each transform makes, and that the products stay within the engine's bound also
 //! where memory is refused.
 
-ghost use Rattle.std.specs.Prelude.{◌≡◌, ◌+◌, ◌-◌, ◌≤◌, IfOk, reverse};
+ghost use Rattle.std.specs.Prelude.{◌≡◌, ◌+◌, ◌-◌, ◌≤◌, IfErr, IfOk, reverse};
 ghost use Rattle.p3_matrix.specs.Matrix.{Matrix};
+ghost use Rattle.p3_matrix.specs.Room.{WasOutOfMemory};
 ghost use Rattle.p3_matrix.specs.RowMajor.{IsRowMajor, height};
 ghost use Rattle.p3_matrix.specs.Cosets.{AreCoefficients, IsValues, values_of};
 ghost use Rattle.p3_dft.specs.Engines.{AtLog, IsLater};
@@ -26,6 +27,7 @@ pub fn extension_in_whole_rows<F: TwoAdicField, D: TwoAdicSubgroupDft<F>>(
     ensures extension { IfOk result (λ out.
         IsExtension F.Valued.own F.generator mat added_bits (F.value shift) (D.Evaluations.natural out)) }
     ensures later { IsLater D.facts engine.old engine.new }
+    ensures refused { IfErr result WasOutOfMemory }
 {
     engine.coset_lde_batch_with_transform(
         mat,
@@ -66,6 +68,7 @@ pub fn extension_of_opposite_entries<F: TwoAdicField>(
         (record { height = c.height; width = 2; entry = λ i j. c.entry (c.height - 1 - i) (1 - j) })
         (k + added_bits) (F.value shift) (values_of F.Valued.own out))) }
     ensures later { IsLater ⟦<Radix2Dit<F> as TwoAdicSubgroupDft<F>>⟧.facts engine.old engine.new }
+    ensures refused { IfErr result WasOutOfMemory }
 {
     engine.coset_lde_batch_with_transform(
         mat,
@@ -90,6 +93,7 @@ pub fn counted_transform<F: TwoAdicField, D: TwoAdicSubgroupDft<F>>(
     ensures cost { AtLog (height mat) (λ k. D.facts.products_made engine.new
         ≤ D.facts.products_made engine.old + D.facts.transform_products k mat.width) }
     ensures later { IsLater D.facts engine.old engine.new }
+    ensures refused { IfErr result WasOutOfMemory }
 {
     engine.dft_batch(mat)
 }

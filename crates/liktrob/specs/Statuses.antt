@@ -1,5 +1,6 @@
 -- Statuses, and what each tells of a call.
 use Rattle.std.specs.Prelude.{◌≡◌, ℕ, Option, Some, None, Result, Ok, Err}
+use Rattle.p3_matrix.specs.Room.{WasOutOfMemory}
 use Rattle.liktrob.specs.declared.refusal.Refusal.{Refusal}
 use Rattle.liktrob.specs.declared.refusal.Refusal.TheVariants.{Engine, Number, Shape, Shift, OutOfMemory}
 
@@ -10,21 +11,22 @@ status (Some Engine) = 1
 status (Some Number) = 2
 status (Some Shape) = 3
 status (Some Shift) = 4
-status (Some (OutOfMemory refused)) = 5
+status (Some (OutOfMemory error)) = 5
 
 -- why there is no answer, if there is none
 abbrev pub refusal_of : {T : Type 0} → Result T Refusal → Option Refusal
 refusal_of (Ok x) = None
 refusal_of (Err refusal) = Some refusal
 
--- what it tells of a call's conditions: the engine is there, numbers are below the modulus, the shape fits, and a shift that is undone has an inverse
+-- what it tells of a call's conditions: the engine is there, numbers are below the modulus, the shape fits, and a shift that is undone has an inverse;
+-- and where they hold and there is no answer, memory was refused to some vector
 abbrev pub Tells : Option Refusal → (engine numbers shape shift : Type 0) → Type 0
 Tells None engine numbers shape shift = engine × numbers × shape × shift
 Tells (Some Engine) engine numbers shape shift = ¬ engine
 Tells (Some Number) engine numbers shape shift = engine × ¬ numbers
 Tells (Some Shape) engine numbers shape shift = engine × numbers × ¬ shape
 Tells (Some Shift) engine numbers shape shift = engine × numbers × shape × ¬ shift
-Tells (Some (OutOfMemory refused)) engine numbers shape shift = engine × numbers × shape × shift
+Tells (Some (OutOfMemory error)) engine numbers shape shift = engine × numbers × shape × shift × WasOutOfMemory error
 
 -- the number is the status that tells which of the conditions is the first that fails, if one does
 abbrev pub IsStatus : ℕ → (engine numbers shape shift : Type 0) → Type 0

@@ -16,7 +16,7 @@ pub enum Refusal {
     Shape,
     /// The shift has no inverse.
     Shift,
-    /// An allocation was refused.
+    /// Memory was refused.
     OutOfMemory(DftError),
 }
 

@@ -199,7 +199,11 @@ fn exchange<F: Field, P: PackedField<Scalar = F>>(pairs: &mut [F])
 }
 
 // Of the pairs of 1 and 2, of 3 and 4, and so on.
-fn exchanges<F: CanonicalField, P: PackedField<Scalar = F>>(rt: &impl Abort, alloc: Global, size: usize)
+fn exchanges<F: CanonicalField, P: PackedField<Scalar = F>>(
+    rt: &impl Abort,
+    alloc: Global,
+    size: usize,
+)
     requires { size ≡ 2 * P.WIDTH }
 {
     let mut pairs: Vec<F> = row(rt, alloc, size, 1, 1);

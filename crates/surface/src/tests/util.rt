@@ -5,8 +5,8 @@ ghost use Rattle.p3_matrix.specs.RowMajor.{height};
 
 use super::{are, matrix};
 use p3_dft::{
-    BabyBear, CanonicalField, Goldilocks, Packable, Products, RowMajorMatrix, RowMajorMatrixViewMut,
-    TwoAdicField, divide_by_height, fits_dft, fits_lde,
+    BabyBear, CanonicalField, Goldilocks, Packable, Products, RowMajorMatrix,
+    RowMajorMatrixViewMut, TwoAdicField, divide_by_height, fits_dft, fits_lde,
 };
 use std::alloc::Global;
 use std::process::Abort;

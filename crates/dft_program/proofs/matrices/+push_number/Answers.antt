@@ -5,6 +5,6 @@ use Rattle.dft_program.proofs.matrices.+push_number.Goals.{then-number-ge10+in_o
 
 pub returns-clause-number : goal.returns-clause-number
 returns-clause-number t c = elim c.if-number-ge10.branch [
-  then-number-ge10+in_ok-push_number w ↦ search (rules, decimal_step c.args.number, append_assoc)
+  | then-number-ge10+in_ok-push_number w ↦ search (rules, decimal_step c.args.number, append_assoc)
   | else-number-ge10 w ↦ search (rules, decimal_digit c.args.number)
 ]

@@ -55,8 +55,8 @@ pub new-requires-clause-full : goal.new-requires-clause-full
 new-requires-clause-full g c =
     (whole_rows _ c.loop-i.i c.width-width.result (omega (arith, c.width-width.ensures.whole.width, c.width-width.ensures.width)) c.loop-i.invariant.long).1
 
-pub returns : goal.returns
-returns g c =
+pub returns-clause-folded : goal.returns-clause-folded
+returns-clause-folded g c =
     let f = g.F.Valued in
     let m = c.args.values.now in
     let all : c.loop-i.i ≡ c.args.half = omega (arith, c.loop-i-test.false, c.loop-i.auto.i-end) in (

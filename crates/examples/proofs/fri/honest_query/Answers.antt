@@ -7,8 +7,8 @@ check-requires-clause-within g c =
     let fits = c.requires.fits in
     omega (arith, one_logarithm _ _ _ fits.height c.requires.height, fits.within, c.in_ok-layers.ensures.known.0)
 
-pub returns : goal.returns
-returns g c =
+pub returns-clause-accepted : goal.returns-clause-accepted
+returns-clause-accepted g c =
     let f = g.F.Valued in
     let told = c.in_ok-layers.ensures in
     let opened = c.in_ok-openings.ensures in

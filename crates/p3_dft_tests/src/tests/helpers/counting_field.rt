@@ -3,7 +3,9 @@
 
 ghost use Rattle.std.specs.Prelude.{◌≤◌};
 
-use p3_dft::{CanonicalField, Field, Lanes, Packable, PackedField, Products, TwoAdicField, Valued, scaled};
+use p3_dft::{
+    CanonicalField, Field, Lanes, Packable, PackedField, Products, TwoAdicField, Valued, scaled,
+};
 use std::alloc::AllocError;
 use std::cell::Cell;
 use std::ops::{Add, Mul, Neg, Sub};
