@@ -39,7 +39,7 @@ pub fn from_baby_bear_generator<D: TwoAdicSubgroupDft<BabyBear>>(
     values: RowMajorMatrix<BabyBear>,
 ) -> Option<Result<RowMajorMatrix<BabyBear>, DftError>>
     ensures coefficients { IfSome result (λ answer. IfOk answer (IsInterpolation baby_bear
-        ⟦<BabyBear as TwoAdicField>⟧.generator values (baby_bear.value baby_bear.GENERATOR))) }
+        ⟦<BabyBear as TwoAdicField>⟧.generator values (baby_bear.value ⟦<BabyBear as Field>⟧.GENERATOR))) }
     ensures none { IsNone result → ¬ (FitsDft ⟦<BabyBear as TwoAdicField>⟧.TWO_ADICITY (height values) values.width) }
     ensures later { IsLater D.facts engine.old engine.new }
     ensures refused { IfSome result (λ answer. IfErr answer WasOutOfMemory) }
