@@ -1,10 +1,17 @@
 -- Words and elements that are gone through side by side, each word naming the element in its place.
 use Rattle.std.proofs.Common.{◌≡◌, ℕ, ◌+◌, ◌<◌, Bool, true, false, IsTrue, ◌&&◌, List, [], ◌∷◌, ◌++◌, length, get_or, set, take, refl, sym, ◌∙◌, subst}
+use Rattle.std.proofs.Common.{IsErr, IsErrAnd, Option, Some, None, Result, Ok, Err, is_none, is_some}
+use Rattle.std.specs.Prelude.{MatchBool}
 use Rattle.std.specs.List.{AllZip}
 use Rattle.std.proofs.lemmas.Bool.{true≢false}
 use Rattle.std.proofs.lemmas.List.{take_more, take_more_set}
 use Rattle.std.proofs.lemmas.Slice.Zip.{all_zipped_more}
 use Rattle.p3_field.specs.Ring.{IsInvertible}
+use Rattle.p3_matrix.specs.Room.{WasOutOfMemory}
+use Rattle.p3_matrix.specs.declared.error.DftError.{DftError}
+use Rattle.liktrob.specs.declared.refusal.Refusal.{Refusal}
+use Rattle.liktrob.specs.declared.refusal.Refusal.TheVariants.{OutOfMemory}
+use Rattle.liktrob.specs.Statuses.{Tells, refusal_of}
 use Rattle.liktrob.specs.Words.{FieldInWords, HasInverse, Names}
 
 module _ {W X : Type 0} (R : W → X → Type 0) (words : List W) (xs : List X) (i : ℕ) where
@@ -28,3 +35,15 @@ pub named_inverse : {F W : Type 0} (f : FieldInWords F W) → ((x y : f.members.
     → HasInverse f shift → IsInvertible f.members.ring (f.members.value s)
 named_inverse f one_value shift s named has =
     subst (λ (x : f.members.Element). IsInvertible f.members.ring x) (one_value (f.members.value has.0) (f.members.value s) (sym has.1 ∙ named)) has.2
+
+-- what is told of a test holds where it did not fail
+pub found_where_some : {A : Type 0} (o : Option A) (P : Type 0) → is_none o ≡ false → MatchBool (is_some o) P (P → ⊥) → P
+found_where_some (Some x) P some told = told
+found_where_some None P some told = absurd (true≢false some)
+
+-- no condition failed, and memory was refused: the error that `?` hands on tells so
+pub out_of_memory_told : {A : Type 0} (r : Result A Refusal) (e : DftError) {engine numbers shape shift : Type 0} → IsErr r × IsErrAnd r (λ y. y ≡ OutOfMemory e) → engine → numbers → shape → shift
+    → WasOutOfMemory e → Tells (refusal_of r) engine numbers shape shift
+out_of_memory_told (Ok x) e err known_engine known_numbers known_shape known_shift refused = (known_engine, known_numbers, known_shape, known_shift)
+out_of_memory_told (Err y) e {engine} {numbers} {shape} {shift} err known_engine known_numbers known_shape known_shift refused =
+    subst (λ (z : Refusal). Tells (refusal_of {T = ℕ} (Err z)) engine numbers shape shift) (sym err.1) (known_engine, known_numbers, known_shape, known_shift, refused)
