@@ -17,7 +17,6 @@ mod laws;
 mod products;
 mod reed_solomon;
 mod shifts;
-mod surface;
 mod tables;
 mod tiles;
 mod util;

@@ -2,8 +2,8 @@
 //! signature, each in a function that has no other purpose, with the caller's condition as its `requires`; and worked
 //! rows by the plain names. A change of the library that breaks a user's line, or asks more of it, fails here.
 //!
-//! All lines name `p3_dft` alone, and are generic where the library is. What a user writes to meet a trait stands, proved
-//! in the same way, where it has a use:
+//! Lines name `p3_dft` alone, and those of the program `dft_program`; they are generic where the library is. What a
+//! user writes to meet a trait stands, proved in the same way, where it has a use:
 //!
 //! | A user's own | Is |
 //! | --- | --- |
@@ -13,7 +13,7 @@
 //! | engine | `NaturalToReversed` of `examples`; `LimitedDft` of `p3_dft_tests` |
 //! | consumer of blocks | `Leaves`, `BlockSum`, `LimitedSum` of `examples`; here `Sum` |
 //! | vector space | `Quadratic` of `examples`; here `Complex` |
-//! | evaluations, butterfly | here: `Kept`, `Crossed` |
+//! | evaluations, butterfly | here: `Kept`, `SumAndDifference` |
 #![tactic(auto)]
 
 #[cfg(test)]

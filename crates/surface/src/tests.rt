@@ -1,5 +1,5 @@
-// Lines by what they are of. Those over engines run worked rows on each engine: a table of rows is one argument, so that
-// an engine is named once.
+// Lines by what they are of. Those over engines run worked rows on each: a table of rows is one argument, so that an
+// engine is named once.
 
 mod algebra;
 mod blocks;
@@ -97,6 +97,11 @@ fn matrix<F: CanonicalField>(
     width: usize,
 ) -> RowMajorMatrix<F> {
     matrix_of(rt, list(rt, alloc, numbers), width)
+}
+
+// Stops the test unless the element has this number.
+fn is<F: CanonicalField>(rt: &impl Abort, found: F, number: u64) {
+    assert!(rt; found.as_canonical_u64() == number, "not {number}");
 }
 
 // Stops the test unless the elements have these numbers.

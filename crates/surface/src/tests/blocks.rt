@@ -4,7 +4,7 @@ ghost use Rattle.std.specs.Prelude.{◌<◌, length};
 ghost use Rattle.p3_matrix.specs.RowMajor.{height};
 ghost use Rattle.p3_dft.specs.Shapes.{FitsLde};
 
-use super::{Topic, are, matrix, over_baby_bear};
+use super::{Topic, are, is, matrix, over_baby_bear};
 use p3_dft::{
     BitReversedMatrixView, BlockConsumer, BlockLimit, BlockRefused, BlocksStopped, CanonicalField,
     DftError, Evaluations, Field, Layout, Products, Recorder, RowMajorMatrix, RowMajorMatrixView,
@@ -57,7 +57,7 @@ fn recorded<F: TwoAdicField, D: TwoAdicSubgroupDft<F>>(
     added_bits: usize,
     shift: F,
     recorder: Recorder<F>,
-    height: &Cell<usize>,
+    size: &Cell<usize>,
 ) -> Option<(BitReversedMatrixView<RowMajorMatrix<F>>, Recorder<F>)>
     requires { FitsLde F.TWO_ADICITY (height mat) mat.width added_bits }
 {
@@ -67,7 +67,7 @@ fn recorded<F: TwoAdicField, D: TwoAdicSubgroupDft<F>>(
         shift,
         |coefficients, _layout| coefficients,
         |block_height| {
-            height.set(block_height);
+            size.set(block_height);
             recorder
         },
     );
@@ -154,7 +154,9 @@ impl<F: Field> BlockConsumer<F> for Sum<F> {
         &mut self,
         _start: usize,
         block: RowMajorMatrixView<'_, F>,
-    ) -> Result<(), Self::Refusal> {
+    ) -> Result<(), Self::Refusal>
+        ensures { ⟦<Sum<F> as BlockConsumer<F>>⟧.step self.old _start block.entry result self.new }
+    {
         for x in block.values() {
             self.sum = self.sum + *x;
         }
@@ -196,7 +198,12 @@ fn is_partition<F: CanonicalField>(
     recorder: &Recorder<F>,
     height: usize,
 ) {
-    assert!(rt; height != 0 && recorder.blocks() == rows.height() / height && !recorder.missed());
+    assert!(rt;
+        height != 0
+            && height <= 4
+            && recorder.blocks() == rows.height() / height
+            && !recorder.missed()
+    );
     let mut seen = [false; 4];
     for i in 0..recorder.blocks() {
         let (start, block) = kept(recorder, i);
@@ -284,7 +291,7 @@ fn summed<F: CanonicalField>(rt: &impl Abort, alloc: Global) {
     let mut sum = Sum { sum: F::ZERO };
     let mat: RowMajorMatrix<F> = matrix(rt, alloc, &[1, 2, 3, 4], 2);
     assert!(rt; consume(&mut sum, 0, mat.as_view()) == Ok(()));
-    are(rt, alloc, &[sum.sum], &[10]);
+    is(rt, sum.sum, 10);
 }
 
 #[test]

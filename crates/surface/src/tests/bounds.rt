@@ -1,12 +1,11 @@
 // The bounds of the traits and the derives of the types, each asked for by a function that does nothing else.
 
 use p3_dft::{
-    BabyBear, BabyBearX8, BitReversedMatrixView, BlockLimit, BlockRefused, BlocksStopped,
-    Butterfly, CanonicalField, DftError, DifButterfly, DifButterflyZeros, DitButterfly,
-    Evaluations, Field, Goldilocks, Job, JobsStopped, Lanes, Layout, NaiveDft, Packable,
-    PackedField, Products, Radix2Bowers, Radix2DFTSmallBatch, Radix2Dit, Radix2DitParallel,
-    Recorder, ReedSolomon, RowMajorMatrix, ScaledDitButterfly, TwiddleFreeButterfly, TwoAdicField,
-    TwoAdicSubgroupDft, Unpublished,
+    BabyBear, BitReversedMatrixView, BlockLimit, BlockRefused, BlocksStopped, Butterfly,
+    CanonicalField, DftError, DifButterfly, DifButterflyZeros, DitButterfly, Evaluations, Field,
+    Goldilocks, Job, JobsStopped, Layout, NaiveDft, Packable, PackedField, Products, Radix2Bowers,
+    Radix2DFTSmallBatch, Radix2Dit, Radix2DitParallel, Recorder, ReedSolomon, RowMajorMatrix,
+    ScaledDitButterfly, TwiddleFreeButterfly, TwoAdicField, TwoAdicSubgroupDft, Unpublished,
 };
 use std::error::Error;
 use std::fmt::{Debug, Display};
@@ -105,9 +104,6 @@ fn number<F: CanonicalField + Debug>() {
 fn fields_have_their_bounds() {
     number::<BabyBear>();
     number::<Goldilocks>();
-    packed::<BabyBear, Lanes<BabyBear, 8>>();
-    packed::<BabyBear, BabyBearX8>();
-    packed::<Goldilocks, Lanes<Goldilocks, 4>>();
 }
 
 #[test]

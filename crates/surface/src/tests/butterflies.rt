@@ -2,10 +2,13 @@
 
 ghost use Rattle.std.specs.Prelude.{◌≡◌, length};
 
+use super::{are, list};
 use p3_dft::{
-    BabyBear, Butterfly, CanonicalField, DifButterfly, DifButterflyZeros, DitButterfly, Goldilocks,
-    Packable, PackedField, Products, ScaledDitButterfly, TwiddleFreeButterfly,
+    BabyBear, Butterfly, CanonicalField, DifButterfly, DifButterflyZeros, DitButterfly, Packable,
+    PackedField, Products, ScaledDitButterfly, TwiddleFreeButterfly, apply_dit_by_place,
+    scale_slice_in_place,
 };
+use std::alloc::Global;
 use std::process::Abort;
 
 fn apply<F: Packable, B: Butterfly<F>, PF: PackedField<Scalar = F>>(
@@ -52,6 +55,17 @@ fn apply_to_rows_oop<F: Packable, B: Butterfly<F>>(
     butterfly.apply_to_rows_oop(src_1, dst_1, src_2, dst_2, products);
 }
 
+fn by_place<F: Packable>(twiddles: &[F], row_1: &mut [F], row_2: &mut [F], products: &mut Products)
+    requires rows { length row_1.old ≡ length row_2.old }
+    requires twiddles { length row_1.old ≡ length twiddles.now }
+{
+    apply_dit_by_place(twiddles, row_1, row_2, products);
+}
+
+fn scale<F: Packable>(values: &mut [F], t: F, products: &mut Products) {
+    scale_slice_in_place(values, t, products);
+}
+
 // The twiddles are public, and read of the scaled one.
 
 fn twiddles<F>(
@@ -85,28 +99,24 @@ fn makes<F: CanonicalField, B: Butterfly<F>>(
 
 fn pairs<F: CanonicalField>(rt: &impl Abort) {
     let (two, three, five) = (F::from_u8(2), F::from_u8(3), F::from_u8(5));
-    makes(rt, DitButterfly(three), five, two, (11, F::ORDER_U64 - 1));
+    makes(rt, DitButterfly(three), five, two, (11, 2013265920));
     makes(rt, DifButterfly(three), five, two, (7, 9));
     makes(rt, DifButterflyZeros(three), five, F::ZERO, (5, 15));
     let scaled = ScaledDitButterfly::new(three, two);
-    makes(rt, scaled, five, two, (22, F::ORDER_U64 - 2));
+    makes(rt, scaled, five, two, (22, 2013265919));
     makes(rt, TwiddleFreeButterfly, five, two, (7, 3));
 }
 
-#[test]
-fn butterflies_make_the_pairs(rt: HostRuntime) {
-    pairs::<BabyBear>(&rt);
-    pairs::<Goldilocks>(&rt);
-}
-
-// A butterfly of a user's own: the two change places.
+// A butterfly of a user's own: the sum and the difference.
 #[derive(Clone, Copy)]
-struct Crossed;
+struct SumAndDifference;
 
-impl<F: Packable> Butterfly<F> for Crossed {
-    ghost near = { λ A r v b x y. y };
+impl<F: Packable> Butterfly<F> for SumAndDifference {
+    ghost use Rattle.p3_matrix.specs.Butterflies.{twiddle_free_near, twiddle_free_far};
 
-    ghost far = { λ A r v b x y. x };
+    ghost near = { λ A r v b. twiddle_free_near r };
+
+    ghost far = { λ A r v b. twiddle_free_far r };
 
     ghost cost = { 0 };
 
@@ -116,17 +126,31 @@ impl<F: Packable> Butterfly<F> for Crossed {
         x_2: PF,
         _products: &mut Products,
     ) -> (PF, PF) {
-        (x_2, x_1)
+        (x_1.add(x_2), x_1.sub(x_2))
     }
 }
 
-fn crosses<F: CanonicalField>(rt: &impl Abort) {
-    let (mut row_1, mut row_2) = ([F::ONE; 11], [F::TWO; 11]);
-    apply_to_rows::<F, Crossed>(&Crossed, &mut row_1, &mut row_2, &mut Products::new());
-    assert!(rt; row_1 == [F::TWO; 11] && row_2 == [F::ONE; 11]);
+fn rows_are_made<F: CanonicalField>(rt: &impl Abort, alloc: Global) {
+    let mut row_1: Vec<F> = list(rt, alloc, &[5, 5, 5]);
+    let mut row_2: Vec<F> = list(rt, alloc, &[2, 2, 2]);
+    assert!(rt; row_1.len() == row_2.len());
+    let mut products = Products::new();
+    apply_to_rows(
+        &SumAndDifference,
+        row_1.as_mut_slice(),
+        row_2.as_mut_slice(),
+        &mut products,
+    );
+    are(rt, alloc, row_1.as_slice(), &[7, 7, 7]);
+    are(rt, alloc, row_2.as_slice(), &[3, 3, 3]);
+}
+
+fn of_any_field<F: CanonicalField>(rt: &impl Abort, alloc: Global) {
+    pairs::<F>(rt);
+    rows_are_made::<F>(rt, alloc);
 }
 
 #[test]
-fn butterflies_of_ones_own(rt: HostRuntime) {
-    crosses::<BabyBear>(&rt);
+fn butterflies_make_the_pairs(rt: HostRuntime) {
+    of_any_field::<BabyBear>(&rt, rt.alloc());
 }

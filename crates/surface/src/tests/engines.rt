@@ -119,18 +119,16 @@ fn prepares<F: TwoAdicField>(rt: &impl Abort, alloc: Global) {
     assert!(rt; are_prepared(&dit, &parallel, &small, 3) == [true, false, false]);
 }
 
-fn of_sizes<F: TwoAdicField>(rt: &impl Abort, alloc: Global) {
-    assert!(rt; F::TWO_ADICITY >= 3);
+// With no tables.
+fn of_no_size<F: TwoAdicField>(rt: &impl Abort, alloc: Global) {
     let none: Radix2DFTSmallBatch<F> = new(alloc, 0).expect(rt, "memory");
     let one: Radix2DFTSmallBatch<F> = with_tile(alloc, 1, 1).expect(rt, "memory");
     assert!(rt; !none.is_prepared(1) && !one.is_prepared(1));
-    let eight: Radix2DFTSmallBatch<F> = new(alloc, 8).expect(rt, "memory");
-    assert!(rt; eight.is_prepared(3) && eight.is_prepared(2) && !eight.is_prepared(4));
 }
 
 fn of_any_field<F: TwoAdicField>(rt: &impl Abort, alloc: Global) {
     prepares::<F>(rt, alloc);
-    of_sizes::<F>(rt, alloc);
+    of_no_size::<F>(rt, alloc);
 }
 
 #[test]

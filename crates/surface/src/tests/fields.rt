@@ -3,29 +3,29 @@
 ghost use Rattle.std.specs.Prelude.{◌≤◌};
 ghost use Rattle.p3_field.specs.Ring.{IsInvertible};
 
-use super::are;
+use super::{are, is, list};
 use p3_dft::{BabyBear, CanonicalField, Field, Goldilocks, TwoAdicField};
 use std::alloc::Global;
 use std::process::Abort;
 
-fn constants<F: Field>() -> [F; 5] {
-    [F::ZERO, F::ONE, F::TWO, F::NEG_ONE, F::GENERATOR]
+fn constants<F: Field>() -> (F, F, F, F, F) {
+    (F::ZERO, F::ONE, F::TWO, F::NEG_ONE, F::GENERATOR)
 }
 
-fn operators<F: Field>(x: F, y: F) -> [F; 4] {
-    [x + y, x - y, x * y, -x]
+fn operators<F: Field>(x: F, y: F) -> (F, F, F, F) {
+    (x + y, x - y, x * y, -x)
 }
 
-fn ones<F: Field>(byte: u8, n: usize) -> [F; 2] {
-    [F::from_u8(byte), F::from_usize(n)]
+fn ones<F: Field>(byte: u8, n: usize) -> (F, F) {
+    (F::from_u8(byte), F::from_usize(n))
 }
 
-fn twice_and_half<F: Field>(x: F) -> [F; 2] {
-    [x.double(), x.halve()]
+fn twice_and_half<F: Field>(x: F) -> (F, F) {
+    (x.double(), x.halve())
 }
 
-fn powers<F: Field>(x: F, n: u64, squarings: usize) -> [F; 3] {
-    [x.div_2exp_u64(n), x.exp_u64(n), x.exp_power_of_2(squarings)]
+fn powers<F: Field>(x: F, n: u64, squarings: usize) -> (F, F, F) {
+    (x.div_2exp_u64(n), x.exp_u64(n), x.exp_power_of_2(squarings))
 }
 
 fn is_zero<F: Field>(x: &F) -> bool {
@@ -88,6 +88,7 @@ fn later<F: Field>(one: Claim<F>, other: Claim<F>) -> Claim<F> {
 #[derive(Clone, Copy)]
 struct Table {
     order: u64,
+    minus_one: u64,
     two_adicity: usize,
     generator: u64,
     of_most_bits: u64,
@@ -95,59 +96,66 @@ struct Table {
     half: u64,
 }
 
-// Of five and three, and of elements near the modulus.
-fn computes<F: CanonicalField>(rt: &impl Abort, alloc: Global, table: Table) {
-    let [three, five] = ones::<F>(3, 5);
-    let minus_one = table.order - 1;
-    are(
-        rt,
-        alloc,
-        &constants::<F>(),
-        &[0, 1, 2, minus_one, table.generator],
-    );
-    are(
-        rt,
-        alloc,
-        &operators(five, three),
-        &[8, 2, 15, table.order - 5],
-    );
-    are(rt, alloc, &twice_and_half(F::ONE), &[2, table.half]);
-    are(rt, alloc, &powers(F::from_u8(8), 3, 2), &[1, 512, 4096]);
-    are(rt, alloc, &powers(three, 0, 0), &[3, 1, 3]);
+fn has_constants<F: CanonicalField>(rt: &impl Abort, table: Table) {
+    let (zero, one, two, minus_one, generator) = constants::<F>();
+    is(rt, zero, 0);
+    is(rt, one, 1);
+    is(rt, two, 2);
+    is(rt, minus_one, table.minus_one);
+    is(rt, generator, table.generator);
 }
 
-fn inverts<F: CanonicalField>(rt: &impl Abort, alloc: Global, table: Table) {
+fn computes<F: CanonicalField>(rt: &impl Abort, table: Table) {
+    let (three, five) = ones::<F>(3, 5);
+    let (sum, difference, product, negative) = operators(F::ONE, F::TWO);
+    is(rt, sum, 3);
+    is(rt, difference, table.minus_one);
+    is(rt, product, 2);
+    is(rt, negative, table.minus_one);
+    let (twice, half) = twice_and_half(five - three - F::ONE);
+    is(rt, twice, 2);
+    is(rt, half, table.half);
+}
+
+fn has_powers<F: CanonicalField>(rt: &impl Abort) {
+    let (quotient, cube, fourth) = powers(F::from_u8(8), 3, 2);
+    is(rt, quotient, 1);
+    is(rt, cube, 512);
+    is(rt, fourth, 4096);
+}
+
+fn inverts<F: CanonicalField>(rt: &impl Abort, table: Table) {
     assert!(rt; is_zero(&F::ZERO) && !is_zero(&F::ONE));
     assert!(rt; try_inverse(&F::ZERO).is_none());
-    assert!(rt; F::TWO.try_inverse().is_some());
-    are(rt, alloc, &[inverse(&F::TWO)], &[table.half]);
+    let two = F::TWO;
+    assert!(rt; two.try_inverse().is_some());
+    is(rt, inverse(&two), table.half);
 }
 
-fn has_roots<F: CanonicalField>(rt: &impl Abort, alloc: Global, table: Table) {
-    let most = two_adicity::<F>();
-    assert!(rt; most == table.two_adicity && F::TWO_ADICITY >= 2 && most <= F::TWO_ADICITY);
-    let roots = [
-        two_adic_generator::<F>(0),
-        two_adic_generator::<F>(1),
-        two_adic_generator::<F>(2),
-        two_adic_generator::<F>(most),
-    ];
-    let numbers = [1, table.order - 1, table.of_two_bits, table.of_most_bits];
-    are(rt, alloc, &roots, &numbers);
+fn has_roots<F: CanonicalField>(rt: &impl Abort, table: Table) {
+    assert!(rt; two_adicity::<F>() == table.two_adicity && F::TWO_ADICITY >= 2);
+    is(rt, two_adic_generator::<F>(0), 1);
+    is(rt, two_adic_generator::<F>(1), table.minus_one);
+    is(rt, two_adic_generator::<F>(2), table.of_two_bits);
+    is(
+        rt,
+        two_adic_generator::<F>(F::TWO_ADICITY),
+        table.of_most_bits,
+    );
 }
 
 fn has_numbers<F: CanonicalField>(rt: &impl Abort, table: Table) {
     assert!(rt; order::<F>() == table.order);
     assert!(rt; new::<F>(table.order).is_none());
-    assert!(rt; new(table.order - 1) == Some(F::NEG_ONE));
-    assert!(rt; as_canonical_u64(&F::NEG_ONE) == table.order - 1);
+    assert!(rt; new(table.minus_one) == Some(F::NEG_ONE));
+    assert!(rt; as_canonical_u64(&F::NEG_ONE) == table.minus_one);
 }
 
 fn orders<F: CanonicalField>(rt: &impl Abort, alloc: Global) {
-    let mut elements = [F::NEG_ONE, F::TWO, F::ZERO, F::ONE];
-    sorted(&mut elements);
-    assert!(rt; elements == [F::ZERO, F::ONE, F::TWO, F::NEG_ONE]);
-    are(rt, alloc, &[least(F::TWO, F::ONE)], &[1]);
+    let mut elements: Vec<F> = list(rt, alloc, &[5, 2, 9, 0]);
+    sorted(elements.as_mut_slice());
+    are(rt, alloc, elements.as_slice(), &[0, 2, 5, 9]);
+    is(rt, least(F::TWO, F::ONE), 1);
     let claim = Claim {
         point: F::ONE,
         value: F::TWO,
@@ -156,14 +164,15 @@ fn orders<F: CanonicalField>(rt: &impl Abort, alloc: Global) {
         point: F::ONE,
         value: F::ONE,
     };
-    assert!(rt; later(other, claim) == claim);
+    is(rt, later(other, claim).value, 2);
 }
 
 fn is_as_in<F: CanonicalField>(rt: &impl Abort, alloc: Global, table: Table) {
-    assert!(rt; 5 < table.order);
-    computes::<F>(rt, alloc, table);
-    inverts::<F>(rt, alloc, table);
-    has_roots::<F>(rt, alloc, table);
+    has_constants::<F>(rt, table);
+    computes::<F>(rt, table);
+    has_powers::<F>(rt);
+    inverts::<F>(rt, table);
+    has_roots::<F>(rt, table);
     has_numbers::<F>(rt, table);
     orders::<F>(rt, alloc);
 }
@@ -172,6 +181,7 @@ fn is_as_in<F: CanonicalField>(rt: &impl Abort, alloc: Global, table: Table) {
 fn baby_bear_has_its_numbers(rt: HostRuntime) {
     let table = Table {
         order: 2013265921,
+        minus_one: 2013265920,
         two_adicity: 27,
         generator: 31,
         of_most_bits: 440564289,
@@ -185,6 +195,7 @@ fn baby_bear_has_its_numbers(rt: HostRuntime) {
 fn goldilocks_has_its_numbers(rt: HostRuntime) {
     let table = Table {
         order: 18446744069414584321,
+        minus_one: 18446744069414584320,
         two_adicity: 32,
         generator: 7,
         of_most_bits: 1753635133440165772,

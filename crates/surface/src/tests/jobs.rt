@@ -18,7 +18,7 @@ fn run<F: TwoAdicField, D: TwoAdicSubgroupDft<F>>(
     engine: &mut D,
     jobs: Vec<Job<F>>,
 ) -> Result<Vec<RowMajorMatrix<F>>, JobsStopped<F>>
-    requires { All (CanRun F.Field.own F.TWO_ADICITY) jobs.items }
+    requires { All (CanRun F.Valued.own F.TWO_ADICITY) jobs.items }
 {
     run_jobs(engine, jobs)
 }
@@ -42,7 +42,7 @@ fn two<F: CanonicalField>(rt: &impl Abort, alloc: Global, numbers: &[u64]) -> Ro
 
 // A job of each kind.
 fn job<F: CanonicalField>(rt: &impl Abort, alloc: Global, kind: usize) -> Job<F>
-    ensures { CanRun F.Field.own F.TWO_ADICITY result }
+    ensures { CanRun F.Valued.own F.TWO_ADICITY result }
 {
     match kind {
         0 => Job::Dft(two(rt, alloc, &[5, 4])),
@@ -66,14 +66,41 @@ const ANSWERS: [&[u64]; 6] = [
     &[5, 5, 5, 5],
 ];
 
-fn list<F: CanonicalField>(rt: &impl Abort, alloc: Global, count: usize) -> Vec<Job<F>>
-    ensures { All (CanRun F.Field.own F.TWO_ADICITY) result.items }
+// The list with one more job.
+fn and_then<F: CanonicalField>(rt: &impl Abort, mut jobs: Vec<Job<F>>, job: Job<F>) -> Vec<Job<F>>
+    requires jobs { All (CanRun F.Valued.own F.TWO_ADICITY) jobs.items }
+    requires job { CanRun F.Valued.own F.TWO_ADICITY job }
+    ensures { All (CanRun F.Valued.own F.TWO_ADICITY) result.items }
 {
-    let mut jobs = Vec::new(alloc);
-    for kind in 0..count {
-        jobs.push(job(rt, alloc, kind)).expect(rt, "memory");
-    }
+    jobs.push(job).expect(rt, "memory");
     jobs
+}
+
+fn one_of_each<F: CanonicalField>(rt: &impl Abort, alloc: Global) -> Vec<Job<F>>
+    ensures { All (CanRun F.Valued.own F.TWO_ADICITY) result.items }
+{
+    let jobs = and_then(rt, Vec::new(alloc), job(rt, alloc, 0));
+    let jobs = and_then(rt, jobs, job(rt, alloc, 1));
+    let jobs = and_then(rt, jobs, job(rt, alloc, 2));
+    let jobs = and_then(rt, jobs, job(rt, alloc, 3));
+    let jobs = and_then(rt, jobs, job(rt, alloc, 4));
+    and_then(rt, jobs, job(rt, alloc, 5))
+}
+
+// The answers, of a list that stopped too.
+fn answers<F: CanonicalField, D: TwoAdicSubgroupDft<F>>(
+    engine: &mut D,
+    jobs: Vec<Job<F>>,
+) -> Vec<RowMajorMatrix<F>>
+    requires { All (CanRun F.Valued.own F.TWO_ADICITY) jobs.items }
+{
+    match run(engine, jobs) {
+        Ok(answers) => answers,
+        Err(stopped) => {
+            let (answers, _error) = answers_before(stopped);
+            answers
+        }
+    }
 }
 
 // A job of each kind, and none.
@@ -82,19 +109,12 @@ pub(crate) fn answered_on<F: CanonicalField, D: TwoAdicSubgroupDft<F>>(
     alloc: Global,
 ) {
     let mut engine = D::default();
-    for count in [6usize, 0] {
-        let answers = match run(&mut engine, list(rt, alloc, count)) {
-            Ok(answers) => answers,
-            Err(stopped) => {
-                let (answers, _error) = answers_before::<F>(stopped);
-                answers
-            }
-        };
-        assert!(rt; answers.len() == count);
-        for (answer, numbers) in answers.iter().zip(&ANSWERS) {
-            are(rt, alloc, answer.values(), numbers);
-        }
+    let found = answers(&mut engine, one_of_each::<F>(rt, alloc));
+    assert!(rt; found.len() == ANSWERS.len());
+    for (answer, numbers) in found.iter().zip(&ANSWERS) {
+        are(rt, alloc, answer.values(), numbers);
     }
+    assert!(rt; answers::<F, D>(&mut engine, Vec::new(alloc)).is_empty());
 }
 
 #[test]

@@ -4,9 +4,9 @@ ghost use Rattle.std.specs.Prelude.{◌≡◌, ◌*◌, ◌/◌, ◌^◌, ◌<�
 ghost use Rattle.p3_matrix.specs.RowMajor.{height};
 
 use p3_dft::{
-    BitReversedMatrixView, DftError, Evaluations, Packable, Products, RowMajorMatrix,
-    RowMajorMatrixView, RowMajorMatrixViewMut, log2_strict_usize, reverse_bits_len,
-    reverse_matrix_index_bits, reverse_slice_index_bits, swap_rows,
+    BitReversedMatrixView, DftError, Evaluations, IntoRowMajorMatrix, Packable, Products,
+    RowMajorMatrix, RowMajorMatrixView, RowMajorMatrixViewMut, log2_strict_usize, reverse_bits_len,
+    reverse_matrix_index_bits, reverse_slice_index_bits, split_rows_mut, swap_rows,
 };
 use std::alloc::Global;
 use std::process::Abort;
@@ -91,6 +91,10 @@ fn view_row<'a, T>(view: &RowMajorMatrixView<'a, T>, i: usize) -> &'a [T]
 
 // Views for writing.
 
+fn view_mut_of<T>(mat: &mut RowMajorMatrix<T>) -> RowMajorMatrixViewMut<'_, T> {
+    RowMajorMatrixViewMut::new(mat)
+}
+
 fn view_mut_shape<T>(view: &RowMajorMatrixViewMut<'_, T>) -> (usize, usize) {
     (view.width(), view.height())
 }
@@ -119,6 +123,18 @@ fn write<T: Copy>(view: &mut RowMajorMatrixViewMut<'_, T>, i: usize, entry: T)
 
 fn view_scale<F: Packable>(view: &mut RowMajorMatrixViewMut<'_, F>, t: F, products: &mut Products) {
     view.scale(t, products);
+}
+
+// Of the entries of a matrix.
+fn split<T>(values: &mut [T], width: usize, rows: usize) -> (&mut [T], &mut [T])
+    requires { rows * width ≤ length values.old }
+{
+    split_rows_mut(values, width, rows)
+}
+
+// What can be handed over as a matrix.
+fn stored<T, N: IntoRowMajorMatrix<T>>(mat: N) -> RowMajorMatrix<T> {
+    mat.into_row_major_matrix()
 }
 
 // Rows in reversed order.
@@ -198,19 +214,13 @@ impl<F: Drop> Evaluations<F> for Kept<F> {
 
 // Four rows of one number.
 fn four(rt: &impl Abort, alloc: Global) -> RowMajorMatrix<u8>
-    ensures width { result.width ≡ 1 }
     ensures height { height result ≡ 4 }
+    ensures power { (k : ℕ) × (height result ≡ 2 ^ k) }
 {
     let mut numbers = Vec::new(alloc);
     numbers
         .extend_from_slice(&[10u8, 20, 30, 40])
         .expect(rt, "memory");
-    new_col_of(numbers)
-}
-
-fn new_col_of(numbers: Vec<u8>) -> RowMajorMatrix<u8>
-    ensures { result ≡ record { width = 1; values = numbers.items } }
-{
     RowMajorMatrix::new_col(numbers)
 }
 
@@ -219,8 +229,8 @@ fn rows_change_their_order(rt: HostRuntime) {
     let alloc = rt.alloc();
     let mut mat = four(&rt, alloc);
     reverse_matrix(&mut mat.as_view_mut());
-    assert!(rt; values(&mat) == [10u8, 30, 20, 40].as_slice());
-    swap_rows(&mut mat.as_view_mut(), 1, 2);
+    assert!(rt; values(&mat) == [10u8, 30, 20, 40].as_slice() && mat.height() == 4);
+    swap(&mut mat.as_view_mut(), 1, 2);
     assert!(rt; equal(&mat, &four(&rt, alloc)) && shape(&mat) == (1, 4));
 }
 

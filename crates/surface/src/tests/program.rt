@@ -1,8 +1,6 @@
 // The program on words, over a sink, and worked rows of it.
 
-use dft_program::counted::Counted;
-use dft_program::program::run;
-use dft_program::sink::Sink;
+use dft_program::{Counted, Sink, run};
 use std::alloc::Global;
 use std::io;
 use std::io::Write;
@@ -109,13 +107,16 @@ const LINES: [Line; 14] = [
     ),
 ];
 
+fn all_end(rt: &impl Abort, alloc: Global, lines: &[Line]) {
+    for (words, status, text) in lines {
+        ends(rt, alloc, words, *status, text);
+    }
+}
+
 #[test]
 fn words_end_as_worked(rt: HostRuntime) {
-    let alloc = rt.alloc();
-    for (words, status, text) in &LINES {
-        ends(&rt, alloc, words, *status, text);
-    }
-    ends(&rt, alloc, &[], 2, "error 4: too few words\n");
+    all_end(&rt, rt.alloc(), &LINES);
+    ends(&rt, rt.alloc(), &[], 2, "error 4: too few words\n");
 }
 
 #[test]

@@ -7,9 +7,9 @@ ghost use Rattle.p3_dft.specs.Shapes.{FitsDft, FitsLde};
 
 use super::{Topic, are, list, matrix, over_baby_bear, over_goldilocks};
 use p3_dft::{
-    BitReversedMatrixView, CanonicalField, DftError, Evaluations, Layout, Products, Radix2Bowers,
-    Radix2DFTSmallBatch, Radix2Dit, Radix2DitParallel, RowMajorMatrix, TwoAdicField,
-    TwoAdicSubgroupDft, fits_dft, fits_lde,
+    BabyBear, BitReversedMatrixView, CanonicalField, DftError, Evaluations, Layout, NaiveDft,
+    Products, Radix2Bowers, Radix2DFTSmallBatch, Radix2Dit, Radix2DitParallel, RowMajorMatrix,
+    TwoAdicField, TwoAdicSubgroupDft, fits_dft, fits_lde,
 };
 use std::alloc::Global;
 use std::process::Abort;
@@ -170,18 +170,12 @@ fn layout_in_view<
 
 fn layouts<F: TwoAdicField>() -> [Layout; 5] {
     [
-        layout_in_rows::<F, p3_dft::NaiveDft>(),
+        layout_in_rows::<F, NaiveDft>(),
         layout_in_rows::<F, Radix2Dit<F>>(),
         layout_in_rows::<F, Radix2Bowers>(),
         layout_in_view::<F, Radix2DitParallel<F>>(),
         layout_in_rows::<F, Radix2DFTSmallBatch<F>>(),
     ]
-}
-
-#[test]
-fn engines_have_their_layouts(rt: HostRuntime) {
-    let (natural, reversed) = (Layout::Natural, Layout::BitReversed);
-    assert!(rt; layouts::<p3_dft::BabyBear>() == [natural, natural, reversed, reversed, natural]);
 }
 
 // A call of an engine.
@@ -471,17 +465,12 @@ fn physical<F: CanonicalField>(rt: &impl Abort, alloc: Global) {
     );
 }
 
-#[test]
-fn rows_lie_reversed(rt: HostRuntime) {
-    physical::<p3_dft::BabyBear>(&rt, rt.alloc());
-}
-
 // The heights of blocks: the whole output, but for one engine.
 fn block_heights<F: TwoAdicField>(rt: &impl Abort) {
     for log_h in 0..9usize {
         for added_bits in 0..4usize {
             let whole = Some(1usize << (log_h + added_bits));
-            let some = Some(1usize << (log_h - log_h.div_ceil(2)));
+            let some = Some(1usize << (log_h / 2));
             assert!(rt; whole_blocks::<F>(log_h, added_bits) == [whole; 4]);
             let parallel = Radix2DitParallel::<F>::default();
             assert!(rt; block_height(&parallel, log_h, added_bits) == some);
@@ -491,14 +480,21 @@ fn block_heights<F: TwoAdicField>(rt: &impl Abort) {
 
 fn whole_blocks<F: TwoAdicField>(log_h: usize, added_bits: usize) -> [Option<usize>; 4] {
     [
-        block_height::<F, p3_dft::NaiveDft>(&p3_dft::NaiveDft::default(), log_h, added_bits),
+        block_height::<F, NaiveDft>(&NaiveDft::default(), log_h, added_bits),
         block_height(&Radix2Dit::<F>::default(), log_h, added_bits),
         block_height::<F, Radix2Bowers>(&Radix2Bowers::default(), log_h, added_bits),
         block_height(&Radix2DFTSmallBatch::<F>::default(), log_h, added_bits),
     ]
 }
 
+fn as_in_the_table<F: CanonicalField>(rt: &impl Abort, alloc: Global) {
+    let (natural, reversed) = (Layout::Natural, Layout::BitReversed);
+    assert!(rt; layouts::<F>() == [natural, natural, reversed, reversed, natural]);
+    physical::<F>(rt, alloc);
+    block_heights::<F>(rt);
+}
+
 #[test]
-fn blocks_have_their_heights(rt: HostRuntime) {
-    block_heights::<p3_dft::BabyBear>(&rt);
+fn engines_are_as_in_the_table(rt: HostRuntime) {
+    as_in_the_table::<BabyBear>(&rt, rt.alloc());
 }

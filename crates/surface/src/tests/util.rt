@@ -5,8 +5,8 @@ ghost use Rattle.p3_matrix.specs.RowMajor.{height};
 
 use super::{are, matrix};
 use p3_dft::{
-    BabyBear, CanonicalField, Goldilocks, Packable, Products, RowMajorMatrix,
-    RowMajorMatrixViewMut, TwoAdicField, divide_by_height, fits_dft, fits_lde,
+    BabyBear, CanonicalField, Packable, Products, RowMajorMatrix, RowMajorMatrixViewMut,
+    TwoAdicField, divide_by_height, fits_dft, fits_lde,
 };
 use std::alloc::Global;
 use std::process::Abort;
@@ -58,9 +58,12 @@ fn limits<F: TwoAdicField>(rt: &impl Abort, most: usize) {
     assert!(rt; !fits_extension::<F>(3, 1, 1));
 }
 
+fn of_any_field<F: CanonicalField>(rt: &impl Abort, alloc: Global, most: usize) {
+    limits::<F>(rt, most);
+    divides::<F>(rt, alloc);
+}
+
 #[test]
 fn shapes_fit_up_to_their_limits(rt: HostRuntime) {
-    limits::<BabyBear>(&rt, 27);
-    limits::<Goldilocks>(&rt, 32);
-    divides::<BabyBear>(&rt, rt.alloc());
+    of_any_field::<BabyBear>(&rt, rt.alloc(), 27);
 }
