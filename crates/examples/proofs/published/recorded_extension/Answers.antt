@@ -20,3 +20,6 @@ returns-in-Ok-clause-recorded g c = λ k e.
     (rw rows (omega (arith, tall, div-le_self (height out) b)))
     (rw (rows, c.width-2.ensures.width, tall, wide) (omega arith))
     (c.in-Ok.ensures.published k e)
+
+pub returns-in-OutOfMemory-clause-refused : goal.returns-in-OutOfMemory-clause-refused
+returns-in-OutOfMemory-clause-refused g c = (_, rw c.in-OutOfMemory.is at c.in-Err.ensures.engine.refused)

@@ -10,7 +10,7 @@ returns-in-Refused-clause-first g c = λ k e.
     let x = where_refused _ _ _ _ c.in-Refused.is c.in-Err.ensures.refused k e in
     let (starts, many, distinct, within, total) = sum_at_refusal field.ring field.value field.zero _ _ _ _ (λ s. field.value s.sum) (λ s. s.left) c.args.limit _ _
     (λ s start r e told. told.0 refl) (λ s start r e told. told.1 refl) (λ s made.
-    let none : s.sum ≡ field.zero = search of_calls in
+    let none : s.sum ≡ g.F.Field.ZERO = search of_calls in
     (ap field.value none ∙ g.met.F.Field.zero_law, (let all : s.left ≡ c.args.limit = search of_calls in all))) x.2 in
     let high = (x.1.extended k e).height in
     (x.0, x.1, starts, many, distinct, (λ i d inside. let told = within i d inside in (told.0, subst (λ (h : ℕ). get_or starts i d < h) high told.1)), total)
@@ -24,3 +24,6 @@ returns-in-Ok-clause-none g c = λ empty k e.
     subst (λ (h : ℕ). h / b ≤ c.args.limit) tall
     (blocks_within _ (λ s. s.left) (λ s start r after told. (told.0 refl).0) _ c.args.limit b out c.in-Ok.taken
     (λ s made. let all : s.left ≡ c.args.limit = search of_calls in all) (c.in-Ok.ensures.published k e))
+
+pub returns-in-OutOfMemory-clause-refused : goal.returns-in-OutOfMemory-clause-refused
+returns-in-OutOfMemory-clause-refused g c = (_, rw c.in-OutOfMemory.is at c.in-Err.ensures.engine.refused)
