@@ -8,3 +8,4 @@ pub mod MerkleTrees
 pub mod OppositeEntries
 pub mod Quadratics
 pub mod Queries
+pub mod Refusals

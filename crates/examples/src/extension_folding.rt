@@ -7,10 +7,10 @@
 //! `fold_into_extension`, each later one by `fold` over the extension with the shift squared once for each layer before
 //! and embedded by `E::from_base`, and sends what `last_coefficients` answers.
 
-ghost use Rattle.std.specs.Prelude.{◌≡◌, ℕ, suc, ◌+◌, ◌*◌, ◌/◌, ◌^◌, ◌≤◌, IfErr, IfOk};
+ghost use Rattle.std.specs.Prelude.{◌≡◌, ℕ, suc, ◌+◌, ◌*◌, ◌/◌, ◌^◌, ◌≤◌, IfErr, IfOk, length};
 ghost use Rattle.p3_field.specs.Ring.{IsInvertible};
 ghost use Rattle.p3_matrix.specs.Cosets.{values_of};
-ghost use Rattle.p3_matrix.specs.Room.{WasOutOfMemory};
+ghost use Rattle.p3_matrix.specs.Room.{IsWithin, WasOutOfMemory};
 ghost use Rattle.p3_matrix.specs.RowMajor.{height};
 ghost use Rattle.p3_dft.specs.Codes.{HasDegreeBelow};
 ghost use Rattle.p3_dft.specs.Coordinates.{flat};
@@ -30,7 +30,7 @@ pub fn embed<F: TwoAdicField, E: ExtensionField<F>>(
     values: &RowMajorMatrix<F>,
 ) -> Result<RowMajorMatrix<E>, DftError>
     ensures embedded { IfOk result (λ out. out ≡ embedded_matrix E.embedded values.now) }
-    ensures refused { IfErr result WasOutOfMemory }
+    ensures refused { IfErr result (IsWithin (length values.now.values)) }
 {
     let width = values.width();
     let mut embedded = growth::with_capacity(*values.allocator(), values.values().len())?;

@@ -8,7 +8,7 @@ ghost use Rattle.std.specs.Prelude.{◌≡◌, ◌↔◌, ◌*◌, ◌^◌, IfEr
 ghost use Rattle.p3_field.specs.Ring.{IsInvertible};
 ghost use Rattle.p3_matrix.specs.BitOrder.{reversed_rows};
 ghost use Rattle.p3_matrix.specs.Cosets.{values_of};
-ghost use Rattle.p3_matrix.specs.Room.{WasOutOfMemory};
+ghost use Rattle.p3_matrix.specs.Room.{IsWithin, WasOutOfMemory};
 ghost use Rattle.p3_matrix.specs.RowMajor.{height};
 ghost use Rattle.p3_dft.specs.Codes.{HasDegreeBelow};
 ghost use Rattle.p3_dft.specs.Engines.{AtLog, IsLater};
@@ -58,7 +58,7 @@ fn zeros_for<F: TwoAdicField>(
 ) -> Result<Vec<F>, DftError>
     requires { FitsLde F.TWO_ADICITY (height mat.now) mat.now.width added_bits }
     ensures size { IfOk result (λ zeros. length zeros.items ≡ (height mat.now * 2 ^ added_bits) * mat.now.width) }
-    ensures refused { IfErr result WasOutOfMemory }
+    ensures refused { IfErr result (IsWithin ((height mat.now * 2 ^ added_bits) * mat.now.width)) }
 {
     let rows = extended_height::<F>(mat.height(), mat.width(), added_bits);
     let mut zeros = Vec::new(*mat.allocator());

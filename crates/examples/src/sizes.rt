@@ -7,7 +7,7 @@
 
 ghost use Rattle.std.specs.Prelude.{◌≡◌, ◌*◌, ◌^◌, ◌<◌, ◌≤◌, IfErr, IfOk, IfSome, IsNone, vec_capacity};
 ghost use Rattle.p3_matrix.specs.BitOrder.{reversed_rows};
-ghost use Rattle.p3_matrix.specs.Room.{WasOutOfMemory};
+ghost use Rattle.p3_matrix.specs.Room.{IsWithin, WasOutOfMemory};
 ghost use Rattle.p3_matrix.specs.RowMajor.{height};
 ghost use Rattle.p3_dft.specs.Engines.{IsLater};
 ghost use Rattle.p3_dft.specs.Extensions.{IsExtension};
@@ -47,7 +47,7 @@ fn filled<T: Copy>(
     requires counted { rows * columns < 2 ^ 64 }
     ensures height { IfOk result (λ mat. height mat ≡ rows) }
     ensures width { IfOk result (λ mat. mat.width ≡ columns) }
-    ensures refused { IfErr result WasOutOfMemory }
+    ensures refused { IfErr result (IsWithin (rows * columns)) }
 {
     let mut values = Vec::new(alloc);
     growth::resize(&mut values, rows * columns, element)?;
@@ -63,7 +63,7 @@ pub fn room_for_extension<F: TwoAdicField>(
         (height mat.now * 2 ^ added_bits) * mat.now.width ≤ vec_capacity v)) }
     ensures none { IfOk result (λ found. IsNone found
         → ¬ (FitsLde F.TWO_ADICITY (height mat.now) mat.now.width added_bits)) }
-    ensures refused { IfErr result WasOutOfMemory }
+    ensures refused { IfErr result (IsWithin ((height mat.now * 2 ^ added_bits) * mat.now.width)) }
 {
     if !fits_lde::<F>(mat.height(), mat.width(), added_bits) {
         return Ok(None);

@@ -4,7 +4,7 @@
 
 ghost use Rattle.std.specs.Prelude.{◌≡◌, ◌<◌, ◌≤◌, IfErr, IfOk, IfSome, IsNone};
 ghost use Rattle.p3_matrix.specs.BitOrder.{reversed_rows};
-ghost use Rattle.p3_matrix.specs.Room.{WasOutOfMemory};
+ghost use Rattle.p3_matrix.specs.Room.{IsWithin, WasOutOfMemory};
 ghost use Rattle.p3_matrix.specs.RowMajor.{height, row};
 ghost use Rattle.p3_dft.specs.Engines.{IsLater};
 ghost use Rattle.p3_dft.specs.Extensions.{IsExtension};
@@ -23,7 +23,7 @@ pub fn opened_row<F: Field>(
 ) -> Result<Vec<F>, DftError>
     requires { i < height rows.now.physical }
     ensures opened { IfOk result (λ opened. opened.items ≡ row (reversed_rows rows.now.bits rows.now.physical) i) }
-    ensures refused { IfErr result WasOutOfMemory }
+    ensures refused { IfErr result (IsWithin rows.now.physical.width) }
 {
     Ok(growth::from_slice(*rows.inner().allocator(), rows.row(i))?)
 }
@@ -35,7 +35,7 @@ pub fn opened_row_of_baby_bears(
 ) -> Result<Vec<BabyBear>, DftError>
     requires { i < height rows.now.physical }
     ensures opened { IfOk result (λ opened. opened.items ≡ row (reversed_rows rows.now.bits rows.now.physical) i) }
-    ensures refused { IfErr result WasOutOfMemory }
+    ensures refused { IfErr result (IsWithin rows.now.physical.width) }
 {
     Ok(growth::from_slice(*rows.inner().allocator(), rows.row(i))?)
 }

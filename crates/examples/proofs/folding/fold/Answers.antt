@@ -23,7 +23,7 @@ fold_rows-requires-clause-factors g c =
 pub returns-clause-shape : goal.returns-clause-shape
 returns-clause-shape g c =
     let half = (half_height _ _ c.log_height-log_half.ensures.power c.requires.pairs).2 in
-    IfOk-weaker c.fold_rows.result _ _ (λ out given. (omega (arith, given.0, half, c.height-half.ensures.height), given.1)) c.fold_rows.ensures
+    IfOk-weaker c.fold_rows.result _ _ (λ out given. (omega (arith, given.0, half, c.height-half.ensures.height), given.1)) c.fold_rows.ensures.folded
 
 pub returns-clause-folded : goal.returns-clause-folded
 returns-clause-folded g c =
@@ -36,7 +36,7 @@ returns-clause-folded g c =
     let rows = rows_by_factors f.ring roots c.args.layout (f.value c.args.beta) k _ _ (f.value c.args.shift) (values_of f c.args.values.now) (values_of f out) _ _
     half.0 power high given.0 given.1 c.in_ok-factors.ensures.factors (λ i. ap (λ xs. f.value (get_or xs i f.zero)) c.deref.ensures.value) (given.2 k (f.value c.args.beta) power) in
     (folded_values f.ring roots (f.value c.args.beta) k (f.value c.args.shift) _ _ (exponent_within (suc k) c.requires.fits high) c.requires.invertible rows, rows))
-    c.fold_rows.ensures
+    c.fold_rows.ensures.folded
 
 pub returns-clause-degree : goal.returns-clause-degree
 returns-clause-degree g c =

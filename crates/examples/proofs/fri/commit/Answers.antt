@@ -10,6 +10,7 @@ use Rattle.p3_matrix.specs.RowMajor.{height}
 use Rattle.examples.specs.Fri.{IsLayer}
 use Rattle.p3_dft.proofs.Laws.Points.{one_logarithm}
 use Rattle.examples.proofs.Codewords.{get_or_pushed, layers_pushed, smaller}
+use Rattle.examples.proofs.Refusals.{told_by_growth}
 use Rattle.examples.proofs.fri.commit.Goals as goal
 
 pub loop-fold-init : goal.loop-fold-init
@@ -121,3 +122,12 @@ returns-clause-shapes g c = λ l y below.
       ap height (sym (get_or-map (λ y. y.codeword) items l y c.loop-fold.last below)) ∙ is.height ∙ omega (arith, two-pow-succ (c.args.log_height - suc l)),
       ap length (sym (get_or-map (λ y. y.nodes.items) items l y [] below)) ∙ is.tree.long,
     )
+
+pub returns-in_err-layers-clause-refused : goal.returns-in_err-layers-clause-refused
+returns-in_err-layers-clause-refused g c = told_by_growth c.from_residual.result _ _ c.from_residual.ensures c.in_err-layers.ensures.room
+
+pub returns-in_err-roots-clause-refused : goal.returns-in_err-roots-clause-refused
+returns-in_err-roots-clause-refused g c = told_by_growth c.from_residual-in_err-roots.result _ _ c.from_residual-in_err-roots.ensures c.in_err-roots.ensures.room
+
+pub returns-in_err-challenges-clause-refused : goal.returns-in_err-challenges-clause-refused
+returns-in_err-challenges-clause-refused g c = told_by_growth c.from_residual-in_err-challenges.result _ _ c.from_residual-in_err-challenges.ensures c.in_err-challenges.ensures.room

@@ -7,6 +7,7 @@ use Rattle.p3_matrix.specs.Cosets.{values_of}
 use Rattle.examples.specs.Fri.{FoldsDown}
 use Rattle.examples.proofs.Codewords.{behind_map, pairs_fold, width_of_layer}
 use Rattle.examples.proofs.Queries.{place_inside, some_element}
+use Rattle.examples.proofs.Refusals.{told_by_growth}
 use Rattle.examples.proofs.fri.open.Goals as goal
 
 pub open_layer-requires-clause-inside : goal.open_layer-requires-clause-inside
@@ -102,3 +103,6 @@ returns-clause-folds g c = λ h s betas last are o.
     (λ l below.
     let here = are l below in
     inv.folds l (some_element layers l below) o (within l below) h _ _ _ (rw (codeword l below, tree l below) at here)))
+
+pub returns-in_err-openings-clause-refused : goal.returns-in_err-openings-clause-refused
+returns-in_err-openings-clause-refused g c = told_by_growth c.from_residual.result _ _ c.from_residual.ensures c.in_err-openings.ensures.room

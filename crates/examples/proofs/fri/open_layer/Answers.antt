@@ -6,6 +6,7 @@ use Rattle.p3_matrix.specs.RowMajor.{height}
 use Rattle.examples.specs.Fri.{FoldsTo}
 use Rattle.examples.specs.MerkleTrees.{AreNodes, climbed}
 use Rattle.examples.proofs.Queries.{entries_of_pair, height_of_pair, pair_folds}
+use Rattle.examples.proofs.Refusals.{told_by_growth}
 use Rattle.examples.proofs.fri.open_layer.Goals as goal
 
 pub returns-clause-entries : goal.returns-clause-entries
@@ -43,3 +44,6 @@ returns-clause-folds g c = λ h s beta next is.
     let pair_is : c.new-pair.result ≡ rows_from m (2 * i) 2 = search rules in
     subst (λ p. FoldsTo f gen c.args.log_half s beta i (values_of f p) ((values_of f next).entry i)) (sym pair_is)
     (pair_folds f m c.allocator-alloc.ensures.whole c.args.log_half i is.height c.requires.inside gen beta s next (subst IsRowMajor c.view_rows-rows.ensures c.values.ensures.whole) is.folds)
+
+pub returns-in_err-from_slice-clause-refused : goal.returns-in_err-from_slice-clause-refused
+returns-in_err-from_slice-clause-refused g c = told_by_growth c.from_residual.result _ _ c.from_residual.ensures c.in_err-from_slice.ensures.room
