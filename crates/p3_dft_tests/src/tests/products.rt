@@ -9,7 +9,7 @@ ghost use Rattle.p3_dft.specs.Shapes.{FitsDft, FitsLde};
 
 use super::algebra::elements_of;
 use super::answers::by_tiles;
-use super::helpers::counting_field::{InPacks, Meter, Packs, Tally};
+use super::helpers::counting_field::{InPacks, Metered, Tally};
 use super::helpers::engines::{Name, TestEngine, input, rows_of};
 use super::helpers::fitting::invertible;
 use super::helpers::matrices::matrix_of;
@@ -458,31 +458,30 @@ fn engines_and_bounds<F: TwoAdicField>(
 }
 
 // Entries that are all marked.
-pub(crate) fn marked<F: CanonicalField, M: Meter>(
+pub(crate) fn marked<F: Metered>(
     rt: &impl Abort,
     alloc: Global,
     height: usize,
     width: usize,
-    mark: M,
-) -> RowMajorMatrix<Tally<F, M>> {
+    mark: F::Mark,
+) -> RowMajorMatrix<F> {
     let count = height.checked_mul(width).expect(rt, "so many entries");
     let mut entries = Vec::new(alloc);
     for n in 0..count {
-        let entry = Tally::marked(F::from_usize(n), mark);
-        entries.push(entry).expect(rt, "memory");
+        entries.push(F::marked(n, mark)).expect(rt, "memory");
     }
     matrix_of(rt, entries, width)
 }
 
 // Every call over the field, at one shape.
-fn over_field<F: CanonicalField, M: Packs<Tally<F, M>>>(
+fn over_field<F: Metered>(
     rt: &impl Abort,
     alloc: Global,
-    (count, mark): (&Count<'_>, M),
+    (count, mark): (&Count<'_>, F::Mark),
     shape: Shape,
     from: BoundsFrom,
 ) {
-    let mat = marked::<F, M>(rt, alloc, rows(shape.log_h), shape.width, mark);
+    let mat = marked::<F>(rt, alloc, rows(shape.log_h), shape.width, mark);
     for (engine, bounds) in engines_and_bounds(rt, alloc, from, shape) {
         let mut engine = engine;
         calls_within(rt, count, &mut engine, &mat, (shape, bounds));
@@ -493,45 +492,45 @@ fn over_field<F: CanonicalField, M: Packs<Tally<F, M>>>(
 }
 
 // Every call over a vector space.
-fn over_coordinates<
-    F: CanonicalField,
-    M: Packs<Tally<F, M>>,
-    V: BasedVectorSpace<Tally<F, M>> + Copy,
->(rt: &impl Abort, alloc: Global, (count, mark): (&Count<'_>, M), shape: Shape) {
+fn over_coordinates<F: Metered, V: BasedVectorSpace<F> + Copy>(
+    rt: &impl Abort,
+    alloc: Global,
+    (count, mark): (&Count<'_>, F::Mark),
+    shape: Shape,
+) {
     let elements = rows(shape.log_h).saturating_mul(shape.width);
-    let coordinates = marked::<F, M>(rt, alloc, elements, V::DIMENSION, mark);
-    let mat = elements_of::<Tally<F, M>, V>(rt, &coordinates, shape.width);
+    let coordinates = marked::<F>(rt, alloc, elements, V::DIMENSION, mark);
+    let mat = elements_of::<F, V>(rt, &coordinates, shape.width);
     let of_coordinates = Shape {
         width: shape.width.saturating_mul(V::DIMENSION),
         ..shape
     };
     for (engine, bounds) in engines_and_bounds(rt, alloc, BoundsFrom::Formulas, of_coordinates) {
         let mut engine = engine;
-        space_within::<Tally<F, M>, V>(rt, count, &mut engine, &mat, (shape, bounds));
+        space_within::<F, V>(rt, count, &mut engine, &mat, (shape, bounds));
     }
 }
 
 // Every call at one shape, over the field and over both vector spaces.
-fn at_shape<F, M, V, W>(
+fn at_shape<F, V, W>(
     rt: &impl Abort,
     alloc: Global,
-    (count, mark): (&Count<'_>, M),
+    (count, mark): (&Count<'_>, F::Mark),
     (log_h, width, added_bits): (usize, usize, usize),
 )
 where
-    F: CanonicalField,
-    M: Packs<Tally<F, M>>,
-    V: BasedVectorSpace<Tally<F, M>> + Copy,
-    W: BasedVectorSpace<Tally<F, M>> + Copy,
+    F: Metered,
+    V: BasedVectorSpace<F> + Copy,
+    W: BasedVectorSpace<F> + Copy,
 {
     let shape = Shape {
         log_h,
         width,
         added_bits,
     };
-    over_field::<F, M>(rt, alloc, (count, mark), shape, BoundsFrom::Formulas);
-    over_coordinates::<F, M, V>(rt, alloc, (count, mark), shape);
-    over_coordinates::<F, M, W>(rt, alloc, (count, mark), shape);
+    over_field::<F>(rt, alloc, (count, mark), shape, BoundsFrom::Formulas);
+    over_coordinates::<F, V>(rt, alloc, (count, mark), shape);
+    over_coordinates::<F, W>(rt, alloc, (count, mark), shape);
 }
 
 // Wider rows and larger heights: the height's logarithm, the width and the bits that are added.
@@ -544,22 +543,21 @@ const LARGER_SHAPES: [(usize, usize, usize); 5] = [
 ];
 
 // Every call at every shape.
-fn at_every_shape<F, M, V, W>(rt: &impl Abort, alloc: Global, (count, mark): (&Count<'_>, M))
+fn at_every_shape<F, V, W>(rt: &impl Abort, alloc: Global, (count, mark): (&Count<'_>, F::Mark))
 where
-    F: CanonicalField,
-    M: Packs<Tally<F, M>>,
-    V: BasedVectorSpace<Tally<F, M>> + Copy,
-    W: BasedVectorSpace<Tally<F, M>> + Copy,
+    F: Metered,
+    V: BasedVectorSpace<F> + Copy,
+    W: BasedVectorSpace<F> + Copy,
 {
     for log_h in 0..7usize {
         for width in [1usize, 3] {
             for added_bits in 0..6usize {
-                at_shape::<F, M, V, W>(rt, alloc, (count, mark), (log_h, width, added_bits));
+                at_shape::<F, V, W>(rt, alloc, (count, mark), (log_h, width, added_bits));
             }
         }
     }
     for shape in LARGER_SHAPES {
-        at_shape::<F, M, V, W>(rt, alloc, (count, mark), shape);
+        at_shape::<F, V, W>(rt, alloc, (count, mark), shape);
     }
 }
 
@@ -571,12 +569,9 @@ fn assert_seen(rt: &impl Abort, count: &Count<'_>, wanted: usize) {
 
 // One product is counted for each that a marked element, or what came of one, has a part in: in packs one for
 // each lane.
-fn sees_products<F: CanonicalField, M: Packs<Tally<F, M>>>(
-    rt: &impl Abort,
-    (count, mark): (&Count<'_>, M),
-) {
-    let one = Tally::<F, M>::ONE;
-    let x = -(one - Tally::marked(F::TWO, mark)).halve() + one;
+fn sees_products<F: Metered>(rt: &impl Abort, (count, mark): (&Count<'_>, F::Mark)) {
+    let one = F::ONE;
+    let x = -(one - F::marked(2, mark)).halve() + one;
     let mut products = Products::new();
     let _ = one * one;
     assert_seen(rt, count, 0);
@@ -584,29 +579,28 @@ fn sees_products<F: CanonicalField, M: Packs<Tally<F, M>>>(
     assert_seen(rt, count, 1);
     let _ = scaled(x, one, &mut products);
     assert_seen(rt, count, 1);
-    let pack = M::Packing::broadcast(x).scaled(one, &mut products);
-    assert_seen(rt, count, M::Packing::WIDTH);
-    let _ = M::Packing::broadcast(one).multiplied(pack, &mut products);
-    assert_seen(rt, count, M::Packing::WIDTH);
+    let pack = F::Packing::broadcast(x).scaled(one, &mut products);
+    assert_seen(rt, count, F::Packing::WIDTH);
+    let _ = F::Packing::broadcast(one).multiplied(pack, &mut products);
+    assert_seen(rt, count, F::Packing::WIDTH);
 }
 
 // The rows that were worked, and every shape.
-fn counts<F, M, V, W>(rt: &impl Abort, alloc: Global, cell: &Cell<usize>, mark: M)
+fn counts<F, V, W>(rt: &impl Abort, alloc: Global, cell: &Cell<usize>, mark: F::Mark)
 where
-    F: CanonicalField,
-    M: Packs<Tally<F, M>>,
-    V: BasedVectorSpace<Tally<F, M>> + Copy,
-    W: BasedVectorSpace<Tally<F, M>> + Copy,
+    F: Metered,
+    V: BasedVectorSpace<F> + Copy,
+    W: BasedVectorSpace<F> + Copy,
 {
     let count = &Count { cell };
-    sees_products::<F, M>(rt, (count, mark));
+    sees_products::<F>(rt, (count, mark));
     let shape = Shape {
         log_h: 3,
         width: 1,
         added_bits: 1,
     };
-    over_field::<F, M>(rt, alloc, (count, mark), shape, BoundsFrom::WorkedRows);
-    at_every_shape::<F, M, V, W>(rt, alloc, (count, mark));
+    over_field::<F>(rt, alloc, (count, mark), shape, BoundsFrom::WorkedRows);
+    at_every_shape::<F, V, W>(rt, alloc, (count, mark));
 }
 
 // An element that counts, and packs of so many of it.
@@ -617,8 +611,7 @@ fn products_stay_within_bounds_by_one_lane(rt: HostRuntime) {
     let count = Cell::new(0);
     let mark = InPacks::of(&count);
     counts::<
-        BabyBear,
-        InPacks<'_, 1>,
+        Counting<'_, BabyBear, 1>,
         Coordinates<Counting<'_, BabyBear, 1>, 1>,
         Coordinates<Counting<'_, BabyBear, 1>, 2>,
     >(&rt, rt.alloc(), &count, mark);
@@ -629,8 +622,7 @@ fn products_stay_within_bounds_by_four_lanes_one_by_one(rt: HostRuntime) {
     let count = Cell::new(0);
     let mark = InPacks::of(&count);
     counts::<
-        Goldilocks,
-        InPacks<'_, 4>,
+        Counting<'_, Goldilocks, 4>,
         Coordinates<Counting<'_, Goldilocks, 4>, 1>,
         Coordinates<Counting<'_, Goldilocks, 4>, 2>,
     >(&rt, rt.alloc(), &count, mark);
@@ -641,8 +633,7 @@ fn products_stay_within_bounds_by_eight_lanes(rt: HostRuntime) {
     let count = Cell::new(0);
     let mark = InPacks::of(&count);
     counts::<
-        BabyBear,
-        InPacks<'_, 8>,
+        Counting<'_, BabyBear, 8>,
         Coordinates<Counting<'_, BabyBear, 8>, 1>,
         Coordinates<Counting<'_, BabyBear, 8>, 2>,
     >(&rt, rt.alloc(), &count, mark);

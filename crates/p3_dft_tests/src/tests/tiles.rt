@@ -4,7 +4,7 @@
 // many products there are is not promised.
 
 use super::answers::by_tiles;
-use super::helpers::counting_field::{InPacks, Packs, Tally};
+use super::helpers::counting_field::{InPacks, Metered, Tally};
 use super::helpers::engines::{TestEngine, input, rows_of};
 use super::products::marked;
 use engine_calls::names::{Call, Operation};
@@ -46,13 +46,13 @@ fn products_by_tile<F: TwoAdicField>(
     products
 }
 
-fn tiles_are_copied<F: CanonicalField, M: Packs<Tally<F, M>>>(
+fn tiles_are_copied<F: Metered>(
     rt: &impl Abort,
     alloc: Global,
     count: &Cell<usize>,
-    mark: M,
+    mark: F::Mark,
 ) {
-    let column: RowMajorMatrix<Tally<F, M>> = marked(rt, alloc, 64, 1, mark);
+    let column: RowMajorMatrix<F> = marked(rt, alloc, 64, 1, mark);
     let by_element = products_by_tile(rt, &column, count, 1);
     assert!(rt; products_by_tile(rt, &column, count, 8192) != by_element);
 }
@@ -61,5 +61,5 @@ fn tiles_are_copied<F: CanonicalField, M: Packs<Tally<F, M>>>(
 fn a_clone_keeps_its_tile(rt: HostRuntime) {
     let count = Cell::new(0);
     let mark = InPacks::of(&count);
-    tiles_are_copied::<BabyBear, InPacks<'_, 1>>(&rt, rt.alloc(), &count, mark);
+    tiles_are_copied::<Tally<BabyBear, InPacks<'_, 1>>>(&rt, rt.alloc(), &count, mark);
 }

@@ -92,16 +92,6 @@ impl<F: Copy, M: Copy> Clone for Tally<F, M> {
     }
 }
 
-impl<F, M> Tally<F, M> {
-    // An element with a mark.
-    pub(crate) fn marked(element: F, mark: M) -> Tally<F, M> {
-        Tally {
-            element,
-            mark: Some(mark),
-        }
-    }
-}
-
 // The mark of what comes of two elements.
 fn mark_of<M: Copy>(one: Option<M>, other: Option<M>) -> Option<M> {
     match one {
@@ -398,4 +388,24 @@ impl<F: CanonicalField, M: Packs<Tally<F, M>>> CanonicalField for Tally<F, M> {
     ghost number_below_law = { λ x. F.number_below_law x.element };
 
     ghost count_law = { F.count_law };
+}
+
+// A field whose products a mark counts. Tests are over one such field, so that they do not show of each `Tally` anew
+// what is known of it.
+pub(crate) trait Metered: CanonicalField {
+    type Mark: Copy;
+
+    // The element of this number, with a mark.
+    fn marked(number: usize, mark: Self::Mark) -> Self;
+}
+
+impl<F: CanonicalField, M: Packs<Tally<F, M>>> Metered for Tally<F, M> {
+    type Mark = M;
+
+    fn marked(number: usize, mark: M) -> Tally<F, M> {
+        Tally {
+            element: F::from_usize(number),
+            mark: Some(mark),
+        }
+    }
 }
