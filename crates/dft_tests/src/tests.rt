@@ -136,7 +136,8 @@ fn ends(
     is_left(rt, words, &out, found, status, text);
 }
 
-// The same where these are the words of a command line, behind the program's name.
+// Stops the test unless the program, on these words of a command line behind its name, ends with this status and leaves
+// this text.
 fn line_ends(rt: &impl Abort, alloc: Global, words: &[&str], status: u8, text: &[u8]) {
     let line = line_of(rt, alloc, words);
     let mut out = Stubborn::with_room(alloc, 2000);
