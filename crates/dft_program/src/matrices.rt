@@ -4,7 +4,7 @@ ghost use Rattle.std.specs.Prelude.{◌≡◌, ◌++◌, ◌*◌, ◌/◌, ◌<�
 ghost use Rattle.std.specs.Fmt.{decimal};
 ghost use Rattle.p3_matrix.specs.RowMajor.{IsRowMajor, rows};
 ghost use Rattle.dft_program.specs.Arguments.{numbers_of, reaches};
-ghost use Rattle.dft_program.specs.Refusals.{SomeRefused};
+ghost use Rattle.dft_program.specs.Refusals.{IsSmall, SomeRefused};
 ghost use Rattle.dft_program.specs.Text.{line_of_numbers, text_of_rows, spaced};
 
 use crate::arguments::{element_of, number_or_zero};
@@ -17,6 +17,7 @@ pub fn matrix_of<F: CanonicalField>(
     width: usize,
     words: &[String],
 ) -> Result<RowMajorMatrix<F>, Refused>
+    requires small { IsSmall F.row }
     requires below { reaches F.ORDER_U64 (numbers_of words.now) ≡ false }
     requires width { 1 ≤ width }
     requires full { (length words.now / width) * width ≡ length words.now }

@@ -9,7 +9,7 @@ ghost use Rattle.dft_program.specs.Answers.{job_of};
 ghost use Rattle.dft_program.specs.Faults.{memory_line, seen};
 ghost use Rattle.dft_program.specs.NumberedFields.{numbered};
 ghost use Rattle.dft_program.specs.Outcome.{Gives, IsAnswerable, IsOutcome, IsOutcomeIn, IsOutcomeOver, Outcome, RanOut, asked};
-ghost use Rattle.dft_program.specs.Refusals.{SomeRefused};
+ghost use Rattle.dft_program.specs.Refusals.{IsSmall, SomeRefused};
 ghost use Rattle.dft_program.specs.Sinks.{Took, TookStartOf};
 ghost use Rattle.dft_program.specs.Words.{ToldAll};
 
@@ -162,6 +162,7 @@ fn answer_in<F: CanonicalField>(
     operation: Operation,
     words: &[String],
 ) -> Result<Vec<u8>, Stopped>
+    requires small { IsSmall F.row }
     ensures { (element : ℕ → F.Element) → ((n : ℕ) → n < F.ORDER_U64 → F.number (element n) ≡ n)
         → Gives result (IsOutcomeOver (numbered F.Valued.own F.generator F.TWO_ADICITY F.ORDER_U64 element)
         operation (map string_bytes words.now)) }
@@ -198,7 +199,8 @@ fn answer_by<F: CanonicalField>(
     engine: EngineName,
     job: Job<F>,
 ) -> Result<RowMajorMatrix<F>, DftError>
-    requires { CanRun F.Valued.own F.TWO_ADICITY job }
+    requires small { IsSmall F.row }
+    requires runnable { CanRun F.Valued.own F.TWO_ADICITY job }
     ensures answer { IfOk result (IsAnswer F.Valued.own F.generator job) }
     ensures refused { OnErr result SomeRefused }
 {
@@ -217,7 +219,9 @@ fn answer_to<F: CanonicalField, D: TwoAdicSubgroupDft<F>>(
     engine: &mut D,
     job: Job<F>,
 ) -> Result<RowMajorMatrix<F>, DftError>
-    requires { CanRun F.Valued.own F.TWO_ADICITY job }
+    requires small { IsSmall F.row }
+    requires tables { D.facts.table_bytes ≤ 64 }
+    requires runnable { CanRun F.Valued.own F.TWO_ADICITY job }
     ensures answer { IfOk result (IsAnswer F.Valued.own F.generator job) }
     ensures refused { OnErr result SomeRefused }
 {

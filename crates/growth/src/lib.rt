@@ -8,14 +8,17 @@
 //! beyond every memory, refused just that growth. So a function whose error has that fact in a clause was refused
 //! a growth before, in the same call or in an earlier one, from which the fact was kept.
 //!
-//! The number in it is of the elements for which room was needed. `with_capacity`, `from_slice` and `reserve_exact`
-//! ask the allocator for just these. The others ask as std's vectors do, so that many pushes copy little: where the room
-//! at hand is too small, for twice that room if this is more, and for no fewer than 4 elements (8 of one byte, one of
-//! more than 1,024 bytes). Who makes the room first, by one of the three, asks for no more than the number says.
+//! The fact has two numbers: how many bytes an element takes, and for how many elements room was needed. So a vector of
+//! a few vast elements, which every machine refuses, does not show that memory for many small ones was refused.
+//! `with_capacity`, `from_slice` and `reserve_exact` ask the allocator for just these elements. The others ask as std's
+//! vectors do, so that many pushes copy little: where the room at hand is too small, for twice that room if this is
+//! more, and for no fewer than 4 elements (8 of one byte, one of more than 1,024 bytes). Who makes the room first, by
+//! one of the three, asks for no more than the numbers say.
 #![tactic(auto)]
 
 ghost use Rattle.std.specs.Prelude.{◌≡◌, ◌+◌, ◌-◌, ◌<◌, ◌≤◌, ◌++◌, ◌∷◌, [], ℕ, IfOk, IsOk, OnOk, OnErr, is_ok};
 ghost use Rattle.std.specs.Prelude.{if◌then◌else◌, length, max, take, replicate, vec_len, vec_capacity};
+ghost use Rattle.std.specs.Mem.{type_size};
 ghost use Rattle.growth.specs.Evidence.{IsEvidence};
 ghost use Rattle.growth.specs.Refusals.{WasRefused};
 
@@ -35,8 +38,8 @@ pub struct Refused {
 
 // The one place where a refusal is told: of an error of std's. Contracts of this crate alone can name
 // `IsEvidence`, and no other crate can name this function's. No clause says that std refused: the calls of this function are read for that.
-fn refusal(_error: AllocError, _room: usize) -> Refused
-    ensures { IsEvidence _room }
+fn refusal<T>(_error: AllocError, _room: usize) -> Refused
+    ensures { IsEvidence (type_size T.row) _room }
 {
     Refused { made: () }
 }
@@ -48,11 +51,11 @@ pub fn with_capacity<T>(alloc: Global, capacity: usize) -> Result<Vec<T>, Refuse
     ensures capacity { IfOk result (λ v. capacity ≤ vec_capacity v) }
     ensures exact { IfOk result (λ v. vec_capacity v ≡ capacity) }
     ensures succeeds { capacity ≡ 0 → IsOk result }
-    ensures room { OnErr result (WasRefused capacity) }
+    ensures room { OnErr result (WasRefused (type_size T.row) capacity) }
 {
     match Vec::with_capacity(alloc, capacity) {
         Ok(items) => Ok(items),
-        Err(error) => Err(refusal(error, capacity)),
+        Err(error) => Err(refusal::<T>(error, capacity)),
     }
 }
 
@@ -60,11 +63,11 @@ pub fn with_capacity<T>(alloc: Global, capacity: usize) -> Result<Vec<T>, Refuse
 pub fn from_slice<T: Copy>(alloc: Global, from: &[T]) -> Result<Vec<T>, Refused>
     ensures items { IfOk result (λ v. v.items ≡ from.now) }
     ensures len { IfOk result (λ v. vec_len v ≡ length from.now) }
-    ensures room { OnErr result (WasRefused (length from.now)) }
+    ensures room { OnErr result (WasRefused (type_size T.row) (length from.now)) }
 {
     match Vec::from_slice(alloc, from) {
         Ok(items) => Ok(items),
-        Err(error) => Err(refusal(error, from.len())),
+        Err(error) => Err(refusal::<T>(error, from.len())),
     }
 }
 
@@ -77,11 +80,11 @@ pub fn reserve<T>(items: &mut Vec<T>, additional: usize) -> Result<(), Refused>
     ensures succeeds { vec_len items.old + additional ≤ vec_capacity items.old → IsOk result }
     ensures full { OnErr result (vec_capacity items.old < vec_len items.old + additional) }
     ensures err { OnErr result (vec_capacity items.new ≡ vec_capacity items.old) }
-    ensures room { OnErr result (WasRefused (vec_len items.old + additional)) }
+    ensures room { OnErr result (WasRefused (type_size T.row) (vec_len items.old + additional)) }
 {
     match items.reserve(additional) {
         Ok(()) => Ok(()),
-        Err(error) => Err(refusal(error, items.len().saturating_add(additional))),
+        Err(error) => Err(refusal::<T>(error, items.len().saturating_add(additional))),
     }
 }
 
@@ -96,11 +99,11 @@ pub fn reserve_exact<T>(items: &mut Vec<T>, additional: usize) -> Result<(), Ref
     ensures succeeds { vec_len items.old + additional ≤ vec_capacity items.old → IsOk result }
     ensures full { OnErr result (vec_capacity items.old < vec_len items.old + additional) }
     ensures err { OnErr result (vec_capacity items.new ≡ vec_capacity items.old) }
-    ensures room { OnErr result (WasRefused (vec_len items.old + additional)) }
+    ensures room { OnErr result (WasRefused (type_size T.row) (vec_len items.old + additional)) }
 {
     match items.reserve_exact(additional) {
         Ok(()) => Ok(()),
-        Err(error) => Err(refusal(error, items.len().saturating_add(additional))),
+        Err(error) => Err(refusal::<T>(error, items.len().saturating_add(additional))),
     }
 }
 
@@ -113,11 +116,11 @@ pub fn push<T: Drop>(items: &mut Vec<T>, value: T) -> Result<(), Refused>
     ensures capacity { vec_capacity items.old ≤ vec_capacity items.new }
     ensures succeeds { vec_len items.old < vec_capacity items.old → IsOk result }
     ensures full { OnErr result (vec_capacity items.old ≤ vec_len items.old) }
-    ensures room { OnErr result (WasRefused (vec_len items.old + 1)) }
+    ensures room { OnErr result (WasRefused (type_size T.row) (vec_len items.old + 1)) }
 {
     match items.push(value) {
         Ok(()) => Ok(()),
-        Err(AllocFailed { value: _value }) => Err(refusal(
+        Err(AllocFailed { value: _value }) => Err(refusal::<T>(
             AllocError,
             items.len().saturating_add(1),
         )),
@@ -133,11 +136,11 @@ pub fn resize<T: Copy>(items: &mut Vec<T>, n: usize, value: T) -> Result<(), Ref
     ensures capacity { vec_capacity items.old ≤ vec_capacity items.new }
     ensures succeeds { n ≤ vec_capacity items.old → IsOk result }
     ensures full { OnErr result (vec_capacity items.old < n) }
-    ensures room { OnErr result (WasRefused n) }
+    ensures room { OnErr result (WasRefused (type_size T.row) n) }
 {
     match items.resize(n, value) {
         Ok(()) => Ok(()),
-        Err(error) => Err(refusal(error, n)),
+        Err(error) => Err(refusal::<T>(error, n)),
     }
 }
 
@@ -150,10 +153,10 @@ pub fn extend_from_slice<T: Copy>(items: &mut Vec<T>, from: &[T]) -> Result<(), 
     ensures capacity { vec_capacity items.old ≤ vec_capacity items.new }
     ensures succeeds { vec_len items.old + length from.now ≤ vec_capacity items.old → IsOk result }
     ensures full { OnErr result (vec_capacity items.old < vec_len items.old + length from.now) }
-    ensures room { OnErr result (WasRefused (vec_len items.old + length from.now)) }
+    ensures room { OnErr result (WasRefused (type_size T.row) (vec_len items.old + length from.now)) }
 {
     match items.extend_from_slice(from) {
         Ok(()) => Ok(()),
-        Err(error) => Err(refusal(error, items.len().saturating_add(from.len()))),
+        Err(error) => Err(refusal::<T>(error, items.len().saturating_add(from.len()))),
     }
 }

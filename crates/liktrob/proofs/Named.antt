@@ -1,14 +1,15 @@
 -- Words and elements that are gone through side by side, each word naming the element in its place.
 use Rattle.std.proofs.Common.{◌≡◌, ℕ, ◌+◌, ◌<◌, Bool, true, false, IsTrue, ◌&&◌, List, [], ◌∷◌, ◌++◌, length, get_or, set, take, refl, sym, ◌∙◌, subst}
-use Rattle.std.proofs.Common.{IsErr, IsErrAnd, Option, Some, None, Result, Ok, Err, is_none, is_some}
+use Rattle.std.proofs.Common.{IfErr, IsErr, IsErrAnd, ◌≤◌, arith, inl, inr, Option, Some, None, Result, Ok, Err, is_none, is_some}
 use Rattle.std.specs.Prelude.{MatchBool}
 use Rattle.std.specs.List.{AllZip}
 use Rattle.std.proofs.lemmas.Bool.{true≢false}
 use Rattle.std.proofs.lemmas.List.{take_more, take_more_set}
 use Rattle.std.proofs.lemmas.Slice.Zip.{all_zipped_more}
 use Rattle.p3_field.specs.Ring.{IsInvertible}
-use Rattle.p3_matrix.specs.Room.{WasOutOfMemory}
 use Rattle.p3_matrix.specs.declared.error.DftError.{DftError}
+use Rattle.p3_matrix.specs.Room.{IsWithinEither}
+use Rattle.p3_matrix.proofs.Rooms.{within_larger}
 use Rattle.liktrob.specs.declared.refusal.Refusal.{Refusal}
 use Rattle.liktrob.specs.declared.refusal.Refusal.TheVariants.{OutOfMemory}
 use Rattle.liktrob.specs.Statuses.{Tells, refusal_of}
@@ -41,9 +42,15 @@ pub found_where_some : {A : Type 0} (o : Option A) (P : Type 0) → is_none o �
 found_where_some (Some x) P some told = told
 found_where_some None P some told = absurd (true≢false some)
 
+-- an engine that keeps no list of tables tells of field elements, as one with tables does
+pub without_tables : {A : Type 0} (s n m bytes more : ℕ) (r : Result A DftError) → m ≤ more → IfErr r (IsWithinEither s n 0 m) → IfErr r (IsWithinEither s n bytes more)
+without_tables s n m bytes more (Ok x) fewer within = tt
+without_tables s n m bytes more (Err e) fewer (inl within) = inl within
+without_tables s n m bytes more (Err e) fewer (inr within) = inr (within_larger 0 bytes m more (omega arith) fewer e within)
+
 -- no condition failed, and memory was refused: the error that `?` hands on tells so
-pub out_of_memory_told : {A : Type 0} (r : Result A Refusal) (e : DftError) {engine numbers shape shift : Type 0} → IsErr r × IsErrAnd r (λ y. y ≡ OutOfMemory e) → engine → numbers → shape → shift
-    → WasOutOfMemory e → Tells (refusal_of r) engine numbers shape shift
-out_of_memory_told (Ok x) e err known_engine known_numbers known_shape known_shift refused = (known_engine, known_numbers, known_shape, known_shift)
-out_of_memory_told (Err y) e {engine} {numbers} {shape} {shift} err known_engine known_numbers known_shape known_shift refused =
-    subst (λ (z : Refusal). Tells (refusal_of {T = ℕ} (Err z)) engine numbers shape shift) (sym err.1) (known_engine, known_numbers, known_shape, known_shift, refused)
+pub out_of_memory_told : {A : Type 0} (r : Result A Refusal) (e : DftError) (memory : DftError → Type 0) {engine numbers shape shift : Type 0} → IsErr r × IsErrAnd r (λ y. y ≡ OutOfMemory e) → engine → numbers → shape → shift
+    → memory e → Tells (refusal_of r) engine numbers shape shift memory
+out_of_memory_told (Ok x) e memory err known_engine known_numbers known_shape known_shift refused = (known_engine, known_numbers, known_shape, known_shift)
+out_of_memory_told (Err y) e memory {engine} {numbers} {shape} {shift} err known_engine known_numbers known_shape known_shift refused =
+    subst (λ (z : Refusal). Tells (refusal_of {T = ℕ} (Err z)) engine numbers shape shift memory) (sym err.1) (known_engine, known_numbers, known_shape, known_shift, refused)

@@ -1,6 +1,6 @@
 -- Shapes that fit: whole rows are as many as the division tells, what is extended has a size that a usize holds, and what is answered is as many times as large.
-use Rattle.std.proofs.Common.{add-zero, ◌≡◌, ℕ, ◌*◌, ◌/◌, ◌%◌, ◌^◌, ◌+◌, ◌<◌, List, length, sym, ap, ap₂, ◌∙◌, subst, arith}
-use Rattle.std.proofs.Math.Nat.{mod-eq_of_lt, mul-div_cancel}
+use Rattle.std.proofs.Common.{add-zero, ◌≡◌, ℕ, ◌*◌, ◌/◌, ◌%◌, ◌^◌, ◌+◌, ◌<◌, ◌≤◌, List, length, sym, ap, ap₂, ◌∙◌, subst, arith, pow_pos}
+use Rattle.std.proofs.Math.Nat.{mod-eq_of_lt, mul-div_cancel, mul-le-mul_left}
 use Rattle.std.proofs.lemmas.Nat.{pow-add}
 use Rattle.std.proofs.lemmas.Slice.Zip.{AllZip-long}
 use Rattle.std.specs.List.{AllZip}
@@ -18,6 +18,9 @@ module _ {bits count width a extended : ℕ} where
 
   pub whole_rows : Fits bits count width a extended → (count / width) * width ≡ count
   whole_rows fit = ap (λ n. n * width) (sym (rows_are fit)) ∙ fit.full
+
+  pub no_more : Fits bits count width a extended → count ≤ extended
+  no_more fit = let grown : count * 1 ≤ count * 2 ^ a = mul-le-mul_left count (pow_pos a) in omega (arith, grown, fit.room)
 
   pub rows_fit : Fits bits count width a extended → FitsLde bits (count / width) width a
   rows_fit fit = subst (λ (n : ℕ). FitsLde bits n width a) (rows_are fit) fit.fits

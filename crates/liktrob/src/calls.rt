@@ -5,7 +5,7 @@ ghost use Rattle.std.specs.Prelude.{true};
 ghost use Rattle.std.specs.List.{AllZip};
 ghost use Rattle.p3_field.specs.Ring.{IsInvertible};
 ghost use Rattle.liktrob.specs.Answers.{IsAnswered, IsToldCodeword, added, undoes};
-ghost use Rattle.liktrob.specs.Statuses.{IsStatus, Tells, refusal_of};
+ghost use Rattle.liktrob.specs.Statuses.{IsOutOfMemory, IsStatus, Tells, refusal_of};
 ghost use Rattle.liktrob.specs.Words.{AreBelow, Fits, HasInverse, Names, in_words};
 
 use crate::engines::{Engine, Operation, answer_by};
@@ -29,7 +29,8 @@ pub fn answer_in_place<F: WordField>(
     ensures status { let f = in_words F.Valued.own F.generator F.TWO_ADICITY F.ORDER_U64 F.word_number in
         IsStatus result (engine ≤ 5) (AreBelow f shift words.old)
         (Fits F.TWO_ADICITY (length words.old) width (added operation) (length words.old))
-        (MatchBool (undoes operation) (HasInverse f shift) ⊤) }
+        (MatchBool (undoes operation) (HasInverse f shift) ⊤)
+        (IsOutOfMemory F.row (length words.old) (added operation)) }
 {
     let room = words.len();
     match answer::<F>(alloc, operation, engine, words, width, shift, room) {
@@ -57,7 +58,8 @@ pub fn answer_into<F: WordField>(
     ensures status { let f = in_words F.Valued.own F.generator F.TWO_ADICITY F.ORDER_U64 F.word_number in
         IsStatus result (engine ≤ 5) (AreBelow f shift words.now)
         (Fits F.TWO_ADICITY (length words.now) width (added operation) (length out.old))
-        (MatchBool (undoes operation) (HasInverse f shift) ⊤) }
+        (MatchBool (undoes operation) (HasInverse f shift) ⊤)
+        (IsOutOfMemory F.row (length out.old) (added operation)) }
 {
     let room = out.len();
     match answer::<F>(alloc, operation, engine, words, width, shift, room) {
@@ -85,7 +87,7 @@ pub fn is_codeword<F: WordField>(
     ensures status { let f = in_words F.Valued.own F.generator F.TWO_ADICITY F.ORDER_U64 F.word_number in
         IsStatus result (engine ≤ 5) (AreBelow f shift words.now)
         (Fits F.TWO_ADICITY (length words.now / 2 ^ added_bits) width added_bits (length words.now))
-        (HasInverse f shift) }
+        (HasInverse f shift) (IsOutOfMemory F.row (length words.now) added_bits) }
 {
     match has_low_degree::<F>(alloc, engine, words, width, added_bits, shift) {
         Ok(low) => {
@@ -109,7 +111,7 @@ fn answer<F: WordField>(
     ensures told { let f = in_words F.Valued.own F.generator F.TWO_ADICITY F.ORDER_U64 F.word_number in
         Tells (refusal_of result) (engine ≤ 5) (AreBelow f shift words.now)
         (Fits F.TWO_ADICITY (length words.now) width (added operation) room)
-        (MatchBool (undoes operation) (HasInverse f shift) ⊤) }
+        (MatchBool (undoes operation) (HasInverse f shift) ⊤) (IsOutOfMemory F.row room (added operation)) }
     ensures size { IfOk result (λ out. length out.values ≡ room) }
     ensures answer { let f = in_words F.Valued.own F.generator F.TWO_ADICITY F.ORDER_U64 F.word_number in
         IfOk result (λ out. (answer : List F.Word) → AllZip (Names f) answer out.values
@@ -144,7 +146,7 @@ fn has_low_degree<F: WordField>(
     ensures told { let f = in_words F.Valued.own F.generator F.TWO_ADICITY F.ORDER_U64 F.word_number in
         Tells (refusal_of result) (engine ≤ 5) (AreBelow f shift words.now)
         (Fits F.TWO_ADICITY (length words.now / 2 ^ added_bits) width added_bits (length words.now))
-        (HasInverse f shift) }
+        (HasInverse f shift) (IsOutOfMemory F.row (length words.now) added_bits) }
     ensures answer { let f = in_words F.Valued.own F.generator F.TWO_ADICITY F.ORDER_U64 F.word_number in
         IfOk result (λ low. (answer : ℕ) → answer ≤ 1 → (answer ≡ 1 ↔ IsTrue low)
         → IsToldCodeword f words.now width added_bits shift answer) }
@@ -201,7 +203,7 @@ impl Shape {
 }
 
 // The engine of a number, the matrix and the element that words and a shift name, where no condition of the call fails.
-// Words that fit are rows, which the caller shows.
+// Words that fit are rows, and no more than the answer has, which the caller shows.
 fn asked<F: WordField>(
     alloc: Global,
     engine: u32,
@@ -211,11 +213,11 @@ fn asked<F: WordField>(
     undoes_shift: bool,
 ) -> Result<(Engine, RowMajorMatrix<F>, F), Refusal>
     requires { Fits F.TWO_ADICITY shape.count shape.width shape.added_bits shape.extended
-        → (length words.now / shape.width) * shape.width ≡ length words.now }
+        → ((length words.now / shape.width) * shape.width ≡ length words.now) × (length words.now ≤ shape.extended) }
     ensures told { let f = in_words F.Valued.own F.generator F.TWO_ADICITY F.ORDER_U64 F.word_number in
         Tells (refusal_of result) (engine ≤ 5) (AreBelow f shift words.now)
         (Fits F.TWO_ADICITY shape.count shape.width shape.added_bits shape.extended)
-        (MatchBool undoes_shift (HasInverse f shift) ⊤) }
+        (MatchBool undoes_shift (HasInverse f shift) ⊤) (IsOutOfMemory F.row shape.extended shape.added_bits) }
     ensures width { IfOk result (λ read. read.1.width ≡ shape.width) }
     ensures entries { IfOk result (λ read.
         AllZip (λ word x. F.word_number word ≡ F.number (F.value x)) words.now read.1.values) }

@@ -1,14 +1,16 @@
 //! The engines by number, and the operations that each answers.
 
 ghost use Rattle.std.specs.Prelude.{◌≡◌, ℕ, ◌+◌, ◌*◌, ◌^◌, ◌≤◌, ◌↔◌, length, IfErr, IfOk, IsSome, slice_get, true};
+ghost use Rattle.std.specs.Mem.{type_size};
 ghost use Rattle.p3_field.specs.Ring.{IsInvertible};
 ghost use Rattle.p3_matrix.specs.RowMajor.{RowMajor, height};
 ghost use Rattle.p3_matrix.specs.BitOrder.{reversed_rows};
-ghost use Rattle.p3_matrix.specs.Room.{WasOutOfMemory};
+ghost use Rattle.p3_matrix.specs.Room.{IsWithinEither};
 ghost use Rattle.p3_dft.specs.Extensions.{IsExtension};
 ghost use Rattle.p3_dft.specs.Shapes.{FitsLde};
 ghost use Rattle.p3_dft.specs.Transforms.{IsExtendedTransform};
 ghost use Rattle.liktrob.specs.Answers.{IsAnswer, added, undoes};
+ghost use Rattle.liktrob.specs.Statuses.{IsOutOfMemory};
 
 use p3_dft::{
     DftError, Evaluations, Layout, NaiveDft, Radix2Bowers, Radix2DFTSmallBatch, Radix2Dit,
@@ -97,7 +99,8 @@ pub fn answer_by<F: TwoAdicField>(
     ensures size { IfOk result (λ out. length out.values ≡ length mat.values * 2 ^ added operation) }
     ensures answer { IfOk result (λ out. (k : ℕ) → height mat ≡ 2 ^ k
         → IsAnswer F.Valued.own F.generator operation mat k (F.value shift) out) }
-    ensures refused { IfErr result WasOutOfMemory }
+    ensures refused { IfErr result
+        (IsOutOfMemory F.row (length mat.values * 2 ^ added operation) (added operation)) }
 {
     let engine = match engine {
         Engine::Fastest => fastest(operation, mat.height(), mat.width()),
@@ -160,7 +163,8 @@ fn answer_to<F: TwoAdicField, D: TwoAdicSubgroupDft<F>>(
     ensures size { IfOk result (λ out. length out.values ≡ length mat.values * 2 ^ added operation) }
     ensures answer { IfOk result (λ out. (k : ℕ) → height mat ≡ 2 ^ k
         → IsAnswer F.Valued.own F.generator operation mat k (F.value shift) out) }
-    ensures refused { IfErr result WasOutOfMemory }
+    ensures refused { IfErr result (IsWithinEither (type_size F.row) (length mat.values * 2 ^ added operation)
+        D.facts.table_bytes (D.facts.tables engine.old + 2 ^ added operation + 1)) }
 {
     match operation {
         Operation::CosetDft(added_bits) => {
@@ -184,7 +188,8 @@ fn extension_of_coefficients<F: TwoAdicField, D: TwoAdicSubgroupDft<F>>(
     requires { FitsLde F.TWO_ADICITY (height mat) mat.width added_bits }
     ensures size { IfOk result (λ out. length out.values ≡ length mat.values * 2 ^ added_bits) }
     ensures values { IfOk result (IsExtendedTransform F.Valued.own F.generator mat added_bits (F.value shift)) }
-    ensures refused { IfErr result WasOutOfMemory }
+    ensures refused { IfErr result (IsWithinEither (type_size F.row) (length mat.values * 2 ^ added_bits)
+        D.facts.table_bytes (D.facts.tables engine.old + 2 ^ added_bits + 1)) }
 {
     let values = engine.coset_lde_batch_of_coefficients(mat, added_bits, shift)?;
     Ok(values.to_row_major_matrix())
@@ -200,7 +205,8 @@ fn extension<F: TwoAdicField, D: TwoAdicSubgroupDft<F>>(
     requires { FitsLde F.TWO_ADICITY (height mat) mat.width added_bits }
     ensures size { IfOk result (λ out. length out.values ≡ length mat.values * 2 ^ added_bits) }
     ensures values { IfOk result (IsExtension F.Valued.own F.generator mat added_bits (F.value shift)) }
-    ensures refused { IfErr result WasOutOfMemory }
+    ensures refused { IfErr result (IsWithinEither (type_size F.row) (length mat.values * 2 ^ added_bits)
+        D.facts.table_bytes (D.facts.tables engine.old + 2 ^ added_bits + 1)) }
 {
     let values = engine.coset_lde_batch(mat, added_bits, shift)?;
     Ok(values.to_row_major_matrix())
@@ -217,7 +223,8 @@ fn bit_reversed_extension<F: TwoAdicField, D: TwoAdicSubgroupDft<F>>(
     ensures size { IfOk result (λ out. length out.values ≡ length mat.values * 2 ^ added_bits) }
     ensures values { IfOk result (λ out. (k : ℕ) → height mat ≡ 2 ^ k → IsExtension F.Valued.own F.generator mat
         added_bits (F.value shift) (reversed_rows (k + added_bits) out)) }
-    ensures refused { IfErr result WasOutOfMemory }
+    ensures refused { IfErr result (IsWithinEither (type_size F.row) (length mat.values * 2 ^ added_bits)
+        D.facts.table_bytes (D.facts.tables engine.old + 2 ^ added_bits + 1)) }
 {
     let values = engine.coset_lde_batch_bit_reversed(
         mat,

@@ -5,8 +5,9 @@
 
 ghost use Rattle.std.specs.Prelude.{◌≡◌, ◌≢◌, ◌/◌, ◌^◌, ◌≤◌, ⊤, length};
 ghost use Rattle.liktrob.specs.Answers.{IsAnswered, IsToldCodeword};
-ghost use Rattle.liktrob.specs.NamedFields.{baby_bear, goldilocks, koala_bear};
-ghost use Rattle.liktrob.specs.Statuses.{IsStatus};
+ghost use Rattle.liktrob.specs.NamedFields.{baby_bear, baby_bear_elements, goldilocks, goldilocks_elements};
+ghost use Rattle.liktrob.specs.NamedFields.{koala_bear, koala_bear_elements};
+ghost use Rattle.liktrob.specs.Statuses.{IsOutOfMemory, IsStatus};
 ghost use Rattle.liktrob.specs.Words.{AreBelow, Fits, HasInverse};
 ghost use Rattle.liktrob.specs.declared.engines.Operation.TheVariants.{CosetDft, CosetIdft};
 ghost use Rattle.liktrob.specs.declared.engines.Operation.TheVariants.{CosetLde, CosetLdeBitReversed};
@@ -28,7 +29,8 @@ pub extern "C" fn liktrob_baby_bear_coset_dft(
     ensures answer { result ≡ 0 → IsAnswered baby_bear (CosetDft 0) words.old width shift words.new }
     ensures kept { result ≢ 0 → words.new ≡ words.old }
     ensures status { IsStatus result (engine ≤ 5) (AreBelow baby_bear shift words.old)
-        (Fits baby_bear.two_adicity (length words.old) width 0 (length words.old)) ⊤ }
+        (Fits baby_bear.two_adicity (length words.old) width 0 (length words.old)) ⊤
+        (IsOutOfMemory baby_bear_elements (length words.old) 0) }
 {
     answer_in_place::<BabyBear>(alloc, Operation::CosetDft(0), engine, words, width, shift)
 }
@@ -45,7 +47,8 @@ pub extern "C" fn liktrob_baby_bear_coset_idft(
     ensures answer { result ≡ 0 → IsAnswered baby_bear CosetIdft words.old width shift words.new }
     ensures kept { result ≢ 0 → words.new ≡ words.old }
     ensures status { IsStatus result (engine ≤ 5) (AreBelow baby_bear shift words.old)
-        (Fits baby_bear.two_adicity (length words.old) width 0 (length words.old)) (HasInverse baby_bear shift) }
+        (Fits baby_bear.two_adicity (length words.old) width 0 (length words.old)) (HasInverse baby_bear shift)
+        (IsOutOfMemory baby_bear_elements (length words.old) 0) }
 {
     answer_in_place::<BabyBear>(alloc, Operation::CosetIdft, engine, words, width, shift)
 }
@@ -64,7 +67,8 @@ pub extern "C" fn liktrob_baby_bear_coset_lde(
     ensures answer { result ≡ 0 → IsAnswered baby_bear (CosetLde added_bits) words.now width shift out.new }
     ensures kept { result ≢ 0 → out.new ≡ out.old }
     ensures status { IsStatus result (engine ≤ 5) (AreBelow baby_bear shift words.now)
-        (Fits baby_bear.two_adicity (length words.now) width added_bits (length out.old)) ⊤ }
+        (Fits baby_bear.two_adicity (length words.now) width added_bits (length out.old)) ⊤
+        (IsOutOfMemory baby_bear_elements (length out.old) added_bits) }
 {
     answer_into::<BabyBear>(
         alloc,
@@ -91,7 +95,8 @@ pub extern "C" fn liktrob_baby_bear_coset_lde_bit_reversed(
     ensures answer { result ≡ 0 → IsAnswered baby_bear (CosetLdeBitReversed added_bits) words.now width shift out.new }
     ensures kept { result ≢ 0 → out.new ≡ out.old }
     ensures status { IsStatus result (engine ≤ 5) (AreBelow baby_bear shift words.now)
-        (Fits baby_bear.two_adicity (length words.now) width added_bits (length out.old)) ⊤ }
+        (Fits baby_bear.two_adicity (length words.now) width added_bits (length out.old)) ⊤
+        (IsOutOfMemory baby_bear_elements (length out.old) added_bits) }
 {
     answer_into::<BabyBear>(
         alloc,
@@ -118,7 +123,8 @@ pub extern "C" fn liktrob_baby_bear_coset_dft_padded(
     ensures answer { result ≡ 0 → IsAnswered baby_bear (CosetDft added_bits) words.now width shift out.new }
     ensures kept { result ≢ 0 → out.new ≡ out.old }
     ensures status { IsStatus result (engine ≤ 5) (AreBelow baby_bear shift words.now)
-        (Fits baby_bear.two_adicity (length words.now) width added_bits (length out.old)) ⊤ }
+        (Fits baby_bear.two_adicity (length words.now) width added_bits (length out.old)) ⊤
+        (IsOutOfMemory baby_bear_elements (length out.old) added_bits) }
 {
     answer_into::<BabyBear>(
         alloc,
@@ -147,7 +153,8 @@ pub extern "C" fn liktrob_baby_bear_is_codeword(
     ensures kept { result ≢ 0 → answer.new ≡ answer.old }
     ensures status { IsStatus result (engine ≤ 5) (AreBelow baby_bear shift words.now)
         (Fits baby_bear.two_adicity (length words.now / 2 ^ added_bits) width added_bits (length words.now))
-        (HasInverse baby_bear shift) }
+        (HasInverse baby_bear shift)
+        (IsOutOfMemory baby_bear_elements (length words.now) added_bits) }
 {
     is_codeword::<BabyBear>(alloc, engine, words, width, added_bits, shift, answer)
 }
@@ -164,7 +171,8 @@ pub extern "C" fn liktrob_koala_bear_coset_dft(
     ensures answer { result ≡ 0 → IsAnswered koala_bear (CosetDft 0) words.old width shift words.new }
     ensures kept { result ≢ 0 → words.new ≡ words.old }
     ensures status { IsStatus result (engine ≤ 5) (AreBelow koala_bear shift words.old)
-        (Fits koala_bear.two_adicity (length words.old) width 0 (length words.old)) ⊤ }
+        (Fits koala_bear.two_adicity (length words.old) width 0 (length words.old)) ⊤
+        (IsOutOfMemory koala_bear_elements (length words.old) 0) }
 {
     answer_in_place::<KoalaBear>(alloc, Operation::CosetDft(0), engine, words, width, shift)
 }
@@ -181,7 +189,8 @@ pub extern "C" fn liktrob_koala_bear_coset_idft(
     ensures answer { result ≡ 0 → IsAnswered koala_bear CosetIdft words.old width shift words.new }
     ensures kept { result ≢ 0 → words.new ≡ words.old }
     ensures status { IsStatus result (engine ≤ 5) (AreBelow koala_bear shift words.old)
-        (Fits koala_bear.two_adicity (length words.old) width 0 (length words.old)) (HasInverse koala_bear shift) }
+        (Fits koala_bear.two_adicity (length words.old) width 0 (length words.old)) (HasInverse koala_bear shift)
+        (IsOutOfMemory koala_bear_elements (length words.old) 0) }
 {
     answer_in_place::<KoalaBear>(alloc, Operation::CosetIdft, engine, words, width, shift)
 }
@@ -200,7 +209,8 @@ pub extern "C" fn liktrob_koala_bear_coset_lde(
     ensures answer { result ≡ 0 → IsAnswered koala_bear (CosetLde added_bits) words.now width shift out.new }
     ensures kept { result ≢ 0 → out.new ≡ out.old }
     ensures status { IsStatus result (engine ≤ 5) (AreBelow koala_bear shift words.now)
-        (Fits koala_bear.two_adicity (length words.now) width added_bits (length out.old)) ⊤ }
+        (Fits koala_bear.two_adicity (length words.now) width added_bits (length out.old)) ⊤
+        (IsOutOfMemory koala_bear_elements (length out.old) added_bits) }
 {
     answer_into::<KoalaBear>(
         alloc,
@@ -227,7 +237,8 @@ pub extern "C" fn liktrob_koala_bear_coset_lde_bit_reversed(
     ensures answer { result ≡ 0 → IsAnswered koala_bear (CosetLdeBitReversed added_bits) words.now width shift out.new }
     ensures kept { result ≢ 0 → out.new ≡ out.old }
     ensures status { IsStatus result (engine ≤ 5) (AreBelow koala_bear shift words.now)
-        (Fits koala_bear.two_adicity (length words.now) width added_bits (length out.old)) ⊤ }
+        (Fits koala_bear.two_adicity (length words.now) width added_bits (length out.old)) ⊤
+        (IsOutOfMemory koala_bear_elements (length out.old) added_bits) }
 {
     answer_into::<KoalaBear>(
         alloc,
@@ -254,7 +265,8 @@ pub extern "C" fn liktrob_koala_bear_coset_dft_padded(
     ensures answer { result ≡ 0 → IsAnswered koala_bear (CosetDft added_bits) words.now width shift out.new }
     ensures kept { result ≢ 0 → out.new ≡ out.old }
     ensures status { IsStatus result (engine ≤ 5) (AreBelow koala_bear shift words.now)
-        (Fits koala_bear.two_adicity (length words.now) width added_bits (length out.old)) ⊤ }
+        (Fits koala_bear.two_adicity (length words.now) width added_bits (length out.old)) ⊤
+        (IsOutOfMemory koala_bear_elements (length out.old) added_bits) }
 {
     answer_into::<KoalaBear>(
         alloc,
@@ -283,7 +295,8 @@ pub extern "C" fn liktrob_koala_bear_is_codeword(
     ensures kept { result ≢ 0 → answer.new ≡ answer.old }
     ensures status { IsStatus result (engine ≤ 5) (AreBelow koala_bear shift words.now)
         (Fits koala_bear.two_adicity (length words.now / 2 ^ added_bits) width added_bits (length words.now))
-        (HasInverse koala_bear shift) }
+        (HasInverse koala_bear shift)
+        (IsOutOfMemory koala_bear_elements (length words.now) added_bits) }
 {
     is_codeword::<KoalaBear>(alloc, engine, words, width, added_bits, shift, answer)
 }
@@ -300,7 +313,8 @@ pub extern "C" fn liktrob_goldilocks_coset_dft(
     ensures answer { result ≡ 0 → IsAnswered goldilocks (CosetDft 0) words.old width shift words.new }
     ensures kept { result ≢ 0 → words.new ≡ words.old }
     ensures status { IsStatus result (engine ≤ 5) (AreBelow goldilocks shift words.old)
-        (Fits goldilocks.two_adicity (length words.old) width 0 (length words.old)) ⊤ }
+        (Fits goldilocks.two_adicity (length words.old) width 0 (length words.old)) ⊤
+        (IsOutOfMemory goldilocks_elements (length words.old) 0) }
 {
     answer_in_place::<Goldilocks>(alloc, Operation::CosetDft(0), engine, words, width, shift)
 }
@@ -317,7 +331,8 @@ pub extern "C" fn liktrob_goldilocks_coset_idft(
     ensures answer { result ≡ 0 → IsAnswered goldilocks CosetIdft words.old width shift words.new }
     ensures kept { result ≢ 0 → words.new ≡ words.old }
     ensures status { IsStatus result (engine ≤ 5) (AreBelow goldilocks shift words.old)
-        (Fits goldilocks.two_adicity (length words.old) width 0 (length words.old)) (HasInverse goldilocks shift) }
+        (Fits goldilocks.two_adicity (length words.old) width 0 (length words.old)) (HasInverse goldilocks shift)
+        (IsOutOfMemory goldilocks_elements (length words.old) 0) }
 {
     answer_in_place::<Goldilocks>(alloc, Operation::CosetIdft, engine, words, width, shift)
 }
@@ -336,7 +351,8 @@ pub extern "C" fn liktrob_goldilocks_coset_lde(
     ensures answer { result ≡ 0 → IsAnswered goldilocks (CosetLde added_bits) words.now width shift out.new }
     ensures kept { result ≢ 0 → out.new ≡ out.old }
     ensures status { IsStatus result (engine ≤ 5) (AreBelow goldilocks shift words.now)
-        (Fits goldilocks.two_adicity (length words.now) width added_bits (length out.old)) ⊤ }
+        (Fits goldilocks.two_adicity (length words.now) width added_bits (length out.old)) ⊤
+        (IsOutOfMemory goldilocks_elements (length out.old) added_bits) }
 {
     answer_into::<Goldilocks>(
         alloc,
@@ -363,7 +379,8 @@ pub extern "C" fn liktrob_goldilocks_coset_lde_bit_reversed(
     ensures answer { result ≡ 0 → IsAnswered goldilocks (CosetLdeBitReversed added_bits) words.now width shift out.new }
     ensures kept { result ≢ 0 → out.new ≡ out.old }
     ensures status { IsStatus result (engine ≤ 5) (AreBelow goldilocks shift words.now)
-        (Fits goldilocks.two_adicity (length words.now) width added_bits (length out.old)) ⊤ }
+        (Fits goldilocks.two_adicity (length words.now) width added_bits (length out.old)) ⊤
+        (IsOutOfMemory goldilocks_elements (length out.old) added_bits) }
 {
     answer_into::<Goldilocks>(
         alloc,
@@ -390,7 +407,8 @@ pub extern "C" fn liktrob_goldilocks_coset_dft_padded(
     ensures answer { result ≡ 0 → IsAnswered goldilocks (CosetDft added_bits) words.now width shift out.new }
     ensures kept { result ≢ 0 → out.new ≡ out.old }
     ensures status { IsStatus result (engine ≤ 5) (AreBelow goldilocks shift words.now)
-        (Fits goldilocks.two_adicity (length words.now) width added_bits (length out.old)) ⊤ }
+        (Fits goldilocks.two_adicity (length words.now) width added_bits (length out.old)) ⊤
+        (IsOutOfMemory goldilocks_elements (length out.old) added_bits) }
 {
     answer_into::<Goldilocks>(
         alloc,
@@ -419,7 +437,8 @@ pub extern "C" fn liktrob_goldilocks_is_codeword(
     ensures kept { result ≢ 0 → answer.new ≡ answer.old }
     ensures status { IsStatus result (engine ≤ 5) (AreBelow goldilocks shift words.now)
         (Fits goldilocks.two_adicity (length words.now / 2 ^ added_bits) width added_bits (length words.now))
-        (HasInverse goldilocks shift) }
+        (HasInverse goldilocks shift)
+        (IsOutOfMemory goldilocks_elements (length words.now) added_bits) }
 {
     is_codeword::<Goldilocks>(alloc, engine, words, width, added_bits, shift, answer)
 }

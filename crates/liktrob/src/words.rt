@@ -2,6 +2,7 @@
 
 ghost use Rattle.std.specs.Prelude.{◌≡◌, ◌<◌, ◌≤◌, ◌↔◌, ℕ, length, IfErr, IfOk, IfSome, IsSome, IsTrue};
 ghost use Rattle.std.specs.List.{All, AllZip};
+ghost use Rattle.std.specs.Mem.{type_size};
 ghost use Rattle.p3_matrix.specs.Room.{IsWithin};
 
 use p3_dft::{BabyBear, CanonicalField, DftError, Field, KoalaBear, growth};
@@ -88,7 +89,7 @@ pub fn elements<F: WordField>(alloc: Global, words: &[F::Word]) -> Option<Result
     ensures named { IsSome result ↔ All (λ word. F.word_number word < F.ORDER_U64) words.now }
     ensures elements { IfSome result (λ read. IfOk read (λ xs.
         AllZip (λ word x. F.word_number word ≡ F.number (F.value x)) words.now xs.items)) }
-    ensures refused { IfSome result (λ read. IfErr read (IsWithin (length words.now))) }
+    ensures refused { IfSome result (λ read. IfErr read (IsWithin (type_size F.row) (length words.now))) }
 {
     let mut elements = match growth::with_capacity(alloc, words.len()) {
         Ok(elements) => elements,

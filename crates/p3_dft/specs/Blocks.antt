@@ -1,5 +1,5 @@
 -- What is said of an extension with blocks, for each of its outcomes.
-use Rattle.std.specs.Prelude.{◌≡◌, Result, Ok, Err, ⊤}
+use Rattle.std.specs.Prelude.{Result, Ok, Err, ⊤}
 use Rattle.p3_matrix.specs.declared.error.DftError.{DftError}
 use Rattle.p3_matrix.specs.declared.error.DftError.TheVariants.{OutOfMemory as MemoryRefused}
 use Rattle.p3_dft.specs.declared.blocks.BlocksStopped.{BlocksStopped}

@@ -3,7 +3,7 @@ use Rattle.std.specs.Prelude.{◌≡◌, ◌↔◌, ◌⊎◌, ◌≢◌, ℕ, �
 use Rattle.std.specs.declared.vec.Vec.{Vec}
 use Rattle.p3_field.specs.declared.fields.Valued.{Ghosts as FieldMembers}
 use Rattle.p3_matrix.specs.declared.error.DftError.{DftError}
-use Rattle.p3_matrix.specs.Room.{IsWithin}
+use Rattle.p3_matrix.specs.Room.{IsWithinEither}
 use Rattle.p3_matrix.specs.RowMajor.{RowMajor, height}
 use Rattle.p3_matrix.specs.Cosets.{Coset, HasCoset}
 use Rattle.p3_dft.specs.Extensions.{extension_bound}
@@ -28,10 +28,11 @@ pub record EngineFacts (E F : Type 0) : Type 1 where
   pub block_rows : ℕ → ℕ → ℕ
   -- how many products an engine has made
   pub products_made : E → ℕ
-  -- for how many more elements than an answer has entries a vector of it may need room: the tables that a list of tables keeps
-  pub more_room : E → ℕ
+  -- for how many tables the list that an engine keeps may need room, and how many bytes each takes
+  pub tables : E → ℕ
+  pub table_bytes : ℕ
 
--- the facts of an engine whose extensions are an inverse transform and a transform on the larger coset, and published as one block, and which needs no more room than an answer takes
+-- the facts of an engine whose extensions are an inverse transform and a transform on the larger coset, and published as one block, and which keeps no list of tables
 abbrev pub plain_facts : {E F : Type 0} → (E → ℕ → Type 0) → (E → ℕ → F → Type 0) → (E → ℕ → Type 0) → (ℕ → ℕ → ℕ) → (E → ℕ) → EngineFacts E F
 plain_facts Succeeds SucceedsOnCoset IsLeftPrepared transform_products products_made = record {
   Succeeds = Succeeds;
@@ -41,7 +42,8 @@ plain_facts Succeeds SucceedsOnCoset IsLeftPrepared transform_products products_
   extension_products = extension_bound transform_products;
   block_rows = λ k a. 2 ^ (k + a);
   products_made = products_made;
-  more_room = λ e. 0;
+  tables = λ e. 0;
+  table_bytes = 0;
 }
 
 module _ {E F : Type 0} (facts : EngineFacts E F) where
@@ -52,40 +54,13 @@ module _ {E F : Type 0} (facts : EngineFacts E F) where
     pub keeps_prepared : (k : ℕ) → facts.IsLeftPrepared before k → facts.IsLeftPrepared after k
     pub grows : facts.products_made before ≤ facts.products_made after
 
-  -- an engine after a call of 2 ^ k rows: whatever it answered, at most so many products were made; where it answered the values, what is said of k is known;
-  -- and where it answered an error, the vector that was refused needed room for no more elements than the answer has entries, and those that the engine may need besides
-  pub record IsAfter {A : Type 0} (before after : E) (result : Result A DftError) (height : ℕ) (known : ℕ → Type 0) (products : ℕ → ℕ) (entries : ℕ) : Type 0 where
-    pub later : IsLater before after
-    pub prepared : IsOk result → AtLog height known
-    pub cost : AtLog height (λ k. facts.products_made after ≤ facts.products_made before + products k)
-    pub refused : IfErr result (IsWithin (facts.more_room after + entries))
-
-  -- after a transform of a matrix of m's shape or its inverse, with so many more products an entry
-  abbrev pub AfterDft : {A T : Type 0} → E → E → Result A DftError → RowMajor T → ℕ → Type 0
-  AfterDft before after result m more =
-      IsAfter before after result (height m) (facts.IsLeftPrepared after) (λ k. facts.transform_products k m.width + more * (2 ^ k * m.width)) (height m * m.width)
-
-  -- after an extension of one by a bits
-  abbrev pub AfterLde : {A T : Type 0} → E → E → Result A DftError → RowMajor T → ℕ → Type 0
-  AfterLde before after result m a =
-      IsAfter before after result (height m) (λ k. facts.IsLeftPrepared after k × facts.IsLeftPrepared after (k + a)) (λ k. facts.extension_products k a m.width) (height m * m.width * 2 ^ a)
-
-  -- after an extension by a bits of one of coefficients: a transform of the larger height, and a product for each coefficient
-  abbrev pub AfterLdeOfCoefficients : {A T : Type 0} → E → E → Result A DftError → RowMajor T → ℕ → Type 0
-  AfterLdeOfCoefficients before after result m a =
-      IsAfter before after result (height m) (λ k. facts.IsLeftPrepared after (k + a)) (λ k. facts.transform_products (k + a) m.width + 2 ^ k * m.width) (height m * m.width * 2 ^ a)
-
-  -- and after one by an inverse transform and a transform on the larger coset
-  abbrev pub AfterLdeByParts : {A T : Type 0} → E → E → Result A DftError → RowMajor T → ℕ → Type 0
-  AfterLdeByParts before after result m a =
-      IsAfter before after result (height m) (λ k. facts.IsLeftPrepared after k × facts.IsLeftPrepared after (k + a)) (λ k. extension_bound facts.transform_products k a m.width) (height m * m.width * 2 ^ a)
-
   -- products that were counted elsewhere came to an engine, and what is promised and known of heights and cosets is the same
   pub record HasProductsMore (before after : E) (products : ℕ) : Type 0 where
     pub counter : facts.products_made after ≡ facts.products_made before + products
     pub same : (k : ℕ) → facts.Succeeds before k ↔ facts.Succeeds after k
     pub same_cosets : (k : ℕ) (s : F) → facts.SucceedsOnCoset before k s ↔ facts.SucceedsOnCoset after k s
     pub same_prepared : (k : ℕ) → facts.IsLeftPrepared before k ↔ facts.IsLeftPrepared after k
+    pub same_tables : facts.tables after ≡ facts.tables before
 
   -- what every engine's facts meet
   pub record EngineLaws (IsNew : E → Type 0) (IsClone : E → E → Type 0) (IsInfallible : E → Type 0) : Type 0 where
@@ -93,6 +68,37 @@ module _ {E F : Type 0} (facts : EngineFacts E F) where
     pub new_made_none : (e : E) → IsNew e → facts.products_made e ≡ 0
     pub clone_made_none : (e copy : E) → IsClone e copy → facts.products_made copy ≡ 0
     pub clones : (e : E) → IsInfallible e
+
+-- after a call whose entries take so many bytes each
+module _ {E F : Type 0} (facts : EngineFacts E F) (bytes : ℕ) where
+  -- an engine after a call of 2 ^ k rows: whatever it answered, at most so many products were made, and its list of tables has room for at most so many more;
+  -- where it answered the values, what is said of k is known; and where it answered an error, memory was refused to a vector of no more entries than the answer has, or to the list of tables
+  pub record IsAfter {A : Type 0} (before after : E) (result : Result A DftError) (height : ℕ) (known : ℕ → Type 0) (products : ℕ → ℕ) (entries new_tables : ℕ) : Type 0 where
+    pub later : IsLater facts before after
+    pub prepared : IsOk result → AtLog height known
+    pub cost : AtLog height (λ k. facts.products_made after ≤ facts.products_made before + products k)
+    pub tables : facts.tables after ≤ facts.tables before + new_tables
+    pub refused : IfErr result (IsWithinEither bytes entries facts.table_bytes (facts.tables after))
+
+  -- after a transform of a matrix of m's shape or its inverse, with so many more products an entry
+  abbrev pub AfterDft : {A T : Type 0} → E → E → Result A DftError → RowMajor T → ℕ → Type 0
+  AfterDft before after result m more =
+      IsAfter before after result (height m) (facts.IsLeftPrepared after) (λ k. facts.transform_products k m.width + more * (2 ^ k * m.width)) (height m * m.width) 1
+
+  -- after an extension of one by a bits
+  abbrev pub AfterLde : {A T : Type 0} → E → E → Result A DftError → RowMajor T → ℕ → Type 0
+  AfterLde before after result m a =
+      IsAfter before after result (height m) (λ k. facts.IsLeftPrepared after k × facts.IsLeftPrepared after (k + a)) (λ k. facts.extension_products k a m.width) (height m * m.width * 2 ^ a) (2 ^ a + 1)
+
+  -- after an extension by a bits of one of coefficients: a transform of the larger height, and a product for each coefficient
+  abbrev pub AfterLdeOfCoefficients : {A T : Type 0} → E → E → Result A DftError → RowMajor T → ℕ → Type 0
+  AfterLdeOfCoefficients before after result m a =
+      IsAfter before after result (height m) (λ k. facts.IsLeftPrepared after (k + a)) (λ k. facts.transform_products (k + a) m.width + 2 ^ k * m.width) (height m * m.width * 2 ^ a) 1
+
+  -- and after one by an inverse transform and a transform on the larger coset
+  abbrev pub AfterLdeByParts : {A T : Type 0} → E → E → Result A DftError → RowMajor T → ℕ → Type 0
+  AfterLdeByParts before after result m a =
+      IsAfter before after result (height m) (λ k. facts.IsLeftPrepared after k × facts.IsLeftPrepared after (k + a)) (λ k. extension_bound facts.transform_products k a m.width) (height m * m.width * 2 ^ a) (2 ^ a + 1)
 
 -- a matrix of one column
 abbrev pub one_column : {T : Type 0} → List T → RowMajor T

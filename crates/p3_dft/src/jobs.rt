@@ -2,9 +2,10 @@
 
 ghost use Rattle.std.specs.Prelude.{◌≡◌, ℕ, ◌+◌, ◌≤◌, ◌⊎◌, [], length, get_or, take, IfOk, IfErr, IsOk, OnOk, OnErr};
 ghost use Rattle.std.specs.List.{All, AllZip};
+ghost use Rattle.std.specs.Mem.{type_size};
 ghost use Rattle.p3_dft.specs.Engines.{IsLater};
 ghost use Rattle.p3_dft.specs.Jobs.{AreFirstAnswers, CanRun, HasMade, IsAnswer, IsPreparedFor, IsRun};
-ghost use Rattle.p3_dft.specs.Jobs.{NextIsNotPromised, answer_entries, entries_of};
+ghost use Rattle.p3_dft.specs.Jobs.{NextIsNotPromised, RanOut, entries_of, matrix_bytes};
 ghost use Rattle.p3_matrix.specs.Room.{IsWithin};
 
 use crate::traits::TwoAdicSubgroupDft;
@@ -33,7 +34,7 @@ impl<F: Copy> Job<F> {
     /// the error.
     pub fn try_clone(&self) -> Result<Self, DftError>
         ensures copy { IfOk result (λ job. job ≡ self.now) }
-        ensures room { IfErr result (IsWithin (entries_of self.now)) }
+        ensures room { IfErr result (IsWithin (type_size F.row) (entries_of self.now)) }
     {
         Ok(match self {
             Job::Dft(mat) => Job::Dft(mat.try_clone()?),
@@ -95,8 +96,8 @@ pub fn run_jobs<F: TwoAdicField, D: TwoAdicSubgroupDft<F>>(
     ensures refused { IfErr result (λ stopped. ((engine.new ≡ engine.old) × (stopped.answers.items ≡ []))
         ⊎ NextIsNotPromised D.facts engine.old jobs.items stopped.answers.items) }
     ensures later { IsLater D.facts engine.old engine.new }
-    ensures room { IfErr result (λ stopped. (d : Job F) → IsWithin (D.facts.more_room engine.new + length jobs.items
-        + answer_entries (get_or jobs.items (length stopped.answers.items) d)) stopped.error) }
+    ensures room { IfErr result (λ stopped. RanOut D.facts (type_size F.row) (matrix_bytes F.row) engine.new jobs.items
+        stopped.answers.items stopped.error) }
 {
     let mut answers = Vec::new(*jobs.allocator());
     match answer_jobs(engine, jobs, &mut answers) {
@@ -124,8 +125,8 @@ fn answer_jobs<F: TwoAdicField, D: TwoAdicSubgroupDft<F>>(
     ensures refused { OnErr result (((engine.new ≡ engine.old) × (answers.new.items ≡ []))
         ⊎ NextIsNotPromised D.facts engine.old jobs.items answers.new.items) }
     ensures later { IsLater D.facts engine.old engine.new }
-    ensures room { IfErr result (λ e. (d : Job F) → IsWithin (D.facts.more_room engine.new + length jobs.items
-        + answer_entries (get_or jobs.items (length answers.new.items) d)) e) }
+    ensures room { IfErr result
+        (RanOut D.facts (type_size F.row) (matrix_bytes F.row) engine.new jobs.items answers.new.items) }
 {
     growth::reserve_exact(answers, jobs.len())?;
     for job in jobs {
@@ -141,7 +142,7 @@ fn run_job<F: TwoAdicField, D: TwoAdicSubgroupDft<F>>(
     job: Job<F>,
 ) -> Result<RowMajorMatrix<F>, DftError>
     requires runnable { CanRun F.Valued.own F.TWO_ADICITY job }
-    ensures { IsRun D.facts F.Valued.own F.generator job (λ out. out) engine.old engine.new result }
+    ensures { IsRun D.facts (type_size F.row) F.Valued.own F.generator job (λ out. out) engine.old engine.new result }
 {
     let values = match job {
         Job::Idft(mat) => return engine.idft_batch(mat),

@@ -1,6 +1,7 @@
 //! What a transform and an inverse by kept tables have in common.
 
 ghost use Rattle.std.specs.Prelude.{◌≡◌, ℕ, ◌+◌, ◌*◌, ◌/◌, ◌^◌, ◌<◌, ◌≤◌, IfErr, IfOk, IsOk, Ok, OnErr, OnOk, max};
+ghost use Rattle.std.specs.Mem.{type_size};
 ghost use Rattle.p3_matrix.specs.Room.{IsWithin};
 ghost use Rattle.p3_matrix.specs.RowMajor.{IsRowMajor, RowMajor, height};
 ghost use Rattle.p3_dft.specs.Engines.{AtLog};
@@ -27,7 +28,7 @@ pub(crate) trait KeptTables<F: TwoAdicField>: Drop {
         ensures made { OnOk result (log self.new ≡ max (log self.old) log_h) }
         ensures succeeds { log_h ≤ log self.old → IsOk result }
         ensures refused { OnErr result (self.new ≡ self.old) }
-        ensures room { IfErr result (IsWithin (2 ^ log_h)) };
+        ensures room { IfErr result (IsWithin (type_size F.row) (2 ^ log_h)) };
 }
 
 impl<F: TwoAdicField> KeptTables<F> for Twiddles<F> {
@@ -99,7 +100,7 @@ pub(crate) fn on_prepared<
     ensures grows { products.old ≤ products.new }
     ensures cost { AtLog (height (N.stored mat)) (λ k. products.new ≤ products.old
         + ((N.stored mat).width * (k * 2 ^ k / 2) + W.more work * (2 ^ k * (N.stored mat).width))) }
-    ensures room { IfErr result (IsWithin (height (N.stored mat) * (N.stored mat).width)) }
+    ensures room { IfErr result (IsWithin (type_size F.row) (height (N.stored mat) * (N.stored mat).width)) }
 {
     let mut mat = mat.into_row_major_matrix();
     let height = mat.height();

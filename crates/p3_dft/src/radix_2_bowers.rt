@@ -1,6 +1,7 @@
 //! The transform by the networks of Bowers, whose twiddles are read one after another.
 
 ghost use Rattle.std.specs.Prelude.{◌≡◌, ℕ, ◌+◌, ◌*◌, ◌/◌, ◌^◌, ◌<◌, ◌≤◌, length, get_or, IfErr, IfOk, OnErr, OnOk, Ok};
+ghost use Rattle.std.specs.Mem.{type_size};
 ghost use Rattle.p3_field.specs.Ring.{power};
 ghost use Rattle.p3_matrix.specs.BitOrder.{bit_reversal};
 ghost use Rattle.p3_matrix.specs.Matrix.{Matrix, Same, matrix, image};
@@ -72,6 +73,7 @@ impl<F: TwoAdicField> TwoAdicSubgroupDft<F> for Radix2Bowers {
     ghost use Rattle.std.specs.Prelude.{◌≡◌, ⊤, ℕ, ◌+◌, ◌*◌, ◌/◌, ◌^◌, ◌≤◌, IfOk, IsOk, OnErr, Ok};
     ghost use Rattle.std.proofs.Common.{refl, rules};
     ghost use Rattle.p3_matrix.specs.RowMajor.{height};
+    ghost use Rattle.std.specs.Mem.{type_size};
     ghost use Rattle.p3_dft.specs.Engines.{AfterDft, AfterLde, AtLog, plain_facts};
     ghost use Rattle.p3_dft.specs.Extensions.{IsCallable, IsExtension, IsTransformedExtension, KeepsShape};
     ghost use Rattle.p3_dft.specs.Shapes.{FitsDft, FitsLde};
@@ -101,8 +103,8 @@ impl<F: TwoAdicField> TwoAdicSubgroupDft<F> for Radix2Bowers {
         ensures succeeds { AtLog (height (N.stored mat)) (λ k. k ≡ 0 → IsOk result) }
         ensures one_row { height (N.stored mat) ≡ 1 → (result ≡ Ok (N.stored mat)) × (self.new ≡ self.old) }
         ensures refused { OnErr result (self.new ≡ self.old) }
-        ensures engine { AfterDft ⟦<Radix2Bowers as TwoAdicSubgroupDft<F>>⟧.facts self.old self.new result
-            (N.stored mat) 0 }
+        ensures engine { AfterDft ⟦<Radix2Bowers as TwoAdicSubgroupDft<F>>⟧.facts (type_size F.row)
+            self.old self.new result (N.stored mat) 0 }
     {
         let mut mat = mat.into_row_major_matrix();
         if mat.height() == 1 {
@@ -134,8 +136,8 @@ impl<F: TwoAdicField> TwoAdicSubgroupDft<F> for Radix2Bowers {
         ensures succeeds { AtLog (height (N.stored mat)) (λ k. k ≡ 0 → IsOk result) }
         ensures one_row { height (N.stored mat) ≡ 1 → (result ≡ Ok (N.stored mat)) × (self.new ≡ self.old) }
         ensures refused { OnErr result (self.new ≡ self.old) }
-        ensures engine { AfterDft ⟦<Radix2Bowers as TwoAdicSubgroupDft<F>>⟧.facts self.old self.new result
-            (N.stored mat) 1 }
+        ensures engine { AfterDft ⟦<Radix2Bowers as TwoAdicSubgroupDft<F>>⟧.facts (type_size F.row)
+            self.old self.new result (N.stored mat) 1 }
     {
         let mut mat = mat.into_row_major_matrix();
         if mat.height() == 1 {
@@ -165,8 +167,8 @@ impl<F: TwoAdicField> TwoAdicSubgroupDft<F> for Radix2Bowers {
         ensures values { IfOk result (IsTransformedExtension F.Valued.own F.generator (T.post transform) BitReversed
             (N.stored mat) added_bits (F.value shift)) }
         ensures one_row { height (N.stored mat) ≡ 1 → added_bits ≡ 0 → IsOk result × (self.new ≡ self.old) }
-        ensures engine { AfterLde ⟦<Radix2Bowers as TwoAdicSubgroupDft<F>>⟧.facts self.old self.new result
-            (N.stored mat) added_bits }
+        ensures engine { AfterLde ⟦<Radix2Bowers as TwoAdicSubgroupDft<F>>⟧.facts (type_size F.row)
+            self.old self.new result (N.stored mat) added_bits }
     {
         let mut mat = mat.into_row_major_matrix();
         let log_h = log2_strict_usize(mat.height());
@@ -196,8 +198,8 @@ impl<F: TwoAdicField> TwoAdicSubgroupDft<F> for Radix2Bowers {
             IsExtension F.Valued.own F.generator (N.stored mat) added_bits (F.value shift) out) }
         ensures one_row { height (N.stored mat) ≡ 1 → added_bits ≡ 0
             → (result ≡ Ok (N.stored mat)) × (self.new ≡ self.old) }
-        ensures engine { AfterLde ⟦<Radix2Bowers as TwoAdicSubgroupDft<F>>⟧.facts self.old self.new result
-            (N.stored mat) added_bits }
+        ensures engine { AfterLde ⟦<Radix2Bowers as TwoAdicSubgroupDft<F>>⟧.facts (type_size F.row)
+            self.old self.new result (N.stored mat) added_bits }
     {
         let mut mat = mat.into_row_major_matrix();
         let log_h = log2_strict_usize(mat.height());
@@ -222,8 +224,8 @@ impl<F: TwoAdicField> TwoAdicSubgroupDft<F> for Radix2Bowers {
             IsExtension F.Valued.own F.generator (N.stored mat) added_bits F.ring.one out) }
         ensures one_row { height (N.stored mat) ≡ 1 → added_bits ≡ 0
             → (result ≡ Ok (N.stored mat)) × (self.new ≡ self.old) }
-        ensures engine { AfterLde ⟦<Radix2Bowers as TwoAdicSubgroupDft<F>>⟧.facts self.old self.new result
-            (N.stored mat) added_bits }
+        ensures engine { AfterLde ⟦<Radix2Bowers as TwoAdicSubgroupDft<F>>⟧.facts (type_size F.row)
+            self.old self.new result (N.stored mat) added_bits }
     {
         let mut mat = mat.into_row_major_matrix();
         let log_h = log2_strict_usize(mat.height());
@@ -248,7 +250,7 @@ fn evaluate_to_natural<F: TwoAdicField>(
     ensures refused { OnErr result (products.new ≡ products.old) }
     ensures grows { products.old ≤ products.new }
     ensures cost { AtLog (height mat.old) (λ k. products.new ≤ products.old + mat.old.width * (k * 2 ^ k / 2)) }
-    ensures room { IfErr result (IsWithin (height mat.old * mat.old.width)) }
+    ensures room { IfErr result (IsWithin (type_size F.row) (height mat.old * mat.old.width)) }
 {
     let log_h = log2_strict_usize(mat.height());
     let width = mat.width();
@@ -280,7 +282,7 @@ fn interpolate_unscaled_to_reversed<F: TwoAdicField>(
     ensures refused { OnErr result (products.new ≡ products.old) }
     ensures grows { products.old ≤ products.new }
     ensures cost { AtLog (height mat.old) (λ k. products.new ≤ products.old + mat.old.width * (k * 2 ^ k / 2)) }
-    ensures room { IfErr result (IsWithin (height mat.old * mat.old.width)) }
+    ensures room { IfErr result (IsWithin (type_size F.row) (height mat.old * mat.old.width)) }
 {
     let height = mat.height();
     if height == 1 {
@@ -316,7 +318,7 @@ fn interpolate_to_reversed<F: TwoAdicField>(
     ensures grows { products.old ≤ products.new }
     ensures cost { AtLog (height mat.old)
         (λ k. products.new ≤ products.old + mat.old.width * (k * 2 ^ k / 2) + 2 ^ k * mat.old.width) }
-    ensures room { IfErr result (IsWithin (height mat.old * mat.old.width)) }
+    ensures room { IfErr result (IsWithin (type_size F.row) (height mat.old * mat.old.width)) }
 {
     interpolate_unscaled_to_reversed(mat, products)?;
     divide_rows(mat, products);
@@ -337,7 +339,7 @@ fn extend_to_natural<F: TwoAdicField>(
     ensures grows { products.old ≤ products.new }
     ensures cost { AtLog (height mat)
         (λ k. products.new ≤ products.old + mat.width * ((k + added_bits) * 2 ^ (k + added_bits) / 2)) }
-    ensures room { IfErr result (IsWithin (height mat * mat.width * 2 ^ added_bits)) }
+    ensures room { IfErr result (IsWithin (type_size F.row) (height mat * mat.width * 2 ^ added_bits)) }
 {
     let mut mat = spread_over_zeros(mat, added_bits)?;
     evaluate_to_natural(&mut mat, products)?;
@@ -377,7 +379,7 @@ fn weigh_reversed_rows<F: TwoAdicField>(
         (coset_shift F.ring (F.value shift) (bit_reversal k (values_of F.Valued.own mat.old)))))) }
     ensures grows { products.old ≤ products.new }
     ensures cost { products.new ≤ products.old + height mat.old * mat.old.width }
-    ensures room { IfErr result (IsWithin (height mat.old * mat.old.width)) }
+    ensures room { IfErr result (IsWithin (type_size F.row) (height mat.old * mat.old.width)) }
 {
     let width = mat.width();
     let log_h = log2_strict_usize(mat.height());
@@ -400,7 +402,7 @@ fn spread_over_zeros<F: TwoAdicField>(
         → (matrix F.zero out).entry (i * 2 ^ added_bits) j ≡ (matrix F.zero mat).entry i j) }
     ensures others { IfOk result (λ out. (i r j : ℕ) → i < height mat → 0 < r → r < 2 ^ added_bits → j < mat.width
         → (matrix F.zero out).entry (i * 2 ^ added_bits + r) j ≡ F.zero) }
-    ensures room { IfErr result (IsWithin (height mat * mat.width * 2 ^ added_bits)) }
+    ensures room { IfErr result (IsWithin (type_size F.row) (height mat * mat.width * 2 ^ added_bits)) }
 {
     if added_bits == 0 {
         return Ok(mat);

@@ -1,6 +1,7 @@
 //! The transform by two halves of layers, each chunk by chunk, which leaves its rows in bit reversed order.
 
 ghost use Rattle.std.specs.Prelude.{◌≡◌, ◌↔◌, ◌⊎◌, ℕ, ◌+◌, ◌*◌, ◌/◌, ◌^◌, ◌<◌, ◌≤◌, IsTrue, IfErr, IsOk, OnOk, OnErr, max};
+ghost use Rattle.std.specs.Mem.{type_size};
 ghost use Rattle.p3_matrix.specs.Room.{IsWithin};
 ghost use Rattle.p3_dft.specs.Engines.{IsPrepared};
 
@@ -104,7 +105,7 @@ impl<F: TwoAdicField> Radix2DitParallel<F> {
         ensures refused { OnErr result (self.new ≡ self.old) }
         ensures cosets { self.new.cosets ≡ self.old.cosets }
         ensures products { self.new.roots.products ≡ self.old.roots.products }
-        ensures room { IfErr result (IsWithin (2 ^ log_h)) }
+        ensures room { IfErr result (IsWithin (type_size F.row) (2 ^ log_h)) }
     {
         self.tables.make(alloc, log_h)
     }
@@ -121,10 +122,12 @@ impl<F: TwoAdicField> Radix2DitParallel<F> {
 impl<F: TwoAdicField> TwoAdicSubgroupDft<F> for Radix2DitParallel<F> {
     ghost use Rattle.std.specs.Prelude.{◌≡◌, ◌≢◌, ◌⊎◌, ⊤, ℕ, ◌+◌, ◌-◌, ◌*◌, ◌/◌, ◌^◌, ◌≤◌, [], ◌∷◌, ◌++◌};
     ghost use Rattle.std.specs.Prelude.{IfErr, IfOk, IsOk, OnOk, OnErr, Ok, length, max};
-    ghost use Rattle.p3_matrix.specs.Room.{IsWithin};
+    ghost use Rattle.p3_matrix.specs.Room.{IsWithinEither};
+    ghost use Rattle.p3_networks.specs.CosetTables.{coset_table_bytes};
     ghost use Rattle.std.proofs.Common.{arith, refl};
     ghost use Rattle.p3_matrix.specs.BitOrder.{bit_reversal, reversed_rows, mid_of};
     ghost use Rattle.p3_matrix.specs.RowMajor.{height};
+    ghost use Rattle.std.specs.Mem.{type_size};
     ghost use Rattle.p3_dft.specs.Engines.{AfterDft, AtLog, HasProductsMore, IsLater, IsCosetPrepared, IsPrepared};
     ghost use Rattle.p3_dft.specs.Engines.{PreparesNoneAbove, plain_facts};
     ghost use Rattle.p3_matrix.specs.Cosets.{HasCoset, HasCosets, values_of};
@@ -147,7 +150,8 @@ impl<F: TwoAdicField> TwoAdicSubgroupDft<F> for Radix2DitParallel<F> {
         (λ _ _. ⊤) (λ k w. w * (k * 2 ^ k / 2)) (λ e. e.roots.products)) {
           extension_products = λ k a w. w * (k * 2 ^ k / 2 * (1 + 2 ^ a) + 2 ^ k);
           block_rows = λ k a. 2 ^ (k - mid_of k);
-          more_room = λ e. length e.cosets;
+          tables = λ e. length e.cosets + 1;
+          table_bytes = coset_table_bytes F.row;
         } };
 
     ghost laws = { record {
@@ -174,8 +178,8 @@ impl<F: TwoAdicField> TwoAdicSubgroupDft<F> for Radix2DitParallel<F> {
         ensures one_row { height (N.stored mat) ≡ 1
             → (result ≡ Ok (record { physical = N.stored mat; bits = 0 })) × (self.new ≡ self.old) }
         ensures cosets { self.new.cosets ≡ self.old.cosets }
-        ensures engine { AfterDft ⟦<Radix2DitParallel<F> as TwoAdicSubgroupDft<F>>⟧.facts self.old self.new result
-            (N.stored mat) 0 }
+        ensures engine { AfterDft ⟦<Radix2DitParallel<F> as TwoAdicSubgroupDft<F>>⟧.facts (type_size F.row)
+            self.old self.new result (N.stored mat) 0 }
     {
         let mat = on_prepared(&mut self.tables, mat, Evaluation, &mut self.products)?;
         Ok(mat.bit_reverse_rows())
@@ -223,8 +227,8 @@ impl<F: TwoAdicField> TwoAdicSubgroupDft<F> for Radix2DitParallel<F> {
         ensures refused { OnErr result (self.new ≡ self.old) }
         ensures one_row { height (N.stored mat) ≡ 1
             → (result ≡ Ok (record { physical = N.stored mat; bits = 0 })) × (self.new ≡ self.old) }
-        ensures engine { AfterDft ⟦<Radix2DitParallel<F> as TwoAdicSubgroupDft<F>>⟧.facts self.old self.new result
-            (N.stored mat) 1 }
+        ensures engine { AfterDft ⟦<Radix2DitParallel<F> as TwoAdicSubgroupDft<F>>⟧.facts (type_size F.row)
+            self.old self.new result (N.stored mat) 1 }
         ensures pairs { AtLog (height (N.stored mat)) (λ k. self.new.roots.products
             ≤ self.old.roots.products + (N.stored mat).width * (k * 2 ^ k / 2)) }
     {
@@ -259,8 +263,8 @@ impl<F: TwoAdicField> TwoAdicSubgroupDft<F> for Radix2DitParallel<F> {
         ensures refused { OnErr result (self.new ≡ self.old) }
         ensures one_row { height (N.stored mat) ≡ 1 → (result ≡ Ok (N.stored mat)) × (self.new ≡ self.old) }
         ensures cosets { self.new.cosets ≡ self.old.cosets }
-        ensures engine { AfterDft ⟦<Radix2DitParallel<F> as TwoAdicSubgroupDft<F>>⟧.facts self.old self.new result
-            (N.stored mat) 1 }
+        ensures engine { AfterDft ⟦<Radix2DitParallel<F> as TwoAdicSubgroupDft<F>>⟧.facts (type_size F.row)
+            self.old self.new result (N.stored mat) 1 }
     {
         on_prepared(&mut self.tables, mat, Interpolation, &mut self.products)
     }
@@ -293,11 +297,13 @@ impl<F: TwoAdicField> TwoAdicSubgroupDft<F> for Radix2DitParallel<F> {
         ensures leaves { AtLog (height (N.stored mat))
             (λ k. LeavesTables F.Valued.own F.generator k added_bits (F.value shift)
             self.old.roots.prepared self.new.roots.prepared self.old.cosets self.new.cosets) }
+        ensures few_tables { length self.new.cosets ≤ length self.old.cosets + 2 ^ added_bits }
         ensures later { IsLater ⟦<Radix2DitParallel<F> as TwoAdicSubgroupDft<F>>⟧.facts self.old self.new }
         ensures cost { AtLog (height (N.stored mat)) (λ k. self.new.roots.products
             ≤ self.old.roots.products + (N.stored mat).width * (k * 2 ^ k / 2 * (1 + 2 ^ added_bits) + 2 ^ k)) }
         ensures room { IfErr result
-            (IsWithin (length self.new.cosets + height (N.stored mat) * (N.stored mat).width * 2 ^ added_bits)) }
+            (IsWithinEither (type_size F.row) (height (N.stored mat) * (N.stored mat).width * 2 ^ added_bits)
+            (coset_table_bytes F.row) (length self.new.cosets + 1)) }
     {
         let (values, _unread) = self.coset_lde_batch_with_blocks(
             mat,
@@ -350,11 +356,13 @@ impl<F: TwoAdicField> TwoAdicSubgroupDft<F> for Radix2DitParallel<F> {
         ensures leaves { AtLog (height (N.stored mat))
             (λ k. LeavesTables F.Valued.own F.generator k added_bits (F.value shift)
             self.old.roots.prepared self.new.roots.prepared self.old.cosets self.new.cosets) }
+        ensures few_tables { length self.new.cosets ≤ length self.old.cosets + 2 ^ added_bits }
         ensures later { IsLater ⟦<Radix2DitParallel<F> as TwoAdicSubgroupDft<F>>⟧.facts self.old self.new }
         ensures cost { AtLog (height (N.stored mat)) (λ k. self.new.roots.products
             ≤ self.old.roots.products + (N.stored mat).width * (k * 2 ^ k / 2 * (1 + 2 ^ added_bits) + 2 ^ k)) }
         ensures room { IfErr (outcome result)
-            (IsWithin (length self.new.cosets + height (N.stored mat) * (N.stored mat).width * 2 ^ added_bits)) }
+            (IsWithinEither (type_size F.row) (height (N.stored mat) * (N.stored mat).width * 2 ^ added_bits)
+            (coset_table_bytes F.row) (length self.new.cosets + 1)) }
     {
         let mat = mat.into_row_major_matrix();
         let log_h = log2_strict_usize(mat.height());

@@ -2,6 +2,7 @@
 
 ghost use Rattle.std.specs.Prelude.{◌≡◌, ◌↔◌, ℕ, ◌+◌, ◌*◌, ◌/◌, ◌^◌, ◌<◌, ◌≤◌, max, IsTrue, IsOk, IfOk, OnOk};
 ghost use Rattle.std.specs.Prelude.{IfErr, OnErr, Ok, [], length};
+ghost use Rattle.std.specs.Mem.{type_size};
 ghost use Rattle.p3_matrix.specs.BitOrder.{bit_reversal};
 ghost use Rattle.p3_matrix.specs.Matrix.{Matrix, image};
 ghost use Rattle.p3_matrix.specs.Room.{IsWithin};
@@ -105,7 +106,7 @@ impl<F: TwoAdicField> Radix2DFTSmallBatch<F> {
         ensures prepares { IfOk result (λ e. 2 ^ e.prepared ≡ max 1 n) }
         ensures succeeds { n ≤ 1 → IsOk result }
         ensures products { IfOk result (λ e. e.products ≡ 0) }
-        ensures room { IfErr result (IsWithin n) }
+        ensures room { IfErr result (IsWithin (type_size F.row) n) }
     {
         Self::with_tile(alloc, n, DEFAULT_TILE)
     }
@@ -120,7 +121,7 @@ impl<F: TwoAdicField> Radix2DFTSmallBatch<F> {
         ensures prepares { IfOk result (λ e. 2 ^ e.prepared ≡ max 1 n) }
         ensures succeeds { n ≤ 1 → IsOk result }
         ensures products { IfOk result (λ e. e.products ≡ 0) }
-        ensures room { IfErr result (IsWithin n) }
+        ensures room { IfErr result (IsWithin (type_size F.row) n) }
     {
         let mut engine = Self::empty(tile);
         if n <= 1 {
@@ -141,7 +142,7 @@ impl<F: TwoAdicField> Radix2DFTSmallBatch<F> {
         ensures succeeds { IsPrepared self.old log_h → IsOk result }
         ensures refused { OnErr result (self.new ≡ self.old) }
         ensures products { self.new.products ≡ self.old.products }
-        ensures room { IfErr result (IsWithin (2 ^ log_h)) }
+        ensures room { IfErr result (IsWithin (type_size F.row) (2 ^ log_h)) }
     {
         self.tables.make(alloc, log_h)
     }
@@ -160,6 +161,7 @@ impl<F: TwoAdicField> TwoAdicSubgroupDft<F> for Radix2DFTSmallBatch<F> {
     ghost use Rattle.std.proofs.Common.{refl, rules};
     ghost use Rattle.p3_matrix.specs.BitOrder.{reversed_rows};
     ghost use Rattle.p3_matrix.specs.RowMajor.{RowMajor, height};
+    ghost use Rattle.std.specs.Mem.{type_size};
     ghost use Rattle.p3_dft.specs.Engines.{AfterDft, AfterLde, AfterLdeOfCoefficients, AtLog, IsPrepared};
     ghost use Rattle.p3_dft.specs.Engines.{PreparesNoneAbove, plain_facts};
     ghost use Rattle.p3_dft.specs.Extensions.{IsCallable, IsExtension, IsTransformedExtension, KeepsShape};
@@ -193,8 +195,8 @@ impl<F: TwoAdicField> TwoAdicSubgroupDft<F> for Radix2DFTSmallBatch<F> {
             (λ k. OnOk result (self.new.prepared ≡ max self.old.prepared k)) }
         ensures one_row { height (N.stored mat) ≡ 1 → (result ≡ Ok (N.stored mat)) × (self.new ≡ self.old) }
         ensures refused { OnErr result (self.new ≡ self.old) }
-        ensures engine { AfterDft ⟦<Radix2DFTSmallBatch<F> as TwoAdicSubgroupDft<F>>⟧.facts self.old self.new
-            result (N.stored mat) 0 }
+        ensures engine { AfterDft ⟦<Radix2DFTSmallBatch<F> as TwoAdicSubgroupDft<F>>⟧.facts (type_size F.row)
+            self.old self.new result (N.stored mat) 0 }
     {
         let work = Evaluation { tile: self.tile };
         on_prepared(&mut self.tables, mat, work, &mut self.products)
@@ -223,8 +225,8 @@ impl<F: TwoAdicField> TwoAdicSubgroupDft<F> for Radix2DFTSmallBatch<F> {
             (λ k. OnOk result (self.new.prepared ≡ max self.old.prepared k)) }
         ensures one_row { height (N.stored mat) ≡ 1 → (result ≡ Ok (N.stored mat)) × (self.new ≡ self.old) }
         ensures refused { OnErr result (self.new ≡ self.old) }
-        ensures engine { AfterDft ⟦<Radix2DFTSmallBatch<F> as TwoAdicSubgroupDft<F>>⟧.facts self.old self.new
-            result (N.stored mat) 1 }
+        ensures engine { AfterDft ⟦<Radix2DFTSmallBatch<F> as TwoAdicSubgroupDft<F>>⟧.facts (type_size F.row)
+            self.old self.new result (N.stored mat) 1 }
     {
         let work = Interpolation { tile: self.tile };
         on_prepared(&mut self.tables, mat, work, &mut self.products)
@@ -244,7 +246,7 @@ impl<F: TwoAdicField> TwoAdicSubgroupDft<F> for Radix2DFTSmallBatch<F> {
             (IsExtendedTransform F.Valued.own F.generator (N.stored mat) added_bits (F.value shift)) }
         ensures only { AtLog (height (N.stored mat)) (λ k. PreparesNoneAbove (k + added_bits) self.old self.new) }
         ensures engine { AfterLdeOfCoefficients ⟦<Radix2DFTSmallBatch<F> as TwoAdicSubgroupDft<F>>⟧.facts
-            self.old self.new result (N.stored mat) added_bits }
+            (type_size F.row) self.old self.new result (N.stored mat) added_bits }
         ensures fewer { AtLog (height (N.stored mat)) (λ k. self.new.products ≤ self.old.products
             + (N.stored mat).width * (2 ^ added_bits * (k * 2 ^ k / 2) + 2 ^ (k + added_bits))) }
     {
@@ -286,7 +288,7 @@ impl<F: TwoAdicField> TwoAdicSubgroupDft<F> for Radix2DFTSmallBatch<F> {
             (F.value shift) (reversed_rows out.bits out.physical)) }
         ensures only { AtLog (height (N.stored mat)) (λ k. PreparesNoneAbove (k + added_bits) self.old self.new) }
         ensures engine { AfterLdeOfCoefficients ⟦<Radix2DFTSmallBatch<F> as TwoAdicSubgroupDft<F>>⟧.facts
-            self.old self.new result (N.stored mat) added_bits }
+            (type_size F.row) self.old self.new result (N.stored mat) added_bits }
     {
         let mat = mat.into_row_major_matrix();
         let log_h = log2_strict_usize(mat.height());
@@ -322,8 +324,8 @@ impl<F: TwoAdicField> TwoAdicSubgroupDft<F> for Radix2DFTSmallBatch<F> {
         ensures one_row { height (N.stored mat) ≡ 1 → added_bits ≡ 0
             → (result ≡ Ok (N.stored mat)) × (self.new ≡ self.old) }
         ensures only { AtLog (height (N.stored mat)) (λ k. PreparesNoneAbove (k + added_bits) self.old self.new) }
-        ensures engine { AfterLde ⟦<Radix2DFTSmallBatch<F> as TwoAdicSubgroupDft<F>>⟧.facts self.old self.new
-            result (N.stored mat) added_bits }
+        ensures engine { AfterLde ⟦<Radix2DFTSmallBatch<F> as TwoAdicSubgroupDft<F>>⟧.facts (type_size F.row)
+            self.old self.new result (N.stored mat) added_bits }
         ensures fewer { AtLog (height (N.stored mat)) (λ k. self.new.products
             ≤ self.old.products + (N.stored mat).width
             * (k * 2 ^ k / 2 * (1 + 2 ^ added_bits) + 2 ^ (k + added_bits))) }
@@ -362,8 +364,8 @@ impl<F: TwoAdicField> TwoAdicSubgroupDft<F> for Radix2DFTSmallBatch<F> {
         ensures one_row { height (N.stored mat) ≡ 1 → added_bits ≡ 0
             → (result ≡ Ok (N.stored mat)) × (self.new ≡ self.old) }
         ensures only { AtLog (height (N.stored mat)) (λ k. PreparesNoneAbove (k + added_bits) self.old self.new) }
-        ensures engine { AfterLde ⟦<Radix2DFTSmallBatch<F> as TwoAdicSubgroupDft<F>>⟧.facts self.old self.new
-            result (N.stored mat) added_bits }
+        ensures engine { AfterLde ⟦<Radix2DFTSmallBatch<F> as TwoAdicSubgroupDft<F>>⟧.facts (type_size F.row)
+            self.old self.new result (N.stored mat) added_bits }
         ensures fewer { AtLog (height (N.stored mat)) (λ k. self.new.products
             ≤ self.old.products + (N.stored mat).width
             * (k * 2 ^ k / 2 * (1 + 2 ^ added_bits) + 2 ^ (k + added_bits))) }
@@ -390,8 +392,8 @@ impl<F: TwoAdicField> TwoAdicSubgroupDft<F> for Radix2DFTSmallBatch<F> {
         ensures values { IfOk result (λ out. IsTransformedExtension F.Valued.own F.generator (T.post transform) Natural
             (N.stored mat) added_bits (F.value shift) (reversed_rows out.bits out.physical)) }
         ensures only { AtLog (height (N.stored mat)) (λ k. PreparesNoneAbove (k + added_bits) self.old self.new) }
-        ensures engine { AfterLde ⟦<Radix2DFTSmallBatch<F> as TwoAdicSubgroupDft<F>>⟧.facts self.old self.new
-            result (N.stored mat) added_bits }
+        ensures engine { AfterLde ⟦<Radix2DFTSmallBatch<F> as TwoAdicSubgroupDft<F>>⟧.facts (type_size F.row)
+            self.old self.new result (N.stored mat) added_bits }
     {
         let mat = mat.into_row_major_matrix();
         let log_h = log2_strict_usize(mat.height());
@@ -423,8 +425,8 @@ impl<F: TwoAdicField> TwoAdicSubgroupDft<F> for Radix2DFTSmallBatch<F> {
         ensures values { IfOk result (IsTransformedExtension F.Valued.own F.generator (T.post transform) Natural
             (N.stored mat) added_bits (F.value shift)) }
         ensures only { AtLog (height (N.stored mat)) (λ k. PreparesNoneAbove (k + added_bits) self.old self.new) }
-        ensures engine { AfterLde ⟦<Radix2DFTSmallBatch<F> as TwoAdicSubgroupDft<F>>⟧.facts self.old self.new
-            result (N.stored mat) added_bits }
+        ensures engine { AfterLde ⟦<Radix2DFTSmallBatch<F> as TwoAdicSubgroupDft<F>>⟧.facts (type_size F.row)
+            self.old self.new result (N.stored mat) added_bits }
     {
         let values = self.coset_lde_batch_bit_reversed(mat, added_bits, shift, transform)?;
         Ok(values.to_row_major_matrix())
@@ -533,7 +535,7 @@ fn extend_to_natural<F: TwoAdicField>(
     ensures grows { products.old ≤ products.new }
     ensures cost { products.new ≤ products.old
         + mat.width * (2 ^ added_bits * (log_h * 2 ^ log_h / 2) + 2 ^ (log_h + added_bits)) }
-    ensures room { IfErr result (IsWithin (height mat * mat.width * 2 ^ added_bits)) }
+    ensures room { IfErr result (IsWithin (type_size F.row) (height mat * mat.width * 2 ^ added_bits)) }
 {
     let alloc = *mat.allocator();
     let width = mat.width();

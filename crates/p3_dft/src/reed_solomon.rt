@@ -1,6 +1,7 @@
 //! Reed-Solomon codes: values of polynomials with few coefficients, on many points.
 
 ghost use Rattle.std.specs.Prelude.{◌≡◌, ◌↔◌, ◌+◌, ◌^◌, ◌<◌, ◌≤◌, IsTrue, IfOk, IsOk};
+ghost use Rattle.std.specs.Mem.{type_size};
 ghost use Rattle.p3_field.specs.Ring.{IsInvertible};
 ghost use Rattle.p3_matrix.specs.Matrix.{Matrix, Same};
 ghost use Rattle.p3_matrix.specs.RowMajor.{height};
@@ -155,7 +156,7 @@ impl<F: TwoAdicField, D: TwoAdicSubgroupDft<F>> ReedSolomon<F, D> {
             → AgreeInRows (2 ^ self.old.code.log_message) other (values_of F.Valued.own out)
             → Same other (values_of F.Valued.own out)) }
         ensures code { self.new.code ≡ self.old.code }
-        ensures engine { AfterLde D.facts self.old.engine self.new.engine result mat
+        ensures engine { AfterLde D.facts (type_size F.row) self.old.engine self.new.engine result mat
             self.old.code.added_bits }
     {
         let values = self
@@ -175,7 +176,7 @@ impl<F: TwoAdicField, D: TwoAdicSubgroupDft<F>> ReedSolomon<F, D> {
         ensures exact { IfOk result (λ told.
             IsTrue told ↔ IsCodeword F.Valued.own F.generator self.old.code (values_of F.Valued.own word.now)) }
         ensures code { self.new.code ≡ self.old.code }
-        ensures engine { AfterDft D.facts self.old.engine self.new.engine result word.now 2 }
+        ensures engine { AfterDft D.facts (type_size F.row) self.old.engine self.new.engine result word.now 2 }
     {
         let message_height = self.message_height();
         // Tells the prover that the rows are whole.

@@ -1,6 +1,7 @@
 //! The trait of the engines.
 
-ghost use Rattle.std.specs.Prelude.{◌≡◌, ◌+◌, ◌*◌, ◌^◌, ◌≤◌, IfErr, IfOk, IsOk, vec_len};
+ghost use Rattle.std.specs.Prelude.{◌≡◌, ◌+◌, ◌*◌, ◌^◌, ◌≤◌, IfErr, IfOk, IsOk, max, vec_len};
+ghost use Rattle.std.specs.Mem.{type_size};
 ghost use Rattle.p3_matrix.specs.BitOrder.{bit_reversal, reversed_rows};
 ghost use Rattle.p3_matrix.specs.Blocks.{IsPublished, IsRefused};
 ghost use Rattle.p3_matrix.specs.RowMajor.{height};
@@ -73,7 +74,7 @@ pub trait TwoAdicSubgroupDft<F: TwoAdicField>: Clone + Default {
         ensures values { IfOk result (λ out. IsTransform F.Valued.own F.generator (N.stored mat) F.ring.one
             (Self.Evaluations.natural out)) }
         ensures succeeds { AtLog (height (N.stored mat)) (λ k. facts.Succeeds self.old k → IsOk result) }
-        ensures engine { AfterDft facts self.old self.new result (N.stored mat) 0 };
+        ensures engine { AfterDft facts (type_size F.row) self.old self.new result (N.stored mat) 0 };
 
     /// Adds to the engine's counter what was counted elsewhere. What the engine promises and knows of heights and
     /// cosets is the same afterwards.
@@ -92,7 +93,7 @@ pub trait TwoAdicSubgroupDft<F: TwoAdicField>: Clone + Default {
             (Self.Evaluations.natural out)) }
         ensures succeeds { AtLog (height (N.stored mat))
             (λ k. facts.Succeeds self.old k → facts.SucceedsOnCoset self.old k shift → IsOk result) }
-        ensures engine { AfterDft facts self.old self.new result (N.stored mat) 1 }
+        ensures engine { AfterDft facts (type_size F.row) self.old self.new result (N.stored mat) 1 }
     {
         let mut products = Products::new();
         let mut mat = mat.into_row_major_matrix();
@@ -110,7 +111,7 @@ pub trait TwoAdicSubgroupDft<F: TwoAdicField>: Clone + Default {
         requires fits { FitsDft F.TWO_ADICITY (height (N.stored mat)) (N.stored mat).width }
         ensures coefficients { IfOk result (IsInterpolation F.Valued.own F.generator (N.stored mat) F.ring.one) }
         ensures succeeds { AtLog (height (N.stored mat)) (λ k. facts.Succeeds self.old k → IsOk result) }
-        ensures engine { AfterDft facts self.old self.new result (N.stored mat) 1 }
+        ensures engine { AfterDft facts (type_size F.row) self.old self.new result (N.stored mat) 1 }
     {
         let values = self.dft_batch(mat)?.to_row_major_matrix();
         let mut products = Products::new();
@@ -131,7 +132,7 @@ pub trait TwoAdicSubgroupDft<F: TwoAdicField>: Clone + Default {
         requires invertible { IsInvertible F.ring (F.value shift) }
         ensures coefficients { IfOk result (IsInterpolation F.Valued.own F.generator (N.stored mat) (F.value shift)) }
         ensures succeeds { AtLog (height (N.stored mat)) (λ k. facts.Succeeds self.old k → IsOk result) }
-        ensures engine { AfterDft facts self.old self.new result (N.stored mat) 2 }
+        ensures engine { AfterDft facts (type_size F.row) self.old self.new result (N.stored mat) 2 }
     {
         let mut coefficients = self.idft_batch(mat)?;
         let mut products = Products::new();
@@ -153,7 +154,8 @@ pub trait TwoAdicSubgroupDft<F: TwoAdicField>: Clone + Default {
         requires fits { FitsLde F.TWO_ADICITY (height (N.stored mat)) (N.stored mat).width added_bits }
         ensures values { IfOk result (λ out. IsExtendedTransform F.Valued.own F.generator (N.stored mat) added_bits
             (F.value shift) (Self.Evaluations.natural out)) }
-        ensures engine { AfterLdeOfCoefficients facts self.old self.new result (N.stored mat) added_bits }
+        ensures engine { AfterLdeOfCoefficients facts (type_size F.row)
+            self.old self.new result (N.stored mat) added_bits }
     {
         let mut products = Products::new();
         let mut coefficients = mat.into_row_major_matrix();
@@ -173,7 +175,8 @@ pub trait TwoAdicSubgroupDft<F: TwoAdicField>: Clone + Default {
         requires fits { FitsLde F.TWO_ADICITY (height (N.stored mat)) (N.stored mat).width added_bits }
         ensures values { IfOk result (λ out. IsExtendedTransform F.Valued.own F.generator (N.stored mat) added_bits
             (F.value shift) (reversed_rows out.bits out.physical)) }
-        ensures engine { AfterLdeOfCoefficients facts self.old self.new result (N.stored mat) added_bits }
+        ensures engine { AfterLdeOfCoefficients facts (type_size F.row)
+            self.old self.new result (N.stored mat) added_bits }
     {
         let extension = self.coset_lde_batch_of_coefficients(mat, added_bits, shift)?;
         Ok(extension.into_bit_reversed())
@@ -201,7 +204,7 @@ pub trait TwoAdicSubgroupDft<F: TwoAdicField>: Clone + Default {
         requires shape { KeepsShape (N.stored mat) (λ m n. T.post transform m LAYOUT n) }
         ensures values { IfOk result (λ out. IsTransformedExtension F.Valued.own F.generator (T.post transform) LAYOUT
             (N.stored mat) added_bits (F.value shift) (Self.Evaluations.natural out)) }
-        ensures engine { AfterLde facts self.old self.new result (N.stored mat) added_bits };
+        ensures engine { AfterLde facts (type_size F.row) self.old self.new result (N.stored mat) added_bits };
 
     /// What `coset_lde_batch_with_transform` answers, by an inverse transform and
     /// `coset_lde_batch_of_coefficients`. An engine that has nothing better calls it there. The conditions
@@ -222,7 +225,7 @@ pub trait TwoAdicSubgroupDft<F: TwoAdicField>: Clone + Default {
         requires shape { KeepsShape (N.stored mat) (λ m n. T.post transform m LAYOUT n) }
         ensures values { IfOk result (λ out. IsTransformedExtension F.Valued.own F.generator (T.post transform) LAYOUT
             (N.stored mat) added_bits (F.value shift) (Self.Evaluations.natural out)) }
-        ensures engine { AfterLdeByParts facts self.old self.new result (N.stored mat) added_bits }
+        ensures engine { AfterLdeByParts facts (type_size F.row) self.old self.new result (N.stored mat) added_bits }
     {
         let mut coefficients = self.idft_batch(mat)?;
         exchange_layouts(&mut coefficients, Self::LAYOUT);
@@ -248,7 +251,7 @@ pub trait TwoAdicSubgroupDft<F: TwoAdicField>: Clone + Default {
         requires shape { KeepsShape (N.stored mat) (λ m n. T.post transform m LAYOUT n) }
         ensures values { IfOk result (λ out. IsTransformedExtension F.Valued.own F.generator (T.post transform) LAYOUT
             (N.stored mat) added_bits (F.value shift) (reversed_rows out.bits out.physical)) }
-        ensures engine { AfterLde facts self.old self.new result (N.stored mat) added_bits }
+        ensures engine { AfterLde facts (type_size F.row) self.old self.new result (N.stored mat) added_bits }
     {
         let values = self.coset_lde_batch_with_transform(mat, added_bits, shift, transform)?;
         Ok(values.into_bit_reversed())
@@ -269,7 +272,7 @@ pub trait TwoAdicSubgroupDft<F: TwoAdicField>: Clone + Default {
         requires fits { FitsLde F.TWO_ADICITY (height (N.stored mat)) (N.stored mat).width added_bits }
         ensures values { IfOk result (λ out. IsExtension F.Valued.own F.generator (N.stored mat) added_bits
             (F.value shift) (Self.Evaluations.natural out)) }
-        ensures engine { AfterLde facts self.old self.new result (N.stored mat) added_bits }
+        ensures engine { AfterLde facts (type_size F.row) self.old self.new result (N.stored mat) added_bits }
     {
         self.coset_lde_batch_with_transform(
             mat,
@@ -291,7 +294,7 @@ pub trait TwoAdicSubgroupDft<F: TwoAdicField>: Clone + Default {
         requires fits { FitsLde F.TWO_ADICITY (height (N.stored mat)) (N.stored mat).width added_bits }
         ensures values { IfOk result (λ out. IsExtension F.Valued.own F.generator (N.stored mat) added_bits
             F.ring.one (Self.Evaluations.natural out)) }
-        ensures engine { AfterLde facts self.old self.new result (N.stored mat) added_bits }
+        ensures engine { AfterLde facts (type_size F.row) self.old self.new result (N.stored mat) added_bits }
     {
         self.coset_lde_batch(mat, added_bits, F::ONE)
     }
@@ -341,7 +344,7 @@ pub trait TwoAdicSubgroupDft<F: TwoAdicField>: Clone + Default {
             × IsRefused C.step (M.post make_consumer (facts.block_rows k added_bits)) (values_of F.Valued.own)
             (facts.block_rows k added_bits) (bit_reversal (k + added_bits) out) c r))) }
         ensures unpublished { IfErr result (λ e. OnOutOfMemory e (λ m. m ≡ make_consumer)) }
-        ensures engine { AfterLde facts self.old self.new (outcome result) (N.stored mat) added_bits }
+        ensures engine { AfterLde facts (type_size F.row) self.old self.new (outcome result) (N.stored mat) added_bits }
     {
         let mat = mat.into_row_major_matrix();
         let block_height = self.block_height(log2_strict_usize(mat.height()), added_bits);
@@ -383,7 +386,7 @@ pub trait TwoAdicSubgroupDft<F: TwoAdicField>: Clone + Default {
             × IsRefused C.step (M.post make_consumer (facts.block_rows k added_bits)) (values_of F.Valued.own)
             (facts.block_rows k added_bits) (bit_reversal (k + added_bits) out) c r))) }
         ensures unpublished { IfErr result (λ e. OnOutOfMemory e (λ m. m ≡ make_consumer)) }
-        ensures engine { AfterLde facts self.old self.new (outcome result) (N.stored mat) added_bits }
+        ensures engine { AfterLde facts (type_size F.row) self.old self.new (outcome result) (N.stored mat) added_bits }
     {
         self.coset_lde_batch_with_blocks(
             mat,
@@ -405,7 +408,7 @@ pub trait TwoAdicSubgroupDft<F: TwoAdicField>: Clone + Default {
         requires fits { FitsDft F.TWO_ADICITY (vec_len vec) 1 }
         ensures values { IfOk result (λ out. IsTransform F.Valued.own F.generator (col vec) F.ring.one (col out)) }
         ensures succeeds { AtLog (vec_len vec) (λ k. facts.Succeeds self.old k → IsOk result) }
-        ensures engine { AfterDft facts self.old self.new result (col vec) 0 }
+        ensures engine { AfterDft facts (type_size F.row) self.old self.new result (col vec) 0 }
     {
         let values = self.dft_batch(RowMajorMatrix::new_col(vec))?;
         Ok(values.to_row_major_matrix().into_values())
@@ -417,7 +420,7 @@ pub trait TwoAdicSubgroupDft<F: TwoAdicField>: Clone + Default {
         ensures values { IfOk result (λ out. IsTransform F.Valued.own F.generator (col vec) (F.value shift) (col out)) }
         ensures succeeds { AtLog (vec_len vec)
             (λ k. facts.Succeeds self.old k → facts.SucceedsOnCoset self.old k shift → IsOk result) }
-        ensures engine { AfterDft facts self.old self.new result (col vec) 1 }
+        ensures engine { AfterDft facts (type_size F.row) self.old self.new result (col vec) 1 }
     {
         let values = self.coset_dft_batch(RowMajorMatrix::new_col(vec), shift)?;
         Ok(values.to_row_major_matrix().into_values())
@@ -429,7 +432,7 @@ pub trait TwoAdicSubgroupDft<F: TwoAdicField>: Clone + Default {
         ensures coefficients { IfOk result (λ out. IsInterpolation F.Valued.own F.generator (col vec)
             F.ring.one (col out)) }
         ensures succeeds { AtLog (vec_len vec) (λ k. facts.Succeeds self.old k → IsOk result) }
-        ensures engine { AfterDft facts self.old self.new result (col vec) 1 }
+        ensures engine { AfterDft facts (type_size F.row) self.old self.new result (col vec) 1 }
     {
         Ok(self.idft_batch(RowMajorMatrix::new_col(vec))?.into_values())
     }
@@ -442,7 +445,7 @@ pub trait TwoAdicSubgroupDft<F: TwoAdicField>: Clone + Default {
         ensures coefficients { IfOk result (λ out. IsInterpolation F.Valued.own F.generator (col vec)
             (F.value shift) (col out)) }
         ensures succeeds { AtLog (vec_len vec) (λ k. facts.Succeeds self.old k → IsOk result) }
-        ensures engine { AfterDft facts self.old self.new result (col vec) 2 }
+        ensures engine { AfterDft facts (type_size F.row) self.old self.new result (col vec) 2 }
     {
         Ok(
             self.coset_idft_batch(RowMajorMatrix::new_col(vec), shift)?
@@ -456,7 +459,7 @@ pub trait TwoAdicSubgroupDft<F: TwoAdicField>: Clone + Default {
         requires fits { FitsLde F.TWO_ADICITY (vec_len vec) 1 added_bits }
         ensures values { IfOk result (λ out. IsExtension F.Valued.own F.generator (col vec) added_bits
             F.ring.one (col out)) }
-        ensures engine { AfterLde facts self.old self.new result (col vec) added_bits }
+        ensures engine { AfterLde facts (type_size F.row) self.old self.new result (col vec) added_bits }
     {
         let values = self.lde_batch(RowMajorMatrix::new_col(vec), added_bits)?;
         Ok(values.to_row_major_matrix().into_values())
@@ -473,7 +476,7 @@ pub trait TwoAdicSubgroupDft<F: TwoAdicField>: Clone + Default {
         requires fits { FitsLde F.TWO_ADICITY (vec_len vec) 1 added_bits }
         ensures values { IfOk result (λ out. IsExtension F.Valued.own F.generator (col vec) added_bits
             (F.value shift) (col out)) }
-        ensures engine { AfterLde facts self.old self.new result (col vec) added_bits }
+        ensures engine { AfterLde facts (type_size F.row) self.old self.new result (col vec) added_bits }
     {
         let values = self.coset_lde_batch(RowMajorMatrix::new_col(vec), added_bits, shift)?;
         Ok(values.to_row_major_matrix().into_values())
@@ -491,7 +494,8 @@ pub trait TwoAdicSubgroupDft<F: TwoAdicField>: Clone + Default {
         requires fits { FitsDft F.TWO_ADICITY (height mat) (mat.width * V.DIMENSION) }
         ensures values { IfOk result (λ out. IsTransform F.Valued.own F.generator (flat V.BasedVectorSpace.own mat)
             F.ring.one (flat V.BasedVectorSpace.own out)) }
-        ensures engine { AfterDft facts self.old self.new result (flat V.BasedVectorSpace.own mat) 0 }
+        ensures engine { AfterDft facts (max (type_size F.row) (type_size V.row)) self.old self.new result
+            (flat V.BasedVectorSpace.own mat) 0 }
     {
         let width = mat.width();
         let values = self.dft_batch(flatten(mat)?)?;
@@ -507,7 +511,8 @@ pub trait TwoAdicSubgroupDft<F: TwoAdicField>: Clone + Default {
         requires fits { FitsDft F.TWO_ADICITY (height mat) (mat.width * V.DIMENSION) }
         ensures values { IfOk result (λ out. IsTransform F.Valued.own F.generator (flat V.BasedVectorSpace.own mat)
             (F.value shift) (flat V.BasedVectorSpace.own out)) }
-        ensures engine { AfterDft facts self.old self.new result (flat V.BasedVectorSpace.own mat) 1 }
+        ensures engine { AfterDft facts (max (type_size F.row) (type_size V.row)) self.old self.new result
+            (flat V.BasedVectorSpace.own mat) 1 }
     {
         let width = mat.width();
         let values = self.coset_dft_batch(flatten(mat)?, shift)?;
@@ -522,7 +527,8 @@ pub trait TwoAdicSubgroupDft<F: TwoAdicField>: Clone + Default {
         requires fits { FitsDft F.TWO_ADICITY (height mat) (mat.width * V.DIMENSION) }
         ensures coefficients { IfOk result (λ out. IsInterpolation F.Valued.own F.generator
             (flat V.BasedVectorSpace.own mat) F.ring.one (flat V.BasedVectorSpace.own out)) }
-        ensures engine { AfterDft facts self.old self.new result (flat V.BasedVectorSpace.own mat) 1 }
+        ensures engine { AfterDft facts (max (type_size F.row) (type_size V.row)) self.old self.new result
+            (flat V.BasedVectorSpace.own mat) 1 }
     {
         let width = mat.width();
         let coefficients = self.idft_batch(flatten(mat)?)?;
@@ -539,7 +545,8 @@ pub trait TwoAdicSubgroupDft<F: TwoAdicField>: Clone + Default {
         requires invertible { IsInvertible F.ring (F.value shift) }
         ensures coefficients { IfOk result (λ out. IsInterpolation F.Valued.own F.generator
             (flat V.BasedVectorSpace.own mat) (F.value shift) (flat V.BasedVectorSpace.own out)) }
-        ensures engine { AfterDft facts self.old self.new result (flat V.BasedVectorSpace.own mat) 2 }
+        ensures engine { AfterDft facts (max (type_size F.row) (type_size V.row)) self.old self.new result
+            (flat V.BasedVectorSpace.own mat) 2 }
     {
         let width = mat.width();
         let coefficients = self.coset_idft_batch(flatten(mat)?, shift)?;
@@ -555,7 +562,8 @@ pub trait TwoAdicSubgroupDft<F: TwoAdicField>: Clone + Default {
         requires fits { FitsLde F.TWO_ADICITY (height mat) (mat.width * V.DIMENSION) added_bits }
         ensures values { IfOk result (λ out. IsExtension F.Valued.own F.generator
             (flat V.BasedVectorSpace.own mat) added_bits F.ring.one (flat V.BasedVectorSpace.own out)) }
-        ensures engine { AfterLde facts self.old self.new result (flat V.BasedVectorSpace.own mat) added_bits }
+        ensures engine { AfterLde facts (max (type_size F.row) (type_size V.row)) self.old self.new result
+            (flat V.BasedVectorSpace.own mat) added_bits }
     {
         let width = mat.width();
         let values = self.lde_batch(flatten(mat)?, added_bits)?;
@@ -572,7 +580,8 @@ pub trait TwoAdicSubgroupDft<F: TwoAdicField>: Clone + Default {
         requires fits { FitsLde F.TWO_ADICITY (height mat) (mat.width * V.DIMENSION) added_bits }
         ensures values { IfOk result (λ out. IsExtension F.Valued.own F.generator
             (flat V.BasedVectorSpace.own mat) added_bits (F.value shift) (flat V.BasedVectorSpace.own out)) }
-        ensures engine { AfterLde facts self.old self.new result (flat V.BasedVectorSpace.own mat) added_bits }
+        ensures engine { AfterLde facts (max (type_size F.row) (type_size V.row)) self.old self.new result
+            (flat V.BasedVectorSpace.own mat) added_bits }
     {
         let width = mat.width();
         let values = self.coset_lde_batch(flatten(mat)?, added_bits, shift)?;
@@ -584,7 +593,8 @@ pub trait TwoAdicSubgroupDft<F: TwoAdicField>: Clone + Default {
         requires fits { FitsDft F.TWO_ADICITY (vec_len vec) V.DIMENSION }
         ensures values { IfOk result (λ out. IsTransform F.Valued.own F.generator
             (flat_col V.BasedVectorSpace.own vec) F.ring.one (flat_col V.BasedVectorSpace.own out)) }
-        ensures engine { AfterDft facts self.old self.new result (flat_col V.BasedVectorSpace.own vec) 0 }
+        ensures engine { AfterDft facts (max (type_size F.row) (type_size V.row)) self.old self.new result
+            (flat_col V.BasedVectorSpace.own vec) 0 }
     {
         Ok(
             self.dft_algebra_batch(RowMajorMatrix::new_col(vec))?
@@ -601,7 +611,8 @@ pub trait TwoAdicSubgroupDft<F: TwoAdicField>: Clone + Default {
         requires fits { FitsDft F.TWO_ADICITY (vec_len vec) V.DIMENSION }
         ensures values { IfOk result (λ out. IsTransform F.Valued.own F.generator
             (flat_col V.BasedVectorSpace.own vec) (F.value shift) (flat_col V.BasedVectorSpace.own out)) }
-        ensures engine { AfterDft facts self.old self.new result (flat_col V.BasedVectorSpace.own vec) 1 }
+        ensures engine { AfterDft facts (max (type_size F.row) (type_size V.row)) self.old self.new result
+            (flat_col V.BasedVectorSpace.own vec) 1 }
     {
         Ok(
             self.coset_dft_algebra_batch(RowMajorMatrix::new_col(vec), shift)?
@@ -617,7 +628,8 @@ pub trait TwoAdicSubgroupDft<F: TwoAdicField>: Clone + Default {
         requires fits { FitsDft F.TWO_ADICITY (vec_len vec) V.DIMENSION }
         ensures coefficients { IfOk result (λ out. IsInterpolation F.Valued.own F.generator
             (flat_col V.BasedVectorSpace.own vec) F.ring.one (flat_col V.BasedVectorSpace.own out)) }
-        ensures engine { AfterDft facts self.old self.new result (flat_col V.BasedVectorSpace.own vec) 1 }
+        ensures engine { AfterDft facts (max (type_size F.row) (type_size V.row)) self.old self.new result
+            (flat_col V.BasedVectorSpace.own vec) 1 }
     {
         Ok(
             self.idft_algebra_batch(RowMajorMatrix::new_col(vec))?
@@ -635,7 +647,8 @@ pub trait TwoAdicSubgroupDft<F: TwoAdicField>: Clone + Default {
         requires invertible { IsInvertible F.ring (F.value shift) }
         ensures coefficients { IfOk result (λ out. IsInterpolation F.Valued.own F.generator
             (flat_col V.BasedVectorSpace.own vec) (F.value shift) (flat_col V.BasedVectorSpace.own out)) }
-        ensures engine { AfterDft facts self.old self.new result (flat_col V.BasedVectorSpace.own vec) 2 }
+        ensures engine { AfterDft facts (max (type_size F.row) (type_size V.row)) self.old self.new result
+            (flat_col V.BasedVectorSpace.own vec) 2 }
     {
         Ok(
             self.coset_idft_algebra_batch(RowMajorMatrix::new_col(vec), shift)?
@@ -652,7 +665,7 @@ pub trait TwoAdicSubgroupDft<F: TwoAdicField>: Clone + Default {
         requires fits { FitsLde F.TWO_ADICITY (vec_len vec) V.DIMENSION added_bits }
         ensures values { IfOk result (λ out. IsExtension F.Valued.own F.generator
             (flat_col V.BasedVectorSpace.own vec) added_bits F.ring.one (flat_col V.BasedVectorSpace.own out)) }
-        ensures engine { AfterLde facts self.old self.new result
+        ensures engine { AfterLde facts (max (type_size F.row) (type_size V.row)) self.old self.new result
             (flat_col V.BasedVectorSpace.own vec) added_bits }
     {
         Ok(
@@ -671,7 +684,7 @@ pub trait TwoAdicSubgroupDft<F: TwoAdicField>: Clone + Default {
         requires fits { FitsLde F.TWO_ADICITY (vec_len vec) V.DIMENSION added_bits }
         ensures values { IfOk result (λ out. IsExtension F.Valued.own F.generator
             (flat_col V.BasedVectorSpace.own vec) added_bits (F.value shift) (flat_col V.BasedVectorSpace.own out)) }
-        ensures engine { AfterLde facts self.old self.new result
+        ensures engine { AfterLde facts (max (type_size F.row) (type_size V.row)) self.old self.new result
             (flat_col V.BasedVectorSpace.own vec) added_bits }
     {
         Ok(

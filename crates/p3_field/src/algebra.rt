@@ -2,6 +2,7 @@
 
 ghost use Rattle.std.specs.Prelude.{◌≡◌, ◌+◌, ◌++◌, ◌<◌, ◌≤◌, ℕ, List, OnOk, OnErr, IsOk, length, get_or, vec_len};
 ghost use Rattle.std.specs.Prelude.{vec_capacity};
+ghost use Rattle.std.specs.Mem.{type_size};
 ghost use Rattle.growth.specs.Refusals.{WasRefused};
 
 use crate::fields::Field;
@@ -35,7 +36,7 @@ pub trait BasedVectorSpace<F>: Drop {
         ensures items { OnOk result (to.new.items ≡ to.old.items ++ coordinates self.now) }
         ensures room { vec_len to.old + DIMENSION ≤ vec_capacity to.old → IsOk result }
         ensures refused { OnErr result (to.new.items ≡ to.old.items) }
-        ensures asked { OnErr result (WasRefused (vec_len to.old + DIMENSION)) }
+        ensures asked { OnErr result (WasRefused (type_size F.row) (vec_len to.old + DIMENSION)) }
     {
         growth::reserve(to, Self::DIMENSION)?;
         for i in 0..Self::DIMENSION {

@@ -1,6 +1,7 @@
 //! Powers of an element, one after another.
 
 ghost use Rattle.std.specs.Prelude.{◌≡◌, ◌<◌, ◌≤◌, ℕ, Some, IfOk, OnErr, length, get_or, vec_len};
+ghost use Rattle.std.specs.Mem.{type_size};
 ghost use Rattle.growth.specs.Refusals.{WasRefused};
 ghost use Rattle.p3_field.specs.Ring.{power};
 
@@ -47,7 +48,7 @@ impl<F: Field> Powers<F> {
         ensures long { IfOk result (λ v. vec_len v ≡ n) }
         ensures powers { IfOk result (λ v. (i : ℕ) → i < n → F.value (get_or v.items i F.zero)
             ≡ F.ring.mul (F.value self.current) (power F.ring (F.value self.base) i)) }
-        ensures room { OnErr result (WasRefused n) }
+        ensures room { OnErr result (WasRefused (type_size F.row) n) }
     {
         let mut powers = growth::with_capacity(alloc, n)?;
         let base = self.base;

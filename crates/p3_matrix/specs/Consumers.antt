@@ -1,9 +1,11 @@
 -- What the consumers of this crate make of a block.
 use Rattle.std.specs.Prelude.{◌≡◌, ℕ, ◌+◌, ◌-◌, ◌*◌, ◌<◌, ◌≤◌, Bool, true, List, [], ◌∷◌, ◌++◌, length, slice_range, Result, Ok, Err, ⊤, Vec, vec_len, vec_capacity}
 use Rattle.std.specs.List.{All}
+use Rattle.std.specs.Mem.{type_size}
 use Rattle.p3_matrix.specs.RowMajor.{RowMajor, IsRowMajor}
 use Rattle.p3_matrix.specs.declared.blocks.BlockRefused.{BlockRefused}
 use Rattle.p3_matrix.specs.declared.blocks.Place.{Place}
+use Rattle.p3_matrix.specs.contracts.blocks.Place.{the_row as place_row}
 use Rattle.p3_matrix.specs.Writes.{with_elements}
 
 -- the rows from row `start` on are written to their place among the entries of all rows, where there is room
@@ -42,6 +44,10 @@ pub record IsRecorded {T : Type 0} (r : Recording T) (start : ℕ) (rows : RowMa
     elements_left = r.elements_left - length rows.values;
   }
   pub missed : (HasRoom r rows → ⊥) → e ≡ record r { missed = true }
+
+-- how many bytes a place takes
+abbrev pub place_bytes : ℕ
+place_bytes = type_size place_row
 
 -- the block of a place, of the elements of all
 abbrev pub block_at : {T : Type 0} → List T → Place → ℕ × RowMajor T

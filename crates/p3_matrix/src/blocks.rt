@@ -1,9 +1,11 @@
 //! Blocks of rows that are lent to a consumer, which may refuse one.
 
 ghost use Rattle.std.specs.Prelude.{◌≡◌, ℕ, ◌+◌, ◌*◌, ◌/◌, ◌%◌, ◌<◌, ◌≤◌, ◌++◌, Bool, IfErr, IfOk};
-ghost use Rattle.std.specs.Prelude.{OnOk, [], false, get_or, length, max, vec_capacity, vec_len};
+ghost use Rattle.std.specs.Prelude.{OnOk, [], false, get_or, length, vec_capacity, vec_len};
 ghost use Rattle.p3_matrix.specs.Blocks.{Run, RunToRefusal, block, first_blocks};
-ghost use Rattle.p3_matrix.specs.Room.{IsWithin};
+ghost use Rattle.std.specs.Mem.{type_size};
+ghost use Rattle.p3_matrix.specs.Consumers.{place_bytes};
+ghost use Rattle.p3_matrix.specs.Room.{IsWithinEither};
 ghost use Rattle.p3_matrix.specs.RowMajor.{IsRowMajor, RowMajor, height};
 
 use crate::dense::RowMajorMatrix;
@@ -167,7 +169,7 @@ impl<T> Recorder<T> {
     pub fn with_room(alloc: Global, blocks: usize, elements: usize) -> Result<Self, DftError>
         ensures made { IfOk result (λ r. r ≡ record
             { blocks = []; missed = false; blocks_left = blocks; elements_left = elements }) }
-        ensures room { IfErr result (IsWithin (max blocks elements)) }
+        ensures room { IfErr result (IsWithinEither place_bytes blocks (type_size T.row) elements) }
     {
         Ok(Recorder {
             places: growth::with_capacity(alloc, blocks)?,

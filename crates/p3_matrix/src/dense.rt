@@ -5,6 +5,7 @@ ghost use Rattle.std.specs.Borrow.{sem};
 ghost use Rattle.std.specs.Iterator.Runs.{EveryRun, IsChunksExactRun};
 ghost use Rattle.std.specs.Slice.Iter.{chunks_exact_rest, chunks_exact_size, chunks_exact_steps};
 ghost use Rattle.p3_matrix.specs.RowMajor.{RowMajor, IsRowMajor, height, row, rows_from};
+ghost use Rattle.std.specs.Mem.{type_size};
 ghost use Rattle.p3_matrix.specs.Room.{IsWithin};
 
 use crate::error::DftError;
@@ -198,7 +199,7 @@ impl<T> RowMajorMatrix<T> {
     where
         T: Copy,
         ensures copy { IfOk result (λ m. m ≡ self.now) }
-        ensures room { IfErr result (IsWithin (length self.now.values)) }
+        ensures room { IfErr result (IsWithin (type_size T.row) (length self.now.values)) }
     {
         let values = growth::from_slice(*self.allocator(), self.values())?;
         Ok(Self::new(values, self.width))

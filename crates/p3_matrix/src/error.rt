@@ -7,7 +7,8 @@ use thiserror::Error;
 #[derive(Clone, Copy, Debug, Drop, PartialEq, Eq, Error)]
 pub enum DftError {
     /// Memory was asked for and refused. It is a plain value that anyone can make: what says that a growth was refused
-    /// is the clause of the call that answers it, by `IsWithin`, and it says for at most how many elements.
+    /// is the clause of the call that answers it, by `IsWithin`, and it says for at most how many elements, and of at
+    /// most how many bytes each.
     #[error("out of memory")]
     OutOfMemory,
 }

@@ -1,6 +1,7 @@
 //! The powers of the roots, for both directions and all heights up to one, in bit reversed order.
 
 ghost use Rattle.std.specs.Prelude.{◌≡◌, ◌⊎◌, ℕ, ◌+◌, ◌-◌, ◌*◌, ◌^◌, ◌/◌, ◌<◌, ◌≤◌, IsOk, IfErr, IfOk, OnOk, OnErr, length};
+ghost use Rattle.std.specs.Mem.{type_size};
 ghost use Rattle.p3_matrix.specs.Room.{IsWithin};
 ghost use Rattle.p3_networks.specs.Twiddles.{AreTwiddles, AreTwiddlesFromStart, backward_root, block_powers};
 ghost use Rattle.p3_networks.specs.Twiddles.{forward_root};
@@ -70,7 +71,7 @@ impl<F: TwoAdicField> RootTables<F> {
         ensures keeps { self.old ≤ self.new }
         ensures only { (self.new ≡ self.old) ⊎ (self.new ≡ log_h) }
         ensures refused { OnErr result (self.new ≡ self.old) }
-        ensures room { IfErr result (IsWithin (2 ^ log_h)) }
+        ensures room { IfErr result (IsWithin (type_size F.row) (2 ^ log_h)) }
     {
         if log_h <= self.log_h {
             return Ok(());
@@ -118,7 +119,7 @@ fn inverse_powers<F: TwoAdicField>(
         (block_powers F.Valued.own (forward_root F.Valued.own F.generator) (log_h - 1)) powers.now }
     ensures powers { IfOk result (λ v. AreTwiddles F.Valued.own (2 ^ (log_h - 1))
         (block_powers F.Valued.own (backward_root F.Valued.own F.generator) (log_h - 1)) v.items) }
-    ensures room { IfErr result (IsWithin (length powers.now)) }
+    ensures room { IfErr result (IsWithin (type_size F.row) (length powers.now)) }
 {
     let mut inverse = growth::with_capacity(alloc, powers.len())?;
     growth::push(&mut inverse, F::ONE)?;

@@ -4,6 +4,7 @@
 ghost use Rattle.std.specs.Prelude.{◌≡◌, ◌⊎◌, ℕ, ◌+◌, ◌-◌, ◌*◌, ◌^◌, ◌<◌, ◌≤◌, IsOk, IfOk, OnOk, OnErr, length, get_or};
 ghost use Rattle.std.specs.Prelude.{IfErr, take, drop, false};
 ghost use Rattle.p3_field.specs.Ring.{power};
+ghost use Rattle.std.specs.Mem.{type_size};
 ghost use Rattle.p3_matrix.specs.BitOrder.{rev};
 ghost use Rattle.p3_matrix.specs.Room.{IsWithin};
 ghost use Rattle.p3_networks.specs.Twiddles.{AreTwiddles, AreTwiddlesOfLayers, items_if_any, layer_place, root_of};
@@ -65,7 +66,7 @@ impl<F: TwoAdicField> Twiddles<F> {
         ensures keeps { self.old ≤ self.new }
         ensures only { (self.new ≡ self.old) ⊎ (self.new ≡ log_h) }
         ensures refused { OnErr result (self.new ≡ self.old) }
-        ensures room { IfErr result (IsWithin (2 ^ log_h - 1)) }
+        ensures room { IfErr result (IsWithin (type_size F.row) (2 ^ log_h - 1)) }
     {
         if log_h <= self.log_h {
             return Ok(());
@@ -121,7 +122,7 @@ pub fn twiddles_of_layers<F: TwoAdicField>(
     ensures size { IfOk result (λ v. length v.items ≡ 2 ^ layers - 1) }
     ensures table { IfOk result (λ v. AreTwiddlesOfLayers F.Valued.own layers
         (root_powers F.Valued.own F.generator inverse) v.items) }
-    ensures room { IfErr result (IsWithin (2 ^ layers - 1)) }
+    ensures room { IfErr result (IsWithin (type_size F.row) (2 ^ layers - 1)) }
 {
     let mut powers = growth::with_capacity(alloc, (1 << layers) - 1)?;
     for l in 0..layers {
@@ -140,7 +141,7 @@ pub fn reversed_powers<F: TwoAdicField>(
     requires { bits < 64 }
     ensures powers { IfOk result (λ v. AreTwiddles F.Valued.own (2 ^ bits)
         (λ b. F.ring.mul (F.value first) (power F.ring (F.value base) (rev bits b))) v.items) }
-    ensures room { IfErr result (IsWithin (2 ^ bits)) }
+    ensures room { IfErr result (IsWithin (type_size F.row) (2 ^ bits)) }
 {
     let mut powers = growth::with_capacity(alloc, 1 << bits)?;
     push_layer(&mut powers, first, base, bits, true)?;
@@ -164,7 +165,7 @@ pub fn push_layer<F: TwoAdicField>(
     ensures entries { OnOk result ((e : ℕ) → e < 2 ^ bits
         → F.value (get_or twiddles.new.items (length twiddles.old.items + e) F.zero)
         ≡ F.ring.mul (F.value first) (power F.ring (F.value base) (layer_place reversed bits e))) }
-    ensures room { IfErr result (IsWithin (length twiddles.old.items + 2 ^ bits)) }
+    ensures room { IfErr result (IsWithin (type_size F.row) (length twiddles.old.items + 2 ^ bits)) }
 {
     let start = twiddles.len();
     growth::push(twiddles, first)?;
@@ -184,7 +185,7 @@ fn push_multiples<F: Field>(elements: &mut Vec<F>, from: usize, factor: F) -> Re
     ensures after { OnOk result ((n : ℕ) → from + n < length elements.old.items
         → F.value (get_or elements.new.items (length elements.old.items + n) F.zero)
         ≡ F.ring.mul (F.value (get_or elements.old.items (from + n) F.zero)) (F.value factor)) }
-    ensures room { IfErr result (IsWithin (2 * length elements.old.items - from)) }
+    ensures room { IfErr result (IsWithin (type_size F.row) (2 * length elements.old.items - from)) }
 {
     for i in from..elements.len() {
         let multiple = elements[i] * factor;

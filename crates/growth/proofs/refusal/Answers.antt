@@ -2,4 +2,4 @@ use Rattle.std.proofs.Common.{refl}
 use Rattle.growth.proofs.refusal.Goals as goal
 
 pub returns : goal.returns
-returns c = (_, refl)
+returns g c = (_, refl)

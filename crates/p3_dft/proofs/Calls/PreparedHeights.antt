@@ -1,10 +1,10 @@
 -- The steps of an engine that shows the largest height whose twiddles are there.
 use Rattle.std.specs.Prelude.{⊤, max}
-use Rattle.std.proofs.Common.{◌≡◌, ℕ, zero, suc, ◌+◌, ◌*◌, ◌≤◌, ◌^◌, Result, Ok, Err, IfErr, IsOk, OnErr, OnOk, ◌⊎◌, refl, ap, subst, arith, rules}
+use Rattle.std.proofs.Common.{◌≡◌, ℕ, zero, suc, ◌+◌, ◌*◌, ◌≤◌, ◌^◌, Result, Ok, Err, IfErr, IsOk, OnErr, OnOk, ◌⊎◌, refl, ap, subst, arith, le_refl, rules}
 use Rattle.p3_matrix.specs.declared.error.DftError.{DftError}
 use Rattle.p3_matrix.specs.Room.{IsWithin}
 use Rattle.p3_matrix.specs.RowMajor.{RowMajor, height}
-use Rattle.p3_matrix.proofs.Rooms.{if_within_more}
+use Rattle.p3_matrix.proofs.Rooms.{if_first}
 use Rattle.p3_dft.specs.Engines.{AfterDft, AtLog, EngineFacts, HasProductsMore, IsLater, IsPrepared, EngineState}
 
 -- an engine with twiddles of all heights up to one, and so many products
@@ -21,7 +21,8 @@ tabled_facts transform_products extension_products block_rows = record {
   extension_products = extension_products;
   block_rows = block_rows;
   products_made = λ e. e.products;
-  more_room = λ e. 0;
+  tables = λ e. 0;
+  table_bytes = 0;
 }
 
 module _ {F : Type 0} (t : ℕ → ℕ → ℕ) (x : ℕ → ℕ → ℕ → ℕ) (b : ℕ → ℕ → ℕ) where
@@ -46,6 +47,7 @@ module _ {F : Type 0} (t : ℕ → ℕ → ℕ) (x : ℕ → ℕ → ℕ → ℕ
         same = λ k. (λ there. there, λ there. there);
         same_cosets = λ k s. (λ none. none, λ none. none);
         same_prepared = λ k. (λ there. there, λ there. there);
+        same_tables = refl;
       })
 
 -- a height that was made prepared is
@@ -54,16 +56,17 @@ held_where (Ok x) before after k made ok = omega (arith, made)
 held_where (Err e) before after k made ok = search rules
 
 -- after a call that `on_prepared` made
-pub after_prepared : {F A T : Type 0} {log more_log products more_products : ℕ} (t : ℕ → ℕ → ℕ) (x : ℕ → ℕ → ℕ → ℕ) (b : ℕ → ℕ → ℕ) (m : RowMajor T) (more : ℕ) (r : Result A DftError)
+pub after_prepared : {bytes : ℕ} {F A T : Type 0} {log more_log products more_products : ℕ} (t : ℕ → ℕ → ℕ) (x : ℕ → ℕ → ℕ → ℕ) (b : ℕ → ℕ → ℕ) (m : RowMajor T) (more : ℕ) (r : Result A DftError)
     → log ≤ more_log → products ≤ more_products → AtLog (height m) (λ k. OnOk r (more_log ≡ max log k))
-    → AtLog (height m) (λ k. more_products ≤ products + (t k m.width + more * (2 ^ k * m.width))) → IfErr r (IsWithin (height m * m.width))
-    → AfterDft (tabled_facts {F = F} t x b) (up_to log products) (up_to more_log more_products) r m more
-after_prepared {log = log} {more_log = more_log} t x b m more r keeps grows made cost room =
+    → AtLog (height m) (λ k. more_products ≤ products + (t k m.width + more * (2 ^ k * m.width))) → IfErr r (IsWithin bytes (height m * m.width))
+    → AfterDft (tabled_facts {F = F} t x b) bytes (up_to log products) (up_to more_log more_products) r m more
+after_prepared {bytes = bytes} {log = log} {more_log = more_log} t x b m more r keeps grows made cost room =
     record {
       later = later_with_heights t x b _ _ _ _ _ refl keeps grows;
       prepared = λ done k high. held_where r _ _ k (made k high) done;
       cost = cost;
-      refused = if_within_more r _ _ (omega arith) room;
+      tables = omega arith;
+      refused = if_first bytes bytes (height m * m.width) (height m * m.width) (le_refl _) (le_refl _) 0 0 r room;
     }
 
 -- a refusal is no answer

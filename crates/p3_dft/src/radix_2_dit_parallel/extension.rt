@@ -2,10 +2,12 @@
 
 ghost use Rattle.std.specs.Prelude.{◌≡◌, ℕ, ◌+◌, ◌-◌, ◌*◌, ◌/◌, ◌^◌, ◌<◌, ◌≤◌, ◌++◌, ◌∷◌, [], List, IfErr, IfOk};
 ghost use Rattle.std.specs.Prelude.{OnOk, length};
+ghost use Rattle.std.specs.Mem.{type_size};
 ghost use Rattle.p3_matrix.specs.BitOrder.{bit_reversal, mid_of};
 ghost use Rattle.p3_matrix.specs.Blocks.{AreBlocksOf, IsPartition, Run, RunToRefusal};
 ghost use Rattle.p3_matrix.specs.Matrix.{Matrix};
-ghost use Rattle.p3_matrix.specs.Room.{IsWithin};
+ghost use Rattle.p3_matrix.specs.Room.{IsWithinEither};
+ghost use Rattle.p3_networks.specs.CosetTables.{coset_table_bytes};
 ghost use Rattle.p3_matrix.specs.RowMajor.{IsRowMajor, RowMajor, height, with_zeros};
 ghost use Rattle.p3_matrix.specs.Cosets.{IsValues, values_of, HasCoset, HasCosets};
 ghost use Rattle.p3_dft.specs.Engines.{AtLog};
@@ -53,10 +55,12 @@ pub(crate) fn coefficients_with_room<
         → HasCoset F.Valued.own cosets.new k s }
     ensures leaves { AtLog (height mat) (λ k. LeavesTables F.Valued.own F.generator k added_bits (F.value shift)
         tables.old tables.new cosets.old cosets.new) }
+    ensures few_cosets { length cosets.new ≤ length cosets.old + 2 ^ added_bits }
     ensures grows { products.old ≤ products.new }
     ensures cost { AtLog (height mat)
         (λ k. products.new ≤ products.old + mat.width * (k * 2 ^ k / 2) + 2 ^ k * mat.width) }
-    ensures room { IfErr result (IsWithin (length cosets.new + height mat * mat.width * 2 ^ added_bits)) }
+    ensures room { IfErr result (IsWithinEither (type_size F.row) (height mat * mat.width * 2 ^ added_bits)
+        (coset_table_bytes F.row) (length cosets.new + 1)) }
 {
     let mut mat = mat;
     let alloc = *mat.allocator();

@@ -2,10 +2,12 @@
 
 ghost use Rattle.std.specs.Prelude.{◌≡◌, ◌⊎◌, ◌↔◌, ℕ, ◌+◌, ◌-◌, ◌^◌, ◌<◌, ◌≤◌, [], ◌∷◌, ◌++◌, length, get_or};
 ghost use Rattle.std.specs.Prelude.{IsTrue, IsOk, IfErr, IfOk, OnOk, OnErr, IfSome, IsNone};
+ghost use Rattle.std.specs.Mem.{type_size};
 ghost use Rattle.p3_matrix.specs.Cosets.{Coset, HasCoset, HasCosets, IsCosetAt, IsCosetOf, AddsCosets, point};
 ghost use Rattle.p3_networks.specs.Twiddles.{IsCosetTable, forward_root};
 ghost use Rattle.p3_matrix.specs.BitOrder.{rev};
-ghost use Rattle.p3_matrix.specs.Room.{IsWithin};
+ghost use Rattle.p3_matrix.specs.Room.{IsWithin, IsWithinEither};
+ghost use Rattle.p3_networks.specs.CosetTables.{coset_table_bytes};
 
 use crate::twiddles::{held, push_layer};
 use p3_field::{Field, TwoAdicField};
@@ -45,7 +47,7 @@ impl<F: TwoAdicField> CosetTable<F> {
         requires within { log_h ≤ F.TWO_ADICITY }
         requires fits_u64 { log_h < 64 }
         ensures made { IfOk result (λ t. t ≡ record { log_h = log_h; shift = shift }) }
-        ensures room { IfErr result (IsWithin (2 ^ log_h - 1)) }
+        ensures room { IfErr result (IsWithin (type_size F.row) (2 ^ log_h - 1)) }
     {
         let twiddles = coset_layers(alloc, log_h, shift)?;
         Ok(CosetTable {
@@ -78,7 +80,7 @@ fn coset_layers<F: TwoAdicField>(alloc: Global, log_h: usize, shift: F) -> Resul
     requires fits_u64 { log_h < 64 }
     ensures size { IfOk result (λ v. length v.items ≡ 2 ^ log_h - 1) }
     ensures table { IfOk result (λ v. IsCosetTable F.Valued.own F.generator (F.value shift) log_h v.items) }
-    ensures room { IfErr result (IsWithin (2 ^ log_h - 1)) }
+    ensures room { IfErr result (IsWithin (type_size F.row) (2 ^ log_h - 1)) }
 {
     let mid = (log_h + 1) / 2;
     let mut twiddles = growth::with_capacity(alloc, (1 << log_h) - 1)?;
@@ -200,7 +202,8 @@ impl<F: TwoAdicField> CosetTables<F> {
         ensures once { HasCoset F.Valued.own self.old log_h (F.value shift) → self.new ≡ self.old }
         ensures only { (self.new ≡ self.old) ⊎ (self.new ≡ self.old ++ record { log_h = log_h; shift = shift } ∷ []) }
         ensures refused { OnErr result (self.new ≡ self.old) }
-        ensures room { IfErr result (IsWithin (2 ^ log_h + length self.new)) }
+        ensures room { IfErr result (IsWithinEither (type_size F.row) (2 ^ log_h - 1)
+            (coset_table_bytes F.row) (length self.new + 1)) }
     {
         let end = self.as_slice().len();
         self.make_among(alloc, log_h, shift, 0, end)
@@ -225,7 +228,8 @@ impl<F: TwoAdicField> CosetTables<F> {
         ensures once { HasCoset F.Valued.own self.old log_h (F.value shift) → self.new ≡ self.old }
         ensures only { (self.new ≡ self.old) ⊎ (self.new ≡ self.old ++ record { log_h = log_h; shift = shift } ∷ []) }
         ensures refused { OnErr result (self.new ≡ self.old) }
-        ensures room { IfErr result (IsWithin (2 ^ log_h + length self.new)) }
+        ensures room { IfErr result (IsWithinEither (type_size F.row) (2 ^ log_h - 1)
+            (coset_table_bytes F.row) (length self.new + 1)) }
     {
         if let Some(place) = self.find(log_h, shift, start, end) {
             return Ok(place);
@@ -267,7 +271,9 @@ impl<F: TwoAdicField> CosetTables<F> {
         ensures keeps { (k : ℕ) (s : F.Element) → HasCoset F.Valued.own self.old k s
             → HasCoset F.Valued.own self.new k s }
         ensures only { AddsCosets F.Valued.own F.generator log_h added_bits (F.value shift) self.old self.new }
-        ensures room { IfErr result (IsWithin (2 ^ log_h + length self.new)) }
+        ensures few { length self.new ≤ length self.old + 2 ^ added_bits }
+        ensures room { IfErr result (IsWithinEither (type_size F.row) (2 ^ log_h - 1)
+            (coset_table_bytes F.row) (length self.new + 1)) }
     {
         // The tables that are made here are of other cosets, and are not searched.
         let there = self.as_slice().len();
@@ -285,7 +291,7 @@ impl<F: TwoAdicField> CosetTables<F> {
         requires { ¬ (HasCoset F.Valued.own self.old table.log_h (F.value table.shift)) }
         ensures added { IfOk result (λ _. self.new ≡ self.old ++ table ∷ []) }
         ensures refused { OnErr result (self.new ≡ self.old) }
-        ensures room { IfErr result (IsWithin (length self.new + 1)) }
+        ensures room { IfErr result (IsWithin (coset_table_bytes F.row) (length self.new + 1)) }
     {
         let mut tables = match self.tables.take() {
             Some(tables) => tables,

@@ -1,6 +1,7 @@
 //! The powers of the roots that the engine keeps until it ends.
 
 ghost use Rattle.std.specs.Prelude.{◌≡◌, ◌⊎◌, ◌+◌, ◌-◌, ◌^◌, ◌/◌, ◌≤◌, ◌<◌, IfErr, IsOk, OnOk, OnErr, length};
+ghost use Rattle.std.specs.Mem.{type_size};
 ghost use Rattle.p3_matrix.specs.Room.{IsWithin};
 ghost use Rattle.p3_networks.specs.Twiddles.{AreTwiddlesFromStart, AreTwiddlesOfLayers, block_powers, root_of};
 ghost use Rattle.p3_matrix.specs.BitOrder.{mid_of};
@@ -75,7 +76,7 @@ impl<F: TwoAdicField> Tables<F> {
         ensures keeps { self.old ≤ self.new }
         ensures only { (self.new ≡ self.old) ⊎ (self.new ≡ log_h) }
         ensures refused { OnErr result (self.new ≡ self.old) }
-        ensures room { IfErr result (IsWithin (2 ^ log_h)) }
+        ensures room { IfErr result (IsWithin (type_size F.row) (2 ^ log_h)) }
     {
         if log_h <= self.log_h() {
             return Ok(());

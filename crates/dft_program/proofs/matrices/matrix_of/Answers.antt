@@ -21,7 +21,7 @@ new-requires-clause-full g c =
     rw same c.requires.full
 
 pub returns-in_err-values-clause-refused : goal.returns-in_err-values-clause-refused
-returns-in_err-values-clause-refused g c = refused_by c.from_residual.result _ c.in_err-values.ensures.room
+returns-in_err-values-clause-refused g c = refused_by c.from_residual.result _ _ c.requires.small.element c.in_err-values.ensures.room
 
 pub returns-in_err-push-clause-refused : goal.returns-in_err-push-clause-refused
-returns-in_err-push-clause-refused g c = refused_by c.from_residual-in_err-push.result _ c.in_err-push.ensures.room
+returns-in_err-push-clause-refused g c = refused_by c.from_residual-in_err-push.result _ _ c.requires.small.element c.in_err-push.ensures.room

@@ -18,4 +18,4 @@ returns-clause-numbers g c =
     ∙ ap (λ pieces. vec_items c.args.text.now ++ join_with_byte 32 pieces) (sym (map-map decimal number c.args.row.now))
 
 pub returns-in_err-push-clause-refused : goal.returns-in_err-push-clause-refused
-returns-in_err-push-clause-refused g c = refused_by c.from_residual-in_err-push.result _ c.in_err-push.ensures.room
+returns-in_err-push-clause-refused g c = refused_by c.from_residual-in_err-push.result 1 _ (omega arith) c.in_err-push.ensures.room

@@ -31,7 +31,7 @@ returns-in_err-push-clause-first g c =
     )
 
 pub returns-in_err-resize-clause-memory : goal.returns-in_err-resize-clause-memory
-returns-in_err-resize-clause-memory g c = refused_by c.from_residual.result _ c.in_err-resize.ensures.room
+returns-in_err-resize-clause-memory g c = refused_by c.from_residual.result 1 _ (omega arith) c.in_err-resize.ensures.room
 
 pub returns-in_err-push-clause-memory : goal.returns-in_err-push-clause-memory
-returns-in_err-push-clause-memory g c = refused_by c.from_residual-in_err-push.result _ c.in_err-push.ensures.room
+returns-in_err-push-clause-memory g c = refused_by c.from_residual-in_err-push.result _ _ (omega arith) c.in_err-push.ensures.room

@@ -6,9 +6,8 @@ use Rattle.std.proofs.lemmas.Result.{IfOk-from_err}
 use Rattle.std.specs.List.{All, AllZip}
 use Rattle.std.specs.Vec.Iter.{into_iter_items}
 use Rattle.p3_matrix.specs.RowMajor.{RowMajor}
-use Rattle.p3_dft.specs.declared.jobs.Job.{Job}
-use Rattle.p3_dft.specs.Jobs.{AreFirstAnswers, CanRun, HasMade, IsAnswer, IsPreparedFor, answer_entries}
-use Rattle.p3_dft.proofs.Calls.JobRuns.{room_each}
+use Rattle.p3_dft.specs.Jobs.{AreFirstAnswers, CanRun, HasMade, IsAnswer, IsPreparedFor}
+use Rattle.p3_dft.proofs.Calls.JobRuns.{told_of_job, told_of_list}
 use Rattle.p3_dft.proofs.Calls.EngineSteps.{later_same, later_still}
 use Rattle.p3_dft.proofs.Calls.JobLists.{costs_more, costs_none, costs_rest, first_answers, next_is, next_not_promised, next_of_all, of_all, on_any_error, ready_later, split_more, taken, taken_and_next}
 use Rattle.p3_dft.proofs.Calls.PreparedHeights.{not_ok}
@@ -19,11 +18,8 @@ module _ (answers additional jobs all : ℕ) (none : answers ≡ 0) (as_many : a
   some_jobs : (capacity : ℕ) → capacity < answers + additional → 0 < all
   some_jobs capacity full = omega (arith, full, none, as_many, are)
 
-  room_for_all : (more entries : ℕ) → answers + additional ≤ more + all + entries
-  room_for_all more entries = omega (arith, none, as_many, are)
-
-room_for_next : (more jobs here there : ℕ) → there ≡ here → more + here ≤ more + jobs + there
-room_for_next more jobs here there same = omega (arith, same)
+  room_for_all : answers + additional ≤ all
+  room_for_all = omega (arith, none, as_many, are)
 
 no_room_left : (answers answered jobs all capacity : ℕ) → answers ≡ answered → jobs ≡ all → answered < all → jobs ≤ capacity → capacity ≤ answers → ⊥
 no_room_left answers answered jobs all capacity here are some room full = absurd (omega (arith, here, are, some, room, full))
@@ -83,7 +79,7 @@ returns-in_err-reserve_exact g c =
       cost_of_first = on_any_error _ (costs_rest g.D.TwoAdicSubgroupDft.facts g.F.Valued g.F.TwoAdicField.TWO_ADICITY _ [] _ _ _ refl (All-take (CanRun g.F.Valued g.F.TwoAdicField.TWO_ADICITY) _ c.args.jobs.items c.requires.runnable) (costs_none g.D.TwoAdicSubgroupDft.facts [] _ refl));
       refused = on_any_error _ (inl (refl, none));
       later = later_same _ _;
-      room = room_each c.from_residual.result _ _ _ c.from_residual.ensures (λ d. room_for_all _ _ _ _ empty c.len.ensures c.args.jobs.ok.0 _ _) c.in_err-reserve_exact.ensures.room;
+      room = told_of_list g.D.TwoAdicSubgroupDft.facts _ _ _ _ _ _ c.from_residual.result _ c.from_residual.ensures (room_for_all _ _ _ _ empty c.len.ensures c.args.jobs.ok.0) c.in_err-reserve_exact.ensures.room;
     }
 
 pub returns-in_err-answer : goal.returns-in_err-answer
@@ -106,8 +102,8 @@ returns-in_err-answer g c =
       cost_of_first = on_any_error result (subst (HasMade facts c.args.engine.now c.run_job.new.engine) (sym (taken_and_next answers c.args.jobs.items c.loop-job.yielded _ _ c.in-Some.job c.loop-job.answers.items so_far.split next so_far.answered)) made);
       refused = on_any_error result (inr (next_not_promised g.F.Valued g.F.TwoAdicField.generator facts c.args.jobs.items c.loop-job.yielded _ _ c.in-Some.job c.loop-job.answers.items c.args.engine.now c.loop-job.engine so_far.split next so_far.answered so_far.later (λ promised. not_ok c.run_job.result _ c.in_err-answer.was (c.run_job.ensures.succeeds promised))));
       later = later_still _ _ _ _ so_far.later c.run_job.ensures.later;
-      room = room_each result _ _ _ c.from_residual-in_err-answer.ensures
-          (λ d. let same = ap (λ (j : Job g.row.F.Denot). answer_entries j) (next_is g.F.Valued g.F.TwoAdicField.generator c.args.jobs.items c.loop-job.yielded _ _ c.in-Some.job c.loop-job.answers.items d so_far.split next so_far.answered) in room_for_next _ _ _ _ same)
+      room = told_of_job facts _ _ _ _ _ c.in-Some.job result _ c.from_residual-in_err-answer.ensures
+          (λ d. next_is g.F.Valued g.F.TwoAdicField.generator c.args.jobs.items c.loop-job.yielded _ _ c.in-Some.job c.loop-job.answers.items d so_far.split next so_far.answered)
           c.in_err-answer.ensures.room;
     }
 

@@ -57,7 +57,7 @@ network_g_transposed-requires-clause-twiddles g c =
 
 pub returns-in_err-twiddles-clause-room : goal.returns-in_err-twiddles-clause-room
 returns-in_err-twiddles-clause-room g c =
-    room_of c.from_residual.result _ _ _ c.from_residual.ensures (half_table_fits _ c.requires.fits (sym c.height-height.ensures.height ∙ c.log2_strict_usize-log_h.ensures.power)) c.in_err-twiddles.ensures.room
+    room_of _ c.from_residual.result _ _ _ c.from_residual.ensures (half_table_fits _ c.requires.fits (sym c.height-height.ensures.height ∙ c.log2_strict_usize-log_h.ensures.power)) c.in_err-twiddles.ensures.room
 
 pub returns-clause-same : goal.returns-clause-same
 returns-clause-same g c = entries_written c.args.mat.now _ c.network_g_transposed.new.values refl refl (c.network_g_transposed.auto.values ∙ ap length c.values_mut.ensures.values)

@@ -58,7 +58,7 @@ extending_network-requires-clause-weights g c = ap length c.as_slice.ensures.val
 pub returns-in_err-weights-clause-room : goal.returns-in_err-weights-clause-room
 returns-in_err-weights-clause-room g c =
     let table = powers_fit c.args.log_h c.requires.whole.width c.requires.height in
-    room_of c.from_residual.result _ _ _ c.from_residual.ensures (omega (arith, table, fewer_entries (height c.args.mat * c.args.mat.width) c.args.added_bits)) c.in_err-weights.ensures.room
+    room_of _ c.from_residual.result _ _ _ c.from_residual.ensures (omega (arith, table, fewer_entries (height c.args.mat * c.args.mat.width) c.args.added_bits)) c.in_err-weights.ensures.room
 
 pub returns : goal.returns
 returns g c =

@@ -110,5 +110,5 @@ returns-clause-powers g c =
 pub returns-in_err-push-2-clause-room : goal.returns-in_err-push-2-clause-room
 returns-in_err-push-2-clause-room g c =
     let chunk = chunk_of (c.args.log_h - 1) c.loop-l.l (omega (arith, c.requires.nonzero, c.requires.fits_u64)) (omega (arith, c.loop-l-test.true)) in
-    room_of c.from_residual-in_err-push-2.result _ _ _ c.from_residual-in_err-push-2.ensures
+    room_of _ c.from_residual-in_err-push-2.result _ _ _ c.from_residual-in_err-push-2.ensures
     (omega (arith, chunk.room, c.requires.powers.size, c.loop-b.invariant.size, c.loop-b-test.true, c.loop-b.inverse.ok.0)) c.in_err-push-2.ensures.room

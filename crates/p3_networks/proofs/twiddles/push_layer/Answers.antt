@@ -79,5 +79,5 @@ pub returns-in_err-push_multiples-clause-room : goal.returns-in_err-push_multipl
 returns-in_err-push_multiples-clause-room g c =
     let most : 2 ^ (c.loop-l.l + 1) ≤ 2 ^ c.args.bits = pow-le-pow_right {n = 2} (lit≤ tt) (omega (arith, c.loop-l-test.true)) in
     let twice : 2 ^ (c.loop-l.l + 1) ≡ 2 * 2 ^ c.loop-l.l = ap (λ k. 2 ^ k) (add-one c.loop-l.l) ∙ omega arith in
-    room_of c.from_residual-in_err-push_multiples.result _ _ _ c.from_residual-in_err-push_multiples.ensures
+    room_of _ c.from_residual-in_err-push_multiples.result _ _ _ c.from_residual-in_err-push_multiples.ensures
     (omega (arith, most, twice, c.loop-l.invariant.size, c.len-start.ensures, c.args.twiddles.now.ok)) c.in_err-push_multiples.ensures.room

@@ -1,11 +1,11 @@
-use Rattle.std.proofs.Common.{ℕ, ◌≡◌, ◌≤◌, ◌+◌, ◌*◌, ◌^◌, ◌∙◌, refl, subst, sym, arith, le-add_left, le_of_eq, le_refl, le_trans, zero-add, ap}
+use Rattle.std.proofs.Common.{ℕ, ◌≡◌, ◌≤◌, ◌+◌, ◌*◌, ◌^◌, ◌∙◌, refl, subst, sym, arith, le_of_eq, le_refl, le_trans, zero-add, ap}
 use Rattle.std.proofs.lemmas.Result.{IfOk-from_err, IfOk-weaker}
 use Rattle.p3_matrix.specs.RowMajor.{height}
 use Rattle.p3_dft.specs.Engines.{EngineState}
 use Rattle.p3_dft.proofs.Calls.PreparedHeights.{none_above}
 use Rattle.p3_dft.proofs.Calls.EngineSteps.{after_part, extended_after, part_refused, parts_after, products_after}
 use Rattle.p3_dft.proofs.Calls.ExtendedTransforms.{answered_shape, extension_of_shifted}
-use Rattle.p3_matrix.proofs.Rooms.{room_of}
+use Rattle.p3_matrix.proofs.Rooms.{first_of}
 use Rattle.p3_matrix.proofs.Rows.Padding.{padded_shape}
 use Rattle.p3_dft.proofs.Calls.Shapes.{fewer_entries, input_fits, output_fits, output_log_small, output_size, same_extended}
 use Rattle.p3_dft.proofs.radix_2_dit.Radix2DitTwoAdicSubgroupDft.coset_lde_batch_with_transform.Goals as goal
@@ -50,7 +50,7 @@ returns-clause-values g c =
 
 pub returns-in_err-coefficients-clause-engine : goal.returns-in_err-coefficients-clause-engine
 returns-in_err-coefficients-clause-engine g c =
-    part_refused _ _ _ _ _ c.from_residual.ensures (λ k. omega arith) (fewer_entries _ _) c.in_err-coefficients.ensures.engine
+    part_refused _ _ _ _ _ c.from_residual.ensures (λ k. omega arith) (fewer_entries _ _) (omega arith) c.in_err-coefficients.ensures.engine
 
 pub returns-clause-only : goal.returns-clause-only
 returns-clause-only g c = λ k e.
@@ -86,5 +86,5 @@ returns-in_err-padded g c =
     record {
       values = IfOk-from_err _ _ c.from_residual-in_err-padded.ensures.0;
       only = λ k e. omega (arith, c.in_ok-coefficients.ensures.made k e, (c.add_products.ensures.engine.same _).1 (le_refl _));
-      engine = let fits = c.requires.fits in let m = g.N.IntoRowMajorMatrix.stored c.args.mat in let shape = answered_shape g.F.Valued g.F.TwoAdicField.generator _ _ _ _ _ fits.log fits.height c.in_ok-coefficients.ensures.coefficients (refl, refl) c.width-width.ensures.whole c.requires.shape c.transform-changed.ensures in let same = c.shift_rows.ensures.shifted in after_part _ _ _ _ _ c.from_residual-in_err-padded.ensures.0 (λ k. omega arith) (room_of c.from_residual-in_err-padded.result _ _ _ c.from_residual-in_err-padded.ensures (le_trans (same_extended c.args.added_bits (same.height ∙ shape.0) (same.width ∙ shape.1)) (le-add_left _ _)) c.in_err-padded.ensures.room) (products_after _ 1 m c.transform-changed.result _ _ _ c.transform-changed.result _ shape (le_trans (subst (λ (n : ℕ). c.shift_rows.new.products ≤ n + height c.transform-changed.result * c.transform-changed.result.width) c.new-products.ensures c.shift_rows.ensures.cost) (le_of_eq (zero-add _))) c.in_ok-coefficients.ensures.engine c.add_products.ensures.engine);
+      engine = let fits = c.requires.fits in let m = g.N.IntoRowMajorMatrix.stored c.args.mat in let shape = answered_shape g.F.Valued g.F.TwoAdicField.generator _ _ _ _ _ fits.log fits.height c.in_ok-coefficients.ensures.coefficients (refl, refl) c.width-width.ensures.whole c.requires.shape c.transform-changed.ensures in let same = c.shift_rows.ensures.shifted in after_part _ _ _ _ _ c.from_residual-in_err-padded.ensures.0 (λ k. omega arith) (omega arith) (first_of _ _ _ _ (le_refl _) (same_extended c.args.added_bits (same.height ∙ shape.0) (same.width ∙ shape.1)) _ _ c.from_residual-in_err-padded.result _ c.from_residual-in_err-padded.ensures c.in_err-padded.ensures.room) (products_after _ 1 m c.transform-changed.result _ _ _ c.transform-changed.result _ shape (le_trans (subst (λ (n : ℕ). c.shift_rows.new.products ≤ n + height c.transform-changed.result * c.transform-changed.result.width) c.new-products.ensures c.shift_rows.ensures.cost) (le_of_eq (zero-add _))) c.in_ok-coefficients.ensures.engine c.add_products.ensures.engine);
     }

@@ -1,9 +1,9 @@
-use Rattle.std.proofs.Common.{◌≡◌, ◌⊎◌, inl, inr, Bool, false, ℕ, ◌^◌, IsTrue, List, refl, sym, ap, ◌∙◌, subst, arith, rules, IfOk, ◌+◌, ◌*◌, ◌/◌, ◌≤◌, max, le-add_right, le_refl}
+use Rattle.std.proofs.Common.{◌≡◌, ◌⊎◌, inl, inr, Bool, false, ℕ, ◌^◌, IsTrue, List, length, refl, sym, ap, ◌∙◌, subst, arith, rules, IfOk, ◌+◌, ◌*◌, ◌/◌, ◌≤◌, max, le-add_right, le_refl}
 use Rattle.std.proofs.lemmas.Result.{IfOk-from_err, on_ok_weaker}
 use Rattle.p3_matrix.specs.RowMajor.{height}
 use Rattle.p3_matrix.specs.BitOrder.{bit_reversal, reversed_rows}
 use Rattle.p3_matrix.specs.Cosets.{IsValues, values_of, Coset, HasCoset}
-use Rattle.p3_matrix.proofs.Rooms.{room_of}
+use Rattle.p3_matrix.proofs.Rooms.{either_of}
 use Rattle.p3_dft.specs.Engines.{CosetEngineState, IsCosetPrepared}
 use Rattle.p3_dft.specs.Transforms.{IsTransform}
 use Rattle.p3_dft.proofs.BitReversed.OneRow.{row_handed_back, row_seen}
@@ -11,9 +11,9 @@ use Rattle.p3_dft.proofs.BitReversed.Rows.{transform_seen}
 use Rattle.p3_dft.proofs.Calls.Counts.{larger_bound, none_more}
 use Rattle.p3_dft.proofs.Calls.EngineSteps.{after_none}
 use Rattle.p3_dft.proofs.Calls.JobLists.{on_any_error}
-use Rattle.p3_dft.proofs.Calls.PreparedCosets.{coset_stays, later_with_tables, tabled}
+use Rattle.p3_dft.proofs.Calls.PreparedCosets.{coset_stays, later_with_tables, one_table_more, tabled}
 use Rattle.p3_dft.proofs.Calls.PreparedHeights.{no_larger, none_above, not_ok}
-use Rattle.p3_dft.proofs.Calls.Shapes.{beside_held, log_fits_dft, table_fits}
+use Rattle.p3_dft.proofs.Calls.Shapes.{one_less_fits, log_fits_dft, table_fits}
 use Rattle.p3_dft.proofs.Calls.Stored.{at_log, rows_found}
 use Rattle.p3_dft.proofs.radix_2_dit_parallel.Radix2DitParallelTwoAdicSubgroupDft.coset_dft_batch.Goals as goal
 
@@ -53,7 +53,7 @@ returns-then-eq g c =
       cosets = λ k high. inl call.cosets;
       refused = call.refused;
       one_row = call.one_row;
-      engine = record { later = call.engine.later; prepared = call.engine.prepared; cost = λ k high. larger_bound _ _ _ _ (call.engine.cost k high) (omega arith); refused = call.engine.refused };
+      engine = record { tables = call.engine.tables; later = call.engine.later; prepared = call.engine.prepared; cost = λ k high. larger_bound _ _ _ _ (call.engine.cost k high) (omega arith); refused = call.engine.refused };
       pairs = λ k high. omega (arith, call.engine.cost k high);
     }
 
@@ -108,10 +108,11 @@ returns-in_err-place g c =
       refused = on_any_error _ (ap (tabled c.self.inside.tables c.self.inside.products) kept ∙ c.self.view_is);
       one_row = λ one. absurd (several one);
       engine = record {
-        later = later_with_tables field _ _ _ c.args.self.now _ _ _ _ _ _ c.self.view_is (le_refl _) (coset_stays field _ _ _ c.make.ensures.only) (le_refl _);
+        later = later_with_tables field _ _ _ _ c.args.self.now _ _ _ _ _ _ c.self.view_is (le_refl _) (coset_stays field _ _ _ c.make.ensures.only) (le_refl _);
         prepared = λ done k e. tt;
         cost = λ k e. none_more _ _ _ products;
-        refused = room_of c.from_residual.result _ _ _ c.from_residual.ensures (beside_held _ _ _ (table_fits _ c.requires.fits tall)) c.in_err-place.ensures.room;
+        tables = omega (arith, ap length kept, ap length old_cosets);
+        refused = either_of _ _ _ _ (le_refl _) (one_less_fits _ _ (table_fits _ c.requires.fits tall)) _ _ _ (le_refl _) c.from_residual.result _ c.from_residual.ensures c.in_err-place.ensures.room;
       };
       pairs = λ k e. none_more _ _ _ products;
     }
@@ -148,9 +149,10 @@ returns g c =
       refused = tt;
       one_row = λ one. absurd (several one);
       engine = record {
-        later = later_with_tables field _ _ _ c.args.self.now _ _ _ _ _ _ c.self.view_is (le_refl _) (coset_stays field _ _ _ c.make.ensures.only) c.evaluate_on_coset_to_reversed.ensures.grows;
+        later = later_with_tables field _ _ _ _ c.args.self.now _ _ _ _ _ _ c.self.view_is (le_refl _) (coset_stays field _ _ _ c.make.ensures.only) c.evaluate_on_coset_to_reversed.ensures.grows;
         prepared = λ done k e. tt;
         cost = at_log _ _ log tall (larger_bound _ _ _ _ made (le-add_right _ _));
+        tables = omega (arith, one_table_more field _ _ _ c.make.ensures.only, ap length old_cosets);
         refused = tt;
       };
       pairs = at_log _ _ log tall made;

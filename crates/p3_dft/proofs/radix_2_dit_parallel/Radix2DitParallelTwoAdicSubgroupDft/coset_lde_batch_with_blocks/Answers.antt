@@ -1,4 +1,4 @@
-use Rattle.std.proofs.Common.{◌≡◌, ℕ, ◌+◌, ◌*◌, ◌^◌, ◌≤◌, sym, ap, ◌∙◌, subst, arith, refl, le-add_right, le_refl, le_trans, add-le-add}
+use Rattle.std.proofs.Common.{◌≡◌, ℕ, length, ◌+◌, ◌*◌, ◌^◌, ◌≤◌, sym, ap, ◌∙◌, subst, arith, refl, le-add_right, le_refl, le_trans}
 use Rattle.p3_matrix.specs.BitOrder.{bit_reversal}
 use Rattle.p3_matrix.specs.RowMajor.{RowMajor, height}
 use Rattle.p3_matrix.specs.Cosets.{values_of, HasCoset}
@@ -9,8 +9,8 @@ use Rattle.p3_dft.proofs.Calls.PublishedExtensions.{one_error}
 use Rattle.p3_dft.proofs.Calls.Shapes.{both_logs_fit, same_extended}
 use Rattle.p3_dft.specs.Engines.{CosetEngineState}
 use Rattle.p3_dft.specs.Tables.{LeavesTables}
-use Rattle.p3_matrix.proofs.Rooms.{within_more}
-use Rattle.p3_matrix.specs.Room.{IsWithin}
+use Rattle.p3_matrix.proofs.Rooms.{either_larger}
+use Rattle.p3_matrix.specs.Room.{IsWithinEither}
 use Rattle.p3_dft.proofs.Calls.Stored.{at_log, whole_still}
 use Rattle.p3_dft.proofs.radix_2_dit_parallel.Radix2DitParallelTwoAdicSubgroupDft.coset_lde_batch_with_blocks.Goals as goal
 
@@ -67,9 +67,10 @@ returns-in-Err g c =
       tables = λ k high. tt;
       keeps_tables = λ k s has. c.coefficients_with_room-room.ensures.keeps_cosets k s (subst (λ (x : CosetEngineState g.row.F.Denot). HasCoset g.F.Valued x.cosets k s) (sym c.self.view_is) has);
       leaves = λ k e. subst (λ (x : CosetEngineState g.row.F.Denot). LeavesTables g.F.Valued g.F.TwoAdicField.generator k c.args.added_bits (g.F.Valued.value c.args.shift) x.roots.prepared c.coefficients_with_room-room.new.tables x.cosets c.coefficients_with_room-room.new.cosets) c.self.view_is (c.coefficients_with_room-room.ensures.leaves k (stored ∙ e));
-      later = later_with_tables g.F.Valued _ _ _ c.args.self.now _ _ _ _ _ _ c.self.view_is c.coefficients_with_room-room.ensures.keeps c.coefficients_with_room-room.ensures.keeps_cosets c.coefficients_with_room-room.ensures.grows;
+      few_tables = omega (arith, c.coefficients_with_room-room.ensures.few_cosets, ap (λ (e : CosetEngineState g.row.F.Denot). length e.cosets) c.self.view_is);
+      later = later_with_tables g.F.Valued _ _ _ _ c.args.self.now _ _ _ _ _ _ c.self.view_is c.coefficients_with_room-room.ensures.keeps c.coefficients_with_room-room.ensures.keeps_cosets c.coefficients_with_room-room.ensures.grows;
       cost = λ k e. slots_counted _ _ _ _ _ _ _ _ _ _ products width refl (c.coefficients_with_room-room.ensures.cost k (stored ∙ e)) (le-add_right _ _);
-      room = subst (IsWithin _) (sym (one_error _)) (within_more _ _ (add-le-add (le_refl _) (same_extended c.args.added_bits stored width)) _ c.in-Err.ensures.room);
+      room = subst (IsWithinEither _ _ _ _) (sym (one_error _)) (either_larger _ _ _ _ (le_refl _) (same_extended c.args.added_bits stored width) _ _ _ (le_refl _) _ c.in-Err.ensures.room);
     }
 
 pub returns-in-Err-extended : goal.returns-in-Err-extended
@@ -96,7 +97,8 @@ returns-in-Err-extended g c =
       tables = λ k e. c.in-Ok.ensures.cosets k (stored ∙ e);
       keeps_tables = λ k s has. c.coefficients_with_room-room.ensures.keeps_cosets k s (subst (λ (x : CosetEngineState g.row.F.Denot). HasCoset g.F.Valued x.cosets k s) (sym c.self.view_is) has);
       leaves = λ k e. subst (λ (x : CosetEngineState g.row.F.Denot). LeavesTables g.F.Valued g.F.TwoAdicField.generator k c.args.added_bits (g.F.Valued.value c.args.shift) x.roots.prepared c.coefficients_with_room-room.new.tables x.cosets c.coefficients_with_room-room.new.cosets) c.self.view_is (c.coefficients_with_room-room.ensures.leaves k (stored ∙ e));
-      later = later_with_tables g.F.Valued _ _ _ c.args.self.now _ _ _ _ _ _ c.self.view_is c.coefficients_with_room-room.ensures.keeps c.coefficients_with_room-room.ensures.keeps_cosets (le_trans c.coefficients_with_room-room.ensures.grows c.extend_reversed-extended.ensures.grows);
+      few_tables = omega (arith, c.coefficients_with_room-room.ensures.few_cosets, ap (λ (e : CosetEngineState g.row.F.Denot). length e.cosets) c.self.view_is);
+      later = later_with_tables g.F.Valued _ _ _ _ c.args.self.now _ _ _ _ _ _ c.self.view_is c.coefficients_with_room-room.ensures.keeps c.coefficients_with_room-room.ensures.keeps_cosets (le_trans c.coefficients_with_room-room.ensures.grows c.extend_reversed-extended.ensures.grows);
       cost = at_log _ _ log tall (slots_counted _ _ _ _ _ _ _ _ _ _ products width (ap (λ (n : RowMajor g.row.F.Denot). n.width) answer.over_zeros ∙ answer.kept.1) (c.coefficients_with_room-room.ensures.cost log high) c.extend_reversed-extended.ensures.cost);
       room = tt;
     }
@@ -128,7 +130,8 @@ returns g c =
       tables = λ k e. c.in-Ok.ensures.cosets k (stored ∙ e);
       keeps_tables = λ k s has. c.coefficients_with_room-room.ensures.keeps_cosets k s (subst (λ (x : CosetEngineState g.row.F.Denot). HasCoset g.F.Valued x.cosets k s) (sym c.self.view_is) has);
       leaves = λ k e. subst (λ (x : CosetEngineState g.row.F.Denot). LeavesTables g.F.Valued g.F.TwoAdicField.generator k c.args.added_bits (g.F.Valued.value c.args.shift) x.roots.prepared c.coefficients_with_room-room.new.tables x.cosets c.coefficients_with_room-room.new.cosets) c.self.view_is (c.coefficients_with_room-room.ensures.leaves k (stored ∙ e));
-      later = later_with_tables g.F.Valued _ _ _ c.args.self.now _ _ _ _ _ _ c.self.view_is c.coefficients_with_room-room.ensures.keeps c.coefficients_with_room-room.ensures.keeps_cosets (le_trans c.coefficients_with_room-room.ensures.grows c.extend_reversed-extended.ensures.grows);
+      few_tables = omega (arith, c.coefficients_with_room-room.ensures.few_cosets, ap (λ (e : CosetEngineState g.row.F.Denot). length e.cosets) c.self.view_is);
+      later = later_with_tables g.F.Valued _ _ _ _ c.args.self.now _ _ _ _ _ _ c.self.view_is c.coefficients_with_room-room.ensures.keeps c.coefficients_with_room-room.ensures.keeps_cosets (le_trans c.coefficients_with_room-room.ensures.grows c.extend_reversed-extended.ensures.grows);
       cost = at_log _ _ log tall (slots_counted _ _ _ _ _ _ _ _ _ _ products width (ap (λ (n : RowMajor g.row.F.Denot). n.width) answer.over_zeros ∙ answer.kept.1) (c.coefficients_with_room-room.ensures.cost log high) c.extend_reversed-extended.ensures.cost);
       room = tt;
     }

@@ -1,5 +1,5 @@
-use Rattle.std.proofs.Common.{◌≡◌, ap₂, refl, ◌∙◌, arith}
-use Rattle.p3_matrix.proofs.Rooms.{room_of}
+use Rattle.std.proofs.Common.{◌≡◌, ap₂, refl, ◌∙◌, le-add_right, le_refl}
+use Rattle.p3_matrix.proofs.Rooms.{first_of}
 use Rattle.p3_dft.proofs.BitReversed.OneRow.{row_handed_back, row_seen}
 use Rattle.p3_dft.proofs.Calls.PreparedCosets.{later_with_tables, tabled}
 use Rattle.p3_dft.proofs.radix_2_dit_parallel.Radix2DitParallelTwoAdicSubgroupDft.dft_batch.Goals as goal
@@ -9,10 +9,11 @@ on_prepared-requires-clause-alone g c whole one = ((refl, refl), λ bits high. r
 
 pub returns-in_err-mat-clause-engine : goal.returns-in_err-mat-clause-engine
 returns-in_err-mat-clause-engine g c = record {
-  later = later_with_tables g.F.Valued _ _ _ c.args.self.now _ _ _ _ _ _ c.self.view_is c.on_prepared.ensures.keeps (λ k s has. has) c.on_prepared.ensures.grows;
+  later = later_with_tables g.F.Valued _ _ _ _ c.args.self.now _ _ _ _ _ _ c.self.view_is c.on_prepared.ensures.keeps (λ k s has. has) c.on_prepared.ensures.grows;
   prepared = λ done k high. tt;
   cost = rw (← c.self.view_is) c.on_prepared.ensures.cost;
-  refused = room_of c.from_residual.result _ _ _ c.from_residual.ensures (omega arith) c.in_err-mat.ensures.room;
+  tables = rw (← c.self.view_is) (le-add_right _ _);
+  refused = first_of _ _ _ _ (le_refl _) (le_refl _) _ _ c.from_residual.result _ c.from_residual.ensures c.in_err-mat.ensures.room;
 }
 
 pub returns-clause-values : goal.returns-clause-values
@@ -29,8 +30,9 @@ returns-clause-one_row g c = rw (← c.self.view_is) (λ one.
 
 pub returns-clause-engine : goal.returns-clause-engine
 returns-clause-engine g c = record {
-  later = later_with_tables g.F.Valued _ _ _ c.args.self.now _ _ _ _ _ _ c.self.view_is c.on_prepared.ensures.keeps (λ k s has. has) c.on_prepared.ensures.grows;
+  later = later_with_tables g.F.Valued _ _ _ _ c.args.self.now _ _ _ _ _ _ c.self.view_is c.on_prepared.ensures.keeps (λ k s has. has) c.on_prepared.ensures.grows;
   prepared = λ done k high. tt;
   cost = rw (← c.self.view_is) c.on_prepared.ensures.cost;
+  tables = rw (← c.self.view_is) (le-add_right _ _);
   refused = tt;
 }

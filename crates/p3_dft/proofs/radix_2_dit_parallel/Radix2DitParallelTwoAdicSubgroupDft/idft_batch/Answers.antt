@@ -1,6 +1,6 @@
-use Rattle.std.proofs.Common.{ap₂, refl, arith}
+use Rattle.std.proofs.Common.{ap₂, refl, le-add_right, le_refl}
 use Rattle.std.proofs.lemmas.Result.{on_err_weaker}
-use Rattle.p3_matrix.proofs.Rooms.{if_within_more}
+use Rattle.p3_matrix.proofs.Rooms.{if_first}
 use Rattle.p3_dft.proofs.BitReversed.Coefficients.{interpolation_of_row}
 use Rattle.p3_dft.proofs.Calls.PreparedCosets.{later_with_tables, tabled}
 use Rattle.p3_dft.proofs.radix_2_dit_parallel.Radix2DitParallelTwoAdicSubgroupDft.idft_batch.Goals as goal
@@ -17,9 +17,10 @@ returns g c = rw (← c.self.view_is) (record {
   one_row = λ one. let (same, kept) = c.on_prepared.ensures.one_row one in (same, ap₂ (λ log products. tabled log products c.self.inside.cosets) kept.0 kept.1);
   cosets = refl;
   engine = record {
-    later = later_with_tables g.F.Valued _ _ _ _ _ _ _ _ _ _ refl c.on_prepared.ensures.keeps (λ k s has. has) c.on_prepared.ensures.grows;
+    later = later_with_tables g.F.Valued _ _ _ _ _ _ _ _ _ _ _ refl c.on_prepared.ensures.keeps (λ k s has. has) c.on_prepared.ensures.grows;
     prepared = λ done k high. tt;
     cost = c.on_prepared.ensures.cost;
-    refused = if_within_more c.on_prepared.result _ _ (omega arith) c.on_prepared.ensures.room;
+    tables = le-add_right _ _;
+    refused = if_first _ _ _ _ (le_refl _) (le_refl _) _ _ c.on_prepared.result c.on_prepared.ensures.room;
   };
 })

@@ -1,4 +1,4 @@
-use Rattle.std.proofs.Common.{◌≡◌, ℕ, ◌+◌, ◌*◌, ◌/◌, ◌<◌, ◌^◌, ◌≤◌, refl, sym, ap, ap₂, ◌∙◌, subst, arith, le-add_left, le_refl, le_trans, lt_of_lt_of_le}
+use Rattle.std.proofs.Common.{◌≡◌, ℕ, ◌+◌, ◌*◌, ◌/◌, ◌<◌, ◌^◌, ◌≤◌, refl, sym, ap, ap₂, ◌∙◌, subst, arith, le_refl, le_trans, lt_of_lt_of_le}
 use Rattle.std.proofs.lemmas.Result.{IfOk-weaker}
 use Rattle.p3_field.specs.Ring.{count}
 use Rattle.p3_field.proofs.Powers.{count-power_of_two}
@@ -16,7 +16,7 @@ use Rattle.p3_dft.proofs.Calls.PreparedHeights.{later_with_heights, made_both, m
 use Rattle.p3_dft.proofs.Calls.EngineSteps.{after_error, after_none}
 use Rattle.p3_dft.proofs.Calls.Counts.{larger_bound}
 use Rattle.p3_dft.proofs.Calls.Stored.{rows_found_lde, whole_still}
-use Rattle.p3_matrix.proofs.Rooms.{if_within_more, room_of}
+use Rattle.p3_matrix.proofs.Rooms.{first_of, if_first}
 use Rattle.p3_dft.proofs.radix_2_small_batch.Radix2DFTSmallBatchTwoAdicSubgroupDft.coset_lde_batch.Goals as goal
 
 layer_within : (l k a n : ℕ) → l < k → k + a ≤ n → l < n
@@ -74,8 +74,8 @@ pub returns-in_err-make-clause-only : goal.returns-in_err-make-clause-only
 returns-in_err-make-clause-only g c k high = made_none_above k _ _ _ _ _ (log_same c.log2_strict_usize-log_h.result k (sym c.log2_strict_usize-log_h.ensures.power ∙ c.height.ensures.height ∙ ap height c.into_row_major_matrix-mat.ensures ∙ high)) (ap (λ e. e.prepared) c.self.view_is) c.make.ensures.only
 
 pub returns-in_err-make-clause-engine : goal.returns-in_err-make-clause-engine
-returns-in_err-make-clause-engine g c = after_error _ _ _ _ c.from_residual.ensures.0 (later_with_heights _ _ _ c.args.self.now _ _ _ _ c.self.view_is c.make.ensures.keeps (le_refl c.self.inside.products)) (ap (λ e. e.products) c.self.view_is)
-    (room_of c.from_residual.result _ _ _ c.from_residual.ensures (le_trans (extended_table_fits _ c.requires.fits (sym (ap height c.into_row_major_matrix-mat.ensures) ∙ sym c.height.ensures.height ∙ c.log2_strict_usize-log_h.ensures.power)) (le-add_left _ _)) c.in_err-make.ensures.room)
+returns-in_err-make-clause-engine g c = after_error _ _ _ _ c.from_residual.ensures.0 (later_with_heights _ _ _ c.args.self.now _ _ _ _ c.self.view_is c.make.ensures.keeps (le_refl c.self.inside.products)) (ap (λ e. e.products) c.self.view_is) (omega arith)
+    (first_of _ _ _ _ (le_refl _) (extended_table_fits _ c.requires.fits (sym (ap height c.into_row_major_matrix-mat.ensures) ∙ sym c.height.ensures.height ∙ c.log2_strict_usize-log_h.ensures.power)) _ _ c.from_residual.result _ c.from_residual.ensures c.in_err-make.ensures.room)
 
 pub returns-clause-values : goal.returns-clause-values
 returns-clause-values g c = let field = g.F.Valued in let log = c.log2_strict_usize-log_h.result in let m = c.into_row_major_matrix-mat.result in let a = c.args.added_bits in let s = field.value c.args.shift in let inverse = field.value c.div_2exp_u64-scale.result in let high : height m ≡ 2 ^ log = sym c.height.ensures.height ∙ c.log2_strict_usize-log_h.ensures.power in let multiples = bit_reversal log (values_of field c.interpolate_unscaled_to_reversed.new.mat) in let shifted = image (λ x. field.ring.mul x inverse) (coset_shift field.ring s multiples) in let undone : field.ring.mul (count field.ring (2 ^ log)) inverse ≡ field.ring.one = ap (λ x. field.ring.mul x inverse) (count-power_of_two field.ring log) ∙ c.div_2exp_u64-scale.ensures ∙ ap field.value c.ONE.ensures ∙ g.met.F.Field.one_law in let (d, quotient, on_coset) = shifted_quotient field.ring (2 ^ log) inverse s multiples shifted undone (record { height = refl; width = refl; alike = λ i j p q. refl }) in rw (← c.into_row_major_matrix-mat.ensures) (IfOk-weaker c.extend_to_natural.result _ _ (λ out given. extension_of_coefficients field g.F.TwoAdicField.generator m out d a log s high (c.interpolate_unscaled_to_reversed.ensures.coefficients d quotient) (coset_values field.ring (λ n. field.value (g.F.TwoAdicField.generator n)) d shifted (log + a) s (values_of field out) on_coset given)) c.extend_to_natural.ensures.values)
@@ -94,5 +94,6 @@ returns-clause-engine g c = record {
   later = later_with_heights _ _ _ c.args.self.now _ _ _ _ c.self.view_is c.make.ensures.keeps (le_trans c.interpolate_unscaled_to_reversed.ensures.grows c.extend_to_natural.ensures.grows);
   prepared = λ done k high. let same = log_same c.log2_strict_usize-log_h.result k (sym c.log2_strict_usize-log_h.ensures.power ∙ c.height.ensures.height ∙ ap height c.into_row_major_matrix-mat.ensures ∙ high) in made_both _ _ _ _ same c.in_ok-make.ensures.made;
   cost = λ k high. larger_bound _ _ _ _ (returns-clause-fewer g c k high) (fewer_than_parts k c.args.added_bits _);
-  refused = let shape = c.interpolate_unscaled_to_reversed.ensures.same.shape in if_within_more c.extend_to_natural.result _ _ (le_trans (same_extended c.args.added_bits (shape.0 ∙ ap height c.into_row_major_matrix-mat.ensures) (shape.1 ∙ ap (λ (m : RowMajor g.row.F.Denot). m.width) c.into_row_major_matrix-mat.ensures)) (le-add_left _ _)) c.extend_to_natural.ensures.room;
+  tables = omega arith;
+  refused = let shape = c.interpolate_unscaled_to_reversed.ensures.same.shape in if_first _ _ _ _ (le_refl _) (same_extended c.args.added_bits (shape.0 ∙ ap height c.into_row_major_matrix-mat.ensures) (shape.1 ∙ ap (λ (m : RowMajor g.row.F.Denot). m.width) c.into_row_major_matrix-mat.ensures)) _ _ c.extend_to_natural.result c.extend_to_natural.ensures.room;
 }

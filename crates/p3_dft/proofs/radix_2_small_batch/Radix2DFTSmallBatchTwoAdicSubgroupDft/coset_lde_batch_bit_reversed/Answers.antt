@@ -1,9 +1,9 @@
-use Rattle.std.proofs.Common.{◌≡◌, ℕ, ◌+◌, ◌^◌, ◌<◌, ◌≤◌, refl, sym, ap, ◌∙◌, arith, le_of_eq, le_trans, max, le-add_left}
+use Rattle.std.proofs.Common.{◌≡◌, ℕ, ◌+◌, ◌^◌, ◌<◌, ◌≤◌, refl, sym, ap, ◌∙◌, arith, le_of_eq, le_refl, max}
 use Rattle.std.proofs.Math.Pow.{pow-lt}
 use Rattle.std.proofs.lemmas.Result.{IfOk-from_err, IfOk-weaker}
 use Rattle.p3_matrix.specs.BitOrder.{reversed_rows}
 use Rattle.p3_matrix.specs.RowMajor.{RowMajor, height}
-use Rattle.p3_matrix.proofs.Rooms.{room_of}
+use Rattle.p3_matrix.proofs.Rooms.{first_of}
 use Rattle.p3_matrix.proofs.TwoPowers.{entries_rise, log_same}
 use Rattle.p3_dft.specs.Engines.{EngineState, IsLater}
 use Rattle.p3_dft.proofs.Calls.EngineSteps.{after_error, after_later, lde_of_same, parts_after}
@@ -58,7 +58,7 @@ returns-clause-engine g c =
     let shape = answered_shape g.F.Valued g.F.TwoAdicField.generator _ (g.N.IntoRowMajorMatrix.stored c.args.mat) c.in_ok-coefficients.coefficients _ _ fits.log fits.height (rw (← stored) c.in_ok-coefficients.ensures.coefficients) (refl, refl)
     c.width-width.ensures.whole c.requires.shape c.transform-changed.ensures in
     let kept : c.args.self.now.prepared ≤ c.prepare.new.self.prepared = omega (arith, c.in_ok-prepare.ensures.made) in
-    after_later _ _ _ _ _ (only_preparing _ _ _ kept c.prepare.ensures.products) c.prepare.ensures.products
+    after_later _ _ _ _ _ (only_preparing _ _ _ kept c.prepare.ensures.products) c.prepare.ensures.products refl
     (lde_of_same _ _ _ _ _ _ _ stored
     (parts_after _ c.into_row_major_matrix-mat.result c.transform-changed.result c.args.added_bits _ _ _ _ _ (shape.0 ∙ ap height (sym stored), shape.1 ∙ ap (λ (m : RowMajor g.row.F.Denot). m.width) (sym stored))
     (λ k. omega (arith, entries_rise k c.args.added_bits c.into_row_major_matrix-mat.result.width))
@@ -89,5 +89,5 @@ returns-in_err-prepare g c =
     record {
       values = IfOk-from_err _ _ c.from_residual.ensures.0;
       only = λ k e. omega (arith, log_same c.log2_strict_usize-log_h.result k (sym c.log2_strict_usize-log_h.ensures.power ∙ c.height.ensures.height ∙ ap height c.into_row_major_matrix-mat.ensures ∙ e), ap (λ (e : EngineState). e.prepared) c.in_err-prepare.ensures.refused);
-      engine = after_error _ _ _ _ c.from_residual.ensures.0 (only_preparing _ _ _ (le_of_eq (ap (λ (e : EngineState). e.prepared) (sym c.in_err-prepare.ensures.refused))) c.prepare.ensures.products) c.prepare.ensures.products (room_of c.from_residual.result _ _ _ c.from_residual.ensures (le_trans (extended_table_fits _ c.requires.fits (sym (ap height c.into_row_major_matrix-mat.ensures) ∙ sym c.height.ensures.height ∙ c.log2_strict_usize-log_h.ensures.power)) (le-add_left _ _)) c.in_err-prepare.ensures.room);
+      engine = after_error _ _ _ _ c.from_residual.ensures.0 (only_preparing _ _ _ (le_of_eq (ap (λ (e : EngineState). e.prepared) (sym c.in_err-prepare.ensures.refused))) c.prepare.ensures.products) c.prepare.ensures.products (omega arith) (first_of _ _ _ _ (le_refl _) (extended_table_fits _ c.requires.fits (sym (ap height c.into_row_major_matrix-mat.ensures) ∙ sym c.height.ensures.height ∙ c.log2_strict_usize-log_h.ensures.power)) _ _ c.from_residual.result _ c.from_residual.ensures c.in_err-prepare.ensures.room);
     }

@@ -1,9 +1,9 @@
-use Rattle.std.proofs.Common.{◌≡◌, ℕ, ◌+◌, ◌*◌, ◌/◌, ◌<◌, ◌^◌, sym, ap, ap₂, ◌∙◌, subst, arith, le_refl, le_trans, lt_of_lt_of_le, le-add_left}
+use Rattle.std.proofs.Common.{◌≡◌, ℕ, ◌+◌, ◌*◌, ◌/◌, ◌<◌, ◌^◌, sym, ap, ap₂, ◌∙◌, subst, arith, le_refl, lt_of_lt_of_le}
 use Rattle.std.proofs.lemmas.Result.{IfOk-weaker}
 use Rattle.p3_matrix.specs.Cosets.{IsValues, values_of}
 use Rattle.p3_matrix.specs.RowMajor.{RowMajor, height}
 use Rattle.p3_matrix.proofs.Polynomials.Cosets.{coset_values}
-use Rattle.p3_matrix.proofs.Rooms.{if_within_more, room_of}
+use Rattle.p3_matrix.proofs.Rooms.{first_of, if_first}
 use Rattle.p3_matrix.proofs.TwoPowers.{log_same}
 use Rattle.p3_dft.specs.Engines.{EngineState}
 use Rattle.p3_dft.proofs.BitReversed.Coefficients.{extension_of_reversed}
@@ -69,8 +69,8 @@ returns-then-added_bits-eq0-clause-engine g c =
     (same.width ∙ ap (λ (m : RowMajor g.row.F.Denot). m.width) stored) (rw (← stored) (omega (arith, c.shift_rows.ensures.cost, c.new-products.ensures))) c.add_products.ensures.engine c.dft_batch.ensures.engine
 
 pub returns-in_err-make-clause-engine : goal.returns-in_err-make-clause-engine
-returns-in_err-make-clause-engine g c = after_error _ _ _ _ c.from_residual.ensures.0 (later_with_heights _ _ _ c.args.self.now _ _ _ _ c.self.view_is c.make.ensures.keeps (le_refl c.self.inside.products)) (ap (λ e. e.products) c.self.view_is)
-    (room_of c.from_residual.result _ _ _ c.from_residual.ensures (le_trans (extended_table_fits _ c.requires.fits (sym (ap height c.into_row_major_matrix-mat.ensures) ∙ sym c.height.ensures.height ∙ c.log2_strict_usize-log_h.ensures.power)) (le-add_left _ _)) c.in_err-make.ensures.room)
+returns-in_err-make-clause-engine g c = after_error _ _ _ _ c.from_residual.ensures.0 (later_with_heights _ _ _ c.args.self.now _ _ _ _ c.self.view_is c.make.ensures.keeps (le_refl c.self.inside.products)) (ap (λ e. e.products) c.self.view_is) (omega arith)
+    (first_of _ _ _ _ (le_refl _) (extended_table_fits _ c.requires.fits (sym (ap height c.into_row_major_matrix-mat.ensures) ∙ sym c.height.ensures.height ∙ c.log2_strict_usize-log_h.ensures.power)) _ _ c.from_residual.result _ c.from_residual.ensures c.in_err-make.ensures.room)
 
 pub returns-clause-values : goal.returns-clause-values
 returns-clause-values g c =
@@ -101,5 +101,6 @@ returns-clause-engine g c = record {
   later = later_with_heights _ _ _ c.args.self.now _ _ _ _ c.self.view_is c.make.ensures.keeps c.extend_to_natural.ensures.grows;
   prepared = λ done k high. let same = log_same c.log2_strict_usize-log_h.result k (sym c.log2_strict_usize-log_h.ensures.power ∙ c.height.ensures.height ∙ ap height c.into_row_major_matrix-mat.ensures ∙ high) in (made_both _ _ _ _ same c.in_ok-make.ensures.made).1;
   cost = λ k high. larger_bound _ _ _ _ (returns-clause-fewer g c k high) (points_within k c.args.added_bits _);
-  refused = let shape = c.reverse_rows.ensures.shape in if_within_more c.extend_to_natural.result _ _ (le_trans (same_extended c.args.added_bits (shape.0 ∙ ap height c.into_row_major_matrix-mat.ensures) (shape.1 ∙ ap (λ (m : RowMajor g.row.F.Denot). m.width) c.into_row_major_matrix-mat.ensures)) (le-add_left _ _)) c.extend_to_natural.ensures.room;
+  tables = omega arith;
+  refused = let shape = c.reverse_rows.ensures.shape in if_first _ _ _ _ (le_refl _) (same_extended c.args.added_bits (shape.0 ∙ ap height c.into_row_major_matrix-mat.ensures) (shape.1 ∙ ap (λ (m : RowMajor g.row.F.Denot). m.width) c.into_row_major_matrix-mat.ensures)) _ _ c.extend_to_natural.result c.extend_to_natural.ensures.room;
 }

@@ -1,7 +1,7 @@
-use Rattle.std.proofs.Common.{◌≡◌, ℕ, ◌+◌, ◌*◌, ◌/◌, ◌^◌, refl, sym, ap, ap₂, ◌∙◌, arith, le_refl, le_trans, le-add_left}
+use Rattle.std.proofs.Common.{◌≡◌, ℕ, ◌+◌, ◌*◌, ◌/◌, ◌^◌, refl, sym, ap, ap₂, ◌∙◌, arith, le_refl}
 use Rattle.p3_matrix.specs.RowMajor.{RowMajor, IsRowMajor, height}
 use Rattle.p3_matrix.specs.Cosets.{values_of}
-use Rattle.p3_matrix.proofs.Rooms.{room_of}
+use Rattle.p3_matrix.proofs.Rooms.{first_of}
 use Rattle.p3_matrix.proofs.Rows.Padding.{padded_shape, padded_whole}
 use Rattle.p3_matrix.proofs.TwoPowers.{log_same}
 use Rattle.p3_dft.proofs.BitReversed.Rows.{values_seen}
@@ -86,12 +86,13 @@ returns-clause-engine g c =
           let wide = grown.1 ∙ ap (λ (n : RowMajor g.row.F.Denot). n.width) c.into_row_major_matrix-mat.ensures in
           let bound = ap₂ (λ (w n : ℕ). 2 ^ a * (w * (n * 2 ^ n / 2) + 2 ^ n * w)) wide same in
           larger_bound _ _ _ _ (bound_as _ _ _ _ _ (ap (λ e. e.products) c.self.view_is) bound c.extend_to_reversed.ensures.cost) (slots_within k a _);
+      tables = omega arith;
       refused = tt;
     }
 
 pub returns-in_err-make-clause-engine : goal.returns-in_err-make-clause-engine
-returns-in_err-make-clause-engine g c = after_error _ _ _ _ c.from_residual.ensures.0 (later_with_heights _ _ _ c.args.self.now _ _ _ _ c.self.view_is c.make.ensures.keeps (le_refl c.self.inside.products)) (ap (λ e. e.products) c.self.view_is)
-    (room_of c.from_residual.result _ _ _ c.from_residual.ensures (le_trans (extended_table_fits _ c.requires.fits (sym (ap height c.into_row_major_matrix-mat.ensures) ∙ sym c.height.ensures.height ∙ c.log2_strict_usize-log_h.ensures.power)) (le-add_left _ _)) c.in_err-make.ensures.room)
+returns-in_err-make-clause-engine g c = after_error _ _ _ _ c.from_residual.ensures.0 (later_with_heights _ _ _ c.args.self.now _ _ _ _ c.self.view_is c.make.ensures.keeps (le_refl c.self.inside.products)) (ap (λ e. e.products) c.self.view_is) (omega arith)
+    (first_of _ _ _ _ (le_refl _) (extended_table_fits _ c.requires.fits (sym (ap height c.into_row_major_matrix-mat.ensures) ∙ sym c.height.ensures.height ∙ c.log2_strict_usize-log_h.ensures.power)) _ _ c.from_residual.result _ c.from_residual.ensures c.in_err-make.ensures.room)
 
 pub returns-in_err-grown-clause-only : goal.returns-in_err-grown-clause-only
 returns-in_err-grown-clause-only g c k high = made_none_above k _ _ _ _ _ (log_same c.log2_strict_usize-log_h.result k (sym c.log2_strict_usize-log_h.ensures.power ∙ c.height.ensures.height ∙ ap height c.into_row_major_matrix-mat.ensures ∙ high)) (ap (λ e. e.prepared) c.self.view_is) c.make.ensures.only

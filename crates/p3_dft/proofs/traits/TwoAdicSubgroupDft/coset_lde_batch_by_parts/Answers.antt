@@ -64,4 +64,4 @@ transform-coefficients-requires g c =
 
 pub returns-in_err-coefficients-clause-engine : goal.returns-in_err-coefficients-clause-engine
 returns-in_err-coefficients-clause-engine g c =
-    part_refused _ _ _ _ _ c.from_residual.ensures (λ k. omega arith) (fewer_entries _ _) c.in_err-coefficients.ensures.engine
+    part_refused _ _ _ _ _ c.from_residual.ensures (λ k. omega arith) (fewer_entries _ _) (omega arith) c.in_err-coefficients.ensures.engine

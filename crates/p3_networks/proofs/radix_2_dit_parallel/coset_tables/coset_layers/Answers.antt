@@ -41,5 +41,5 @@ pub returns-in_err-push_layer-clause-room : goal.returns-in_err-push_layer-claus
 returns-in_err-push_layer-clause-room g c =
     let most : 2 ^ (c.loop-l.l + 1) ≤ 2 ^ c.args.log_h = pow-le-pow_right {n = 2} (lit≤ tt) (omega (arith, c.loop-l-test.true)) in
     let twice : 2 ^ (c.loop-l.l + 1) ≡ 2 * 2 ^ c.loop-l.l = ap (λ k. 2 ^ k) (add-one c.loop-l.l) ∙ omega arith in
-    room_of c.from_residual-in_err-push_layer.result _ _ _ c.from_residual-in_err-push_layer.ensures
+    room_of _ c.from_residual-in_err-push_layer.result _ _ _ c.from_residual-in_err-push_layer.ensures
     (omega (arith, most, twice, c.loop-l.invariant.full, pow_pos c.loop-l.l)) c.in_err-push_layer.ensures.room

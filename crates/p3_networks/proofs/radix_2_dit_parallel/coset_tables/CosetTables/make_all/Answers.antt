@@ -1,4 +1,4 @@
-use Rattle.std.proofs.Common.{◌≡◌, ◌⊎◌, inl, inr, ℕ, ◌+◌, ◌^◌, ◌<◌, ◌≤◌, ◌++◌, List, [], ◌∷◌, length, length-append, refl, sym, ap, ◌∙◌, subst, arith, le_of_eq, lt_of_lt_of_le, le_trans, lt_irrefl}
+use Rattle.std.proofs.Common.{◌≡◌, ◌⊎◌, inl, inr, ℕ, ◌+◌, ◌^◌, ◌<◌, ◌≤◌, ◌++◌, List, [], ◌∷◌, length, length-append, refl, sym, ap, ◌∙◌, subst, arith, le-add_right, pow_pos, le_of_eq, lt_of_lt_of_le, le_trans, lt_irrefl}
 use Rattle.std.proofs.lemmas.Bool.{false≢true}
 use Rattle.std.proofs.lemmas.List.{append-nil, append_assoc}
 use Rattle.std.proofs.lemmas.List.Elements.{All-append, All-cons, All-nil}
@@ -33,10 +33,21 @@ longer_list : {T : Type 0} (n : ℕ) (before after : List T) (x : T) → (after 
 longer_list n before after x (inl same) inside = omega (arith, ap length same, inside)
 longer_list n before after x (inr longer) inside = omega (arith, ap length longer, length-append before (x ∷ []), inside)
 
+-- by one table at most
+one_longer : {T : Type 0} (before after : List T) (x : T) → (after ≡ before) ⊎ (after ≡ before ++ x ∷ []) → (n slot : ℕ) → length before ≤ n + slot → length after ≤ n + (slot + 1)
+one_longer before after x (inl same) n slot few = omega (arith, ap length same, few)
+one_longer before after x (inr longer) n slot few = omega (arith, ap length longer, length-append before (x ∷ []), few)
+
+-- there are no more slots than cosets of the larger one
+few_slots : (slots added : ℕ) {P Q : Type 0} → (P × (slots ≡ 1)) ⊎ (Q × (slots ≡ 2 ^ added)) → slots ≤ 2 ^ added
+few_slots slots added (inl (zero_shift, one)) = omega (arith, one, pow_pos added)
+few_slots slots added (inr (other, all)) = omega (arith, all)
+
 pub loop-slot-init : goal.loop-slot-init
 loop-slot-init g c =
     record {
       inside = le_of_eq (ap length c.as_slice-there.ensures);
+      few = le-add_right _ _;
       made = below_none _;
       others = λ m from below i behind at. lt_irrefl i (lt_of_lt_of_le at.0 (le_trans (le_of_eq (ap length (sym c.as_slice-there.ensures))) behind));
       once = λ all. refl;
@@ -57,6 +68,14 @@ returns-in_err-place-clause-keeps g c k x has =
 pub returns-in_err-place-clause-only : goal.returns-in_err-place-clause-only
 returns-in_err-place-clause-only g c =
     rw c.in_err-place.ensures.refused c.loop-slot.invariant.only
+
+pub returns-in_err-place-clause-few : goal.returns-in_err-place-clause-few
+returns-in_err-place-clause-few g c =
+    omega (arith, c.loop-slot.invariant.few, ap length c.in_err-place.ensures.refused, c.loop-slot-test.true, few_slots _ c.args.added_bits c.slots_apart-slots.ensures)
+
+pub returns-clause-few : goal.returns-clause-few
+returns-clause-few g c =
+    omega (arith, c.loop-slot.invariant.few, few_slots _ c.args.added_bits c.slots_apart-slots.ensures, c.loop-slot.auto.slot-end)
 
 pub returns-in_err-place-clause-succeeds : goal.returns-in_err-place-clause-succeeds
 returns-in_err-place-clause-succeeds g c all =
@@ -82,6 +101,7 @@ loop-slot-preserved g c =
     let kept : (n : ℕ) (x : field.Element) → HasCoset field before n x → HasCoset field after n x = λ n x has. coset_kept field before after _ n x grown has in
     record {
       inside = longer_list (length c.as_slice-there.result.now) before after _ grown c.loop-slot.invariant.inside;
+      few = one_longer before after _ grown _ _ c.loop-slot.invariant.few;
       made = below_more (λ p. HasCoset field after k (at (rev a p))) m (λ p less. kept k _ (c.loop-slot.invariant.made p less))
           (subst (λ (x : field.Element). HasCoset field after k x) shift_is (c.in_ok-place.place, c.in_ok-place.ensures.made));
       others = λ p from below.

@@ -14,6 +14,7 @@ invariant-loop-slot g l =
     let at = point field.ring (forward_root field g.F.TwoAdicField.generator) (k + a) s in
     record {
       inside : l.there ≤ length l.self;
+      few : length l.self ≤ length l.fn.self + l.slot;
       made : (m : ℕ) → m < l.slot → HasCoset field l.self k (at (rev a m));
       others : (m : ℕ) → l.slot ≤ m → m < l.slots → (i : ℕ) → l.there ≤ i → IsCosetAt field l.self k (at (rev a m)) i → ⊥;
       once : HasCosets field g.F.TwoAdicField.generator l.fn.self k a s → l.self ≡ l.fn.self;

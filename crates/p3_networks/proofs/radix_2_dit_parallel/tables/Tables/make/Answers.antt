@@ -43,7 +43,7 @@ few_layers : (log : ℕ) → 2 ^ ((log + 1) / 2) ≤ 2 ^ log
 few_layers log = pow-le-pow_right {n = 2} (lit≤ tt) (omega arith)
 
 pub returns-in_err-forward-clause-room : goal.returns-in_err-forward-clause-room
-returns-in_err-forward-clause-room g c = room_of c.from_residual.result _ _ _ c.from_residual.ensures (omega (arith, few_layers c.args.log_h)) c.in_err-forward.ensures.room
+returns-in_err-forward-clause-room g c = room_of _ c.from_residual.result _ _ _ c.from_residual.ensures (omega (arith, few_layers c.args.log_h)) c.in_err-forward.ensures.room
 
 pub returns-in_err-backward-clause-room : goal.returns-in_err-backward-clause-room
-returns-in_err-backward-clause-room g c = room_of c.from_residual-in_err-backward.result _ _ _ c.from_residual-in_err-backward.ensures (omega (arith, few_layers c.args.log_h)) c.in_err-backward.ensures.room
+returns-in_err-backward-clause-room g c = room_of _ c.from_residual-in_err-backward.result _ _ _ c.from_residual-in_err-backward.ensures (omega (arith, few_layers c.args.log_h)) c.in_err-backward.ensures.room
