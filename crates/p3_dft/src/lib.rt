@@ -28,7 +28,8 @@ pub use p3_field::power_iterator::Powers;
 pub use p3_field::{
     BabyBear, BabyBearX8, BasedVectorSpace, CanonicalField, Coordinates, Field, FieldOps,
     Goldilocks, GoldilocksX8, KoalaBear, KoalaBearX8, Lanes, Packable, PackedField, Products,
-    TwoAdicField, Valued, WideBabyBear, WideGoldilocks, WideKoalaBear, scaled,
+    TwoAdicField, Valued, WideBabyBear, WideGoldilocks, WideKoalaBear,
+    batch_multiplicative_inverse, batch_multiplicative_inverse_to, first_without_inverse, scaled,
 };
 pub use p3_matrix::{
     BitReversedMatrixView, BlockConsumer, BlockLimit, BlockRefused, Butterfly, DftError,

@@ -1,4 +1,5 @@
 pub mod Accumulated
+mod BatchInverse
 pub mod Bezout
 mod GoldilocksLanes
 pub mod LaneArithmetic

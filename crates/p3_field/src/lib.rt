@@ -9,12 +9,13 @@
 //! `PackedField` handles several scalars by one operation: `Residue31X8` eight and `Residue31X16` sixteen of a
 //! `Residue31`, `GoldilocksX8` eight of a `WideGoldilocks`, and `Lanes` any number of any field, as four of a
 //! `Goldilocks`. `Products` counts the products that were made, for contracts alone. `BasedVectorSpace` is what
-//! elements with coordinates are, as `Coordinates`. `power_iterator` has the powers of an element, and `totals` what
-//! the sums and products of a new field can be made of.
+//! elements with coordinates are, as `Coordinates`. `power_iterator` has the powers of an element, `batch_inverse` the
+//! inverses of many by one inversion, and `totals` what the sums and products of a new field can be made of.
 #![tactic(auto)]
 
 pub mod algebra;
 pub mod baby_bear;
+pub mod batch_inverse;
 mod euclid;
 pub mod fields;
 pub mod goldilocks;
@@ -32,6 +33,9 @@ pub mod two_adic;
 
 pub use algebra::{BasedVectorSpace, Coordinates};
 pub use baby_bear::{BabyBear, BabyBearX8, WideBabyBear};
+pub use batch_inverse::{
+    batch_multiplicative_inverse, batch_multiplicative_inverse_to, first_without_inverse,
+};
 pub use fields::{Field, FieldOps, Valued};
 pub use goldilocks::{
     Goldilocks, GoldilocksIn, GoldilocksPacking, ScalarLanes, VectorLanes, WideGoldilocks,
