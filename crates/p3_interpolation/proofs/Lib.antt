@@ -1,0 +1,3 @@
+pub mod BarycentricFormula
+pub mod Laws
+pub mod VanishingValues
