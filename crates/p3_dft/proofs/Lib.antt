@@ -1,3 +1,4 @@
 pub mod BitReversed
 pub mod Calls
 pub mod Laws
+pub mod PolynomialParts
