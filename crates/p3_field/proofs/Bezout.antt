@@ -10,7 +10,8 @@ use Rattle.p3_field.specs.Ring.{Ring, minus}
 use Rattle.p3_field.proofs.RingSolver.{solve, ◌⊞◌, ◌⊟◌, ◌⊠◌, va, vb, vc, vd}
 
 -- a step on the factors f and g of high and low, in any ring
-euclid_step : {A : Type 0} (r : Ring A) (f g q x high low rest : A) → r.mul f x ≡ high → r.mul g x ≡ low → high ≡ r.add (r.mul q low) rest → r.mul (minus r f (r.mul q g)) x ≡ rest
+euclid_step : {A : Type 0} (r : Ring A) (f g q x high low rest : A) → r.mul f x ≡ high → r.mul g x ≡ low
+    → high ≡ r.add (r.mul q low) rest → r.mul (minus r f (r.mul q g)) x ≡ rest
 euclid_step r f g q x high low rest a b e =
     solve r (f ∷ g ∷ q ∷ x ∷ []) ((va ⊟ vc ⊠ vb) ⊠ vd) (va ⊠ vd ⊟ vc ⊠ (vb ⊠ vd)) refl
     ∙ ap₂ (λ y z. minus r y (r.mul q z)) (a ∙ e) b
@@ -28,7 +29,9 @@ module _ (m : ℕ) (above : 1 < m) (odd : m % 2 ≡ 1) where
       let divides : q * low + rest ≡ high = omega (arith, mod-add-div high low, mul_comm q low) in
       let product : (y z : ℕ) → r.mul (residue y) (residue z) ≡ residue (y * z) = λ y z. residue-eq _ _ (sym (mul-mod y z m)) in
       let divided : residue high ≡ r.add (r.mul (residue q) (residue low)) (residue rest) =
-      sym (ap (λ y. r.add y (residue rest)) (product q low) ∙ residue-eq (r.add (residue (q * low)) (residue rest)) (residue high) (sym (add-mod (q * low) rest m) ∙ ap (λ k. k % m) divides)) in
+      sym (ap (λ y. r.add y (residue rest)) (product q low)
+      ∙ residue-eq (r.add (residue (q * low)) (residue rest)) (residue high)
+      (sym (add-mod (q * low) rest m) ∙ ap (λ k. k % m) divides)) in
       let e : r.mul (minus r (residue f) (r.mul (residue q) (residue g))) (residue x) ≡ residue rest =
       euclid_step r (residue f) (residue g) (residue q) (residue x) (residue high) (residue low) (residue rest)
       (product f x ∙ residue-eq (residue (f * x)) (residue high) a) (product g x ∙ residue-eq (residue (g * x)) (residue low) b) divided in

@@ -1,5 +1,6 @@
 -- Arithmetic modulo 2^64 - 2^32 + 1 on the lanes of a vector of words of 64 bits.
-use Rattle.std.proofs.Common.{◌≡◌, ℕ, zero, suc, ◌+◌, ◌-◌, ◌*◌, ◌/◌, ◌%◌, ◌<◌, ◌≤◌, ◌^◌, Bool, true, false, cond, List, [], ◌∷◌, length, map, replicate, refl, sym, ap, ap₂, ◌∙◌, arith, ⊎_elim}
+use Rattle.std.proofs.Common.{◌≡◌, ℕ, zero, suc, ◌+◌, ◌-◌, ◌*◌, ◌/◌, ◌%◌, ◌<◌, ◌≤◌, ◌^◌, Bool, true, false, cond, List}
+use Rattle.std.proofs.Common.{[], ◌∷◌, length, map, replicate, refl, sym, ap, ap₂, ◌∙◌, arith, ⊎_elim}
 use Rattle.std.proofs.Math.Dec.{ltb}
 use Rattle.std.proofs.Math.Nat.{mod-eq_of_lt, add-mul-mod_self_right, mul-le-mul, mod-add-div'}
 use Rattle.std.proofs.lemmas.Nat.{and_mask}
@@ -34,7 +35,9 @@ if_not_less x y a b l = chosen_word (ltb x y) a b ∙ cond-false (ltb x y) a b (
 
 -- ---- one lane
 lane_sum : (x y : ℕ) → x < goldilocks_modulus → y < goldilocks_modulus
-    → word_difference (word_sum x (word_sum y 4294967295)) (cond (top 63 (word_mask x (word_sum x (word_sum y 4294967295)))) 4294967295 0) ≡ (x + y) % goldilocks_modulus
+    → word_difference (word_sum x (word_sum y 4294967295))
+    (cond (top 63 (word_mask x (word_sum x (word_sum y 4294967295)))) 4294967295 0)
+    ≡ (x + y) % goldilocks_modulus
 lane_sum x y a b =
     let s : ℕ = word_sum x (word_sum y 4294967295) in
     let s_is : s ≡ (x + y + 4294967295) % 18446744073709551616 = omega (arith, b) in
@@ -153,7 +156,8 @@ product_of_words x t a b =
     let made = parts (x0 * t0) (x0 * t1) (x1 * t0) (x1 * t1) (first_part x t) (second_part x t) (low_word x t) (high_word x t) ll.1 lh.1 hl.1 hh.1
     (ap₂ (λ p q. word_sum p (q / 4294967296)) hl_is ll_is)
     (ap₂ word_sum lh_is (low_half (first_part x t)))
-    (ap (λ q. word_sum q (half_left (second_part x t) 32)) (low_half (word_product (bit_and x 4294967295) (bit_and t 4294967295)) ∙ ap (λ q. q % 4294967296) ll_is))
+    (ap (λ q. word_sum q (half_left (second_part x t) 32))
+    (low_half (word_product (bit_and x 4294967295) (bit_and t 4294967295)) ∙ ap (λ q. q % 4294967296) ll_is))
     (ap (λ q. word_sum (word_sum q (half_right (first_part x t) 32)) (half_right (second_part x t) 32)) hh.0)
     (omega (arith, whole, most)) in
     (made.0 ∙ whole, made.1)
@@ -193,7 +197,9 @@ multiple_is h b =
     let rest : word_difference 4294967295 h0 ≡ 4294967295 - h0 = omega arith in
     let whole : word_sum (half_left h 32) (word_difference 4294967295 h0) ≡ h0 * 4294967295 + 4294967295 = omega (arith, shifted, rest) in
     let is : multiple h ≡ word_difference (turned (h0 * 4294967295 + 4294967295)) u
-    = ap (λ k. word_difference (turned (word_sum (half_left h 32) (word_difference 4294967295 k))) u) (low_half h) ∙ ap (λ k. word_difference (turned k) u) whole in
+    =
+    ap (λ k. word_difference (turned (word_sum (half_left h 32) (word_difference 4294967295 k))) u) (low_half h)
+    ∙ ap (λ k. word_difference (turned k) u) whole in
     (omega (arith, is, u_below), omega (arith, is))
 
 abbrev reduced_word : ℕ → ℕ → ℕ
@@ -201,7 +207,10 @@ reduced_word l h = corrected (lessened l (multiple h))
 
 -- the modulus is added or taken away so often that the word is below it
 quotients : (l h : ℕ) → l < 18446744073709551616 → h < 18446744073709551616
-    → (f : ℕ) × ((g : ℕ) × ((l + h * 18446744073709551616 + g * goldilocks_modulus ≡ reduced_word l h + f * goldilocks_modulus) × (reduced_word l h < goldilocks_modulus)))
+    → (f : ℕ)
+    × ((g : ℕ)
+    × ((l + h * 18446744073709551616 + g * goldilocks_modulus ≡ reduced_word l h + f * goldilocks_modulus)
+    × (reduced_word l h < goldilocks_modulus)))
 quotients l h a b =
     let h0 : ℕ = h % 4294967296 in
     let u : ℕ = h / 4294967296 in
@@ -214,7 +223,9 @@ quotients l h a b =
     (λ wraps.
     let less : lessened l m ≡ s = ap (word_difference s) (if_less (turned s) (turned m) 0 4294967295 wraps) ∙ omega arith in
     let most : turned s ≤ 18446744069414584320 = omega (arith, s_is, wraps, m_is.0, a) in
-    let is : reduced_word l h ≡ turned (word_difference s 0) = ap corrected less ∙ ap (λ k. turned (word_difference s k)) (if_not_less 18446744069414584320 (turned s) 4294967295 0 most) in
+    let is : reduced_word l h ≡ turned (word_difference s 0) =
+    ap corrected less
+    ∙ ap (λ k. turned (word_difference s k)) (if_not_less 18446744069414584320 (turned s) 4294967295 0 most) in
     (1 + h0 + u * 4294967297, (0, (omega (arith, is, s_is, wraps, m_is.0, a), omega (arith, is, most)))))
     (λ fits.
     let c : ℕ = word_difference s 4294967295 in
@@ -222,10 +233,23 @@ quotients l h a b =
     let c_is : turned c ≡ word_difference (turned s) 4294967295 = omega arith in
     ⊎_elim
     (λ negative.
-    let is : reduced_word l h ≡ turned (word_difference c 4294967295) = ap corrected less ∙ ap (λ k. turned (word_difference c k)) (if_less 18446744069414584320 (turned c) 4294967295 0 negative) in
-    (h0 + u * 4294967297, (1, (omega (arith, is, c_is, s_is, fits, negative, m_is.0, a, u_below), omega (arith, is, c_is, s_is, fits, negative, m_is.0, a, u_below)))))
+    let is : reduced_word l h ≡ turned (word_difference c 4294967295) =
+    ap corrected less
+    ∙ ap (λ k. turned (word_difference c k)) (if_less 18446744069414584320 (turned c) 4294967295 0 negative) in (
+      h0 + u * 4294967297,
+      (
+        1,
+        (
+          omega (arith, is, c_is, s_is, fits, negative, m_is.0, a, u_below),
+          omega
+              (arith, is, c_is, s_is, fits, negative, m_is.0, a, u_below),
+        ),
+      ),
+    ))
     (λ most.
-    let is : reduced_word l h ≡ turned (word_difference c 0) = ap corrected less ∙ ap (λ k. turned (word_difference c k)) (if_not_less 18446744069414584320 (turned c) 4294967295 0 most) in
+    let is : reduced_word l h ≡ turned (word_difference c 0) =
+    ap corrected less
+    ∙ ap (λ k. turned (word_difference c k)) (if_not_less 18446744069414584320 (turned c) 4294967295 0 most) in
     (h0 + u * 4294967297, (0, (omega (arith, is, c_is, s_is, fits, most, m_is.0, a, u_below), omega (arith, is, most)))))
     (cases_lt 18446744069414584320 (turned c)))
     (cases_lt (turned s) (turned m))
@@ -287,7 +311,8 @@ all_lessened n ls hs =
     zip2 word_difference sums (all_where n (multiples n hs) sums 0 4294967295)
 
 pub reduced_words : (ls hs : List ℕ) (n : ℕ) → length ls ≡ n → Each1 (Fits w64) ls → Each1 (Fits w64) hs
-    → all_turned n (zip2 word_difference (all_lessened n ls hs) (all_above n (all_turned n (all_lessened n ls hs)) (replicate n 18446744069414584320) 4294967295 0))
+    → all_turned n (zip2 word_difference (all_lessened n ls hs)
+    (all_above n (all_turned n (all_lessened n ls hs)) (replicate n 18446744069414584320) 4294967295 0))
     ≡ zip2 (λ l h. (l + h * 18446744073709551616) % goldilocks_modulus) ls hs
 reduced_words [] hs n e a b = refl
 reduced_words (l ∷ ls) hs zero e a b = absurd (omega (arith, e))
@@ -296,7 +321,8 @@ reduced_words (l ∷ ls) (h ∷ hs) (suc n) e a b = ap₂ ◌∷◌ (reduced_wor
 
 -- the two words of a product, and its remainder
 pub words_together : (xs ts : List ℕ)
-    → zip2 (λ l h. (l + h * 18446744073709551616) % goldilocks_modulus) (zip2 (λ x t. (x * t) % 18446744073709551616) xs ts) (zip2 (λ x t. x * t / 18446744073709551616) xs ts)
+    → zip2 (λ l h. (l + h * 18446744073709551616) % goldilocks_modulus)
+    (zip2 (λ x t. (x * t) % 18446744073709551616) xs ts) (zip2 (λ x t. x * t / 18446744073709551616) xs ts)
     ≡ zip2 (λ x t. (x * t) % goldilocks_modulus) xs ts
 words_together [] ts = refl
 words_together (x ∷ xs) [] = refl

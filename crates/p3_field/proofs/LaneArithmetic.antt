@@ -1,5 +1,6 @@
 -- Arithmetic modulo m on the lanes of a vector: one correction by the least of two, and a product by an estimated quotient.
-use Rattle.std.proofs.Common.{◌≡◌, ℕ, zero, suc, ◌+◌, ◌-◌, ◌*◌, ◌/◌, ◌%◌, ◌<◌, ◌≤◌, ◌^◌, Bool, true, false, cond, List, [], ◌∷◌, length, map, replicate, refl, sym, ap, ap₂, ◌∙◌, arith, ⊎_elim, lit<}
+use Rattle.std.proofs.Common.{◌≡◌, ℕ, zero, suc, ◌+◌, ◌-◌, ◌*◌, ◌/◌, ◌%◌, ◌<◌, ◌≤◌, ◌^◌, Bool, true, false, cond, List}
+use Rattle.std.proofs.Common.{[], ◌∷◌, length, map, replicate, refl, sym, ap, ap₂, ◌∙◌, arith, ⊎_elim, lit<}
 use Rattle.std.proofs.Math.Dec.{ltb}
 use Rattle.std.proofs.Math.Nat.{mod-eq_of_lt, mod-lt, add-mod_right, add-mul-mod_self_right, mod-add-div', mul-le-mul, mul-le-mul_right, div-lt_iff_lt-mul}
 use Rattle.std.proofs.lemmas.Nat.{mul-mod_first}
@@ -47,7 +48,8 @@ module _ (m : ℕ) (above : 1 < m) (small : m < 2147483648) where
       (cases_lt x m)
 
   lane_difference : (x y : ℕ) → x < m → y < m
-      → cond (top 31 (less_mask (wrapped_difference x y) (wrapped_sum (wrapped_difference x y) m))) (wrapped_difference x y) (wrapped_sum (wrapped_difference x y) m)
+      → cond (top 31 (less_mask (wrapped_difference x y) (wrapped_sum (wrapped_difference x y) m)))
+      (wrapped_difference x y) (wrapped_sum (wrapped_difference x y) m)
       ≡ (x + (m - y)) % m
   lane_difference x y a b = ⊎_elim
       (λ less.
@@ -65,7 +67,9 @@ module _ (m : ℕ) (above : 1 < m) (small : m < 2147483648) where
 
   -- ---- all lanes
   pub remainders_of_lanes : (xs : List ℕ) (n : ℕ) → length xs ≡ n → AreBelow (m + m) xs
-      → sel_l (map (top 31) (zip2 less_mask xs (zip2 wrapped_difference xs (replicate n m)))) xs (zip2 wrapped_difference xs (replicate n m)) ≡ map (λ x. x % m) xs
+      → sel_l (map (top 31) (zip2 less_mask xs (zip2 wrapped_difference xs (replicate n m)))) xs
+      (zip2 wrapped_difference xs (replicate n m))
+      ≡ map (λ x. x % m) xs
   remainders_of_lanes [] n e below = refl
   remainders_of_lanes (x ∷ xs) zero e below = absurd (omega (arith, e))
   remainders_of_lanes (x ∷ xs) (suc n) e below = ap₂ ◌∷◌ (lane_remainder x below.0) (remainders_of_lanes xs n (omega (arith, e)) below.1)
@@ -152,7 +156,9 @@ module _ (m : ℕ) (above : 1 < m) (small : m < 2147483648) (t : ℕ) (factor : 
       omega (arith, near.0, near.1, lane_rest x below)
 
   lane_multiple : (x : ℕ) → x < 4294967296 → rest_of_estimate m t (quotient_of m t) x % m ≡ (x * t) % m
-  lane_multiple x below = sym (add-mul-mod_self_right (rest_of_estimate m t (quotient_of m t) x) (estimate x (quotient_of m t)) m) ∙ ap (λ n. n % m) (lane_rest x below)
+  lane_multiple x below =
+      sym (add-mul-mod_self_right (rest_of_estimate m t (quotient_of m t) x) (estimate x (quotient_of m t)) m)
+      ∙ ap (λ n. n % m) (lane_rest x below)
 
   -- the quotient's estimate in all lanes, and the rest
   abbrev estimates : List ℕ → List ℕ
@@ -172,7 +178,9 @@ module _ (m : ℕ) (above : 1 < m) (small : m < 2147483648) (t : ℕ) (factor : 
   multiples_of_lanes (x ∷ xs) (suc n) e fits = ap₂ ◌∷◌ (lane_multiple x fits.0.fits) (multiples_of_lanes xs n (omega (arith, e)) fits.1)
 
 -- a difference has the same multiples whether or not its remainder is taken
-pub multiples_of_loose : (m t : ℕ) (xs ys : List ℕ) → map (λ k. (k * t) % m) (zip2 (λ x y. x + (m - y)) xs ys) ≡ map (λ k. (k * t) % m) (zip2 (λ x y. (x + (m - y)) % m) xs ys)
+pub multiples_of_loose : (m t : ℕ) (xs ys : List ℕ)
+    → map (λ k. (k * t) % m) (zip2 (λ x y. x + (m - y)) xs ys)
+    ≡ map (λ k. (k * t) % m) (zip2 (λ x y. (x + (m - y)) % m) xs ys)
 multiples_of_loose m t [] ys = refl
 multiples_of_loose m t (x ∷ xs) [] = refl
 multiples_of_loose m t (x ∷ xs) (y ∷ ys) = ap₂ ◌∷◌ (sym (mul-mod_first (x + (m - y)) t m)) (multiples_of_loose m t xs ys)
@@ -288,7 +296,8 @@ module _ (m : ℕ) (above : 1 < m) (small : m < 2147483648) (near : 1073741824 +
       let fits : rest_of_product m x y < 4294967296 = omega (arith, lane_rest_of_product_below x y a.0 b.0, small) in
       (record { fits = fits }, rests_of_products_fit xs ys n (omega (arith, e)) a.1 b.1)
 
-  pub rests_of_products_below : (xs ys : List ℕ) (n : ℕ) → length xs ≡ n → AreBelow m xs → AreBelow m ys → AreBelow (m + m) (map (λ x. x) (rests_of_products n xs ys))
+  pub rests_of_products_below : (xs ys : List ℕ) (n : ℕ) → length xs ≡ n → AreBelow m xs → AreBelow m ys
+      → AreBelow (m + m) (map (λ x. x) (rests_of_products n xs ys))
   rests_of_products_below [] ys n e a b = tt
   rests_of_products_below (x ∷ xs) [] n e a b = tt
   rests_of_products_below (x ∷ xs) (y ∷ ys) zero e a b = absurd (omega (arith, e))

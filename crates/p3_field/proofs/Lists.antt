@@ -8,7 +8,8 @@ slice_set-single (y ∷ []) x one = refl
 slice_set-single (y ∷ z ∷ zs) x one = absurd (omega (arith, one))
 
 -- behind a list the first entries of another, and one more of these
-pub taken_more : {A : Type 0} (before xs : List A) (i : ℕ) (x : A) → i < length xs → ((d : A) → x ≡ get_or xs i d) → (before ++ take i xs) ++ x ∷ [] ≡ before ++ take (i + 1) xs
+pub taken_more : {A : Type 0} (before xs : List A) (i : ℕ) (x : A) → i < length xs → ((d : A) → x ≡ get_or xs i d)
+    → (before ++ take i xs) ++ x ∷ [] ≡ before ++ take (i + 1) xs
 taken_more before xs i x below is =
     append_assoc before (take i xs) (x ∷ []) ∙ ap (λ ys. before ++ ys) (ap (λ y. take i xs ++ y ∷ []) (is x) ∙ sym (take_more xs i x below))
 

@@ -111,4 +111,5 @@ module _ {A : Type 0} (r : Ring A) where
   count-power_of_two zero = count-one ∙ sym (power-zero (two r))
   count-power_of_two (suc n) =
       let twice : 2 ^ suc n ≡ 2 ^ n + 2 ^ n = two-pow-succ n in
-      ap (count r) twice ∙ count-add (2 ^ n) (2 ^ n) ∙ sym (Rings.two-mul r (count r (2 ^ n))) ∙ ap (r.mul (two r)) (count-power_of_two n) ∙ sym (power-suc (two r) n)
+      ap (count r) twice ∙ count-add (2 ^ n) (2 ^ n) ∙ sym (Rings.two-mul r (count r (2 ^ n)))
+      ∙ ap (r.mul (two r)) (count-power_of_two n) ∙ sym (power-suc (two r) n)

@@ -1,5 +1,6 @@
 -- Residues in the lanes of a packed value: what is known of their numbers is known of them.
-use Rattle.std.proofs.Common.{◌≡◌, ℕ, zero, suc, ◌+◌, ◌-◌, ◌*◌, ◌<◌, ◌≤◌, List, [], ◌∷◌, ◌++◌, length, map, get_or, set, drop, refl, sym, ap, ap₂, ◌∙◌, subst, ⊎_elim, arith}
+use Rattle.std.proofs.Common.{◌≡◌, ℕ, zero, suc, ◌+◌, ◌-◌, ◌*◌, ◌<◌, ◌≤◌, List, [], ◌∷◌, ◌++◌, length, map, get_or, set}
+use Rattle.std.proofs.Common.{drop, refl, sym, ap, ap₂, ◌∙◌, subst, ⊎_elim, arith}
 use Rattle.std.proofs.lemmas.List.{get_or-append-add, get_or_append_left, length-map, map-append, map-id}
 use Rattle.std.proofs.lemmas.Simd.{length-zip2}
 use Rattle.std.proofs.lemmas.Bool.{cases_lt}
@@ -12,7 +13,8 @@ use Rattle.p3_field.specs.Residues.{Residue, residue-eq}
 
 -- lists of eight
 pub eight_elements : {A B : Type 0} (f : A → B) (xs : List A) (d0 d1 d2 d3 d4 d5 d6 d7 : A) → length xs ≡ 8
-    → f (get_or xs 0 d0) ∷ f (get_or xs 1 d1) ∷ f (get_or xs 2 d2) ∷ f (get_or xs 3 d3) ∷ f (get_or xs 4 d4) ∷ f (get_or xs 5 d5) ∷ f (get_or xs 6 d6) ∷ f (get_or xs 7 d7) ∷ []
+    → f (get_or xs 0 d0) ∷ f (get_or xs 1 d1) ∷ f (get_or xs 2 d2) ∷ f (get_or xs 3 d3) ∷ f (get_or xs 4 d4) ∷ f
+    (get_or xs 5 d5) ∷ f (get_or xs 6 d6) ∷ f (get_or xs 7 d7) ∷ []
     ≡ map f xs
 eight_elements f (a ∷ b ∷ c ∷ d ∷ e ∷ g ∷ h ∷ i ∷ []) d0 d1 d2 d3 d4 d5 d6 d7 long = refl
 eight_elements f [] d0 d1 d2 d3 d4 d5 d6 d7 long = absurd (omega (arith, long))
@@ -39,7 +41,8 @@ eight_written (a ∷ b ∷ c ∷ d ∷ e ∷ g ∷ h ∷ []) x0 x1 x2 x3 x4 x5 x
 eight_written (a ∷ b ∷ c ∷ d ∷ e ∷ g ∷ h ∷ i ∷ j ∷ xs) x0 x1 x2 x3 x4 x5 x6 x7 long = absurd (omega (arith, long))
 
 -- what is told of each of eight entries by its place
-pub by_place : {A : Type 0} (of : List A) (P : ℕ → A → Type 0) (x0 x1 x2 x3 x4 x5 x6 x7 d : A) → P 0 x0 → P 1 x1 → P 2 x2 → P 3 x3 → P 4 x4 → P 5 x5 → P 6 x6 → P 7 x7
+pub by_place : {A : Type 0} (of : List A) (P : ℕ → A → Type 0) (x0 x1 x2 x3 x4 x5 x6 x7 d : A) → P 0 x0 → P 1 x1
+    → P 2 x2 → P 3 x3 → P 4 x4 → P 5 x5 → P 6 x6 → P 7 x7
     → (i : ℕ) → i < 8 → P i (get_or (x0 ∷ x1 ∷ x2 ∷ x3 ∷ x4 ∷ x5 ∷ x6 ∷ x7 ∷ []) i d)
 by_place of P x0 x1 x2 x3 x4 x5 x6 x7 d p0 p1 p2 p3 p4 p5 p6 p7 zero below = p0
 by_place of P x0 x1 x2 x3 x4 x5 x6 x7 d p0 p1 p2 p3 p4 p5 p6 p7 (suc zero) below = p1
@@ -52,7 +55,8 @@ by_place of P x0 x1 x2 x3 x4 x5 x6 x7 d p0 p1 p2 p3 p4 p5 p6 p7 (suc (suc (suc (
 by_place of P x0 x1 x2 x3 x4 x5 x6 x7 d p0 p1 p2 p3 p4 p5 p6 p7 (suc (suc (suc (suc (suc (suc (suc (suc i)))))))) below = absurd (omega (arith, below))
 
 -- of the first, and of the second, of each of eight pairs
-firsts_by_place : {A : Type 0} (P : ℕ → A → Type 0) (a0 a1 a2 a3 a4 a5 a6 a7 b0 b1 b2 b3 b4 b5 b6 b7 d : A) → P 0 a0 → P 1 a1 → P 2 a2 → P 3 a3 → P 4 a4 → P 5 a5 → P 6 a6 → P 7 a7
+firsts_by_place : {A : Type 0} (P : ℕ → A → Type 0) (a0 a1 a2 a3 a4 a5 a6 a7 b0 b1 b2 b3 b4 b5 b6 b7 d : A) → P 0 a0
+    → P 1 a1 → P 2 a2 → P 3 a3 → P 4 a4 → P 5 a5 → P 6 a6 → P 7 a7
     → (i : ℕ) → i < 8 → P i (get_or (a0 ∷ b0 ∷ a1 ∷ b1 ∷ a2 ∷ b2 ∷ a3 ∷ b3 ∷ a4 ∷ b4 ∷ a5 ∷ b5 ∷ a6 ∷ b6 ∷ a7 ∷ b7 ∷ []) (2 * i) d)
 firsts_by_place P a0 a1 a2 a3 a4 a5 a6 a7 b0 b1 b2 b3 b4 b5 b6 b7 d p0 p1 p2 p3 p4 p5 p6 p7 zero below = p0
 firsts_by_place P a0 a1 a2 a3 a4 a5 a6 a7 b0 b1 b2 b3 b4 b5 b6 b7 d p0 p1 p2 p3 p4 p5 p6 p7 (suc zero) below = p1
@@ -62,9 +66,11 @@ firsts_by_place P a0 a1 a2 a3 a4 a5 a6 a7 b0 b1 b2 b3 b4 b5 b6 b7 d p0 p1 p2 p3 
 firsts_by_place P a0 a1 a2 a3 a4 a5 a6 a7 b0 b1 b2 b3 b4 b5 b6 b7 d p0 p1 p2 p3 p4 p5 p6 p7 (suc (suc (suc (suc (suc zero))))) below = p5
 firsts_by_place P a0 a1 a2 a3 a4 a5 a6 a7 b0 b1 b2 b3 b4 b5 b6 b7 d p0 p1 p2 p3 p4 p5 p6 p7 (suc (suc (suc (suc (suc (suc zero)))))) below = p6
 firsts_by_place P a0 a1 a2 a3 a4 a5 a6 a7 b0 b1 b2 b3 b4 b5 b6 b7 d p0 p1 p2 p3 p4 p5 p6 p7 (suc (suc (suc (suc (suc (suc (suc zero))))))) below = p7
-firsts_by_place P a0 a1 a2 a3 a4 a5 a6 a7 b0 b1 b2 b3 b4 b5 b6 b7 d p0 p1 p2 p3 p4 p5 p6 p7 (suc (suc (suc (suc (suc (suc (suc (suc i)))))))) below = absurd (omega (arith, below))
+firsts_by_place P a0 a1 a2 a3 a4 a5 a6 a7 b0 b1 b2 b3 b4 b5 b6 b7 d p0 p1 p2 p3 p4 p5 p6 p7 (suc (suc (suc (suc (suc (suc (suc (suc i)))))))) below =
+    absurd (omega (arith, below))
 
-seconds_by_place : {A : Type 0} (P : ℕ → A → Type 0) (a0 a1 a2 a3 a4 a5 a6 a7 b0 b1 b2 b3 b4 b5 b6 b7 d : A) → P 0 b0 → P 1 b1 → P 2 b2 → P 3 b3 → P 4 b4 → P 5 b5 → P 6 b6 → P 7 b7
+seconds_by_place : {A : Type 0} (P : ℕ → A → Type 0) (a0 a1 a2 a3 a4 a5 a6 a7 b0 b1 b2 b3 b4 b5 b6 b7 d : A) → P 0 b0
+    → P 1 b1 → P 2 b2 → P 3 b3 → P 4 b4 → P 5 b5 → P 6 b6 → P 7 b7
     → (i : ℕ) → i < 8 → P i (get_or (a0 ∷ b0 ∷ a1 ∷ b1 ∷ a2 ∷ b2 ∷ a3 ∷ b3 ∷ a4 ∷ b4 ∷ a5 ∷ b5 ∷ a6 ∷ b6 ∷ a7 ∷ b7 ∷ []) (2 * i + 1) d)
 seconds_by_place P a0 a1 a2 a3 a4 a5 a6 a7 b0 b1 b2 b3 b4 b5 b6 b7 d p0 p1 p2 p3 p4 p5 p6 p7 zero below = p0
 seconds_by_place P a0 a1 a2 a3 a4 a5 a6 a7 b0 b1 b2 b3 b4 b5 b6 b7 d p0 p1 p2 p3 p4 p5 p6 p7 (suc zero) below = p1
@@ -74,21 +80,42 @@ seconds_by_place P a0 a1 a2 a3 a4 a5 a6 a7 b0 b1 b2 b3 b4 b5 b6 b7 d p0 p1 p2 p3
 seconds_by_place P a0 a1 a2 a3 a4 a5 a6 a7 b0 b1 b2 b3 b4 b5 b6 b7 d p0 p1 p2 p3 p4 p5 p6 p7 (suc (suc (suc (suc (suc zero))))) below = p5
 seconds_by_place P a0 a1 a2 a3 a4 a5 a6 a7 b0 b1 b2 b3 b4 b5 b6 b7 d p0 p1 p2 p3 p4 p5 p6 p7 (suc (suc (suc (suc (suc (suc zero)))))) below = p6
 seconds_by_place P a0 a1 a2 a3 a4 a5 a6 a7 b0 b1 b2 b3 b4 b5 b6 b7 d p0 p1 p2 p3 p4 p5 p6 p7 (suc (suc (suc (suc (suc (suc (suc zero))))))) below = p7
-seconds_by_place P a0 a1 a2 a3 a4 a5 a6 a7 b0 b1 b2 b3 b4 b5 b6 b7 d p0 p1 p2 p3 p4 p5 p6 p7 (suc (suc (suc (suc (suc (suc (suc (suc i)))))))) below = absurd (omega (arith, below))
+seconds_by_place P a0 a1 a2 a3 a4 a5 a6 a7 b0 b1 b2 b3 b4 b5 b6 b7 d p0 p1 p2 p3 p4 p5 p6 p7 (suc (suc (suc (suc (suc (suc (suc (suc i)))))))) below =
+    absurd (omega (arith, below))
 
 pairs_written : {A : Type 0} (ys : List A) (a0 a1 a2 a3 a4 a5 a6 a7 b0 b1 b2 b3 b4 b5 b6 b7 : A) → length ys ≡ 16
-    → set (set (set (set (set (set (set (set (set (set (set (set (set (set (set (set ys 0 a0) 1 b0) 2 a1) 3 b1) 4 a2) 5 b2) 6 a3) 7 b3) 8 a4) 9 b4) 10 a5) 11 b5) 12 a6) 13 b6) 14 a7) 15 b7 ≡ a0 ∷ b0 ∷ a1 ∷ b1 ∷ a2 ∷ b2 ∷ a3 ∷ b3 ∷ a4 ∷ b4 ∷ a5 ∷ b5 ∷ a6 ∷ b6 ∷ a7 ∷ b7 ∷ []
-pairs_written ys a0 a1 a2 a3 a4 a5 a6 a7 b0 b1 b2 b3 b4 b5 b6 b7 long = ap (λ l. set (set (set (set (set (set (set (set (set (set (set (set (set (set (set (set l 0 a0) 1 b0) 2 a1) 3 b1) 4 a2) 5 b2) 6 a3) 7 b3) 8 a4) 9 b4) 10 a5) 11 b5) 12 a6) 13 b6) 14 a7) 15 b7) (all_entries 16 ys a0 long)
+    → set (set (set (set (set (set (set (set
+    (set (set (set (set (set (set (set (set ys 0 a0) 1 b0) 2 a1) 3 b1) 4 a2) 5 b2) 6 a3) 7 b3) 8 a4)
+    9 b4) 10 a5) 11 b5) 12 a6) 13 b6) 14 a7) 15 b7
+    ≡ a0 ∷ b0 ∷ a1 ∷ b1 ∷ a2 ∷ b2 ∷ a3 ∷ b3 ∷ a4 ∷ b4 ∷ a5 ∷ b5 ∷ a6 ∷ b6 ∷ a7 ∷ b7 ∷ []
+pairs_written ys a0 a1 a2 a3 a4 a5 a6 a7 b0 b1 b2 b3 b4 b5 b6 b7 long =
+    ap (λ l. set (set (set (set (set (set (set
+    (set (set (set (set (set (set (set (set (set l 0 a0) 1 b0) 2 a1) 3 b1) 4 a2) 5 b2) 6 a3) 7 b3) 8 a4) 9
+    b4) 10 a5) 11 b5) 12 a6) 13 b6) 14 a7) 15 b7) (all_entries 16 ys a0 long)
 
-pub first_written : {A : Type 0} (ys : List A) (P : ℕ → A → Type 0) (a0 a1 a2 a3 a4 a5 a6 a7 b0 b1 b2 b3 b4 b5 b6 b7 d : A) → length ys ≡ 16 → P 0 a0 → P 1 a1 → P 2 a2 → P 3 a3 → P 4 a4 → P 5 a5 → P 6 a6 → P 7 a7
-    → (i : ℕ) → i < 8 → P i (get_or (set (set (set (set (set (set (set (set (set (set (set (set (set (set (set (set ys 0 a0) 1 b0) 2 a1) 3 b1) 4 a2) 5 b2) 6 a3) 7 b3) 8 a4) 9 b4) 10 a5) 11 b5) 12 a6) 13 b6) 14 a7) 15 b7) (2 * i) d)
+pub first_written : {A : Type 0} (ys : List A) (P : ℕ → A → Type 0) (a0 a1 a2 a3 a4 a5 a6 a7 b0 b1 b2 b3 b4 b5 b6 b7 d : A)
+    → length ys ≡ 16 → P 0 a0 → P 1 a1 → P 2 a2 → P 3 a3 → P 4 a4 → P 5 a5 → P 6 a6 → P 7 a7
+    → (i : ℕ) → i
+    < 8
+    → P i (get_or (set (set (set (set (set (set (set (set
+    (set (set (set (set (set (set (set (set ys 0 a0) 1 b0) 2 a1) 3 b1) 4 a2) 5 b2) 6 a3) 7 b3)
+    8 a4) 9 b4) 10 a5) 11 b5) 12 a6) 13 b6) 14 a7) 15 b7) (2 * i) d)
 first_written ys P a0 a1 a2 a3 a4 a5 a6 a7 b0 b1 b2 b3 b4 b5 b6 b7 d long p0 p1 p2 p3 p4 p5 p6 p7 i below =
-    subst (λ xs. P i (get_or xs (2 * i) d)) (sym (pairs_written ys a0 a1 a2 a3 a4 a5 a6 a7 b0 b1 b2 b3 b4 b5 b6 b7 long)) (firsts_by_place P a0 a1 a2 a3 a4 a5 a6 a7 b0 b1 b2 b3 b4 b5 b6 b7 d p0 p1 p2 p3 p4 p5 p6 p7 i below)
+    subst (λ xs. P i (get_or xs (2 * i) d))
+    (sym (pairs_written ys a0 a1 a2 a3 a4 a5 a6 a7 b0 b1 b2 b3 b4 b5 b6 b7 long))
+    (firsts_by_place P a0 a1 a2 a3 a4 a5 a6 a7 b0 b1 b2 b3 b4 b5 b6 b7 d p0 p1 p2 p3 p4 p5 p6 p7 i below)
 
-pub second_written : {A : Type 0} (ys : List A) (P : ℕ → A → Type 0) (a0 a1 a2 a3 a4 a5 a6 a7 b0 b1 b2 b3 b4 b5 b6 b7 d : A) → length ys ≡ 16 → P 0 b0 → P 1 b1 → P 2 b2 → P 3 b3 → P 4 b4 → P 5 b5 → P 6 b6 → P 7 b7
-    → (i : ℕ) → i < 8 → P i (get_or (set (set (set (set (set (set (set (set (set (set (set (set (set (set (set (set ys 0 a0) 1 b0) 2 a1) 3 b1) 4 a2) 5 b2) 6 a3) 7 b3) 8 a4) 9 b4) 10 a5) 11 b5) 12 a6) 13 b6) 14 a7) 15 b7) (2 * i + 1) d)
+pub second_written : {A : Type 0} (ys : List A) (P : ℕ → A → Type 0) (a0 a1 a2 a3 a4 a5 a6 a7 b0 b1 b2 b3 b4 b5 b6 b7 d : A)
+    → length ys ≡ 16 → P 0 b0 → P 1 b1 → P 2 b2 → P 3 b3 → P 4 b4 → P 5 b5 → P 6 b6 → P 7 b7
+    → (i : ℕ) → i
+    < 8
+    → P i (get_or (set (set (set (set (set (set (set (set
+    (set (set (set (set (set (set (set (set ys 0 a0) 1 b0) 2 a1) 3 b1) 4 a2) 5 b2) 6 a3) 7 b3)
+    8 a4) 9 b4) 10 a5) 11 b5) 12 a6) 13 b6) 14 a7) 15 b7) (2 * i + 1) d)
 second_written ys P a0 a1 a2 a3 a4 a5 a6 a7 b0 b1 b2 b3 b4 b5 b6 b7 d long p0 p1 p2 p3 p4 p5 p6 p7 i below =
-    subst (λ xs. P i (get_or xs (2 * i + 1) d)) (sym (pairs_written ys a0 a1 a2 a3 a4 a5 a6 a7 b0 b1 b2 b3 b4 b5 b6 b7 long)) (seconds_by_place P a0 a1 a2 a3 a4 a5 a6 a7 b0 b1 b2 b3 b4 b5 b6 b7 d p0 p1 p2 p3 p4 p5 p6 p7 i below)
+    subst (λ xs. P i (get_or xs (2 * i + 1) d))
+    (sym (pairs_written ys a0 a1 a2 a3 a4 a5 a6 a7 b0 b1 b2 b3 b4 b5 b6 b7 long))
+    (seconds_by_place P a0 a1 a2 a3 a4 a5 a6 a7 b0 b1 b2 b3 b4 b5 b6 b7 d p0 p1 p2 p3 p4 p5 p6 p7 i below)
 
 -- what holds of each entry of two lists, one after another
 pub each_joined : {A : Type 0} (P : A → Type 0) (xs ys : List A) → Each1 P xs → Each1 P ys → Each1 P (xs ++ ys)
@@ -153,7 +180,8 @@ module _ {m : ℕ} where
   each_below f all (x ∷ xs) = (all x, each_below f all xs)
 
   -- so n of them are the lanes of a packed value
-  pub pairs_packed : (f : ℕ → ℕ → ℕ) → ((x y : ℕ) → f x y < m) → (n : ℕ) (xs ys zs : List ℕ) → length xs ≡ n → length ys ≡ n → zs ≡ zip2 f xs ys → AreBelow m zs × (length zs ≡ n)
+  pub pairs_packed : (f : ℕ → ℕ → ℕ) → ((x y : ℕ) → f x y < m) → (n : ℕ) (xs ys zs : List ℕ) → length xs ≡ n
+      → length ys ≡ n → zs ≡ zip2 f xs ys → AreBelow m zs × (length zs ≡ n)
   pairs_packed f all n xs ys zs first second is =
       (subst (AreBelow m) (sym is) (pairs_below f all xs ys), ap length is ∙ length-zip2 f xs ys (first ∙ sym second) ∙ first)
 
@@ -182,13 +210,16 @@ module _ {m : ℕ} where
         → map value (elements_of make zs c) ≡ by_lanes op (map value (elements_of make xs a)) (map value (elements_of make ys b))
     lanes_of_pairs op f law xs ys zs a b c is =
         same_numbers _ _ (numbers_of_elements zs c ∙ is
-        ∙ sym (numbers_by_lanes op f law (map value (elements_of make xs a)) (map value (elements_of make ys b)) ∙ ap₂ (zip2 f) (numbers_of_elements xs a) (numbers_of_elements ys b)))
+        ∙ sym (numbers_by_lanes op f law (map value (elements_of make xs a)) (map value (elements_of make ys b)) ∙ ap₂
+        (zip2 f) (numbers_of_elements xs a) (numbers_of_elements ys b)))
 
     pub lanes_of_each : (op : Residue m → Residue m) (f : ℕ → ℕ) → ((x : Residue m) → (op x).number ≡ f x.number)
         → (xs zs : List ℕ) (a : AreBelow m xs) (c : AreBelow m zs) → zs ≡ map f xs
         → map value (elements_of make zs c) ≡ map op (map value (elements_of make xs a))
     lanes_of_each op f law xs zs a c is =
-        same_numbers _ _ (numbers_of_elements zs c ∙ is ∙ sym (numbers_of_each op f law (map value (elements_of make xs a)) ∙ ap (map f) (numbers_of_elements xs a)))
+        same_numbers _ _ (numbers_of_elements zs c ∙ is
+        ∙ sym
+        (numbers_of_each op f law (map value (elements_of make xs a)) ∙ ap (map f) (numbers_of_elements xs a)))
 
     -- lanes in two halves, as two parts of a slice have them
     pub joined_lanes : (xs ys zs : List ℕ) (a : AreBelow m xs) (b : AreBelow m ys) (c : AreBelow m zs) → zs ≡ xs ++ ys
@@ -201,7 +232,8 @@ module _ {m : ℕ} where
         ∙ ap₂ ◌++◌ (numbers_of_elements xs a) (numbers_of_elements ys b)))
 
     pub joined_parts : (xs ys zs : List ℕ) (a : AreBelow m xs) (b : AreBelow m ys) (c : AreBelow m zs) → zs ≡ xs ++ ys
-        → (all front back : List R) → all ≡ front ++ back → map value (elements_of make xs a) ≡ map value front → map value (elements_of make ys b) ≡ map value back
+        → (all front back : List R) → all ≡ front ++ back → map value (elements_of make xs a)
+        ≡ map value front → map value (elements_of make ys b) ≡ map value back
         → map value (elements_of make zs c) ≡ map value all
     joined_parts xs ys zs a b c is all front back parts low high =
         joined_lanes xs ys zs a b c is ∙ map-append value (elements_of make xs a) (elements_of make ys b) ∙ ap₂ ◌++◌ low high

@@ -78,7 +78,10 @@ spread oneₑ = record { plus = [] ∷ []; minus = [] }
 spread (a ⊞ b) = let x = spread a in let y = spread b in record { plus = x.plus ++ y.plus; minus = x.minus ++ y.minus }
 spread (a ⊟ b) = let x = spread a in let y = spread b in record { plus = x.plus ++ y.minus; minus = x.minus ++ y.plus }
 spread (⊝ a) = let x = spread a in record { plus = x.minus; minus = x.plus }
-spread (a ⊠ b) = let x = spread a in let y = spread b in record { plus = cross x.plus y.plus ++ cross x.minus y.minus; minus = cross x.plus y.minus ++ cross x.minus y.plus }
+spread (a ⊠ b) =
+    let x = spread a in
+    let y = spread b in
+    record { plus = cross x.plus y.plus ++ cross x.minus y.minus; minus = cross x.plus y.minus ++ cross x.minus y.plus }
 
 abbrev pub Agree : Expr → Expr → Type 0
 Agree a b = sort ((spread a).plus ++ (spread b).minus) ≡ sort ((spread b).plus ++ (spread a).minus)
@@ -119,7 +122,9 @@ module _ {A : Type 0} (R : Ring A) where
 
   mono-ins : (ρ : List A) (k : ℕ) (m : List ℕ) → mono ρ (ins k m) ≡ at ρ k ⊗ mono ρ m
   mono-ins ρ k [] = refl
-  mono-ins ρ k (j ∷ m) = either (mono ρ) (leb k j) (k ∷ (j ∷ m)) (j ∷ ins k m) (at ρ k ⊗ (at ρ j ⊗ mono ρ m)) refl (ap (λ x. at ρ j ⊗ x) (mono-ins ρ k m) ∙ Rings.mul_left_comm R _ _ _)
+  mono-ins ρ k (j ∷ m) =
+      either (mono ρ) (leb k j) (k ∷ (j ∷ m)) (j ∷ ins k m) (at ρ k ⊗ (at ρ j ⊗ mono ρ m)) refl
+      (ap (λ x. at ρ j ⊗ x) (mono-ins ρ k m) ∙ Rings.mul_left_comm R _ _ _)
 
   mono-mul : (ρ : List A) (m n : List ℕ) → mono ρ (mul_mono m n) ≡ mono ρ m ⊗ mono ρ n
   mono-mul ρ [] n = sym (Rings.one-mul R _)
@@ -127,7 +132,9 @@ module _ {A : Type 0} (R : Ring A) where
 
   total-put : (ρ : List A) (m : List ℕ) (p : List (List ℕ)) → total ρ (put m p) ≡ mono ρ m ⊕ total ρ p
   total-put ρ m [] = refl
-  total-put ρ m (n ∷ p) = either (total ρ) (lex_le m n) (m ∷ (n ∷ p)) (n ∷ put m p) (mono ρ m ⊕ (mono ρ n ⊕ total ρ p)) refl (ap (λ x. mono ρ n ⊕ x) (total-put ρ m p) ∙ Rings.add_left_comm R _ _ _)
+  total-put ρ m (n ∷ p) =
+      either (total ρ) (lex_le m n) (m ∷ (n ∷ p)) (n ∷ put m p) (mono ρ m ⊕ (mono ρ n ⊕ total ρ p)) refl
+      (ap (λ x. mono ρ n ⊕ x) (total-put ρ m p) ∙ Rings.add_left_comm R _ _ _)
 
   total-sort : (ρ : List A) (p : List (List ℕ)) → total ρ (sort p) ≡ total ρ p
   total-sort ρ [] = refl
@@ -161,7 +168,8 @@ module _ {A : Type 0} (R : Ring A) where
   sound ρ (a ⊞ b) = let x = spread a in let y = spread b in
       ap₂ (λ p q. p ⊕ neg q) (total-append ρ x.plus y.plus) (total-append ρ x.minus y.minus) ∙ sound_add _ _ _ _ ∙ ap₂ ◌⊕◌ (sound ρ a) (sound ρ b)
   sound ρ (a ⊟ b) = let x = spread a in let y = spread b in
-      ap₂ (λ p q. p ⊕ neg q) (total-append ρ x.plus y.minus) (total-append ρ x.minus y.plus) ∙ sound_add _ _ _ _ ∙ ap₂ ◌⊕◌ (sound ρ a) (sound_neg _ _ ∙ ap neg (sound ρ b))
+      ap₂ (λ p q. p ⊕ neg q) (total-append ρ x.plus y.minus) (total-append ρ x.minus y.plus) ∙ sound_add _ _ _ _
+      ∙ ap₂ ◌⊕◌ (sound ρ a) (sound_neg _ _ ∙ ap neg (sound ρ b))
   sound ρ (⊝ a) = sound_neg _ _ ∙ ap neg (sound ρ a)
   sound ρ (a ⊠ b) = let x = spread a in let y = spread b in
       ap₂ (λ p q. p ⊕ neg q)
@@ -172,8 +180,14 @@ module _ {A : Type 0} (R : Ring A) where
   -- two differences are equal where the crossed sums are
   crossed : (a b c d : A) → a ⊕ d ≡ c ⊕ b → a ⊕ neg b ≡ c ⊕ neg d
   crossed a b c d e =
-      let p : (a ⊕ neg b) ≡ (a ⊕ d) ⊕ (neg b ⊕ neg d) = sym (R.add_assoc a d (neg b ⊕ neg d) ∙ ap (λ x. a ⊕ x) (Rings.add_left_comm R d (neg b) (neg d) ∙ ap (λ x. neg b ⊕ x) (R.add_neg d) ∙ R.add_zero (neg b))) in
-      let q : (c ⊕ neg d) ≡ (c ⊕ b) ⊕ (neg b ⊕ neg d) = sym (R.add_assoc c b (neg b ⊕ neg d) ∙ ap (λ x. c ⊕ x) (sym (R.add_assoc b (neg b) (neg d)) ∙ ap (λ x. x ⊕ neg d) (R.add_neg b) ∙ Rings.zero-add R (neg d))) in
+      let p : (a ⊕ neg b) ≡ (a ⊕ d) ⊕ (neg b ⊕ neg d) =
+      sym (R.add_assoc a d (neg b ⊕ neg d)
+      ∙ ap (λ x. a ⊕ x)
+      (Rings.add_left_comm R d (neg b) (neg d) ∙ ap (λ x. neg b ⊕ x) (R.add_neg d) ∙ R.add_zero (neg b))) in
+      let q : (c ⊕ neg d) ≡ (c ⊕ b) ⊕ (neg b ⊕ neg d) =
+      sym (R.add_assoc c b (neg b ⊕ neg d)
+      ∙ ap (λ x. c ⊕ x)
+      (sym (R.add_assoc b (neg b) (neg d)) ∙ ap (λ x. x ⊕ neg d) (R.add_neg b) ∙ Rings.zero-add R (neg d))) in
       p ∙ ap (λ x. x ⊕ (neg b ⊕ neg d)) e ∙ sym q
 
   pub solve : (ρ : List A) (a b : Expr) → Agree a b → ev ρ a ≡ ev ρ b
@@ -181,7 +195,8 @@ module _ {A : Type 0} (R : Ring A) where
       let x = spread a in
       let y = spread b in
       let s : total ρ x.plus ⊕ total ρ y.minus ≡ total ρ y.plus ⊕ total ρ x.minus =
-      sym (total-append ρ x.plus y.minus) ∙ sym (total-sort ρ (x.plus ++ y.minus)) ∙ ap (total ρ) e ∙ total-sort ρ (y.plus ++ x.minus) ∙ total-append ρ y.plus x.minus in
+      sym (total-append ρ x.plus y.minus) ∙ sym (total-sort ρ (x.plus ++ y.minus)) ∙ ap (total ρ) e
+      ∙ total-sort ρ (y.plus ++ x.minus) ∙ total-append ρ y.plus x.minus in
       sym (sound ρ a) ∙ crossed (total ρ x.plus) (total ρ x.minus) (total ρ y.plus) (total ρ y.minus) s ∙ sound ρ b
 
   -- the same, by the equation of `p` and `q` times `c`

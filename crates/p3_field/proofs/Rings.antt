@@ -25,7 +25,10 @@ module _ {A : Type 0} (R : Ring A) where
   -- what is added on both sides can go
   pub add_cancel : (c a b : A) → c ⊕ a ≡ c ⊕ b → a ≡ b
   add_cancel c a b e =
-      let back = λ (x : A). (let z : neg c ⊕ (c ⊕ x) ≡ x = sym (R.add_assoc (neg c) c x) ∙ ap (λ y. y ⊕ x) (R.add_comm (neg c) c ∙ R.add_neg c) ∙ zero-add x in z) in
+      let back =
+      λ (x : A). (let z : neg c ⊕ (c ⊕ x) ≡ x =
+      sym (R.add_assoc (neg c) c x) ∙ ap (λ y. y ⊕ x) (R.add_comm (neg c) c ∙ R.add_neg c) ∙ zero-add x in
+      z) in
       sym (back a) ∙ ap (λ x. neg c ⊕ x) e ∙ back b
 
   pub neg_unique : (a b : A) → a ⊕ b ≡ 𝟘 → b ≡ neg a
@@ -40,7 +43,8 @@ module _ {A : Type 0} (R : Ring A) where
   pub neg-add : (a b : A) → neg (a ⊕ b) ≡ neg a ⊕ neg b
   neg-add a b =
       sym (neg_unique (a ⊕ b) (neg a ⊕ neg b)
-      (R.add_assoc a b (neg a ⊕ neg b) ∙ ap (λ x. a ⊕ x) (add_left_comm b (neg a) (neg b) ∙ ap (λ x. neg a ⊕ x) (R.add_neg b) ∙ R.add_zero (neg a)) ∙ R.add_neg a))
+      (R.add_assoc a b (neg a ⊕ neg b) ∙ ap (λ x. a ⊕ x) (add_left_comm b (neg a) (neg b) ∙ ap (λ x. neg a ⊕ x)
+      (R.add_neg b) ∙ R.add_zero (neg a)) ∙ R.add_neg a))
 
   pub mul-zero : (a : A) → a ⊗ 𝟘 ≡ 𝟘
   mul-zero a = add_cancel (a ⊗ 𝟘) (a ⊗ 𝟘) 𝟘 (sym (R.mul_add a 𝟘 𝟘) ∙ ap (λ x. a ⊗ x) (R.add_zero 𝟘) ∙ sym (R.add_zero (a ⊗ 𝟘)))

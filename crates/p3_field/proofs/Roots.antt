@@ -28,7 +28,9 @@ module _ {A : Type 0} (R : Ring A) {g : ℕ → A} {bits : ℕ} (G : AreRoots R 
 
   pub root_half : (n : ℕ) → n < bits → power R (g (suc n)) (2 ^ n) ≡ neg 𝟙
   root_half zero b = power-one R _ ∙ G.second
-  root_half (suc n) b = let e : 2 ^ suc n ≡ 2 * 2 ^ n = omega arith in ap (power R (g (suc (suc n)))) e ∙ root_twice (suc n) (2 ^ n) b ∙ root_half n (omega arith)
+  root_half (suc n) b =
+      let e : 2 ^ suc n ≡ 2 * 2 ^ n = omega arith in
+      ap (power R (g (suc (suc n)))) e ∙ root_twice (suc n) (2 ^ n) b ∙ root_half n (omega arith)
 
   pub root_whole : (n : ℕ) → n ≤ bits → power R (g n) (2 ^ n) ≡ 𝟙
   root_whole zero b = power-one R _ ∙ G.first
@@ -55,7 +57,9 @@ module _ {A : Type 0} (R : Ring A) {g : ℕ → A} {bits : ℕ} (G : AreRoots R 
   root_squared n t b = sym (power_of_product R _ _ t) ∙ ap (λ x. power R x t) (G.square n b)
 
   pub root_all : (n t : ℕ) → n ≤ bits → power R (g n) (t * 2 ^ n) ≡ 𝟙
-  root_all n t b = let e : t * 2 ^ n ≡ 2 ^ n * t = omega arith in ap (power R (g n)) e ∙ power-mul R (g n) (2 ^ n) t ∙ ap (λ x. power R x t) (root_whole n b) ∙ power_of_one R t
+  root_all n t b =
+      let e : t * 2 ^ n ≡ 2 ^ n * t = omega arith in
+      ap (power R (g n)) e ∙ power-mul R (g n) (2 ^ n) t ∙ ap (λ x. power R x t) (root_whole n b) ∙ power_of_one R t
 
   -- ---- the inverse roots
   pub inverse_roots : AreRoots R bits (inverse_root R g)
@@ -121,4 +125,5 @@ module _ {A : Type 0} (R : Ring A) where
   unfolding halved doubled
   halved-doubled zero a = ap (λ x. x ⊗ a) (power-zero R R.half) ∙ Rings.one-mul R a
   halved-doubled (suc n) a =
-      ap (λ x. x ⊗ doubled n (a ⊕ a)) (power-suc R R.half n) ∙ R.mul_assoc R.half (power R R.half n) (doubled n (a ⊕ a)) ∙ ap (λ x. R.half ⊗ x) (halved-doubled n (a ⊕ a)) ∙ Rings.half-double R a
+      ap (λ x. x ⊗ doubled n (a ⊕ a)) (power-suc R R.half n) ∙ R.mul_assoc R.half (power R R.half n) (doubled n (a ⊕ a))
+      ∙ ap (λ x. R.half ⊗ x) (halved-doubled n (a ⊕ a)) ∙ Rings.half-double R a

@@ -1,5 +1,6 @@
 -- Lanes of 32 bits, two by two, as lanes of 64 bits and back: a vector's bytes are read in the other width.
-use Rattle.std.proofs.Common.{◌≡◌, ℕ, zero, suc, ◌+◌, ◌*◌, ◌/◌, ◌%◌, ◌<◌, ◌≤◌, ◌^◌, List, [], ◌∷◌, ◌++◌, length, map, replicate, get_or, refl, sym, ap, ◌∙◌, subst, arith, pow-suc, lit<}
+use Rattle.std.proofs.Common.{◌≡◌, ℕ, zero, suc, ◌+◌, ◌*◌, ◌/◌, ◌%◌, ◌<◌, ◌≤◌, ◌^◌, List, [], ◌∷◌, ◌++◌, length, map}
+use Rattle.std.proofs.Common.{replicate, get_or, refl, sym, ap, ◌∙◌, subst, arith, pow-suc, lit<}
 use Rattle.std.proofs.Math.Nat.{div-add-mod', div-lt_iff_lt-mul, mod-eq_of_lt, mul-le-mul, pow-zero}
 use Rattle.std.proofs.lemmas.Nat.{and_mask, pow-add}
 use Rattle.std.proofs.lemmas.List.{length-map}
@@ -148,13 +149,19 @@ upper_places k i zero = []
 upper_places k i (suc n) = (i + 1) ∷ (k + i + 1) ∷ upper_places k (i + 2) n
 
 -- That these are the right places is seen by computing, at each width.
-pub upper_halves_of_lanes : (n q : ℕ) (xs : List ℕ) → q < 4294967296 → length xs ≡ twice n → Each1 (Fits w32) xs → length (pick_l 0 (xs ++ xs) (odd_lanes 0 n)) ≡ twice n
+pub upper_halves_of_lanes : (n q : ℕ) (xs : List ℕ) → q < 4294967296 → length xs ≡ twice n → Each1 (Fits w32) xs
+    → length (pick_l 0 (xs ++ xs) (odd_lanes 0 n)) ≡ twice n
     → (let ys = entries (twice n) xs 0 in
     pick_l 0 (even_products q ys ++ even_products q (pick_l 0 (ys ++ ys) (odd_lanes 0 n))) (upper_places (twice n) 0 n) ≡ map (λ x. x * q / 4294967296) ys)
-    → pick_l 0 (products_of_words n q xs ++ products_of_words n q (pick_l 0 (xs ++ xs) (odd_lanes 0 n))) (upper_places (twice n) 0 n) ≡ map (λ x. x * q / 4294967296) xs
+    → pick_l 0 (products_of_words n q xs ++ products_of_words n q (pick_l 0 (xs ++ xs) (odd_lanes 0 n)))
+    (upper_places (twice n) 0 n)
+    ≡ map (λ x. x * q / 4294967296) xs
 upper_halves_of_lanes n q xs factor long fits long_odd computed =
     (λ i. pick_l 0 (products_of_words_are n q xs factor long fits i
-    ++ products_of_words_are n q (pick_l 0 (xs ++ xs) (odd_lanes 0 n)) factor long_odd (picked_fit (xs ++ xs) (odd_lanes 0 n) (each_joined (Fits w32) xs xs fits fits)) i)
+    ++ products_of_words_are n q (pick_l 0 (xs ++ xs) (odd_lanes 0 n)) factor long_odd
+    (picked_fit (xs ++ xs) (odd_lanes 0 n) (each_joined (Fits w32) xs xs fits fits)) i)
     (upper_places (twice n) 0 n))
-    ∙ subst (λ ys. pick_l 0 (even_products q ys ++ even_products q (pick_l 0 (ys ++ ys) (odd_lanes 0 n))) (upper_places (twice n) 0 n) ≡ map (λ x. x * q / 4294967296) ys)
+    ∙ subst (λ ys. pick_l 0 (even_products q ys ++ even_products q (pick_l 0 (ys ++ ys) (odd_lanes 0 n)))
+    (upper_places (twice n) 0 n)
+    ≡ map (λ x. x * q / 4294967296) ys)
     (sym (all_entries (twice n) xs 0 long)) computed

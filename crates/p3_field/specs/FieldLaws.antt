@@ -37,7 +37,8 @@ module _ {A : Type 0} (r : Ring A) where
   repeated_square-suc x (suc n) = repeated_square-suc (r.mul x x) n
 
   -- the squarings of a root, from the last one on
-  pub roots_law : (root : A) (bits : ℕ) → repeated_square r root (bits - 0) ≡ r.one → repeated_square r root (bits - 1) ≡ r.neg r.one → AreRoots r bits (λ i. repeated_square r root (bits - i))
+  pub roots_law : (root : A) (bits : ℕ) → repeated_square r root (bits - 0) ≡ r.one
+      → repeated_square r root (bits - 1) ≡ r.neg r.one → AreRoots r bits (λ i. repeated_square r root (bits - i))
   roots_law root bits one minus_one = record {
     first = one;
     second = minus_one;
@@ -47,7 +48,8 @@ module _ {A : Type 0} (r : Ring A) where
   }
 
 -- the order of a field depends on values alone, by the laws of Ord and by eq_law of Field
-module _ {X E : Type 0} (value : X → E) (eq : X → X → Bool) (cmp : X → X → Ordering) (total : IsTotalOrder cmp) (matches_eq : (x y : X) → eq x y ≡ is_eq (cmp x y)) (same : (x y : X) → IsTrue (eq x y) ↔ (value x ≡ value y)) where
+module _ {X E : Type 0} (value : X → E) (eq : X → X → Bool) (cmp : X → X → Ordering) (total : IsTotalOrder cmp)
+    (matches_eq : (x y : X) → eq x y ≡ is_eq (cmp x y)) (same : (x y : X) → IsTrue (eq x y) ↔ (value x ≡ value y)) where
   tied : (x y : X) → value x ≡ value y → cmp x y ≡ Equal
   tied x y e = (Equal-is (cmp x y)).0 (sym (matches_eq x y) ∙ (same x y).1 e)
 

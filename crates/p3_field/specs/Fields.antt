@@ -16,7 +16,8 @@ pub record FieldNumbers : Type 0 where
   pub some : 1 ≤ two_adicity
   pub root : Residue modulus
   pub ends : repeated_square (residues modulus above odd) root two_adicity ≡ (residues modulus above odd).one
-  pub ends_at_minus_one : repeated_square (residues modulus above odd) root (two_adicity - 1) ≡ (residues modulus above odd).neg (residues modulus above odd).one
+  pub ends_at_minus_one : repeated_square (residues modulus above odd) root (two_adicity - 1)
+      ≡ (residues modulus above odd).neg (residues modulus above odd).one
 
 module _ (f : FieldNumbers) where
   abbrev pub field_ring : Ring (Residue f.modulus)

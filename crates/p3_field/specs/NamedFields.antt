@@ -32,16 +32,20 @@ goldilocks = goldilocks_members scalar_row (copied scalar_row) (copied_dict scal
 abbrev pub wide_goldilocks : FieldMembers (GoldilocksIn VectorLanes)
 wide_goldilocks = goldilocks_members vector_row (copied vector_row) (copied_dict vector_row)
 
-abbrev pub wide_baby_bear : FieldMembers (Residue31 (SixteenLanes BabyBearNumbers) (sixteen_members baby_bear_row baby_bear_members baby_bear_dict (copied baby_bear_row) (copied_dict baby_bear_row)))
+abbrev pub wide_baby_bear : FieldMembers (Residue31 (SixteenLanes BabyBearNumbers) (sixteen_members baby_bear_row
+    baby_bear_members baby_bear_dict (copied baby_bear_row) (copied_dict baby_bear_row)))
 wide_baby_bear =
-    residue31_members (sixteen_row baby_bear_row) (sixteen_members baby_bear_row baby_bear_members baby_bear_dict (copied baby_bear_row) (copied_dict baby_bear_row))
+    residue31_members (sixteen_row baby_bear_row) (sixteen_members baby_bear_row baby_bear_members baby_bear_dict
+    (copied baby_bear_row) (copied_dict baby_bear_row))
     (sixteen_dict baby_bear_row baby_bear_members baby_bear_dict (copied baby_bear_row) (copied_dict baby_bear_row))
     (sixteen_clone baby_bear_row baby_bear_members baby_bear_dict (copied baby_bear_row) (copied_dict baby_bear_row))
     (sixteen_clone_dict baby_bear_row baby_bear_members baby_bear_dict (copied baby_bear_row) (copied_dict baby_bear_row))
 
-abbrev pub wide_koala_bear : FieldMembers (Residue31 (SixteenLanes KoalaBearNumbers) (sixteen_members koala_bear_row koala_bear_members koala_bear_dict (copied koala_bear_row) (copied_dict koala_bear_row)))
+abbrev pub wide_koala_bear : FieldMembers (Residue31 (SixteenLanes KoalaBearNumbers) (sixteen_members koala_bear_row
+    koala_bear_members koala_bear_dict (copied koala_bear_row) (copied_dict koala_bear_row)))
 wide_koala_bear =
-    residue31_members (sixteen_row koala_bear_row) (sixteen_members koala_bear_row koala_bear_members koala_bear_dict (copied koala_bear_row) (copied_dict koala_bear_row))
+    residue31_members (sixteen_row koala_bear_row) (sixteen_members koala_bear_row koala_bear_members koala_bear_dict
+    (copied koala_bear_row) (copied_dict koala_bear_row))
     (sixteen_dict koala_bear_row koala_bear_members koala_bear_dict (copied koala_bear_row) (copied_dict koala_bear_row))
     (sixteen_clone koala_bear_row koala_bear_members koala_bear_dict (copied koala_bear_row) (copied_dict koala_bear_row))
     (sixteen_clone_dict koala_bear_row koala_bear_members koala_bear_dict (copied koala_bear_row) (copied_dict koala_bear_row))

@@ -1,6 +1,7 @@
 -- Proofs, and no definitions: the laws of sums and products modulo a number, from which the ring of residues is made.
 use Rattle.std.proofs.Common.{◌≡◌, ℕ, ◌+◌, ◌-◌, ◌*◌, ◌/◌, ◌%◌, ◌<◌, sym, ◌∙◌, ap, arith, add_assoc, add-zero}
-use Rattle.std.proofs.Math.Nat.{mod-add-mod, add-mod-mod, add-mod, mod-mod, add_comm, mul_assoc, mul_comm, mul-add, mul-one, mod-eq_of_lt, mod_self, add-mul-mod_self_left}
+use Rattle.std.proofs.Math.Nat.{mod-add-mod, add-mod-mod, add-mod, mod-mod, add_comm, mul_assoc, mul_comm, mul-add}
+use Rattle.std.proofs.Math.Nat.{mul-one, mod-eq_of_lt, mod_self, add-mul-mod_self_left}
 use Rattle.std.proofs.lemmas.Nat.{mul-mod}
 
 module _ (m : ℕ) where

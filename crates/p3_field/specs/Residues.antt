@@ -3,7 +3,8 @@ use Rattle.std.proofs.Common.{◌≡◌, ℕ, ◌+◌, ◌-◌, ◌*◌, ◌/◌
 use Rattle.std.proofs.Math.Nat.{mod-lt}
 use Rattle.std.proofs.Math.Bridge.{le_prop}
 use Rattle.p3_field.specs.Ring.{Ring}
-use Rattle.p3_field.specs.ResidueLaws.{add_assoc-mod, add_comm-mod, add_zero-mod, add_neg-mod, mul_assoc-mod, mul_comm-mod, mul_one-mod, mul_add-mod, half_twice-mod}
+use Rattle.p3_field.specs.ResidueLaws.{add_assoc-mod, add_comm-mod, add_zero-mod, add_neg-mod, mul_assoc-mod}
+use Rattle.p3_field.specs.ResidueLaws.{mul_comm-mod, mul_one-mod, mul_add-mod, half_twice-mod}
 
 -- a number below m
 pub record Residue (m : ℕ) : Type 0 where

@@ -67,8 +67,12 @@ rev-rev zero k l = rev-zero (rev 0 k) ∙ omega arith
 rev-rev (suc n) k l = go (rev-rev n) (even_or_odd k)
   where
     go : ((j : ℕ) → j < 2 ^ n → rev n (rev n j) ≡ j) → ((j : ℕ) × k ≡ 2 * j) ⊎ ((j : ℕ) × k ≡ 2 * j + 1) → rev (suc n) (rev (suc n) k) ≡ k
-    go ih (inl (j, e)) = ap (λ x. rev (suc n) (rev (suc n) x)) e ∙ ap (rev (suc n)) (rev-even n j) ∙ rev-low n (rev n j) (rev-lt n j) ∙ ap (λ x. 2 * x) (ih j (omega arith)) ∙ sym e
-    go ih (inr (j, e)) = ap (λ x. rev (suc n) (rev (suc n) x)) e ∙ ap (rev (suc n)) (rev-odd n j) ∙ rev-high n (rev n j) (rev-lt n j) ∙ ap (λ x. 2 * x + 1) (ih j (omega arith)) ∙ sym e
+    go ih (inl (j, e)) =
+        ap (λ x. rev (suc n) (rev (suc n) x)) e ∙ ap (rev (suc n)) (rev-even n j) ∙ rev-low n (rev n j) (rev-lt n j)
+        ∙ ap (λ x. 2 * x) (ih j (omega arith)) ∙ sym e
+    go ih (inr (j, e)) =
+        ap (λ x. rev (suc n) (rev (suc n) x)) e ∙ ap (rev (suc n)) (rev-odd n j) ∙ rev-high n (rev n j) (rev-lt n j)
+        ∙ ap (λ x. 2 * x + 1) (ih j (omega arith)) ∙ sym e
 
 pub rev_of_zero : (n : ℕ) → rev n 0 ≡ 0
 unfolding rev
@@ -84,5 +88,7 @@ pub reversed_back : {E : Type 0} (n : ℕ) (a b : Matrix E) → b.height ≡ 2 ^
 reversed_back n a b h s = record {
   height = sym s.height;
   width = sym s.width;
-  alike = λ i j p q. sym (s.alike (rev n i) j (omega (arith, s.height, h, rev-lt n i)) (omega (arith, s.width)) ∙ ap (λ k. b.entry k j) (rev-rev n i (omega (arith, h))));
+  alike =
+      λ i j p q. sym (s.alike (rev n i) j (omega (arith, s.height, h, rev-lt n i)) (omega (arith, s.width))
+      ∙ ap (λ k. b.entry k j) (rev-rev n i (omega (arith, h))));
 }

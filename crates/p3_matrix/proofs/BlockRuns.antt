@@ -37,7 +37,8 @@ published_in_order step may_make b m c e made divides run = record {
   run = run;
 }
 
-module _ {A T : Type 0} (value : T → A) (d : T) (m : RowMajor T) (whole : IsRowMajor m) (out : Matrix A) (same : Same (image value (matrix d m)) out) (b : ℕ) (some : 1 ≤ b) where
+module _ {A T : Type 0} (value : T → A) (d : T) (m : RowMajor T) (whole : IsRowMajor m) (out : Matrix A)
+    (same : Same (image value (matrix d m)) out) (b : ℕ) (some : 1 ≤ b) where
   -- block q of a stored matrix has the values of these rows
   pub is_block : (q : ℕ) → q < height m / b → IsBlockOf (λ r. image value (matrix d r)) b out (block b m q)
   is_block q l =
@@ -46,7 +47,8 @@ module _ {A T : Type 0} (value : T → A) (d : T) (m : RowMajor T) (whole : IsRo
       let fits : (q * b) * w + b * w ≤ length m.values = rows_within (q * b) b (height m) w (length m.values) room whole.full in
       let gap : ((q * b) * w + b * w) - (q * b) * w ≡ b * w = omega arith in
       let size : length (take (((q * b) * w + b * w) - (q * b) * w) (drop ((q * b) * w) m.values)) ≡ b * w = search (rules, places) in
-      let tall : length (take (((q * b) * w + b * w) - (q * b) * w) (drop ((q * b) * w) m.values)) / w ≡ b = ap (λ n. n / w) size ∙ mul-div_cancel b whole.width in
+      let tall : length (take (((q * b) * w + b * w) - (q * b) * w) (drop ((q * b) * w) m.values)) / w ≡ b =
+      ap (λ n. n / w) size ∙ mul-div_cancel b whole.width in
       record {
         multiple = mul-mod_left q b;
         within = omega (arith, room, some, same.height);
@@ -57,7 +59,9 @@ module _ {A T : Type 0} (value : T → A) (d : T) (m : RowMajor T) (whole : IsRo
           alike = λ i j in_rows in_row.
               let low : i < b = omega (arith, in_rows, tall) in
               let inside : i * w + j < b * w = omega (arith, mul-add-lt i w j b low in_row) in
-              let e : get_or (take (((q * b) * w + b * w) - (q * b) * w) (drop ((q * b) * w) m.values)) (i * w + j) d ≡ get_or m.values ((q * b) * w + (i * w + j)) d = search (rules, places) in
+              let e : get_or (take (((q * b) * w + b * w) - (q * b) * w) (drop ((q * b) * w) m.values)) (i * w + j) d
+              ≡ get_or m.values ((q * b) * w + (i * w + j)) d =
+              search (rules, places) in
               let place : (q * b) * w + (i * w + j) ≡ (q * b + i) * w + j = omega (arith, add-mul (q * b) i w) in
               ap value (e ∙ ap (λ n. get_or m.values n d) place) ∙ same.alike (q * b + i) j (omega (arith, room, low)) in_row;
         };
@@ -70,14 +74,21 @@ module _ {A T : Type 0} (value : T → A) (d : T) (m : RowMajor T) (whole : IsRo
       record {
         each = λ q e inside.
             let l : q < n = omega (arith, inside, size) in
-            subst (IsBlockOf (λ r. image value (matrix d r)) b out) (sym (get_or-map-range_with_len (block b m) 0 n q q e l (omega arith))) (is_block q (omega (arith, l, most)));
+            subst (IsBlockOf (λ r. image value (matrix d r)) b out)
+            (sym (get_or-map-range_with_len (block b m) 0 n q q e l (omega arith)))
+            (is_block q (omega (arith, l, most)));
         distinct = λ i j e before inside.
             let l : j < n = omega (arith, inside, size) in
-            rw (get_or-map-range_with_len (block b m) 0 n i i e (omega (arith, l, before)) (omega arith), get_or-map-range_with_len (block b m) 0 n j j e l (omega arith)) (starts_differ i j b some before);
+            rw (
+              get_or-map-range_with_len (block b m) 0 n i i e (omega (arith, l, before)) (omega arith),
+              get_or-map-range_with_len (block b m) 0 n j j e l (omega arith),
+            ) (starts_differ i j b some before);
       }
 
   -- the first blocks, until one is refused
-  pub refused_in_order : {C R : Type 0} (step : C → ℕ → RowMajor T → Result ⊤ R → C → Type 0) (may_make : C → Type 0) (c e : C) (refusal : R) (q : ℕ) → q < height m / b
+  pub refused_in_order : {C R : Type 0} (step : C → ℕ → RowMajor T → Result ⊤ R → C → Type 0) (may_make : C → Type 0)
+      (c e : C) (refusal : R) (q : ℕ)
+      → q < height m / b
       → may_make c → RunToRefusal step c (first_blocks b m q) (block b m q) refusal e → IsRefused step may_make (λ r. image value (matrix d r)) b out e refusal
   refused_in_order step may_make c e refusal q l made run = record {
     first = c;

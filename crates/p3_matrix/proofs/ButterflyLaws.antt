@@ -11,4 +11,6 @@ module _ {A : Type 0} (r : Ring A) where
 
   pub scaled_far : (t s p : A) → p ≡ r.mul t s → (x y : A) → minus r (r.mul x s) (r.mul y p) ≡ scaled_dit_far r t s x y
   scaled_far t s p e x y =
-      ap (λ z. r.add (r.mul x s) z) (ap r.neg (ap (r.mul y) e ∙ sym (r.mul_assoc y t s)) ∙ sym (neg-mul r (r.mul y t) s)) ∙ sym (add-mul r x (r.neg (r.mul y t)) s)
+      ap (λ z. r.add (r.mul x s) z)
+      (ap r.neg (ap (r.mul y) e ∙ sym (r.mul_assoc y t s)) ∙ sym (neg-mul r (r.mul y t) s))
+      ∙ sym (add-mul r x (r.neg (r.mul y t)) s)

@@ -29,7 +29,8 @@ carry_goes_on bits i rest digit l c = go c.m c.j c.here c.place c.below c.next
     positive zero a p = absurd (omega arith)
     positive (suc n) a p = omega arith
 
-    odd : (n a : ℕ) → rest ≡ 2 ^ n + rev n a → digit ≡ 2 ^ n → 2 * a + 1 + 1 < 2 ^ suc n → rev bits (i + 1) ≡ rev (suc n) (2 * a + 1 + 1) → IsCarry bits i (rest - digit) (digit / 2)
+    odd : (n a : ℕ) → rest ≡ 2 ^ n + rev n a → digit ≡ 2 ^ n → 2 * a + 1 + 1 < 2 ^ suc n
+        → rev bits (i + 1) ≡ rev (suc n) (2 * a + 1 + 1) → IsCarry bits i (rest - digit) (digit / 2)
     odd n a e d b x =
         let under : a + 1 < 2 ^ n = omega arith in
         let twice : 2 * a + 1 + 1 ≡ 2 * (a + 1) = omega arith in
@@ -42,7 +43,9 @@ carry_goes_on bits i rest digit l c = go c.m c.j c.here c.place c.below c.next
           next = x ∙ ap (rev (suc n)) twice ∙ rev-even n (a + 1);
         }
 
-    parts : (n j : ℕ) → rest ≡ rev (suc n) j → digit ≡ 2 ^ n → j + 1 < 2 ^ suc n → rev bits (i + 1) ≡ rev (suc n) (j + 1) → ((a : ℕ) × j ≡ 2 * a) ⊎ ((a : ℕ) × j ≡ 2 * a + 1) → IsCarry bits i (rest - digit) (digit / 2)
+    parts : (n j : ℕ) → rest ≡ rev (suc n) j → digit ≡ 2 ^ n → j + 1 < 2 ^ suc n
+        → rev bits (i + 1) ≡ rev (suc n) (j + 1) → ((a : ℕ) × j ≡ 2 * a) ⊎ ((a : ℕ) × j ≡ 2 * a + 1)
+        → IsCarry bits i (rest - digit) (digit / 2)
     parts n j e d b x (inl (a, is)) = let f = e ∙ ap (rev (suc n)) is ∙ rev-even n a in absurd (omega (arith, rev-lt n a))
     parts n j e d b x (inr (a, is)) = odd n a (e ∙ ap (rev (suc n)) is ∙ rev-odd n a) d (omega arith) (x ∙ ap (λ y. rev (suc n) (y + 1)) is)
 
@@ -58,7 +61,8 @@ carry_ends bits i rest digit l c = go c.m c.j c.here c.place c.below c.next
     stop n d (inl z) = absurd (omega (arith, rev-lt n 0))
     stop n d (inr l) = l
 
-    parts : (n j : ℕ) → rest ≡ rev (suc n) j → digit ≡ 2 ^ n → rev bits (i + 1) ≡ rev (suc n) (j + 1) → ((a : ℕ) × j ≡ 2 * a) ⊎ ((a : ℕ) × j ≡ 2 * a + 1) → rest + digit ≡ rev bits (i + 1)
+    parts : (n j : ℕ) → rest ≡ rev (suc n) j → digit ≡ 2 ^ n → rev bits (i + 1) ≡ rev (suc n) (j + 1)
+        → ((a : ℕ) × j ≡ 2 * a) ⊎ ((a : ℕ) × j ≡ 2 * a + 1) → rest + digit ≡ rev bits (i + 1)
     parts n j e d x (inl (a, is)) =
         let f = e ∙ ap (rev (suc n)) is ∙ rev-even n a in
         let g = x ∙ ap (λ y. rev (suc n) (y + 1)) is ∙ rev-odd n a in

@@ -1,5 +1,7 @@
 -- What a caller knows of its consumer after an extension with blocks: that one which never refuses was not refused with, and what those of this crate hold.
-use Rattle.std.proofs.Common.{◌≡◌, ℕ, zero, suc, ◌+◌, ◌*◌, ◌-◌, ◌/◌, ◌%◌, ◌<◌, ◌≤◌, ◌⊎◌, inl, inr, List, [], ◌∷◌, ◌++◌, length, take, drop, map, true, false, Result, Ok, Err, refl, sym, ap, ap₂, ◌∙◌, subst, arith, rules, add-one, get_or, ⊎_elim}
+use Rattle.std.proofs.Common.{◌≡◌, ℕ, zero, suc, ◌+◌, ◌*◌, ◌-◌, ◌/◌, ◌%◌, ◌<◌, ◌≤◌, ◌⊎◌, inl, inr, List, [], ◌∷◌, ◌++◌}
+use Rattle.std.proofs.Common.{length, take, drop, map, true, false, Result, Ok, Err, refl, sym, ap, ap₂, ◌∙◌, subst}
+use Rattle.std.proofs.Common.{arith, rules, add-one, get_or, ⊎_elim}
 use Rattle.std.specs.List.{All, Contains, list_any, sum_by}
 use Rattle.std.specs.Prelude.{⊤}
 use Rattle.std.proofs.Math.Dec.{eqb}
@@ -25,7 +27,8 @@ use Rattle.p3_matrix.proofs.RowMajor.{rows_within}
 use Rattle.p3_matrix.specs.declared.blocks.BlockRefused.{BlockRefused}
 
 -- a consumer that refuses no block was not refused with
-pub never_refused : {C T R A : Type 0} (step : C → ℕ → RowMajor T → Result ⊤ R → C → Type 0) (may_make : C → Type 0) (values : RowMajor T → Matrix A) (b : ℕ) (out : Matrix A) (last : C) (refusal : R)
+pub never_refused : {C T R A : Type 0} (step : C → ℕ → RowMajor T → Result ⊤ R → C → Type 0) (may_make : C → Type 0)
+    (values : RowMajor T → Matrix A) (b : ℕ) (out : Matrix A) (last : C) (refusal : R)
     → ((c : C) (start : ℕ) (rows : RowMajor T) (r : R) (e : C) → step c start rows (Err r) e → ⊥) → IsRefused step may_make values b out last refusal → ⊥
 never_refused step may_make values b out last refusal never x = never x.run.middle x.refused.0 x.refused.1 refusal last x.run.stop
 
@@ -57,7 +60,8 @@ within_blocks zero h i divides below = absurd (omega (arith, mod-zero h, divides
 within_blocks (suc b) h i divides below = (div-lt_iff_lt-mul (omega arith)).1 (omega (arith, div-add-mod' h (suc b), divides, below))
 
 module _ {C T R : Type 0} (step : C → ℕ → RowMajor T → Result ⊤ R → C → Type 0) (IsRight : C → Type 0) (Has : ℕ → C → Type 0) (b : ℕ) (m : RowMajor T)
-    (next : (q : ℕ) (c e : C) → q < height m / b → IsRight c → step c (q * b) (rows_from m (q * b) b) (Ok tt) e → IsRight e × ((p : ℕ) → p < height m / b → (p ≡ q) ⊎ Has p c → Has p e)) where
+    (next : (q : ℕ) (c e : C) → q < height m / b → IsRight c → step c (q * b) (rows_from m (q * b) b) (Ok tt) e
+    → IsRight e × ((p : ℕ) → p < height m / b → (p ≡ q) ⊎ Has p c → Has p e)) where
   abbrev IsBlock : ℕ × RowMajor T → Type 0
   IsBlock p = (q : ℕ) × (q < height m / b) × (block b m q ≡ p)
 
@@ -75,7 +79,8 @@ module _ {C T R : Type 0} (step : C → ℕ → RowMajor T → Result ⊤ R → 
             (λ inside. at q low is one.1 rest.1 p below inside),
       )
     where
-      at : (q : ℕ) → q < height m / b → block b m q ≡ x → ((p : ℕ) → p < height m / b → (p ≡ q) ⊎ Has p c → Has p d) → ((p : ℕ) → p < height m / b → Has p d ⊎ Contains xs (block b m p) → Has p e)
+      at : (q : ℕ) → q < height m / b → block b m q ≡ x → ((p : ℕ) → p < height m / b → (p ≡ q) ⊎ Has p c → Has p d)
+          → ((p : ℕ) → p < height m / b → Has p d ⊎ Contains xs (block b m p) → Has p e)
           → (p : ℕ) → p < height m / b → Contains (x ∷ xs) (block b m p) → Has p e
       at q low is one rest p below (zero, inside, found) =
           let some = divisor b (height m) q low in
@@ -116,14 +121,24 @@ module _ {T : Type 0} where
   partition_size b m blocks parts =
       let n = height m / b in
       let same : n * (b * m.width) ≡ (n * b) * m.width = sym (mul_assoc n b m.width) in
-      omega (arith, sum_by-IsPermutation size (first_blocks b m n) blocks parts.each_once, blocks_size b m n, same, mul-le-mul_right m.width (div-mul-le_self (height m) b))
+      omega (
+        arith,
+        sum_by-IsPermutation size (first_blocks b m n) blocks parts.each_once,
+        blocks_size b m n,
+        same,
+        mul-le-mul_right m.width (div-mul-le_self (height m) b),
+      )
 
   -- a partition has as many blocks as fit the height
   pub partition_length : (b : ℕ) (m : RowMajor T) (blocks : List (ℕ × RowMajor T)) → IsPartition b m blocks → length blocks ≡ height m / b
-  partition_length b m blocks parts = length_permutation (first_blocks b m (height m / b)) blocks parts.each_once ∙ length-map-range_with_len (block b m) 0 (height m / b)
+  partition_length b m blocks parts =
+      length_permutation (first_blocks b m (height m / b)) blocks parts.each_once
+      ∙ length-map-range_with_len (block b m) 0 (height m / b)
 
   -- a recorder with room for all blocks of a list keeps them behind the others, and misses none
-  recorded : (blocks : List (ℕ × RowMajor T)) (c e : Recording T) → length blocks ≤ c.blocks_left → sum_by size blocks ≤ c.elements_left → Run (λ x start rows answer y. IsRecorded x start rows answer y) c blocks e
+  recorded : (blocks : List (ℕ × RowMajor T)) (c e : Recording T) → length blocks ≤ c.blocks_left
+      → sum_by size blocks ≤ c.elements_left
+      → Run (λ x start rows answer y. IsRecorded x start rows answer y) c blocks e
       → (e.blocks ≡ c.blocks ++ blocks) × (e.missed ≡ c.missed)
   recorded [] c e many large run = (ap (λ r. r.blocks) (sym run) ∙ sym (append-nil c.blocks), ap (λ r. r.missed) (sym run))
   recorded (p ∷ ps) c e many large (d, step, run) =
@@ -139,12 +154,16 @@ module _ {T : Type 0} where
       → IsPublished (λ c start rows answer e. IsRecorded c start rows answer e) may_make b out last → IsPartition b out last.blocks × (last.missed ≡ false)
   all_recorded may_make b out last blocks elements new many large x =
       let first = new x.first x.made in
-      let all = recorded x.blocks x.first last (rw (first, partition_length b out x.blocks x.parts) many) (rw first (omega (arith, large, partition_size b out x.blocks x.parts))) x.run in
+      let all =
+      recorded x.blocks x.first last (rw (first, partition_length b out x.blocks x.parts) many)
+      (rw first (omega (arith, large, partition_size b out x.blocks x.parts))) x.run in
       let held : last.blocks ≡ x.blocks = all.0 ∙ ap (λ r. r.blocks ++ x.blocks) first in
       (rw held x.parts, all.1 ∙ ap (λ r. r.missed) first)
 
   -- a limit counts each block that it takes
-  counted : (blocks : List (ℕ × RowMajor T)) (c e : Limited) → Run {T = T} (λ x start rows answer y. IsCounted x start answer y) c blocks e → (e.limit ≡ c.limit) × (e.seen ≡ c.seen + length blocks)
+  counted : (blocks : List (ℕ × RowMajor T)) (c e : Limited)
+      → Run {T = T} (λ x start rows answer y. IsCounted x start answer y) c blocks e
+      → (e.limit ≡ c.limit) × (e.seen ≡ c.seen + length blocks)
   counted [] c e run = (ap (λ r. r.limit) (sym run), ap (λ r. r.seen) (sym run) ∙ omega arith)
   counted (p ∷ ps) c e (d, step, run) =
       ⊎_elim
@@ -162,8 +181,11 @@ module _ {T : Type 0} where
       (counted x.blocks x.first last x.run).1 ∙ ap₂ (λ m n. m + n) (new x.first x.made) (partition_length b out x.blocks x.parts) ∙ omega arith
 
   -- one that refused had taken as many as it may, and names a block
-  pub limit_refused : {A : Type 0} (may_make : Limited → Type 0) (values : RowMajor T → Matrix A) (b : ℕ) (out : Matrix A) (last : Limited) (refusal : BlockRefused)
-      → IsRefused {T = T} (λ c start rows answer e. IsCounted c start answer e) may_make values b out last refusal → (last.limit ≤ last.seen) × (refusal.start % b ≡ 0) × (refusal.start < out.height)
+  pub limit_refused : {A : Type 0} (may_make : Limited → Type 0) (values : RowMajor T → Matrix A) (b : ℕ)
+      (out : Matrix A) (last : Limited) (refusal : BlockRefused)
+      → IsRefused {T = T} (λ c start rows answer e. IsCounted c start answer e) may_make values b out last refusal →
+      (last.limit ≤ last.seen)
+      × (refusal.start % b ≡ 0) × (refusal.start < out.height)
   limit_refused may_make values b out last refusal x =
       let middle = x.run.middle in
       let there : length x.accepted < length (x.accepted ++ x.refused ∷ []) = omega (arith, length-append x.accepted (x.refused ∷ [])) in
@@ -177,8 +199,15 @@ module _ {T : Type 0} where
       (cases_lt middle.seen middle.limit)
 
   -- blocks of b rows of m, none twice, are no more than fit
-  blocks_fit : {A : Type 0} (values : RowMajor T → Matrix A) (b : ℕ) (m : Matrix A) (blocks : List (ℕ × RowMajor T)) → 0 < b → m.height % b ≡ 0 → AreBlocksOf values b m blocks → length blocks ≤ m.height / b
-  blocks_fit values b m blocks some divides are = omega (arith, length-map blocks number, length-le_from_distinct_below numbers (m.height / b) (IsDistinct-from_AllPairs {eq = eqb} Decides-eqb numbers distinct) below)
+  blocks_fit : {A : Type 0} (values : RowMajor T → Matrix A) (b : ℕ) (m : Matrix A) (blocks : List (ℕ × RowMajor T))
+      → 0 < b → m.height % b ≡ 0 → AreBlocksOf values b m blocks → length blocks ≤ m.height / b
+  blocks_fit values b m blocks some divides are =
+      omega (
+        arith,
+        length-map blocks number,
+        length-le_from_distinct_below numbers (m.height / b)
+            (IsDistinct-from_AllPairs {eq = eqb} Decides-eqb numbers distinct) below,
+      )
     where
       number : ℕ × RowMajor T → ℕ
       number p = p.0 / b
@@ -209,8 +238,10 @@ module _ {T : Type 0} where
           rw named ((div-lt_iff_lt-mul some).1 low)
 
   -- a limit that took blocks and refused one more, of a matrix that consists of whole blocks: there are more blocks than it may take
-  pub limit_exceeded : {A : Type 0} (may_make : Limited → Type 0) (values : RowMajor T → Matrix A) (b : ℕ) (out : Matrix A) (last : Limited) (refusal : BlockRefused) (limit : ℕ)
-      → IsRefused {T = T} (λ c start rows answer e. IsCounted c start answer e) may_make values b out last refusal → ((c : Limited) → may_make c → (c.limit ≡ limit) × (c.seen ≡ 0))
+  pub limit_exceeded : {A : Type 0} (may_make : Limited → Type 0) (values : RowMajor T → Matrix A) (b : ℕ)
+      (out : Matrix A) (last : Limited) (refusal : BlockRefused) (limit : ℕ)
+      → IsRefused {T = T} (λ c start rows answer e. IsCounted c start answer e) may_make values b out last refusal →
+      ((c : Limited) → may_make c → (c.limit ≡ limit) × (c.seen ≡ 0))
       → (n : ℕ) → out.height ≡ n → 0 < b → n % b ≡ 0 → limit < n / b
   limit_exceeded may_make values b out last refusal limit x new n high some divides =
       let first = new x.first x.made in
@@ -243,7 +274,8 @@ module _ {T : Type 0} (d : T) (xs ws : List T) (a : ℕ) (room : a + length ws �
   elements_behind : (i : ℕ) → a + length ws ≤ i → get_or (with_elements xs a ws) i d ≡ get_or xs i d
   elements_behind i behind = search (rules, places)
 
-module _ {C T R : Type 0} {step : C → ℕ → RowMajor T → Result ⊤ R → C → Type 0} {may_make : C → Type 0} {b : ℕ} {last : C} (m : RowMajor T) (whole : IsRowMajor m) (entries : C → List T)
+module _ {C T R : Type 0} {step : C → ℕ → RowMajor T → Result ⊤ R → C → Type 0} {may_make : C → Type 0} {b : ℕ}
+    {last : C} (m : RowMajor T) (whole : IsRowMajor m) (entries : C → List T)
     (copies : (c : C) (start : ℕ) (rows : RowMajor T) (e : C) → step c start rows (Ok tt) e → IsCopied (entries c) start rows (entries e))
     (new : (c : C) → may_make c → length (entries c) ≡ length m.values) (x : IsPublished step may_make b m last) where
   abbrev IsLong : C → Type 0

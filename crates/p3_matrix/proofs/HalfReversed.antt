@@ -60,7 +60,9 @@ module _ {X : Type 0} (n : ℕ) (number : ℕ → ℕ) (f : ℕ → X) where
           go (inr not_q) (inr not_m) = other p l not_q not_m b
 
       left : (p : ℕ) → p < 2 ^ n → t + 1 ≤ number p → t + 1 ≤ number (rev n p) → g' p ≡ f p
-      left p l a b = s.2 p (λ e. omega (arith, ap number e)) (λ e. omega (arith, ap (λ x. number (rev n x)) e, ap number back)) ∙ h.left p l (omega arith) (omega arith)
+      left p l a b =
+          s.2 p (λ e. omega (arith, ap number e)) (λ e. omega (arith, ap (λ x. number (rev n x)) e, ap number back))
+          ∙ h.left p l (omega arith) (omega arith)
 
   -- the place with number t was exchanged already, or is its own partner
   pub half_reversed_kept : (q t : ℕ) (g : ℕ → X) → AreNumbers n number → q < 2 ^ n → number q ≡ t → number (rev n q) ≤ t
@@ -98,7 +100,10 @@ module _ {X : Type 0} (n : ℕ) (number : ℕ → ℕ) (f : ℕ → X) where
     where
       done : (p : ℕ) → p < 2 ^ n → (number p < u) ⊎ (number (rev n p) < u) → g p ≡ f (rev n p)
       done p l (inl b) = ⊎_elim (λ a. h.done p l (inl a)) (λ a. h.done p l (inr (low p l a b))) (cases_lt (number p) t)
-      done p l (inr b) = ⊎_elim (λ a. h.done p l (inr a)) (λ a. h.done p l (inl (omega (arith, low (rev n p) (rev-lt n p) a b, ap number (rev-rev n p l))))) (cases_lt (number (rev n p)) t)
+      done p l (inr b) =
+          ⊎_elim (λ a. h.done p l (inr a))
+          (λ a. h.done p l (inl (omega (arith, low (rev n p) (rev-lt n p) a b, ap number (rev-rev n p l)))))
+          (cases_lt (number (rev n p)) t)
 
 -- column by column: of 2 ^ n rows of w entries, those with numbers below t and their partners
 abbrev pub IsRowsHalfReversed : {T : Type 0} → ℕ → ℕ → (ℕ → ℕ) → ℕ → List T → List T → Type 0
@@ -115,7 +120,8 @@ module _ {T : Type 0} (w n : ℕ) (number : ℕ → ℕ) (xs : List T) where
   pub rows_half_reversed_more : (q m t : ℕ) (ys zs : List T) → AreNumbers n number → q < 2 ^ n → m ≡ rev n q → number q ≡ t → t < number m
       → IsExchange ys zs (q * w) (m * w) w → IsRowsHalfReversed w n number t xs ys → IsRowsHalfReversed w n number (t + 1) xs zs
   rows_half_reversed_more q m t ys zs apart below e is above x h = λ d c l.
-      half_reversed_more n number (λ r. get_or xs (r * w + c) d) q t (λ r. get_or ys (r * w + c) d) (λ r. get_or zs (r * w + c) d) apart below is (rw e at above) (h d c l)
+      half_reversed_more n number (λ r. get_or xs (r * w + c) d) q t (λ r. get_or ys (r * w + c) d)
+      (λ r. get_or zs (r * w + c) d) apart below is (rw e at above) (h d c l)
       (rw e at (swapped_column ys zs q m w c d x l))
 
   pub rows_half_reversed_kept : (q m t : ℕ) (ys : List T) → AreNumbers n number → q < 2 ^ n → m ≡ rev n q → number q ≡ t → number m ≤ t

@@ -4,7 +4,8 @@ use Rattle.std.proofs.lemmas.List.{length-map}
 use Rattle.p3_field.specs.Lanes.{by_lanes}
 
 module _ {A : Type 0} where
-  pub by_lanes-append : (op : A → A → A) (us bs xs ys : List A) → length us ≡ length bs → by_lanes op (us ++ xs) (bs ++ ys) ≡ by_lanes op us bs ++ by_lanes op xs ys
+  pub by_lanes-append : (op : A → A → A) (us bs xs ys : List A) → length us ≡ length bs
+      → by_lanes op (us ++ xs) (bs ++ ys) ≡ by_lanes op us bs ++ by_lanes op xs ys
   by_lanes-append op [] [] xs ys e = refl
   by_lanes-append op [] (b ∷ bs) xs ys e = absurd (omega arith)
   by_lanes-append op (a ∷ us) [] xs ys e = absurd (omega arith)
@@ -32,7 +33,8 @@ module _ {A : Type 0} where
   by_lanes-map_right op f (x ∷ xs) [] = refl
   by_lanes-map_right op f (x ∷ xs) (y ∷ ys) = ap (λ zs. op x (f y) ∷ zs) (by_lanes-map_right op f xs ys)
 
-  pub by_lanes-mapped : (op op' : A → A → A) (f h : A → A) → ((x y : A) → op (f x) (h y) ≡ op' x y) → (xs ys : List A) → by_lanes op (map f xs) (map h ys) ≡ by_lanes op' xs ys
+  pub by_lanes-mapped : (op op' : A → A → A) (f h : A → A) → ((x y : A) → op (f x) (h y) ≡ op' x y) → (xs ys : List A)
+      → by_lanes op (map f xs) (map h ys) ≡ by_lanes op' xs ys
   by_lanes-mapped op op' f h e [] ys = refl
   by_lanes-mapped op op' f h e (x ∷ xs) [] = refl
   by_lanes-mapped op op' f h e (x ∷ xs) (y ∷ ys) = ap₂ (λ z zs. z ∷ zs) (e x y) (by_lanes-mapped op op' f h e xs ys)

@@ -34,5 +34,6 @@ module _ {E : Type 0} where
   -- matrices that are one have one list of rows
   pub list_of_rows_same : (a b : Matrix E) → Same a b → list_of_rows a ≡ list_of_rows b
   list_of_rows_same a b s =
-      list_same (row_of a) (row_of b) a.height (λ i p. list_same (a.entry i) (b.entry i) a.width (λ j q. s.alike i j p q) ∙ ap (λ w. map (b.entry i) (range_with_len 0 w)) s.width)
+      list_same (row_of a) (row_of b) a.height (λ i p. list_same (a.entry i) (b.entry i) a.width (λ j q. s.alike i j p q)
+      ∙ ap (λ w. map (b.entry i) (range_with_len 0 w)) s.width)
       ∙ ap (λ h. map (row_of b) (range_with_len 0 h)) s.height

@@ -44,7 +44,8 @@ place_kept {T} xs ys p is = record {
 }
 
 pub one_more_place : {T : Type 0} (xs ys zs : List T) (ps qs : List Place) (start width first : ℕ) (block : RowMajor T) → All (IsPlaceIn xs) ps → zs ≡ xs ++ ys
-    → qs ≡ ps ++ record { start = start; width = width; first = first; end = first + length ys } ∷ [] → first ≡ length xs → IsRowMajor block → width ≡ block.width → ys ≡ block.values
+    → qs ≡ ps ++ record { start = start; width = width; first = first; end = first + length ys } ∷ [] → first
+    ≡ length xs → IsRowMajor block → width ≡ block.width → ys ≡ block.values
     → All (IsPlaceIn zs) qs
 one_more_place {T} xs ys zs ps qs start width first block each more pushed behind whole wide is =
     let part : slice_range (xs ++ ys) first (first + length ys) ≡ ys = ap (λ n. slice_range (xs ++ ys) n (n + length ys)) behind ∙ part_at_end xs ys in

@@ -1,5 +1,6 @@
 -- Stored matrices whose rows lie in bit reversed order: as lists of entries and by index.
-use Rattle.std.proofs.Common.{◌≡◌, ℕ, zero, suc, ◌+◌, ◌*◌, ◌<◌, ◌≤◌, ◌^◌, ◌/◌, ◌%◌, ◌++◌, List, length, get_or, slice_range, sym, ap, ap₂, ◌∙◌, refl, arith, rules}
+use Rattle.std.proofs.Common.{◌≡◌, ℕ, zero, suc, ◌+◌, ◌*◌, ◌<◌, ◌≤◌, ◌^◌, ◌/◌, ◌%◌, ◌++◌, List, length, get_or}
+use Rattle.std.proofs.Common.{slice_range, sym, ap, ap₂, ◌∙◌, refl, arith, rules}
 use Rattle.std.specs.List.{flat_map, range_with_len}
 use Rattle.std.proofs.lemmas.List.{places, same_lists, get_or-append-add}
 use Rattle.std.proofs.lemmas.Nat.{div-add-mod', div_below, mod_below}
@@ -19,7 +20,8 @@ module _ {T : Type 0} (f : ℕ → List T) (w : ℕ) where
       let rest = joined_length (a + 1) n (λ i p. ap (λ k. length (f k)) (omega arith) ∙ each (suc i) (omega arith)) in
       search (rules, places)
 
-  joined_entry : (a n i j : ℕ) (d : T) → ((i : ℕ) → i < n → length (f (a + i)) ≡ w) → i < n → j < w → get_or (flat_map f (range_with_len a n)) (i * w + j) d ≡ get_or (f (a + i)) j d
+  joined_entry : (a n i j : ℕ) (d : T) → ((i : ℕ) → i < n → length (f (a + i)) ≡ w) → i < n → j < w
+      → get_or (flat_map f (range_with_len a n)) (i * w + j) d ≡ get_or (f (a + i)) j d
   joined_entry a zero i j d each below inside = absurd (omega (arith, below))
   joined_entry a (suc n) zero j d each below inside =
       let first : length (f a) ≡ w = ap (λ i. length (f i)) (omega arith) ∙ each 0 (omega arith) in
@@ -49,7 +51,8 @@ module _ {T : Type 0} (n : ℕ) (m : RowMajor T) (whole : IsRowMajor m) (high : 
   pub reversed_length : length (reversed_rows n m).values ≡ length m.values
   reversed_length = joined_length (λ i. row m (rev n i)) m.width 0 (2 ^ n) row_length ∙ ap (λ h. h * m.width) (sym high) ∙ whole.full
 
-  pub reversed_entry : (i j : ℕ) (d : T) → i < 2 ^ n → j < m.width → get_or (reversed_rows n m).values (i * m.width + j) d ≡ get_or m.values (rev n i * m.width + j) d
+  pub reversed_entry : (i j : ℕ) (d : T) → i < 2 ^ n → j < m.width
+      → get_or (reversed_rows n m).values (i * m.width + j) d ≡ get_or m.values (rev n i * m.width + j) d
   reversed_entry i j d p q =
       let room = row_within (rev n i) (height m) m.width (length m.values) (omega (arith, rev-lt n i, high)) whole.full in
       let at : get_or (row m (rev n i)) j d ≡ get_or m.values (rev n i * m.width + j) d = search (rules, places) in
@@ -80,8 +83,11 @@ module _ {T : Type 0} (n : ℕ) (m : RowMajor T) (whole : IsRowMajor m) (high : 
   }
 
   -- whatever has these rows
-  pub reversed_is : (r : RowMajor T) → HasShapeOf r m → length r.values ≡ length m.values → ((d : T) → Same (matrix d r) (bit_reversal n (matrix d m))) → r ≡ reversed_rows n m
-  reversed_is r shape size rows = ap₂ (λ w vs. record { width = w; values = vs }) shape.1 (same_lists r.values (reversed_rows n m).values (size ∙ sym reversed_length) at)
+  pub reversed_is : (r : RowMajor T) → HasShapeOf r m → length r.values ≡ length m.values
+      → ((d : T) → Same (matrix d r) (bit_reversal n (matrix d m))) → r ≡ reversed_rows n m
+  reversed_is r shape size rows =
+      ap₂ (λ w vs. record { width = w; values = vs }) shape.1
+      (same_lists r.values (reversed_rows n m).values (size ∙ sym reversed_length) at)
     where
       at : (k : ℕ) (d : T) → k < length r.values → get_or r.values k d ≡ get_or (reversed_rows n m).values k d
       at k d l =
@@ -98,7 +104,8 @@ module _ {T : Type 0} (n : ℕ) (m : RowMajor T) (whole : IsRowMajor m) (high : 
           ∙ sym (reversed_entry i j d below inside) ∙ ap (λ p. get_or (reversed_rows n m).values p d) split
 
 -- and the other way round: rows that were reversed, in bit reversed order
-pub reversed_from : {T : Type 0} (n : ℕ) (m r : RowMajor T) → IsRowMajor m → height m ≡ 2 ^ n → HasShapeOf r m → length r.values ≡ length m.values → ((d : T) → Same (matrix d r) (bit_reversal n (matrix d m)))
+pub reversed_from : {T : Type 0} (n : ℕ) (m r : RowMajor T) → IsRowMajor m → height m ≡ 2 ^ n → HasShapeOf r m
+    → length r.values ≡ length m.values → ((d : T) → Same (matrix d r) (bit_reversal n (matrix d m)))
     → m ≡ reversed_rows n r
 reversed_from n m r whole high shape size rows =
     let full : height r * r.width ≡ length r.values = ap₂ (λ h w. h * w) shape.0 shape.1 ∙ whole.full ∙ sym size in

@@ -12,7 +12,8 @@ pub within_more : (s n m : ℕ) → n ≤ m → (e : DftError) → IsWithin s n 
 within_more s n m less e within = within_larger s s n m (le_refl _) less e within
 
 -- the error that `?` hands on is of the growth that the one before told of
-pub room_of : {A : Type 0} (s : ℕ) (r : Result A DftError) (e : DftError) (n m : ℕ) → IsErr r × IsErrAnd r (λ y. y ≡ e) → n ≤ m → IsWithin s n e → IfErr r (IsWithin s m)
+pub room_of : {A : Type 0} (s : ℕ) (r : Result A DftError) (e : DftError) (n m : ℕ) → IsErr r × IsErrAnd r (λ y. y ≡ e)
+    → n ≤ m → IsWithin s n e → IfErr r (IsWithin s m)
 room_of s (Ok x) e n m told less within = tt
 room_of s (Err y) e n m (err, same) less within = subst (IsWithin s m) (sym same) (within_more s n m less e within)
 
@@ -32,7 +33,8 @@ module _ (s t n m : ℕ) (small : s ≤ t) (less : n ≤ m) where
   if_first other i (Err e) within = first_larger other i e within
 
   -- of the error that `?` hands on
-  pub first_of : {A : Type 0} (other i : ℕ) (r : Result A DftError) (e : DftError) → IsErr r × IsErrAnd r (λ y. y ≡ e) → IsWithin s n e → IfErr r (IsWithinEither t m other i)
+  pub first_of : {A : Type 0} (other i : ℕ) (r : Result A DftError) (e : DftError) → IsErr r × IsErrAnd r (λ y. y ≡ e)
+      → IsWithin s n e → IfErr r (IsWithinEither t m other i)
   first_of other i (Ok x) e told within = tt
   first_of other i (Err y) e (err, same) within = subst (IsWithinEither t m other i) (sym same) (first_larger other i e within)
 
@@ -46,6 +48,7 @@ module _ (s t n m : ℕ) (small : s ≤ t) (less : n ≤ m) where
     if_either (Ok x) within = tt
     if_either (Err e) within = either_larger e within
 
-    pub either_of : {A : Type 0} (r : Result A DftError) (e : DftError) → IsErr r × IsErrAnd r (λ y. y ≡ e) → IsWithinEither s n other i e → IfErr r (IsWithinEither t m other more)
+    pub either_of : {A : Type 0} (r : Result A DftError) (e : DftError) → IsErr r × IsErrAnd r (λ y. y ≡ e)
+        → IsWithinEither s n other i e → IfErr r (IsWithinEither t m other more)
     either_of (Ok x) e told within = tt
     either_of (Err y) e (err, same) within = subst (IsWithinEither t m other more) (sym same) (either_larger e within)

@@ -1,5 +1,6 @@
 -- Rows that change places in the list of a matrix's entries.
-use Rattle.std.proofs.Common.{◌≡◌, ℕ, ◌+◌, ◌-◌, ◌*◌, ◌/◌, ◌<◌, ◌≤◌, ◌⊎◌, inl, inr, ⊎_elim, ◌==◌, if◌then◌else◌, List, ◌++◌, length, get_or, take, drop, refl, sym, ap, ◌∙◌, arith, append-nil, rules}
+use Rattle.std.proofs.Common.{◌≡◌, ℕ, ◌+◌, ◌-◌, ◌*◌, ◌/◌, ◌<◌, ◌≤◌, ◌⊎◌, inl, inr, ⊎_elim, ◌==◌, if◌then◌else◌, List}
+use Rattle.std.proofs.Common.{◌++◌, length, get_or, take, drop, refl, sym, ap, ◌∙◌, arith, append-nil, rules}
 use Rattle.std.proofs.Math.ListN.{drop_of_length-le}
 use Rattle.std.proofs.Math.Seq.{take-length}
 use Rattle.std.proofs.lemmas.Bool.{cases_lt, cases_eq, eq-eqb, ne_eqb}
@@ -19,10 +20,13 @@ all_written xs ys e =
 
 -- the entries of another row stand outside of row i
 pub outside_row : (i r w c : ℕ) → c < w → (r ≡ i → ⊥) → (r * w + c < i * w) ⊎ (i * w + w ≤ r * w + c)
-outside_row i r w c l n = ⊎_elim (λ p. inl (omega (arith, row_within r i w (i * w) p refl))) (λ p. inr (omega (arith, row_within i r w (r * w) (omega arith) refl))) (cases_lt r i)
+outside_row i r w c l n =
+    ⊎_elim (λ p. inl (omega (arith, row_within r i w (i * w) p refl)))
+    (λ p. inr (omega (arith, row_within i r w (r * w) (omega arith) refl))) (cases_lt r i)
 
 -- column by column, an exchange of rows is an exchange of entries
-pub swapped_column : {T : Type 0} (xs ys : List T) (a b w c : ℕ) (d : T) → IsExchange xs ys (a * w) (b * w) w → c < w → Swapped (λ r. get_or xs (r * w + c) d) (λ r. get_or ys (r * w + c) d) a b
+pub swapped_column : {T : Type 0} (xs ys : List T) (a b w c : ℕ) (d : T) → IsExchange xs ys (a * w) (b * w) w → c < w
+    → Swapped (λ r. get_or xs (r * w + c) d) (λ r. get_or ys (r * w + c) d) a b
 swapped_column xs ys a b w c d e l = (e.first c d l, e.second c d l, λ r n o. e.others (r * w + c) d (outside_row a r w c l n) (outside_row b r w c l o))
 
 pub swapped_at : {X : Type 0} (f g : ℕ → X) (a b : ℕ) → Swapped f g a b → (r : ℕ) → g r ≡ (if r == a then f b else (if r == b then f a else f r))
@@ -56,8 +60,10 @@ module _ {T : Type 0} (front back : List T) (a n : ℕ) (apart : a + n ≤ lengt
     others = λ i d l r. ⊎_elim (λ low. search (rules, places)) (λ high. ⊎_elim (λ inner. search (rules, places)) (λ outer. search (rules, places)) r) l;
   }
 
-pub exchanged_parts : {T : Type 0} (xs front back p q : List T) (a b n : ℕ) → xs ≡ front ++ back → length front ≡ b → a + n ≤ b → b + n ≤ length xs → p ≡ take n back → q ≡ take (a + n - a) (drop a front)
+pub exchanged_parts : {T : Type 0} (xs front back p q : List T) (a b n : ℕ) → xs ≡ front ++ back → length front ≡ b
+    → a + n ≤ b → b + n ≤ length xs → p ≡ take n back → q ≡ take (a + n - a) (drop a front)
     → IsExchange xs ((take a front ++ (p ++ drop (a + n - a) (drop a front))) ++ (q ++ drop n back)) a b n
 exchanged_parts xs front back p q a b n parts long apart within first second =
     let same : a + n - a ≡ n = omega arith in
-    rw (parts, first, second, same, ← long) (moved front back a n (omega (arith, apart, long)) (omega (arith, within, ap length parts, length-append front back, long)))
+    rw (parts, first, second, same, ← long) (moved front back a n (omega (arith, apart, long))
+    (omega (arith, within, ap length parts, length-append front back, long)))

@@ -1,5 +1,6 @@
 -- Stored matrices: entries that fill whole rows, that by index and as stored a matrix has the same rows, and that entries written anew keep the shape.
-use Rattle.std.proofs.Common.{◌≡◌, ℕ, ◌+◌, ◌*◌, ◌/◌, ◌-◌, ◌<◌, ◌≤◌, List, ◌++◌, length, get_or, map, take, drop, slice_range, refl, sym, ap, ap₂, ◌∙◌, arith, rules, min}
+use Rattle.std.proofs.Common.{◌≡◌, ℕ, ◌+◌, ◌*◌, ◌/◌, ◌-◌, ◌<◌, ◌≤◌, List, ◌++◌, length, get_or, map, take, drop}
+use Rattle.std.proofs.Common.{slice_range, refl, sym, ap, ap₂, ◌∙◌, arith, rules, min}
 use Rattle.std.specs.List.{range_with_len}
 use Rattle.std.proofs.lemmas.List.{places}
 use Rattle.std.proofs.lemmas.List.FromFn.{fill_by_all}
@@ -23,13 +24,15 @@ pub rows_within : (start n h w size : ℕ) → start + n ≤ h → h * w ≡ siz
 rows_within start n h w size l e = omega (arith, mul-le-mul_right w l, add-mul start n w)
 
 -- n rows of a list are whole rows
-pub whole_part : {T : Type 0} (xs : List T) (a n k w : ℕ) → 1 ≤ w → k ≡ n * w → a + k ≤ length xs → length (take k (drop a xs)) / w * w ≡ length (take k (drop a xs))
+pub whole_part : {T : Type 0} (xs : List T) (a n k w : ℕ) → 1 ≤ w → k ≡ n * w → a + k ≤ length xs
+    → length (take k (drop a xs)) / w * w ≡ length (take k (drop a xs))
 whole_part xs a n k w wide e l =
     let is : length (take k (drop a xs)) ≡ n * w = search (rules, places) in
     rw is (ap (λ v. v * w) (mul-div_cancel n wide))
 
 -- a part of a list, by index
-pub part_by_index : {T : Type 0} (xs : List T) (a n : ℕ) (d : T) → a + n ≤ length xs → slice_range xs a (a + n) ≡ map (λ j. get_or xs (a + j) d) (range_with_len 0 n)
+pub part_by_index : {T : Type 0} (xs : List T) (a n : ℕ) (d : T) → a + n ≤ length xs
+    → slice_range xs a (a + n) ≡ map (λ j. get_or xs (a + j) d) (range_with_len 0 n)
 part_by_index xs a n d l =
     let k : a + n - a ≡ n = omega arith in
     rw k (fill_by_all (λ j. get_or xs (a + j) d) (take n (drop a xs)) n d (search (rules, places)) (λ j p. search (rules, places)))
@@ -54,21 +57,29 @@ pub written_size : {T : Type 0} (xs ys : List T) → length ys ≡ length xs →
 written_size xs ys size = taken_size (length xs) xs ys refl
 
 -- a matrix whose entries were all written anew has the shape that it had
-pub written_shape : {T : Type 0} (m out : RowMajor T) (ys : List T) → out.width ≡ m.width → out.values ≡ take (length m.values) (ys ++ drop (length ys) m.values) → length ys ≡ length m.values → HasShapeOf out m
+pub written_shape : {T : Type 0} (m out : RowMajor T) (ys : List T) → out.width ≡ m.width
+    → out.values ≡ take (length m.values) (ys ++ drop (length ys) m.values) → length ys ≡ length m.values
+    → HasShapeOf out m
 written_shape m out ys wide is size = (ap₂ (λ n w. n / w) (ap length is ∙ written_size m.values ys size) wide, wide)
 
 -- a matrix that keeps its shape and its size stays whole
 pub whole_kept : {T U : Type 0} (m : RowMajor T) (out : RowMajor U) → IsRowMajor m → HasShapeOf out m → length out.values ≡ length m.values → IsRowMajor out
-whole_kept m out whole (tall, wide) size = record { width = omega (arith, whole.width, wide); full = ap₂ (λ (h w : ℕ). h * w) tall wide ∙ whole.full ∙ sym size }
+whole_kept m out whole (tall, wide) size = record {
+  width = omega (arith, whole.width, wide);
+  full = ap₂ (λ (h w : ℕ). h * w) tall wide ∙ whole.full ∙ sym size;
+}
 
 -- a matrix over which any number of entries are written stays whole
-pub taken_whole : {T : Type 0} (n w : ℕ) (xs ys : List T) → length xs ≡ n → IsRowMajor {T = T} (record { width = w; values = xs }) → IsRowMajor {T = T} (record { width = w; values = take n (ys ++ drop (length ys) xs) })
+pub taken_whole : {T : Type 0} (n w : ℕ) (xs ys : List T) → length xs ≡ n
+    → IsRowMajor {T = T} (record { width = w; values = xs })
+    → IsRowMajor {T = T} (record { width = w; values = take n (ys ++ drop (length ys) xs) })
 taken_whole n w xs ys size whole =
     let e = taken_size n xs ys size ∙ sym size in
     record { width = whole.width; full = ap (λ k. k / w * w) e ∙ whole.full ∙ sym e }
 
 -- the rows from one on that is at most the last
-pub bound_within : {T : Type 0} (m : RowMajor T) (bound h first w : ℕ) (vs : List T) → IsRowMajor m → h ≡ height m → first ≡ min bound h → w ≡ m.width → vs ≡ m.values → first * w ≤ length vs
+pub bound_within : {T : Type 0} (m : RowMajor T) (bound h first w : ℕ) (vs : List T) → IsRowMajor m → h ≡ height m
+    → first ≡ min bound h → w ≡ m.width → vs ≡ m.values → first * w ≤ length vs
 bound_within m bound h first w vs whole tall least wide is =
     let below : first ≤ height m = omega (arith, tall, least) in
     let e : first * w ≡ first * m.width = ap (λ n. first * n) wide in

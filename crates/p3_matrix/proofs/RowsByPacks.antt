@@ -1,5 +1,6 @@
 -- Rows that are worked through pack by pack: what they hold when the places below i are done.
-use Rattle.std.proofs.Common.{◌≡◌, ℕ, zero, suc, ◌+◌, ◌*◌, ◌<◌, ◌≤◌, List, [], ◌∷◌, ◌++◌, length, take, drop, map, get_or, set, sym, ap, ap₂, ◌∙◌, arith, append_assoc, append-nil, ◌-◌, refl}
+use Rattle.std.proofs.Common.{◌≡◌, ℕ, zero, suc, ◌+◌, ◌*◌, ◌<◌, ◌≤◌, List, [], ◌∷◌, ◌++◌, length, take, drop, map}
+use Rattle.std.proofs.Common.{get_or, set, sym, ap, ap₂, ◌∙◌, arith, append_assoc, append-nil, ◌-◌, refl}
 use Rattle.std.proofs.Math.Seq.{take-add, take-length, drop-length}
 use Rattle.std.proofs.lemmas.List.{take_at, drop_at, take-map, drop-map, map-append, drop-drop, length-map, length-take-le, length-append}
 use Rattle.p3_field.specs.Lanes.{by_lanes}
@@ -21,7 +22,8 @@ module _ {E : Type 0} (op : E → E → E) where
       → by_lanes op (take (i + k) xs) (take (i + k) ys) ≡ by_lanes op (take i xs) (take i ys) ++ by_lanes op (take k (drop i xs)) (take k (drop i ys))
   done_more i k xs ys l e =
       ap₂ (by_lanes op) (take-add i k xs) (take-add i k ys)
-      ∙ by_lanes-append op (take i xs) (take i ys) (take k (drop i xs)) (take k (drop i ys)) (length-take-le i xs (omega arith) ∙ sym (length-take-le i ys (omega arith)))
+      ∙ by_lanes-append op (take i xs) (take i ys) (take k (drop i xs)) (take k (drop i ys))
+      (length-take-le i xs (omega arith) ∙ sym (length-take-le i ys (omega arith)))
 
   -- all places are done
   pub rows_done_all : (i : ℕ) (xs ys zs : List E) → i ≡ length xs → length xs ≡ length ys → length xs ≡ length zs → rows_done i xs ys zs ≡ by_lanes op xs ys
@@ -33,7 +35,9 @@ module _ {E : Type 0} (op : E → E → E) where
     -- the next pack is unchanged
     pub next_pack : (k : ℕ) → i ≤ length xs → length xs ≡ length ys → map v cs ≡ rows_done i xs ys zs → map v (take k (drop i cs)) ≡ take k (drop i zs)
     next_pack k l e done =
-        sym (take-map v k (drop i cs)) ∙ ap (take k) (sym (drop-map v i cs) ∙ ap (drop i) done ∙ drop_at (by_lanes op (take i xs) (take i ys)) (drop i zs) i (done_below i xs ys l e))
+        sym (take-map v k (drop i cs))
+        ∙ ap (take k) (sym (drop-map v i cs) ∙ ap (drop i) done
+        ∙ drop_at (by_lanes op (take i xs) (take i ys)) (drop i zs) i (done_below i xs ys l e))
 
     -- one more pack is done
     pub pack_done : (k n : ℕ) (ps : List F) → i + k ≤ length xs → length xs ≡ length ys → n ≡ i + k → map v cs ≡ rows_done i xs ys zs
@@ -43,7 +47,9 @@ module _ {E : Type 0} (op : E → E → E) where
         let long = done_below i xs ys (omega arith) e in
         let first : map v (take i cs) ≡ here = sym (take-map v i cs) ∙ ap (take i) done ∙ take_at here (drop i zs) i long in
         let rest : map v (drop k (drop i cs)) ≡ drop n zs =
-        sym (drop-map v k (drop i cs)) ∙ ap (drop k) (sym (drop-map v i cs) ∙ ap (drop i) done ∙ drop_at here (drop i zs) i long) ∙ drop-drop k i zs ∙ ap (λ m. drop m zs) (sym is)
+        sym (drop-map v k (drop i cs))
+        ∙ ap (drop k) (sym (drop-map v i cs) ∙ ap (drop i) done ∙ drop_at here (drop i zs) i long)
+        ∙ drop-drop k i zs ∙ ap (λ m. drop m zs) (sym is)
         in
         map-append v (take i cs) (ps ++ drop k (drop i cs))
         ∙ ap₂ ◌++◌ first (map-append v ps (drop k (drop i cs)) ∙ ap₂ ◌++◌ pack rest)
@@ -64,12 +70,14 @@ rows_in_parts v op xs ys us us' vs vs' ps qs e f l p q =
     ∙ ap₂ (by_lanes op) (sym (ap (map v) e ∙ map-append v us us')) (sym (ap (map v) f ∙ map-append v vs vs'))
 
 -- an operation on rows of which one is itself by lanes, by two parts of the three
-pub three_in_parts : {F E : Type 0} (v : F → E) (op op' : E → E → E) (xs ys ts us us' vs vs' ws ws' ps qs : List F) → xs ≡ us ++ us' → ys ≡ vs ++ vs' → ts ≡ ws ++ ws'
+pub three_in_parts : {F E : Type 0} (v : F → E) (op op' : E → E → E) (xs ys ts us us' vs vs' ws ws' ps qs : List F)
+    → xs ≡ us ++ us' → ys ≡ vs ++ vs' → ts ≡ ws ++ ws'
     → length us ≡ length vs → length vs ≡ length ws → map v ps ≡ by_lanes op (map v us) (by_lanes op' (map v vs) (map v ws))
     → map v qs ≡ by_lanes op (map v us') (by_lanes op' (map v vs') (map v ws')) → map v (ps ++ qs) ≡ by_lanes op (map v xs) (by_lanes op' (map v ys) (map v ts))
 three_in_parts v op op' xs ys ts us us' vs vs' ws ws' ps qs e f h l m p q =
     let inner : length (map v vs) ≡ length (map v ws) = length-map vs v ∙ m ∙ sym (length-map ws v) in
-    let outer : length (map v us) ≡ length (by_lanes op' (map v vs) (map v ws)) = length-map us v ∙ l ∙ sym (length-map vs v) ∙ sym (length-by_lanes op' (map v vs) (map v ws) inner) in
+    let outer : length (map v us) ≡ length (by_lanes op' (map v vs) (map v ws)) =
+    length-map us v ∙ l ∙ sym (length-map vs v) ∙ sym (length-by_lanes op' (map v vs) (map v ws) inner) in
     map-append v ps qs ∙ ap₂ ◌++◌ p q
     ∙ sym (by_lanes-append op (map v us) (by_lanes op' (map v vs) (map v ws)) (map v us') (by_lanes op' (map v vs') (map v ws')) outer)
     ∙ ap₂ (by_lanes op) (sym (ap (map v) e ∙ map-append v us us'))
@@ -77,7 +85,8 @@ three_in_parts v op op' xs ys ts us us' vs vs' ws ws' ps qs e f h l m p q =
     ∙ ap₂ (by_lanes op') (sym (ap (map v) f ∙ map-append v vs vs')) (sym (ap (map v) h ∙ map-append v ws ws')))
 
 -- products by lanes of two rows are as long as any row of their length
-pub products_long : {F E : Type 0} (v : F → E) (op : E → E → E) (xs ys ts : List F) → length xs ≡ length ys → length xs ≡ length ts → length (by_lanes op (map v ys) (map v ts)) ≡ length (map v xs)
+pub products_long : {F E : Type 0} (v : F → E) (op : E → E → E) (xs ys ts : List F) → length xs ≡ length ys
+    → length xs ≡ length ts → length (by_lanes op (map v ys) (map v ts)) ≡ length (map v xs)
 products_long v op xs ys ts e f =
     let tall : length (map v ys) ≡ length xs = length-map ys v ∙ sym e in
     length-by_lanes op (map v ys) (map v ts) (tall ∙ f ∙ sym (length-map ts v)) ∙ tall ∙ sym (length-map xs v)
@@ -116,7 +125,8 @@ loop_ends i r m n end same left = omega (arith, end, same, left)
 pub packs_done : {F E : Type 0} (v : F → E) (op : E → E → E) (i : ℕ) (xs ys zs : List F) → i ≡ length xs → length xs ≡ length ys → length xs ≡ length zs
     → rows_done op i (map v xs) (map v ys) (map v zs) ≡ by_lanes op (map v xs) (map v ys)
 packs_done v op i xs ys zs end equal over =
-    rows_done_all op i (map v xs) (map v ys) (map v zs) (end ∙ sym (length-map xs v)) (length-map xs v ∙ equal ∙ sym (length-map ys v)) (length-map xs v ∙ over ∙ sym (length-map zs v))
+    rows_done_all op i (map v xs) (map v ys) (map v zs) (end ∙ sym (length-map xs v))
+    (length-map xs v ∙ equal ∙ sym (length-map ys v)) (length-map xs v ∙ over ∙ sym (length-map zs v))
 
 -- where the pack behind i lies in m places
 pub pack_sizes : (i w n m : ℕ) → i + w ≤ n → m ≡ n → (i ≤ m) × ((i + (i + w - i) ≤ m) × (i + w ≡ i + (i + w - i)))
@@ -127,5 +137,8 @@ pub more_products : (p q r cost a w v : ℕ) → q ≡ p + cost * a → r ≡ q 
 more_products p q r cost a w v so_far more same = omega (arith, so_far, more, ap (λ m. cost * m) same)
 
 -- the products of two parts of a list are those of the whole
-pub products_in_parts : {T : Type 0} (p q r cost : ℕ) (xs us vs : List T) → xs ≡ us ++ vs → q ≡ p + cost * length us → r ≡ q + cost * length vs → r ≡ p + cost * length xs
-products_in_parts p q r cost xs us vs parts first second = more_products p q r cost (length us) (length vs) (length vs) first second refl ∙ ap (λ n. p + cost * n) (sym (ap length parts ∙ length-append us vs))
+pub products_in_parts : {T : Type 0} (p q r cost : ℕ) (xs us vs : List T) → xs ≡ us ++ vs → q ≡ p + cost * length us
+    → r ≡ q + cost * length vs → r ≡ p + cost * length xs
+products_in_parts p q r cost xs us vs parts first second =
+    more_products p q r cost (length us) (length vs) (length vs) first second refl
+    ∙ ap (λ n. p + cost * n) (sym (ap length parts ∙ length-append us vs))

@@ -1,5 +1,6 @@
 -- Places by tiles: the digits of a place are k first ones, m of its tile and k last ones.
-use Rattle.std.proofs.Common.{◌≡◌, ℕ, ◌+◌, ◌-◌, ◌*◌, ◌/◌, ◌%◌, ◌<◌, ◌≤◌, ◌^◌, ◌⊎◌, inl, inr, ⊎_elim, refl, sym, ap, ap₂, ◌∙◌, arith, Fits, le_of_lt, lt_of_lt_of_le}
+use Rattle.std.proofs.Common.{◌≡◌, ℕ, ◌+◌, ◌-◌, ◌*◌, ◌/◌, ◌%◌, ◌<◌, ◌≤◌, ◌^◌, ◌⊎◌, inl, inr, ⊎_elim, refl, sym, ap, ap₂}
+use Rattle.std.proofs.Common.{◌∙◌, arith, Fits, le_of_lt, lt_of_lt_of_le}
 use Rattle.std.proofs.lemmas.Bool.{cases_lt}
 use Rattle.std.proofs.lemmas.Nat.{pow-add, pow_pos, pow_below, div-mul-add, mod-mul-add, div-add-mod', div_below, mod_below}
 use Rattle.p3_matrix.specs.BitOrder.{rev}
@@ -90,7 +91,9 @@ module _ (bits m k : ℕ) (parts : bits ≡ k + m + k) where
     where
       go : (r < rev m r) ⊎ (a < rev k b) → r * 2 ^ k + a < rev m r * 2 ^ k + rev k b
       go (inl c) = part_order r (rev m r) (2 ^ k) a (rev k b) c l
-      go (inr c) = ⊎_elim (λ d. part_order r (rev m r) (2 ^ k) a (rev k b) d l) (λ d. let e : r ≡ rev m r = omega arith in omega (arith, ap (λ x. x * 2 ^ k) e)) (cases_lt r (rev m r))
+      go (inr c) =
+          ⊎_elim (λ d. part_order r (rev m r) (2 ^ k) a (rev k b) d l)
+          (λ d. let e : r ≡ rev m r = omega arith in omega (arith, ap (λ x. x * 2 ^ k) e)) (cases_lt r (rev m r))
 
   pub number_le : (a r b : ℕ) → a < 2 ^ k → r < 2 ^ m → b < 2 ^ k → rev m r ≤ r → rev k b ≤ a
       → tile_order (2 ^ m) (2 ^ k) (place (2 ^ m) (2 ^ k) (rev k b) (rev m r) (rev k a)) ≤ (r * 2 ^ k + a) * 2 ^ k + b
@@ -99,7 +102,12 @@ module _ (bits m k : ℕ) (parts : bits ≡ k + m + k) where
       omega (arith, at, go (cases_lt (rev m r) r) (cases_lt (rev k b) a))
     where
       go : (rev m r < r) ⊎ (r ≤ rev m r) → (rev k b < a) ⊎ (a ≤ rev k b) → (rev m r * 2 ^ k + rev k b) * 2 ^ k + rev k a ≤ (r * 2 ^ k + a) * 2 ^ k + b
-      go (inl c) q = omega (arith, part_order (rev m r * 2 ^ k + rev k b) (r * 2 ^ k + a) (2 ^ k) (rev k a) b (part_order (rev m r) r (2 ^ k) (rev k b) a c (rev-lt k b)) (rev-lt k a))
+      go (inl c) q =
+          omega (
+            arith,
+            part_order (rev m r * 2 ^ k + rev k b) (r * 2 ^ k + a) (2 ^ k) (rev k a) b
+                (part_order (rev m r) r (2 ^ k) (rev k b) a c (rev-lt k b)) (rev-lt k a),
+          )
       go (inr c) (inl q) =
           let e : rev m r ≡ r = omega arith in
           let s : rev m r * 2 ^ k + rev k b < r * 2 ^ k + a = omega (arith, ap (λ x. x * 2 ^ k) e) in
@@ -111,7 +119,8 @@ module _ (bits m k : ℕ) (parts : bits ≡ k + m + k) where
           omega (arith, ap₂ (λ x y. (x * 2 ^ k + y) * 2 ^ k) e f)
 
   -- the places of a tile whose mirror came before it
-  pub tile_done : (r p : ℕ) → r < 2 ^ m → rev m r < r → p < 2 ^ bits → r * 2 ^ k * 2 ^ k ≤ tile_order (2 ^ m) (2 ^ k) p → tile_order (2 ^ m) (2 ^ k) p < (r + 1) * 2 ^ k * 2 ^ k
+  pub tile_done : (r p : ℕ) → r < 2 ^ m → rev m r < r → p < 2 ^ bits → r * 2 ^ k * 2 ^ k ≤ tile_order (2 ^ m) (2 ^ k) p
+      → tile_order (2 ^ m) (2 ^ k) p < (r + 1) * 2 ^ k * 2 ^ k
       → tile_order (2 ^ m) (2 ^ k) (rev bits p) < r * 2 ^ k * 2 ^ k
   tile_done r p n before l low high =
       let h = 2 ^ k in
@@ -125,7 +134,12 @@ module _ (bits m k : ℕ) (parts : bits ≡ k + m + k) where
       let mirror : rev bits p ≡ place (2 ^ m) h (rev k b) (rev m t) (rev k a) = ap (rev bits) (sym (place_of (2 ^ m) h p)) ∙ rev_place a t b first tile last in
       let at : tile_order (2 ^ m) h (rev bits p) ≡ (rev m t * h + rev k b) * h + rev k a =
       ap (tile_order (2 ^ m) h) mirror ∙ order_at (2 ^ m) h (rev k b) (rev m t) (rev k a) (rev-lt m t) (rev-lt k a) in
-      omega (arith, at, part_lt (rev m t * h + rev k b) (r * h) h (rev k a) (part_lt (rev m t) r h (rev k b) (omega (arith, ap (rev m) same)) (rev-lt k b)) (rev-lt k a))
+      omega (
+        arith,
+        at,
+        part_lt (rev m t * h + rev k b) (r * h) h (rev k a)
+            (part_lt (rev m t) r h (rev k b) (omega (arith, ap (rev m) same)) (rev-lt k b)) (rev-lt k a),
+      )
     where
       here : (a t b : ℕ) → a < 2 ^ k → b < 2 ^ k → r * 2 ^ k * 2 ^ k ≤ (t * 2 ^ k + a) * 2 ^ k + b → (t * 2 ^ k + a) * 2 ^ k + b < (r + 1) * 2 ^ k * 2 ^ k
           → (t < r) ⊎ (r ≤ t) → (r < t) ⊎ (t ≤ r) → t ≡ r
@@ -176,13 +190,18 @@ module _ (bits m k : ℕ) (outer : 2 * k ≤ bits) (inner : m ≡ bits - 2 * k) 
 
       pub partner_after : r ≤ s → (r < s) ⊎ (a < c) → (r * 2 ^ k + a) * 2 ^ k + b < tile_order (2 ^ m) (2 ^ k) far
       partner_after first before =
-          omega (arith, mirror_after (omega arith) (⊎_elim (λ l. inl (omega arith)) (λ l. inr (omega arith)) before), ap (tile_order (2 ^ m) (2 ^ k)) partner_is)
+          omega (
+            arith,
+            mirror_after (omega arith) (⊎_elim (λ l. inl (omega arith)) (λ l. inr (omega arith)) before),
+            ap (tile_order (2 ^ m) (2 ^ k)) partner_is,
+          )
 
       pub partner_not : r ≤ s → (r < s) ⊎ (a < c) → near ≡ far → ⊥
       partner_not first before e = omega (arith, partner_after first before, chunk_in_tile_order, ap (tile_order (2 ^ m) (2 ^ k)) e)
 
 -- what a number of a chunk is made of fits as the count of all chunks does
-pub chunk_fits : (first tile last tiles side : ℕ) → first < side → tile < tiles → last < side → side * tiles * side < 2 ^ 64 → Fits w64 ((first * tiles + tile) * side + last)
+pub chunk_fits : (first tile last tiles side : ℕ) → first < side → tile < tiles → last < side
+    → side * tiles * side < 2 ^ 64 → Fits w64 ((first * tiles + tile) * side + last)
 chunk_fits first tile last tiles side f t l small =
     let row : first * tiles + tile + 1 ≤ side * tiles = omega (arith, mul-le-mul_right tiles f, add-mul first 1 tiles, t) in
     record { fits = lt_of_lt_of_le (omega (arith, mul-le-mul_right side row, add-mul (first * tiles + tile) 1 side, l)) (le_of_lt small) }

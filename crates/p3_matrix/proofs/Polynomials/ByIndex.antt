@@ -32,10 +32,13 @@ module _ {A : Type 0} (R : Ring A) where
   -- ---- one after another
   pub poly-append : (m n : ℕ) (f : ℕ → A) (x : A) → poly R (m + n) f x ≡ poly R m f x ⊕ power R x m ⊗ poly R n (λ j. f (m + j)) x
   unfolding poly power
-  poly-append zero n f x = ap (λ k. poly R k f x) (zero-add n) ∙ poly_same n f (λ j. f (0 + j)) x (λ j l. ap f (sym (zero-add j))) ∙ sym (Rings.zero-add R _ ∙ Rings.one-mul R _)
+  poly-append zero n f x =
+      ap (λ k. poly R k f x) (zero-add n) ∙ poly_same n f (λ j. f (0 + j)) x (λ j l. ap f (sym (zero-add j)))
+      ∙ sym (Rings.zero-add R _ ∙ Rings.one-mul R _)
   poly-append (suc m) n f x = ap (λ k. poly R k f x) (suc-add m n) ∙ ap (λ y. f 0 ⊕ x ⊗ y) (poly-append m n (λ j. f (suc j)) x)
       ∙ ap (λ y. f 0 ⊕ x ⊗ (poly R m (λ j. f (suc j)) x ⊕ power R x m ⊗ y)) (poly_same n _ _ x (λ j l. ap f (sym (suc-add m j))))
-      ∙ solve R (f 0 ∷ x ∷ poly R m (λ j. f (suc j)) x ∷ power R x m ∷ poly R n (λ j. f (suc m + j)) x ∷ []) (va ⊞ vb ⊠ (vc ⊞ vd ⊠ ve)) ((va ⊞ vb ⊠ vc) ⊞ (vb ⊠ vd) ⊠ ve) refl
+      ∙ solve R (f 0 ∷ x ∷ poly R m (λ j. f (suc j)) x ∷ power R x m ∷ poly R n (λ j. f (suc m + j)) x ∷ [])
+      (va ⊞ vb ⊠ (vc ⊞ vd ⊠ ve)) ((va ⊞ vb ⊠ vc) ⊞ (vb ⊠ vd) ⊠ ve) refl
 
   -- ---- even and odd places
   pub poly-split : (n : ℕ) (f : ℕ → A) (x : A) → poly R (2 * n) f x ≡ poly R n (λ j. f (2 * j)) (x ⊗ x) ⊕ x ⊗ poly R n (λ j. f (2 * j + 1)) (x ⊗ x)
@@ -44,7 +47,8 @@ module _ {A : Type 0} (R : Ring A) where
   poly-split (suc n) f x =
       let e : 2 * suc n ≡ suc (suc (2 * n)) = omega arith in
       ap (λ k. poly R k f x) e ∙ ap (λ y. f 0 ⊕ x ⊗ (f 1 ⊕ x ⊗ y)) (poly-split n (λ j. f (suc (suc j))) x)
-      ∙ ap₂ (λ y z. f 0 ⊕ x ⊗ (f 1 ⊕ x ⊗ (y ⊕ x ⊗ z))) (poly_same n _ _ (x ⊗ x) (λ j l. ap f (omega arith))) (poly_same n _ _ (x ⊗ x) (λ j l. ap f (omega arith)))
+      ∙ ap₂ (λ y z. f 0 ⊕ x ⊗ (f 1 ⊕ x ⊗ (y ⊕ x ⊗ z))) (poly_same n _ _ (x ⊗ x) (λ j l. ap f (omega arith)))
+      (poly_same n _ _ (x ⊗ x) (λ j l. ap f (omega arith)))
       ∙ solve R (f 0 ∷ x ∷ f 1 ∷ poly R n (λ j. f (2 * suc j)) (x ⊗ x) ∷ poly R n (λ j. f (2 * suc j + 1)) (x ⊗ x) ∷ [])
       (va ⊞ vb ⊠ (vc ⊞ vb ⊠ (vd ⊞ vb ⊠ ve))) ((va ⊞ (vb ⊠ vb) ⊠ vd) ⊞ vb ⊠ (vc ⊞ (vb ⊠ vb) ⊠ ve)) refl
 
@@ -53,7 +57,8 @@ module _ {A : Type 0} (R : Ring A) where
   unfolding poly
   poly-add zero f h x = sym (R.add_zero 𝟘)
   poly-add (suc n) f h x = ap (λ y. (f 0 ⊕ h 0) ⊕ x ⊗ y) (poly-add n (λ j. f (suc j)) (λ j. h (suc j)) x)
-      ∙ solve R (f 0 ∷ h 0 ∷ x ∷ poly R n (λ j. f (suc j)) x ∷ poly R n (λ j. h (suc j)) x ∷ []) ((va ⊞ vb) ⊞ vc ⊠ (vd ⊞ ve)) ((va ⊞ vc ⊠ vd) ⊞ (vb ⊞ vc ⊠ ve)) refl
+      ∙ solve R (f 0 ∷ h 0 ∷ x ∷ poly R n (λ j. f (suc j)) x ∷ poly R n (λ j. h (suc j)) x ∷ [])
+      ((va ⊞ vb) ⊞ vc ⊠ (vd ⊞ ve)) ((va ⊞ vc ⊠ vd) ⊞ (vb ⊞ vc ⊠ ve)) refl
 
   pub poly-times : (n : ℕ) (a : A) (f : ℕ → A) (x : A) → poly R n (λ j. a ⊗ f j) x ≡ a ⊗ poly R n f x
   unfolding poly
@@ -65,7 +70,8 @@ module _ {A : Type 0} (R : Ring A) where
   unfolding poly power
   poly-scaled zero f s x = refl
   poly-scaled (suc n) f s x =
-      ap₂ (λ a b. a ⊕ x ⊗ b) (R.mul_one (f 0)) (poly_same n _ _ x (λ j l. Rings.mul_left_comm R _ _ _) ∙ poly-times n s (λ j. f (suc j) ⊗ power R s j) x ∙ ap (λ y. s ⊗ y) (poly-scaled n (λ j. f (suc j)) s x))
+      ap₂ (λ a b. a ⊕ x ⊗ b) (R.mul_one (f 0)) (poly_same n _ _ x (λ j l. Rings.mul_left_comm R _ _ _)
+      ∙ poly-times n s (λ j. f (suc j) ⊗ power R s j) x ∙ ap (λ y. s ⊗ y) (poly-scaled n (λ j. f (suc j)) s x))
       ∙ solve R (f 0 ∷ x ∷ s ∷ poly R n (λ j. f (suc j)) (s ⊗ x) ∷ []) (va ⊞ vb ⊠ (vc ⊠ vd)) (va ⊞ (vc ⊠ vb) ⊠ vd) refl
 
   pub poly-none : (f : ℕ → A) (x : A) → poly R 0 f x ≡ 𝟘
@@ -95,10 +101,15 @@ module _ {A : Type 0} (R : Ring A) where
   pub poly_zeros : (n : ℕ) (f : ℕ → A) (x : A) → ((j : ℕ) → j < n → f j ≡ 𝟘) → poly R n f x ≡ 𝟘
   unfolding poly
   poly_zeros zero f x z = refl
-  poly_zeros (suc n) f x z = ap₂ (λ a b. a ⊕ x ⊗ b) (z 0 (omega arith)) (poly_zeros n (λ j. f (suc j)) x (λ j h. z (suc j) (omega arith))) ∙ solve R (x ∷ []) (zeroₑ ⊞ va ⊠ zeroₑ) zeroₑ refl
+  poly_zeros (suc n) f x z =
+      ap₂ (λ a b. a ⊕ x ⊗ b) (z 0 (omega arith)) (poly_zeros n (λ j. f (suc j)) x (λ j h. z (suc j) (omega arith)))
+      ∙ solve R (x ∷ []) (zeroₑ ⊞ va ⊠ zeroₑ) zeroₑ refl
 
   pub poly_padded : (m n : ℕ) (f : ℕ → A) (x : A) → ((j : ℕ) → m ≤ j → j < m + n → f j ≡ 𝟘) → poly R (m + n) f x ≡ poly R m f x
-  poly_padded m n f x z = poly-append m n f x ∙ ap (λ y. poly R m f x ⊕ power R x m ⊗ y) (poly_zeros n (λ j. f (m + j)) x (λ j h. z (m + j) (omega arith) (omega arith)))
+  poly_padded m n f x z =
+      poly-append m n f x
+      ∙ ap (λ y. poly R m f x ⊕ power R x m ⊗ y)
+      (poly_zeros n (λ j. f (m + j)) x (λ j h. z (m + j) (omega arith) (omega arith)))
       ∙ solve R (poly R m f x ∷ power R x m ∷ []) (va ⊞ vb ⊠ zeroₑ) va refl
 
   -- the first n coefficients, with zeros behind them

@@ -86,14 +86,16 @@ module _ {A : Type 0} (R : Ring A) (g : ℕ → A) where
   -- equal coefficients have equal values
   pub coefficients_same : (c d : Matrix A) (n : ℕ) (s : A) (out : Matrix A) → Same c d → IsValues R g c n s out → IsValues R g d n s out
   coefficients_same c d n s out e v =
-      values_from d c n s s out e.width (λ i j p q. poly_same R c.height (λ u. c.entry u j) (λ u. d.entry u j) (point R g n s i) (λ u l. e.alike u j l (omega (arith, e.width)))
+      values_from d c n s s out e.width (λ i j p q. poly_same R c.height (λ u. c.entry u j) (λ u. d.entry u j)
+      (point R g n s i) (λ u l. e.alike u j l (omega (arith, e.width)))
       ∙ ap (λ h. poly R h (λ u. d.entry u j) (point R g n s i)) e.height) v
 
   -- the values of the shifted coefficients on a coset of t are the values on the coset of s t
   pub shifted_values : (c d : Matrix A) (n : ℕ) (s t : A) (out : Matrix A) → Same d (coset_shift R s c) → IsValues R g d n t out → IsValues R g c n (s ⊗ t) out
   shifted_values c d n s t out e v =
       values_from c d n (s ⊗ t) t out e.width (λ i j p q. ap (λ h. poly R h (λ u. d.entry u j) (point R g n t i)) e.height
-      ∙ poly_same R c.height (λ u. d.entry u j) (λ u. c.entry u j ⊗ power R s u) (point R g n t i) (λ u l. e.alike u j (omega (arith, e.height)) (omega (arith, e.width)))
+      ∙ poly_same R c.height (λ u. d.entry u j) (λ u. c.entry u j ⊗ power R s u) (point R g n t i)
+      (λ u l. e.alike u j (omega (arith, e.height)) (omega (arith, e.width)))
       ∙ poly-scaled R c.height (λ u. c.entry u j) s (point R g n t i)
       ∙ ap (poly R c.height (λ u. c.entry u j)) (moved n s t i)) v
     where

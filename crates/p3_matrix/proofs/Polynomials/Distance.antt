@@ -72,7 +72,9 @@ module _ {A : Type 0} (R : Ring A) where
   pub zero_coefficients : (n : ℕ) (c x : ℕ → A) → AreApart n x → ((i : ℕ) → i < n → poly R n c (x i) ≡ 𝟘) → (j : ℕ) → j < n → c j ≡ 𝟘
   zero_coefficients zero c x distinct zeros j below = absurd (omega arith)
   zero_coefficients (suc n) c x distinct zeros j below =
-      all (zero_coefficients n (quotient n c (x 0)) (λ i. x (suc i)) (record { apart = λ p q before inside. distinct.apart (suc p) (suc q) (omega arith) (omega arith) }) others) j below
+      all (zero_coefficients n (quotient n c (x 0)) (λ i. x (suc i))
+      (record { apart = λ p q before inside. distinct.apart (suc p) (suc q) (omega arith) (omega arith) }) others)
+      j below
     where
       others : (i : ℕ) → i < n → poly R n (quotient n c (x 0)) (x (suc i)) ≡ 𝟘
       others i inside =
@@ -129,7 +131,9 @@ module _ {A : Type 0} (R : Ring A) {g : ℕ → A} {bits : ℕ} (G : AreRoots R 
 
   -- so it has an inverse
   pub one_minus_root : (n m : ℕ) → n ≤ bits → 0 < m → m < 2 ^ n → IsInvertible R (𝟙 ⊕ neg (power R (g n) m))
-  one_minus_root n m b some below = let divides = one_minus_root_divides n m b some below in invertible_divisor R (𝟙 ⊕ neg (power R (g n) m)) divides.0 divides.1
+  one_minus_root n m b some below =
+      let divides = one_minus_root_divides n m b some below in
+      invertible_divisor R (𝟙 ⊕ neg (power R (g n) m)) divides.0 divides.1
 
   -- the difference of a point and a later one
   later_point : (n : ℕ) (s : A) (i j : ℕ) → n ≤ bits → IsInvertible R s → i < j → j < 2 ^ n → IsInvertible R (point R g n s i ⊕ neg (point R g n s j))
@@ -148,7 +152,8 @@ module _ {A : Type 0} (R : Ring A) {g : ℕ → A} {bits : ℕ} (G : AreRoots R 
           ∙ solve R (s ∷ power R (g n) i ∷ power R (g n) (j - i) ∷ []) (va ⊠ vb ⊟ va ⊠ (vb ⊠ vc)) ((va ⊠ vb) ⊠ (oneₑ ⊟ vc)) refl
 
   -- the difference of two points has an inverse
-  pub points_apart : (n : ℕ) (s : A) (i j : ℕ) → n ≤ bits → IsInvertible R s → i < 2 ^ n → j < 2 ^ n → i ≢ j → IsInvertible R (point R g n s j ⊕ neg (point R g n s i))
+  pub points_apart : (n : ℕ) (s : A) (i j : ℕ) → n ≤ bits → IsInvertible R s → i < 2 ^ n → j < 2 ^ n → i ≢ j
+      → IsInvertible R (point R g n s j ⊕ neg (point R g n s i))
   points_apart n s i j b inverse first second different = cases (cases_order i j)
     where
       turned : (x y : A) → IsInvertible R (x ⊕ neg y) → IsInvertible R (y ⊕ neg x)
@@ -161,7 +166,8 @@ module _ {A : Type 0} (R : Ring A) {g : ℕ → A} {bits : ℕ} (G : AreRoots R 
 
   -- ---- words
   -- words of one width that agree in as many rows as their polynomials have coefficients are one
-  pub one_word : (c d : Matrix A) (n : ℕ) (s : A) (v w : Matrix A) → n ≤ bits → IsInvertible R s → c.height ≡ d.height → IsValues R g c n s v → IsValues R g d n s w → v.width ≡ w.width
+  pub one_word : (c d : Matrix A) (n : ℕ) (s : A) (v w : Matrix A) → n ≤ bits → IsInvertible R s → c.height ≡ d.height
+      → IsValues R g c n s v → IsValues R g d n s w → v.width ≡ w.width
       → AgreeInRows c.height v w → Same v w
   one_word c d n s v w b inverse tall of_c of_d wide agree =
       values_unique R g d n s v w (coefficients_same R g c d n s v same of_c) of_d
@@ -175,7 +181,9 @@ module _ {A : Type 0} (R : Ring A) {g : ℕ → A} {bits : ℕ} (G : AreRoots R 
             (agree.distinct i j 0 before (omega (arith, agree.enough)));
       }
 
-      here : (j : ℕ) → j < c.width → (i : ℕ) → i < c.height → poly R c.height (λ q. c.entry q j) (point R g n s (get_or agree.rows i 0)) ≡ poly R c.height (λ q. d.entry q j) (point R g n s (get_or agree.rows i 0))
+      here : (j : ℕ) → j < c.width → (i : ℕ) → i < c.height
+          → poly R c.height (λ q. c.entry q j) (point R g n s (get_or agree.rows i 0))
+          ≡ poly R c.height (λ q. d.entry q j) (point R g n s (get_or agree.rows i 0))
       here j column i below =
           sym (entry-poly R g c n s v of_c (get_or agree.rows i 0) j (inside i below) column)
           ∙ agree.holds i 0 (omega (arith, agree.enough)) j (omega (arith, of_c.width))
@@ -186,5 +194,7 @@ module _ {A : Type 0} (R : Ring A) {g : ℕ → A} {bits : ℕ} (G : AreRoots R 
       same = record {
         height = tall;
         width = sym of_c.width ∙ wide ∙ of_d.width;
-        alike = λ i j below column. one_polynomial R c.height (λ q. c.entry q j) (λ q. d.entry q j) (λ q. point R g n s (get_or agree.rows q 0)) distinct (here j column) i below;
+        alike =
+            λ i j below column. one_polynomial R c.height (λ q. c.entry q j) (λ q. d.entry q j)
+            (λ q. point R g n s (get_or agree.rows q 0)) distinct (here j column) i below;
       }

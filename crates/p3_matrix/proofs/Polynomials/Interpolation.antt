@@ -8,7 +8,9 @@ use Rattle.p3_field.proofs.Rings
 use Rattle.p3_field.proofs.RingSolver.{solve, solve_by, va, vb, vc, vd, oneₑ, ◌⊞◌, ◌⊠◌, ◌⊟◌, ⊝}
 use Rattle.p3_field.proofs.Powers.{power-zero, power-suc, power_of_one, power-mul, power-inverse, count-power_of_two}
 use Rattle.p3_field.proofs.Parity.{even_or_odd}
-use Rattle.p3_field.proofs.Roots.{AreInverseRoots, inverse_roots_sym, inverse_root, inverse_roots, inverse_undoes, inverse_power, root_twice, root_across, root_round, root_squared, root_all, doubled, doubled_add, doubled-power, halved, halved-power, halved-doubled}
+use Rattle.p3_field.proofs.Roots.{AreInverseRoots, inverse_roots_sym, inverse_root, inverse_roots, inverse_undoes}
+use Rattle.p3_field.proofs.Roots.{inverse_power, root_twice, root_across, root_round, root_squared, root_all, doubled}
+use Rattle.p3_field.proofs.Roots.{doubled_add, doubled-power, halved, halved-power, halved-doubled}
 use Rattle.p3_matrix.specs.Matrix.{Matrix, Same}
 use Rattle.p3_matrix.specs.Polynomials.{poly}
 use Rattle.p3_matrix.specs.Cosets.{point, IsValues, AreCoefficients, coset_shift}
@@ -36,7 +38,8 @@ values_at_is R g n s c k = refl
 unfoldable pub coefficients : {A : Type 0} → Ring A → (ℕ → A) → ℕ → A → (ℕ → A) → ℕ → A
 coefficients R h n t y j = R.mul (halved R n (transform R h n y j)) (power R t j)
 
-pub coefficients_are : {A : Type 0} (R : Ring A) (h : ℕ → A) (n : ℕ) (t : A) (y : ℕ → A) (j : ℕ) → coefficients R h n t y j ≡ R.mul (halved R n (transform R h n y j)) (power R t j)
+pub coefficients_are : {A : Type 0} (R : Ring A) (h : ℕ → A) (n : ℕ) (t : A) (y : ℕ → A) (j : ℕ)
+    → coefficients R h n t y j ≡ R.mul (halved R n (transform R h n y j)) (power R t j)
 unfolding coefficients
 coefficients_are R h n t y j = refl
 
@@ -54,7 +57,9 @@ module _ {A : Type 0} (R : Ring A) {g : ℕ → A} {bits : ℕ} (G : AreRoots R 
   infixl 60 ◌⊕◌
   infixl 70 ◌⊗◌
   -- at a root's power, the halves of a polynomial: its even and its odd places
-  pub transform_near : (n : ℕ) (c : ℕ → A) (k : ℕ) → n < bits → transform R g (suc n) c k ≡ transform R g n (λ j. c (2 * j)) k ⊕ power R (g (suc n)) k ⊗ transform R g n (λ j. c (2 * j + 1)) k
+  pub transform_near : (n : ℕ) (c : ℕ → A) (k : ℕ) → n < bits
+      → transform R g (suc n) c k
+      ≡ transform R g n (λ j. c (2 * j)) k ⊕ power R (g (suc n)) k ⊗ transform R g n (λ j. c (2 * j + 1)) k
   unfolding transform
   transform_near n c k b = let e : 2 ^ suc n ≡ 2 * 2 ^ n = omega arith in
       ap (λ m. poly R m c (power R (g (suc n)) k)) e ∙ poly-split R (2 ^ n) c _
@@ -64,7 +69,9 @@ module _ {A : Type 0} (R : Ring A) {g : ℕ → A} {bits : ℕ} (G : AreRoots R 
   unfolding transform
   transform_round n c k b = ap (poly R (2 ^ n) c) (root_round R G n k b)
 
-  pub transform_far : (n : ℕ) (c : ℕ → A) (k : ℕ) → n < bits → transform R g (suc n) c (2 ^ n + k) ≡ transform R g n (λ j. c (2 * j)) k ⊕ neg (power R (g (suc n)) k ⊗ transform R g n (λ j. c (2 * j + 1)) k)
+  pub transform_far : (n : ℕ) (c : ℕ → A) (k : ℕ) → n < bits
+      → transform R g (suc n) c (2 ^ n + k)
+      ≡ transform R g n (λ j. c (2 * j)) k ⊕ neg (power R (g (suc n)) k ⊗ transform R g n (λ j. c (2 * j + 1)) k)
   transform_far n c k b = transform_near n c (2 ^ n + k) b
       ∙ ap₂ ◌⊕◌ (transform_round n _ k (omega arith)) (ap₂ ◌⊗◌ (root_across R G n k b) (transform_round n _ k (omega arith)) ∙ Rings.neg-mul R _ _)
 
@@ -72,7 +79,8 @@ module _ {A : Type 0} (R : Ring A) {g : ℕ → A} {bits : ℕ} (G : AreRoots R 
   invert_halves : (n : ℕ) (c : ℕ → A) (z : A) → n < bits →
       poly R (2 ^ suc n) (transform R g (suc n) c) z
       ≡ (poly R (2 ^ n) (transform R g n (λ m. c (2 * m))) z ⊕ poly R (2 ^ n) (λ k. power R (g (suc n)) k ⊗ transform R g n (λ m. c (2 * m + 1)) k) z)
-      ⊕ power R z (2 ^ n) ⊗ (poly R (2 ^ n) (transform R g n (λ m. c (2 * m))) z ⊕ neg (poly R (2 ^ n) (λ k. power R (g (suc n)) k ⊗ transform R g n (λ m. c (2 * m + 1)) k) z))
+      ⊕ power R z (2 ^ n) ⊗ (poly R (2 ^ n) (transform R g n (λ m. c (2 * m))) z ⊕ neg
+      (poly R (2 ^ n) (λ k. power R (g (suc n)) k ⊗ transform R g n (λ m. c (2 * m + 1)) k) z))
   invert_halves n c z b =
       let E = transform R g n (λ m. c (2 * m)) in
       let O = λ (k : ℕ). power R (g (suc n)) k ⊗ transform R g n (λ m. c (2 * m + 1)) k in
@@ -80,25 +88,32 @@ module _ {A : Type 0} (R : Ring A) {g : ℕ → A} {bits : ℕ} (G : AreRoots R 
       ap (λ m. poly R m (transform R g (suc n) c) z) e ∙ poly-append R (2 ^ n) (2 ^ n) (transform R g (suc n) c) z
       ∙ ap₂ (λ x y. x ⊕ power R z (2 ^ n) ⊗ y)
       (poly_same R (2 ^ n) _ (λ k. E k ⊕ O k) z (λ k l. transform_near n c k b) ∙ poly-add R (2 ^ n) E O z)
-      (poly_same R (2 ^ n) _ (λ k. E k ⊕ neg (O k)) z (λ k l. transform_far n c k b) ∙ poly-add R (2 ^ n) E (λ k. neg (O k)) z ∙ ap (λ x. poly R (2 ^ n) E z ⊕ x) (poly-neg R (2 ^ n) O z))
+      (poly_same R (2 ^ n) _ (λ k. E k ⊕ neg (O k)) z (λ k l. transform_far n c k b)
+      ∙ poly-add R (2 ^ n) E (λ k. neg (O k)) z ∙ ap (λ x. poly R (2 ^ n) E z ⊕ x) (poly-neg R (2 ^ n) O z))
 
 module _ {A : Type 0} (R : Ring A) {g h : ℕ → A} {bits : ℕ} (G : AreRoots R bits g) (H : AreRoots R bits h) (I : AreInverseRoots R bits g h) where
   open R use {add as ◌⊕◌, mul as ◌⊗◌, neg, zero as 𝟘, one as 𝟙}
 
   infixl 60 ◌⊕◌
   infixl 70 ◌⊗◌
-  invert_even : (n : ℕ) (c : ℕ → A) (j : ℕ) → n < bits → transform R h (suc n) (transform R g (suc n) c) (2 * j) ≡ transform R h n (transform R g n (λ m. c (2 * m))) j ⊕ transform R h n (transform R g n (λ m. c (2 * m))) j
+  invert_even : (n : ℕ) (c : ℕ → A) (j : ℕ) → n < bits
+      → transform R h (suc n) (transform R g (suc n) c) (2 * j)
+      ≡ transform R h n (transform R g n (λ m. c (2 * m))) j ⊕ transform R h n (transform R g n (λ m. c (2 * m))) j
   invert_even n c j b =
       let z = power R (h n) j in
       let O = λ (k : ℕ). power R (g (suc n)) k ⊗ transform R g n (λ m. c (2 * m + 1)) k in
       let E = transform R g n (λ m. c (2 * m)) in
       let one : power R z (2 ^ n) ≡ 𝟙 = sym (power-mul R (h n) j (2 ^ n)) ∙ root_all R H n j (omega arith) in
-      transform_is R h (suc n) (transform R g (suc n) c) (2 * j) ∙ ap (poly R (2 ^ suc n) (transform R g (suc n) c)) (root_twice R H n j b) ∙ invert_halves R G n c z b
+      transform_is R h (suc n) (transform R g (suc n) c) (2 * j)
+      ∙ ap (poly R (2 ^ suc n) (transform R g (suc n) c)) (root_twice R H n j b) ∙ invert_halves R G n c z b
       ∙ ap (λ x. (poly R (2 ^ n) E z ⊕ poly R (2 ^ n) O z) ⊕ x ⊗ (poly R (2 ^ n) E z ⊕ neg (poly R (2 ^ n) O z))) one
       ∙ solve R (poly R (2 ^ n) E z ∷ poly R (2 ^ n) O z ∷ []) ((va ⊞ vb) ⊞ oneₑ ⊠ (va ⊟ vb)) (va ⊞ va) refl
       ∙ ap (λ x. x ⊕ x) (sym (transform_is R h n E j))
 
-  invert_odd : (n : ℕ) (c : ℕ → A) (j : ℕ) → n < bits → transform R h (suc n) (transform R g (suc n) c) (2 * j + 1) ≡ transform R h n (transform R g n (λ m. c (2 * m + 1))) j ⊕ transform R h n (transform R g n (λ m. c (2 * m + 1))) j
+  invert_odd : (n : ℕ) (c : ℕ → A) (j : ℕ) → n < bits
+      → transform R h (suc n) (transform R g (suc n) c) (2 * j + 1)
+      ≡ transform R h n (transform R g n (λ m. c (2 * m + 1))) j ⊕ transform R h n
+      (transform R g n (λ m. c (2 * m + 1))) j
   invert_odd n c j b =
       let w = g (suc n) in
       let u = h (suc n) in
@@ -110,11 +125,15 @@ module _ {A : Type 0} (R : Ring A) {g h : ℕ → A} {bits : ℕ} (G : AreRoots 
       let d : 2 * 2 ^ n ≡ 2 ^ suc n = omega arith in
       let odd : 2 * j + 1 ≡ suc (2 * j) = omega arith in
       let minus : power R z (2 ^ n) ≡ neg 𝟙 =
-      sym (power-mul R u (2 * j + 1) (2 ^ n)) ∙ ap (power R u) e ∙ root_across R H n (j * (2 * 2 ^ n)) b ∙ ap (λ k. neg (power R u (j * k))) d ∙ ap neg (root_all R H (suc n) j b) in
+      sym (power-mul R u (2 * j + 1) (2 ^ n)) ∙ ap (power R u) e ∙ root_across R H n (j * (2 * 2 ^ n)) b
+      ∙ ap (λ k. neg (power R u (j * k))) d ∙ ap neg (root_all R H (suc n) j b) in
       let back : w ⊗ z ≡ power R (h n) j =
-      ap (λ k. w ⊗ power R u k) odd ∙ ap (λ x. w ⊗ x) (power-suc R u (2 * j)) ∙ sym (R.mul_assoc w u (power R u (2 * j))) ∙ ap₂ ◌⊗◌ (I.undo (suc n) b) (root_twice R H n j b) ∙ Rings.one-mul R _ in
+      ap (λ k. w ⊗ power R u k) odd ∙ ap (λ x. w ⊗ x) (power-suc R u (2 * j))
+      ∙ sym (R.mul_assoc w u (power R u (2 * j))) ∙ ap₂ ◌⊗◌ (I.undo (suc n) b) (root_twice R H n j b)
+      ∙ Rings.one-mul R _ in
       let inner : poly R (2 ^ n) O z ≡ transform R h n V j =
-      poly_same R (2 ^ n) O (λ k. V k ⊗ power R w k) z (λ k l. R.mul_comm _ _) ∙ poly-scaled R (2 ^ n) V w z ∙ ap (poly R (2 ^ n) V) back ∙ sym (transform_is R h n V j) in
+      poly_same R (2 ^ n) O (λ k. V k ⊗ power R w k) z (λ k l. R.mul_comm _ _) ∙ poly-scaled R (2 ^ n) V w z
+      ∙ ap (poly R (2 ^ n) V) back ∙ sym (transform_is R h n V j) in
       transform_is R h (suc n) (transform R g (suc n) c) (2 * j + 1) ∙ invert_halves R G n c z b
       ∙ ap₂ (λ x y. (poly R (2 ^ n) E z ⊕ y) ⊕ x ⊗ (poly R (2 ^ n) E z ⊕ neg y)) minus inner
       ∙ solve R (poly R (2 ^ n) E z ∷ transform R h n V j ∷ []) ((va ⊞ vb) ⊞ (⊝ oneₑ) ⊠ (va ⊟ vb)) (vb ⊞ vb) refl
@@ -128,9 +147,17 @@ module _ {A : Type 0} (R : Ring A) {g h : ℕ → A} {bits : ℕ} (G : AreRoots 
   invert zero c j b l = invert_zero c j l
   invert (suc n) c j b l = go (λ d k. invert n d k (omega arith)) (even_or_odd j)
     where
-      go : ((d : ℕ → A) (k : ℕ) → k < 2 ^ n → transform R h n (transform R g n d) k ≡ doubled R n (d k)) → ((k : ℕ) × j ≡ 2 * k) ⊎ ((k : ℕ) × j ≡ 2 * k + 1) → transform R h (suc n) (transform R g (suc n) c) j ≡ doubled R n (c j ⊕ c j)
-      go ih (inl (k, e)) = ap (transform R h (suc n) (transform R g (suc n) c)) e ∙ invert_even n c k b ∙ ap (λ x. x ⊕ x) (ih (λ m. c (2 * m)) k (omega arith)) ∙ sym (doubled_add R n _ _) ∙ ap (λ x. doubled R n (c x ⊕ c x)) (sym e)
-      go ih (inr (k, e)) = ap (transform R h (suc n) (transform R g (suc n) c)) e ∙ invert_odd n c k b ∙ ap (λ x. x ⊕ x) (ih (λ m. c (2 * m + 1)) k (omega arith)) ∙ sym (doubled_add R n _ _) ∙ ap (λ x. doubled R n (c x ⊕ c x)) (sym e)
+      go : ((d : ℕ → A) (k : ℕ) → k < 2 ^ n → transform R h n (transform R g n d) k ≡ doubled R n (d k))
+          → ((k : ℕ) × j ≡ 2 * k) ⊎ ((k : ℕ) × j ≡ 2 * k + 1)
+          → transform R h (suc n) (transform R g (suc n) c) j ≡ doubled R n (c j ⊕ c j)
+      go ih (inl (k, e)) =
+          ap (transform R h (suc n) (transform R g (suc n) c)) e ∙ invert_even n c k b
+          ∙ ap (λ x. x ⊕ x) (ih (λ m. c (2 * m)) k (omega arith)) ∙ sym (doubled_add R n _ _)
+          ∙ ap (λ x. doubled R n (c x ⊕ c x)) (sym e)
+      go ih (inr (k, e)) =
+          ap (transform R h (suc n) (transform R g (suc n) c)) e ∙ invert_odd n c k b
+          ∙ ap (λ x. x ⊕ x) (ih (λ m. c (2 * m + 1)) k (omega arith)) ∙ sym (doubled_add R n _ _)
+          ∙ ap (λ x. doubled R n (c x ⊕ c x)) (sym e)
 
 module _ {A : Type 0} (R : Ring A) {g h : ℕ → A} {bits : ℕ} (G : AreRoots R bits g) (H : AreRoots R bits h) (I : AreInverseRoots R bits g h) where
   open R use {add as ◌⊕◌, mul as ◌⊗◌, neg, zero as 𝟘, one as 𝟙}
@@ -165,12 +192,14 @@ module _ {A : Type 0} (R : Ring A) {g h : ℕ → A} {bits : ℕ} (G : AreRoots 
       values_at-scaled n s (coefficients R h n t y) k
       ∙ transform_same R g n _ (λ j. power R R.half n ⊗ transform R h n y j) (λ j m. each j) k
       ∙ transform_is R g n _ k ∙ poly-times R (2 ^ n) (power R R.half n) (transform R h n y) (power R (g n) k)
-      ∙ ap (λ x. power R R.half n ⊗ x) (sym (transform_is R g n _ k) ∙ invert R H G (inverse_roots_sym R I) n y k b l) ∙ sym (halved-power R n _) ∙ halved-doubled R n (y k)
+      ∙ ap (λ x. power R R.half n ⊗ x) (sym (transform_is R g n _ k) ∙ invert R H G (inverse_roots_sym R I) n y k b l) ∙
+      sym (halved-power R n _) ∙ halved-doubled R n (y k)
     where
       each : (j : ℕ) → coefficients R h n t y j ⊗ power R s j ≡ power R R.half n ⊗ transform R h n y j
       each j =
           ap (λ x. x ⊗ power R s j) (coefficients_are R h n t y j ∙ ap (λ x. x ⊗ power R t j) (halved-power R n (transform R h n y j)))
-          ∙ solve_by R (power R R.half n ∷ transform R h n y j ∷ power R t j ∷ power R s j ∷ []) (((va ⊠ vb) ⊠ vc) ⊠ vd) (va ⊠ vb) (va ⊠ vb) (vd ⊠ vc) oneₑ (power-inverse R s t j e) refl
+          ∙ solve_by R (power R R.half n ∷ transform R h n y j ∷ power R t j ∷ power R s j ∷ []) (((va ⊠ vb) ⊠ vc) ⊠ vd)
+          (va ⊠ vb) (va ⊠ vb) (vd ⊠ vc) oneₑ (power-inverse R s t j e) refl
 
 module _ {A : Type 0} (R : Ring A) {g : ℕ → A} {bits : ℕ} (G : AreRoots R bits g) where
   open R use {add as ◌⊕◌, mul as ◌⊗◌, neg, zero as 𝟘, one as 𝟙}
@@ -194,7 +223,8 @@ module _ {A : Type 0} (R : Ring A) {g : ℕ → A} {bits : ℕ} (G : AreRoots R 
   }
 
   -- there are no others
-  pub there_is_no_other : (m : Matrix A) (k : ℕ) (s : A) → k ≤ bits → IsInvertible R s → (c d : Matrix A) → AreCoefficients R g m k s c → AreCoefficients R g m k s d → Same c d
+  pub there_is_no_other : (m : Matrix A) (k : ℕ) (s : A) → k ≤ bits → IsInvertible R s → (c d : Matrix A)
+      → AreCoefficients R g m k s c → AreCoefficients R g m k s d → Same c d
   there_is_no_other m k s b inverse c d p q = record {
     height = p.height ∙ sym q.height;
     width = p.width ∙ sym q.width;
@@ -204,19 +234,24 @@ module _ {A : Type 0} (R : Ring A) {g : ℕ → A} {bits : ℕ} (G : AreRoots R 
     where
       column_value : (c : Matrix A) → AreCoefficients R g m k s c → (y j : ℕ) → y < 2 ^ k → j < c.width → values_at R g k s (λ x. c.entry x j) y ≡ m.entry y j
       column_value c p y j w v =
-          values_at_is R g k s (λ x. c.entry x j) y ∙ ap (λ n. poly R n (λ x. c.entry x j) (point R g k s y)) (sym (p.height ∙ p.values.height)) ∙ sym (entry-poly R g c k s m p.values y j w v)
+          values_at_is R g k s (λ x. c.entry x j) y
+          ∙ ap (λ n. poly R n (λ x. c.entry x j) (point R g k s y)) (sym (p.height ∙ p.values.height))
+          ∙ sym (entry-poly R g c k s m p.values y j w v)
 
   -- ---- inverse transforms
   -- a transform at the inverse roots gives the coefficients, doubled k times
   pub inverse_transform : (m c : Matrix A) (k : ℕ) → k ≤ bits → m.height ≡ 2 ^ k → c.height ≡ m.height → c.width ≡ m.width
-      → ((i j : ℕ) → i < 2 ^ k → j < m.width → power R (two R) k ⊗ c.entry i j ≡ transform R (inverse_root R g) k (λ q. m.entry q j) i) → AreCoefficients R g m k 𝟙 c
+      → ((i j : ℕ) → i < 2 ^ k → j < m.width
+      → power R (two R) k ⊗ c.entry i j ≡ transform R (inverse_root R g) k (λ q. m.entry q j) i) → AreCoefficients
+      R g m k 𝟙 c
   inverse_transform m c k b h high wide e = record {
     height = high;
     width = wide;
     values = is_values R g c k 𝟙 m h (sym wide)
         (λ i j p q. let f = λ (r : ℕ). m.entry r j in
         sym (ap (λ n. poly R n (λ r. c.entry r j) (point R g k 𝟙 i)) (high ∙ h)
-        ∙ poly_same R (2 ^ k) (λ r. c.entry r j) (coefficients R (inverse_root R g) k 𝟙 f) (point R g k 𝟙 i) (λ r l. sym (undone f (c.entry r j) r (e r j l (omega (arith, wide)))))
+        ∙ poly_same R (2 ^ k) (λ r. c.entry r j) (coefficients R (inverse_root R g) k 𝟙 f) (point R g k 𝟙 i)
+        (λ r l. sym (undone f (c.entry r j) r (e r j l (omega (arith, wide)))))
         ∙ sym (values_at_is R g k 𝟙 (coefficients R (inverse_root R g) k 𝟙 f) i)
         ∙ values_at-coefficients R G (inverse_roots R G) (inverse_undoes R G) k 𝟙 𝟙 (R.mul_one 𝟙) f i b p));
   }
@@ -229,7 +264,8 @@ module _ {A : Type 0} (R : Ring A) {g : ℕ → A} {bits : ℕ} (G : AreRoots R 
   root_opposite : (n j : ℕ) → n ≤ bits → j < 2 ^ n → power R (inverse_root R g n) j ≡ power R (g n) (opposite (2 ^ n) j)
   root_opposite n zero b l = power-zero R (inverse_root R g n) ∙ sym (ap (power R (g n)) (opposite-zero (2 ^ n)) ∙ power-zero R (g n))
   root_opposite n (suc j) b l =
-      inverse_power R G (inverse_undoes R G) n (suc j) (2 ^ n - suc j) b (omega arith) ∙ ap (power R (g n)) (sym (opposite_above_zero (2 ^ n) (suc j) (omega arith) (omega arith)))
+      inverse_power R G (inverse_undoes R G) n (suc j) (2 ^ n - suc j) b (omega arith)
+      ∙ ap (power R (g n)) (sym (opposite_above_zero (2 ^ n) (suc j) (omega arith) (omega arith)))
 
   -- the inverse by a forward transform: the values y on the subgroup, of the values m themselves, are the coefficients of m in
   -- opposite order, doubled k times
@@ -247,7 +283,8 @@ module _ {A : Type 0} (R : Ring A) {g : ℕ → A} {bits : ℕ} (G : AreRoots R 
       forward_inverse m y c k b h v high wide (λ i j p q. ap (λ x. x ⊗ c.entry i j) (sym (count-power_of_two R k)) ∙ e i j p q)
 
   -- coefficients on the subgroup, row i times the i-th power of the inverse of s, are coefficients on the coset of s
-  pub coset_coefficients : (m c d : Matrix A) (k : ℕ) (s t : A) → IsInverse R s t → AreCoefficients R g m k 𝟙 c → Same d (coset_shift R t c) → AreCoefficients R g m k s d
+  pub coset_coefficients : (m c d : Matrix A) (k : ℕ) (s t : A) → IsInverse R s t → AreCoefficients R g m k 𝟙 c
+      → Same d (coset_shift R t c) → AreCoefficients R g m k s d
   coset_coefficients m c d k s t inverse a e = record {
     height = e.height ∙ a.height;
     width = e.width ∙ a.width;
@@ -265,4 +302,8 @@ module _ {A : Type 0} (R : Ring A) {g : ℕ → A} {bits : ℕ} (G : AreRoots R 
 
   -- and what is the same as the coefficients are the coefficients
   pub same_coefficients : (m : Matrix A) (k : ℕ) (s : A) (c d : Matrix A) → Same c d → AreCoefficients R g m k s c → AreCoefficients R g m k s d
-  same_coefficients m k s c d e a = record { height = sym e.height ∙ a.height; width = sym e.width ∙ a.width; values = coefficients_same R g c d k s m e a.values }
+  same_coefficients m k s c d e a = record {
+    height = sym e.height ∙ a.height;
+    width = sym e.width ∙ a.width;
+    values = coefficients_same R g c d k s m e a.values;
+  }

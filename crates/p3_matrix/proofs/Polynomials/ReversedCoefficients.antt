@@ -34,7 +34,8 @@ module _ {A : Type 0} (R : Ring A) {g : ℕ → A} {bits : ℕ} (G : AreRoots R 
       ∙ sym (transform_is R (inverse_root R g) k f i))
 
   -- a single row is its own coefficients, whatever power of two its height is said to be
-  pub coefficients_of_row : (m c : Matrix A) (k : ℕ) → k ≤ bits → m.height ≡ 1 → m.height ≡ 2 ^ k → IsQuotient R (2 ^ k) (bit_reversal k m) c → AreCoefficients R g m k R.one c
+  pub coefficients_of_row : (m c : Matrix A) (k : ℕ) → k ≤ bits → m.height ≡ 1 → m.height ≡ 2 ^ k
+      → IsQuotient R (2 ^ k) (bit_reversal k m) c → AreCoefficients R g m k R.one c
   coefficients_of_row m c k within one high quotient =
       coefficients_of_reversed m m c k within high refl refl
       (λ i j below inside.
@@ -46,11 +47,17 @@ module _ {A : Type 0} (R : Ring A) {g : ℕ → A} {bits : ℕ} (G : AreRoots R 
       quotient
 
   -- the same where the entries were divided by the height beforehand
-  pub coefficients_of_scaled : (m out : Matrix A) (k : ℕ) (scale : A) → k ≤ bits → m.height ≡ 2 ^ k → out.height ≡ m.height → out.width ≡ m.width → R.mul (count R (2 ^ k)) scale ≡ R.one
+  pub coefficients_of_scaled : (m out : Matrix A) (k : ℕ) (scale : A) → k ≤ bits → m.height ≡ 2 ^ k
+      → out.height ≡ m.height → out.width ≡ m.width → R.mul (count R (2 ^ k)) scale ≡ R.one
       → ((i j : ℕ) → i < 2 ^ k → j < m.width → out.entry i j ≡ poly R (2 ^ k) (λ q. R.mul (m.entry q j) scale) (power R (inverse_root R g k) (rev k i)))
       → AreCoefficients R g m k R.one (bit_reversal k out)
   coefficients_of_scaled m out k scale within high tall wide undone entries =
-      let sums : Matrix A = record { height = m.height; width = m.width; entry = λ i j. poly R (2 ^ k) (λ q. m.entry q j) (power R (inverse_root R g k) (rev k i)) } in
+      let sums : Matrix A =
+      record {
+        height = m.height;
+        width = m.width;
+        entry = λ i j. poly R (2 ^ k) (λ q. m.entry q j) (power R (inverse_root R g k) (rev k i));
+      } in
       coefficients_of_reversed m sums (bit_reversal k out) k within high refl refl (λ i j below inside. refl)
       (record {
         height = tall;

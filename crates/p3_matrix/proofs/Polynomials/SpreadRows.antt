@@ -48,7 +48,9 @@ module _ {T : Type 0} (z : T) (N h : ℕ) where
             (cases_eq i n);
         others = λ r from less no.
             ⊎_elim
-            (λ same. ap next same ∙ near ∙ done.others (n * N) (omega arith) in_all (λ i later low e. let above = rise n i N (omega arith) two in absurd (omega (arith, above, e))))
+            (λ same. ap next same ∙ near
+            ∙ done.others (n * N) (omega arith) in_all
+            (λ i later low e. let above = rise n i N (omega arith) two in absurd (omega (arith, above, e))))
             (λ other. rest r less other (no n (omega arith) inside) ∙ done.others r (omega (arith, other)) less (λ i later low. no i (omega arith) low))
             (cases_eq r n);
       }
@@ -59,7 +61,8 @@ module _ {T : Type 0} (z : T) (N h : ℕ) where
   spread_exchanged n x now next j two some inside tall column same done =
       let far_off = room n N two in
       let in_all = rise n h N inside two in
-      let at : (r : ℕ) → r < h * N → next.entry r j ≡ (row_exchange n (n * N) now).entry r j = λ r less. same.alike r j (omega (arith, same.height)) (omega (arith, same.width)) in
+      let at : (r : ℕ) → r < h * N → next.entry r j ≡ (row_exchange n (n * N) now).entry r j =
+      λ r less. same.alike r j (omega (arith, same.height)) (omega (arith, same.width)) in
       spread_more n x (λ i. now.entry i j) (λ i. next.entry i j) two some inside done
       (at n (omega arith) ∙ rw (eq-eqb n n refl) refl)
       (at (n * N) in_all ∙ rw (ne_eqb (n * N) n (λ e. omega arith), eq-eqb (n * N) (n * N) refl) refl)
@@ -69,7 +72,10 @@ module _ {T : Type 0} (z : T) (N h : ℕ) where
   pub spread_rows : (x y : ℕ → T) → SpreadFrom z N h 1 x y → (i : ℕ) → i < h → y (i * N) ≡ x i
   spread_rows x y done i inside =
       ⊎_elim
-      (λ less. let first : i ≡ 0 = omega arith in subst (λ (q : ℕ). y (q * N) ≡ x q) (sym first) (let start : 0 * N ≡ 0 = omega arith in ap y start ∙ done.below 0 (omega arith)))
+      (λ less.
+      let first : i ≡ 0 = omega arith in
+      subst (λ (q : ℕ). y (q * N) ≡ x q) (sym first)
+      (let start : 0 * N ≡ 0 = omega arith in ap y start ∙ done.below 0 (omega arith)))
       (λ more. done.placed i more inside)
       (cases_lt i 1)
 

@@ -44,7 +44,9 @@ opposite_all n m x y l h done (suc i) q = by_side (cases_lt i m) (cases_lt (suc 
   where
     by_side : (i < m) ⊎ (m ≤ i) → (suc i < n - m) ⊎ (n - m ≤ suc i) → y (suc i) ≡ x (n - suc i)
     by_side (inl a) other = let e : i + 1 ≡ suc i = omega arith in subst (λ (k : ℕ). y k ≡ x (n - k)) e (done.lows i a)
-    by_side (inr a) (inl b) = let e : suc i ≡ n - suc i = omega arith in done.rest (suc i) (λ p c. ((λ f. absurd (omega arith)), (λ f. absurd (omega arith)))) ∙ ap x e
+    by_side (inr a) (inl b) =
+        let e : suc i ≡ n - suc i = omega arith in
+        done.rest (suc i) (λ p c. ((λ f. absurd (omega arith)), (λ f. absurd (omega arith)))) ∙ ap x e
     by_side (inr a) (inr b) =
         let p = n - suc (suc i) in
         let e : n - (p + 1) ≡ suc i = omega arith in

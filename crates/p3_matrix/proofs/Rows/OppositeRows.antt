@@ -11,7 +11,9 @@ use Rattle.p3_matrix.proofs.Rows.OppositePlaces.{OppositeUntil, opposite_more, o
 module _ {T : Type 0} (d : T) where
   -- one more pair of rows, row and n - row
   pub opposed_more : (before now next : RowMajor T) (n row p : ℕ) → row ≡ p + 1 → height now ≡ n → length now.values ≡ n * now.width → 2 * row < n
-      → HasShapeOf next now → length next.values ≡ length now.values → Same (matrix d next) (row_exchange row (n - row) (matrix d now)) → (j : ℕ) → j < now.width
+      → HasShapeOf next now → length next.values
+      ≡ length now.values → Same (matrix d next) (row_exchange row (n - row) (matrix d now)) → (j : ℕ) → j
+      < now.width
       → OppositeUntil n p (λ i. (matrix d before).entry i j) (λ i. (matrix d now).entry i j)
       → OppositeUntil n row (λ i. (matrix d before).entry i j) (λ i. (matrix d next).entry i j)
   opposed_more before now next n row p is tall size low shape kept same j inside done =
@@ -31,7 +33,10 @@ module _ {T : Type 0} (d : T) where
       far = at (n - row) (omega arith) ∙ rw (ne_eqb (n - row) row (λ e. omega arith), eq-eqb (n - row) (n - row) refl) refl
 
       past : (m : RowMajor T) (r : ℕ) → n ≤ r → m.width ≡ now.width → length m.values ≡ n * now.width → (matrix d m).entry r j ≡ d
-      past m r above wide full = get_or_past m.values (r * m.width + j) d (let l : n * m.width ≤ r * m.width = mul-le-mul_right m.width above in omega (arith, l, full, ap (λ w. n * w) wide))
+      past m r above wide full =
+          get_or_past m.values (r * m.width + j) d (let l : n * m.width ≤ r * m.width =
+          mul-le-mul_right m.width above in
+          omega (arith, l, full, ap (λ w. n * w) wide))
 
       others : (r : ℕ) → r ≢ row → r ≢ n - row → (matrix d next).entry r j ≡ (matrix d now).entry r j
       others r a b =

@@ -46,14 +46,16 @@ module _ {T : Type 0} (z : T) (m : RowMajor T) (whole : IsRowMajor m) (a : ℕ) 
       ∙ copy_at _ (i * m.width + j - length m.values) z
 
 -- what a matrix of the shape of m has with rows of zeros below it
-pub padded_shape : {T : Type 0} (z : T) (m back p : RowMajor T) (a k : ℕ) → IsRowMajor back → HasShapeOf back m → height m ≡ 2 ^ k → p ≡ with_zeros z back a → (height p ≡ 2 ^ (k + a)) × (p.width ≡ m.width)
+pub padded_shape : {T : Type 0} (z : T) (m back p : RowMajor T) (a k : ℕ) → IsRowMajor back → HasShapeOf back m
+    → height m ≡ 2 ^ k → p ≡ with_zeros z back a → (height p ≡ 2 ^ (k + a)) × (p.width ≡ m.width)
 padded_shape {T} z m back p a k whole shape high is = (
   ap (λ (n : RowMajor T). height n) is ∙ padded_high z back whole a ∙ ap (λ h. h * 2 ^ a) (shape.0 ∙ high) ∙ sym (pow-add 2 k a),
   ap (λ (n : RowMajor T). n.width) is ∙ shape.1,
 )
 
 -- rows of zeros below the coefficients change no value
-pub values_of_padded : {F : Type 0} (f : FieldMembers F) → f.value f.zero ≡ f.ring.zero → (generator : ℕ → F) (m : RowMajor F) → IsRowMajor m → (a n : ℕ) (s : f.Element) (out : RowMajor F)
+pub values_of_padded : {F : Type 0} (f : FieldMembers F) → f.value f.zero ≡ f.ring.zero
+    → (generator : ℕ → F) (m : RowMajor F) → IsRowMajor m → (a n : ℕ) (s : f.Element) (out : RowMajor F)
     → IsValues f.ring (λ i. f.value (generator i)) (values_of f (with_zeros f.zero m a)) n s (values_of f out)
     → IsValues f.ring (λ i. f.value (generator i)) (values_of f m) n s (values_of f out)
 values_of_padded f zero_is generator m whole a n s out values =
@@ -63,7 +65,8 @@ values_of_padded f zero_is generator m whole a n s out values =
     (λ i j after below inside. ap f.value (padded_below f.zero m whole a i j after) ∙ zero_is) values
 
 -- an entry above rows of zeros, where a program has the entries and the width in variables of its own
-pub cell_above : {F : Type 0} (f : FieldMembers F) (upper m : RowMajor F) (start : List F) (a w i j : ℕ) → IsRowMajor upper → m ≡ with_zeros f.zero upper a → start ≡ m.values
+pub cell_above : {F : Type 0} (f : FieldMembers F) (upper m : RowMajor F) (start : List F) (a w i j : ℕ)
+    → IsRowMajor upper → m ≡ with_zeros f.zero upper a → start ≡ m.values
     → upper.width ≡ w → i < height upper → j < upper.width → f.value (get_or start (i * w + j) f.zero) ≡ (values_of f upper).entry i j
 cell_above {F} f upper m start a w i j whole over_zeros start_is wide below inside =
     ap (λ xs. f.value (get_or xs (i * w + j) f.zero)) (start_is ∙ ap (λ (x : RowMajor F). x.values) over_zeros)

@@ -8,7 +8,9 @@ loop-low-preserved c = record {
   high_factor_below = omega arith;
   low_factor_below = omega arith;
   high_factor = c.loop-low.invariant.low_factor;
-  low_factor = bezout_step c.args.modulus c.requires.above c.requires.odd c.args.number c.loop-low.high c.loop-low.low c.loop-low.high_factor c.loop-low.low_factor
+  low_factor =
+      bezout_step c.args.modulus c.requires.above c.requires.odd c.args.number c.loop-low.high c.loop-low.low
+      c.loop-low.high_factor c.loop-low.low_factor
       c.loop-low.invariant.high_factor c.loop-low.invariant.low_factor;
   divisor = λ d h. c.loop-low.invariant.divisor d (IsGcd-from_mod c.loop-low.high c.loop-low.low d h);
 }

@@ -13,10 +13,12 @@ invariant-loop-tile g l = record {
 
 abbrev pub invariant-loop-first : goal.invariant-loop-first
 invariant-loop-first g l = record {
-  half : IsRowsHalfReversed l.fn.width l.fn.bits (tile_order (2 ^ l.inner) (2 ^ l.fn.outer)) ((l.tile * 2 ^ l.fn.outer + l.first) * 2 ^ l.fn.outer) l.fn.values l.values;
+  half : IsRowsHalfReversed l.fn.width l.fn.bits (tile_order (2 ^ l.inner) (2 ^ l.fn.outer))
+      ((l.tile * 2 ^ l.fn.outer + l.first) * 2 ^ l.fn.outer) l.fn.values l.values;
 }
 
 abbrev pub invariant-loop-last : goal.invariant-loop-last
 invariant-loop-last g l = record {
-  half : IsRowsHalfReversed l.fn.width l.fn.bits (tile_order (2 ^ l.inner) (2 ^ l.fn.outer)) ((l.tile * 2 ^ l.fn.outer + l.first) * 2 ^ l.fn.outer + l.last) l.fn.values l.values;
+  half : IsRowsHalfReversed l.fn.width l.fn.bits (tile_order (2 ^ l.inner) (2 ^ l.fn.outer))
+      ((l.tile * 2 ^ l.fn.outer + l.first) * 2 ^ l.fn.outer + l.last) l.fn.values l.values;
 }

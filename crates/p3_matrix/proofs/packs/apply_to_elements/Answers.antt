@@ -21,10 +21,19 @@ loop-i-preserved g c =
     let below : l.i < length xs = subst (λ n. l.i < n) (sym wide) c.loop-i-test.true in
     let d = v r.0 in
     let here = ap v c.index-row_1-i.is ∙ element_stays v near xs ys same c.args.row_1.now (sym wide) l.row_1 l.i _ d below l.auto.row_1 l.invariant.near in
-    let there = ap v c.index-row_2-i.is ∙ element_stays v far xs ys same c.args.row_2.now (sym c.requires ∙ sym wide) l.row_2 l.i _ d below l.auto.row_2 l.invariant.far in
+    let there =
+    ap v c.index-row_2-i.is
+    ∙ element_stays v far xs ys same c.args.row_2.now (sym c.requires ∙ sym wide) l.row_2 l.i _ d below l.auto.row_2
+    l.invariant.far in
     record {
-      near = element_done v near xs ys same c.args.row_1.now (sym wide) l.row_1 l.i r.0 d below l.invariant.near (of_one_lane v near lanes law c.index-row_1-i.result c.index-row_2-i.result r.0 c.apply-near.ensures.near ∙ ap₂ near here there);
-      far = element_done v far xs ys same c.args.row_2.now (sym c.requires ∙ sym wide) l.row_2 l.i r.1 d below l.invariant.far (of_one_lane v far lanes law c.index-row_1-i.result c.index-row_2-i.result r.1 c.apply-near.ensures.far ∙ ap₂ far here there);
+      near =
+          element_done v near xs ys same c.args.row_1.now (sym wide) l.row_1 l.i r.0 d below l.invariant.near
+          (of_one_lane v near lanes law c.index-row_1-i.result c.index-row_2-i.result r.0 c.apply-near.ensures.near
+          ∙ ap₂ near here there);
+      far =
+          element_done v far xs ys same c.args.row_2.now (sym c.requires ∙ sym wide) l.row_2 l.i r.1 d below
+          l.invariant.far (of_one_lane v far lanes law c.index-row_1-i.result c.index-row_2-i.result r.1 c.apply-near.ensures.far
+          ∙ ap₂ far here there);
       count = more_products _ _ _ _ _ 1 _ l.invariant.count c.apply-near.ensures.count (sym g.met.F.Packable.one_lane_law);
     }
 
@@ -34,7 +43,8 @@ returns-clause-near g c =
     let xs = c.args.row_1.now in
     let ys = c.args.row_2.now in
     let wide : length (map f.value xs) ≡ length xs = length-map xs f.value in
-    elements_done f.value (g.B.Butterfly.near f.Element f.ring f.value c.args.butterfly.now) (map f.value xs) (map f.value ys) (length-map ys f.value ∙ sym c.requires ∙ sym wide) xs (sym wide) c.loop-i.row_1 c.loop-i.i
+    elements_done f.value (g.B.Butterfly.near f.Element f.ring f.value c.args.butterfly.now) (map f.value xs)
+    (map f.value ys) (length-map ys f.value ∙ sym c.requires ∙ sym wide) xs (sym wide) c.loop-i.row_1 c.loop-i.i
     (omega (arith, c.loop-i-test.false, c.loop-i.auto.i-end, wide)) c.loop-i.invariant.near
 
 pub returns-clause-far : goal.returns-clause-far
@@ -43,5 +53,7 @@ returns-clause-far g c =
     let xs = c.args.row_1.now in
     let ys = c.args.row_2.now in
     let wide : length (map f.value xs) ≡ length xs = length-map xs f.value in
-    elements_done f.value (g.B.Butterfly.far f.Element f.ring f.value c.args.butterfly.now) (map f.value xs) (map f.value ys) (length-map ys f.value ∙ sym c.requires ∙ sym wide) ys (sym c.requires ∙ sym wide) c.loop-i.row_2 c.loop-i.i
+    elements_done f.value (g.B.Butterfly.far f.Element f.ring f.value c.args.butterfly.now) (map f.value xs)
+    (map f.value ys) (length-map ys f.value ∙ sym c.requires ∙ sym wide) ys (sym c.requires ∙ sym wide)
+    c.loop-i.row_2 c.loop-i.i
     (omega (arith, c.loop-i-test.false, c.loop-i.auto.i-end, wide)) c.loop-i.invariant.far

@@ -24,12 +24,21 @@ loop-i-preserved g c =
     let below : l.i < length xs = subst (λ n. l.i < n) (sym wide) c.loop-i-test.true in
     let d = v c.scaled-multiple.result in
     let here = ap v c.index-row_1-i.is ∙ element_stays v r.add xs ms same c.args.row_1.now (sym wide) l.row_1 l.i _ d below l.auto.row_1 l.invariant.near in
-    let there = ap v c.index-row_2-i.is ∙ element_stays v (minus r) xs ms same c.args.row_2.now (sym c.requires.rows ∙ sym wide) l.row_2 l.i _ d below l.auto.row_2 l.invariant.far in
+    let there =
+    ap v c.index-row_2-i.is
+    ∙ element_stays v (minus r) xs ms same c.args.row_2.now (sym c.requires.rows ∙ sym wide) l.row_2 l.i _ d below
+    l.auto.row_2 l.invariant.far in
     let by = ap v c.index-twiddles-i.is ∙ sym (get_or-map v c.args.twiddles.now l.i _ d (subst (λ n. l.i < n) c.requires.twiddles c.loop-i-test.true)) in
-    let multiple : d ≡ get_or ms l.i d = c.scaled-multiple.ensures.value ∙ ap₂ r.mul there by ∙ sym (get_or-by_lanes r.mul ys ts l.i d turned (subst (λ n. l.i < n) (sym tall) below)) in
+    let multiple : d ≡ get_or ms l.i d =
+    c.scaled-multiple.ensures.value ∙ ap₂ r.mul there by
+    ∙ sym (get_or-by_lanes r.mul ys ts l.i d turned (subst (λ n. l.i < n) (sym tall) below)) in
     record {
-      near = element_done v r.add xs ms same c.args.row_1.now (sym wide) l.row_1 l.i _ d below l.invariant.near (g.met.F.Field.add_law _ _ _ c.add.ensures ∙ ap₂ r.add here multiple);
-      far = element_done v (minus r) xs ms same c.args.row_2.now (sym c.requires.rows ∙ sym wide) l.row_2 l.i _ d below l.invariant.far (g.met.F.Field.sub_law _ _ _ c.sub.ensures ∙ ap₂ (minus r) here multiple);
+      near =
+          element_done v r.add xs ms same c.args.row_1.now (sym wide) l.row_1 l.i _ d below l.invariant.near
+          (g.met.F.Field.add_law _ _ _ c.add.ensures ∙ ap₂ r.add here multiple);
+      far =
+          element_done v (minus r) xs ms same c.args.row_2.now (sym c.requires.rows ∙ sym wide) l.row_2 l.i _ d below
+          l.invariant.far (g.met.F.Field.sub_law _ _ _ c.sub.ensures ∙ ap₂ (minus r) here multiple);
       count = omega (arith, l.invariant.count, c.scaled-multiple.ensures.count);
     }
 

@@ -13,7 +13,10 @@ loop-at-preserved g c =
     let w = c.WIDTH-width.result in
     let k = l.at + w - l.at in
     let xs = map f.value c.args.values.now in
-    let sizes = pack_sizes l.at w (length c.args.values.now) (length xs) (pack_within l.at l.invariant.left.0 w _ (length c.args.values.now) c.loop-at-test.true l.auto.values l.invariant.left.1) (length-map c.args.values.now f.value) in
+    let sizes =
+    pack_sizes l.at w (length c.args.values.now) (length xs) (pack_within l.at l.invariant.left.0 w _
+    (length c.args.values.now) c.loop-at-test.true l.auto.values l.invariant.left.1)
+    (length-map c.args.values.now f.value) in
     let part = next_pack op f.value l.at xs xs xs l.values k sizes.0 refl l.invariant.done in
     record {
       width = l.invariant.width;
@@ -33,10 +36,23 @@ returns-clause-values g c =
     l.invariant.done ∙ rows_done_all (λ x y. times x) l.at xs xs xs all refl refl ∙ by_lanes_of_left times xs xs refl
 
 pub slice_bounds-scale_pack-end : goal.slice_bounds-scale_pack-end
-slice_bounds-scale_pack-end g c = subst (λ n. c.loop-at.at + c.WIDTH-width.result ≤ n) (sym c.loop-at.auto.values) (pack_within c.loop-at.at c.loop-at.invariant.left.0 c.WIDTH-width.result _ (length c.args.values.now) c.loop-at-test.true c.loop-at.auto.values c.loop-at.invariant.left.1)
+slice_bounds-scale_pack-end g c =
+    subst (λ n. c.loop-at.at + c.WIDTH-width.result ≤ n) (sym c.loop-at.auto.values) (pack_within c.loop-at.at
+    c.loop-at.invariant.left.0 c.WIDTH-width.result _ (length c.args.values.now) c.loop-at-test.true
+    c.loop-at.auto.values c.loop-at.invariant.left.1)
 
 pub overflow_add-at : goal.overflow_add-at
-overflow_add-at g c = record { fits = lt_of_le_of_lt (pack_within c.loop-at.at c.loop-at.invariant.left.0 c.WIDTH-width.result _ (length c.args.values.now) c.loop-at-test.true c.loop-at.auto.values c.loop-at.invariant.left.1) c.well_formed.0.0 }
+overflow_add-at g c = record {
+  fits =
+      lt_of_le_of_lt (pack_within c.loop-at.at c.loop-at.invariant.left.0 c.WIDTH-width.result _
+      (length c.args.values.now) c.loop-at-test.true c.loop-at.auto.values c.loop-at.invariant.left.1)
+      c.well_formed.0.0;
+}
 
 pub overflow_add-at-in-loop-at : goal.overflow_add-at-in-loop-at
-overflow_add-at-in-loop-at g c = record { fits = lt_of_le_of_lt (pack_within c.loop-at.at c.loop-at.invariant.left.0 c.WIDTH-width.result _ (length c.args.values.now) c.loop-at-test.true c.loop-at.auto.values c.loop-at.invariant.left.1) c.well_formed.0.0 }
+overflow_add-at-in-loop-at g c = record {
+  fits =
+      lt_of_le_of_lt (pack_within c.loop-at.at c.loop-at.invariant.left.0 c.WIDTH-width.result _
+      (length c.args.values.now) c.loop-at-test.true c.loop-at.auto.values c.loop-at.invariant.left.1)
+      c.well_formed.0.0;
+}

@@ -16,7 +16,13 @@ returns-then-i-j-clause-rows g c =
     (λ k d l. swapped_column m.values ys c.args.i c.args.j m.width k d e l)
 
 pub returns-then-i-j-clause-shape : goal.returns-then-i-j-clause-shape
-returns-then-i-j-clause-shape g c = (ap (λ n. n / c.args.view.now.matrix.now.width) (written_size c.args.view.now.matrix.now.values c.exchange.new.values (c.exchange.auto.values ∙ ap length c.values_mut.ensures.values)), refl)
+returns-then-i-j-clause-shape g c = (
+  ap (λ n. n / c.args.view.now.matrix.now.width) (written_size c.args.view.now.matrix.now.values
+      c.exchange.new.values (c.exchange.auto.values ∙ ap length c.values_mut.ensures.values)),
+  refl,
+)
 
 pub returns-then-i-j-clause-size : goal.returns-then-i-j-clause-size
-returns-then-i-j-clause-size g c = written_size c.args.view.now.matrix.now.values c.exchange.new.values (c.exchange.auto.values ∙ ap length c.values_mut.ensures.values)
+returns-then-i-j-clause-size g c =
+    written_size c.args.view.now.matrix.now.values c.exchange.new.values
+    (c.exchange.auto.values ∙ ap length c.values_mut.ensures.values)

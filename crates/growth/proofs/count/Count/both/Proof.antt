@@ -27,7 +27,10 @@ pub both_spec : {M : Type 1} → statement M
 both_spec 𝓤 𝓛 𝓜 𝓡 wired =
     let c = f.clauses 𝓛 𝓜.mem 𝓡.returns in
     let W = walk_of 𝓛 f.ended stayed c in
-    proved 𝓛 f.ended stayed c 𝓜 𝓡 (Goes-none_ref 𝓛 2 (0 ∷ []) tt (plain (λ _. token.the_row)) yes, (Goes-none_ref 𝓛 2 (1 ∷ []) tt (plain (λ _. token.the_row)) yes, tt))
+    proved 𝓛 f.ended stayed c 𝓜 𝓡 (
+      Goes-none_ref 𝓛 2 (0 ∷ []) tt (plain (λ _. token.the_row)) yes,
+      (Goes-none_ref 𝓛 2 (1 ∷ []) tt (plain (λ _. token.the_row)) yes, tt),
+    )
     f.Key.name code.function (code.unfolded 𝓤 𝓛.H 𝓜 𝓡 wired)
     (λ κs. (shr_vals, (shr_vals, tt)))
     (λ κs. (shr_Tells (named 0) κs.0 token.the_row, (shr_Tells (named 1) κs.1.0 token.the_row, tt)))
@@ -39,5 +42,7 @@ both_spec 𝓤 𝓛 𝓜 𝓡 wired =
     alloc_all ! (λ l. pass_all ! refl ((tt, tt), ((tt, tt), tt)) $ sets ! (agg ! (no_more !)) refl (tt, tt) $
     returns ! (look_at ! 0 refl) $ free_all ! refl $
     suffices ! _ (ends_at 𝓛 f.ended stayed c y (vstruct vnil) (record { number = a.0.now.number + a.1.0.now.number }) (tt, (tt, tt)) (tt, (tt, tt))) $
-    says ! refl $ pure_i ! (token.the_row.own_val (record { number = a.0.now.number + a.1.0.now.number }) (vstruct vnil ∷ [])) ((λ vss. (tt, tt)), tt) ((tt, (refl, tt)), tt) $
+    says ! refl $ pure_i !
+    (token.the_row.own_val (record { number = a.0.now.number + a.1.0.now.number }) (vstruct vnil ∷ []))
+    ((λ vss. (tt, tt)), tt) ((tt, (refl, tt)), tt) $
     move ! (1 ∷ 2 ∷ 0 ∷ []) $ done !))

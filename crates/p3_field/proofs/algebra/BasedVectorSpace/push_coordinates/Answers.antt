@@ -16,4 +16,12 @@ pub loop-i-init : goal.loop-i-init
 loop-i-init g c = record { items = c.reserve.ensures.items ∙ sym (append-nil _); room = room_made _ _ _ _ c.DIMENSION.ensures c.in_ok-reserve.ensures.ok }
 
 pub returns : goal.returns
-returns g c = record { items = c.loop-i.invariant.items ∙ ap (λ xs. c.args.to.now.items ++ xs) (all_taken c.loop-i.i _ _ _ c.loop-i-test.false c.DIMENSION-i-end.ensures (g.met.Self.BasedVectorSpace.dimension_law c.args.self.now)); room = λ _. refl; refused = tt; asked = tt }
+returns g c = record {
+  items =
+      c.loop-i.invariant.items
+      ∙ ap (λ xs. c.args.to.now.items ++ xs) (all_taken c.loop-i.i _ _ _ c.loop-i-test.false c.DIMENSION-i-end.ensures
+      (g.met.Self.BasedVectorSpace.dimension_law c.args.self.now));
+  room = λ _. refl;
+  refused = tt;
+  asked = tt;
+}

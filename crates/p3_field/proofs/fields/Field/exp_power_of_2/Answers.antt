@@ -15,4 +15,7 @@ loop-i-preserved g c =
     ∙ power-double g.Self.Valued.ring _ _ c.loop-i._i c.loop-i.invariant
 
 pub returns : goal.returns
-returns g c = c.loop-i.invariant ∙ ap (λ k. power g.Self.Valued.ring (g.Self.Valued.value c.args.self) (2 ^ k)) (le_antisymm c.loop-i.auto._i-end c.loop-i-test.false)
+returns g c =
+    c.loop-i.invariant
+    ∙ ap (λ k. power g.Self.Valued.ring (g.Self.Valued.value c.args.self) (2 ^ k))
+    (le_antisymm c.loop-i.auto._i-end c.loop-i-test.false)

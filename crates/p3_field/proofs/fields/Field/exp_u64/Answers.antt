@@ -27,4 +27,7 @@ returns g c =
     let r = g.Self.Valued.ring in
     let x = g.Self.Valued.value c.loop-left.product in
     let done : c.loop-left.left ≡ 0 = omega arith in
-    sym (r.mul_one x) ∙ sym (ap (λ n. r.mul x (power r (g.Self.Valued.value c.loop-left.square) n)) done ∙ ap (r.mul x) (power-zero r _)) ∙ c.loop-left.invariant
+    sym (r.mul_one x)
+    ∙ sym
+    (ap (λ n. r.mul x (power r (g.Self.Valued.value c.loop-left.square) n)) done ∙ ap (r.mul x) (power-zero r _))
+    ∙ c.loop-left.invariant

@@ -6,7 +6,9 @@ use Rattle.p3_field.proofs.goldilocks.GoldilocksInTwoAdicField.two_adic_generato
 
 pub invariant_of-result : goal.invariant_of-result
 invariant_of-result g c = record {
-  below = subst (λ n. n < goldilocks_modulus) (sym (listed_generator goldilocks_numbers _ refl c.args.bits c.requires)) (goldilocks_generator c.args.bits).below;
+  below =
+      subst (λ n. n < goldilocks_modulus) (sym (listed_generator goldilocks_numbers _ refl c.args.bits c.requires))
+      (goldilocks_generator c.args.bits).below;
 }
 
 pub returns : goal.returns

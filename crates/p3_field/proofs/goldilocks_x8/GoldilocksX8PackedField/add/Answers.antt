@@ -9,10 +9,18 @@ use Rattle.p3_field.proofs.goldilocks_x8.GoldilocksX8PackedField.add.Goals as go
 
 pub invariant_of-result : goal.invariant_of-result
 invariant_of-result c = record {
-  below = subst (AreBelow goldilocks_modulus) (sym c.sums.ensures) (pairs_below (λ x y. (x + y) % goldilocks_modulus) (λ x y. mod-lt (x + y) (lit< tt)) c.args.self.lanes c.args.other.lanes);
-  eight = ap length c.sums.ensures ∙ length-zip2 (λ x y. (x + y) % goldilocks_modulus) c.args.self.lanes c.args.other.lanes (c.args.self.eight ∙ sym c.args.other.eight) ∙ c.args.self.eight;
+  below =
+      subst (AreBelow goldilocks_modulus) (sym c.sums.ensures) (pairs_below (λ x y. (x + y) % goldilocks_modulus)
+      (λ x y. mod-lt (x + y) (lit< tt)) c.args.self.lanes c.args.other.lanes);
+  eight =
+      ap length c.sums.ensures
+      ∙ length-zip2 (λ x y. (x + y) % goldilocks_modulus) c.args.self.lanes c.args.other.lanes
+      (c.args.self.eight ∙ sym c.args.other.eight)
+      ∙ c.args.self.eight;
 }
 
 pub returns : goal.returns
 returns c =
-    lanes_of_pairs _ _ (λ n h. refl) _ (λ x y. (x + y) % goldilocks_modulus) (λ (x y : Residue goldilocks_modulus). refl) c.args.self.lanes c.args.other.lanes c.sums.result c.args.self.below c.args.other.below _ c.sums.ensures
+    lanes_of_pairs _ _ (λ n h. refl) _ (λ x y. (x + y) % goldilocks_modulus)
+    (λ (x y : Residue goldilocks_modulus). refl) c.args.self.lanes c.args.other.lanes c.sums.result
+    c.args.self.below c.args.other.below _ c.sums.ensures

@@ -7,7 +7,8 @@ use Rattle.p3_field.specs.LaneNumbers.{AreBelow}
 use Rattle.p3_field.proofs.ResidueLanes.{lanes_of_each, each_below}
 use Rattle.p3_field.proofs.goldilocks_x8.GoldilocksX8PackedField.scaled.Goals as goal
 
-with_splat : (t : ℕ) (xs : List ℕ) (n : ℕ) → length xs ≡ n → zip2 (λ x y. (x * y) % goldilocks_modulus) xs (replicate n t) ≡ map (λ x. (x * t) % goldilocks_modulus) xs
+with_splat : (t : ℕ) (xs : List ℕ) (n : ℕ) → length xs ≡ n
+    → zip2 (λ x y. (x * y) % goldilocks_modulus) xs (replicate n t) ≡ map (λ x. (x * t) % goldilocks_modulus) xs
 with_splat t [] n e = refl
 with_splat t (x ∷ xs) zero e = absurd (omega (arith, e))
 with_splat t (x ∷ xs) (suc n) e = ap (λ ys. (x * t) % goldilocks_modulus ∷ ys) (with_splat t xs n (omega (arith, e)))

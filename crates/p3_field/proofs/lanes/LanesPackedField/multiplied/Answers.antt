@@ -8,14 +8,17 @@ pub loop-i-preserved : goal.loop-i-preserved
 loop-i-preserved g c = record {
   long = length-set c.loop-i.lanes c.loop-i.i _ ∙ c.loop-i.invariant.long;
   lanes =
-      more_pairs g.F.Valued.value g.F.Valued.ring.mul c.args.self.lanes c.args.other.lanes (c.args.other.long ∙ sym c.args.self.long) c.loop-i.lanes c.loop-i.i c.mul.result _ _ g.row.N
+      more_pairs g.F.Valued.value g.F.Valued.ring.mul c.args.self.lanes c.args.other.lanes
+      (c.args.other.long ∙ sym c.args.self.long) c.loop-i.lanes c.loop-i.i c.mul.result _ _ g.row.N
       (sym c.args.self.long) c.loop-i-test.true c.loop-i.invariant.long c.loop-i.invariant.lanes (g.met.F.Field.mul_law _ _ _ c.mul.ensures);
 }
 
 pub returns-clause-lanes : goal.returns-clause-lanes
 returns-clause-lanes g c =
-    all_written g.F.Valued.value c.args.self.lanes (pairs g.F.Valued.value g.F.Valued.ring.mul c.args.self.lanes c.args.other.lanes (c.args.other.long ∙ sym c.args.self.long))
-    (length-pairs g.F.Valued.value g.F.Valued.ring.mul c.args.self.lanes c.args.other.lanes (c.args.other.long ∙ sym c.args.self.long)) c.loop-i.lanes c.loop-i.i
+    all_written g.F.Valued.value c.args.self.lanes (pairs g.F.Valued.value g.F.Valued.ring.mul c.args.self.lanes
+    c.args.other.lanes (c.args.other.long ∙ sym c.args.self.long))
+    (length-pairs g.F.Valued.value g.F.Valued.ring.mul c.args.self.lanes c.args.other.lanes
+    (c.args.other.long ∙ sym c.args.self.long)) c.loop-i.lanes c.loop-i.i
     (le_antisymm c.loop-i.auto.i-end c.loop-i-test.false ∙ sym c.args.self.long) c.loop-i.invariant.lanes
 
 pub loop-i-init : goal.loop-i-init

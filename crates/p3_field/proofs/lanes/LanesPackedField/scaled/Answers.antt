@@ -16,7 +16,8 @@ pub returns-clause-lanes : goal.returns-clause-lanes
 returns-clause-lanes g c =
     let op : g.F.Valued.Element → g.F.Valued.Element = λ x. g.F.Valued.ring.mul x (g.F.Valued.value c.args.t) in
     let values = map g.F.Valued.value c.args.self.lanes in
-    all_written g.F.Valued.value c.args.self.lanes (map op values) (length-map values op ∙ length-map c.args.self.lanes g.F.Valued.value) c.loop-i.lanes c.loop-i.i
+    all_written g.F.Valued.value c.args.self.lanes (map op values)
+    (length-map values op ∙ length-map c.args.self.lanes g.F.Valued.value) c.loop-i.lanes c.loop-i.i
     (le_antisymm c.loop-i.auto.i-end c.loop-i-test.false ∙ sym c.args.self.long) c.loop-i.invariant.lanes
 
 pub loop-i-init : goal.loop-i-init

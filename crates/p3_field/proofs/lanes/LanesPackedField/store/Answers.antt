@@ -12,9 +12,11 @@ loop-i-preserved g c =
     record {
       long = length-set c.loop-i.to c.loop-i.i _ ∙ c.loop-i.invariant.long;
       lanes =
-          written value c.args.to.now (map value lanes) (length-map lanes value ∙ c.args.self.long ∙ sym c.requires) c.loop-i.to c.loop-i.i _ (value c.index-self-i.result)
+          written value c.args.to.now (map value lanes) (length-map lanes value ∙ c.args.self.long ∙ sym c.requires)
+          c.loop-i.to c.loop-i.i _ (value c.index-self-i.result)
           (place_inside c.args.to.now c.loop-i.i _ c.requires c.loop-i-test.true) c.loop-i.invariant.lanes
-          (sym (get_or-map value lanes c.loop-i.i c.index-self-i.result (value c.index-self-i.result) (place_inside lanes c.loop-i.i _ c.args.self.long c.loop-i-test.true)));
+          (sym (get_or-map value lanes c.loop-i.i c.index-self-i.result (value c.index-self-i.result)
+          (place_inside lanes c.loop-i.i _ c.args.self.long c.loop-i-test.true)));
     }
 
 pub returns : goal.returns

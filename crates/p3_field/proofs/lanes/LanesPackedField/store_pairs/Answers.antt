@@ -19,7 +19,10 @@ loop-i-preserved g c =
     }
 
 pub returns : goal.returns
-returns g c = record { first = λ i below. c.loop-i.invariant.first i (lt_of_lt_of_le below c.loop-i-test.false); second = λ i below. c.loop-i.invariant.second i (lt_of_lt_of_le below c.loop-i-test.false) }
+returns g c = record {
+  first = λ i below. c.loop-i.invariant.first i (lt_of_lt_of_le below c.loop-i-test.false);
+  second = λ i below. c.loop-i.invariant.second i (lt_of_lt_of_le below c.loop-i-test.false);
+}
 
 pub offset_bounds-to-i : goal.offset_bounds-to-i
 offset_bounds-to-i g c = scaled_Fits _ _ _ (first_inside c.args.to.now c.loop-i.i g.row.N c.requires c.loop-i-test.true) (search rules)

@@ -9,14 +9,17 @@ pub loop-i-preserved : goal.loop-i-preserved
 loop-i-preserved g c = record {
   long = length-set c.loop-i.lanes c.loop-i.i _ ∙ c.loop-i.invariant.long;
   lanes =
-      more_pairs g.F.Valued.value (minus g.F.Valued.ring) c.args.self.lanes c.args.other.lanes (c.args.other.long ∙ sym c.args.self.long) c.loop-i.lanes c.loop-i.i c.sub.result _ _ g.row.N
+      more_pairs g.F.Valued.value (minus g.F.Valued.ring) c.args.self.lanes c.args.other.lanes
+      (c.args.other.long ∙ sym c.args.self.long) c.loop-i.lanes c.loop-i.i c.sub.result _ _ g.row.N
       (sym c.args.self.long) c.loop-i-test.true c.loop-i.invariant.long c.loop-i.invariant.lanes (g.met.F.Field.sub_law _ _ _ c.sub.ensures);
 }
 
 pub returns : goal.returns
 returns g c =
-    all_written g.F.Valued.value c.args.self.lanes (pairs g.F.Valued.value (minus g.F.Valued.ring) c.args.self.lanes c.args.other.lanes (c.args.other.long ∙ sym c.args.self.long))
-    (length-pairs g.F.Valued.value (minus g.F.Valued.ring) c.args.self.lanes c.args.other.lanes (c.args.other.long ∙ sym c.args.self.long)) c.loop-i.lanes c.loop-i.i
+    all_written g.F.Valued.value c.args.self.lanes (pairs g.F.Valued.value (minus g.F.Valued.ring) c.args.self.lanes
+    c.args.other.lanes (c.args.other.long ∙ sym c.args.self.long))
+    (length-pairs g.F.Valued.value (minus g.F.Valued.ring) c.args.self.lanes c.args.other.lanes
+    (c.args.other.long ∙ sym c.args.self.long)) c.loop-i.lanes c.loop-i.i
     (le_antisymm c.loop-i.auto.i-end c.loop-i-test.false ∙ sym c.args.self.long) c.loop-i.invariant.lanes
 
 pub loop-i-init : goal.loop-i-init

@@ -9,5 +9,7 @@ invariant-loop-i g l =
     let value = g.F.Valued.value in
     record {
       long : length l.lanes ≡ g.row.N;
-      lanes : map value l.lanes ≡ until l.i (by_lanes (minus g.F.Valued.ring) (map value l.fn.self.lanes) (map value l.fn.other.lanes)) (map value l.fn.self.lanes);
+      lanes : map value l.lanes
+          ≡ until l.i (by_lanes (minus g.F.Valued.ring) (map value l.fn.self.lanes) (map value l.fn.other.lanes))
+          (map value l.fn.self.lanes);
     }

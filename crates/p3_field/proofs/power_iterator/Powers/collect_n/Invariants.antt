@@ -9,5 +9,8 @@ invariant-loop-i g l =
       long : vec_len l.powers ≡ l._i;
       room : l.n ≤ vec_capacity l.powers;
       next : g.F.Valued.value l.current ≡ g.F.Valued.ring.mul (g.F.Valued.value l.initial.current) (power g.F.Valued.ring (g.F.Valued.value l.base) l._i);
-      filled : (j : ℕ) → j < l._i → g.F.Valued.value (get_or l.powers.items j g.F.Valued.zero) ≡ g.F.Valued.ring.mul (g.F.Valued.value l.initial.current) (power g.F.Valued.ring (g.F.Valued.value l.base) j);
+      filled : (j : ℕ) → j < l._i
+          → g.F.Valued.value (get_or l.powers.items j g.F.Valued.zero)
+          ≡ g.F.Valued.ring.mul (g.F.Valued.value l.initial.current)
+          (power g.F.Valued.ring (g.F.Valued.value l.base) j);
     }

@@ -13,7 +13,9 @@ loop-i-init g c = record {
 pub loop-i-preserved : goal.loop-i-preserved
 loop-i-preserved g c = record {
   next = next_power g.F.Valued.ring _ _ _ _ c.loop-i.i c.loop-i.invariant.next (g.met.F.Field.mul_law _ _ _ c.mul-current.ensures);
-  filled = next_written g.F.Valued.value g.F.Valued.zero _ c.loop-i.to c.loop-i.i c.loop-i.current (search rules) c.loop-i.invariant.filled c.loop-i.invariant.next;
+  filled =
+      next_written g.F.Valued.value g.F.Valued.zero _ c.loop-i.to c.loop-i.i c.loop-i.current (search rules)
+      c.loop-i.invariant.filled c.loop-i.invariant.next;
 }
 
 pub offset_bounds-to-i : goal.offset_bounds-to-i

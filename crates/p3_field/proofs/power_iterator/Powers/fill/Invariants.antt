@@ -7,5 +7,8 @@ abbrev pub invariant-loop-i : goal.invariant-loop-i
 invariant-loop-i g l =
     record {
       next : g.F.Valued.value l.current ≡ g.F.Valued.ring.mul (g.F.Valued.value l.initial.current) (power g.F.Valued.ring (g.F.Valued.value l.base) l.i);
-      filled : (j : ℕ) → j < l.i → g.F.Valued.value (get_or l.to j g.F.Valued.zero) ≡ g.F.Valued.ring.mul (g.F.Valued.value l.initial.current) (power g.F.Valued.ring (g.F.Valued.value l.base) j);
+      filled : (j : ℕ) → j < l.i
+          → g.F.Valued.value (get_or l.to j g.F.Valued.zero)
+          ≡ g.F.Valued.ring.mul (g.F.Valued.value l.initial.current)
+          (power g.F.Valued.ring (g.F.Valued.value l.base) j);
     }

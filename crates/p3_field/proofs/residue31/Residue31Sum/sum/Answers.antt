@@ -7,4 +7,11 @@ use Rattle.p3_field.proofs.residue31.Residue31Sum.sum.Goals as goal
 pub returns : goal.returns
 returns g c =
     let (xs, drained, steps) = c.add_all.ensures in
-    record { ran = (xs, (λ _. drained), added_up (field_ring g.N.Numbers.numbers) (λ x. residue_at g.N.Numbers.numbers.modulus x.number x.below) _ (λ a x b is. residue-eq _ _ is) _ (residue-eq _ _ refl) xs _ steps) }
+    record {
+      ran = (
+        xs,
+        (λ _. drained),
+        added_up (field_ring g.N.Numbers.numbers) (λ x. residue_at g.N.Numbers.numbers.modulus x.number x.below)
+            _ (λ a x b is. residue-eq _ _ is) _ (residue-eq _ _ refl) xs _ steps,
+      );
+    }

@@ -7,7 +7,9 @@ pub invariant_of-result : goal.invariant_of-result
 invariant_of-result g c =
     let m = g.N.Numbers.numbers.modulus in
     let positive : 0 < m = omega (arith, g.N.Numbers.numbers.above) in
-    let packed = each_packed (λ x. (x * c.args.t.number) % m) (λ x. mod-lt (x * c.args.t.number) positive) 8 c.args.self.lanes _ c.args.self.eight c.multiples.ensures in
+    let packed =
+    each_packed (λ x. (x * c.args.t.number) % m) (λ x. mod-lt (x * c.args.t.number) positive) 8 c.args.self.lanes _
+    c.args.self.eight c.multiples.ensures in
     record { below = packed.0; eight = packed.1 }
 
 pub returns-clause-lanes : goal.returns-clause-lanes

@@ -12,7 +12,9 @@ invariant_of-result g c =
     let f : ℕ → ℕ = λ x. (x * c.args.t.number) % m in
     let positive : 0 < m = omega (arith, g.N.Numbers.numbers.above) in
     let d : ℕ → ℕ → ℕ = λ x y. (x + (m - y)) % m in
-    let differences = pairs_packed d (λ x y. mod-lt (x + (m - y)) positive) 8 c.args.self.lanes c.args.other.lanes (zip2 d c.args.self.lanes c.args.other.lanes) c.args.self.eight c.args.other.eight refl in
+    let differences =
+    pairs_packed d (λ x y. mod-lt (x + (m - y)) positive) 8 c.args.self.lanes c.args.other.lanes
+    (zip2 d c.args.self.lanes c.args.other.lanes) c.args.self.eight c.args.other.eight refl in
     let packed = each_packed f (λ x. mod-lt (x * c.args.t.number) positive) 8 _ _ differences.1
     (c.multiples.ensures ∙ ap (map f) c.loose_differences.ensures ∙ multiples_of_loose m c.args.t.number c.args.self.lanes c.args.other.lanes) in
     record { below = packed.0; eight = packed.1 }
@@ -23,7 +25,10 @@ returns-clause-lanes g c =
     let f : ℕ → ℕ = λ x. (x * c.args.t.number) % m in
     let positive : 0 < m = omega (arith, g.N.Numbers.numbers.above) in
     let d : ℕ → ℕ → ℕ = λ x y. (x + (m - y)) % m in
-    let differences = pairs_packed d (λ x y. mod-lt (x + (m - y)) positive) 8 c.args.self.lanes c.args.other.lanes (zip2 d c.args.self.lanes c.args.other.lanes) c.args.self.eight c.args.other.eight refl in
+    let differences =
+    pairs_packed d (λ x y. mod-lt (x + (m - y)) positive) 8 c.args.self.lanes c.args.other.lanes
+    (zip2 d c.args.self.lanes c.args.other.lanes) c.args.self.eight c.args.other.eight refl in
     lanes_of_each _ _ (λ n h. refl) _ f (λ x. refl) _ c.multiples.result differences.0 _
     (c.multiples.ensures ∙ ap (map f) c.loose_differences.ensures ∙ multiples_of_loose m c.args.t.number c.args.self.lanes c.args.other.lanes)
-    ∙ ap (map _) (lanes_of_pairs _ _ (λ n h. refl) _ d (λ (x y : Residue m). add-mod-mod x.number (m - y.number) m) c.args.self.lanes c.args.other.lanes _ c.args.self.below c.args.other.below differences.0 refl)
+    ∙ ap (map _) (lanes_of_pairs _ _ (λ n h. refl) _ d (λ (x y : Residue m). add-mod-mod x.number (m - y.number) m)
+    c.args.self.lanes c.args.other.lanes _ c.args.self.below c.args.other.below differences.0 refl)

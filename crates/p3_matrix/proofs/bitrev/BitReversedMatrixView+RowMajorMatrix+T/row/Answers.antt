@@ -23,5 +23,7 @@ returns g c =
     let whole = c.values-whole.ensures.whole in
     let asks = rw (← c.self.view_is) at c.requires in
     let below : c.args.i < 2 ^ n = omega (arith, asks, c.self.invariant) in
-    let is : c.row.result.now ≡ row (reversed_rows n m) c.args.i = c.row.ensures ∙ ap (row m) c.reverse_bits_len.ensures ∙ sym (reversed_row n m whole c.self.invariant c.args.i below) in
+    let is : c.row.result.now ≡ row (reversed_rows n m) c.args.i =
+    c.row.ensures ∙ ap (row m) c.reverse_bits_len.ensures
+    ∙ sym (reversed_row n m whole c.self.invariant c.args.i below) in
     rw (← c.self.view_is) (record { row = is; width = ap length is ∙ reversed_row_length n m whole c.self.invariant c.args.i below })

@@ -12,8 +12,10 @@ returns-clause-near g c =
     let f = g.F.Valued in
     let one = c.split_at in
     let two = c.split_at-2 in
-    rows_in_parts f.value (g.Self.Butterfly.near f.Element f.ring f.value c.args.self.now) c.args.src_1.now c.args.src_2.now one.result.0.now one.result.1.now two.result.0.now two.result.1.now
-    c.apply_to_packs_oop.new.dst_1 c.apply_to_packs_oop-2.new.dst_1 one.ensures.by_index.0 two.ensures.by_index.0 (one.ensures.front_len ∙ sym two.ensures.front_len) c.apply_to_packs_oop.ensures.near
+    rows_in_parts f.value (g.Self.Butterfly.near f.Element f.ring f.value c.args.self.now) c.args.src_1.now
+    c.args.src_2.now one.result.0.now one.result.1.now two.result.0.now two.result.1.now
+    c.apply_to_packs_oop.new.dst_1 c.apply_to_packs_oop-2.new.dst_1 one.ensures.by_index.0 two.ensures.by_index.0
+    (one.ensures.front_len ∙ sym two.ensures.front_len) c.apply_to_packs_oop.ensures.near
     c.apply_to_packs_oop-2.ensures.near
 
 pub returns-clause-far : goal.returns-clause-far
@@ -21,11 +23,14 @@ returns-clause-far g c =
     let f = g.F.Valued in
     let one = c.split_at in
     let two = c.split_at-2 in
-    rows_in_parts f.value (g.Self.Butterfly.far f.Element f.ring f.value c.args.self.now) c.args.src_1.now c.args.src_2.now one.result.0.now one.result.1.now two.result.0.now two.result.1.now
-    c.apply_to_packs_oop.new.dst_2 c.apply_to_packs_oop-2.new.dst_2 one.ensures.by_index.0 two.ensures.by_index.0 (one.ensures.front_len ∙ sym two.ensures.front_len) c.apply_to_packs_oop.ensures.far
+    rows_in_parts f.value (g.Self.Butterfly.far f.Element f.ring f.value c.args.self.now) c.args.src_1.now
+    c.args.src_2.now one.result.0.now one.result.1.now two.result.0.now two.result.1.now
+    c.apply_to_packs_oop.new.dst_2 c.apply_to_packs_oop-2.new.dst_2 one.ensures.by_index.0 two.ensures.by_index.0
+    (one.ensures.front_len ∙ sym two.ensures.front_len) c.apply_to_packs_oop.ensures.far
     c.apply_to_packs_oop-2.ensures.far
 
 pub returns-clause-count : goal.returns-clause-count
 returns-clause-count g c =
     let one = c.split_at in
-    products_in_parts _ _ _ g.Self.Butterfly.cost c.args.src_1.now one.result.0.now one.result.1.now one.ensures.by_index.0 c.apply_to_packs_oop.ensures.count c.apply_to_packs_oop-2.ensures.count
+    products_in_parts _ _ _ g.Self.Butterfly.cost c.args.src_1.now one.result.0.now one.result.1.now
+    one.ensures.by_index.0 c.apply_to_packs_oop.ensures.count c.apply_to_packs_oop-2.ensures.count

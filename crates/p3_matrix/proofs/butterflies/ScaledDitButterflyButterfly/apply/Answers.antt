@@ -12,7 +12,8 @@ returns-clause-near g c =
     let r = f.ring in
     let b = c.args.self.now in
     c.add.ensures ∙ ap₂ (by_lanes r.add) c.scaled-scaled.ensures.lanes c.scaled-turned.ensures.lanes
-    ∙ by_lanes-mapped r.add (scaled_dit_near r (f.value b.twiddle) (f.value b.scale)) (λ x. r.mul x (f.value b.scale)) (λ y. r.mul y (f.value b.twiddle_times_scale))
+    ∙ by_lanes-mapped r.add (scaled_dit_near r (f.value b.twiddle) (f.value b.scale)) (λ x. r.mul x (f.value b.scale))
+    (λ y. r.mul y (f.value b.twiddle_times_scale))
     (scaled_near r (f.value b.twiddle) (f.value b.scale) (f.value b.twiddle_times_scale) (g.met.F.Field.number_law _ _ b.fits))
     (map f.value (g.P.PackedField.lanes c.args.x_1)) (map f.value (g.P.PackedField.lanes c.args.x_2))
 
@@ -22,6 +23,7 @@ returns-clause-far g c =
     let r = f.ring in
     let b = c.args.self.now in
     c.sub.ensures ∙ ap₂ (by_lanes (minus r)) c.scaled-scaled.ensures.lanes c.scaled-turned.ensures.lanes
-    ∙ by_lanes-mapped (minus r) (scaled_dit_far r (f.value b.twiddle) (f.value b.scale)) (λ x. r.mul x (f.value b.scale)) (λ y. r.mul y (f.value b.twiddle_times_scale))
+    ∙ by_lanes-mapped (minus r) (scaled_dit_far r (f.value b.twiddle) (f.value b.scale))
+    (λ x. r.mul x (f.value b.scale)) (λ y. r.mul y (f.value b.twiddle_times_scale))
     (scaled_far r (f.value b.twiddle) (f.value b.scale) (f.value b.twiddle_times_scale) (g.met.F.Field.number_law _ _ b.fits))
     (map f.value (g.P.PackedField.lanes c.args.x_1)) (map f.value (g.P.PackedField.lanes c.args.x_2))
