@@ -34,10 +34,11 @@ extern "C" {
 enum liktrob_status {
     LIKTROB_OK = 0,     /* answered */
     LIKTROB_ENGINE = 1, /* no engine has this number */
-    LIKTROB_NUMBER = 2, /* a number, or the shift, is not below the modulus */
+    LIKTROB_NUMBER = 2, /* a number, the shift or the step is not below the modulus */
     LIKTROB_SHAPE = 3,  /* width is 0, the numbers fill no whole rows, the height is no power of two or is too high for
-                           the field, out_len is another length, or there are too many added bits */
-    LIKTROB_SHIFT = 4,  /* the shift is 0 and has no inverse: coset_idft and is_codeword alone */
+                           the field, out_len is another length, or there are too many bits */
+    LIKTROB_SHIFT = 4,  /* the shift is 0 and has no inverse: coset_idft and is_codeword, and coset_idft_columns where
+                           the shift of some column is 0 */
     LIKTROB_MEMORY = 5  /* malloc or realloc answered null */
 };
 
@@ -55,7 +56,7 @@ enum liktrob_engine {
 #define LIKTROB_KOALA_BEAR_MODULUS UINT32_C(2130706433)           /* 2^31 - 2^24 + 1, generator 3 */
 #define LIKTROB_GOLDILOCKS_MODULUS UINT64_C(18446744069414584321) /* 2^64 - 2^32 + 1, generator 7 */
 
-/* The six functions of a field.
+/* The nine functions of a field.
  *
  * coset_dft: in place, the coefficients of the columns' polynomials become their values on the coset of shift.
  *
@@ -75,6 +76,15 @@ enum liktrob_engine {
  *     where each column has the values of a polynomial with 2^k coefficients, and else 0. It is written only where the
  *     status is LIKTROB_OK.
  *
+ * coset_dft_columns: in place, coset_dft of each column on a coset of its own: column j on the coset of
+ *     shift * step^j. Row i of column j belongs to the point shift * step^j * g^i.
+ *
+ * coset_idft_columns: in place, coset_idft of each column on a coset of its own: column j on the coset of
+ *     shift * step^j.
+ *
+ * point: *answer becomes shift * g^index, where g generates the subgroup of order 2^bits: the point of row index, or of
+ *     row index modulo 2^bits. It is written only where the status is LIKTROB_OK.
+ *
  * A shift of 1 is the subgroup itself. A shift of 0 stands for the point 0 in each row.
  */
 #define LIKTROB_DECLARE(FIELD, WORD)                                                                                   \
@@ -87,7 +97,12 @@ enum liktrob_engine {
     uint32_t liktrob_##FIELD##_coset_dft_padded(uint32_t engine, const WORD *words, size_t len, size_t width,          \
                                                 size_t added_bits, WORD shift, WORD *out, size_t out_len);             \
     uint32_t liktrob_##FIELD##_is_codeword(uint32_t engine, const WORD *words, size_t len, size_t width,               \
-                                           size_t added_bits, WORD shift, uint32_t *answer);
+                                           size_t added_bits, WORD shift, uint32_t *answer);                           \
+    uint32_t liktrob_##FIELD##_coset_dft_columns(uint32_t engine, WORD *words, size_t len, size_t width, WORD shift,   \
+                                                 WORD step);                                                           \
+    uint32_t liktrob_##FIELD##_coset_idft_columns(uint32_t engine, WORD *words, size_t len, size_t width, WORD shift,  \
+                                                  WORD step);                                                          \
+    uint32_t liktrob_##FIELD##_point(size_t bits, WORD shift, size_t index, WORD *answer);
 
 LIKTROB_DECLARE(baby_bear, uint32_t)
 LIKTROB_DECLARE(koala_bear, uint32_t)
