@@ -7,6 +7,7 @@ pub mod Halves
 pub mod Joined
 pub mod Orders
 pub mod Pairs
+pub mod Scalings
 pub mod Chunks
 pub mod Shifts
 pub mod Sizes

@@ -52,7 +52,7 @@ loop-i-preserved g c =
     let room = block_room i c.args.height w (length c.loop-i.values) c.loop-i-test.true (c.loop-i.auto.values ∙ c.requires.size) in
     let source = block_room i c.args.height w (length c.args.rows.now) c.loop-i-test.true c.requires.source in
     let part = take ((i * w + w) - i * w) (drop (i * w) c.args.rows.now) in
-    let copied : c.copy_from_slice.new.self ≡ part = c.copy_from_slice.ensures.after in
+    let copied : c.copy_from_slice-in-loop-i.new.self ≡ part = c.copy_from_slice-in-loop-i.ensures.after in
     let part_len : length part ≡ w = part_length c.args.rows.now (i * w) w source in
     let len : length c.scale_slice_in_place.new.values ≡ w = c.scale_slice_in_place.auto.values ∙ ap length copied ∙ part_len in
     record {
@@ -60,10 +60,10 @@ loop-i-preserved g c =
           ∙ sym (power-more field.ring (field.value c.args.shift) i);
       values = rows-more field.zero w _ _ c.loop-i.values c.scale_slice_in_place.new.values i _ m room len
           (λ k inside.
-          value_at field.value (λ x. field.ring.mul x (field.value c.loop-i.factor)) c.copy_from_slice.new.self c.scale_slice_in_place.new.values k field.zero c.scale_slice_in_place.ensures.values c.scale_slice_in_place.auto.values (subst (λ n. k < n) (sym (ap length copied ∙ part_len)) inside)
+          value_at field.value (λ x. field.ring.mul x (field.value c.loop-i.factor)) c.copy_from_slice-in-loop-i.new.self c.scale_slice_in_place.new.values k field.zero c.scale_slice_in_place.ensures.values c.scale_slice_in_place.auto.values (subst (λ n. k < n) (sym (ap length copied ∙ part_len)) inside)
           ∙ ap₂ field.ring.mul (ap (λ xs. field.value (get_or xs k field.zero)) copied ∙ ap field.value (part_at c.args.rows.now (i * w) ((i * w + w) - i * w) k field.zero (subst (λ n. k < n) (sym m) inside))) c.loop-i.invariant.factor)
           c.loop-i.invariant.values;
-      count = turn_counted i w (length c.copy_from_slice.new.self) c.args.products.now c.loop-i.products c.scale_slice_in_place.new.products (ap length copied ∙ part_len) c.loop-i.invariant.count c.scale_slice_in_place.ensures.count;
+      count = turn_counted i w (length c.copy_from_slice-in-loop-i.new.self) c.args.products.now c.loop-i.products c.scale_slice_in_place.new.products (ap length copied ∙ part_len) c.loop-i.invariant.count c.scale_slice_in_place.ensures.count;
     }
 
 pub returns-clause-values : goal.returns-clause-values
