@@ -39,6 +39,33 @@ pub fn shift_values<F: TwoAdicField>(
     }
 }
 
+/// Multiplies the entry in row i and column j by the i-th power of the column's own shift, `shift * step^j`, with one
+/// product an entry. `values` are `height` rows of `width` entries.
+pub fn shift_columns<F: TwoAdicField>(
+    values: &mut [F],
+    width: usize,
+    height: usize,
+    shift: F,
+    step: F,
+    products: &mut Products,
+)
+    requires { length values.old ≡ height * width }
+    ensures values { (i j : ℕ) → i < height → j < width → F.value (get_or values.new (i * width + j) F.zero)
+        ≡ F.ring.mul (F.value (get_or values.old (i * width + j) F.zero))
+        (power F.ring (F.ring.mul (F.value shift) (power F.ring (F.value step) j)) i) }
+    ensures count { products.new ≡ products.old + height * width }
+{
+    // In row i these powers are `(shift * step^j)^i = shift^i * (step^i)^j`.
+    let mut first = F::ONE;
+    let mut base = F::ONE;
+    for i in 0..height {
+        let start = i * width;
+        scale_by_powers(&mut values[start..start + width], first, base, products);
+        first = first * shift;
+        base = base * step;
+    }
+}
+
 /// Multiplies entry i by `first` times the i-th power of `base`, with one product an entry.
 pub fn scale_by_powers<F: TwoAdicField>(
     values: &mut [F],

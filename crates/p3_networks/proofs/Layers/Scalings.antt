@@ -1,10 +1,10 @@
--- Entries that are multiplied by a first factor and the powers of a base: in two parts, and by packs.
+-- Entries that are multiplied by a first factor and the powers of a base: in two parts, by packs, and by columns.
 use Rattle.std.proofs.Common.{◌≡◌, ℕ, ◌+◌, ◌*◌, ◌-◌, ◌/◌, ◌%◌, ◌<◌, ◌≤◌, List, ◌++◌, length, get_or, take, drop, map, sym, ap, ap₂, ◌∙◌, arith, subst, ⊎_elim, mod-lt}
 use Rattle.std.proofs.lemmas.Bool.{cases_lt}
 use Rattle.std.proofs.lemmas.List.{get_or_append_left, get_or-append-add, get_or-map, length-append, length-map, map-append, take-append-drop}
 use Rattle.std.proofs.Math.Nat.{div-add-mod, lt_of_mul-lt-mul_right}
 use Rattle.p3_field.specs.Ring.{Ring, power}
-use Rattle.p3_field.proofs.Powers.{power-add}
+use Rattle.p3_field.proofs.Powers.{power-add, power-mul, power_of_product}
 use Rattle.p3_networks.proofs.Layers.Halves.{block_size}
 
 module _ {A : Type 0} (R : Ring A) where
@@ -21,6 +21,12 @@ module _ {A : Type 0} (R : Ring A) where
   factor-more first base i w k =
       let on : i * w + k + w ≡ (i + 1) * w + k = omega arith in
       factor-add first base (i * w + k) w ∙ ap (factor first base) on
+
+  -- the i-th power of the shift of column j, from powers of the shift and of the step
+  pub power_of_column : (shift step : A) (i j : ℕ) → R.mul (power R shift i) (power R (power R step i) j) ≡ power R (R.mul shift (power R step j)) i
+  power_of_column shift step i j =
+      let turned : i * j ≡ j * i = omega arith in
+      ap (R.mul (power R shift i)) (sym (power-mul R step i j) ∙ ap (power R step) turned ∙ power-mul R step j i) ∙ sym (power_of_product R shift (power R step j) i)
 
 module _ {F A : Type 0} (R : Ring A) (v : F → A) (z : F) where
   -- each entry of xs is multiplied by its factor
